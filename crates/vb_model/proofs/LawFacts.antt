@@ -15,6 +15,7 @@ use Rattle.vb_model.specs.declared.calls.Query.TheVariants.{Balloon, Memory, Bac
 use Rattle.vb_model.specs.declared.calls.Event.{Event}
 use Rattle.vb_model.specs.declared.replies.Refusal.TheVariants.{NotHeld, VersionMissing, NoFrame}
 use Rattle.vb_model.specs.declared.replies.Refusal.TheVariants.{NoDevice}
+use Rattle.vb_model.specs.declared.replies.Reply.{Reply}
 use Rattle.vb_model.specs.declared.replies.Reply.TheVariants.{Plugged, Done, Frames, Refused}
 use Rattle.vb_model.specs.Tests.{is_in}
 use Rattle.vb_model.specs.Guest.{Guest}
@@ -23,6 +24,7 @@ use Rattle.vb_model.specs.World.{World}
 use Rattle.vb_model.specs.HostFrames.{IsOut}
 use Rattle.vb_model.specs.HostLaws.{WorldsAgree}
 use Rattle.vb_model.specs.StepLaws.{IsOfOthers, HasNoFrame, WantOfFrames, may_want_memory}
+use Rattle.vb_model.specs.StepLaws.{Follows, TargetsAreKept, ConfigurationsAreKept}
 use Rattle.vb_model.specs.StepLaws.{HasNoReservedBallooned, IsUnchanged, call_may_want}
 use Rattle.vb_model.proofs.Samples.{ready, down}
 
@@ -206,3 +208,14 @@ wants_of_a_start = refl
 no_guest_wants_none : map (λ call. may_want_memory world (OnGuest 0 call))
     (Read 16 0 1 ∷ Init 0 ∷ []) ≡ false ∷ false ∷ []
 no_guest_wants_none = refl
+
+-- ---- laws, applied where they might be cut short
+
+rogue_target : TargetsAreKept → (w v : World) (reply : Reply) (old new : Guest)
+    → Follows w (OnGuest 1 Work) reply v 1 old new → new.target ≡ old.target
+rogue_target law w v reply old new f =
+    law w (OnGuest 1 Work) reply v 1 old new f (λ t e. cc) (λ fl e. cc)
+
+rogue_config : ConfigurationsAreKept → (w v : World) (reply : Reply) (old new : Guest)
+    → Follows w (OnGuest 1 Work) reply v 1 old new → new.config ≡ old.config
+rogue_config law w v reply old new f = law w (OnGuest 1 Work) reply v 1 old new f
