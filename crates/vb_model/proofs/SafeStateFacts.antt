@@ -6,9 +6,7 @@ use Rattle.vb_model.specs.declared.places.Place.TheVariants.{Free as FreePlace, 
 use Rattle.vb_model.specs.declared.places.Place.TheVariants.{Lent}
 use Rattle.vb_model.specs.declared.calls.Call.TheVariants.{Alloc, Inflate}
 use Rattle.vb_model.specs.declared.calls.Call.TheVariants.{Sweep}
-use Rattle.vb_model.specs.declared.calls.Event.{Event}
-use Rattle.vb_model.specs.declared.calls.Event.TheVariants.{Guest as OnGuest, Balance}
-use Rattle.vb_model.specs.declared.calls.Event.TheVariants.{Frames as CountFrames}
+use Rattle.vb_model.specs.declared.calls.Event.TheVariants.{Restart, Guest as OnGuest}
 use Rattle.vb_model.specs.declared.replies.Reply.TheVariants.{Page, Posted}
 use Rattle.vb_model.specs.declared.replies.Reply.TheVariants.{Swept}
 use Rattle.vb_model.specs.Guest.{Guest, fresh}
@@ -117,7 +115,7 @@ handed_out_at_once s =
     omega (arith, a.since, a.later, a.before)
   where
     no_restart : (j : ℕ) → 0 ≤ j → j ≤ 1
-        → slice_get at_once.events j ≡ Some (Rattle.vb_model.specs.declared.calls.Event.TheVariants.Restart 0) → ⊥
+        → slice_get at_once.events j ≡ Some (Restart 0) → ⊥
     no_restart zero a b e = cc
     no_restart (suc zero) a b e = cc
     no_restart (suc (suc j)) a b e = absurd (omega arith)
