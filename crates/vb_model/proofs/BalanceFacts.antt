@@ -209,7 +209,7 @@ needs_from_0_on = refl
 -- above a floor of 16 pages the first gives 28; nothing but the targets changes
 balanced : WorldStep (world (Some (aiming 3)) (Some (aiming 5))) (Balance 16)
     (Targets (28 ∷ 0 ∷ [])) (world (Some (aiming 28)) (Some (aiming 0)))
-balanced = (28 ∷ 0 ∷ [], first_alone 32 32 100 28 (omega arith) (omega arith) refl, refl, refl)
+balanced = ((28 ∷ 0 ∷ [], first_alone 32 32 100 28 (omega arith) (omega arith) refl, refl), refl)
 
 -- above 40 they can spare 16 of 28, and no target changes
 short : WorldStep (world (Some (aiming 3)) (Some (aiming 5))) (Balance 40) (Refused (Short 12))

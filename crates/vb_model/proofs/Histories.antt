@@ -2,11 +2,12 @@
 use Rattle.std.proofs.Common.{◌≡◌, ℕ, zero, suc, ◌+◌, ◌-◌, ◌<◌, ◌≤◌, Bool, true, false, List, []}
 use Rattle.std.proofs.Common.{◌∷◌, refl, sym, ap, subst, ◌∙◌, ◌⊎◌, inl, inr, arith, ◌≢◌, length, get_or}
 use Rattle.std.proofs.Common.{drop, cond}
-use Rattle.std.specs.Prelude.{Option, Some, None, slice_get, MatchBool, ◌==◌, is_some}
-use Rattle.std.proofs.lemmas.Bool.{eqb-true, eq-eqb}
+use Rattle.std.specs.Prelude.{Option, Some, None, slice_get, MatchBool, ◌==◌, is_some, IsTrue, ◌↔◌}
+use Rattle.std.proofs.lemmas.Bool.{cases_lt, eqb-true, eq-eqb}
 use Rattle.std.proofs.lemmas.List.{get_or-take, get_or-drop, length-take-le, length-drop}
+use Rattle.vb_model.specs.declared.places.Place.{Place}
 use Rattle.vb_model.specs.declared.places.Place.TheVariants.{Free as FreePlace, Used, Giving, Lent}
-use Rattle.vb_model.specs.declared.places.Place.TheVariants.{Taking}
+use Rattle.vb_model.specs.declared.places.Place.TheVariants.{Taking, Stranded, Reserved}
 use Rattle.vb_model.specs.declared.calls.Actor.{Actor}
 use Rattle.vb_model.specs.declared.calls.Call.{Call}
 use Rattle.vb_model.specs.declared.calls.Call.TheVariants.{Read, Write, Scribble, Reap}
@@ -14,10 +15,11 @@ use Rattle.vb_model.specs.declared.calls.Claim.{Claim}
 use Rattle.vb_model.specs.declared.replies.Refusal.TheVariants.{RingBroken, Broken}
 use Rattle.vb_model.specs.declared.replies.Reply.{Reply}
 use Rattle.vb_model.specs.declared.replies.Reply.TheVariants.{Done, ReadBytes, Refused}
-use Rattle.vb_model.specs.Pages.{place_of}
-use Rattle.vb_model.specs.Requests.{Kind, Inflating, Deflating, place_posted}
+use Rattle.vb_model.specs.Tests.{one_if}
+use Rattle.vb_model.specs.Pages.{place_of, is_lent}
+use Rattle.vb_model.specs.Requests.{Kind, Inflating, Deflating, place_posted, all_requests, naming}
 use Rattle.vb_model.specs.Requests.{queue_of}
-use Rattle.vb_model.specs.Guest.{Guest, Config, fresh, frame_of, tells_host}
+use Rattle.vb_model.specs.Guest.{Guest, Config, fresh, frame_of, tells_host, is_ballooned}
 use Rattle.vb_model.specs.Driver.{contents_of, pages_needed}
 use Rattle.vb_model.specs.Refusals.{refusal_of}
 use Rattle.vb_model.specs.Rogue.{RogueStep, Scribbled, IsRogueAfter}
@@ -26,12 +28,14 @@ use Rattle.vb_model.specs.Consistent.{IsConsistent}
 use Rattle.vb_model.specs.Orderly.{IsOrderly}
 use Rattle.vb_model.specs.Blank.{IsBlank}
 use Rattle.vb_model.specs.HonestRuns.{IsAttentive}
-use Rattle.vb_model.specs.LastWrites.{byte_of, byte_written}
-use Rattle.vb_model.specs.Safe.{IsAt}
-use Rattle.vb_model.specs.GuestRun.{Entry, Called, Looked, EntryStep, GuestRun, IsHistory, is_scribbled}
-use Rattle.vb_model.specs.Histories.{Course, Leads, last_guest, guest_after, BringsTo, ReapedAt}
-use Rattle.vb_model.specs.Histories.{DeflatePostedAt, WasAskedBack, byte_behind, last_put, StaysHeld}
-use Rattle.vb_model.specs.Histories.{IsSafeCourse, IsSafeHistory}
+use Rattle.vb_model.specs.GuestRun.{Entry, Called, Looked, EntryStep, OwnStep, Leads, IsHistory}
+use Rattle.vb_model.specs.GuestRun.{is_scribbled, all_entries}
+use Rattle.vb_model.specs.Courses.{Course, guest_after, IsCall, IsAt, BringsTo, ReapedAt}
+use Rattle.vb_model.specs.Courses.{DeflatePostedAt, WasAskedBack, IsWriteTo, StaysOrLoses, byte_of}
+use Rattle.vb_model.specs.Courses.{byte_written, byte_after, last_put, StaysHeld}
+use Rattle.vb_model.specs.Histories.{IsNamed, BothAgree, IsSafeCourse, IsSafeHistory}
+use Rattle.vb_model.specs.SafeLaws.{UsedPagesStay}
+use Rattle.vb_model.proofs.PageSteps.{lent_is, naming-all, one_if-true, one_if-le}
 use Rattle.vb_model.proofs.CallSteps.{match_cases, supplying_cases, honest_keeps}
 use Rattle.vb_model.proofs.GuestSteps.{fresh_consistent}
 use Rattle.vb_model.proofs.OrderlySteps.{honest_order, fresh_order}
@@ -45,9 +49,82 @@ use Rattle.vb_model.proofs.LastWrites.{write_step, read_step, overwritten_byte}
 use Rattle.vb_model.proofs.Changes.{same_some}
 use Rattle.vb_model.proofs.Offered.{Offered, is_offered, Only, only_done, Reaping, PageMove, Stays}
 use Rattle.vb_model.proofs.Offered.{Strands, Gives, Lends, Asks, Frees, honest_moves}
-use Rattle.vb_model.proofs.Runs.{both_agree, quiet, is_away, away_offered}
+
+-- ---- driver and device
+
+some_positive : (a b c d f : ℕ) → f ≡ a + (b + (c + d)) → f ≡ 1
+    → (a ≡ 1) ⊎ ((0 < b) ⊎ ((0 < c) ⊎ (0 < d)))
+some_positive a b c d f e one =
+    elim (cases_lt 0 b) [
+      | inl x ↦ inr (inl x)
+      | inr nb ↦ elim (cases_lt 0 c) [
+        | inl x ↦ inr (inr (inl x))
+        | inr nc ↦ elim (cases_lt 0 d) [
+          | inl x ↦ inr (inr (inr x))
+          | inr nd ↦ inl (omega arith)
+        ]
+      ]
+    ]
+
+pub both_agree : (g : Guest) → IsConsistent g → BothAgree g
+both_agree g c page =
+    let q = (c.pages page).ballooning in
+    ((λ t. forward (some_positive _ _ _ _ _ q (ap one_if t))), (λ o. one_if-true _ (back o)))
+  where
+    forward : (one_if (is_lent (place_of g.places page)) ≡ 1)
+        ⊎ ((0 < naming page g.inflate.done)
+        ⊎ ((0 < naming page g.deflate.posted) ⊎ (0 < naming page g.deflate.taken)))
+        → IsTrue (is_lent (place_of g.places page))
+        ⊎ (IsNamed page g.inflate.done
+        ⊎ (IsNamed page g.deflate.posted ⊎ IsNamed page g.deflate.taken))
+    forward (inl a) = inl (one_if-true _ a)
+    forward (inr b) = inr b
+
+    back : IsTrue (is_lent (place_of g.places page))
+        ⊎ (IsNamed page g.inflate.done
+        ⊎ (IsNamed page g.deflate.posted ⊎ IsNamed page g.deflate.taken))
+        → one_if (is_ballooned g.ballooned page) ≡ 1
+    back (inl a) =
+        let n : one_if (is_lent (place_of g.places page)) ≡ 1 = ap one_if a in
+        omega (arith, (c.pages page).ballooning, one_if-le (is_ballooned g.ballooned page))
+    back (inr (inl b)) = omega
+        (arith, (c.pages page).ballooning, one_if-le (is_ballooned g.ballooned page))
+    back (inr (inr (inl b))) =
+        omega (arith, (c.pages page).ballooning, one_if-le (is_ballooned g.ballooned page))
+    back (inr (inr (inr b))) =
+        omega (arith, (c.pages page).ballooning, one_if-le (is_ballooned g.ballooned page))
+
+-- without requests they agree on all pages
+pub quiet_agree : (g : Guest) → BothAgree g → all_requests g.inflate ≡ []
+    → all_requests g.deflate ≡ [] → (page : ℕ)
+    → IsTrue (is_ballooned g.ballooned page) ↔ IsAt g page Lent
+quiet_agree g both a b page = (
+  (λ t. forward ((both page).0 t)),
+  (λ e. (both page).1 (inl (ap (λ (x : Place). is_lent x) e))),
+)
+  where
+    na : naming page (all_requests g.inflate) ≡ 0
+    na = ap (naming page) a
+
+    nb : naming page (all_requests g.deflate) ≡ 0
+    nb = ap (naming page) b
+
+    forward : IsTrue (is_lent (place_of g.places page))
+        ⊎ (IsNamed page g.inflate.done
+        ⊎ (IsNamed page g.deflate.posted ⊎ IsNamed page g.deflate.taken))
+        → IsAt g page Lent
+    forward (inl t) = lent_is _ t
+    forward (inr (inl n)) = absurd (omega (arith, na, n, naming-all page g.inflate))
+    forward (inr (inr (inl n))) = absurd (omega (arith, nb, n, naming-all page g.deflate))
+    forward (inr (inr (inr n))) = absurd (omega (arith, nb, n, naming-all page g.deflate))
 
 -- ---- a step of an honest guest that isn't a scribble
+
+as_guest : (g : Guest) (call : Call) (claims : List Claim) (reply : Reply) (new : Guest)
+    → g.rogue ≡ false → HonestStep g call claims reply new → GuestStep g call claims reply new
+as_guest g call claims reply new honest s = subst
+    (λ (b : Bool). MatchBool b (RogueStep g call claims reply new) (HonestStep g call claims reply new))
+    (sym honest) s
 
 still_honest : (g : Guest) (call : Call) (claims : List Claim) (reply : Reply) (new : Guest)
     → g.rogue ≡ false → is_scribbled call reply ≡ false → HonestStep g call claims reply new
@@ -55,9 +132,7 @@ still_honest : (g : Guest) (call : Call) (claims : List Claim) (reply : Reply) (
 still_honest g call claims reply new honest none s = cases (step_keeps g call claims reply new step).rogue
   where
     step : GuestStep g call claims reply new
-    step = subst
-        (λ (b : Bool). MatchBool b (RogueStep g call claims reply new) (HonestStep g call claims reply new))
-        (sym honest) s
+    step = as_guest g call claims reply new honest s
 
     scribble : (page offset : ℕ) (bytes : List ℕ)
         → HonestStep g (Scribble page offset bytes) claims reply new
@@ -86,12 +161,12 @@ still_honest g call claims reply new honest none s = cases (step_keeps g call cl
         (subst (λ (c : Call). is_scribbled c reply ≡ false) is.3 none)
 
 -- what holds of each state
-record IsFit (g : Guest) : Type 0 where
-  honest : g.rogue ≡ false
-  consistent : IsConsistent g
-  orderly : IsOrderly g
-  blank : IsBlank g
-  attentive : IsAttentive g
+pub record IsFit (g : Guest) : Type 0 where
+  pub honest : g.rogue ≡ false
+  pub consistent : IsConsistent g
+  pub orderly : IsOrderly g
+  pub blank : IsBlank g
+  pub attentive : IsAttentive g
 
 fresh_fit : (config : Config) (target : ℕ) → IsFit (fresh config target)
 fresh_fit config target =
@@ -121,39 +196,43 @@ entry_fit g (Called actor call claims reply) new f s =
       attentive = honest_attentive g call claims reply new f.orderly f.attentive s.1 honest;
     }
 
+own_fit : (g : Guest) (own : Option Entry) (new : Guest) → IsFit g → OwnStep g own new → IsFit new
+own_fit g None new f s = subst IsFit (sym s) f
+own_fit g (Some entry) new f s = entry_fit g entry new f s
+
 -- ---- states and entries of a course
 
-every_fit : (g : Guest) (entries : List Entry) (after : List Guest) → IsFit g
+every_fit : (g : Guest) (entries : List (Option Entry)) (after : List Guest) → IsFit g
     → Leads g entries after → (i : ℕ) (x : Guest) → slice_get (g ∷ after) i ≡ Some x → IsFit x
 every_fit g entries after f s zero x at = subst IsFit (same_some g x at) f
 every_fit g [] [] f s (suc i) x at = absurd cc
-every_fit g (entry ∷ entries) (new ∷ after) f s (suc i) x at =
-    every_fit new entries after (entry_fit g entry new f s.0) s.1 i x at
+every_fit g (own ∷ entries) (new ∷ after) f s (suc i) x at =
+    every_fit new entries after (own_fit g own new f s.0) s.1 i x at
 every_fit g [] (new ∷ after) f s (suc i) x at = absurd s
-every_fit g (entry ∷ entries) [] f s (suc i) x at = absurd s
+every_fit g (own ∷ entries) [] f s (suc i) x at = absurd s
 
 -- entry i leads from state i to the next
-record EntryAt (entries : List Entry) (i : ℕ) (before after : Guest) : Type 0 where
-  entry : Entry
-  entry_is : slice_get entries i ≡ Some entry
-  step : EntryStep before entry after
+record EntryAt (entries : List (Option Entry)) (i : ℕ) (before after : Guest) : Type 0 where
+  own : Option Entry
+  own_is : slice_get entries i ≡ Some own
+  step : OwnStep before own after
 
-every_step : (g : Guest) (entries : List Entry) (after : List Guest) → Leads g entries after
-    → (i : ℕ) (a b : Guest) → slice_get (g ∷ after) i ≡ Some a → slice_get after i ≡ Some b
-    → EntryAt entries i a b
+every_step : (g : Guest) (entries : List (Option Entry)) (after : List Guest)
+    → Leads g entries after → (i : ℕ) (a b : Guest) → slice_get (g ∷ after) i ≡ Some a
+    → slice_get after i ≡ Some b → EntryAt entries i a b
 every_step g [] [] s i a b ha hb = absurd cc
-every_step g (entry ∷ entries) (new ∷ after) s zero a b ha hb =
+every_step g (own ∷ entries) (new ∷ after) s zero a b ha hb =
     record {
-      entry = entry;
-      entry_is = refl;
-      step = subst (λ (x : Guest). EntryStep x entry b) (same_some g a ha)
-          (subst (λ (x : Guest). EntryStep g entry x) (same_some new b hb) s.0);
+      own = own;
+      own_is = refl;
+      step = subst (λ (x : Guest). OwnStep x own b) (same_some g a ha)
+          (subst (λ (x : Guest). OwnStep g own x) (same_some new b hb) s.0);
     }
-every_step g (entry ∷ entries) (new ∷ after) s (suc i) a b ha hb =
+every_step g (own ∷ entries) (new ∷ after) s (suc i) a b ha hb =
     let r = every_step new entries after s.1 i a b ha hb in
-    record { entry = r.entry; entry_is = r.entry_is; step = r.step }
+    record { own = r.own; own_is = r.own_is; step = r.step }
 every_step g [] (new ∷ after) s i a b ha hb = absurd s
-every_step g (entry ∷ entries) [] s i a b ha hb = absurd s
+every_step g (own ∷ entries) [] s i a b ha hb = absurd s
 
 -- an entry is made in a state, and leads on
 record MadeIn (g : Guest) (after : List Guest) (i : ℕ) (entry : Entry) : Type 0 where
@@ -162,29 +241,30 @@ record MadeIn (g : Guest) (after : List Guest) (i : ℕ) (entry : Entry) : Type 
   is_there : slice_get (g ∷ after) i ≡ Some before
   step : EntryStep before entry next
 
-every_entry : (g : Guest) (entries : List Entry) (after : List Guest) → Leads g entries after
-    → (i : ℕ) (entry : Entry) → slice_get entries i ≡ Some entry → MadeIn g after i entry
+every_entry : (g : Guest) (entries : List (Option Entry)) (after : List Guest)
+    → Leads g entries after → (i : ℕ) (entry : Entry) → slice_get entries i ≡ Some (Some entry)
+    → MadeIn g after i entry
 every_entry g [] [] s i entry at = absurd cc
-every_entry g (first ∷ entries) (new ∷ after) s zero entry at =
-    let e : first ≡ entry = cc in
+every_entry g (own ∷ entries) (new ∷ after) s zero entry at =
+    let e : own ≡ Some entry = cc in
     record {
       before = g;
       next = new;
       is_there = refl;
-      step = subst (λ (x : Entry). EntryStep g x new) e s.0;
+      step = subst (λ (x : Option Entry). OwnStep g x new) e s.0;
     }
-every_entry g (first ∷ entries) (new ∷ after) s (suc i) entry at =
+every_entry g (own ∷ entries) (new ∷ after) s (suc i) entry at =
     let r = every_entry new entries after s.1 i entry at in
     record { before = r.before; next = r.next; is_there = r.is_there; step = r.step }
 every_entry g [] (new ∷ after) s i entry at = absurd s
-every_entry g (first ∷ entries) [] s i entry at = absurd s
+every_entry g (own ∷ entries) [] s i entry at = absurd s
 
--- what a history gives at each position
+-- what a course gives at each position
 record Positions (c : Course) : Type 0 where
   fit : (i : ℕ) (g : Guest) → guest_after c i ≡ Some g → IsFit g
   step : (i : ℕ) (a b : Guest) → guest_after c i ≡ Some a → guest_after c (i + 1) ≡ Some b
       → EntryAt c.entries i a b
-  made : (i : ℕ) (entry : Entry) → slice_get c.entries i ≡ Some entry
+  made : (i : ℕ) (entry : Entry) → slice_get c.entries i ≡ Some (Some entry)
       → MadeIn c.first c.after i entry
 
 positions : (c : Course) → IsFit c.first → Leads c.first c.entries c.after → Positions c
@@ -213,33 +293,80 @@ keeps_frame : (c : Course) → Positions c → (i page frame : ℕ) (g new : Gue
     → IsAt new page Used → frame_of g.frames page ≡ Some frame
     → frame_of new.frames page ≡ Some frame
 keeps_frame c p i page frame g new here next used used' has =
-    let s = p.step i g new here next in by s.entry s.step
+    let s = p.step i g new here next in by s.own s.step
   where
-    by : (entry : Entry) → EntryStep g entry new → frame_of new.frames page ≡ Some frame
-    by (Looked floor answer) s = ap (λ (x : Guest). frame_of x.frames page) s.1 ∙ has
-    by (Called actor call claims reply) s =
+    by : (own : Option Entry) → OwnStep g own new → frame_of new.frames page ≡ Some frame
+    by None s = ap (λ (x : Guest). frame_of x.frames page) s ∙ has
+    by (Some (Looked floor answer)) s = ap (λ (x : Guest). frame_of x.frames page) s.1 ∙ has
+    by (Some (Called actor call claims reply)) s =
         honest_keeps_frame call page frame g claims reply new
         (used_page g page (p.fit i g here).consistent used) s.1 (p.fit (i + 1) new next).honest has
         used'
 
-not_broken : (c : Course) → Positions c → (i fault : ℕ) (actor : Actor) (call : Call)
-    (claims : List Claim) (reply : Reply)
-    → slice_get c.entries i ≡ Some (Called actor call claims reply)
-    → (reply ≢ Refused (Broken fault)) × (reply ≢ Refused RingBroken)
-not_broken c p i fault actor call claims reply at =
+not_broken : (c : Course) → Positions c → (i fault : ℕ) (call : Call) (reply : Reply)
+    → IsCall c i call reply → (reply ≢ Refused (Broken fault)) × (reply ≢ Refused RingBroken)
+not_broken c p i fault call reply (actor, claims, at) =
     let m = p.made i (Called actor call claims reply) at in
     let f = honest_no_fault m.before call claims reply m.next m.step.1 in (
       λ e. let t : is_fault reply ≡ true = ap is_fault e in cc,
       λ e. let t : is_fault reply ≡ true = ap is_fault e in cc,
     )
 
--- ---- what reads give
+abbrev some_own : Option Entry → Option (Option Entry)
+some_own x = Some x
 
-as_guest : (g : Guest) (call : Call) (claims : List Claim) (reply : Reply) (new : Guest)
-    → g.rogue ≡ false → HonestStep g call claims reply new → GuestStep g call claims reply new
-as_guest g call claims reply new honest s = subst
-    (λ (b : Bool). MatchBool b (RogueStep g call claims reply new) (HonestStep g call claims reply new))
-    (sym honest) s
+keeps_contents : (c : Course) → Positions c → (i page : ℕ) (g new : Guest)
+    → guest_after c i ≡ Some g → guest_after c (i + 1) ≡ Some new → ¬ IsWriteTo c page i
+    → StaysOrLoses page g new
+keeps_contents c p i page g new here next none =
+    let s = p.step i g new here next in by s.own s.own_is s.step
+  where
+    f : IsFit g
+    f = p.fit i g here
+
+    h : IsFit new
+    h = p.fit (i + 1) new next
+
+    by : (own : Option Entry) → slice_get c.entries i ≡ Some own → OwnStep g own new
+        → StaysOrLoses page g new
+    by None at s = inl (ap (λ (x : Guest). contents_of x page) s)
+    by (Some (Looked floor answer)) at s = inl (ap (λ (x : Guest). contents_of x page) s.1)
+    by (Some (Called actor call claims reply)) at s =
+        honest_same call page g claims reply new f.blank h.blank
+        (step_keeps g call claims reply new (as_guest g call claims reply new f.honest s.1)).config
+        (λ offset bytes is done. none (
+          offset,
+          bytes,
+          (
+            actor,
+            claims,
+            at ∙ ap (λ (x : Call). some_own (Some (Called actor x claims reply))) is
+                ∙ ap (λ (x : Reply). some_own
+                (Some (Called actor (Write page offset bytes) claims x))) done,
+          ),
+        )) s.1 h.honest
+
+-- a used page loses no frame, so it holds what it did
+pub used_pages_stay : UsedPagesStay
+used_pages_stay c safe i page g new here next used used' none =
+    elim (safe.keeps_contents i page g new here next unreserved none) [
+      | inl same ↦ same
+      | inr lost ↦ absurd (never (frame_of g.frames page) refl lost.0 lost.1)
+    ]
+  where
+    unreserved : ¬ IsAt g page Reserved
+    unreserved e = let wrong : Used ≡ Reserved = sym used ∙ e in cc
+
+    never : (o : Option ℕ) → frame_of g.frames page ≡ o → is_some (frame_of g.frames page) ≡ true
+        → frame_of new.frames page ≡ None → ⊥
+    never None e some gone = absurd
+        (let wrong : false ≡ true = sym (ap (λ (o : Option ℕ). is_some o) e) ∙ some in cc)
+    never (Some frame) e some gone =
+        let kept = safe.keeps_frame i page frame g new here next used used' e in
+        let wrong : None ≡ Some frame = sym gone ∙ kept in
+        cc
+
+-- ---- what reads give
 
 -- it is a write to the page that was done
 is_write : ℕ → Call → Reply → Bool
@@ -248,7 +375,7 @@ is_write page call reply = false
 
 no_write : (page at : ℕ) (actor : Actor) (call : Call) (claims : List Claim) (reply : Reply) (old : ℕ)
     → is_write page call reply ≡ false
-    → byte_behind page at (Some (Called actor call claims reply)) old ≡ old
+    → byte_after page at (Some (Called actor call claims reply)) old ≡ old
 unfolding is_write
 no_write page at actor (Write p offset bytes) claims Done old e =
     ap (λ (b : Bool). cond b (byte_written at offset bytes old) old) e
@@ -278,38 +405,21 @@ the_write page (Write p offset bytes) Done e =
 the_write page _ _ e = absurd cc
 
 written_byte : (page at offset : ℕ) (actor : Actor) (claims : List Claim) (bytes : List ℕ) (old : ℕ)
-    → byte_behind page at (Some (Called actor (Write page offset bytes) claims Done)) old
+    → byte_after page at (Some (Called actor (Write page offset bytes) claims Done)) old
     ≡ byte_written at offset bytes old
 written_byte page at offset actor claims bytes old =
     ap (λ (b : Bool). cond b (byte_written at offset bytes old) old) (eq-eqb page page refl)
 
 -- a used page holds what it held, but for the guest's own writes to it
-same_contents : (c : Course) → Positions c → (i page : ℕ) (g new : Guest) (actor : Actor)
-    (call : Call) (claims : List Claim) (reply : Reply) → guest_after c i ≡ Some g
+same_contents : (c : Course) → Positions c → (i page : ℕ) (g new : Guest) → guest_after c i ≡ Some g
     → guest_after c (i + 1) ≡ Some new → IsAt g page Used → IsAt new page Used
-    → is_write page call reply ≡ false → EntryStep g (Called actor call claims reply) new
-    → contents_of new page ≡ contents_of g page
-same_contents c p i page g new actor call claims reply here next used used' none s =
-    elim (honest_same call page g claims reply new f.blank h.blank
-    (step_keeps g call claims reply new (as_guest g call claims reply new f.honest s.1)).config other
-    s.1 h.honest) [
+    → ¬ IsWriteTo c page i → contents_of new page ≡ contents_of g page
+same_contents c p i page g new here next used used' none =
+    elim (keeps_contents c p i page g new here next none) [
       | inl same ↦ same
       | inr lost ↦ absurd (never (frame_of g.frames page) refl lost.0 lost.1)
     ]
   where
-    f : IsFit g
-    f = p.fit i g here
-
-    h : IsFit new
-    h = p.fit (i + 1) new next
-
-    other : (offset : ℕ) (bytes : List ℕ) → call ≡ Write page offset bytes → reply ≢ Done
-    other offset bytes is done =
-        let wrong : true ≡ false =
-        sym (own_write page offset bytes) ∙ sym (ap (λ (x : Call). is_write page x Done) is)
-        ∙ sym (ap (λ (x : Reply). is_write page call x) done) ∙ none in
-        cc
-
     never : (o : Option ℕ) → frame_of g.frames page ≡ o → is_some (frame_of g.frames page) ≡ true
         → frame_of new.frames page ≡ None → ⊥
     never None e some gone = absurd
@@ -319,26 +429,52 @@ same_contents c p i page g new actor call claims reply here next used used' none
         let wrong : None ≡ Some frame = sym gone ∙ kept in
         cc
 
+index_is : (entries : List (Option Entry)) (i : ℕ) (own : Option Entry)
+    → slice_get entries i ≡ Some own → get_or entries i None ≡ own
+index_is [] i own at = absurd cc
+index_is (x ∷ entries) zero own at = cc
+index_is (x ∷ entries) (suc i) own at = index_is entries i own at
+
 -- the byte behind one entry
 byte_step : (c : Course) → Positions c → (page at i : ℕ) (g new : Guest) → guest_after c i ≡ Some g
     → guest_after c (i + 1) ≡ Some new → IsAt g page Used → IsAt new page Used
-    → byte_of new page at ≡ byte_behind page at (slice_get c.entries i) (byte_of g page at)
+    → byte_of new page at ≡ byte_after page at (get_or c.entries i None) (byte_of g page at)
 byte_step c p page at i g new here next used used' =
-    by s.entry s.step
-    ∙ sym (ap (λ (e : Option Entry). byte_behind page at e (byte_of g page at)) s.entry_is)
+    by s.own s.own_is s.step
+    ∙ sym (ap (λ (e : Option Entry). byte_after page at e (byte_of g page at))
+    (index_is c.entries i s.own s.own_is))
   where
     s : EntryAt c.entries i g new
     s = p.step i g new here next
 
+    -- none to the page
+    other : (actor : Actor) (call : Call) (claims : List Claim) (reply : Reply)
+        → slice_get c.entries i ≡ Some (Some (Called actor call claims reply))
+        → is_write page call reply ≡ false → ¬ IsWriteTo c page i
+    other actor call claims reply at e (offset, bytes, (who, what, is)) =
+        let same : Called actor call claims reply ≡ Called who (Write page offset bytes) what Done =
+        same_entry (sym at ∙ is) in
+        let first : call ≡ Write page offset bytes = cc in
+        let second : reply ≡ Done = cc in
+        let wrong : true ≡ false =
+        sym (own_write page offset bytes) ∙ sym (ap (λ (x : Call). is_write page x Done) first)
+        ∙ sym (ap (λ (x : Reply). is_write page call x) second) ∙ e in
+        cc
+      where
+        same_entry : {x y : Entry} → some_own (Some x) ≡ some_own (Some y) → x ≡ y
+        same_entry e = cc
+
     called : (actor : Actor) (call : Call) (claims : List Claim) (reply : Reply) (v : Bool)
-        → is_write page call reply ≡ v → EntryStep g (Called actor call claims reply) new
+        → is_write page call reply ≡ v
+        → slice_get c.entries i ≡ Some (Some (Called actor call claims reply))
+        → EntryStep g (Called actor call claims reply) new
         → byte_of new page at
-        ≡ byte_behind page at (Some (Called actor call claims reply)) (byte_of g page at)
-    called actor call claims reply false e s =
+        ≡ byte_after page at (Some (Called actor call claims reply)) (byte_of g page at)
+    called actor call claims reply false e entry s =
         ap (λ (l : List ℕ). get_or l at 0)
-        (same_contents c p i page g new actor call claims reply here next used used' e s)
+        (same_contents c p i page g new here next used used' (other actor call claims reply entry e))
         ∙ sym (no_write page at actor call claims reply (byte_of g page at) e)
-    called actor call claims reply true e s =
+    called actor call claims reply true e entry s =
         let w = the_write page call reply e in
         let step : HonestStep g (Write page w.offset w.bytes) claims Done new =
         subst (λ (x : Call). HonestStep g x claims Done new) w.call_is
@@ -349,16 +485,17 @@ byte_step c p page at i g new here next used used' =
         ∙ overwritten_byte at w.offset w.bytes (contents_of g page)
         (let whole = blank.whole page did.there in omega (arith, did.inside, whole))
         ∙ sym (written_byte page at w.offset actor claims w.bytes (byte_of g page at))
-        ∙ sym (ap (λ (x : Call). byte_behind page at (Some (Called actor x claims Done))
+        ∙ sym (ap (λ (x : Call). byte_after page at (Some (Called actor x claims Done))
         (byte_of g page at)) w.call_is)
-        ∙ sym (ap (λ (x : Reply). byte_behind page at (Some (Called actor call claims x))
+        ∙ sym (ap (λ (x : Reply). byte_after page at (Some (Called actor call claims x))
         (byte_of g page at)) w.reply_is)
 
-    by : (entry : Entry) → EntryStep g entry new
-        → byte_of new page at ≡ byte_behind page at (Some entry) (byte_of g page at)
-    by (Looked floor answer) s = ap (λ (x : Guest). byte_of x page at) s.1
-    by (Called actor call claims reply) s =
-        called actor call claims reply (is_write page call reply) refl s
+    by : (own : Option Entry) → slice_get c.entries i ≡ Some own → OwnStep g own new
+        → byte_of new page at ≡ byte_after page at own (byte_of g page at)
+    by None entry s = ap (λ (x : Guest). byte_of x page at) s
+    by (Some (Looked floor answer)) entry s = ap (λ (x : Guest). byte_of x page at) s.1
+    by (Some (Called actor call claims reply)) entry s =
+        called actor call claims reply (is_write page call reply) refl entry s
 
 -- behind many
 bytes_are : (c : Course) → Positions c → (page at i k : ℕ) (g new : Guest) → StaysHeld c page i k
@@ -377,15 +514,15 @@ bytes_are c p page at i (suc k) g new holds here there =
     sym (ap (λ (x : Guest). byte_of x page at) same)
     ∙ byte_step c p page at (i + k) old.0 now.0 old.1
     (subst (λ (m : ℕ). guest_after c m ≡ Some now.0) next now.1) old.2 now.2
-    ∙ ap (λ (b : ℕ). byte_behind page at (slice_get c.entries (i + k)) b) before
+    ∙ ap (λ (b : ℕ). byte_after page at (get_or c.entries (i + k) None) b) before
 
 reads : (c : Course) → Positions c → (page i k offset len : ℕ) (bytes : List ℕ) (g : Guest)
-    (actor : Actor) (claims : List Claim) → StaysHeld c page i k → guest_after c i ≡ Some g
-    → slice_get c.entries (i + k) ≡ Some (Called actor (Read page offset len) claims (ReadBytes bytes))
+    → StaysHeld c page i k → guest_after c i ≡ Some g
+    → IsCall c (i + k) (Read page offset len) (ReadBytes bytes)
     → (length bytes ≡ len)
     × ((j : ℕ) → j < len → get_or bytes j 0
     ≡ last_put c page (offset + j) i k (byte_of g page (offset + j)))
-reads c p page i k offset len bytes g actor claims holds here entry =
+reads c p page i k offset len bytes g holds here (actor, claims, entry) =
     let last = holds k (omega arith) in
     let m = p.made (i + k) (Called actor (Read page offset len) claims (ReadBytes bytes)) entry in
     let same : m.before ≡ last.0 = same_some m.before last.0 (sym m.is_there ∙ last.1) in
@@ -403,6 +540,18 @@ reads c p page i k offset len bytes g actor claims holds here entry =
     )
 
 -- ---- handed out again
+
+-- offered, or stranded by a reset since
+abbrev pub is_away : Place → Bool
+is_away Giving = true
+is_away Stranded = true
+is_away _ = false
+
+-- a page that isn't back yet is offered
+pub away_offered : (place : Place) → is_away place ≡ true → is_offered place ≡ true
+away_offered Giving e = refl
+away_offered Stranded e = refl
+away_offered _ e = absurd cc
 
 -- what event m did to a page that was offered
 data Turn (c : Course) (page m : ℕ) (g new : Guest) : Type 0 where
@@ -423,22 +572,22 @@ data Turn (c : Course) (page m : ℕ) (g new : Guest) : Type 0 where
       → (reaps.request.head ≡ head) × (reaps.request.pages ≡ pages))
       → Turn c page m g new
 
-abbrev some_entry : Entry → Option Entry
-some_entry x = Some x
-
 abbrev reaped_at : (kind : Kind) (c : Course) (page m : ℕ) (g : Guest) (actor : Actor) (call : Call)
     (claims : List Claim) (reply : Reply) → guest_after c m ≡ Some g
-    → slice_get c.entries m ≡ Some (Called actor call claims reply)
+    → slice_get c.entries m ≡ Some (Some (Called actor call claims reply))
     → Reaping kind page g call reply → ReapedAt kind c page m
 reaped_at kind c page m g actor call claims reply here at r =
     record {
       guest = g;
       request = r.request;
       others = r.others;
-      actor = actor;
-      claims = claims;
-      entry = at ∙ ap (λ (x : Call). some_entry (Called actor x claims reply)) r.call_is
-          ∙ ap (λ (x : Reply). some_entry (Called actor (Reap (queue_of kind)) claims x)) r.reply_is;
+      called = (
+        actor,
+        claims,
+        at ∙ ap (λ (x : Call). some_own (Some (Called actor x claims reply))) r.call_is
+            ∙ ap (λ (x : Reply). some_own (Some (Called actor (Reap (queue_of kind)) claims x)))
+            r.reply_is,
+      );
       is_there = here;
       done = r.done;
       named = r.named;
@@ -447,7 +596,7 @@ reaped_at kind c page m g actor call claims reply here at r =
 call_turns : (c : Course) (page m : ℕ) (g new : Guest) (actor : Actor) (call : Call)
     (claims : List Claim) (reply : Reply) → guest_after c m ≡ Some g
     → guest_after c (m + 1) ≡ Some new
-    → slice_get c.entries m ≡ Some (Called actor call claims reply)
+    → slice_get c.entries m ≡ Some (Some (Called actor call claims reply))
     → PageMove page g new call reply → Turn c page m g new
 call_turns c page m g new actor call claims reply here next at (Stays e keeps) = Kept e keeps
 call_turns c page m g new actor call claims reply here next at (Strands e) = Gone (ap is_away e)
@@ -458,11 +607,13 @@ call_turns c page m g new actor call claims reply here next at (Asks was e a) =
     Wanted was e (record {
       before = g;
       after = new;
-      request = a.request;
-      actor = actor;
       call = call;
-      claims = claims;
-      entry = at ∙ ap (λ (x : Reply). some_entry (Called actor call claims x)) a.reply_is;
+      request = a.request;
+      called = (
+        actor,
+        claims,
+        at ∙ ap (λ (x : Reply). some_own (Some (Called actor call claims x))) a.reply_is,
+      );
       asks = a.asks;
       is_there = here;
       follows = next;
@@ -476,17 +627,21 @@ call_turns c page m g new actor call claims reply here next at (Frees was e r) =
 -- one entry
 turns : (c : Course) (page m : ℕ) (g new : Guest) → Positions c → guest_after c m ≡ Some g
     → guest_after c (m + 1) ≡ Some new → Offered page g → Turn c page m g new
-turns c page m g new p here next offered = by s.entry s.entry_is s.step
+turns c page m g new p here next offered = by s.own s.own_is s.step
   where
     s : EntryAt c.entries m g new
     s = p.step m g new here next
 
-    by : (entry : Entry) → slice_get c.entries m ≡ Some entry → EntryStep g entry new
+    same : new ≡ g → Turn c page m g new
+    same e =
+        Kept (ap (λ (x : Guest). place_of x.places page) e)
+        (λ head pages o. subst (λ (x : Guest). Only page head pages x.deflate) (sym e) o)
+
+    by : (own : Option Entry) → slice_get c.entries m ≡ Some own → OwnStep g own new
         → Turn c page m g new
-    by (Looked floor answer) at s =
-        Kept (ap (λ (x : Guest). place_of x.places page) s.1)
-        (λ head pages o. subst (λ (x : Guest). Only page head pages x.deflate) (sym s.1) o)
-    by (Called actor call claims reply) at s =
+    by None at s = same s
+    by (Some (Looked floor answer)) at s = same s.1
+    by (Some (Called actor call claims reply)) at s =
         call_turns c page m g new actor call claims reply here next at
         (honest_moves call page g claims reply new (p.fit m g here).consistent s.1
         (p.fit (m + 1) new next).honest offered)
@@ -654,40 +809,28 @@ told_first c p page i k lt giving used =
 
 -- ---- a history
 
--- a run has states
-record HasStates (g : Guest) (entries : List Entry) (new : Guest) : Type 0 where
-  after : List Guest
-  leads : Leads g entries after
-  ends : last_guest g after ≡ new
-
-run_states : (g : Guest) (entries : List Entry) (new : Guest) → GuestRun g entries new
-    → HasStates g entries new
-run_states g [] new r = record { after = []; leads = tt; ends = sym r }
-run_states g (entry ∷ entries) new r =
-    let later = run_states r.0 entries new r.2 in
-    record { after = r.0 ∷ later.after; leads = (r.1, later.leads); ends = later.ends }
-
-course_is_safe : (c : Course) → Positions c → IsSafeCourse c
-course_is_safe c p =
+pub course_is_safe : (c : Course) → IsFit c.first → Leads c.first c.entries c.after → IsSafeCourse c
+course_is_safe c f s =
+    let p = positions c f s in
     record {
       agreed = λ i g at ready. (p.fit i g at).orderly.agreed (eqb-true g.status 15 ready);
       keeps_frame = keeps_frame c p;
+      keeps_contents = λ i page g new here next unreserved. keeps_contents c p i page g new here next;
       reads = reads c p;
       told_first = told_first c p;
       both_agree = λ i g at. both_agree g (p.fit i g at).consistent;
-      quiet = λ i g at a b. quiet g (p.fit i g at).consistent a b;
       actual = λ i g at. (p.fit i g at).consistent.counted;
       not_broken = not_broken c p;
     }
 
 pub history_is_safe : (config : Config) (target : ℕ) (entries : List Entry) (last : Guest)
     → IsHistory config target entries last → IsSafeHistory config target entries last
-history_is_safe config target entries last r =
-    let s = run_states (fresh config target) entries last r in
-    let c : Course = record { first = fresh config target; entries = entries; after = s.after } in
+history_is_safe config target entries last (after, leads, ends) =
     record {
-      after = s.after;
-      leads = s.leads;
-      ends = s.ends;
-      safe = course_is_safe c (positions c (fresh_fit config target) s.leads);
+      after = after;
+      leads = leads;
+      ends = ends;
+      safe = course_is_safe
+          (record { first = fresh config target; entries = all_entries entries; after = after })
+          (fresh_fit config target) leads;
     }

@@ -1,7 +1,7 @@
 -- A refusal changes nothing, but for an initialisation whose features are refused.
 use Rattle.std.proofs.Common.{◌≡◌, ℕ, Bool, true, false, cond, List, [], ◌∷◌, refl, ap, ◌∙◌, inl}
 use Rattle.std.proofs.Common.{inr}
-use Rattle.std.specs.Prelude.{◌==◌, Option, Some, None, MatchBool}
+use Rattle.std.specs.Prelude.{Option, Some, None}
 use Rattle.vb_model.specs.declared.calls.Call.{Call}
 use Rattle.vb_model.specs.declared.calls.Call.TheVariants.{Init, Reset, Alloc, Free, Read, Write}
 use Rattle.vb_model.specs.declared.calls.Call.TheVariants.{Scribble, Inflate, Deflate, Oom, Report}
@@ -13,9 +13,8 @@ use Rattle.vb_model.specs.declared.calls.Event.TheVariants.{Plug, Unplug, Restar
 use Rattle.vb_model.specs.declared.calls.Event.TheVariants.{Query as Asking, Balance}
 use Rattle.vb_model.specs.declared.calls.Event.TheVariants.{Frames as CountFrames}
 use Rattle.vb_model.specs.declared.replies.Refusal.{Refusal}
-use Rattle.vb_model.specs.declared.replies.Refusal.TheVariants.{Short}
 use Rattle.vb_model.specs.declared.replies.Reply.{Reply}
-use Rattle.vb_model.specs.declared.replies.Reply.TheVariants.{Done, Targets, Refused}
+use Rattle.vb_model.specs.declared.replies.Reply.TheVariants.{Done, Refused}
 use Rattle.vb_model.specs.Requests.{Request, Kind, kind_of_queue, Buffer, NoBuffer, BufferPosted}
 use Rattle.vb_model.specs.Requests.{BufferTaken, BufferDone}
 use Rattle.vb_model.specs.Guest.{Guest, requests}
@@ -25,11 +24,9 @@ use Rattle.vb_model.specs.Device.{Takes, TakesBuffer, Finishes, Asks, next_page}
 use Rattle.vb_model.specs.Life.{feature_refusal, Negotiates, lacking, after_restart}
 use Rattle.vb_model.specs.Rogue.{Scribbled}
 use Rattle.vb_model.specs.Step.{Performs}
-use Rattle.vb_model.specs.Balance.{AreTargets, shortage}
 use Rattle.vb_model.specs.World.{World, put_guest, guest_at}
-use Rattle.vb_model.specs.HostEvents.{Happens, PlugsIn, with_targets}
+use Rattle.vb_model.specs.HostEvents.{Happens, PlugsIn}
 use Rattle.vb_model.specs.HostRefusals.{world_tests}
-use Rattle.vb_model.specs.HostEvents.{needs}
 use Rattle.vb_model.specs.StepLaws.{IsUnchanged, with_features_refused, RefusalsChangeNothing}
 use Rattle.vb_model.specs.StepLaws.{RefusedEventsChangeNothing}
 use Rattle.vb_model.proofs.CallSteps.{match_cases, supplying_cases, works_cases, supplied}
@@ -180,16 +177,7 @@ happens_refuses (Restart n) w refusal v other s =
     ]
 happens_refuses (OnGuest n call) w refusal v other s = absurd (other n call refl)
 happens_refuses (Asking n query) w refusal v other s = s.1
-happens_refuses (Balance floor) w refusal v other s =
-    balances (shortage (needs floor w) w.frames == 0) s
-  where
-    balances : (b : Bool)
-        → MatchBool b ((targets : List ℕ) × AreTargets (needs floor w) w.frames targets
-        × (Refused refusal ≡ Targets targets)
-        × (v ≡ record w { guests = with_targets targets w.guests }))
-        ((Refused refusal ≡ Refused (Short (shortage (needs floor w) w.frames))) × (v ≡ w)) → v ≡ w
-    balances false s = s.1
-    balances true s = not_this refusal _ s.2 refl
+happens_refuses (Balance floor) w refusal v other s = s.1
 happens_refuses CountFrames w refusal v other s = s.1
 
 pub refused_events_change_nothing : RefusedEventsChangeNothing

@@ -15,7 +15,7 @@ ghost use Rattle.vb_model.specs.StepLaws.{WantIsAnswered};
 ghost use Rattle.vb_model.specs.StepLaws.{HasNoReservedBallooned, RefusalsChangeNothing};
 ghost use Rattle.vb_model.specs.StepLaws.{RefusedEventsChangeNothing, NoMemoryIsExact};
 ghost use Rattle.vb_model.specs.StepLaws.{WantsChangeNothing};
-ghost use Rattle.vb_model.specs.LastWrites.{ContentsStay, ReadsGiveLastWrites};
+ghost use Rattle.vb_model.specs.SafeLaws.{QuietAgree, UsedPagesStay, HonestMeetNoFault};
 ghost use Rattle.vb_model.specs.HonestRuns.{HonestStay, HonestAreIdleUnlessReady};
 ghost use Rattle.vb_model.specs.Histories.{IsSafeHistory};
 ghost use Rattle.vb_model.specs.Determined.{HonestStepsAgree};
@@ -153,20 +153,24 @@ pub fn a_guest_runs_alone()
         (after : List World) (g new : Guest)
         → Steps w events replies after → InOneLife n events → guest_at w.guests n ≡ Some g
         → guest_at (last_world w after).guests n ≡ Some new → new.rogue ≡ false
-        → Alone n w events replies after g new }
+        → Alone n w events replies after g }
 {}
 
-/// In a run a page of an honest guest, at whatever place it is, reads as it did until a write of
-/// the guest's own to it or until it loses its frame; then it reads as zeros.
-pub fn contents_stay()
-    ensures stay { ContentsStay }
+/// Where an honest guest is safe and has no inflate or deflate request, its device calls ballooned
+/// just the pages that its driver calls lent.
+pub fn quiet_guests_agree()
+    ensures quiet { QuietAgree }
 {}
 
-/// Where an allocation of an honest guest holds a page from one state of a run on, a read of the
-/// page gives, byte by byte, what the guest's last write to the byte since then put there, else the
-/// byte that the page had in that state: zero, where it had no frame.
-pub fn reads_give_last_writes()
-    ensures reads { ReadsGiveLastWrites }
+/// On a safe course a used page reads as it did, but for the guest's own writes to it.
+pub fn used_pages_stay()
+    ensures stay { UsedPagesStay }
+{}
+
+/// No call of an honest guest meets a chain that breaks a rule, or a broken ring: one that scribbles
+/// neither.
+pub fn honest_guests_meet_no_fault()
+    ensures none { HonestMeetNoFault }
 {}
 
 /// In a run a guest that is honest stays so until it makes a scribble.
