@@ -228,5 +228,11 @@ restarted l = l.2.0 refl
 unplugged : InOneLife 1 (Unplug 1 ∷ []) → ⊥
 unplugged l = l.1 refl
 
+-- a life goes on over an initialisation, a reset and a scribble, and over balances
+a_start_in_a_life : InOneLife 1 (OnGuest 1 (Init 0) ∷ OnGuest 1 Reset
+    ∷ OnGuest 1 (Scribble 0 0 []) ∷ [])
+a_start_in_a_life =
+    ((λ e. cc), (λ e. cc), ((λ e. cc), (λ e. cc), ((λ e. cc), (λ e. cc), tt)))
+
 a_balance_in_a_life : InOneLife 1 (Balance 0 ∷ [])
 a_balance_in_a_life = ((λ e. cc), (λ e. cc), tt)
