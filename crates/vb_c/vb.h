@@ -22,6 +22,7 @@ enum {                          /* answers: `code` */
     VB_NO_QUEUE = 5,            /* no queue of that kind, or not with the negotiated features */
     VB_MISPLACED = 6,           /* the queue has no place, or copies don't have its size */
     VB_BAD_ARGUMENT = 7,        /* too little room, a head that is no descriptor, settings out of range */
+    VB_SHORT = 8,               /* the guests can't spare enough (vb_targets) */
 };
 enum {                          /* kinds of queues, whatever their numbers are */
     VB_INFLATE = 0, VB_DEFLATE = 1, VB_STATISTICS = 2, VB_REPORT = 3, VB_NO_KIND = 4,
@@ -63,6 +64,8 @@ typedef struct { uint32_t code, rule, head, runs, pages, skipped; } VbNamed;
 typedef struct { uint32_t code, rule, count; } VbFigures;
 typedef struct { uint32_t code; uint64_t element_at, index_at; uint32_t id, length; uint16_t index; } VbUsed;
 typedef struct { uint32_t code; uint64_t pages; } VbMarked;
+typedef struct { uint32_t pages, spare; } VbNeed;                 /* a guest's pages, and how many it can spare */
+typedef struct { uint32_t code; uint64_t missing; } VbTargets;
 
 /* Makes a device that waits for its driver. VB_OK or VB_BAD_ARGUMENT. */
 uint32_t vb_new(VbDevice *device, VbSettings settings);
@@ -118,6 +121,23 @@ VbMarked vb_mark(uint32_t kind, const VbRun *runs, size_t count, uint64_t *set, 
 uint32_t vb_is_ballooned(const uint64_t *set, size_t words, uint32_t page);
 /* How many pages are in the set: all words are looked at. */
 uint64_t vb_count_ballooned(const uint64_t *set, size_t words);
+
+/* For a host of several guests, which has fewer frames than they have pages together: what to ask each of them for. */
+
+/* How many pages a guest can spare: those in the balloon, and the free ones above the floor (none where free_known is
+ * 0: no statistics say so); at most its pages that aren't reserved. */
+uint32_t vb_spare(uint32_t pages, uint32_t ballooned, uint32_t free_pages, uint32_t free_known, uint32_t floor,
+                  uint32_t reserved);
+/* Puts a target for each guest into `targets`, in the order of the needs, so that this many frames suffice: what is
+ * missing is given by the guests of most spare first, and of these by the first in order, by each at most its spare.
+ * However many guests there are, it looks at each need at most 37 times. VB_OK; VB_BAD_ARGUMENT where room isn't count;
+ * VB_SHORT where all that they can spare together is too little by `missing` pages (2^64 - 1 where it is more); then no
+ * target is changed. */
+VbTargets vb_targets(const VbNeed *needs, size_t count, uint32_t frames, uint32_t *targets, size_t room);
+/* 1 where targets that were set before no longer serve: there isn't one for each guest, or together they are less than
+ * what is missing, or a guest is asked for more than it can spare. Else 0: they may stay, so that targets don't swing. */
+uint32_t vb_needs_targets(const uint32_t *old_targets, size_t old_count, const VbNeed *needs, size_t count,
+                          uint32_t frames);
 
 /* Refusals of the calls on a device are tested in this order: VB_NO_QUEUE for a kind that the call isn't for,
  * VB_BAD_ARGUMENT, VB_NOT_READY, VB_NEEDS_RESET, VB_NO_QUEUE for a feature, VB_MISPLACED; then VB_BROKEN, VB_NOTHING or

@@ -3,3 +3,4 @@ pub mod Answers
 pub mod Chains
 pub mod Marks
 pub mod Registers
+pub mod Sharing

@@ -6,3 +6,4 @@ mod answers;
 mod chains;
 mod marks;
 mod registers;
+mod sharing;

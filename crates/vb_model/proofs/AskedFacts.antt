@@ -19,7 +19,7 @@ use Rattle.vb_model.specs.Guest.{Guest, tells_host}
 use Rattle.vb_model.specs.Life.{after_reset}
 use Rattle.vb_model.specs.GuestRun.{Entry, Called}
 use Rattle.vb_model.specs.Courses.{Course, guest_after, ReapedAt, DeflatePostedAt}
-use Rattle.vb_model.specs.Courses.{WasAskedBack, asks_back}
+use Rattle.vb_model.specs.Courses.{WasAskedBack, posts_deflate}
 use Rattle.vb_model.specs.Histories.{IsSafeCourse}
 use Rattle.vb_model.proofs.Samples.{ready, down, untold, page_16_at, request}
 use Rattle.vb_model.proofs.SafeFacts.{made, goes, request_16, posted, used}
@@ -80,7 +80,7 @@ lends c g entry is_there =
       named = refl;
     }
 
-abbrev asks : (c : Course) (g : Guest) (place : Place) (call : Call) → IsTrue (asks_back call)
+abbrev asks : (c : Course) (g : Guest) (place : Place) (call : Call) → IsTrue (posts_deflate call)
     → slice_get c.entries 2 ≡ some_own (made call (Posted 0 1)) → guest_after c 2 ≡ Some (lent g)
     → guest_after c 3 ≡ Some (asked place g) → g.deflate ≡ no_requests → DeflatePostedAt c 16 2
 asks c g place call is_asking entry is_there follows none =
@@ -133,7 +133,7 @@ at_once g place call =
     ∷ made (Alloc 0 0) (Page 16) ∷ [])
     (giving g ∷ lent g ∷ asked place g ∷ asked place g ∷ handed_out g ∷ [])
 
-untold_and_asked_back : (call : Call) → IsTrue (asks_back call)
+untold_and_asked_back : (call : Call) → IsTrue (posts_deflate call)
     → WasAskedBack (at_once untold FreePlace call) 16 0 4
 untold_and_asked_back call is_asking =
     record {
@@ -148,10 +148,10 @@ untold_and_asked_back call is_asking =
       told = λ tells. absurd (let e : false ≡ true = tells in cc);
     }
 
-by_two_calls : IsTrue (asks_back (Deflate 1)) × IsTrue (asks_back (Oom 1))
+by_two_calls : IsTrue (posts_deflate (Deflate 1)) × IsTrue (posts_deflate (Oom 1))
 by_two_calls = (refl, refl)
 
-by_no_other_call : map asks_back
+by_no_other_call : map posts_deflate
     (Inflate 1 ∷ Reap 1 ∷ Alloc 0 0 ∷ Work ∷ Finish 1 0 ∷ Report 0 ∷ []) ≡ replicate 6 false
 by_no_other_call = refl
 
@@ -200,7 +200,7 @@ not_by_three c i first_two outer last_two a =
 
 -- the entry is a call that asks pages back
 abbrev is_asking : Option (Option Entry) → Bool
-is_asking (Some (Some (Called actor call claims reply))) = asks_back call
+is_asking (Some (Some (Called actor call claims reply))) = posts_deflate call
 is_asking _ = false
 
 not_asking : (c : Course) (k lent asked : ℕ) → is_asking (slice_get c.entries asked) ≡ false

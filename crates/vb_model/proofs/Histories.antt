@@ -168,7 +168,7 @@ pub record IsFit (g : Guest) : Type 0 where
   pub blank : IsBlank g
   pub attentive : IsAttentive g
 
-fresh_fit : (config : Config) (target : ℕ) → IsFit (fresh config target)
+pub fresh_fit : (config : Config) (target : ℕ) → IsFit (fresh config target)
 fresh_fit config target =
     record {
       honest = refl;
@@ -183,18 +183,22 @@ fresh_fit config target =
       };
     }
 
-entry_fit : (g : Guest) (entry : Entry) (new : Guest) → IsFit g → EntryStep g entry new → IsFit new
-entry_fit g (Looked floor answer) new f s = subst IsFit (sym s.1) f
-entry_fit g (Called actor call claims reply) new f s =
-    let honest = still_honest g call claims reply new f.honest s.0 s.1 in
+pub call_fit : (g : Guest) (call : Call) (claims : List Claim) (reply : Reply) (new : Guest)
+    → IsFit g → HonestStep g call claims reply new → new.rogue ≡ false → IsFit new
+call_fit g call claims reply new f s honest =
     record {
       honest = honest;
       consistent = honest_keeps g call claims reply new f.consistent
-          (λ down. f.attentive.deflating (not_down g.status down)) s.1 honest;
-      orderly = honest_order g call claims reply new f.consistent f.orderly s.1 honest;
-      blank = honest_blank g call claims reply new f.blank s.1 honest;
-      attentive = honest_attentive g call claims reply new f.orderly f.attentive s.1 honest;
+          (λ down. f.attentive.deflating (not_down g.status down)) s honest;
+      orderly = honest_order g call claims reply new f.consistent f.orderly s honest;
+      blank = honest_blank g call claims reply new f.blank s honest;
+      attentive = honest_attentive g call claims reply new f.orderly f.attentive s honest;
     }
+
+entry_fit : (g : Guest) (entry : Entry) (new : Guest) → IsFit g → EntryStep g entry new → IsFit new
+entry_fit g (Looked floor answer) new f s = subst IsFit (sym s.1) f
+entry_fit g (Called actor call claims reply) new f s =
+    call_fit g call claims reply new f s.1 (still_honest g call claims reply new f.honest s.0 s.1)
 
 own_fit : (g : Guest) (own : Option Entry) (new : Guest) → IsFit g → OwnStep g own new → IsFit new
 own_fit g None new f s = subst IsFit (sym s) f

@@ -1,4 +1,5 @@
 -- A guest's course: its states in one life, and the entries between them; and words about one.
+-- The headline needs all of it.
 use Rattle.std.specs.Prelude.{◌≡◌, ℕ, zero, suc, ◌+◌, ◌-◌, ◌<◌, ◌≤◌, Bool, true, false, ◌==◌, ◌&&◌}
 use Rattle.std.specs.Prelude.{nat_le, nat_lt, List, [], ◌∷◌, ◌++◌, length, Option, Some, None}
 use Rattle.std.specs.Prelude.{slice_get, slice_index_or, if◌then◌else◌, IsSome, IsTrue, ◌⊎◌}
@@ -56,11 +57,11 @@ pub record ReapedAt (kind : Kind) (c : Course) (page j : ℕ) : Type 0 where
   pub done : (requests kind guest).done ≡ request ∷ others
   pub named : IsTrue (names page request)
 
--- a call that asks pages back
-abbrev pub asks_back : Call → Bool
-asks_back (Deflate count) = true
-asks_back (Oom count) = true
-asks_back _ = false
+-- a call that posts a deflate request, which asks pages back
+abbrev pub posts_deflate : Call → Bool
+posts_deflate (Deflate count) = true
+posts_deflate (Oom count) = true
+posts_deflate _ = false
 
 -- entry j posted a deflate request that names the page
 pub record DeflatePostedAt (c : Course) (page j : ℕ) : Type 0 where
@@ -69,7 +70,7 @@ pub record DeflatePostedAt (c : Course) (page j : ℕ) : Type 0 where
   pub call : Call
   pub request : Request
   pub called : IsCall c j call (Posted request.head (length request.pages))
-  pub asks : IsTrue (asks_back call)
+  pub asks : IsTrue (posts_deflate call)
   pub is_there : guest_after c j ≡ Some before
   pub follows : guest_after c (j + 1) ≡ Some after
   pub posted : after.deflate.posted ≡ before.deflate.posted ++ (request ∷ [])

@@ -1,5 +1,6 @@
--- What is safe of one guest in one life: of its states, and of the entries between them. No world is
--- in it, and so nothing is said of frames that two guests have.
+-- What is safe of one guest in one life: of its states, and of the entries between them. No world
+-- is in it, and so nothing is said of frames that two guests have.
+-- The headline needs all of it; `IsSafeHistory` for guests on threads alone.
 use Rattle.std.specs.Prelude.{◌≡◌, ◌≢◌, ℕ, ◌+◌, ◌<◌, List, Some, slice_index_or, length, IsTrue}
 use Rattle.std.specs.Prelude.{◌↔◌, ◌⊎◌}
 use Rattle.vb_model.specs.declared.places.Place.TheVariants.{Used, Giving, Reserved}

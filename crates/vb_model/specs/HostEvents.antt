@@ -1,4 +1,5 @@
 -- What an event of the host does, its guests' calls among them (profile).
+-- The headline of a host needs all of it.
 use Rattle.std.specs.Prelude.{◌≡◌, ℕ, ◌-◌, Bool}
 use Rattle.std.specs.Prelude.{List, [], ◌∷◌, Option, Some, None}
 use Rattle.std.specs.Prelude.{MatchOption, ◌⊎◌, filter_map, ⊤}

@@ -25,7 +25,7 @@ UsedPagesStay = (c : Course) → IsSafeCourse c → (i page : ℕ) (g g' : Guest
     → guest_after c i ≡ Some g → guest_after c (i + 1) ≡ Some g' → IsAt g page Used
     → IsAt g' page Used → ¬ IsWriteTo c page i → contents_of g' page ≡ contents_of g page
 
--- no call of an honest guest meets a fault, a scribble neither
+-- no call of an honest guest meets a fault, even a scribble
 abbrev pub HonestMeetNoFault : Type 0
 HonestMeetNoFault =
     (w : World) (n : ℕ) (call : Call) (reply : Reply) (v : World) (g : Guest) (fault : ℕ)

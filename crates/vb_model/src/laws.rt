@@ -167,8 +167,8 @@ pub fn used_pages_stay()
     ensures stay { UsedPagesStay }
 {}
 
-/// No call of an honest guest meets a chain that breaks a rule, or a broken ring: one that scribbles
-/// neither.
+/// No call of an honest guest meets a chain that breaks a rule, or a broken ring, even one that
+/// scribbles.
 pub fn honest_guests_meet_no_fault()
     ensures none { HonestMeetNoFault }
 {}
