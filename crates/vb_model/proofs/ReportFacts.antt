@@ -1,5 +1,5 @@
 -- Worked facts of free blocks, allocations, and page reports.
-use Rattle.std.proofs.Common.{◌≡◌, ℕ, true, false, List, [], ◌∷◌, ◌++◌, map, replicate, refl, arith}
+use Rattle.std.proofs.Common.{◌≡◌, ℕ, Bool, true, false, List, [], ◌∷◌, ◌++◌, map, replicate, refl, arith}
 use Rattle.std.specs.Prelude.{Option, Some, None, drop}
 use Rattle.std.specs.List.{range_with_len, flat_map}
 use Rattle.vb_model.specs.declared.places.Place.{Place}

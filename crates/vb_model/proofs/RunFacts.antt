@@ -3,7 +3,8 @@ use Rattle.std.proofs.Common.{◌≡◌, ℕ, List, [], ◌∷◌, true, false, 
 use Rattle.std.proofs.Common.{arith, length}
 use Rattle.std.specs.Prelude.{Option, Some, None, unwrap_or}
 use Rattle.vb_model.specs.declared.calls.Actor.TheVariants.{Balancer, Processor}
-use Rattle.vb_model.specs.declared.calls.Call.TheVariants.{Ask, Work, SetTarget, Write, Scribble}
+use Rattle.vb_model.specs.declared.calls.Call.TheVariants.{Ask, Init, Reset, Work, SetTarget}
+use Rattle.vb_model.specs.declared.calls.Call.TheVariants.{Write, Scribble}
 use Rattle.vb_model.specs.declared.calls.Claim.{Claim}
 use Rattle.vb_model.specs.declared.calls.Claim.TheVariants.{Gave}
 use Rattle.vb_model.specs.declared.calls.Event.TheVariants.{Unplug, Restart, Guest as OnGuest}
