@@ -45,8 +45,8 @@ fn begin<P: Port>(port: &mut P)
 }
 
 impl Driver {
-    /// Resets the device, so that nothing is out and no page counts as given to the host, and agrees
-    /// with it on the features, or gives up.
+    /// Resets the device, so that nothing is out and no page counts as given to the host, and then
+    /// agrees with it on the features, or gives up.
     fn negotiate<P: Port>(&mut self, port: &mut P, wanted: Features) -> Result<(), Refusal>
         ensures { NegotiatesBy (P.mem port.old) (P.mem port.new) (P.part port.old) (P.part port.new)
             self.old self.new (feature_bits wanted) result }
