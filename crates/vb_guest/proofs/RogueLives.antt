@@ -140,7 +140,7 @@ said_guest g frames x d =
 -- the driver gave up
 abbrev GaveUp : Part → Part → DriverState → DriverState → ℕ → Refusal → Type 0
 GaveUp p2 p3 d1 d2 wanted why =
-    (d2.places ≡ d1.places) × (d2.actual ≡ d1.actual)
+    (d2.places ≡ d1.places) × (d2.actual ≡ 0)
     × (p3 ≡ record (part_after_reset p2) { status = 131; features = accepted_before why wanted })
 
 -- the part after a reset, with another status
@@ -278,7 +278,7 @@ gives_up m p1 p2 p3 d1 d2 g wanted claims why rogue status all part gave =
     ∙ ap (λ (l : List Place). record (said_guest g frames (part_said left) d2) { places = l })
     places
     ∙ ap (λ (n : ℕ). record (gave_up why wanted frames g) { actual = n; target = p1.target })
-    (gave.1 ∙ rogue.actual)
+    gave.1
     ∙ ap (λ (n : ℕ). record (gave_up why wanted frames g) { target = n }) rogue.target
     ∙ sym (ap (λ (n : ℕ). if_negotiated (not (n == 0)) (claim_refusal claims) g
     (gave_up why wanted frames g)) (sym rogue.status ∙ status)

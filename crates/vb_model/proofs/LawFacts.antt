@@ -15,7 +15,6 @@ use Rattle.vb_model.specs.declared.calls.Query.TheVariants.{Balloon, Memory, Bac
 use Rattle.vb_model.specs.declared.calls.Event.{Event}
 use Rattle.vb_model.specs.declared.replies.Refusal.TheVariants.{NotHeld, VersionMissing, NoFrame}
 use Rattle.vb_model.specs.declared.replies.Refusal.TheVariants.{NoDevice}
-use Rattle.vb_model.specs.declared.replies.Reply.{Reply}
 use Rattle.vb_model.specs.declared.replies.Reply.TheVariants.{Plugged, Done, Frames, Refused}
 use Rattle.vb_model.specs.Tests.{is_in}
 use Rattle.vb_model.specs.Guest.{Guest}
@@ -24,9 +23,13 @@ use Rattle.vb_model.specs.World.{World}
 use Rattle.vb_model.specs.HostFrames.{IsOut}
 use Rattle.vb_model.specs.HostLaws.{WorldsAgree}
 use Rattle.vb_model.specs.StepLaws.{IsOfOthers, HasNoFrame, WantOfFrames, may_want_memory}
-use Rattle.vb_model.specs.StepLaws.{Follows, TargetsAreKept, ConfigurationsAreKept}
 use Rattle.vb_model.specs.StepLaws.{HasNoReservedBallooned, IsUnchanged, call_may_want}
-use Rattle.vb_model.proofs.Samples.{ready, down}
+use Rattle.vb_model.specs.StepLaws.{with_features_refused}
+use Rattle.vb_model.specs.declared.calls.Claim.{Claim}
+use Rattle.vb_model.specs.declared.calls.Claim.TheVariants.{Gave}
+use Rattle.std.specs.List.{range_with_len}
+use Rattle.std.proofs.Common.{sym}
+use Rattle.vb_model.proofs.Samples.{ready}
 
 abbrev Same : ℕ → ℕ → Type 0
 Same a b = a ≡ b
@@ -143,39 +146,61 @@ page_16_ballooned page l =
 
 -- ---- what a refusal leaves: the guest as it was, but for features that an initialisation refused
 
+-- page 16 has frame 5, and the pages of rings and buffers have none
+abbrev before_refused : Guest
+before_refused = record backed { status = 0; features = 0 }
+
+abbrev some : ℕ → Option ℕ
+some n = Some n
+
+abbrev gave : ℕ → Claim
+gave frame = Gave frame
+
+abbrev thirteen : List Claim
+thirteen = map gave (range_with_len 20 13)
+
 abbrev failed : Guest
-failed = record down { status = 131 }
+failed = record before_refused {
+  status = 131;
+  features = 0x26;
+  frames =
+      map some (range_with_len 20 13) ++ (replicate 3 None ++ (Some 5 ∷ replicate 47 None));
+}
 
-changed_by_a_reset : IsUnchanged Reset NotHeld down failed → ⊥
-changed_by_a_reset (inl same) =
-    let e : Same 131 0 = ap (λ (g : Guest). g.status) same in omega arith
-changed_by_a_reset (inr (wanted, call, refused, status)) = cc
+abbrev status_of : Guest → ℕ
+status_of g = g.status
 
-failed_for_features : IsUnchanged (Init 0x26) VersionMissing down failed
+changed_by_a_reset : IsUnchanged Reset NotHeld [] before_refused failed → ⊥
+changed_by_a_reset (inl same) = let e : Same 131 0 = ap status_of same in omega arith
+changed_by_a_reset (inr (wanted, call, refused, left)) = cc
+
+failed_for_features : IsUnchanged (Init 0x26) VersionMissing thirteen before_refused failed
 failed_for_features = inr (0x26, refl, refl, refl)
 
 -- these features aren't refused
-failed_for_no_feature : IsUnchanged (Init 0x100000026) VersionMissing down failed → ⊥
-failed_for_no_feature (inl same) =
-    let e : Same 131 0 = ap (λ (g : Guest). g.status) same in omega arith
-failed_for_no_feature (inr (wanted, call, refused, status)) =
+failed_for_no_feature : IsUnchanged (Init 0x100000026) VersionMissing thirteen before_refused failed
+    → ⊥
+failed_for_no_feature (inl same) = let e : Same 131 0 = ap status_of same in omega arith
+failed_for_no_feature (inr (wanted, call, refused, left)) =
     let same : 0x100000026 ≡ wanted = cc in
     let e : None ≡ Some VersionMissing = ap feature_refusal same ∙ refused in
     cc
 
-failed_for_want_of_frames : IsUnchanged (Init 0x100000027) NoFrame down failed → ⊥
-failed_for_want_of_frames (inl same) =
-    let e : Same 131 0 = ap (λ (g : Guest). g.status) same in omega arith
-failed_for_want_of_frames (inr (wanted, call, refused, status)) =
+failed_for_want_of_frames : IsUnchanged (Init 0x100000027) NoFrame thirteen before_refused failed → ⊥
+failed_for_want_of_frames (inl same) = let e : Same 131 0 = ap status_of same in omega arith
+failed_for_want_of_frames (inr (wanted, call, refused, left)) =
     let same : 0x100000027 ≡ wanted = cc in
     let e : None ≡ Some NoFrame = ap feature_refusal same ∙ refused in
     cc
 
-initialised_but_refused : IsUnchanged (Init 0x26) VersionMissing down ready → ⊥
-initialised_but_refused (inl same) =
-    let e : Same 15 0 = ap (λ (g : Guest). g.status) same in omega arith
-initialised_but_refused (inr (wanted, call, refused, status)) =
-    let e : Same 15 131 = status in omega arith
+-- nothing else is changed, nor less
+just_failed : (new : Guest) → IsUnchanged (Init 0x26) VersionMissing thirteen before_refused new
+    → new.status ≡ 131 → new ≡ failed
+just_failed new (inl same) up = absurd (let e : Same 0 131 = sym (ap status_of same) ∙ up in omega arith)
+just_failed new (inr (wanted, call, refused, left)) up =
+    let same : wanted ≡ 0x26 = cc in
+    left ∙ ap (λ (features : ℕ). with_features_refused features VersionMissing thirteen before_refused)
+    same
 
 -- ---- which events may want memory: a plug, what needs a frame, a read, and lists of pages
 
@@ -208,14 +233,3 @@ wants_of_a_start = refl
 no_guest_wants_none : map (λ call. may_want_memory world (OnGuest 0 call))
     (Read 16 0 1 ∷ Init 0 ∷ []) ≡ false ∷ false ∷ []
 no_guest_wants_none = refl
-
--- ---- laws, applied where they might be cut short
-
-rogue_target : TargetsAreKept → (w v : World) (reply : Reply) (old new : Guest)
-    → Follows w (OnGuest 1 Work) reply v 1 old new → new.target ≡ old.target
-rogue_target law w v reply old new f =
-    law w (OnGuest 1 Work) reply v 1 old new f (λ t e. cc) (λ fl e. cc)
-
-rogue_config : ConfigurationsAreKept → (w v : World) (reply : Reply) (old new : Guest)
-    → Follows w (OnGuest 1 Work) reply v 1 old new → new.config ≡ old.config
-rogue_config law w v reply old new f = law w (OnGuest 1 Work) reply v 1 old new f

@@ -3,7 +3,8 @@ use Rattle.std.proofs.Common.{◌≡◌, ℕ, List, [], ◌∷◌, true, false, 
 use Rattle.std.proofs.Common.{arith, length}
 use Rattle.std.specs.Prelude.{Option, Some, None, unwrap_or}
 use Rattle.vb_model.specs.declared.calls.Actor.TheVariants.{Balancer, Processor}
-use Rattle.vb_model.specs.declared.calls.Call.TheVariants.{Ask, Work, SetTarget, Write, Scribble}
+use Rattle.vb_model.specs.declared.calls.Call.TheVariants.{Ask, Init, Reset, Work, SetTarget}
+use Rattle.vb_model.specs.declared.calls.Call.TheVariants.{Write, Scribble}
 use Rattle.vb_model.specs.declared.calls.Claim.{Claim}
 use Rattle.vb_model.specs.declared.calls.Claim.TheVariants.{Gave}
 use Rattle.vb_model.specs.declared.calls.Event.TheVariants.{Unplug, Restart, Guest as OnGuest}
@@ -227,6 +228,12 @@ restarted l = l.2.0 refl
 
 unplugged : InOneLife 1 (Unplug 1 ∷ []) → ⊥
 unplugged l = l.1 refl
+
+-- a life goes on over an initialisation, a reset and a scribble, and over balances
+a_start_in_a_life : InOneLife 1 (OnGuest 1 (Init 0) ∷ OnGuest 1 Reset
+    ∷ OnGuest 1 (Scribble 0 0 []) ∷ [])
+a_start_in_a_life =
+    ((λ e. cc), (λ e. cc), ((λ e. cc), (λ e. cc), ((λ e. cc), (λ e. cc), tt)))
 
 a_balance_in_a_life : InOneLife 1 (Balance 0 ∷ [])
 a_balance_in_a_life = ((λ e. cc), (λ e. cc), tt)

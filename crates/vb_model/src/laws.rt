@@ -11,6 +11,7 @@ ghost use Rattle.vb_model.specs.StepLaws.{ConfigurationsAreKept, FramesGoBack, R
 ghost use Rattle.vb_model.specs.StepLaws.{RoguesAreMade, ScribblesMakeRogues, RoguesStay};
 ghost use Rattle.vb_model.specs.StepLaws.{FramesEnterByClaims, RefusedClaimsAreAnswered};
 ghost use Rattle.vb_model.specs.StepLaws.{ClaimsAreNeeded, NeededPagesAreBare, NoFrameIsExact};
+ghost use Rattle.vb_model.specs.StepLaws.{WantIsAnswered};
 ghost use Rattle.vb_model.specs.StepLaws.{HasNoReservedBallooned, RefusalsChangeNothing};
 ghost use Rattle.vb_model.specs.StepLaws.{RefusedEventsChangeNothing, NoMemoryIsExact};
 ghost use Rattle.vb_model.specs.StepLaws.{WantsChangeNothing};
@@ -100,8 +101,8 @@ pub fn rogues_are_made_by_scribbles()
     ensures stay { RoguesStay }
 {}
 
-/// A frame enters a guest, honest or rogue, by a claim of its call alone; and a claim that is
-/// refused is the reply, with which no frame enters or leaves.
+/// A frame enters a page of a guest, honest or rogue, by the claim that its call made for this page
+/// alone; and a claim that is refused is the reply, with which no frame enters or leaves.
 pub fn frames_enter_by_claims()
     ensures enter { FramesEnterByClaims }
     ensures refused { RefusedClaimsAreAnswered }
@@ -116,9 +117,10 @@ pub fn claims_are_needed()
 {}
 
 /// A call of a guest, honest or rogue, is refused for want of a frame only where fewer frames are
-/// not out than it needs.
+/// not out than it needs; and there it is, unless it is refused for want of memory.
 pub fn no_frame_is_exact()
     ensures exact { NoFrameIsExact }
+    ensures answered { WantIsAnswered }
 {}
 
 /// Want of memory is answered by a plug; by a call of a guest, honest or rogue, that claimed a
@@ -136,7 +138,9 @@ pub fn honest_steps_agree()
 {}
 
 /// A refusal leaves an honest guest as it was, but for an initialisation whose features are
-/// refused, which leaves the status at 131; a refused event of the host leaves the world as it was.
+/// refused: then the pages of rings and buffers have frames, the status is 131, and the features
+/// are those that were accepted before the refusal. A refused event of the host leaves the world as
+/// it was.
 pub fn refusals_change_nothing()
     ensures calls { RefusalsChangeNothing }
     ensures events { RefusedEventsChangeNothing }
