@@ -206,7 +206,7 @@ not_its_own s = by o.own o.is o.step
 
 abbrev restarted : History
 restarted = record {
-  first = at down;
+  first = at ready;
   events = Restart 0 ∷ OnGuest 0 Work ∷ [];
   replies = Done ∷ Done ∷ [];
   after = at down ∷ at down ∷ [];
