@@ -13,4 +13,5 @@ pub mod CountLemmas
 pub mod MarkLemmas
 mod SettingFacts
 mod RunFacts
+mod DenialFacts
 pub mod Rows

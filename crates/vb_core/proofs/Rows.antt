@@ -2,6 +2,7 @@
 use Rattle.std.proofs.Common.{◌≡◌, ℕ, List, [], ◌∷◌, ◌++◌, refl, sym, ◌∙◌, ap, append_assoc}
 use Rattle.std.proofs.Common.{append-nil}
 use Rattle.vb_core.specs.Format.{in_a_row}
+pub use Rattle.std.proofs.lemmas.List.Sums.{fold_more}
 
 -- more behind a row is appended to it
 pub row_more : (parts : List (List ℕ)) (more : List ℕ)

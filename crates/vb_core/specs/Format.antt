@@ -1,7 +1,7 @@
 -- The bytes of a saved device. Numbers are little-endian (as in VIRTIO 1.1, 1.4), and nothing
 -- stands between them.
-use Rattle.std.specs.Prelude.{ℕ, ◌+◌, ◌*◌, ◌%◌, ◌^◌, ◌<◌, List, [], ◌∷◌, ◌++◌, slice_index, take, drop}
-use Rattle.std.specs.Prelude.{bit_xor}
+use Rattle.std.specs.Prelude.{ℕ, ◌+◌, ◌*◌, ◌%◌, ◌^◌, ◌<◌, List, [], ◌∷◌, ◌++◌, slice_index, take}
+use Rattle.std.specs.Prelude.{drop, bit_xor}
 use Rattle.std.specs.List.{fold}
 use Rattle.std.specs.Int.{w16, w32, w64, from_le_bytes, to_le_bytes}
 use Rattle.vb_core.specs.declared.settings.Settings.{Settings}

@@ -224,7 +224,7 @@ fn push_body(out: &mut SavedBytes, saved: &Saved)
 }
 
 /// The checksum of bytes: FNV-1a with 64 bits. A change of any one byte changes it.
-#[tactic(auto, using(std::proofs::lemmas::List::Sums::fold_more), unfolding(crate::specs::Format::checksum))]
+#[tactic(auto, using(crate::proofs::Rows::fold_more), unfolding(crate::specs::Format::checksum))]
 pub(crate) fn checksum(bytes: &[u8]) -> u64
     ensures { result ≡ checksum bytes.now }
 {

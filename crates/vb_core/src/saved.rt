@@ -1,4 +1,4 @@
-//! A device that is saved and restored: what is kept of it, which states it can have, and the calls.
+//! A device that is saved and restored: what is kept of it, and the calls.
 
 ghost use Rattle.std.specs.Prelude.{◌≡◌, ◌≤◌, ◌++◌, true, Some, None, Ok, Err, drop, length};
 ghost use Rattle.vb_core.specs.declared.saved.StateDenial.{StateDenial};
