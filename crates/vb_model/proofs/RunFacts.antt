@@ -17,6 +17,7 @@ use Rattle.vb_model.specs.World.{World, made}
 use Rattle.vb_model.specs.HostFrames.{Gives, IsOut}
 use Rattle.vb_model.specs.Run.{History, Run, Steps, guest_in, last_world}
 use Rattle.vb_model.specs.GuestRun.{Entry, Called, Looked, EntryStep, IsOwnEntry, AreOwn, InOneLife}
+use Rattle.vb_model.specs.GuestRun.{Alone}
 use Rattle.vb_model.proofs.Samples.{ready, down}
 
 abbrev world : ℕ → World
@@ -190,6 +191,17 @@ aimed = record {
 abbrev told : ℕ → Option Entry
 told target = Some (Called Balancer (SetTarget target) [] Done)
 
+-- the target is the one that it has then
+abbrev not_aimed : World
+not_aimed = record aimed
+    { guests = Some (record ready { target = 9 }) ∷ Some (record ready { target = 9 }) ∷ [] }
+
+target_of_then : IsOwnEntry 1 not_aimed (Balance 16) (Targets (28 ∷ 5 ∷ [])) aimed (told 5)
+target_of_then = refl
+
+target_of_before : IsOwnEntry 1 not_aimed (Balance 16) (Targets (28 ∷ 5 ∷ [])) aimed (told 9) → ⊥
+target_of_before e = cc
+
 new_target : IsOwnEntry 0 aimed (Balance 16) (Targets (28 ∷ 5 ∷ [])) aimed (told 28)
     × IsOwnEntry 1 aimed (Balance 16) (Targets (28 ∷ 5 ∷ [])) aimed (told 5)
 new_target = (refl, refl)
@@ -217,6 +229,15 @@ anothers_count e = cc
 
 anothers_restart : IsOwnEntry 1 aimed (Restart 0) Done aimed work_done → ⊥
 anothers_restart e = cc
+
+-- a rogue guest has no run of its own
+rogue_alone : Alone 1 aimed [] [] [] (record ready { rogue = true }) → ⊥
+rogue_alone a = let e : true ≡ false = a.honest in cc
+
+-- a scribble that was refused is a step of an honest guest
+refused_scribble : EntryStep ready
+    (Called (Processor 1 0) (Scribble 99 0 []) [] (Refused OutOfRam)) ready
+refused_scribble = (refl, (refl, refl, refl))
 
 -- ---- one life: neither restarted nor unplugged
 
