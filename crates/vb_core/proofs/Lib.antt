@@ -14,3 +14,4 @@ pub mod MarkLemmas
 mod SettingFacts
 mod RunFacts
 mod DenialFacts
+pub mod Rows
