@@ -22,7 +22,7 @@ FEATURES = 0x100000027
 INFLATE, DEFLATE, STATISTICS, REPORT = range(4)
 NEXT, WRITE, INDIRECT = 1, 2, 4
 
-# Each queue has a size of 8 and three pages of the first region; buffers begin at page 16.
+# Each queue has a size of 8 and three pages of a region; buffers begin at page 16 of the first.
 SIZE = 8
 BUFFERS = REGIONS[0][0] + 16 * PAGE
 
@@ -42,6 +42,7 @@ class Client:
             os.write(it, b"\xff" * PAGES_OF_REGION * PAGE)
         self.own, self.theirs = socket.socketpair()
         self.available = [0] * 4
+        self.region = 0  # where the rings are
 
     def leave(self):
         """Goes, and lets go of all that it had."""
@@ -106,9 +107,9 @@ class Client:
     def place(self, number, size=SIZE, base=0, shift=0):
         """Gives a queue a place, in the client's addresses, and clears its rings."""
         at = 3 * number * PAGE
-        self.write(REGIONS[0][0] + at, bytes(3 * PAGE))
+        self.write(self.table(number), bytes(3 * PAGE))
         self.available[number] = 0
-        user = REGIONS[0][1] + at + shift
+        user = REGIONS[self.region][1] + at + shift
         self.accepted(SET_VRING_NUM, struct.pack("<II", number, size))
         self.accepted(SET_VRING_BASE, struct.pack("<II", number, base))
         self.accepted(SET_VRING_ADDR, struct.pack("<IIQQQQ", number, 0, user, user + 2 * PAGE, user + PAGE, 0))
@@ -132,7 +133,7 @@ class Client:
 
     def table(self, number):
         """Returns where a queue's table is."""
-        return REGIONS[0][0] + 3 * number * PAGE
+        return REGIONS[self.region][0] + 3 * number * PAGE
 
     def describe(self, number, head, address, length, flags=0, follows=0):
         """Writes a descriptor."""
