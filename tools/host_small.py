@@ -160,3 +160,15 @@ def short_by_hand(town, clients):
     clients[2].free = 100
     targets_become(town, clients, (8, 20, 100))
     demand(town.host.counters()["short"] == 0, "the host stays short")
+
+
+def many_run(bench):
+    """64 guests of 128 pages, who can spare 60 each, on 5,120 frames: 3,072 are missing, which are 51 times 60 and 12."""
+    with bench.town(40, ("--floor", "0"), checked=True) as town:
+        clients = [Talker(town.host.add(f"guest-{it}"), town.host.why, 60) for it in range(64)]
+        targets_become(town, clients, 64 * (0,))
+        town.host.demand("budget 20")
+        targets_become(town, clients, 51 * (60,) + (12,) + 12 * (0,))
+        for it in clients:
+            it.leave()
+    return "64 clients, each asked for what it should give"

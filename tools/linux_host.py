@@ -22,7 +22,7 @@ KEPT, LEAST_FILL, MOST_FILL = 10, 20, 160
 LEFT = 15
 
 # Seconds for which a guest keeps what it filled, and for which it rests, at most.
-MOST_KEEP, MOST_REST = 4.0, 2.0
+MOST_KEEP, MOST_REST = 2.5, 1.0
 
 # A guest that fills its memory has to be done some time, however full the host is.
 FILL_LIMIT = 120
