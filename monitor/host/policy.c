@@ -72,13 +72,13 @@ static void add(struct guests *guests, struct seat *seat, VbNeed need, VbNeed mo
     guests->most[guests->count++] = most;
 }
 
-static void collect(const struct host *host, const struct seat *but, struct guests *guests)
+static void collect(const struct host *host, const struct seat *except, struct guests *guests)
 {
     uint32_t low = host->floor - host->floor / SLACK_PART;
     guests->count = 0;
     for (unsigned i = 0; i < host->count; i++) {
         struct seat *seat = host->seats[i];
-        if (seat == but || seat->pages == 0)
+        if (seat == except || seat->pages == 0)
             continue;
         add(guests, seat, (VbNeed){seat->pages, policy_spare(seat)}, (VbNeed){seat->pages, spare_above(seat, low)});
     }
