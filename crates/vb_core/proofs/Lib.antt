@@ -13,3 +13,4 @@ pub mod CountLemmas
 pub mod MarkLemmas
 mod SettingFacts
 mod RunFacts
+mod DenialFacts
