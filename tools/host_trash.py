@@ -66,8 +66,8 @@ def end_one(town, client, how, chance, gone):
         pass # the host may have closed the socket meanwhile
     eventually(lambda: town.host.counters()["gone"] > gone, lambda: f"{how.__name__}: the client is still there", 5)
     client.leave()
-    seen = town.host.guests()
-    demand(all(seen[it.name]["ready"] and seen[it.name]["answers"] for it in town.members), f"{how.__name__}: {seen}")
+    serves = lambda seen: all(seen[it.name]["ready"] and seen[it.name]["answers"] for it in town.members)
+    eventually(lambda: serves(town.host.guests()), lambda: f"{how.__name__}: {town.host.guests()}", 5)
 
 
 def hang_one(town, path):
@@ -78,9 +78,10 @@ def hang_one(town, path):
     seen, looks = town.host.guests(), town.host.counters()["looks"]
     town.members[0].fill("work", 60)
     town.members[0].drop("work")
+    asked = lambda now: all(now[it.name]["statistics"] > seen[it.name]["statistics"] for it in town.members)
+    eventually(lambda: asked(town.host.guests()), "a guest isn't asked any longer", 5)
+    eventually(lambda: town.host.counters()["looks"] > looks + 4, "the host has stopped to look", 5)
     now = town.host.guests()
-    demand(town.host.counters()["looks"] > looks, "the host has stopped to look")
-    demand(all(now[it.name]["statistics"] > seen[it.name]["statistics"] for it in town.members), "a guest isn't asked any longer")
     demand(not now["trash"]["answers"] and now["trash"]["spare"] == 0, f"a client that hangs can spare: {now['trash']}")
     client.leave()
     eventually(lambda: not town.host.guests()["trash"]["here"], "a client that has gone is still there", 5)

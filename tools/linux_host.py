@@ -15,14 +15,14 @@ from linux_kit import Fault
 # Seconds between two looks at what the host holds.
 LOOK_EVERY = 0.05
 
-# MiB that a guest keeps all the time, and those that it fills by chance and frees.
-KEPT, LEAST_FILL, MOST_FILL = 10, 20, 160
+# MiB that a guest keeps all the time, those that it fills by chance and frees, and those that Linux takes of it.
+KEPT, LEAST_FILL, MOST_FILL, LINUX = 10, 20, 160, 56
 
 # MiB for each guest that the guests leave of the budget, where they use no more than there is.
 LEFT = 15
 
 # Seconds for which a guest keeps what it filled, and for which it rests, at most.
-MOST_KEEP, MOST_REST = 4.0, 2.0
+MOST_KEEP, MOST_REST = 2.5, 1.0
 
 # A guest that fills its memory has to be done some time, however full the host is.
 FILL_LIMIT = 120
@@ -216,7 +216,7 @@ class Town:
         """A guest's day: it fills files of random sizes, keeps them for a while, and frees them again."""
         try:
             while time.monotonic() < end and not self.ended.is_set():
-                mib = chance.randint(LEAST_FILL, MOST_FILL)
+                mib = chance.randint(LEAST_FILL, min(MOST_FILL, (member.memory - LINUX) * 4 // 5))
                 if not ledger.take(mib):
                     self.ended.wait(chance.random() * 0.2)
                     continue

@@ -149,7 +149,7 @@ def enough_room(memory):
     room = os.statvfs("/dev/shm")
     free = room.f_bavail * room.f_frsize >> 20
     if free < memory:
-        raise Missing(f"/dev/shm has {free} MiB free, and the guest wants {memory}: mount -o remount,size={memory + 64}M /dev/shm")
+        raise Missing(f"/dev/shm has {free} MiB free, and {memory} are wanted for guests: mount -o remount,size={memory + 64}M /dev/shm")
 
 
 class Uml:

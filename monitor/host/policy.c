@@ -23,8 +23,9 @@ static uint32_t least(uint64_t one, uint64_t other)
     return (uint32_t)(one < other ? one : other);
 }
 
-/* What a guest can spare so that this much stays free. One that doesn't answer spares nothing beyond what is ballooned. Of another, the ballooned pages count as free ones
- * that the guest doesn't use: so one that has less than its floor is asked for less than it has given. */
+/* What a guest can spare so that this much stays free. One that doesn't answer spares nothing beyond what is ballooned. Of
+ * another, the ballooned pages count as free ones that it doesn't use: so one that has less than its floor is asked for
+ * less than it has given. */
 static uint32_t spare_above(const struct seat *seat, uint32_t floor)
 {
     if (!seat_is_ready(seat))
@@ -71,14 +72,15 @@ static void add(struct guests *guests, struct seat *seat, VbNeed need, VbNeed mo
     guests->most[guests->count++] = most;
 }
 
-static void collect(const struct host *host, const struct seat *but, struct guests *guests)
+static void collect(const struct host *host, const struct seat *except, struct guests *guests)
 {
     uint32_t low = host->floor - host->floor / SLACK_PART;
     guests->count = 0;
     for (unsigned i = 0; i < host->count; i++) {
         struct seat *seat = host->seats[i];
-        if (seat != but && seat->pages > 0)
-            add(guests, seat, (VbNeed){seat->pages, policy_spare(seat)}, (VbNeed){seat->pages, spare_above(seat, low)});
+        if (seat == except || seat->pages == 0)
+            continue;
+        add(guests, seat, (VbNeed){seat->pages, policy_spare(seat)}, (VbNeed){seat->pages, spare_above(seat, low)});
     }
 }
 

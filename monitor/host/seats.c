@@ -235,7 +235,6 @@ static int ask(struct seat *seat)
     return backend_finish(&seat->backend, &result) ? 1 : -1;
 }
 
-
 void seat_serve(struct seat *seat)
 {
     serve(seat, receive);
