@@ -13,3 +13,7 @@ pub mod CountLemmas
 pub mod MarkLemmas
 mod SettingFacts
 mod RunFacts
+mod ReportFacts
+mod NamingFacts
+mod SetFacts
+mod QueueFacts
