@@ -15,3 +15,7 @@ mod SettingFacts
 mod RunFacts
 mod DenialFacts
 pub mod Rows
+mod ReportFacts
+mod NamingFacts
+mod SetFacts
+mod QueueFacts
