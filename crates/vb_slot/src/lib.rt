@@ -3,14 +3,18 @@
 
 mod boxed;
 mod calls;
+mod guest_port;
 mod guest_slot;
 mod lone;
+mod lone_port;
 mod new;
 mod slot;
 #[cfg(test)]
 mod tests;
 
+pub use guest_port::GuestPort;
 pub use guest_slot::GuestSlot;
 pub use lone::LoneSlot;
+pub use lone_port::LonePort;
 pub use new::NoSlot;
 pub use slot::Slot;

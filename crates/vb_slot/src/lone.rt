@@ -5,7 +5,7 @@ ghost use Rattle.vb_model.specs.Guest.{Guest, fresh};
 ghost use Rattle.vb_model.specs.Limits.{is_config};
 ghost use Rattle.vb_model.specs.Queries.{Answers};
 ghost use Rattle.vb_slot.specs.Alone.{AreBehind};
-ghost use Rattle.vb_slot.specs.Spare.{IsNew};
+ghost use Rattle.vb_slot.specs.Spare.{IsNew, config_of};
 
 use crate::guest_slot::GuestSlot;
 use crate::new::NoSlot;
@@ -69,20 +69,10 @@ impl LoneSlot {
         requires config { is_config config.pages config.queue_size config.processors ≡ true }
         ensures made { IfOk result
             (λ slot. ⟦<LoneSlot as GuestSlot>⟧.stands slot
-            (fresh (record {
-              pages = config.pages;
-              queue_size = config.queue_size;
-              processors = config.processors;
-              paced = (part device).paced;
-            }) 0)) }
+            (fresh (config_of config (part device).paced) 0)) }
         ensures frames { IfOk result
             (λ slot. AreBehind (⟦<LoneSlot as GuestSlot>⟧.own slot)
-            (fresh (record {
-              pages = config.pages;
-              queue_size = config.queue_size;
-              processors = config.processors;
-              paced = (part device).paced;
-            }) 0)) }
+            (fresh (config_of config (part device).paced) 0)) }
         ensures claimed { IfOk result (λ slot. ⟦<LoneSlot as GuestSlot>⟧.claimed slot ≡ []) }
         ensures refused { IfErr result
             (λ refused. (mem refused.device ≡ mem device) × (part refused.device ≡ part device)) }
