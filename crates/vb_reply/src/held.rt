@@ -1,6 +1,6 @@
 //! Text that is held back for a writer, which so gets many pieces at once.
 
-ghost use Rattle.std.specs.Prelude.{◌≡◌, ◌++◌, ◌≤◌, [], length, OnOk};
+ghost use Rattle.std.specs.Prelude.{◌≡◌, ◌++◌, ◌≤◌, [], length, IfSome, OnOk};
 ghost use Rattle.std.specs.Fmt.{decimal};
 ghost use Rattle.std.specs.Io.KnownBytes.{Appends};
 ghost use Rattle.hex.specs.Hex.{encode_lower};
@@ -41,7 +41,9 @@ impl Held {
     }
 
     /// Why a write failed, which each call that answers `Failed` has kept here.
-    pub fn into_fault(self) -> io::Error {
+    pub fn into_fault(self) -> io::Error
+        ensures { IfSome self.fault (λ fault. result ≡ fault) }
+    {
         match self.fault {
             Some(fault) => fault,
             None => io::Error::from(ErrorKind::Other),

@@ -16,6 +16,7 @@ use crate::texts::{Line, Lines};
 use crate::threads::ThreadsLine;
 use crate::words::Words;
 use std::alloc::{AllocError, Global};
+use thiserror::Error;
 use vb_model::Event;
 
 /// Spare devices that a script may bring.
@@ -26,12 +27,14 @@ const MAX_SPARES: usize = 64;
 const SHORTEST_LINE: usize = 6;
 
 /// Why a text gives no script.
-#[derive(Clone, Copy, Debug, PartialEq, Eq)]
+#[derive(Clone, Copy, Debug, PartialEq, Eq, Error)]
 pub enum ScriptFault {
     /// The line of this number is the first one that breaks a rule of the format, or whose event
     /// isn't answered yet. All lines count, from 1 on, the empty ones and comments among them.
+    #[error("line {0}: bad line")]
     BadLine(u64),
     /// There was no memory for the script.
+    #[error("memory")]
     Memory,
 }
 

@@ -8,6 +8,7 @@ ghost use Rattle.vb_sim.specs.Faults.{status_of};
 use std::alloc::AllocError;
 use std::io;
 use std::io::{ErrorKind, Write};
+use thiserror::Error;
 use vb_run::RunFault;
 use vb_script::ScriptFault;
 
@@ -32,19 +33,24 @@ pub const BROKEN_STREAM: u8 = 4;
 pub const FAILED_AUDIT: u8 = 5;
 
 /// Why a script's output isn't there, or not all of it.
-#[derive(Debug, Drop)]
+#[derive(Debug, Drop, Error)]
 pub enum ProgramFault {
     /// The line of this number, the first one that breaks a rule.
+    #[error("script: line {0}: bad line")]
     BadLine(u64),
     /// The lines make no plan, or one that can't be run.
+    #[error("run: bad plan")]
     BadPlan,
     /// There was no memory before anything could run or for the lines of the replies, or guests on
     /// threads found none, or no thread could be made for one.
+    #[error("run: memory")]
     Memory,
     /// Guests on threads had a frame in common at their end, or one that isn't the host's, or their
     /// report isn't the plan's.
+    #[error("run: audit")]
     Audit,
     /// Reading or writing failed, or the script is too long. Nothing is said of it.
+    #[error("run: broken stream")]
     Stream,
 }
 

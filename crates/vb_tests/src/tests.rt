@@ -2,6 +2,7 @@
 
 mod copies;
 mod driver;
+mod faults;
 mod pages;
 mod reply;
 mod ring;

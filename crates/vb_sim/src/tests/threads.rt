@@ -467,3 +467,55 @@ fn what_cant_be_written_is_status_4(rt: HostRuntime) {
         }
     }
 }
+
+/// A writer that shows what it was given once it is flushed, if it can be.
+#[derive(Drop)]
+struct Holding {
+    held: Vec<u8>,
+    shown: Vec<u8>,
+    sticks: bool,
+}
+
+impl Write for Holding {
+    fn write(&mut self, buf: &[u8]) -> io::Result<usize> {
+        self.held.extend_from_slice(buf)?;
+        Ok(buf.len())
+    }
+
+    fn flush(&mut self) -> io::Result<()> {
+        if self.sticks {
+            return Err(io::Error::from(ErrorKind::BrokenPipe));
+        }
+        self.shown.extend_from_slice(self.held.as_slice())?;
+        self.held.clear();
+        Ok(())
+    }
+}
+
+/// Runs the guests of a script over such a writer: what it shows at the end, and the exit status.
+fn run_held<R: Threads + Wait + Sync>(rt: &R, alloc: Global, sticks: bool) -> (Vec<u8>, u8) {
+    let mut out = Holding {
+        held: Vec::new(alloc),
+        shown: Vec::new(alloc),
+        sticks,
+    };
+    let mut errors = Vec::new(alloc);
+    let script = RUNS[0].script.as_bytes();
+    let status = threads_script(rt, alloc, Bells::Plain, script, &mut out, &mut errors);
+    (out.shown, status)
+}
+
+/// Whether a flush fails, what is shown then, and the exit status.
+static FLUSHED: [(bool, &str, u8); 2] = [
+    (false, "guest 0 calls 2 frames 0\ndisjoint\n", 0),
+    (true, "", 4),
+];
+
+#[test]
+fn a_report_is_flushed(rt: HostRuntime) {
+    for (sticks, expected, status) in &FLUSHED {
+        let (shown, ended) = run_held(&rt, rt.alloc(), *sticks);
+        assert!(rt; shown.as_slice() == expected.as_bytes());
+        assert!(rt; ended == *status);
+    }
+}

@@ -398,11 +398,14 @@ impl Write for Failing {
     }
 }
 
-/// Whether writing replies to such a writer succeeds, and how many calls it makes.
-fn calls_of(replies: &[Reply], fails_at: usize) -> (bool, usize) {
+/// How writing replies to such a writer fails, if it does, and how many calls it makes.
+fn calls_of(replies: &[Reply], fails_at: usize) -> (Option<ErrorKind>, usize) {
     let mut out = Failing { calls: 0, fails_at };
-    let succeeds = write_replies(&mut out, replies).is_ok();
-    (succeeds, out.calls)
+    let fault = match write_replies(&mut out, replies) {
+        Ok(()) => None,
+        Err(fault) => Some(fault.kind()),
+    };
+    (fault, out.calls)
 }
 
 /// The long lists as replies, one after the other.
@@ -418,11 +421,11 @@ fn long_replies(alloc: Global) -> Result<Vec<Reply>, AllocError> {
 #[test]
 fn nothing_is_written_behind_a_failure(rt: HostRuntime) -> Result<(), AllocError> {
     let replies = long_replies(rt.alloc())?;
-    let (succeeds, calls) = calls_of(replies.as_slice(), 0);
-    assert!(rt; succeeds && calls > 7);
+    let (fault, calls) = calls_of(replies.as_slice(), 0);
+    assert!(rt; fault.is_none() && calls > 7);
     for call in 1..=calls {
         assert!(rt;
-            calls_of(replies.as_slice(), call) == (false, call),
+            calls_of(replies.as_slice(), call) == (Some(ErrorKind::BrokenPipe), call),
             "at {call}"
         );
     }
