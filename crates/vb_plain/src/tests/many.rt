@@ -18,7 +18,8 @@ const LARGE: Config = Config {
     processors: 1,
 };
 
-/// Frames of a guest at the end: 13 behind pages of its rings, and one behind each page of the block.
+/// Frames of a guest at the end: 13 behind pages of its rings, and one behind each page of the
+/// block.
 const KEPT: usize = 525;
 
 /// Frames of the host: more than both guests have at the end.
