@@ -12,15 +12,16 @@ use crate::{Chain, ChainFault, Descriptor, Piece, read_descriptor};
 use vb_model::limits;
 use vb_ram::GuestBytes;
 
-/// The first rule that a descriptor breaks, after `visited` others.
-fn fault_of(
+/// The first rule that a descriptor breaks, after `visited` others, in a table of `size`
+/// descriptors and memory that ends at `end`; `writing` says that one that the device writes came
+/// before (VIRTIO 1.1, 2.6.5). The rules are tested in the order in which `walk` has them.
+pub fn descriptor_fault(
     size: u16,
     end: u64,
     writing: bool,
     visited: u16,
     descriptor: &Descriptor,
 ) -> Option<ChainFault>
-    requires { visited < size }
     ensures { result ≡ first_fault size end writing visited descriptor.now }
 {
     if descriptor.is_indirect() {
@@ -36,7 +37,7 @@ fn fault_of(
         if descriptor.next >= size {
             return Some(ChainFault::BadNext);
         }
-        if visited + 1 >= size {
+        if u32::from(visited) + 1 >= u32::from(size) {
             return Some(ChainFault::TooLong);
         }
     }
@@ -135,7 +136,7 @@ fn follow<G: GuestBytes>(
     let mut index = head;
     for visited in 0..size {
         let descriptor = read_descriptor(ram, table, index);
-        if let Some(fault) = fault_of(size, end, writing, visited, &descriptor) {
+        if let Some(fault) = descriptor_fault(size, end, writing, visited, &descriptor) {
             return Err(fault);
         }
         let writable = descriptor.is_writable();

@@ -27,7 +27,7 @@ returns-in-Some-clause-fault g c =
     let d = descriptor_at (g.G.GuestBytes.mem c.args.ram.now) c.args.table in
     let end = 4096 * c.from.result in
     let broken = ap (first_fault c.args.size end c.loop-visited.writing c.loop-visited.visited)
-    (sym c.read_descriptor-descriptor.ensures) ∙ sym c.fault_of.ensures ∙ c.in-Some.is in
+    (sym c.read_descriptor-descriptor.ensures) ∙ sym c.descriptor_fault.ensures ∙ c.in-Some.is in
     let told = walked_fault d c.args.size end c.args.head c.loop-visited.invariant.walked.0 _ _ _ _
     c.in-Some.fault c.loop-visited.invariant.walked.1 broken in
     subst (λ (n : ℕ). FaultGives d c.args.size (4096 * n) c.args.head c.in-Some.fault)
@@ -40,7 +40,7 @@ returns-then-not-has_next-clause-chain g c =
     let x = c.read_descriptor-descriptor.result in
     let is : x ≡ d c.loop-visited.index = c.read_descriptor-descriptor.ensures in
     let sound = ap (first_fault c.args.size end c.loop-visited.writing c.loop-visited.visited)
-    (sym is) ∙ sym c.fault_of.ensures ∙ c.in_default.is in
+    (sym is) ∙ sym c.descriptor_fault.ensures ∙ c.in_default.is in
     let stop = ap has_next (sym is) ∙ sym c.has_next.ensures ∙ c.if-not-has_next.true in
     let told = walked_chain d c.args.size end c.args.head c.loop-visited.invariant.walked.0 _ _ _ _
     c.loop-visited.invariant.walked.1 (omega arith) sound stop in
@@ -59,7 +59,7 @@ loop-visited-preserved g c =
     let x = c.read_descriptor-descriptor.result in
     let is : x ≡ d c.loop-visited.index = c.read_descriptor-descriptor.ensures in
     let sound = ap (first_fault c.args.size end c.loop-visited.writing c.loop-visited.visited)
-    (sym is) ∙ sym c.fault_of.ensures ∙ c.in_default.is in
+    (sym is) ∙ sym c.descriptor_fault.ensures ∙ c.in_default.is in
     let more = ap has_next (sym is) ∙ sym c.has_next.ensures ∙ c.if-not-has_next.false in
     let path = c.loop-visited.invariant.walked.0 in
     let W : ℕ → Bool → List Piece
