@@ -1,13 +1,15 @@
 //! Plans that can't be run, and ports of two tables: no frame is out afterwards.
 
-use crate::tests::leased::{Ended, Pace, Ports, Tables, run_leased};
+use crate::tests::leased::{Ended, Noted, Pace, Ports, Tables, run_noted};
+use crate::tests::notes::frames_of;
 use crate::tests::plans::{Balances, Guests, Line, SMALL};
 use std::alloc::{AllocError, Global};
 use std::sync::Wait;
 use std::test::Fail;
 use std::thread::Threads;
+use std::time::Clock;
 use vb_ram::Config;
-use vb_run::{Bells, MAX_SCRIPT_CALLS, OpenGate, RunFault};
+use vb_run::{Bells, MAX_SCRIPT_CALLS, RunFault};
 
 /// Guests and ports, and why there is no report.
 struct Row {
@@ -15,6 +17,8 @@ struct Row {
     guests: Guests,
     ports: u32,
     tables: Tables,
+    /// Frames of a table.
+    frames: u32,
     fault: Option<RunFault>,
 }
 
@@ -25,12 +29,13 @@ const ONE: Guests = Guests {
     rounds: 1,
 };
 
-static ROWS: [Row; 13] = [
+static ROWS: [Row; 14] = [
     Row {
         name: "one guest",
         guests: ONE,
         ports: 1,
         tables: Tables::Shared,
+        frames: 112,
         fault: None,
     },
     Row {
@@ -38,6 +43,7 @@ static ROWS: [Row; 13] = [
         guests: Guests { count: 0, ..ONE },
         ports: 0,
         tables: Tables::Shared,
+        frames: 112,
         fault: Some(RunFault::BadPlan),
     },
     Row {
@@ -45,6 +51,7 @@ static ROWS: [Row; 13] = [
         guests: Guests { count: 8, ..ONE },
         ports: 8,
         tables: Tables::Shared,
+        frames: 112,
         fault: None,
     },
     Row {
@@ -52,6 +59,7 @@ static ROWS: [Row; 13] = [
         guests: Guests { count: 9, ..ONE },
         ports: 9,
         tables: Tables::Own,
+        frames: 112,
         fault: Some(RunFault::BadPlan),
     },
     Row {
@@ -59,6 +67,7 @@ static ROWS: [Row; 13] = [
         guests: Guests { count: 2, ..ONE },
         ports: 1,
         tables: Tables::Shared,
+        frames: 112,
         fault: Some(RunFault::BadPlan),
     },
     Row {
@@ -66,6 +75,7 @@ static ROWS: [Row; 13] = [
         guests: ONE,
         ports: 2,
         tables: Tables::Shared,
+        frames: 112,
         fault: Some(RunFault::BadPlan),
     },
     Row {
@@ -76,6 +86,7 @@ static ROWS: [Row; 13] = [
         },
         ports: 1,
         tables: Tables::Shared,
+        frames: 112,
         fault: Some(RunFault::BadPlan),
     },
     Row {
@@ -86,6 +97,7 @@ static ROWS: [Row; 13] = [
         },
         ports: 1,
         tables: Tables::Shared,
+        frames: 112,
         fault: Some(RunFault::BadPlan),
     },
     Row {
@@ -96,6 +108,7 @@ static ROWS: [Row; 13] = [
         },
         ports: 1,
         tables: Tables::Shared,
+        frames: 112,
         fault: Some(RunFault::BadPlan),
     },
     Row {
@@ -106,6 +119,7 @@ static ROWS: [Row; 13] = [
         },
         ports: 1,
         tables: Tables::Shared,
+        frames: 112,
         fault: Some(RunFault::BadPlan),
     },
     Row {
@@ -116,6 +130,7 @@ static ROWS: [Row; 13] = [
         },
         ports: 1,
         tables: Tables::Shared,
+        frames: 112,
         fault: Some(RunFault::BadPlan),
     },
     Row {
@@ -127,6 +142,7 @@ static ROWS: [Row; 13] = [
         },
         ports: 1,
         tables: Tables::Shared,
+        frames: 112,
         fault: Some(RunFault::BadPlan),
     },
     Row {
@@ -134,33 +150,70 @@ static ROWS: [Row; 13] = [
         guests: Guests { count: 2, ..ONE },
         ports: 2,
         tables: Tables::Own,
+        frames: 112,
+        fault: Some(RunFault::Audit),
+    },
+    Row {
+        name: "two tables with a frame more than a start takes",
+        guests: Guests { count: 2, ..ONE },
+        ports: 2,
+        tables: Tables::Own,
+        frames: 14,
         fault: Some(RunFault::Audit),
     },
 ];
 
+/// The frames that a guest's start takes from a table that nobody else has.
+static FIRST_FRAMES: [u32; 13] = [0, 1, 2, 3, 4, 5, 6, 7, 8, 9, 10, 11, 12];
+
 impl Row {
-    fn run<R: Threads + Wait + Sync>(&self, rt: &R, alloc: Global) -> Result<Ended, AllocError> {
+    fn run<R: Threads + Wait + Clock + Sync>(
+        &self,
+        rt: &R,
+        alloc: Global,
+    ) -> Result<Noted, AllocError> {
         let balances = Balances { floor: 0, count: 0 };
-        let plan = self.guests.plan(alloc, 112, Bells::Plain, balances)?;
+        let plan = self
+            .guests
+            .plan(alloc, self.frames, Bells::Plain, balances)?;
         let ports = Ports {
             count: self.ports,
             pace: Pace::Paced,
             tables: self.tables,
-            frames: 112,
+            frames: self.frames,
         };
-        run_leased(rt, alloc, &plan, ports, &OpenGate)
+        run_noted(rt, alloc, &plan, ports, &[])
+    }
+
+    /// Whether the run ended as the row says; where two guests had one frame, each had the first
+    /// ones of its table.
+    fn ends_so(&self, alloc: Global, noted: &Noted) -> Result<bool, AllocError> {
+        let has_ended = noted.ended.is_clean() && fault_of(&noted.ended) == self.fault;
+        if self.fault != Some(RunFault::Audit) {
+            return Ok(has_ended);
+        }
+        let notes = noted.notes.as_slice();
+        let (one, other) = (frames_of(alloc, notes, 0)?, frames_of(alloc, notes, 1)?);
+        let are_first = one.as_slice() == FIRST_FRAMES.as_slice()
+            && other.as_slice() == FIRST_FRAMES.as_slice();
+        Ok(has_ended && are_first)
+    }
+}
+
+/// Why there is no report.
+fn fault_of(ended: &Ended) -> Option<RunFault> {
+    match &ended.result {
+        Ok(_report) => None,
+        Err(fault) => Some(*fault),
     }
 }
 
 #[test]
 fn what_cannot_be_run_is_refused_and_leaves_no_frame_out(rt: HostRuntime) -> Result<(), Fail> {
     for row in &ROWS {
-        let ended = row.run(&rt, rt.alloc())?;
+        let noted = row.run(&rt, rt.alloc())?;
         let name = row.name;
-        assert!(rt;
-            ended.is_clean() && ended.result.err() == row.fault,
-            "{name}"
-        );
+        assert!(rt; row.ends_so(rt.alloc(), &noted)?, "{name}");
     }
     Ok(())
 }

@@ -1,27 +1,67 @@
-//! That each guest, each processor, each worker and the balancer has a thread of its own: a gate
-//! holds one up until another has come somewhere, which it does while the first one stands still.
+//! That each guest, each processor, each worker and the balancer has a thread of its own, and each
+//! guest a lock: a gate holds one thread up until another has come somewhere, which it does while
+//! the first one stands still. Of each run its notes are as they must be.
 
-use crate::tests::holds::{Answer, Hold, Holding, Place};
-use crate::tests::leased::{Ended, Pace, Ports, Tables, run_leased};
+mod locks;
+mod threads;
+
+use crate::tests::holds::{Answer, Comes, Hold, Place};
+use crate::tests::leased::{Noted, Pace, Ports, Tables, run_noted};
 use crate::tests::plans::{Answer as Reads, Balances, Guests, Line, SMALL, are};
 use crate::tests::reading::{Balanced, first_look, first_round};
 use std::alloc::{AllocError, Global};
+use std::process::Abort;
 use std::sync::Wait;
 use std::test::Fail;
 use std::thread::Threads;
+use std::time::Clock;
 use vb_model::Actor;
 use vb_ram::Config;
 use vb_run::{Bells, Report};
 
 /// Guests whose threads are held up.
 struct Row {
+    name: &'static str,
     guests: Guests,
     frames: u32,
     balances: Balances,
+    bells: Bells,
     holds: &'static [Hold],
 }
 
 const NO_BALANCE: Balances = Balances { floor: 0, count: 0 };
+
+const ONE_BALANCE: Balances = Balances {
+    floor: 16,
+    count: 1,
+};
+
+/// The first and the second processor of guest 0.
+const FIRST: Actor = Actor::Processor { guest: 0, cpu: 0 };
+
+const SECOND: Actor = Actor::Processor { guest: 0, cpu: 1 };
+
+/// Those of guest 1.
+const OTHER_FIRST: Actor = Actor::Processor { guest: 1, cpu: 0 };
+
+const OTHER_SECOND: Actor = Actor::Processor { guest: 1, cpu: 1 };
+
+const WORKER: Actor = Actor::Worker { guest: 0 };
+
+const OTHER_WORKER: Actor = Actor::Worker { guest: 1 };
+
+/// Two guests, each of which uses a page 25 times.
+const TWO_GUESTS: Guests = Guests {
+    count: 2,
+    config: SMALL,
+    scripts: &[&[
+        Line::Alloc(0),
+        Line::Write(16),
+        Line::Read(16),
+        Line::Free(16),
+    ]],
+    rounds: 25,
+};
 
 const TWO_PROCESSORS: Guests = Guests {
     count: 2,
@@ -33,88 +73,10 @@ const TWO_PROCESSORS: Guests = Guests {
     rounds: 1,
 };
 
-/// Guest 0 stays inside its first call until guest 1 is inside one.
-static GUESTS_APART: Row = Row {
-    guests: Guests {
-        count: 2,
-        config: SMALL,
-        scripts: &[&[
-            Line::Alloc(0),
-            Line::Write(16),
-            Line::Read(16),
-            Line::Free(16),
-        ]],
-        rounds: 25,
-    },
-    frames: 64,
-    balances: NO_BALANCE,
-    holds: &[Hold {
-        at: Place::InFirstCall { guest: 0 },
-        until: Place::InAnyCall { guest: 1 },
-    }],
-};
-
-/// Processor 0 waits for processor 1 of its guest, and worker 0 for worker 1.
-static FIRST_AFTER_SECOND: Row = Row {
-    guests: TWO_PROCESSORS,
-    frames: 64,
-    balances: NO_BALANCE,
-    holds: &[
-        Hold {
-            at: Place::Before {
-                actor: Actor::Processor { guest: 0, cpu: 0 },
-                number: 0,
-            },
-            until: Place::Behind {
-                actor: Actor::Processor { guest: 0, cpu: 1 },
-                answer: Answer::Any,
-            },
-        },
-        Hold {
-            at: Place::Before {
-                actor: Actor::Worker { guest: 0 },
-                number: 0,
-            },
-            until: Place::Behind {
-                actor: Actor::Worker { guest: 1 },
-                answer: Answer::Any,
-            },
-        },
-    ],
-};
-
-/// The same with the roles exchanged.
-static SECOND_AFTER_FIRST: Row = Row {
-    guests: TWO_PROCESSORS,
-    frames: 64,
-    balances: NO_BALANCE,
-    holds: &[
-        Hold {
-            at: Place::Before {
-                actor: Actor::Processor { guest: 0, cpu: 1 },
-                number: 0,
-            },
-            until: Place::Behind {
-                actor: Actor::Processor { guest: 0, cpu: 0 },
-                answer: Answer::Any,
-            },
-        },
-        Hold {
-            at: Place::Before {
-                actor: Actor::Worker { guest: 1 },
-                number: 0,
-            },
-            until: Place::Behind {
-                actor: Actor::Worker { guest: 0 },
-                answer: Answer::Any,
-            },
-        },
-    ],
-};
-
 /// The balancer waits until the worker took a request, the first call until a round is over, and
 /// the second one until the worker finished a request: device and balancer work while scripts run.
 static WORK_BESIDE_SCRIPTS: Row = Row {
+    name: "work beside scripts",
     guests: Guests {
         count: 1,
         config: SMALL,
@@ -122,78 +84,64 @@ static WORK_BESIDE_SCRIPTS: Row = Row {
         rounds: 1,
     },
     frames: 60,
-    balances: Balances {
-        floor: 16,
-        count: 1,
-    },
+    balances: ONE_BALANCE,
+    bells: Bells::Plain,
     holds: &[
         Hold {
-            at: Place::Before {
-                actor: Actor::Balancer,
-                number: 0,
-            },
-            until: Place::Behind {
-                actor: Actor::Worker { guest: 0 },
-                answer: Answer::Taken,
-            },
+            name: "a request that the worker takes",
+            at: Place::Before(Actor::Balancer, 0),
+            until: Place::Behind(WORKER, Answer::Taken),
+            comes: Comes::Somebody,
         },
         Hold {
-            at: Place::Before {
-                actor: Actor::Processor { guest: 0, cpu: 0 },
-                number: 0,
-            },
-            until: Place::Behind {
-                actor: Actor::Balancer,
-                answer: Answer::Any,
-            },
+            name: "a round",
+            at: Place::Before(FIRST, 0),
+            until: Place::Behind(Actor::Balancer, Answer::Any),
+            comes: Comes::Somebody,
         },
         Hold {
-            at: Place::Before {
-                actor: Actor::Processor { guest: 0, cpu: 0 },
-                number: 1,
-            },
-            until: Place::Behind {
-                actor: Actor::Worker { guest: 0 },
-                answer: Answer::Finished,
-            },
+            name: "a request that the worker finishes",
+            at: Place::Before(FIRST, 1),
+            until: Place::Behind(WORKER, Answer::Finished),
+            comes: Comes::Somebody,
         },
     ],
 };
 
 impl Row {
-    /// Runs the guests on one table of frames, with the holds of this row: how the run ended, if
-    /// each hold was met.
-    fn run<R: Threads + Wait + Sync>(
+    /// Runs the guests on one table of frames, with the holds of this row.
+    fn run<R: Threads + Wait + Clock + Sync>(
         &self,
         rt: &R,
         alloc: Global,
-    ) -> Result<Option<Ended>, AllocError> {
+    ) -> Result<Noted, AllocError> {
         let plan = self
             .guests
-            .plan(alloc, self.frames, Bells::Plain, self.balances)?;
+            .plan(alloc, self.frames, self.bells, self.balances)?;
         let ports = Ports {
             count: self.guests.count,
             pace: Pace::Paced,
             tables: Tables::Shared,
             frames: self.frames,
         };
-        let gate = Holding::new(rt, alloc, self.holds)?;
-        let ended = run_leased(rt, alloc, &plan, ports, &gate)?;
-        Ok(if gate.all_met() { Some(ended) } else { None })
+        run_noted(rt, alloc, &plan, ports, self.holds)
     }
 
-    /// Whether each hold is met, and there is a report.
-    fn is_run<R: Threads + Wait + Sync>(&self, rt: &R, alloc: Global) -> Result<bool, AllocError> {
-        match self.run(rt, alloc)? {
-            Some(ended) => Ok(has_report(&ended)),
-            None => Ok(false),
+    /// Checks that each hold is met, there is a report, no frame is out afterwards, and all notes
+    /// are as they must be.
+    fn check(&self, rt: &impl Abort, noted: &Noted) {
+        let name = self.name;
+        if let Some(hold) = noted.unmet {
+            panic!(rt; "{name}: waited in vain, or for somebody who may not come: {hold}");
+        }
+        assert!(rt;
+            noted.ended.result.is_ok() && noted.ended.is_clean(),
+            "{name}: there is a report, and no frame is out"
+        );
+        if let Some(broken) = noted.broken {
+            panic!(rt; "{name}: {broken:?}");
         }
     }
-}
-
-/// Whether there is a report, and no frame is out afterwards.
-fn has_report(ended: &Ended) -> bool {
-    ended.result.is_ok() && ended.is_clean()
 }
 
 /// Whether the pages are offered, and reaped, by the calls of the script.
@@ -207,27 +155,34 @@ fn offers_four_pages(report: &Report) -> bool {
     guest.frames.len() == 13 && are(replies, &[Reads::Posted(0, 4), Reads::Reaped(0, 4)], 1)
 }
 
+/// Runs each row and checks what it left.
+fn check_all<R: Threads + Wait + Clock + Sync + Abort>(
+    rt: &R,
+    alloc: Global,
+    rows: &[Row],
+) -> Result<(), AllocError> {
+    for row in rows {
+        row.check(rt, &row.run(rt, alloc)?);
+    }
+    Ok(())
+}
+
 #[test]
-fn each_guest_and_processor_and_worker_has_its_thread(rt: HostRuntime) -> Result<(), Fail> {
-    assert!(rt; GUESTS_APART.is_run(&rt, rt.alloc())?);
-    assert!(rt; FIRST_AFTER_SECOND.is_run(&rt, rt.alloc())?);
-    assert!(rt; SECOND_AFTER_FIRST.is_run(&rt, rt.alloc())?);
+fn each_actor_has_its_thread_and_each_guest_its_lock(rt: HostRuntime) -> Result<(), Fail> {
+    check_all(&rt, rt.alloc(), &threads::ROWS)?;
+    check_all(&rt, rt.alloc(), &locks::ROWS)?;
     Ok(())
 }
 
 #[test]
 fn device_and_balancer_work_while_scripts_run(rt: HostRuntime) -> Result<(), Fail> {
-    let Some(
-        Ended {
-            result: Ok(report),
-            ..
-        },
-    ) = WORK_BESIDE_SCRIPTS.run(&rt, rt.alloc())?
-    else {
-        panic!(rt; "each hold is met, and there is a report")
+    let noted = WORK_BESIDE_SCRIPTS.run(&rt, rt.alloc())?;
+    WORK_BESIDE_SCRIPTS.check(&rt, &noted);
+    let Ok(report) = &noted.ended.result else {
+        panic!(rt; "there is a report")
     };
-    assert!(rt; offers_four_pages(&report));
-    assert!(rt; first_look(&report) == Some(32));
-    assert!(rt; first_round(&report) == Some(Balanced::Target(4)));
+    assert!(rt; offers_four_pages(report));
+    assert!(rt; first_look(report) == Some(32));
+    assert!(rt; first_round(report) == Some(Balanced::Target(4)));
     Ok(())
 }

@@ -1,30 +1,40 @@
-//! A gate that holds threads up, each until another one has come somewhere.
+//! A gate that notes all that it is told, and holds threads up, each until another one has come
+//! somewhere.
 
+use crate::tests::notes::Note;
+use crate::tests::watch::Watch;
 use crossbeam_channel::{Receiver, Sender, unbounded};
 use std::alloc::{AllocError, Global};
 use std::sync::Wait;
 use std::sync::atomic::{AtomicBool, Ordering};
-use std::thread;
-use vb_model::{Actor, Reply};
+use std::time::{Clock, Duration};
+use vb_model::{Actor, Call, Reply};
 use vb_run::Gate;
 
-/// Turns for which a thread is held up at most.
-const MAX_TURNS: u32 = 100_000_000;
+/// How many milliseconds a thread sleeps before it looks again whether another one has come.
+const TURN: u64 = 1;
 
-/// Holds of one gate at most.
-const MAX_HOLDS: usize = 3;
+/// Turns for which a thread is held up at most: some ten seconds. Then all threads go on.
+const MAX_TURNS: u32 = 8_000;
+
+/// Turns for which a thread is held up where nobody may come.
+const QUIET_TURNS: u32 = 100;
 
 /// Where a thread may be.
 #[derive(Clone, Copy, PartialEq, Eq)]
 pub(super) enum Place {
-    /// In the first call of a guest's processor, under the guest's lock.
-    InFirstCall { guest: u32 },
-    /// In any call of a guest's processor, under the guest's lock.
-    InAnyCall { guest: u32 },
-    /// Before an actor's call of this number.
-    Before { actor: Actor, number: u64 },
-    /// Behind an actor's call with such an answer.
-    Behind { actor: Actor, answer: Answer },
+    /// Before an actor's call, or the balancer's round, of this number.
+    Before(Actor, u64),
+    /// In a processor's call of this number, under its guest's lock.
+    Inside(Actor, u64),
+    /// In one of a worker's calls, under the lock of this guest.
+    Serving(u32),
+    /// Where the balancer looks at this guest, under its lock.
+    Looking(u32),
+    /// Behind an actor's call, or the balancer's round, with such an answer.
+    Behind(Actor, Answer),
+    /// Where no thread is.
+    Nowhere,
 }
 
 /// Answers that a gate waits for.
@@ -35,30 +45,57 @@ pub(super) enum Answer {
     Finished,
 }
 
-/// A thread is held up at a place until some thread has come to another one.
+/// Whether some thread has to come where a hold waits for one, or nobody may.
+#[derive(Clone, Copy, PartialEq, Eq)]
+pub(super) enum Comes {
+    Somebody,
+    Nobody,
+}
+
+/// The first thread at a place is held up until some thread has come to another one.
 #[derive(Clone, Copy)]
 pub(super) struct Hold {
+    /// What is waited for.
+    pub name: &'static str,
     pub at: Place,
     pub until: Place,
+    pub comes: Comes,
 }
 
-/// A thread was held up: whether some thread came where it waited for one before the turns were up.
-#[derive(Clone, Copy)]
-struct Note {
-    is_met: bool,
+/// What a hold has met.
+#[derive(Drop)]
+struct Mark {
+    has_held: AtomicBool,
+    has_come: AtomicBool,
 }
 
-/// A gate with such holds. Its threads note what they were held up by.
+/// A gate with such holds.
 #[derive(Drop)]
 pub(super) struct Holding<'a, R> {
     rt: &'a R,
+    alloc: Global,
     holds: &'static [Hold],
-    have_come: [AtomicBool; MAX_HOLDS],
+    /// One for each hold.
+    marks: Vec<Mark>,
+    /// Whether some hold was given up.
+    is_over: AtomicBool,
     notes: Sender<Note, Global>,
     noted: Receiver<Note, Global>,
 }
 
-impl<'a, R: Wait> Holding<'a, R> {
+/// A mark for each hold.
+fn marks_of(alloc: Global, holds: &[Hold]) -> Result<Vec<Mark>, AllocError> {
+    let mut marks = Vec::new(alloc);
+    for _hold in holds {
+        marks.push(Mark {
+            has_held: AtomicBool::new(false),
+            has_come: AtomicBool::new(false),
+        })?;
+    }
+    Ok(marks)
+}
+
+impl<'a, R: Wait + Clock> Holding<'a, R> {
     pub(super) fn new(
         rt: &'a R,
         alloc: Global,
@@ -67,101 +104,192 @@ impl<'a, R: Wait> Holding<'a, R> {
         let (notes, noted) = unbounded(alloc)?;
         Ok(Holding {
             rt,
+            alloc,
             holds,
-            have_come: [
-                AtomicBool::new(false),
-                AtomicBool::new(false),
-                AtomicBool::new(false),
-            ],
+            marks: marks_of(alloc, holds)?,
+            is_over: AtomicBool::new(false),
             notes,
             noted,
         })
     }
 
-    /// Some thread has come here.
+    /// Notes it.
+    fn note(&self, note: Note) {
+        let _ = self.notes.send(self.rt, note);
+    }
+
+    /// Some thread has come here. It is held up if it is to be held up here.
     fn come(&self, place: Place) {
-        for (number, hold) in self.holds.iter().enumerate() {
-            if hold.until == place {
-                self.note_come(number);
-            }
-        }
-    }
-
-    /// Some thread has come where the hold of this number waits for one.
-    fn note_come(&self, number: usize) {
-        if let Some(has_come) = self.have_come.get(number) {
-            has_come.store(true, Ordering::SeqCst);
-        }
-    }
-
-    /// Holds the thread up if it is to be held up here.
-    fn wait_at(&self, place: Place) {
+        self.mark_come(place);
         for (number, hold) in self.holds.iter().enumerate() {
             if hold.at == place {
-                let is_met = self.wait_for(number);
-                let _ = self.notes.send(self.rt, Note { is_met });
+                self.hold_up(number, hold.comes);
             }
         }
     }
 
-    /// Waits until some thread has come where the hold of this number waits for one. Whether it
-    /// did.
-    fn wait_for(&self, number: usize) -> bool {
-        let Some(has_come) = self.have_come.get(number) else {
-            return false;
+    /// Lets those go that wait for a thread here.
+    fn mark_come(&self, place: Place) {
+        for (hold, mark) in self.holds.iter().zip(self.marks.iter()) {
+            if hold.until == place {
+                mark.has_come.store(true, Ordering::SeqCst);
+            }
+        }
+    }
+
+    /// Holds the thread up by the hold of this number, if it is the first one there.
+    fn hold_up(&self, number: usize, comes: Comes) {
+        let Some(mark) = self.marks.get(number) else {
+            return;
         };
-        for _ in 0..MAX_TURNS {
-            if has_come.load(Ordering::SeqCst) {
+        if mark.has_held.swap(true, Ordering::SeqCst) {
+            return;
+        }
+        let turns = match comes {
+            Comes::Somebody => MAX_TURNS,
+            Comes::Nobody => QUIET_TURNS,
+        };
+        let has_come = self.wait_for(mark, turns);
+        if comes == Comes::Somebody && !has_come {
+            self.is_over.store(true, Ordering::SeqCst);
+        }
+        let is_met = has_come == (comes == Comes::Somebody);
+        self.note(Note::Held {
+            hold: number,
+            is_met,
+        });
+    }
+
+    /// Waits until some thread has come, for so many turns at most. Whether one has.
+    fn wait_for(&self, mark: &Mark, turns: u32) -> bool {
+        for _ in 0..turns {
+            if mark.has_come.load(Ordering::SeqCst) {
                 return true;
             }
-            thread::yield_now();
+            if self.is_over.load(Ordering::SeqCst) {
+                return false;
+            }
+            self.rt.sleep(Duration::from_millis(TURN));
         }
         false
     }
 
-    /// Whether the next thread that noted what it was held up by wasn't let go for want of turns.
-    fn is_next_met(&self) -> bool {
-        match self.noted.try_recv(self.rt) {
-            Ok(note) => note.is_met,
-            Err(_nothing) => false,
+    /// What was noted. To be asked once the threads have ended.
+    pub(super) fn take_notes(&self) -> Result<Vec<Note>, AllocError> {
+        let mut notes = Vec::new(self.alloc);
+        for note in self.noted.try_iter(self.rt) {
+            notes.push(note)?;
         }
+        Ok(notes)
     }
 
-    /// Whether each hold has held one thread up, and none was let go for want of turns. To be asked
-    /// once the threads have ended.
-    pub(super) fn all_met(&self) -> bool {
-        for _ in 0..self.holds.len() {
-            if !self.is_next_met() {
-                return false;
-            }
-        }
-        true
-    }
-}
-
-impl<R: Wait + Sync> Gate for Holding<'_, R> {
-    fn inside(&self, guest: u32, _cpu: u32, call: u64) {
-        self.come(Place::InAnyCall { guest });
-        if call == 0 {
-            self.come(Place::InFirstCall { guest });
-            self.wait_at(Place::InFirstCall { guest });
-        }
-    }
-
-    fn before(&self, actor: Actor, number: u64) {
-        self.wait_at(Place::Before { actor, number });
-    }
-
-    fn after(&self, actor: Actor, reply: &Reply) {
-        self.come(Place::Behind {
+    fn note_inside(&self, guest: u32, cpu: u32, call: u64) {
+        let actor = Actor::Processor { guest, cpu };
+        self.note(Note::Inside {
             actor,
-            answer: Answer::Any,
+            number: call,
         });
+        self.come(Place::Inside(actor, call));
+    }
+
+    fn note_before(&self, actor: Actor, number: u64) {
+        self.note(Note::Before { actor, number });
+        self.come(Place::Before(actor, number));
+    }
+
+    fn note_after(&self, actor: Actor, reply: &Reply) {
+        self.note(match reply.copy(self.alloc) {
+            Ok(reply) => Note::After { actor, reply },
+            Err(_refused) => Note::Lost,
+        });
+        self.come(Place::Behind(actor, Answer::Any));
         let answer = match reply {
             Reply::Taken { .. } => Answer::Taken,
             Reply::Finished { .. } => Answer::Finished,
             _ => return,
         };
-        self.come(Place::Behind { actor, answer });
+        self.come(Place::Behind(actor, answer));
     }
+
+    fn note_called(&self, alloc: Global, guest: u32, call: &Call) {
+        self.note(match call.copy(alloc) {
+            Ok(call) => Note::Called { guest, call },
+            Err(_refused) => Note::Lost,
+        });
+        match call {
+            Call::Take { .. } | Call::Work | Call::Finish { .. } | Call::Ask => {
+                self.come(Place::Serving(guest));
+            }
+            _ => {}
+        }
+    }
+
+    fn note_replied(&self, alloc: Global, guest: u32, reply: &Reply) {
+        self.note(match reply.copy(alloc) {
+            Ok(reply) => Note::Replied { guest, reply },
+            Err(_refused) => Note::Lost,
+        });
+    }
+
+    fn note_looked(&self, guest: u32, spare: u32) {
+        self.note(Note::Looked { guest, spare });
+        self.come(Place::Looking(guest));
+    }
+
+    fn note_backed(&self, guest: u32, frame: u32) {
+        self.note(Note::Backed { guest, frame });
+    }
+}
+
+impl<R: Wait + Clock + Sync> Gate for Holding<'_, R> {
+    fn inside(&self, guest: u32, cpu: u32, call: u64) {
+        self.note_inside(guest, cpu, call);
+    }
+
+    fn before(&self, actor: Actor, number: u64) {
+        self.note_before(actor, number);
+    }
+
+    fn after(&self, actor: Actor, reply: &Reply) {
+        self.note_after(actor, reply);
+    }
+}
+
+impl<R: Wait + Clock + Sync> Watch for Holding<'_, R> {
+    fn called(&self, alloc: Global, guest: u32, call: &Call) {
+        self.note_called(alloc, guest, call);
+    }
+
+    fn replied(&self, alloc: Global, guest: u32, reply: &Reply) {
+        self.note_replied(alloc, guest, reply);
+    }
+
+    fn looked(&self, guest: u32, spare: u32) {
+        self.note_looked(guest, spare);
+    }
+
+    fn backed(&self, guest: u32, frame: u32) {
+        self.note_backed(guest, frame);
+    }
+}
+
+/// What the first of these holds waits for that held nobody up, or wasn't met.
+pub(super) fn first_unmet(holds: &[Hold], notes: &[Note]) -> Option<&'static str> {
+    for (number, hold) in holds.iter().enumerate() {
+        if !is_met(number, notes) {
+            return Some(hold.name);
+        }
+    }
+    None
+}
+
+/// Whether the hold of this number held a thread up and was met.
+fn is_met(number: usize, notes: &[Note]) -> bool {
+    for note in notes {
+        match note {
+            Note::Held { hold, is_met } if *hold == number => return *is_met,
+            _ => {}
+        }
+    }
+    false
 }

@@ -1,11 +1,16 @@
 //! Runs of plans on leased frames.
 
+use crate::tests::holds::{Hold, Holding, first_unmet};
+use crate::tests::notes::Note;
+use crate::tests::order::{Broken, Run};
 use crate::tests::replay::all_replay;
+use crate::tests::watch::{Watch, Watched};
 use std::alloc::{AllocError, Global};
 use std::sync::Wait;
 use std::thread::Threads;
+use std::time::Clock;
 use vb_device::{Device, ImmediateDevice, PacedDevice};
-use vb_run::{Gate, Plan, Report, RunFault, add_port, plug_in, run_threads};
+use vb_run::{GuestSlot, Plan, Report, RunFault, add_port, plug_in, run_threads};
 use vb_shared::{FramePass, Leased, SharedFrames};
 
 /// How a guest's device serves requests.
@@ -117,8 +122,23 @@ fn end_of_run(
     })
 }
 
+/// The guests, each of which tells the gate what it does.
+fn watch<'a, S: GuestSlot, G: Watch>(
+    alloc: Global,
+    slots: Vec<S>,
+    gate: &'a G,
+) -> Result<Vec<Watched<'a, S, G>>, AllocError> {
+    let mut watched = Vec::new(alloc);
+    let mut guest = 0;
+    for slot in slots {
+        watched.push(Watched { slot, guest, gate })?;
+        guest = guest.saturating_add(1);
+    }
+    Ok(watched)
+}
+
 /// Runs a plan at these ports.
-pub(super) fn run_leased<G: Gate, R: Threads + Wait + Sync>(
+pub(super) fn run_leased<G: Watch, R: Threads + Wait + Sync>(
     rt: &R,
     alloc: Global,
     plan: &Plan,
@@ -147,7 +167,47 @@ pub(super) fn run_leased<G: Gate, R: Threads + Wait + Sync>(
         }
     }
     let slots = plug_in(alloc, plan, devices)?;
+    let slots = watch(alloc, slots, gate)?;
     let result = run_threads(rt, alloc, plan, slots, gate);
     let out = count_out(tables.as_slice());
     end_of_run(alloc, plan, ports.pace, out, result)
+}
+
+/// How a run ended whose threads noted what they did.
+#[derive(Drop)]
+pub(super) struct Noted {
+    pub ended: Ended,
+    /// What the first hold waited for that wasn't met.
+    pub unmet: Option<&'static str>,
+    /// What of the notes isn't as it must be, if there is a report.
+    pub broken: Option<Broken>,
+    pub notes: Vec<Note>,
+}
+
+/// Runs a plan at these ports with a gate that notes, and has these holds.
+pub(super) fn run_noted<R: Threads + Wait + Clock + Sync>(
+    rt: &R,
+    alloc: Global,
+    plan: &Plan,
+    ports: Ports,
+    holds: &'static [Hold],
+) -> Result<Noted, AllocError> {
+    let gate = Holding::new(rt, alloc, holds)?;
+    let ended = run_leased(rt, alloc, plan, ports, &gate)?;
+    let notes = gate.take_notes()?;
+    let broken = match &ended.result {
+        Ok(report) => Run {
+            plan,
+            report,
+            notes: notes.as_slice(),
+        }
+        .first_broken(alloc)?,
+        Err(_fault) => None,
+    };
+    Ok(Noted {
+        ended,
+        unmet: first_unmet(holds, notes.as_slice()),
+        broken,
+        notes,
+    })
 }

@@ -1,15 +1,17 @@
-//! Random plans: each that is run gives a report in which every history replays.
+//! Random plans: each that is run gives a report in which every history replays, and what its
+//! threads noted is as it must be.
 
-use crate::tests::leased::{Ended, Pace, Ports, Tables, run_leased};
+use crate::tests::leased::{Noted, Pace, Ports, Tables, run_noted};
 use rand_core::Rng;
 use rand_pcg::Pcg32;
 use std::alloc::{AllocError, Global};
 use std::sync::Wait;
 use std::test::Fail;
 use std::thread::Threads;
+use std::time::Clock;
 use vb_model::{Bytes, Call};
 use vb_ram::Config;
-use vb_run::{Bells, GuestPlan, OpenGate, Plan};
+use vb_run::{Bells, GuestPlan, Plan};
 
 // How much is tried here. `tools/soak-threads` tries more of larger plans, with other numbers in
 // these five lines.
@@ -138,19 +140,19 @@ fn calls_in(plan: &Plan) -> u64 {
 }
 
 /// Runs a plan on one table of frames, whose devices are of this pace.
-fn run<R: Threads + Wait + Sync>(
+fn run<R: Threads + Wait + Clock + Sync>(
     rt: &R,
     alloc: Global,
     plan: &Plan,
     pace: Pace,
-) -> Result<Ended, AllocError> {
+) -> Result<Noted, AllocError> {
     let ports = Ports {
         count: number(plan.guests.len()),
         pace,
         tables: Tables::Shared,
         frames: plan.frames,
     };
-    run_leased(rt, alloc, plan, ports, &OpenGate)
+    run_noted(rt, alloc, plan, ports, &[])
 }
 
 #[test]
@@ -165,10 +167,11 @@ fn random_plans_replay(rt: HostRuntime) -> Result<(), Fail> {
         } else {
             Pace::Paced
         };
-        let ended = run(&rt, alloc, &plan, pace)?;
+        let noted = run(&rt, alloc, &plan, pace)?;
+        let broken = noted.broken;
         assert!(rt;
-            ended.result.is_ok() && ended.is_clean(),
-            "plan {turn} is run"
+            noted.ended.result.is_ok() && noted.ended.is_clean() && broken.is_none(),
+            "plan {turn} is run: {broken:?}"
         );
         calls = calls.saturating_add(calls_in(&plan));
     }

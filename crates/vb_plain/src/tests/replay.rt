@@ -139,10 +139,10 @@ fn are_fit(rows: &[Row<'_>], case: &Case<'_>) -> bool {
 // ---- lists of rows
 
 /// A call and its reply.
-type Pair<'a> = (Act<'a>, Said<'a>);
+pub(crate) type Pair<'a> = (Act<'a>, Said<'a>);
 
 /// What the actor called, and what it was replied.
-fn pairs_by<'a>(
+pub(crate) fn pairs_by<'a>(
     alloc: Global,
     rows: &[Row<'a>],
     actor: Actor,

@@ -1,12 +1,13 @@
 //! Two guests with each way of ringing, and hosts that are too small.
 
-use crate::tests::leased::{Ended, Pace, Ports, Tables, run_leased};
+use crate::tests::leased::{Ended, Noted, Pace, Ports, Tables, run_leased, run_noted};
 use crate::tests::plans::{Answer, Balances, Guests, Line, SMALL, are};
 use crate::tests::reading::{Balanced, first_look, first_round, sets_a_target};
 use std::alloc::{AllocError, Global};
 use std::sync::Wait;
 use std::test::Fail;
 use std::thread::Threads;
+use std::time::Clock;
 use vb_model::{Actor, Call, Refusal, Reply};
 use vb_run::{Bells, GuestReport, OpenGate, Step};
 
@@ -95,7 +96,17 @@ static SHORT: Row = Row {
 };
 
 impl Row {
-    /// Runs the plan of this row on one table of frames.
+    /// One table of frames, and a port for each guest.
+    fn ports(&self) -> Ports {
+        Ports {
+            count: self.guests.count,
+            pace: self.pace,
+            tables: Tables::Shared,
+            frames: self.frames,
+        }
+    }
+
+    /// Runs the plan of this row.
     pub(super) fn run<R: Threads + Wait + Sync>(
         &self,
         rt: &R,
@@ -103,13 +114,18 @@ impl Row {
         bells: Bells,
     ) -> Result<Ended, AllocError> {
         let plan = self.guests.plan(alloc, self.frames, bells, self.balances)?;
-        let ports = Ports {
-            count: self.guests.count,
-            pace: self.pace,
-            tables: Tables::Shared,
-            frames: self.frames,
-        };
-        run_leased(rt, alloc, &plan, ports, &OpenGate)
+        run_leased(rt, alloc, &plan, self.ports(), &OpenGate)
+    }
+
+    /// Runs it with threads that note what they do.
+    fn run_noted<R: Threads + Wait + Clock + Sync>(
+        &self,
+        rt: &R,
+        alloc: Global,
+        bells: Bells,
+    ) -> Result<Noted, AllocError> {
+        let plan = self.guests.plan(alloc, self.frames, bells, self.balances)?;
+        run_noted(rt, alloc, &plan, self.ports(), &[])
     }
 
     /// Whether this is what the row leaves at a guest.
@@ -166,23 +182,29 @@ fn start_of(guest: &GuestReport) -> Option<Start> {
 #[test]
 fn two_guests_run_however_bells_ring(rt: HostRuntime) -> Result<(), Fail> {
     for bells in [Bells::Plain, Bells::Drop, Bells::Double, Bells::Late] {
-        let ended = TWO_GUESTS.run(&rt, rt.alloc(), bells)?;
-        assert!(rt; TWO_GUESTS.ends_so(&ended), "with bells {bells:?}");
+        let noted = TWO_GUESTS.run_noted(&rt, rt.alloc(), bells)?;
+        let broken = noted.broken;
+        assert!(rt;
+            TWO_GUESTS.ends_so(&noted.ended) && broken.is_none(),
+            "with bells {bells:?}: {broken:?}"
+        );
     }
     Ok(())
 }
 
 #[test]
 fn a_start_without_frames_leaves_none(rt: HostRuntime) -> Result<(), Fail> {
-    let ended = TOO_SMALL_TO_START.run(&rt, rt.alloc(), Bells::Plain)?;
-    assert!(rt; TOO_SMALL_TO_START.ends_so(&ended));
+    let noted = TOO_SMALL_TO_START.run_noted(&rt, rt.alloc(), Bells::Plain)?;
+    let ended = &noted.ended;
+    assert!(rt; TOO_SMALL_TO_START.ends_so(ended) && noted.broken.is_none());
     Ok(())
 }
 
 #[test]
 fn a_short_round_sets_no_target(rt: HostRuntime) -> Result<(), Fail> {
-    let ended = SHORT.run(&rt, rt.alloc(), Bells::Plain)?;
-    assert!(rt; SHORT.ends_so(&ended));
+    let noted = SHORT.run_noted(&rt, rt.alloc(), Bells::Plain)?;
+    let ended = &noted.ended;
+    assert!(rt; SHORT.ends_so(ended) && noted.broken.is_none());
     let Ok(report) = &ended.result else {
         panic!(rt; "it ends so")
     };

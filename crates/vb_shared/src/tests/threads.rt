@@ -3,6 +3,7 @@
 use crate::{FramePass, Leased, SharedFrames};
 use std::alloc::{AllocError, Global};
 use std::sync::Wait;
+use std::sync::atomic::{AtomicBool, Ordering};
 use std::test::Fail;
 use std::thread;
 use std::thread::{Threads, join};
@@ -40,8 +41,19 @@ fn claim_again(pass: &mut FramePass, alloc: Global) -> Result<Vec<u32>, AllocErr
     Ok(held)
 }
 
-/// The same with a pass that is dropped then.
-fn claim_twice(alloc: Global, mut pass: FramePass) -> Result<Vec<u32>, AllocError> {
+/// The same once all threads are there, with a pass that is dropped then.
+fn claim_twice<R: Wait>(
+    rt: &R,
+    alloc: Global,
+    mut pass: FramePass,
+    are_there: &AtomicBool,
+) -> Result<Vec<u32>, AllocError> {
+    for _ in rt.forever() {
+        if are_there.load(Ordering::SeqCst) {
+            break;
+        }
+        thread::yield_now();
+    }
     claim_again(&mut pass, alloc)
 }
 
@@ -51,14 +63,17 @@ fn claim_on_threads<R: Threads + Wait + Sync>(
     alloc: Global,
     passes: Vec<FramePass>,
 ) -> Result<Vec<Vec<u32>>, AllocError> {
+    let flag = AtomicBool::new(false);
+    let are_there = &flag;
     thread::scope(thread::scope_env(), rt, move |scope| {
         let mut threads = Vec::new(alloc);
         for pass in passes {
-            match scope.spawn(move || claim_twice(alloc, pass)) {
-                Ok(thread) => threads.push(thread)?,
-                Err(_) => return Err(AllocError),
+            // Without a thread, or its handle, there are too few frames at the end.
+            if let Ok(thread) = scope.spawn(move || claim_twice(rt, alloc, pass, are_there)) {
+                let _ = threads.push(thread);
             }
         }
+        are_there.store(true, Ordering::SeqCst);
         let mut lists = Vec::new(alloc);
         for thread in threads {
             lists.push(thread.join(rt)?)?;
@@ -96,15 +111,20 @@ fn count_apart(
 }
 
 /// Sizes of tables: frames and guests.
-static SIZES: [(u32, u32); 2] = [(64, 4), (65_536, 8)];
+static SIZES: [(u32, u32); 2] = [(64, 4), (1_024, 8)];
 
+/// At the end all frames are out: whoever put one back claimed until none was free.
 #[test]
-fn no_frame_is_held_on_two_threads(rt: HostRuntime) -> Result<(), Fail> {
+fn no_frame_is_held_on_two_threads_and_none_is_left(rt: HostRuntime) -> Result<(), Fail> {
     for (size, guests) in &SIZES {
         let (frames, passes) = SharedFrames::open(rt.alloc(), *size, *guests)?;
         let lists = claim_on_threads(&rt, rt.alloc(), passes)?;
         let held = count_apart(rt.alloc(), &lists, *size as usize)?;
-        assert!(rt; held == Some(frames.census() as usize));
+        let out = frames.census();
+        assert!(rt;
+            held == Some(*size as usize) && out == *size,
+            "of {size} frames {out} are out, by lists {held:?}"
+        );
     }
     Ok(())
 }

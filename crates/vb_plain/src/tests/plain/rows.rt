@@ -77,6 +77,8 @@ pub(crate) enum Said<'a> {
     Refused(Refusal),
     /// How many pages the guest can spare.
     Spare(u32),
+    /// What each guest is to give.
+    Targets(&'a [u32]),
     /// A reply that no call of a thread has, or another one than the entry's.
     Other,
 }
@@ -99,6 +101,7 @@ impl<'a> Said<'a> {
             Reply::Finished { head } => Said::Finished(*head),
             Reply::Asked => Said::Asked,
             Reply::Refused(refusal) => Said::Refused(*refusal),
+            Reply::Targets { pages } => Said::Targets(pages.as_slice()),
             _ => Said::Other,
         }
     }

@@ -1,0 +1,304 @@
+//! A worker's passes: each ends once nine different calls in a row have found nothing to do.
+
+use super::{Broken, Run};
+use crate::tests::notes::{Line, Note, is_processor, lines_of};
+use crate::tests::plain::{Act, Said, rows_of};
+use crate::tests::replay::{Pair, pairs_by};
+use std::alloc::{AllocError, Global};
+use vb_model::Actor;
+use vb_model::layout::{DEFLATE_QUEUE, INFLATE_QUEUE, REPORT_QUEUE, STATISTICS_QUEUE};
+use vb_run::{Bells, Entry};
+
+/// The calls by which a worker looks for everything that there may be to do: chains of each of four
+/// queues, a page, a request of each of three queues that is done, and statistics.
+static SERVICES: [Act<'static>; 9] = [
+    Act::Take(INFLATE_QUEUE),
+    Act::Take(DEFLATE_QUEUE),
+    Act::Take(STATISTICS_QUEUE),
+    Act::Take(REPORT_QUEUE),
+    Act::Work,
+    Act::Finish(INFLATE_QUEUE),
+    Act::Finish(DEFLATE_QUEUE),
+    Act::Finish(REPORT_QUEUE),
+    Act::Ask,
+];
+
+/// A worker's call with its reply.
+#[derive(Clone, Copy)]
+struct Serve<'a> {
+    act: Act<'a>,
+    said: Said<'a>,
+}
+
+/// Whether the call found nothing to do.
+fn found_nothing(said: Said<'_>) -> bool {
+    matches!(said, Said::Empty | Said::Idle | Said::Refused(_))
+}
+
+/// The number of a service.
+fn number_of(act: Act<'_>) -> Option<usize> {
+    for (number, service) in SERVICES.iter().enumerate() {
+        if *service == act {
+            return Some(number);
+        }
+    }
+    None
+}
+
+/// The passes of a worker so far.
+#[derive(Clone, Copy)]
+struct Passes {
+    /// How many have ended.
+    count: u64,
+    /// The number of the call with which the last of these began.
+    last: u64,
+    /// The number of the call with which the next one begins, or has begun.
+    next: u64,
+    /// Which services found nothing to do, since one did or the pass began.
+    idle: [bool; 9],
+    /// How many those are.
+    idles: usize,
+}
+
+impl Passes {
+    fn new() -> Passes {
+        Passes {
+            count: 0,
+            last: 0,
+            next: 0,
+            idle: [false; 9],
+            idles: 0,
+        }
+    }
+
+    fn clear(&mut self) {
+        self.idle = [false; 9];
+        self.idles = 0;
+    }
+
+    /// Notes a call that found nothing to do. Whether it is another one than those before.
+    fn add_idle(&mut self, act: Act<'_>) -> bool {
+        let Some(number) = number_of(act) else {
+            return false;
+        };
+        match self.idle.get_mut(number) {
+            Some(is_idle) if !*is_idle => *is_idle = true,
+            _ => return false,
+        }
+        self.idles = self.idles.saturating_add(1);
+        true
+    }
+
+    /// Notes the call of this number, with its reply. Whether a pass may have it.
+    fn add(&mut self, number: u64, serve: Serve<'_>) -> bool {
+        if !found_nothing(serve.said) {
+            self.clear();
+            return true;
+        }
+        if !self.add_idle(serve.act) {
+            return false;
+        }
+        if self.idles == SERVICES.len() {
+            self.clear();
+            self.count = self.count.saturating_add(1);
+            self.last = self.next;
+            self.next = number.saturating_add(1);
+        }
+        true
+    }
+
+    /// The passes that these calls are; none where they aren't passes.
+    fn of(serves: &[Serve<'_>]) -> Option<Passes> {
+        let mut passes = Passes::new();
+        let mut number = 0;
+        for serve in serves {
+            if !passes.add(number, *serve) {
+                return None;
+            }
+            number = number.saturating_add(1);
+        }
+        if passes.next == number {
+            Some(passes)
+        } else {
+            None
+        }
+    }
+}
+
+/// Reads a worker's notes.
+#[derive(Drop)]
+struct Reader<'a> {
+    serves: Vec<Serve<'a>>,
+    /// The number of its next call.
+    number: u64,
+    act: Option<Act<'a>>,
+    said: Option<Said<'a>>,
+    is_before: bool,
+}
+
+impl<'a> Reader<'a> {
+    fn new(alloc: Global) -> Reader<'a> {
+        Reader {
+            serves: Vec::new(alloc),
+            number: 0,
+            act: None,
+            said: None,
+            is_before: false,
+        }
+    }
+
+    /// Ends the call that was answered so. Whether it was called and replied in between.
+    fn end(&mut self, said: Said<'a>) -> Result<bool, AllocError> {
+        let (Some(act), Some(replied)) = (self.act, self.said) else {
+            return Ok(false);
+        };
+        self.serves.push(Serve { act, said })?;
+        self.number = self.number.saturating_add(1);
+        self.act = None;
+        self.said = None;
+        self.is_before = false;
+        Ok(replied == said)
+    }
+
+    /// Whether the note may come next.
+    fn read(&mut self, line: Line<'a>) -> Result<bool, AllocError> {
+        match line {
+            Line::Before(number) if !self.is_before && number == self.number => {
+                self.is_before = true;
+                Ok(true)
+            }
+            Line::Called(_, act) if self.is_before && self.act.is_none() => {
+                self.act = Some(act);
+                Ok(true)
+            }
+            Line::Replied(said) if self.act.is_some() && self.said.is_none() => {
+                self.said = Some(said);
+                Ok(true)
+            }
+            Line::After(said) => self.end(said),
+            _ => Ok(false),
+        }
+    }
+}
+
+/// The worker's own notes: the runner makes its calls once more when all threads have ended.
+fn own_lines<'b, 'a>(lines: &'b [Line<'a>]) -> &'b [Line<'a>] {
+    let mut count = 0;
+    for (place, line) in lines.iter().enumerate() {
+        if let Line::After(_) = line {
+            count = place.saturating_add(1);
+        }
+    }
+    lines.get(..count).unwrap_or(lines)
+}
+
+/// The calls of these notes; none where they aren't calls in order, numbered from 0, each between
+/// its `before` and an `after` with its reply.
+fn serves_of<'a>(alloc: Global, lines: &[Line<'a>]) -> Result<Option<Vec<Serve<'a>>>, AllocError> {
+    let mut reader = Reader::new(alloc);
+    for line in lines {
+        if !reader.read(*line)? {
+            return Ok(None);
+        }
+    }
+    Ok(Some(reader.serves))
+}
+
+/// What the calls were replied that found something to do.
+fn found_by<'a>(alloc: Global, serves: &[Serve<'a>]) -> Result<Vec<Pair<'a>>, AllocError> {
+    let mut pairs = Vec::new(alloc);
+    for serve in serves {
+        if !found_nothing(serve.said) {
+            pairs.push((serve.act, serve.said))?;
+        }
+    }
+    Ok(pairs)
+}
+
+/// Whether the calls that found something to do are the first ones of the worker in the history.
+fn are_entries(
+    alloc: Global,
+    serves: &[Serve<'_>],
+    history: &[Entry],
+    worker: Actor,
+) -> Result<bool, AllocError> {
+    let rows = rows_of(alloc, history)?;
+    let entries = pairs_by(alloc, rows.as_slice(), worker)?;
+    let found = found_by(alloc, serves)?;
+    Ok(entries.get(..found.len()) == Some(found.as_slice()))
+}
+
+/// Whether the worker's call of this number comes behind all notes of its guest's processors.
+fn is_behind(notes: &[Note], guest: u32, number: u64) -> bool {
+    let mut has_begun = false;
+    for note in notes {
+        match note {
+            Note::Before {
+                actor: Actor::Worker { guest: own },
+                number: begun,
+            } if *own == guest && *begun == number => has_begun = true,
+            Note::Before { actor, .. } | Note::Inside { actor, .. } | Note::After { actor, .. }
+                if has_begun && is_processor(*actor, guest) => {
+                return false;
+            }
+            _ => {}
+        }
+    }
+    has_begun
+}
+
+/// How often a doorbell is rung after so many calls.
+fn rings(bells: Bells, calls: u64) -> u64 {
+    match bells {
+        Bells::Plain | Bells::Late => calls,
+        Bells::Drop => 0,
+        Bells::Double => calls.saturating_mul(2),
+    }
+}
+
+impl<'a> Run<'a> {
+    /// The history of a guest.
+    fn history(&self, guest: u32) -> &'a [Entry] {
+        match self.report.guests.get(guest as usize) {
+            Some(own) => own.history.as_slice(),
+            None => &[],
+        }
+    }
+
+    /// How many calls the scripts of a guest have.
+    fn calls(&self, guest: u32) -> u64 {
+        let mut calls: u64 = 0;
+        for cpu in 0..self.processors(guest) {
+            calls = calls.saturating_add(self.script(guest, cpu).len() as u64);
+        }
+        calls
+    }
+
+    /// Whether a worker made a pass at the start, at most one for each ring, and one when its
+    /// guest's processors had ended: if the doorbell is never rung, just these two.
+    fn is_ended(&self, guest: u32, passes: &Passes) -> bool {
+        let most = rings(self.plan.bells, self.calls(guest)).saturating_add(2);
+        (2..=most).contains(&passes.count) && is_behind(self.notes, guest, passes.last)
+    }
+
+    /// What of a guest's worker isn't as it must be.
+    pub(super) fn broken_worker(
+        &self,
+        alloc: Global,
+        guest: u32,
+    ) -> Result<Option<Broken>, AllocError> {
+        let actor = Actor::Worker { guest };
+        let lines = lines_of(alloc, self.notes, actor)?;
+        let Some(serves) = serves_of(alloc, own_lines(lines.as_slice()))? else {
+            return Ok(Some(Broken::Calls { actor }));
+        };
+        if !are_entries(alloc, serves.as_slice(), self.history(guest), actor)? {
+            return Ok(Some(Broken::Calls { actor }));
+        }
+        match Passes::of(serves.as_slice()) {
+            Some(passes) if self.is_ended(guest, &passes) => Ok(None),
+            Some(_passes) => Ok(Some(Broken::Ends { guest })),
+            None => Ok(Some(Broken::Passes { guest })),
+        }
+    }
+}
