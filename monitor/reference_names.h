@@ -20,4 +20,7 @@
 #define vb_targets reference_targets
 #define vb_spare reference_spare
 #define vb_needs_targets reference_needs_targets
+#define vb_version reference_version
+#define vb_save reference_save
+#define vb_restore reference_restore
 #endif

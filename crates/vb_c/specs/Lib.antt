@@ -4,3 +4,4 @@ pub mod Chains
 pub mod Marks
 pub mod Registers
 pub mod Sharing
+pub mod Saving

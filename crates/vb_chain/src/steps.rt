@@ -12,9 +12,9 @@ use crate::{Chain, ChainFault, Descriptor, Piece, read_descriptor};
 use vb_model::limits;
 use vb_ram::GuestBytes;
 
-/// The first rule that a descriptor breaks, after `visited` others, in a table of `size` descriptors
-/// and memory that ends at `end`; `writing` says that one that the device writes came before
-/// (VIRTIO 1.1, 2.6.5). The rules are tested in the order in which `walk` has them.
+/// The first rule that a descriptor breaks, after `visited` others, in a table of `size`
+/// descriptors and memory that ends at `end`; `writing` says that one that the device writes came
+/// before (VIRTIO 1.1, 2.6.5). The rules are tested in the order in which `walk` has them.
 pub fn descriptor_fault(
     size: u16,
     end: u64,

@@ -14,3 +14,8 @@ pub mod MarkLemmas
 mod SettingFacts
 mod RunFacts
 mod DenialFacts
+pub mod Rows
+mod ReportFacts
+mod NamingFacts
+mod SetFacts
+mod QueueFacts

@@ -1,5 +1,5 @@
 -- A device's state, and what its calls are refused for.
-use Rattle.std.specs.Prelude.{ℕ, Bool, not, ◌||◌, List, [], ◌∷◌, if◌then◌else◌, Option, Some}
+use Rattle.std.specs.Prelude.{ℕ, Bool, true, not, ◌||◌, List, [], ◌∷◌, if◌then◌else◌, Option, Some}
 use Rattle.std.specs.Prelude.{None, bit_or}
 use Rattle.vb_model.specs.Status.{contains, driver_ok, needs_reset}
 use Rattle.vb_model.specs.Tables.{is_not_ready, has_fault, lacks_feature}
@@ -90,6 +90,10 @@ call_denial kind known fits copied d =
     ∷ (lacks_feature d.features (queue_of kind) ⇛ NoQueue)
     ∷ ((not copied || not (has_place d.settings.memory_end (ring_of kind d))) ⇛ Misplaced)
     ∷ [])
+
+-- What the use of a kind's queue is refused for, before anything of it is read.
+abbrev pub queue_denial : Kind → Device → Option Denial
+queue_denial kind d = call_denial kind true true true d
 
 -- What a place of a kind's queue is refused for.
 abbrev pub place_denial : Kind → Ring → Device → Option Denial

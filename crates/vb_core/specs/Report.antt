@@ -1,6 +1,7 @@
 -- Reports, in copies of their ring.
-use Rattle.std.specs.Prelude.{◌≡◌, ℕ, ◌/◌, true, nat_le, List, length, map, take, Option, Some}
-use Rattle.std.specs.Prelude.{None, Result, Ok, Err, IsOk}
+use Rattle.std.specs.Prelude.{◌≡◌, ℕ, ◌/◌, Bool, true, not, ◌&&◌, nat_le, List, length, map, take}
+use Rattle.std.specs.Prelude.{Option, Some, None, Result, Ok, Err, IsOk}
+use Rattle.std.specs.List.{list_any}
 use Rattle.vb_model.specs.declared.limits.TheConstants.{MAX_REPORT_PIECES}
 use Rattle.vb_model.specs.Limits.{page_size}
 use Rattle.vb_chain.specs.declared.pieces.Piece.{Piece}
@@ -10,12 +11,15 @@ use Rattle.vb_request.specs.Report.{report_request}
 use Rattle.vb_core.specs.declared.ring.Ring.{Ring}
 use Rattle.vb_core.specs.declared.runs.Run.{Run}
 use Rattle.vb_core.specs.declared.report.Reported.{Reported}
+use Rattle.vb_core.specs.declared.name.Named.{Named}
+use Rattle.vb_core.specs.declared.settings.TheConstants.{MEMORY_LIMIT}
 use Rattle.vb_core.specs.declared.kinds.Kind.TheVariants.{Report}
 use Rattle.vb_core.specs.declared.device.Denial.{Denial}
 use Rattle.vb_core.specs.declared.device.Device.{Device}
 use Rattle.vb_core.specs.Settings.{memory_pages}
 use Rattle.vb_core.specs.Devices.{ring_of, with_one_taken, needing_reset, call_denial}
 use Rattle.vb_core.specs.Next.{PopsCopies, are_copies, told}
+use Rattle.vb_core.specs.Name.{after_request}
 
 -- The pages of a piece of whole pages.
 abbrev pub run_of : Piece → Run
@@ -62,3 +66,34 @@ pub record ReportsBy (avail table : List ℕ) (room : ℕ) (runs : List Run) (d1
       (answer : Result (Option Reported) ChainFault) ×
       ReadsReport d1.settings.reserved_pages (memory_pages d1.settings) (ring_of Report d1) avail
       table runs answer × (result ≡ told answer) × (d2 ≡ after_report answer d1)
+
+-- ---- by its pieces
+
+-- No guest has memory where the piece begins.
+abbrev pub is_beyond : Piece → Bool
+is_beyond piece = nat_le MEMORY_LIMIT piece.addr
+
+-- What a report of these pieces is refused for, with so much room.
+abbrev pub pieces_denial : List Piece → ℕ → Device → Option Denial
+pieces_denial pieces room d =
+    call_denial Report true
+    (nat_le MAX_REPORT_PIECES room && not (list_any is_beyond pieces)) true d
+
+-- What pieces name that are a report of so many runs, or what is wrong with them.
+abbrev pub named_by : ℕ → Result (List ℕ) ChainFault → Result Named ChainFault
+named_by count (Err fault) = Err fault
+named_by count (Ok pages) = Ok (record { runs = count; pages = length pages; skipped = 0 })
+
+abbrev pub report_named : List Piece → ℕ → Result Named ChainFault
+report_named pieces reserved = named_by (length pieces) (report_request pieces reserved)
+
+-- A report of these pieces, whatever they are.
+pub record NamesPiecesBy (pieces : List Piece) (room : ℕ) (runs : List Run) (d1 d2 : Device)
+    (result : Result Named Denial) : Type 0 where
+  pub denied : (why : Denial) → pieces_denial pieces room d1 ≡ Some why →
+      (result ≡ Err why) × (d2 ≡ d1)
+  pub answer : pieces_denial pieces room d1 ≡ None →
+      result ≡ told (report_named pieces d1.settings.reserved_pages)
+  pub device : pieces_denial pieces room d1 ≡ None →
+      d2 ≡ after_request Report (report_named pieces d1.settings.reserved_pages) d1
+  pub runs_are : IsOk result → take (length pieces) runs ≡ map run_of pieces

@@ -5,7 +5,7 @@ ghost use Rattle.vb_model.specs.Tables.{lacks_feature};
 ghost use Rattle.vb_core.specs.declared.device.Denial.{Denial};
 ghost use Rattle.vb_core.specs.Kinds.{queue_of};
 ghost use Rattle.vb_core.specs.Devices.{new_device, ring_of, with_ring, needing_reset};
-ghost use Rattle.vb_core.specs.Devices.{call_denial, place_denial, placed};
+ghost use Rattle.vb_core.specs.Devices.{call_denial, queue_denial, place_denial, placed};
 
 use crate::{Kind, Ring, Settings, has_fault, is_not_ready, lacks_feature};
 use bitflags::Flags;
@@ -32,8 +32,8 @@ pub enum Denial {
     Broken(ChainFault),
 }
 
-/// A balloon device (VIRTIO 1.1, 5.5) for a guest whose memory is elsewhere: plain data, so that a
-/// copy of it saves the device. It knows nothing of the ballooned pages.
+/// A balloon device (VIRTIO 1.1, 5.5) for a guest whose memory is elsewhere: plain data, which may
+/// be copied; `Saved` makes bytes of it that last. It knows nothing of the ballooned pages.
 #[repr(C)]
 #[derive(Clone, Copy, Debug)]
 pub struct Device {
@@ -96,8 +96,9 @@ impl Device {
         }
     }
 
-    /// Sets DEVICE_NEEDS_RESET (VIRTIO 1.1, 2.1.2).
-    pub(crate) fn note_fault(&mut self)
+    /// Sets DEVICE_NEEDS_RESET (VIRTIO 1.1, 2.1.2), as where bytes that should be guest memory
+    /// aren't.
+    pub fn note_fault(&mut self)
         ensures { self.new ≡ needing_reset self.old }
     {
         self.status |= NEEDS_RESET;
@@ -141,6 +142,15 @@ impl Device {
             return Some(Denial::Misplaced);
         }
         None
+    }
+
+    /// What the use of a kind's queue is refused for, before anything of it is read: tested in this
+    /// order, `BadArgument` where the settings are none that a device may have, `NotReady`,
+    /// `NeedsReset`, `NoQueue` for a feature, `Misplaced`.
+    pub fn queue_denial(&self, kind: Kind) -> Option<Denial>
+        ensures { result ≡ queue_denial kind self.now }
+    {
+        self.call_denial(kind, true, true, true)
     }
 
     /// What a place of this kind's queue is refused for.

@@ -1,15 +1,18 @@
 //! Reports: chains of pages that are free in the guest.
 
-ghost use Rattle.std.specs.Prelude.{◌≡◌, ◌≤◌, ◌<◌, ◌+◌, ◌*◌, ◌^◌, All, MatchResult, OnOk, Ok, Err};
+ghost use Rattle.std.specs.Prelude.{◌≡◌, ◌≤◌, ◌<◌, ◌+◌, ◌*◌, ◌^◌, false, All, MatchResult, OnOk};
+ghost use Rattle.std.specs.Prelude.{Ok, Err};
 ghost use Rattle.std.specs.Prelude.{length, map, take};
 ghost use Rattle.vb_model.specs.declared.limits.TheConstants.{MAX_REPORT_PIECES};
 ghost use Rattle.vb_model.specs.Limits.{page_size};
 ghost use Rattle.vb_ring.specs.Layout.{IsSize};
 ghost use Rattle.vb_request.specs.Report.{report_request, pages_of_pieces};
-ghost use Rattle.vb_core.specs.Report.{run_of, ReadsReport, ReportsBy};
+ghost use Rattle.std.specs.List.{list_any};
+ghost use Rattle.vb_core.specs.Report.{run_of, is_beyond, report_named, ReadsReport, ReportsBy};
+ghost use Rattle.vb_core.specs.Report.{NamesPiecesBy};
 
 use crate::next::{are_copies, pop};
-use crate::{Denial, Device, Kind, Ring, Run};
+use crate::{Denial, Device, Kind, MEMORY_LIMIT, Named, Ring, Run};
 use vb_chain::{Chain, ChainFault, Piece};
 use vb_model::limits::{MAX_REPORT_PIECES, PAGE_SIZE};
 use vb_request::{check_report, count_pages};
@@ -89,7 +92,61 @@ fn next_report(
     }
 }
 
+/// Whether a piece begins where no guest has memory.
+fn is_any_beyond(pieces: &[Piece]) -> bool
+    ensures { result ≡ list_any is_beyond pieces.now }
+{
+    pieces.iter().any(|piece| piece.addr >= MEMORY_LIMIT)
+}
+
+/// The pages of these pieces, or the rule that they break.
+fn name_pieces(reserved: u32, pieces: &[Piece], runs: &mut [Run]) -> Result<Named, ChainFault>
+    requires below { list_any is_beyond pieces.now ≡ false }
+    requires room { MAX_REPORT_PIECES ≤ length runs.old }
+    ensures answer { result ≡ report_named pieces.now reserved }
+    ensures runs { OnOk result (take (length pieces.now) runs.new ≡ map run_of pieces.now) }
+{
+    match check_report(pieces, reserved) {
+        Err(fault) => Err(fault),
+        Ok(()) => {
+            put_runs(pieces, runs);
+            Ok(Named {
+                runs: pieces.len() as u32,
+                pages: count_pages(pieces),
+                skipped: 0,
+            })
+        }
+    }
+}
+
 impl Device {
+    /// Takes the chain of these pieces, in order, that stood next on the queue of reports: its
+    /// pages, which are free in the guest, as runs in the front of `runs`, one for each piece.
+    ///
+    /// Refused, tested in this order: `BadArgument` where `runs` has room for fewer than 32, or a
+    /// piece begins where no guest has memory; `NotReady`; `NeedsReset`; `NoQueue` without
+    /// REPORTING; `Misplaced`. Then `Broken`, which sets DEVICE_NEEDS_RESET and takes nothing,
+    /// where a piece isn't some whole unreserved pages that the device may write: nothing is
+    /// skipped here.
+    pub fn name_report(&mut self, pieces: &[Piece], runs: &mut [Run]) -> Result<Named, Denial>
+        ensures { NamesPiecesBy pieces.now (length runs.old) runs.new self.old self.new result }
+    {
+        let fits = runs.len() >= MAX_REPORT_RUNS && !is_any_beyond(pieces);
+        if let Some(why) = self.call_denial(Kind::Report, true, fits, true) {
+            return Err(why);
+        }
+        match name_pieces(self.settings.reserved_pages, pieces, runs) {
+            Ok(named) => {
+                self.count_taken(Kind::Report);
+                Ok(named)
+            }
+            Err(fault) => {
+                self.note_fault();
+                Err(Denial::Broken(fault))
+            }
+        }
+    }
+
     /// Takes the chain that stands next on the queue of reports: its pages, which are free in the
     /// guest, as runs in the front of `runs`, one for each piece in its order; none where no chain
     /// is available. The copies are as for `next`.

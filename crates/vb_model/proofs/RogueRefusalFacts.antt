@@ -12,7 +12,7 @@ use Rattle.vb_model.specs.declared.replies.Reply.{Reply}
 use Rattle.vb_model.specs.declared.replies.Reply.TheVariants.{Refused}
 use Rattle.vb_model.specs.Guest.{Guest, no_statistics}
 use Rattle.vb_model.specs.Rogue.{RogueStep}
-use Rattle.vb_model.proofs.Samples.{ready}
+use Rattle.vb_model.proofs.Samples.{ready, request}
 
 -- pages 16 to 62 are used and have no frame, page 63 is lent
 abbrev rogue : Guest
@@ -85,6 +85,8 @@ first_thirteen =
 
 abbrev told_much : Guest
 told_much = record rogue {
+  inflate = record { posted = request 1 (40 ∷ []) 0 ∷ []; taken = []; done = [] };
+  target = 7;
   status = 0;
   ballooned = replicate 64 true;
   actual = 5;
@@ -93,7 +95,7 @@ told_much = record rogue {
 
 features_refused : (new : Guest)
     → RogueStep told_much (Init 1) thirteen (Refused VersionMissing) new
-    → new ≡ record rogue {
+    → new ≡ record told_much {
       status = 131;
       features = 1;
       ballooned = replicate 64 false;
@@ -106,7 +108,7 @@ features_refused new s = s.refused VersionMissing refl
 -- a feature that isn't offered is refused before any is accepted
 feature_not_offered : (new : Guest)
     → RogueStep told_much (Init 0x100000008) thirteen (Refused FeatureNotOffered) new
-    → new ≡ record rogue {
+    → new ≡ record told_much {
       status = 131;
       features = 0;
       ballooned = replicate 64 false;

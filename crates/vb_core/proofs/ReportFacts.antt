@@ -1,0 +1,156 @@
+-- What reports name, worked out, and what they don't.
+use Rattle.std.proofs.Common.{◌≡◌, refl, ap, arith, ℕ, ◌+◌, true, false, List, [], ◌∷◌, length, take, Option, Some, None, Result, Ok, Err}
+use Rattle.vb_chain.specs.declared.pieces.Piece.{Piece}
+use Rattle.vb_chain.specs.declared.fault.ChainFault.{ChainFault}
+use Rattle.vb_chain.specs.declared.fault.ChainFault.TheVariants.{WrongDirection, BadLength, BadPage}
+use Rattle.vb_chain.specs.declared.fault.ChainFault.TheVariants.{ReservedPage}
+use Rattle.vb_ring.specs.declared.device.Taken.{Taken}
+use Rattle.vb_core.specs.declared.runs.Run.{Run}
+use Rattle.vb_core.specs.declared.name.Named.{Named}
+use Rattle.vb_core.specs.declared.report.Reported.{Reported}
+use Rattle.vb_core.specs.declared.settings.Settings.{Settings}
+use Rattle.vb_core.specs.declared.device.Denial.{Denial}
+use Rattle.vb_core.specs.declared.device.Denial.TheVariants.{BadArgument, NotReady, Broken}
+use Rattle.vb_core.specs.declared.device.Device.{Device}
+use Rattle.vb_core.specs.Devices.{new_device, placed, with_one_taken, needing_reset}
+use Rattle.vb_core.specs.declared.kinds.Kind.TheVariants.{Report}
+use Rattle.vb_core.specs.Report.{run_of, report_named, report_of, after_report, pieces_denial}
+use Rattle.vb_core.specs.Report.{NamesPiecesBy}
+
+abbrev Same : ℕ → ℕ → Type 0
+Same a b = a ≡ b
+
+-- pages 20 and 21, and page 40
+abbrev two : Piece
+two = record { addr = 81920; len = 8192; writable = true }
+
+abbrev one : Piece
+one = record { addr = 163840; len = 4096; writable = true }
+
+two_is : run_of two ≡ record { first = 20; count = 2 }
+two_is = refl
+
+both_are : report_named (two ∷ one ∷ []) 16 ≡ Ok (record { runs = 2; pages = 3; skipped = 0 })
+both_are = refl
+
+-- a page that is named again counts again
+again : report_named (one ∷ one ∷ []) 16 ≡ Ok (record { runs = 2; pages = 2; skipped = 0 })
+again = refl
+
+-- what is the device's to read is no report, nor is half a page, nor a page begun in its midst, nor
+-- a reserved one
+to_read : report_named (record one { writable = false } ∷ []) 16 ≡ Err WrongDirection
+to_read = refl
+
+half : report_named (record one { len = 2048 } ∷ []) 16 ≡ Err BadLength
+half = refl
+
+no_byte : report_named (record one { len = 0 } ∷ []) 16 ≡ Err BadLength
+no_byte = refl
+
+midst : report_named (record one { addr = 163841 } ∷ []) 16 ≡ Err BadPage
+midst = refl
+
+reserved : report_named (one ∷ []) 41 ≡ Err ReservedPage
+reserved = refl
+
+-- ---- a device
+
+abbrev settings : Settings
+settings = record {
+  memory_end = 262144;
+  offered = 0x100000027;
+  reserved_pages = 16;
+  needs_must_tell = 0;
+  skips_bad_pages = 0;
+}
+
+-- one that is ready, with reports
+abbrev ready : Device
+ready =
+    record (new_device settings) {
+      features = 0x100000027;
+      status = 15;
+      report = placed 0 256 512 8;
+    }
+
+open_one : pieces_denial (one ∷ []) 256 ready ≡ None
+unfolding lib.Count.ones
+open_one = refl
+
+open_none : pieces_denial (record one { len = 0 } ∷ []) 256 ready ≡ None
+unfolding lib.Count.ones
+open_none = refl
+
+too_small : pieces_denial (one ∷ []) 31 ready ≡ Some BadArgument
+too_small = refl
+
+beyond : pieces_denial (record one { addr = 0x100000000000 } ∷ []) 256 ready ≡ Some BadArgument
+beyond = refl
+
+not_ready : pieces_denial (one ∷ []) 256 (new_device settings) ≡ Some NotReady
+not_ready = refl
+
+abbrev first_of : List Run → ℕ
+first_of [] = 0
+first_of (r ∷ rs) = r.first
+
+abbrev pages_or_none : Result Named Denial → ℕ
+pages_or_none (Err why) = 0
+pages_or_none (Ok named) = named.pages
+
+-- other runs, another count of pages, a report that isn't taken, and an answer in place of a fault
+-- aren't admitted
+other_runs : (d : Device) → NamesPiecesBy (one ∷ []) 256 (record { first = 41; count = 1 } ∷ []) ready d
+    (Ok (record { runs = 1; pages = 1; skipped = 0 })) → ⊥
+other_runs d n =
+    let e : Same 41 40 = ap (λ (rs : List Run). first_of rs) (n.runs_are refl) in omega arith
+
+no_runs : (d : Device) → NamesPiecesBy (one ∷ []) 256 [] ready d
+    (Ok (record { runs = 1; pages = 1; skipped = 0 })) → ⊥
+no_runs d n =
+    let e : Same 0 1 = ap (λ (rs : List Run). length rs) (n.runs_are refl) in omega arith
+
+another_count : (runs : List Run) (d : Device) → NamesPiecesBy (one ∷ []) 256 runs ready d
+    (Ok (record { runs = 1; pages = 7; skipped = 0 })) → ⊥
+another_count runs d n =
+    let e : Same 7 1 = ap pages_or_none (n.answer open_one) in omega arith
+
+not_taken : (runs : List Run) (result : Result Named Denial) →
+    NamesPiecesBy (one ∷ []) 256 runs ready ready result → ⊥
+not_taken runs result n =
+    let e : Same 0 1 = ap (λ (d : Device). d.report.next_avail) (n.device open_one) in omega arith
+
+no_reset : (runs : List Run) (result : Result Named Denial) →
+    NamesPiecesBy (record one { len = 0 } ∷ []) 256 runs ready ready result → ⊥
+no_reset runs result n =
+    let e : Same 15 79 = ap (λ (d : Device). d.status) (n.device open_none) in omega arith
+
+denied_but_changed : (runs : List Run) (result : Result Named Denial) →
+    NamesPiecesBy (one ∷ []) 31 runs ready (record ready { target = 1 }) result → ⊥
+denied_but_changed runs result n =
+    let e : Same 1 0 = ap (λ (d : Device). d.target) (n.denied BadArgument refl).1 in omega arith
+
+-- ---- in copies
+
+-- what was found is answered: nothing, a chain, or a fault
+nothing : report_of 16 (Ok None) ≡ Ok None
+nothing = refl
+
+found : report_of 16 (Ok (Some (record { head = 3; chain = two ∷ one ∷ [] }))) ≡
+    Ok (Some (record { head = 3; runs = 2; pages = 3 }))
+found = refl
+
+found_bad : report_of 16 (Ok (Some (record { head = 3; chain = record one { len = 0 } ∷ [] }))) ≡
+    Err BadLength
+found_bad = refl
+
+-- the device after it: as it was, one further, or in need of a reset
+after_none : after_report (Ok None) ready ≡ ready
+after_none = refl
+
+after_one : (after_report (Ok (Some (record { head = 3; runs = 2; pages = 3 }))) ready).report.next_avail ≡ 1
+after_one = refl
+
+after_fault : (after_report (Err BadPage) ready).status ≡ 79
+after_fault = refl
