@@ -16,7 +16,6 @@
 #include <endian.h>
 #include <errno.h>
 #include <fcntl.h>
-#include <stdatomic.h>
 #include <stdbool.h>
 #include <string.h>
 #include <sys/mman.h>
@@ -30,6 +29,7 @@ enum {
     BALLOON_SHARED = -2,        /* shared anonymous memory, or a file that the monitor has no descriptor of */
     BALLOON_DRIVER_OK = 4,      /* bits of the status (VIRTIO 1.1, 2.1) */
     BALLOON_NEEDS_RESET = 64,
+    BALLOON_FAILED = 128,
     BALLOON_OUT_OF_MEMORY = 6,  /* the rule of bytes that aren't memory, as in vb.h */
 };
 
@@ -42,7 +42,7 @@ struct balloon_region {
     uint64_t offset;            /* where the region begins in that file */
 };
 
-/* All that a device is: plain data. Copy it out to save, and back to restore. */
+/* All that a device is: plain data, which may be copied. balloon_save makes bytes of it that last. */
 struct balloon_state {
     VbDevice device;
     uint32_t held;              /* 1 + the head of the statistics buffer that waits to be asked for; 0: none */
@@ -69,9 +69,9 @@ struct balloon {
     size_t ballooned_words;     /* for all pages: memory_end / 4096 / 64, rounded up */
 
     /* The private copies, and what the core makes of them. */
-    _Alignas(8) uint8_t avail[4 + 2 * VB_MAX_QUEUE_SIZE];
-    _Alignas(8) uint8_t table[16 * VB_MAX_QUEUE_SIZE];
-    _Alignas(8) uint8_t bytes[VB_MAX_BYTES];
+    uint8_t avail[4 + 2 * VB_MAX_QUEUE_SIZE] __attribute__((aligned(8)));
+    uint8_t table[16 * VB_MAX_QUEUE_SIZE] __attribute__((aligned(8)));
+    uint8_t bytes[VB_MAX_BYTES] __attribute__((aligned(8)));
     VbPiece pieces[VB_MAX_PIECES];
     VbRun runs[VB_MAX_RUNS];
     VbStatistic figures[VB_MAX_BYTES / 10];
@@ -94,6 +94,15 @@ struct balloon_result {
     uint64_t kept;              /* pages that the machine failed to discard, for the reason `error` */
     int error;
 };
+
+/* A result that says nothing but this. */
+static inline struct balloon_result balloon_result_of(uint32_t code)
+{
+    struct balloon_result result;
+    memset(&result, 0, sizeof result);
+    result.code = code;
+    return result;
+}
 
 /* ---- guest memory */
 
@@ -143,7 +152,7 @@ static inline void balloon_read_once(uint8_t *to, const uint8_t *from, size_t le
     const volatile uint8_t *in = from;
     for (; length > 0 && (uintptr_t)in % 8 != 0; length--)
         *to++ = *in++;
-    const volatile balloon_word64 *words = (const volatile void *)in;
+    const volatile balloon_word64 *words = (const volatile balloon_word64 *)in;
     for (; length >= 32; length -= 32, words += 4, to += 32) {
         uint64_t first = words[0], second = words[1], third = words[2], fourth = words[3];
         memcpy(to, &first, 8);
@@ -155,7 +164,7 @@ static inline void balloon_read_once(uint8_t *to, const uint8_t *from, size_t le
         uint64_t word = *words++;
         memcpy(to, &word, 8);
     }
-    in = (const volatile void *)words;
+    in = (const volatile uint8_t *)words;
     for (; length > 0; length--)
         *to++ = *in++;
 }
@@ -257,7 +266,7 @@ static inline bool balloon_copy_ring(struct balloon *balloon, const VbQueue *que
     uint16_t flags, index;
     if (!balloon_ring_word(balloon, queue->avail + 2, &index))
         return false;
-    atomic_thread_fence(memory_order_acquire);
+    __atomic_thread_fence(__ATOMIC_ACQUIRE);
     if (!balloon_ring_word(balloon, queue->avail, &flags))
         return false;
     uint16_t words[2] = { htole16(flags), htole16(index) };
@@ -290,7 +299,7 @@ static inline bool balloon_write_used(const struct balloon *balloon, const VbUse
         return false;
     *(volatile balloon_word32 *)id = htole32(used->id);
     *(volatile balloon_word32 *)length = htole32(used->length);
-    atomic_thread_fence(memory_order_release);
+    __atomic_thread_fence(__ATOMIC_RELEASE);
     *(volatile balloon_word16 *)index = htole16(used->index);
     return true;
 }
@@ -365,13 +374,19 @@ static inline uint32_t balloon_keep(struct balloon *balloon, const VbChain *chai
     return VB_OK;
 }
 
+/* Whether the driver is done, and neither it nor the device met a fault: only then a ring in a hole breaks a rule. */
+static inline bool balloon_is_ready(const VbDevice *device)
+{
+    return (device->status & (BALLOON_DRIVER_OK | BALLOON_NEEDS_RESET | BALLOON_FAILED)) == BALLOON_DRIVER_OK;
+}
+
 /* Serves the chain that stands next on a queue. */
 static inline uint32_t balloon_serve(struct balloon *balloon, uint32_t kind, struct balloon_result *result)
 {
     VbDevice *device = &balloon->state.device;
     const VbQueue *queue = balloon_queue(balloon, kind);
     size_t avail = 4 + 2u * queue->size, table = 16u * queue->size;
-    if (queue->size > 0 && !balloon_copy_ring(balloon, queue))
+    if (queue->size > 0 && !balloon_copy_ring(balloon, queue) && balloon_is_ready(device))
         return balloon_break(balloon, result);
     if (kind == VB_REPORT) {
         VbNamed named = vb_report(device, balloon->avail, avail, balloon->table, table, balloon->runs, VB_MAX_RUNS);
@@ -403,7 +418,7 @@ static inline void balloon_note_interrupt(const struct balloon *balloon, uint32_
                                           struct balloon_result *result)
 {
     uint16_t flags = 0;
-    atomic_thread_fence(memory_order_seq_cst);
+    __atomic_thread_fence(__ATOMIC_SEQ_CST);
     if (balloon_ring_word(balloon, queue->avail, &flags) && !(flags & 1))
         result->interrupts |= 1u << kind;
 }
@@ -413,7 +428,7 @@ static inline void balloon_note_interrupt(const struct balloon *balloon, uint32_
 /* The driver kicked the queue of this kind: serves what stands there, at most a queue's size of chains. */
 static inline struct balloon_result balloon_notify(struct balloon *balloon, uint32_t kind)
 {
-    struct balloon_result result = { .code = VB_NO_QUEUE };
+    struct balloon_result result = balloon_result_of(VB_NO_QUEUE);
     const VbQueue *queue = balloon_queue(balloon, kind);
     if (!queue)
         return result;
@@ -500,6 +515,41 @@ static inline uint32_t balloon_place(struct balloon *balloon, uint32_t kind, uin
     return VB_OK;
 }
 
+/* ---- saving */
+
+/* Puts all that the device is into `out`, as VB_STATE_BYTES bytes: as vb_save. The set of ballooned pages is the
+ * monitor's, and saved beside it. */
+static inline uint32_t balloon_save(const struct balloon *balloon, uint8_t *out, size_t room)
+{
+    return vb_save(&balloon->state.device, balloon->state.held, out, room);
+}
+
+/* Whether the parts of a queue are memory, where it has a place. */
+static inline bool balloon_holds_queue(const struct balloon *balloon, const VbQueue *queue)
+{
+    uint64_t size = queue->size;
+    return size == 0 || (balloon_holds(balloon, queue->table, 16 * size) && balloon_holds(balloon, queue->avail, 6 + 2 * size)
+                         && balloon_holds(balloon, queue->used, 6 + 8 * size));
+}
+
+/* Goes on where the balloon stood that was saved as these bytes, over regions that balloon_init was told of. VB_OK, as
+ * vb_restore, or VB_MISPLACED where memory ends elsewhere than it did, or a queue's part lies in a hole. Then nothing is
+ * changed. */
+static inline uint32_t balloon_restore(struct balloon *balloon, const uint8_t *bytes, size_t length)
+{
+    struct balloon_state state = balloon->state;
+    uint32_t code = vb_restore(&state.device, &state.held, bytes, length);
+    if (code != VB_OK)
+        return code;
+    if (state.device.settings.memory_end != balloon->state.device.settings.memory_end
+        || !balloon_holds_queue(balloon, &state.device.inflate) || !balloon_holds_queue(balloon, &state.device.deflate)
+        || !balloon_holds_queue(balloon, &state.device.statistics)
+        || !balloon_holds_queue(balloon, &state.device.report))
+        return VB_MISPLACED;
+    balloon->state = state;
+    return VB_OK;
+}
+
 /* Adds what one queue's result says to that of all. */
 static inline void balloon_add_result(struct balloon_result *all, const struct balloon_result *one)
 {
@@ -524,7 +574,7 @@ static inline void balloon_add_result(struct balloon_result *all, const struct b
 /* Looks at every queue once; one that the driver doesn't use is passed by. */
 static inline struct balloon_result balloon_notify_all(struct balloon *balloon)
 {
-    struct balloon_result all = { .code = VB_NOTHING };
+    struct balloon_result all = balloon_result_of(VB_NOTHING);
     for (uint32_t kind = VB_INFLATE; kind < VB_NO_KIND; kind++) {
         struct balloon_result one = balloon_notify(balloon, kind);
         balloon_add_result(&all, &one);
@@ -538,7 +588,7 @@ static inline uint32_t balloon_write_status(struct balloon *balloon, uint8_t sta
 {
     VbDevice *device = &balloon->state.device;
     uint8_t before = device->status;
-    *result = (struct balloon_result){ .code = VB_NOTHING };
+    *result = balloon_result_of(VB_NOTHING);
     uint32_t answer = vb_write_status(device, status);
     if (answer != 0)
         return answer;
@@ -581,7 +631,7 @@ static inline uint32_t balloon_write_config(struct balloon *balloon, uint32_t of
  * VB_NOTHING: the driver has the buffer. */
 static inline struct balloon_result balloon_ask_statistics(struct balloon *balloon)
 {
-    struct balloon_result result = { .code = VB_NOTHING };
+    struct balloon_result result = balloon_result_of(VB_NOTHING);
     if (!balloon->state.held)
         return result;
     result.code = balloon_give_back(balloon, VB_STATISTICS, balloon->state.held - 1, &result);

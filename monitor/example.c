@@ -16,11 +16,14 @@ static void kicked(struct balloon *balloon, uint32_t number)
 int main(void)
 {
     /* Guest memory as the monitor maps it: here 4 MiB from address 0 on. */
-    uint8_t *memory = mmap(NULL, 4 << 20, PROT_READ | PROT_WRITE, MAP_PRIVATE | MAP_ANONYMOUS, -1, 0);
+    void *mapped = mmap(NULL, 4 << 20, PROT_READ | PROT_WRITE, MAP_PRIVATE | MAP_ANONYMOUS, -1, 0);
+    uint8_t *memory = (uint8_t *)mapped;
     const struct balloon_region region = { 0, 4 << 20, memory, BALLOON_PRIVATE, 0 };
-    const VbSettings settings = { .offered = 1ull << 32 | 0x27, .skips_bad_pages = 1 };
+    static VbSettings settings;
+    settings.offered = 1ull << 32 | 0x27;
+    settings.skips_bad_pages = 1;
     static struct balloon balloon;
-    if (memory == MAP_FAILED || balloon_init(&balloon, &region, 1, settings) != VB_OK)
+    if (mapped == MAP_FAILED || balloon_init(&balloon, &region, 1, settings) != VB_OK)
         return 1;
 
     /* The driver's accesses, as the transport tells of them; each answer is 0, or why it is refused. */
@@ -33,10 +36,13 @@ int main(void)
     balloon_set_target(&balloon, 2);    /* and interrupt the guest for a change of configuration */
 
     /* The driver offers pages 513 and 512: their numbers, a descriptor, an entry with the index; then it kicks. */
+    const uint32_t pages[] = { 513, 512 };
+    const uint64_t descriptor[] = { 0x20000, 8 };
+    const uint16_t available[] = { 0, 1, 0 };
     memset(memory + 512 * 4096, 7, 2 * 4096);
-    memcpy(memory + 0x20000, (const uint32_t[]){ 513, 512 }, 8);
-    memcpy(memory + 0x10000, (const uint64_t[]){ 0x20000, 8 }, 16);
-    memcpy(memory + 0x11000, (const uint16_t[]){ 0, 1, 0 }, 6);
+    memcpy(memory + 0x20000, pages, sizeof pages);
+    memcpy(memory + 0x10000, descriptor, sizeof descriptor);
+    memcpy(memory + 0x11000, available, sizeof available);
     kicked(&balloon, 0);
     return refused || memory[512 * 4096] != 0 || memory[0x12002] != 1;
 }

@@ -3,6 +3,7 @@
 #ifndef GUEST_H
 #define GUEST_H
 #include "balloon.h"
+#include <stdatomic.h>
 #include <stdio.h>
 #include <stdlib.h>
 #include <unistd.h>

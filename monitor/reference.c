@@ -458,3 +458,204 @@ uint64_t vb_count_ballooned(const uint64_t *set, size_t words)
         count += (uint64_t)__builtin_popcountll(set[i]);
     return count;
 }
+
+/* ---- targets */
+
+/* Sums of any number of pages. */
+typedef unsigned __int128 Sum;
+
+uint32_t vb_spare(uint32_t pages, uint32_t ballooned, uint32_t free_pages, uint32_t free_known, uint32_t floor,
+                  uint32_t reserved)
+{
+    uint64_t above = free_known && free_pages > floor ? free_pages - floor : 0;
+    uint64_t most = pages > reserved ? pages - reserved : 0;
+    return (uint32_t)(ballooned + above < most ? ballooned + above : most);
+}
+
+static Sum missing_pages(const VbNeed *needs, size_t count, uint32_t frames)
+{
+    Sum pages = 0;
+    for (size_t i = 0; i < count; i++)
+        pages += needs[i].pages;
+    return pages > frames ? pages - frames : 0;
+}
+
+/* Whether a guest gives before another one: most spare first, then the first in order. */
+static bool gives_before(const VbNeed *needs, size_t guest, size_t other)
+{
+    return needs[guest].spare > needs[other].spare || (needs[guest].spare == needs[other].spare && guest < other);
+}
+
+/* What the guests that give before this one can spare together; of all guests, where it is past the last one. */
+static Sum spared_before(const VbNeed *needs, size_t count, size_t guest)
+{
+    Sum pages = 0;
+    for (size_t i = 0; i < count; i++)
+        pages += guest == count || gives_before(needs, i, guest) ? needs[i].spare : 0;
+    return pages;
+}
+
+VbTargets vb_targets(const VbNeed *needs, size_t count, uint32_t frames, uint32_t *targets, size_t room)
+{
+    Sum lack = missing_pages(needs, count, frames), spare = spared_before(needs, count, count);
+    if (room != count)
+        return (VbTargets){ .code = VB_BAD_ARGUMENT };
+    if (lack > spare)
+        return (VbTargets){ .code = VB_SHORT, .missing = lack - spare > UINT64_MAX ? UINT64_MAX : (uint64_t)(lack - spare) };
+    for (size_t i = 0; i < count; i++) {
+        Sum before = spared_before(needs, count, i), left = lack > before ? lack - before : 0;
+        targets[i] = left < needs[i].spare ? (uint32_t)left : needs[i].spare;
+    }
+    return (VbTargets){ .code = VB_OK };
+}
+
+uint32_t vb_needs_targets(const uint32_t *old_targets, size_t old_count, const VbNeed *needs, size_t count,
+                          uint32_t frames)
+{
+    Sum asked = 0;
+    if (old_count != count)
+        return 1;
+    for (size_t i = 0; i < count; i++) {
+        if (old_targets[i] > needs[i].spare)
+            return 1;
+        asked += old_targets[i];
+    }
+    return asked < missing_pages(needs, count, frames);
+}
+
+/* ---- versions and saved states */
+
+uint32_t vb_version(void) { return VB_VERSION_NUMBER; }
+
+enum { STATE_SUM_AT = VB_STATE_BYTES - 8 };
+static const uint8_t STATE_BEGINS[16] = { 'V', 'B', 'S', 'T', 'A', 'T', 'E', 0, 1, 0, 0, 0, VB_STATE_BYTES, 0, 0, 0 };
+
+/* Where a number stands in a saved state, or is read from it. */
+typedef struct { uint8_t *at; bool writes; } Cursor;
+
+static void number(Cursor *cursor, void *field, size_t bytes)
+{
+    if (cursor->writes)
+        memcpy(cursor->at, field, bytes);
+    else
+        memcpy(field, cursor->at, bytes);
+    cursor->at += bytes;
+}
+
+#define NUMBER(field) number(cursor, &(field), sizeof(field))
+
+static void ring_numbers(Cursor *cursor, VbQueue *queue)
+{
+    NUMBER(queue->table);
+    NUMBER(queue->avail);
+    NUMBER(queue->used);
+    NUMBER(queue->size);
+    NUMBER(queue->next_avail);
+    NUMBER(queue->next_used);
+}
+
+static void state_numbers(Cursor *cursor, VbDevice *device, uint32_t *held)
+{
+    NUMBER(device->settings.memory_end);
+    NUMBER(device->settings.offered);
+    NUMBER(device->settings.reserved_pages);
+    NUMBER(device->settings.needs_must_tell);
+    NUMBER(device->settings.skips_bad_pages);
+    NUMBER(device->features);
+    NUMBER(device->target);
+    NUMBER(device->actual);
+    NUMBER(*held);
+    NUMBER(device->status);
+    ring_numbers(cursor, &device->inflate);
+    ring_numbers(cursor, &device->deflate);
+    ring_numbers(cursor, &device->statistics);
+    ring_numbers(cursor, &device->report);
+}
+
+/* FNV-1a with 64 bits. */
+static uint64_t state_sum(const uint8_t *bytes)
+{
+    uint64_t sum = 0xcbf29ce484222325;
+    for (int i = 0; i < STATE_SUM_AT; i++)
+        sum = (sum ^ bytes[i]) * 0x100000001b3;
+    return sum;
+}
+
+static bool is_status(uint8_t status)
+{
+    uint8_t steps = status & (ACKNOWLEDGE | DRIVER | FEATURES_OK | DRIVER_OK);
+    bool in_order = steps == 0 || steps == 1 || steps == 3 || steps == 11 || steps == 15;
+    return in_order && !(status & 48) && (!(status & NEEDS_RESET) || (status & DRIVER_OK));
+}
+
+static bool are_agreed(const VbDevice *device)
+{
+    bool needed = (device->features & VERSION_1)
+        && (!device->settings.needs_must_tell || (device->features & MUST_TELL_HOST));
+    return !(device->features & ~device->settings.offered) && ((device->status & DRIVER) || !device->features)
+        && (!(device->status & FEATURES_OK) || needed);
+}
+
+static bool is_ring(const VbDevice *device, uint32_t kind)
+{
+    VbDevice early = *device, placing = *device;
+    const VbQueue blank = { .size = 0 }, queue = *queue_of(&early, kind);
+    bool moved = queue.next_avail || queue.next_used;
+    if (memcmp(&queue.table, &blank.table, 24) == 0 && !queue.size && !moved)
+        return true;
+    placing.status = 0;
+    placing.features = device->status & DRIVER ? device->settings.offered : 0;
+    return vb_place(&placing, kind, queue.table, queue.avail, queue.used, queue.size) == VB_OK
+        && (!moved || ((device->status & DRIVER_OK) && !lacks_feature(device, kind)));
+}
+
+/* Whether calls lead to this device, with this buffer of statistics held. */
+static bool is_possible(const VbDevice *device, uint32_t held)
+{
+    return !are_impossible(&device->settings) && is_status(device->status) && are_agreed(device)
+        && is_ring(device, VB_INFLATE) && is_ring(device, VB_DEFLATE) && is_ring(device, VB_STATISTICS)
+        && is_ring(device, VB_REPORT)
+        && (!held || ((device->status & DRIVER_OK) && !lacks_feature(device, VB_STATISTICS)
+                      && held <= device->statistics.size));
+}
+
+uint32_t vb_save(const VbDevice *device, uint32_t held, uint8_t *out, size_t room)
+{
+    VbDevice copy = *device;
+    Cursor cursor = { out + sizeof STATE_BEGINS, true };
+    if (room < VB_STATE_BYTES)
+        return VB_BAD_LENGTH;
+    if (!is_possible(device, held))
+        return VB_IMPOSSIBLE;
+    memcpy(out, STATE_BEGINS, sizeof STATE_BEGINS);
+    state_numbers(&cursor, &copy, &held);
+    uint64_t sum = state_sum(out);
+    number(&cursor, &sum, 8);
+    return VB_OK;
+}
+
+uint32_t vb_restore(VbDevice *device, uint32_t *held, const uint8_t *bytes, size_t length)
+{
+    VbDevice restored;
+    uint32_t head;
+    uint8_t copy[VB_STATE_BYTES];
+    memset(&restored, 0, sizeof restored);
+    if (length < sizeof STATE_BEGINS)
+        return VB_BAD_LENGTH;
+    if (memcmp(bytes, STATE_BEGINS, 8) != 0)
+        return VB_NOT_A_STATE;
+    if (little(bytes + 8, 4) != 1)
+        return VB_OTHER_VERSION;
+    if (little(bytes + 12, 4) != VB_STATE_BYTES || length != VB_STATE_BYTES)
+        return VB_BAD_LENGTH;
+    if (little(bytes + STATE_SUM_AT, 8) != state_sum(bytes))
+        return VB_BAD_SUM;
+    memcpy(copy, bytes, sizeof copy);
+    Cursor cursor = { copy + sizeof STATE_BEGINS, false };
+    state_numbers(&cursor, &restored, &head);
+    if (!is_possible(&restored, head))
+        return VB_IMPOSSIBLE;
+    *device = restored;
+    *held = head;
+    return VB_OK;
+}

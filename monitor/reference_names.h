@@ -17,4 +17,10 @@
 #define vb_mark reference_mark
 #define vb_is_ballooned reference_is_ballooned
 #define vb_count_ballooned reference_count_ballooned
+#define vb_targets reference_targets
+#define vb_spare reference_spare
+#define vb_needs_targets reference_needs_targets
+#define vb_version reference_version
+#define vb_save reference_save
+#define vb_restore reference_restore
 #endif

@@ -13,14 +13,21 @@ MONITOR = os.path.join(ROOT, "monitor")
 HEADERS = os.path.join(ROOT, "crates/vb_c")
 LIBRARY = os.path.join(ROOT, "crates", "vb_c", "out", "libvb_c.a")
 
-# The backends' files in monitor: of both, of each, and what a build for tests has besides.
-PARTS = ("backend/backend", "backend/control", "backend/guest_memory", "backend/loop", "backend/stream")
-CLIENT_PARTS = {"vhost_user_balloon": ("backend/client", "backend/vhost_user"), "pci_proxy_balloon": ("backend/virtio_pci",)}
-AUDIT_PARTS = ("backend/audit", "backend/wrong")
+# The backends' files in monitor: of all, of each, and what a build for tests has besides.
+PARTS = ("backend/backend", "backend/control", "backend/guest_memory", "backend/stream")
+CLIENT_PARTS = {
+    "vhost_user_balloon": ("backend/loop", "backend/client", "backend/vhost_user"),
+    "pci_proxy_balloon": ("backend/loop", "backend/virtio_pci"),
+    "vhost_user_host": (
+        "backend/client", "backend/vhost_user", "backend/inbox",
+        *(f"host/{it}" for it in ("guard", "journal", "lines", "loop", "policy", "seats")),
+    ),
+}
+AUDIT_PARTS, WRONG_PARTS = ("backend/audit", "backend/wrong"), ("host/wrong",)
 FLAGS = ("-std=c11", "-O2", "-Wall", "-Wextra", "-Werror")
 
-# What a wrong device gets in its hands: see monitor/backend/wrong.c.
-WRAPPED = ("vb_name", "vb_use", "poll")
+# What a wrong device and a wrong host get in their hands: see monitor/backend/wrong.c and monitor/host/wrong.c.
+AUDIT_WRAPPED, WRONG_WRAPPED = ("vb_name", "vb_use", "poll"), ("vb_targets", "vb_spare", "vb_needs_targets")
 
 # A guest's command line, whatever it runs under.
 KERNEL_WORDS = ("rdinit=/init", "panic=-1", "loglevel=1")
@@ -97,14 +104,15 @@ def core_of(reference=False):
     return path
 
 
-def build(folder, core, name="vhost_user_balloon", audited=False, flags=()):
-    """Compiles a backend over this core into a folder, with more flags, and returns its path."""
+def build(folder, core, name="vhost_user_balloon", audited=False, wrong=False, flags=()):
+    """Compiles a backend over this core into a folder, with more flags, and returns its path: one for tests that looks at the
+    device, or a host that is wrong on purpose."""
     program = os.path.join(folder, name)
-    names = (name, *CLIENT_PARTS[name], *PARTS, *(AUDIT_PARTS if audited else ()))
+    names = (name, *CLIENT_PARTS[name], *PARTS, *(AUDIT_PARTS if audited else ()), *(WRONG_PARTS if wrong else ()))
     parts = [os.path.join(MONITOR, f"{it}.c") for it in names]
+    wrapped = (*(AUDIT_WRAPPED if audited else ()), *(WRONG_WRAPPED if wrong else ()))
     words = [need("cc", "gcc libc6-dev"), *FLAGS, *flags, "-I", MONITOR, "-I", HEADERS, "-o", program, *parts, core]
-    if audited:
-        words += ["-DBALLOON_AUDIT", *(f"-Wl,--wrap={it}" for it in WRAPPED)]
+    words += [*(["-DBALLOON_AUDIT"] if audited else []), *(f"-Wl,--wrap={it}" for it in wrapped)]
     ran = subprocess.run(words, capture_output=True, text=True)
     if ran.returncode != 0:
         raise Fault(f"{core} and monitor/*.c don't build:\n{ran.stderr.strip()}")
@@ -141,7 +149,7 @@ def enough_room(memory):
     room = os.statvfs("/dev/shm")
     free = room.f_bavail * room.f_frsize >> 20
     if free < memory:
-        raise Missing(f"/dev/shm has {free} MiB free, and the guest wants {memory}: mount -o remount,size={memory + 64}M /dev/shm")
+        raise Missing(f"/dev/shm has {free} MiB free, and {memory} are wanted for guests: mount -o remount,size={memory + 64}M /dev/shm")
 
 
 class Uml:

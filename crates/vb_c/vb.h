@@ -1,7 +1,7 @@
 /* Bigvasta: what a traditional memory balloon device (VIRTIO 1.1, 5.5) decides, proved for any bytes.
  *
- * The library keeps nothing: a device is one plain struct in the caller's memory, so that copying the
- * struct saves and restores it. It allocates nothing, touches no guest memory and discards nothing: it
+ * The library keeps nothing: a device is one plain struct in the caller's memory, which may be copied; vb_save
+ * makes bytes of it that another version or machine reads. It allocates nothing, touches no guest memory and discards nothing: it
  * reads private copies that the caller makes, and answers what is to be done. Any argument gets an answer
  * or a named refusal, but that a pointer with a length must point to that many elements (or the length is
  * 0), and that one call at a time works on a device.
@@ -13,6 +13,19 @@
 #include <stddef.h>
 #include <stdint.h>
 
+#ifdef __cplusplus
+extern "C" {
+#define VB_ASSERT(what) static_assert(what, #what)
+#else
+#define VB_ASSERT(what) _Static_assert(what, #what)
+#endif
+
+/* The version of this header. Until 1.0.0 the second number changes with each change that a caller may have to follow,
+ * else the third one. vb_version says the library's: it has to be VB_VERSION_NUMBER, or to differ in the third number
+ * alone. */
+#define VB_VERSION "0.1.0"
+#define VB_VERSION_NUMBER 0x000100u     /* 65536 times the first number, 256 times the second, and the third */
+
 enum {                          /* answers: `code` */
     VB_OK = 0,
     VB_NOTHING = 1,             /* no chain is available */
@@ -22,6 +35,12 @@ enum {                          /* answers: `code` */
     VB_NO_QUEUE = 5,            /* no queue of that kind, or not with the negotiated features */
     VB_MISPLACED = 6,           /* the queue has no place, or copies don't have its size */
     VB_BAD_ARGUMENT = 7,        /* too little room, a head that is no descriptor, settings out of range */
+    VB_SHORT = 8,               /* the guests can't spare enough (vb_targets) */
+    VB_BAD_LENGTH = 9,          /* of a saved state: more or fewer bytes than it has (vb_save: less room) */
+    VB_NOT_A_STATE = 10,        /* the bytes don't begin as a saved state does */
+    VB_OTHER_VERSION = 11,      /* of the format of saved states */
+    VB_BAD_SUM = 12,            /* the bytes aren't those that were saved */
+    VB_IMPOSSIBLE = 13,         /* no calls lead to a device like that */
 };
 enum {                          /* kinds of queues, whatever their numbers are */
     VB_INFLATE = 0, VB_DEFLATE = 1, VB_STATISTICS = 2, VB_REPORT = 3, VB_NO_KIND = 4,
@@ -29,7 +48,7 @@ enum {                          /* kinds of queues, whatever their numbers are *
 /* Rules (of VB_BROKEN): 1 bad head, 2 bad next, 3 chain too long, 4 indirect, 5 wrong direction,
  * 6 out of memory, 7 available index jumps, 8 bad length, 9 bad page, 10 reserved page. */
 
-enum { VB_MAX_QUEUE_SIZE = 256, VB_MAX_PIECES = 256, VB_MAX_RUNS = 256, VB_MAX_BYTES = 1024 };
+enum { VB_MAX_QUEUE_SIZE = 256, VB_MAX_PIECES = 256, VB_MAX_RUNS = 256, VB_MAX_BYTES = 1024, VB_STATE_BYTES = 187 };
 
 typedef struct {
     uint64_t memory_end;        /* bytes: where guest memory ends, from 8192 on and below 2^44; the last part of a page
@@ -63,7 +82,34 @@ typedef struct { uint32_t code, rule, head, runs, pages, skipped; } VbNamed;
 typedef struct { uint32_t code, rule, count; } VbFigures;
 typedef struct { uint32_t code; uint64_t element_at, index_at; uint32_t id, length; uint16_t index; } VbUsed;
 typedef struct { uint32_t code; uint64_t pages; } VbMarked;
+typedef struct { uint32_t pages, spare; } VbNeed;                 /* a guest's pages, and how many it can spare */
+typedef struct { uint32_t code; uint64_t missing; } VbTargets;
 
+/* What the library was compiled to have: on every machine that it is for, structs are as here. */
+VB_ASSERT(sizeof(VbSettings) == 24 && offsetof(VbSettings, offered) == 8 && offsetof(VbSettings, reserved_pages) == 16
+          && offsetof(VbSettings, needs_must_tell) == 20 && offsetof(VbSettings, skips_bad_pages) == 21);
+VB_ASSERT(sizeof(VbQueue) == 32 && offsetof(VbQueue, avail) == 8 && offsetof(VbQueue, used) == 16
+          && offsetof(VbQueue, size) == 24 && offsetof(VbQueue, next_avail) == 26 && offsetof(VbQueue, next_used) == 28);
+VB_ASSERT(sizeof(VbDevice) == 176 && offsetof(VbDevice, settings) == 0 && offsetof(VbDevice, features) == 24
+          && offsetof(VbDevice, target) == 32 && offsetof(VbDevice, actual) == 36 && offsetof(VbDevice, inflate) == 40
+          && offsetof(VbDevice, deflate) == 72 && offsetof(VbDevice, statistics) == 104
+          && offsetof(VbDevice, report) == 136 && offsetof(VbDevice, status) == 168);
+VB_ASSERT(sizeof(VbPiece) == 16 && offsetof(VbPiece, length) == 8 && offsetof(VbPiece, writable) == 12);
+VB_ASSERT(sizeof(VbRun) == 8 && offsetof(VbRun, count) == 4);
+VB_ASSERT(sizeof(VbStatistic) == 16 && offsetof(VbStatistic, value) == 8);
+VB_ASSERT(sizeof(VbChain) == 20 && offsetof(VbChain, rule) == 4 && offsetof(VbChain, head) == 8
+          && offsetof(VbChain, pieces) == 12 && offsetof(VbChain, bytes) == 16);
+VB_ASSERT(sizeof(VbNamed) == 24 && offsetof(VbNamed, rule) == 4 && offsetof(VbNamed, head) == 8
+          && offsetof(VbNamed, runs) == 12 && offsetof(VbNamed, pages) == 16 && offsetof(VbNamed, skipped) == 20);
+VB_ASSERT(sizeof(VbFigures) == 12 && offsetof(VbFigures, rule) == 4 && offsetof(VbFigures, count) == 8);
+VB_ASSERT(sizeof(VbUsed) == 40 && offsetof(VbUsed, element_at) == 8 && offsetof(VbUsed, index_at) == 16
+          && offsetof(VbUsed, id) == 24 && offsetof(VbUsed, length) == 28 && offsetof(VbUsed, index) == 32);
+VB_ASSERT(sizeof(VbMarked) == 16 && offsetof(VbMarked, pages) == 8);
+VB_ASSERT(sizeof(VbNeed) == 8 && offsetof(VbNeed, spare) == 4);
+VB_ASSERT(sizeof(VbTargets) == 16 && offsetof(VbTargets, missing) == 8);
+
+/* The version of the library, as VB_VERSION_NUMBER. */
+uint32_t vb_version(void);
 /* Makes a device that waits for its driver. VB_OK or VB_BAD_ARGUMENT. */
 uint32_t vb_new(VbDevice *device, VbSettings settings);
 /* The host wants so many pages in the balloon: tell the driver of the change of configuration. */
@@ -107,6 +153,17 @@ VbFigures vb_statistics(VbDevice *device, const uint8_t *bytes, size_t length, V
  * that is no descriptor of the queue, which has none without a place, is VB_BAD_ARGUMENT. */
 VbUsed vb_use(VbDevice *device, uint32_t kind, uint32_t head);
 
+/* Puts the device into the front of `out`, as VB_STATE_BYTES bytes that vb_restore takes: little-endian numbers of a
+ * format with a version, a length and a checksum (docs/INTEGRATION.md has it). `held` is 1 more than the head of the
+ * statistics buffer that was taken and waits for its vb_use; 0 where none does. VB_OK; VB_BAD_LENGTH where there is less
+ * room; VB_IMPOSSIBLE where no calls lead to such a device: a struct that was written to, memory_end set below a queue's
+ * place, or a `held` that is no descriptor of the queue. Then nothing is changed. */
+uint32_t vb_save(const VbDevice *device, uint32_t held, uint8_t *out, size_t room);
+/* Makes `device` and `held` those that were saved as these bytes. VB_OK, or, tested in this order, VB_BAD_LENGTH where
+ * there are fewer than 16; VB_NOT_A_STATE; VB_OTHER_VERSION; VB_BAD_LENGTH; VB_BAD_SUM; VB_IMPOSSIBLE. Then nothing is
+ * changed. What is restored is just what vb_save made of it. */
+uint32_t vb_restore(VbDevice *device, uint32_t *held, const uint8_t *bytes, size_t length);
+
 /* The set of the pages in the balloon, for a monitor that wants to know them: words of its own, where page p is bit
  * p % 64 of word p / 64. Zeros are the empty set, and so it is again once the driver resets the device. */
 
@@ -119,7 +176,29 @@ uint32_t vb_is_ballooned(const uint64_t *set, size_t words, uint32_t page);
 /* How many pages are in the set: all words are looked at. */
 uint64_t vb_count_ballooned(const uint64_t *set, size_t words);
 
+/* For a host of several guests, which has fewer frames than they have pages together: what to ask each of them for. */
+
+/* How many pages a guest can spare: those in the balloon, and the free ones above the floor (none where free_known is
+ * 0: no statistics say so); at most its pages that aren't reserved. */
+uint32_t vb_spare(uint32_t pages, uint32_t ballooned, uint32_t free_pages, uint32_t free_known, uint32_t floor,
+                  uint32_t reserved);
+/* Puts a target for each guest into `targets`, in the order of the needs, so that this many frames suffice: what is
+ * missing is given by the guests of most spare first, and of these by the first in order, by each at most its spare.
+ * However many guests there are, it looks at each need at most 37 times. VB_OK; VB_BAD_ARGUMENT where room isn't count;
+ * VB_SHORT where all that they can spare together is too little by `missing` pages (2^64 - 1 where it is more); then no
+ * target is changed. */
+VbTargets vb_targets(const VbNeed *needs, size_t count, uint32_t frames, uint32_t *targets, size_t room);
+/* 1 where targets that were set before no longer serve: there isn't one for each guest, or together they are less than
+ * what is missing, or a guest is asked for more than it can spare. Else 0: they may stay, so that targets don't swing. */
+uint32_t vb_needs_targets(const uint32_t *old_targets, size_t old_count, const VbNeed *needs, size_t count,
+                          uint32_t frames);
+
 /* Refusals of the calls on a device are tested in this order: VB_NO_QUEUE for a kind that the call isn't for,
  * VB_BAD_ARGUMENT, VB_NOT_READY, VB_NEEDS_RESET, VB_NO_QUEUE for a feature, VB_MISPLACED; then VB_BROKEN, VB_NOTHING or
  * VB_OK. */
+
+#undef VB_ASSERT
+#ifdef __cplusplus
+}
+#endif
 #endif

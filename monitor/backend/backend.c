@@ -4,15 +4,28 @@
 #include <stdarg.h>
 #include <stdio.h>
 
+const char *served_name;
+
 bool refuse(const char *format, ...)
 {
     va_list words;
     va_start(words, format);
-    fputs("refused: ", stderr);
+    if (served_name)
+        fprintf(stderr, "refused %s: ", served_name);
+    else
+        fputs("refused: ", stderr);
     vfprintf(stderr, format, words);
     fputc('\n', stderr);
     va_end(words);
     return false;
+}
+
+/* How many of these pages left the balloon below its target: the guest took them back by itself. */
+static uint64_t taken_of(const struct balloon *balloon, uint64_t pages)
+{
+    uint64_t left = balloon->ballooned ? vb_count_ballooned(balloon->ballooned, balloon->ballooned_words) : UINT64_MAX;
+    uint64_t below = left < balloon->state.device.target ? balloon->state.device.target - left : 0;
+    return below < pages ? below : pages;
 }
 
 /* Counts the pages of a request that was served. */
@@ -26,6 +39,7 @@ static void count_pages(void *context, uint32_t kind, const VbRun *runs, uint32_
     backend->counters.deflated += kind == VB_DEFLATE ? pages : 0;
     backend->counters.reported += kind == VB_REPORT ? pages : 0;
     backend->counters.reports += kind == VB_REPORT;
+    backend->counters.taken += kind == VB_DEFLATE ? taken_of(&backend->balloon, pages) : 0;
     audit_pages(backend, kind);
 }
 

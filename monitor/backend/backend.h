@@ -17,6 +17,7 @@ struct counters {
     uint64_t inflated, deflated, reported;      /* pages */
     uint64_t reports, skipped, in_holes, kept;
     uint64_t statistics;                        /* how often the guest told its own */
+    uint64_t taken;                             /* pages that left the balloon below its target, where a set is kept */
 };
 
 struct backend {
@@ -33,6 +34,8 @@ struct backend {
     bool (*tell)(struct backend *backend, int queue);
     /* For a client that has to be poked now and then; or NULL. */
     void (*idle)(struct backend *backend);
+    /* Whether the host has room for the memory that was handed over, else says why not; or NULL: it always has. */
+    bool (*admit)(struct backend *backend);
     bool drops_nothing;
     bool gone;                  /* the client doesn't take answers any longer */
 };
@@ -42,6 +45,9 @@ struct options {
     uint64_t features;
     bool strict, keep;
 };
+
+/* Whose client is served just now, for what is said of it; NULL where there is one client alone. */
+extern const char *served_name;
 
 /* Says on standard error why the guest isn't served any longer; returns false. */
 bool refuse(const char *format, ...) __attribute__((format(printf, 1, 2)));

@@ -104,7 +104,7 @@ static enum outcome set_mem_table(struct backend *backend, struct message *messa
     if (balloon_set_regions(&backend->balloon, backend->memory.regions, count) != VB_OK
         || device_of(backend)->settings.memory_end >= MOST_MEMORY)
         return refuse("the guest's memory ends too far up"), STOP;
-    return DONE;
+    return !backend->admit || backend->admit(backend) ? DONE : STOP;
 }
 
 /* The queue that a message names, or NULL. */

@@ -68,3 +68,11 @@ uint64_t memory_held(const struct guest_memory *memory)
             blocks += (uint64_t)file.st_blocks;
     return blocks / 2;
 }
+
+uint64_t memory_pages(const struct guest_memory *memory)
+{
+    uint64_t pages = 0;
+    for (unsigned i = 0; i < memory->count; i++)
+        pages += (memory->regions[i].length + BALLOON_PAGE - 1) / BALLOON_PAGE;
+    return pages;
+}

@@ -28,4 +28,7 @@ bool memory_of_user(const struct guest_memory *memory, uint64_t user, uint64_t *
 /* What the files hold on the host, in KiB. */
 uint64_t memory_held(const struct guest_memory *memory);
 
+/* How many pages the regions have. */
+uint64_t memory_pages(const struct guest_memory *memory);
+
 #endif

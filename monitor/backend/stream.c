@@ -36,7 +36,7 @@ static void keep_files(struct files *files, const struct cmsghdr *part)
     }
 }
 
-int stream_receive(int socket, void *to, size_t length, struct files *files)
+ssize_t stream_part(int socket, void *to, size_t length, struct files *files)
 {
     union {
         char bytes[CMSG_SPACE(MOST_FILES * sizeof(int))];
@@ -45,13 +45,21 @@ int stream_receive(int socket, void *to, size_t length, struct files *files)
     struct iovec part = {to, length};
     struct msghdr header = {
         .msg_iov = &part, .msg_iovlen = 1, .msg_control = &control, .msg_controllen = sizeof control.bytes};
-    files->count = 0;
     ssize_t got = recvmsg(socket, &header, MSG_CMSG_CLOEXEC);
-    if (got <= 0)
-        return got < 0 && errno != ECONNRESET ? -1 : 0;
+    if (got < 0)
+        return errno == ECONNRESET ? 0 : -1;
     for (struct cmsghdr *it = CMSG_FIRSTHDR(&header); it; it = CMSG_NXTHDR(&header, it))
         if (it->cmsg_level == SOL_SOCKET && it->cmsg_type == SCM_RIGHTS)
             keep_files(files, it);
+    return got;
+}
+
+int stream_receive(int socket, void *to, size_t length, struct files *files)
+{
+    files->count = 0;
+    ssize_t got = stream_part(socket, to, length, files);
+    if (got <= 0)
+        return (int)got;
     return stream_read(socket, (uint8_t *)to + got, length - (size_t)got);
 }
 

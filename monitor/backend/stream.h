@@ -3,6 +3,7 @@
 #define STREAM_H
 #include <stddef.h>
 #include <stdint.h>
+#include <sys/types.h>
 
 enum { MOST_FILES = 8 };
 
@@ -10,6 +11,10 @@ struct files {
     int numbers[MOST_FILES];
     unsigned count;
 };
+
+/* Reads some of these bytes, and adds the files that come beside them: how many bytes; 0 where the stream has ended; -1,
+ * with errno. */
+ssize_t stream_part(int socket, void *to, size_t length, struct files *files);
 
 /* Reads so many bytes: 1; 0 where the stream ends before; -1 at a fault. */
 int stream_read(int socket, void *to, size_t length);

@@ -1,1 +1,3 @@
-pub mod Rounds
+pub mod Spares
+pub mod Shares
+mod PolicyFacts

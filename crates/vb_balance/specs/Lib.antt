@@ -1,1 +1,3 @@
-pub mod Giving
+pub mod Levels
+pub mod Serving
+pub mod Sharing

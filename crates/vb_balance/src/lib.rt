@@ -1,10 +1,15 @@
 //! How many pages each guest is asked to give, so that the host's frames suffice (profile).
 #![tactic(auto)]
 
+mod levels;
+mod memory;
 mod need;
+mod serving;
 mod sharing;
 #[cfg(test)]
 mod tests;
 
-pub use need::{GuestNeed, Short, Targets};
-pub use sharing::{targets, targets_are_unique};
+pub use memory::{GuestMemory, spare};
+pub use need::{GuestNeed, NoTargets, Short, Targets};
+pub use serving::needs_targets;
+pub use sharing::{targets, targets_are_unique, targets_into};

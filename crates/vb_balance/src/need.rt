@@ -1,6 +1,6 @@
 //! What guests have and can spare, and what they are asked to give.
 
-ghost use Rattle.std.specs.Prelude.{◌≡◌};
+ghost use Rattle.std.specs.Prelude.{◌≡◌, ◌-◌, ◌^◌, min};
 
 use arrayvec::ArrayVec;
 use std::marker::Model;
@@ -11,6 +11,7 @@ use vb_model::limits::MAX_GUESTS;
 pub(crate) const GUESTS: usize = MAX_GUESTS as usize;
 
 /// What a guest has, and what it can spare, in pages.
+#[repr(C)]
 #[derive(Clone, Copy, Debug, Default, PartialEq, Eq)]
 pub struct GuestNeed {
     /// Its pages.
@@ -63,6 +64,27 @@ impl Targets {
 /// The guests cannot spare enough.
 #[derive(Clone, Copy, Debug, PartialEq, Eq)]
 pub struct Short {
-    /// How many pages stay missing if all give what they can.
+    /// How many pages stay missing if all give what they can; at most `u64::MAX` is told.
     pub missing: u64,
+}
+
+/// Why no targets were set.
+#[derive(Clone, Copy, Debug, PartialEq, Eq)]
+pub enum NoTargets {
+    /// There isn't just one place for each guest.
+    OtherLength,
+    /// The guests cannot spare enough.
+    Short(Short),
+}
+
+impl Short {
+    /// Short by so many pages.
+    pub(crate) fn by(missing: u128) -> Short
+        ensures { result ≡ record { missing = min missing (2 ^ 64 - 1) } }
+    {
+        let most = u128::from(u64::MAX);
+        Short {
+            missing: missing.min(most) as u64,
+        }
+    }
 }

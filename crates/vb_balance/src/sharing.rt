@@ -1,70 +1,96 @@
 //! Sharing out what is missing.
 
-ghost use Rattle.std.specs.Prelude.{◌≡◌, ℕ, ◌+◌, ◌<◌, ◌≤◌, List, true, false, length};
-ghost use Rattle.std.specs.Prelude.{replicate, nat_lt, MatchOption, MatchResult};
+ghost use Rattle.std.specs.Prelude.{◌≡◌, ℕ, ◌*◌, ◌<◌, ◌≤◌, List, length, min};
+ghost use Rattle.std.specs.Prelude.{MatchOption, MatchResult};
 ghost use Rattle.vb_model.specs.Balance.{Need, AreTargets, missing, shortage};
-ghost use Rattle.vb_balance.specs.Giving.{has_given, IsNext, HaveGiven};
+ghost use Rattle.vb_balance.specs.Levels.{spared_from, AreGiven};
+ghost use Rattle.vb_balance.specs.Sharing.{SharesInto};
 
+use crate::levels::{level_for, missing, spared, spared_above};
 use crate::need::GUESTS;
-use crate::{GuestNeed, Short, Targets};
+use crate::{GuestNeed, NoTargets, Short, Targets};
 use arrayvec::ArrayVec;
 use vb_model::limits::MAX_GUESTS;
 
-fn spares_more(one: &GuestNeed, other: &GuestNeed) -> bool
-    ensures { result ≡ nat_lt other.now.spare one.now.spare }
+/// What a guest gives that can spare so much: all of it above the level, nothing below, and at the
+/// level no more than is left.
+fn asked(spare: u32, level: u32, left: u128) -> u32
+    ensures above { level < spare → result ≡ spare }
+    ensures below { spare < level → result ≡ 0 }
+    ensures at_it { spare ≡ level → result ≡ min level left }
 {
-    one.spare > other.spare
+    if spare > level {
+        spare
+    } else if spare < level {
+        0
+    } else {
+        u128::from(level).min(left) as u32
+    }
 }
 
-/// The guest that gives next: of those that haven't, one of most spare, and of these the first.
-fn next_to_give(needs: &[GuestNeed], gave: &[bool]) -> Option<usize>
-    requires { length gave.now ≡ length needs.now }
-    ensures { MatchOption result
-        ((i : ℕ) → i < length needs.now → has_given gave.now i ≡ true)
-        (IsNext needs.now gave.now) }
+/// Sets the targets by the level, with so much for those at the level; answers what is left of it.
+fn give(needs: &[GuestNeed], level: u32, rest: u128, targets: &mut [u32]) -> u128
+    requires { length targets.old ≡ length needs.now }
+    ensures { AreGiven needs.now level rest (length needs.now) targets.new result }
 {
-    let mut next: Option<usize> = None;
+    let mut left = rest;
     for i in 0..needs.len() {
-        if gave[i] {
-            continue;
+        let need = &needs[i];
+        let pages = asked(need.spare, level, left);
+        targets[i] = pages;
+        if need.spare == level {
+            left -= u128::from(pages);
         }
-        match next {
-            Some(best) if !spares_more(&needs[i], &needs[best]) => {}
-            _ => next = Some(i),
-        }
-    }
-    next
-}
-
-/// How many pages more than frames there are.
-fn missing(needs: &[GuestNeed], frames: u32) -> u64
-    requires { length needs.now ≤ MAX_GUESTS }
-    ensures { result ≡ missing needs.now frames }
-{
-    let mut pages: u64 = 0;
-    for need in needs {
-        pages += u64::from(need.pages);
-    }
-    pages.saturating_sub(u64::from(frames))
-}
-
-/// Shares out what is missing.
-fn share(needs: &[GuestNeed], frames: u32, targets: &mut [u32], gave: &mut [bool]) -> u64
-    requires few { length needs.now ≤ MAX_GUESTS }
-    requires targets { targets.old ≡ replicate (length needs.now) 0 }
-    requires gave { gave.old ≡ replicate (length needs.now) false }
-    ensures given { HaveGiven needs.now frames gave.new targets.new result }
-    ensures all { (i : ℕ) → i < length needs.now → has_given gave.new i ≡ true }
-{
-    let mut left = missing(needs, frames);
-    while let Some(giver) = next_to_give(needs, gave) {
-        let need = &needs[giver];
-        let pages = u64::from(need.spare).min(left);
-        targets[giver] = pages as u32;
-        gave[giver] = true;
-        left -= pages;
     }
     left
+}
+
+/// Sets targets where the guests can spare as much as they lack.
+fn set_targets(needs: &[GuestNeed], lack: u128, targets: &mut [u32])
+    requires one_each { length targets.old ≡ length needs.now }
+    requires enough { lack ≤ spared_from needs.now 0 }
+    ensures { (frames : ℕ) → lack ≡ missing needs.now frames →
+        AreTargets needs.now frames targets.new }
+{
+    let level = level_for(needs, lack);
+    let rest = lack - spared_above(needs, level);
+    give(needs, level, rest, targets);
+}
+
+/// Sets targets, or answers how many pages stay missing if all give what they can.
+fn share(needs: &[GuestNeed], frames: u32, targets: &mut [u32]) -> Option<u128>
+    requires { length targets.old ≡ length needs.now }
+    ensures { MatchOption result
+        ((shortage needs.now frames ≡ 0) × AreTargets needs.now frames targets.new)
+        (λ short. (0 < short) × (short ≡ shortage needs.now frames) ×
+        (short ≤ 4294967295 * length needs.now) × (targets.new ≡ targets.old)) }
+{
+    let lack = missing(needs, frames);
+    let spare = spared(needs);
+    if lack > spare {
+        return Some(lack - spare);
+    }
+    set_targets(needs, lack, targets);
+    None
+}
+
+/// Puts a target for each of the guests with these needs into `targets`, so that this many frames
+/// suffice: the pages that are missing are given by the guests of most spare first, and of these by
+/// the lowest place first, by each at most its spare. However many guests there are, it looks at
+/// each need at most 37 times, and takes no memory.
+///
+/// `OtherLength` where `targets` hasn't one place for each need, else `Short` where all spare pages
+/// together are too few; then no target is changed.
+pub fn targets_into(needs: &[GuestNeed], frames: u32, targets: &mut [u32]) -> Result<(), NoTargets>
+    ensures { SharesInto needs.now frames targets.old targets.new result }
+{
+    if targets.len() != needs.len() {
+        return Err(NoTargets::OtherLength);
+    }
+    match share(needs, frames, targets) {
+        None => Ok(()),
+        Some(short) => Err(NoTargets::Short(Short::by(short))),
+    }
 }
 
 /// Targets for the guests with these needs, in rising guest number, so that this many frames
@@ -78,16 +104,13 @@ pub fn targets(needs: &[GuestNeed], frames: u32) -> Result<Targets, Short>
         (λ short. (0 < shortage needs.now frames) × (short.missing ≡ shortage needs.now frames)) }
 {
     let mut pages: ArrayVec<u32, GUESTS> = ArrayVec::new();
-    let mut gave: ArrayVec<bool, GUESTS> = ArrayVec::new();
     for _need in needs {
         pages.push(0);
-        gave.push(false);
     }
-    let left = share(needs, frames, pages.as_mut_slice(), gave.as_mut_slice());
-    if left > 0 {
-        return Err(Short { missing: left });
+    match share(needs, frames, pages.as_mut_slice()) {
+        None => Ok(Targets { pages }),
+        Some(short) => Err(Short::by(short)),
     }
-    Ok(Targets { pages })
 }
 
 /// There is one answer: two lists of targets for the same needs and frames are the same.

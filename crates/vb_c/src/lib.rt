@@ -6,3 +6,5 @@ mod answers;
 mod chains;
 mod marks;
 mod registers;
+mod saving;
+mod sharing;

@@ -13,6 +13,8 @@ pub mod CountLemmas
 pub mod MarkLemmas
 mod SettingFacts
 mod RunFacts
+mod DenialFacts
+pub mod Rows
 mod ReportFacts
 mod NamingFacts
 mod SetFacts

@@ -14,3 +14,5 @@ pub mod Name
 pub mod Report
 pub mod Statistics
 pub mod Ballooned
+pub mod Format
+pub mod Saved

@@ -32,8 +32,8 @@ pub enum Denial {
     Broken(ChainFault),
 }
 
-/// A balloon device (VIRTIO 1.1, 5.5) for a guest whose memory is elsewhere: plain data, so that a
-/// copy of it saves the device. It knows nothing of the ballooned pages.
+/// A balloon device (VIRTIO 1.1, 5.5) for a guest whose memory is elsewhere: plain data, which may
+/// be copied; `Saved` makes bytes of it that last. It knows nothing of the ballooned pages.
 #[repr(C)]
 #[derive(Clone, Copy, Debug)]
 pub struct Device {

@@ -11,14 +11,17 @@ mod ballooned;
 mod config;
 mod copies;
 mod device;
+mod format;
 mod kinds;
 mod laws;
 mod name;
 mod next;
+mod possible;
 mod refusals;
 mod report;
 mod ring;
 mod runs;
+mod saved;
 mod settings;
 mod statistics;
 mod status;
@@ -27,6 +30,7 @@ mod using;
 pub use asked::read_chain_into;
 pub use ballooned::{count_ballooned, is_ballooned, mark};
 pub use device::{Denial, Device};
+pub use format::{FORMAT_VERSION, SAVED_LENGTH};
 pub use kinds::Kind;
 pub use laws::{
     a_used_entry_is_the_rings_next, copies_say_what_memory_says,
@@ -41,6 +45,7 @@ pub use refusals::{
 pub use report::{MAX_REPORT_RUNS, Reported};
 pub use ring::{Ring, UsedEntry};
 pub use runs::Run;
+pub use saved::{Saved, StateDenial};
 pub use settings::{LEAST_MEMORY, MEMORY_LIMIT, Settings};
 pub use statistics::Statistic;
 pub use status::StatusDenial;

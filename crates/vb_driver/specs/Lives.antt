@@ -45,6 +45,7 @@ pub record Starts (m1 m2 : Pages) (p1 p2 : Part) (d1 d2 : DriverState) (wanted :
     statistics = d2.statistics;
     report = fresh_report d1.queue_size;
     features = wanted;
+    actual = 0;
   }
   pub inflate : IsNewRing m2 d2.inflate.ring
   pub deflate : IsNewRing m2 d2.deflate.ring
@@ -67,14 +68,14 @@ with_nothing_out d = record d {
 pub record Agrees (m1 m2 : Pages) (p1 p2 : Part) (d1 d2 : DriverState) (wanted : ℕ) : Type 0 where
   pub mem : m2 ≡ m1
   pub part : p2 ≡ record (part_after_reset p1) { status = 11; features = wanted }
-  pub driver : d2 ≡ record (with_nothing_out d1) { features = wanted }
+  pub driver : d2 ≡ record (with_nothing_out d1) { features = wanted; actual = 0 }
 
 -- The driver gives up, where the device was asked for features that it refused (128 + 2 + 1).
 pub record GivesUp (m1 m2 : Pages) (p1 p2 : Part) (d1 d2 : DriverState)
     (features : ℕ) : Type 0 where
   pub mem : m2 ≡ m1
   pub part : p2 ≡ record (part_after_reset p1) { status = 131; features = features }
-  pub driver : d2 ≡ record (with_nothing_out d1) { features = features }
+  pub driver : d2 ≡ record (with_nothing_out d1) { features = features; actual = 0 }
 
 abbrev pub InitRefused : Refusal → Pages → Pages → Part → Part → DriverState → DriverState → ℕ
     → Type 0

@@ -45,7 +45,8 @@ fn begin<P: Port>(port: &mut P)
 }
 
 impl Driver {
-    /// Resets the device, so that nothing is out, and agrees with it on the features, or gives up.
+    /// Resets the device, so that nothing is out and no page counts as given to the host, and then
+    /// agrees with it on the features, or gives up.
     fn negotiate<P: Port>(&mut self, port: &mut P, wanted: Features) -> Result<(), Refusal>
         ensures { NegotiatesBy (P.mem port.old) (P.mem port.new) (P.part port.old) (P.part port.new)
             self.old self.new (feature_bits wanted) result }
@@ -53,6 +54,7 @@ impl Driver {
         begin(port);
         self.renew();
         self.features = Features::empty();
+        self.actual = 0;
         if port.negotiate(wanted).is_err() {
             give_up(port);
             return Err(Refusal::FeatureNotOffered);
@@ -123,7 +125,7 @@ impl Driver {
     /// Refused for `AlreadyUp` (the status isn't 0), `NoFrame` (one of the pages of the rings and
     /// buffers has no frame); then nothing is changed. Refused for `FeatureNotOffered`
     /// and `VersionMissing` (VERSION_1 is needed): the driver gives up then, by FAILED in the
-    /// status, and nothing is out any more.
+    /// status, nothing is out any more, and no page counts as given to the host.
     pub fn init<P: Port>(&mut self, port: &mut P, wanted: Features) -> Result<(), Refusal>
         requires memory { IsLargeEnough (P.mem port.old) }
         ensures { InitsBy (P.mem port.old) (P.mem port.new) (P.part port.old) (P.part port.new)

@@ -201,3 +201,9 @@ kept_back p1 p2 out n none is now same = elim (either p1.keeps) [
       absurd (let wrong : false ≡ true = ap (λ (own : List ℕ). has own n) (sym (none not_kept)) ∙ is in
       cc)
 ]
+
+-- a frame of a device that keeps frames is one of its own
+pub not_another : {P : Type 0} (p : Part) (out : List Bool) (n : ℕ) → p.keeps ≡ true
+    → is_used (supply_of p out) n ≡ true → has p.own n ≡ false → P
+not_another p out n keeps used other =
+    absurd (let own : has p.own n ≡ true = sym (used_own (supply_of p out) n keeps) ∙ used in cc)

@@ -1,97 +1,97 @@
--- Calls that take no frame from a page leave none loose.
-use Rattle.std.specs.Prelude.{◌≡◌, ◌≢◌, ◌==◌, ◌&&◌, ◌++◌, not, ℕ, Bool, true, false, List, []}
-use Rattle.std.specs.Prelude.{◌∷◌, Option, Some, None, is_some, Result, Ok, OnErr, length, refl}
+-- Calls after which each page has the frame that it had leave none loose.
+use Rattle.std.specs.Prelude.{◌≡◌, ◌++◌, ℕ, suc, Bool, List, [], ◌∷◌, Option, None, slice_index_or}
+use Rattle.std.specs.Prelude.{count_by, length, refl}
 use Rattle.std.specs.Option.{option_to_list}
-use Rattle.std.proofs.Common.{◌∙◌, sym, ap, subst, arith, length-append}
+use Rattle.std.proofs.Common.{◌∙◌, sym, ap, arith, length-append}
 use Rattle.std.proofs.lemmas.Bool.{eq-eqb}
+use Rattle.vb_model.specs.declared.calls.Call.{Call}
 use Rattle.vb_model.specs.declared.calls.Claim.{Claim}
-use Rattle.vb_model.specs.declared.layout.TheConstants.{INFLATE_QUEUE, DEFLATE_QUEUE, REPORT_QUEUE}
-use Rattle.vb_model.specs.declared.replies.Refusal.{Refusal}
-use Rattle.vb_model.specs.Tables.{is_queue_of_requests, is_not_ready, has_fault, has_unvisited}
+use Rattle.vb_model.specs.declared.replies.Reply.{Reply}
 use Rattle.vb_model.specs.Tests.{one_if}
+use Rattle.vb_model.specs.Guest.{Guest, frame_of}
+use Rattle.vb_model.specs.Orderly.{times}
+use Rattle.vb_model.proofs.Tables.{count_by-cons}
 use Rattle.vb_ram.specs.Pages.{Pages, frame_at}
 use Rattle.vb_ram.specs.Part.{Part}
-use Rattle.vb_device.specs.declared.worked.Worked.{Worked}
-use Rattle.vb_device.specs.Conditions.{work_refusal, finish_refusal, sweep_refusal, taken_at}
 use Rattle.vb_device.specs.Discards.{frames_behind}
-use Rattle.vb_device.specs.Loose.{SameFrames}
-use Rattle.vb_device.specs.Calls.{next_visit, Visits, WorksBy, FinishesBy, SweepsBy}
-use Rattle.vb_guest.specs.Exact.{TookNone}
-use Rattle.vb_guest.proofs.Kept.{there_is}
+use Rattle.vb_driver.specs.State.{DriverState}
+use Rattle.vb_guest.specs.Exact.{KeepsFrames}
+use Rattle.vb_guest.specs.Stands.{Honest, Rogue, Stands}
+use Rattle.vb_guest.specs.Steps.{is_frame, StepsFreeing}
+use Rattle.vb_guest.proofs.Handing.{handed_back}
 use Rattle.vb_guest.proofs.Moving.{times_first}
+use Rattle.vb_guest.proofs.Standing.{by_guest}
 
 -- ---- frames
 
-no_frames : (frames : List ℕ) → SameFrames frames [] → frames ≡ []
-no_frames [] same = refl
-no_frames (n ∷ rest) same =
+pub no_frames : (frames : List ℕ) → ((n : ℕ) → times n frames ≡ 0) → frames ≡ []
+no_frames [] none = refl
+no_frames (n ∷ rest) none =
     absurd
-    (let here = ap one_if (eq-eqb n n refl) in omega (arith, same n, times_first n n rest, here))
+    (let here = ap one_if (eq-eqb n n refl) in omega (arith, none n, times_first n n rest, here))
 
-is_none : (o : Option ℕ) → is_some o ≡ false → o ≡ None
-is_none None e = refl
-is_none (Some n) e = absurd cc
+-- no frame is behind pages that have none
+pub none_behind : (m : Pages) (pages : List ℕ) → ((page : ℕ) → frame_at m page ≡ None)
+    → frames_behind m pages ≡ []
+none_behind m [] none = refl
+none_behind m (p ∷ ps) none =
+    ap (λ (o : Option ℕ). option_to_list o ++ frames_behind m ps) (none p)
+    ∙ none_behind m ps none
 
-none_lost : (mem : Pages) (page : ℕ) (frames : List ℕ) → is_some (frame_at mem page) ≡ false
-    → SameFrames frames (frames_behind mem (page ∷ [])) → frames ≡ []
-none_lost mem page frames bare same =
-    let none : frames_behind mem (page ∷ []) ≡ [] =
-    ap (λ (o : Option ℕ). option_to_list o ++ []) (is_none (frame_at mem page) bare) in
-    no_frames frames (subst (λ (l : List ℕ). SameFrames frames l) none same)
+-- two tables with the same frames have each frame as often
+as_often : (n : ℕ) (xs ys : List (Option ℕ))
+    → ((i : ℕ) → slice_index_or xs i None ≡ slice_index_or ys i None)
+    → count_by (is_frame n) xs ≡ count_by (is_frame n) ys
+as_often n [] [] same = refl
+as_often n [] (y ∷ ys) same = omega (
+  arith,
+  count_by-cons (is_frame n) y ys,
+  ap (λ (o : Option ℕ). one_if (is_frame n o)) (same 0),
+  as_often n [] ys (λ i. same (suc i)),
+)
+as_often n (x ∷ xs) [] same = omega (
+  arith,
+  count_by-cons (is_frame n) x xs,
+  ap (λ (o : Option ℕ). one_if (is_frame n o)) (same 0),
+  as_often n xs [] (λ i. same (suc i)),
+)
+as_often n (x ∷ xs) (y ∷ ys) same = omega (
+  arith,
+  count_by-cons (is_frame n) x xs,
+  count_by-cons (is_frame n) y ys,
+  ap (λ (o : Option ℕ). one_if (is_frame n o)) (same 0),
+  as_often n xs ys (λ i. same (suc i)),
+)
 
-as_before : (p1 p2 : Part) → p2 ≡ p1 → p1.loose ≡ [] → p2.loose ≡ []
-as_before p1 p2 same none = ap (λ (p : Part). p.loose) same ∙ none
+-- the guest has the frames behind the pages of memory
+abbrev IsBehind : Pages → Guest → Type 0
+IsBehind m g = (page : ℕ) → frame_at m page ≡ frame_of g.frames page
 
--- ---- the device's calls
+none_freed : (New : Guest → Type 0) (m1 m2 : Pages) (loose : List ℕ) (g : Guest) (call : Call)
+    (reply : Reply) → IsBehind m1 g → ((x : Guest) → New x → IsBehind m2 x) → KeepsFrames m1 m2
+    → StepsFreeing New loose g call reply → loose ≡ []
+none_freed New m1 m2 loose g call reply before after same step =
+    no_frames loose (λ n. omega (
+      arith,
+      step.freed n,
+      as_often n step.new.frames g.frames
+          (λ page. sym (after step.new step.stands page) ∙ same page ∙ before page),
+    ))
 
-visit_quiet : (q page : ℕ) (m1 m2 : Pages) (p1 p2 : Part) (r : Result (Option Worked) Refusal)
-    → Visits q page m1 m2 p1 p2 r → TookNone r → p2.loose ≡ []
-visit_quiet q page m1 m2 p1 p2 r did none =
-    none_lost m1 page p2.loose (subst TookNone did.answer none) did.loose
-
-pub work_quiet : (m1 m2 : Pages) (p1 p2 : Part) (r : Result (Option Worked) Refusal)
-    → WorksBy m1 m2 p1 p2 r → p1.loose ≡ [] → TookNone r → p2.loose ≡ []
-work_quiet m1 m2 p1 p2 r did before none =
-    by (work_refusal p1) (next_visit INFLATE_QUEUE p1) (next_visit REPORT_QUEUE p1) refl refl refl
+pub freeing_quiet : (keeps : Bool) (m1 m2 m3 : Pages) (p1 p2 : Part) (d : DriverState) (g : Guest)
+    (call : Call) (reply : Reply) → Stands keeps m1 p1 d g → m3 ≡ m2 → KeepsFrames m1 m3
+    → (Honest m1 p1 d g → StepsFreeing (Honest m2 (handed_back p2) d) p2.loose g call reply)
+    → (Rogue m1 p1 d g → StepsFreeing (Rogue m2 (handed_back p2) d) p2.loose g call reply)
+    → p2.loose ≡ []
+freeing_quiet keeps m1 m2 m3 p1 p2 d g call reply stands memory same honest rogue =
+    by_guest keeps m1 p1 d g stands
+    (λ h. none_freed (Honest m2 (handed_back p2) d) m1 m2 p2.loose g call reply
+    h.ties.pages.behind (λ x n. n.ties.pages.behind) kept (honest h))
+    (λ r. none_freed (Rogue m2 (handed_back p2) d) m1 m2 p2.loose g call reply
+    r.behind (λ x n. n.behind) kept (rogue r))
   where
-    by : (o : Option Refusal) (first second : Option ℕ) → work_refusal p1 ≡ o
-        → next_visit INFLATE_QUEUE p1 ≡ first → next_visit REPORT_QUEUE p1 ≡ second
-        → p2.loose ≡ []
-    by (Some why) first second e is other = as_before p1 p2 (did.refused why e).1 before
-    by None None None e is other = as_before p1 p2 (did.idle e is other).1 before
-    by None (Some page) second e is other =
-        visit_quiet INFLATE_QUEUE page m1 m2 p1 p2 r (did.inflate page e is) none
-    by None None (Some page) e is other =
-        visit_quiet REPORT_QUEUE page m1 m2 p1 p2 r (did.report page e is other) none
-
-pub finish_quiet : {P : Type 0} (q i : ℕ) (m1 m2 : Pages) (p1 p2 : Part) (r : Result ℕ Refusal)
-    → FinishesBy q i m1 m2 p1 p2 r → p1.loose ≡ [] → (p2.loose ≡ [] → P) → OnErr r P
-finish_quiet {P} q i m1 m2 p1 p2 r did before so = by (finish_refusal q i p1) refl
-  where
-    by : (o : Option Refusal) → finish_refusal q i p1 ≡ o → OnErr r P
-    by (Some why) e =
-        let (is, part, mem) = did.refused why e in
-        subst (λ (x : Result ℕ Refusal). OnErr x P) (sym is) (so (as_before p1 p2 part before))
-    by None e =
-        let (taken, at) = there_is (not (is_queue_of_requests q)) (is_not_ready p1.status)
-        (has_fault p1.status)
-        (p1.paced && not (q == DEFLATE_QUEUE) && has_unvisited (taken_at q i p1))
-        (taken_at q i p1) e in
-        subst (λ (x : Result ℕ Refusal). OnErr x P) (sym (did.finished taken e at).answer) tt
-
-not_swept : (r : Result Bool Refusal) (b : Bool) → r ≢ Ok true → r ≡ Ok b → b ≡ false
-not_swept r true other is = absurd (other is)
-not_swept r false other is = refl
-
-pub sweep_quiet : (page : ℕ) (m1 m2 : Pages) (p1 p2 : Part) (r : Result Bool Refusal)
-    → SweepsBy page m1 m2 p1 p2 r → p1.loose ≡ [] → r ≢ Ok true → p2.loose ≡ []
-sweep_quiet page m1 m2 p1 p2 r did before other = by (sweep_refusal page p1) refl
-  where
-    by : (o : Option Refusal) → sweep_refusal page p1 ≡ o → p2.loose ≡ []
-    by (Some why) e = as_before p1 p2 (did.refused why e).1 before
-    by None e =
-        none_lost m1 page p2.loose
-        (not_swept r (is_some (frame_at m1 page)) other (did.answer e)) (did.loose e)
+    kept : KeepsFrames m1 m2
+    kept page = ap (λ (m : Pages). frame_at m page) (sym memory) ∙ same page
 
 -- ---- claims that are noted
 

@@ -17,6 +17,7 @@ use Rattle.vb_status.specs.After.{part_after_reset}
 use Rattle.vb_driver.specs.State.{DriverState, fresh_driver}
 use Rattle.vb_device.specs.Discards.{frames_behind}
 use Rattle.vb_guest.specs.Stands.{Honest, DeviceKeeps, Stands}
+use Rattle.vb_guest.specs.Exact.{KeepsFrames}
 use Rattle.vb_guest.specs.Steps.{is_frame, backing_count, AreOut, AllReturn, IsBare, Restarts}
 use Rattle.vb_guest.specs.Supply.{Supply, supply_of, Moves, nothing, AreLoose}
 use Rattle.vb_guest.proofs.Discarding.{one_frame}
@@ -134,6 +135,12 @@ is_bare mem part n none loose = record {
   frames = λ page. ap (λ (m : Pages). frame_at m page) none ∙ ap number_of (everywhere n None page);
   loose = loose;
 }
+
+-- where each page has the frame that it had, none had one
+pub none_had : (m1 m2 : Pages) (n : ℕ) → m2 ≡ replicate n None → KeepsFrames m1 m2
+    → (page : ℕ) → frame_at m1 page ≡ None
+none_had m1 m2 n none kept page =
+    sym (kept page) ∙ ap (λ (m : Pages). frame_at m page) none ∙ ap number_of (everywhere n None page)
 
 -- ---- the new life
 

@@ -22,7 +22,7 @@ use Rattle.vb_model.specs.Refusals.{refusal_of}
 use Rattle.vb_model.specs.Life.{lacking, feature_tests, feature_refusal, accepted_before}
 use Rattle.vb_model.specs.Orderly.{times}
 use Rattle.vb_model.specs.Rogue.{LosesFrames, pages_to_back, unless_refused, after_refused}
-use Rattle.vb_model.specs.Rogue.{if_negotiated, given_up}
+use Rattle.vb_model.specs.Rogue.{if_negotiated, gave_up}
 use Rattle.vb_model.specs.Status.{contains, driver_ok}
 use Rattle.vb_model.specs.Tests.{is_in}
 use Rattle.vb_model.proofs.Wanting.{wants, no_want, refused_otherwise, not_refused_pages}
@@ -61,7 +61,7 @@ init_up_rogue m p d g wanted up rogue =
     (left_by (Init wanted) AlreadyUp [] g (rogue_after g g.frames p d)
     (rogue_unchanged m p p d d g rogue refl refl refl
     ∙ ap (λ (b : Bool). if_negotiated (not b) None g
-    (given_up AlreadyUp wanted (all_backed (lacking g) [] g.frames) g)) (sym started)))
+    (gave_up AlreadyUp wanted (all_backed (lacking g) [] g.frames) g)) (sym started)))
   where
     started : (g.status == 0) ≡ false
     started = ne_eqb g.status 0 (λ e. up (rogue.status ∙ e))
@@ -140,7 +140,7 @@ said_guest g frames x d =
 -- the driver gave up
 abbrev GaveUp : Part → Part → DriverState → DriverState → ℕ → Refusal → Type 0
 GaveUp p2 p3 d1 d2 wanted why =
-    (d2.places ≡ d1.places) × (d2.actual ≡ d1.actual)
+    (d2.places ≡ d1.places) × (d2.actual ≡ 0)
     × (p3 ≡ record (part_after_reset p2) { status = 131; features = accepted_before why wanted })
 
 -- the part after a reset, with another status
@@ -277,12 +277,12 @@ gives_up m p1 p2 p3 d1 d2 g wanted claims why rogue status all part gave =
     ap (λ (x : Said). said_guest g frames x d2) told
     ∙ ap (λ (l : List Place). record (said_guest g frames (part_said left) d2) { places = l })
     places
-    ∙ ap (λ (n : ℕ). record (given_up why wanted frames g) { actual = n; target = p1.target })
-    (gave.1 ∙ rogue.actual)
-    ∙ ap (λ (n : ℕ). record (given_up why wanted frames g) { target = n }) rogue.target
+    ∙ ap (λ (n : ℕ). record (gave_up why wanted frames g) { actual = n; target = p1.target })
+    gave.1
+    ∙ ap (λ (n : ℕ). record (gave_up why wanted frames g) { target = n }) rogue.target
     ∙ sym (ap (λ (n : ℕ). if_negotiated (not (n == 0)) (claim_refusal claims) g
-    (given_up why wanted frames g)) (sym rogue.status ∙ status)
-    ∙ ap (λ (o : Option Refusal). if_negotiated false o g (given_up why wanted frames g)) all)
+    (gave_up why wanted frames g)) (sym rogue.status ∙ status)
+    ∙ ap (λ (o : Option Refusal). if_negotiated false o g (gave_up why wanted frames g)) all)
 
 pub init_supplied_rogue : (Answers : List Bool → Claim → Type 0) (out1 out2 : List Bool)
     (l : List Claim) (m1 m2 m3 : Pages) (p1 p2 p3 : Part) (d1 d2 : DriverState) (g : Guest)
@@ -327,7 +327,7 @@ init_supplied_rogue Answers out1 out2 l m1 m2 m3 p1 p2 p3 d1 d2 g wanted feature
     let new : p2.status ≡ 0 = ap (λ (p : Part). p.status) part ∙ status in
     let same : InitsBy m2 m3 p2 p3 d1 d2 wanted result =
     subst (λ (f : ℕ). InitsBy m2 m3 p2 p3 d1 d2 f result) named inits in
-    let (left, answer, gave_up) = inits_leave g.config.queue_size m2 m3 p2 p3 d1
+    let (left, answer, left_so) = inits_leave g.config.queue_size m2 m3 p2 p3 d1
     d2 wanted result rogue.queue_size new backed same in
     let none_before = none_refuses p1 m1 d1 g wanted status rogue in
     let needs : pages_to_back (Init wanted) g ≡ pages =
@@ -359,7 +359,7 @@ init_supplied_rogue Answers out1 out2 l m1 m2 m3 p1 p2 p3 d1 d2 g wanted feature
     (subst P (sym did.answer) (λ page frame e. e))) (no_want _ NoFrame answer refl)
     (no_want _ NoMemory answer refl)
     (λ why e. gives_up m1 p1 p2 p3 d1 d2 g wanted claims why rogue status
-    did.answer part (gave_up why e)) (λ page offset bytes e. absurd cc) in
+    did.answer part (left_so why e)) (λ page offset bytes e. absurd cc) in
     let same_supply : supply_of p3 out2 ≡ supply_of p2 out2 =
     ap (λ (k : Bool). record { keeps = k; own = p3.own; out = out2 }) left.flag
     ∙ ap (λ (o : List ℕ). record { keeps = p2.keeps; own = o; out = out2 }) left.numbers in

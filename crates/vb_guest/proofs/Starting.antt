@@ -171,6 +171,7 @@ started m2 m3 p1 p3 d1 d2 g frames wanted has backed idle driver parts did =
       statistics = d2.statistics;
       report = fresh_report d1.queue_size;
       features = wanted;
+      actual = 0;
     } in
     let n = g.config.pages in
     let inflate = fresh_line m3 0 n d1.queue_size driver.size
@@ -191,7 +192,7 @@ started m2 m3 p1 p3 d1 d2 g frames wanted has backed idle driver parts did =
           places = parts.driver.places;
           held = parts.driver.held;
           accepted = refl;
-          told = parts.driver.told;
+          told = sym idle.actual;
         };
         device = record {
           size = parts.device.size;
@@ -241,7 +242,7 @@ pub stopped : (m2 m3 : Pages) (p1 p3 : Part) (d1 d2 : DriverState) (g : Guest)
 stopped m2 m3 p1 p3 d1 d2 g frames accepted has idle parts did =
     let new : Guest = record g { frames = frames; status = 131; features = accepted } in
     let part : Part = record (part_after_reset p1) { status = 131; features = accepted } in
-    let state : DriverState = record (with_nothing_out d1) { features = accepted } in
+    let state : DriverState = record (with_nothing_out d1) { features = accepted; actual = 0 } in
     let there : Ties m2 part state new = record {
       parts = record {
         guest = parts.guest;
@@ -252,7 +253,7 @@ stopped m2 m3 p1 p3 d1 d2 g frames accepted has idle parts did =
           places = parts.driver.places;
           held = parts.driver.held;
           accepted = refl;
-          told = parts.driver.told;
+          told = sym idle.actual;
         };
         device = record {
           size = parts.device.size;

@@ -1,7 +1,6 @@
 -- What a call does that is told apart by its name, whether or not its guest wrote past its driver:
 -- just what the driver's or the device's own call does, whose answer is the reply.
-use Rattle.std.specs.Prelude.{◌≡◌, ◌≢◌, ℕ, Bool, true, false, List, [], Option, Result, Ok}
-use Rattle.std.specs.Prelude.{Err, OnErr}
+use Rattle.std.specs.Prelude.{◌≡◌, ℕ, Bool, true, false, List, [], Option, Result, Err}
 use Rattle.vb_model.specs.declared.calls.Call.{Call}
 use Rattle.vb_model.specs.declared.calls.Call.TheVariants.{Init, Reset, Alloc, Free, Read, Write}
 use Rattle.vb_model.specs.declared.calls.Call.TheVariants.{Scribble, Inflate, Deflate, Oom, Report}
@@ -13,13 +12,14 @@ use Rattle.vb_model.specs.declared.replies.Refusal.TheVariants.{NotHeld}
 use Rattle.vb_model.specs.declared.replies.Reply.{Reply}
 use Rattle.vb_model.specs.declared.replies.Reply.TheVariants.{Done}
 use Rattle.vb_model.specs.Pages.{place_of, is_used}
+use Rattle.vb_ram.specs.Pages.{Pages}
 use Rattle.vb_device.specs.Calls.{TakesBy, WorksBy, FinishesBy, SweepsBy, AsksBy}
 use Rattle.vb_device.specs.declared.worked.Worked.{Worked}
 use Rattle.vb_driver.specs.Calls.{AllocatesBy, FreesBy, InflatesBy, DeflatesBy, DeflatesOnOomBy}
 use Rattle.vb_driver.specs.Calls.{ReportsBy, FillsBy, ReapsBy, ResetsBy}
 use Rattle.vb_driver.specs.declared.answers.Posted.{Posted}
 use Rattle.vb_driver.specs.declared.answers.Reaped.{Reaped}
-use Rattle.vb_guest.specs.Exact.{InitialisesBy, IsHandedBack, IsQuiet, PutsBy, ReadsBy, TookNone}
+use Rattle.vb_guest.specs.Exact.{InitialisesBy, IsHandedBack, IsQuiet, KeepsFrames, PutsBy, ReadsBy}
 use Rattle.vb_guest.specs.Promises.{Moment}
 use Rattle.vb_guest.specs.Replies.{ready_reply, page_reply, done_reply, bytes_reply}
 use Rattle.vb_guest.specs.Replies.{posted_reply, reaped_reply, taken_reply, finished_reply}
@@ -105,16 +105,10 @@ CallsBy Answers a b claims (SetTarget n) reply =
     (reply ≡ Done) × (b.mem ≡ a.mem) × (b.part ≡ record (a.part) { target = n })
     × (b.driver ≡ a.driver)
 
--- What a call may do to the keeper in silence: nothing, where it notes no claim and takes no frame
--- from a page. Same says that the keeper is as it was.
-abbrev pub LeavesAlone : Type 0 → List Claim → Call → Reply → Type 0
-LeavesAlone Same claims (Init wanted) reply = claims ≡ [] → Same
-LeavesAlone Same claims (Write page offset bytes) reply = claims ≡ [] → Same
-LeavesAlone Same claims (Scribble page offset bytes) reply = claims ≡ [] → Same
-LeavesAlone Same claims Work reply =
-    (r : Result (Option Worked) Refusal) × (reply ≡ worked_reply r) × (TookNone r → Same)
-LeavesAlone Same claims (Finish q i) reply =
-    (r : Result ℕ Refusal) × (reply ≡ finished_reply r) × OnErr r Same
-LeavesAlone Same claims (Sweep page) reply =
-    (r : Result Bool Refusal) × (reply ≡ swept_reply r) × (r ≢ Ok true → Same)
-LeavesAlone Same claims call reply = Same
+-- What a call leaves of the keeper: all of it where the device keeps frames of its own, and where
+-- the call notes no claim and each page has the frame that it had. Same says that the keeper is as
+-- it was.
+pub record LeavesAlone (Same : Type 0) (keeps : Bool) (m1 m2 : Pages) (claims : List Claim) :
+    Type 0 where
+  pub unasked : keeps ≡ true → Same
+  pub quiet : claims ≡ [] → KeepsFrames m1 m2 → Same

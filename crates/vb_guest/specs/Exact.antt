@@ -1,7 +1,7 @@
 -- What the calls do exactly, whether or not their guest wrote past its driver: by memory, the
 -- device's part and the driver alone.
-use Rattle.std.specs.Prelude.{◌≡◌, ◌≢◌, ◌<◌, ◌⊎◌, ℕ, Bool, true, false, List, [], ◌∷◌, ⊤}
-use Rattle.std.specs.Prelude.{Option, Some, None, Result, Ok, Err, IsOk, IsSome, length, take, drop}
+use Rattle.std.specs.Prelude.{◌≡◌, ◌≢◌, ◌<◌, ◌⊎◌, ℕ, Bool, true, false, List, [], ◌∷◌}
+use Rattle.std.specs.Prelude.{None, Result, Ok, Err, IsOk, IsSome, length, take, drop}
 use Rattle.vb_model.specs.declared.calls.Claim.{Claim}
 use Rattle.vb_model.specs.declared.calls.Claim.TheVariants.{Gave, GaveNoFrame, GaveNoMemory}
 use Rattle.vb_model.specs.declared.places.Place.{Place}
@@ -14,7 +14,6 @@ use Rattle.vb_ram.specs.Part.{Part}
 use Rattle.vb_frames.specs.declared.keeper.Refused.{Refused}
 use Rattle.vb_frames.specs.declared.keeper.Refused.TheVariants.{NoFrame, Memory}
 use Rattle.vb_status.specs.After.{part_after_reset}
-use Rattle.vb_device.specs.declared.worked.Worked.{Worked}
 use Rattle.vb_driver.specs.Calls.{InitsBy, Unchanged}
 use Rattle.vb_driver.specs.State.{DriverState}
 use Rattle.vb_guest.specs.Lives.{SuppliesBy, bare_from}
@@ -26,11 +25,9 @@ abbrev pub IsHandedBack : (Part → Type 0) → Part → Type 0
 IsHandedBack Did new =
     (part : Part) × Did part × (new ≡ record part { loose = []; own = new.own })
 
--- Work that is answered so took no frame from a page.
-abbrev pub TookNone : Result (Option Worked) Refusal → Type 0
-TookNone (Ok None) = ⊤
-TookNone (Ok (Some worked)) = worked.freed ≡ false
-TookNone (Err why) = ⊤
+-- Each page has the frame that it had, or none as before.
+abbrev pub KeepsFrames : Pages → Pages → Type 0
+KeepsFrames m1 m2 = (page : ℕ) → frame_at m2 page ≡ frame_at m1 page
 
 -- The device is reset, and frames of its own came back.
 abbrev pub IsReset : Part → Part → Type 0

@@ -43,7 +43,8 @@ pub fn call<D: Device, K: FrameKeeper>(
         (moment (D.mem device.old) (D.part device.old) driver.old (K.out keeper.old))
         (moment (D.mem device.new) (D.part device.new) driver.new (K.out keeper.new))
         claims.new.items call.now result }
-    ensures quiet { LeavesAlone (keeper.new ≡ keeper.old) claims.new.items call.now result }
+    ensures quiet { LeavesAlone (keeper.new ≡ keeper.old) (D.part device.old).keeps
+        (D.mem device.old) (D.mem device.new) claims.new.items }
 {
     claims.clear();
     match call {

@@ -1,11 +1,11 @@
 //! What the host does to a guest's device.
 
-ghost use Rattle.std.specs.Prelude.{◌≡◌, ◌≢◌, Bool, true, [], OnErr};
+ghost use Rattle.std.specs.Prelude.{◌≡◌, Bool, true, []};
 ghost use Rattle.vb_model.specs.declared.replies.Reply.TheVariants.{Done};
 ghost use Rattle.vb_model.specs.Guest.{Guest};
 ghost use Rattle.vb_driver.specs.State.{DriverState};
 ghost use Rattle.vb_device.specs.Calls.{TakesBy, WorksBy, FinishesBy, SweepsBy, AsksBy};
-ghost use Rattle.vb_guest.specs.Exact.{IsHandedBack, TookNone};
+ghost use Rattle.vb_guest.specs.Exact.{IsHandedBack, KeepsFrames};
 ghost use Rattle.vb_guest.specs.Promises.{EachSteps, EachStepsAlone, SomeGuest, SomeGuestOut};
 ghost use Rattle.vb_guest.specs.Promises.{moment};
 ghost use Rattle.vb_guest.specs.Replies.{taken_reply, worked_reply, finished_reply, swept_reply};
@@ -48,7 +48,8 @@ pub fn work<D: Device, K: FrameKeeper>(
         (worked_reply result) }
     ensures exact { IsHandedBack (λ part. WorksBy (D.mem device.old) (D.mem device.new)
         (D.part device.old) part result) (D.part device.new) }
-    ensures quiet { TookNone result → keeper.new ≡ keeper.old }
+    ensures quiet { KeepsFrames (D.mem device.old) (D.mem device.new) → keeper.new ≡ keeper.old }
+    ensures unasked { (D.part device.old).keeps ≡ true → keeper.new ≡ keeper.old }
 {
     let answer = device.work();
     return_loose(device, keeper);
@@ -74,7 +75,8 @@ pub fn finish<D: Device, K: FrameKeeper>(
     ensures exact { IsHandedBack
         (λ part. FinishesBy queue index (D.mem device.old) (D.mem device.new)
         (D.part device.old) part result) (D.part device.new) }
-    ensures quiet { OnErr result (keeper.new ≡ keeper.old) }
+    ensures quiet { KeepsFrames (D.mem device.old) (D.mem device.new) → keeper.new ≡ keeper.old }
+    ensures unasked { (D.part device.old).keeps ≡ true → keeper.new ≡ keeper.old }
 {
     let answer = device.finish(queue, index);
     return_loose(device, keeper);
@@ -97,7 +99,8 @@ pub fn sweep<D: Device, K: FrameKeeper>(
         (swept_reply result) }
     ensures exact { IsHandedBack (λ part. SweepsBy page (D.mem device.old) (D.mem device.new)
         (D.part device.old) part result) (D.part device.new) }
-    ensures quiet { result ≢ Ok true → keeper.new ≡ keeper.old }
+    ensures quiet { KeepsFrames (D.mem device.old) (D.mem device.new) → keeper.new ≡ keeper.old }
+    ensures unasked { (D.part device.old).keeps ≡ true → keeper.new ≡ keeper.old }
 {
     let answer = device.sweep(page);
     return_loose(device, keeper);

@@ -42,6 +42,7 @@ fn claim_from<D: Device, K: FrameKeeper>(device: &mut D, keeper: &mut K) -> Resu
     ensures answered { (D.part device.old).keeps ≡ true
         → D.answers device.old (claim_in result) ≡ true }
     ensures zeros { IfOk result (λ frame. frame.bytes ≡ zero_page) }
+    ensures unasked { (D.part device.old).keeps ≡ true → keeper.new ≡ keeper.old }
 {
     match device.claim() {
         Claimed::Gave(frame) => Ok(frame),
@@ -67,6 +68,7 @@ pub(crate) fn claim_frame<D: Device, K: FrameKeeper>(
     ensures answered { (D.part device.old).keeps ≡ true
         → D.answers device.old (claim_in result) ≡ true }
     ensures zeros { IfOk result (λ frame. frame.bytes ≡ zero_page) }
+    ensures unasked { (D.part device.old).keeps ≡ true → keeper.new ≡ keeper.old }
 {
     let answer = claim_from(device, keeper);
     claims.push(claim_in(&answer));
@@ -83,6 +85,7 @@ pub(crate) fn return_frame<D: Device, K: FrameKeeper>(device: &mut D, keeper: &m
     ensures moves { Moves (supply_of (D.part device.old) (K.out keeper.old))
         (supply_of (D.part device.new) (K.out keeper.new)) nothing
         (λ n. times n (frame.number ∷ [])) }
+    ensures unasked { (D.part device.old).keeps ≡ true → keeper.new ≡ keeper.old }
 {
     if let Some(frame) = device.put_back(frame) {
         keeper.put_back(frame);
@@ -101,6 +104,7 @@ pub(crate) fn return_loose<D: Device, K: FrameKeeper>(device: &mut D, keeper: &m
         (supply_of (D.part device.new) (K.out keeper.new)) nothing
         (λ n. times n (D.part device.old).loose) }
     ensures quiet { (D.part device.old).loose ≡ [] → keeper.new ≡ keeper.old }
+    ensures unasked { (D.part device.old).keeps ≡ true → keeper.new ≡ keeper.old }
 {
     while let Some(frame) = device.hand_back() {
         return_frame(device, keeper, frame);

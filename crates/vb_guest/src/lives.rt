@@ -1,6 +1,6 @@
 //! A guest's device starts, and starts over (VIRTIO 1.1, 2.1 and 3.1.1).
 
-ghost use Rattle.std.specs.Prelude.{◌≡◌, ◌+◌, ◌≤◌, [], length, false, None, replicate};
+ghost use Rattle.std.specs.Prelude.{◌≡◌, ◌+◌, ◌≤◌, [], length, true, false, None, replicate};
 ghost use Rattle.std.specs.List.{range_with_len};
 ghost use Rattle.vb_model.specs.declared.replies.Reply.TheVariants.{Done};
 ghost use Rattle.vb_model.specs.Orderly.{times};
@@ -8,7 +8,7 @@ ghost use Rattle.vb_driver.specs.Calls.{ResetsBy};
 ghost use Rattle.vb_driver.specs.State.{DriverState, fresh_driver};
 ghost use Rattle.vb_device.specs.Discards.{frames_behind};
 ghost use Rattle.vb_guest.specs.declared.frames.TheConstants.{MAX_CLAIMS};
-ghost use Rattle.vb_guest.specs.Exact.{InitialisesBy, IsReset};
+ghost use Rattle.vb_guest.specs.Exact.{InitialisesBy, IsReset, KeepsFrames};
 ghost use Rattle.vb_guest.specs.Lives.{is_bare, bare_from, SuppliesBy};
 ghost use Rattle.vb_guest.specs.Promises.{EachRestarts, EachSteps, EachStepsAlone, OfEach};
 ghost use Rattle.vb_guest.specs.Promises.{SomeGuest, SomeGuestOut, moment};
@@ -53,6 +53,7 @@ fn supply_from<D: Device, K: FrameKeeper>(
     ensures part { D.part device.new ≡
         record (D.part device.old) { own = (D.part device.new).own } }
     ensures quiet { claims.new.items ≡ claims.old.items → keeper.new ≡ keeper.old }
+    ensures unasked { (D.part device.old).keeps ≡ true → keeper.new ≡ keeper.old }
 {
     if page >= shape.reserved_pages() {
         return Ok(());
@@ -93,6 +94,7 @@ pub fn init<D: Device, K: FrameKeeper>(
         (K.out keeper.new) (D.mem device.old) (D.mem device.new) (D.part device.old)
         (D.part device.new) driver.old driver.new claims.new.items wanted result }
     ensures quiet { claims.new.items ≡ [] → keeper.new ≡ keeper.old }
+    ensures unasked { (D.part device.old).keeps ≡ true → keeper.new ≡ keeper.old }
 {
     claims.clear();
     if device.status().bits() != 0 {
@@ -128,6 +130,8 @@ fn take_all_back<D: Device, K: FrameKeeper>(device: &mut D, keeper: &mut K)
         (supply_of (D.part device.new) (K.out keeper.new)) nothing
         (λ n. times n
         (frames_behind (D.mem device.old) (range_with_len 0 (length (D.mem device.old))))) }
+    ensures quiet { KeepsFrames (D.mem device.old) (D.mem device.new) → keeper.new ≡ keeper.old }
+    ensures unasked { (D.part device.old).keeps ≡ true → keeper.new ≡ keeper.old }
 {
     device.detach();
     return_loose(device, keeper);
@@ -144,6 +148,8 @@ pub fn restart<D: Device, K: FrameKeeper>(driver: &mut Driver, device: &mut D, k
     ensures part { IsReset (D.part device.old) (D.part device.new) }
     ensures driver { driver.new
         ≡ fresh_driver driver.old.pages driver.old.queue_size driver.old.processors }
+    ensures quiet { KeepsFrames (D.mem device.old) (D.mem device.new) → keeper.new ≡ keeper.old }
+    ensures unasked { (D.part device.old).keeps ≡ true → keeper.new ≡ keeper.old }
 {
     driver.restart(device);
     take_all_back(device, keeper);
@@ -160,6 +166,8 @@ pub fn empty<D: Device, K: FrameKeeper>(device: &mut D, keeper: &mut K)
     ensures returned { (d : DriverState) → OfEach (D.mem device.old) (D.part device.old) d
         (λ g. AllReturn (supply_of (D.part device.old) (K.out keeper.old))
         (supply_of (D.part device.new) (K.out keeper.new)) g) }
+    ensures quiet { KeepsFrames (D.mem device.old) (D.mem device.new) → keeper.new ≡ keeper.old }
+    ensures unasked { (D.part device.old).keeps ≡ true → keeper.new ≡ keeper.old }
 {
     take_all_back(device, keeper);
 }

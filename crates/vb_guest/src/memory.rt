@@ -60,6 +60,7 @@ fn put_fresh<D: Device, K: FrameKeeper>(
     ensures exact { FillsBare K.answers (supply_of (D.part device.old) (K.out keeper.old))
         (supply_of (D.part device.new) (K.out keeper.new)) (D.mem device.old) (D.mem device.new)
         (D.part device.old) (D.part device.new) claims.new.items page offset bytes.now result }
+    ensures unasked { (D.part device.old).keeps ≡ true → keeper.new ≡ keeper.old }
 {
     let frame = match claim_frame(device, keeper, claims) {
         Ok(frame) => frame,
@@ -95,6 +96,7 @@ fn put_bytes<D: Device, K: FrameKeeper>(
         (supply_of (D.part device.new) (K.out keeper.new)) (D.mem device.old) (D.mem device.new)
         (D.part device.old) (D.part device.new) claims.new.items page offset bytes.now result }
     ensures quiet { claims.new.items ≡ [] → keeper.new ≡ keeper.old }
+    ensures unasked { (D.part device.old).keeps ≡ true → keeper.new ≡ keeper.old }
 {
     match device.write(page, offset as usize, bytes.as_slice()) {
         Ok(()) => Ok(()),
@@ -133,6 +135,7 @@ pub fn write<D: Device, K: FrameKeeper>(
         (supply_of (D.part device.new) (K.out keeper.new)) (D.mem device.old) (D.mem device.new)
         (D.part device.old) (D.part device.new) claims.new.items page offset bytes.now result }
     ensures quiet { claims.new.items ≡ [] → keeper.new ≡ keeper.old }
+    ensures unasked { (D.part device.old).keeps ≡ true → keeper.new ≡ keeper.old }
 {
     claims.clear();
     if !driver.held(page) {
@@ -163,6 +166,7 @@ pub fn scribble<D: Device, K: FrameKeeper>(
         (supply_of (D.part device.new) (K.out keeper.new)) (D.mem device.old) (D.mem device.new)
         (D.part device.old) (D.part device.new) claims.new.items page offset bytes.now result }
     ensures quiet { claims.new.items ≡ [] → keeper.new ≡ keeper.old }
+    ensures unasked { (D.part device.old).keeps ≡ true → keeper.new ≡ keeper.old }
 {
     claims.clear();
     put_bytes(device, keeper, claims, page, offset, bytes)

@@ -9,7 +9,6 @@ use Rattle.vb_model.specs.declared.calls.Call.TheVariants.{Scribble, Inflate, De
 use Rattle.vb_model.specs.declared.calls.Call.TheVariants.{Stats, Reap, Take, Work, Finish, Sweep}
 use Rattle.vb_model.specs.declared.calls.Call.TheVariants.{Ask, SetTarget}
 use Rattle.vb_model.specs.declared.calls.Claim.{Claim}
-use Rattle.vb_model.specs.declared.calls.Event.{Event}
 use Rattle.vb_model.specs.declared.replies.Refusal.{Refusal}
 use Rattle.vb_model.specs.declared.replies.Reply.{Reply}
 use Rattle.vb_model.specs.declared.replies.Reply.TheVariants.{Refused}
@@ -25,14 +24,9 @@ use Rattle.vb_model.specs.Life.{feature_refusal, Negotiates, lacking}
 use Rattle.vb_model.specs.Rogue.{Scribbled}
 use Rattle.vb_model.specs.Step.{Performs, HonestStep}
 use Rattle.vb_model.specs.Orderly.{IsOrderly}
-use Rattle.vb_model.specs.World.{World, guest_at}
-use Rattle.vb_model.specs.HostEvents.{WorldStep}
 use Rattle.vb_model.specs.HonestRuns.{has_buffer, IsAttentive}
 use Rattle.vb_model.proofs.CallSteps.{match_cases, supplying_cases, works_cases, not_refused, Idles}
 use Rattle.vb_model.proofs.CallSteps.{Visits, supplied}
-use Rattle.vb_model.proofs.Changes.{Change, Untouched, Retargeted, Stepped, Restarted, New, changes}
-use Rattle.vb_model.proofs.Changes.{was_honest}
-use Rattle.vb_model.proofs.OrderlySteps.{AllOrderly}
 
 -- ---- a ready guest
 
@@ -234,39 +228,3 @@ honest_attentive g call claims reply new o h s honest =
       | inl p ↦ performs_attentive call g claims reply new o h p.0 p.1 honest
       | inr r ↦ subst IsAttentive (sym r.2.2) h
     ]
-
--- ---- an event
-
-abbrev pub AllAttentive : World → Type 0
-AllAttentive w = (n : ℕ) (g : Guest) → guest_at w.guests n ≡ Some g → g.rogue ≡ false
-    → IsAttentive g
-
-change_attentive : (w : World) (event : Event) (reply : Reply) (m : ℕ) (new : Guest)
-    → AllOrderly w → AllAttentive w → Change w event reply m new → new.rogue ≡ false
-    → IsAttentive new
-change_attentive w event reply m new o h (Untouched at) honest = h m new at honest
-change_attentive w event reply m new o h (Retargeted old target at e) honest =
-    let same : new.rogue ≡ old.rogue = ap (λ (g : Guest). g.rogue) e in
-    subst IsAttentive (sym e) (h m old at (sym same ∙ honest))
-change_attentive w event reply m new o h (Stepped old call claims on at gives step) honest =
-    let was = was_honest old call claims reply new step honest in
-    honest_attentive old call claims reply new (o m old at was.0) (h m old at was.0) was.1 honest
-change_attentive w event reply m new o h (Restarted old on at e) honest =
-    subst IsAttentive (sym e) (record {
-      inflating = λ other. refl;
-      deflating = λ other. refl;
-      reporting = λ other. refl;
-      buffered = refl;
-    })
-change_attentive w event reply m new o h (New config none e) honest =
-    subst IsAttentive (sym e) (record {
-      inflating = λ other. refl;
-      deflating = λ other. refl;
-      reporting = λ other. refl;
-      buffered = refl;
-    })
-
-pub step_attentive : (w : World) (event : Event) (reply : Reply) (v : World) → AllOrderly w
-    → AllAttentive w → WorldStep w event reply v → AllAttentive v
-step_attentive w event reply v o h s n g at honest =
-    change_attentive w event reply n g o h (changes w event reply v n g s at) honest

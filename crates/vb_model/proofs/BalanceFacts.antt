@@ -163,6 +163,10 @@ not_beyond_its_spare t = let l : 41 ≤ 40 = t.within 0 (omega arith) in absurd 
 not_too_little : TargetsAre (needs_of 40 30) 100 27 0 → ⊥
 not_too_little t = let e : Same 27 28 = t.enough in omega arith
 
+-- nor more
+not_too_much : TargetsAre (needs_of 40 30) 100 29 0 → ⊥
+not_too_much t = let e : Same 29 28 = t.enough in omega arith
+
 -- a target for each guest
 not_one_alone : AreTargets (needs_of 40 30) 100 (28 ∷ []) → ⊥
 not_one_alone t = let e : Same 1 2 = t.one_each in omega arith
@@ -209,7 +213,7 @@ needs_from_0_on = refl
 -- above a floor of 16 pages the first gives 28; nothing but the targets changes
 balanced : WorldStep (world (Some (aiming 3)) (Some (aiming 5))) (Balance 16)
     (Targets (28 ∷ 0 ∷ [])) (world (Some (aiming 28)) (Some (aiming 0)))
-balanced = (28 ∷ 0 ∷ [], first_alone 32 32 100 28 (omega arith) (omega arith) refl, refl, refl)
+balanced = ((28 ∷ 0 ∷ [], first_alone 32 32 100 28 (omega arith) (omega arith) refl, refl), refl)
 
 -- above 40 they can spare 16 of 28, and no target changes
 short : WorldStep (world (Some (aiming 3)) (Some (aiming 5))) (Balance 40) (Refused (Short 12))

@@ -13,7 +13,6 @@ use Rattle.vb_model.specs.declared.calls.Call.TheVariants.{Stats, Reap, Take, Wo
 use Rattle.vb_model.specs.declared.calls.Call.TheVariants.{Ask, SetTarget}
 use Rattle.vb_model.specs.declared.calls.Claim.{Claim}
 use Rattle.vb_model.specs.declared.calls.Claim.TheVariants.{Gave, GaveNoFrame, GaveNoMemory}
-use Rattle.vb_model.specs.declared.calls.Event.{Event}
 use Rattle.vb_model.specs.declared.replies.Refusal.{Refusal}
 use Rattle.vb_model.specs.declared.replies.Reply.{Reply}
 use Rattle.vb_model.specs.declared.replies.Reply.TheVariants.{Refused}
@@ -31,13 +30,9 @@ use Rattle.vb_model.specs.Life.{feature_refusal, Negotiates, lacking}
 use Rattle.vb_model.specs.Rogue.{Scribbled}
 use Rattle.vb_model.specs.Step.{Performs, HonestStep}
 use Rattle.vb_model.specs.Blank.{AreBlank, IsBlank}
-use Rattle.vb_model.specs.World.{World, guest_at}
-use Rattle.vb_model.specs.HostEvents.{WorldStep}
 use Rattle.vb_model.proofs.Tables.{length-each_from, each_page-get}
 use Rattle.vb_model.proofs.CallSteps.{match_cases, supplying_cases, works_cases, Idles, Visits}
 use Rattle.vb_model.proofs.CallSteps.{supplied, not_refused}
-use Rattle.vb_model.proofs.Changes.{Change, Untouched, Retargeted, Stepped, Restarted, New, changes}
-use Rattle.vb_model.proofs.Changes.{was_honest}
 
 abbrev frames_of : Guest → List (Option ℕ)
 frames_of g = g.frames
@@ -389,27 +384,3 @@ fresh_blank config target =
           (get_or-replicate config.pages page zero_page [] l) ∙ length-zero_page;
       blank = λ page l none. get_or-replicate config.pages page zero_page [] l;
     }
-
--- ---- every state
-
-abbrev pub AllBlank : World → Type 0
-AllBlank w = (n : ℕ) (g : Guest) → guest_at w.guests n ≡ Some g → g.rogue ≡ false → IsBlank g
-
-change_blank : (w : World) (event : Event) (reply : Reply) (m : ℕ) (new : Guest) → AllBlank w
-    → Change w event reply m new → new.rogue ≡ false → IsBlank new
-change_blank w event reply m new h (Untouched at) honest = h m new at honest
-change_blank w event reply m new h (Retargeted old target at e) honest =
-    let same : new.rogue ≡ old.rogue = ap (λ (g : Guest). g.rogue) e in
-    subst IsBlank (sym e) (h m old at (sym same ∙ honest))
-change_blank w event reply m new h (Stepped old call claims on at gives step) honest =
-    let was = was_honest old call claims reply new step honest in
-    honest_blank old call claims reply new (h m old at was.0) was.1 honest
-change_blank w event reply m new h (Restarted old on at e) honest =
-    subst IsBlank (sym e) (fresh_blank old.config old.target)
-change_blank w event reply m new h (New config none e) honest =
-    subst IsBlank (sym e) (fresh_blank config 0)
-
-pub step_blank : (w : World) (event : Event) (reply : Reply) (v : World) → AllBlank w
-    → WorldStep w event reply v → AllBlank v
-step_blank w event reply v h s n g at honest =
-    change_blank w event reply n g h (changes w event reply v n g s at) honest

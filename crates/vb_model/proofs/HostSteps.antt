@@ -19,11 +19,11 @@ use Rattle.vb_model.specs.Guest.{Guest, Config, fresh}
 use Rattle.vb_model.specs.Life.{after_restart}
 use Rattle.vb_model.specs.Balance.{AreTargets, shortage}
 use Rattle.vb_model.specs.World.{World}
-use Rattle.vb_model.specs.HostEvents.{Happens, Plugs, PlugsIn, Calls, Balances}
+use Rattle.vb_model.specs.HostEvents.{Happens, Plugs, PlugsIn, Calls, Balances, after_balance}
 use Rattle.vb_model.specs.Queries.{Answers}
 use Rattle.vb_model.specs.HostRefusals.{world_tests}
 use Rattle.vb_model.specs.World.{guest_at, with_guest, put_guest}
-use Rattle.vb_model.specs.HostEvents.{needs, with_targets}
+use Rattle.vb_model.specs.HostEvents.{needs}
 use Rattle.vb_model.specs.HostLaws.{HostStepsAgree, CallsLeaveTheHost}
 use Rattle.vb_model.proofs.Unique.{unique}
 
@@ -104,27 +104,22 @@ balances_agree : (floor : ℕ) (w : World) (reply : Reply) (new : World) (reply'
     (new' : World) → Balances floor w reply new → Balances floor w reply' new'
     → Same reply new reply' new'
 balances_agree floor w reply new reply' new' a b =
-    by (shortage (needs floor w) w.frames == 0) a b
+    let same = by (shortage (needs floor w) w.frames == 0) a.0 b.0 in
+    (same, a.1 ∙ (ap (λ (r : Reply). after_balance r w) same ∙ sym b.1))
   where
     by : (enough : Bool)
         → MatchBool enough
-        ((targets : List ℕ) × AreTargets (needs floor w) w.frames targets
-        × (reply ≡ Targets targets)
-        × (new ≡ record w { guests = with_targets targets w.guests }))
-        ((reply ≡ Refused (Short (shortage (needs floor w) w.frames))) × (new ≡ w))
+        ((targets : List ℕ) × AreTargets (needs floor w) w.frames targets × (reply ≡ Targets targets))
+        (reply ≡ Refused (Short (shortage (needs floor w) w.frames)))
         → MatchBool enough
         ((targets : List ℕ) × AreTargets (needs floor w) w.frames targets
-        × (reply' ≡ Targets targets)
-        × (new' ≡ record w { guests = with_targets targets w.guests }))
-        ((reply' ≡ Refused (Short (shortage (needs floor w) w.frames))) × (new' ≡ w))
-        → Same reply new reply' new'
+        × (reply' ≡ Targets targets))
+        (reply' ≡ Refused (Short (shortage (needs floor w) w.frames)))
+        → reply ≡ reply'
     by true a b =
-        let one : a.0 ≡ b.0 = unique (needs floor w) w.frames a.0 b.0 a.1 b.1 in (
-          a.2 ∙ (ap Targets one ∙ sym b.2),
-          a.3 ∙ (ap (λ (ts : List ℕ). record w { guests = with_targets ts w.guests }) one
-              ∙ sym b.3),
-        )
-    by false a b = (a.0 ∙ sym b.0, a.1 ∙ sym b.1)
+        let one : a.0 ≡ b.0 = unique (needs floor w) w.frames a.0 b.0 a.1 b.1 in
+        a.2 ∙ (ap Targets one ∙ sym b.2)
+    by false a b = a ∙ sym b
 
 -- ---- the plug: of two answers with one number, or with the number given up
 

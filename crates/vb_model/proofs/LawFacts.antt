@@ -24,7 +24,12 @@ use Rattle.vb_model.specs.HostFrames.{IsOut}
 use Rattle.vb_model.specs.HostLaws.{WorldsAgree}
 use Rattle.vb_model.specs.StepLaws.{IsOfOthers, HasNoFrame, WantOfFrames, may_want_memory}
 use Rattle.vb_model.specs.StepLaws.{HasNoReservedBallooned, IsUnchanged, call_may_want}
-use Rattle.vb_model.proofs.Samples.{ready, down}
+use Rattle.vb_model.specs.StepLaws.{with_features_refused}
+use Rattle.vb_model.specs.declared.calls.Claim.{Claim}
+use Rattle.vb_model.specs.declared.calls.Claim.TheVariants.{Gave}
+use Rattle.std.specs.List.{range_with_len}
+use Rattle.std.proofs.Common.{sym}
+use Rattle.vb_model.proofs.Samples.{ready}
 
 abbrev Same : ℕ → ℕ → Type 0
 Same a b = a ≡ b
@@ -141,39 +146,61 @@ page_16_ballooned page l =
 
 -- ---- what a refusal leaves: the guest as it was, but for features that an initialisation refused
 
+-- page 16 has frame 5, and the pages of rings and buffers have none
+abbrev before_refused : Guest
+before_refused = record backed { status = 0; features = 0 }
+
+abbrev some : ℕ → Option ℕ
+some n = Some n
+
+abbrev gave : ℕ → Claim
+gave frame = Gave frame
+
+abbrev thirteen : List Claim
+thirteen = map gave (range_with_len 20 13)
+
 abbrev failed : Guest
-failed = record down { status = 131 }
+failed = record before_refused {
+  status = 131;
+  features = 0x26;
+  frames =
+      map some (range_with_len 20 13) ++ (replicate 3 None ++ (Some 5 ∷ replicate 47 None));
+}
 
-changed_by_a_reset : IsUnchanged Reset NotHeld down failed → ⊥
-changed_by_a_reset (inl same) =
-    let e : Same 131 0 = ap (λ (g : Guest). g.status) same in omega arith
-changed_by_a_reset (inr (wanted, call, refused, status)) = cc
+abbrev status_of : Guest → ℕ
+status_of g = g.status
 
-failed_for_features : IsUnchanged (Init 0x26) VersionMissing down failed
+changed_by_a_reset : IsUnchanged Reset NotHeld [] before_refused failed → ⊥
+changed_by_a_reset (inl same) = let e : Same 131 0 = ap status_of same in omega arith
+changed_by_a_reset (inr (wanted, call, refused, left)) = cc
+
+failed_for_features : IsUnchanged (Init 0x26) VersionMissing thirteen before_refused failed
 failed_for_features = inr (0x26, refl, refl, refl)
 
 -- these features aren't refused
-failed_for_no_feature : IsUnchanged (Init 0x100000026) VersionMissing down failed → ⊥
-failed_for_no_feature (inl same) =
-    let e : Same 131 0 = ap (λ (g : Guest). g.status) same in omega arith
-failed_for_no_feature (inr (wanted, call, refused, status)) =
+failed_for_no_feature : IsUnchanged (Init 0x100000026) VersionMissing thirteen before_refused failed
+    → ⊥
+failed_for_no_feature (inl same) = let e : Same 131 0 = ap status_of same in omega arith
+failed_for_no_feature (inr (wanted, call, refused, left)) =
     let same : 0x100000026 ≡ wanted = cc in
     let e : None ≡ Some VersionMissing = ap feature_refusal same ∙ refused in
     cc
 
-failed_for_want_of_frames : IsUnchanged (Init 0x100000027) NoFrame down failed → ⊥
-failed_for_want_of_frames (inl same) =
-    let e : Same 131 0 = ap (λ (g : Guest). g.status) same in omega arith
-failed_for_want_of_frames (inr (wanted, call, refused, status)) =
+failed_for_want_of_frames : IsUnchanged (Init 0x100000027) NoFrame thirteen before_refused failed → ⊥
+failed_for_want_of_frames (inl same) = let e : Same 131 0 = ap status_of same in omega arith
+failed_for_want_of_frames (inr (wanted, call, refused, left)) =
     let same : 0x100000027 ≡ wanted = cc in
     let e : None ≡ Some NoFrame = ap feature_refusal same ∙ refused in
     cc
 
-initialised_but_refused : IsUnchanged (Init 0x26) VersionMissing down ready → ⊥
-initialised_but_refused (inl same) =
-    let e : Same 15 0 = ap (λ (g : Guest). g.status) same in omega arith
-initialised_but_refused (inr (wanted, call, refused, status)) =
-    let e : Same 15 131 = status in omega arith
+-- nothing else is changed, nor less
+just_failed : (new : Guest) → IsUnchanged (Init 0x26) VersionMissing thirteen before_refused new
+    → new.status ≡ 131 → new ≡ failed
+just_failed new (inl same) up = absurd (let e : Same 0 131 = sym (ap status_of same) ∙ up in omega arith)
+just_failed new (inr (wanted, call, refused, left)) up =
+    let same : wanted ≡ 0x26 = cc in
+    left ∙ ap (λ (features : ℕ). with_features_refused features VersionMissing thirteen before_refused)
+    same
 
 -- ---- which events may want memory: a plug, what needs a frame, a read, and lists of pages
 

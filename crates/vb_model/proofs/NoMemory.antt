@@ -1,7 +1,7 @@
 -- Which events may find no memory, and that nothing is changed then.
 use Rattle.std.proofs.Common.{sym, ◌≡◌, ℕ, zero, suc, Bool, true, false, List, [], ◌∷◌, refl, ap}
 use Rattle.std.proofs.Common.{◌∙◌, ◌⊎◌, inl, inr}
-use Rattle.std.specs.Prelude.{◌==◌, ◌||◌, not, Option, Some, MatchBool}
+use Rattle.std.specs.Prelude.{◌||◌, not, Option, Some}
 use Rattle.vb_model.specs.declared.calls.Call.{Call}
 use Rattle.vb_model.specs.declared.calls.Claim.{Claim}
 use Rattle.vb_model.specs.declared.calls.Event.{Event}
@@ -13,20 +13,19 @@ use Rattle.vb_model.specs.declared.calls.Query.TheVariants.{Places as AskPlaces,
 use Rattle.vb_model.specs.declared.calls.Query.TheVariants.{PagesBallooned, Balloon as AskBalloon}
 use Rattle.vb_model.specs.declared.calls.Query.TheVariants.{Memory as AskMemory}
 use Rattle.vb_model.specs.declared.calls.Query.TheVariants.{Backing as AskBacking}
-use Rattle.vb_model.specs.declared.replies.Refusal.TheVariants.{NoMemory, Short}
+use Rattle.vb_model.specs.declared.replies.Refusal.TheVariants.{NoMemory}
 use Rattle.vb_model.specs.declared.replies.Reply.{Reply}
-use Rattle.vb_model.specs.declared.replies.Reply.TheVariants.{Done, Targets, Refused}
+use Rattle.vb_model.specs.declared.replies.Reply.TheVariants.{Done, Refused}
 use Rattle.vb_model.specs.FirstRefusal.{first_refusal}
 use Rattle.vb_model.specs.Guest.{Guest}
 use Rattle.vb_model.specs.Driver.{AreClaimsFor, claim_refusal}
 use Rattle.vb_model.specs.Life.{after_restart}
 use Rattle.vb_model.specs.Rogue.{pages_to_back, is_read}
-use Rattle.vb_model.specs.Balance.{AreTargets, shortage}
+use Rattle.vb_model.proofs.Changes.{Balanced, Sets, Comes_up_short, balance_cases}
 use Rattle.vb_model.specs.World.{World, guest_at}
 use Rattle.vb_model.specs.HostEvents.{Happens, Calls, PlugsIn}
 use Rattle.vb_model.specs.Queries.{Answers}
 use Rattle.vb_model.specs.World.{with_guest, put_guest}
-use Rattle.vb_model.specs.HostEvents.{with_targets, needs}
 use Rattle.vb_model.specs.HostRefusals.{world_tests}
 use Rattle.vb_model.specs.StepLaws.{WantsChangeNothing, may_want_memory, call_may_want, is_none_of}
 use Rattle.vb_model.specs.StepLaws.{is_list}
@@ -121,16 +120,12 @@ happens_want (Asking n query) w v s =
       | inl none ↦ absurd none.1
       | inr g ↦ (answers_want query g.0 g.2, s.1)
     ]
-happens_want (Balance floor) w v s = balances (shortage (needs floor w) w.frames == 0) s
+happens_want (Balance floor) w v s = by (balance_cases floor w (Refused NoMemory) v s)
   where
-    balances : (b : Bool)
-        → MatchBool b ((targets : List ℕ) × AreTargets (needs floor w) w.frames targets
-        × (Refused NoMemory ≡ Targets targets)
-        × (v ≡ record w { guests = with_targets targets w.guests }))
-        ((Refused NoMemory ≡ Refused (Short (shortage (needs floor w) w.frames))) × (v ≡ w))
+    by : Balanced floor w (Refused NoMemory) v
         → (may_want_memory w (Balance floor) ≡ true) × (v ≡ w)
-    balances false s = not_wanted _ s.0 refl
-    balances true s = not_wanted _ s.2 refl
+    by (Comes_up_short said is) = not_wanted _ said refl
+    by (Sets targets are said is) = not_wanted _ said refl
 happens_want CountFrames w v s = not_wanted _ s.0 refl
 
 tests_of_others : (w : World) (event : Event) → none_wants (world_tests w event) ≡ true

@@ -14,6 +14,7 @@ use Rattle.vb_model.specs.declared.replies.Refusal.TheVariants.{NotHeld}
 use Rattle.vb_model.specs.declared.replies.Reply.TheVariants.{Done, Idle, Page, Posted}
 use Rattle.vb_model.specs.declared.replies.Reply.TheVariants.{Refused}
 use Rattle.vb_model.specs.Requests.{Request, Requests}
+use Rattle.vb_model.specs.Pages.{block_at}
 use Rattle.vb_model.specs.Guest.{Guest}
 use Rattle.vb_model.specs.Orderly.{IsOrderly, IsRequestSound, AreAgreed}
 use Rattle.vb_model.specs.Determined.{Agree}
@@ -182,3 +183,14 @@ done_or_not a = cc
 
 refused_two_guests : Agree (Scribble 64 0 []) (Refused OutOfRam) ready (Refused OutOfRam) down → ⊥
 refused_two_guests a = other_guest (a.1 OutOfRam refl)
+
+-- ---- held blocks
+
+misaligned : IsOrderly (record ready { held = block_at 17 1 ∷ [] }) → ⊥
+misaligned o = let e : false ≡ true = o.blocks.0.aligned in cc
+
+order_of_10 : IsOrderly (record ready { held = block_at 0 10 ∷ [] }) → ⊥
+order_of_10 o = let l : 10 ≤ 9 = o.blocks.0.order in omega (arith, l)
+
+past_the_last : IsOrderly (record ready { held = block_at 62 2 ∷ [] }) → ⊥
+past_the_last o = let l : 66 ≤ 64 = o.blocks.0.inside in omega (arith, l)

@@ -19,7 +19,6 @@ use Rattle.vb_model.specs.declared.calls.Call.TheVariants.{Scribble, Inflate, De
 use Rattle.vb_model.specs.declared.calls.Call.TheVariants.{Stats, Reap, Take, Work, Finish, Sweep}
 use Rattle.vb_model.specs.declared.calls.Call.TheVariants.{Ask, SetTarget}
 use Rattle.vb_model.specs.declared.calls.Claim.{Claim}
-use Rattle.vb_model.specs.declared.calls.Event.{Event}
 use Rattle.vb_model.specs.declared.replies.Refusal.{Refusal}
 use Rattle.vb_model.specs.declared.replies.Reply.{Reply}
 use Rattle.vb_model.specs.declared.replies.Reply.TheVariants.{Refused}
@@ -46,8 +45,6 @@ use Rattle.vb_model.specs.Step.{Performs, HonestStep}
 use Rattle.vb_model.specs.Consistent.{IsConsistent}
 use Rattle.vb_model.specs.Orderly.{AreOrderly, IsOrderly, IsBlock, AreBlocks}
 use Rattle.vb_model.specs.Orderly.{AreAgreed}
-use Rattle.vb_model.specs.World.{World, guest_at}
-use Rattle.vb_model.specs.HostEvents.{WorldStep}
 use Rattle.vb_model.proofs.Tables.{length-each_from}
 use Rattle.vb_model.proofs.PageSteps.{can_be_given, after_take, after_reap, outside-range}
 use Rattle.vb_model.proofs.GuestSteps.{placed-get, not_reserved, held_used, inflate_giving}
@@ -61,8 +58,6 @@ use Rattle.vb_model.proofs.InOrder.{no_requests_orderly, orderly_posting, orderl
 use Rattle.vb_model.proofs.InOrder.{orderly_work, orderly_finish, orderly_reap}
 use Rattle.vb_model.proofs.Distinct.{distinct_where, inflated_distinct}
 use Rattle.vb_model.proofs.Blocks.{reported_distinct}
-use Rattle.vb_model.proofs.Changes.{Change, Untouched, Retargeted, Stepped, Restarted, New, changes}
-use Rattle.vb_model.proofs.Changes.{was_honest, AllConsistent}
 
 -- ---- places
 
@@ -619,27 +614,3 @@ fresh_order config target =
         (range_with_len 0 config.pages)) page ≡ first_place (reserved_pages config.queue_size) page
     at page l = get_or-map-range_with_len (first_place (reserved_pages config.queue_size)) 0
         config.pages page page Reserved l (omega arith)
-
--- ---- every state
-
-abbrev pub AllOrderly : World → Type 0
-AllOrderly w = (n : ℕ) (g : Guest) → guest_at w.guests n ≡ Some g → g.rogue ≡ false → IsOrderly g
-
-change_order : (w : World) (event : Event) (reply : Reply) (m : ℕ) (new : Guest) → AllConsistent w
-    → AllOrderly w → Change w event reply m new → new.rogue ≡ false → IsOrderly new
-change_order w event reply m new c h (Untouched at) honest = h m new at honest
-change_order w event reply m new c h (Retargeted old target at e) honest =
-    let same : new.rogue ≡ old.rogue = ap (λ (g : Guest). g.rogue) e in
-    subst IsOrderly (sym e) (h m old at (sym same ∙ honest))
-change_order w event reply m new c h (Stepped old call claims on at gives step) honest =
-    let was = was_honest old call claims reply new step honest in
-    honest_order old call claims reply new (c m old at was.0) (h m old at was.0) was.1 honest
-change_order w event reply m new c h (Restarted old on at e) honest =
-    subst IsOrderly (sym e) (fresh_order old.config old.target)
-change_order w event reply m new c h (New config none e) honest =
-    subst IsOrderly (sym e) (fresh_order config 0)
-
-pub step_order : (w : World) (event : Event) (reply : Reply) (v : World) → AllConsistent w
-    → AllOrderly w → WorldStep w event reply v → AllOrderly v
-step_order w event reply v c h s n g at honest =
-    change_order w event reply n g c h (changes w event reply v n g s at) honest

@@ -2,24 +2,28 @@
 -- no scribble, the last write to a byte, and what isn't outstanding of a guest that isn't ready.
 use Rattle.std.proofs.Common.{◌≡◌, ℕ, zero, suc, ◌+◌, ◌≤◌, true, false, List, [], ◌∷◌, ◌++◌, map}
 use Rattle.std.proofs.Common.{replicate, refl, sym, ap, ◌∙◌, inl, inr, arith}
-use Rattle.std.specs.Prelude.{Bool, Option, Some, None}
+use Rattle.std.specs.Prelude.{Option, Some, None}
 use Rattle.vb_model.specs.declared.places.Place.{Place}
 use Rattle.vb_model.specs.declared.places.Place.TheVariants.{Reserved, Free as FreePlace, Used}
-use Rattle.vb_model.specs.declared.calls.Call.TheVariants.{Alloc, Free, Write, Scribble, Reset}
-use Rattle.vb_model.specs.declared.calls.Call.TheVariants.{Work}
+use Rattle.vb_model.specs.declared.calls.Actor.TheVariants.{Worker}
+use Rattle.vb_model.specs.declared.calls.Claim.TheVariants.{Gave}
+use Rattle.vb_model.specs.declared.calls.Call.TheVariants.{Write, Scribble, Reset, Sweep, Work}
 use Rattle.vb_model.specs.declared.calls.Event.{Event}
 use Rattle.vb_model.specs.declared.calls.Event.TheVariants.{Guest as OnGuest, Restart, Unplug}
 use Rattle.vb_model.specs.declared.replies.Refusal.TheVariants.{NoFrame}
-use Rattle.vb_model.specs.declared.replies.Reply.TheVariants.{Done, Refused}
-use Rattle.vb_model.specs.Pages.{place_of}
+use Rattle.vb_model.specs.declared.replies.Reply.TheVariants.{Done, Refused, Swept}
+use Rattle.vb_model.specs.Pages.{place_of, is_used}
 use Rattle.vb_model.specs.Requests.{Requests, outstanding, Figures, BufferPosted, BufferTaken}
 use Rattle.vb_model.specs.Requests.{BufferDone}
 use Rattle.vb_model.specs.Guest.{Guest}
 use Rattle.vb_model.specs.World.{World}
-use Rattle.vb_model.specs.Run.{History, guest_in}
-use Rattle.vb_model.specs.LastWrites.{HoldsPage, StaysOrLoses, byte_of, last_written}
+use Rattle.vb_model.specs.Run.{History}
+use Rattle.vb_model.specs.GuestRun.{Called, Looked}
+use Rattle.vb_model.specs.Courses.{Course, guest_after, IsWriteTo, StaysHeld, StaysOrLoses}
+use Rattle.vb_model.specs.Courses.{byte_of, last_put}
 use Rattle.vb_model.specs.HonestRuns.{IsThere, MakesNoScribble, IsAttentive}
 use Rattle.vb_model.proofs.Samples.{ready, down, without_stats_vq, page_16_at, request}
+use Rattle.vb_model.proofs.SafeFacts.{made, stands}
 
 abbrev Same : ℕ → ℕ → Type 0
 Same a b = a ≡ b
@@ -40,76 +44,71 @@ three before first between second after =
 abbrev holding : Guest → Option Guest
 holding g = Some (page_16_at Used g)
 
-abbrev not_holding : Option Guest
-not_holding = Some (page_16_at FreePlace down)
-
 abbrev rogue : Option Guest
 rogue = Some (record (page_16_at Used down) { rogue = true })
 
 -- ---- a page that is held
 
--- over a reset and while the guest is down, to the last state
-abbrev reset_while_held : History
-reset_while_held =
-    three (holding ready) (OnGuest 1 Reset) (holding down) (OnGuest 1 Work) (holding down)
+-- three states of a guest, with two events between
+abbrev three_states : Guest → Guest → Guest → Course
+three_states before between after = record {
+  first = before;
+  entries = None ∷ None ∷ [];
+  after = between ∷ after ∷ [];
+}
 
-held_over_a_reset : HoldsPage reset_while_held 1 16 0 2
-held_over_a_reset zero l = (page_16_at Used ready, (refl, refl), refl)
-held_over_a_reset (suc zero) l = (page_16_at Used down, (refl, refl), refl)
-held_over_a_reset (suc (suc zero)) l = (page_16_at Used down, (refl, refl), refl)
+-- over a reset and while the guest is down, to the last state
+abbrev reset_while_held : Course
+reset_while_held = three_states (page_16_at Used ready) (page_16_at Used down) (page_16_at Used down)
+
+held_over_a_reset : StaysHeld reset_while_held 16 0 2
+held_over_a_reset zero l = (page_16_at Used ready, refl, refl)
+held_over_a_reset (suc zero) l = (page_16_at Used down, refl, refl)
+held_over_a_reset (suc (suc zero)) l = (page_16_at Used down, refl, refl)
 held_over_a_reset (suc (suc (suc j))) l = absurd (omega arith)
 
 -- where it is handed out first, it is held since then
-abbrev handed_out_late : History
+abbrev handed_out_late : Course
 handed_out_late =
-    three not_holding (OnGuest 1 (Alloc 0 0)) (holding down) (OnGuest 1 Work) (holding down)
+    three_states (page_16_at FreePlace down) (page_16_at Used down) (page_16_at Used down)
 
-held_since : HoldsPage handed_out_late 1 16 1 1
-held_since zero l = (page_16_at Used down, (refl, refl), refl)
-held_since (suc zero) l = (page_16_at Used down, (refl, refl), refl)
+held_since : StaysHeld handed_out_late 16 1 1
+held_since zero l = (page_16_at Used down, refl, refl)
+held_since (suc zero) l = (page_16_at Used down, refl, refl)
 held_since (suc (suc j)) l = absurd (omega arith)
 
--- not where it is free in some state, nor where the guest is rogue in one
+-- not where it is free in some state, nor past the last
 abbrev place_there : Option Guest → Place
 place_there None = Reserved
 place_there (Some g) = place_of g.places 16
 
-abbrev is_rogue : Option Guest → Bool
-is_rogue None = false
-is_rogue (Some g) = g.rogue
-
-free_in : (h : History) (j : ℕ) → j ≤ 2 → place_there (guest_in h 1 (0 + j)) ≡ FreePlace
-    → HoldsPage h 1 16 0 2 → ⊥
-free_in h j l free holds =
-    let (g, honest, used) = holds j l in
-    let e : FreePlace ≡ Used = sym free ∙ (ap place_there honest.0 ∙ used) in
+not_used_in : (c : Course) (j : ℕ) → j ≤ 2 → is_used (place_there (guest_after c (0 + j))) ≡ false
+    → StaysHeld c 16 0 2 → ⊥
+not_used_in c j l free holds =
+    let (g, there, used) = holds j l in
+    let e : false ≡ true = sym free ∙ (ap (λ (o : Option Guest). is_used (place_there o)) there
+    ∙ ap is_used used) in
     cc
 
-abbrev handed_out_anew : History
-handed_out_anew =
-    three (holding down) (OnGuest 1 (Free 0 16 0)) not_holding (OnGuest 1 (Alloc 0 0))
-    (holding down)
+free_at_first : StaysHeld handed_out_late 16 0 2 → ⊥
+free_at_first = not_used_in handed_out_late 0 (omega arith) refl
 
-abbrev freed_at_last : History
-freed_at_last =
-    three (holding down) (OnGuest 1 Work) (holding down) (OnGuest 1 (Free 0 16 0)) not_holding
-
-free_at_first : HoldsPage handed_out_late 1 16 0 2 → ⊥
-free_at_first = free_in handed_out_late 0 (omega arith) refl
-
-free_in_between : HoldsPage handed_out_anew 1 16 0 2 → ⊥
-free_in_between = free_in handed_out_anew 1 (omega arith) refl
-
-free_at_last : HoldsPage freed_at_last 1 16 0 2 → ⊥
-free_at_last = free_in freed_at_last 2 (omega arith) refl
-
-rogue_in_between : HoldsPage
-    (three (holding down) (OnGuest 1 (Scribble 20 0 [])) rogue (Restart 1) (holding down)) 1 16 0 2
+free_in_between : StaysHeld
+    (three_states (page_16_at Used down) (page_16_at FreePlace down) (page_16_at Used down)) 16 0 2
     → ⊥
-rogue_in_between holds =
-    let (g, honest, used) = holds 1 (omega arith) in
-    let e : true ≡ false = ap is_rogue honest.0 ∙ honest.1 in
-    cc
+free_in_between = not_used_in
+    (three_states (page_16_at Used down) (page_16_at FreePlace down) (page_16_at Used down)) 1
+    (omega arith) refl
+
+free_at_last : StaysHeld
+    (three_states (page_16_at Used down) (page_16_at Used down) (page_16_at FreePlace down)) 16 0 2
+    → ⊥
+free_at_last = not_used_in
+    (three_states (page_16_at Used down) (page_16_at Used down) (page_16_at FreePlace down)) 2
+    (omega arith) refl
+
+past_the_last_state : StaysHeld (stands (page_16_at Used down)) 16 0 2 → ⊥
+past_the_last_state = not_used_in (stands (page_16_at Used down)) 1 (omega arith) refl
 
 -- ---- a guest that is there: in each state, honest or rogue, in whatever life
 
@@ -163,40 +162,49 @@ its_last_scribble none = none 1 20 4 (7 ∷ []) (omega arith) refl
 
 -- ---- the last write to a byte
 
--- two bytes of the page; one of another guest's page, and one of another page; one that is
--- refused; the second byte once more
-abbrev writes : History
+-- two bytes of the page; another's event; a write of another page; one that is refused; the second
+-- byte once more; a reset, a look and a sweep
+abbrev writes : Course
 writes = record {
-  first = at (holding ready);
-  events = OnGuest 1 (Write 16 2 (5 ∷ 6 ∷ [])) ∷ OnGuest 0 (Write 16 3 (9 ∷ []))
-      ∷ OnGuest 1 (Write 17 3 (8 ∷ [])) ∷ OnGuest 1 (Write 16 3 (7 ∷ []))
-      ∷ OnGuest 1 (Write 16 3 (4 ∷ [])) ∷ OnGuest 1 Reset ∷ [];
-  replies = Done ∷ Done ∷ Done ∷ Refused NoFrame ∷ Done ∷ Done ∷ [];
-  after = replicate 6 (at (holding ready));
+  first = page_16_at Used ready;
+  entries = made (Write 16 2 (5 ∷ 6 ∷ [])) Done ∷ None ∷ made (Write 17 3 (8 ∷ [])) Done
+      ∷ made (Write 16 3 (7 ∷ [])) (Refused NoFrame) ∷ made (Write 16 3 (4 ∷ [])) Done
+      ∷ made Reset Done ∷ Some (Looked 16 32) ∷ made (Sweep 16) (Swept true) ∷ [];
+  after = replicate 8 (page_16_at Used ready);
 }
 
--- byte 3 among more and more of the events, from the first one on, from the second, and from the
+-- a write counts whoever makes it, and whatever its claims were given
+abbrev written_by_the_worker : Course
+written_by_the_worker = record {
+  first = page_16_at Used ready;
+  entries = Some (Called (Worker 0) (Write 16 2 (5 ∷ [])) (Gave 7 ∷ []) Done) ∷ [];
+  after = page_16_at Used ready ∷ [];
+}
+
+its_byte : (last_put written_by_the_worker 16 2 0 1 100 ≡ 5) × IsWriteTo written_by_the_worker 16 0
+its_byte = (refl, (2, 5 ∷ [], (Worker 0, Gave 7 ∷ [], refl)))
+
+-- byte 3 among more and more of the entries, from the first one on, from the second, and from the
 -- last
-as_they_come : map (λ k. last_written writes 1 16 3 0 k 100) (0 ∷ 1 ∷ 2 ∷ 3 ∷ 4 ∷ 5 ∷ 6 ∷ [])
-    ≡ 100 ∷ 6 ∷ 6 ∷ 6 ∷ 6 ∷ 4 ∷ 4 ∷ []
+as_they_come : map (λ k. last_put writes 16 3 0 k 100) (0 ∷ 1 ∷ 2 ∷ 3 ∷ 4 ∷ 5 ∷ 6 ∷ 7 ∷ 8 ∷ [])
+    ≡ 100 ∷ 6 ∷ 6 ∷ 6 ∷ 6 ∷ 4 ∷ 4 ∷ 4 ∷ 4 ∷ []
 as_they_come = refl
 
-not_those_before : map (λ k. last_written writes 1 16 3 1 k 100) (0 ∷ 1 ∷ 2 ∷ 3 ∷ 4 ∷ 5 ∷ [])
+not_those_before : map (λ k. last_put writes 16 3 1 k 100) (0 ∷ 1 ∷ 2 ∷ 3 ∷ 4 ∷ 5 ∷ [])
     ≡ 100 ∷ 100 ∷ 100 ∷ 100 ∷ 4 ∷ 4 ∷ []
 not_those_before = refl
 
-by_a_reset : last_written writes 1 16 3 5 1 100 ≡ 100
+by_a_reset : last_put writes 16 3 5 1 100 ≡ 100
 by_a_reset = refl
 
 -- each byte of the page by itself
-byte_by_byte : map (λ byte. last_written writes 1 16 byte 0 6 (100 + byte))
+byte_by_byte : map (λ byte. last_put writes 16 byte 0 6 (100 + byte))
     (0 ∷ 1 ∷ 2 ∷ 3 ∷ 4 ∷ []) ≡ 100 ∷ 101 ∷ 5 ∷ 4 ∷ 104 ∷ []
 byte_by_byte = refl
 
--- of the other guest, and of the other page
-of_another : last_written writes 0 16 3 0 6 100 ∷ last_written writes 0 16 2 0 6 100
-    ∷ last_written writes 1 17 3 0 6 100 ∷ last_written writes 0 17 3 0 6 100 ∷ [] ≡ 9 ∷ 100 ∷ 8
-    ∷ 100 ∷ []
+-- of the other page, and of one that nothing was written to
+of_another : last_put writes 17 3 0 6 100 ∷ last_put writes 17 2 0 6 100
+    ∷ last_put writes 18 3 0 6 100 ∷ [] ≡ 8 ∷ 100 ∷ 100 ∷ []
 of_another = refl
 
 -- ---- a page that reads as it did, or has lost its frame

@@ -1,7 +1,7 @@
 -- A refusal changes nothing, but for an initialisation whose features are refused.
 use Rattle.std.proofs.Common.{◌≡◌, ℕ, Bool, true, false, cond, List, [], ◌∷◌, refl, ap, ◌∙◌, inl}
 use Rattle.std.proofs.Common.{inr}
-use Rattle.std.specs.Prelude.{◌==◌, Option, Some, None, MatchBool}
+use Rattle.std.specs.Prelude.{Option, Some, None}
 use Rattle.vb_model.specs.declared.calls.Call.{Call}
 use Rattle.vb_model.specs.declared.calls.Call.TheVariants.{Init, Reset, Alloc, Free, Read, Write}
 use Rattle.vb_model.specs.declared.calls.Call.TheVariants.{Scribble, Inflate, Deflate, Oom, Report}
@@ -13,9 +13,8 @@ use Rattle.vb_model.specs.declared.calls.Event.TheVariants.{Plug, Unplug, Restar
 use Rattle.vb_model.specs.declared.calls.Event.TheVariants.{Query as Asking, Balance}
 use Rattle.vb_model.specs.declared.calls.Event.TheVariants.{Frames as CountFrames}
 use Rattle.vb_model.specs.declared.replies.Refusal.{Refusal}
-use Rattle.vb_model.specs.declared.replies.Refusal.TheVariants.{Short}
 use Rattle.vb_model.specs.declared.replies.Reply.{Reply}
-use Rattle.vb_model.specs.declared.replies.Reply.TheVariants.{Done, Targets, Refused}
+use Rattle.vb_model.specs.declared.replies.Reply.TheVariants.{Done, Refused}
 use Rattle.vb_model.specs.Requests.{Request, Kind, kind_of_queue, Buffer, NoBuffer, BufferPosted}
 use Rattle.vb_model.specs.Requests.{BufferTaken, BufferDone}
 use Rattle.vb_model.specs.Guest.{Guest, requests}
@@ -25,13 +24,12 @@ use Rattle.vb_model.specs.Device.{Takes, TakesBuffer, Finishes, Asks, next_page}
 use Rattle.vb_model.specs.Life.{feature_refusal, Negotiates, lacking, after_restart}
 use Rattle.vb_model.specs.Rogue.{Scribbled}
 use Rattle.vb_model.specs.Step.{Performs}
-use Rattle.vb_model.specs.Balance.{AreTargets, shortage}
 use Rattle.vb_model.specs.World.{World, put_guest, guest_at}
-use Rattle.vb_model.specs.HostEvents.{Happens, PlugsIn, with_targets}
+use Rattle.vb_model.specs.HostEvents.{Happens, PlugsIn}
 use Rattle.vb_model.specs.HostRefusals.{world_tests}
-use Rattle.vb_model.specs.HostEvents.{needs}
-use Rattle.vb_model.specs.StepLaws.{IsUnchanged, RefusalsChangeNothing, RefusedEventsChangeNothing}
-use Rattle.vb_model.proofs.CallSteps.{match_cases, supplying_cases, works_cases}
+use Rattle.vb_model.specs.StepLaws.{IsUnchanged, with_features_refused, RefusalsChangeNothing}
+use Rattle.vb_model.specs.StepLaws.{RefusedEventsChangeNothing}
+use Rattle.vb_model.proofs.CallSteps.{match_cases, supplying_cases, works_cases, supplied}
 
 -- a reply that is no refusal
 abbrev pub is_refused : Reply → Bool
@@ -77,24 +75,25 @@ takes_refuse kind (r ∷ rest) g refusal new s = not_this refusal _ s.0 refl
 same_refusal : (a b : Refusal) → Refused a ≡ Refused b → b ≡ a
 same_refusal a b e = cc
 
-negotiates_refuse : (wanted : ℕ) (o : Option Refusal) (g m : Guest) (refusal : Refusal)
-    (new : Guest) → feature_refusal wanted ≡ o → Negotiates o wanted m (Refused refusal) new
-    → IsUnchanged (Init wanted) refusal g new
-negotiates_refuse wanted None g m refusal new e s = not_this refusal _ s.0 refl
-negotiates_refuse wanted (Some r) g m refusal new e s =
+negotiates_refuse : (wanted : ℕ) (o : Option Refusal) (g : Guest) (claims : List Claim)
+    (refusal : Refusal) (new : Guest) → feature_refusal wanted ≡ o
+    → Negotiates o wanted (supplied (lacking g) claims g) (Refused refusal) new
+    → IsUnchanged (Init wanted) refusal claims g new
+negotiates_refuse wanted None g claims refusal new e s = not_this refusal _ s.0 refl
+negotiates_refuse wanted (Some r) g claims refusal new e s =
     let same : r ≡ refusal = same_refusal refusal r s.0 in
     inr (
       wanted,
       refl,
       e ∙ ap (λ (x : Refusal). some_refusal x) same,
-      ap (λ (x : Guest). x.status) s.1,
+      s.1 ∙ ap (λ (x : Refusal). with_features_refused wanted x claims g) same,
     )
   where
     some_refusal : Refusal → Option Refusal
     some_refusal x = Some x
 
 performs_refuses : (call : Call) (g : Guest) (claims : List Claim) (refusal : Refusal) (new : Guest)
-    → Performs call g claims (Refused refusal) new → IsUnchanged call refusal g new
+    → Performs call g claims (Refused refusal) new → IsUnchanged call refusal claims g new
 performs_refuses (SetTarget n) g claims refusal new s = not_this refusal _ s.1 refl
 performs_refuses Reset g claims refusal new s = not_this refusal _ s.1 refl
 performs_refuses (Alloc cpu order) g claims refusal new s = not_this refusal _ s.1.2 refl
@@ -133,7 +132,7 @@ performs_refuses (Finish q i) g claims refusal new s =
 performs_refuses (Init wanted) g claims refusal new s =
     elim (supplying_cases (lacking g) g claims (Refused refusal) new
     (λ m. Negotiates (feature_refusal wanted) wanted m (Refused refusal) new) s) [
-      | inl m ↦ negotiates_refuse wanted (feature_refusal wanted) g _ refusal new refl m
+      | inl m ↦ negotiates_refuse wanted (feature_refusal wanted) g claims refusal new refl m
       | inr r ↦ inl r.2
     ]
 performs_refuses (Write page offset bytes) g claims refusal new s =
@@ -178,16 +177,7 @@ happens_refuses (Restart n) w refusal v other s =
     ]
 happens_refuses (OnGuest n call) w refusal v other s = absurd (other n call refl)
 happens_refuses (Asking n query) w refusal v other s = s.1
-happens_refuses (Balance floor) w refusal v other s =
-    balances (shortage (needs floor w) w.frames == 0) s
-  where
-    balances : (b : Bool)
-        → MatchBool b ((targets : List ℕ) × AreTargets (needs floor w) w.frames targets
-        × (Refused refusal ≡ Targets targets)
-        × (v ≡ record w { guests = with_targets targets w.guests }))
-        ((Refused refusal ≡ Refused (Short (shortage (needs floor w) w.frames))) × (v ≡ w)) → v ≡ w
-    balances false s = s.1
-    balances true s = not_this refusal _ s.2 refl
+happens_refuses (Balance floor) w refusal v other s = s.1
 happens_refuses CountFrames w refusal v other s = s.1
 
 pub refused_events_change_nothing : RefusedEventsChangeNothing

@@ -1,5 +1,5 @@
 -- Worked facts of free blocks, allocations, and page reports.
-use Rattle.std.proofs.Common.{◌≡◌, ℕ, true, false, List, [], ◌∷◌, ◌++◌, map, replicate, refl, arith}
+use Rattle.std.proofs.Common.{◌≡◌, ℕ, Bool, true, false, List, [], ◌∷◌, ◌++◌, map, replicate, refl, arith}
 use Rattle.std.specs.Prelude.{Option, Some, None, drop}
 use Rattle.std.specs.List.{range_with_len, flat_map}
 use Rattle.vb_model.specs.declared.places.Place.{Place}
@@ -12,7 +12,8 @@ use Rattle.vb_model.specs.declared.replies.Refusal.{Refusal}
 use Rattle.vb_model.specs.declared.replies.Refusal.TheVariants.{NotReady, NoFeature, QueueFull}
 use Rattle.vb_model.specs.declared.replies.Refusal.TheVariants.{Nothing, NoPages, NotHeld}
 use Rattle.vb_model.specs.declared.replies.Reply.TheVariants.{Page, Posted, Done, Reaped, NotUsed}
-use Rattle.vb_model.specs.Pages.{Block, all_free, blocks_at, maximal_free_blocks, is_maximal_free}
+use Rattle.vb_model.specs.Pages.{Block, all_free, blocks_at, maximal_free_blocks, is_maximal}
+use Rattle.vb_model.specs.Pages.{place_of, is_free}
 use Rattle.vb_model.specs.Pages.{is_wholly_free}
 use Rattle.vb_model.specs.Requests.{Request, Requests, no_requests, IsLeastHead}
 use Rattle.vb_model.specs.Guest.{Guest, fresh}
@@ -65,6 +66,9 @@ orders = refl
 largest_blocks : maximal_free_blocks (all_free 16 1024) ≡ block 16 4 ∷ block 32 5 ∷ block 64 6
     ∷ block 128 7 ∷ block 256 8 ∷ block 512 9 ∷ []
 largest_blocks = refl
+
+abbrev is_maximal_free : List Place → Block → Bool
+is_maximal_free places b = is_maximal (λ page. is_free (place_of places page)) b
 
 beside_another : is_maximal_free (all_free 16 2048) (block 1024 9) ≡ true
 beside_another = refl

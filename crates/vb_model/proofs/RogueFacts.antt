@@ -1,7 +1,7 @@
 -- Worked facts of scribbles and of what a rogue guest may need.
 use Rattle.std.proofs.Common.{◌≡◌, ℕ, ◌<◌, true, false, List, [], ◌∷◌, ◌++◌, map, replicate, refl}
 use Rattle.std.proofs.Common.{◌∙◌, ap, inl, inr, arith}
-use Rattle.std.specs.Prelude.{Option, Some, None}
+use Rattle.std.specs.Prelude.{Option, Some, None, unwrap_or}
 use Rattle.std.specs.List.{range_with_len}
 use Rattle.std.proofs.Math.ListN.{get_or-append}
 use Rattle.std.proofs.lemmas.Bool.{cases_lt}
@@ -12,6 +12,7 @@ use Rattle.vb_model.specs.declared.calls.Call.TheVariants.{Stats, Reap, Take, Wo
 use Rattle.vb_model.specs.declared.calls.Call.TheVariants.{Ask, SetTarget}
 use Rattle.vb_model.specs.declared.calls.Claim.{Claim}
 use Rattle.vb_model.specs.declared.calls.Claim.TheVariants.{Gave, GaveNoFrame, GaveNoMemory}
+use Rattle.vb_model.specs.declared.replies.Refusal.{Refusal}
 use Rattle.vb_model.specs.declared.replies.Refusal.TheVariants.{OutOfRam, NoFrame, NoMemory}
 use Rattle.vb_model.specs.declared.replies.Reply.{Reply}
 use Rattle.vb_model.specs.declared.replies.Reply.TheVariants.{Done, Idle, Refused}
@@ -19,7 +20,7 @@ use Rattle.vb_model.specs.declared.places.Place.TheVariants.{Lent, Used}
 use Rattle.vb_model.specs.Guest.{Guest, Config, is_ballooned, frame_of}
 use Rattle.vb_model.specs.Refusals.{refusal_of}
 use Rattle.vb_model.specs.Rogue.{LosesFrames, HasAllPages, IsRogueAfter, ScribbleStep}
-use Rattle.vb_model.specs.Rogue.{RogueStep, pages_to_back}
+use Rattle.vb_model.specs.Rogue.{RogueStep, pages_to_back, after_refused}
 use Rattle.vb_model.specs.Step.{HonestStep}
 use Rattle.vb_model.proofs.Samples.{config, ready, down}
 
@@ -80,6 +81,23 @@ all_that_is_said : (reply : Reply) (new : Guest)
     → HonestStep before (Scribble 17 0 (1 ∷ [])) (Gave 20 ∷ []) reply new
     → (reply ≡ Done) × (new ≡ record marked { contents = new.contents })
 all_that_is_said reply new s = (s.1.answered, s.1.memory)
+
+-- any bytes may be left, in any page
+any_bytes : (bytes : List ℕ) → HonestStep before (Scribble 17 0 (1 ∷ [])) (Gave 20 ∷ []) Done
+    (record marked { contents = replicate 64 bytes })
+any_bytes bytes = (
+  tt,
+  record {
+    answered = refl;
+    state = record {
+      still = refl;
+      config = refl;
+      unreserved = no_flag;
+      sizes = record { placed = refl; flagged = refl; framed = refl; filled = refl };
+    };
+    memory = refl;
+  },
+)
 
 -- a claim that is refused is the answer, and the guest stays honest
 no_frame_for_a_scribble : HonestStep before (Scribble 17 0 (1 ∷ [])) (GaveNoFrame ∷ [])
@@ -236,6 +254,34 @@ target_is_set : (reply : Reply) (new : Guest) → RogueStep after (SetTarget 5) 
     → new.target ≡ 5
 target_is_set reply new s = s.target
 
+-- by no other call
+target_stays : RogueStep after Work [] Idle (record lost { target = 8 }) → ⊥
+target_stays s = let e : Same 8 7 = s.target in omega arith
+
+-- a frame enters by a claim alone, at the page that it was claimed for
+unclaimed_frame : RogueStep after Work [] Idle
+    (record after { frames = replicate 16 None ++ (Some 13 ∷ Some 20 ∷ Some 3 ∷ replicate 45 None) })
+    → ⊥
+unclaimed_frame s =
+    let e : Same 0 3 = ap (λ (o : Option ℕ). unwrap_or o 0) (s.frames 18 3 refl) in omega arith
+
+abbrev holding : Guest
+holding = record after { places = replicate 64 Used }
+
+abbrev with_frames : List (Option ℕ) → Guest
+with_frames frames =
+    record holding { frames = replicate 16 None ++ (Some 13 ∷ Some 20 ∷ frames) }
+
+frame_of_another_page : (reply : Reply) → RogueStep holding (Write 18 0 (1 ∷ [])) (Gave 3 ∷ []) reply
+    (with_frames (None ∷ Some 3 ∷ replicate 44 None)) → ⊥
+frame_of_another_page reply s =
+    let e : Same 0 3 = ap (λ (o : Option ℕ). unwrap_or o 0) (s.frames 19 3 refl) in omega arith
+
+another_frame : (reply : Reply) → RogueStep holding (Write 18 0 (1 ∷ [])) (Gave 3 ∷ []) reply
+    (with_frames (Some 4 ∷ replicate 45 None)) → ⊥
+another_frame reply s =
+    let e : Same 3 4 = ap (λ (o : Option ℕ). unwrap_or o 0) (s.frames 18 4 refl) in omega arith
+
 -- a refusal for want of a frame needs a claim
 no_frame_without_a_claim : (new : Guest)
     → RogueStep after (Write 18 0 (1 ∷ [])) [] (Refused NoFrame) new → ⊥
@@ -254,6 +300,29 @@ no_memory_for_a_take new s = elim (s.no_memory refl) [
   | inl claimed ↦ (let e : None ≡ Some NoMemory = claimed in cc)
   | inr read ↦ cc
 ]
+
+-- a read may find none
+no_memory_for_a_read : RogueStep after (Read 17 0 1) [] (Refused NoMemory) after
+no_memory_for_a_read = record {
+  stays = record {
+    still = refl;
+    config = refl;
+    unreserved = no_reserved_flag;
+    sizes = record { placed = refl; flagged = refl; framed = refl; filled = refl };
+  };
+  target = refl;
+  claimed = tt;
+  frames = λ page frame h. h;
+  no_frame = λ e. absurd cc;
+  no_memory = λ e. inr refl;
+  refused = λ refusal e. as_it_was refusal e;
+  scribble = λ page offset bytes e. cc;
+}
+  where
+    as_it_was : (refusal : Refusal) → Refused NoMemory ≡ Refused refusal
+        → after ≡ after_refused (Read 17 0 1) refusal [] after
+    as_it_was NoMemory e = refl
+    as_it_was _ e = absurd cc
 
 no_memory_keeps_all : (new : Guest)
     → RogueStep after (Read 17 0 1) [] (Refused NoMemory) new → new ≡ after

@@ -3,15 +3,16 @@ use Rattle.std.proofs.Common.{◌≡◌, ℕ, true, false, List, [], ◌∷◌, 
 use Rattle.std.specs.Prelude.{Option, Some, None}
 use Rattle.vb_model.specs.declared.calls.Call.TheVariants.{Init, Write, Reap, Take}
 use Rattle.vb_model.specs.declared.calls.Claim.{Claim}
-use Rattle.vb_model.specs.declared.calls.Claim.TheVariants.{Gave, GaveNoFrame}
+use Rattle.vb_model.specs.declared.calls.Claim.TheVariants.{Gave, GaveNoFrame, GaveNoMemory}
 use Rattle.vb_model.specs.declared.places.Place.TheVariants.{Reserved, Used, Lent}
-use Rattle.vb_model.specs.declared.replies.Refusal.TheVariants.{NoFrame, AlreadyUp, Busy}
+use Rattle.vb_model.specs.declared.replies.Refusal.TheVariants.{NoFrame, NoMemory, AlreadyUp, Busy}
+use Rattle.vb_model.specs.declared.replies.Refusal.TheVariants.{FeatureNotOffered}
 use Rattle.vb_model.specs.declared.replies.Refusal.TheVariants.{Broken, RingBroken, VersionMissing}
 use Rattle.vb_model.specs.declared.replies.Reply.{Reply}
 use Rattle.vb_model.specs.declared.replies.Reply.TheVariants.{Refused}
-use Rattle.vb_model.specs.Guest.{Guest}
+use Rattle.vb_model.specs.Guest.{Guest, no_statistics}
 use Rattle.vb_model.specs.Rogue.{RogueStep}
-use Rattle.vb_model.proofs.Samples.{ready}
+use Rattle.vb_model.proofs.Samples.{ready, request}
 
 -- pages 16 to 62 are used and have no frame, page 63 is lent
 abbrev rogue : Guest
@@ -52,6 +53,17 @@ failed_alone : (new : Guest) → RogueStep rogue (Reap 1) [] (Refused RingBroken
     → new ≡ record rogue { status = 143 }
 failed_alone new s = s.refused RingBroken refl
 
+-- once more, and nothing else is set
+needs_reset_still : (new : Guest)
+    → RogueStep (record rogue { status = 79 }) (Take 0) [] (Refused (Broken 9)) new
+    → new ≡ record rogue { status = 79 }
+needs_reset_still new s = s.refused (Broken 9) refl
+
+failed_still : (new : Guest)
+    → RogueStep (record rogue { status = 143 }) (Reap 1) [] (Refused RingBroken) new
+    → new ≡ record rogue { status = 143 }
+failed_still new s = s.refused RingBroken refl
+
 -- others leave all as it was
 unchanged : (new : Guest) → RogueStep rogue (Take 0) [] (Refused Busy) new → new ≡ rogue
 unchanged new s = s.refused Busy refl
@@ -60,7 +72,8 @@ unchanged_when_up : (new : Guest) → RogueStep rogue (Init 0x100000001) [] (Ref
     → new ≡ rogue
 unchanged_when_up new s = s.refused AlreadyUp refl
 
--- once the features are refused, with its frames and with nothing ballooned
+-- once the features are refused, with its frames, and of the device with what a reset leaves: nothing
+-- ballooned, no page counted as given to the host, no statistics
 abbrev thirteen : List Claim
 thirteen = Gave 0 ∷ Gave 1 ∷ Gave 2 ∷ Gave 3 ∷ Gave 4 ∷ Gave 5 ∷ Gave 6 ∷ Gave 7 ∷ Gave 8 ∷ Gave 9
     ∷ Gave 10 ∷ Gave 11 ∷ Gave 12 ∷ []
@@ -70,13 +83,48 @@ first_thirteen =
     Some 0 ∷ Some 1 ∷ Some 2 ∷ Some 3 ∷ Some 4 ∷ Some 5 ∷ Some 6 ∷ Some 7 ∷ Some 8 ∷ Some 9
     ∷ Some 10 ∷ Some 11 ∷ Some 12 ∷ replicate 51 None
 
+abbrev told_much : Guest
+told_much = record rogue {
+  inflate = record { posted = request 1 (40 ∷ []) 0 ∷ []; taken = []; done = [] };
+  target = 7;
+  status = 0;
+  ballooned = replicate 64 true;
+  actual = 5;
+  last = record { free = Some 4096; total = Some 8192 };
+}
+
 features_refused : (new : Guest)
-    → RogueStep (record rogue { status = 0; ballooned = replicate 64 true }) (Init 1) thirteen
-    (Refused VersionMissing) new
-    → new ≡ record rogue {
+    → RogueStep told_much (Init 1) thirteen (Refused VersionMissing) new
+    → new ≡ record told_much {
       status = 131;
       features = 1;
       ballooned = replicate 64 false;
+      actual = 0;
+      last = no_statistics;
       frames = first_thirteen;
     }
 features_refused new s = s.refused VersionMissing refl
+
+-- a feature that isn't offered is refused before any is accepted
+feature_not_offered : (new : Guest)
+    → RogueStep told_much (Init 0x100000008) thirteen (Refused FeatureNotOffered) new
+    → new ≡ record told_much {
+      status = 131;
+      features = 0;
+      ballooned = replicate 64 false;
+      actual = 0;
+      last = no_statistics;
+      frames = first_thirteen;
+    }
+feature_not_offered new s = s.refused FeatureNotOffered refl
+
+-- for want of a frame or of memory nothing is changed
+no_frame_to_start : (new : Guest)
+    → RogueStep told_much (Init 0x100000027) (Gave 0 ∷ GaveNoFrame ∷ []) (Refused NoFrame) new
+    → new ≡ told_much
+no_frame_to_start new s = s.refused NoFrame refl
+
+no_memory_to_start : (new : Guest)
+    → RogueStep told_much (Init 0x100000027) (Gave 0 ∷ GaveNoMemory ∷ []) (Refused NoMemory) new
+    → new ≡ told_much
+no_memory_to_start new s = s.refused NoMemory refl

@@ -1,9 +1,10 @@
 -- Worked facts of runs, of states, and of the entries of one guest.
-use Rattle.std.proofs.Common.{◌≡◌, ℕ, List, [], ◌∷◌, ◌++◌, true, false, refl, sym, ◌∙◌, ap, subst}
+use Rattle.std.proofs.Common.{◌≡◌, ℕ, List, [], ◌∷◌, true, false, refl, sym, ◌∙◌, ap, subst}
 use Rattle.std.proofs.Common.{arith, length}
-use Rattle.std.specs.Prelude.{Some, None, unwrap_or}
+use Rattle.std.specs.Prelude.{Option, Some, None, unwrap_or}
 use Rattle.vb_model.specs.declared.calls.Actor.TheVariants.{Balancer, Processor}
-use Rattle.vb_model.specs.declared.calls.Call.TheVariants.{Work, SetTarget, Write, Scribble}
+use Rattle.vb_model.specs.declared.calls.Call.TheVariants.{Ask, Init, Reset, Work, SetTarget}
+use Rattle.vb_model.specs.declared.calls.Call.TheVariants.{Write, Scribble}
 use Rattle.vb_model.specs.declared.calls.Claim.{Claim}
 use Rattle.vb_model.specs.declared.calls.Claim.TheVariants.{Gave}
 use Rattle.vb_model.specs.declared.calls.Event.TheVariants.{Unplug, Restart, Guest as OnGuest}
@@ -15,9 +16,9 @@ use Rattle.vb_model.specs.Guest.{Guest}
 use Rattle.vb_model.specs.World.{World, made}
 use Rattle.vb_model.specs.HostFrames.{Gives, IsOut}
 use Rattle.vb_model.specs.Run.{History, Run, Steps, guest_in, last_world}
-use Rattle.vb_model.specs.GuestRun.{Entry, Called, Looked, EntryStep, GuestRun, IsHistory}
-use Rattle.vb_model.specs.GuestRun.{AreOwnEntries, AreEntriesOf, InOneLife}
-use Rattle.vb_model.proofs.Samples.{config, ready, down}
+use Rattle.vb_model.specs.GuestRun.{Entry, Called, Looked, EntryStep, IsOwnEntry, AreOwn, InOneLife}
+use Rattle.vb_model.specs.GuestRun.{Alone}
+use Rattle.vb_model.proofs.Samples.{ready, down}
 
 abbrev world : ℕ → World
 world frames = made frames []
@@ -86,8 +87,6 @@ guests_by_number = refl
 ends_with_the_last : last_world (world 64) (at down ∷ at ready ∷ []) ≡ at ready
 ends_with_the_last = refl
 
--- ---- entries of one guest
-
 -- the balancer's look answers what the guest can spare, and changes nothing
 abbrev known : Guest
 known = record ready { last = record { free = Some 196608; total = Some 262144 } }
@@ -108,79 +107,75 @@ a_look_forgets_nothing s =
 a_look_takes_no_page : EntryStep known (Looked 16 32) (record known { places = [] }) → ⊥
 a_look_takes_no_page s = let e : Same 0 64 = ap (λ (g : Guest). length g.places) s.1 in omega arith
 
--- a run of no entries ends where it began, and each entry goes on where the one before it ended
-no_entries : (new : Guest) → GuestRun known [] new → new ≡ known
-no_entries new run = run
+-- a scribble that is done is no step of an honest guest's run
+scribble_done : (claims : List Claim) (new : Guest)
+    → EntryStep ready (Called (Processor 1 0) (Scribble 20 0 []) claims Done) new → ⊥
+scribble_done claims new s = let wrong : true ≡ false = s.0 in cc
 
-an_end_elsewhere : GuestRun ready (Called Balancer (SetTarget 3) [] Done ∷ []) ready → ⊥
-an_end_elsewhere (mid, step, end) =
-    let e : Same 0 3 = ap (λ (g : Guest). g.target) (end ∙ step.1.2) in omega arith
+-- ---- what an event is to a guest
 
-a_start_elsewhere : (floor spare : ℕ) (new : Guest)
-    → GuestRun ready (Called Balancer (SetTarget 3) [] Done ∷ Looked floor spare ∷ []) new
-    → new.target ≡ 3
-a_start_elsewhere floor spare new (mid, step, (next, look, end)) =
-    ap (λ (g : Guest). g.target) (end ∙ (look.1 ∙ step.1.2))
+abbrev no_own : Option Entry
+no_own = None
 
--- a history begins with a guest as it is plugged in, with the target kept
-empty_history : IsHistory config 0 [] down
-empty_history = refl
+-- its own call is its entry, by whomever; another's call is none
+abbrev work_done : Option Entry
+work_done = Some (Called (Processor 1 0) Work [] Idle)
 
-target_kept : IsHistory config 7 [] (record down { target = 7 })
-target_kept = refl
+own_call : AreOwn 1 (at ready) (OnGuest 1 Work ∷ OnGuest 0 Work ∷ []) (Idle ∷ Done ∷ [])
+    (at ready ∷ at ready ∷ []) (work_done ∷ None ∷ []) (ready ∷ ready ∷ [])
+own_call = ((Processor 1 0, [], tt, refl), refl, (refl, refl, tt))
 
-two_calls : GuestRun ready
-    (Called Balancer (SetTarget 3) [] Done ∷ Called (Processor 0 0) Work [] Idle ∷ [])
-    (record ready { target = 3 })
-two_calls = (
-  record ready { target = 3 },
-  (refl, (refl, refl, refl)),
-  (record ready { target = 3 }, (refl, (refl, (refl, refl))), refl),
-)
+own_call_left_out : AreOwn 1 (at ready) (OnGuest 1 Work ∷ []) (Idle ∷ []) (at ready ∷ [])
+    (None ∷ []) (ready ∷ []) → ⊥
+own_call_left_out (own, there, rest) =
+    let e : no_own ≡ Some (Called own.0 Work own.1 Idle) = own.3 in cc
 
--- a guest's own calls are its entries, each with what the host gave its claims; those of others are
--- none
-abbrev two_calls_made : List Entry
-two_calls_made = Called (Processor 1 0) Work [] Idle ∷ []
+-- an entry for each event
+one_entry_too_few : AreOwn 1 (at ready) (OnGuest 1 Work ∷ []) (Idle ∷ []) (at ready ∷ []) [] [] → ⊥
+one_entry_too_few own = own
 
-own_call : AreEntriesOf 1 (at ready) (OnGuest 1 Work ∷ OnGuest 0 Work ∷ []) (Idle ∷ Done ∷ [])
-    (at ready ∷ at ready ∷ []) two_calls_made
-own_call = (
-  two_calls_made,
-  [],
-  (Processor 1 0, [], tt, refl),
-  ([], [], refl, refl, refl),
-  refl,
-)
+one_entry_too_many : AreOwn 1 (at ready) [] [] [] (None ∷ []) (ready ∷ []) → ⊥
+one_entry_too_many own = own
 
-own_call_left_out : AreEntriesOf 1 (at ready) (OnGuest 1 Work ∷ []) (Idle ∷ []) (at ready ∷ []) []
-    → ⊥
-own_call_left_out (own, later, is, later_is, e) =
-    let made : Called is.0 Work is.1 Idle ∷ [] ≡ own = sym is.3 in
-    let all : [] ≡ (Called is.0 Work is.1 Idle ∷ []) ++ later =
-    e ∙ ap (λ (l : List Entry). l ++ later) (sym made) in
+-- and the guest is the one that is there then
+another_guest : AreOwn 1 (at ready) (OnGuest 1 Work ∷ []) (Idle ∷ []) (at ready ∷ [])
+    (work_done ∷ []) (down ∷ []) → ⊥
+another_guest (own, there, rest) =
+    let e : Same 15 0 = ap (λ (o : Option Guest). status_of o) there in omega arith
+  where
+    status_of : Option Guest → ℕ
+    status_of None = 0
+    status_of (Some g) = g.status
+
+another_reply : IsOwnEntry 1 (at ready) (OnGuest 1 Work) Idle (at ready)
+    (Some (Called (Processor 1 0) Work [] Done)) → ⊥
+another_reply own =
+    let e : Some (Called (Processor 1 0) Work [] Done) ≡ Some (Called own.0 Work own.1 Idle) =
+    own.3 in
+    cc
+
+another_call : IsOwnEntry 1 (at ready) (OnGuest 1 Work) Idle (at ready)
+    (Some (Called (Processor 1 0) Ask [] Idle)) → ⊥
+another_call own =
+    let e : Some (Called (Processor 1 0) Ask [] Idle) ≡ Some (Called own.0 Work own.1 Idle) =
+    own.3 in
     cc
 
 -- no frame that is out is given: 64 frames, and a claim for frame 64
-claim_past_the_last : (own : List Entry)
-    → AreOwnEntries 1 (at ready) (OnGuest 1 (Write 20 0 (7 ∷ []))) Done (at ready) own
-    → own ≡ Called (Processor 1 0) (Write 20 0 (7 ∷ [])) (Gave 64 ∷ []) Done ∷ [] → ⊥
+claim_past_the_last : (own : Option Entry)
+    → IsOwnEntry 1 (at ready) (OnGuest 1 (Write 20 0 (7 ∷ []))) Done (at ready) own
+    → own ≡ Some (Called (Processor 1 0) (Write 20 0 (7 ∷ [])) (Gave 64 ∷ []) Done) → ⊥
 claim_past_the_last own is e =
-    let same : Called is.0 (Write 20 0 (7 ∷ [])) is.1 Done
-    ∷ [] ≡ Called (Processor 1 0) (Write 20 0 (7 ∷ [])) (Gave 64 ∷ []) Done ∷ [] =
+    let same : Some (Called is.0 (Write 20 0 (7 ∷ [])) is.1 Done)
+    ≡ Some (Called (Processor 1 0) (Write 20 0 (7 ∷ [])) (Gave 64 ∷ []) Done) =
     sym is.3 ∙ e in
     let claims : is.1 ≡ Gave 64 ∷ [] = cc in
     let gives : Gives 64 (IsOut (at ready)) (Gave 64 ∷ []) =
     subst (λ (l : List Claim). Gives 64 (IsOut (at ready)) l) claims is.2 in
     omega (arith, gives.0)
 
--- a scribble that is done is no step of an honest guest's run
-scribble_done : (claims : List Claim) (new : Guest)
-    → EntryStep ready (Called (Processor 1 0) (Scribble 20 0 []) claims Done) new → ⊥
-scribble_done claims new s = let wrong : true ≡ false = s.0 in cc
-
-scribble_refused : AreOwnEntries 1 (at ready) (OnGuest 1 (Scribble 99 0 [])) (Refused OutOfRam)
-    (at ready) (Called (Processor 1 0) (Scribble 99 0 []) [] (Refused OutOfRam) ∷ [])
+scribble_refused : IsOwnEntry 1 (at ready) (OnGuest 1 (Scribble 99 0 [])) (Refused OutOfRam)
+    (at ready) (Some (Called (Processor 1 0) (Scribble 99 0 []) [] (Refused OutOfRam)))
 scribble_refused = (Processor 1 0, [], tt, refl)
 
 -- a balance that set targets is one entry, with this guest's new target and not another's
@@ -193,22 +188,56 @@ aimed = record {
   given_up = None;
 }
 
-abbrev told : ℕ → List Entry
-told target = Called Balancer (SetTarget target) [] Done ∷ []
+abbrev told : ℕ → Option Entry
+told target = Some (Called Balancer (SetTarget target) [] Done)
 
-new_target : AreOwnEntries 0 aimed (Balance 16) (Targets (28 ∷ 5 ∷ [])) aimed (told 28)
-    × AreOwnEntries 1 aimed (Balance 16) (Targets (28 ∷ 5 ∷ [])) aimed (told 5)
+-- the target is the one that it has then
+abbrev not_aimed : World
+not_aimed = record aimed
+    { guests = Some (record ready { target = 9 }) ∷ Some (record ready { target = 9 }) ∷ [] }
+
+target_of_then : IsOwnEntry 1 not_aimed (Balance 16) (Targets (28 ∷ 5 ∷ [])) aimed (told 5)
+target_of_then = refl
+
+target_of_before : IsOwnEntry 1 not_aimed (Balance 16) (Targets (28 ∷ 5 ∷ [])) aimed (told 9) → ⊥
+target_of_before e = cc
+
+new_target : IsOwnEntry 0 aimed (Balance 16) (Targets (28 ∷ 5 ∷ [])) aimed (told 28)
+    × IsOwnEntry 1 aimed (Balance 16) (Targets (28 ∷ 5 ∷ [])) aimed (told 5)
 new_target = (refl, refl)
 
-anothers_target : AreOwnEntries 1 aimed (Balance 16) (Targets (28 ∷ 5 ∷ [])) aimed (told 28) → ⊥
+anothers_target : IsOwnEntry 1 aimed (Balance 16) (Targets (28 ∷ 5 ∷ [])) aimed (told 28) → ⊥
 anothers_target e = cc
 
-balance_left_out : AreOwnEntries 1 aimed (Balance 16) (Targets (28 ∷ 5 ∷ [])) aimed [] → ⊥
+balance_left_out : IsOwnEntry 1 aimed (Balance 16) (Targets (28 ∷ 5 ∷ [])) aimed None → ⊥
 balance_left_out e = cc
 
+balanced_by_a_processor : IsOwnEntry 1 aimed (Balance 16) (Targets (28 ∷ 5 ∷ [])) aimed
+    (Some (Called (Processor 1 0) (SetTarget 5) [] Done)) → ⊥
+balanced_by_a_processor e = cc
+
 -- one that came up short is none
-short_balance : AreOwnEntries 1 aimed (Balance 16) (Refused (Short 3)) aimed []
+short_balance : IsOwnEntry 1 aimed (Balance 16) (Refused (Short 3)) aimed None
 short_balance = refl
+
+-- nor is a call of another guest, a count, or another's restart
+anothers_call : IsOwnEntry 1 aimed (OnGuest 0 Work) Idle aimed work_done → ⊥
+anothers_call e = cc
+
+anothers_count : IsOwnEntry 1 aimed CountFrames (Frames 0 64) aimed work_done → ⊥
+anothers_count e = cc
+
+anothers_restart : IsOwnEntry 1 aimed (Restart 0) Done aimed work_done → ⊥
+anothers_restart e = cc
+
+-- a rogue guest has no run of its own
+rogue_alone : Alone 1 aimed [] [] [] (record ready { rogue = true }) → ⊥
+rogue_alone a = let e : true ≡ false = a.honest in cc
+
+-- a scribble that was refused is a step of an honest guest
+refused_scribble : EntryStep ready
+    (Called (Processor 1 0) (Scribble 99 0 []) [] (Refused OutOfRam)) ready
+refused_scribble = (refl, (refl, refl, refl))
 
 -- ---- one life: neither restarted nor unplugged
 
@@ -220,3 +249,12 @@ restarted l = l.2.0 refl
 
 unplugged : InOneLife 1 (Unplug 1 ∷ []) → ⊥
 unplugged l = l.1 refl
+
+-- a life goes on over an initialisation, a reset and a scribble, and over balances
+a_start_in_a_life : InOneLife 1 (OnGuest 1 (Init 0) ∷ OnGuest 1 Reset
+    ∷ OnGuest 1 (Scribble 0 0 []) ∷ [])
+a_start_in_a_life =
+    ((λ e. cc), (λ e. cc), ((λ e. cc), (λ e. cc), ((λ e. cc), (λ e. cc), tt)))
+
+a_balance_in_a_life : InOneLife 1 (Balance 0 ∷ [])
+a_balance_in_a_life = ((λ e. cc), (λ e. cc), tt)

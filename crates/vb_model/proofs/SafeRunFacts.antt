@@ -1,20 +1,26 @@
 -- What is read off a run that is promised to be safe: its end, its replies, and that it is safe.
 use Rattle.std.proofs.Common.{◌≡◌, ℕ, true, false, List, [], ◌∷◌, ◌++◌, replicate, refl, sym, ap}
-use Rattle.std.proofs.Common.{subst, arith}
+use Rattle.std.proofs.Common.{subst, arith, ◌≢◌, ◌∙◌, inl}
 use Rattle.std.specs.Prelude.{Option, Some, None}
-use Rattle.vb_model.specs.declared.places.Place.TheVariants.{Used}
-use Rattle.vb_model.specs.declared.calls.Call.TheVariants.{Sweep}
+use Rattle.vb_model.specs.declared.places.Place.TheVariants.{Used, Lent}
+use Rattle.vb_model.specs.declared.calls.Call.TheVariants.{Alloc, Inflate, Init, Reset, Sweep, Work}
 use Rattle.vb_model.specs.declared.calls.Event.{Event}
-use Rattle.vb_model.specs.declared.calls.Event.TheVariants.{Guest as OnGuest}
+use Rattle.vb_model.specs.declared.calls.Event.TheVariants.{Guest as OnGuest, Restart, Unplug}
 use Rattle.vb_model.specs.declared.calls.Event.TheVariants.{Frames as CountFrames}
 use Rattle.vb_model.specs.declared.replies.Reply.{Reply}
-use Rattle.vb_model.specs.declared.replies.Reply.TheVariants.{Frames, Swept}
+use Rattle.vb_model.specs.declared.replies.Reply.TheVariants.{Done, Frames, Idle, Page, Posted, Refused}
+use Rattle.vb_model.specs.declared.replies.Reply.TheVariants.{Swept}
+use Rattle.vb_model.specs.declared.replies.Refusal.TheVariants.{NotReady}
 use Rattle.vb_model.specs.Guest.{Guest, unbacked}
-use Rattle.vb_model.specs.World.{World, made}
+use Rattle.vb_model.specs.World.{World, made, guest_at}
 use Rattle.vb_model.specs.HostEvents.{WorldStep}
-use Rattle.vb_model.specs.Run.{Steps, last_world}
-use Rattle.vb_model.specs.Safe.{Safe, IsSafeRun}
-use Rattle.vb_model.proofs.Samples.{down, page_16_at, request}
+use Rattle.vb_model.specs.Run.{History, Steps, last_world}
+use Rattle.vb_model.specs.GuestRun.{Entry, OwnStep, Leads, IsOwnEntry, AreOwn, InOneLife, Alone}
+use Rattle.vb_model.specs.Histories.{IsSafeCourse}
+use Rattle.vb_model.specs.Safe.{Safe, IsSafeRun, NoFrameTwice, part}
+use Rattle.vb_model.proofs.Changes.{same_some}
+use Rattle.vb_model.proofs.Samples.{ready, down, untold, page_16_at, request}
+use Rattle.vb_model.proofs.AskedFacts.{back, giving, handed_out}
 
 -- ---- a run of no events ends where it began
 
@@ -80,12 +86,179 @@ another_end s =
     let e : Same 63 64 = ap (λ (w : World). w.frames) ends in
     omega arith
 
--- ---- it is safe: a used page that a used inflate request names, ballooned as such a page is,
--- loses its frame by a sweep; nothing but safety forbids that
+-- ---- a frame behind two pages, of two guests or of one, of a rogue guest too, in each state
 
 abbrev at : Guest → World
 at g = record { frames = 64; guests = Some g ∷ []; spares = []; given_up = None }
 
+abbrev stands : Guest → History
+stands g = record { first = at g; events = []; replies = []; after = [] }
+
+abbrev frame_5 : ℕ → Guest
+frame_5 page = record ready { frames = replicate page None ++ (Some 5 ∷ []) }
+
+two_guests : NoFrameTwice
+    (record {
+      frames = 64;
+      guests = Some (frame_5 16) ∷ None ∷ Some (frame_5 16)
+          ∷ [];
+      spares = [];
+      given_up = None;
+    }) → ⊥
+two_guests s = let e =
+    s 5 0 16 2 16 (record { guest = frame_5 16; is_there = refl; has = refl })
+    (record { guest = frame_5 16; is_there = refl; has = refl }) in omega (arith, e.0)
+
+abbrev twice : Guest → Guest
+twice g = record g { frames = Some 5 ∷ None ∷ Some 5 ∷ [] }
+
+one_guest : Safe (stands (twice ready)) → ⊥
+one_guest s =
+    let e = s.no_frame_twice 0 (at (twice ready)) refl 5 0 0 0 2
+    (record { guest = twice ready; is_there = refl; has = refl })
+    (record { guest = twice ready; is_there = refl; has = refl }) in
+    omega (arith, e.1)
+
+abbrev rogue : Guest
+rogue = record (twice down) { rogue = true }
+
+frame_twice_later : Safe
+    (record {
+      first = at down;
+      events = CountFrames ∷ [];
+      replies = Frames 0 64 ∷ [];
+      after = at rogue ∷ [];
+    }) → ⊥
+frame_twice_later s =
+    let e = s.no_frame_twice 1 (at rogue) refl 5 0 0 0 2
+    (record { guest = rogue; is_there = refl; has = refl })
+    (record { guest = rogue; is_there = refl; has = refl }) in
+    omega (arith, e.1)
+
+-- ---- each life of an honest guest is a safe course
+
+-- what is promised of one event of a life
+record IsOneStep (n : ℕ) (w : World) (event : Event) (reply : Reply) (v : World) (g new : Guest) :
+    Type 0 where
+  own : Option Entry
+  is : IsOwnEntry n w event reply v own
+  step : OwnStep g own new
+  safe : IsSafeCourse (record { first = g; entries = own ∷ []; after = new ∷ [] })
+
+one_step : (n : ℕ) (w : World) (event : Event) (reply : Reply) (v : World) (g new : Guest)
+    → guest_at v.guests n ≡ Some new
+    → (own : Alone n w (event ∷ []) (reply ∷ []) (v ∷ []) g)
+    × IsSafeCourse (record { first = g; entries = own.entries; after = own.guests })
+    → IsOneStep n w event reply v g new
+one_step n w event reply v g new at (own, safe) = by own.entries own.guests own.are own.leads safe
+  where
+    by : (entries : List (Option Entry)) (guests : List Guest)
+        → AreOwn n w (event ∷ []) (reply ∷ []) (v ∷ []) entries guests → Leads g entries guests
+        → IsSafeCourse (record { first = g; entries = entries; after = guests })
+        → IsOneStep n w event reply v g new
+    by [] guests are leads safe = absurd are
+    by (o ∷ entries) [] are leads safe = absurd are
+    by (o ∷ p ∷ entries) (x ∷ guests) are leads safe = absurd are.2
+    by (o ∷ []) (x ∷ y ∷ guests) are leads safe = absurd are.2
+    by (o ∷ []) (x ∷ []) are leads safe =
+        let same : x ≡ new = same_some x new (sym are.1 ∙ at) in
+        record {
+          own = o;
+          is = are.0;
+          step = subst (λ (y : Guest). OwnStep g o y) same leads.0;
+          safe = subst (λ (y : Guest). IsSafeCourse
+              (record { first = g; entries = o ∷ []; after = y ∷ [] })) same safe;
+        }
+
+-- the run of one event of guest 0
+abbrev goes : Guest → Event → Reply → Guest → History
+goes g event reply new =
+    record { first = at g; events = event ∷ []; replies = reply ∷ []; after = at new ∷ [] }
+
+of_one : (g : Guest) (event : Event) (reply : Reply) (new : Guest) → event ≢ Restart 0
+    → event ≢ Unplug 0 → new.rogue ≡ false → Safe (goes g event reply new)
+    → IsOneStep 0 (at g) event reply (at new) g new
+of_one g event reply new on still honest s =
+    one_step 0 (at g) event reply (at new) g new refl
+    (s.lives 0 0 1 (at g) g new refl refl (refl, honest) (on, still, tt))
+
+-- a state is safe by itself
+lent_but_not_ballooned : Safe (stands (page_16_at Lent ready)) → ⊥
+lent_but_not_ballooned s =
+    let e : false ≡ true =
+    ((s.lives 0 0 0 (at (page_16_at Lent ready)) (page_16_at Lent ready) (page_16_at Lent ready) refl
+    refl (refl, refl) tt).1.both_agree 0 (page_16_at Lent ready) refl 16).1 (inl refl) in
+    cc
+
+-- a call is answered as no run of the guest's own has it, in a later life too
+not_its_own : Safe (goes ready (OnGuest 0 Work) Done ready) → ⊥
+not_its_own s = by o.own o.is o.step
+  where
+    o : IsOneStep 0 (at ready) (OnGuest 0 Work) Done (at ready) ready ready
+    o = of_one ready (OnGuest 0 Work) Done ready (λ e. cc) (λ e. cc) refl s
+
+    by : (own : Option Entry) → IsOwnEntry 0 (at ready) (OnGuest 0 Work) Done (at ready) own
+        → OwnStep ready own ready → ⊥
+    by own is step =
+        let made = subst (λ (x : Option Entry). OwnStep ready x ready) is.3 step in
+        let wrong : Done ≡ Idle = made.1.1.0 in
+        cc
+
+abbrev restarted : History
+restarted = record {
+  first = at ready;
+  events = Restart 0 ∷ OnGuest 0 Work ∷ [];
+  replies = Done ∷ Done ∷ [];
+  after = at down ∷ at down ∷ [];
+}
+
+not_its_own_later : Safe restarted → ⊥
+not_its_own_later s = by o.own o.is o.step
+  where
+    o : IsOneStep 0 (at down) (OnGuest 0 Work) Done (at down) down down
+    o = one_step 0 (at down) (OnGuest 0 Work) Done (at down) down down refl
+        (s.lives 0 1 1 (at down) down down refl refl (refl, refl) ((λ e. cc), (λ e. cc), tt))
+
+    by : (own : Option Entry) → IsOwnEntry 0 (at down) (OnGuest 0 Work) Done (at down) own
+        → OwnStep down own down → ⊥
+    by own is step =
+        let made = subst (λ (x : Option Entry). OwnStep down x down) is.3 step in
+        let wrong : Done ≡ Refused NotReady = made.1.1 in
+        cc
+
+-- another's event changes the guest
+changed_by_another : Safe (goes ready CountFrames (Frames 0 64) down) → ⊥
+changed_by_another s = by o.own o.is o.step
+  where
+    o : IsOneStep 0 (at ready) CountFrames (Frames 0 64) (at down) ready down
+    o = of_one ready CountFrames (Frames 0 64) down (λ e. cc) (λ e. cc) refl s
+
+    by : (own : Option Entry) → own ≡ None → OwnStep ready own down → ⊥
+    by own is step =
+        let same : down ≡ ready = subst (λ (x : Option Entry). OwnStep ready x down) is step in
+        let e : Same 0 15 = ap (λ (g : Guest). g.status) same in
+        omega arith
+
+-- a reset that is done leaves the guest ready
+reset_but_ready : Safe (goes ready (OnGuest 0 Reset) Done ready) → ⊥
+reset_but_ready s = by o.own o.is o.step
+  where
+    o : IsOneStep 0 (at ready) (OnGuest 0 Reset) Done (at ready) ready ready
+    o = of_one ready (OnGuest 0 Reset) Done ready (λ e. cc) (λ e. cc) refl s
+
+    by : (own : Option Entry) → IsOwnEntry 0 (at ready) (OnGuest 0 Reset) Done (at ready) own
+        → OwnStep ready own ready → ⊥
+    by own is step =
+        let made = subst (λ (x : Option Entry). OwnStep ready x ready) is.3 step in
+        let status : Same 15 0 = ap (λ (g : Guest). g.status) made.1.2 in
+        omega arith
+
+-- a reset ends no life, and what comes behind it goes on from what it left
+a_reset_is_no_end : InOneLife 1 (OnGuest 1 Reset ∷ OnGuest 1 (Init 0) ∷ [])
+a_reset_is_no_end = ((λ e. cc), (λ e. cc), ((λ e. cc), (λ e. cc), tt))
+
+-- a used page that a used inflate request names, ballooned as such a page is, loses its frame by a
+-- sweep; nothing but safety forbids that
 abbrev named : Guest
 named = record (page_16_at Used down) {
   inflate = record { posted = []; taken = []; done = request 0 (16 ∷ []) 0 ∷ [] };
@@ -107,7 +280,52 @@ isnt_safe : IsSafeRun (at named) (OnGuest 0 (Sweep 16) ∷ []) (Swept true ∷ [
 isnt_safe s =
     let safe = (one (at named) (OnGuest 0 (Sweep 16)) (Swept true)
     (at (unbacked (16 ∷ []) named)) s).safe in
+    let o = of_one named (OnGuest 0 (Sweep 16)) (Swept true) (unbacked (16 ∷ []) named) (λ e. cc)
+    (λ e. cc) refl safe in
     let e : SameFrame None (Some 5) =
-    safe.keeps_frame 0 0 16 5 named (unbacked (16 ∷ []) named) (refl, refl) (refl, refl)
-    refl refl refl in
+    o.safe.keeps_frame 0 16 5 named (unbacked (16 ∷ []) named) refl refl refl refl refl in
     cc
+
+-- ---- over more events, of another guest
+
+abbrev beside : Guest → World
+beside g = record { frames = 64; guests = Some ready ∷ Some g ∷ []; spares = []; given_up = None }
+
+-- a page is offered behind another's event, and handed out by the next event
+abbrev at_once : History
+at_once = record {
+  first = beside (back untold);
+  events = Restart 0 ∷ OnGuest 1 (Inflate 1) ∷ OnGuest 1 (Alloc 0 0) ∷ [];
+  replies = Done ∷ Posted 0 1 ∷ Page 16 ∷ [];
+  after = beside (back untold) ∷ beside (giving untold) ∷ beside (handed_out untold) ∷ [];
+}
+
+handed_out_at_once : Safe at_once → ⊥
+handed_out_at_once s = by own.0.entries own.0.guests own.0.are own.1
+  where
+    own : (own : Alone 1 (beside (back untold)) at_once.events at_once.replies at_once.after
+        (back untold))
+        × IsSafeCourse
+        (record { first = back untold; entries = own.entries; after = own.guests })
+    own = s.lives 1 0 3 (beside (back untold)) (back untold) (handed_out untold) refl refl
+        (refl, refl) ((λ e. cc), (λ e. cc), ((λ e. cc), (λ e. cc), ((λ e. cc), (λ e. cc), tt)))
+
+    by : (entries : List (Option Entry)) (guests : List Guest)
+        → AreOwn 1 (beside (back untold)) at_once.events at_once.replies at_once.after entries guests
+        → IsSafeCourse (record { first = back untold; entries = entries; after = guests }) → ⊥
+    by [] guests are safe = absurd are
+    by (o ∷ entries) [] are safe = absurd are
+    by (o ∷ []) (x ∷ guests) are safe = absurd are.2
+    by (o ∷ p ∷ entries) (x ∷ []) are safe = absurd are.2
+    by (o ∷ p ∷ []) (x ∷ y ∷ guests) are safe = absurd are.2.2
+    by (o ∷ p ∷ q ∷ entries) (x ∷ y ∷ []) are safe = absurd are.2.2
+    by (o ∷ p ∷ q ∷ entries) (x ∷ y ∷ z ∷ guests) are safe =
+        let a = safe.told_first 16 1 2 (omega arith)
+        (back untold, giving untold, sym are.1, sym are.2.1, (λ e. cc), refl)
+        (giving untold, handed_out untold, sym are.2.1, sym are.2.2.1, (λ e. cc), refl) in
+        omega (arith, a.since, a.later, a.before)
+
+-- so many entries of a list, from one on
+part_of_five : part {A = ℕ} 1 3 (5 ∷ 6 ∷ 7 ∷ 8 ∷ 9 ∷ []) ∷ part {A = ℕ} 3 4 (5 ∷ 6 ∷ 7 ∷ 8 ∷ 9 ∷ [])
+    ∷ [] ≡ (6 ∷ 7 ∷ 8 ∷ []) ∷ (8 ∷ 9 ∷ []) ∷ []
+part_of_five = refl

@@ -33,7 +33,7 @@ use Rattle.vb_model.specs.Driver.{lowest_lent, asking, reaped, Reaps, Deflates}
 use Rattle.vb_model.specs.Step.{Performs, HonestStep}
 use Rattle.vb_model.specs.Consistent.{IsConsistent}
 use Rattle.vb_model.specs.Orderly.{IsOrderly, AllRequestsSound}
-use Rattle.vb_model.specs.Telling.{told_tests, told_reaped, Takes, ToldReaps}
+use Rattle.vb_model.specs.Telling.{told_tests, told_reaped, CallsBack, ToldReaps}
 use Rattle.vb_model.specs.Telling.{ToldPerforms, ToldStep, is_lent_or_taking}
 use Rattle.vb_model.proofs.Tables.{count_by-cons}
 use Rattle.vb_model.proofs.PageSteps.{naming-cons, taking_named}
@@ -189,7 +189,7 @@ same_asking g head pages told =
     }) told
 
 takes_ways : (g : Guest) (count : ℕ) (reply : Reply) (new : Guest) → tells_host g ≡ true
-    → Deflates count g reply new ↔ Takes count g reply new
+    → Deflates count g reply new ↔ CallsBack count g reply new
 takes_ways g count reply new told = (
   λ d. (d.0, d.1, d.2, d.3 ∙ same_asking g d.0 (lowest_lent count g) told),
   λ t. (t.0, t.1, t.2, t.3 ∙ sym (same_asking g t.0 (lowest_lent count g) told)),

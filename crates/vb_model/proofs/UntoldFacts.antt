@@ -31,7 +31,7 @@ use Rattle.vb_model.specs.Refusals.{refusal_of}
 use Rattle.vb_model.specs.Driver.{contents_of}
 use Rattle.vb_model.specs.Life.{feature_refusal, after_reset}
 use Rattle.vb_model.specs.Step.{Performs, HonestStep}
-use Rattle.vb_model.specs.GuestRun.{Called, GuestRun}
+use Rattle.vb_model.specs.GuestRun.{Called, Leads}
 use Rattle.vb_model.proofs.Samples.{config, ready, untold, down, mixed_places, request}
 
 abbrev Same : ℕ → ℕ → Type 0
@@ -422,26 +422,21 @@ ballooned_still new s e =
     cc
 
 -- all the way: asked back, handed out, taken, used, reaped
-all_the_way : GuestRun (three_lent untold)
-    (Called (Processor 0 0) (Deflate 2) [] (Posted 0 2)
-    ∷ Called (Processor 0 0) (Alloc 0 0) [] (Page 16) ∷ Called (Worker 0) (Take 1) [] (Taken 0)
-    ∷ Called (Worker 0) (Finish 1 0) [] (Finished 0)
-    ∷ Called (Processor 0 0) (Reap 1) [] (Reaped 0 2) ∷ [])
-    (record (in_use false no_requests) { actual = 1 })
+all_the_way : Leads (three_lent untold)
+    (Some (Called (Processor 0 0) (Deflate 2) [] (Posted 0 2))
+    ∷ Some (Called (Processor 0 0) (Alloc 0 0) [] (Page 16))
+    ∷ Some (Called (Worker 0) (Take 1) [] (Taken 0))
+    ∷ Some (Called (Worker 0) (Finish 1 0) [] (Finished 0))
+    ∷ Some (Called (Processor 0 0) (Reap 1) [] (Reaped 0 2)) ∷ [])
+    (asked FreePlace untold ∷ in_use true (posted both) ∷ in_use true (taken both)
+    ∷ in_use false (done both) ∷ record (in_use false no_requests) { actual = 1 } ∷ [])
 all_the_way = (
-  asked FreePlace untold,
   (refl, free_at_once),
   (
-    in_use true (posted both),
     (refl, handed_out),
     (
-      in_use true (taken both),
       (refl, (refl, (refl, refl))),
-      (
-        in_use false (done both),
-        (refl, (refl, (both, refl, refl, refl))),
-        (record (in_use false no_requests) { actual = 1 }, (refl, reap_moves_nothing), refl),
-      ),
+      ((refl, (refl, (both, refl, refl, refl))), ((refl, reap_moves_nothing), tt)),
     ),
   ),
 )

@@ -20,7 +20,7 @@ use Rattle.vb_model.specs.declared.replies.Reply.TheVariants.{Refused}
 use Rattle.vb_model.specs.Tests.{is_in}
 use Rattle.vb_model.specs.Requests.{Request, Kind, kind_of_queue, Buffer, NoBuffer, BufferPosted}
 use Rattle.vb_model.specs.Requests.{BufferTaken, BufferDone}
-use Rattle.vb_model.specs.Guest.{Guest, frame_of, backed, all_backed, requests}
+use Rattle.vb_model.specs.Guest.{Guest, frame_of, all_backed, requests}
 use Rattle.vb_model.specs.Refusals.{Test, refusal_of, tests, first_refusal}
 use Rattle.vb_model.specs.Driver.{given, claim_refusal, AreClaimsFor, Supplying, Reaps, Fills}
 use Rattle.vb_model.specs.Driver.{Written, pages_needed}
@@ -33,12 +33,11 @@ use Rattle.vb_model.specs.HostEvents.{Happens, Calls}
 use Rattle.vb_model.specs.HostFrames.{Gives, IsOut}
 use Rattle.vb_model.specs.World.{guest_at}
 use Rattle.vb_model.specs.HostRefusals.{world_tests}
-use Rattle.vb_model.specs.StepLaws.{ClaimsAreNeeded, FramesEnterByClaims, RefusedClaimsAreAnswered}
+use Rattle.vb_model.specs.StepLaws.{ClaimsAreNeeded, RefusedClaimsAreAnswered}
 use Rattle.vb_model.specs.StepLaws.{NeededPagesAreBare, NoFrameIsExact, WantOfFrames}
 use Rattle.vb_model.specs.StepLaws.{NoMemoryIsExact}
 use Rattle.vb_model.proofs.Tables.{list_all-at}
 use Rattle.vb_model.proofs.CallSteps.{match_cases, works_cases, all_filtered, supplied}
-use Rattle.vb_model.proofs.Frames.{FramesMove, backed_cases, honest_move, rogue_move}
 use Rattle.vb_model.proofs.Changes.{same_some}
 
 or_first : (v b : Bool) → v ≡ true → (v || b) ≡ true
@@ -134,38 +133,9 @@ claims_needed g call claims reply new s = cases g.rogue s
               (sym (refused_backs call g r.0 r.1)) (none_made claims r.2.0)
         ]
 
--- ---- frames enter by claims
+-- ---- a claim that is refused is the answer
 
-backed_by : (pages new : List ℕ) (frames : List (Option ℕ)) (page x : ℕ)
-    → frame_of (all_backed pages new frames) page ≡ Some x
-    → (frame_of frames page ≡ Some x) ⊎ (is_in x new ≡ true)
-backed_by [] new frames page x h = inl h
-backed_by (p ∷ pages) [] frames page x h = inl h
-backed_by (p ∷ pages) (f ∷ new) frames page x h =
-    elim (backed_by pages new (backed p f frames) page x h) [
-      | inr k ↦ inr (or_later (f == x) (is_in x new) k)
-      | inl k ↦
-          elim (backed_cases p f frames page x k) [
-            | inl e ↦ inr (or_first (f == x) (is_in x new) (eq-eqb f x (sym e.1)))
-            | inr old ↦ inl old
-          ]
-    ]
-
-step_moves : (g : Guest) (call : Call) (claims : List Claim) (reply : Reply) (new : Guest)
-    → GuestStep g call claims reply new → FramesMove g claims new
-step_moves g call claims reply new s = cases g.rogue s
-  where
-    cases : (b : Bool) → MatchBool b (RogueStep g call claims reply new)
-        (HonestStep g call claims reply new) → FramesMove g claims new
-    cases true r = rogue_move g call claims reply new r
-    cases false p = honest_move g call claims reply new p
-
-pub frames_enter : FramesEnterByClaims
-frames_enter g call claims reply new s page frame h =
-    let moved = step_moves g call claims reply new s in
-    backed_by moved.0 (given claims) g.frames page frame (moved.1 page frame h)
-
-none_refused : (claims : List Claim) (refusal : Refusal) → claims ≡ []
+pub none_refused : (claims : List Claim) (refusal : Refusal) → claims ≡ []
     → claim_refusal claims ≡ Some refusal → ⊥
 none_refused claims refusal e r = let none : claim_refusal claims ≡ None = ap claim_refusal e in cc
 

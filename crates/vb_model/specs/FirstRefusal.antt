@@ -1,4 +1,5 @@
 -- The first refusal whose condition holds.
+-- The headline needs `Test` and `first_refusal`.
 use Rattle.std.specs.Prelude.{Bool, List, [], ◌∷◌, if◌then◌else◌, Option, Some, None, Result, Ok}
 use Rattle.std.specs.Prelude.{Err}
 use Rattle.vb_model.specs.declared.replies.Refusal.{Refusal}

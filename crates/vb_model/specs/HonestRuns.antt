@@ -1,5 +1,6 @@
--- What holds of an honest guest over a run: it stays honest until it scribbles, and while it isn't
--- ready nothing is outstanding.
+-- Words of laws: what holds of an honest guest over a run. It stays honest until it scribbles, and
+-- while it isn't ready nothing is outstanding (the last is what the service of a guest on a thread
+-- begins with, too).
 use Rattle.std.specs.Prelude.{◌≡◌, ◌≢◌, ℕ, ◌+◌, ◌<◌, ◌≤◌, Bool, true, false, ◌==◌, ◌&&◌}
 use Rattle.std.specs.Prelude.{List, Some, IsFalse, slice_get}
 use Rattle.vb_model.specs.declared.calls.Call.TheVariants.{Scribble}

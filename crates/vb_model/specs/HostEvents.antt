@@ -1,12 +1,13 @@
 -- What an event of the host does, its guests' calls among them (profile).
-use Rattle.std.specs.Prelude.{◌≡◌, ℕ, ◌-◌, Bool, ◌==◌}
+-- The headline of a host needs all of it.
+use Rattle.std.specs.Prelude.{◌≡◌, ℕ, ◌-◌, Bool}
 use Rattle.std.specs.Prelude.{List, [], ◌∷◌, Option, Some, None}
-use Rattle.std.specs.Prelude.{MatchOption, MatchBool, ◌⊎◌, filter_map, ⊤}
+use Rattle.std.specs.Prelude.{MatchOption, ◌⊎◌, filter_map, ⊤}
 use Rattle.vb_model.specs.declared.calls.Event.{Event}
 use Rattle.vb_model.specs.declared.calls.Event.TheVariants.{Plug, Unplug, Restart, Guest as OnGuest}
 use Rattle.vb_model.specs.declared.calls.Event.TheVariants.{Query as Asking, Balance}
 use Rattle.vb_model.specs.declared.calls.Event.TheVariants.{Frames as CountFrames}
-use Rattle.vb_model.specs.declared.replies.Refusal.TheVariants.{NoMemory, Short}
+use Rattle.vb_model.specs.declared.replies.Refusal.TheVariants.{NoMemory}
 use Rattle.vb_model.specs.declared.replies.Reply.{Reply}
 use Rattle.vb_model.specs.declared.replies.Reply.TheVariants.{Plugged, Done, Targets}
 use Rattle.vb_model.specs.declared.replies.Reply.TheVariants.{Frames}
@@ -16,7 +17,7 @@ use Rattle.vb_model.specs.FirstRefusal.{first_refusal}
 use Rattle.vb_model.specs.declared.calls.Claim.{Claim}
 use Rattle.vb_model.specs.Life.{after_restart}
 use Rattle.vb_model.specs.Step.{GuestStep}
-use Rattle.vb_model.specs.Balance.{Need, need, AreTargets, shortage}
+use Rattle.vb_model.specs.Balance.{Need, need, IsAnswer}
 use Rattle.vb_model.specs.HostFrames.{IsOut, Gives, used_frames}
 use Rattle.vb_model.specs.HostRefusals.{world_tests}
 use Rattle.vb_model.specs.Queries.{Answers}
@@ -73,12 +74,14 @@ needs floor w = filter_map (λ x. x) (needs_of w.guests)
     needs_of (None ∷ xs) = None ∷ needs_of xs
     needs_of (Some g ∷ xs) = Some (need floor g) ∷ needs_of xs
 
+-- the targets of a balance's answer, where it has any, are the guests'
+abbrev pub after_balance : Reply → World → World
+after_balance (Targets targets) w = record w { guests = with_targets targets w.guests }
+after_balance answer w = w
+
 abbrev pub Balances : ℕ → World → Reply → World → Type 0
 Balances floor w reply new =
-    MatchBool (shortage (needs floor w) w.frames == 0)
-    ((targets : List ℕ) × AreTargets (needs floor w) w.frames targets × (reply ≡ Targets targets)
-    × (new ≡ record w { guests = with_targets targets w.guests }))
-    ((reply ≡ Refused (Short (shortage (needs floor w) w.frames))) × (new ≡ w))
+    IsAnswer w.frames (needs floor w) reply × (new ≡ after_balance reply w)
 
 -- an event that isn't refused; one of a guest gets that guest
 abbrev pub Happens : Event → World → Reply → World → Type 0

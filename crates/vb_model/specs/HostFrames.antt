@@ -1,4 +1,5 @@
 -- Which frames are in use, and which one a claim gets (profile).
+-- The headline of a host needs all of it.
 use Rattle.std.specs.Prelude.{◌≡◌, ℕ, ◌<◌}
 use Rattle.std.specs.Prelude.{List, [], ◌∷◌, Option, Some, None}
 use Rattle.std.specs.Prelude.{◌⊎◌, sum_by, ⊤}

@@ -1,4 +1,5 @@
 -- Why the host refuses an event, first cause first (profile).
+-- The headline of a host needs all of it.
 use Rattle.std.specs.Prelude.{ℕ, Bool, true, false, not, nat_le}
 use Rattle.std.specs.Prelude.{List, [], ◌∷◌, is_none, is_some}
 use Rattle.std.specs.Prelude.{count_by}

@@ -1,5 +1,7 @@
 -- Where queues and buffers stand in guest memory, by how many descriptors each queue has (profile);
 -- queues 0 to 2 are those of VIRTIO 1.1, 5.5.2.
+-- The headline needs `reserved_pages` and `start_pages` with what they name; where in these pages
+-- rings and buffers lie is the rings' matter.
 use Rattle.std.specs.Prelude.{ℕ, ◌+◌, ◌*◌, ◌/◌, ◌%◌, Bool, ◌==◌, ◌||◌, nat_lt, if◌then◌else◌, List}
 use Rattle.std.specs.Prelude.{filter}
 use Rattle.std.specs.List.{range_with_len}

@@ -1,4 +1,5 @@
 -- The bounds of src/limits.rt in the words of the definitions (profile).
+-- The headline needs all of it but `max_frames`.
 use Rattle.std.specs.Prelude.{ℕ, ◌%◌, ◌^◌, Bool, ◌==◌, ◌&&◌, nat_le}
 use Rattle.std.specs.List.{list_any, range_with_len}
 use Rattle.vb_model.specs.declared.limits.TheConstants.{PAGE_SIZE, MAX_ORDER}

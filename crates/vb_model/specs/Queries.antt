@@ -1,4 +1,5 @@
 -- What a question is answered: the state's values (profile).
+-- The headline of a host needs all of it.
 use Rattle.std.specs.Prelude.{◌≡◌, ℕ, suc, Bool, true, false, ◌==◌}
 use Rattle.std.specs.Prelude.{List, [], ◌∷◌, if◌then◌else◌}
 use Rattle.std.specs.Prelude.{◌⊎◌, count_by}

@@ -1,5 +1,6 @@
--- Guests of small sizes (profile): a power of two of pages, up to 16,384 of them, and queues of up
--- to 128 descriptors. Their rings take a page each, at the start of memory.
+-- Words of a law alone (`small_guests_are_as_ever`), which no contract of a call cites: guests of
+-- small sizes (profile), with a power of two of pages, up to 16,384 of them, and queues of up to
+-- 128 descriptors. Their rings take a page each, at the start of memory.
 use Rattle.std.specs.Prelude.{◌≡◌, ℕ, ◌≤◌, Bool, true, ◌&&◌, nat_lt}
 use Rattle.std.specs.List.{range_with_len}
 use Rattle.vb_model.specs.Limits.{is_power_of_two, is_between, is_config}

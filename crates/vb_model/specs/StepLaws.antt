@@ -1,6 +1,6 @@
 -- What one event may change: targets, configurations, other guests, frames; and who claims frames.
 use Rattle.std.specs.Prelude.{◌≡◌, ◌≢◌, ℕ, ◌<◌, Bool, true, false, not, ◌||◌, List, [], Option}
-use Rattle.std.specs.Prelude.{Some, None, length, IsTrue, ◌⊎◌}
+use Rattle.std.specs.Prelude.{Some, None, length, slice_get, IsTrue, ◌⊎◌}
 use Rattle.vb_model.specs.declared.calls.Call.{Call}
 use Rattle.vb_model.specs.declared.calls.Call.TheVariants.{Init, Scribble, SetTarget}
 use Rattle.vb_model.specs.declared.calls.Claim.{Claim}
@@ -16,9 +16,9 @@ use Rattle.vb_model.specs.declared.replies.Reply.{Reply}
 use Rattle.vb_model.specs.declared.replies.Reply.TheVariants.{Done, Refused}
 use Rattle.vb_model.specs.Layout.{reserved_pages}
 use Rattle.vb_model.specs.Tests.{is_in}
-use Rattle.vb_model.specs.Guest.{Guest, frame_of, is_ballooned}
+use Rattle.vb_model.specs.Guest.{Guest, frame_of, all_backed, is_ballooned}
 use Rattle.vb_model.specs.Driver.{given, claim_refusal, AreClaimsFor}
-use Rattle.vb_model.specs.Life.{feature_refusal}
+use Rattle.vb_model.specs.Life.{lacking, feature_refusal, accepted_before}
 use Rattle.vb_model.specs.Rogue.{pages_to_back, is_read}
 use Rattle.vb_model.specs.Step.{HonestStep, GuestStep}
 use Rattle.vb_model.specs.World.{World, guest_at}
@@ -97,13 +97,18 @@ RoguesStay =
     → Follows w event reply v n old new
     → event ≢ Restart n → old.rogue ≡ true → new.rogue ≡ true
 
--- a page's frame is the one that it had, or one that the call's claims were given
+-- the claim for this page, one of those that the call needs frames for, was given this frame
+abbrev pub IsGiven : List ℕ → List Claim → ℕ → ℕ → Type 0
+IsGiven pages claims page frame =
+    (i : ℕ) × (slice_get pages i ≡ Some page) × (slice_get (given claims) i ≡ Some frame)
+
+-- a page's frame is the one that it had, or the one that the call's claim for it was given
 abbrev pub FramesEnterByClaims : Type 0
 FramesEnterByClaims =
     (g : Guest) (call : Call) (claims : List Claim) (reply : Reply) (new : Guest)
     → GuestStep g call claims reply new
     → (page frame : ℕ) → frame_of new.frames page ≡ Some frame
-    → (frame_of g.frames page ≡ Some frame) ⊎ IsTrue (is_in frame (given claims))
+    → (frame_of g.frames page ≡ Some frame) ⊎ IsGiven (pages_to_back call g) claims page frame
 
 -- a claim that is refused is the reply, and then no frame enters or leaves
 abbrev pub RefusedClaimsAreAnswered : Type 0
@@ -132,6 +137,13 @@ abbrev pub NoFrameIsExact : Type 0
 NoFrameIsExact =
     (w v : World) (n : ℕ) (call : Call) (g : Guest) → guest_at w.guests n ≡ Some g
     → WorldStep w (OnGuest n call) (Refused NoFrame) v → WantOfFrames w (pages_to_back call g)
+
+-- and there it is refused, unless there is no memory first
+abbrev pub WantIsAnswered : Type 0
+WantIsAnswered =
+    (w v : World) (n : ℕ) (call : Call) (reply : Reply) (g : Guest) → guest_at w.guests n ≡ Some g
+    → WorldStep w (OnGuest n call) reply v → WantOfFrames w (pages_to_back call g)
+    → (reply ≡ Refused NoFrame) ⊎ (reply ≡ Refused NoMemory)
 
 -- ---- want of memory
 
@@ -175,17 +187,26 @@ abbrev pub HasNoReservedBallooned : Guest → Type 0
 HasNoReservedBallooned g = (page : ℕ) → page < reserved_pages g.config.queue_size
     → is_ballooned g.ballooned page ≡ false
 
+-- the pages of rings and buffers have frames, and the driver has given up
+abbrev pub with_features_refused : ℕ → Refusal → List Claim → Guest → Guest
+with_features_refused wanted refusal claims g =
+    record g {
+      frames = all_backed (lacking g) (given claims) g.frames;
+      status = 131;
+      features = accepted_before refusal wanted;
+    }
+
 -- a refusal leaves an honest guest as it was, or its driver has given up since the features were
 -- refused
-abbrev pub IsUnchanged : Call → Refusal → Guest → Guest → Type 0
-IsUnchanged call refusal g new =
+abbrev pub IsUnchanged : Call → Refusal → List Claim → Guest → Guest → Type 0
+IsUnchanged call refusal claims g new =
     (new ≡ g) ⊎ ((wanted : ℕ) × (call ≡ Init wanted) × (feature_refusal wanted ≡ Some refusal)
-    × (new.status ≡ 131))
+    × (new ≡ with_features_refused wanted refusal claims g))
 
 abbrev pub RefusalsChangeNothing : Type 0
 RefusalsChangeNothing =
     (g : Guest) (call : Call) (claims : List Claim) (refusal : Refusal) (new : Guest)
-    → HonestStep g call claims (Refused refusal) new → IsUnchanged call refusal g new
+    → HonestStep g call claims (Refused refusal) new → IsUnchanged call refusal claims g new
 
 -- and a refused event of the host leaves the world as it was
 abbrev pub RefusedEventsChangeNothing : Type 0

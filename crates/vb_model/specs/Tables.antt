@@ -1,6 +1,7 @@
 -- How many pages the driver's calls move, and what each call is refused for, in the order in which
 -- it is tested (profile).
 -- Both stand here once, over plain values; a guest, a driver and a device each put in their own.
+-- The headline needs all of it.
 use Rattle.std.specs.Prelude.{ℕ, ◌+◌, ◌-◌, Bool, false, not, ◌==◌, ◌&&◌, ◌||◌, nat_lt, nat_le, List}
 use Rattle.std.specs.Prelude.{[], ◌∷◌, length, if◌then◌else◌, Option, Some, None, is_some, is_none}
 use Rattle.std.specs.Prelude.{min, max, count_by, take}
@@ -26,14 +27,14 @@ use Rattle.vb_model.specs.Status.{contains, driver_ok, needs_reset, failed, is_b
 -- request
 
 -- an inflate offers the stranded pages, and others up to the target
-abbrev pub pages_to_offer : List Place → ℕ → ℕ → ℕ
+abbrev pub pages_to_offer : (places : List Place) (target n : ℕ) → ℕ
 pages_to_offer places target n =
     let stranded : ℕ = count_by is_stranded places in
     let missing : ℕ = target - count_by is_lent places - count_by is_giving places in
     min (min n max_request_pages) (min (max stranded missing) (stranded + count_by is_free places))
 
 -- a deflate asks back what is above the target
-abbrev pub pages_to_ask : List Place → ℕ → ℕ → ℕ
+abbrev pub pages_to_ask : (places : List Place) (target n : ℕ) → ℕ
 pages_to_ask places target n =
     let lent : ℕ = count_by is_lent places in
     min (min n max_request_pages) (min lent (lent + count_by is_giving places - target))
@@ -77,7 +78,7 @@ abbrev pub has_chains : ℕ → Bool
 has_chains q = is_queue_of_requests q || (q == STATISTICS_QUEUE)
 
 -- the queue stands or falls with a feature that wasn't negotiated
-abbrev pub lacks_feature : ℕ → ℕ → Bool
+abbrev pub lacks_feature : (features q : ℕ) → Bool
 lacks_feature features q =
     (q == STATISTICS_QUEUE) && not (stats_vq features) || (q == REPORT_QUEUE)
     && not (reporting features)
@@ -93,21 +94,21 @@ has_unvisited (Some r) = nat_lt r.visited (length r.pages)
 -- ---- pages of the guest's own (Gorman, chapter 6)
 
 -- no block of the order is wholly free
-abbrev pub no_block_free : List Place → ℕ → ℕ → Bool
+abbrev pub no_block_free : (places : List Place) (pages order : ℕ) → Bool
 no_block_free places pages order =
     not (list_any (λ start. is_wholly_free places (block_at start order)) (range_with_len 0 pages))
 
 abbrev pub is_among : Block → List Block → Bool
 is_among b held = list_any (λ h. is_same_block h b) held
 
-abbrev pub alloc_tests : List Place → ℕ → ℕ → ℕ → ℕ → List Test
+abbrev pub alloc_tests : (places : List Place) (pages processors cpu order : ℕ) → List Test
 alloc_tests places pages processors cpu order =
     (nat_lt max_order order ⇒ BadOrder)
     ∷ (nat_le processors cpu ⇒ BadCpu)
     ∷ (no_block_free places pages order ⇒ NoPages)
     ∷ []
 
-abbrev pub free_tests : List Block → ℕ → ℕ → Block → List Test
+abbrev pub free_tests : (held : List Block) (processors cpu : ℕ) (b : Block) → List Test
 free_tests held processors cpu b =
     (nat_lt max_order b.order ⇒ BadOrder)
     ∷ (nat_le processors cpu ⇒ BadCpu)
@@ -117,7 +118,7 @@ free_tests held processors cpu b =
 -- ---- the driver's requests: how many are outstanding, how many may be, and how many pages or
 -- blocks a new one would name
 
-abbrev pub request_tests : ℕ → ℕ → ℕ → List Test
+abbrev pub request_tests : (outstanding most count : ℕ) → List Test
 request_tests outstanding most count =
     (nat_le most outstanding ⇒ QueueFull)
     ∷ ((count == 0) ⇒ Nothing)
@@ -125,7 +126,7 @@ request_tests outstanding most count =
 
 -- inflate: where the guest doesn't tell the host first, pages to offer may be among those that a
 -- pending deflate names, which would take them out of the balloon later
-abbrev pub inflate_tests : ℕ → ℕ → ℕ → ℕ → ℕ → ℕ → List Test
+abbrev pub inflate_tests : (status features pending outstanding most count : ℕ) → List Test
 inflate_tests status features pending outstanding most count =
     (not (is_up status) ⇒ NotReady)
     ∷ (nat_le most outstanding ⇒ QueueFull)
@@ -133,19 +134,20 @@ inflate_tests status features pending outstanding most count =
     ∷ ((count == 0) ⇒ Nothing)
     ∷ []
 
-abbrev pub deflate_tests : ℕ → ℕ → ℕ → ℕ → List Test
+abbrev pub deflate_tests : (status outstanding most count : ℕ) → List Test
 deflate_tests status outstanding most count =
     (not (is_up status) ⇒ NotReady) ∷ request_tests outstanding most count
 
 -- oom and report, which stand or fall with a feature
-abbrev pub featured_tests : ℕ → Bool → ℕ → ℕ → ℕ → List Test
+abbrev pub featured_tests : (status : ℕ) (accepted : Bool) (outstanding most count : ℕ)
+    → List Test
 featured_tests status accepted outstanding most count =
     (not (is_up status) ⇒ NotReady)
     ∷ (not accepted ⇒ NoFeature)
     ∷ request_tests outstanding most count
 
 -- of a reap, before the used ring is read
-abbrev pub reap_tests : ℕ → ℕ → ℕ → List Test
+abbrev pub reap_tests : (q status features : ℕ) → List Test
 reap_tests q status features =
     (not (is_queue_of_requests q) ⇒ NoQueue)
     ∷ (not (is_up status) ⇒ NotReady)
@@ -153,7 +155,7 @@ reap_tests q status features =
     ∷ []
 
 -- of a new fill of the statistics buffer, before the used ring is read
-abbrev pub stats_tests : ℕ → ℕ → List Test
+abbrev pub stats_tests : (status features : ℕ) → List Test
 stats_tests status features =
     (not (is_up status) ⇒ NotReady)
     ∷ (not (stats_vq features) ⇒ NoFeature)
@@ -162,7 +164,7 @@ stats_tests status features =
 -- ---- the device's calls
 
 -- of a take, before guest memory is read, where so many chains of the queue are taken
-abbrev pub take_tests : ℕ → ℕ → ℕ → ℕ → List Test
+abbrev pub take_tests : (q status features taken : ℕ) → List Test
 take_tests q status features taken =
     (not (has_chains q) ⇒ NoQueue)
     ∷ (is_not_ready status ⇒ NotReady)
@@ -178,7 +180,7 @@ work_tests status =
     ∷ []
 
 -- of a finish of this taken request, if there is one
-abbrev pub finish_tests : ℕ → ℕ → Bool → Option Request → List Test
+abbrev pub finish_tests : (q status : ℕ) (paced : Bool) (taken : Option Request) → List Test
 finish_tests q status paced taken =
     (not (is_queue_of_requests q) ⇒ NoQueue)
     ∷ (is_not_ready status ⇒ NotReady)
@@ -188,7 +190,7 @@ finish_tests q status paced taken =
     ∷ []
 
 -- of a sweep: without MUST_TELL_HOST a guest may use a ballooned page that it has asked back
-abbrev pub sweep_tests : ℕ → ℕ → Bool → List Test
+abbrev pub sweep_tests : (status features : ℕ) (ballooned : Bool) → List Test
 sweep_tests status features ballooned =
     (is_not_ready status ⇒ NotReady)
     ∷ (has_fault status ⇒ NeedsReset)
@@ -197,7 +199,7 @@ sweep_tests status features ballooned =
     ∷ []
 
 -- of the return of the statistics buffer, which is taken or isn't
-abbrev pub ask_tests : ℕ → Bool → List Test
+abbrev pub ask_tests : (status : ℕ) (taken : Bool) → List Test
 ask_tests status taken =
     (is_not_ready status ⇒ NotReady)
     ∷ (has_fault status ⇒ NeedsReset)

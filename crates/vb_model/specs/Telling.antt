@@ -38,8 +38,8 @@ told_tests g (Sweep page) =
 told_tests g call = tests g call
 
 -- pages that are asked back are taking
-abbrev pub Takes : ℕ → Guest → Reply → Guest → Type 0
-Takes count g reply new =
+abbrev pub CallsBack : ℕ → Guest → Reply → Guest → Type 0
+CallsBack count g reply new =
     (head : ℕ) × IsLeastHead g.deflate head × (reply ≡ Posted head count)
     × (new ≡ record g {
       deflate = posting head (lowest_lent count g) g.deflate;
@@ -70,8 +70,9 @@ ToldReaps kind (r ∷ rest) g reply new =
     (reply ≡ Reaped r.head (length r.pages)) × (new ≡ told_reaped kind r rest g)
 
 abbrev pub ToldPerforms : Call → Guest → List Claim → Reply → Guest → Type 0
-ToldPerforms (Deflate n) g claims reply new = (claims ≡ []) × Takes (deflate_count g n) g reply new
-ToldPerforms (Oom n) g claims reply new = (claims ≡ []) × Takes (oom_count g n) g reply new
+ToldPerforms (Deflate n) g claims reply new =
+    (claims ≡ []) × CallsBack (deflate_count g n) g reply new
+ToldPerforms (Oom n) g claims reply new = (claims ≡ []) × CallsBack (oom_count g n) g reply new
 ToldPerforms (Reap q) g claims reply new =
     (claims ≡ []) × MatchOption (kind_of_queue q) ⊥
     (λ kind. ToldReaps kind (requests kind g).done g reply new)

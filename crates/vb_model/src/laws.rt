@@ -11,10 +11,11 @@ ghost use Rattle.vb_model.specs.StepLaws.{ConfigurationsAreKept, FramesGoBack, R
 ghost use Rattle.vb_model.specs.StepLaws.{RoguesAreMade, ScribblesMakeRogues, RoguesStay};
 ghost use Rattle.vb_model.specs.StepLaws.{FramesEnterByClaims, RefusedClaimsAreAnswered};
 ghost use Rattle.vb_model.specs.StepLaws.{ClaimsAreNeeded, NeededPagesAreBare, NoFrameIsExact};
+ghost use Rattle.vb_model.specs.StepLaws.{WantIsAnswered};
 ghost use Rattle.vb_model.specs.StepLaws.{HasNoReservedBallooned, RefusalsChangeNothing};
 ghost use Rattle.vb_model.specs.StepLaws.{RefusedEventsChangeNothing, NoMemoryIsExact};
 ghost use Rattle.vb_model.specs.StepLaws.{WantsChangeNothing};
-ghost use Rattle.vb_model.specs.LastWrites.{ContentsStay, ReadsGiveLastWrites};
+ghost use Rattle.vb_model.specs.SafeLaws.{QuietAgree, UsedPagesStay, HonestMeetNoFault};
 ghost use Rattle.vb_model.specs.HonestRuns.{HonestStay, HonestAreIdleUnlessReady};
 ghost use Rattle.vb_model.specs.Histories.{IsSafeHistory};
 ghost use Rattle.vb_model.specs.Determined.{HonestStepsAgree};
@@ -100,8 +101,8 @@ pub fn rogues_are_made_by_scribbles()
     ensures stay { RoguesStay }
 {}
 
-/// A frame enters a guest, honest or rogue, by a claim of its call alone; and a claim that is
-/// refused is the reply, with which no frame enters or leaves.
+/// A frame enters a page of a guest, honest or rogue, by the claim that its call made for this page
+/// alone; and a claim that is refused is the reply, with which no frame enters or leaves.
 pub fn frames_enter_by_claims()
     ensures enter { FramesEnterByClaims }
     ensures refused { RefusedClaimsAreAnswered }
@@ -116,9 +117,10 @@ pub fn claims_are_needed()
 {}
 
 /// A call of a guest, honest or rogue, is refused for want of a frame only where fewer frames are
-/// not out than it needs.
+/// not out than it needs; and there it is, unless it is refused for want of memory.
 pub fn no_frame_is_exact()
     ensures exact { NoFrameIsExact }
+    ensures answered { WantIsAnswered }
 {}
 
 /// Want of memory is answered by a plug; by a call of a guest, honest or rogue, that claimed a
@@ -136,7 +138,9 @@ pub fn honest_steps_agree()
 {}
 
 /// A refusal leaves an honest guest as it was, but for an initialisation whose features are
-/// refused, which leaves the status at 131; a refused event of the host leaves the world as it was.
+/// refused: then the pages of rings and buffers have frames, the status is 131, and the features
+/// are those that were accepted before the refusal. A refused event of the host leaves the world as
+/// it was.
 pub fn refusals_change_nothing()
     ensures calls { RefusalsChangeNothing }
     ensures events { RefusedEventsChangeNothing }
@@ -149,20 +153,24 @@ pub fn a_guest_runs_alone()
         (after : List World) (g new : Guest)
         → Steps w events replies after → InOneLife n events → guest_at w.guests n ≡ Some g
         → guest_at (last_world w after).guests n ≡ Some new → new.rogue ≡ false
-        → Alone n w events replies after g new }
+        → Alone n w events replies after g }
 {}
 
-/// In a run a page of an honest guest, at whatever place it is, reads as it did until a write of
-/// the guest's own to it or until it loses its frame; then it reads as zeros.
-pub fn contents_stay()
-    ensures stay { ContentsStay }
+/// Where an honest guest is safe and has no inflate or deflate request, its device calls ballooned
+/// just the pages that its driver calls lent.
+pub fn quiet_guests_agree()
+    ensures quiet { QuietAgree }
 {}
 
-/// Where an allocation of an honest guest holds a page from one state of a run on, a read of the
-/// page gives, byte by byte, what the guest's last write to the byte since then put there, else the
-/// byte that the page had in that state: zero, where it had no frame.
-pub fn reads_give_last_writes()
-    ensures reads { ReadsGiveLastWrites }
+/// On a safe course a used page reads as it did, but for the guest's own writes to it.
+pub fn used_pages_stay()
+    ensures stay { UsedPagesStay }
+{}
+
+/// No call of an honest guest meets a chain that breaks a rule, or a broken ring, even one that
+/// scribbles.
+pub fn honest_guests_meet_no_fault()
+    ensures none { HonestMeetNoFault }
 {}
 
 /// In a run a guest that is honest stays so until it makes a scribble.

@@ -82,7 +82,6 @@ closes Is own p floor guest plan rounds report k is sizes quiet scripts ended ba
     record {
       paced = k.paced;
       last = k.now;
-      run = run;
       safe = history_is_safe (config_of plan.config k.paced) 0 report.history.items k.now run;
       made = rw (history, sym is, sym scripts.0) k.made;
       scripts = count;

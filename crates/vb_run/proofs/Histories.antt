@@ -11,8 +11,9 @@ use Rattle.vb_model.specs.declared.calls.Actor.TheVariants.{Starter, Processor, 
 use Rattle.vb_model.specs.declared.calls.Call.{Call}
 use Rattle.vb_model.specs.declared.calls.Claim.{Claim}
 use Rattle.vb_model.specs.declared.replies.Reply.{Reply}
-use Rattle.vb_model.specs.Guest.{Guest, fresh}
-use Rattle.vb_model.specs.GuestRun.{Entry, Called, EntryStep, GuestRun}
+use Rattle.vb_model.specs.Guest.{Guest, Config, fresh}
+use Rattle.vb_model.specs.GuestRun.{Entry, Called, EntryStep, Leads, last_guest, all_entries}
+use Rattle.vb_model.specs.GuestRun.{IsHistory}
 use Rattle.vb_slot.specs.Alone.{AreBehind}
 use Rattle.vb_run.specs.Entries.{is_same, actor_of, call_of, entries_by, calls_by}
 use Rattle.vb_run.specs.Plans.{config_of}
@@ -20,10 +21,27 @@ use Rattle.vb_run.specs.Services.{IsTended, IsQuiet, services}
 use Rattle.vb_run.specs.Past.{Past, Progress, IsKept, IsMade, AreMade, IsAside, IsScript}
 use Rattle.vb_run.proofs.Lists.{get_set, length_set, take_next}
 
-pub run_push : (a b c : Guest) (entries : List Entry) (e : Entry) → GuestRun a entries b
-    → EntryStep b e c → GuestRun a (entries ++ e ∷ []) c
-run_push a b c [] e r s = (c, subst (λ (g : Guest). EntryStep g e c) r s, refl)
-run_push a b c (x ∷ entries) e r s = (r.0, r.1, run_push r.0 b c entries e r.2 s)
+leads_push : (a b c : Guest) (entries : List Entry) (after : List Guest) (e : Entry)
+    → Leads a (all_entries entries) after → last_guest a after ≡ b → EntryStep b e c
+    → Leads a (all_entries (entries ++ e ∷ [])) (after ++ c ∷ [])
+leads_push a b c [] [] e l ends s = (subst (λ (g : Guest). EntryStep g e c) (sym ends) s, tt)
+leads_push a b c (x ∷ entries) (new ∷ after) e l ends s =
+    (l.0, leads_push new b c entries after e l.1 ends s)
+leads_push a b c [] (new ∷ after) e l ends s = absurd l
+leads_push a b c (x ∷ entries) [] e l ends s = absurd l
+
+last_push : (a c : Guest) (after : List Guest) → last_guest a (after ++ c ∷ []) ≡ c
+last_push a c [] = refl
+last_push a c (new ∷ after) = last_push new c after
+
+pub run_push : (config : Config) (target : ℕ) (b c : Guest) (entries : List Entry) (e : Entry)
+    → IsHistory config target entries b → EntryStep b e c
+    → IsHistory config target (entries ++ e ∷ []) c
+run_push config target b c entries e (after, leads, ends) s = (
+  after ++ c ∷ [],
+  leads_push (fresh config target) b c entries after e leads ends s,
+  last_push (fresh config target) c after,
+)
 
 -- an entry of somebody else is none of the actor's
 pub entries_other : (a : Actor) (entries : List Entry) (e : Entry)
@@ -78,7 +96,7 @@ kept_aside Is Is' own own' p e new quiet k aside mine stands behind step tended 
   paced = k.paced;
   now = new;
   stands = stands;
-  run = run_push (fresh (config_of p.sizes k.paced) 0) k.now new p.history e k.run step;
+  run = run_push (config_of p.sizes k.paced) 0 k.now new p.history e k.run step;
   tended = tended;
   behind = behind;
   made = made_push p.guest (length p.scripts) p.history e k.made mine;
@@ -113,7 +131,7 @@ kept_next Is Is' own own' p cpu s call claims reply new quiet k here next stands
       paced = k.paced;
       now = new;
       stands = stands;
-      run = run_push (fresh (config_of p.sizes k.paced) 0) k.now new p.history e k.run step;
+      run = run_push (config_of p.sizes k.paced) 0 k.now new p.history e k.run step;
       tended = tended;
       behind = behind;
       made = subst (λ (n : ℕ). AreMade p.guest n (p.history ++ e ∷ []))

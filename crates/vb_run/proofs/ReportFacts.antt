@@ -19,7 +19,8 @@ use Rattle.vb_model.specs.Guest.{Guest, Config, fresh}
 use Rattle.vb_model.specs.Balance.{Need, spare}
 use Rattle.vb_model.specs.Layout.{reserved_pages}
 use Rattle.vb_model.specs.Tests.{times}
-use Rattle.vb_model.specs.GuestRun.{Entry, Called, Looked, IsHistory}
+use Rattle.vb_model.specs.GuestRun.{Entry, Called, Looked, IsHistory, Leads, last_guest}
+use Rattle.vb_model.specs.GuestRun.{all_entries}
 use Rattle.vb_model.proofs.Unchanged.{step_keeps}
 use Rattle.vb_ram.specs.declared.config.Config.{Config as Sizes}
 use Rattle.vb_run.specs.declared.plan.GuestPlan.{GuestPlan}
@@ -28,7 +29,8 @@ use Rattle.vb_run.specs.declared.report.GuestReport.{GuestReport}
 use Rattle.vb_run.specs.declared.report.Report.{Report}
 use Rattle.vb_run.specs.Plans.{config_of}
 use Rattle.vb_run.specs.Entries.{calls_by, replies_by, entries_by}
-use Rattle.vb_run.specs.Rounds.{Rounded, IsAnswer, round_entries}
+use Rattle.vb_run.specs.Rounds.{Rounded, round_entries}
+use Rattle.vb_model.specs.Balance.{IsAnswer}
 use Rattle.vb_run.specs.Rising.{IsRising}
 use Rattle.vb_run.specs.Reports.{frames_behind, Plays, IsGuestReport, IsRound, AreApart, IsReport}
 use Rattle.vb_run.proofs.Distinct.{rising_once, times_append}
@@ -62,13 +64,22 @@ no_frames = refl
 -- ---- histories: from plug on, with no target
 
 of_nothing : IsHistory config 0 [] down
-of_nothing = refl
+of_nothing = ([], tt, refl)
 
 to_a_ready_guest : IsHistory config 0 [] ready → ⊥
-to_a_ready_guest run = let e : Same 15 0 = ap (λ (g : Guest). g.status) run in omega arith
+to_a_ready_guest (after, leads, ends) = by after leads ends
+  where
+    by : (after : List Guest) → Leads down [] after → last_guest down after ≡ ready → ⊥
+    by [] leads ends = let e : Same 0 15 = ap (λ (g : Guest). g.status) ends in omega arith
+    by (new ∷ after) leads ends = absurd leads
 
 from_another_target : IsHistory config 7 [] down → ⊥
-from_another_target run = let e : Same 0 7 = ap (λ (g : Guest). g.target) run in omega arith
+from_another_target (after, leads, ends) = by after leads ends
+  where
+    by : (after : List Guest) → Leads (fresh config 7) [] after
+        → last_guest (fresh config 7) after ≡ down → ⊥
+    by [] leads ends = let e : Same 7 0 = ap (λ (g : Guest). g.target) ends in omega arith
+    by (new ∷ after) leads ends = absurd leads
 
 -- ---- what a processor of guest 1 plays: its script, whole and in order, with these replies
 
@@ -286,7 +297,7 @@ runs_from_plug_on : (plan : GuestPlan) (rounds : List Rounded) (report : GuestRe
     → IsHistory (record config { paced = is.paced }) 0 report.history.items is.last
 runs_from_plug_on plan rounds report is sizes =
     subst (λ (s : Sizes). IsHistory (config_of s is.paced) 0 report.history.items is.last) sizes
-    is.run
+    (is.safe.after, is.safe.leads, is.safe.ends)
 
 -- A guest of 64 pages, of which 16 are reserved, can't spare 49: whatever its first call, no look
 -- sees that.
@@ -296,12 +307,15 @@ look_that_saw_too_much : (plan : GuestPlan) (rounds : List Rounded) (report : Gu
     → report.history.items ≡ Called actor call claims reply ∷ Looked 16 49 ∷ rest
     → NoReport plan rounds report
 look_that_saw_too_much plan rounds report actor call claims reply rest sizes history is =
-    by (subst (λ (l : List Entry). IsHistory (config_of plan.config is.paced) 0 l is.last) history
-    is.run)
+    by is.safe.after
+    (subst (λ (l : List Entry). Leads (fresh (config_of plan.config is.paced) 0) (all_entries l)
+    is.safe.after) history is.safe.leads)
   where
-    by : IsHistory (config_of plan.config is.paced) 0
-        (Called actor call claims reply ∷ Looked 16 49 ∷ rest) is.last → ⊥
-    by (mid, step, (next, look, later)) =
+    by : (after : List Guest) → Leads (fresh (config_of plan.config is.paced) 0)
+        (all_entries (Called actor call claims reply ∷ Looked 16 49 ∷ rest)) after → ⊥
+    by [] leads = absurd leads
+    by (mid ∷ []) leads = absurd leads.1
+    by (mid ∷ next ∷ after) (step, (look, later)) =
         let kept : mid.config ≡ config_of plan.config is.paced =
         (step_keeps (fresh (config_of plan.config is.paced) 0) call claims reply mid step.1).config
         in

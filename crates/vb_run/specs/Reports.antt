@@ -4,8 +4,8 @@ use Rattle.std.specs.Prelude.{slice_get, map}
 use Rattle.std.specs.Prelude.{filter_map, All, sum_by}
 use Rattle.vb_model.specs.declared.calls.Actor.TheVariants.{Processor, Balancer}
 use Rattle.vb_model.specs.Guest.{Guest}
+use Rattle.vb_model.specs.Balance.{IsAnswer}
 use Rattle.vb_model.specs.Tests.{times}
-use Rattle.vb_model.specs.GuestRun.{IsHistory}
 use Rattle.vb_model.specs.Histories.{IsSafeHistory}
 use Rattle.vb_run.specs.declared.plan.Plan.{Plan}
 use Rattle.vb_run.specs.declared.plan.GuestPlan.{GuestPlan}
@@ -15,7 +15,7 @@ use Rattle.vb_run.specs.Plans.{config_of}
 use Rattle.vb_run.specs.Entries.{calls_by, replies_by, entries_by}
 use Rattle.vb_run.specs.Past.{AreMade}
 use Rattle.vb_run.specs.Services.{IsServed}
-use Rattle.vb_run.specs.Rounds.{Rounded, IsAnswer, round_entries}
+use Rattle.vb_run.specs.Rounds.{Rounded, round_entries}
 
 -- the frames behind the guest's pages, by rising page
 abbrev pub frames_behind : Guest → List ℕ
@@ -33,7 +33,6 @@ pub record IsGuestReport (floor guest : ℕ) (plan : GuestPlan) (rounds : List R
     (report : GuestReport) : Type 0 where
   pub paced : Bool
   pub last : Guest
-  pub run : IsHistory (config_of plan.config paced) 0 report.history.items last
   pub safe : IsSafeHistory (config_of plan.config paced) 0 report.history.items last
   pub made : AreMade guest (length plan.scripts.items) report.history.items
   pub scripts : length report.replies.items ≡ length plan.scripts.items

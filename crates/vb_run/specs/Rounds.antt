@@ -1,12 +1,10 @@
 -- A round of the balancer.
-use Rattle.std.specs.Prelude.{◌≡◌, ℕ, ◌==◌, Bool, List, [], ◌∷◌, ◌++◌, MatchBool, slice_index_or}
-use Rattle.std.specs.Prelude.{map}
+use Rattle.std.specs.Prelude.{ℕ, List, [], ◌∷◌, ◌++◌, slice_index_or}
 use Rattle.vb_model.specs.declared.calls.Actor.TheVariants.{Balancer}
 use Rattle.vb_model.specs.declared.calls.Call.TheVariants.{SetTarget}
-use Rattle.vb_model.specs.declared.replies.Refusal.TheVariants.{Short}
 use Rattle.vb_model.specs.declared.replies.Reply.{Reply}
-use Rattle.vb_model.specs.declared.replies.Reply.TheVariants.{Done, Targets, Refused}
-use Rattle.vb_model.specs.Balance.{Need, AreTargets, shortage, spare_at}
+use Rattle.vb_model.specs.declared.replies.Reply.TheVariants.{Done, Targets}
+use Rattle.vb_model.specs.Balance.{Need, spare_at}
 use Rattle.vb_model.specs.GuestRun.{Entry, Called, Looked}
 
 pub record Rounded : Type 0 where
@@ -16,13 +14,6 @@ pub record Rounded : Type 0 where
   pub needs : List Need
   -- the guests' targets, or what stays missing
   pub answer : Reply
-
--- what a balance of so many frames answers for these needs
-abbrev pub IsAnswer : ℕ → List Need → Reply → Type 0
-IsAnswer frames needs answer =
-    MatchBool (shortage needs frames == 0)
-    ((targets : List ℕ) × AreTargets needs frames targets × (answer ≡ Targets targets))
-    (answer ≡ Refused (Short (shortage needs frames)))
 
 -- the target that an answer sets for the guest, if it sets any
 abbrev pub target_entries : ℕ → Reply → List Entry

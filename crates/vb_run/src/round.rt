@@ -1,7 +1,7 @@
 //! A round of the balancer.
 
 ghost use Rattle.std.specs.Prelude.{◌≡◌, ◌≤◌, ◌<◌, length, IfOk, sum};
-ghost use Rattle.vb_run.specs.Rounds.{IsAnswer};
+ghost use Rattle.vb_model.specs.Balance.{IsAnswer};
 
 use std::marker::Model;
 use vb_balance::{GuestNeed, targets};
@@ -17,7 +17,8 @@ pub struct Round {
 }
 
 impl Model for Round {
-    ghost use Rattle.vb_run.specs.Rounds.{Rounded, IsAnswer};
+    ghost use Rattle.vb_model.specs.Balance.{IsAnswer};
+    ghost use Rattle.vb_run.specs.Rounds.{Rounded};
 
     ghost Value = { Rounded };
 

@@ -1,7 +1,7 @@
 -- Numbers in a list, numbers from one on and below a bound, and passes that hold nothing.
-use Rattle.std.proofs.Common.{◌≡◌, ◌≢◌, ℕ, zero, suc, ◌+◌, ◌<◌, ◌≤◌, Bool, true, false, cond, not}
+use Rattle.std.proofs.Common.{◌≡◌, ◌≢◌, ℕ, zero, suc, ◌+◌, ◌≤◌, Bool, true, false, cond, not}
 use Rattle.std.proofs.Common.{◌||◌, ◌==◌, List, [], ◌∷◌, ◌++◌, refl, sym, ap, ◌∙◌, subst, arith}
-use Rattle.std.proofs.Common.{eq-eqb, ne_eqb, eqb-true, replicate}
+use Rattle.std.proofs.Common.{eq-eqb, ne_eqb, eqb-true, replicate, None}
 use Rattle.std.specs.Prelude.{slice_index}
 use Rattle.std.proofs.lemmas.Map.Views.{any-filter_same}
 use mathlib.Core.Logic.{dite}
@@ -88,7 +88,7 @@ zeros (suc n) zero = refl
 zeros (suc n) (suc f) = zeros n f
 
 abbrev pub new_pass : TableId → ℕ → Pass
-new_pass table tag = record { table = table; tag = tag; held = [] }
+new_pass table tag = record { table = table; tag = tag; held = []; found = None }
 
 new_passes_push : (table : TableId) (tag n : ℕ)
     → new_passes table tag (suc n) ≡ new_passes table tag n ++ new_pass table (tag + n) ∷ []

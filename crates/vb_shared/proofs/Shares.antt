@@ -11,7 +11,6 @@ use lib.ListN.{get_elem?}
 use Rattle.atomic_table.specs.Table.{Me, Allows, Splits, Joins, step, opening, keeps}
 use Rattle.atomic_table.proofs.Lists.{at_set, at_snoc}
 use Rattle.vb_model.specs.Tests.{one_if}
-use Rattle.vb_device.specs.Own.{has}
 use Rattle.vb_shared.specs.declared.rule.Holding.{Holding}
 use Rattle.vb_shared.specs.declared.rule.View.{View}
 use Rattle.vb_shared.specs.declared.rule.Size.{Size}

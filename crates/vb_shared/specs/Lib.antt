@@ -1,3 +1,4 @@
 pub mod Rule
 pub mod Steps
 pub mod Passes
+pub mod Leases

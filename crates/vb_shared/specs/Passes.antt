@@ -1,5 +1,5 @@
 -- A table of frames and its passes, as contracts see them.
-use Rattle.std.specs.Prelude.{◌≡◌, ℕ, zero, suc, ◌<◌, ◌≤◌, List, [], ◌∷◌}
+use Rattle.std.specs.Prelude.{◌≡◌, ℕ, zero, suc, ◌<◌, ◌≤◌, List, [], ◌∷◌, Option, None}
 use Rattle.atomic_table.specs.Table.{Me}
 use Rattle.atomic_table.specs.Seated.{TableId}
 use Rattle.vb_shared.specs.declared.rule.View.{View}
@@ -7,22 +7,24 @@ use Rattle.vb_shared.specs.declared.rule.Size.{Size}
 use Rattle.vb_shared.specs.Rule.{pass}
 use Rattle.vb_shared.specs.Steps.{held_of}
 
--- A pass: its table, its tag, and the numbers of the frames that it holds.
+-- A pass: its table, its tag, the numbers of the frames that it holds, and what its last claim
+-- answered.
 pub record Pass : Type 0 where
   pub table : TableId
   pub tag : ℕ
   pub held : List ℕ
+  pub found : Option ℕ
 
 -- A table: which it is, and how many frames it has.
 pub record Opened : Type 0 where
   pub table : TableId
   pub frames : ℕ
 
--- So many passes of the table with the tags from one on, that hold nothing.
+-- So many passes of the table with the tags from one on, that hold nothing and claimed nothing.
 abbrev pub new_passes : TableId → ℕ → ℕ → List Pass
 new_passes table tag zero = []
 new_passes table tag (suc n) =
-    record { table = table; tag = tag; held = [] } ∷ new_passes table (suc tag) n
+    record { table = table; tag = tag; held = []; found = None } ∷ new_passes table (suc tag) n
 
 -- ---- how they are kept
 

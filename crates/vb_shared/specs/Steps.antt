@@ -1,11 +1,11 @@
 -- What single steps tell the pass that makes them, and how seats are cut and joined.
-use Rattle.std.specs.Prelude.{◌≡◌, ℕ, zero, suc, ◌<◌, ◌≤◌, ◌==◌, Bool, true, false, List, [], ◌∷◌}
+use Rattle.std.specs.Prelude.{◌≡◌, ℕ, zero, suc, ◌==◌, true, false, List, [], ◌∷◌}
 use Rattle.std.specs.Prelude.{if◌then◌else◌}
 use Rattle.atomic_table.specs.Table.{Me, Step}
 use Rattle.vb_device.specs.Own.{has, without}
 use Rattle.vb_shared.specs.declared.rule.Holding.{Holding}
 use Rattle.vb_shared.specs.declared.rule.View.{View}
-use Rattle.vb_shared.specs.Rule.{holding, view_of, pass}
+use Rattle.vb_shared.specs.Rule.{holding, view_of}
 
 -- ---- a seat of one pass
 

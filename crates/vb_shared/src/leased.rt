@@ -1,6 +1,8 @@
 //! A device round a device, with a pass of its own.
 
 ghost use Rattle.std.specs.Prelude.{◌≡◌, true};
+ghost use Rattle.vb_device.specs.Calls.{Claims, IsAnswered};
+ghost use Rattle.vb_shared.specs.Leases.{AnswersAs};
 
 use crate::FramePass;
 use std::alloc::{AllocError, Global};
@@ -149,7 +151,14 @@ impl<D: Device> Device for Leased<D> {
     }
 
     #[tactic(auto, using(crate::proofs::Lists::without_added))]
-    fn claim(&mut self) -> Claimed {
+    fn claim(&mut self) -> Claimed
+        ensures frame { Claims (⟦<Leased<D> as GuestBytes>⟧.part self.old)
+            (⟦<Leased<D> as GuestBytes>⟧.part self.new) result }
+        ensures answered { IsAnswered (⟦<Leased<D> as Device>⟧.answers self.old) result }
+        ensures mem { (⟦<Leased<D> as GuestBytes>⟧.mem self.new) ≡
+            ⟦<Leased<D> as GuestBytes>⟧.mem self.old }
+        ensures found { AnswersAs self.new.pass.found result }
+    {
         let Some(number) = self.pass.claim() else {
             return Claimed::NoFrame;
         };

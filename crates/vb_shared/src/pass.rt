@@ -58,6 +58,8 @@ pub struct FramePass {
     frames: u32,
     /// Which guest's pass it is. A word of its own is tag + 1.
     tag: u32,
+    /// What its last claim answered, which a contract tells want of frames and of memory apart by.
+    found: Option<u32>,
     /// Where a claimed frame's bytes come from.
     alloc: Global,
 }
@@ -73,6 +75,7 @@ impl Model for FramePass {
       table = p.place.table_id;
       tag = p.tag;
       held = held_of p.place.me.0;
+      found = p.found;
     } };
 
     ghost invariant = { λ p. IsTable p.place.table_id (arc_value p.table).shared.key
@@ -100,6 +103,7 @@ fn deal(
             place,
             frames,
             tag,
+            found: None,
             alloc,
         })?;
     }
@@ -144,10 +148,11 @@ impl FramePass {
     /// none was free when it was tried.
     pub fn claim(&mut self) -> Option<u32>
         ensures some { IfSome result (λ f. (has self.old.held f ≡ false) ×
-            (self.new ≡ record (self.old) { held = f ∷ self.old.held })) }
-        ensures none { IfNone result (self.new ≡ self.old) }
+            (self.new ≡ record (self.old) { held = f ∷ self.old.held; found = Some f })) }
+        ensures none { IfNone result (self.new ≡ record (self.old) { found = None }) }
     {
-        steps::claim_first(&self.table.shared, &mut self.place, self.tag, self.frames)
+        self.found = steps::claim_first(&self.table.shared, &mut self.place, self.tag, self.frames);
+        self.found
     }
 
     /// Puts a frame back; answers true exactly where the pass held it, which it then does no more.

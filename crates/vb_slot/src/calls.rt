@@ -1,7 +1,7 @@
 //! The calls on a guest and the questions about it, each with an answer of its own type.
 
-ghost use Rattle.std.specs.Prelude.{◌≡◌, ◌≢◌, ◌≤◌, Bool, None, [], false, length, replicate};
-ghost use Rattle.std.specs.Prelude.{count_by, true, IfOk, OnErr};
+ghost use Rattle.std.specs.Prelude.{◌≡◌, ◌≤◌, Bool, None, [], false, length, replicate};
+ghost use Rattle.std.specs.Prelude.{count_by, true, IfOk};
 ghost use Rattle.vb_model.specs.declared.replies.Reply.TheVariants.{Done, Places, Backing};
 ghost use Rattle.vb_model.specs.Balance.{spare};
 ghost use Rattle.vb_model.specs.Guest.{Guest};
@@ -13,7 +13,7 @@ ghost use Rattle.vb_driver.specs.Calls.{AreCountsOf, AllocatesBy, FreesBy, Infla
 ghost use Rattle.vb_driver.specs.Calls.{DeflatesOnOomBy, ReportsBy, FillsBy, ReapsBy, ResetsBy};
 ghost use Rattle.vb_driver.specs.State.{fresh_driver};
 ghost use Rattle.vb_guest.specs.Exact.{InitialisesBy, IsHandedBack, IsQuiet, IsReset, PutsBy};
-ghost use Rattle.vb_guest.specs.Exact.{ReadsBy, TookNone};
+ghost use Rattle.vb_guest.specs.Exact.{KeepsFrames, ReadsBy};
 ghost use Rattle.vb_guest.specs.Promises.{EachRestarts};
 ghost use Rattle.vb_guest.specs.Replies.{ready_reply, page_reply, done_reply, bytes_reply};
 ghost use Rattle.vb_guest.specs.Replies.{posted_reply, reaped_reply, taken_reply, finished_reply};
@@ -110,6 +110,7 @@ impl Slot {
             page offset bytes.now result }
         ensures driver { driver_of self.new ≡ driver_of self.old }
         ensures quiet { claims_of self.new ≡ [] → keeper.new ≡ keeper.old }
+        ensures unasked { (part_of part self.old).keeps ≡ true → keeper.new ≡ keeper.old }
     {
         vb_guest::write(
             &self.driver,
@@ -143,6 +144,7 @@ impl Slot {
             page offset bytes.now result }
         ensures driver { driver_of self.new ≡ driver_of self.old }
         ensures quiet { claims_of self.new ≡ [] → keeper.new ≡ keeper.old }
+        ensures unasked { (part_of part self.old).keeps ≡ true → keeper.new ≡ keeper.old }
     {
         vb_guest::scribble(
             &mut self.device,
@@ -167,6 +169,7 @@ impl Slot {
             (driver_of self.old) (driver_of self.new)
             (claims_of self.new) wanted result }
         ensures quiet { claims_of self.new ≡ [] → keeper.new ≡ keeper.old }
+        ensures unasked { (part_of part self.old).keeps ≡ true → keeper.new ≡ keeper.old }
     {
         vb_guest::init(
             &mut self.driver,
@@ -318,7 +321,9 @@ impl Slot {
             (λ after. WorksBy (memory_of mem self.old) (memory_of mem self.new)
             (part_of part self.old) after result) (part_of part self.new) }
         ensures driver { driver_of self.new ≡ driver_of self.old }
-        ensures quiet { TookNone result → keeper.new ≡ keeper.old }
+        ensures quiet { KeepsFrames (memory_of mem self.old) (memory_of mem self.new)
+            → keeper.new ≡ keeper.old }
+        ensures unasked { (part_of part self.old).keeps ≡ true → keeper.new ≡ keeper.old }
     {
         forget(&mut self.claims);
         vb_guest::work(&mut self.device, keeper)
@@ -340,7 +345,9 @@ impl Slot {
             (λ after. FinishesBy queue index (memory_of mem self.old) (memory_of mem self.new)
             (part_of part self.old) after result) (part_of part self.new) }
         ensures driver { driver_of self.new ≡ driver_of self.old }
-        ensures quiet { OnErr result (keeper.new ≡ keeper.old) }
+        ensures quiet { KeepsFrames (memory_of mem self.old) (memory_of mem self.new)
+            → keeper.new ≡ keeper.old }
+        ensures unasked { (part_of part self.old).keeps ≡ true → keeper.new ≡ keeper.old }
     {
         forget(&mut self.claims);
         vb_guest::finish(&mut self.device, keeper, queue, index)
@@ -357,7 +364,9 @@ impl Slot {
             (λ after. SweepsBy page (memory_of mem self.old) (memory_of mem self.new)
             (part_of part self.old) after result) (part_of part self.new) }
         ensures driver { driver_of self.new ≡ driver_of self.old }
-        ensures quiet { result ≢ Ok true → keeper.new ≡ keeper.old }
+        ensures quiet { KeepsFrames (memory_of mem self.old) (memory_of mem self.new)
+            → keeper.new ≡ keeper.old }
+        ensures unasked { (part_of part self.old).keeps ≡ true → keeper.new ≡ keeper.old }
     {
         forget(&mut self.claims);
         vb_guest::sweep(&mut self.device, keeper, page)
@@ -404,6 +413,9 @@ impl Slot {
         ensures part { IsReset (part_of part self.old) (part_of part self.new) }
         ensures driver { driver_of self.new ≡ fresh_driver (driver_of self.old).pages
             (driver_of self.old).queue_size (driver_of self.old).processors }
+        ensures quiet { KeepsFrames (memory_of mem self.old) (memory_of mem self.new)
+            → keeper.new ≡ keeper.old }
+        ensures unasked { (part_of part self.old).keeps ≡ true → keeper.new ≡ keeper.old }
     {
         forget(&mut self.claims);
         vb_guest::restart(&mut self.driver, &mut self.device, keeper);
@@ -424,6 +436,9 @@ impl Slot {
             ≡ replicate (length (memory_of mem self.old)) None }
         ensures part { IsReset (part_of part self.old) (part_of part self.new) }
         ensures driver { driver_of self.new ≡ driver_of self.old }
+        ensures quiet { KeepsFrames (memory_of mem self.old) (memory_of mem self.new)
+            → keeper.new ≡ keeper.old }
+        ensures unasked { (part_of part self.old).keeps ≡ true → keeper.new ≡ keeper.old }
     {
         forget(&mut self.claims);
         vb_guest::empty(&mut self.device, keeper);

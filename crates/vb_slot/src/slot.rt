@@ -2,7 +2,8 @@
 
 ghost use Rattle.std.specs.Prelude.{◌≡◌, true, []};
 ghost use Rattle.vb_guest.specs.Dispatch.{CallsBy, LeavesAlone};
-ghost use Rattle.vb_slot.specs.Slots.{stands_for, claims_of, moment_of, HasGuest, HasGuestOut};
+ghost use Rattle.vb_slot.specs.Slots.{stands_for, claims_of, memory_of, moment_of, part_of};
+ghost use Rattle.vb_slot.specs.Slots.{HasGuest, HasGuestOut};
 ghost use Rattle.vb_slot.specs.Slots.{SlotAnswers, SlotSteps};
 
 use crate::boxed::BoxedDevice;
@@ -42,7 +43,8 @@ impl Slot {
             (K.out keeper.new) call.now result }
         ensures exact { CallsBy K.answers (moment_of mem part self.old (K.out keeper.old))
             (moment_of mem part self.new (K.out keeper.new)) (claims_of self.new) call.now result }
-        ensures quiet { LeavesAlone (keeper.new ≡ keeper.old) (claims_of self.new) call.now result }
+        ensures quiet { LeavesAlone (keeper.new ≡ keeper.old) (part_of part self.old).keeps
+            (memory_of mem self.old) (memory_of mem self.new) (claims_of self.new) }
     {
         vb_guest::call(
             alloc,

@@ -180,19 +180,17 @@ pub balanced : (w : World) (floor frames : ℕ) (ns : List Need) (ts : List ℕ)
     → WorldStep w (Balance floor) (Targets ts) (record w { guests = with_targets ts w.guests })
 balanced w floor frames ns ts is same none are =
     let P : Bool → Type 0 = λ b. MatchBool b ((targets : List ℕ)
-    × AreTargets (needs floor w) w.frames targets × (Targets ts ≡ Targets targets)
-    × (record w { guests = with_targets ts w.guests }
-    ≡ record w { guests = with_targets targets w.guests }))
-    ((Targets ts ≡ Refused (Short (shortage (needs floor w) w.frames)))
-    × (record w { guests = with_targets ts w.guests } ≡ w)) in
+    × AreTargets (needs floor w) w.frames targets × (Targets ts ≡ Targets targets))
+    (Targets ts ≡ Refused (Short (shortage (needs floor w) w.frames))) in
     let enough : shortage (needs floor w) w.frames ≡ 0 =
     sym (ap (λ (l : List Need). shortage l frames) is
-    ∙ ap (λ (n : ℕ). shortage (needs floor w) n) same) ∙ none in
-    subst P (sym (zero_is (shortage (needs floor w) w.frames) enough)) (
-      ts,
-      subst (λ (n : ℕ). AreTargets (needs floor w) n ts) same
-          (subst (λ (l : List Need). AreTargets l frames ts) is are),
-      refl,
+    ∙ ap (λ (n : ℕ). shortage (needs floor w) n) same) ∙ none in (
+      subst P (sym (zero_is (shortage (needs floor w) w.frames) enough)) (
+        ts,
+        subst (λ (n : ℕ). AreTargets (needs floor w) n ts) same
+            (subst (λ (l : List Need). AreTargets l frames ts) is are),
+        refl,
+      ),
       refl,
     )
 
@@ -201,14 +199,12 @@ pub short : (w : World) (floor frames left : ℕ) (ns : List Need) → ns ≡ ne
     → WorldStep w (Balance floor) (Refused (Short left)) w
 short w floor frames left ns is same some missing =
     let P : Bool → Type 0 = λ b. MatchBool b ((targets : List ℕ)
-    × AreTargets (needs floor w) w.frames targets × (Refused (Short left) ≡ Targets targets)
-    × (w ≡ record w { guests = with_targets targets w.guests }))
-    ((Refused (Short left) ≡ Refused (Short (shortage (needs floor w) w.frames)))
-    × (w ≡ w)) in
+    × AreTargets (needs floor w) w.frames targets × (Refused (Short left) ≡ Targets targets))
+    (Refused (Short left) ≡ Refused (Short (shortage (needs floor w) w.frames))) in
     let lacks : shortage ns frames ≡ shortage (needs floor w) w.frames =
     ap (λ (l : List Need). shortage l frames) is
-    ∙ ap (λ (n : ℕ). shortage (needs floor w) n) same in
-    subst P (sym (some_is (shortage (needs floor w) w.frames) (omega (arith, some, lacks)))) (
-      ap (λ (n : ℕ). Refused (Short n)) (missing ∙ lacks),
+    ∙ ap (λ (n : ℕ). shortage (needs floor w) n) same in (
+      subst P (sym (some_is (shortage (needs floor w) w.frames) (omega (arith, some, lacks))))
+          (ap (λ (n : ℕ). Refused (Short n)) (missing ∙ lacks)),
       refl,
     )

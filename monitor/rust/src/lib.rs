@@ -16,6 +16,7 @@ use vm_memory::{Address, GuestMemory, GuestMemoryRegion};
 
 const DRIVER_OK: u8 = 4;
 const DEVICE_NEEDS_RESET: u8 = 64;
+const FAILED: u8 = 128;
 const OUT_OF_MEMORY: u32 = 6;
 
 /// Feature bits (VIRTIO 1.1, 5.5.3 and 6); Linux names bit 5 VIRTIO_BALLOON_F_REPORTING.
@@ -140,12 +141,89 @@ pub trait Monitor {
 
 impl Monitor for () {}
 
-/// All that a device is. Copy it to save, and hand it to [`Balloon::restore`].
+/// All that a device is. Copy it within a process, and hand it to [`Balloon::restore`]; [`State::to_bytes`] makes what
+/// lasts.
 #[derive(Clone, Copy)]
 pub struct State {
     device: raw::Device,
     /// The head of the statistics buffer that waits to be asked for.
     held: Option<u32>,
+}
+
+/// Bytes of a saved state.
+pub const STATE_BYTES: usize = raw::STATE_BYTES;
+
+/// Why a state isn't restored, or saved.
+#[derive(Clone, Copy, Debug, PartialEq, Eq)]
+pub enum StateError {
+    /// There are more or fewer bytes than a saved state has.
+    BadLength,
+    /// The bytes don't begin as a saved state does.
+    NotAState,
+    /// The format has another version.
+    OtherVersion,
+    /// The bytes aren't those that were saved.
+    BadSum,
+    /// No calls lead to a device like that.
+    Impossible,
+    /// Guest memory ends elsewhere than it did, or a queue's part lies in a hole.
+    Misplaced,
+}
+
+fn state_error(code: u32) -> StateError {
+    match code {
+        raw::BAD_LENGTH => StateError::BadLength,
+        raw::NOT_A_STATE => StateError::NotAState,
+        raw::OTHER_VERSION => StateError::OtherVersion,
+        raw::BAD_SUM => StateError::BadSum,
+        _ => StateError::Impossible,
+    }
+}
+
+impl State {
+    /// The state as bytes with a format (docs/INTEGRATION.md), for [`State::from_bytes`] of this version or a later one,
+    /// on any machine.
+    ///
+    /// # Errors
+    /// `Impossible` where no calls lead to such a device, as after [`Balloon::set_memory`] that leaves a queue outside.
+    pub fn to_bytes(&self) -> Result<[u8; STATE_BYTES], StateError> {
+        let mut bytes = [0; STATE_BYTES];
+        let held = self.held.map_or(0, |head| head + 1);
+        // SAFETY: the pointers are of a `&` and of an array with its length.
+        match unsafe { raw::vb_save(&self.device, held, bytes.as_mut_ptr(), bytes.len()) } {
+            raw::OK => Ok(bytes),
+            code => Err(state_error(code)),
+        }
+    }
+
+    /// The state that was saved as these bytes.
+    ///
+    /// # Errors
+    /// Why they aren't a saved state.
+    pub fn from_bytes(bytes: &[u8]) -> Result<State, StateError> {
+        let mut device = raw::Device::default();
+        let mut held = 0;
+        // SAFETY: the pointers are of two `&mut` and of a slice with its length.
+        match unsafe { raw::vb_restore(&mut device, &mut held, bytes.as_ptr(), bytes.len()) } {
+            raw::OK => Ok(State { device, held: held.checked_sub(1) }),
+            code => Err(state_error(code)),
+        }
+    }
+
+    /// Whether the queues are memory, which ends where it did.
+    fn is_over<M: GuestMemory>(&self, memory: &M) -> bool {
+        let device = &self.device;
+        let queues = [device.inflate, device.deflate, device.statistics, device.report];
+        let mut placed = queues.iter().filter(|it| it.size > 0);
+        device.settings.memory_end == memory_end(memory) && placed.all(|it| memory::holds_queue(memory, it))
+    }
+}
+
+/// Whether the library is of the version that this crate is written for, so that structs and codes are the same.
+pub fn is_library_of_this_version() -> bool {
+    // SAFETY: it has no arguments.
+    let version = unsafe { raw::vb_version() };
+    version >> 8 == raw::VERSION >> 8
 }
 
 /// Private copies, and what the library makes of them.
@@ -213,6 +291,19 @@ impl Balloon {
             figures: [Statistic::default(); raw::MAX_BYTES / 10],
         };
         Balloon { state, copies: Box::new(copies) }
+    }
+
+    /// A balloon that goes on where the one stood that was saved as these bytes ([`State::to_bytes`]), over guest memory
+    /// that holds its queues.
+    ///
+    /// # Errors
+    /// Why they aren't a saved state, or `Misplaced`.
+    pub fn restore_bytes<M: GuestMemory>(memory: &M, bytes: &[u8]) -> Result<Balloon, StateError> {
+        let state = State::from_bytes(bytes)?;
+        if !state.is_over(memory) {
+            return Err(StateError::Misplaced);
+        }
+        Ok(Balloon::restore(state))
     }
 
     /// All that the device is.
@@ -307,9 +398,8 @@ impl Balloon {
             raw::OK => {}
             code => return Err(refusal(code, 0)),
         }
-        let size = usize::from(size);
-        let parts = [(table, 16 * size), (avail, 6 + 2 * size), (used, 6 + 8 * size)];
-        if !parts.iter().all(|&(address, length)| memory::holds(memory, address, length)) {
+        let queue = raw::Queue { table, avail, used, size, ..raw::Queue::default() };
+        if !memory::holds_queue(memory, &queue) {
             return Err(Refusal::Misplaced);
         }
         self.state.device = device;
@@ -410,6 +500,11 @@ impl Balloon {
         }
     }
 
+    /// Whether the driver is done, and neither it nor the device met a fault: only then a ring in a hole breaks a rule.
+    fn is_ready(&self) -> bool {
+        self.status() & (DRIVER_OK | DEVICE_NEEDS_RESET | FAILED) == DRIVER_OK
+    }
+
     /// Bytes that should be memory lie in a hole: the library sees one range without holes, so this is told here.
     fn broken_by_hole(&mut self, _: NotMemory) -> Refusal {
         self.state.device.status |= DEVICE_NEEDS_RESET;
@@ -429,8 +524,9 @@ impl Balloon {
         let copies = &mut *self.copies;
         let (avail, table) = (&mut copies.avail[..4 + 2 * size], &mut copies.table[..16 * size]);
         if size > 0 {
-            if let Err(it) = memory::copy_ring(memory, &queue, avail, table) {
-                return Err(self.broken_by_hole(it));
+            match memory::copy_ring(memory, &queue, avail, table) {
+                Err(it) if self.is_ready() => return Err(self.broken_by_hole(it)),
+                _ => {}
             }
         }
         match kind {

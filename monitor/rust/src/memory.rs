@@ -59,6 +59,13 @@ pub(crate) fn holds<M: GuestMemory>(memory: &M, address: u64, length: usize) -> 
     GuestAddress(address).checked_add(length as u64).is_some() && memory.check_range(GuestAddress(address), length)
 }
 
+/// Whether the parts of a queue are guest memory.
+pub(crate) fn holds_queue<M: GuestMemory>(memory: &M, queue: &raw::Queue) -> bool {
+    let size = usize::from(queue.size);
+    let parts = [(queue.table, 16 * size), (queue.avail, 6 + 2 * size), (queue.used, 6 + 8 * size)];
+    parts.iter().all(|&(address, length)| holds(memory, address, length))
+}
+
 /// Where guest memory ends.
 pub fn memory_end<M: GuestMemory>(memory: &M) -> u64 {
     memory.last_addr().raw_value().saturating_add(1)

@@ -8,12 +8,22 @@ pub const NOT_READY: u32 = 3;
 pub const NEEDS_RESET: u32 = 4;
 pub const NO_QUEUE: u32 = 5;
 pub const MISPLACED: u32 = 6;
+pub const BAD_LENGTH: u32 = 9;
+pub const NOT_A_STATE: u32 = 10;
+pub const OTHER_VERSION: u32 = 11;
+pub const BAD_SUM: u32 = 12;
 
 /// The most descriptors of a queue, pieces of a chain, runs of a request, and bytes of one.
 pub const MAX_QUEUE_SIZE: usize = 256;
 pub const MAX_PIECES: usize = 256;
 pub const MAX_RUNS: usize = 256;
 pub const MAX_BYTES: usize = 1024;
+
+/// Bytes of a saved state.
+pub const STATE_BYTES: usize = 187;
+
+/// The version of vb.h that this is written for, as `VB_VERSION_NUMBER`.
+pub const VERSION: u32 = 0x00_0100;
 
 #[repr(C)]
 #[derive(Clone, Copy, Default)]
@@ -110,7 +120,44 @@ pub struct Used {
     pub index: u16,
 }
 
+/// Bytes that say where they are.
+const fn numbered<const N: usize>() -> [u8; N] {
+    let mut bytes = [0; N];
+    let mut at = 0;
+    while at < N {
+        bytes[at] = at as u8;
+        at += 1;
+    }
+    bytes
+}
+
+/// A struct has this size, and each field begins at this byte.
+macro_rules! layout {
+    ($name:ty, $size:literal, $($($field:ident).+ at $at:literal),+) => {
+        const _: () = {
+            // SAFETY: the struct has just numbers, and this size, or this doesn't compile.
+            let it: $name = unsafe { std::mem::transmute(numbered::<$size>()) };
+            $(assert!(it.$($field).+.to_ne_bytes()[0] == $at);)+
+        };
+    };
+}
+
+layout!(Settings, 24, memory_end at 0, offered at 8, reserved_pages at 16, needs_must_tell at 20, skips_bad_pages at 21);
+layout!(Queue, 32, table at 0, avail at 8, used at 16, size at 24, next_avail at 26, next_used at 28);
+layout!(Device, 176, settings.memory_end at 0, features at 24, target at 32, actual at 36, inflate.table at 40);
+layout!(Device, 176, deflate.table at 72, statistics.table at 104, report.table at 136, status at 168);
+layout!(Piece, 16, address at 0, length at 8, writable at 12);
+layout!(Run, 8, first at 0, count at 4);
+layout!(Statistic, 16, tag at 0, value at 8);
+layout!(Chain, 20, code at 0, rule at 4, head at 8, pieces at 12, bytes at 16);
+layout!(Named, 24, code at 0, rule at 4, head at 8, runs at 12, pages at 16, skipped at 20);
+layout!(Figures, 12, code at 0, rule at 4, count at 8);
+layout!(Used, 40, code at 0, element_at at 8, index_at at 16, id at 24, length at 28, index at 32);
+
 extern "C" {
+    pub fn vb_version() -> u32;
+    pub fn vb_save(device: *const Device, held: u32, out: *mut u8, room: usize) -> u32;
+    pub fn vb_restore(device: *mut Device, held: *mut u32, bytes: *const u8, length: usize) -> u32;
     pub fn vb_new(device: *mut Device, settings: Settings) -> u32;
     pub fn vb_set_target(device: *mut Device, pages: u32);
     pub fn vb_write_status(device: *mut Device, status: u8) -> u32;
@@ -154,19 +201,4 @@ extern "C" {
         room: usize,
     ) -> Figures;
     pub fn vb_use(device: *mut Device, kind: u32, head: u32) -> Used;
-}
-
-#[cfg(test)]
-mod tests {
-    use super::*;
-    use std::mem::size_of;
-
-    /// Sizes as a C compiler has them of vb.h on x86-64 and on AArch64.
-    #[test]
-    fn structs_have_their_sizes() {
-        assert_eq!((size_of::<Settings>(), size_of::<Queue>(), size_of::<Device>()), (24, 32, 176));
-        assert_eq!((size_of::<Piece>(), size_of::<Run>(), size_of::<Statistic>()), (16, 8, 16));
-        assert_eq!((size_of::<Chain>(), size_of::<Named>()), (20, 24));
-        assert_eq!((size_of::<Figures>(), size_of::<Used>()), (12, 40));
-    }
 }

@@ -3,7 +3,9 @@
 use std::fs::File;
 use std::os::unix::io::FromRawFd;
 use std::sync::atomic::{AtomicBool, Ordering};
-use vb_balloon::{features, Balloon, Denied, Kind, Monitor, Refusal, Run, Settings, Statistic};
+use vb_balloon::{
+    features, Balloon, Denied, Kind, Monitor, Refusal, Run, Settings, State, StateError, Statistic, STATE_BYTES,
+};
 use vm_memory::{Bytes, FileOffset, GuestAddress, GuestMemoryMmap};
 
 const HIGH: u64 = 16 << 20;
@@ -161,7 +163,9 @@ fn statistics_come_before_the_driver_is_ready_and_outlive_a_move() {
     assert_eq!(balloon.notify(&guest.memory, Kind::Statistics, &mut told).stopped, Some(Refusal::NotReady));
     assert_eq!(balloon.write_status(&guest.memory, 15, &mut told).map(|it| it.chains), Ok(1));
     assert_eq!((&told.figures[..], guest.used_index(Kind::Statistics)), (&[figure][..], 0));
-    let mut balloon = Balloon::restore(balloon.state());
+    let bytes = balloon.state().to_bytes().expect("calls led there");
+    let mut balloon = Balloon::restore_bytes(&guest.memory, &bytes).expect("it was saved");
+    assert_eq!(balloon.state().to_bytes(), Ok(bytes));
     assert_eq!(balloon.ask_statistics(&guest.memory).interrupts, 4);
     assert_eq!((balloon.ask_statistics(&guest.memory).chains, guest.used_index(Kind::Statistics)), (0, 1));
     guest.publish(Kind::Statistics, 0);
@@ -293,4 +297,32 @@ fn another_processor_scribbles() {
         }
         assert!(served > 0 && broken > 0, "served {} broken {}", served, broken);
     });
+}
+
+/// Each byte of a saved state changed in turn, and each length: refused by name.
+#[test]
+fn damaged_states_are_refused() {
+    let guest = Guest::new();
+    let saved = guest.ready(settings()).state().to_bytes().expect("calls led there");
+    let refused = |bytes: &[u8]| State::from_bytes(bytes).err();
+    for at in 0..STATE_BYTES {
+        let expected = match at {
+            0..=7 => StateError::NotAState,
+            8..=11 => StateError::OtherVersion,
+            12..=15 => StateError::BadLength,
+            _ => StateError::BadSum,
+        };
+        for change in 1..=255 {
+            let mut bytes = saved;
+            bytes[at] ^= change;
+            assert_eq!(refused(&bytes), Some(expected), "byte {at}");
+        }
+        assert_eq!(refused(&saved[..at]), Some(StateError::BadLength), "length {at}");
+    }
+    let longer = [&saved[..], &[0]].concat();
+    assert_eq!((refused(&saved), refused(&longer)), (None, Some(StateError::BadLength)));
+    assert_eq!(Balloon::restore_bytes(&guest.memory, &longer).err(), Some(StateError::BadLength));
+    let other = GuestMemoryMmap::<()>::from_ranges(&[(GuestAddress(0), 4 << 20)]).expect("there is memory");
+    assert_eq!(Balloon::restore_bytes(&other, &saved).err(), Some(StateError::Misplaced));
+    assert!(vb_balloon::is_library_of_this_version());
 }

@@ -1,11 +1,9 @@
-use Rattle.std.proofs.Common.{◌≡◌, false, replicate}
+use Rattle.std.proofs.Common.{◌≡◌, replicate}
 use Rattle.arrayvec.specs.ArrayVec.{array_vec_len}
 use Rattle.vb_balance.proofs.sharing.targets.Given as goal
 
 abbrev pub invariant-loop-need : goal.invariant-loop-need
 invariant-loop-need l = record {
   pages : l.pages.items ≡ replicate l._need-index 0;
-  gave : l.gave.items ≡ replicate l._need-index false;
-  pages_len : array_vec_len l.pages ≡ l._need-index;
-  gave_len : array_vec_len l.gave ≡ l._need-index;
+  len : array_vec_len l.pages ≡ l._need-index;
 }

@@ -1,6 +1,13 @@
-use Rattle.std.proofs.Common.{refl}
+use Rattle.std.proofs.Common.{◌≡◌, Bool, List, refl}
+use Rattle.vb_model.specs.declared.calls.Claim.{Claim}
+use Rattle.vb_ram.specs.Pages.{Pages}
+use Rattle.vb_guest.specs.Dispatch.{LeavesAlone}
 use Rattle.vb_guest.proofs.Standing.{steps_quiet}
 use Rattle.vb_guest.proofs.calls.call.Goals as goal
+
+left_alone : {A : Type 0} {x : A} {keeps : Bool} {m1 m2 : Pages} {claims : List Claim}
+    → LeavesAlone (x ≡ x) keeps m1 m2 claims
+left_alone = record { unasked = λ e. refl; quiet = λ none kept. refl }
 
 pub returns-in-Init : goal.returns-in-Init
 returns-in-Init g c =
@@ -8,7 +15,7 @@ returns-in-Init g c =
       step = λ keeps guest stands. rw (c.in-Init.is, c.ready_reply.ensures)
           (c.init.ensures.step keeps guest stands);
       exact = rw (c.in-Init.is) (c.init.result, c.ready_reply.ensures, c.init.ensures.exact);
-      quiet = rw (c.in-Init.is) c.init.ensures.quiet;
+      quiet = record { unasked = c.init.ensures.unasked; quiet = λ none kept. c.init.ensures.quiet none };
     }
 
 pub returns-in-Alloc : goal.returns-in-Alloc
@@ -18,7 +25,7 @@ returns-in-Alloc g c =
           (steps_quiet keeps _ _ _ _ _ _ guest g.K.FrameKeeper.answers _ _ _ stands
           (c.alloc.ensures.step _ _ keeps guest stands));
       exact = rw (c.in-Alloc.is) (c.alloc.result, c.page_reply.ensures, c.alloc.ensures.exact, (refl, refl));
-      quiet = rw (c.in-Alloc.is) refl;
+      quiet = left_alone;
     }
 
 pub returns-in-Free : goal.returns-in-Free
@@ -28,7 +35,7 @@ returns-in-Free g c =
           (steps_quiet keeps _ _ _ _ _ _ guest g.K.FrameKeeper.answers _ _ _ stands
           (c.free.ensures.step _ _ keeps guest stands));
       exact = rw (c.in-Free.is) (c.free.result, c.done_reply.ensures, c.free.ensures.exact, (refl, refl));
-      quiet = rw (c.in-Free.is) refl;
+      quiet = left_alone;
     }
 
 pub returns-in-Read : goal.returns-in-Read
@@ -38,7 +45,7 @@ returns-in-Read g c =
           (steps_quiet keeps _ _ _ _ _ _ guest g.K.FrameKeeper.answers _ _ _ stands
           (c.read.ensures.step keeps guest stands));
       exact = rw (c.in-Read.is) (c.read.result, c.bytes_reply.ensures, c.read.ensures.exact, refl);
-      quiet = rw (c.in-Read.is) refl;
+      quiet = left_alone;
     }
 
 pub returns-in-Write : goal.returns-in-Write
@@ -47,7 +54,7 @@ returns-in-Write g c =
       step = λ keeps guest stands. rw (c.in-Write.is, c.done_reply-in-Write.ensures)
           (c.write.ensures.step keeps guest stands);
       exact = rw (c.in-Write.is) (c.write.result, c.done_reply-in-Write.ensures, record { refused = c.write.ensures.refused; exact = c.write.ensures.exact }, refl);
-      quiet = rw (c.in-Write.is) c.write.ensures.quiet;
+      quiet = record { unasked = c.write.ensures.unasked; quiet = λ none kept. c.write.ensures.quiet none };
     }
 
 pub returns-in-Inflate : goal.returns-in-Inflate
@@ -57,7 +64,7 @@ returns-in-Inflate g c =
           (steps_quiet keeps _ _ _ _ _ _ guest g.K.FrameKeeper.answers _ _ _ stands
           (c.inflate.ensures.step keeps guest stands));
       exact = rw (c.in-Inflate.is) (c.inflate.result, c.posted_reply.ensures, c.inflate.ensures.exact);
-      quiet = rw (c.in-Inflate.is) refl;
+      quiet = left_alone;
     }
 
 pub returns-in-Deflate : goal.returns-in-Deflate
@@ -68,7 +75,7 @@ returns-in-Deflate g c =
           (steps_quiet keeps _ _ _ _ _ _ guest g.K.FrameKeeper.answers _ _ _ stands
           (c.deflate.ensures.step keeps guest stands));
       exact = rw (c.in-Deflate.is) (c.deflate.result, c.posted_reply-in-Deflate.ensures, c.deflate.ensures.exact);
-      quiet = rw (c.in-Deflate.is) refl;
+      quiet = left_alone;
     }
 
 pub returns-in-Oom : goal.returns-in-Oom
@@ -77,7 +84,7 @@ returns-in-Oom g c = record {
       (steps_quiet keeps _ _ _ _ _ _ guest g.K.FrameKeeper.answers _ _ _ stands
       (c.oom.ensures.step keeps guest stands));
   exact = rw (c.in-Oom.is) (c.oom.result, c.posted_reply-in-Oom.ensures, c.oom.ensures.exact);
-  quiet = rw (c.in-Oom.is) refl;
+  quiet = left_alone;
 }
 
 pub returns-in-Reap : goal.returns-in-Reap
@@ -87,7 +94,7 @@ returns-in-Reap g c =
           (steps_quiet keeps _ _ _ _ _ _ guest g.K.FrameKeeper.answers _ _ _ stands
           (c.reap.ensures.step keeps guest stands));
       exact = rw (c.in-Reap.is) (c.reap.result, c.reaped_reply.ensures, c.reap.ensures.exact);
-      quiet = rw (c.in-Reap.is) refl;
+      quiet = left_alone;
     }
 
 pub returns-in-Take : goal.returns-in-Take
@@ -97,7 +104,7 @@ returns-in-Take g c =
           (steps_quiet keeps _ _ _ _ _ _ guest g.K.FrameKeeper.answers _ _ _ stands
           (c.take.ensures.step _ keeps guest stands));
       exact = rw (c.in-Take.is) (c.take.result, c.taken_reply.ensures, c.take.ensures.exact, refl);
-      quiet = rw (c.in-Take.is) refl;
+      quiet = left_alone;
     }
 
 pub returns-in-Work : goal.returns-in-Work
@@ -106,7 +113,7 @@ returns-in-Work g c =
       step = λ keeps guest stands. rw (c.clear.ensures, c.in-Work.is, c.worked_reply.ensures)
           (c.work.ensures.step _ keeps guest stands);
       exact = rw (c.in-Work.is) (c.work.result, c.worked_reply.ensures, c.work.ensures.exact, refl);
-      quiet = rw (c.in-Work.is) (c.work.result, c.worked_reply.ensures, c.work.ensures.quiet);
+      quiet = record { unasked = c.work.ensures.unasked; quiet = λ none kept. c.work.ensures.quiet kept };
     }
 
 pub returns-in-Finish : goal.returns-in-Finish
@@ -115,7 +122,7 @@ returns-in-Finish g c =
       step = λ keeps guest stands. rw (c.clear.ensures, c.in-Finish.is, c.finished_reply.ensures)
           (c.finish.ensures.step _ keeps guest stands);
       exact = rw (c.in-Finish.is) (c.finish.result, c.finished_reply.ensures, c.finish.ensures.exact, refl);
-      quiet = rw (c.in-Finish.is) (c.finish.result, c.finished_reply.ensures, c.finish.ensures.quiet);
+      quiet = record { unasked = c.finish.ensures.unasked; quiet = λ none kept. c.finish.ensures.quiet kept };
     }
 
 pub returns-in-Sweep : goal.returns-in-Sweep
@@ -124,7 +131,7 @@ returns-in-Sweep g c =
       step = λ keeps guest stands. rw (c.clear.ensures, c.in-Sweep.is, c.swept_reply.ensures)
           (c.sweep.ensures.step _ keeps guest stands);
       exact = rw (c.in-Sweep.is) (c.sweep.result, c.swept_reply.ensures, c.sweep.ensures.exact, refl);
-      quiet = rw (c.in-Sweep.is) (c.sweep.result, c.swept_reply.ensures, c.sweep.ensures.quiet);
+      quiet = record { unasked = c.sweep.ensures.unasked; quiet = λ none kept. c.sweep.ensures.quiet kept };
     }
 
 pub returns-in-SetTarget : goal.returns-in-SetTarget
@@ -134,7 +141,7 @@ returns-in-SetTarget g c =
           (steps_quiet keeps _ _ _ _ _ _ guest g.K.FrameKeeper.answers _ _ _ stands
           (c.set_target.ensures.step _ keeps guest stands));
       exact = rw (c.in-SetTarget.is) (refl, c.set_target.ensures.mem, c.set_target.ensures.part, refl);
-      quiet = rw (c.in-SetTarget.is) refl;
+      quiet = left_alone;
     }
 
 pub returns-in-Reset : goal.returns-in-Reset
@@ -144,7 +151,7 @@ returns-in-Reset g c =
           (steps_quiet keeps _ _ _ _ _ _ guest g.K.FrameKeeper.answers _ _ _ stands
           (c.reset.ensures.step keeps guest stands));
       exact = rw (c.in-Reset.is) (refl, c.reset.ensures.exact);
-      quiet = rw (c.in-Reset.is) refl;
+      quiet = left_alone;
     }
 
 pub returns-in-Report : goal.returns-in-Report
@@ -155,7 +162,7 @@ returns-in-Report g c =
           (steps_quiet keeps _ _ _ _ _ _ guest g.K.FrameKeeper.answers _ _ _ stands
           (c.report.ensures.step keeps guest stands));
       exact = rw (c.in-Report.is) (c.report.result, c.posted_reply-in-Report.ensures, c.report.ensures.exact);
-      quiet = rw (c.in-Report.is) refl;
+      quiet = left_alone;
     }
 
 pub returns-in-Stats : goal.returns-in-Stats
@@ -165,7 +172,7 @@ returns-in-Stats g c =
           (steps_quiet keeps _ _ _ _ _ _ guest g.K.FrameKeeper.answers _ _ _ stands
           (c.stats.ensures.step keeps guest stands));
       exact = rw (c.in-Stats.is) (c.stats.result, c.filled_reply.ensures, c.stats.ensures.exact);
-      quiet = rw (c.in-Stats.is) refl;
+      quiet = left_alone;
     }
 
 pub returns-in-Ask : goal.returns-in-Ask
@@ -175,5 +182,5 @@ returns-in-Ask g c =
           (steps_quiet keeps _ _ _ _ _ _ guest g.K.FrameKeeper.answers _ _ _ stands
           (c.ask.ensures.step _ keeps guest stands));
       exact = rw (c.in-Ask.is) (c.ask.result, c.asked_reply.ensures, c.ask.ensures.exact, refl);
-      quiet = rw (c.in-Ask.is) refl;
+      quiet = left_alone;
     }

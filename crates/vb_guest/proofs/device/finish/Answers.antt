@@ -4,7 +4,7 @@ use Rattle.vb_guest.proofs.RogueDevice.{finish_rogue}
 use Rattle.vb_guest.proofs.Freed.{freed_as, freed_rogue}
 use Rattle.vb_guest.proofs.Kept.{finish_kept}
 use Rattle.vb_guest.proofs.Asked.{has_ring}
-use Rattle.vb_guest.proofs.Quiet.{finish_quiet}
+use Rattle.vb_guest.proofs.Quiet.{freeing_quiet}
 use Rattle.vb_guest.proofs.Standing.{none_loose, freed_loose, lost_by, steps_freed}
 use Rattle.vb_guest.proofs.device.finish.Goals as goal
 
@@ -47,7 +47,16 @@ returns-clause-exact g c =
     rw (back.mem) (g.D.GuestBytes.part c.finish-answer.new.self, c.finish-answer.ensures, back.part)
 
 pub returns-clause-quiet : goal.returns-clause-quiet
-returns-clause-quiet g c =
+returns-clause-quiet g c = λ kept.
     let (d, (keeps, guest, stands, held)) = c.requires in
-    finish_quiet _ _ _ _ _ _ _ c.finish-answer.ensures (none_loose keeps _ _ d guest stands)
-    c.return_loose.ensures.quiet
+    let did = c.finish-answer.ensures in
+    let back = c.return_loose.ensures in
+    back.quiet
+    (freeing_quiet keeps _ _ _ _ (g.D.GuestBytes.part c.finish-answer.new.self) d guest _ _ stands
+    back.mem kept (λ honest. finish_step _ _ _ _ d guest _ _ _ did honest)
+    (λ rogue. finish_rogue _ _ _ _ d guest _ _ _ did rogue))
+
+pub returns-clause-unasked : goal.returns-clause-unasked
+returns-clause-unasked g c = λ e.
+    let did = c.finish-answer.ensures in
+    c.return_loose.ensures.unasked ((finish_kept _ _ _ _ _ _ _ did).flag ∙ e)

@@ -3,7 +3,7 @@ use Rattle.vb_guest.proofs.SweepStep.{sweep_step}
 use Rattle.vb_guest.proofs.RogueDevice.{sweep_rogue}
 use Rattle.vb_guest.proofs.Freed.{freed_as, freed_rogue}
 use Rattle.vb_guest.proofs.Kept.{sweep_kept}
-use Rattle.vb_guest.proofs.Quiet.{sweep_quiet}
+use Rattle.vb_guest.proofs.Quiet.{freeing_quiet}
 use Rattle.vb_guest.proofs.Standing.{none_loose, freed_loose, lost_by, steps_freed}
 use Rattle.vb_guest.proofs.device.sweep.Goals as goal
 
@@ -43,7 +43,16 @@ returns-clause-exact g c =
     rw (back.mem) (g.D.GuestBytes.part c.sweep-answer.new.self, c.sweep-answer.ensures, back.part)
 
 pub returns-clause-quiet : goal.returns-clause-quiet
-returns-clause-quiet g c = λ none.
+returns-clause-quiet g c = λ kept.
     let (d, (keeps, guest, stands, held)) = c.requires in
-    c.return_loose.ensures.quiet
-    (sweep_quiet _ _ _ _ _ _ c.sweep-answer.ensures (none_loose keeps _ _ d guest stands) none)
+    let did = c.sweep-answer.ensures in
+    let back = c.return_loose.ensures in
+    back.quiet
+    (freeing_quiet keeps _ _ _ _ (g.D.GuestBytes.part c.sweep-answer.new.self) d guest _ _ stands
+    back.mem kept (λ honest. sweep_step _ _ _ _ d guest _ _ did honest)
+    (λ rogue. sweep_rogue _ _ _ _ d guest _ _ did rogue))
+
+pub returns-clause-unasked : goal.returns-clause-unasked
+returns-clause-unasked g c = λ e.
+    let did = c.sweep-answer.ensures in
+    c.return_loose.ensures.unasked ((sweep_kept _ _ _ _ _ _ did).flag ∙ e)

@@ -3,7 +3,7 @@ use Rattle.vb_guest.proofs.WorkStep.{work_step}
 use Rattle.vb_guest.proofs.RogueDevice.{work_rogue}
 use Rattle.vb_guest.proofs.Freed.{freed_as, freed_rogue}
 use Rattle.vb_guest.proofs.Kept.{work_kept}
-use Rattle.vb_guest.proofs.Quiet.{work_quiet}
+use Rattle.vb_guest.proofs.Quiet.{freeing_quiet}
 use Rattle.vb_guest.proofs.Standing.{none_loose, freed_loose, lost_by, steps_freed}
 use Rattle.vb_guest.proofs.device.work.Goals as goal
 
@@ -43,7 +43,16 @@ returns-clause-exact g c =
     rw (back.mem) (g.D.GuestBytes.part c.work-answer.new.self, c.work-answer.ensures, back.part)
 
 pub returns-clause-quiet : goal.returns-clause-quiet
-returns-clause-quiet g c = λ none.
+returns-clause-quiet g c = λ kept.
     let (d, (keeps, guest, stands, held)) = c.requires in
-    c.return_loose.ensures.quiet
-    (work_quiet _ _ _ _ _ c.work-answer.ensures (none_loose keeps _ _ d guest stands) none)
+    let did = c.work-answer.ensures in
+    let back = c.return_loose.ensures in
+    back.quiet
+    (freeing_quiet keeps _ _ _ _ (g.D.GuestBytes.part c.work-answer.new.self) d guest _ _ stands
+    back.mem kept (λ honest. work_step _ _ _ _ d guest _ did honest)
+    (λ rogue. work_rogue _ _ _ _ d guest _ did rogue))
+
+pub returns-clause-unasked : goal.returns-clause-unasked
+returns-clause-unasked g c = λ e.
+    let did = c.work-answer.ensures in
+    c.return_loose.ensures.unasked ((work_kept _ _ _ _ _ did).flag ∙ e)

@@ -1,4 +1,4 @@
-use Rattle.std.proofs.Common.{◌≡◌, [], length}
+use Rattle.std.proofs.Common.{◌≡◌, true, [], length}
 use Rattle.vb_model.specs.Orderly.{times}
 use Rattle.vb_guest.specs.Supply.{supply_of, Moves, AreLoose}
 use Rattle.vb_guest.proofs.frames.return_loose.Given as goal
@@ -20,6 +20,7 @@ invariant-loop-frame g l = record {
       (supply_of (g.D.GuestBytes.part l.device) (g.K.FrameKeeper.out l.keeper));
   quiet : (g.D.GuestBytes.part l.fn.device).loose ≡ []
       → ((g.D.GuestBytes.part l.device).loose ≡ []) × (l.keeper ≡ l.fn.keeper);
+  unasked : (g.D.GuestBytes.part l.fn.device).keeps ≡ true → l.keeper ≡ l.fn.keeper;
 }
 
 abbrev pub decreases-loop-frame : goal.decreases-loop-frame

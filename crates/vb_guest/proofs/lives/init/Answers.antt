@@ -26,6 +26,7 @@ returns-then-bits-ne0 g c = record {
       (λ rogue. init_up_rogue _ _ _ guest c.args.wanted
       (λ e. c.if-bits-ne0.true (c.bits.ensures tt ∙ c.status.ensures ∙ e)) rogue)));
   quiet = λ none. refl;
+  unasked = λ e. refl;
 }
 
 pub supply_from-requires : goal.supply_from-requires
@@ -70,6 +71,7 @@ returns-in-Ok g c =
           (first_noted g.K.FrameKeeper.answers _ _ _ _ _ _ _ _ c.clear.ensures did)
           c.in-Ok.ensures.part c.init.ensures rogue);
       quiet = λ none. c.in-Ok.ensures.quiet (none ∙ sym c.clear.ensures);
+      unasked = c.in-Ok.ensures.unasked;
     }
 
 pub returns-in-Err-NoFrame : goal.returns-in-Err-NoFrame
@@ -93,6 +95,7 @@ returns-in-Err-NoFrame g c =
           NoFrame NoFrameLeft refl new (first_noted g.K.FrameKeeper.answers _ _ _ _ _ _ _ _ c.clear.ensures did)
           c.supply_from.ensures.part rogue);
       quiet = λ none. c.supply_from.ensures.quiet (none ∙ sym c.clear.ensures);
+      unasked = c.supply_from.ensures.unasked;
     }
 
 pub returns-in-Err-Memory : goal.returns-in-Err-Memory
@@ -116,4 +119,5 @@ returns-in-Err-Memory g c =
           Memory NoMemory refl new (first_noted g.K.FrameKeeper.answers _ _ _ _ _ _ _ _ c.clear.ensures did)
           c.supply_from.ensures.part rogue);
       quiet = λ none. c.supply_from.ensures.quiet (none ∙ sym c.clear.ensures);
+      unasked = c.supply_from.ensures.unasked;
     }

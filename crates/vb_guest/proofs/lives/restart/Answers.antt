@@ -1,3 +1,5 @@
+use Rattle.std.proofs.Common.{◌∙◌, ap}
+use Rattle.vb_ram.specs.Part.{Part}
 use Rattle.vb_guest.proofs.Exactly.{reset_twice}
 use Rattle.vb_guest.proofs.RestartStep.{all_loose, restart_step}
 use Rattle.vb_guest.proofs.lives.restart.Goals as goal
@@ -21,3 +23,11 @@ pub returns-clause-part : goal.returns-clause-part
 returns-clause-part g c =
     reset_twice (g.D.GuestBytes.part c.args.device.now) (g.D.GuestBytes.part c.restart.new.port)
     (g.D.GuestBytes.part c.take_all_back.new.device) c.restart.ensures.part c.take_all_back.ensures.part
+
+pub returns-clause-quiet : goal.returns-clause-quiet
+returns-clause-quiet g c = λ kept.
+    c.take_all_back.ensures.quiet (rw (c.restart.ensures.memory) kept)
+
+pub returns-clause-unasked : goal.returns-clause-unasked
+returns-clause-unasked g c = λ e.
+    c.take_all_back.ensures.unasked (ap (λ (p : Part). p.keeps) c.restart.ensures.part ∙ e)

@@ -1,10 +1,13 @@
-use Rattle.std.proofs.Common.{List, Bool, ap, subst, arith}
+use Rattle.std.proofs.Common.{◌∙◌, List, Bool, length, ap, subst, arith}
+use Rattle.std.specs.List.{range_with_len}
 use Rattle.vb_model.specs.Tests.{one_if}
 use Rattle.vb_model.specs.Orderly.{times}
+use Rattle.vb_ram.specs.Pages.{Pages}
 use Rattle.vb_ram.specs.Part.{Part}
 use Rattle.vb_guest.specs.Supply.{Supply, supply_of, is_used, Moves, nothing}
 use Rattle.vb_guest.proofs.Moving.{moves_as}
-use Rattle.vb_guest.proofs.RestartStep.{all_frames}
+use Rattle.vb_guest.proofs.Quiet.{no_frames, none_behind}
+use Rattle.vb_guest.proofs.RestartStep.{all_frames, none_had}
 use Rattle.vb_guest.proofs.lives.take_all_back.Goals as goal
 
 pub return_loose-requires-clause-loose : goal.return_loose-requires-clause-loose
@@ -29,3 +32,11 @@ returns-clause-moves g c =
     (subst (λ (s : Supply). Moves s after nothing (λ n. times n loose))
     (ap (λ (p : Part). supply_of p out) c.detach.ensures.part) c.return_loose.ensures.moves)
     (λ n. omega (arith, c.detach.ensures.loose n))
+
+pub returns-clause-quiet : goal.returns-clause-quiet
+returns-clause-quiet g c = λ kept.
+    let mem : Pages = g.D.GuestBytes.mem c.args.device.now in
+    let none = none_behind mem (range_with_len 0 (length mem))
+    (none_had mem _ _ (c.return_loose.ensures.mem ∙ c.detach.ensures.memory) kept) in
+    c.return_loose.ensures.quiet (no_frames _
+    (λ n. c.detach.ensures.loose n ∙ ap (times n) none))

@@ -39,6 +39,7 @@ returns-in-Ok g c =
           (ap (λ (p : Part). supply_of p (g.K.FrameKeeper.out c.args.keeper.now)) did.part)
           c.requires.none);
       quiet = λ none. refl;
+      unasked = λ e. refl;
     }
 
 pub put_fresh-requires : goal.put_fresh-requires
@@ -78,6 +79,7 @@ returns-in-Err-NeedsFrame g c =
           (rw (← c.as_slice.ensures) found.0) (rw (← c.as_slice.ensures) found.1) found.2
           c.in-Err-NeedsFrame.ensures.unwritten did.part c.put_fresh.ensures.exact;
       quiet = λ none. (let noted = c.put_fresh.ensures.exact.noted in cc);
+      unasked = λ e. c.put_fresh.ensures.unasked (ap (λ (p : Part). p.keeps) did.part ∙ e);
     }
 
 pub returns-in-Err-OutOfRam : goal.returns-in-Err-OutOfRam
@@ -106,4 +108,5 @@ returns-in-Err-OutOfRam g c =
             none = c.requires.none;
           }));
       quiet = λ none. refl;
+      unasked = λ e. refl;
     }

@@ -22,6 +22,7 @@ returns-in-Err-NoFrame g c =
         part = did.part;
         fills = (refl, did.mem);
       };
+      unasked = did.unasked;
     }
 
 pub returns-in-Err-Memory : goal.returns-in-Err-Memory
@@ -36,6 +37,7 @@ returns-in-Err-Memory g c =
         part = did.part;
         fills = (refl, did.mem);
       };
+      unasked = did.unasked;
     }
 
 pub returns : goal.returns
@@ -47,4 +49,5 @@ returns g c =
           (noted_alone _ _ _ _ c.in-Ok.is c.requires.none did.noted) did.mem
           c.supply.ensures.supplied c.overwrite.ensures.wrote did.part c.supply.ensures.part
           c.overwrite.ensures.part;
+      unasked = did.unasked;
     }

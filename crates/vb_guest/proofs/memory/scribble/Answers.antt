@@ -5,4 +5,5 @@ returns g c = record {
   step = c.put_bytes.ensures.scribbles;
   exact = c.put_bytes.ensures.exact;
   quiet = c.put_bytes.ensures.quiet;
+  unasked = c.put_bytes.ensures.unasked;
 }

@@ -14,6 +14,7 @@ returns-then-not-held g c = record {
   refused = λ _. (refl, record { mem = refl; part = refl; supply = refl; none = c.clear.ensures });
   exact = λ used. (let unused = sym c.if-not-held.ensures in cc);
   quiet = λ none. refl;
+  unasked = λ e. refl;
 }
 
 pub put_bytes-requires-clause-stands : goal.put_bytes-requires-clause-stands
@@ -26,4 +27,5 @@ returns g c = record {
   refused = λ unused. (let used = sym c.if-not-held.ensures in cc);
   exact = λ _. c.put_bytes.ensures.exact;
   quiet = c.put_bytes.ensures.quiet;
+  unasked = c.put_bytes.ensures.unasked;
 }

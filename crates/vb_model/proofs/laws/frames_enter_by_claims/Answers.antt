@@ -1,4 +1,5 @@
-use Rattle.vb_model.proofs.Wanting.{frames_enter, refused_claims}
+use Rattle.vb_model.proofs.Entering.{frames_enter}
+use Rattle.vb_model.proofs.Wanting.{refused_claims}
 use Rattle.vb_model.proofs.laws.frames_enter_by_claims.Goals as goal
 
 pub returns : goal.returns

@@ -1,4 +1,4 @@
-use Rattle.std.proofs.Common.{◌≡◌, ℕ, ◌+◌, ◌-◌, [], ◌∷◌, ◌++◌, List, sym, ap, ◌∙◌, arith}
+use Rattle.std.proofs.Common.{◌≡◌, ℕ, ◌+◌, ◌-◌, [], ◌∷◌, ◌++◌, List, None, sym, ap, ◌∙◌, arith}
 use Rattle.vb_shared.specs.Rule.{view_of}
 use Rattle.vb_shared.specs.Steps.{held_of, new_holdings}
 use Rattle.vb_shared.specs.Passes.{Pass, new_passes}
@@ -19,11 +19,13 @@ loop-tag-preserved c =
             table = c.new_place-place.result.table_id;
             tag = c.loop-tag.tag;
             held = held_of c.new_place-place.result.me.0;
+            found = None;
           } ∷ []) i.2
           ∙ (λ k. new_passes c.args.opener.table_id 0 c.loop-tag.tag ++ record {
             table = (e.tables.1 ∙ i.0) k;
             tag = c.loop-tag.tag;
             held = held_of (e.pass k).0;
+            found = None;
           } ∷ [])
           ∙ sym (new_passes_next c.args.opener.table_id c.loop-tag.tag),
     )

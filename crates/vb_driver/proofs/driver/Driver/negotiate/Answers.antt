@@ -44,18 +44,18 @@ returns-in-Err g c =
     c.give_up-in-Err.ensures.part
     ∙ ap (λ (p : Part). record p { status = bit_or p.status 128 })
     (c.in-Err.ensures.err ∙ here) in
-    let gives : GivesUp m1 m2 p1 p2 c.args.self.now (record d { features = w }) w = record {
+    let gives : GivesUp m1 m2 p1 p2 c.args.self.now (record d { features = w; actual = 0 }) w = record {
       mem = c.give_up-in-Err.ensures.mem
           ∙ (c.write_status.ensures.mem ∙ (c.negotiate.ensures.mem ∙ c.begin.ensures.mem));
       part = part;
-      driver = ap (λ (v : DriverState). record v { features = w })
+      driver = ap (λ (v : DriverState). record v { features = w; actual = 0 })
           (c.self.view_is ∙ c.renew.ensures.state);
     } in
-    let told : GivesUp m1 m2 p1 p2 c.args.self.now (record d { features = w })
+    let told : GivesUp m1 m2 p1 p2 c.args.self.now (record d { features = w; actual = 0 })
     (accepted_before c.refusal_of.result w) =
-    subst (λ (r : Refusal). GivesUp m1 m2 p1 p2 c.args.self.now (record d { features = w })
+    subst (λ (r : Refusal). GivesUp m1 m2 p1 p2 c.args.self.now (record d { features = w; actual = 0 })
     (accepted_before r w)) (sym c.refusal_of.ensures)
-    (subst (λ (n : ℕ). GivesUp m1 m2 p1 p2 c.args.self.now (record d { features = w }) n) (sym same)
+    (subst (λ (n : ℕ). GivesUp m1 m2 p1 p2 c.args.self.now (record d { features = w; actual = 0 }) n) (sym same)
     gives) in
     record {
       refusal = ap Some c.refusal_of.ensures ∙ (answer ∙ sym (offered_then w offered));

@@ -13,7 +13,12 @@ pub returns-then-frame-self-clause-rest : goal.returns-then-frame-self-clause-re
 returns-then-frame-self-clause-rest c =
     rw (← c.self.view_is)
     (ap (λ (held : List ℕ).
-    record { table = c.self.inside.place.table_id; tag = c.self.inside.tag; held = held })
+    record {
+      table = c.self.inside.place.table_id;
+      tag = c.self.inside.tag;
+      held = held;
+      found = c.self.inside.found;
+    })
     (sym (within_whole 0 c.self.inside.frames (held_of c.self.inside.place.me.0) c.args.frame
     c.self.invariant.1.1 (search rules))))
 

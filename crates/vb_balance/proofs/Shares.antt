@@ -1,0 +1,231 @@
+-- Targets by a level.
+use Rattle.std.proofs.Common.{◌≡◌, ◌≢◌, ℕ, ◌+◌, ◌-◌, ◌<◌, ◌≤◌, List, length}
+use Rattle.std.proofs.Common.{get_or, set, map, sum, take, ap, sym, ◌∙◌, subst, arith}
+use Rattle.std.proofs.Common.{◌⊎◌, inl, inr, min}
+use Rattle.std.proofs.lemmas.Bool.{cases_order, cases_lt}
+use Rattle.std.proofs.lemmas.Bool.Decides.{eqb_tells}
+use Rattle.std.proofs.lemmas.List.{length-set, length-map, get_or-set_same, get_or-set_other}
+use Rattle.std.proofs.lemmas.List.{take_more_set, take_all}
+use Rattle.std.proofs.lemmas.List.Sums.{sum_by_more, sum_by_push, sum-map}
+use Rattle.vb_model.specs.Balance.{Need, AreTargets, GivesBefore, missing, shortage, spare_at}
+use Rattle.vb_model.proofs.Sums.{sum-le}
+use Rattle.vb_balance.specs.Levels.{spare_from, spared_from, IsLevel, AreGiven}
+use Rattle.vb_balance.proofs.Spares.{spare_of, reaches, falls_short, from_none}
+use Rattle.vb_balance.proofs.Spares.{counts_at_most}
+
+-- what a guest gives, and what is left for others then
+pub record Gives (spare level left target after : ℕ) : Type 0 where
+  pub above : level < spare → (target ≡ spare) × (after ≡ left)
+  pub below : spare < level → (target ≡ 0) × (after ≡ left)
+  pub at_it : spare ≡ level → (target ≡ min level left) × (after ≡ left - target)
+
+pub gives_at_it : (spare level left target after : ℕ) → spare ≡ level → target ≡ min level left
+    → after ≡ left - target → Gives spare level left target after
+gives_at_it spare level left target after e t a = record {
+  above = λ more. absurd (omega (arith, e, more));
+  below = λ less. absurd (omega (arith, e, less));
+  at_it = λ same. (t, a);
+}
+
+pub gives_elsewhere : (spare level left target after : ℕ) → spare ≢ level
+    → (level < spare → target ≡ spare) → (spare < level → target ≡ 0) → after ≡ left
+    → Gives spare level left target after
+gives_elsewhere spare level left target after ne above below a = record {
+  above = λ more. (above more, a);
+  below = λ less. (below less, a);
+  at_it = λ same. absurd (ne same);
+}
+
+-- the guest that has just got its target, and those before it
+reads : (needs : List Need) (i : ℕ) (targets : List ℕ) (target : ℕ) (n : Need)
+    → i < length targets → spare_at needs i ≡ n.spare → (k : ℕ) → k < i + 1
+    → ((k ≡ i) × (get_or (set targets i target) k 0 ≡ target) × (spare_at needs k ≡ n.spare))
+    ⊎ ((k < i) × (get_or (set targets i target) k 0 ≡ get_or targets k 0))
+reads needs i targets target n listed own k l = elim (eqb_tells k i) [
+  | inl same ↦ inl (
+    same.1,
+    ap (λ (m : ℕ). get_or (set targets i target) m 0) same.1
+        ∙ get_or-set_same targets i target 0 listed,
+    ap (λ (m : ℕ). spare_at needs m) same.1 ∙ own,
+  )
+  | inr other ↦ inr (omega (arith, l, other.1), get_or-set_other targets i k target 0 other.1)
+]
+
+-- one more guest has its target
+pub one_more : (needs : List Need) (level rest i : ℕ) (targets : List ℕ)
+    (left target after : ℕ) (n : Need)
+    → AreGiven needs level rest i targets left → i < length needs → n ≡ get_or needs i n
+    → Gives n.spare level left target after
+    → AreGiven needs level rest (i + 1) (set targets i target) after
+one_more needs level rest i targets left target after n s here e g =
+    let listed : i < length targets = omega (arith, here, s.one_each) in
+    let own : spare_at needs i ≡ n.spare = spare_of needs i n here e in
+    record {
+      one_each = length-set targets i target ∙ s.one_each;
+      above = λ k l more. elim (reads needs i targets target n listed own k l) [
+        | inl last ↦ omega (arith, last.1, last.2, (g.above (omega (arith, more, last.2))).0)
+        | inr old ↦ omega (arith, old.1, s.above k old.0 more)
+      ];
+      below = λ k l less. elim (reads needs i targets target n listed own k l) [
+        | inl last ↦ omega (arith, last.1, (g.below (omega (arith, less, last.2))).0)
+        | inr old ↦ omega (arith, old.1, s.below k old.0 less)
+      ];
+      within = λ k l same. elim (reads needs i targets target n listed own k l) [
+        | inl last ↦ omega (arith, last.1, (g.at_it (omega (arith, same, last.2))).0)
+        | inr old ↦ omega (arith, old.1, s.within k old.0 same)
+      ];
+      in_turn = λ k j l before e1 e2 more. elim (reads needs i targets target n listed own k l) [
+        | inl last ↦
+            let asked : 0 < left =
+            omega (arith, more, last.1, (g.at_it (omega (arith, e1, last.2))).0) in
+            let less : j < i = omega (arith, before, last.0) in
+            get_or-set_other targets i j target 0 (λ same. omega (arith, less, same))
+            ∙ s.all_of_it asked j less e2
+        | inr old ↦
+            let less : j < i = omega (arith, before, old.0) in
+            get_or-set_other targets i j target 0 (λ same. omega (arith, less, same))
+            ∙ s.in_turn k j old.0 before e1 e2 (omega (arith, more, old.1))
+      ];
+      all_of_it = λ more k l e1. elim (reads needs i targets target n listed own k l) [
+        | inl last ↦
+            let gives = g.at_it (omega (arith, e1, last.2)) in
+            omega (arith, more, last.1, gives.0, gives.1)
+        | inr old ↦ omega (
+          arith,
+          old.1,
+          s.all_of_it (omega (arith, more, no_more left target after n.spare g)) k old.0 e1,
+        )
+      ];
+      shared = omega (
+        arith,
+        ap (λ (xs : List ℕ). sum xs) (take_more_set targets i target listed),
+        sum_by_push (λ (m : ℕ). m) (take i targets) target,
+        s.shared,
+        sum_by_more (spare_from (level + 1)) needs i n here,
+        ap (λ (m : Need). spare_from (level + 1) m) e,
+        share_of left target after g,
+      );
+    }
+  where
+    no_more : (left target after spare : ℕ) → Gives spare level left target after → after ≤ left
+    no_more left target after spare g = elim (cases_order spare level) [
+      | inl same ↦ omega (arith, (g.at_it same).1)
+      | inr other ↦ elim other [
+        | inl less ↦ omega (arith, (g.below less).1)
+        | inr more ↦ omega (arith, (g.above more).1)
+      ]
+    ]
+
+    share_of : (left target after : ℕ) → Gives n.spare level left target after
+        → target + after ≡ spare_from (level + 1) n + left
+    share_of left target after g = elim (cases_order n.spare level) [
+      | inl same ↦ omega (
+        arith,
+        (g.at_it same).0,
+        (g.at_it same).1,
+        falls_short (level + 1) n (omega arith),
+      )
+      | inr other ↦ elim other [
+        | inl less ↦ omega (
+          arith,
+          (g.below less).0,
+          (g.below less).1,
+          falls_short (level + 1) n (omega arith),
+        )
+        | inr more ↦ omega (
+          arith,
+          (g.above more).0,
+          (g.above more).1,
+          reaches (level + 1) n (omega arith),
+        )
+      ]
+    ]
+
+-- where all at the level give what they can, that is what can be spared from the level on
+all_give : (needs : List Need) (level rest : ℕ) (targets : List ℕ) (left : ℕ)
+    → AreGiven needs level rest (length needs) targets left → 0 < left
+    → spared_from needs level ≤ sum targets
+all_give needs level rest targets left s more =
+    let len : length (map (spare_from level) needs) ≡ length needs =
+    length-map needs (spare_from level) in
+    omega (
+      arith,
+      sum-le (map (spare_from level) needs) targets (len ∙ sym s.one_each)
+          (λ i l. counts_at_most level needs i (get_or targets i 0) (omega (arith, l, len))
+          (each i (omega (arith, l, len)))),
+      sum-map (spare_from level) needs,
+    )
+  where
+    each : (i : ℕ) → i < length needs → level ≤ spare_at needs i
+        → spare_at needs i ≤ get_or targets i 0
+    each i l reached = elim (cases_order (spare_at needs i) level) [
+      | inl same ↦ omega (arith, same, s.all_of_it more i l same)
+      | inr other ↦ elim other [
+        | inl less ↦ absurd (omega (arith, less, reached))
+        | inr above ↦ omega (arith, s.above i l above)
+      ]
+    ]
+
+-- a guest gives before another one of the level or above, and so gives what it can
+all_before : (needs : List Need) (level rest : ℕ) (targets : List ℕ) (left i j : ℕ)
+    → AreGiven needs level rest (length needs) targets left → i < length needs
+    → j < length needs → 0 < get_or targets i 0 → level ≤ spare_at needs i
+    → GivesBefore needs j i → get_or targets j 0 ≡ spare_at needs j
+all_before needs level rest targets left i j s l m more reached (inl larger) =
+    s.above j m (omega (arith, reached, larger))
+all_before needs level rest targets left i j s l m more reached (inr first) =
+    elim (cases_order (spare_at needs i) level) [
+      | inl same ↦
+          let at_it : spare_at needs j ≡ level = omega (arith, same, first.0) in
+          omega (arith, s.in_turn i j l first.1 same at_it more, at_it)
+      | inr other ↦ elim other [
+        | inl less ↦ absurd (omega (arith, less, reached))
+        | inr above ↦ s.above j m (omega (arith, first.0, above))
+      ]
+    ]
+
+-- targets by the level of what is missing
+pub by_level : (needs : List Need) (frames level lack rest : ℕ) (targets : List ℕ) (left : ℕ)
+    → lack ≡ missing needs frames → rest ≡ lack - spared_from needs (level + 1)
+    → IsLevel needs lack level → AreGiven needs level rest (length needs) targets left
+    → AreTargets needs frames targets
+by_level needs frames level lack rest targets left e r is s = record {
+  one_each = s.one_each;
+  within = λ i l. elim (cases_order (spare_at needs i) level) [
+    | inl same ↦ omega (arith, same, s.within i l same)
+    | inr other ↦ elim other [
+      | inl less ↦ omega (arith, s.below i l less)
+      | inr above ↦ omega (arith, s.above i l above)
+    ]
+  ];
+  enough = elim (cases_lt 0 left) [
+    | inl more ↦ absurd (omega (
+      arith,
+      more,
+      in_all,
+      r,
+      is.fits,
+      is.enough,
+      all_give needs level rest targets left s more,
+    ))
+    | inr none ↦ omega (arith, none, in_all, r, e, is.fits)
+  ];
+  in_order = λ i j l m more before. elim (cases_lt (spare_at needs i) level) [
+    | inl less ↦ absurd (omega (arith, more, s.below i l less))
+    | inr reached ↦ all_before needs level rest targets left i j s l m more reached before
+  ];
+}
+  where
+    in_all : sum targets + left ≡ spared_from needs (level + 1) + rest
+    in_all = subst
+        (λ (xs : List ℕ). sum xs + left ≡ spared_from needs (level + 1) + rest)
+        (take_all (length needs) targets (omega (arith, s.one_each)))
+        (subst
+        (λ (ns : List Need). sum (take (length needs) targets) + left
+        ≡ spared_from ns (level + 1) + rest)
+        (take_all (length needs) needs (omega arith)) s.shared)
+
+-- what stays missing if all give what they can
+pub short_by : (needs : List Need) (frames lack spare : ℕ) → lack ≡ missing needs frames
+    → spare ≡ spared_from needs 0 → shortage needs frames ≡ lack - spare
+short_by needs frames lack spare e f = omega (arith, e, f, from_none needs)

@@ -1,0 +1,62 @@
+//! A device that is saved and restored, and the version of the library.
+
+ghost use Rattle.std.specs.Prelude.{◌≡◌};
+ghost use Rattle.vb_c.specs.Saving.{code_of_state, Saves, Restores};
+
+use crate::answers::OK;
+use vb_core::{Device, Saved, StateDenial};
+
+/// The version of the library: 0.1.0, as 65,536 times the first number, 256 times the second, and
+/// the third.
+const VERSION: u32 = 0x00_0100;
+
+/// The code of a denial.
+fn code_of_state(denial: StateDenial) -> u32
+    ensures { result ≡ code_of_state denial }
+{
+    match denial {
+        StateDenial::BadLength => 9,
+        StateDenial::NotAState => 10,
+        StateDenial::OtherVersion => 11,
+        StateDenial::BadSum => 12,
+        StateDenial::Impossible => 13,
+    }
+}
+
+/// The version of the library.
+#[unsafe(no_mangle)]
+pub extern "C" fn vb_version() -> u32
+    ensures { result ≡ VERSION }
+{
+    VERSION
+}
+
+/// Puts the bytes of a saved device into the front of the caller's array.
+#[unsafe(no_mangle)]
+pub extern "C" fn vb_save(device: &Device, held: u32, out: &mut [u8]) -> u32
+    ensures { Saves (record { device = device.now; held = held }) out.old out.new result }
+{
+    let saved = Saved {
+        device: *device,
+        held,
+    };
+    match saved.save(out) {
+        Ok(()) => OK,
+        Err(why) => code_of_state(why),
+    }
+}
+
+/// Makes the device that of the bytes.
+#[unsafe(no_mangle)]
+pub extern "C" fn vb_restore(device: &mut Device, held: &mut u32, bytes: &[u8]) -> u32
+    ensures { Restores bytes.now device.old device.new held.old held.new result }
+{
+    match Saved::restore(bytes) {
+        Ok(saved) => {
+            *device = saved.device;
+            *held = saved.held;
+            OK
+        }
+        Err(why) => code_of_state(why),
+    }
+}

@@ -1,0 +1,169 @@
+//! A device that is saved and restored: what is kept of it, and the calls.
+
+ghost use Rattle.std.specs.Prelude.{◌≡◌, ◌≤◌, ◌++◌, true, Some, None, Ok, Err, drop, length};
+ghost use Rattle.vb_core.specs.declared.saved.StateDenial.{StateDenial};
+ghost use Rattle.vb_core.specs.Format.{FitsSaved, saved_bytes};
+ghost use Rattle.vb_core.specs.Saved.{save_denial, is_state, has_version, has_length, has_sum};
+ghost use Rattle.vb_core.specs.Saved.{header_denial, read_saved, restored};
+
+use crate::Device;
+use crate::format::{
+    CHECKSUM_AT, FORMAT_VERSION, HEADER_LENGTH, LENGTH_AT, MAGIC, SAVED_LENGTH, VERSION_AT,
+    checksum, push_saved, saved_in, u32_at, u64_at,
+};
+use arrayvec::ArrayVec;
+
+/// Why a device isn't saved or restored.
+#[derive(Clone, Copy, Debug, PartialEq, Eq)]
+pub enum StateDenial {
+    /// There are fewer bytes than a saved device has, or more, or its length says otherwise.
+    BadLength,
+    /// The bytes don't begin as a saved device does.
+    NotAState,
+    /// The format has another version.
+    OtherVersion,
+    /// The bytes don't have the checksum that stands behind them.
+    BadSum,
+    /// No calls of a device lead to that state.
+    Impossible,
+}
+
+/// What is saved of a device.
+#[repr(C)]
+#[derive(Clone, Copy, Debug)]
+pub struct Saved {
+    /// The device.
+    pub device: Device,
+    /// 1 more than the head of the statistics buffer that was taken and waits to be given back; 0
+    /// where none does.
+    pub held: u32,
+}
+
+/// Puts bytes into the front.
+fn put_front(bytes: &[u8], out: &mut [u8])
+    requires count { length bytes.now ≡ SAVED_LENGTH }
+    requires room { SAVED_LENGTH ≤ length out.old }
+    ensures { out.new ≡ bytes.now ++ drop SAVED_LENGTH out.old }
+{
+    out[..SAVED_LENGTH].copy_from_slice(bytes);
+}
+
+/// Whether bytes begin as a saved device does.
+fn is_state(bytes: &[u8]) -> bool
+    requires { HEADER_LENGTH ≤ length bytes.now }
+    ensures { result ≡ is_state bytes.now }
+{
+    u64_at(bytes, 0) == MAGIC
+}
+
+/// Whether they have the version that is read here.
+fn has_version(bytes: &[u8]) -> bool
+    requires { HEADER_LENGTH ≤ length bytes.now }
+    ensures { result ≡ has_version bytes.now }
+{
+    u32_at(bytes, VERSION_AT) == FORMAT_VERSION
+}
+
+/// Whether they are as many as a saved device has, and say so.
+fn has_length(bytes: &[u8]) -> bool
+    requires { HEADER_LENGTH ≤ length bytes.now }
+    ensures value { result ≡ has_length bytes.now }
+    ensures length { result ≡ true → length bytes.now ≡ SAVED_LENGTH }
+{
+    u32_at(bytes, LENGTH_AT) == SAVED_LENGTH as u32 && bytes.len() == SAVED_LENGTH
+}
+
+/// Whether their checksum stands behind them.
+fn has_sum(bytes: &[u8]) -> bool
+    requires { length bytes.now ≡ SAVED_LENGTH }
+    ensures { result ≡ has_sum bytes.now }
+{
+    u64_at(bytes, CHECKSUM_AT) == checksum(&bytes[..CHECKSUM_AT])
+}
+
+/// What the header refuses.
+fn header_denial(bytes: &[u8]) -> Option<StateDenial>
+    ensures value { result ≡ header_denial bytes.now }
+    ensures length { result ≡ None → length bytes.now ≡ SAVED_LENGTH }
+{
+    if bytes.len() < HEADER_LENGTH {
+        return Some(StateDenial::BadLength);
+    }
+    if !is_state(bytes) {
+        return Some(StateDenial::NotAState);
+    }
+    if !has_version(bytes) {
+        return Some(StateDenial::OtherVersion);
+    }
+    if !has_length(bytes) {
+        return Some(StateDenial::BadLength);
+    }
+    None
+}
+
+/// The device of bytes with a good header, or what refuses them.
+fn read_saved(bytes: &[u8]) -> Result<Saved, StateDenial>
+    requires { length bytes.now ≡ SAVED_LENGTH }
+    ensures { result ≡ read_saved bytes.now }
+{
+    if !has_sum(bytes) {
+        return Err(StateDenial::BadSum);
+    }
+    let saved = saved_in(bytes);
+    if !saved.is_possible() {
+        return Err(StateDenial::Impossible);
+    }
+    Ok(saved)
+}
+
+impl Saved {
+    /// What refuses to be put into so much room.
+    fn save_denial(&self, room: usize) -> Option<StateDenial>
+        ensures value { result ≡ save_denial self.now room }
+        ensures room { result ≡ None → SAVED_LENGTH ≤ room }
+    {
+        if room < SAVED_LENGTH {
+            return Some(StateDenial::BadLength);
+        }
+        if !self.is_possible() {
+            return Some(StateDenial::Impossible);
+        }
+        None
+    }
+
+    /// Puts its bytes into the front of `out`: `SAVED_LENGTH` of them, which `Saved::restore`
+    /// takes.
+    ///
+    /// Refused, tested in this order, and then nothing is changed: `BadLength` where there is less
+    /// room; `Impossible` where no calls of a device lead to that state.
+    pub fn save(&self, out: &mut [u8]) -> Result<(), StateDenial>
+        ensures denied { (why : StateDenial) → save_denial self.now (length out.old) ≡ Some why →
+            (result ≡ Err why) × (out.new ≡ out.old) }
+        ensures saved { save_denial self.now (length out.old) ≡ None →
+            (result ≡ Ok tt) × FitsSaved self.now ×
+            (out.new ≡ saved_bytes self.now ++ drop SAVED_LENGTH out.old) }
+    {
+        match self.save_denial(out.len()) {
+            Some(why) => Err(why),
+            None => {
+                let mut bytes = ArrayVec::new();
+                push_saved(&mut bytes, self);
+                put_front(bytes.as_slice(), out);
+                Ok(())
+            }
+        }
+    }
+
+    /// The device of these bytes, which `Saved::save` made.
+    ///
+    /// Refused, tested in this order: `BadLength` where they aren't even a header; `NotAState`;
+    /// `OtherVersion`; `BadLength`; `BadSum`; `Impossible`.
+    pub fn restore(bytes: &[u8]) -> Result<Saved, StateDenial>
+        ensures { result ≡ restored bytes.now }
+    {
+        match header_denial(bytes) {
+            Some(why) => Err(why),
+            None => read_saved(bytes),
+        }
+    }
+}

@@ -1,0 +1,195 @@
+-- What holds in each state of a guest's course, and between two of them.
+use Rattle.std.proofs.Common.{◌≡◌, ℕ, zero, suc, ◌+◌, Bool, true, false, List, []}
+use Rattle.std.proofs.Common.{◌∷◌, refl, sym, ap, subst, ◌∙◌, ◌⊎◌, inl, inr, arith}
+use Rattle.std.specs.Prelude.{Option, Some, None, slice_get, MatchBool}
+use Rattle.vb_model.specs.declared.calls.Call.{Call}
+use Rattle.vb_model.specs.declared.calls.Call.TheVariants.{Scribble}
+use Rattle.vb_model.specs.declared.calls.Claim.{Claim}
+use Rattle.vb_model.specs.declared.replies.Reply.{Reply}
+use Rattle.vb_model.specs.declared.replies.Reply.TheVariants.{Refused}
+use Rattle.vb_model.specs.Guest.{Guest, Config, fresh}
+use Rattle.vb_model.specs.Driver.{pages_needed}
+use Rattle.vb_model.specs.Refusals.{refusal_of}
+use Rattle.vb_model.specs.Rogue.{RogueStep, Scribbled, IsRogueAfter}
+use Rattle.vb_model.specs.Step.{Performs, HonestStep, GuestStep}
+use Rattle.vb_model.specs.Consistent.{IsConsistent}
+use Rattle.vb_model.specs.Orderly.{IsOrderly}
+use Rattle.vb_model.specs.Blank.{IsBlank}
+use Rattle.vb_model.specs.HonestRuns.{IsAttentive}
+use Rattle.vb_model.specs.GuestRun.{Entry, Called, Looked, EntryStep, OwnStep, Leads}
+use Rattle.vb_model.specs.GuestRun.{is_scribbled}
+use Rattle.vb_model.specs.Courses.{Course, guest_after}
+use Rattle.vb_model.proofs.CallSteps.{match_cases, supplying_cases, honest_keeps}
+use Rattle.vb_model.proofs.GuestSteps.{fresh_consistent}
+use Rattle.vb_model.proofs.OrderlySteps.{honest_order, fresh_order}
+use Rattle.vb_model.proofs.BlankSteps.{honest_blank, fresh_blank}
+use Rattle.vb_model.proofs.AttentiveSteps.{honest_attentive, not_down}
+use Rattle.vb_model.proofs.Unchanged.{step_keeps, MayBeRogue}
+use Rattle.vb_model.proofs.Changes.{same_some}
+
+-- ---- a step of an honest guest that isn't a scribble
+
+pub as_guest : (g : Guest) (call : Call) (claims : List Claim) (reply : Reply) (new : Guest)
+    → g.rogue ≡ false → HonestStep g call claims reply new → GuestStep g call claims reply new
+as_guest g call claims reply new honest s = subst
+    (λ (b : Bool). MatchBool b (RogueStep g call claims reply new) (HonestStep g call claims reply new))
+    (sym honest) s
+
+still_honest : (g : Guest) (call : Call) (claims : List Claim) (reply : Reply) (new : Guest)
+    → g.rogue ≡ false → is_scribbled call reply ≡ false → HonestStep g call claims reply new
+    → new.rogue ≡ false
+still_honest g call claims reply new honest none s = cases (step_keeps g call claims reply new step).rogue
+  where
+    step : GuestStep g call claims reply new
+    step = as_guest g call claims reply new honest s
+
+    scribble : (page offset : ℕ) (bytes : List ℕ)
+        → HonestStep g (Scribble page offset bytes) claims reply new
+        → is_scribbled (Scribble page offset bytes) reply ≡ false → new.rogue ≡ false
+    scribble page offset bytes s none =
+        elim (match_cases (refusal_of g (Scribble page offset bytes))
+        (Performs (Scribble page offset bytes) g claims reply new)
+        (λ refusal. (claims ≡ []) × (reply ≡ Refused refusal) × (new ≡ g)) s) [
+          | inr r ↦ ap (λ (x : Guest). x.rogue) r.2.2 ∙ honest
+          | inl p ↦
+              elim (supplying_cases (pages_needed page bytes g) g claims reply new
+              (λ m. Scribbled m reply new) p.1) [
+                | inr r ↦ ap (λ (x : Guest). x.rogue) r.2 ∙ honest
+                | inl m ↦ absurd (let wrong : true ≡ false =
+                    sym (ap (λ (r : Reply). is_scribbled (Scribble page offset bytes) r) m.answered)
+                    ∙ none in cc)
+              ]
+        ]
+
+    cases : (new.rogue ≡ g.rogue) ⊎ (MayBeRogue g call × IsRogueAfter g new) → new.rogue ≡ false
+    cases (inl same) = same ∙ honest
+    cases (inr (inl rogue, after)) =
+        absurd (let wrong : true ≡ false = sym rogue ∙ honest in cc)
+    cases (inr (inr is, after)) =
+        scribble is.0 is.1 is.2 (subst (λ (c : Call). HonestStep g c claims reply new) is.3 s)
+        (subst (λ (c : Call). is_scribbled c reply ≡ false) is.3 none)
+
+-- what holds of each state
+pub record IsFit (g : Guest) : Type 0 where
+  pub honest : g.rogue ≡ false
+  pub consistent : IsConsistent g
+  pub orderly : IsOrderly g
+  pub blank : IsBlank g
+  pub attentive : IsAttentive g
+
+pub fresh_fit : (config : Config) (target : ℕ) → IsFit (fresh config target)
+fresh_fit config target =
+    record {
+      honest = refl;
+      consistent = fresh_consistent config target;
+      orderly = fresh_order config target;
+      blank = fresh_blank config target;
+      attentive = record {
+        inflating = λ other. refl;
+        deflating = λ other. refl;
+        reporting = λ other. refl;
+        buffered = refl;
+      };
+    }
+
+pub call_fit : (g : Guest) (call : Call) (claims : List Claim) (reply : Reply) (new : Guest)
+    → IsFit g → HonestStep g call claims reply new → new.rogue ≡ false → IsFit new
+call_fit g call claims reply new f s honest =
+    record {
+      honest = honest;
+      consistent = honest_keeps g call claims reply new f.consistent
+          (λ down. f.attentive.deflating (not_down g.status down)) s honest;
+      orderly = honest_order g call claims reply new f.consistent f.orderly s honest;
+      blank = honest_blank g call claims reply new f.blank s honest;
+      attentive = honest_attentive g call claims reply new f.orderly f.attentive s honest;
+    }
+
+entry_fit : (g : Guest) (entry : Entry) (new : Guest) → IsFit g → EntryStep g entry new → IsFit new
+entry_fit g (Looked floor answer) new f s = subst IsFit (sym s.1) f
+entry_fit g (Called actor call claims reply) new f s =
+    call_fit g call claims reply new f s.1 (still_honest g call claims reply new f.honest s.0 s.1)
+
+own_fit : (g : Guest) (own : Option Entry) (new : Guest) → IsFit g → OwnStep g own new → IsFit new
+own_fit g None new f s = subst IsFit (sym s) f
+own_fit g (Some entry) new f s = entry_fit g entry new f s
+
+-- ---- states and entries of a course
+
+every_fit : (g : Guest) (entries : List (Option Entry)) (after : List Guest) → IsFit g
+    → Leads g entries after → (i : ℕ) (x : Guest) → slice_get (g ∷ after) i ≡ Some x → IsFit x
+every_fit g entries after f s zero x at = subst IsFit (same_some g x at) f
+every_fit g [] [] f s (suc i) x at = absurd cc
+every_fit g (own ∷ entries) (new ∷ after) f s (suc i) x at =
+    every_fit new entries after (own_fit g own new f s.0) s.1 i x at
+every_fit g [] (new ∷ after) f s (suc i) x at = absurd s
+every_fit g (own ∷ entries) [] f s (suc i) x at = absurd s
+
+-- entry i leads from state i to the next
+pub record EntryAt (entries : List (Option Entry)) (i : ℕ) (before after : Guest) : Type 0 where
+  pub own : Option Entry
+  pub own_is : slice_get entries i ≡ Some own
+  pub step : OwnStep before own after
+
+every_step : (g : Guest) (entries : List (Option Entry)) (after : List Guest)
+    → Leads g entries after → (i : ℕ) (a b : Guest) → slice_get (g ∷ after) i ≡ Some a
+    → slice_get after i ≡ Some b → EntryAt entries i a b
+every_step g [] [] s i a b ha hb = absurd cc
+every_step g (own ∷ entries) (new ∷ after) s zero a b ha hb =
+    record {
+      own = own;
+      own_is = refl;
+      step = subst (λ (x : Guest). OwnStep x own b) (same_some g a ha)
+          (subst (λ (x : Guest). OwnStep g own x) (same_some new b hb) s.0);
+    }
+every_step g (own ∷ entries) (new ∷ after) s (suc i) a b ha hb =
+    let r = every_step new entries after s.1 i a b ha hb in
+    record { own = r.own; own_is = r.own_is; step = r.step }
+every_step g [] (new ∷ after) s i a b ha hb = absurd s
+every_step g (own ∷ entries) [] s i a b ha hb = absurd s
+
+-- an entry is made in a state, and leads on
+pub record MadeIn (g : Guest) (after : List Guest) (i : ℕ) (entry : Entry) : Type 0 where
+  pub before : Guest
+  pub next : Guest
+  pub is_there : slice_get (g ∷ after) i ≡ Some before
+  pub step : EntryStep before entry next
+
+every_entry : (g : Guest) (entries : List (Option Entry)) (after : List Guest)
+    → Leads g entries after → (i : ℕ) (entry : Entry) → slice_get entries i ≡ Some (Some entry)
+    → MadeIn g after i entry
+every_entry g [] [] s i entry at = absurd cc
+every_entry g (own ∷ entries) (new ∷ after) s zero entry at =
+    let e : own ≡ Some entry = cc in
+    record {
+      before = g;
+      next = new;
+      is_there = refl;
+      step = subst (λ (x : Option Entry). OwnStep g x new) e s.0;
+    }
+every_entry g (own ∷ entries) (new ∷ after) s (suc i) entry at =
+    let r = every_entry new entries after s.1 i entry at in
+    record { before = r.before; next = r.next; is_there = r.is_there; step = r.step }
+every_entry g [] (new ∷ after) s i entry at = absurd s
+every_entry g (own ∷ entries) [] s i entry at = absurd s
+
+-- what a course gives at each position
+pub record Positions (c : Course) : Type 0 where
+  pub fit : (i : ℕ) (g : Guest) → guest_after c i ≡ Some g → IsFit g
+  pub step : (i : ℕ) (a b : Guest) → guest_after c i ≡ Some a → guest_after c (i + 1) ≡ Some b
+      → EntryAt c.entries i a b
+  pub made : (i : ℕ) (entry : Entry) → slice_get c.entries i ≡ Some (Some entry)
+      → MadeIn c.first c.after i entry
+
+pub positions : (c : Course) → IsFit c.first → Leads c.first c.entries c.after → Positions c
+positions c f s =
+    record {
+      fit = λ i g at. every_fit c.first c.entries c.after f s i g at;
+      step = λ i a b ha hb.
+          let e : i + 1 ≡ suc i = omega arith in
+          every_step c.first c.entries c.after s i a b ha
+          (subst (λ (k : ℕ). guest_after c k ≡ Some b) e hb);
+      made = λ i entry at. every_entry c.first c.entries c.after s i entry at;
+    }
+
+abbrev pub some_own : Option Entry → Option (Option Entry)
+some_own x = Some x

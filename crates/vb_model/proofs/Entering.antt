@@ -1,0 +1,287 @@
+-- Frames enter by the claims for their pages alone; and where too few are left, the call is refused.
+use Rattle.std.proofs.Common.{◌≡◌, ℕ, suc, ◌<◌, ◌≤◌, Bool, true, false, cond, List, [], ◌∷◌}
+use Rattle.std.proofs.Common.{length, refl, sym, ap, subst, ◌∙◌, ◌⊎◌, inl, inr, arith}
+use Rattle.std.specs.Prelude.{◌==◌, ◌||◌, Option, Some, None, MatchBool, slice_get, is_none}
+use Rattle.std.proofs.lemmas.Bool.{eqb-true}
+use Rattle.vb_model.specs.declared.calls.Call.{Call}
+use Rattle.vb_model.specs.declared.calls.Call.TheVariants.{Init, Reset, Alloc, Free, Read, Write}
+use Rattle.vb_model.specs.declared.calls.Call.TheVariants.{Scribble, Inflate, Deflate, Oom, Report}
+use Rattle.vb_model.specs.declared.calls.Call.TheVariants.{Stats, Reap, Take, Work, Finish, Sweep}
+use Rattle.vb_model.specs.declared.calls.Call.TheVariants.{Ask, SetTarget}
+use Rattle.vb_model.specs.declared.calls.Claim.{Claim}
+use Rattle.vb_model.specs.declared.calls.Claim.TheVariants.{Gave, GaveNoFrame, GaveNoMemory}
+use Rattle.vb_model.specs.declared.calls.Event.TheVariants.{Guest as OnGuest}
+use Rattle.vb_model.specs.declared.replies.Refusal.{Refusal}
+use Rattle.vb_model.specs.declared.replies.Refusal.TheVariants.{NoGuest, NoFrame, NoMemory}
+use Rattle.vb_model.specs.declared.replies.Reply.{Reply}
+use Rattle.vb_model.specs.declared.replies.Reply.TheVariants.{Refused}
+use Rattle.vb_model.specs.Tests.{is_in}
+use Rattle.vb_model.specs.Guest.{Guest, frame_of, backed, all_backed}
+use Rattle.vb_model.specs.FirstRefusal.{first_refusal, ◌⇒◌}
+use Rattle.vb_model.specs.Refusals.{refusal_of}
+use Rattle.vb_model.specs.Driver.{given, claim_refusal, AreClaimsFor, Supplying, Written}
+use Rattle.vb_model.specs.Driver.{pages_needed}
+use Rattle.vb_model.specs.Life.{feature_refusal, Negotiates, lacking}
+use Rattle.vb_model.specs.Rogue.{LosesFrames, RogueStep, Scribbled, unless_refused, pages_to_back}
+use Rattle.vb_model.specs.Step.{Performs, HonestStep, GuestStep}
+use Rattle.vb_model.specs.World.{World, guest_at}
+use Rattle.vb_model.specs.HostFrames.{Gives, IsOut}
+use Rattle.vb_model.specs.HostRefusals.{world_tests}
+use Rattle.vb_model.specs.HostEvents.{Happens, Calls}
+use Rattle.vb_model.specs.StepLaws.{IsGiven, FramesEnterByClaims, WantOfFrames, WantIsAnswered}
+use Rattle.vb_model.proofs.CallSteps.{match_cases, supplying_cases}
+use Rattle.vb_model.proofs.Frames.{backed_cases, FramesMove, honest_move, negotiates_frames}
+use Rattle.vb_model.proofs.Changes.{same_some}
+use Rattle.vb_model.proofs.Wanting.{claims_needed, refused_claims}
+
+-- ---- frames enter by claims
+
+-- the page's frame was there, or it was given for the page
+abbrev Entered : Guest → List ℕ → List Claim → ℕ → ℕ → Type 0
+Entered g pages claims page frame =
+    (frame_of g.frames page ≡ Some frame) ⊎ IsGiven pages claims page frame
+
+backed_at : (pages new : List ℕ) (frames : List (Option ℕ)) (page x : ℕ)
+    → frame_of (all_backed pages new frames) page ≡ Some x
+    → (frame_of frames page ≡ Some x)
+    ⊎ ((i : ℕ) × (slice_get pages i ≡ Some page) × (slice_get new i ≡ Some x))
+backed_at [] new frames page x h = inl h
+backed_at (p ∷ pages) [] frames page x h = inl h
+backed_at (p ∷ pages) (f ∷ new) frames page x h =
+    elim (backed_at pages new (backed p f frames) page x h) [
+      | inr k ↦ inr (suc k.0, k.1, k.2)
+      | inl k ↦
+          elim (backed_cases p f frames page x k) [
+            | inl e ↦ inr (0, ap some (sym e.0), ap some (sym e.1))
+            | inr old ↦ inl old
+          ]
+    ]
+  where
+    some : ℕ → Option ℕ
+    some n = Some n
+
+-- the frames are these, or fewer
+enters : (pages : List ℕ) (claims : List Claim) (g new : Guest) (page frame : ℕ)
+    → LosesFrames (all_backed pages (given claims) g.frames) new.frames
+    → frame_of new.frames page ≡ Some frame → Entered g pages claims page frame
+enters pages claims g new page frame moved h =
+    backed_at pages (given claims) g.frames page frame (moved page frame h)
+
+-- they are as they were
+kept : (pages : List ℕ) (claims : List Claim) (g new : Guest) (page frame : ℕ)
+    → new.frames ≡ g.frames → frame_of new.frames page ≡ Some frame
+    → Entered g pages claims page frame
+kept pages claims g new page frame same h =
+    inl (subst (λ (frames : List (Option ℕ)). frame_of frames page ≡ Some frame) same h)
+
+supplies : (pages : List ℕ) (g : Guest) (claims : List Claim) (reply : Reply) (new : Guest)
+    (Rest : Guest → Type 0) (page frame : ℕ) → Supplying pages g claims reply new Rest
+    → ((s : Guest) → Rest s → new.frames ≡ s.frames) → frame_of new.frames page ≡ Some frame
+    → Entered g pages claims page frame
+supplies pages g claims reply new Rest page frame s rest h =
+    elim (supplying_cases pages g claims reply new Rest s) [
+      | inl m ↦ backed_at pages (given claims) g.frames page frame
+          (subst (λ (frames : List (Option ℕ)). frame_of frames page ≡ Some frame)
+          (rest (record g { frames = all_backed pages (given claims) g.frames }) m) h)
+      | inr r ↦ kept pages claims g new page frame (ap (λ (x : Guest). x.frames) r.2) h
+    ]
+
+-- a call that claims none
+none : (call : Call) (g : Guest) (claims : List Claim) (reply : Reply) (new : Guest) (page frame : ℕ)
+    → HonestStep g call claims reply new → claims ≡ [] → frame_of new.frames page ≡ Some frame
+    → (pages : List ℕ) → Entered g pages claims page frame
+none call g claims reply new page frame s e h pages =
+    let moved : FramesMove g claims new = honest_move g call claims reply new s in
+    elim (backed_at moved.0 (given claims) g.frames page frame (moved.1 page frame h)) [
+      | inl old ↦ inl old
+      | inr k ↦ absurd (let wrong : slice_get (given []) k.0 ≡ Some frame =
+          subst (λ (l : List Claim). slice_get (given l) k.0 ≡ Some frame) e k.2 in cc)
+    ]
+
+performs : (call : Call) (g : Guest) (claims : List Claim) (reply : Reply) (new : Guest)
+    (page frame : ℕ) → HonestStep g call claims reply new → refusal_of g call ≡ None
+    → Performs call g claims reply new → frame_of new.frames page ≡ Some frame
+    → Entered g (pages_to_back call g) claims page frame
+performs (Init wanted) g claims reply new page frame step e s h =
+    subst (λ o. Entered g (unless_refused o (lacking g)) claims page frame) (sym e)
+    (supplies (lacking g) g claims reply new
+    (λ m. Negotiates (feature_refusal wanted) wanted m reply new) page frame s
+    (λ m rest. negotiates_frames (feature_refusal wanted) wanted m reply new rest) h)
+performs (Write p offset bytes) g claims reply new page frame step e s h =
+    subst (λ o. Entered g (unless_refused o (pages_needed p bytes g)) claims page frame) (sym e)
+    (supplies (pages_needed p bytes g) g claims reply new
+    (λ m. Written p offset bytes m reply new) page frame s
+    (λ m rest. ap (λ (x : Guest). x.frames) rest.1) h)
+performs (Scribble p offset bytes) g claims reply new page frame step e s h =
+    subst (λ o. Entered g (unless_refused o (pages_needed p bytes g)) claims page frame) (sym e)
+    (supplies (pages_needed p bytes g) g claims reply new (λ m. Scribbled m reply new) page frame s
+    (λ m rest. ap (λ (x : Guest). x.frames) rest.memory) h)
+performs (SetTarget n) g claims reply new page frame step e s h =
+    none (SetTarget n) g claims reply new page frame step s.0 h []
+performs Reset g claims reply new page frame step e s h =
+    none Reset g claims reply new page frame step s.0 h []
+performs (Alloc cpu order) g claims reply new page frame step e s h =
+    none (Alloc cpu order) g claims reply new page frame step s.0 h []
+performs (Free cpu start order) g claims reply new page frame step e s h =
+    none (Free cpu start order) g claims reply new page frame step s.0 h []
+performs (Read p offset len) g claims reply new page frame step e s h =
+    none (Read p offset len) g claims reply new page frame step s.0 h []
+performs (Inflate n) g claims reply new page frame step e s h =
+    none (Inflate n) g claims reply new page frame step s.0 h []
+performs (Deflate n) g claims reply new page frame step e s h =
+    none (Deflate n) g claims reply new page frame step s.0 h []
+performs (Oom n) g claims reply new page frame step e s h =
+    none (Oom n) g claims reply new page frame step s.0 h []
+performs (Report from) g claims reply new page frame step e s h =
+    none (Report from) g claims reply new page frame step s.0 h []
+performs Stats g claims reply new page frame step e s h =
+    none Stats g claims reply new page frame step s.0 h []
+performs (Reap q) g claims reply new page frame step e s h =
+    none (Reap q) g claims reply new page frame step s.0 h []
+performs (Take q) g claims reply new page frame step e s h =
+    none (Take q) g claims reply new page frame step s.0 h []
+performs Work g claims reply new page frame step e s h =
+    none Work g claims reply new page frame step s.0 h []
+performs (Finish q i) g claims reply new page frame step e s h =
+    none (Finish q i) g claims reply new page frame step s.0 h []
+performs (Sweep p) g claims reply new page frame step e s h =
+    none (Sweep p) g claims reply new page frame step s.0 h []
+performs Ask g claims reply new page frame step e s h =
+    none Ask g claims reply new page frame step s.0 h []
+
+pub frames_enter : FramesEnterByClaims
+frames_enter g call claims reply new s page frame h = cases g.rogue s
+  where
+    cases : (b : Bool) → MatchBool b (RogueStep g call claims reply new)
+        (HonestStep g call claims reply new) → Entered g (pages_to_back call g) claims page frame
+    cases true r =
+        elim (match_cases (claim_refusal claims)
+        (LosesFrames (all_backed (pages_to_back call g) (given claims) g.frames) new.frames)
+        (λ refusal. (reply ≡ Refused refusal) × (new.frames ≡ g.frames)) r.frames) [
+          | inl m ↦ enters (pages_to_back call g) claims g new page frame m.1 h
+          | inr m ↦ kept (pages_to_back call g) claims g new page frame m.2.1 h
+        ]
+    cases false p =
+        elim (match_cases (refusal_of g call) (Performs call g claims reply new)
+        (λ refusal. (claims ≡ []) × (reply ≡ Refused refusal) × (new ≡ g)) p) [
+          | inl d ↦ performs call g claims reply new page frame p d.0 d.1 h
+          | inr r ↦ kept (pages_to_back call g) claims g new page frame
+              (ap (λ (x : Guest). x.frames) r.2.2) h
+        ]
+
+-- ---- where too few frames are left, the call is refused
+
+-- the numbers but this one
+abbrev without : ℕ → List ℕ → List ℕ
+without f [] = []
+without f (x ∷ xs) = cond (x == f) (without f xs) (x ∷ without f xs)
+
+at_most : (f : ℕ) (xs : List ℕ) → length (without f xs) ≤ length xs
+at_most f [] = omega arith
+at_most f (x ∷ xs) = step (x == f) (at_most f xs)
+  where
+    step : (b : Bool) → length (without f xs) ≤ length xs
+        → length (cond b (without f xs) (x ∷ without f xs)) ≤ suc (length xs)
+    step true l = omega (arith, l)
+    step false l = omega (arith, l)
+
+fewer : (f : ℕ) (xs : List ℕ) → is_in f xs ≡ true → length (without f xs) < length xs
+fewer f [] e = absurd cc
+fewer f (x ∷ xs) e = step (x == f) (λ k. fewer f xs k) e
+  where
+    step : (b : Bool) → (is_in f xs ≡ true → length (without f xs) < length xs)
+        → (b || is_in f xs) ≡ true
+        → length (cond b (without f xs) (x ∷ without f xs)) < suc (length xs)
+    step true less k = omega (arith, at_most f xs)
+    step false less k = omega (arith, less k)
+
+-- it is the one that is left out, or among the others
+left : (f y : ℕ) (xs : List ℕ) → is_in y xs ≡ true → (y ≡ f) ⊎ (is_in y (without f xs) ≡ true)
+left f y [] e = absurd cc
+left f y (x ∷ xs) e = step (x == f) (x == y) refl refl (λ k. left f y xs k) e
+  where
+    step : (a b : Bool) → (x == f) ≡ a → (x == y) ≡ b
+        → (is_in y xs ≡ true → (y ≡ f) ⊎ (is_in y (without f xs) ≡ true))
+        → (b || is_in y xs) ≡ true
+        → (y ≡ f) ⊎ (is_in y (cond a (without f xs) (x ∷ without f xs)) ≡ true)
+    step true true p q later k = inl (sym (eqb-true x y q) ∙ eqb-true x f p)
+    step true false p q later k = later k
+    step false true p q later k = inr (ap (λ (b : Bool). b || is_in y (without f xs)) q)
+    step false false p q later k =
+        elim (later k) [
+          | inl e ↦ inl e
+          | inr m ↦ inr (ap (λ (b : Bool). b || is_in y (without f xs)) q ∙ m)
+        ]
+
+-- all claims were given frames, none of which was out: so they are no more than those that weren't
+all_given : (frames : ℕ) (Out : ℕ → Type 0) (pages : List ℕ) (claims : List Claim) (got : List ℕ)
+    → Gives frames Out claims → AreClaimsFor pages claims → claim_refusal claims ≡ None
+    → ((x : ℕ) → x < frames → Out x ⊎ (is_in x got ≡ true)) → length pages ≤ length got
+all_given frames Out [] claims got gives a r all = omega arith
+all_given frames Out (page ∷ pages) [] got gives a r all = absurd a
+all_given frames Out (page ∷ pages) (GaveNoFrame ∷ claims) got gives a r all = absurd cc
+all_given frames Out (page ∷ pages) (GaveNoMemory ∷ claims) got gives a r all = absurd cc
+all_given frames Out (page ∷ pages) (Gave f ∷ claims) got gives a r all =
+    let there : is_in f got ≡ true =
+    elim (all f gives.0) [
+      | inl out ↦ absurd (gives.1 out)
+      | inr k ↦ k
+    ] in
+    let others : length pages ≤ length (without f got) =
+    all_given frames (λ x. Out x ⊎ (x ≡ f)) pages claims (without f got) gives.3 a r
+    (λ x l. later x (all x l)) in
+    omega (arith, others, fewer f got there)
+  where
+    later : (x : ℕ) → Out x ⊎ (is_in x got ≡ true)
+        → (Out x ⊎ (x ≡ f)) ⊎ (is_in x (without f got) ≡ true)
+    later x (inl out) = inl (inl out)
+    later x (inr k) =
+        elim (left f x got k) [
+          | inl e ↦ inl (inr e)
+          | inr m ↦ inr m
+        ]
+
+-- a claim is refused for want of a frame or of memory
+claim_refusals : (claims : List Claim) (refusal : Refusal) → claim_refusal claims ≡ Some refusal
+    → (refusal ≡ NoFrame) ⊎ (refusal ≡ NoMemory)
+claim_refusals [] refusal e = absurd cc
+claim_refusals (Gave f ∷ claims) refusal e = claim_refusals claims refusal e
+claim_refusals (GaveNoFrame ∷ claims) refusal e = inl cc
+claim_refusals (GaveNoMemory ∷ claims) refusal e = inr cc
+
+step_wants : (w : World) (g : Guest) (call : Call) (claims : List Claim) (reply : Reply)
+    (new : Guest) → Gives w.frames (IsOut w) claims → GuestStep g call claims reply new
+    → WantOfFrames w (pages_to_back call g)
+    → (reply ≡ Refused NoFrame) ⊎ (reply ≡ Refused NoMemory)
+step_wants w g call claims reply new gives s want = by (claim_refusal claims) refl
+  where
+    by : (o : Option Refusal) → claim_refusal claims ≡ o
+        → (reply ≡ Refused NoFrame) ⊎ (reply ≡ Refused NoMemory)
+    by None e =
+        let least : length (pages_to_back call g) ≤ length want.claimed =
+        all_given w.frames (IsOut w) (pages_to_back call g) claims want.claimed gives
+        (claims_needed g call claims reply new s) e want.all_out in
+        absurd (omega (arith, least, want.fewer))
+    by (Some refusal) e =
+        let told = refused_claims g call claims reply new refusal s e in
+        elim (claim_refusals claims refusal e) [
+          | inl is ↦ inl (told.0 ∙ ap Refused is)
+          | inr is ↦ inr (told.0 ∙ ap Refused is)
+        ]
+
+pub want_answered : WantIsAnswered
+want_answered w v n call reply g here s want =
+    elim (match_cases (first_refusal (world_tests w (OnGuest n call)))
+    (Happens (OnGuest n call) w reply v)
+    (λ refusal. (reply ≡ Refused refusal) × (v ≡ w)) s) [
+      | inr r ↦ absurd (let there : first_refusal (world_tests w (OnGuest n call)) ≡ None =
+          ap (λ (o : Option Guest). first_refusal ((is_none o ⇒ NoGuest) ∷ [])) here in cc)
+      | inl p ↦
+          elim (match_cases (guest_at w.guests n) ⊥ (λ g. Calls n g w (OnGuest n call) reply v) p.1) [
+            | inl none ↦ absurd none.1
+            | inr k ↦
+                let same : k.0 ≡ g = same_some k.0 g (sym k.1 ∙ here) in
+                step_wants w k.0 call k.2.0 reply k.2.1 k.2.2 k.2.3
+                (subst (λ (x : Guest). WantOfFrames w (pages_to_back call x)) (sym same) want)
+          ]
+    ]

@@ -1,0 +1,266 @@
+/* Who is served, and where: a socket for each guest of the host. */
+#include "host.h"
+
+#include <errno.h>
+#include <stdio.h>
+#include <stdlib.h>
+#include <sys/socket.h>
+#include <sys/stat.h>
+#include <sys/un.h>
+#include <unistd.h>
+
+/* Memory of a guest may end here: 64 GiB, for whose pages there is a set. */
+static const uint64_t MOST_SET = UINT64_C(1) << 24;
+
+bool seat_is_taken(const struct seat *seat)
+{
+    return seat->backend.socket >= 0;
+}
+
+bool seat_is_ready(const struct seat *seat)
+{
+    return seat_is_taken(seat) && (seat->backend.balloon.state.device.status & BALLOON_DRIVER_OK);
+}
+
+struct seat *seat_of(struct host *host, const char *name)
+{
+    for (unsigned i = 0; i < host->count; i++)
+        if (!strcmp(host->seats[i]->name, name))
+            return host->seats[i];
+    return NULL;
+}
+
+/* Nobody is there, and nobody was. */
+static void seat_clear(struct seat *seat)
+{
+    memset(&seat->backend, 0, sizeof seat->backend);
+    memset(&seat->inbox, 0, sizeof seat->inbox);
+    seat->backend.socket = -1;
+    seat->set = NULL;
+    seat->pages = seat->ballooned = seat->free = seat->silent = seat->told_at = 0;
+    seat->heard = seat->taken = 0;
+    seat->known = false;
+}
+
+/* Nobody is there any longer, and the frames are the other guests'. */
+static void leave(struct seat *seat)
+{
+    struct backend *backend = &seat->backend;
+    struct host *host = seat->host;
+    if (seat->pages > 0)
+        host_changed(host, BY_GUESTS);
+    host->counters.gone++;
+    close(backend->socket);
+    if (backend->channel >= 0)
+        close(backend->channel);
+    files_close(&seat->inbox.message.files);
+    memory_clear(&backend->memory);
+    free(seat->set);
+    seat_clear(seat);
+    fprintf(stderr, "gone %s\n", seat->name);
+}
+
+static bool tell(struct backend *backend, int queue)
+{
+    return message_tell(backend->channel, queue);
+}
+
+/* Makes a set of so many words, unless there is one; false where it can't. */
+static bool make_set(struct seat *seat, size_t words)
+{
+    struct balloon *balloon = &seat->backend.balloon;
+    if (seat->set && balloon->ballooned_words == words)
+        return true;
+    free(seat->set);
+    balloon->ballooned_words = words;
+    balloon->ballooned = seat->set = calloc(words, sizeof *seat->set);
+    return seat->set != NULL;
+}
+
+/* The hook for the memory that a client hands over: whether its frames suffice, and a set for its pages. */
+static bool admit(struct backend *backend)
+{
+    struct seat *seat = (struct seat *)backend;
+    uint64_t end = backend->balloon.state.device.settings.memory_end / BALLOON_PAGE;
+    uint64_t pages = memory_pages(&backend->memory);
+    if (end > MOST_SET || pages > UINT32_MAX)
+        return refuse("its memory ends too far up for a host of many");
+    if (pages > seat->pages && !policy_admits(seat->host, seat, (uint32_t)pages)) {
+        seat->host->counters.refused++;
+        return false;
+    }
+    if (!make_set(seat, (end + 63) / 64))
+        return refuse("there is no memory for the set of its pages");
+    if (pages != seat->pages)
+        host_changed(seat->host, BY_GUESTS);
+    seat->host->counters.admitted += seat->pages == 0;
+    seat->pages = (uint32_t)pages;
+    return true;
+}
+
+void seat_accept(struct seat *seat)
+{
+    int client = accept4(seat->listener, NULL, NULL, SOCK_CLOEXEC | SOCK_NONBLOCK);
+    if (client < 0)
+        return;
+    seat_clear(seat);
+    backend_start(&seat->backend, &seat->host->options);
+    seat->backend.tell = tell;
+    seat->backend.admit = admit;
+    seat->backend.socket = client;
+}
+
+/* Removes the socket of an earlier host, and nothing else. */
+static void remove_socket(const char *path)
+{
+    struct stat file;
+    if (!lstat(path, &file) && S_ISSOCK(file.st_mode))
+        unlink(path);
+}
+
+/* Makes a seat's socket; false where it can't, with errno. */
+static bool listen_at(struct seat *seat)
+{
+    struct sockaddr_un address = {.sun_family = AF_UNIX};
+    strcpy(address.sun_path, seat->path);
+    remove_socket(seat->path);
+    seat->listener = socket(AF_UNIX, SOCK_STREAM | SOCK_CLOEXEC | SOCK_NONBLOCK, 0);
+    if (seat->listener < 0)
+        return false;
+    if (!bind(seat->listener, (struct sockaddr *)&address, sizeof address) && !listen(seat->listener, 1))
+        return true;
+    close(seat->listener);
+    return false;
+}
+
+/* Whether a guest may have this name: letters, digits, dashes and underscores. */
+static bool is_name(const char *name)
+{
+    static const char letters[] = "abcdefghijklmnopqrstuvwxyzABCDEFGHIJKLMNOPQRSTUVWXYZ0123456789-_";
+    size_t length = strlen(name);
+    return length > 0 && length < MOST_NAME && strspn(name, letters) == length;
+}
+
+const char *seat_add(struct host *host, const char *name)
+{
+    if (!is_name(name) || seat_of(host, name))
+        return "a name has 1 to 31 letters, digits, - and _, and no other guest has it";
+    if (host->count == MOST_GUESTS)
+        return "there are as many guests as can be";
+    struct seat *seat = calloc(1, sizeof *seat);
+    if (!seat)
+        return strerror(ENOMEM);
+    strcpy(seat->name, name);
+    seat->host = host;
+    seat->backend.socket = -1;
+    int length = snprintf(seat->path, sizeof seat->path, "%s/%s", host->options.client, name);
+    if (length >= (int)sizeof seat->path || !listen_at(seat)) {
+        free(seat);
+        return length >= MOST_PATH ? strerror(ENAMETOOLONG) : strerror(errno);
+    }
+    host->seats[host->count++] = seat;
+    return NULL;
+}
+
+void seat_remove(struct host *host, struct seat *seat)
+{
+    unsigned number = 0;
+    if (seat_is_taken(seat))
+        leave(seat);
+    while (host->seats[number] != seat)
+        number++;
+    host->count--;
+    memmove(host->seats + number, host->seats + number + 1, (host->count - number) * sizeof host->seats[0]);
+    remove_socket(seat->path);
+    close(seat->listener);
+    free(seat);
+}
+
+/* What may have changed by what was served: the balloon, statistics, and pages that the guest took back by itself. */
+static void take_note(struct seat *seat)
+{
+    const struct backend *backend = &seat->backend;
+    const struct counters *counters = &backend->counters;
+    if (seat->set)
+        seat->ballooned = (uint32_t)vb_count_ballooned(seat->set, backend->balloon.ballooned_words);
+    if (counters->statistics != seat->heard) {
+        seat->heard = counters->statistics;
+        seat->silent = 0;
+        policy_hears(seat);
+    }
+    if (counters->taken != seat->taken) {
+        seat->taken = counters->taken;
+        policy_sees_taken(seat);
+    }
+}
+
+/* Does something with its guest's memory, and notes what came of it. */
+static bool serve(struct seat *seat, int (*act)(struct seat *))
+{
+    int channel = seat->backend.channel;
+    served_name = seat->name;
+    int served = guard(act, seat);
+    served_name = NULL;
+    if (served <= 0) {
+        leave(seat);
+        return false;
+    }
+    if (seat->backend.channel != channel)
+        fcntl(seat->backend.channel, F_SETFL, O_NONBLOCK);
+    take_note(seat);
+    return true;
+}
+
+/* The next message, if it is there whole. */
+static int receive(struct seat *seat)
+{
+    enum inbox_state state = inbox_read(seat->backend.socket, &seat->inbox);
+    if (state == INBOX_WAITS || state == INBOX_GONE)
+        return state == INBOX_WAITS;
+    if (state == INBOX_WRONG)
+        return refuse("the client's bytes are no message"), -1;
+    if (message_serve(&seat->backend, &seat->inbox.message))
+        return 1;
+    return seat->backend.gone ? 0 : -1;
+}
+
+static int serve_left(struct seat *seat)
+{
+    return backend_serve_pending(&seat->backend) ? 1 : -1;
+}
+
+static int ask(struct seat *seat)
+{
+    struct balloon_result result = balloon_ask_statistics(&seat->backend.balloon);
+    return backend_finish(&seat->backend, &result) ? 1 : -1;
+}
+
+void seat_serve(struct seat *seat)
+{
+    serve(seat, receive);
+}
+
+void seat_serve_pending(struct seat *seat)
+{
+    serve(seat, serve_left);
+}
+
+bool seat_ask(struct seat *seat)
+{
+    return seat_is_ready(seat) && seat->backend.balloon.state.held && serve(seat, ask);
+}
+
+void seat_set_target(struct seat *seat, uint32_t pages)
+{
+    balloon_set_target(&seat->backend.balloon, pages);
+    seat->told_at = seat->ballooned;
+    backend_tell_change(&seat->backend);
+}
+
+void seat_remind(struct seat *seat)
+{
+    bool off = seat->ballooned != seat->backend.balloon.state.device.target;
+    if (seat_is_ready(seat) && off && seat->ballooned == seat->told_at)
+        backend_tell_change(&seat->backend);
+    seat->told_at = seat->ballooned;
+}

@@ -1,0 +1,125 @@
+"""What tests demand of a host of many guests: the rule of targets, worked out once more, and a host at rest."""
+
+import time
+
+from linux_guest import PAGES_PER_MIB
+from linux_kit import Fault
+
+# Seconds in which a host has come to rest, and in which one that is wrong would have.
+REST_LIMIT, WRONG_LIMIT = 20, 8
+
+# What Linux does meanwhile: MiB by which two words for one thing may differ.
+SLACK = 2
+
+# Seconds of a period of the host, with what a look takes.
+PERIOD = 0.25
+
+
+def demand(condition, words):
+    """Ends the run with these words where the condition doesn't hold."""
+    if not condition:
+        raise Fault(words)
+
+
+def eventually(condition, words, limit=REST_LIMIT):
+    """Waits until a condition holds; `words` says what there was instead."""
+    end = time.monotonic() + limit
+    while not condition():
+        demand(time.monotonic() < end, words() if callable(words) else words)
+        time.sleep(0.05)
+
+
+def rule(needs, frames):
+    """Returns the targets for guests with these pages and spares, and by how much they are short."""
+    lack = max(0, sum(pages for pages, _ in needs) - frames)
+    short = max(0, lack - sum(spare for _, spare in needs))
+    lack, targets = lack - short, [0] * len(needs)
+    for number in sorted(range(len(needs)), key=lambda it: (-needs[it][1], it)):
+        targets[number] = min(needs[number][1], lack)
+        lack -= targets[number]
+    return targets, short
+
+
+def check_decisions(town):
+    """Demands that each decision since the last time is what the rule says; returns how many there were."""
+    decisions = town.host.decisions()
+    for said, shares in decisions:
+        needs = [(it["pages"], it["spare"]) for it in shares.values()]
+        old = [it["old"] for it in shares.values()]
+        targets, short = rule(needs, said["frames"])
+        demand([it["target"] for it in shares.values()] == targets, f"{said}: {shares}: the targets should be {targets}")
+        demand(said["short"] == short, f"{said}: {shares}: short by {short}")
+        lack = max(0, sum(pages for pages, _ in needs) - said["frames"])
+        serves = sum(old) >= lack and all(it["old"] <= it["most"] for it in shares.values())
+        demand(said["why"] in ("guests", "budget") or not serves, f"{said}: {shares}: the old targets serve")
+    return len(decisions)
+
+
+def finish(town):
+    """Demands what holds at the end of each run."""
+    killed = town.finish()
+    demand(killed == 0, f"{killed} lines of the guests' kernels: {[it.killed()[:1] for it in town.members if it.guest]}")
+    check_decisions(town)
+
+
+def growth(samples, of=sum):
+    """Returns by how many MiB at most what the host holds grew within a period, or one guest's part of it."""
+    most, first = 0.0, 0
+    for number, it in enumerate(samples):
+        while it.seconds - samples[first].seconds > PERIOD:
+            first += 1
+        if of is sum:
+            least = min(sum(other.held) for other in samples[first : number + 1])
+            most = max(most, sum(it.held) - least)
+        else:
+            most = max(most, *(mib - min(other.held[k] for other in samples[first : number + 1]) for k, mib in enumerate(it.held)))
+    return most
+
+
+def names(count):
+    """Returns names for so many guests."""
+    return [f"guest-{it + 1}" for it in range(count)]
+
+
+def pages_moved(town):
+    """Returns how many pages went into balloons, and out of them."""
+    return sum(it["inflated"] + it["deflated"] for it in town.host.guests().values())
+
+
+def unrest(town, budget, floor):
+    """Returns what isn't at rest yet: targets that aren't reached or too few, or a guest without its floor. None: all is."""
+    seen = town.host.guests()
+    members = [it for it in town.members if it.guest]
+    lack = sum(seen[it.name]["pages"] for it in members) - budget * PAGES_PER_MIB
+    targets = sum(seen[it.name]["target"] for it in members)
+    if targets < lack:
+        return f"the targets are {targets} pages together, and {lack} are missing"
+    for it in members:
+        if it.free_mib() < floor - SLACK:
+            return f"{it.name} has {it.free_mib():.1f} MiB free, and its floor is {floor}"
+        if seen[it.name]["ballooned"] != seen[it.name]["target"]:
+            return f"{it.name} has {seen[it.name]['ballooned']} pages in its balloon, and its target is {seen[it.name]['target']}"
+    return None
+
+
+def await_rest(town, budget, floor=12, limit=REST_LIMIT):
+    """Demands that the host comes to rest, and stays there."""
+    eventually(lambda: not unrest(town, budget, floor), lambda: unrest(town, budget, floor), limit)
+    time.sleep(4 * PERIOD)
+    check_decisions(town)
+    before = town.host.counters()["changed"]
+    time.sleep(4 * PERIOD)
+    changed = town.host.counters()["changed"] - before
+    demand(changed == 0, f"{changed} targets change while nothing moves: {town.host.decisions()[-1:]}")
+
+
+def check_spares(town, floor=12):
+    """Demands that what guests can spare is what they call free themselves and have in the balloon, less the floor, and that
+    the host counts what their memory files hold."""
+    seen, held = town.host.guests(), sum(town.sample().held)
+    counted = town.host.counters()["held_kib"] / 1024
+    demand(abs(held - counted) <= SLACK, f"the files hold {held:.1f} MiB, and the host counts {counted:.1f}")
+    for it in town.members:
+        own = it.free_mib() + seen[it.name]["ballooned"] / PAGES_PER_MIB - floor if it.guest else 0
+        spare = seen[it.name]["spare"] / PAGES_PER_MIB
+        demand(abs(spare - max(0, own)) <= SLACK, f"{it.name} can spare {own:.1f} MiB, and the host says {spare:.1f}")

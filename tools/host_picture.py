@@ -1,0 +1,72 @@
+"""Draws a run of host-linux: what the host holds of each guest, one above the other, over the time, and the targets."""
+
+import os
+
+from linux_kit import Fault
+
+# The colours of guests, in turn, and how the lines over all of them are drawn.
+GUESTS = ("#77aadd", "#eedd88", "#99ddbb", "#ffaabb", "#bbccee", "#ee8866", "#aaaa00", "#dddddd")
+BUDGET = {"color": "#cc0022", "linewidth": 1.6}
+PROMISED = {"color": "#444444", "linewidth": 1.2, "linestyle": (0, (1, 2))}
+
+# Seconds for which a picture has one point: that where the host held most.
+POINT_EVERY = 0.2
+
+
+def thinned(samples):
+    """Returns the sample of each interval where the host held most."""
+    found = {}
+    for it in samples:
+        interval = int(it.seconds / POINT_EVERY)
+        if interval not in found or sum(found[interval].held) < sum(it.held):
+            found[interval] = it
+    return list(found.values())
+
+
+def draw_held(axes, samples, budget, promised):
+    """Draws what each guest holds, one above the other, with the budget and what was promised as lines."""
+    seconds = [it.seconds for it in samples]
+    below = [0.0] * len(samples)
+    for number in range(len(samples[0].held)):
+        above = [low + it.held[number] for low, it in zip(below, samples)]
+        axes.fill_between(seconds, below, above, step="post", color=GUESTS[number % len(GUESTS)], linewidth=0)
+        below = above
+    axes.plot(seconds, below, drawstyle="steps-post", color="#333333", linewidth=0.8)
+    axes.axhline(budget, **BUDGET)
+    axes.axhline(promised, **PROMISED)
+    axes.set(ylabel="MiB on the host", ylim=(0, promised * 1.05))
+
+
+def draw_targets(axes, samples):
+    """Draws the target of each guest."""
+    seconds = [it.seconds for it in samples]
+    for number in range(len(samples[0].targets)):
+        targets = [it.targets[number] for it in samples]
+        axes.plot(seconds, targets, drawstyle="steps-post", color=GUESTS[number % len(GUESTS)], linewidth=1.8)
+    axes.set(ylabel="target, MiB", xlabel="seconds")
+    axes.set_ylim(bottom=0)
+
+
+def explain(library, axes, names):
+    """Puts the legend beside the panels."""
+    area, line = library.patches.Patch, library.lines.Line2D
+    handles = [line([], [], label="promised to all", **PROMISED), line([], [], label="the host's budget", **BUDGET)]
+    handles.append(line([], [], label="held for all", color="#333333", linewidth=0.8))
+    handles += [area(color=GUESTS[it % len(GUESTS)], label=name) for it, name in reversed(list(enumerate(names)))]
+    axes.legend(handles=handles, loc="upper left", bbox_to_anchor=(1.01, 1.02), borderaxespad=0, frameon=False)
+
+
+def draw(library, path, names, budget, promised, samples):
+    """Draws the picture, and saves it as what its name says."""
+    points = thinned(samples)
+    if len(points) < 2:
+        raise Fault("the run is too short for a picture")
+    figure = library.figure.Figure(figsize=(10, 5.2))
+    above, below = figure.subplots(2, 1, sharex=True, gridspec_kw={"height_ratios": (5, 2)})
+    figure.subplots_adjust(left=0.07, right=0.84, top=0.97, bottom=0.09, hspace=0.08)
+    draw_held(above, points, budget, promised)
+    draw_targets(below, points)
+    above.set_xlim(points[0].seconds, points[-1].seconds)
+    explain(library, above, names)
+    figure.savefig(path, dpi=120, metadata={"Date": None} if path.endswith(".svg") else None)
+    print(f"drawn: {os.path.relpath(path)}")

@@ -1,0 +1,171 @@
+"""A vhost-user client that isn't Linux: it has memory of its own, with a hole in it, and writes into its rings whatever is
+wanted."""
+
+import array
+import os
+import select
+import socket
+import struct
+
+PAGE = 4096
+PAGES_OF_REGION = 64
+
+# Two regions with a hole between them: where they stand in the guest and in the client.
+REGIONS = ((0x100000, 0x7F0000000000), (0x180000, 0x7F1000000000))
+
+GET_FEATURES, SET_FEATURES, SET_OWNER, SET_MEM_TABLE, SET_VRING_NUM, SET_VRING_ADDR, SET_VRING_BASE = 1, 2, 3, 5, 8, 9, 10
+GET_PROTOCOL_FEATURES, SET_PROTOCOL_FEATURES, GET_QUEUE_NUM, SET_VRING_ENABLE, SET_BACKEND_REQ_FD = 15, 16, 17, 18, 21
+GET_CONFIG, SET_CONFIG, VRING_KICK = 24, 25, 35
+CONFIG_CHANGED, VRING_CALL = 2, 4
+
+FEATURES = 0x100000027
+INFLATE, DEFLATE, STATISTICS, REPORT = range(4)
+NEXT, WRITE, INDIRECT = 1, 2, 4
+
+# Each queue has a size of 8 and three pages of a region; buffers begin at page 16 of the first.
+SIZE = 8
+BUFFERS = REGIONS[0][0] + 16 * PAGE
+
+LIMIT = 20
+
+
+class Client:
+    """A vhost-user client with memory; `why` says what its backend said last."""
+
+    def __init__(self, path, why=lambda: ""):
+        self.why = why
+        self.socket = socket.socket(socket.AF_UNIX, socket.SOCK_STREAM)
+        self.socket.connect(path)
+        self.socket.settimeout(LIMIT)
+        self.files = [os.memfd_create(f"region {it}") for it in range(len(REGIONS))]
+        for it in self.files:
+            os.write(it, b"\xff" * PAGES_OF_REGION * PAGE)
+        self.own, self.theirs = socket.socketpair()
+        self.available = [0] * 4
+        self.region = 0  # where the rings are
+
+    def leave(self):
+        """Goes, and lets go of all that it had."""
+        self.socket.close(), self.own.close(), self.theirs.close()
+        for it in self.files:
+            os.close(it)
+
+    def receive(self, stream=None):
+        """Returns the request and the body of the next message; None where there is none any more."""
+        stream = stream or self.socket
+        stream.settimeout(LIMIT)
+        head = stream.recv(12, socket.MSG_WAITALL)
+        if len(head) < 12:
+            return None
+        request, _, size = struct.unpack("<III", head)
+        return request, stream.recv(size, socket.MSG_WAITALL) if size else b""
+
+    def send(self, request, body=b"", files=(), flags=9):
+        """Sends a message, and returns the body of the answer where one is wanted."""
+        control = [(socket.SOL_SOCKET, socket.SCM_RIGHTS, array.array("i", files))] if files else []
+        self.socket.sendmsg([struct.pack("<III", request, flags, len(body)) + body], control)
+        if not flags & 8:
+            return None
+        answer = self.receive()
+        return answer and answer[1]
+
+    def accepted(self, request, body=b"", files=()):
+        """Sends a message that has to be accepted."""
+        answer = self.send(request, body, files)
+        if answer != bytes(8):
+            raise AssertionError(f"message {request} is answered {answer}: {self.why()}")
+
+    def write(self, address, data):
+        """Writes bytes of the guest."""
+        for (guest, _), file in zip(REGIONS, self.files):
+            if guest <= address < guest + PAGES_OF_REGION * PAGE:
+                os.pwrite(file, data, address - guest)
+
+    def read(self, address, length):
+        """Reads bytes of the guest."""
+        for (guest, _), file in zip(REGIONS, self.files):
+            if guest <= address < guest + PAGES_OF_REGION * PAGE:
+                return os.pread(file, length, address - guest)
+        raise AssertionError(f"{address:x} is in a hole")
+
+    def holes(self):
+        """Returns the numbers of the guest's pages that the host doesn't hold."""
+        found = []
+        for (guest, _), file in zip(REGIONS, self.files):
+            for page in range(PAGES_OF_REGION):
+                if os.lseek(file, page * PAGE, os.SEEK_HOLE) == page * PAGE:
+                    found.append(guest // PAGE + page)
+        return found
+
+    def hand_over_memory(self):
+        """Tells the backend of the memory."""
+        table = struct.pack("<II", len(REGIONS), 0)
+        for guest, user in REGIONS:
+            table += struct.pack("<QQQQ", guest, PAGES_OF_REGION * PAGE, user, 0)
+        self.accepted(SET_MEM_TABLE, table, self.files)
+
+    def place(self, number, size=SIZE, base=0, shift=0):
+        """Gives a queue a place, in the client's addresses, and clears its rings."""
+        at = 3 * number * PAGE
+        self.write(self.table(number), bytes(3 * PAGE))
+        self.available[number] = 0
+        user = REGIONS[self.region][1] + at + shift
+        self.accepted(SET_VRING_NUM, struct.pack("<II", number, size))
+        self.accepted(SET_VRING_BASE, struct.pack("<II", number, base))
+        self.accepted(SET_VRING_ADDR, struct.pack("<IIQQQQ", number, 0, user, user + 2 * PAGE, user + PAGE, 0))
+
+    def enable(self, number, on=1):
+        """Enables a queue, or disables it."""
+        return self.send(SET_VRING_ENABLE, struct.pack("<II", number, on))
+
+    def start(self, features=FEATURES, queues=4):
+        """Does what virtio_uml and its driver do until the device is ready."""
+        self.send(SET_OWNER, flags=1)
+        self.accepted(SET_PROTOCOL_FEATURES, struct.pack("<Q", 0x4228))
+        self.accepted(SET_BACKEND_REQ_FD, files=[self.theirs.fileno()])
+        self.accepted(SET_FEATURES, struct.pack("<Q", features | 1 << 30))
+        self.hand_over_memory()
+        for number in range(queues):
+            self.place(number)
+        for number in range(queues):
+            if self.enable(number) != bytes(8):
+                raise AssertionError(self.why())
+
+    def table(self, number):
+        """Returns where a queue's table is."""
+        return REGIONS[self.region][0] + 3 * number * PAGE
+
+    def describe(self, number, head, address, length, flags=0, follows=0):
+        """Writes a descriptor."""
+        self.write(self.table(number) + 16 * head, struct.pack("<QIHH", address, length, flags, follows))
+
+    def publish(self, number, head, by=1):
+        """Makes a chain available."""
+        at = self.table(number) + PAGE
+        self.write(at + 4 + 2 * (self.available[number] % SIZE), struct.pack("<H", head))
+        self.available[number] += by
+        self.write(at + 2, struct.pack("<H", self.available[number] & 0xFFFF))
+
+    def kick(self, number):
+        """Kicks a queue; the answer comes before anything is served."""
+        return self.send(VRING_KICK, struct.pack("<II", number, 0))
+
+    def post_pages(self, number, pages, head=0):
+        """Posts a request with these page numbers, and kicks."""
+        self.write(BUFFERS, struct.pack(f"<{len(pages)}I", *pages))
+        self.describe(number, head, BUFFERS, 4 * len(pages))
+        self.publish(number, head)
+        return self.kick(number)
+
+    def used(self, number):
+        """Returns the used index, and the entries that stand there."""
+        at = self.table(number) + 2 * PAGE
+        (index,) = struct.unpack("<H", self.read(at + 2, 2))
+        return index, [struct.unpack("<II", self.read(at + 4 + 8 * (it % SIZE), 8)) for it in range(index)]
+
+    def told(self, limit=LIMIT):
+        """Returns the next thing that the backend tells: a queue's number, or None for the configuration."""
+        if not select.select([self.own], [], [], limit)[0]:
+            raise AssertionError(f"the backend tells nothing: {self.why()}")
+        request, body = self.receive(self.own)
+        return struct.unpack("<I", body[:4])[0] if request == VRING_CALL else None
