@@ -1,0 +1,9 @@
+pub mod RegionLemmas
+pub mod PartLemmas
+pub mod NextLemmas
+pub mod GoesLemmas
+pub mod GivenLemmas
+pub mod EachLemmas
+pub mod TouchLemmas
+mod RegionFacts
+mod NoticeFacts

@@ -1,0 +1,87 @@
+-- What is still to come, where a number counts down or a list gets shorter.
+use Rattle.std.proofs.Common.{◌≡◌, ◌∙◌, ap, sym, subst, refl, arith, ℕ, zero, suc, ◌+◌, ◌-◌, ◌<◌, ◌≤◌, ◌*◌, Bool, true, false, List, [], ◌∷◌, ◌++◌, Option, None}
+use Rattle.std.specs.Prelude.{◌==◌}
+use Rattle.vb_chain.specs.declared.pieces.Piece.{Piece}
+use Rattle.vb_chain.specs.declared.fault.ChainFault.TheVariants.{TooLong}
+use Rattle.vb_core.specs.declared.device.Device.{Device}
+use Rattle.vb_core.specs.Devices.{ring_of, queue_denial}
+use Rattle.vb_monitor.specs.declared.outcome.Tally.{Tally}
+use Rattle.vb_monitor.specs.declared.parts.Part.{Part}
+use Rattle.vb_monitor.specs.Accesses.{Access}
+use Rattle.vb_monitor.specs.Regions.{spot}
+use Rattle.vb_monitor.specs.Ends.{Whole, Ends, Breaks}
+use Rattle.vb_monitor.specs.Pieces.{PartBy, fits_behind, CopiesParts}
+use Rattle.vb_monitor.specs.Chains.{DescriptorAt, Follows}
+use Rattle.vb_monitor.specs.Notices.{Takes, TakesNext, TakesUnlessSpent, AfterGiven, Looks, LooksBy, with_chains}
+use Rattle.vb_monitor.specs.Machine.{next_chain}
+use Rattle.vb_monitor.proofs.PartLemmas.{second_here, second_none, behind_end}
+
+-- the budget, one chain less
+takes_by : (m : ℕ) (w : Whole) (d : Device) (t : Tally) (log : List Access) (spent : Bool) →
+    (t.pages == 0) ≡ spent →
+    TakesUnlessSpent spent w (AfterGiven w.kind w (Looks m w)) d (with_chains m t) log →
+    TakesNext (suc m) w d t log
+takes_by m w d t log spent e h =
+    subst (λ (b : Bool). TakesUnlessSpent b w (AfterGiven w.kind w (Looks m w)) d (with_chains m t)
+    log) (sym e) h
+
+pub takes_next : (n : ℕ) (w : Whole) (d : Device) (t : Tally) (log : List Access) → 0 < n →
+    (t.pages == 0) ≡ false →
+    Takes w (next_chain w (with_chains (n - 1) t)) d (with_chains (n - 1) t) log →
+    TakesNext n w d t log
+takes_next n w d t log some e h =
+    let is : suc (n - 1) ≡ n = omega (arith, some) in
+    subst (λ (k : ℕ). TakesNext k w d t log) is (takes_by (n - 1) w d t log false e h)
+
+pub takes_spent : (n : ℕ) (w : Whole) (d : Device) (t : Tally) (log : List Access) → 0 < n →
+    (t.pages == 0) ≡ true → Ends w d (with_chains (n - 1) t) None true log →
+    TakesNext n w d t log
+takes_spent n w d t log some e h =
+    let is : suc (n - 1) ≡ n = omega (arith, some) in
+    subst (λ (k : ℕ). TakesNext k w d t log) is (takes_by (n - 1) w d t log true e h)
+
+-- a table's descriptors, one less
+pub follows_next : (q k : ℕ) (w : Whole) (d : Device) (t : Tally)
+    (whole : List Piece → List Access → Type 0) (number : ℕ) (writing : Bool) (pieces : List Piece)
+    (log : List Access) → k < q →
+    DescriptorAt w d t (Follows (q - (k + 1)) w d t whole) whole writing pieces
+    (spot w.regions ((ring_of w.kind d).table + 16 * number) 16) log →
+    Follows (q - k) w d t whole number writing pieces log
+follows_next q k w d t whole number writing pieces log lt h =
+    let is : suc (q - (k + 1)) ≡ q - k = omega (arith, lt) in
+    subst (λ (n : ℕ). Follows n w d t whole number writing pieces log) is h
+
+pub follows_none : (q k : ℕ) (w : Whole) (d : Device) (t : Tally)
+    (whole : List Piece → List Access → Type 0) (number : ℕ) (writing : Bool) (pieces : List Piece)
+    (log : List Access) → q ≤ k → Breaks w d t TooLong log →
+    Follows (q - k) w d t whole number writing pieces log
+follows_none q k w d t whole number writing pieces log le h =
+    let is : zero ≡ q - k = omega (arith, le) in
+    subst (λ (n : ℕ). Follows n w d t whole number writing pieces log) is h
+
+-- parts, one less
+pub copies_none : (w : Whole) (served : List ℕ → List Access → Type 0) (d : Device) (t : Tally)
+    (parts : List Part) (so_far : List ℕ) (log : List Access) → parts ≡ [] → served so_far log →
+    CopiesParts w served d t parts so_far log
+copies_none w served d t parts so_far log e h =
+    subst (λ (ps : List Part). CopiesParts w served d t ps so_far log) (sym e) h
+
+pub copies_more : (w : Whole) (served : List ℕ → List Access → Type 0) (d : Device) (t : Tally)
+    (parts rest : List Part) (part : Part) (so_far : List ℕ) (log : List Access) →
+    parts ≡ part ∷ rest →
+    PartBy (fits_behind so_far part) w (CopiesParts w served d t rest) d t part so_far log →
+    CopiesParts w served d t parts so_far log
+copies_more w served d t parts rest part so_far log e h =
+    subst (λ (ps : List Part). CopiesParts w served d t ps so_far log) (sym e) h
+
+-- ---- for the functions that go on by them
+
+pub ruleset take_steps = (takes_next, takes_spent)
+
+pub ruleset follow_steps = (follows_next, follows_none)
+
+pub ruleset copy_steps = (copies_none, copies_more)
+
+pub ruleset second_steps = (second_here, second_none, copies_more)
+
+pub ruleset end_steps = (behind_end, copies_none)

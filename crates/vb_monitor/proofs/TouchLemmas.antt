@@ -1,0 +1,142 @@
+-- What is found lies within a region.
+use Rattle.std.proofs.Common.{◌≡◌, ◌∙◌, ap, sym, subst, refl, arith, ℕ, zero, suc, ◌+◌, ◌*◌, ◌-◌, ◌≤◌, ◌<◌, Bool, true, false, List, [], ◌∷◌, ◌++◌, length, map, Option, Some, None}
+use Rattle.std.specs.Prelude.{slice_get, if◌then◌else◌}
+use Rattle.std.proofs.lemmas.Bool.Decides.{nat_tests}
+use Rattle.vb_core.specs.declared.kinds.Kind.{Kind}
+use Rattle.vb_core.specs.declared.runs.Run.{Run}
+use Rattle.vb_core.specs.declared.device.Device.{Device}
+use Rattle.vb_monitor.specs.declared.regions.Region.{Region}
+use Rattle.vb_monitor.specs.declared.regions.Spot.{Spot}
+use Rattle.vb_monitor.specs.declared.cuts.Cut.{Cut}
+use Rattle.vb_monitor.specs.declared.outcome.Budget.{Budget}
+use Rattle.vb_monitor.specs.declared.outcome.Outcome.{Outcome}
+use Rattle.vb_monitor.specs.Accesses.{Access, Discard, CopyBytes}
+use Rattle.vb_monitor.specs.Regions.{is_region, holds, spot_from, spot, meets, cut_of, first_both, end_both, cuts_from, cuts_of}
+use Rattle.vb_monitor.specs.Ends.{Whole}
+use Rattle.vb_monitor.specs.Notices.{Serves, fresh}
+use Rattle.vb_monitor.specs.Touched.{IsWithin, Touches, Each}
+use Rattle.vb_monitor.proofs.GivenLemmas.{Allows}
+use Rattle.vb_monitor.proofs.EachLemmas.{looks_each}
+
+-- the bytes lie in the region that is so many behind the first one
+pub record IsIn (rs : List Region) (k offset len : ℕ) : Type 0 where
+  pub region : Region
+  pub there : slice_get rs k ≡ Some region
+  pub possible : is_region region ≡ true
+  pub inside : offset + len ≤ region.length
+
+abbrev Found : List Region → ℕ → ℕ → Spot → Type 0
+Found rs n len at = (k : ℕ) × ((at.region ≡ n + k) × IsIn rs k at.offset len)
+
+is_held : (r : Region) (a len : ℕ) → holds r a len ≡ true →
+    (is_region r ≡ true) × ((a - r.guest) + len ≤ r.length)
+is_held r a len h = (grind (arith, nat_tests), grind (arith, nat_tests))
+
+found_by : (r : Region) (rs : List Region) (n a len : ℕ) (at : Spot)
+    (behind : spot_from (n + 1) rs a len ≡ Some at → Found rs (n + 1) len at) (b : Bool) →
+    holds r a len ≡ b →
+    (if b then Some (record { region = n; offset = a - r.guest }) else spot_from (n + 1) rs a len) ≡
+    Some at → Found (r ∷ rs) n len at
+found_by r rs n a len at behind true e h =
+    let is : record { region = n; offset = a - r.guest } ≡ at = cc in
+    let held = is_held r a len e in
+    subst (λ (s : Spot). Found (r ∷ rs) n len s) is
+    (0, (omega arith, record { region = r; there = refl; possible = held.0; inside = held.1 }))
+found_by r rs n a len at behind false e h =
+    let x = behind h in (
+      suc x.0,
+      (
+        omega (arith, x.1.0),
+        record {
+          region = x.1.1.region;
+          there = x.1.1.there;
+          possible = x.1.1.possible;
+          inside = x.1.1.inside;
+        },
+      ),
+    )
+
+found : (rs : List Region) (n a len : ℕ) (at : Spot) → spot_from n rs a len ≡ Some at →
+    Found rs n len at
+found [] n a len at h = absurd cc
+found (r ∷ rs) n a len at h =
+    found_by r rs n a len at (λ e. found rs (n + 1) a len at e) (holds r a len) refl h
+
+pub within : (rs : List Region) (a len : ℕ) (at : Spot) → spot rs a len ≡ Some at →
+    IsWithin rs at.region at.offset len
+within rs a len at h =
+    let x = found rs 0 a len at h in
+    let is : x.0 ≡ at.region = omega (arith, x.1.0) in
+    subst (λ (k : ℕ). IsWithin rs k at.offset len) is (record {
+      region = x.1.1.region;
+      there = x.1.1.there;
+      possible = x.1.1.possible;
+      inside = x.1.1.inside;
+    })
+
+-- ---- parts of runs
+
+is_cut : (r : Region) (run : Run) (n : ℕ) → meets r run ≡ true →
+    (is_region r ≡ true) × ((cut_of n r run).offset + (cut_of n r run).length ≤ r.length)
+is_cut r run n h = (grind (arith, nat_tests), grind (arith, nat_tests))
+
+cuts_by : (all : List Region) (r : Region) (rs : List Region) (n : ℕ) (run : Run) (b : Bool) →
+    meets r run ≡ b → slice_get all n ≡ Some r →
+    Each (Touches all) (map Discard (cuts_from (n + 1) rs run)) →
+    Each (Touches all) (map Discard
+    (if b then cut_of n r run ∷ cuts_from (n + 1) rs run else cuts_from (n + 1) rs run))
+cuts_by all r rs n run true e there rest =
+    let is = is_cut r run n e in
+    (record { region = r; there = there; possible = is.0; inside = is.1 }, rest)
+cuts_by all r rs n run false e there rest = rest
+
+cuts_within : (all rs : List Region) (n : ℕ) (run : Run) →
+    ((k : ℕ) (r : Region) → slice_get rs k ≡ Some r → slice_get all (n + k) ≡ Some r) →
+    Each (Touches all) (map Discard (cuts_from n rs run))
+cuts_within all [] n run inside = tt
+cuts_within all (r ∷ rs) n run inside =
+    let zero_on : n + 0 ≡ n = omega arith in
+    cuts_by all r rs n run (meets r run) refl
+    (subst (λ (k : ℕ). slice_get all k ≡ Some r) zero_on (inside 0 r refl))
+    (cuts_within all rs (n + 1) run (λ k s e.
+    let on : n + suc k ≡ n + 1 + k = omega arith in
+    subst (λ (j : ℕ). slice_get all j ≡ Some s) on (inside (suc k) s e)))
+
+append_map : (q : Access → Type 0) (xs ys : List Cut) → Each q (map Discard xs) →
+    Each q (map Discard ys) → Each q (map Discard (xs ++ ys))
+append_map q [] ys a b = b
+append_map q (x ∷ xs) ys a b = (a.0, append_map q xs ys a.1 b)
+
+runs_within : (all : List Region) (runs : List Run) →
+    Each (Touches all) (map Discard (cuts_of all runs))
+runs_within all [] = tt
+runs_within all (run ∷ runs) =
+    append_map (Touches all) (cuts_from 0 all run) (cuts_of all runs)
+    (cuts_within all all 0 run (λ k r e.
+    let on : k ≡ 0 + k = omega arith in subst (λ (j : ℕ). slice_get all j ≡ Some r) on e))
+    (runs_within all runs)
+
+-- ---- the whole
+
+allowed : (w : Whole) → Allows w (Touches w.regions)
+allowed w = record {
+  word = λ a at answer e. within w.regions a 2 at e;
+  copy = λ a len at bytes e long.
+      subst (λ (n : ℕ). IsWithin w.regions at.region at.offset n) (sym long)
+      (within w.regions a len at e);
+  acquire = tt;
+  release = tt;
+  full = tt;
+  pages = λ runs. tt;
+  figures = λ figures. tt;
+  discards = λ runs. runs_within w.regions runs;
+  number = λ a at n e. within w.regions a 4 at e;
+  index = λ a at n e. within w.regions a 2 at e;
+}
+
+pub touched : (regions : List Region) (kind : Kind) (budget : Budget) (d1 d2 : Device)
+    (outcome : Outcome) (log : List Access) → Serves regions kind budget d1 d2 outcome log →
+    Each (Touches regions) log
+touched regions kind budget d1 d2 outcome log h =
+    let w : Whole = record { regions = regions; kind = kind; device = d2; outcome = outcome } in
+    looks_each budget.chains w (Touches regions) (allowed w) d1 (fresh budget) log h

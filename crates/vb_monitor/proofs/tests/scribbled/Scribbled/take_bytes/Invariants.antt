@@ -1,0 +1,5 @@
+use Rattle.std.proofs.Common.{◌≡◌}
+use Rattle.vb_monitor.proofs.tests.scribbled.Scribbled.take_bytes.Given as goal
+
+abbrev pub invariant-loop-k : goal.invariant-loop-k
+invariant-loop-k g l = l.self.trace ≡ l.fn.self.trace

@@ -1,0 +1,27 @@
+-- What is asked of a running guest's memory, and of who watches it, with what was answered.
+use Rattle.std.specs.Prelude.{◌≡◌, ℕ, List, ◌++◌}
+use Rattle.vb_core.specs.declared.kinds.Kind.{Kind}
+use Rattle.vb_core.specs.declared.runs.Run.{Run}
+use Rattle.vb_core.specs.declared.statistics.Statistic.{Statistic}
+use Rattle.vb_monitor.specs.declared.regions.Spot.{Spot}
+use Rattle.vb_monitor.specs.declared.cuts.Cut.{Cut}
+
+-- An access. Memory is the guest's to write at any moment, so two reads of a place may answer
+-- differently.
+pub data Access : Type 0 where
+  ReadWord : (at : Spot) (answer : ℕ) → Access
+  CopyBytes : (at : Spot) (answer : List ℕ) → Access
+  Acquire : Access
+  Release : Access
+  Full : Access
+  TellPages : (kind : Kind) (runs : List Run) → Access
+  TellFigures : (figures : List Statistic) → Access
+  Discard : (cut : Cut) → Access
+  WriteNumber : (at : Spot) (number : ℕ) → Access
+  WriteWord : (at : Spot) (word : ℕ) → Access
+
+-- To a log, accesses were added at its end, and of these a fact holds.
+pub record Adds (old new : List Access) (fact : List Access → Type 0) : Type 0 where
+  pub added : List Access
+  pub whole : new ≡ old ++ added
+  pub is : fact added

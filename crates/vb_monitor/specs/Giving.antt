@@ -1,0 +1,111 @@
+-- What is done for a chain whose pages or figures are known: they are told, pages that were given
+-- up are discarded, and then the chain is given back (VIRTIO 1.1, 2.6.8 and 5.5.6).
+use Rattle.std.specs.Prelude.{◌≡◌, ℕ, ◌+◌, ◌-◌, true, false, List, [], ◌∷◌, ◌++◌, map, take}
+use Rattle.std.specs.Prelude.{Option, Some, None, Result, Ok, Err}
+use Rattle.vb_chain.specs.declared.fault.ChainFault.TheVariants.{OutOfRam}
+use Rattle.vb_core.specs.declared.kinds.Kind.{Kind}
+use Rattle.vb_core.specs.declared.kinds.Kind.TheVariants.{Inflate, Deflate, Statistics, Report}
+use Rattle.vb_core.specs.declared.runs.Run.{Run}
+use Rattle.vb_core.specs.declared.name.Named.{Named}
+use Rattle.vb_core.specs.declared.ring.UsedEntry.{UsedEntry}
+use Rattle.vb_core.specs.declared.device.Denial.{Denial}
+use Rattle.vb_core.specs.declared.device.Device.{Device}
+use Rattle.vb_core.specs.Rings.{used_entry, with_used}
+use Rattle.vb_core.specs.Devices.{ring_of, with_ring}
+use Rattle.vb_core.specs.Using.{use_denial}
+use Rattle.vb_monitor.specs.declared.regions.Region.{Region}
+use Rattle.vb_monitor.specs.declared.regions.Spot.{Spot}
+use Rattle.vb_monitor.specs.declared.cuts.Cut.{Cut}
+use Rattle.vb_monitor.specs.declared.giving.UsedSpots.{UsedSpots}
+use Rattle.vb_monitor.specs.declared.outcome.Tally.{Tally}
+use Rattle.vb_monitor.specs.Accesses.{Access, TellPages, Discard, WriteNumber, Release, WriteWord}
+use Rattle.vb_monitor.specs.Regions.{spot, cuts_of}
+use Rattle.vb_monitor.specs.Ends.{Whole, Ends, Breaks}
+
+-- What comes once a chain is given back.
+abbrev pub Then : Type 1
+Then = Device → Tally → List Access → Type 0
+
+-- ---- the used element
+
+abbrev pub three_spots : Option Spot → Option Spot → Option Spot → Option UsedSpots
+three_spots (Some id) (Some length) (Some index) =
+    Some (record { id = id; length = length; index = index })
+three_spots (Some id) (Some length) None = None
+three_spots (Some id) None index = None
+three_spots None length index = None
+
+-- Where the two numbers of a used element go, and its index, where these are guest memory.
+abbrev pub used_spots : List Region → UsedEntry → Option UsedSpots
+used_spots regions e =
+    three_spots (spot regions e.element_at 4) (spot regions (e.element_at + 4) 4)
+    (spot regions e.index_at 2)
+
+-- The element, and behind a fence its index.
+abbrev pub used_accesses : UsedSpots → UsedEntry → List Access
+used_accesses s e =
+    WriteNumber s.id e.id ∷ WriteNumber s.length e.length ∷ Release ∷ WriteWord s.index e.index ∷ []
+
+pub record WritesUsed (next : List Access → Type 0) (s : UsedSpots) (e : UsedEntry)
+    (log : List Access) : Type 0 where
+  pub rest : List Access
+  pub asks : log ≡ used_accesses s e ++ rest
+  pub goes_on : next rest
+
+abbrev pub UsedAt : Whole → (List Access → Type 0) → Device → Tally → UsedEntry →
+    Option UsedSpots → List Access → Type 0
+UsedAt w next d tally e None log = Breaks w d tally OutOfRam log
+UsedAt w next d tally e (Some s) log = WritesUsed next s e log
+
+abbrev pub with_given : Tally → Tally
+with_given tally = record tally { given = true }
+
+-- The device after the use of a chain.
+abbrev pub after_use : Kind → Device → Device
+after_use kind d = with_ring kind (with_used (ring_of kind d)) d
+
+abbrev pub GivesBackBy : Option Denial → Whole → Then → Device → Tally → ℕ → List Access → Type 0
+GivesBackBy (Some why) w next d tally head log = Ends w d tally (Some why) false log
+GivesBackBy None w next d tally head log =
+    UsedAt w (next (after_use w.kind d) (with_given tally)) (after_use w.kind d) tally
+    (used_entry (ring_of w.kind d) head)
+    (used_spots w.regions (used_entry (ring_of w.kind d) head)) log
+
+-- The chain of this head is given back.
+abbrev pub GivesBack : Whole → Then → Device → Tally → ℕ → List Access → Type 0
+GivesBack w next d tally head log =
+    GivesBackBy (use_denial w.kind head d) w next d tally head log
+
+-- ---- discards
+
+-- What is to be discarded, of a kind's runs: what a deflate asks back isn't.
+abbrev pub cuts_for : Kind → List Region → List Run → List Cut
+cuts_for Inflate regions runs = cuts_of regions runs
+cuts_for Deflate regions runs = []
+cuts_for Statistics regions runs = []
+cuts_for Report regions runs = cuts_of regions runs
+
+-- These parts are discarded, in order, and then the chain is given back.
+pub record DiscardsThen (w : Whole) (next : Then) (d : Device) (tally : Tally) (head : ℕ)
+    (cuts : List Cut) (log : List Access) : Type 0 where
+  pub rest : List Access
+  pub asks : log ≡ map Discard cuts ++ rest
+  pub gives_back : GivesBack w next d tally head rest
+
+-- The pages are told, then discarded.
+pub record TellsThen (w : Whole) (next : Then) (d : Device) (tally : Tally) (head : ℕ)
+    (runs : List Run) (log : List Access) : Type 0 where
+  pub rest : List Access
+  pub asks : log ≡ TellPages w.kind runs ∷ rest
+  pub discards : DiscardsThen w next d tally head (cuts_for w.kind w.regions runs) rest
+
+-- So many pages fewer may be named yet.
+abbrev pub spent : ℕ → Tally → Tally
+spent pages tally = record tally { pages = tally.pages - pages }
+
+-- What was named is served, or the notice ends.
+abbrev pub AfterName : Whole → Then → Device → Tally → ℕ → List Run → Result Named Denial →
+    List Access → Type 0
+AfterName w next d tally head runs (Err why) log = Ends w d tally (Some why) false log
+AfterName w next d tally head runs (Ok named) log =
+    TellsThen w next d (spent named.pages tally) head (take named.runs runs) log

@@ -1,0 +1,10 @@
+pub mod Regions
+pub mod Accesses
+pub mod Ends
+pub mod Giving
+pub mod Pieces
+pub mod Chains
+pub mod Notices
+pub mod Machine
+pub mod Touched
+pub mod Balloons

@@ -1,0 +1,182 @@
+-- A notice step by step: which accesses may still come.
+use Rattle.std.specs.Prelude.{◌≡◌, ℕ, ◌+◌, ◌-◌, ◌≤◌, Bool, true, false, List, [], ◌∷◌, ◌++◌}
+use Rattle.std.specs.Prelude.{length, take}
+use Rattle.std.specs.Prelude.{drop, if◌then◌else◌, None}
+use Rattle.vb_chain.specs.declared.descriptor.TheConstants.{DESCRIPTOR_SIZE}
+use Rattle.vb_chain.specs.declared.pieces.Piece.{Piece}
+use Rattle.vb_core.specs.declared.kinds.Kind.{Kind}
+use Rattle.vb_core.specs.declared.runs.Run.{Run}
+use Rattle.vb_core.specs.declared.statistics.Statistic.{Statistic}
+use Rattle.vb_core.specs.declared.device.Device.{Device}
+use Rattle.vb_core.specs.Devices.{ring_of}
+use Rattle.vb_monitor.specs.declared.room.TheConstants.{MAX_BYTES}
+use Rattle.vb_monitor.specs.declared.regions.Region.{Region}
+use Rattle.vb_monitor.specs.declared.cuts.Cut.{Cut}
+use Rattle.vb_monitor.specs.declared.parts.Part.{Part}
+use Rattle.vb_monitor.specs.declared.outcome.Tally.{Tally}
+use Rattle.vb_monitor.specs.declared.outcome.Outcome.{Outcome}
+use Rattle.vb_monitor.specs.declared.regions.Spot.{Spot}
+use Rattle.vb_monitor.specs.declared.step.Step.{Step}
+use Rattle.vb_monitor.specs.declared.step.Phase.{Phase}
+use Rattle.vb_monitor.specs.declared.step.Phase.TheVariants.{AwaitsIndex, AwaitsEntry}
+use Rattle.vb_monitor.specs.declared.step.Phase.TheVariants.{AwaitsDescriptor, AwaitsPart}
+use Rattle.vb_monitor.specs.declared.step.Phase.TheVariants.{TellsPages, TellsFigures, Discards}
+use Rattle.vb_monitor.specs.declared.step.Phase.TheVariants.{GivesBack, AwaitsFlags, Ended}
+use Rattle.vb_monitor.specs.Accesses.{Access, Adds, ReadWord, CopyBytes, Acquire, Full}
+use Rattle.vb_monitor.specs.Accesses.{TellPages as ToldPages, TellFigures as ToldFigures}
+use Rattle.vb_monitor.specs.Accesses.{Discard}
+use Rattle.vb_monitor.specs.Regions.{cuts_from, cuts_of}
+use Rattle.vb_monitor.specs.Ends.{Whole, AsksFlags}
+use Rattle.vb_monitor.specs.Giving.{Then, used_accesses, with_given, WritesUsed, DiscardsThen}
+use Rattle.vb_monitor.specs.Giving.{TellsThen}
+use Rattle.vb_monitor.specs.Pieces.{second_part, unless_empty, all_parts, AsksPart, CopiesParts}
+use Rattle.vb_monitor.specs.Chains.{descriptors, AsksDescriptor, Follows, ServesPieces, AfterBytes}
+use Rattle.vb_monitor.specs.Chains.{TellsThenEnds}
+use Rattle.vb_monitor.specs.Notices.{AsksIndex, AsksEntry, TakesNext, Looks, AfterGiven}
+
+-- What stands in the room that a notice has.
+pub record Room : Type 0 where
+  pub pieces : List Piece
+  pub bytes : List ℕ
+  pub runs : List Run
+  pub figures : List Statistic
+
+abbrev pub whole : List Region → Kind → Device → Outcome → Whole
+whole regions kind after outcome =
+    record { regions = regions; kind = kind; device = after; outcome = outcome }
+
+abbrev pub room_of : List Piece → List ℕ → List Run → List Statistic → Room
+room_of pieces bytes runs figures =
+    record { pieces = pieces; bytes = bytes; runs = runs; figures = figures }
+
+-- ---- what is left
+
+-- The second part of the first of these pieces.
+abbrev pub seconds : List Piece → List Part
+seconds [] = []
+seconds (p ∷ ps) = unless_empty (second_part p)
+
+-- The parts behind one of a piece's two: those behind its second one, or behind its first.
+abbrev pub behind_part : Bool → ℕ → List Piece → List Part
+behind_part is_second piece pieces =
+    (if is_second then [] else seconds (drop piece pieces)) ++ all_parts (drop (piece + 1) pieces)
+
+-- The parts of the first of these runs in the regions from this number on.
+abbrev pub cuts_on : List Region → ℕ → List Run → List Cut
+cuts_on regions from [] = []
+cuts_on regions from (run ∷ runs) = cuts_from from (drop from regions) run
+
+-- The parts of one run in the regions from this number on, and those of the runs behind it.
+abbrev pub cuts_behind : ℕ → ℕ → List Region → List Run → List Cut
+cuts_behind from run regions runs =
+    cuts_on regions from (drop run runs) ++ cuts_of regions (drop (run + 1) runs)
+
+-- Nothing is to be done.
+abbrev pub is_ended : Phase → Bool
+is_ended (Ended outcome) = true
+is_ended (AwaitsIndex at) = false
+is_ended (AwaitsEntry at) = false
+is_ended (AwaitsDescriptor at walk) = false
+is_ended (AwaitsPart at place) = false
+is_ended (TellsPages head named) = false
+is_ended (TellsFigures head count) = false
+is_ended (Discards cut x) = false
+is_ended (GivesBack spots entry) = false
+is_ended (AwaitsFlags at why more) = false
+
+-- The bytes that are to be copied have room.
+abbrev pub Fits : Phase → Type 0
+Fits (AwaitsPart at place) = place.into + place.length ≤ MAX_BYTES
+Fits (AwaitsIndex at) = Unit {0}
+Fits (AwaitsEntry at) = Unit {0}
+Fits (AwaitsDescriptor at walk) = Unit {0}
+Fits (TellsPages head named) = Unit {0}
+Fits (TellsFigures head count) = Unit {0}
+Fits (Discards cut x) = Unit {0}
+Fits (GivesBack spots entry) = Unit {0}
+Fits (AwaitsFlags at why more) = Unit {0}
+Fits (Ended outcome) = Unit {0}
+
+-- ---- what may still come
+
+-- What comes once the chain that is being served was given back.
+abbrev pub next_chain : Whole → Tally → Then
+next_chain w tally = AfterGiven w.kind w (Looks tally.chains w)
+
+abbrev pub serves : Whole → Tally → Device → ℕ → List Piece → List Access → Type 0
+serves w tally d head pieces log =
+    ServesPieces w.kind w (next_chain w tally) d tally head pieces log
+
+abbrev pub served : Whole → Tally → Device → ℕ → List ℕ → List Access → Type 0
+served w tally d head bytes log = AfterBytes w.kind w (next_chain w tally) d tally head bytes log
+
+-- Nothing is to come.
+pub record IsOver (w : Whole) (outcome : Outcome) (d : Device) (log : List Access) : Type 0 where
+  pub nothing : log ≡ []
+  pub device : w.device ≡ d
+  pub is : w.outcome ≡ outcome
+
+-- These accesses may come, where this is to be done next.
+abbrev pub AheadAt : Phase → Whole → Tally → Device → Room → List Access → Type 0
+AheadAt (AwaitsIndex at) w tally d room log =
+    AsksIndex w (TakesNext tally.chains w d tally) d tally at log
+AheadAt (AwaitsEntry at) w tally d room log = AsksEntry w (next_chain w tally) d tally at log
+AheadAt (AwaitsDescriptor at walk) w tally d room log =
+    AsksDescriptor w d tally
+    (Follows (descriptors (ring_of w.kind d) - (walk.count + 1)) w d tally
+    (serves w tally d walk.head)) (serves w tally d walk.head) walk.writing
+    (take walk.count room.pieces) at log
+AheadAt (AwaitsPart at place) w tally d room log =
+    AsksPart (CopiesParts w (served w tally d place.head) d tally
+    (behind_part place.is_second place.piece (take place.count room.pieces))) place.length
+    (take place.into room.bytes) at log
+AheadAt (TellsPages head named) w tally d room log =
+    TellsThen w (next_chain w tally) d tally head (take named.runs room.runs) log
+AheadAt (TellsFigures head count) w tally d room log =
+    TellsThenEnds w d tally (take count room.figures) log
+AheadAt (Discards cut x) w tally d room log =
+    DiscardsThen w (next_chain w tally) d tally x.head
+    (cut ∷ cuts_behind x.from x.run w.regions (take x.runs room.runs)) log
+AheadAt (GivesBack spots entry) w tally d room log =
+    WritesUsed (next_chain w tally d (with_given tally)) spots entry log
+AheadAt (AwaitsFlags at why more) w tally d room log = AsksFlags w d tally why more at log
+AheadAt (Ended outcome) w tally d room log = IsOver w outcome d log
+
+abbrev pub Ahead : Whole → Step → Device → Room → List Access → Type 0
+Ahead w step d room log = AheadAt step.phase w step.tally d room log
+
+-- ---- what was done
+
+-- So many bytes were copied behind the first ones, so many; the room's bytes were others before.
+pub record Copies (at : Spot) (from len : ℕ) (before now : List ℕ) (done : List Access) :
+    Type 0 where
+  pub bytes : List ℕ
+  pub asks : done ≡ CopyBytes at bytes ∷ []
+  pub long : length bytes ≡ len
+  pub behind : take (from + len) now ≡ take from before ++ bytes
+
+-- These accesses are what was to be done, with this answer; the room had these bytes before.
+abbrev pub Does : Phase → Kind → ℕ → List ℕ → Room → List Access → Type 0
+Does (AwaitsIndex at) kind answer before room done = done ≡ ReadWord at answer ∷ []
+Does (AwaitsEntry at) kind answer before room done = done ≡ Acquire ∷ ReadWord at answer ∷ []
+Does (AwaitsDescriptor at walk) kind answer before room done =
+    Copies at 0 DESCRIPTOR_SIZE before room.bytes done
+Does (AwaitsPart at place) kind answer before room done =
+    Copies at place.into place.length before room.bytes done
+Does (TellsPages head named) kind answer before room done =
+    done ≡ ToldPages kind (take named.runs room.runs) ∷ []
+Does (TellsFigures head count) kind answer before room done =
+    done ≡ ToldFigures (take count room.figures) ∷ []
+Does (Discards cut x) kind answer before room done = done ≡ Discard cut ∷ []
+Does (GivesBack spots entry) kind answer before room done = done ≡ used_accesses spots entry
+Does (AwaitsFlags at why more) kind answer before room done =
+    done ≡ Full ∷ ReadWord at answer ∷ []
+Does (Ended outcome) kind answer before room done = done ≡ []
+
+-- To a log, accesses were added; whatever may still come behind them, the whole may come where this
+-- was to be done before.
+abbrev pub Goes : List Access → List Access → (Device → Outcome → List Access → Type 0) →
+    (Device → Outcome → List Access → Type 0) → Type 0
+Goes old new from to =
+    Adds old new (λ added. (after : Device) (outcome : Outcome) (rest : List Access) →
+    to after outcome rest → from after outcome (added ++ rest))

@@ -1,0 +1,152 @@
+-- One notice of a queue: which accesses it makes, whatever memory answers, the device after it and
+-- its outcome (VIRTIO 1.1, 2.6.5 to 2.6.7 and 5.5).
+use Rattle.std.specs.Prelude.{◌≡◌, ℕ, zero, suc, ◌+◌, ◌*◌, ◌%◌, Bool, true, false, ◌==◌, nat_lt}
+use Rattle.std.specs.Prelude.{nat_le, List, [], ◌∷◌, if◌then◌else◌, Option, Some, None, Result, Ok}
+use Rattle.std.specs.Prelude.{Err}
+use Rattle.vb_chain.specs.declared.fault.ChainFault.{ChainFault}
+use Rattle.vb_chain.specs.declared.fault.ChainFault.TheVariants.{BadHead, IndexJump, OutOfRam}
+use Rattle.vb_ring.specs.Entries.{ahead}
+use Rattle.vb_core.specs.declared.kinds.Kind.{Kind}
+use Rattle.vb_core.specs.declared.kinds.Kind.TheVariants.{Inflate, Deflate, Statistics, Report}
+use Rattle.vb_core.specs.declared.ring.Ring.{Ring}
+use Rattle.vb_core.specs.declared.device.Denial.{Denial}
+use Rattle.vb_core.specs.declared.device.Device.{Device}
+use Rattle.vb_core.specs.Devices.{ring_of, queue_denial}
+use Rattle.vb_monitor.specs.declared.regions.Region.{Region}
+use Rattle.vb_monitor.specs.declared.regions.Spot.{Spot}
+use Rattle.vb_monitor.specs.declared.outcome.Tally.{Tally}
+use Rattle.vb_monitor.specs.declared.outcome.Budget.{Budget}
+use Rattle.vb_monitor.specs.declared.outcome.Outcome.{Outcome}
+use Rattle.vb_monitor.specs.Accesses.{Access, ReadWord, Acquire}
+use Rattle.vb_monitor.specs.Regions.{spot}
+use Rattle.vb_monitor.specs.Ends.{Whole, Stops, Ends, Breaks}
+use Rattle.vb_monitor.specs.Giving.{Then, GivesBack}
+use Rattle.vb_monitor.specs.Chains.{descriptors, Follows, ServesPieces}
+
+-- ---- the chain that stands next
+
+-- Where the entry stands that a device takes next, behind the available ring's begin.
+abbrev pub entry_offset : Ring → ℕ
+entry_offset r = if r.size == 0 then 4 else 4 + 2 * (r.next_avail % r.size)
+
+-- The chain from this head is followed and served.
+abbrev pub HeadBy : Bool → Whole → Then → Device → Tally → ℕ → List Access → Type 0
+HeadBy true w next d tally head log =
+    Follows (descriptors (ring_of w.kind d)) w d tally
+    (λ pieces rest. ServesPieces w.kind w next d tally head pieces rest) head false [] log
+HeadBy false w next d tally head log = Breaks w d tally BadHead log
+
+abbrev pub AfterEntry : Whole → Then → Device → Tally → ℕ → List Access → Type 0
+AfterEntry w next d tally head log =
+    HeadBy (nat_lt head (descriptors (ring_of w.kind d))) w next d tally head log
+
+-- Behind a fence the entry is read, once.
+pub record AsksEntry (w : Whole) (next : Then) (d : Device) (tally : Tally) (at : Spot)
+    (log : List Access) : Type 0 where
+  pub head : ℕ
+  pub rest : List Access
+  pub asks : log ≡ Acquire ∷ ReadWord at head ∷ rest
+  pub goes_on : AfterEntry w next d tally head rest
+
+abbrev pub EntryAt : Whole → Then → Device → Tally → Option Spot → List Access → Type 0
+EntryAt w next d tally None log = Breaks w d tally OutOfRam log
+EntryAt w next d tally (Some at) log = AsksEntry w next d tally at log
+
+abbrev pub Takes : Whole → Then → Device → Tally → List Access → Type 0
+Takes w next d tally log =
+    EntryAt w next d tally
+    (spot w.regions ((ring_of w.kind d).avail + entry_offset (ring_of w.kind d)) 2) log
+
+-- ---- the available index
+
+-- Whether a chain stands there by this index; it may be ahead by no more than the queue's size.
+abbrev pub stands_by : ℕ → ℕ → Result Bool ChainFault
+stands_by ahead size =
+    if ahead == 0 then Ok false else (if nat_le ahead size then Ok true else Err IndexJump)
+
+abbrev pub stands : Ring → ℕ → Result Bool ChainFault
+stands r index = stands_by (ahead index r.next_avail) r.size
+
+abbrev pub AfterIndex : Result Bool ChainFault → Whole → (List Access → Type 0) → Device → Tally →
+    List Access → Type 0
+AfterIndex (Err fault) w takes d tally log = Breaks w d tally fault log
+AfterIndex (Ok false) w takes d tally log = Ends w d tally None false log
+AfterIndex (Ok true) w takes d tally log = takes log
+
+-- The index is read, by one access.
+pub record AsksIndex (w : Whole) (takes : List Access → Type 0) (d : Device) (tally : Tally)
+    (at : Spot) (log : List Access) : Type 0 where
+  pub index : ℕ
+  pub rest : List Access
+  pub asks : log ≡ ReadWord at index ∷ rest
+  pub goes_on : AfterIndex (stands (ring_of w.kind d) index) w takes d tally rest
+
+abbrev pub IndexAt : Whole → (List Access → Type 0) → Device → Tally → Option Spot →
+    List Access → Type 0
+IndexAt w takes d tally None log = Breaks w d tally OutOfRam log
+IndexAt w takes d tally (Some at) log = AsksIndex w takes d tally at log
+
+abbrev pub LooksBy : Option Denial → Whole → (List Access → Type 0) → Device → Tally →
+    List Access → Type 0
+LooksBy (Some why) w takes d tally log = Ends w d tally (Some why) false log
+LooksBy None w takes d tally log =
+    IndexAt w takes d tally (spot w.regions ((ring_of w.kind d).avail + 2) 2) log
+
+-- ---- chain after chain
+
+-- After a chain that was given back the queue is looked at again; not so that of statistics, whose
+-- buffer was asked for.
+abbrev pub AfterGiven : Kind → Whole → Then → Device → Tally → List Access → Type 0
+AfterGiven Inflate w looks d tally log = looks d tally log
+AfterGiven Deflate w looks d tally log = looks d tally log
+AfterGiven Statistics w looks d tally log = Ends w d tally None false log
+AfterGiven Report w looks d tally log = looks d tally log
+
+abbrev pub with_chains : ℕ → Tally → Tally
+with_chains n tally = record tally { chains = n }
+
+-- A chain stands there: where no more may be served or named, it is told that one does.
+abbrev pub TakesUnlessSpent : Bool → Whole → Then → Device → Tally → List Access → Type 0
+TakesUnlessSpent true w next d tally log = Ends w d tally None true log
+TakesUnlessSpent false w next d tally log = Takes w next d tally log
+
+-- What is served of a chain that stands there, where so many may be yet.
+abbrev pub TakesNext : ℕ → Whole → Device → Tally → List Access → Type 0
+TakesNext zero w d tally log = Ends w d tally None true log
+TakesNext (suc n) w d tally log =
+    TakesUnlessSpent (tally.pages == 0) w
+    (AfterGiven w.kind w (λ d2 t2 rest.
+    LooksBy (queue_denial w.kind d2) w (TakesNext n w d2 t2) d2 t2 rest)) d
+    (with_chains n tally) log
+
+-- The queue is looked at, where so many chains may be served yet.
+abbrev pub Looks : ℕ → Whole → Device → Tally → List Access → Type 0
+Looks n w d tally log = LooksBy (queue_denial w.kind d) w (TakesNext n w d tally) d tally log
+
+-- ---- the whole
+
+-- Nothing was served yet, and so much may be.
+abbrev pub fresh : Budget → Tally
+fresh budget =
+    record { chains = budget.chains; pages = budget.pages; given = false; held = None }
+
+-- The queue of a kind is served, where no buffer of statistics is held.
+abbrev pub Serves : List Region → Kind → Budget → Device → Device → Outcome → List Access → Type 0
+Serves regions kind budget d1 d2 outcome log =
+    Looks budget.chains (record { regions = regions; kind = kind; device = d2; outcome = outcome })
+    d1 (fresh budget) log
+
+-- The buffer of statistics of this head, which is held, is given back, to ask for new ones.
+abbrev pub Asks : List Region → ℕ → Device → Device → Outcome → List Access → Type 0
+Asks regions head d1 d2 outcome log =
+    GivesBack
+    (record { regions = regions; kind = Statistics; device = d2; outcome = outcome })
+    (AfterGiven Statistics
+    (record { regions = regions; kind = Statistics; device = d2; outcome = outcome })
+    (λ d tally rest. Stops (record {
+      regions = regions;
+      kind = Statistics;
+      device = d2;
+      outcome = outcome;
+    }) d tally None false false rest)) d1
+    (fresh (record { chains = 0; pages = 0 })) head log

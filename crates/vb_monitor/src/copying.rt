@@ -1,0 +1,205 @@
+//! The copies of a chain's pieces, part by part.
+
+ghost use Rattle.std.specs.Prelude.{◌≡◌, ◌+◌, ◌<◌, ◌≤◌, ℕ, false, List, length, take, drop};
+ghost use Rattle.vb_chain.specs.declared.pieces.Piece.{Piece};
+ghost use Rattle.vb_core.specs.declared.runs.Run.{Run};
+ghost use Rattle.vb_core.specs.declared.statistics.Statistic.{Statistic};
+ghost use Rattle.vb_core.specs.declared.device.Device.{Device};
+ghost use Rattle.vb_monitor.specs.declared.outcome.Outcome.{Outcome};
+ghost use Rattle.vb_monitor.specs.Accesses.{Access};
+ghost use Rattle.vb_monitor.specs.declared.room.TheConstants.{MAX_BYTES};
+ghost use Rattle.vb_monitor.specs.Pieces.{PartBy, fits_behind, CopiesParts, all_parts};
+ghost use Rattle.vb_monitor.specs.Machine.{Fits, Room, Ahead, whole, room_of, served, behind_part};
+
+use crate::ends::fail;
+use crate::naming::serve_bytes;
+use crate::parts::{NextPart, next_part, second_part};
+use crate::regions::find_from;
+use crate::room::{MAX_BYTES, MAX_FIGURES, MAX_PIECES, MAX_RUNS};
+use crate::{Part, Phase, Place, Region, Step, Tally};
+use vb_chain::{ChainFault, Piece};
+use vb_core::{Device, Kind, Run, Statistic};
+
+/// The first pieces, so many.
+pub(crate) fn first_pieces(pieces: &[Piece; MAX_PIECES], count: u16) -> &[Piece]
+    ensures { result.now ≡ take count pieces.now }
+{
+    &pieces[..usize::from(count).min(MAX_PIECES)]
+}
+
+/// Asks for a part of a piece.
+fn ask_part(
+    device: &mut Device,
+    regions: &[Region],
+    kind: Kind,
+    tally: Tally,
+    part: Part,
+    place: Place,
+) -> Step
+    ensures step { (after : Device) (outcome : Outcome) (room : Room) (log : List Access) →
+        length room.bytes ≡ MAX_BYTES →
+        Ahead (whole regions.now kind after outcome) result device.new room log →
+        PartBy (fits_behind (take place.into room.bytes) part)
+        (whole regions.now kind after outcome) (CopiesParts (whole regions.now kind after outcome)
+        (served (whole regions.now kind after outcome) tally device.old place.head) device.old tally
+        (behind_part place.is_second place.piece (take place.count room.pieces))) device.old tally
+        part (take place.into room.bytes) log }
+    ensures fits { Fits result.phase }
+{
+    let into = place.into.min(MAX_BYTES);
+    if part.length as usize > MAX_BYTES - into {
+        return fail(device, regions, kind, tally, ChainFault::BadLength);
+    }
+    match find_from(
+        regions,
+        part.address,
+        u64::from(part.plus),
+        u64::from(part.length),
+    ) {
+        None => fail(device, regions, kind, tally, ChainFault::OutOfRam),
+        Some(at) => Step {
+            tally,
+            phase: Phase::AwaitsPart {
+                at,
+                place: Place {
+                    into,
+                    length: part.length,
+                    ..place
+                },
+            },
+        },
+    }
+}
+
+/// The first bytes, so many.
+pub(crate) fn first_bytes(bytes: &[u8; MAX_BYTES], count: usize) -> &[u8]
+    ensures { result.now ≡ take count bytes.now }
+{
+    &bytes[..count.min(MAX_BYTES)]
+}
+
+/// Copies the pieces from this number on, behind so many bytes that were copied.
+#[tactic(auto, using(crate::proofs::NextLemmas::copy_steps))]
+pub(crate) fn copy_on(
+    device: &mut Device,
+    regions: &[Region],
+    kind: Kind,
+    tally: Tally,
+    place: Place,
+    pieces: &[Piece; MAX_PIECES],
+    bytes: &[u8; MAX_BYTES],
+    runs: &mut [Run; MAX_RUNS],
+    figures: &mut [Statistic; MAX_FIGURES],
+) -> Step
+    ensures step { (after : Device) (outcome : Outcome) (log : List Access) →
+        Ahead (whole regions.now kind after outcome) result device.new
+        (room_of pieces.now bytes.now runs.new figures.new) log →
+        CopiesParts (whole regions.now kind after outcome)
+        (served (whole regions.now kind after outcome) tally device.old place.head) device.old tally
+        (all_parts (drop place.piece (take place.count pieces.now)))
+        (take place.into bytes.now) log }
+    ensures fits { Fits result.phase }
+{
+    match next_part(first_pieces(pieces, place.count), place.piece) {
+        None => {
+            let copied = first_bytes(bytes, place.into);
+            serve_bytes(
+                device, regions, kind, tally, place.head, copied, runs, figures,
+            )
+        }
+        Some(found) => {
+            let place = Place {
+                piece: found.piece,
+                is_second: false,
+                ..place
+            };
+            ask_part(device, regions, kind, tally, found.part, place)
+        }
+    }
+}
+
+/// Copies the second part of a piece, or what stands behind it.
+#[tactic(auto, using(crate::proofs::NextLemmas::second_steps))]
+fn copy_second(
+    device: &mut Device,
+    regions: &[Region],
+    kind: Kind,
+    tally: Tally,
+    place: Place,
+    pieces: &[Piece; MAX_PIECES],
+    bytes: &[u8; MAX_BYTES],
+    runs: &mut [Run; MAX_RUNS],
+    figures: &mut [Statistic; MAX_FIGURES],
+) -> Step
+    requires { place.piece < length (take place.count pieces.now) }
+    ensures step { (after : Device) (outcome : Outcome) (log : List Access) →
+        Ahead (whole regions.now kind after outcome) result device.new
+        (room_of pieces.now bytes.now runs.new figures.new) log →
+        CopiesParts (whole regions.now kind after outcome)
+        (served (whole regions.now kind after outcome) tally device.old place.head) device.old tally
+        (behind_part false place.piece (take place.count pieces.now))
+        (take place.into bytes.now) log }
+    ensures fits { Fits result.phase }
+{
+    let part = second_part(&first_pieces(pieces, place.count)[place.piece]);
+    if part.length > 0 {
+        let next = Place {
+            is_second: true,
+            ..place
+        };
+        return ask_part(device, regions, kind, tally, part, next);
+    }
+    let next = Place {
+        piece: place.piece + 1,
+        ..place
+    };
+    copy_on(
+        device, regions, kind, tally, next, pieces, bytes, runs, figures,
+    )
+}
+
+/// A part was copied behind the others.
+#[tactic(auto, using(crate::proofs::NextLemmas::end_steps))]
+pub(crate) fn after_part(
+    device: &mut Device,
+    regions: &[Region],
+    kind: Kind,
+    tally: Tally,
+    place: Place,
+    pieces: &[Piece; MAX_PIECES],
+    bytes: &[u8; MAX_BYTES],
+    runs: &mut [Run; MAX_RUNS],
+    figures: &mut [Statistic; MAX_FIGURES],
+) -> Step
+    requires { place.into + place.length ≤ MAX_BYTES }
+    ensures step { (after : Device) (outcome : Outcome) (log : List Access) →
+        Ahead (whole regions.now kind after outcome) result device.new
+        (room_of pieces.now bytes.now runs.new figures.new) log →
+        CopiesParts (whole regions.now kind after outcome)
+        (served (whole regions.now kind after outcome) tally device.old place.head) device.old tally
+        (behind_part place.is_second place.piece (take place.count pieces.now))
+        (take (place.into + place.length) bytes.now) log }
+    ensures fits { Fits result.phase }
+{
+    let into = place.into + place.length as usize;
+    if place.piece >= first_pieces(pieces, place.count).len() {
+        let copied = first_bytes(bytes, into);
+        return serve_bytes(
+            device, regions, kind, tally, place.head, copied, runs, figures,
+        );
+    }
+    if place.is_second {
+        let next = Place {
+            piece: place.piece + 1,
+            into,
+            ..place
+        };
+        return copy_on(
+            device, regions, kind, tally, next, pieces, bytes, runs, figures,
+        );
+    }
+    let next = Place { into, ..place };
+    copy_second(
+        device, regions, kind, tally, next, pieces, bytes, runs, figures,
+    )
+}

@@ -1,0 +1,93 @@
+//! The parts of runs of pages, each within one region.
+
+ghost use Rattle.std.specs.Prelude.{◌≡◌, ◌+◌, ◌<◌, ◌∷◌, [], true, drop, length, MatchOption};
+ghost use Rattle.vb_monitor.specs.Regions.{cut_of, meets, cuts_from, cuts_of};
+ghost use Rattle.vb_monitor.specs.Machine.{cuts_behind};
+
+use crate::Region;
+use crate::regions::PAGE_BYTES;
+use vb_core::Run;
+
+/// Bytes of a run's pages that lie in one region.
+#[repr(C)]
+#[derive(Clone, Copy, Debug, PartialEq, Eq)]
+pub struct Cut {
+    /// The number of the region.
+    pub region: usize,
+    /// So many bytes into it.
+    pub offset: u64,
+    /// So many bytes into its file.
+    pub in_file: u64,
+    /// How many bytes they are: whole pages.
+    pub length: u64,
+}
+
+/// Whether a region has pages of a run.
+fn meets(region: &Region, run: Run) -> bool
+    ensures { result ≡ meets region.now run }
+{
+    if !region.is_possible() {
+        return false;
+    }
+    let first = (region.guest / PAGE_BYTES).max(u64::from(run.first));
+    let behind = u64::from(run.first) + u64::from(run.count);
+    let end = ((region.guest + region.length) / PAGE_BYTES).min(behind);
+    first < end
+}
+
+/// The bytes of a run's pages in a region that has some.
+fn cut_of(number: usize, region: &Region, run: Run) -> Cut
+    requires { meets region.now run ≡ true }
+    ensures { result ≡ cut_of number region.now run }
+{
+    let first = (region.guest / PAGE_BYTES).max(u64::from(run.first));
+    let behind = u64::from(run.first) + u64::from(run.count);
+    let end = ((region.guest + region.length) / PAGE_BYTES).min(behind);
+    let offset = PAGE_BYTES * first - region.guest;
+    Cut {
+        region: number,
+        offset,
+        in_file: region.in_file + offset,
+        length: PAGE_BYTES * (end - first),
+    }
+}
+
+/// The next part of a run in the regions from this number on.
+#[tactic(auto, using(crate::proofs::RegionLemmas::cut_steps))]
+pub(crate) fn next_cut(regions: &[Region], from: usize, run: Run) -> Option<Cut>
+    ensures { MatchOption result (cuts_from from (drop from regions.now) run ≡ [])
+        (λ cut. (cut.region < length regions.now) × (cuts_from from (drop from regions.now) run ≡
+        cut ∷ cuts_from (cut.region + 1) (drop (cut.region + 1) regions.now) run)) }
+{
+    for number in from..regions.len() {
+        let region = &regions[number];
+        if meets(region, run) {
+            return Some(cut_of(number, region, run));
+        }
+    }
+    None
+}
+
+/// A part of one of some runs.
+#[derive(Clone, Copy, Debug)]
+pub(crate) struct NextCut {
+    /// The number of the run.
+    pub(crate) run: usize,
+    /// Its part in the first region that has one.
+    pub(crate) cut: Cut,
+}
+
+/// The first part of the runs from this number on.
+#[tactic(auto, using(crate::proofs::RegionLemmas::run_steps))]
+pub(crate) fn first_cut(regions: &[Region], runs: &[Run], from: usize) -> Option<NextCut>
+    ensures { MatchOption result (cuts_of regions.now (drop from runs.now) ≡ [])
+        (λ x. (x.cut.region < length regions.now) × (cuts_of regions.now (drop from runs.now) ≡
+        x.cut ∷ cuts_behind (x.cut.region + 1) x.run regions.now runs.now)) }
+{
+    for run in from..runs.len() {
+        if let Some(cut) = next_cut(regions, 0, runs[run]) {
+            return Some(NextCut { run, cut });
+        }
+    }
+    None
+}

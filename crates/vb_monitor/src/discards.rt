@@ -1,0 +1,137 @@
+//! The discards of a chain's runs, part by part.
+
+ghost use Rattle.std.specs.Prelude.{◌≡◌, ℕ, List, take, drop};
+ghost use Rattle.vb_chain.specs.declared.pieces.Piece.{Piece};
+ghost use Rattle.vb_core.specs.declared.runs.Run.{Run};
+ghost use Rattle.vb_core.specs.declared.statistics.Statistic.{Statistic};
+ghost use Rattle.vb_core.specs.declared.device.Device.{Device};
+ghost use Rattle.vb_monitor.specs.declared.outcome.Outcome.{Outcome};
+ghost use Rattle.vb_monitor.specs.Accesses.{Access};
+ghost use Rattle.vb_monitor.specs.Regions.{cuts_of};
+ghost use Rattle.vb_monitor.specs.Giving.{cuts_for, DiscardsThen};
+ghost use Rattle.vb_monitor.specs.Machine.{Fits, Ahead, whole, room_of, next_chain, cuts_behind};
+
+use crate::cuts::{first_cut, next_cut};
+use crate::giving::give_back;
+use crate::room::MAX_RUNS;
+use crate::step::Discarding;
+use crate::{Phase, Region, Step, Tally};
+use vb_core::{Device, Kind, Run};
+
+/// The first runs, so many.
+pub(crate) fn first_runs(runs: &[Run; MAX_RUNS], count: usize) -> &[Run]
+    ensures { result.now ≡ take count runs.now }
+{
+    &runs[..count.min(MAX_RUNS)]
+}
+
+/// Discards the first runs, so many, from this number on.
+fn discard_on(
+    device: &mut Device,
+    regions: &[Region],
+    kind: Kind,
+    tally: Tally,
+    head: u16,
+    count: usize,
+    from: usize,
+    runs: &[Run; MAX_RUNS],
+) -> Step
+    ensures step { (after : Device) (outcome : Outcome) (pieces : List Piece) (bytes : List ℕ)
+        (figures : List Statistic) (log : List Access) →
+        Ahead (whole regions.now kind after outcome) result device.new
+        (room_of pieces bytes runs.now figures) log →
+        DiscardsThen (whole regions.now kind after outcome)
+        (next_chain (whole regions.now kind after outcome) tally) device.old tally head
+        (cuts_of regions.now (drop from (take count runs.now))) log }
+    ensures fits { Fits result.phase }
+{
+    match first_cut(regions, first_runs(runs, count), from) {
+        None => give_back(device, regions, kind, tally, head),
+        Some(found) => {
+            let discarding = Discarding {
+                head,
+                runs: count,
+                run: found.run,
+                from: found.cut.region + 1,
+            };
+            Step {
+                tally,
+                phase: Phase::Discards {
+                    cut: found.cut,
+                    discarding,
+                },
+            }
+        }
+    }
+}
+
+/// The pages of the first runs, so many, were told.
+pub(crate) fn after_told(
+    device: &mut Device,
+    regions: &[Region],
+    kind: Kind,
+    tally: Tally,
+    head: u16,
+    count: u32,
+    runs: &[Run; MAX_RUNS],
+) -> Step
+    ensures step { (after : Device) (outcome : Outcome) (pieces : List Piece) (bytes : List ℕ)
+        (figures : List Statistic) (log : List Access) →
+        Ahead (whole regions.now kind after outcome) result device.new
+        (room_of pieces bytes runs.now figures) log →
+        DiscardsThen (whole regions.now kind after outcome)
+        (next_chain (whole regions.now kind after outcome) tally) device.old tally head
+        (cuts_for kind regions.now (take count runs.now)) log }
+    ensures fits { Fits result.phase }
+{
+    match kind {
+        Kind::Inflate | Kind::Report => {
+            discard_on(device, regions, kind, tally, head, count as usize, 0, runs)
+        }
+        Kind::Deflate | Kind::Statistics => give_back(device, regions, kind, tally, head),
+    }
+}
+
+/// A part of a run was discarded.
+pub(crate) fn after_discard(
+    device: &mut Device,
+    regions: &[Region],
+    kind: Kind,
+    tally: Tally,
+    discarding: Discarding,
+    runs: &[Run; MAX_RUNS],
+) -> Step
+    ensures step { (after : Device) (outcome : Outcome) (pieces : List Piece) (bytes : List ℕ)
+        (figures : List Statistic) (log : List Access) →
+        Ahead (whole regions.now kind after outcome) result device.new
+        (room_of pieces bytes runs.now figures) log →
+        DiscardsThen (whole regions.now kind after outcome)
+        (next_chain (whole regions.now kind after outcome) tally) device.old tally discarding.head
+        (cuts_behind discarding.from discarding.run regions.now
+        (take discarding.runs runs.now)) log }
+    ensures fits { Fits result.phase }
+{
+    let Discarding {
+        head,
+        runs: count,
+        run,
+        from,
+    } = discarding;
+    let named = first_runs(runs, count);
+    if run >= named.len() {
+        return give_back(device, regions, kind, tally, head);
+    }
+    match next_cut(regions, from, named[run]) {
+        None => discard_on(device, regions, kind, tally, head, count, run + 1, runs),
+        Some(cut) => Step {
+            tally,
+            phase: Phase::Discards {
+                cut,
+                discarding: Discarding {
+                    from: cut.region + 1,
+                    ..discarding
+                },
+            },
+        },
+    }
+}

@@ -1,0 +1,68 @@
+//! Chains that are given back.
+
+ghost use Rattle.std.specs.Prelude.{◌≡◌, ◌+◌, true, List};
+ghost use Rattle.vb_core.specs.declared.device.Device.{Device};
+ghost use Rattle.vb_monitor.specs.declared.outcome.Outcome.{Outcome};
+ghost use Rattle.vb_monitor.specs.Accesses.{Access};
+ghost use Rattle.vb_monitor.specs.Giving.{GivesBack, used_spots};
+ghost use Rattle.vb_monitor.specs.Machine.{Fits, Room, Ahead, whole, next_chain};
+
+use crate::ends::{end, fail};
+use crate::regions::find_from;
+use crate::{Phase, Region, Spot, Step, Tally};
+use vb_chain::ChainFault;
+use vb_core::{Device, Kind, UsedEntry};
+
+/// Where a used element goes (VIRTIO 1.1, 2.6.8).
+#[repr(C)]
+#[derive(Clone, Copy, Debug)]
+pub struct UsedSpots {
+    /// Its id, of 32 bits.
+    pub id: Spot,
+    /// Its length, of 32 bits.
+    pub length: Spot,
+    /// The index, of 16 bits.
+    pub index: Spot,
+}
+
+/// Where a used element goes, where all of it is guest memory.
+fn used_spots(regions: &[Region], entry: &UsedEntry) -> Option<UsedSpots>
+    ensures { result ≡ used_spots regions.now entry.now }
+{
+    match find_from(regions, entry.element_at, 0, 4) {
+        None => None,
+        Some(id) => match find_from(regions, entry.element_at, 4, 4) {
+            None => None,
+            Some(length) => match find_from(regions, entry.index_at, 0, 2) {
+                None => None,
+                Some(index) => Some(UsedSpots { id, length, index }),
+            },
+        },
+    }
+}
+
+/// Gives the chain of this head back.
+pub(crate) fn give_back(
+    device: &mut Device,
+    regions: &[Region],
+    kind: Kind,
+    tally: Tally,
+    head: u16,
+) -> Step
+    ensures step { (after : Device) (outcome : Outcome) (room : Room) (log : List Access) →
+        Ahead (whole regions.now kind after outcome) result device.new room log →
+        GivesBack (whole regions.now kind after outcome)
+        (next_chain (whole regions.now kind after outcome) tally) device.old tally head log }
+    ensures fits { Fits result.phase }
+{
+    match device.use_chain(kind, u32::from(head)) {
+        Err(why) => end(device, regions, kind, tally, Some(why), false),
+        Ok(entry) => match used_spots(regions, &entry) {
+            None => fail(device, regions, kind, tally, ChainFault::OutOfRam),
+            Some(spots) => Step {
+                tally,
+                phase: Phase::GivesBack { spots, entry },
+            },
+        },
+    }
+}

@@ -1,0 +1,38 @@
+//! A balloon device over the memory of a running guest: which accesses a notice makes, in which
+//! order, whatever memory answers, and what they come to.
+#![tactic(auto)]
+
+mod balloon;
+mod copying;
+mod cuts;
+mod discards;
+mod ends;
+mod giving;
+mod laws;
+mod looks;
+mod memory;
+mod naming;
+mod notice;
+mod outcome;
+mod parts;
+mod regions;
+mod room;
+mod serving;
+mod step;
+mod walk;
+
+pub use balloon::Balloon;
+pub use cuts::Cut;
+pub use giving::UsedSpots;
+pub use laws::nothing_outside_the_regions_is_touched;
+pub use memory::LiveMemory;
+pub use notice::Notice;
+pub use outcome::{Budget, Outcome, Tally};
+pub use parts::Part;
+pub use regions::{FILE_LIMIT, Region, Spot, find};
+pub use room::{MAX_BYTES, MAX_FIGURES, MAX_PIECES, MAX_RUNS};
+pub use serving::serve;
+pub use step::{Discarding, Phase, Place, Step, Walk};
+
+#[cfg(test)]
+mod tests;

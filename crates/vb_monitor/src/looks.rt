@@ -1,0 +1,165 @@
+//! A look at a queue: its available index, and the entry that stands next (VIRTIO 1.1, 2.6.6).
+
+ghost use Rattle.std.specs.Prelude.{◌≡◌, ◌+◌, ◌<◌, List};
+ghost use Rattle.vb_core.specs.declared.device.Device.{Device};
+ghost use Rattle.vb_core.specs.Devices.{ring_of};
+ghost use Rattle.vb_monitor.specs.declared.outcome.Outcome.{Outcome};
+ghost use Rattle.vb_monitor.specs.Accesses.{Access};
+ghost use Rattle.vb_monitor.specs.Notices.{entry_offset, stands, AfterEntry, AfterIndex, Looks};
+ghost use Rattle.vb_monitor.specs.Notices.{Takes, TakesNext, AfterGiven};
+ghost use Rattle.vb_monitor.specs.Machine.{Fits, Room, Ahead, whole, next_chain};
+
+use crate::ends::{end, fail};
+use crate::regions::find_from;
+use crate::walk::{descriptors, follow};
+use crate::{Phase, Region, Step, Tally, Walk};
+use vb_chain::ChainFault;
+use vb_core::{Device, Kind, Ring};
+
+/// Where the entry stands that is taken next, behind the available ring's begin.
+fn entry_offset(ring: &Ring) -> u64
+    ensures { result ≡ entry_offset ring.now }
+{
+    if ring.size == 0 {
+        return 4;
+    }
+    4 + 2 * u64::from(ring.next_avail % ring.size)
+}
+
+/// Whether a chain stands there by this index.
+fn stands(ring: &Ring, index: u16) -> Result<bool, ChainFault>
+    ensures { result ≡ stands ring.now index }
+{
+    let ahead = index.wrapping_sub(ring.next_avail);
+    if ahead == 0 {
+        Ok(false)
+    } else if ahead <= ring.size {
+        Ok(true)
+    } else {
+        Err(ChainFault::IndexJump)
+    }
+}
+
+/// Looks at a queue.
+pub(crate) fn look(device: &mut Device, regions: &[Region], kind: Kind, tally: Tally) -> Step
+    ensures step { (after : Device) (outcome : Outcome) (room : Room) (log : List Access) →
+        Ahead (whole regions.now kind after outcome) result device.new room log →
+        Looks tally.chains (whole regions.now kind after outcome) device.old tally log }
+    ensures fits { Fits result.phase }
+{
+    match device.queue_denial(kind) {
+        Some(why) => end(device, regions, kind, tally, Some(why), false),
+        None => match find_from(regions, device.ring(kind).avail, 2, 2) {
+            None => fail(device, regions, kind, tally, ChainFault::OutOfRam),
+            Some(at) => Step {
+                tally,
+                phase: Phase::AwaitsIndex { at },
+            },
+        },
+    }
+}
+
+/// Asks for the entry that stands next.
+fn ask_entry(device: &mut Device, regions: &[Region], kind: Kind, tally: Tally) -> Step
+    ensures step { (after : Device) (outcome : Outcome) (room : Room) (log : List Access) →
+        Ahead (whole regions.now kind after outcome) result device.new room log →
+        Takes (whole regions.now kind after outcome)
+        (next_chain (whole regions.now kind after outcome) tally) device.old tally log }
+    ensures fits { Fits result.phase }
+{
+    let ring = device.ring(kind);
+    match find_from(regions, ring.avail, entry_offset(&ring), 2) {
+        None => fail(device, regions, kind, tally, ChainFault::OutOfRam),
+        Some(at) => Step {
+            tally,
+            phase: Phase::AwaitsEntry { at },
+        },
+    }
+}
+
+/// Takes the chain that stands next, where the budget has room for one.
+#[tactic(auto, using(crate::proofs::NextLemmas::take_steps))]
+fn take(device: &mut Device, regions: &[Region], kind: Kind, tally: Tally) -> Step
+    ensures step { (after : Device) (outcome : Outcome) (room : Room) (log : List Access) →
+        Ahead (whole regions.now kind after outcome) result device.new room log →
+        TakesNext tally.chains (whole regions.now kind after outcome) device.old tally log }
+    ensures fits { Fits result.phase }
+{
+    if tally.chains == 0 {
+        return end(device, regions, kind, tally, None, true);
+    }
+    let tally = Tally {
+        chains: tally.chains - 1,
+        ..tally
+    };
+    if tally.pages == 0 {
+        return end(device, regions, kind, tally, None, true);
+    }
+    ask_entry(device, regions, kind, tally)
+}
+
+/// The index was read.
+pub(crate) fn after_index(
+    device: &mut Device,
+    regions: &[Region],
+    kind: Kind,
+    tally: Tally,
+    index: u16,
+) -> Step
+    ensures step { (after : Device) (outcome : Outcome) (room : Room) (log : List Access) →
+        Ahead (whole regions.now kind after outcome) result device.new room log →
+        AfterIndex (stands (ring_of kind device.old) index) (whole regions.now kind after outcome)
+        (TakesNext tally.chains (whole regions.now kind after outcome) device.old tally)
+        device.old tally log }
+    ensures fits { Fits result.phase }
+{
+    match stands(&device.ring(kind), index) {
+        Err(fault) => fail(device, regions, kind, tally, fault),
+        Ok(there) => {
+            if there {
+                take(device, regions, kind, tally)
+            } else {
+                end(device, regions, kind, tally, None, false)
+            }
+        }
+    }
+}
+
+/// The entry was read.
+pub(crate) fn after_entry(
+    device: &mut Device,
+    regions: &[Region],
+    kind: Kind,
+    tally: Tally,
+    head: u16,
+) -> Step
+    ensures step { (after : Device) (outcome : Outcome) (room : Room) (log : List Access) →
+        Ahead (whole regions.now kind after outcome) result device.new room log →
+        AfterEntry (whole regions.now kind after outcome)
+        (next_chain (whole regions.now kind after outcome) tally) device.old tally head log }
+    ensures fits { Fits result.phase }
+{
+    if head >= descriptors(&device.ring(kind)) {
+        return fail(device, regions, kind, tally, ChainFault::BadHead);
+    }
+    let walk = Walk {
+        head,
+        count: 0,
+        writing: false,
+    };
+    follow(device, regions, kind, tally, walk, head)
+}
+
+/// A chain was given back: the queue is looked at again, but that of statistics.
+pub(crate) fn after_given(device: &mut Device, regions: &[Region], kind: Kind, tally: Tally) -> Step
+    ensures step { (after : Device) (outcome : Outcome) (room : Room) (log : List Access) →
+        Ahead (whole regions.now kind after outcome) result device.new room log →
+        AfterGiven kind (whole regions.now kind after outcome)
+        (Looks tally.chains (whole regions.now kind after outcome)) device.old tally log }
+    ensures fits { Fits result.phase }
+{
+    match kind {
+        Kind::Statistics => end(device, regions, kind, tally, None, false),
+        Kind::Inflate | Kind::Deflate | Kind::Report => look(device, regions, kind, tally),
+    }
+}

@@ -1,0 +1,164 @@
+//! A notice as plain data, for a caller that makes the accesses itself.
+
+ghost use Rattle.std.specs.Prelude.{◌≡◌, ◌++◌, ℕ, List};
+ghost use Rattle.vb_chain.specs.declared.pieces.Piece.{Piece};
+ghost use Rattle.vb_core.specs.declared.kinds.Kind.TheVariants.{Statistics};
+ghost use Rattle.vb_core.specs.declared.runs.Run.{Run};
+ghost use Rattle.vb_core.specs.declared.statistics.Statistic.{Statistic};
+ghost use Rattle.vb_core.specs.declared.device.Device.{Device};
+ghost use Rattle.vb_monitor.specs.declared.outcome.Outcome.{Outcome};
+ghost use Rattle.vb_monitor.specs.Accesses.{Access};
+ghost use Rattle.vb_monitor.specs.Notices.{Serves, Asks};
+ghost use Rattle.vb_monitor.specs.Machine.{Fits, is_ended, Room, Ahead, AheadAt, Does, whole};
+ghost use Rattle.vb_monitor.specs.Machine.{room_of};
+
+use crate::copying::after_part;
+use crate::discards::{after_discard, after_told};
+use crate::ends::{after_flags, end};
+use crate::giving::give_back;
+use crate::looks::{after_entry, after_given, after_index, look};
+use crate::room::{MAX_BYTES, MAX_FIGURES, MAX_PIECES, MAX_RUNS};
+use crate::walk::after_descriptor;
+use crate::{Budget, Phase, Region, Step, Tally};
+use vb_chain::Piece;
+use vb_core::{Device, Kind, Run, Statistic};
+
+/// A notice: whose queue it is of, and what is to be done next.
+#[derive(Clone, Copy, Debug)]
+pub struct Notice {
+    pub kind: Kind,
+    pub step: Step,
+}
+
+/// What is to be done once a phase was, with this answer.
+fn advance(
+    phase: Phase,
+    tally: Tally,
+    device: &mut Device,
+    regions: &[Region],
+    kind: Kind,
+    answer: u16,
+    pieces: &mut [Piece; MAX_PIECES],
+    bytes: &[u8; MAX_BYTES],
+    runs: &mut [Run; MAX_RUNS],
+    figures: &mut [Statistic; MAX_FIGURES],
+) -> Step
+    requires { Fits phase }
+    ensures step { (after : Device) (outcome : Outcome) (before : List ℕ)
+        (done rest : List Access) →
+        Does phase kind answer before
+        (room_of pieces.old bytes.now runs.old figures.old) done →
+        Ahead (whole regions.now kind after outcome) result device.new
+        (room_of pieces.new bytes.now runs.new figures.new) rest →
+        AheadAt phase (whole regions.now kind after outcome) tally device.old
+        (room_of pieces.old before runs.old figures.old) (done ++ rest) }
+    ensures fits { Fits result.phase }
+{
+    match phase {
+        Phase::AwaitsIndex { .. } => after_index(device, regions, kind, tally, answer),
+        Phase::AwaitsEntry { .. } => after_entry(device, regions, kind, tally, answer),
+        Phase::AwaitsDescriptor { walk, .. } => after_descriptor(
+            device, regions, kind, tally, walk, pieces, bytes, runs, figures,
+        ),
+        Phase::AwaitsPart { place, .. } => after_part(
+            device, regions, kind, tally, place, pieces, bytes, runs, figures,
+        ),
+        Phase::TellsPages { head, named } => {
+            after_told(device, regions, kind, tally, head, named.runs, runs)
+        }
+        Phase::TellsFigures { .. } => end(device, regions, kind, tally, None, false),
+        Phase::Discards { discarding, .. } => {
+            after_discard(device, regions, kind, tally, discarding, runs)
+        }
+        Phase::GivesBack { .. } => {
+            let tally = Tally {
+                given: true,
+                ..tally
+            };
+            after_given(device, regions, kind, tally)
+        }
+        Phase::AwaitsFlags { why, more, .. } => after_flags(tally, why, more, answer),
+        Phase::Ended { .. } => Step { tally, phase },
+    }
+}
+
+impl Notice {
+    /// The driver kicked the queue of this kind, or may have: it is served as far as the budget
+    /// has room. Not for the queue of statistics while its buffer is held.
+    pub fn begin(device: &mut Device, regions: &[Region], kind: Kind, budget: Budget) -> Notice
+        ensures kind { result.kind ≡ kind }
+        ensures step { (after : Device) (outcome : Outcome) (room : Room) (log : List Access) →
+            Ahead (whole regions.now kind after outcome) result.step device.new room log →
+            Serves regions.now kind budget device.old after outcome log }
+        ensures fits { Fits result.step.phase }
+    {
+        let tally = Tally {
+            chains: budget.chains,
+            pages: budget.pages,
+            given: false,
+            held: None,
+        };
+        let step = look(device, regions, kind, tally);
+        Notice { kind, step }
+    }
+
+    /// New statistics are asked for: the buffer that is held, of this head, is given back (VIRTIO
+    /// 1.1, 5.5.6.3).
+    pub fn ask_statistics(device: &mut Device, regions: &[Region], head: u16) -> Notice
+        ensures kind { result.kind ≡ Statistics }
+        ensures step { (after : Device) (outcome : Outcome) (room : Room) (log : List Access) →
+            Ahead (whole regions.now Statistics after outcome) result.step device.new room log →
+            Asks regions.now head device.old after outcome log }
+        ensures fits { Fits result.step.phase }
+    {
+        let tally = Tally {
+            chains: 0,
+            pages: 0,
+            given: false,
+            held: None,
+        };
+        let step = give_back(device, regions, Kind::Statistics, tally, head);
+        Notice {
+            kind: Kind::Statistics,
+            step,
+        }
+    }
+
+    /// Goes on, once what was to be done was done, with this answer. The room is as the call before
+    /// left it, but for the bytes that were copied.
+    pub fn next(
+        &mut self,
+        device: &mut Device,
+        regions: &[Region],
+        answer: u16,
+        pieces: &mut [Piece; MAX_PIECES],
+        bytes: &[u8; MAX_BYTES],
+        runs: &mut [Run; MAX_RUNS],
+        figures: &mut [Statistic; MAX_FIGURES],
+    )
+        requires { Fits self.old.step.phase }
+        ensures kind { self.new.kind ≡ self.old.kind }
+        ensures step { (after : Device) (outcome : Outcome) (before : List ℕ)
+            (done rest : List Access) →
+            Does self.old.step.phase self.old.kind answer before
+            (room_of pieces.old bytes.now runs.old figures.old) done →
+            Ahead (whole regions.now self.old.kind after outcome) self.new.step device.new
+            (room_of pieces.new bytes.now runs.new figures.new) rest →
+            Ahead (whole regions.now self.old.kind after outcome) self.old.step device.old
+            (room_of pieces.old before runs.old figures.old) (done ++ rest) }
+        ensures fits { Fits self.new.step.phase }
+    {
+        let Step { tally, phase } = self.step;
+        let kind = self.kind;
+        self.step = advance(
+            phase, tally, device, regions, kind, answer, pieces, bytes, runs, figures,
+        );
+    }
+
+    /// Whether nothing more is to be done.
+    pub fn is_ended(&self) -> bool
+        ensures { result ≡ is_ended self.now.step.phase }
+    {
+        matches!(self.step.phase, Phase::Ended { .. })
+    }
+}

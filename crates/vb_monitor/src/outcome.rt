@@ -1,0 +1,39 @@
+//! What a notice may serve, and what it comes to.
+
+use vb_core::Denial;
+
+/// How much a notice may serve at most.
+#[repr(C)]
+#[derive(Clone, Copy, Debug)]
+pub struct Budget {
+    /// So many chains.
+    pub chains: u32,
+    /// No further chain once so many pages were named.
+    pub pages: u32,
+}
+
+/// What a notice may serve yet, and what it did.
+#[derive(Clone, Copy, Debug)]
+pub struct Tally {
+    /// So many chains may be served yet.
+    pub chains: u32,
+    /// So many pages may be named before another chain is served.
+    pub pages: u32,
+    /// A chain was given back.
+    pub given: bool,
+    /// The head of the buffer of statistics that was taken, and is held until it is asked for.
+    pub held: Option<u16>,
+}
+
+/// What a notice came to.
+#[derive(Clone, Copy, Debug)]
+pub struct Outcome {
+    pub tally: Tally,
+    /// Why the last chain wasn't served, where one wasn't. After `Broken` the driver is to be told
+    /// of a change of configuration.
+    pub why: Option<Denial>,
+    /// The driver wants an interrupt for its used buffers.
+    pub interrupt: bool,
+    /// Another chain stands there, for which the budget had no room.
+    pub more: bool,
+}

@@ -1,0 +1,18 @@
+//! The room that a notice needs for what it copies and makes of it.
+
+use vb_chain::MAX_DESCRIPTORS;
+use vb_core::{Run, Statistic};
+use vb_model::layout::{MAX_STATISTICS_LENGTH, REQUEST_BUFFER_SIZE, STATISTIC_SIZE};
+use vb_model::limits::MAX_REQUEST_PAGES;
+
+/// Pieces that a chain has at most.
+pub const MAX_PIECES: usize = MAX_DESCRIPTORS;
+
+/// Bytes that are copied of a chain at most: those of a request.
+pub const MAX_BYTES: usize = REQUEST_BUFFER_SIZE as usize;
+
+/// Runs that a chain names at most.
+pub const MAX_RUNS: usize = MAX_REQUEST_PAGES as usize;
+
+/// Figures that a buffer of statistics has at most.
+pub const MAX_FIGURES: usize = (MAX_STATISTICS_LENGTH / STATISTIC_SIZE) as usize;

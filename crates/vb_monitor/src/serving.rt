@@ -1,0 +1,184 @@
+//! A notice over a running guest's memory.
+
+ghost use Rattle.std.specs.Prelude.{◌≡◌, ◌+◌, ◌≤◌, ◌++◌, List, false, IfSome, MatchOption};
+ghost use Rattle.vb_chain.specs.declared.pieces.Piece.{Piece};
+ghost use Rattle.vb_monitor.specs.declared.room.TheConstants.{MAX_BYTES};
+ghost use Rattle.vb_monitor.specs.declared.step.Phase.TheVariants.{Ended};
+ghost use Rattle.vb_monitor.specs.Accesses.{Adds};
+ghost use Rattle.vb_monitor.specs.Notices.{Serves};
+ghost use Rattle.vb_monitor.specs.Giving.{used_accesses};
+ghost use Rattle.vb_monitor.specs.Machine.{Fits, is_ended, Ahead, Does, Goes, Copies, whole};
+ghost use Rattle.vb_monitor.specs.Machine.{room_of};
+
+use crate::discards::first_runs;
+use crate::room::{MAX_BYTES, MAX_FIGURES, MAX_PIECES, MAX_RUNS};
+use crate::{Budget, LiveMemory, Notice, Outcome, Phase, Region, Spot, UsedSpots};
+use vb_chain::{DESCRIPTOR_SIZE, Piece};
+use vb_core::{Device, Kind, Run, Statistic, UsedEntry};
+
+/// Copies so many bytes behind the first ones, so many.
+fn copy_bytes<M: LiveMemory>(
+    memory: &mut M,
+    at: Spot,
+    from: usize,
+    length: usize,
+    bytes: &mut [u8; MAX_BYTES],
+)
+    requires { from + length ≤ MAX_BYTES }
+    ensures { Adds (M.log memory.old) (M.log memory.new)
+        (Copies at from length bytes.old bytes.new) }
+{
+    memory.copy(at, &mut bytes[from..from + length]);
+}
+
+/// Writes a used element, and behind it the index.
+fn write_used<M: LiveMemory>(memory: &mut M, spots: UsedSpots, entry: UsedEntry)
+    ensures { M.log memory.new ≡ M.log memory.old ++ used_accesses spots entry }
+{
+    memory.write_number(spots.id, entry.id);
+    memory.write_number(spots.length, entry.length);
+    memory.release();
+    memory.write_word(spots.index, entry.index);
+}
+
+/// Does what is to be done; answers the word that was read, if one was.
+pub(crate) fn perform<M: LiveMemory>(
+    memory: &mut M,
+    kind: Kind,
+    phase: Phase,
+    bytes: &mut [u8; MAX_BYTES],
+    runs: &[Run; MAX_RUNS],
+    figures: &[Statistic; MAX_FIGURES],
+) -> u16
+    requires { Fits phase }
+    ensures { (pieces : List Piece) → Adds (M.log memory.old) (M.log memory.new)
+        (Does phase kind result bytes.old (room_of pieces bytes.new runs.now figures.now)) }
+{
+    match phase {
+        Phase::AwaitsIndex { at } => memory.word(at),
+        Phase::AwaitsEntry { at } => {
+            memory.acquire();
+            memory.word(at)
+        }
+        Phase::AwaitsDescriptor { at, .. } => {
+            copy_bytes(memory, at, 0, DESCRIPTOR_SIZE, bytes);
+            0
+        }
+        Phase::AwaitsPart { at, place } => {
+            copy_bytes(memory, at, place.into, place.length as usize, bytes);
+            0
+        }
+        Phase::TellsPages { named, .. } => {
+            memory.tell_pages(kind, first_runs(runs, named.runs as usize));
+            0
+        }
+        Phase::TellsFigures { count, .. } => {
+            memory.tell_figures(&figures[..(count as usize).min(MAX_FIGURES)]);
+            0
+        }
+        Phase::Discards { cut, .. } => {
+            memory.discard(cut);
+            0
+        }
+        Phase::GivesBack { spots, entry } => {
+            write_used(memory, spots, entry);
+            0
+        }
+        Phase::AwaitsFlags { at, .. } => {
+            memory.full();
+            memory.word(at)
+        }
+        Phase::Ended { .. } => 0,
+    }
+}
+
+impl Notice {
+    /// Does what is to be done over a memory, once, and goes on.
+    pub fn serve_step<M: LiveMemory>(
+        &mut self,
+        memory: &mut M,
+        device: &mut Device,
+        regions: &[Region],
+        pieces: &mut [Piece; MAX_PIECES],
+        bytes: &mut [u8; MAX_BYTES],
+        runs: &mut [Run; MAX_RUNS],
+        figures: &mut [Statistic; MAX_FIGURES],
+    )
+        requires { Fits self.old.step.phase }
+        ensures kind { self.new.kind ≡ self.old.kind }
+        ensures step { Goes (M.log memory.old) (M.log memory.new)
+            (λ after outcome log. Ahead (whole regions.now self.old.kind after outcome)
+            self.old.step device.old (room_of pieces.old bytes.old runs.old figures.old) log)
+            (λ after outcome log. Ahead (whole regions.now self.old.kind after outcome)
+            self.new.step device.new (room_of pieces.new bytes.new runs.new figures.new) log) }
+        ensures fits { Fits self.new.step.phase }
+    {
+        let Notice { kind, step } = *self;
+        let answer = perform(memory, kind, step.phase, bytes, runs, figures);
+        self.next(device, regions, answer, pieces, bytes, runs, figures);
+    }
+
+    /// The same until the notice has ended, at most so many times; says whether it has.
+    #[tactic(auto, using(crate::proofs::GoesLemmas::goes_steps))]
+    pub fn serve_steps<M: LiveMemory>(
+        &mut self,
+        memory: &mut M,
+        device: &mut Device,
+        regions: &[Region],
+        pieces: &mut [Piece; MAX_PIECES],
+        bytes: &mut [u8; MAX_BYTES],
+        runs: &mut [Run; MAX_RUNS],
+        figures: &mut [Statistic; MAX_FIGURES],
+        times: u64,
+    ) -> bool
+        requires { Fits self.old.step.phase }
+        ensures kind { self.new.kind ≡ self.old.kind }
+        ensures step { Goes (M.log memory.old) (M.log memory.new)
+            (λ after outcome log. Ahead (whole regions.now self.old.kind after outcome)
+            self.old.step device.old (room_of pieces.old bytes.old runs.old figures.old) log)
+            (λ after outcome log. Ahead (whole regions.now self.old.kind after outcome)
+            self.new.step device.new (room_of pieces.new bytes.new runs.new figures.new) log) }
+        ensures ended { result ≡ is_ended self.new.step.phase }
+    {
+        for _ in 0..times {
+            if self.is_ended() {
+                return true;
+            }
+            self.serve_step(memory, device, regions, pieces, bytes, runs, figures);
+        }
+        self.is_ended()
+    }
+
+    /// What the notice came to, if it has ended.
+    pub fn outcome(&self) -> Option<Outcome>
+        ensures { MatchOption result (is_ended self.now.step.phase ≡ false)
+            (λ outcome. self.now.step.phase ≡ Ended outcome) }
+    {
+        match self.step.phase {
+            Phase::Ended { outcome } => Some(outcome),
+            _ => None,
+        }
+    }
+}
+
+/// Serves the queue of a kind, as far as the budget has room; none where it hasn't ended after so
+/// many accesses.
+pub fn serve<M: LiveMemory>(
+    memory: &mut M,
+    device: &mut Device,
+    regions: &[Region],
+    kind: Kind,
+    budget: Budget,
+    pieces: &mut [Piece; MAX_PIECES],
+    bytes: &mut [u8; MAX_BYTES],
+    runs: &mut [Run; MAX_RUNS],
+    figures: &mut [Statistic; MAX_FIGURES],
+    times: u64,
+) -> Option<Outcome>
+    ensures { IfSome result (λ outcome. Adds (M.log memory.old) (M.log memory.new)
+        (Serves regions.now kind budget device.old device.new outcome)) }
+{
+    let mut notice = Notice::begin(device, regions, kind, budget);
+    notice.serve_steps(memory, device, regions, pieces, bytes, runs, figures, times);
+    notice.outcome()
+}

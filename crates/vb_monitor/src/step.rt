@@ -1,0 +1,105 @@
+//! What is to be done next, and what a notice remembers until it was done.
+
+use crate::{Cut, Outcome, Spot, Tally, UsedSpots};
+use vb_core::{Denial, Named, UsedEntry};
+
+/// How far the walk along a chain is.
+#[derive(Clone, Copy, Debug)]
+pub struct Walk {
+    /// The number of the chain's first descriptor.
+    pub head: u16,
+    /// How many pieces stand in the room for them.
+    pub count: u16,
+    /// One of them is the device's to write.
+    pub writing: bool,
+}
+
+/// Which part of a chain's pieces is copied.
+#[derive(Clone, Copy, Debug)]
+pub struct Place {
+    /// The number of the chain's first descriptor.
+    pub head: u16,
+    /// How many pieces it has.
+    pub count: u16,
+    /// The number of this piece.
+    pub piece: usize,
+    /// It is the part behind the end of the page in which the piece begins.
+    pub is_second: bool,
+    /// How many bytes were copied before.
+    pub into: usize,
+    /// How many bytes the part has.
+    pub length: u32,
+}
+
+/// What was named, and how far it is discarded.
+#[derive(Clone, Copy, Debug)]
+pub struct Discarding {
+    /// The number of the chain's first descriptor.
+    pub head: u16,
+    /// How many runs it names.
+    pub runs: usize,
+    /// The number of the run that is discarded.
+    pub run: usize,
+    /// The number of the region behind the one in which it is.
+    pub from: usize,
+}
+
+/// What is to be done next. Each is given an answer, which is the word that was read, or anything.
+#[derive(Clone, Copy, Debug)]
+pub enum Phase {
+    /// The word there is to be read: the available index.
+    AwaitsIndex {
+        at: Spot,
+    },
+    /// Behind an acquire fence the word there is to be read: the entry.
+    AwaitsEntry {
+        at: Spot,
+    },
+    /// 16 bytes are to be copied from there to the front of the bytes: a descriptor.
+    AwaitsDescriptor {
+        at: Spot,
+        walk: Walk,
+    },
+    /// Bytes are to be copied from there behind those that were copied: a part of a piece.
+    AwaitsPart {
+        at: Spot,
+        place: Place,
+    },
+    /// The monitor is to be told the pages of the first runs.
+    TellsPages {
+        head: u16,
+        named: Named,
+    },
+    /// The monitor is to be told the first figures, so many.
+    TellsFigures {
+        head: u16,
+        count: u32,
+    },
+    /// The bytes there are to be discarded.
+    Discards {
+        cut: Cut,
+        discarding: Discarding,
+    },
+    /// The two numbers of a used element are to be written, and behind a release fence its index.
+    GivesBack {
+        spots: UsedSpots,
+        entry: UsedEntry,
+    },
+    /// Behind a full fence the word there is to be read: the driver's flags.
+    AwaitsFlags {
+        at: Spot,
+        why: Option<Denial>,
+        more: bool,
+    },
+    /// Nothing: this is the outcome.
+    Ended {
+        outcome: Outcome,
+    },
+}
+
+/// What is to be done next, and what was done.
+#[derive(Clone, Copy, Debug)]
+pub struct Step {
+    pub tally: Tally,
+    pub phase: Phase,
+}

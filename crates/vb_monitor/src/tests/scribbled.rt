@@ -1,0 +1,148 @@
+//! A memory whose bytes change as they are read.
+
+ghost use Rattle.std.specs.Prelude.{◌≡◌, ◌++◌, ◌∷◌, []};
+
+use crate::{Cut, LiveMemory, Spot};
+use std::alloc::Global;
+use std::process::Abort;
+use vb_core::{Kind, Run, Statistic};
+
+/// What was asked, with its answer.
+#[derive(Drop)]
+pub(super) enum Entry {
+    Word { at: Spot, answer: u16 },
+    Bytes { at: Spot, bytes: Vec<u8> },
+    AcquireFence,
+    ReleaseFence,
+    FullFence,
+    Pages { kind: Kind, runs: Vec<Run> },
+    Figures { figures: Vec<Statistic> },
+    Discarded { cut: Cut },
+    NumberWritten { at: Spot, number: u32 },
+    WordWritten { at: Spot, word: u16 },
+}
+
+/// Memory that scribbles over each byte as soon as it was read, but the available ring's flags and
+/// index: a second read answers another one.
+#[derive(Drop)]
+pub(super) struct Scribbled<'r, R: Abort> {
+    pub(super) rt: &'r R,
+    pub(super) alloc: Global,
+    pub(super) bytes: Vec<u8>,
+    pub(super) turn: u8,
+    pub(super) trace: Vec<Entry>,
+}
+
+impl<R: Abort> Scribbled<'_, R> {
+    /// Reads a byte of the first region, and changes it.
+    fn take_byte(&mut self, at: u64) -> u8
+        ensures { self.new.trace ≡ self.old.trace }
+    {
+        if at >= self.bytes.len() as u64 {
+            return 0;
+        }
+        let place = at as usize;
+        let byte = self.bytes[place];
+        if at < 0x100 || at >= 0x104 {
+            self.turn = self.turn.wrapping_add(1);
+            self.bytes[place] = byte.wrapping_add(self.turn);
+        }
+        byte
+    }
+
+    /// Reads bytes, and changes them.
+    fn take_bytes(&mut self, at: u64, out: &mut [u8])
+        ensures { self.new.trace ≡ self.old.trace }
+    {
+        for k in 0..out.len() {
+            out[k] = self.take_byte(at.wrapping_add(k as u64));
+        }
+    }
+
+    /// Writes an entry behind the trace.
+    fn note(&mut self, entry: Entry)
+        ensures { self.new.trace.items ≡ self.old.trace.items ++ entry ∷ [] }
+    {
+        self.trace.push(entry).expect(self.rt, "memory");
+    }
+}
+
+impl<R: Abort> LiveMemory for Scribbled<'_, R> {
+    ghost use Rattle.std.specs.Prelude.{map};
+    ghost use Rattle.vb_monitor.specs.declared.tests.scribbled.Entry.TheVariants.{
+      Word,
+      Bytes,
+      AcquireFence,
+      ReleaseFence,
+      FullFence,
+      Pages,
+      Figures,
+      Discarded,
+      NumberWritten,
+      WordWritten,
+    };
+    ghost use Rattle.vb_monitor.specs.Accesses.{ReadWord, CopyBytes, Acquire, Release, Full};
+    ghost use Rattle.vb_monitor.specs.Accesses.{TellPages, TellFigures, Discard, WriteNumber};
+    ghost use Rattle.vb_monitor.specs.Accesses.{WriteWord};
+
+    ghost log = { λ m. map (elim [
+      | Word at answer ↦ ReadWord at answer
+      | Bytes at bytes ↦ CopyBytes at bytes.items
+      | AcquireFence ↦ Acquire
+      | ReleaseFence ↦ Release
+      | FullFence ↦ Full
+      | Pages kind runs ↦ TellPages kind runs.items
+      | Figures figures ↦ TellFigures figures.items
+      | Discarded cut ↦ Discard cut
+      | NumberWritten at number ↦ WriteNumber at number
+      | WordWritten at word ↦ WriteWord at word
+    ]) m.trace.items };
+
+    fn word(&mut self, at: Spot) -> u16 {
+        let low = self.take_byte(at.offset);
+        let high = self.take_byte(at.offset.wrapping_add(1));
+        let answer = u16::from_le_bytes([low, high]);
+        self.note(Entry::Word { at, answer });
+        answer
+    }
+
+    fn copy(&mut self, at: Spot, out: &mut [u8]) {
+        self.take_bytes(at.offset, out);
+        let bytes = out.to_vec(self.alloc).expect(self.rt, "memory");
+        self.note(Entry::Bytes { at, bytes });
+    }
+
+    fn acquire(&mut self) {
+        self.note(Entry::AcquireFence);
+    }
+
+    fn release(&mut self) {
+        self.note(Entry::ReleaseFence);
+    }
+
+    fn full(&mut self) {
+        self.note(Entry::FullFence);
+    }
+
+    fn tell_pages(&mut self, kind: Kind, runs: &[Run]) {
+        let runs = runs.to_vec(self.alloc).expect(self.rt, "memory");
+        self.note(Entry::Pages { kind, runs });
+    }
+
+    fn tell_figures(&mut self, figures: &[Statistic]) {
+        let figures = figures.to_vec(self.alloc).expect(self.rt, "memory");
+        self.note(Entry::Figures { figures });
+    }
+
+    fn discard(&mut self, cut: Cut) {
+        self.note(Entry::Discarded { cut });
+    }
+
+    fn write_number(&mut self, at: Spot, number: u32) {
+        self.note(Entry::NumberWritten { at, number });
+    }
+
+    fn write_word(&mut self, at: Spot, word: u16) {
+        self.note(Entry::WordWritten { at, word });
+    }
+}
