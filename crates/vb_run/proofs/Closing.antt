@@ -2,11 +2,11 @@
 use Rattle.std.specs.Prelude.{not, ◌==◌, ◌&&◌}
 use Rattle.std.proofs.lemmas.Bool.{and_parts, eqb-true}
 use Rattle.std.proofs.Common.{◌≡◌, refl, sym, ◌∙◌, ap, subst, ℕ, zero, suc, ◌<◌, Bool, true, false}
-use Rattle.std.proofs.Common.{List, [], ◌∷◌, length, Some, None, slice_get, arith, All}
-use Rattle.std.specs.Prelude.{slice_index_or}
+use Rattle.std.proofs.Common.{List, [], ◌∷◌, length, Some, None, slice_get, arith, All, map}
 use Rattle.std.specs.declared.vec.Vec.{Vec}
 use Rattle.std.specs.declared.alloc.Global.{Global}
 use Rattle.std.proofs.lemmas.Option.{slice_get_within}
+use Rattle.std.proofs.lemmas.List.{length-map}
 use Rattle.vb_model.specs.declared.calls.Actor.TheVariants.{Processor, Balancer}
 use Rattle.vb_model.specs.declared.calls.Call.{Call}
 use Rattle.vb_model.specs.declared.replies.Reply.{Reply}
@@ -21,10 +21,10 @@ use Rattle.vb_run.specs.declared.report.Report.{Report}
 use Rattle.vb_run.specs.Entries.{calls_by, replies_by, entries_by}
 use Rattle.vb_run.specs.Plans.{config_of}
 use Rattle.vb_run.specs.Services.{services}
-use Rattle.vb_run.specs.Past.{Past, IsKept, AreScripts, AllEnded}
+use Rattle.vb_run.specs.Past.{Past, IsKept, AreScripts, AllEnded, AreHushed}
 use Rattle.vb_run.specs.Rounds.{Rounded, round_entries}
 use Rattle.vb_run.specs.Reports.{IsGuestReport, IsReport, IsRound, AreApart, frames_behind}
-use Rattle.vb_run.proofs.Lists.{take_whole}
+use Rattle.vb_run.proofs.Lists.{take_whole, some_same}
 use Rattle.vb_run.proofs.Tended.{served}
 
 -- configurations that aren't told apart are the same
@@ -63,9 +63,8 @@ few_services : (n : ℕ) (call : Call) → slice_get services n ≡ Some call �
 few_services n call at = slice_get_within services n call at
 
 pub closes : (Is : Guest → Type 0) (own : List ℕ) (p : Past) (floor guest : ℕ) (plan : GuestPlan)
-    (rounds : List Rounded) (report : GuestReport) (k : IsKept Is own p) → p.guest ≡ guest
-    → p.sizes ≡ plan.config
-    → ((n : ℕ) → n < 9 → slice_index_or p.quiet n false ≡ true)
+    (paced : Bool) (rounds : List Rounded) (report : GuestReport) (k : IsKept Is own p)
+    → p.guest ≡ guest → p.sizes ≡ plan.config → p.paced ≡ paced → AreHushed p.quiet
     → AreScripts p.scripts plan.scripts.items → AllEnded p.scripts
     → entries_by Balancer p.history ≡ round_entries floor guest rounds
     → report.history.items ≡ p.history
@@ -73,16 +72,15 @@ pub closes : (Is : Guest → Type 0) (own : List ℕ) (p : Past) (floor guest : 
     → ((cpu : ℕ) (replies : Vec Reply Global) → slice_get report.replies.items cpu ≡ Some replies
     → replies.items ≡ replies_by (Processor guest cpu) p.history)
     → ((g : Guest) → Is g → report.frames.items ≡ frames_behind g)
-    → IsGuestReport floor guest plan rounds report
-closes Is own p floor guest plan rounds report k is sizes quiet scripts ended balanced history
-    count replies frames =
-    let run : IsHistory (config_of plan.config k.paced) 0 report.history.items k.now =
-    rw history (subst (λ (s : Sizes). IsHistory (config_of s k.paced) 0 p.history k.now) sizes k.run)
-    in
+    → IsGuestReport floor guest plan paced rounds report
+closes Is own p floor guest plan paced rounds report k is sizes pace quiet scripts ended balanced
+    history count replies frames =
+    let run : IsHistory (config_of plan.config paced) 0 report.history.items k.now =
+    rw history (subst (λ (b : Bool). IsHistory (config_of plan.config b) 0 p.history k.now) pace
+    (subst (λ (s : Sizes). IsHistory (config_of s p.paced) 0 p.history k.now) sizes k.run)) in
     record {
-      paced = k.paced;
       last = k.now;
-      safe = history_is_safe (config_of plan.config k.paced) 0 report.history.items k.now run;
+       safe = history_is_safe (config_of plan.config paced) 0 report.history.items k.now run;
       made = rw (history, sym is, sym scripts.0) k.made;
       scripts = count;
       plays = λ cpu calls got here answers.
@@ -100,17 +98,34 @@ closes Is own p floor guest plan rounds report k is sizes quiet scripts ended ba
       frames = frames k.now k.stands;
     }
 
-pub reported : (plan : Plan) (report : Report) (gs : List GuestPlan) (rs ms : List Rounded)
+-- what stands at a place of a list that was mapped
+mapped_at : {X Y : Type 0} (f : X → Y) (xs : List X) (n : ℕ) (y : Y)
+    → slice_get (map f xs) n ≡ Some y → (x : X) × (slice_get xs n ≡ Some x) × (f x ≡ y)
+mapped_at f [] n y at = absurd (none_some y at)
+mapped_at f (x ∷ xs) zero y at = (x, refl, some_same (f x) y at)
+mapped_at f (x ∷ xs) (suc n) y at = mapped_at f xs n y at
+
+-- the report of each guest, by the pace of its seat, is that by the pace of its port
+pub reported : {S D : Type 0} (seat : S → Bool) (port : D → Bool) (plan : Plan) (report : Report)
+    (seats : List S) (ports : List D) (gs : List GuestPlan) (rs ms : List Rounded)
     → gs ≡ plan.guests.items → rs ≡ report.rounds.items → ms ≡ report.rounds.items
-    → length report.guests.items ≡ length gs
-    → ((g : ℕ) (r : GuestReport) (p : GuestPlan) → slice_get report.guests.items g ≡ Some r
-    → slice_get gs g ≡ Some p → IsGuestReport plan.floor g p rs r)
+    → length report.guests.items ≡ length gs → length ports ≡ length plan.guests.items
+    → map seat seats ≡ map port ports
+    → ((g : ℕ) (r : GuestReport) (p : GuestPlan) (s : S) → slice_get report.guests.items g ≡ Some r
+    → slice_get gs g ≡ Some p → slice_get seats g ≡ Some s
+    → IsGuestReport plan.floor g p (seat s) rs r)
     → AreApart report.guests.items → length report.rounds.items ≡ plan.rounds
-    → All (IsRound plan) ms → IsReport plan report
-reported plan report gs rs ms e f h len each apart count all = record {
-  guests = len ∙ ap length e;
-  each = rw (sym e, sym f) each;
-  apart = apart;
-  rounds = count;
-  answers = rw (sym h) all;
-}
+    → All (IsRound plan) ms → IsReport plan (map port ports) report
+reported seat port plan report seats ports gs rs ms e f h len placed alike each apart count all =
+    record {
+      guests = len ∙ ap length e;
+      ports = length-map ports port ∙ placed;
+      each = λ g r p paced at planned pace.
+          let s = mapped_at seat seats g paced (ap (λ (l : List _). slice_get l g) alike ∙ pace) in
+          subst (λ (b : Bool). IsGuestReport plan.floor g p b report.rounds.items r) s.2
+          (subst (λ (l : List Rounded). IsGuestReport plan.floor g p (seat s.0) l r) f
+          (each g r p s.0 at (ap (λ (l : List GuestPlan). slice_get l g) e ∙ planned) s.1));
+      apart = apart;
+      rounds = count;
+      answers = rw (sym h) all;
+    }

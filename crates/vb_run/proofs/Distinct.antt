@@ -1,9 +1,9 @@
 -- Numbers that rise stand once each, in whatever order.
 use Rattle.std.proofs.Common.{◌≡◌, refl, sym, ◌∙◌, ap, ℕ, suc, ◌+◌, ◌<◌, ◌≤◌, Bool, true}
-use Rattle.std.proofs.Common.{false, List, [], ◌∷◌, ◌++◌, length, take, arith, add-one, take-suc, get_or}
+use Rattle.std.proofs.Common.{false, List, [], ◌∷◌, ◌++◌, length, take, arith, zero, add-one, take-suc, get_or}
 use Rattle.std.specs.Prelude.{◌==◌, sum_by}
 use Rattle.std.proofs.lemmas.Bool.Decides.{nat_tests}
-use Rattle.std.specs.List.Sorted.{IsPermutation}
+use Rattle.std.specs.List.Sorted.{IsPermutation, IsNonDecreasing}
 use Rattle.std.proofs.lemmas.List.Sorted.{sum_by-IsPermutation}
 use Rattle.std.proofs.lemmas.List.Sums.{sum_by_push, sum_by-cons}
 use Rattle.vb_model.specs.Tests.{times, one_if}
@@ -72,3 +72,39 @@ pub apart : (reports : List GuestReport) (all sorted : List ℕ)
 apart reports all sorted gathered p rising frame =
     rw (sym (gathered frame), sym (times_permuted frame all sorted p))
     (rising_once sorted rising frame)
+
+-- numbers in order that stand once each rise
+once_rising : (xs : List ℕ) → IsNonDecreasing xs → ((n : ℕ) → times n xs ≤ 1) → IsRising xs
+once_rising [] ordered once i within = absurd (omega (arith, within))
+once_rising (x ∷ []) ordered once zero within = absurd (omega (arith, within))
+once_rising (x ∷ y ∷ ys) ordered once zero within = cases (y == x) refl
+  where
+    le : x ≤ y
+    le = ordered 0 1 0 (omega arith) (omega (arith, within))
+
+    first : times x (x ∷ y ∷ ys) ≡ one_if (x == x) + times x (y ∷ ys)
+    first = count_by-cons (λ m. m == x) x (y ∷ ys)
+
+    second : times x (y ∷ ys) ≡ one_if (y == x) + times x ys
+    second = count_by-cons (λ m. m == x) y ys
+
+    own : (x == x) ≡ true
+    own = grind (arith, nat_tests)
+
+    cases : (b : Bool) → (y == x) ≡ b → x < y
+    cases true e =
+        let one : one_if (x == x) ≡ 1 = ap one_if own in
+        let other : one_if (y == x) ≡ 1 = ap one_if e in
+        absurd (omega (arith, first, second, one, other, once x))
+    cases false e = grind (arith, nat_tests, e, le)
+once_rising (x ∷ xs) ordered once (suc i) within =
+    once_rising xs (λ j k d le lt. ordered (suc j) (suc k) d (omega (arith, le)) (omega (arith, lt)))
+    (λ n. omega (arith, count_by-cons (λ m. m == n) x xs, once n)) i (omega (arith, within))
+
+-- frames in order, of which none stands twice in any report, rise
+pub rising_apart : (reports : List GuestReport) (all sorted : List ℕ)
+    → ((frame : ℕ) → times frame all ≡ sum_by (λ r. times frame r.frames.items) reports)
+    → IsPermutation all sorted → IsNonDecreasing sorted → AreApart reports → IsRising sorted
+rising_apart reports all sorted gathered p ordered apart =
+    once_rising sorted ordered (λ frame.
+    omega (arith, times_permuted frame all sorted p, gathered frame, apart frame))

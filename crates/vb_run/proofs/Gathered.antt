@@ -1,16 +1,24 @@
 -- What is gathered from a history, an entry at a time.
 use Rattle.std.proofs.Common.{◌≡◌, refl, sym, ◌∙◌, ap, ℕ, ◌+◌, ◌<◌, true, false, List, [], ◌∷◌}
-use Rattle.std.proofs.Common.{◌++◌, length, take, Some, None, add-one, take-suc, get_or}
+use Rattle.std.proofs.Common.{◌++◌, length, take, drop, Some, None, add-one, take-suc, get_or}
+use Rattle.std.proofs.Common.{zero, suc, arith, ◌≤◌, slice_get, subst, take_all}
+use Rattle.std.specs.Prelude.{◌==◌, ◌↔◌}
+use Rattle.std.specs.List.{list_all}
+use Rattle.std.proofs.lemmas.Bool.{eqb-true}
+use Rattle.std.proofs.lemmas.Bool.Decides.{nat_tests}
+use Rattle.std.proofs.lemmas.List.Folds.{list_all-append}
 use Rattle.std.specs.Prelude.{filter_map}
-use Rattle.std.proofs.lemmas.List.{append-nil, append_assoc}
+use Rattle.std.proofs.lemmas.List.{append-nil, append_assoc, take-append-drop, length-take-le}
 use Rattle.std.proofs.lemmas.List.Elements.{filter_map-append, filter-append}
 use Rattle.vb_model.specs.declared.calls.Actor.{Actor}
+use Rattle.vb_model.specs.declared.calls.Actor.TheVariants.{Balancer}
 use Rattle.vb_model.specs.declared.replies.Reply.{Reply}
 use Rattle.std.specs.Prelude.{Option}
 use Rattle.vb_model.specs.Guest.{frame_of}
 use Rattle.vb_model.specs.GuestRun.{Entry}
 use Rattle.vb_run.specs.Entries.{is_same, actor_of, reply_to, replies_by, entries_by}
-use Rattle.vb_run.specs.Rounds.{Rounded, entries_of_round, round_entries}
+use Rattle.vb_run.specs.Rounds.{Rounded, entries_of_round, is_of_round, round_entries}
+use Rattle.vb_run.proofs.Lists.{passes_at, take_next, take_whole}
 
 pub replies_some : (a : Actor) (h : List Entry) (n : ℕ) (d : Entry) (r : Reply) → n < length h
     → reply_to a (get_or h n d) ≡ Some r
@@ -75,3 +83,80 @@ frames_none frames n within is =
     ∙ ap (filter_map (λ f. f)) (take-suc frames n None within)
     ∙ filter_map-append (λ f. f) (take n frames) (frame_of frames n ∷ [])
     ∙ rw is (append-nil (filter_map (λ f. f) (take n frames)))
+
+-- ---- the balancer's entries, and those that the rounds make
+
+-- what stands behind the first k of a list, if it is known how it goes on there
+at_cut : {X : Type 0} (xs : List X) (k : ℕ) (e : X) (more : List X) → k ≤ length xs
+    → xs ≡ take k xs ++ e ∷ more → slice_get xs k ≡ Some e
+at_cut [] zero e more le is = cc
+at_cut [] (suc k) e more le is = absurd (omega (arith, le))
+at_cut (x ∷ xs) zero e more le is = cc
+at_cut (x ∷ xs) (suc k) e more le is =
+    let rest : xs ≡ take k xs ++ e ∷ more = cc in at_cut xs k e more (omega (arith, le)) rest
+
+-- what an actor made, from one of its entries on
+entries_on : (a : Actor) (h : List Entry) (n : ℕ) (e : Entry) → slice_get h n ≡ Some e
+    → is_same a (actor_of e) ≡ true
+    → entries_by a h ≡ entries_by a (take n h) ++ e ∷ entries_by a (drop (suc n) h)
+entries_on a h n e at is =
+    ap (entries_by a) (sym (take-append-drop (suc n) h) ∙ ap (λ l. l ++ drop (suc n) h) first)
+    ∙ filter-append (λ x. is_same a (actor_of x)) (take n h ++ e ∷ []) (drop (suc n) h)
+    ∙ ap (λ l. l ++ entries_by a (drop (suc n) h))
+    (filter-append (λ x. is_same a (actor_of x)) (take n h) (e ∷ []) ∙ rw is refl)
+    ∙ append_assoc (entries_by a (take n h)) (e ∷ []) (entries_by a (drop (suc n) h))
+  where
+    first : take (suc n) h ≡ take n h ++ e ∷ []
+    first = ap (λ k. take k h) (sym (add-one n)) ∙ take_next h n e at
+
+-- an entry of the balancer that is the next of those that are expected
+pub made_next : (h expected : List Entry) (n place : ℕ) (e : Entry) → slice_get h n ≡ Some e
+    → is_same Balancer (actor_of e) ≡ true
+    → entries_by Balancer (take n h) ≡ take place expected
+    → list_all is_of_round (take place expected) ≡ true
+    → (slice_get expected place ≡ Some e) × (is_of_round e ≡ true)
+    → (entries_by Balancer (take (n + 1) h) ≡ take (place + 1) expected)
+    × (list_all is_of_round (take (place + 1) expected) ≡ true)
+made_next h expected n place e at own so_far all (here, of_round) =
+    let next = take_next expected place e here in (
+      ap (entries_by Balancer) (take_next h n e at)
+          ∙ filter-append (λ x. is_same Balancer (actor_of x)) (take n h) (e ∷ [])
+          ∙ rw own (ap (λ l. l ++ e ∷ []) so_far) ∙ sym next,
+      ap (list_all is_of_round) next
+          ∙ list_all-append is_of_round (take place expected) (e ∷ [])
+          ∙ rw (all, of_round) refl,
+    )
+
+-- an entry of the balancer that isn't
+pub not_made : (h expected : List Entry) (n place : ℕ) (e : Entry) → slice_get h n ≡ Some e
+    → is_same Balancer (actor_of e) ≡ true
+    → entries_by Balancer (take n h) ≡ take place expected → place ≤ length expected
+    → ((slice_get expected place ≡ Some e) × (is_of_round e ≡ true) → ⊥)
+    → (entries_by Balancer h ≡ expected) × (list_all is_of_round expected ≡ true) → ⊥
+not_made h expected n place e at own so_far le other (same, all) =
+    let more = entries_by Balancer (drop (suc n) h) in
+    let whole : expected ≡ take place expected ++ e ∷ more =
+    sym same ∙ entries_on Balancer h n e at own ∙ ap (λ l. l ++ e ∷ more) so_far in
+    let here : slice_get expected place ≡ Some e = at_cut expected place e more le whole in
+    other (here, passes_at is_of_round expected place e here all)
+
+-- the balancer's entries are those that are expected where there is one for each
+pub made_whole : (h expected : List Entry) (n place : ℕ) → length h ≤ n
+    → entries_by Balancer (take n h) ≡ take place expected → place ≤ length expected
+    → list_all is_of_round (take place expected) ≡ true
+    → ((place == length expected) ≡ true)
+    ↔ ((entries_by Balancer h ≡ expected) × (list_all is_of_round expected ≡ true))
+made_whole h expected n place past so_far le all = (
+  λ e.
+      let whole : take place expected ≡ expected = take_whole expected place (eqb-true _ _ e) in
+      (made ∙ whole, subst (λ (l : List Entry). list_all is_of_round l ≡ true) whole all),
+  λ both.
+      let count : length (take place expected) ≡ length expected =
+      ap (λ (l : List Entry). length l) (sym made ∙ both.0) in
+      let first : length (take place expected) ≡ place = length-take-le place expected le in
+      let e : place ≡ length expected = sym first ∙ count in
+      rw e (grind (arith, nat_tests)),
+)
+  where
+    made : entries_by Balancer h ≡ take place expected
+    made = ap (entries_by Balancer) (sym (take_all n h past)) ∙ so_far

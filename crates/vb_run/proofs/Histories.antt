@@ -93,10 +93,9 @@ pub kept_aside : (Is Is' : Guest → Type 0) (own own' : List ℕ) (p : Past) (e
     → slice_get services n ≡ Some call → IsQuiet new call)
     → IsKept Is' own' (record p { history = p.history ++ e ∷ []; quiet = quiet })
 kept_aside Is Is' own own' p e new quiet k aside mine stands behind step tended hushed = record {
-  paced = k.paced;
   now = new;
   stands = stands;
-  run = run_push (config_of p.sizes k.paced) 0 k.now new p.history e k.run step;
+  run = run_push (config_of p.sizes p.paced) 0 k.now new p.history e k.run step;
   tended = tended;
   behind = behind;
   made = made_push p.guest (length p.scripts) p.history e k.made mine;
@@ -128,10 +127,9 @@ pub kept_next : (Is Is' : Guest → Type 0) (own own' : List ℕ) (p : Past) (cp
     })
 kept_next Is Is' own own' p cpu s call claims reply new quiet k here next stands behind step
     tended hushed = record {
-      paced = k.paced;
       now = new;
       stands = stands;
-      run = run_push (config_of p.sizes k.paced) 0 k.now new p.history e k.run step;
+      run = run_push (config_of p.sizes p.paced) 0 k.now new p.history e k.run step;
       tended = tended;
       behind = behind;
       made = subst (λ (n : ℕ). AreMade p.guest n (p.history ++ e ∷ []))

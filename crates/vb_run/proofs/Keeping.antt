@@ -8,7 +8,7 @@ use Rattle.std.specs.Prelude.{MatchResult, MatchOption, Option}
 use Rattle.std.specs.declared.alloc.AllocError.{AllocError}
 use Rattle.std.proofs.lemmas.List.Elements.{All-nil}
 use Rattle.vb_model.specs.declared.calls.Actor.{Actor}
-use Rattle.vb_model.specs.declared.calls.Actor.TheVariants.{Starter, Processor, Balancer}
+use Rattle.vb_model.specs.declared.calls.Actor.TheVariants.{Processor, Balancer}
 use Rattle.vb_model.specs.declared.calls.Call.{Call}
 use Rattle.vb_model.specs.declared.calls.Call.TheVariants.{Init}
 use Rattle.vb_model.specs.declared.calls.Claim.{Claim}
@@ -21,14 +21,11 @@ use Rattle.vb_ram.specs.declared.config.Config.{Config as Sizes}
 use Rattle.vb_slot.specs.Alone.{AreBehind, StepsTo}
 use Rattle.vb_run.specs.Plans.{config_of, is_plain, may_stand}
 use Rattle.vb_run.specs.Services.{IsQuiet, services, found_nothing, default_features}
-use Rattle.vb_run.specs.Past.{Past, Progress, IsKept, IsMade, IsAside, AreBegun}
+use Rattle.vb_run.specs.Past.{Past, Progress, IsKept, IsMade, IsAside, AreBegun, unknown}
+use Rattle.vb_run.specs.Past.{just_started}
 use Rattle.vb_run.proofs.Tended.{plain_entry, service_plain, is_quiet, started, stands_plain}
 use Rattle.vb_run.proofs.Lists.{passes_at, some_same}
 use Rattle.vb_run.proofs.Histories.{kept_aside, kept_next}
-
--- nothing is known of the worker's calls
-abbrev pub unknown : List Bool
-unknown = false ∷ false ∷ false ∷ false ∷ false ∷ false ∷ false ∷ false ∷ false ∷ []
 
 not_known : (n : ℕ) → slice_index_or unknown n false ≡ true → ⊥
 not_known zero h = cc
@@ -100,7 +97,6 @@ served_quiet Is Is' own own' p n call claims reply k at nothing s behind =
     let (quiet, same) = is_quiet k.now n call claims reply s.new at honest nothing in
     let stands : Is' k.now = subst Is' same s.stands in
     record {
-      paced = k.paced;
       now = k.now;
       stands = stands;
       run = k.run;
@@ -140,18 +136,10 @@ pub kept_start : (Is' : Guest → Type 0) (own' : List ℕ) (guest : ℕ) (sizes
     → is_config sizes.pages sizes.queue_size sizes.processors ≡ true → AreBegun scripts
     → StepsTo Is' claims (fresh (config_of sizes paced) 0) (Init default_features) reply
     → ((g : Guest) → Is' g → AreBehind own' g)
-    → IsKept Is' own' (record {
-      guest = guest;
-      sizes = sizes;
-      history = Called Starter (Init default_features) claims reply ∷ [];
-      scripts = scripts;
-      quiet = unknown;
-      short = false;
-    })
+    → IsKept Is' own' (just_started guest sizes paced scripts claims reply)
 kept_start Is' own' guest sizes paced scripts claims reply fits begun s behind =
     let (step, tended) = started (config_of sizes paced) claims reply s.new fits s.step in
     record {
-      paced = paced;
       now = s.new;
       stands = s.stands;
       run = (s.new ∷ [], (step, tt), refl);

@@ -11,5 +11,4 @@ mod RoundFacts
 mod EntryFacts
 mod ServiceFacts
 mod ReportFacts
-mod StartFacts
 mod MadeFacts

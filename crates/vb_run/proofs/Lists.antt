@@ -1,7 +1,7 @@
 -- Lists of one element more, and lists that are changed at a place.
 use Rattle.std.proofs.Common.{◌≡◌, refl, ap, ◌∙◌, subst, ℕ, zero, suc, ◌+◌, ◌<◌, ◌≤◌, List, [], ◌∷◌}
 use Rattle.std.proofs.Common.{◌++◌, length, Some, slice_get, slice_set, ◌⊎◌, inl, inr, ⊎_elim}
-use Rattle.std.proofs.Common.{arith, take, All, add-one, take-suc, take_all, get_or, ◌≢◌, true, Bool}
+use Rattle.std.proofs.Common.{arith, map, take, All, add-one, take-suc, take_all, get_or, ◌≢◌, true, Bool}
 use Rattle.std.specs.List.{list_all, Contains}
 use Rattle.std.proofs.lemmas.Bool.{and_parts}
 use Rattle.std.proofs.Math.Seq.{take-length}
@@ -88,3 +88,14 @@ first_of P xs x rest e all = (subst (All P) e all) 0 x (omega arith)
 pub rest_of : {X : Type 0} (P : X → Type 0) (xs : List X) (x : X) (rest : List X)
     → xs ≡ x ∷ rest → All P xs → All P rest
 rest_of P xs x rest e all = λ k d within. (subst (All P) e all) (suc k) d (omega (arith, within))
+
+-- where two lists are mapped to one, so are what stands at a place of them
+pub mapped_alike : {X Y Z : Type 0} (f : X → Z) (h : Y → Z) (xs : List X) (ys : List Y) (i : ℕ)
+    (x : X) (y : Y) → i < length xs → i < length ys → map f xs ≡ map h ys
+    → f (get_or xs i x) ≡ h (get_or ys i y)
+mapped_alike f h [] ys i x y lt less same = absurd (omega (arith, lt))
+mapped_alike f h (a ∷ xs) [] i x y lt less same = absurd (omega (arith, less))
+mapped_alike f h (a ∷ xs) (b ∷ ys) zero x y lt less same = cc
+mapped_alike f h (a ∷ xs) (b ∷ ys) (suc i) x y lt less same =
+    let rest : map f xs ≡ map h ys = cc in
+    mapped_alike f h xs ys i x y (omega (arith, lt)) (omega (arith, less)) rest

@@ -1,5 +1,6 @@
 -- Worked facts of what a run answers.
-use Rattle.std.proofs.Common.{◌≡◌, ℕ, zero, suc, ◌+◌, ◌≤◌, List, [], ◌∷◌, true, map, refl}
+use Rattle.std.proofs.Common.{◌≡◌, ℕ, zero, suc, ◌+◌, ◌≤◌, List, [], ◌∷◌, Bool, true, false, map}
+use Rattle.std.proofs.Common.{refl}
 use Rattle.std.proofs.Common.{sym, ap, subst, ◌∙◌, arith, length, All}
 use Rattle.std.specs.Prelude.{Option, Some, None, slice_get, slice_index_or, ◌-◌}
 use Rattle.std.specs.Prelude.{filter_map}
@@ -267,18 +268,18 @@ another_answer plan g h guests pages more frames r =
 
 -- what no such report has
 abbrev NoReport : GuestPlan → List Rounded → GuestReport → Type 0
-NoReport plan rounds report = IsGuestReport 16 1 plan rounds report → ⊥
+NoReport plan rounds report = (paced : Bool) → IsGuestReport 16 1 plan paced rounds report → ⊥
 
 -- It plays its scripts.
-plays_scripts : (plan : GuestPlan) (rounds : List Rounded) (report : GuestReport)
-    → IsGuestReport 16 1 plan rounds report → Plays 1 plan report
-plays_scripts plan rounds report is = is.plays
+plays_scripts : (plan : GuestPlan) (paced : Bool) (rounds : List Rounded) (report : GuestReport)
+    → IsGuestReport 16 1 plan paced rounds report → Plays 1 plan report
+plays_scripts plan paced rounds report is = is.plays
 
 -- replies for each script
 script_without_replies : (plan : GuestPlan) (rounds : List Rounded) (report : GuestReport)
     (calls : Vec Call Global) → plan.scripts.items ≡ calls ∷ [] → report.replies.items ≡ []
     → NoReport plan rounds report
-script_without_replies plan rounds report calls scripts replies is =
+script_without_replies plan rounds report calls scripts replies paced is =
     let e : Same 0 1 =
     ap (λ l. length l) (sym replies) ∙ is.scripts ∙ ap (λ l. length l) scripts in
     omega arith
@@ -286,18 +287,59 @@ script_without_replies plan rounds report calls scripts replies is =
 replies_without_a_script : (plan : GuestPlan) (rounds : List Rounded) (report : GuestReport)
     (replies : Vec Reply Global) → plan.scripts.items ≡ [] → report.replies.items ≡ replies ∷ []
     → NoReport plan rounds report
-replies_without_a_script plan rounds report replies scripts all is =
+replies_without_a_script plan rounds report replies scripts all paced is =
     let e : Same 1 0 = ap (λ l. length l) (sym all) ∙ is.scripts ∙ ap (λ l. length l) scripts in
     omega arith
 
--- Its history is that of a guest as it is plugged in, as large as the plan says, with no target.
-runs_from_plug_on : (plan : GuestPlan) (rounds : List Rounded) (report : GuestReport)
-    (is : IsGuestReport 16 1 plan rounds report)
+-- Its history is that of a guest as it is plugged in, as large as the plan says, on a device of the
+-- given pace, with no target.
+runs_from_plug_on : (plan : GuestPlan) (paced : Bool) (rounds : List Rounded)
+    (report : GuestReport) (is : IsGuestReport 16 1 plan paced rounds report)
     → plan.config ≡ record { pages = 64; queue_size = 8; processors = 2 }
-    → IsHistory (record config { paced = is.paced }) 0 report.history.items is.last
-runs_from_plug_on plan rounds report is sizes =
-    subst (λ (s : Sizes). IsHistory (config_of s is.paced) 0 report.history.items is.last) sizes
+    → IsHistory (record config { paced = paced }) 0 report.history.items is.last
+runs_from_plug_on plan paced rounds report is sizes =
+    subst (λ (s : Sizes). IsHistory (config_of s paced) 0 report.history.items is.last) sizes
     (is.safe.after, is.safe.leads, is.safe.ends)
+
+-- a guest that was called once is on a device of that pace still
+called_once : (plan : GuestPlan) (paced : Bool) (rounds : List Rounded) (report : GuestReport)
+    (actor : Actor) (call : Call) (claims : List Claim) (reply : Reply)
+    (is : IsGuestReport 16 1 plan paced rounds report)
+    → report.history.items ≡ Called actor call claims reply ∷ [] → is.last.config.paced ≡ paced
+called_once plan paced rounds report actor call claims reply is history =
+    by is.safe.after
+    (subst (λ (l : List Entry). Leads (fresh (config_of plan.config paced) 0) (all_entries l)
+    is.safe.after) history is.safe.leads) is.safe.ends
+  where
+    by : (after : List Guest) → Leads (fresh (config_of plan.config paced) 0)
+        (all_entries (Called actor call claims reply ∷ [])) after
+        → last_guest (fresh (config_of plan.config paced) 0) after ≡ is.last
+        → is.last.config.paced ≡ paced
+    by [] leads end = absurd leads
+    by (mid ∷ []) (step, done) end =
+        ap (λ (g : Guest). g.config.paced) (sym end)
+        ∙ ap (λ (c : Config). c.paced)
+        (step_keeps (fresh (config_of plan.config paced) 0) call claims reply mid step.1).config
+    by (mid ∷ next ∷ after) leads end = absurd leads.1
+
+paced_for_immediate : (plan : GuestPlan) (rounds : List Rounded) (report : GuestReport)
+    (actor : Actor) (call : Call) (claims : List Claim) (reply : Reply)
+    (is : IsGuestReport 16 1 plan false rounds report)
+    → report.history.items ≡ Called actor call claims reply ∷ [] → is.last.config.paced ≡ true → ⊥
+paced_for_immediate plan rounds report actor call claims reply is history paced =
+    let e : true ≡ false =
+    sym paced ∙ called_once plan false rounds report actor call claims reply is history in
+    cc
+
+immediate_for_paced : (plan : GuestPlan) (rounds : List Rounded) (report : GuestReport)
+    (actor : Actor) (call : Call) (claims : List Claim) (reply : Reply)
+    (is : IsGuestReport 16 1 plan true rounds report)
+    → report.history.items ≡ Called actor call claims reply ∷ [] → is.last.config.paced ≡ false
+    → ⊥
+immediate_for_paced plan rounds report actor call claims reply is history immediate =
+    let e : false ≡ true =
+    sym immediate ∙ called_once plan true rounds report actor call claims reply is history in
+    cc
 
 -- A guest of 64 pages, of which 16 are reserved, can't spare 49: whatever its first call, no look
 -- sees that.
@@ -306,18 +348,18 @@ look_that_saw_too_much : (plan : GuestPlan) (rounds : List Rounded) (report : Gu
     → plan.config ≡ record { pages = 64; queue_size = 8; processors = 2 }
     → report.history.items ≡ Called actor call claims reply ∷ Looked 16 49 ∷ rest
     → NoReport plan rounds report
-look_that_saw_too_much plan rounds report actor call claims reply rest sizes history is =
+look_that_saw_too_much plan rounds report actor call claims reply rest sizes history paced is =
     by is.safe.after
-    (subst (λ (l : List Entry). Leads (fresh (config_of plan.config is.paced) 0) (all_entries l)
+    (subst (λ (l : List Entry). Leads (fresh (config_of plan.config paced) 0) (all_entries l)
     is.safe.after) history is.safe.leads)
   where
-    by : (after : List Guest) → Leads (fresh (config_of plan.config is.paced) 0)
+    by : (after : List Guest) → Leads (fresh (config_of plan.config paced) 0)
         (all_entries (Called actor call claims reply ∷ Looked 16 49 ∷ rest)) after → ⊥
     by [] leads = absurd leads
     by (mid ∷ []) leads = absurd leads.1
     by (mid ∷ next ∷ after) (step, (look, later)) =
-        let kept : mid.config ≡ config_of plan.config is.paced =
-        (step_keeps (fresh (config_of plan.config is.paced) 0) call claims reply mid step.1).config
+        let kept : mid.config ≡ config_of plan.config paced =
+        (step_keeps (fresh (config_of plan.config paced) 0) call claims reply mid step.1).config
         in
         let unreserved : mid.config.pages - reserved_pages mid.config.queue_size ≡ 48 =
         ap (λ (c : Config). c.pages - reserved_pages c.queue_size) kept
@@ -333,7 +375,7 @@ Unbalanced rounds entries =
 
 by_entries : (rounds : List Rounded) (entries : List Entry)
     → (entries_by Balancer entries ≡ round_entries 16 1 rounds → ⊥) → Unbalanced rounds entries
-by_entries rounds entries wrong plan report history is =
+by_entries rounds entries wrong plan report history paced is =
     wrong (ap (entries_by Balancer) (sym history) ∙ is.balanced)
 
 -- 28 of the missing pages, which the first guest gives; guest 1 gives none
@@ -367,92 +409,114 @@ round_left_out : Unbalanced (shared ∷ round ∷ []) (Looked 16 30 ∷ aimed 0 
 round_left_out = by_entries (shared ∷ round ∷ []) (Looked 16 30 ∷ aimed 0 ∷ []) (λ e. cc)
 
 -- Nothing waits for the device at the end.
-request_at_the_end : (plan : GuestPlan) (rounds : List Rounded) (report : GuestReport)
-    (is : IsGuestReport 16 1 plan rounds report) (r : Request)
+request_at_the_end : (plan : GuestPlan) (paced : Bool) (rounds : List Rounded)
+    (report : GuestReport) (is : IsGuestReport 16 1 plan paced rounds report) (r : Request)
     → is.last.deflate.posted ≡ r ∷ [] → ⊥
-request_at_the_end plan rounds report is r posted =
+request_at_the_end plan paced rounds report is r posted =
     let e : Same 1 0 = ap (λ l. length l) (sym posted ∙ is.served.deflate.0) in omega arith
 
 -- Its frames are those behind the guest's pages.
 abbrev Frames : List (Option ℕ) → List ℕ → Type 0 → Type 0
 Frames behind reported answer =
-    (plan : GuestPlan) (rounds : List Rounded) (report : GuestReport)
-    (is : IsGuestReport 16 1 plan rounds report)
+    (plan : GuestPlan) (paced : Bool) (rounds : List Rounded) (report : GuestReport)
+    (is : IsGuestReport 16 1 plan paced rounds report)
     → is.last.frames ≡ behind → report.frames.items ≡ reported → answer
 
 frames_are : (behind : List (Option ℕ)) (reported : List ℕ)
     → Frames behind reported (reported ≡ filter_map (λ f. f) behind)
-frames_are behind reported plan rounds report is e f =
+frames_are behind reported plan paced rounds report is e f =
     sym f ∙ is.frames ∙ ap (filter_map (λ f. f)) e
 
 frame_left_out : Frames (Some 5 ∷ None ∷ Some 3 ∷ []) (5 ∷ []) ⊥
-frame_left_out plan rounds report is e f =
+frame_left_out plan paced rounds report is e f =
     let same : SameList (5 ∷ []) (5 ∷ 3 ∷ []) =
-    frames_are (Some 5 ∷ None ∷ Some 3 ∷ []) (5 ∷ []) plan rounds report is e f in
+    frames_are (Some 5 ∷ None ∷ Some 3 ∷ []) (5 ∷ []) plan paced rounds report is e f in
     let long : Same 1 2 = ap (λ (l : List ℕ). length l) same in
     omega arith
 
 frame_of_no_page : Frames (None ∷ Some 3 ∷ []) (3 ∷ 4 ∷ []) ⊥
-frame_of_no_page plan rounds report is e f =
+frame_of_no_page plan paced rounds report is e f =
     let same : SameList (3 ∷ 4 ∷ []) (3 ∷ []) =
-    frames_are (None ∷ Some 3 ∷ []) (3 ∷ 4 ∷ []) plan rounds report is e f in
+    frames_are (None ∷ Some 3 ∷ []) (3 ∷ 4 ∷ []) plan paced rounds report is e f in
     let long : Same 2 1 = ap (λ (l : List ℕ). length l) same in
     omega arith
 
 frames_of_pages_that_fall : Frames (Some 5 ∷ Some 3 ∷ []) (3 ∷ 5 ∷ []) ⊥
-frames_of_pages_that_fall plan rounds report is e f =
+frames_of_pages_that_fall plan paced rounds report is e f =
     let same : SameList (3 ∷ 5 ∷ []) (5 ∷ 3 ∷ []) =
-    frames_are (Some 5 ∷ Some 3 ∷ []) (3 ∷ 5 ∷ []) plan rounds report is e f in
+    frames_are (Some 5 ∷ Some 3 ∷ []) (3 ∷ 5 ∷ []) plan paced rounds report is e f in
     let first : Same 3 5 = ap (λ (l : List ℕ). slice_index_or l 0 0) same in
     omega arith
 
 -- ---- the report of a run
 
 abbrev NotOf : Plan → Report → Type 0
-NotOf plan report = IsReport plan report → ⊥
+NotOf plan report = (paces : List Bool) → IsReport plan paces report → ⊥
 
 guest_left_out : (plan : Plan) (report : Report) (g : GuestPlan) → plan.guests.items ≡ g ∷ []
     → report.guests.items ≡ [] → NotOf plan report
-guest_left_out plan report g guests reports is =
+guest_left_out plan report g guests reports paces is =
     let e : Same 0 1 =
     ap (λ l. length l) (sym reports) ∙ is.guests ∙ ap (λ l. length l) guests in
     omega arith
 
 report_of_no_guest : (plan : Plan) (report : Report) (r : GuestReport) → plan.guests.items ≡ []
     → report.guests.items ≡ r ∷ [] → NotOf plan report
-report_of_no_guest plan report r guests reports is =
+report_of_no_guest plan report r guests reports paces is =
     let e : Same 1 0 =
     ap (λ l. length l) (sym reports) ∙ is.guests ∙ ap (λ l. length l) guests in
     omega arith
 
 -- each is the report of its guest: by its number, by the plan's floor and for these rounds
+-- and on a device of the pace of its port
 second_is_none : (plan : Plan) (report : Report) (g h : GuestPlan) (first second : GuestReport)
+    (pace own : Bool)
     → plan.guests.items ≡ g ∷ h ∷ [] → report.guests.items ≡ first ∷ second ∷ []
-    → (IsGuestReport plan.floor 1 h report.rounds.items second → ⊥) → NotOf plan report
-second_is_none plan report g h first second guests reports none_of_it is =
-    none_of_it (is.each 1 second h (ap (λ l. slice_get l 1) reports)
-    (ap (λ l. slice_get l 1) guests))
+    → (IsGuestReport plan.floor 1 h own report.rounds.items second → ⊥)
+    → IsReport plan (pace ∷ own ∷ []) report → ⊥
+second_is_none plan report g h first second pace own guests reports none_of_it is =
+    none_of_it (is.each 1 second h own (ap (λ l. slice_get l 1) reports)
+    (ap (λ l. slice_get l 1) guests) refl)
+
+second_of_its_pace : (plan : Plan) (report : Report) (g h : GuestPlan)
+    (first second : GuestReport)
+    → plan.guests.items ≡ g ∷ h ∷ [] → report.guests.items ≡ first ∷ second ∷ []
+    → IsReport plan (true ∷ false ∷ []) report
+    → IsGuestReport plan.floor 1 h false report.rounds.items second
+second_of_its_pace plan report g h first second guests reports is =
+    is.each 1 second h false (ap (λ l. slice_get l 1) reports) (ap (λ l. slice_get l 1) guests)
+    refl
+
+port_left_out : (plan : Plan) (report : Report) (g : GuestPlan) → plan.guests.items ≡ g ∷ []
+    → IsReport plan [] report → ⊥
+port_left_out plan report g guests is =
+    let e : Same 0 1 = is.ports ∙ ap (λ l. length l) guests in omega arith
+
+port_of_no_guest : (plan : Plan) (report : Report) (g : GuestPlan) → plan.guests.items ≡ g ∷ []
+    → IsReport plan (true ∷ false ∷ []) report → ⊥
+port_of_no_guest plan report g guests is =
+    let e : Same 2 1 = is.ports ∙ ap (λ l. length l) guests in omega arith
 
 one_frame_of_two : (plan : Plan) (report : Report) (first second : GuestReport)
     → report.guests.items ≡ first ∷ second ∷ [] → first.frames.items ≡ 5 ∷ 3 ∷ []
     → second.frames.items ≡ 7 ∷ 3 ∷ [] → NotOf plan report
-one_frame_of_two plan report first second reports a b is =
+one_frame_of_two plan report first second reports a b paces is =
     frame_of_both first second a b
     (subst (λ (l : List GuestReport). AreApart l) reports is.apart)
 
 round_too_few : (plan : Plan) (report : Report) (r : Rounded) → plan.rounds ≡ 2
     → report.rounds.items ≡ r ∷ [] → NotOf plan report
-round_too_few plan report r many rounds is =
+round_too_few plan report r many rounds paces is =
     let e : Same 1 2 = ap (λ l. length l) (sym rounds) ∙ is.rounds ∙ many in omega arith
 
 round_too_many : (plan : Plan) (report : Report) (r : Rounded) → plan.rounds ≡ 0
     → report.rounds.items ≡ r ∷ [] → NotOf plan report
-round_too_many plan report r many rounds is =
+round_too_many plan report r many rounds paces is =
     let e : Same 1 0 = ap (λ l. length l) (sym rounds) ∙ is.rounds ∙ many in omega arith
 
 -- each round, the last as well
 second_round_is_none : (plan : Plan) (report : Report) (r s : Rounded)
     → report.rounds.items ≡ r ∷ s ∷ [] → (IsRound plan s → ⊥) → NotOf plan report
-second_round_is_none plan report r s rounds none_of_it is =
+second_round_is_none plan report r s rounds none_of_it paces is =
     none_of_it ((subst (λ (l : List Rounded). All (IsRound plan) l) rounds is.answers) 1 s
     (omega arith))

@@ -1,5 +1,6 @@
 -- Worked facts of what a guest's worker does, and of when nothing waits for it.
 use Rattle.std.proofs.Common.{◌≡◌, ℕ, [], ◌∷◌, true, false, map, refl, ap, sym, ◌∙◌, arith}
+use Rattle.std.proofs.Common.{inl, inr, ⊎_elim}
 use Rattle.std.specs.Prelude.{length}
 use Rattle.vb_model.specs.declared.calls.Call.TheVariants.{Take, Work, Finish, Ask}
 use Rattle.vb_model.specs.declared.calls.Call.TheVariants.{SetTarget}
@@ -10,6 +11,8 @@ use Rattle.vb_model.specs.Requests.{Request, Requests, no_requests}
 use Rattle.vb_model.specs.Requests.{NoBuffer, BufferPosted, BufferTaken}
 use Rattle.vb_model.specs.Requests.{BufferDone, Figures}
 use Rattle.vb_model.specs.Guest.{Guest, Config, fresh, offered_features}
+use Rattle.vb_model.proofs.GuestSteps.{fresh_consistent}
+use Rattle.vb_model.proofs.OrderlySteps.{fresh_order}
 use Rattle.vb_run.specs.Services.{default_features, services, found_nothing, IsServed, is_waiting}
 use Rattle.vb_run.specs.Services.{IsTended, IsQuiet}
 
@@ -131,11 +134,76 @@ another_target_set q = let e : Same 0 3 = ap (λ (g : Guest). g.target) q.step.2
 abbrev buffered : Guest
 buffered = record ready { buffer = BufferDone figures }
 
+-- as it is plugged in, no features accepted yet
+plugged_in : IsTended (fresh config 0)
+plugged_in = record {
+  honest = refl;
+  consistent = fresh_consistent config 0;
+  orderly = fresh_order config 0;
+  attentive = record {
+    inflating = λ other. refl;
+    deflating = λ other. refl;
+    reporting = λ other. refl;
+    buffered = refl;
+  };
+  features = λ up. let e : Same 0 15 = up in absurd (omega (arith, e));
+}
+
+ready_with_a_buffer : IsTended buffered
+ready_with_a_buffer = record {
+  honest = refl;
+  consistent = record {
+    pages = λ page.
+        let plugged = (fresh_consistent config 0).pages page in
+        record {
+          holding = plugged.holding;
+          inflating = plugged.inflating;
+          deflating = plugged.deflating;
+          taking = plugged.taking;
+          reporting = plugged.reporting;
+          ballooning = plugged.ballooning;
+        };
+    counted = refl;
+    sized = refl;
+    flagged = refl;
+  };
+  orderly = record {
+    inflating = (fresh_order config 0).inflating;
+    deflating = (fresh_order config 0).deflating;
+    reporting = (fresh_order config 0).reporting;
+    state = inr (inl refl);
+    tabled = (fresh_order config 0).tabled;
+    unreserved = (fresh_order config 0).unreserved;
+    blocks = (fresh_order config 0).blocks;
+    agreed = λ up. record { offered = refl; version = refl };
+  };
+  attentive = record {
+    inflating = λ other. refl;
+    deflating = λ other. refl;
+    reporting = λ other. refl;
+    buffered = refl;
+  };
+  features = λ up. refl;
+}
+
 rogue_guest : IsTended (record buffered { rogue = true }) → ⊥
 rogue_guest t = let e : true ≡ false = t.honest in cc
 
 no_buffer : IsTended ready → ⊥
 no_buffer t = let e : false ≡ true = t.attentive.buffered in cc
+
+-- neither consistent nor in order
+pages_without_places : IsTended (record buffered { places = [] }) → ⊥
+pages_without_places t = let e : Same 0 64 = t.consistent.sized in omega arith
+
+request_of_a_free_page : IsTended (record buffered { inflate = posted }) → ⊥
+request_of_a_free_page t = let e : Same 1 0 = (t.consistent.pages 16).inflating in omega arith
+
+status_of_no_driver : IsTended (record buffered { status = 11 }) → ⊥
+status_of_no_driver t =
+    ⊎_elim (λ e. let same : Same 11 0 = e in omega (arith, same))
+    (λ rest. ⊎_elim (λ e. let same : Same 11 15 = e in omega (arith, same))
+    (λ e. let same : Same 11 131 = e in omega (arith, same)) rest) t.orderly.state
 
 fewer_features : IsTended (record buffered { features = 0x100000026 }) → ⊥
 fewer_features t = let e : Same 0x100000026 0x100000027 = t.features refl in omega arith

@@ -1,18 +1,17 @@
 -- From a plan and its slots to guests that are started.
 use Rattle.std.proofs.Common.{◌≡◌, refl, sym, ◌∙◌, ap, subst, ℕ, zero, suc, ◌+◌, Bool, true}
-use Rattle.std.proofs.Common.{List, [], ◌∷◌, ◌++◌, length, Some, slice_get, arith, drop}
+use Rattle.std.proofs.Common.{List, [], ◌∷◌, ◌++◌, length, Some, slice_get, arith, drop, map}
 use Rattle.std.specs.List.{list_all}
 use Rattle.std.specs.declared.vec.Vec.{Vec}
 use Rattle.std.specs.declared.alloc.Global.{Global}
 use Rattle.std.specs.Prelude.{nat_le, ◌==◌, ◌&&◌}
 use Rattle.std.proofs.lemmas.Bool.{and_parts}
+use Rattle.std.proofs.lemmas.List.{append-nil}
 use Rattle.vb_model.specs.declared.calls.Call.{Call}
 use Rattle.vb_model.specs.Limits.{is_config}
 use Rattle.vb_run.specs.declared.plan.GuestPlan.{GuestPlan}
 use Rattle.vb_run.specs.declared.plan.TheConstants.{MAX_SCRIPT_CALLS}
-use Rattle.vb_model.specs.Guest.{Guest, fresh}
-use Rattle.vb_run.specs.Starts.{AreFresh, ArePlaced, IsFresh}
-use Rattle.vb_run.specs.Plans.{config_of, are_scripts, is_script, is_guest_plan, may_stand}
+use Rattle.vb_run.specs.Plans.{are_scripts, is_script, is_guest_plan, may_stand}
 use Rattle.vb_run.specs.declared.report.GuestReport.{GuestReport}
 use Rattle.vb_run.specs.Past.{Progress, AreBegun, IsScript}
 use Rattle.vb_run.specs.Rounds.{Rounded}
@@ -75,44 +74,36 @@ guest_parts p h =
     )
 
 -- the report of one guest more
-pub swapped : (floor : ℕ) (plans : List GuestPlan) (rounds : List Rounded)
-    (reports : List GuestReport) (report : GuestReport)
-    → ((g : ℕ) (r : GuestReport) (p : GuestPlan) → slice_get reports g ≡ Some r
-    → slice_get plans g ≡ Some p → IsGuestReport floor g p rounds r)
-    → ((p : GuestPlan) → slice_get plans (length reports) ≡ Some p
-    → IsGuestReport floor (length reports) p rounds report)
-    → (g : ℕ) (r : GuestReport) (p : GuestPlan) → slice_get (reports ++ report ∷ []) g ≡ Some r
-    → slice_get plans g ≡ Some p → IsGuestReport floor g p rounds r
-swapped floor plans rounds reports report each here g r p at planned =
-    each_push (λ n x. (q : GuestPlan) → slice_get plans n ≡ Some q
-    → IsGuestReport floor n q rounds x) reports report
-    (λ n x there q own. each n x q there own) here g r at p planned
+pub swapped : {S : Type 0} (seat : S → Bool) (floor : ℕ) (plans : List GuestPlan) (seats : List S)
+    (rounds : List Rounded) (reports : List GuestReport) (report : GuestReport)
+    → ((g : ℕ) (r : GuestReport) (p : GuestPlan) (s : S) → slice_get reports g ≡ Some r
+    → slice_get plans g ≡ Some p → slice_get seats g ≡ Some s
+    → IsGuestReport floor g p (seat s) rounds r)
+    → ((p : GuestPlan) (s : S) → slice_get plans (length reports) ≡ Some p
+    → slice_get seats (length reports) ≡ Some s
+    → IsGuestReport floor (length reports) p (seat s) rounds report)
+    → (g : ℕ) (r : GuestReport) (p : GuestPlan) (s : S) → slice_get (reports ++ report ∷ []) g ≡ Some r
+    → slice_get plans g ≡ Some p → slice_get seats g ≡ Some s
+    → IsGuestReport floor g p (seat s) rounds r
+swapped {S} seat floor plans seats rounds reports report each here g r p s at planned seated =
+    each_push (λ n x. (q : GuestPlan) (t : S) → slice_get plans n ≡ Some q
+    → slice_get seats n ≡ Some t → IsGuestReport floor n q (seat t) rounds x) reports report
+    (λ n x there q t own its. each n x q t there own its) here g r at p s planned seated
 
--- the guest at the next place of the plan
-pub fresh_push : {S : Type 0} (Is : S → Guest → Type 0) (plans : List GuestPlan) (slots : List S)
-    (s : S) (p : GuestPlan) → AreFresh Is plans slots → slice_get plans (length slots) ≡ Some p
-    → IsFresh (Is s) p → AreFresh Is plans (slots ++ s ∷ [])
-fresh_push Is plans slots s p fresh at own g t q there planned =
-    each_push (λ n x. (r : GuestPlan) → slice_get plans n ≡ Some r → IsFresh (Is x) r) slots s
-    (λ n x here r is. fresh n x r here is)
-    (λ r is. subst (IsFresh (Is s)) (some_same p r (sym at ∙ is)) own) g t there q planned
+-- one more of a list is mapped, and of what is left of another one its first element
+pub map_next : {X Y Z : Type 0} (f : X → Z) (h : Y → Z) (xs : List X) (x : X) (ys rest : List Y)
+    (y : Y) (all : List Z) → map f xs ++ map h ys ≡ all → ys ≡ y ∷ rest → f x ≡ h y
+    → map f (xs ++ x ∷ []) ++ map h rest ≡ all
+map_next f h [] x ys rest y all whole is same =
+    rw same (subst (λ (l : List _). map h l ≡ all) is whole)
+map_next f h (z ∷ xs) x ys rest y [] whole is same = absurd cc
+map_next f h (z ∷ xs) x ys rest y (a ∷ all) whole is same =
+    let before : map f xs ++ map h ys ≡ all = cc in
+    let head : f z ≡ a = cc in
+    rw (map_next f h xs x ys rest y all before is same, head) refl
 
--- the guest at the next place of the plan, on the device of its place
-pub placed_push : {S D : Type 0} (Is : S → Guest → Type 0) (paced : D → Bool)
-    (plans : List GuestPlan) (devices : List D) (slots : List S) (s : S) (p : GuestPlan) (d : D)
-    → ArePlaced Is paced plans devices slots → slice_get plans (length slots) ≡ Some p
-    → slice_get devices (length slots) ≡ Some d → Is s (fresh (config_of p.config (paced d)) 0)
-    → ArePlaced Is paced plans devices (slots ++ s ∷ [])
-placed_push {S} {D} Is paced plans devices slots s p d placed at under own g t q e there planned
-    here =
-    each_push (λ n x. (r : GuestPlan) (c : D) → slice_get plans n ≡ Some r
-    → slice_get devices n ≡ Some c → Is x (fresh (config_of r.config (paced c)) 0)) slots s
-    (λ n x seen r c is beneath. placed n x r c seen is beneath)
-    (λ r c is beneath. subst (λ (x : GuestPlan). Is s (fresh (config_of x.config (paced c)) 0))
-    (some_same p r (sym at ∙ is))
-    (subst (λ (x : D). Is s (fresh (config_of p.config (paced x)) 0))
-    (some_same d c (sym under ∙ beneath)) own)) g t there q e planned here
-
-pub fresh_none : {S : Type 0} (Is : S → Guest → Type 0) (plans : List GuestPlan)
-    → AreFresh Is plans []
-fresh_none Is plans g s p at planned = cc
+-- once nothing is left, all is mapped
+pub mapped_whole : {X Y Z : Type 0} (f : X → Z) (h : Y → Z) (xs : List X) (ys : List Y)
+    (all : List Z) → map f xs ++ map h ys ≡ all → ys ≡ [] → map f xs ≡ all
+mapped_whole f h xs ys all whole none =
+    sym (append-nil (map f xs)) ∙ subst (λ (l : List _). map f xs ++ map h l ≡ all) none whole

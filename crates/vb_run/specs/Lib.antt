@@ -5,4 +5,3 @@ pub mod Past
 pub mod Rounds
 pub mod Reports
 pub mod Rising
-pub mod Starts

@@ -1,7 +1,7 @@
 -- What a guest's lock keeps.
-use Rattle.std.specs.Prelude.{◌≡◌, ℕ, ◌<◌, Bool, true, false, List, [], ◌∷◌, ◌++◌, length}
-use Rattle.std.specs.Prelude.{take, Some}
-use Rattle.std.specs.Prelude.{slice_get, slice_index_or, ⊤, All, Contains}
+use Rattle.std.specs.Prelude.{◌≡◌, ℕ, ◌+◌, ◌<◌, Bool, true, false, List, [], ◌∷◌, ◌++◌, length}
+use Rattle.std.specs.Prelude.{take, Some, replicate}
+use Rattle.std.specs.Prelude.{slice_get, slice_index_or, slice_set, ⊤, All, Contains}
 use Rattle.std.specs.List.{list_all}
 use Rattle.std.specs.declared.vec.Vec.{Vec}
 use Rattle.std.specs.declared.alloc.Global.{Global}
@@ -25,9 +25,10 @@ pub record Progress : Type 0 where
   pub place : ℕ
 
 pub record Past : Type 0 where
-  -- the guest's number, and how large it was plugged in
+  -- the guest's number, how large it was plugged in, and whether its device is paced
   pub guest : ℕ
   pub sizes : Sizes
+  pub paced : Bool
   pub history : List Entry
   -- the script of each processor
   pub scripts : List Progress
@@ -68,10 +69,9 @@ IsScript cpu calls = list_all (may_stand cpu) calls ≡ true
 -- The history is a run from plug on that ends in the guest that is there, each processor called its
 -- script up to its place, and the frames behind the guest's pages are just its device's own.
 pub record IsKept (Is : Guest → Type 0) (own : List ℕ) (p : Past) : Type 0 where
-  pub paced : Bool
   pub now : Guest
   pub stands : Is now
-  pub run : IsHistory (config_of p.sizes paced) 0 p.history now
+  pub run : IsHistory (config_of p.sizes p.paced) 0 p.history now
   pub tended : IsTended now
   pub behind : AreBehind own now
   pub made : AreMade p.guest (length p.scripts) p.history
@@ -80,23 +80,56 @@ pub record IsKept (Is : Guest → Type 0) (own : List ℕ) (p : Past) : Type 0 w
       → slice_get services n ≡ Some call → IsQuiet now call
   pub scripted : (cpu : ℕ) (s : Progress) → slice_get p.scripts cpu ≡ Some s → IsScript cpu s.calls
 
--- what the actor called is the last entry, and the only new one
+-- of no call of the worker it is known whether it finds something to do
+abbrev pub unknown : List Bool
+unknown = replicate (length services) false
+
+-- what a lock keeps of a guest that was just started
+abbrev pub just_started : ℕ → Sizes → Bool → List Progress → List Claim → Reply → Past
+just_started guest sizes paced scripts claims reply =
+    record {
+      guest = guest;
+      sizes = sizes;
+      paced = paced;
+      history = Called Starter (Init default_features) claims reply ∷ [];
+      scripts = scripts;
+      quiet = unknown;
+      short = false;
+    }
+
+-- the actor's call is the last entry, and the only new one
+abbrev pub noted : Actor → Call → List Claim → Reply → Past → Past
+noted actor call claims reply p =
+    record p { history = p.history ++ Called actor call claims reply ∷ []; quiet = unknown }
+
+-- what the actor called is noted, and nothing else changed
 abbrev pub Notes : Actor → Call → Past → Past → Type 0
 Notes actor call old new =
-    (claims : List Claim) × (reply : Reply)
-    × (new.history ≡ old.history ++ Called actor call claims reply ∷ [])
+    (claims : List Claim) × (reply : Reply) × (new ≡ noted actor call claims reply old)
 
--- the processor's call with this reply is the last entry, and the only new one
+-- no call is left of the processor's script, or it has none
+abbrev pub HasEnded : ℕ → Past → Type 0
+HasEnded cpu p = (s : Progress) → slice_get p.scripts cpu ≡ Some s → s.place ≡ length s.calls
+
+-- the call at the place of the processor's script is noted with this reply, and the place is one
+-- further
 abbrev pub NotesNext : ℕ → Reply → Past → Past → Type 0
 NotesNext cpu reply old new =
-    (call : Call) × (claims : List Claim)
-    × (new.history ≡ old.history ++ Called (Processor old.guest cpu) call claims reply ∷ [])
+    (s : Progress) × (call : Call) × (claims : List Claim)
+    × (slice_get old.scripts cpu ≡ Some s) × (slice_get s.calls s.place ≡ Some call)
+    × (new ≡ record (noted (Processor old.guest cpu) call claims reply old) {
+      scripts = slice_set old.scripts cpu (record s { place = s.place + 1 });
+    })
 
--- the worker's call of this number is the last entry, with this reply, and the only new one
+-- the worker's call of this number is noted with this reply
 abbrev pub NotesService : ℕ → Reply → Past → Past → Type 0
 NotesService number reply old new =
     (call : Call) × (claims : List Claim) × (slice_get services number ≡ Some call)
-    × (new.history ≡ old.history ++ Called (Worker old.guest) call claims reply ∷ [])
+    × (new ≡ noted (Worker old.guest) call claims reply old)
+
+-- none of the worker's calls finds anything to do
+abbrev pub AreHushed : List Bool → Type 0
+AreHushed quiet = (n : ℕ) → n < length services → slice_index_or quiet n false ≡ true
 
 -- not a processor
 abbrev pub IsAside : Actor → Type 0
@@ -105,11 +138,13 @@ IsAside (Processor guest cpu) = ⊥
 IsAside (Worker guest) = ⊤
 IsAside Balancer = ⊤
 
--- the same guest with the same scripts
+-- the same guest with the same scripts, and as short of memory
 pub record IsSame (old new : Past) : Type 0 where
   pub guest : new.guest ≡ old.guest
   pub sizes : new.sizes ≡ old.sizes
+  pub paced : new.paced ≡ old.paced
   pub scripts : new.scripts ≡ old.scripts
+  pub short : new.short ≡ old.short
 
 abbrev pub AllEnded : List Progress → Type 0
 AllEnded scripts =

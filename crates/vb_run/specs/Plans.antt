@@ -1,5 +1,5 @@
 -- Which plans can be run (profile).
-use Rattle.std.specs.Prelude.{◌≡◌, ℕ, suc, ◌==◌, ◌&&◌, Bool, true, false, not, nat_le}
+use Rattle.std.specs.Prelude.{ℕ, suc, ◌==◌, ◌&&◌, Bool, true, false, not, nat_le}
 use Rattle.std.specs.Prelude.{List, [], ◌∷◌, length}
 use Rattle.std.specs.List.{list_all}
 use Rattle.std.specs.declared.vec.Vec.{Vec}
@@ -9,21 +9,10 @@ use Rattle.vb_model.specs.declared.calls.Call.TheVariants.{Alloc, Free, Read, Wr
 use Rattle.vb_model.specs.declared.calls.Call.TheVariants.{Deflate, Oom, Report, Stats, Reap}
 use Rattle.vb_model.specs.declared.calls.Call.TheVariants.{Init, Reset, Scribble, Sweep}
 use Rattle.vb_model.specs.Limits.{is_config, max_guests}
-use Rattle.vb_model.specs.Guest.{Config}
-use Rattle.vb_ram.specs.declared.config.Config.{Config as Sizes}
 use Rattle.vb_run.specs.declared.plan.GuestPlan.{GuestPlan}
 use Rattle.vb_run.specs.declared.plan.Plan.{Plan}
 use Rattle.vb_run.specs.declared.plan.TheConstants.{MAX_SCRIPT_CALLS}
-
--- a guest of these sizes, on a device of this pace
-abbrev pub config_of : Sizes → Bool → Config
-config_of sizes paced =
-    record {
-      pages = sizes.pages;
-      queue_size = sizes.queue_size;
-      processors = sizes.processors;
-      paced = paced;
-    }
+pub use Rattle.vb_slot.specs.Spare.{config_of}
 
 -- a call that may stand in this processor's script: one of the guest's own, and of no other
 -- processor

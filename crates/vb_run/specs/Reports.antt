@@ -29,9 +29,9 @@ Plays guest plan report =
     → (calls_by (Processor guest cpu) report.history.items ≡ calls.items)
     × (replies_by (Processor guest cpu) report.history.items ≡ replies.items)
 
-pub record IsGuestReport (floor guest : ℕ) (plan : GuestPlan) (rounds : List Rounded)
-    (report : GuestReport) : Type 0 where
-  pub paced : Bool
+-- of the guest that was plugged in at this place, on a device that is, or isn't, paced
+pub record IsGuestReport (floor guest : ℕ) (plan : GuestPlan) (paced : Bool)
+    (rounds : List Rounded) (report : GuestReport) : Type 0 where
   pub last : Guest
   pub safe : IsSafeHistory (config_of plan.config paced) 0 report.history.items last
   pub made : AreMade guest (length plan.scripts.items) report.history.items
@@ -51,11 +51,14 @@ pub record IsRound (plan : Plan) (r : Rounded) : Type 0 where
 abbrev pub AreApart : List GuestReport → Type 0
 AreApart reports = (frame : ℕ) → sum_by (λ r. times frame r.frames.items) reports ≤ 1
 
-pub record IsReport (plan : Plan) (report : Report) : Type 0 where
+-- a report of each guest of the plan, with the pace of the port of its place
+pub record IsReport (plan : Plan) (paces : List Bool) (report : Report) : Type 0 where
   pub guests : length report.guests.items ≡ length plan.guests.items
-  pub each : (g : ℕ) (r : GuestReport) (p : GuestPlan) → slice_get report.guests.items g ≡ Some r
-      → slice_get plan.guests.items g ≡ Some p
-      → IsGuestReport plan.floor g p report.rounds.items r
+  pub ports : length paces ≡ length plan.guests.items
+  pub each : (g : ℕ) (r : GuestReport) (p : GuestPlan) (paced : Bool)
+      → slice_get report.guests.items g ≡ Some r → slice_get plan.guests.items g ≡ Some p
+      → slice_get paces g ≡ Some paced
+      → IsGuestReport plan.floor g p paced report.rounds.items r
   pub apart : AreApart report.guests.items
   pub rounds : length report.rounds.items ≡ plan.rounds
   pub answers : All (IsRound plan) report.rounds.items

@@ -1,5 +1,5 @@
 -- A round of the balancer.
-use Rattle.std.specs.Prelude.{ℕ, List, [], ◌∷◌, ◌++◌, slice_index_or}
+use Rattle.std.specs.Prelude.{ℕ, Bool, true, false, List, [], ◌∷◌, ◌++◌, slice_index_or}
 use Rattle.vb_model.specs.declared.calls.Actor.TheVariants.{Balancer}
 use Rattle.vb_model.specs.declared.calls.Call.TheVariants.{SetTarget}
 use Rattle.vb_model.specs.declared.replies.Reply.{Reply}
@@ -25,6 +25,12 @@ target_entries guest answer = []
 abbrev pub entries_of_round : ℕ → ℕ → Rounded → List Entry
 entries_of_round floor guest r =
     Looked floor (spare_at r.needs guest) ∷ target_entries guest r.answer
+
+-- an entry that a round may make at a guest: a look, or a target that is set without a claim
+abbrev pub is_of_round : Entry → Bool
+is_of_round (Looked floor spare) = true
+is_of_round (Called Balancer (SetTarget pages) [] Done) = true
+is_of_round entry = false
 
 abbrev pub round_entries : ℕ → ℕ → List Rounded → List Entry
 round_entries floor guest [] = []

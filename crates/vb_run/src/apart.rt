@@ -1,6 +1,6 @@
 //! Whether guests have their frames for themselves.
 
-ghost use Rattle.std.specs.Prelude.{◌≡◌, ◌≤◌, ◌<◌, ℕ, true, IfOk, sum_by};
+ghost use Rattle.std.specs.Prelude.{◌≡◌, ◌↔◌, ◌≤◌, ◌<◌, ℕ, true, IfOk, sum_by};
 ghost use Rattle.vb_model.specs.Tests.{times};
 ghost use Rattle.vb_run.specs.Reports.{AreApart};
 ghost use Rattle.vb_run.specs.Rising.{IsRising};
@@ -10,7 +10,7 @@ use std::alloc::{AllocError, Global};
 
 /// Whether each number is above the one before it.
 fn is_rising(numbers: &[u32]) -> bool
-    ensures { result ≡ true → IsRising numbers.now }
+    ensures { (result ≡ true) ↔ IsRising numbers.now }
 {
     for place in 1..numbers.len() {
         if numbers[place - 1] >= numbers[place] {
@@ -34,7 +34,7 @@ fn all_frames(alloc: Global, reports: &[GuestReport]) -> Result<Vec<u32>, AllocE
 
 /// Whether no frame stands twice among those of all guests.
 pub(crate) fn are_apart(alloc: Global, reports: &[GuestReport]) -> Result<bool, AllocError>
-    ensures { IfOk result (λ apart. apart ≡ true → AreApart reports.now) }
+    ensures { IfOk result (λ apart. (apart ≡ true) ↔ AreApart reports.now) }
 {
     let mut frames = all_frames(alloc, reports)?;
     frames.sort_unstable();

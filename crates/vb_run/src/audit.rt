@@ -1,6 +1,6 @@
 //! What is compared and gathered once all threads of a run have ended.
 
-ghost use Rattle.std.specs.Prelude.{◌≡◌, ◌≤◌, ◌<◌, ℕ, Bool, true, length, IfOk, OnOk};
+ghost use Rattle.std.specs.Prelude.{◌≡◌, ◌↔◌, ◌≤◌, ◌<◌, ℕ, Bool, true, length, IfOk, OnOk};
 ghost use Rattle.std.specs.Prelude.{Some, slice_get, map, All, ◌++◌};
 ghost use Rattle.std.specs.Prelude.{slice_index_or, drop};
 ghost use Rattle.vb_model.specs.declared.calls.Actor.TheVariants.{Processor, Balancer};
@@ -8,7 +8,8 @@ ghost use Rattle.vb_model.specs.Balance.{spare_at};
 ghost use Rattle.vb_run.specs.Entries.{entry_of, is_same, entries_by, replies_by, actor_of};
 ghost use Rattle.vb_run.specs.Entries.{reply_to};
 ghost use Rattle.vb_run.specs.Reports.{IsRound};
-ghost use Rattle.vb_run.specs.Rounds.{round_entries, target_entries};
+ghost use Rattle.vb_run.specs.Rounds.{is_of_round, round_entries, target_entries};
+ghost use Rattle.std.specs.List.{list_all};
 
 use crate::entry::{Entry, Step, is_same};
 use crate::plan::{GuestPlan, Plan};
@@ -141,9 +142,10 @@ pub(crate) fn expected_of(
     Ok(entries)
 }
 
-/// Whether the two are one look, or one target that was set.
+/// Whether the two are one look, or one target that was set without a claim.
 fn is_same_entry(entry: &Entry, other: &Entry) -> bool
-    ensures { result ≡ true → entry.now ≡ other.now }
+    ensures { (result ≡ true)
+        ↔ ((entry.now ≡ other.now) × (is_of_round entry.now ≡ true)) }
 {
     match (entry.step(), other.step()) {
         (Step::Looked { floor: a, spare: b }, Step::Looked { floor: c, spare: d }) => a == c
@@ -166,17 +168,26 @@ fn is_same_entry(entry: &Entry, other: &Entry) -> bool
     }
 }
 
-/// Whether these are the balancer's entries.
-#[tactic(auto, using(crate::proofs::Gathered::entries_some, crate::proofs::Gathered::entries_none))]
+/// Whether this entry stands at a place of the expected ones, and is one of a round.
+fn is_at(expected: &[Entry], place: usize, entry: &Entry) -> bool
+    ensures { (result ≡ true)
+        ↔ ((slice_get expected.now place ≡ Some entry.now) × (is_of_round entry.now ≡ true)) }
+{
+    place < expected.len() && is_same_entry(entry, &expected[place])
+}
+
+/// Whether these are the balancer's entries, and each of them one of a round.
+#[tactic(auto, using(crate::proofs::Gathered::entries_none))]
 pub(crate) fn has_made(history: &[Entry], expected: &[Entry]) -> bool
-    ensures { result ≡ true → entries_by Balancer history.now ≡ expected.now }
+    ensures { (result ≡ true) ↔ ((entries_by Balancer history.now ≡ expected.now)
+        × (list_all is_of_round expected.now ≡ true)) }
 {
     let mut place = 0;
     for entry in history {
         if !is_by(entry, Actor::Balancer) {
             continue;
         }
-        if place >= expected.len() || !is_same_entry(entry, &expected[place]) {
+        if !is_at(expected, place, entry) {
             return false;
         }
         place += 1;
@@ -186,7 +197,7 @@ pub(crate) fn has_made(history: &[Entry], expected: &[Entry]) -> bool
 
 /// Whether the round is one over all guests of the plan.
 fn is_round(plan: &Plan, round: &Round) -> bool
-    ensures { result ≡ true → IsRound plan.now round.now }
+    ensures { (result ≡ true) ↔ IsRound plan.now round.now }
 {
     let _ = round.answer();
     round.frames() == plan.frames && are_sizes(round.needs(), plan.guests.as_slice())
@@ -194,7 +205,8 @@ fn is_round(plan: &Plan, round: &Round) -> bool
 
 /// Whether these are the guests' numbers of pages.
 fn are_sizes(needs: &[GuestNeed], guests: &[GuestPlan]) -> bool
-    ensures { result ≡ true → map (λ n. n.pages) needs.now ≡ map (λ g. g.config.pages) guests.now }
+    ensures { (result ≡ true)
+        ↔ (map (λ n. n.pages) needs.now ≡ map (λ g. g.config.pages) guests.now) }
 {
     if needs.len() != guests.len() {
         return false;
@@ -211,7 +223,7 @@ fn are_sizes(needs: &[GuestNeed], guests: &[GuestPlan]) -> bool
 /// Whether each of the rounds is one of the plan.
 #[tactic(auto, using(crate::proofs::Lists::all_next, crate::proofs::Lists::all_whole))]
 pub(crate) fn are_rounds(plan: &Plan, rounds: &[Round]) -> bool
-    ensures { result ≡ true → All (IsRound plan.now) rounds.now }
+    ensures { (result ≡ true) ↔ All (IsRound plan.now) rounds.now }
 {
     for round in rounds {
         if !is_round(plan, round) {

@@ -1,15 +1,17 @@
 //! What a guest's lock keeps.
 
-ghost use Rattle.std.specs.Prelude.{◌≡◌, ◌≤◌, ◌<◌, ℕ, Bool, true, false, [], ◌∷◌, ◌++◌, length};
+ghost use Rattle.std.specs.Prelude.{◌≡◌, ◌≤◌, ◌<◌, ℕ, true, false, List, [], ◌∷◌, ◌++◌, length};
 ghost use Rattle.std.specs.Prelude.{slice_get, slice_index_or, IfOk, OnOk, Some, IfSome, IfNone};
-ghost use Rattle.std.specs.Prelude.{MatchBool, MatchOption};
-ghost use Rattle.std.specs.Prelude.{vec_capacity};
+ghost use Rattle.std.specs.Prelude.{MatchBool, MatchOption, slice_set, vec_capacity};
 ghost use Rattle.vb_model.specs.declared.calls.Actor.TheVariants.{Balancer};
 ghost use Rattle.vb_model.specs.declared.calls.Call.TheVariants.{SetTarget};
 ghost use Rattle.vb_model.specs.Guest.{Guest, fresh};
 ghost use Rattle.vb_model.specs.Limits.{is_config};
 ghost use Rattle.vb_model.specs.GuestRun.{Looked};
-ghost use Rattle.vb_run.specs.Past.{Past, IsKept, IsSame, AreBegun, Notes, NotesNext, NotesService};
+ghost use Rattle.vb_model.specs.declared.calls.Claim.{Claim as AnyClaim};
+ghost use Rattle.vb_model.specs.declared.replies.Reply.{Reply as AnyReply};
+ghost use Rattle.vb_run.specs.Past.{Past, IsKept, IsSame, AreBegun, AreHushed, HasEnded, Notes};
+ghost use Rattle.vb_run.specs.Past.{NotesNext, NotesService, just_started};
 ghost use Rattle.vb_run.specs.Plans.{config_of};
 ghost use Rattle.vb_run.specs.Reports.{IsGuestReport, frames_behind};
 ghost use Rattle.vb_run.specs.Services.{found_nothing, services};
@@ -36,12 +38,15 @@ use vb_slot::GuestSlot;
 pub(crate) struct Kept<S: GuestSlot> {
     guest: u32,
     sizes: Config,
+    paced: bool,
     slot: S,
     history: Vec<Entry>,
     /// Where the claims of the next call are noted.
     room: Vec<Claim>,
     scripts: Vec<Script>,
+    /// The worker's calls that are known to find nothing to do.
     quiet: [bool; SERVICES],
+    /// A growth was refused while threads ran.
     short: bool,
 }
 
@@ -53,6 +58,7 @@ impl<S: GuestSlot> Model for Kept<S> {
     ghost view = { λ k. record {
       guest = k.guest;
       sizes = k.sizes;
+      paced = k.paced;
       history = k.history.items;
       scripts = k.scripts.items;
       quiet = k.quiet;
@@ -62,6 +68,7 @@ impl<S: GuestSlot> Model for Kept<S> {
     ghost invariant = { λ k. IsKept (S.stands k.slot) (S.own k.slot) (record {
       guest = k.guest;
       sizes = k.sizes;
+      paced = k.paced;
       history = k.history.items;
       scripts = k.scripts.items;
       quiet = k.quiet;
@@ -105,17 +112,20 @@ fn count_calls(scripts: &[Script]) -> usize {
 }
 
 impl<S: GuestSlot> Kept<S> {
-    /// Starts a guest that was just plugged in.
+    /// Starts a guest that was just plugged in, on a device that is, or isn't, paced.
     pub fn start(
         alloc: Global,
         guest: u32,
         sizes: Config,
+        paced: bool,
         slot: S,
         scripts: Vec<Script>,
     ) -> Result<Kept<S>, AllocError>
         requires config { is_config sizes.pages sizes.queue_size sizes.processors ≡ true }
-        requires fresh { (paced : Bool) × S.stands slot (fresh (config_of sizes paced) 0) }
+        requires fresh { S.stands slot (fresh (config_of sizes paced) 0) }
         requires begun { AreBegun scripts.items }
+        ensures { IfOk result (λ kept. (claims : List AnyClaim) × (reply : AnyReply)
+            × (kept ≡ just_started guest sizes paced scripts.items claims reply)) }
     {
         let mut slot = slot;
         let mut history = Vec::new(alloc);
@@ -136,6 +146,7 @@ impl<S: GuestSlot> Kept<S> {
         Ok(Kept {
             guest,
             sizes,
+            paced,
             slot,
             history,
             room,
@@ -156,7 +167,8 @@ impl<S: GuestSlot> Kept<S> {
     /// memory alone: then either nothing was done, or the call was made and noted and only its
     /// reply isn't given here.
     pub fn next(&mut self, alloc: Global, cpu: u32) -> Result<Option<Reply>, AllocError>
-        ensures noted { IfOk result (λ answer. MatchOption answer (self.new ≡ self.old)
+        ensures noted { IfOk result (λ answer. MatchOption answer
+            (HasEnded cpu self.old × (self.new ≡ self.old))
             (λ reply. NotesNext cpu reply self.old self.new)) }
     {
         let Some(script) = self.scripts.get(cpu as usize) else {
@@ -207,11 +219,12 @@ impl<S: GuestSlot> Kept<S> {
         Ok(())
     }
 
-    /// Sees how many pages the guest can spare above the floor, as the balancer.
+    /// Sees how many pages the guest has and can spare above the floor, as the balancer.
     pub fn look(&mut self, floor: u32) -> Result<GuestNeed, AllocError>
         ensures same { IsSame self.old self.new }
-        ensures noted { IfOk result (λ need.
-            self.new.history ≡ self.old.history ++ Looked floor need.spare ∷ []) }
+        ensures pages { IfOk result (λ need. need.pages ≡ self.old.sizes.pages) }
+        ensures noted { IfOk result (λ need. self.new
+            ≡ record self.old { history = self.old.history ++ Looked floor need.spare ∷ [] }) }
     {
         self.history.reserve(1)?;
         let spare = self.slot.spare(floor);
@@ -228,7 +241,7 @@ impl<S: GuestSlot> Kept<S> {
         requires { number < SERVICES }
         ensures same { IsSame self.old self.new }
         ensures noted { IfOk result (λ reply. MatchBool (found_nothing reply)
-            (self.new.history ≡ self.old.history)
+            (self.new ≡ record self.old { quiet = slice_set self.old.quiet number true })
             (NotesService number reply self.old self.new)) }
     {
         self.history.reserve(1)?;
@@ -252,11 +265,12 @@ impl<S: GuestSlot> Kept<S> {
         answer
     }
 
-    /// A call of the worker that may find something to do.
+    /// The first call of the worker that may find something to do.
     fn next_service(&self) -> Option<usize>
-        ensures some { IfSome result (λ n. n < SERVICES) }
-        ensures none { IfNone result ((n : ℕ) → n < SERVICES
-            → slice_index_or self.now.quiet n false ≡ true) }
+        ensures some { IfSome result (λ n. (n < SERVICES)
+            × (slice_index_or self.now.quiet n false ≡ false)
+            × ((m : ℕ) → m < n → slice_index_or self.now.quiet m false ≡ true)) }
+        ensures none { IfNone result (AreHushed self.now.quiet) }
     {
         for number in 0..SERVICES {
             if !self.quiet[number] {
@@ -266,17 +280,10 @@ impl<S: GuestSlot> Kept<S> {
         None
     }
 
-    /// Whether none of the worker's calls finds anything to do.
-    fn is_quiet(&self) -> bool
-        ensures { result ≡ true → (n : ℕ) → n < SERVICES
-            → slice_index_or self.now.quiet n false ≡ true }
-    {
-        self.next_service().is_none()
-    }
-
     /// Makes the worker's calls until none of them finds anything to do.
     fn drain<R: Wait>(&mut self, rt: &R, alloc: Global) -> Result<(), AllocError>
         ensures same { IsSame self.old self.new }
+        ensures quiet { OnOk result (AreHushed self.new.quiet) }
     {
         for _ in rt.forever() {
             let Some(number) = self.next_service() else {
@@ -293,15 +300,17 @@ impl<S: GuestSlot> Kept<S> {
         rt: &R,
         alloc: Global,
         guest: u32,
+        paced: bool,
         plan: &GuestPlan,
         floor: u32,
         rounds: &[Round],
     ) -> Result<GuestReport, Stop>
-        ensures { IfOk result (IsGuestReport floor guest plan.now rounds.now) }
+        ensures report { IfOk result (IsGuestReport floor guest plan.now paced rounds.now) }
+        ensures whole { IfOk result (λ _. self.short ≡ false) }
     {
         let mut kept = self;
         kept.drain(rt, alloc)?;
-        if kept.guest != guest || kept.sizes != plan.config || !kept.is_quiet() {
+        if kept.guest != guest || kept.paced != paced || kept.sizes != plan.config {
             return Err(Stop::Audit);
         }
         if !are_of(kept.scripts.as_slice(), plan.scripts.as_slice()) {

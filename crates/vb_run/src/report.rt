@@ -31,16 +31,16 @@ pub struct Report {
 pub enum RunFault {
     /// A growth was refused, or a thread couldn't be made.
     #[error("memory")]
-    Memory,
+    Memory = 1,
     /// The plan can't be run: it has no guest or over eight, or not a port for each; or one of its
     /// guests is beyond the limits, or hasn't a script for each processor; or one of its scripts is
     /// over `MAX_SCRIPT_CALLS` calls, or has a call that may not stand there.
     #[error("bad plan")]
-    BadPlan,
+    BadPlan = 2,
     /// Two guests have one frame, which ports of two tables of frames bring about; or what the
     /// locks kept isn't the plan's or the rounds', which no test met.
     #[error("audit")]
-    Audit,
+    Audit = 3,
 }
 
 /// Why the threads' work gives no report.

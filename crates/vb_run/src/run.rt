@@ -1,12 +1,12 @@
 //! Runs a plan.
 
-ghost use Rattle.std.specs.Prelude.{◌≡◌, ◌↔◌, ℕ, Bool, true, false, length, IfOk, Err, Some};
-ghost use Rattle.std.specs.Prelude.{slice_get};
+ghost use Rattle.std.specs.Prelude.{◌≡◌, ◌↔◌, ℕ, true, false, length, IfOk, Err, Some};
+ghost use Rattle.std.specs.Prelude.{slice_get, map, All};
 ghost use Rattle.std.specs.List.{list_all};
-ghost use Rattle.vb_run.specs.Past.{AreBegun};
-ghost use Rattle.vb_run.specs.Plans.{are_scripts, is_guest_plan, is_plan};
+ghost use Rattle.vb_model.specs.Guest.{fresh};
+ghost use Rattle.vb_run.specs.Past.{AreBegun, AreScripts};
+ghost use Rattle.vb_run.specs.Plans.{are_scripts, config_of, is_guest_plan, is_plan};
 ghost use Rattle.vb_run.specs.Reports.{IsGuestReport, IsReport};
-ghost use Rattle.vb_run.specs.Starts.{IsFresh, AreFresh};
 
 use crate::apart::are_apart;
 use crate::audit::are_rounds;
@@ -22,12 +22,13 @@ use std::alloc::{AllocError, Global};
 use std::sync::{Mutex, Wait};
 use std::thread::Threads;
 use vb_model::Call;
-use vb_slot::GuestSlot;
+use vb_slot::{GuestPort, GuestSlot};
 
 /// The scripts of a guest's processors, of which no call was made.
 fn scripts_of(alloc: Global, calls: &[Vec<Call>]) -> Result<Vec<Script>, AllocError>
     requires { are_scripts 0 calls.now ≡ true }
-    ensures { IfOk result (λ scripts. AreBegun scripts.items) }
+    ensures begun { IfOk result (λ scripts. AreBegun scripts.items) }
+    ensures calls { IfOk result (λ scripts. AreScripts scripts.items calls.now) }
 {
     let mut scripts = Vec::new(alloc);
     for own in calls {
@@ -36,44 +37,70 @@ fn scripts_of(alloc: Global, calls: &[Vec<Call>]) -> Result<Vec<Script>, AllocEr
     Ok(scripts)
 }
 
-/// A guest that was started, behind its lock.
+/// A guest as it was plugged in, on a device that is, or isn't, paced: started, and behind its
+/// lock.
 fn seat_of<S: GuestSlot>(
     alloc: Global,
     guest: u32,
     plan: &GuestPlan,
+    paced: bool,
     slot: S,
 ) -> Result<Seat<S>, AllocError>
     requires plan { is_guest_plan plan.now ≡ true }
-    requires fresh { IsFresh (S.stands slot) plan.now }
+    requires fresh { S.stands slot (fresh (config_of plan.now.config paced) 0) }
+    ensures guest { IfOk result (λ seat. seat.guest ≡ guest) }
+    ensures paced { IfOk result (λ seat. seat.paced ≡ paced) }
+    ensures processors { IfOk result (λ seat. seat.processors ≡ plan.now.config.processors) }
 {
     let scripts = scripts_of(alloc, plan.scripts.as_slice())?;
-    let kept = Kept::start(alloc, guest, plan.config, slot, scripts)?;
+    let kept = Kept::start(alloc, guest, plan.config, paced, slot, scripts)?;
     let processors = plan.config.processors;
     Ok(Seat {
         guest,
+        paced,
         processors,
         lock: Mutex::new(kept),
         bell: Bell::new(processors),
     })
 }
 
-/// The guests, each started and behind its lock.
-fn seats_of<S: GuestSlot>(
+/// A guest of the plan, plugged in at a port and started.
+fn seat_at<P: GuestPort>(
+    alloc: Global,
+    guest: u32,
+    plan: &GuestPlan,
+    port: P,
+) -> Result<Seat<P::Slot>, AllocError>
+    requires plan { is_guest_plan plan.now ≡ true }
+    requires waits { P.waits port }
+    ensures guest { IfOk result (λ seat. seat.guest ≡ guest) }
+    ensures paced { IfOk result (λ seat. seat.paced ≡ P.pace port) }
+    ensures processors { IfOk result (λ seat. seat.processors ≡ plan.now.config.processors) }
+{
+    let paced = port.is_paced();
+    let slot = port.plug(alloc, plan.config)?;
+    seat_of(alloc, guest, plan, paced, slot)
+}
+
+/// The guests, each plugged in at the port of its place and started.
+fn seats_of<P: GuestPort>(
     alloc: Global,
     plan: &[GuestPlan],
-    slots: Vec<S>,
-) -> Result<Vec<Seat<S>>, AllocError>
+    ports: Vec<P>,
+) -> Result<Vec<Seat<P::Slot>>, AllocError>
     requires plan { list_all is_guest_plan plan.now ≡ true }
-    requires fresh { AreFresh S.stands plan.now slots.items }
+    requires count { length ports.items ≡ length plan.now }
+    requires waits { All P.waits ports.items }
+    ensures { IfOk result (λ seats. map (λ s. s.paced) seats.items ≡ map P.pace ports.items) }
 {
     let mut seats = Vec::new(alloc);
-    let mut left = slots.into_iter();
+    let mut left = ports.into_iter();
     let mut guest = 0;
     for own in plan {
-        let Some(slot) = left.next() else {
+        let Some(port) = left.next() else {
             break;
         };
-        seats.push(seat_of(alloc, guest, own, slot)?)?;
+        seats.push(seat_at(alloc, guest, own, port)?)?;
         guest = guest.saturating_add(1);
     }
     Ok(seats)
@@ -89,11 +116,11 @@ fn report_of<S: GuestSlot, R: Wait>(
     rounds: &[Round],
     seat: Seat<S>,
 ) -> Result<GuestReport, Stop>
-    ensures { IfOk result (IsGuestReport floor guest plan.now rounds.now) }
+    ensures { IfOk result (IsGuestReport floor guest plan.now seat.paced rounds.now) }
 {
-    let Seat { lock, .. } = seat;
+    let Seat { paced, lock, .. } = seat;
     lock.into_inner()
-        .close(rt, alloc, guest, plan, floor, rounds)
+        .close(rt, alloc, guest, paced, plan, floor, rounds)
 }
 
 /// The report of each guest.
@@ -106,9 +133,10 @@ fn reports_of<S: GuestSlot, R: Wait>(
     seats: Vec<Seat<S>>,
 ) -> Result<Vec<GuestReport>, Stop>
     ensures len { IfOk result (λ reports. length reports.items ≡ length plan.now) }
-    ensures each { IfOk result (λ reports. (g : ℕ) (r : _) (p : _)
+    ensures each { IfOk result (λ reports. (g : ℕ) (r : _) (p : _) (s : _)
         → slice_get reports.items g ≡ Some r → slice_get plan.now g ≡ Some p
-        → IsGuestReport floor g p rounds.now r) }
+        → slice_get seats.items g ≡ Some s
+        → IsGuestReport floor g p s.paced rounds.now r) }
 {
     let mut reports = Vec::new(alloc);
     let mut left = seats.into_iter();
@@ -128,18 +156,19 @@ fn reports_of<S: GuestSlot, R: Wait>(
 }
 
 /// Runs a plan that can be run.
-fn run_plan<S: GuestSlot + Send, G: Gate, R: Threads + Wait + Sync>(
+fn run_plan<P: GuestPort, G: Gate, R: Threads + Wait + Sync>(
     rt: &R,
     alloc: Global,
     plan: &Plan,
-    slots: Vec<S>,
+    ports: Vec<P>,
     gate: &G,
 ) -> Result<Report, Stop>
     requires plan { list_all is_guest_plan plan.now.guests.items ≡ true }
-    requires fresh { AreFresh S.stands plan.now.guests.items slots.items }
-    ensures { IfOk result (IsReport plan.now) }
+    requires count { length ports.items ≡ length plan.now.guests.items }
+    requires waits { All P.waits ports.items }
+    ensures { IfOk result (IsReport plan.now (map P.pace ports.items)) }
 {
-    let seats = seats_of(alloc, plan.guests.as_slice(), slots)?;
+    let seats = seats_of(alloc, plan.guests.as_slice(), ports)?;
     let ended = run_all(rt, alloc, seats.as_slice(), plan, gate);
     let rounds = ended.rounds;
     if !ended.all_made || rounds.len() != plan.rounds as usize {
@@ -162,24 +191,25 @@ fn run_plan<S: GuestSlot + Send, G: Gate, R: Threads + Wait + Sync>(
     Ok(Report { guests, rounds })
 }
 
-/// Runs each guest of the plan at the slot of its place, on threads: one for each of its
-/// processors, a worker for each guest, and one balancer for all.
-pub fn run_threads<S: GuestSlot + Send, G: Gate, R: Threads + Wait + Sync>(
+/// Runs each guest of the plan at the port of its place, on threads: one for each of its
+/// processors, a worker for each guest, and one balancer for all. Each guest is plugged in and
+/// started here. Where there is a fault, all ports are dropped.
+pub fn run_threads<P: GuestPort, G: Gate, R: Threads + Wait + Sync>(
     rt: &R,
     alloc: Global,
     plan: &Plan,
-    slots: Vec<S>,
+    ports: Vec<P>,
     gate: &G,
 ) -> Result<Report, RunFault>
-    requires fresh { AreFresh S.stands plan.now.guests.items slots.items }
-    ensures report { IfOk result (IsReport plan.now) }
+    requires { All P.waits ports.items }
+    ensures report { IfOk result (IsReport plan.now (map P.pace ports.items)) }
     ensures bad { (result ≡ Err RunFault.BadPlan)
-        ↔ (is_plan plan.now (length slots.items) ≡ false) }
+        ↔ (is_plan plan.now (length ports.items) ≡ false) }
 {
-    if !is_plan(plan, slots.len()) {
+    if !is_plan(plan, ports.len()) {
         return Err(RunFault::BadPlan);
     }
-    match run_plan(rt, alloc, plan, slots, gate) {
+    match run_plan(rt, alloc, plan, ports, gate) {
         Ok(report) => Ok(report),
         Err(Stop::Memory) => Err(RunFault::Memory),
         Err(Stop::Audit) => Err(RunFault::Audit),

@@ -1,6 +1,6 @@
 //! A processor's script, and its place in it.
 
-ghost use Rattle.std.specs.Prelude.{◌≡◌, ◌==◌, ◌+◌, ◌≤◌, ◌<◌, length, slice_get, true, Some};
+ghost use Rattle.std.specs.Prelude.{◌≡◌, ◌↔◌, ◌==◌, ◌+◌, ◌≤◌, ◌<◌, length, slice_get, true, Some};
 ghost use Rattle.std.specs.Prelude.{IfSome, IfNone, IfOk, All};
 ghost use Rattle.vb_run.specs.Past.{Progress, AllEnded, AreScripts};
 
@@ -60,7 +60,7 @@ impl Script {
 
     /// Whether these are its calls.
     fn is_of(&self, calls: &[Call]) -> bool
-        ensures { result ≡ true → self.now.calls ≡ calls.now }
+        ensures { (result ≡ true) ↔ (self.now.calls ≡ calls.now) }
     {
         are_same(self.calls.as_slice(), calls)
     }
@@ -82,7 +82,7 @@ impl Script {
 
 /// Whether all calls of all scripts were made.
 pub(crate) fn all_ended(scripts: &[Script]) -> bool
-    ensures { result ≡ true → AllEnded scripts.now }
+    ensures { (result ≡ true) ↔ AllEnded scripts.now }
 {
     for script in scripts {
         if !script.is_ended() {
@@ -94,7 +94,7 @@ pub(crate) fn all_ended(scripts: &[Script]) -> bool
 
 /// Whether the calls of each script are those at its place.
 pub(crate) fn are_of(scripts: &[Script], calls: &[Vec<Call>]) -> bool
-    ensures { result ≡ true → AreScripts scripts.now calls.now }
+    ensures { (result ≡ true) ↔ AreScripts scripts.now calls.now }
 {
     if scripts.len() != calls.len() {
         return false;
@@ -107,8 +107,9 @@ pub(crate) fn are_of(scripts: &[Script], calls: &[Vec<Call>]) -> bool
     true
 }
 
+/// Whether the calls are the same, one by one.
 fn are_same(calls: &[Call], others: &[Call]) -> bool
-    ensures { result ≡ true → calls.now ≡ others.now }
+    ensures { (result ≡ true) ↔ (calls.now ≡ others.now) }
 {
     if calls.len() != others.len() {
         return false;
@@ -121,9 +122,9 @@ fn are_same(calls: &[Call], others: &[Call]) -> bool
     true
 }
 
-/// Whether the two are one call; where they are of a kind that stands in no script, they aren't.
+/// Whether the two are one call.
 fn is_same(call: &Call, other: &Call) -> bool
-    ensures { result ≡ true → call.now ≡ other.now }
+    ensures { (result ≡ true) ↔ (call.now ≡ other.now) }
 {
     match (call, other) {
         (Call::Alloc { cpu: a, order: b }, Call::Alloc { cpu: c, order: d }) => a == c && b == d,
@@ -169,6 +170,27 @@ fn is_same(call: &Call, other: &Call) -> bool
         (Call::Report { from: a }, Call::Report { from: b }) => a == b,
         (Call::Stats, Call::Stats) => true,
         (Call::Reap { queue: a }, Call::Reap { queue: b }) => a == b,
+        (Call::Init { features: a }, Call::Init { features: b }) => a == b,
+        (Call::Reset, Call::Reset) => true,
+        (
+            Call::Scribble {
+                page: a,
+                offset: b,
+                bytes: c,
+            },
+            Call::Scribble {
+                page: d,
+                offset: e,
+                bytes: f,
+            },
+        ) => a == d && b == e && c.as_slice() == f.as_slice(),
+        (Call::Take { queue: a }, Call::Take { queue: b }) => a == b,
+        (Call::Work, Call::Work) => true,
+        (Call::Finish { queue: a, index: b }, Call::Finish { queue: c, index: d }) => a == c
+            && b == d,
+        (Call::Sweep { page: a }, Call::Sweep { page: b }) => a == b,
+        (Call::Ask, Call::Ask) => true,
+        (Call::SetTarget { pages: a }, Call::SetTarget { pages: b }) => a == b,
         _ => false,
     }
 }

@@ -22,6 +22,8 @@ use vb_slot::GuestSlot;
 pub(crate) struct Seat<S: GuestSlot> {
     /// The guest's number.
     pub guest: u32,
+    /// Whether its device is paced.
+    pub paced: bool,
     /// How many processors it has.
     pub processors: u32,
     pub lock: Mutex<Kept<S>>,

@@ -16,7 +16,9 @@ use Rattle.vb_run.specs.declared.plan.Bells.{Bells}
 use Rattle.vb_run.specs.declared.plan.GuestPlan.{GuestPlan}
 use Rattle.vb_run.specs.declared.plan.Plan.{Plan}
 use Rattle.vb_run.specs.declared.report.Report.{Report}
-use Rattle.vb_script.specs.Plans.{Plan as Planned, GuestPlan as PlannedGuest}
+use Rattle.vb_script.specs.declared.script.ThreadsGuest.{ThreadsGuest}
+use Rattle.vb_script.specs.Lines.{is_paced}
+use Rattle.vb_script.specs.Plans.{Plan as Planned, GuestPlan as PlannedGuest, guest_plan}
 use Rattle.vb_sim.specs.Plans.{IsPlanOf, Part, can_run, is_part, may_be_scripts, part_of, planned_part}
 use Rattle.vb_sim.specs.Threads.{IsPlanFault, IsRunOfText, IsThreadsFault}
 use Rattle.vb_sim.specs.declared.fault.ProgramFault.{ProgramFault}
@@ -137,3 +139,10 @@ guests_run script bells plan report run =
     let some = and_parts (not (n == 0)) (nat_le n max_guests && ((n == n) && guests)) runs in
     let few = and_parts (nat_le n max_guests) ((n == n) && guests) some.1 in
     (and_parts (n == n) guests few.1).1
+
+-- the paces of a script's guests are those of the plan that it makes
+pub paces_planned : (guests : List ThreadsGuest)
+    → map is_paced (map (λ guest. guest.pace) guests)
+    ≡ map (λ guest. is_paced guest.pace) (map guest_plan guests)
+paces_planned [] = refl
+paces_planned (guest ∷ guests) = ap (λ (l : List Bool). is_paced guest.pace ∷ l) (paces_planned guests)

@@ -1,9 +1,10 @@
 -- How a run of guests on threads ends: what is written where, and the exit status.
 use Rattle.std.specs.Prelude.{◌≡◌, ◌<◌, ◌⊎◌, ⊤, ℕ, suc, Bool, true, false, List, [], ◌∷◌, ◌++◌}
-use Rattle.std.specs.Prelude.{length, sum_by, All}
+use Rattle.std.specs.Prelude.{length, map, sum_by, All}
 use Rattle.std.specs.Prelude.{Option, Some, Result, Ok, Err, IfSome, codes}
 use Rattle.std.specs.Fmt.{decimal}
 use Rattle.std.specs.Io.KnownBytes.{Appends, Keeps}
+use Rattle.vb_script.specs.Lines.{is_paced}
 use Rattle.vb_script.specs.Plans.{Plan as Planned, threads_script_of}
 use Rattle.vb_run.specs.Reports.{IsReport}
 use Rattle.vb_run.specs.declared.plan.Bells.{Bells}
@@ -45,12 +46,13 @@ report_lines plan report =
 abbrev pub AreWithin : ℕ → List GuestReport → Type 0
 AreWithin frames reports = All (λ report. All (λ f. f < frames) report.frames.items) reports
 
--- a report of a run of just this plan, which can be run, on the frames of its host
+-- a report of a run of just this plan, which can be run, each guest on a device of its pace and on
+-- the frames of its host
 pub record IsRunOf (planned : Planned) (bells : Bells) (plan : Plan) (report : Report) : Type 0
   where
     pub runs : can_run planned ≡ true
     pub plan_is : IsPlanOf planned bells plan
-    pub report_is : IsReport plan report
+    pub report_is : IsReport plan (map (λ guest. is_paced guest.pace) planned.guests) report
     pub within : AreWithin planned.frames report.guests.items
 
 -- of the plan that a text makes

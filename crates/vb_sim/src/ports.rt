@@ -1,19 +1,20 @@
 //! A run of guests on threads, each on a device of its own that leases its frames from one table.
 
-ghost use Rattle.std.specs.Prelude.{◌≡◌, ◌≤◌, ◌<◌, true, length, All, MatchResult};
+ghost use Rattle.std.specs.Prelude.{◌≡◌, ◌↔◌, ◌≤◌, ◌<◌, true, length, map, All, MatchResult};
 ghost use Rattle.vb_run.specs.Plans.{is_plan};
 ghost use Rattle.vb_run.specs.Reports.{IsReport};
-ghost use Rattle.vb_run.specs.Starts.{AreFresh};
+ghost use Rattle.vb_script.specs.Lines.{is_paced};
 ghost use Rattle.vb_sim.specs.Threads.{AreWithin, IsPlanFault};
 
 use crate::fault::ProgramFault;
 use std::alloc::Global;
 use std::sync::Wait;
 use std::thread::Threads;
-use vb_device::{Device, ImmediateDevice, PacedDevice};
-use vb_run::{GuestReport, GuestSlot, OpenGate, Plan, Report, add_port, plug_in, run_threads};
+use vb_device::{ImmediateDevice, PacedDevice};
+use vb_run::{GuestPort, GuestReport, OpenGate, Plan, Report, add_port, run_threads};
 use vb_script::Pace;
 use vb_shared::{Leased, SharedFrames};
+use vb_slot::LonePort;
 
 /// Runs a plan, each guest on a device of its pace in this list. A report with a frame that isn't
 /// the host's is a failed audit.
@@ -30,12 +31,13 @@ pub fn run_plan<T: Threads + Wait + Sync>(
     requires paces { length paces.now ≡ length plan.now.guests.items }
     ensures { MatchResult result
         (λ report. (is_plan plan.now (length plan.now.guests.items) ≡ true)
-        × IsReport plan.now report × AreWithin plan.now.frames report.guests.items)
+        × IsReport plan.now (map is_paced paces.now) report
+        × AreWithin plan.now.frames report.guests.items)
         (λ fault. IsPlanFault (is_plan plan.now (length plan.now.guests.items)) fault) }
 {
     let (_frames, passes) = SharedFrames::open(alloc, plan.frames, paces.len() as u32)?;
     let mut passes = passes.into_iter();
-    let mut ports: Vec<Box<dyn Device + Send>> = Vec::new(alloc);
+    let mut ports: Vec<LonePort> = Vec::new(alloc);
     for pace in paces {
         let Some(pass) = passes.next() else {
             return Err(ProgramFault::Memory);
@@ -46,36 +48,38 @@ pub fn run_plan<T: Threads + Wait + Sync>(
                 let Ok(device) = Box::new(alloc, device) else {
                     return Err(ProgramFault::Memory);
                 };
-                add_port(&mut ports, device)?;
+                let port = LonePort::new(device);
+                add_port(&mut ports, port)?;
             }
             Pace::Paced => {
                 let device = Leased::new(PacedDevice::new(alloc), pass);
                 let Ok(device) = Box::new(alloc, device) else {
                     return Err(ProgramFault::Memory);
                 };
-                add_port(&mut ports, device)?;
+                let port = LonePort::new(device);
+                add_port(&mut ports, port)?;
             }
         }
     }
-    let slots = plug_in(alloc, plan, ports)?;
-    run_within(rt, alloc, plan, slots)
+    run_within(rt, alloc, plan, ports)
 }
 
-/// Runs a plan on slots that have its guests, and audits whether the frames of its report are the
+/// Runs a plan at these ports, and audits whether the frames of its report are the
 /// host's.
-fn run_within<T: Threads + Wait + Sync, S: GuestSlot + Send>(
+fn run_within<T: Threads + Wait + Sync, P: GuestPort>(
     rt: &T,
     alloc: Global,
     plan: &Plan,
-    slots: Vec<S>,
+    ports: Vec<P>,
 ) -> Result<Report, ProgramFault>
-    requires { AreFresh S.stands plan.now.guests.items slots.items }
+    requires { All P.waits ports.items }
     ensures { MatchResult result
-        (λ report. (is_plan plan.now (length slots.items) ≡ true)
-        × IsReport plan.now report × AreWithin plan.now.frames report.guests.items)
-        (λ fault. IsPlanFault (is_plan plan.now (length slots.items)) fault) }
+        (λ report. (is_plan plan.now (length ports.items) ≡ true)
+        × IsReport plan.now (map P.pace ports.items) report
+        × AreWithin plan.now.frames report.guests.items)
+        (λ fault. IsPlanFault (is_plan plan.now (length ports.items)) fault) }
 {
-    let report = run_threads(rt, alloc, plan, slots, &OpenGate)?;
+    let report = run_threads(rt, alloc, plan, ports, &OpenGate)?;
     if !are_within(plan.frames, report.guests.as_slice()) {
         return Err(ProgramFault::Audit);
     }
@@ -84,7 +88,7 @@ fn run_within<T: Threads + Wait + Sync, S: GuestSlot + Send>(
 
 /// Whether each frame of these guests is one of the first so many.
 fn are_within(frames: u32, reports: &[GuestReport]) -> bool
-    ensures { result ≡ true → AreWithin frames reports.now }
+    ensures { (result ≡ true) ↔ AreWithin frames reports.now }
 {
     for report in reports {
         if !are_below(frames, report.frames.as_slice()) {
@@ -96,7 +100,7 @@ fn are_within(frames: u32, reports: &[GuestReport]) -> bool
 
 /// Whether each of these numbers is below the first.
 fn are_below(bound: u32, numbers: &[u32]) -> bool
-    ensures { result ≡ true → All (λ n. n < bound) numbers.now }
+    ensures { (result ≡ true) ↔ All (λ n. n < bound) numbers.now }
 {
     for number in numbers {
         if *number >= bound {

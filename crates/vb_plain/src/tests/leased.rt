@@ -9,9 +9,10 @@ use std::alloc::{AllocError, Global};
 use std::sync::Wait;
 use std::thread::Threads;
 use std::time::Clock;
-use vb_device::{Device, ImmediateDevice, PacedDevice};
-use vb_run::{GuestSlot, Plan, Report, RunFault, add_port, plug_in, run_threads};
+use vb_device::{ImmediateDevice, PacedDevice};
+use vb_run::{Plan, Report, RunFault, add_port, run_threads};
 use vb_shared::{FramePass, Leased, SharedFrames};
+use vb_slot::LonePort;
 
 /// How a guest's device serves requests.
 #[derive(Clone, Copy, PartialEq, Eq)]
@@ -149,7 +150,7 @@ pub(super) fn run_leased<G: Watch, R: Threads + Wait + Sync>(
     let mut passes = Vec::new(alloc);
     ports.open(alloc, &mut tables, &mut passes)?;
     passes.reverse();
-    let mut devices: Vec<Box<dyn Device + Send>> = Vec::new(alloc);
+    let mut devices: Vec<LonePort> = Vec::new(alloc);
     while let Some(mut pass) = passes.pop() {
         // A new pass holds nothing; with this call that is known here.
         pass.give_back_all();
@@ -157,18 +158,19 @@ pub(super) fn run_leased<G: Watch, R: Threads + Wait + Sync>(
             Pace::Immediate => {
                 let device = Leased::new(ImmediateDevice::new(alloc), pass);
                 let device = Box::new(alloc, device)?;
-                add_port(&mut devices, device)?;
+                let port = LonePort::new(device);
+                add_port(&mut devices, port)?;
             }
             Pace::Paced => {
                 let device = Leased::new(PacedDevice::new(alloc), pass);
                 let device = Box::new(alloc, device)?;
-                add_port(&mut devices, device)?;
+                let port = LonePort::new(device);
+                add_port(&mut devices, port)?;
             }
         }
     }
-    let slots = plug_in(alloc, plan, devices)?;
-    let slots = watch(alloc, slots, gate)?;
-    let result = run_threads(rt, alloc, plan, slots, gate);
+    let devices = watch(alloc, devices, gate)?;
+    let result = run_threads(rt, alloc, plan, devices, gate);
     let out = count_out(tables.as_slice());
     end_of_run(alloc, plan, ports.pace, out, result)
 }

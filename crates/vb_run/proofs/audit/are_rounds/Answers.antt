@@ -1,4 +1,4 @@
-use Rattle.std.proofs.Common.{rules}
+use Rattle.std.proofs.Common.{rules, refl}
 use Rattle.vb_run.specs.Reports.{IsRound}
 use Rattle.vb_run.proofs.Lists.{all_next, all_whole}
 use Rattle.vb_run.proofs.audit.are_rounds.Goals as goal
@@ -9,5 +9,9 @@ loop-round-preserved c =
     c.round-item.result (search rules) c.loop-round.invariant (search rules)
 
 pub returns : goal.returns
-returns c = λ t. all_whole (IsRound c.args.plan.now) c.args.rounds.now c.loop-round.round-index
-    (search rules) c.loop-round.invariant
+returns c = (
+  λ t.
+      all_whole (IsRound c.args.plan.now) c.args.rounds.now c.loop-round.round-index
+      (search rules) c.loop-round.invariant,
+  λ all. refl,
+)

@@ -1,9 +1,13 @@
-use Rattle.std.proofs.Common.{◌≡◌, ◌≤◌, length, take}
+use Rattle.std.proofs.Common.{◌≡◌, ◌≤◌, true, length, take}
+use Rattle.std.specs.List.{list_all}
 use Rattle.vb_model.specs.declared.calls.Actor.TheVariants.{Balancer}
 use Rattle.vb_run.specs.Entries.{entries_by}
+use Rattle.vb_run.specs.Rounds.{is_of_round}
 use Rattle.vb_run.proofs.audit.has_made.Given as goal
 
 abbrev pub invariant-loop-entry : goal.invariant-loop-entry
-invariant-loop-entry l =
-    (entries_by Balancer (take l.entry-index l.history) ≡ take l.place l.expected)
-    × (l.place ≤ length l.expected)
+invariant-loop-entry l = record {
+  made : entries_by Balancer (take l.entry-index l.history) ≡ take l.place l.expected;
+  within : l.place ≤ length l.expected;
+  of_rounds : list_all is_of_round (take l.place l.expected) ≡ true;
+}

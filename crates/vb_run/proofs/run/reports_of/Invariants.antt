@@ -1,9 +1,12 @@
-use Rattle.std.proofs.Common.{◌≡◌, ℕ, length, Some, slice_get}
+use Rattle.std.proofs.Common.{◌≡◌, ℕ, length, Some, slice_get, drop}
 use Rattle.vb_run.specs.Reports.{IsGuestReport}
 use Rattle.vb_run.proofs.run.reports_of.Given as goal
 
 abbrev pub invariant-loop-guest : goal.invariant-loop-guest
-invariant-loop-guest g l =
-    (length l.reports.items ≡ l.guest)
-    × ((n : ℕ) (r : _) (p : _) → slice_get l.reports.items n ≡ Some r
-    → slice_get l.plan n ≡ Some p → IsGuestReport l.floor n p l.rounds r)
+invariant-loop-guest g l = record {
+  made : length l.reports.items ≡ l.guest;
+  rest : l.left.rest.items ≡ drop l.guest l.fn.seats.items;
+  each : (n : ℕ) (r : _) (p : _) (s : _) → slice_get l.reports.items n ≡ Some r
+      → slice_get l.plan n ≡ Some p → slice_get l.fn.seats.items n ≡ Some s
+      → IsGuestReport l.floor n p s.paced l.rounds r;
+}

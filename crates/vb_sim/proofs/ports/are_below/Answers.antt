@@ -1,4 +1,4 @@
-use Rattle.std.proofs.Common.{rules, ◌<◌}
+use Rattle.std.proofs.Common.{rules, refl, ◌<◌}
 use Rattle.vb_run.proofs.Lists.{all_next, all_whole}
 use Rattle.vb_sim.proofs.ports.are_below.Goals as goal
 
@@ -8,6 +8,9 @@ loop-number-preserved c =
     0 (search rules) c.loop-number.invariant (search rules)
 
 pub returns : goal.returns
-returns c = λ t.
-    all_whole (λ n. n < c.args.bound) c.args.numbers.now c.loop-number.number-index (search rules)
-    c.loop-number.invariant
+returns c = (
+  λ t.
+      all_whole (λ n. n < c.args.bound) c.args.numbers.now c.loop-number.number-index (search rules)
+      c.loop-number.invariant,
+  λ all. refl,
+)

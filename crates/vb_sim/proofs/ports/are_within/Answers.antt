@@ -1,4 +1,4 @@
-use Rattle.std.proofs.Common.{rules, All, ◌<◌}
+use Rattle.std.proofs.Common.{rules, refl, All, ◌<◌}
 use Rattle.vb_run.specs.declared.report.GuestReport.{GuestReport}
 use Rattle.vb_run.proofs.Lists.{all_next, all_whole}
 use Rattle.vb_sim.proofs.ports.are_within.Goals as goal
@@ -10,6 +10,9 @@ loop-report-preserved c =
     (search rules)
 
 pub returns : goal.returns
-returns c = λ t.
-    all_whole (λ (r : GuestReport). All (λ f. f < c.args.frames) r.frames.items) c.args.reports.now
-    c.loop-report.report-index (search rules) c.loop-report.invariant
+returns c = (
+  λ t.
+      all_whole (λ (r : GuestReport). All (λ f. f < c.args.frames) r.frames.items) c.args.reports.now
+      c.loop-report.report-index (search rules) c.loop-report.invariant,
+  λ all. refl,
+)

@@ -1,4 +1,5 @@
-use Rattle.std.proofs.Common.{◌≡◌, All, length}
+use Rattle.std.proofs.Common.{◌≡◌, All, map, take}
+use Rattle.vb_script.specs.Lines.{is_paced}
 use Rattle.vb_slot.specs.Spare.{IsNew}
 use Rattle.vb_sim.proofs.Passes.{AreUnheld}
 use Rattle.vb_sim.proofs.ports.run_plan.OwnLists.{own-1}
@@ -7,7 +8,8 @@ use Rattle.vb_sim.proofs.ports.run_plan.Given as goal
 abbrev pub invariant-loop-pace : goal.invariant-loop-pace
 invariant-loop-pace g l = record {
   passes : AreUnheld l.passes.rest.items;
-  ports : All (λ d. IsNew ((own-1.entry d.vtable).1.GuestBytes.mem d.value)
-      ((own-1.entry d.vtable).1.GuestBytes.part d.value)) l.ports.items;
-  count : length l.ports.items ≡ l.pace-index;
+  ports : All (λ p. IsNew ((own-1.entry p.device.vtable).1.GuestBytes.mem p.device.value)
+      ((own-1.entry p.device.vtable).1.GuestBytes.part p.device.value)) l.ports.items;
+  paces : map (λ p. ((own-1.entry p.device.vtable).1.GuestBytes.part p.device.value).paced)
+      l.ports.items ≡ map is_paced (take l.pace-index l.paces);
 }

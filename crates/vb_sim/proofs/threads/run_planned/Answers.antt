@@ -1,7 +1,10 @@
-use Rattle.std.proofs.Common.{rules, ◌≡◌, Err, ◌∙◌, sym, Result, MatchResult, subst}
+use Rattle.std.proofs.Common.{rules, ◌≡◌, Err, ◌∙◌, sym, Result, MatchResult, subst, ap, map, List}
+use Rattle.std.proofs.Common.{Bool}
+use Rattle.vb_run.specs.Reports.{IsReport}
+use Rattle.vb_script.specs.Lines.{is_paced}
 use Rattle.vb_script.specs.Plans.{planned_by}
 use Rattle.vb_sim.specs.Threads.{AreWithin}
-use Rattle.vb_sim.proofs.Planning.{fault_of_plan, plans_alike}
+use Rattle.vb_sim.proofs.Planning.{fault_of_plan, paces_planned, plans_alike}
 use Rattle.vb_sim.proofs.threads.run_planned.Goals as goal
 
 pub returns-in_err-report : goal.returns-in_err-report
@@ -20,7 +23,9 @@ returns g c =
       runs = sym (plans_alike (planned_by c.args.script) c.args.bells c.in-Some.plan is)
           ∙ c.in_ok-report.ensures.0;
       plan_is = is;
-      report_is = c.in_ok-report.ensures.1;
+      report_is = subst (λ (paces : List Bool). IsReport c.in-Some.plan paces c.in_ok-report.report)
+          (ap (map is_paced) c.in_ok-paces.ensures
+          ∙ paces_planned c.args.script.guests.items) c.in_ok-report.ensures.1;
       within = subst (λ n. AreWithin n c.in_ok-report.report.guests.items) is.frames
           c.in_ok-report.ensures.2;
     }

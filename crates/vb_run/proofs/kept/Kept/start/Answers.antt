@@ -10,6 +10,6 @@ invariant_of-result g c =
       c.claims_in-claims.ensures,
       c.new-history.ensures.items,
     )
-    (kept_start _ _ c.args.guest c.args.sizes c.requires.fresh.0 c.args.scripts.items _ c.call-reply.result
+    (kept_start _ _ c.args.guest c.args.sizes c.args.paced c.args.scripts.items _ c.call-reply.result
     c.requires.config c.requires.begun
-    (c.call-reply.ensures.step _ c.requires.fresh.1) c.call-reply.ensures.frames)
+    (c.call-reply.ensures.step _ c.requires.fresh) c.call-reply.ensures.frames)
