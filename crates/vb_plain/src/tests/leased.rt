@@ -4,14 +4,15 @@ use crate::tests::holds::{Hold, Holding, first_unmet};
 use crate::tests::notes::Note;
 use crate::tests::order::{Broken, Run};
 use crate::tests::replay::all_replay;
-use crate::tests::watch::{Watch, Watched};
+use crate::tests::watch::{Watch, add_watched};
 use std::alloc::{AllocError, Global};
 use std::sync::Wait;
 use std::thread::Threads;
 use std::time::Clock;
-use vb_device::{Device, ImmediateDevice, PacedDevice};
-use vb_run::{GuestSlot, Plan, Report, RunFault, add_port, plug_in, run_threads};
+use vb_device::{ImmediateDevice, PacedDevice};
+use vb_run::{Plan, Report, RunFault, run_threads};
 use vb_shared::{FramePass, Leased, SharedFrames};
+use vb_slot::LonePort;
 
 /// How a guest's device serves requests.
 #[derive(Clone, Copy, PartialEq, Eq)]
@@ -122,21 +123,6 @@ fn end_of_run(
     })
 }
 
-/// The guests, each of which tells the gate what it does.
-fn watch<'a, S: GuestSlot, G: Watch>(
-    alloc: Global,
-    slots: Vec<S>,
-    gate: &'a G,
-) -> Result<Vec<Watched<'a, S, G>>, AllocError> {
-    let mut watched = Vec::new(alloc);
-    let mut guest = 0;
-    for slot in slots {
-        watched.push(Watched { slot, guest, gate })?;
-        guest = guest.saturating_add(1);
-    }
-    Ok(watched)
-}
-
 /// Runs a plan at these ports.
 pub(super) fn run_leased<G: Watch, R: Threads + Wait + Sync>(
     rt: &R,
@@ -149,7 +135,7 @@ pub(super) fn run_leased<G: Watch, R: Threads + Wait + Sync>(
     let mut passes = Vec::new(alloc);
     ports.open(alloc, &mut tables, &mut passes)?;
     passes.reverse();
-    let mut devices: Vec<Box<dyn Device + Send>> = Vec::new(alloc);
+    let mut devices = Vec::new(alloc);
     while let Some(mut pass) = passes.pop() {
         // A new pass holds nothing; with this call that is known here.
         pass.give_back_all();
@@ -157,18 +143,16 @@ pub(super) fn run_leased<G: Watch, R: Threads + Wait + Sync>(
             Pace::Immediate => {
                 let device = Leased::new(ImmediateDevice::new(alloc), pass);
                 let device = Box::new(alloc, device)?;
-                add_port(&mut devices, device)?;
+                add_watched(&mut devices, LonePort::new(device), gate)?;
             }
             Pace::Paced => {
                 let device = Leased::new(PacedDevice::new(alloc), pass);
                 let device = Box::new(alloc, device)?;
-                add_port(&mut devices, device)?;
+                add_watched(&mut devices, LonePort::new(device), gate)?;
             }
         }
     }
-    let slots = plug_in(alloc, plan, devices)?;
-    let slots = watch(alloc, slots, gate)?;
-    let result = run_threads(rt, alloc, plan, slots, gate);
+    let result = run_threads(rt, alloc, plan, devices, gate);
     let out = count_out(tables.as_slice());
     end_of_run(alloc, plan, ports.pace, out, result)
 }

@@ -6,8 +6,8 @@ use Rattle.vb_shared.specs.Passes.{Pass}
 use Rattle.vb_plain.proofs.tests.leased.run_leased.OwnLists.{own-1, at-1-1, at-1-2}
 use Rattle.vb_plain.proofs.tests.leased.run_leased.Goals as goal
 
-pub add_port-requires-clause-device : goal.add_port-requires-clause-device
-add_port-requires-clause-device g c =
+pub new-requires : goal.new-requires
+new-requires g c =
     let held = ap (λ (p : Pass). p.held) c.give_back_all.ensures in
     let device = c.in_ok-device-in-Immediate.device.value in
     let box = c.into_dyn_box in
