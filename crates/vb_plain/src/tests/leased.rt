@@ -143,12 +143,14 @@ pub(super) fn run_leased<G: Watch, R: Threads + Wait + Sync>(
             Pace::Immediate => {
                 let device = Leased::new(ImmediateDevice::new(alloc), pass);
                 let device = Box::new(alloc, device)?;
-                add_watched(&mut devices, LonePort::new(device), gate)?;
+                let port = LonePort::new(device);
+                add_watched(&mut devices, port, gate)?;
             }
             Pace::Paced => {
                 let device = Leased::new(PacedDevice::new(alloc), pass);
                 let device = Box::new(alloc, device)?;
-                add_watched(&mut devices, LonePort::new(device), gate)?;
+                let port = LonePort::new(device);
+                add_watched(&mut devices, port, gate)?;
             }
         }
     }

@@ -6,8 +6,8 @@ use Rattle.vb_shared.specs.Passes.{Pass}
 use Rattle.vb_plain.proofs.tests.leased.run_leased.OwnLists.{own-1, at-1-1, at-1-2}
 use Rattle.vb_plain.proofs.tests.leased.run_leased.Goals as goal
 
-pub new-requires : goal.new-requires
-new-requires g c =
+pub new-port-requires : goal.new-port-requires
+new-port-requires g c =
     let held = ap (λ (p : Pass). p.held) c.give_back_all.ensures in
     let device = c.in_ok-device-in-Immediate.device.value in
     let box = c.into_dyn_box in
@@ -29,8 +29,8 @@ new-requires g c =
       ap (λ (p : Part). p.own) c.new-device.ensures.part ∙ held,
     )
 
-pub add_port-requires-in-Paced-clause-device : goal.add_port-requires-in-Paced-clause-device
-add_port-requires-in-Paced-clause-device g c =
+pub new-port-requires-in-Paced : goal.new-port-requires-in-Paced
+new-port-requires-in-Paced g c =
     let held = ap (λ (p : Pass). p.held) c.give_back_all.ensures in
     let device = c.in_ok-device-in-Paced.device.value in
     let box = c.into_dyn_box-in-Paced in
