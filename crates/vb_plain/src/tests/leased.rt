@@ -4,13 +4,13 @@ use crate::tests::holds::{Hold, Holding, first_unmet};
 use crate::tests::notes::Note;
 use crate::tests::order::{Broken, Run};
 use crate::tests::replay::all_replay;
-use crate::tests::watch::{Watch, Watched};
+use crate::tests::watch::{Watch, add_watched};
 use std::alloc::{AllocError, Global};
 use std::sync::Wait;
 use std::thread::Threads;
 use std::time::Clock;
 use vb_device::{ImmediateDevice, PacedDevice};
-use vb_run::{Plan, Report, RunFault, add_port, run_threads};
+use vb_run::{Plan, Report, RunFault, run_threads};
 use vb_shared::{FramePass, Leased, SharedFrames};
 use vb_slot::LonePort;
 
@@ -123,21 +123,6 @@ fn end_of_run(
     })
 }
 
-/// The guests, each of which tells the gate what it does.
-fn watch<'a, S: GuestSlot, G: Watch>(
-    alloc: Global,
-    slots: Vec<S>,
-    gate: &'a G,
-) -> Result<Vec<Watched<'a, S, G>>, AllocError> {
-    let mut watched = Vec::new(alloc);
-    let mut guest = 0;
-    for slot in slots {
-        watched.push(Watched { slot, guest, gate })?;
-        guest = guest.saturating_add(1);
-    }
-    Ok(watched)
-}
-
 /// Runs a plan at these ports.
 pub(super) fn run_leased<G: Watch, R: Threads + Wait + Sync>(
     rt: &R,
@@ -150,7 +135,7 @@ pub(super) fn run_leased<G: Watch, R: Threads + Wait + Sync>(
     let mut passes = Vec::new(alloc);
     ports.open(alloc, &mut tables, &mut passes)?;
     passes.reverse();
-    let mut devices: Vec<LonePort> = Vec::new(alloc);
+    let mut devices = Vec::new(alloc);
     while let Some(mut pass) = passes.pop() {
         // A new pass holds nothing; with this call that is known here.
         pass.give_back_all();
@@ -159,17 +144,16 @@ pub(super) fn run_leased<G: Watch, R: Threads + Wait + Sync>(
                 let device = Leased::new(ImmediateDevice::new(alloc), pass);
                 let device = Box::new(alloc, device)?;
                 let port = LonePort::new(device);
-                add_port(&mut devices, port)?;
+                add_watched(&mut devices, port, gate)?;
             }
             Pace::Paced => {
                 let device = Leased::new(PacedDevice::new(alloc), pass);
                 let device = Box::new(alloc, device)?;
                 let port = LonePort::new(device);
-                add_port(&mut devices, port)?;
+                add_watched(&mut devices, port, gate)?;
             }
         }
     }
-    let devices = watch(alloc, devices, gate)?;
     let result = run_threads(rt, alloc, plan, devices, gate);
     let out = count_out(tables.as_slice());
     end_of_run(alloc, plan, ports.pace, out, result)

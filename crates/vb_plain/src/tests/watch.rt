@@ -1,10 +1,12 @@
 //! Guests that tell a gate what they do under their locks.
 
-ghost use Rattle.std.specs.Prelude.{◌≡◌};
+ghost use Rattle.std.specs.Prelude.{All};
 
-use std::alloc::Global;
+use std::alloc::{AllocError, Global};
 use vb_model::{Call, Claim, Reply};
-use vb_run::{Gate, GuestSlot, OpenGate};
+use vb_ram::Config;
+use vb_run::{Gate, OpenGate, add_port};
+use vb_slot::{GuestPort, GuestSlot};
 
 /// A gate that is told what guests do.
 pub(super) trait Watch: Gate {
@@ -34,10 +36,10 @@ impl Watch for OpenGate {
 /// A guest that tells what it does.
 #[derive(Drop)]
 pub(super) struct Watched<'a, S: GuestSlot, G: Watch> {
-    pub slot: S,
+    slot: S,
     /// Its number.
-    pub guest: u32,
-    pub gate: &'a G,
+    guest: u32,
+    gate: &'a G,
 }
 
 impl<S: GuestSlot, G: Watch> GuestSlot for Watched<'_, S, G> {
@@ -75,4 +77,46 @@ impl<S: GuestSlot, G: Watch> GuestSlot for Watched<'_, S, G> {
         }
         backing
     }
+}
+
+/// A device whose guest tells what it does.
+#[derive(Drop)]
+pub(super) struct WatchedPort<'a, P: GuestPort, G: Watch> {
+    port: P,
+    /// The guest's number.
+    guest: u32,
+    gate: &'a G,
+}
+
+impl<'a, P: GuestPort, G: Watch> GuestPort for WatchedPort<'a, P, G> {
+    type Slot = Watched<'a, P::Slot, G>;
+
+    ghost waits = { λ w. P.waits w.port };
+
+    ghost pace = { λ w. P.pace w.port };
+
+    fn is_paced(&self) -> bool {
+        self.port.is_paced()
+    }
+
+    fn plug(self, alloc: Global, config: Config) -> Result<Watched<'a, P::Slot, G>, AllocError> {
+        let WatchedPort { port, guest, gate } = self;
+        let slot = port.plug(alloc, config)?;
+        Ok(Watched { slot, guest, gate })
+    }
+}
+
+/// Adds a port behind others, whose guest tells the gate what it does. Refused for want of memory
+/// alone.
+pub(super) fn add_watched<'a, P: GuestPort, G: Watch>(
+    ports: &mut Vec<WatchedPort<'a, P, G>>,
+    port: P,
+    gate: &'a G,
+) -> Result<(), AllocError>
+    requires ports { All (λ w. P.waits w.port) ports.old.items }
+    requires port { P.waits port }
+    ensures { All (λ w. P.waits w.port) ports.new.items }
+{
+    let guest = u32::try_from(ports.len()).unwrap_or(u32::MAX);
+    add_port(ports, WatchedPort { port, guest, gate })
 }
