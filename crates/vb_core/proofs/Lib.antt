@@ -15,3 +15,6 @@ mod SettingFacts
 mod RunFacts
 mod DenialFacts
 pub mod Rows
+pub mod Numbers
+pub mod RoundTrip
+pub mod Restoring
