@@ -13,6 +13,7 @@ pub mod CountLemmas
 pub mod MarkLemmas
 mod SettingFacts
 mod RunFacts
+mod SavedFacts
 mod DenialFacts
 pub mod Rows
 pub mod Numbers
