@@ -299,6 +299,64 @@ static void any_restored_device_works(void)
     printf("saved: %u of %u changed states were restored, and worked on\n", restored, (unsigned)ROUNDS);
 }
 
+/* Pages, or a buffer of one figure, from rings that begin anew with each life of the device. */
+static void any_request(uint32_t kind)
+{
+    if (guest.balloon.state.device.status == 0) {
+        for (uint32_t each = 0; each < 4; each++)
+            put(&guest, avail_of(each) + 2, guest.published[each] = 0, 2);
+    } else if (kind == VB_STATISTICS) {
+        describe(&guest, kind, 0, buffer_of(kind), 10, 0, 0);
+        publish(&guest, kind, 0);
+    } else {
+        name_pages(&guest, kind, (const uint32_t[]){ chance(3000), chance(3000) }, 2);
+    }
+}
+
+/* One call of a driver, or of a host, by chance. */
+static void any_step(void)
+{
+    static const uint8_t statuses[] = { 0, 1, 3, 11, 15, 128, 129, 131, 139, 143, 79, 207 };
+    static const uint64_t features[] = { 0, 1, 2, 0x20, 1ull << 32, 1ull << 32 | 2, 1ull << 32 | 0x22, 1ull << 32 | 0x27 };
+    struct balloon *balloon = &guest.balloon;
+    struct balloon_result result;
+    uint32_t kind = chance(4);
+    switch (chance(10)) {
+    case 0: balloon_write_status(balloon, statuses[chance(5) * (chance(4) > 0) + chance(2) * chance(8)], &result); break;
+    case 1: balloon_write_status(balloon, (uint8_t)(balloon->state.device.status | 1u << chance(8)), &result); break;
+    case 2: balloon_negotiate(balloon, features[chance(8)]); break;
+    case 3:
+    case 4: balloon_place(balloon, kind, table_of(kind), avail_of(kind), used_of(kind), 64); break;
+    case 5: any_request(kind); break;
+    case 6:
+    case 7: balloon_notify(balloon, kind); break;
+    case 8: balloon_ask_statistics(balloon); break;
+    default: vb_use(&balloon->state.device, kind, chance(70)); break;
+    }
+}
+
+/* Whatever calls lead to is saved, and restored as it was. */
+static void all_that_calls_lead_to_is_saved(void)
+{
+    unsigned kinds[256] = { 0 }, held = 0;
+    EXPECT(reach(0));
+    for (unsigned round = 0; round < 5 * ROUNDS; round++) {
+        uint8_t bytes[VB_STATE_BYTES];
+        struct balloon_state restored, *it = &guest.balloon.state;
+        any_step();
+        EXPECT(balloon_save(&guest.balloon, bytes, sizeof bytes) == VB_OK);
+        EXPECT(vb_restore(&restored.device, &restored.held, bytes, sizeof bytes) == VB_OK);
+        EXPECT(are_same(&restored.device, restored.held, &it->device, it->held));
+        kinds[it->device.status]++;
+        held += it->held > 0;
+    }
+    unsigned seen = 0;
+    for (unsigned status = 0; status < 256; status++)
+        seen += kinds[status] > 0;
+    printf("saved: %u statuses and %u held buffers on the way\n", seen, held);
+    EXPECT(seen == 12 && held > 0);
+}
+
 int main(void)
 {
     EXPECT(vb_version() == VB_VERSION_NUMBER);
@@ -312,6 +370,7 @@ int main(void)
     impossible_devices_are_not_saved();
     a_balloon_goes_on();
     any_restored_device_works();
+    all_that_calls_lead_to_is_saved();
     free_memory(&guest);
     puts("saved: all passed");
     return 0;

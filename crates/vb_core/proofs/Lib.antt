@@ -13,9 +13,13 @@ pub mod CountLemmas
 pub mod MarkLemmas
 mod SettingFacts
 mod RunFacts
+mod SavedFacts
 mod DenialFacts
 pub mod Rows
 mod ReportFacts
 mod NamingFacts
 mod SetFacts
 mod QueueFacts
+pub mod Numbers
+pub mod RoundTrip
+pub mod Restoring

@@ -1,0 +1,164 @@
+-- What was saved is restored, and nothing else.
+use Rattle.std.proofs.Common.{◌≡◌, ℕ, ◌*◌, ◌%◌, ◌^◌, ◌<◌, Bool, true, false, not}
+use Rattle.std.proofs.Common.{List, [], ◌∷◌, ◌++◌, length, take, drop, refl, sym, ◌∙◌, ap}
+use Rattle.std.proofs.Common.{arith, lit<, subst, append-nil, length-append, if◌then◌else◌}
+use Rattle.std.proofs.Common.{◌==◌, ◌&&◌}
+use Rattle.std.proofs.Common.{nat_lt, bit_xor, fold}
+use Rattle.std.specs.Prelude.{Option, Some, None, Result, Ok, Err}
+use Rattle.std.proofs.lemmas.Bool.{eqb-true, eq-eqb}
+use Rattle.std.proofs.lemmas.List.{length-drop, take_at, drop_all}
+use Rattle.vb_core.specs.declared.saved.Saved.{Saved}
+use Rattle.vb_core.specs.declared.saved.StateDenial.{StateDenial}
+use Rattle.vb_core.specs.declared.saved.StateDenial.TheVariants.{BadLength, NotAState}
+use Rattle.vb_core.specs.declared.saved.StateDenial.TheVariants.{OtherVersion, BadSum, Impossible}
+use Rattle.vb_core.specs.declared.format.TheConstants.{MAGIC, FORMAT_VERSION, SAVED_LENGTH}
+use Rattle.vb_core.specs.declared.format.TheConstants.{VERSION_AT, LENGTH_AT}
+use Rattle.vb_core.specs.declared.format.TheConstants.{HEADER_LENGTH}
+use Rattle.vb_core.specs.Format.{u64_bytes, u32_at, u64_at, in_a_row, saved_parts, body, checksum}
+use Rattle.vb_core.specs.Format.{saved_bytes, saved_in, FitsSaved}
+use Rattle.vb_core.specs.Saved.{can_be, is_state, has_version, has_length, has_sum, header_denial}
+use Rattle.vb_core.specs.Saved.{read_saved, unless_denied, restored}
+use Rattle.vb_core.proofs.Rows.{row_more}
+use Rattle.vb_core.proofs.Numbers.{AreBytes, u64_then, u64_again}
+use Rattle.vb_core.proofs.RoundTrip.{says, row_again}
+
+-- a checksum fits its field
+checksum_fits : (bytes : List ℕ) → checksum bytes < 2 ^ 64
+unfolding checksum
+checksum_fits bytes = steps bytes 0xcbf29ce484222325 (lit< tt)
+  where
+    steps : (bytes : List ℕ) (sum : ℕ) → sum < 2 ^ 64
+        → fold (λ s b. (bit_xor s b * 0x100000001b3) % 2 ^ 64) sum bytes < 2 ^ 64
+    steps [] sum h = h
+    steps (b ∷ bs) sum h =
+        steps bs ((bit_xor sum b * 0x100000001b3) % 2 ^ 64) (omega arith)
+
+length-u64_bytes : (n : ℕ) → length (u64_bytes n) ≡ 8
+unfolding u64_bytes
+length-u64_bytes n = refl
+
+-- ---- tests one after the other
+
+header_passes : (short state version fits : Bool) → short ≡ false → state ≡ true → version ≡ true
+    → fits ≡ true
+    → (if short then Some BadLength else if not state then Some NotAState
+    else if not version then Some OtherVersion else if not fits then Some BadLength else None)
+    ≡ None
+header_passes false true true true a b c d = refl
+header_passes true state version fits a b c d = cc
+header_passes false false version fits a b c d = cc
+header_passes false true false fits a b c d = cc
+header_passes false true true false a b c d = cc
+
+header_passed : (short state version fits : Bool)
+    → (if short then Some BadLength else if not state then Some NotAState
+    else if not version then Some OtherVersion else if not fits then Some BadLength else None)
+    ≡ None
+    → (short ≡ false) × (state ≡ true) × (version ≡ true) × (fits ≡ true)
+header_passed false true true true e = (refl, refl, refl, refl)
+header_passed true state version fits e = cc
+header_passed false false version fits e = cc
+header_passed false true false fits e = cc
+header_passed false true true false e = cc
+
+read_passes : (sum possible : Bool) (x s : Saved) → sum ≡ true → possible ≡ true → x ≡ s
+    → (if not sum then Err BadSum else if not possible then Err Impossible else Ok x) ≡ Ok s
+read_passes true true x s a b e = ap Ok e
+read_passes false possible x s a b e = cc
+read_passes true false x s a b e = cc
+
+read_passed : (sum possible : Bool) (x s : Saved)
+    → (if not sum then Err BadSum else if not possible then Err Impossible else Ok x) ≡ Ok s
+    → (sum ≡ true) × (possible ≡ true) × (x ≡ s)
+read_passed true true x s e = (refl, refl, cc)
+read_passed false possible x s e = cc
+read_passed true false x s e = cc
+
+not_denied : (o : Option StateDenial) (r : Result Saved StateDenial) (s : Saved)
+    → unless_denied o r ≡ Ok s → (o ≡ None) × (r ≡ Ok s)
+not_denied None r s e = (refl, e)
+not_denied (Some why) r s e = cc
+
+both : (a b : Bool) → (a && b) ≡ true → (a ≡ true) × (b ≡ true)
+both true true e = (refl, refl)
+both true false e = cc
+both false b e = cc
+
+-- ---- what was saved is restored
+
+-- the bytes before the checksum
+front : (x : Saved) (bytes more : List ℕ) → length bytes ≡ 187 → length more ≡ 8
+    → bytes ≡ in_a_row (saved_parts x) more → take 179 bytes ≡ body x
+front x bytes more len eight e =
+    let whole : bytes ≡ body x ++ more = e ∙ row_more (saved_parts x) more in
+    let own : length (body x) ≡ 179 = omega (
+      arith,
+      len,
+      eight,
+      ap (λ (xs : List ℕ). length xs) whole,
+      length-append (body x) more,
+    ) in
+    ap (λ (xs : List ℕ). take 179 xs) whole ∙ take_at (body x) more 179 own
+
+restored_from : (s : Saved) (bytes : List ℕ) → FitsSaved s → can_be s ≡ true
+    → bytes ≡ in_a_row (saved_parts s) (u64_bytes (checksum (body s))) → restored bytes ≡ Ok s
+restored_from s bytes f possible e =
+    let sum = u64_bytes (checksum (body s)) in
+    let w = says s sum bytes f e in
+    let eight : length sum ≡ 8 = length-u64_bytes (checksum (body s)) in
+    let len : length bytes ≡ 187 = omega (
+      arith,
+      eight,
+      ap (λ (xs : List ℕ). length xs) w.behind,
+      length-drop 179 bytes,
+    ) in
+    let told = u64_then (checksum (body s)) [] bytes 179 187 (checksum_fits (body s)) refl
+    (w.behind ∙ sym (append-nil sum)) in
+    let same = front s bytes sum len eight e in
+    let header : header_denial bytes ≡ None = header_passes (nat_lt (length bytes) HEADER_LENGTH)
+    (is_state bytes) (has_version bytes) (has_length bytes)
+    (ap (λ (n : ℕ). nat_lt n HEADER_LENGTH) len)
+    (eq-eqb (u64_at bytes 0) MAGIC w.magic)
+    (eq-eqb (u32_at bytes VERSION_AT) FORMAT_VERSION w.version)
+    (ap (λ (n : ℕ). (n == SAVED_LENGTH) && (length bytes == SAVED_LENGTH)) w.length_told
+    ∙ ap (λ (n : ℕ). n == SAVED_LENGTH) len) in
+    let rest : read_saved bytes ≡ Ok s = read_passes (has_sum bytes) (can_be (saved_in bytes))
+    (saved_in bytes) s
+    (eq-eqb (u64_at bytes 179) (checksum (take 179 bytes))
+    (told.0 ∙ sym (ap (λ (xs : List ℕ). checksum xs) same)))
+    (ap (λ (x : Saved). can_be x) w.saved ∙ possible) w.saved in
+    ap (λ (o : Option StateDenial). unless_denied o (read_saved bytes)) header ∙ rest
+
+pub saved_restored : (s : Saved) → FitsSaved s → can_be s ≡ true
+    → restored (saved_bytes s) ≡ Ok s
+saved_restored s f possible = restored_from s (saved_bytes s) f possible refl
+
+-- ---- nothing else is
+
+pub only_saved : (bytes : List ℕ) (s : Saved) → AreBytes bytes → restored bytes ≡ Ok s
+    → (bytes ≡ saved_bytes s) × (can_be s ≡ true)
+only_saved bytes s all e =
+    let parts = not_denied (header_denial bytes) (read_saved bytes) s e in
+    let header = header_passed (nat_lt (length bytes) HEADER_LENGTH) (is_state bytes)
+    (has_version bytes) (has_length bytes) parts.0 in
+    let rest = read_passed (has_sum bytes) (can_be (saved_in bytes)) (saved_in bytes) s parts.1 in
+    let lengths = both (u32_at bytes LENGTH_AT == SAVED_LENGTH) (length bytes == SAVED_LENGTH)
+    header.3 in
+    let len : length bytes ≡ 187 = eqb-true (length bytes) SAVED_LENGTH lengths.1 in
+    let row = row_again bytes all (omega arith) (eqb-true (u64_at bytes 0) MAGIC header.1)
+    (eqb-true (u32_at bytes VERSION_AT) FORMAT_VERSION header.2)
+    (eqb-true (u32_at bytes LENGTH_AT) SAVED_LENGTH lengths.0) in
+    let eight : length (drop 179 bytes) ≡ 8 = omega (arith, len, length-drop 179 bytes) in
+    let same = front (saved_in bytes) bytes (drop 179 bytes) len eight row in
+    let told : u64_at bytes 179 ≡ checksum (body (saved_in bytes)) =
+    eqb-true (u64_at bytes 179) (checksum (take 179 bytes)) rest.0
+    ∙ ap (λ (xs : List ℕ). checksum xs) same in
+    let sum : drop 179 bytes ≡ u64_bytes (checksum (body (saved_in bytes))) =
+    u64_again bytes 179 187 all refl (omega arith)
+    ∙ ap (λ (xs : List ℕ). u64_bytes (u64_at bytes 179) ++ xs) (drop_all 187 bytes (omega arith))
+    ∙ append-nil (u64_bytes (u64_at bytes 179))
+    ∙ ap (λ (n : ℕ). u64_bytes n) told in (
+      subst (λ (x : Saved). bytes ≡ saved_bytes x) rest.2
+          (row ∙ ap (λ (xs : List ℕ). in_a_row (saved_parts (saved_in bytes)) xs) sum),
+      subst (λ (x : Saved). can_be x ≡ true) rest.2 rest.1,
+    )

@@ -1,0 +1,125 @@
+-- A device is saved and restored.
+use Rattle.std.proofs.Common.{◌≡◌, ℕ, ◌+◌, ◌≤◌, List, [], ◌∷◌, ◌++◌, length, get_or, drop}
+use Rattle.std.proofs.Common.{refl, ◌∙◌, ap, arith, lit<}
+use Rattle.vb_core.specs.declared.settings.Settings.{Settings}
+use Rattle.vb_core.specs.declared.ring.Ring.{Ring}
+use Rattle.vb_core.specs.declared.saved.Saved.{Saved}
+use Rattle.vb_core.specs.declared.format.TheConstants.{MAGIC, FORMAT_VERSION, SAVED_LENGTH}
+use Rattle.vb_core.specs.declared.format.TheConstants.{VERSION_AT, LENGTH_AT, CHECKSUM_AT}
+use Rattle.vb_core.specs.Format.{u32_bytes, u64_bytes, u32_at, u64_at}
+use Rattle.vb_core.specs.Format.{in_a_row, settings_parts, ring_parts, saved_parts}
+use Rattle.vb_core.specs.Format.{settings_at, ring_at, saved_in, FitsSettings, FitsRing, FitsSaved}
+use Rattle.vb_core.proofs.Numbers.{AreBytes, u16_then, u32_then, u64_then, byte_then, u16_again}
+use Rattle.vb_core.proofs.Numbers.{u32_again, u64_again, byte_again}
+
+-- ---- what was written is read
+
+ring_then : (r : Ring) (more bytes : List ℕ) (p : ℕ) → FitsRing r
+    → drop p bytes ≡ in_a_row (ring_parts r) more
+    → (ring_at bytes p ≡ r) × (drop (p + 30) bytes ≡ more)
+ring_then r more bytes p f e =
+    let a = u64_then r.table _ bytes p (p + 8) f.table refl e in
+    let b = u64_then r.avail _ bytes (p + 8) (p + 16) f.avail (omega arith) a.1 in
+    let c = u64_then r.used _ bytes (p + 16) (p + 24) f.used (omega arith) b.1 in
+    let d = u16_then r.size _ bytes (p + 24) (p + 26) f.size (omega arith) c.1 in
+    let g = u16_then r.next_avail _ bytes (p + 26) (p + 28) f.next_avail (omega arith) d.1 in
+    let h = u16_then r.next_used _ bytes (p + 28) (p + 30) f.next_used (omega arith) g.1 in
+    (rw (a.0, b.0, c.0, d.0, g.0, h.0), h.1)
+
+settings_then : (s : Settings) (more bytes : List ℕ) (p : ℕ) → FitsSettings s
+    → drop p bytes ≡ in_a_row (settings_parts s) more
+    → (settings_at bytes p ≡ s) × (drop (p + 22) bytes ≡ more)
+settings_then s more bytes p f e =
+    let a = u64_then s.memory_end _ bytes p (p + 8) f.memory_end refl e in
+    let b = u64_then s.offered _ bytes (p + 8) (p + 16) f.offered (omega arith) a.1 in
+    let c = u32_then s.reserved_pages _ bytes (p + 16) (p + 20) f.reserved_pages (omega arith)
+    b.1 in
+    let d = byte_then s.needs_must_tell _ bytes (p + 20) (p + 21) (omega arith) c.1 in
+    let g = byte_then s.skips_bad_pages _ bytes (p + 21) (p + 22) (omega arith) d.1 in
+    (rw (a.0, b.0, c.0, d.0, g.0), g.1)
+
+-- ---- what is read is what was written
+
+then : (part : List ℕ) (x y z : List ℕ) → x ≡ part ++ y → y ≡ z → x ≡ part ++ z
+then part x y z e f = e ∙ ap (λ (xs : List ℕ). part ++ xs) f
+
+row : (parts : List (List ℕ)) (x y z : List ℕ) → x ≡ in_a_row parts y → y ≡ z
+    → x ≡ in_a_row parts z
+row parts x y z e f = e ∙ ap (λ (xs : List ℕ). in_a_row parts xs) f
+
+ring_again : (bytes : List ℕ) (p : ℕ) → AreBytes bytes → p + 30 ≤ length bytes
+    → drop p bytes ≡ in_a_row (ring_parts (ring_at bytes p)) (drop (p + 30) bytes)
+ring_again bytes p all l =
+    then _ _ _ _ (u64_again bytes p (p + 8) all refl (omega arith))
+    (then _ _ _ _ (u64_again bytes (p + 8) (p + 16) all (omega arith) (omega arith))
+    (then _ _ _ _ (u64_again bytes (p + 16) (p + 24) all (omega arith) (omega arith))
+    (then _ _ _ _ (u16_again bytes (p + 24) (p + 26) all (omega arith) (omega arith))
+    (then _ _ _ _ (u16_again bytes (p + 26) (p + 28) all (omega arith) (omega arith))
+    (u16_again bytes (p + 28) (p + 30) all (omega arith) (omega arith))))))
+
+settings_again : (bytes : List ℕ) (p : ℕ) → AreBytes bytes → p + 22 ≤ length bytes
+    → drop p bytes ≡ in_a_row (settings_parts (settings_at bytes p)) (drop (p + 22) bytes)
+settings_again bytes p all l =
+    then _ _ _ _ (u64_again bytes p (p + 8) all refl (omega arith))
+    (then _ _ _ _ (u64_again bytes (p + 8) (p + 16) all (omega arith) (omega arith))
+    (then _ _ _ _ (u32_again bytes (p + 16) (p + 20) all (omega arith) (omega arith))
+    (then (get_or bytes (p + 20) 0 ∷ []) _ _ _
+    (byte_again bytes (p + 20) (p + 21) (omega arith) (omega arith))
+    (byte_again bytes (p + 21) (p + 22) (omega arith) (omega arith)))))
+
+-- ---- both, of all that is saved
+
+-- what bytes say that are a saved device
+pub record Says (bytes : List ℕ) (s : Saved) (more : List ℕ) : Type 0 where
+  pub magic : u64_at bytes 0 ≡ MAGIC
+  pub version : u32_at bytes VERSION_AT ≡ FORMAT_VERSION
+  pub length_told : u32_at bytes LENGTH_AT ≡ SAVED_LENGTH
+  pub saved : saved_in bytes ≡ s
+  pub behind : drop CHECKSUM_AT bytes ≡ more
+
+pub says : (s : Saved) (more bytes : List ℕ) → FitsSaved s → bytes ≡ in_a_row (saved_parts s) more
+    → Says bytes s more
+says s more bytes f e =
+    let d = s.device in
+    let a = u64_then MAGIC _ bytes 0 8 (lit< tt) refl e in
+    let b = u32_then FORMAT_VERSION _ bytes 8 12 (lit< tt) refl a.1 in
+    let c = u32_then SAVED_LENGTH _ bytes 12 16 (lit< tt) refl b.1 in
+    let t = settings_then d.settings _ bytes 16 f.settings c.1 in
+    let g = u64_then d.features _ bytes 38 46 f.features refl t.1 in
+    let h = u32_then d.target _ bytes 46 50 f.target refl g.1 in
+    let i = u32_then d.actual _ bytes 50 54 f.actual refl h.1 in
+    let j = u32_then s.held _ bytes 54 58 f.held refl i.1 in
+    let k = byte_then d.status _ bytes 58 59 refl j.1 in
+    let l = ring_then d.inflate _ bytes 59 f.inflate k.1 in
+    let m = ring_then d.deflate _ bytes 89 f.deflate l.1 in
+    let n = ring_then d.statistics _ bytes 119 f.statistics m.1 in
+    let o = ring_then d.report _ bytes 149 f.report n.1 in
+    record {
+      magic = a.0;
+      version = b.0;
+      length_told = c.0;
+      saved = rw (t.0, g.0, h.0, i.0, j.0, k.0, l.0, m.0, n.0, o.0);
+      behind = o.1;
+    }
+
+-- bytes with a good header are what is saved of what they say, and more
+pub row_again : (bytes : List ℕ) → AreBytes bytes → 179 ≤ length bytes → u64_at bytes 0 ≡ MAGIC
+    → u32_at bytes VERSION_AT ≡ FORMAT_VERSION → u32_at bytes LENGTH_AT ≡ SAVED_LENGTH
+    → bytes ≡ in_a_row (saved_parts (saved_in bytes)) (drop CHECKSUM_AT bytes)
+row_again bytes all l m v c =
+    then _ _ _ _ (u64_again bytes 0 8 all refl (omega arith)
+    ∙ ap (λ (n : ℕ). u64_bytes n ++ drop 8 bytes) m)
+    (then _ _ _ _ (u32_again bytes 8 12 all refl (omega arith)
+    ∙ ap (λ (n : ℕ). u32_bytes n ++ drop 12 bytes) v)
+    (then _ _ _ _ (u32_again bytes 12 16 all refl (omega arith)
+    ∙ ap (λ (n : ℕ). u32_bytes n ++ drop 16 bytes) c)
+    (row (settings_parts (settings_at bytes 16)) _ _ _ (settings_again bytes 16 all (omega arith))
+    (then _ _ _ _ (u64_again bytes 38 46 all refl (omega arith))
+    (then _ _ _ _ (u32_again bytes 46 50 all refl (omega arith))
+    (then _ _ _ _ (u32_again bytes 50 54 all refl (omega arith))
+    (then _ _ _ _ (u32_again bytes 54 58 all refl (omega arith))
+    (then (get_or bytes 58 0 ∷ []) _ _ _ (byte_again bytes 58 59 refl (omega arith))
+    (row (ring_parts (ring_at bytes 59)) _ _ _ (ring_again bytes 59 all (omega arith))
+    (row (ring_parts (ring_at bytes 89)) _ _ _ (ring_again bytes 89 all (omega arith))
+    (row (ring_parts (ring_at bytes 119)) _ _ _ (ring_again bytes 119 all (omega arith))
+    (ring_again bytes 149 all (omega arith)))))))))))))

@@ -1,0 +1,152 @@
+-- Worked facts of saved devices: their bytes, the states that calls lead to, and those that none do.
+use lib.Count
+use Rattle.std.proofs.Common.{◌≡◌, ℕ, true, false, List, [], ◌∷◌, map, refl, count_by}
+use Rattle.std.specs.Prelude.{Some, None, Err}
+use Rattle.std.specs.List.{range_with_len}
+use Rattle.vb_core.specs.declared.kinds.Kind.TheVariants.{Inflate, Statistics, Report}
+use Rattle.vb_core.specs.declared.settings.Settings.{Settings}
+use Rattle.vb_core.specs.declared.ring.Ring.{Ring}
+use Rattle.vb_core.specs.declared.device.Device.{Device}
+use Rattle.vb_core.specs.declared.saved.Saved.{Saved}
+use Rattle.vb_core.specs.declared.saved.StateDenial.TheVariants.{BadLength, NotAState, Impossible}
+use Rattle.vb_core.specs.declared.format.TheConstants.{SAVED_LENGTH, CHECKSUM_AT, HEADER_LENGTH}
+use Rattle.vb_core.specs.declared.format.TheConstants.{FORMAT_VERSION, VERSION_AT, LENGTH_AT, MAGIC}
+use Rattle.vb_core.specs.Devices.{new_device}
+use Rattle.vb_core.specs.Format.{u16_bytes, u64_bytes, u64_at, checksum}
+use Rattle.vb_core.specs.Saved.{is_status, are_agreed, is_ring, is_held, can_be, save_denial}
+use Rattle.vb_core.specs.Saved.{restored}
+
+-- ---- bytes
+
+places_are : FORMAT_VERSION ∷ VERSION_AT ∷ LENGTH_AT ∷ HEADER_LENGTH ∷ CHECKSUM_AT ∷ SAVED_LENGTH
+    ∷ [] ≡ 1 ∷ 8 ∷ 12 ∷ 16 ∷ 179 ∷ 187 ∷ []
+places_are = refl
+
+-- the text VBSTATE, and a 0
+it_begins_so : u64_bytes MAGIC ≡ 86 ∷ 66 ∷ 83 ∷ 84 ∷ 65 ∷ 84 ∷ 69 ∷ 0 ∷ []
+unfolding u64_bytes
+it_begins_so = refl
+
+low_byte_first : u16_bytes 0x0201 ≡ 1 ∷ 2 ∷ []
+unfolding u16_bytes
+low_byte_first = refl
+
+-- FNV-1a of nothing, of "a" and of "foobar"
+checksums : checksum [] ∷ checksum (97 ∷ []) ∷ checksum (102 ∷ 111 ∷ 111 ∷ 98 ∷ 97 ∷ 114 ∷ []) ∷ []
+    ≡ 0xcbf29ce484222325 ∷ 0xaf63dc4c8601ec8c ∷ 0x85944171f73967e8 ∷ []
+unfolding checksum
+checksums = refl
+
+too_short : restored [] ≡ Err BadLength
+too_short = refl
+
+of_something_else : restored (1 ∷ 0 ∷ 0 ∷ 0 ∷ 0 ∷ 0 ∷ 0 ∷ 0 ∷ 0 ∷ 0 ∷ 0 ∷ 0 ∷ 0 ∷ 0 ∷ 0 ∷ 0 ∷ [])
+    ≡ Err NotAState
+unfolding u64_at
+of_something_else = refl
+
+-- ---- statuses: none but the steps in their order, with FAILED or without, and a broken rule
+
+statuses : map is_status (0 ∷ 1 ∷ 3 ∷ 11 ∷ 15 ∷ 79 ∷ 128 ∷ 129 ∷ 131 ∷ 139 ∷ 143 ∷ 207 ∷ [])
+    ≡ true ∷ true ∷ true ∷ true ∷ true ∷ true ∷ true ∷ true ∷ true ∷ true ∷ true ∷ true ∷ []
+statuses = refl
+
+no_others : count_by is_status (range_with_len 0 256) ≡ 12
+no_others = refl
+
+-- ---- a device at its steps
+
+abbrev settings : Settings
+settings = record {
+  memory_end = 0x1000000;
+  offered = 0x100000023;
+  reserved_pages = 16;
+  needs_must_tell = 1;
+  skips_bad_pages = 0;
+}
+
+abbrev at_step : ℕ → ℕ → Device
+at_step status features =
+    record (new_device settings) { status = status; features = features }
+
+-- features: none early, of those offered, and with FEATURES_OK what it asks for
+features_agreed : map are_agreed
+    (at_step 0 0 ∷ at_step 1 0 ∷ at_step 3 2 ∷ at_step 131 0 ∷ at_step 11 0x100000001
+    ∷ at_step 15 0x100000023 ∷ []) ≡ true ∷ true ∷ true ∷ true ∷ true ∷ true ∷ []
+features_agreed = refl
+
+features_not_agreed : map are_agreed
+    (at_step 1 1 ∷ at_step 129 2 ∷ at_step 3 4 ∷ at_step 11 1 ∷ at_step 11 0x100000000
+    ∷ at_step 15 0x100000005 ∷ []) ≡ false ∷ false ∷ false ∷ false ∷ false ∷ false ∷ []
+features_not_agreed = refl
+
+abbrev ring : ℕ → Ring
+ring moved = record {
+  table = 0x10000;
+  avail = 0x11000;
+  used = 0x12000;
+  size = 64;
+  next_avail = moved;
+  next_used = 0;
+}
+
+-- queues of inflates: at any step, and moved only once the driver is done
+inflates : map (is_ring Inflate)
+    (at_step 0 0 ∷ record (at_step 0 0) { inflate = ring 0 }
+    ∷ record (at_step 11 0x100000001) { inflate = ring 0 }
+    ∷ record (at_step 15 0x100000001) { inflate = ring 5 } ∷ [])
+    ≡ true ∷ true ∷ true ∷ true ∷ []
+unfolding lib.Count.ones
+inflates = refl
+
+not_inflates : map (is_ring Inflate)
+    (record (at_step 11 0x100000001) { inflate = ring 5 }
+    ∷ record (at_step 15 0x100000001) { inflate = record (ring 0) { table = 0x10008 } }
+    ∷ record (at_step 15 0x100000001) { inflate = record (ring 0) { size = 63 } }
+    ∷ record (at_step 15 0x100000001) { inflate = record (ring 0) { used = 0xffffe0 } }
+    ∷ record (at_step 15 0x100000001) { inflate = record (ring 0) { size = 0 } } ∷ [])
+    ≡ false ∷ false ∷ false ∷ false ∷ false ∷ []
+unfolding lib.Count.ones
+not_inflates = refl
+
+-- of statistics: not before features, not unless offered, and moved only with the feature
+statistics : map (is_ring Statistics)
+    (record (at_step 3 0) { statistics = ring 0 }
+    ∷ record (at_step 15 0x100000001) { statistics = ring 0 }
+    ∷ record (at_step 15 0x100000003) { statistics = ring 5 } ∷ []) ≡ true ∷ true ∷ true ∷ []
+unfolding lib.Count.ones
+statistics = refl
+
+not_statistics : is_ring Statistics (record (at_step 1 0) { statistics = ring 0 })
+    ∷ is_ring Statistics (record (at_step 15 0x100000001) { statistics = ring 5 })
+    ∷ is_ring Report
+    (record (at_step 15 0x100000001) {
+      report = ring 0;
+      settings = record settings { offered = 0x100000003 };
+    }) ∷ [] ≡ false ∷ false ∷ false ∷ []
+unfolding lib.Count.ones
+not_statistics = refl
+
+abbrev holding : ℕ → ℕ → ℕ → Saved
+holding status features held = record {
+  device = record (at_step status features) { statistics = ring 0 };
+  held = held;
+}
+
+held_heads : map is_held
+    (holding 3 0 0 ∷ holding 15 0x100000003 1 ∷ holding 15 0x100000003 64
+    ∷ holding 79 0x100000003 64 ∷ []) ≡ true ∷ true ∷ true ∷ true ∷ []
+held_heads = refl
+
+not_held : map is_held
+    (holding 11 0x100000003 1 ∷ holding 15 0x100000001 1 ∷ holding 15 0x100000003 65 ∷ [])
+    ≡ false ∷ false ∷ false ∷ []
+not_held = refl
+
+-- ---- what is saved
+
+saved_or_not : save_denial (holding 15 0x100000003 64) 187
+    ∷ save_denial (holding 15 0x100000003 64) 186 ∷ save_denial (holding 15 0x100000003 65) 187 ∷ []
+    ≡ None ∷ Some BadLength ∷ Some Impossible ∷ []
+unfolding lib.Count.ones
+saved_or_not = refl
