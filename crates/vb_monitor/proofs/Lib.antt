@@ -3,7 +3,7 @@ pub mod PartLemmas
 pub mod NextLemmas
 pub mod GoesLemmas
 pub mod GivenLemmas
-pub mod EachLemmas
+pub mod RowLemmas
 pub mod TouchLemmas
 mod RegionFacts
 mod NoticeFacts

@@ -1,5 +1,5 @@
 -- What is found lies within a region.
-use Rattle.std.proofs.Common.{◌≡◌, ◌∙◌, ap, sym, subst, refl, arith, ℕ, zero, suc, ◌+◌, ◌*◌, ◌-◌, ◌≤◌, ◌<◌, Bool, true, false, List, [], ◌∷◌, ◌++◌, length, map, Option, Some, None}
+use Rattle.std.proofs.Common.{◌≡◌, ◌∙◌, sym, subst, refl, arith, ℕ, suc, ◌+◌, ◌*◌, ◌-◌, ◌≤◌, ◌<◌, Bool, true, false, List, [], ◌∷◌, ◌++◌, Option, Some, None}
 use Rattle.std.specs.Prelude.{slice_get, if◌then◌else◌}
 use Rattle.std.proofs.lemmas.Bool.Decides.{nat_tests}
 use Rattle.vb_core.specs.declared.kinds.Kind.{Kind}
@@ -10,13 +10,14 @@ use Rattle.vb_monitor.specs.declared.regions.Spot.{Spot}
 use Rattle.vb_monitor.specs.declared.cuts.Cut.{Cut}
 use Rattle.vb_monitor.specs.declared.outcome.Budget.{Budget}
 use Rattle.vb_monitor.specs.declared.outcome.Outcome.{Outcome}
-use Rattle.vb_monitor.specs.Accesses.{Access, Discard, CopyBytes}
-use Rattle.vb_monitor.specs.Regions.{is_region, holds, spot_from, spot, meets, cut_of, first_both, end_both, cuts_from, cuts_of}
+use Rattle.vb_monitor.specs.Accesses.{Access}
+use Rattle.vb_monitor.specs.Regions.{is_region, holds, spot_from, spot, meets, cut_of, cuts_from, cuts_of}
 use Rattle.vb_monitor.specs.Ends.{Whole}
 use Rattle.vb_monitor.specs.Notices.{Serves, fresh}
-use Rattle.vb_monitor.specs.Touched.{IsWithin, Touches, Each}
+use Rattle.vb_monitor.specs.Touched.{IsWithin, Touches}
+use Rattle.vb_monitor.specs.Order.{Row, Cuts, MayFollow}
 use Rattle.vb_monitor.proofs.GivenLemmas.{Allows}
-use Rattle.vb_monitor.proofs.EachLemmas.{looks_each}
+use Rattle.vb_monitor.proofs.RowLemmas.{looks_row}
 
 -- the bytes lie in the region that is so many behind the first one
 pub record IsIn (rs : List Region) (k offset len : ℕ) : Type 0 where
@@ -80,19 +81,22 @@ is_cut : (r : Region) (run : Run) (n : ℕ) → meets r run ≡ true →
     (is_region r ≡ true) × ((cut_of n r run).offset + (cut_of n r run).length ≤ r.length)
 is_cut r run n h = (grind (arith, nat_tests), grind (arith, nat_tests))
 
+-- whatever stands before, the access touches guest memory alone
+abbrev Any : List Region → Option Access → Access → Type 0
+Any regions before x = Touches regions x
+
 cuts_by : (all : List Region) (r : Region) (rs : List Region) (n : ℕ) (run : Run) (b : Bool) →
-    meets r run ≡ b → slice_get all n ≡ Some r →
-    Each (Touches all) (map Discard (cuts_from (n + 1) rs run)) →
-    Each (Touches all) (map Discard
-    (if b then cut_of n r run ∷ cuts_from (n + 1) rs run else cuts_from (n + 1) rs run))
+    meets r run ≡ b → slice_get all n ≡ Some r → Cuts (Any all) (cuts_from (n + 1) rs run) →
+    Cuts (Any all)
+    (if b then cut_of n r run ∷ cuts_from (n + 1) rs run else cuts_from (n + 1) rs run)
 cuts_by all r rs n run true e there rest =
     let is = is_cut r run n e in
-    (record { region = r; there = there; possible = is.0; inside = is.1 }, rest)
+    ((λ before told. record { region = r; there = there; possible = is.0; inside = is.1 }), rest)
 cuts_by all r rs n run false e there rest = rest
 
 cuts_within : (all rs : List Region) (n : ℕ) (run : Run) →
     ((k : ℕ) (r : Region) → slice_get rs k ≡ Some r → slice_get all (n + k) ≡ Some r) →
-    Each (Touches all) (map Discard (cuts_from n rs run))
+    Cuts (Any all) (cuts_from n rs run)
 cuts_within all [] n run inside = tt
 cuts_within all (r ∷ rs) n run inside =
     let zero_on : n + 0 ≡ n = omega arith in
@@ -102,41 +106,65 @@ cuts_within all (r ∷ rs) n run inside =
     let on : n + suc k ≡ n + 1 + k = omega arith in
     subst (λ (j : ℕ). slice_get all j ≡ Some s) on (inside (suc k) s e)))
 
-append_map : (q : Access → Type 0) (xs ys : List Cut) → Each q (map Discard xs) →
-    Each q (map Discard ys) → Each q (map Discard (xs ++ ys))
-append_map q [] ys a b = b
-append_map q (x ∷ xs) ys a b = (a.0, append_map q xs ys a.1 b)
+append_cuts : (may : Option Access → Access → Type 0) (xs ys : List Cut) → Cuts may xs →
+    Cuts may ys → Cuts may (xs ++ ys)
+append_cuts may [] ys a b = b
+append_cuts may (x ∷ xs) ys a b = (a.0, append_cuts may xs ys a.1 b)
 
-runs_within : (all : List Region) (runs : List Run) →
-    Each (Touches all) (map Discard (cuts_of all runs))
+runs_within : (all : List Region) (runs : List Run) → Cuts (Any all) (cuts_of all runs)
 runs_within all [] = tt
 runs_within all (run ∷ runs) =
-    append_map (Touches all) (cuts_from 0 all run) (cuts_of all runs)
+    append_cuts (Any all) (cuts_from 0 all run) (cuts_of all runs)
     (cuts_within all all 0 run (λ k r e.
     let on : k ≡ 0 + k = omega arith in subst (λ (j : ℕ). slice_get all j ≡ Some r) on e))
     (runs_within all runs)
 
--- ---- the whole
+-- ---- the laws
 
-allowed : (w : Whole) → Allows w (Touches w.regions)
+allowed : (w : Whole) → Allows w (Any w.regions)
 allowed w = record {
-  word = λ a at answer e. within w.regions a 2 at e;
-  copy = λ a len at bytes e long.
+  word = λ b a at answer e. within w.regions a 2 at e;
+  copy = λ b a len at bytes was e long.
       subst (λ (n : ℕ). IsWithin w.regions at.region at.offset n) (sym long)
       (within w.regions a len at e);
-  acquire = tt;
-  release = tt;
-  full = tt;
-  pages = λ runs. tt;
-  figures = λ figures. tt;
+  acquire = λ at answer. tt;
+  release = λ at n. tt;
+  full = λ b. tt;
+  pages = λ b runs copied. tt;
+  figures = λ b figures copied. tt;
   discards = λ runs. runs_within w.regions runs;
-  number = λ a at n e. within w.regions a 4 at e;
+  number = λ b a at n told e. within w.regions a 4 at e;
   index = λ a at n e. within w.regions a 2 at e;
 }
 
 pub touched : (regions : List Region) (kind : Kind) (budget : Budget) (d1 d2 : Device)
     (outcome : Outcome) (log : List Access) → Serves regions kind budget d1 d2 outcome log →
-    Each (Touches regions) log
+    Row (λ before x. Touches regions x) None log
 touched regions kind budget d1 d2 outcome log h =
     let w : Whole = record { regions = regions; kind = kind; device = d2; outcome = outcome } in
-    looks_each budget.chains w (Touches regions) (allowed w) d1 (fresh budget) log h
+    looks_row budget.chains w (Any regions) (allowed w) d1 (fresh budget) None log h
+
+all_cuts : (cuts : List Cut) → Cuts MayFollow cuts
+all_cuts [] = tt
+all_cuts (cut ∷ cuts) = ((λ before told. told), all_cuts cuts)
+
+ordered : (w : Whole) → Allows w MayFollow
+ordered w = record {
+  word = λ b a at answer e. tt;
+  copy = λ b a len at bytes was e long. was;
+  acquire = λ at answer. refl;
+  release = λ at n. refl;
+  full = λ b. tt;
+  pages = λ b runs copied. copied;
+  figures = λ b figures copied. copied;
+  discards = λ runs. all_cuts (cuts_of w.regions runs);
+  number = λ b a at n told e. told;
+  index = λ a at n e. refl;
+}
+
+pub in_order : (regions : List Region) (kind : Kind) (budget : Budget) (d1 d2 : Device)
+    (outcome : Outcome) (log : List Access) → Serves regions kind budget d1 d2 outcome log →
+    Row MayFollow None log
+in_order regions kind budget d1 d2 outcome log h =
+    let w : Whole = record { regions = regions; kind = kind; device = d2; outcome = outcome } in
+    looks_row budget.chains w MayFollow (ordered w) d1 (fresh budget) None log h

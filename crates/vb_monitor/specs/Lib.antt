@@ -8,3 +8,4 @@ pub mod Notices
 pub mod Machine
 pub mod Touched
 pub mod Balloons
+pub mod Order

@@ -1,9 +1,6 @@
 -- Which bytes of guest memory an access touches.
-use Rattle.std.specs.Prelude.{◌≡◌, ℕ, ◌+◌, ◌≤◌, ◌%◌, true, List, [], ◌∷◌, length, slice_get, Some}
-use Rattle.vb_model.specs.Limits.{page_size}
+use Rattle.std.specs.Prelude.{◌≡◌, ℕ, ◌+◌, ◌≤◌, true, List, length, slice_get, Some}
 use Rattle.vb_monitor.specs.declared.regions.Region.{Region}
-use Rattle.vb_monitor.specs.declared.regions.Spot.{Spot}
-use Rattle.vb_monitor.specs.declared.cuts.Cut.{Cut}
 use Rattle.vb_monitor.specs.Accesses.{Access, ReadWord, CopyBytes, Acquire, Release, Full}
 use Rattle.vb_monitor.specs.Accesses.{TellPages}
 use Rattle.vb_monitor.specs.Accesses.{TellFigures, Discard, WriteNumber, WriteWord}
@@ -16,8 +13,7 @@ pub record IsWithin (regions : List Region) (number offset len : ℕ) : Type 0 w
   pub possible : is_region region ≡ true
   pub inside : offset + len ≤ region.length
 
--- The access touches guest memory alone: it reads and writes within one region, and discards whole
--- pages of one.
+-- The access touches guest memory alone: it reads, writes and discards within one region.
 abbrev pub Touches : List Region → Access → Type 0
 Touches regions (ReadWord at answer) = IsWithin regions at.region at.offset 2
 Touches regions (CopyBytes at answer) = IsWithin regions at.region at.offset (length answer)
@@ -29,8 +25,3 @@ Touches regions (TellFigures figures) = Unit {0}
 Touches regions (Discard cut) = IsWithin regions cut.region cut.offset cut.length
 Touches regions (WriteNumber at number) = IsWithin regions at.region at.offset 4
 Touches regions (WriteWord at word) = IsWithin regions at.region at.offset 2
-
--- Each access of a list is so.
-abbrev pub Each : (Access → Type 0) → List Access → Type 0
-Each is [] = Unit {0}
-Each is (x ∷ xs) = is x × Each is xs

@@ -24,7 +24,7 @@ mod walk;
 pub use balloon::Balloon;
 pub use cuts::Cut;
 pub use giving::UsedSpots;
-pub use laws::nothing_outside_the_regions_is_touched;
+pub use laws::{accesses_come_in_their_order, nothing_outside_the_regions_is_touched};
 pub use memory::LiveMemory;
 pub use notice::Notice;
 pub use outcome::{Budget, Outcome, Tally};

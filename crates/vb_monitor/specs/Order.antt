@@ -1,0 +1,120 @@
+-- What comes directly behind what in a list of accesses.
+use Rattle.std.specs.Prelude.{◌≡◌, Bool, true, false, List, [], ◌∷◌, Option, Some, None}
+use Rattle.vb_monitor.specs.declared.cuts.Cut.{Cut}
+use Rattle.vb_monitor.specs.Accesses.{Access, ReadWord, CopyBytes, Acquire, Release, Full}
+use Rattle.vb_monitor.specs.Accesses.{TellPages, TellFigures, Discard, WriteNumber, WriteWord}
+
+-- Each access of a list may come directly behind the one before it, the first behind this one.
+abbrev pub Row : (Option Access → Access → Type 0) → Option Access → List Access → Type 0
+Row may before [] = Unit {0}
+Row may before (x ∷ xs) = may before x × Row may (Some x) xs
+
+-- ---- what stands before
+
+-- Bytes were copied.
+abbrev pub is_copied : Option Access → Bool
+is_copied (Some (CopyBytes at answer)) = true
+is_copied None = false
+is_copied (Some (ReadWord at answer)) = false
+is_copied (Some Acquire) = false
+is_copied (Some Release) = false
+is_copied (Some Full) = false
+is_copied (Some (TellPages kind runs)) = false
+is_copied (Some (TellFigures figures)) = false
+is_copied (Some (Discard cut)) = false
+is_copied (Some (WriteNumber at number)) = false
+is_copied (Some (WriteWord at word)) = false
+
+-- A word was read.
+abbrev pub is_word : Option Access → Bool
+is_word (Some (ReadWord at answer)) = true
+is_word None = false
+is_word (Some (CopyBytes at answer)) = false
+is_word (Some Acquire) = false
+is_word (Some Release) = false
+is_word (Some Full) = false
+is_word (Some (TellPages kind runs)) = false
+is_word (Some (TellFigures figures)) = false
+is_word (Some (Discard cut)) = false
+is_word (Some (WriteNumber at number)) = false
+is_word (Some (WriteWord at word)) = false
+
+-- A word or bytes were read.
+abbrev pub is_read : Option Access → Bool
+is_read (Some (ReadWord at answer)) = true
+is_read (Some (CopyBytes at answer)) = true
+is_read None = false
+is_read (Some Acquire) = false
+is_read (Some Release) = false
+is_read (Some Full) = false
+is_read (Some (TellPages kind runs)) = false
+is_read (Some (TellFigures figures)) = false
+is_read (Some (Discard cut)) = false
+is_read (Some (WriteNumber at number)) = false
+is_read (Some (WriteWord at word)) = false
+
+-- Pages were told, or some of them discarded.
+abbrev pub is_told : Option Access → Bool
+is_told (Some (TellPages kind runs)) = true
+is_told (Some (Discard cut)) = true
+is_told None = false
+is_told (Some (ReadWord at answer)) = false
+is_told (Some (CopyBytes at answer)) = false
+is_told (Some Acquire) = false
+is_told (Some Release) = false
+is_told (Some Full) = false
+is_told (Some (TellFigures figures)) = false
+is_told (Some (WriteNumber at number)) = false
+is_told (Some (WriteWord at word)) = false
+
+-- Pages were told, some of them discarded, or a number of a used element was written.
+abbrev pub is_named : Option Access → Bool
+is_named (Some (TellPages kind runs)) = true
+is_named (Some (Discard cut)) = true
+is_named (Some (WriteNumber at number)) = true
+is_named None = false
+is_named (Some (ReadWord at answer)) = false
+is_named (Some (CopyBytes at answer)) = false
+is_named (Some Acquire) = false
+is_named (Some Release) = false
+is_named (Some Full) = false
+is_named (Some (TellFigures figures)) = false
+is_named (Some (WriteWord at word)) = false
+
+-- A number was written.
+abbrev pub is_number : Option Access → Bool
+is_number (Some (WriteNumber at number)) = true
+is_number None = false
+is_number (Some (ReadWord at answer)) = false
+is_number (Some (CopyBytes at answer)) = false
+is_number (Some Acquire) = false
+is_number (Some Release) = false
+is_number (Some Full) = false
+is_number (Some (TellPages kind runs)) = false
+is_number (Some (TellFigures figures)) = false
+is_number (Some (Discard cut)) = false
+is_number (Some (WriteWord at word)) = false
+
+-- Each part may be discarded behind pages that were told.
+abbrev pub Cuts : (Option Access → Access → Type 0) → List Cut → Type 0
+Cuts may [] = Unit {0}
+Cuts may (cut ∷ cuts) =
+    ((before : Option Access) → is_told before ≡ true → may before (Discard cut)) × Cuts may cuts
+
+-- ---- the order
+
+-- Bytes are copied directly behind what was read, pages and figures are told directly behind bytes
+-- that were copied, pages are discarded directly behind pages that were told or discarded, and an
+-- element's numbers are written directly behind these; behind them a release fence, and directly
+-- behind that the index. An acquire fence stands directly behind a word that was read.
+abbrev pub MayFollow : Option Access → Access → Type 0
+MayFollow before (ReadWord at answer) = Unit {0}
+MayFollow before (CopyBytes at answer) = is_read before ≡ true
+MayFollow before Acquire = is_word before ≡ true
+MayFollow before Release = is_number before ≡ true
+MayFollow before Full = Unit {0}
+MayFollow before (TellPages kind runs) = is_copied before ≡ true
+MayFollow before (TellFigures figures) = is_copied before ≡ true
+MayFollow before (Discard cut) = is_told before ≡ true
+MayFollow before (WriteNumber at number) = is_named before ≡ true
+MayFollow before (WriteWord at word) = before ≡ Some Release
