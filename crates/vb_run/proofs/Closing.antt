@@ -80,7 +80,7 @@ closes Is own p floor guest plan paced rounds report k is sizes pace quiet scrip
     (subst (λ (s : Sizes). IsHistory (config_of s p.paced) 0 p.history k.now) sizes k.run)) in
     record {
       last = k.now;
-       safe = history_is_safe (config_of plan.config paced) 0 report.history.items k.now run;
+      safe = history_is_safe (config_of plan.config paced) 0 report.history.items k.now run;
       made = rw (history, sym is, sym scripts.0) k.made;
       scripts = count;
       plays = λ cpu calls got here answers.
