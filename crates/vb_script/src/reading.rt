@@ -29,8 +29,8 @@ const SHORTEST_LINE: usize = 6;
 /// Why a text gives no script.
 #[derive(Clone, Copy, Debug, PartialEq, Eq, Error)]
 pub enum ScriptFault {
-    /// The line of this number is the first one that breaks a rule of the format, or whose event
-    /// isn't answered yet. All lines count, from 1 on, the empty ones and comments among them.
+    /// The line of this number is the first one that breaks a rule of the format. All lines count,
+    /// from 1 on, the empty ones and comments among them.
     #[error("line {0}: bad line")]
     BadLine(u64),
     /// There was no memory for the script.

@@ -1,4 +1,5 @@
-//! Tests alone, by public calls: rings, page areas, a balloon driver, a device over copies.
+//! Tests alone, by public calls: rings, page areas, a balloon driver, a device over copies, scripts
+//! and replies as text.
 #![tactic(auto)]
 
 #[cfg(test)]
