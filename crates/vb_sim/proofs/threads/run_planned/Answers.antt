@@ -1,6 +1,7 @@
 use Rattle.std.proofs.Common.{rules, ◌≡◌, Err, ◌∙◌, sym, Result, MatchResult, subst, ap, map, List}
 use Rattle.std.proofs.Common.{Bool}
 use Rattle.vb_run.specs.Reports.{IsReport}
+use Rattle.vb_script.specs.declared.script.ThreadsGuest.{ThreadsGuest}
 use Rattle.vb_script.specs.Lines.{is_paced}
 use Rattle.vb_script.specs.Plans.{planned_by}
 use Rattle.vb_sim.specs.Threads.{AreWithin}
@@ -24,7 +25,10 @@ returns g c =
           ∙ c.in_ok-report.ensures.0;
       plan_is = is;
       report_is = subst (λ (paces : List Bool). IsReport c.in-Some.plan paces c.in_ok-report.report)
-          (ap (map is_paced) c.in_ok-paces.ensures
+          (ap (map is_paced) c.as_slice-2.ensures.value
+          ∙ ap (map is_paced) c.in_ok-paces.ensures
+          ∙ ap (λ (l : List ThreadsGuest). map is_paced (map (λ guest. guest.pace) l))
+          c.as_slice.ensures.value
           ∙ paces_planned c.args.script.guests.items) c.in_ok-report.ensures.1;
       within = subst (λ n. AreWithin n c.in_ok-report.report.guests.items) is.frames
           c.in_ok-report.ensures.2;

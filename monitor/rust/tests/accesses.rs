@@ -1,0 +1,322 @@
+//! Each access that a notice makes, in order: over memory that writes down what is asked of it, and what its monitor is told.
+
+use std::cell::RefCell;
+use std::io;
+use std::rc::Rc;
+use std::sync::atomic::Ordering;
+use std::sync::Arc;
+use vb_balloon::{features, Balloon, Kind, Monitor, Run, Settings};
+use vm_memory::guest_memory::{GuestMemoryIterator, Result as Answer};
+use vm_memory::{
+    AtomicAccess, Bytes, FileOffset, GuestAddress, GuestMemory, GuestMemoryMmap, GuestMemoryRegion,
+    GuestRegionMmap, GuestUsize, MemoryRegionAddress,
+};
+
+const TABLE: u64 = 0x10000;
+const AVAIL: u64 = 0x11000;
+const USED: u64 = 0x12000;
+const BUFFER: u64 = 0x20000;
+const SIZE: u64 = 4;
+const LINUX: u64 = features::VERSION_1 | 0x27;
+
+/// What is asked of memory, or told to the monitor; places are the guest's.
+#[derive(Clone, Debug, PartialEq, Eq)]
+enum Access {
+    Load(u64),
+    Read(u64, usize),
+    Store(u64, Vec<u8>),
+    Told(Kind, Vec<(u32, u32)>),
+    Figures(usize),
+    Discard(u64, u64),
+}
+
+type Log = Rc<RefCell<Vec<Access>>>;
+
+/// A region that writes down what is asked of it.
+struct Watched {
+    region: Arc<GuestRegionMmap>,
+    log: Log,
+}
+
+impl Watched {
+    fn note(&self, access: impl FnOnce(u64) -> Access, at: MemoryRegionAddress) {
+        self.log.borrow_mut().push(access(self.region.start_addr().0 + at.0));
+    }
+}
+
+impl Bytes<MemoryRegionAddress> for Watched {
+    type E = vm_memory::GuestMemoryError;
+
+    fn write(&self, bytes: &[u8], at: MemoryRegionAddress) -> Answer<usize> {
+        self.note(|address| Access::Store(address, bytes.to_vec()), at);
+        self.region.write(bytes, at)
+    }
+
+    fn read(&self, bytes: &mut [u8], at: MemoryRegionAddress) -> Answer<usize> {
+        self.note(|address| Access::Read(address, bytes.len()), at);
+        self.region.read(bytes, at)
+    }
+
+    fn write_slice(&self, bytes: &[u8], at: MemoryRegionAddress) -> Answer<()> {
+        self.note(|address| Access::Store(address, bytes.to_vec()), at);
+        self.region.write_slice(bytes, at)
+    }
+
+    fn read_slice(&self, bytes: &mut [u8], at: MemoryRegionAddress) -> Answer<()> {
+        self.note(|address| Access::Read(address, bytes.len()), at);
+        self.region.read_slice(bytes, at)
+    }
+
+    fn read_from<F: io::Read>(&self, _: MemoryRegionAddress, _: &mut F, _: usize) -> Answer<usize> {
+        unreachable!("the crate reads no stream into memory")
+    }
+
+    fn read_exact_from<F: io::Read>(&self, _: MemoryRegionAddress, _: &mut F, _: usize) -> Answer<()> {
+        unreachable!("the crate reads no stream into memory")
+    }
+
+    fn write_to<F: io::Write>(&self, _: MemoryRegionAddress, _: &mut F, _: usize) -> Answer<usize> {
+        unreachable!("the crate writes memory to no stream")
+    }
+
+    fn write_all_to<F: io::Write>(&self, _: MemoryRegionAddress, _: &mut F, _: usize) -> Answer<()> {
+        unreachable!("the crate writes memory to no stream")
+    }
+
+    fn store<T: AtomicAccess>(&self, word: T, at: MemoryRegionAddress, order: Ordering) -> Answer<()> {
+        self.note(|address| Access::Store(address, word.as_slice().to_vec()), at);
+        self.region.store(word, at, order)
+    }
+
+    fn load<T: AtomicAccess>(&self, at: MemoryRegionAddress, order: Ordering) -> Answer<T> {
+        self.note(Access::Load, at);
+        self.region.load(at, order)
+    }
+}
+
+impl GuestMemoryRegion for Watched {
+    type B = ();
+
+    fn len(&self) -> GuestUsize {
+        self.region.len()
+    }
+
+    fn start_addr(&self) -> GuestAddress {
+        self.region.start_addr()
+    }
+
+    fn bitmap(&self) -> &() {
+        &()
+    }
+
+    fn file_offset(&self) -> Option<&FileOffset> {
+        self.region.file_offset()
+    }
+}
+
+/// Two regions with a hole between them, from 0 to 2 MiB and from 4 MiB to 6 MiB.
+struct Memory {
+    regions: Vec<Watched>,
+}
+
+struct Regions;
+
+impl<'a> GuestMemoryIterator<'a, Watched> for Regions {
+    type Iter = std::slice::Iter<'a, Watched>;
+}
+
+impl GuestMemory for Memory {
+    type R = Watched;
+    type I = Regions;
+
+    fn num_regions(&self) -> usize {
+        self.regions.len()
+    }
+
+    fn find_region(&self, address: GuestAddress) -> Option<&Watched> {
+        self.regions.iter().find(|it| it.start_addr() <= address && address <= it.last_addr())
+    }
+
+    fn iter(&self) -> std::slice::Iter<'_, Watched> {
+        self.regions.iter()
+    }
+}
+
+/// A monitor that writes down what it is told, and what it is to discard.
+struct Noting(Log);
+
+impl Monitor for Noting {
+    fn pages(&mut self, kind: Kind, runs: &[Run]) {
+        let runs = runs.iter().map(|it| (it.first, it.count)).collect();
+        self.0.borrow_mut().push(Access::Told(kind, runs));
+    }
+
+    fn statistics(&mut self, figures: &[vb_balloon::Statistic]) {
+        self.0.borrow_mut().push(Access::Figures(figures.len()));
+    }
+
+    fn discard<R: GuestMemoryRegion>(&mut self, region: &R, at: u64, length: u64) -> io::Result<()> {
+        self.0.borrow_mut().push(Access::Discard(region.start_addr().0 + at, length));
+        Ok(())
+    }
+}
+
+/// Guest memory, what was noted of it, and a device whose queues lie on three pages each.
+struct Guest {
+    memory: Memory,
+    log: Log,
+    balloon: Balloon,
+}
+
+fn place(kind: Kind, part: u64) -> u64 {
+    part + 0x3000 * kind as u64
+}
+
+impl Guest {
+    fn new() -> Guest {
+        let log: Log = Rc::default();
+        let ranges = [(GuestAddress(0), 2 << 20), (GuestAddress(4 << 20), 2 << 20)];
+        let regions = ranges.map(|(start, length)| {
+            let mapped: GuestMemoryMmap = GuestMemoryMmap::from_ranges(&[(start, length)]).expect("memory");
+            let (_, region) = mapped.remove_region(start, length as u64).expect("a region");
+            Watched { region, log: log.clone() }
+        });
+        let memory = Memory { regions: regions.into_iter().collect() };
+        let settings = Settings { offered: LINUX, skips_bad_pages: true, ..Settings::default() };
+        let mut balloon = Balloon::new(&memory, settings).expect("settings");
+        for status in [1, 3] {
+            balloon.write_status(&memory, status, &mut ()).expect("a step");
+        }
+        balloon.negotiate(LINUX).expect("features");
+        balloon.write_status(&memory, 11, &mut ()).expect("a step");
+        for number in 0..4 {
+            let kind = balloon.kind(number).expect("a queue");
+            let at = |part| place(kind, part);
+            balloon.place(&memory, kind, at(TABLE), at(AVAIL), at(USED), SIZE as u16).expect("a place");
+        }
+        balloon.write_status(&memory, 15, &mut ()).expect("a step");
+        log.borrow_mut().clear();
+        Guest { memory, log, balloon }
+    }
+
+    fn put(&self, address: u64, bytes: &[u8]) {
+        self.memory.write_slice(bytes, GuestAddress(address)).expect("memory");
+    }
+
+    /// Makes the chain of these descriptors available, from descriptor 0 on: address, length, flags.
+    fn publish(&self, kind: Kind, chain: &[(u64, u32, u16)]) {
+        for (number, &(address, length, flags)) in chain.iter().enumerate() {
+            let at = place(kind, TABLE) + 16 * number as u64;
+            self.put(at, &address.to_le_bytes());
+            self.put(at + 8, &length.to_le_bytes());
+            self.put(at + 12, &flags.to_le_bytes());
+            self.put(at + 14, &(number as u16 + 1).to_le_bytes());
+        }
+        self.put(place(kind, AVAIL), &[0, 0, 1, 0, 0, 0]);
+        self.log.borrow_mut().clear();
+    }
+
+    /// What a notice of the kind's queue does.
+    fn notified(&mut self, kind: Kind) -> Vec<Access> {
+        let mut monitor = Noting(self.log.clone());
+        let served = self.balloon.notify(&self.memory, kind, &mut monitor);
+        assert_eq!(served.chains, 1, "{:?}", served);
+        let accesses = self.log.borrow().clone();
+        accesses
+    }
+}
+
+/// The index, the flags, the entries and the table, in this order.
+fn ring(kind: Kind) -> Vec<Access> {
+    let at = |part| place(kind, part);
+    vec![
+        Access::Load(at(AVAIL) + 2),
+        Access::Load(at(AVAIL)),
+        Access::Read(at(AVAIL) + 4, 2 * SIZE as usize),
+        Access::Read(at(TABLE), 16 * SIZE as usize),
+    ]
+}
+
+/// The used element's two words, its index, a look at the available index, and the driver's flags.
+fn given_back(kind: Kind) -> Vec<Access> {
+    let at = |part| place(kind, part);
+    vec![
+        Access::Store(at(USED) + 4, vec![0; 4]),
+        Access::Store(at(USED) + 8, vec![0; 4]),
+        Access::Store(at(USED) + 2, vec![1, 0]),
+        Access::Load(at(AVAIL) + 2),
+        Access::Load(at(AVAIL)),
+    ]
+}
+
+/// Accesses without the looks at whether more stands there, which are harmless anywhere behind the used index.
+fn without_looks(mut accesses: Vec<Access>, kind: Kind) -> Vec<Access> {
+    let index = Access::Load(place(kind, AVAIL) + 2);
+    let used = accesses.iter().rposition(|it| matches!(it, Access::Store(..))).unwrap_or(0);
+    let tail: Vec<_> = accesses.split_off(used).into_iter().filter(|it| *it != index).collect();
+    accesses.extend(tail);
+    accesses
+}
+
+fn words(pages: &[u32]) -> Vec<u8> {
+    pages.iter().flat_map(|it| it.to_le_bytes()).collect()
+}
+
+/// Two pieces, whose pages lie in both regions, in a row and alone; one lies in the hole.
+#[test]
+fn an_inflate_is_read_once_discarded_told_and_given_back() {
+    let mut guest = Guest::new();
+    guest.put(BUFFER, &words(&[300, 301, 1030]));
+    guest.put(BUFFER + 0x100, &words(&[700, 1029]));
+    guest.publish(Kind::Inflate, &[(BUFFER, 12, 1), (BUFFER + 0x100, 8, 0)]);
+    let told = vec![(300, 2), (1030, 1), (700, 1), (1029, 1)];
+    let mut expected = ring(Kind::Inflate);
+    expected.extend([Access::Read(BUFFER, 12), Access::Read(BUFFER + 0x100, 8)]);
+    for (page, length) in [(300, 8192), (1030, 4096), (1029, 4096)] {
+        expected.push(Access::Discard(page * 4096, length));
+    }
+    expected.push(Access::Told(Kind::Inflate, told));
+    expected.extend(given_back(Kind::Inflate));
+    let accesses = without_looks(guest.notified(Kind::Inflate), Kind::Inflate);
+    assert_eq!(accesses, without_looks(expected, Kind::Inflate));
+}
+
+#[test]
+fn a_deflate_discards_nothing() {
+    let mut guest = Guest::new();
+    guest.put(BUFFER, &words(&[300]));
+    guest.publish(Kind::Deflate, &[(BUFFER, 4, 0)]);
+    let mut expected = ring(Kind::Deflate);
+    expected.extend([Access::Read(BUFFER, 4), Access::Told(Kind::Deflate, vec![(300, 1)])]);
+    expected.extend(given_back(Kind::Deflate));
+    let accesses = without_looks(guest.notified(Kind::Deflate), Kind::Deflate);
+    assert_eq!(accesses, without_looks(expected, Kind::Deflate));
+}
+
+#[test]
+fn a_report_is_discarded_and_told_before_it_is_given_back() {
+    let mut guest = Guest::new();
+    guest.publish(Kind::Report, &[(400 * 4096, 8192, 3), (1040 * 4096, 4096, 2)]);
+    let mut expected = ring(Kind::Report);
+    expected.extend([Access::Discard(400 * 4096, 8192), Access::Discard(1040 * 4096, 4096)]);
+    expected.push(Access::Told(Kind::Report, vec![(400, 2), (1040, 1)]));
+    expected.extend(given_back(Kind::Report));
+    let accesses = without_looks(guest.notified(Kind::Report), Kind::Report);
+    assert_eq!(accesses, without_looks(expected, Kind::Report));
+}
+
+#[test]
+fn statistics_are_read_once_and_kept() {
+    let mut guest = Guest::new();
+    guest.put(BUFFER, &[4, 0, 1, 0, 0, 0, 0, 0, 0, 0]);
+    guest.publish(Kind::Statistics, &[(BUFFER, 10, 0)]);
+    let mut expected = ring(Kind::Statistics);
+    expected.extend([Access::Read(BUFFER, 10), Access::Figures(1)]);
+    // And a look whether more stands there.
+    expected.push(Access::Load(place(Kind::Statistics, AVAIL) + 2));
+    assert_eq!(guest.notified(Kind::Statistics), expected);
+    guest.log.borrow_mut().clear();
+    guest.balloon.ask_statistics(&guest.memory);
+    let asked = without_looks(guest.log.borrow().clone(), Kind::Statistics);
+    assert_eq!(asked, without_looks(given_back(Kind::Statistics), Kind::Statistics));
+}
