@@ -48,7 +48,7 @@ const AVAIL: u64 = 0x11000;
 const USED: u64 = 0x12000;
 const BUFFER: u64 = 0x13000;
 const NO_INTERRUPT: u16 = 1;
-const ROUNDS: u64 = 300_000;
+const ROUNDS: u64 = 200_000;
 
 fn started(memory: &GuestMemoryMmap) -> Balloon {
     let offered = features::VERSION_1 | features::MUST_TELL_HOST;
@@ -98,9 +98,7 @@ fn drive(words: impl Fn(u64) -> &'static AtomicU16, places: &Places) -> u64 {
         words(AVAIL + 2).store(round as u16, Ordering::Release);
         places.begun.store(round, Ordering::Release);
         chance = chance.wrapping_mul(6364136223846793005).wrapping_add(1442695040888963407);
-        (0..(chance >> 33) % 1500).for_each(|it| {
-            std::hint::black_box(it);
-        });
+        (0..(chance >> 33) % 40).for_each(|_| std::hint::spin_loop());
         words(AVAIL).store(0, Ordering::Relaxed);
         fence(Ordering::SeqCst);
         let seen = words(USED + 2).load(Ordering::Relaxed) == round as u16;
