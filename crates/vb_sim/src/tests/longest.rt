@@ -9,15 +9,22 @@ use std::io::Write;
 /// How long the longest text is.
 const LONGEST: usize = 67_108_864;
 
-/// How such a text begins, with the comment that is the rest of it, and its reply.
-static LONG: (&[u8], &[u8]) = (b"host 64\nframes\n#", b"frames used 0 free 64\n");
+/// How such a text begins, what its comment goes on with to its end, and its reply.
+static LONG: (&str, &str, &[u8]) = (
+    "host 64\nframes\n#",
+    "################",
+    b"frames used 0 free 64\n",
+);
+
+/// How often the comment goes on so.
+const TIMES: usize = 4_194_303;
 
 #[test]
 fn the_longest_text_has_a_host(rt: HostRuntime) -> Result<(), AllocError> {
-    let mut script = vec![in rt.alloc(); b'#'; LONGEST]?;
-    script[..LONG.0.len()].copy_from_slice(LONG.0);
+    let script = repeated(rt.alloc(), LONG.0, LONG.1, TIMES, "")?;
+    assert!(rt; script.len() == LONGEST);
     let outcome = run(rt.alloc(), script.as_slice());
-    assert!(rt; outcome.shows(LONG.1, b"", SUCCESS));
+    assert!(rt; outcome.shows(LONG.2, b"", SUCCESS));
     Ok(())
 }
 
