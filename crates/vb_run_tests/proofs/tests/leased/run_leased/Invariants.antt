@@ -1,7 +1,7 @@
 use Rattle.std.proofs.Common.{All, length}
 use Rattle.vb_slot.specs.Spare.{IsNew}
-use Rattle.vb_plain.proofs.tests.leased.run_leased.OwnLists.{own-1}
-use Rattle.vb_plain.proofs.tests.leased.run_leased.Given as goal
+use Rattle.vb_run_tests.proofs.tests.leased.run_leased.OwnLists.{own-1}
+use Rattle.vb_run_tests.proofs.tests.leased.run_leased.Given as goal
 
 abbrev pub invariant-loop-pass : goal.invariant-loop-pass
 invariant-loop-pass g l =

@@ -3,8 +3,8 @@ use denote.Param.Object.{read_made}
 use Rattle.vb_ram.specs.Pages.{Pages}
 use Rattle.vb_ram.specs.Part.{Part}
 use Rattle.vb_shared.specs.Passes.{Pass}
-use Rattle.vb_plain.proofs.tests.leased.run_leased.OwnLists.{own-1, at-1-1, at-1-2}
-use Rattle.vb_plain.proofs.tests.leased.run_leased.Goals as goal
+use Rattle.vb_run_tests.proofs.tests.leased.run_leased.OwnLists.{own-1, at-1-1, at-1-2}
+use Rattle.vb_run_tests.proofs.tests.leased.run_leased.Goals as goal
 
 pub new-port-requires : goal.new-port-requires
 new-port-requires g c =
