@@ -1,5 +1,6 @@
 //! The scripts of the folders `conformance` and `examples`, by the program's own command lines.
-//! Their tables are what `tools/list-scripts --write` makes of the files.
+//! Their tables, each with its test, are what `tools/list-scripts --write` makes of the files: all
+//! tables in one test would take long to prove.
 
 mod balances;
 mod examples;
@@ -61,27 +62,4 @@ where
     for script in scripts {
         check(rt, alloc, script);
     }
-}
-
-#[test]
-fn scripts_write_what_their_files_say(rt: HostRuntime) {
-    check_all(&rt, rt.alloc(), &balances::SCRIPTS);
-    check_all(&rt, rt.alloc(), &examples::SCRIPTS);
-    check_all(&rt, rt.alloc(), &life_and_reset::SCRIPTS);
-    check_all(&rt, rt.alloc(), &life_and_restart::SCRIPTS);
-    check_all(&rt, rt.alloc(), &life_and_unplug::SCRIPTS);
-    check_all(&rt, rt.alloc(), &one_guest_immediate::SCRIPTS);
-    check_all(&rt, rt.alloc(), &one_guest_paced::SCRIPTS);
-    check_all(&rt, rt.alloc(), &paced::SCRIPTS);
-    check_all(&rt, rt.alloc(), &pages::SCRIPTS);
-    check_all(&rt, rt.alloc(), &reports::SCRIPTS);
-    check_all(&rt, rt.alloc(), &requests::SCRIPTS);
-    check_all(&rt, rt.alloc(), &resets::SCRIPTS);
-    check_all(&rt, rt.alloc(), &restarts::SCRIPTS);
-    check_all(&rt, rt.alloc(), &rogues::SCRIPTS);
-    check_all(&rt, rt.alloc(), &sizes::SCRIPTS);
-    check_all(&rt, rt.alloc(), &starts::SCRIPTS);
-    check_all(&rt, rt.alloc(), &statistics::SCRIPTS);
-    check_all(&rt, rt.alloc(), &threads::SCRIPTS);
-    check_all(&rt, rt.alloc(), &untold::SCRIPTS);
 }

@@ -1,6 +1,6 @@
 //! Scripts of `conformance/life-and-unplug`. `tools/list-scripts --write` makes this file.
 
-use super::Listed;
+use super::{Listed, check_all};
 
 pub(in crate::tests) static SCRIPTS: [Listed; 21] = [
     Listed {
@@ -907,3 +907,8 @@ no guest
         status: 0,
     },
 ];
+
+#[test]
+fn scripts_write_what_their_files_say(rt: HostRuntime) {
+    check_all(&rt, rt.alloc(), &SCRIPTS);
+}

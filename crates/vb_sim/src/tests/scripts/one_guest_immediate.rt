@@ -1,6 +1,6 @@
 //! Scripts of `conformance/one-guest-immediate`. `tools/list-scripts --write` makes this file.
 
-use super::Listed;
+use super::{Listed, check_all};
 
 pub(in crate::tests) static SCRIPTS: [Listed; 16] = [
     Listed {
@@ -922,3 +922,8 @@ not ready
         status: 0,
     },
 ];
+
+#[test]
+fn scripts_write_what_their_files_say(rt: HostRuntime) {
+    check_all(&rt, rt.alloc(), &SCRIPTS);
+}

@@ -1,6 +1,6 @@
 //! Scripts of `conformance/rogues`. `tools/list-scripts --write` makes this file.
 
-use super::Listed;
+use super::{Listed, check_all};
 
 pub(in crate::tests) static SCRIPTS: [Listed; 26] = [
     Listed {
@@ -661,3 +661,8 @@ ballooned 0 actual 0 target 0 status 143
         status: 0,
     },
 ];
+
+#[test]
+fn scripts_write_what_their_files_say(rt: HostRuntime) {
+    check_all(&rt, rt.alloc(), &SCRIPTS);
+}

@@ -1,6 +1,6 @@
 //! Scripts of `conformance/sizes`. `tools/list-scripts --write` makes this file.
 
-use super::Listed;
+use super::{Listed, check_all};
 
 pub(in crate::tests) static SCRIPTS: [Listed; 10] = [
     Listed {
@@ -517,3 +517,8 @@ frames used 28 free 12
         status: 0,
     },
 ];
+
+#[test]
+fn scripts_write_what_their_files_say(rt: HostRuntime) {
+    check_all(&rt, rt.alloc(), &SCRIPTS);
+}

@@ -1,6 +1,6 @@
 //! Scripts of `conformance/starts`. `tools/list-scripts --write` makes this file.
 
-use super::Listed;
+use super::{Listed, check_all};
 
 pub(in crate::tests) static SCRIPTS: [Listed; 10] = [
     Listed {
@@ -204,3 +204,8 @@ frames used 13 free 51
         status: 0,
     },
 ];
+
+#[test]
+fn scripts_write_what_their_files_say(rt: HostRuntime) {
+    check_all(&rt, rt.alloc(), &SCRIPTS);
+}

@@ -1,6 +1,6 @@
 //! Scripts of `conformance/statistics`. `tools/list-scripts --write` makes this file.
 
-use super::Listed;
+use super::{Listed, check_all};
 
 pub(in crate::tests) static SCRIPTS: [Listed; 5] = [
     Listed {
@@ -215,3 +215,8 @@ memory 180224 262144
         status: 0,
     },
 ];
+
+#[test]
+fn scripts_write_what_their_files_say(rt: HostRuntime) {
+    check_all(&rt, rt.alloc(), &SCRIPTS);
+}

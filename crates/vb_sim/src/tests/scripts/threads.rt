@@ -1,6 +1,6 @@
 //! Scripts of `conformance/threads`. `tools/list-scripts --write` makes this file.
 
-use super::Listed;
+use super::{Listed, check_all};
 
 pub(in crate::tests) static SCRIPTS: [Listed; 27] = [
     Listed {
@@ -509,3 +509,8 @@ disjoint
         status: 0,
     },
 ];
+
+#[test]
+fn scripts_write_what_their_files_say(rt: HostRuntime) {
+    check_all(&rt, rt.alloc(), &SCRIPTS);
+}

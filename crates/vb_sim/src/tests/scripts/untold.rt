@@ -1,6 +1,6 @@
 //! Scripts of `conformance/untold`. `tools/list-scripts --write` makes this file.
 
-use super::Listed;
+use super::{Listed, check_all};
 
 pub(in crate::tests) static SCRIPTS: [Listed; 9] = [
     Listed {
@@ -562,3 +562,8 @@ deflate pending
         status: 0,
     },
 ];
+
+#[test]
+fn scripts_write_what_their_files_say(rt: HostRuntime) {
+    check_all(&rt, rt.alloc(), &SCRIPTS);
+}
