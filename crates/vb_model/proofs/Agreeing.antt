@@ -189,16 +189,16 @@ supplies_same pages g claims r new r' new' Rest Rest' s t rest =
 performs_agree : (call : Call) (g : Guest) (claims : List Claim) (r : Reply) (new : Guest)
     (r' : Reply) (new' : Guest) → Performs call g claims r new → Performs call g claims r' new'
     → Agree call r new r' new'
-performs_agree (SetTarget n) g claims r new r' new' s t = both r r' _ new new' _ s.1 s.2 t.1 t.2
-performs_agree Reset g claims r new r' new' s t = both r r' _ new new' _ s.1 s.2 t.1 t.2
+performs_agree (SetTarget n) g claims r new r' new' s t = both r r' _ new new' _ s.1.0 s.1.1 t.1.0 t.1.1
+performs_agree Reset g claims r new r' new' s t = both r r' _ new new' _ s.1.0 s.1.1 t.1.0 t.1.1
 performs_agree (Free cpu start order) g claims r new r' new' s t =
-    both r r' _ new new' _ s.1 s.2 t.1 t.2
+    both r r' _ new new' _ s.1.0 s.1.1 t.1.0 t.1.1
 performs_agree (Sweep page) g claims r new r' new' s t =
     both r r' _ new new' _ s.1.0 s.1.1 t.1.0 t.1.1
 performs_agree (Read page offset len) g claims r new r' new' s t = (
-  s.2 ∙ sym t.2,
-  reads_same (ReadBytes (take len (drop offset (contents_of g page)))) r r' s.1
-      t.1,
+  s.1.1 ∙ sym t.1.1,
+  reads_same (ReadBytes (take len (drop offset (contents_of g page)))) r r' s.1.0
+      t.1.0,
 )
 performs_agree (Alloc cpu order) g claims r new r' new' s t = (
   λ e.

@@ -150,20 +150,20 @@ performs_attentive : (call : Call) (g : Guest) (claims : List Claim) (reply : Re
     → IsOrderly g → IsAttentive g → refusal_of g call ≡ None → Performs call g claims reply new
     → new.rogue ≡ false → IsAttentive new
 performs_attentive (SetTarget n) g claims reply new o h e s honest =
-    subst IsAttentive (sym s.2) h
+    subst IsAttentive (sym s.1.1) h
 performs_attentive Reset g claims reply new o h e s honest =
-    subst IsAttentive (sym s.2) (record {
+    subst IsAttentive (sym s.1.1) (record {
       inflating = λ other. refl;
       deflating = λ other. refl;
       reporting = λ other. refl;
       buffered = refl;
     })
 performs_attentive (Read page offset len) g claims reply new o h e s honest =
-    subst IsAttentive (sym s.2) h
+    subst IsAttentive (sym s.1.1) h
 performs_attentive (Alloc cpu order) g claims reply new o h e s honest =
     subst IsAttentive (sym s.1.3) h
 performs_attentive (Free cpu start order) g claims reply new o h e s honest =
-    subst IsAttentive (sym s.2) h
+    subst IsAttentive (sym s.1.1) h
 performs_attentive (Sweep page) g claims reply new o h e s honest =
     stays_ready g new _ (open_to g o (not_refused (tests g (Sweep page)) e).0) h s.1.1 refl refl refl
 performs_attentive (Inflate n) g claims reply new o h e s honest =

@@ -307,13 +307,13 @@ in_page g page offset bytes e =
 performs_blank : (call : Call) (g : Guest) (claims : List Claim) (reply : Reply) (new : Guest)
     → IsBlank g → refusal_of g call ≡ None → Performs call g claims reply new → new.rogue ≡ false
     → IsBlank new
-performs_blank (SetTarget n) g claims reply new h r s honest = subst IsBlank (sym s.2) h
-performs_blank Reset g claims reply new h r s honest = subst IsBlank (sym s.2) h
-performs_blank (Read page offset len) g claims reply new h r s honest = subst IsBlank (sym s.2) h
+performs_blank (SetTarget n) g claims reply new h r s honest = subst IsBlank (sym s.1.1) h
+performs_blank Reset g claims reply new h r s honest = subst IsBlank (sym s.1.1) h
+performs_blank (Read page offset len) g claims reply new h r s honest = subst IsBlank (sym s.1.1) h
 performs_blank (Sweep page) g claims reply new h r s honest =
     keeps g new _ s.1.1 (loses (page ∷ []) g h)
 performs_blank (Alloc cpu order) g claims reply new h r s honest = subst IsBlank (sym s.1.3) h
-performs_blank (Free cpu start order) g claims reply new h r s honest = subst IsBlank (sym s.2) h
+performs_blank (Free cpu start order) g claims reply new h r s honest = subst IsBlank (sym s.1.1) h
 performs_blank (Inflate n) g claims reply new h r s honest = subst IsBlank (sym s.1.7) h
 performs_blank (Deflate n) g claims reply new h r s honest = subst IsBlank (sym s.1.3) h
 performs_blank (Oom n) g claims reply new h r s honest = subst IsBlank (sym s.1.3) h

@@ -277,7 +277,7 @@ want_answered w v n call reply g here s want =
       | inr r ↦ absurd (let there : first_refusal (world_tests w (OnGuest n call)) ≡ None =
           ap (λ (o : Option Guest). first_refusal ((is_none o ⇒ NoGuest) ∷ [])) here in cc)
       | inl p ↦
-          elim (match_cases (guest_at w.guests n) ⊥ (λ g. Calls n g w (OnGuest n call) reply v) p.1) [
+          elim (match_cases (guest_at w.guests n) ⊥ (λ g. Calls n g w call reply v) p.1) [
             | inl none ↦ absurd none.1
             | inr k ↦
                 let same : k.0 ≡ g = same_some k.0 g (sym k.1 ∙ here) in

@@ -121,7 +121,7 @@ read_step g page offset len bytes claims new s =
           record {
             there = parts.0;
             inside = parts.1;
-            bytes_are = elim p.1.1 [
+            bytes_are = elim p.1.1.0 [
               | inl e ↦ cc
               | inr e ↦ absurd (let told : ReadBytes bytes ≡ Refused NoMemory = e in cc)
             ];

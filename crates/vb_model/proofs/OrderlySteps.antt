@@ -409,8 +409,8 @@ accepted : (wanted : ℕ) → feature_refusal wanted ≡ None → AreAgreed want
 accepted wanted e =
     let n = not_refused (feature_tests wanted) e in
     record {
-      offered = not-false _ n.1.0;
-      version = not-false _ n.1.1.1.1.0;
+      offered = not-false _ n.0;
+      version = not-false _ n.1.0;
     }
 
 negotiates_order : (o : Option Refusal) (wanted : ℕ) (g : Guest) (reply : Reply) (new : Guest)
@@ -457,10 +457,10 @@ deflates_order g count head h least now =
 performs_order : (call : Call) (g : Guest) (claims : List Claim) (reply : Reply) (new : Guest)
     → IsConsistent g → IsOrderly g → refusal_of g call ≡ None → Performs call g claims reply new
     → new.rogue ≡ false → IsOrderly new
-performs_order (SetTarget n) g claims reply new c h e s honest = subst IsOrderly (sym s.2) h
-performs_order Reset g claims reply new c h e s honest = subst IsOrderly (sym s.2) (kept_reset g h)
+performs_order (SetTarget n) g claims reply new c h e s honest = subst IsOrderly (sym s.1.1) h
+performs_order Reset g claims reply new c h e s honest = subst IsOrderly (sym s.1.1) (kept_reset g h)
 performs_order (Read page offset len) g claims reply new c h e s honest =
-    subst IsOrderly (sym s.2) h
+    subst IsOrderly (sym s.1.1) h
 performs_order (Sweep page) g claims reply new c h e s honest = subst IsOrderly (sym s.1.1) h
 performs_order (Alloc cpu order) g claims reply new c h e s honest =
     let b : Block = record { start = s.1.0; order = order } in
@@ -481,7 +481,7 @@ performs_order (Alloc cpu order) g claims reply new c h e s honest =
 performs_order (Free cpu start order) g claims reply new c h e s honest =
     let b : Block = record { start = start; order = order } in
     let n = not_refused (tests g (Free cpu start order)) e in
-    subst IsOrderly (sym s.2)
+    subst IsOrderly (sym s.1.1)
     (record {
       inflating = h.inflating;
       deflating = h.deflating;

@@ -131,15 +131,15 @@ performs_keep : (call : Call) (g : Guest) (claims : List Claim) (reply : Reply) 
     → Performs call g claims reply new → Keeps (IsScribble call) (target_after call g.target) g new
 performs_keep (SetTarget n) g claims reply new s =
     record {
-      aimed = ap (λ (x : Guest). x.target) s.2;
-      config = ap (λ (x : Guest). x.config) s.2;
-      rogue = inl (ap (λ (x : Guest). x.rogue) s.2);
+      aimed = ap (λ (x : Guest). x.target) s.1.1;
+      config = ap (λ (x : Guest). x.config) s.1.1;
+      rogue = inl (ap (λ (x : Guest). x.rogue) s.1.1);
     }
-performs_keep Reset g claims reply new s = same_three g new _ s.2 refl refl refl
-performs_keep (Read page offset len) g claims reply new s = same_three g new _ s.2 refl refl refl
+performs_keep Reset g claims reply new s = same_three g new _ s.1.1 refl refl refl
+performs_keep (Read page offset len) g claims reply new s = same_three g new _ s.1.1 refl refl refl
 performs_keep (Sweep page) g claims reply new s = same_three g new _ s.1.1 refl refl refl
 performs_keep (Alloc cpu order) g claims reply new s = same_three g new _ s.1.3 refl refl refl
-performs_keep (Free cpu start order) g claims reply new s = same_three g new _ s.2 refl refl refl
+performs_keep (Free cpu start order) g claims reply new s = same_three g new _ s.1.1 refl refl refl
 performs_keep (Inflate n) g claims reply new s = same_three g new _ s.1.7 refl refl refl
 performs_keep (Deflate n) g claims reply new s = same_three g new _ s.1.3 refl refl refl
 performs_keep (Oom n) g claims reply new s = same_three g new _ s.1.3 refl refl refl

@@ -1,7 +1,7 @@
 -- Which calls claim frames, and what a refusal for want of frames or of memory means.
 use Rattle.std.proofs.Common.{◌≡◌, ℕ, ◌<◌, Bool, true, false, cond, List, [], ◌∷◌, length, refl}
 use Rattle.std.proofs.Common.{sym, ap, subst, ◌∙◌, ◌⊎◌, inl, inr, arith}
-use Rattle.std.specs.Prelude.{◌==◌, ◌||◌, not, Option, Some, None, MatchBool, is_none}
+use Rattle.std.specs.Prelude.{◌==◌, ◌||◌, ◌&&◌, not, Option, Some, None, MatchBool, is_none}
 use Rattle.std.specs.List.{list_all}
 use Rattle.std.proofs.lemmas.Bool.{eq-eqb, and_parts, not-true, eqb-true, or_cases}
 use Rattle.vb_model.specs.Layout.{start_pages}
@@ -27,7 +27,7 @@ use Rattle.vb_model.specs.Driver.{Written, pages_needed}
 use Rattle.vb_model.specs.Device.{Takes, TakesBuffer, Finishes, Asks, next_page}
 use Rattle.vb_model.specs.Life.{feature_tests, feature_refusal, Negotiates, lacking}
 use Rattle.vb_model.specs.Rogue.{LosesFrames, RogueStep, Scribbled, unless_refused, pages_to_back}
-use Rattle.vb_model.specs.Rogue.{is_read, if_negotiated, after_refused}
+use Rattle.vb_model.specs.Rogue.{is_read, after_refused}
 use Rattle.vb_model.specs.Step.{Performs, HonestStep, GuestStep}
 use Rattle.vb_model.specs.HostEvents.{Happens, Calls}
 use Rattle.vb_model.specs.HostFrames.{Gives, IsOut}
@@ -442,19 +442,19 @@ performs_lack (Write page offset bytes) g claims reply new why s w e =
 performs_lack (Scribble page offset bytes) g claims reply new why s w e =
     inl (supplies_lack (pages_needed page bytes g) g claims reply new why
     (λ m. Scribbled m reply new) s (λ m r. ap wants r.answered) w e)
-performs_lack (SetTarget n) g claims reply new why s w e = no_want reply why (ap wants s.1) w e
-performs_lack Reset g claims reply new why s w e = no_want reply why (ap wants s.1) w e
+performs_lack (SetTarget n) g claims reply new why s w e = no_want reply why (ap wants s.1.0) w e
+performs_lack Reset g claims reply new why s w e = no_want reply why (ap wants s.1.0) w e
 performs_lack (Read page offset len) g claims reply new why s w e =
-    elim s.1 [
+    elim s.1.0 [
       | inl k ↦ no_want reply why (ap wants k) w e
-      | inr k ↦ reads_none page offset len g claims new why (sym k ∙ e) s.2
+      | inr k ↦ reads_none page offset len g claims new why (sym k ∙ e) s.1.1
     ]
 performs_lack (Sweep page) g claims reply new why s w e =
     no_want reply why (ap wants s.1.0) w e
 performs_lack (Alloc cpu order) g claims reply new why s w e =
     no_want reply why (ap wants s.1.2) w e
 performs_lack (Free cpu start order) g claims reply new why s w e =
-    no_want reply why (ap wants s.1) w e
+    no_want reply why (ap wants s.1.0) w e
 performs_lack (Inflate n) g claims reply new why s w e = no_want reply why (ap wants s.1.6) w e
 performs_lack (Deflate n) g claims reply new why s w e = no_want reply why (ap wants s.1.2) w e
 performs_lack (Oom n) g claims reply new why s w e = no_want reply why (ap wants s.1.2) w e
@@ -522,7 +522,7 @@ no_frame_exact w v n call g here s =
           let t : wants (Refused NoFrame) ≡ false = ap wants told ∙ f in cc)
       | inl p ↦
           elim (match_cases (guest_at w.guests n) ⊥
-          (λ g. Calls n g w (OnGuest n call) (Refused NoFrame) v) p.1) [
+          (λ g. Calls n g w call (Refused NoFrame) v) p.1) [
             | inl none ↦ absurd none.1
             | inr k ↦
                 let same : k.0 ≡ g = same_some k.0 g (sym k.1 ∙ here) in
@@ -536,11 +536,11 @@ no_frame_exact w v n call g here s =
 
 -- ---- no memory is left
 
-pub unsupplied : (started : Bool) (o : Option Refusal) (why : Refusal) (old new : Guest)
-    → o ≡ Some why → if_negotiated started o old new ≡ old
-unsupplied true o why old new e = refl
-unsupplied false (Some refusal) why old new e = refl
-unsupplied false None why old new e = absurd cc
+pub unsupplied : (idle : Bool) (o : Option Refusal) (why : Refusal) (old new : Guest)
+    → o ≡ Some why → cond (idle && is_none o) new old ≡ old
+unsupplied true (Some refusal) why old new e = refl
+unsupplied true None why old new e = absurd cc
+unsupplied false o why old new e = refl
 
 pub no_memory_exact : NoMemoryIsExact
 no_memory_exact g call claims new s = cases g.rogue s
@@ -548,7 +548,7 @@ no_memory_exact g call claims new s = cases g.rogue s
     left : (c : Call) → (claim_refusal claims ≡ Some NoMemory) ⊎ (is_read c ≡ true)
         → after_refused c NoMemory claims g ≡ g
     left (Init wanted) (inl e) =
-        unsupplied (not (g.status == 0)) (claim_refusal claims) NoMemory g _ e
+        unsupplied (g.status == 0) (claim_refusal claims) NoMemory g _ e
     left (Init wanted) (inr e) = absurd cc
     left (Write page offset bytes) e = refl
     left (Scribble page offset bytes) e = refl

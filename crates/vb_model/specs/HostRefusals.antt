@@ -1,6 +1,6 @@
 -- Why the host refuses an event, first cause first (profile).
 -- The headline of a host needs all of it.
-use Rattle.std.specs.Prelude.{ℕ, Bool, true, false, not, nat_le}
+use Rattle.std.specs.Prelude.{ℕ, Bool, not, ◌==◌, length, nat_le}
 use Rattle.std.specs.Prelude.{List, [], ◌∷◌, is_none, is_some}
 use Rattle.std.specs.Prelude.{count_by}
 use Rattle.vb_model.specs.declared.calls.Event.{Event}
@@ -16,10 +16,6 @@ use Rattle.vb_model.specs.World.{World, guest_at}
 abbrev pub plugged_count : World → ℕ
 plugged_count w = count_by (λ x. is_some x) w.guests
 
-abbrev pub has_no_spare : List Bool → Bool
-has_no_spare [] = true
-has_no_spare (x ∷ xs) = false
-
 abbrev pub lacks_guest : World → ℕ → Bool
 lacks_guest w n = is_none (guest_at w.guests n)
 
@@ -27,7 +23,7 @@ abbrev pub world_tests : World → Event → List Test
 world_tests w (Plug pages queue_size processors) =
     (not (is_config pages queue_size processors) ⇒ BadConfig)
     ∷ (nat_le max_guests (plugged_count w) ⇒ TooMany)
-    ∷ (has_no_spare w.spares ⇒ NoDevice)
+    ∷ ((length w.spares == 0) ⇒ NoDevice)
     ∷ []
 world_tests w (Unplug n) = (lacks_guest w n ⇒ NoGuest) ∷ []
 world_tests w (Restart n) = (lacks_guest w n ⇒ NoGuest) ∷ []

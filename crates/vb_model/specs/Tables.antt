@@ -2,6 +2,7 @@
 -- it is tested (profile).
 -- Both stand here once, over plain values; a guest, a driver and a device each put in their own.
 -- The headline needs all of it.
+use Rattle.std.specs.Prelude.{◌++◌}
 use Rattle.std.specs.Prelude.{ℕ, ◌+◌, ◌-◌, Bool, false, not, ◌==◌, ◌&&◌, ◌||◌, nat_lt, nat_le, List}
 use Rattle.std.specs.Prelude.{[], ◌∷◌, length, if◌then◌else◌, Option, Some, None, is_some, is_none}
 use Rattle.std.specs.Prelude.{min, max, count_by, take}
@@ -42,13 +43,6 @@ pages_to_ask places target n =
 -- and where memory is short any lent page
 abbrev pub pages_when_short : List Place → ℕ → ℕ
 pages_when_short places n = min (min n max_request_pages) (count_by is_lent places)
-
--- the lowest pages of a kind
-abbrev pub first_stranded : List Place → ℕ → List ℕ
-first_stranded places count = take count (pages_where is_stranded places)
-
-abbrev pub first_lent : List Place → ℕ → List ℕ
-first_lent places count = take count (pages_where is_lent places)
 
 -- how many requests of queue 0 or 1, or blocks of a report, there may be at this queue size
 abbrev pub most_requests : ℕ → ℕ
@@ -163,45 +157,39 @@ stats_tests status features =
 
 -- ---- the device's calls
 
+-- of each of them, and of work nothing else
+abbrev pub work_tests : ℕ → List Test
+work_tests status = (is_not_ready status ⇒ NotReady) ∷ (has_fault status ⇒ NeedsReset) ∷ []
+
 -- of a take, before guest memory is read, where so many chains of the queue are taken
 abbrev pub take_tests : (q status features taken : ℕ) → List Test
 take_tests q status features taken =
     (not (has_chains q) ⇒ NoQueue)
-    ∷ (is_not_ready status ⇒ NotReady)
-    ∷ (has_fault status ⇒ NeedsReset)
-    ∷ (lacks_feature features q ⇒ NoQueue)
+    ∷ work_tests status
+    ++ (lacks_feature features q ⇒ NoQueue)
     ∷ (nat_le (most_taken q) taken ⇒ Busy)
-    ∷ []
-
-abbrev pub work_tests : ℕ → List Test
-work_tests status =
-    (is_not_ready status ⇒ NotReady)
-    ∷ (has_fault status ⇒ NeedsReset)
     ∷ []
 
 -- of a finish of this taken request, if there is one
 abbrev pub finish_tests : (q status : ℕ) (paced : Bool) (taken : Option Request) → List Test
 finish_tests q status paced taken =
     (not (is_queue_of_requests q) ⇒ NoQueue)
-    ∷ (is_not_ready status ⇒ NotReady)
-    ∷ (has_fault status ⇒ NeedsReset)
-    ∷ (is_none taken ⇒ NotTaken)
+    ∷ work_tests status
+    ++ (is_none taken ⇒ NotTaken)
     ∷ ((paced && not (q == DEFLATE_QUEUE) && has_unvisited taken) ⇒ NotWorked)
     ∷ []
 
 -- of a sweep: without MUST_TELL_HOST a guest may use a ballooned page that it has asked back
 abbrev pub sweep_tests : (status features : ℕ) (ballooned : Bool) → List Test
 sweep_tests status features ballooned =
-    (is_not_ready status ⇒ NotReady)
-    ∷ (has_fault status ⇒ NeedsReset)
-    ∷ (not (must_tell_host features) ⇒ NoFeature)
+    work_tests status
+    ++ (not (must_tell_host features) ⇒ NoFeature)
     ∷ (not ballooned ⇒ NotBallooned)
     ∷ []
 
 -- of the return of the statistics buffer, which is taken or isn't
 abbrev pub ask_tests : (status : ℕ) (taken : Bool) → List Test
 ask_tests status taken =
-    (is_not_ready status ⇒ NotReady)
-    ∷ (has_fault status ⇒ NeedsReset)
-    ∷ (not taken ⇒ NotTaken)
+    work_tests status
+    ++ (not taken ⇒ NotTaken)
     ∷ []
