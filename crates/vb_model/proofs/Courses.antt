@@ -11,7 +11,8 @@ use Rattle.vb_model.specs.Guest.{Guest, Config, fresh}
 use Rattle.vb_model.specs.Driver.{pages_needed}
 use Rattle.vb_model.specs.Refusals.{refusal_of}
 use Rattle.vb_model.specs.Rogue.{RogueStep, Scribbled, IsRogueAfter}
-use Rattle.vb_model.specs.Step.{Performs, HonestStep, GuestStep}
+use Rattle.vb_model.specs.Step.{Performs, HonestStep}
+use Rattle.vb_model.specs.Rogue.{GuestStep}
 use Rattle.vb_model.specs.Consistent.{IsConsistent}
 use Rattle.vb_model.specs.Orderly.{IsOrderly}
 use Rattle.vb_model.specs.Blank.{IsBlank}

@@ -23,7 +23,8 @@ use Rattle.vb_model.specs.Driver.{given, claim_refusal, AreClaimsFor, Supplying,
 use Rattle.vb_model.specs.Driver.{pages_needed}
 use Rattle.vb_model.specs.Life.{feature_refusal, Negotiates, lacking}
 use Rattle.vb_model.specs.Rogue.{LosesFrames, RogueStep, Scribbled, unless_refused, pages_to_back}
-use Rattle.vb_model.specs.Step.{Performs, HonestStep, GuestStep}
+use Rattle.vb_model.specs.Step.{Performs, HonestStep}
+use Rattle.vb_model.specs.Rogue.{GuestStep}
 use Rattle.vb_model.specs.World.{World, guest_at}
 use Rattle.vb_model.specs.HostFrames.{Gives, IsOut}
 use Rattle.vb_model.specs.HostRefusals.{world_tests}

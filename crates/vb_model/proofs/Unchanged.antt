@@ -21,7 +21,8 @@ use Rattle.vb_model.specs.Driver.{Supplying, Reaps, Fills, Written, pages_needed
 use Rattle.vb_model.specs.Device.{Takes, TakesBuffer, Finishes, Asks, next_page, settled, used}
 use Rattle.vb_model.specs.Life.{feature_refusal, Negotiates, lacking}
 use Rattle.vb_model.specs.Rogue.{IsRogueAfter, RogueStep, Scribbled, target_after}
-use Rattle.vb_model.specs.Step.{Performs, HonestStep, GuestStep}
+use Rattle.vb_model.specs.Step.{Performs, HonestStep}
+use Rattle.vb_model.specs.Rogue.{GuestStep}
 use Rattle.vb_model.proofs.CallSteps.{match_cases, supplying_cases, works_cases, Idles, Visits}
 
 -- a guest with another target, with the same configuration, that is as honest as before, or rogue

@@ -28,7 +28,8 @@ use Rattle.vb_model.specs.Device.{Takes, TakesBuffer, Finishes, Asks, next_page}
 use Rattle.vb_model.specs.Life.{feature_tests, feature_refusal, Negotiates, lacking}
 use Rattle.vb_model.specs.Rogue.{LosesFrames, RogueStep, Scribbled, unless_refused, pages_to_back}
 use Rattle.vb_model.specs.Rogue.{is_read, after_refused}
-use Rattle.vb_model.specs.Step.{Performs, HonestStep, GuestStep}
+use Rattle.vb_model.specs.Step.{Performs, HonestStep}
+use Rattle.vb_model.specs.Rogue.{GuestStep}
 use Rattle.vb_model.specs.HostEvents.{Happens, Calls}
 use Rattle.vb_model.specs.HostFrames.{Gives, IsOut}
 use Rattle.vb_model.specs.World.{guest_at}

@@ -18,7 +18,7 @@ use Rattle.vb_model.specs.Guest.{Guest, Config, fresh}
 use Rattle.vb_model.specs.FirstRefusal.{first_refusal}
 use Rattle.vb_model.specs.declared.calls.Claim.{Claim}
 use Rattle.vb_model.specs.Life.{after_restart}
-use Rattle.vb_model.specs.Step.{GuestStep}
+use Rattle.vb_model.specs.Rogue.{GuestStep}
 use Rattle.vb_model.specs.Balance.{Need, need, IsAnswer}
 use Rattle.vb_model.specs.HostFrames.{IsOut, Gives, used_frames}
 use Rattle.vb_model.specs.HostRefusals.{world_tests}

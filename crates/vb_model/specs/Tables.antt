@@ -5,7 +5,7 @@
 use Rattle.std.specs.Prelude.{◌++◌}
 use Rattle.std.specs.Prelude.{ℕ, ◌+◌, ◌-◌, Bool, false, not, ◌==◌, ◌&&◌, ◌||◌, nat_lt, nat_le, List}
 use Rattle.std.specs.Prelude.{[], ◌∷◌, length, if◌then◌else◌, Option, Some, None, is_some, is_none}
-use Rattle.std.specs.Prelude.{min, max, count_by, take}
+use Rattle.std.specs.Prelude.{min, max, count_by}
 use Rattle.std.specs.List.{list_any, range_with_len}
 use Rattle.vb_model.specs.declared.layout.TheConstants.{DEFLATE_QUEUE, STATISTICS_QUEUE}
 use Rattle.vb_model.specs.declared.layout.TheConstants.{REPORT_QUEUE}
@@ -16,7 +16,6 @@ use Rattle.vb_model.specs.declared.replies.Refusal.TheVariants.{DeflatePending}
 use Rattle.vb_model.specs.declared.replies.Refusal.TheVariants.{Nothing, NoFeature, NoQueue, Busy}
 use Rattle.vb_model.specs.declared.replies.Refusal.TheVariants.{NotTaken, NotWorked, NotBallooned}
 use Rattle.vb_model.specs.Limits.{max_order, max_outstanding, max_request_pages}
-use Rattle.vb_model.specs.Tests.{pages_where}
 use Rattle.vb_model.specs.Pages.{Block, block_at, is_free, is_giving, is_lent, is_stranded}
 use Rattle.vb_model.specs.Pages.{is_wholly_free, is_same_block}
 use Rattle.vb_model.specs.Requests.{Request, kind_of_queue}

@@ -33,7 +33,8 @@ use Rattle.vb_model.specs.Device.{Takes, TakesBuffer, Asks, Finishes, next_page,
 use Rattle.vb_model.specs.Device.{is_unvisited}
 use Rattle.vb_model.specs.Life.{feature_refusal, Negotiates, lacking}
 use Rattle.vb_model.specs.Rogue.{RogueStep, IsRogueAfter}
-use Rattle.vb_model.specs.Step.{Performs, HonestStep, GuestStep}
+use Rattle.vb_model.specs.Step.{Performs, HonestStep}
+use Rattle.vb_model.specs.Rogue.{GuestStep}
 use Rattle.vb_model.specs.Consistent.{IsConsistent}
 use Rattle.vb_model.specs.Orderly.{IsOrderly}
 use Rattle.vb_model.specs.HonestRuns.{IsAttentive, has_buffer}
