@@ -9,7 +9,8 @@ use Rattle.vb_model.specs.declared.calls.Event.TheVariants.{Query as Asking, Bal
 use Rattle.vb_model.specs.declared.calls.Event.TheVariants.{Frames as CountFrames}
 use Rattle.vb_model.specs.declared.replies.Refusal.TheVariants.{NoGuest, BadConfig, TooMany}
 use Rattle.vb_model.specs.declared.replies.Refusal.TheVariants.{NoDevice}
-use Rattle.vb_model.specs.Limits.{max_guests, is_config}
+use Rattle.vb_model.specs.Limits.{is_config}
+use Rattle.vb_model.specs.declared.limits.TheConstants.{MAX_GUESTS}
 use Rattle.vb_model.specs.FirstRefusal.{Test, ◌⇒◌}
 use Rattle.vb_model.specs.World.{World, guest_at}
 
@@ -22,7 +23,7 @@ lacks_guest w n = is_none (guest_at w.guests n)
 abbrev pub world_tests : World → Event → List Test
 world_tests w (Plug pages queue_size processors) =
     (not (is_config pages queue_size processors) ⇒ BadConfig)
-    ∷ (nat_le max_guests (plugged_count w) ⇒ TooMany)
+    ∷ (nat_le MAX_GUESTS (plugged_count w) ⇒ TooMany)
     ∷ ((length w.spares == 0) ⇒ NoDevice)
     ∷ []
 world_tests w (Unplug n) = (lacks_guest w n ⇒ NoGuest) ∷ []

@@ -15,7 +15,7 @@ use Rattle.vb_model.specs.declared.replies.Refusal.TheVariants.{NotReady, NeedsR
 use Rattle.vb_model.specs.declared.replies.Refusal.TheVariants.{DeflatePending}
 use Rattle.vb_model.specs.declared.replies.Refusal.TheVariants.{Nothing, NoFeature, NoQueue, Busy}
 use Rattle.vb_model.specs.declared.replies.Refusal.TheVariants.{NotTaken, NotWorked, NotBallooned}
-use Rattle.vb_model.specs.Limits.{max_order, max_outstanding, max_request_pages}
+use Rattle.vb_model.specs.declared.limits.TheConstants.{MAX_ORDER, MAX_OUTSTANDING, MAX_REQUEST_PAGES}
 use Rattle.vb_model.specs.Pages.{Block, block_at, is_free, is_giving, is_lent, is_stranded}
 use Rattle.vb_model.specs.Pages.{is_wholly_free, is_same_block}
 use Rattle.vb_model.specs.Requests.{Request, kind_of_queue}
@@ -31,21 +31,21 @@ abbrev pub pages_to_offer : (places : List Place) (target n : ℕ) → ℕ
 pages_to_offer places target n =
     let stranded : ℕ = count_by is_stranded places in
     let missing : ℕ = target - count_by is_lent places - count_by is_giving places in
-    min (min n max_request_pages) (min (max stranded missing) (stranded + count_by is_free places))
+    min (min n MAX_REQUEST_PAGES) (min (max stranded missing) (stranded + count_by is_free places))
 
 -- a deflate asks back what is above the target
 abbrev pub pages_to_ask : (places : List Place) (target n : ℕ) → ℕ
 pages_to_ask places target n =
     let lent : ℕ = count_by is_lent places in
-    min (min n max_request_pages) (min lent (lent + count_by is_giving places - target))
+    min (min n MAX_REQUEST_PAGES) (min lent (lent + count_by is_giving places - target))
 
 -- and where memory is short any lent page
 abbrev pub pages_when_short : List Place → ℕ → ℕ
-pages_when_short places n = min (min n max_request_pages) (count_by is_lent places)
+pages_when_short places n = min (min n MAX_REQUEST_PAGES) (count_by is_lent places)
 
 -- how many requests of queue 0 or 1, or blocks of a report, there may be at this queue size
 abbrev pub most_requests : ℕ → ℕ
-most_requests queue_size = min queue_size max_outstanding
+most_requests queue_size = min queue_size MAX_OUTSTANDING
 
 -- ---- the status: VIRTIO 1.1, 2.1
 
@@ -78,7 +78,7 @@ lacks_feature features q =
 
 -- of a queue so many chains may be taken at a time
 abbrev pub most_taken : ℕ → ℕ
-most_taken q = if q == STATISTICS_QUEUE then 1 else max_outstanding
+most_taken q = if q == STATISTICS_QUEUE then 1 else MAX_OUTSTANDING
 
 abbrev pub has_unvisited : Option Request → Bool
 has_unvisited None = false
@@ -96,14 +96,14 @@ is_among b held = list_any (λ h. is_same_block h b) held
 
 abbrev pub alloc_tests : (places : List Place) (pages processors cpu order : ℕ) → List Test
 alloc_tests places pages processors cpu order =
-    (nat_lt max_order order ⇒ BadOrder)
+    (nat_lt MAX_ORDER order ⇒ BadOrder)
     ∷ (nat_le processors cpu ⇒ BadCpu)
     ∷ (no_block_free places pages order ⇒ NoPages)
     ∷ []
 
 abbrev pub free_tests : (held : List Block) (processors cpu : ℕ) (b : Block) → List Test
 free_tests held processors cpu b =
-    (nat_lt max_order b.order ⇒ BadOrder)
+    (nat_lt MAX_ORDER b.order ⇒ BadOrder)
     ∷ (nat_le processors cpu ⇒ BadCpu)
     ∷ (not (is_among b held) ⇒ NotHeld)
     ∷ []
