@@ -52,15 +52,7 @@ stays_ready : (g new changed : Guest) → g.status ≡ 15 → IsAttentive g → 
     → has_buffer changed.buffer ≡ has_buffer g.buffer → IsAttentive new
 stays_ready g new changed is h e s f b =
     let same : new.status ≡ 15 = ap (λ (x : Guest). x.status) e ∙ s ∙ is in
-    record {
-      inflating = λ other. absurd (other same);
-      deflating = λ other. absurd (other same);
-      reporting = λ other. absurd (other same);
-      buffered = ap (λ (x : Guest). has_buffer x.buffer) e ∙ b ∙ h.buffered
-          ∙ ap (λ (n : ℕ). (n == 15) && stats_vq g.features) (is ∙ sym same)
-          ∙ ap (λ (n : ℕ). (new.status == 15) && stats_vq n)
-          (sym (ap (λ (x : Guest). x.features) e ∙ f));
-    }
+    grind (arith, same, h)
 
 -- ---- by cases on lists, buffers and kinds
 

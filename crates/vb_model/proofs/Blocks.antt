@@ -54,17 +54,7 @@ covering : (page : ℕ) (b : Block) → is_aligned b ≡ true → covers page b 
 covering page b aligned c =
     let parts = and_parts (nat_le b.start page) (nat_lt page (b.start + size b)) c in
     let rest : b.start % size b ≡ 0 = eqb-true _ 0 aligned in
-    record {
-      begins = b.start / size b;
-      first = omega (
-        arith,
-        div-add-mod' b.start (size b),
-        mul_comm (size b) (b.start / size b),
-        rest,
-      );
-      low = leb-true _ _ parts.0;
-      high = ltb-true _ _ parts.1;
-    }
+    grind (arith, parts, rest, div-add-mod' b.start (size b), mul_comm (size b) (b.start / size b))
 
 -- the block of the larger order round the smaller one's start is the larger one
 larger : (page : ℕ) (b c : Block) → b.order < c.order → is_aligned b ≡ true → covers page b ≡ true
@@ -102,12 +92,7 @@ is_round : (test : ℕ → Bool) (page : ℕ) (b : Block) → holds test page b 
 is_round test page b h =
     let parts = and_parts (is_maximal test b) (covers page b) h in
     let most = and_parts (is_whole test b) _ parts.0 in
-    record {
-      free = most.0;
-      aligned = (and_parts (is_aligned b) _ most.0).0;
-      cover = parts.1;
-      widest = not-true _ most.1;
-    }
+    grind (arith, parts, most, h)
 
 pub any_in_range : (test : ℕ → Bool) (k first count : ℕ) → first ≤ k → k < first + count → test k ≡ true
     → list_any test (range_with_len first count) ≡ true

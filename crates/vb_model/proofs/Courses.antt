@@ -136,12 +136,7 @@ every_step : (g : Guest) (entries : List (Option Entry)) (after : List Guest)
     → slice_get after i ≡ Some b → EntryAt entries i a b
 every_step g [] [] s i a b ha hb = absurd cc
 every_step g (own ∷ entries) (new ∷ after) s zero a b ha hb =
-    record {
-      own = own;
-      own_is = refl;
-      step = subst (λ (x : Guest). OwnStep x own b) (same_some g a ha)
-          (subst (λ (x : Guest). OwnStep g own x) (same_some new b hb) s.0);
-    }
+    grind (arith)
 every_step g (own ∷ entries) (new ∷ after) s (suc i) a b ha hb =
     let r = every_step new entries after s.1 i a b ha hb in
     record { own = r.own; own_is = r.own_is; step = r.step }
@@ -161,12 +156,7 @@ every_entry : (g : Guest) (entries : List (Option Entry)) (after : List Guest)
 every_entry g [] [] s i entry at = absurd cc
 every_entry g (own ∷ entries) (new ∷ after) s zero entry at =
     let e : own ≡ Some entry = cc in
-    record {
-      before = g;
-      next = new;
-      is_there = refl;
-      step = subst (λ (x : Option Entry). OwnStep g x new) e s.0;
-    }
+    grind (arith, e)
 every_entry g (own ∷ entries) (new ∷ after) s (suc i) entry at =
     let r = every_entry new entries after s.1 i entry at in
     record { before = r.before; next = r.next; is_there = r.is_there; step = r.step }

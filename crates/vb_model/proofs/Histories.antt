@@ -214,12 +214,7 @@ the_write : (page : ℕ) (call : Call) (reply : Reply) → is_write page call re
     → IsDone page call reply
 unfolding is_write
 the_write page (Write p offset bytes) Done e =
-    record {
-      offset = offset;
-      bytes = bytes;
-      call_is = ap (λ (k : ℕ). Write k offset bytes) (eqb-true p page e);
-      reply_is = refl;
-    }
+    grind (arith)
 the_write page _ _ e = absurd cc
 
 written_byte : (page at offset : ℕ) (actor : Actor) (claims : List Claim) (bytes : List ℕ) (old : ℕ)

@@ -173,46 +173,19 @@ with_inflate : (g : Guest) (rs : Requests) (places : List Place) → IsOrderly g
     → AreOrderly (room g) rs → length places ≡ g.config.pages → Unreserved g.config.queue_size g.config.pages places
     → IsOrderly (record g { inflate = rs; places = places })
 with_inflate g rs places h o l u =
-    record {
-      inflating = o;
-      deflating = h.deflating;
-      reporting = h.reporting;
-      state = h.state;
-      tabled = l;
-      unreserved = u;
-      blocks = h.blocks;
-      agreed = h.agreed;
-    }
+    grind (arith, h)
 
 with_deflate : (g : Guest) (rs : Requests) (places : List Place) → IsOrderly g
     → AreOrderly (room g) rs → length places ≡ g.config.pages → Unreserved g.config.queue_size g.config.pages places
     → IsOrderly (record g { deflate = rs; places = places })
 with_deflate g rs places h o l u =
-    record {
-      inflating = h.inflating;
-      deflating = o;
-      reporting = h.reporting;
-      state = h.state;
-      tabled = l;
-      unreserved = u;
-      blocks = h.blocks;
-      agreed = h.agreed;
-    }
+    grind (arith, h)
 
 with_report : (g : Guest) (rs : Requests) (places : List Place) → IsOrderly g → AreOrderly 1 rs
     → length places ≡ g.config.pages → Unreserved g.config.queue_size g.config.pages places
     → IsOrderly (record g { report = rs; places = places })
 with_report g rs places h o l u =
-    record {
-      inflating = h.inflating;
-      deflating = h.deflating;
-      reporting = o;
-      state = h.state;
-      tabled = l;
-      unreserved = u;
-      blocks = h.blocks;
-      agreed = h.agreed;
-    }
+    grind (arith, h)
 
 has_room : (most now : ℕ) → nat_le most now ≡ false → now < most
 has_room most now h = leb-false most now h
@@ -408,10 +381,7 @@ asks_order (BufferDone f) g reply new h s = absurd s
 accepted : (wanted : ℕ) → feature_refusal wanted ≡ None → AreAgreed wanted
 accepted wanted e =
     let n = not_refused (feature_tests wanted) e in
-    record {
-      offered = not-false _ n.0;
-      version = not-false _ n.1.0;
-    }
+    grind (arith, n)
 
 negotiates_order : (o : Option Refusal) (wanted : ℕ) (g : Guest) (reply : Reply) (new : Guest)
     → feature_refusal wanted ≡ o → IsOrderly g → Negotiates o wanted g reply new → IsOrderly new

@@ -19,18 +19,7 @@ pages_by two page = if two then is_between 16 23 page else is_between 0 3 page
 pub small_shape : (size : ℕ) → size ≤ 128 → HasSmallShape size
 small_shape size few =
     let one = takes_one size few in
-    record {
-      reserved = ap (λ (two : Bool). if two then 32 else 16) one;
-      rings = λ q.
-          ap (λ (two : Bool). if two then 16 + 2 * ring_number q else 0 + ring_number q) one
-          ∙ (let n = ring_number q in omega arith);
-      pages = λ page.
-          ap (λ (two : Bool). if two then is_between 16 23 page else is_between 0 3 page) one
-          ∙ first_pages page;
-      start = ap (λ (two : Bool).
-          filter (λ page. (if two then is_between 16 23 page else is_between 0 3 page)
-          || is_between 4 12 page) (range_with_len 0 (if two then 32 else 16))) one;
-    }
+    grind (arith, one)
   where
     first_pages : (page : ℕ) → is_between 0 3 page ≡ nat_lt page 4
     first_pages page = grind (arith, nat_tests)
