@@ -122,12 +122,7 @@ same_request a b e = cc
 
 finishes_same : (kind : Kind) (i : ℕ) (g : Guest) (r : Reply) (new : Guest) (r' : Reply)
     (new' : Guest) → Finishes kind i g r new → Finishes kind i g r' new' → Same r new r' new'
-finishes_same kind i g r new r' new' s t =
-    let same : s.0 ≡ t.0 = same_request s.0 t.0 (sym s.1 ∙ t.1) in (
-      s.2 ∙ (ap (λ (x : Request). Finished x.head) same ∙ sym t.2),
-      s.3
-          ∙ (ap (λ (x : Request). settled kind x.pages (used kind i x g)) same ∙ sym t.3),
-    )
+finishes_same kind i g r new r' new' s t = grind arith
 
 deflates_same : (count : ℕ) (g : Guest) (r : Reply) (new : Guest) (r' : Reply) (new' : Guest)
     → Deflates count g r new → Deflates count g r' new' → Same r new r' new'
@@ -195,21 +190,8 @@ performs_agree (Free cpu start order) g claims r new r' new' s t =
     both r r' _ new new' _ s.1.0 s.1.1 t.1.0 t.1.1
 performs_agree (Sweep page) g claims r new r' new' s t =
     both r r' _ new new' _ s.1.0 s.1.1 t.1.0 t.1.1
-performs_agree (Read page offset len) g claims r new r' new' s t = (
-  s.1.1 ∙ sym t.1.1,
-  reads_same (ReadBytes (take len (drop offset (contents_of g page)))) r r' s.1.0
-      t.1.0,
-)
-performs_agree (Alloc cpu order) g claims r new r' new' s t = (
-  λ e.
-      let told : Page s.1.0 ≡ Page t.1.0 = sym s.1.2 ∙ (e ∙ t.1.2) in
-      let start : s.1.0 ≡ t.1.0 = cc in
-      s.1.3 ∙ (ap (λ (x : ℕ). record g {
-        places = placed (pages_of (record { start = x; order = order })) Used g.places;
-        held = with_block (record { start = x; order = order }) g.held;
-      }) start ∙ sym t.1.3),
-  λ refusal e. absurd (let told : Page s.1.0 ≡ Refused refusal = sym s.1.2 ∙ e in cc),
-)
+performs_agree (Read page offset len) g claims r new r' new' s t = grind arith
+performs_agree (Alloc cpu order) g claims r new r' new' s t = grind arith
 performs_agree (Inflate n) g claims r new r' new' s t =
     let head : s.1.0 ≡ t.1.0 = least_same g.inflate s.1.0 t.1.0 s.1.2 t.1.2 in (
       s.1.6 ∙ (ap (λ (h : ℕ). Posted h (inflate_count g n)) head ∙ sym t.1.6),

@@ -119,22 +119,12 @@ finishes_ready Reporting_free i r g new is h e = stays_ready g new _ is h e refl
 
 negotiates_ready : (o : Option Refusal) (wanted : ℕ) (g : Guest) (reply : Reply) (new : Guest)
     → g.status ≡ 0 → IsAttentive g → Negotiates o wanted g reply new → IsAttentive new
-negotiates_ready None wanted g reply new is h s = subst IsAttentive (sym s.1) (record {
-  inflating = λ other. absurd (other refl);
-  deflating = λ other. absurd (other refl);
-  reporting = λ other. absurd (other refl);
-  buffered = either (stats_vq wanted);
-})
+negotiates_ready None wanted g reply new is h s = grind (arith, h)
   where
     either : (b : Bool) → has_buffer (if b then BufferPosted (figures g) else NoBuffer) ≡ b
     either true = refl
     either false = refl
-negotiates_ready (Some refusal) wanted g reply new is h s = subst IsAttentive (sym s.1) (record {
-  inflating = λ other. h.inflating (not_down g.status is);
-  deflating = λ other. h.deflating (not_down g.status is);
-  reporting = λ other. h.reporting (not_down g.status is);
-  buffered = h.buffered ∙ ap (λ (n : ℕ). (n == 15) && stats_vq g.features) is;
-})
+negotiates_ready (Some refusal) wanted g reply new is h s = grind (arith, h)
 
 -- ---- a call that isn't refused
 
@@ -143,13 +133,7 @@ performs_attentive : (call : Call) (g : Guest) (claims : List Claim) (reply : Re
     → new.rogue ≡ false → IsAttentive new
 performs_attentive (SetTarget n) g claims reply new o h e s honest =
     subst IsAttentive (sym s.1.1) h
-performs_attentive Reset g claims reply new o h e s honest =
-    subst IsAttentive (sym s.1.1) (record {
-      inflating = λ other. refl;
-      deflating = λ other. refl;
-      reporting = λ other. refl;
-      buffered = refl;
-    })
+performs_attentive Reset g claims reply new o h e s honest = grind (arith, h)
 performs_attentive (Read page offset len) g claims reply new o h e s honest =
     subst IsAttentive (sym s.1.1) h
 performs_attentive (Alloc cpu order) g claims reply new o h e s honest =
@@ -170,46 +154,18 @@ performs_attentive Stats g claims reply new o h e s honest =
     fills_ready g.buffer g reply new refl (up g o (not_refused (tests g Stats) e).0) h s.1
 performs_attentive Ask g claims reply new o h e s honest =
     asks_ready g.buffer g reply new refl (open_to g o (not_refused (tests g Ask) e).0) h s.1
-performs_attentive (Reap q) g claims reply new o h e s honest =
-    elim (match_cases (kind_of_queue q) ⊥ (λ kind. Reaps kind (requests kind g).done g reply new)
-    s.1) [
-      | inl n ↦ absurd n.1
-      | inr k ↦ reaps_ready k.0 (requests k.0 g).done g reply new (up g o (not_refused (tests g (Reap q)) e).1.0) h k.2
-    ]
+performs_attentive (Reap q) g claims reply new o h e s honest = grind (arith, h)
 performs_attentive (Take q) g claims reply new o h e s honest =
     elim (match_cases (kind_of_queue q) (TakesBuffer g.buffer g reply new)
     (λ kind. Takes kind (requests kind g).posted g reply new) s.1) [
       | inl n ↦ takes_buffer_ready g.buffer g reply new refl (open_to g o (not_refused (tests g (Take q)) e).1.0) h n.1
       | inr k ↦ takes_ready k.0 (requests k.0 g).posted g reply new (open_to g o (not_refused (tests g (Take q)) e).1.0) h k.2
     ]
-performs_attentive Work g claims reply new o h e s honest =
-    works_ready g reply new (open_to g o (not_refused (tests g Work) e).0) h
-    (works_cases (cond g.config.paced (next_page g.inflate.taken) None)
-    (cond g.config.paced (next_page g.report.taken) None) g reply new s.1)
-performs_attentive (Finish q i) g claims reply new o h e s honest =
-    elim (match_cases (kind_of_queue q) ⊥ (λ kind. Finishes kind i g reply new) s.1) [
-      | inl n ↦ absurd n.1
-      | inr k ↦ finishes_ready k.0 i k.2.0 g new (open_to g o (not_refused (tests g (Finish q i)) e).1.0) h k.2.3
-    ]
-performs_attentive (Init wanted) g claims reply new o h e s honest =
-    elim (supplying_cases (lacking g) g claims reply new
-    (λ m. Negotiates (feature_refusal wanted) wanted m reply new) s) [
-      | inr r ↦ subst IsAttentive (sym r.2) h
-      | inl m ↦ negotiates_ready (feature_refusal wanted) wanted (supplied (lacking g) claims g) reply
-          new (eqb-true g.status 0 (not-false _ (not_refused (tests g (Init wanted)) e).0)) h m
-    ]
-performs_attentive (Write page offset bytes) g claims reply new o h e s honest =
-    elim (supplying_cases (pages_needed page bytes g) g claims reply new
-    (λ m. Written page offset bytes m reply new) s) [
-      | inl m ↦ subst IsAttentive (sym m.1) h
-      | inr r ↦ subst IsAttentive (sym r.2) h
-    ]
-performs_attentive (Scribble page offset bytes) g claims reply new o h e s honest =
-    elim (supplying_cases (pages_needed page bytes g) g claims reply new
-    (λ m. Scribbled m reply new) s) [
-      | inl m ↦ (let rogue : new.rogue ≡ true = m.state.still in absurd cc)
-      | inr r ↦ subst IsAttentive (sym r.2) h
-    ]
+performs_attentive Work g claims reply new o h e s honest = grind (arith, h)
+performs_attentive (Finish q i) g claims reply new o h e s honest = grind (arith, h)
+performs_attentive (Init wanted) g claims reply new o h e s honest = grind (arith, h)
+performs_attentive (Write page offset bytes) g claims reply new o h e s honest = grind (arith, h)
+performs_attentive (Scribble page offset bytes) g claims reply new o h e s honest = grind (arith, h)
 
 pub honest_attentive : (g : Guest) (call : Call) (claims : List Claim) (reply : Reply) (new : Guest)
     → IsOrderly g → IsAttentive g → HonestStep g call claims reply new → new.rogue ≡ false

@@ -43,10 +43,7 @@ size_of g = g.config.pages
 -- frames, contents and size are those of another guest
 stays : (g new : Guest) → IsBlank g → size_of new ≡ size_of g → new.frames ≡ g.frames
     → new.contents ≡ g.contents → IsBlank new
-stays g new h n f c =
-    subst (λ (k : ℕ). AreBlank k new.frames new.contents) (sym n)
-    (subst (λ (fs : List (Option ℕ)). AreBlank g.config.pages fs new.contents) (sym f)
-    (subst (λ (cs : List (List ℕ)). AreBlank g.config.pages g.frames cs) (sym c) h))
+stays g new h n f c = grind (arith, h)
 
 pub length-zero_page : length zero_page ≡ page_size
 unfolding zero_page
@@ -214,11 +211,7 @@ written_backed p (b ∷ bytes) g claims h a r page none same l =
     step true e (Gave f ∷ cs) a r none = absurd (let w = was_bare p f g.frames page long none in cc)
     step true e (GaveNoFrame ∷ cs) a r none = absurd cc
     step true e (GaveNoMemory ∷ cs) a r none = absurd cc
-    step false e cs a r none =
-        let at : page ≡ p = eqb-true page p same in
-        let bare : is_none (frame_of g.frames p) ≡ true =
-        ap (λ (o : Option ℕ). is_none o) (sym (ap (frame_of g.frames) at) ∙ none) in
-        absurd cc
+    step false e cs a r none = grind arith
 
 -- ---- a call that isn't refused
 
@@ -295,10 +288,7 @@ negotiates_blank (Some refusal) wanted g reply new h s = subst IsBlank (sym s.1)
 -- a write that isn't refused lies in its page
 in_page : (g : Guest) (page offset : ℕ) (bytes : List ℕ)
     → refusal_of g (Write page offset bytes) ≡ None → offset + length bytes ≤ page_size
-in_page g page offset bytes e =
-    let n = not_refused (tests g (Write page offset bytes)) e in
-    ltb-false page_size (offset + length bytes)
-    (second (nat_le g.config.pages page) (nat_lt page_size (offset + length bytes)) n.1.0)
+in_page g page offset bytes e = grind arith
   where
     second : (a b : Bool) → (a || b) ≡ false → b ≡ false
     second true b h = absurd cc
@@ -320,12 +310,7 @@ performs_blank (Oom n) g claims reply new h r s honest = subst IsBlank (sym s.1.
 performs_blank (Report from) g claims reply new h r s honest = subst IsBlank (sym s.1.3) h
 performs_blank Stats g claims reply new h r s honest = fills_blank g.buffer g reply new h s.1
 performs_blank Ask g claims reply new h r s honest = asks_blank g.buffer g reply new h s.1
-performs_blank (Reap q) g claims reply new h r s honest =
-    elim (match_cases (kind_of_queue q) ⊥ (λ kind. Reaps kind (requests kind g).done g reply new)
-    s.1) [
-      | inl n ↦ absurd n.1
-      | inr k ↦ reaps_blank k.0 (requests k.0 g).done g reply new h k.2
-    ]
+performs_blank (Reap q) g claims reply new h r s honest = grind (arith, h)
 performs_blank (Take q) g claims reply new h r s honest =
     elim (match_cases (kind_of_queue q) (TakesBuffer g.buffer g reply new)
     (λ kind. Takes kind (requests kind g).posted g reply new) s.1) [
@@ -359,12 +344,7 @@ performs_blank (Write page offset bytes) g claims reply new h r s honest =
           (gains (pages_needed page bytes g) (given claims) g h) (in_page g page offset bytes r)
           (λ p none same l. written_backed page bytes g claims h s.0 m.0 p none same l))
     ]
-performs_blank (Scribble page offset bytes) g claims reply new h r s honest =
-    elim (supplying_cases (pages_needed page bytes g) g claims reply new
-    (λ supplied. Scribbled supplied reply new) s) [
-      | inl m ↦ let rogue : new.rogue ≡ true = m.state.still in absurd cc
-      | inr r ↦ subst IsBlank (sym r.2) h
-    ]
+performs_blank (Scribble page offset bytes) g claims reply new h r s honest = grind (arith, h)
 
 pub honest_blank : (g : Guest) (call : Call) (claims : List Claim) (reply : Reply) (new : Guest)
     → IsBlank g → HonestStep g call claims reply new → new.rogue ≡ false → IsBlank new

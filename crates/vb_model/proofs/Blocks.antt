@@ -89,10 +89,7 @@ record IsRound (test : ℕ → Bool) (page : ℕ) (b : Block) : Type 0 where
 
 is_round : (test : ℕ → Bool) (page : ℕ) (b : Block) → holds test page b ≡ true
     → IsRound test page b
-is_round test page b h =
-    let parts = and_parts (is_maximal test b) (covers page b) h in
-    let most = and_parts (is_whole test b) _ parts.0 in
-    grind (arith, parts, most, h)
+is_round test page b h = grind (arith, h, h)
 
 pub any_in_range : (test : ℕ → Bool) (k first count : ℕ) → first ≤ k → k < first + count → test k ≡ true
     → list_any test (range_with_len first count) ≡ true
@@ -316,10 +313,7 @@ passes-some test first (suc count) h = step (test first) refl (passes-some test 
         → (k : ℕ) × (k < first + 1 + count) × (test k ≡ true))
         → (k : ℕ) × (k < first + suc count) × (test k ≡ true)
     step true e ih = (first, omega arith, e)
-    step false e ih =
-        let z : one_if (test first) ≡ 0 = ap one_if e in
-        let k = ih (omega (arith, count_by-cons test first (range_with_len (first + 1) count))) in
-        (k.0, (let l : k.0 < first + 1 + count = k.1 in omega arith), k.2)
+    step false e ih = grind (arith, count_by-cons test first (range_with_len (first + 1) count))
 
 count-map : {A B : Type 0} (test : B → Bool) (f : A → B) (xs : List A)
     → count_by test (map f xs) ≡ count_by (λ x. test (f x)) xs
@@ -367,11 +361,7 @@ flat-one test f first (suc count) each one =
         )
       where
         zero_from : (k : ℕ) → first + 1 ≤ k → count_by test (f k) ≡ 0
-        zero_from k a =
-            elim (cases_lt 0 (count_by test (f k))) [
-              | inl p ↦ (let same : first ≡ k = one first k o p in absurd (omega arith))
-              | inr z ↦ omega arith
-            ]
+        zero_from k a = grind arith
 
 one_block : (test : ℕ → Bool) (page : ℕ) (s t j k : ℕ) → j ≤ max_order → k ≤ max_order
     → holds test page (record { start = s; order = j }) ≡ true
@@ -447,12 +437,4 @@ whole_agree f g b same = ap (λ (v : Bool). is_aligned b && v) (all_agree f g (p
 -- the maximal blocks of two tests that agree
 pub maximal_agree : (n : ℕ) (f g : ℕ → Bool) → ((page : ℕ) → f page ≡ g page)
     → maximal_blocks n f ≡ maximal_blocks n g
-maximal_agree n f g same =
-    filter_agree (is_maximal f) (is_maximal g) (λ b.
-    ap (λ (v : Bool). v && not (list_any (λ order. is_whole f (around b.start order))
-    (range_with_len (suc b.order) (max_order - b.order)))) (whole_agree f g b same)
-    ∙ ap (λ (v : Bool). is_whole g b && not v)
-    (any_agree (λ order. is_whole f (around b.start order))
-    (λ order. is_whole g (around b.start order))
-    (range_with_len (suc b.order) (max_order - b.order))
-    (λ order. whole_agree f g (around b.start order) same))) (blocks_below n)
+maximal_agree n f g same = grind arith

@@ -47,20 +47,7 @@ still_honest g call claims reply new honest none s = cases (step_keeps g call cl
     scribble : (page offset : ℕ) (bytes : List ℕ)
         → HonestStep g (Scribble page offset bytes) claims reply new
         → is_scribbled (Scribble page offset bytes) reply ≡ false → new.rogue ≡ false
-    scribble page offset bytes s none =
-        elim (match_cases (refusal_of g (Scribble page offset bytes))
-        (Performs (Scribble page offset bytes) g claims reply new)
-        (λ refusal. (claims ≡ []) × (reply ≡ Refused refusal) × (new ≡ g)) s) [
-          | inr r ↦ ap (λ (x : Guest). x.rogue) r.2.2 ∙ honest
-          | inl p ↦
-              elim (supplying_cases (pages_needed page bytes g) g claims reply new
-              (λ m. Scribbled m reply new) p.1) [
-                | inr r ↦ ap (λ (x : Guest). x.rogue) r.2 ∙ honest
-                | inl m ↦ absurd (let wrong : true ≡ false =
-                    sym (ap (λ (r : Reply). is_scribbled (Scribble page offset bytes) r) m.answered)
-                    ∙ none in cc)
-              ]
-        ]
+    scribble page offset bytes s none = grind arith
 
     cases : (new.rogue ≡ g.rogue) ⊎ (MayBeRogue g call × IsRogueAfter g new) → new.rogue ≡ false
     cases (inl same) = same ∙ honest

@@ -208,11 +208,7 @@ left f y (x ∷ xs) e = step (x == f) (x == y) refl refl (λ k. left f y xs k) e
     step true true p q later k = inl (sym (eqb-true x y q) ∙ eqb-true x f p)
     step true false p q later k = later k
     step false true p q later k = inr (ap (λ (b : Bool). b || is_in y (without f xs)) q)
-    step false false p q later k =
-        elim (later k) [
-          | inl e ↦ inl e
-          | inr m ↦ inr (ap (λ (b : Bool). b || is_in y (without f xs)) q ∙ m)
-        ]
+    step false false p q later k = grind arith
 
 -- all claims were given frames, none of which was out: so they are no more than those that weren't
 all_given : (frames : ℕ) (Out : ℕ → Type 0) (pages : List ℕ) (claims : List Claim) (got : List ℕ)

@@ -14,10 +14,7 @@ use Rattle.vb_model.proofs.Runs.{Positions, positions, guest_there}
 still_honest : (h : History) → Positions h → (n i k : ℕ) (g new : Guest) → IsThere h n i k
     → MakesNoScribble h n i k → IsHonest h n i g → guest_in h n (i + k) ≡ Some new
     → IsFalse new.rogue
-still_honest h p n i zero g new there none honest last =
-    let at : guest_in h n i ≡ Some new =
-    subst (λ (m : ℕ). guest_in h n m ≡ Some new) (let e : i + 0 ≡ i = omega arith in e) last in
-    ap (λ (x : Guest). x.rogue) (same_some new g (sym at ∙ honest.0)) ∙ honest.1
+still_honest h p n i zero g new there none honest last = grind (arith, h)
 still_honest h p n i (suc k) g new there none honest last =
     let (old, here) = there k (omega arith) in
     let was = still_honest h p n i k g old (λ j le. there j (omega (arith, le)))

@@ -385,30 +385,8 @@ accepted wanted e =
 
 negotiates_order : (o : Option Refusal) (wanted : ℕ) (g : Guest) (reply : Reply) (new : Guest)
     → feature_refusal wanted ≡ o → IsOrderly g → Negotiates o wanted g reply new → IsOrderly new
-negotiates_order None wanted g reply new e h s =
-    subst IsOrderly (sym s.1)
-    (record {
-      inflating = h.inflating;
-      deflating = h.deflating;
-      reporting = h.reporting;
-      state = inr (inl refl);
-      tabled = h.tabled;
-      unreserved = h.unreserved;
-      blocks = h.blocks;
-      agreed = λ ready. accepted wanted e;
-    })
-negotiates_order (Some refusal) wanted g reply new e h s =
-    subst IsOrderly (sym s.1)
-    (record {
-      inflating = h.inflating;
-      deflating = h.deflating;
-      reporting = h.reporting;
-      state = inr (inr refl);
-      tabled = h.tabled;
-      unreserved = h.unreserved;
-      blocks = h.blocks;
-      agreed = λ ready. absurd (let wrong : 131 ≡ 15 = ready in omega arith);
-    })
+negotiates_order None wanted g reply new e h s = grind (arith, h)
+negotiates_order (Some refusal) wanted g reply new e h s = grind (arith, h)
 
 -- ---- a call that isn't refused
 
@@ -530,18 +508,8 @@ performs_order (Init wanted) g claims reply new c h e s honest =
       | inl m ↦ negotiates_order (feature_refusal wanted) wanted (supplied (lacking g) claims g)
           reply new refl h m
     ]
-performs_order (Write page offset bytes) g claims reply new c h e s honest =
-    elim (supplying_cases (pages_needed page bytes g) g claims reply new
-    (λ supplied. Written page offset bytes supplied reply new) s) [
-      | inl m ↦ subst IsOrderly (sym m.1) h
-      | inr r ↦ subst IsOrderly (sym r.2) h
-    ]
-performs_order (Scribble page offset bytes) g claims reply new c h e s honest =
-    elim (supplying_cases (pages_needed page bytes g) g claims reply new
-    (λ supplied. Scribbled supplied reply new) s) [
-      | inl m ↦ let rogue : new.rogue ≡ true = m.state.still in absurd cc
-      | inr r ↦ subst IsOrderly (sym r.2) h
-    ]
+performs_order (Write page offset bytes) g claims reply new c h e s honest = grind (arith, h)
+performs_order (Scribble page offset bytes) g claims reply new c h e s honest = grind (arith, h)
 
 pub honest_order : (g : Guest) (call : Call) (claims : List Claim) (reply : Reply) (new : Guest)
     → IsConsistent g → IsOrderly g → HonestStep g call claims reply new → new.rogue ≡ false

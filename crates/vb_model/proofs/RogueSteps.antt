@@ -44,22 +44,7 @@ honest_unreserved g c o page l = at_reserved place
         ]
 
     at_reserved : place_of g.places page ≡ Reserved → is_ballooned g.ballooned page ≡ false
-    at_reserved e =
-        let p = c.pages page in
-        let lent : one_if (is_lent (place_of g.places page)) ≡ 0 =
-        ap (λ (x : Place). one_if (is_lent x)) e in
-        let giving : one_if (is_giving (place_of g.places page)) ≡ 0 =
-        ap (λ (x : Place). one_if (is_giving x)) e in
-        let reserved : one_if (is_reserved (place_of g.places page)) ≡ 1 =
-        ap (λ (x : Place). one_if (is_reserved x)) e in
-        flag_off _ (omega (
-          arith,
-          p.ballooning,
-          p.inflating,
-          p.deflating,
-          naming-all page g.inflate,
-          naming-all page g.deflate,
-        ))
+    at_reserved e = grind (arith, naming-all page g.inflate, naming-all page g.deflate)
 
 -- of the rogue guests
 abbrev pub AllUnreserved : World → Type 0
@@ -79,11 +64,7 @@ change_unreserved w event reply m new h (Stepped old call claims on at gives ste
         → MatchBool b (RogueStep old call claims reply new) (HonestStep old call claims reply new)
         → HasNoReservedBallooned new
     cases true e r = r.stays.unreserved
-    cases false e p =
-        elim (step_keeps old call claims reply new step).rogue [
-          | inl same ↦ absurd (let f : new.rogue ≡ false = same ∙ e in cc)
-          | inr r ↦ r.1.unreserved
-        ]
+    cases false e p = grind arith
 change_unreserved w event reply m new h (Restarted old on at e) rogue =
     absurd (let f : new.rogue ≡ false = ap (λ (g : Guest). g.rogue) e in cc)
 change_unreserved w event reply m new h (New config none e) rogue =

@@ -55,14 +55,7 @@ start_of_buffer size page low high = step (is_ring_page size page)
     step false = grind (arith, nat_tests)
 
 pub start_reserved : (size page : ℕ) → is_start_page size page ≡ true → page < reserved_pages size
-start_reserved size page h =
-    elim (or_cases (is_ring_page size page) (is_between 4 12 page) h) [
-      | inl ring ↦ ring_reserved size page ring
-      | inr buffer ↦ (
-          let least : 16 ≤ reserved_pages size = reserved_least size in
-          let most : page ≤ 12 = grind (arith, nat_tests) in
-          omega arith)
-    ]
+start_reserved size page h = grind (arith, nat_tests, h)
 
 -- ---- the pages of one ring
 

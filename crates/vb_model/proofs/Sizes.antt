@@ -41,24 +41,11 @@ large_power n (suc (suc zero)) e h = absurd (omega (arith, e))
 large_power n (suc (suc (suc zero))) e h = absurd (omega (arith, e))
 large_power n (suc (suc (suc (suc zero)))) e h = absurd (omega (arith, e))
 large_power n (suc (suc (suc (suc (suc zero))))) e h = absurd (omega (arith, e))
-large_power n (suc (suc (suc (suc (suc (suc j)))))) e h =
-    let k : suc (suc (suc (suc (suc (suc j))))) ≡ 6 + j = omega arith in
-    let same : n ≡ 64 * 2 ^ j = sym e ∙ ap (λ (m : ℕ). 2 ^ m) k ∙ pow-add 2 6 j in
-    omega (arith, same)
+large_power n (suc (suc (suc (suc (suc (suc j)))))) e h = grind (arith, h)
 
 pages_agree : (n : ℕ) → is_power_of_two n ≡ true → n ≤ 16384
     → (is_between 64 65536 n && (n % 16 == 0)) ≡ (is_between 64 16384 n && is_power_of_two n)
-pages_agree n power few =
-    elim (cases_lt n 64) [
-      | inl low ↦ both false (small low) (small_too low)
-      | inr high ↦
-          let found = power_in n (range_with_len 0 32) power in
-          let step : (n % 16 == 0) ≡ true = eq-eqb _ _ (large_power n found.0 found.1 high) in
-          let wide : is_between 64 65536 n ≡ true = grind (arith, nat_tests) in
-          let near : is_between 64 16384 n ≡ true = grind (arith, nat_tests) in
-          ap (λ (b : Bool). b && (n % 16 == 0)) wide ∙ step
-          ∙ sym (ap (λ (b : Bool). b && is_power_of_two n) near ∙ power)
-    ]
+pages_agree n power few = grind (arith, nat_tests)
   where
     small : n < 64 → is_between 64 65536 n ≡ false
     small low = grind (arith, nat_tests)
@@ -73,17 +60,7 @@ pages_agree n power few =
         ∙ sym (ap (λ (x : Bool). x && is_power_of_two n) b)
 
 queues_agree : (n : ℕ) → n ≤ 128 → is_between 2 256 n ≡ is_between 2 128 n
-queues_agree n few =
-    elim (cases_lt n 2) [
-      | inl low ↦
-          let a : is_between 2 256 n ≡ false = grind (arith, nat_tests) in
-          let b : is_between 2 128 n ≡ false = grind (arith, nat_tests) in
-          a ∙ sym b
-      | inr high ↦
-          let a : is_between 2 256 n ≡ true = grind (arith, nat_tests) in
-          let b : is_between 2 128 n ≡ true = grind (arith, nat_tests) in
-          a ∙ sym b
-    ]
+queues_agree n few = grind (arith, nat_tests)
 
 pub small_configs : SmallConfigsAreConfigs
 small_configs pages queue_size processors power few short =

@@ -148,15 +148,8 @@ either_way {A} {B} e = (λ a. subst (λ (X : Type 0). X) e a, λ b. subst (λ (X
 
 same_tests : (g : Guest) (call : Call) → tells_host g ≡ true
     → first_refusal (tests g call) ≡ first_refusal (told_tests g call)
-same_tests g (Inflate n) told =
-    ap (λ (b : Bool). first_refusal ((not (is_up g.status) ⇒ NotReady)
-    ∷ (nat_le (room g) (outstanding g.inflate) ⇒ QueueFull)
-    ∷ ((not b && nat_lt 0 (outstanding g.deflate)) ⇒ DeflatePending)
-    ∷ ((inflate_count g n == 0) ⇒ Nothing) ∷ [])) told
-same_tests g (Sweep page) told =
-    ap (λ (b : Bool). first_refusal ((is_not_ready g.status ⇒ NotReady)
-    ∷ (has_fault g.status ⇒ NeedsReset) ∷ (not b ⇒ NoFeature)
-    ∷ (not (is_ballooned g.ballooned page) ⇒ NotBallooned) ∷ [])) told
+same_tests g (Inflate n) told = grind arith
+same_tests g (Sweep page) told = grind arith
 same_tests g (Init wanted) told = refl
 same_tests g Reset told = refl
 same_tests g (Alloc cpu order) told = refl
@@ -182,18 +175,11 @@ same_asking : (g : Guest) (head : ℕ) (pages : List ℕ) → tells_host g ≡ t
       deflate = posting head pages g.deflate;
       places = placed pages Taking g.places;
     }
-same_asking g head pages told =
-    ap (λ (b : Bool). record g {
-      deflate = posting head pages g.deflate;
-      places = placed pages (place_posted b Deflating) g.places;
-    }) told
+same_asking g head pages told = grind arith
 
 takes_ways : (g : Guest) (count : ℕ) (reply : Reply) (new : Guest) → tells_host g ≡ true
     → Deflates count g reply new ↔ CallsBack count g reply new
-takes_ways g count reply new told = (
-  λ d. (d.0, d.1, d.2, d.3 ∙ same_asking g d.0 (lowest_lent count g) told),
-  λ t. (t.0, t.1, t.2, t.3 ∙ sym (same_asking g t.0 (lowest_lent count g) told)),
-)
+takes_ways g count reply new told = grind arith
 
 -- a used request
 same_reaped : (kind : Kind) (r : Request) (rest : List Request) (g : Guest) → IsConsistent g

@@ -126,13 +126,7 @@ claims_needed g call claims reply new s = cases g.rogue s
     cases : (b : Bool) → MatchBool b (RogueStep g call claims reply new)
         (HonestStep g call claims reply new) → AreClaimsFor (pages_to_back call g) claims
     cases true r = r.claimed
-    cases false p =
-        elim (match_cases (refusal_of g call) (Performs call g claims reply new)
-        (λ refusal. (claims ≡ []) × (reply ≡ Refused refusal) × (new ≡ g)) p) [
-          | inl d ↦ performs_claims call g claims reply new d.0 d.1
-          | inr r ↦ subst (λ (pages : List ℕ). AreClaimsFor pages claims)
-              (sym (refused_backs call g r.0 r.1)) (none_made claims r.2.0)
-        ]
+    cases false p = grind arith
 
 -- ---- a claim that is refused is the answer
 
@@ -143,12 +137,7 @@ none_refused claims refusal e r = let none : claim_refusal claims ≡ None = ap 
 supplies_refused : (pages : List ℕ) (g : Guest) (claims : List Claim) (reply : Reply) (new : Guest)
     (Rest : Guest → Type 0) (refusal : Refusal) → Supplying pages g claims reply new Rest
     → claim_refusal claims ≡ Some refusal → (reply ≡ Refused refusal) × (new.frames ≡ g.frames)
-supplies_refused pages g claims reply new Rest refusal s r =
-    elim (match_cases (claim_refusal claims) (Rest (supplied pages claims g))
-    (λ refusal. (reply ≡ Refused refusal) × (new ≡ g)) s.1) [
-      | inl m ↦ absurd (let none : claim_refusal claims ≡ None = m.0 in cc)
-      | inr k ↦ answered k.0 (let same : k.0 ≡ refusal = cc in same) k.2
-    ]
+supplies_refused pages g claims reply new Rest refusal s r = grind arith
   where
     answered : (x : Refusal) → x ≡ refusal → (reply ≡ Refused x) × (new ≡ g)
         → (reply ≡ Refused refusal) × (new.frames ≡ g.frames)
@@ -203,13 +192,7 @@ refused_claims g call claims reply new refusal s r = cases g.rogue s
 
     cases : (b : Bool) → MatchBool b (RogueStep g call claims reply new)
         (HonestStep g call claims reply new) → (reply ≡ Refused refusal) × (new.frames ≡ g.frames)
-    cases true k =
-        elim (match_cases (claim_refusal claims)
-        (LosesFrames (all_backed (pages_to_back call g) (given claims) g.frames) new.frames)
-        (λ refusal. (reply ≡ Refused refusal) × (new.frames ≡ g.frames)) k.frames) [
-          | inl m ↦ absurd (let none : claim_refusal claims ≡ None = m.0 in cc)
-          | inr m ↦ answered m.0 (let same : m.0 ≡ refusal = cc in same) m.2
-        ]
+    cases true k = grind arith
     cases false p =
         elim (match_cases (refusal_of g call) (Performs call g claims reply new)
         (λ refusal. (claims ≡ []) × (reply ≡ Refused refusal) × (new ≡ g)) p) [
@@ -238,12 +221,7 @@ needed_bare p page (b ∷ bytes) g k = step (is_none (frame_of g.frames p)) refl
     step : (v : Bool) → is_none (frame_of g.frames p) ≡ v → is_in page (cond v (p ∷ []) []) ≡ true
         → frame_of g.frames page ≡ None
     step false e h = absurd cc
-    step true e h =
-        elim (or_cases (p == page) false h) [
-          | inl t ↦ ap (frame_of g.frames) (sym (eqb-true p page t))
-              ∙ bare_page (frame_of g.frames p) e
-          | inr f ↦ absurd cc
-        ]
+    step true e h = grind (arith, h)
 
 unrefused_page : (o : Option Refusal) (pages : List ℕ) (page : ℕ)
     → is_in page (unless_refused o pages) ≡ true → is_in page pages ≡ true
@@ -406,16 +384,7 @@ supplies_lack : (pages : List ℕ) (g : Guest) (claims : List Claim) (reply : Re
     (why : Refusal) (Rest : Guest → Type 0) → Supplying pages g claims reply new Rest
     → ((m : Guest) → Rest m → wants reply ≡ false) → is_want why ≡ true → reply ≡ Refused why
     → Lacks why g claims new
-supplies_lack pages g claims reply new why Rest s rest w e =
-    elim (match_cases (claim_refusal claims) (Rest (supplied pages claims g))
-    (λ refusal. (reply ≡ Refused refusal) × (new ≡ g)) s.1) [
-      | inl m ↦ absurd (let a : wants reply ≡ false = rest _ m.1 in
-          let b : wants reply ≡ true = ap wants e ∙ w in cc)
-      | inr r ↦
-          let told : Refused r.0 ≡ Refused why = sym r.2.0 ∙ e in
-          let same : r.0 ≡ why = cc in
-          (r.1 ∙ ap (λ (x : Refusal). some_refusal x) same, r.2.1)
-    ]
+supplies_lack pages g claims reply new why Rest s rest w e = grind arith
   where
     some_refusal : Refusal → Option Refusal
     some_refusal x = Some x
@@ -433,10 +402,7 @@ reads_none page offset len g claims new why e same =
 performs_lack : (call : Call) (g : Guest) (claims : List Claim) (reply : Reply) (new : Guest)
     (why : Refusal) → Performs call g claims reply new → is_want why ≡ true
     → reply ≡ Refused why → Fails why call g claims new
-performs_lack (Init wanted) g claims reply new why s w e =
-    inl (supplies_lack (lacking g) g claims reply new why
-    (λ m. Negotiates (feature_refusal wanted) wanted m reply new) s
-    (λ m r. negotiates_otherwise wanted (feature_refusal wanted) m reply new refl r) w e)
+performs_lack (Init wanted) g claims reply new why s w e = grind arith
 performs_lack (Write page offset bytes) g claims reply new why s w e =
     inl (supplies_lack (pages_needed page bytes g) g claims reply new why
     (λ m. Written page offset bytes m reply new) s (λ m r. ap wants r.0) w e)
@@ -445,11 +411,7 @@ performs_lack (Scribble page offset bytes) g claims reply new why s w e =
     (λ m. Scribbled m reply new) s (λ m r. ap wants r.answered) w e)
 performs_lack (SetTarget n) g claims reply new why s w e = no_want reply why (ap wants s.1.0) w e
 performs_lack Reset g claims reply new why s w e = no_want reply why (ap wants s.1.0) w e
-performs_lack (Read page offset len) g claims reply new why s w e =
-    elim s.1.0 [
-      | inl k ↦ no_want reply why (ap wants k) w e
-      | inr k ↦ reads_none page offset len g claims new why (sym k ∙ e) s.1.1
-    ]
+performs_lack (Read page offset len) g claims reply new why s w e = grind arith
 performs_lack (Sweep page) g claims reply new why s w e =
     no_want reply why (ap wants s.1.0) w e
 performs_lack (Alloc cpu order) g claims reply new why s w e =
@@ -465,30 +427,10 @@ performs_lack Stats g claims reply new why s w e =
     no_want reply why (fills_otherwise g.buffer g reply new s.1) w e
 performs_lack Ask g claims reply new why s w e =
     no_want reply why (asks_otherwise g.buffer g reply new s.1) w e
-performs_lack (Reap q) g claims reply new why s w e =
-    elim (match_cases (kind_of_queue q) ⊥ (λ kind. Reaps kind (requests kind g).done g reply new)
-    s.1) [
-      | inl n ↦ absurd n.1
-      | inr k ↦ no_want reply why (reaps_otherwise k.0 (requests k.0 g).done g reply new k.2) w e
-    ]
-performs_lack (Take q) g claims reply new why s w e =
-    elim (match_cases (kind_of_queue q) (TakesBuffer g.buffer g reply new)
-    (λ kind. Takes kind (requests kind g).posted g reply new) s.1) [
-      | inl n ↦ no_want reply why (takes_buffer_otherwise g.buffer g reply new n.1) w e
-      | inr k ↦ no_want reply why
-          (takes_otherwise k.0 (requests k.0 g).posted g reply new k.2) w e
-    ]
-performs_lack Work g claims reply new why s w e =
-    elim (works_cases (cond g.config.paced (next_page g.inflate.taken) None)
-    (cond g.config.paced (next_page g.report.taken) None) g reply new s.1) [
-      | inl i ↦ no_want reply why (ap wants i.0) w e
-      | inr v ↦ no_want reply why (ap wants v.2.0) w e
-    ]
-performs_lack (Finish q i) g claims reply new why s w e =
-    elim (match_cases (kind_of_queue q) ⊥ (λ kind. Finishes kind i g reply new) s.1) [
-      | inl n ↦ absurd n.1
-      | inr k ↦ no_want reply why (ap wants k.2.2) w e
-    ]
+performs_lack (Reap q) g claims reply new why s w e = grind arith
+performs_lack (Take q) g claims reply new why s w e = grind arith
+performs_lack Work g claims reply new why s w e = grind arith
+performs_lack (Finish q i) g claims reply new why s w e = grind arith
 
 -- the call's claims ended without a frame
 step_lacks : (g : Guest) (call : Call) (claims : List Claim) (new : Guest)
