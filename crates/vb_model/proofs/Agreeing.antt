@@ -1,6 +1,6 @@
 -- Two steps of an honest guest by one call, with the same claims, agree.
-use Rattle.std.proofs.Common.{◌≡◌, ℕ, ◌<◌, List, [], ◌∷◌, ◌++◌, length, take, drop, sym, ap, ◌∙◌}
-use Rattle.std.proofs.Common.{◌⊎◌, inl, inr, arith}
+use Rattle.std.proofs.Common.{◌≡◌, ℕ, ◌<◌, List, [], ◌∷◌, ◌++◌, length, sym, ap, ◌∙◌}
+use Rattle.std.proofs.Common.{inl, inr, arith}
 use Rattle.std.specs.Prelude.{Option, Some, None, MatchOption, if◌then◌else◌}
 use Rattle.std.proofs.lemmas.Bool.{cases_lt}
 use Rattle.vb_model.specs.declared.calls.Call.{Call}
@@ -8,13 +8,11 @@ use Rattle.vb_model.specs.declared.calls.Call.TheVariants.{Init, Reset, Alloc, F
 use Rattle.vb_model.specs.declared.calls.Call.TheVariants.{Scribble, Inflate, Deflate, Oom, Report}
 use Rattle.vb_model.specs.declared.calls.Call.TheVariants.{Stats, Reap, Take, Work, Finish, Sweep}
 use Rattle.vb_model.specs.declared.calls.Call.TheVariants.{Ask, SetTarget}
-use Rattle.vb_model.specs.declared.places.Place.TheVariants.{Used}
 use Rattle.vb_model.specs.declared.replies.Refusal.{Refusal}
-use Rattle.vb_model.specs.declared.replies.Refusal.TheVariants.{NoMemory}
 use Rattle.vb_model.specs.declared.replies.Reply.{Reply}
-use Rattle.vb_model.specs.declared.replies.Reply.TheVariants.{Done, Page, ReadBytes, Posted}
-use Rattle.vb_model.specs.declared.replies.Reply.TheVariants.{Finished, Refused}
-use Rattle.vb_model.specs.Pages.{pages_of, pages_of_all, placed}
+use Rattle.vb_model.specs.declared.replies.Reply.TheVariants.{Done, Posted}
+use Rattle.vb_model.specs.declared.replies.Reply.TheVariants.{Refused}
+use Rattle.vb_model.specs.Pages.{pages_of_all}
 use Rattle.vb_model.specs.Requests.{Request, Requests, all_requests, headed, IsLeastHead, Kind}
 use Rattle.vb_model.specs.Requests.{Inflating, Deflating, Reporting_free, kind_of_queue, Buffer}
 use Rattle.vb_model.specs.Requests.{NoBuffer, BufferPosted, BufferTaken, BufferDone}
@@ -22,11 +20,10 @@ use Rattle.vb_model.specs.Guest.{Guest, requests}
 use Rattle.vb_model.specs.Refusals.{refusal_of, inflate_count, reported_blocks, deflate_count}
 use Rattle.vb_model.specs.Refusals.{oom_count}
 use Rattle.vb_model.specs.declared.calls.Claim.{Claim}
-use Rattle.vb_model.specs.Driver.{claim_refusal, contents_of, lowest_lent, Supplying, with_block}
+use Rattle.vb_model.specs.Driver.{claim_refusal, lowest_lent, Supplying}
 use Rattle.vb_model.specs.Driver.{asking, stranded_first, Deflates, Reports, Reaps, Fills, Written}
 use Rattle.vb_model.specs.Driver.{pages_needed}
-use Rattle.vb_model.specs.Device.{Takes, TakesBuffer, Works, Finishes, Asks, next_page, settled}
-use Rattle.vb_model.specs.Device.{used}
+use Rattle.vb_model.specs.Device.{Takes, TakesBuffer, Works, Finishes, Asks, next_page}
 use Rattle.vb_model.specs.Life.{feature_refusal, Negotiates, lacking}
 use Rattle.vb_model.specs.Rogue.{Scribbled}
 use Rattle.vb_model.specs.Step.{Performs, HonestStep}
@@ -159,13 +156,6 @@ negotiates_same : (o : Option Refusal) (wanted : ℕ) (g : Guest) (r : Reply) (n
     → Same r new r' new'
 negotiates_same None wanted g r new r' new' s t = both r r' _ new new' _ s.0 s.1 t.0 t.1
 negotiates_same (Some refusal) wanted g r new r' new' s t = both r r' _ new new' _ s.0 s.1 t.0 t.1
-
-reads_same : (bytes r r' : Reply) → (r ≡ bytes) ⊎ (r ≡ Refused NoMemory)
-    → (r' ≡ bytes) ⊎ (r' ≡ Refused NoMemory)
-    → (r ≡ r') ⊎ ((r ≡ Refused NoMemory) ⊎ (r' ≡ Refused NoMemory))
-reads_same bytes r r' (inl a) (inl b) = inl (a ∙ sym b)
-reads_same bytes r r' (inr a) b = inr (inl a)
-reads_same bytes r r' (inl a) (inr b) = inr (inr b)
 
 -- the claims are the same, so both are given or both are refused
 supplies_same : (pages : List ℕ) (g : Guest) (claims : List Claim) (r : Reply) (new : Guest)

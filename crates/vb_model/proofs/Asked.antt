@@ -7,12 +7,10 @@ use Rattle.vb_model.specs.declared.places.Place.TheVariants.{Free as FreePlace, 
 use Rattle.vb_model.specs.declared.places.Place.TheVariants.{Taking, Stranded}
 use Rattle.vb_model.specs.declared.calls.Actor.{Actor}
 use Rattle.vb_model.specs.declared.calls.Call.{Call}
-use Rattle.vb_model.specs.declared.calls.Call.TheVariants.{Reap}
 use Rattle.vb_model.specs.declared.calls.Claim.{Claim}
 use Rattle.vb_model.specs.declared.replies.Reply.{Reply}
 use Rattle.vb_model.specs.Pages.{place_of}
 use Rattle.vb_model.specs.Requests.{Kind, Inflating, Deflating, place_posted}
-use Rattle.vb_model.specs.Requests.{queue_of}
 use Rattle.vb_model.specs.Guest.{Guest, tells_host}
 use Rattle.vb_model.specs.GuestRun.{Entry, Called, Looked, OwnStep}
 use Rattle.vb_model.specs.Courses.{Course, guest_after, BringsTo, ReapedAt}

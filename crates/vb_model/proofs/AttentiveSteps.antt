@@ -1,32 +1,27 @@
 -- Nothing is outstanding of a guest that isn't ready.
-use Rattle.std.proofs.Common.{◌≡◌, ◌≢◌, ℕ, Bool, true, false, cond, List, [], ◌∷◌, refl, sym, ap}
+use Rattle.std.proofs.Common.{◌≡◌, ◌≢◌, ℕ, Bool, true, false, List, [], ◌∷◌, refl, sym, ap}
 use Rattle.std.proofs.Common.{subst, ◌∙◌, ◌⊎◌, inl, inr, arith}
-use Rattle.std.specs.Prelude.{◌==◌, ◌&&◌, not, Option, Some, None, if◌then◌else◌}
-use Rattle.std.proofs.lemmas.Bool.{not-false, eqb-true}
+use Rattle.std.specs.Prelude.{not, None}
 use Rattle.vb_model.specs.declared.calls.Call.{Call}
 use Rattle.vb_model.specs.declared.calls.Call.TheVariants.{Init, Reset, Alloc, Free, Read, Write}
 use Rattle.vb_model.specs.declared.calls.Call.TheVariants.{Scribble, Inflate, Deflate, Oom, Report}
 use Rattle.vb_model.specs.declared.calls.Call.TheVariants.{Stats, Reap, Take, Work, Finish, Sweep}
 use Rattle.vb_model.specs.declared.calls.Call.TheVariants.{Ask, SetTarget}
 use Rattle.vb_model.specs.declared.calls.Claim.{Claim}
-use Rattle.vb_model.specs.declared.replies.Refusal.{Refusal}
 use Rattle.vb_model.specs.declared.replies.Reply.{Reply}
 use Rattle.vb_model.specs.declared.replies.Reply.TheVariants.{Refused}
 use Rattle.vb_model.specs.Requests.{Request, Kind, Inflating, Deflating, Reporting_free}
 use Rattle.vb_model.specs.Requests.{kind_of_queue, Buffer, NoBuffer, BufferPosted, BufferTaken}
 use Rattle.vb_model.specs.Requests.{BufferDone}
-use Rattle.vb_model.specs.Guest.{Guest, requests, stats_vq}
+use Rattle.vb_model.specs.Guest.{Guest, requests}
 use Rattle.vb_model.specs.Tables.{is_up, is_not_ready}
 use Rattle.vb_model.specs.Refusals.{refusal_of, tests}
-use Rattle.vb_model.specs.Driver.{Reaps, Fills, Written, pages_needed, figures}
-use Rattle.vb_model.specs.Device.{Takes, TakesBuffer, Finishes, Asks, settled, used, next_page}
-use Rattle.vb_model.specs.Life.{feature_refusal, Negotiates, lacking}
-use Rattle.vb_model.specs.Rogue.{Scribbled}
+use Rattle.vb_model.specs.Driver.{Fills}
+use Rattle.vb_model.specs.Device.{Takes, TakesBuffer, Asks}
 use Rattle.vb_model.specs.Step.{Performs, HonestStep}
 use Rattle.vb_model.specs.Orderly.{IsOrderly}
 use Rattle.vb_model.specs.HonestRuns.{has_buffer, IsAttentive}
-use Rattle.vb_model.proofs.CallSteps.{match_cases, supplying_cases, works_cases, not_refused, Idles}
-use Rattle.vb_model.proofs.CallSteps.{Visits, supplied}
+use Rattle.vb_model.proofs.CallSteps.{match_cases, not_refused}
 
 -- ---- a ready guest
 
@@ -80,16 +75,6 @@ asks_ready (BufferTaken f) g reply new e is h s =
     stays_ready g new _ is h s.1 refl refl (sym (ap has_buffer e))
 asks_ready (BufferDone f) g reply new e is h s = absurd s
 
-reaps_ready : (kind : Kind) (done : List Request) (g : Guest) (reply : Reply) (new : Guest)
-    → g.status ≡ 15 → IsAttentive g → Reaps kind done g reply new → IsAttentive new
-reaps_ready kind [] g reply new is h s = stays_ready g new _ is h s.1 refl refl refl
-reaps_ready Inflating (r ∷ rest) g reply new is h s =
-    stays_ready g new _ is h s.1 refl refl refl
-reaps_ready Deflating (r ∷ rest) g reply new is h s =
-    stays_ready g new _ is h s.1 refl refl refl
-reaps_ready Reporting_free (r ∷ rest) g reply new is h s =
-    stays_ready g new _ is h s.1 refl refl refl
-
 takes_ready : (kind : Kind) (posted : List Request) (g : Guest) (reply : Reply) (new : Guest)
     → g.status ≡ 15 → IsAttentive g → Takes kind posted g reply new → IsAttentive new
 takes_ready kind [] g reply new is h s = stays_ready g new _ is h s.1 refl refl refl
@@ -99,32 +84,6 @@ takes_ready Deflating (r ∷ rest) g reply new is h s =
     stays_ready g new _ is h s.1 refl refl refl
 takes_ready Reporting_free (r ∷ rest) g reply new is h s =
     stays_ready g new _ is h s.1 refl refl refl
-
-works_ready : (g : Guest) (reply : Reply) (new : Guest) → g.status ≡ 15 → IsAttentive g
-    → Idles g reply new ⊎ ((kind : Kind) × (page : ℕ) × Visits kind g reply new page)
-    → IsAttentive new
-works_ready g reply new is h (inl i) = stays_ready g new _ is h i.1 refl refl refl
-works_ready g reply new is h (inr (Inflating, page, v)) =
-    stays_ready g new _ is h v.1 refl refl refl
-works_ready g reply new is h (inr (Deflating, page, v)) =
-    stays_ready g new _ is h v.1 refl refl refl
-works_ready g reply new is h (inr (Reporting_free, page, v)) =
-    stays_ready g new _ is h v.1 refl refl refl
-
-finishes_ready : (kind : Kind) (i : ℕ) (r : Request) (g new : Guest) → g.status ≡ 15
-    → IsAttentive g → new ≡ settled kind r.pages (used kind i r g) → IsAttentive new
-finishes_ready Inflating i r g new is h e = stays_ready g new _ is h e refl refl refl
-finishes_ready Deflating i r g new is h e = stays_ready g new _ is h e refl refl refl
-finishes_ready Reporting_free i r g new is h e = stays_ready g new _ is h e refl refl refl
-
-negotiates_ready : (o : Option Refusal) (wanted : ℕ) (g : Guest) (reply : Reply) (new : Guest)
-    → g.status ≡ 0 → IsAttentive g → Negotiates o wanted g reply new → IsAttentive new
-negotiates_ready None wanted g reply new is h s = grind (arith, h)
-  where
-    either : (b : Bool) → has_buffer (if b then BufferPosted (figures g) else NoBuffer) ≡ b
-    either true = refl
-    either false = refl
-negotiates_ready (Some refusal) wanted g reply new is h s = grind (arith, h)
 
 -- ---- a call that isn't refused
 

@@ -2,10 +2,9 @@
 use Rattle.std.proofs.Common.{◌≡◌, ℕ, ◌+◌, ◌<◌, ◌≤◌, Bool, true, false, cond, List, [], ◌∷◌, ◌++◌}
 use Rattle.std.proofs.Common.{length, get_or, take, drop, refl, sym, ap, subst, ◌∙◌, ◌⊎◌, inl, inr}
 use Rattle.std.proofs.Common.{arith, length-append, length-take, length-drop}
-use Rattle.std.specs.Prelude.{◌==◌, ◌||◌, nat_lt, nat_le, Option, Some, None, is_none}
+use Rattle.std.specs.Prelude.{◌==◌, ◌||◌, Option, Some, None, is_none}
 use Rattle.std.specs.Prelude.{if◌then◌else◌}
 use Rattle.std.proofs.lemmas.List.{take-append-drop, get_or-replicate, length-replicate}
-use Rattle.std.proofs.lemmas.Bool.{eqb-true, ltb-false}
 use Rattle.vb_model.specs.declared.calls.Call.{Call}
 use Rattle.vb_model.specs.declared.calls.Call.TheVariants.{Init, Reset, Alloc, Free, Read, Write}
 use Rattle.vb_model.specs.declared.calls.Call.TheVariants.{Scribble, Inflate, Deflate, Oom, Report}
@@ -22,17 +21,16 @@ use Rattle.vb_model.specs.Requests.{Request, Kind, Inflating, Deflating, Reporti
 use Rattle.vb_model.specs.Requests.{kind_of_queue}
 use Rattle.vb_model.specs.Guest.{Guest, Config, fresh, requests, unbacked, frame_of, backed}
 use Rattle.vb_model.specs.Guest.{all_backed, zero_page}
-use Rattle.vb_model.specs.Refusals.{refusal_of, tests}
+use Rattle.vb_model.specs.Refusals.{refusal_of}
 use Rattle.vb_model.specs.Driver.{given, claim_refusal, AreClaimsFor, Supplying, Reaps, Written}
 use Rattle.vb_model.specs.Driver.{pages_needed, overwritten}
 use Rattle.vb_model.specs.Device.{Takes, TakesBuffer, Finishes, settled, used, next_page}
 use Rattle.vb_model.specs.Life.{feature_refusal, Negotiates, lacking}
-use Rattle.vb_model.specs.Rogue.{Scribbled}
 use Rattle.vb_model.specs.Step.{Performs, HonestStep}
-use Rattle.vb_model.specs.Blank.{AreBlank, IsBlank}
+use Rattle.vb_model.specs.Blank.{IsBlank}
 use Rattle.vb_model.proofs.Tables.{length-each_from, each_page-get}
 use Rattle.vb_model.proofs.CallSteps.{match_cases, supplying_cases, works_cases, Idles, Visits}
-use Rattle.vb_model.proofs.CallSteps.{supplied, not_refused}
+use Rattle.vb_model.proofs.CallSteps.{supplied}
 
 abbrev frames_of : Guest → List (Option ℕ)
 frames_of g = g.frames
@@ -236,13 +234,6 @@ works_blank g reply new h (inr (Inflating, page, v)) = keeps g new _ v.1 (loses 
 works_blank g reply new h (inr (Deflating, page, v)) = keeps g new _ v.1 (loses (page ∷ []) g h)
 works_blank g reply new h (inr (Reporting_free, page, v)) =
     keeps g new _ v.1 (loses (page ∷ []) g h)
-
-reaps_blank : (kind : Kind) (done : List Request) (g : Guest) (reply : Reply) (new : Guest)
-    → IsBlank g → Reaps kind done g reply new → IsBlank new
-reaps_blank kind [] g reply new h s = subst IsBlank (sym s.1) h
-reaps_blank Inflating (r ∷ rest) g reply new h s = subst IsBlank (sym s.1) h
-reaps_blank Deflating (r ∷ rest) g reply new h s = subst IsBlank (sym s.1) h
-reaps_blank Reporting_free (r ∷ rest) g reply new h s = subst IsBlank (sym s.1) h
 
 takes_blank : (kind : Kind) (posted : List Request) (g : Guest) (reply : Reply) (new : Guest)
     → IsBlank g → Takes kind posted g reply new → IsBlank new

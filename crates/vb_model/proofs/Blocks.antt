@@ -4,13 +4,11 @@ use Rattle.std.proofs.Common.{false, cond, List, [], ◌∷◌, take, refl, sym,
 use Rattle.std.proofs.Common.{inl, inr, arith, ◌⊎◌, ◌≢◌}
 use Rattle.std.specs.Prelude.{◌==◌, ◌&&◌, ◌%◌, not, count_by, nat_lt, nat_le, filter, map}
 use Rattle.std.specs.List.{list_all, list_any, range_with_len, flat_map}
-use Rattle.std.proofs.lemmas.List.Elements.{filter_agree}
 use Rattle.std.proofs.lemmas.Nat.{pow_pos, mod-mul-add, pow-add, div-add-mod'}
 use Rattle.std.proofs.Math.Nat.{lt_of_mul-lt-mul_left, mul-lt-mul_of_pos_left, mul_assoc, mul_comm}
 use Rattle.std.proofs.Math.Nat.{mul-add}
 use Rattle.std.proofs.lemmas.Bool.{eqb-true, eq-eqb, ne_eqb, le-leb, lt-ltb, and_parts, and_from}
 use Rattle.std.proofs.lemmas.Bool.{cases_lt, cases_eq, leb-true, ltb-true, false_from_ne_true}
-use Rattle.std.proofs.lemmas.Bool.{not-true}
 use Rattle.vb_model.specs.Limits.{max_order}
 use Rattle.vb_model.specs.Tests.{one_if}
 use Rattle.vb_model.specs.Pages.{Block, size, pages_of, pages_of_all, covers, is_whole}
@@ -418,21 +416,6 @@ reported_distinct test keep count n page =
     omega (arith, a, b, c, d, e, at_most_one test page count)
 
 -- ---- tests that agree
-
-all_agree : (f g : ℕ → Bool) (ns : List ℕ) → ((n : ℕ) → f n ≡ g n) → list_all f ns ≡ list_all g ns
-all_agree f g [] same = refl
-all_agree f g (n ∷ ns) same =
-    ap (λ (v : Bool). v && list_all f ns) (same n)
-    ∙ ap (λ (v : Bool). g n && v) (all_agree f g ns same)
-
-any_agree : (f g : ℕ → Bool) (ns : List ℕ) → ((n : ℕ) → f n ≡ g n) → list_any f ns ≡ list_any g ns
-any_agree f g [] same = refl
-any_agree f g (n ∷ ns) same =
-    ap (λ (v : Bool). Rattle.std.specs.Prelude.◌||◌ v (list_any f ns)) (same n)
-    ∙ ap (λ (v : Bool). Rattle.std.specs.Prelude.◌||◌ (g n) v) (any_agree f g ns same)
-
-whole_agree : (f g : ℕ → Bool) (b : Block) → ((n : ℕ) → f n ≡ g n) → is_whole f b ≡ is_whole g b
-whole_agree f g b same = ap (λ (v : Bool). is_aligned b && v) (all_agree f g (pages_of b) same)
 
 -- the maximal blocks of two tests that agree
 pub maximal_agree : (n : ℕ) (f g : ℕ → Bool) → ((page : ℕ) → f page ≡ g page)

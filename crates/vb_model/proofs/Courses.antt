@@ -1,17 +1,14 @@
 -- What holds in each state of a guest's course, and between two of them.
 use Rattle.std.proofs.Common.{◌≡◌, ℕ, zero, suc, ◌+◌, Bool, true, false, List, []}
-use Rattle.std.proofs.Common.{◌∷◌, refl, sym, ap, subst, ◌∙◌, ◌⊎◌, inl, inr, arith}
+use Rattle.std.proofs.Common.{◌∷◌, refl, sym, subst, ◌∙◌, ◌⊎◌, inl, inr, arith}
 use Rattle.std.specs.Prelude.{Option, Some, None, slice_get, MatchBool}
 use Rattle.vb_model.specs.declared.calls.Call.{Call}
 use Rattle.vb_model.specs.declared.calls.Call.TheVariants.{Scribble}
 use Rattle.vb_model.specs.declared.calls.Claim.{Claim}
 use Rattle.vb_model.specs.declared.replies.Reply.{Reply}
-use Rattle.vb_model.specs.declared.replies.Reply.TheVariants.{Refused}
 use Rattle.vb_model.specs.Guest.{Guest, Config, fresh}
-use Rattle.vb_model.specs.Driver.{pages_needed}
-use Rattle.vb_model.specs.Refusals.{refusal_of}
-use Rattle.vb_model.specs.Rogue.{RogueStep, Scribbled, IsRogueAfter}
-use Rattle.vb_model.specs.Step.{Performs, HonestStep}
+use Rattle.vb_model.specs.Rogue.{RogueStep, IsRogueAfter}
+use Rattle.vb_model.specs.Step.{HonestStep}
 use Rattle.vb_model.specs.Rogue.{GuestStep}
 use Rattle.vb_model.specs.Consistent.{IsConsistent}
 use Rattle.vb_model.specs.Orderly.{IsOrderly}
@@ -20,7 +17,7 @@ use Rattle.vb_model.specs.HonestRuns.{IsAttentive}
 use Rattle.vb_model.specs.GuestRun.{Entry, Called, Looked, EntryStep, OwnStep, Leads}
 use Rattle.vb_model.specs.GuestRun.{is_scribbled}
 use Rattle.vb_model.specs.Courses.{Course, guest_after}
-use Rattle.vb_model.proofs.CallSteps.{match_cases, supplying_cases, honest_keeps}
+use Rattle.vb_model.proofs.CallSteps.{honest_keeps}
 use Rattle.vb_model.proofs.GuestSteps.{fresh_consistent}
 use Rattle.vb_model.proofs.OrderlySteps.{honest_order, fresh_order}
 use Rattle.vb_model.proofs.BlankSteps.{honest_blank, fresh_blank}

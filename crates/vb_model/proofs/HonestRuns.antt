@@ -1,5 +1,5 @@
 -- A guest stays honest until it scribbles.
-use Rattle.std.proofs.Common.{◌≡◌, ℕ, zero, suc, ◌+◌, sym, ap, subst}
+use Rattle.std.proofs.Common.{◌≡◌, ℕ, zero, suc, ◌+◌, ap, subst}
 use Rattle.std.proofs.Common.{◌∙◌, arith}
 use Rattle.std.specs.Prelude.{Option, Some, IsFalse}
 use Rattle.vb_model.specs.declared.calls.Event.{Event}
@@ -7,7 +7,6 @@ use Rattle.vb_model.specs.Guest.{Guest}
 use Rattle.vb_model.specs.Run.{History, guest_in}
 use Rattle.vb_model.specs.Safe.{IsHonest}
 use Rattle.vb_model.specs.HonestRuns.{IsThere, MakesNoScribble, HonestStay}
-use Rattle.vb_model.proofs.Changes.{same_some}
 use Rattle.vb_model.proofs.Fates.{rogues_made}
 use Rattle.vb_model.proofs.Runs.{Positions, positions, guest_there}
 

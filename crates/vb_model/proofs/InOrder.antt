@@ -6,7 +6,6 @@ use Rattle.std.proofs.lemmas.List.{length-append}
 use Rattle.std.proofs.lemmas.List.Edits.{length-remove}
 use Rattle.std.proofs.lemmas.List.Sums.{sum_by-remove}
 use Rattle.std.proofs.lemmas.Option.{get_or_from_slice_get, slice_get_within}
-use Rattle.std.proofs.lemmas.Bool.{ltb-true}
 use Rattle.vb_model.specs.Tests.{one_if}
 use Rattle.vb_model.specs.Requests.{Request, Requests, no_requests, all_requests, headed}
 use Rattle.vb_model.specs.Requests.{outstanding, posting, IsLeastHead}

@@ -8,7 +8,6 @@ use Rattle.std.proofs.lemmas.List.{get_or-append_right}
 use Rattle.std.proofs.lemmas.Bool.{eq-eqb, leb-false, ltb-false, leb-true, ltb-true, or_parts}
 use Rattle.vb_model.specs.declared.calls.Call.TheVariants.{Read, Write}
 use Rattle.vb_model.specs.declared.calls.Claim.{Claim}
-use Rattle.vb_model.specs.declared.replies.Refusal.TheVariants.{NoMemory}
 use Rattle.vb_model.specs.declared.replies.Reply.TheVariants.{Done, ReadBytes, Refused}
 use Rattle.vb_model.specs.Limits.{page_size}
 use Rattle.vb_model.specs.Guest.{Guest}

@@ -40,7 +40,6 @@ use Rattle.vb_model.specs.Driver.{reaped, with_block, without_block}
 use Rattle.vb_model.specs.Device.{Takes, TakesBuffer, Finishes, Asks, settled, used, visited}
 use Rattle.vb_model.specs.Life.{feature_refusal, Negotiates, lacking, place_after_reset}
 use Rattle.vb_model.specs.Life.{after_reset, feature_tests}
-use Rattle.vb_model.specs.Rogue.{Scribbled}
 use Rattle.vb_model.specs.Step.{Performs, HonestStep}
 use Rattle.vb_model.specs.Consistent.{IsConsistent}
 use Rattle.vb_model.specs.Orderly.{AreOrderly, IsOrderly, IsBlock, AreBlocks}

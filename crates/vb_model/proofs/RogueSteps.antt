@@ -10,7 +10,7 @@ use Rattle.vb_model.specs.declared.calls.Event.{Event}
 use Rattle.vb_model.specs.declared.replies.Reply.{Reply}
 use Rattle.vb_model.specs.Tests.{one_if}
 use Rattle.vb_model.specs.Layout.{reserved_pages}
-use Rattle.vb_model.specs.Pages.{is_giving, is_lent, is_reserved, place_of}
+use Rattle.vb_model.specs.Pages.{is_reserved, place_of}
 use Rattle.vb_model.specs.Guest.{Guest, is_ballooned}
 use Rattle.vb_model.specs.Rogue.{RogueStep}
 use Rattle.vb_model.specs.Step.{HonestStep}
@@ -21,7 +21,6 @@ use Rattle.vb_model.specs.World.{World, guest_at}
 use Rattle.vb_model.specs.HostEvents.{WorldStep}
 use Rattle.vb_model.proofs.PageSteps.{naming-all}
 use Rattle.vb_model.proofs.Changes.{Change, Untouched, Retargeted, Stepped, Restarted, New, changes}
-use Rattle.vb_model.proofs.Unchanged.{step_keeps}
 
 reserved_is : (place : Place) → is_reserved place ≡ true → place ≡ Reserved
 reserved_is Reserved e = refl

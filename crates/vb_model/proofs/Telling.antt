@@ -14,22 +14,18 @@ use Rattle.vb_model.specs.declared.calls.Call.TheVariants.{Stats, Reap, Take, Wo
 use Rattle.vb_model.specs.declared.calls.Call.TheVariants.{Ask, SetTarget}
 use Rattle.vb_model.specs.declared.calls.Claim.{Claim}
 use Rattle.vb_model.specs.declared.replies.Refusal.{Refusal}
-use Rattle.vb_model.specs.declared.replies.Refusal.TheVariants.{NotReady, NeedsReset, QueueFull}
-use Rattle.vb_model.specs.declared.replies.Refusal.TheVariants.{DeflatePending, NoFeature}
-use Rattle.vb_model.specs.declared.replies.Refusal.TheVariants.{Nothing, NotBallooned}
 use Rattle.vb_model.specs.declared.replies.Reply.{Reply}
 use Rattle.vb_model.specs.declared.replies.Reply.TheVariants.{Refused}
 use Rattle.vb_model.specs.Tests.{one_if}
 use Rattle.vb_model.specs.Pages.{is_lent, is_taking, place_of, placed}
-use Rattle.vb_model.specs.Requests.{Request, all_requests, outstanding, names, naming}
-use Rattle.vb_model.specs.Requests.{pages_named, posting, Kind, Inflating, Deflating}
-use Rattle.vb_model.specs.Requests.{Reporting_free, kind_of_queue, place_posted, places_reaped}
+use Rattle.vb_model.specs.Requests.{Request, all_requests, names, naming}
+use Rattle.vb_model.specs.Requests.{pages_named, Kind, Inflating, Deflating}
+use Rattle.vb_model.specs.Requests.{Reporting_free, kind_of_queue, places_reaped}
 use Rattle.vb_model.specs.Requests.{given_away}
 use Rattle.vb_model.specs.Guest.{Guest, requests, with_requests, is_ballooned, tells_host}
-use Rattle.vb_model.specs.Tables.{is_up, is_not_ready, has_fault}
-use Rattle.vb_model.specs.Refusals.{◌⇒◌, first_refusal, tests, room, inflate_count}
+use Rattle.vb_model.specs.Refusals.{first_refusal, tests}
 use Rattle.vb_model.specs.Refusals.{deflate_count, oom_count}
-use Rattle.vb_model.specs.Driver.{lowest_lent, asking, reaped, Reaps, Deflates}
+use Rattle.vb_model.specs.Driver.{reaped, Reaps, Deflates}
 use Rattle.vb_model.specs.Step.{Performs, HonestStep}
 use Rattle.vb_model.specs.Consistent.{IsConsistent}
 use Rattle.vb_model.specs.Orderly.{IsOrderly, AllRequestsSound}
@@ -167,15 +163,6 @@ same_tests g Work told = refl
 same_tests g (Finish q i) told = refl
 same_tests g Ask told = refl
 same_tests g (SetTarget n) told = refl
-
--- pages that are asked back
-same_asking : (g : Guest) (head : ℕ) (pages : List ℕ) → tells_host g ≡ true
-    → asking Deflating head pages g
-    ≡ record g {
-      deflate = posting head pages g.deflate;
-      places = placed pages Taking g.places;
-    }
-same_asking g head pages told = grind arith
 
 takes_ways : (g : Guest) (count : ℕ) (reply : Reply) (new : Guest) → tells_host g ≡ true
     → Deflates count g reply new ↔ CallsBack count g reply new

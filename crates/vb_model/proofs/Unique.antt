@@ -1,8 +1,7 @@
 -- Two lists of targets are the same.
 use Rattle.std.proofs.Common.{◌≡◌, ℕ, ◌<◌, List, length, slice_index, sym, ◌∙◌, subst, ◌⊎◌, inl}
 use Rattle.std.proofs.Common.{inr, arith}
-use Rattle.std.proofs.lemmas.Bool.{cases_order}
-use Rattle.vb_model.specs.Balance.{Need, AreTargets, GivesBefore, spare_at}
+use Rattle.vb_model.specs.Balance.{Need, AreTargets, GivesBefore}
 use Rattle.vb_model.proofs.Sums.{same_by_sum, somewhere_more}
 
 -- of two guests one gives before the other

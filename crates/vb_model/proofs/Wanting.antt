@@ -3,7 +3,7 @@ use Rattle.std.proofs.Common.{◌≡◌, ℕ, ◌<◌, Bool, true, false, cond, 
 use Rattle.std.proofs.Common.{sym, ap, subst, ◌∙◌, ◌⊎◌, inl, inr, arith}
 use Rattle.std.specs.Prelude.{◌==◌, ◌||◌, ◌&&◌, not, Option, Some, None, MatchBool, is_none}
 use Rattle.std.specs.List.{list_all}
-use Rattle.std.proofs.lemmas.Bool.{eq-eqb, and_parts, not-true, eqb-true, or_cases}
+use Rattle.std.proofs.lemmas.Bool.{eq-eqb, and_parts, not-true}
 use Rattle.vb_model.specs.Layout.{start_pages}
 use Rattle.vb_model.specs.declared.calls.Call.{Call}
 use Rattle.vb_model.specs.declared.calls.Call.TheVariants.{Init, Reset, Alloc, Free, Read, Write}
@@ -18,15 +18,15 @@ use Rattle.vb_model.specs.declared.replies.Refusal.TheVariants.{NoFrame, NoMemor
 use Rattle.vb_model.specs.declared.replies.Reply.{Reply}
 use Rattle.vb_model.specs.declared.replies.Reply.TheVariants.{Refused}
 use Rattle.vb_model.specs.Tests.{is_in}
-use Rattle.vb_model.specs.Requests.{Request, Kind, kind_of_queue, Buffer, NoBuffer, BufferPosted}
+use Rattle.vb_model.specs.Requests.{Buffer, NoBuffer, BufferPosted}
 use Rattle.vb_model.specs.Requests.{BufferTaken, BufferDone}
-use Rattle.vb_model.specs.Guest.{Guest, frame_of, all_backed, requests}
+use Rattle.vb_model.specs.Guest.{Guest, frame_of}
 use Rattle.vb_model.specs.Refusals.{Test, refusal_of, tests, first_refusal}
-use Rattle.vb_model.specs.Driver.{given, claim_refusal, AreClaimsFor, Supplying, Reaps, Fills}
+use Rattle.vb_model.specs.Driver.{claim_refusal, AreClaimsFor, Supplying, Fills}
 use Rattle.vb_model.specs.Driver.{Written, pages_needed}
-use Rattle.vb_model.specs.Device.{Takes, TakesBuffer, Finishes, Asks, next_page}
-use Rattle.vb_model.specs.Life.{feature_tests, feature_refusal, Negotiates, lacking}
-use Rattle.vb_model.specs.Rogue.{LosesFrames, RogueStep, Scribbled, unless_refused, pages_to_back}
+use Rattle.vb_model.specs.Device.{Asks}
+use Rattle.vb_model.specs.Life.{feature_refusal, Negotiates, lacking}
+use Rattle.vb_model.specs.Rogue.{RogueStep, Scribbled, unless_refused, pages_to_back}
 use Rattle.vb_model.specs.Rogue.{is_read, after_refused}
 use Rattle.vb_model.specs.Step.{Performs, HonestStep}
 use Rattle.vb_model.specs.Rogue.{GuestStep}
@@ -38,7 +38,7 @@ use Rattle.vb_model.specs.StepLaws.{ClaimsAreNeeded, RefusedClaimsAreAnswered}
 use Rattle.vb_model.specs.StepLaws.{NeededPagesAreBare, NoFrameIsExact, WantOfFrames}
 use Rattle.vb_model.specs.StepLaws.{NoMemoryIsExact}
 use Rattle.vb_model.proofs.Tables.{list_all-at}
-use Rattle.vb_model.proofs.CallSteps.{match_cases, works_cases, all_filtered, supplied}
+use Rattle.vb_model.proofs.CallSteps.{match_cases, all_filtered}
 use Rattle.vb_model.proofs.Changes.{same_some}
 
 or_first : (v b : Bool) → v ≡ true → (v || b) ≡ true
@@ -56,38 +56,6 @@ pub not_refused_pages : (o : Option Refusal) (pages : List ℕ) (claims : List C
     → AreClaimsFor pages claims → AreClaimsFor (unless_refused o pages) claims
 not_refused_pages None pages claims e a = a
 not_refused_pages (Some refusal) pages claims e a = absurd cc
-
-none_made : (claims : List Claim) → claims ≡ [] → AreClaimsFor [] claims
-none_made [] e = tt
-none_made (claim ∷ claims) e = absurd cc
-
-performs_claims : (call : Call) (g : Guest) (claims : List Claim) (reply : Reply) (new : Guest)
-    → refusal_of g call ≡ None → Performs call g claims reply new
-    → AreClaimsFor (pages_to_back call g) claims
-performs_claims (Init wanted) g claims reply new e s =
-    not_refused_pages (refusal_of g (Init wanted)) (lacking g) claims e s.0
-performs_claims (Write page offset bytes) g claims reply new e s =
-    not_refused_pages (refusal_of g (Write page offset bytes)) (pages_needed page bytes g) claims e
-    s.0
-performs_claims (Scribble page offset bytes) g claims reply new e s =
-    not_refused_pages (refusal_of g (Scribble page offset bytes)) (pages_needed page bytes g) claims
-    e s.0
-performs_claims (SetTarget n) g claims reply new e s = none_made claims s.0
-performs_claims Reset g claims reply new e s = none_made claims s.0
-performs_claims (Alloc cpu order) g claims reply new e s = none_made claims s.0
-performs_claims (Free cpu start order) g claims reply new e s = none_made claims s.0
-performs_claims (Read page offset len) g claims reply new e s = none_made claims s.0
-performs_claims (Inflate n) g claims reply new e s = none_made claims s.0
-performs_claims (Deflate n) g claims reply new e s = none_made claims s.0
-performs_claims (Oom n) g claims reply new e s = none_made claims s.0
-performs_claims (Report from) g claims reply new e s = none_made claims s.0
-performs_claims Stats g claims reply new e s = none_made claims s.0
-performs_claims (Reap q) g claims reply new e s = none_made claims s.0
-performs_claims (Take q) g claims reply new e s = none_made claims s.0
-performs_claims Work g claims reply new e s = none_made claims s.0
-performs_claims (Finish q i) g claims reply new e s = none_made claims s.0
-performs_claims (Sweep page) g claims reply new e s = none_made claims s.0
-performs_claims Ask g claims reply new e s = none_made claims s.0
 
 -- the pages of a call that is refused
 refused_pages : (o : Option Refusal) (refusal : Refusal) (pages : List ℕ) → o ≡ Some refusal
@@ -340,35 +308,12 @@ fills_otherwise (BufferPosted f) g reply new s = ap wants s.0
 fills_otherwise (BufferTaken f) g reply new s = ap wants s.0
 fills_otherwise (BufferDone f) g reply new s = ap wants s.0
 
-takes_buffer_otherwise : (buffer : Buffer) (g : Guest) (reply : Reply) (new : Guest)
-    → TakesBuffer buffer g reply new → wants reply ≡ false
-takes_buffer_otherwise NoBuffer g reply new s = ap wants s.0
-takes_buffer_otherwise (BufferPosted f) g reply new s = ap wants s.0
-takes_buffer_otherwise (BufferTaken f) g reply new s = ap wants s.0
-takes_buffer_otherwise (BufferDone f) g reply new s = ap wants s.0
-
 asks_otherwise : (buffer : Buffer) (g : Guest) (reply : Reply) (new : Guest)
     → Asks buffer g reply new → wants reply ≡ false
 asks_otherwise NoBuffer g reply new s = absurd s
 asks_otherwise (BufferPosted f) g reply new s = absurd s
 asks_otherwise (BufferTaken f) g reply new s = ap wants s.0
 asks_otherwise (BufferDone f) g reply new s = absurd s
-
-reaps_otherwise : (kind : Kind) (done : List Request) (g : Guest) (reply : Reply) (new : Guest)
-    → Reaps kind done g reply new → wants reply ≡ false
-reaps_otherwise kind [] g reply new s = ap wants s.0
-reaps_otherwise kind (r ∷ rest) g reply new s = ap wants s.0
-
-takes_otherwise : (kind : Kind) (posted : List Request) (g : Guest) (reply : Reply) (new : Guest)
-    → Takes kind posted g reply new → wants reply ≡ false
-takes_otherwise kind [] g reply new s = ap wants s.0
-takes_otherwise kind (r ∷ rest) g reply new s = ap wants s.0
-
-negotiates_otherwise : (wanted : ℕ) (o : Option Refusal) (g : Guest) (reply : Reply) (new : Guest)
-    → feature_refusal wanted ≡ o → Negotiates o wanted g reply new → wants reply ≡ false
-negotiates_otherwise wanted None g reply new e s = ap wants s.0
-negotiates_otherwise wanted (Some refusal) g reply new e s =
-    ap wants s.0 ∙ refused_otherwise (feature_tests wanted) refusal refl e
 
 -- the call's claims ended so, and nothing is changed
 abbrev Lacks : Refusal → Guest → List Claim → Guest → Type 0
@@ -393,11 +338,6 @@ supplies_lack pages g claims reply new why Rest s rest w e = grind arith
 pub no_want : {A : Type 0} (reply : Reply) (why : Refusal) → wants reply ≡ false
     → is_want why ≡ true → reply ≡ Refused why → A
 no_want reply why f w e = absurd (let t : wants reply ≡ true = ap wants e ∙ w in cc)
-
-reads_none : (page offset len : ℕ) (g : Guest) (claims : List Claim) (new : Guest) (why : Refusal)
-    → Refused NoMemory ≡ Refused why → new ≡ g → Fails why (Read page offset len) g claims new
-reads_none page offset len g claims new why e same =
-    let is : why ≡ NoMemory = cc in inr (refl, is, same)
 
 performs_lack : (call : Call) (g : Guest) (claims : List Claim) (reply : Reply) (new : Guest)
     (why : Refusal) → Performs call g claims reply new → is_want why ≡ true
