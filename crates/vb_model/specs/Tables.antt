@@ -15,7 +15,8 @@ use Rattle.vb_model.specs.declared.replies.Refusal.TheVariants.{NotReady, NeedsR
 use Rattle.vb_model.specs.declared.replies.Refusal.TheVariants.{DeflatePending}
 use Rattle.vb_model.specs.declared.replies.Refusal.TheVariants.{Nothing, NoFeature, NoQueue, Busy}
 use Rattle.vb_model.specs.declared.replies.Refusal.TheVariants.{NotTaken, NotWorked, NotBallooned}
-use Rattle.vb_model.specs.declared.limits.TheConstants.{MAX_ORDER, MAX_OUTSTANDING, MAX_REQUEST_PAGES}
+use Rattle.vb_model.specs.declared.limits.TheConstants.{MAX_ORDER}
+use Rattle.vb_model.specs.declared.limits.TheConstants.{MAX_OUTSTANDING, MAX_REQUEST_PAGES}
 use Rattle.vb_model.specs.Pages.{Block, block_at, is_free, is_giving, is_lent, is_stranded}
 use Rattle.vb_model.specs.Pages.{is_wholly_free, is_same_block}
 use Rattle.vb_model.specs.Requests.{Request, kind_of_queue}

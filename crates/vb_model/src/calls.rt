@@ -46,8 +46,8 @@ impl Bytes {
 }
 
 /// A call on one guest: by what runs in it, by its balloon driver, or by the device behind it.
-/// Pages, orders, queues and processors are numbers from 0 on, and `at` is a place in a page, in bytes
-/// from its start; any number may be passed.
+/// Pages, orders, queues and processors are numbers from 0 on, and `at` is a place in a page, in
+/// bytes from its start; any number may be passed.
 #[derive(Drop)]
 pub enum Call {
     /// The driver initialises the device and asks for these features (VIRTIO 1.1, 3.1.1).
