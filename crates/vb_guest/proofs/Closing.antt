@@ -11,7 +11,8 @@ use Rattle.vb_model.specs.Requests.{no_requests}
 use Rattle.vb_model.specs.Guest.{Guest}
 use Rattle.vb_model.specs.Refusals.{Test, ◌⇒◌, first_refusal, refusal_of}
 use Rattle.vb_model.specs.Rogue.{RogueStep}
-use Rattle.vb_model.specs.Step.{Performs, HonestStep, GuestStep}
+use Rattle.vb_model.specs.Step.{Performs, HonestStep}
+use Rattle.vb_model.specs.Rogue.{GuestStep}
 use Rattle.vb_model.proofs.CallSteps.{honest_keeps}
 use Rattle.vb_model.proofs.OrderlySteps.{honest_order}
 use Rattle.vb_ram.specs.Pages.{Pages}

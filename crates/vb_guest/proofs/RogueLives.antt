@@ -1,8 +1,8 @@
 -- A guest that wrote past its driver is initialised; an honest guest becomes one.
 use Rattle.std.specs.Prelude.{◌≡◌, ℕ, ◌-◌, ◌<◌, Bool, true, false, List, [], length, All, Option}
-use Rattle.std.specs.Prelude.{Some, Result, Ok, Err, IsSome, MatchOption}
+use Rattle.std.specs.Prelude.{Some, Result, Ok, Err, IsSome, MatchOption, ◌&&◌, is_none}
 use Rattle.std.specs.Prelude.{refl, ◌≤◌, is_some, ◌≢◌, not, ◌==◌, ◌∷◌, None, replicate}
-use Rattle.std.proofs.Common.{sym, ◌∙◌, ap, subst, arith}
+use Rattle.std.proofs.Common.{sym, ◌∙◌, ap, subst, arith, cond}
 use Rattle.std.proofs.lemmas.Bool.{ne_eqb}
 use Rattle.std.proofs.lemmas.List.{length-replicate}
 use Rattle.std.proofs.lemmas.List.Elements.{All-nil}
@@ -22,7 +22,7 @@ use Rattle.vb_model.specs.Refusals.{refusal_of}
 use Rattle.vb_model.specs.Life.{lacking, feature_tests, feature_refusal, accepted_before}
 use Rattle.vb_model.specs.Orderly.{times}
 use Rattle.vb_model.specs.Rogue.{LosesFrames, pages_to_back, unless_refused, after_refused}
-use Rattle.vb_model.specs.Rogue.{if_negotiated, gave_up}
+use Rattle.vb_model.specs.Rogue.{gave_up}
 use Rattle.vb_model.specs.Status.{contains, driver_ok}
 use Rattle.vb_model.specs.Tests.{is_in}
 use Rattle.vb_model.proofs.Wanting.{wants, no_want, refused_otherwise, not_refused_pages}
@@ -60,8 +60,8 @@ init_up_rogue m p d g wanted up rogue =
     refl refl (λ page offset bytes e. cc) (refused_backs (Init wanted) g AlreadyUp refused)
     (left_by (Init wanted) AlreadyUp [] g (rogue_after g g.frames p d)
     (rogue_unchanged m p p d d g rogue refl refl refl
-    ∙ ap (λ (b : Bool). if_negotiated (not b) None g
-    (gave_up AlreadyUp wanted (all_backed (lacking g) [] g.frames) g)) (sym started)))
+    ∙ ap (λ (b : Bool). cond (b && true)
+    (gave_up AlreadyUp wanted (all_backed (lacking g) [] g.frames) g) g) (sym started)))
   where
     started : (g.status == 0) ≡ false
     started = ne_eqb g.status 0 (λ e. up (rogue.status ∙ e))
@@ -280,9 +280,9 @@ gives_up m p1 p2 p3 d1 d2 g wanted claims why rogue status all part gave =
     ∙ ap (λ (n : ℕ). record (gave_up why wanted frames g) { actual = n; target = p1.target })
     gave.1
     ∙ ap (λ (n : ℕ). record (gave_up why wanted frames g) { target = n }) rogue.target
-    ∙ sym (ap (λ (n : ℕ). if_negotiated (not (n == 0)) (claim_refusal claims) g
-    (gave_up why wanted frames g)) (sym rogue.status ∙ status)
-    ∙ ap (λ (o : Option Refusal). if_negotiated false o g (gave_up why wanted frames g)) all)
+    ∙ sym (ap (λ (n : ℕ). cond ((n == 0) && is_none (claim_refusal claims))
+    (gave_up why wanted frames g) g) (sym rogue.status ∙ status)
+    ∙ ap (λ (o : Option Refusal). cond (is_none o) (gave_up why wanted frames g) g) all)
 
 pub init_supplied_rogue : (Answers : List Bool → Claim → Type 0) (out1 out2 : List Bool)
     (l : List Claim) (m1 m2 m3 : Pages) (p1 p2 p3 : Part) (d1 d2 : DriverState) (g : Guest)

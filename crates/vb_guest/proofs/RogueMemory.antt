@@ -20,11 +20,11 @@ use Rattle.vb_model.specs.Layout.{reserved_pages}
 use Rattle.vb_model.specs.Orderly.{times}
 use Rattle.vb_model.specs.Refusals.{refusal_of, is_outside}
 use Rattle.vb_model.specs.Requests.{Request}
-use Rattle.vb_model.specs.Rogue.{ScribbleStep, Scribbles, Scribbled, IsRogueAfter}
+use Rattle.vb_model.specs.Rogue.{Scribbled, IsRogueAfter}
 use Rattle.vb_model.specs.Rogue.{LosesFrames, pages_to_back, unless_refused, with_fault}
 use Rattle.vb_model.specs.Pages.{place_of, is_used}
 use Rattle.vb_model.specs.Status.{contains, driver_ok}
-use Rattle.vb_model.specs.Step.{GuestStep}
+use Rattle.vb_model.specs.Rogue.{GuestStep}
 use Rattle.vb_model.proofs.Wanting.{wants, not_refused_pages, refused_backs}
 use Rattle.vb_ram.specs.Pages.{Pages, frame_at, number_of, Covers, Wrote, Supplied}
 use Rattle.vb_ram.specs.Part.{Part}
@@ -408,14 +408,14 @@ scribble_fits m g page off bs size covers =
 -- two scribbles of the same bytes
 same_scribble : (page off : ℕ) (bs : List ℕ) (q o : ℕ) (b : List ℕ) (g : Guest)
     (claims : List Claim) (reply : Reply) (new : Guest) → Scribble page off bs ≡ Scribble q o b
-    → ScribbleStep page off bs g claims reply new → ScribbleStep q o b g claims reply new
+    → HonestStep g (Scribble page off bs) claims reply new → HonestStep g (Scribble q o b) claims reply new
 same_scribble page off bs q o b g claims reply new e step =
     let first : page ≡ q = cc in
     let second : off ≡ o = cc in
     let third : bs ≡ b = cc in
-    subst (λ (x : ℕ). ScribbleStep x o b g claims reply new) first
-    (subst (λ (x : ℕ). ScribbleStep page x b g claims reply new) second
-    (subst (λ (x : List ℕ). ScribbleStep page off x g claims reply new) third step))
+    subst (λ (x : ℕ). HonestStep g (Scribble x o b) claims reply new) first
+    (subst (λ (x : ℕ). HonestStep g (Scribble page x b) claims reply new) second
+    (subst (λ (x : List ℕ). HonestStep g (Scribble page off x) claims reply new) third step))
 
 -- the step is one of an honest guest, and of a rogue one as well
 scribble_step : (m1 m2 : Pages) (p1 p2 : Part) (d : DriverState) (g new : Guest)
@@ -451,11 +451,11 @@ scribble_step m1 m2 p1 p2 d g new page off bs claims keeps stands rogue made all
     let M : Option Refusal → Type 0 =
     λ o. MatchOption o (Scribbled (record g { frames = filled }) Done new)
     (λ refusal. (Done ≡ Refused refusal) × (new ≡ g)) in
-    let scribbles : Scribbles page bs g claims Done new = (made, subst M (sym all) done) in
+    let scribbles : Performs (Scribble page off bs) g claims Done new = (made, subst M (sym all) done) in
     let S : Option Refusal → Type 0 =
-    λ o. MatchOption o (Scribbles page bs g claims Done new)
+    λ o. MatchOption o (Performs (Scribble page off bs) g claims Done new)
     (λ refusal. (claims ≡ []) × (Done ≡ Refused refusal) × (new ≡ g)) in
-    let step : ScribbleStep page off bs g claims Done new = subst S (sym free) scribbles in
+    let step : HonestStep g (Scribble page off bs) claims Done new = subst S (sym free) scribbles in
     let needs : pages_to_back (Scribble page off bs) g ≡ pages_needed page bs g =
     ap (λ (o : Option Refusal). unless_refused o (pages_needed page bs g)) free in
     by_guest keeps m1 p1 d g stands
@@ -549,11 +549,11 @@ scribble_outside keeps m1 m2 p1 p2 d g page off bs stands m p out =
     none : pages_to_back (Scribble page off bs) g ≡ []
     none = refused_backs (Scribble page off bs) g OutOfRam refused
 
-    step : ScribbleStep page off bs g [] (Refused OutOfRam) g
+    step : HonestStep g (Scribble page off bs) [] (Refused OutOfRam) g
     step =
         let none : List Claim = [] in
         let S : Option Refusal → Type 0 =
-        λ o. MatchOption o (Scribbles page bs g none (Refused OutOfRam) g)
+        λ o. MatchOption o (Performs (Scribble page off bs) g none (Refused OutOfRam) g)
         (λ refusal. (none ≡ []) × (Refused OutOfRam ≡ Refused refusal) × (g ≡ g)) in
         subst S (sym refused) (refl, refl, refl)
 
@@ -600,7 +600,7 @@ scribble_unsupplied keeps Answers out1 out2 m1 m2 p1 p2 d g page off bs why answ
         × Moves (supply_of p1 out1) (supply_of p2 out2) nothing nothing
     claimed = refused_claimed Answers out1 out2 p1 p2 why answer
 
-    step : ScribbleStep page off bs g (claim_of why ∷ []) (Refused (refusal_of_claim why)) g
+    step : HonestStep g (Scribble page off bs) (claim_of why ∷ []) (Refused (refusal_of_claim why)) g
     step =
         let claims : List Claim = claim_of why ∷ [] in
         let reply : Reply = Refused (refusal_of_claim why) in
@@ -608,10 +608,10 @@ scribble_unsupplied keeps Answers out1 out2 m1 m2 p1 p2 d g page off bs why answ
         let M : Option Refusal → Type 0 =
         λ o. MatchOption o (Scribbled (record g { frames = filled }) reply g)
         (λ refusal. (reply ≡ Refused refusal) × (g ≡ g)) in
-        let scribbles : Scribbles page bs g claims reply g =
+        let scribbles : Performs (Scribble page off bs) g claims reply g =
         (made, subst M (sym (refused_for why page).1) (refl, refl)) in
         let S : Option Refusal → Type 0 =
-        λ o. MatchOption o (Scribbles page bs g claims reply g)
+        λ o. MatchOption o (Performs (Scribble page off bs) g claims reply g)
         (λ refusal. (claims ≡ []) × (reply ≡ Refused refusal) × (g ≡ g)) in
         subst S (sym (scribble_fits m1 g page off bs old.length_is covers)) scribbles
 

@@ -17,9 +17,10 @@ use Rattle.vb_model.proofs.Shapes.{start_reserved}
 use Rattle.vb_model.specs.Status.{contains, driver_ok}
 use Rattle.vb_model.specs.Guest.{Guest, LastStatistics, frame_of, is_ballooned, all_backed}
 use Rattle.vb_model.specs.Driver.{given, claim_refusal, AreClaimsFor}
-use Rattle.vb_model.specs.Rogue.{RogueStep, ScribbleStep, LosesFrames, pages_to_back, is_read}
+use Rattle.vb_model.specs.Rogue.{RogueStep, LosesFrames, pages_to_back, is_read}
 use Rattle.vb_model.specs.Rogue.{target_after, after_refused, with_fault}
-use Rattle.vb_model.specs.Step.{HonestStep, GuestStep}
+use Rattle.vb_model.specs.Step.{HonestStep}
+use Rattle.vb_model.specs.Rogue.{GuestStep}
 use Rattle.vb_model.proofs.Wanting.{wants, no_want}
 use Rattle.vb_model.proofs.Refusing.{is_refused, not_this}
 use Rattle.vb_ram.specs.Pages.{Pages, frame_at}
@@ -244,7 +245,7 @@ pub rogue_steps : (m1 m2 : Pages) (p1 p2 : Part) (d1 d2 : DriverState) (g new : 
     → (claim_refusal claims ≡ Some NoMemory) ⊎ (is_read call ≡ true))
     → IsLeft call reply claims g new
     → ((page offset : ℕ) (bytes : List ℕ) → call ≡ Scribble page offset bytes
-    → ScribbleStep page offset bytes g claims reply new)
+    → HonestStep g (Scribble page offset bytes) claims reply new)
     → GuestStep g call claims reply new
 rogue_steps m1 m2 p1 p2 d1 d2 g new call claims reply old after config target claimed frames
     no_frame no_memory left scribble =
@@ -384,7 +385,7 @@ pub rogue_unclaimed : (Answers : List Bool → Claim → Type 0) (out1 out2 : Li
     → claim_refusal claims ≡ Some why → target_after call p1.target ≡ p1.target
     → after_refused call why claims g ≡ g
     → ((page offset : ℕ) (bytes : List ℕ) → call ≡ Scribble page offset bytes
-    → ScribbleStep page offset bytes g claims (Refused why) g)
+    → HonestStep g (Scribble page offset bytes) claims (Refused why) g)
     → AreClaimed Answers (supply_of p1 out1) claims
     → Moves (supply_of p1 out1) (supply_of p2 out2) nothing nothing
     → StepsOver (Rogue m2 p2 d) Answers (supply_of p1 out1) (supply_of p2 out2) claims g call

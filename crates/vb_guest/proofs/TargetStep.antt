@@ -15,7 +15,7 @@ use Rattle.vb_guest.proofs.Writing.{idle_still}
 
 target_set : (g : Guest) (n : ℕ) → HonestStep g (SetTarget n) [] Done (record g { target = n })
 target_set g n =
-    honest_performed g (SetTarget n) [] Done (record g { target = n }) refl (refl, refl, refl)
+    honest_performed g (SetTarget n) [] Done (record g { target = n }) refl (refl, (refl, refl))
 
 -- the guest has the new target
 pub target_stands : (m1 m2 : Pages) (p1 p2 : Part) (d : DriverState) (g : Guest) (n : ℕ) → m2 ≡ m1

@@ -51,14 +51,12 @@ pub fn call<D: Device, K: FrameKeeper>(
         Call::Init { features } => ready_reply(init(driver, device, keeper, claims, *features)),
         Call::Alloc { cpu, order } => page_reply(crate::driver::alloc(driver, *cpu, *order)),
         Call::Free { cpu, start, order } => done_reply(free(driver, *cpu, *start, *order)),
-        Call::Read { page, offset, len } => {
-            bytes_reply(read(alloc, driver, device, *page, *offset, *len))
+        Call::Read { page, at, len } => {
+            bytes_reply(read(alloc, driver, device, *page, *at, *len))
         }
-        Call::Write {
-            page,
-            offset,
-            bytes,
-        } => done_reply(write(driver, device, keeper, claims, *page, *offset, bytes)),
+        Call::Write { page, at, bytes } => done_reply(write(
+            driver, device, keeper, claims, *page, *at, bytes,
+        )),
         Call::Inflate { pages } => posted_reply(inflate(driver, device, *pages)),
         Call::Deflate { pages } => posted_reply(deflate(driver, device, *pages)),
         Call::Oom { pages } => posted_reply(oom(driver, device, *pages)),
@@ -78,11 +76,9 @@ pub fn call<D: Device, K: FrameKeeper>(
             set_target(device, *pages);
             Reply::Done
         }
-        Call::Scribble {
-            page,
-            offset,
-            bytes,
-        } => done_reply(scribble(device, keeper, claims, *page, *offset, bytes)),
+        Call::Scribble { page, at, bytes } => done_reply(scribble(
+            device, keeper, claims, *page, *at, bytes,
+        )),
     }
 }
 

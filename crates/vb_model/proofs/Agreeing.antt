@@ -1,6 +1,6 @@
 -- Two steps of an honest guest by one call, with the same claims, agree.
-use Rattle.std.proofs.Common.{◌≡◌, ℕ, ◌<◌, List, [], ◌∷◌, ◌++◌, length, take, drop, sym, ap, ◌∙◌}
-use Rattle.std.proofs.Common.{◌⊎◌, inl, inr, arith}
+use Rattle.std.proofs.Common.{◌≡◌, ℕ, ◌<◌, List, [], ◌∷◌, ◌++◌, length, sym, ap, ◌∙◌}
+use Rattle.std.proofs.Common.{inl, inr, arith}
 use Rattle.std.specs.Prelude.{Option, Some, None, MatchOption, if◌then◌else◌}
 use Rattle.std.proofs.lemmas.Bool.{cases_lt}
 use Rattle.vb_model.specs.declared.calls.Call.{Call}
@@ -8,13 +8,11 @@ use Rattle.vb_model.specs.declared.calls.Call.TheVariants.{Init, Reset, Alloc, F
 use Rattle.vb_model.specs.declared.calls.Call.TheVariants.{Scribble, Inflate, Deflate, Oom, Report}
 use Rattle.vb_model.specs.declared.calls.Call.TheVariants.{Stats, Reap, Take, Work, Finish, Sweep}
 use Rattle.vb_model.specs.declared.calls.Call.TheVariants.{Ask, SetTarget}
-use Rattle.vb_model.specs.declared.places.Place.TheVariants.{Used}
 use Rattle.vb_model.specs.declared.replies.Refusal.{Refusal}
-use Rattle.vb_model.specs.declared.replies.Refusal.TheVariants.{NoMemory}
 use Rattle.vb_model.specs.declared.replies.Reply.{Reply}
-use Rattle.vb_model.specs.declared.replies.Reply.TheVariants.{Done, Page, ReadBytes, Posted}
-use Rattle.vb_model.specs.declared.replies.Reply.TheVariants.{Finished, Refused}
-use Rattle.vb_model.specs.Pages.{pages_of, pages_of_all, placed}
+use Rattle.vb_model.specs.declared.replies.Reply.TheVariants.{Done, Posted}
+use Rattle.vb_model.specs.declared.replies.Reply.TheVariants.{Refused}
+use Rattle.vb_model.specs.Pages.{pages_of_all}
 use Rattle.vb_model.specs.Requests.{Request, Requests, all_requests, headed, IsLeastHead, Kind}
 use Rattle.vb_model.specs.Requests.{Inflating, Deflating, Reporting_free, kind_of_queue, Buffer}
 use Rattle.vb_model.specs.Requests.{NoBuffer, BufferPosted, BufferTaken, BufferDone}
@@ -22,11 +20,10 @@ use Rattle.vb_model.specs.Guest.{Guest, requests}
 use Rattle.vb_model.specs.Refusals.{refusal_of, inflate_count, reported_blocks, deflate_count}
 use Rattle.vb_model.specs.Refusals.{oom_count}
 use Rattle.vb_model.specs.declared.calls.Claim.{Claim}
-use Rattle.vb_model.specs.Driver.{claim_refusal, contents_of, lowest_lent, Supplying, with_block}
+use Rattle.vb_model.specs.Driver.{claim_refusal, lowest_lent, Supplying}
 use Rattle.vb_model.specs.Driver.{asking, stranded_first, Deflates, Reports, Reaps, Fills, Written}
 use Rattle.vb_model.specs.Driver.{pages_needed}
-use Rattle.vb_model.specs.Device.{Takes, TakesBuffer, Works, Finishes, Asks, next_page, settled}
-use Rattle.vb_model.specs.Device.{used}
+use Rattle.vb_model.specs.Device.{Takes, TakesBuffer, Works, Finishes, Asks, next_page}
 use Rattle.vb_model.specs.Life.{feature_refusal, Negotiates, lacking}
 use Rattle.vb_model.specs.Rogue.{Scribbled}
 use Rattle.vb_model.specs.Step.{Performs, HonestStep}
@@ -122,12 +119,7 @@ same_request a b e = cc
 
 finishes_same : (kind : Kind) (i : ℕ) (g : Guest) (r : Reply) (new : Guest) (r' : Reply)
     (new' : Guest) → Finishes kind i g r new → Finishes kind i g r' new' → Same r new r' new'
-finishes_same kind i g r new r' new' s t =
-    let same : s.0 ≡ t.0 = same_request s.0 t.0 (sym s.1 ∙ t.1) in (
-      s.2 ∙ (ap (λ (x : Request). Finished x.head) same ∙ sym t.2),
-      s.3
-          ∙ (ap (λ (x : Request). settled kind x.pages (used kind i x g)) same ∙ sym t.3),
-    )
+finishes_same kind i g r new r' new' s t = grind arith
 
 deflates_same : (count : ℕ) (g : Guest) (r : Reply) (new : Guest) (r' : Reply) (new' : Guest)
     → Deflates count g r new → Deflates count g r' new' → Same r new r' new'
@@ -165,13 +157,6 @@ negotiates_same : (o : Option Refusal) (wanted : ℕ) (g : Guest) (r : Reply) (n
 negotiates_same None wanted g r new r' new' s t = both r r' _ new new' _ s.0 s.1 t.0 t.1
 negotiates_same (Some refusal) wanted g r new r' new' s t = both r r' _ new new' _ s.0 s.1 t.0 t.1
 
-reads_same : (bytes r r' : Reply) → (r ≡ bytes) ⊎ (r ≡ Refused NoMemory)
-    → (r' ≡ bytes) ⊎ (r' ≡ Refused NoMemory)
-    → (r ≡ r') ⊎ ((r ≡ Refused NoMemory) ⊎ (r' ≡ Refused NoMemory))
-reads_same bytes r r' (inl a) (inl b) = inl (a ∙ sym b)
-reads_same bytes r r' (inr a) b = inr (inl a)
-reads_same bytes r r' (inl a) (inr b) = inr (inr b)
-
 -- the claims are the same, so both are given or both are refused
 supplies_same : (pages : List ℕ) (g : Guest) (claims : List Claim) (r : Reply) (new : Guest)
     (r' : Reply) (new' : Guest) (Rest Rest' : Guest → Type 0) → Supplying pages g claims r new Rest
@@ -189,27 +174,14 @@ supplies_same pages g claims r new r' new' Rest Rest' s t rest =
 performs_agree : (call : Call) (g : Guest) (claims : List Claim) (r : Reply) (new : Guest)
     (r' : Reply) (new' : Guest) → Performs call g claims r new → Performs call g claims r' new'
     → Agree call r new r' new'
-performs_agree (SetTarget n) g claims r new r' new' s t = both r r' _ new new' _ s.1 s.2 t.1 t.2
-performs_agree Reset g claims r new r' new' s t = both r r' _ new new' _ s.1 s.2 t.1 t.2
+performs_agree (SetTarget n) g claims r new r' new' s t = both r r' _ new new' _ s.1.0 s.1.1 t.1.0 t.1.1
+performs_agree Reset g claims r new r' new' s t = both r r' _ new new' _ s.1.0 s.1.1 t.1.0 t.1.1
 performs_agree (Free cpu start order) g claims r new r' new' s t =
-    both r r' _ new new' _ s.1 s.2 t.1 t.2
+    both r r' _ new new' _ s.1.0 s.1.1 t.1.0 t.1.1
 performs_agree (Sweep page) g claims r new r' new' s t =
     both r r' _ new new' _ s.1.0 s.1.1 t.1.0 t.1.1
-performs_agree (Read page offset len) g claims r new r' new' s t = (
-  s.2 ∙ sym t.2,
-  reads_same (ReadBytes (take len (drop offset (contents_of g page)))) r r' s.1
-      t.1,
-)
-performs_agree (Alloc cpu order) g claims r new r' new' s t = (
-  λ e.
-      let told : Page s.1.0 ≡ Page t.1.0 = sym s.1.2 ∙ (e ∙ t.1.2) in
-      let start : s.1.0 ≡ t.1.0 = cc in
-      s.1.3 ∙ (ap (λ (x : ℕ). record g {
-        places = placed (pages_of (record { start = x; order = order })) Used g.places;
-        held = with_block (record { start = x; order = order }) g.held;
-      }) start ∙ sym t.1.3),
-  λ refusal e. absurd (let told : Page s.1.0 ≡ Refused refusal = sym s.1.2 ∙ e in cc),
-)
+performs_agree (Read page offset len) g claims r new r' new' s t = grind arith
+performs_agree (Alloc cpu order) g claims r new r' new' s t = grind arith
 performs_agree (Inflate n) g claims r new r' new' s t =
     let head : s.1.0 ≡ t.1.0 = least_same g.inflate s.1.0 t.1.0 s.1.2 t.1.2 in (
       s.1.6 ∙ (ap (λ (h : ℕ). Posted h (inflate_count g n)) head ∙ sym t.1.6),

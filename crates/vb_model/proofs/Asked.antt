@@ -7,12 +7,10 @@ use Rattle.vb_model.specs.declared.places.Place.TheVariants.{Free as FreePlace, 
 use Rattle.vb_model.specs.declared.places.Place.TheVariants.{Taking, Stranded}
 use Rattle.vb_model.specs.declared.calls.Actor.{Actor}
 use Rattle.vb_model.specs.declared.calls.Call.{Call}
-use Rattle.vb_model.specs.declared.calls.Call.TheVariants.{Reap}
 use Rattle.vb_model.specs.declared.calls.Claim.{Claim}
 use Rattle.vb_model.specs.declared.replies.Reply.{Reply}
 use Rattle.vb_model.specs.Pages.{place_of}
 use Rattle.vb_model.specs.Requests.{Kind, Inflating, Deflating, place_posted}
-use Rattle.vb_model.specs.Requests.{queue_of}
 use Rattle.vb_model.specs.Guest.{Guest, tells_host}
 use Rattle.vb_model.specs.GuestRun.{Entry, Called, Looked, OwnStep}
 use Rattle.vb_model.specs.Courses.{Course, guest_after, BringsTo, ReapedAt}
@@ -65,21 +63,7 @@ abbrev reaped_at : (kind : Kind) (c : Course) (page m : ℕ) (g : Guest) (actor 
     → slice_get c.entries m ≡ Some (Some (Called actor call claims reply))
     → Reaping kind page g call reply → ReapedAt kind c page m
 reaped_at kind c page m g actor call claims reply here at r =
-    record {
-      guest = g;
-      request = r.request;
-      others = r.others;
-      called = (
-        actor,
-        claims,
-        at ∙ ap (λ (x : Call). some_own (Some (Called actor x claims reply))) r.call_is
-            ∙ ap (λ (x : Reply). some_own (Some (Called actor (Reap (queue_of kind)) claims x)))
-            r.reply_is,
-      );
-      is_there = here;
-      done = r.done;
-      named = r.named;
-    }
+    grind (arith)
 
 call_turns : (c : Course) (page m : ℕ) (g new : Guest) (actor : Actor) (call : Call)
     (claims : List Claim) (reply : Reply) → guest_after c m ≡ Some g

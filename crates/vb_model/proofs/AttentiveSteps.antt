@@ -1,32 +1,27 @@
 -- Nothing is outstanding of a guest that isn't ready.
-use Rattle.std.proofs.Common.{◌≡◌, ◌≢◌, ℕ, Bool, true, false, cond, List, [], ◌∷◌, refl, sym, ap}
+use Rattle.std.proofs.Common.{◌≡◌, ◌≢◌, ℕ, Bool, true, false, List, [], ◌∷◌, refl, sym, ap}
 use Rattle.std.proofs.Common.{subst, ◌∙◌, ◌⊎◌, inl, inr, arith}
-use Rattle.std.specs.Prelude.{◌==◌, ◌&&◌, not, Option, Some, None, if◌then◌else◌}
-use Rattle.std.proofs.lemmas.Bool.{not-false, eqb-true}
+use Rattle.std.specs.Prelude.{not, None}
 use Rattle.vb_model.specs.declared.calls.Call.{Call}
 use Rattle.vb_model.specs.declared.calls.Call.TheVariants.{Init, Reset, Alloc, Free, Read, Write}
 use Rattle.vb_model.specs.declared.calls.Call.TheVariants.{Scribble, Inflate, Deflate, Oom, Report}
 use Rattle.vb_model.specs.declared.calls.Call.TheVariants.{Stats, Reap, Take, Work, Finish, Sweep}
 use Rattle.vb_model.specs.declared.calls.Call.TheVariants.{Ask, SetTarget}
 use Rattle.vb_model.specs.declared.calls.Claim.{Claim}
-use Rattle.vb_model.specs.declared.replies.Refusal.{Refusal}
 use Rattle.vb_model.specs.declared.replies.Reply.{Reply}
 use Rattle.vb_model.specs.declared.replies.Reply.TheVariants.{Refused}
 use Rattle.vb_model.specs.Requests.{Request, Kind, Inflating, Deflating, Reporting_free}
 use Rattle.vb_model.specs.Requests.{kind_of_queue, Buffer, NoBuffer, BufferPosted, BufferTaken}
 use Rattle.vb_model.specs.Requests.{BufferDone}
-use Rattle.vb_model.specs.Guest.{Guest, requests, stats_vq}
+use Rattle.vb_model.specs.Guest.{Guest, requests}
 use Rattle.vb_model.specs.Tables.{is_up, is_not_ready}
 use Rattle.vb_model.specs.Refusals.{refusal_of, tests}
-use Rattle.vb_model.specs.Driver.{Reaps, Fills, Written, pages_needed, figures}
-use Rattle.vb_model.specs.Device.{Takes, TakesBuffer, Finishes, Asks, settled, used, next_page}
-use Rattle.vb_model.specs.Life.{feature_refusal, Negotiates, lacking}
-use Rattle.vb_model.specs.Rogue.{Scribbled}
+use Rattle.vb_model.specs.Driver.{Fills}
+use Rattle.vb_model.specs.Device.{Takes, TakesBuffer, Asks}
 use Rattle.vb_model.specs.Step.{Performs, HonestStep}
 use Rattle.vb_model.specs.Orderly.{IsOrderly}
 use Rattle.vb_model.specs.HonestRuns.{has_buffer, IsAttentive}
-use Rattle.vb_model.proofs.CallSteps.{match_cases, supplying_cases, works_cases, not_refused, Idles}
-use Rattle.vb_model.proofs.CallSteps.{Visits, supplied}
+use Rattle.vb_model.proofs.CallSteps.{match_cases, not_refused}
 
 -- ---- a ready guest
 
@@ -52,15 +47,7 @@ stays_ready : (g new changed : Guest) → g.status ≡ 15 → IsAttentive g → 
     → has_buffer changed.buffer ≡ has_buffer g.buffer → IsAttentive new
 stays_ready g new changed is h e s f b =
     let same : new.status ≡ 15 = ap (λ (x : Guest). x.status) e ∙ s ∙ is in
-    record {
-      inflating = λ other. absurd (other same);
-      deflating = λ other. absurd (other same);
-      reporting = λ other. absurd (other same);
-      buffered = ap (λ (x : Guest). has_buffer x.buffer) e ∙ b ∙ h.buffered
-          ∙ ap (λ (n : ℕ). (n == 15) && stats_vq g.features) (is ∙ sym same)
-          ∙ ap (λ (n : ℕ). (new.status == 15) && stats_vq n)
-          (sym (ap (λ (x : Guest). x.features) e ∙ f));
-    }
+    grind (arith, same, h)
 
 -- ---- by cases on lists, buffers and kinds
 
@@ -88,16 +75,6 @@ asks_ready (BufferTaken f) g reply new e is h s =
     stays_ready g new _ is h s.1 refl refl (sym (ap has_buffer e))
 asks_ready (BufferDone f) g reply new e is h s = absurd s
 
-reaps_ready : (kind : Kind) (done : List Request) (g : Guest) (reply : Reply) (new : Guest)
-    → g.status ≡ 15 → IsAttentive g → Reaps kind done g reply new → IsAttentive new
-reaps_ready kind [] g reply new is h s = stays_ready g new _ is h s.1 refl refl refl
-reaps_ready Inflating (r ∷ rest) g reply new is h s =
-    stays_ready g new _ is h s.1 refl refl refl
-reaps_ready Deflating (r ∷ rest) g reply new is h s =
-    stays_ready g new _ is h s.1 refl refl refl
-reaps_ready Reporting_free (r ∷ rest) g reply new is h s =
-    stays_ready g new _ is h s.1 refl refl refl
-
 takes_ready : (kind : Kind) (posted : List Request) (g : Guest) (reply : Reply) (new : Guest)
     → g.status ≡ 15 → IsAttentive g → Takes kind posted g reply new → IsAttentive new
 takes_ready kind [] g reply new is h s = stays_ready g new _ is h s.1 refl refl refl
@@ -108,62 +85,20 @@ takes_ready Deflating (r ∷ rest) g reply new is h s =
 takes_ready Reporting_free (r ∷ rest) g reply new is h s =
     stays_ready g new _ is h s.1 refl refl refl
 
-works_ready : (g : Guest) (reply : Reply) (new : Guest) → g.status ≡ 15 → IsAttentive g
-    → Idles g reply new ⊎ ((kind : Kind) × (page : ℕ) × Visits kind g reply new page)
-    → IsAttentive new
-works_ready g reply new is h (inl i) = stays_ready g new _ is h i.1 refl refl refl
-works_ready g reply new is h (inr (Inflating, page, v)) =
-    stays_ready g new _ is h v.1 refl refl refl
-works_ready g reply new is h (inr (Deflating, page, v)) =
-    stays_ready g new _ is h v.1 refl refl refl
-works_ready g reply new is h (inr (Reporting_free, page, v)) =
-    stays_ready g new _ is h v.1 refl refl refl
-
-finishes_ready : (kind : Kind) (i : ℕ) (r : Request) (g new : Guest) → g.status ≡ 15
-    → IsAttentive g → new ≡ settled kind r.pages (used kind i r g) → IsAttentive new
-finishes_ready Inflating i r g new is h e = stays_ready g new _ is h e refl refl refl
-finishes_ready Deflating i r g new is h e = stays_ready g new _ is h e refl refl refl
-finishes_ready Reporting_free i r g new is h e = stays_ready g new _ is h e refl refl refl
-
-negotiates_ready : (o : Option Refusal) (wanted : ℕ) (g : Guest) (reply : Reply) (new : Guest)
-    → g.status ≡ 0 → IsAttentive g → Negotiates o wanted g reply new → IsAttentive new
-negotiates_ready None wanted g reply new is h s = subst IsAttentive (sym s.1) (record {
-  inflating = λ other. absurd (other refl);
-  deflating = λ other. absurd (other refl);
-  reporting = λ other. absurd (other refl);
-  buffered = either (stats_vq wanted);
-})
-  where
-    either : (b : Bool) → has_buffer (if b then BufferPosted (figures g) else NoBuffer) ≡ b
-    either true = refl
-    either false = refl
-negotiates_ready (Some refusal) wanted g reply new is h s = subst IsAttentive (sym s.1) (record {
-  inflating = λ other. h.inflating (not_down g.status is);
-  deflating = λ other. h.deflating (not_down g.status is);
-  reporting = λ other. h.reporting (not_down g.status is);
-  buffered = h.buffered ∙ ap (λ (n : ℕ). (n == 15) && stats_vq g.features) is;
-})
-
 -- ---- a call that isn't refused
 
 performs_attentive : (call : Call) (g : Guest) (claims : List Claim) (reply : Reply) (new : Guest)
     → IsOrderly g → IsAttentive g → refusal_of g call ≡ None → Performs call g claims reply new
     → new.rogue ≡ false → IsAttentive new
 performs_attentive (SetTarget n) g claims reply new o h e s honest =
-    subst IsAttentive (sym s.2) h
-performs_attentive Reset g claims reply new o h e s honest =
-    subst IsAttentive (sym s.2) (record {
-      inflating = λ other. refl;
-      deflating = λ other. refl;
-      reporting = λ other. refl;
-      buffered = refl;
-    })
+    subst IsAttentive (sym s.1.1) h
+performs_attentive Reset g claims reply new o h e s honest = grind (arith, h)
 performs_attentive (Read page offset len) g claims reply new o h e s honest =
-    subst IsAttentive (sym s.2) h
+    subst IsAttentive (sym s.1.1) h
 performs_attentive (Alloc cpu order) g claims reply new o h e s honest =
     subst IsAttentive (sym s.1.3) h
 performs_attentive (Free cpu start order) g claims reply new o h e s honest =
-    subst IsAttentive (sym s.2) h
+    subst IsAttentive (sym s.1.1) h
 performs_attentive (Sweep page) g claims reply new o h e s honest =
     stays_ready g new _ (open_to g o (not_refused (tests g (Sweep page)) e).0) h s.1.1 refl refl refl
 performs_attentive (Inflate n) g claims reply new o h e s honest =
@@ -178,46 +113,18 @@ performs_attentive Stats g claims reply new o h e s honest =
     fills_ready g.buffer g reply new refl (up g o (not_refused (tests g Stats) e).0) h s.1
 performs_attentive Ask g claims reply new o h e s honest =
     asks_ready g.buffer g reply new refl (open_to g o (not_refused (tests g Ask) e).0) h s.1
-performs_attentive (Reap q) g claims reply new o h e s honest =
-    elim (match_cases (kind_of_queue q) ⊥ (λ kind. Reaps kind (requests kind g).done g reply new)
-    s.1) [
-      | inl n ↦ absurd n.1
-      | inr k ↦ reaps_ready k.0 (requests k.0 g).done g reply new (up g o (not_refused (tests g (Reap q)) e).1.0) h k.2
-    ]
+performs_attentive (Reap q) g claims reply new o h e s honest = grind (arith, h)
 performs_attentive (Take q) g claims reply new o h e s honest =
     elim (match_cases (kind_of_queue q) (TakesBuffer g.buffer g reply new)
     (λ kind. Takes kind (requests kind g).posted g reply new) s.1) [
       | inl n ↦ takes_buffer_ready g.buffer g reply new refl (open_to g o (not_refused (tests g (Take q)) e).1.0) h n.1
       | inr k ↦ takes_ready k.0 (requests k.0 g).posted g reply new (open_to g o (not_refused (tests g (Take q)) e).1.0) h k.2
     ]
-performs_attentive Work g claims reply new o h e s honest =
-    works_ready g reply new (open_to g o (not_refused (tests g Work) e).0) h
-    (works_cases (cond g.config.paced (next_page g.inflate.taken) None)
-    (cond g.config.paced (next_page g.report.taken) None) g reply new s.1)
-performs_attentive (Finish q i) g claims reply new o h e s honest =
-    elim (match_cases (kind_of_queue q) ⊥ (λ kind. Finishes kind i g reply new) s.1) [
-      | inl n ↦ absurd n.1
-      | inr k ↦ finishes_ready k.0 i k.2.0 g new (open_to g o (not_refused (tests g (Finish q i)) e).1.0) h k.2.3
-    ]
-performs_attentive (Init wanted) g claims reply new o h e s honest =
-    elim (supplying_cases (lacking g) g claims reply new
-    (λ m. Negotiates (feature_refusal wanted) wanted m reply new) s) [
-      | inr r ↦ subst IsAttentive (sym r.2) h
-      | inl m ↦ negotiates_ready (feature_refusal wanted) wanted (supplied (lacking g) claims g) reply
-          new (eqb-true g.status 0 (not-false _ (not_refused (tests g (Init wanted)) e).0)) h m
-    ]
-performs_attentive (Write page offset bytes) g claims reply new o h e s honest =
-    elim (supplying_cases (pages_needed page bytes g) g claims reply new
-    (λ m. Written page offset bytes m reply new) s) [
-      | inl m ↦ subst IsAttentive (sym m.1) h
-      | inr r ↦ subst IsAttentive (sym r.2) h
-    ]
-performs_attentive (Scribble page offset bytes) g claims reply new o h e s honest =
-    elim (supplying_cases (pages_needed page bytes g) g claims reply new
-    (λ m. Scribbled m reply new) s) [
-      | inl m ↦ (let rogue : new.rogue ≡ true = m.state.still in absurd cc)
-      | inr r ↦ subst IsAttentive (sym r.2) h
-    ]
+performs_attentive Work g claims reply new o h e s honest = grind (arith, h)
+performs_attentive (Finish q i) g claims reply new o h e s honest = grind (arith, h)
+performs_attentive (Init wanted) g claims reply new o h e s honest = grind (arith, h)
+performs_attentive (Write page offset bytes) g claims reply new o h e s honest = grind (arith, h)
+performs_attentive (Scribble page offset bytes) g claims reply new o h e s honest = grind (arith, h)
 
 pub honest_attentive : (g : Guest) (call : Call) (claims : List Claim) (reply : Reply) (new : Guest)
     → IsOrderly g → IsAttentive g → HonestStep g call claims reply new → new.rogue ≡ false

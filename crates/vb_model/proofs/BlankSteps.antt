@@ -2,10 +2,9 @@
 use Rattle.std.proofs.Common.{◌≡◌, ℕ, ◌+◌, ◌<◌, ◌≤◌, Bool, true, false, cond, List, [], ◌∷◌, ◌++◌}
 use Rattle.std.proofs.Common.{length, get_or, take, drop, refl, sym, ap, subst, ◌∙◌, ◌⊎◌, inl, inr}
 use Rattle.std.proofs.Common.{arith, length-append, length-take, length-drop}
-use Rattle.std.specs.Prelude.{◌==◌, ◌||◌, nat_lt, nat_le, Option, Some, None, is_none}
+use Rattle.std.specs.Prelude.{◌==◌, ◌||◌, Option, Some, None, is_none}
 use Rattle.std.specs.Prelude.{if◌then◌else◌}
 use Rattle.std.proofs.lemmas.List.{take-append-drop, get_or-replicate, length-replicate}
-use Rattle.std.proofs.lemmas.Bool.{eqb-true, ltb-false}
 use Rattle.vb_model.specs.declared.calls.Call.{Call}
 use Rattle.vb_model.specs.declared.calls.Call.TheVariants.{Init, Reset, Alloc, Free, Read, Write}
 use Rattle.vb_model.specs.declared.calls.Call.TheVariants.{Scribble, Inflate, Deflate, Oom, Report}
@@ -22,17 +21,16 @@ use Rattle.vb_model.specs.Requests.{Request, Kind, Inflating, Deflating, Reporti
 use Rattle.vb_model.specs.Requests.{kind_of_queue}
 use Rattle.vb_model.specs.Guest.{Guest, Config, fresh, requests, unbacked, frame_of, backed}
 use Rattle.vb_model.specs.Guest.{all_backed, zero_page}
-use Rattle.vb_model.specs.Refusals.{refusal_of, tests}
+use Rattle.vb_model.specs.Refusals.{refusal_of}
 use Rattle.vb_model.specs.Driver.{given, claim_refusal, AreClaimsFor, Supplying, Reaps, Written}
 use Rattle.vb_model.specs.Driver.{pages_needed, overwritten}
 use Rattle.vb_model.specs.Device.{Takes, TakesBuffer, Finishes, settled, used, next_page}
 use Rattle.vb_model.specs.Life.{feature_refusal, Negotiates, lacking}
-use Rattle.vb_model.specs.Rogue.{Scribbled}
 use Rattle.vb_model.specs.Step.{Performs, HonestStep}
-use Rattle.vb_model.specs.Blank.{AreBlank, IsBlank}
+use Rattle.vb_model.specs.Blank.{IsBlank}
 use Rattle.vb_model.proofs.Tables.{length-each_from, each_page-get}
 use Rattle.vb_model.proofs.CallSteps.{match_cases, supplying_cases, works_cases, Idles, Visits}
-use Rattle.vb_model.proofs.CallSteps.{supplied, not_refused}
+use Rattle.vb_model.proofs.CallSteps.{supplied}
 
 abbrev frames_of : Guest → List (Option ℕ)
 frames_of g = g.frames
@@ -43,10 +41,7 @@ size_of g = g.config.pages
 -- frames, contents and size are those of another guest
 stays : (g new : Guest) → IsBlank g → size_of new ≡ size_of g → new.frames ≡ g.frames
     → new.contents ≡ g.contents → IsBlank new
-stays g new h n f c =
-    subst (λ (k : ℕ). AreBlank k new.frames new.contents) (sym n)
-    (subst (λ (fs : List (Option ℕ)). AreBlank g.config.pages fs new.contents) (sym f)
-    (subst (λ (cs : List (List ℕ)). AreBlank g.config.pages g.frames cs) (sym c) h))
+stays g new h n f c = grind (arith, h)
 
 pub length-zero_page : length zero_page ≡ page_size
 unfolding zero_page
@@ -214,11 +209,7 @@ written_backed p (b ∷ bytes) g claims h a r page none same l =
     step true e (Gave f ∷ cs) a r none = absurd (let w = was_bare p f g.frames page long none in cc)
     step true e (GaveNoFrame ∷ cs) a r none = absurd cc
     step true e (GaveNoMemory ∷ cs) a r none = absurd cc
-    step false e cs a r none =
-        let at : page ≡ p = eqb-true page p same in
-        let bare : is_none (frame_of g.frames p) ≡ true =
-        ap (λ (o : Option ℕ). is_none o) (sym (ap (frame_of g.frames) at) ∙ none) in
-        absurd cc
+    step false e cs a r none = grind arith
 
 -- ---- a call that isn't refused
 
@@ -243,13 +234,6 @@ works_blank g reply new h (inr (Inflating, page, v)) = keeps g new _ v.1 (loses 
 works_blank g reply new h (inr (Deflating, page, v)) = keeps g new _ v.1 (loses (page ∷ []) g h)
 works_blank g reply new h (inr (Reporting_free, page, v)) =
     keeps g new _ v.1 (loses (page ∷ []) g h)
-
-reaps_blank : (kind : Kind) (done : List Request) (g : Guest) (reply : Reply) (new : Guest)
-    → IsBlank g → Reaps kind done g reply new → IsBlank new
-reaps_blank kind [] g reply new h s = subst IsBlank (sym s.1) h
-reaps_blank Inflating (r ∷ rest) g reply new h s = subst IsBlank (sym s.1) h
-reaps_blank Deflating (r ∷ rest) g reply new h s = subst IsBlank (sym s.1) h
-reaps_blank Reporting_free (r ∷ rest) g reply new h s = subst IsBlank (sym s.1) h
 
 takes_blank : (kind : Kind) (posted : List Request) (g : Guest) (reply : Reply) (new : Guest)
     → IsBlank g → Takes kind posted g reply new → IsBlank new
@@ -295,10 +279,7 @@ negotiates_blank (Some refusal) wanted g reply new h s = subst IsBlank (sym s.1)
 -- a write that isn't refused lies in its page
 in_page : (g : Guest) (page offset : ℕ) (bytes : List ℕ)
     → refusal_of g (Write page offset bytes) ≡ None → offset + length bytes ≤ page_size
-in_page g page offset bytes e =
-    let n = not_refused (tests g (Write page offset bytes)) e in
-    ltb-false page_size (offset + length bytes)
-    (second (nat_le g.config.pages page) (nat_lt page_size (offset + length bytes)) n.1.0)
+in_page g page offset bytes e = grind arith
   where
     second : (a b : Bool) → (a || b) ≡ false → b ≡ false
     second true b h = absurd cc
@@ -307,25 +288,20 @@ in_page g page offset bytes e =
 performs_blank : (call : Call) (g : Guest) (claims : List Claim) (reply : Reply) (new : Guest)
     → IsBlank g → refusal_of g call ≡ None → Performs call g claims reply new → new.rogue ≡ false
     → IsBlank new
-performs_blank (SetTarget n) g claims reply new h r s honest = subst IsBlank (sym s.2) h
-performs_blank Reset g claims reply new h r s honest = subst IsBlank (sym s.2) h
-performs_blank (Read page offset len) g claims reply new h r s honest = subst IsBlank (sym s.2) h
+performs_blank (SetTarget n) g claims reply new h r s honest = subst IsBlank (sym s.1.1) h
+performs_blank Reset g claims reply new h r s honest = subst IsBlank (sym s.1.1) h
+performs_blank (Read page offset len) g claims reply new h r s honest = subst IsBlank (sym s.1.1) h
 performs_blank (Sweep page) g claims reply new h r s honest =
     keeps g new _ s.1.1 (loses (page ∷ []) g h)
 performs_blank (Alloc cpu order) g claims reply new h r s honest = subst IsBlank (sym s.1.3) h
-performs_blank (Free cpu start order) g claims reply new h r s honest = subst IsBlank (sym s.2) h
+performs_blank (Free cpu start order) g claims reply new h r s honest = subst IsBlank (sym s.1.1) h
 performs_blank (Inflate n) g claims reply new h r s honest = subst IsBlank (sym s.1.7) h
 performs_blank (Deflate n) g claims reply new h r s honest = subst IsBlank (sym s.1.3) h
 performs_blank (Oom n) g claims reply new h r s honest = subst IsBlank (sym s.1.3) h
 performs_blank (Report from) g claims reply new h r s honest = subst IsBlank (sym s.1.3) h
 performs_blank Stats g claims reply new h r s honest = fills_blank g.buffer g reply new h s.1
 performs_blank Ask g claims reply new h r s honest = asks_blank g.buffer g reply new h s.1
-performs_blank (Reap q) g claims reply new h r s honest =
-    elim (match_cases (kind_of_queue q) ⊥ (λ kind. Reaps kind (requests kind g).done g reply new)
-    s.1) [
-      | inl n ↦ absurd n.1
-      | inr k ↦ reaps_blank k.0 (requests k.0 g).done g reply new h k.2
-    ]
+performs_blank (Reap q) g claims reply new h r s honest = grind (arith, h)
 performs_blank (Take q) g claims reply new h r s honest =
     elim (match_cases (kind_of_queue q) (TakesBuffer g.buffer g reply new)
     (λ kind. Takes kind (requests kind g).posted g reply new) s.1) [
@@ -359,12 +335,7 @@ performs_blank (Write page offset bytes) g claims reply new h r s honest =
           (gains (pages_needed page bytes g) (given claims) g h) (in_page g page offset bytes r)
           (λ p none same l. written_backed page bytes g claims h s.0 m.0 p none same l))
     ]
-performs_blank (Scribble page offset bytes) g claims reply new h r s honest =
-    elim (supplying_cases (pages_needed page bytes g) g claims reply new
-    (λ supplied. Scribbled supplied reply new) s) [
-      | inl m ↦ let rogue : new.rogue ≡ true = m.state.still in absurd cc
-      | inr r ↦ subst IsBlank (sym r.2) h
-    ]
+performs_blank (Scribble page offset bytes) g claims reply new h r s honest = grind (arith, h)
 
 pub honest_blank : (g : Guest) (call : Call) (claims : List Claim) (reply : Reply) (new : Guest)
     → IsBlank g → HonestStep g call claims reply new → new.rogue ≡ false → IsBlank new

@@ -4,13 +4,11 @@ use Rattle.std.proofs.Common.{false, cond, List, [], ◌∷◌, take, refl, sym,
 use Rattle.std.proofs.Common.{inl, inr, arith, ◌⊎◌, ◌≢◌}
 use Rattle.std.specs.Prelude.{◌==◌, ◌&&◌, ◌%◌, not, count_by, nat_lt, nat_le, filter, map}
 use Rattle.std.specs.List.{list_all, list_any, range_with_len, flat_map}
-use Rattle.std.proofs.lemmas.List.Elements.{filter_agree}
 use Rattle.std.proofs.lemmas.Nat.{pow_pos, mod-mul-add, pow-add, div-add-mod'}
 use Rattle.std.proofs.Math.Nat.{lt_of_mul-lt-mul_left, mul-lt-mul_of_pos_left, mul_assoc, mul_comm}
 use Rattle.std.proofs.Math.Nat.{mul-add}
 use Rattle.std.proofs.lemmas.Bool.{eqb-true, eq-eqb, ne_eqb, le-leb, lt-ltb, and_parts, and_from}
 use Rattle.std.proofs.lemmas.Bool.{cases_lt, cases_eq, leb-true, ltb-true, false_from_ne_true}
-use Rattle.std.proofs.lemmas.Bool.{not-true}
 use Rattle.vb_model.specs.Limits.{max_order}
 use Rattle.vb_model.specs.Tests.{one_if}
 use Rattle.vb_model.specs.Pages.{Block, size, pages_of, pages_of_all, covers, is_whole}
@@ -54,17 +52,7 @@ covering : (page : ℕ) (b : Block) → is_aligned b ≡ true → covers page b 
 covering page b aligned c =
     let parts = and_parts (nat_le b.start page) (nat_lt page (b.start + size b)) c in
     let rest : b.start % size b ≡ 0 = eqb-true _ 0 aligned in
-    record {
-      begins = b.start / size b;
-      first = omega (
-        arith,
-        div-add-mod' b.start (size b),
-        mul_comm (size b) (b.start / size b),
-        rest,
-      );
-      low = leb-true _ _ parts.0;
-      high = ltb-true _ _ parts.1;
-    }
+    grind (arith, parts, rest, div-add-mod' b.start (size b), mul_comm (size b) (b.start / size b))
 
 -- the block of the larger order round the smaller one's start is the larger one
 larger : (page : ℕ) (b c : Block) → b.order < c.order → is_aligned b ≡ true → covers page b ≡ true
@@ -99,15 +87,7 @@ record IsRound (test : ℕ → Bool) (page : ℕ) (b : Block) : Type 0 where
 
 is_round : (test : ℕ → Bool) (page : ℕ) (b : Block) → holds test page b ≡ true
     → IsRound test page b
-is_round test page b h =
-    let parts = and_parts (is_maximal test b) (covers page b) h in
-    let most = and_parts (is_whole test b) _ parts.0 in
-    record {
-      free = most.0;
-      aligned = (and_parts (is_aligned b) _ most.0).0;
-      cover = parts.1;
-      widest = not-true _ most.1;
-    }
+is_round test page b h = grind (arith, h, h)
 
 pub any_in_range : (test : ℕ → Bool) (k first count : ℕ) → first ≤ k → k < first + count → test k ≡ true
     → list_any test (range_with_len first count) ≡ true
@@ -331,10 +311,7 @@ passes-some test first (suc count) h = step (test first) refl (passes-some test 
         → (k : ℕ) × (k < first + 1 + count) × (test k ≡ true))
         → (k : ℕ) × (k < first + suc count) × (test k ≡ true)
     step true e ih = (first, omega arith, e)
-    step false e ih =
-        let z : one_if (test first) ≡ 0 = ap one_if e in
-        let k = ih (omega (arith, count_by-cons test first (range_with_len (first + 1) count))) in
-        (k.0, (let l : k.0 < first + 1 + count = k.1 in omega arith), k.2)
+    step false e ih = grind (arith, count_by-cons test first (range_with_len (first + 1) count))
 
 count-map : {A B : Type 0} (test : B → Bool) (f : A → B) (xs : List A)
     → count_by test (map f xs) ≡ count_by (λ x. test (f x)) xs
@@ -382,11 +359,7 @@ flat-one test f first (suc count) each one =
         )
       where
         zero_from : (k : ℕ) → first + 1 ≤ k → count_by test (f k) ≡ 0
-        zero_from k a =
-            elim (cases_lt 0 (count_by test (f k))) [
-              | inl p ↦ (let same : first ≡ k = one first k o p in absurd (omega arith))
-              | inr z ↦ omega arith
-            ]
+        zero_from k a = grind arith
 
 one_block : (test : ℕ → Bool) (page : ℕ) (s t j k : ℕ) → j ≤ max_order → k ≤ max_order
     → holds test page (record { start = s; order = j }) ≡ true
@@ -444,30 +417,7 @@ reported_distinct test keep count n page =
 
 -- ---- tests that agree
 
-all_agree : (f g : ℕ → Bool) (ns : List ℕ) → ((n : ℕ) → f n ≡ g n) → list_all f ns ≡ list_all g ns
-all_agree f g [] same = refl
-all_agree f g (n ∷ ns) same =
-    ap (λ (v : Bool). v && list_all f ns) (same n)
-    ∙ ap (λ (v : Bool). g n && v) (all_agree f g ns same)
-
-any_agree : (f g : ℕ → Bool) (ns : List ℕ) → ((n : ℕ) → f n ≡ g n) → list_any f ns ≡ list_any g ns
-any_agree f g [] same = refl
-any_agree f g (n ∷ ns) same =
-    ap (λ (v : Bool). Rattle.std.specs.Prelude.◌||◌ v (list_any f ns)) (same n)
-    ∙ ap (λ (v : Bool). Rattle.std.specs.Prelude.◌||◌ (g n) v) (any_agree f g ns same)
-
-whole_agree : (f g : ℕ → Bool) (b : Block) → ((n : ℕ) → f n ≡ g n) → is_whole f b ≡ is_whole g b
-whole_agree f g b same = ap (λ (v : Bool). is_aligned b && v) (all_agree f g (pages_of b) same)
-
 -- the maximal blocks of two tests that agree
 pub maximal_agree : (n : ℕ) (f g : ℕ → Bool) → ((page : ℕ) → f page ≡ g page)
     → maximal_blocks n f ≡ maximal_blocks n g
-maximal_agree n f g same =
-    filter_agree (is_maximal f) (is_maximal g) (λ b.
-    ap (λ (v : Bool). v && not (list_any (λ order. is_whole f (around b.start order))
-    (range_with_len (suc b.order) (max_order - b.order)))) (whole_agree f g b same)
-    ∙ ap (λ (v : Bool). is_whole g b && not v)
-    (any_agree (λ order. is_whole f (around b.start order))
-    (λ order. is_whole g (around b.start order))
-    (range_with_len (suc b.order) (max_order - b.order))
-    (λ order. whole_agree f g (around b.start order) same))) (blocks_below n)
+maximal_agree n f g same = grind arith

@@ -3,7 +3,7 @@
 use Rattle.std.proofs.Common.{◌≡◌, ℕ, zero, suc, ◌+◌, ◌<◌, ◌≤◌, Bool, true, false, cond, List, []}
 use Rattle.std.proofs.Common.{◌∷◌, ◌++◌, length, get_or, refl, sym, ap, ◌∙◌, arith}
 use Rattle.std.specs.Prelude.{◌==◌, ◌||◌, count_by, slice_get, Some, remove}
-use Rattle.std.proofs.lemmas.Bool.{eqb-true, eqb-false, eq-eqb, ne_eqb, not-true}
+use Rattle.std.proofs.lemmas.Bool.{eqb-true, eq-eqb, not-true}
 use Rattle.vb_model.specs.declared.places.Place.{Place}
 use Rattle.vb_model.specs.declared.places.Place.TheVariants.{Reserved}
 use Rattle.vb_model.specs.Tests.{is_in, one_if, each_from, pages_from, pages_where}
@@ -26,10 +26,7 @@ inside-none (suc n) first = omega (arith, inside-none n (suc first))
 
 inside-before : (n first x : ℕ) → x < first → inside first n (x ∷ []) ≡ 0
 inside-before zero first x l = refl
-inside-before (suc n) first x l =
-    let out : (x == first) ≡ false = ne_eqb x first (λ e. absurd (omega arith)) in
-    let none : one_if (is_in first (x ∷ [])) ≡ 0 = ap (λ (b : Bool). one_if (b || false)) out in
-    omega (arith, none, inside-before n (suc first) x (omega arith))
+inside-before (suc n) first x l = grind (arith, inside-before n (suc first) x (omega arith))
 
 inside-one : (n first x : ℕ) → first ≤ x → x < first + n → inside first n (x ∷ []) ≡ 1
 inside-one zero first x a b = absurd (omega arith)
@@ -42,11 +39,7 @@ inside-one (suc n) first x a b =
         let one : one_if (is_in first (x ∷ [])) ≡ 1 = ap (λ (b : Bool). one_if (b || false)) e in
         let same : x ≡ first = eqb-true x first e in
         omega (arith, one, inside-before n (suc first) x (omega arith))
-    step false e ih =
-        let none : one_if (is_in first (x ∷ [])) ≡ 0 = ap (λ (b : Bool). one_if (b || false)) e in
-        let other : x ≡ first → ⊥ = eqb-false x first e in
-        let more : suc first ≤ x = omega arith in
-        omega (arith, none, ih more)
+    step false e ih = grind arith
 
 inside-cons : (n first x : ℕ) (xs : List ℕ) → is_in x xs ≡ false
     → inside first n (x ∷ xs) ≡ inside first n (x ∷ []) + inside first n xs
@@ -56,19 +49,8 @@ inside-cons (suc n) first x xs out =
   where
     here : (v : Bool) → (x == first) ≡ v
         → one_if (is_in first (x ∷ xs)) ≡ one_if (is_in first (x ∷ [])) + one_if (is_in first xs)
-    here true e =
-        let same : x ≡ first = eqb-true x first e in
-        let none : one_if (is_in first xs) ≡ 0 =
-        ap (λ (p : ℕ). one_if (is_in p xs)) (sym same) ∙ ap one_if out in
-        let a : one_if (is_in first (x ∷ xs)) ≡ 1 =
-        ap (λ (b : Bool). one_if (b || is_in first xs)) e in
-        let c : one_if (is_in first (x ∷ [])) ≡ 1 = ap (λ (b : Bool). one_if (b || false)) e in
-        omega (arith, none, a, c)
-    here false e =
-        let a : one_if (is_in first (x ∷ xs)) ≡ one_if (is_in first xs) =
-        ap (λ (b : Bool). one_if (b || is_in first xs)) e in
-        let c : one_if (is_in first (x ∷ [])) ≡ 0 = ap (λ (b : Bool). one_if (b || false)) e in
-        omega (arith, a, c)
+    here true e = grind arith
+    here false e = grind arith
 
 pub inside-all : (n : ℕ) (pages : List ℕ) → AllDistinct pages
     → ((page : ℕ) → is_in page pages ≡ true → page < n) → inside 0 n pages ≡ length pages
@@ -127,11 +109,7 @@ count-moved test pages place first (x ∷ xs) out ok =
         let c : one_if (test x) ≡ 1 = ap one_if (ok 0 (omega arith) (first_is e)) in
         let d : one_if (is_in first pages) ≡ 1 = ap one_if e in
         omega (arith, a, c, d)
-    here false e =
-        let a : one_if (test (cond (is_in first pages) place x)) ≡ one_if (test x) =
-        ap (λ (b : Bool). one_if (test (cond b place x))) e in
-        let d : one_if (is_in first pages) ≡ 0 = ap one_if e in
-        omega (arith, a, d)
+    here false e = grind arith
 
 pub moved_out : (test : Place → Bool) (pages : List ℕ) (place : Place) (places : List Place)
     → test place ≡ false → AllDistinct pages
@@ -205,10 +183,7 @@ named-work rs =
 named-remove : (rs : List Request) (i : ℕ) (r : Request) → slice_get rs i ≡ Some r
     → pages_named (remove rs i) + length r.pages ≡ pages_named rs
 named-remove [] i r e = absurd cc
-named-remove (x ∷ xs) zero r e =
-    let same : x ≡ r = cc in
-    let n : length x.pages ≡ length r.pages = ap (λ (y : Request). length y.pages) same in
-    omega arith
+named-remove (x ∷ xs) zero r e = grind arith
 named-remove (x ∷ xs) (suc i) r e = omega (arith, named-remove xs i r e)
 
 pub named-finish : (i : ℕ) (r : Request) (rs : Requests) → slice_get rs.taken i ≡ Some r

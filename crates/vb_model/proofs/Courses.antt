@@ -1,17 +1,15 @@
 -- What holds in each state of a guest's course, and between two of them.
 use Rattle.std.proofs.Common.{◌≡◌, ℕ, zero, suc, ◌+◌, Bool, true, false, List, []}
-use Rattle.std.proofs.Common.{◌∷◌, refl, sym, ap, subst, ◌∙◌, ◌⊎◌, inl, inr, arith}
+use Rattle.std.proofs.Common.{◌∷◌, refl, sym, subst, ◌∙◌, ◌⊎◌, inl, inr, arith}
 use Rattle.std.specs.Prelude.{Option, Some, None, slice_get, MatchBool}
 use Rattle.vb_model.specs.declared.calls.Call.{Call}
 use Rattle.vb_model.specs.declared.calls.Call.TheVariants.{Scribble}
 use Rattle.vb_model.specs.declared.calls.Claim.{Claim}
 use Rattle.vb_model.specs.declared.replies.Reply.{Reply}
-use Rattle.vb_model.specs.declared.replies.Reply.TheVariants.{Refused}
 use Rattle.vb_model.specs.Guest.{Guest, Config, fresh}
-use Rattle.vb_model.specs.Driver.{pages_needed}
-use Rattle.vb_model.specs.Refusals.{refusal_of}
-use Rattle.vb_model.specs.Rogue.{RogueStep, Scribbled, IsRogueAfter}
-use Rattle.vb_model.specs.Step.{Performs, HonestStep, GuestStep}
+use Rattle.vb_model.specs.Rogue.{RogueStep, IsRogueAfter}
+use Rattle.vb_model.specs.Step.{HonestStep}
+use Rattle.vb_model.specs.Rogue.{GuestStep}
 use Rattle.vb_model.specs.Consistent.{IsConsistent}
 use Rattle.vb_model.specs.Orderly.{IsOrderly}
 use Rattle.vb_model.specs.Blank.{IsBlank}
@@ -19,7 +17,7 @@ use Rattle.vb_model.specs.HonestRuns.{IsAttentive}
 use Rattle.vb_model.specs.GuestRun.{Entry, Called, Looked, EntryStep, OwnStep, Leads}
 use Rattle.vb_model.specs.GuestRun.{is_scribbled}
 use Rattle.vb_model.specs.Courses.{Course, guest_after}
-use Rattle.vb_model.proofs.CallSteps.{match_cases, supplying_cases, honest_keeps}
+use Rattle.vb_model.proofs.CallSteps.{honest_keeps}
 use Rattle.vb_model.proofs.GuestSteps.{fresh_consistent}
 use Rattle.vb_model.proofs.OrderlySteps.{honest_order, fresh_order}
 use Rattle.vb_model.proofs.BlankSteps.{honest_blank, fresh_blank}
@@ -46,20 +44,7 @@ still_honest g call claims reply new honest none s = cases (step_keeps g call cl
     scribble : (page offset : ℕ) (bytes : List ℕ)
         → HonestStep g (Scribble page offset bytes) claims reply new
         → is_scribbled (Scribble page offset bytes) reply ≡ false → new.rogue ≡ false
-    scribble page offset bytes s none =
-        elim (match_cases (refusal_of g (Scribble page offset bytes))
-        (Performs (Scribble page offset bytes) g claims reply new)
-        (λ refusal. (claims ≡ []) × (reply ≡ Refused refusal) × (new ≡ g)) s) [
-          | inr r ↦ ap (λ (x : Guest). x.rogue) r.2.2 ∙ honest
-          | inl p ↦
-              elim (supplying_cases (pages_needed page bytes g) g claims reply new
-              (λ m. Scribbled m reply new) p.1) [
-                | inr r ↦ ap (λ (x : Guest). x.rogue) r.2 ∙ honest
-                | inl m ↦ absurd (let wrong : true ≡ false =
-                    sym (ap (λ (r : Reply). is_scribbled (Scribble page offset bytes) r) m.answered)
-                    ∙ none in cc)
-              ]
-        ]
+    scribble page offset bytes s none = grind arith
 
     cases : (new.rogue ≡ g.rogue) ⊎ (MayBeRogue g call × IsRogueAfter g new) → new.rogue ≡ false
     cases (inl same) = same ∙ honest
@@ -135,12 +120,7 @@ every_step : (g : Guest) (entries : List (Option Entry)) (after : List Guest)
     → slice_get after i ≡ Some b → EntryAt entries i a b
 every_step g [] [] s i a b ha hb = absurd cc
 every_step g (own ∷ entries) (new ∷ after) s zero a b ha hb =
-    record {
-      own = own;
-      own_is = refl;
-      step = subst (λ (x : Guest). OwnStep x own b) (same_some g a ha)
-          (subst (λ (x : Guest). OwnStep g own x) (same_some new b hb) s.0);
-    }
+    grind (arith)
 every_step g (own ∷ entries) (new ∷ after) s (suc i) a b ha hb =
     let r = every_step new entries after s.1 i a b ha hb in
     record { own = r.own; own_is = r.own_is; step = r.step }
@@ -160,12 +140,7 @@ every_entry : (g : Guest) (entries : List (Option Entry)) (after : List Guest)
 every_entry g [] [] s i entry at = absurd cc
 every_entry g (own ∷ entries) (new ∷ after) s zero entry at =
     let e : own ≡ Some entry = cc in
-    record {
-      before = g;
-      next = new;
-      is_there = refl;
-      step = subst (λ (x : Option Entry). OwnStep g x new) e s.0;
-    }
+    grind (arith, e)
 every_entry g (own ∷ entries) (new ∷ after) s (suc i) entry at =
     let r = every_entry new entries after s.1 i entry at in
     record { before = r.before; next = r.next; is_there = r.is_there; step = r.step }

@@ -51,10 +51,7 @@ times_below test (x ∷ xs) first page l =
         → times page (cond v (first ∷ pages_from (suc first) test xs)
         (pages_from (suc first) test xs)) ≡ 0
     step false ih = ih
-    step true ih =
-        let z : one_if (first == page) ≡ 0 =
-        ap one_if (ne_eqb first page (λ e. absurd (omega arith))) in
-        omega (arith, times-cons page first (pages_from (suc first) test xs))
+    step true ih = grind (arith, times-cons page first (pages_from (suc first) test xs))
 
 times_rising : {A : Type 0} (test : A → Bool) (xs : List A) (first page : ℕ)
     → times page (pages_from first test xs) ≤ 1

@@ -23,7 +23,8 @@ use Rattle.vb_model.specs.Driver.{given, claim_refusal, AreClaimsFor, Supplying,
 use Rattle.vb_model.specs.Driver.{pages_needed}
 use Rattle.vb_model.specs.Life.{feature_refusal, Negotiates, lacking}
 use Rattle.vb_model.specs.Rogue.{LosesFrames, RogueStep, Scribbled, unless_refused, pages_to_back}
-use Rattle.vb_model.specs.Step.{Performs, HonestStep, GuestStep}
+use Rattle.vb_model.specs.Step.{Performs, HonestStep}
+use Rattle.vb_model.specs.Rogue.{GuestStep}
 use Rattle.vb_model.specs.World.{World, guest_at}
 use Rattle.vb_model.specs.HostFrames.{Gives, IsOut}
 use Rattle.vb_model.specs.HostRefusals.{world_tests}
@@ -207,11 +208,7 @@ left f y (x ∷ xs) e = step (x == f) (x == y) refl refl (λ k. left f y xs k) e
     step true true p q later k = inl (sym (eqb-true x y q) ∙ eqb-true x f p)
     step true false p q later k = later k
     step false true p q later k = inr (ap (λ (b : Bool). b || is_in y (without f xs)) q)
-    step false false p q later k =
-        elim (later k) [
-          | inl e ↦ inl e
-          | inr m ↦ inr (ap (λ (b : Bool). b || is_in y (without f xs)) q ∙ m)
-        ]
+    step false false p q later k = grind arith
 
 -- all claims were given frames, none of which was out: so they are no more than those that weren't
 all_given : (frames : ℕ) (Out : ℕ → Type 0) (pages : List ℕ) (claims : List Claim) (got : List ℕ)
@@ -277,7 +274,7 @@ want_answered w v n call reply g here s want =
       | inr r ↦ absurd (let there : first_refusal (world_tests w (OnGuest n call)) ≡ None =
           ap (λ (o : Option Guest). first_refusal ((is_none o ⇒ NoGuest) ∷ [])) here in cc)
       | inl p ↦
-          elim (match_cases (guest_at w.guests n) ⊥ (λ g. Calls n g w (OnGuest n call) reply v) p.1) [
+          elim (match_cases (guest_at w.guests n) ⊥ (λ g. Calls n g w call reply v) p.1) [
             | inl none ↦ absurd none.1
             | inr k ↦
                 let same : k.0 ≡ g = same_some k.0 g (sym k.1 ∙ here) in

@@ -21,7 +21,8 @@ use Rattle.vb_model.specs.Guest.{Guest, frame_of}
 use Rattle.vb_model.specs.Refusals.{first_refusal}
 use Rattle.vb_model.specs.Life.{after_restart}
 use Rattle.vb_model.specs.Rogue.{IsRogueAfter, RogueStep, target_after}
-use Rattle.vb_model.specs.Step.{HonestStep, GuestStep}
+use Rattle.vb_model.specs.Step.{HonestStep}
+use Rattle.vb_model.specs.Rogue.{GuestStep}
 use Rattle.vb_model.specs.World.{World, guest_at, with_guest, put_guest}
 use Rattle.vb_model.specs.HostEvents.{WorldStep, Happens}
 use Rattle.vb_model.specs.HostRefusals.{world_tests}

@@ -1,12 +1,14 @@
 -- Worked facts of features and of the status.
 use Rattle.std.proofs.Common.{◌≡◌, ℕ, true, false, List, [], ◌∷◌, map, refl}
-use Rattle.std.specs.Prelude.{Bool, Some, None}
+use Rattle.std.specs.Prelude.{Bool, Some, None, not, ◌++◌}
 use Rattle.vb_model.specs.declared.replies.Refusal.TheVariants.{ClearsBit, OutOfOrder}
 use Rattle.vb_model.specs.declared.replies.Refusal.TheVariants.{FeatureNotOffered, VersionMissing}
 use Rattle.vb_model.specs.Tests.{has_bit}
 use Rattle.vb_model.specs.Guest.{offered_features, must_tell_host, stats_vq, deflate_on_oom}
 use Rattle.vb_model.specs.Guest.{reporting, version_1, is_ready}
-use Rattle.vb_model.specs.Status.{negotiate_refusal, status_refusal}
+use Rattle.vb_model.specs.FirstRefusal.{◌⇒◌, first_refusal}
+use Rattle.vb_model.specs.Status.{negotiate_refusal, status_refusal, negotiate_tests, status_tests}
+use Rattle.vb_model.specs.Status.{needed_tests, contains}
 use Rattle.vb_model.specs.Life.{feature_refusal}
 use Rattle.vb_model.proofs.Samples.{ready}
 
@@ -80,6 +82,18 @@ version_is_enough = refl
 version_with_others : map feature_refusal (0x100000008 ∷ 0x300000000 ∷ [])
     ≡ Some FeatureNotOffered ∷ Some FeatureNotOffered ∷ []
 version_with_others = refl
+
+-- just what its two writes are refused for: of the features, at ACKNOWLEDGE and DRIVER, and of
+-- FEATURES_OK then
+as_written : (wanted : ℕ)
+    → feature_refusal wanted ≡ first_refusal (negotiate_tests 3 wanted ++ status_tests 3 wanted 11)
+as_written wanted = cases (contains offered_features wanted)
+  where
+    cases : (offered : Bool)
+        → first_refusal ((not offered ⇒ FeatureNotOffered) ∷ needed_tests wanted)
+        ≡ first_refusal ((not offered ⇒ FeatureNotOffered) ∷ status_tests 3 wanted 11)
+    cases true = refl
+    cases false = refl
 
 -- ---- writes of the status, where no features are negotiated
 

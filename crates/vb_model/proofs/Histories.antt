@@ -3,7 +3,7 @@ use Rattle.std.proofs.Common.{◌≡◌, ℕ, zero, suc, ◌+◌, ◌<◌, Bool,
 use Rattle.std.proofs.Common.{◌∷◌, refl, sym, ap, subst, ◌∙◌, ◌⊎◌, inl, inr, arith, ◌≢◌, length, get_or}
 use Rattle.std.proofs.Common.{drop, cond}
 use Rattle.std.specs.Prelude.{Option, Some, None, slice_get, ◌==◌, is_some, IsTrue, ◌↔◌}
-use Rattle.std.proofs.lemmas.Bool.{cases_lt, eqb-true, eq-eqb}
+use Rattle.std.proofs.lemmas.Bool.{eqb-true, eq-eqb}
 use Rattle.std.proofs.lemmas.List.{get_or-take, get_or-drop, length-take-le, length-drop}
 use Rattle.vb_model.specs.declared.places.Place.{Place}
 use Rattle.vb_model.specs.declared.places.Place.TheVariants.{Used, Lent}
@@ -43,17 +43,7 @@ use Rattle.vb_model.proofs.Asked.{told_first}
 
 some_positive : (a b c d f : ℕ) → f ≡ a + (b + (c + d)) → f ≡ 1
     → (a ≡ 1) ⊎ ((0 < b) ⊎ ((0 < c) ⊎ (0 < d)))
-some_positive a b c d f e one =
-    elim (cases_lt 0 b) [
-      | inl x ↦ inr (inl x)
-      | inr nb ↦ elim (cases_lt 0 c) [
-        | inl x ↦ inr (inr (inl x))
-        | inr nc ↦ elim (cases_lt 0 d) [
-          | inl x ↦ inr (inr (inr x))
-          | inr nd ↦ inl (omega arith)
-        ]
-      ]
-    ]
+some_positive a b c d f e one = grind arith
 
 pub both_agree : (g : Guest) → IsConsistent g → BothAgree g
 both_agree g c page =
@@ -166,11 +156,7 @@ keeps_contents c p i page g new here next none =
 
 -- a used page loses no frame, so it holds what it did
 pub used_pages_stay : UsedPagesStay
-used_pages_stay c safe i page g new here next used used' none =
-    elim (safe.keeps_contents i page g new here next unreserved none) [
-      | inl same ↦ same
-      | inr lost ↦ absurd (never (frame_of g.frames page) refl lost.0 lost.1)
-    ]
+used_pages_stay c safe i page g new here next used used' none = grind arith
   where
     unreserved : ¬ IsAt g page Reserved
     unreserved e = let wrong : Used ≡ Reserved = sym used ∙ e in cc
@@ -179,10 +165,7 @@ used_pages_stay c safe i page g new here next used used' none =
         → frame_of new.frames page ≡ None → ⊥
     never None e some gone = absurd
         (let wrong : false ≡ true = sym (ap (λ (o : Option ℕ). is_some o) e) ∙ some in cc)
-    never (Some frame) e some gone =
-        let kept = safe.keeps_frame i page frame g new here next used used' e in
-        let wrong : None ≡ Some frame = sym gone ∙ kept in
-        cc
+    never (Some frame) e some gone = grind arith
 
 -- ---- what reads give
 
@@ -214,12 +197,7 @@ the_write : (page : ℕ) (call : Call) (reply : Reply) → is_write page call re
     → IsDone page call reply
 unfolding is_write
 the_write page (Write p offset bytes) Done e =
-    record {
-      offset = offset;
-      bytes = bytes;
-      call_is = ap (λ (k : ℕ). Write k offset bytes) (eqb-true p page e);
-      reply_is = refl;
-    }
+    grind (arith)
 the_write page _ _ e = absurd cc
 
 written_byte : (page at offset : ℕ) (actor : Actor) (claims : List Claim) (bytes : List ℕ) (old : ℕ)
@@ -319,10 +297,7 @@ byte_step c p page at i g new here next used used' =
 bytes_are : (c : Course) → Positions c → (page at i k : ℕ) (g new : Guest) → StaysHeld c page i k
     → guest_after c i ≡ Some g → guest_after c (i + k) ≡ Some new
     → byte_of new page at ≡ last_put c page at i k (byte_of g page at)
-bytes_are c p page at i zero g new holds here there =
-    let same : new ≡ g = same_some new g
-    (sym there ∙ ap (guest_after c) (let e : i + 0 ≡ i = omega arith in e) ∙ here) in
-    ap (λ (x : Guest). byte_of x page at) same
+bytes_are c p page at i zero g new holds here there = grind arith
 bytes_are c p page at i (suc k) g new holds here there =
     let old = holds k (omega arith) in
     let now = holds (suc k) (omega arith) in

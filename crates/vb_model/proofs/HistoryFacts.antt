@@ -27,11 +27,11 @@ aims = Some (Called Balancer (SetTarget 3) [] Done)
 
 two_calls : Leads ready (aims ∷ Some (by_processor Work Idle) ∷ [])
     (record ready { target = 3 } ∷ record ready { target = 3 } ∷ [])
-two_calls = ((refl, (refl, refl, refl)), ((refl, (refl, (refl, refl))), tt))
+two_calls = ((refl, (refl, (refl, refl))), ((refl, (refl, (refl, refl))), tt))
 
 an_end_elsewhere : Leads ready (aims ∷ []) (ready ∷ []) → ⊥
 an_end_elsewhere (step, end) =
-    let e : Same 0 3 = ap (λ (g : Guest). g.target) step.1.2 in omega arith
+    let e : Same 0 3 = ap (λ (g : Guest). g.target) step.1.1.1 in omega arith
 
 -- each goes on where the one before it ended
 a_start_elsewhere : (floor spare : ℕ) (new : Guest)

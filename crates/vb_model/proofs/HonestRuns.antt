@@ -1,5 +1,5 @@
 -- A guest stays honest until it scribbles.
-use Rattle.std.proofs.Common.{◌≡◌, ℕ, zero, suc, ◌+◌, sym, ap, subst}
+use Rattle.std.proofs.Common.{◌≡◌, ℕ, zero, suc, ◌+◌, ap, subst}
 use Rattle.std.proofs.Common.{◌∙◌, arith}
 use Rattle.std.specs.Prelude.{Option, Some, IsFalse}
 use Rattle.vb_model.specs.declared.calls.Event.{Event}
@@ -7,17 +7,13 @@ use Rattle.vb_model.specs.Guest.{Guest}
 use Rattle.vb_model.specs.Run.{History, guest_in}
 use Rattle.vb_model.specs.Safe.{IsHonest}
 use Rattle.vb_model.specs.HonestRuns.{IsThere, MakesNoScribble, HonestStay}
-use Rattle.vb_model.proofs.Changes.{same_some}
 use Rattle.vb_model.proofs.Fates.{rogues_made}
 use Rattle.vb_model.proofs.Runs.{Positions, positions, guest_there}
 
 still_honest : (h : History) → Positions h → (n i k : ℕ) (g new : Guest) → IsThere h n i k
     → MakesNoScribble h n i k → IsHonest h n i g → guest_in h n (i + k) ≡ Some new
     → IsFalse new.rogue
-still_honest h p n i zero g new there none honest last =
-    let at : guest_in h n i ≡ Some new =
-    subst (λ (m : ℕ). guest_in h n m ≡ Some new) (let e : i + 0 ≡ i = omega arith in e) last in
-    ap (λ (x : Guest). x.rogue) (same_some new g (sym at ∙ honest.0)) ∙ honest.1
+still_honest h p n i zero g new there none honest last = grind (arith, h)
 still_honest h p n i (suc k) g new there none honest last =
     let (old, here) = there k (omega arith) in
     let was = still_honest h p n i k g old (λ j le. there j (omega (arith, le)))

@@ -41,7 +41,7 @@ call_leaves_host w n call reply new s =
     by (first_refusal (world_tests w (OnGuest n call))) s
   where
     performed : (g : Option Guest)
-        → MatchOption g ⊥ (λ h. Calls n h w (OnGuest n call) reply new) → SameHost w new
+        → MatchOption g ⊥ (λ h. Calls n h w call reply new) → SameHost w new
     performed None c = absurd c
     performed (Some g) c = (
       ap (λ (v : World). v.frames) c.4,

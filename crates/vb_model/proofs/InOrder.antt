@@ -6,7 +6,6 @@ use Rattle.std.proofs.lemmas.List.{length-append}
 use Rattle.std.proofs.lemmas.List.Edits.{length-remove}
 use Rattle.std.proofs.lemmas.List.Sums.{sum_by-remove}
 use Rattle.std.proofs.lemmas.Option.{get_or_from_slice_get, slice_get_within}
-use Rattle.std.proofs.lemmas.Bool.{ltb-true}
 use Rattle.vb_model.specs.Tests.{one_if}
 use Rattle.vb_model.specs.Requests.{Request, Requests, no_requests, all_requests, headed}
 use Rattle.vb_model.specs.Requests.{outstanding, posting, IsLeastHead}
@@ -97,14 +96,7 @@ all_sound-visiting (x ∷ xs) h = step (is_unvisited x) refl (all_sound-visiting
   where
     step : (v : Bool) → is_unvisited x ≡ v → AllRequestsSound (visiting xs)
         → AllRequestsSound (cond v (record x { visited = x.visited + 1 } ∷ xs) (x ∷ visiting xs))
-    step true e ih = (
-      record {
-        distinct = h.0.distinct;
-        visits = let l : x.visited < length x.pages = ltb-true x.visited (length x.pages) e in
-            omega arith;
-      },
-      h.1,
-    )
+    step true e ih = grind arith
     step false e ih = (h.0, ih)
 
 -- ---- the steps
@@ -132,11 +124,7 @@ orderly_posting most rs head pages h least room distinct =
   where
     one : (k : ℕ) (v : Bool) → (head == k) ≡ v → headed k (all_requests (posting head pages rs)) ≤ 1
     one k true e =
-        let same : head ≡ k = Rattle.std.proofs.lemmas.Bool.eqb-true head k e in
-        let none : headed k (all_requests rs) ≡ 0 =
-        subst (λ (n : ℕ). headed n (all_requests rs) ≡ 0) same least.new in
-        let added : one_if (head == k) ≡ 1 = ap one_if e in
-        omega (
+        grind (
           arith,
           headed-all k (posting head pages rs),
           headed-all k rs,
@@ -182,11 +170,8 @@ headed-visiting k (r ∷ rs) = step (is_unvisited r) (headed-visiting k rs)
     step : (v : Bool) → headed k (visiting rs) ≡ headed k rs
         → headed k (cond v (record r { visited = r.visited + 1 } ∷ rs) (r ∷ visiting rs))
         ≡ headed k (r ∷ rs)
-    step true ih = omega (
-      arith,
-      headed-cons k r rs,
-      headed-cons k (record r { visited = r.visited + 1 }) rs,
-    )
+    step true ih =
+        grind (arith, headed-cons k r rs, headed-cons k (record r { visited = r.visited + 1 }) rs)
     step false ih = omega (arith, headed-cons k r rs, headed-cons k r (visiting rs))
 
 pub length-visiting : (rs : List Request) → length (visiting rs) ≡ length rs

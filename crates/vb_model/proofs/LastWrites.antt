@@ -8,7 +8,6 @@ use Rattle.std.proofs.lemmas.List.{get_or-append_right}
 use Rattle.std.proofs.lemmas.Bool.{eq-eqb, leb-false, ltb-false, leb-true, ltb-true, or_parts}
 use Rattle.vb_model.specs.declared.calls.Call.TheVariants.{Read, Write}
 use Rattle.vb_model.specs.declared.calls.Claim.{Claim}
-use Rattle.vb_model.specs.declared.replies.Refusal.TheVariants.{NoMemory}
 use Rattle.vb_model.specs.declared.replies.Reply.TheVariants.{Done, ReadBytes, Refused}
 use Rattle.vb_model.specs.Limits.{page_size}
 use Rattle.vb_model.specs.Guest.{Guest}
@@ -110,20 +109,4 @@ pub record WasRead (g : Guest) (page offset len : ℕ) (bytes : List ℕ) : Type
 pub read_step : (g : Guest) (page offset len : ℕ) (bytes : List ℕ) (claims : List Claim) (new : Guest)
     → HonestStep g (Read page offset len) claims (ReadBytes bytes) new
     → WasRead g page offset len bytes
-read_step g page offset len bytes claims new s =
-    elim (match_cases (refusal_of g (Read page offset len))
-    (Performs (Read page offset len) g claims (ReadBytes bytes) new)
-    (λ refusal. (claims ≡ []) × (ReadBytes bytes ≡ Refused refusal) × (new ≡ g)) s) [
-      | inr r ↦ absurd (let told : ReadBytes bytes ≡ Refused r.0 = r.2.1 in cc)
-      | inl p ↦
-          let n = not_refused (tests g (Read page offset len)) p.0 in
-          let parts = within g page offset len n.1.0 in
-          record {
-            there = parts.0;
-            inside = parts.1;
-            bytes_are = elim p.1.1 [
-              | inl e ↦ cc
-              | inr e ↦ absurd (let told : ReadBytes bytes ≡ Refused NoMemory = e in cc)
-            ];
-          }
-    ]
+read_step g page offset len bytes claims new s = grind arith

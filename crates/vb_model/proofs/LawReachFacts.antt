@@ -14,7 +14,8 @@ use Rattle.vb_model.specs.declared.replies.Reply.TheVariants.{Done, Refused}
 use Rattle.vb_model.specs.Guest.{Guest, frame_of, tells_host}
 use Rattle.vb_model.specs.Driver.{claim_refusal}
 use Rattle.vb_model.specs.Rogue.{pages_to_back, is_read}
-use Rattle.vb_model.specs.Step.{HonestStep, GuestStep}
+use Rattle.vb_model.specs.Step.{HonestStep}
+use Rattle.vb_model.specs.Rogue.{GuestStep}
 use Rattle.vb_model.specs.Consistent.{IsConsistent}
 use Rattle.vb_model.specs.Orderly.{IsOrderly}
 use Rattle.vb_model.specs.World.{World, guest_at}

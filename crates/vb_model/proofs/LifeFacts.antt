@@ -85,7 +85,7 @@ reset : HonestStep full Reset [] Done (record {
   contents = full_contents;
   rogue = false;
 })
-reset = (refl, refl, refl)
+reset = (refl, (refl, refl))
 
 -- it may come at any status
 reset_of_a_failed_guest : refusal_of (record full { status = 131 }) Reset ∷ refusal_of down Reset

@@ -41,10 +41,10 @@ before = holding five_bytes None zero_page
 -- ---- read: so many bytes from the offset on, or want of memory for the reply
 
 read_three : HonestStep before (Read 17 1 3) [] (ReadBytes (2 ∷ 3 ∷ 4 ∷ [])) before
-read_three = (refl, inl refl, refl)
+read_three = (refl, (inl refl, refl))
 
 read_no_memory : HonestStep before (Read 17 1 3) [] (Refused NoMemory) before
-read_no_memory = (refl, inr refl, refl)
+read_no_memory = (refl, (inr refl, refl))
 
 -- ---- write: these bytes from the offset on, all else as it was
 

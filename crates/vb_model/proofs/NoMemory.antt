@@ -62,7 +62,7 @@ or_first true b e = refl
 or_first false b e = absurd cc
 
 calls_want : (n : ℕ) (call : Call) (g : Guest) (w v : World) → guest_at w.guests n ≡ Some g
-    → Calls n g w (OnGuest n call) (Refused NoMemory) v
+    → Calls n g w call (Refused NoMemory) v
     → (call_may_want (guest_at w.guests n) call ≡ true) × (v ≡ w)
 calls_want n call g w v here s =
     let exact = no_memory_exact g call s.0 s.1 s.3 in (
@@ -111,7 +111,7 @@ happens_want (Restart n) w v s =
     ]
 happens_want (OnGuest n call) w v s =
     elim (match_cases (guest_at w.guests n) ⊥
-    (λ g. Calls n g w (OnGuest n call) (Refused NoMemory) v) s) [
+    (λ g. Calls n g w call (Refused NoMemory) v) s) [
       | inl none ↦ absurd none.1
       | inr g ↦ calls_want n call g.0 w v g.1 g.2
     ]

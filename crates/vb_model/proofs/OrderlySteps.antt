@@ -40,7 +40,6 @@ use Rattle.vb_model.specs.Driver.{reaped, with_block, without_block}
 use Rattle.vb_model.specs.Device.{Takes, TakesBuffer, Finishes, Asks, settled, used, visited}
 use Rattle.vb_model.specs.Life.{feature_refusal, Negotiates, lacking, place_after_reset}
 use Rattle.vb_model.specs.Life.{after_reset, feature_tests}
-use Rattle.vb_model.specs.Rogue.{Scribbled}
 use Rattle.vb_model.specs.Step.{Performs, HonestStep}
 use Rattle.vb_model.specs.Consistent.{IsConsistent}
 use Rattle.vb_model.specs.Orderly.{AreOrderly, IsOrderly, IsBlock, AreBlocks}
@@ -173,46 +172,19 @@ with_inflate : (g : Guest) (rs : Requests) (places : List Place) → IsOrderly g
     → AreOrderly (room g) rs → length places ≡ g.config.pages → Unreserved g.config.queue_size g.config.pages places
     → IsOrderly (record g { inflate = rs; places = places })
 with_inflate g rs places h o l u =
-    record {
-      inflating = o;
-      deflating = h.deflating;
-      reporting = h.reporting;
-      state = h.state;
-      tabled = l;
-      unreserved = u;
-      blocks = h.blocks;
-      agreed = h.agreed;
-    }
+    grind (arith, h)
 
 with_deflate : (g : Guest) (rs : Requests) (places : List Place) → IsOrderly g
     → AreOrderly (room g) rs → length places ≡ g.config.pages → Unreserved g.config.queue_size g.config.pages places
     → IsOrderly (record g { deflate = rs; places = places })
 with_deflate g rs places h o l u =
-    record {
-      inflating = h.inflating;
-      deflating = o;
-      reporting = h.reporting;
-      state = h.state;
-      tabled = l;
-      unreserved = u;
-      blocks = h.blocks;
-      agreed = h.agreed;
-    }
+    grind (arith, h)
 
 with_report : (g : Guest) (rs : Requests) (places : List Place) → IsOrderly g → AreOrderly 1 rs
     → length places ≡ g.config.pages → Unreserved g.config.queue_size g.config.pages places
     → IsOrderly (record g { report = rs; places = places })
 with_report g rs places h o l u =
-    record {
-      inflating = h.inflating;
-      deflating = h.deflating;
-      reporting = o;
-      state = h.state;
-      tabled = l;
-      unreserved = u;
-      blocks = h.blocks;
-      agreed = h.agreed;
-    }
+    grind (arith, h)
 
 has_room : (most now : ℕ) → nat_le most now ≡ false → now < most
 has_room most now h = leb-false most now h
@@ -408,37 +380,12 @@ asks_order (BufferDone f) g reply new h s = absurd s
 accepted : (wanted : ℕ) → feature_refusal wanted ≡ None → AreAgreed wanted
 accepted wanted e =
     let n = not_refused (feature_tests wanted) e in
-    record {
-      offered = not-false _ n.1.0;
-      version = not-false _ n.1.1.1.1.0;
-    }
+    grind (arith, n)
 
 negotiates_order : (o : Option Refusal) (wanted : ℕ) (g : Guest) (reply : Reply) (new : Guest)
     → feature_refusal wanted ≡ o → IsOrderly g → Negotiates o wanted g reply new → IsOrderly new
-negotiates_order None wanted g reply new e h s =
-    subst IsOrderly (sym s.1)
-    (record {
-      inflating = h.inflating;
-      deflating = h.deflating;
-      reporting = h.reporting;
-      state = inr (inl refl);
-      tabled = h.tabled;
-      unreserved = h.unreserved;
-      blocks = h.blocks;
-      agreed = λ ready. accepted wanted e;
-    })
-negotiates_order (Some refusal) wanted g reply new e h s =
-    subst IsOrderly (sym s.1)
-    (record {
-      inflating = h.inflating;
-      deflating = h.deflating;
-      reporting = h.reporting;
-      state = inr (inr refl);
-      tabled = h.tabled;
-      unreserved = h.unreserved;
-      blocks = h.blocks;
-      agreed = λ ready. absurd (let wrong : 131 ≡ 15 = ready in omega arith);
-    })
+negotiates_order None wanted g reply new e h s = grind (arith, h)
+negotiates_order (Some refusal) wanted g reply new e h s = grind (arith, h)
 
 -- ---- a call that isn't refused
 
@@ -457,10 +404,10 @@ deflates_order g count head h least now =
 performs_order : (call : Call) (g : Guest) (claims : List Claim) (reply : Reply) (new : Guest)
     → IsConsistent g → IsOrderly g → refusal_of g call ≡ None → Performs call g claims reply new
     → new.rogue ≡ false → IsOrderly new
-performs_order (SetTarget n) g claims reply new c h e s honest = subst IsOrderly (sym s.2) h
-performs_order Reset g claims reply new c h e s honest = subst IsOrderly (sym s.2) (kept_reset g h)
+performs_order (SetTarget n) g claims reply new c h e s honest = subst IsOrderly (sym s.1.1) h
+performs_order Reset g claims reply new c h e s honest = subst IsOrderly (sym s.1.1) (kept_reset g h)
 performs_order (Read page offset len) g claims reply new c h e s honest =
-    subst IsOrderly (sym s.2) h
+    subst IsOrderly (sym s.1.1) h
 performs_order (Sweep page) g claims reply new c h e s honest = subst IsOrderly (sym s.1.1) h
 performs_order (Alloc cpu order) g claims reply new c h e s honest =
     let b : Block = record { start = s.1.0; order = order } in
@@ -481,7 +428,7 @@ performs_order (Alloc cpu order) g claims reply new c h e s honest =
 performs_order (Free cpu start order) g claims reply new c h e s honest =
     let b : Block = record { start = start; order = order } in
     let n = not_refused (tests g (Free cpu start order)) e in
-    subst IsOrderly (sym s.2)
+    subst IsOrderly (sym s.1.1)
     (record {
       inflating = h.inflating;
       deflating = h.deflating;
@@ -560,18 +507,8 @@ performs_order (Init wanted) g claims reply new c h e s honest =
       | inl m ↦ negotiates_order (feature_refusal wanted) wanted (supplied (lacking g) claims g)
           reply new refl h m
     ]
-performs_order (Write page offset bytes) g claims reply new c h e s honest =
-    elim (supplying_cases (pages_needed page bytes g) g claims reply new
-    (λ supplied. Written page offset bytes supplied reply new) s) [
-      | inl m ↦ subst IsOrderly (sym m.1) h
-      | inr r ↦ subst IsOrderly (sym r.2) h
-    ]
-performs_order (Scribble page offset bytes) g claims reply new c h e s honest =
-    elim (supplying_cases (pages_needed page bytes g) g claims reply new
-    (λ supplied. Scribbled supplied reply new) s) [
-      | inl m ↦ let rogue : new.rogue ≡ true = m.state.still in absurd cc
-      | inr r ↦ subst IsOrderly (sym r.2) h
-    ]
+performs_order (Write page offset bytes) g claims reply new c h e s honest = grind (arith, h)
+performs_order (Scribble page offset bytes) g claims reply new c h e s honest = grind (arith, h)
 
 pub honest_order : (g : Guest) (call : Call) (claims : List Claim) (reply : Reply) (new : Guest)
     → IsConsistent g → IsOrderly g → HonestStep g call claims reply new → new.rogue ≡ false

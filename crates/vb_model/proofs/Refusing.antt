@@ -94,11 +94,11 @@ negotiates_refuse wanted (Some r) g claims refusal new e s =
 
 performs_refuses : (call : Call) (g : Guest) (claims : List Claim) (refusal : Refusal) (new : Guest)
     → Performs call g claims (Refused refusal) new → IsUnchanged call refusal claims g new
-performs_refuses (SetTarget n) g claims refusal new s = not_this refusal _ s.1 refl
-performs_refuses Reset g claims refusal new s = not_this refusal _ s.1 refl
+performs_refuses (SetTarget n) g claims refusal new s = not_this refusal _ s.1.0 refl
+performs_refuses Reset g claims refusal new s = not_this refusal _ s.1.0 refl
 performs_refuses (Alloc cpu order) g claims refusal new s = not_this refusal _ s.1.2 refl
-performs_refuses (Free cpu start order) g claims refusal new s = not_this refusal _ s.1 refl
-performs_refuses (Read page offset len) g claims refusal new s = inl s.2
+performs_refuses (Free cpu start order) g claims refusal new s = not_this refusal _ s.1.0 refl
+performs_refuses (Read page offset len) g claims refusal new s = inl s.1.1
 performs_refuses (Inflate n) g claims refusal new s = not_this refusal _ s.1.6 refl
 performs_refuses (Deflate n) g claims refusal new s = not_this refusal _ s.1.2 refl
 performs_refuses (Oom n) g claims refusal new s = not_this refusal _ s.1.2 refl

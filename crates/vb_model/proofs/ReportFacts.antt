@@ -106,7 +106,7 @@ freed : HonestStep (holding (block 16 0 ∷ block 18 1 ∷ block 22 1 ∷ [])
     (Used ∷ FreePlace ∷ Used ∷ Used ∷ FreePlace ∷ FreePlace ∷ Used ∷ Used ∷ [])) (Free 0 18 1) []
     Done (holding (block 16 0 ∷ block 22 1 ∷ [])
     (Used ∷ replicate 5 FreePlace ++ (Used ∷ Used ∷ [])))
-freed = (refl, refl, refl)
+freed = (refl, (refl, refl))
 
 -- the last page is a block too
 just_the_last_page : refusal_of (record ready { places = replicate 63 Used ++ (FreePlace ∷ []) })
@@ -244,7 +244,7 @@ reaped_report : Performs (Reap 4)
 reaped_report = (refl, (refl, refl))
 
 reset_report : HonestStep reporting Reset [] Done down
-reset_report = (refl, refl, refl)
+reset_report = (refl, (refl, refl))
 
 not_used_report : Performs (Reap 4) reporting [] NotUsed reporting
 not_used_report = (refl, (refl, refl))

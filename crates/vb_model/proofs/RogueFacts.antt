@@ -19,7 +19,7 @@ use Rattle.vb_model.specs.declared.replies.Reply.TheVariants.{Done, Idle, Refuse
 use Rattle.vb_model.specs.declared.places.Place.TheVariants.{Lent, Used}
 use Rattle.vb_model.specs.Guest.{Guest, Config, is_ballooned, frame_of}
 use Rattle.vb_model.specs.Refusals.{refusal_of}
-use Rattle.vb_model.specs.Rogue.{LosesFrames, HasAllPages, IsRogueAfter, ScribbleStep}
+use Rattle.vb_model.specs.Rogue.{LosesFrames, HasAllPages, IsRogueAfter}
 use Rattle.vb_model.specs.Rogue.{RogueStep, pages_to_back, after_refused}
 use Rattle.vb_model.specs.Step.{HonestStep}
 use Rattle.vb_model.proofs.Samples.{config, ready, down}
@@ -221,12 +221,12 @@ last_reserved_ballooned s = let e : true ≡ false = s.unreserved 15 (omega arit
 
 -- a scribble that doesn't lie in a page is refused, of a rogue guest too
 past_the_last_byte : (claims : List Claim) (reply : Reply) (new : Guest)
-    → ScribbleStep 63 4095 (1 ∷ 2 ∷ []) after claims reply new
+    → HonestStep after (Scribble 63 4095 (1 ∷ 2 ∷ [])) claims reply new
     → (claims ≡ []) × (reply ≡ Refused OutOfRam) × (new ≡ after)
 past_the_last_byte claims reply new s = s
 
 past_the_last_page : (claims : List Claim) (reply : Reply) (new : Guest)
-    → ScribbleStep 64 0 [] after claims reply new
+    → HonestStep after (Scribble 64 0 []) claims reply new
     → (claims ≡ []) × (reply ≡ Refused OutOfRam) × (new ≡ after)
 past_the_last_page claims reply new s = s
 

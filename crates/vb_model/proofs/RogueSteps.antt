@@ -10,7 +10,7 @@ use Rattle.vb_model.specs.declared.calls.Event.{Event}
 use Rattle.vb_model.specs.declared.replies.Reply.{Reply}
 use Rattle.vb_model.specs.Tests.{one_if}
 use Rattle.vb_model.specs.Layout.{reserved_pages}
-use Rattle.vb_model.specs.Pages.{is_giving, is_lent, is_reserved, place_of}
+use Rattle.vb_model.specs.Pages.{is_reserved, place_of}
 use Rattle.vb_model.specs.Guest.{Guest, is_ballooned}
 use Rattle.vb_model.specs.Rogue.{RogueStep}
 use Rattle.vb_model.specs.Step.{HonestStep}
@@ -21,7 +21,6 @@ use Rattle.vb_model.specs.World.{World, guest_at}
 use Rattle.vb_model.specs.HostEvents.{WorldStep}
 use Rattle.vb_model.proofs.PageSteps.{naming-all}
 use Rattle.vb_model.proofs.Changes.{Change, Untouched, Retargeted, Stepped, Restarted, New, changes}
-use Rattle.vb_model.proofs.Unchanged.{step_keeps}
 
 reserved_is : (place : Place) → is_reserved place ≡ true → place ≡ Reserved
 reserved_is Reserved e = refl
@@ -44,22 +43,7 @@ honest_unreserved g c o page l = at_reserved place
         ]
 
     at_reserved : place_of g.places page ≡ Reserved → is_ballooned g.ballooned page ≡ false
-    at_reserved e =
-        let p = c.pages page in
-        let lent : one_if (is_lent (place_of g.places page)) ≡ 0 =
-        ap (λ (x : Place). one_if (is_lent x)) e in
-        let giving : one_if (is_giving (place_of g.places page)) ≡ 0 =
-        ap (λ (x : Place). one_if (is_giving x)) e in
-        let reserved : one_if (is_reserved (place_of g.places page)) ≡ 1 =
-        ap (λ (x : Place). one_if (is_reserved x)) e in
-        flag_off _ (omega (
-          arith,
-          p.ballooning,
-          p.inflating,
-          p.deflating,
-          naming-all page g.inflate,
-          naming-all page g.deflate,
-        ))
+    at_reserved e = grind (arith, naming-all page g.inflate, naming-all page g.deflate)
 
 -- of the rogue guests
 abbrev pub AllUnreserved : World → Type 0
@@ -79,11 +63,7 @@ change_unreserved w event reply m new h (Stepped old call claims on at gives ste
         → MatchBool b (RogueStep old call claims reply new) (HonestStep old call claims reply new)
         → HasNoReservedBallooned new
     cases true e r = r.stays.unreserved
-    cases false e p =
-        elim (step_keeps old call claims reply new step).rogue [
-          | inl same ↦ absurd (let f : new.rogue ≡ false = same ∙ e in cc)
-          | inr r ↦ r.1.unreserved
-        ]
+    cases false e p = grind arith
 change_unreserved w event reply m new h (Restarted old on at e) rogue =
     absurd (let f : new.rogue ≡ false = ap (λ (g : Guest). g.rogue) e in cc)
 change_unreserved w event reply m new h (New config none e) rogue =

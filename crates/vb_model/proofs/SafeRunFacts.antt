@@ -250,7 +250,7 @@ reset_but_ready s = by o.own o.is o.step
         → OwnStep ready own ready → ⊥
     by own is step =
         let made = subst (λ (x : Option Entry). OwnStep ready x ready) is.3 step in
-        let status : Same 15 0 = ap (λ (g : Guest). g.status) made.1.2 in
+        let status : Same 15 0 = ap (λ (g : Guest). g.status) made.1.1.1 in
         omega arith
 
 -- a reset ends no life, and what comes behind it goes on from what it left

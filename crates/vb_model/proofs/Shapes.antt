@@ -2,7 +2,6 @@
 use Rattle.std.specs.Prelude.{◌≡◌, ◌≢◌, ℕ, ◌+◌, ◌*◌, ◌<◌, ◌≤◌, Bool, true, false, ◌==◌, ◌||◌}
 use Rattle.std.specs.Prelude.{if◌then◌else◌, ◌⊎◌}
 use Rattle.std.proofs.Common.{refl, ap, arith, inl, inr}
-use Rattle.std.proofs.lemmas.Bool.{or_cases}
 use Rattle.std.proofs.lemmas.Bool.Decides.{nat_tests}
 use Rattle.vb_model.specs.Limits.{is_between}
 use Rattle.vb_model.specs.Layout.{takes_two_pages, reserved_pages, ring_number, ring_page}
@@ -55,14 +54,7 @@ start_of_buffer size page low high = step (is_ring_page size page)
     step false = grind (arith, nat_tests)
 
 pub start_reserved : (size page : ℕ) → is_start_page size page ≡ true → page < reserved_pages size
-start_reserved size page h =
-    elim (or_cases (is_ring_page size page) (is_between 4 12 page) h) [
-      | inl ring ↦ ring_reserved size page ring
-      | inr buffer ↦ (
-          let least : 16 ≤ reserved_pages size = reserved_least size in
-          let most : page ≤ 12 = grind (arith, nat_tests) in
-          omega arith)
-    ]
+start_reserved size page h = grind (arith, nat_tests, h)
 
 -- ---- the pages of one ring
 

@@ -1,75 +1,26 @@
 -- Guests of small sizes.
-use Rattle.std.specs.Prelude.{◌≡◌, ℕ, zero, suc, ◌+◌, ◌*◌, ◌%◌, ◌^◌, ◌<◌, ◌≤◌, Bool, true, false, List}
-use Rattle.std.specs.Prelude.{[], ◌∷◌, ◌==◌, ◌&&◌, ◌||◌, nat_lt, if◌then◌else◌, filter}
-use Rattle.std.specs.List.{list_any, range_with_len}
-use Rattle.std.proofs.Common.{◌∙◌, sym, ap, arith, inl, inr}
-use Rattle.std.proofs.lemmas.Bool.{cases_lt, eqb-true, eq-eqb, or_cases}
+use Rattle.std.specs.Prelude.{◌≡◌, ℕ, ◌%◌, ◌<◌, ◌≤◌, Bool, true, false}
+use Rattle.std.specs.Prelude.{◌==◌, ◌&&◌, nat_lt}
+use Rattle.std.proofs.Common.{◌∙◌, sym, ap, arith}
 use Rattle.std.proofs.lemmas.Bool.Decides.{nat_tests}
-use Rattle.std.proofs.lemmas.Nat.{pow-add}
 use Rattle.vb_model.specs.Limits.{is_power_of_two, is_between}
-use Rattle.vb_model.specs.Layout.{takes_two_pages, ring_number}
+use Rattle.vb_model.specs.Layout.{takes_two_pages}
 use Rattle.vb_model.specs.Sizes.{HasSmallShape, SmallConfigsAreConfigs}
 
 takes_one : (size : ℕ) → size ≤ 128 → takes_two_pages size ≡ false
 takes_one size few = grind (arith, nat_tests)
 
-pages_by : Bool → ℕ → Bool
-pages_by two page = if two then is_between 16 23 page else is_between 0 3 page
-
 pub small_shape : (size : ℕ) → size ≤ 128 → HasSmallShape size
 small_shape size few =
     let one = takes_one size few in
-    record {
-      reserved = ap (λ (two : Bool). if two then 32 else 16) one;
-      rings = λ q.
-          ap (λ (two : Bool). if two then 16 + 2 * ring_number q else 0 + ring_number q) one
-          ∙ (let n = ring_number q in omega arith);
-      pages = λ page.
-          ap (λ (two : Bool). if two then is_between 16 23 page else is_between 0 3 page) one
-          ∙ first_pages page;
-      start = ap (λ (two : Bool).
-          filter (λ page. (if two then is_between 16 23 page else is_between 0 3 page)
-          || is_between 4 12 page) (range_with_len 0 (if two then 32 else 16))) one;
-    }
+    grind (arith, one)
   where
     first_pages : (page : ℕ) → is_between 0 3 page ≡ nat_lt page 4
     first_pages page = grind (arith, nat_tests)
 
--- a number that is the power of a number of a list
-power_in : (n : ℕ) (ks : List ℕ) → list_any (λ k. 2 ^ k == n) ks ≡ true → (k : ℕ) × (2 ^ k ≡ n)
-power_in n [] h = absurd cc
-power_in n (k ∷ ks) h =
-    elim (or_cases (2 ^ k == n) (list_any (λ k. 2 ^ k == n) ks) h) [
-      | inl here ↦ (k, eqb-true (2 ^ k) n here)
-      | inr later ↦ power_in n ks later
-    ]
-
--- a power of two from 64 on is a multiple of 16
-large_power : (n k : ℕ) → 2 ^ k ≡ n → 64 ≤ n → n % 16 ≡ 0
-large_power n zero e h = absurd (omega (arith, e))
-large_power n (suc zero) e h = absurd (omega (arith, e))
-large_power n (suc (suc zero)) e h = absurd (omega (arith, e))
-large_power n (suc (suc (suc zero))) e h = absurd (omega (arith, e))
-large_power n (suc (suc (suc (suc zero)))) e h = absurd (omega (arith, e))
-large_power n (suc (suc (suc (suc (suc zero))))) e h = absurd (omega (arith, e))
-large_power n (suc (suc (suc (suc (suc (suc j)))))) e h =
-    let k : suc (suc (suc (suc (suc (suc j))))) ≡ 6 + j = omega arith in
-    let same : n ≡ 64 * 2 ^ j = sym e ∙ ap (λ (m : ℕ). 2 ^ m) k ∙ pow-add 2 6 j in
-    omega (arith, same)
-
 pages_agree : (n : ℕ) → is_power_of_two n ≡ true → n ≤ 16384
     → (is_between 64 65536 n && (n % 16 == 0)) ≡ (is_between 64 16384 n && is_power_of_two n)
-pages_agree n power few =
-    elim (cases_lt n 64) [
-      | inl low ↦ both false (small low) (small_too low)
-      | inr high ↦
-          let found = power_in n (range_with_len 0 32) power in
-          let step : (n % 16 == 0) ≡ true = eq-eqb _ _ (large_power n found.0 found.1 high) in
-          let wide : is_between 64 65536 n ≡ true = grind (arith, nat_tests) in
-          let near : is_between 64 16384 n ≡ true = grind (arith, nat_tests) in
-          ap (λ (b : Bool). b && (n % 16 == 0)) wide ∙ step
-          ∙ sym (ap (λ (b : Bool). b && is_power_of_two n) near ∙ power)
-    ]
+pages_agree n power few = grind (arith, nat_tests)
   where
     small : n < 64 → is_between 64 65536 n ≡ false
     small low = grind (arith, nat_tests)
@@ -84,17 +35,7 @@ pages_agree n power few =
         ∙ sym (ap (λ (x : Bool). x && is_power_of_two n) b)
 
 queues_agree : (n : ℕ) → n ≤ 128 → is_between 2 256 n ≡ is_between 2 128 n
-queues_agree n few =
-    elim (cases_lt n 2) [
-      | inl low ↦
-          let a : is_between 2 256 n ≡ false = grind (arith, nat_tests) in
-          let b : is_between 2 128 n ≡ false = grind (arith, nat_tests) in
-          a ∙ sym b
-      | inr high ↦
-          let a : is_between 2 256 n ≡ true = grind (arith, nat_tests) in
-          let b : is_between 2 128 n ≡ true = grind (arith, nat_tests) in
-          a ∙ sym b
-    ]
+queues_agree n few = grind (arith, nat_tests)
 
 pub small_configs : SmallConfigsAreConfigs
 small_configs pages queue_size processors power few short =

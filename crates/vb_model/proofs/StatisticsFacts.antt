@@ -98,7 +98,7 @@ taken_buffer_is_not_filled = (refl, (refl, refl))
 -- a reset empties the buffer and the last statistics
 reset_forgets_statistics : HonestStep
     (record ready { buffer = BufferTaken old; last = last_is 131072 262144 }) Reset [] Done down
-reset_forgets_statistics = (refl, refl, refl)
+reset_forgets_statistics = (refl, (refl, refl))
 
 -- ---- refusals
 

@@ -14,22 +14,18 @@ use Rattle.vb_model.specs.declared.calls.Call.TheVariants.{Stats, Reap, Take, Wo
 use Rattle.vb_model.specs.declared.calls.Call.TheVariants.{Ask, SetTarget}
 use Rattle.vb_model.specs.declared.calls.Claim.{Claim}
 use Rattle.vb_model.specs.declared.replies.Refusal.{Refusal}
-use Rattle.vb_model.specs.declared.replies.Refusal.TheVariants.{NotReady, NeedsReset, QueueFull}
-use Rattle.vb_model.specs.declared.replies.Refusal.TheVariants.{DeflatePending, NoFeature}
-use Rattle.vb_model.specs.declared.replies.Refusal.TheVariants.{Nothing, NotBallooned}
 use Rattle.vb_model.specs.declared.replies.Reply.{Reply}
 use Rattle.vb_model.specs.declared.replies.Reply.TheVariants.{Refused}
 use Rattle.vb_model.specs.Tests.{one_if}
 use Rattle.vb_model.specs.Pages.{is_lent, is_taking, place_of, placed}
-use Rattle.vb_model.specs.Requests.{Request, all_requests, outstanding, names, naming}
-use Rattle.vb_model.specs.Requests.{pages_named, posting, Kind, Inflating, Deflating}
-use Rattle.vb_model.specs.Requests.{Reporting_free, kind_of_queue, place_posted, places_reaped}
+use Rattle.vb_model.specs.Requests.{Request, all_requests, names, naming}
+use Rattle.vb_model.specs.Requests.{pages_named, Kind, Inflating, Deflating}
+use Rattle.vb_model.specs.Requests.{Reporting_free, kind_of_queue, places_reaped}
 use Rattle.vb_model.specs.Requests.{given_away}
 use Rattle.vb_model.specs.Guest.{Guest, requests, with_requests, is_ballooned, tells_host}
-use Rattle.vb_model.specs.Tables.{is_up, is_not_ready, has_fault}
-use Rattle.vb_model.specs.Refusals.{◌⇒◌, first_refusal, tests, room, inflate_count}
+use Rattle.vb_model.specs.Refusals.{first_refusal, tests}
 use Rattle.vb_model.specs.Refusals.{deflate_count, oom_count}
-use Rattle.vb_model.specs.Driver.{lowest_lent, asking, reaped, Reaps, Deflates}
+use Rattle.vb_model.specs.Driver.{reaped, Reaps, Deflates}
 use Rattle.vb_model.specs.Step.{Performs, HonestStep}
 use Rattle.vb_model.specs.Consistent.{IsConsistent}
 use Rattle.vb_model.specs.Orderly.{IsOrderly, AllRequestsSound}
@@ -148,15 +144,8 @@ either_way {A} {B} e = (λ a. subst (λ (X : Type 0). X) e a, λ b. subst (λ (X
 
 same_tests : (g : Guest) (call : Call) → tells_host g ≡ true
     → first_refusal (tests g call) ≡ first_refusal (told_tests g call)
-same_tests g (Inflate n) told =
-    ap (λ (b : Bool). first_refusal ((not (is_up g.status) ⇒ NotReady)
-    ∷ (nat_le (room g) (outstanding g.inflate) ⇒ QueueFull)
-    ∷ ((not b && nat_lt 0 (outstanding g.deflate)) ⇒ DeflatePending)
-    ∷ ((inflate_count g n == 0) ⇒ Nothing) ∷ [])) told
-same_tests g (Sweep page) told =
-    ap (λ (b : Bool). first_refusal ((is_not_ready g.status ⇒ NotReady)
-    ∷ (has_fault g.status ⇒ NeedsReset) ∷ (not b ⇒ NoFeature)
-    ∷ (not (is_ballooned g.ballooned page) ⇒ NotBallooned) ∷ [])) told
+same_tests g (Inflate n) told = grind arith
+same_tests g (Sweep page) told = grind arith
 same_tests g (Init wanted) told = refl
 same_tests g Reset told = refl
 same_tests g (Alloc cpu order) told = refl
@@ -175,25 +164,9 @@ same_tests g (Finish q i) told = refl
 same_tests g Ask told = refl
 same_tests g (SetTarget n) told = refl
 
--- pages that are asked back
-same_asking : (g : Guest) (head : ℕ) (pages : List ℕ) → tells_host g ≡ true
-    → asking Deflating head pages g
-    ≡ record g {
-      deflate = posting head pages g.deflate;
-      places = placed pages Taking g.places;
-    }
-same_asking g head pages told =
-    ap (λ (b : Bool). record g {
-      deflate = posting head pages g.deflate;
-      places = placed pages (place_posted b Deflating) g.places;
-    }) told
-
 takes_ways : (g : Guest) (count : ℕ) (reply : Reply) (new : Guest) → tells_host g ≡ true
     → Deflates count g reply new ↔ CallsBack count g reply new
-takes_ways g count reply new told = (
-  λ d. (d.0, d.1, d.2, d.3 ∙ same_asking g d.0 (lowest_lent count g) told),
-  λ t. (t.0, t.1, t.2, t.3 ∙ sym (same_asking g t.0 (lowest_lent count g) told)),
-)
+takes_ways g count reply new told = grind arith
 
 -- a used request
 same_reaped : (kind : Kind) (r : Request) (rest : List Request) (g : Guest) → IsConsistent g

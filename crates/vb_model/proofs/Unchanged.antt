@@ -21,7 +21,8 @@ use Rattle.vb_model.specs.Driver.{Supplying, Reaps, Fills, Written, pages_needed
 use Rattle.vb_model.specs.Device.{Takes, TakesBuffer, Finishes, Asks, next_page, settled, used}
 use Rattle.vb_model.specs.Life.{feature_refusal, Negotiates, lacking}
 use Rattle.vb_model.specs.Rogue.{IsRogueAfter, RogueStep, Scribbled, target_after}
-use Rattle.vb_model.specs.Step.{Performs, HonestStep, GuestStep}
+use Rattle.vb_model.specs.Step.{Performs, HonestStep}
+use Rattle.vb_model.specs.Rogue.{GuestStep}
 use Rattle.vb_model.proofs.CallSteps.{match_cases, supplying_cases, works_cases, Idles, Visits}
 
 -- a guest with another target, with the same configuration, that is as honest as before, or rogue
@@ -131,15 +132,15 @@ performs_keep : (call : Call) (g : Guest) (claims : List Claim) (reply : Reply) 
     → Performs call g claims reply new → Keeps (IsScribble call) (target_after call g.target) g new
 performs_keep (SetTarget n) g claims reply new s =
     record {
-      aimed = ap (λ (x : Guest). x.target) s.2;
-      config = ap (λ (x : Guest). x.config) s.2;
-      rogue = inl (ap (λ (x : Guest). x.rogue) s.2);
+      aimed = ap (λ (x : Guest). x.target) s.1.1;
+      config = ap (λ (x : Guest). x.config) s.1.1;
+      rogue = inl (ap (λ (x : Guest). x.rogue) s.1.1);
     }
-performs_keep Reset g claims reply new s = same_three g new _ s.2 refl refl refl
-performs_keep (Read page offset len) g claims reply new s = same_three g new _ s.2 refl refl refl
+performs_keep Reset g claims reply new s = same_three g new _ s.1.1 refl refl refl
+performs_keep (Read page offset len) g claims reply new s = same_three g new _ s.1.1 refl refl refl
 performs_keep (Sweep page) g claims reply new s = same_three g new _ s.1.1 refl refl refl
 performs_keep (Alloc cpu order) g claims reply new s = same_three g new _ s.1.3 refl refl refl
-performs_keep (Free cpu start order) g claims reply new s = same_three g new _ s.2 refl refl refl
+performs_keep (Free cpu start order) g claims reply new s = same_three g new _ s.1.1 refl refl refl
 performs_keep (Inflate n) g claims reply new s = same_three g new _ s.1.7 refl refl refl
 performs_keep (Deflate n) g claims reply new s = same_three g new _ s.1.3 refl refl refl
 performs_keep (Oom n) g claims reply new s = same_three g new _ s.1.3 refl refl refl

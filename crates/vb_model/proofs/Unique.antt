@@ -1,24 +1,13 @@
 -- Two lists of targets are the same.
 use Rattle.std.proofs.Common.{◌≡◌, ℕ, ◌<◌, List, length, slice_index, sym, ◌∙◌, subst, ◌⊎◌, inl}
 use Rattle.std.proofs.Common.{inr, arith}
-use Rattle.std.proofs.lemmas.Bool.{cases_order}
-use Rattle.vb_model.specs.Balance.{Need, AreTargets, GivesBefore, spare_at}
+use Rattle.vb_model.specs.Balance.{Need, AreTargets, GivesBefore}
 use Rattle.vb_model.proofs.Sums.{same_by_sum, somewhere_more}
 
 -- of two guests one gives before the other
 pub one_before : (needs : List Need) (i j : ℕ)
     → (i ≡ j) ⊎ (GivesBefore needs i j ⊎ GivesBefore needs j i)
-one_before needs i j = elim (cases_order (spare_at needs i) (spare_at needs j)) [
-  | inl same ↦ elim (cases_order i j) [
-    | inl one ↦ inl one
-    | inr other ↦ elim other [
-      | inl first ↦ inr (inl (inr (same, first)))
-      | inr later ↦
-          inr (inr (inr (sym same, later)))
-    ]
-  ]
-  | inr other ↦ elim other [ inl less ↦ inr (inr (inl less)) | inr more ↦ inr (inl (inl more)) ]
-]
+one_before needs i j = grind arith
 
 -- one list can't ask more of one guest and less of another
 clash : (needs : List Need) (frames : ℕ) (one other : List ℕ) → AreTargets needs frames one

@@ -490,7 +490,7 @@ after_it = record (framed true no_requests) {
 }
 
 reset : HonestStep (before_a_reset (posted both)) Reset [] Done after_it
-reset = (refl, refl, refl)
+reset = (refl, (refl, refl))
 
 reset_in_each_stage : map (λ rs. after_reset (before_a_reset rs)) each_stage ≡ replicate 4 after_it
 reset_in_each_stage = refl
@@ -502,15 +502,15 @@ NotAfterReset page place =
 
 used_page_stranded : NotAfterReset 16 Stranded
 used_page_stranded new s e =
-    let q : Stranded ≡ Used = sym e ∙ ap (λ (g : Guest). place_of g.places 16) s.2 in cc
+    let q : Stranded ≡ Used = sym e ∙ ap (λ (g : Guest). place_of g.places 16) s.1.1 in cc
 
 free_page_stranded : NotAfterReset 17 Stranded
 free_page_stranded new s e =
-    let q : Stranded ≡ FreePlace = sym e ∙ ap (λ (g : Guest). place_of g.places 17) s.2 in cc
+    let q : Stranded ≡ FreePlace = sym e ∙ ap (λ (g : Guest). place_of g.places 17) s.1.1 in cc
 
 lent_page_freed : NotAfterReset 18 FreePlace
 lent_page_freed new s e =
-    let q : FreePlace ≡ Stranded = sym e ∙ ap (λ (g : Guest). place_of g.places 18) s.2 in cc
+    let q : FreePlace ≡ Stranded = sym e ∙ ap (λ (g : Guest). place_of g.places 18) s.1.1 in cc
 
 -- where the guest tells the host its taking pages are stranded
 taking_pages_stranded : map (place_of (after_reset (asked Taking ready)).places)

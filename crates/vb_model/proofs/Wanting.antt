@@ -1,9 +1,9 @@
 -- Which calls claim frames, and what a refusal for want of frames or of memory means.
 use Rattle.std.proofs.Common.{◌≡◌, ℕ, ◌<◌, Bool, true, false, cond, List, [], ◌∷◌, length, refl}
 use Rattle.std.proofs.Common.{sym, ap, subst, ◌∙◌, ◌⊎◌, inl, inr, arith}
-use Rattle.std.specs.Prelude.{◌==◌, ◌||◌, not, Option, Some, None, MatchBool, is_none}
+use Rattle.std.specs.Prelude.{◌==◌, ◌||◌, ◌&&◌, not, Option, Some, None, MatchBool, is_none}
 use Rattle.std.specs.List.{list_all}
-use Rattle.std.proofs.lemmas.Bool.{eq-eqb, and_parts, not-true, eqb-true, or_cases}
+use Rattle.std.proofs.lemmas.Bool.{eq-eqb, and_parts, not-true}
 use Rattle.vb_model.specs.Layout.{start_pages}
 use Rattle.vb_model.specs.declared.calls.Call.{Call}
 use Rattle.vb_model.specs.declared.calls.Call.TheVariants.{Init, Reset, Alloc, Free, Read, Write}
@@ -18,17 +18,18 @@ use Rattle.vb_model.specs.declared.replies.Refusal.TheVariants.{NoFrame, NoMemor
 use Rattle.vb_model.specs.declared.replies.Reply.{Reply}
 use Rattle.vb_model.specs.declared.replies.Reply.TheVariants.{Refused}
 use Rattle.vb_model.specs.Tests.{is_in}
-use Rattle.vb_model.specs.Requests.{Request, Kind, kind_of_queue, Buffer, NoBuffer, BufferPosted}
+use Rattle.vb_model.specs.Requests.{Buffer, NoBuffer, BufferPosted}
 use Rattle.vb_model.specs.Requests.{BufferTaken, BufferDone}
-use Rattle.vb_model.specs.Guest.{Guest, frame_of, all_backed, requests}
+use Rattle.vb_model.specs.Guest.{Guest, frame_of}
 use Rattle.vb_model.specs.Refusals.{Test, refusal_of, tests, first_refusal}
-use Rattle.vb_model.specs.Driver.{given, claim_refusal, AreClaimsFor, Supplying, Reaps, Fills}
+use Rattle.vb_model.specs.Driver.{claim_refusal, AreClaimsFor, Supplying, Fills}
 use Rattle.vb_model.specs.Driver.{Written, pages_needed}
-use Rattle.vb_model.specs.Device.{Takes, TakesBuffer, Finishes, Asks, next_page}
-use Rattle.vb_model.specs.Life.{feature_tests, feature_refusal, Negotiates, lacking}
-use Rattle.vb_model.specs.Rogue.{LosesFrames, RogueStep, Scribbled, unless_refused, pages_to_back}
-use Rattle.vb_model.specs.Rogue.{is_read, if_negotiated, after_refused}
-use Rattle.vb_model.specs.Step.{Performs, HonestStep, GuestStep}
+use Rattle.vb_model.specs.Device.{Asks}
+use Rattle.vb_model.specs.Life.{feature_refusal, Negotiates, lacking}
+use Rattle.vb_model.specs.Rogue.{RogueStep, Scribbled, unless_refused, pages_to_back}
+use Rattle.vb_model.specs.Rogue.{is_read, after_refused}
+use Rattle.vb_model.specs.Step.{Performs, HonestStep}
+use Rattle.vb_model.specs.Rogue.{GuestStep}
 use Rattle.vb_model.specs.HostEvents.{Happens, Calls}
 use Rattle.vb_model.specs.HostFrames.{Gives, IsOut}
 use Rattle.vb_model.specs.World.{guest_at}
@@ -37,7 +38,7 @@ use Rattle.vb_model.specs.StepLaws.{ClaimsAreNeeded, RefusedClaimsAreAnswered}
 use Rattle.vb_model.specs.StepLaws.{NeededPagesAreBare, NoFrameIsExact, WantOfFrames}
 use Rattle.vb_model.specs.StepLaws.{NoMemoryIsExact}
 use Rattle.vb_model.proofs.Tables.{list_all-at}
-use Rattle.vb_model.proofs.CallSteps.{match_cases, works_cases, all_filtered, supplied}
+use Rattle.vb_model.proofs.CallSteps.{match_cases, all_filtered}
 use Rattle.vb_model.proofs.Changes.{same_some}
 
 or_first : (v b : Bool) → v ≡ true → (v || b) ≡ true
@@ -55,38 +56,6 @@ pub not_refused_pages : (o : Option Refusal) (pages : List ℕ) (claims : List C
     → AreClaimsFor pages claims → AreClaimsFor (unless_refused o pages) claims
 not_refused_pages None pages claims e a = a
 not_refused_pages (Some refusal) pages claims e a = absurd cc
-
-none_made : (claims : List Claim) → claims ≡ [] → AreClaimsFor [] claims
-none_made [] e = tt
-none_made (claim ∷ claims) e = absurd cc
-
-performs_claims : (call : Call) (g : Guest) (claims : List Claim) (reply : Reply) (new : Guest)
-    → refusal_of g call ≡ None → Performs call g claims reply new
-    → AreClaimsFor (pages_to_back call g) claims
-performs_claims (Init wanted) g claims reply new e s =
-    not_refused_pages (refusal_of g (Init wanted)) (lacking g) claims e s.0
-performs_claims (Write page offset bytes) g claims reply new e s =
-    not_refused_pages (refusal_of g (Write page offset bytes)) (pages_needed page bytes g) claims e
-    s.0
-performs_claims (Scribble page offset bytes) g claims reply new e s =
-    not_refused_pages (refusal_of g (Scribble page offset bytes)) (pages_needed page bytes g) claims
-    e s.0
-performs_claims (SetTarget n) g claims reply new e s = none_made claims s.0
-performs_claims Reset g claims reply new e s = none_made claims s.0
-performs_claims (Alloc cpu order) g claims reply new e s = none_made claims s.0
-performs_claims (Free cpu start order) g claims reply new e s = none_made claims s.0
-performs_claims (Read page offset len) g claims reply new e s = none_made claims s.0
-performs_claims (Inflate n) g claims reply new e s = none_made claims s.0
-performs_claims (Deflate n) g claims reply new e s = none_made claims s.0
-performs_claims (Oom n) g claims reply new e s = none_made claims s.0
-performs_claims (Report from) g claims reply new e s = none_made claims s.0
-performs_claims Stats g claims reply new e s = none_made claims s.0
-performs_claims (Reap q) g claims reply new e s = none_made claims s.0
-performs_claims (Take q) g claims reply new e s = none_made claims s.0
-performs_claims Work g claims reply new e s = none_made claims s.0
-performs_claims (Finish q i) g claims reply new e s = none_made claims s.0
-performs_claims (Sweep page) g claims reply new e s = none_made claims s.0
-performs_claims Ask g claims reply new e s = none_made claims s.0
 
 -- the pages of a call that is refused
 refused_pages : (o : Option Refusal) (refusal : Refusal) (pages : List ℕ) → o ≡ Some refusal
@@ -125,13 +94,7 @@ claims_needed g call claims reply new s = cases g.rogue s
     cases : (b : Bool) → MatchBool b (RogueStep g call claims reply new)
         (HonestStep g call claims reply new) → AreClaimsFor (pages_to_back call g) claims
     cases true r = r.claimed
-    cases false p =
-        elim (match_cases (refusal_of g call) (Performs call g claims reply new)
-        (λ refusal. (claims ≡ []) × (reply ≡ Refused refusal) × (new ≡ g)) p) [
-          | inl d ↦ performs_claims call g claims reply new d.0 d.1
-          | inr r ↦ subst (λ (pages : List ℕ). AreClaimsFor pages claims)
-              (sym (refused_backs call g r.0 r.1)) (none_made claims r.2.0)
-        ]
+    cases false p = grind arith
 
 -- ---- a claim that is refused is the answer
 
@@ -142,12 +105,7 @@ none_refused claims refusal e r = let none : claim_refusal claims ≡ None = ap 
 supplies_refused : (pages : List ℕ) (g : Guest) (claims : List Claim) (reply : Reply) (new : Guest)
     (Rest : Guest → Type 0) (refusal : Refusal) → Supplying pages g claims reply new Rest
     → claim_refusal claims ≡ Some refusal → (reply ≡ Refused refusal) × (new.frames ≡ g.frames)
-supplies_refused pages g claims reply new Rest refusal s r =
-    elim (match_cases (claim_refusal claims) (Rest (supplied pages claims g))
-    (λ refusal. (reply ≡ Refused refusal) × (new ≡ g)) s.1) [
-      | inl m ↦ absurd (let none : claim_refusal claims ≡ None = m.0 in cc)
-      | inr k ↦ answered k.0 (let same : k.0 ≡ refusal = cc in same) k.2
-    ]
+supplies_refused pages g claims reply new Rest refusal s r = grind arith
   where
     answered : (x : Refusal) → x ≡ refusal → (reply ≡ Refused x) × (new ≡ g)
         → (reply ≡ Refused refusal) × (new.frames ≡ g.frames)
@@ -202,13 +160,7 @@ refused_claims g call claims reply new refusal s r = cases g.rogue s
 
     cases : (b : Bool) → MatchBool b (RogueStep g call claims reply new)
         (HonestStep g call claims reply new) → (reply ≡ Refused refusal) × (new.frames ≡ g.frames)
-    cases true k =
-        elim (match_cases (claim_refusal claims)
-        (LosesFrames (all_backed (pages_to_back call g) (given claims) g.frames) new.frames)
-        (λ refusal. (reply ≡ Refused refusal) × (new.frames ≡ g.frames)) k.frames) [
-          | inl m ↦ absurd (let none : claim_refusal claims ≡ None = m.0 in cc)
-          | inr m ↦ answered m.0 (let same : m.0 ≡ refusal = cc in same) m.2
-        ]
+    cases true k = grind arith
     cases false p =
         elim (match_cases (refusal_of g call) (Performs call g claims reply new)
         (λ refusal. (claims ≡ []) × (reply ≡ Refused refusal) × (new ≡ g)) p) [
@@ -237,12 +189,7 @@ needed_bare p page (b ∷ bytes) g k = step (is_none (frame_of g.frames p)) refl
     step : (v : Bool) → is_none (frame_of g.frames p) ≡ v → is_in page (cond v (p ∷ []) []) ≡ true
         → frame_of g.frames page ≡ None
     step false e h = absurd cc
-    step true e h =
-        elim (or_cases (p == page) false h) [
-          | inl t ↦ ap (frame_of g.frames) (sym (eqb-true p page t))
-              ∙ bare_page (frame_of g.frames p) e
-          | inr f ↦ absurd cc
-        ]
+    step true e h = grind (arith, h)
 
 unrefused_page : (o : Option Refusal) (pages : List ℕ) (page : ℕ)
     → is_in page (unless_refused o pages) ≡ true → is_in page pages ≡ true
@@ -361,35 +308,12 @@ fills_otherwise (BufferPosted f) g reply new s = ap wants s.0
 fills_otherwise (BufferTaken f) g reply new s = ap wants s.0
 fills_otherwise (BufferDone f) g reply new s = ap wants s.0
 
-takes_buffer_otherwise : (buffer : Buffer) (g : Guest) (reply : Reply) (new : Guest)
-    → TakesBuffer buffer g reply new → wants reply ≡ false
-takes_buffer_otherwise NoBuffer g reply new s = ap wants s.0
-takes_buffer_otherwise (BufferPosted f) g reply new s = ap wants s.0
-takes_buffer_otherwise (BufferTaken f) g reply new s = ap wants s.0
-takes_buffer_otherwise (BufferDone f) g reply new s = ap wants s.0
-
 asks_otherwise : (buffer : Buffer) (g : Guest) (reply : Reply) (new : Guest)
     → Asks buffer g reply new → wants reply ≡ false
 asks_otherwise NoBuffer g reply new s = absurd s
 asks_otherwise (BufferPosted f) g reply new s = absurd s
 asks_otherwise (BufferTaken f) g reply new s = ap wants s.0
 asks_otherwise (BufferDone f) g reply new s = absurd s
-
-reaps_otherwise : (kind : Kind) (done : List Request) (g : Guest) (reply : Reply) (new : Guest)
-    → Reaps kind done g reply new → wants reply ≡ false
-reaps_otherwise kind [] g reply new s = ap wants s.0
-reaps_otherwise kind (r ∷ rest) g reply new s = ap wants s.0
-
-takes_otherwise : (kind : Kind) (posted : List Request) (g : Guest) (reply : Reply) (new : Guest)
-    → Takes kind posted g reply new → wants reply ≡ false
-takes_otherwise kind [] g reply new s = ap wants s.0
-takes_otherwise kind (r ∷ rest) g reply new s = ap wants s.0
-
-negotiates_otherwise : (wanted : ℕ) (o : Option Refusal) (g : Guest) (reply : Reply) (new : Guest)
-    → feature_refusal wanted ≡ o → Negotiates o wanted g reply new → wants reply ≡ false
-negotiates_otherwise wanted None g reply new e s = ap wants s.0
-negotiates_otherwise wanted (Some refusal) g reply new e s =
-    ap wants s.0 ∙ refused_otherwise (feature_tests wanted) refusal refl e
 
 -- the call's claims ended so, and nothing is changed
 abbrev Lacks : Refusal → Guest → List Claim → Guest → Type 0
@@ -405,16 +329,7 @@ supplies_lack : (pages : List ℕ) (g : Guest) (claims : List Claim) (reply : Re
     (why : Refusal) (Rest : Guest → Type 0) → Supplying pages g claims reply new Rest
     → ((m : Guest) → Rest m → wants reply ≡ false) → is_want why ≡ true → reply ≡ Refused why
     → Lacks why g claims new
-supplies_lack pages g claims reply new why Rest s rest w e =
-    elim (match_cases (claim_refusal claims) (Rest (supplied pages claims g))
-    (λ refusal. (reply ≡ Refused refusal) × (new ≡ g)) s.1) [
-      | inl m ↦ absurd (let a : wants reply ≡ false = rest _ m.1 in
-          let b : wants reply ≡ true = ap wants e ∙ w in cc)
-      | inr r ↦
-          let told : Refused r.0 ≡ Refused why = sym r.2.0 ∙ e in
-          let same : r.0 ≡ why = cc in
-          (r.1 ∙ ap (λ (x : Refusal). some_refusal x) same, r.2.1)
-    ]
+supplies_lack pages g claims reply new why Rest s rest w e = grind arith
   where
     some_refusal : Refusal → Option Refusal
     some_refusal x = Some x
@@ -424,37 +339,25 @@ pub no_want : {A : Type 0} (reply : Reply) (why : Refusal) → wants reply ≡ f
     → is_want why ≡ true → reply ≡ Refused why → A
 no_want reply why f w e = absurd (let t : wants reply ≡ true = ap wants e ∙ w in cc)
 
-reads_none : (page offset len : ℕ) (g : Guest) (claims : List Claim) (new : Guest) (why : Refusal)
-    → Refused NoMemory ≡ Refused why → new ≡ g → Fails why (Read page offset len) g claims new
-reads_none page offset len g claims new why e same =
-    let is : why ≡ NoMemory = cc in inr (refl, is, same)
-
 performs_lack : (call : Call) (g : Guest) (claims : List Claim) (reply : Reply) (new : Guest)
     (why : Refusal) → Performs call g claims reply new → is_want why ≡ true
     → reply ≡ Refused why → Fails why call g claims new
-performs_lack (Init wanted) g claims reply new why s w e =
-    inl (supplies_lack (lacking g) g claims reply new why
-    (λ m. Negotiates (feature_refusal wanted) wanted m reply new) s
-    (λ m r. negotiates_otherwise wanted (feature_refusal wanted) m reply new refl r) w e)
+performs_lack (Init wanted) g claims reply new why s w e = grind arith
 performs_lack (Write page offset bytes) g claims reply new why s w e =
     inl (supplies_lack (pages_needed page bytes g) g claims reply new why
     (λ m. Written page offset bytes m reply new) s (λ m r. ap wants r.0) w e)
 performs_lack (Scribble page offset bytes) g claims reply new why s w e =
     inl (supplies_lack (pages_needed page bytes g) g claims reply new why
     (λ m. Scribbled m reply new) s (λ m r. ap wants r.answered) w e)
-performs_lack (SetTarget n) g claims reply new why s w e = no_want reply why (ap wants s.1) w e
-performs_lack Reset g claims reply new why s w e = no_want reply why (ap wants s.1) w e
-performs_lack (Read page offset len) g claims reply new why s w e =
-    elim s.1 [
-      | inl k ↦ no_want reply why (ap wants k) w e
-      | inr k ↦ reads_none page offset len g claims new why (sym k ∙ e) s.2
-    ]
+performs_lack (SetTarget n) g claims reply new why s w e = no_want reply why (ap wants s.1.0) w e
+performs_lack Reset g claims reply new why s w e = no_want reply why (ap wants s.1.0) w e
+performs_lack (Read page offset len) g claims reply new why s w e = grind arith
 performs_lack (Sweep page) g claims reply new why s w e =
     no_want reply why (ap wants s.1.0) w e
 performs_lack (Alloc cpu order) g claims reply new why s w e =
     no_want reply why (ap wants s.1.2) w e
 performs_lack (Free cpu start order) g claims reply new why s w e =
-    no_want reply why (ap wants s.1) w e
+    no_want reply why (ap wants s.1.0) w e
 performs_lack (Inflate n) g claims reply new why s w e = no_want reply why (ap wants s.1.6) w e
 performs_lack (Deflate n) g claims reply new why s w e = no_want reply why (ap wants s.1.2) w e
 performs_lack (Oom n) g claims reply new why s w e = no_want reply why (ap wants s.1.2) w e
@@ -464,30 +367,10 @@ performs_lack Stats g claims reply new why s w e =
     no_want reply why (fills_otherwise g.buffer g reply new s.1) w e
 performs_lack Ask g claims reply new why s w e =
     no_want reply why (asks_otherwise g.buffer g reply new s.1) w e
-performs_lack (Reap q) g claims reply new why s w e =
-    elim (match_cases (kind_of_queue q) ⊥ (λ kind. Reaps kind (requests kind g).done g reply new)
-    s.1) [
-      | inl n ↦ absurd n.1
-      | inr k ↦ no_want reply why (reaps_otherwise k.0 (requests k.0 g).done g reply new k.2) w e
-    ]
-performs_lack (Take q) g claims reply new why s w e =
-    elim (match_cases (kind_of_queue q) (TakesBuffer g.buffer g reply new)
-    (λ kind. Takes kind (requests kind g).posted g reply new) s.1) [
-      | inl n ↦ no_want reply why (takes_buffer_otherwise g.buffer g reply new n.1) w e
-      | inr k ↦ no_want reply why
-          (takes_otherwise k.0 (requests k.0 g).posted g reply new k.2) w e
-    ]
-performs_lack Work g claims reply new why s w e =
-    elim (works_cases (cond g.config.paced (next_page g.inflate.taken) None)
-    (cond g.config.paced (next_page g.report.taken) None) g reply new s.1) [
-      | inl i ↦ no_want reply why (ap wants i.0) w e
-      | inr v ↦ no_want reply why (ap wants v.2.0) w e
-    ]
-performs_lack (Finish q i) g claims reply new why s w e =
-    elim (match_cases (kind_of_queue q) ⊥ (λ kind. Finishes kind i g reply new) s.1) [
-      | inl n ↦ absurd n.1
-      | inr k ↦ no_want reply why (ap wants k.2.2) w e
-    ]
+performs_lack (Reap q) g claims reply new why s w e = grind arith
+performs_lack (Take q) g claims reply new why s w e = grind arith
+performs_lack Work g claims reply new why s w e = grind arith
+performs_lack (Finish q i) g claims reply new why s w e = grind arith
 
 -- the call's claims ended without a frame
 step_lacks : (g : Guest) (call : Call) (claims : List Claim) (new : Guest)
@@ -522,7 +405,7 @@ no_frame_exact w v n call g here s =
           let t : wants (Refused NoFrame) ≡ false = ap wants told ∙ f in cc)
       | inl p ↦
           elim (match_cases (guest_at w.guests n) ⊥
-          (λ g. Calls n g w (OnGuest n call) (Refused NoFrame) v) p.1) [
+          (λ g. Calls n g w call (Refused NoFrame) v) p.1) [
             | inl none ↦ absurd none.1
             | inr k ↦
                 let same : k.0 ≡ g = same_some k.0 g (sym k.1 ∙ here) in
@@ -536,11 +419,11 @@ no_frame_exact w v n call g here s =
 
 -- ---- no memory is left
 
-pub unsupplied : (started : Bool) (o : Option Refusal) (why : Refusal) (old new : Guest)
-    → o ≡ Some why → if_negotiated started o old new ≡ old
-unsupplied true o why old new e = refl
-unsupplied false (Some refusal) why old new e = refl
-unsupplied false None why old new e = absurd cc
+pub unsupplied : (idle : Bool) (o : Option Refusal) (why : Refusal) (old new : Guest)
+    → o ≡ Some why → cond (idle && is_none o) new old ≡ old
+unsupplied true (Some refusal) why old new e = refl
+unsupplied true None why old new e = absurd cc
+unsupplied false o why old new e = refl
 
 pub no_memory_exact : NoMemoryIsExact
 no_memory_exact g call claims new s = cases g.rogue s
@@ -548,7 +431,7 @@ no_memory_exact g call claims new s = cases g.rogue s
     left : (c : Call) → (claim_refusal claims ≡ Some NoMemory) ⊎ (is_read c ≡ true)
         → after_refused c NoMemory claims g ≡ g
     left (Init wanted) (inl e) =
-        unsupplied (not (g.status == 0)) (claim_refusal claims) NoMemory g _ e
+        unsupplied (g.status == 0) (claim_refusal claims) NoMemory g _ e
     left (Init wanted) (inr e) = absurd cc
     left (Write page offset bytes) e = refl
     left (Scribble page offset bytes) e = refl

@@ -124,7 +124,7 @@ number_past_the_last_has_no_guest = ((refl, refl), (refl, refl), (refl, refl), (
 no_frame_claimed : WorldStep (world (Some ready ∷ None ∷ Some down ∷ Some ready ∷ []))
     (OnGuest 2 (SetTarget 7)) Done
     (world (Some ready ∷ None ∷ Some (record down { target = 7 }) ∷ Some ready ∷ []))
-no_frame_claimed = ([], record down { target = 7 }, tt, (refl, refl, refl), refl)
+no_frame_claimed = ([], record down { target = 7 }, tt, (refl, (refl, refl)), refl)
 
 -- targets go to the guests in rising number, past the numbers that have none
 targets_past_gaps : with_targets (5 ∷ 7 ∷ 9 ∷ [])

@@ -1,6 +1,6 @@
 -- A page has its 4096 bytes, and reads as zeros without a frame.
 use Rattle.std.specs.Prelude.{◌≡◌, ℕ, ◌<◌, List, [], Option, None, length, slice_index_or}
-use Rattle.vb_model.specs.Limits.{page_size}
+use Rattle.vb_model.specs.declared.limits.TheConstants.{PAGE_SIZE}
 use Rattle.vb_model.specs.Guest.{Guest, zero_page, frame_of}
 
 -- The tables of frames and contents have an entry for each page, each page has its bytes, and a
@@ -8,7 +8,7 @@ use Rattle.vb_model.specs.Guest.{Guest, zero_page, frame_of}
 pub record AreBlank (pages : ℕ) (frames : List (Option ℕ)) (contents : List (List ℕ)) : Type 0 where
   pub framed : length frames ≡ pages
   pub filled : length contents ≡ pages
-  pub whole : (page : ℕ) → page < pages → length (slice_index_or contents page []) ≡ page_size
+  pub whole : (page : ℕ) → page < pages → length (slice_index_or contents page []) ≡ PAGE_SIZE
   pub blank : (page : ℕ) → page < pages → frame_of frames page ≡ None
       → slice_index_or contents page [] ≡ zero_page
 

@@ -1,8 +1,10 @@
 -- What an event of the host does, its guests' calls among them (profile).
 -- The headline of a host needs all of it.
+use Rattle.std.specs.Prelude.{option_map}
 use Rattle.std.specs.Prelude.{◌≡◌, ℕ, ◌-◌, Bool}
 use Rattle.std.specs.Prelude.{List, [], ◌∷◌, Option, Some, None}
 use Rattle.std.specs.Prelude.{MatchOption, ◌⊎◌, filter_map, ⊤}
+use Rattle.vb_model.specs.declared.calls.Call.{Call}
 use Rattle.vb_model.specs.declared.calls.Event.{Event}
 use Rattle.vb_model.specs.declared.calls.Event.TheVariants.{Plug, Unplug, Restart, Guest as OnGuest}
 use Rattle.vb_model.specs.declared.calls.Event.TheVariants.{Query as Asking, Balance}
@@ -16,7 +18,7 @@ use Rattle.vb_model.specs.Guest.{Guest, Config, fresh}
 use Rattle.vb_model.specs.FirstRefusal.{first_refusal}
 use Rattle.vb_model.specs.declared.calls.Claim.{Claim}
 use Rattle.vb_model.specs.Life.{after_restart}
-use Rattle.vb_model.specs.Step.{GuestStep}
+use Rattle.vb_model.specs.Rogue.{GuestStep}
 use Rattle.vb_model.specs.Balance.{Need, need, IsAnswer}
 use Rattle.vb_model.specs.HostFrames.{IsOut, Gives, used_frames}
 use Rattle.vb_model.specs.HostRefusals.{world_tests}
@@ -51,13 +53,12 @@ PlugsIn pages queue_size processors (paced ∷ rest) w reply new =
     }) rest w reply new
 
 -- a guest's own step; what its claims get is the host's
-abbrev pub Calls : ℕ → Guest → World → Event → Reply → World → Type 0
-Calls n g w (OnGuest m call) reply new =
+abbrev pub Calls : ℕ → Guest → World → Call → Reply → World → Type 0
+Calls n g w call reply new =
     (claims : List Claim) × (after : Guest)
     × Gives w.frames (IsOut w) claims
     × GuestStep g call claims reply after
     × (new ≡ put_guest n (Some after) w)
-Calls n g w _ reply new = ⊥
 
 -- the guests' targets, in rising number
 abbrev pub with_targets : List ℕ → List (Option Guest) → List (Option Guest)
@@ -67,12 +68,7 @@ with_targets [] (Some g ∷ xs) = Some g ∷ with_targets [] xs
 with_targets (t ∷ ts) (Some g ∷ xs) = Some (record g { target = t }) ∷ with_targets ts xs
 
 abbrev pub needs : ℕ → World → List Need
-needs floor w = filter_map (λ x. x) (needs_of w.guests)
-  where
-    needs_of : List (Option Guest) → List (Option Need)
-    needs_of [] = []
-    needs_of (None ∷ xs) = None ∷ needs_of xs
-    needs_of (Some g ∷ xs) = Some (need floor g) ∷ needs_of xs
+needs floor w = filter_map (option_map (need floor)) w.guests
 
 -- the targets of a balance's answer, where it has any, are the guests'
 abbrev pub after_balance : Reply → World → World
@@ -93,7 +89,7 @@ Happens (Restart n) w reply new =
     MatchOption (guest_at w.guests n) ⊥
     (λ g. (reply ≡ Done) × (new ≡ put_guest n (Some (after_restart g)) w))
 Happens (OnGuest n call) w reply new =
-    MatchOption (guest_at w.guests n) ⊥ (λ g. Calls n g w (OnGuest n call) reply new)
+    MatchOption (guest_at w.guests n) ⊥ (λ g. Calls n g w call reply new)
 Happens (Asking n query) w reply new =
     MatchOption (guest_at w.guests n) ⊥ (λ g. Answers query g reply) × (new ≡ w)
 Happens (Balance floor) w reply new = Balances floor w reply new

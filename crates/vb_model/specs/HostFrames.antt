@@ -1,8 +1,8 @@
 -- Which frames are in use, and which one a claim gets (profile).
 -- The headline of a host needs all of it.
 use Rattle.std.specs.Prelude.{◌≡◌, ℕ, ◌<◌}
-use Rattle.std.specs.Prelude.{List, [], ◌∷◌, Option, Some, None}
-use Rattle.std.specs.Prelude.{◌⊎◌, sum_by, ⊤}
+use Rattle.std.specs.Prelude.{List, [], ◌∷◌, Some}
+use Rattle.std.specs.Prelude.{◌⊎◌, sum_by, filter_map, ⊤}
 use Rattle.vb_model.specs.Guest.{Guest, frame_of, backed_count}
 use Rattle.vb_model.specs.declared.calls.Claim.{Claim}
 use Rattle.vb_model.specs.declared.calls.Claim.TheVariants.{Gave, GaveNoFrame, GaveNoMemory}
@@ -29,8 +29,4 @@ Gives frames Out (GaveNoFrame ∷ claims) = ((x : ℕ) → x < frames → Out x)
 Gives frames Out (GaveNoMemory ∷ claims) = (x : ℕ) × (x < frames) × (¬ Out x) × (claims ≡ [])
 
 abbrev pub used_frames : World → ℕ
-used_frames w = sum_by count w.guests
-  where
-    count : Option Guest → ℕ
-    count None = 0
-    count (Some g) = backed_count g
+used_frames w = sum_by backed_count (filter_map (λ guest. guest) w.guests)

@@ -1,6 +1,6 @@
 -- Why the host refuses an event, first cause first (profile).
 -- The headline of a host needs all of it.
-use Rattle.std.specs.Prelude.{ℕ, Bool, true, false, not, nat_le}
+use Rattle.std.specs.Prelude.{ℕ, Bool, not, ◌==◌, length, nat_le}
 use Rattle.std.specs.Prelude.{List, [], ◌∷◌, is_none, is_some}
 use Rattle.std.specs.Prelude.{count_by}
 use Rattle.vb_model.specs.declared.calls.Event.{Event}
@@ -9,16 +9,13 @@ use Rattle.vb_model.specs.declared.calls.Event.TheVariants.{Query as Asking, Bal
 use Rattle.vb_model.specs.declared.calls.Event.TheVariants.{Frames as CountFrames}
 use Rattle.vb_model.specs.declared.replies.Refusal.TheVariants.{NoGuest, BadConfig, TooMany}
 use Rattle.vb_model.specs.declared.replies.Refusal.TheVariants.{NoDevice}
-use Rattle.vb_model.specs.Limits.{max_guests, is_config}
+use Rattle.vb_model.specs.Limits.{is_config}
+use Rattle.vb_model.specs.declared.limits.TheConstants.{MAX_GUESTS}
 use Rattle.vb_model.specs.FirstRefusal.{Test, ◌⇒◌}
 use Rattle.vb_model.specs.World.{World, guest_at}
 
 abbrev pub plugged_count : World → ℕ
 plugged_count w = count_by (λ x. is_some x) w.guests
-
-abbrev pub has_no_spare : List Bool → Bool
-has_no_spare [] = true
-has_no_spare (x ∷ xs) = false
 
 abbrev pub lacks_guest : World → ℕ → Bool
 lacks_guest w n = is_none (guest_at w.guests n)
@@ -26,8 +23,8 @@ lacks_guest w n = is_none (guest_at w.guests n)
 abbrev pub world_tests : World → Event → List Test
 world_tests w (Plug pages queue_size processors) =
     (not (is_config pages queue_size processors) ⇒ BadConfig)
-    ∷ (nat_le max_guests (plugged_count w) ⇒ TooMany)
-    ∷ (has_no_spare w.spares ⇒ NoDevice)
+    ∷ (nat_le MAX_GUESTS (plugged_count w) ⇒ TooMany)
+    ∷ ((length w.spares == 0) ⇒ NoDevice)
     ∷ []
 world_tests w (Unplug n) = (lacks_guest w n ⇒ NoGuest) ∷ []
 world_tests w (Restart n) = (lacks_guest w n ⇒ NoGuest) ∷ []

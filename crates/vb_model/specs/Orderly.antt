@@ -4,7 +4,7 @@
 use Rattle.std.specs.Prelude.{◌≡◌, ℕ, ◌+◌, ◌<◌, ◌≤◌, List, [], ◌∷◌, length}
 use Rattle.std.specs.Prelude.{nat_lt, min, ⊤, ◌⊎◌, IsTrue}
 use Rattle.vb_model.specs.declared.places.Place.{Place}
-use Rattle.vb_model.specs.Limits.{max_outstanding, max_order}
+use Rattle.vb_model.specs.declared.limits.TheConstants.{MAX_OUTSTANDING, MAX_ORDER}
 use Rattle.vb_model.specs.Layout.{reserved_pages}
 pub use Rattle.vb_model.specs.Tests.{times}
 use Rattle.vb_model.specs.Pages.{Block, size, is_aligned, place_of, is_reserved}
@@ -31,7 +31,7 @@ pub record AreOrderly (most : ℕ) (rs : Requests) : Type 0 where
 
 -- a block of an order that there is, at a multiple of its size, within so many pages
 pub record IsBlock (pages : ℕ) (b : Block) : Type 0 where
-  pub order : b.order ≤ max_order
+  pub order : b.order ≤ MAX_ORDER
   pub aligned : IsTrue (is_aligned b)
   pub inside : b.start + size b ≤ pages
 
@@ -46,8 +46,8 @@ pub record AreAgreed (features : ℕ) : Type 0 where
 
 pub record IsInOrder (pages queue_size : ℕ) (places : List Place) (held : List Block)
     (inflate deflate report : Requests) (status features : ℕ) : Type 0 where
-  pub inflating : AreOrderly (min queue_size max_outstanding) inflate
-  pub deflating : AreOrderly (min queue_size max_outstanding) deflate
+  pub inflating : AreOrderly (min queue_size MAX_OUTSTANDING) inflate
+  pub deflating : AreOrderly (min queue_size MAX_OUTSTANDING) deflate
   pub reporting : AreOrderly 1 report
   -- not begun, ready, or given up while features were negotiated
   pub state : (status ≡ 0) ⊎ (status ≡ 15) ⊎ (status ≡ 131)

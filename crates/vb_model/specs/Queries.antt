@@ -1,10 +1,10 @@
 -- What a question is answered: the state's values (profile).
 -- The headline of a host needs all of it.
-use Rattle.std.specs.Prelude.{◌≡◌, ℕ, suc, Bool, true, false, ◌==◌}
+use Rattle.std.specs.Prelude.{◌≡◌, ℕ, suc, ◌==◌}
 use Rattle.std.specs.Prelude.{List, [], ◌∷◌, if◌then◌else◌}
 use Rattle.std.specs.Prelude.{◌⊎◌, count_by}
 use Rattle.vb_model.specs.declared.places.Place.{Place}
-use Rattle.vb_model.specs.declared.places.Place.TheVariants.{Reserved, Free, Used, Giving, Lent}
+use Rattle.vb_model.specs.declared.places.Place.TheVariants.{Free, Used, Giving, Lent}
 use Rattle.vb_model.specs.declared.places.Place.TheVariants.{Taking, Stranded, Reporting}
 use Rattle.vb_model.specs.declared.calls.Query.{Query}
 use Rattle.vb_model.specs.declared.calls.Query.TheVariants.{Places as AskPlaces, PagesAt}
@@ -19,6 +19,7 @@ use Rattle.vb_model.specs.declared.replies.Reply.TheVariants.{Refused}
 use Rattle.vb_model.specs.declared.places.PageRun.{PageRun}
 use Rattle.vb_model.specs.declared.places.PlaceCounts.{PlaceCounts}
 use Rattle.vb_model.specs.Tests.{pages_where}
+pub use Rattle.vb_model.specs.Pages.{is_place}
 use Rattle.vb_model.specs.Guest.{Guest, frame_of, ballooned_count}
 
 -- the maximal runs of these rising pages
@@ -31,17 +32,6 @@ runs_with page (r ∷ rs) =
 abbrev pub runs : List ℕ → List PageRun
 runs [] = []
 runs (page ∷ pages) = runs_with page (runs pages)
-
-abbrev pub is_place : Place → Place → Bool
-is_place Reserved Reserved = true
-is_place Free Free = true
-is_place Used Used = true
-is_place Giving Giving = true
-is_place Lent Lent = true
-is_place Taking Taking = true
-is_place Stranded Stranded = true
-is_place Reporting Reporting = true
-is_place _ _ = false
 
 abbrev pub count_at : Place → Guest → ℕ
 count_at place g = count_by (is_place place) g.places

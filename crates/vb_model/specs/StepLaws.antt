@@ -20,7 +20,8 @@ use Rattle.vb_model.specs.Guest.{Guest, frame_of, all_backed, is_ballooned}
 use Rattle.vb_model.specs.Driver.{given, claim_refusal, AreClaimsFor}
 use Rattle.vb_model.specs.Life.{lacking, feature_refusal, accepted_before}
 use Rattle.vb_model.specs.Rogue.{pages_to_back, is_read}
-use Rattle.vb_model.specs.Step.{HonestStep, GuestStep}
+use Rattle.vb_model.specs.Step.{HonestStep}
+use Rattle.vb_model.specs.Rogue.{GuestStep}
 use Rattle.vb_model.specs.World.{World, guest_at}
 use Rattle.vb_model.specs.HostEvents.{WorldStep}
 use Rattle.vb_model.specs.HostFrames.{Backs, IsOut}

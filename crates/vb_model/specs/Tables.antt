@@ -2,9 +2,10 @@
 -- it is tested (profile).
 -- Both stand here once, over plain values; a guest, a driver and a device each put in their own.
 -- The headline needs all of it.
+use Rattle.std.specs.Prelude.{◌++◌}
 use Rattle.std.specs.Prelude.{ℕ, ◌+◌, ◌-◌, Bool, false, not, ◌==◌, ◌&&◌, ◌||◌, nat_lt, nat_le, List}
 use Rattle.std.specs.Prelude.{[], ◌∷◌, length, if◌then◌else◌, Option, Some, None, is_some, is_none}
-use Rattle.std.specs.Prelude.{min, max, count_by, take}
+use Rattle.std.specs.Prelude.{min, max, count_by}
 use Rattle.std.specs.List.{list_any, range_with_len}
 use Rattle.vb_model.specs.declared.layout.TheConstants.{DEFLATE_QUEUE, STATISTICS_QUEUE}
 use Rattle.vb_model.specs.declared.layout.TheConstants.{REPORT_QUEUE}
@@ -14,8 +15,8 @@ use Rattle.vb_model.specs.declared.replies.Refusal.TheVariants.{NotReady, NeedsR
 use Rattle.vb_model.specs.declared.replies.Refusal.TheVariants.{DeflatePending}
 use Rattle.vb_model.specs.declared.replies.Refusal.TheVariants.{Nothing, NoFeature, NoQueue, Busy}
 use Rattle.vb_model.specs.declared.replies.Refusal.TheVariants.{NotTaken, NotWorked, NotBallooned}
-use Rattle.vb_model.specs.Limits.{max_order, max_outstanding, max_request_pages}
-use Rattle.vb_model.specs.Tests.{pages_where}
+use Rattle.vb_model.specs.declared.limits.TheConstants.{MAX_ORDER}
+use Rattle.vb_model.specs.declared.limits.TheConstants.{MAX_OUTSTANDING, MAX_REQUEST_PAGES}
 use Rattle.vb_model.specs.Pages.{Block, block_at, is_free, is_giving, is_lent, is_stranded}
 use Rattle.vb_model.specs.Pages.{is_wholly_free, is_same_block}
 use Rattle.vb_model.specs.Requests.{Request, kind_of_queue}
@@ -31,28 +32,21 @@ abbrev pub pages_to_offer : (places : List Place) (target n : ℕ) → ℕ
 pages_to_offer places target n =
     let stranded : ℕ = count_by is_stranded places in
     let missing : ℕ = target - count_by is_lent places - count_by is_giving places in
-    min (min n max_request_pages) (min (max stranded missing) (stranded + count_by is_free places))
+    min (min n MAX_REQUEST_PAGES) (min (max stranded missing) (stranded + count_by is_free places))
 
 -- a deflate asks back what is above the target
 abbrev pub pages_to_ask : (places : List Place) (target n : ℕ) → ℕ
 pages_to_ask places target n =
     let lent : ℕ = count_by is_lent places in
-    min (min n max_request_pages) (min lent (lent + count_by is_giving places - target))
+    min (min n MAX_REQUEST_PAGES) (min lent (lent + count_by is_giving places - target))
 
 -- and where memory is short any lent page
 abbrev pub pages_when_short : List Place → ℕ → ℕ
-pages_when_short places n = min (min n max_request_pages) (count_by is_lent places)
-
--- the lowest pages of a kind
-abbrev pub first_stranded : List Place → ℕ → List ℕ
-first_stranded places count = take count (pages_where is_stranded places)
-
-abbrev pub first_lent : List Place → ℕ → List ℕ
-first_lent places count = take count (pages_where is_lent places)
+pages_when_short places n = min (min n MAX_REQUEST_PAGES) (count_by is_lent places)
 
 -- how many requests of queue 0 or 1, or blocks of a report, there may be at this queue size
 abbrev pub most_requests : ℕ → ℕ
-most_requests queue_size = min queue_size max_outstanding
+most_requests queue_size = min queue_size MAX_OUTSTANDING
 
 -- ---- the status: VIRTIO 1.1, 2.1
 
@@ -85,7 +79,7 @@ lacks_feature features q =
 
 -- of a queue so many chains may be taken at a time
 abbrev pub most_taken : ℕ → ℕ
-most_taken q = if q == STATISTICS_QUEUE then 1 else max_outstanding
+most_taken q = if q == STATISTICS_QUEUE then 1 else MAX_OUTSTANDING
 
 abbrev pub has_unvisited : Option Request → Bool
 has_unvisited None = false
@@ -103,14 +97,14 @@ is_among b held = list_any (λ h. is_same_block h b) held
 
 abbrev pub alloc_tests : (places : List Place) (pages processors cpu order : ℕ) → List Test
 alloc_tests places pages processors cpu order =
-    (nat_lt max_order order ⇒ BadOrder)
+    (nat_lt MAX_ORDER order ⇒ BadOrder)
     ∷ (nat_le processors cpu ⇒ BadCpu)
     ∷ (no_block_free places pages order ⇒ NoPages)
     ∷ []
 
 abbrev pub free_tests : (held : List Block) (processors cpu : ℕ) (b : Block) → List Test
 free_tests held processors cpu b =
-    (nat_lt max_order b.order ⇒ BadOrder)
+    (nat_lt MAX_ORDER b.order ⇒ BadOrder)
     ∷ (nat_le processors cpu ⇒ BadCpu)
     ∷ (not (is_among b held) ⇒ NotHeld)
     ∷ []
@@ -163,45 +157,39 @@ stats_tests status features =
 
 -- ---- the device's calls
 
+-- of each of them, and of work nothing else
+abbrev pub work_tests : ℕ → List Test
+work_tests status = (is_not_ready status ⇒ NotReady) ∷ (has_fault status ⇒ NeedsReset) ∷ []
+
 -- of a take, before guest memory is read, where so many chains of the queue are taken
 abbrev pub take_tests : (q status features taken : ℕ) → List Test
 take_tests q status features taken =
     (not (has_chains q) ⇒ NoQueue)
-    ∷ (is_not_ready status ⇒ NotReady)
-    ∷ (has_fault status ⇒ NeedsReset)
-    ∷ (lacks_feature features q ⇒ NoQueue)
+    ∷ work_tests status
+    ++ (lacks_feature features q ⇒ NoQueue)
     ∷ (nat_le (most_taken q) taken ⇒ Busy)
-    ∷ []
-
-abbrev pub work_tests : ℕ → List Test
-work_tests status =
-    (is_not_ready status ⇒ NotReady)
-    ∷ (has_fault status ⇒ NeedsReset)
     ∷ []
 
 -- of a finish of this taken request, if there is one
 abbrev pub finish_tests : (q status : ℕ) (paced : Bool) (taken : Option Request) → List Test
 finish_tests q status paced taken =
     (not (is_queue_of_requests q) ⇒ NoQueue)
-    ∷ (is_not_ready status ⇒ NotReady)
-    ∷ (has_fault status ⇒ NeedsReset)
-    ∷ (is_none taken ⇒ NotTaken)
+    ∷ work_tests status
+    ++ (is_none taken ⇒ NotTaken)
     ∷ ((paced && not (q == DEFLATE_QUEUE) && has_unvisited taken) ⇒ NotWorked)
     ∷ []
 
 -- of a sweep: without MUST_TELL_HOST a guest may use a ballooned page that it has asked back
 abbrev pub sweep_tests : (status features : ℕ) (ballooned : Bool) → List Test
 sweep_tests status features ballooned =
-    (is_not_ready status ⇒ NotReady)
-    ∷ (has_fault status ⇒ NeedsReset)
-    ∷ (not (must_tell_host features) ⇒ NoFeature)
+    work_tests status
+    ++ (not (must_tell_host features) ⇒ NoFeature)
     ∷ (not ballooned ⇒ NotBallooned)
     ∷ []
 
 -- of the return of the statistics buffer, which is taken or isn't
 abbrev pub ask_tests : (status : ℕ) (taken : Bool) → List Test
 ask_tests status taken =
-    (is_not_ready status ⇒ NotReady)
-    ∷ (has_fault status ⇒ NeedsReset)
-    ∷ (not taken ⇒ NotTaken)
+    work_tests status
+    ++ (not taken ⇒ NotTaken)
     ∷ []

@@ -46,87 +46,48 @@ impl Bytes {
 }
 
 /// A call on one guest: by what runs in it, by its balloon driver, or by the device behind it.
-/// Pages, orders, queues and processors are numbers from 0 on; any number may be passed.
+/// Pages, orders, queues and processors are numbers from 0 on, and `at` is a place in a page, in
+/// bytes from its start; any number may be passed.
 #[derive(Drop)]
 pub enum Call {
     /// The driver initialises the device and asks for these features (VIRTIO 1.1, 3.1.1).
-    Init {
-        features: u64,
-    },
+    Init { features: u64 },
     /// The driver resets the device (VIRTIO 1.1, 2.1).
     Reset,
     /// A processor asks for a block of 2^order pages (Gorman, chapter 6).
-    Alloc {
-        cpu: u32,
-        order: u32,
-    },
+    Alloc { cpu: u32, order: u32 },
     /// A processor gives back a block that it or another one was handed.
-    Free {
-        cpu: u32,
-        start: u32,
-        order: u32,
-    },
+    Free { cpu: u32, start: u32, order: u32 },
     /// Bytes of a used page are read.
-    Read {
-        page: u32,
-        offset: u32,
-        len: u32,
-    },
+    Read { page: u32, at: u32, len: u32 },
     /// Bytes of a used page are written.
-    Write {
-        page: u32,
-        offset: u32,
-        bytes: Bytes,
-    },
+    Write { page: u32, at: u32, bytes: Bytes },
     /// Bytes of any page are written: the guest is rogue from then on (profile).
-    Scribble {
-        page: u32,
-        offset: u32,
-        bytes: Bytes,
-    },
+    Scribble { page: u32, at: u32, bytes: Bytes },
     /// The driver offers at most so many pages to the host (VIRTIO 1.1, 5.5.6).
-    Inflate {
-        pages: u32,
-    },
+    Inflate { pages: u32 },
     /// The driver asks for at most so many pages back, as far as the target allows.
-    Deflate {
-        pages: u32,
-    },
+    Deflate { pages: u32 },
     /// The same, whatever the target (VIRTIO 1.1, 5.5.6, with DEFLATE_ON_OOM).
-    Oom {
-        pages: u32,
-    },
+    Oom { pages: u32 },
     /// The driver reports free blocks from a page on (profile).
-    Report {
-        from: u32,
-    },
+    Report { from: u32 },
     /// The driver fills the statistics buffer (VIRTIO 1.1, 5.5.6.3).
     Stats,
     /// The driver takes the next used request of a queue (VIRTIO 1.1, 2.6.14).
-    Reap {
-        queue: u32,
-    },
+    Reap { queue: u32 },
     /// The device takes the next request of a queue (VIRTIO 1.1, 2.6).
-    Take {
-        queue: u32,
-    },
+    Take { queue: u32 },
     /// The device visits one page of a request (profile).
     Work,
     /// The device uses a taken request, by its index among those of the queue.
-    Finish {
-        queue: u32,
-        index: u32,
-    },
+    Finish { queue: u32, index: u32 },
     /// The host discards what it still has of a ballooned page (profile).
-    Sweep {
-        page: u32,
-    },
+    Sweep { page: u32 },
     /// The device asks for statistics (VIRTIO 1.1, 5.5.6.3).
     Ask,
     /// The host sets how many pages it wants, the configuration's num_pages (VIRTIO 1.1, 5.5.4).
-    SetTarget {
-        pages: u32,
-    },
+    SetTarget { pages: u32 },
 }
 
 impl Call {
@@ -148,27 +109,19 @@ impl Call {
                 start: *start,
                 order: *order,
             },
-            Call::Read { page, offset, len } => Call::Read {
+            Call::Read { page, at, len } => Call::Read {
                 page: *page,
-                offset: *offset,
+                at: *at,
                 len: *len,
             },
-            Call::Write {
-                page,
-                offset,
-                bytes,
-            } => Call::Write {
+            Call::Write { page, at, bytes } => Call::Write {
                 page: *page,
-                offset: *offset,
+                at: *at,
                 bytes: bytes.copy(alloc)?,
             },
-            Call::Scribble {
-                page,
-                offset,
-                bytes,
-            } => Call::Scribble {
+            Call::Scribble { page, at, bytes } => Call::Scribble {
                 page: *page,
-                offset: *offset,
+                at: *at,
                 bytes: bytes.copy(alloc)?,
             },
             Call::Inflate { pages } => Call::Inflate { pages: *pages },

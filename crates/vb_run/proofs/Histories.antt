@@ -18,7 +18,8 @@ use Rattle.vb_slot.specs.Alone.{AreBehind}
 use Rattle.vb_run.specs.Entries.{is_same, actor_of, call_of, entries_by, calls_by}
 use Rattle.vb_run.specs.Plans.{config_of}
 use Rattle.vb_run.specs.Services.{IsTended, IsQuiet, services}
-use Rattle.vb_run.specs.Past.{Past, Progress, IsKept, IsMade, AreMade, IsAside, IsScript}
+use Rattle.vb_run.specs.Made.{IsMade, AreMade}
+use Rattle.vb_run.specs.Past.{Past, Progress, IsKept, IsAside, IsScript}
 use Rattle.vb_run.proofs.Lists.{get_set, length_set, take_next}
 
 leads_push : (a b c : Guest) (entries : List Entry) (after : List Guest) (e : Entry)

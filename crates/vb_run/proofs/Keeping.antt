@@ -21,7 +21,8 @@ use Rattle.vb_ram.specs.declared.config.Config.{Config as Sizes}
 use Rattle.vb_slot.specs.Alone.{AreBehind, StepsTo}
 use Rattle.vb_run.specs.Plans.{config_of, is_plain, may_stand}
 use Rattle.vb_run.specs.Services.{IsQuiet, services, found_nothing, default_features}
-use Rattle.vb_run.specs.Past.{Past, Progress, IsKept, IsMade, IsAside, AreBegun, unknown}
+use Rattle.vb_run.specs.Made.{IsMade}
+use Rattle.vb_run.specs.Past.{Past, Progress, IsKept, IsAside, AreBegun, unknown}
 use Rattle.vb_run.specs.Past.{just_started}
 use Rattle.vb_run.proofs.Tended.{plain_entry, service_plain, is_quiet, started, stands_plain}
 use Rattle.vb_run.proofs.Lists.{passes_at, some_same}

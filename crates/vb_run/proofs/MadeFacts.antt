@@ -13,7 +13,7 @@ use Rattle.vb_model.specs.declared.replies.Reply.TheVariants.{Taken, Worked, Fin
 use Rattle.vb_model.specs.declared.replies.Refusal.TheVariants.{NoFrame, NotTaken}
 use Rattle.vb_model.specs.GuestRun.{Entry, Called, Looked}
 use Rattle.vb_run.specs.Services.{services}
-use Rattle.vb_run.specs.Past.{IsMade, AreMade}
+use Rattle.vb_run.specs.Made.{IsMade, AreMade}
 
 -- ---- which calls are a worker's: takes of the four queues, a visit, the first chain of each but
 -- ---- the statistics queue, and the question for new statistics

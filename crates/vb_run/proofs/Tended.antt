@@ -33,7 +33,8 @@ use Rattle.vb_model.specs.Device.{Takes, TakesBuffer, Asks, Finishes, next_page,
 use Rattle.vb_model.specs.Device.{is_unvisited}
 use Rattle.vb_model.specs.Life.{feature_refusal, Negotiates, lacking}
 use Rattle.vb_model.specs.Rogue.{RogueStep, IsRogueAfter}
-use Rattle.vb_model.specs.Step.{Performs, HonestStep, GuestStep}
+use Rattle.vb_model.specs.Step.{Performs, HonestStep}
+use Rattle.vb_model.specs.Rogue.{GuestStep}
 use Rattle.vb_model.specs.Consistent.{IsConsistent}
 use Rattle.vb_model.specs.Orderly.{IsOrderly}
 use Rattle.vb_model.specs.HonestRuns.{IsAttentive, has_buffer}
@@ -225,10 +226,10 @@ finishes_steady Reporting_free i r g new e = steady g new _ e refl refl
 
 performs_steady : (call : Call) (g : Guest) (claims : List Claim) (reply : Reply) (new : Guest)
     → is_plain call ≡ true → Performs call g claims reply new → Steady g new
-performs_steady (SetTarget n) g claims reply new p s = steady g new _ s.2 refl refl
-performs_steady (Read page offset len) g claims reply new p s = steady g new _ s.2 refl refl
+performs_steady (SetTarget n) g claims reply new p s = steady g new _ s.1.1 refl refl
+performs_steady (Read page offset len) g claims reply new p s = steady g new _ s.1.1 refl refl
 performs_steady (Alloc cpu order) g claims reply new p s = steady g new _ s.1.3 refl refl
-performs_steady (Free cpu start order) g claims reply new p s = steady g new _ s.2 refl refl
+performs_steady (Free cpu start order) g claims reply new p s = steady g new _ s.1.1 refl refl
 performs_steady (Inflate n) g claims reply new p s = steady g new _ s.1.7 refl refl
 performs_steady (Deflate n) g claims reply new p s = steady g new _ s.1.3 refl refl
 performs_steady (Oom n) g claims reply new p s = steady g new _ s.1.3 refl refl

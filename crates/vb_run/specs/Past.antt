@@ -16,6 +16,7 @@ use Rattle.vb_model.specs.GuestRun.{Entry, Called, Looked, IsHistory}
 use Rattle.vb_slot.specs.Alone.{AreBehind}
 use Rattle.vb_run.specs.Entries.{calls_by}
 use Rattle.vb_ram.specs.declared.config.Config.{Config as Sizes}
+use Rattle.vb_run.specs.Made.{AreMade}
 use Rattle.vb_run.specs.Plans.{may_stand, config_of}
 use Rattle.vb_run.specs.Services.{IsTended, IsQuiet, services, found_nothing, default_features}
 
@@ -42,25 +43,6 @@ abbrev pub Follows : Past → Type 0
 Follows p =
     (cpu : ℕ) (s : Progress) → slice_get p.scripts cpu ≡ Some s
     → calls_by (Processor p.guest cpu) p.history ≡ take s.place s.calls
-
--- An entry of a guest that was started: a call of one of its processors, a call of its worker that
--- is one of the services and found something to do, or one of the balancer.
-abbrev pub IsMade : ℕ → ℕ → Entry → Type 0
-IsMade guest processors (Called Starter call claims reply) = ⊥
-IsMade guest processors (Called (Processor g cpu) call claims reply) =
-    (g ≡ guest) × (cpu < processors)
-IsMade guest processors (Called (Worker g) call claims reply) =
-    (g ≡ guest) × Contains services call × (found_nothing reply ≡ false)
-IsMade guest processors (Called Balancer call claims reply) = ⊤
-IsMade guest processors (Looked floor spare) = ⊤
-
--- The first entry is the starter's initialisation, with the features that a driver wants by itself,
--- and each one behind it is an entry of a guest that was started.
-abbrev pub AreMade : ℕ → ℕ → List Entry → Type 0
-AreMade guest processors entries =
-    (claims : List Claim) × (reply : Reply) × (rest : List Entry)
-    × (entries ≡ Called Starter (Init default_features) claims reply ∷ rest)
-    × All (IsMade guest processors) rest
 
 -- the processor's script has only calls that may stand there
 abbrev pub IsScript : ℕ → List Call → Type 0

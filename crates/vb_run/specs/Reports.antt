@@ -13,7 +13,7 @@ use Rattle.vb_run.specs.declared.report.GuestReport.{GuestReport}
 use Rattle.vb_run.specs.declared.report.Report.{Report}
 use Rattle.vb_run.specs.Plans.{config_of}
 use Rattle.vb_run.specs.Entries.{calls_by, replies_by, entries_by}
-use Rattle.vb_run.specs.Past.{AreMade}
+use Rattle.vb_run.specs.Made.{AreMade}
 use Rattle.vb_run.specs.Services.{IsServed}
 use Rattle.vb_run.specs.Rounds.{Rounded, round_entries}
 

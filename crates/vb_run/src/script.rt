@@ -143,24 +143,24 @@ fn is_same(call: &Call, other: &Call) -> bool
         (
             Call::Read {
                 page: a,
-                offset: b,
+                at: b,
                 len: c,
             },
             Call::Read {
                 page: d,
-                offset: e,
+                at: e,
                 len: f,
             },
         ) => a == d && b == e && c == f,
         (
             Call::Write {
                 page: a,
-                offset: b,
+                at: b,
                 bytes: c,
             },
             Call::Write {
                 page: d,
-                offset: e,
+                at: e,
                 bytes: f,
             },
         ) => a == d && b == e && c.as_slice() == f.as_slice(),
@@ -175,12 +175,12 @@ fn is_same(call: &Call, other: &Call) -> bool
         (
             Call::Scribble {
                 page: a,
-                offset: b,
+                at: b,
                 bytes: c,
             },
             Call::Scribble {
                 page: d,
-                offset: e,
+                at: e,
                 bytes: f,
             },
         ) => a == d && b == e && c.as_slice() == f.as_slice(),

@@ -225,7 +225,7 @@ fn of_four(name: FourNumbers, guest: u32, second: u32, third: u32, fourth: u32) 
         },
         FourNumbers::Read => Call::Read {
             page: second,
-            offset: third,
+            at: third,
             len: positive(fourth)?,
         },
     };
@@ -281,7 +281,7 @@ fn of_bytes(name: WithBytes, guest: u32, page: u32, offset: u32, bytes: Bytes) -
             guest,
             Call::Write {
                 page,
-                offset,
+                at: offset,
                 bytes,
             },
         ),
@@ -289,7 +289,7 @@ fn of_bytes(name: WithBytes, guest: u32, page: u32, offset: u32, bytes: Bytes) -
             guest,
             Call::Scribble {
                 page,
-                offset,
+                at: offset,
                 bytes,
             },
         ),

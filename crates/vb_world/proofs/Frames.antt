@@ -1,7 +1,7 @@
 -- How many frames are out is how many back pages.
 use Rattle.std.proofs.Common.{◌≡◌, ◌≢◌, ℕ, zero, suc, ◌+◌, ◌<◌, Bool, true, List, [], ◌∷◌, length}
 use Rattle.std.proofs.Common.{refl, sym, ap, ◌∙◌, inl, inr, arith, sum_by, Option, Some, None}
-use Rattle.std.proofs.Common.{is_some, count_by}
+use Rattle.std.proofs.Common.{is_some, count_by, filter_map}
 use Rattle.std.specs.Prelude.{◌==◌, slice_index_or}
 use Rattle.std.proofs.lemmas.List.Sums.{sum_by-cons}
 use Rattle.std.proofs.lemmas.Bool.{false≢true}
@@ -99,24 +99,33 @@ below_frames n (x ∷ xs) h =
     here None h = below_none n
     here (Some k) h = below_one n k (h k refl)
 
-below_guests : (n : ℕ) (m : Option Guest → ℕ) → m None ≡ 0
-    → ((g : Guest) → m (Some g) ≡ backed_count g) → (gs : List (Option Guest))
+-- the guests that there are
+abbrev there_are : List (Option Guest) → List Guest
+there_are gs = filter_map (λ guest. guest) gs
+
+below_guests : (n : ℕ) (gs : List (Option Guest))
     → ((i p f : ℕ) (g : Guest) → guest_at gs i ≡ Some g → slice_index_or g.frames p None ≡ Some f
-    → f < n) → sum_below n (λ f. backing_of f gs) ≡ sum_by m gs
-below_guests n m none some [] h = below_none n
-below_guests n m none some (x ∷ xs) h =
-    let more = below_guests n m none some xs (λ i p f g e. h (suc i) p f g e) in
+    → f < n) → sum_below n (λ f. backing_of f gs) ≡ sum_by backed_count (there_are gs)
+below_guests n [] h = below_none n
+below_guests n (x ∷ xs) h =
+    let more = below_guests n xs (λ i p f g e. h (suc i) p f g e) in
     let split = below_same n (λ f. backing_of f (x ∷ xs)) (λ f. backing_at f x + backing_of f xs)
     (λ f l. sum_by-cons (backing_at f) x xs) in
     let sum = below_sum n (λ f. backing_at f x) (λ f. backing_of f xs) in
     let first = here x (λ p f g e. h 0 p f g e) in
-    omega (arith, more, split, sum, first, sum_by-cons m x xs)
+    omega (arith, more, split, sum, first)
   where
     here : (x : Option Guest)
         → ((p f : ℕ) (g : Guest) → x ≡ Some g → slice_index_or g.frames p None ≡ Some f → f < n)
-        → sum_below n (λ f. backing_at f x) ≡ m x
-    here None h = below_none n ∙ sym none
-    here (Some g) h = below_frames n g.frames (λ p f e. h p f g refl e) ∙ sym (some g)
+        → sum_below n (λ f. backing_at f x) + sum_by backed_count (there_are xs)
+        ≡ sum_by backed_count (there_are (x ∷ xs))
+    here None h = omega (arith, below_none n)
+    here (Some g) h =
+        omega (
+          arith,
+          below_frames n g.frames (λ p f e. h p f g refl e),
+          sum_by-cons backed_count g (there_are xs),
+        )
 
 out_within : (out : List Bool) (f : ℕ) → is_out out f ≡ true → f < length out
 out_within [] f e = absurd (false≢true e)
@@ -127,7 +136,7 @@ pub used_are_out : (w : World) (out : List Bool)
     → ((f : ℕ) → backing_of f w.guests ≡ one_if (is_out out f))
     → used_frames w ≡ count_by (λ b. b) out
 used_are_out w out backed =
-    let guests = below_guests (length out) _ refl (λ g. refl) w.guests
+    let guests = below_guests (length out) w.guests
     (λ i p f g there has. out_within out f
     (backs_out w out backed f (i, p, record { guest = g; is_there = there; has = has }))) in
     sym guests ∙ (below_same (length out) (λ f. backing_of f w.guests) (λ f. one_if (is_out out f))

@@ -17,7 +17,7 @@ use Rattle.vb_model.specs.Limits.{max_guests, is_config}
 use Rattle.vb_model.specs.Guest.{Guest, Config, fresh}
 use Rattle.vb_model.specs.World.{World, guest_at, with_guest, made}
 use Rattle.vb_model.specs.HostEvents.{Plugs, PlugsIn, WorldStep}
-use Rattle.vb_model.specs.HostRefusals.{plugged_count, has_no_spare}
+use Rattle.vb_model.specs.HostRefusals.{plugged_count}
 use Rattle.vb_model.proofs.Changes.{with_guest-same, with_guest-other}
 use Rattle.vb_frames.specs.Out.{is_out}
 use Rattle.vb_ram.specs.Pages.{Pages}
@@ -264,7 +264,7 @@ module _ {S D : Type 0} (Stand : S → Guest → Type 0) (Spare : D → Bool →
       ) happens
     where
       some_left : (ds : List D) (ps : List Bool) → AreSpares Spare ds ps → 0 < length ds
-          → has_no_spare ps ≡ false
+          → (length ps == 0) ≡ false
       some_left [] ps h e = absurd (omega (arith, e))
       some_left (d ∷ ds) [] h e = absurd h
       some_left (d ∷ ds) (p ∷ ps) h e = refl

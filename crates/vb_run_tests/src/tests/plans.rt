@@ -43,12 +43,12 @@ impl Line {
             },
             Line::Write(page) => Call::Write {
                 page,
-                offset: 0,
+                at: 0,
                 bytes: Bytes::new(vec![in alloc; 0xaa; 1]?),
             },
             Line::Read(page) => Call::Read {
                 page,
-                offset: 0,
+                at: 0,
                 len: 1,
             },
             Line::Inflate(pages) => Call::Inflate { pages },

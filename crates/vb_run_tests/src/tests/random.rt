@@ -65,12 +65,12 @@ fn call(alloc: Global, numbers: &mut Pcg32, cpu: u32, pages: u32) -> Result<Call
         },
         4 | 5 => Call::Write {
             page,
-            offset,
+            at: offset,
             bytes: Bytes::new(vec![in alloc; 0xaa; count as usize]?),
         },
         6 => Call::Read {
             page,
-            offset,
+            at: offset,
             len: count,
         },
         7 | 8 => Call::Inflate { pages: count },

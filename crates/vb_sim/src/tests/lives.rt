@@ -143,12 +143,12 @@ fn event_of(
         },
         Step::Write => Call::Write {
             page,
-            offset: number,
+            at: number,
             bytes: Bytes::new(vec![in alloc; 0xab; 5]?),
         },
         Step::Read => Call::Read {
             page,
-            offset: number,
+            at: number,
             len: few,
         },
         Step::Inflate => Call::Inflate { pages: few },

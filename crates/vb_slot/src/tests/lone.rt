@@ -81,7 +81,7 @@ fn make(alloc: Global, slot: &mut LoneSlot, call: Call) -> Answer
 fn write_at(rt: &impl Abort, alloc: Global, page: u32) -> Call {
     Call::Write {
         page,
-        offset: 0,
+        at: 0,
         bytes: two_bytes(rt, alloc),
     }
 }
@@ -90,7 +90,7 @@ fn write_at(rt: &impl Abort, alloc: Global, page: u32) -> Call {
 fn read_at(page: u32) -> Call {
     Call::Read {
         page,
-        offset: 0,
+        at: 0,
         len: 4,
     }
 }

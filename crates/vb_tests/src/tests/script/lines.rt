@@ -55,16 +55,12 @@ fn shown(event: &Event) -> Shown<'_> {
 /// What the line of a call on a guest shows.
 pub fn shown_on(guest: u32, call: &Call) -> Shown<'_> {
     match call {
-        Call::Write {
-            page,
-            offset,
-            bytes,
-        } => ("write", [guest, *page, *offset, 0], bytes.as_slice()),
-        Call::Scribble {
-            page,
-            offset,
-            bytes,
-        } => ("scribble", [guest, *page, *offset, 0], bytes.as_slice()),
+        Call::Write { page, at, bytes } => ("write", [guest, *page, *at, 0], bytes.as_slice()),
+        Call::Scribble { page, at, bytes } => (
+            "scribble",
+            [guest, *page, *at, 0],
+            bytes.as_slice(),
+        ),
         _ => shown_call(guest, call),
     }
 }
@@ -75,7 +71,7 @@ fn shown_call(guest: u32, call: &Call) -> Shown<'static> {
         Call::Finish { queue, index } => ("finish", [guest, *queue, *index, 0], &[]),
         Call::Alloc { cpu, order } => ("alloc", [guest, *cpu, *order, 0], &[]),
         Call::Free { cpu, start, order } => ("free", [guest, *cpu, *start, *order], &[]),
-        Call::Read { page, offset, len } => ("read", [guest, *page, *offset, *len], &[]),
+        Call::Read { page, at, len } => ("read", [guest, *page, *at, *len], &[]),
         _ => {
             let (name, number) = shown_small(call);
             (name, [guest, number, 0, 0], &[])
