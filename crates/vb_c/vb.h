@@ -232,17 +232,17 @@ VbUsed vb_use(VbDevice *device, uint32_t kind, uint32_t head);
  * of the regions that the calls get: the same from begin to end. Who obeys has no bound to test and no sum to make. The
  * guest may write to its memory meanwhile.
  *
- *     for (vb_begin(&notice, &balloon, regions, count, kind, chains, pages); notice.what;
+ *     for (vb_begin(&notice, &balloon, regions, count, &room, kind, chains, pages); notice.what;
  *          vb_go_on(&notice, &balloon, regions, count, &room, answer))
  *         answer = perform(&notice, &room);
  */
 
 /* The driver kicked the queue of this kind, or may have: it is served, at most `chains` chains, and none once `pages` pages
  * were named. Nothing is done (VB_NOTHING) while the statistics buffer is held. All three answer `what`. */
-uint32_t vb_begin(VbNotice *notice, VbBalloon *balloon, const VbRegion *regions, size_t count, uint32_t kind,
-                  uint32_t chains, uint32_t pages);
+uint32_t vb_begin(VbNotice *notice, VbBalloon *balloon, const VbRegion *regions, size_t count, VbRoom *room,
+                  uint32_t kind, uint32_t chains, uint32_t pages);
 /* New statistics are asked for, by giving the held buffer back (5.5.6.3): VB_NOTHING where none is held. */
-uint32_t vb_ask(VbNotice *notice, VbBalloon *balloon, const VbRegion *regions, size_t count);
+uint32_t vb_ask(VbNotice *notice, VbBalloon *balloon, const VbRegion *regions, size_t count, VbRoom *room);
 /* What is to be done next, once that was done which was to be done. A notice that the calls didn't make may end as
  * VB_BAD_ARGUMENT, with nothing else changed. */
 uint32_t vb_go_on(VbNotice *notice, VbBalloon *balloon, const VbRegion *regions, size_t count, VbRoom *room,
