@@ -2,7 +2,7 @@
  * and buffers at fixed places, and the steps in which Linux starts a balloon (VIRTIO 1.1, 3.1.1). */
 #ifndef GUEST_H
 #define GUEST_H
-#include "balloon.h"
+#include "shim.h"
 #include <stdatomic.h>
 #include <stdio.h>
 #include <stdlib.h>

@@ -46,6 +46,8 @@ impl Kind {
 /// What a device is made with, as `VbSettings` of vb.h.
 #[derive(Clone, Copy, Debug, Default)]
 pub struct Settings {
+    /// Where guest memory ends, in bytes; 0: with its last region.
+    pub memory_end: u64,
     pub offered: u64,
     pub reserved_pages: u32,
     pub needs_must_tell: bool,
@@ -232,7 +234,7 @@ impl Balloon {
     /// `BadArgument` where the settings or the end of memory are out of range, or a region isn't whole pages.
     pub fn new(memory: &dyn LiveMemory, settings: Settings) -> Result<Balloon, Refusal> {
         let settings = raw::Settings {
-            memory_end: 0,
+            memory_end: settings.memory_end,
             offered: settings.offered,
             reserved_pages: settings.reserved_pages,
             needs_must_tell: settings.needs_must_tell.into(),

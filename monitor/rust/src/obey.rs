@@ -6,7 +6,8 @@ use crate::{Kind, Served, PAGE};
 use std::io;
 use std::os::unix::io::AsRawFd;
 use std::sync::atomic::{fence, Ordering};
-use vm_memory::{Address, AtomicAccess, Bytes, GuestMemory, GuestMemoryRegion, MemoryRegionAddress};
+use vm_memory::bitmap::BitmapSlice;
+use vm_memory::{Address, AtomicAccess, Bytes, GuestMemory, GuestMemoryRegion, MemoryRegionAddress, VolatileSlice};
 
 pub use crate::raw::{Cut, Run, Spot, Statistic};
 
@@ -64,6 +65,21 @@ fn store<M: GuestMemory, T: AtomicAccess>(memory: &M, at: Spot, value: T) -> Res
     region.store(value, MemoryRegionAddress(at.offset), Ordering::Relaxed).map_err(|_| Unreachable)
 }
 
+/// Copies bytes that others may write meanwhile: each is read once, in words where they are aligned.
+fn read_once<B: BitmapSlice>(bytes: &VolatileSlice<B>, to: &mut [u8]) -> Result<(), Unreachable> {
+    let mut at = 0;
+    while at < to.len() {
+        if let Ok(word) = bytes.load::<u64>(at, Ordering::Relaxed) {
+            to[at..at + 8].copy_from_slice(&word.to_ne_bytes());
+            at += 8;
+        } else {
+            to[at] = bytes.load(at, Ordering::Relaxed).map_err(|_| Unreachable)?;
+            at += 1;
+        }
+    }
+    Ok(())
+}
+
 /// The system's answer to a call, once it isn't interrupted.
 fn answer_of(call: impl Fn() -> libc::c_int) -> io::Result<()> {
     loop {
@@ -92,7 +108,8 @@ impl<M: GuestMemory> LiveMemory for M {
     }
 
     fn copy(&self, at: Spot, to: &mut [u8]) -> Result<(), Unreachable> {
-        region_of(self, at.region)?.read_slice(to, MemoryRegionAddress(at.offset)).map_err(|_| Unreachable)
+        let region = region_of(self, at.region)?;
+        read_once(&region.get_slice(MemoryRegionAddress(at.offset), to.len()).map_err(|_| Unreachable)?, to)
     }
 
     fn write_number(&self, at: Spot, number: u32) -> Result<(), Unreachable> {

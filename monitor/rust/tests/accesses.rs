@@ -9,7 +9,7 @@ use vb_balloon::{features, Balloon, Cut, Kind, LiveMemory, Monitor, Run, Setting
 use vm_memory::guest_memory::{GuestMemoryIterator, Result as Answer};
 use vm_memory::{
     AtomicAccess, Bytes, FileOffset, GuestAddress, GuestMemory, GuestMemoryMmap, GuestMemoryRegion,
-    GuestRegionMmap, GuestUsize, MemoryRegionAddress,
+    GuestRegionMmap, GuestUsize, MemoryRegionAddress, VolatileSlice,
 };
 
 const TABLE: u64 = 0x10000;
@@ -111,6 +111,11 @@ impl GuestMemoryRegion for Watched {
 
     fn file_offset(&self) -> Option<&FileOffset> {
         self.region.file_offset()
+    }
+
+    fn get_slice(&self, at: MemoryRegionAddress, count: usize) -> Answer<VolatileSlice<'_, ()>> {
+        self.note(|address| Access::Read(address, count), at);
+        self.region.get_slice(at, count)
     }
 }
 
