@@ -125,13 +125,16 @@ typedef struct {
     uint32_t pages, skipped;
     uint32_t figures;           /* VB_TELL_FIGURES */
     uint32_t cuts;              /* VB_DISCARD */
-    uint32_t id, used_length, used_index;               /* VB_GIVE_BACK */
+    uint32_t id, used_length;   /* VB_GIVE_BACK */
+    uint16_t used_index;
     VbSpot id_at, length_at, index_at;
     uint32_t code, rule;        /* at the end: VB_OK where a chain was served; VB_NOTHING; or why the last one wasn't */
     uint32_t interrupt;         /* at the end: 1 where the driver wants an interrupt for its used buffers, else 0 */
     uint32_t configuration;     /* at the end: 1 where the driver is to be told of a change of configuration, else 0 */
     uint32_t more;              /* at the end: 1 where another chain stands there, for which there was no budget, else 0 */
-    uint32_t chains_left, pages_left, given, taken, head, count, flag;    /* what the library remembers */
+    uint32_t chains_left, pages_left;           /* what the library remembers */
+    uint16_t head, count, taken_head;
+    uint8_t given, taken, flag;
     size_t number, from;
     uint64_t element, index;
 } VbNotice;
@@ -173,10 +176,11 @@ VB_ASSERT(sizeof(VbSpot) == 16 && offsetof(VbSpot, offset) == 8);
 VB_ASSERT(sizeof(VbCut) == 32 && offsetof(VbCut, offset) == 8 && offsetof(VbCut, in_file) == 16
           && offsetof(VbCut, length) == 24);
 VB_ASSERT(sizeof(VbBalloon) == 184 && offsetof(VbBalloon, held) == 176);
-VB_ASSERT(sizeof(VbNotice) == 192 && offsetof(VbNotice, at) == 8 && offsetof(VbNotice, length) == 24
+VB_ASSERT(sizeof(VbNotice) == 184 && offsetof(VbNotice, at) == 8 && offsetof(VbNotice, length) == 24
           && offsetof(VbNotice, runs) == 32 && offsetof(VbNotice, figures) == 44 && offsetof(VbNotice, id) == 52
           && offsetof(VbNotice, id_at) == 64 && offsetof(VbNotice, code) == 112
-          && offsetof(VbNotice, chains_left) == 132 && offsetof(VbNotice, number) == 160);
+          && offsetof(VbNotice, chains_left) == 132 && offsetof(VbNotice, given) == 146
+          && offsetof(VbNotice, number) == 152 && offsetof(VbNotice, index) == 176);
 VB_ASSERT(sizeof(VbRoom) == 9824 && offsetof(VbRoom, bytes) == 4096 && offsetof(VbRoom, runs) == 5120
           && offsetof(VbRoom, figures) == 7168 && offsetof(VbRoom, cuts) == 8800);
 
@@ -246,7 +250,7 @@ uint32_t vb_ask(VbNotice *notice, VbBalloon *balloon, const VbRegion *regions, s
 /* What is to be done next, once that was done which was to be done. A notice that the calls didn't make may end as
  * VB_BAD_ARGUMENT, with nothing else changed. */
 uint32_t vb_go_on(VbNotice *notice, VbBalloon *balloon, const VbRegion *regions, size_t count, VbRoom *room,
-                  uint32_t answer);
+                  uint16_t answer);
 
 /* vb_new over these regions: where settings.memory_end is 0, memory ends with the last of them. The balloon holds no buffer.
  * VB_OK; or VB_BAD_ARGUMENT where a region isn't as VbRegion says, or vb_new refuses, and then nothing is changed. */
