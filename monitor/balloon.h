@@ -152,14 +152,14 @@ static inline void balloon_give_back(const struct balloon *balloon)
     *(volatile balloon_word32 *)balloon_at(balloon, notice->id_at) = htole32(notice->id);
     *(volatile balloon_word32 *)balloon_at(balloon, notice->length_at) = htole32(notice->used_length);
     __atomic_thread_fence(__ATOMIC_RELEASE);
-    *(volatile balloon_word16 *)balloon_at(balloon, notice->index_at) = htole16((uint16_t)notice->used_index);
+    *(volatile balloon_word16 *)balloon_at(balloon, notice->index_at) = htole16(notice->used_index);
 }
 
 /* Does each thing that is to be done, in the order of the bits of `what`; answers the word that was read, if one was. */
-static inline uint32_t balloon_perform(struct balloon *balloon, uint32_t what, struct balloon_result *result)
+static inline uint16_t balloon_perform(struct balloon *balloon, uint32_t what, struct balloon_result *result)
 {
     const VbNotice *notice = &balloon->notice;
-    uint32_t answer = 0;
+    uint16_t answer = 0;
     if (what & VB_TELL_PAGES)
         balloon_tell_pages(balloon, result);
     if (what & VB_TELL_FIGURES && balloon->on_statistics)
@@ -184,7 +184,7 @@ static inline uint32_t balloon_perform(struct balloon *balloon, uint32_t what, s
 static inline void balloon_obey(struct balloon *balloon, struct balloon_result *result)
 {
     while (balloon->notice.what) {
-        uint32_t answer = balloon_perform(balloon, balloon->notice.what, result);
+        uint16_t answer = balloon_perform(balloon, balloon->notice.what, result);
         vb_go_on(&balloon->notice, &balloon->state, balloon->places, balloon->region_count, &balloon->room, answer);
     }
 }

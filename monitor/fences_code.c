@@ -5,7 +5,7 @@
 uint32_t takes(struct balloon *balloon, struct balloon_result *result);
 uint32_t takes(struct balloon *balloon, struct balloon_result *result)
 {
-    return balloon_perform(balloon, VB_READ, result) + balloon_perform(balloon, VB_ACQUIRE | VB_READ, result);
+    return (uint32_t)balloon_perform(balloon, VB_READ, result) + balloon_perform(balloon, VB_ACQUIRE | VB_READ, result);
 }
 
 /* A used element's numbers, and behind the release fence its index. */

@@ -210,7 +210,7 @@ static uint32_t after_descriptor(const Call *call)
     if (rule)
         return fail(call, rule);
     notice->flag = (it.flags & 2) != 0;
-    const VbPiece piece = { it.address, it.length, (uint8_t)notice->flag };
+    const VbPiece piece = { it.address, it.length, notice->flag };
     memcpy(&call->room->pieces[2 * notice->count++], &piece, sizeof piece);
     if (!(it.flags & 1))
         return serve_chain(call);
@@ -311,7 +311,7 @@ static uint32_t after_given(const Call *call)
     return end(call, VB_NOTHING);
 }
 
-static uint32_t after_flags(const Call *call, uint32_t flags)
+static uint32_t after_flags(const Call *call, uint16_t flags)
 {
     call->notice->interrupt = !(flags & 1);
     return stop(call, call->notice->code);
@@ -337,20 +337,20 @@ uint32_t vb_ask(VbNotice *notice, VbBalloon *balloon, const VbRegion *regions, s
     const Call call = { notice, balloon, &balloon->device.statistics, regions, count, room };
     memset(notice, 0, sizeof *notice);
     notice->kind = VB_STATISTICS;
-    notice->head = balloon->held - 1;
+    notice->head = (uint16_t)(balloon->held - 1);
     return balloon->held ? give_back(&call) : stop(&call, VB_NOTHING);
 }
 
-uint32_t vb_go_on(VbNotice *notice, VbBalloon *balloon, const VbRegion *regions, size_t count, VbRoom *room, uint32_t answer)
+uint32_t vb_go_on(VbNotice *notice, VbBalloon *balloon, const VbRegion *regions, size_t count, VbRoom *room, uint16_t answer)
 {
     const Call call = { notice, balloon, queue_of(&balloon->device, notice->kind), regions, count, room };
     bool holds = notice->count <= VB_MAX_PIECES && notice->runs <= VB_MAX_RUNS && notice->length <= VB_MAX_BYTES;
     if (!call.queue || !holds || (notice->index > AT_INDEX && refusal(&balloon->device, notice->kind, call.queue) == VB_MISPLACED))
         return stop(&call, VB_BAD_ARGUMENT);
     switch (notice->index) {
-    case AT_INDEX: return call.queue->size ? after_index(&call, (uint16_t)answer) : stop(&call, VB_BAD_ARGUMENT);
+    case AT_INDEX: return call.queue->size ? after_index(&call, answer) : stop(&call, VB_BAD_ARGUMENT);
     case AT_ENTRY: return wait_for(&call, AT_WORD, VB_READ);
-    case AT_WORD: return after_entry(&call, (uint16_t)answer);
+    case AT_WORD: return after_entry(&call, answer);
     case AT_DESCRIPTOR: return notice->count < VB_MAX_PIECES ? after_descriptor(&call) : stop(&call, VB_BAD_ARGUMENT);
     case AT_PART: return after_part(&call);
     case AT_TOLD: case AT_CUT: return ask_cut(&call);

@@ -13,15 +13,15 @@
 /* The plain implementation, under other names. */
 uint32_t reference_begin(VbNotice *, VbBalloon *, const VbRegion *, size_t, VbRoom *, uint32_t, uint32_t, uint32_t);
 uint32_t reference_ask(VbNotice *, VbBalloon *, const VbRegion *, size_t, VbRoom *);
-uint32_t reference_go_on(VbNotice *, VbBalloon *, const VbRegion *, size_t, VbRoom *, uint32_t);
+uint32_t reference_go_on(VbNotice *, VbBalloon *, const VbRegion *, size_t, VbRoom *, uint16_t);
 
 /* Calls of the library that are explained: the linker puts the second ones in the place of the first ones. */
 uint32_t __real_vb_begin(VbNotice *, VbBalloon *, const VbRegion *, size_t, VbRoom *, uint32_t, uint32_t, uint32_t);
 uint32_t __real_vb_ask(VbNotice *, VbBalloon *, const VbRegion *, size_t, VbRoom *);
-uint32_t __real_vb_go_on(VbNotice *, VbBalloon *, const VbRegion *, size_t, VbRoom *, uint32_t);
+uint32_t __real_vb_go_on(VbNotice *, VbBalloon *, const VbRegion *, size_t, VbRoom *, uint16_t);
 uint32_t __wrap_vb_begin(VbNotice *, VbBalloon *, const VbRegion *, size_t, VbRoom *, uint32_t, uint32_t, uint32_t);
 uint32_t __wrap_vb_ask(VbNotice *, VbBalloon *, const VbRegion *, size_t, VbRoom *);
-uint32_t __wrap_vb_go_on(VbNotice *, VbBalloon *, const VbRegion *, size_t, VbRoom *, uint32_t);
+uint32_t __wrap_vb_go_on(VbNotice *, VbBalloon *, const VbRegion *, size_t, VbRoom *, uint16_t);
 #include "guest.h"
 #include <pthread.h>
 
@@ -164,7 +164,7 @@ uint32_t __wrap_vb_ask(VbNotice *notice, VbBalloon *balloon, const VbRegion *reg
 }
 
 uint32_t __wrap_vb_go_on(VbNotice *notice, VbBalloon *balloon, const VbRegion *regions, size_t count, VbRoom *room,
-                         uint32_t answer)
+                         uint16_t answer)
 {
     if (said.left)
         return hand_over(notice);

@@ -26,8 +26,8 @@ uint32_t __real_vb_begin(VbNotice *, VbBalloon *, const VbRegion *, size_t, VbRo
 uint32_t __wrap_vb_begin(VbNotice *, VbBalloon *, const VbRegion *, size_t, VbRoom *, uint32_t, uint32_t, uint32_t);
 uint32_t __real_vb_ask(VbNotice *, VbBalloon *, const VbRegion *, size_t, VbRoom *);
 uint32_t __wrap_vb_ask(VbNotice *, VbBalloon *, const VbRegion *, size_t, VbRoom *);
-uint32_t __real_vb_go_on(VbNotice *, VbBalloon *, const VbRegion *, size_t, VbRoom *, uint32_t);
-uint32_t __wrap_vb_go_on(VbNotice *, VbBalloon *, const VbRegion *, size_t, VbRoom *, uint32_t);
+uint32_t __real_vb_go_on(VbNotice *, VbBalloon *, const VbRegion *, size_t, VbRoom *, uint16_t);
+uint32_t __wrap_vb_go_on(VbNotice *, VbBalloon *, const VbRegion *, size_t, VbRoom *, uint16_t);
 int __real_poll(struct pollfd *, nfds_t, int);
 int __wrap_poll(struct pollfd *, nfds_t, int);
 
@@ -64,7 +64,7 @@ static void spoil(VbNotice *notice, VbRoom *room)
     if (inflates && wrong() == KEEPS)
         notice->cuts = 0;
     notice->id += wrong() == OTHER_ID;
-    notice->used_index += wrong() == BY_TWO;
+    notice->used_index = (uint16_t)(notice->used_index + (wrong() == BY_TWO));
 }
 
 static uint32_t whole, left; /* what the library says is to be done, and what of it isn't handed over yet */
@@ -101,7 +101,7 @@ uint32_t __wrap_vb_ask(VbNotice *notice, VbBalloon *balloon, const VbRegion *reg
 }
 
 uint32_t __wrap_vb_go_on(VbNotice *notice, VbBalloon *balloon, const VbRegion *regions, size_t count, VbRoom *room,
-                         uint32_t answer)
+                         uint16_t answer)
 {
     if (left)
         return hand_over(notice);

@@ -195,11 +195,11 @@ impl Hands<'_> {
         self.memory.write_number(notice.id_at, notice.id)?;
         self.memory.write_number(notice.length_at, notice.used_length)?;
         fence(Ordering::Release);
-        self.memory.write_word(notice.index_at, notice.used_index as u16)
+        self.memory.write_word(notice.index_at, notice.used_index)
     }
 
     /// Does each thing that is to be done, in the order of the bits of `what`; answers the word that was read, if one was.
-    fn perform(&mut self, notice: &Notice, room: &mut Room) -> Result<u32, Unreachable> {
+    fn perform(&mut self, notice: &Notice, room: &mut Room) -> Result<u16, Unreachable> {
         let is_asked = |bit| notice.what & bit != 0;
         let mut answer = 0;
         if is_asked(raw::TELL_PAGES) {
@@ -223,7 +223,7 @@ impl Hands<'_> {
             fence(Ordering::SeqCst);
         }
         if is_asked(raw::READ) {
-            answer = u32::from(self.memory.word(notice.at)?);
+            answer = self.memory.word(notice.at)?;
         }
         if is_asked(raw::COPY) {
             let into = notice.into as usize;

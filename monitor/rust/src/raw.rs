@@ -154,7 +154,7 @@ pub struct Notice {
     pub cuts: u32,
     pub id: u32,
     pub used_length: u32,
-    pub used_index: u32,
+    pub used_index: u16,
     pub id_at: Spot,
     pub length_at: Spot,
     pub index_at: Spot,
@@ -163,7 +163,9 @@ pub struct Notice {
     pub interrupt: u32,
     pub configuration: u32,
     pub more: u32,
-    numbers: [u32; 7],
+    numbers: [u32; 2],
+    words: [u16; 3],
+    flags: [u8; 3],
     places: [u64; 4],
 }
 
@@ -224,10 +226,10 @@ layout!(Region, 24, guest at 0, length at 8, in_file at 16);
 layout!(Spot, 16, region at 0, offset at 8);
 layout!(Cut, 32, region at 0, offset at 8, in_file at 16, length at 24);
 layout!(Balloon, 184, device.status at 168, held at 176);
-layout!(Notice, 192, what at 0, kind at 4, at.region at 8, length at 24, into at 28, runs at 32, pages at 36);
-layout!(Notice, 192, skipped at 40, figures at 44, cuts at 48, id at 52, used_length at 56, used_index at 60);
-layout!(Notice, 192, id_at.region at 64, length_at.region at 80, index_at.region at 96, code at 112, rule at 116);
-layout!(Notice, 192, interrupt at 120, configuration at 124, more at 128);
+layout!(Notice, 184, what at 0, kind at 4, at.region at 8, length at 24, into at 28, runs at 32, pages at 36);
+layout!(Notice, 184, skipped at 40, figures at 44, cuts at 48, id at 52, used_length at 56, used_index at 60);
+layout!(Notice, 184, id_at.region at 64, length_at.region at 80, index_at.region at 96, code at 112, rule at 116);
+layout!(Notice, 184, interrupt at 120, configuration at 124, more at 128);
 
 /// Where the parts of a room begin, in bytes.
 const _: () = {
@@ -291,7 +293,7 @@ extern "C" {
         regions: *const Region,
         count: usize,
         room: *mut Room,
-        answer: u32,
+        answer: u16,
     ) -> u32;
 }
 
@@ -321,7 +323,7 @@ pub fn ask(notice: &mut Notice, balloon: &mut Balloon, regions: &[Region], room:
 }
 
 /// Says what is to be done next.
-pub fn go_on(notice: &mut Notice, balloon: &mut Balloon, regions: &[Region], room: &mut Room, answer: u32) {
+pub fn go_on(notice: &mut Notice, balloon: &mut Balloon, regions: &[Region], room: &mut Room, answer: u16) {
     // SAFETY: the pointers are of `&mut`, and of a slice with its length.
     unsafe { vb_go_on(notice, balloon, regions.as_ptr(), regions.len(), room, answer) };
 }
