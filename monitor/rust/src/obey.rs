@@ -15,40 +15,31 @@ pub use crate::raw::{Cut, Run, Spot, Statistic};
 #[derive(Clone, Copy, Debug, PartialEq, Eq)]
 pub struct Unreachable;
 
-/// Guest memory that its guest may write at any moment. Any `GuestMemory` of `vm-memory` is one.
+/// Guest memory that its guest may write at any moment. Any `GuestMemory` of `vm-memory` is one. Each call but the first and
+/// the fence may fail.
 pub trait LiveMemory {
     /// Puts the regions into `out`, in the order of their numbers.
     fn regions(&self, out: &mut Vec<Region>);
 
     /// Reads a word of 16 bits, by one access.
-    ///
-    /// # Errors
-    /// Where memory fails; so of the others.
     fn word(&self, at: Spot) -> Result<u16, Unreachable>;
 
     /// Copies the bytes from a place on, each read once.
-    ///
-    /// # Errors
-    /// Where memory fails.
     fn copy(&self, at: Spot, to: &mut [u8]) -> Result<(), Unreachable>;
 
     /// Writes a number of 32 bits.
-    ///
-    /// # Errors
-    /// Where memory fails.
     fn write_number(&self, at: Spot, number: u32) -> Result<(), Unreachable>;
 
     /// Writes a word of 16 bits, by one access.
-    ///
-    /// # Errors
-    /// Where memory fails.
     fn write_word(&self, at: Spot, word: u16) -> Result<(), Unreachable>;
 
+    /// What was done before stays before what is done after, as far as this order says.
+    fn fence(&self, order: Ordering) {
+        fence(order);
+    }
+
     /// Gives pages back to the machine: by a hole in the region's file, which is shared, or else as private memory, which
-    /// reads as zeros from then on.
-    ///
-    /// # Errors
-    /// What the system answers.
+    /// reads as zeros from then on. Else the system's answer.
     fn discard(&self, cut: &Cut) -> io::Result<()>;
 }
 
@@ -143,10 +134,7 @@ pub trait Monitor {
     /// The guest told its statistics, any tags in any order.
     fn statistics(&mut self, _figures: &[Statistic]) {}
 
-    /// Discards whole pages of a region.
-    ///
-    /// # Errors
-    /// Where the machine keeps them.
+    /// Discards whole pages of a region; an error where the machine keeps them.
     fn discard(&mut self, memory: &dyn LiveMemory, cut: &Cut) -> io::Result<()> {
         memory.discard(cut)
     }
@@ -194,7 +182,7 @@ impl Hands<'_> {
     fn give_back(&mut self, notice: &Notice) -> Result<(), Unreachable> {
         self.memory.write_number(notice.id_at, notice.id)?;
         self.memory.write_number(notice.length_at, notice.used_length)?;
-        fence(Ordering::Release);
+        self.memory.fence(Ordering::Release);
         self.memory.write_word(notice.index_at, notice.used_index)
     }
 
@@ -217,10 +205,10 @@ impl Hands<'_> {
             self.served.chains += 1;
         }
         if is_asked(raw::ACQUIRE) {
-            fence(Ordering::Acquire);
+            self.memory.fence(Ordering::Acquire);
         }
         if is_asked(raw::FULL_FENCE) {
-            fence(Ordering::SeqCst);
+            self.memory.fence(Ordering::SeqCst);
         }
         if is_asked(raw::READ) {
             answer = self.memory.word(notice.at)?;

@@ -5,7 +5,7 @@ use std::io;
 use std::rc::Rc;
 use std::sync::atomic::Ordering;
 use std::sync::Arc;
-use vb_balloon::{features, Balloon, Cut, Kind, LiveMemory, Monitor, Run, Settings};
+use vb_balloon::{features, Balloon, Cut, Kind, LiveMemory, Monitor, Region, Run, Settings, Spot, Unreachable};
 use vm_memory::guest_memory::{GuestMemoryIterator, Result as Answer};
 use vm_memory::{
     AtomicAccess, Bytes, FileOffset, GuestAddress, GuestMemory, GuestMemoryMmap, GuestMemoryRegion,
@@ -25,6 +25,7 @@ enum Access {
     Load(u64),
     Read(u64, usize),
     Store(u64, Vec<u8>),
+    Fence(Ordering),
     Told(Kind, Vec<(u32, u32)>),
     Figures(usize),
     Discard(u64, u64),
@@ -147,6 +148,39 @@ impl GuestMemory for Memory {
     }
 }
 
+/// The same memory, of which the fences are written down, too.
+struct Fenced<'a>(&'a Memory, Log);
+
+impl LiveMemory for Fenced<'_> {
+    fn regions(&self, out: &mut Vec<Region>) {
+        self.0.regions(out);
+    }
+
+    fn word(&self, at: Spot) -> Result<u16, Unreachable> {
+        self.0.word(at)
+    }
+
+    fn copy(&self, at: Spot, to: &mut [u8]) -> Result<(), Unreachable> {
+        self.0.copy(at, to)
+    }
+
+    fn write_number(&self, at: Spot, number: u32) -> Result<(), Unreachable> {
+        self.0.write_number(at, number)
+    }
+
+    fn write_word(&self, at: Spot, word: u16) -> Result<(), Unreachable> {
+        self.0.write_word(at, word)
+    }
+
+    fn fence(&self, order: Ordering) {
+        self.1.borrow_mut().push(Access::Fence(order));
+    }
+
+    fn discard(&self, cut: &Cut) -> io::Result<()> {
+        self.0.discard(cut)
+    }
+}
+
 /// A monitor that writes down what it is told, and what it is to discard.
 struct Noting(Log);
 
@@ -226,34 +260,38 @@ impl Guest {
     /// What a notice of the kind's queue does.
     fn notified(&mut self, kind: Kind) -> Vec<Access> {
         let mut monitor = Noting(self.log.clone());
-        let served = self.balloon.notify(&self.memory, kind, &mut monitor);
+        let memory = Fenced(&self.memory, self.log.clone());
+        let served = self.balloon.notify(&memory, kind, &mut monitor);
         assert_eq!(served.chains, 1, "{:?}", served);
         let accesses = self.log.borrow().clone();
         accesses
     }
 }
 
-/// The index, the entry, and each descriptor of a chain, in this order.
+/// The index, behind a fence the entry, and each descriptor of a chain, in this order.
 fn taken(kind: Kind, descriptors: u64) -> Vec<Access> {
     let at = |part| place(kind, part);
-    let mut accesses = vec![Access::Load(at(AVAIL) + 2), Access::Load(at(AVAIL) + 4)];
+    let mut accesses =
+        vec![Access::Load(at(AVAIL) + 2), Access::Fence(Ordering::Acquire), Access::Load(at(AVAIL) + 4)];
     accesses.extend((0..descriptors).map(|number| Access::Read(at(TABLE) + 16 * number, 16)));
     accesses
 }
 
-/// The used element's two words, and its index.
+/// The used element's two words, and behind a fence its index.
 fn given_back(kind: Kind) -> Vec<Access> {
     let at = |part| place(kind, part);
     vec![
         Access::Store(at(USED) + 4, vec![0; 4]),
         Access::Store(at(USED) + 8, vec![0; 4]),
+        Access::Fence(Ordering::Release),
         Access::Store(at(USED) + 2, vec![1, 0]),
     ]
 }
 
-/// A look whether more stands there, and the driver's flags.
+/// A look whether more stands there, and behind a fence the driver's flags.
 fn ended(kind: Kind) -> Vec<Access> {
-    vec![Access::Load(place(kind, AVAIL) + 2), Access::Load(place(kind, AVAIL))]
+    let flags = Access::Load(place(kind, AVAIL));
+    vec![Access::Load(place(kind, AVAIL) + 2), Access::Fence(Ordering::SeqCst), flags]
 }
 
 fn words(pages: &[u32]) -> Vec<u8> {
@@ -312,8 +350,8 @@ fn statistics_are_read_once_and_kept() {
     expected.extend([Access::Read(BUFFER, 10), Access::Figures(1)]);
     assert_eq!(guest.notified(Kind::Statistics), expected);
     guest.log.borrow_mut().clear();
-    guest.balloon.ask_statistics(&guest.memory);
+    guest.balloon.ask_statistics(&Fenced(&guest.memory, guest.log.clone()));
     let mut expected = given_back(Kind::Statistics);
-    expected.push(Access::Load(place(Kind::Statistics, AVAIL)));
+    expected.extend([Access::Fence(Ordering::SeqCst), Access::Load(place(Kind::Statistics, AVAIL))]);
     assert_eq!(*guest.log.borrow(), expected);
 }
