@@ -5,7 +5,7 @@
  * In each round a processor of its own kicks one chain, clears the flag that says it wants no interrupt, and behind a full fence
  * looks whether the chain was used. Either it sees that, or the device has seen the flag cleared and interrupts. A device
  * that reads the flag before its index is written loses some of a million. */
-#include "balloon.h"
+#include "shim.h"
 #include <pthread.h>
 #include <stdio.h>
 #include <stdlib.h>

@@ -1,20 +1,23 @@
-/* The three places of balloon.h that have a fence, each as a function of its own: tools/check-fences looks at their code. */
+/* The things of balloon.h that have a fence, each as a function of its own: tools/check-fences looks at their code. */
 #include "balloon.h"
 
-bool copies(struct balloon *balloon, const VbQueue *queue);
-bool copies(struct balloon *balloon, const VbQueue *queue)
+/* The available index, and behind the acquire fence the entry. */
+uint32_t takes(struct balloon *balloon, struct balloon_result *result);
+uint32_t takes(struct balloon *balloon, struct balloon_result *result)
 {
-    return balloon_copy_ring(balloon, queue);
+    return (uint32_t)balloon_perform(balloon, VB_READ, result) + balloon_perform(balloon, VB_ACQUIRE | VB_READ, result);
 }
 
-bool gives(const struct balloon *balloon, const VbUsed *used);
-bool gives(const struct balloon *balloon, const VbUsed *used)
+/* A used element's numbers, and behind the release fence its index. */
+void gives(const struct balloon *balloon);
+void gives(const struct balloon *balloon)
 {
-    return balloon_write_used(balloon, used);
+    balloon_give_back(balloon);
 }
 
-void asks(const struct balloon *balloon, const VbQueue *queue, struct balloon_result *result);
-void asks(const struct balloon *balloon, const VbQueue *queue, struct balloon_result *result)
+/* The flags, behind the full fence. */
+uint32_t asks(struct balloon *balloon, struct balloon_result *result);
+uint32_t asks(struct balloon *balloon, struct balloon_result *result)
 {
-    balloon_note_interrupt(balloon, VB_INFLATE, queue, result);
+    return balloon_perform(balloon, VB_FULL_FENCE | VB_READ, result);
 }

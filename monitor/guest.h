@@ -2,7 +2,7 @@
  * and buffers at fixed places, and the steps in which Linux starts a balloon (VIRTIO 1.1, 3.1.1). */
 #ifndef GUEST_H
 #define GUEST_H
-#include "balloon.h"
+#include "shim.h"
 #include <stdatomic.h>
 #include <stdio.h>
 #include <stdlib.h>
@@ -33,11 +33,27 @@ static inline uint64_t avail_of(uint32_t kind) { return (17 + 4 * kind) * 4096ul
 static inline uint64_t used_of(uint32_t kind) { return (18 + 4 * kind) * 4096ull; }
 static inline uint64_t buffer_of(uint32_t kind) { return (40 + kind) * 4096ull + 0x91c; }
 
+/* Where a byte of a balloon's guest memory stands here, or NULL in a hole. */
+static inline uint8_t *host_of(const struct balloon *balloon, uint64_t address)
+{
+    for (size_t i = 0; i < balloon->region_count; i++)
+        if (address >= balloon->regions[i].guest && address - balloon->regions[i].guest < balloon->regions[i].length)
+            return balloon->regions[i].host + (address - balloon->regions[i].guest);
+    return NULL;
+}
+
 static inline uint8_t *at(const struct guest *guest, uint64_t address)
 {
-    uint8_t *host = balloon_host(&guest->balloon, address, 1);
+    uint8_t *host = host_of(&guest->balloon, address);
     EXPECT(host != NULL);
     return host;
+}
+
+static inline VbQueue *ring_of_kind(struct balloon *balloon, uint32_t kind)
+{
+    VbDevice *device = &balloon->state.device;
+    VbQueue *queues[] = { &device->inflate, &device->deflate, &device->statistics, &device->report };
+    return queues[kind];
 }
 
 static inline void put(const struct guest *guest, uint64_t address, uint64_t value, size_t bytes)

@@ -1,6 +1,13 @@
-/* The order in which balloon.h touches guest memory: all of it is out of reach during a notice, so that each access
- * faults, is noted, is let through by one step of the processor, and is out of reach again. On x86-64. */
+/* The order in which a balloon touches guest memory, tells its monitor, discards, and fences: all of memory is out of reach
+ * during a notice, so that each access faults, is noted, is let through by one step of the processor, and is out of reach
+ * again. On x86-64. */
+#if !defined RUST_SHIM && defined __x86_64__
+/* Fences of balloon.h are noted. Those of the Rust crate are looked at by ../tools/check-fences alone. */
+static void note_fence(int order);
+#define __atomic_thread_fence note_fence
+#endif
 #include "guest.h"
+#undef __atomic_thread_fence
 #if defined __x86_64__
 #include <signal.h>
 #include <ucontext.h>
@@ -10,35 +17,55 @@ enum { SIZE = 8, PAGES = 32, MOST_TOUCHES = 4096, TRAP_FLAG = 0x100, WRITE_FAULT
 /* The parts lie so that ring indices stand on other pages than the entries. */
 static const uint64_t AVAIL = 0x1ffc, TABLE = 0x4000, USED = 0x6ffc, BUFFER = 0x8ffd, NAMED = 16;
 
-enum what { INDEX, FLAGS, ENTRIES, DESCRIPTORS, BYTES, DISCARD, ELEMENT, USED_INDEX, OTHER };
-static struct touch { enum what what; uint64_t address; bool write; } touches[MOST_TOUCHES];
+enum what { INDEX, ENTRY, DESCRIPTOR, BYTES, TOLD, FIGURES, DISCARD, ELEMENT, USED_INDEX, FLAGS, FENCE, OTHER };
+static const char *const WORDS[] = { "index", "entry", "descriptor", "bytes", "told", "figures", "discard", "element", "used index",
+                                     "flags", "fence", "other" };
+
+/* `number`: which entry, descriptor or word of an element, where a discard begins, the order of a fence. */
+static struct touch { enum what what; uint64_t number; bool write; } touches[MOST_TOUCHES];
 static uint32_t touch_count;
+static uint64_t last_address;
 
 static uint8_t *memory;
 static struct balloon balloon;
 
-static enum what part_of(uint64_t address)
+static struct touch part_of(uint64_t address, bool write)
 {
     if (address == AVAIL + 2)
-        return INDEX;
+        return (struct touch){ INDEX, 0, write };
     if (address == AVAIL)
-        return FLAGS;
+        return (struct touch){ FLAGS, 0, write };
     if (address >= AVAIL + 4 && address < AVAIL + 4 + 2 * SIZE)
-        return ENTRIES;
+        return (struct touch){ ENTRY, (address - AVAIL - 4) / 2, write };
     if (address >= TABLE && address < TABLE + 16 * SIZE)
-        return DESCRIPTORS;
+        return (struct touch){ DESCRIPTOR, (address - TABLE) / 16, write };
     if (address >= BUFFER && address < BUFFER + VB_MAX_BYTES)
-        return BYTES;
+        return (struct touch){ BYTES, 0, write };
     if (address >= USED + 4 && address < USED + 4 + 8 * SIZE)
-        return ELEMENT;
-    return address == USED + 2 ? USED_INDEX : OTHER;
+        return (struct touch){ ELEMENT, (address - USED - 4) / 4, write };
+    return (struct touch){ address == USED + 2 ? USED_INDEX : OTHER, address == USED + 2 ? 0 : address, write };
 }
 
-static void note(enum what what, uint64_t address, bool write)
+static void note(enum what what, uint64_t number, bool write)
 {
     if (touch_count < MOST_TOUCHES)
-        touches[touch_count++] = (struct touch){ what, address, write };
+        touches[touch_count++] = (struct touch){ what, number, write };
 }
+
+/* Notes an access; the next bytes of what was touched last go on with it. */
+static void note_access(uint64_t address, bool write)
+{
+    struct touch touch = part_of(address, write), *last = touch_count ? &touches[touch_count - 1] : NULL;
+    bool goes_on = last && (touch.what == BYTES || touch.what == DESCRIPTOR) && last->what == touch.what
+        && last->number == touch.number && !write && address > last_address;
+    last_address = address;
+    if (!goes_on)
+        note(touch.what, touch.number, write);
+}
+
+#ifndef RUST_SHIM
+static void note_fence(int order) { note(FENCE, (uint64_t)order, false); }
+#endif
 
 static void reach(int protection)
 {
@@ -53,7 +80,7 @@ static void on_fault(int number, siginfo_t *fault, void *context)
     (void)number;
     if (address >= PAGES * 4096)
         _exit(2);
-    note(part_of(address), address, user->uc_mcontext.gregs[REG_ERR] & WRITE_FAULT);
+    note_access(address, user->uc_mcontext.gregs[REG_ERR] & WRITE_FAULT);
     reach(PROT_READ | PROT_WRITE);
     user->uc_mcontext.gregs[REG_EFL] |= TRAP_FLAG;
 }
@@ -70,8 +97,21 @@ static int discard(void *context, const struct balloon_region *region, uint64_t 
 {
     (void)context, (void)region;
     EXPECT(length == 4096);
-    note(DISCARD, at, true);
+    note(DISCARD, at / 4096, true);
     return 0;
+}
+
+static void be_told(void *context, uint32_t kind, const VbRun *runs, uint32_t count)
+{
+    (void)context;
+    EXPECT(count > 0 && runs[0].first == NAMED);
+    note(TOLD, kind, false);
+}
+
+static void hear(void *context, const VbStatistic *figures, uint32_t count)
+{
+    (void)context, (void)figures;
+    note(FIGURES, count, false);
 }
 
 static void put_bytes(uint64_t address, uint64_t value, size_t bytes)
@@ -89,6 +129,8 @@ static void begin(uint32_t kind)
     region = (struct balloon_region){ 0, PAGES * 4096, memory, BALLOON_PRIVATE, 0 };
     EXPECT(balloon_init(&balloon, &region, 1, (VbSettings){ .offered = LINUX_FEATURES }) == VB_OK);
     balloon.discard = discard;
+    balloon.on_pages = be_told;
+    balloon.on_statistics = hear;
     EXPECT(balloon_write_status(&balloon, 1, &result) == 0 && balloon_write_status(&balloon, 3, &result) == 0);
     EXPECT(balloon_negotiate(&balloon, LINUX_FEATURES) == 0 && balloon_write_status(&balloon, 11, &result) == 0);
     EXPECT(balloon_place(&balloon, kind, TABLE, AVAIL, USED, SIZE) == VB_OK);
@@ -112,34 +154,33 @@ static void offer(uint32_t kind)
     put_bytes(AVAIL + 2, 1, 2);
 }
 
-static uint32_t count_of(enum what what)
-{
-    uint32_t count = 0;
-    for (uint32_t i = 0; i < touch_count; i++)
-        count += touches[i].what == what;
-    return count;
-}
-
-/* Up to the used index the parts come in their order, and no address twice; only the used ring is written. */
-static void expect_order(bool used)
+/* What was touched is this list, in order, where the fences of balloon.h are noted. */
+static void expect_touches(const struct touch *expected)
 {
     uint32_t i = 0;
-    EXPECT(touches[0].what == INDEX && touch_count < MOST_TOUCHES && count_of(OTHER) == 0);
-    for (i = 1; i < touch_count && touches[i - 1].what != USED_INDEX; i++) {
-        EXPECT(touches[i].what >= touches[i - 1].what);
-        for (uint32_t k = 0; k < i; k++)
-            EXPECT(touches[k].address != touches[i].address || touches[k].what == DISCARD);
+    for (; expected->what != OTHER; expected++) {
+#ifdef RUST_SHIM
+        if (expected->what == FENCE)
+            continue;
+#endif
+        bool same = i < touch_count && touches[i].what == expected->what && touches[i].number == expected->number
+            && touches[i].write == expected->write;
+        if (!same && i < touch_count)
+            fprintf(stderr, "order: %s %llu where %s %llu should be\n", WORDS[touches[i].what],
+                    (unsigned long long)touches[i].number, WORDS[expected->what], (unsigned long long)expected->number);
+        EXPECT(same);
+        i++;
     }
-    for (; i < touch_count; i++)
-        EXPECT(touches[i].what <= FLAGS && !touches[i].write);
-    for (i = 0; i < touch_count; i++)
-        EXPECT(touches[i].write == (touches[i].what == ELEMENT || touches[i].what == USED_INDEX
-                                    || touches[i].what == DISCARD));
-    EXPECT(count_of(ENTRIES) == 2 && count_of(DESCRIPTORS) == 16);
-    EXPECT(count_of(ELEMENT) == (used ? 2 : 0) && count_of(USED_INDEX) == used);
+    EXPECT(i == touch_count);
 }
 
-static void touches_are_in_order(uint32_t kind, uint32_t discards)
+enum { READS = false, WRITES = true };
+#define TAKEN { INDEX, 0, READS }, { FENCE, __ATOMIC_ACQUIRE, READS }, { ENTRY, 0, READS }, { DESCRIPTOR, 3, READS }, \
+    { DESCRIPTOR, 6, READS }
+#define GIVEN { ELEMENT, 0, WRITES }, { ELEMENT, 1, WRITES }, { FENCE, __ATOMIC_RELEASE, READS }, { USED_INDEX, 0, WRITES }
+#define ASKED { FENCE, __ATOMIC_SEQ_CST, READS }, { FLAGS, 0, READS }, { OTHER, 0, READS }
+
+static void serve(uint32_t kind)
 {
     begin(kind);
     offer(kind);
@@ -147,17 +188,42 @@ static void touches_are_in_order(uint32_t kind, uint32_t discards)
     reach(PROT_NONE);
     struct balloon_result result = balloon_notify(&balloon, kind);
     reach(PROT_READ | PROT_WRITE);
-    EXPECT(result.code == VB_OK && result.chains == 1 && count_of(DISCARD) == discards);
-    EXPECT(kind == VB_REPORT ? count_of(BYTES) == 0 : count_of(BYTES) > 2 && count_of(BYTES) <= 20);
-    expect_order(kind != VB_STATISTICS);
-    if (kind != VB_STATISTICS)
-        return;
+    EXPECT(result.code == VB_OK && result.chains == 1 && result.interrupts == (kind == VB_STATISTICS ? 0 : 1u << kind));
+}
+
+/* Named, told, discarded, and only then given back. */
+static void an_inflate_is_in_order(void)
+{
+    serve(VB_INFLATE);
+    expect_touches((const struct touch[]){
+        TAKEN, { BYTES, 0, READS }, { TOLD, VB_INFLATE, READS }, { DISCARD, NAMED, WRITES }, { DISCARD, NAMED + 2, WRITES },
+        { DISCARD, NAMED + 4, WRITES }, { DISCARD, NAMED + 6, WRITES }, { DISCARD, NAMED + 8, WRITES }, GIVEN,
+        { INDEX, 0, READS }, ASKED });
+}
+
+static void a_deflate_is_in_order(void)
+{
+    serve(VB_DEFLATE);
+    expect_touches((const struct touch[]){ TAKEN, { BYTES, 0, READS }, { TOLD, VB_DEFLATE, READS }, GIVEN, { INDEX, 0, READS }, ASKED });
+}
+
+static void a_report_is_in_order(void)
+{
+    serve(VB_REPORT);
+    expect_touches((const struct touch[]){ TAKEN, { TOLD, VB_REPORT, READS }, { DISCARD, NAMED, WRITES },
+                                           { DISCARD, NAMED + 5, WRITES }, GIVEN, { INDEX, 0, READS }, ASKED });
+}
+
+static void statistics_are_in_order(void)
+{
+    serve(VB_STATISTICS);
+    expect_touches((const struct touch[]){ TAKEN, { BYTES, 0, READS }, { FIGURES, 2, READS }, { OTHER, 0, READS } });
     touch_count = 0;
     reach(PROT_NONE);
-    result = balloon_ask_statistics(&balloon);
+    struct balloon_result result = balloon_ask_statistics(&balloon);
     reach(PROT_READ | PROT_WRITE);
-    EXPECT(result.code == VB_OK && touch_count == 4 && touches[0].what == ELEMENT && touches[1].what == ELEMENT);
-    EXPECT(touches[2].what == USED_INDEX && touches[3].what == FLAGS && memory[USED + 4] == 3 && memory[USED + 2] == 1);
+    EXPECT(result.code == VB_OK && result.interrupts == 1 << VB_STATISTICS && memory[USED + 4] == 3 && memory[USED + 2] == 1);
+    expect_touches((const struct touch[]){ GIVEN, ASKED });
 }
 
 int main(void)
@@ -167,11 +233,11 @@ int main(void)
     alarm(60);
     memory = mmap(NULL, PAGES * 4096, PROT_READ | PROT_WRITE, MAP_PRIVATE | MAP_ANONYMOUS, -1, 0);
     EXPECT(memory != MAP_FAILED && sigaction(SIGSEGV, &fault, NULL) == 0 && sigaction(SIGTRAP, &step, NULL) == 0);
-    touches_are_in_order(VB_INFLATE, 5);
-    touches_are_in_order(VB_DEFLATE, 0);
-    touches_are_in_order(VB_STATISTICS, 0);
-    touches_are_in_order(VB_REPORT, 2);
-    puts("ok  each byte is touched once, in order");
+    an_inflate_is_in_order();
+    a_deflate_is_in_order();
+    a_report_is_in_order();
+    statistics_are_in_order();
+    puts("ok  each access, fence, word to the monitor and discard stands in its order, once");
     return 0;
 }
 #else

@@ -1,6 +1,4 @@
-/* vb.h in plain C. Nothing is proved of it: it explains answers in tests, stands in where the library isn't built
- * yet, and, compiled with -DUNCHECKED, is the parser without checks that the bench compares the library with.
- */
+/* vb.h in plain C. Nothing is proved of it: it explains answers in tests, and stands in where the library isn't built yet. */
 #ifdef REFERENCE_NAMES
 #include "reference_names.h"
 #endif
@@ -15,13 +13,6 @@ enum { BAD_HEAD = 1, BAD_NEXT, TOO_LONG, INDIRECT, WRONG_DIRECTION, OUT_OF_MEMOR
 static const uint64_t VERSION_1 = 1ull << 32;
 static const uint64_t KNOWN = 1ull << 32 | 0x27;
 static const uint64_t MOST_MEMORY = 1ull << 44;
-
-/* What no guest of good will does, and no monitor: with -DUNCHECKED nobody looks. */
-#ifdef UNCHECKED
-#define WRONG(condition) (false && (condition))
-#else
-#define WRONG(condition) (condition)
-#endif
 
 static uint64_t little(const uint8_t *bytes, int count)
 {
@@ -177,7 +168,7 @@ uint32_t vb_place(VbDevice *device, uint32_t kind, uint64_t table, uint64_t avai
 /* What a call is refused for by the status, the features and the queue's place. */
 static uint32_t refusal(const VbDevice *device, uint32_t kind, const VbQueue *queue)
 {
-    if (WRONG(are_impossible(&device->settings)))
+    if (are_impossible(&device->settings))
         return VB_BAD_ARGUMENT;
     if (!(device->status & DRIVER_OK) || (device->status & FAILED))
         return VB_NOT_READY;
@@ -185,7 +176,7 @@ static uint32_t refusal(const VbDevice *device, uint32_t kind, const VbQueue *qu
         return VB_NEEDS_RESET;
     if (lacks_feature(device, kind))
         return VB_NO_QUEUE;
-    return WRONG(has_no_place(device, queue)) ? VB_MISPLACED : VB_OK;
+    return has_no_place(device, queue) ? VB_MISPLACED : VB_OK;
 }
 
 static uint32_t ring_refusal(const VbDevice *device, uint32_t kind, const VbQueue *queue, size_t avail, size_t table)
@@ -228,11 +219,11 @@ static uint32_t walk(const VbDevice *device, uint16_t size, const uint8_t *table
 {
     bool writing = false;
     uint32_t number = head;
-    if (WRONG(head >= size))
+    if (head >= size)
         return BAD_HEAD;
     for (*count = 0;;) {
         Descriptor it = descriptor_at(table, number);
-        uint32_t rule = WRONG(true) ? broken_rule(device, size, &it, *count, writing) : 0;
+        uint32_t rule = broken_rule(device, size, &it, *count, writing);
         if (rule)
             return rule;
         writing = it.flags & 2;
@@ -249,7 +240,7 @@ static uint32_t next_head(const VbQueue *queue, const uint8_t *avail, uint32_t *
     uint16_t ahead = (uint16_t)(little(avail + 2, 2) - queue->next_avail);
     if (ahead == 0)
         return VB_NOTHING;
-    if (WRONG(ahead > queue->size))
+    if (ahead > queue->size)
         return VB_BROKEN;
     *head = (uint32_t)little(avail + 4 + 2 * (queue->next_avail % queue->size), 2);
     return VB_OK;
@@ -291,7 +282,7 @@ VbChain vb_next(VbDevice *device, uint32_t kind, const uint8_t *avail, size_t av
     chain.rule = chain.code == VB_BROKEN ? INDEX_JUMP : walk(device, queue->size, table, head, pieces, &count);
     for (uint32_t i = 0; i < count; i++)
         total += pieces[i].length;
-    if (chain.rule == 0 && WRONG(true))
+    if (chain.rule == 0)
         chain.rule = buffer_rule(kind, pieces, count, total);
     if (chain.rule) {
         device->status |= NEEDS_RESET;
@@ -335,11 +326,11 @@ VbNamed vb_name(VbDevice *device, uint32_t kind, const uint8_t *bytes, size_t le
     if (!queue || kind > VB_DEFLATE)
         return named;
     bool fits = room >= length / 4 && length > 0 && length <= VB_MAX_BYTES && length % 4 == 0;
-    named.code = WRONG(!fits) ? VB_BAD_ARGUMENT : refusal(device, kind, queue);
+    named.code = !fits ? VB_BAD_ARGUMENT : refusal(device, kind, queue);
     if (named.code != VB_OK)
         return named;
     for (size_t i = 0; i + 4 <= length; i += 4) {
-        uint32_t page = (uint32_t)little(bytes + i, 4), rule = WRONG(true) ? page_rule(device, page) : 0;
+        uint32_t page = (uint32_t)little(bytes + i, 4), rule = page_rule(device, page);
         if (rule && !device->settings.skips_bad_pages)
             return broken(device, rule);
         if (rule)
@@ -386,7 +377,7 @@ VbNamed vb_report(VbDevice *device, const uint8_t *avail, size_t avail_length, c
     if (named.code != VB_OK)
         return named;
     rule = walk(device, queue->size, table, named.head, pieces, &count);
-    if (rule == 0 && WRONG(true))
+    if (rule == 0)
         rule = report_rule(device, pieces, count);
     if (rule)
         return broken(device, rule);
@@ -402,7 +393,7 @@ VbNamed vb_report(VbDevice *device, const uint8_t *avail, size_t avail_length, c
 VbFigures vb_statistics(VbDevice *device, const uint8_t *bytes, size_t length, VbStatistic *figures, size_t room)
 {
     bool fits = room >= length / 10 && length <= STATISTICS_BYTES && length % 10 == 0;
-    VbFigures said = { .code = WRONG(!fits) ? VB_BAD_ARGUMENT : VB_OK };
+    VbFigures said = { .code = !fits ? VB_BAD_ARGUMENT : VB_OK };
     if (said.code == VB_OK)
         said.code = refusal(device, VB_STATISTICS, &device->statistics);
     if (said.code != VB_OK)
@@ -659,3 +650,5 @@ uint32_t vb_restore(VbDevice *device, uint32_t *held, const uint8_t *bytes, size
     *held = head;
     return VB_OK;
 }
+
+#include "reference_notice.h"

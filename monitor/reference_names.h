@@ -23,4 +23,13 @@
 #define vb_version reference_version
 #define vb_save reference_save
 #define vb_restore reference_restore
+#define vb_begin reference_begin
+#define vb_ask reference_ask
+#define vb_go_on reference_go_on
+#define vb_new_over reference_new_over
+#define vb_set_regions reference_set_regions
+#define vb_place_over reference_place_over
+#define vb_set_status reference_set_status
+#define vb_restore_over reference_restore_over
+#define vb_may_tell reference_may_tell
 #endif

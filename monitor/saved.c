@@ -92,7 +92,7 @@ static bool reach(unsigned state)
     return state == 9;
 }
 
-static void scribble_state(struct balloon_state *state) { memset(state, 0xee, sizeof *state); }
+static void scribble_state(VbBalloon *state) { memset(state, 0xee, sizeof *state); }
 
 static bool are_same(const VbDevice *one, uint32_t held, const VbDevice *other, uint32_t other_held)
 {
@@ -108,7 +108,7 @@ static void saved_states_have_the_format(void)
 {
     unsigned state = 0;
     for (; reach(state); state++) {
-        const struct balloon_state *it = &guest.balloon.state;
+        const VbBalloon *it = &guest.balloon.state;
         uint8_t bytes[VB_STATE_BYTES + 9], expected[VB_STATE_BYTES];
         for (size_t room = 0; room < VB_STATE_BYTES; room++) {
             memset(bytes, 0x5a, sizeof bytes);
@@ -119,7 +119,7 @@ static void saved_states_have_the_format(void)
         encode(&it->device, it->held, expected);
         EXPECT(vb_save(&it->device, it->held, bytes, sizeof bytes) == VB_OK);
         EXPECT(memcmp(bytes, expected, sizeof expected) == 0 && bytes[VB_STATE_BYTES] == 0x5a);
-        struct balloon_state restored;
+        VbBalloon restored;
         scribble_state(&restored);
         EXPECT(vb_restore(&restored.device, &restored.held, bytes, VB_STATE_BYTES) == VB_OK);
         EXPECT(are_same(&restored.device, restored.held, &it->device, it->held));
@@ -130,7 +130,7 @@ static void saved_states_have_the_format(void)
 /* A restore that is refused, by this name, and changes nothing. */
 static void is_refused(const uint8_t *bytes, size_t length, uint32_t code, size_t at)
 {
-    struct balloon_state state, before;
+    VbBalloon state, before;
     scribble_state(&state);
     scribble_state(&before);
     uint32_t told = vb_restore(&state.device, &state.held, bytes, length);
@@ -190,7 +190,7 @@ static void impossible_devices_are_refused(void)
     size_t rows = sizeof IMPOSSIBLE / sizeof *IMPOSSIBLE;
     for (size_t row = 0; row < rows; row++) {
         uint8_t bytes[VB_STATE_BYTES];
-        struct balloon_state state;
+        VbBalloon state;
         EXPECT(reach(IMPOSSIBLE[row].state) && balloon_save(&guest.balloon, bytes, sizeof bytes) == VB_OK);
         put_number(bytes + IMPOSSIBLE[row].at, IMPOSSIBLE[row].value, IMPOSSIBLE[row].bytes);
         put_sum(bytes);
@@ -201,7 +201,7 @@ static void impossible_devices_are_refused(void)
     }
     for (size_t row = 0; row < sizeof FREE / sizeof *FREE; row++) {
         uint8_t bytes[VB_STATE_BYTES];
-        struct balloon_state state;
+        VbBalloon state;
         EXPECT(reach(7) && balloon_save(&guest.balloon, bytes, sizeof bytes) == VB_OK);
         put_number(bytes + FREE[row].at, UINT64_MAX, FREE[row].bytes);
         put_sum(bytes);
@@ -342,7 +342,7 @@ static void all_that_calls_lead_to_is_saved(void)
     EXPECT(reach(0));
     for (unsigned round = 0; round < 5 * ROUNDS; round++) {
         uint8_t bytes[VB_STATE_BYTES];
-        struct balloon_state restored, *it = &guest.balloon.state;
+        VbBalloon restored, *it = &guest.balloon.state;
         any_step();
         EXPECT(balloon_save(&guest.balloon, bytes, sizeof bytes) == VB_OK);
         EXPECT(vb_restore(&restored.device, &restored.held, bytes, sizeof bytes) == VB_OK);

@@ -1,7 +1,7 @@
 /* A device at work while another processor scribbles over its rings and buffers: 1,000,000 notices.
  *
- * Each copy that is handed to the library is explained: the plain implementation answers the same of the same copy.
- * Data pages have stamps. A page that a copy names is zeros when its chain is done, and gets its stamp again; all
+ * Each thing that the library says is explained: the plain implementation says the same of the same answers.
+ * Data pages have stamps. A page that a copy names is zeros before its chain is given back, and gets its stamp again; all
  * other stamps stay, and so do the bytes before and behind guest memory.
  *
  *     scribble [NOTICES]
@@ -11,40 +11,37 @@
 #include <string.h>
 
 /* The plain implementation, under other names. */
-VbChain reference_next(VbDevice *, uint32_t, const uint8_t *, size_t, const uint8_t *, size_t, VbPiece *, size_t);
-VbNamed reference_name(VbDevice *, uint32_t, const uint8_t *, size_t, VbRun *, size_t);
-VbNamed reference_report(VbDevice *, const uint8_t *, size_t, const uint8_t *, size_t, VbRun *, size_t);
-VbFigures reference_statistics(VbDevice *, const uint8_t *, size_t, VbStatistic *, size_t);
-VbUsed reference_use(VbDevice *, uint32_t, uint32_t);
+uint32_t reference_begin(VbNotice *, VbBalloon *, const VbRegion *, size_t, VbRoom *, uint32_t, uint32_t, uint32_t);
+uint32_t reference_ask(VbNotice *, VbBalloon *, const VbRegion *, size_t, VbRoom *);
+uint32_t reference_go_on(VbNotice *, VbBalloon *, const VbRegion *, size_t, VbRoom *, uint16_t);
 
-/* Calls of the library that are explained; balloon.h makes these. */
-static VbChain explained_next(VbDevice *, uint32_t, const uint8_t *, size_t, const uint8_t *, size_t, VbPiece *,
-                              size_t);
-static VbNamed explained_name(VbDevice *, uint32_t, const uint8_t *, size_t, VbRun *, size_t);
-static VbNamed explained_report(VbDevice *, const uint8_t *, size_t, const uint8_t *, size_t, VbRun *, size_t);
-static VbFigures explained_statistics(VbDevice *, const uint8_t *, size_t, VbStatistic *, size_t);
-static VbUsed explained_use(VbDevice *, uint32_t, uint32_t);
-#define vb_next explained_next
-#define vb_name explained_name
-#define vb_report explained_report
-#define vb_statistics explained_statistics
-#define vb_use explained_use
+/* Calls of the library that are explained: the linker puts the second ones in the place of the first ones. */
+uint32_t __real_vb_begin(VbNotice *, VbBalloon *, const VbRegion *, size_t, VbRoom *, uint32_t, uint32_t, uint32_t);
+uint32_t __real_vb_ask(VbNotice *, VbBalloon *, const VbRegion *, size_t, VbRoom *);
+uint32_t __real_vb_go_on(VbNotice *, VbBalloon *, const VbRegion *, size_t, VbRoom *, uint16_t);
+uint32_t __wrap_vb_begin(VbNotice *, VbBalloon *, const VbRegion *, size_t, VbRoom *, uint32_t, uint32_t, uint32_t);
+uint32_t __wrap_vb_ask(VbNotice *, VbBalloon *, const VbRegion *, size_t, VbRoom *);
+uint32_t __wrap_vb_go_on(VbNotice *, VbBalloon *, const VbRegion *, size_t, VbRoom *, uint16_t);
 #include "guest.h"
-#undef vb_next
-#undef vb_name
-#undef vb_report
-#undef vb_statistics
-#undef vb_use
 #include <pthread.h>
 
 enum { SIZE = 16, NOTICES = 1000000, GUARD = MIB, PAGES = 24 * MIB / 4096, FIRST_DATA = 256 };
 
 static struct guest guest;
 static atomic_bool stop, started;
-static bool is_named[PAGES];            /* by the last copy, of a chain that is done */
+static bool is_named[PAGES];            /* by the last copies, of a chain that is being served */
+static bool names;                      /* the pages of a chain are named, and it isn't given back yet */
 static uint64_t changed;                /* copies that memory differed from already when they were handed over */
 
 /* ---- explained calls */
+
+/* The plain implementation beside the library: it says one thing at a time, and gets the same answers. */
+static struct { VbBalloon balloon; VbNotice notice; VbRoom room; } twin;
+
+/* What the library says is handed to the balloon bit by bit, in every other notice: `left` is what isn't handed over yet. */
+static struct { uint32_t whole, left; bool splits; } said;
+
+static void see_pages(uint32_t kind);
 
 static bool same_queue(const VbQueue *one, const VbQueue *other)
 {
@@ -52,127 +49,141 @@ static bool same_queue(const VbQueue *one, const VbQueue *other)
         && one->size == other->size && one->next_avail == other->next_avail && one->next_used == other->next_used;
 }
 
-static void expect_same(const VbDevice *one, const VbDevice *other)
+static void expect_same(const VbBalloon *balloon)
 {
+    const VbDevice *one = &balloon->device, *other = &twin.balloon.device;
     EXPECT(one->status == other->status && one->features == other->features);
-    EXPECT(one->target == other->target && one->actual == other->actual);
+    EXPECT(one->target == other->target && one->actual == other->actual && balloon->held == twin.balloon.held);
     EXPECT(same_queue(&one->inflate, &other->inflate) && same_queue(&one->deflate, &other->deflate));
     EXPECT(same_queue(&one->statistics, &other->statistics) && same_queue(&one->report, &other->report));
 }
 
-static void note_change(const uint8_t *table, size_t length, uint32_t kind)
-{
-    changed += memcmp(table, at(&guest, table_of(kind)), length) != 0;
-}
+static bool same_spot(VbSpot one, VbSpot other) { return one.region == other.region && one.offset == other.offset; }
 
-static VbChain explained_next(VbDevice *device, uint32_t kind, const uint8_t *avail, size_t avail_length,
-                              const uint8_t *table, size_t table_length, VbPiece *pieces, size_t room)
+static void mark_runs(const VbRun *runs, uint32_t count)
 {
-    static VbPiece other[VB_MAX_PIECES];
-    VbDevice twin = *device;
-    VbChain why = reference_next(&twin, kind, avail, avail_length, table, table_length, other, room);
-    VbChain chain = vb_next(device, kind, avail, avail_length, table, table_length, pieces, room);
-    note_change(table, table_length, kind);
-    EXPECT(chain.code == why.code && (chain.code != VB_BROKEN || chain.rule == why.rule));
-    expect_same(device, &twin);
-    if (chain.code != VB_OK)
-        return chain;
-    EXPECT(chain.head == why.head && chain.pieces == why.pieces && chain.bytes == why.bytes);
-    for (uint32_t i = 0; i < chain.pieces; i++)
-        EXPECT(pieces[i].address == other[i].address && pieces[i].length == other[i].length
-               && pieces[i].writable == other[i].writable);
-    return chain;
-}
-
-static void mark(uint64_t first, uint64_t count)
-{
-    for (uint64_t page = first; page < first + count && page < PAGES; page++)
-        is_named[page] = true;
-}
-
-static VbNamed explained_name(VbDevice *device, uint32_t kind, const uint8_t *bytes, size_t length, VbRun *runs,
-                              size_t room)
-{
-    static VbRun other[VB_MAX_RUNS];
-    VbDevice twin = *device;
-    VbNamed why = reference_name(&twin, kind, bytes, length, other, room);
-    VbNamed named = vb_name(device, kind, bytes, length, runs, room);
-    EXPECT(named.code == why.code && (named.code != VB_BROKEN || named.rule == why.rule));
-    expect_same(device, &twin);
     memset(is_named, 0, sizeof is_named);
-    if (named.code != VB_OK)
-        return named;
-    EXPECT(named.runs == why.runs && named.pages == why.pages && named.skipped == why.skipped);
-    EXPECT(memcmp(runs, other, named.runs * sizeof *runs) == 0);
-    for (size_t i = 0; i < length; i += 4) {
-        uint32_t page;
-        memcpy(&page, bytes + i, 4);
-        mark(le32toh(page), 1);
+    for (uint32_t i = 0; i < count; i++)
+        for (uint64_t page = runs[i].first; page < (uint64_t)runs[i].first + runs[i].count && page < PAGES; page++)
+            is_named[page] = true;
+}
+
+/* One thing that the library says is what the plain implementation says. */
+static void expect_thing(uint32_t what, const VbNotice *notice, const VbRoom *room, uint32_t cut)
+{
+    const VbNotice *why = &twin.notice;
+    EXPECT(why->what == what && why->kind == notice->kind);
+    switch (what) {
+    case VB_TELL_PAGES:
+        EXPECT(notice->runs == why->runs && notice->pages == why->pages && notice->skipped == why->skipped);
+        EXPECT(memcmp(room->runs, twin.room.runs, notice->runs * sizeof room->runs[0]) == 0);
+        mark_runs(twin.room.runs, why->runs);
+        names = true;
+        break;
+    case VB_TELL_FIGURES:
+        EXPECT(notice->figures == why->figures);
+        for (uint32_t i = 0; i < why->figures; i++)
+            EXPECT(room->figures[i].tag == twin.room.figures[i].tag && room->figures[i].value == twin.room.figures[i].value);
+        break;
+    case VB_DISCARD:
+        EXPECT(memcmp(&room->cuts[cut], &twin.room.cuts[0], sizeof room->cuts[0]) == 0);
+        break;
+    case VB_GIVE_BACK:
+        EXPECT(notice->id == why->id && notice->used_length == 0 && notice->used_index == why->used_index);
+        EXPECT(same_spot(notice->id_at, why->id_at) && same_spot(notice->length_at, why->length_at));
+        EXPECT(same_spot(notice->index_at, why->index_at));
+        break;
+    case VB_READ:
+        EXPECT(same_spot(notice->at, why->at));
+        break;
+    case VB_COPY:
+        EXPECT(same_spot(notice->at, why->at) && notice->length == why->length && notice->into == why->into);
+        break;
     }
-    return named;
 }
 
-/* Whether the runs cover just the pages that the others cover; reports may join neighbours or not. */
-static void expect_cover(const VbRun *runs, uint32_t count)
+/* All that the library says is what the plain implementation says in its turns, which waits at the last one then. */
+static void expect_what(const VbNotice *notice, const VbBalloon *balloon, const VbRegion *regions, size_t count, const VbRoom *room)
 {
-    static bool seen[PAGES];
-    memset(seen, 0, sizeof seen);
-    for (uint32_t i = 0; i < count; i++) {
-        EXPECT(runs[i].count > 0 && runs[i].first < PAGES && runs[i].count <= PAGES - runs[i].first);
-        memset(seen + runs[i].first, true, runs[i].count);
-    }
-    EXPECT(memcmp(seen, is_named, sizeof seen) == 0);
+    bool first = true;
+    for (uint32_t what = 1; what <= VB_COPY; what *= 2)
+        for (uint32_t i = 0; i < (!(notice->what & what) ? 0 : what == VB_DISCARD ? notice->cuts : 1); i++) {
+            if (!first)
+                reference_go_on(&twin.notice, &twin.balloon, regions, count, &twin.room, 0);
+            first = false;
+            expect_thing(what, notice, room, i);
+        }
+    expect_same(balloon);
+    if (notice->what)
+        return;
+    const VbNotice *why = &twin.notice;
+    EXPECT(why->what == 0 && notice->code == why->code && (notice->code != VB_BROKEN || notice->rule == why->rule));
+    EXPECT(notice->interrupt == why->interrupt && notice->configuration == why->configuration && notice->more == why->more);
+    EXPECT(notice->code <= VB_BROKEN);
 }
 
-static VbNamed explained_report(VbDevice *device, const uint8_t *avail, size_t avail_length, const uint8_t *table,
-                                size_t table_length, VbRun *runs, size_t room)
+/* Hands over the next thing, or all that is left; pages that were named are seen before their chain is given back. */
+static uint32_t hand_over(VbNotice *notice)
 {
-    static VbRun other[VB_MAX_RUNS];
-    VbDevice twin = *device;
-    VbNamed why = reference_report(&twin, avail, avail_length, table, table_length, other, room);
-    VbNamed named = vb_report(device, avail, avail_length, table, table_length, runs, room);
-    note_change(table, table_length, VB_REPORT);
-    EXPECT(named.code == why.code && (named.code != VB_BROKEN || named.rule == why.rule));
-    expect_same(device, &twin);
-    memset(is_named, 0, sizeof is_named);
-    if (named.code != VB_OK)
-        return named;
-    EXPECT(named.head == why.head && named.pages == why.pages);
-    for (uint32_t i = 0; i < why.runs; i++)
-        mark(other[i].first, other[i].count);
-    expect_cover(runs, named.runs);
-    return named;
+    uint32_t now = said.splits ? said.left & -said.left : said.left;
+    said.left &= ~now;
+    if (now == VB_GIVE_BACK && names)
+        see_pages(notice->kind);
+    return notice->what = now;
 }
 
-static VbFigures explained_statistics(VbDevice *device, const uint8_t *bytes, size_t length, VbStatistic *figures,
-                                      size_t room)
+static uint32_t explain(VbNotice *notice, const VbBalloon *balloon, const VbRegion *regions, size_t count, const VbRoom *room)
 {
-    static VbStatistic other[VB_MAX_BYTES / 10];
-    VbDevice twin = *device;
-    VbFigures why = reference_statistics(&twin, bytes, length, other, room);
-    VbFigures said = vb_statistics(device, bytes, length, figures, room);
-    EXPECT(said.code == why.code && said.code == VB_OK && said.count == why.count);
-    expect_same(device, &twin);
-    for (uint32_t i = 0; i < said.count; i++)
-        EXPECT(figures[i].tag == other[i].tag && figures[i].value == other[i].value);
-    return said;
+    said.whole = said.left = notice->what;
+    expect_what(notice, balloon, regions, count, room);
+    return hand_over(notice);
 }
 
-static VbUsed explained_use(VbDevice *device, uint32_t kind, uint32_t head)
+static void begin_twin(const VbBalloon *balloon)
 {
-    VbDevice twin = *device;
-    VbUsed why = reference_use(&twin, kind, head), used = vb_use(device, kind, head);
-    EXPECT(used.code == VB_OK && why.code == VB_OK && used.element_at == why.element_at);
-    EXPECT(used.index_at == why.index_at && used.id == why.id && used.length == why.length && used.index == why.index);
-    expect_same(device, &twin);
-    return used;
+    twin.balloon = *balloon;
+    names = false;
+    said.splits = !said.splits;
+}
+
+uint32_t __wrap_vb_begin(VbNotice *notice, VbBalloon *balloon, const VbRegion *regions, size_t count, VbRoom *room,
+                         uint32_t kind, uint32_t chains, uint32_t pages)
+{
+    begin_twin(balloon);
+    reference_begin(&twin.notice, &twin.balloon, regions, count, &twin.room, kind, chains, pages);
+    EXPECT(__real_vb_begin(notice, balloon, regions, count, room, kind, chains, pages) == notice->what);
+    return explain(notice, balloon, regions, count, room);
+}
+
+uint32_t __wrap_vb_ask(VbNotice *notice, VbBalloon *balloon, const VbRegion *regions, size_t count, VbRoom *room)
+{
+    begin_twin(balloon);
+    reference_ask(&twin.notice, &twin.balloon, regions, count, &twin.room);
+    EXPECT(__real_vb_ask(notice, balloon, regions, count, room) == notice->what);
+    return explain(notice, balloon, regions, count, room);
+}
+
+uint32_t __wrap_vb_go_on(VbNotice *notice, VbBalloon *balloon, const VbRegion *regions, size_t count, VbRoom *room,
+                         uint16_t answer)
+{
+    if (said.left)
+        return hand_over(notice);
+    notice->what = said.whole;
+    if (said.whole & VB_GIVE_BACK && names)
+        see_pages(notice->kind);
+    if (said.whole & VB_COPY)
+        changed += memcmp(room->bytes + notice->into, balloon_at(&guest.balloon, notice->at), notice->length) != 0;
+    memcpy(twin.room.bytes, room->bytes, sizeof room->bytes);
+    reference_go_on(&twin.notice, &twin.balloon, regions, count, &twin.room, answer);
+    EXPECT(__real_vb_go_on(notice, balloon, regions, count, room, answer) == notice->what);
+    return explain(notice, balloon, regions, count, room);
 }
 
 /* ---- stamps */
 
 static bool has_stamp(uint64_t page)
 {
-    return page >= FIRST_DATA && balloon_host(&guest.balloon, page * 4096, 4096) != NULL;
+    return page >= FIRST_DATA && host_of(&guest.balloon, page * 4096) != NULL;
 }
 
 static uint64_t *stamp_of(uint64_t page)
@@ -180,11 +191,11 @@ static uint64_t *stamp_of(uint64_t page)
     return (uint64_t *)(void *)at(&guest, page * 4096 + 2048);
 }
 
-/* A chain of pages is done: what its copy names is zeros, but of a deflate, and is stamped again. */
-static void see_pages(void *context, uint32_t kind, const VbRun *runs, uint32_t count)
+/* What a chain's copies name is zeros, but of a deflate, and is stamped again. */
+static void see_pages(uint32_t kind)
 {
-    (void)context, (void)runs, (void)count;
     const bool *it = is_named;
+    names = false;
     while ((it = memchr(it, true, (size_t)(is_named + PAGES - it))) != NULL) {
         uint64_t page = (uint64_t)(it++ - is_named);
         if (!has_stamp(page))
@@ -297,7 +308,6 @@ static void begin(void)
     guest.regions[0] = (struct balloon_region){ HIGH_ADDRESS, HIGH_MIB * MIB, high, BALLOON_PRIVATE, 0 };
     guest.regions[1] = (struct balloon_region){ 0, LOW_MIB * MIB, low, BALLOON_PRIVATE, 0 };
     EXPECT(balloon_init(&guest.balloon, guest.regions, 2, settings) == VB_OK);
-    guest.balloon.on_pages = see_pages;
     for (uint64_t page = FIRST_DATA; page < PAGES; page++)
         if (has_stamp(page))
             *stamp_of(page) = page;
@@ -308,10 +318,9 @@ static void begin(void)
 /* A notice, from a device that stands a little behind the index of some moment; the code that it came to. */
 static uint32_t notice(uint32_t kind, uint64_t random)
 {
-    struct balloon_state *state = &guest.balloon.state;
-    VbQueue *queue = balloon_queue(&guest.balloon, kind);
-    uint16_t index;
-    EXPECT(balloon_ring_word(&guest.balloon, queue->avail + 2, &index));
+    VbBalloon *state = &guest.balloon.state;
+    VbQueue *queue = ring_of_kind(&guest.balloon, kind);
+    uint16_t index = (uint16_t)get(&guest, queue->avail + 2, 2);
     state->device.status = 15;
     state->device.settings.skips_bad_pages = random / 16 % 4 != 0;
     if (random % 4 != 0)
@@ -351,7 +360,7 @@ int main(int count, char **words)
                codes[kind][VB_NOTHING], codes[kind][VB_BROKEN]);
         EXPECT(codes[kind][VB_OK] > 0 && codes[kind][VB_NOTHING] > 0 && codes[kind][VB_BROKEN] > 0);
     }
-    printf("ok  %llu notices, %llu copies of tables that changed at once\n", (unsigned long long)notices,
+    printf("ok  %llu notices, %llu copies that changed at once\n", (unsigned long long)notices,
            (unsigned long long)changed);
     EXPECT(changed > 0 || notices < NOTICES);
     return 0;

@@ -185,7 +185,7 @@ static void replay(const struct record *record, bool first)
     else
         result = balloon_notify_number(&guest.balloon, record->number);
     EXPECT(result.code == VB_OK && result.chains == 1 && result.skipped == 0 && result.in_holes == 0);
-    EXPECT(balloon_queue(&guest.balloon, record->kind)->next_avail == record->index);
+    EXPECT(ring_of_kind(&guest.balloon, record->kind)->next_avail == record->index);
     if (record->kind == VB_STATISTICS) {
         EXPECT(figure_count == record->piece[0].length / 10);
         EXPECT(balloon_ask_statistics(&guest.balloon).code == VB_OK);

@@ -27,7 +27,7 @@ AUDIT_PARTS, WRONG_PARTS = ("backend/audit", "backend/wrong"), ("host/wrong",)
 FLAGS = ("-std=c11", "-O2", "-Wall", "-Wextra", "-Werror")
 
 # What a wrong device and a wrong host get in their hands: see monitor/backend/wrong.c and monitor/host/wrong.c.
-AUDIT_WRAPPED, WRONG_WRAPPED = ("vb_name", "vb_use", "poll"), ("vb_targets", "vb_spare", "vb_needs_targets")
+AUDIT_WRAPPED, WRONG_WRAPPED = ("vb_begin", "vb_ask", "vb_go_on", "poll"), ("vb_targets", "vb_spare", "vb_needs_targets")
 
 # A guest's command line, whatever it runs under.
 KERNEL_WORDS = ("rdinit=/init", "panic=-1", "loglevel=1")

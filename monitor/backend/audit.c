@@ -20,6 +20,8 @@ static struct {
     uint8_t *may_be_hole[MOST_REGIONS];     /* a byte for each page of a region */
     uint64_t faults, services, entries, named;
     char first[160];
+    struct backend *telling;                /* whose request was named, and isn't used yet */
+    uint32_t kind;
 } audit;
 
 static void fault(const char *format, ...) __attribute__((format(printf, 1, 2)));
@@ -33,12 +35,26 @@ static void fault(const char *format, ...)
     va_end(words);
 }
 
+/* A byte of the guest, or NULL in a hole. */
+static const uint8_t *byte_at(const struct backend *backend, uint64_t address)
+{
+    for (unsigned i = 0; i < backend->memory.count; i++) {
+        const struct balloon_region *region = &backend->memory.regions[i];
+        if (address >= region->guest && address - region->guest < region->length)
+            return region->host + (address - region->guest);
+    }
+    return NULL;
+}
+
 /* Bytes of the guest, or zeros in a hole. */
 static void read_guest(const struct backend *backend, uint64_t address, void *to, size_t length)
 {
-    if (!balloon_copy(&backend->balloon, address, to, length)) {
-        memset(to, 0, length);
-        fault("0x%" PRIx64 " isn't memory", address);
+    uint8_t *bytes = to;
+    for (size_t i = 0; i < length; i++) {
+        const volatile uint8_t *from = byte_at(backend, address + i);
+        bytes[i] = from ? *from : 0;
+        if (!from)
+            fault("0x%" PRIx64 " isn't memory", address + i);
     }
 }
 
@@ -49,10 +65,16 @@ static uint16_t word_at(const struct backend *backend, uint64_t address)
     return word;
 }
 
-static const VbQueue *queue_at(struct backend *backend, unsigned number)
+static const VbQueue *queue_of(const struct backend *backend, uint32_t kind)
 {
-    const VbQueue *queue = balloon_queue(&backend->balloon, vb_kind(&backend->balloon.state.device, number));
-    return queue && queue->size > 0 ? queue : NULL;
+    const VbDevice *device = &backend->balloon.state.device;
+    const VbQueue *queues[] = {&device->inflate, &device->deflate, &device->statistics, &device->report};
+    return kind < VB_NO_KIND && queues[kind]->size > 0 ? queues[kind] : NULL;
+}
+
+static const VbQueue *queue_at(const struct backend *backend, unsigned number)
+{
+    return queue_of(backend, vb_kind(&backend->balloon.state.device, number));
 }
 
 void audit_before(struct backend *backend, unsigned number)
@@ -124,12 +146,21 @@ static void name_numbers(struct backend *backend, const struct descriptor *buffe
     }
 }
 
-/* The request that is used next is the one at the used index. */
 void audit_pages(struct backend *backend, uint32_t kind)
 {
-    const VbQueue *queue = balloon_queue(&backend->balloon, kind);
+    audit.telling = backend;
+    audit.kind = kind;
+}
+
+/* The request that is used next is the one at the used index. */
+void audit_use(void)
+{
+    struct backend *backend = audit.telling;
+    uint32_t kind = audit.kind;
+    const VbQueue *queue = backend ? queue_of(backend, kind) : NULL;
     struct descriptor piece = {.flags = 1};
-    if (kind == VB_DEFLATE)
+    audit.telling = NULL;
+    if (!queue || kind == VB_DEFLATE)
         return;
     unsigned position = word_at(backend, queue->used + 2) % queue->size;
     uint16_t next = word_at(backend, queue->avail + 4 + 2 * position);

@@ -10,8 +10,9 @@
 void audit_before(struct backend *backend, unsigned number);
 void audit_after(struct backend *backend, unsigned number);
 
-/* Behind the discarding of a request's pages, before it is used. */
+/* The pages of a request or a report are told; then, behind their discarding, it is used next. */
 void audit_pages(struct backend *backend, uint32_t kind);
+void audit_use(void);
 
 /* Obeys the lines `snapshot` and `audit`; false where it is another line. */
 bool audit_line(struct backend *backend, const char *line);

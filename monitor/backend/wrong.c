@@ -1,13 +1,14 @@
 /* Devices that are wrong on purpose: tests have to find each. The linker puts these functions before those of the same
  * names, and the environment's BALLOON_WRONG says which device it is:
  *
- *     1  discards the page behind each run that an inflate names, in place of its first one
+ *     1  discards what stands a page behind that which an inflate names
  *     2  gives a chain back by another id
  *     3  discards pages again half a second after they came back to the guest
  *     4  adds two to the used index
  *     5  discards nothing of an inflate
  */
 #include "wrong.h"
+#include "audit.h"
 
 #include <poll.h>
 #include <stdlib.h>
@@ -21,10 +22,12 @@ static VbRun late_runs[MOST_LATE];
 static unsigned late_count;
 static int64_t late_at;
 
-VbNamed __real_vb_name(VbDevice *, uint32_t, const uint8_t *, size_t, VbRun *, size_t);
-VbNamed __wrap_vb_name(VbDevice *, uint32_t, const uint8_t *, size_t, VbRun *, size_t);
-VbUsed __real_vb_use(VbDevice *, uint32_t, uint32_t);
-VbUsed __wrap_vb_use(VbDevice *, uint32_t, uint32_t);
+uint32_t __real_vb_begin(VbNotice *, VbBalloon *, const VbRegion *, size_t, VbRoom *, uint32_t, uint32_t, uint32_t);
+uint32_t __wrap_vb_begin(VbNotice *, VbBalloon *, const VbRegion *, size_t, VbRoom *, uint32_t, uint32_t, uint32_t);
+uint32_t __real_vb_ask(VbNotice *, VbBalloon *, const VbRegion *, size_t, VbRoom *);
+uint32_t __wrap_vb_ask(VbNotice *, VbBalloon *, const VbRegion *, size_t, VbRoom *);
+uint32_t __real_vb_go_on(VbNotice *, VbBalloon *, const VbRegion *, size_t, VbRoom *, uint16_t);
+uint32_t __wrap_vb_go_on(VbNotice *, VbBalloon *, const VbRegion *, size_t, VbRoom *, uint16_t);
 int __real_poll(struct pollfd *, nfds_t, int);
 int __wrap_poll(struct pollfd *, nfds_t, int);
 
@@ -48,24 +51,63 @@ static void remember(const VbRun *runs, uint32_t count)
     late_at = now() + LATE_BY;
 }
 
-VbNamed __wrap_vb_name(VbDevice *device, uint32_t kind, const uint8_t *bytes, size_t length, VbRun *runs, size_t room)
+/* What the library says is to be done, wrong as wished. */
+static void spoil(VbNotice *notice, VbRoom *room)
 {
-    VbNamed named = __real_vb_name(device, kind, bytes, length, runs, room);
-    for (uint32_t i = 0; i < named.runs && kind == VB_INFLATE && wrong() == NEXT_PAGE; i++)
-        runs[i].first++;
-    if (kind == VB_DEFLATE && wrong() == LATE)
-        remember(runs, named.runs);
-    if (kind == VB_INFLATE && wrong() == KEEPS)
-        named.runs = 0;
-    return named;
+    bool inflates = notice->kind == VB_INFLATE && notice->what & VB_DISCARD;
+    for (uint32_t i = 0; i < notice->cuts && inflates && wrong() == NEXT_PAGE; i++) {
+        room->cuts[i].offset += BALLOON_PAGE;
+        room->cuts[i].in_file += BALLOON_PAGE;
+    }
+    if (notice->kind == VB_DEFLATE && notice->what & VB_TELL_PAGES && wrong() == LATE)
+        remember(room->runs, notice->runs);
+    if (inflates && wrong() == KEEPS)
+        notice->cuts = 0;
+    notice->id += wrong() == OTHER_ID;
+    notice->used_index = (uint16_t)(notice->used_index + (wrong() == BY_TWO));
 }
 
-VbUsed __wrap_vb_use(VbDevice *device, uint32_t kind, uint32_t head)
+static uint32_t whole, left; /* what the library says is to be done, and what of it isn't handed over yet */
+
+/* Hands over what comes before a chain is given back, and then the rest, so that the audit looks between them. */
+static uint32_t hand_over(VbNotice *notice)
 {
-    VbUsed used = __real_vb_use(device, kind, head);
-    used.id += wrong() == OTHER_ID;
-    used.index = (uint16_t)(used.index + (wrong() == BY_TWO));
-    return used;
+    uint32_t before = left & (VB_GIVE_BACK - 1);
+    notice->what = before ? before : left;
+    left &= ~notice->what;
+    if (notice->what & VB_GIVE_BACK)
+        audit_use();
+    return notice->what;
+}
+
+static uint32_t begin(VbNotice *notice, VbRoom *room)
+{
+    spoil(notice, room);
+    whole = left = notice->what;
+    return hand_over(notice);
+}
+
+uint32_t __wrap_vb_begin(VbNotice *notice, VbBalloon *balloon, const VbRegion *regions, size_t count, VbRoom *room,
+                         uint32_t kind, uint32_t chains, uint32_t pages)
+{
+    __real_vb_begin(notice, balloon, regions, count, room, kind, chains, pages);
+    return begin(notice, room);
+}
+
+uint32_t __wrap_vb_ask(VbNotice *notice, VbBalloon *balloon, const VbRegion *regions, size_t count, VbRoom *room)
+{
+    __real_vb_ask(notice, balloon, regions, count, room);
+    return begin(notice, room);
+}
+
+uint32_t __wrap_vb_go_on(VbNotice *notice, VbBalloon *balloon, const VbRegion *regions, size_t count, VbRoom *room,
+                         uint16_t answer)
+{
+    if (left)
+        return hand_over(notice);
+    notice->what = whole;
+    __real_vb_go_on(notice, balloon, regions, count, room, answer);
+    return begin(notice, room);
 }
 
 static void discard_late(void)

@@ -1,6 +1,7 @@
-//! vb.h: its structs and calls. Each call requires what vb.h says of pointers with lengths, and nothing else.
+//! vb.h: its structs and calls. Each call requires what vb.h says of pointers with lengths, and nothing else; the safe ones
+//! here take slices, which have that.
 
-/// Numbers of the answers and kinds of vb.h.
+/// Numbers of the answers of vb.h.
 pub const OK: u32 = 0;
 pub const NOTHING: u32 = 1;
 pub const BROKEN: u32 = 2;
@@ -8,16 +9,33 @@ pub const NOT_READY: u32 = 3;
 pub const NEEDS_RESET: u32 = 4;
 pub const NO_QUEUE: u32 = 5;
 pub const MISPLACED: u32 = 6;
+pub const BAD_ARGUMENT: u32 = 7;
 pub const BAD_LENGTH: u32 = 9;
 pub const NOT_A_STATE: u32 = 10;
 pub const OTHER_VERSION: u32 = 11;
 pub const BAD_SUM: u32 = 12;
 
-/// The most descriptors of a queue, pieces of a chain, runs of a request, and bytes of one.
-pub const MAX_QUEUE_SIZE: usize = 256;
-pub const MAX_PIECES: usize = 256;
-pub const MAX_RUNS: usize = 256;
-pub const MAX_BYTES: usize = 1024;
+/// What is to be done: bits of a notice, in this order.
+pub const TELL_PAGES: u32 = 1;
+pub const TELL_FIGURES: u32 = 2;
+pub const DISCARD: u32 = 4;
+pub const GIVE_BACK: u32 = 8;
+pub const ACQUIRE: u32 = 16;
+pub const FULL_FENCE: u32 = 32;
+pub const READ: u32 = 64;
+pub const COPY: u32 = 128;
+
+/// What a write of the status asks for: look at each queue; the set of ballooned pages is empty.
+pub const LOOK: u32 = 1;
+pub const EMPTY: u32 = 2;
+
+/// The most descriptors of a queue, and what a room has.
+pub const MAX_QUEUE_SIZE: u32 = 256;
+const MAX_PIECES: usize = 256;
+const MAX_RUNS: usize = 256;
+const MAX_BYTES: usize = 1024;
+const MAX_FIGURES: usize = 102;
+const MAX_CUTS: usize = 32;
 
 /// Bytes of a saved state.
 pub const STATE_BYTES: usize = 187;
@@ -60,14 +78,6 @@ pub struct Device {
     pub status: u8,
 }
 
-#[repr(C)]
-#[derive(Clone, Copy, Default)]
-pub struct Piece {
-    pub address: u64,
-    pub length: u32,
-    pub writable: u8,
-}
-
 /// Pages `first` to `first + count - 1`.
 #[repr(C)]
 #[derive(Clone, Copy, Debug, Default, PartialEq, Eq)]
@@ -84,43 +94,106 @@ pub struct Statistic {
     pub value: u64,
 }
 
+/// How many pages were put into a set, or taken out of it.
 #[repr(C)]
-pub struct Chain {
+pub struct Marked {
     pub code: u32,
-    pub rule: u32,
-    pub head: u32,
-    pub pieces: u32,
-    pub bytes: u32,
+    pub pages: u64,
 }
 
+/// Guest memory from one address on: whole pages.
 #[repr(C)]
-pub struct Named {
-    pub code: u32,
-    pub rule: u32,
-    pub head: u32,
+#[derive(Clone, Copy, Debug, Default, PartialEq, Eq)]
+pub struct Region {
+    pub guest: u64,
+    pub length: u64,
+    /// Where it begins in the file that has its bytes, or 0.
+    pub in_file: u64,
+}
+
+/// So many bytes into the region of this number.
+#[repr(C)]
+#[derive(Clone, Copy, Debug, Default, PartialEq, Eq)]
+pub struct Spot {
+    pub region: usize,
+    pub offset: u64,
+}
+
+/// Whole pages of one region, and where they stand in its file.
+#[repr(C)]
+#[derive(Clone, Copy, Debug, Default, PartialEq, Eq)]
+pub struct Cut {
+    pub region: usize,
+    pub offset: u64,
+    pub in_file: u64,
+    pub length: u64,
+}
+
+/// All that a balloon is.
+#[repr(C)]
+#[derive(Clone, Copy, Default)]
+pub struct Balloon {
+    pub device: Device,
+    /// One more than the head of the statistics buffer that is held, or 0.
+    pub held: u32,
+}
+
+/// What is to be done next.
+#[repr(C)]
+#[derive(Clone, Copy, Default)]
+pub struct Notice {
+    pub what: u32,
+    pub kind: u32,
+    pub at: Spot,
+    pub length: u32,
+    pub into: u32,
     pub runs: u32,
     pub pages: u32,
     pub skipped: u32,
-}
-
-#[repr(C)]
-pub struct Figures {
+    pub figures: u32,
+    pub cuts: u32,
+    pub id: u32,
+    pub used_length: u32,
+    pub used_index: u16,
+    pub id_at: Spot,
+    pub length_at: Spot,
+    pub index_at: Spot,
     pub code: u32,
     pub rule: u32,
-    pub count: u32,
+    pub interrupt: u32,
+    pub configuration: u32,
+    pub more: u32,
+    numbers: [u32; 2],
+    words: [u16; 3],
+    flags: [u8; 3],
+    places: [u64; 4],
 }
 
+/// The room that a notice needs.
 #[repr(C)]
-pub struct Used {
-    pub code: u32,
-    pub element_at: u64,
-    pub index_at: u64,
-    pub id: u32,
-    pub length: u32,
-    pub index: u16,
+pub struct Room {
+    pieces: [u64; 2 * MAX_PIECES],
+    pub bytes: [u8; MAX_BYTES],
+    pub runs: [Run; MAX_RUNS],
+    pub figures: [Statistic; MAX_FIGURES],
+    pub cuts: [Cut; MAX_CUTS],
+}
+
+impl Room {
+    /// Zeros, as before a first use.
+    pub fn new() -> Room {
+        Room {
+            pieces: [0; 2 * MAX_PIECES],
+            bytes: [0; MAX_BYTES],
+            runs: [Run::default(); MAX_RUNS],
+            figures: [Statistic::default(); MAX_FIGURES],
+            cuts: [Cut::default(); MAX_CUTS],
+        }
+    }
 }
 
 /// Bytes that say where they are.
+#[allow(dead_code)] // rustc 1.63 doesn't see its use in constants without a name
 const fn numbered<const N: usize>() -> [u8; N] {
     let mut bytes = [0; N];
     let mut at = 0;
@@ -146,59 +219,111 @@ layout!(Settings, 24, memory_end at 0, offered at 8, reserved_pages at 16, needs
 layout!(Queue, 32, table at 0, avail at 8, used at 16, size at 24, next_avail at 26, next_used at 28);
 layout!(Device, 176, settings.memory_end at 0, features at 24, target at 32, actual at 36, inflate.table at 40);
 layout!(Device, 176, deflate.table at 72, statistics.table at 104, report.table at 136, status at 168);
-layout!(Piece, 16, address at 0, length at 8, writable at 12);
 layout!(Run, 8, first at 0, count at 4);
 layout!(Statistic, 16, tag at 0, value at 8);
-layout!(Chain, 20, code at 0, rule at 4, head at 8, pieces at 12, bytes at 16);
-layout!(Named, 24, code at 0, rule at 4, head at 8, runs at 12, pages at 16, skipped at 20);
-layout!(Figures, 12, code at 0, rule at 4, count at 8);
-layout!(Used, 40, code at 0, element_at at 8, index_at at 16, id at 24, length at 28, index at 32);
+layout!(Marked, 16, code at 0, pages at 8);
+layout!(Region, 24, guest at 0, length at 8, in_file at 16);
+layout!(Spot, 16, region at 0, offset at 8);
+layout!(Cut, 32, region at 0, offset at 8, in_file at 16, length at 24);
+layout!(Balloon, 184, device.status at 168, held at 176);
+layout!(Notice, 184, what at 0, kind at 4, at.region at 8, length at 24, into at 28, runs at 32, pages at 36);
+layout!(Notice, 184, skipped at 40, figures at 44, cuts at 48, id at 52, used_length at 56, used_index at 60);
+layout!(Notice, 184, id_at.region at 64, length_at.region at 80, index_at.region at 96, code at 112, rule at 116);
+layout!(Notice, 184, interrupt at 120, configuration at 124, more at 128);
+
+/// Where the parts of a room begin, in bytes.
+const _: () = {
+    assert!(std::mem::size_of::<Room>() == 9824 && MAX_PIECES * 16 == 4096 && 4096 + MAX_BYTES == 5120);
+    assert!(5120 + MAX_RUNS * 8 == 7168 && 7168 + MAX_FIGURES * 16 == 8800 && 8800 + MAX_CUTS * 32 == 9824);
+};
 
 extern "C" {
     pub fn vb_version() -> u32;
     pub fn vb_save(device: *const Device, held: u32, out: *mut u8, room: usize) -> u32;
     pub fn vb_restore(device: *mut Device, held: *mut u32, bytes: *const u8, length: usize) -> u32;
-    pub fn vb_new(device: *mut Device, settings: Settings) -> u32;
     pub fn vb_set_target(device: *mut Device, pages: u32);
-    pub fn vb_write_status(device: *mut Device, status: u8) -> u32;
     pub fn vb_negotiate(device: *mut Device, features: u64) -> u32;
     pub fn vb_kind(device: *const Device, number: u32) -> u32;
-    pub fn vb_place(device: *mut Device, kind: u32, table: u64, avail: u64, used: u64, size: u16) -> u32;
     pub fn vb_read_config(device: *const Device, offset: u32, out: *mut u8, length: usize);
     pub fn vb_write_config(device: *mut Device, offset: u32, bytes: *const u8, length: usize) -> u32;
-    pub fn vb_next(
-        device: *mut Device,
+    pub fn vb_is_ballooned(set: *const u64, words: usize, page: u32) -> u32;
+    pub fn vb_count_ballooned(set: *const u64, words: usize) -> u64;
+    pub fn vb_new_over(balloon: *mut Balloon, settings: Settings, regions: *const Region, count: usize) -> u32;
+    pub fn vb_set_regions(balloon: *mut Balloon, regions: *const Region, count: usize) -> u32;
+    pub fn vb_set_status(balloon: *mut Balloon, status: u8, then: *mut u32) -> u32;
+    pub fn vb_may_tell(device: *const Device) -> u32;
+    pub fn vb_place_over(
+        balloon: *mut Balloon,
+        regions: *const Region,
+        count: usize,
         kind: u32,
-        avail: *const u8,
-        avail_length: usize,
-        table: *const u8,
-        table_length: usize,
-        pieces: *mut Piece,
-        room: usize,
-    ) -> Chain;
-    pub fn vb_name(
-        device: *mut Device,
-        kind: u32,
+        table: u64,
+        avail: u64,
+        used: u64,
+        size: u16,
+    ) -> u32;
+    pub fn vb_restore_over(
+        balloon: *mut Balloon,
+        regions: *const Region,
+        count: usize,
         bytes: *const u8,
         length: usize,
-        runs: *mut Run,
-        room: usize,
-    ) -> Named;
-    pub fn vb_report(
-        device: *mut Device,
-        avail: *const u8,
-        avail_length: usize,
-        table: *const u8,
-        table_length: usize,
-        runs: *mut Run,
-        room: usize,
-    ) -> Named;
-    pub fn vb_statistics(
-        device: *mut Device,
-        bytes: *const u8,
-        length: usize,
-        figures: *mut Statistic,
-        room: usize,
-    ) -> Figures;
-    pub fn vb_use(device: *mut Device, kind: u32, head: u32) -> Used;
+    ) -> u32;
+    fn vb_mark(kind: u32, runs: *const Run, count: usize, set: *mut u64, words: usize) -> Marked;
+    fn vb_begin(
+        notice: *mut Notice,
+        balloon: *mut Balloon,
+        regions: *const Region,
+        count: usize,
+        room: *mut Room,
+        kind: u32,
+        chains: u32,
+        pages: u32,
+    ) -> u32;
+    fn vb_ask(
+        notice: *mut Notice,
+        balloon: *mut Balloon,
+        regions: *const Region,
+        count: usize,
+        room: *mut Room,
+    ) -> u32;
+    fn vb_go_on(
+        notice: *mut Notice,
+        balloon: *mut Balloon,
+        regions: *const Region,
+        count: usize,
+        room: *mut Room,
+        answer: u16,
+    ) -> u32;
+}
+
+/// Puts the pages of runs into a set, or takes them out.
+pub fn mark(kind: u32, runs: &[Run], set: &mut [u64]) -> Marked {
+    // SAFETY: the pointers are of slices with their lengths.
+    unsafe { vb_mark(kind, runs.as_ptr(), runs.len(), set.as_mut_ptr(), set.len()) }
+}
+
+/// Begins a look at a queue, for so many chains and pages at most.
+pub fn begin(
+    notice: &mut Notice,
+    balloon: &mut Balloon,
+    regions: &[Region],
+    room: &mut Room,
+    kind: u32,
+    budget: (u32, u32),
+) {
+    // SAFETY: the pointers are of `&mut`, and of a slice with its length.
+    unsafe { vb_begin(notice, balloon, regions.as_ptr(), regions.len(), room, kind, budget.0, budget.1) };
+}
+
+/// Begins to give the held buffer of statistics back.
+pub fn ask(notice: &mut Notice, balloon: &mut Balloon, regions: &[Region], room: &mut Room) {
+    // SAFETY: the pointers are of `&mut`, and of a slice with its length.
+    unsafe { vb_ask(notice, balloon, regions.as_ptr(), regions.len(), room) };
+}
+
+/// Says what is to be done next.
+pub fn go_on(notice: &mut Notice, balloon: &mut Balloon, regions: &[Region], room: &mut Room, answer: u16) {
+    // SAFETY: the pointers are of `&mut`, and of a slice with its length.
+    unsafe { vb_go_on(notice, balloon, regions.as_ptr(), regions.len(), room, answer) };
 }

@@ -5,11 +5,11 @@ use std::io;
 use std::rc::Rc;
 use std::sync::atomic::Ordering;
 use std::sync::Arc;
-use vb_balloon::{features, Balloon, Kind, Monitor, Run, Settings};
+use vb_balloon::{features, Balloon, Cut, Kind, LiveMemory, Monitor, Region, Run, Settings, Spot, Unreachable};
 use vm_memory::guest_memory::{GuestMemoryIterator, Result as Answer};
 use vm_memory::{
     AtomicAccess, Bytes, FileOffset, GuestAddress, GuestMemory, GuestMemoryMmap, GuestMemoryRegion,
-    GuestRegionMmap, GuestUsize, MemoryRegionAddress,
+    GuestRegionMmap, GuestUsize, MemoryRegionAddress, VolatileSlice,
 };
 
 const TABLE: u64 = 0x10000;
@@ -25,6 +25,7 @@ enum Access {
     Load(u64),
     Read(u64, usize),
     Store(u64, Vec<u8>),
+    Fence(Ordering),
     Told(Kind, Vec<(u32, u32)>),
     Figures(usize),
     Discard(u64, u64),
@@ -112,6 +113,11 @@ impl GuestMemoryRegion for Watched {
     fn file_offset(&self) -> Option<&FileOffset> {
         self.region.file_offset()
     }
+
+    fn get_slice(&self, at: MemoryRegionAddress, count: usize) -> Answer<VolatileSlice<'_, ()>> {
+        self.note(|address| Access::Read(address, count), at);
+        self.region.get_slice(at, count)
+    }
 }
 
 /// Two regions with a hole between them, from 0 to 2 MiB and from 4 MiB to 6 MiB.
@@ -142,6 +148,39 @@ impl GuestMemory for Memory {
     }
 }
 
+/// The same memory, of which the fences are written down, too.
+struct Fenced<'a>(&'a Memory, Log);
+
+impl LiveMemory for Fenced<'_> {
+    fn regions(&self, out: &mut Vec<Region>) {
+        self.0.regions(out);
+    }
+
+    fn word(&self, at: Spot) -> Result<u16, Unreachable> {
+        self.0.word(at)
+    }
+
+    fn copy(&self, at: Spot, to: &mut [u8]) -> Result<(), Unreachable> {
+        self.0.copy(at, to)
+    }
+
+    fn write_number(&self, at: Spot, number: u32) -> Result<(), Unreachable> {
+        self.0.write_number(at, number)
+    }
+
+    fn write_word(&self, at: Spot, word: u16) -> Result<(), Unreachable> {
+        self.0.write_word(at, word)
+    }
+
+    fn fence(&self, order: Ordering) {
+        self.1.borrow_mut().push(Access::Fence(order));
+    }
+
+    fn discard(&self, cut: &Cut) -> io::Result<()> {
+        self.0.discard(cut)
+    }
+}
+
 /// A monitor that writes down what it is told, and what it is to discard.
 struct Noting(Log);
 
@@ -155,8 +194,10 @@ impl Monitor for Noting {
         self.0.borrow_mut().push(Access::Figures(figures.len()));
     }
 
-    fn discard<R: GuestMemoryRegion>(&mut self, region: &R, at: u64, length: u64) -> io::Result<()> {
-        self.0.borrow_mut().push(Access::Discard(region.start_addr().0 + at, length));
+    fn discard(&mut self, memory: &dyn LiveMemory, cut: &Cut) -> io::Result<()> {
+        let mut regions = Vec::new();
+        memory.regions(&mut regions);
+        self.0.borrow_mut().push(Access::Discard(regions[cut.region].guest + cut.offset, cut.length));
         Ok(())
     }
 }
@@ -219,43 +260,38 @@ impl Guest {
     /// What a notice of the kind's queue does.
     fn notified(&mut self, kind: Kind) -> Vec<Access> {
         let mut monitor = Noting(self.log.clone());
-        let served = self.balloon.notify(&self.memory, kind, &mut monitor);
+        let memory = Fenced(&self.memory, self.log.clone());
+        let served = self.balloon.notify(&memory, kind, &mut monitor);
         assert_eq!(served.chains, 1, "{:?}", served);
         let accesses = self.log.borrow().clone();
         accesses
     }
 }
 
-/// The index, the flags, the entries and the table, in this order.
-fn ring(kind: Kind) -> Vec<Access> {
+/// The index, behind a fence the entry, and each descriptor of a chain, in this order.
+fn taken(kind: Kind, descriptors: u64) -> Vec<Access> {
     let at = |part| place(kind, part);
-    vec![
-        Access::Load(at(AVAIL) + 2),
-        Access::Load(at(AVAIL)),
-        Access::Read(at(AVAIL) + 4, 2 * SIZE as usize),
-        Access::Read(at(TABLE), 16 * SIZE as usize),
-    ]
+    let mut accesses =
+        vec![Access::Load(at(AVAIL) + 2), Access::Fence(Ordering::Acquire), Access::Load(at(AVAIL) + 4)];
+    accesses.extend((0..descriptors).map(|number| Access::Read(at(TABLE) + 16 * number, 16)));
+    accesses
 }
 
-/// The used element's two words, its index, a look at the available index, and the driver's flags.
+/// The used element's two words, and behind a fence its index.
 fn given_back(kind: Kind) -> Vec<Access> {
     let at = |part| place(kind, part);
     vec![
         Access::Store(at(USED) + 4, vec![0; 4]),
         Access::Store(at(USED) + 8, vec![0; 4]),
+        Access::Fence(Ordering::Release),
         Access::Store(at(USED) + 2, vec![1, 0]),
-        Access::Load(at(AVAIL) + 2),
-        Access::Load(at(AVAIL)),
     ]
 }
 
-/// Accesses without the looks at whether more stands there, which are harmless anywhere behind the used index.
-fn without_looks(mut accesses: Vec<Access>, kind: Kind) -> Vec<Access> {
-    let index = Access::Load(place(kind, AVAIL) + 2);
-    let used = accesses.iter().rposition(|it| matches!(it, Access::Store(..))).unwrap_or(0);
-    let tail: Vec<_> = accesses.split_off(used).into_iter().filter(|it| *it != index).collect();
-    accesses.extend(tail);
-    accesses
+/// A look whether more stands there, and behind a fence the driver's flags.
+fn ended(kind: Kind) -> Vec<Access> {
+    let flags = Access::Load(place(kind, AVAIL));
+    vec![Access::Load(place(kind, AVAIL) + 2), Access::Fence(Ordering::SeqCst), flags]
 }
 
 fn words(pages: &[u32]) -> Vec<u8> {
@@ -264,21 +300,21 @@ fn words(pages: &[u32]) -> Vec<u8> {
 
 /// Two pieces, whose pages lie in both regions, in a row and alone; one lies in the hole.
 #[test]
-fn an_inflate_is_read_once_discarded_told_and_given_back() {
+fn an_inflate_is_read_once_told_discarded_and_given_back() {
     let mut guest = Guest::new();
     guest.put(BUFFER, &words(&[300, 301, 1030]));
     guest.put(BUFFER + 0x100, &words(&[700, 1029]));
     guest.publish(Kind::Inflate, &[(BUFFER, 12, 1), (BUFFER + 0x100, 8, 0)]);
     let told = vec![(300, 2), (1030, 1), (700, 1), (1029, 1)];
-    let mut expected = ring(Kind::Inflate);
+    let mut expected = taken(Kind::Inflate, 2);
     expected.extend([Access::Read(BUFFER, 12), Access::Read(BUFFER + 0x100, 8)]);
+    expected.push(Access::Told(Kind::Inflate, told));
     for (page, length) in [(300, 8192), (1030, 4096), (1029, 4096)] {
         expected.push(Access::Discard(page * 4096, length));
     }
-    expected.push(Access::Told(Kind::Inflate, told));
     expected.extend(given_back(Kind::Inflate));
-    let accesses = without_looks(guest.notified(Kind::Inflate), Kind::Inflate);
-    assert_eq!(accesses, without_looks(expected, Kind::Inflate));
+    expected.extend(ended(Kind::Inflate));
+    assert_eq!(guest.notified(Kind::Inflate), expected);
 }
 
 #[test]
@@ -286,23 +322,23 @@ fn a_deflate_discards_nothing() {
     let mut guest = Guest::new();
     guest.put(BUFFER, &words(&[300]));
     guest.publish(Kind::Deflate, &[(BUFFER, 4, 0)]);
-    let mut expected = ring(Kind::Deflate);
+    let mut expected = taken(Kind::Deflate, 1);
     expected.extend([Access::Read(BUFFER, 4), Access::Told(Kind::Deflate, vec![(300, 1)])]);
     expected.extend(given_back(Kind::Deflate));
-    let accesses = without_looks(guest.notified(Kind::Deflate), Kind::Deflate);
-    assert_eq!(accesses, without_looks(expected, Kind::Deflate));
+    expected.extend(ended(Kind::Deflate));
+    assert_eq!(guest.notified(Kind::Deflate), expected);
 }
 
 #[test]
-fn a_report_is_discarded_and_told_before_it_is_given_back() {
+fn a_report_is_told_and_discarded_before_it_is_given_back() {
     let mut guest = Guest::new();
     guest.publish(Kind::Report, &[(400 * 4096, 8192, 3), (1040 * 4096, 4096, 2)]);
-    let mut expected = ring(Kind::Report);
-    expected.extend([Access::Discard(400 * 4096, 8192), Access::Discard(1040 * 4096, 4096)]);
+    let mut expected = taken(Kind::Report, 2);
     expected.push(Access::Told(Kind::Report, vec![(400, 2), (1040, 1)]));
+    expected.extend([Access::Discard(400 * 4096, 8192), Access::Discard(1040 * 4096, 4096)]);
     expected.extend(given_back(Kind::Report));
-    let accesses = without_looks(guest.notified(Kind::Report), Kind::Report);
-    assert_eq!(accesses, without_looks(expected, Kind::Report));
+    expected.extend(ended(Kind::Report));
+    assert_eq!(guest.notified(Kind::Report), expected);
 }
 
 #[test]
@@ -310,13 +346,12 @@ fn statistics_are_read_once_and_kept() {
     let mut guest = Guest::new();
     guest.put(BUFFER, &[4, 0, 1, 0, 0, 0, 0, 0, 0, 0]);
     guest.publish(Kind::Statistics, &[(BUFFER, 10, 0)]);
-    let mut expected = ring(Kind::Statistics);
+    let mut expected = taken(Kind::Statistics, 1);
     expected.extend([Access::Read(BUFFER, 10), Access::Figures(1)]);
-    // And a look whether more stands there.
-    expected.push(Access::Load(place(Kind::Statistics, AVAIL) + 2));
     assert_eq!(guest.notified(Kind::Statistics), expected);
     guest.log.borrow_mut().clear();
-    guest.balloon.ask_statistics(&guest.memory);
-    let asked = without_looks(guest.log.borrow().clone(), Kind::Statistics);
-    assert_eq!(asked, without_looks(given_back(Kind::Statistics), Kind::Statistics));
+    guest.balloon.ask_statistics(&Fenced(&guest.memory, guest.log.clone()));
+    let mut expected = given_back(Kind::Statistics);
+    expected.extend([Access::Fence(Ordering::SeqCst), Access::Load(place(Kind::Statistics, AVAIL))]);
+    assert_eq!(*guest.log.borrow(), expected);
 }

@@ -2,8 +2,8 @@
 
 use std::fs::File;
 use std::os::unix::io::{AsRawFd, FromRawFd};
-use vb_balloon::discard_bytes;
-use vm_memory::{Bytes, FileOffset, GuestAddress, GuestMemory, GuestMemoryMmap};
+use vb_balloon::{Cut, LiveMemory};
+use vm_memory::{Bytes, FileOffset, GuestAddress, GuestMemoryMmap};
 
 const PAGE: u64 = 4096;
 
@@ -34,10 +34,13 @@ fn a_hole_is_punched_where_the_region_begins_in_its_file() {
     let all: GuestMemoryMmap = GuestMemoryMmap::from_ranges_with_files([whole]).expect("memory");
     all.write_slice(&vec![7; 64 * PAGE as usize], GuestAddress(0)).expect("memory");
     assert_eq!(holes(&file, 64), [0u64; 0]);
-    let region = memory.iter().next().expect("a region");
-    discard_bytes(region, 5 * PAGE, 2 * PAGE).expect("a hole");
+    let mut regions = Vec::new();
+    memory.regions(&mut regions);
+    assert_eq!((regions[0].guest, regions[0].length, regions[0].in_file), (1 << 20, 32 * PAGE, 16 * PAGE));
+    let cut = Cut { region: 0, offset: 5 * PAGE, in_file: 21 * PAGE, length: 2 * PAGE };
+    memory.discard(&cut).expect("a hole");
     assert_eq!(holes(&file, 64), [21u64, 22]);
-    discard_bytes(region, 31 * PAGE, 2 * PAGE).expect_err("it ends behind the region");
-    discard_bytes(region, 0, PAGE + 1).expect_err("no whole page");
-    assert_eq!(holes(&file, 64), [21u64, 22]);
+    memory.discard(&Cut { region: 1, ..cut }).expect_err("there is no such region");
+    let refused = memory.discard(&Cut { length: 0, ..cut }).expect_err("no byte");
+    assert_eq!(refused.raw_os_error(), Some(libc::EINVAL));
 }

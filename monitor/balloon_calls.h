@@ -1,0 +1,212 @@
+/* What a monitor calls, a part of balloon.h. Nothing here touches guest memory.
+ *
+ * A monitor calls balloon_init once, hands each of its driver's accesses to the function of that name, and does what a result
+ * says. One call at a time on a balloon; guests may write to their memory during any call. */
+#ifndef BALLOON_CALLS_H
+#define BALLOON_CALLS_H
+
+/* Discards bytes of a region as the balloon does without a hook: whole pages that begin `at` bytes into it. 0 or an errno. */
+static inline int balloon_discard_bytes(const struct balloon_region *region, uint64_t at, uint64_t length)
+{
+    const VbCut cut = { 0, at, region->offset + at, length };
+    return balloon_drop(region, &cut);
+}
+
+/* A result that says nothing but this. */
+static inline struct balloon_result balloon_result_of(uint32_t code)
+{
+    struct balloon_result result;
+    memset(&result, 0, sizeof result);
+    result.code = code;
+    return result;
+}
+
+/* ---- notices */
+
+/* Obeys a notice that has begun; what it came to. */
+static inline struct balloon_result balloon_finish(struct balloon *balloon)
+{
+    const VbNotice *notice = &balloon->notice;
+    struct balloon_result result = balloon_result_of(VB_NOTHING);
+    balloon_obey(balloon, &result);
+    result.code = notice->code;
+    result.rule = notice->rule;
+    result.interrupts = notice->interrupt << (notice->kind & 3);
+    result.configuration = notice->configuration != 0;
+    result.more = notice->more != 0;
+    result.in_holes = notice->kind == VB_DEFLATE ? 0 : result.pages - result.discarded - result.kept;
+    return result;
+}
+
+/* The driver kicked the queue of this kind: serves what stands there, at most as much as a notice may. */
+static inline struct balloon_result balloon_notify(struct balloon *balloon, uint32_t kind)
+{
+    vb_begin(&balloon->notice, &balloon->state, balloon->places, balloon->region_count, &balloon->room, kind,
+             balloon->most_chains, balloon->most_pages);
+    return balloon_finish(balloon);
+}
+
+/* The driver kicked the queue of this number, as the negotiated features number them. */
+static inline struct balloon_result balloon_notify_number(struct balloon *balloon, uint32_t number)
+{
+    return balloon_notify(balloon, vb_kind(&balloon->state.device, number));
+}
+
+/* Asks for new statistics, by giving the buffer back (VIRTIO 1.1, 5.5.6.3): on_statistics comes at a later notice.
+ * VB_NOTHING: the driver has the buffer. */
+static inline struct balloon_result balloon_ask_statistics(struct balloon *balloon)
+{
+    vb_ask(&balloon->notice, &balloon->state, balloon->places, balloon->region_count, &balloon->room);
+    return balloon_finish(balloon);
+}
+
+/* Adds what one queue's result says to that of all. */
+static inline void balloon_add_result(struct balloon_result *all, const struct balloon_result *one)
+{
+    if (one->code == VB_BROKEN || (one->code == VB_OK && all->code == VB_NOTHING))
+        all->code = one->code;
+    if (one->code == VB_BROKEN)
+        all->rule = one->rule;
+    all->chains += one->chains;
+    all->interrupts |= one->interrupts;
+    all->configuration |= one->configuration;
+    all->more |= one->more;
+    all->pages += one->pages;
+    all->discarded += one->discarded;
+    all->skipped += one->skipped;
+    all->marked += one->marked;
+    all->unmarked += one->unmarked;
+    all->in_holes += one->in_holes;
+    all->kept += one->kept;
+    all->error = one->error ? one->error : all->error;
+}
+
+/* Looks at every queue once; one that the driver doesn't use is passed by. */
+static inline struct balloon_result balloon_notify_all(struct balloon *balloon)
+{
+    struct balloon_result all = balloon_result_of(VB_NOTHING);
+    for (uint32_t kind = VB_INFLATE; kind < VB_NO_KIND; kind++) {
+        struct balloon_result one = balloon_notify(balloon, kind);
+        balloon_add_result(&all, &one);
+    }
+    return all;
+}
+
+/* ---- memory */
+
+/* Puts regions as the library sees them into `places`; false where there are too many. */
+static inline bool balloon_places(VbRegion *places, const struct balloon_region *regions, size_t count)
+{
+    for (size_t i = 0; count <= BALLOON_MOST_REGIONS && i < count; i++) {
+        places[i].guest = regions[i].guest;
+        places[i].length = regions[i].length;
+        places[i].in_file = regions[i].fd < 0 ? 0 : regions[i].offset;
+    }
+    return count <= BALLOON_MOST_REGIONS;
+}
+
+/* Makes a balloon that waits for its driver. Where settings.memory_end is 0, memory ends with the last region.
+ * VB_OK; or VB_BAD_ARGUMENT, as vb_new_over, or for more than BALLOON_MOST_REGIONS regions. */
+static inline uint32_t balloon_init(struct balloon *balloon, const struct balloon_region *regions, size_t count,
+                                    VbSettings settings)
+{
+    memset(balloon, 0, sizeof *balloon);
+    if (!balloon_places(balloon->places, regions, count))
+        return VB_BAD_ARGUMENT;
+    balloon->regions = regions;
+    balloon->region_count = count;
+    balloon->most_chains = VB_MAX_QUEUE_SIZE;
+    balloon->most_pages = UINT32_MAX;
+    return vb_new_over(&balloon->state, settings, balloon->places, count);
+}
+
+/* These regions are guest memory from now on, and it ends where the last one does. VB_OK, or VB_BAD_ARGUMENT where
+ * no device has such memory; then nothing is changed. A driver whose rings lay elsewhere has to reset the device. */
+static inline uint32_t balloon_set_regions(struct balloon *balloon, const struct balloon_region *regions, size_t count)
+{
+    VbRegion places[BALLOON_MOST_REGIONS];
+    memset(places, 0, sizeof places);
+    if (!balloon_places(places, regions, count) || vb_set_regions(&balloon->state, places, count) != VB_OK)
+        return VB_BAD_ARGUMENT;
+    memcpy(balloon->places, places, sizeof places);
+    balloon->regions = regions;
+    balloon->region_count = count;
+    return VB_OK;
+}
+
+/* ---- the driver's accesses */
+
+/* The driver writes its features: 0, or why they are refused (vb_negotiate). */
+static inline uint32_t balloon_negotiate(struct balloon *balloon, uint64_t features)
+{
+    return vb_negotiate(&balloon->state.device, features);
+}
+
+/* The driver gives a queue its place: as vb_place, and VB_MISPLACED where a part lies in a hole. */
+static inline uint32_t balloon_place(struct balloon *balloon, uint32_t kind, uint64_t table, uint64_t avail,
+                                     uint64_t used, uint16_t size)
+{
+    return vb_place_over(&balloon->state, balloon->places, balloon->region_count, kind, table, avail, used, size);
+}
+
+/* The driver writes the status: 0, or why it is refused (vb_write_status). At DRIVER_OK each queue is looked at, as
+ * Linux fills its statistics buffer before and kicks it once; `result` says what that came to. */
+static inline uint32_t balloon_write_status(struct balloon *balloon, uint8_t status, struct balloon_result *result)
+{
+    uint32_t then, answer = vb_set_status(&balloon->state, status, &then);
+    if (then & VB_EMPTY && balloon->ballooned)
+        memset(balloon->ballooned, 0, balloon->ballooned_words * sizeof *balloon->ballooned);
+    *result = then & VB_LOOK ? balloon_notify_all(balloon) : balloon_result_of(VB_NOTHING);
+    return answer;
+}
+
+/* The driver reads its configuration space. */
+static inline void balloon_read_config(const struct balloon *balloon, uint32_t offset, uint8_t *out, size_t length)
+{
+    vb_read_config(&balloon->state.device, offset, out, length);
+}
+
+/* The driver writes its configuration space: VB_OK, or VB_BAD_ARGUMENT and nothing is changed. */
+static inline uint32_t balloon_write_config(struct balloon *balloon, uint32_t offset, const uint8_t *bytes, size_t length)
+{
+    return vb_write_config(&balloon->state.device, offset, bytes, length);
+}
+
+/* ---- the host's wishes */
+
+/* The host wants so many pages in the balloon: tell the driver of a change of configuration then. */
+static inline void balloon_set_target(struct balloon *balloon, uint32_t pages)
+{
+    vb_set_target(&balloon->state.device, pages);
+}
+
+/* Whether the driver has another number of pages in its balloon than the host wants. Linux may have missed the
+ * notice, or have given pages back as its memory ran out: tell of a change of configuration again then, seldom. */
+static inline bool balloon_is_off_target(const struct balloon *balloon)
+{
+    return balloon->state.device.actual != balloon->state.device.target;
+}
+
+/* Whether the driver may be told of a change of configuration: it reads its configuration as it starts. */
+static inline bool balloon_may_tell(const struct balloon *balloon)
+{
+    return vb_may_tell(&balloon->state.device) != 0;
+}
+
+/* ---- saving */
+
+/* Puts all that the device is into `out`, as VB_STATE_BYTES bytes: as vb_save. The set of ballooned pages is the
+ * monitor's, and saved beside it. */
+static inline uint32_t balloon_save(const struct balloon *balloon, uint8_t *out, size_t room)
+{
+    return vb_save(&balloon->state.device, balloon->state.held, out, room);
+}
+
+/* Goes on where the balloon stood that was saved as these bytes, over regions that balloon_init was told of. VB_OK, as
+ * vb_restore, or VB_MISPLACED where memory ends elsewhere than it did, or a queue's part lies in a hole. Then nothing is
+ * changed. */
+static inline uint32_t balloon_restore(struct balloon *balloon, const uint8_t *bytes, size_t length)
+{
+    return vb_restore_over(&balloon->state, balloon->places, balloon->region_count, bytes, length);
+}
+#endif

@@ -1,0 +1,317 @@
+//! The calls of balloon.h by the Rust crate, so that its tests in C run over both. Not for a monitor: each call makes a
+//! balloon of the state in the struct, which is all that a device is, and puts the state back.
+//!
+//! Each call requires what balloon.h says of its pointers.
+#![allow(clippy::missing_safety_doc)]
+
+mod memory;
+
+use memory::Memory;
+use std::io;
+use std::os::raw::{c_int, c_void};
+use vb_balloon::{Balloon, Cut, Denied, Kind, LiveMemory, Monitor, Refusal, Run, Served, Settings, State, StateError, Statistic};
+
+const OK: u32 = 0;
+const NOTHING: u32 = 1;
+const NO_QUEUE: u32 = 5;
+const BAD_LENGTH: u32 = 9;
+const MOST_REGIONS: usize = 64;
+
+type OnPages = unsafe extern "C" fn(*mut c_void, u32, *const Run, u32);
+type OnStatistics = unsafe extern "C" fn(*mut c_void, *const Statistic, u32);
+type OnDiscard = unsafe extern "C" fn(*mut c_void, *const Mapped, u64, u64) -> c_int;
+
+/// `struct balloon_region`.
+#[repr(C)]
+#[derive(Clone, Copy)]
+pub struct Mapped {
+    guest: u64,
+    length: u64,
+    host: *mut u8,
+    fd: c_int,
+    offset: u64,
+}
+
+/// `struct balloon`, without what is balloon.h's alone at its end.
+#[repr(C)]
+pub struct Struct {
+    state: State,
+    regions: *const Mapped,
+    region_count: usize,
+    places: [vb_balloon::Region; MOST_REGIONS],
+    most_chains: u32,
+    most_pages: u32,
+    context: *mut c_void,
+    on_pages: Option<OnPages>,
+    on_statistics: Option<OnStatistics>,
+    discard: Option<OnDiscard>,
+    ballooned: *mut u64,
+    ballooned_words: usize,
+}
+
+/// `VbSettings`.
+#[repr(C)]
+pub struct VbSettings {
+    memory_end: u64,
+    offered: u64,
+    reserved_pages: u32,
+    needs_must_tell: u8,
+    skips_bad_pages: u8,
+}
+
+/// `struct balloon_result`.
+#[repr(C)]
+pub struct Outcome {
+    code: u32,
+    rule: u32,
+    chains: u32,
+    interrupts: u32,
+    configuration: bool,
+    more: bool,
+    pages: u64,
+    discarded: u64,
+    skipped: u64,
+    marked: u64,
+    unmarked: u64,
+    in_holes: u64,
+    kept: u64,
+    error: c_int,
+}
+
+/// The code and the rule of a refusal.
+fn codes(why: Refusal) -> (u32, u32) {
+    match why {
+        Refusal::Broken(rule) => (2, rule),
+        Refusal::NotReady => (3, 0),
+        Refusal::NeedsReset => (4, 0),
+        Refusal::NoQueue => (NO_QUEUE, 0),
+        Refusal::Misplaced => (6, 0),
+        Refusal::BadArgument => (7, 0),
+        Refusal::Unreachable => (u32::MAX, 0),
+    }
+}
+
+fn code_of(answer: Result<(), Refusal>) -> u32 {
+    answer.map_or_else(|why| codes(why).0, |()| OK)
+}
+
+fn state_code(why: StateError) -> u32 {
+    match why {
+        StateError::BadLength => BAD_LENGTH,
+        StateError::NotAState => 10,
+        StateError::OtherVersion => 11,
+        StateError::BadSum => 12,
+        StateError::Impossible => 13,
+        StateError::Misplaced => 6,
+    }
+}
+
+impl Outcome {
+    fn of(served: &Served) -> Outcome {
+        let served_code = if served.chains > 0 { OK } else { NOTHING };
+        let (code, rule) = served.stopped.map_or((served_code, 0), codes);
+        Outcome {
+            code,
+            rule,
+            chains: served.chains,
+            interrupts: served.interrupts,
+            configuration: served.configuration,
+            more: served.more,
+            pages: served.pages,
+            discarded: served.discarded,
+            skipped: served.skipped,
+            marked: served.marked,
+            unmarked: served.unmarked,
+            in_holes: served.in_holes,
+            kept: served.kept,
+            error: served.error.unwrap_or(0),
+        }
+    }
+}
+
+/// The hooks of the struct.
+struct Hooks<'a>(&'a Struct, &'a Memory);
+
+impl Monitor for Hooks<'_> {
+    fn pages(&mut self, kind: Kind, runs: &[Run]) {
+        if let Some(tell) = self.0.on_pages {
+            // SAFETY: the pointer is of a slice with its length.
+            unsafe { tell(self.0.context, kind as u32, runs.as_ptr(), runs.len() as u32) }
+        }
+    }
+
+    fn statistics(&mut self, figures: &[Statistic]) {
+        if let Some(tell) = self.0.on_statistics {
+            // SAFETY: the pointer is of a slice with its length.
+            unsafe { tell(self.0.context, figures.as_ptr(), figures.len() as u32) }
+        }
+    }
+
+    fn discard(&mut self, memory: &dyn LiveMemory, cut: &Cut) -> io::Result<()> {
+        match self.0.discard {
+            None if self.1.is_shared(cut.region) => self.1.remove(cut),
+            None => memory.discard(cut),
+            // SAFETY: the pointer is of a region of the struct.
+            Some(discard) => match unsafe { discard(self.0.context, self.1.mapped(cut.region), cut.offset, cut.length) } {
+                0 => Ok(()),
+                error => Err(io::Error::from_raw_os_error(error)),
+            },
+        }
+    }
+}
+
+impl Struct {
+    /// A balloon of this state, with its set of ballooned pages.
+    unsafe fn balloon(&self) -> Balloon {
+        let mut balloon = Balloon::restore(self.state);
+        balloon.most_chains = self.most_chains;
+        balloon.most_pages = self.most_pages;
+        if !self.ballooned.is_null() {
+            balloon.ballooned = std::slice::from_raw_parts(self.ballooned, self.ballooned_words).to_vec();
+        }
+        balloon
+    }
+
+    unsafe fn put_back(&mut self, balloon: &Balloon) {
+        self.state = balloon.state();
+        if !self.ballooned.is_null() {
+            balloon.ballooned.as_ptr().copy_to(self.ballooned, self.ballooned_words);
+        }
+    }
+
+    unsafe fn memory(&self) -> Memory {
+        Memory::new(self.regions, self.region_count)
+    }
+
+    /// Lets a balloon of this state do something over its memory.
+    unsafe fn run<R>(&mut self, call: impl FnOnce(&mut Balloon, &Memory, &mut dyn Monitor) -> R) -> R {
+        let (mut balloon, memory) = (self.balloon(), self.memory());
+        let answer = call(&mut balloon, &memory, &mut Hooks(self, &memory));
+        self.put_back(&balloon);
+        answer
+    }
+}
+
+#[no_mangle]
+pub unsafe extern "C" fn balloon_init(it: &mut Struct, regions: *const Mapped, count: usize, settings: VbSettings) -> u32 {
+    std::ptr::write_bytes(it, 0, 1);
+    it.most_chains = 256;
+    it.most_pages = u32::MAX;
+    it.regions = regions;
+    it.region_count = count;
+    let settings = Settings {
+        memory_end: settings.memory_end,
+        offered: settings.offered,
+        reserved_pages: settings.reserved_pages,
+        needs_must_tell: settings.needs_must_tell != 0,
+        skips_bad_pages: settings.skips_bad_pages != 0,
+    };
+    match Balloon::new(&Memory::new(regions, count), settings) {
+        Err(why) => codes(why).0,
+        Ok(balloon) => {
+            it.put_back(&balloon);
+            OK
+        }
+    }
+}
+
+#[no_mangle]
+pub unsafe extern "C" fn balloon_set_regions(it: &mut Struct, regions: *const Mapped, count: usize) -> u32 {
+    let mut balloon = it.balloon();
+    let answer = balloon.set_memory(&Memory::new(regions, count));
+    if answer.is_ok() {
+        it.put_back(&balloon);
+        it.regions = regions;
+        it.region_count = count;
+    }
+    code_of(answer)
+}
+
+#[no_mangle]
+pub unsafe extern "C" fn balloon_negotiate(it: &mut Struct, features: u64) -> u32 {
+    it.run(|balloon, _, _| balloon.negotiate(features).map_or_else(|why| why.0, |()| 0))
+}
+
+#[no_mangle]
+pub unsafe extern "C" fn balloon_place(it: &mut Struct, kind: u32, table: u64, avail: u64, used: u64, size: u16) -> u32 {
+    match Kind::ALL.get(kind as usize) {
+        None => NO_QUEUE,
+        Some(&kind) => it.run(|balloon, memory, _| code_of(balloon.place(memory, kind, table, avail, used, size))),
+    }
+}
+
+#[no_mangle]
+pub unsafe extern "C" fn balloon_write_status(it: &mut Struct, status: u8, result: &mut Outcome) -> u32 {
+    let answer = it.run(|balloon, memory, monitor| balloon.write_status(memory, status, monitor));
+    *result = Outcome::of(answer.as_ref().unwrap_or(&Served::default()));
+    answer.map_or_else(|Denied(why)| why, |_| 0)
+}
+
+#[no_mangle]
+pub unsafe extern "C" fn balloon_notify(it: &mut Struct, kind: u32) -> Outcome {
+    let served = match Kind::ALL.get(kind as usize) {
+        None => Served { stopped: Some(Refusal::NoQueue), ..Served::default() },
+        Some(&kind) => it.run(|balloon, memory, monitor| balloon.notify(memory, kind, monitor)),
+    };
+    Outcome::of(&served)
+}
+
+#[no_mangle]
+pub unsafe extern "C" fn balloon_notify_number(it: &mut Struct, number: u32) -> Outcome {
+    let kind = it.balloon().kind(number);
+    balloon_notify(it, kind.map_or(u32::MAX, |kind| kind as u32))
+}
+
+#[no_mangle]
+pub unsafe extern "C" fn balloon_ask_statistics(it: &mut Struct) -> Outcome {
+    Outcome::of(&it.run(|balloon, memory, _| balloon.ask_statistics(memory)))
+}
+
+#[no_mangle]
+pub unsafe extern "C" fn balloon_read_config(it: &Struct, offset: u32, out: *mut u8, length: usize) {
+    it.balloon().read_config(offset, std::slice::from_raw_parts_mut(out, length));
+}
+
+#[no_mangle]
+pub unsafe extern "C" fn balloon_write_config(it: &mut Struct, offset: u32, bytes: *const u8, length: usize) -> u32 {
+    let bytes = std::slice::from_raw_parts(bytes, length);
+    it.run(|balloon, _, _| code_of(balloon.write_config(offset, bytes)))
+}
+
+#[no_mangle]
+pub unsafe extern "C" fn balloon_set_target(it: &mut Struct, pages: u32) {
+    it.run(|balloon, _, _| balloon.set_target(pages));
+}
+
+#[no_mangle]
+pub unsafe extern "C" fn balloon_is_off_target(it: &Struct) -> bool {
+    it.balloon().is_off_target()
+}
+
+#[no_mangle]
+pub unsafe extern "C" fn balloon_may_tell(it: &Struct) -> bool {
+    it.balloon().may_tell()
+}
+
+#[no_mangle]
+pub unsafe extern "C" fn balloon_save(it: &Struct, out: *mut u8, room: usize) -> u32 {
+    match it.state.to_bytes() {
+        Ok(bytes) if room >= bytes.len() => {
+            out.copy_from(bytes.as_ptr(), bytes.len());
+            OK
+        }
+        Ok(_) => BAD_LENGTH,
+        Err(why) => state_code(why),
+    }
+}
+
+#[no_mangle]
+pub unsafe extern "C" fn balloon_restore(it: &mut Struct, bytes: *const u8, length: usize) -> u32 {
+    match Balloon::restore_bytes(&it.memory(), std::slice::from_raw_parts(bytes, length)) {
+        Err(why) => state_code(why),
+        Ok(balloon) => {
+            it.state = balloon.state();
+            OK
+        }
+    }
+}

@@ -1,0 +1,237 @@
+//! What touches guest memory. The library decides which access is made, where, in which order, and what it means; this
+//! obeys it: no bound is tested here and no sum is made, since each number comes from the library.
+
+use crate::raw::{self, Notice, Region, Room};
+use crate::{Kind, Served, PAGE};
+use std::io;
+use std::os::unix::io::AsRawFd;
+use std::sync::atomic::{fence, Ordering};
+use vm_memory::bitmap::BitmapSlice;
+use vm_memory::{Address, AtomicAccess, Bytes, GuestMemory, GuestMemoryRegion, MemoryRegionAddress, VolatileSlice};
+
+pub use crate::raw::{Cut, Run, Spot, Statistic};
+
+/// Memory failed to do what its regions promise. Only a `GuestMemory` of a monitor's own may.
+#[derive(Clone, Copy, Debug, PartialEq, Eq)]
+pub struct Unreachable;
+
+/// Guest memory that its guest may write at any moment. Any `GuestMemory` of `vm-memory` is one. Each call but the first and
+/// the fence may fail.
+pub trait LiveMemory {
+    /// Puts the regions into `out`, in the order of their numbers.
+    fn regions(&self, out: &mut Vec<Region>);
+
+    /// Reads a word of 16 bits, by one access.
+    fn word(&self, at: Spot) -> Result<u16, Unreachable>;
+
+    /// Copies the bytes from a place on, each read once.
+    fn copy(&self, at: Spot, to: &mut [u8]) -> Result<(), Unreachable>;
+
+    /// Writes a number of 32 bits.
+    fn write_number(&self, at: Spot, number: u32) -> Result<(), Unreachable>;
+
+    /// Writes a word of 16 bits, by one access.
+    fn write_word(&self, at: Spot, word: u16) -> Result<(), Unreachable>;
+
+    /// What was done before stays before what is done after, as far as this order says.
+    fn fence(&self, order: Ordering) {
+        fence(order);
+    }
+
+    /// Gives pages back to the machine: by a hole in the region's file, which is shared, or else as private memory, which
+    /// reads as zeros from then on. Else the system's answer.
+    fn discard(&self, cut: &Cut) -> io::Result<()>;
+}
+
+fn region_of<M: GuestMemory>(memory: &M, number: usize) -> Result<&M::R, Unreachable> {
+    memory.iter().nth(number).ok_or(Unreachable)
+}
+
+fn load<M: GuestMemory, T: AtomicAccess>(memory: &M, at: Spot) -> Result<T, Unreachable> {
+    region_of(memory, at.region)?.load(MemoryRegionAddress(at.offset), Ordering::Relaxed).map_err(|_| Unreachable)
+}
+
+fn store<M: GuestMemory, T: AtomicAccess>(memory: &M, at: Spot, value: T) -> Result<(), Unreachable> {
+    let region = region_of(memory, at.region)?;
+    region.store(value, MemoryRegionAddress(at.offset), Ordering::Relaxed).map_err(|_| Unreachable)
+}
+
+/// Copies bytes that others may write meanwhile: each is read once, in words where they are aligned.
+fn read_once<B: BitmapSlice>(bytes: &VolatileSlice<B>, to: &mut [u8]) -> Result<(), Unreachable> {
+    let mut at = 0;
+    while at < to.len() {
+        if let Ok(word) = bytes.load::<u64>(at, Ordering::Relaxed) {
+            to[at..at + 8].copy_from_slice(&word.to_ne_bytes());
+            at += 8;
+        } else {
+            to[at] = bytes.load(at, Ordering::Relaxed).map_err(|_| Unreachable)?;
+            at += 1;
+        }
+    }
+    Ok(())
+}
+
+/// The system's answer to a call, once it isn't interrupted.
+fn answer_of(call: impl Fn() -> libc::c_int) -> io::Result<()> {
+    loop {
+        if call() == 0 {
+            return Ok(());
+        }
+        let error = io::Error::last_os_error();
+        if error.kind() != io::ErrorKind::Interrupted {
+            return Err(error);
+        }
+    }
+}
+
+impl<M: GuestMemory> LiveMemory for M {
+    fn regions(&self, out: &mut Vec<Region>) {
+        out.clear();
+        out.extend(self.iter().map(|it| Region {
+            guest: it.start_addr().raw_value(),
+            length: it.len(),
+            in_file: it.file_offset().map_or(0, |file| file.start()),
+        }));
+    }
+
+    fn word(&self, at: Spot) -> Result<u16, Unreachable> {
+        load::<M, u16>(self, at).map(u16::from_le)
+    }
+
+    fn copy(&self, at: Spot, to: &mut [u8]) -> Result<(), Unreachable> {
+        let region = region_of(self, at.region)?;
+        read_once(&region.get_slice(MemoryRegionAddress(at.offset), to.len()).map_err(|_| Unreachable)?, to)
+    }
+
+    fn write_number(&self, at: Spot, number: u32) -> Result<(), Unreachable> {
+        store(self, at, number.to_le())
+    }
+
+    fn write_word(&self, at: Spot, word: u16) -> Result<(), Unreachable> {
+        store(self, at, word.to_le())
+    }
+
+    fn discard(&self, cut: &Cut) -> io::Result<()> {
+        let gone = || io::Error::from(io::ErrorKind::InvalidInput);
+        let region = region_of(self, cut.region).map_err(|_| gone())?;
+        if let Some(file) = region.file_offset() {
+            let (file, how) = (file.file().as_raw_fd(), libc::FALLOC_FL_PUNCH_HOLE | libc::FALLOC_FL_KEEP_SIZE);
+            // SAFETY: the call takes no pointer; the file is the region's.
+            return answer_of(|| unsafe { libc::fallocate(file, how, cut.in_file as i64, cut.length as i64) });
+        }
+        let host = region.get_host_address(MemoryRegionAddress(cut.offset)).map_err(|_| gone())?;
+        // SAFETY: the bytes lie in the region, which is mapped while it is borrowed, and are the guest's: whoever reads
+        // them expects any value at any time.
+        answer_of(|| unsafe { libc::madvise(host.cast(), cut.length as usize, libc::MADV_DONTNEED) })
+    }
+}
+
+/// What a monitor may want to know, or to do in its own way. `()` does nothing of its own.
+pub trait Monitor {
+    /// These pages are given up (inflate) or free (report), and discarded next; or they are asked back (deflate).
+    fn pages(&mut self, _kind: Kind, _runs: &[Run]) {}
+
+    /// The guest told its statistics, any tags in any order.
+    fn statistics(&mut self, _figures: &[Statistic]) {}
+
+    /// Discards whole pages of a region; an error where the machine keeps them.
+    fn discard(&mut self, memory: &dyn LiveMemory, cut: &Cut) -> io::Result<()> {
+        memory.discard(cut)
+    }
+}
+
+impl Monitor for () {}
+
+/// What a notice is carried out on.
+pub(crate) struct Hands<'a> {
+    pub memory: &'a dyn LiveMemory,
+    pub monitor: &'a mut dyn Monitor,
+    /// The set of the pages in the balloon; empty where none is kept.
+    pub ballooned: &'a mut [u64],
+    pub served: Served,
+}
+
+impl Hands<'_> {
+    /// Tells the pages that are named, and keeps the set of those in the balloon.
+    fn tell_pages(&mut self, notice: &Notice, room: &Room) {
+        let runs = &room.runs[..notice.runs as usize];
+        self.served.pages += u64::from(notice.pages);
+        self.served.skipped += u64::from(notice.skipped);
+        if !self.ballooned.is_empty() {
+            let marked = raw::mark(notice.kind, runs, self.ballooned);
+            self.served.marked += marked.pages;
+            self.served.unmarked += if marked.code == raw::BAD_ARGUMENT { u64::from(notice.pages) } else { 0 };
+        }
+        if let Some(kind) = Kind::of(notice.kind) {
+            self.monitor.pages(kind, runs);
+        }
+    }
+
+    fn discard(&mut self, cut: &Cut) {
+        let pages = cut.length / PAGE;
+        match self.monitor.discard(self.memory, cut) {
+            Ok(()) => self.served.discarded += pages,
+            Err(error) => {
+                self.served.kept += pages;
+                self.served.error = error.raw_os_error();
+            }
+        }
+    }
+
+    /// Publishes a used element: its two numbers, the fence, then the index.
+    fn give_back(&mut self, notice: &Notice) -> Result<(), Unreachable> {
+        self.memory.write_number(notice.id_at, notice.id)?;
+        self.memory.write_number(notice.length_at, notice.used_length)?;
+        self.memory.fence(Ordering::Release);
+        self.memory.write_word(notice.index_at, notice.used_index)
+    }
+
+    /// Does each thing that is to be done, in the order of the bits of `what`; answers the word that was read, if one was.
+    fn perform(&mut self, notice: &Notice, room: &mut Room) -> Result<u16, Unreachable> {
+        let is_asked = |bit| notice.what & bit != 0;
+        let mut answer = 0;
+        if is_asked(raw::TELL_PAGES) {
+            self.tell_pages(notice, room);
+        }
+        if is_asked(raw::TELL_FIGURES) {
+            self.monitor.statistics(&room.figures[..notice.figures as usize]);
+            self.served.chains += 1;
+        }
+        if is_asked(raw::DISCARD) {
+            room.cuts[..notice.cuts as usize].iter().for_each(|cut| self.discard(cut));
+        }
+        if is_asked(raw::GIVE_BACK) {
+            self.give_back(notice)?;
+            self.served.chains += 1;
+        }
+        if is_asked(raw::ACQUIRE) {
+            self.memory.fence(Ordering::Acquire);
+        }
+        if is_asked(raw::FULL_FENCE) {
+            self.memory.fence(Ordering::SeqCst);
+        }
+        if is_asked(raw::READ) {
+            answer = self.memory.word(notice.at)?;
+        }
+        if is_asked(raw::COPY) {
+            let into = notice.into as usize;
+            self.memory.copy(notice.at, &mut room.bytes[into..into + notice.length as usize])?;
+        }
+        Ok(answer)
+    }
+
+    /// Obeys until the notice has ended.
+    pub fn obey(
+        &mut self,
+        notice: &mut Notice,
+        balloon: &mut raw::Balloon,
+        regions: &[Region],
+        room: &mut Room,
+    ) -> Result<(), Unreachable> {
+        while notice.what != 0 {
+            let answer = self.perform(notice, room)?;
+            raw::go_on(notice, balloon, regions, room, answer);
+        }
+        Ok(())
+    }
+}
