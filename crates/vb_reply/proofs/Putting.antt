@@ -29,6 +29,11 @@ put_in_all (Some xs) (Some ys) None held kept text e p q = absurd q
 put_in_all (Some xs) (Some ys) (Some zs) held kept text e p q =
     let first : ys ++ kept ≡ xs ++ text = rw (e, append-nil) at p in q ∙ first
 
+-- nothing was put yet
+pub put_nothing : (a : Option (List ℕ)) (held : List ℕ) → held ≡ [] → Puts a [] a held []
+put_nothing None held e = tt
+put_nothing (Some xs) held e = rw (e, append-nil, append-nil) refl
+
 -- a text is put behind another
 pub put_on : (a b c : Option (List ℕ)) (held kept last first next : List ℕ) → Puts a held b kept first
     → Puts b kept c last next → Puts a held c last (first ++ next)
