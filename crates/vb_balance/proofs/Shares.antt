@@ -10,7 +10,7 @@ use Rattle.std.proofs.lemmas.List.Sums.{sum_by_more, sum_by_push, sum-map}
 use Rattle.vb_model.specs.Balance.{Need, AreTargets, GivesBefore, missing, shortage, spare_at}
 use Rattle.vb_model.proofs.Sums.{sum-le}
 use Rattle.vb_balance.specs.Levels.{spare_from, spared_from, IsLevel, AreGiven}
-use Rattle.vb_balance.proofs.Spares.{spare_of, reaches, falls_short, from_none}
+use Rattle.vb_balance.proofs.Spares.{spare_of, reaches, falls_short}
 use Rattle.vb_balance.proofs.Spares.{counts_at_most}
 
 -- what a guest gives, and what is left for others then
