@@ -1,8 +1,10 @@
 /* What ../tools/check-shim has Frama-C look at: balloon.h with any bytes of a guest, and with whatever the library may answer.
  *
  * The library stands here as what its contracts leave open: each answer is any that they allow, and what they promise is
- * named where it is used. What is discarded, copied, told and written is looked at by the analysis itself, and by the assertions
- * of the machine's calls below. */
+ * named where it is used. What is copied, written, told and discarded is looked at by the analysis itself, and by the assertions
+ * of the monitor's hooks and of the machine's calls below. There are three analyses, each from a function of its own: `main`,
+ * all but the copies; `copies`, each copy that a notice may ask for, by the contract of balloon_read_once; `lengths`, that
+ * contract. */
 #include <__fc_builtin.h>
 #include <stdint.h>
 #include <sys/types.h>
@@ -27,10 +29,11 @@ static uint8_t low[LENGTH], high[LENGTH];
 static struct balloon_region regions[REGIONS];
 static struct balloon balloon;
 static uint64_t words[WORDS];
-static uint64_t cut_pages;               /* of each cut of a notice */
+static uint64_t cut_pages, cut_region;   /* of each cut of a notice */
 
 #define ANY_UP_TO(most) Frama_C_unsigned_long_long_interval(0, most)
 static uint32_t any_u32(void) { return Frama_C_unsigned_int_interval(0, UINT32_MAX); }
+static uint64_t any_u64(void) { return ANY_UP_TO(UINT64_MAX); }
 static bool maybe(void) { return Frama_C_nondet(0, 1); }
 
 /* ---- the library, as its contracts allow */
@@ -43,30 +46,22 @@ static VbSpot any_spot(uint64_t bytes)
 }
 
 /* The same of what is discarded, which is whole pages and stands in the file where its region begins there (Cut). */
-static VbCut any_cut(uint64_t pages)
+static VbCut any_cut(uint64_t region, uint64_t pages)
 {
     uint64_t first = ANY_UP_TO(PAGES - pages);
-    VbCut cut = { ANY_UP_TO(REGIONS - 1), first * BALLOON_PAGE, IN_FILE + first * BALLOON_PAGE, pages * BALLOON_PAGE };
+    VbCut cut = { region, first * BALLOON_PAGE, IN_FILE + first * BALLOON_PAGE, pages * BALLOON_PAGE };
     return cut;
 }
 
-/* What is to be copied has room (vb_monitor, Fits). Each length is looked at by itself: then the analysis sees that the place
- * and the length belong together. */
-static void any_copy(VbNotice *notice)
-{
-    notice->length = ANY_UP_TO(VB_MAX_BYTES);
-    //@ split notice->length;
-    notice->at = any_spot(notice->length);
-    notice->into = ANY_UP_TO(VB_MAX_BYTES - notice->length);
-}
-
-/* Cuts, all of one length, each of these looked at by itself. */
+/* Cuts, all of one length in one region, each of these looked at by itself: then the analysis sees what belongs together. */
 static void any_cuts(VbNotice *notice, VbRoom *room)
 {
     cut_pages = Frama_C_unsigned_long_long_interval(1, PAGES);
+    cut_region = ANY_UP_TO(REGIONS - 1);
     //@ split cut_pages;
+    //@ split cut_region;
     notice->cuts = ANY_UP_TO(VB_MAX_CUTS);
-    room->cuts[0] = any_cut(cut_pages);
+    room->cuts[0] = any_cut(cut_region, cut_pages);
     for (int i = 1; i < VB_MAX_CUTS; i++)
         room->cuts[i] = room->cuts[0];
 }
@@ -74,11 +69,11 @@ static void any_cuts(VbNotice *notice, VbRoom *room)
 /* The calls of a notice: any of their answers. */
 static uint32_t any_notice(VbNotice *notice, const VbBalloon *of, const VbRegion *places, size_t count, VbRoom *room)
 {
-    //@ merge notice->length;
     //@ merge cut_pages;
+    //@ merge cut_region;
     //@ assert the_balloon: notice == &balloon.notice && of == &balloon.state && room == &balloon.room;
-    //@ assert the_regions: places == (VbRegion *)balloon.places && count == balloon.region_count;
-    notice->what = any_u32();
+    //@ assert the_regions: places == (VbRegion *)balloon.places && count == REGIONS;
+    notice->what = any_u32() & ~(uint32_t)VB_COPY;      /* copies: below */
     notice->kind = ANY_UP_TO(VB_REPORT);
     notice->id_at = any_spot(4);
     notice->length_at = any_spot(4);
@@ -96,11 +91,8 @@ static uint32_t any_notice(VbNotice *notice, const VbBalloon *of, const VbRegion
     notice->configuration = ANY_UP_TO(1);
     notice->more = ANY_UP_TO(1);
     notice->at = any_spot(2);
-    notice->length = notice->into = notice->cuts = 0;
-    if (maybe())
-        any_copy(notice);
-    else
-        any_cuts(notice, room);
+    notice->length = notice->into = 0;
+    any_cuts(notice, room);
     return notice->what;
 }
 
@@ -132,10 +124,8 @@ VbMarked vb_mark(uint32_t kind, const VbRun *runs, size_t count, uint64_t *set, 
 
 static uint32_t any_answer(const VbRegion *places, size_t count)
 {
-    for (size_t i = 0; i < count; i++) {
-        uint64_t length = places[i].length;
-        //@ assert a_region: length == LENGTH;
-    }
+    //@ assert two_regions: count == REGIONS;
+    //@ assert as_they_are: places[0].length == LENGTH && places[1].length == LENGTH && places[1].guest == 2 * LENGTH;
     return any_u32();
 }
 
@@ -190,7 +180,7 @@ int madvise(void *from, size_t length, int advice)
 
 int fallocate(int fd, int how, off_t from, off_t length)
 {
-    //@ assert the_file: fd == SOME_FD && how == 3;
+    //@ assert the_hole: fd == SOME_FD && how == 3;
     //@ assert within_the_file: IN_FILE <= from && length > 0 && from + length <= IN_FILE + LENGTH;
     return any_errno();
 }
@@ -225,26 +215,18 @@ static void any_call(void)
     case 0: balloon_notify(&balloon, any_u32()); break;
     case 1: balloon_ask_statistics(&balloon); break;
     case 2: balloon_write_status(&balloon, ANY_UP_TO(255), &result); break;
-    case 3: balloon_set_regions(&balloon, regions, ANY_UP_TO(REGIONS)); break;
-    case 4: balloon_place(&balloon, any_u32(), ANY_UP_TO(UINT64_MAX), ANY_UP_TO(UINT64_MAX), ANY_UP_TO(UINT64_MAX), ANY_UP_TO(65535)); break;
+    case 3: balloon_set_regions(&balloon, regions, maybe() ? REGIONS : BALLOON_MOST_REGIONS + 1); break;
+    case 4: balloon_place(&balloon, any_u32(), any_u64(), any_u64(), any_u64(), ANY_UP_TO(UINT16_MAX)); break;
     case 5: balloon_notify_number(&balloon, any_u32()); break;
     case 6: balloon_restore(&balloon, bytes, sizeof bytes); break;
     case 7: balloon_save(&balloon, bytes, sizeof bytes); break;
     case 8: balloon_discard_bytes(&regions[0], 0, LENGTH); break;
-    default: balloon_negotiate(&balloon, ANY_UP_TO(UINT64_MAX)); break;
+    default: balloon_negotiate(&balloon, any_u64()); break;
     }
 }
 
-/* Copying keeps to its contract above, which is all that the other analysis has of it: each length by itself, between bytes that
- * begin and end with what is copied. */
-void copies(void)
-{
-    static uint8_t from[VB_MAX_BYTES], to[VB_MAX_BYTES];
-    for (size_t length = 0; length <= VB_MAX_BYTES; length++)
-        balloon_read_once(to + VB_MAX_BYTES - length, from + VB_MAX_BYTES - length, length);
-}
-
-int main(void)
+/* The regions, and a balloon over them with any hooks. */
+static void begin(void)
 {
     const VbSettings settings = { 0 };
     regions[0] = (struct balloon_region){ 0, LENGTH, low, maybe() ? BALLOON_SHARED : SOME_FD, IN_FILE };
@@ -255,7 +237,36 @@ int main(void)
     balloon.discard = maybe() ? discard : NULL;
     balloon.ballooned = maybe() ? words : NULL;
     balloon.ballooned_words = WORDS;
+}
+
+int main(void)
+{
+    begin();
     while (maybe())
         any_call();
     return 0;
+}
+
+/* Each copy that a notice may ask for: it lies within a region, and has room behind what was copied (vb_monitor, Fits). Each
+ * length is looked at by itself, so that the analysis sees that a place and its length belong together. */
+void copies(void)
+{
+    struct balloon_result result = { 0 };
+    VbNotice *notice = &balloon.notice;
+    begin();
+    notice->what = VB_COPY;
+    notice->length = ANY_UP_TO(VB_MAX_BYTES);
+    //@ split notice->length;
+    notice->at = any_spot(notice->length);
+    notice->into = ANY_UP_TO(VB_MAX_BYTES - notice->length);
+    balloon_perform(&balloon, notice->what, &result);
+}
+
+/* Copying keeps to its contract above: each length by itself, between bytes that end with what is copied. */
+void lengths(void)
+{
+    static uint8_t from[VB_MAX_BYTES], to[VB_MAX_BYTES];
+    size_t length = ANY_UP_TO(VB_MAX_BYTES);
+    //@ split length;
+    balloon_read_once(to + VB_MAX_BYTES - length, from + VB_MAX_BYTES - length, length);
 }
