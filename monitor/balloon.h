@@ -83,7 +83,7 @@ struct balloon_result {
     int error;
 };
 
-typedef uint64_t __attribute__((may_alias)) balloon_word64;
+typedef uint64_t __attribute__((may_alias, aligned(1))) balloon_word64;     /* anywhere */
 typedef uint32_t __attribute__((may_alias)) balloon_word32;
 typedef uint16_t __attribute__((may_alias)) balloon_word16;
 
@@ -96,15 +96,12 @@ static inline uint8_t *balloon_at(const struct balloon *balloon, VbSpot spot)
 /* Copies bytes that others may write meanwhile: each is read once. */
 static inline void balloon_read_once(uint8_t *to, const uint8_t *from, size_t length)
 {
-    const volatile uint8_t *in = from;
-    for (; length > 0 && (uintptr_t)in % 8 != 0; length--)
-        *to++ = *in++;
-    for (; length >= 8; length -= 8, in += 8, to += 8) {
-        uint64_t word = *(const volatile balloon_word64 *)in;
+    for (; length >= 8; length -= 8, from += 8, to += 8) {
+        uint64_t word = *(const volatile balloon_word64 *)from;
         memcpy(to, &word, 8);
     }
     for (; length > 0; length--)
-        *to++ = *in++;
+        *to++ = *(const volatile uint8_t *)from++;
 }
 
 /* Gives bytes back to the machine: they read as zeros then (as the file's where a private mapping has one). 0 or an errno. */

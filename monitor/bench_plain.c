@@ -40,18 +40,19 @@ static void plain_discard(const VbRun *run)
     }
 }
 
-/* A page number joins the last run, or begins another. */
-static inline uint32_t join(uint32_t count, uint32_t page)
+/* A page number joins the run that grows, or ends it and begins another. */
+static inline uint32_t join(uint32_t count, VbRun *run, uint32_t page, uint64_t pages)
 {
-    VbRun *last = &plain.runs[count - 1];
-    if (page >= plain.pages)
+    if (page >= pages)
         return count;
-    if (count > 0 && page == last->first + last->count) {
-        last->count++;
-    } else if (count > 0 && page + 1 == last->first) {
-        last->first = page, last->count++;
+    if (page == run->first + run->count) {
+        run->count++;
+    } else if (page + 1 == run->first) {
+        run->first = page, run->count++;
     } else {
-        plain.runs[count++] = (VbRun){ page, 1 };
+        if (run->count > 0)
+            plain.runs[count++] = *run;
+        *run = (VbRun){ page, 1 };
     }
     return count;
 }
@@ -60,6 +61,8 @@ static inline uint32_t join(uint32_t count, uint32_t page)
  * left to others. */
 static inline int request(uint16_t head, const uint8_t *table, uint32_t size)
 {
+    VbRun run = { UINT32_MAX, 0 };
+    const uint64_t pages = plain.pages;
     uint32_t length = 0, count = 0;
     for (uint32_t steps = 0;; steps++) {
         uint64_t words[2];
@@ -71,8 +74,10 @@ static inline int request(uint16_t head, const uint8_t *table, uint32_t size)
         if (!from || flags & (WRITE | INDIRECT) || part > MOST_BYTES - length || part % 4)
             return BROKEN;
         for (const uint8_t *end = from + part; from < end; from += 4)
-            count = join(count, le32toh(*(const volatile balloon_word32 *)from));
+            count = join(count, &run, le32toh(*(const volatile balloon_word32 *)from), pages);
         length += part;
+        if (!(flags & NEXT) && run.count > 0)
+            plain.runs[count++] = run;
         if (!(flags & NEXT))
             return length == 0 ? BROKEN : (int)count;
         head = (uint16_t)(words[1] >> 48);

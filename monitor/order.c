@@ -165,10 +165,12 @@ static void expect_touches(const struct touch *expected)
 #endif
         bool same = i < touch_count && touches[i].what == expected->what && touches[i].number == expected->number
             && touches[i].write == expected->write;
-        if (!same && i < touch_count)
-            fprintf(stderr, "order: %s %llu where %s %llu should be\n", WORDS[touches[i].what],
-                    (unsigned long long)touches[i].number, WORDS[expected->what], (unsigned long long)expected->number);
-        EXPECT(same);
+        if (!same) {
+            const struct touch *it = i < touch_count ? &touches[i] : &(struct touch){ OTHER, 0, false };
+            fprintf(stderr, "%s %llu where %s %llu should be\n", WORDS[it->what], (unsigned long long)it->number,
+                    WORDS[expected->what], (unsigned long long)expected->number);
+            exit(1);
+        }
         i++;
     }
     EXPECT(i == touch_count);

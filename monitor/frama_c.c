@@ -1,0 +1,272 @@
+/* What ../tools/check-shim has Frama-C look at: balloon.h with any bytes of a guest, and with whatever the library may answer.
+ *
+ * The library stands here as what its contracts leave open: each answer is any that they allow, and what they promise is
+ * named where it is used. What is copied, written, told and discarded is looked at by the analysis itself, and by the assertions
+ * of the monitor's hooks and of the machine's calls below. There are three analyses, each from a function of its own: `main`,
+ * all but the copies; `copies`, each copy that a notice may ask for, by the contract of balloon_read_once; `lengths`, that
+ * contract. */
+#include <__fc_builtin.h>
+#include <stdint.h>
+#include <sys/types.h>
+
+int fallocate(int fd, int how, off_t from, off_t length);
+int madvise(void *from, size_t length, int advice);
+void __atomic_thread_fence(int order);
+uint16_t le16toh(uint16_t word);
+uint16_t htole16(uint16_t word);
+uint32_t htole32(uint32_t word);
+
+/*@ requires reads: \valid_read(from + (0 .. length - 1));
+    requires writes: \valid(to + (0 .. length - 1));
+    assigns to[0 .. length - 1] \from from[0 .. length - 1]; */
+static inline void balloon_read_once(uint8_t *to, const uint8_t *from, size_t length);
+#include "balloon.h"
+
+enum { PAGES = 4, LENGTH = PAGES * BALLOON_PAGE, REGIONS = 2, WORDS = 3, SOME_FD = 3 };
+static const uint64_t IN_FILE = 1ull << 20;
+
+static uint8_t low[LENGTH], high[LENGTH];
+static struct balloon_region regions[REGIONS];
+static struct balloon balloon;
+static uint64_t words[WORDS];
+static uint64_t cut_pages, cut_region;   /* of each cut of a notice */
+
+#define ANY_UP_TO(most) Frama_C_unsigned_long_long_interval(0, most)
+static uint32_t any_u32(void) { return Frama_C_unsigned_int_interval(0, UINT32_MAX); }
+static uint64_t any_u64(void) { return ANY_UP_TO(UINT64_MAX); }
+static bool maybe(void) { return Frama_C_nondet(0, 1); }
+
+/* ---- the library, as its contracts allow */
+
+/* vb_monitor, law nothing_outside_the_regions_is_touched: a place of so many bytes lies within one region. */
+static VbSpot any_spot(uint64_t bytes)
+{
+    VbSpot spot = { ANY_UP_TO(REGIONS - 1), ANY_UP_TO(LENGTH - bytes) };
+    return spot;
+}
+
+/* The same of what is discarded, which is whole pages and stands in the file where its region begins there (Cut). */
+static VbCut any_cut(uint64_t region, uint64_t pages)
+{
+    uint64_t first = ANY_UP_TO(PAGES - pages);
+    VbCut cut = { region, first * BALLOON_PAGE, IN_FILE + first * BALLOON_PAGE, pages * BALLOON_PAGE };
+    return cut;
+}
+
+/* Cuts, all of one length in one region, each of these looked at by itself: then the analysis sees what belongs together. */
+static void any_cuts(VbNotice *notice, VbRoom *room)
+{
+    cut_pages = Frama_C_unsigned_long_long_interval(1, PAGES);
+    cut_region = ANY_UP_TO(REGIONS - 1);
+    //@ split cut_pages;
+    //@ split cut_region;
+    notice->cuts = ANY_UP_TO(VB_MAX_CUTS);
+    room->cuts[0] = any_cut(cut_region, cut_pages);
+    for (int i = 1; i < VB_MAX_CUTS; i++)
+        room->cuts[i] = room->cuts[0];
+}
+
+/* The calls of a notice: any of their answers. */
+static uint32_t any_notice(VbNotice *notice, const VbBalloon *of, const VbRegion *places, size_t count, VbRoom *room)
+{
+    //@ merge cut_pages;
+    //@ merge cut_region;
+    //@ assert the_balloon: notice == &balloon.notice && of == &balloon.state && room == &balloon.room;
+    //@ assert the_regions: places == (VbRegion *)balloon.places && count == REGIONS;
+    notice->what = any_u32() & ~(uint32_t)VB_COPY;      /* copies: below */
+    notice->kind = ANY_UP_TO(VB_REPORT);
+    notice->id_at = any_spot(4);
+    notice->length_at = any_spot(4);
+    notice->index_at = any_spot(2);
+    notice->id = any_u32();
+    notice->used_length = any_u32();
+    notice->used_index = ANY_UP_TO(UINT16_MAX);
+    notice->runs = ANY_UP_TO(VB_MAX_RUNS);              /* vb_core, Named: runs have room */
+    notice->pages = any_u32();
+    notice->skipped = any_u32();
+    notice->figures = ANY_UP_TO(VB_MAX_FIGURES);        /* vb_core, AreFigures */
+    notice->code = any_u32();
+    notice->rule = any_u32();
+    notice->interrupt = ANY_UP_TO(1);
+    notice->configuration = ANY_UP_TO(1);
+    notice->more = ANY_UP_TO(1);
+    notice->at = any_spot(2);
+    notice->length = notice->into = 0;
+    any_cuts(notice, room);
+    return notice->what;
+}
+
+uint32_t vb_begin(VbNotice *notice, VbBalloon *of, const VbRegion *places, size_t count, VbRoom *room, uint32_t kind, uint32_t chains,
+                  uint32_t pages)
+{
+    return any_notice(notice, of, places, count, room);
+}
+
+uint32_t vb_ask(VbNotice *notice, VbBalloon *of, const VbRegion *places, size_t count, VbRoom *room)
+{
+    return any_notice(notice, of, places, count, room);
+}
+
+uint32_t vb_go_on(VbNotice *notice, VbBalloon *of, const VbRegion *places, size_t count, VbRoom *room, uint16_t answer)
+{
+    return any_notice(notice, of, places, count, room);
+}
+
+VbMarked vb_mark(uint32_t kind, const VbRun *runs, size_t count, uint64_t *set, size_t set_words)
+{
+    //@ assert the_set: set == (uint64_t *)words && set_words == WORDS;
+    //@ assert the_runs: runs == (VbRun *)balloon.room.runs && count <= VB_MAX_RUNS;
+    VbMarked marked = { any_u32(), ANY_UP_TO(UINT32_MAX) };
+    return marked;
+}
+
+/* ---- the other calls: any answer; what they are handed is looked at */
+
+static uint32_t any_answer(const VbRegion *places, size_t count)
+{
+    //@ assert two_regions: count == REGIONS;
+    //@ assert as_they_are: places[0].length == LENGTH && places[1].length == LENGTH && places[1].guest == 2 * LENGTH;
+    return any_u32();
+}
+
+uint32_t vb_new_over(VbBalloon *of, VbSettings settings, const VbRegion *places, size_t count)
+{
+    Frama_C_make_unknown((char *)of, sizeof *of);
+    return any_answer(places, count);
+}
+
+uint32_t vb_set_regions(VbBalloon *of, const VbRegion *places, size_t count) { return any_answer(places, count); }
+
+uint32_t vb_place_over(VbBalloon *of, const VbRegion *places, size_t count, uint32_t kind, uint64_t table, uint64_t avail,
+                       uint64_t used, uint16_t size)
+{
+    return any_answer(places, count);
+}
+
+uint32_t vb_restore_over(VbBalloon *of, const VbRegion *places, size_t count, const uint8_t *bytes, size_t length)
+{
+    return any_answer(places, count);
+}
+
+uint32_t vb_set_status(VbBalloon *of, uint8_t status, uint32_t *then)
+{
+    *then = any_u32();
+    return any_u32();
+}
+
+uint32_t vb_negotiate(VbDevice *device, uint64_t features) { return any_u32(); }
+uint32_t vb_kind(const VbDevice *device, uint32_t number) { return ANY_UP_TO(VB_NO_KIND); }
+uint32_t vb_write_config(VbDevice *device, uint32_t offset, const uint8_t *bytes, size_t length) { return any_u32(); }
+void vb_read_config(const VbDevice *device, uint32_t offset, uint8_t *out, size_t length) { }
+void vb_set_target(VbDevice *device, uint32_t pages) { device->target = pages; }
+uint32_t vb_may_tell(const VbDevice *device) { return ANY_UP_TO(1); }
+uint32_t vb_save(const VbDevice *device, uint32_t held, uint8_t *out, size_t room) { return any_u32(); }
+
+/* ---- the machine and the monitor */
+
+static int any_errno(void)
+{
+    errno = Frama_C_interval(1, 133);
+    return maybe() ? 0 : -1;
+}
+
+/* What is given up are bytes of one region: of memory, or of its file. */
+int madvise(void *from, size_t length, int advice)
+{
+    //@ assert whole_pages: length > 0 && length % 4096 == 0;
+    //@ assert within_memory: \valid((char *)from + (0 .. length - 1));
+    return any_errno();
+}
+
+int fallocate(int fd, int how, off_t from, off_t length)
+{
+    //@ assert the_hole: fd == SOME_FD && how == 3;
+    //@ assert within_the_file: IN_FILE <= from && length > 0 && from + length <= IN_FILE + LENGTH;
+    return any_errno();
+}
+
+/* The fences are ../tools/check-fences' and order.c's. */
+void __atomic_thread_fence(int order) { }
+
+static void be_told(void *context, uint32_t kind, const VbRun *runs, uint32_t count)
+{
+    //@ assert told_runs: \valid_read(runs + (0 .. (int)count - 1));
+}
+
+static void hear(void *context, const VbStatistic *figures, uint32_t count)
+{
+    //@ assert told_figures: \valid_read(figures + (0 .. (int)count - 1));
+}
+
+static int discard(void *context, const struct balloon_region *region, uint64_t at, uint64_t length)
+{
+    uint8_t *from = region->host + at;
+    //@ assert within_the_region: \valid(from + (0 .. length - 1));
+    return Frama_C_interval(0, 133);
+}
+
+/* ---- any monitor, and any driver */
+
+static void any_call(void)
+{
+    struct balloon_result result;
+    uint8_t bytes[VB_STATE_BYTES];
+    switch (Frama_C_interval(0, 9)) {
+    case 0: balloon_notify(&balloon, any_u32()); break;
+    case 1: balloon_ask_statistics(&balloon); break;
+    case 2: balloon_write_status(&balloon, ANY_UP_TO(255), &result); break;
+    case 3: balloon_set_regions(&balloon, regions, maybe() ? REGIONS : BALLOON_MOST_REGIONS + 1); break;
+    case 4: balloon_place(&balloon, any_u32(), any_u64(), any_u64(), any_u64(), ANY_UP_TO(UINT16_MAX)); break;
+    case 5: balloon_notify_number(&balloon, any_u32()); break;
+    case 6: balloon_restore(&balloon, bytes, sizeof bytes); break;
+    case 7: balloon_save(&balloon, bytes, sizeof bytes); break;
+    case 8: balloon_discard_bytes(&regions[0], 0, LENGTH); break;
+    default: balloon_negotiate(&balloon, any_u64()); break;
+    }
+}
+
+/* The regions, and a balloon over them with any hooks. */
+static void begin(void)
+{
+    const VbSettings settings = { 0 };
+    regions[0] = (struct balloon_region){ 0, LENGTH, low, maybe() ? BALLOON_SHARED : SOME_FD, IN_FILE };
+    regions[1] = (struct balloon_region){ 2 * LENGTH, LENGTH, high, maybe() ? BALLOON_PRIVATE : SOME_FD, IN_FILE };
+    balloon_init(&balloon, regions, REGIONS, settings);
+    balloon.on_pages = maybe() ? be_told : NULL;
+    balloon.on_statistics = maybe() ? hear : NULL;
+    balloon.discard = maybe() ? discard : NULL;
+    balloon.ballooned = maybe() ? words : NULL;
+    balloon.ballooned_words = WORDS;
+}
+
+int main(void)
+{
+    begin();
+    while (maybe())
+        any_call();
+    return 0;
+}
+
+/* Each copy that a notice may ask for: it lies within a region, and has room behind what was copied (vb_monitor, Fits). Each
+ * length is looked at by itself, so that the analysis sees that a place and its length belong together. */
+void copies(void)
+{
+    struct balloon_result result = { 0 };
+    VbNotice *notice = &balloon.notice;
+    begin();
+    notice->what = VB_COPY;
+    notice->length = ANY_UP_TO(VB_MAX_BYTES);
+    //@ split notice->length;
+    notice->at = any_spot(notice->length);
+    notice->into = ANY_UP_TO(VB_MAX_BYTES - notice->length);
+    balloon_perform(&balloon, notice->what, &result);
+}
+
+/* Copying keeps to its contract above: each length by itself, between bytes that end with what is copied. */
+void lengths(void)
+{
+    static uint8_t from[VB_MAX_BYTES], to[VB_MAX_BYTES];
+    size_t length = ANY_UP_TO(VB_MAX_BYTES);
+    //@ split length;
+    balloon_read_once(to + VB_MAX_BYTES - length, from + VB_MAX_BYTES - length, length);
+}
