@@ -68,7 +68,8 @@ static bool sync_memory(struct backend *backend, const struct body *body, struct
     struct region_place places[TABLE_ENTRIES];
     unsigned count = files->count;
     for (unsigned i = 0; i < count; i++)
-        places[i] = (struct region_place){body->memory.guest[i], body->memory.size[i], 0, body->memory.offset[i]};
+        places[i] = (struct region_place){
+            body->memory.guest[i], body->memory.size[i], body->memory.guest[i], body->memory.offset[i]};
     files->count = 0;
     if (!memory_map(&backend->memory, places, files->numbers, count))
         return refuse("the guest's memory can't be mapped");
@@ -133,23 +134,23 @@ static int serve(struct backend *backend)
 int main(int count, char **words)
 {
     static struct backend backend;
-    struct options options = {0};
+    static struct options options;
     char *end = "";
     setvbuf(stdout, NULL, _IOLBF, 0);
     signal(SIGPIPE, SIG_IGN);
-    if (backend_options(&options, count, words))
-        backend.socket = (int)strtoul(options.client, &end, 10);
-    if (!options.client || *end) {
+    int socket = backend_options(&options, count, words) ? (int)strtoul(options.client, &end, 10) : -1;
+    if (socket < 0 || *end) {
         fputs("pci_proxy_balloon FD [--features HEX] [--strict] [--keep]\n", stderr);
         return 2;
     }
     if (!backend_start(&backend, &options))
         return 2;
+    backend.socket = socket;
     backend.tell = tell;
     backend.idle = idle;
     pci_start(&pci, &backend);
     puts("listening");
     int status = backend_run(&backend, serve);
-    memory_clear(&backend.memory);
+    backend_leave(&backend);
     return status;
 }

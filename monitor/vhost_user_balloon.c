@@ -1,6 +1,7 @@
-/* A memory balloon for one guest, as a vhost-user backend for the virtio_uml driver of User Mode Linux.
+/* A memory balloon for one guest, as a vhost-user backend: for QEMU's generic device, for the virtio_uml driver of User
+ * Mode Linux, and for any other client of that protocol.
  *
- *     vhost_user_balloon SOCKET [--features HEX] [--strict] [--keep]
+ *     vhost_user_balloon SOCKET [--features HEX] [--strict] [--keep] [--events] [--state FILE]
  *
  * It makes the socket, says `listening`, and serves the client that comes, until that one goes (status 0) or breaks a
  * rule (status 1, and one line on standard error that says which). Standard input is the control pipe, each line is
@@ -14,12 +15,14 @@
  *
  * --features: what the device offers (100000027: MUST_TELL_HOST, STATS_VQ, DEFLATE_ON_OOM, REPORTING, VERSION_1).
  * --strict: a page number past the end breaks a rule, in place of being skipped. --keep: the host keeps all memory.
+ * --events: notifications as messages aren't offered, so a client uses events. --state: the device is kept in this file,
+ * and a backend that finds one there goes on with its target and its `actual`.
  */
 #include "backend/backend.h"
-#include "backend/vhost_user.h"
+#include "backend/inbox.h"
+#include "backend/state.h"
 
 #include <errno.h>
-#include <poll.h>
 #include <signal.h>
 #include <stdio.h>
 #include <sys/socket.h>
@@ -35,43 +38,51 @@ static void remove_socket(const char *path)
         unlink(path);
 }
 
-/* Makes the socket and waits for its client; -1 where it can't. */
-static int client_of(const char *path)
+/* Makes the socket where the client comes; -1 where it can't. */
+static int listener_of(const char *path)
 {
     struct sockaddr_un address = {.sun_family = AF_UNIX};
     if (strlen(path) >= sizeof address.sun_path)
         return errno = ENAMETOOLONG, -1;
     strcpy(address.sun_path, path);
     remove_socket(path);
-    int listener = socket(AF_UNIX, SOCK_STREAM | SOCK_CLOEXEC, 0);
-    if (listener < 0 || bind(listener, (struct sockaddr *)&address, sizeof address) || listen(listener, 1))
-        return -1;
-    puts("listening");
-    struct pollfd either[2] = {{listener, POLLIN, 0}, {STDIN_FILENO, 0, 0}};
-    while (poll(either, 2, -1) < 0 && errno == EINTR)
-        continue;
-    errno = ECANCELED; /* the control pipe has ended */
-    int client = either[0].revents & POLLIN ? accept4(listener, NULL, NULL, SOCK_CLOEXEC) : -1;
-    remove_socket(path);
-    close(listener);
-    return client;
+    int listener = socket(AF_UNIX, SOCK_STREAM | SOCK_CLOEXEC | SOCK_NONBLOCK, 0);
+    if (listener >= 0 && (bind(listener, (struct sockaddr *)&address, sizeof address) || listen(listener, 1))) {
+        int why = errno;
+        close(listener);
+        return errno = why, -1;
+    }
+    return listener;
 }
 
-static bool tell(struct backend *backend, int queue)
+/* Nobody else may come. */
+static void stop_listening(struct backend *backend)
 {
-    return message_tell(backend->channel, queue);
+    remove_socket(backend->options->client);
+    close(backend->listener);
+    backend->listener = -1;
 }
 
-/* Serves the client's next message: 1; 0 where it has gone; -1 where it can't be served any longer. */
+static void accept_client(struct backend *backend)
+{
+    backend->socket = accept4(backend->listener, NULL, NULL, SOCK_CLOEXEC | SOCK_NONBLOCK);
+    if (backend->socket >= 0)
+        stop_listening(backend);
+}
+
+/* Serves the client's next message, if it is there whole: 1; 0 where the client has gone; -1 where it can't be served any
+ * longer. */
 static int serve(struct backend *backend)
 {
-    struct message message;
-    int got = message_receive(backend->socket, &message);
-    if (got < 0)
-        refuse("the client's bytes are no message");
-    if (got <= 0)
-        return files_close(&message.files), got;
-    if (message_serve(backend, &message))
+    static struct inbox inbox;
+    if (backend->socket < 0)
+        return accept_client(backend), 1;
+    enum inbox_state state = inbox_read(backend->socket, &inbox);
+    if (state == INBOX_WAITS || state == INBOX_GONE)
+        return state == INBOX_WAITS;
+    if (state == INBOX_WRONG)
+        return refuse("the client's bytes are no message"), -1;
+    if (message_serve(backend, &inbox.message))
         return 1;
     return backend->gone ? 0 : -1;
 }
@@ -79,22 +90,26 @@ static int serve(struct backend *backend)
 int main(int count, char **words)
 {
     static struct backend backend;
-    struct options options = {0};
+    static struct options options;
     setvbuf(stdout, NULL, _IOLBF, 0);
     signal(SIGPIPE, SIG_IGN); /* a client that has gone is noticed by what a write answers */
     if (!backend_options(&options, count, words)) {
-        fputs("vhost_user_balloon SOCKET [--features HEX] [--strict] [--keep]\n", stderr);
+        fputs("vhost_user_balloon SOCKET [--features HEX] [--strict] [--keep] [--events] [--state FILE]\n", stderr);
         return 2;
     }
-    if (!backend_start(&backend, &options))
+    if (!backend_start(&backend, &options) || !state_load(&backend))
         return 2;
-    backend.tell = tell;
-    backend.socket = client_of(options.client);
-    if (backend.socket < 0) {
-        fprintf(stderr, "vhost_user_balloon: %s: %s\n", options.client, strerror(errno));
-        return 2;
+    backend.tell = client_tell;
+    backend.listener = listener_of(options.client);
+    if (backend.listener >= 0) {
+        puts("listening");
+        int status = backend_run(&backend, serve);
+        backend_leave(&backend);
+        if (backend.socket >= 0)
+            return status;
+        stop_listening(&backend);
+        errno = ECANCELED; /* the control pipe has ended */
     }
-    int status = backend_run(&backend, serve);
-    memory_clear(&backend.memory);
-    return status;
+    fprintf(stderr, "vhost_user_balloon: %s: %s\n", options.client, strerror(errno));
+    return 2;
 }

@@ -1,7 +1,7 @@
 /* A host of many guests, as a vhost-user backend for the virtio_uml drivers of User Mode Linux: it lends them more memory
  * than it has, and their balloons give back what is missing.
  *
- *     vhost_user_host FOLDER --budget MIB [--floor MIB] [--period MS] [--features HEX] [--strict]
+ *     vhost_user_host FOLDER --budget MIB [--floor MIB] [--period MS] [--features HEX] [--strict] [--events]
  *
  * It says `ready`, and obeys lines of its standard input. Each is answered by a line on standard output, or by one that
  * says how many follow:
@@ -21,7 +21,7 @@
  * where the old ones don't serve any longer: by vb_targets, vb_spare and vb_needs_targets of the library. A guest that breaks a
  * rule or goes ends alone: a line on standard error says so. A guest whose memory has no room beside the others is refused.
  *
- * --floor: what each guest keeps free (12 MiB). --features, --strict: as for vhost_user_balloon.
+ * --floor: what each guest keeps free (12 MiB). --features, --strict, --events: as for vhost_user_balloon.
  */
 #include "host/host.h"
 
@@ -66,6 +66,8 @@ static bool read_options(struct host *host, int count, char **words)
     for (int i = 1; i < count; i++) {
         if (!strcmp(words[i], "--strict"))
             host->options.strict = true;
+        else if (!strcmp(words[i], "--events"))
+            host->options.events = true;
         else if (words[i][0] != '-' && !host->options.client)
             host->options.client = words[i];
         else if (i + 1 >= count || !read_option(host, words[i], words[i + 1]))
@@ -93,7 +95,7 @@ int main(int count, char **words)
     setvbuf(stdout, NULL, _IOLBF, 0);
     signal(SIGPIPE, SIG_IGN); /* a client that has gone is noticed by what a write answers */
     if (!read_options(&host, count, words)) {
-        fputs("vhost_user_host FOLDER --budget MIB [--floor MIB] [--period MS] [--features HEX] [--strict]\n", stderr);
+        fputs("vhost_user_host FOLDER --budget MIB [--floor MIB] [--period MS] [--features HEX] [--strict] [--events]\n", stderr);
         return 2;
     }
     if (!backend_start(&trial, &host.options))

@@ -35,7 +35,8 @@ def cut_memory_off(client, _):
 def claim_much(client, _):
     """Hands over a file as memory for which there is no room."""
     table = struct.pack("<II", 1, 0) + struct.pack("<QQQQ", 0, 1 << 30, 0, 0)
-    client.accepted(vhost_client.SET_FEATURES, struct.pack("<Q", vhost_client.FEATURES))
+    client.negotiate()
+    os.ftruncate(client.files[0], 1 << 30)
     client.send(vhost_client.SET_MEM_TABLE, table, client.files[:1], flags=1)
 
 

@@ -14,20 +14,32 @@ HEADERS = os.path.join(ROOT, "crates/vb_c")
 LIBRARY = os.path.join(ROOT, "crates", "vb_c", "out", "libvb_c.a")
 
 # The backends' files in monitor: of all, of each, and what a build for tests has besides.
-PARTS = ("backend/backend", "backend/control", "backend/guest_memory", "backend/stream")
+PARTS = tuple(
+    f"backend/{it}"
+    for it in ("backend", "control", "events", "guard", "guest_memory", "kicks", "rings", "statistics", "stream")
+)
+VHOST_PARTS = tuple(
+    f"backend/{it}" for it in ("features", "inbox", "messages", "ring_messages", "slots", "vhost_user")
+)
 CLIENT_PARTS = {
-    "vhost_user_balloon": ("backend/loop", "backend/client", "backend/vhost_user"),
-    "pci_proxy_balloon": ("backend/loop", "backend/virtio_pci"),
-    "vhost_user_host": (
-        "backend/client", "backend/vhost_user", "backend/inbox",
-        *(f"host/{it}" for it in ("guard", "journal", "lines", "loop", "policy", "seats")),
-    ),
+    "vhost_user_balloon": ("backend/loop", "backend/state", *VHOST_PARTS),
+    "pci_proxy_balloon": ("backend/loop", "backend/state", "backend/virtio_pci"),
+    "vhost_user_host": (*VHOST_PARTS, *(f"host/{it}" for it in ("journal", "lines", "loop", "policy", "seats"))),
 }
-AUDIT_PARTS, WRONG_PARTS = ("backend/audit", "backend/wrong"), ("host/wrong",)
+AUDIT_PARTS = ("backend/audit", "backend/wrong")
 FLAGS = ("-std=c11", "-O2", "-Wall", "-Wextra", "-Werror")
 
-# What a wrong device and a wrong host get in their hands: see monitor/backend/wrong.c and monitor/host/wrong.c.
-AUDIT_WRAPPED, WRONG_WRAPPED = ("vb_begin", "vb_ask", "vb_go_on", "poll"), ("vb_targets", "vb_spare", "vb_needs_targets")
+# What a wrong device gets in its hands (monitor/backend/wrong.c), and by their programs what a wrong backend and a wrong
+# host do (monitor/backend/wrong_backend.c, monitor/host/wrong.c).
+AUDIT_WRAPPED = ("vb_begin", "vb_ask", "vb_go_on", "poll")
+WRONG_PARTS = {"vhost_user_balloon": ("backend/wrong_backend",), "vhost_user_host": ("host/wrong",)}
+WRONG_WRAPPED = {
+    "vhost_user_balloon": (
+        "event_signal", "ring_end", "message_answer", "message_wants_answer", "message_tell", "memory_remove", "rings_forget",
+        "memory_of_user", "statistics_room", "memory_clear", "backend_tell_change", "backend_serve_pending",
+    ),
+    "vhost_user_host": ("vb_targets", "vb_spare", "vb_needs_targets"),
+}
 
 # A guest's command line, whatever it runs under.
 KERNEL_WORDS = ("rdinit=/init", "panic=-1", "loglevel=1")
@@ -81,16 +93,23 @@ def fetch(name, packages):
     return root
 
 
+def kernel_packages():
+    """Returns the package with the kernel of a guest under QEMU."""
+    said = subprocess.run(["apt-cache", "depends", "linux-image-cloud-amd64"], capture_output=True, text=True).stdout
+    kernels = [it.split()[1] for it in said.splitlines() if "Depends: linux-image" in it]
+    if not kernels:
+        raise Missing("apt-cache knows no linux-image-cloud-amd64, whose kernel a guest of QEMU boots: apt-get update, on amd64")
+    return kernels[:1]
+
+
 def qemu_packages():
     """Returns the packages with QEMU, what it wants besides, and a kernel for it."""
     words = ["apt-get", "install", "-s", "--no-install-recommends", "qemu-system-x86"]
-    said = subprocess.run(words, capture_output=True, text=True).stdout
-    packages = [it.split()[1] for it in said.splitlines() if it.startswith("Inst ")]
-    said = subprocess.run(["apt-cache", "depends", "linux-image-cloud-amd64"], capture_output=True, text=True).stdout
-    kernels = [it.split()[1] for it in said.splitlines() if "Depends: linux-image" in it]
-    if not packages or not kernels:
-        raise Missing("apt-get knows no qemu-system-x86 to fetch, or no kernel: apt-get update, on Debian 12 for amd64")
-    return [*packages, kernels[0]]
+    ran = subprocess.run(words, capture_output=True, text=True)
+    packages = [it.split()[1] for it in ran.stdout.splitlines() if it.startswith("Inst ")]
+    if not packages:
+        raise Missing(f"qemu-system-x86_64 isn't installed, and apt-get finds none to fetch: {last_line(ran.stderr) or 'apt-get update'}")
+    return [*packages, *kernel_packages()]
 
 
 def core_of(reference=False):
@@ -106,11 +125,11 @@ def core_of(reference=False):
 
 def build(folder, core, name="vhost_user_balloon", audited=False, wrong=False, flags=()):
     """Compiles a backend over this core into a folder, with more flags, and returns its path: one for tests that looks at the
-    device, or a host that is wrong on purpose."""
+    device, or one that is wrong on purpose."""
     program = os.path.join(folder, name)
-    names = (name, *CLIENT_PARTS[name], *PARTS, *(AUDIT_PARTS if audited else ()), *(WRONG_PARTS if wrong else ()))
+    names = (name, *CLIENT_PARTS[name], *PARTS, *(AUDIT_PARTS if audited else ()), *(WRONG_PARTS[name] if wrong else ()))
     parts = [os.path.join(MONITOR, f"{it}.c") for it in names]
-    wrapped = (*(AUDIT_WRAPPED if audited else ()), *(WRONG_WRAPPED if wrong else ()))
+    wrapped = (*(AUDIT_WRAPPED if audited else ()), *(WRONG_WRAPPED[name] if wrong else ()))
     words = [need("cc", "gcc libc6-dev"), *FLAGS, *flags, "-I", MONITOR, "-I", HEADERS, "-o", program, *parts, core]
     words += [*(["-DBALLOON_AUDIT"] if audited else []), *(f"-Wl,--wrap={it}" for it in wrapped)]
     ran = subprocess.run(words, capture_output=True, text=True)
@@ -180,15 +199,29 @@ class Uml:
 
 
 class Qemu:
-    """QEMU without KVM. Its device is on PCI, and its messages come by a pair of sockets."""
+    """QEMU without KVM: the one that is installed, else one that is fetched. Its device is on PCI, and its messages come by a
+    pair of sockets."""
 
     backend = "pci_proxy_balloon"
+    device = "x-pci-proxy-dev"
 
     def __init__(self, folder):
         busybox = os.path.join(fetch("uml", lambda: ["user-mode-linux", "busybox-static"]), "bin/busybox")
-        self.root = fetch("qemu", qemu_packages)
+        self.installed = shutil.which("qemu-system-x86_64")
+        self.root = fetch("kernel", kernel_packages) if self.installed else fetch("qemu", qemu_packages)
         modules = glob.glob(os.path.join(self.root, "lib/modules/*/kernel/drivers/virtio/virtio*.ko"))
         self.initramfs = make_initramfs(folder, busybox, modules)
+        said = subprocess.run([*self.program(), "-device", "help"], capture_output=True, text=True, env=self.environment())
+        if f'"{self.device}"' not in said.stdout:
+            raise Missing(f"{self.program()[0]} has no {self.device}: {last_line(said.stderr) or 'it is built without'}")
+
+    def program(self):
+        """Returns QEMU, with the folders of a fetched one's files."""
+        if self.installed:
+            return [self.installed]
+        share = os.path.join(self.root, "usr/share")
+        program = os.path.join(self.root, "usr/bin/qemu-system-x86_64")
+        return [program, "-L", os.path.join(share, "qemu"), "-L", os.path.join(share, "seabios")]
 
     def connect(self, _):
         """Returns what the backend and the guest are told of each other, and their files."""
@@ -200,16 +233,17 @@ class Qemu:
         kernel = glob.glob(os.path.join(self.root, "boot/vmlinuz-*"))[0]
         looks = ("console=ttyS0", "irqpoll", "nolapic_timer", "nohz=off")
         return [
-            os.path.join(self.root, "usr/bin/qemu-system-x86_64"), "-nodefaults", "-no-user-config", "-display", "none",
-            "-L", os.path.join(self.root, "usr/share/qemu"), "-L", os.path.join(self.root, "usr/share/seabios"),
+            *self.program(), "-nodefaults", "-no-user-config", "-display", "none",
             "-accel", "tcg", "-smp", "1", "-m", str(memory), "-no-reboot", "-serial", "stdio",
             "-object", f"memory-backend-memfd,id=memory,size={memory}M,share=on", "-machine", "q35,memory-backend=memory",
             "-kernel", kernel, "-initrd", self.initramfs, "-append", " ".join((*looks, *KERNEL_WORDS)),
-            "-device", f"x-pci-proxy-dev,id=balloon,fd={number}",
+            "-device", f"{self.device},id=balloon,fd={number}",
         ]
 
     def environment(self):
-        """Returns the guest's environment: where QEMU's libraries are."""
+        """Returns the guest's environment: where a fetched QEMU's libraries are."""
+        if self.installed:
+            return dict(os.environ)
         folders = [os.path.join(self.root, it, "x86_64-linux-gnu") for it in ("usr/lib", "lib")]
         return {**os.environ, "LD_LIBRARY_PATH": ":".join(folders)}
 

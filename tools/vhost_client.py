@@ -1,5 +1,5 @@
 """A vhost-user client that isn't Linux: it has memory of its own, with a hole in it, and writes into its rings whatever is
-wanted."""
+wanted. It kicks and is called by messages, as virtio_uml, or by events, as QEMU."""
 
 import array
 import os
@@ -13,10 +13,20 @@ PAGES_OF_REGION = 64
 # Two regions with a hole between them: where they stand in the guest and in the client.
 REGIONS = ((0x100000, 0x7F0000000000), (0x180000, 0x7F1000000000))
 
-GET_FEATURES, SET_FEATURES, SET_OWNER, SET_MEM_TABLE, SET_VRING_NUM, SET_VRING_ADDR, SET_VRING_BASE = 1, 2, 3, 5, 8, 9, 10
+GET_FEATURES, SET_FEATURES, SET_OWNER, RESET_OWNER, SET_MEM_TABLE = 1, 2, 3, 4, 5
+SET_VRING_NUM, SET_VRING_ADDR, SET_VRING_BASE, GET_VRING_BASE = 8, 9, 10, 11
+SET_VRING_KICK, SET_VRING_CALL, SET_VRING_ERR = 12, 13, 14
 GET_PROTOCOL_FEATURES, SET_PROTOCOL_FEATURES, GET_QUEUE_NUM, SET_VRING_ENABLE, SET_BACKEND_REQ_FD = 15, 16, 17, 18, 21
-GET_CONFIG, SET_CONFIG, VRING_KICK = 24, 25, 35
+GET_CONFIG, SET_CONFIG, RESET_DEVICE, VRING_KICK = 24, 25, 34, 35
+GET_MAX_MEM_SLOTS, ADD_MEM_REG, REM_MEM_REG, SET_STATUS, GET_STATUS = 36, 37, 38, 39, 40
 CONFIG_CHANGED, VRING_CALL = 2, 4
+
+# Protocol features: MQ, REPLY_ACK, BACKEND_REQ, CONFIG, RESET_DEVICE, INBAND_NOTIFICATIONS, CONFIGURE_MEM_SLOTS, STATUS.
+REPLY_ACK, BY_MESSAGES, STATUS = 1 << 3, 1 << 14, 1 << 16
+OFFERED = 0x1E229
+UML_PROTOCOL, QEMU_PROTOCOL = 0x4228, OFFERED & ~BY_MESSAGES
+HAS_PROTOCOL = 1 << 30
+NO_FILE = 1 << 8
 
 FEATURES = 0x100000027
 INFLATE, DEFLATE, STATISTICS, REPORT = range(4)
@@ -33,22 +43,30 @@ class Client:
     """A vhost-user client with memory; `why` says what its backend said last."""
 
     def __init__(self, path, why=lambda: ""):
-        self.why = why
-        self.socket = socket.socket(socket.AF_UNIX, socket.SOCK_STREAM)
-        self.socket.connect(path)
-        self.socket.settimeout(LIMIT)
+        self.why, self.path, self.socket = why, path, None
+        self.connect()
         self.files = [os.memfd_create(f"region {it}") for it in range(len(REGIONS))]
         for it in self.files:
             os.write(it, b"\xff" * PAGES_OF_REGION * PAGE)
-        self.own, self.theirs = socket.socketpair()
         self.available = [0] * 4
         self.region = 0  # where the rings are
+        self.kicks, self.calls = [None] * 4, [None] * 4
+
+    def connect(self):
+        """Comes to the backend, in place of a connection before."""
+        if self.socket:
+            self.socket.close(), self.own.close(), self.theirs.close()
+        self.socket = socket.socket(socket.AF_UNIX, socket.SOCK_STREAM)
+        self.socket.connect(self.path)
+        self.socket.settimeout(LIMIT)
+        self.own, self.theirs = socket.socketpair()
 
     def leave(self):
         """Goes, and lets go of all that it had."""
         self.socket.close(), self.own.close(), self.theirs.close()
-        for it in self.files:
-            os.close(it)
+        for it in (*self.files, *self.kicks, *self.calls):
+            if it is not None:
+                os.close(it)
 
     def receive(self, stream=None):
         """Returns the request and the body of the next message; None where there is none any more."""
@@ -104,32 +122,85 @@ class Client:
             table += struct.pack("<QQQQ", guest, PAGES_OF_REGION * PAGE, user, 0)
         self.accepted(SET_MEM_TABLE, table, self.files)
 
-    def place(self, number, size=SIZE, base=0, shift=0):
-        """Gives a queue a place, in the client's addresses, and clears its rings."""
-        at = 3 * number * PAGE
-        self.write(self.table(number), bytes(3 * PAGE))
-        self.available[number] = 0
-        user = REGIONS[self.region][1] + at + shift
+    def region_body(self, region):
+        """Returns the body of a message that adds a region, or takes it away."""
+        return struct.pack("<QQQQQ", 0, REGIONS[region][0], PAGES_OF_REGION * PAGE, REGIONS[region][1], 0)
+
+    def add_memory(self):
+        """Tells the backend of the memory, region by region."""
+        for region, file in enumerate(self.files):
+            self.accepted(ADD_MEM_REG, self.region_body(region), [file])
+
+    def tell_place(self, number, size=SIZE, base=0, shift=0):
+        """Tells the place of a queue, in the client's addresses."""
+        user = REGIONS[self.region][1] + 3 * number * PAGE + shift
         self.accepted(SET_VRING_NUM, struct.pack("<II", number, size))
         self.accepted(SET_VRING_BASE, struct.pack("<II", number, base))
         self.accepted(SET_VRING_ADDR, struct.pack("<IIQQQQ", number, 0, user, user + 2 * PAGE, user + PAGE, 0))
+
+    def clear(self, number):
+        """Clears the rings of a queue."""
+        self.write(self.table(number), bytes(3 * PAGE))
+        self.available[number] = 0
+
+    def place(self, number, size=SIZE, base=0, shift=0):
+        """Gives a queue a place, and clears its rings."""
+        self.clear(number)
+        self.tell_place(number, size, base, shift)
 
     def enable(self, number, on=1):
         """Enables a queue, or disables it."""
         return self.send(SET_VRING_ENABLE, struct.pack("<II", number, on))
 
+    def negotiate(self, features=FEATURES, protocol=UML_PROTOCOL):
+        """Does what comes before memory."""
+        self.send(SET_OWNER, flags=1)
+        self.accepted(SET_PROTOCOL_FEATURES, struct.pack("<Q", protocol))
+        self.accepted(SET_BACKEND_REQ_FD, files=[self.theirs.fileno()])
+        self.accepted(SET_FEATURES, struct.pack("<Q", features | HAS_PROTOCOL))
+
     def start(self, features=FEATURES, queues=4):
         """Does what virtio_uml and its driver do until the device is ready."""
-        self.send(SET_OWNER, flags=1)
-        self.accepted(SET_PROTOCOL_FEATURES, struct.pack("<Q", 0x4228))
-        self.accepted(SET_BACKEND_REQ_FD, files=[self.theirs.fileno()])
-        self.accepted(SET_FEATURES, struct.pack("<Q", features | 1 << 30))
+        self.negotiate(features)
         self.hand_over_memory()
         for number in range(queues):
             self.place(number)
         for number in range(queues):
             if self.enable(number) != bytes(8):
                 raise AssertionError(self.why())
+
+    def start_by_events(self, features=FEATURES, protocol=QEMU_PROTOCOL, bases=None):
+        """Does what QEMU does until the device is ready; with rings that go on at these indexes, or with new ones."""
+        self.negotiate(features, protocol)
+        self.add_memory()
+        self.go_on(bases)
+
+    def go_on(self, bases=None):
+        """Starts the rings and the driver."""
+        if bases is None:
+            for number in range(4):
+                self.clear(number)
+        for number in range(4):
+            self.tell_place(number, base=bases[number] if bases else 0)
+            self.give_events(number)
+        for number in range(4):
+            self.accepted(SET_VRING_ENABLE, struct.pack("<II", number, 1))
+        self.accepted(SET_STATUS, struct.pack("<Q", 15))
+
+    def give_events(self, number):
+        """Gives a queue new events."""
+        for events, request in ((self.calls, SET_VRING_CALL), (self.kicks, SET_VRING_KICK)):
+            if events[number] is not None:
+                os.close(events[number])
+            events[number] = os.eventfd(0, os.EFD_CLOEXEC | os.EFD_NONBLOCK)
+            self.accepted(request, struct.pack("<Q", number), [events[number]])
+
+    def stop_ring(self, number):
+        """Stops a ring; returns where it goes on."""
+        answered, base = struct.unpack("<II", self.send(GET_VRING_BASE, struct.pack("<II", number, 0)))
+        if answered != number:
+            raise AssertionError(f"queue {number} is asked for, and {answered} is answered")
+        return base
 
     def table(self, number):
         """Returns where a queue's table is."""
@@ -147,7 +218,9 @@ class Client:
         self.write(at + 2, struct.pack("<H", self.available[number] & 0xFFFF))
 
     def kick(self, number):
-        """Kicks a queue; the answer comes before anything is served."""
+        """Kicks a queue: by its event, or by a message whose answer comes before anything is served."""
+        if self.kicks[number] is not None:
+            return os.eventfd_write(self.kicks[number], 1)
         return self.send(VRING_KICK, struct.pack("<II", number, 0))
 
     def post_pages(self, number, pages, head=0):
@@ -169,3 +242,9 @@ class Client:
             raise AssertionError(f"the backend tells nothing: {self.why()}")
         request, body = self.receive(self.own)
         return struct.unpack("<I", body[:4])[0] if request == VRING_CALL else None
+
+    def called(self, number, limit=LIMIT):
+        """Returns how often a queue was called by its event since the last time, and waits for the first."""
+        if not select.select([self.calls[number]], [], [], limit)[0]:
+            return 0
+        return os.eventfd_read(self.calls[number])

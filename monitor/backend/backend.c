@@ -3,6 +3,7 @@
 
 #include <stdarg.h>
 #include <stdio.h>
+#include <unistd.h>
 
 const char *served_name;
 
@@ -18,6 +19,19 @@ bool refuse(const char *format, ...)
     fputc('\n', stderr);
     va_end(words);
     return false;
+}
+
+void remark(struct backend *backend, const char *format, ...)
+{
+    va_list words;
+    if (backend->remarks++ >= MOST_REMARKS)
+        return;
+    va_start(words, format);
+    if (served_name)
+        fprintf(stderr, "%s: ", served_name);
+    vfprintf(stderr, format, words);
+    fputc('\n', stderr);
+    va_end(words);
 }
 
 /* How many of these pages left the balloon below its target: the guest took them back by itself. */
@@ -43,12 +57,9 @@ static void count_pages(void *context, uint32_t kind, const VbRun *runs, uint32_
     audit_pages(backend, kind);
 }
 
-static void keep_statistics(void *context, const VbStatistic *figures, uint32_t count)
+static void hear_statistics(void *context, const VbStatistic *figures, uint32_t count)
 {
-    struct backend *backend = context;
-    backend->figure_count = count < MOST_TAGS ? count : MOST_TAGS;
-    memcpy(backend->figures, figures, backend->figure_count * sizeof figures[0]);
-    backend->counters.statistics++;
+    statistics_keep(context, figures, count);
 }
 
 /* For a run to compare with: the host keeps all memory. */
@@ -63,31 +74,45 @@ bool backend_start(struct backend *backend, const struct options *options)
     /* Where memory ends is known when the client hands it over. */
     VbSettings settings = {
         .memory_end = 2 * BALLOON_PAGE, .offered = options->features, .skips_bad_pages = !options->strict};
-    backend->channel = -1;
-    backend->drops_nothing = options->keep;
+    backend->options = options;
+    backend->socket = backend->listener = backend->channel = -1;
+    rings_clear(backend);
     if (balloon_init(&backend->balloon, backend->memory.regions, 0, settings) != VB_OK)
         return refuse("the device can't offer the features 0x%llx", (unsigned long long)options->features);
     backend->balloon.context = backend;
     backend->balloon.on_pages = count_pages;
-    backend->balloon.on_statistics = keep_statistics;
-    backend->balloon.discard = backend->drops_nothing ? discard_nothing : NULL;
+    backend->balloon.on_statistics = hear_statistics;
+    backend->balloon.discard = options->keep ? discard_nothing : NULL;
     return true;
+}
+
+void backend_leave(struct backend *backend)
+{
+    rings_close(backend);
+    if (backend->channel >= 0)
+        close(backend->channel);
+    backend->channel = -1;
+    memory_clear(&backend->memory);
+}
+
+bool backend_is_ready(const struct backend *backend)
+{
+    return backend->balloon.state.device.status & BALLOON_DRIVER_OK;
 }
 
 void backend_tell_change(struct backend *backend)
 {
-    if (!(backend->balloon.state.device.status & BALLOON_DRIVER_OK))
+    if (!backend_is_ready(backend))
         return; /* a driver reads its configuration as it starts */
     backend->counters.told++;
     if (!backend->tell(backend, -1))
-        fputs("the client can't be told of a change\n", stderr);
+        remark(backend, "the client can't be told of a change");
 }
 
 void backend_look(struct backend *backend)
 {
     uint32_t actual = backend->balloon.state.device.actual;
-    bool ready = backend->balloon.state.device.status & BALLOON_DRIVER_OK;
-    if (ready && balloon_is_off_target(&backend->balloon) && actual == backend->seen)
+    if (backend_is_ready(backend) && balloon_is_off_target(&backend->balloon) && actual == backend->seen)
         backend_tell_change(backend);
     backend->seen = actual;
 }
@@ -103,22 +128,40 @@ static const char *rule_words(uint32_t rule)
     return rule < sizeof words / sizeof words[0] ? words[rule] : "an unknown rule";
 }
 
+/* Counts what a result says. */
+static void count_result(struct counters *counters, const struct balloon_result *result)
+{
+    counters->chains += result->chains;
+    counters->pages += result->pages;
+    counters->discarded += result->discarded;
+    counters->skipped += result->skipped;
+    counters->in_holes += result->in_holes;
+    counters->kept += result->kept;
+    counters->marked += result->marked;
+    counters->unmarked += result->unmarked;
+}
+
+/* Tells of the used buffers of a result. */
+static bool interrupt(struct backend *backend, const struct balloon_result *result)
+{
+    for (unsigned number = 0; number < QUEUES; number++) {
+        uint32_t kind = vb_kind(&backend->balloon.state.device, number);
+        if (kind >= VB_NO_KIND || !(result->interrupts & 1u << kind))
+            continue;
+        backend->counters.interrupts++;
+        if (!backend->tell(backend, (int)number))
+            return refuse("the client can't be told of a used buffer");
+    }
+    return true;
+}
+
 bool backend_finish(struct backend *backend, const struct balloon_result *result)
 {
-    const VbDevice *device = &backend->balloon.state.device;
-    backend->counters.skipped += result->skipped;
-    backend->counters.in_holes += result->in_holes;
-    backend->counters.kept += result->kept;
+    count_result(&backend->counters, result);
     if (result->kept)
-        fprintf(stderr, "%llu pages can't be discarded: %s\n", (unsigned long long)result->kept, strerror(result->error));
-    for (unsigned number = 0; number < QUEUES; number++) {
-        uint32_t kind = vb_kind(device, number);
-        if (kind < VB_NO_KIND && (result->interrupts & 1u << kind)) {
-            backend->counters.interrupts++;
-            if (!backend->tell(backend, (int)number))
-                return refuse("the client can't be told of a used buffer");
-        }
-    }
+        remark(backend, "%llu pages can't be discarded: %s", (unsigned long long)result->kept, strerror(result->error));
+    if (!interrupt(backend, result))
+        return false;
     if (result->code == VB_BROKEN)
         return refuse("the guest's bytes have %s (rule %u)", rule_words(result->rule), result->rule);
     return result->code == VB_OK || result->code == VB_NOTHING || refuse("a request is answered %u", result->code);
@@ -126,12 +169,16 @@ bool backend_finish(struct backend *backend, const struct balloon_result *result
 
 bool backend_serve(struct backend *backend, unsigned number)
 {
+    const struct event *fault = &backend->rings[number].fault;
     audit_before(backend, number);
     struct balloon_result result = balloon_notify_number(&backend->balloon, number);
     audit_after(backend, number);
     backend->pending &= ~(1u << number);
     backend->pending |= result.more ? 1u << number : 0;
-    return backend_finish(backend, &result);
+    bool served = backend_finish(backend, &result);
+    if (!served && fault->file >= 0)
+        event_signal(fault);
+    return served;
 }
 
 bool backend_serve_pending(struct backend *backend)

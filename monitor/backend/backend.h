@@ -2,48 +2,40 @@
 #ifndef BACKEND_H
 #define BACKEND_H
 #include "guest_memory.h"
+#include "counters.h"
+#include "rings.h"
 
-enum { QUEUES = 4, MOST_TAGS = 16 };
+enum { MOST_TAGS = 16, MOST_REMARKS = 100 };
 
-/* What the client said of a queue, before it is enabled; addresses are the client's. */
-struct told_queue {
-    uint64_t table, avail, used;
-    uint32_t size, base;
-    bool enabled;
-};
-
-struct counters {
-    uint64_t kicks, interrupts, told;           /* told: changes of the configuration */
-    uint64_t inflated, deflated, reported;      /* pages */
-    uint64_t reports, skipped, in_holes, kept;
-    uint64_t statistics;                        /* how often the guest told its own */
-    uint64_t taken;                             /* pages that left the balloon below its target, where a set is kept */
+struct options {
+    const char *client;         /* the client's socket: a name, or a number */
+    const char *state;          /* the file of the saved state, or NULL */
+    uint64_t features;
+    bool strict, keep;
+    bool events;                /* in-band notifications aren't offered */
 };
 
 struct backend {
     struct balloon balloon;
     struct guest_memory memory;
-    struct told_queue queues[QUEUES];
+    struct told told;
+    struct ring rings[QUEUES];
     struct counters counters;
     VbStatistic figures[MOST_TAGS];
     uint32_t figure_count;
     uint32_t pending;           /* bit 1 << number: more stands on this queue */
     uint32_t seen;              /* what `actual` was when it was last looked at */
     int socket, channel;        /* the client's, and the one on which it is told things; -1: none */
+    int listener;               /* where the client comes while `socket` is -1 */
+    const struct options *options;
     /* Tells the driver of a used buffer on a queue, or of a change of the configuration (queue -1). */
     bool (*tell)(struct backend *backend, int queue);
     /* For a client that has to be poked now and then; or NULL. */
     void (*idle)(struct backend *backend);
     /* Whether the host has room for the memory that was handed over, else says why not; or NULL: it always has. */
     bool (*admit)(struct backend *backend);
-    bool drops_nothing;
     bool gone;                  /* the client doesn't take answers any longer */
-};
-
-struct options {
-    const char *client;         /* the client's socket: a name, or a number */
-    uint64_t features;
-    bool strict, keep;
+    unsigned remarks;           /* what was said of it, at most MOST_REMARKS lines */
 };
 
 /* Whose client is served just now, for what is said of it; NULL where there is one client alone. */
@@ -52,15 +44,24 @@ extern const char *served_name;
 /* Says on standard error why the guest isn't served any longer; returns false. */
 bool refuse(const char *format, ...) __attribute__((format(printf, 1, 2)));
 
+/* Says something of a client that goes on being served, on standard error; but not for ever. */
+void remark(struct backend *backend, const char *format, ...) __attribute__((format(printf, 2, 3)));
+
 /* Reads the words that follow a program's name; false where it doesn't know one. */
 bool backend_options(struct options *options, int count, char **words);
 
-/* Makes the device for a client that hasn't said anything; false where it can't, which is said. */
+/* Makes the device for a client that hasn't said anything; false where it can't, which is said. The options stay. */
 bool backend_start(struct backend *backend, const struct options *options);
 
+/* Closes each file that the client has handed over, and unmaps its memory. */
+void backend_leave(struct backend *backend);
+
 /* Serves until the client has gone, breaks a rule, or the control pipe says to quit; returns the program's status.
- * `serve` serves one message of the client: 1; 0 where it has gone; -1 where it can't be served any longer. */
+ * `serve` serves one message of the client, if one is there: 1; 0 where it has gone; -1 where it can't be served. */
 int backend_run(struct backend *backend, int (*serve)(struct backend *backend));
+
+/* Whether its driver is ready. */
+bool backend_is_ready(const struct backend *backend);
 
 /* Serves the queue of this number. */
 bool backend_serve(struct backend *backend, unsigned number);
@@ -76,6 +77,10 @@ void backend_tell_change(struct backend *backend);
 
 /* Does what a result says: interrupts, and counts; false where the guest's bytes broke a rule. */
 bool backend_finish(struct backend *backend, const struct balloon_result *result);
+
+/* Keeps what the guest told of itself: of more than MOST_TAGS figures, the first ones. */
+void statistics_keep(struct backend *backend, const VbStatistic *figures, uint32_t count);
+uint32_t statistics_room(uint32_t count);
 
 /* Obeys one line of the control pipe, with one line on standard output: 1; 0 where it says to quit; -1 where the client
  * can't be served any longer. */

@@ -16,16 +16,21 @@ static const char *tag_name(uint16_t tag)
     return tag < sizeof names / sizeof names[0] ? names[tag] : "other";
 }
 
+#define PRINT_COUNTER(name) printf(" " #name " %" PRIu64, it->name);
+
 static void print_counters(const struct backend *backend)
 {
     const VbDevice *device = &backend->balloon.state.device;
     const struct counters *it = &backend->counters;
     printf("target %" PRIu32 " actual %" PRIu32 " status %u held_kib %" PRIu64 " end %" PRIu64, device->target,
            device->actual, device->status, memory_held(&backend->memory), device->settings.memory_end / BALLOON_PAGE);
-    printf(" kicks %" PRIu64 " interrupts %" PRIu64 " told %" PRIu64, it->kicks, it->interrupts, it->told);
-    printf(" inflated %" PRIu64 " deflated %" PRIu64 " reported %" PRIu64 " reports %" PRIu64, it->inflated,
-           it->deflated, it->reported, it->reports);
-    printf(" skipped %" PRIu64 " in_holes %" PRIu64 " kept %" PRIu64 "\n", it->skipped, it->in_holes, it->kept);
+    COUNTERS(PRINT_COUNTER)
+    putchar('\n');
+}
+
+uint32_t statistics_room(uint32_t count)
+{
+    return count < MOST_TAGS ? count : MOST_TAGS;
 }
 
 static void print_statistics(const struct backend *backend)
@@ -41,7 +46,7 @@ static bool ask(struct backend *backend)
 {
     const VbDevice *device = &backend->balloon.state.device;
     for (unsigned number = 0; number < QUEUES; number++) {
-        if (vb_kind(device, number) != VB_STATISTICS || !(device->status & BALLOON_DRIVER_OK))
+        if (vb_kind(device, number) != VB_STATISTICS || !backend_is_ready(backend))
             continue;
         audit_before(backend, number);
         struct balloon_result result = balloon_ask_statistics(&backend->balloon);

@@ -3,38 +3,86 @@
 #include <sys/stat.h>
 #include <unistd.h>
 
+static void unmap(const struct balloon_region *region)
+{
+    munmap(region->host, region->length);
+    close(region->fd);
+}
+
 void memory_clear(struct guest_memory *memory)
 {
-    for (unsigned i = 0; i < memory->count; i++) {
-        munmap(memory->regions[i].host, memory->regions[i].length);
-        close(memory->regions[i].fd);
-    }
+    for (unsigned i = 0; i < memory->count; i++)
+        unmap(&memory->regions[i]);
     memory->count = 0;
 }
 
-/* Maps one more region; takes the file if it can. */
-static bool add(struct guest_memory *memory, struct region_place place, int file)
+/* Whether one of two ranges of these lengths has an address of the other one. */
+static bool overlap(uint64_t one, uint64_t length, uint64_t other, uint64_t its)
+{
+    return one < other ? other - one < length : one - other < its;
+}
+
+/* Whether a region may stand beside the others. */
+static bool has_room(const struct guest_memory *memory, const struct region_place *place)
+{
+    for (unsigned i = 0; i < memory->count; i++)
+        if (overlap(place->guest, place->size, memory->regions[i].guest, memory->regions[i].length)
+            || overlap(place->user, place->size, memory->user[i], memory->regions[i].length))
+            return false;
+    return memory->count < MOST_REGIONS;
+}
+
+/* Whether a region begins at a page, and ends. */
+static bool is_range(const struct region_place *place)
 {
     uint64_t end;
-    if (place.size == 0 || __builtin_add_overflow(place.guest, place.size, &end))
+    return place->size > 0 && place->guest % BALLOON_PAGE == 0 && !__builtin_add_overflow(place->guest, place->size, &end)
+        && !__builtin_add_overflow(place->user, place->size, &end)
+        && !__builtin_add_overflow(place->offset, place->size, &end) && end <= INT64_MAX;
+}
+
+/* Whether a file has all bytes of a region. */
+static bool has_bytes(int file, const struct region_place *place)
+{
+    struct stat its;
+    return !fstat(file, &its) && S_ISREG(its.st_mode) && place->offset + place->size <= (uint64_t)its.st_size;
+}
+
+bool memory_add(struct guest_memory *memory, struct region_place place, int file)
+{
+    uint8_t *at = MAP_FAILED;
+    if (is_range(&place) && has_room(memory, &place) && has_bytes(file, &place))
+        at = mmap(NULL, place.size, PROT_READ | PROT_WRITE, MAP_SHARED, file, (off_t)place.offset);
+    if (at == MAP_FAILED) {
+        close(file);
         return false;
-    uint8_t *at = mmap(NULL, place.size, PROT_READ | PROT_WRITE, MAP_SHARED, file, (off_t)place.offset);
-    if (at == MAP_FAILED)
-        return false;
+    }
     memory->user[memory->count] = place.user;
     memory->regions[memory->count++] = (struct balloon_region){place.guest, place.size, at, file, place.offset};
     return true;
 }
 
+bool memory_remove(struct guest_memory *memory, struct region_place place)
+{
+    for (unsigned i = 0; i < memory->count; i++) {
+        const struct balloon_region *region = &memory->regions[i];
+        if (region->guest != place.guest || region->length != place.size || memory->user[i] != place.user)
+            continue;
+        unmap(region);
+        memory->count--;
+        memory->regions[i] = memory->regions[memory->count];
+        memory->user[i] = memory->user[memory->count];
+        return true;
+    }
+    return false;
+}
+
 bool memory_map(struct guest_memory *memory, const struct region_place *places, const int *files, unsigned count)
 {
-    bool good = count <= MOST_REGIONS;
+    bool good = true;
     memory_clear(memory);
-    for (unsigned i = 0; i < count; i++) {
-        good = good && add(memory, places[i], files[i]);
-        if (!good)
-            close(files[i]);
-    }
+    for (unsigned i = 0; i < count; i++)
+        good = memory_add(memory, places[i], files[i]) && good;
     return good;
 }
 

@@ -3,7 +3,7 @@
 #define GUEST_MEMORY_H
 #include "../balloon.h"
 
-enum { MOST_REGIONS = 8 };
+enum { MOST_REGIONS = 32 };
 
 /* As a message has it: where a region stands in the guest, in the client, and in its file. */
 struct region_place {
@@ -18,6 +18,13 @@ struct guest_memory {
 
 /* Unmaps all regions and closes their files. */
 void memory_clear(struct guest_memory *memory);
+
+/* Maps one more region. Takes the file; false where it can't be mapped: it doesn't begin at a page, it wraps, there is one
+ * at these addresses of the guest or of the client, its file ends before, or there are MOST_REGIONS. */
+bool memory_add(struct guest_memory *memory, struct region_place place, int file);
+
+/* Unmaps the region of this place, wherever it begins in its file; false where there is none. */
+bool memory_remove(struct guest_memory *memory, struct region_place place);
 
 /* Maps these regions in place of those before. Takes the files; false where one can't be mapped. */
 bool memory_map(struct guest_memory *memory, const struct region_place *places, const int *files, unsigned count);

@@ -1,31 +1,55 @@
-/* The loop that every such process has: its client, its control pipe, and a look each second. */
+/* The loop that every such process has: its client, the kicks of its queues, its control pipe, and a look each second. */
 #include "backend.h"
+#include "guard.h"
+#include "state.h"
 
 #include <errno.h>
-#include <poll.h>
 #include <stdlib.h>
 #include <time.h>
 #include <unistd.h>
 
-enum { BALLOON_FEATURES = 0x27, LOOK_EVERY = 1000, IDLE_EVERY = 50, MOST_LINE = 128 };
+enum { BALLOON_FEATURES = 0x27, LOOK_EVERY = 1000, IDLE_EVERY = 50, POLL_EVERY = 10, MOST_LINE = 128 };
+
+/* What is waited for, in this order: the client, the control pipe, the queues' kicks. */
+enum { CLIENT, PIPE, KICKS, FILES = KICKS + QUEUES };
+
+struct loop {
+    struct backend *backend;
+    int (*serve)(struct backend *backend);
+    int64_t look;               /* when the next look is */
+    size_t length;              /* of what is left of the last line that came */
+    char line[MOST_LINE];
+};
+
+/* Reads an option that has a word; false where it is none. */
+static bool read_option(struct options *options, const char *name, const char *word)
+{
+    char *end = "";
+    if (!strcmp(name, "--features"))
+        options->features = strtoull(word, &end, 16);
+    else if (!strcmp(name, "--state"))
+        options->state = word;
+    else
+        return false;
+    return !*end;
+}
 
 bool backend_options(struct options *options, int count, char **words)
 {
     options->features = UINT64_C(1) << 32 | BALLOON_FEATURES;
     for (int i = 1; i < count; i++) {
-        char *end = "";
         if (!strcmp(words[i], "--strict"))
             options->strict = true;
         else if (!strcmp(words[i], "--keep"))
             options->keep = true;
-        else if (!strcmp(words[i], "--features") && i + 1 < count)
-            options->features = strtoull(words[++i], &end, 16);
+        else if (!strcmp(words[i], "--events"))
+            options->events = true;
         else if (words[i][0] != '-' && !options->client)
             options->client = words[i];
+        else if (i + 1 >= count || !read_option(options, words[i], words[i + 1]))
+            return false;
         else
-            return false;
-        if (*end)
-            return false;
+            i++;
     }
     return options->client != NULL;
 }
@@ -39,56 +63,81 @@ static int64_t now(void)
 
 /* Reads what stands in the control pipe and obeys its whole lines: 1; 0 at its end, or where it says to quit; -1 where
  * the client can't be served any longer. */
-static int obey(struct backend *backend, char line[MOST_LINE], size_t *length)
+static int obey(struct loop *loop)
 {
-    ssize_t got = read(STDIN_FILENO, line + *length, MOST_LINE - 1 - *length);
+    ssize_t got = read(STDIN_FILENO, loop->line + loop->length, MOST_LINE - 1 - loop->length);
     if (got <= 0)
         return got < 0 && errno == EINTR;
-    *length += (size_t)got;
-    line[*length] = 0;
-    for (char *end; (end = strchr(line, '\n'));) {
+    loop->length += (size_t)got;
+    loop->line[loop->length] = 0;
+    for (char *end; (end = strchr(loop->line, '\n'));) {
         *end = 0;
-        int obeyed = control_line(backend, line);
+        int obeyed = control_line(loop->backend, loop->line);
         if (obeyed <= 0)
             return obeyed;
-        *length -= (size_t)(end + 1 - line);
-        memmove(line, end + 1, *length + 1);
+        loop->length -= (size_t)(end + 1 - loop->line);
+        memmove(loop->line, end + 1, loop->length + 1);
     }
-    *length = *length < MOST_LINE - 1 ? *length : 0;
+    loop->length = loop->length < MOST_LINE - 1 ? loop->length : 0;
     return 1;
 }
 
 /* How long to wait for something to do, in milliseconds. */
-static int patience(const struct backend *backend, int64_t look)
+static int patience(const struct loop *loop)
 {
-    int64_t left = look - now();
+    const struct backend *backend = loop->backend;
+    int64_t left = loop->look - now(), most = LOOK_EVERY;
     if (backend->pending || left < 0)
         return 0;
-    return (int)(backend->idle && left > IDLE_EVERY ? IDLE_EVERY : left);
+    if (backend->idle)
+        most = IDLE_EVERY;
+    if (rings_polled(backend))
+        most = POLL_EVERY;
+    return (int)(left < most ? left : most);
+}
+
+/* Serves what has come: 1; 0 where the client has gone, or the pipe says to quit; -1 where the client can't be served. */
+static int serve(struct loop *loop, const struct pollfd files[FILES])
+{
+    int served = files[CLIENT].revents ? loop->serve(loop->backend) : 1;
+    if (served > 0 && files[PIPE].revents)
+        served = obey(loop);
+    if (served <= 0)
+        return served;
+    bool good = rings_kicked(loop->backend, files + KICKS) && rings_look(loop->backend)
+        && backend_serve_pending(loop->backend) && state_save(loop->backend);
+    return good ? 1 : -1;
+}
+
+/* Waits for something to do, and does it. */
+static int once(void *what)
+{
+    struct loop *loop = what;
+    struct backend *backend = loop->backend;
+    struct pollfd files[FILES] = {
+        [CLIENT] = {backend->socket >= 0 ? backend->socket : backend->listener, POLLIN, 0},
+        [PIPE] = {STDIN_FILENO, POLLIN, 0},
+    };
+    rings_wait(backend, files + KICKS);
+    int found = poll(files, FILES, patience(loop));
+    if (found < 0)
+        return 1;
+    if (found == 0 && backend->idle)
+        backend->idle(backend);
+    int served = serve(loop, files);
+    if (served > 0 && now() >= loop->look) {
+        backend_look(backend);
+        loop->look = now() + LOOK_EVERY;
+    }
+    return served;
 }
 
 int backend_run(struct backend *backend, int (*serve)(struct backend *backend))
 {
-    char line[MOST_LINE];
-    size_t length = 0;
-    int64_t look = now() + LOOK_EVERY;
-    for (;;) {
-        struct pollfd either[2] = {{backend->socket, POLLIN, 0}, {STDIN_FILENO, POLLIN, 0}};
-        int found = poll(either, 2, patience(backend, look));
-        if (found < 0)
-            continue;
-        if (found == 0 && backend->idle)
-            backend->idle(backend);
-        int served = either[0].revents ? serve(backend) : 1;
-        if (served > 0 && either[1].revents)
-            served = obey(backend, line, &length);
-        if (served <= 0)
-            return served < 0;
-        if (!backend_serve_pending(backend))
-            return 1;
-        if (now() >= look) {
-            backend_look(backend);
-            look = now() + LOOK_EVERY;
-        }
-    }
+    struct loop loop = {.backend = backend, .serve = serve, .look = now() + LOOK_EVERY};
+    int served;
+    do
+        served = guard(once, &loop);
+    while (served > 0);
+    return served < 0;
 }

@@ -29,10 +29,12 @@ static void keep_files(struct files *files, const struct cmsghdr *part)
     for (size_t i = 0; i < count; i++) {
         int file;
         memcpy(&file, data + i * sizeof file, sizeof file);
-        if (files->count < MOST_FILES)
+        if (files->count < MOST_FILES) {
             files->numbers[files->count++] = file;
-        else
+        } else {
             close(file);
+            files->lost = true;
+        }
     }
 }
 
@@ -48,6 +50,7 @@ ssize_t stream_part(int socket, void *to, size_t length, struct files *files)
     ssize_t got = recvmsg(socket, &header, MSG_CMSG_CLOEXEC);
     if (got < 0)
         return errno == ECONNRESET ? 0 : -1;
+    files->lost |= (header.msg_flags & MSG_CTRUNC) != 0;
     for (struct cmsghdr *it = CMSG_FIRSTHDR(&header); it; it = CMSG_NXTHDR(&header, it))
         if (it->cmsg_level == SOL_SOCKET && it->cmsg_type == SCM_RIGHTS)
             keep_files(files, it);
@@ -57,6 +60,7 @@ ssize_t stream_part(int socket, void *to, size_t length, struct files *files)
 int stream_receive(int socket, void *to, size_t length, struct files *files)
 {
     files->count = 0;
+    files->lost = false;
     ssize_t got = stream_part(socket, to, length, files);
     if (got <= 0)
         return (int)got;
@@ -68,4 +72,5 @@ void files_close(struct files *files)
     for (unsigned i = 0; i < files->count; i++)
         close(files->numbers[i]);
     files->count = 0;
+    files->lost = false;
 }

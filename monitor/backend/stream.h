@@ -1,6 +1,7 @@
 /* Messages on a stream socket, with files beside their first bytes. */
 #ifndef STREAM_H
 #define STREAM_H
+#include <stdbool.h>
 #include <stddef.h>
 #include <stdint.h>
 #include <sys/types.h>
@@ -10,6 +11,7 @@ enum { MOST_FILES = 8 };
 struct files {
     int numbers[MOST_FILES];
     unsigned count;
+    bool lost;                  /* more came than there is room for, and were closed */
 };
 
 /* Reads some of these bytes, and adds the files that come beside them: how many bytes; 0 where the stream has ended; -1,

@@ -1,9 +1,15 @@
+#define _GNU_SOURCE
 #include "vhost_user.h"
 
 #include <string.h>
-#include <unistd.h>
+#include <sys/socket.h>
 
-enum { HEADER = 12, VERSION = 1, IS_REPLY = 4, NEEDS_REPLY = 8 };
+enum { HEADER = 12, VERSION_MASK = 3, VERSION = 1, IS_REPLY = 4, NEEDS_REPLY = 8 };
+
+bool message_is_request(const struct message *message)
+{
+    return (message->flags & (VERSION_MASK | IS_REPLY)) == VERSION;
+}
 
 bool message_wants_answer(const struct message *message)
 {
@@ -26,19 +32,7 @@ uint64_t message_u64(const struct message *message, unsigned at)
     return word;
 }
 
-int message_receive(int socket, struct message *message)
-{
-    uint32_t head[HEADER / 4];
-    int got = stream_receive(socket, head, sizeof head, &message->files);
-    if (got <= 0)
-        return got;
-    message->request = head[0];
-    message->flags = head[1];
-    message->size = head[2];
-    return message->size <= MOST_BODY ? stream_read(socket, message->body, message->size) : -1;
-}
-
-/* Writes one message whole: both ends are blocking streams, and it is short. */
+/* Sends one message whole, or not at all: a short one is one buffer of the socket. */
 static bool send_message(int to, uint32_t request, uint32_t flags, const void *body, size_t size)
 {
     uint8_t bytes[HEADER + MOST_BODY];
@@ -47,7 +41,7 @@ static bool send_message(int to, uint32_t request, uint32_t flags, const void *b
         return false;
     memcpy(bytes, head, sizeof head);
     memcpy(bytes + sizeof head, body, size);
-    return write(to, bytes, sizeof head + size) == (ssize_t)(sizeof head + size);
+    return send(to, bytes, sizeof head + size, MSG_DONTWAIT | MSG_NOSIGNAL) == (ssize_t)(sizeof head + size);
 }
 
 bool message_answer(int socket, const struct message *message, const void *body, size_t size)

@@ -1,4 +1,4 @@
-/* Messages of vhost-user, as virtio_uml speaks it. */
+/* Messages of vhost-user, as QEMU documents them (docs/interop/vhost-user.rst). */
 #ifndef VHOST_USER_H
 #define VHOST_USER_H
 #include "stream.h"
@@ -9,10 +9,15 @@ enum { /* requests of the client */
     GET_FEATURES = 1,
     SET_FEATURES = 2,
     SET_OWNER = 3,
+    RESET_OWNER = 4,
     SET_MEM_TABLE = 5,
     SET_VRING_NUM = 8,
     SET_VRING_ADDR = 9,
     SET_VRING_BASE = 10,
+    GET_VRING_BASE = 11,
+    SET_VRING_KICK = 12,
+    SET_VRING_CALL = 13,
+    SET_VRING_ERR = 14,
     GET_PROTOCOL_FEATURES = 15,
     SET_PROTOCOL_FEATURES = 16,
     GET_QUEUE_NUM = 17,
@@ -20,7 +25,13 @@ enum { /* requests of the client */
     SET_BACKEND_REQ_FD = 21,
     GET_CONFIG = 24,
     SET_CONFIG = 25,
+    RESET_DEVICE = 34,
     VRING_KICK = 35,
+    GET_MAX_MEM_SLOTS = 36,
+    ADD_MEM_REG = 37,
+    REM_MEM_REG = 38,
+    SET_STATUS = 39,
+    GET_STATUS = 40,
 };
 
 enum { /* messages of the backend */
@@ -30,10 +41,16 @@ enum { /* messages of the backend */
 
 enum { MOST_BODY = 512 };
 
-/* The bit of the features that says that there are protocol features, and the ones that this backend has:
- * REPLY_ACK, BACKEND_REQ, CONFIG and INBAND_NOTIFICATIONS. */
+/* The bit of the features that says that there are protocol features, and those that this backend has. */
 #define HAS_PROTOCOL_FEATURES (UINT64_C(1) << 30)
-#define PROTOCOL_FEATURES (UINT64_C(1) << 3 | UINT64_C(1) << 5 | UINT64_C(1) << 9 | UINT64_C(1) << 14)
+#define MQ_FEATURE (UINT64_C(1) << 0)
+#define REPLY_ACK_FEATURE (UINT64_C(1) << 3)
+#define BACKEND_REQ_FEATURE (UINT64_C(1) << 5)
+#define CONFIG_FEATURE (UINT64_C(1) << 9)
+#define RESET_DEVICE_FEATURE (UINT64_C(1) << 13)
+#define IN_BAND_FEATURE (UINT64_C(1) << 14)
+#define MEM_SLOTS_FEATURE (UINT64_C(1) << 15)
+#define STATUS_FEATURE (UINT64_C(1) << 16)
 
 struct message {
     uint32_t request, flags, size;
@@ -41,17 +58,17 @@ struct message {
     struct files files;
 };
 
-/* Whether the client waits for an answer to a message that has none of its own. */
+/* Whether the head of a message is one: this version, and no answer. */
+bool message_is_request(const struct message *message);
+
+/* Whether the client says that it waits for an answer to a message that has none of its own. */
 bool message_wants_answer(const struct message *message);
 
 /* Words of the body; 0 behind its end. */
 uint32_t message_u32(const struct message *message, unsigned at);
 uint64_t message_u64(const struct message *message, unsigned at);
 
-/* Reads one message: 1; 0 where the client has gone; -1 where the bytes are no message. */
-int message_receive(int socket, struct message *message);
-
-/* Answers a message with these bytes; false where the client doesn't take them. */
+/* Answers a message with these bytes; false where the client doesn't take them at once. */
 bool message_answer(int socket, const struct message *message, const void *body, size_t size);
 
 struct backend;
@@ -59,7 +76,11 @@ struct backend;
 /* Serves a message; false where the client can't be served any longer, which is said. */
 bool message_serve(struct backend *backend, struct message *message);
 
-/* Tells the client of a used buffer on a queue, or of a change of the configuration (queue -1). */
+/* Tells the client of a used buffer on a queue, or of a change of the configuration (queue -1). False where it doesn't
+ * take that at once. */
 bool message_tell(int channel, int queue);
+
+/* The hook of backend.h, for a client of vhost-user: by an event where the queue has one, else by a message. */
+bool client_tell(struct backend *backend, int queue);
 
 #endif

@@ -3,6 +3,7 @@
 #ifndef HOST_H
 #define HOST_H
 #include "../backend/backend.h"
+#include "../backend/guard.h"
 #include "../backend/inbox.h"
 
 enum {
@@ -90,8 +91,10 @@ void seat_remove(struct host *host, struct seat *seat);
 /* Takes the client that waits at its socket. */
 void seat_accept(struct seat *seat);
 
-/* Serves what its client has sent, and what was left on its queues. A client that can't be served any longer leaves. */
+/* Serves what its client has sent, the kicks of its queues, and what is left on them. A client that can't be served any
+ * longer leaves. */
 void seat_serve(struct seat *seat);
+void seat_serve_kicks(struct seat *seat, const struct pollfd kicks[QUEUES]);
 void seat_serve_pending(struct seat *seat);
 
 /* Asks its guest for statistics; false where it can't, or where the guest hasn't answered the last question. */
@@ -106,11 +109,6 @@ void seat_remind(struct seat *seat);
 /* Whether somebody is there, and whether its driver is ready. */
 bool seat_is_taken(const struct seat *seat);
 bool seat_is_ready(const struct seat *seat);
-
-/* ---- guard.c */
-
-/* Does something with a guest's memory: what `act` answers, or -1 where the memory's file ends before the memory does. */
-int guard(int (*act)(struct seat *seat), struct seat *seat);
 
 /* ---- policy.c */
 

@@ -7,7 +7,7 @@
 #include <time.h>
 #include <unistd.h>
 
-enum { MOST_LINE = 256 };
+enum { MOST_LINE = 256, POLL_EVERY = 10 };
 
 /* What is left of the last line that came. */
 struct pipe {
@@ -79,45 +79,70 @@ static bool obey(struct host *host, struct pipe *pipe)
     return true;
 }
 
-/* Waits until something has come, at most so long; `files` gets the seats' in their order, and the pipe's last. */
+/* What is waited for: the control pipe, and of each seat its socket and the kicks of its queues. */
+enum { OF_SEAT = 1 + QUEUES, MOST_FILES_OF_ALL = 1 + MOST_GUESTS * OF_SEAT };
+
+/* Whether a seat has something to do without being told. */
+static bool has_work(const struct seat *seat)
+{
+    return seat_is_taken(seat) && (seat->backend.pending || rings_polled(&seat->backend));
+}
+
+/* Waits until something has come, at most so long. */
 static void wait_for(struct host *host, struct pollfd *files, int64_t left)
 {
-    bool pending = false;
+    nfds_t count = 1 + host->count * OF_SEAT;
+    files[0] = (struct pollfd){STDIN_FILENO, POLLIN, 0};
     for (unsigned i = 0; i < host->count; i++) {
         struct seat *seat = host->seats[i];
-        files[i] = (struct pollfd){seat_is_taken(seat) ? seat->backend.socket : seat->listener, POLLIN, 0};
-        pending |= seat_is_taken(seat) && seat->backend.pending;
+        struct pollfd *its = files + 1 + i * OF_SEAT;
+        its[0] = (struct pollfd){seat_is_taken(seat) ? seat->backend.socket : seat->listener, POLLIN, 0};
+        rings_wait(&seat->backend, its + 1);
+        if (seat->backend.pending)
+            left = 0;
+        else if (has_work(seat) && left > POLL_EVERY)
+            left = POLL_EVERY;
     }
-    files[host->count] = (struct pollfd){STDIN_FILENO, POLLIN, 0};
-    if (poll(files, host->count + 1, pending || left < 0 ? 0 : (int)left) < 0)
-        for (unsigned i = 0; i <= host->count; i++)
+    if (poll(files, count, left < 0 ? 0 : (int)left) < 0)
+        for (nfds_t i = 0; i < count; i++)
             files[i].revents = 0;
 }
 
-/* Serves each guest once: what it sent, or what is left on its queues. */
+/* Whether a kick has come. */
+static bool is_kicked(const struct pollfd kicks[QUEUES])
+{
+    for (unsigned number = 0; number < QUEUES; number++)
+        if (kicks[number].revents)
+            return true;
+    return false;
+}
+
+/* Serves each guest once: what it sent, what it kicked, and what is left on its queues. */
 static void serve(struct host *host, const struct pollfd *files)
 {
     for (unsigned i = 0; i < host->count; i++) {
         struct seat *seat = host->seats[i];
-        if (files[i].revents && !seat_is_taken(seat))
+        const struct pollfd *its = files + 1 + i * OF_SEAT;
+        if (its[0].revents && !seat_is_taken(seat))
             seat_accept(seat);
-        else if (files[i].revents)
+        else if (its[0].revents)
             seat_serve(seat);
-        if (seat_is_taken(seat) && seat->backend.pending)
+        if (seat_is_taken(seat) && is_kicked(its + 1))
+            seat_serve_kicks(seat, its + 1);
+        if (has_work(seat))
             seat_serve_pending(seat);
     }
 }
 
 int host_run(struct host *host)
 {
-    struct pollfd files[MOST_GUESTS + 1];
+    struct pollfd files[MOST_FILES_OF_ALL];
     struct pipe pipe = {.length = 0};
     int64_t next = host_now() + host->period;
     for (bool asks = true;;) {
         wait_for(host, files, next - host_now());
-        unsigned count = host->count;
         serve(host, files);
-        if (files[count].revents && !obey(host, &pipe))
+        if (files[0].revents && !obey(host, &pipe))
             return 0;
         if (host->news)
             policy_decide(host);

@@ -19,7 +19,7 @@ bool seat_is_taken(const struct seat *seat)
 
 bool seat_is_ready(const struct seat *seat)
 {
-    return seat_is_taken(seat) && (seat->backend.balloon.state.device.status & BALLOON_DRIVER_OK);
+    return seat_is_taken(seat) && backend_is_ready(&seat->backend);
 }
 
 struct seat *seat_of(struct host *host, const char *name)
@@ -35,7 +35,8 @@ static void seat_clear(struct seat *seat)
 {
     memset(&seat->backend, 0, sizeof seat->backend);
     memset(&seat->inbox, 0, sizeof seat->inbox);
-    seat->backend.socket = -1;
+    rings_clear(&seat->backend);
+    seat->backend.socket = seat->backend.channel = -1;
     seat->set = NULL;
     seat->pages = seat->ballooned = seat->free = seat->silent = seat->told_at = 0;
     seat->heard = seat->taken = 0;
@@ -51,30 +52,29 @@ static void leave(struct seat *seat)
         host_changed(host, BY_GUESTS);
     host->counters.gone++;
     close(backend->socket);
-    if (backend->channel >= 0)
-        close(backend->channel);
+    backend_leave(backend);
     files_close(&seat->inbox.message.files);
-    memory_clear(&backend->memory);
     free(seat->set);
     seat_clear(seat);
     fprintf(stderr, "gone %s\n", seat->name);
 }
 
-static bool tell(struct backend *backend, int queue)
-{
-    return message_tell(backend->channel, queue);
-}
-
-/* Makes a set of so many words, unless there is one; false where it can't. */
+/* Makes a set of so many words, unless there is one, which keeps the pages that it has; false where it can't. */
 static bool make_set(struct seat *seat, size_t words)
 {
     struct balloon *balloon = &seat->backend.balloon;
-    if (seat->set && balloon->ballooned_words == words)
+    size_t before = seat->set ? balloon->ballooned_words : 0;
+    if (before == words)
         return true;
+    uint64_t *set = calloc(words, sizeof *set);
+    if (!set)
+        return false;
+    if (seat->set)
+        memcpy(set, seat->set, (before < words ? before : words) * sizeof *set);
     free(seat->set);
     balloon->ballooned_words = words;
-    balloon->ballooned = seat->set = calloc(words, sizeof *seat->set);
-    return seat->set != NULL;
+    balloon->ballooned = seat->set = set;
+    return true;
 }
 
 /* The hook for the memory that a client hands over: whether its frames suffice, and a set for its pages. */
@@ -105,7 +105,7 @@ void seat_accept(struct seat *seat)
         return;
     seat_clear(seat);
     backend_start(&seat->backend, &seat->host->options);
-    seat->backend.tell = tell;
+    seat->backend.tell = client_tell;
     seat->backend.admit = admit;
     seat->backend.socket = client;
 }
@@ -195,25 +195,23 @@ static void take_note(struct seat *seat)
 }
 
 /* Does something with its guest's memory, and notes what came of it. */
-static bool serve(struct seat *seat, int (*act)(struct seat *))
+static bool serve(struct seat *seat, int (*act)(void *), void *what)
 {
-    int channel = seat->backend.channel;
     served_name = seat->name;
-    int served = guard(act, seat);
+    int served = guard(act, what);
     served_name = NULL;
     if (served <= 0) {
         leave(seat);
         return false;
     }
-    if (seat->backend.channel != channel)
-        fcntl(seat->backend.channel, F_SETFL, O_NONBLOCK);
     take_note(seat);
     return true;
 }
 
 /* The next message, if it is there whole. */
-static int receive(struct seat *seat)
+static int receive(void *what)
 {
+    struct seat *seat = what;
     enum inbox_state state = inbox_read(seat->backend.socket, &seat->inbox);
     if (state == INBOX_WAITS || state == INBOX_GONE)
         return state == INBOX_WAITS;
@@ -224,30 +222,50 @@ static int receive(struct seat *seat)
     return seat->backend.gone ? 0 : -1;
 }
 
-static int serve_left(struct seat *seat)
+static int serve_left(void *what)
 {
-    return backend_serve_pending(&seat->backend) ? 1 : -1;
+    struct seat *seat = what;
+    return backend_serve_pending(&seat->backend) && rings_look(&seat->backend) ? 1 : -1;
 }
 
-static int ask(struct seat *seat)
+static int ask(void *what)
 {
+    struct seat *seat = what;
     struct balloon_result result = balloon_ask_statistics(&seat->backend.balloon);
     return backend_finish(&seat->backend, &result) ? 1 : -1;
 }
 
+/* Kicks that have come. */
+struct kicks {
+    struct seat *seat;
+    const struct pollfd *files;
+};
+
+static int serve_kicks(void *what)
+{
+    const struct kicks *kicks = what;
+    return rings_kicked(&kicks->seat->backend, kicks->files) ? 1 : -1;
+}
+
 void seat_serve(struct seat *seat)
 {
-    serve(seat, receive);
+    serve(seat, receive, seat);
+}
+
+void seat_serve_kicks(struct seat *seat, const struct pollfd kicks[QUEUES])
+{
+    struct kicks came = {seat, kicks};
+    serve(seat, serve_kicks, &came);
 }
 
 void seat_serve_pending(struct seat *seat)
 {
-    serve(seat, serve_left);
+    serve(seat, serve_left, seat);
 }
 
 bool seat_ask(struct seat *seat)
 {
-    return seat_is_ready(seat) && seat->backend.balloon.state.held && serve(seat, ask);
+    return seat_is_ready(seat) && seat->backend.balloon.state.held && serve(seat, ask, seat);
 }
 
 void seat_set_target(struct seat *seat, uint32_t pages)

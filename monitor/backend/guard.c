@@ -1,6 +1,5 @@
-/* A client that cuts its memory's file off behind what it told: an access there ends in a signal, which ends its guest
- * alone. */
-#include "host.h"
+#include "guard.h"
+#include "backend.h"
 
 #include <setjmp.h>
 #include <signal.h>
@@ -15,16 +14,24 @@ static void on_fault(int number)
     signal(number, SIG_DFL);
 }
 
-int guard(int (*act)(struct seat *seat), struct seat *seat)
+/* The first time: on_fault is for the signal. */
+static void prepare(void)
 {
+    static bool prepared;
     struct sigaction action = {.sa_handler = on_fault};
-    sigaction(SIGBUS, &action, NULL);
+    if (!prepared)
+        prepared = sigaction(SIGBUS, &action, NULL) == 0;
+}
+
+int guard(int (*act)(void *what), void *what)
+{
+    prepare();
     if (sigsetjmp(back, 1)) {
         guarded = 0;
         return refuse("its memory's file has been cut off"), -1;
     }
     guarded = 1;
-    int answer = act(seat);
+    int answer = act(what);
     guarded = 0;
     return answer;
 }

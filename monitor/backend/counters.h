@@ -1,0 +1,19 @@
+/* What a backend counts. Each counter has one name: in the struct, in the line `counters`, and in the table of
+ * docs/LINUX.md, which says what it counts. */
+#ifndef COUNTERS_H
+#define COUNTERS_H
+#include <stdint.h>
+
+#define COUNTERS(COUNT) \
+    COUNT(messages) COUNT(kicks) COUNT(interrupts) COUNT(told) \
+    COUNT(chains) COUNT(pages) COUNT(discarded) COUNT(skipped) COUNT(in_holes) COUNT(kept) \
+    COUNT(marked) COUNT(unmarked) \
+    COUNT(inflated) COUNT(deflated) COUNT(reported) COUNT(reports) COUNT(statistics) COUNT(taken)
+
+#define COUNTER_FIELD(name) uint64_t name;
+
+struct counters {
+    COUNTERS(COUNTER_FIELD)
+};
+
+#endif

@@ -1,0 +1,146 @@
+/* Messages of the whole device: features, its status, its configuration. */
+#include "handlers.h"
+
+#include <inttypes.h>
+#include <sys/socket.h>
+
+enum { HEAD_OF_CONFIG = 12, IS_FEATURES_OK = 8 };
+
+static VbDevice *device_of(struct backend *backend)
+{
+    return &backend->balloon.state.device;
+}
+
+enum outcome get_features(struct backend *backend, struct message *message)
+{
+    return answer_u64(backend, message, device_of(backend)->settings.offered | HAS_PROTOCOL_FEATURES);
+}
+
+/* The features stand for all that comes before them. A client may send them twice before its queues run: the last ones
+ * count. */
+enum outcome set_features(struct backend *backend, struct message *message)
+{
+    uint64_t features = message_u64(message, 0);
+    if (rings_run(backend) && features != backend->told.features)
+        return refuse("the features 0x%" PRIx64 " while queues run", features), STOP;
+    if (rings_run(backend))
+        return DONE;
+    uint32_t answer = rings_negotiate(backend, features);
+    if (answer == 0)
+        return DONE;
+    remark(backend, "the features 0x%" PRIx64 " are answered %" PRIu32, features & ~HAS_PROTOCOL_FEATURES, answer);
+    return FAILED;
+}
+
+enum outcome set_owner(struct backend *backend, struct message *message)
+{
+    (void)backend, (void)message;
+    return DONE;
+}
+
+/* What this backend offers. */
+static uint64_t protocol_features(const struct backend *backend)
+{
+    uint64_t features = MQ_FEATURE | REPLY_ACK_FEATURE | BACKEND_REQ_FEATURE | CONFIG_FEATURE | RESET_DEVICE_FEATURE
+        | IN_BAND_FEATURE | MEM_SLOTS_FEATURE | STATUS_FEATURE;
+    return backend->options->events ? features & ~IN_BAND_FEATURE : features;
+}
+
+enum outcome get_protocol_features(struct backend *backend, struct message *message)
+{
+    return answer_u64(backend, message, protocol_features(backend));
+}
+
+enum outcome set_protocol_features(struct backend *backend, struct message *message)
+{
+    uint64_t features = message_u64(message, 0);
+    if (features & ~protocol_features(backend))
+        return refuse("the protocol features 0x%" PRIx64 " aren't offered", features), STOP;
+    backend->told.protocol = features;
+    return DONE;
+}
+
+enum outcome get_queue_num(struct backend *backend, struct message *message)
+{
+    return answer_u64(backend, message, QUEUES);
+}
+
+enum outcome set_channel(struct backend *backend, struct message *message)
+{
+    struct event channel = {backend->channel, true};
+    bool taken = event_take(&channel, message->files.numbers[--message->files.count]);
+    backend->channel = channel.file;
+    if (taken && channel.is_socket)
+        return DONE;
+    return refuse("the channel is no socket"), STOP;
+}
+
+enum outcome get_status(struct backend *backend, struct message *message)
+{
+    return answer_u64(backend, message, backend->told.status);
+}
+
+/* Forgets the rings where the driver resets the device. They may be told again as they were, and go on: a client stops
+ * its device like this, too. */
+static enum outcome forget(struct backend *backend)
+{
+    rings_forget(backend);
+    backend->told.status = 0;
+    return DONE;
+}
+
+/* A client may leave out the bits of the statuses before FEATURES_OK. */
+enum outcome set_status(struct backend *backend, struct message *message)
+{
+    uint64_t status = message_u64(message, 0);
+    if (status == 0)
+        return forget(backend);
+    bool clears = backend->told.status & ~status;
+    bool early = (status & BALLOON_DRIVER_OK) && !(status & IS_FEATURES_OK);
+    bool untaken = (status & IS_FEATURES_OK) && !backend->told.negotiated;
+    if (status > UINT8_MAX || clears || early || untaken)
+        return FAILED;
+    backend->told.status = (uint8_t)status;
+    return DONE;
+}
+
+enum outcome reset_device(struct backend *backend, struct message *message)
+{
+    (void)message;
+    rings_forget(backend);
+    return rings_reset(backend) ? DONE : STOP;
+}
+
+/* Deprecated: stops all rings. */
+enum outcome reset_owner(struct backend *backend, struct message *message)
+{
+    (void)message;
+    return forget(backend);
+}
+
+/* Whether the message has room for the bytes that it says. */
+static bool has_bytes(const struct message *message, uint32_t size)
+{
+    return size == message->size - HEAD_OF_CONFIG || refuse("%u bytes of the configuration, in a message with %u", size,
+                                                            message->size - HEAD_OF_CONFIG);
+}
+
+enum outcome get_config(struct backend *backend, struct message *message)
+{
+    uint8_t body[MOST_BODY];
+    uint32_t offset = message_u32(message, 0), size = message_u32(message, 4);
+    if (!has_bytes(message, size))
+        return STOP;
+    memcpy(body, message->body, HEAD_OF_CONFIG);
+    balloon_read_config(&backend->balloon, offset, body + HEAD_OF_CONFIG, size);
+    return answer_bytes(backend, message, body, HEAD_OF_CONFIG + size);
+}
+
+enum outcome set_config(struct backend *backend, struct message *message)
+{
+    uint32_t offset = message_u32(message, 0), size = message_u32(message, 4);
+    if (!has_bytes(message, size))
+        return STOP;
+    const uint8_t *bytes = message->body + HEAD_OF_CONFIG;
+    return balloon_write_config(&backend->balloon, offset, bytes, size) == VB_OK ? DONE : FAILED;
+}

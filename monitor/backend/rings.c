@@ -1,0 +1,241 @@
+#include "backend.h"
+#include "vhost_user.h"
+
+/* The statuses of a driver that starts (VIRTIO 1.1, 2.1). */
+enum { ACKNOWLEDGE = 1, DRIVER = 3, FEATURES_OK = 11, DRIVER_OK = 15 };
+
+static VbDevice *device_of(struct backend *backend)
+{
+    return &backend->balloon.state.device;
+}
+
+/* The kind of the queue of this number, by the features that the client has told; VB_NO_KIND where they have none. */
+static uint32_t kind_of(const struct backend *backend, unsigned number)
+{
+    VbDevice device = backend->balloon.state.device;
+    device.features = backend->told.features & ~HAS_PROTOCOL_FEATURES;
+    return vb_kind(&device, number);
+}
+
+/* Writes the status; false where the device refuses it, or what the guest has posted before. */
+static bool write_status(struct backend *backend, uint8_t status)
+{
+    struct balloon_result result;
+    uint32_t answer = balloon_write_status(&backend->balloon, status, &result);
+    if (answer != 0)
+        return refuse("status %u is answered %u", status, answer);
+    return backend_finish(backend, &result);
+}
+
+/* No ring runs any longer. The rings may go on where they were, so `actual` and the set of pages in the balloon stay
+ * until the first ring starts anew. */
+static bool rest(struct backend *backend)
+{
+    struct balloon *balloon = &backend->balloon;
+    uint64_t *set = balloon->ballooned;
+    if (backend_is_ready(backend)) {
+        backend->told.goes_on = true;
+        backend->told.actual = balloon->state.device.actual;
+    }
+    balloon->ballooned = NULL;
+    bool written = write_status(backend, 0);
+    balloon->ballooned = set;
+    return written;
+}
+
+bool rings_reset(struct backend *backend)
+{
+    backend->told.goes_on = backend->told.negotiated = false;
+    backend->told.status = 0;
+    return write_status(backend, 0);
+}
+
+uint32_t rings_negotiate(struct backend *backend, uint64_t features)
+{
+    struct balloon_result result;
+    if (!rest(backend) || !write_status(backend, ACKNOWLEDGE) || !write_status(backend, DRIVER))
+        return UINT32_MAX;
+    backend->told.features = features;
+    uint32_t answer = balloon_negotiate(&backend->balloon, features & ~HAS_PROTOCOL_FEATURES);
+    if (answer == 0)
+        answer = balloon_write_status(&backend->balloon, FEATURES_OK, &result);
+    backend->told.negotiated = answer == 0;
+    return answer;
+}
+
+/* Whether the client has told all that a ring wants to run. */
+static bool wants_to_run(const struct backend *backend, unsigned number)
+{
+    const struct told *told = &backend->told;
+    const struct ring *ring = &backend->rings[number];
+    bool enabled = ring->enabled || !(told->features & HAS_PROTOCOL_FEATURES);
+    bool ready = !(told->protocol & STATUS_FEATURE) || (told->status & BALLOON_DRIVER_OK);
+    bool failed = told->status & BALLOON_FAILED;
+    return told->negotiated && ready && !failed && enabled && ring->placed && ring->started && ring->size > 0
+        && kind_of(backend, number) < VB_NO_KIND;
+}
+
+bool ring_runs(const struct backend *backend, unsigned number)
+{
+    return backend->rings[number].runs;
+}
+
+bool rings_run(const struct backend *backend)
+{
+    for (unsigned number = 0; number < QUEUES; number++)
+        if (backend->rings[number].runs)
+            return true;
+    return false;
+}
+
+/* Gives a queue a place in guest addresses. A queue may start beside others that run. */
+static bool place(struct backend *backend, unsigned number, VbQueue *at)
+{
+    const struct ring *ring = &backend->rings[number];
+    VbDevice *device = device_of(backend);
+    if (ring->size > VB_MAX_QUEUE_SIZE)
+        return refuse("queue %u has %u entries", number, ring->size);
+    if (!memory_of_user(&backend->memory, ring->table, &at->table)
+        || !memory_of_user(&backend->memory, ring->avail, &at->avail)
+        || !memory_of_user(&backend->memory, ring->used, &at->used))
+        return refuse("queue %u isn't in the guest's memory", number);
+    uint8_t status = device->status;
+    device->status = FEATURES_OK;
+    uint32_t kind = kind_of(backend, number);
+    uint32_t code = balloon_place(&backend->balloon, kind, at->table, at->avail, at->used, (uint16_t)ring->size);
+    device->status = status;
+    return code == VB_OK || refuse("the place of queue %u is answered %u", number, code);
+}
+
+/* A ring goes on behind what was used: what was taken and not used is served again, as requests are served in order. */
+static bool go_on(struct backend *backend, unsigned number, const VbQueue *at)
+{
+    const struct ring *ring = &backend->rings[number];
+    VbQueue *queue = balloon_queue(&backend->balloon, kind_of(backend, number));
+    uint8_t bytes[2];
+    if (!balloon_copy(&backend->balloon, at->used + 2, bytes, sizeof bytes))
+        return refuse("queue %u isn't in the guest's memory", number);
+    uint16_t used = (uint16_t)(bytes[0] | bytes[1] << 8);
+    if (ring->base > UINT16_MAX || (uint16_t)(ring->base - used) > ring->size)
+        return refuse("queue %u goes on at %u, and its used index is %u", number, ring->base, used);
+    queue->next_avail = queue->next_used = used;
+    return true;
+}
+
+/* The queue of inflates starts anew: at 0 a new life begins, with nothing in the balloon; else the last one goes on. */
+static void begin_life(struct backend *backend, uint16_t position)
+{
+    struct balloon *balloon = &backend->balloon;
+    uint32_t actual = backend->told.actual;
+    uint8_t bytes[4] = {(uint8_t)actual, (uint8_t)(actual >> 8), (uint8_t)(actual >> 16), (uint8_t)(actual >> 24)};
+    if (!backend->told.goes_on)
+        return;
+    backend->told.goes_on = false;
+    if (position > 0)
+        balloon_write_config(balloon, sizeof bytes, bytes, sizeof bytes);
+    else if (balloon->ballooned)
+        memset(balloon->ballooned, 0, balloon->ballooned_words * sizeof balloon->ballooned[0]);
+}
+
+/* Starts a ring, and serves what stands there. */
+static bool start(struct backend *backend, unsigned number)
+{
+    struct ring *ring = &backend->rings[number];
+    VbQueue at = {0};
+    if (device_of(backend)->status < FEATURES_OK && rings_negotiate(backend, backend->told.features) != 0)
+        return refuse("the features aren't taken again");
+    if (!place(backend, number, &at) || !go_on(backend, number, &at))
+        return false;
+    uint32_t kind = kind_of(backend, number);
+    uint16_t position = balloon_queue(&backend->balloon, kind)->next_used;
+    ring->runs = true;
+    if (kind == VB_INFLATE)
+        begin_life(backend, position);
+    if (position > 0 && !backend->tell(backend, (int)number)) /* who was served last may not have been told of it */
+        return refuse("the client can't be told of a used buffer");
+    return backend_is_ready(backend) ? backend_serve(backend, number) : write_status(backend, DRIVER_OK);
+}
+
+/* Stops a ring. */
+static void stop(struct backend *backend, unsigned number)
+{
+    struct ring *ring = &backend->rings[number];
+    uint32_t kind = kind_of(backend, number);
+    VbQueue *queue = balloon_queue(&backend->balloon, kind);
+    if (!ring->runs)
+        return;
+    ring->base = queue->next_used;
+    memset(queue, 0, sizeof *queue);
+    if (kind == VB_STATISTICS)
+        backend->balloon.state.held = 0;
+    backend->pending &= ~(1u << number);
+    ring->runs = false;
+}
+
+bool rings_settle(struct backend *backend)
+{
+    for (unsigned number = 0; number < QUEUES; number++) {
+        bool wants = wants_to_run(backend, number);
+        if (!wants)
+            stop(backend, number);
+        else if (!backend->rings[number].runs && !start(backend, number))
+            return false;
+    }
+    return rings_run(backend) || !backend_is_ready(backend) || rest(backend);
+}
+
+/* Whether a ring lies where its queue was placed. */
+static bool holds(struct backend *backend, unsigned number)
+{
+    const struct ring *ring = &backend->rings[number];
+    const VbQueue *queue = balloon_queue(&backend->balloon, kind_of(backend, number));
+    uint64_t table, avail, used;
+    return memory_of_user(&backend->memory, ring->table, &table) && table == queue->table
+        && memory_of_user(&backend->memory, ring->avail, &avail) && avail == queue->avail
+        && memory_of_user(&backend->memory, ring->used, &used) && used == queue->used
+        && balloon_holds(&backend->balloon, table, 16u * queue->size)
+        && balloon_holds(&backend->balloon, avail, 6 + 2u * queue->size)
+        && balloon_holds(&backend->balloon, used, 6 + 8u * queue->size);
+}
+
+bool rings_hold(struct backend *backend)
+{
+    for (unsigned number = 0; number < QUEUES; number++)
+        if (backend->rings[number].runs && !holds(backend, number))
+            return refuse("queue %u isn't in the guest's memory any longer", number);
+    return true;
+}
+
+void ring_end(struct backend *backend, unsigned number)
+{
+    struct ring *ring = &backend->rings[number];
+    stop(backend, number);
+    event_close(&ring->kick);
+    ring->started = ring->polled = false;
+}
+
+void rings_forget(struct backend *backend)
+{
+    for (unsigned number = 0; number < QUEUES; number++) {
+        struct ring *ring = &backend->rings[number];
+        struct event call = ring->call, fault = ring->fault;
+        ring_end(backend, number);
+        *ring = (struct ring){.kick = NO_EVENT, .call = call, .fault = fault};
+    }
+}
+
+void rings_clear(struct backend *backend)
+{
+    memset(&backend->told, 0, sizeof backend->told);
+    for (unsigned number = 0; number < QUEUES; number++)
+        backend->rings[number] = (struct ring){.kick = NO_EVENT, .call = NO_EVENT, .fault = NO_EVENT};
+}
+
+void rings_close(struct backend *backend)
+{
+    for (unsigned number = 0; number < QUEUES; number++) {
+        event_close(&backend->rings[number].kick);
+        event_close(&backend->rings[number].call);
+        event_close(&backend->rings[number].fault);
+    }
+}

@@ -1,0 +1,71 @@
+/* The queues as a vhost-user client tells of them: each is placed, started, enabled, stopped and gone on with by itself.
+ * A ring that runs has a place in the device; one that doesn't has none there, and nothing of it is served. */
+#ifndef RINGS_H
+#define RINGS_H
+#include "events.h"
+
+#include <poll.h>
+#include <stdint.h>
+
+enum { QUEUES = 4 };
+
+/* What a client has told of one queue; addresses are the client's. */
+struct ring {
+    uint64_t table, avail, used;
+    uint32_t size, base;        /* base: the index at which it goes on */
+    struct event kick, call, fault;
+    bool placed;                /* the addresses were told */
+    bool enabled, started;
+    bool polled;                /* it is looked at now and then, without a kick */
+    bool runs;
+};
+
+/* What a client has told of the whole device. */
+struct told {
+    uint64_t features;          /* as it sent them, with the bit that says that there are protocol features */
+    uint64_t protocol;          /* protocol features */
+    uint8_t status;             /* where the client tells it */
+    bool negotiated;            /* the device has taken the features */
+    bool goes_on;               /* rings have stopped: they go on, or a new life begins */
+    uint32_t actual;            /* `actual` of the rings that have stopped */
+};
+
+struct backend;
+
+/* No client has told anything. */
+void rings_clear(struct backend *backend);
+
+/* Closes the files of all rings. */
+void rings_close(struct backend *backend);
+
+/* Takes these features of the driver: 0, or why the device refuses them. No ring may run. */
+uint32_t rings_negotiate(struct backend *backend, uint64_t features);
+
+/* Starts and stops rings, so that those run of which the client has told all; false where one can't, which is said. */
+bool rings_settle(struct backend *backend);
+
+/* Whether any ring runs, and whether this one does. */
+bool rings_run(const struct backend *backend);
+bool ring_runs(const struct backend *backend, unsigned number);
+
+/* Whether all rings that run lie in memory where they lay; else says which doesn't. */
+bool rings_hold(struct backend *backend);
+
+/* Stops a ring until it is started anew, and notes at which index it goes on. */
+void ring_end(struct backend *backend, unsigned number);
+
+/* Stops all rings and forgets where they were. Files for interrupts stay. */
+void rings_forget(struct backend *backend);
+
+/* The end of a driver's life without another one that goes on: nothing is in the balloon any longer. */
+bool rings_reset(struct backend *backend);
+
+/* The files of kicks to wait for, one of each queue; and serves the queues whose kick has come. */
+void rings_wait(const struct backend *backend, struct pollfd files[QUEUES]);
+bool rings_kicked(struct backend *backend, const struct pollfd files[QUEUES]);
+
+/* Whether a ring is looked at now and then; and looks. */
+bool rings_polled(const struct backend *backend);
+bool rings_look(struct backend *backend);
+
+#endif

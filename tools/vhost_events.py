@@ -1,0 +1,323 @@
+"""Tests of what a client of good will gets from a backend that it kicks, and that calls it, by events, as QEMU."""
+
+import os
+import select
+import socket
+import struct
+import time
+
+import linux_guest
+import vhost_client
+from vhost_client import (
+    BUFFERS, DEFLATE, FEATURES, GET_CONFIG, GET_MAX_MEM_SLOTS, GET_STATUS, INFLATE, LIMIT, NO_FILE, PAGE, PAGES_OF_REGION,
+    QEMU_PROTOCOL, REGIONS, REM_MEM_REG, REPLY_ACK, RESET_DEVICE, SET_CONFIG, SET_FEATURES, SET_STATUS, SET_VRING_CALL,
+    SET_VRING_ENABLE, SET_VRING_KICK, STATISTICS, STATUS,
+)
+from vhost_served import program
+from vhost_serves import Good, post_statistics
+
+FIRST = REGIONS[1][0] // PAGE
+
+# Seconds in which something that mustn't happen would have happened.
+MOMENT = 0.1
+
+
+def word(number):
+    """Returns a body of one number."""
+    return struct.pack("<Q", number)
+
+
+class Events(Good):
+    """Rings that are started, stopped and gone on with by themselves."""
+
+    def started(self, *options, protocol=QEMU_PROTOCOL):
+        """Returns a client whose driver is ready."""
+        client = self.client(*options)
+        client.start_by_events(protocol=protocol)
+        return client
+
+    def served(self, client, number, pages, head=0):
+        """Posts a request, and demands that it is used and called."""
+        client.post_pages(number, pages, head)
+        self.assertEqual(client.called(number), 1)
+        self.assertEqual(client.used(number)[0], client.available[number] & 0xFFFF)
+
+    def unserved(self, client, number):
+        """Demands that nothing is served of a queue for a moment, though it is kicked."""
+        before = client.used(number)
+        client.kick(number)
+        time.sleep(MOMENT)
+        client.counter("kicks")
+        self.assertEqual((client.used(number), client.called(number, 0)), (before, 0))
+
+    def test_inflate_and_deflate(self):
+        client = self.started("--strict", "--events")
+        self.served(client, INFLATE, [FIRST + 7, FIRST + 8, FIRST + 20], 3)
+        self.assertEqual(client.used(INFLATE), (1, [(3, 0)]))
+        self.assertEqual(client.holes(), [FIRST + it for it in (7, 8, 20)])
+        self.served(client, DEFLATE, [FIRST + 8], 7)
+        counters = client.backend.counters()
+        self.assertEqual([counters[it] for it in ("inflated", "deflated", "interrupts", "kicks")], [3, 1, 2, 2])
+        self.assertEqual([counters[it] for it in ("chains", "pages", "discarded")], [2, 4, 3])
+
+    def test_no_call_is_wanted(self):
+        client = self.started()
+        client.write(client.table(INFLATE) + PAGE, struct.pack("<H", 1))
+        client.post_pages(INFLATE, [FIRST])
+        self.assertEqual(client.called(INFLATE, MOMENT), 0)
+        self.assertEqual(client.used(INFLATE), (1, [(0, 0)]))
+
+    def test_messages_are_not_offered(self):
+        client = self.client("--events")
+        self.assertEqual(client.send(vhost_client.GET_PROTOCOL_FEATURES), word(QEMU_PROTOCOL))
+
+    def test_a_ring_goes_on_where_it_was(self):
+        client = self.started()
+        for page in range(3):
+            self.served(client, INFLATE, [FIRST + page])
+        self.assertEqual(client.stop_ring(INFLATE), 3)
+        self.assertEqual(client.stop_ring(DEFLATE), 0)
+        self.assertEqual(client.counter("status"), 15)
+        client.tell_place(INFLATE, base=3)
+        client.give_events(INFLATE)
+        client.called(INFLATE)  # where it goes on, it calls once
+        self.served(client, INFLATE, [FIRST + 9])
+        self.assertEqual(client.used(INFLATE)[0], 4)
+        self.assertEqual(client.holes(), [FIRST + it for it in (0, 1, 2, 9)])
+
+    def test_a_ring_that_was_stopped_is_not_served(self):
+        client = self.started()
+        self.served(client, INFLATE, [FIRST])
+        client.stop_ring(INFLATE)
+        client.post_pages(INFLATE, [FIRST + 1])
+        self.unserved(client, INFLATE)
+        self.assertEqual(client.used(INFLATE)[0], 1)
+        self.served(client, DEFLATE, [FIRST])
+        client.give_events(INFLATE)
+        self.assertGreater(client.called(INFLATE), 0)
+        self.assertEqual(client.used(INFLATE)[0], 2)
+
+    def test_a_ring_that_is_disabled_is_not_served(self):
+        client = self.started()
+        self.served(client, INFLATE, [FIRST])
+        client.accepted(SET_VRING_ENABLE, struct.pack("<II", INFLATE, 0))
+        client.post_pages(INFLATE, [FIRST + 1])
+        self.unserved(client, INFLATE)
+        client.accepted(SET_VRING_ENABLE, struct.pack("<II", INFLATE, 1))
+        self.assertGreater(client.called(INFLATE), 0)
+        self.assertEqual(client.used(INFLATE)[0], 2)
+
+    def test_a_buffer_of_statistics_is_given_up_and_taken_again(self):
+        client = self.started()
+        post_statistics(client, 11)
+        while client.counter("statistics") < 1:
+            pass
+        self.assertEqual((client.stop_ring(STATISTICS), client.used(STATISTICS)[0]), (0, 0))
+        self.assertEqual(client.backend.ask("ask"), "nothing")
+        client.give_events(STATISTICS)
+        self.assertEqual(client.backend.statistics(), (2, {"free_memory": 11}))
+        self.assertEqual(client.backend.ask("ask"), "asked")
+        self.assertEqual((client.called(STATISTICS), client.used(STATISTICS)), (1, (1, [(0, 0)])))
+
+    def test_status(self):
+        client = self.client()
+        client.negotiate(protocol=QEMU_PROTOCOL)
+        client.add_memory()
+        answers = []
+        for status in (8, 9, 1, 12, 11, 15, 0x100, 0):
+            answers.append((client.send(SET_STATUS, word(status)) == bytes(8), client.send(GET_STATUS)[0]))
+        accepted = [(True, 8), (True, 9), (False, 9), (False, 9), (True, 11), (True, 15), (False, 15), (True, 0)]
+        self.assertEqual(answers, accepted)
+
+    def test_features_before_the_status_that_stands_on_them(self):
+        client = self.client()
+        client.send(vhost_client.SET_PROTOCOL_FEATURES, word(QEMU_PROTOCOL), flags=1)
+        self.assertNotEqual(client.send(SET_STATUS, word(11)), bytes(8))
+        self.assertEqual(client.send(GET_STATUS), bytes(8))
+
+    def test_a_kick_before_the_driver_is_ready(self):
+        client = self.client()
+        client.negotiate(protocol=QEMU_PROTOCOL)
+        client.add_memory()
+        client.place(INFLATE)
+        client.give_events(INFLATE)
+        client.enable(INFLATE)
+        client.post_pages(INFLATE, [FIRST])
+        self.unserved(client, INFLATE)
+        client.accepted(SET_STATUS, word(15))
+        self.assertEqual((client.called(INFLATE), client.used(INFLATE)[0]), (1, 1))
+
+    def test_rings_that_begin_enabled(self):
+        client = self.client()
+        client.send(vhost_client.SET_PROTOCOL_FEATURES, word(QEMU_PROTOCOL & ~STATUS), flags=1)
+        client.accepted(SET_FEATURES, word(FEATURES))
+        client.add_memory()
+        client.place(INFLATE)
+        client.give_events(INFLATE)
+        self.served(client, INFLATE, [FIRST])
+
+    def test_a_device_goes_on_where_it_was(self):
+        client = self.started()
+        self.served(client, INFLATE, [FIRST])
+        self.served(client, DEFLATE, [FIRST])
+        client.accepted(SET_CONFIG, struct.pack("<IIII", 4, 4, 0, 77))
+        bases = [client.stop_ring(number) for number in range(4)]
+        self.assertEqual(bases, [1, 1, 0, 0])
+        client.accepted(SET_STATUS, word(0))
+        self.assertEqual(client.counter("status"), 0)
+        client.accepted(SET_FEATURES, word(FEATURES | vhost_client.HAS_PROTOCOL))
+        client.go_on(bases)
+        self.assertEqual((client.counter("status"), client.counter("actual")), (15, 77))
+        client.called(INFLATE)
+        self.served(client, INFLATE, [FIRST + 1])
+
+    def test_a_new_driver_has_nothing_in_its_balloon(self):
+        client = self.started()
+        self.served(client, INFLATE, [FIRST])
+        client.accepted(SET_CONFIG, struct.pack("<IIII", 4, 4, 0, 77))
+        client.accepted(SET_STATUS, word(0))
+        client.accepted(SET_FEATURES, word(FEATURES | vhost_client.HAS_PROTOCOL))
+        client.go_on()
+        self.assertEqual((client.counter("status"), client.counter("actual")), (15, 0))
+        self.served(client, INFLATE, [FIRST])
+
+    def test_a_reset_forgets_the_rings(self):
+        client = self.started()
+        client.accepted(SET_CONFIG, struct.pack("<IIII", 4, 4, 0, 77))
+        client.accepted(RESET_DEVICE)
+        self.assertEqual((client.counter("status"), client.counter("actual")), (0, 0))
+        self.assertEqual(client.send(GET_STATUS), bytes(8))
+        client.accepted(SET_FEATURES, word(FEATURES | vhost_client.HAS_PROTOCOL))
+        client.accepted(SET_STATUS, word(15))
+        client.post_pages(INFLATE, [FIRST + 1])
+        self.unserved(client, INFLATE)
+        self.assertEqual((client.used(INFLATE)[0], client.stop_ring(INFLATE)), (0, 0))
+        client.go_on()
+        self.served(client, INFLATE, [FIRST + 2])
+
+    def test_slots(self):
+        client = self.client()
+        client.negotiate(protocol=QEMU_PROTOCOL)
+        self.assertEqual(client.send(GET_MAX_MEM_SLOTS), word(32))
+        before = client.open_files()
+        for _ in range(3):
+            client.add_memory()
+            self.assertEqual(client.counter("end"), REGIONS[1][0] // PAGE + PAGES_OF_REGION)
+            for region in (0, 1):
+                client.accepted(REM_MEM_REG, client.region_body(region))
+        self.assertEqual(client.open_files(), before)
+        client.add_memory()
+        client.go_on()
+        self.served(client, INFLATE, [FIRST])
+
+    def test_a_region_that_is_taken_away(self):
+        client = self.started()
+        before = client.open_files()
+        client.accepted(REM_MEM_REG, client.region_body(1), [client.files[1]])
+        self.assertEqual(client.open_files(), before - 1)
+        self.served(client, INFLATE, [FIRST])
+        self.assertEqual((client.holes(), client.counter("skipped")), ([], 1))
+        client.accepted(vhost_client.ADD_MEM_REG, client.region_body(1), [client.files[1]])
+        self.served(client, INFLATE, [FIRST])
+        self.assertEqual(client.holes(), [FIRST])
+
+    def test_a_change_is_told(self):
+        client = self.started()
+        self.assertEqual(client.backend.ask("target 258"), "ok")
+        self.assertIsNone(client.told())
+        body = struct.pack("<III", 0, 8, 0)
+        self.assertEqual(client.send(GET_CONFIG, body + bytes(8)), body + struct.pack("<II", 258, 0))
+
+    def test_an_answer_that_is_waited_for(self):
+        client = self.started()
+        self.assertEqual(client.send(SET_CONFIG, struct.pack("<IIII", 4, 4, 0, 9)), bytes(8))
+        self.assertEqual(client.send(SET_CONFIG, struct.pack("<IIII", 0, 4, 0, 9)), word(1))
+
+    def test_no_answer_without_the_feature(self):
+        client = self.client()
+        client.send(vhost_client.SET_PROTOCOL_FEATURES, word(QEMU_PROTOCOL & ~REPLY_ACK), flags=1)
+        client.send(SET_STATUS, word(1), flags=1)
+        client.socket.sendall(struct.pack("<III", SET_STATUS, 9, 8) + word(3))
+        self.assertEqual(client.send(GET_STATUS, flags=1) or client.receive(), (GET_STATUS, word(3)))
+
+    def test_a_ring_without_a_kick(self):
+        client = self.started()
+        client.send(SET_VRING_KICK, word(INFLATE | NO_FILE))
+        client.kicks[INFLATE], kick = None, client.kicks[INFLATE]
+        client.write(BUFFERS, struct.pack("<I", FIRST))
+        client.describe(INFLATE, 0, BUFFERS, 4)
+        client.publish(INFLATE, 0)
+        self.assertEqual((client.called(INFLATE), client.used(INFLATE)[0]), (1, 1))
+        os.close(kick)
+
+    def test_pipes_and_sockets_for_events(self):
+        client = self.started()
+        for ends in (os.pipe(), tuple(it.detach() for it in socket.socketpair())):
+            os.close(client.calls[INFLATE])
+            client.calls[INFLATE], theirs = ends[0], ends[1]
+            client.accepted(SET_VRING_CALL, word(INFLATE), [theirs])
+            os.read(client.calls[INFLATE], 8)
+            client.post_pages(INFLATE, [FIRST])
+            self.assertEqual(os.read(client.calls[INFLATE], 16), word(1))
+            os.close(theirs)
+        for ends in (os.pipe(), tuple(it.detach() for it in socket.socketpair())):
+            client.accepted(SET_VRING_KICK, word(DEFLATE), [ends[0]])
+            client.describe(DEFLATE, 0, BUFFERS, 4)
+            client.publish(DEFLATE, 0)
+            os.write(ends[1], word(1))
+            self.assertEqual(client.called(DEFLATE), 1)
+            os.close(ends[0]), os.close(ends[1])
+            client.counter("kicks")  # a kick whose other end has gone is let go of
+
+    def test_a_call_for_which_there_is_no_room(self):
+        client = self.started()
+        os.eventfd_write(client.calls[INFLATE], 2**64 - 2)
+        os.set_blocking(client.calls[INFLATE], True)
+        client.post_pages(INFLATE, [FIRST])
+        time.sleep(MOMENT)
+        self.assertEqual((client.counter("interrupts"), client.used(INFLATE)[0]), (1, 1))
+
+    def test_a_channel_that_nobody_reads(self):
+        client = self.started()
+        for target in range(3000):
+            self.assertEqual(client.backend.ask(f"target {target}"), "ok")
+        self.assertEqual(client.backend.ask("target 0"), "ok")
+        while select.select([client.own], [], [], 0)[0]:
+            client.told()
+        with open(client.backend.log, encoding="latin-1") as log:
+            self.assertEqual(list(log), ["the client can't be told of a change\n"] * 100)
+        os.truncate(client.backend.log, 0)
+
+    def test_lines_before_a_client(self):
+        client = self.client()
+        other = linux_guest.Backend(program(), client.folder.name, [client.file("other")])
+        self.assertEqual((other.ask("target 5"), other.counters()["target"]), ("ok", 5))
+        other.process.stdout.close()
+        self.assertEqual(other.close(), 2)
+        os.truncate(other.log, 0)
+
+    def test_a_backend_that_is_killed_goes_on(self):
+        client = self.client()
+        state = client.file("state")
+        client.restart("--state", state)
+        client.connect()
+        client.start_by_events()
+        self.served(client, INFLATE, [FIRST])
+        self.served(client, INFLATE, [FIRST + 1])
+        client.backend.ask("target 99")
+        client.accepted(SET_CONFIG, struct.pack("<IIII", 4, 4, 0, 2))
+        client.counter("target")
+        client.post_pages(INFLATE, [FIRST + 2])
+        client.called(INFLATE)
+        client.restart("--state", state, killed=True)
+        client.post_pages(INFLATE, [FIRST + 3])
+        self.assertEqual(client.backend.counters()["target"], 99)
+        client.connect()
+        client.negotiate(protocol=QEMU_PROTOCOL)
+        client.add_memory()
+        client.go_on([client.used(number)[0] for number in range(4)])
+        self.assertEqual((client.counter("status"), client.counter("actual")), (15, 2))
+        self.assertGreater(client.called(INFLATE), 0)
+        self.assertEqual(client.used(INFLATE)[0], 4)
+        self.assertEqual(client.holes(), [FIRST + it for it in range(4)])
+        self.served(client, INFLATE, [FIRST + 4])

@@ -1,0 +1,231 @@
+"""Tests of what ends a backend's service: a line says why, and the socket is closed."""
+
+import os
+import struct
+import subprocess
+import tempfile
+import unittest
+
+from vhost_client import (
+    ADD_MEM_REG, BUFFERS, FEATURES, GET_CONFIG, GET_FEATURES, GET_STATUS, GET_VRING_BASE, INDIRECT, INFLATE, LIMIT, NEXT, NO_FILE,
+    PAGE, PAGES_OF_REGION, REGIONS, REM_MEM_REG, SET_BACKEND_REQ_FD, SET_CONFIG, SET_FEATURES, SET_MEM_TABLE,
+    SET_PROTOCOL_FEATURES, SET_VRING_ADDR, SET_VRING_BASE, SET_VRING_CALL, SET_VRING_ENABLE, SET_VRING_ERR, SET_VRING_KICK,
+    SET_VRING_NUM, SIZE, STATISTICS, VRING_KICK, WRITE,
+)
+from vhost_served import Served, program
+
+
+class Refuses(unittest.TestCase):
+    """What ends the service: a line says why, and the socket is closed."""
+
+    def refused(self, client, words):
+        """Demands that the backend ends with these words."""
+        try:
+            while client.receive():
+                pass
+        except ConnectionResetError:
+            pass
+        status, said = client.close()
+        self.assertEqual(status, 1, said)
+        self.assertTrue(said.startswith("refused: ") and words in said, said)
+
+    def started(self, *options):
+        """Returns a client whose driver is ready."""
+        client = Served(*options)
+        client.start()
+        return client
+
+    def test_rules(self):
+        page = REGIONS[1][0] // PAGE
+        far = REGIONS[1][0] + PAGES_OF_REGION * PAGE
+        # By its rule: the head, and the descriptors (number, address, length, flags, next).
+        chains = {
+            1: (SIZE, []),
+            2: (0, [(0, BUFFERS, 4, NEXT, SIZE)]),
+            3: (0, [(0, BUFFERS, 4, NEXT, 1), (1, BUFFERS, 4, NEXT, 0)]),
+            4: (0, [(0, BUFFERS, 16, INDIRECT, 0)]),
+            5: (0, [(0, BUFFERS, 4, WRITE, 0)]),
+            6: (0, [(0, far, 4, 0, 0)]),
+            8: (0, [(0, BUFFERS, 5, 0, 0)]),
+            9: (0, [(0, BUFFERS, 4, 0, 0)]),
+        }
+        for rule, (head, descriptors) in chains.items():
+            with self.subTest(rule=rule):
+                client = self.started("--strict")
+                client.write(BUFFERS, struct.pack("<I", page + PAGES_OF_REGION))
+                for it in descriptors:
+                    client.describe(INFLATE, *it)
+                client.publish(INFLATE, head)
+                # The kick is answered well: what it leads to comes behind that.
+                self.assertEqual(client.kick(INFLATE), bytes(8))
+                self.refused(client, f"(rule {rule})")
+
+    def test_index_that_jumps(self):
+        client = self.started()
+        client.publish(INFLATE, 0, SIZE + 1)
+        client.kick(INFLATE)
+        self.refused(client, "(rule 7)")
+
+    def test_buffer_in_the_hole(self):
+        client = self.started()
+        client.describe(INFLATE, 0, REGIONS[0][0] + PAGES_OF_REGION * PAGE - 4, 8)
+        client.publish(INFLATE, 0)
+        client.kick(INFLATE)
+        self.refused(client, "(rule 6)")
+
+    def test_fault_before_the_driver_is_ready(self):
+        client = Served()
+        client.negotiate()
+        client.hand_over_memory()
+        for number in range(4):
+            client.place(number)
+        client.publish(STATISTICS, SIZE)
+        client.enable(STATISTICS)
+        self.refused(client, "(rule 1)")
+
+    def test_features(self):
+        client = Served()
+        client.negotiate()
+        for features in (0x27, FEATURES | 8):
+            self.assertNotEqual(client.send(SET_FEATURES, struct.pack("<Q", features)), bytes(8))
+        client.start()
+        self.assertEqual(client.counter("status"), 15)
+        client.close()
+
+    def test_places(self):
+        for words, how in (
+            ("has 257 entries", {"size": 257}),
+            ("answered 6", {"size": 6}),
+            ("answered 6", {"shift": 8}),
+            ("goes on at 9, and its used index is 0", {"base": 9}),
+            ("goes on at 65535, and its used index is 0", {"base": 65535}),
+            ("goes on at 65536", {"base": 65536}),
+            ("isn't in the guest's memory", {"shift": 1 << 45}),
+            ("answered 6", {"shift": (PAGES_OF_REGION - 2) * PAGE - 64}),
+        ):
+            with self.subTest(**how):
+                client = Served()
+                client.negotiate()
+                client.hand_over_memory()
+                client.place(INFLATE, **how)
+                self.assertNotEqual(client.enable(INFLATE), bytes(8))
+                self.refused(client, words if how != {"shift": (PAGES_OF_REGION - 2) * PAGE - 64} else "")
+
+    def test_messages(self):
+        body = struct.pack("<II", 9, 0)
+        for words, request, body, files in (
+            ("message 99 is unknown", 99, b"", 0),
+            ("no queue 9", SET_VRING_NUM, body, 0),
+            ("no queue 9", SET_VRING_ADDR, body + bytes(32), 0),
+            ("no queue 9", SET_VRING_BASE, body, 0),
+            ("no queue 9", GET_VRING_BASE, body, 0),
+            ("no queue 9", SET_VRING_ENABLE, struct.pack("<II", 9, 1), 0),
+            ("no queue 9", SET_VRING_KICK, body, 1),
+            ("no queue 9", SET_VRING_CALL, body, 1),
+            ("no queue 9", SET_VRING_ERR, body, 1),
+            ("no queue 9", VRING_KICK, body, 0),
+            ("queue 1 runs", SET_VRING_NUM, struct.pack("<II", 1, 8), 0),
+            ("queue 1 runs", SET_VRING_BASE, struct.pack("<II", 1, 0), 0),
+            ("queue 1 runs, and can't move", SET_VRING_ADDR, struct.pack("<IIQQQQ", 1, 0, 0, 0, 0, 0), 0),
+            ("0 files for an event of queue 1", SET_VRING_CALL, struct.pack("<Q", 1), 0),
+            ("1 files for an event of queue 1", SET_VRING_CALL, struct.pack("<Q", 1 | NO_FILE), 1),
+            ("by the word 0x401", SET_VRING_CALL, struct.pack("<Q", 0x401), 1),
+            ("a file of queue 1 is no event", SET_VRING_CALL, struct.pack("<Q", 1), 1),
+            ("the channel is no socket", SET_BACKEND_REQ_FD, b"", 1),
+            ("features 0x100000021 while queues run", SET_FEATURES, struct.pack("<Q", 0x100000021), 0),
+            ("protocol features 0x2 aren't offered", SET_PROTOCOL_FEATURES, struct.pack("<Q", 2), 0),
+            ("SET_MEM_TABLE has 0 files", SET_MEM_TABLE, struct.pack("<II", 2, 0) + bytes(64), 0),
+            ("SET_MEM_TABLE has 39 bytes", SET_MEM_TABLE, struct.pack("<II", 1, 0) + bytes(31), 1),
+            ("SET_MEM_TABLE has 296 bytes", SET_MEM_TABLE, struct.pack("<II", 9, 0) + bytes(288), 8),
+            ("a memory table of 2 regions with 1 files", SET_MEM_TABLE, struct.pack("<II", 2, 0) + bytes(64), 1),
+            ("a memory table of 2 regions with 2 files", SET_MEM_TABLE, struct.pack("<II", 2, 0) + bytes(32), 2),
+            ("can't be mapped", SET_MEM_TABLE, struct.pack("<IIQQQQ", 1, 0, 0, 0, 0, 0), 1),
+            ("can't be mapped", SET_MEM_TABLE, struct.pack("<IIQQQQ", 1, 0, 2**64 - PAGE, 2 * PAGE, 0, 0), 1),
+            ("can't be mapped", SET_MEM_TABLE, struct.pack("<IIQQQQ", 1, 0, 0, PAGE, 0, 1), 1),
+            ("can't be mapped", SET_MEM_TABLE, struct.pack("<IIQQQQ", 1, 0, 1, PAGE, 0, 0), 1),
+            ("can't be mapped", SET_MEM_TABLE, struct.pack("<IIQQQQ", 1, 0, 0, PAGE * 65, 0, 0), 1),
+            ("can't be mapped", SET_MEM_TABLE, struct.pack("<II8Q", 2, 0, 0, PAGE * 2, 0, 0, PAGE, PAGE, 1 << 40, 0), 2),
+            ("can't be mapped", SET_MEM_TABLE, struct.pack("<II8Q", 2, 0, 0, PAGE, 0, 0, PAGE, PAGE, PAGE - 1, 0), 2),
+            ("isn't in the guest's memory any longer", SET_MEM_TABLE, struct.pack("<IIQQQQ", 1, 0, 0, 2 * PAGE, 0, 0), 1),
+            ("too far up", SET_MEM_TABLE, struct.pack("<IIQQQQ", 1, 0, (1 << 44) - PAGE, PAGE, 0, 0), 1),
+            ("ADD_MEM_REG isn't negotiated", ADD_MEM_REG, bytes(40), 1),
+            ("GET_STATUS isn't negotiated", GET_STATUS, b"", 0),
+            ("GET_CONFIG has 0 bytes", GET_CONFIG, b"", 0),
+            ("4000 bytes of the configuration, in a message with 0", GET_CONFIG, struct.pack("<III", 0, 4000, 0), 0),
+            ("5 bytes of the configuration, in a message with 4", SET_CONFIG, struct.pack("<IIII", 4, 5, 0, 0), 0),
+        ):
+            with self.subTest(words=words):
+                client = self.started()
+                client.send(request, body, [client.files[0]] * files, flags=1)
+                self.refused(client, words)
+
+    def test_flags(self):
+        for flags in (0, 2, 3, 5):
+            with self.subTest(flags=flags):
+                client = self.started()
+                client.send(GET_FEATURES, flags=flags)
+                self.refused(client, f"GET_FEATURES has the flags 0x{flags:x}")
+
+    def test_regions_that_are_taken_away(self):
+        for words, region in (("no such region", 1), ("isn't in the guest's memory any longer", 0)):
+            with self.subTest(words=words):
+                client = Served()
+                client.start_by_events()
+                if region == 1:
+                    client.accepted(REM_MEM_REG, client.region_body(1))
+                client.send(REM_MEM_REG, client.region_body(region), flags=1)
+                self.refused(client, words)
+
+    def test_a_broken_rule_is_told_by_its_event(self):
+        client = Served()
+        client.start_by_events()
+        fault = os.eventfd(0, os.EFD_NONBLOCK)
+        client.accepted(SET_VRING_ERR, struct.pack("<Q", INFLATE), [fault])
+        client.publish(INFLATE, SIZE)
+        client.kick(INFLATE)
+        self.refused(client, "(rule 1)")
+        self.assertEqual(os.eventfd_read(fault), 1)
+        os.close(fault)
+
+    def test_memory_that_is_cut_off(self):
+        client = self.started()
+        os.ftruncate(client.files[0], 0)
+        client.send(VRING_KICK, struct.pack("<II", INFLATE, 0), flags=1)
+        self.refused(client, "its memory's file has been cut off")
+
+    def test_saved_states_that_are_none(self):
+        with tempfile.TemporaryDirectory() as folder:
+            for data, code in ((b"", 9), (bytes(187), 10), (bytes(1000), 9)):
+                path = os.path.join(folder, "state")
+                with open(path, "wb") as file:
+                    file.write(data)
+                words = [program(), f"{folder}/socket", "--state", path]
+                ran = subprocess.run(words, stdin=subprocess.DEVNULL, capture_output=True, text=True, timeout=LIMIT)
+                said = f"refused: {path} is no saved state: it is answered "
+                self.assertEqual((ran.returncode, ran.stdout, ran.stderr[: len(said)]), (2, "", said), code)
+
+    def test_bytes_that_are_no_message(self):
+        client = self.started()
+        client.socket.sendall(struct.pack("<III", GET_FEATURES, 1, 1 << 20))
+        self.refused(client, "no message")
+
+    def test_a_file_in_the_socket_s_place_stays(self):
+        with tempfile.NamedTemporaryFile() as file:
+            file.write(b"here"), file.flush()
+            ran = subprocess.run([program(), file.name], stdin=subprocess.DEVNULL, capture_output=True, text=True, timeout=LIMIT)
+            self.assertEqual((ran.returncode, ran.stderr), (2, f"vhost_user_balloon: {file.name}: Address already in use\n"))
+            file.seek(0)
+            self.assertEqual(file.read(), b"here")
+
+    def test_nobody_comes(self):
+        with tempfile.TemporaryDirectory() as folder:
+            words = [program(), f"{folder}/socket"]
+            backend = subprocess.Popen(words, stdin=subprocess.PIPE, stdout=subprocess.PIPE, stderr=subprocess.PIPE, text=True)
+            _, said = backend.communicate(timeout=LIMIT)
+            self.assertEqual((backend.returncode, said), (2, f"vhost_user_balloon: {words[1]}: Operation canceled\n"))
+            self.assertEqual(os.listdir(folder), [])
+
+    def test_command_lines(self):
+        for words in ([], ["--features"], ["a", "b"], ["a", "--features", "x"], ["--wrong", "a"], ["a", "--features", "8"], ["x" * 200]):
+            ran = subprocess.run([program(), *words], stdin=subprocess.DEVNULL, capture_output=True, timeout=LIMIT)
+            self.assertEqual((ran.returncode, ran.stdout), (2, b""), words)

@@ -1,0 +1,93 @@
+"""A client with a backend of its own, which is built with the compiler's checks of addresses and of undefined behaviour."""
+
+import mmap
+import os
+import signal
+import struct
+import tempfile
+import time
+
+import linux_guest
+import linux_kit
+from vhost_client import BUFFERS, LIMIT, PAGE, PAGES_OF_REGION, REGIONS, SIZE, Client
+
+CHECKS = ("-g", "-fsanitize=address,undefined", "-fno-sanitize-recover=all")
+
+
+def program():
+    """Returns the backend under test: one that the environment names, or one that is built once."""
+    if not hasattr(program, "path"):
+        program.folder = tempfile.TemporaryDirectory(prefix="test-vhost-user-")
+        program.path = os.environ.get("BACKEND_PROGRAM") or build(program.folder.name)
+    return program.path
+
+
+def build(folder, name="vhost_user_balloon", wrong=False):
+    """Builds a backend with the compiler's checks."""
+    return linux_kit.build(folder, linux_kit.core_of(), name, wrong=wrong, flags=CHECKS)
+
+
+class Served(Client):
+    """A client with a backend of its own."""
+
+    def __init__(self, *options):
+        self.folder = tempfile.TemporaryDirectory(prefix="test-vhost-user-")
+        self.path = os.path.join(self.folder.name, "socket")
+        self.backend = linux_guest.Backend(program(), self.folder.name, [self.path, *options])
+        super().__init__(self.path, self.backend.why)
+
+    def restart(self, *options, killed=False):
+        """Starts another backend in the place of the one that there was, and waits until it listens."""
+        if killed:
+            os.kill(self.backend.process.pid, signal.SIGKILL)
+        self.backend.close()
+        self.backend.process.stdout.close()
+        self.backend = linux_guest.Backend(program(), self.folder.name, [self.path, *options])
+        self.why = self.backend.why
+
+    def file(self, name):
+        """Returns the path of a file of its own."""
+        return os.path.join(self.folder.name, name)
+
+    def close(self):
+        """Goes; returns the backend's status and what it said last."""
+        self.socket.close()
+        status = self.backend.process.wait(LIMIT)
+        self.leave()
+        self.backend.process.stdin.close(), self.backend.process.stdout.close()
+        said = self.backend.why()
+        self.folder.cleanup()
+        return status, said
+
+    def counter(self, name):
+        """Returns one of the backend's counters."""
+        return self.backend.counters()[name]
+
+    def open_files(self):
+        """Returns how many files the backend has open."""
+        return len(os.listdir(f"/proc/{self.backend.process.pid}/fd"))
+
+    def served_by_a_kick(self, number, seconds):
+        """Kicks a queue once while another process makes each chain available again as soon as it is used, without a kick;
+        returns how many chains are served. Each descriptor stands by itself, and each entry names the one of its place. No
+        interrupt is wanted."""
+        for head in range(SIZE):
+            self.describe(number, head, BUFFERS, 4)
+        self.write(self.table(number) + PAGE + 4, struct.pack(f"<{SIZE}H", *range(SIZE)))
+        self.write(self.table(number) + PAGE, struct.pack("<H", 1))
+        at = self.table(number) - REGIONS[self.region][0]
+        used, available = (at + 2 * PAGE + 2) // 2, (at + PAGE + 2) // 2
+        with mmap.mmap(self.files[self.region], PAGES_OF_REGION * PAGE) as memory, memoryview(memory).cast("H") as words:
+            first = words[used]
+            words[available] = (first + SIZE) & 0xFFFF
+            publisher = os.fork()
+            if publisher == 0:
+                end = time.monotonic() + seconds
+                while time.monotonic() < end:
+                    words[available] = (words[used] + SIZE) & 0xFFFF
+                os._exit(0)
+            time.sleep(seconds / 2)
+            self.kick(number)
+            os.waitpid(publisher, 0)
+            self.counter("kicks")
+            return (words[used] - first) & 0xFFFF

@@ -1,0 +1,221 @@
+"""Tests of what a client of good will gets from a backend to which it talks by messages alone, as virtio_uml."""
+
+import os
+import re
+import select
+import struct
+import unittest
+
+import linux_kit
+from vhost_client import (
+    BUFFERS, DEFLATE, FEATURES, GET_CONFIG, GET_FEATURES, GET_PROTOCOL_FEATURES, GET_QUEUE_NUM, HAS_PROTOCOL, INFLATE, LIMIT,
+    NEXT, OFFERED, PAGE, PAGES_OF_REGION, REGIONS, REPORT, SET_CONFIG, SET_FEATURES, SIZE, STATISTICS, WRITE,
+)
+from vhost_served import Served
+
+
+def post_statistics(client, *values):
+    """Posts statistics with these values."""
+    data = b"".join(struct.pack("<HQ", tag, it) for tag, it in enumerate(values, 4))
+    client.write(BUFFERS, data)
+    client.describe(STATISTICS, 0, BUFFERS, len(data))
+    client.publish(STATISTICS, 0)
+    client.kick(STATISTICS)
+
+
+class Good(unittest.TestCase):
+    """A client of good will."""
+
+    def client(self, *options):
+        """Returns a client whose backend has to end well."""
+        client = Served(*options)
+        self.addCleanup(lambda: self.assertEqual(client.close(), (0, "")))
+        return client
+
+
+class Serves(Good):
+    """What a client of good will gets."""
+
+    def started(self, *options):
+        """Returns one whose driver is ready."""
+        client = self.client(*options)
+        client.start()
+        return client
+
+    def test_start(self):
+        client = self.client()
+        self.assertEqual(client.send(GET_FEATURES), struct.pack("<Q", FEATURES | HAS_PROTOCOL))
+        self.assertEqual(client.send(GET_PROTOCOL_FEATURES), struct.pack("<Q", OFFERED))
+        client.negotiate(protocol=OFFERED)
+        self.assertEqual(client.send(GET_QUEUE_NUM), struct.pack("<Q", 4))
+        client.start()
+        self.assertEqual(client.counter("status"), 15)
+        self.assertEqual(client.counter("end"), REGIONS[1][0] // PAGE + PAGES_OF_REGION)
+
+    def test_inflate_and_deflate(self):
+        client = self.started("--strict")
+        first = REGIONS[1][0] // PAGE
+        self.assertEqual(client.post_pages(INFLATE, [first + 9, first + 8, first + 7, first + 20, first + 21], 3), bytes(8))
+        self.assertEqual(client.told(), INFLATE)
+        self.assertEqual(client.used(INFLATE), (1, [(3, 0)]))
+        self.assertEqual(client.holes(), [first + it for it in (7, 8, 9, 20, 21)])
+        client.post_pages(DEFLATE, [first + 8, first + 9], 7)
+        self.assertEqual(client.told(), DEFLATE)
+        self.assertEqual(client.used(DEFLATE), (1, [(7, 0)]))
+        counters = client.backend.counters()
+        self.assertEqual([counters[it] for it in ("inflated", "deflated", "interrupts", "kicks")], [5, 2, 2, 2])
+
+    def test_no_interrupt_is_wanted(self):
+        client = self.started()
+        client.write(client.table(INFLATE) + PAGE, struct.pack("<H", 1))
+        client.post_pages(INFLATE, [REGIONS[0][0] // PAGE + 40])
+        self.assertEqual(client.counter("interrupts"), 0)
+        self.assertEqual(client.used(INFLATE), (1, [(0, 0)]))
+
+    def test_pages_that_are_not_there(self):
+        client = self.started()
+        end, hole = REGIONS[1][0] // PAGE + PAGES_OF_REGION, REGIONS[0][0] // PAGE + PAGES_OF_REGION
+        client.post_pages(INFLATE, [end - 1, end, 0xFFFFFFFF, hole - 1, hole, hole + 1])
+        client.told()
+        self.assertEqual(client.holes(), [hole - 1, end - 1])
+        counters = client.backend.counters()
+        self.assertEqual([counters[it] for it in ("skipped", "in_holes", "kept")], [2, 2, 0])
+
+    def test_keep(self):
+        client = self.started("--keep")
+        client.post_pages(INFLATE, [REGIONS[1][0] // PAGE])
+        client.told()
+        self.assertEqual(client.holes(), [])
+
+    def test_report(self):
+        client = self.started()
+        client.describe(REPORT, 2, REGIONS[1][0], 8 * PAGE, NEXT | WRITE, 5)
+        client.describe(REPORT, 5, REGIONS[1][0] + 16 * PAGE, 4 * PAGE, WRITE)
+        client.publish(REPORT, 2)
+        client.kick(REPORT)
+        self.assertEqual(client.told(), REPORT)
+        first = REGIONS[1][0] // PAGE
+        self.assertEqual(client.holes(), [first + it for it in (*range(8), *range(16, 20))])
+        self.assertEqual((client.counter("reports"), client.counter("reported")), (1, 12))
+
+    def test_statistics(self):
+        client = self.started()
+        self.assertEqual(client.backend.ask("ask"), "nothing")
+        post_statistics(client, 11, 12)
+        self.assertEqual(client.backend.statistics(), (1, {"free_memory": 11, "total_memory": 12}))
+        self.assertEqual(client.used(STATISTICS), (0, []))
+        self.assertEqual(client.backend.ask("ask"), "asked")
+        self.assertEqual((client.told(), client.used(STATISTICS)), (STATISTICS, (1, [(0, 0)])))
+        self.assertEqual(client.backend.ask("ask"), "nothing")
+        post_statistics(client, 13)
+        self.assertEqual(client.backend.statistics(), (2, {"free_memory": 13}))
+
+    def test_more_statistics_than_are_kept(self):
+        client = self.started()
+        post_statistics(client, *range(102))
+        count, said = client.backend.statistics()
+        self.assertEqual((count, said["free_memory"], said["total_memory"]), (1, 0, 1))
+        self.assertEqual(client.backend.ask("ask"), "asked")
+        self.assertEqual((client.told(), client.used(STATISTICS)), (STATISTICS, (1, [(0, 0)])))
+
+    def test_rings_in_the_second_region(self):
+        client = self.client()
+        client.region = 1
+        client.start()
+        page = REGIONS[1][0] // PAGE + 40
+        client.post_pages(INFLATE, [page, page + 2])
+        self.assertEqual((client.told(), client.used(INFLATE)), (INFLATE, (1, [(0, 0)])))
+        self.assertEqual(client.holes(), [page, page + 2])
+
+    def test_an_old_table_s_files_are_closed(self):
+        client = self.started()
+        before = client.open_files()
+        for _ in range(3):
+            client.hand_over_memory()
+        self.assertEqual(client.open_files(), before)
+
+    def test_a_target_is_not_told_before_the_driver_is_ready(self):
+        client = self.client()
+        client.negotiate()
+        self.assertEqual(client.backend.ask("target 7"), "ok")
+        client.start()
+        self.assertEqual(client.backend.counters()["told"], 0)
+        self.assertEqual(select.select([client.own], [], [], 0)[0], [])
+        self.assertIsNone(client.told())
+
+    def test_what_is_left_after_a_long_service_is_served(self):
+        client = self.started()
+        kicks = (client.served_by_a_kick(DEFLATE, 0.05) for _ in range(200))
+        self.assertTrue(any(it > SIZE for it in kicks), "no kick served more than one queue's size of chains")
+
+    def test_statistics_before_the_driver_is_ready(self):
+        client = self.client()
+        client.negotiate()
+        client.hand_over_memory()
+        for number in range(4):
+            client.place(number)
+        post_statistics(client, 7)
+        for number in range(4):
+            client.enable(number)
+        self.assertEqual(client.backend.statistics(), (1, {"free_memory": 7}))
+
+    def test_queues_without_gaps(self):
+        client = self.client()
+        client.start(0x100000021, 3)
+        client.describe(2, 0, REGIONS[1][0], PAGE, WRITE)
+        client.publish(2, 0)
+        client.kick(2)
+        self.assertEqual((client.told(), client.counter("reported")), (2, 1))
+
+    def test_configuration(self):
+        client = self.started()
+        self.assertEqual(client.backend.ask("target 258"), "ok")
+        self.assertIsNone(client.told())
+        body = struct.pack("<III", 0, 4, 0) + bytes(4)
+        self.assertEqual(client.send(GET_CONFIG, body, flags=1) or client.receive()[1], body[:12] + struct.pack("<I", 258))
+        client.accepted(SET_CONFIG, struct.pack("<IIII", 4, 4, 0, 258))
+        self.assertEqual(client.counter("actual"), 258)
+        self.assertNotEqual(client.send(SET_CONFIG, struct.pack("<IIII", 0, 4, 0, 9)), bytes(8))
+        self.assertEqual(client.counter("target"), 258)
+
+    def test_a_target_is_told_again(self):
+        client = self.started()
+        client.backend.ask("target 5")
+        for _ in range(3):
+            self.assertIsNone(client.told(5))
+
+    def test_features_twice_and_lives(self):
+        client = self.client()
+        client.negotiate(0x100000021)
+        client.start()
+        self.assertEqual(client.counter("status"), 15)
+        client.accepted(SET_FEATURES, struct.pack("<Q", FEATURES | HAS_PROTOCOL))
+        client.accepted(SET_CONFIG, struct.pack("<IIII", 4, 4, 0, 3))
+        self.assertEqual((client.counter("status"), client.counter("actual")), (15, 3))
+        for number in (3, 2, 1, 0):
+            self.assertEqual(client.enable(number, 0), bytes(8))
+        self.assertEqual((client.counter("status"), client.counter("actual")), (0, 0))
+        client.start()
+        self.assertEqual((client.counter("status"), client.counter("actual")), (15, 0))
+        client.post_pages(INFLATE, [REGIONS[1][0] // PAGE])
+        self.assertEqual(client.told(), INFLATE)
+
+    def test_each_counter_is_in_the_table(self):
+        client = self.started()
+        with open(os.path.join(linux_kit.ROOT, "docs", "LINUX.md"), encoding="utf-8") as page:
+            table = page.read().split("| Counter |", 1)[1].split("\n\n", 1)[0]
+        named = re.findall(r"`(\w+)`", "".join(it.split("|")[1] for it in table.splitlines()[2:]))
+        self.assertEqual(named, list(client.backend.counters()))
+
+    def test_lines_that_are_none(self):
+        client = self.started()
+        for line in ("", "target", "target x", "target 4294967296", "snapshot", "audit", "x" * 60):
+            self.assertTrue(client.backend.ask(line).startswith("error: "), line)
+
+    def test_quit(self):
+        client = Served()
+        client.start()
+        client.backend.process.stdin.write(b"quit\n")
+        client.backend.process.stdin.flush()
+        self.assertEqual(client.backend.process.wait(LIMIT), 0)
+        self.assertEqual(client.close(), (0, ""))
