@@ -4,7 +4,8 @@ ghost use Rattle.std.specs.Prelude.{◌≡◌};
 ghost use Rattle.vb_c.specs.Codes.{code_of, rule_in, kind_of_code, code_of_kind};
 ghost use Rattle.vb_c.specs.Answers.{chain_of, named_of, reported_of, figures_of, used_of};
 
-use vb_core::{Denial, Kind, Named, NextChain, Reported, UsedEntry, rule_of};
+use vb_core::{Denial, Kind, Named, NextChain, Reported, UsedEntry};
+use vb_request::rule_of;
 
 /// What an answer is.
 pub(crate) const OK: u32 = 0;

@@ -5,7 +5,6 @@ pub mod NextLemmas
 pub mod RunLemmas
 pub mod OneTelling
 pub mod NameLemmas
-pub mod Chains
 pub mod NamedLaws
 pub mod ChainAgreement
 pub mod CopyLaws

@@ -22,7 +22,7 @@ use Rattle.vb_core.specs.Devices.{ring_of}
 use Rattle.vb_core.specs.Next.{are_copies, is_read, next_denial, PopsCopies}
 use Rattle.vb_core.specs.declared.ring.Ring.{Ring}
 use Rattle.vb_core.specs.Copies.{padded, copies_of}
-use Rattle.vb_core.proofs.Chains.{chain_fits}
+use Rattle.vb_request.proofs.Chains.{chain_fits}
 use Rattle.vb_core.proofs.CopyLemmas.{copied_length}
 use Rattle.vb_core.proofs.DenialLemmas.{IsOpen, open_call}
 

@@ -1,5 +1,3 @@
-pub mod Refusals
-pub mod Asked
 pub mod Copies
 pub mod Settings
 pub mod Rings

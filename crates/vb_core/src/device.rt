@@ -7,9 +7,10 @@ ghost use Rattle.vb_core.specs.Kinds.{queue_of};
 ghost use Rattle.vb_core.specs.Devices.{new_device, ring_of, with_ring, needing_reset};
 ghost use Rattle.vb_core.specs.Devices.{call_denial, queue_denial, place_denial, placed};
 
-use crate::{Kind, Ring, Settings, has_fault, is_not_ready, lacks_feature};
+use crate::{Kind, Ring, Settings};
 use bitflags::Flags;
 use vb_chain::ChainFault;
+use vb_request::{has_fault, is_not_ready, lacks_feature};
 use vb_status::{Features, Status};
 
 /// The bit of the status that tells of a broken rule.

@@ -1,12 +1,8 @@
-//! What a balloon device decides (VIRTIO 1.1, 5.5), apart from memory's ownership: which calls its
-//! status and features refuse, what a chain of each queue asks, and which rule a broken one breaks.
-//! It allocates nothing.
-//!
-//! `Device` is a whole device for a guest whose memory is elsewhere, as in a monitor: it reads
-//! private copies that the monitor makes, touches no guest memory, and answers what is to be done.
+//! `Device` is a whole balloon device (VIRTIO 1.1, 5.5) for a guest whose memory is elsewhere, as
+//! in a monitor: it reads private copies that the monitor makes, touches no guest memory, and
+//! answers what is to be done. It allocates nothing.
 #![tactic(auto)]
 
-mod asked;
 mod ballooned;
 mod config;
 mod copies;
@@ -17,7 +13,6 @@ mod laws;
 mod name;
 mod next;
 mod possible;
-mod refusals;
 mod report;
 mod ring;
 mod runs;
@@ -28,7 +23,6 @@ mod statistics;
 mod status;
 mod using;
 
-pub use asked::read_chain_into;
 pub use ballooned::{count_ballooned, is_ballooned, mark};
 pub use device::{Denial, Device};
 pub use format::{FORMAT_VERSION, SAVED_LENGTH};
@@ -40,9 +34,6 @@ pub use laws::{
 };
 pub use name::Named;
 pub use next::{Buffer, NextChain};
-pub use refusals::{
-    broken, has_fault, is_not_ready, lacks_feature, readiness_refusal, rule_of, take_refusal,
-};
 pub use report::{MAX_REPORT_RUNS, Reported};
 pub use ring::{Ring, UsedEntry};
 pub use runs::Run;
@@ -50,4 +41,3 @@ pub use saved::{Saved, StateDenial};
 pub use saved_laws::{only_what_was_saved_is_restored, what_was_saved_is_restored};
 pub use settings::{LEAST_MEMORY, MEMORY_LIMIT, Settings};
 pub use statistics::Statistic;
-pub use status::StatusDenial;

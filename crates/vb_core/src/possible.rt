@@ -7,8 +7,9 @@ ghost use Rattle.vb_core.specs.Saved.{comes_after, is_status, are_agreed, offere
 ghost use Rattle.vb_core.specs.Saved.{has_moved, is_ring, is_held, can_be};
 
 use crate::saved::Saved;
-use crate::{Device, Kind, Ring, lacks_feature};
+use crate::{Device, Kind, Ring};
 use bitflags::Flags;
+use vb_request::lacks_feature;
 use vb_status::{Features, Status};
 
 /// Whether a bit of the status stands only with the one that comes before it.

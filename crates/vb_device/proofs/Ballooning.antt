@@ -14,7 +14,7 @@ use Rattle.vb_device.specs.Discards.{frames_behind}
 use Rattle.vb_device.specs.declared.worked.Worked.{Worked}
 use Rattle.vb_device.specs.Base.{with_pace}
 use Rattle.vb_device.specs.BaseCalls.{VisitsNext, SettlesBy, taken_out}
-use Rattle.vb_core.specs.Refusals.{readiness_refusal}
+use Rattle.vb_request.specs.Refusals.{readiness_refusal}
 use Rattle.vb_device.specs.BaseCalls.{TakesOut, UsesChain}
 use Rattle.vb_device.specs.Conditions.{work_refusal}
 use Rattle.vb_device.specs.Queues.{queue_part, with_queue, queue_end}
@@ -100,126 +100,6 @@ takes_over q m1 m2 paced flags p1 p2 result t = record {
 
 -- ---- work
 
-no_refusal : (o : Option Refusal) (why : Refusal) → o ≡ None → o ≡ Some why → ⊥
-no_refusal o why a b = cc
-
-same_refusal : (o : Option Refusal) (x y : Refusal) → o ≡ Some x → o ≡ Some y → x ≡ y
-same_refusal o x y a b = cc
-
-no_page : (o : Option ℕ) (page : ℕ) → o ≡ None → o ≡ Some page → ⊥
-no_page o page a b = cc
-
-same_page : (o : Option ℕ) (x y : ℕ) → o ≡ Some x → o ≡ Some y → x ≡ y
-same_page o x y a b = cc
-
-pub works_refused : (mem : Pages) (part : Part) (why : Refusal) →
-    readiness_refusal part.status ≡ Some why → WorksBy mem mem part part (Err why)
-works_refused mem part why is = record {
-  refused = λ w e. (ap Err (same_refusal (work_refusal part) why w is e), refl, refl);
-  idle = λ e n r. absurd (no_refusal (work_refusal part) why e is);
-  inflate = λ page e n. absurd (no_refusal (work_refusal part) why e is);
-  report = λ page e n r. absurd (no_refusal (work_refusal part) why e is);
-}
-
--- a device that isn't paced has nothing to do
-pub works_idle : (mem : Pages) (part : Part) → part.paced ≡ false →
-    readiness_refusal part.status ≡ None → WorksBy mem mem part part (Ok None)
-works_idle mem part paced ok =
-    let none : (q : ℕ) → next_visit q part ≡ None =
-    λ q. ap (λ b. if b then next_page (queue_part q part).taken else None) paced in
-    record {
-      refused = λ w e. absurd (no_refusal (work_refusal part) w ok e);
-      idle = λ e n r. (refl, refl, refl);
-      inflate = λ page e n. absurd (no_page (next_visit 0 part) page (none 0) n);
-      report = λ page e n r. absurd (no_page (next_visit 4 part) page (none 4) r);
-    }
-
--- what a paced one visits next on a queue
-paced_next : (q : ℕ) (paced : Bool) (flags : List Bool) (p : Part) → has_chains q ≡ true →
-    paced ≡ true → next_visit q (over paced flags p) ≡ next_page (queue_part q p).taken
-paced_next q paced flags p known is =
-    ap (λ b. if b then next_page (queue_part q (over paced flags p)).taken else None) is ∙
-    at_each (λ n. next_page (queue_part n (over paced flags p)).taken ≡
-    next_page (queue_part n p).taken) refl refl refl refl q known
-
--- inflates come first, and reports where there is none
-first_queue : (p : Part) (page : ℕ) → next_page p.inflate.taken ≡ Some page → visited_queue p ≡ 0
-first_queue p page e = ap (λ o. if is_some o then 0 else 4) e
-
-last_queue : (p : Part) → next_page p.inflate.taken ≡ None → visited_queue p ≡ 4
-last_queue p e = ap (λ o. if is_some o then 0 else 4) e
-
-on_queue : (q : ℕ) (p : Part) → visited_queue p ≡ q →
-    page_to_visit p ≡ next_page (queue_part q p).taken
-on_queue q p e = ap (λ k. next_page (queue_part k p).taken) e
-
-visit_over : (q : ℕ) (paced : Bool) (flags : List Bool) (p : Part) (loose : List ℕ) →
-    has_chains q ≡ true →
-    over paced flags (record (with_visit q p) { loose = loose }) ≡
-    record (with_queue q (record (queue_part q (over paced flags p)) {
-      taken = visiting (queue_part q (over paced flags p)).taken;
-    }) (over paced flags p)) { loose = loose }
-visit_over q paced flags p loose known =
-    at_each (λ n. over paced flags (record (with_visit n p) { loose = loose }) ≡
-    record (with_queue n (record (queue_part n (over paced flags p)) {
-      taken = visiting (queue_part n (over paced flags p)).taken;
-    }) (over paced flags p)) { loose = loose }) refl refl refl refl q known
-
-visits_on : (q page : ℕ) (paced : Bool) (m1 m2 : Pages) (flags : List Bool) (p1 p2 : Part)
-    (worked : Worked) → has_chains q ≡ true → visited_queue p1 ≡ q → p1.loose ≡ [] →
-    next_page (queue_part q p1).taken ≡ Some page → VisitsNext m1 m2 p1 p2 (Some worked) →
-    Visits q page m1 m2 (over paced flags p1) (over paced flags p2) (Ok (Some worked))
-visits_on q page paced m1 m2 flags p1 p2 worked known at none next v =
-    let left = ap (over paced flags) (v.3 ∙ ap (λ (k : ℕ). record (with_visit k p1) {
-      loose = p1.loose ++ frames_behind m1 (worked.page ∷ []);
-    }) at) ∙ visit_over q paced flags p1 (p1.loose ++ frames_behind m1 (worked.page ∷ [])) known in
-    subst (λ (x : ℕ). Visits q x m1 m2 (over paced flags p1) (over paced flags p2)
-    (Ok (Some worked)))
-    (same_page (page_to_visit p1) worked.page page v.0 (on_queue q p1 at ∙ next))
-    (record {
-      answer = ap (λ (b : Bool). Ok (Some (record { page = worked.page; freed = b }))) v.1;
-      memory = v.2;
-      part = all_but_loose _ _ left;
-      loose = lost_alone p1.loose p2.loose (frames_behind m1 (worked.page ∷ [])) none
-          (ap (λ (x : Part). x.loose) left);
-    })
-
--- a paced one visits the oldest page, if there is one
-pub works_paced : (paced : Bool) (m1 m2 : Pages) (flags : List Bool) (p1 p2 : Part)
-    (found : Option Worked) → paced ≡ true → readiness_refusal p1.status ≡ None → p1.loose ≡ []
-    → VisitsNext m1 m2 p1 p2 found →
-    WorksBy m1 m2 (over paced flags p1) (over paced flags p2) (Ok found)
-works_paced paced m1 m2 flags p1 p2 None is ok none v =
-    let inflate = paced_next 0 paced flags p1 refl is in
-    let report = paced_next 4 paced flags p1 refl is in
-    record {
-      refused = λ w e. absurd (no_refusal (work_refusal p1) w ok e);
-      idle = λ e n r. (refl, ap (over paced flags) v.1, v.2);
-      inflate = λ page e n.
-          let next : next_page p1.inflate.taken ≡ Some page = sym inflate ∙ n in
-          absurd (no_page (page_to_visit p1) page v.0
-          (on_queue 0 p1 (first_queue p1 page next) ∙ next));
-      report = λ page e n r.
-          let next : next_page p1.report.taken ≡ Some page = sym report ∙ r in
-          absurd (no_page (page_to_visit p1) page v.0
-          (on_queue 4 p1 (last_queue p1 (sym inflate ∙ n)) ∙ next));
-    }
-works_paced paced m1 m2 flags p1 p2 (Some worked) is ok none v =
-    let inflate = paced_next 0 paced flags p1 refl is in
-    let report = paced_next 4 paced flags p1 refl is in
-    record {
-      refused = λ w e. absurd (no_refusal (work_refusal p1) w ok e);
-      idle = λ e n r. absurd (no_page (page_to_visit p1) worked.page
-          (on_queue 4 p1 (last_queue p1 (sym inflate ∙ n)) ∙ (sym report ∙ r)) v.0);
-      inflate = λ page e n.
-          let next : next_page p1.inflate.taken ≡ Some page = sym inflate ∙ n in
-          visits_on 0 page paced m1 m2 flags p1 p2 worked refl (first_queue p1 page next) none next
-          v;
-      report = λ page e n r.
-          visits_on 4 page paced m1 m2 flags p1 p2 worked refl
-          (last_queue p1 (sym inflate ∙ n)) none (sym report ∙ r) v;
-    }
-
 -- ---- detach
 
 -- a reset device has ballooned nothing
@@ -240,9 +120,6 @@ ok_err r why e = cc
 
 same_ok : (o : Result Request Refusal) (x y : Request) → o ≡ Ok x → o ≡ Ok y → x ≡ y
 same_ok o x y a b = cc
-
-same_err : (o : Result Request Refusal) (x y : Refusal) → o ≡ Err x → o ≡ Err y → x ≡ y
-same_err o x y a b = cc
 
 -- the flags and the pace are no part of what a finish is refused for
 taken_over : (q index : ℕ) (paced : Bool) (flags : List Bool) (p : Part) {r : Request} →

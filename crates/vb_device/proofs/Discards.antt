@@ -25,9 +25,6 @@ use Rattle.vb_device.specs.Base.{numbers_of_frames}
 use Rattle.vb_device.specs.Discards.{discarded, frames_behind}
 use Rattle.vb_request.proofs.Once.{each_once_push}
 
-true_false : true ≡ false → ⊥
-true_false e = cc
-
 cond_same : {A : Type 0} (b : Bool) (x : A) → cond b x x ≡ x
 cond_same true x = refl
 cond_same false x = refl
@@ -192,24 +189,6 @@ loses_found old new page found is d same =
       arith,
       loses_one old new page d (none_of found (page_at old page) (new ≡ old) is same),
       ap (λ (o : Option Page). one_if (is_some o)) is,
-    )
-
-few_frames : (mem : Pages) → frame_count mem ≤ length mem
-few_frames [] = omega arith
-few_frames (None ∷ ps) = omega (arith, count_by-cons is_some None ps, few_frames ps)
-few_frames (Some p ∷ ps) = omega (arith, count_by-cons is_some (Some p) ps, few_frames ps)
-
--- where no frame is loose, there is room for those of all pages
-pub room_for_all : (mem : Pages) (loose : List Page) (capacity : ℕ) →
-    numbers_of_frames loose ≡ [] → length mem ≤ capacity →
-    length loose + frame_count mem ≤ capacity
-room_for_all mem loose capacity none room =
-    omega (
-      arith,
-      length-map loose (λ (frame : Page). frame.number),
-      ap (λ (ns : List ℕ). length ns) none,
-      few_frames mem,
-      room,
     )
 
 -- ---- all pages

@@ -25,7 +25,7 @@ use Rattle.vb_device.specs.Base.{index_of, queue_at, base_part, numbers_of_frame
 use Rattle.vb_device.specs.Base.{with_pace}
 use Rattle.vb_device.specs.BaseCalls.{queue_refusal, with_lost, taken_out, TakesOut, UsesChain}
 use Rattle.vb_device.specs.BaseCalls.{CanUse}
-use Rattle.vb_core.specs.Refusals.{readiness_refusal}
+use Rattle.vb_request.specs.Refusals.{readiness_refusal}
 use Rattle.vb_device.specs.Calls.{without_frames}
 use Rattle.vb_device.proofs.FourQueues.{at_each, part_get, part_set, set_here, base_set}
 use Rattle.vb_device.proofs.TakesBy.{finish_open, queue_finish, queue_known, status_ok}
@@ -37,9 +37,6 @@ use Rattle.std.proofs.Math.ListN.{set}
 
 none_some : (o : Option Refusal) (x : Refusal) → o ≡ None → o ≡ Some x → ⊥
 none_some o x a b = cc
-
-same_refusal : (o : Option Refusal) (x y : Refusal) → o ≡ Some x → o ≡ Some y → x ≡ y
-same_refusal o x y a b = cc
 
 -- the tests of a taken request, as those of a finish end
 abbrev taken_refusal_by : Bool → Option Request → Option Refusal

@@ -19,19 +19,6 @@ true_false e = cc
 ok_err : (x : Option ℕ) (f : ChainFault) → Ok x ≡ Err f → ⊥
 ok_err x f e = cc
 
-err_ok : (x : Option ℕ) (f : ChainFault) → Err f ≡ Ok x → ⊥
-err_ok x f e = cc
-
-ok_same : (r : Result (Option ℕ) ChainFault) (x y : Option ℕ) → r ≡ Ok x → r ≡ Ok y → x ≡ y
-ok_same r x y a b = cc
-
-err_same : (r : Result (Option ℕ) ChainFault) (x y : ChainFault) → r ≡ Err x → r ≡ Err y → x ≡ y
-err_same r x y a b = cc
-
-next_two : (r : Result (Option ℕ) ChainFault) (x y : Result (Option ℕ) ChainFault) → r ≡ x → r ≡ y →
-    x ≡ y
-next_two r x y a b = sym a ∙ b
-
 none_some : (r : Result (Option ℕ) ChainFault) (h : ℕ) → r ≡ Ok None → r ≡ Ok (Some h) → ⊥
 none_some r h a b = cc
 

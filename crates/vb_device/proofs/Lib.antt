@@ -10,3 +10,4 @@ pub mod Marks
 pub mod LooseFrames
 pub mod Ballooning
 pub mod Visits
+pub mod OwnFrames

@@ -79,10 +79,6 @@ flag_more first flags pages i page flag lt at e =
           (not_equal (get_or pages i 0) k (get_or pages i 0 == k) refl (λ x. ne (x ∙ at)))))))
     ])
 
-pub none_set : (n : ℕ) → count_by (λ b. b) (replicate n false) ≡ 0
-none_set zero = refl
-none_set (suc n) = omega (arith, count_by-cons (λ b. b) false (replicate n false), none_set n)
-
 pub after-length : (q : ℕ) (pages : List ℕ) (flags : List Bool) →
     length (flags_after q pages flags) ≡ length flags
 after-length q pages flags = by_queue (q == 4)

@@ -10,30 +10,6 @@ use Rattle.vb_ring.proofs.Shapes.{parts_in_ring}
 pub ring_below : (size q page : ℕ) → InRing size q page → page < reserved_pages size
 ring_below size q page at = ring_reserved size page (in_ring_page size q page at)
 
--- they lie in memory
-pub ring_inside : (mem : Pages) (size q : ℕ) → IsSize size → 32 ≤ length mem
-    → IsInside mem (layout_of (ring_page size q) size)
-ring_inside mem size q is large =
-    let parts = parts_in_ring size q is in record {
-      table = low (layout_of (ring_page size q) size).table parts.table;
-      avail = low (layout_of (ring_page size q) size).avail.page parts.avail;
-      used = low (layout_of (ring_page size q) size).used.page parts.used;
-    }
-  where
-    low : (page : ℕ) → InRing size q page → page < length mem
-    low page at = omega (arith, ring_below size q page at, reserved_most size, large)
-
--- each of them has a frame
-pub ring_backed : (mem : Pages) (size q : ℕ) → IsSize size
-    → ((page : ℕ) → InRing size q page → IsSome (frame_at mem page))
-    → IsBacked mem (layout_of (ring_page size q) size)
-ring_backed mem size q is each =
-    let parts = parts_in_ring size q is in record {
-      table = each (layout_of (ring_page size q) size).table parts.table;
-      avail = each (layout_of (ring_page size q) size).avail.page parts.avail;
-      used = each (layout_of (ring_page size q) size).used.page parts.used;
-    }
-
 -- and has it still where the reserved pages have theirs
 pub backed_still : (m1 m2 : Pages) (size q : ℕ) → IsSize size
     → ((page : ℕ) → page < reserved_pages size → frame_at m2 page ≡ frame_at m1 page)

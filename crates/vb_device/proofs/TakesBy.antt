@@ -24,15 +24,15 @@ use Rattle.vb_ring.specs.Entries.{next_entry}
 use Rattle.vb_device.specs.Queues.{queue_part, with_queue, next_available}
 use Rattle.vb_device.specs.Conditions.{take_refusal, finish_refusal}
 use Rattle.vb_device.specs.Faults.{Breaks, needing_reset}
-use Rattle.vb_core.specs.Refusals.{rule_of}
+use Rattle.vb_request.specs.Refusals.{rule_of}
 use Rattle.vb_device.specs.QueueState.{QueueState, part_of, with_request, next_of, IsChainOf}
 use Rattle.vb_device.specs.QueueState.{IsFaultOf, is_full, NextMeans, Leaves, TakesNext}
 use Rattle.vb_device.specs.QueueState.{status_after}
 use Rattle.vb_device.specs.Base.{index_of, queue_at, base_part, IsDeviceQueue, IsBase}
 use Rattle.vb_device.specs.BaseCalls.{queue_refusal}
-use Rattle.vb_core.specs.Refusals.{readiness_refusal, take_refusal_by}
+use Rattle.vb_request.specs.Refusals.{readiness_refusal, take_refusal_by}
 use Rattle.vb_device.specs.Calls.{HasChain, HasFault, taking, noting, TakeMeans}
-use Rattle.vb_core.specs.Asked.{request_of, noted}
+use Rattle.vb_request.specs.Asked.{request_of, noted}
 use Rattle.vb_device.specs.Calls.{TakesBy}
 use Rattle.vb_device.proofs.FourQueues.{at_each, part_get, part_set, set_here, set_same, base_set}
 use Rattle.vb_device.proofs.FromNext.{KeepsRing}

@@ -5,7 +5,7 @@
 pub use Rattle.vb_device.specs.Loose.{SameFrames, HandsBack}
 pub use Rattle.vb_device.specs.Attaches.{IsUnused, attached, DetachesBy}
 pub use Rattle.vb_device.specs.Takes.{HasChain, HasFault, taking, noting}
-pub use Rattle.vb_core.specs.Asked.{request_of, noted}
+pub use Rattle.vb_request.specs.Asked.{request_of, noted}
 pub use Rattle.vb_device.specs.Takes.{IsNextRequest, TakeMeans, TakesBy}
 pub use Rattle.vb_device.specs.Visits.{next_visit, Visits, WorksBy, SweepsBy}
 pub use Rattle.vb_device.specs.Finishes.{without_frames, lost_frames, settled, using, Uses}

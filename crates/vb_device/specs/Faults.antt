@@ -5,7 +5,7 @@ use Rattle.vb_model.specs.declared.replies.Refusal.TheVariants.{Broken}
 use Rattle.vb_model.specs.Status.{needs_reset}
 use Rattle.vb_ram.specs.Part.{Part}
 use Rattle.vb_chain.specs.declared.fault.ChainFault.{ChainFault}
-use Rattle.vb_core.specs.Refusals.{rule_of}
+use Rattle.vb_request.specs.Refusals.{rule_of}
 
 -- DEVICE_NEEDS_RESET is set (VIRTIO 1.1, 2.1.2), and nothing else is changed.
 abbrev pub needing_reset : Part → Part

@@ -21,8 +21,8 @@ use Rattle.vb_chain.specs.Chain.{ChainGives, FaultGives}
 use Rattle.vb_ring.specs.Layout.{layout_of}
 use Rattle.vb_ring.specs.Ends.{DeviceEnd}
 use Rattle.vb_ring.specs.Entries.{next_entry}
-use Rattle.vb_core.specs.Refusals.{rule_of}
-use Rattle.vb_core.specs.Asked.{request_of, noted}
+use Rattle.vb_request.specs.Refusals.{rule_of}
+use Rattle.vb_request.specs.Asked.{request_of, noted}
 
 -- The device's end of the ring, and the chains that are taken, oldest first.
 pub record QueueState : Type 0 where

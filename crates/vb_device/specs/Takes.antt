@@ -14,7 +14,7 @@ use Rattle.vb_chain.specs.Chain.{ChainGives, FaultGives}
 use Rattle.vb_device.specs.Queues.{queue_part, with_queue, next_available}
 use Rattle.vb_device.specs.Conditions.{take_refusal}
 use Rattle.vb_device.specs.Faults.{Breaks, needing_reset}
-use Rattle.vb_core.specs.Asked.{request_of, noted}
+use Rattle.vb_request.specs.Asked.{request_of, noted}
 
 -- The chain from a head of the queue has these pieces.
 abbrev pub HasChain : ℕ → Pages → Part → ℕ → List Piece → Type 0

@@ -25,10 +25,10 @@ use crate::taken::TakenRequest;
 use crate::taken_list::{MAX_TAKEN, TakenList};
 use std::marker::Model;
 use vb_chain::Chain;
-use vb_core::broken;
 use vb_model::Refusal;
 use vb_model::layout::STATISTICS_QUEUE;
 use vb_ram::{Frame, GuestBytes, Ram, Shape};
+use vb_request::broken;
 #[cfg(test)]
 use vb_ring::Layout;
 use vb_ring::Queue;

@@ -5,15 +5,14 @@ ghost use Rattle.std.specs.Prelude.{All, IfErr, OnOk, OnErr, Ok, Err};
 ghost use Rattle.vb_model.specs.declared.limits.TheConstants.{MAX_QUEUE_SIZE};
 ghost use Rattle.vb_model.specs.Layout.{reserved_pages};
 ghost use Rattle.vb_model.specs.Limits.{page_size};
-ghost use Rattle.vb_core.specs.Asked.{request_of, noted};
+ghost use Rattle.vb_request.specs.Asked.{request_of, noted};
 ghost use Rattle.vb_model.specs.Device.{is_unvisited};
 ghost use Rattle.vb_request.specs.Report.{IsRun};
 
 use std::marker::Model;
 use vb_chain::{ChainFault, Piece};
-use vb_core::read_chain_into;
 use vb_ram::{GuestBytes, Shape};
-use vb_request::{NamedPages, NamedRun, Statistics};
+use vb_request::{NamedPages, NamedRun, Statistics, read_chain_into};
 
 /// A chain that was taken and isn't used yet.
 #[derive(Drop)]

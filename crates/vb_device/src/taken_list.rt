@@ -8,7 +8,7 @@ ghost use Rattle.vb_model.specs.Device.{is_unvisited, next_page, visiting};
 ghost use Rattle.vb_model.specs.Layout.{reserved_pages};
 ghost use Rattle.vb_model.specs.Limits.{max_outstanding, page_size};
 ghost use Rattle.vb_model.specs.Requests.{Request};
-ghost use Rattle.vb_core.specs.Asked.{request_of, noted};
+ghost use Rattle.vb_request.specs.Asked.{request_of, noted};
 
 use crate::taken::TakenRequest;
 use std::marker::Model;

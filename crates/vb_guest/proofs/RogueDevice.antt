@@ -47,7 +47,7 @@ use Rattle.vb_request.specs.Statistics.{statistics_request, is_statistics_length
 use Rattle.vb_request.proofs.RequestPages.{request_pages, once_distinct, once_all}
 use Rattle.vb_request.proofs.Reports.{report_pages}
 use Rattle.vb_request.proofs.Once.{is_in-each_once}
-use Rattle.vb_core.proofs.Chains.{chain_fits}
+use Rattle.vb_request.proofs.Chains.{chain_fits}
 use Rattle.vb_device.specs.declared.worked.Worked.{Worked}
 use Rattle.vb_device.specs.Discards.{discarded, frames_behind}
 use Rattle.vb_device.specs.Queues.{queue_part, with_queue}

@@ -5,3 +5,4 @@ pub mod OneRequest
 pub mod Reports
 pub mod LastStatistics
 mod NumberFacts
+pub mod Chains

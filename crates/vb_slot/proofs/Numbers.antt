@@ -48,10 +48,6 @@ with_last n xs k =
 
 -- ---- one goes from one list to the other
 
-pub moved : (k n : ℕ) (xs ys : List ℕ)
-    → times k (xs ++ n ∷ []) + times k ys ≡ times k xs + times k (ys ++ n ∷ [])
-moved k n xs ys = omega (arith, last k n xs, last k n ys)
-
 -- ---- one is taken away
 
 pub without_it : (n : ℕ) (xs : List ℕ) → times n (without xs n) ≡ 0

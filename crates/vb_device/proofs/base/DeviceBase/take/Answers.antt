@@ -8,7 +8,7 @@ use Rattle.vb_request.specs.declared.statistics.Statistics.{Statistics}
 use Rattle.vb_device.specs.State.{DeviceState}
 use Rattle.vb_device.specs.QueueState.{QueueState, TakesNext}
 use Rattle.vb_device.specs.Base.{queue_at, index_of, base_part, IsBase}
-use Rattle.vb_core.specs.Refusals.{take_refusal_by}
+use Rattle.vb_request.specs.Refusals.{take_refusal_by}
 use Rattle.vb_device.specs.Calls.{TakesBy}
 use Rattle.vb_device.proofs.FourQueues.{entry_is}
 use Rattle.vb_device.proofs.FromNext.{keeps_ring}

@@ -11,7 +11,7 @@ use Rattle.vb_device.specs.State.{DeviceState}
 use Rattle.vb_device.specs.QueueState.{QueueState}
 use Rattle.vb_device.specs.Base.{queue_at, base_part}
 use Rattle.vb_device.specs.BaseCalls.{CanUse}
-use Rattle.vb_core.specs.Refusals.{readiness_refusal}
+use Rattle.vb_request.specs.Refusals.{readiness_refusal}
 use Rattle.vb_device.proofs.Discards.{discarded_none}
 use Rattle.vb_device.proofs.FourQueues.{entry_is}
 use Rattle.vb_device.proofs.TakesBy.{status_ok}

@@ -9,15 +9,15 @@ use Rattle.vb_chain.specs.declared.pieces.Piece.{Piece}
 use Rattle.vb_chain.specs.Table.{descriptor_at}
 use Rattle.vb_ring.specs.declared.device.Taken.{Taken}
 use Rattle.vb_ring.specs.Calls.{PopsBy, popped}
-use Rattle.vb_core.specs.Asked.{request_of, noted}
+use Rattle.vb_request.specs.Asked.{request_of, noted}
 use Rattle.vb_model.specs.Guest.{LastStatistics}
 use Rattle.vb_device.specs.QueueState.{QueueState, IsTaken, is_full, TakesNext}
 use Rattle.vb_model.specs.Layout.{reserved_pages}
 use Rattle.vb_device.proofs.FromNext.{next_busy, next_idle}
 use Rattle.vb_model.specs.declared.replies.Refusal.{Refusal}
 use Rattle.vb_model.specs.declared.replies.Refusal.TheVariants.{Broken}
-use Rattle.vb_core.specs.Refusals.{rule_of}
-use Rattle.vb_core.proofs.Chains.{chain_fits}
+use Rattle.vb_request.specs.Refusals.{rule_of}
+use Rattle.vb_request.proofs.Chains.{chain_fits}
 use Rattle.vb_device.proofs.Takes.{next_none, next_err, next_wrong, next_right, one_all}
 use Rattle.vb_ring.specs.Ends.{DeviceEnd}
 use Rattle.vb_request.specs.declared.statistics.Statistics.{Statistics}

@@ -1,4 +1,4 @@
-use Rattle.vb_slot.proofs.OwnFrames.{asks_keeping}
+use Rattle.vb_device.proofs.OwnFrames.{asks_keeping}
 use Rattle.vb_slot.proofs.tests.keeping.KeepingDeviceDevice.ask_stats.Goals as goal
 
 pub returns : goal.returns

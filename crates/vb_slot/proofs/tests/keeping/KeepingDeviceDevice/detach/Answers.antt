@@ -1,4 +1,4 @@
-use Rattle.vb_slot.proofs.OwnFrames.{detaches_keeping}
+use Rattle.vb_device.proofs.OwnFrames.{detaches_keeping}
 use Rattle.vb_slot.proofs.tests.keeping.KeepingDeviceDevice.detach.Goals as goal
 
 pub returns : goal.returns

@@ -1,4 +1,4 @@
-use Rattle.vb_slot.proofs.OwnFrames.{finishes_keeping}
+use Rattle.vb_device.proofs.OwnFrames.{finishes_keeping}
 use Rattle.vb_slot.proofs.tests.keeping.KeepingDeviceDevice.finish.Goals as goal
 
 pub returns : goal.returns

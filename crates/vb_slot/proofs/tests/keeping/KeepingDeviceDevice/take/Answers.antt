@@ -1,4 +1,4 @@
-use Rattle.vb_slot.proofs.OwnFrames.{takes_keeping}
+use Rattle.vb_device.proofs.OwnFrames.{takes_keeping}
 use Rattle.vb_slot.proofs.tests.keeping.KeepingDeviceDevice.take.Goals as goal
 
 pub returns : goal.returns

@@ -1,4 +1,4 @@
-use Rattle.vb_slot.proofs.OwnFrames.{works_keeping}
+use Rattle.vb_device.proofs.OwnFrames.{works_keeping}
 use Rattle.vb_slot.proofs.tests.keeping.KeepingDeviceDevice.work.Goals as goal
 
 pub returns : goal.returns

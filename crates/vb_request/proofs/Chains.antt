@@ -1,8 +1,8 @@
--- The pieces of a chain lie in memory.
+-- The pieces of a chain lie in memory, as `read_chain_into` wants them.
 use Rattle.std.specs.Prelude.{◌≡◌, ℕ, ◌+◌, ◌<◌, ◌≤◌, Bool, true, false, List, ◌∷◌, [], All, length}
 use Rattle.std.specs.Prelude.{map, slice_index, None, nat_lt, nat_le, not, ◌&&◌, refl}
 use Rattle.std.specs.List.{list_any}
-use Rattle.std.proofs.Common.{sym, ap, subst, arith, take}
+use Rattle.std.proofs.Common.{sym, subst, arith, take}
 use Rattle.std.proofs.lemmas.Bool.{ltb-false}
 use Rattle.std.proofs.lemmas.List.{get_or-map, length-map}
 use Rattle.std.proofs.lemmas.List.Elements.{All-from_get_or}
@@ -43,13 +43,3 @@ chain_fits d q end h pieces gives =
     (sym (get_or-map (λ n. piece_of (d n)) gives.path k 0 empty inside))
     (fits_of q end (list_any (λ i. is_writable (d i)) (take k gives.path)) k
     (d (slice_index gives.path k)) (gives.chain.sound k inside))))
-
-pub chain_few : (d : ℕ → Descriptor) (q end h : ℕ) (pieces : List Piece) →
-    ChainGives d q end h pieces → length pieces ≤ q
-chain_few d q end h pieces gives =
-    omega (
-      arith,
-      ap (λ (xs : List Piece). length xs) gives.pieces_are,
-      length-map gives.path (λ i. piece_of (d i)),
-      gives.chain.short,
-    )

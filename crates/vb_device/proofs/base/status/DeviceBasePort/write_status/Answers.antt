@@ -1,7 +1,7 @@
 use Rattle.std.proofs.Common.{true, refl}
 use Rattle.vb_status.specs.Bits.{status_bits}
 use Rattle.vb_device.proofs.FourQueues.{base_restarted}
-use Rattle.vb_device.proofs.base.DeviceBasePort.write_status.Goals as goal
+use Rattle.vb_device.proofs.base.status.DeviceBasePort.write_status.Goals as goal
 
 pub invariant_of-self : goal.invariant_of-self
 invariant_of-self c =

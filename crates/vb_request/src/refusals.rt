@@ -4,7 +4,7 @@ ghost use Rattle.std.specs.Prelude.{◌≡◌};
 ghost use Rattle.vb_model.specs.declared.replies.Refusal.TheVariants.{Broken};
 ghost use Rattle.vb_model.specs.Tables.{is_not_ready, has_fault, lacks_feature};
 ghost use Rattle.vb_status.specs.Bits.{status_bits, feature_bits};
-ghost use Rattle.vb_core.specs.Refusals.{rule_of, readiness_refusal, take_refusal_by};
+ghost use Rattle.vb_request.specs.Refusals.{rule_of, readiness_refusal, take_refusal_by};
 
 use bitflags::Flags;
 use vb_chain::ChainFault;
