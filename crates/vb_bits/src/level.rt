@@ -100,7 +100,7 @@ impl Level {
     {
         let last = (self.bound - 1) / WORD_BITS;
         self.words.fill(u64::MAX);
-        self.words[last as usize] = low_ones(self.bound - last * WORD_BITS);
+        self.words[last as usize] = low_ones(u64::from(self.bound - last * WORD_BITS));
     }
 
     /// Takes all numbers out.

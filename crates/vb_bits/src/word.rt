@@ -60,11 +60,12 @@ pub fn lowest_from(word: u64, bit: u32) -> Option<u32>
     }
 }
 
-/// A word whose lowest bits are 1, so many of them, 1 to 64.
-pub fn low_ones(count: u32) -> u64
-    requires some { 0 < count }
-    requires few { count ≤ WORD_BITS }
+/// A word whose lowest bits are 1: so many of them, or all where that is more than a word has.
+pub fn low_ones(count: u64) -> u64
     ensures { (k : ℕ) → k < WORD_BITS → has_bit result k ≡ nat_lt k count }
 {
-    u64::MAX >> (WORD_BITS - count)
+    if count == 0 {
+        return 0;
+    }
+    u64::MAX >> u64::from(WORD_BITS).saturating_sub(count)
 }

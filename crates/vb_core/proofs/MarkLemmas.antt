@@ -14,7 +14,6 @@ use Rattle.std.proofs.lemmas.List.{get_or-set_same, get_or-set_other, length-set
 use Rattle.std.proofs.lemmas.List.Folds.{list_any-append, list_any_more, list_any_at}
 use Rattle.std.proofs.lemmas.Nat.{xor_lt}
 use Rattle.std.proofs.lemmas.Nat.Bits.{bit_at_and, bit_at_or, bit_at_xor, bit_at_not, bit_at-lt}
-use Rattle.std.proofs.lemmas.Nat.Bits.{bit_at_ones, bit_at_ones_above}
 use Rattle.vb_model.specs.Tests.{has_bit, is_in, one_if}
 use Rattle.vb_model.proofs.PageSteps.{is_in-range, outside-range}
 use Rattle.vb_bits.proofs.Words.{at_place}
@@ -292,14 +291,6 @@ none_reaches test run e =
     ap (λ (n : ℕ). list_any test (range_with_len run.first n)) e
 
 -- ---- the bits of a run in a word
-
-pub low_ones_bit : (count k : ℕ) → has_bit (2 ^ count - 1) k ≡ ltb k count
-low_ones_bit count k = elim (cases_lt k count) [
-  | inl below ↦
-      ap (λ (d : ℕ). eqb d 1) (bit_at_ones count k below) ∙ sym (lt-ltb k count below)
-  | inr above ↦
-      ap (λ (d : ℕ). eqb d 1) (bit_at_ones_above count k above) ∙ sym (le-ltb k count above)
-]
 
 pub run_bit : (run : Run) (start b : ℕ)
     → cond (ltb b (run.first - start)) false (ltb b (run.first + run.count - start))

@@ -9,21 +9,10 @@ ghost use Rattle.vb_core.specs.Runs.{pages_of_run, pages_of_runs};
 ghost use Rattle.vb_core.specs.Ballooned.{is_ballooned, ballooned_count, Puts, MarksBy};
 
 use crate::{Denial, Kind, Run};
-use vb_bits::WORD_BITS;
+use vb_bits::{WORD_BITS, low_ones};
 
 /// Pages of a word of the set.
 const PAGES: u64 = WORD_BITS as u64;
-
-/// A word whose lowest bits are 1: so many of them, or all where that is more than a word has.
-fn low_ones(count: u64) -> u64
-    ensures { (k : ℕ) → k < WORD_BITS → has_bit result k ≡ nat_lt k count }
-{
-    if count < PAGES {
-        (1 << count) - 1
-    } else {
-        u64::MAX
-    }
-}
 
 /// The bits of a run's pages in the word of this number.
 fn bits_of_run(run: Run, word: u64) -> u64

@@ -1,4 +1,4 @@
-use Rattle.std.proofs.Common.{◌≡◌, ◌-◌, ◌/◌, ◌<◌, ℕ, List, Bool, true, length, replicate}
+use Rattle.std.proofs.Common.{◌≡◌, ◌-◌, ◌*◌, ◌/◌, ◌<◌, ℕ, List, Bool, true, length, ltb, replicate}
 use Rattle.std.proofs.Common.{set, subst, sym, ap, ◌∙◌, arith}
 use Rattle.vb_bits.specs.Words.{flags_of, AreWordsOf}
 use Rattle.vb_bits.proofs.Words.{bound_is, filled, filled_flags}
@@ -12,12 +12,6 @@ pub overflow_sub-last : goal.overflow_sub-last
 overflow_sub-last c =
     some c.self.inside.bound c.self.inside.words.items c.args.self.now c.self.view_is c.requires
 
-pub low_ones-requires-clause-some : goal.low_ones-requires-clause-some
-low_ones-requires-clause-some c =
-    let words = c.self.inside.words.items in
-    let l = some c.self.inside.bound words c.args.self.now c.self.view_is c.requires in
-    omega (arith, l)
-
 pub index_mut-requires : goal.index_mut-requires
 index_mut-requires c =
     let words = c.self.inside.words in
@@ -30,12 +24,13 @@ invariant_of-self c =
     let words = c.self.inside.words in
     let last = (bound - 1) / 64 in
     let low = c.low_ones.result in
+    let count : c.from.result ≡ bound - last * 64 = c.from.ensures in
     let l = some bound words.items c.args.self.now c.self.view_is c.requires in
     subst (λ (ws : List ℕ). AreWordsOf bound (set ws last low))
     (sym (c.fill.ensures.items (λ y e. e)))
     (filled bound words.len last low (omega (arith, l)) (omega (arith, l))
     (omega (arith, l, c.self.invariant.enough, c.self.invariant.fewest, words.ok.0))
-    c.low_ones.ensures)
+    (λ k inside. c.low_ones.ensures k inside ∙ ap (ltb k) count))
 
 pub returns : goal.returns
 returns c =
@@ -43,9 +38,10 @@ returns c =
     let words = c.self.inside.words in
     let last = (bound - 1) / 64 in
     let low = c.low_ones.result in
+    let count : c.from.result ≡ bound - last * 64 = c.from.ensures in
     let l = some bound words.items c.args.self.now c.self.view_is c.requires in
     ap (λ (ws : List ℕ). flags_of bound (set ws last low)) (c.fill.ensures.items (λ y e. e))
     ∙ filled_flags bound words.len last low (omega (arith, l)) (omega (arith, l))
     (omega (arith, l, c.self.invariant.enough, c.self.invariant.fewest, words.ok.0))
-    c.low_ones.ensures
+    (λ k inside. c.low_ones.ensures k inside ∙ ap (ltb k) count)
     ∙ ap (λ (n : ℕ). replicate n true) (bound_is bound words.items c.args.self.now c.self.view_is)
