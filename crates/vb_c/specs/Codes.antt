@@ -5,12 +5,12 @@ use Rattle.vb_core.specs.declared.device.Denial.TheVariants.{NoQueue, BadArgumen
 use Rattle.vb_core.specs.declared.device.Denial.TheVariants.{NeedsReset, Misplaced, Broken}
 use Rattle.vb_core.specs.declared.kinds.Kind.{Kind}
 use Rattle.vb_core.specs.declared.kinds.Kind.TheVariants.{Inflate, Deflate, Statistics, Report}
-use Rattle.vb_core.specs.declared.status.StatusDenial.{StatusDenial}
-use Rattle.vb_core.specs.declared.status.StatusDenial.TheVariants.{ClearsBit, OutOfOrder}
-use Rattle.vb_core.specs.declared.status.StatusDenial.TheVariants.{FeatureNotOffered}
-use Rattle.vb_core.specs.declared.status.StatusDenial.TheVariants.{MustTellHostMissing}
-use Rattle.vb_core.specs.declared.status.StatusDenial.TheVariants.{VersionMissing}
-use Rattle.vb_core.specs.Refusals.{rule_of}
+use Rattle.vb_status.specs.declared.bits.StatusFault.{StatusFault}
+use Rattle.vb_status.specs.declared.bits.StatusFault.TheVariants.{ClearsBit, OutOfOrder}
+use Rattle.vb_status.specs.declared.bits.StatusFault.TheVariants.{FeatureNotOffered}
+use Rattle.vb_status.specs.declared.bits.StatusFault.TheVariants.{MustTellHostMissing}
+use Rattle.vb_status.specs.declared.bits.StatusFault.TheVariants.{VersionMissing}
+use Rattle.vb_request.specs.Refusals.{rule_of}
 
 abbrev pub code_of : Denial → ℕ
 code_of (Broken fault) = 2
@@ -41,7 +41,7 @@ code_in (Ok x) = 0
 code_in (Err why) = code_of why
 
 -- The number of the rule that a write of the status or of features breaks, and 0 where none is.
-abbrev pub number_in : Result (Unit {0}) StatusDenial → ℕ
+abbrev pub number_in : Result (Unit {0}) StatusFault → ℕ
 number_in (Ok x) = 0
 number_in (Err ClearsBit) = 1
 number_in (Err OutOfOrder) = 2

@@ -5,7 +5,7 @@ use Rattle.vb_core.specs.declared.device.Denial.{Denial}
 use Rattle.vb_core.specs.declared.device.Denial.TheVariants.{BadArgument, NoQueue}
 use Rattle.vb_core.specs.declared.device.Device.{Device}
 use Rattle.vb_core.specs.declared.settings.Settings.{Settings}
-use Rattle.vb_core.specs.declared.status.StatusDenial.{StatusDenial}
+use Rattle.vb_status.specs.declared.bits.StatusFault.{StatusFault}
 use Rattle.vb_core.specs.Settings.{are_settings}
 use Rattle.vb_core.specs.Devices.{new_device, with_ring, placed, place_denial}
 use Rattle.vb_core.specs.Statuses.{status_denial, after_write, negotiate_denial}
@@ -19,13 +19,13 @@ pub record Starts (settings : Settings) (d1 d2 : Device) (result : ℕ) : Type 0
 
 -- A write of the status is refused, or accepted.
 pub record WritesStatus (write : ℕ) (d1 d2 : Device) (result : ℕ) : Type 0 where
-  pub denied : (why : StatusDenial) → status_denial write d1 ≡ Some why →
+  pub denied : (why : StatusFault) → status_denial write d1 ≡ Some why →
       (result ≡ number_in (Err why)) × (d2 ≡ d1)
   pub accepted : status_denial write d1 ≡ None → (result ≡ 0) × (d2 ≡ after_write write d1)
 
 -- A set of features is refused, or accepted.
 pub record Negotiates (wanted : ℕ) (d1 d2 : Device) (result : ℕ) : Type 0 where
-  pub denied : (why : StatusDenial) → negotiate_denial wanted d1 ≡ Some why →
+  pub denied : (why : StatusFault) → negotiate_denial wanted d1 ≡ Some why →
       (result ≡ number_in (Err why)) × (d2 ≡ d1)
   pub accepted : negotiate_denial wanted d1 ≡ None →
       (result ≡ 0) × (d2 ≡ record d1 { features = wanted })

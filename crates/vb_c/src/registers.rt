@@ -9,8 +9,8 @@ ghost use Rattle.vb_c.specs.Registers.{WritesConfig};
 
 use crate::answers::{BAD_ARGUMENT, NO_QUEUE, OK, code_of, code_of_kind, kind_of_code};
 use bitflags::Flags;
-use vb_core::{Denial, Device, Kind, Settings, StatusDenial};
-use vb_status::Features;
+use vb_core::{Denial, Device, Kind, Settings};
+use vb_status::{Features, StatusFault};
 
 /// The code of an answer that has nothing but a denial.
 fn code_in(answer: Result<(), Denial>) -> u32
@@ -23,16 +23,16 @@ fn code_in(answer: Result<(), Denial>) -> u32
 }
 
 /// The number of the rule that a write breaks; 0 where none is.
-fn number_in(answer: Result<(), StatusDenial>) -> u32
+fn number_in(answer: Result<(), StatusFault>) -> u32
     ensures { result ≡ number_in answer }
 {
     match answer {
         Ok(()) => 0,
-        Err(StatusDenial::ClearsBit) => 1,
-        Err(StatusDenial::OutOfOrder) => 2,
-        Err(StatusDenial::FeatureNotOffered) => 3,
-        Err(StatusDenial::MustTellHostMissing) => 4,
-        Err(StatusDenial::VersionMissing) => 5,
+        Err(StatusFault::ClearsBit) => 1,
+        Err(StatusFault::OutOfOrder) => 2,
+        Err(StatusFault::FeatureNotOffered) => 3,
+        Err(StatusFault::MustTellHostMissing) => 4,
+        Err(StatusFault::VersionMissing) => 5,
     }
 }
 

@@ -3,11 +3,10 @@ use Rattle.std.proofs.Common.{◌≡◌, ℕ, Bool, true, false, refl, arith}
 use Rattle.std.specs.Prelude.{◌&&◌, ◌+◌, ◌*◌, nat_le}
 use Rattle.std.specs.Int.{is_power_of_two}
 use Rattle.std.proofs.lemmas.Bool.Decides.{nat_tests}
-use Rattle.vb_ring.specs.Layout.{IsSize, Fits}
+use Rattle.vb_ring.specs.Layout.{IsSize}
 use Rattle.vb_ring.proofs.Powers.{size_of_power}
 use Rattle.vb_core.specs.declared.ring.Ring.{Ring}
 use Rattle.vb_core.specs.Rings.{is_size, is_part, has_place}
-use Rattle.vb_core.specs.Copies.{copied_layout}
 
 both : (a b : Bool) → (a && b) ≡ true → (a ≡ true) × (b ≡ true)
 both true b e = (refl, e)
@@ -29,14 +28,3 @@ placed_size end r e =
     (is_part end r.avail 2 (6 + 2 * r.size)) first.0 in
     let third = both (is_size r.size) (is_part end r.table 16 (16 * r.size)) second.0 in
     size_is r.size third.0
-
--- the parts of a ring of any size fit into the pages of its copies
-pub copied_fits : (q : ℕ) → IsSize q → Fits copied_layout q
-copied_fits q size = record {
-  size = size;
-  avail = omega (arith, size.most);
-  used = omega (arith, size.most);
-  table_avail = λ e. absurd cc;
-  table_used = λ e. absurd cc;
-  avail_used = λ e. omega (arith, size.most);
-}

@@ -1,6 +1,6 @@
 -- Worked facts of saved devices: their bytes, the states that calls lead to, and those that none do.
 use lib.Count
-use Rattle.std.proofs.Common.{◌≡◌, ℕ, true, false, List, [], ◌∷◌, map, refl, count_by}
+use Rattle.std.proofs.Common.{◌≡◌, ℕ, true, false, [], ◌∷◌, map, refl, count_by}
 use Rattle.std.specs.Prelude.{Some, None, Err}
 use Rattle.std.specs.List.{range_with_len}
 use Rattle.vb_core.specs.declared.kinds.Kind.TheVariants.{Inflate, Statistics, Report}
@@ -13,7 +13,7 @@ use Rattle.vb_core.specs.declared.format.TheConstants.{SAVED_LENGTH, CHECKSUM_AT
 use Rattle.vb_core.specs.declared.format.TheConstants.{FORMAT_VERSION, VERSION_AT, LENGTH_AT, MAGIC}
 use Rattle.vb_core.specs.Devices.{new_device}
 use Rattle.vb_core.specs.Format.{u16_bytes, u64_bytes, u64_at, checksum}
-use Rattle.vb_core.specs.Saved.{is_status, are_agreed, is_ring, is_held, can_be, save_denial}
+use Rattle.vb_core.specs.Saved.{is_status, are_agreed, is_ring, is_held, save_denial}
 use Rattle.vb_core.specs.Saved.{restored}
 
 -- ---- bytes

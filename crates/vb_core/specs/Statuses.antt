@@ -5,28 +5,30 @@ use Rattle.vb_model.specs.declared.replies.Refusal.{Refusal}
 use Rattle.vb_model.specs.declared.replies.Refusal.TheVariants.{ClearsBit as ClearsOne}
 use Rattle.vb_model.specs.declared.replies.Refusal.TheVariants.{OutOfOrder as BreaksOrder}
 use Rattle.vb_model.specs.declared.replies.Refusal.TheVariants.{FeatureNotOffered as OffersNot}
+use Rattle.vb_model.specs.declared.replies.Refusal.TheVariants.{NoFeature as LacksFeature}
 use Rattle.vb_model.specs.Status.{status_refusal, negotiate_refusal, adds, features_ok, contains}
 use Rattle.vb_model.specs.Guest.{must_tell_host}
-use Rattle.vb_core.specs.declared.status.StatusDenial.{StatusDenial}
-use Rattle.vb_core.specs.declared.status.StatusDenial.TheVariants.{ClearsBit, OutOfOrder}
-use Rattle.vb_core.specs.declared.status.StatusDenial.TheVariants.{FeatureNotOffered}
-use Rattle.vb_core.specs.declared.status.StatusDenial.TheVariants.{MustTellHostMissing}
-use Rattle.vb_core.specs.declared.status.StatusDenial.TheVariants.{VersionMissing}
+use Rattle.vb_status.specs.declared.bits.StatusFault.{StatusFault}
+use Rattle.vb_status.specs.declared.bits.StatusFault.TheVariants.{ClearsBit, OutOfOrder}
+use Rattle.vb_status.specs.declared.bits.StatusFault.TheVariants.{FeatureNotOffered}
+use Rattle.vb_status.specs.declared.bits.StatusFault.TheVariants.{MustTellHostMissing}
+use Rattle.vb_status.specs.declared.bits.StatusFault.TheVariants.{VersionMissing}
 use Rattle.vb_core.specs.declared.device.Device.{Device}
 use Rattle.vb_core.specs.Settings.{needs_must_tell}
 use Rattle.vb_core.specs.Devices.{new_device}
 
--- A refusal of the definitions: no write meets another one than these.
-abbrev pub denial_by : Refusal → StatusDenial
-denial_by ClearsOne = ClearsBit
-denial_by BreaksOrder = OutOfOrder
-denial_by OffersNot = FeatureNotOffered
-denial_by _ = VersionMissing
+-- The fault that says a refusal of the definitions: no write meets another one than these.
+abbrev pub fault_by : Refusal → StatusFault
+fault_by ClearsOne = ClearsBit
+fault_by BreaksOrder = OutOfOrder
+fault_by OffersNot = FeatureNotOffered
+fault_by LacksFeature = MustTellHostMissing
+fault_by _ = VersionMissing
 
 -- The refusal of the definitions, or else this one.
-abbrev pub denied_or : Option StatusDenial → Option Refusal → Option StatusDenial
+abbrev pub denied_or : Option StatusFault → Option Refusal → Option StatusFault
 denied_or other None = other
-denied_or other (Some refusal) = Some (denial_by refusal)
+denied_or other (Some refusal) = Some (fault_by refusal)
 
 -- A write adds FEATURES_OK without the MUST_TELL_HOST that the settings ask for.
 abbrev pub lacks_must_tell : ℕ → Device → Bool
@@ -35,7 +37,7 @@ lacks_must_tell write d =
     && not (must_tell_host d.features)
 
 -- What a write of the status is refused for.
-abbrev pub status_denial : ℕ → Device → Option StatusDenial
+abbrev pub status_denial : ℕ → Device → Option StatusFault
 status_denial write d =
     denied_or (if lacks_must_tell write d then Some MustTellHostMissing else None)
     (status_refusal d.status d.features write)
@@ -47,7 +49,7 @@ after_write write d =
     else record d { status = write }
 
 -- What a set of features is refused for.
-abbrev pub negotiate_denial : ℕ → Device → Option StatusDenial
+abbrev pub negotiate_denial : ℕ → Device → Option StatusFault
 negotiate_denial wanted d =
     denied_or (if contains d.settings.offered wanted then None else Some FeatureNotOffered)
     (negotiate_refusal d.status wanted)

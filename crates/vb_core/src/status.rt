@@ -1,41 +1,13 @@
 //! The status register and the negotiation of features (VIRTIO 1.1, 2.1, 2.2 and 3.1.1).
 
 ghost use Rattle.std.specs.Prelude.{◌≡◌, Some, None, Ok, Err};
-ghost use Rattle.vb_status.specs.Answers.{refusal_of_fault};
-ghost use Rattle.vb_core.specs.declared.status.StatusDenial.{StatusDenial};
-ghost use Rattle.vb_core.specs.Statuses.{denial_by, lacks_must_tell, status_denial, after_write};
+ghost use Rattle.vb_status.specs.declared.bits.StatusFault.{StatusFault};
+ghost use Rattle.vb_core.specs.Statuses.{lacks_must_tell, status_denial, after_write};
 ghost use Rattle.vb_core.specs.Statuses.{negotiate_denial};
 
 use crate::Device;
 use bitflags::Flags;
 use vb_status::{Features, Status, StatusFault, negotiate, write_status};
-
-/// Why a write of the status, or a set of features, is refused.
-#[derive(Clone, Copy, Debug, PartialEq, Eq)]
-pub enum StatusDenial {
-    /// A bit that is set is missing in the write.
-    ClearsBit = 1,
-    /// A step is skipped, or two are taken at once.
-    OutOfOrder = 2,
-    /// A feature is wanted that the device doesn't offer.
-    FeatureNotOffered = 3,
-    /// FEATURES_OK is written, but MUST_TELL_HOST wasn't negotiated, which the settings ask for.
-    MustTellHostMissing = 4,
-    /// FEATURES_OK is written, but VERSION_1 wasn't negotiated.
-    VersionMissing = 5,
-}
-
-/// The denial that a fault is.
-fn denial_by(fault: StatusFault) -> StatusDenial
-    ensures { result ≡ denial_by (refusal_of_fault fault) }
-{
-    match fault {
-        StatusFault::ClearsBit => StatusDenial::ClearsBit,
-        StatusFault::OutOfOrder => StatusDenial::OutOfOrder,
-        StatusFault::FeatureNotOffered => StatusDenial::FeatureNotOffered,
-        StatusFault::VersionMissing => StatusDenial::VersionMissing,
-    }
-}
 
 impl Device {
     /// Whether a write adds FEATURES_OK without the MUST_TELL_HOST that the settings ask for.
@@ -50,16 +22,16 @@ impl Device {
     }
 
     /// What a write of the status is refused for.
-    fn status_denial(&self, write: u8) -> Option<StatusDenial>
+    fn status_denial(&self, write: u8) -> Option<StatusFault>
         ensures { result ≡ status_denial write self.now }
     {
         let status = Status::from_bits_retain(self.status);
         let features = Features::from_bits_retain(self.features);
         match write_status(status, features, Status::from_bits_retain(write)) {
-            Err(fault) => Some(denial_by(fault)),
+            Err(fault) => Some(fault),
             Ok(_) => {
                 if self.lacks_must_tell(write) {
-                    Some(StatusDenial::MustTellHostMissing)
+                    Some(StatusFault::MustTellHostMissing)
                 } else {
                     None
                 }
@@ -82,8 +54,8 @@ impl Device {
     /// Refused, tested in this order, and then nothing is changed: `ClearsBit`; `OutOfOrder`;
     /// where FEATURES_OK is added, `VersionMissing`, and then `MustTellHostMissing` where the
     /// settings ask for it.
-    pub fn write_status(&mut self, write: u8) -> Result<(), StatusDenial>
-        ensures denied { (why : StatusDenial) → status_denial write self.old ≡ Some why →
+    pub fn write_status(&mut self, write: u8) -> Result<(), StatusFault>
+        ensures denied { (why : StatusFault) → status_denial write self.old ≡ Some why →
             (result ≡ Err why) × (self.new ≡ self.old) }
         ensures accepted { status_denial write self.old ≡ None →
             (result ≡ Ok tt) × (self.new ≡ after_write write self.old) }
@@ -100,17 +72,17 @@ impl Device {
     }
 
     /// What these features are refused for.
-    fn negotiate_denial(&self, wanted: u64) -> Option<StatusDenial>
+    fn negotiate_denial(&self, wanted: u64) -> Option<StatusFault>
         ensures { result ≡ negotiate_denial wanted self.now }
     {
         let features = Features::from_bits_retain(wanted);
         match negotiate(Status::from_bits_retain(self.status), features) {
-            Err(fault) => Some(denial_by(fault)),
+            Err(fault) => Some(fault),
             Ok(_) => {
                 if Features::from_bits_retain(self.settings.offered).contains(features) {
                     None
                 } else {
-                    Some(StatusDenial::FeatureNotOffered)
+                    Some(StatusFault::FeatureNotOffered)
                 }
             }
         }
@@ -120,8 +92,8 @@ impl Device {
     ///
     /// Refused, and then nothing is changed: `OutOfOrder` unless ACKNOWLEDGE and DRIVER alone are
     /// set, and then `FeatureNotOffered` where the settings don't offer one of them.
-    pub fn negotiate(&mut self, wanted: u64) -> Result<(), StatusDenial>
-        ensures denied { (why : StatusDenial) → negotiate_denial wanted self.old ≡ Some why →
+    pub fn negotiate(&mut self, wanted: u64) -> Result<(), StatusFault>
+        ensures denied { (why : StatusFault) → negotiate_denial wanted self.old ≡ Some why →
             (result ≡ Err why) × (self.new ≡ self.old) }
         ensures accepted { negotiate_denial wanted self.old ≡ None →
             (result ≡ Ok tt) × (self.new ≡ record self.old { features = wanted }) }

@@ -30,6 +30,7 @@ fn refusal_of(fault: StatusFault) -> Refusal
         StatusFault::ClearsBit => Refusal::ClearsBit,
         StatusFault::OutOfOrder => Refusal::OutOfOrder,
         StatusFault::FeatureNotOffered => Refusal::FeatureNotOffered,
+        StatusFault::MustTellHostMissing => Refusal::NoFeature,
         StatusFault::VersionMissing => Refusal::VersionMissing,
     }
 }

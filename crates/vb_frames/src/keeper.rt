@@ -12,10 +12,10 @@ use vb_ram::Frame;
 #[derive(Clone, Copy, Debug, PartialEq, Eq, Error)]
 pub enum Refused {
     /// All frames are out, or the keeper gives none.
-    #[error("no frame")]
+    #[error("all frames are out")]
     NoFrame = 1,
     /// There is no memory for the frame's bytes.
-    #[error("memory")]
+    #[error("out of memory")]
     Memory = 2,
 }
 

@@ -1,12 +1,12 @@
 //! All that a balloon is between notices.
 
 ghost use Rattle.std.specs.Prelude.{◌≡◌, Some, None, Ok, Err};
-ghost use Rattle.vb_core.specs.declared.status.StatusDenial.{StatusDenial};
+ghost use Rattle.vb_status.specs.declared.bits.StatusFault.{StatusFault};
 ghost use Rattle.vb_core.specs.Statuses.{status_denial};
 ghost use Rattle.vb_monitor.specs.Balloons.{may_look, held_after, after_status, becomes_ready};
 
 use crate::Outcome;
-use vb_core::{Device, Kind, StatusDenial};
+use vb_core::{Device, Kind};
 
 /// The bit of the status by which a driver says that it is ready (VIRTIO 1.1, 2.1).
 const DRIVER_OK: u8 = 4;
@@ -45,8 +45,8 @@ impl Balloon {
     /// guest's again.
     ///
     /// Refused as by `Device::write_status`, and then nothing is changed.
-    pub fn write_status(&mut self, write: u8) -> Result<bool, StatusDenial>
-        ensures denied { (why : StatusDenial) → status_denial write self.old.device ≡ Some why →
+    pub fn write_status(&mut self, write: u8) -> Result<bool, StatusFault>
+        ensures denied { (why : StatusFault) → status_denial write self.old.device ≡ Some why →
             (result ≡ Err why) × (self.new ≡ self.old) }
         ensures accepted { status_denial write self.old.device ≡ None →
             (result ≡ Ok (becomes_ready write self.old)) ×

@@ -6,15 +6,15 @@ use thiserror::Error;
 #[derive(Clone, Copy, Debug, PartialEq, Eq, Error)]
 pub enum PageFault {
     /// An order over 9.
-    #[error("bad order")]
+    #[error("no block has this order")]
     BadOrder = 1,
     /// No such processor.
-    #[error("bad cpu")]
+    #[error("no such processor")]
     BadCpu = 2,
     /// No aligned block of the order is wholly free.
-    #[error("no pages")]
+    #[error("no block of this order is free")]
     NoPages = 3,
     /// No allocation of just that block.
-    #[error("not held")]
+    #[error("no allocation has just this block")]
     NotHeld = 4,
 }

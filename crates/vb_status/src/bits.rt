@@ -135,21 +135,24 @@ impl Flags for Features {
     }
 }
 
-/// Why a write of the status, or a set of features, is refused. Nothing is changed then. No fault
-/// has the number 4: it was that of a write without MUST_TELL_HOST, which is accepted.
+/// Why a write of the status, or a set of features, is refused. Nothing is changed then.
 #[derive(Clone, Copy, Debug, PartialEq, Eq, Error)]
 pub enum StatusFault {
     /// A bit that is set is missing in the write.
-    #[error("clears bit")]
+    #[error("the write clears a bit of the status")]
     ClearsBit = 1,
     /// The steps ACKNOWLEDGE, DRIVER, FEATURES_OK and DRIVER_OK are taken one at a time and in this
     /// order.
-    #[error("out of order")]
+    #[error("the write leaves the order of the steps")]
     OutOfOrder = 2,
     /// A feature is wanted that the device doesn't offer.
-    #[error("feature not offered")]
+    #[error("the device lacks a feature that is wanted")]
     FeatureNotOffered = 3,
+    /// FEATURES_OK is written, but MUST_TELL_HOST wasn't negotiated. A device for a monitor may ask
+    /// for it; `write_status` and a `Port` accept such a write.
+    #[error("MUST_TELL_HOST isn't negotiated")]
+    MustTellHostMissing = 4,
     /// FEATURES_OK is written, but VERSION_1 wasn't negotiated (VIRTIO 1.1, 6.1).
-    #[error("version missing")]
+    #[error("VERSION_1 isn't negotiated")]
     VersionMissing = 5,
 }

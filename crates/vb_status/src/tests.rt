@@ -74,10 +74,11 @@ fn negotiates_what_is_offered(rt: HostRuntime) {
     assert!(rt; Features::all() == Features::OFFERED);
 }
 
-static FAULT_NUMBERS: [(StatusFault, u8); 4] = [
+static FAULT_NUMBERS: [(StatusFault, u8); 5] = [
     (StatusFault::ClearsBit, 1),
     (StatusFault::OutOfOrder, 2),
     (StatusFault::FeatureNotOffered, 3),
+    (StatusFault::MustTellHostMissing, 4),
     (StatusFault::VersionMissing, 5),
 ];
 

@@ -59,23 +59,36 @@ static CHAINS: [(ChainFault, &str); 10] = [
     (ChainFault::ReservedPage, "a reserved page"),
 ];
 
-static STATUSES: [(StatusFault, &str); 4] = [
-    (StatusFault::ClearsBit, "clears bit"),
-    (StatusFault::OutOfOrder, "out of order"),
-    (StatusFault::FeatureNotOffered, "feature not offered"),
-    (StatusFault::VersionMissing, "version missing"),
+static STATUSES: [(StatusFault, &str); 5] = [
+    (
+        StatusFault::ClearsBit,
+        "the write clears a bit of the status",
+    ),
+    (
+        StatusFault::OutOfOrder,
+        "the write leaves the order of the steps",
+    ),
+    (
+        StatusFault::FeatureNotOffered,
+        "the device lacks a feature that is wanted",
+    ),
+    (
+        StatusFault::MustTellHostMissing,
+        "MUST_TELL_HOST isn't negotiated",
+    ),
+    (StatusFault::VersionMissing, "VERSION_1 isn't negotiated"),
 ];
 
 static PAGES: [(PageFault, &str); 4] = [
-    (PageFault::BadOrder, "bad order"),
-    (PageFault::BadCpu, "bad cpu"),
-    (PageFault::NoPages, "no pages"),
-    (PageFault::NotHeld, "not held"),
+    (PageFault::BadOrder, "no block has this order"),
+    (PageFault::BadCpu, "no such processor"),
+    (PageFault::NoPages, "no block of this order is free"),
+    (PageFault::NotHeld, "no allocation has just this block"),
 ];
 
 static KEEPERS: [(Refused, &str); 2] = [
-    (Refused::NoFrame, "no frame"),
-    (Refused::Memory, "memory"),
+    (Refused::NoFrame, "all frames are out"),
+    (Refused::Memory, "out of memory"),
 ];
 
 static SCRIPTS: [(ScriptFault, &str); 3] = [
