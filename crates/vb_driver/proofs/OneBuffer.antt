@@ -95,13 +95,6 @@ queue_added r n queue end some unused =
 
 -- ---- and comes back
 
-own_tells : (o : Option ℕ) (h : ℕ) → is_own h o ≡ true → o ≡ Some h
-own_tells None h e = cc
-own_tells (Some k) h e = elim (eqb_tells k h) [
-  | inl same ↦ ap Some same.1
-  | inr other ↦ (let wrong : true ≡ false = sym e ∙ other.0 in cc)
-]
-
 released_unused : (r : DriverEnd) (n : ℕ) → IsStatisticsQueue r n → (i : ℕ)
     → is_unused (released 0 r.owner) i ≡ true
 released_unused r n queue i = elim (cases_Bool (is_unused r.owner i)) [

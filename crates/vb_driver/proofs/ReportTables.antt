@@ -257,32 +257,6 @@ posted_report_queue side size r2 blocks queue end nothing few room good state =
         ∙ ap (λ (o : Option ℕ). cond (nat_lt i (length blocks)) (Some 0) o)
         (unowned side size queue nothing i)))
 
--- a chain that is taken back has head 0
-only_out : (owner : List (Option ℕ)) (answer : Result (Option ℕ) RingBroken) (h : ℕ)
-    → only_head owner answer ≡ Ok (Some h) → is_head owner h ≡ true
-only_out owner (Err fault) h e = cc
-only_out owner (Ok None) h e = cc
-only_out owner (Ok (Some id)) h e = at (is_head owner id) refl e
-  where
-    same : (a b : ℕ) (x y : Result (Option ℕ) RingBroken) → x ≡ Ok (Some a) → y ≡ Ok (Some b)
-        → x ≡ y → a ≡ b
-    same a b x y p q s = cc
-
-    at : (v : Bool) → is_head owner id ≡ v
-        → cond v (Ok (Some id)) (Err NotOutstanding) ≡ Ok (Some h) → is_head owner h ≡ true
-    at true is s = subst (λ (n : ℕ). is_head owner n ≡ true) (same id h _ _ refl s refl) is
-    at false is s = cc
-
-pub head_zero : (mem : Pages) (side : ReportSide) (size h : ℕ) → IsReportQueue side size
-    → used_answer mem side.ring ≡ Ok (Some h) → h ≡ 0
-head_zero mem side size h queue answer =
-    let head : is_head side.ring.owner h ≡ true = only_out side.ring.owner _ h answer in
-    at (nat_lt h (length side.blocks)) (ap (is_own h) (sym (queue.owned h)) ∙ head)
-  where
-    at : (v : Bool) → is_own h (head_if v) ≡ true → h ≡ 0
-    at true e = sym (eqb-true 0 h e)
-    at false e = cc
-
 pub taken_report_queue : (side : ReportSide) (size h : ℕ) (r2 : DriverEnd) → IsReportQueue side size
     → h ≡ 0 → r2 ≡ after_take side.ring (Ok (Some h))
     → IsReportQueue (record { ring = r2; blocks = [] }) size

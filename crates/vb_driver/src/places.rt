@@ -1,28 +1,24 @@
 //! Where each page of the guest is.
 
-ghost use Rattle.std.specs.Prelude.{◌≡◌, ◌≤◌, ◌<◌, ◌+◌, ◌-◌, ◌^◌, ◌||◌, ℕ, true, length, take, map};
+mod lowest;
+mod ranges;
+
+ghost use Rattle.std.specs.Prelude.{◌≡◌, ◌≤◌, ◌<◌, ◌+◌, ◌-◌, ◌||◌, length, map};
 ghost use Rattle.std.specs.Prelude.{slice_set};
-ghost use Rattle.std.specs.List.{range_with_len};
-ghost use Rattle.std.specs.Prelude.{count_by, IfOk, All};
+ghost use Rattle.std.specs.Prelude.{count_by, IfOk};
 ghost use Rattle.vb_bits.specs.Sets.{has};
-ghost use Rattle.vb_model.specs.Tests.{is_in, pages_where};
-ghost use Rattle.vb_model.specs.Pages.{all_free, placed, place_of, pages_of};
+ghost use Rattle.vb_model.specs.Pages.{all_free, place_of};
 ghost use Rattle.vb_model.specs.declared.places.Place.TheVariants.{Taking};
-ghost use Rattle.vb_model.specs.Pages.{pages_of_all, is_lent, is_stranded, is_reporting};
-ghost use Rattle.vb_model.specs.Limits.{max_order, max_outstanding, max_request_pages};
+ghost use Rattle.vb_model.specs.Pages.{is_lent, is_stranded, is_reporting};
 ghost use Rattle.vb_model.specs.declared.limits.TheConstants.{MAX_GUEST_PAGES};
 ghost use Rattle.vb_model.specs.Life.{place_after_reset};
-ghost use Rattle.vb_driver.specs.Answers.{block_at};
-ghost use Rattle.vb_report.specs.Blocks.{blocks_of};
-ghost use Rattle.vb_driver.specs.State.{IsAreaBlock};
-ghost use Rattle.vb_driver.specs.Places.{number_of, is_at, AreLentBits};
+ghost use Rattle.vb_driver.specs.Places.{number_of, is_at};
 
-use crate::queue::RequestPages;
+pub(crate) use ranges::count_pages;
 use std::alloc::{AllocError, Global};
 use std::marker::Model;
 use vb_bits::BitSet;
 use vb_model::Place;
-use vb_pages::FreeBlock;
 
 /// Where each page is. A contract sees the places, by page.
 #[derive(Drop)]
@@ -65,15 +61,6 @@ fn number_of(place: Place) -> usize
     }
 }
 
-/// How many pages a block of the order has.
-fn size_of(order: u32) -> u32
-    requires { order ≤ max_order }
-    ensures size { result ≡ 2 ^ order }
-    ensures small { result ≤ 2 ^ max_order }
-{
-    1 << order
-}
-
 /// Whether a page is lent to the host.
 fn is_lent(place: Place) -> bool
     ensures { result ≡ is_lent place }
@@ -93,19 +80,6 @@ pub(crate) fn is_reporting(place: Place) -> bool
     ensures { result ≡ is_reporting place }
 {
     matches!(place, Place::Reporting)
-}
-
-/// How many pages the blocks of a report have.
-pub(crate) fn count_pages(blocks: &[FreeBlock]) -> u32
-    requires orders { All IsAreaBlock (blocks_of blocks.now) }
-    requires few { length blocks.now ≤ max_outstanding }
-    ensures { result ≡ length (pages_of_all (blocks_of blocks.now)) }
-{
-    let mut pages = 0;
-    for block in blocks {
-        pages += size_of(block.order);
-    }
-    pages
 }
 
 /// Puts a page into the set of a place or takes it out of it, where that changes the set.
@@ -129,52 +103,6 @@ fn is_in_set(place: Place) -> bool
     ensures { result ≡ (is_lent place || is_stranded place) }
 {
     is_lent(place) || is_stranded(place)
-}
-
-/// The first page from `start` on, and before `end`, that isn't at this place, else `end`.
-fn end_of_run(places: &[Place], start: u32, end: u32, place: Place) -> u32
-    requires order { start ≤ end }
-    requires inside { end ≤ length places.now }
-    ensures from { start ≤ result }
-    ensures bound { result ≤ end }
-    ensures same { (page : ℕ) → start ≤ page → page < result → place_of places.now page ≡ place }
-{
-    for page in start..end {
-        if places[page as usize] != place {
-            return page;
-        }
-    }
-    end
-}
-
-/// Puts a place into a table for the pages from `start` on and before `end`.
-fn put_all(places: &mut [Place], start: u32, end: u32, place: Place)
-    requires order { start ≤ end }
-    requires inside { end ≤ length places.old }
-    ensures { places.new ≡ placed (range_with_len start (end - start)) place places.old }
-{
-    for page in start..end {
-        places[page as usize] = place;
-    }
-}
-
-/// Puts the lowest pages of a set, so many at most, in place of those that `lowest` has.
-fn lowest_in(set: &BitSet, most: u32, lowest: &mut RequestPages)
-    requires few { most ≤ max_request_pages }
-    requires small { length set.now ≤ MAX_GUEST_PAGES }
-    ensures { lowest.new.items ≡ take most (pages_where (λ b. b) set.now) }
-{
-    lowest.clear();
-    let mut from = 0;
-    for _found in 0..most {
-        match set.first_from(from) {
-            Some(page) => {
-                lowest.push(page);
-                from = page + 1;
-            }
-            None => return,
-        }
-    }
 }
 
 impl PlaceTable {
@@ -253,109 +181,6 @@ impl PlaceTable {
         let reserved = reserved.min(pages);
         self.set_range(0, reserved, Place::Reserved);
         self.set_range(reserved, pages, Place::Free);
-    }
-
-    /// Moves these pages to a place.
-    pub(crate) fn set_all(&mut self, pages: &[u32], place: Place)
-        requires { (page : ℕ) → is_in page pages.now ≡ true → page < length self.old }
-        ensures { self.new ≡ placed pages.now place self.old }
-    {
-        for page in pages {
-            self.set(*page, place);
-        }
-    }
-
-    /// Moves the pages of a run to a place: from this page on those that are where it is, and none
-    /// from `end` on. Answers where the run ends.
-    fn move_run(&mut self, start: u32, end: u32, place: Place) -> u32
-        requires some { start < end }
-        requires inside { end ≤ length self.old }
-        ensures further { start < result }
-        ensures bound { result ≤ end }
-        ensures moved { self.new ≡
-            placed (range_with_len start (result - start)) place self.old }
-    {
-        let old = self.places[start as usize];
-        if is_in_set(old) || is_in_set(place) {
-            self.set(start, place);
-            return start + 1;
-        }
-        let next = end_of_run(&self.places, start + 1, end, old);
-        let count = next - start;
-        self.counts[number_of(old)] -= count;
-        self.counts[number_of(place)] += count;
-        put_all(&mut self.places, start, next, place);
-        next
-    }
-
-    /// Moves the pages from `start` on and before `end` to a place.
-    fn set_range(&mut self, start: u32, end: u32, place: Place)
-        requires order { start ≤ end }
-        requires inside { end ≤ length self.old }
-        ensures { self.new ≡ placed (range_with_len start (end - start)) place self.old }
-    {
-        let mut page = start;
-        while page < end {
-            page = self.move_run(page, end, place);
-        }
-    }
-
-    /// Moves the pages of a block to a place.
-    pub(crate) fn set_block(&mut self, start: u32, order: u32, place: Place)
-        requires order { order ≤ max_order }
-        requires inside { start + 2 ^ order ≤ length self.old }
-        ensures { self.new ≡ placed (pages_of (block_at start order)) place self.old }
-    {
-        // Read for the proof, which has what holds of each table, as how many pages it has.
-        let _places = &self.places;
-        self.set_range(start, start + size_of(order), place);
-    }
-
-    /// Moves the pages of these blocks to a place.
-    pub(crate) fn set_blocks(&mut self, blocks: &[FreeBlock], place: Place)
-        requires orders { All IsAreaBlock (blocks_of blocks.now) }
-        requires inside { (page : ℕ) → is_in page (pages_of_all (blocks_of blocks.now)) ≡ true
-            → page < length self.old }
-        ensures { self.new ≡ placed (pages_of_all (blocks_of blocks.now)) place self.old }
-    {
-        for block in blocks {
-            self.set_block(block.start, block.order, place);
-        }
-    }
-
-    /// Puts the lowest lent pages, so many at most, in place of those that `pages` has.
-    pub(crate) fn lowest_lent(&self, most: u32, pages: &mut RequestPages)
-        requires { most ≤ max_request_pages }
-        ensures { pages.new.items ≡ take most (pages_where is_lent self.now) }
-    {
-        lowest_in(&self.lent, most, pages);
-    }
-
-    /// Moves so many of the lowest lent pages to where pages are that were asked back, and puts
-    /// them in place of those that `pages` has.
-    pub(crate) fn take_lowest_lent(&mut self, most: u32, pages: &mut RequestPages)
-        requires { most ≤ max_request_pages }
-        ensures pages { pages.new.items ≡ take most (pages_where is_lent self.old) }
-        ensures moved { self.new
-            ≡ placed (take most (pages_where is_lent self.old)) Taking self.old }
-    {
-        self.lowest_lent(most, pages);
-        self.set_all(pages, Place::Taking);
-    }
-
-    /// Puts the lowest stranded pages, so many at most, in place of those that `pages` has.
-    pub(crate) fn lowest_stranded(&self, most: u32, pages: &mut RequestPages)
-        requires { most ≤ max_request_pages }
-        ensures { pages.new.items ≡ take most (pages_where is_stranded self.now) }
-    {
-        lowest_in(&self.stranded, most, pages);
-    }
-
-    /// The lent pages as bits.
-    pub(crate) fn lent_bits(&self) -> &[u64]
-        ensures { AreLentBits self.now result.now }
-    {
-        self.lent.words()
     }
 
     /// Moves each page to the place that it has after a reset of the device.

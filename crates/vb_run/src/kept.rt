@@ -1,8 +1,8 @@
 //! What a guest's lock keeps.
 
-ghost use Rattle.std.specs.Prelude.{◌≡◌, ◌≤◌, ◌<◌, ℕ, true, false, List, [], ◌∷◌, ◌++◌, length};
-ghost use Rattle.std.specs.Prelude.{slice_get, slice_index_or, IfOk, OnOk, Some, IfSome, IfNone};
-ghost use Rattle.std.specs.Prelude.{MatchBool, MatchOption, slice_set, vec_capacity};
+ghost use Rattle.std.specs.Prelude.{◌≡◌, ◌<◌, ℕ, true, false, List, [], ◌∷◌, ◌++◌};
+ghost use Rattle.std.specs.Prelude.{slice_index_or, IfOk, OnOk, Some, IfSome, IfNone};
+ghost use Rattle.std.specs.Prelude.{MatchBool, MatchOption, slice_set};
 ghost use Rattle.vb_model.specs.declared.calls.Actor.TheVariants.{Balancer};
 ghost use Rattle.vb_model.specs.declared.calls.Call.TheVariants.{SetTarget};
 ghost use Rattle.vb_model.specs.Guest.{Guest, fresh};
@@ -14,21 +14,20 @@ ghost use Rattle.vb_run.specs.Past.{Past, IsKept, IsSame, AreBegun, AreHushed, H
 ghost use Rattle.vb_run.specs.Past.{NotesNext, NotesService, just_started};
 ghost use Rattle.vb_run.specs.Plans.{config_of};
 ghost use Rattle.vb_run.specs.Reports.{IsGuestReport, frames_behind};
-ghost use Rattle.vb_run.specs.Services.{found_nothing, services};
+ghost use Rattle.vb_run.specs.Services.{found_nothing};
 
 use crate::audit::{all_replies, expected_of, has_made};
 use crate::entry::{Entry, Step};
 use crate::plan::GuestPlan;
 use crate::report::{GuestReport, Stop};
+use crate::room::{claims_in, make_room};
 use crate::round::Round;
 use crate::script::{Script, all_ended, are_of};
 use crate::served::{DEFAULT_FEATURES, SERVICES, found_nothing, service};
 use std::alloc::{AllocError, Global};
 use std::marker::Model;
-use std::mem;
 use std::sync::Wait;
 use vb_balance::GuestNeed;
-use vb_guest::MAX_CLAIMS;
 use vb_model::{Actor, Call, Claim, Reply};
 use vb_ram::Config;
 use vb_slot::GuestSlot;
@@ -74,32 +73,6 @@ impl<S: GuestSlot> Model for Kept<S> {
       quiet = k.quiet;
       short = k.short;
     }) };
-}
-
-/// Makes an empty room for the claims of a call.
-fn make_room(room: &mut Vec<Claim>) -> Result<(), AllocError>
-    ensures empty { OnOk result (room.new.items ≡ []) }
-    ensures room { OnOk result (MAX_CLAIMS ≤ vec_capacity room.new) }
-{
-    room.clear();
-    room.reserve(MAX_CLAIMS)
-}
-
-/// What the slot's last call was answered for its claims. These take the room, if there are any.
-fn claims_in<S: GuestSlot>(alloc: Global, slot: &S, room: &mut Vec<Claim>) -> Vec<Claim>
-    requires empty { room.old.items ≡ [] }
-    requires room { MAX_CLAIMS ≤ vec_capacity room.old }
-    ensures { result.items ≡ S.claimed slot.now }
-{
-    let claims = slot.claims();
-    if claims.is_empty() {
-        return Vec::new(alloc);
-    }
-    let mut taken = mem::replace(room, Vec::new(alloc));
-    for claim in claims {
-        taken.push_reserved(*claim);
-    }
-    taken
 }
 
 /// How many calls the scripts have.

@@ -10,6 +10,7 @@ mod kept;
 mod plan;
 mod ports;
 mod report;
+mod room;
 mod round;
 mod run;
 mod script;

@@ -1,6 +1,6 @@
 use Rattle.std.proofs.Common.{◌≡◌, ◌≤◌, take}
 use Rattle.std.specs.Prelude.{vec_capacity}
-use Rattle.vb_run.proofs.kept.claims_in.Given as goal
+use Rattle.vb_run.proofs.room.claims_in.Given as goal
 
 abbrev pub invariant-loop-claim : goal.invariant-loop-claim
 invariant-loop-claim g l =

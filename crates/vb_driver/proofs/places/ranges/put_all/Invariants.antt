@@ -1,7 +1,7 @@
 use Rattle.std.proofs.Common.{◌≡◌, ◌-◌}
 use Rattle.std.specs.List.{range_with_len}
 use Rattle.vb_model.specs.Pages.{placed}
-use Rattle.vb_driver.proofs.places.put_all.Given as goal
+use Rattle.vb_driver.proofs.places.ranges.put_all.Given as goal
 
 abbrev pub invariant-loop-page : goal.invariant-loop-page
 invariant-loop-page l =

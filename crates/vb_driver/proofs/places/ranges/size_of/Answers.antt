@@ -1,7 +1,7 @@
 use Rattle.std.proofs.Common.{arith}
 use Rattle.std.proofs.lemmas.Nat.{one_shl}
 use Rattle.vb_pages.proofs.Aligned.{pow_small}
-use Rattle.vb_driver.proofs.places.size_of.Goals as goal
+use Rattle.vb_driver.proofs.places.ranges.size_of.Goals as goal
 
 pub returns-clause-small : goal.returns-clause-small
 returns-clause-small c =

@@ -1,6 +1,6 @@
 use Rattle.std.proofs.Common.{◌≡◌, ◌<◌, ◌≤◌, ℕ}
 use Rattle.vb_model.specs.Pages.{place_of}
-use Rattle.vb_driver.proofs.places.end_of_run.Given as goal
+use Rattle.vb_driver.proofs.places.ranges.end_of_run.Given as goal
 
 abbrev pub invariant-loop-page : goal.invariant-loop-page
 invariant-loop-page l =

@@ -1,6 +1,6 @@
 use Rattle.std.proofs.Common.{◌+◌, sym, subst, arith, ℕ, List}
 use Rattle.vb_driver.proofs.Marking.{AreFirst, first_more, first_all}
-use Rattle.vb_driver.proofs.places.lowest_in.Goals as goal
+use Rattle.vb_driver.proofs.places.lowest.lowest_in.Goals as goal
 
 pub returns-in-None : goal.returns-in-None
 returns-in-None c =

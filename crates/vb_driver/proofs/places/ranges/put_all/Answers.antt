@@ -3,7 +3,7 @@ use Rattle.std.specs.List.{range_with_len}
 use Rattle.vb_model.specs.declared.places.Place.{Place}
 use Rattle.vb_model.specs.Pages.{placed}
 use Rattle.vb_driver.proofs.Placing.{marked_none, placed_next}
-use Rattle.vb_driver.proofs.places.put_all.Goals as goal
+use Rattle.vb_driver.proofs.places.ranges.put_all.Goals as goal
 
 pub loop-page-init : goal.loop-page-init
 loop-page-init c =
