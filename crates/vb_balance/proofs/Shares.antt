@@ -224,8 +224,3 @@ by_level needs frames level lack rest targets left e r is s = record {
         (λ (ns : List Need). sum (take (length needs) targets) + left
         ≡ spared_from ns (level + 1) + rest)
         (take_all (length needs) needs (omega arith)) s.shared)
-
--- what stays missing if all give what they can
-pub short_by : (needs : List Need) (frames lack spare : ℕ) → lack ≡ missing needs frames
-    → spare ≡ spared_from needs 0 → shortage needs frames ≡ lack - spare
-short_by needs frames lack spare e f = omega (arith, e, f, from_none needs)

@@ -20,17 +20,6 @@ reaches level n h = grind (arith, nat_tests)
 pub falls_short : (level : ℕ) (n : Need) → n.spare < level → spare_from level n ≡ 0
 falls_short level n h = grind (arith, nat_tests)
 
--- from none on, all that they can spare
-pub from_none : (needs : List Need) → spared_from needs 0 ≡ sum_by (λ n. n.spare) needs
-from_none [] = refl
-from_none (n ∷ ns) = omega (
-  arith,
-  reaches 0 n (omega arith),
-  sum_by-cons (spare_from 0) n ns,
-  sum_by-cons (λ (m : Need). m.spare) n ns,
-  from_none ns,
-)
-
 -- none can spare more than the most
 pub none_above : (needs : List Need) (most : ℕ)
     → ((i : ℕ) → i < length needs → spare_at needs i ≤ most) → spared_from needs (most + 1) ≡ 0

@@ -141,14 +141,6 @@ written_chain d q end path pieces route pair short sound put =
           (slice_index path (i + 1)))));
     }
 
-same_any : (p s : ℕ → Bool) (xs : List ℕ)
-    → ((k : ℕ) → k < length xs → p (slice_index xs k) ≡ s (slice_index xs k))
-    → list_any p xs ≡ list_any s xs
-same_any p s [] h = refl
-same_any p s (x ∷ xs) h =
-    ap (λ b. b || list_any p xs) (h 0 (omega arith))
-    ∙ ap (λ b. s x || b) (same_any p s xs (λ k lt. h (suc k) (omega arith)))
-
 -- a chain has a piece, and no more pieces than the table has descriptors
 pub chain_size : (d : ℕ → Descriptor) (q end head : ℕ) (pieces : List Piece)
     → ChainGives d q end head pieces → (0 < length pieces) × (length pieces ≤ q)

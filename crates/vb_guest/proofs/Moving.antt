@@ -72,59 +72,7 @@ moves_as s1 s2 a b c d moves same = record {
 
 -- ---- one frame of the keeper's
 
-inside : (out : List Bool) (n : ℕ) → is_out out n ≡ true → n < length out
-inside out n is = elim (cases_lt n (length out)) [
-  | inl lt ↦ lt
-  | inr past ↦ absurd (let none = get_or_past out n false past in cc)
-]
-
--- it isn't out any more, and all others are as before
-out_less : (n k : ℕ) (out : List Bool) → is_out out n ≡ true
-    → one_if (is_out (slice_set out n false) k) + one_if (n == k) ≡ one_if (is_out out k)
-out_less n k out is = elim (cases_eq n k) [
-  | inl e ↦
-      let gone : is_out (slice_set out n false) n ≡ false =
-      get_or-set_same out n false false (inside out n is) in
-      subst (λ (j : ℕ). one_if (is_out (slice_set out n false) j) + one_if (n == j)
-      ≡ one_if (is_out out j)) e
-      (omega (arith, ap one_if gone, ap one_if (eq-eqb n n refl), ap one_if is))
-  | inr ne ↦
-      let same : is_out (slice_set out n false) k ≡ is_out out k =
-      get_or-set_other out n k false false (λ e. ne (sym e)) in
-      omega (arith, ap one_if same, ap one_if (ne_eqb n k ne))
-]
-
-pub asked_back : (p1 p2 : Part) (out1 out2 : List Bool) (n : ℕ) → p1.keeps ≡ false → p2 ≡ p1
-    → is_out out1 n ≡ true → out2 ≡ slice_set out1 n false
-    → Moves (supply_of p1 out1) (supply_of p2 out2) nothing (λ k. times k (n ∷ []))
-asked_back p1 p2 out1 out2 n none same is now = record {
-  keeps = ap (λ (p : Part). p.keeps) same;
-  asked = λ e. ap (λ (p : Part). p.own) same;
-  untouched = λ e. absurd (let wrong : true ≡ false = sym e ∙ none in cc);
-  count = ap (λ (o : List Bool). length o) now ∙ length-set out1 n false;
-  balance = λ k. omega (
-    arith,
-    ap one_if (used_out (supply_of p1 out1) k none),
-    ap one_if (used_out (supply_of p2 out2) k (ap (λ (p : Part). p.keeps) same ∙ none)),
-    ap (λ (o : List Bool). one_if (is_out o k)) now,
-    out_less n k out1 is,
-    times_one k n,
-  );
-}
-
 -- ---- one of the device's own
-
-has_more : (n k : ℕ) (own : List ℕ) → has own n ≡ false
-    → one_if (has (n ∷ own) k) ≡ one_if (has own k) + one_if (n == k)
-has_more n k own free = elim (cases_eq n k) [
-  | inl e ↦
-      let is : has (n ∷ own) k ≡ true = ap (λ (b : Bool). b || has own k) (eq-eqb n k e) in
-      let was : has own k ≡ false = ap (has own) (sym e) ∙ free in
-      omega (arith, ap one_if is, ap one_if was, ap one_if (eq-eqb n k e))
-  | inr ne ↦
-      let same : has (n ∷ own) k ≡ has own k = ap (λ (b : Bool). b || has own k) (ne_eqb n k ne) in
-      omega (arith, ap one_if same, ap one_if (ne_eqb n k ne))
-]
 
 has_other : (n k : ℕ) (own : List ℕ) → n ≢ k → has (without own n) k ≡ has own k
 has_other n k [] ne = refl

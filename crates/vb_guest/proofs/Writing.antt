@@ -118,23 +118,6 @@ count_backed n page frame frames lt bare =
     let one : f (Some frame) ≡ one_if (frame == n) = cond_one (frame == n) in
     omega (arith, ap (count_by (is_frame n)) (backed-set page frame frames lt), step, none, one)
 
--- a frame that was free is out
-pub out_more : (out : List Bool) (n frame : ℕ) → frame < length out → is_out out frame ≡ false
-    → one_if (is_out (slice_set out frame true) n) ≡ one_if (is_out out n) + one_if (frame == n)
-out_more out n frame lt free = elim (cases_eq frame n) [
-  | inl same ↦
-      let now : one_if (is_out (slice_set out frame true) n) ≡ 1 =
-      ap (λ (k : ℕ). one_if (is_out (slice_set out frame true) k)) (sym same)
-      ∙ ap one_if (get_or-set_same out frame true false lt) in
-      let was : one_if (is_out out n) ≡ 0 =
-      ap (λ (k : ℕ). one_if (is_out out k)) (sym same) ∙ ap one_if free in
-      omega (arith, now, was, ap one_if (eq-eqb frame n same))
-  | inr ne ↦
-      let kept : one_if (is_out (slice_set out frame true) n) ≡ one_if (is_out out n) =
-      ap one_if (get_or-set_other out frame n true false (λ e. ne (sym e))) in
-      omega (arith, kept, ap one_if (other_not frame n ne))
-]
-
 -- ---- memory
 
 -- bytes overwritten within a page leave its size

@@ -40,11 +40,6 @@ pub same_trans : (m1 m2 m3 : Pages) (p lo hi : ℕ) → SameIn m1 m2 p lo hi →
     → SameIn m1 m3 p lo hi
 same_trans m1 m2 m3 p lo hi a b = record { bytes = λ o l u. b.bytes o l u ∙ a.bytes o l u }
 
-pub same_part : (old new : Pages) (p lo hi a b : ℕ) → SameIn old new p lo hi → lo ≤ a → b ≤ hi
-    → SameIn old new p a b
-same_part old new p lo hi a b s l h =
-    record { bytes = λ o x y. s.bytes o (omega arith) (omega arith) }
-
 -- writes within one range, one after the other
 pub but_trans : (m1 m2 m3 : Pages) (p lo hi : ℕ) → SameBut m1 m2 p lo hi → SameBut m2 m3 p lo hi
     → SameBut m1 m3 p lo hi

@@ -54,18 +54,6 @@ times_permuted n xs ys p =
 pub times_append : (n : ℕ) (xs ys : List ℕ) → times n (xs ++ ys) ≡ times n xs + times n ys
 times_append n xs ys = count_by-append (λ m. m == n) xs ys
 
--- the frames of one guest more
-pub frames_next : (frame : ℕ) (rs : List GuestReport) (i : ℕ) (d : GuestReport) (all : List ℕ)
-    → i < length rs → times frame all ≡ sum_by (λ r. times frame r.frames.items) (take i rs)
-    → times frame (all ++ (get_or rs i d).frames.items)
-    ≡ sum_by (λ r. times frame r.frames.items) (take (i + 1) rs)
-frames_next frame rs i d all within so_far =
-    times_append frame all (get_or rs i d).frames.items
-    ∙ ap (λ k. k + times frame (get_or rs i d).frames.items) so_far
-    ∙ sym (sum_by_push (λ r. times frame r.frames.items) (take i rs) (get_or rs i d))
-    ∙ sym (ap (sum_by (λ r. times frame r.frames.items))
-    (ap (λ k. take k rs) (add-one i) ∙ take-suc rs i d within))
-
 pub apart : (reports : List GuestReport) (all sorted : List ℕ)
     → ((frame : ℕ) → times frame all ≡ sum_by (λ r. times frame r.frames.items) reports)
     → IsPermutation all sorted → IsRising sorted → AreApart reports

@@ -35,13 +35,6 @@ replies_none a h n d within is =
     ∙ filter_map-append (reply_to a) (take n h) (get_or h n d ∷ [])
     ∙ rw is (append-nil (replies_by a (take n h)))
 
-pub entries_some : (a : Actor) (h : List Entry) (n : ℕ) (d : Entry) → n < length h
-    → is_same a (actor_of (get_or h n d)) ≡ true
-    → entries_by a (take (n + 1) h) ≡ entries_by a (take n h) ++ get_or h n d ∷ []
-entries_some a h n d within is =
-    ap (λ k. entries_by a (take k h)) (add-one n) ∙ ap (entries_by a) (take-suc h n d within)
-    ∙ filter-append (λ e. is_same a (actor_of e)) (take n h) (get_or h n d ∷ []) ∙ rw is refl
-
 pub entries_none : (a : Actor) (h : List Entry) (n : ℕ) (d : Entry) → n < length h
     → is_same a (actor_of (get_or h n d)) ≡ false
     → entries_by a (take (n + 1) h) ≡ entries_by a (take n h)
@@ -139,24 +132,3 @@ not_made h expected n place e at own so_far le other (same, all) =
     sym same ∙ entries_on Balancer h n e at own ∙ ap (λ l. l ++ e ∷ more) so_far in
     let here : slice_get expected place ≡ Some e = at_cut expected place e more le whole in
     other (here, passes_at is_of_round expected place e here all)
-
--- the balancer's entries are those that are expected where there is one for each
-pub made_whole : (h expected : List Entry) (n place : ℕ) → length h ≤ n
-    → entries_by Balancer (take n h) ≡ take place expected → place ≤ length expected
-    → list_all is_of_round (take place expected) ≡ true
-    → ((place == length expected) ≡ true)
-    ↔ ((entries_by Balancer h ≡ expected) × (list_all is_of_round expected ≡ true))
-made_whole h expected n place past so_far le all = (
-  λ e.
-      let whole : take place expected ≡ expected = take_whole expected place (eqb-true _ _ e) in
-      (made ∙ whole, subst (λ (l : List Entry). list_all is_of_round l ≡ true) whole all),
-  λ both.
-      let count : length (take place expected) ≡ length expected =
-      ap (λ (l : List Entry). length l) (sym made ∙ both.0) in
-      let first : length (take place expected) ≡ place = length-take-le place expected le in
-      let e : place ≡ length expected = sym first ∙ count in
-      rw e (grind (arith, nat_tests)),
-)
-  where
-    made : entries_by Balancer h ≡ take place expected
-    made = ap (entries_by Balancer) (sym (take_all n h past)) ∙ so_far

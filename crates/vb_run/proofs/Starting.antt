@@ -101,9 +101,3 @@ map_next f h (z ∷ xs) x ys rest y (a ∷ all) whole is same =
     let before : map f xs ++ map h ys ≡ all = cc in
     let head : f z ≡ a = cc in
     rw (map_next f h xs x ys rest y all before is same, head) refl
-
--- once nothing is left, all is mapped
-pub mapped_whole : {X Y Z : Type 0} (f : X → Z) (h : Y → Z) (xs : List X) (ys : List Y)
-    (all : List Z) → map f xs ++ map h ys ≡ all → ys ≡ [] → map f xs ≡ all
-mapped_whole f h xs ys all whole none =
-    sym (append-nil (map f xs)) ∙ subst (λ (l : List _). map f xs ++ map h l ≡ all) none whole

@@ -77,21 +77,6 @@ found_near byte near text n within e =
         )
     at false t e = cc
 
--- a byte that isn't among all bytes of a text isn't in it
-pub not_near : (byte near : ℕ) (text : List ℕ) → near ≡ length text
-    → Position byte (take near text) None → IsFirstByte (is_byte byte) text None
-not_near byte near text all e =
-    at (ltb (position_or_len (λ x. x == byte) text) (length text)) refl
-    (rw (sym (take_all near text (omega (arith, all)))) e)
-  where
-    at : (b : Bool) → ltb (position_or_len (λ x. x == byte) text) (length text) ≡ b
-        → None ≡ cond b (Some (position_or_len (λ x. x == byte) text)) None
-        → IsFirstByte (is_byte byte) text None
-    at true t e = cc
-    at false t e = λ k _ lt is.
-        let missed = fails_before_first (λ x. x == byte) text k 0 (grind (arith, nat_tests)) in
-        grind (arith, missed, is)
-
 -- there is always a part
 pub some_part : (p : ℕ → Bool) (text : List ℕ) → is_empty (slice_split p text) ≡ false
 some_part p [] = refl

@@ -3,7 +3,6 @@ pub mod Digits
 pub mod Hex
 pub mod InOrder
 pub mod Numbered
-pub mod Pushed
 pub mod Ranged
 pub mod Speaking
 pub mod ThreadsFacts

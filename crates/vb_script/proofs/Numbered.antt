@@ -7,11 +7,6 @@ pub numbered_line : (passed : ℕ) (text line rest : List ℕ) → lines_of text
     → numbered passed (lines_of text) ≡ (passed + 1, line) ∷ numbered (passed + 1) (lines_of rest)
 numbered_line passed text line rest first kept = rw (first, kept) refl
 
-pub numbered_skipped : (passed : ℕ) (text line rest : List ℕ) → lines_of text ≡ line ∷ lines_of rest
-    → is_skipped line ≡ true
-    → numbered passed (lines_of text) ≡ numbered (passed + 1) (lines_of rest)
-numbered_skipped passed text line rest first skipped = rw (first, skipped) refl
-
 pub numbered_none : (passed : ℕ) (text : List ℕ) → length text ≤ 0
     → numbered passed (lines_of text) ≡ []
 numbered_none passed [] none = refl

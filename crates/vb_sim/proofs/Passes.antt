@@ -19,18 +19,6 @@ pub next_unheld : (passes : List Pass) (pass : Pass) (rest : List Pass) → pass
     → AreUnheld passes → (pass.held ≡ []) × AreUnheld rest
 next_unheld passes pass rest is unheld = subst AreUnheld is unheld
 
-length_push : {X : Type 0} (xs : List X) (x : X) → length (xs ++ x ∷ []) ≡ suc (length xs)
-length_push [] x = refl
-length_push (y ∷ ys) x = ap suc (length_push ys x)
-
--- one port more
-pub one_more_port : {X : Type 0} (old new : List X) (x : X) (n : ℕ) → new ≡ old ++ x ∷ []
-    → length old ≡ n → length new ≡ n + 1
-one_more_port old new x n grown count =
-    let longer : length new ≡ suc (length old) = ap (λ (l : List _). length l) grown
-    ∙ length_push old x in
-    omega (arith, longer, count)
-
 -- a device that leases frames is as unused as the one in it
 pub leased_unused : (mem : Pages) (part : Part) (held : List ℕ) → IsUnused mem part
     → IsUnused mem (record part { keeps = true; own = held })

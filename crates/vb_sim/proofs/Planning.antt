@@ -77,18 +77,6 @@ and_false : (a b : Bool) → b ≡ false → (a && b) ≡ false
 and_false true b e = e
 and_false false b e = refl
 
--- where a guest of a script can't be run, its plan can't
-pub none_runs : (planned : Planned)
-    → list_all is_part (map planned_part planned.guests) ≡ false → can_run planned ≡ false
-none_runs planned e = and_false _ _ (and_false _ _ e)
-
--- nor where there are more guests than may be
-pub too_many : (planned : Planned) → max_guests < length planned.guests → can_run planned ≡ false
-too_many planned lt =
-    let over : nat_le (length planned.guests) max_guests ≡ false =
-    grind (arith, nat_tests, lt) in
-    and_false _ _ (ap (λ (b : Bool). b && list_all is_part (map planned_part planned.guests)) over)
-
 -- ---- the guests one by one: those that are planned, and those that are left
 
 pub part_fails : (part : Part) → is_config part.pages part.queue_size part.processors ≡ false
@@ -103,17 +91,6 @@ parts_fail parts part rest all whole e =
     subst (λ (l : List Part). list_all is_part l ≡ false) whole
     (list_all-append is_part parts (part ∷ rest)
     ∙ and_false _ _ (ap (λ (b : Bool). b && list_all is_part rest) e))
-
-map_more : (plans : List GuestPlan) (plan : GuestPlan) (rest : List Part)
-    → map part_of (plans ++ plan ∷ []) ++ rest ≡ map part_of plans ++ part_of plan ∷ rest
-map_more [] plan rest = refl
-map_more (p ∷ plans) plan rest = ap (λ (l : List Part). part_of p ∷ l) (map_more plans plan rest)
-
-pub parts_more : (plans : List GuestPlan) (plan : GuestPlan) (part : Part) (rest all : List Part)
-    → map part_of plans ++ part ∷ rest ≡ all → part_of plan ≡ part
-    → map part_of (plans ++ plan ∷ []) ++ rest ≡ all
-parts_more plans plan part rest all whole is =
-    map_more plans plan rest ∙ ap (λ (p : Part). map part_of plans ++ p ∷ rest) is ∙ whole
 
 -- ---- what a run's ends say of its script
 
