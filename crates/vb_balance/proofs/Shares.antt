@@ -7,11 +7,10 @@ use Rattle.std.proofs.lemmas.Bool.Decides.{eqb_tells}
 use Rattle.std.proofs.lemmas.List.{length-set, length-map, get_or-set_same, get_or-set_other}
 use Rattle.std.proofs.lemmas.List.{take_more_set, take_all}
 use Rattle.std.proofs.lemmas.List.Sums.{sum_by_more, sum_by_push, sum-map}
-use Rattle.vb_model.specs.Balance.{Need, AreTargets, GivesBefore, missing, shortage, spare_at}
+use Rattle.vb_model.specs.Balance.{Need, AreTargets, GivesBefore, missing, spare_at}
 use Rattle.vb_model.proofs.Sums.{sum-le}
 use Rattle.vb_balance.specs.Levels.{spare_from, spared_from, IsLevel, AreGiven}
-use Rattle.vb_balance.proofs.Spares.{spare_of, reaches, falls_short}
-use Rattle.vb_balance.proofs.Spares.{counts_at_most}
+use Rattle.vb_balance.proofs.Spares.{spare_of, reaches, falls_short, counts_at_most}
 
 -- what a guest gives, and what is left for others then
 pub record Gives (spare level left target after : ℕ) : Type 0 where

@@ -10,18 +10,16 @@ use Rattle.std.proofs.Math.ListN.{set, length-set}
 use Rattle.std.proofs.lemmas.List.{get_or-set_same, get_or-set_other, get_or_past}
 use Rattle.std.proofs.lemmas.List.Sums.{sum_by-set}
 use Rattle.std.proofs.lemmas.List.{take_more, ext_get_or, append-nil, append_assoc}
-use Rattle.std.proofs.lemmas.List.{length-map, length-replicate, get_or-replicate, map-id}
+use Rattle.std.proofs.lemmas.List.{length-replicate, get_or-replicate, map-id}
 use Rattle.std.proofs.lemmas.List.FromFn.{map-range_with_len_more}
 use Rattle.std.proofs.lemmas.List.Folds.{list_any-append}
 use Rattle.std.proofs.lemmas.Grind.{flat_map-append}
 use Rattle.vb_model.specs.Tests.{is_in}
 use Rattle.vb_model.specs.Tests.{one_if}
-use Rattle.vb_model.proofs.Tables.{count_by-cons}
 use Rattle.vb_model.proofs.Tables.{length-each_from, each_page-get}
 use Rattle.vb_model.proofs.PageSteps.{is_in-range, outside-range}
 use Rattle.vb_ram.specs.Pages.{Page, Pages, page_at, frame_at, number_of, Discarded}
 use Rattle.vb_request.specs.Request.{each_once}
-use Rattle.vb_device.specs.Base.{numbers_of_frames}
 use Rattle.vb_device.specs.Discards.{discarded, frames_behind}
 use Rattle.vb_request.proofs.Once.{each_once_push}
 

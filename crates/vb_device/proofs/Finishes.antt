@@ -1,8 +1,7 @@
 -- A finish by a device, from the end of its queue.
-use Rattle.std.specs.Prelude.{◌≡◌, ℕ, ◌+◌, ◌%◌, ◌<◌, ◌≤◌, Bool, true, false, not}
-use Rattle.std.specs.Prelude.{◌==◌, ◌&&◌, List}
-use Rattle.std.specs.Prelude.{[], length, remove, Option, Some, None, OnSome, Result}
-use Rattle.std.specs.Prelude.{is_none, Ok, Err, if◌then◌else◌, slice_get, All, refl}
+use Rattle.std.specs.Prelude.{◌≡◌, ℕ, ◌+◌, ◌%◌, ◌<◌, ◌≤◌, Bool, true, false, not, ◌==◌, ◌&&◌, List}
+use Rattle.std.specs.Prelude.{[], length, remove, Option, Some, None, OnSome, is_none}
+use Rattle.std.specs.Prelude.{if◌then◌else◌, slice_get, All, refl}
 use Rattle.std.proofs.Common.{sym, ◌∙◌, ap, subst, arith, inl, inr, rules}
 use Rattle.vb_model.specs.Device.{next_page}
 use Rattle.std.proofs.lemmas.Bool.{cases_eq}
@@ -16,18 +15,16 @@ use Rattle.vb_ring.specs.Layout.{layout_of, IsBacked}
 use Rattle.vb_ring.specs.Ends.{DeviceEnd}
 use Rattle.vb_ring.specs.Calls.{AddsUsedBy}
 use Rattle.vb_model.specs.Tables.{has_chains, has_unvisited}
-use Rattle.vb_device.specs.Conditions.{finish_refusal, taken_at}
+use Rattle.vb_device.specs.Conditions.{finish_refusal}
 use Rattle.vb_device.specs.Queues.{queue_end, with_queue}
 use Rattle.vb_model.specs.Guest.{LastStatistics}
 use Rattle.vb_device.specs.QueueState.{QueueState, part_of, taken_refusal}
 use Rattle.vb_device.specs.Discards.{discarded}
-use Rattle.vb_device.specs.Base.{index_of, queue_at, base_part, numbers_of_frames, IsDeviceQueue, IsBase}
-use Rattle.vb_device.specs.Base.{with_pace}
-use Rattle.vb_device.specs.BaseCalls.{queue_refusal, with_lost, taken_out, TakesOut, UsesChain}
-use Rattle.vb_device.specs.BaseCalls.{CanUse}
+use Rattle.vb_device.specs.Base.{index_of, queue_at, base_part, IsDeviceQueue, IsBase, with_pace}
+use Rattle.vb_device.specs.BaseCalls.{queue_refusal, UsesChain, CanUse}
 use Rattle.vb_request.specs.Refusals.{readiness_refusal}
 use Rattle.vb_device.specs.Calls.{without_frames}
-use Rattle.vb_device.proofs.FourQueues.{at_each, part_get, part_set, set_here, base_set}
+use Rattle.vb_device.proofs.FourQueues.{part_get, part_set, set_here, base_set}
 use Rattle.vb_device.proofs.TakesBy.{finish_open, queue_finish, queue_known, status_ok}
 use Rattle.vb_model.specs.Status.{contains, driver_ok}
 use Rattle.vb_model.specs.Layout.{reserved_pages, ring_page}

@@ -1,16 +1,9 @@
 -- The loose frames of a device that keeps them as a list, as a set.
-use Rattle.std.specs.Prelude.{◌≡◌, ℕ, ◌==◌, Bool, List, [], ◌∷◌, ◌++◌, Option, Some, None}
-use Rattle.std.specs.Prelude.{Result, length}
-use Rattle.std.proofs.lemmas.List.{length-append}
-use Rattle.std.proofs.Common.{sym, ◌∙◌, ap, arith}
-use Rattle.vb_model.specs.declared.replies.Refusal.{Refusal}
+use Rattle.std.specs.Prelude.{◌≡◌, ℕ, List, [], ◌++◌}
+use Rattle.std.proofs.Common.{sym, ◌∙◌, ap}
 use Rattle.vb_model.specs.Tests.{times}
-use Rattle.vb_model.proofs.Tables.{count_by-append, count_by-cons, count_by-one}
-use Rattle.vb_ram.specs.Pages.{Page, Pages}
 use Rattle.vb_ram.specs.Part.{Part}
-use Rattle.vb_device.specs.Discards.{frames_behind}
-use Rattle.vb_device.specs.BaseCalls.{GivesLast, SweepsPage}
-use Rattle.vb_device.specs.Calls.{SameFrames, HandsBack, SweepsBy}
+use Rattle.vb_device.specs.Calls.{SameFrames}
 
 -- a part with a list of loose frames, as an equation for all else
 pub all_but_loose : (p q : Part) → p ≡ q → p ≡ record q { loose = p.loose }

@@ -4,7 +4,6 @@ use Rattle.std.proofs.Common.{◌%◌, Bool, true, false, cond, List, [], ◌∷
 use Rattle.std.proofs.Common.{slice_index_or, inl, inr, eq-eqb, Option, Some, None, Result, Ok, Err}
 use Rattle.std.proofs.Common.{is_none, is_some, MatchBool}
 use Rattle.std.proofs.lemmas.Bool.{cases_eq, cases_Bool}
-use Rattle.std.proofs.lemmas.Bool.Decides.{eqb_tells}
 use Rattle.vb_ram.specs.Pages.{Pages}
 use Rattle.vb_ring.specs.declared.driver.RingBroken.{RingBroken}
 use Rattle.vb_ring.specs.declared.driver.RingBroken.TheVariants.{NotOutstanding}

@@ -1,9 +1,9 @@
 -- The queue of reports, whose one chain has the first descriptors.
 use Rattle.std.proofs.Common.{◌≡◌, ◌∙◌, sym, ap, subst, arith, refl, ℕ, zero, suc, ◌+◌, ◌<◌, ◌≤◌}
 use Rattle.std.proofs.Common.{Bool, true, false, cond, eqb, List, [], ◌∷◌, ◌++◌, length, take, map}
-use Rattle.std.proofs.Common.{Option, None, Some, Result, Ok, Err, inl, inr, replicate, is_none}
+use Rattle.std.proofs.Common.{Option, None, Some, Ok, Err, inl, inr, replicate, is_none}
 use Rattle.std.proofs.Common.{slice_index, slice_index_or, nat_lt, add-one}
-use Rattle.std.proofs.lemmas.Bool.{cases_lt, le-ltb, lt-ltb, eqb-true, both_ways}
+use Rattle.std.proofs.lemmas.Bool.{cases_lt, le-ltb, lt-ltb, both_ways}
 use Rattle.std.proofs.lemmas.List.{length-replicate, get_or-replicate, get_or_past}
 use Rattle.std.proofs.lemmas.List.Elements.{All-nil}
 use Rattle.std.proofs.lemmas.List.FromFn.{take-map-range_with_len, length-range_with_len}
@@ -12,15 +12,11 @@ use Rattle.std.specs.List.{range_with_len}
 use Rattle.vb_model.specs.Tests.{is_in}
 use Rattle.vb_model.specs.Pages.{Block}
 use Rattle.vb_model.proofs.PageSteps.{is_in-range, outside-range}
-use Rattle.vb_ram.specs.Pages.{Pages}
 use Rattle.vb_ring.specs.declared.driver.Full.TheVariants.{TooFewFree}
-use Rattle.vb_ring.specs.declared.driver.RingBroken.{RingBroken}
-use Rattle.vb_ring.specs.declared.driver.RingBroken.TheVariants.{NotOutstanding}
 use Rattle.std.specs.Prelude.{All}
-use Rattle.vb_ring.specs.Entries.{is_own, is_head, only_head}
+use Rattle.vb_ring.specs.Entries.{is_own, is_head}
 use Rattle.vb_ring.specs.Ends.{DriverEnd, IsDriverEnd, is_unused, outstanding, free_descriptors}
 use Rattle.vb_ring.specs.Ends.{next_path, add_answer, after_add, after_take, claimed, released}
-use Rattle.vb_ring.specs.Ends.{used_answer}
 use Rattle.vb_ring.specs.Numbers.{numbers}
 use Rattle.vb_ring.proofs.Numbers.{numbers_yes, numbers_zero, length_all}
 use Rattle.vb_ring.proofs.OwnerLaws.{claimed-at, released-at}

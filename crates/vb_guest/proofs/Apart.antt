@@ -1,30 +1,24 @@
 -- What leaves a queue alone.
-use Rattle.std.specs.Prelude.{◌≡◌, ◌≢◌, ◌==◌, Bool, true, false, if◌then◌else◌, ℕ, ◌+◌, ◌*◌, ◌<◌, ◌≤◌, List, length, slice_index_or}
+use Rattle.std.specs.Prelude.{◌≡◌, ◌≢◌, ℕ, ◌+◌, ◌*◌, ◌<◌, ◌≤◌, List, length, slice_index_or}
 use Rattle.std.proofs.Common.{◌∙◌, arith, inl, inr, refl, subst}
 use Rattle.vb_model.specs.Layout.{reserved_pages, ring_number, ring_page, buffers_page}
 use Rattle.vb_model.specs.Layout.{buffer_page}
 use Rattle.vb_model.specs.Layout.{buffer_offset}
 use Rattle.vb_model.specs.Requests.{Request, Requests}
-use Rattle.vb_ram.specs.Pages.{Pages, page_at, SameIn}
+use Rattle.vb_ram.specs.Pages.{Pages, page_at}
 use Rattle.vb_ram.specs.Part.{QueuePart}
-use Rattle.vb_ram.proofs.FieldLaws.{field_in, same_page}
+use Rattle.vb_ram.proofs.FieldLaws.{same_page}
 use Rattle.vb_chain.specs.Table.{descriptor_at}
 use Rattle.vb_chain.proofs.TableLaws.{descriptor_apart}
 use Rattle.vb_ring.specs.Ends.{DriverEnd}
-use Rattle.vb_driver.specs.Coding.{Names, IsCoded}
+use Rattle.vb_driver.specs.Coding.{IsCoded}
 use Rattle.vb_driver.specs.State.{RequestSide}
+use Rattle.vb_driver.proofs.Buffers.{names_kept}
+use Rattle.vb_driver.proofs.Shapes.{buffers_between}
 use Rattle.vb_guest.specs.Line.{Line, IsRequest, RingOf, heads_of}
 use Rattle.vb_model.proofs.Shapes.{InRing, in_ring_page, ring_reserved, ring_no_buffer}
 use Rattle.vb_model.proofs.Shapes.{reserved_least, rings_apart}
 use Rattle.vb_guest.proofs.RingApart.{SameRing, ring_apart}
-
--- page numbers in a buffer that a write leaves
-pub names_kept : (old new : Pages) (p o : ℕ) (xs : List ℕ) (hi : ℕ) → SameIn old new p o hi
-    → o + 4 * length xs ≤ hi → Names old p o xs → Names new p o xs
-names_kept old new p o xs hi same fits n = record {
-  each = λ k lt. field_in 4 old new p o hi (o + 4 * k) same (omega arith) (omega arith)
-      ∙ n.each k lt;
-}
 
 -- the pages of a queue's ring, and those of its buffers, are as before
 pub record SameLine (old new : Pages) (size q : ℕ) : Type 0 where
@@ -74,13 +68,6 @@ line_apart old new q n side part rs same line = record {
 }
 
 -- a page of a ring is none of a buffer, and no page of another ring
-pub buffers_between : (q : ℕ) → (4 ≤ buffers_page q) × (buffers_page q ≤ 8)
-buffers_between q = step (q == 0)
-  where
-    step : (b : Bool) → (4 ≤ (if b then 4 else 8)) × ((if b then 4 else 8) ≤ 8)
-    step true = (omega arith, omega arith)
-    step false = (omega arith, omega arith)
-
 pub no_buffer : (size q ring page : ℕ) → InRing size q ring → 4 ≤ page → page ≤ 12 → page ≢ ring
 no_buffer size q ring page at low high same =
     elim (ring_no_buffer size ring (in_ring_page size q ring at)) [

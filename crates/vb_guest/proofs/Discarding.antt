@@ -1,11 +1,11 @@
 -- Pages lose their frames.
 use Rattle.std.specs.Prelude.{◌≡◌, ◌≢◌, ℕ, ◌+◌, ◌<◌, ◌==◌, ◌||◌, Bool, true, false, not, cond}
 use Rattle.std.specs.Prelude.{if◌then◌else◌, List, [], ◌∷◌, ◌++◌, All, length, Option, Some, None}
-use Rattle.std.specs.Prelude.{IsTrue, slice_set, slice_index_or, count_by, refl, ◌⊎◌}
+use Rattle.std.specs.Prelude.{IsTrue, slice_set, slice_index_or, count_by, refl}
 use Rattle.std.specs.Option.{option_to_list}
 use Rattle.std.specs.List.{flat_map, list_any}
 use Rattle.std.proofs.Common.{sym, ◌∙◌, ap, arith, inl, inr, eq-eqb}
-use Rattle.std.proofs.lemmas.Bool.{cases_eq, eqb-true}
+use Rattle.std.proofs.lemmas.Bool.{cases_eq, eqb-true, cases_Bool}
 use Rattle.std.proofs.lemmas.List.{ext_get_or, length-set, get_or-set_same, get_or-set_other}
 use Rattle.std.proofs.lemmas.List.Sums.{sum_by-set}
 use Rattle.std.proofs.lemmas.List.Elements.{All-tail}
@@ -15,10 +15,7 @@ use Rattle.vb_model.specs.Driver.{AllDistinct}
 use Rattle.vb_model.specs.Orderly.{times}
 use Rattle.vb_model.proofs.Tables.{length-each_from, each_page-get, count_by-cons, count_by-append}
 use Rattle.vb_guest.specs.Steps.{is_frame}
-
-either : (b : Bool) → (b ≡ true) ⊎ (b ≡ false)
-either true = inl refl
-either false = inr refl
+use Rattle.vb_guest.proofs.RingHeads.{cond_one}
 
 -- the table in which these pages have this entry
 abbrev pub with_entry : {A : Type 0} → List ℕ → A → List A → List A
@@ -52,7 +49,7 @@ pub in_first : (p : ℕ) (ps : List ℕ) → is_in p (p ∷ ps) ≡ true
 in_first p ps = ap (λ (b : Bool). b || list_any (λ m. m == p) ps) (eq-eqb p p refl)
 
 pub other_not : (p i : ℕ) → p ≢ i → (p == i) ≡ false
-other_not p i ne = elim (either (p == i)) [ inl e ↦ absurd (ne (eqb-true p i e)) | inr e ↦ e ]
+other_not p i ne = elim (cases_Bool (p == i)) [ inl e ↦ absurd (ne (eqb-true p i e)) | inr e ↦ e ]
 
 pub in_rest : (p i : ℕ) (ps : List ℕ) → p ≢ i → is_in i (p ∷ ps) ≡ is_in i ps
 in_rest p i ps ne = ap (λ (b : Bool). b || list_any (λ m. m == i) ps) (other_not p i ne)
@@ -85,10 +82,6 @@ not_in false h = refl
 pub one_frame : (n : ℕ) (o : Option ℕ) → times n (option_to_list o) ≡ one_if (is_frame n o)
 one_frame n None = refl
 one_frame n (Some f) = omega (arith, count_by-cons (λ (p : ℕ). p == n) f [])
-
-cond_one : (b : Bool) → cond {A = ℕ} b 1 0 ≡ one_if b
-cond_one true = refl
-cond_one false = refl
 
 -- how often a frame was behind the pages, and how often it is behind one afterwards
 pub frames_freed : (n : ℕ) (pages : List ℕ) (frames : List (Option ℕ)) → AllDistinct pages

@@ -1,10 +1,10 @@
 -- What a device's call leaves of memory and of its part, and which frames pages lose.
 use Rattle.std.specs.Prelude.{◌≡◌, ◌≢◌, ℕ, ◌<◌, ◌≤◌, ◌==◌, ◌||◌, Bool, true, false, List, [], ◌∷◌}
-use Rattle.std.specs.Prelude.{◌++◌, All, Option, refl, ◌⊎◌}
+use Rattle.std.specs.Prelude.{◌++◌, All, Option, refl}
 use Rattle.std.specs.Option.{option_to_list}
 use Rattle.std.specs.List.{flat_map}
 use Rattle.std.proofs.Common.{sym, ◌∙◌, ap, subst, arith, inl, inr}
-use Rattle.std.proofs.lemmas.Bool.{eqb-true}
+use Rattle.std.proofs.lemmas.Bool.{eqb-true, cases_Bool}
 use Rattle.std.proofs.lemmas.List.Elements.{All-tail}
 use Rattle.vb_model.specs.Tests.{is_in}
 use Rattle.vb_model.specs.Layout.{ring_page}
@@ -26,14 +26,10 @@ handed_back part = record part { loose = [] }
 pub loose_none : (part : Part) → part.loose ≡ [] → handed_back part ≡ part
 loose_none part e = ap (λ (l : List ℕ). record part { loose = l }) (sym e)
 
-either : (b : Bool) → (b ≡ true) ⊎ (b ≡ false)
-either true = inl refl
-either false = inr refl
-
 in_high : (least : ℕ) (pages : List ℕ) (p : ℕ) → All (λ page. least ≤ page) pages
     → is_in p pages ≡ true → least ≤ p
 in_high least [] p above e = absurd cc
-in_high least (x ∷ xs) p above e = elim (either (x == p)) [
+in_high least (x ∷ xs) p above e = elim (cases_Bool (x == p)) [
   | inl same ↦ (let is : x ≡ p = eqb-true x p same in
       let here : least ≤ x = above 0 x (omega arith) in omega arith)
   | inr other ↦ in_high least xs p (All-tail (λ page. least ≤ page) x xs above)
@@ -43,7 +39,7 @@ in_high least (x ∷ xs) p above e = elim (either (x == p)) [
 -- a reserved page isn't among those of a request
 pub not_among : (least : ℕ) (pages : List ℕ) (p : ℕ) → All (λ page. least ≤ page) pages
     → p < least → is_in p pages ≡ false
-not_among least pages p above low = elim (either (is_in p pages)) [
+not_among least pages p above low = elim (cases_Bool (is_in p pages)) [
   | inl e ↦ absurd (let high : least ≤ p = in_high least pages p above e in omega arith)
   | inr e ↦ e
 ]

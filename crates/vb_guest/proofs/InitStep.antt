@@ -5,7 +5,7 @@ use Rattle.std.specs.Prelude.{IsSome, is_some, is_none, MatchOption, Result, Ok,
 use Rattle.std.specs.Prelude.{count_by, refl, ◌⊎◌}
 use Rattle.std.specs.List.{range_with_len, list_all}
 use Rattle.std.proofs.Common.{sym, ◌∙◌, ap, subst, arith, inl, inr}
-use Rattle.std.proofs.lemmas.Bool.{eqb-true}
+use Rattle.std.proofs.lemmas.Bool.{eqb-true, cases_Bool}
 use Rattle.vb_model.specs.declared.calls.Call.TheVariants.{Init}
 use Rattle.vb_model.specs.declared.calls.Claim.{Claim}
 use Rattle.vb_model.specs.declared.replies.Refusal.{Refusal}
@@ -49,14 +49,10 @@ use Rattle.vb_guest.proofs.Moving.{moves_as}
 use Rattle.vb_guest.proofs.Kept.{SameOwn}
 use Rattle.vb_guest.proofs.Starting.{first_buffer, started, stopped}
 
-either : (b : Bool) → (b ≡ true) ⊎ (b ≡ false)
-either true = inl refl
-either false = inr refl
-
 -- ---- a device that isn't new
 
 up_test : (s : ℕ) → s ≢ 0 → not (s == 0) ≡ true
-up_test s ne = elim (either (s == 0)) [
+up_test s ne = elim (cases_Bool (s == 0)) [
   | inl same ↦ absurd (ne (eqb-true s 0 same))
   | inr other ↦ ap not other
 ]
@@ -115,7 +111,7 @@ pub now_backed : (size : ℕ) (m1 m2 : Pages) (numbers : List ℕ) (page : ℕ)
     → AllSupplied (bare_from size m1 0) numbers m1 m2 → is_start_page size page ≡ true
     → IsSome (frame_at m2 page)
 now_backed size m1 m2 numbers page supplied start =
-    elim (either (is_in page (bare_from size m1 0))) [
+    elim (cases_Bool (is_in page (bare_from size m1 0))) [
       | inl there ↦ supplied_backed (bare_from size m1 0) numbers m1 m2 page supplied there
       | inr out ↦ ap (λ o. is_some (number_of o))
           (supplied_other (bare_from size m1 0) numbers m1 m2 page supplied out)

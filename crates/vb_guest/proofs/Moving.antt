@@ -1,9 +1,8 @@
 -- Frames go out of a guest's supply and come back to it.
-use Rattle.std.specs.Prelude.{◌≡◌, ◌≢◌, ℕ, ◌+◌, ◌<◌, ◌≤◌, ◌==◌, ◌||◌, Bool, true, false, not, cond}
-use Rattle.std.specs.Prelude.{if◌then◌else◌, List, [], ◌∷◌, length, slice_set, refl, ◌⊎◌}
-use Rattle.std.proofs.Common.{sym, ◌∙◌, ap, subst, arith, inl, inr}
-use Rattle.std.proofs.lemmas.Bool.{cases_eq, cases_lt, eq-eqb, ne_eqb}
-use Rattle.std.proofs.lemmas.List.{length-set, get_or-set_same, get_or-set_other, get_or_past}
+use Rattle.std.specs.Prelude.{◌≡◌, ◌≢◌, ℕ, ◌+◌, ◌≤◌, ◌==◌, ◌||◌, Bool, true, false, not, cond}
+use Rattle.std.specs.Prelude.{if◌then◌else◌, List, [], ◌∷◌, length, refl}
+use Rattle.std.proofs.Common.{sym, ◌∙◌, ap, arith, inl, inr}
+use Rattle.std.proofs.lemmas.Bool.{cases_eq, eq-eqb, ne_eqb, cases_Bool}
 use Rattle.vb_model.specs.Tests.{one_if}
 use Rattle.vb_model.specs.Orderly.{times}
 use Rattle.vb_model.proofs.Tables.{count_by-cons}
@@ -21,12 +20,8 @@ used_own s n e = ap (λ (b : Bool). if b then has s.own n else is_out s.out n) e
 pub used_out : (s : Supply) (n : ℕ) → s.keeps ≡ false → is_used s n ≡ is_out s.out n
 used_out s n e = ap (λ (b : Bool). if b then has s.own n else is_out s.out n) e
 
-either : (b : Bool) → (b ≡ true) ⊎ (b ≡ false)
-either true = inl refl
-either false = inr refl
-
 pub by_keeps : {P : Type 0} (s : Supply) → (s.keeps ≡ true → P) → (s.keeps ≡ false → P) → P
-by_keeps s own out = elim (either s.keeps) [ inl e ↦ own e | inr e ↦ out e ]
+by_keeps s own out = elim (cases_Bool s.keeps) [ inl e ↦ own e | inr e ↦ out e ]
 
 pub is_one : (b : Bool) → 1 ≤ one_if b → b ≡ true
 is_one true h = refl
@@ -143,7 +138,7 @@ loose_is_used n loose rest s same held =
 pub kept_back : (p1 p2 : Part) (out : List Bool) (n : ℕ) → (p1.keeps ≡ false → p1.own ≡ [])
     → has p1.own n ≡ true → SameSet p2.own (without p1.own n) → p2 ≡ record p1 { own = p2.own }
     → Moves (supply_of p1 out) (supply_of p2 out) nothing (λ k. times k (n ∷ []))
-kept_back p1 p2 out n none is now same = elim (either p1.keeps) [
+kept_back p1 p2 out n none is now same = elim (cases_Bool p1.keeps) [
   | inl keeps ↦ own_back p1 p2 out out n keeps is now same refl
   | inr not_kept ↦
       absurd (let wrong : false ≡ true = ap (λ (own : List ℕ). has own n) (sym (none not_kept)) ∙ is in

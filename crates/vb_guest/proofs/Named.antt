@@ -14,6 +14,7 @@ use Rattle.vb_driver.specs.State.{RequestSide, AreRequests, pages_named as pages
 use Rattle.vb_guest.specs.Line.{Line, IsRequest}
 use Rattle.vb_guest.proofs.Heads.{headed-cons}
 use Rattle.vb_guest.proofs.Posting.{headed_once}
+use Rattle.vb_guest.proofs.RingHeads.{at_most_one}
 
 abbrev count_all : List (List ℕ) → ℕ
 count_all sent = sum_by (λ (pages : List ℕ). length pages) sent
@@ -95,10 +96,6 @@ all_both P (x ∷ xs) ys a b (suc k) d lt =
 out_as_often : (b : Bool) → one_if b ≡ 0 → b ≡ false
 out_as_often true e = absurd (omega arith)
 out_as_often false e = refl
-
-at_most_one : (b : Bool) → one_if b ≤ 1
-at_most_one true = omega arith
-at_most_one false = omega arith
 
 pub line_named : (mem : Pages) (q n : ℕ) (side : RequestSide) (part : QueuePart) (rs : Requests)
     → Line mem q n side part rs → AreRequests side

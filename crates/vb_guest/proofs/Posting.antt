@@ -1,9 +1,9 @@
 -- The driver posts a request.
-use Rattle.std.specs.Prelude.{◌≡◌, ◌≢◌, ℕ, ◌+◌, ◌<◌, ◌==◌, Bool, true, false, cond}
-use Rattle.std.specs.Prelude.{List, [], All, length, Option, Some, None, Ok}
-use Rattle.std.specs.Prelude.{slice_set, slice_index, slice_index_or, is_none, refl, ◌⊎◌}
+use Rattle.std.specs.Prelude.{◌≡◌, ◌≢◌, ℕ, ◌+◌, ◌<◌, ◌==◌, true, false, cond, List, [], All, length}
+use Rattle.std.specs.Prelude.{Option, Some, None, Ok, slice_set, slice_index, slice_index_or}
+use Rattle.std.specs.Prelude.{is_none, refl}
 use Rattle.std.proofs.Common.{sym, ◌∙◌, ap, subst, arith, inl, inr}
-use Rattle.std.proofs.lemmas.Bool.{cases_eq}
+use Rattle.std.proofs.lemmas.Bool.{cases_eq, cases_Bool}
 use Rattle.std.proofs.lemmas.List.{length-set, get_or-set_same, get_or-set_other}
 use Rattle.std.proofs.lemmas.List.Elements.{All-push}
 use Rattle.std.proofs.lemmas.Option.{get_or_from_slice_get, slice_get_within}
@@ -23,12 +23,12 @@ use Rattle.vb_ring.specs.Ends.{outstanding as outstanding_in}
 use Rattle.vb_driver.specs.Coding.{IsCoded}
 use Rattle.vb_driver.specs.State.{RequestSide, AreRequests}
 use Rattle.vb_driver.specs.Calls.{Announces, Posts}
+use Rattle.vb_driver.proofs.Buffers.{names_kept}
 use Rattle.vb_guest.specs.Ring.{RingStands}
 use Rattle.vb_guest.specs.Line.{AreRequested, Line, IsRequest, RingOf, heads_of}
 use Rattle.vb_guest.proofs.RingHeads.{ring_once, ring_count}
 use Rattle.vb_guest.proofs.RingPosted.{ring_posted}
 use Rattle.vb_guest.proofs.Heads.{times-heads, length-heads, heads-push, headed-all}
-use Rattle.vb_guest.proofs.Apart.{names_kept}
 
 -- the requests that have a head are one exactly where the driver's table has the head
 pub headed_once : (mem : Pages) (q : ℕ) (ring : DriverEnd) (part : QueuePart) (rs : Requests)
@@ -62,10 +62,6 @@ none_own : (h : ℕ) (o : Option ℕ) → is_none o ≡ true → is_own h o ≡ 
 none_own h None e = refl
 none_own h (Some k) e = cc
 
-either : (b : Bool) → (b ≡ true) ⊎ (b ≡ false)
-either true = inl refl
-either false = inr refl
-
 -- the lowest free descriptor is free, and none below it is
 pub record IsLowest (r : DriverEnd) (h : ℕ) : Type 0 where
   pub inside : h < r.size
@@ -81,7 +77,7 @@ lowest_is r h is =
     record {
       inside = omega (arith, first, pass.0);
       free = ap (is_unused r.owner) (sym first) ∙ pass.1;
-      below = λ k lt. elim (either (is_unused r.owner k)) [
+      below = λ k lt. elim (cases_Bool (is_unused r.owner k)) [
         | inr not ↦ not
         | inl too ↦
             let found = numbers_has (is_unused r.owner) r.size k (omega (arith, first, pass.0))

@@ -1,7 +1,8 @@
 -- A guest's read is a step of the definitions.
 use Rattle.std.specs.Prelude.{◌≡◌, ℕ, ◌+◌, ◌<◌, Bool, true, false, not, List, [], ◌∷◌, length, take}
-use Rattle.std.specs.Prelude.{drop, None, slice_index, refl, ◌⊎◌}
+use Rattle.std.specs.Prelude.{drop, None, slice_index, refl}
 use Rattle.std.proofs.Common.{sym, ◌∙◌, ap, arith, inl, inr}
+use Rattle.std.proofs.lemmas.Bool.{cases_Bool}
 use Rattle.vb_model.specs.declared.calls.Call.TheVariants.{Read}
 use Rattle.vb_model.specs.declared.replies.Refusal.TheVariants.{NotHeld, OutOfRam, NoMemory}
 use Rattle.vb_model.specs.declared.replies.Reply.TheVariants.{ReadBytes, Refused}
@@ -17,10 +18,6 @@ use Rattle.vb_guest.specs.Steps.{StepsAlone}
 use Rattle.vb_guest.proofs.Closing.{first_holds, honest_performed, steps_alone, refused_alone}
 use Rattle.vb_guest.proofs.Writing.{used_high}
 use Rattle.vb_guest.proofs.WriteStep.{outside_is, inside_is}
-
-either : (b : Bool) → (b ≡ true) ⊎ (b ≡ false)
-either true = inl refl
-either false = inr refl
 
 pub read_not_held : (m : Pages) (p : Part) (d : DriverState) (g : Guest) (page off len : ℕ)
     → is_used (place_of d.places page) ≡ false → Honest m p d g
@@ -44,7 +41,7 @@ pub read_outside : (m : Pages) (p : Part) (d : DriverState) (g : Guest) (page of
 read_outside m p d g page off len used stands out =
     let held : is_used (place_of g.places page) ≡ true =
     ap (λ l. is_used (place_of l page)) (sym stands.ties.parts.driver.places) ∙ used in
-    elim (either (is_outside g page off len)) [
+    elim (cases_Bool (is_outside g page off len)) [
       | inl outside ↦ refused_alone m m p p d d g (Read page off len) OutOfRam stands
           (read_tests g page off len held
           ∙ first_holds (is_outside g page off len) OutOfRam [] outside) refl refl refl

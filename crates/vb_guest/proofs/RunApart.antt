@@ -11,10 +11,11 @@ use Rattle.vb_ring.specs.Layout.{IsSize, layout_of}
 use Rattle.vb_ring.specs.Ends.{DriverEnd}
 use Rattle.vb_ram.specs.Part.{Part}
 use Rattle.vb_driver.specs.State.{DriverState}
+use Rattle.vb_driver.proofs.Shapes.{buffers_between}
 use Rattle.vb_guest.specs.Stands.{IsRunning}
 use Rattle.vb_guest.proofs.RingApart.{SameRing, ring_parts}
 use Rattle.vb_guest.proofs.Apart.{SameLine, SameReserved, SameBut, ring_same, above_apart}
-use Rattle.vb_guest.proofs.Apart.{buffers_between, no_buffer, other_ring, other_line}
+use Rattle.vb_guest.proofs.Apart.{no_buffer, other_ring, other_line}
 use Rattle.vb_guest.proofs.PagesKept.{SamePages}
 
 -- all four rings have so many descriptors

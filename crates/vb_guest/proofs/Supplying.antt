@@ -4,7 +4,7 @@ use Rattle.std.specs.Prelude.{not, if◌then◌else◌, cond, List, [], ◌∷�
 use Rattle.std.specs.Prelude.{IsSome, is_some, filter, count_by, refl, ◌⊎◌}
 use Rattle.std.specs.List.{range_with_len}
 use Rattle.std.proofs.Common.{sym, ◌∙◌, ap, subst, arith, inl, inr, eq-eqb}
-use Rattle.std.proofs.lemmas.Bool.{cases_eq, eqb-true, or_cases}
+use Rattle.std.proofs.lemmas.Bool.{cases_eq, eqb-true, or_cases, cases_Bool}
 use Rattle.vb_model.specs.declared.calls.Claim.{Claim}
 use Rattle.vb_model.specs.declared.calls.Claim.TheVariants.{Gave, GaveNoFrame, GaveNoMemory}
 use Rattle.vb_model.specs.Tests.{is_in, each_from}
@@ -17,10 +17,6 @@ use Rattle.vb_guest.specs.Lives.{AllSupplied}
 use Rattle.vb_model.specs.Orderly.{times}
 use Rattle.vb_guest.proofs.Writing.{HasFrames, frames_supplied, pages_supplied, count_backed}
 use Rattle.vb_guest.proofs.Moving.{times_first}
-
-either : (b : Bool) → (b ≡ true) ⊎ (b ≡ false)
-either true = inl refl
-either false = inr refl
 
 -- neither of two tests holds
 neither : (a b : Bool) → (a || b) ≡ false → (a ≡ false) × (b ≡ false)
@@ -61,7 +57,7 @@ bounded test a (suc n) p h = step (test a) (bounded test (a + 1) n p) h
 
 pub not_again : (test : ℕ → Bool) (a n : ℕ)
     → is_in a (filter test (range_with_len (a + 1) n)) ≡ false
-not_again test a n = elim (either (is_in a (filter test (range_with_len (a + 1) n)))) [
+not_again test a n = elim (cases_Bool (is_in a (filter test (range_with_len (a + 1) n)))) [
   | inl there ↦ (let above = rising test (a + 1) n a there in absurd (omega arith))
   | inr out ↦ out
 ]
@@ -176,7 +172,7 @@ backed_last p f (q ∷ qs) (k ∷ ks) frames out =
 -- ---- memory, the table and the frames that are out
 
 distinct_out : (p : ℕ) (ps : List ℕ) → not (is_in p ps) ≡ true → is_in p ps ≡ false
-distinct_out p ps e = elim (either (is_in p ps)) [
+distinct_out p ps e = elim (cases_Bool (is_in p ps)) [
   | inl there ↦ (let wrong : false ≡ true = ap not (sym there) ∙ e in absurd cc)
   | inr out ↦ out
 ]

@@ -4,6 +4,7 @@ use Rattle.std.specs.Prelude.{All, length, Result, Option, Some, None, is_some, 
 use Rattle.std.specs.Option.{option_to_list}
 use Rattle.std.specs.List.{flat_map}
 use Rattle.std.proofs.Common.{sym, ◌∙◌, ap, subst, arith, inl, inr}
+use Rattle.std.proofs.lemmas.Bool.{cases_Bool}
 use Rattle.vb_model.specs.declared.calls.Call.TheVariants.{Sweep}
 use Rattle.vb_model.specs.declared.places.Place.{Place}
 use Rattle.vb_model.specs.declared.places.Place.TheVariants.{Reserved}
@@ -42,10 +43,6 @@ use Rattle.vb_guest.proofs.PagesKept.{pages_discarded, page_undiscarded}
 use Rattle.vb_guest.proofs.Closing.{honest_refused, honest_performed, still_stands, guest_step}
 use Rattle.vb_guest.proofs.Closing.{ties_same}
 use Rattle.vb_guest.proofs.Handing.{handed_back, loose_none, not_among, behind_same}
-
-either : (b : Bool) → (b ≡ true) ⊎ (b ≡ false)
-either true = inl refl
-either false = inr refl
 
 all_one : (P : ℕ → Type 0) (x : ℕ) → P x → All P (x ∷ [])
 all_one P x h zero d lt = h
@@ -113,7 +110,7 @@ reserved_alone _ e = absurd cc
 -- no reserved page is ballooned
 pub ballooned_free : (g : Guest) (page : ℕ) → IsConsistent g → is_ballooned g.ballooned page ≡ true
     → is_reserved (place_of g.places page) ≡ false
-ballooned_free g page sound flag = elim (either (is_reserved (place_of g.places page))) [
+ballooned_free g page sound flag = elim (cases_Bool (is_reserved (place_of g.places page))) [
   | inr free ↦ free
   | inl reserved ↦
       let (giving, lent) = reserved_alone (place_of g.places page) reserved in

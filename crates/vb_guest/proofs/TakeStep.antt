@@ -2,6 +2,7 @@
 use Rattle.std.specs.Prelude.{◌≡◌, ℕ, ◌*◌, ◌≤◌, Bool, true, false, nat_le, List, [], ◌∷◌, ◌++◌}
 use Rattle.std.specs.Prelude.{length, Result, Ok, Option, Some, None, refl, ◌⊎◌}
 use Rattle.std.proofs.Common.{sym, ◌∙◌, ap, subst, arith, inl, inr}
+use Rattle.std.proofs.lemmas.Bool.{cases_Bool}
 use Rattle.vb_model.specs.declared.calls.Call.TheVariants.{Take}
 use Rattle.vb_model.specs.declared.replies.Refusal.{Refusal}
 use Rattle.vb_model.specs.declared.replies.Refusal.TheVariants.{NoQueue, NotReady, Busy}
@@ -37,10 +38,6 @@ use Rattle.vb_model.proofs.Queues.{queue_cases}
 use Rattle.vb_guest.proofs.Refusing.{take_no_queue, take_running, take_running_part, take_idle}
 use Rattle.vb_guest.proofs.Refusing.{take_idle_part, busy_test}
 use Rattle.vb_guest.proofs.Closing.{steps_alone, honest_performed, ties_same}
-
-either : (b : Bool) → (b ≡ true) ⊎ (b ≡ false)
-either true = inl refl
-either false = inr refl
 
 -- what the device says of a queue with no posted request, and of one with some
 pub take_empty : (q n : ℕ) (m1 m2 : Pages) (p1 p2 : Part) (side : RequestSide) (taken done : List Request)
@@ -161,7 +158,7 @@ inflate_take m1 m2 p1 p2 d g result did stands =
           let by_part = (take_running_part p1 (stands.ties.parts.device.status ∙ run.state)).0
           ∙ ap busy_test run.inflate.remembers in
           let by_model = (take_running g run.state).0 in
-          elim (either (nat_le 16 (length g.inflate.taken))) [
+          elim (cases_Bool (nat_le 16 (length g.inflate.taken))) [
             | inl full ↦ take_refused m1 m2 p1 p2 d g 0 Busy result did stands
                 (by_part ∙ busy_is g.inflate.taken full) (by_model ∙ busy_is g.inflate.taken full)
             | inr some ↦ inflate_posted m1 m2 p1 p2 d g g.inflate.posted result refl did stands run
@@ -241,7 +238,7 @@ deflate_take m1 m2 p1 p2 d g result did stands =
           let by_part = (take_running_part p1 (stands.ties.parts.device.status ∙ run.state)).1
           ∙ ap busy_test run.deflate.remembers in
           let by_model = (take_running g run.state).1 in
-          elim (either (nat_le 16 (length g.deflate.taken))) [
+          elim (cases_Bool (nat_le 16 (length g.deflate.taken))) [
             | inl full ↦ take_refused m1 m2 p1 p2 d g 1 Busy result did stands
                 (by_part ∙ busy_is g.deflate.taken full) (by_model ∙ busy_is g.deflate.taken full)
             | inr some ↦ deflate_posted m1 m2 p1 p2 d g g.deflate.posted result refl did stands run

@@ -3,7 +3,7 @@ use Rattle.std.specs.Prelude.{◌≡◌, ℕ, ◌+◌, ◌<◌, ◌≤◌, Bool,
 use Rattle.std.specs.Prelude.{[], ◌∷◌, length, Option, Some, None, IsSome, is_none, Result, Err}
 use Rattle.std.specs.Prelude.{IsOk, refl, ◌⊎◌}
 use Rattle.std.proofs.Common.{sym, ◌∙◌, ap, subst, arith, inl, inr}
-use Rattle.std.proofs.lemmas.Bool.{cases_lt}
+use Rattle.std.proofs.lemmas.Bool.{cases_lt, cases_Bool}
 use Rattle.std.proofs.lemmas.Bool.Decides.{nat_tests}
 use Rattle.vb_model.specs.Layout.{reserved_pages}
 use Rattle.vb_model.specs.declared.calls.Call.TheVariants.{Write}
@@ -42,10 +42,6 @@ abbrev pub refusal_of_claim : KeeperRefused → Refusal
 refusal_of_claim NoFrame = NoFrameLeft
 refusal_of_claim Memory = NoMemory
 
-either : (b : Bool) → (b ≡ true) ⊎ (b ≡ false)
-either true = inl refl
-either false = inr refl
-
 -- the bytes lie in a page, or don't
 pub outside_is : (g : Guest) (mem : Pages) (page off len : ℕ) → length mem ≡ g.config.pages
     → is_outside g page off len ≡ false → Covers mem page off len
@@ -83,7 +79,7 @@ pub write_outside : (m1 m2 : Pages) (p1 p2 : Part) (d : DriverState) (g : Guest)
 write_outside m1 m2 p1 p2 d g page off bs used stands m p out =
     let held : is_used (place_of g.places page) ≡ true =
     ap (λ l. is_used (place_of l page)) (sym stands.ties.parts.driver.places) ∙ used in
-    elim (either (is_outside g page off (length bs))) [
+    elim (cases_Bool (is_outside g page off (length bs))) [
       | inl outside ↦ refused_alone m1 m2 p1 p2 d d g (Write page off bs) OutOfRam stands
           (write_tests g page off bs held
           ∙ first_holds (is_outside g page off (length bs)) OutOfRam [] outside) m p refl

@@ -1,10 +1,9 @@
 -- A write to a page of the guest's own.
-use Rattle.std.specs.Prelude.{◌≡◌, ◌≢◌, ℕ, ◌+◌, ◌<◌, ◌≤◌, ◌==◌, ◌||◌, Bool, true, false, not}
-use Rattle.std.specs.Prelude.{nat_le, nat_lt, if◌then◌else◌, List, [], ◌∷◌, ◌++◌, length, drop}
-use Rattle.std.specs.Prelude.{take, Option, Some, None, is_some, is_none, slice_set, slice_index_or}
-use Rattle.std.specs.Prelude.{count_by, cond, refl, ◌⊎◌}
+use Rattle.std.specs.Prelude.{◌≡◌, ◌≢◌, ℕ, ◌+◌, ◌<◌, ◌≤◌, ◌==◌, Bool, true, false, nat_lt}
+use Rattle.std.specs.Prelude.{if◌then◌else◌, List, [], ◌++◌, length, drop, take, Option, Some, None}
+use Rattle.std.specs.Prelude.{is_some, slice_set, slice_index_or, count_by, cond, refl, ◌⊎◌}
 use Rattle.std.proofs.Common.{sym, ◌∙◌, ap, subst, arith, inl, inr, eq-eqb, length-append}
-use Rattle.std.proofs.lemmas.Bool.{cases_eq, cases_lt, eqb-true}
+use Rattle.std.proofs.lemmas.Bool.{cases_eq, cases_lt, eqb-true, cases_Bool}
 use Rattle.std.proofs.lemmas.Bool.Decides.{nat_tests}
 use Rattle.std.proofs.lemmas.List.{ext_get_or, length-set, get_or-set_same, get_or-set_other}
 use Rattle.std.proofs.lemmas.List.{length-take-le, length-drop}
@@ -26,7 +25,6 @@ use Rattle.vb_ram.specs.Pages.{Supplied}
 use Rattle.vb_ram.proofs.Contents.{contents_wrote}
 use Rattle.vb_ram.specs.Part.{Part}
 use Rattle.vb_driver.specs.State.{DriverState}
-use Rattle.vb_frames.specs.Out.{is_out}
 use Rattle.vb_guest.specs.Line.{Line}
 use Rattle.vb_guest.specs.Reported.{ReportLine}
 use Rattle.vb_guest.specs.Buffer.{BufferLine}
@@ -36,10 +34,6 @@ use Rattle.vb_guest.proofs.Apart.{SameReserved, ring_same, line_apart, above_apa
 use Rattle.vb_guest.proofs.RingHeads.{cond_one}
 use Rattle.vb_guest.proofs.BufferLines.{buffer_apart}
 use Rattle.vb_guest.proofs.ReportLines.{report_apart}
-
-either : (b : Bool) → (b ≡ true) ⊎ (b ≡ false)
-either true = inl refl
-either false = inr refl
 
 used_not_reserved : (place : Place) → is_used place ≡ true → is_reserved place ≡ false
 used_not_reserved Used e = refl
@@ -77,7 +71,7 @@ at_page-same page f xs i d lt e =
     (eq-eqb i page e)
 
 other_not : (p i : ℕ) → p ≢ i → (p == i) ≡ false
-other_not p i ne = elim (either (p == i)) [ inl e ↦ absurd (ne (eqb-true p i e)) | inr e ↦ e ]
+other_not p i ne = elim (cases_Bool (p == i)) [ inl e ↦ absurd (ne (eqb-true p i e)) | inr e ↦ e ]
 
 pub at_page-other : {A : Type 0} (page : ℕ) (f : A → A) (xs : List A) (i : ℕ) (d : A)
     → i < length xs → i ≢ page → slice_index_or (at_page page f xs) i d ≡ slice_index_or xs i d

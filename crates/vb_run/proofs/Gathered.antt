@@ -1,14 +1,11 @@
 -- What is gathered from a history, an entry at a time.
 use Rattle.std.proofs.Common.{◌≡◌, refl, sym, ◌∙◌, ap, ℕ, ◌+◌, ◌<◌, true, false, List, [], ◌∷◌}
-use Rattle.std.proofs.Common.{◌++◌, length, take, drop, Some, None, add-one, take-suc, get_or}
-use Rattle.std.proofs.Common.{zero, suc, arith, ◌≤◌, slice_get, subst, take_all}
-use Rattle.std.specs.Prelude.{◌==◌, ◌↔◌}
+use Rattle.std.proofs.Common.{◌++◌, length, take, drop, Some, None, add-one, take-suc, get_or, zero}
+use Rattle.std.proofs.Common.{suc, arith, ◌≤◌, slice_get}
 use Rattle.std.specs.List.{list_all}
-use Rattle.std.proofs.lemmas.Bool.{eqb-true}
-use Rattle.std.proofs.lemmas.Bool.Decides.{nat_tests}
 use Rattle.std.proofs.lemmas.List.Folds.{list_all-append}
 use Rattle.std.specs.Prelude.{filter_map}
-use Rattle.std.proofs.lemmas.List.{append-nil, append_assoc, take-append-drop, length-take-le}
+use Rattle.std.proofs.lemmas.List.{append-nil, append_assoc, take-append-drop}
 use Rattle.std.proofs.lemmas.List.Elements.{filter_map-append, filter-append}
 use Rattle.vb_model.specs.declared.calls.Actor.{Actor}
 use Rattle.vb_model.specs.declared.calls.Actor.TheVariants.{Balancer}
@@ -18,7 +15,7 @@ use Rattle.vb_model.specs.Guest.{frame_of}
 use Rattle.vb_model.specs.GuestRun.{Entry}
 use Rattle.vb_run.specs.Entries.{is_same, actor_of, reply_to, replies_by, entries_by}
 use Rattle.vb_run.specs.Rounds.{Rounded, entries_of_round, is_of_round, round_entries}
-use Rattle.vb_run.proofs.Lists.{passes_at, take_next, take_whole}
+use Rattle.vb_run.proofs.Lists.{passes_at, take_next}
 
 pub replies_some : (a : Actor) (h : List Entry) (n : ℕ) (d : Entry) (r : Reply) → n < length h
     → reply_to a (get_or h n d) ≡ Some r

@@ -1,13 +1,13 @@
 -- A script's plan is as good as the one that the runner gets.
-use Rattle.std.proofs.Common.{◌≡◌, refl, sym, ap, ◌∙◌, subst, ℕ, suc, zero, ◌+◌, ◌<◌, Bool, true, false}
-use Rattle.std.proofs.Common.{List, [], ◌∷◌, ◌++◌, length, map, Some, None, get_or, take, arith}
+use Rattle.std.proofs.Common.{◌≡◌, refl, sym, ap, ◌∙◌, subst, ℕ, suc, ◌+◌, Bool, true, false, List}
+use Rattle.std.proofs.Common.{[], ◌∷◌, ◌++◌, length, map, Some, None, arith}
 use Rattle.std.specs.Prelude.{◌==◌, ◌&&◌, not, nat_le, Option, Result, Ok, if◌then◌else◌}
 use Rattle.std.specs.List.{list_all}
 use Rattle.std.specs.declared.vec.Vec.{Vec}
 use Rattle.std.specs.declared.alloc.Global.{Global}
 use Rattle.std.proofs.lemmas.Bool.{and_parts}
 use Rattle.std.proofs.lemmas.Bool.Decides.{nat_tests}
-use Rattle.std.proofs.lemmas.List.{append-nil, length-map}
+use Rattle.std.proofs.lemmas.List.{length-map}
 use Rattle.std.proofs.lemmas.List.Folds.{list_all-append}
 use Rattle.vb_model.specs.declared.calls.Call.{Call}
 use Rattle.vb_model.specs.Limits.{is_config, max_guests}
@@ -18,7 +18,7 @@ use Rattle.vb_run.specs.declared.plan.Plan.{Plan}
 use Rattle.vb_run.specs.declared.report.Report.{Report}
 use Rattle.vb_script.specs.declared.script.ThreadsGuest.{ThreadsGuest}
 use Rattle.vb_script.specs.Lines.{is_paced}
-use Rattle.vb_script.specs.Plans.{Plan as Planned, GuestPlan as PlannedGuest, guest_plan}
+use Rattle.vb_script.specs.Plans.{Plan as Planned, guest_plan}
 use Rattle.vb_sim.specs.Plans.{IsPlanOf, Part, can_run, is_part, may_be_scripts, part_of, planned_part}
 use Rattle.vb_sim.specs.Threads.{IsPlanFault, IsRunOfText, IsThreadsFault}
 use Rattle.vb_sim.specs.declared.fault.ProgramFault.{ProgramFault}
