@@ -5,6 +5,7 @@ pub mod Finishes
 pub mod FromNext
 pub mod Discards
 pub mod Rings
+pub mod Sizes
 pub mod Marks
 pub mod LooseFrames
 pub mod Ballooning

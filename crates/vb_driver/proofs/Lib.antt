@@ -11,6 +11,7 @@ pub mod Naming
 pub mod Keeping
 pub mod Moving
 pub mod Failing
+pub mod Sizes
 pub mod Flags
 pub mod Allocating
 pub mod Owning

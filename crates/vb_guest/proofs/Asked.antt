@@ -14,7 +14,7 @@ use Rattle.vb_ram.proofs.Limits.{config_limits}
 use Rattle.vb_ring.specs.Layout.{IsBacked, layout_of}
 use Rattle.vb_ring.proofs.Shapes.{parts_in_ring}
 use Rattle.vb_device.specs.Queues.{queue_layout}
-use Rattle.vb_ring.proofs.Sizes.{size_is}
+use Rattle.vb_device.proofs.Sizes.{size_is}
 use Rattle.vb_driver.specs.State.{DriverState}
 use Rattle.vb_guest.specs.Stands.{Stands}
 use Rattle.vb_guest.proofs.Freed.{large, start_backed}

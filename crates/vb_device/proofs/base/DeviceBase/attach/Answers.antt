@@ -11,7 +11,7 @@ use Rattle.vb_status.specs.Bits.{status_bits}
 use Rattle.vb_ram.specs.declared.shape.Shape.{Shape}
 use Rattle.vb_device.specs.Base.{new_queues}
 use Rattle.vb_device.proofs.FourQueues.{base_new}
-use Rattle.vb_ring.proofs.Sizes.{size_is_power, size_is}
+use Rattle.vb_device.proofs.Sizes.{size_is_power, size_is}
 use Rattle.vb_device.proofs.base.DeviceBase.attach.Goals as goal
 
 pub place_queues-requires : goal.place_queues-requires

@@ -13,7 +13,7 @@ use Rattle.vb_pages.specs.PageState.{new_page_state}
 use Rattle.vb_driver.specs.State.{RequestSide, ReportSide, DriverState, fresh_driver, IsDriver}
 use Rattle.vb_driver.specs.State.{fresh_side, fresh_statistics, fresh_report}
 use Rattle.vb_driver.proofs.Moving.{fresh_kept}
-use Rattle.vb_ring.proofs.Sizes.{size_is}
+use Rattle.vb_driver.proofs.Sizes.{size_of_config}
 use Rattle.vb_driver.proofs.driver.Driver.new.Goals as goal
 
 pub new_pages-requires-clause-size : goal.new_pages-requires-clause-size
@@ -42,7 +42,7 @@ new_queues-requires c =
     let shape = c.shape-shape.result in
     let same : c.args.config.queue_size ≡ shape.queue_size =
     sym (ap (λ (s : Shape). s.queue_size) c.shape-shape.ensures) in
-    subst IsSize same (size_is c.args.config.pages c.args.config.queue_size
+    subst IsSize same (size_of_config c.args.config.pages c.args.config.queue_size
     c.args.config.processors c.requires)
 
 pub invariant_of-result : goal.invariant_of-result
@@ -62,7 +62,7 @@ invariant_of-result c =
     let d : DriverState = record (fresh_driver pages size cpus) { features = f } in
     let kept : IsDriver d =
     fresh_kept pages size cpus f limits.pages_least limits.pages_most
-    (size_is pages size cpus c.requires) in
+    (size_of_config pages size cpus c.requires) in
     subst (λ (v : List Place). IsDriver
     (record d {
       places = v;

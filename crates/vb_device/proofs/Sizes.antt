@@ -1,13 +1,32 @@
 -- A queue size within the limits is a power of two in the words of the machine.
-use Rattle.std.proofs.Common.{◌≡◌, ℕ, ◌≤◌, Bool, true, false, refl, arith, rules}
+use Rattle.std.proofs.Common.{◌≡◌, ◌∙◌, ℕ, zero, suc, ◌<◌, ◌≤◌, Bool, true, false, refl, arith, inl}
+use Rattle.std.proofs.Common.{inr, ap, rules}
 use Rattle.std.specs.Prelude.{◌%◌, ◌==◌, not, ◌||◌, ◌&&◌, IsTrue}
 use Rattle.std.specs.Int as int
 use lib.Count
-use Rattle.std.proofs.lemmas.Bool.{and_parts}
+use Rattle.std.proofs.lemmas.Bool.{cases_eq, and_parts}
 use Rattle.vb_model.specs.Limits.{is_config, is_between, is_power_of_two}
 use Rattle.vb_ram.proofs.Limits.{config_limits}
 use Rattle.vb_ring.specs.Layout.{IsSize}
-use Rattle.vb_ring.proofs.Powers.{all_below, at_below, either, size_of_power}
+use Rattle.vb_ring.proofs.Powers.{size_of_power}
+
+abbrev all_below : (ℕ → Bool) → ℕ → Bool
+all_below p zero = true
+all_below p (suc n) = p n && all_below p n
+
+at_below : (p : ℕ → Bool) (n k : ℕ) → all_below p n ≡ true → k < n → p k ≡ true
+at_below p zero k h lt = absurd (omega arith)
+at_below p (suc n) k h lt =
+    let parts = and_parts (p n) (all_below p n) h in
+    elim (cases_eq k n) [
+      | inl same ↦ ap p same ∙
+          parts.0
+      | inr ne ↦ at_below p n k parts.1 (omega (arith, ne))
+    ]
+
+either : (a b : Bool) → (not a || b) ≡ true → a ≡ true → b ≡ true
+either true b h e = h
+either false b h e = cc
 
 test : ℕ → Bool
 test k = not (is_power_of_two k) || int.is_power_of_two k
