@@ -48,7 +48,8 @@ enum {                          /* kinds of queues, whatever their numbers are *
 /* Rules (of VB_BROKEN): 1 bad head, 2 bad next, 3 chain too long, 4 indirect, 5 wrong direction,
  * 6 out of memory, 7 available index jumps, 8 bad length, 9 bad page, 10 reserved page. */
 
-enum { VB_MAX_QUEUE_SIZE = 256, VB_MAX_PIECES = 256, VB_MAX_RUNS = 256, VB_MAX_BYTES = 1024, VB_STATE_BYTES = 187 };
+enum { VB_MAX_QUEUE_SIZE = 256, VB_MAX_PIECES = 256, VB_MAX_RUNS = 256, VB_MAX_BYTES = 1024, VB_MAX_FIGURES = 102,
+       VB_MAX_CUTS = 32, VB_STATE_BYTES = 187 };
 
 typedef struct {
     uint64_t memory_end;        /* bytes: where guest memory ends, from 8192 on and below 2^44; the last part of a page
@@ -85,6 +86,69 @@ typedef struct { uint32_t code; uint64_t pages; } VbMarked;
 typedef struct { uint32_t pages, spare; } VbNeed;                 /* a guest's pages, and how many it can spare */
 typedef struct { uint32_t code; uint64_t missing; } VbTargets;
 
+/* ---- notices over the memory of a running guest: types; the calls are below */
+
+/* Guest memory: regions of whole pages, in any order, no two of which overlap; what lies in none is a hole. A region that
+ * isn't whole pages below 2^44, or begins past 2^62 in its file, has no byte. */
+typedef struct {
+    uint64_t guest, length;     /* bytes: where it begins in guest memory, and how many it has */
+    uint64_t in_file;           /* where it begins in the file that has its bytes; none: 0 */
+} VbRegion;
+typedef struct { size_t region; uint64_t offset; } VbSpot;     /* so many bytes into the region of this number */
+typedef struct { size_t region; uint64_t offset, in_file, length; } VbCut;     /* whole pages of one region */
+
+/* A device, and 1 more than the head of the statistics buffer that it holds until new ones are asked for; none: 0. */
+typedef struct { VbDevice device; uint32_t held; } VbBalloon;
+
+enum {                          /* what is to be done: `what` of a notice, in this order; other bits are the library's */
+    VB_TELL_PAGES = 1,          /* the first `runs` of the room were given up, are asked back, or are free */
+    VB_TELL_FIGURES = 2,        /* the first `figures` of the room are what the guest says */
+    VB_DISCARD = 4,             /* give the bytes of the first `cuts` of the room back to the machine */
+    VB_GIVE_BACK = 8,           /* write `id` to id_at and `used_length` to length_at (32 bits each), then a release fence,
+                                   then `used_index` to index_at (16 bits, by one access) */
+    VB_ACQUIRE = 16,            /* an acquire fence */
+    VB_FULL_FENCE = 32,         /* a full fence */
+    VB_READ = 64,               /* read the word of 16 bits that stands `at`, by one access: that is the answer */
+    VB_COPY = 128,              /* copy `length` bytes that stand `at` to bytes + into of the room, each read once */
+};
+enum { VB_LOOK = 1, VB_EMPTY = 2 };     /* what a write of the status asks for */
+
+/* A notice: what is to be done next. Fields that `what` doesn't speak of mean nothing. All of them are the library's to
+ * write. Each place lies within its region: region < count, and offset + length (2, 4 or as said) <= regions[region].length;
+ * into + length <= VB_MAX_BYTES; runs <= VB_MAX_RUNS; figures <= VB_MAX_FIGURES; cuts <= VB_MAX_CUTS. */
+typedef struct {
+    uint32_t what;              /* 0: it has ended */
+    uint32_t kind;              /* of its queue */
+    VbSpot at;                  /* VB_READ and VB_COPY */
+    uint32_t length, into;      /* VB_COPY */
+    uint32_t runs;              /* VB_TELL_PAGES: runs, the pages in them, and numbers that were skipped */
+    uint32_t pages, skipped;
+    uint32_t figures;           /* VB_TELL_FIGURES */
+    uint32_t cuts;              /* VB_DISCARD */
+    uint32_t id, used_length;   /* VB_GIVE_BACK */
+    uint16_t used_index;
+    VbSpot id_at, length_at, index_at;
+    uint32_t code, rule;        /* at the end: VB_OK where a chain was served; VB_NOTHING; or why the last one wasn't */
+    uint32_t interrupt;         /* at the end: 1 where the driver wants an interrupt for its used buffers, else 0 */
+    uint32_t configuration;     /* at the end: 1 where the driver is to be told of a change of configuration, else 0 */
+    uint32_t more;              /* at the end: 1 where another chain stands there, for which there was no budget, else 0 */
+    uint32_t chains_left, pages_left;           /* what the library remembers */
+    uint16_t head, count, taken_head;
+    uint8_t given, taken, flag;
+    size_t number, from;
+    uint64_t element, index;
+} VbNotice;
+
+/* The room that a notice needs, whatever stands in it at first; then the library's to write, but for `bytes`. One room
+ * serves notice after notice, of any device, one at a time. */
+typedef struct {
+    VbPiece pieces[VB_MAX_PIECES];              /* the chain's */
+    uint8_t bytes[VB_MAX_BYTES];                /* the private copies: VB_COPY */
+    VbRun runs[VB_MAX_RUNS];
+    VbStatistic figures[VB_MAX_FIGURES];
+    VbCut cuts[VB_MAX_CUTS];
+} VbRoom;
+
 /* What the library was compiled to have: on every machine that it is for, structs are as here. */
 VB_ASSERT(sizeof(VbSettings) == 24 && offsetof(VbSettings, offered) == 8 && offsetof(VbSettings, reserved_pages) == 16
           && offsetof(VbSettings, needs_must_tell) == 20 && offsetof(VbSettings, skips_bad_pages) == 21);
@@ -107,6 +171,18 @@ VB_ASSERT(sizeof(VbUsed) == 40 && offsetof(VbUsed, element_at) == 8 && offsetof(
 VB_ASSERT(sizeof(VbMarked) == 16 && offsetof(VbMarked, pages) == 8);
 VB_ASSERT(sizeof(VbNeed) == 8 && offsetof(VbNeed, spare) == 4);
 VB_ASSERT(sizeof(VbTargets) == 16 && offsetof(VbTargets, missing) == 8);
+VB_ASSERT(sizeof(VbRegion) == 24 && offsetof(VbRegion, length) == 8 && offsetof(VbRegion, in_file) == 16);
+VB_ASSERT(sizeof(VbSpot) == 16 && offsetof(VbSpot, offset) == 8);
+VB_ASSERT(sizeof(VbCut) == 32 && offsetof(VbCut, offset) == 8 && offsetof(VbCut, in_file) == 16
+          && offsetof(VbCut, length) == 24);
+VB_ASSERT(sizeof(VbBalloon) == 184 && offsetof(VbBalloon, held) == 176);
+VB_ASSERT(sizeof(VbNotice) == 184 && offsetof(VbNotice, at) == 8 && offsetof(VbNotice, length) == 24
+          && offsetof(VbNotice, runs) == 32 && offsetof(VbNotice, figures) == 44 && offsetof(VbNotice, id) == 52
+          && offsetof(VbNotice, id_at) == 64 && offsetof(VbNotice, code) == 112
+          && offsetof(VbNotice, chains_left) == 132 && offsetof(VbNotice, given) == 146
+          && offsetof(VbNotice, number) == 152 && offsetof(VbNotice, index) == 176);
+VB_ASSERT(sizeof(VbRoom) == 9824 && offsetof(VbRoom, bytes) == 4096 && offsetof(VbRoom, runs) == 5120
+          && offsetof(VbRoom, figures) == 7168 && offsetof(VbRoom, cuts) == 8800);
 
 /* The version of the library, as VB_VERSION_NUMBER. */
 uint32_t vb_version(void);
@@ -152,6 +228,46 @@ VbFigures vb_statistics(VbDevice *device, const uint8_t *bytes, size_t length, V
  * at index_at, then interrupt. An inflate's pages are discarded before. VB_OK, or why not, and then nothing moves: a head
  * that is no descriptor of the queue, which has none without a place, is VB_BAD_ARGUMENT. */
 VbUsed vb_use(VbDevice *device, uint32_t kind, uint32_t head);
+
+/* ---- notices over the memory of a running guest
+ *
+ * vb_begin says what is to be done first. While `what` isn't 0, do each thing whose bit it has, in the order of the bits,
+ * and call vb_go_on with the answer, the word that was read (a number, whose lower byte stands first; else any). Places are
+ * of the regions that the calls get: the same from begin to end. Who obeys has no bound to test and no sum to make. The
+ * guest may write to its memory meanwhile.
+ *
+ *     for (vb_begin(&notice, &balloon, regions, count, &room, kind, chains, pages); notice.what;
+ *          vb_go_on(&notice, &balloon, regions, count, &room, answer))
+ *         answer = perform(&notice, &room);
+ */
+
+/* The driver kicked the queue of this kind, or may have: it is served, at most `chains` chains, and none once `pages` pages
+ * were named. Nothing is done (VB_NOTHING) while the statistics buffer is held. All three answer `what`. */
+uint32_t vb_begin(VbNotice *notice, VbBalloon *balloon, const VbRegion *regions, size_t count, VbRoom *room,
+                  uint32_t kind, uint32_t chains, uint32_t pages);
+/* New statistics are asked for, by giving the held buffer back (5.5.6.3): VB_NOTHING where none is held. */
+uint32_t vb_ask(VbNotice *notice, VbBalloon *balloon, const VbRegion *regions, size_t count, VbRoom *room);
+/* What is to be done next, once that was done which was to be done. A notice that the calls didn't make may end as
+ * VB_BAD_ARGUMENT, with nothing else changed. */
+uint32_t vb_go_on(VbNotice *notice, VbBalloon *balloon, const VbRegion *regions, size_t count, VbRoom *room,
+                  uint16_t answer);
+
+/* vb_new over these regions: where settings.memory_end is 0, memory ends with the last of them. The balloon holds no buffer.
+ * VB_OK; or VB_BAD_ARGUMENT where a region isn't as VbRegion says, or vb_new refuses, and then nothing is changed. */
+uint32_t vb_new_over(VbBalloon *balloon, VbSettings settings, const VbRegion *regions, size_t count);
+/* These regions are guest memory from now on, and it ends where the last of them does. Refused as vb_new_over is. */
+uint32_t vb_set_regions(VbBalloon *balloon, const VbRegion *regions, size_t count);
+/* vb_place over these regions: also VB_MISPLACED where a part of the queue lies in a hole. */
+uint32_t vb_place_over(VbBalloon *balloon, const VbRegion *regions, size_t count, uint32_t kind, uint64_t table,
+                       uint64_t avail, uint64_t used, uint16_t size);
+/* vb_write_status, and `then` gets what is to be done then: bits VB_LOOK, each queue is to be looked at (vb_begin), and
+ * VB_EMPTY, the set of ballooned pages is empty now. 0 where it is refused. A reset forgets the held buffer. */
+uint32_t vb_set_status(VbBalloon *balloon, uint8_t status, uint32_t *then);
+/* vb_restore over these regions: also VB_MISPLACED where memory ends elsewhere than the balloon's does, or a part of a queue
+ * lies in a hole; then nothing is changed. */
+uint32_t vb_restore_over(VbBalloon *balloon, const VbRegion *regions, size_t count, const uint8_t *bytes, size_t length);
+/* 1 where the driver may be told of a change of configuration: DRIVER_OK is set. Else 0. */
+uint32_t vb_may_tell(const VbDevice *device);
 
 /* Puts the device into the front of `out`, as VB_STATE_BYTES bytes that vb_restore takes: little-endian numbers of a
  * format with a version, a length and a checksum (docs/INTEGRATION.md has it). `held` is 1 more than the head of the
