@@ -30,7 +30,8 @@ use Rattle.vb_monitor.specs.Regions.{cuts_from, cuts_of}
 use Rattle.vb_monitor.specs.Ends.{Whole, Stops, AsksFlags}
 use Rattle.vb_monitor.specs.Giving.{Then, used_accesses, with_given, WritesUsed, DiscardsThen}
 use Rattle.vb_monitor.specs.Giving.{TellsThen}
-use Rattle.vb_monitor.specs.Pieces.{pieces_in, second_part, unless_empty, all_parts, AsksPart, CopiesParts}
+use Rattle.vb_monitor.specs.Pieces.{pieces_in, second_part, unless_empty, all_parts, AsksPart}
+use Rattle.vb_monitor.specs.Pieces.{CopiesParts}
 use Rattle.vb_monitor.specs.Chains.{descriptors, AsksDescriptor, Follows, ServesPieces, AfterBytes}
 use Rattle.vb_monitor.specs.Chains.{TellsThenEnds}
 use Rattle.vb_monitor.specs.Notices.{AsksIndex, AsksEntry, TakesNext, Looks, AfterGiven}
@@ -137,7 +138,8 @@ AheadAt (AwaitsDescriptor at walk) w tally d room log =
     (pieces_in (take walk.count room.pieces)) at log
 AheadAt (AwaitsPart at place) w tally d room log =
     AsksPart (CopiesParts w (served w tally d place.head) d tally
-    (behind_part place.is_second place.piece (pieces_in (take place.count room.pieces)))) place.length
+    (behind_part place.is_second place.piece (pieces_in (take place.count room.pieces))))
+    place.length
     (take place.into room.bytes) at log
 AheadAt (TellsPages head named) w tally d room log =
     TellsThen w (next_chain w tally) d tally head (take named.runs room.runs) log

@@ -24,8 +24,8 @@ pub struct Balloon {
     pub held: u32,
 }
 
-/// Whether the driver may be told of a change of configuration, or of used buffers: DRIVER_OK is set
-/// (VIRTIO 1.1, 2.1.2).
+/// Whether the driver may be told of a change of configuration, or of used buffers: DRIVER_OK is
+/// set (VIRTIO 1.1, 2.1.2).
 pub fn may_tell(device: &Device) -> bool
     ensures { result ≡ may_tell device.now }
 {

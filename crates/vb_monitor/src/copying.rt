@@ -35,7 +35,8 @@ fn ask_part(
         PartBy (fits_behind (take place.into room.bytes) part)
         (whole regions.now kind after outcome) (CopiesParts (whole regions.now kind after outcome)
         (served (whole regions.now kind after outcome) tally device.old place.head) device.old tally
-        (behind_part place.is_second place.piece (pieces_in (take place.count room.pieces)))) device.old tally
+        (behind_part place.is_second place.piece (pieces_in (take place.count room.pieces))))
+        device.old tally
         part (take place.into room.bytes) log }
     ensures fits { Fits result.phase }
 {

@@ -6,7 +6,8 @@ ghost use Rattle.vb_core.specs.declared.device.Denial.TheVariants.{Misplaced};
 ghost use Rattle.vb_core.specs.declared.saved.Saved.{Saved};
 ghost use Rattle.vb_core.specs.Devices.{place_denial, placed, with_ring};
 ghost use Rattle.vb_core.specs.Saved.{restored};
-ghost use Rattle.vb_monitor.specs.Places.{memory_end_of, is_memory, AreMemory, HasMemory, Lies, AllLie, FitsOver, Becomes};
+ghost use Rattle.vb_monitor.specs.Places.{memory_end_of, is_memory, AreMemory, HasMemory, Lies};
+ghost use Rattle.vb_monitor.specs.Places.{AllLie, FitsOver, Becomes};
 ghost use Rattle.vb_monitor.specs.Places.{RestoresBy};
 ghost use Rattle.vb_monitor.specs.Places.{balloon_over, ending_with, may_be_memory};
 
@@ -165,7 +166,8 @@ impl Balloon {
 
     /// Gives a kind's queue its place over these regions.
     ///
-    /// Refused as by `Device::place`, and then `Misplaced` where a part of the queue lies in a hole.
+    /// Refused as by `Device::place`, and then `Misplaced` where a part of the queue lies in a
+    /// hole.
     /// Then nothing is changed.
     pub fn place(
         &mut self,
@@ -179,7 +181,8 @@ impl Balloon {
         ensures denied { (why : Denial) →
             place_denial kind (placed table avail used size) self.old.device ≡ Some why →
             (result ≡ Err why) × (self.new ≡ self.old) }
-        ensures misplaced { place_denial kind (placed table avail used size) self.old.device ≡ None →
+        ensures misplaced {
+            place_denial kind (placed table avail used size) self.old.device ≡ None →
             (¬ Lies regions.now (placed table avail used size)) →
             (result ≡ Err Misplaced) × (self.new ≡ self.old) }
         ensures placed { place_denial kind (placed table avail used size) self.old.device ≡ None →
