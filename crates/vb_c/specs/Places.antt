@@ -6,7 +6,7 @@ use Rattle.vb_core.specs.declared.kinds.Kind.{Kind}
 use Rattle.vb_core.specs.declared.device.Denial.{Denial}
 use Rattle.vb_core.specs.declared.device.Denial.TheVariants.{BadArgument, NoQueue, Misplaced}
 use Rattle.vb_core.specs.declared.settings.Settings.{Settings}
-use Rattle.vb_core.specs.declared.status.StatusDenial.{StatusDenial}
+use Rattle.vb_status.specs.declared.bits.StatusFault.{StatusFault}
 use Rattle.vb_core.specs.Devices.{with_ring, placed, place_denial}
 use Rattle.vb_core.specs.Statuses.{status_denial}
 use Rattle.vb_core.specs.Saved.{restored}
@@ -62,7 +62,7 @@ PlacesOverFor (Some kind) regions table avail used size b1 b2 result =
 -- A write of the status is refused, or accepted, and then each queue may have to be looked at (1),
 -- and the set of ballooned pages be emptied (2).
 pub record SetsStatus (write : ℕ) (b1 b2 : Balloon) (next result : ℕ) : Type 0 where
-  pub denied : (why : StatusDenial) → status_denial write b1.device ≡ Some why →
+  pub denied : (why : StatusFault) → status_denial write b1.device ≡ Some why →
       (result ≡ number_in (Err why)) × (next ≡ 0) × (b2 ≡ b1)
   pub accepted : status_denial write b1.device ≡ None →
       (result ≡ 0) × (next ≡ one_if (becomes_ready write b1) + 2 * one_if (write == 0)) ×
