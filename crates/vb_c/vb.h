@@ -139,10 +139,10 @@ typedef struct {
     uint64_t element, index;
 } VbNotice;
 
-/* The room that a notice needs. Zeros before its first use; then the library's to write, but for `bytes`. One room serves
- * notice after notice, of any device, one at a time. */
+/* The room that a notice needs, whatever stands in it at first; then the library's to write, but for `bytes`. One room
+ * serves notice after notice, of any device, one at a time. */
 typedef struct {
-    uint64_t pieces[2 * VB_MAX_PIECES];         /* the library's */
+    VbPiece pieces[VB_MAX_PIECES];              /* the chain's */
     uint8_t bytes[VB_MAX_BYTES];                /* the private copies: VB_COPY */
     VbRun runs[VB_MAX_RUNS];
     VbStatistic figures[VB_MAX_FIGURES];

@@ -5,3 +5,6 @@ pub mod Marks
 pub mod Registers
 pub mod Sharing
 pub mod Saving
+pub mod Notices
+pub mod Serving
+pub mod Places

@@ -19,7 +19,7 @@ const NEEDS_RESET: u32 = 4;
 
 pub(crate) const NO_QUEUE: u32 = 5;
 
-const MISPLACED: u32 = 6;
+pub(crate) const MISPLACED: u32 = 6;
 
 pub(crate) const BAD_ARGUMENT: u32 = 7;
 
@@ -85,7 +85,7 @@ pub(crate) fn code_of(denial: Denial) -> u32
 }
 
 /// The rule that is broken; 0 for any other denial.
-fn rule_in(denial: Denial) -> u32
+pub(crate) fn rule_in(denial: Denial) -> u32
     ensures { result ≡ rule_in denial }
 {
     match denial {

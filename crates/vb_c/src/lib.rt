@@ -5,6 +5,10 @@
 mod answers;
 mod chains;
 mod marks;
+mod notice;
+mod places;
 mod registers;
 mod saving;
+mod serving;
 mod sharing;
+mod showing;

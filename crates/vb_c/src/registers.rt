@@ -13,7 +13,7 @@ use vb_core::{Denial, Device, Kind, Settings, StatusDenial};
 use vb_status::Features;
 
 /// The code of an answer that has nothing but a denial.
-fn code_in(answer: Result<(), Denial>) -> u32
+pub(crate) fn code_in(answer: Result<(), Denial>) -> u32
     ensures { result ≡ code_in answer }
 {
     match answer {
@@ -23,7 +23,7 @@ fn code_in(answer: Result<(), Denial>) -> u32
 }
 
 /// The number of the rule that a write breaks; 0 where none is.
-fn number_in(answer: Result<(), StatusDenial>) -> u32
+pub(crate) fn number_in(answer: Result<(), StatusDenial>) -> u32
     ensures { result ≡ number_in answer }
 {
     match answer {

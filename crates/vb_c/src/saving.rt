@@ -11,7 +11,7 @@ use vb_core::{Device, Saved, StateDenial};
 const VERSION: u32 = 0x00_0100;
 
 /// The code of a denial.
-fn code_of_state(denial: StateDenial) -> u32
+pub(crate) fn code_of_state(denial: StateDenial) -> u32
     ensures { result ≡ code_of_state denial }
 {
     match denial {

@@ -1,5 +1,6 @@
 pub mod RegionLemmas
 pub mod PartLemmas
+pub mod BufferLemmas
 pub mod NextLemmas
 pub mod GoesLemmas
 pub mod GivenLemmas
@@ -7,3 +8,4 @@ pub mod RowLemmas
 pub mod TouchLemmas
 mod RegionFacts
 mod NoticeFacts
+pub mod PlaceLemmas

@@ -14,7 +14,7 @@ use Rattle.vb_monitor.specs.Pieces.{PartBy, fits_behind, CopiesParts}
 use Rattle.vb_monitor.specs.Chains.{DescriptorAt, Follows}
 use Rattle.vb_monitor.specs.Notices.{Takes, TakesNext, TakesUnlessSpent, AfterGiven, Looks, LooksBy, with_chains}
 use Rattle.vb_monitor.specs.Machine.{next_chain}
-use Rattle.vb_monitor.proofs.PartLemmas.{second_here, second_none, behind_end}
+use Rattle.vb_monitor.proofs.BufferLemmas.{second_in, no_second_in, behind_in}
 
 -- the budget, one chain less
 takes_by : (m : ℕ) (w : Whole) (d : Device) (t : Tally) (log : List Access) (spent : Bool) →
@@ -82,6 +82,6 @@ pub ruleset follow_steps = (follows_next, follows_none)
 
 pub ruleset copy_steps = (copies_none, copies_more)
 
-pub ruleset second_steps = (second_here, second_none, copies_more)
+pub ruleset second_steps = (second_in, no_second_in, copies_more)
 
-pub ruleset end_steps = (behind_end, copies_none)
+pub ruleset end_steps = (behind_in, copies_none)

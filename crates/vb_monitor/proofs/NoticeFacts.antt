@@ -91,7 +91,7 @@ waiting = record {
     needs_must_tell = 0;
     skips_bad_pages = 0;
   });
-  held = Some 3;
+  held = 4;
 }
 
 held_back : may_look Statistics waiting ≡ false
@@ -100,10 +100,10 @@ held_back = refl
 others_look : may_look Inflate waiting ≡ true
 others_look = refl
 
-forgotten : (after_status 0 waiting).held ≡ None
+forgotten : (after_status 0 waiting).held ≡ 0
 forgotten = refl
 
-kept : (after_status 1 waiting).held ≡ Some 3
+kept : (after_status 1 waiting).held ≡ 4
 kept = refl
 
 now_ready : becomes_ready 15 (record waiting { device = record (waiting.device) { status = 11 } }) ≡ true

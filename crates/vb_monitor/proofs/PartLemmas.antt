@@ -71,5 +71,3 @@ behind_end true ps n le = part_end ps (n + 1) (omega (arith, le))
 behind_end false ps n le =
     ap (λ (l : List Piece). seconds l ++ all_parts (drop (n + 1) ps)) (drop_all n ps le)
     ∙ part_end ps (n + 1) (omega (arith, le))
-
-pub ruleset part_steps = (part_here, part_on, part_end)

@@ -9,3 +9,4 @@ pub mod Machine
 pub mod Touched
 pub mod Balloons
 pub mod Order
+pub mod Places

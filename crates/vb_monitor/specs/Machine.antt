@@ -1,11 +1,12 @@
 -- A notice step by step: which accesses may still come.
 use Rattle.std.specs.Prelude.{◌≡◌, ℕ, ◌+◌, ◌-◌, ◌≤◌, Bool, true, false, List, [], ◌∷◌, ◌++◌}
 use Rattle.std.specs.Prelude.{length, take}
-use Rattle.std.specs.Prelude.{drop, if◌then◌else◌, None}
+use Rattle.std.specs.Prelude.{drop, if◌then◌else◌, Option, Some, None}
 use Rattle.vb_chain.specs.declared.descriptor.TheConstants.{DESCRIPTOR_SIZE}
 use Rattle.vb_chain.specs.declared.pieces.Piece.{Piece}
 use Rattle.vb_core.specs.declared.kinds.Kind.{Kind}
 use Rattle.vb_core.specs.declared.runs.Run.{Run}
+use Rattle.vb_core.specs.declared.next.Buffer.{Buffer}
 use Rattle.vb_core.specs.declared.statistics.Statistic.{Statistic}
 use Rattle.vb_core.specs.declared.device.Device.{Device}
 use Rattle.vb_core.specs.Devices.{ring_of}
@@ -26,17 +27,18 @@ use Rattle.vb_monitor.specs.Accesses.{Access, Adds, ReadWord, CopyBytes, Acquire
 use Rattle.vb_monitor.specs.Accesses.{TellPages as ToldPages, TellFigures as ToldFigures}
 use Rattle.vb_monitor.specs.Accesses.{Discard}
 use Rattle.vb_monitor.specs.Regions.{cuts_from, cuts_of}
-use Rattle.vb_monitor.specs.Ends.{Whole, AsksFlags}
+use Rattle.vb_monitor.specs.Ends.{Whole, Stops, AsksFlags}
 use Rattle.vb_monitor.specs.Giving.{Then, used_accesses, with_given, WritesUsed, DiscardsThen}
 use Rattle.vb_monitor.specs.Giving.{TellsThen}
-use Rattle.vb_monitor.specs.Pieces.{second_part, unless_empty, all_parts, AsksPart, CopiesParts}
+use Rattle.vb_monitor.specs.Pieces.{pieces_in, second_part, unless_empty, all_parts, AsksPart}
+use Rattle.vb_monitor.specs.Pieces.{CopiesParts}
 use Rattle.vb_monitor.specs.Chains.{descriptors, AsksDescriptor, Follows, ServesPieces, AfterBytes}
 use Rattle.vb_monitor.specs.Chains.{TellsThenEnds}
 use Rattle.vb_monitor.specs.Notices.{AsksIndex, AsksEntry, TakesNext, Looks, AfterGiven}
 
 -- What stands in the room that a notice has.
 pub record Room : Type 0 where
-  pub pieces : List Piece
+  pub pieces : List Buffer
   pub bytes : List ℕ
   pub runs : List Run
   pub figures : List Statistic
@@ -45,7 +47,7 @@ abbrev pub whole : List Region → Kind → Device → Outcome → Whole
 whole regions kind after outcome =
     record { regions = regions; kind = kind; device = after; outcome = outcome }
 
-abbrev pub room_of : List Piece → List ℕ → List Run → List Statistic → Room
+abbrev pub room_of : List Buffer → List ℕ → List Run → List Statistic → Room
 room_of pieces bytes runs figures =
     record { pieces = pieces; bytes = bytes; runs = runs; figures = figures }
 
@@ -73,7 +75,7 @@ cuts_behind from run regions runs =
 
 -- Nothing is to be done.
 abbrev pub is_ended : Phase → Bool
-is_ended (Ended outcome) = true
+is_ended (Ended why interrupt more) = true
 is_ended (AwaitsIndex at) = false
 is_ended (AwaitsEntry at) = false
 is_ended (AwaitsDescriptor at walk) = false
@@ -83,6 +85,20 @@ is_ended (TellsFigures head count) = false
 is_ended (Discards cut x) = false
 is_ended (GivesBack spots entry) = false
 is_ended (AwaitsFlags at why more) = false
+
+-- What a notice came to, if it has ended.
+abbrev pub outcome_at : Phase → Tally → Option Outcome
+outcome_at (Ended why interrupt more) tally =
+    Some (record { tally = tally; why = why; interrupt = interrupt; more = more })
+outcome_at (AwaitsIndex at) tally = None
+outcome_at (AwaitsEntry at) tally = None
+outcome_at (AwaitsDescriptor at walk) tally = None
+outcome_at (AwaitsPart at place) tally = None
+outcome_at (TellsPages head named) tally = None
+outcome_at (TellsFigures head count) tally = None
+outcome_at (Discards cut x) tally = None
+outcome_at (GivesBack spots entry) tally = None
+outcome_at (AwaitsFlags at why more) tally = None
 
 -- The bytes that are to be copied have room.
 abbrev pub Fits : Phase → Type 0
@@ -95,7 +111,7 @@ Fits (TellsFigures head count) = Unit {0}
 Fits (Discards cut x) = Unit {0}
 Fits (GivesBack spots entry) = Unit {0}
 Fits (AwaitsFlags at why more) = Unit {0}
-Fits (Ended outcome) = Unit {0}
+Fits (Ended why interrupt more) = Unit {0}
 
 -- ---- what may still come
 
@@ -110,12 +126,6 @@ serves w tally d head pieces log =
 abbrev pub served : Whole → Tally → Device → ℕ → List ℕ → List Access → Type 0
 served w tally d head bytes log = AfterBytes w.kind w (next_chain w tally) d tally head bytes log
 
--- Nothing is to come.
-pub record IsOver (w : Whole) (outcome : Outcome) (d : Device) (log : List Access) : Type 0 where
-  pub nothing : log ≡ []
-  pub device : w.device ≡ d
-  pub is : w.outcome ≡ outcome
-
 -- These accesses may come, where this is to be done next.
 abbrev pub AheadAt : Phase → Whole → Tally → Device → Room → List Access → Type 0
 AheadAt (AwaitsIndex at) w tally d room log =
@@ -125,10 +135,11 @@ AheadAt (AwaitsDescriptor at walk) w tally d room log =
     AsksDescriptor w d tally
     (Follows (descriptors (ring_of w.kind d) - (walk.count + 1)) w d tally
     (serves w tally d walk.head)) (serves w tally d walk.head) walk.writing
-    (take walk.count room.pieces) at log
+    (pieces_in (take walk.count room.pieces)) at log
 AheadAt (AwaitsPart at place) w tally d room log =
     AsksPart (CopiesParts w (served w tally d place.head) d tally
-    (behind_part place.is_second place.piece (take place.count room.pieces))) place.length
+    (behind_part place.is_second place.piece (pieces_in (take place.count room.pieces))))
+    place.length
     (take place.into room.bytes) at log
 AheadAt (TellsPages head named) w tally d room log =
     TellsThen w (next_chain w tally) d tally head (take named.runs room.runs) log
@@ -140,7 +151,7 @@ AheadAt (Discards cut x) w tally d room log =
 AheadAt (GivesBack spots entry) w tally d room log =
     WritesUsed (next_chain w tally d (with_given tally)) spots entry log
 AheadAt (AwaitsFlags at why more) w tally d room log = AsksFlags w d tally why more at log
-AheadAt (Ended outcome) w tally d room log = IsOver w outcome d log
+AheadAt (Ended why interrupt more) w tally d room log = Stops w d tally why interrupt more log
 
 abbrev pub Ahead : Whole → Step → Device → Room → List Access → Type 0
 Ahead w step d room log = AheadAt step.phase w step.tally d room log
@@ -171,7 +182,7 @@ Does (Discards cut x) kind answer before room done = done ≡ Discard cut ∷ []
 Does (GivesBack spots entry) kind answer before room done = done ≡ used_accesses spots entry
 Does (AwaitsFlags at why more) kind answer before room done =
     done ≡ Full ∷ ReadWord at answer ∷ []
-Does (Ended outcome) kind answer before room done = done ≡ []
+Does (Ended why interrupt more) kind answer before room done = done ≡ []
 
 -- To a log, accesses were added; whatever may still come behind them, the whole may come where this
 -- was to be done before.

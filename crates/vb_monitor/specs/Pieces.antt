@@ -1,11 +1,12 @@
 -- The bytes of a chain's pieces, each copied once, in the chain's order.
 use Rattle.std.specs.Prelude.{◌≡◌, ℕ, ◌+◌, ◌-◌, ◌%◌, ◌==◌, Bool, true, false, nat_le, min, List, []}
-use Rattle.std.specs.Prelude.{◌∷◌, ◌++◌, length}
+use Rattle.std.specs.Prelude.{◌∷◌, ◌++◌, length, map, not}
 use Rattle.std.specs.Prelude.{if◌then◌else◌, Option, Some, None}
 use Rattle.std.specs.List.{flat_map}
 use Rattle.vb_model.specs.Limits.{page_size}
 use Rattle.vb_chain.specs.declared.pieces.Piece.{Piece}
 use Rattle.vb_chain.specs.declared.fault.ChainFault.TheVariants.{OutOfRam, BadLength}
+use Rattle.vb_core.specs.declared.next.Buffer.{Buffer}
 use Rattle.vb_core.specs.declared.device.Device.{Device}
 use Rattle.vb_monitor.specs.declared.room.TheConstants.{MAX_BYTES}
 use Rattle.vb_monitor.specs.declared.parts.Part.{Part}
@@ -14,6 +15,13 @@ use Rattle.vb_monitor.specs.declared.outcome.Tally.{Tally}
 use Rattle.vb_monitor.specs.Accesses.{Access, CopyBytes}
 use Rattle.vb_monitor.specs.Regions.{spot}
 use Rattle.vb_monitor.specs.Ends.{Whole, Breaks}
+
+-- The piece that a buffer says.
+abbrev pub piece_in : Buffer → Piece
+piece_in b = record { addr = b.address; len = b.length; writable = not (b.writable == 0) }
+
+unfoldable pub pieces_in : List Buffer → List Piece
+pieces_in buffers = map piece_in buffers
 
 -- A piece's bytes up to the end of the page in which it begins, and those behind it.
 abbrev pub first_part : Piece → Part

@@ -1,31 +1,24 @@
 //! The copies of a chain's pieces, part by part.
 
 ghost use Rattle.std.specs.Prelude.{◌≡◌, ◌+◌, ◌<◌, ◌≤◌, ℕ, false, List, length, take, drop};
-ghost use Rattle.vb_chain.specs.declared.pieces.Piece.{Piece};
 ghost use Rattle.vb_core.specs.declared.runs.Run.{Run};
 ghost use Rattle.vb_core.specs.declared.statistics.Statistic.{Statistic};
 ghost use Rattle.vb_core.specs.declared.device.Device.{Device};
 ghost use Rattle.vb_monitor.specs.declared.outcome.Outcome.{Outcome};
 ghost use Rattle.vb_monitor.specs.Accesses.{Access};
 ghost use Rattle.vb_monitor.specs.declared.room.TheConstants.{MAX_BYTES};
-ghost use Rattle.vb_monitor.specs.Pieces.{PartBy, fits_behind, CopiesParts, all_parts};
+ghost use Rattle.vb_monitor.specs.Pieces.{pieces_in, PartBy, fits_behind, CopiesParts, all_parts};
 ghost use Rattle.vb_monitor.specs.Machine.{Fits, Room, Ahead, whole, room_of, served, behind_part};
 
 use crate::ends::fail;
 use crate::naming::serve_bytes;
 use crate::parts::{NextPart, next_part, second_part};
+use crate::pieces::first_pieces;
 use crate::regions::find_from;
 use crate::room::{MAX_BYTES, MAX_FIGURES, MAX_PIECES, MAX_RUNS};
 use crate::{Part, Phase, Place, Region, Step, Tally};
-use vb_chain::{ChainFault, Piece};
-use vb_core::{Device, Kind, Run, Statistic};
-
-/// The first pieces, so many.
-pub(crate) fn first_pieces(pieces: &[Piece; MAX_PIECES], count: u16) -> &[Piece]
-    ensures { result.now ≡ take count pieces.now }
-{
-    &pieces[..usize::from(count).min(MAX_PIECES)]
-}
+use vb_chain::ChainFault;
+use vb_core::{Buffer, Device, Kind, Run, Statistic};
 
 /// Asks for a part of a piece.
 fn ask_part(
@@ -42,7 +35,8 @@ fn ask_part(
         PartBy (fits_behind (take place.into room.bytes) part)
         (whole regions.now kind after outcome) (CopiesParts (whole regions.now kind after outcome)
         (served (whole regions.now kind after outcome) tally device.old place.head) device.old tally
-        (behind_part place.is_second place.piece (take place.count room.pieces))) device.old tally
+        (behind_part place.is_second place.piece (pieces_in (take place.count room.pieces))))
+        device.old tally
         part (take place.into room.bytes) log }
     ensures fits { Fits result.phase }
 {
@@ -86,7 +80,7 @@ pub(crate) fn copy_on(
     kind: Kind,
     tally: Tally,
     place: Place,
-    pieces: &[Piece; MAX_PIECES],
+    pieces: &[Buffer; MAX_PIECES],
     bytes: &[u8; MAX_BYTES],
     runs: &mut [Run; MAX_RUNS],
     figures: &mut [Statistic; MAX_FIGURES],
@@ -96,7 +90,7 @@ pub(crate) fn copy_on(
         (room_of pieces.now bytes.now runs.new figures.new) log →
         CopiesParts (whole regions.now kind after outcome)
         (served (whole regions.now kind after outcome) tally device.old place.head) device.old tally
-        (all_parts (drop place.piece (take place.count pieces.now)))
+        (all_parts (drop place.piece (pieces_in (take place.count pieces.now))))
         (take place.into bytes.now) log }
     ensures fits { Fits result.phase }
 {
@@ -126,7 +120,7 @@ fn copy_second(
     kind: Kind,
     tally: Tally,
     place: Place,
-    pieces: &[Piece; MAX_PIECES],
+    pieces: &[Buffer; MAX_PIECES],
     bytes: &[u8; MAX_BYTES],
     runs: &mut [Run; MAX_RUNS],
     figures: &mut [Statistic; MAX_FIGURES],
@@ -137,7 +131,7 @@ fn copy_second(
         (room_of pieces.now bytes.now runs.new figures.new) log →
         CopiesParts (whole regions.now kind after outcome)
         (served (whole regions.now kind after outcome) tally device.old place.head) device.old tally
-        (behind_part false place.piece (take place.count pieces.now))
+        (behind_part false place.piece (pieces_in (take place.count pieces.now)))
         (take place.into bytes.now) log }
     ensures fits { Fits result.phase }
 {
@@ -166,7 +160,7 @@ pub(crate) fn after_part(
     kind: Kind,
     tally: Tally,
     place: Place,
-    pieces: &[Piece; MAX_PIECES],
+    pieces: &[Buffer; MAX_PIECES],
     bytes: &[u8; MAX_BYTES],
     runs: &mut [Run; MAX_RUNS],
     figures: &mut [Statistic; MAX_FIGURES],
@@ -177,7 +171,7 @@ pub(crate) fn after_part(
         (room_of pieces.now bytes.now runs.new figures.new) log →
         CopiesParts (whole regions.now kind after outcome)
         (served (whole regions.now kind after outcome) tally device.old place.head) device.old tally
-        (behind_part place.is_second place.piece (take place.count pieces.now))
+        (behind_part place.is_second place.piece (pieces_in (take place.count pieces.now)))
         (take (place.into + place.length) bytes.now) log }
     ensures fits { Fits result.phase }
 {

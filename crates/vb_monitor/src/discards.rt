@@ -1,7 +1,7 @@
 //! The discards of a chain's runs, part by part.
 
 ghost use Rattle.std.specs.Prelude.{◌≡◌, ℕ, List, take, drop};
-ghost use Rattle.vb_chain.specs.declared.pieces.Piece.{Piece};
+ghost use Rattle.vb_core.specs.declared.next.Buffer.{Buffer};
 ghost use Rattle.vb_core.specs.declared.runs.Run.{Run};
 ghost use Rattle.vb_core.specs.declared.statistics.Statistic.{Statistic};
 ghost use Rattle.vb_core.specs.declared.device.Device.{Device};
@@ -32,11 +32,11 @@ fn discard_on(
     kind: Kind,
     tally: Tally,
     head: u16,
-    count: usize,
+    count: u32,
     from: usize,
     runs: &[Run; MAX_RUNS],
 ) -> Step
-    ensures step { (after : Device) (outcome : Outcome) (pieces : List Piece) (bytes : List ℕ)
+    ensures step { (after : Device) (outcome : Outcome) (pieces : List Buffer) (bytes : List ℕ)
         (figures : List Statistic) (log : List Access) →
         Ahead (whole regions.now kind after outcome) result device.new
         (room_of pieces bytes runs.now figures) log →
@@ -45,7 +45,7 @@ fn discard_on(
         (cuts_of regions.now (drop from (take count runs.now))) log }
     ensures fits { Fits result.phase }
 {
-    match first_cut(regions, first_runs(runs, count), from) {
+    match first_cut(regions, first_runs(runs, count as usize), from) {
         None => give_back(device, regions, kind, tally, head),
         Some(found) => {
             let discarding = Discarding {
@@ -75,7 +75,7 @@ pub(crate) fn after_told(
     count: u32,
     runs: &[Run; MAX_RUNS],
 ) -> Step
-    ensures step { (after : Device) (outcome : Outcome) (pieces : List Piece) (bytes : List ℕ)
+    ensures step { (after : Device) (outcome : Outcome) (pieces : List Buffer) (bytes : List ℕ)
         (figures : List Statistic) (log : List Access) →
         Ahead (whole regions.now kind after outcome) result device.new
         (room_of pieces bytes runs.now figures) log →
@@ -86,7 +86,7 @@ pub(crate) fn after_told(
 {
     match kind {
         Kind::Inflate | Kind::Report => {
-            discard_on(device, regions, kind, tally, head, count as usize, 0, runs)
+            discard_on(device, regions, kind, tally, head, count, 0, runs)
         }
         Kind::Deflate | Kind::Statistics => give_back(device, regions, kind, tally, head),
     }
@@ -101,7 +101,7 @@ pub(crate) fn after_discard(
     discarding: Discarding,
     runs: &[Run; MAX_RUNS],
 ) -> Step
-    ensures step { (after : Device) (outcome : Outcome) (pieces : List Piece) (bytes : List ℕ)
+    ensures step { (after : Device) (outcome : Outcome) (pieces : List Buffer) (bytes : List ℕ)
         (figures : List Statistic) (log : List Access) →
         Ahead (whole regions.now kind after outcome) result device.new
         (room_of pieces bytes runs.now figures) log →
@@ -117,7 +117,7 @@ pub(crate) fn after_discard(
         run,
         from,
     } = discarding;
-    let named = first_runs(runs, count);
+    let named = first_runs(runs, count as usize);
     if run >= named.len() {
         return give_back(device, regions, kind, tally, head);
     }

@@ -8,7 +8,7 @@ ghost use Rattle.vb_monitor.specs.Ends.{Whole, wants_interrupt, Ends, Breaks, St
 ghost use Rattle.vb_monitor.specs.Machine.{Fits, Room, Ahead, whole};
 
 use crate::regions::find;
-use crate::{Outcome, Phase, Region, Step, Tally};
+use crate::{Phase, Region, Step, Tally};
 use vb_chain::ChainFault;
 use vb_core::{Denial, Device, Kind};
 
@@ -24,12 +24,9 @@ pub(crate) fn stop(tally: Tally, why: Option<Denial>, interrupt: bool, more: boo
     Step {
         tally,
         phase: Phase::Ended {
-            outcome: Outcome {
-                tally,
-                why,
-                interrupt,
-                more,
-            },
+            why,
+            interrupt,
+            more,
         },
     }
 }

@@ -126,6 +126,7 @@ pub(crate) fn after_index(
 }
 
 /// The entry was read.
+#[tactic(auto, using(crate::proofs::BufferLemmas::none_in))]
 pub(crate) fn after_entry(
     device: &mut Device,
     regions: &[Region],

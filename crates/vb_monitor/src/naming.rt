@@ -1,7 +1,8 @@
 //! What the pieces of a chain, and their bytes, come to.
 
-ghost use Rattle.std.specs.Prelude.{◌≡◌, ℕ, List, length, take};
-ghost use Rattle.vb_chain.specs.declared.pieces.Piece.{Piece};
+ghost use Rattle.std.specs.Prelude.{◌≡◌, ◌≤◌, ℕ, List, length, take};
+ghost use Rattle.vb_model.specs.declared.limits.TheConstants.{MAX_QUEUE_SIZE};
+ghost use Rattle.vb_core.specs.declared.next.Buffer.{Buffer};
 ghost use Rattle.vb_core.specs.declared.runs.Run.{Run};
 ghost use Rattle.vb_core.specs.declared.statistics.Statistic.{Statistic};
 ghost use Rattle.vb_core.specs.declared.device.Device.{Device};
@@ -11,16 +12,16 @@ ghost use Rattle.vb_core.specs.Statistics.{statistics_denial};
 ghost use Rattle.vb_monitor.specs.declared.room.TheConstants.{MAX_FIGURES};
 ghost use Rattle.vb_monitor.specs.declared.step.Phase.TheVariants.{TellsPages};
 ghost use Rattle.vb_monitor.specs.Giving.{spent};
+ghost use Rattle.vb_monitor.specs.Pieces.{pieces_in};
 ghost use Rattle.vb_monitor.specs.Chains.{NamesBytes, NamesReport, FiguresBy, CopiesBy};
 ghost use Rattle.vb_monitor.specs.Machine.{Fits, Ahead, whole, room_of, next_chain, serves, served};
 
-use crate::copying::{copy_on, first_pieces};
+use crate::copying::copy_on;
 use crate::ends::{end, fail};
+use crate::pieces::{first_pieces, report_named, request_length, statistics_length};
 use crate::room::{MAX_BYTES, MAX_FIGURES, MAX_PIECES, MAX_RUNS};
 use crate::{Phase, Place, Region, Step, Tally};
-use vb_chain::Piece;
-use vb_core::{Device, Kind, Named, Run, Statistic};
-use vb_request::{request_length, statistics_length};
+use vb_core::{Buffer, Device, Kind, Named, Run, Statistic};
 
 /// Tells the pages that were named.
 fn tell_pages(tally: Tally, head: u16, named: Named) -> Step
@@ -47,7 +48,7 @@ fn name_bytes(
     bytes: &[u8],
     runs: &mut [Run; MAX_RUNS],
 ) -> Step
-    ensures step { (after : Device) (outcome : Outcome) (pieces : List Piece) (all : List ℕ)
+    ensures step { (after : Device) (outcome : Outcome) (pieces : List Buffer) (all : List ℕ)
         (figures : List Statistic) (log : List Access) →
         Ahead (whole regions.now kind after outcome) result device.new
         (room_of pieces all runs.new figures) log →
@@ -69,19 +70,20 @@ fn name_report(
     kind: Kind,
     tally: Tally,
     head: u16,
-    chain: &[Piece],
+    chain: &[Buffer],
     runs: &mut [Run; MAX_RUNS],
 ) -> Step
-    ensures step { (after : Device) (outcome : Outcome) (pieces : List Piece) (all : List ℕ)
+    requires { length chain.now ≤ MAX_QUEUE_SIZE }
+    ensures step { (after : Device) (outcome : Outcome) (pieces : List Buffer) (all : List ℕ)
         (figures : List Statistic) (log : List Access) →
         Ahead (whole regions.now kind after outcome) result device.new
         (room_of pieces all runs.new figures) log →
         NamesReport (whole regions.now kind after outcome)
         (next_chain (whole regions.now kind after outcome) tally)
-        device.old tally head chain.now log }
+        device.old tally head (pieces_in chain.now) log }
     ensures fits { Fits result.phase }
 {
-    match device.name_report(chain, runs) {
+    match report_named(device, chain, runs) {
         Err(why) => end(device, regions, kind, tally, Some(why), false),
         Ok(named) => tell_pages(tally, head, named),
     }
@@ -97,7 +99,7 @@ fn keep_figures(
     bytes: &[u8],
     figures: &mut [Statistic; MAX_FIGURES],
 ) -> Step
-    ensures step { (after : Device) (outcome : Outcome) (pieces : List Piece) (all : List ℕ)
+    ensures step { (after : Device) (outcome : Outcome) (pieces : List Buffer) (all : List ℕ)
         (runs : List Run) (log : List Access) →
         Ahead (whole regions.now kind after outcome) result device.new
         (room_of pieces all runs figures.new) log →
@@ -128,7 +130,7 @@ pub(crate) fn serve_bytes(
     runs: &mut [Run; MAX_RUNS],
     figures: &mut [Statistic; MAX_FIGURES],
 ) -> Step
-    ensures step { (after : Device) (outcome : Outcome) (pieces : List Piece) (all : List ℕ)
+    ensures step { (after : Device) (outcome : Outcome) (pieces : List Buffer) (all : List ℕ)
         (log : List Access) →
         Ahead (whole regions.now kind after outcome) result device.new
         (room_of pieces all runs.new figures.new) log →
@@ -151,7 +153,7 @@ pub(crate) fn serve_pieces(
     tally: Tally,
     head: u16,
     count: u16,
-    pieces: &[Piece; MAX_PIECES],
+    pieces: &[Buffer; MAX_PIECES],
     bytes: &[u8; MAX_BYTES],
     runs: &mut [Run; MAX_RUNS],
     figures: &mut [Statistic; MAX_FIGURES],
@@ -160,7 +162,7 @@ pub(crate) fn serve_pieces(
         Ahead (whole regions.now kind after outcome) result device.new
         (room_of pieces.now bytes.now runs.new figures.new) log →
         serves (whole regions.now kind after outcome) tally device.old head
-        (take count pieces.now) log }
+        (pieces_in (take count pieces.now)) log }
     ensures fits { Fits result.phase }
 {
     let chain = first_pieces(pieces, count);

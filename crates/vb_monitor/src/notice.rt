@@ -1,7 +1,6 @@
 //! A notice as plain data, for a caller that makes the accesses itself.
 
 ghost use Rattle.std.specs.Prelude.{◌≡◌, ◌++◌, ℕ, List};
-ghost use Rattle.vb_chain.specs.declared.pieces.Piece.{Piece};
 ghost use Rattle.vb_core.specs.declared.kinds.Kind.TheVariants.{Statistics};
 ghost use Rattle.vb_core.specs.declared.runs.Run.{Run};
 ghost use Rattle.vb_core.specs.declared.statistics.Statistic.{Statistic};
@@ -10,7 +9,7 @@ ghost use Rattle.vb_monitor.specs.declared.outcome.Outcome.{Outcome};
 ghost use Rattle.vb_monitor.specs.Accesses.{Access};
 ghost use Rattle.vb_monitor.specs.Notices.{Serves, Asks};
 ghost use Rattle.vb_monitor.specs.Machine.{Fits, is_ended, Room, Ahead, AheadAt, Does, whole};
-ghost use Rattle.vb_monitor.specs.Machine.{room_of};
+ghost use Rattle.vb_monitor.specs.Machine.{room_of, outcome_at};
 
 use crate::copying::after_part;
 use crate::discards::{after_discard, after_told};
@@ -19,9 +18,8 @@ use crate::giving::give_back;
 use crate::looks::{after_entry, after_given, after_index, look};
 use crate::room::{MAX_BYTES, MAX_FIGURES, MAX_PIECES, MAX_RUNS};
 use crate::walk::after_descriptor;
-use crate::{Budget, Phase, Region, Step, Tally};
-use vb_chain::Piece;
-use vb_core::{Device, Kind, Run, Statistic};
+use crate::{Budget, Outcome, Phase, Region, Step, Tally};
+use vb_core::{Buffer, Device, Kind, Run, Statistic};
 
 /// A notice: whose queue it is of, and what is to be done next.
 #[derive(Clone, Copy, Debug)]
@@ -38,7 +36,7 @@ fn advance(
     regions: &[Region],
     kind: Kind,
     answer: u16,
-    pieces: &mut [Piece; MAX_PIECES],
+    pieces: &mut [Buffer; MAX_PIECES],
     bytes: &[u8; MAX_BYTES],
     runs: &mut [Run; MAX_RUNS],
     figures: &mut [Statistic; MAX_FIGURES],
@@ -131,7 +129,7 @@ impl Notice {
         device: &mut Device,
         regions: &[Region],
         answer: u16,
-        pieces: &mut [Piece; MAX_PIECES],
+        pieces: &mut [Buffer; MAX_PIECES],
         bytes: &[u8; MAX_BYTES],
         runs: &mut [Run; MAX_RUNS],
         figures: &mut [Statistic; MAX_FIGURES],
@@ -153,6 +151,26 @@ impl Notice {
         self.step = advance(
             phase, tally, device, regions, kind, answer, pieces, bytes, runs, figures,
         );
+    }
+
+    /// What the notice came to, if it has ended.
+    pub fn outcome(&self) -> Option<Outcome>
+        ensures { result ≡ outcome_at self.now.step.phase self.now.step.tally }
+    {
+        let Step { tally, phase } = self.step;
+        match phase {
+            Phase::Ended {
+                why,
+                interrupt,
+                more,
+            } => Some(Outcome {
+                tally,
+                why,
+                interrupt,
+                more,
+            }),
+            _ => None,
+        }
     }
 
     /// Whether nothing more is to be done.

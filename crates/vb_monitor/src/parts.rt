@@ -1,11 +1,11 @@
 //! The parts of a chain's pieces, each within one page.
 
 ghost use Rattle.std.specs.Prelude.{◌≡◌, ◌∷◌, [], false, drop, MatchOption};
-ghost use Rattle.vb_monitor.specs.Pieces.{first_part, second_part, all_parts};
+ghost use Rattle.vb_monitor.specs.Pieces.{piece_in, pieces_in, first_part, second_part, all_parts};
 ghost use Rattle.vb_monitor.specs.Machine.{behind_part};
 
 use crate::regions::PAGE_BYTES;
-use vb_chain::Piece;
+use vb_core::Buffer;
 
 /// Bytes of a piece, all in one page.
 #[derive(Clone, Copy, Debug)]
@@ -19,26 +19,26 @@ pub struct Part {
 }
 
 /// A piece's bytes up to the end of the page in which it begins.
-pub(crate) fn first_part(piece: &Piece) -> Part
-    ensures { result ≡ first_part piece.now }
+pub(crate) fn first_part(piece: &Buffer) -> Part
+    ensures { result ≡ first_part (piece_in piece.now) }
 {
-    let room = (PAGE_BYTES - piece.addr % PAGE_BYTES) as u32;
+    let room = (PAGE_BYTES - piece.address % PAGE_BYTES) as u32;
     Part {
-        address: piece.addr,
+        address: piece.address,
         plus: 0,
-        length: piece.len.min(room),
+        length: piece.length.min(room),
     }
 }
 
 /// Its bytes behind that page.
-pub(crate) fn second_part(piece: &Piece) -> Part
-    ensures { result ≡ second_part piece.now }
+pub(crate) fn second_part(piece: &Buffer) -> Part
+    ensures { result ≡ second_part (piece_in piece.now) }
 {
     let first = first_part(piece);
     Part {
-        address: piece.addr,
+        address: piece.address,
         plus: first.length,
-        length: piece.len - first.length,
+        length: piece.length - first.length,
     }
 }
 
@@ -52,14 +52,15 @@ pub(crate) struct NextPart {
 }
 
 /// The first part of the pieces from this number on.
-#[tactic(auto, using(crate::proofs::PartLemmas::part_steps))]
-pub(crate) fn next_part(pieces: &[Piece], from: usize) -> Option<NextPart>
-    ensures { MatchOption result (all_parts (drop from pieces.now) ≡ [])
-        (λ x. all_parts (drop from pieces.now) ≡ x.part ∷ behind_part false x.piece pieces.now) }
+#[tactic(auto, using(crate::proofs::BufferLemmas::part_steps))]
+pub(crate) fn next_part(pieces: &[Buffer], from: usize) -> Option<NextPart>
+    ensures { MatchOption result (all_parts (drop from (pieces_in pieces.now)) ≡ [])
+        (λ x. all_parts (drop from (pieces_in pieces.now)) ≡
+        x.part ∷ behind_part false x.piece (pieces_in pieces.now)) }
 {
     for number in from..pieces.len() {
         let piece = &pieces[number];
-        if piece.len > 0 {
+        if piece.length > 0 {
             return Some(NextPart {
                 piece: number,
                 part: first_part(piece),

@@ -1,9 +1,8 @@
 //! A notice over a running guest's memory.
 
-ghost use Rattle.std.specs.Prelude.{◌≡◌, ◌+◌, ◌≤◌, ◌++◌, List, false, IfSome, MatchOption};
-ghost use Rattle.vb_chain.specs.declared.pieces.Piece.{Piece};
+ghost use Rattle.std.specs.Prelude.{◌≡◌, ◌+◌, ◌≤◌, ◌++◌, List, IfSome};
+ghost use Rattle.vb_core.specs.declared.next.Buffer.{Buffer};
 ghost use Rattle.vb_monitor.specs.declared.room.TheConstants.{MAX_BYTES};
-ghost use Rattle.vb_monitor.specs.declared.step.Phase.TheVariants.{Ended};
 ghost use Rattle.vb_monitor.specs.Accesses.{Adds};
 ghost use Rattle.vb_monitor.specs.Notices.{Serves};
 ghost use Rattle.vb_monitor.specs.Giving.{used_accesses};
@@ -13,8 +12,8 @@ ghost use Rattle.vb_monitor.specs.Machine.{room_of};
 use crate::discards::first_runs;
 use crate::room::{MAX_BYTES, MAX_FIGURES, MAX_PIECES, MAX_RUNS};
 use crate::{Budget, LiveMemory, Notice, Outcome, Phase, Region, Spot, UsedSpots};
-use vb_chain::{DESCRIPTOR_SIZE, Piece};
-use vb_core::{Device, Kind, Run, Statistic, UsedEntry};
+use vb_chain::DESCRIPTOR_SIZE;
+use vb_core::{Buffer, Device, Kind, Run, Statistic, UsedEntry};
 
 /// Copies so many bytes behind the first ones, so many.
 fn copy_bytes<M: LiveMemory>(
@@ -51,7 +50,7 @@ pub(crate) fn perform<M: LiveMemory>(
     figures: &[Statistic; MAX_FIGURES],
 ) -> u16
     requires { Fits phase }
-    ensures { (pieces : List Piece) → Adds (M.log memory.old) (M.log memory.new)
+    ensures { (pieces : List Buffer) → Adds (M.log memory.old) (M.log memory.new)
         (Does phase kind result bytes.old (room_of pieces bytes.new runs.now figures.now)) }
 {
     match phase {
@@ -99,7 +98,7 @@ impl Notice {
         memory: &mut M,
         device: &mut Device,
         regions: &[Region],
-        pieces: &mut [Piece; MAX_PIECES],
+        pieces: &mut [Buffer; MAX_PIECES],
         bytes: &mut [u8; MAX_BYTES],
         runs: &mut [Run; MAX_RUNS],
         figures: &mut [Statistic; MAX_FIGURES],
@@ -125,7 +124,7 @@ impl Notice {
         memory: &mut M,
         device: &mut Device,
         regions: &[Region],
-        pieces: &mut [Piece; MAX_PIECES],
+        pieces: &mut [Buffer; MAX_PIECES],
         bytes: &mut [u8; MAX_BYTES],
         runs: &mut [Run; MAX_RUNS],
         figures: &mut [Statistic; MAX_FIGURES],
@@ -148,17 +147,6 @@ impl Notice {
         }
         self.is_ended()
     }
-
-    /// What the notice came to, if it has ended.
-    pub fn outcome(&self) -> Option<Outcome>
-        ensures { MatchOption result (is_ended self.now.step.phase ≡ false)
-            (λ outcome. self.now.step.phase ≡ Ended outcome) }
-    {
-        match self.step.phase {
-            Phase::Ended { outcome } => Some(outcome),
-            _ => None,
-        }
-    }
 }
 
 /// Serves the queue of a kind, as far as the budget has room; none where it hasn't ended after so
@@ -169,7 +157,7 @@ pub fn serve<M: LiveMemory>(
     regions: &[Region],
     kind: Kind,
     budget: Budget,
-    pieces: &mut [Piece; MAX_PIECES],
+    pieces: &mut [Buffer; MAX_PIECES],
     bytes: &mut [u8; MAX_BYTES],
     runs: &mut [Run; MAX_RUNS],
     figures: &mut [Statistic; MAX_FIGURES],

@@ -1,6 +1,6 @@
 //! What is to be done next, and what a notice remembers until it was done.
 
-use crate::{Cut, Outcome, Spot, Tally, UsedSpots};
+use crate::{Cut, Spot, Tally, UsedSpots};
 use vb_core::{Denial, Named, UsedEntry};
 
 /// How far the walk along a chain is.
@@ -37,7 +37,7 @@ pub struct Discarding {
     /// The number of the chain's first descriptor.
     pub head: u16,
     /// How many runs it names.
-    pub runs: usize,
+    pub runs: u32,
     /// The number of the run that is discarded.
     pub run: usize,
     /// The number of the region behind the one in which it is.
@@ -91,9 +91,11 @@ pub enum Phase {
         why: Option<Denial>,
         more: bool,
     },
-    /// Nothing: this is the outcome.
+    /// Nothing: the outcome is this, with the tally.
     Ended {
-        outcome: Outcome,
+        why: Option<Denial>,
+        interrupt: bool,
+        more: bool,
     },
 }
 

@@ -7,8 +7,7 @@ use crate::{Budget, Cut, Outcome, Region, Spot, serve};
 use scribbled::{Entry, Scribbled};
 use std::alloc::Global;
 use std::process::Abort;
-use vb_chain::Piece;
-use vb_core::{Device, Kind, Ring, Run, Settings, Statistic};
+use vb_core::{Buffer, Device, Kind, Ring, Run, Settings, Statistic};
 
 /// A guest of 32 pages.
 const SETTINGS: Settings = Settings {
@@ -43,10 +42,10 @@ const RING: Ring = Ring {
     next_used: 0,
 };
 
-const NO_PIECE: Piece = Piece {
-    addr: 0,
-    len: 0,
-    writable: false,
+const NO_PIECE: Buffer = Buffer {
+    address: 0,
+    length: 0,
+    writable: 0,
 };
 
 const NO_FIGURE: Statistic = Statistic { tag: 0, value: 0 };

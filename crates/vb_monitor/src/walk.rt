@@ -2,25 +2,27 @@
 
 ghost use Rattle.std.specs.Prelude.{◌≡◌, ◌+◌, ◌-◌, ◌*◌, ◌≤◌, ◌<◌, List, None, length, take};
 ghost use Rattle.vb_chain.specs.declared.descriptor.TheConstants.{DESCRIPTOR_SIZE};
-ghost use Rattle.vb_chain.specs.Rules.{piece_of, has_next};
+ghost use Rattle.vb_chain.specs.Rules.{has_next};
 ghost use Rattle.vb_core.specs.declared.device.Device.{Device};
 ghost use Rattle.vb_core.specs.Devices.{ring_of};
 ghost use Rattle.vb_monitor.specs.declared.outcome.Outcome.{Outcome};
 ghost use Rattle.vb_monitor.specs.Accesses.{Access};
 ghost use Rattle.vb_monitor.specs.Chains.{descriptor_of, descriptors, memory_end, AfterDescriptor};
 ghost use Rattle.vb_monitor.specs.Chains.{DescriptorAt, Follows, GoesOn, table_fault};
+ghost use Rattle.vb_monitor.specs.Pieces.{pieces_in};
 ghost use Rattle.vb_monitor.specs.Regions.{spot};
 ghost use Rattle.vb_monitor.specs.Machine.{Fits, Room, Ahead, whole, room_of, serves};
 
-use crate::copying::{first_bytes, first_pieces};
+use crate::copying::first_bytes;
 use crate::ends::fail;
 use crate::naming::serve_pieces;
+use crate::pieces::{first_pieces, push_piece};
 use crate::regions::{PAGE_BYTES, find_from};
 use crate::room::{MAX_BYTES, MAX_FIGURES, MAX_PIECES, MAX_RUNS};
 use crate::{Phase, Region, Step, Tally, Walk};
 use byteorder::{ByteOrder, LittleEndian};
-use vb_chain::{ChainFault, DESCRIPTOR_SIZE, Descriptor, Piece, descriptor_fault};
-use vb_core::{Device, Kind, Ring, Run, Statistic};
+use vb_chain::{ChainFault, DESCRIPTOR_SIZE, Descriptor, descriptor_fault};
+use vb_core::{Buffer, Device, Kind, Ring, Run, Statistic};
 use vb_model::limits::MAX_QUEUE_SIZE;
 
 /// How many descriptors a ring has: never more than a queue may have.
@@ -50,17 +52,6 @@ fn descriptor_of(bytes: &[u8]) -> Descriptor
     }
 }
 
-/// What a descriptor says of its buffer.
-fn piece_of(descriptor: &Descriptor) -> Piece
-    ensures { result ≡ piece_of descriptor.now }
-{
-    Piece {
-        addr: descriptor.addr,
-        len: descriptor.len,
-        writable: descriptor.is_writable(),
-    }
-}
-
 /// Asks for the descriptor of this number.
 fn ask_descriptor(
     device: &mut Device,
@@ -77,7 +68,7 @@ fn ask_descriptor(
         (whole regions.now kind after outcome) device.old tally
         (serves (whole regions.now kind after outcome) tally device.old walk.head))
         (serves (whole regions.now kind after outcome) tally device.old walk.head) walk.writing
-        (take walk.count room.pieces)
+        (pieces_in (take walk.count room.pieces))
         (spot regions.now ((ring_of kind device.old).table + 16 * number) 16) log }
     ensures fits { Fits result.phase }
 {
@@ -106,7 +97,7 @@ pub(crate) fn follow(
         Follows (descriptors (ring_of kind device.old) - walk.count)
         (whole regions.now kind after outcome) device.old tally
         (serves (whole regions.now kind after outcome) tally device.old walk.head) number
-        walk.writing (take walk.count room.pieces) log }
+        walk.writing (pieces_in (take walk.count room.pieces)) log }
     ensures fits { Fits result.phase }
 {
     if walk.count >= descriptors(&device.ring(kind)) {
@@ -142,7 +133,7 @@ fn join_descriptor(
     tally: Tally,
     walk: Walk,
     descriptor: &Descriptor,
-    pieces: &mut [Piece; MAX_PIECES],
+    pieces: &mut [Buffer; MAX_PIECES],
     bytes: &[u8; MAX_BYTES],
     runs: &mut [Run; MAX_RUNS],
     figures: &mut [Statistic; MAX_FIGURES],
@@ -156,11 +147,11 @@ fn join_descriptor(
         (whole regions.now kind after outcome) device.old tally
         (serves (whole regions.now kind after outcome) tally device.old walk.head))
         (serves (whole regions.now kind after outcome) tally device.old walk.head) walk.writing
-        descriptor.now (take walk.count pieces.old) log }
+        descriptor.now (pieces_in (take walk.count pieces.old)) log }
     ensures fits { Fits result.phase }
 {
     let count = walk.count;
-    pieces[usize::from(count)] = piece_of(descriptor);
+    push_piece(pieces, count, descriptor);
     let walk = Walk {
         head: walk.head,
         count: count + 1,
@@ -176,13 +167,14 @@ fn join_descriptor(
 }
 
 /// The bytes of a descriptor were copied to the front of these.
+#[tactic(auto, using(crate::proofs::BufferLemmas::length_in))]
 pub(crate) fn after_descriptor(
     device: &mut Device,
     regions: &[Region],
     kind: Kind,
     tally: Tally,
     walk: Walk,
-    pieces: &mut [Piece; MAX_PIECES],
+    pieces: &mut [Buffer; MAX_PIECES],
     bytes: &[u8; MAX_BYTES],
     runs: &mut [Run; MAX_RUNS],
     figures: &mut [Statistic; MAX_FIGURES],
@@ -195,7 +187,7 @@ pub(crate) fn after_descriptor(
         (whole regions.now kind after outcome) device.old tally
         (serves (whole regions.now kind after outcome) tally device.old walk.head))
         (serves (whole regions.now kind after outcome) tally device.old walk.head) walk.writing
-        (take walk.count pieces.old) (take DESCRIPTOR_SIZE bytes.now) log }
+        (pieces_in (take walk.count pieces.old)) (take DESCRIPTOR_SIZE bytes.now) log }
     ensures fits { Fits result.phase }
 {
     let descriptor = descriptor_of(first_bytes(bytes, DESCRIPTOR_SIZE));

@@ -1,0 +1,172 @@
+-- A notice as C keeps it: which notice it is, and what else it says.
+use Rattle.std.specs.Prelude.{◌≡◌, ℕ, ◌+◌, Bool, true, false, not, ◌==◌, nat_le, List, slice_get}
+use Rattle.std.specs.Prelude.{if◌then◌else◌, Option, Some, None}
+use Rattle.vb_model.specs.Tests.{one_if}
+use Rattle.vb_core.specs.declared.kinds.Kind.{Kind}
+use Rattle.vb_core.specs.declared.name.Named.{Named}
+use Rattle.vb_core.specs.declared.ring.UsedEntry.{UsedEntry}
+use Rattle.vb_core.specs.declared.device.Denial.{Denial}
+use Rattle.vb_core.specs.declared.device.Denial.TheVariants.{NoQueue, BadArgument, NotReady}
+use Rattle.vb_core.specs.declared.device.Denial.TheVariants.{NeedsReset, Misplaced, Broken}
+use Rattle.vb_monitor.specs.declared.room.TheConstants.{MAX_BYTES}
+use Rattle.vb_monitor.specs.declared.cuts.Cut.{Cut}
+use Rattle.vb_monitor.specs.declared.giving.UsedSpots.{UsedSpots}
+use Rattle.vb_monitor.specs.declared.outcome.Tally.{Tally}
+use Rattle.vb_monitor.specs.declared.step.Walk.{Walk}
+use Rattle.vb_monitor.specs.declared.step.Place.{Place}
+use Rattle.vb_monitor.specs.declared.step.Discarding.{Discarding}
+use Rattle.vb_monitor.specs.declared.step.Phase.{Phase}
+use Rattle.vb_monitor.specs.declared.step.Phase.TheVariants.{AwaitsIndex, AwaitsEntry}
+use Rattle.vb_monitor.specs.declared.step.Phase.TheVariants.{AwaitsDescriptor, AwaitsPart}
+use Rattle.vb_monitor.specs.declared.step.Phase.TheVariants.{TellsPages, TellsFigures, Discards}
+use Rattle.vb_monitor.specs.declared.step.Phase.TheVariants.{GivesBack, AwaitsFlags, Ended}
+use Rattle.vb_monitor.specs.declared.notice.Notice.{Notice}
+use Rattle.vb_c.specs.declared.notice.VbNotice.{VbNotice}
+use Rattle.vb_c.specs.Codes.{code_of, rule_in, why_of, kind_of_code}
+
+-- ---- which notice it is
+
+-- A byte that is 0 says no.
+abbrev pub says_yes : ℕ → Bool
+says_yes n = not (n == 0)
+
+abbrev pub tally_of : VbNotice → Tally
+tally_of c = record {
+  chains = c.chains_left;
+  pages = c.pages_left;
+  given = says_yes c.given;
+  held = if c.taken == 0 then None else Some c.taken_head;
+}
+
+abbrev pub walk_of : VbNotice → Walk
+walk_of c = record { head = c.head; count = c.count; writing = says_yes c.flag }
+
+abbrev pub place_of : VbNotice → Place
+place_of c = record {
+  head = c.head;
+  count = c.count;
+  piece = c.number;
+  is_second = says_yes c.flag;
+  into = c.into;
+  length = c.length;
+}
+
+abbrev pub discarding_of : VbNotice → Discarding
+discarding_of c = record { head = c.head; runs = c.runs; run = c.number; from = c.from }
+
+abbrev pub named_of_notice : VbNotice → Named
+named_of_notice c = record { runs = c.runs; pages = c.pages; skipped = c.skipped }
+
+abbrev pub spots_of : VbNotice → UsedSpots
+spots_of c = record { id = c.id_at; length = c.length_at; index = c.index_at }
+
+abbrev pub entry_of : VbNotice → UsedEntry
+entry_of c = record {
+  element_at = c.element;
+  index_at = c.index;
+  id = c.id;
+  length = c.used_length;
+  index = c.used_index;
+}
+
+-- Bytes that have no room are copied by no notice.
+abbrev pub part_of : VbNotice → Option Phase
+part_of c =
+    if nat_le (c.into + c.length) MAX_BYTES then Some (AwaitsPart c.at (place_of c)) else None
+
+abbrev pub discards_of : VbNotice → Option Cut → Option Phase
+discards_of c None = None
+discards_of c (Some cut) = Some (Discards cut (discarding_of c))
+
+-- What is to be done, with the parts that are to be discarded; nothing is done otherwise.
+abbrev pub phase_of : VbNotice → List Cut → Option Phase
+phase_of c cuts =
+    if c.what == 0
+    then Some (Ended (why_of c.code c.rule) (says_yes c.interrupt) (says_yes c.more))
+    else if c.what == 64 then Some (AwaitsIndex c.at)
+    else if c.what == 80 then Some (AwaitsEntry c.at)
+    else if c.what == 384 then Some (AwaitsDescriptor c.at (walk_of c))
+    else if c.what == 128 then part_of c
+    else if c.what == 1 then Some (TellsPages c.head (named_of_notice c))
+    else if c.what == 2 then Some (TellsFigures c.head c.figures)
+    else if c.what == 4 then discards_of c (slice_get cuts 0)
+    else if c.what == 8 then Some (GivesBack (spots_of c) (entry_of c))
+    else if c.what == 96 then Some (AwaitsFlags c.at (why_of c.code c.rule) (says_yes c.more))
+    else None
+
+abbrev pub notice_by : Option Kind → Option Phase → Tally → Option Notice
+notice_by None phase tally = None
+notice_by (Some kind) None tally = None
+notice_by (Some kind) (Some phase) tally =
+    Some (record { kind = kind; step = record { tally = tally; phase = phase } })
+
+abbrev pub notice_of : VbNotice → List Cut → Option Notice
+notice_of c cuts = notice_by (kind_of_code c.kind) (phase_of c cuts) (tally_of c)
+
+-- ---- what else it says
+
+abbrev pub taken_code : Option ℕ → ℕ
+taken_code (Some head) = 0
+taken_code None = 1
+
+-- What a notice came to: why its last chain wasn't served; else whether one was.
+abbrev pub end_code : Option Denial → Tally → ℕ
+end_code (Some why) tally = code_of why
+end_code None tally = if tally.given then 0 else taken_code tally.held
+
+abbrev pub why_code : Option Denial → ℕ
+why_code (Some why) = code_of why
+why_code None = 0
+
+abbrev pub end_rule : Option Denial → ℕ
+end_rule (Some why) = rule_in why
+end_rule None = 0
+
+-- The driver is told of a change of configuration once a rule is broken.
+abbrev pub breaks : Option Denial → Bool
+breaks (Some (Broken fault)) = true
+breaks (Some NotReady) = false
+breaks (Some NeedsReset) = false
+breaks (Some NoQueue) = false
+breaks (Some Misplaced) = false
+breaks (Some BadArgument) = false
+breaks None = false
+
+pub record SaysEnd (c : VbNotice) (tally : Tally) (why : Option Denial) (interrupt more : Bool) :
+    Type 0 where
+  pub code : c.code ≡ end_code why tally
+  pub rule : c.rule ≡ end_rule why
+  pub interrupt_is : c.interrupt ≡ one_if interrupt
+  pub configuration : c.configuration ≡ one_if (breaks why)
+  pub more_is : c.more ≡ one_if more
+
+-- What is said beside the notice itself.
+abbrev pub Says : VbNotice → Tally → Phase → Type 0
+Says c tally (AwaitsIndex at) = Unit {0}
+Says c tally (AwaitsEntry at) = Unit {0}
+Says c tally (AwaitsDescriptor at walk) = (c.into ≡ 0) × (c.length ≡ 16)
+Says c tally (AwaitsPart at place) = Unit {0}
+Says c tally (TellsPages head named) = Unit {0}
+Says c tally (TellsFigures head count) = Unit {0}
+Says c tally (Discards cut x) = c.cuts ≡ 1
+Says c tally (GivesBack spots entry) = Unit {0}
+Says c tally (AwaitsFlags at why more) = Unit {0}
+Says c tally (Ended why interrupt more) = SaysEnd c tally why interrupt more
+
+-- Of both the same was served, of a queue of the same kind.
+abbrev pub SameTally : VbNotice → VbNotice → Type 0
+SameTally c1 c2 = (tally_of c2 ≡ tally_of c1) × (c2.kind ≡ c1.kind)
+
+-- It is this notice, and says all of it.
+pub record IsNotice (c : VbNotice) (cuts : List Cut) (n : Notice) : Type 0 where
+  pub read : notice_of c cuts ≡ Some n
+  pub says : Says c n.step.tally n.step.phase
+
+-- It has ended before anything was done, with this code.
+pub record HasEnded (c : VbNotice) (code : ℕ) : Type 0 where
+  pub what : c.what ≡ 0
+  pub code_is : c.code ≡ code
+  pub rule : c.rule ≡ 0
+  pub interrupt : c.interrupt ≡ 0
+  pub configuration : c.configuration ≡ 0
+  pub more : c.more ≡ 0

@@ -1,0 +1,93 @@
+-- What the exports for notices do: what the device over a running guest's memory does next, as
+-- plain data.
+use Rattle.std.specs.Prelude.{◌≡◌, ℕ, Bool, true, false, List, ◌++◌, Option, Some, None}
+use Rattle.vb_core.specs.declared.kinds.Kind.{Kind}
+use Rattle.vb_core.specs.declared.kinds.Kind.TheVariants.{Statistics}
+use Rattle.vb_core.specs.declared.device.Device.{Device}
+use Rattle.vb_core.specs.declared.device.Denial.TheVariants.{BadArgument, NoQueue}
+use Rattle.vb_monitor.specs.declared.regions.Region.{Region}
+use Rattle.vb_monitor.specs.declared.balloon.Balloon.{Balloon}
+use Rattle.vb_monitor.specs.declared.outcome.Budget.{Budget}
+use Rattle.vb_monitor.specs.declared.outcome.Outcome.{Outcome}
+use Rattle.vb_monitor.specs.declared.notice.Notice.{Notice}
+use Rattle.vb_monitor.specs.Accesses.{Access}
+use Rattle.vb_monitor.specs.Balloons.{may_look, held_after}
+use Rattle.vb_monitor.specs.Notices.{Serves, Asks}
+use Rattle.vb_monitor.specs.Machine.{Fits, Room, Ahead, Does, whole, room_of, outcome_at}
+use Rattle.vb_c.specs.declared.notice.VbNotice.{VbNotice}
+use Rattle.vb_c.specs.declared.notice.VbRoom.{VbRoom}
+use Rattle.vb_c.specs.Codes.{code_of}
+use Rattle.vb_c.specs.Notices.{IsNotice, HasEnded}
+
+abbrev pub held_by : Option Outcome → Kind → Balloon → ℕ
+held_by (Some outcome) kind b = held_after kind outcome b
+held_by None kind b = b.held
+
+-- The buffer that is held behind a step: what the notice came to is noted once it has ended.
+abbrev pub held_then : Notice → Balloon → ℕ
+held_then n b = held_by (outcome_at n.step.phase n.step.tally) n.kind b
+
+abbrev pub room_in : VbRoom → Room
+room_in r = room_of r.pieces r.bytes r.runs r.figures
+
+-- Nothing is done, with this code.
+pub record Refuses (code : ℕ) (b1 b2 : Balloon) (r1 r2 : VbRoom) (c : VbNotice) : Type 0 where
+  pub ended : HasEnded c code
+  pub balloon : b2 ≡ b1
+  pub room : r2 ≡ r1
+
+-- A notice begins: whatever may still come, the whole may come (`from`).
+pub record Begins (from : Device → Outcome → List Access → Type 0) (regions : List Region)
+    (kind : Kind) (b1 b2 : Balloon) (r1 r2 : VbRoom) (c : VbNotice) : Type 0 where
+  pub notice : Notice
+  pub is : IsNotice c r2.cuts notice
+  pub kind_is : notice.kind ≡ kind
+  pub step : (after : Device) (outcome : Outcome) (room : Room) (log : List Access) →
+      Ahead (whole regions kind after outcome) notice.step b2.device room log →
+      from after outcome log
+  pub fits : Fits notice.step.phase
+  pub held : b2.held ≡ held_then notice b1
+  pub room : room_in r2 ≡ room_in r1
+
+abbrev pub BeginsIf : Bool → List Region → Kind → Budget → Balloon → Balloon → VbRoom → VbRoom →
+    VbNotice → Type 0
+BeginsIf true regions kind budget b1 b2 r1 r2 c =
+    Begins (λ after outcome log. Serves regions kind budget b1.device after outcome log) regions
+    kind b1 b2 r1 r2 c
+BeginsIf false regions kind budget b1 b2 r1 r2 c = Refuses 1 b1 b2 r1 r2 c
+
+-- The queue of a kind is served; nothing is where its buffer of statistics is held.
+abbrev pub BeginsFor : Option Kind → List Region → Budget → Balloon → Balloon → VbRoom → VbRoom →
+    VbNotice → Type 0
+BeginsFor None regions budget b1 b2 r1 r2 c = Refuses (code_of NoQueue) b1 b2 r1 r2 c
+BeginsFor (Some kind) regions budget b1 b2 r1 r2 c =
+    BeginsIf (may_look kind b1) regions kind budget b1 b2 r1 r2 c
+
+-- New statistics are asked for, where a buffer is held.
+abbrev pub AsksFor : Option ℕ → List Region → Balloon → Balloon → VbRoom → VbRoom → VbNotice →
+    Type 0
+AsksFor None regions b1 b2 r1 r2 c = Refuses 1 b1 b2 r1 r2 c
+AsksFor (Some head) regions b1 b2 r1 r2 c =
+    Begins (λ after outcome log. Asks regions head b1.device after outcome log) regions Statistics
+    b1 b2 r1 r2 c
+
+-- A notice goes on with this answer: where this was done, and whatever may still come then, the
+-- whole may come.
+pub record GoesOn (n : Notice) (regions : List Region) (answer : ℕ) (b1 b2 : Balloon)
+    (r1 r2 : VbRoom) (c : VbNotice) : Type 0 where
+  pub notice : Notice
+  pub is : IsNotice c r2.cuts notice
+  pub kind_is : notice.kind ≡ n.kind
+  pub step : (after : Device) (outcome : Outcome) (before : List ℕ) (done rest : List Access) →
+      Does n.step.phase n.kind answer before (room_in r1) done →
+      Ahead (whole regions n.kind after outcome) notice.step b2.device (room_in r2) rest →
+      Ahead (whole regions n.kind after outcome) n.step b1.device
+      (room_of r1.pieces before r1.runs r1.figures) (done ++ rest)
+  pub fits : Fits notice.step.phase
+  pub held : b2.held ≡ held_then notice b1
+
+-- What is no notice goes on by nothing.
+abbrev pub GoesOnBy : Option Notice → List Region → ℕ → Balloon → Balloon → VbRoom → VbRoom →
+    VbNotice → Type 0
+GoesOnBy None regions answer b1 b2 r1 r2 c = Refuses (code_of BadArgument) b1 b2 r1 r2 c
+GoesOnBy (Some n) regions answer b1 b2 r1 r2 c = GoesOn n regions answer b1 b2 r1 r2 c

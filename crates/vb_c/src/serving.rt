@@ -1,0 +1,120 @@
+//! Notices over the memory of a running guest.
+
+ghost use Rattle.std.specs.Prelude.{◌≡◌};
+ghost use Rattle.vb_monitor.specs.Balloons.{held_head};
+ghost use Rattle.vb_monitor.specs.Machine.{Fits};
+ghost use Rattle.vb_c.specs.Codes.{kind_of_code};
+ghost use Rattle.vb_c.specs.Notices.{HasEnded, IsNotice, notice_of};
+ghost use Rattle.vb_c.specs.Serving.{held_then, BeginsFor, AsksFor, GoesOnBy};
+
+use crate::answers::{BAD_ARGUMENT, NO_QUEUE, NOTHING, kind_of_code};
+use crate::notice::{MAX_CUTS, VbNotice, VbRoom};
+use vb_monitor::{Balloon, Budget, Cut, Notice, Region};
+
+/// Hands a notice over: what it came to is noted, once it has ended.
+fn hand_over(
+    shown: &mut VbNotice,
+    balloon: &mut Balloon,
+    cuts: &mut [Cut; MAX_CUTS],
+    notice: &Notice,
+) -> u32
+    requires { Fits notice.now.step.phase }
+    ensures notice { IsNotice shown.new cuts.new notice.now }
+    ensures balloon { balloon.new ≡ record balloon.old { held = held_then notice.now balloon.old } }
+    ensures what { result ≡ shown.new.what }
+{
+    if let Some(outcome) = notice.outcome() {
+        balloon.note(notice.kind, &outcome);
+    }
+    shown.show(cuts, notice);
+    shown.what
+}
+
+/// Hands a notice over that has ended before anything was done.
+fn refuse(shown: &mut VbNotice, code: u32) -> u32
+    ensures ended { HasEnded shown.new code }
+    ensures what { result ≡ shown.new.what }
+{
+    shown.end_with(code);
+    shown.what
+}
+
+/// The driver kicked the queue of this kind, or may have.
+#[unsafe(no_mangle)]
+pub extern "C" fn vb_begin(
+    notice: &mut VbNotice,
+    balloon: &mut Balloon,
+    regions: &[Region],
+    room: &mut VbRoom,
+    kind: u32,
+    chains: u32,
+    pages: u32,
+) -> u32
+    ensures begins { BeginsFor (kind_of_code kind) regions.now
+        (record { chains = chains; pages = pages }) balloon.old balloon.new room.old room.new
+        notice.new }
+    ensures what { result ≡ notice.new.what }
+{
+    match kind_of_code(kind) {
+        None => refuse(notice, NO_QUEUE),
+        Some(kind) => {
+            if !balloon.may_look(kind) {
+                return refuse(notice, NOTHING);
+            }
+            let budget = Budget { chains, pages };
+            let begun = Notice::begin(&mut balloon.device, regions, kind, budget);
+            hand_over(notice, balloon, &mut room.cuts, &begun)
+        }
+    }
+}
+
+/// New statistics are asked for.
+#[unsafe(no_mangle)]
+pub extern "C" fn vb_ask(
+    notice: &mut VbNotice,
+    balloon: &mut Balloon,
+    regions: &[Region],
+    room: &mut VbRoom,
+) -> u32
+    ensures asks { AsksFor (held_head balloon.old) regions.now balloon.old balloon.new room.old
+        room.new notice.new }
+    ensures what { result ≡ notice.new.what }
+{
+    match balloon.held_head() {
+        None => refuse(notice, NOTHING),
+        Some(head) => {
+            let begun = Notice::ask_statistics(&mut balloon.device, regions, head);
+            hand_over(notice, balloon, &mut room.cuts, &begun)
+        }
+    }
+}
+
+/// What is to be done next, once that was done which was to be done.
+#[unsafe(no_mangle)]
+pub extern "C" fn vb_go_on(
+    notice: &mut VbNotice,
+    balloon: &mut Balloon,
+    regions: &[Region],
+    room: &mut VbRoom,
+    answer: u16,
+) -> u32
+    ensures goes { GoesOnBy (notice_of notice.old room.old.cuts) regions.now answer balloon.old
+        balloon.new room.old room.new notice.new }
+    ensures what { result ≡ notice.new.what }
+{
+    match notice.read(&room.cuts) {
+        None => refuse(notice, BAD_ARGUMENT),
+        Some(mut read) => {
+            read.next(
+                &mut balloon.device,
+                regions,
+                answer,
+                &mut room.pieces,
+                &room.bytes,
+                &mut room.runs,
+                &mut room.figures,
+            );
+            hand_over(notice, balloon, &mut room.cuts, &read)
+        }
+    }
+}

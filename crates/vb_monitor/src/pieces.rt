@@ -1,0 +1,147 @@
+//! The pieces of a chain, as they stand in the room for them.
+
+ghost use Rattle.std.specs.Prelude.{◌≡◌, ◌+◌, ◌<◌, ◌≤◌, ◌++◌, ◌∷◌, [], ◌==◌, not, length};
+ghost use Rattle.std.specs.Prelude.{take, sum_by};
+ghost use Rattle.std.specs.List.{list_any};
+ghost use Rattle.vb_chain.specs.Rules.{piece_of};
+ghost use Rattle.vb_model.specs.declared.limits.TheConstants.{MAX_QUEUE_SIZE, MAX_REQUEST_PAGES};
+ghost use Rattle.vb_request.specs.Request.{request_length, total_length};
+ghost use Rattle.vb_request.specs.Statistics.{statistics_length};
+ghost use Rattle.vb_core.specs.Report.{NamesPiecesBy};
+ghost use Rattle.vb_monitor.specs.Pieces.{piece_in, pieces_in};
+
+use crate::room::{MAX_PIECES, MAX_RUNS};
+use arrayvec::ArrayVec;
+use vb_chain::{ChainFault, Descriptor, Piece};
+use vb_core::{Buffer, Denial, Device, Kind, Named, Run};
+use vb_request::{is_request_length, is_statistics_length};
+
+/// The first pieces, so many.
+pub(crate) fn first_pieces(pieces: &[Buffer; MAX_PIECES], count: u16) -> &[Buffer]
+    ensures { result.now ≡ take count pieces.now }
+{
+    &pieces[..usize::from(count).min(MAX_PIECES)]
+}
+
+/// What a descriptor says of its buffer.
+fn buffer_of(descriptor: &Descriptor) -> Buffer
+    ensures { piece_in result ≡ piece_of descriptor.now }
+{
+    Buffer {
+        address: descriptor.addr,
+        length: descriptor.len,
+        writable: u8::from(descriptor.is_writable()),
+    }
+}
+
+/// Puts what a descriptor says of its buffer behind the first pieces, so many.
+#[tactic(auto, using(crate::proofs::BufferLemmas::join_at))]
+pub(crate) fn push_piece(pieces: &mut [Buffer; MAX_PIECES], count: u16, descriptor: &Descriptor)
+    requires { count < MAX_QUEUE_SIZE }
+    ensures { pieces_in (take (count + 1) pieces.new) ≡
+        pieces_in (take count pieces.old) ++ piece_of descriptor.now ∷ [] }
+{
+    pieces[usize::from(count)] = buffer_of(descriptor);
+}
+
+/// The piece that a buffer says.
+fn piece_in(buffer: &Buffer) -> Piece
+    ensures { result ≡ piece_in buffer.now }
+{
+    Piece {
+        addr: buffer.address,
+        len: buffer.length,
+        writable: buffer.writable != 0,
+    }
+}
+
+/// Whether one of the buffers is the device's to write.
+fn any_writable(buffers: &[Buffer]) -> bool
+    ensures { result ≡ list_any (λ buffer. not (buffer.writable == 0)) buffers.now }
+{
+    buffers.iter().any(|buffer| buffer.writable != 0)
+}
+
+/// Whether a piece is the device's to write.
+fn has_writable(pieces: &[Buffer]) -> bool
+    ensures { result ≡ list_any (λ piece. piece.writable) (pieces_in pieces.now) }
+{
+    any_writable(pieces)
+}
+
+/// How many bytes the buffers have together.
+fn sum_lengths(buffers: &[Buffer]) -> u64
+    requires { length buffers.now ≤ MAX_QUEUE_SIZE }
+    ensures { result ≡ sum_by (λ buffer. buffer.length) buffers.now }
+{
+    let mut total: u64 = 0;
+    for buffer in buffers {
+        total += u64::from(buffer.length);
+    }
+    total
+}
+
+/// How many bytes the pieces have together.
+fn total_length(pieces: &[Buffer]) -> u64
+    requires { length pieces.now ≤ MAX_QUEUE_SIZE }
+    ensures { result ≡ total_length (pieces_in pieces.now) }
+{
+    sum_lengths(pieces)
+}
+
+/// How many bytes a request of these pieces has, or the rule that they break.
+pub(crate) fn request_length(pieces: &[Buffer]) -> Result<u32, ChainFault>
+    requires { length pieces.now ≤ MAX_QUEUE_SIZE }
+    ensures { result ≡ request_length (pieces_in pieces.now) }
+{
+    if has_writable(pieces) {
+        return Err(ChainFault::WrongDirection);
+    }
+    let total = total_length(pieces);
+    if !is_request_length(total) {
+        return Err(ChainFault::BadLength);
+    }
+    Ok(total as u32)
+}
+
+/// How many bytes a buffer of statistics of these pieces has, or the rule that they break.
+pub(crate) fn statistics_length(pieces: &[Buffer]) -> Result<u32, ChainFault>
+    requires { length pieces.now ≤ MAX_QUEUE_SIZE }
+    ensures { result ≡ statistics_length (pieces_in pieces.now) }
+{
+    if has_writable(pieces) {
+        return Err(ChainFault::WrongDirection);
+    }
+    let total = total_length(pieces);
+    if !is_statistics_length(total) {
+        return Err(ChainFault::BadLength);
+    }
+    Ok(total as u32)
+}
+
+/// The same pieces, as a chain has them.
+#[tactic(auto, using(crate::proofs::BufferLemmas::none_in, crate::proofs::BufferLemmas::push_in))]
+fn chain_of(buffers: &[Buffer]) -> ArrayVec<Piece, MAX_PIECES>
+    requires { length buffers.now ≤ MAX_QUEUE_SIZE }
+    ensures { result.items ≡ pieces_in buffers.now }
+{
+    let mut chain = ArrayVec::new();
+    for buffer in buffers {
+        chain.push(piece_in(buffer));
+    }
+    chain
+}
+
+/// Names the pages of a report of these pieces.
+pub(crate) fn report_named(
+    device: &mut Device,
+    pieces: &[Buffer],
+    runs: &mut [Run; MAX_RUNS],
+) -> Result<Named, Denial>
+    requires { length pieces.now ≤ MAX_QUEUE_SIZE }
+    ensures { NamesPiecesBy (pieces_in pieces.now) MAX_REQUEST_PAGES runs.new device.old device.new
+        result }
+{
+    let chain = chain_of(pieces);
+    device.name_report(chain.as_slice(), runs)
+}
