@@ -96,10 +96,8 @@ static inline uint8_t *balloon_at(const struct balloon *balloon, VbSpot spot)
 /* Copies bytes that others may write meanwhile: each is read once. */
 static inline void balloon_read_once(uint8_t *to, const uint8_t *from, size_t length)
 {
-    for (; length >= 8; length -= 8, from += 8, to += 8) {
-        uint64_t word = *(const volatile balloon_word64 *)from;
-        memcpy(to, &word, 8);
-    }
+    for (; length >= 8; length -= 8, from += 8, to += 8)
+        *(balloon_word64 *)to = *(const volatile balloon_word64 *)from;
     for (; length > 0; length--)
         *to++ = *(const volatile uint8_t *)from++;
 }

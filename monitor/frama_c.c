@@ -211,16 +211,17 @@ static void any_call(void)
 {
     struct balloon_result result;
     uint8_t bytes[VB_STATE_BYTES];
-    switch (Frama_C_interval(0, 9)) {
+    switch (Frama_C_interval(0, 10)) {
     case 0: balloon_notify(&balloon, any_u32()); break;
     case 1: balloon_ask_statistics(&balloon); break;
     case 2: balloon_write_status(&balloon, ANY_UP_TO(255), &result); break;
-    case 3: balloon_set_regions(&balloon, regions, maybe() ? REGIONS : BALLOON_MOST_REGIONS + 1); break;
+    case 3: balloon_set_regions(&balloon, regions, REGIONS); break;
     case 4: balloon_place(&balloon, any_u32(), any_u64(), any_u64(), any_u64(), ANY_UP_TO(UINT16_MAX)); break;
     case 5: balloon_notify_number(&balloon, any_u32()); break;
     case 6: balloon_restore(&balloon, bytes, sizeof bytes); break;
     case 7: balloon_save(&balloon, bytes, sizeof bytes); break;
-    case 8: balloon_discard_bytes(&regions[0], 0, LENGTH); break;
+    case 8: balloon_set_regions(&balloon, regions, BALLOON_MOST_REGIONS + 1); break;
+    case 9: balloon_discard_bytes(&regions[0], 0, LENGTH); break;
     default: balloon_negotiate(&balloon, any_u64()); break;
     }
 }

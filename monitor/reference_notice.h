@@ -1,7 +1,13 @@
-/* Notices of vb.h in plain C, a part of reference.c: one thing is to be done at a time. */
+/* Notices of vb.h in plain C, a part of reference.c: as much at once as the order of the bits allows, as the library has it;
+ * and one thing at a time where it explains what the library says (REFERENCE_NAMES). */
 
 enum { SIXTEEN = 16, REGION_PAGE = 4096 };
 static const uint64_t MOST_IN_FILE = 1ull << 62;
+#ifdef REFERENCE_NAMES
+enum { GROUPS = false, MOST_AT_ONCE = 1 };
+#else
+enum { GROUPS = true, MOST_AT_ONCE = VB_MAX_CUTS };
+#endif
 
 /* What a notice waits for, in its field `index`. */
 enum phase { NO_PHASE, AT_INDEX, AT_ENTRY, AT_WORD, AT_DESCRIPTOR, AT_PART, AT_TOLD, AT_FIGURES, AT_CUT, AT_GIVEN, AT_FLAGS, AT_FLAG_WORD };
@@ -257,16 +263,16 @@ static uint32_t ask_cut(const Call *call)
     VbNotice *notice = call->notice;
     if (notice->kind == VB_DEFLATE)
         return give_back(call);
-    for (; notice->number < notice->runs && notice->number < VB_MAX_RUNS; notice->number++, notice->from = 0) {
-        for (; notice->from < call->count; notice->from++) {
-            if (!cut_of(call, notice->from, call->room->runs[notice->number], &call->room->cuts[0]))
-                continue;
-            notice->from++;
-            notice->cuts = 1;
-            return wait_for(call, AT_CUT, VB_DISCARD);
-        }
+    uint32_t cuts = 0;
+    for (; notice->number < notice->runs && notice->number < VB_MAX_RUNS && cuts < MOST_AT_ONCE; notice->number += notice->from == 0) {
+        for (; notice->from < call->count && cuts < MOST_AT_ONCE; notice->from++)
+            cuts += cut_of(call, notice->from, call->room->runs[notice->number], &call->room->cuts[cuts]);
+        notice->from = notice->from < call->count ? notice->from : 0;
     }
-    return give_back(call);
+    if (cuts == 0)
+        return give_back(call);
+    notice->cuts = cuts;
+    return wait_for(call, AT_CUT, VB_DISCARD);
 }
 
 static uint32_t tell_pages(const Call *call, const VbNamed *named)
@@ -319,6 +325,50 @@ static uint32_t after_flags(const Call *call, uint16_t flags)
 
 /* ---- the calls */
 
+/* What is to be done once that was done which was to be done. */
+static uint32_t step(const Call *call, uint16_t answer)
+{
+    VbNotice *notice = call->notice;
+    bool holds = notice->count <= VB_MAX_PIECES && notice->runs <= VB_MAX_RUNS && notice->length <= VB_MAX_BYTES
+        && notice->cuts <= VB_MAX_CUTS;
+    if (!call->queue || !holds || call->queue->size > VB_MAX_QUEUE_SIZE || (call->queue->size == 0 && notice->index != NO_PHASE))
+        return stop(call, VB_BAD_ARGUMENT);
+    switch (notice->index) {
+    case AT_INDEX: return after_index(call, answer);
+    case AT_ENTRY: return wait_for(call, AT_WORD, VB_READ);
+    case AT_WORD: return after_entry(call, answer);
+    case AT_DESCRIPTOR: return notice->count < VB_MAX_PIECES ? after_descriptor(call) : stop(call, VB_BAD_ARGUMENT);
+    case AT_PART: return after_part(call);
+    case AT_TOLD: case AT_CUT: return ask_cut(call);
+    case AT_FIGURES: return end(call, VB_NOTHING);
+    case AT_GIVEN: return after_given(call);
+    case AT_FLAGS: return wait_for(call, AT_FLAG_WORD, VB_READ);
+    case AT_FLAG_WORD: return after_flags(call, answer);
+    default: return notice->what ? stop(call, VB_BAD_ARGUMENT) : 0;
+    }
+}
+
+/* Adds what needs no answer of what is to be done now, as long as its bit comes behind the others. */
+static uint32_t grouped(const Call *call)
+{
+    VbNotice *notice = call->notice, before;
+    while (GROUPS && notice->what && !(notice->what & (VB_READ | VB_COPY))) {
+        VbBalloon balloon = *call->balloon;
+        VbCut cuts[VB_MAX_CUTS];
+        memcpy(cuts, call->room->cuts, sizeof cuts);
+        before = *notice;
+        uint32_t next = step(call, 0);
+        if (next <= before.what) {
+            memcpy(call->room->cuts, cuts, sizeof cuts);
+            *call->balloon = balloon;
+            *notice = before;
+            break;
+        }
+        notice->what = before.what | next;
+    }
+    return notice->what;
+}
+
 uint32_t vb_begin(VbNotice *notice, VbBalloon *balloon, const VbRegion *regions, size_t count, VbRoom *room, uint32_t kind,
                   uint32_t chains, uint32_t pages)
 {
@@ -329,7 +379,8 @@ uint32_t vb_begin(VbNotice *notice, VbBalloon *balloon, const VbRegion *regions,
     notice->pages_left = pages;
     if (!call.queue)
         return stop(&call, VB_NO_QUEUE);
-    return kind == VB_STATISTICS && balloon->held ? stop(&call, VB_NOTHING) : look(&call);
+    kind == VB_STATISTICS && balloon->held ? stop(&call, VB_NOTHING) : look(&call);
+    return grouped(&call);
 }
 
 uint32_t vb_ask(VbNotice *notice, VbBalloon *balloon, const VbRegion *regions, size_t count, VbRoom *room)
@@ -338,28 +389,15 @@ uint32_t vb_ask(VbNotice *notice, VbBalloon *balloon, const VbRegion *regions, s
     memset(notice, 0, sizeof *notice);
     notice->kind = VB_STATISTICS;
     notice->head = (uint16_t)(balloon->held - 1);
-    return balloon->held ? give_back(&call) : stop(&call, VB_NOTHING);
+    balloon->held ? give_back(&call) : stop(&call, VB_NOTHING);
+    return grouped(&call);
 }
 
 uint32_t vb_go_on(VbNotice *notice, VbBalloon *balloon, const VbRegion *regions, size_t count, VbRoom *room, uint16_t answer)
 {
     const Call call = { notice, balloon, queue_of(&balloon->device, notice->kind), regions, count, room };
-    bool holds = notice->count <= VB_MAX_PIECES && notice->runs <= VB_MAX_RUNS && notice->length <= VB_MAX_BYTES;
-    if (!call.queue || !holds || (notice->index > AT_INDEX && refusal(&balloon->device, notice->kind, call.queue) == VB_MISPLACED))
-        return stop(&call, VB_BAD_ARGUMENT);
-    switch (notice->index) {
-    case AT_INDEX: return call.queue->size ? after_index(&call, answer) : stop(&call, VB_BAD_ARGUMENT);
-    case AT_ENTRY: return wait_for(&call, AT_WORD, VB_READ);
-    case AT_WORD: return after_entry(&call, answer);
-    case AT_DESCRIPTOR: return notice->count < VB_MAX_PIECES ? after_descriptor(&call) : stop(&call, VB_BAD_ARGUMENT);
-    case AT_PART: return after_part(&call);
-    case AT_TOLD: case AT_CUT: return ask_cut(&call);
-    case AT_FIGURES: return end(&call, VB_NOTHING);
-    case AT_GIVEN: return after_given(&call);
-    case AT_FLAGS: return wait_for(&call, AT_FLAG_WORD, VB_READ);
-    case AT_FLAG_WORD: return after_flags(&call, answer);
-    default: return notice->what ? stop(&call, VB_BAD_ARGUMENT) : 0;
-    }
+    step(&call, answer);
+    return grouped(&call);
 }
 
 /* ---- a balloon over regions */
