@@ -135,17 +135,24 @@ class Events(Good):
         self.assertNotEqual(client.send(SET_STATUS, word(11)), bytes(8))
         self.assertEqual(client.send(GET_STATUS), bytes(8))
 
-    def test_a_kick_before_the_driver_is_ready(self):
+    def test_a_kick_before_the_ring_runs(self):
         client = self.client()
         client.negotiate(protocol=QEMU_PROTOCOL)
         client.add_memory()
         client.place(INFLATE)
         client.give_events(INFLATE)
-        client.enable(INFLATE)
         client.post_pages(INFLATE, [FIRST])
         self.unserved(client, INFLATE)
-        client.accepted(SET_STATUS, word(15))
-        self.assertEqual((client.called(INFLATE), client.used(INFLATE)[0]), (1, 1))
+        self.assertEqual((client.used(INFLATE)[0], client.counter("status")), (0, 11))
+        client.enable(INFLATE)
+        self.assertEqual((client.called(INFLATE), client.used(INFLATE)[0], client.counter("status")), (1, 1, 15))
+
+    def test_a_driver_that_has_failed(self):
+        client = self.started()
+        client.accepted(SET_STATUS, word(15 | 128))
+        client.post_pages(INFLATE, [FIRST])
+        self.unserved(client, INFLATE)
+        self.assertEqual((client.used(INFLATE)[0], client.counter("status")), (0, 0))
 
     def test_rings_that_begin_enabled(self):
         client = self.client()

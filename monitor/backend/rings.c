@@ -63,15 +63,15 @@ uint32_t rings_negotiate(struct backend *backend, uint64_t features)
     return answer;
 }
 
-/* Whether the client has told all that a ring wants to run. */
+/* Whether the client has told all that a ring wants to run. DRIVER_OK isn't waited for: QEMU 7.2 tells it of a network's
+ * device alone, and starts no ring before. */
 static bool wants_to_run(const struct backend *backend, unsigned number)
 {
     const struct told *told = &backend->told;
     const struct ring *ring = &backend->rings[number];
     bool enabled = ring->enabled || !(told->features & HAS_PROTOCOL_FEATURES);
-    bool ready = !(told->protocol & STATUS_FEATURE) || (told->status & BALLOON_DRIVER_OK);
     bool failed = told->status & BALLOON_FAILED;
-    return told->negotiated && ready && !failed && enabled && ring->placed && ring->started && ring->size > 0
+    return told->negotiated && !failed && enabled && ring->placed && ring->started && ring->size > 0
         && kind_of(backend, number) < VB_NO_KIND;
 }
 
