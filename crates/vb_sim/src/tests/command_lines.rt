@@ -195,10 +195,9 @@ pub(super) fn command<R: Threads + Wait + Sync>(
     rt: &R,
     alloc: Global,
     words: Result<Vec<String>, ArgumentsFault>,
-    script: &str,
+    script: &[u8],
 ) -> Outcome {
     let (mut output, mut errors) = (Vec::new(alloc), Vec::new(alloc));
-    let script = script.as_bytes();
     let status = run_command(rt, alloc, words, script, &mut output, &mut errors);
     Outcome {
         output,
@@ -211,7 +210,7 @@ pub(super) fn command<R: Threads + Wait + Sync>(
 fn commands(rt: HostRuntime) {
     for (words, script, output, errors, status) in &COMMANDS {
         let words = command_line(rt.alloc(), words);
-        let outcome = command(&rt, rt.alloc(), words, script);
+        let outcome = command(&rt, rt.alloc(), words, script.as_bytes());
         assert!(rt; outcome.shows(output.as_bytes(), errors.as_bytes(), *status));
     }
 }
@@ -222,7 +221,7 @@ fn words_that_there_is_no_memory_for(rt: HostRuntime) {
         &rt,
         rt.alloc(),
         Err(ArgumentsFault::Memory),
-        "host 3\nframes\n",
+        b"host 3\nframes\n",
     );
     assert!(rt; outcome.shows(b"", b"run: memory\n", 3));
 }
