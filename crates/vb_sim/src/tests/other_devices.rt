@@ -20,7 +20,7 @@ use vb_world::{World, add_spare};
 /// A host whose devices have a list, whatever their pace is in the script.
 #[derive(Drop)]
 struct Listing {
-    /// How often each finds no memory for its guest; those behind them always find it.
+    /// How often each finds no memory for its guest; those after them always find it.
     refusals: &'static [u32],
 }
 

@@ -32,7 +32,7 @@ use std::thread::Threads;
 pub(super) struct Listed {
     /// Its folder, and its own name.
     pub(super) name: &'static str,
-    /// The words behind the program's name, of each run.
+    /// The words after the program's name, of each run.
     commands: &'static [&'static [&'static str]],
     pub(super) text: &'static [u8],
     pub(super) output: &'static [u8],
