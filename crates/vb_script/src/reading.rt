@@ -23,7 +23,7 @@ use vb_model::Event;
 /// Spare devices that a script may bring.
 const MAX_SPARES: usize = 64;
 
-/// Bytes of the shortest line behind the spare devices, as `ask 0`, with its line feed: none takes
+/// Bytes of the shortest line after the spare devices, as `ask 0`, with its line feed: none takes
 /// fewer.
 const SHORTEST_LINE: usize = 6;
 
@@ -89,7 +89,7 @@ pub fn parse(alloc: Global, text: &[u8]) -> Result<Option<Script>, ScriptFault>
 /// first line.
 ///
 /// Without a fault there may be no plan: there is no plug (as in a text without any lines), a plug
-/// finds no spare device left or brings more than 4 processors, or a call is for a guest or behind
+/// finds no spare device left or brings more than 4 processors, or a call is for a guest or after
 /// a `cpu` for a processor that isn't there.
 pub fn parse_threads(alloc: Global, text: &[u8]) -> Result<Option<ThreadsScript>, ScriptFault>
     ensures script { IfOk result
@@ -104,12 +104,12 @@ pub fn parse_threads(alloc: Global, text: &[u8]) -> Result<Option<ThreadsScript>
     }
 }
 
-/// What a line behind the spare devices says, in one of the languages of scripts.
+/// What a line after the spare devices says, in one of the languages of scripts.
 pub trait Item: Drop {
     /// What it says, by what the lines before it said there, and its words.
     ghost language: { Language Self };
 
-    /// Reads a line, by its first word and those behind it. Words that say nothing there make a bad
+    /// Reads a line, by its first word and those after it. Words that say nothing there make a bad
     /// line.
     fn read(
         alloc: Global,
@@ -141,7 +141,7 @@ pub fn read<T: Item>(alloc: Global, text: &[u8]) -> Result<Option<Reading<T>>, S
     Ok(Some(read))
 }
 
-/// Reads what stands behind the first line of a script whose host has so many frames.
+/// Reads what stands after the first line of a script whose host has this many frames.
 fn read_rest<T: Item>(
     alloc: Global,
     frames: u32,
@@ -164,7 +164,7 @@ fn read_rest<T: Item>(
 }
 
 impl<T: Item> Reading<T> {
-    /// What the first line says, with room for as many lines as may stand in so many bytes.
+    /// What the first line says, with room for as many lines as may stand in this many bytes.
     fn of_host(alloc: Global, frames: u32, bytes: usize) -> Result<Reading<T>, AllocError>
         requires some { 1 ≤ frames }
         requires bound { frames ≤ MAX_FRAMES }
@@ -178,7 +178,7 @@ impl<T: Item> Reading<T> {
         })
     }
 
-    /// Adds what a line behind the first one says: a spare device, or what the language has.
+    /// Adds what a line after the first one says: a spare device, or what the language has.
     fn add(&mut self, alloc: Global, line: &[u8]) -> Result<(), LineFault>
         ensures ok { OnOk result
             (with_line T.language line.now (told_by self.old) ≡ Some (told_by self.new)) }

@@ -29,7 +29,7 @@ pub struct Reading<T> {
     pub frames: u32,
     /// The spare devices, at most 64, in order.
     pub spares: Vec<Pace>,
-    /// What the lines behind them say, in order.
+    /// What the lines after them say, in order.
     pub items: Vec<T>,
     pub ghost some_frames: { 1 ≤ frames },
     pub ghost frames_in_bound: { frames ≤ MAX_FRAMES },
@@ -57,7 +57,7 @@ pub struct ThreadsScript {
     pub ghost guests_in_bound: { vec_len guests ≤ 64 },
 }
 
-/// A guest of such a script. Its configuration is as it was written, but for its processors.
+/// A guest of such a script. Its configuration is as it was written, except for its processors.
 #[derive(Drop)]
 pub struct ThreadsGuest {
     /// The pace of its device, which is the script's spare device of the guest's number.

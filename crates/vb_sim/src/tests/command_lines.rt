@@ -22,13 +22,13 @@ pub(super) fn command_line(alloc: Global, words: &[&str]) -> Result<Vec<String>,
     Ok(all)
 }
 
-/// What the words behind the program's name ask for.
+/// What the words after the program's name ask for.
 fn arguments(alloc: Global, words: &[&str]) -> Result<Asked, ArgumentsFault> {
     let all = command_line(alloc, words)?;
     read_arguments(alloc, all.as_slice())
 }
 
-/// Words behind the program's name, and what they ask for, if for anything.
+/// Words after the program's name, and what they ask for, if for anything.
 static COMMAND_LINES: [(&[&str], Option<Asked>); 57] = [
     (&[], Some(Asked::Run)),
     (&["run"], Some(Asked::Run)),
@@ -120,7 +120,7 @@ fn command_lines(rt: HostRuntime) {
     }
 }
 
-/// Words behind the program's name, a script, what is written to the output and to the errors, and
+/// Words after the program's name, a script, what is written to the output and to the errors, and
 /// the exit status.
 static COMMANDS: [(&[&str], &str, &str, &str, u8); 11] = [
     (&[], "host 3\nframes\n", "frames used 0 free 3\n", "", 0),
@@ -195,10 +195,9 @@ pub(super) fn command<R: Threads + Wait + Sync>(
     rt: &R,
     alloc: Global,
     words: Result<Vec<String>, ArgumentsFault>,
-    script: &str,
+    script: &[u8],
 ) -> Outcome {
     let (mut output, mut errors) = (Vec::new(alloc), Vec::new(alloc));
-    let script = script.as_bytes();
     let status = run_command(rt, alloc, words, script, &mut output, &mut errors);
     Outcome {
         output,
@@ -211,7 +210,7 @@ pub(super) fn command<R: Threads + Wait + Sync>(
 fn commands(rt: HostRuntime) {
     for (words, script, output, errors, status) in &COMMANDS {
         let words = command_line(rt.alloc(), words);
-        let outcome = command(&rt, rt.alloc(), words, script);
+        let outcome = command(&rt, rt.alloc(), words, script.as_bytes());
         assert!(rt; outcome.shows(output.as_bytes(), errors.as_bytes(), *status));
     }
 }
@@ -222,12 +221,12 @@ fn words_that_there_is_no_memory_for(rt: HostRuntime) {
         &rt,
         rt.alloc(),
         Err(ArgumentsFault::Memory),
-        "host 3\nframes\n",
+        b"host 3\nframes\n",
     );
     assert!(rt; outcome.shows(b"", b"run: memory\n", 3));
 }
 
-/// A writer that writes so many bytes, and then fails.
+/// A writer that has room for a number of bytes, and then fails.
 #[derive(Drop)]
 struct Narrow {
     room: usize,

@@ -216,8 +216,8 @@ fn check_leasing(rt: &impl Abort, alloc: Global, scripts: &[Listed]) {
         output,
         ..
     } in scripts {
-        let outcome = run_leasing(alloc, text.as_bytes());
-        assert!(rt; outcome.shows(output.as_bytes(), b"", SUCCESS), "at {name}");
+        let outcome = run_leasing(alloc, text);
+        assert!(rt; outcome.shows(output, b"", SUCCESS), "at {name}");
     }
 }
 

@@ -20,7 +20,7 @@ ready
 ",
 );
 
-/// Its reports one after the other, each with its first page, the page behind its last one, and the
+/// Its reports one after the other, each with its first page, the page after its last one, and the
 /// number of its pages: 16 blocks at most, of 512 pages at most.
 static REPORTED: [(u32, u32, u32); 3] = [
     (16, 6144, 6128),

@@ -20,7 +20,7 @@ use vb_world::{World, add_spare};
 /// A host whose devices have a list, whatever their pace is in the script.
 #[derive(Drop)]
 struct Listing {
-    /// How often each finds no memory for its guest; those behind them always find it.
+    /// How often each finds no memory for its guest; those after them always find it.
     refusals: &'static [u32],
 }
 
@@ -55,16 +55,10 @@ impl Listing {
 }
 
 /// Runs a script on such a host.
-fn run_listing(alloc: Global, refusals: &'static [u32], script: &str) -> Outcome {
+fn run_listing(alloc: Global, refusals: &'static [u32], script: &[u8]) -> Outcome {
     let (mut output, mut errors) = (Vec::new(alloc), Vec::new(alloc));
     let mut host = Listing { refusals };
-    let status = run_script_on(
-        alloc,
-        &mut host,
-        script.as_bytes(),
-        &mut output,
-        &mut errors,
-    );
+    let status = run_script_on(alloc, &mut host, script, &mut output, &mut errors);
     Outcome {
         output,
         errors,
@@ -81,7 +75,7 @@ fn check_listing(rt: &impl Abort, alloc: Global, scripts: &[Listed]) {
         ..
     } in scripts {
         let outcome = run_listing(alloc, &[], text);
-        assert!(rt; outcome.shows(output.as_bytes(), b"", SUCCESS), "at {name}");
+        assert!(rt; outcome.shows(output, b"", SUCCESS), "at {name}");
     }
 }
 
@@ -132,6 +126,6 @@ no device
 
 #[test]
 fn a_plug_that_finds_no_memory_keeps_its_device(rt: HostRuntime) {
-    let outcome = run_listing(rt.alloc(), &[2, 1], WANTING.0);
+    let outcome = run_listing(rt.alloc(), &[2, 1], WANTING.0.as_bytes());
     assert!(rt; outcome.shows(WANTING.1.as_bytes(), b"", SUCCESS));
 }

@@ -1,4 +1,4 @@
-//! So many rounds that the indices of rings begin again.
+//! Rounds until the indices of rings begin again.
 
 use super::{repeated, run};
 use crate::fault::SUCCESS;
@@ -46,7 +46,7 @@ reaped 0 1
 ",
 );
 
-/// So many rounds that the indices of both queues, numbers of 16 bits, begin again.
+/// Rounds after which the indices of both queues, numbers of 16 bits, have begun again.
 const ROUNDS: usize = 65_540;
 
 #[test]

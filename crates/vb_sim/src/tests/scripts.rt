@@ -32,11 +32,11 @@ use std::thread::Threads;
 pub(super) struct Listed {
     /// Its folder, and its own name.
     pub(super) name: &'static str,
-    /// The words behind the program's name, of each run.
+    /// The words after the program's name, of each run.
     commands: &'static [&'static [&'static str]],
-    pub(super) text: &'static str,
-    pub(super) output: &'static str,
-    errors: &'static str,
+    pub(super) text: &'static [u8],
+    pub(super) output: &'static [u8],
+    errors: &'static [u8],
     status: u8,
 }
 
@@ -48,8 +48,7 @@ where
     for words in script.commands {
         let words = command_line(alloc, words);
         let outcome = command(rt, alloc, words, script.text);
-        let (output, errors) = (script.output.as_bytes(), script.errors.as_bytes());
-        let passes = outcome.shows(output, errors, script.status);
+        let passes = outcome.shows(script.output, script.errors, script.status);
         assert!(rt; passes, "at {}", script.name);
     }
 }

@@ -196,7 +196,7 @@ read 0 16 0 4097
     "guest 0\nready\npage 16\nout of ram\nbytes ",
 );
 
-/// A script that reads so many bytes, and one more than a page.
+/// A script that reads a number of bytes, and one more than a page.
 fn reading(alloc: Global, length: usize) -> io::Result<Vec<u8>> {
     let mut text = Vec::new(alloc);
     text.write_all(AROUND.0)?;

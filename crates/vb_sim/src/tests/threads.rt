@@ -122,7 +122,7 @@ fn input_that_cant_be_read_has_its_status(rt: HostRuntime) {
     }
 }
 
-/// A writer with room for so many bytes.
+/// A writer with room for a number of bytes.
 #[derive(Drop)]
 struct Narrow {
     room: usize,

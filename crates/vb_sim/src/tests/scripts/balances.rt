@@ -6,7 +6,7 @@ pub(in crate::tests) static SCRIPTS: [Listed; 10] = [
     Listed {
         name: "balances/all-unreserved-pages-are-spare",
         commands: &[&["run"]],
-        text: "\
+        text: b"\
 # Shows: A guest can spare all its unreserved pages.
 host 16
 spare immediate
@@ -19,7 +19,7 @@ take 0 0
 finish 0 0 0
 balance 0
 ",
-        output: "\
+        output: b"\
 guest 0
 ready
 taken 0
@@ -29,13 +29,13 @@ taken 0
 finished 0
 targets 48
 ",
-        errors: "",
+        errors: b"",
         status: 0,
     },
     Listed {
         name: "balances/balance-by-spare",
         commands: &[&["run"]],
-        text: "\
+        text: b"\
 # Shows: A balance by most spare, and one that is short and changes nothing.
 host 100
 spare immediate
@@ -51,7 +51,7 @@ balance 40
 balloon 0
 balloon 1
 ",
-        output: "\
+        output: b"\
 guest 0
 guest 1
 ready
@@ -63,13 +63,13 @@ short 12
 ballooned 0 actual 0 target 28 status 15
 ballooned 0 actual 0 target 0 status 15
 ",
-        errors: "",
+        errors: b"",
         status: 0,
     },
     Listed {
         name: "balances/balance-of-eight-guests",
         commands: &[&["run"]],
-        text: "\
+        text: b"\
 # Shows: A balance of eight guests.
 host 200
 spare immediate
@@ -108,7 +108,7 @@ balance 0
 balance 8
 balance 9
 ",
-        output: "\
+        output: b"\
 guest 0
 guest 1
 guest 2
@@ -137,13 +137,13 @@ targets 48 48 48 48 48 48 24 0
 targets 40 40 40 40 40 40 40 32
 targets 39 39 39 39 39 39 39 39
 ",
-        errors: "",
+        errors: b"",
         status: 0,
     },
     Listed {
         name: "balances/balance-of-no-guests",
         commands: &[&["run"]],
-        text: "\
+        text: b"\
 # Shows: A balance of no guests has no targets.
 host 64
 spare immediate
@@ -155,7 +155,7 @@ balloon 0
 unplug 0
 balance 0
 ",
-        output: "\
+        output: b"\
 targets
 guest 0
 ok
@@ -164,13 +164,13 @@ ballooned 0 actual 0 target 0 status 0
 ok
 targets
 ",
-        errors: "",
+        errors: b"",
         status: 0,
     },
     Listed {
         name: "balances/ballooned-pages-are-spare",
         commands: &[&["run"]],
-        text: "\
+        text: b"\
 # Shows: Ballooned pages count, and what the last statistics say above the floor.
 host 24
 spare immediate
@@ -194,7 +194,7 @@ memory 0
 balance 8
 balance 9
 ",
-        output: "\
+        output: b"\
 guest 0
 ready
 taken 0
@@ -215,13 +215,13 @@ memory 114688 262144
 targets 40
 short 1
 ",
-        errors: "",
+        errors: b"",
         status: 0,
     },
     Listed {
         name: "balances/most-spare-gives-first",
         commands: &[&["run"]],
-        text: "\
+        text: b"\
 # Shows: Most spare gives first, then the lower number; a guest that went is left out.
 host 120
 spare immediate
@@ -251,7 +251,7 @@ balloon 0
 balloon 2
 balloon 3
 ",
-        output: "\
+        output: b"\
 guest 0
 guest 1
 guest 2
@@ -275,13 +275,13 @@ ballooned 0 actual 0 target 16 status 15
 ballooned 0 actual 0 target 24 status 15
 ballooned 0 actual 0 target 32 status 15
 ",
-        errors: "",
+        errors: b"",
         status: 0,
     },
     Listed {
         name: "balances/reserved-pages-stay",
         commands: &[&["run"]],
-        text: "\
+        text: b"\
 # Shows: A balance leaves each guest the reserved pages of its own queues.
 host 60
 spare immediate
@@ -296,7 +296,7 @@ balance 0
 balance 16
 balance 17
 ",
-        output: "\
+        output: b"\
 guest 0
 guest 1
 ready
@@ -307,13 +307,13 @@ targets 36 64
 short 20
 short 22
 ",
-        errors: "",
+        errors: b"",
         status: 0,
     },
     Listed {
         name: "balances/short-by-one-frame",
         commands: &[&["run"]],
-        text: "\
+        text: b"\
 # Shows: A guest that spares all falls short by one on a host with one frame less.
 host 15
 spare immediate
@@ -326,7 +326,7 @@ take 0 0
 finish 0 0 0
 balance 0
 ",
-        output: "\
+        output: b"\
 guest 0
 ready
 taken 0
@@ -336,13 +336,13 @@ taken 0
 finished 0
 short 1
 ",
-        errors: "",
+        errors: b"",
         status: 0,
     },
     Listed {
         name: "balances/spare-without-statistics",
         commands: &[&["run"]],
-        text: "\
+        text: b"\
 # Shows: Without statistics a guest can spare what it has ballooned.
 host 70
 spare immediate
@@ -362,7 +362,7 @@ balance 1
 reset 1
 balance 0
 ",
-        output: "\
+        output: b"\
 guest 0
 guest 1
 ready
@@ -378,13 +378,13 @@ short 1
 ok
 short 48
 ",
-        errors: "",
+        errors: b"",
         status: 0,
     },
     Listed {
         name: "balances/targets-of-none",
         commands: &[&["run"]],
-        text: "\
+        text: b"\
 # Shows: A short balance sets no target, and one with frames for all sets them to 0.
 host 64
 spare immediate
@@ -400,7 +400,7 @@ unplug 1
 balance 0
 balloon 0
 ",
-        output: "\
+        output: b"\
 guest 0
 ok
 guest 1
@@ -412,7 +412,7 @@ ok
 targets 0
 ballooned 0 actual 0 target 0 status 0
 ",
-        errors: "",
+        errors: b"",
         status: 0,
     },
 ];

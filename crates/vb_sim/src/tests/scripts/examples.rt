@@ -6,7 +6,7 @@ pub(in crate::tests) static SCRIPTS: [Listed; 5] = [
     Listed {
         name: "examples/first-path",
         commands: &[&["run"]],
-        text: "\
+        text: b"\
 # One guest writes a page, and lends pages to its host through a balloon.
 
 # A host with 64 frames, and one device for a guest.
@@ -33,7 +33,7 @@ reap 0 0
 
 frames
 ",
-        output: "\
+        output: b"\
 guest 0
 ready
 page 16
@@ -47,13 +47,13 @@ finished 0
 reaped 0 4
 frames used 14 free 50
 ",
-        errors: "",
+        errors: b"",
         status: 0,
     },
     Listed {
         name: "examples/paced-balance",
         commands: &[&["run"]],
-        text: "\
+        text: b"\
 # Two guests share a host that has too few frames for all their pages. A balance says how many each
 # is to give, and their devices visit those pages one by one. Then the need moves from one guest to
 # the other, and a second balance moves the balloons after it.
@@ -204,7 +204,7 @@ balloon 0
 balloon 1
 frames
 ",
-        output: "\
+        output: b"\
 guest 0
 guest 1
 ready
@@ -320,13 +320,13 @@ ballooned 4 actual 4 target 4 status 15
 ballooned 28 actual 28 target 28 status 15
 frames used 26 free 70
 ",
-        errors: "",
+        errors: b"",
         status: 0,
     },
     Listed {
         name: "examples/rogue",
         commands: &[&["run"]],
-        text: "\
+        text: b"\
 # Guest 0 writes past its driver into the rings that it shares with its device. Each fault has a
 # name, the device gives up until it is reset, and guest 1 beside it never notices.
 host 40
@@ -381,7 +381,7 @@ finish 0 0 0
 reap 0 0
 read 1 16 0 4
 ",
-        output: "\
+        output: b"\
 guest 0
 ready
 guest 1
@@ -423,7 +423,7 @@ finished 0
 reaped 0 16
 bytes c0ffee00
 ",
-        errors: "",
+        errors: b"",
         status: 0,
     },
     Listed {
@@ -435,7 +435,7 @@ bytes c0ffee00
             &["threads", "--bells", "double"],
             &["threads", "--bells", "late"],
         ],
-        text: "\
+        text: b"\
 # Two guests on threads of their own. The first spare device is guest 0's, the second guest 1's.
 host 64
 spare paced
@@ -649,18 +649,18 @@ write 1 16 0 aa
 read 1 16 0 1
 free 1 0 16 0
 ",
-        output: "\
+        output: b"\
 guest 0 calls 100 frames 14
 guest 1 calls 100 frames 14
 disjoint
 ",
-        errors: "",
+        errors: b"",
         status: 0,
     },
     Listed {
         name: "examples/two-guests",
         commands: &[&["run"]],
-        text: "\
+        text: b"\
 # Two guests on a host with too few frames for both. They say how much memory they have free, and
 # the host has them give pages back, so that both can go on.
 
@@ -737,7 +737,7 @@ read 1 16 0 2
 read 1 17 0 2
 frames
 ",
-        output: "\
+        output: b"\
 guest 0
 guest 1
 ready
@@ -784,7 +784,7 @@ bytes cafe
 bytes beef
 frames used 28 free 7
 ",
-        errors: "",
+        errors: b"",
         status: 0,
     },
 ];

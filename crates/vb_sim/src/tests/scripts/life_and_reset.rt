@@ -6,7 +6,7 @@ pub(in crate::tests) static SCRIPTS: [Listed; 21] = [
     Listed {
         name: "life-and-reset/after-step-01",
         commands: &[&["run"]],
-        text: "\
+        text: b"\
 # Shows: A reset after step 1 of a life with an inflate, a deflate and a report.
 host 64
 spare paced
@@ -18,7 +18,7 @@ places 0
 pages 0 ballooned
 init 0
 ",
-        output: "\
+        output: b"\
 guest 0
 ready
 page 16
@@ -27,13 +27,13 @@ free 47 used 1 giving 0 lent 0 taking 0 stranded 0 reporting 0
 pages
 ready
 ",
-        errors: "",
+        errors: b"",
         status: 0,
     },
     Listed {
         name: "life-and-reset/after-step-02",
         commands: &[&["run"]],
-        text: "\
+        text: b"\
 # Shows: A reset after step 2 of a life with an inflate, a deflate and a report.
 host 64
 spare paced
@@ -47,7 +47,7 @@ pages 0 ballooned
 read 0 16 0 1
 init 0
 ",
-        output: "\
+        output: b"\
 guest 0
 ready
 page 16
@@ -58,13 +58,13 @@ pages
 bytes aa
 ready
 ",
-        errors: "",
+        errors: b"",
         status: 0,
     },
     Listed {
         name: "life-and-reset/after-step-03",
         commands: &[&["run"]],
-        text: "\
+        text: b"\
 # Shows: A reset after step 3 of a life with an inflate, a deflate and a report.
 host 64
 spare paced
@@ -79,7 +79,7 @@ pages 0 ballooned
 read 0 16 0 1
 init 0
 ",
-        output: "\
+        output: b"\
 guest 0
 ready
 page 16
@@ -91,13 +91,13 @@ pages
 bytes aa
 ready
 ",
-        errors: "",
+        errors: b"",
         status: 0,
     },
     Listed {
         name: "life-and-reset/after-step-04",
         commands: &[&["run"]],
-        text: "\
+        text: b"\
 # Shows: A reset after step 4 of a life with an inflate, a deflate and a report.
 host 64
 spare paced
@@ -115,7 +115,7 @@ init 0
 inflate 0 256
 pages 0 giving
 ",
-        output: "\
+        output: b"\
 guest 0
 ready
 page 16
@@ -130,13 +130,13 @@ ready
 posted 0 4
 pages 17-20
 ",
-        errors: "",
+        errors: b"",
         status: 0,
     },
     Listed {
         name: "life-and-reset/after-step-05",
         commands: &[&["run"]],
-        text: "\
+        text: b"\
 # Shows: A reset after step 5 of a life with an inflate, a deflate and a report.
 host 64
 spare paced
@@ -155,7 +155,7 @@ init 0
 inflate 0 256
 pages 0 giving
 ",
-        output: "\
+        output: b"\
 guest 0
 ready
 page 16
@@ -171,13 +171,13 @@ ready
 posted 0 4
 pages 17-20
 ",
-        errors: "",
+        errors: b"",
         status: 0,
     },
     Listed {
         name: "life-and-reset/after-step-06",
         commands: &[&["run"]],
-        text: "\
+        text: b"\
 # Shows: A reset after step 6 of a life with an inflate, a deflate and a report.
 host 64
 spare paced
@@ -197,7 +197,7 @@ init 0
 inflate 0 256
 pages 0 giving
 ",
-        output: "\
+        output: b"\
 guest 0
 ready
 page 16
@@ -214,13 +214,13 @@ ready
 posted 0 4
 pages 17-20
 ",
-        errors: "",
+        errors: b"",
         status: 0,
     },
     Listed {
         name: "life-and-reset/after-step-07",
         commands: &[&["run"]],
-        text: "\
+        text: b"\
 # Shows: A reset after step 7 of a life with an inflate, a deflate and a report.
 host 64
 spare paced
@@ -241,7 +241,7 @@ init 0
 inflate 0 256
 pages 0 giving
 ",
-        output: "\
+        output: b"\
 guest 0
 ready
 page 16
@@ -259,13 +259,13 @@ ready
 posted 0 4
 pages 17-20
 ",
-        errors: "",
+        errors: b"",
         status: 0,
     },
     Listed {
         name: "life-and-reset/after-step-08",
         commands: &[&["run"]],
-        text: "\
+        text: b"\
 # Shows: A reset after step 8 of a life with an inflate, a deflate and a report.
 host 64
 spare paced
@@ -287,7 +287,7 @@ init 0
 inflate 0 256
 pages 0 giving
 ",
-        output: "\
+        output: b"\
 guest 0
 ready
 page 16
@@ -306,13 +306,13 @@ ready
 posted 0 4
 pages 17-20
 ",
-        errors: "",
+        errors: b"",
         status: 0,
     },
     Listed {
         name: "life-and-reset/after-step-09",
         commands: &[&["run"]],
-        text: "\
+        text: b"\
 # Shows: A reset after step 9 of a life with an inflate, a deflate and a report.
 host 64
 spare paced
@@ -335,7 +335,7 @@ init 0
 inflate 0 256
 pages 0 giving
 ",
-        output: "\
+        output: b"\
 guest 0
 ready
 page 16
@@ -355,13 +355,13 @@ ready
 posted 0 4
 pages 17-20
 ",
-        errors: "",
+        errors: b"",
         status: 0,
     },
     Listed {
         name: "life-and-reset/after-step-10",
         commands: &[&["run"]],
-        text: "\
+        text: b"\
 # Shows: A reset after step 10 of a life with an inflate, a deflate and a report.
 host 64
 spare paced
@@ -385,7 +385,7 @@ init 0
 inflate 0 256
 pages 0 giving
 ",
-        output: "\
+        output: b"\
 guest 0
 ready
 page 16
@@ -406,13 +406,13 @@ ready
 posted 0 4
 pages 17-20
 ",
-        errors: "",
+        errors: b"",
         status: 0,
     },
     Listed {
         name: "life-and-reset/after-step-11",
         commands: &[&["run"]],
-        text: "\
+        text: b"\
 # Shows: A reset after step 11 of a life with an inflate, a deflate and a report.
 host 64
 spare paced
@@ -437,7 +437,7 @@ init 0
 inflate 0 256
 pages 0 giving
 ",
-        output: "\
+        output: b"\
 guest 0
 ready
 page 16
@@ -459,13 +459,13 @@ ready
 posted 0 4
 pages 17-20
 ",
-        errors: "",
+        errors: b"",
         status: 0,
     },
     Listed {
         name: "life-and-reset/after-step-12",
         commands: &[&["run"]],
-        text: "\
+        text: b"\
 # Shows: A reset after step 12 of a life with an inflate, a deflate and a report.
 host 64
 spare paced
@@ -491,7 +491,7 @@ init 0
 inflate 0 256
 pages 0 giving
 ",
-        output: "\
+        output: b"\
 guest 0
 ready
 page 16
@@ -514,13 +514,13 @@ ready
 posted 0 4
 pages 17-20
 ",
-        errors: "",
+        errors: b"",
         status: 0,
     },
     Listed {
         name: "life-and-reset/after-step-13",
         commands: &[&["run"]],
-        text: "\
+        text: b"\
 # Shows: A reset after step 13 of a life with an inflate, a deflate and a report.
 host 64
 spare paced
@@ -547,7 +547,7 @@ init 0
 inflate 0 256
 pages 0 giving
 ",
-        output: "\
+        output: b"\
 guest 0
 ready
 page 16
@@ -571,13 +571,13 @@ ready
 posted 0 4
 pages 17-20
 ",
-        errors: "",
+        errors: b"",
         status: 0,
     },
     Listed {
         name: "life-and-reset/after-step-14",
         commands: &[&["run"]],
-        text: "\
+        text: b"\
 # Shows: A reset after step 14 of a life with an inflate, a deflate and a report.
 host 64
 spare paced
@@ -605,7 +605,7 @@ init 0
 inflate 0 256
 pages 0 giving
 ",
-        output: "\
+        output: b"\
 guest 0
 ready
 page 16
@@ -630,13 +630,13 @@ ready
 posted 0 4
 pages 17-20
 ",
-        errors: "",
+        errors: b"",
         status: 0,
     },
     Listed {
         name: "life-and-reset/after-step-15",
         commands: &[&["run"]],
-        text: "\
+        text: b"\
 # Shows: A reset after step 15 of a life with an inflate, a deflate and a report.
 host 64
 spare paced
@@ -665,7 +665,7 @@ init 0
 inflate 0 256
 pages 0 giving
 ",
-        output: "\
+        output: b"\
 guest 0
 ready
 page 16
@@ -691,13 +691,13 @@ ready
 posted 0 4
 pages 17-20
 ",
-        errors: "",
+        errors: b"",
         status: 0,
     },
     Listed {
         name: "life-and-reset/after-step-16",
         commands: &[&["run"]],
-        text: "\
+        text: b"\
 # Shows: A reset after step 16 of a life with an inflate, a deflate and a report.
 host 64
 spare paced
@@ -727,7 +727,7 @@ init 0
 inflate 0 256
 pages 0 giving
 ",
-        output: "\
+        output: b"\
 guest 0
 ready
 page 16
@@ -754,13 +754,13 @@ ready
 posted 0 2
 pages 19-20
 ",
-        errors: "",
+        errors: b"",
         status: 0,
     },
     Listed {
         name: "life-and-reset/after-step-17",
         commands: &[&["run"]],
-        text: "\
+        text: b"\
 # Shows: A reset after step 17 of a life with an inflate, a deflate and a report.
 host 64
 spare paced
@@ -791,7 +791,7 @@ init 0
 inflate 0 256
 pages 0 giving
 ",
-        output: "\
+        output: b"\
 guest 0
 ready
 page 16
@@ -819,13 +819,13 @@ ready
 posted 0 2
 pages 19-20
 ",
-        errors: "",
+        errors: b"",
         status: 0,
     },
     Listed {
         name: "life-and-reset/after-step-18",
         commands: &[&["run"]],
-        text: "\
+        text: b"\
 # Shows: A reset after step 18 of a life with an inflate, a deflate and a report.
 host 64
 spare paced
@@ -857,7 +857,7 @@ init 0
 inflate 0 256
 pages 0 giving
 ",
-        output: "\
+        output: b"\
 guest 0
 ready
 page 16
@@ -886,13 +886,13 @@ ready
 posted 0 2
 pages 19-20
 ",
-        errors: "",
+        errors: b"",
         status: 0,
     },
     Listed {
         name: "life-and-reset/after-step-19",
         commands: &[&["run"]],
-        text: "\
+        text: b"\
 # Shows: A reset after step 19 of a life with an inflate, a deflate and a report.
 host 64
 spare paced
@@ -925,7 +925,7 @@ init 0
 inflate 0 256
 pages 0 giving
 ",
-        output: "\
+        output: b"\
 guest 0
 ready
 page 16
@@ -955,13 +955,13 @@ ready
 posted 0 2
 pages 19-20
 ",
-        errors: "",
+        errors: b"",
         status: 0,
     },
     Listed {
         name: "life-and-reset/after-step-20",
         commands: &[&["run"]],
-        text: "\
+        text: b"\
 # Shows: A reset after step 20 of a life with an inflate, a deflate and a report.
 host 64
 spare paced
@@ -995,7 +995,7 @@ init 0
 inflate 0 256
 pages 0 giving
 ",
-        output: "\
+        output: b"\
 guest 0
 ready
 page 16
@@ -1026,13 +1026,13 @@ ready
 posted 0 2
 pages 19-20
 ",
-        errors: "",
+        errors: b"",
         status: 0,
     },
     Listed {
         name: "life-and-reset/no-reset",
         commands: &[&["run"]],
-        text: "\
+        text: b"\
 # Shows: A life with an inflate, a deflate and a report.
 host 64
 spare paced
@@ -1059,7 +1059,7 @@ take 0 4
 work 0
 read 0 16 0 1
 ",
-        output: "\
+        output: b"\
 guest 0
 ready
 page 16
@@ -1083,7 +1083,7 @@ taken 0
 worked 32 bare
 bytes aa
 ",
-        errors: "",
+        errors: b"",
         status: 0,
     },
 ];

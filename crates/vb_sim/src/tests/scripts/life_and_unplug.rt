@@ -6,7 +6,7 @@ pub(in crate::tests) static SCRIPTS: [Listed; 21] = [
     Listed {
         name: "life-and-unplug/after-step-01",
         commands: &[&["run"]],
-        text: "\
+        text: b"\
 # Shows: An unplug after step 1 of a life with an inflate, a deflate and a report.
 host 64
 spare paced
@@ -17,7 +17,7 @@ unplug 0
 frames
 work 0
 ",
-        output: "\
+        output: b"\
 guest 0
 ready
 page 16
@@ -25,13 +25,13 @@ ok
 frames used 0 free 64
 no guest
 ",
-        errors: "",
+        errors: b"",
         status: 0,
     },
     Listed {
         name: "life-and-unplug/after-step-02",
         commands: &[&["run"]],
-        text: "\
+        text: b"\
 # Shows: An unplug after step 2 of a life with an inflate, a deflate and a report.
 host 64
 spare paced
@@ -43,7 +43,7 @@ unplug 0
 frames
 work 0
 ",
-        output: "\
+        output: b"\
 guest 0
 ready
 page 16
@@ -52,13 +52,13 @@ ok
 frames used 0 free 64
 no guest
 ",
-        errors: "",
+        errors: b"",
         status: 0,
     },
     Listed {
         name: "life-and-unplug/after-step-03",
         commands: &[&["run"]],
-        text: "\
+        text: b"\
 # Shows: An unplug after step 3 of a life with an inflate, a deflate and a report.
 host 64
 spare paced
@@ -71,7 +71,7 @@ unplug 0
 frames
 work 0
 ",
-        output: "\
+        output: b"\
 guest 0
 ready
 page 16
@@ -81,13 +81,13 @@ ok
 frames used 0 free 64
 no guest
 ",
-        errors: "",
+        errors: b"",
         status: 0,
     },
     Listed {
         name: "life-and-unplug/after-step-04",
         commands: &[&["run"]],
-        text: "\
+        text: b"\
 # Shows: An unplug after step 4 of a life with an inflate, a deflate and a report.
 host 64
 spare paced
@@ -101,7 +101,7 @@ unplug 0
 frames
 work 0
 ",
-        output: "\
+        output: b"\
 guest 0
 ready
 page 16
@@ -112,13 +112,13 @@ ok
 frames used 0 free 64
 no guest
 ",
-        errors: "",
+        errors: b"",
         status: 0,
     },
     Listed {
         name: "life-and-unplug/after-step-05",
         commands: &[&["run"]],
-        text: "\
+        text: b"\
 # Shows: An unplug after step 5 of a life with an inflate, a deflate and a report.
 host 64
 spare paced
@@ -133,7 +133,7 @@ unplug 0
 frames
 work 0
 ",
-        output: "\
+        output: b"\
 guest 0
 ready
 page 16
@@ -145,13 +145,13 @@ ok
 frames used 0 free 64
 no guest
 ",
-        errors: "",
+        errors: b"",
         status: 0,
     },
     Listed {
         name: "life-and-unplug/after-step-06",
         commands: &[&["run"]],
-        text: "\
+        text: b"\
 # Shows: An unplug after step 6 of a life with an inflate, a deflate and a report.
 host 64
 spare paced
@@ -167,7 +167,7 @@ unplug 0
 frames
 work 0
 ",
-        output: "\
+        output: b"\
 guest 0
 ready
 page 16
@@ -180,13 +180,13 @@ ok
 frames used 0 free 64
 no guest
 ",
-        errors: "",
+        errors: b"",
         status: 0,
     },
     Listed {
         name: "life-and-unplug/after-step-07",
         commands: &[&["run"]],
-        text: "\
+        text: b"\
 # Shows: An unplug after step 7 of a life with an inflate, a deflate and a report.
 host 64
 spare paced
@@ -203,7 +203,7 @@ unplug 0
 frames
 work 0
 ",
-        output: "\
+        output: b"\
 guest 0
 ready
 page 16
@@ -217,13 +217,13 @@ ok
 frames used 0 free 64
 no guest
 ",
-        errors: "",
+        errors: b"",
         status: 0,
     },
     Listed {
         name: "life-and-unplug/after-step-08",
         commands: &[&["run"]],
-        text: "\
+        text: b"\
 # Shows: An unplug after step 8 of a life with an inflate, a deflate and a report.
 host 64
 spare paced
@@ -241,7 +241,7 @@ unplug 0
 frames
 work 0
 ",
-        output: "\
+        output: b"\
 guest 0
 ready
 page 16
@@ -256,13 +256,13 @@ ok
 frames used 0 free 64
 no guest
 ",
-        errors: "",
+        errors: b"",
         status: 0,
     },
     Listed {
         name: "life-and-unplug/after-step-09",
         commands: &[&["run"]],
-        text: "\
+        text: b"\
 # Shows: An unplug after step 9 of a life with an inflate, a deflate and a report.
 host 64
 spare paced
@@ -281,7 +281,7 @@ unplug 0
 frames
 work 0
 ",
-        output: "\
+        output: b"\
 guest 0
 ready
 page 16
@@ -297,13 +297,13 @@ ok
 frames used 0 free 64
 no guest
 ",
-        errors: "",
+        errors: b"",
         status: 0,
     },
     Listed {
         name: "life-and-unplug/after-step-10",
         commands: &[&["run"]],
-        text: "\
+        text: b"\
 # Shows: An unplug after step 10 of a life with an inflate, a deflate and a report.
 host 64
 spare paced
@@ -323,7 +323,7 @@ unplug 0
 frames
 work 0
 ",
-        output: "\
+        output: b"\
 guest 0
 ready
 page 16
@@ -340,13 +340,13 @@ ok
 frames used 0 free 64
 no guest
 ",
-        errors: "",
+        errors: b"",
         status: 0,
     },
     Listed {
         name: "life-and-unplug/after-step-11",
         commands: &[&["run"]],
-        text: "\
+        text: b"\
 # Shows: An unplug after step 11 of a life with an inflate, a deflate and a report.
 host 64
 spare paced
@@ -367,7 +367,7 @@ unplug 0
 frames
 work 0
 ",
-        output: "\
+        output: b"\
 guest 0
 ready
 page 16
@@ -385,13 +385,13 @@ ok
 frames used 0 free 64
 no guest
 ",
-        errors: "",
+        errors: b"",
         status: 0,
     },
     Listed {
         name: "life-and-unplug/after-step-12",
         commands: &[&["run"]],
-        text: "\
+        text: b"\
 # Shows: An unplug after step 12 of a life with an inflate, a deflate and a report.
 host 64
 spare paced
@@ -413,7 +413,7 @@ unplug 0
 frames
 work 0
 ",
-        output: "\
+        output: b"\
 guest 0
 ready
 page 16
@@ -432,13 +432,13 @@ ok
 frames used 0 free 64
 no guest
 ",
-        errors: "",
+        errors: b"",
         status: 0,
     },
     Listed {
         name: "life-and-unplug/after-step-13",
         commands: &[&["run"]],
-        text: "\
+        text: b"\
 # Shows: An unplug after step 13 of a life with an inflate, a deflate and a report.
 host 64
 spare paced
@@ -461,7 +461,7 @@ unplug 0
 frames
 work 0
 ",
-        output: "\
+        output: b"\
 guest 0
 ready
 page 16
@@ -481,13 +481,13 @@ ok
 frames used 0 free 64
 no guest
 ",
-        errors: "",
+        errors: b"",
         status: 0,
     },
     Listed {
         name: "life-and-unplug/after-step-14",
         commands: &[&["run"]],
-        text: "\
+        text: b"\
 # Shows: An unplug after step 14 of a life with an inflate, a deflate and a report.
 host 64
 spare paced
@@ -511,7 +511,7 @@ unplug 0
 frames
 work 0
 ",
-        output: "\
+        output: b"\
 guest 0
 ready
 page 16
@@ -532,13 +532,13 @@ ok
 frames used 0 free 64
 no guest
 ",
-        errors: "",
+        errors: b"",
         status: 0,
     },
     Listed {
         name: "life-and-unplug/after-step-15",
         commands: &[&["run"]],
-        text: "\
+        text: b"\
 # Shows: An unplug after step 15 of a life with an inflate, a deflate and a report.
 host 64
 spare paced
@@ -563,7 +563,7 @@ unplug 0
 frames
 work 0
 ",
-        output: "\
+        output: b"\
 guest 0
 ready
 page 16
@@ -585,13 +585,13 @@ ok
 frames used 0 free 64
 no guest
 ",
-        errors: "",
+        errors: b"",
         status: 0,
     },
     Listed {
         name: "life-and-unplug/after-step-16",
         commands: &[&["run"]],
-        text: "\
+        text: b"\
 # Shows: An unplug after step 16 of a life with an inflate, a deflate and a report.
 host 64
 spare paced
@@ -617,7 +617,7 @@ unplug 0
 frames
 work 0
 ",
-        output: "\
+        output: b"\
 guest 0
 ready
 page 16
@@ -640,13 +640,13 @@ ok
 frames used 0 free 64
 no guest
 ",
-        errors: "",
+        errors: b"",
         status: 0,
     },
     Listed {
         name: "life-and-unplug/after-step-17",
         commands: &[&["run"]],
-        text: "\
+        text: b"\
 # Shows: An unplug after step 17 of a life with an inflate, a deflate and a report.
 host 64
 spare paced
@@ -673,7 +673,7 @@ unplug 0
 frames
 work 0
 ",
-        output: "\
+        output: b"\
 guest 0
 ready
 page 16
@@ -697,13 +697,13 @@ ok
 frames used 0 free 64
 no guest
 ",
-        errors: "",
+        errors: b"",
         status: 0,
     },
     Listed {
         name: "life-and-unplug/after-step-18",
         commands: &[&["run"]],
-        text: "\
+        text: b"\
 # Shows: An unplug after step 18 of a life with an inflate, a deflate and a report.
 host 64
 spare paced
@@ -731,7 +731,7 @@ unplug 0
 frames
 work 0
 ",
-        output: "\
+        output: b"\
 guest 0
 ready
 page 16
@@ -756,13 +756,13 @@ ok
 frames used 0 free 64
 no guest
 ",
-        errors: "",
+        errors: b"",
         status: 0,
     },
     Listed {
         name: "life-and-unplug/after-step-19",
         commands: &[&["run"]],
-        text: "\
+        text: b"\
 # Shows: An unplug after step 19 of a life with an inflate, a deflate and a report.
 host 64
 spare paced
@@ -791,7 +791,7 @@ unplug 0
 frames
 work 0
 ",
-        output: "\
+        output: b"\
 guest 0
 ready
 page 16
@@ -817,13 +817,13 @@ ok
 frames used 0 free 64
 no guest
 ",
-        errors: "",
+        errors: b"",
         status: 0,
     },
     Listed {
         name: "life-and-unplug/after-step-20",
         commands: &[&["run"]],
-        text: "\
+        text: b"\
 # Shows: An unplug after step 20 of a life with an inflate, a deflate and a report.
 host 64
 spare paced
@@ -853,7 +853,7 @@ unplug 0
 frames
 work 0
 ",
-        output: "\
+        output: b"\
 guest 0
 ready
 page 16
@@ -880,13 +880,13 @@ ok
 frames used 0 free 64
 no guest
 ",
-        errors: "",
+        errors: b"",
         status: 0,
     },
     Listed {
         name: "life-and-unplug/before-step-01",
         commands: &[&["run"]],
-        text: "\
+        text: b"\
 # Shows: An unplug before step 1 of a life with an inflate, a deflate and a report.
 host 64
 spare paced
@@ -896,14 +896,14 @@ unplug 0
 frames
 work 0
 ",
-        output: "\
+        output: b"\
 guest 0
 ready
 ok
 frames used 0 free 64
 no guest
 ",
-        errors: "",
+        errors: b"",
         status: 0,
     },
 ];

@@ -6,7 +6,7 @@ pub(in crate::tests) static SCRIPTS: [Listed; 16] = [
     Listed {
         name: "one-guest-paced/asked-back-until-the-queue-is-full",
         commands: &[&["run"]],
-        text: "\
+        text: b"\
 # Shows: Pages are asked back until the queue is full; on a paced device.
 host 64
 spare paced
@@ -51,7 +51,7 @@ pages 0 ballooned
 pages 0 taking
 pages 0 lent
 ",
-        output: "\
+        output: b"\
 guest 0
 ready
 nothing
@@ -93,13 +93,13 @@ pages 17-24
 pages 17-23
 pages 24
 ",
-        errors: "",
+        errors: b"",
         status: 0,
     },
     Listed {
         name: "one-guest-paced/blocks-and-their-bytes",
         commands: &[&["run"]],
-        text: "\
+        text: b"\
 # Shows: Blocks of pages and their bytes; on a paced device.
 host 64
 spare paced
@@ -130,7 +130,7 @@ scribble 0 20 0 ab
 backing 0 20
 frames
 ",
-        output: "\
+        output: b"\
 guest 0
 ready
 bad order
@@ -158,13 +158,13 @@ ok
 frame 14
 frames used 15 free 49
 ",
-        errors: "",
+        errors: b"",
         status: 0,
     },
     Listed {
         name: "one-guest-paced/calls-before-a-start",
         commands: &[&["run"]],
-        text: "\
+        text: b"\
 # Shows: Each call before the device is started; on a paced device.
 host 64
 spare paced
@@ -201,7 +201,7 @@ balloon 0
 places 0
 frames
 ",
-        output: "\
+        output: b"\
 guest 0
 not ready
 not ready
@@ -235,13 +235,13 @@ ballooned 0 actual 0 target 4 status 0
 free 48 used 0 giving 0 lent 0 taking 0 stranded 0 reporting 0
 frames used 1 free 63
 ",
-        errors: "",
+        errors: b"",
         status: 0,
     },
     Listed {
         name: "one-guest-paced/chains-that-break-a-rule",
         commands: &[&["run"]],
-        text: "\
+        text: b"\
 # Shows: Chains that break a rule, and a device that waits for a reset; on a paced device.
 host 64
 spare paced
@@ -303,7 +303,7 @@ scribble 0 0 128 000001000000
 take 0 0
 frames
 ",
-        output: "\
+        output: b"\
 guest 0
 ready
 ok
@@ -362,13 +362,13 @@ ok
 broken C10
 frames used 13 free 51
 ",
-        errors: "",
+        errors: b"",
         status: 0,
     },
     Listed {
         name: "one-guest-paced/driver-that-does-not-tell",
         commands: &[&["run"]],
-        text: "\
+        text: b"\
 # Shows: A driver that doesn't tell the host; on a paced device.
 host 64
 spare paced
@@ -414,7 +414,7 @@ inflate 0 1
 unplug 0
 frames
 ",
-        output: "\
+        output: b"\
 guest 0
 ready
 page 16
@@ -457,13 +457,13 @@ nothing
 ok
 frames used 0 free 64
 ",
-        errors: "",
+        errors: b"",
         status: 0,
     },
     Listed {
         name: "one-guest-paced/features-that-are-not-enough",
         commands: &[&["run"]],
-        text: "\
+        text: b"\
 # Shows: Starts with features that aren't enough, and resets; on a paced device.
 host 64
 spare paced
@@ -481,7 +481,7 @@ init 0
 balloon 0
 init 0
 ",
-        output: "\
+        output: b"\
 guest 0
 feature not offered
 ballooned 0 actual 0 target 0 status 131
@@ -496,13 +496,13 @@ ready
 ballooned 0 actual 0 target 0 status 15
 already up
 ",
-        errors: "",
+        errors: b"",
         status: 0,
     },
     Listed {
         name: "one-guest-paced/frames-of-the-start-alone",
         commands: &[&["run"]],
-        text: "\
+        text: b"\
 # Shows: No frame except those of the start; on a paced device.
 host 13
 spare paced
@@ -515,7 +515,7 @@ read 0 16 0 4
 backing 0 16
 frames
 ",
-        output: "\
+        output: b"\
 guest 0
 ready
 page 16
@@ -525,13 +525,13 @@ bytes 00000000
 no backing
 frames used 13 free 0
 ",
-        errors: "",
+        errors: b"",
         status: 0,
     },
     Listed {
         name: "one-guest-paced/guest-goes-in-the-middle",
         commands: &[&["run"]],
-        text: "\
+        text: b"\
 # Shows: A guest goes while its device is at a request; on a paced device.
 host 64
 spare paced
@@ -548,7 +548,7 @@ work 0
 unplug 0
 frames
 ",
-        output: "\
+        output: b"\
 guest 0
 ready
 page 16
@@ -562,13 +562,13 @@ worked 17 bare
 ok
 frames used 0 free 64
 ",
-        errors: "",
+        errors: b"",
         status: 0,
     },
     Listed {
         name: "one-guest-paced/lent-until-the-queue-is-full",
         commands: &[&["run"]],
-        text: "\
+        text: b"\
 # Shows: Pages are lent until the queue is full; on a paced device.
 host 64
 spare paced
@@ -611,7 +611,7 @@ pages 0 giving
 balloon 0
 frames
 ",
-        output: "\
+        output: b"\
 guest 0
 ready
 page 16
@@ -651,13 +651,13 @@ pages 21-26
 ballooned 5 actual 5 target 11 status 15
 frames used 13 free 51
 ",
-        errors: "",
+        errors: b"",
         status: 0,
     },
     Listed {
         name: "one-guest-paced/page-written-and-asked-after",
         commands: &[&["run"]],
-        text: "\
+        text: b"\
 # Shows: A page is written, and asked after; on a paced device.
 host 64
 spare paced
@@ -670,7 +670,7 @@ frames
 unplug 0
 frames
 ",
-        output: "\
+        output: b"\
 guest 0
 ready
 page 16
@@ -680,13 +680,13 @@ frames used 14 free 50
 ok
 frames used 0 free 64
 ",
-        errors: "",
+        errors: b"",
         status: 0,
     },
     Listed {
         name: "one-guest-paced/reports",
         commands: &[&["run"]],
-        text: "\
+        text: b"\
 # Shows: Reports; on a paced device.
 host 64
 spare paced
@@ -713,7 +713,7 @@ finish 0 4 0
 reap 0 4
 frames
 ",
-        output: "\
+        output: b"\
 guest 0
 ready
 page 16
@@ -737,13 +737,13 @@ not worked
 none
 frames used 13 free 51
 ",
-        errors: "",
+        errors: b"",
         status: 0,
     },
     Listed {
         name: "one-guest-paced/reset-strands-what-is-on-its-way",
         commands: &[&["run"]],
-        text: "\
+        text: b"\
 # Shows: A reset strands what is on its way; on a paced device.
 host 64
 spare paced
@@ -761,7 +761,7 @@ inflate 0 4
 places 0
 deflate 0 4
 ",
-        output: "\
+        output: b"\
 guest 0
 ready
 ok
@@ -776,13 +776,13 @@ posted 0 4
 free 44 used 0 giving 4 lent 0 taking 0 stranded 0 reporting 0
 nothing
 ",
-        errors: "",
+        errors: b"",
         status: 0,
     },
     Listed {
         name: "one-guest-paced/statistics",
         commands: &[&["run"]],
-        text: "\
+        text: b"\
 # Shows: Statistics; on a paced device.
 host 64
 spare paced
@@ -801,7 +801,7 @@ alloc 0 0 0
 take 0 2
 memory 0
 ",
-        output: "\
+        output: b"\
 guest 0
 ready
 memory - -
@@ -817,13 +817,13 @@ page 16
 taken 0
 memory 196608 262144
 ",
-        errors: "",
+        errors: b"",
         status: 0,
     },
     Listed {
         name: "one-guest-paced/too-few-frames-to-start",
         commands: &[&["run"]],
-        text: "\
+        text: b"\
 # Shows: Too few frames to start; on a paced device.
 host 12
 spare paced
@@ -836,7 +836,7 @@ write 0 16 1 ab
 frames
 init 0
 ",
-        output: "\
+        output: b"\
 guest 0
 no frame
 frames used 0 free 12
@@ -846,13 +846,13 @@ ok
 frames used 1 free 11
 no frame
 ",
-        errors: "",
+        errors: b"",
         status: 0,
     },
     Listed {
         name: "one-guest-paced/two-features-alone",
         commands: &[&["run"]],
-        text: "\
+        text: b"\
 # Shows: A device of two features alone; on a paced device.
 host 64
 spare paced
@@ -867,7 +867,7 @@ take 0 4
 ask 0
 inflate 0 1
 ",
-        output: "\
+        output: b"\
 guest 0
 ready
 no feature
@@ -879,13 +879,13 @@ no queue
 not taken
 nothing
 ",
-        errors: "",
+        errors: b"",
         status: 0,
     },
     Listed {
         name: "one-guest-paced/used-rings-that-no-device-wrote",
         commands: &[&["run"]],
-        text: "\
+        text: b"\
 # Shows: Used rings that no device wrote; on a paced device.
 host 64
 spare paced
@@ -903,7 +903,7 @@ balloon 0
 stats 0
 take 0 2
 ",
-        output: "\
+        output: b"\
 guest 0
 ready
 ok
@@ -918,7 +918,7 @@ ballooned 0 actual 0 target 0 status 143
 not ready
 not ready
 ",
-        errors: "",
+        errors: b"",
         status: 0,
     },
 ];

@@ -6,7 +6,7 @@ pub(in crate::tests) static SCRIPTS: [Listed; 10] = [
     Listed {
         name: "paced/guest-goes-with-its-device",
         commands: &[&["run"]],
-        text: "\
+        text: b"\
 # Shows: A guest that goes leaves its frames, and takes its device.
 host 64
 spare paced
@@ -22,7 +22,7 @@ unplug 0
 restart 0
 plug 64 8 1
 ",
-        output: "\
+        output: b"\
 guest 0
 ready
 page 16
@@ -35,13 +35,13 @@ no guest
 no guest
 no device
 ",
-        errors: "",
+        errors: b"",
         status: 0,
     },
     Listed {
         name: "paced/last-number-is-next",
         commands: &[&["run"]],
-        text: "\
+        text: b"\
 # Shows: The number that was given up last is next.
 host 64
 spare paced
@@ -61,7 +61,7 @@ frames
 plug 64 8 1
 init 1
 ",
-        output: "\
+        output: b"\
 guest 0
 guest 1
 guest 2
@@ -75,13 +75,13 @@ frames used 13 free 51
 guest 1
 ready
 ",
-        errors: "",
+        errors: b"",
         status: 0,
     },
     Listed {
         name: "paced/memory-told-and-reported",
         commands: &[&["run"]],
-        text: "\
+        text: b"\
 # Shows: A guest tells of its memory and reports it.
 host 64
 spare paced
@@ -103,7 +103,7 @@ take 0 4
 work 0
 finish 0 4 0
 ",
-        output: "\
+        output: b"\
 guest 0
 not ready
 ready
@@ -122,13 +122,13 @@ taken 0
 worked 32 bare
 not worked
 ",
-        errors: "",
+        errors: b"",
         status: 0,
     },
     Listed {
         name: "paced/new-lives-in-the-middle",
         commands: &[&["run"]],
-        text: "\
+        text: b"\
 # Shows: New lives begin while a request is visited and while pages are ballooned.
 host 64
 spare paced
@@ -163,7 +163,7 @@ memory 0
 init 0
 alloc 0 0 0
 ",
-        output: "\
+        output: b"\
 guest 0
 ready
 page 16
@@ -195,13 +195,13 @@ memory - -
 ready
 page 16
 ",
-        errors: "",
+        errors: b"",
         status: 0,
     },
     Listed {
         name: "paced/ninth-guest-is-refused",
         commands: &[&["run"]],
-        text: "\
+        text: b"\
 # Shows: A ninth guest is refused before its device is missed.
 host 64
 spare paced
@@ -222,7 +222,7 @@ plug 64 8 1
 plug 64 8 1
 plug 64 8 1
 ",
-        output: "\
+        output: b"\
 guest 0
 guest 1
 guest 2
@@ -233,13 +233,13 @@ guest 6
 guest 7
 too many
 ",
-        errors: "",
+        errors: b"",
         status: 0,
     },
     Listed {
         name: "paced/no-start-of-twelve-frames",
         commands: &[&["run"]],
-        text: "\
+        text: b"\
 # Shows: With twelve frames a driver doesn't start.
 host 12
 spare paced
@@ -247,18 +247,18 @@ plug 64 8 1
 init 0
 frames
 ",
-        output: "\
+        output: b"\
 guest 0
 no frame
 frames used 0 free 12
 ",
-        errors: "",
+        errors: b"",
         status: 0,
     },
     Listed {
         name: "paced/page-written-and-four-lent",
         commands: &[&["run"]],
-        text: "\
+        text: b"\
 # Shows: A guest writes a page and lends four, which its device visits.
 host 64
 spare paced
@@ -280,7 +280,7 @@ pages 0 ballooned
 reap 0 0
 frames
 ",
-        output: "\
+        output: b"\
 guest 0
 ready
 page 16
@@ -299,13 +299,13 @@ pages 17-20
 reaped 0 4
 frames used 14 free 50
 ",
-        errors: "",
+        errors: b"",
         status: 0,
     },
     Listed {
         name: "paced/pages-visited-and-two-back",
         commands: &[&["run"]],
-        text: "\
+        text: b"\
 # Shows: Each page of a request is visited, and two come back.
 host 64
 spare paced
@@ -341,7 +341,7 @@ sweep 0 16
 sweep 0 18
 frames
 ",
-        output: "\
+        output: b"\
 guest 0
 not ready
 ready
@@ -374,13 +374,13 @@ not ballooned
 swept bare
 frames used 13 free 51
 ",
-        errors: "",
+        errors: b"",
         status: 0,
     },
     Listed {
         name: "paced/start-of-thirteen-frames",
         commands: &[&["run"]],
-        text: "\
+        text: b"\
 # Shows: A driver needs thirteen frames.
 host 13
 spare paced
@@ -388,18 +388,18 @@ plug 64 8 1
 init 0
 frames
 ",
-        output: "\
+        output: b"\
 guest 0
 ready
 frames used 13 free 0
 ",
-        errors: "",
+        errors: b"",
         status: 0,
     },
     Listed {
         name: "paced/two-guests-get-targets",
         commands: &[&["run"]],
-        text: "\
+        text: b"\
 # Shows: Two guests get targets.
 host 100
 spare paced
@@ -417,7 +417,7 @@ inflate 0 4
 balance 16
 inflate 0 4
 ",
-        output: "\
+        output: b"\
 targets
 guest 0
 guest 1
@@ -431,7 +431,7 @@ nothing
 targets 28 0
 posted 0 4
 ",
-        errors: "",
+        errors: b"",
         status: 0,
     },
 ];

@@ -6,7 +6,7 @@ pub(in crate::tests) static SCRIPTS: [Listed; 6] = [
     Listed {
         name: "pages/blocks-of-pages-immediate",
         commands: &[&["run"]],
-        text: "\
+        text: b"\
 # Shows: Blocks of pages over an immediate device.
 host 64
 spare immediate
@@ -20,7 +20,7 @@ alloc 0 1 0
 free 0 0 32 4
 free 0 0 32 5
 ",
-        output: "\
+        output: b"\
 guest 0
 ready
 page 32
@@ -31,13 +31,13 @@ bad cpu
 not held
 ok
 ",
-        errors: "",
+        errors: b"",
         status: 0,
     },
     Listed {
         name: "pages/blocks-of-pages",
         commands: &[&["run"]],
-        text: "\
+        text: b"\
 # Shows: Blocks of pages of several orders, and what an allocation and a free are refused for.
 host 64
 spare paced
@@ -51,7 +51,7 @@ alloc 0 1 0
 free 0 0 32 4
 free 0 0 32 5
 ",
-        output: "\
+        output: b"\
 guest 0
 ready
 page 32
@@ -62,13 +62,13 @@ bad cpu
 not held
 ok
 ",
-        errors: "",
+        errors: b"",
         status: 0,
     },
     Listed {
         name: "pages/first-write-brings-a-frame",
         commands: &[&["run"]],
-        text: "\
+        text: b"\
 # Shows: The first write to a page brings a frame of zeros, after the thirteen of a start.
 host 64
 spare paced
@@ -79,7 +79,7 @@ write 0 16 0 abcd
 backing 0 16
 read 0 16 0 4
 ",
-        output: "\
+        output: b"\
 guest 0
 ready
 page 16
@@ -87,13 +87,13 @@ ok
 frame 13
 bytes abcd0000
 ",
-        errors: "",
+        errors: b"",
         status: 0,
     },
     Listed {
         name: "pages/lists-of-two-processors",
         commands: &[&["run"]],
-        text: "\
+        text: b"\
 # Shows: Lists of two processors, a refill, and draining.
 host 64
 spare immediate
@@ -110,7 +110,7 @@ alloc 0 0 0
 alloc 0 0 0
 free 0 0 17 1
 ",
-        output: "\
+        output: b"\
 guest 0
 ready
 page 16
@@ -124,13 +124,13 @@ page 17
 page 18
 not held
 ",
-        errors: "",
+        errors: b"",
         status: 0,
     },
     Listed {
         name: "pages/reads-take-no-frame",
         commands: &[&["run"]],
-        text: "\
+        text: b"\
 # Shows: A read takes no frame; past a page's end, or of a page that isn't held, it is refused.
 host 64
 spare paced
@@ -142,7 +142,7 @@ frames
 read 0 16 4093 4
 read 0 17 0 1
 ",
-        output: "\
+        output: b"\
 guest 0
 ready
 page 16
@@ -151,13 +151,13 @@ frames used 13 free 51
 out of ram
 not held
 ",
-        errors: "",
+        errors: b"",
         status: 0,
     },
     Listed {
         name: "pages/sixteenth-free",
         commands: &[&["run"]],
-        text: "\
+        text: b"\
 # Shows: The sixteenth free gives the first eight pages back to the areas.
 host 64
 spare immediate
@@ -198,7 +198,7 @@ free 0 0 31 0
 alloc 0 0 3
 alloc 0 0 0
 ",
-        output: "\
+        output: b"\
 guest 0
 ready
 page 16
@@ -236,7 +236,7 @@ ok
 page 16
 page 31
 ",
-        errors: "",
+        errors: b"",
         status: 0,
     },
 ];

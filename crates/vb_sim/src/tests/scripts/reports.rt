@@ -6,7 +6,7 @@ pub(in crate::tests) static SCRIPTS: [Listed; 12] = [
     Listed {
         name: "reports/greatest-sizes-reported",
         commands: &[&["run"]],
-        text: "\
+        text: b"\
 # Shows: A guest of the greatest sizes reports all that it has.
 host 64
 spare immediate
@@ -42,7 +42,7 @@ reap 0 4
 places 0
 frames
 ",
-        output: "\
+        output: b"\
 guest 0
 ready
 page 512
@@ -75,13 +75,13 @@ reaped 0 512
 free 16368 used 0 giving 0 lent 0 taking 0 stranded 0 reporting 0
 frames used 13 free 51
 ",
-        errors: "",
+        errors: b"",
         status: 0,
     },
     Listed {
         name: "reports/inflate-before-report",
         commands: &[&["run"]],
-        text: "\
+        text: b"\
 # Shows: A visit goes on with an inflate before a report.
 host 64
 spare paced
@@ -105,7 +105,7 @@ work 0
 balloon 0
 frames
 ",
-        output: "\
+        output: b"\
 guest 0
 ready
 page 16
@@ -126,13 +126,13 @@ worked 33 bare
 ballooned 2 actual 0 target 2 status 15
 frames used 13 free 51
 ",
-        errors: "",
+        errors: b"",
         status: 0,
     },
     Listed {
         name: "reports/lists-drained-for-report",
         commands: &[&["run"]],
-        text: "\
+        text: b"\
 # Shows: A report puts the pages of the processors' lists together first.
 host 64
 spare immediate
@@ -154,7 +154,7 @@ finish 0 4 0
 reap 0 4
 report 0 0
 ",
-        output: "\
+        output: b"\
 guest 0
 ready
 page 16
@@ -173,13 +173,13 @@ finished 0
 reaped 0 32
 posted 0 48
 ",
-        errors: "",
+        errors: b"",
         status: 0,
     },
     Listed {
         name: "reports/nothing-is-reported",
         commands: &[&["run"]],
-        text: "\
+        text: b"\
 # Shows: Calls on the queue of reports for which nothing is there.
 host 64
 spare paced
@@ -203,7 +203,7 @@ take 0 4
 finish 0 4 1
 finish 0 4 0
 ",
-        output: "\
+        output: b"\
 guest 0
 ready
 ok
@@ -224,13 +224,13 @@ taken 0
 not taken
 not worked
 ",
-        errors: "",
+        errors: b"",
         status: 0,
     },
     Listed {
         name: "reports/report-and-statistics",
         commands: &[&["run"]],
-        text: "\
+        text: b"\
 # Shows: A report of free pages, and statistics before and after it.
 # A guest reports its free pages to its host, which takes their frames back, and tells it how much
 # of its memory is free.
@@ -285,7 +285,7 @@ stats 0
 take 0 2
 memory 0
 ",
-        output: "\
+        output: b"\
 guest 0
 ready
 page 16
@@ -314,13 +314,13 @@ filled
 taken 0
 memory 131072 262144
 ",
-        errors: "",
+        errors: b"",
         status: 0,
     },
     Listed {
         name: "reports/report-discards",
         commands: &[&["run"]],
-        text: "\
+        text: b"\
 # Shows: A report discards the frame of a free page; blocks from a start on.
 host 64
 spare paced
@@ -388,7 +388,7 @@ reap 0 4
 report 0 40
 report 0 17
 ",
-        output: "\
+        output: b"\
 guest 0
 ready
 page 16
@@ -453,13 +453,13 @@ reaped 0 48
 nothing
 posted 0 32
 ",
-        errors: "",
+        errors: b"",
         status: 0,
     },
     Listed {
         name: "reports/report-frees-frames-for-another",
         commands: &[&["run"]],
-        text: "\
+        text: b"\
 # Shows: Two guests short of frames; a report gives frames back for the other one.
 host 30
 spare immediate
@@ -484,7 +484,7 @@ frames
 write 1 18 0 05
 reap 0 4
 ",
-        output: "\
+        output: b"\
 guest 0
 guest 1
 ready
@@ -505,13 +505,13 @@ frames used 28 free 2
 ok
 reaped 0 48
 ",
-        errors: "",
+        errors: b"",
         status: 0,
     },
     Listed {
         name: "reports/report-of-two-blocks",
         commands: &[&["run"]],
-        text: "\
+        text: b"\
 # Shows: A queue of two descriptors has a report of two blocks.
 host 64
 spare immediate
@@ -525,7 +525,7 @@ reap 0 4
 report 0 64
 pages 0 reporting
 ",
-        output: "\
+        output: b"\
 guest 0
 ready
 posted 0 48
@@ -536,13 +536,13 @@ reaped 0 48
 posted 0 192
 pages 64-255
 ",
-        errors: "",
+        errors: b"",
         status: 0,
     },
     Listed {
         name: "reports/reported-until-reaped",
         commands: &[&["run"]],
-        text: "\
+        text: b"\
 # Shows: A report keeps its pages until it is reaped.
 host 64
 spare immediate
@@ -564,7 +564,7 @@ places 0
 balloon 0
 alloc 0 0 0
 ",
-        output: "\
+        output: b"\
 guest 0
 ready
 page 16
@@ -583,13 +583,13 @@ free 32 used 16 giving 0 lent 0 taking 0 stranded 0 reporting 0
 ballooned 0 actual 0 target 0 status 15
 page 32
 ",
-        errors: "",
+        errors: b"",
         status: 0,
     },
     Listed {
         name: "reports/reset-frees-reported-pages",
         commands: &[&["run"]],
-        text: "\
+        text: b"\
 # Shows: A reset frees the pages of a report, and no visit goes on with it.
 host 64
 spare paced
@@ -613,7 +613,7 @@ read 0 16 0 2
 report 0 0
 take 0 4
 ",
-        output: "\
+        output: b"\
 guest 0
 ready
 page 16
@@ -634,13 +634,13 @@ bytes ee00
 posted 0 32
 taken 0
 ",
-        errors: "",
+        errors: b"",
         status: 0,
     },
     Listed {
         name: "reports/small-blocks-left-out",
         commands: &[&["run"]],
-        text: "\
+        text: b"\
 # Shows: A report leaves out small blocks, and those before its first page.
 host 64
 spare immediate
@@ -662,7 +662,7 @@ reap 0 4
 report 0 33
 places 0
 ",
-        output: "\
+        output: b"\
 guest 0
 ready
 page 16
@@ -681,13 +681,13 @@ reaped 0 16
 posted 0 16
 free 16 used 16 giving 0 lent 0 taking 0 stranded 0 reporting 16
 ",
-        errors: "",
+        errors: b"",
         status: 0,
     },
     Listed {
         name: "reports/without-reporting",
         commands: &[&["run"]],
-        text: "\
+        text: b"\
 # Shows: A guest without page reporting.
 host 64
 spare paced
@@ -697,14 +697,14 @@ report 0 0
 take 0 4
 reap 0 4
 ",
-        output: "\
+        output: b"\
 guest 0
 ready
 no feature
 no queue
 no feature
 ",
-        errors: "",
+        errors: b"",
         status: 0,
     },
 ];

@@ -6,7 +6,7 @@ pub(in crate::tests) static SCRIPTS: [Listed; 11] = [
     Listed {
         name: "requests/asked-back-then-free",
         commands: &[&["run"]],
-        text: "\
+        text: b"\
 # Shows: A page that was asked back is free only after its request is reaped.
 host 64
 spare immediate
@@ -30,7 +30,7 @@ reap 0 1
 alloc 0 0 0
 balloon 0
 ",
-        output: "\
+        output: b"\
 guest 0
 ready
 ok
@@ -51,13 +51,13 @@ reaped 0 1
 page 16
 ballooned 47 actual 47 target 48 status 15
 ",
-        errors: "",
+        errors: b"",
         status: 0,
     },
     Listed {
         name: "requests/at-most-256-pages",
         commands: &[&["run"]],
-        text: "\
+        text: b"\
 # Shows: At most 256 pages go into one request.
 host 64
 spare immediate
@@ -71,7 +71,7 @@ take 0 0
 finish 0 0 0
 pages 0 ballooned
 ",
-        output: "\
+        output: b"\
 guest 0
 ready
 ok
@@ -82,13 +82,13 @@ taken 0
 finished 0
 pages 16-271
 ",
-        errors: "",
+        errors: b"",
         status: 0,
     },
     Listed {
         name: "requests/deflate-and-sweep",
         commands: &[&["run"]],
-        text: "\
+        text: b"\
 # Shows: Deflate and sweep, and what both sides answer to questions.
 host 64
 spare immediate
@@ -114,7 +114,7 @@ pages 0 taking
 reap 0 1
 places 0
 ",
-        output: "\
+        output: b"\
 guest 0
 ready
 ok
@@ -137,13 +137,13 @@ pages 16
 reaped 0 1
 free 44 used 1 giving 0 lent 3 taking 0 stranded 0 reporting 0
 ",
-        errors: "",
+        errors: b"",
         status: 0,
     },
     Listed {
         name: "requests/deflate-stops-at-the-target",
         commands: &[&["run"]],
-        text: "\
+        text: b"\
 # Shows: A deflate stops at the target; oom doesn't.
 host 64
 spare immediate
@@ -159,7 +159,7 @@ deflate 0 1
 oom 0 1
 pages 0 taking
 ",
-        output: "\
+        output: b"\
 guest 0
 ready
 ok
@@ -172,13 +172,13 @@ nothing
 posted 0 1
 pages 16
 ",
-        errors: "",
+        errors: b"",
         status: 0,
     },
     Listed {
         name: "requests/devices-of-both-paces",
         commands: &[&["run"]],
-        text: "\
+        text: b"\
 # Shows: Requests of two guests, on a device of each pace.
 # Two guests lend pages to their host. The device of the first visits the pages one by one, that of
 # the second takes all their frames at once.
@@ -259,7 +259,7 @@ pages 1 ballooned
 places 0
 places 1
 ",
-        output: "\
+        output: b"\
 guest 0
 guest 1
 ready
@@ -317,13 +317,13 @@ pages 18
 free 47 used 0 giving 0 lent 1 taking 0 stranded 0 reporting 0
 free 47 used 0 giving 0 lent 1 taking 0 stranded 0 reporting 0
 ",
-        errors: "",
+        errors: b"",
         status: 0,
     },
     Listed {
         name: "requests/finished-out-of-order",
         commands: &[&["run"]],
-        text: "\
+        text: b"\
 # Shows: Three requests, finished out of order, and reaped in the order of finishing.
 host 64
 spare immediate
@@ -347,7 +347,7 @@ reap 0 0
 reap 0 0
 pages 0 lent
 ",
-        output: "\
+        output: b"\
 guest 0
 ready
 ok
@@ -368,13 +368,13 @@ reaped 1 1
 none
 pages 16-18
 ",
-        errors: "",
+        errors: b"",
         status: 0,
     },
     Listed {
         name: "requests/immediate-inflate",
         commands: &[&["run"]],
-        text: "\
+        text: b"\
 # Shows: An inflate on an immediate device: finish needs no work.
 host 64
 spare immediate
@@ -386,7 +386,7 @@ pages 0 giving
 take 0 0
 finish 0 0 0
 ",
-        output: "\
+        output: b"\
 guest 0
 ready
 ok
@@ -395,13 +395,13 @@ pages 16-19
 taken 0
 finished 0
 ",
-        errors: "",
+        errors: b"",
         status: 0,
     },
     Listed {
         name: "requests/paced-inflate",
         commands: &[&["run"]],
-        text: "\
+        text: b"\
 # Shows: An inflate on a paced device, from the target to the reaped reply.
 host 64
 spare paced
@@ -425,7 +425,7 @@ reap 0 0
 pages 0 lent
 balloon 0
 ",
-        output: "\
+        output: b"\
 guest 0
 ready
 ok
@@ -446,13 +446,13 @@ reaped 0 4
 pages 16-19
 ballooned 4 actual 4 target 4 status 15
 ",
-        errors: "",
+        errors: b"",
         status: 0,
     },
     Listed {
         name: "requests/pages-given-and-asked-back",
         commands: &[&["run"]],
-        text: "\
+        text: b"\
 # Shows: A guest lends pages, and asks some of them back.
 # A guest lends pages to its host, and gets some of them back.
 
@@ -508,7 +508,7 @@ alloc 0 0 0
 read 0 17 0 4
 read 0 16 0 4
 ",
-        output: "\
+        output: b"\
 guest 0
 ready
 page 16
@@ -543,13 +543,13 @@ page 17
 bytes 00000000
 bytes c0ffee00
 ",
-        errors: "",
+        errors: b"",
         status: 0,
     },
     Listed {
         name: "requests/queue-of-two-is-full",
         commands: &[&["run"]],
-        text: "\
+        text: b"\
 # Shows: Two requests fill a queue of two.
 host 64
 spare immediate
@@ -560,7 +560,7 @@ inflate 0 1
 inflate 0 1
 inflate 0 1
 ",
-        output: "\
+        output: b"\
 guest 0
 ready
 ok
@@ -568,13 +568,13 @@ posted 0 1
 posted 1 1
 queue full
 ",
-        errors: "",
+        errors: b"",
         status: 0,
     },
     Listed {
         name: "requests/sixteen-requests",
         commands: &[&["run"]],
-        text: "\
+        text: b"\
 # Shows: Sixteen requests fill a queue; sixteen taken chains make a device busy.
 host 64
 spare immediate
@@ -616,7 +616,7 @@ take 0 0
 take 0 0
 take 0 0
 ",
-        output: "\
+        output: b"\
 guest 0
 ready
 ok
@@ -655,7 +655,7 @@ taken 14
 taken 15
 busy
 ",
-        errors: "",
+        errors: b"",
         status: 0,
     },
 ];

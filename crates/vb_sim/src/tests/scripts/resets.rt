@@ -6,7 +6,7 @@ pub(in crate::tests) static SCRIPTS: [Listed; 5] = [
     Listed {
         name: "resets/features-and-resets",
         commands: &[&["run"]],
-        text: "\
+        text: b"\
 # Shows: Refused features leave the status at 131; a reset allows a new start.
 host 64
 spare paced
@@ -19,7 +19,7 @@ init 0 0000000000000027
 reset 0
 init 0
 ",
-        output: "\
+        output: b"\
 guest 0
 ready
 ballooned 0 actual 0 target 0 status 15
@@ -29,13 +29,13 @@ version missing
 ok
 ready
 ",
-        errors: "",
+        errors: b"",
         status: 0,
     },
     Listed {
         name: "resets/frames-kept-and-pages-stranded",
         commands: &[&["run"]],
-        text: "\
+        text: b"\
 # Shows: A reset keeps frames, and strands pages that were lent.
 host 64
 spare immediate
@@ -67,7 +67,7 @@ frames
 reap 0 0
 pages 0 lent
 ",
-        output: "\
+        output: b"\
 guest 0
 ready
 page 16
@@ -96,13 +96,13 @@ frames used 14 free 50
 reaped 0 3
 pages 17-19
 ",
-        errors: "",
+        errors: b"",
         status: 0,
     },
     Listed {
         name: "resets/nothing-taken-after-reset",
         commands: &[&["run"]],
-        text: "\
+        text: b"\
 # Shows: Nothing is taken after a reset.
 host 64
 spare paced
@@ -133,7 +133,7 @@ reap 0 0
 reap 0 4
 places 0
 ",
-        output: "\
+        output: b"\
 guest 0
 ready
 ok
@@ -161,13 +161,13 @@ none
 none
 free 44 used 0 giving 0 lent 0 taking 0 stranded 4 reporting 0
 ",
-        errors: "",
+        errors: b"",
         status: 0,
     },
     Listed {
         name: "resets/refused-start-until-reset",
         commands: &[&["run"]],
-        text: "\
+        text: b"\
 # Shows: A refused start stays until a reset.
 host 64
 spare paced
@@ -180,7 +180,7 @@ init 0 0000000000000027
 reset 0
 init 0
 ",
-        output: "\
+        output: b"\
 guest 0
 feature not offered
 ballooned 0 actual 0 target 0 status 131
@@ -190,13 +190,13 @@ version missing
 ok
 ready
 ",
-        errors: "",
+        errors: b"",
         status: 0,
     },
     Listed {
         name: "resets/reset-between-finish-and-reap",
         commands: &[&["run"]],
-        text: "\
+        text: b"\
 # Shows: A reset between finish and reap: pages become stranded, and are offered again first.
 host 64
 spare paced
@@ -222,7 +222,7 @@ init 0
 inflate 0 4
 pages 0 giving
 ",
-        output: "\
+        output: b"\
 guest 0
 ready
 ok
@@ -245,7 +245,7 @@ ready
 posted 0 4
 pages 16-19
 ",
-        errors: "",
+        errors: b"",
         status: 0,
     },
 ];

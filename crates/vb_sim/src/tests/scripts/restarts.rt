@@ -6,7 +6,7 @@ pub(in crate::tests) static SCRIPTS: [Listed; 11] = [
     Listed {
         name: "restarts/eight-guests",
         commands: &[&["run"]],
-        text: "\
+        text: b"\
 # Shows: Eight guests; numbers that were given up come again; spare devices run out.
 host 200
 spare immediate
@@ -36,7 +36,7 @@ unplug 3
 plug 64 8 1
 reset 3
 ",
-        output: "\
+        output: b"\
 guest 0
 guest 1
 guest 2
@@ -54,13 +54,13 @@ ok
 no device
 no guest
 ",
-        errors: "",
+        errors: b"",
         status: 0,
     },
     Listed {
         name: "restarts/frames-back-and-target-kept",
         commands: &[&["run"]],
-        text: "\
+        text: b"\
 # Shows: A restart gives all frames back, and keeps the target.
 host 64
 spare immediate
@@ -97,7 +97,7 @@ inflate 0 8
 pages 0 giving
 frames
 ",
-        output: "\
+        output: b"\
 guest 0
 ready
 page 16
@@ -131,13 +131,13 @@ posted 0 8
 pages 17-24
 frames used 14 free 50
 ",
-        errors: "",
+        errors: b"",
         status: 0,
     },
     Listed {
         name: "restarts/frames-go-to-a-neighbour",
         commands: &[&["run"]],
-        text: "\
+        text: b"\
 # Shows: Frames of a guest that begins anew go to another, whose pages stay.
 host 27
 spare immediate
@@ -164,7 +164,7 @@ frames
 alloc 0 0 0
 write 0 16 0 aa
 ",
-        output: "\
+        output: b"\
 guest 0
 guest 1
 ready
@@ -187,13 +187,13 @@ frames used 15 free 12
 page 16
 ok
 ",
-        errors: "",
+        errors: b"",
         status: 0,
     },
     Listed {
         name: "restarts/guest-that-went",
         commands: &[&["run"]],
-        text: "\
+        text: b"\
 # Shows: A guest that went is not there any more.
 host 64
 spare paced
@@ -217,7 +217,7 @@ balloon 0
 backing 0 0
 frames
 ",
-        output: "\
+        output: b"\
 guest 0
 ready
 page 16
@@ -238,13 +238,13 @@ no guest
 no guest
 frames used 0 free 64
 ",
-        errors: "",
+        errors: b"",
         status: 0,
     },
     Listed {
         name: "restarts/next-guest-has-next-device",
         commands: &[&["run"]],
-        text: "\
+        text: b"\
 # Shows: The next guest has the next device, and a target of its own.
 host 64
 spare paced
@@ -266,7 +266,7 @@ work 0
 finish 0 0 0
 reap 0 0
 ",
-        output: "\
+        output: b"\
 guest 0
 ready
 ok
@@ -284,13 +284,13 @@ idle
 finished 0
 reaped 0 2
 ",
-        errors: "",
+        errors: b"",
         status: 0,
     },
     Listed {
         name: "restarts/number-given-up-last",
         commands: &[&["run"]],
-        text: "\
+        text: b"\
 # Shows: The next guest has the number that was given up last.
 host 64
 spare immediate
@@ -310,7 +310,7 @@ balloon 1
 balloon 0
 unplug 0
 ",
-        output: "\
+        output: b"\
 guest 0
 guest 1
 guest 2
@@ -323,13 +323,13 @@ ballooned 0 actual 0 target 0 status 0
 no guest
 no guest
 ",
-        errors: "",
+        errors: b"",
         status: 0,
     },
     Listed {
         name: "restarts/refused-features-then-restart",
         commands: &[&["run"]],
-        text: "\
+        text: b"\
 # Shows: A driver whose features were refused starts anew.
 host 64
 spare paced
@@ -342,7 +342,7 @@ balloon 0
 frames
 init 0
 ",
-        output: "\
+        output: b"\
 guest 0
 version missing
 ballooned 0 actual 0 target 0 status 131
@@ -352,13 +352,13 @@ ballooned 0 actual 0 target 0 status 0
 frames used 0 free 64
 ready
 ",
-        errors: "",
+        errors: b"",
         status: 0,
     },
     Listed {
         name: "restarts/restart-before-start",
         commands: &[&["run"]],
-        text: "\
+        text: b"\
 # Shows: A guest that has not started begins anew.
 host 64
 spare paced
@@ -371,7 +371,7 @@ restart 0
 balloon 0
 alloc 0 0 0
 ",
-        output: "\
+        output: b"\
 no guest
 guest 0
 page 16
@@ -381,13 +381,13 @@ ok
 ballooned 0 actual 0 target 3 status 0
 page 16
 ",
-        errors: "",
+        errors: b"",
         status: 0,
     },
     Listed {
         name: "restarts/restart-drops-a-report",
         commands: &[&["run"]],
-        text: "\
+        text: b"\
 # Shows: A restart drops a taken report; no later work touches the new life.
 host 64
 spare paced
@@ -403,7 +403,7 @@ write 0 16 0 ee
 work 0
 read 0 16 0 1
 ",
-        output: "\
+        output: b"\
 guest 0
 ready
 posted 0 48
@@ -416,13 +416,13 @@ ok
 idle
 bytes ee
 ",
-        errors: "",
+        errors: b"",
         status: 0,
     },
     Listed {
         name: "restarts/restart-ends-visits",
         commands: &[&["run"]],
-        text: "\
+        text: b"\
 # Shows: A restart ends what the device was at.
 host 64
 spare paced
@@ -453,7 +453,7 @@ work 0
 work 0
 finish 0 0 0
 ",
-        output: "\
+        output: b"\
 guest 0
 ready
 ok
@@ -481,13 +481,13 @@ worked 16 bare
 worked 17 bare
 finished 0
 ",
-        errors: "",
+        errors: b"",
         status: 0,
     },
     Listed {
         name: "restarts/unplug-gives-frames-back",
         commands: &[&["run"]],
-        text: "\
+        text: b"\
 # Shows: Unplugging gives every frame back; a new guest's pages are zeros; spare devices run out.
 host 64
 spare paced
@@ -506,7 +506,7 @@ backing 0 16
 read 0 16 0 2
 plug 64 8 1
 ",
-        output: "\
+        output: b"\
 guest 0
 ready
 page 16
@@ -521,7 +521,7 @@ frame 13
 bytes bb00
 no device
 ",
-        errors: "",
+        errors: b"",
         status: 0,
     },
 ];

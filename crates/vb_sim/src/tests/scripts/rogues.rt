@@ -6,7 +6,7 @@ pub(in crate::tests) static SCRIPTS: [Listed; 26] = [
     Listed {
         name: "rogues/broken-chain-without-end",
         commands: &[&["run"]],
-        text: "\
+        text: b"\
 # Shows: A chain without end; the device needs a reset from then on.
 host 64
 spare immediate
@@ -19,7 +19,7 @@ take 0 0
 balloon 0
 take 0 0
 ",
-        output: "\
+        output: b"\
 guest 0
 ready
 ok
@@ -29,13 +29,13 @@ broken C3
 ballooned 0 actual 0 target 0 status 79
 needs reset
 ",
-        errors: "",
+        errors: b"",
         status: 0,
     },
     Listed {
         name: "rogues/broken-direction",
         commands: &[&["run"]],
-        text: "\
+        text: b"\
 # Shows: A writable descriptor on the queue of inflates.
 host 64
 spare immediate
@@ -45,20 +45,20 @@ scribble 0 0 0 00400000000000000400000002000000
 scribble 0 0 128 000001000000
 take 0 0
 ",
-        output: "\
+        output: b"\
 guest 0
 ready
 ok
 ok
 broken C5
 ",
-        errors: "",
+        errors: b"",
         status: 0,
     },
     Listed {
         name: "rogues/broken-head",
         commands: &[&["run"]],
-        text: "\
+        text: b"\
 # Shows: A head that is no descriptor.
 host 64
 spare immediate
@@ -67,19 +67,19 @@ init 0
 scribble 0 0 128 000001000800
 take 0 0
 ",
-        output: "\
+        output: b"\
 guest 0
 ready
 ok
 broken C1
 ",
-        errors: "",
+        errors: b"",
         status: 0,
     },
     Listed {
         name: "rogues/broken-index",
         commands: &[&["run"]],
-        text: "\
+        text: b"\
 # Shows: An available index that is nine ahead, where the queue has eight.
 host 64
 spare immediate
@@ -88,19 +88,19 @@ init 0
 scribble 0 0 130 0900
 take 0 0
 ",
-        output: "\
+        output: b"\
 guest 0
 ready
 ok
 broken C7
 ",
-        errors: "",
+        errors: b"",
         status: 0,
     },
     Listed {
         name: "rogues/broken-indirect",
         commands: &[&["run"]],
-        text: "\
+        text: b"\
 # Shows: A descriptor with the INDIRECT flag.
 host 64
 spare immediate
@@ -110,20 +110,20 @@ scribble 0 0 0 00400000000000000400000004000000
 scribble 0 0 128 000001000000
 take 0 0
 ",
-        output: "\
+        output: b"\
 guest 0
 ready
 ok
 ok
 broken C4
 ",
-        errors: "",
+        errors: b"",
         status: 0,
     },
     Listed {
         name: "rogues/broken-length",
         commands: &[&["run"]],
-        text: "\
+        text: b"\
 # Shows: A request whose length is no multiple of 4.
 host 64
 spare immediate
@@ -134,7 +134,7 @@ scribble 0 4 0 14000000
 scribble 0 0 128 000001000000
 take 0 0
 ",
-        output: "\
+        output: b"\
 guest 0
 ready
 ok
@@ -142,13 +142,13 @@ ok
 ok
 broken C8
 ",
-        errors: "",
+        errors: b"",
         status: 0,
     },
     Listed {
         name: "rogues/broken-next",
         commands: &[&["run"]],
-        text: "\
+        text: b"\
 # Shows: A descriptor whose next is no descriptor.
 host 64
 spare immediate
@@ -159,7 +159,7 @@ scribble 0 4 0 14000000
 scribble 0 0 128 000001000000
 take 0 0
 ",
-        output: "\
+        output: b"\
 guest 0
 ready
 ok
@@ -167,13 +167,13 @@ ok
 ok
 broken C2
 ",
-        errors: "",
+        errors: b"",
         status: 0,
     },
     Listed {
         name: "rogues/broken-page-past-the-end",
         commands: &[&["run"]],
-        text: "\
+        text: b"\
 # Shows: A request that names a page past the end.
 host 64
 spare immediate
@@ -184,7 +184,7 @@ scribble 0 4 0 40000000
 scribble 0 0 128 000001000000
 take 0 0
 ",
-        output: "\
+        output: b"\
 guest 0
 ready
 ok
@@ -192,13 +192,13 @@ ok
 ok
 broken C9
 ",
-        errors: "",
+        errors: b"",
         status: 0,
     },
     Listed {
         name: "rogues/broken-piece-past-the-end",
         commands: &[&["run"]],
-        text: "\
+        text: b"\
 # Shows: A piece that begins at the end of memory.
 host 64
 spare immediate
@@ -208,20 +208,20 @@ scribble 0 0 0 00000400000000000400000000000000
 scribble 0 0 128 000001000000
 take 0 0
 ",
-        output: "\
+        output: b"\
 guest 0
 ready
 ok
 ok
 broken C6
 ",
-        errors: "",
+        errors: b"",
         status: 0,
     },
     Listed {
         name: "rogues/broken-piece-wraps",
         commands: &[&["run"]],
-        text: "\
+        text: b"\
 # Shows: A piece whose address and length wrap.
 host 64
 spare immediate
@@ -231,20 +231,20 @@ scribble 0 0 0 fcffffffffffffff0400000000000000
 scribble 0 0 128 000001000000
 take 0 0
 ",
-        output: "\
+        output: b"\
 guest 0
 ready
 ok
 ok
 broken C6
 ",
-        errors: "",
+        errors: b"",
         status: 0,
     },
     Listed {
         name: "rogues/broken-report-direction",
         commands: &[&["run"]],
-        text: "\
+        text: b"\
 # Shows: A readable descriptor on the queue of reports.
 host 64
 spare immediate
@@ -254,20 +254,20 @@ scribble 0 3 0 00000100000000000010000000000000
 scribble 0 3 128 000001000000
 take 0 4
 ",
-        output: "\
+        output: b"\
 guest 0
 ready
 ok
 ok
 broken C5
 ",
-        errors: "",
+        errors: b"",
         status: 0,
     },
     Listed {
         name: "rogues/broken-report-length",
         commands: &[&["run"]],
-        text: "\
+        text: b"\
 # Shows: A report whose length is no multiple of 4096.
 host 64
 spare immediate
@@ -277,20 +277,20 @@ scribble 0 3 0 00000100000000000008000002000000
 scribble 0 3 128 000001000000
 take 0 4
 ",
-        output: "\
+        output: b"\
 guest 0
 ready
 ok
 ok
 broken C8
 ",
-        errors: "",
+        errors: b"",
         status: 0,
     },
     Listed {
         name: "rogues/broken-report-no-page",
         commands: &[&["run"]],
-        text: "\
+        text: b"\
 # Shows: A report of an address that is no page's.
 host 64
 spare immediate
@@ -300,20 +300,20 @@ scribble 0 3 0 00080100000000000010000002000000
 scribble 0 3 128 000001000000
 take 0 4
 ",
-        output: "\
+        output: b"\
 guest 0
 ready
 ok
 ok
 broken C9
 ",
-        errors: "",
+        errors: b"",
         status: 0,
     },
     Listed {
         name: "rogues/broken-report-reserved",
         commands: &[&["run"]],
-        text: "\
+        text: b"\
 # Shows: A report of a reserved page.
 host 64
 spare immediate
@@ -323,20 +323,20 @@ scribble 0 3 0 00f00000000000000010000002000000
 scribble 0 3 128 000001000000
 take 0 4
 ",
-        output: "\
+        output: b"\
 guest 0
 ready
 ok
 ok
 broken C10
 ",
-        errors: "",
+        errors: b"",
         status: 0,
     },
     Listed {
         name: "rogues/broken-reserved-page",
         commands: &[&["run"]],
-        text: "\
+        text: b"\
 # Shows: A request that names a reserved page.
 host 64
 spare immediate
@@ -347,7 +347,7 @@ scribble 0 4 0 03000000
 scribble 0 0 128 000001000000
 take 0 0
 ",
-        output: "\
+        output: b"\
 guest 0
 ready
 ok
@@ -355,13 +355,13 @@ ok
 ok
 broken C10
 ",
-        errors: "",
+        errors: b"",
         status: 0,
     },
     Listed {
         name: "rogues/broken-ring-then-restart",
         commands: &[&["run"]],
-        text: "\
+        text: b"\
 # Shows: A used entry that isn't outstanding breaks the ring; a restart mends it.
 host 64
 spare immediate
@@ -376,7 +376,7 @@ restart 0
 init 0
 inflate 0 1
 ",
-        output: "\
+        output: b"\
 guest 0
 ready
 ok
@@ -388,13 +388,13 @@ ok
 ready
 posted 0 1
 ",
-        errors: "",
+        errors: b"",
         status: 0,
     },
     Listed {
         name: "rogues/broken-statistics",
         commands: &[&["run"]],
-        text: "\
+        text: b"\
 # Shows: Statistics of 11 bytes.
 host 64
 spare immediate
@@ -403,19 +403,19 @@ init 0
 scribble 0 2 8 0b000000
 take 0 2
 ",
-        output: "\
+        output: b"\
 guest 0
 ready
 ok
 broken C8
 ",
-        errors: "",
+        errors: b"",
         status: 0,
     },
     Listed {
         name: "rogues/eight-ahead",
         commands: &[&["run"]],
-        text: "\
+        text: b"\
 # Shows: An index that is eight ahead is allowed; descriptor 0 has no length.
 host 64
 spare immediate
@@ -424,19 +424,19 @@ init 0
 scribble 0 0 130 0800
 take 0 0
 ",
-        output: "\
+        output: b"\
 guest 0
 ready
 ok
 broken C8
 ",
-        errors: "",
+        errors: b"",
         status: 0,
     },
     Listed {
         name: "rogues/honest-beside-rogue",
         commands: &[&["run"]],
-        text: "\
+        text: b"\
 # Shows: A second guest's reads stay the same beside a rogue guest.
 host 64
 spare immediate
@@ -463,7 +463,7 @@ read 1 16 0 4
 restart 0
 read 1 16 0 4
 ",
-        output: "\
+        output: b"\
 guest 0
 ready
 guest 1
@@ -486,13 +486,13 @@ bytes c0ffee00
 ok
 bytes c0ffee00
 ",
-        errors: "",
+        errors: b"",
         status: 0,
     },
     Listed {
         name: "rogues/last-bytes-of-memory",
         commands: &[&["run"]],
-        text: "\
+        text: b"\
 # Shows: The last four bytes of memory, which read as 0.
 host 64
 spare immediate
@@ -502,20 +502,20 @@ scribble 0 0 0 fcff0300000000000400000000000000
 scribble 0 0 128 000001000000
 take 0 0
 ",
-        output: "\
+        output: b"\
 guest 0
 ready
 ok
 ok
 broken C10
 ",
-        errors: "",
+        errors: b"",
         status: 0,
     },
     Listed {
         name: "rogues/page-named-twice",
         commands: &[&["run"]],
-        text: "\
+        text: b"\
 # Shows: A page that is named twice counts once.
 host 64
 spare immediate
@@ -528,7 +528,7 @@ take 0 0
 finish 0 0 0
 pages 0 ballooned
 ",
-        output: "\
+        output: b"\
 guest 0
 ready
 ok
@@ -538,13 +538,13 @@ taken 0
 finished 0
 pages 20
 ",
-        errors: "",
+        errors: b"",
         status: 0,
     },
     Listed {
         name: "rogues/report-written-by-hand",
         commands: &[&["run"]],
-        text: "\
+        text: b"\
 # Shows: A report that is written by hand.
 host 64
 spare immediate
@@ -554,20 +554,20 @@ scribble 0 3 0 00000100000000000010000002000000
 scribble 0 3 128 000001000000
 take 0 4
 ",
-        output: "\
+        output: b"\
 guest 0
 ready
 ok
 ok
 taken 0
 ",
-        errors: "",
+        errors: b"",
         status: 0,
     },
     Listed {
         name: "rogues/request-written-by-hand",
         commands: &[&["run"]],
-        text: "\
+        text: b"\
 # Shows: A request that is written into the ring by hand is taken from its bytes.
 host 64
 spare immediate
@@ -580,7 +580,7 @@ take 0 0
 finish 0 0 0
 pages 0 ballooned
 ",
-        output: "\
+        output: b"\
 guest 0
 ready
 ok
@@ -590,13 +590,13 @@ taken 0
 finished 0
 pages 20
 ",
-        errors: "",
+        errors: b"",
         status: 0,
     },
     Listed {
         name: "rogues/scribble-brings-a-frame",
         commands: &[&["run"]],
-        text: "\
+        text: b"\
 # Shows: A scribble brings a frame.
 host 64
 spare immediate
@@ -605,19 +605,19 @@ init 0
 scribble 0 20 0 aa
 backing 0 20
 ",
-        output: "\
+        output: b"\
 guest 0
 ready
 ok
 frame 13
 ",
-        errors: "",
+        errors: b"",
         status: 0,
     },
     Listed {
         name: "rogues/statistics-of-one-entry",
         commands: &[&["run"]],
-        text: "\
+        text: b"\
 # Shows: Statistics of one entry.
 host 64
 spare immediate
@@ -627,20 +627,20 @@ scribble 0 2 8 0a000000
 take 0 2
 memory 0
 ",
-        output: "\
+        output: b"\
 guest 0
 ready
 ok
 taken 0
 memory 196608 -
 ",
-        errors: "",
+        errors: b"",
         status: 0,
     },
     Listed {
         name: "rogues/used-index-ahead",
         commands: &[&["run"]],
-        text: "\
+        text: b"\
 # Shows: A used index ahead of the requests: the driver gives up.
 host 64
 spare immediate
@@ -650,14 +650,14 @@ scribble 0 0 154 0100
 reap 0 0
 balloon 0
 ",
-        output: "\
+        output: b"\
 guest 0
 ready
 ok
 ring broken
 ballooned 0 actual 0 target 0 status 143
 ",
-        errors: "",
+        errors: b"",
         status: 0,
     },
 ];

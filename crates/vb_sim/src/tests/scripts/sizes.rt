@@ -6,7 +6,7 @@ pub(in crate::tests) static SCRIPTS: [Listed; 10] = [
     Listed {
         name: "sizes/buffers-beside-rings-of-two-pages",
         commands: &[&["run"]],
-        text: "\
+        text: b"\
 # Shows: Rings of two pages: buffers and rings get frames, and no page below 32 is free.
 host 64
 spare immediate
@@ -56,7 +56,7 @@ restart 0
 frames
 places 0
 ",
-        output: "\
+        output: b"\
 guest 0
 ready
 frames used 17 free 47
@@ -103,13 +103,13 @@ ok
 frames used 0 free 64
 free 48 used 0 giving 0 lent 0 taking 0 stranded 0 reporting 0
 ",
-        errors: "",
+        errors: b"",
         status: 0,
     },
     Listed {
         name: "sizes/frames-of-the-script",
         commands: &[&["run"]],
-        text: "\
+        text: b"\
 # Shows: A host has as many frames as its script says.
 host 65536
 spare immediate
@@ -122,7 +122,7 @@ backing 0 63
 backing 0 64
 frames
 ",
-        output: "\
+        output: b"\
 frames used 0 free 65536
 guest 0
 ready
@@ -132,13 +132,13 @@ frame 13
 no backing
 frames used 14 free 65522
 ",
-        errors: "",
+        errors: b"",
         status: 0,
     },
     Listed {
         name: "sizes/greatest-sizes",
         commands: &[&["run"]],
-        text: "\
+        text: b"\
 # Shows: A guest of the greatest sizes.
 host 64
 spare immediate
@@ -171,7 +171,7 @@ balloon 0
 pages 0 free
 frames
 ",
-        output: "\
+        output: b"\
 guest 0
 ready
 free 16368 used 0 giving 0 lent 0 taking 0 stranded 0 reporting 0
@@ -201,13 +201,13 @@ ballooned 255 actual 255 target 16384 status 15
 pages 274 1042-16383
 frames used 14 free 50
 ",
-        errors: "",
+        errors: b"",
         status: 0,
     },
     Listed {
         name: "sizes/host-of-one-frame",
         commands: &[&["run"]],
-        text: "\
+        text: b"\
 # Shows: A host of one frame has none for a driver.
 host 1
 spare paced
@@ -217,20 +217,20 @@ init 0
 pages 0 taking
 frames
 ",
-        output: "\
+        output: b"\
 guest 0
 no device
 no frame
 pages
 frames used 0 free 1
 ",
-        errors: "",
+        errors: b"",
         status: 0,
     },
     Listed {
         name: "sizes/just-the-frames-in-use",
         commands: &[&["run"]],
-        text: "\
+        text: b"\
 # Shows: A host of just the frames that its guests use.
 host 27
 spare paced
@@ -245,7 +245,7 @@ read 1 63 4095 1
 pages 1 free
 frames
 ",
-        output: "\
+        output: b"\
 guest 0
 guest 1
 ready
@@ -256,13 +256,13 @@ bytes 00
 pages 16-31
 frames used 27 free 0
 ",
-        errors: "",
+        errors: b"",
         status: 0,
     },
     Listed {
         name: "sizes/largest-guest",
         commands: &[&["run"]],
-        text: "\
+        text: b"\
 # Shows: The largest guest.
 host 64
 spare paced
@@ -271,19 +271,19 @@ init 0
 take 0 2
 memory 0
 ",
-        output: "\
+        output: b"\
 guest 0
 ready
 taken 0
 memory 268369920 268435456
 ",
-        errors: "",
+        errors: b"",
         status: 0,
     },
     Listed {
         name: "sizes/multiple-of-sixteen-pages",
         commands: &[&["run"]],
-        text: "\
+        text: b"\
 # Shows: A guest has a multiple of 16 pages, and no block ends past them.
 host 64
 spare immediate
@@ -308,7 +308,7 @@ read 0 79 4095 1
 read 0 80 0 1
 backing 0 80
 ",
-        output: "\
+        output: b"\
 bad config
 bad config
 bad config
@@ -330,13 +330,13 @@ bytes 00
 not held
 no backing
 ",
-        errors: "",
+        errors: b"",
         status: 0,
     },
     Listed {
         name: "sizes/reserved-by-size-of-queues",
         commands: &[&["run"]],
-        text: "\
+        text: b"\
 # Shows: Reserved pages are those of the guest's own queues, whatever its rings say.
 host 64
 spare immediate
@@ -375,7 +375,7 @@ finish 1 0 0
 pages 1 ballooned
 frames
 ",
-        output: "\
+        output: b"\
 guest 0
 guest 1
 ready
@@ -410,13 +410,13 @@ finished 0
 pages 16
 frames used 30 free 34
 ",
-        errors: "",
+        errors: b"",
         status: 0,
     },
     Listed {
         name: "sizes/rings-of-two-pages",
         commands: &[&["run"]],
-        text: "\
+        text: b"\
 # Shows: Rings of two pages, and a number of pages that is no power of two.
 host 64
 spare immediate
@@ -435,7 +435,7 @@ take 0 0
 finish 0 0 0
 reap 0 0
 ",
-        output: "\
+        output: b"\
 guest 0
 ready
 frames used 17 free 47
@@ -451,13 +451,13 @@ taken 0
 finished 0
 reaped 0 4
 ",
-        errors: "",
+        errors: b"",
         status: 0,
     },
     Listed {
         name: "sizes/two-spare-devices",
         commands: &[&["run"]],
-        text: "\
+        text: b"\
 # Shows: Two guests take two spare devices, and a third finds none.
 host 40
 spare immediate
@@ -487,7 +487,7 @@ balloon 1
 take 2 0
 frames
 ",
-        output: "\
+        output: b"\
 guest 0
 guest 1
 no device
@@ -513,7 +513,7 @@ ballooned 2 actual 2 target 2 status 15
 no guest
 frames used 28 free 12
 ",
-        errors: "",
+        errors: b"",
         status: 0,
     },
 ];

@@ -6,20 +6,20 @@ pub(in crate::tests) static SCRIPTS: [Listed; 10] = [
     Listed {
         name: "starts/bad-config-65-pages",
         commands: &[&["run"]],
-        text: "\
+        text: b"\
 # Shows: 65 pages are no configuration.
 host 64
 spare paced
 plug 65 8 1
 ",
-        output: "bad config\n",
-        errors: "",
+        output: b"bad config\n",
+        errors: b"",
         status: 0,
     },
     Listed {
         name: "starts/bad-config-sizes",
         commands: &[&["run"]],
-        text: "\
+        text: b"\
 # Shows: Sizes outside the limits.
 host 64
 spare immediate
@@ -28,31 +28,31 @@ plug 48 8 1
 plug 65552 8 1
 plug 64 512 1
 ",
-        output: "\
+        output: b"\
 bad config
 bad config
 bad config
 bad config
 ",
-        errors: "",
+        errors: b"",
         status: 0,
     },
     Listed {
         name: "starts/bad-line-too-few-words",
         commands: &[&["run"]],
-        text: "\
+        text: b"\
 # Shows: A line with a word too few is a bad line.
 host 64
 plug 64 8
 ",
-        output: "",
-        errors: "script: line 3: bad line\n",
+        output: b"",
+        errors: b"script: line 3: bad line\n",
         status: 1,
     },
     Listed {
         name: "starts/feature-not-offered",
         commands: &[&["run"]],
-        text: "\
+        text: b"\
 # Shows: A feature that isn't offered.
 host 64
 spare immediate
@@ -62,20 +62,20 @@ balloon 0
 init 0
 frames
 ",
-        output: "\
+        output: b"\
 guest 0
 feature not offered
 ballooned 0 actual 0 target 0 status 131
 already up
 frames used 13 free 51
 ",
-        errors: "",
+        errors: b"",
         status: 0,
     },
     Listed {
         name: "starts/no-frames-no-start",
         commands: &[&["run"]],
-        text: "\
+        text: b"\
 # Shows: Without frames there is no start, and the driver isn't ready.
 host 12
 spare immediate
@@ -84,19 +84,19 @@ init 0
 inflate 0 1
 frames
 ",
-        output: "\
+        output: b"\
 guest 0
 no frame
 not ready
 frames used 0 free 12
 ",
-        errors: "",
+        errors: b"",
         status: 0,
     },
     Listed {
         name: "starts/nothing-is-there",
         commands: &[&["run"]],
-        text: "\
+        text: b"\
 # Shows: Answers where nothing is there: empty, no queue, none, idle, not taken, no guest.
 host 64
 spare paced
@@ -112,7 +112,7 @@ work 0
 finish 0 0 0
 take 1 0
 ",
-        output: "\
+        output: b"\
 guest 0
 ready
 empty
@@ -125,21 +125,21 @@ idle
 not taken
 no guest
 ",
-        errors: "",
+        errors: b"",
         status: 0,
     },
     Listed {
         name: "starts/nothing-to-do",
         commands: &[&["run"]],
-        text: "# Shows: An empty script has no replies.\n",
-        output: "",
-        errors: "",
+        text: b"# Shows: An empty script has no replies.\n",
+        output: b"",
+        errors: b"",
         status: 0,
     },
     Listed {
         name: "starts/start-lacks-one-frame",
         commands: &[&["run"]],
-        text: "\
+        text: b"\
 # Shows: A start that lacks one frame keeps none.
 host 12
 spare paced
@@ -148,19 +148,19 @@ init 0
 frames
 balloon 0
 ",
-        output: "\
+        output: b"\
 guest 0
 no frame
 frames used 0 free 12
 ballooned 0 actual 0 target 0 status 0
 ",
-        errors: "",
+        errors: b"",
         status: 0,
     },
     Listed {
         name: "starts/start-without-must-tell",
         commands: &[&["run"]],
-        text: "\
+        text: b"\
 # Shows: A start without MUST_TELL_HOST.
 host 64
 spare immediate
@@ -170,20 +170,20 @@ balloon 0
 init 0
 frames
 ",
-        output: "\
+        output: b"\
 guest 0
 ready
 ballooned 0 actual 0 target 0 status 15
 already up
 frames used 13 free 51
 ",
-        errors: "",
+        errors: b"",
         status: 0,
     },
     Listed {
         name: "starts/version-missing",
         commands: &[&["run"]],
-        text: "\
+        text: b"\
 # Shows: Without VERSION_1 a start is refused.
 host 64
 spare immediate
@@ -193,14 +193,14 @@ balloon 0
 init 0
 frames
 ",
-        output: "\
+        output: b"\
 guest 0
 version missing
 ballooned 0 actual 0 target 0 status 131
 already up
 frames used 13 free 51
 ",
-        errors: "",
+        errors: b"",
         status: 0,
     },
 ];

@@ -6,7 +6,7 @@ pub(in crate::tests) static SCRIPTS: [Listed; 5] = [
     Listed {
         name: "statistics/one-buffer-at-a-time",
         commands: &[&["run"]],
-        text: "\
+        text: b"\
 # Shows: One buffer of statistics is taken at a time.
 host 64
 spare immediate
@@ -29,7 +29,7 @@ take 0 2
 take 0 2
 memory 0
 ",
-        output: "\
+        output: b"\
 guest 0
 ready
 not taken
@@ -49,13 +49,13 @@ taken 0
 busy
 memory 196608 262144
 ",
-        errors: "",
+        errors: b"",
         status: 0,
     },
     Listed {
         name: "statistics/reset-forgets-statistics",
         commands: &[&["run"]],
-        text: "\
+        text: b"\
 # Shows: A reset forgets the statistics, and a start posts a buffer anew.
 host 64
 spare paced
@@ -75,7 +75,7 @@ stats 0
 take 0 2
 memory 0
 ",
-        output: "\
+        output: b"\
 guest 0
 ready
 taken 0
@@ -92,13 +92,13 @@ none
 taken 0
 memory 131072 262144
 ",
-        errors: "",
+        errors: b"",
         status: 0,
     },
     Listed {
         name: "statistics/statistics-to-and-fro",
         commands: &[&["run"]],
-        text: "\
+        text: b"\
 # Shows: The statistics buffer goes to the device and back.
 host 64
 spare paced
@@ -114,7 +114,7 @@ stats 0
 take 0 2
 memory 0
 ",
-        output: "\
+        output: b"\
 guest 0
 ready
 memory - -
@@ -127,13 +127,13 @@ filled
 taken 0
 memory 131072 262144
 ",
-        errors: "",
+        errors: b"",
         status: 0,
     },
     Listed {
         name: "statistics/two-features-alone",
         commands: &[&["run"]],
-        text: "\
+        text: b"\
 # Shows: A guest with MUST_TELL_HOST and VERSION_1 alone.
 host 64
 spare paced
@@ -145,7 +145,7 @@ take 0 2
 ask 0
 memory 0
 ",
-        output: "\
+        output: b"\
 guest 0
 ready
 no feature
@@ -154,13 +154,13 @@ no queue
 not taken
 memory - -
 ",
-        errors: "",
+        errors: b"",
         status: 0,
     },
     Listed {
         name: "statistics/what-counts-as-free",
         commands: &[&["run"]],
-        text: "\
+        text: b"\
 # Shows: Pages on their way, lent or reported are not free.
 host 64
 spare immediate
@@ -187,7 +187,7 @@ memory 0
 take 0 2
 memory 0
 ",
-        output: "\
+        output: b"\
 guest 0
 ready
 ok
@@ -211,7 +211,7 @@ memory 49152 262144
 taken 0
 memory 180224 262144
 ",
-        errors: "",
+        errors: b"",
         status: 0,
     },
 ];

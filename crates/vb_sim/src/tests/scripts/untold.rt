@@ -6,7 +6,7 @@ pub(in crate::tests) static SCRIPTS: [Listed; 9] = [
     Listed {
         name: "untold/ballooned-and-free-at-once",
         commands: &[&["run"]],
-        text: "\
+        text: b"\
 # Shows: Pages that are asked back count as ballooned and as free until the device knows.
 host 100
 spare immediate
@@ -35,7 +35,7 @@ finish 0 1 0
 reap 0 1
 balance 21
 ",
-        output: "\
+        output: b"\
 guest 0
 guest 1
 ready
@@ -60,13 +60,13 @@ finished 0
 reaped 0 28
 targets 27 1
 ",
-        errors: "",
+        errors: b"",
         status: 0,
     },
     Listed {
         name: "untold/deflate-waits-for-the-host",
         commands: &[&["run"]],
-        text: "\
+        text: b"\
 # Shows: With MUST_TELL_HOST a deflate waits for the host, without it it doesn't.
 host 64
 spare immediate
@@ -100,7 +100,7 @@ inflate 0 4
 inflate 0 4
 pages 0 giving
 ",
-        output: "\
+        output: b"\
 guest 0
 ready
 ok
@@ -131,13 +131,13 @@ posted 0 2
 nothing
 pages 18-19
 ",
-        errors: "",
+        errors: b"",
         status: 0,
     },
     Listed {
         name: "untold/deflates-in-the-order-of-the-device",
         commands: &[&["run"]],
-        text: "\
+        text: b"\
 # Shows: Deflates come back in the device's order, and move no page.
 host 64
 spare immediate
@@ -173,7 +173,7 @@ free 0 0 16 0
 inflate 0 2
 pages 0 giving
 ",
-        output: "\
+        output: b"\
 guest 0
 ready
 ok
@@ -206,13 +206,13 @@ ok
 posted 0 1
 pages 16
 ",
-        errors: "",
+        errors: b"",
         status: 0,
     },
     Listed {
         name: "untold/guest-that-does-not-tell",
         commands: &[&["run"]],
-        text: "\
+        text: b"\
 # Shows: A guest without MUST_TELL_HOST: its pages are free once the deflate is posted.
 # A guest whose driver doesn't promise to tell its host before it uses a page again. Pages that it
 # asks back are free at once, and it lends nothing until its request is back.
@@ -256,7 +256,7 @@ read 0 16 0 1
 balloon 0
 inflate 0 1
 ",
-        output: "\
+        output: b"\
 guest 0
 ready
 ok
@@ -279,13 +279,13 @@ bytes aa
 ballooned 0 actual 0 target 0 status 15
 nothing
 ",
-        errors: "",
+        errors: b"",
         status: 0,
     },
     Listed {
         name: "untold/new-life-while-a-deflate-is-out",
         commands: &[&["run"]],
-        text: "\
+        text: b"\
 # Shows: A new life begins while a deflate is out.
 host 64
 spare immediate
@@ -310,7 +310,7 @@ inflate 0 1
 unplug 0
 frames
 ",
-        output: "\
+        output: b"\
 guest 0
 ready
 ok
@@ -332,13 +332,13 @@ posted 0 1
 ok
 frames used 0 free 64
 ",
-        errors: "",
+        errors: b"",
         status: 0,
     },
     Listed {
         name: "untold/order-of-refusals",
         commands: &[&["run"]],
-        text: "\
+        text: b"\
 # Shows: A full queue is told before a deflate that is out, and that before an empty request.
 host 64
 spare immediate
@@ -367,7 +367,7 @@ inflate 0 0
 inflate 0 1
 pages 0 giving
 ",
-        output: "\
+        output: b"\
 guest 0
 ready
 ok
@@ -393,13 +393,13 @@ nothing
 posted 0 1
 pages 16 18
 ",
-        errors: "",
+        errors: b"",
         status: 0,
     },
     Listed {
         name: "untold/sweeps-refused-in-order",
         commands: &[&["run"]],
-        text: "\
+        text: b"\
 # Shows: Sweeps are refused in order.
 host 64
 spare immediate
@@ -416,7 +416,7 @@ sweep 0 16
 init 0
 sweep 0 16
 ",
-        output: "\
+        output: b"\
 guest 0
 not ready
 ready
@@ -430,13 +430,13 @@ not ready
 ready
 not ballooned
 ",
-        errors: "",
+        errors: b"",
         status: 0,
     },
     Listed {
         name: "untold/used-while-ballooned",
         commands: &[&["run"]],
-        text: "\
+        text: b"\
 # Shows: A page is used again while the device has it in the balloon.
 host 64
 spare paced
@@ -474,7 +474,7 @@ places 0
 read 0 16 0 3
 frames
 ",
-        output: "\
+        output: b"\
 guest 0
 ready
 page 16
@@ -509,13 +509,13 @@ free 47 used 1 giving 0 lent 0 taking 0 stranded 0 reporting 0
 bytes beef00
 frames used 14 free 50
 ",
-        errors: "",
+        errors: b"",
         status: 0,
     },
     Listed {
         name: "untold/version-alone",
         commands: &[&["run"]],
-        text: "\
+        text: b"\
 # Shows: A driver that asks for VERSION_1 alone.
 host 64
 spare immediate
@@ -538,7 +538,7 @@ deflate 0 1
 alloc 0 0 0
 inflate 0 1
 ",
-        output: "\
+        output: b"\
 guest 0
 ready
 ok
@@ -558,7 +558,7 @@ posted 0 1
 page 16
 deflate pending
 ",
-        errors: "",
+        errors: b"",
         status: 0,
     },
 ];
