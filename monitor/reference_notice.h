@@ -22,21 +22,6 @@ typedef struct {
     VbRoom *room;
 } Call;
 
-static VbPiece piece_at(const Call *call, size_t number)
-{
-    VbPiece piece;
-    memcpy(&piece, &call->room->pieces[2 * number], sizeof piece);
-    return piece;
-}
-
-/* All pieces of the chain, in a place of their own. */
-static const VbPiece *pieces_of(const Call *call)
-{
-    static _Thread_local VbPiece pieces[VB_MAX_PIECES];
-    memcpy(pieces, call->room->pieces, sizeof pieces);
-    return pieces;
-}
-
 static bool is_region(const VbRegion *region)
 {
     return region->guest % REGION_PAGE == 0 && region->length % REGION_PAGE == 0 && region->guest <= MOST_MEMORY
@@ -149,7 +134,7 @@ static uint32_t ask_part(const Call *call)
 {
     VbNotice *notice = call->notice;
     for (; notice->number < notice->count; notice->number++, notice->element = 0) {
-        const VbPiece piece = piece_at(call, notice->number);
+        const VbPiece piece = call->room->pieces[notice->number];
         uint32_t first = (uint32_t)(REGION_PAGE - piece.address % REGION_PAGE);
         first = first < piece.length ? first : piece.length;
         uint32_t length = notice->element ? piece.length - first : first;
@@ -180,11 +165,11 @@ static uint32_t serve_report(const Call *call)
 {
     VbDevice *device = &call->balloon->device;
     VbNamed named = { .code = VB_OK };
-    uint32_t count = call->notice->count, rule = report_rule(device, pieces_of(call), count);
+    uint32_t count = call->notice->count, rule = report_rule(device, call->room->pieces, count);
     if (rule)
         return fail(call, rule);
     for (; named.runs < count; named.runs++) {
-        const VbPiece piece = piece_at(call, named.runs);
+        const VbPiece piece = call->room->pieces[named.runs];
         call->room->runs[named.runs] = (VbRun){ (uint32_t)(piece.address / PAGE), piece.length / PAGE };
         named.pages += piece.length / PAGE;
     }
@@ -199,8 +184,8 @@ static uint32_t serve_chain(const Call *call)
     if (notice->kind == VB_REPORT)
         return serve_report(call);
     for (uint32_t i = 0; i < notice->count; i++)
-        total += piece_at(call, i).length;
-    uint32_t rule = buffer_rule(notice->kind, pieces_of(call), notice->count, total);
+        total += call->room->pieces[i].length;
+    uint32_t rule = buffer_rule(notice->kind, call->room->pieces, notice->count, total);
     if (rule)
         return fail(call, rule);
     notice->number = 0, notice->element = 0, notice->from = 0;
@@ -216,8 +201,7 @@ static uint32_t after_descriptor(const Call *call)
     if (rule)
         return fail(call, rule);
     notice->flag = (it.flags & 2) != 0;
-    const VbPiece piece = { it.address, it.length, notice->flag };
-    memcpy(&call->room->pieces[2 * notice->count++], &piece, sizeof piece);
+    call->room->pieces[notice->count++] = (VbPiece){ it.address, it.length, notice->flag };
     if (!(it.flags & 1))
         return serve_chain(call);
     return notice->count >= call->queue->size ? fail(call, TOO_LONG) : ask_descriptor(call, it.next);

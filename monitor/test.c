@@ -1,5 +1,6 @@
 /* Tests of balloon.h over vb.h, with values from outside: VIRTIO 1.1, Linux 6.1's driver, and vb.h's own words. */
 #include "guest.h"
+#include <sys/syscall.h>
 
 /* What other languages declare of vb.h has to have these sizes (rust/src/raw.rs). */
 _Static_assert(sizeof(VbSettings) == 24 && sizeof(VbQueue) == 32 && sizeof(VbDevice) == 176, "a device's state");
@@ -324,10 +325,124 @@ static void a_driver_never_stops(void)
     free_memory(&guest);
 }
 
+/* No further chain after as many chains, or pages, as the monitor wants; the rest stands there. */
+static void a_notice_keeps_to_its_budget(void)
+{
+    static struct guest guest;
+    const uint32_t pages[] = { 900, 902 };
+    start(&guest, 0, REFUSES, LINUX_FEATURES, 8);
+    for (int i = 0; i < 5; i++)
+        name_pages(&guest, VB_DEFLATE, pages, 2);
+    guest.balloon.most_pages = 3;
+    struct balloon_result result = balloon_notify(&guest.balloon, VB_DEFLATE);
+    EXPECT(result.code == VB_OK && result.chains == 2 && result.pages == 4 && result.more && result.interrupts == 1 << VB_DEFLATE);
+    guest.balloon.most_pages = UINT32_MAX;
+    guest.balloon.most_chains = 1;
+    result = balloon_notify(&guest.balloon, VB_DEFLATE);
+    EXPECT(result.code == VB_OK && result.chains == 1 && result.pages == 2 && result.more);
+    guest.balloon.most_chains = 0;
+    result = balloon_notify(&guest.balloon, VB_DEFLATE);
+    EXPECT(result.code == VB_NOTHING && result.chains == 0 && result.more && result.interrupts == 0);
+    guest.balloon.most_chains = 2;
+    result = balloon_notify(&guest.balloon, VB_DEFLATE);
+    EXPECT(result.code == VB_OK && result.chains == 2 && !result.more && used_index(&guest, VB_DEFLATE) == 5);
+    free_memory(&guest);
+}
+
+static int fail_at_700(void *context, const struct balloon_region *region, uint64_t from, uint64_t length)
+{
+    (void)context, (void)region, (void)length;
+    return from == 700 * 4096 ? EIO : 0;
+}
+
+/* A driver may fill all its queues before DRIVER_OK: what each comes to is told together. The status again is no kick. */
+static void all_queues_are_looked_at(void)
+{
+    static struct guest guest;
+    static uint64_t words[12];          /* 768 pages */
+    const uint32_t pages[] = { 600, 3000, 9999 }, more[] = { 600, 700 };
+    struct balloon_result result;
+    make_memory(&guest, 0);
+    EXPECT(balloon_init(&guest.balloon, guest.regions, 2, SKIPS) == VB_OK);
+    guest.balloon.discard = fail_at_700;
+    guest.balloon.ballooned = words;
+    guest.balloon.ballooned_words = 12;
+    start_features(&guest, LINUX_FEATURES, 8);
+    name_pages(&guest, VB_INFLATE, pages, 3);
+    for (int i = 0; i < 2; i++)
+        name_pages(&guest, VB_DEFLATE, more, 2);
+    describe(&guest, VB_STATISTICS, 0, buffer_of(VB_STATISTICS), 10, 0, 0);
+    publish(&guest, VB_STATISTICS, 0);
+    describe(&guest, VB_REPORT, 0, 700 * 4096, 4096, WRITE | NEXT, 1);
+    describe(&guest, VB_REPORT, 1, 2047 * 4096, 8192, WRITE, 0);
+    publish(&guest, VB_REPORT, 0);
+    EXPECT(balloon_write_status(&guest.balloon, 15, &result) == 0);
+    EXPECT(result.code == VB_OK && result.chains == 5 && !result.configuration && !result.more);
+    EXPECT(result.interrupts == (1 << VB_INFLATE | 1 << VB_DEFLATE | 1 << VB_REPORT));
+    EXPECT(result.pages == 2 + 4 + 3 && result.skipped == 1 && result.discarded == 1 + 1 && result.in_holes == 1 + 1);
+    EXPECT(result.kept == 1 && result.error == EIO && result.marked == 0 && result.unmarked == 2);
+    name_pages(&guest, VB_INFLATE, pages, 1);
+    EXPECT(balloon_write_status(&guest.balloon, 15, &result) == 0 && result.chains == 0 && used_index(&guest, VB_INFLATE) == 1);
+    EXPECT(balloon_write_status(&guest.balloon, 7, &result) != 0 && result.code == VB_NOTHING && result.chains == 0);
+    result = balloon_notify(&guest.balloon, VB_INFLATE);
+    EXPECT(result.chains == 1 && result.marked == 1 && result.unmarked == 0 && words[9] == 1ull << 24);
+    for (uint16_t i = 0; i < 3; i++) {
+        put(&guest, buffer_of(VB_DEFLATE) + 4 * i, pages[i % 2], 4);
+        describe(&guest, VB_DEFLATE, i, buffer_of(VB_DEFLATE) + 4 * i, 4, 0, 0);
+        publish(&guest, VB_DEFLATE, i);
+    }
+    result = balloon_notify(&guest.balloon, VB_DEFLATE);
+    EXPECT(result.chains == 3 && result.pages == 3 && result.marked == 1 && result.unmarked == 1 && words[9] == 0);
+    free_memory(&guest);
+}
+
 static int fail_to_discard(void *context, const struct balloon_region *region, uint64_t from, uint64_t length)
 {
     (void)context, (void)region, (void)from, (void)length;
     return EIO;
+}
+
+/* The machine's call, after as many interruptions as a test wants, and failing where one wants that. */
+static int interruptions, failure;
+
+int fallocate(int file, int how, off_t from, off_t length)
+{
+    errno = interruptions > 0 ? EINTR : failure;
+    if (interruptions > 0 || failure)
+        return interruptions -= interruptions > 0, -1;
+    return (int)syscall(SYS_fallocate, file, how, from, length);
+}
+
+/* A discard that is interrupted is tried again; one that fails is told with its reason. */
+static void the_machine_is_asked_again(void)
+{
+    static struct guest guest;
+    const uint32_t pages[] = { 700, 702 };
+    start(&guest, 0, REFUSES, LINUX_FEATURES, 4);
+    memset(at(&guest, 700 * 4096), 1, 4096);
+    interruptions = 3;
+    name_pages(&guest, VB_INFLATE, pages, 2);
+    struct balloon_result result = balloon_notify(&guest.balloon, VB_INFLATE);
+    EXPECT(interruptions == 0 && result.discarded == 2 && result.kept == 0 && result.error == 0 && !resident(&guest, 700));
+    failure = ENOSPC;
+    name_pages(&guest, VB_INFLATE, pages, 2);
+    result = balloon_notify(&guest.balloon, VB_INFLATE);
+    failure = 0;
+    EXPECT(result.code == VB_OK && result.discarded == 0 && result.kept == 2 && result.error == ENOSPC);
+    free_memory(&guest);
+}
+
+/* Where one discard fails, and later ones don't, the reason stays. */
+static void a_reason_stays(void)
+{
+    static struct guest guest;
+    const uint32_t pages[] = { 700, 800, 900 };
+    start(&guest, 0, REFUSES, LINUX_FEATURES, 4);
+    guest.balloon.discard = fail_at_700;
+    name_pages(&guest, VB_INFLATE, pages, 3);
+    struct balloon_result result = balloon_notify(&guest.balloon, VB_INFLATE);
+    EXPECT(result.kept == 1 && result.error == EIO && result.discarded == 2);
+    free_memory(&guest);
 }
 
 /* Pages that the machine keeps are counted; the driver gets its chain back all the same. */
@@ -389,13 +504,41 @@ static void regions_have_bounds(void)
         { (1ull << 44) - 4096, 8192, NULL, -1, 0 },
         { UINT64_MAX - 4095, 4096, NULL, -1, 0 },
         { 4096, UINT64_MAX, NULL, -1, 0 },
+        { 4096, 8191, NULL, -1, 0 },
+        { 2048, 8192, NULL, -1, 0 },
     };
-    for (size_t i = 0; i < 4; i++)
-        EXPECT(balloon_set_regions(balloon, &wrong[i], 1) == VB_BAD_ARGUMENT && balloon->region_count == 2);
+    for (size_t i = 0; i < sizeof wrong / sizeof wrong[0]; i++)
+        EXPECT(balloon_set_regions(balloon, &wrong[i], 1) == VB_BAD_ARGUMENT && balloon->region_count == 2
+               && balloon->regions == guest.regions);
     EXPECT(balloon_set_regions(balloon, guest.regions, 1) == VB_OK && balloon->region_count == 1);
     EXPECT(balloon->state.device.settings.memory_end == 8 * MIB);
     EXPECT(balloon_init(balloon, guest.regions, 0, REFUSES) == VB_BAD_ARGUMENT);
     EXPECT(balloon_init(balloon, guest.regions, 2, (VbSettings){ .offered = 0x27 }) == VB_BAD_ARGUMENT);
+    free_memory(&guest);
+}
+
+/* Regions in the other order: what is discarded lies where the new ones say. */
+static void memory_is_mapped_anew(void)
+{
+    static struct guest guest;
+    const uint32_t pages[] = { 600, 4200 };
+    start(&guest, 0, REFUSES, LINUX_FEATURES, 8);
+    memset(at(&guest, 600 * 4096), 1, 4096);
+    memset(at(&guest, 4200 * 4096), 1, 4096);
+    const struct balloon_region other[] = { guest.regions[1], guest.regions[0] };
+    EXPECT(balloon_set_regions(&guest.balloon, other, 2) == VB_OK && guest.balloon.regions == other);
+    name_pages(&guest, VB_INFLATE, pages, 2);
+    struct balloon_result result = balloon_notify(&guest.balloon, VB_INFLATE);
+    EXPECT(result.code == VB_OK && result.discarded == 2 && !resident(&guest, 600) && !resident(&guest, 4200));
+    EXPECT(used_index(&guest, VB_INFLATE) == 1);
+#ifndef RUST_SHIM
+    static struct balloon_region many[BALLOON_MOST_REGIONS + 1];
+    for (uint64_t i = 0; i <= BALLOON_MOST_REGIONS; i++)
+        many[i] = (struct balloon_region){ i * 8192, 4096, guest.regions[0].host, BALLOON_PRIVATE, 0 };
+    EXPECT(balloon_set_regions(&guest.balloon, many, BALLOON_MOST_REGIONS + 1) == VB_BAD_ARGUMENT && guest.balloon.regions == other);
+    EXPECT(balloon_init(&guest.balloon, many, BALLOON_MOST_REGIONS + 1, REFUSES) == VB_BAD_ARGUMENT);
+    EXPECT(balloon_init(&guest.balloon, many, BALLOON_MOST_REGIONS, REFUSES) == VB_OK);
+#endif
     free_memory(&guest);
 }
 
@@ -462,6 +605,16 @@ static void pages_are_marked(void)
     EXPECT(vb_mark(VB_INFLATE, rows[0].runs, 0, NULL, 0).code == VB_OK);
 }
 
+#ifndef RUST_SHIM
+/* Pages are in the set when a monitor is told of them. */
+static void expect_in_set(void *context, uint32_t kind, const VbRun *runs, uint32_t count)
+{
+    const struct guest *guest = context;
+    for (uint32_t i = 0; i < count && runs[i].first < 64 * guest->balloon.ballooned_words; i++)
+        EXPECT(vb_is_ballooned(guest->balloon.ballooned, guest->balloon.ballooned_words, runs[i].first) == (kind == VB_INFLATE));
+}
+#endif
+
 /* What a monitor's own words say after requests: pages come and go, one named twice, none of a report's, none after
  * a reset; a page past the words changes nothing there, and is served all the same. */
 static void the_set_is_kept(void)
@@ -476,6 +629,10 @@ static void the_set_is_kept(void)
     EXPECT(balloon_notify(balloon, VB_INFLATE).marked == 0);
     balloon->ballooned = words;
     balloon->ballooned_words = 96;
+#ifndef RUST_SHIM
+    balloon->context = &guest;
+    balloon->on_pages = expect_in_set;
+#endif
     name_pages(&guest, VB_INFLATE, pages, 6);
     struct balloon_result result = balloon_notify(balloon, VB_INFLATE);
     EXPECT(result.code == VB_OK && result.pages == 6 && result.marked == 5 && result.unmarked == 0);
@@ -483,6 +640,7 @@ static void the_set_is_kept(void)
     name_pages(&guest, VB_DEFLATE, back, 2);
     result = balloon_notify(balloon, VB_DEFLATE);
     EXPECT(result.code == VB_OK && result.pages == 2 && result.marked == 1 && words[9] == 5ull << 24);
+    balloon->on_pages = NULL;
     describe(&guest, VB_REPORT, 0, 650 * 4096, 8192, WRITE, 0);
     publish(&guest, VB_REPORT, 0);
     result = balloon_notify(balloon, VB_REPORT);
@@ -493,6 +651,7 @@ static void the_set_is_kept(void)
     EXPECT(result.code == VB_OK && result.discarded == 2 && result.marked == 0 && result.unmarked == 2 && words[1] == 0);
     balloon->ballooned_words = 96;
     EXPECT(balloon_write_status(balloon, 1, &result) != 0 && vb_count_ballooned(words, 96) == 4);
+    EXPECT(result.chains == 0);
     EXPECT(balloon_write_status(balloon, 0, &result) == 0 && vb_count_ballooned(words, 96) == 0);
     free_memory(&guest);
 }
@@ -742,9 +901,14 @@ int main(void)
     RUN(indices_wrap());
     RUN(a_notice_has_an_end());
     RUN(a_driver_never_stops());
+    RUN(a_notice_keeps_to_its_budget());
+    RUN(all_queues_are_looked_at());
+    RUN(the_machine_is_asked_again());
+    RUN(a_reason_stays());
     RUN(pages_may_be_kept());
     RUN(regions_may_touch());
     RUN(regions_have_bounds());
+    RUN(memory_is_mapped_anew());
     RUN(queues_may_be_missing());
     RUN(pages_are_marked());
     RUN(the_set_is_kept());

@@ -172,7 +172,7 @@ pub struct Notice {
 /// The room that a notice needs.
 #[repr(C)]
 pub struct Room {
-    pieces: [u64; 2 * MAX_PIECES],
+    pieces: [u64; 2 * MAX_PIECES], // `VbPiece`s, the library's
     pub bytes: [u8; MAX_BYTES],
     pub runs: [Run; MAX_RUNS],
     pub figures: [Statistic; MAX_FIGURES],
