@@ -1,7 +1,7 @@
 //! What a word of decimal or hexadecimal digits shows.
 
-ghost use Rattle.std.specs.Prelude.{◌≡◌, ◌+◌, ◌-◌, ◌*◌, ◌^◌, ◌<◌, IfOk, IsOk, IsSome, MatchOption};
-ghost use Rattle.std.specs.Prelude.{SomeIff};
+ghost use Rattle.std.specs.Prelude.{◌≡◌, ◌+◌, ◌-◌, ◌*◌, ◌^◌, ◌<◌, ◌≤◌, IfOk, IsOk, IsSome};
+ghost use Rattle.std.specs.Prelude.{MatchOption, SomeIff, length};
 ghost use Rattle.hex.specs.Hex.{decode_of, decode_sized};
 ghost use Rattle.vb_script.specs.Numbers.{IsByteWord, IsDecimal, IsDigit, ShowsBits, decimal_value};
 ghost use Rattle.vb_script.specs.Values.{bytes_of, features_of, positive_of};
@@ -74,10 +74,25 @@ pub fn bytes(alloc: Global, word: &[u8]) -> Result<Bytes, LineFault>
     if word.is_empty() || word.len() > 2 * PAGE_SIZE as usize {
         return Err(LineFault::Bad);
     }
+    match hex::decode(alloc, word) {
+        Ok(shown) => Ok(Bytes::new(shown)),
+        Err(_fault) => Err(undecoded(word)),
+    }
+}
+
+/// Why a word of at most two digits for each byte of a page wasn't decoded: it shows no bytes, or
+/// it does and there was no memory for them.
+#[cold]
+fn undecoded(word: &[u8]) -> LineFault
+    requires some { 0 < length word.now }
+    requires few { length word.now ≤ 2 * 4096 }
+    ensures bad { result ≡ LineFault.Bad → ¬ IsByteWord word.now }
+    ensures none { result ≡ LineFault.Bad → bytes_of word.now ≡ None }
+    ensures memory { result ≡ LineFault.Memory → IsSome (bytes_of word.now) }
+{
     let mut room = [0u8; PAGE_SIZE as usize];
-    let shown = &mut room[..word.len() / 2];
-    match hex::decode_to_slice(word, shown) {
-        Ok(()) => Ok(Bytes::new(Vec::from_slice(alloc, shown)?)),
-        Err(_fault) => Err(LineFault::Bad),
+    match hex::decode_to_slice(word, &mut room[..word.len() / 2]) {
+        Ok(()) => LineFault::Memory,
+        Err(_fault) => LineFault::Bad,
     }
 }
