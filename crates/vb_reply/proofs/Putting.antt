@@ -29,6 +29,15 @@ put_in_all (Some xs) (Some ys) None held kept text e p q = absurd q
 put_in_all (Some xs) (Some ys) (Some zs) held kept text e p q =
     let first : ys ++ kept ≡ xs ++ text = rw (e, append-nil) at p in q ∙ first
 
+-- a text is put behind another
+pub put_on : (a b c : Option (List ℕ)) (held kept last first next : List ℕ) → Puts a held b kept first
+    → Puts b kept c last next → Puts a held c last (first ++ next)
+put_on None b c held kept last first next p q = tt
+put_on (Some xs) None c held kept last first next p q = absurd p
+put_on (Some xs) (Some ys) None held kept last first next p q = absurd q
+put_on (Some xs) (Some ys) (Some zs) held kept last first next p q =
+    rw (q, p) (append_assoc (xs ++ held) first next)
+
 -- digits of bytes, and of more bytes
 pub encoded_behind : (first rest : List ℕ)
     → encode_lower (first ++ rest) ≡ encode_lower first ++ encode_lower rest

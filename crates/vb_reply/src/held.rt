@@ -16,9 +16,11 @@ const HELD: usize = 8192;
 /// Bytes that are made digits of at once.
 const CHUNK: usize = 256;
 
-/// What is held back.
+/// Text that is held back for one writer: what comes next goes behind it. Whoever has put something
+/// calls `release` at the end, or it is never written.
 #[derive(Drop)]
 pub struct Held {
+    /// What the writer doesn't have yet.
     pub text: ArrayVec<u8, HELD>,
     /// Why a write to the writer failed, once one did.
     pub fault: Option<io::Error>,
@@ -89,7 +91,8 @@ fn write<W: Write>(out: &mut W, fault: &mut Option<io::Error>, text: &[u8]) -> R
     }
 }
 
-/// Writes what is held, and holds nothing then.
+/// Writes what is held, and holds nothing then. Fails where a write to `out` does; what was written
+/// until then is a first part of it.
 pub fn release<W: Write>(out: &mut W, held: &mut Held) -> Result<(), Failed>
     ensures written { OnOk result
         (Appends (W.contents out.old) (W.contents out.new) held.old.text.items) }

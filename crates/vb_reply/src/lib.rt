@@ -1,10 +1,12 @@
 //! The text of replies: what an event is answered, as a line.
 //!
-//! `write_reply` writes a reply's line, `write_replies` those of many. `docs/SCRIPTS.md` has them
-//! all; `vb_script` reads the lines of the events. Who answers the events is no matter here.
+//! `write_reply` writes a reply's line, `write_replies` those of many, and `put_reply` one behind
+//! others as replies come. `docs/SCRIPTS.md` has all lines; `vb_script` reads those of events.
+//! Who answers the events is no matter here.
 #![tactic(auto)]
 
 mod held;
 mod replies;
 
-pub use replies::{write_replies, write_reply};
+pub use held::{Failed, Held, release};
+pub use replies::{put_reply, write_replies, write_reply};

@@ -47,7 +47,7 @@ fn put_only<W: Write>(out: &mut W, line: &mut Held, reply: &Reply) -> Result<(),
     requires { line.old.text.items ≡ [] }
     ensures { OnOk result (Appends (W.contents out.old) (W.contents out.new) (line_of reply.now)) }
 {
-    put_line(out, line, reply)?;
+    put_reply(out, line, reply)?;
     release(out, line)?;
     Ok(())
 }
@@ -59,14 +59,16 @@ fn put_all<W: Write>(out: &mut W, held: &mut Held, replies: &[Reply]) -> Result<
         (Appends (W.contents out.old) (W.contents out.new) (flat_map line_of replies.now)) }
 {
     for reply in replies {
-        put_line(out, held, reply)?;
+        put_reply(out, held, reply)?;
     }
     release(out, held)?;
     Ok(())
 }
 
-/// Puts what an event was answered as one line.
-fn put_line<W: Write>(out: &mut W, held: &mut Held, reply: &Reply) -> Result<(), Failed>
+/// Puts what an event was answered as one line, which ends in a line feed: it is held for `out`,
+/// and written once 8 KiB are held. No memory is taken. Fails where a write to `out` does, and what
+/// the writer got until then is a first part of what was put.
+pub fn put_reply<W: Write>(out: &mut W, held: &mut Held, reply: &Reply) -> Result<(), Failed>
     ensures { OnOk result (Puts (W.contents out.old) held.old.text.items (W.contents out.new)
         held.new.text.items (line_of reply.now)) }
 {
