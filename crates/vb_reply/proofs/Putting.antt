@@ -29,7 +29,12 @@ put_in_all (Some xs) (Some ys) None held kept text e p q = absurd q
 put_in_all (Some xs) (Some ys) (Some zs) held kept text e p q =
     let first : ys ++ kept ≡ xs ++ text = rw (e, append-nil) at p in q ∙ first
 
--- a text is put behind another
+-- nothing was put yet
+pub put_nothing : (a : Option (List ℕ)) (held : List ℕ) → held ≡ [] → Puts a [] a held []
+put_nothing None held e = tt
+put_nothing (Some xs) held e = rw (e, append-nil, append-nil) refl
+
+-- a text is put after another
 pub put_on : (a b c : Option (List ℕ)) (held kept last first next : List ℕ) → Puts a held b kept first
     → Puts b kept c last next → Puts a held c last (first ++ next)
 put_on None b c held kept last first next p q = tt
