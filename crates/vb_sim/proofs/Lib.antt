@@ -2,6 +2,7 @@ pub mod Listing
 pub mod Paces
 pub mod Passes
 pub mod Planning
+pub mod Playing
 pub mod Reading
 pub mod Reporting
 pub mod Speaking

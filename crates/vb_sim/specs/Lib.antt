@@ -4,5 +4,4 @@ pub mod Ends
 pub mod Faults
 pub mod Plans
 pub mod Plays
-pub mod Recorded
 pub mod Threads

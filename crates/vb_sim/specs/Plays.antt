@@ -1,5 +1,5 @@
 -- What the events of a script may be answered.
-use Rattle.std.specs.Prelude.{◌≡◌, ℕ, List, [], Option, Some, None, Result, Ok, Err, map}
+use Rattle.std.specs.Prelude.{◌≡◌, ℕ, List, [], Option, Some, None, Result, Ok, Err, map, ⊤}
 use Rattle.vb_model.specs.declared.replies.Reply.{Reply}
 use Rattle.vb_model.specs.World.{World, made}
 use Rattle.vb_model.specs.Safe.{IsSafeRun}
@@ -8,6 +8,9 @@ use Rattle.std.specs.List.{flat_map}
 use Rattle.vb_reply.specs.Replies.{line_of}
 use Rattle.vb_script.specs.Lines.{is_paced}
 use Rattle.vb_script.specs.Texts.{Said}
+use Rattle.vb_sim.specs.declared.fault.ProgramFault.{ProgramFault}
+use Rattle.vb_sim.specs.declared.fault.ProgramFault.TheVariants.{BadLine, BadPlan, Memory, Audit}
+use Rattle.vb_sim.specs.declared.fault.ProgramFault.TheVariants.{Stream}
 
 -- the host before anything happens: the script's frames, and its spare devices in their order
 abbrev pub host_of : Said → World
@@ -32,3 +35,12 @@ Prints Played script old new =
     (replies : List Reply)
     × MayGet Played script replies
     × Appends old new (flat_map line_of replies)
+
+-- Why a script isn't played to its end: there was no memory, and then so much holds; or a stream is
+-- broken.
+abbrev pub IsPlayFault : ProgramFault → Type 0 → Type 0
+IsPlayFault (BadLine number) P = ⊥
+IsPlayFault BadPlan P = ⊥
+IsPlayFault Memory P = P
+IsPlayFault Audit P = ⊥
+IsPlayFault Stream P = ⊤

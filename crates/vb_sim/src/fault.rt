@@ -5,10 +5,11 @@ ghost use Rattle.std.specs.Io.KnownBytes.{Appends};
 ghost use Rattle.vb_sim.specs.Ends.{Says, fault_line};
 ghost use Rattle.vb_sim.specs.Faults.{status_of};
 
-use std::alloc::AllocError;
+use std::alloc::{AllocError, AllocFailed};
 use std::io;
 use std::io::{ErrorKind, Write};
 use thiserror::Error;
+use vb_reply::Failed;
 use vb_run::RunFault;
 use vb_script::ScriptFault;
 
@@ -21,8 +22,7 @@ pub const BAD_SCRIPT: u8 = 1;
 /// Exit status: the arguments aren't understood.
 pub const BAD_ARGUMENTS: u8 = 2;
 
-/// Exit status: there was no memory before anything could run or for the lines of the replies, or
-/// guests on threads found none.
+/// Exit status: there was no memory before anything could run, or guests on threads found none.
 pub const NO_MEMORY: u8 = 3;
 
 /// Exit status: reading or writing failed.
@@ -41,8 +41,8 @@ pub enum ProgramFault {
     /// The lines make no plan, or one that can't be run.
     #[error("run: bad plan")]
     BadPlan,
-    /// There was no memory before anything could run or for the lines of the replies, or guests on
-    /// threads found none, or no thread could be made for one.
+    /// There was no memory before anything could run, or guests on threads found none, or no thread
+    /// could be made for one.
     #[error("run: memory")]
     Memory,
     /// Guests on threads had a frame in common at their end, or one that isn't the host's, or their
@@ -75,6 +75,26 @@ impl From<AllocError> for ProgramFault {
 
     fn from(_fault: AllocError) -> ProgramFault {
         ProgramFault::Memory
+    }
+}
+
+impl<T: Drop> From<AllocFailed<T>> for ProgramFault {
+    ghost use Rattle.vb_sim.specs.declared.fault.ProgramFault.TheVariants.{Memory};
+
+    ghost from_gives = { λ _ r. r ≡ Memory };
+
+    fn from(_fault: AllocFailed<T>) -> ProgramFault {
+        ProgramFault::Memory
+    }
+}
+
+impl From<Failed> for ProgramFault {
+    ghost use Rattle.vb_sim.specs.declared.fault.ProgramFault.TheVariants.{Stream};
+
+    ghost from_gives = { λ _ r. r ≡ Stream };
+
+    fn from(_fault: Failed) -> ProgramFault {
+        ProgramFault::Stream
     }
 }
 

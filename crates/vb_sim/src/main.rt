@@ -10,7 +10,6 @@ mod lines;
 mod plans;
 mod play;
 mod ports;
-mod replies;
 mod run;
 #[cfg(test)]
 mod tests;

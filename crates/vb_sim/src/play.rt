@@ -1,14 +1,17 @@
 //! Who answers a script's events.
 
-ghost use Rattle.std.specs.Prelude.{◌≡◌, length, List, vec_len, OnOk};
+ghost use Rattle.std.specs.Prelude.{◌≡◌, length, IfErr, List, vec_len, OnOk};
+ghost use Rattle.std.specs.Io.KnownBytes.{Appends, Keeps};
+ghost use Rattle.std.specs.List.{flat_map};
 ghost use Rattle.vb_model.specs.declared.replies.Reply.{Reply as AnyReply};
+ghost use Rattle.vb_reply.specs.Replies.{line_of};
 ghost use Rattle.vb_script.specs.Scripts.{said_by};
 ghost use Rattle.vb_script.specs.Texts.{Said};
-ghost use Rattle.vb_sim.specs.Recorded.{HasLines};
-ghost use Rattle.vb_world.specs.Recording.{Adds};
+ghost use Rattle.vb_sim.specs.Plays.{IsPlayFault};
 
-use crate::replies::ReplyLines;
-use std::alloc::{AllocError, Global};
+use crate::fault::ProgramFault;
+use std::alloc::Global;
+use std::io::Write;
 use vb_script::Script;
 
 /// A host that a script's events happen on.
@@ -16,15 +19,18 @@ pub trait Play {
     /// These are replies that this script may get.
     ghost played: { Said → List AnyReply → Type 0 };
 
-    /// Makes the script's host, lets its events happen, and adds the line of what each is answered,
-    /// in order. Fails for want of memory alone: for the host, or for the lines.
-    fn play(
+    /// Makes the script's host, lets its events happen, and writes the line of what each is
+    /// answered to `out`, in order. Fails for want of memory before the first event, with nothing
+    /// written, or where a write does; then the writer has a first part of the lines.
+    fn play<W: Write>(
         &mut self,
         alloc: Global,
         script: &Script,
-        lines: &mut ReplyLines,
-    ) -> Result<(), AllocError>
-        ensures { OnOk result ((replies : List AnyReply) × played (said_by script.now) replies
+        out: &mut W,
+    ) -> Result<(), ProgramFault>
+        ensures ok { OnOk result ((replies : List AnyReply) × played (said_by script.now) replies
             × (length replies ≡ vec_len script.now.events)
-            × Adds HasLines lines.old lines.new replies) };
+            × Appends (W.contents out.old) (W.contents out.new) (flat_map line_of replies)) }
+        ensures err { IfErr result (λ fault.
+            IsPlayFault fault (Keeps (W.contents out.old) (W.contents out.new))) };
 }

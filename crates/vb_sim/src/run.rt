@@ -1,10 +1,7 @@
 //! The run of a script, from its bytes to the exit status.
 
-ghost use Rattle.std.specs.Prelude.{◌≡◌, true, IfErr, IfOk, IfSome, List, OnOk};
-ghost use Rattle.std.specs.Io.KnownBytes.{Appends, Keeps};
-ghost use Rattle.std.specs.List.{flat_map};
-ghost use Rattle.vb_model.specs.declared.replies.Reply.{Reply as AnyReply};
-ghost use Rattle.vb_reply.specs.Replies.{line_of};
+ghost use Rattle.std.specs.Prelude.{◌≡◌, true, IfErr, IfOk, IfSome, OnOk};
+ghost use Rattle.std.specs.Io.KnownBytes.{Keeps};
 ghost use Rattle.std.specs.Option.{option_map};
 ghost use Rattle.vb_script.specs.Scripts.{IfBadLine as IfBadScript, said_by};
 ghost use Rattle.vb_script.specs.Texts.{begins_with_host, script_of};
@@ -17,9 +14,7 @@ use crate::fault::{ProgramFault, SUCCESS, report};
 use crate::host::Host;
 use crate::input::read_text;
 use crate::play::Play;
-use crate::replies::ReplyLines;
-use std::alloc::{AllocError, Global};
-use std::io;
+use std::alloc::Global;
 use std::io::{Read, Write};
 use vb_script::{Script, ScriptFault, parse};
 
@@ -59,7 +54,7 @@ where
     }
 }
 
-/// Reads a script, runs it and writes its replies, once all are there.
+/// Reads a script, runs it and writes its replies.
 fn answer<P: Play, R: Read + Drop, O: Write>(
     alloc: Global,
     host: &mut P,
@@ -92,35 +87,30 @@ fn play_into<P: Play, W: Write>(
     ensures nothing { IfErr result
         (λ fault. UnlessStream fault (Keeps (W.contents out.old) (W.contents out.new))) }
 {
-    let lines = lines_of(alloc, host, text)?;
-    write_lines(out, lines.as_slice())
+    play_text(alloc, host, text, out)?;
+    flush(out)
 }
 
-/// The lines of what the events of a script are answered, in order. Nothing happens where one of
-/// its lines is bad, and nothing is answered where it has none.
-fn lines_of<P: Play>(alloc: Global, host: &mut P, text: Vec<u8>) -> Result<Vec<u8>, ProgramFault>
-    ensures ok { IfOk result (λ lines. (replies : List AnyReply)
-        × MayGet P.played (script_of text.items) replies
-        × (lines.items ≡ flat_map line_of replies)) }
+/// The same, but that what was written needn't be flushed. Nothing happens where a line of the
+/// script is bad, and nothing is written where it has none.
+fn play_text<P: Play, W: Write>(
+    alloc: Global,
+    host: &mut P,
+    text: Vec<u8>,
+    out: &mut W,
+) -> Result<(), ProgramFault>
+    ensures ok { OnOk result
+        (Prints P.played (script_of text.items) (W.contents out.old) (W.contents out.new)) }
     ensures bad { IfErr result
         (λ fault. IfBadLine fault (λ number. script_of text.items ≡ Err number)) }
+    ensures nothing { IfErr result
+        (λ fault. UnlessStream fault (Keeps (W.contents out.old) (W.contents out.new))) }
     ensures memory { result ≡ Err NoMemory → begins_with_host text.items ≡ true }
 {
     match read_script(alloc, text)? {
-        None => Ok(Vec::new(alloc)),
-        Some(script) => Ok(play_lines(alloc, host, &script)?),
+        None => Ok(()),
+        Some(script) => host.play(alloc, &script, out),
     }
-}
-
-/// The lines of what a script's events are answered, in order. Want of memory is the only refusal.
-fn play_lines<P: Play>(alloc: Global, host: &mut P, script: &Script) -> Result<Vec<u8>, AllocError>
-    ensures { IfOk result (λ lines. (replies : List AnyReply)
-        × P.played (said_by script.now) replies
-        × (lines.items ≡ flat_map line_of replies)) }
-{
-    let mut lines = ReplyLines::new(alloc)?;
-    host.play(alloc, script, &mut lines)?;
-    lines.into_text()
 }
 
 /// Reads a script from its text, which is let go before anything runs.
@@ -133,21 +123,13 @@ fn read_script(alloc: Global, text: Vec<u8>) -> Result<Option<Script>, ScriptFau
     parse(alloc, text.as_slice())
 }
 
-/// Writes all lines; a fault of the stream ends the run.
-fn write_lines<W: Write>(out: &mut W, lines: &[u8]) -> Result<(), ProgramFault>
-    ensures ok { OnOk result (Appends (W.contents out.old) (W.contents out.new) lines.now) }
+/// Sees that what was written is no longer held anywhere; where that fails the run ends.
+fn flush<W: Write>(out: &mut W) -> Result<(), ProgramFault>
+    ensures same { Keeps (W.contents out.old) (W.contents out.new) }
     ensures err { IfErr result (λ fault. fault ≡ Stream) }
 {
-    match write_all_lines(out, lines) {
+    match out.flush() {
         Ok(()) => Ok(()),
         Err(_fault) => Err(ProgramFault::Stream),
     }
-}
-
-/// Writes all lines.
-fn write_all_lines<W: Write>(out: &mut W, lines: &[u8]) -> io::Result<()>
-    ensures { OnOk result (Appends (W.contents out.old) (W.contents out.new) lines.now) }
-{
-    out.write_all(lines)?;
-    out.flush()
 }

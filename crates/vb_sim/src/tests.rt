@@ -15,8 +15,18 @@ mod scripts;
 mod sizes;
 mod threads;
 
+ghost use Rattle.std.specs.Prelude.{◌≡◌, IfErr, OnOk};
+ghost use Rattle.std.specs.Io.KnownBytes.{Appends};
+ghost use Rattle.std.specs.List.{flat_map};
+ghost use Rattle.vb_reply.specs.Replies.{line_of};
+ghost use Rattle.vb_sim.specs.declared.fault.ProgramFault.TheVariants.{Stream};
+
+use crate::fault::ProgramFault;
 use crate::run::run_script;
 use std::alloc::{AllocError, Global};
+use std::io::Write;
+use vb_model::Reply;
+use vb_reply::write_replies;
 
 /// What a run wrote to the output and to the errors, and its exit status.
 #[derive(Drop)]
@@ -43,6 +53,18 @@ fn run(alloc: Global, script: &[u8]) -> Outcome {
         output,
         errors,
         status,
+    }
+}
+
+/// Writes the line of each reply, for a host of the tests' own.
+fn write_lines<W: Write>(out: &mut W, replies: &[Reply]) -> Result<(), ProgramFault>
+    ensures ok { OnOk result
+        (Appends (W.contents out.old) (W.contents out.new) (flat_map line_of replies.now)) }
+    ensures err { IfErr result (λ fault. fault ≡ Stream) }
+{
+    match write_replies(out, replies) {
+        Ok(()) => Ok(()),
+        Err(_fault) => Err(ProgramFault::Stream),
     }
 }
 

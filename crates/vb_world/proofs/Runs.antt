@@ -1,9 +1,6 @@
 -- A run of a host goes on.
 use Rattle.std.proofs.Common.{◌≡◌, ℕ, zero, suc, ◌≤◌, Bool, List, [], ◌∷◌, ◌++◌, length, take, refl}
-use Rattle.std.proofs.Common.{sym, ap, subst, arith, get_or, ◌∙◌, ◌+◌, ◌<◌}
-use Rattle.std.proofs.Common.{Result, Ok, Err, OnErr}
-use Rattle.std.specs.Prelude.{IsOk}
-use Rattle.std.proofs.lemmas.List.{append-nil, append_assoc, take_more}
+use Rattle.std.proofs.Common.{sym, ap, subst, arith}
 use Rattle.vb_model.specs.declared.calls.Event.{Event}
 use Rattle.vb_model.specs.declared.replies.Reply.{Reply}
 use Rattle.vb_model.specs.World.{World, made}
@@ -12,7 +9,6 @@ use Rattle.vb_model.specs.Run.{Steps, last_world}
 use Rattle.vb_model.proofs.RunLaws.{steps-push, last_world-push}
 use Rattle.vb_model.specs.Safe.{IsSafeRun}
 use Rattle.vb_model.proofs.Runs.{run_is_safe}
-use Rattle.vb_world.specs.Recording.{Adds}
 
 -- From the world w the events may get these replies and lead to a world for which Holds.
 pub record Ran (Holds : World → Type 0) (w : World) (events : List Event) (replies : List Reply) :
@@ -56,19 +52,6 @@ safe_run frames spares events replies ran = (
   },
 )
 
--- what is added to a recorder's replies: none yet
-pub adds_none : {R : Type 0} (Holds : R → List Reply → Type 0) (r : R) → Adds Holds r r []
-adds_none Holds r = λ replies held. subst (Holds r) (sym (append-nil replies)) held
-
--- one more
-pub adds_on : {R : Type 0} (Holds : R → List Reply → Type 0) (old mid new : R)
-    (added : List Reply) (reply : Reply) → Adds Holds old mid added
-    → ((replies : List Reply) → Holds mid replies → Holds new (replies ++ reply ∷ []))
-    → Adds Holds old new (added ++ reply ∷ [])
-adds_on Holds old mid new added reply adds one = λ replies held.
-    subst (Holds new) (append_assoc replies added (reply ∷ []))
-    (one (replies ++ added) (adds replies held))
-
 pub take_whole : {A : Type 0} (n : ℕ) (xs : List A) → length xs ≤ n → take n xs ≡ xs
 take_whole zero [] l = refl
 take_whole (suc n) [] l = refl
@@ -85,23 +68,3 @@ as_many w [] [] (next ∷ after) s = refl
 as_many w [] (r ∷ replies) after s = absurd s
 as_many w (e ∷ events) [] after s = absurd s
 as_many w (e ∷ events) (r ∷ replies) [] s = absurd s
-
--- the events up to one more
-pub take_next : {A : Type 0} (xs : List A) (i : ℕ) (x : A) → i < length xs → x ≡ get_or xs i x
-    → take (i + 1) xs ≡ take i xs ++ x ∷ []
-take_next xs i x lt is = take_more xs i x lt ∙ ap (λ y. take i xs ++ y ∷ []) (sym is)
-
--- what holds anyway holds on an error
-pub on_err : {T E P : Type 0} (r : Result T E) → P → OnErr r P
-on_err (Ok x) p = tt
-on_err (Err e) p = p
-
-refused_none : {T E : Type 0} (r : Result T E) (e : E) → IsOk r → r ≡ Err e → ⊥
-refused_none (Ok x) e ok is = cc
-refused_none (Err f) e ok is = cc
-
--- a recorder that refused a reply had no room
-pub no_room : {T E : Type 0} (room : ℕ) (r : Result T E) (e : E) → (0 < room → IsOk r) → r ≡ Err e
-    → room ≡ 0
-no_room zero r e fits is = refl
-no_room (suc n) r e fits is = absurd (refused_none r e (fits (omega arith)) is)

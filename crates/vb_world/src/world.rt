@@ -2,8 +2,7 @@
 
 ghost use Rattle.std.specs.Prelude.{◌≡◌, ◌<◌, ◌≤◌, ◌^◌, ℕ, true, All, IfOk, IfErr, OnErr, OnOk};
 ghost use Rattle.std.specs.Prelude.{map, ◌++◌, [], vec_len, vec_capacity, ◌∷◌, List, Bool, IsTrue};
-ghost use Rattle.std.specs.Prelude.{length, take, IsOk, ◌+◌};
-ghost use Rattle.vb_model.specs.declared.replies.Reply.{Reply as AnyReply};
+ghost use Rattle.std.specs.Prelude.{length, IsOk};
 ghost use Rattle.vb_model.specs.Safe.{IsSafeRun};
 ghost use Rattle.vb_model.specs.World.{World as Model, made};
 ghost use Rattle.vb_model.specs.HostEvents.{WorldStep, PlugsIn};
@@ -16,9 +15,7 @@ ghost use Rattle.vb_model.specs.Limits.{is_config, max_guests};
 ghost use Rattle.slab.specs.Slab.{slab_len};
 ghost use Rattle.vb_slot.specs.Spare.{IsSpare};
 ghost use Rattle.vb_world.specs.Hosts.{IsWorld};
-ghost use Rattle.vb_world.specs.Recording.{Adds};
 
-use crate::recorder::Recorder;
 use arrayvec::ArrayVec;
 use slab::Slab;
 use std::alloc::{AllocError, Global};
@@ -295,45 +292,10 @@ impl World {
         ensures silent { length events.now ≡ 0 → IsOk result }
     {
         let mut replies = Vec::with_capacity(alloc, events.len())?;
-        match self.run_into(alloc, events, &mut replies) {
-            Ok(()) => Ok(replies),
-            Err(_) => unreachable!(),
-        }
-    }
-
-    /// Lets events happen, one after the other, and records what each is answered.
-    ///
-    /// Refused only where the recorder has no memory for a reply, which isn't so while it has room.
-    /// It had the replies of the events before then, and the events up to that one have happened,
-    /// and no more.
-    pub fn run_into<R: Recorder>(
-        &mut self,
-        alloc: Global,
-        events: &[Event],
-        recorder: &mut R,
-    ) -> Result<(), AllocError>
-        requires made { (frames : ℕ) × (spares : List Bool) ×
-            IsWorld mem part self.old (made frames spares) }
-        ensures run { (frames : ℕ) (spares : List Bool) →
-            IsWorld mem part self.old (made frames spares)
-            → OnOk result ((last : Model) × (replies : List AnyReply) ×
-            IsWorld mem part self.new last ×
-            IsSafeRun (made frames spares) events.now replies last ×
-            Adds R.holds recorder.old recorder.new replies) }
-        ensures stopped { (frames : ℕ) (spares : List Bool) →
-            IsWorld mem part self.old (made frames spares)
-            → OnErr result ((last : Model) × (count : ℕ) × (replies : List AnyReply) ×
-            (reply : AnyReply) × (full : R) × IsWorld mem part self.new last ×
-            (count < length events.now) ×
-            IsSafeRun (made frames spares) (take (count + 1) events.now)
-            (replies ++ reply ∷ []) last ×
-            Adds R.holds recorder.old full replies × (R.room full ≡ 0)) }
-        ensures fits { length events.now ≤ R.room recorder.old → IsOk result }
-    {
         for event in events {
             let reply = self.step(alloc, event);
-            recorder.record(reply)?;
+            replies.push_reserved(reply);
         }
-        Ok(())
+        Ok(replies)
     }
 }

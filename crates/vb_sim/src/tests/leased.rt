@@ -8,13 +8,13 @@ ghost use Rattle.vb_model.specs.Guest.{Guest};
 ghost use Rattle.vb_model.specs.Limits.{is_config};
 ghost use Rattle.vb_slot.specs.Spare.{IsNew};
 
-use super::Outcome;
 use super::scripts::{Listed, one_guest_immediate, one_guest_paced};
-use crate::fault::SUCCESS;
+use super::{Outcome, write_lines};
+use crate::fault::{ProgramFault, SUCCESS};
 use crate::play::Play;
-use crate::replies::ReplyLines;
 use crate::run::run_script_on;
 use std::alloc::{AllocError, Global};
+use std::io::Write;
 use std::process::Abort;
 use vb_device::{Device, ImmediateDevice, PacedDevice};
 use vb_model::{Call, Event, Query, Refusal, Reply};
@@ -151,14 +151,14 @@ struct Leasing;
 impl Play for Leasing {
     ghost played = { λ said replies. ⊤ };
 
-    fn play(
+    fn play<W: Write>(
         &mut self,
         alloc: Global,
         script: &Script,
-        lines: &mut ReplyLines,
-    ) -> Result<(), AllocError> {
+        out: &mut W,
+    ) -> Result<(), ProgramFault> {
         let replies = answer_all(alloc, script)?;
-        lines.record_all(&replies)
+        write_lines(out, &replies)
     }
 }
 

@@ -3,14 +3,15 @@
 
 ghost use Rattle.std.specs.Prelude.{◌≤◌};
 
-use crate::host::play_events;
 use rand_core::Rng;
 use rand_pcg::Pcg32;
 use std::alloc::{AllocError, Global};
 use std::process::Abort;
 use std::test::Fail;
+use vb_device::{Device, ImmediateDevice, PacedDevice};
 use vb_model::{Bytes, Call, Event, PlaceCounts, Query, Reply};
 use vb_script::{Pace, Script};
+use vb_world::{World, add_spare};
 
 const GUESTS: u32 = 8;
 
@@ -397,6 +398,25 @@ fn are_in_order(replies: &[Reply]) -> bool {
     reader.counts_of_frames == TENS / TENS_UNASKED && reader.refused < 3 * TENS
 }
 
+/// What a script's events are answered, on devices of its paces.
+fn answer_all(alloc: Global, script: &Script) -> Result<Vec<Reply>, AllocError> {
+    let mut spares: Vec<Box<dyn Device + Send>> = Vec::new(alloc);
+    for pace in &script.spares {
+        match pace {
+            Pace::Immediate => {
+                let device = Box::new(alloc, ImmediateDevice::new(alloc))?;
+                add_spare(&mut spares, device)?;
+            }
+            Pace::Paced => {
+                let device = Box::new(alloc, PacedDevice::new(alloc))?;
+                add_spare(&mut spares, device)?;
+            }
+        }
+    }
+    let mut world = World::new(alloc, script.frames, spares)?;
+    world.run(alloc, &script.events)
+}
+
 /// Lets a script happen whose numbers come of this seed, on a host of so many frames.
 fn live(rt: &impl Abort, alloc: Global, frames: u32, seed: u64) -> Result<(), AllocError>
     requires some { 1 ≤ frames }
@@ -408,14 +428,7 @@ fn live(rt: &impl Abort, alloc: Global, frames: u32, seed: u64) -> Result<(), Al
     };
     let mut script = host_of(alloc, frames)?;
     author.add_all(alloc, &mut script)?;
-    let mut replies = Vec::new(alloc);
-    play_events(
-        alloc,
-        script.frames,
-        &script.spares,
-        &script.events,
-        &mut replies,
-    )?;
+    let replies = answer_all(alloc, &script)?;
     assert!(rt; are_in_order(&replies), "on {frames} frames");
     Ok(())
 }

@@ -3,14 +3,14 @@
 
 ghost use Rattle.std.specs.Prelude.{◌≡◌, ⊤, IfOk, vec_len};
 
-use super::Outcome;
 use super::listed::ListedDevice;
 use super::scripts::{Listed, paced};
-use crate::fault::SUCCESS;
+use super::{Outcome, write_lines};
+use crate::fault::{ProgramFault, SUCCESS};
 use crate::play::Play;
-use crate::replies::ReplyLines;
 use crate::run::run_script_on;
 use std::alloc::{AllocError, Global};
+use std::io::Write;
 use std::process::Abort;
 use vb_device::Device;
 use vb_model::Reply;
@@ -27,14 +27,14 @@ struct Listing {
 impl Play for Listing {
     ghost played = { λ said replies. ⊤ };
 
-    fn play(
+    fn play<W: Write>(
         &mut self,
         alloc: Global,
         script: &Script,
-        lines: &mut ReplyLines,
-    ) -> Result<(), AllocError> {
+        out: &mut W,
+    ) -> Result<(), ProgramFault> {
         let replies = self.answer_all(alloc, script)?;
-        lines.record_all(&replies)
+        write_lines(out, &replies)
     }
 }
 

@@ -2,10 +2,10 @@
 
 ghost use Rattle.std.specs.Prelude.{◌≡◌, IfOk, length, vec_len};
 
-use super::{Outcome, repeated};
+use super::{Outcome, repeated, write_lines};
+use crate::fault::ProgramFault;
 use crate::host::Host;
 use crate::play::Play;
-use crate::replies::ReplyLines;
 use crate::run::run_script_on;
 use std::alloc::{AllocError, Global};
 use std::io;
@@ -20,14 +20,14 @@ struct Empty;
 impl Play for Empty {
     ghost played = { λ said replies. length replies ≡ length said.events };
 
-    fn play(
+    fn play<W: Write>(
         &mut self,
         alloc: Global,
         script: &Script,
-        lines: &mut ReplyLines,
-    ) -> Result<(), AllocError> {
+        out: &mut W,
+    ) -> Result<(), ProgramFault> {
         let replies = refuse_all(alloc, script)?;
-        lines.record_all(&replies)
+        write_lines(out, &replies)
     }
 }
 
@@ -49,13 +49,13 @@ struct Starved;
 impl Play for Starved {
     ghost played = { λ said replies. ⊥ };
 
-    fn play(
+    fn play<W: Write>(
         &mut self,
         _alloc: Global,
         _script: &Script,
-        _lines: &mut ReplyLines,
-    ) -> Result<(), AllocError> {
-        Err(AllocError)
+        _out: &mut W,
+    ) -> Result<(), ProgramFault> {
+        Err(ProgramFault::Memory)
     }
 }
 

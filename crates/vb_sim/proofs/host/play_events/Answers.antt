@@ -1,7 +1,5 @@
 use Rattle.std.proofs.Common.{◌≡◌, ◌≤◌, refl, List, Bool, map, length, ap, ◌∙◌}
 use Rattle.std.proofs.lemmas.List.{take_all}
-use Rattle.std.proofs.lemmas.Result.{on_ok_weaker}
-use Rattle.vb_world.proofs.Runs.{as_many}
 use Rattle.vb_script.specs.declared.lines.Pace.TheVariants.{Immediate, Paced}
 use Rattle.vb_script.specs.Lines.{is_paced}
 use Rattle.vb_sim.proofs.Paces.{one_more}
@@ -49,12 +47,10 @@ loop-pace-preserved g c = elim c.match-pace.branch [
       })
 ]
 
-pub returns : goal.returns
-returns g c =
+pub returns-clause-ok : goal.returns-clause-ok
+returns-clause-ok g c =
     let whole : length c.args.paces.now ≤ c.loop-pace.pace-index = c.loop-pace-test.false in
     let paces = c.loop-pace.invariant.paces
     ∙ ap (λ (ps : List _). map is_paced ps)
     (take_all c.loop-pace.pace-index c.args.paces.now whole) in
-    rw (← paces) (on_ok_weaker c.run_into.result
-    (λ r. (r.1, (r.0, r.3), as_many _ _ _ _ r.3.steps, r.4))
-    (c.run_into.ensures.run _ _ c.in_ok-world.ensures))
+    rw (← paces) c.run_on.ensures.ok
