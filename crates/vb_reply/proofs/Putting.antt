@@ -34,7 +34,7 @@ pub put_nothing : (a : Option (List ℕ)) (held : List ℕ) → held ≡ [] → 
 put_nothing None held e = tt
 put_nothing (Some xs) held e = rw (e, append-nil, append-nil) refl
 
--- a text is put behind another
+-- a text is put after another
 pub put_on : (a b c : Option (List ℕ)) (held kept last first next : List ℕ) → Puts a held b kept first
     → Puts b kept c last next → Puts a held c last (first ++ next)
 put_on None b c held kept last first next p q = tt

@@ -16,7 +16,7 @@ const HELD: usize = 8192;
 /// Bytes that are made digits of at once.
 const CHUNK: usize = 256;
 
-/// Text that is held back for one writer: what comes next goes behind it. Whoever has put something
+/// Text that is held back for one writer: what comes next goes after it. Whoever has put something
 /// calls `release` at the end, or it is never written.
 #[derive(Drop)]
 pub struct Held {

@@ -1,6 +1,6 @@
 //! The text of replies: what an event is answered, as a line.
 //!
-//! `write_reply` writes a reply's line, `write_replies` those of many, and `put_reply` one behind
+//! `write_reply` writes a reply's line, `write_replies` those of many, and `put_reply` one after
 //! others as replies come. `docs/SCRIPTS.md` has all lines; `vb_script` reads those of events.
 //! Who answers the events is no matter here.
 #![tactic(auto)]

@@ -7,7 +7,7 @@ use Rattle.vb_reply.specs.Held.{Puts}
 use Rattle.vb_reply.specs.Replies.{line_of}
 use Rattle.vb_reply.proofs.Putting.{put_on}
 
--- the line of one more reply is put behind those of the others
+-- the line of one more reply is put after those of the others
 pub lines_on : (a b c : Option (List ℕ)) (held kept last : List ℕ) (replies : List Reply) (reply : Reply)
     → Puts a held b kept (flat_map line_of replies) → Puts b kept c last (line_of reply)
     → Puts a held c last (flat_map line_of (replies ++ reply ∷ []))

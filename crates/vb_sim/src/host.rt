@@ -42,7 +42,7 @@ impl Play for Host {
 /// Makes a host of this many frames, 1 to `MAX_FRAMES`, with spare devices of these paces, lets
 /// events happen, and writes the line of what each is answered to `out`, in order: the replies are
 /// those of a run of the definitions, each state of which is safe. Fails for want of memory before
-/// the first event, with nothing written, or where a write does; then no later event happens.
+/// the first event, with nothing written, or where a write does; then no event after it happens.
 pub fn play_events<W: Write>(
     alloc: Global,
     frames: u32,
@@ -76,10 +76,10 @@ pub fn play_events<W: Write>(
     run_on(alloc, frames, spares, events, out)
 }
 
-/// Makes a host of so many frames with these spare devices, lets events happen, one after the
+/// Makes a host of this many frames with these spare devices, lets events happen, one after the
 /// other, and writes the line of what each is answered to `out`, many at once. No memory is taken
 /// for the lines. Fails for want of memory before the first event, with nothing written, or where a
-/// write does; then no event behind it happens.
+/// write does; then no event after it happens.
 fn run_on<W: Write>(
     alloc: Global,
     frames: u32,
