@@ -9,6 +9,7 @@ ghost use Rattle.vb_monitor.specs.Balloons.{becomes_ready, may_tell};
 
 use crate::Outcome;
 use vb_core::{Device, Kind};
+use vb_status::StatusFault;
 
 /// The bit of the status by which a driver says that it is ready (VIRTIO 1.1, 2.1).
 const DRIVER_OK: u8 = 4;
