@@ -181,7 +181,8 @@ impl Balloon {
         ensures denied { (why : Denial) →
             place_denial kind (placed table avail used size) self.old.device ≡ Some why →
             (result ≡ Err why) × (self.new ≡ self.old) }
-        ensures misplaced { place_denial kind (placed table avail used size) self.old.device ≡ None →
+        ensures misplaced {
+            place_denial kind (placed table avail used size) self.old.device ≡ None →
             (¬ Lies regions.now (placed table avail used size)) →
             (result ≡ Err Misplaced) × (self.new ≡ self.old) }
         ensures placed { place_denial kind (placed table avail used size) self.old.device ≡ None →
