@@ -24,6 +24,7 @@ use Rattle.vb_model.specs.Rogue.{Scribbled, IsRogueAfter}
 use Rattle.vb_model.specs.Rogue.{LosesFrames, pages_to_back, unless_refused, with_fault}
 use Rattle.vb_model.specs.Pages.{place_of, is_used}
 use Rattle.vb_model.specs.Status.{contains, driver_ok}
+use Rattle.vb_model.specs.Step.{Performs, HonestStep}
 use Rattle.vb_model.specs.Rogue.{GuestStep}
 use Rattle.vb_model.proofs.Wanting.{wants, not_refused_pages, refused_backs}
 use Rattle.vb_ram.specs.Pages.{Pages, frame_at, number_of, Covers, Wrote, Supplied}
