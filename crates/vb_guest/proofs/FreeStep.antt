@@ -36,7 +36,7 @@ by_result m p g areas sides d2 cpu start order (Ok done) did stands =
       held = without_block (block_at start order) g.held;
     } in
     let step = honest_performed g (Free cpu start order) [] Done new (sym did.refusal)
-    (refl, refl, refl) in
+    (refl, (refl, refl)) in
     let after : DriverState =
     driver_of new (after_free (driver_of g areas sides) cpu start order).areas sides in
     let there : Ties m p after new = record {

@@ -72,7 +72,7 @@ read_done m p d g page off len bytes used stands covers is =
     (stands.ties.pages.holds page high lt) in
     steps_alone m m p p d d g (Read page off len) (ReadBytes bytes) g stands
     (honest_performed g (Read page off len) [] (ReadBytes bytes) g
-    (read_free m p d g page off len used stands covers) (refl, inl (ap ReadBytes read), refl))
+    (read_free m p d g page off len used stands covers) (refl, (inl (ap ReadBytes read), refl)))
     stands.ties refl
 
 pub read_no_memory : (m : Pages) (p : Part) (d : DriverState) (g : Guest) (page off len : ℕ)
@@ -81,7 +81,7 @@ pub read_no_memory : (m : Pages) (p : Part) (d : DriverState) (g : Guest) (page 
 read_no_memory m p d g page off len used stands covers =
     steps_alone m m p p d d g (Read page off len) (Refused NoMemory) g stands
     (honest_performed g (Read page off len) [] (Refused NoMemory) g
-    (read_free m p d g page off len used stands covers) (refl, inr refl, refl)) stands.ties refl
+    (read_free m p d g page off len used stands covers) (refl, (inr refl, refl))) stands.ties refl
 
 pub bytes_read : (m : Pages) (page off len : ℕ) (old out : List ℕ) → Covers m page off len
     → length (contents_at m page) ≡ 4096 → length old ≡ len → length out ≡ length old

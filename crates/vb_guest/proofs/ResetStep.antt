@@ -77,5 +77,5 @@ reset_step m1 m2 p1 p2 d1 d2 g did stands =
       });
     } in
     steps_alone m1 m2 p1 p2 d1 d2 g Reset Done new stands
-    (honest_performed g Reset [] Done new refl (refl, refl, refl))
+    (honest_performed g Reset [] Done new refl (refl, (refl, refl)))
     (ties_same m1 m2 part p2 state d2 new did.mem did.part did.state there) refl

@@ -93,7 +93,7 @@ init_unsupplied_rogue Answers out1 out2 l m1 m2 p1 p2 d g wanted why refusal is 
     (subst (λ (l : List ℕ). AreClaimsFor l did.claims)
     (bare_is d.queue_size m1 g rogue.queue_size rogue.behind) did.made))
     (did.answer ∙ is) refl
-    (unsupplied (not (g.status == 0)) (claim_refusal did.claims) refusal g _ (did.answer ∙ is))
+    (unsupplied (g.status == 0) (claim_refusal did.claims) refusal g _ (did.answer ∙ is))
     (λ page offset bytes e. absurd cc) did.answered did.refused.1)
 
 -- ---- with frames
