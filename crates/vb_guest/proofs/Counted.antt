@@ -1,5 +1,5 @@
 -- A driver's counts of places are the guest's.
-use Rattle.std.specs.Prelude.{◌≡◌, ℕ, List}
+use Rattle.std.specs.Prelude.{◌≡◌, ℕ, List, Bool}
 use Rattle.std.proofs.Common.{◌∙◌, ap, subst}
 use Rattle.vb_model.specs.declared.places.Place.{Place}
 use Rattle.vb_model.specs.declared.places.Place.TheVariants.{Free, Used, Giving, Lent}
