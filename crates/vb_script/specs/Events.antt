@@ -21,6 +21,7 @@ use Rattle.vb_model.specs.declared.calls.Event.TheVariants.{Plug as Plugs, Unplu
 use Rattle.vb_model.specs.declared.calls.Event.TheVariants.{Restart as Restarts, Guest as OnGuest}
 use Rattle.vb_model.specs.declared.calls.Event.TheVariants.{Query as Asking, Balance as Balances}
 use Rattle.vb_model.specs.declared.calls.Event.TheVariants.{Frames as CountFrames}
+use Rattle.vb_model.specs.Guest.{offered_features}
 use Rattle.vb_script.specs.declared.names.Form.{Form}
 use Rattle.vb_script.specs.declared.names.Form.TheVariants.{Frames, Init, Pages, One, Two, Three}
 use Rattle.vb_script.specs.declared.names.Form.TheVariants.{Four, Bytes}
@@ -45,7 +46,7 @@ use Rattle.vb_script.specs.Words.{three_numbers, four_numbers, three_numbers_and
 
 -- the features where no word names any: bits 0, 1, 2, 5 and 32
 abbrev pub default_features : ℕ
-default_features = 4294967335
+default_features = offered_features
 
 -- NAME NUMBER
 abbrev pub one_number : OneNumber → ℕ → Event

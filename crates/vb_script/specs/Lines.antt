@@ -3,6 +3,7 @@ use Rattle.std.specs.Prelude.{ℕ, ◌&&◌, nat_le, Bool, true, false, if◌the
 use Rattle.std.specs.Prelude.{Option, Some, None, Result, Ok, Err, codes}
 use Rattle.std.specs.Option.{option_and_then}
 use Rattle.std.specs.Str.{bytes_eq}
+use Rattle.vb_model.specs.declared.limits.TheConstants.{MAX_FRAMES}
 use Rattle.vb_script.specs.declared.lines.LineFault.{LineFault}
 use Rattle.vb_script.specs.declared.lines.LineFault.TheVariants.{Bad}
 use Rattle.vb_script.specs.declared.lines.Pace.{Pace}
@@ -16,7 +17,7 @@ is_paced Immediate = false
 is_paced Paced = true
 
 abbrev pub in_range : ℕ → Option ℕ
-in_range frames = if nat_le 1 frames && nat_le frames 65_536 then Some frames else None
+in_range frames = if nat_le 1 frames && nat_le frames MAX_FRAMES then Some frames else None
 
 -- host FRAMES
 abbrev pub host_of : List (List ℕ) → Option ℕ

@@ -2,6 +2,7 @@
 
 ghost use Rattle.std.specs.Option.{option_and_then};
 ghost use Rattle.std.specs.Prelude.{◌≡◌, ◌≤◌, IfSome};
+ghost use Rattle.vb_model.specs.declared.limits.TheConstants.{MAX_FRAMES};
 ghost use Rattle.vb_script.specs.Lines.{host_of, is_paced};
 ghost use Rattle.vb_script.specs.Names.{pace_of};
 ghost use Rattle.vb_script.specs.Words.{only_word, words_left, words_of};
@@ -52,7 +53,7 @@ impl Pace {
 /// `host FRAMES`: how many frames the host has.
 pub fn host(line: &[u8]) -> Option<u32>
     ensures some { IfSome result (λ frames. 1 ≤ frames) }
-    ensures bound { IfSome result (λ frames. frames ≤ 65_536) }
+    ensures bound { IfSome result (λ frames. frames ≤ MAX_FRAMES) }
     ensures value { result ≡ host_of (words_of line.now) }
 {
     let mut words = Words::of(line);

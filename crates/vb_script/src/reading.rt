@@ -3,6 +3,7 @@
 ghost use Rattle.std.specs.Prelude.{◌≡◌, ◌≤◌, ◌/◌, ◌+◌, ◌∷◌, true, vec_capacity};
 ghost use Rattle.std.specs.Prelude.{IfErr, IfOk, IsSome, OnErr, OnOk};
 ghost use Rattle.std.specs.Option.{option_map};
+ghost use Rattle.vb_model.specs.declared.limits.TheConstants.{MAX_FRAMES};
 ghost use Rattle.vb_script.specs.Plans.{planned_by, threads_script_of};
 ghost use Rattle.vb_script.specs.Scripts.{IfBadLine, fault_at, lines_left, said_by, told_by};
 ghost use Rattle.vb_script.specs.Texts.{Language, begins_with_host, host_told, script_of, told_in};
@@ -147,7 +148,7 @@ fn read_rest<T: Item>(
     mut lines: Lines<'_>,
 ) -> Result<Reading<T>, ScriptFault>
     requires some { 1 ≤ frames }
-    requires bound { frames ≤ 65_536 }
+    requires bound { frames ≤ MAX_FRAMES }
     ensures ok { IfOk result (λ read.
         with_lines T.language (lines_left lines.entry) (host_told frames) ≡ Ok (told_by read)) }
     ensures bad { IfErr result (λ fault. IfBadLine fault (λ number.
@@ -166,7 +167,7 @@ impl<T: Item> Reading<T> {
     /// What the first line says, with room for as many lines as may stand in so many bytes.
     fn of_host(alloc: Global, frames: u32, bytes: usize) -> Result<Reading<T>, AllocError>
         requires some { 1 ≤ frames }
-        requires bound { frames ≤ 65_536 }
+        requires bound { frames ≤ MAX_FRAMES }
         ensures told { IfOk result (λ reading. told_by reading ≡ host_told frames) }
         ensures room { IfOk result (λ reading. vec_capacity reading.items ≡ bytes / 6 + 1) }
     {

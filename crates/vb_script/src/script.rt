@@ -1,6 +1,7 @@
 //! Scripts: a host, its spare devices, and what happens.
 
 ghost use Rattle.std.specs.Prelude.{◌≡◌, ◌≤◌, vec_capacity, vec_len};
+ghost use Rattle.vb_model.specs.declared.limits.TheConstants.{MAX_FRAMES};
 
 use crate::lines::Pace;
 use vb_model::{Call, Event};
@@ -9,14 +10,14 @@ use vb_model::{Call, Event};
 /// others what happens. Whoever has one can run it: its numbers are within their bounds.
 #[derive(Drop)]
 pub struct Script {
-    /// Frames of the host, from 1 to 65,536.
+    /// Frames of the host, from 1 to `MAX_FRAMES` of `vb_model`.
     pub frames: u32,
     /// The spare devices, at most 64, in the order in which plugs take them.
     pub spares: Vec<Pace>,
     /// What happens, in order.
     pub events: Vec<Event>,
     pub ghost some_frames: { 1 ≤ frames },
-    pub ghost frames_in_bound: { frames ≤ 65_536 },
+    pub ghost frames_in_bound: { frames ≤ MAX_FRAMES },
     pub ghost spares_in_bound: { vec_len spares ≤ 64 },
     pub ghost room_for_spares: { 64 ≤ vec_capacity spares },
 }
@@ -24,14 +25,14 @@ pub struct Script {
 /// What a text says, as far as it was read.
 #[derive(Drop)]
 pub struct Reading<T> {
-    /// Frames of the host, from 1 to 65,536.
+    /// Frames of the host, from 1 to `MAX_FRAMES` of `vb_model`.
     pub frames: u32,
     /// The spare devices, at most 64, in order.
     pub spares: Vec<Pace>,
     /// What the lines behind them say, in order.
     pub items: Vec<T>,
     pub ghost some_frames: { 1 ≤ frames },
-    pub ghost frames_in_bound: { frames ≤ 65_536 },
+    pub ghost frames_in_bound: { frames ≤ MAX_FRAMES },
     pub ghost spares_in_bound: { vec_len spares ≤ 64 },
     pub ghost room_for_spares: { 64 ≤ vec_capacity spares },
 }
@@ -41,7 +42,7 @@ pub struct Reading<T> {
 /// is for the runner to say.
 #[derive(Drop)]
 pub struct ThreadsScript {
-    /// Frames of the host, from 1 to 65,536.
+    /// Frames of the host, from 1 to `MAX_FRAMES` of `vb_model`.
     pub frames: u32,
     /// The guests in the order of their plugs, from 1 to 64 of them. A guest's number is its place
     /// here.
@@ -51,7 +52,7 @@ pub struct ThreadsScript {
     /// How often targets are set: 0 where the script has no line for that. Any number.
     pub rounds: u32,
     pub ghost some_frames: { 1 ≤ frames },
-    pub ghost frames_in_bound: { frames ≤ 65_536 },
+    pub ghost frames_in_bound: { frames ≤ MAX_FRAMES },
     pub ghost some_guests: { 1 ≤ vec_len guests },
     pub ghost guests_in_bound: { vec_len guests ≤ 64 },
 }

@@ -1,6 +1,7 @@
 //! The host that a script's events happen on.
 
 ghost use Rattle.std.specs.Prelude.{◌≡◌, ◌≤◌, OnOk, All, List, length, map};
+ghost use Rattle.vb_model.specs.declared.limits.TheConstants.{MAX_FRAMES};
 ghost use Rattle.vb_model.specs.declared.replies.Reply.{Reply as AnyReply};
 ghost use Rattle.vb_model.specs.Safe.{IsSafeRun};
 ghost use Rattle.vb_model.specs.World.{World as Model, made};
@@ -33,9 +34,9 @@ impl Play for Host {
     }
 }
 
-/// Makes a host of so many frames, 1 to 65,536, with spare devices of these paces, and lets events
-/// happen: what they are answered is a run of the definitions, each state of which is safe. It is
-/// recorded in order.
+/// Makes a host of this many frames, 1 to `MAX_FRAMES`, with spare devices of these paces, and lets
+/// events happen: what they are answered is a run of the definitions, each state of which is safe.
+/// It is recorded in order.
 pub fn play_events<R: Recorder>(
     alloc: Global,
     frames: u32,
@@ -44,7 +45,7 @@ pub fn play_events<R: Recorder>(
     recorder: &mut R,
 ) -> Result<(), AllocError>
     requires some { 1 ≤ frames }
-    requires few { frames ≤ 65_536 }
+    requires few { frames ≤ MAX_FRAMES }
     ensures { OnOk result ((replies : List AnyReply)
         × ((last : Model)
         × IsSafeRun (made frames (map is_paced paces.now)) events.now replies last)

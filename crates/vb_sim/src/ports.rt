@@ -1,6 +1,7 @@
 //! A run of guests on threads, each on a device of its own that leases its frames from one table.
 
 ghost use Rattle.std.specs.Prelude.{◌≡◌, ◌↔◌, ◌≤◌, ◌<◌, true, length, map, All, MatchResult};
+ghost use Rattle.vb_model.specs.declared.limits.TheConstants.{MAX_FRAMES};
 ghost use Rattle.vb_run.specs.Plans.{is_plan};
 ghost use Rattle.vb_run.specs.Reports.{IsReport};
 ghost use Rattle.vb_script.specs.Lines.{is_paced};
@@ -25,7 +26,7 @@ pub fn run_plan<T: Threads + Wait + Sync>(
     paces: &[Pace],
 ) -> Result<Report, ProgramFault>
     requires some_frames { 1 ≤ plan.now.frames }
-    requires few_frames { plan.now.frames ≤ 65_536 }
+    requires few_frames { plan.now.frames ≤ MAX_FRAMES }
     requires some_guests { 1 ≤ length paces.now }
     requires few_guests { length paces.now ≤ 8 }
     requires paces { length paces.now ≡ length plan.now.guests.items }

@@ -1,33 +1,22 @@
 //! What the contracts leave open: what a whole run writes, the exit statuses, and the command line.
 
-mod balance_examples;
-mod balances;
 mod command_lines;
-mod endings;
-mod examples;
 mod faults;
-mod large_queues;
+mod largest_guest;
 mod leased;
 mod listed;
 mod lives;
+mod long_reports;
 mod longest;
 mod other_devices;
-mod paces;
-mod reports;
-mod resets;
-mod restarts;
-mod rogues;
-mod rows;
+mod rounds;
 mod runs;
+mod scripts;
 mod sizes;
-mod statistics;
 mod threads;
-mod untold;
 
-use crate::fault::SUCCESS;
 use crate::run::run_script;
 use std::alloc::{AllocError, Global};
-use std::process::Abort;
 
 /// What a run wrote to the output and to the errors, and its exit status.
 #[derive(Drop)]
@@ -71,28 +60,4 @@ fn repeated(
     }
     text.extend_from_slice(end.as_bytes())?;
     Ok(text)
-}
-
-/// A script that runs to its end.
-struct Example {
-    /// What it shows.
-    name: &'static str,
-    script: &'static str,
-    /// What it has to write.
-    replies: &'static str,
-}
-
-/// Checks that each script runs and writes its replies.
-fn check_all(rt: &impl Abort, alloc: Global, examples: &[Example]) {
-    for Example {
-        name,
-        script,
-        replies,
-    } in examples {
-        let outcome = run(alloc, script.as_bytes());
-        assert!(rt;
-            outcome.shows(replies.as_bytes(), b"", SUCCESS),
-            "at {name}"
-        );
-    }
 }

@@ -11,7 +11,7 @@ use std::thread::Threads;
 use vb_run::Bells;
 
 /// The words of a command line, the program's name first.
-fn command_line(alloc: Global, words: &[&str]) -> Result<Vec<String>, ArgumentsFault> {
+pub(super) fn command_line(alloc: Global, words: &[&str]) -> Result<Vec<String>, ArgumentsFault> {
     let mut all = Vec::new(alloc);
     let program = String::from_str(alloc, "vb_sim")?;
     all.push(program).map_err(AllocError::from)?;
@@ -191,7 +191,7 @@ static COMMANDS: [(&[&str], &str, &str, &str, u8); 11] = [
 ];
 
 /// What a command writes, and its exit status.
-fn command<R: Threads + Wait + Sync>(
+pub(super) fn command<R: Threads + Wait + Sync>(
     rt: &R,
     alloc: Global,
     words: Result<Vec<String>, ArgumentsFault>,

@@ -1,8 +1,5 @@
 //! A guest whose device leases its frames from a table that guests may share: all calls on it are
-//! answered as on a host that has its frames by itself.
-
-mod calls;
-mod rings;
+//! answered as on a host that has its frames by itself, which `scripts.rt` runs.
 
 ghost use Rattle.std.specs.Prelude.{◌≡◌, ◌<◌, ◌≤◌, ⊤, [], true, IfOk, IfSome, MatchOption, length};
 ghost use Rattle.std.specs.Prelude.{vec_len};
@@ -11,7 +8,8 @@ ghost use Rattle.vb_model.specs.Guest.{Guest};
 ghost use Rattle.vb_model.specs.Limits.{is_config};
 ghost use Rattle.vb_slot.specs.Spare.{IsNew};
 
-use super::{Outcome, repeated, run};
+use super::Outcome;
+use super::scripts::{Listed, one_guest_immediate, one_guest_paced};
 use crate::fault::SUCCESS;
 use crate::play::Play;
 use crate::replies::ReplyLines;
@@ -24,18 +22,6 @@ use vb_ram::Config;
 use vb_script::{Pace, Script};
 use vb_shared::{FramePass, Leased, SharedFrames};
 use vb_slot::{GuestSlot, LoneSlot};
-
-/// A script behind the lines of its host, and its replies with a device of either pace.
-struct Rows {
-    /// What it shows.
-    name: &'static str,
-    /// The host's frames.
-    host: &'static str,
-    script: &'static str,
-    immediate: &'static str,
-    /// None where they are the same.
-    paced: Option<&'static str>,
-}
 
 /// A table of frames, and at most one guest, which has a pass over it.
 #[derive(Drop)]
@@ -222,40 +208,23 @@ fn run_leasing(alloc: Global, script: &[u8]) -> Outcome {
     }
 }
 
-/// Checks that a script writes its replies, whether its host has the frames by itself or the
-/// guest's device leases them.
-fn check_both(
-    rt: &impl Abort,
-    alloc: Global,
-    row: &Rows,
-    spare: &str,
-    replies: &str,
-) -> Result<(), AllocError> {
-    let script = repeated(alloc, row.host, spare, 1, row.script)?;
-    let (kept, leased) = (run(alloc, &script), run_leasing(alloc, &script));
-    let (name, replies) = (row.name, replies.as_bytes());
-    assert!(rt;
-        kept.shows(replies, b"", SUCCESS),
-        "from a keeper, at {name}"
-    );
-    assert!(rt; leased.shows(replies, b"", SUCCESS), "leased, at {name}");
-    Ok(())
-}
-
-/// Checks rows with devices of both paces.
-fn check_rows(rt: &impl Abort, alloc: Global, rows: &[Rows]) -> Result<(), AllocError> {
-    for row in rows {
-        let paced = row.paced.unwrap_or(row.immediate);
-        check_both(rt, alloc, row, "spare immediate\n", row.immediate)?;
-        check_both(rt, alloc, row, "spare paced\n", paced)?;
+/// Checks that each script of a table runs on such a host and writes its replies.
+fn check_leasing(rt: &impl Abort, alloc: Global, scripts: &[Listed]) {
+    for Listed {
+        name,
+        text,
+        output,
+        ..
+    } in scripts {
+        let outcome = run_leasing(alloc, text.as_bytes());
+        assert!(rt; outcome.shows(output.as_bytes(), b"", SUCCESS), "at {name}");
     }
-    Ok(())
 }
 
-/// Each of a guest's calls, each of its refusals but want of memory, and the questions, on a guest
-/// with frames enough or too few.
+/// Each of a guest's calls, each of its refusals except want of memory, and the questions, on a
+/// guest with frames enough or too few.
 #[test]
-fn leased_frames_answer_as_those_of_a_keeper(rt: HostRuntime) -> Result<(), AllocError> {
-    check_rows(&rt, rt.alloc(), &calls::ROWS)?;
-    check_rows(&rt, rt.alloc(), &rings::ROWS)
+fn leased_frames_answer_as_those_of_a_keeper(rt: HostRuntime) {
+    check_leasing(&rt, rt.alloc(), &one_guest_immediate::SCRIPTS);
+    check_leasing(&rt, rt.alloc(), &one_guest_paced::SCRIPTS);
 }

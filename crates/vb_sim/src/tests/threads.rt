@@ -1,6 +1,6 @@
 //! Guests on threads: what a whole run writes, and the exit statuses.
 
-use super::{Example, Outcome, repeated};
+use super::{Outcome, repeated};
 use crate::fault::{ProgramFault, report};
 use crate::plans::plan_of;
 use crate::threads::threads_script;
@@ -26,192 +26,6 @@ fn run<R: Threads + Wait + Sync>(rt: &R, alloc: Global, bells: Bells, script: &[
     }
 }
 
-/// Few calls, which show what a run can't do without the guest's device and the balancer.
-static RUNS: [Example; 9] = [
-    Example {
-        name: "a host with too few frames for a guest's rings",
-        script: "\
-host 12
-spare immediate
-plug 64 8 1
-alloc 0 0 0
-inflate 0 1
-",
-        replies: "\
-guest 0 calls 2 frames 0
-disjoint
-",
-    },
-    Example {
-        name: "a guest that does nothing, and a device that is left over",
-        script: "\
-host 64
-spare paced
-spare immediate
-plug 64 8 1
-cpu 7
-",
-        replies: "\
-guest 0 calls 0 frames 13
-disjoint
-",
-    },
-    Example {
-        name: "a target that the balancer sets",
-        script: "\
-host 60
-spare paced
-plug 64 8 1
-rounds 16 1
-inflate 0 4
-reap 0 0
-",
-        replies: "\
-guest 0 calls 2 frames 13
-disjoint
-",
-    },
-    Example {
-        name: "a balance that falls short",
-        script: "\
-host 13
-spare paced
-plug 64 8 1
-rounds 64 1
-",
-        replies: "\
-guest 0 calls 0 frames 13
-disjoint
-",
-    },
-    Example {
-        name: "a script with comments, empty lines and no last line feed",
-        script: "\
-# frames
-host 0064
-
-spare paced
-# a guest
-plug 64 8 1
-write 0 16 0 aa
-# the end
-alloc 0 0 0",
-        replies: "\
-guest 0 calls 2 frames 13
-disjoint
-",
-    },
-    Example {
-        name: "pages that stay allocated, of both paces",
-        script: "\
-host 64
-spare paced
-spare immediate
-plug 64 8 1
-plug 128 128 4
-alloc 1 0 0
-write 1 16 0 aa
-alloc 0 0 1
-write 0 16 0 aa
-write 0 17 0 bb
-read 0 18 0 4
-",
-        replies: "\
-guest 0 calls 4 frames 15
-guest 1 calls 2 frames 14
-disjoint
-",
-    },
-    Example {
-        name: "calls of all four processors",
-        script: "\
-host 64
-spare immediate
-plug 128 8 4
-alloc 0 0 0
-free 0 0 16 0
-cpu 1
-stats 0
-cpu 2
-report 0 0
-cpu 3
-alloc 0 3 10
-oom 0 4
-deflate 0 1
-cpu 0
-reap 0 1
-reap 0 4
-",
-        replies: "\
-guest 0 calls 9 frames 13
-disjoint
-",
-    },
-    Example {
-        name: "a page that reports give back",
-        script: "\
-host 64
-spare immediate
-plug 64 8 1
-alloc 0 0 0
-write 0 16 0 aa
-free 0 0 16 0
-report 0 0
-",
-        replies: "\
-guest 0 calls 4 frames 13
-disjoint
-",
-    },
-    Example {
-        name: "eight guests, and frames for just their rings",
-        script: "\
-host 104
-spare paced
-spare immediate
-spare paced
-spare immediate
-spare paced
-spare immediate
-spare paced
-spare immediate
-plug 64 8 1
-plug 64 8 1
-plug 64 8 1
-plug 64 8 1
-plug 64 8 1
-plug 64 8 1
-plug 64 8 1
-plug 64 8 1
-",
-        replies: "\
-guest 0 calls 0 frames 13
-guest 1 calls 0 frames 13
-guest 2 calls 0 frames 13
-guest 3 calls 0 frames 13
-guest 4 calls 0 frames 13
-guest 5 calls 0 frames 13
-guest 6 calls 0 frames 13
-guest 7 calls 0 frames 13
-disjoint
-",
-    },
-];
-
-#[test]
-fn guests_run_however_bells_ring(rt: HostRuntime) {
-    for Example {
-        name,
-        script,
-        replies,
-    } in &RUNS {
-        for bells in &BELLS {
-            let outcome = run(&rt, rt.alloc(), *bells, script.as_bytes());
-            assert!(rt; outcome.shows(replies.as_bytes(), b"", 0), "at {name}");
-        }
-    }
-}
-
 /// How bells ring in the plan of a guest, where it is asked for like this.
 fn planned_bells(alloc: Global, bells: Bells) -> Option<Bells> {
     let script = parse_threads(alloc, b"host 64\nspare paced\nplug 64 8 1\n").ok()??;
@@ -233,104 +47,9 @@ fn a_frame_in_common_is_status_5(rt: HostRuntime) {
     assert!(rt; errors.as_slice() == b"run: audit\n".as_slice());
 }
 
-/// The text of `examples/threads.script`: what comes before the calls, what the first guest does
-/// 25 times, and what the second one does 25 times behind a line between them.
-static EXAMPLE: [&str; 4] = [
-    "\
-# Two guests on threads of their own. The first spare device is guest 0's, the second guest 1's.
-host 64
-spare paced
-spare paced
-
-# The guests, with 64 pages and one processor each. Their drivers start the devices by themselves.
-plug 64 8 1
-plug 64 8 1
-
-# What processor 0 of guest 0 does, 25 times over: it gets a page, writes to it, reads it, frees it.
-",
-    "\
-alloc 0 0 0
-write 0 16 0 aa
-read 0 16 0 1
-free 0 0 16 0
-",
-    "
-# And processor 0 of guest 1, at the same time.
-",
-    "\
-alloc 1 0 0
-write 1 16 0 aa
-read 1 16 0 1
-free 1 0 16 0
-",
-];
-
-/// The text of `examples/threads.expected`.
-static EXPECTED: &str = "\
-guest 0 calls 100 frames 14
-guest 1 calls 100 frames 14
-disjoint
-";
-
-#[test]
-fn two_guests_run_as_the_example_says(rt: HostRuntime) -> Result<(), AllocError> {
-    let [start, first, between, second] = EXAMPLE;
-    let second = repeated(rt.alloc(), between, second, 25, "")?;
-    let mut script = repeated(rt.alloc(), start, first, 25, "")?;
-    script.extend_from_slice(second.as_slice())?;
-    for bells in &BELLS {
-        let outcome = run(&rt, rt.alloc(), *bells, script.as_slice());
-        assert!(rt; outcome.shows(EXPECTED.as_bytes(), b"", 0));
-    }
-    Ok(())
-}
-
-/// Scripts that make no plan, or one that can't be run.
-static BAD_PLANS: [(&str, &str); 14] = [
-    ("no line", ""),
-    ("a comment alone", "# host 64\n\n"),
-    ("no plug", "host 64\nspare paced\n"),
-    ("no plug, but rounds", "host 64\nspare paced\nrounds 1 1\n"),
-    (
-        "a plug without a spare",
-        "host 64\nspare paced\nplug 64 8 1\nplug 64 8 1\n",
-    ),
-    ("65 pages", "host 64\nspare paced\nplug 65 8 1\n"),
-    ("a queue of 3", "host 64\nspare paced\nplug 64 3 1\n"),
-    (
-        "a queue of 2^16 + 8",
-        "host 64\nspare paced\nplug 64 65544 1\n",
-    ),
-    ("no processor", "host 64\nspare paced\nplug 64 8 0\n"),
-    ("five processors", "host 64\nspare paced\nplug 64 8 5\n"),
-    (
-        "a second guest with 65 pages",
-        "host 64\nspare paced\nspare paced\nplug 64 8 1\nplug 65 8 1\n",
-    ),
-    (
-        "a call on a guest that isn't there",
-        "host 64\nspare paced\nplug 64 8 1\nstats 1\n",
-    ),
-    (
-        "a call by a processor that isn't there",
-        "host 64\nspare paced\nplug 64 8 1\ncpu 1\nstats 0\n",
-    ),
-    (
-        "a call that names another processor",
-        "host 64\nspare paced\nplug 64 8 2\nalloc 0 1 0\n",
-    ),
-];
-
-#[test]
-fn bad_plans_are_status_1(rt: HostRuntime) {
-    for (name, script) in &BAD_PLANS {
-        let outcome = run(&rt, rt.alloc(), Bells::Plain, script.as_bytes());
-        assert!(rt; outcome.shows(b"", b"run: bad plan\n", 1), "at {name}");
-    }
-}
-
-/// The beginnings of scripts, a line that stands so many times behind each, and what is said of it.
-static LONG: [(&str, &str, usize); 2] = [
+/// Beginnings of scripts, the line that follows each, and how often it does.
+static LONG: [(&str, &str, usize); 3] = [
+    ("", "plug 64 8 1\n", 0),
     (
         "host 200\nspare paced\nspare paced\nspare paced\nspare paced\nspare paced\nspare paced\n\
 spare paced\nspare paced\nspare paced\n",
@@ -341,35 +60,13 @@ spare paced\nspare paced\nspare paced\n",
 ];
 
 #[test]
-fn nine_guests_and_too_long_scripts_are_bad_plans(rt: HostRuntime) -> Result<(), AllocError> {
+fn no_line_and_too_many_are_bad_plans(rt: HostRuntime) -> Result<(), AllocError> {
     for (start, line, count) in &LONG {
         let script = repeated(rt.alloc(), start, line, *count, "")?;
         let outcome = run(&rt, rt.alloc(), Bells::Plain, script.as_slice());
         assert!(rt; outcome.shows(b"", b"run: bad plan\n", 1));
     }
     Ok(())
-}
-
-/// Scripts with a bad line, and what is said of it.
-static BAD_LINES: [(&str, &str); 4] = [
-    (
-        "host 64\nspare paced\nplug 64 8 1\nrestart 0\n",
-        "script: line 4: bad line\n",
-    ),
-    ("host 64\nframes\nplug\n", "script: line 2: bad line\n"),
-    ("plug 64 8 1\n", "script: line 1: bad line\n"),
-    (
-        "host 64\nspare paced\nplug 64 8 1\ncpu 0\nrounds 1 1\n",
-        "script: line 5: bad line\n",
-    ),
-];
-
-#[test]
-fn the_first_bad_line_is_named(rt: HostRuntime) {
-    for (script, errors) in &BAD_LINES {
-        let outcome = run(&rt, rt.alloc(), Bells::Late, script.as_bytes());
-        assert!(rt; outcome.shows(b"", errors.as_bytes(), 1));
-    }
 }
 
 /// How long a comment is, what is said of a script that has it alone, and the exit statuses.
@@ -500,7 +197,7 @@ fn run_held<R: Threads + Wait + Sync>(rt: &R, alloc: Global, sticks: bool) -> (V
         sticks,
     };
     let mut errors = Vec::new(alloc);
-    let script = RUNS[0].script.as_bytes();
+    let script = b"host 12\nspare paced\nplug 64 8 1\nalloc 0 0 0\ninflate 0 1\n".as_slice();
     let status = threads_script(rt, alloc, Bells::Plain, script, &mut out, &mut errors);
     (out.shown, status)
 }
