@@ -1,5 +1,6 @@
-//! `vb_core` for C: `vb.h` says what each call is for. Each export takes any argument, and answers
-//! by a code; the device is one plain struct in the caller's memory, and nothing is allocated.
+//! `vb_core` and `vb_monitor` for C: `vb.h` says what each call is for. Each export takes any
+//! argument, and answers by a code; the device is one plain struct in the caller's memory, and
+//! nothing is allocated.
 #![tactic(auto)]
 
 mod answers;

@@ -6,6 +6,8 @@ pub mod GoesLemmas
 pub mod GivenLemmas
 pub mod RowLemmas
 pub mod TouchLemmas
+pub mod CountLemmas
 mod RegionFacts
 mod NoticeFacts
 pub mod PlaceLemmas
+mod PlaceFacts

@@ -10,3 +10,4 @@ pub mod Touched
 pub mod Balloons
 pub mod Order
 pub mod Places
+pub mod Counts

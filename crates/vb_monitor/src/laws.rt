@@ -1,6 +1,6 @@
 //! What the accesses of a notice come to, whatever memory answers.
 
-ghost use Rattle.std.specs.Prelude.{List, None};
+ghost use Rattle.std.specs.Prelude.{◌+◌, ◌*◌, ◌≤◌, List, None, length};
 ghost use Rattle.vb_core.specs.declared.kinds.Kind.{Kind};
 ghost use Rattle.vb_core.specs.declared.device.Device.{Device};
 ghost use Rattle.vb_monitor.specs.declared.regions.Region.{Region};
@@ -8,7 +8,10 @@ ghost use Rattle.vb_monitor.specs.declared.outcome.Budget.{Budget};
 ghost use Rattle.vb_monitor.specs.declared.outcome.Outcome.{Outcome};
 ghost use Rattle.vb_monitor.specs.Accesses.{Access};
 ghost use Rattle.vb_monitor.specs.Notices.{Serves};
+ghost use Rattle.vb_core.specs.declared.runs.Run.{Run};
+ghost use Rattle.vb_monitor.specs.Regions.{cuts_of};
 ghost use Rattle.vb_monitor.specs.Touched.{Touches};
+ghost use Rattle.vb_monitor.specs.Counts.{others};
 ghost use Rattle.vb_monitor.specs.Order.{Row, MayFollow};
 
 /// A notice touches no byte outside its regions: each word and each copy that it reads, each number
@@ -30,4 +33,21 @@ pub fn accesses_come_in_their_order()
     ensures { (regions : List Region) (kind : Kind) (budget : Budget) (d1 d2 : Device)
         (outcome : Outcome) (log : List Access) →
         Serves regions kind budget d1 d2 outcome log → Row MayFollow None log }
+{}
+
+/// Runs of pages have no more parts to be discarded than one for each run and region.
+#[tactic(auto, using(crate::proofs::CountLemmas::few_cuts))]
+pub fn a_run_has_few_parts()
+    ensures { (regions : List Region) (runs : List Run) →
+        length (cuts_of regions runs) ≤ length runs * length regions }
+{}
+
+/// A notice makes few accesses beside its discards: 3, and at most 776 for each chain that it may
+/// serve, which are 2 for its entry, 256 descriptors, two parts for each piece, what is told, 4 for
+/// the used element, and the next index.
+#[tactic(auto, using(crate::proofs::CountLemmas::few_others))]
+pub fn a_notice_makes_few_accesses()
+    ensures { (regions : List Region) (kind : Kind) (budget : Budget) (d1 d2 : Device)
+        (outcome : Outcome) (log : List Access) →
+        Serves regions kind budget d1 d2 outcome log → others log ≤ 3 + 776 * budget.chains }
 {}

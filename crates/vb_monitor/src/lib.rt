@@ -26,7 +26,10 @@ mod walk;
 pub use balloon::{Balloon, may_tell};
 pub use cuts::Cut;
 pub use giving::UsedSpots;
-pub use laws::{accesses_come_in_their_order, nothing_outside_the_regions_is_touched};
+pub use laws::{
+    a_notice_makes_few_accesses, a_run_has_few_parts, accesses_come_in_their_order,
+    nothing_outside_the_regions_is_touched,
+};
 pub use memory::LiveMemory;
 pub use notice::Notice;
 pub use outcome::{Budget, Outcome, Tally};

@@ -1,0 +1,22 @@
+-- How many accesses a notice makes.
+use Rattle.std.specs.Prelude.{ℕ, zero, suc, ◌+◌, List, [], ◌∷◌}
+use Rattle.vb_monitor.specs.Accesses.{Access, ReadWord, CopyBytes, Acquire, Release, Full}
+use Rattle.vb_monitor.specs.Accesses.{TellPages, TellFigures, Discard, WriteNumber, WriteWord}
+
+-- 1 for each access but a discard.
+abbrev pub no_discard : Access → ℕ
+no_discard (ReadWord at answer) = 1
+no_discard (CopyBytes at answer) = 1
+no_discard Acquire = 1
+no_discard Release = 1
+no_discard Full = 1
+no_discard (TellPages kind runs) = 1
+no_discard (TellFigures figures) = 1
+no_discard (Discard cut) = 0
+no_discard (WriteNumber at number) = 1
+no_discard (WriteWord at word) = 1
+
+-- How many accesses of a list are no discards.
+abbrev pub others : List Access → ℕ
+others [] = 0
+others (x ∷ xs) = no_discard x + others xs
