@@ -18,6 +18,11 @@ VbUsed reference_use(VbDevice *, uint32_t, uint32_t);
 VbMarked reference_mark(uint32_t, const VbRun *, size_t, uint64_t *, size_t);
 uint32_t reference_is_ballooned(const uint64_t *, size_t, uint32_t);
 uint64_t reference_count_ballooned(const uint64_t *, size_t);
+uint32_t reference_begin(VbNotice *, VbBalloon *, const VbRegion *, size_t, VbRoom *, uint32_t, uint32_t, uint32_t);
+uint32_t reference_new_over(VbBalloon *, VbSettings, const VbRegion *, size_t);
+uint32_t reference_set_regions(VbBalloon *, const VbRegion *, size_t);
+uint32_t reference_place_over(VbBalloon *, const VbRegion *, size_t, uint32_t, uint64_t, uint64_t, uint64_t, uint16_t);
+uint32_t reference_set_status(VbBalloon *, uint8_t, uint32_t *);
 
 enum { CALLS = 1000000, ARENA = 16 * 4096 };
 
@@ -278,10 +283,84 @@ static void call_mark(void)
     answers[marked.code]++;
 }
 
+/* Up to four regions: whole pages in a row with holes between them mostly, else any. */
+static VbRegion *any_regions(size_t *count)
+{
+    *count = any() % 5;
+    VbRegion *regions = list_of(0, *count * sizeof *regions);
+    for (size_t i = 0; i < *count; i++) {
+        regions[i] = (VbRegion){ i * (6 << 20), (1 + any() % 6) << 20, once_in(2) ? 0 : any() % 64 * 4096 };
+        if (once_in(16))
+            regions[i] = (VbRegion){ any_number(), any_number(), any_number() };
+    }
+    return regions;
+}
+
+static VbBalloon any_balloon(void)
+{
+    VbBalloon balloon = { .device = any_device(), .held = once_in(2) ? 0 : (uint32_t)any_number() };
+    return balloon;
+}
+
+static bool same_balloon(const VbBalloon *one, const VbBalloon *other)
+{
+    return same(&one->device, &other->device) && one->held == other->held;
+}
+
+static void call_over(void)
+{
+    VbBalloon before = any_balloon(), balloon = before, twin = before;
+    size_t count;
+    VbRegion *regions = any_regions(&count);
+    VbSettings settings = before.device.settings;
+    uint32_t kind = (uint32_t)any_number(), then = 7, why = 7;
+    uint16_t size = (uint16_t)(once_in(2) ? any_number() : 2u << any() % 8);
+    uint64_t table = any() % (24 << 20) & ~UINT64_C(15), avail = any() % (24 << 20) & ~UINT64_C(1), used = any() % (24 << 20) & ~UINT64_C(3);
+    settings.memory_end = once_in(2) ? 0 : any_number();
+    uint32_t code = vb_new_over(&balloon, settings, regions, count);
+    EXPECT(code == reference_new_over(&twin, settings, regions, count) && (code == VB_OK ? same_balloon(&balloon, &twin) : same_balloon(&balloon, &before)));
+    balloon = twin = before;
+    code = vb_set_regions(&balloon, regions, count);
+    EXPECT(code == reference_set_regions(&twin, regions, count) && same_balloon(&balloon, &twin));
+    EXPECT(code == VB_OK || same_balloon(&balloon, &before));
+    balloon.device.status = twin.device.status = before.device.status = once_in(8) ? (uint8_t)any() : 11;
+    before = balloon;
+    code = vb_place_over(&balloon, regions, count, kind % 5, table, avail, used, size);
+    EXPECT(code == reference_place_over(&twin, regions, count, kind % 5, table, avail, used, size) && same_balloon(&balloon, &twin));
+    EXPECT(code == VB_OK || same_balloon(&balloon, &before));
+    answers[code]++;
+    uint8_t status = (uint8_t)any_number();
+    EXPECT(vb_set_status(&balloon, status, &then) == reference_set_status(&twin, status, &why) && then == why);
+    EXPECT(same_balloon(&balloon, &twin));
+}
+
+/* A notice begins as the plain one does, and one that no call made is answered, and writes nowhere else. */
+static void call_notice(void)
+{
+    static VbRoom other;
+    VbBalloon balloon = any_balloon(), twin = balloon;
+    size_t count;
+    VbRegion *regions = any_regions(&count);
+    VbNotice *notice = list_of(1, sizeof *notice), why;
+    VbRoom *room = list_of(2, sizeof *room);
+    uint32_t kind = once_in(8) ? (uint32_t)any_number() : any() % 4, chains = any() % 3, pages = (uint32_t)any_number();
+    uint32_t what = vb_begin(notice, &balloon, regions, count, room, kind, chains, pages);
+    uint32_t first = reference_begin(&why, &twin, regions, count, &other, kind, chains, pages);
+    EXPECT(what == notice->what && (what & -what) == first && same_balloon(&balloon, &twin));
+    EXPECT(what || (notice->code == why.code && notice->more == why.more && notice->configuration == why.configuration));
+    answers[what ? VB_OK : notice->code]++;
+    for (int i = 0; i < 4; i++) {
+        for (size_t at = 0; at < sizeof *notice && !once_in(4); at += 8)
+            memcpy((uint8_t *)notice + at, &(uint64_t){ once_in(2) ? any_number() : any() % 300 }, 8);
+        if (vb_go_on(notice, &balloon, regions, count, room, (uint16_t)any()) == 0)
+            EXPECT(notice->what == 0);
+    }
+}
+
 int main(int count, char **words)
 {
     void (*const calls[])(void) = { call_next, call_name, call_report, call_statistics, call_use, call_driver,
-                                    call_mark };
+                                    call_mark, call_over, call_notice };
     unsigned long long most = count > 1 ? strtoull(words[1], NULL, 10) : CALLS;
     alarm(600);
     for (int i = 0; i < 3; i++) {
@@ -290,7 +369,7 @@ int main(int count, char **words)
         arena_ends[i] = all + ARENA;
     }
     for (unsigned long long i = 0; i < most; i++)
-        calls[i % 7]();
+        calls[i % 9]();
     printf("ok  %llu calls of any arguments; answers by code:", most);
     for (int code = VB_OK; code <= VB_BAD_ARGUMENT; code++) {
         printf(" %llu", (unsigned long long)answers[code]);

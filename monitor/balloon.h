@@ -150,11 +150,10 @@ static inline void balloon_give_back(const struct balloon *balloon)
     *(volatile balloon_word16 *)balloon_at(balloon, notice->index_at) = htole16(notice->used_index);
 }
 
-/* Does each thing that is to be done, in the order of the bits of `what`; answers the word that was read, if one was. */
-static inline uint16_t balloon_perform(struct balloon *balloon, uint32_t what, struct balloon_result *result)
+/* Tells, discards and gives back. */
+static inline void balloon_serve(struct balloon *balloon, uint32_t what, struct balloon_result *result)
 {
     const VbNotice *notice = &balloon->notice;
-    uint16_t answer = 0;
     if (what & VB_TELL_PAGES)
         balloon_tell_pages(balloon, result);
     if (what & VB_TELL_FIGURES && balloon->on_statistics)
@@ -163,6 +162,16 @@ static inline uint16_t balloon_perform(struct balloon *balloon, uint32_t what, s
         balloon_discard(balloon, &balloon->room.cuts[i], result);
     if (what & VB_GIVE_BACK)
         balloon_give_back(balloon);
+    result->chains += (what & (VB_TELL_FIGURES | VB_GIVE_BACK)) != 0;
+}
+
+/* Does each thing that is to be done, in the order of the bits of `what`; answers the word that was read, if one was. */
+static inline uint16_t balloon_perform(struct balloon *balloon, uint32_t what, struct balloon_result *result)
+{
+    const VbNotice *notice = &balloon->notice;
+    uint16_t answer = 0;
+    if (what & (VB_TELL_PAGES | VB_TELL_FIGURES | VB_DISCARD | VB_GIVE_BACK))
+        balloon_serve(balloon, what, result);
     if (what & VB_ACQUIRE)
         __atomic_thread_fence(__ATOMIC_ACQUIRE);
     if (what & VB_FULL_FENCE)
@@ -171,16 +180,16 @@ static inline uint16_t balloon_perform(struct balloon *balloon, uint32_t what, s
         answer = le16toh(*(const volatile balloon_word16 *)balloon_at(balloon, notice->at));
     if (what & VB_COPY)
         balloon_read_once(balloon->room.bytes + notice->into, balloon_at(balloon, notice->at), notice->length);
-    result->chains += (what & (VB_TELL_FIGURES | VB_GIVE_BACK)) != 0;
     return answer;
 }
 
 /* Obeys until the notice has ended. */
 static inline void balloon_obey(struct balloon *balloon, struct balloon_result *result)
 {
-    while (balloon->notice.what) {
-        uint16_t answer = balloon_perform(balloon, balloon->notice.what, result);
-        vb_go_on(&balloon->notice, &balloon->state, balloon->places, balloon->region_count, &balloon->room, answer);
+    uint32_t what = balloon->notice.what;
+    while (what) {
+        uint16_t answer = balloon_perform(balloon, what, result);
+        what = vb_go_on(&balloon->notice, &balloon->state, balloon->places, balloon->region_count, &balloon->room, answer);
     }
 }
 #include "balloon_calls.h"

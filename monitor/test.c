@@ -536,7 +536,9 @@ static void memory_is_mapped_anew(void)
     for (uint64_t i = 0; i <= BALLOON_MOST_REGIONS; i++)
         many[i] = (struct balloon_region){ i * 8192, 4096, guest.regions[0].host, BALLOON_PRIVATE, 0 };
     EXPECT(balloon_set_regions(&guest.balloon, many, BALLOON_MOST_REGIONS + 1) == VB_BAD_ARGUMENT && guest.balloon.regions == other);
-    EXPECT(balloon_init(&guest.balloon, many, BALLOON_MOST_REGIONS + 1, REFUSES) == VB_BAD_ARGUMENT);
+    VbSettings ended = REFUSES;
+    ended.memory_end = MIB;
+    EXPECT(balloon_init(&guest.balloon, many, BALLOON_MOST_REGIONS + 1, ended) == VB_BAD_ARGUMENT);
     EXPECT(balloon_init(&guest.balloon, many, BALLOON_MOST_REGIONS, REFUSES) == VB_OK);
 #endif
     free_memory(&guest);

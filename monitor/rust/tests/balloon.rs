@@ -6,7 +6,8 @@ use std::sync::atomic::{AtomicBool, Ordering};
 use vb_balloon::{
     features, Balloon, Denied, Kind, Monitor, Refusal, Run, Settings, State, StateError, Statistic, STATE_BYTES,
 };
-use vm_memory::{Bytes, FileOffset, GuestAddress, GuestMemoryMmap};
+use std::sync::Arc;
+use vm_memory::{Bytes, FileOffset, GuestAddress, GuestMemoryMmap, GuestRegionMmap, MmapRegion};
 
 const HIGH: u64 = 16 << 20;
 const LINUX: u64 = features::VERSION_1 | 0x27;
@@ -236,6 +237,42 @@ fn memory_may_be_mapped_anew() {
     guest.name(Kind::Inflate, &[2047, 2048]);
     let served = balloon.notify(&guest.memory, Kind::Inflate, &mut ());
     assert_eq!((served.discarded, served.skipped, served.in_holes), (1, 1, 0));
+}
+
+/// Regions are those of the memory at hand, though its end is the same: a page of the hole becomes one of a region.
+#[test]
+fn a_hole_may_be_filled() {
+    let mut guest = Guest::new();
+    let mut balloon = guest.ready(settings());
+    let hole = (9 << 20) / 4096;
+    guest.name(Kind::Inflate, &[hole]);
+    let served = balloon.notify(&guest.memory, Kind::Inflate, &mut ());
+    assert_eq!((served.pages, served.discarded, served.in_holes), (1, 0, 1));
+    let mapped = MmapRegion::new(4 << 20).expect("memory");
+    let region = GuestRegionMmap::new(mapped, GuestAddress(8 << 20)).expect("a region");
+    guest.memory = guest.memory.insert_region(Arc::new(region)).expect("it was a hole");
+    guest.name(Kind::Inflate, &[hole]);
+    let served = balloon.notify(&guest.memory, Kind::Inflate, &mut ());
+    assert_eq!((served.pages, served.discarded, served.in_holes), (1, 1, 0));
+}
+
+/// The set of ballooned pages, where there is one: for all of memory, and empty after a reset.
+#[test]
+fn the_set_is_kept() {
+    let mut guest = Guest::new();
+    let mut balloon = guest.ready(settings());
+    guest.name(Kind::Inflate, &[600, 601, 600]);
+    assert_eq!((balloon.notify(&guest.memory, Kind::Inflate, &mut ()).marked, balloon.count_ballooned()), (0, 0));
+    assert_eq!(balloon.words_of_set(), 96);
+    balloon.ballooned = vec![0; 96];
+    guest.name(Kind::Inflate, &[600, 601, 600]);
+    let served = balloon.notify(&guest.memory, Kind::Inflate, &mut ());
+    assert_eq!((served.marked, served.unmarked, balloon.count_ballooned()), (2, 0, 2));
+    guest.name(Kind::Deflate, &[600]);
+    assert_eq!(balloon.notify(&guest.memory, Kind::Deflate, &mut ()).marked, 1);
+    assert!(!balloon.is_ballooned(600) && balloon.is_ballooned(601) && !balloon.is_ballooned(u32::MAX));
+    balloon.write_status(&guest.memory, 0, &mut ()).expect("a reset");
+    assert_eq!((balloon.count_ballooned(), balloon.ballooned.len(), balloon.may_tell()), (0, 96, false));
 }
 
 /// The pages that are named are pages of the guest.
