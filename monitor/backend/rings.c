@@ -116,7 +116,7 @@ static bool go_on(struct backend *backend, unsigned number, const VbQueue *at)
     if (!balloon_copy(&backend->balloon, at->used + 2, bytes, sizeof bytes))
         return refuse("queue %u isn't in the guest's memory", number);
     uint16_t used = (uint16_t)(bytes[0] | bytes[1] << 8);
-    if (ring->base > UINT16_MAX || (uint16_t)(ring->base - used) > ring->size)
+    if (ring->based && (ring->base > UINT16_MAX || (uint16_t)(ring->base - used) > ring->size))
         return refuse("queue %u goes on at %u, and its used index is %u", number, ring->base, used);
     queue->next_avail = queue->next_used = used;
     return true;
@@ -214,14 +214,20 @@ void ring_end(struct backend *backend, unsigned number)
     ring->started = ring->polled = false;
 }
 
-void rings_forget(struct backend *backend)
+void rings_halt(struct backend *backend)
 {
     for (unsigned number = 0; number < QUEUES; number++) {
         struct ring *ring = &backend->rings[number];
-        struct event call = ring->call, fault = ring->fault;
         ring_end(backend, number);
-        *ring = (struct ring){.kick = NO_EVENT, .call = call, .fault = fault};
+        *ring = (struct ring){.base = ring->base, .kick = NO_EVENT, .call = ring->call, .fault = ring->fault};
     }
+}
+
+void rings_forget(struct backend *backend)
+{
+    rings_halt(backend);
+    for (unsigned number = 0; number < QUEUES; number++)
+        backend->rings[number].base = 0;
 }
 
 void rings_clear(struct backend *backend)
