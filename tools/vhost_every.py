@@ -112,7 +112,8 @@ class Every(unittest.TestCase):
     def serves(self):
         """Demands that the client that is well is served."""
         self.well.post_pages(INFLATE, [REGIONS[1][0] // PAGE])
-        self.assertEqual(self.well.told(), INFLATE)
+        while self.well.told() != INFLATE:
+            pass  # the host reminds it of its target
 
     def come(self):
         """Returns a client that has negotiated all protocol features."""
@@ -212,6 +213,8 @@ class Every(unittest.TestCase):
             subprocess.Popen([program, path, str(messages // SEATS), str(seed * SEATS + it)], stdout=subprocess.PIPE, text=True)
             for it, path in enumerate(self.paths)
         ]
+        for it in running:
+            self.addCleanup(it.kill)
         while any(it.poll() is None for it in running):
             self.serves()
         self.assertEqual([it.returncode for it in running], [0] * SEATS, self.host.why())
