@@ -128,7 +128,7 @@ class Every(unittest.TestCase):
         return {"region": client.files[0], "event": self.event, "socket": self.socket}[name]
 
     def is_served(self, client, request, body, files, before=0):
-        """Sends a message; returns whether the client is served behind it."""
+        """Sends a message; returns whether the client is served after it."""
         try:
             client.send(request, body, files, flags=1)
             if before or request in ANSWERED:
@@ -183,7 +183,7 @@ class Every(unittest.TestCase):
                 self.assertIn("isn't negotiated", self.host.why_of("seat0"))
                 client.leave()
 
-    def test_each_message_before_and_behind_each_other(self):
+    def test_each_message_before_and_after_each_other(self):
         for first in WELL:
             for second in WELL:
                 client = self.come()

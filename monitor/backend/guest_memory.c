@@ -36,7 +36,8 @@ static bool has_room(const struct guest_memory *memory, const struct region_plac
 static bool is_range(const struct region_place *place)
 {
     uint64_t end;
-    return place->size > 0 && (place->guest | place->size) % BALLOON_PAGE == 0 && !__builtin_add_overflow(place->guest, place->size, &end)
+    return place->size > 0 && (place->guest | place->size) % BALLOON_PAGE == 0
+        && !__builtin_add_overflow(place->guest, place->size, &end)
         && !__builtin_add_overflow(place->user, place->size, &end)
         && !__builtin_add_overflow(place->offset, place->size, &end) && end <= INT64_MAX;
 }

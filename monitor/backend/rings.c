@@ -115,7 +115,7 @@ static bool place(struct backend *backend, unsigned number, VbQueue *at)
     return code == VB_OK || refuse("the place of queue %u is answered %u", number, code);
 }
 
-/* A ring goes on behind what was used: what was taken and not used is served again, as requests are served in order. */
+/* A ring goes on after what was used: what was taken and not used is served again, as requests are served in order. */
 static bool go_on(struct backend *backend, unsigned number, const VbQueue *at)
 {
     const struct ring *ring = &backend->rings[number];
