@@ -234,7 +234,9 @@ static void scribble(void)
 static unsigned start(void)
 {
     static const uint32_t once[] = {SET_OWNER, SET_PROTOCOL_FEATURES, SET_BACKEND_REQ_FD, SET_FEATURES, SET_MEM_TABLE};
-    static const uint32_t each[] = {SET_VRING_NUM, SET_VRING_BASE, SET_VRING_ADDR, SET_VRING_CALL, SET_VRING_KICK, SET_VRING_ENABLE};
+    static const uint32_t each[] = {
+        SET_VRING_NUM, SET_VRING_BASE, SET_VRING_ADDR, SET_VRING_CALL, SET_VRING_KICK, SET_VRING_ENABLE,
+    };
     unsigned sent = 0, most = one_in(4) ? (unsigned)chance(30) : 30;
     for (unsigned i = 0; i < 5 && sent < most; i++, sent++)
         if (!send_nearly(good_message(once[i], 0), true))

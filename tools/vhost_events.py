@@ -90,8 +90,9 @@ class Events(Good):
         self.served(client, INFLATE, [FIRST])
         client.stop_ring(INFLATE)
         client.post_pages(INFLATE, [FIRST + 1])
+        time.sleep(MOMENT)
+        self.assertEqual((client.counter("inflated"), client.used(INFLATE)[0]), (1, 1))
         self.unserved(client, INFLATE)
-        self.assertEqual(client.used(INFLATE)[0], 1)
         self.served(client, DEFLATE, [FIRST])
         client.give_events(INFLATE)
         self.assertGreater(client.called(INFLATE), 0)
@@ -177,6 +178,18 @@ class Events(Good):
         self.assertEqual((client.counter("status"), client.counter("actual")), (15, 77))
         client.called(INFLATE)
         self.served(client, INFLATE, [FIRST + 1])
+
+    def test_a_status_of_0_before_the_indexes_are_asked_for(self):
+        client = self.started()
+        for page in range(3):
+            self.served(client, INFLATE, [FIRST + page])
+        client.accepted(SET_STATUS, word(0))
+        for number in range(4):
+            client.accepted(SET_VRING_ENABLE, struct.pack("<II", number, 0))
+        self.assertEqual([client.stop_ring(number) for number in range(4)], [3, 0, 0, 0])
+        client.go_on([3, 0, 0, 0])
+        client.called(INFLATE)
+        self.served(client, INFLATE, [FIRST + 9])
 
     def test_a_new_driver_has_nothing_in_its_balloon(self):
         client = self.started()

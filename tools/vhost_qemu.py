@@ -1,19 +1,45 @@
-"""Tests of a backend whose client is QEMU itself. Debian's QEMU makes no balloon of vhost-user, so it is told to make a file
-system of it: a device of two queues, whose driver in the guest starts both and posts nothing until it is mounted."""
+"""Tests of a backend whose client is QEMU itself, with Debian's Linux in the machine.
+
+Debian's QEMU makes no balloon of vhost-user, but it makes a disk of it, and hands over queues, kicks, interrupts and changes of
+the configuration like for any device. So the guest's balloon driver is told that a disk is its device: its module has another
+number in its table. What a disk doesn't hand over is missing: MUST_TELL_HOST, and what the driver writes as `actual`.
+"""
 
 import glob
 import json
 import os
 import socket
+import struct
 import tempfile
 import time
 import unittest
 
 import linux_guest
 import linux_kit
-from vhost_served import program
+from linux_guest import PAGES_PER_MIB
+from vhost_served import CHECKS
 
 MEMORY = 256
+
+# Seconds in which a target is reached, and in which free pages are reported.
+TARGET_LIMIT, REPORT_LIMIT = 60, 60
+
+# The numbers of devices (VIRTIO 1.1, 5), as a driver's table has them: of any vendor.
+BALLOON, DISK = (struct.pack("<II", it, 0xFFFFFFFF) for it in (5, 2))
+
+SIGNATURE = b"~Module signature appended~\n"
+
+
+def driver_of_disks(path):
+    """Returns the bytes of a balloon driver's module for disks; it has no signature."""
+    with open(path, "rb") as module:
+        data = module.read()
+    if data.endswith(SIGNATURE):
+        data = data[: -len(SIGNATURE)]
+        data = data[: -12 - struct.unpack(">I", data[-4:])[0]]
+    if data.count(BALLOON) != 1:
+        raise linux_kit.Fault(f"{path} has no table of devices, or several")
+    return data.replace(BALLOON, DISK)
 
 
 class Monitor:
@@ -41,50 +67,79 @@ class Qemu(unittest.TestCase):
     """A machine under emulation, with the backend for its device."""
 
     def setUp(self):
-        self.folder = tempfile.TemporaryDirectory(prefix="test-vhost-user-")
-        self.addCleanup(self.folder.cleanup)
-        self.kit = linux_kit.Qemu(self.folder.name)
-        modules = glob.glob(os.path.join(self.kit.root, "lib/modules/*/kernel/drivers/virtio/virtio*.ko"))
-        for name in ("fuse", "virtiofs"):
-            modules += glob.glob(os.path.join(self.kit.root, f"lib/modules/*/kernel/fs/fuse/{name}.ko"))
+        folder = tempfile.TemporaryDirectory(prefix="test-vhost-user-")
+        self.addCleanup(folder.cleanup)
+        self.folder, kit = folder.name, linux_kit.Qemu(folder.name)
+        modules = glob.glob(os.path.join(kit.root, "lib/modules/*/kernel/drivers/virtio/virtio*.ko"))
+        balloon = next(it for it in modules if it.endswith("/virtio_balloon.ko"))
+        path = os.path.join(self.folder, "virtio_balloon.ko")
+        with open(path, "wb") as module:
+            module.write(driver_of_disks(balloon))
         busybox = os.path.join(linux_kit.CACHE, "uml/bin/busybox")
-        self.kit.initramfs = linux_kit.make_initramfs(self.folder.name, busybox, modules)
+        kit.initramfs = linux_kit.make_initramfs(self.folder, busybox, [*(it for it in modules if it != balloon), path])
+        program = linux_kit.build(self.folder, linux_kit.core_of(), audited=True, flags=CHECKS)
+        self.start(kit, program)
 
-    def machine(self, *options):
-        """Returns a backend, a guest that it is for, and the guest's monitor."""
-        path, control = (os.path.join(self.folder.name, it) for it in ("socket", "control"))
-        backend = linux_guest.Backend(program(), self.folder.name, [path, *options])
+    def start(self, kit, program):
+        """Starts the backend and the guest."""
+        path, control = (os.path.join(self.folder, it) for it in ("socket", "control"))
+        backend = self.backend = linux_guest.Backend(program, self.folder, [path, "--strict"])
         self.addCleanup(lambda: (backend.close(), backend.process.stdout.close()))
-        words = self.kit.words(self.folder.name, MEMORY, 0)
+        words = kit.words(self.folder, MEMORY, 0)
         words = words[: words.index("-device")]
-        words += ["-chardev", f"socket,id=device,path={path}", "-device", "vhost-user-fs-pci,chardev=device,tag=t,queue-size=128"]
+        words += ["-chardev", f"socket,id=device,path={path}", "-device", "vhost-user-blk-pci,chardev=device,num-queues=4"]
         words += ["-qmp", f"unix:{control},server=on,wait=off"]
-        guest = linux_guest.Guest(words, self.kit.environment(), (), self.folder.name, MEMORY)
-        self.addCleanup(lambda: (guest.process.kill(), guest.process.wait(), guest.process.stdin.close(), guest.process.stdout.close()))
+        guest = self.guest = linux_guest.Guest(words, kit.environment(), (), self.folder, MEMORY)
+        self.addCleanup(lambda: (guest.close(), guest.process.stdin.close(), guest.process.stdout.close()))
         guest.boot()
-        monitor = Monitor(control)
-        self.addCleanup(monitor.close)
-        return backend, guest, monitor
+        self.monitor = Monitor(control)
+        self.addCleanup(self.monitor.close)
 
-    def await_status(self, backend, status):
-        """Demands that the device has this status soon."""
-        end = time.monotonic() + linux_guest.ANSWER_LIMIT
-        while backend.counters()["status"] != status:
-            self.assertLess(time.monotonic(), end, f"{backend.counters()}: {backend.why()}")
+    def wait(self, condition, limit):
+        """Demands that something comes about in so many seconds."""
+        end = time.monotonic() + limit
+        while not condition(self.backend.counters()):
+            self.assertLess(time.monotonic(), end, f"{self.backend.counters()}: {self.backend.why()}")
             time.sleep(0.05)
 
-    def test_a_driver_that_starts_stops_goes_on_and_kicks(self):
-        backend, guest, monitor = self.machine()
-        self.assertEqual(backend.counters()["status"], 0)
-        guest.do("insmod /fuse.ko; insmod /virtiofs.ko")
-        self.await_status(backend, 15)
-        for _ in range(3):
-            monitor.do("stop")
-            self.await_status(backend, 0)
-            monitor.do("cont")
-            self.await_status(backend, 15)
-        self.assertEqual((backend.counters()["chains"], backend.why()), (0, ""))
-        # Its first request is no list of pages: the answer belongs behind the question, in the same chain.
-        guest.begin("mkdir -p /m; mount -t virtiofs t /m")
-        backend.process.wait(linux_guest.ANSWER_LIMIT)
-        self.assertEqual(backend.why(), "refused: the guest's bytes have a buffer of the wrong direction (rule 5)")
+    def inflate(self, mib):
+        """Asks for a balloon of so many MiB, and demands that it is there."""
+        self.backend.ask(f"target {mib * PAGES_PER_MIB}")
+        self.wait(lambda now: now["inflated"] - now["deflated"] == mib * PAGES_PER_MIB, TARGET_LIMIT)
+
+    def statistics(self):
+        """Asks the guest for its statistics, and returns them."""
+        self.assertEqual(self.backend.ask("ask"), "asked")
+        before, _ = self.backend.statistics()
+        self.wait(lambda now: now["statistics"] > before, TARGET_LIMIT)
+        return self.backend.statistics()[1]
+
+    def pause(self):
+        """Stops the machine, and lets it go on."""
+        self.monitor.do("stop")
+        self.wait(lambda now: now["status"] == 0, TARGET_LIMIT)
+        self.monitor.do("cont")
+        self.wait(lambda now: now["status"] == 15, TARGET_LIMIT)
+
+    def test_linux(self):
+        guest, backend = self.guest, self.backend
+        self.wait(lambda now: now["status"] == 15, TARGET_LIMIT)
+        guest.do("fill keep 20")
+        sums = guest.do("sums keep")
+        filled = int(guest.memory_mib()[1]) - 30
+        guest.do(f"hog {filled}")
+        backend.ask("snapshot")
+        held = guest.held_mib()
+        guest.do("free")
+        self.wait(lambda _: guest.held_mib() < held - filled / 2, REPORT_LIMIT)
+        self.assertGreater(self.statistics()["free_memory"], filled << 20)
+        for mib in (40, 70, 10, 60, 0):
+            self.inflate(mib)
+            self.pause()
+            self.assertLess(self.statistics()["free_memory"], (filled + 40 - mib) << 20)
+        self.assertEqual(guest.do("sums keep"), sums)
+        self.assertEqual(guest.do("trouble"), [])
+        self.assertTrue(backend.ask("audit").startswith("audit faults 0 "), backend.ask("audit"))
+        counters = backend.counters()
+        self.assertEqual([counters[it] for it in ("skipped", "in_holes", "kept")], [0, 0, 0])
+        self.assertEqual(backend.why(), "")

@@ -56,7 +56,7 @@ class Refuses(unittest.TestCase):
                 for it in descriptors:
                     client.describe(INFLATE, *it)
                 client.publish(INFLATE, head)
-                # The kick is answered well: what it leads to comes behind that.
+                # The kick is answered well: what it leads to comes after that.
                 self.assertEqual(client.kick(INFLATE), bytes(8))
                 self.refused(client, f"(rule {rule})")
 

@@ -75,6 +75,7 @@ bool backend_start(struct backend *backend, const struct options *options)
     VbSettings settings = {
         .memory_end = 2 * BALLOON_PAGE, .offered = options->features, .skips_bad_pages = !options->strict};
     backend->options = options;
+    backend->drops_nothing = options->keep;
     backend->socket = backend->listener = backend->channel = -1;
     rings_clear(backend);
     if (balloon_init(&backend->balloon, backend->memory.regions, 0, settings) != VB_OK)
@@ -82,7 +83,7 @@ bool backend_start(struct backend *backend, const struct options *options)
     backend->balloon.context = backend;
     backend->balloon.on_pages = count_pages;
     backend->balloon.on_statistics = hear_statistics;
-    backend->balloon.discard = options->keep ? discard_nothing : NULL;
+    backend->balloon.discard = backend->drops_nothing ? discard_nothing : NULL;
     return true;
 }
 

@@ -80,11 +80,11 @@ enum outcome get_status(struct backend *backend, struct message *message)
     return answer_u64(backend, message, backend->told.status);
 }
 
-/* Forgets the rings where the driver resets the device. They may be told again as they were, and go on: a client stops
- * its device like this, too. */
-static enum outcome forget(struct backend *backend)
+/* Stops all rings where the driver resets the device. They may be told again as they were, and go on: a client stops its
+ * device like this, too. */
+static enum outcome halt(struct backend *backend)
 {
-    rings_forget(backend);
+    rings_halt(backend);
     backend->told.status = 0;
     return DONE;
 }
@@ -94,7 +94,7 @@ enum outcome set_status(struct backend *backend, struct message *message)
 {
     uint64_t status = message_u64(message, 0);
     if (status == 0)
-        return forget(backend);
+        return halt(backend);
     bool clears = backend->told.status & ~status;
     bool early = (status & BALLOON_DRIVER_OK) && !(status & IS_FEATURES_OK);
     bool untaken = (status & IS_FEATURES_OK) && !backend->told.negotiated;
@@ -115,7 +115,7 @@ enum outcome reset_device(struct backend *backend, struct message *message)
 enum outcome reset_owner(struct backend *backend, struct message *message)
 {
     (void)message;
-    return forget(backend);
+    return halt(backend);
 }
 
 /* Whether the message has room for the bytes that it says. */

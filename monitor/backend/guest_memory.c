@@ -32,11 +32,12 @@ static bool has_room(const struct guest_memory *memory, const struct region_plac
     return memory->count < MOST_REGIONS;
 }
 
-/* Whether a region begins at a page, and ends. */
+/* Whether a region is whole pages, and ends. */
 static bool is_range(const struct region_place *place)
 {
     uint64_t end;
-    return place->size > 0 && place->guest % BALLOON_PAGE == 0 && !__builtin_add_overflow(place->guest, place->size, &end)
+    return place->size > 0 && (place->guest | place->size) % BALLOON_PAGE == 0
+        && !__builtin_add_overflow(place->guest, place->size, &end)
         && !__builtin_add_overflow(place->user, place->size, &end)
         && !__builtin_add_overflow(place->offset, place->size, &end) && end <= INT64_MAX;
 }
@@ -95,6 +96,42 @@ bool memory_of_user(const struct guest_memory *memory, uint64_t user, uint64_t *
         }
     }
     return false;
+}
+
+/* The region of an address of the guest, or NULL. */
+static const struct balloon_region *region_of(const struct guest_memory *memory, uint64_t guest)
+{
+    for (unsigned i = 0; i < memory->count; i++)
+        if (guest >= memory->regions[i].guest && guest - memory->regions[i].guest < memory->regions[i].length)
+            return &memory->regions[i];
+    return NULL;
+}
+
+bool memory_holds(const struct guest_memory *memory, uint64_t guest, uint64_t length)
+{
+    while (length > 0) {
+        const struct balloon_region *region = region_of(memory, guest);
+        if (!region)
+            return false;
+        uint64_t room = region->length - (guest - region->guest);
+        uint64_t part = room < length ? room : length;
+        guest += part;
+        length -= part;
+    }
+    return true;
+}
+
+bool memory_word(const struct guest_memory *memory, uint64_t guest, uint16_t *word)
+{
+    *word = 0;
+    for (unsigned i = 0; i < sizeof *word; i++) {
+        const struct balloon_region *region = region_of(memory, guest + i);
+        if (!region)
+            return false;
+        const volatile uint8_t *byte = region->host + (guest + i - region->guest);
+        *word |= (uint16_t)(*byte << 8 * i);
+    }
+    return true;
 }
 
 /* Whether an earlier region is of the same file. */

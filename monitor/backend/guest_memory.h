@@ -19,7 +19,7 @@ struct guest_memory {
 /* Unmaps all regions and closes their files. */
 void memory_clear(struct guest_memory *memory);
 
-/* Maps one more region. Takes the file; false where it can't be mapped: it doesn't begin at a page, it wraps, there is one
+/* Maps one more region. Takes the file; false where it can't be mapped: it isn't whole pages, it wraps, there is one
  * at these addresses of the guest or of the client, its file ends before, or there are MOST_REGIONS. */
 bool memory_add(struct guest_memory *memory, struct region_place place, int file);
 
@@ -31,6 +31,12 @@ bool memory_map(struct guest_memory *memory, const struct region_place *places, 
 
 /* The guest's address of an address in the client; false where it lies in no region. */
 bool memory_of_user(const struct guest_memory *memory, uint64_t user, uint64_t *address);
+
+/* Whether all these bytes of the guest are memory, whichever regions they lie in. */
+bool memory_holds(const struct guest_memory *memory, uint64_t guest, uint64_t length);
+
+/* A word of the guest, little-endian; false where it isn't memory. */
+bool memory_word(const struct guest_memory *memory, uint64_t guest, uint16_t *word);
 
 /* What the files hold on the host, in KiB. */
 uint64_t memory_held(const struct guest_memory *memory);

@@ -38,6 +38,7 @@ enum outcome set_vring_base(struct backend *backend, struct message *message)
     if (!ring)
         return STOP;
     ring->base = message_u32(message, 4);
+    ring->based = true;
     return DONE;
 }
 

@@ -2,7 +2,7 @@
 #include "vhost_user.h"
 
 /* The statuses of a driver that starts (VIRTIO 1.1, 2.1). */
-enum { ACKNOWLEDGE = 1, DRIVER = 3, FEATURES_OK = 11, DRIVER_OK = 15 };
+enum { ACKNOWLEDGE = 1, DRIVER = 3, FEATURES_OK = 11, DRIVER_OK = 15, FAILED_BIT = 128 };
 
 static VbDevice *device_of(struct backend *backend)
 {
@@ -15,6 +15,14 @@ static uint32_t kind_of(const struct backend *backend, unsigned number)
     VbDevice device = backend->balloon.state.device;
     device.features = backend->told.features & ~HAS_PROTOCOL_FEATURES;
     return vb_kind(&device, number);
+}
+
+/* The device's own queue of this kind, or NULL. */
+static VbQueue *queue_of(struct backend *backend, uint32_t kind)
+{
+    VbDevice *device = device_of(backend);
+    VbQueue *queues[] = {&device->inflate, &device->deflate, &device->statistics, &device->report};
+    return kind < VB_NO_KIND ? queues[kind] : NULL;
 }
 
 /* Writes the status; false where the device refuses it, or what the guest has posted before. */
@@ -70,7 +78,7 @@ static bool wants_to_run(const struct backend *backend, unsigned number)
     const struct told *told = &backend->told;
     const struct ring *ring = &backend->rings[number];
     bool enabled = ring->enabled || !(told->features & HAS_PROTOCOL_FEATURES);
-    bool failed = told->status & BALLOON_FAILED;
+    bool failed = told->status & FAILED_BIT;
     return told->negotiated && !failed && enabled && ring->placed && ring->started && ring->size > 0
         && kind_of(backend, number) < VB_NO_KIND;
 }
@@ -107,16 +115,15 @@ static bool place(struct backend *backend, unsigned number, VbQueue *at)
     return code == VB_OK || refuse("the place of queue %u is answered %u", number, code);
 }
 
-/* A ring goes on behind what was used: what was taken and not used is served again, as requests are served in order. */
+/* A ring goes on after what was used: what was taken and not used is served again, as requests are served in order. */
 static bool go_on(struct backend *backend, unsigned number, const VbQueue *at)
 {
     const struct ring *ring = &backend->rings[number];
-    VbQueue *queue = balloon_queue(&backend->balloon, kind_of(backend, number));
-    uint8_t bytes[2];
-    if (!balloon_copy(&backend->balloon, at->used + 2, bytes, sizeof bytes))
+    VbQueue *queue = queue_of(backend, kind_of(backend, number));
+    uint16_t used;
+    if (!memory_word(&backend->memory, at->used + 2, &used))
         return refuse("queue %u isn't in the guest's memory", number);
-    uint16_t used = (uint16_t)(bytes[0] | bytes[1] << 8);
-    if (ring->base > UINT16_MAX || (uint16_t)(ring->base - used) > ring->size)
+    if (ring->based && (ring->base > UINT16_MAX || (uint16_t)(ring->base - used) > ring->size))
         return refuse("queue %u goes on at %u, and its used index is %u", number, ring->base, used);
     queue->next_avail = queue->next_used = used;
     return true;
@@ -147,7 +154,7 @@ static bool start(struct backend *backend, unsigned number)
     if (!place(backend, number, &at) || !go_on(backend, number, &at))
         return false;
     uint32_t kind = kind_of(backend, number);
-    uint16_t position = balloon_queue(&backend->balloon, kind)->next_used;
+    uint16_t position = queue_of(backend, kind)->next_used;
     ring->runs = true;
     if (kind == VB_INFLATE)
         begin_life(backend, position);
@@ -161,7 +168,7 @@ static void stop(struct backend *backend, unsigned number)
 {
     struct ring *ring = &backend->rings[number];
     uint32_t kind = kind_of(backend, number);
-    VbQueue *queue = balloon_queue(&backend->balloon, kind);
+    VbQueue *queue = queue_of(backend, kind);
     if (!ring->runs)
         return;
     ring->base = queue->next_used;
@@ -188,14 +195,14 @@ bool rings_settle(struct backend *backend)
 static bool holds(struct backend *backend, unsigned number)
 {
     const struct ring *ring = &backend->rings[number];
-    const VbQueue *queue = balloon_queue(&backend->balloon, kind_of(backend, number));
+    const VbQueue *queue = queue_of(backend, kind_of(backend, number));
     uint64_t table, avail, used;
     return memory_of_user(&backend->memory, ring->table, &table) && table == queue->table
         && memory_of_user(&backend->memory, ring->avail, &avail) && avail == queue->avail
         && memory_of_user(&backend->memory, ring->used, &used) && used == queue->used
-        && balloon_holds(&backend->balloon, table, 16u * queue->size)
-        && balloon_holds(&backend->balloon, avail, 6 + 2u * queue->size)
-        && balloon_holds(&backend->balloon, used, 6 + 8u * queue->size);
+        && memory_holds(&backend->memory, table, 16u * queue->size)
+        && memory_holds(&backend->memory, avail, 6 + 2u * queue->size)
+        && memory_holds(&backend->memory, used, 6 + 8u * queue->size);
 }
 
 bool rings_hold(struct backend *backend)
@@ -214,14 +221,20 @@ void ring_end(struct backend *backend, unsigned number)
     ring->started = ring->polled = false;
 }
 
-void rings_forget(struct backend *backend)
+void rings_halt(struct backend *backend)
 {
     for (unsigned number = 0; number < QUEUES; number++) {
         struct ring *ring = &backend->rings[number];
-        struct event call = ring->call, fault = ring->fault;
         ring_end(backend, number);
-        *ring = (struct ring){.kick = NO_EVENT, .call = call, .fault = fault};
+        *ring = (struct ring){.base = ring->base, .kick = NO_EVENT, .call = ring->call, .fault = ring->fault};
     }
+}
+
+void rings_forget(struct backend *backend)
+{
+    rings_halt(backend);
+    for (unsigned number = 0; number < QUEUES; number++)
+        backend->rings[number].base = 0;
 }
 
 void rings_clear(struct backend *backend)

@@ -14,7 +14,7 @@ struct ring {
     uint64_t table, avail, used;
     uint32_t size, base;        /* base: the index at which it goes on */
     struct event kick, call, fault;
-    bool placed;                /* the addresses were told */
+    bool placed, based;         /* the addresses were told, and the index */
     bool enabled, started;
     bool polled;                /* it is looked at now and then, without a kick */
     bool runs;
@@ -54,7 +54,11 @@ bool rings_hold(struct backend *backend);
 /* Stops a ring until it is started anew, and notes at which index it goes on. */
 void ring_end(struct backend *backend, unsigned number);
 
-/* Stops all rings and forgets where they were. Files for interrupts stay. */
+/* Stops all rings and forgets what was told of them, but for the files for interrupts and the index at which each goes on:
+ * QEMU 7.2 resets the status before it asks for that. */
+void rings_halt(struct backend *backend);
+
+/* As rings_halt, and forgets the indexes, too. */
 void rings_forget(struct backend *backend);
 
 /* The end of a driver's life without another one that goes on: nothing is in the balloon any longer. */

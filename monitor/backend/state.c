@@ -33,10 +33,10 @@ bool state_load(struct backend *backend)
 /* The device as it is to be found: rings that have stopped go on. */
 static uint32_t make_bytes(const struct backend *backend, uint8_t bytes[VB_STATE_BYTES])
 {
-    struct balloon_state state = backend->balloon.state;
+    VbDevice device = backend->balloon.state.device;
     if (backend->told.goes_on)
-        state.device.actual = backend->told.actual;
-    return vb_save(&state.device, state.held, bytes, VB_STATE_BYTES);
+        device.actual = backend->told.actual;
+    return vb_save(&device, backend->balloon.state.held, bytes, VB_STATE_BYTES);
 }
 
 /* Puts bytes into a file, and that in the place of the one before. */
