@@ -109,8 +109,8 @@ class Qemu(unittest.TestCase):
 
     def statistics(self):
         """Asks the guest for its statistics, and returns them."""
-        self.assertEqual(self.backend.ask("ask"), "asked")
         before, _ = self.backend.statistics()
+        self.assertEqual(self.backend.ask("ask"), "asked")
         self.wait(lambda now: now["statistics"] > before, TARGET_LIMIT)
         return self.backend.statistics()[1]
 
