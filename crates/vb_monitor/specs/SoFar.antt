@@ -1,5 +1,5 @@
--- What the accesses of a notice say so far: of the chain that is served, of its queue, and of what is
--- left to discard.
+-- What the accesses of a notice say so far: of the chain that is served, of its queue, and of what
+-- is left to discard.
 use Rattle.std.specs.Prelude.{ℕ, ◌+◌, Bool, true, false, List, [], ◌∷◌, ◌++◌, if◌then◌else◌}
 use Rattle.vb_chain.specs.declared.descriptor.Descriptor.{Descriptor}
 use Rattle.vb_chain.specs.declared.pieces.Piece.{Piece}
@@ -89,8 +89,8 @@ known kind (WriteWord at word ∷ xs) = Unknown
 
 -- ---- the queue
 
--- How far the device is in a ring: one more entry is taken where a chain's pages or figures are told,
--- and one more used where its index is written.
+-- How far the device is in a ring: one more entry is taken where a chain's pages or figures are
+-- told, and one more used where its index is written.
 abbrev pub ring_after : Ring → List Access → Ring
 ring_after r [] = r
 ring_after r (ReadWord at answer ∷ xs) = ring_after r xs

@@ -1,6 +1,6 @@
 -- Which access may come, by what those before it say: what is read, told, discarded and written.
-use Rattle.std.specs.Prelude.{◌≡◌, ℕ, ◌+◌, ◌*◌, ◌/◌, Bool, true, false, List, [], ◌∷◌, length, map, take}
-use Rattle.std.specs.Prelude.{Option, Some, None, Result, Ok, Err}
+use Rattle.std.specs.Prelude.{◌≡◌, ℕ, ◌+◌, ◌*◌, ◌/◌, Bool, true, false, List, [], ◌∷◌, length}
+use Rattle.std.specs.Prelude.{map, take, Option, Some, None, Result, Ok, Err}
 use Rattle.vb_model.specs.declared.layout.TheConstants.{STATISTIC_SIZE}
 use Rattle.vb_chain.specs.declared.pieces.Piece.{Piece}
 use Rattle.vb_request.specs.Request.{numbers_of}
@@ -31,8 +31,8 @@ use Rattle.vb_monitor.specs.SoFar.{Known, Unknown, Walks, Has, known, ring_after
 
 -- ---- what is read
 
--- Where the word lies that is read next: behind an acquire fence it is the entry that is taken next,
--- behind a full fence the driver's flags, and else the available index (VIRTIO 1.1, 2.6.6).
+-- Where the word lies that is read next: behind an acquire fence it is the entry that is taken
+-- next, behind a full fence the driver's flags, and else the available index (VIRTIO 1.1, 2.6.6).
 abbrev pub word_at : Ring → List Access → ℕ
 word_at r (Acquire ∷ xs) = r.avail + entry_offset r
 word_at r (Full ∷ xs) = r.avail
@@ -47,9 +47,10 @@ word_at r (WriteNumber at number ∷ xs) = r.avail + 2
 word_at r (WriteWord at word ∷ xs) = r.avail + 2
 
 -- So many bytes from an address on are copied.
-pub record CopiesFrom (regions : List Region) (a len : ℕ) (at : Spot) (bytes : List ℕ) : Type 0 where
-  pub place : spot regions a len ≡ Some at
-  pub long : length bytes ≡ len
+pub record CopiesFrom (regions : List Region) (a len : ℕ) (at : Spot) (bytes : List ℕ) : Type 0
+  where
+    pub place : spot regions a len ≡ Some at
+    pub long : length bytes ≡ len
 
 -- Of a chain the descriptor is copied that the one before names, 16 bytes; once it is whole, the
 -- next part of its pieces.
