@@ -11,3 +11,8 @@ mod RegionFacts
 mod NoticeFacts
 pub mod PlaceLemmas
 mod PlaceFacts
+pub mod TurnLemmas
+pub mod NamedLemmas
+pub mod TurnRows
+pub mod TurnLaws
+mod TurnFacts

@@ -11,3 +11,5 @@ pub mod Balloons
 pub mod Order
 pub mod Places
 pub mod Counts
+pub mod SoFar
+pub mod Turns

@@ -1,6 +1,6 @@
 //! What the accesses of a notice come to, whatever memory answers.
 
-ghost use Rattle.std.specs.Prelude.{◌+◌, ◌*◌, ◌≤◌, List, None, length};
+ghost use Rattle.std.specs.Prelude.{◌+◌, ◌*◌, ◌≤◌, List, [], None, length};
 ghost use Rattle.vb_core.specs.declared.kinds.Kind.{Kind};
 ghost use Rattle.vb_core.specs.declared.device.Device.{Device};
 ghost use Rattle.vb_monitor.specs.declared.regions.Region.{Region};
@@ -13,6 +13,8 @@ ghost use Rattle.vb_monitor.specs.Regions.{cuts_of};
 ghost use Rattle.vb_monitor.specs.Touched.{Touches};
 ghost use Rattle.vb_monitor.specs.Counts.{others};
 ghost use Rattle.vb_monitor.specs.Order.{Row, MayFollow};
+ghost use Rattle.vb_monitor.specs.SoFar.{Each};
+ghost use Rattle.vb_monitor.specs.Turns.{ReadsInTurn, TellsInTurn, WritesUsedAlone};
 
 /// A notice touches no byte outside its regions: each word and each copy that it reads, each number
 /// that it writes, and all that it discards lies within one of them.
@@ -50,4 +52,37 @@ pub fn a_notice_makes_few_accesses()
     ensures { (regions : List Region) (kind : Kind) (budget : Budget) (d1 d2 : Device)
         (outcome : Outcome) (log : List Access) →
         Serves regions kind budget d1 d2 outcome log → others log ≤ 3 + 776 * budget.chains }
+{}
+
+/// What counts is read once: behind the index the entry that is taken next, then the descriptors of
+/// its chain, each by the number that the one before named, and then each part of each piece, in
+/// order (VIRTIO 1.1, 2.6.5 and 2.6.6). Nothing is asked for again, whatever the guest makes of it.
+#[tactic(auto, using(crate::proofs::TurnLaws::reads_in_turn))]
+pub fn what_counts_is_read_once()
+    ensures { (regions : List Region) (kind : Kind) (budget : Budget) (d1 d2 : Device)
+        (outcome : Outcome) (log : List Access) →
+        Serves regions kind budget d1 d2 outcome log →
+        Each (ReadsInTurn regions kind d1) [] log }
+{}
+
+/// Only pages are told that the bytes name which were copied since the chain's entry was read, or
+/// the pieces of a report. Only parts of pages that were told are discarded, each once and in
+/// order, and all of them before the chain's used element is written; of a deflate's none is
+/// (VIRTIO 1.1, 5.5.6).
+#[tactic(auto, using(crate::proofs::TurnLaws::tells_in_turn))]
+pub fn only_named_pages_are_discarded()
+    ensures { (regions : List Region) (kind : Kind) (budget : Budget) (d1 d2 : Device)
+        (outcome : Outcome) (log : List Access) →
+        Serves regions kind budget d1 d2 outcome log →
+        Each (TellsInTurn regions kind d1) [] log }
+{}
+
+/// Nothing is written but the next used element of the queue's ring, with the id that was read as
+/// its entry and a length of 0, and the index behind it (VIRTIO 1.1, 2.6.8).
+#[tactic(auto, using(crate::proofs::TurnLaws::writes_used))]
+pub fn only_used_elements_are_written()
+    ensures { (regions : List Region) (kind : Kind) (budget : Budget) (d1 d2 : Device)
+        (outcome : Outcome) (log : List Access) →
+        Serves regions kind budget d1 d2 outcome log →
+        Each (WritesUsedAlone regions kind d1) [] log }
 {}

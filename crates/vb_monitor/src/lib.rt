@@ -28,7 +28,8 @@ pub use cuts::Cut;
 pub use giving::UsedSpots;
 pub use laws::{
     a_notice_makes_few_accesses, a_run_has_few_parts, accesses_come_in_their_order,
-    nothing_outside_the_regions_is_touched,
+    nothing_outside_the_regions_is_touched, only_named_pages_are_discarded,
+    only_used_elements_are_written, what_counts_is_read_once,
 };
 pub use memory::LiveMemory;
 pub use notice::Notice;

@@ -1,0 +1,249 @@
+-- What each access of a notice is, by those before it: the walk along a chain, looks, and the laws.
+use Rattle.std.proofs.Common.{◌≡◌, ◌∙◌, ap, sym, subst, refl, ℕ, zero, suc, ◌+◌, ◌*◌, Bool, true, false, List, [], ◌∷◌, ◌++◌, length, Option, Some, None, Result, Ok, Err}
+use Rattle.std.specs.Prelude.{◌==◌, nat_lt}
+use Rattle.vb_chain.specs.declared.pieces.Piece.{Piece}
+use Rattle.vb_chain.specs.declared.descriptor.Descriptor.{Descriptor}
+use Rattle.vb_chain.specs.declared.fault.ChainFault.{ChainFault}
+use Rattle.vb_chain.specs.Rules.{has_next, piece_of}
+use Rattle.vb_core.specs.declared.kinds.Kind.{Kind}
+use Rattle.vb_core.specs.declared.kinds.Kind.TheVariants.{Inflate, Deflate, Statistics, Report}
+use Rattle.vb_core.specs.declared.ring.Ring.{Ring}
+use Rattle.vb_core.specs.declared.device.Denial.{Denial}
+use Rattle.vb_core.specs.declared.device.Device.{Device}
+use Rattle.vb_core.specs.Devices.{ring_of, queue_denial}
+use Rattle.vb_monitor.specs.declared.regions.Region.{Region}
+use Rattle.vb_monitor.specs.declared.regions.Spot.{Spot}
+use Rattle.vb_monitor.specs.declared.outcome.Tally.{Tally}
+use Rattle.vb_monitor.specs.declared.outcome.Budget.{Budget}
+use Rattle.vb_monitor.specs.declared.outcome.Outcome.{Outcome}
+use Rattle.vb_monitor.specs.Accesses.{Access, ReadWord, CopyBytes, Acquire, WriteWord}
+use Rattle.vb_monitor.specs.Regions.{spot}
+use Rattle.vb_monitor.specs.Ends.{Whole}
+use Rattle.vb_monitor.specs.Giving.{Then}
+use Rattle.vb_monitor.specs.Chains.{ServesPieces, GoesOn, DescriptorBy, DescriptorAt, Follows, table_fault, descriptor_of, descriptors, memory_end}
+use Rattle.vb_monitor.specs.Notices.{HeadBy, EntryAt, entry_offset, stands, AfterIndex, IndexAt, LooksBy, AfterGiven, TakesUnlessSpent, TakesNext, Looks, with_chains, Serves, fresh}
+use Rattle.vb_monitor.specs.SoFar.{Each, Known, Walks, Has, known, ring_after, with_descriptor, with_copied}
+use Rattle.vb_monitor.specs.Turns.{word_at, CopiesNext, ReadsInTurn, TellsInTurn, WritesUsedAlone}
+use Rattle.vb_monitor.proofs.TurnLemmas.{Comes, Agrees, flags_of, ends_each, breaks_each, After}
+use Rattle.vb_monitor.proofs.TurnRows.{Begun, pieces_each}
+
+-- ---- the walk
+
+abbrev On : Whole → Device → Device → ℕ → (ℕ → Bool → List Piece → List Access → Type 0) → Type 0
+On w d0 d head on =
+    (n : ℕ) (writing : Bool) (ps : List Piece) (b rest : List Access) → Agrees w d0 b d →
+    known w.kind b ≡ Walks head n ps → on n writing ps rest → Each (Comes w d0) b rest
+
+abbrev Last : Whole → Device → Device → ℕ → (List Piece → List Access → Type 0) → Type 0
+Last w d0 d head done =
+    (ps : List Piece) (b rest : List Access) → Agrees w d0 b d → Begun w head ps b →
+    done ps rest → Each (Comes w d0) b rest
+
+goes_on : (w : Whole) (d0 d : Device) (head : ℕ)
+    (on : ℕ → Bool → List Piece → List Access → Type 0) (done : List Piece → List Access → Type 0)
+    (more : On w d0 d head on) (last : Last w d0 d head done) (goes writing : Bool)
+    (x : Descriptor) (pieces : List Piece) (b log : List Access) → Agrees w d0 b d →
+    known w.kind b ≡ with_descriptor goes w.kind head (pieces ++ piece_of x ∷ []) x.next →
+    GoesOn goes on done writing x pieces log → Each (Comes w d0) b log
+goes_on w d0 d head on done more last true writing x pieces b log is read h =
+    more x.next _ (pieces ++ piece_of x ∷ []) b log is read h
+goes_on w d0 d head on done more last false writing x pieces b log is read h =
+    last (pieces ++ piece_of x ∷ []) b log is read h
+
+descriptor_by : (w : Whole) (d0 d : Device) (t : Tally) (head : ℕ)
+    (on : ℕ → Bool → List Piece → List Access → Type 0) (done : List Piece → List Access → Type 0)
+    (more : On w d0 d head on) (last : Last w d0 d head done) (fault : Option ChainFault)
+    (writing : Bool) (x : Descriptor) (pieces : List Piece) (b log : List Access) →
+    Agrees w d0 b d →
+    known w.kind b ≡ with_descriptor (has_next x) w.kind head (pieces ++ piece_of x ∷ []) x.next →
+    DescriptorBy fault w d t on done writing x pieces log → Each (Comes w d0) b log
+descriptor_by w d0 d t head on done more last (Some fault) writing x pieces b log is read h =
+    breaks_each w d0 d t _ b log is h
+descriptor_by w d0 d t head on done more last None writing x pieces b log is read h =
+    goes_on w d0 d head on done more last (has_next x) writing x pieces b log is read h
+
+descriptor_at : (w : Whole) (d0 d : Device) (t : Tally) (head number : ℕ)
+    (on : ℕ → Bool → List Piece → List Access → Type 0) (done : List Piece → List Access → Type 0)
+    (more : On w d0 d head on) (last : Last w d0 d head done) (writing : Bool)
+    (pieces : List Piece) (o : Option Spot) (b log : List Access) → Agrees w d0 b d →
+    known w.kind b ≡ Walks head number pieces →
+    spot w.regions ((ring_of w.kind d).table + 16 * number) 16 ≡ o →
+    DescriptorAt w d t on done writing pieces o log → Each (Comes w d0) b log
+descriptor_at w d0 d t head number on done more last writing pieces None b log is read e h =
+    breaks_each w d0 d t _ b log is h
+descriptor_at w d0 d t head number on done more last writing pieces (Some at) b log is read e h =
+    let there : spot w.regions ((ring_after (ring_of w.kind d0) b).table + 16 * number) 16 ≡ Some at =
+    subst (λ (r : Ring). spot w.regions (r.table + 16 * number) 16 ≡ Some at) is.ring e in
+    subst (λ (l : List Access). Each (Comes w d0) b l) (sym h.asks) (
+      (
+        subst (λ (k : Known). CopiesNext w.regions (ring_after (ring_of w.kind d0) b).table k at
+            h.bytes) (sym read) (record { place = there; long = h.long }),
+        (tt, tt),
+      ),
+      descriptor_by w d0 d t head on done more last
+          (table_fault (descriptors (ring_of w.kind d)) (memory_end d) writing (length pieces)
+          (descriptor_of h.bytes)) writing (descriptor_of h.bytes) pieces
+          (CopyBytes at h.bytes ∷ b) h.rest (record { ring = is.ring; settings = is.settings })
+          (ap (λ (k : Known). with_copied w.kind h.bytes k) read) h.goes_on,
+    )
+
+follows_each : (n : ℕ) (w : Whole) (d0 d : Device) (t : Tally) (head : ℕ)
+    (done : List Piece → List Access → Type 0) (last : Last w d0 d head done) (number : ℕ)
+    (writing : Bool) (pieces : List Piece) (b log : List Access) → Agrees w d0 b d →
+    known w.kind b ≡ Walks head number pieces →
+    Follows n w d t done number writing pieces log → Each (Comes w d0) b log
+follows_each zero w d0 d t head done last number writing pieces b log is read h =
+    breaks_each w d0 d t _ b log is h
+follows_each (suc n) w d0 d t head done last number writing pieces b log is read h =
+    descriptor_at w d0 d t head number (Follows n w d t done) done
+    (λ m wr ps b2 rest is2 read2 go.
+    follows_each n w d0 d t head done last m wr ps b2 rest is2 read2 go) last writing pieces
+    (spot w.regions ((ring_of w.kind d).table + 16 * number) 16) b log is read refl h
+
+-- ---- a look
+
+head_each : (w : Whole) (d0 : Device) (next : Then) (on : After w d0 next) (d : Device) (t : Tally)
+    (head : ℕ) (there : Bool) (b log : List Access) → Agrees w d0 b d →
+    known w.kind b ≡ Walks head head [] → HeadBy there w next d t head log →
+    Each (Comes w d0) b log
+head_each w d0 next on d t head false b log is read h = breaks_each w d0 d t _ b log is h
+head_each w d0 next on d t head true b log is read h =
+    follows_each (descriptors (ring_of w.kind d)) w d0 d t head
+    (λ pieces rest. ServesPieces w.kind w next d t head pieces rest)
+    (λ pieces b2 rest is2 begun more.
+    pieces_each w d0 w.kind refl next on d t head pieces b2 rest is2 begun more) head false [] b log
+    is read h
+
+entry_each : (w : Whole) (d0 : Device) (next : Then) (on : After w d0 next) (d : Device)
+    (t : Tally) (o : Option Spot) (b log : List Access) → Agrees w d0 b d →
+    spot w.regions ((ring_of w.kind d).avail + entry_offset (ring_of w.kind d)) 2 ≡ o →
+    EntryAt w next d t o log → Each (Comes w d0) b log
+entry_each w d0 next on d t None b log is e h = breaks_each w d0 d t _ b log is h
+entry_each w d0 next on d t (Some at) b log is e h =
+    subst (λ (l : List Access). Each (Comes w d0) b l) (sym h.asks) (
+      (tt, (tt, tt)),
+      (
+        (
+          subst (λ (r : Ring). spot w.regions (r.avail + entry_offset r) 2 ≡ Some at) is.ring e,
+          (tt, tt),
+        ),
+        head_each w d0 next on d t h.head (nat_lt h.head (descriptors (ring_of w.kind d)))
+            (ReadWord at h.head ∷ Acquire ∷ b) h.rest
+            (record { ring = is.ring; settings = is.settings }) refl h.goes_on,
+      ),
+    )
+
+unless_spent : (w : Whole) (d0 : Device) (next : Then) (on : After w d0 next) (d : Device)
+    (t : Tally) (spent : Bool) (b log : List Access) → Agrees w d0 b d →
+    TakesUnlessSpent spent w next d t log → Each (Comes w d0) b log
+unless_spent w d0 next on d t true b log is h =
+    ends_each w d0 d t _ true b log (flags_of w d0 b d is) h
+unless_spent w d0 next on d t false b log is h =
+    entry_each w d0 next on d t
+    (spot w.regions ((ring_of w.kind d).avail + entry_offset (ring_of w.kind d)) 2) b log is refl h
+
+abbrev Taken : Whole → Device → Device → (List Access → Type 0) → Type 0
+Taken w d0 d takes =
+    (b rest : List Access) → Agrees w d0 b d → takes rest → Each (Comes w d0) b rest
+
+index_by : (w : Whole) (d0 d : Device) (t : Tally) (takes : List Access → Type 0)
+    (on : Taken w d0 d takes) (there : Result Bool ChainFault) (b log : List Access) →
+    Agrees w d0 b d → AfterIndex there w takes d t log → Each (Comes w d0) b log
+index_by w d0 d t takes on (Err fault) b log is h = breaks_each w d0 d t _ b log is h
+index_by w d0 d t takes on (Ok false) b log is h =
+    ends_each w d0 d t _ false b log (flags_of w d0 b d is) h
+index_by w d0 d t takes on (Ok true) b log is h = on b log is h
+
+-- behind these accesses the index is read
+abbrev Looked : List Access → Type 0
+Looked b = (r : Ring) → word_at r b ≡ r.avail + 2
+
+index_at : (w : Whole) (d0 d : Device) (t : Tally) (takes : List Access → Type 0)
+    (on : Taken w d0 d takes) (o : Option Spot) (b log : List Access) → Agrees w d0 b d →
+    Looked b → spot w.regions ((ring_of w.kind d).avail + 2) 2 ≡ o → IndexAt w takes d t o log →
+    Each (Comes w d0) b log
+index_at w d0 d t takes on None b log is looked e h = breaks_each w d0 d t _ b log is h
+index_at w d0 d t takes on (Some at) b log is looked e h =
+    subst (λ (l : List Access). Each (Comes w d0) b l) (sym h.asks) (
+      (
+        subst (λ (a : ℕ). spot w.regions a 2 ≡ Some at)
+            (sym (looked (ring_after (ring_of w.kind d0) b)))
+            (subst (λ (r : Ring). spot w.regions (r.avail + 2) 2 ≡ Some at) is.ring e),
+        (tt, tt),
+      ),
+      index_by w d0 d t takes on (stands (ring_of w.kind d) h.index) (ReadWord at h.index ∷ b)
+          h.rest (record { ring = is.ring; settings = is.settings }) h.goes_on,
+    )
+
+looks_by : (w : Whole) (d0 d : Device) (t : Tally) (takes : List Access → Type 0)
+    (on : Taken w d0 d takes) (denial : Option Denial) (b log : List Access) → Agrees w d0 b d →
+    Looked b → LooksBy denial w takes d t log → Each (Comes w d0) b log
+looks_by w d0 d t takes on (Some why) b log is looked h =
+    ends_each w d0 d t _ false b log (flags_of w d0 b d is) h
+looks_by w d0 d t takes on None b log is looked h =
+    index_at w d0 d t takes on (spot w.regions ((ring_of w.kind d).avail + 2) 2) b log is looked
+    refl h
+
+given_each : (w : Whole) (d0 : Device) (kind : Kind) (looks : Then) (on : After w d0 looks) →
+    After w d0 (AfterGiven kind w looks)
+given_each w d0 Inflate looks on d t at n b rest is h = on d t at n b rest is h
+given_each w d0 Deflate looks on d t at n b rest is h = on d t at n b rest is h
+given_each w d0 Statistics looks on d t at n b rest is h =
+    ends_each w d0 d t _ false (WriteWord at n ∷ b) rest
+    (flags_of w d0 (WriteWord at n ∷ b) d is) h
+given_each w d0 Report looks on d t at n b rest is h = on d t at n b rest is h
+
+takes_each : (n : ℕ) (w : Whole) (d0 d : Device) (t : Tally) → Taken w d0 d (TakesNext n w d t)
+takes_each zero w d0 d t b log is h =
+    ends_each w d0 d t _ true b log (flags_of w d0 b d is) h
+takes_each (suc n) w d0 d t b log is h =
+    unless_spent w d0
+    (AfterGiven w.kind w (λ d2 t2 rest. LooksBy (queue_denial w.kind d2) w (TakesNext n w d2 t2) d2
+    t2 rest))
+    (given_each w d0 w.kind
+    (λ d2 t2 rest. LooksBy (queue_denial w.kind d2) w (TakesNext n w d2 t2) d2 t2 rest)
+    (λ d2 t2 at n2 b2 rest is2 more. looks_by w d0 d2 t2 (TakesNext n w d2 t2)
+    (λ b3 rest3 is3 go. takes_each n w d0 d2 t2 b3 rest3 is3 go) (queue_denial w.kind d2)
+    (WriteWord at n2 ∷ b2) rest is2 (λ r. refl) more))
+    d (with_chains n t) (t.pages == 0) b log is h
+
+-- ---- the laws
+
+all_come : (regions : List Region) (kind : Kind) (budget : Budget) (d1 d2 : Device)
+    (outcome : Outcome) (log : List Access) → Serves regions kind budget d1 d2 outcome log →
+    Each (Comes (record { regions = regions; kind = kind; device = d2; outcome = outcome }) d1) [] log
+all_come regions kind budget d1 d2 outcome log h =
+    let w : Whole = record { regions = regions; kind = kind; device = d2; outcome = outcome } in
+    looks_by w d1 d1 (fresh budget) (TakesNext budget.chains w d1 (fresh budget))
+    (λ b rest is go. takes_each budget.chains w d1 d1 (fresh budget) b rest is go)
+    (queue_denial kind d1) [] log (record { ring = refl; settings = refl }) (λ r. refl) h
+
+each_so : (may so : List Access → Access → Type 0) (b log : List Access) →
+    ((before : List Access) (x : Access) → may before x → so before x) → Each may b log →
+    Each so b log
+each_so may so b [] is h = tt
+each_so may so b (x ∷ xs) is h = (is b x h.0, each_so may so (x ∷ b) xs is h.1)
+
+pub reads_in_turn : (regions : List Region) (kind : Kind) (budget : Budget) (d1 d2 : Device)
+    (outcome : Outcome) (log : List Access) → Serves regions kind budget d1 d2 outcome log →
+    Each (ReadsInTurn regions kind d1) [] log
+reads_in_turn regions kind budget d1 d2 outcome log h =
+    let w : Whole = record { regions = regions; kind = kind; device = d2; outcome = outcome } in
+    each_so (Comes w d1) (ReadsInTurn regions kind d1) [] log (λ b x is. is.0)
+    (all_come regions kind budget d1 d2 outcome log h)
+
+pub tells_in_turn : (regions : List Region) (kind : Kind) (budget : Budget) (d1 d2 : Device)
+    (outcome : Outcome) (log : List Access) → Serves regions kind budget d1 d2 outcome log →
+    Each (TellsInTurn regions kind d1) [] log
+tells_in_turn regions kind budget d1 d2 outcome log h =
+    let w : Whole = record { regions = regions; kind = kind; device = d2; outcome = outcome } in
+    each_so (Comes w d1) (TellsInTurn regions kind d1) [] log (λ b x is. is.1.0)
+    (all_come regions kind budget d1 d2 outcome log h)
+
+pub writes_used : (regions : List Region) (kind : Kind) (budget : Budget) (d1 d2 : Device)
+    (outcome : Outcome) (log : List Access) → Serves regions kind budget d1 d2 outcome log →
+    Each (WritesUsedAlone regions kind d1) [] log
+writes_used regions kind budget d1 d2 outcome log h =
+    let w : Whole = record { regions = regions; kind = kind; device = d2; outcome = outcome } in
+    each_so (Comes w d1) (WritesUsedAlone regions kind d1) [] log (λ b x is. is.1.1)
+    (all_come regions kind budget d1 d2 outcome log h)

@@ -1,0 +1,125 @@
+-- What the accesses of a notice say so far: of the chain that is served, of its queue, and of what
+-- is left to discard.
+use Rattle.std.specs.Prelude.{ℕ, ◌+◌, Bool, true, false, List, [], ◌∷◌, ◌++◌, if◌then◌else◌}
+use Rattle.vb_chain.specs.declared.descriptor.Descriptor.{Descriptor}
+use Rattle.vb_chain.specs.declared.pieces.Piece.{Piece}
+use Rattle.vb_chain.specs.Rules.{has_next, piece_of}
+use Rattle.vb_core.specs.declared.kinds.Kind.{Kind}
+use Rattle.vb_core.specs.declared.kinds.Kind.TheVariants.{Inflate, Deflate, Statistics, Report}
+use Rattle.vb_core.specs.declared.ring.Ring.{Ring}
+use Rattle.vb_core.specs.Rings.{with_taken, with_used}
+use Rattle.vb_monitor.specs.declared.regions.Region.{Region}
+use Rattle.vb_monitor.specs.declared.cuts.Cut.{Cut}
+use Rattle.vb_monitor.specs.declared.parts.Part.{Part}
+use Rattle.vb_monitor.specs.Accesses.{Access, ReadWord, CopyBytes, Acquire, Release, Full}
+use Rattle.vb_monitor.specs.Accesses.{TellPages, TellFigures, Discard, WriteNumber, WriteWord}
+use Rattle.vb_monitor.specs.Giving.{cuts_for}
+use Rattle.vb_monitor.specs.Pieces.{all_parts}
+use Rattle.vb_monitor.specs.Chains.{descriptor_of}
+
+-- Each access of a list may come behind all those before it, of which the last one stands first.
+abbrev pub Each : (List Access → Access → Type 0) → List Access → List Access → Type 0
+Each may before [] = Unit {0}
+Each may before (x ∷ xs) = may before x × Each may (x ∷ before) xs
+
+-- ---- the chain
+
+-- What is known of a chain since its entry was read: its head, the number of the descriptor that is
+-- read next, and the pieces of those that were read; or, of a whole chain, its pieces, the parts of
+-- them that are still to be read, and the bytes of those that were.
+pub data Known : Type 0 where
+  Unknown : Known
+  Walks : (head number : ℕ) (pieces : List Piece) → Known
+  Has : (head : ℕ) (pieces : List Piece) (parts : List Part) (bytes : List ℕ) → Known
+
+-- The parts of pieces that are read: the bytes of a report aren't (VIRTIO 1.1, 5.5.6).
+abbrev pub parts_read : Kind → List Piece → List Part
+parts_read Inflate pieces = all_parts pieces
+parts_read Deflate pieces = all_parts pieces
+parts_read Statistics pieces = all_parts pieces
+parts_read Report pieces = []
+
+-- A descriptor goes on with the one that it names, or it is the chain's last.
+abbrev pub with_descriptor : Bool → Kind → ℕ → List Piece → ℕ → Known
+with_descriptor true kind head pieces next = Walks head next pieces
+with_descriptor false kind head pieces next = Has head pieces (parts_read kind pieces) []
+
+-- What is known once these bytes were copied.
+abbrev pub with_copied : Kind → List ℕ → Known → Known
+with_copied kind bytes Unknown = Unknown
+with_copied kind bytes (Walks head number pieces) =
+    with_descriptor (has_next (descriptor_of bytes)) kind head
+    (pieces ++ piece_of (descriptor_of bytes) ∷ []) (descriptor_of bytes).next
+with_copied kind bytes (Has head pieces [] so_far) = Has head pieces [] so_far
+with_copied kind bytes (Has head pieces (part ∷ parts) so_far) =
+    Has head pieces parts (so_far ++ bytes)
+
+-- An acquire fence stands last.
+abbrev pub is_fenced : List Access → Bool
+is_fenced (Acquire ∷ xs) = true
+is_fenced [] = false
+is_fenced (ReadWord at answer ∷ xs) = false
+is_fenced (CopyBytes at answer ∷ xs) = false
+is_fenced (Release ∷ xs) = false
+is_fenced (Full ∷ xs) = false
+is_fenced (TellPages kind runs ∷ xs) = false
+is_fenced (TellFigures figures ∷ xs) = false
+is_fenced (Discard cut ∷ xs) = false
+is_fenced (WriteNumber at number ∷ xs) = false
+is_fenced (WriteWord at word ∷ xs) = false
+
+-- A word behind an acquire fence is an entry: the head of a chain.
+abbrev pub with_word : Bool → ℕ → Known
+with_word true word = Walks word word []
+with_word false word = Unknown
+
+-- What is known of the chain; nothing, once its index was written.
+abbrev pub known : Kind → List Access → Known
+known kind [] = Unknown
+known kind (ReadWord at answer ∷ xs) = with_word (is_fenced xs) answer
+known kind (CopyBytes at answer ∷ xs) = with_copied kind answer (known kind xs)
+known kind (Acquire ∷ xs) = known kind xs
+known kind (Release ∷ xs) = known kind xs
+known kind (Full ∷ xs) = known kind xs
+known kind (TellPages of runs ∷ xs) = known kind xs
+known kind (TellFigures figures ∷ xs) = known kind xs
+known kind (Discard cut ∷ xs) = known kind xs
+known kind (WriteNumber at number ∷ xs) = known kind xs
+known kind (WriteWord at word ∷ xs) = Unknown
+
+-- ---- the queue
+
+-- How far the device is in a ring: one more entry is taken where a chain's pages or figures are
+-- told, and one more used where its index is written.
+abbrev pub ring_after : Ring → List Access → Ring
+ring_after r [] = r
+ring_after r (ReadWord at answer ∷ xs) = ring_after r xs
+ring_after r (CopyBytes at answer ∷ xs) = ring_after r xs
+ring_after r (Acquire ∷ xs) = ring_after r xs
+ring_after r (Release ∷ xs) = ring_after r xs
+ring_after r (Full ∷ xs) = ring_after r xs
+ring_after r (TellPages kind runs ∷ xs) = with_taken (ring_after r xs)
+ring_after r (TellFigures figures ∷ xs) = with_taken (ring_after r xs)
+ring_after r (Discard cut ∷ xs) = ring_after r xs
+ring_after r (WriteNumber at number ∷ xs) = ring_after r xs
+ring_after r (WriteWord at word ∷ xs) = with_used (ring_after r xs)
+
+-- ---- what is left to discard
+
+abbrev pub without_first : List Cut → List Cut
+without_first [] = []
+without_first (cut ∷ cuts) = cuts
+
+-- The parts of the pages that were told last that are still to be discarded.
+abbrev pub left : List Region → List Access → List Cut
+left regions [] = []
+left regions (ReadWord at answer ∷ xs) = left regions xs
+left regions (CopyBytes at answer ∷ xs) = left regions xs
+left regions (Acquire ∷ xs) = left regions xs
+left regions (Release ∷ xs) = left regions xs
+left regions (Full ∷ xs) = left regions xs
+left regions (TellPages kind runs ∷ xs) = cuts_for kind regions runs
+left regions (TellFigures figures ∷ xs) = left regions xs
+left regions (Discard cut ∷ xs) = without_first (left regions xs)
+left regions (WriteNumber at number ∷ xs) = left regions xs
+left regions (WriteWord at word ∷ xs) = left regions xs

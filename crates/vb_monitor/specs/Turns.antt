@@ -1,0 +1,195 @@
+-- Which access may come, by what those before it say: what is read, told, discarded and written.
+use Rattle.std.specs.Prelude.{◌≡◌, ℕ, ◌+◌, ◌*◌, ◌/◌, Bool, true, false, List, [], ◌∷◌, length}
+use Rattle.std.specs.Prelude.{map, take, Option, Some, None, Result, Ok, Err}
+use Rattle.vb_model.specs.declared.layout.TheConstants.{STATISTIC_SIZE}
+use Rattle.vb_chain.specs.declared.pieces.Piece.{Piece}
+use Rattle.vb_request.specs.Request.{numbers_of}
+use Rattle.vb_request.specs.Report.{report_request}
+use Rattle.vb_core.specs.declared.kinds.Kind.{Kind}
+use Rattle.vb_core.specs.declared.kinds.Kind.TheVariants.{Inflate, Deflate, Statistics, Report}
+use Rattle.vb_core.specs.declared.runs.Run.{Run}
+use Rattle.vb_core.specs.declared.ring.Ring.{Ring}
+use Rattle.vb_core.specs.declared.ring.UsedEntry.{UsedEntry}
+use Rattle.vb_core.specs.declared.statistics.Statistic.{Statistic}
+use Rattle.vb_core.specs.declared.settings.Settings.{Settings}
+use Rattle.vb_core.specs.declared.device.Device.{Device}
+use Rattle.vb_core.specs.Settings.{memory_pages, skips}
+use Rattle.vb_core.specs.Rings.{used_entry}
+use Rattle.vb_core.specs.Runs.{Tell}
+use Rattle.vb_core.specs.Devices.{ring_of}
+use Rattle.vb_core.specs.Name.{fault_in, right_numbers}
+use Rattle.vb_core.specs.Report.{run_of}
+use Rattle.vb_core.specs.Statistics.{AreFigures}
+use Rattle.vb_monitor.specs.declared.regions.Region.{Region}
+use Rattle.vb_monitor.specs.declared.regions.Spot.{Spot}
+use Rattle.vb_monitor.specs.declared.cuts.Cut.{Cut}
+use Rattle.vb_monitor.specs.Accesses.{Access, ReadWord, CopyBytes, Acquire, Release, Full}
+use Rattle.vb_monitor.specs.Accesses.{TellPages, TellFigures, Discard, WriteNumber, WriteWord}
+use Rattle.vb_monitor.specs.Regions.{spot}
+use Rattle.vb_monitor.specs.Notices.{entry_offset}
+use Rattle.vb_monitor.specs.SoFar.{Known, Unknown, Walks, Has, known, ring_after, left}
+
+-- ---- what is read
+
+-- Where the word lies that is read next: behind an acquire fence it is the entry that is taken
+-- next, behind a full fence the driver's flags, and else the available index (VIRTIO 1.1, 2.6.6).
+abbrev pub word_at : Ring → List Access → ℕ
+word_at r (Acquire ∷ xs) = r.avail + entry_offset r
+word_at r (Full ∷ xs) = r.avail
+word_at r [] = r.avail + 2
+word_at r (ReadWord at answer ∷ xs) = r.avail + 2
+word_at r (CopyBytes at answer ∷ xs) = r.avail + 2
+word_at r (Release ∷ xs) = r.avail + 2
+word_at r (TellPages kind runs ∷ xs) = r.avail + 2
+word_at r (TellFigures figures ∷ xs) = r.avail + 2
+word_at r (Discard cut ∷ xs) = r.avail + 2
+word_at r (WriteNumber at number ∷ xs) = r.avail + 2
+word_at r (WriteWord at word ∷ xs) = r.avail + 2
+
+-- So many bytes from an address on are copied.
+pub record CopiesFrom (regions : List Region) (a len : ℕ) (at : Spot) (bytes : List ℕ) : Type 0
+  where
+    pub place : spot regions a len ≡ Some at
+    pub long : length bytes ≡ len
+
+-- Of a chain the descriptor is copied that the one before names, 16 bytes; once it is whole, the
+-- next part of its pieces.
+abbrev pub CopiesNext : List Region → ℕ → Known → Spot → List ℕ → Type 0
+CopiesNext regions table Unknown at bytes = ⊥
+CopiesNext regions table (Walks head number pieces) at bytes =
+    CopiesFrom regions (table + 16 * number) 16 at bytes
+CopiesNext regions table (Has head pieces [] so_far) at bytes = ⊥
+CopiesNext regions table (Has head pieces (part ∷ parts) so_far) at bytes =
+    CopiesFrom regions (part.address + part.plus) part.length at bytes
+
+-- What is read comes in its turn: each entry, each descriptor and each part of a piece has one.
+abbrev pub ReadsInTurn : List Region → Kind → Device → List Access → Access → Type 0
+ReadsInTurn regions kind d before (ReadWord at answer) =
+    spot regions (word_at (ring_after (ring_of kind d) before) before) 2 ≡ Some at
+ReadsInTurn regions kind d before (CopyBytes at answer) =
+    CopiesNext regions (ring_after (ring_of kind d) before).table (known kind before) at answer
+ReadsInTurn regions kind d before Acquire = Unit {0}
+ReadsInTurn regions kind d before Release = Unit {0}
+ReadsInTurn regions kind d before Full = Unit {0}
+ReadsInTurn regions kind d before (TellPages of runs) = Unit {0}
+ReadsInTurn regions kind d before (TellFigures figures) = Unit {0}
+ReadsInTurn regions kind d before (Discard cut) = Unit {0}
+ReadsInTurn regions kind d before (WriteNumber at number) = Unit {0}
+ReadsInTurn regions kind d before (WriteWord at word) = Unit {0}
+
+-- ---- what is told and discarded
+
+-- The runs tell the pages that the numbers in these bytes name: each that may be named, in their
+-- order; one that may not is skipped where the device skips such numbers, and else none is there.
+pub record TellNumbers (s : Settings) (bytes : List ℕ) (runs : List Run) : Type 0 where
+  pub sound : fault_in (skips s) s.reserved_pages (memory_pages s) (numbers_of bytes) ≡ None
+  pub tell : Tell runs (right_numbers s.reserved_pages (memory_pages s) (numbers_of bytes))
+
+-- The runs are the pages of these pieces, which are a report.
+pub record TellPieces (s : Settings) (pieces : List Piece) (runs : List Run) : Type 0 where
+  pub pages : List ℕ
+  pub sound : report_request pieces s.reserved_pages ≡ Ok pages
+  pub are : runs ≡ map run_of pieces
+
+abbrev pub TellNamed : Kind → Settings → List Piece → List ℕ → List Run → Type 0
+TellNamed Inflate s pieces bytes runs = TellNumbers s bytes runs
+TellNamed Deflate s pieces bytes runs = TellNumbers s bytes runs
+TellNamed Statistics s pieces bytes runs = ⊥
+TellNamed Report s pieces bytes runs = TellPieces s pieces runs
+
+-- Pages are told once all of a chain was read: those that the bytes name that were copied since its
+-- entry was read, or the pieces of a report.
+abbrev pub TellsOf : Kind → Settings → Known → List Run → Type 0
+TellsOf kind s Unknown runs = ⊥
+TellsOf kind s (Walks head number pieces) runs = ⊥
+TellsOf kind s (Has head pieces [] bytes) runs = TellNamed kind s pieces bytes runs
+TellsOf kind s (Has head pieces (part ∷ parts) bytes) runs = ⊥
+
+-- The figures that stand in these bytes.
+pub record TellFiguresOf (bytes : List ℕ) (told : List Statistic) : Type 0 where
+  pub figures : List Statistic
+  pub are : AreFigures bytes figures
+  pub so_many : told ≡ take (length bytes / STATISTIC_SIZE) figures
+
+abbrev pub FiguresOf : Known → List Statistic → Type 0
+FiguresOf Unknown figures = ⊥
+FiguresOf (Walks head number pieces) figures = ⊥
+FiguresOf (Has head pieces [] bytes) figures = TellFiguresOf bytes figures
+FiguresOf (Has head pieces (part ∷ parts) bytes) figures = ⊥
+
+-- The part is the next one that is left.
+abbrev pub IsNext : Cut → List Cut → Type 0
+IsNext cut [] = ⊥
+IsNext cut (next ∷ others) = cut ≡ next
+
+-- Pages and figures are told of what was copied, and of pages that were told those parts are
+-- discarded that may be, in their order; all of them before an element is written.
+abbrev pub TellsInTurn : List Region → Kind → Device → List Access → Access → Type 0
+TellsInTurn regions kind d before (TellPages of runs) =
+    (of ≡ kind) × TellsOf kind d.settings (known kind before) runs
+TellsInTurn regions kind d before (TellFigures figures) =
+    (kind ≡ Statistics) × FiguresOf (known kind before) figures
+TellsInTurn regions kind d before (Discard cut) = IsNext cut (left regions before)
+TellsInTurn regions kind d before (WriteNumber at number) = left regions before ≡ []
+TellsInTurn regions kind d before (ReadWord at answer) = Unit {0}
+TellsInTurn regions kind d before (CopyBytes at answer) = Unit {0}
+TellsInTurn regions kind d before Acquire = Unit {0}
+TellsInTurn regions kind d before Release = Unit {0}
+TellsInTurn regions kind d before Full = Unit {0}
+TellsInTurn regions kind d before (WriteWord at word) = Unit {0}
+
+-- ---- what is written
+
+-- A number was written last.
+abbrev pub ends_in_number : List Access → Bool
+ends_in_number (WriteNumber at number ∷ xs) = true
+ends_in_number [] = false
+ends_in_number (ReadWord at answer ∷ xs) = false
+ends_in_number (CopyBytes at answer ∷ xs) = false
+ends_in_number (Acquire ∷ xs) = false
+ends_in_number (Release ∷ xs) = false
+ends_in_number (Full ∷ xs) = false
+ends_in_number (TellPages kind runs ∷ xs) = false
+ends_in_number (TellFigures figures ∷ xs) = false
+ends_in_number (Discard cut ∷ xs) = false
+ends_in_number (WriteWord at word ∷ xs) = false
+
+-- The number is a used element's: the length behind the id (VIRTIO 1.1, 2.6.8).
+abbrev pub IsNumberOf : Bool → List Region → UsedEntry → Spot → ℕ → Type 0
+IsNumberOf false regions e at n = (spot regions e.element_at 4 ≡ Some at) × (n ≡ e.id)
+IsNumberOf true regions e at n = (spot regions (e.element_at + 4) 4 ≡ Some at) × (n ≡ e.length)
+
+-- The word is the index behind the element.
+abbrev pub IsIndexOf : List Region → UsedEntry → Spot → ℕ → Type 0
+IsIndexOf regions e at n = (spot regions e.index_at 2 ≡ Some at) × (n ≡ e.index)
+
+-- An element is written for a chain alone of which all was read, and it has the chain's head: the
+-- entry that was read.
+abbrev pub NumberFor : Known → Bool → List Region → Ring → Spot → ℕ → Type 0
+NumberFor Unknown second regions r at n = ⊥
+NumberFor (Walks head number pieces) second regions r at n = ⊥
+NumberFor (Has head pieces [] bytes) second regions r at n =
+    IsNumberOf second regions (used_entry r head) at n
+NumberFor (Has head pieces (part ∷ parts) bytes) second regions r at n = ⊥
+
+abbrev pub IndexFor : Known → List Region → Ring → Spot → ℕ → Type 0
+IndexFor Unknown regions r at n = ⊥
+IndexFor (Walks head number pieces) regions r at n = ⊥
+IndexFor (Has head pieces [] bytes) regions r at n = IsIndexOf regions (used_entry r head) at n
+IndexFor (Has head pieces (part ∷ parts) bytes) regions r at n = ⊥
+
+-- Nothing is written but the next used element of the queue's ring, and the index behind it.
+abbrev pub WritesUsedAlone : List Region → Kind → Device → List Access → Access → Type 0
+WritesUsedAlone regions kind d before (WriteNumber at n) =
+    NumberFor (known kind before) (ends_in_number before) regions
+    (ring_after (ring_of kind d) before) at n
+WritesUsedAlone regions kind d before (WriteWord at n) =
+    IndexFor (known kind before) regions (ring_after (ring_of kind d) before) at n
+WritesUsedAlone regions kind d before (ReadWord at answer) = Unit {0}
+WritesUsedAlone regions kind d before (CopyBytes at answer) = Unit {0}
+WritesUsedAlone regions kind d before Acquire = Unit {0}
+WritesUsedAlone regions kind d before Release = Unit {0}
+WritesUsedAlone regions kind d before Full = Unit {0}
+WritesUsedAlone regions kind d before (TellPages of runs) = Unit {0}
+WritesUsedAlone regions kind d before (TellFigures figures) = Unit {0}
+WritesUsedAlone regions kind d before (Discard cut) = Unit {0}
