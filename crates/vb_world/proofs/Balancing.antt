@@ -17,7 +17,7 @@ use Rattle.vb_model.specs.World.{World, guest_at, with_guest}
 use Rattle.vb_model.specs.HostEvents.{WorldStep, with_targets, needs}
 use Rattle.vb_model.specs.HostRefusals.{plugged_count}
 use Rattle.vb_model.proofs.Tables.{count_by-cons}
-use Rattle.vb_slot.proofs.Standing.{KeeperMoves}
+use Rattle.vb_world.proofs.KeeperFrames.{KeeperMoves}
 use Rattle.vb_world.specs.Hosts.{IsHost}
 use Rattle.vb_world.proofs.Calls.{guest_of, no_guest, host_with}
 use Rattle.vb_world.proofs.Aiming.{nobody, first_of, first_more, need_of, need_at, first_few, all_needs}

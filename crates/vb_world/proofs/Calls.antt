@@ -27,7 +27,7 @@ use Rattle.vb_frames.proofs.Returns.{same_gives}
 use Rattle.vb_frames.proofs.Least.{table_gives}
 use Rattle.vb_model.specs.Limits.{max_guests}
 use Rattle.vb_slot.specs.Steps.{StepsWithKeeper, AreOut, backing_count}
-use Rattle.vb_slot.proofs.Standing.{KeeperMoves}
+use Rattle.vb_world.proofs.KeeperFrames.{KeeperMoves}
 use Rattle.vb_world.specs.Hosts.{IsHost, StandsAt, backing_at}
 use Rattle.vb_world.proofs.Guests.{backing-with, backing-part, count-with, backs_out, out_backs}
 use Rattle.vb_world.proofs.Frames.{used_are_out}

@@ -1,3 +1,4 @@
+pub mod KeeperFrames
 pub mod Guests
 pub mod Frames
 pub mod Calls

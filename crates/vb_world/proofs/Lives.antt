@@ -12,7 +12,7 @@ use Rattle.vb_model.specs.HostEvents.{WorldStep}
 use Rattle.vb_model.specs.HostRefusals.{plugged_count}
 use Rattle.vb_slot.specs.Steps.{AllReturn, backing_count}
 use Rattle.vb_slot.specs.Supply.{Supply, nothing}
-use Rattle.vb_slot.proofs.Standing.{KeeperMoves, moves_asked}
+use Rattle.vb_world.proofs.KeeperFrames.{KeeperMoves, moves_asked}
 use Rattle.vb_slot.proofs.Fresh.{backs_none}
 use Rattle.vb_world.specs.Hosts.{IsHost, backing_at}
 use Rattle.vb_world.proofs.Guests.{count-with}

@@ -1,5 +1,5 @@
 use Rattle.std.proofs.Common.{sym, false}
-use Rattle.vb_slot.proofs.Standing.{steps_asked}
+use Rattle.vb_world.proofs.KeeperFrames.{steps_asked}
 use Rattle.vb_world.proofs.Calls.{guest_step, guest_frames, guest_of, no_guest_step}
 use Rattle.vb_world.proofs.world.World.call.Goals as goal
 
