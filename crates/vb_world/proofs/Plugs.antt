@@ -267,7 +267,10 @@ module _ {S D : Type 0} (Stand : S → Guest → Type 0) (Spare : D → Bool →
           → (length ps == 0) ≡ false
       some_left [] ps h e = absurd (omega (arith, e))
       some_left (d ∷ ds) [] h e = absurd h
-      some_left (d ∷ ds) (p ∷ ps) h e = refl
+      some_left (d ∷ ds) (p ∷ ps) h e = elim (eqb_tells (length (p ∷ ps)) 0) [
+        | inl same ↦ absurd (omega (arith, same.1))
+        | inr other ↦ other.0
+      ]
 
 pub none_there : {n : ℕ} → true ≡ (n == 0) → n ≡ 0
 none_there {n = n} e = elim (eqb_tells n 0) [
