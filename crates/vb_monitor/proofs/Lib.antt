@@ -15,4 +15,3 @@ pub mod TurnLemmas
 pub mod NamedLemmas
 pub mod TurnRows
 pub mod TurnLaws
-mod TurnFacts
