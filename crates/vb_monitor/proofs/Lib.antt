@@ -15,3 +15,5 @@ pub mod TurnLemmas
 pub mod NamedLemmas
 pub mod TurnRows
 pub mod TurnLaws
+pub mod AskingLemmas
+pub mod PartsOfRunLemmas
