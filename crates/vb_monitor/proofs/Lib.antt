@@ -15,4 +15,5 @@ pub mod TurnLemmas
 pub mod NamedLemmas
 pub mod TurnRows
 pub mod TurnLaws
-mod TurnFacts
+pub mod AskingLemmas
+pub mod PartsOfRunLemmas

@@ -22,8 +22,8 @@ use Rattle.vb_monitor.specs.Ends.{Whole}
 use Rattle.vb_monitor.specs.Giving.{Then}
 use Rattle.vb_monitor.specs.Chains.{ServesPieces, GoesOn, DescriptorBy, DescriptorAt, Follows, table_fault, descriptor_of, descriptors, memory_end}
 use Rattle.vb_monitor.specs.Notices.{HeadBy, EntryAt, entry_offset, stands, AfterIndex, IndexAt, LooksBy, AfterGiven, TakesUnlessSpent, TakesNext, Looks, with_chains, Serves, fresh}
-use Rattle.vb_monitor.specs.SoFar.{Each, Known, Walks, Has, known, ring_after, with_descriptor, with_copied}
-use Rattle.vb_monitor.specs.Turns.{word_at, CopiesNext, ReadsInTurn, TellsInTurn, WritesUsedAlone}
+use Rattle.vb_monitor.specs.SoFar.{Each, Known, Unknown, Walks, Has, known, ring_after, is_fenced, with_word, with_descriptor, with_copied}
+use Rattle.vb_monitor.specs.Turns.{is_over, ends_in_full, ReadsWord, CopiesNext, ReadsInTurn, TellsInTurn, WritesUsedAlone}
 use Rattle.vb_monitor.proofs.TurnLemmas.{Comes, Agrees, flags_of, ends_each, breaks_each, After}
 use Rattle.vb_monitor.proofs.TurnRows.{Begun, pieces_each}
 
@@ -83,7 +83,8 @@ descriptor_at w d0 d t head number on done more last writing pieces (Some at) b 
       descriptor_by w d0 d t head on done more last
           (table_fault (descriptors (ring_of w.kind d)) (memory_end d) writing (length pieces)
           (descriptor_of h.bytes)) writing (descriptor_of h.bytes) pieces
-          (CopyBytes at h.bytes ∷ b) h.rest (record { ring = is.ring; settings = is.settings })
+          (CopyBytes at h.bytes ∷ b) h.rest
+          (record { ring = is.ring; settings = is.settings; lasts = refl })
           (ap (λ (k : Known). with_copied w.kind h.bytes k) read) h.goes_on,
     )
 
@@ -116,12 +117,12 @@ head_each w d0 next on d t head true b log is read h =
 
 entry_each : (w : Whole) (d0 : Device) (next : Then) (on : After w d0 next) (d : Device)
     (t : Tally) (o : Option Spot) (b log : List Access) → Agrees w d0 b d →
-    spot w.regions ((ring_of w.kind d).avail + entry_offset (ring_of w.kind d)) 2 ≡ o →
+    known w.kind b ≡ Unknown → spot w.regions ((ring_of w.kind d).avail + entry_offset (ring_of w.kind d)) 2 ≡ o →
     EntryAt w next d t o log → Each (Comes w d0) b log
-entry_each w d0 next on d t None b log is e h = breaks_each w d0 d t _ b log is h
-entry_each w d0 next on d t (Some at) b log is e h =
+entry_each w d0 next on d t None b log is new e h = breaks_each w d0 d t _ b log is h
+entry_each w d0 next on d t (Some at) b log is new e h =
     subst (λ (l : List Access). Each (Comes w d0) b l) (sym h.asks) (
-      (tt, (tt, tt)),
+      ((new, is.lasts), (tt, tt)),
       (
         (
           subst (λ (r : Ring). spot w.regions (r.avail + entry_offset r) 2 ≡ Some at) is.ring e,
@@ -129,34 +130,39 @@ entry_each w d0 next on d t (Some at) b log is e h =
         ),
         head_each w d0 next on d t h.head (nat_lt h.head (descriptors (ring_of w.kind d)))
             (ReadWord at h.head ∷ Acquire ∷ b) h.rest
-            (record { ring = is.ring; settings = is.settings }) refl h.goes_on,
+            (record { ring = is.ring; settings = is.settings; lasts = refl }) refl h.goes_on,
       ),
     )
 
 unless_spent : (w : Whole) (d0 : Device) (next : Then) (on : After w d0 next) (d : Device)
     (t : Tally) (spent : Bool) (b log : List Access) → Agrees w d0 b d →
-    TakesUnlessSpent spent w next d t log → Each (Comes w d0) b log
-unless_spent w d0 next on d t true b log is h =
+    known w.kind b ≡ Unknown → TakesUnlessSpent spent w next d t log → Each (Comes w d0) b log
+unless_spent w d0 next on d t true b log is new h =
     ends_each w d0 d t _ true b log (flags_of w d0 b d is) h
-unless_spent w d0 next on d t false b log is h =
+unless_spent w d0 next on d t false b log is new h =
     entry_each w d0 next on d t
-    (spot w.regions ((ring_of w.kind d).avail + entry_offset (ring_of w.kind d)) 2) b log is refl h
+    (spot w.regions ((ring_of w.kind d).avail + entry_offset (ring_of w.kind d)) 2) b log is new refl
+    h
 
 abbrev Taken : Whole → Device → Device → (List Access → Type 0) → Type 0
 Taken w d0 d takes =
-    (b rest : List Access) → Agrees w d0 b d → takes rest → Each (Comes w d0) b rest
+    (b rest : List Access) → Agrees w d0 b d → known w.kind b ≡ Unknown → takes rest →
+    Each (Comes w d0) b rest
 
 index_by : (w : Whole) (d0 d : Device) (t : Tally) (takes : List Access → Type 0)
     (on : Taken w d0 d takes) (there : Result Bool ChainFault) (b log : List Access) →
-    Agrees w d0 b d → AfterIndex there w takes d t log → Each (Comes w d0) b log
-index_by w d0 d t takes on (Err fault) b log is h = breaks_each w d0 d t _ b log is h
-index_by w d0 d t takes on (Ok false) b log is h =
+    Agrees w d0 b d → known w.kind b ≡ Unknown → AfterIndex there w takes d t log → Each (Comes w d0) b log
+index_by w d0 d t takes on (Err fault) b log is new h = breaks_each w d0 d t _ b log is h
+index_by w d0 d t takes on (Ok false) b log is new h =
     ends_each w d0 d t _ false b log (flags_of w d0 b d is) h
-index_by w d0 d t takes on (Ok true) b log is h = on b log is h
+index_by w d0 d t takes on (Ok true) b log is new h = on b log is new h
 
 -- behind these accesses the index is read
-abbrev Looked : List Access → Type 0
-Looked b = (r : Ring) → word_at r b ≡ r.avail + 2
+pub record Looked (b : List Access) : Type 0 where
+  pub word : (regions : List Region) (r : Ring) (at : Spot) →
+      spot regions (r.avail + 2) 2 ≡ Some at → ReadsWord regions r b at
+  pub unfenced : is_fenced b ≡ false
+  pub lasts : ends_in_full b ≡ false
 
 index_at : (w : Whole) (d0 d : Device) (t : Tally) (takes : List Access → Type 0)
     (on : Taken w d0 d takes) (o : Option Spot) (b log : List Access) → Agrees w d0 b d →
@@ -166,13 +172,13 @@ index_at w d0 d t takes on None b log is looked e h = breaks_each w d0 d t _ b l
 index_at w d0 d t takes on (Some at) b log is looked e h =
     subst (λ (l : List Access). Each (Comes w d0) b l) (sym h.asks) (
       (
-        subst (λ (a : ℕ). spot w.regions a 2 ≡ Some at)
-            (sym (looked (ring_after (ring_of w.kind d0) b)))
+        looked.word w.regions (ring_after (ring_of w.kind d0) b) at
             (subst (λ (r : Ring). spot w.regions (r.avail + 2) 2 ≡ Some at) is.ring e),
         (tt, tt),
       ),
       index_by w d0 d t takes on (stands (ring_of w.kind d) h.index) (ReadWord at h.index ∷ b)
-          h.rest (record { ring = is.ring; settings = is.settings }) h.goes_on,
+          h.rest (record { ring = is.ring; settings = is.settings; lasts = looked.lasts })
+          (ap (λ (fenced : Bool). with_word fenced h.index) looked.unfenced) h.goes_on,
     )
 
 looks_by : (w : Whole) (d0 d : Device) (t : Tally) (takes : List Access → Type 0)
@@ -194,18 +200,19 @@ given_each w d0 Statistics looks on d t at n b rest is h =
 given_each w d0 Report looks on d t at n b rest is h = on d t at n b rest is h
 
 takes_each : (n : ℕ) (w : Whole) (d0 d : Device) (t : Tally) → Taken w d0 d (TakesNext n w d t)
-takes_each zero w d0 d t b log is h =
+takes_each zero w d0 d t b log is new h =
     ends_each w d0 d t _ true b log (flags_of w d0 b d is) h
-takes_each (suc n) w d0 d t b log is h =
+takes_each (suc n) w d0 d t b log is new h =
     unless_spent w d0
     (AfterGiven w.kind w (λ d2 t2 rest. LooksBy (queue_denial w.kind d2) w (TakesNext n w d2 t2) d2
     t2 rest))
     (given_each w d0 w.kind
     (λ d2 t2 rest. LooksBy (queue_denial w.kind d2) w (TakesNext n w d2 t2) d2 t2 rest)
     (λ d2 t2 at n2 b2 rest is2 more. looks_by w d0 d2 t2 (TakesNext n w d2 t2)
-    (λ b3 rest3 is3 go. takes_each n w d0 d2 t2 b3 rest3 is3 go) (queue_denial w.kind d2)
-    (WriteWord at n2 ∷ b2) rest is2 (λ r. refl) more))
-    d (with_chains n t) (t.pages == 0) b log is h
+    (λ b3 rest3 is3 new3 go. takes_each n w d0 d2 t2 b3 rest3 is3 new3 go) (queue_denial w.kind d2)
+    (WriteWord at n2 ∷ b2) rest is2
+    (record { word = λ rs r at3 e. e; unfenced = refl; lasts = refl }) more))
+    d (with_chains n t) (t.pages == 0) b log is new h
 
 -- ---- the laws
 
@@ -215,8 +222,9 @@ all_come : (regions : List Region) (kind : Kind) (budget : Budget) (d1 d2 : Devi
 all_come regions kind budget d1 d2 outcome log h =
     let w : Whole = record { regions = regions; kind = kind; device = d2; outcome = outcome } in
     looks_by w d1 d1 (fresh budget) (TakesNext budget.chains w d1 (fresh budget))
-    (λ b rest is go. takes_each budget.chains w d1 d1 (fresh budget) b rest is go)
-    (queue_denial kind d1) [] log (record { ring = refl; settings = refl }) (λ r. refl) h
+    (λ b rest is new go. takes_each budget.chains w d1 d1 (fresh budget) b rest is new go)
+    (queue_denial kind d1) [] log (record { ring = refl; settings = refl; lasts = refl })
+    (record { word = λ rs r at e. e; unfenced = refl; lasts = refl }) h
 
 each_so : (may so : List Access → Access → Type 0) (b log : List Access) →
     ((before : List Access) (x : Access) → may before x → so before x) → Each may b log →

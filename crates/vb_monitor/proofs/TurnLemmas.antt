@@ -27,7 +27,7 @@ use Rattle.vb_monitor.specs.Regions.{spot}
 use Rattle.vb_monitor.specs.Ends.{Whole, Ends, EndsWhere, FlagsAt, Breaks}
 use Rattle.vb_monitor.specs.Giving.{Then, three_spots, UsedAt, GivesBack, GivesBackBy, with_given, after_use, cuts_for, TellsThen, AfterName}
 use Rattle.vb_monitor.specs.SoFar.{Each, Known, Unknown, Walks, Has, known, ring_after, left, without_first}
-use Rattle.vb_monitor.specs.Turns.{word_at, ReadsInTurn, TellsOf, TellNamed, TellsInTurn, IsNext, ends_in_number, NumberFor, IndexFor, WritesUsedAlone}
+use Rattle.vb_monitor.specs.Turns.{is_over, ReadsInTurn, TellsOf, TellNamed, TellsInTurn, IsNext, ends_in_number, NumberFor, IndexFor, WritesUsedAlone}
 
 -- the access comes in its turn
 abbrev pub Comes : Whole → Device → List Access → Access → Type 0
@@ -39,6 +39,7 @@ Comes w d0 before x =
 pub record Agrees (w : Whole) (d0 : Device) (before : List Access) (d : Device) : Type 0 where
   pub ring : ring_of w.kind d ≡ ring_after (ring_of w.kind d0) before
   pub settings : d.settings ≡ d0.settings
+  pub lasts : is_over before ≡ false
 
 none_left : (may : List Access → Access → Type 0) (b : List Access) (log : List Access) →
     log ≡ [] → Each may b log
@@ -80,39 +81,45 @@ used_settings Report d = refl
 
 pub one_taken : (w : Whole) (d0 : Device) (b c : List Access) (d : Device) → Agrees w d0 b d →
     ring_after (ring_of w.kind d0) c ≡ with_taken (ring_after (ring_of w.kind d0) b) →
-    Agrees w d0 c (with_one_taken w.kind d)
-one_taken w d0 b c d is e = record {
+    is_over c ≡ false → Agrees w d0 c (with_one_taken w.kind d)
+one_taken w d0 b c d is e lasts = record {
   ring = taken_ring w.kind d ∙ (ap (λ (r : Ring). with_taken r) is.ring ∙ sym e);
   settings = taken_settings w.kind d ∙ is.settings;
+  lasts = lasts;
 }
 
 one_used : (w : Whole) (d0 : Device) (b c : List Access) (d : Device) → Agrees w d0 b d →
     ring_after (ring_of w.kind d0) c ≡ with_used (ring_after (ring_of w.kind d0) b) →
-    Agrees w d0 c (after_use w.kind d)
-one_used w d0 b c d is e = record {
+    is_over c ≡ false → Agrees w d0 c (after_use w.kind d)
+one_used w d0 b c d is e lasts = record {
   ring = used_ring w.kind d ∙ (ap (λ (r : Ring). with_used r) is.ring ∙ sym e);
   settings = used_settings w.kind d ∙ is.settings;
+  lasts = lasts;
 }
 
 -- ---- the end
 
--- the flags lie where the queue's are
+-- the flags lie where the queue's are, and weren't read yet
 abbrev pub Flags : Whole → Device → List Access → Device → Type 0
-Flags w d0 b d = (ring_of w.kind d).avail ≡ (ring_after (ring_of w.kind d0) b).avail
+Flags w d0 b d =
+    ((ring_of w.kind d).avail ≡ (ring_after (ring_of w.kind d0) b).avail) × (is_over b ≡ false)
 
 pub flags_of : (w : Whole) (d0 : Device) (b : List Access) (d : Device) → Agrees w d0 b d →
     Flags w d0 b d
-flags_of w d0 b d is = ap (λ (r : Ring). r.avail) is.ring
+flags_of w d0 b d is = (ap (λ (r : Ring). r.avail) is.ring, is.lasts)
 
 pub broken : (w : Whole) (d0 : Device) (b : List Access) (d : Device) → Agrees w d0 b d →
     Flags w d0 b (needing_reset d)
-broken w d0 b d is = ap (λ (r : Ring). r.avail) (same_ring w.kind d ∙ is.ring)
+broken w d0 b d is =
+    (ap (λ (r : Ring). r.avail) (same_ring w.kind d ∙ is.ring), is.lasts)
 
 broken_use : (w : Whole) (d0 : Device) (b : List Access) (d : Device) → Agrees w d0 b d →
     Flags w d0 b (needing_reset (after_use w.kind d))
-broken_use w d0 b d is =
-    ap (λ (r : Ring). r.avail) (same_ring w.kind (after_use w.kind d))
-    ∙ (ap (λ (r : Ring). r.avail) (used_ring w.kind d) ∙ flags_of w d0 b d is)
+broken_use w d0 b d is = (
+  ap (λ (r : Ring). r.avail) (same_ring w.kind (after_use w.kind d))
+      ∙ (ap (λ (r : Ring). r.avail) (used_ring w.kind d) ∙ (flags_of w d0 b d is).0),
+  is.lasts,
+)
 
 flags_each : (w : Whole) (d0 d : Device) (t : Tally) (why : Option Denial) (more : Bool)
     (o : Option Spot) (b : List Access) (log : List Access) → Flags w d0 b d →
@@ -121,9 +128,9 @@ flags_each : (w : Whole) (d0 d : Device) (t : Tally) (why : Option Denial) (more
 flags_each w d0 d t why more None b log is e h = none_left (Comes w d0) b log h.nothing
 flags_each w d0 d t why more (Some at) b log is e h =
     subst (λ (l : List Access). Each (Comes w d0) b l) (sym h.asks) (
-      (tt, (tt, tt)),
+      (is.1, (tt, tt)),
       (
-        (subst (λ (a : ℕ). spot w.regions a 2 ≡ Some at) is e, (tt, tt)),
+        (subst (λ (a : ℕ). spot w.regions a 2 ≡ Some at) is.0 e, (tt, tt)),
         none_left (Comes w d0) (ReadWord at h.flags ∷ Full ∷ b) h.rest h.then_stops.nothing,
       ),
     )
@@ -202,8 +209,6 @@ used_each w d0 next on d t head pieces bytes (Some id) (Some len) (Some index) b
     let e = used_entry (ring_of w.kind d) head in
     let b1 = WriteNumber id e.id ∷ b in
     let b2 = WriteNumber len e.length ∷ b1 in
-    let same : Agrees w d0 b d → Agrees w d0 (Release ∷ b2) d =
-    (λ a. record { ring = a.ring; settings = a.settings }) in
     subst (λ (l : List Access). Each (Comes w d0) b l) (sym h.asks) (
       (
         tt,
@@ -227,7 +232,7 @@ used_each w d0 next on d t head pieces bytes (Some id) (Some len) (Some index) b
               (tt, index_for w d0 d head pieces bytes b index e.index read is (z, refl)),
             ),
             on (after_use w.kind d) (with_given t) index e.index (Release ∷ b2) h.rest
-                (one_used w d0 b (WriteWord index e.index ∷ Release ∷ b2) d is refl) h.goes_on,
+                (one_used w d0 b (WriteWord index e.index ∷ Release ∷ b2) d is refl refl) h.goes_on,
           ),
         ),
       ),
@@ -263,7 +268,7 @@ discards_each w d0 d head pieces bytes [] b rest then_each is read left_so first
 discards_each w d0 d head pieces bytes (cut ∷ cuts) b rest then_each is read left_so first = (
   (tt, (subst (λ (l : List Cut). IsNext cut l) (sym left_so) refl, tt)),
   discards_each w d0 d head pieces bytes cuts (Discard cut ∷ b) rest then_each
-      (record { ring = is.ring; settings = is.settings }) read
+      (record { ring = is.ring; settings = is.settings; lasts = refl }) read
       (ap (λ (l : List Cut). without_first l) left_so) refl,
 )
 
@@ -292,5 +297,5 @@ tells_each w d0 next on d t head pieces bytes runs b log is read named h =
           (cuts_for w.kind w.regions runs) b1 h.discards.rest
           (λ b2 is2 read2 left2 first2. gives_each w d0 next on (with_one_taken w.kind d) t head
           pieces bytes b2 h.discards.rest is2 read2 left2 first2 h.discards.gives_back)
-          (one_taken w d0 b b1 d is refl) read refl refl),
+          (one_taken w d0 b b1 d is refl refl) read refl refl),
     )

@@ -33,7 +33,7 @@ use Rattle.vb_monitor.specs.Pieces.{PartAt, PartBy, fits_behind, CopiesParts, al
 use Rattle.vb_monitor.specs.Chains.{FiguresBy, AfterBytes, NamesBytes, CopiesBy, ServesPieces, GoesOn, DescriptorBy, DescriptorAt, Follows, table_fault, descriptor_of, descriptors, memory_end}
 use Rattle.vb_monitor.specs.Notices.{HeadBy, EntryAt, entry_offset, stands, AfterIndex, IndexAt, LooksBy, AfterGiven, TakesUnlessSpent, TakesNext, Looks, with_chains}
 use Rattle.vb_monitor.specs.SoFar.{Each, Known, Unknown, Walks, Has, known, ring_after, parts_read, with_descriptor, with_copied}
-use Rattle.vb_monitor.specs.Turns.{word_at, CopiesNext, TellNamed, TellNumbers, FiguresOf}
+use Rattle.vb_monitor.specs.Turns.{CopiesNext, TellNamed, TellNumbers, FiguresOf}
 use Rattle.vb_monitor.proofs.TurnLemmas.{Comes, Agrees, Flags, flags_of, ends_each, breaks_each, After, Read, tells_each}
 use Rattle.vb_monitor.proofs.NamedLemmas.{names_avail, pieces_avail, named_numbers, no_report, named_pieces}
 
@@ -90,7 +90,7 @@ figures_each w d0 d t head pieces bytes None b log e is read h =
         ),
       ),
       ends_each w d0 (with_one_taken Statistics d) _ _ false (TellFigures told ∷ b) h.tells.rest
-          (statistics_avail w.kind d ∙ flags_of w d0 b d is) h.tells.ends,
+          (statistics_avail w.kind d ∙ (flags_of w d0 b d is).0, refl) h.tells.ends,
     )
 
 right_of : (w : Whole) (d : Device) (pieces : List Piece) (bytes : List ℕ) (runs : List Run)
@@ -104,7 +104,7 @@ right_of w d pieces bytes runs d2 kind named e x y =
 
 names_flags : (w : Whole) (d0 : Device) (b : List Access) (d d2 : Device) → Agrees w d0 b d →
     (ring_of w.kind d2).avail ≡ (ring_of w.kind d).avail → Flags w d0 b d2
-names_flags w d0 b d d2 is e = e ∙ flags_of w d0 b d is
+names_flags w d0 b d d2 is e = (e ∙ (flags_of w d0 b d is).0, is.lasts)
 
 numbers_right : (w : Whole) (kind : Kind) (d d2 : Device) (pieces : List Piece) (bytes : List ℕ)
     (room : ℕ) (runs : List Run) (answer : Result Named Denial) → w.kind ≡ kind →
@@ -178,7 +178,7 @@ part_at w d0 d t head pieces part parts go on so_far (Some at) b log is read e h
         (tt, tt),
       ),
       on (so_far ++ h.bytes) (CopyBytes at h.bytes ∷ b) h.rest
-          (record { ring = is.ring; settings = is.settings })
+          (record { ring = is.ring; settings = is.settings; lasts = refl })
           (ap (λ (k : Known). with_copied w.kind h.bytes k) read) h.goes_on,
     )
 

@@ -13,3 +13,5 @@ pub mod Places
 pub mod Counts
 pub mod SoFar
 pub mod Turns
+pub mod Asking
+pub mod PartsOfRuns

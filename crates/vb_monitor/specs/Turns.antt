@@ -31,20 +31,49 @@ use Rattle.vb_monitor.specs.SoFar.{Known, Unknown, Walks, Has, known, ring_after
 
 -- ---- what is read
 
--- Where the word lies that is read next: behind an acquire fence it is the entry that is taken
--- next, behind a full fence the driver's flags, and else the available index (VIRTIO 1.1, 2.6.6).
-abbrev pub word_at : Ring → List Access → ℕ
-word_at r (Acquire ∷ xs) = r.avail + entry_offset r
-word_at r (Full ∷ xs) = r.avail
-word_at r [] = r.avail + 2
-word_at r (ReadWord at answer ∷ xs) = r.avail + 2
-word_at r (CopyBytes at answer ∷ xs) = r.avail + 2
-word_at r (Release ∷ xs) = r.avail + 2
-word_at r (TellPages kind runs ∷ xs) = r.avail + 2
-word_at r (TellFigures figures ∷ xs) = r.avail + 2
-word_at r (Discard cut ∷ xs) = r.avail + 2
-word_at r (WriteNumber at number ∷ xs) = r.avail + 2
-word_at r (WriteWord at word ∷ xs) = r.avail + 2
+-- The word that is read next: first of all, and once a chain was given back, the available index;
+-- behind an acquire fence the entry that is taken next, and behind a full fence the driver's flags
+-- (VIRTIO 1.1, 2.6.6 and 2.6.7). Elsewhere none is.
+abbrev pub ReadsWord : List Region → Ring → List Access → Spot → Type 0
+ReadsWord regions r [] at = spot regions (r.avail + 2) 2 ≡ Some at
+ReadsWord regions r (WriteWord before word ∷ xs) at = spot regions (r.avail + 2) 2 ≡ Some at
+ReadsWord regions r (Acquire ∷ xs) at = spot regions (r.avail + entry_offset r) 2 ≡ Some at
+ReadsWord regions r (Full ∷ xs) at = spot regions r.avail 2 ≡ Some at
+ReadsWord regions r (ReadWord before answer ∷ xs) at = ⊥
+ReadsWord regions r (CopyBytes before answer ∷ xs) at = ⊥
+ReadsWord regions r (Release ∷ xs) at = ⊥
+ReadsWord regions r (TellPages kind runs ∷ xs) at = ⊥
+ReadsWord regions r (TellFigures figures ∷ xs) at = ⊥
+ReadsWord regions r (Discard cut ∷ xs) at = ⊥
+ReadsWord regions r (WriteNumber before number ∷ xs) at = ⊥
+
+-- A full fence stands last.
+abbrev pub ends_in_full : List Access → Bool
+ends_in_full (Full ∷ xs) = true
+ends_in_full [] = false
+ends_in_full (ReadWord at answer ∷ xs) = false
+ends_in_full (CopyBytes at answer ∷ xs) = false
+ends_in_full (Acquire ∷ xs) = false
+ends_in_full (Release ∷ xs) = false
+ends_in_full (TellPages kind runs ∷ xs) = false
+ends_in_full (TellFigures figures ∷ xs) = false
+ends_in_full (Discard cut ∷ xs) = false
+ends_in_full (WriteNumber at number ∷ xs) = false
+ends_in_full (WriteWord at word ∷ xs) = false
+
+-- The driver's flags were read last.
+abbrev pub is_over : List Access → Bool
+is_over (ReadWord at answer ∷ xs) = ends_in_full xs
+is_over [] = false
+is_over (CopyBytes at answer ∷ xs) = false
+is_over (Acquire ∷ xs) = false
+is_over (Release ∷ xs) = false
+is_over (Full ∷ xs) = false
+is_over (TellPages kind runs ∷ xs) = false
+is_over (TellFigures figures ∷ xs) = false
+is_over (Discard cut ∷ xs) = false
+is_over (WriteNumber at number ∷ xs) = false
+is_over (WriteWord at word ∷ xs) = false
 
 -- So many bytes from an address on are copied.
 pub record CopiesFrom (regions : List Region) (a len : ℕ) (at : Spot) (bytes : List ℕ) : Type 0
@@ -62,15 +91,17 @@ CopiesNext regions table (Has head pieces [] so_far) at bytes = ⊥
 CopiesNext regions table (Has head pieces (part ∷ parts) so_far) at bytes =
     CopiesFrom regions (part.address + part.plus) part.length at bytes
 
--- What is read comes in its turn: each entry, each descriptor and each part of a piece has one.
+-- What is read comes in its turn: each entry, each descriptor and each part of a piece has one. No
+-- entry is read while another one's chain is served, and nothing behind the flags.
 abbrev pub ReadsInTurn : List Region → Kind → Device → List Access → Access → Type 0
 ReadsInTurn regions kind d before (ReadWord at answer) =
-    spot regions (word_at (ring_after (ring_of kind d) before) before) 2 ≡ Some at
+    ReadsWord regions (ring_after (ring_of kind d) before) before at
 ReadsInTurn regions kind d before (CopyBytes at answer) =
     CopiesNext regions (ring_after (ring_of kind d) before).table (known kind before) at answer
-ReadsInTurn regions kind d before Acquire = Unit {0}
+ReadsInTurn regions kind d before Acquire =
+    (known kind before ≡ Unknown) × (is_over before ≡ false)
 ReadsInTurn regions kind d before Release = Unit {0}
-ReadsInTurn regions kind d before Full = Unit {0}
+ReadsInTurn regions kind d before Full = is_over before ≡ false
 ReadsInTurn regions kind d before (TellPages of runs) = Unit {0}
 ReadsInTurn regions kind d before (TellFigures figures) = Unit {0}
 ReadsInTurn regions kind d before (Discard cut) = Unit {0}

@@ -1,19 +1,21 @@
 //! What the accesses of a notice come to, whatever memory answers.
 
-ghost use Rattle.std.specs.Prelude.{◌+◌, ◌*◌, ◌≤◌, List, [], None, length};
+ghost use Rattle.std.specs.Prelude.{ℕ, ◌+◌, ◌*◌, ◌≤◌, List, [], None, length};
 ghost use Rattle.vb_core.specs.declared.kinds.Kind.{Kind};
 ghost use Rattle.vb_core.specs.declared.device.Device.{Device};
 ghost use Rattle.vb_monitor.specs.declared.regions.Region.{Region};
 ghost use Rattle.vb_monitor.specs.declared.outcome.Budget.{Budget};
 ghost use Rattle.vb_monitor.specs.declared.outcome.Outcome.{Outcome};
 ghost use Rattle.vb_monitor.specs.Accesses.{Access};
-ghost use Rattle.vb_monitor.specs.Notices.{Serves};
+ghost use Rattle.vb_monitor.specs.Notices.{Serves, Asks};
 ghost use Rattle.vb_core.specs.declared.runs.Run.{Run};
 ghost use Rattle.vb_monitor.specs.Regions.{cuts_of};
 ghost use Rattle.vb_monitor.specs.Touched.{Touches};
 ghost use Rattle.vb_monitor.specs.Counts.{others};
 ghost use Rattle.vb_monitor.specs.Order.{Row, MayFollow};
 ghost use Rattle.vb_monitor.specs.SoFar.{Each};
+ghost use Rattle.vb_monitor.specs.Asking.{GivesHeldAlone};
+ghost use Rattle.vb_monitor.specs.PartsOfRuns.{ArePartsOf};
 ghost use Rattle.vb_monitor.specs.Turns.{ReadsInTurn, TellsInTurn, WritesUsedAlone};
 
 /// A notice touches no byte outside its regions: each word and each copy that it reads, each number
@@ -85,4 +87,29 @@ pub fn only_used_elements_are_written()
         (outcome : Outcome) (log : List Access) →
         Serves regions kind budget d1 d2 outcome log →
         Each (WritesUsedAlone regions kind d1) [] log }
+{}
+
+/// What is discarded of runs is whole pages of them, each part within one region, and at its place
+/// in that region's file.
+#[tactic(auto, using(crate::proofs::PartsOfRunLemmas::parts_of_runs))]
+pub fn a_part_is_whole_pages_of_its_run()
+    ensures { (regions : List Region) (runs : List Run) →
+        ArePartsOf regions runs (cuts_of regions runs) }
+{}
+
+/// To ask for new statistics the buffer that is held is given back, and nothing else is done: the
+/// next used element of their queue is written, with the buffer's head, and the index behind it,
+/// and then the driver's flags are read (VIRTIO 1.1, 5.5.6.3). Or nothing is done at all.
+#[tactic(auto, using(crate::proofs::AskingLemmas::gives_held))]
+pub fn asking_gives_the_buffer_back()
+    ensures { (regions : List Region) (head : ℕ) (d1 d2 : Device) (outcome : Outcome)
+        (log : List Access) →
+        Asks regions head d1 d2 outcome log → GivesHeldAlone regions head d1 log }
+{}
+
+/// To ask for new statistics takes 6 accesses at most.
+#[tactic(auto, using(crate::proofs::AskingLemmas::few_to_ask))]
+pub fn asking_makes_few_accesses()
+    ensures { (regions : List Region) (head : ℕ) (d1 d2 : Device) (outcome : Outcome)
+        (log : List Access) → Asks regions head d1 d2 outcome log → length log ≤ 6 }
 {}

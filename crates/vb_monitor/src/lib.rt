@@ -27,7 +27,8 @@ pub use balloon::{Balloon, may_tell};
 pub use cuts::Cut;
 pub use giving::UsedSpots;
 pub use laws::{
-    a_notice_makes_few_accesses, a_run_has_few_parts, accesses_come_in_their_order,
+    a_notice_makes_few_accesses, a_part_is_whole_pages_of_its_run, a_run_has_few_parts,
+    accesses_come_in_their_order, asking_gives_the_buffer_back, asking_makes_few_accesses,
     nothing_outside_the_regions_is_touched, only_named_pages_are_discarded,
     only_used_elements_are_written, what_counts_is_read_once,
 };
