@@ -124,10 +124,10 @@ nothing_to_work_on = record {
 
 -- not one that is done, though the target is as it was
 target_set_again : IsQuiet ready (SetTarget 0) → ⊥
-target_set_again q = let e : true ≡ false = sym q.nothing ∙ ap found_nothing q.step.1 in cc
+target_set_again q = let e : true ≡ false = sym q.nothing ∙ ap found_nothing q.step.1.0 in cc
 
 another_target_set : IsQuiet ready (SetTarget 3) → ⊥
-another_target_set q = let e : Same 0 3 = ap (λ (g : Guest). g.target) q.step.2 in omega arith
+another_target_set q = let e : Same 0 3 = ap (λ (g : Guest). g.target) q.step.1.1 in omega arith
 
 -- ---- a tended guest is honest, and a ready one has its buffer and all of a driver's own features
 
