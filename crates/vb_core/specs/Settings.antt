@@ -1,7 +1,8 @@
 -- What a monitor settles for a device.
 use Rattle.std.specs.Prelude.{ℕ, ◌/◌, Bool, not, ◌==◌, ◌&&◌, nat_le, nat_lt}
+use Rattle.vb_model.specs.declared.negotiation.TheConstants.{OFFERED_FEATURES}
 use Rattle.vb_model.specs.Limits.{page_size}
-use Rattle.vb_model.specs.Guest.{offered_features, version_1}
+use Rattle.vb_model.specs.Guest.{version_1}
 use Rattle.vb_model.specs.Status.{contains}
 use Rattle.vb_core.specs.declared.settings.Settings.{Settings}
 use Rattle.vb_core.specs.declared.settings.TheConstants.{MEMORY_LIMIT, LEAST_MEMORY}
@@ -11,7 +12,7 @@ abbrev pub are_settings : Settings → Bool
 are_settings s =
     nat_le LEAST_MEMORY s.memory_end
     && nat_lt s.memory_end MEMORY_LIMIT
-    && contains offered_features s.offered
+    && contains OFFERED_FEATURES s.offered
     && version_1 s.offered
 
 -- The whole pages of memory.

@@ -2,10 +2,11 @@
 use Rattle.std.proofs.Common.{inl, inr}
 use Rattle.std.proofs.Common.{◌≡◌, ◌≢◌, ◌∙◌, sym, subst, ap, refl, arith, ℕ, ◌<◌, Bool, true}
 use Rattle.std.proofs.Common.{false, not, [], ◌∷◌, None, Some, Result, Ok, Err, is_err, OnOk}
+use Rattle.vb_model.specs.declared.negotiation.TheConstants.{OFFERED_FEATURES}
 use Rattle.vb_model.specs.declared.replies.Refusal.{Refusal}
 use Rattle.vb_model.specs.declared.replies.Refusal.TheVariants.{OutOfOrder, FeatureNotOffered}
 use Rattle.vb_model.specs.declared.replies.Refusal.TheVariants.{VersionMissing}
-use Rattle.vb_model.specs.Guest.{offered_features, version_1}
+use Rattle.vb_model.specs.Guest.{version_1}
 use Rattle.vb_model.specs.Refusals.{◌⇒◌, first_refusal}
 use Rattle.vb_model.specs.Status.{contains, negotiate_refusal, status_refusal, status_tests}
 use Rattle.vb_model.specs.Life.{feature_refusal, accepted_before}
@@ -27,7 +28,7 @@ use Rattle.vb_driver.specs.Calls.{IsNewRing, with_nothing_out}
 -- features that are offered are refused for what FEATURES_OK needs alone
 pub offered_then : (wanted : ℕ) → negotiate_refusal 3 wanted ≡ None
     → feature_refusal wanted ≡ status_refusal 3 wanted 11
-offered_then wanted h = at (contains offered_features wanted) h
+offered_then wanted h = at (contains OFFERED_FEATURES wanted) h
   where
     at : (offered : Bool)
         → first_refusal ((not true ⇒ OutOfOrder) ∷ (not offered ⇒ FeatureNotOffered) ∷ []) ≡ None

@@ -1,6 +1,7 @@
 -- How a driver initialises its device, resets it, and what it keeps then (VIRTIO 1.1, 2.1 and
 -- 3.1.1).
 use Rattle.std.specs.Prelude.{◌≡◌, ℕ, [], map, Result, IfErr, OnOk, Bool, true, false}
+use Rattle.vb_model.specs.declared.negotiation.TheConstants.{FAILED_STATUS, READY_STATUS}
 use Rattle.vb_model.specs.declared.replies.Refusal.{Refusal}
 use Rattle.vb_model.specs.declared.replies.Refusal.TheVariants.{AlreadyUp, NoFrame}
 use Rattle.vb_model.specs.Tests.{pages_where}
@@ -38,7 +39,7 @@ FirstBuffer false m1 m2 d1 d2 =
 -- The rings begin anew in zeroed pages, the first statistics buffer is filled, and the device is
 -- told so: its status is ACKNOWLEDGE, DRIVER, FEATURES_OK and DRIVER_OK (1 + 2 + 8 + 4).
 pub record Starts (m1 m2 : Pages) (p1 p2 : Part) (d1 d2 : DriverState) (wanted : ℕ) : Type 0 where
-  pub part : p2 ≡ record (part_after_reset p1) { status = 15; features = wanted }
+  pub part : p2 ≡ record (part_after_reset p1) { status = READY_STATUS; features = wanted }
   pub driver : d2 ≡ record d1 {
     inflate = fresh_side 0 d1.queue_size;
     deflate = fresh_side 1 d1.queue_size;
@@ -74,7 +75,7 @@ pub record Agrees (m1 m2 : Pages) (p1 p2 : Part) (d1 d2 : DriverState) (wanted :
 pub record GivesUp (m1 m2 : Pages) (p1 p2 : Part) (d1 d2 : DriverState)
     (features : ℕ) : Type 0 where
   pub mem : m2 ≡ m1
-  pub part : p2 ≡ record (part_after_reset p1) { status = 131; features = features }
+  pub part : p2 ≡ record (part_after_reset p1) { status = FAILED_STATUS; features = features }
   pub driver : d2 ≡ record (with_nothing_out d1) { features = features; actual = 0 }
 
 abbrev pub InitRefused : Refusal → Pages → Pages → Part → Part → DriverState → DriverState → ℕ

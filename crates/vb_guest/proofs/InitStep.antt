@@ -6,6 +6,7 @@ use Rattle.std.specs.Prelude.{count_by, refl, ◌⊎◌}
 use Rattle.std.specs.List.{range_with_len, list_all}
 use Rattle.std.proofs.Common.{sym, ◌∙◌, ap, subst, arith, inl, inr}
 use Rattle.std.proofs.lemmas.Bool.{eqb-true, cases_Bool}
+use Rattle.vb_model.specs.declared.negotiation.TheConstants.{OFFERED_FEATURES}
 use Rattle.vb_model.specs.declared.calls.Call.TheVariants.{Init}
 use Rattle.vb_model.specs.declared.calls.Claim.{Claim}
 use Rattle.vb_model.specs.declared.replies.Refusal.{Refusal}
@@ -18,7 +19,7 @@ use Rattle.vb_model.specs.Tests.{is_in}
 use Rattle.vb_model.specs.Limits.{is_between}
 use Rattle.vb_model.specs.Layout.{takes_two_pages, reserved_pages, is_start_page, start_pages}
 use Rattle.vb_model.specs.Guest.{Guest, frame_of, all_backed, version_1}
-use Rattle.vb_model.specs.Guest.{offered_features, stats_vq}
+use Rattle.vb_model.specs.Guest.{stats_vq}
 use Rattle.vb_model.specs.Status.{contains}
 use Rattle.vb_model.specs.Refusals.{◌⇒◌, first_refusal, refusal_of}
 use Rattle.vb_model.specs.Life.{lacking, feature_tests, feature_refusal, accepted_before}
@@ -239,7 +240,7 @@ init_unsupplied Answers out1 out2 l m1 m2 p1 p2 d g wanted why refusal is new di
 refused_feature : (wanted : ℕ) (why : Refusal) → feature_refusal wanted ≡ Some why
     → (why ≡ FeatureNotOffered) ⊎ (why ≡ VersionMissing)
 refused_feature wanted why e =
-    step (not (contains offered_features wanted)) (not (version_1 wanted)) e
+    step (not (contains OFFERED_FEATURES wanted)) (not (version_1 wanted)) e
   where
     step : (a b : Bool)
         → (if a then Some FeatureNotOffered else (if b then Some VersionMissing else None))

@@ -1,6 +1,7 @@
 -- What ties a driver, a device's part and guest memory to a guest of the model.
 use Rattle.std.specs.Prelude.{◌≡◌, ℕ, ◌<◌, ◌≤◌, Bool, false, true, List, Option, [], length}
 use Rattle.std.specs.Prelude.{replicate, slice_index_or, IsSome, ◌⊎◌, All}
+use Rattle.vb_model.specs.declared.negotiation.TheConstants.{FAILED_STATUS, READY_STATUS}
 use Rattle.vb_model.specs.Limits.{is_config, page_size}
 use Rattle.vb_model.specs.Layout.{reserved_pages, is_start_page}
 use Rattle.vb_model.specs.declared.places.Place.{Place}
@@ -107,7 +108,7 @@ pub record HasPages (mem : Pages) (size count : ℕ) (frames : List (Option ℕ)
 -- Before an initialisation, or after one whose features were refused: nothing was asked of the
 -- device.
 pub record IsIdle (g : Guest) : Type 0 where
-  pub state : (g.status ≡ 0) ⊎ (g.status ≡ 131)
+  pub state : (g.status ≡ 0) ⊎ (g.status ≡ FAILED_STATUS)
   pub inflate : g.inflate ≡ no_requests
   pub deflate : g.deflate ≡ no_requests
   pub report : g.report ≡ no_requests
@@ -119,7 +120,7 @@ pub record IsIdle (g : Guest) : Type 0 where
 -- The device is initialised: the pages of rings and buffers have frames, and the four queues stand
 -- there.
 pub record IsRunning (mem : Pages) (part : Part) (d : DriverState) (g : Guest) : Type 0 where
-  pub state : g.status ≡ 15
+  pub state : g.status ≡ READY_STATUS
   pub backed : (page : ℕ) → is_start_page g.config.queue_size page ≡ true
       → IsSome (frame_at mem page)
   pub inflate_size : d.inflate.ring.size ≡ g.config.queue_size

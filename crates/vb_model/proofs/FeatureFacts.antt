@@ -1,14 +1,17 @@
 -- Worked facts of features and of the status.
 use Rattle.std.proofs.Common.{◌≡◌, ℕ, true, false, List, [], ◌∷◌, map, refl}
-use Rattle.std.specs.Prelude.{Bool, Some, None, not, ◌++◌}
+use Rattle.std.specs.Prelude.{Bool, Some, None, not, ◌++◌, ◌+◌}
+use Rattle.vb_model.specs.declared.negotiation.TheConstants.{OFFERED_FEATURES, READY_STATUS}
+use Rattle.vb_model.specs.declared.negotiation.TheConstants.{FAILED_STATUS}
 use Rattle.vb_model.specs.declared.replies.Refusal.TheVariants.{ClearsBit, OutOfOrder}
 use Rattle.vb_model.specs.declared.replies.Refusal.TheVariants.{FeatureNotOffered, VersionMissing}
 use Rattle.vb_model.specs.Tests.{has_bit}
-use Rattle.vb_model.specs.Guest.{offered_features, must_tell_host, stats_vq, deflate_on_oom}
+use Rattle.vb_model.specs.Guest.{must_tell_host, stats_vq, deflate_on_oom}
 use Rattle.vb_model.specs.Guest.{reporting, version_1, is_ready}
 use Rattle.vb_model.specs.FirstRefusal.{◌⇒◌, first_refusal}
 use Rattle.vb_model.specs.Status.{negotiate_refusal, status_refusal, negotiate_tests, status_tests}
-use Rattle.vb_model.specs.Status.{needed_tests, contains}
+use Rattle.vb_model.specs.Status.{needed_tests, contains, acknowledge, driver, driver_ok}
+use Rattle.vb_model.specs.Status.{features_ok, failed}
 use Rattle.vb_model.specs.Life.{feature_refusal}
 use Rattle.vb_model.proofs.Samples.{ready}
 
@@ -18,8 +21,15 @@ abbrev read : ℕ → List Bool
 read features = must_tell_host features ∷ stats_vq features ∷ deflate_on_oom features
     ∷ reporting features ∷ version_1 features ∷ []
 
-offered : offered_features ≡ 4294967335
+offered : OFFERED_FEATURES ≡ 4294967335
 offered = refl
+
+-- an initialisation ends with its four steps, or with ACKNOWLEDGE, DRIVER and FAILED
+ends_ready : READY_STATUS ≡ acknowledge + driver + driver_ok + features_ok
+ends_ready = refl
+
+ends_failed : FAILED_STATUS ≡ acknowledge + driver + failed
+ends_failed = refl
 
 all_are_read : read 4294967335 ≡ true ∷ true ∷ true ∷ true ∷ true ∷ []
 all_are_read = refl
@@ -87,7 +97,7 @@ version_with_others = refl
 -- FEATURES_OK then
 as_written : (wanted : ℕ)
     → feature_refusal wanted ≡ first_refusal (negotiate_tests 3 wanted ++ status_tests 3 wanted 11)
-as_written wanted = cases (contains offered_features wanted)
+as_written wanted = cases (contains OFFERED_FEATURES wanted)
   where
     cases : (offered : Bool)
         → first_refusal ((not offered ⇒ FeatureNotOffered) ∷ needed_tests wanted)

@@ -3,6 +3,7 @@
 -- begins with, too).
 use Rattle.std.specs.Prelude.{◌≡◌, ◌≢◌, ℕ, ◌+◌, ◌<◌, ◌≤◌, Bool, true, false, ◌==◌, ◌&&◌}
 use Rattle.std.specs.Prelude.{List, Some, IsFalse, slice_get}
+use Rattle.vb_model.specs.declared.negotiation.TheConstants.{READY_STATUS}
 use Rattle.vb_model.specs.declared.calls.Call.TheVariants.{Scribble}
 use Rattle.vb_model.specs.declared.calls.Event.TheVariants.{Guest as OnGuest}
 use Rattle.vb_model.specs.Requests.{Requests, no_requests, Buffer, NoBuffer}
@@ -34,10 +35,10 @@ has_buffer _ = true
 -- is ready and accepted STATS_VQ.
 pub record IsIdleUnlessReady (status features : ℕ) (inflate deflate report : Requests)
     (buffer : Buffer) : Type 0 where
-  pub inflating : status ≢ 15 → inflate ≡ no_requests
-  pub deflating : status ≢ 15 → deflate ≡ no_requests
-  pub reporting : status ≢ 15 → report ≡ no_requests
-  pub buffered : has_buffer buffer ≡ ((status == 15) && stats_vq features)
+  pub inflating : status ≢ READY_STATUS → inflate ≡ no_requests
+  pub deflating : status ≢ READY_STATUS → deflate ≡ no_requests
+  pub reporting : status ≢ READY_STATUS → report ≡ no_requests
+  pub buffered : has_buffer buffer ≡ ((status == READY_STATUS) && stats_vq features)
 
 abbrev pub IsAttentive : Guest → Type 0
 IsAttentive g = IsIdleUnlessReady g.status g.features g.inflate g.deflate g.report g.buffer

@@ -3,13 +3,15 @@
 -- The headline needs `AreAgreed` alone.
 use Rattle.std.specs.Prelude.{◌≡◌, ℕ, ◌+◌, ◌<◌, ◌≤◌, List, [], ◌∷◌, length}
 use Rattle.std.specs.Prelude.{nat_lt, min, ⊤, ◌⊎◌, IsTrue}
+use Rattle.vb_model.specs.declared.negotiation.TheConstants.{FAILED_STATUS, OFFERED_FEATURES}
+use Rattle.vb_model.specs.declared.negotiation.TheConstants.{READY_STATUS}
 use Rattle.vb_model.specs.declared.places.Place.{Place}
 use Rattle.vb_model.specs.declared.limits.TheConstants.{MAX_OUTSTANDING, MAX_ORDER}
 use Rattle.vb_model.specs.Layout.{reserved_pages}
 pub use Rattle.vb_model.specs.Tests.{times}
 use Rattle.vb_model.specs.Pages.{Block, size, is_aligned, place_of, is_reserved}
 use Rattle.vb_model.specs.Requests.{Request, Requests, all_requests, headed, outstanding}
-use Rattle.vb_model.specs.Guest.{Guest, offered_features, version_1}
+use Rattle.vb_model.specs.Guest.{Guest, version_1}
 use Rattle.vb_model.specs.Status.{contains}
 
 -- its pages are distinct, and no more were visited than there are
@@ -41,7 +43,7 @@ AreBlocks pages (b ∷ held) = IsBlock pages b × AreBlocks pages held
 
 -- features that a device accepts: it offers all of them, and VERSION_1 is among them
 pub record AreAgreed (features : ℕ) : Type 0 where
-  pub offered : IsTrue (contains offered_features features)
+  pub offered : IsTrue (contains OFFERED_FEATURES features)
   pub version : IsTrue (version_1 features)
 
 pub record IsInOrder (pages queue_size : ℕ) (places : List Place) (held : List Block)
@@ -50,13 +52,13 @@ pub record IsInOrder (pages queue_size : ℕ) (places : List Place) (held : List
   pub deflating : AreOrderly (min queue_size MAX_OUTSTANDING) deflate
   pub reporting : AreOrderly 1 report
   -- not begun, ready, or given up while features were negotiated
-  pub state : (status ≡ 0) ⊎ (status ≡ 15) ⊎ (status ≡ 131)
+  pub state : (status ≡ 0) ⊎ (status ≡ READY_STATUS) ⊎ (status ≡ FAILED_STATUS)
   -- each page has a place of its own, and just the first ones are reserved
   pub tabled : length places ≡ pages
   pub unreserved : (page : ℕ) → page < pages
       → is_reserved (place_of places page) ≡ nat_lt page (reserved_pages queue_size)
   pub blocks : AreBlocks pages held
-  pub agreed : status ≡ 15 → AreAgreed features
+  pub agreed : status ≡ READY_STATUS → AreAgreed features
 
 abbrev pub IsOrderly : Guest → Type 0
 IsOrderly g = IsInOrder g.config.pages g.config.queue_size g.places g.held g.inflate g.deflate

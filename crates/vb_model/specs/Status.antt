@@ -4,11 +4,12 @@
 use Rattle.std.specs.Prelude.{ℕ, Bool, not, ◌==◌, ◌&&◌, ◌||◌, nat_lt, List, [], ◌∷◌, if◌then◌else◌}
 use Rattle.std.specs.Prelude.{Option, None, count_by, bit_and}
 use Rattle.std.specs.List.{list_any}
+use Rattle.vb_model.specs.declared.negotiation.TheConstants.{OFFERED_FEATURES}
 use Rattle.vb_model.specs.declared.replies.Refusal.{Refusal}
 use Rattle.vb_model.specs.declared.replies.Refusal.TheVariants.{ClearsBit, OutOfOrder}
 use Rattle.vb_model.specs.declared.replies.Refusal.TheVariants.{FeatureNotOffered, VersionMissing}
 use Rattle.vb_model.specs.FirstRefusal.{Test, ◌⇒◌, first_refusal}
-use Rattle.vb_model.specs.Guest.{offered_features, version_1}
+use Rattle.vb_model.specs.Guest.{version_1}
 
 -- ---- the bits of the status, which has eight
 
@@ -95,7 +96,7 @@ status_refusal status negotiated write =
 abbrev pub negotiate_tests : ℕ → ℕ → List Test
 negotiate_tests status wanted =
     (not (status == 3) ⇒ OutOfOrder)
-    ∷ (not (contains offered_features wanted) ⇒ FeatureNotOffered)
+    ∷ (not (contains OFFERED_FEATURES wanted) ⇒ FeatureNotOffered)
     ∷ []
 
 -- why these features are refused, where they are: they are negotiated between DRIVER and

@@ -1,6 +1,7 @@
 -- What one event may change: targets, configurations, other guests, frames; and who claims frames.
 use Rattle.std.specs.Prelude.{◌≡◌, ◌≢◌, ℕ, ◌<◌, Bool, true, false, not, ◌||◌, List, [], Option}
 use Rattle.std.specs.Prelude.{Some, None, length, slice_get, IsTrue, ◌⊎◌}
+use Rattle.vb_model.specs.declared.negotiation.TheConstants.{FAILED_STATUS}
 use Rattle.vb_model.specs.declared.calls.Call.{Call}
 use Rattle.vb_model.specs.declared.calls.Call.TheVariants.{Init, Scribble, SetTarget}
 use Rattle.vb_model.specs.declared.calls.Claim.{Claim}
@@ -193,7 +194,7 @@ abbrev pub with_features_refused : ℕ → Refusal → List Claim → Guest → 
 with_features_refused wanted refusal claims g =
     record g {
       frames = all_backed (lacking g) (given claims) g.frames;
-      status = 131;
+      status = FAILED_STATUS;
       features = accepted_before refusal wanted;
     }
 

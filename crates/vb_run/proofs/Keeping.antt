@@ -7,6 +7,7 @@ use Rattle.std.specs.Prelude.{slice_index_or, Result, Ok, Err, IfOk, IsOkAnd, Ma
 use Rattle.std.specs.Prelude.{MatchResult, MatchOption, Option}
 use Rattle.std.specs.declared.alloc.AllocError.{AllocError}
 use Rattle.std.proofs.lemmas.List.Elements.{All-nil}
+use Rattle.vb_model.specs.declared.negotiation.TheConstants.{OFFERED_FEATURES}
 use Rattle.vb_model.specs.declared.calls.Actor.{Actor}
 use Rattle.vb_model.specs.declared.calls.Actor.TheVariants.{Processor, Balancer}
 use Rattle.vb_model.specs.declared.calls.Call.{Call}
@@ -20,7 +21,7 @@ use Rattle.vb_model.specs.GuestRun.{Called, Looked}
 use Rattle.vb_ram.specs.declared.config.Config.{Config as Sizes}
 use Rattle.vb_slot.specs.Alone.{AreBehind, StepsTo}
 use Rattle.vb_run.specs.Plans.{config_of, is_plain, may_stand}
-use Rattle.vb_run.specs.Services.{IsQuiet, services, found_nothing, default_features}
+use Rattle.vb_run.specs.Services.{IsQuiet, services, found_nothing}
 use Rattle.vb_run.specs.Made.{IsMade}
 use Rattle.vb_run.specs.Past.{Past, Progress, IsKept, IsAside, AreBegun, unknown}
 use Rattle.vb_run.specs.Past.{just_started}
@@ -135,7 +136,7 @@ copied_next (Ok copy) (Ok next) reply A P same is holds =
 pub kept_start : (Is' : Guest → Type 0) (own' : List ℕ) (guest : ℕ) (sizes : Sizes)
     (paced : Bool) (scripts : List Progress) (claims : List Claim) (reply : Reply)
     → is_config sizes.pages sizes.queue_size sizes.processors ≡ true → AreBegun scripts
-    → StepsTo Is' claims (fresh (config_of sizes paced) 0) (Init default_features) reply
+    → StepsTo Is' claims (fresh (config_of sizes paced) 0) (Init OFFERED_FEATURES) reply
     → ((g : Guest) → Is' g → AreBehind own' g)
     → IsKept Is' own' (just_started guest sizes paced scripts claims reply)
 kept_start Is' own' guest sizes paced scripts claims reply fits begun s behind =

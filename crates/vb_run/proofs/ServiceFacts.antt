@@ -2,6 +2,7 @@
 use Rattle.std.proofs.Common.{◌≡◌, ℕ, [], ◌∷◌, true, false, map, refl, ap, sym, ◌∙◌, arith}
 use Rattle.std.proofs.Common.{inl, inr, ⊎_elim}
 use Rattle.std.specs.Prelude.{length}
+use Rattle.vb_model.specs.declared.negotiation.TheConstants.{OFFERED_FEATURES}
 use Rattle.vb_model.specs.declared.calls.Call.TheVariants.{Take, Work, Finish, Ask}
 use Rattle.vb_model.specs.declared.calls.Call.TheVariants.{SetTarget}
 use Rattle.vb_model.specs.declared.replies.Refusal.TheVariants.{NotReady, NotTaken}
@@ -10,10 +11,10 @@ use Rattle.vb_model.specs.declared.replies.Reply.TheVariants.{Finished, Asked, R
 use Rattle.vb_model.specs.Requests.{Request, Requests, no_requests}
 use Rattle.vb_model.specs.Requests.{NoBuffer, BufferPosted, BufferTaken}
 use Rattle.vb_model.specs.Requests.{BufferDone, Figures}
-use Rattle.vb_model.specs.Guest.{Guest, Config, fresh, offered_features}
+use Rattle.vb_model.specs.Guest.{Guest, Config, fresh}
 use Rattle.vb_model.proofs.GuestSteps.{fresh_consistent}
 use Rattle.vb_model.proofs.OrderlySteps.{fresh_order}
-use Rattle.vb_run.specs.Services.{default_features, services, found_nothing, IsServed, is_waiting}
+use Rattle.vb_run.specs.Services.{services, found_nothing, IsServed, is_waiting}
 use Rattle.vb_run.specs.Services.{IsTended, IsQuiet}
 
 abbrev Same : ℕ → ℕ → Type 0
@@ -28,8 +29,7 @@ ready = record (fresh config 0) { status = 15; features = 0x100000027 }
 
 -- ---- features, and a worker's calls
 
-features_of_a_driver : default_features ∷ offered_features ∷ []
-    ≡ 0x100000027 ∷ 0x100000027 ∷ []
+features_of_a_driver : OFFERED_FEATURES ≡ 0x100000027
 features_of_a_driver = refl
 
 -- it takes from each queue, visits a page, uses the first request taken of each queue, and asks

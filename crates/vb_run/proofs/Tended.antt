@@ -7,6 +7,7 @@ use Rattle.std.specs.Prelude.{slice_get}
 use Rattle.std.specs.List.{list_all}
 use Rattle.std.proofs.lemmas.Bool.{ltb-true, and_parts}
 use Rattle.std.proofs.lemmas.Option.{slice_get-get_or}
+use Rattle.vb_model.specs.declared.negotiation.TheConstants.{OFFERED_FEATURES}
 use Rattle.vb_model.specs.declared.calls.Actor.{Actor}
 use Rattle.vb_model.specs.declared.calls.Actor.TheVariants.{Starter}
 use Rattle.vb_model.specs.declared.calls.Call.{Call}
@@ -46,7 +47,7 @@ use Rattle.vb_model.proofs.OrderlySteps.{honest_order, fresh_order}
 use Rattle.vb_model.proofs.AttentiveSteps.{honest_attentive, not_down}
 use Rattle.vb_model.proofs.Unchanged.{step_keeps, MayBeRogue, IsScribble}
 use Rattle.vb_run.specs.Plans.{may_stand, is_plain}
-use Rattle.vb_run.specs.Services.{services, found_nothing, default_features}
+use Rattle.vb_run.specs.Services.{services, found_nothing}
 use Rattle.vb_run.specs.Services.{IsQuiet, IsTended, IsServed, AreServed, is_waiting}
 
 -- ---- which calls these are
@@ -298,7 +299,7 @@ honest_step g call claims reply new h s =
 -- the invariants of an honest guest hold after a call that leaves it honest
 tended_after : (g : Guest) (call : Call) (claims : List Claim) (reply : Reply) (new : Guest)
     → IsConsistent g → IsOrderly g → IsAttentive g → HonestStep g call claims reply new
-    → new.rogue ≡ false → (new.status ≡ 15 → new.features ≡ default_features) → IsTended new
+    → new.rogue ≡ false → (new.status ≡ 15 → new.features ≡ OFFERED_FEATURES) → IsTended new
 tended_after g call claims reply new c o a s honest f =
     record {
       honest = honest;
@@ -368,19 +369,19 @@ init_scribble wanted (page, offset, bytes, e) = absurd cc
 
 pub started : (config : Config) (claims : List Claim) (reply : Reply) (new : Guest)
     → is_config config.pages config.queue_size config.processors ≡ true
-    → GuestStep (fresh config 0) (Init default_features) claims reply new
-    → EntryStep (fresh config 0) (Called Starter (Init default_features) claims reply) new
+    → GuestStep (fresh config 0) (Init OFFERED_FEATURES) claims reply new
+    → EntryStep (fresh config 0) (Called Starter (Init OFFERED_FEATURES) claims reply) new
     × IsTended new
 started config claims reply new c s =
     let first : Guest = fresh config 0 in
-    let step : HonestStep first (Init default_features) claims reply new = s in
+    let step : HonestStep first (Init OFFERED_FEATURES) claims reply new = s in
     let honest : new.rogue ≡ false =
-    honest_after first (Init default_features) claims reply new refl
-    (init_scribble default_features) s in (
+    honest_after first (Init OFFERED_FEATURES) claims reply new refl
+    (init_scribble OFFERED_FEATURES) s in (
       (refl, step),
-      tended_after first (Init default_features) claims reply new (fresh_consistent config 0)
+      tended_after first (Init OFFERED_FEATURES) claims reply new (fresh_consistent config 0)
           (fresh_order config 0) idle step honest
-          (starts_wanted first default_features claims reply new refl step),
+          (starts_wanted first OFFERED_FEATURES claims reply new refl step),
     )
   where
     idle : IsAttentive (fresh config 0)
@@ -414,13 +415,13 @@ works_none (Some page) b g reply new s t = found reply _ s.0 refl t
 
 -- ---- calls on a ready guest that aren't refused
 
-open_take : (q status features taken : ℕ) → status ≡ 15 → features ≡ default_features → taken ≡ 0
-    → first_refusal (take_tests q 15 default_features 0) ≡ None
+open_take : (q status features taken : ℕ) → status ≡ 15 → features ≡ OFFERED_FEATURES → taken ≡ 0
+    → first_refusal (take_tests q 15 OFFERED_FEATURES 0) ≡ None
     → first_refusal (take_tests q status features taken) ≡ None
 open_take q status features taken up f none h =
     subst (λ (s : ℕ). first_refusal (take_tests q s features taken) ≡ None) (sym up)
     (subst (λ (n : ℕ). first_refusal (take_tests q 15 n taken) ≡ None) (sym f)
-    (subst (λ (n : ℕ). first_refusal (take_tests q 15 default_features n) ≡ None) (sym none) h))
+    (subst (λ (n : ℕ). first_refusal (take_tests q 15 OFFERED_FEATURES n) ≡ None) (sym none) h))
 
 open_finish : (q status : ℕ) (paced : Bool) (taken : Option Request) (r : Request) → status ≡ 15
     → taken ≡ Some r → first_refusal (finish_tests q 15 paced (Some r)) ≡ None
@@ -502,7 +503,7 @@ takes_none kind (r ∷ rest) g reply new s t = found reply _ s.0 refl t
 -- ---- the statistics buffer
 
 buffer_served : (g : Guest) (buffer : Buffer) → g.buffer ≡ buffer → g.status ≡ 15
-    → g.features ≡ default_features → IsQuiet g Ask → IsQuiet g (Take 2)
+    → g.features ≡ OFFERED_FEATURES → IsQuiet g Ask → IsQuiet g (Take 2)
     → is_waiting buffer ≡ false
 buffer_served g NoBuffer e up f ask take = refl
 buffer_served g (BufferDone figures) e up f ask take = refl
@@ -525,7 +526,7 @@ buffer_served g (BufferPosted figures) e up f ask take =
 abbrev AllQuiet : Guest → Type 0
 AllQuiet g = (n : ℕ) (call : Call) → slice_get services n ≡ Some call → IsQuiet g call
 
-served_ready : (g : Guest) → g.status ≡ 15 → g.features ≡ default_features → AllQuiet g
+served_ready : (g : Guest) → g.status ≡ 15 → g.features ≡ OFFERED_FEATURES → AllQuiet g
     → IsServed g
 served_ready g up f quiet =
     let work : IsQuiet g Work = quiet 4 Work refl in

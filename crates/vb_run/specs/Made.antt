@@ -1,11 +1,12 @@
 -- Who may have made the entries of a guest's history.
 use Rattle.std.specs.Prelude.{◌≡◌, ℕ, ◌<◌, false, List, ◌∷◌, ⊤, All, Contains}
+use Rattle.vb_model.specs.declared.negotiation.TheConstants.{OFFERED_FEATURES}
 use Rattle.vb_model.specs.declared.calls.Actor.TheVariants.{Starter, Processor, Worker, Balancer}
 use Rattle.vb_model.specs.declared.calls.Call.TheVariants.{Init}
 use Rattle.vb_model.specs.declared.calls.Claim.{Claim}
 use Rattle.vb_model.specs.declared.replies.Reply.{Reply}
 use Rattle.vb_model.specs.GuestRun.{Entry, Called, Looked}
-use Rattle.vb_run.specs.Services.{services, found_nothing, default_features}
+use Rattle.vb_run.specs.Services.{services, found_nothing}
 
 -- An entry of a guest that was started: a call of one of its processors, a call of its worker that
 -- is one of the services and found something to do, or one of the balancer.
@@ -23,5 +24,5 @@ IsMade guest processors (Looked floor spare) = ⊤
 abbrev pub AreMade : ℕ → ℕ → List Entry → Type 0
 AreMade guest processors entries =
     (claims : List Claim) × (reply : Reply) × (rest : List Entry)
-    × (entries ≡ Called Starter (Init default_features) claims reply ∷ rest)
+    × (entries ≡ Called Starter (Init OFFERED_FEATURES) claims reply ∷ rest)
     × All (IsMade guest processors) rest

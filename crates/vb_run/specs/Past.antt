@@ -5,6 +5,7 @@ use Rattle.std.specs.Prelude.{slice_get, slice_index_or, slice_set, ⊤, All, Co
 use Rattle.std.specs.List.{list_all}
 use Rattle.std.specs.declared.vec.Vec.{Vec}
 use Rattle.std.specs.declared.alloc.Global.{Global}
+use Rattle.vb_model.specs.declared.negotiation.TheConstants.{OFFERED_FEATURES}
 use Rattle.vb_model.specs.declared.calls.Actor.{Actor}
 use Rattle.vb_model.specs.declared.calls.Actor.TheVariants.{Starter, Processor, Worker, Balancer}
 use Rattle.vb_model.specs.declared.calls.Call.{Call}
@@ -18,7 +19,7 @@ use Rattle.vb_run.specs.Entries.{calls_by}
 use Rattle.vb_ram.specs.declared.config.Config.{Config as Sizes}
 use Rattle.vb_run.specs.Made.{AreMade}
 use Rattle.vb_run.specs.Plans.{may_stand, config_of}
-use Rattle.vb_run.specs.Services.{IsTended, IsQuiet, services, found_nothing, default_features}
+use Rattle.vb_run.specs.Services.{IsTended, IsQuiet, services, found_nothing}
 
 -- a processor's script, and how many of its calls were made
 pub record Progress : Type 0 where
@@ -73,7 +74,7 @@ just_started guest sizes paced scripts claims reply =
       guest = guest;
       sizes = sizes;
       paced = paced;
-      history = Called Starter (Init default_features) claims reply ∷ [];
+      history = Called Starter (Init OFFERED_FEATURES) claims reply ∷ [];
       scripts = scripts;
       quiet = unknown;
       short = false;

@@ -1,5 +1,8 @@
 -- What a guest's worker does as its device, and when there is nothing left to do.
 use Rattle.std.specs.Prelude.{◌≡◌, ℕ, Bool, true, false, List, [], ◌∷◌}
+use Rattle.vb_model.specs.declared.negotiation.TheConstants.{OFFERED_FEATURES, READY_STATUS}
+use Rattle.vb_model.specs.declared.layout.TheConstants.{INFLATE_QUEUE, DEFLATE_QUEUE}
+use Rattle.vb_model.specs.declared.layout.TheConstants.{STATISTICS_QUEUE, REPORT_QUEUE}
 use Rattle.vb_model.specs.declared.calls.Call.{Call}
 use Rattle.vb_model.specs.declared.calls.Call.TheVariants.{Take, Work, Finish, Ask}
 use Rattle.vb_model.specs.declared.calls.Claim.{Claim}
@@ -12,14 +15,11 @@ use Rattle.vb_model.specs.Orderly.{IsOrderly}
 use Rattle.vb_model.specs.HonestRuns.{IsAttentive}
 use Rattle.vb_model.specs.Step.{HonestStep}
 
--- the features that a driver accepts by itself
-abbrev pub default_features : ℕ
-default_features = 0x100000027
-
 -- a worker's calls
 abbrev pub services : List Call
 services =
-    Take 0 ∷ Take 1 ∷ Take 2 ∷ Take 4 ∷ Work ∷ Finish 0 0 ∷ Finish 1 0 ∷ Finish 4 0 ∷ Ask ∷ []
+    Take INFLATE_QUEUE ∷ Take DEFLATE_QUEUE ∷ Take STATISTICS_QUEUE ∷ Take REPORT_QUEUE ∷ Work
+    ∷ Finish INFLATE_QUEUE 0 ∷ Finish DEFLATE_QUEUE 0 ∷ Finish REPORT_QUEUE 0 ∷ Ask ∷ []
 
 -- the reply of a call of a worker that changed nothing
 abbrev pub found_nothing : Reply → Bool
@@ -57,4 +57,4 @@ pub record IsTended (g : Guest) : Type 0 where
   pub consistent : IsConsistent g
   pub orderly : IsOrderly g
   pub attentive : IsAttentive g
-  pub features : g.status ≡ 15 → g.features ≡ default_features
+  pub features : g.status ≡ READY_STATUS → g.features ≡ OFFERED_FEATURES

@@ -23,11 +23,12 @@ use crate::report::{GuestReport, Stop};
 use crate::room::{claims_in, make_room};
 use crate::round::Round;
 use crate::script::{Script, all_ended, are_of};
-use crate::served::{DEFAULT_FEATURES, SERVICES, found_nothing, service};
+use crate::served::{SERVICES, found_nothing, service};
 use std::alloc::{AllocError, Global};
 use std::marker::Model;
 use std::sync::Wait;
 use vb_balance::GuestNeed;
+use vb_model::negotiation::OFFERED_FEATURES;
 use vb_model::{Actor, Call, Claim, Reply};
 use vb_ram::Config;
 use vb_slot::GuestSlot;
@@ -106,7 +107,7 @@ impl<S: GuestSlot> Kept<S> {
         let mut room = Vec::new(alloc);
         make_room(&mut room)?;
         let call = Call::Init {
-            features: DEFAULT_FEATURES,
+            features: OFFERED_FEATURES,
         };
         let reply = slot.call(alloc, &call);
         let claims = claims_in(alloc, &slot, &mut room);

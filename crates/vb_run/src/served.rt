@@ -3,15 +3,28 @@
 ghost use Rattle.std.specs.Prelude.{◌≡◌, ◌<◌, ℕ, Some, slice_get, length, IfSome, IfNone, true};
 ghost use Rattle.std.specs.Prelude.{false};
 ghost use Rattle.std.specs.Prelude.{slice_index_or};
+ghost use Rattle.vb_model.specs.declared.calls.Call.TheVariants.{Take, Finish};
 ghost use Rattle.vb_run.specs.Services.{services, found_nothing};
 
+use vb_model::layout::{DEFLATE_QUEUE, INFLATE_QUEUE, REPORT_QUEUE, STATISTICS_QUEUE};
 use vb_model::{Call, Reply};
 
 /// How many calls a worker makes until it has looked for everything that there may be to do.
 pub(crate) const SERVICES: usize = 9;
 
-/// The features that a driver accepts by itself: all that a device offers.
-pub(crate) const DEFAULT_FEATURES: u64 = 0x1_0000_0027;
+/// The call that takes what was made available on a queue.
+fn take_from(queue: u32) -> Call
+    ensures { result ≡ Take queue }
+{
+    Call::Take { queue }
+}
+
+/// The call that finishes the first chain that was taken from a queue.
+fn finish_first(queue: u32) -> Call
+    ensures { result ≡ Finish queue 0 }
+{
+    Call::Finish { queue, index: 0 }
+}
 
 /// The worker's call of this number.
 pub(crate) fn service(number: usize) -> Call
@@ -19,14 +32,14 @@ pub(crate) fn service(number: usize) -> Call
     ensures { slice_get services number ≡ Some result }
 {
     match number {
-        0 => Call::Take { queue: 0 },
-        1 => Call::Take { queue: 1 },
-        2 => Call::Take { queue: 2 },
-        3 => Call::Take { queue: 4 },
+        0 => take_from(INFLATE_QUEUE),
+        1 => take_from(DEFLATE_QUEUE),
+        2 => take_from(STATISTICS_QUEUE),
+        3 => take_from(REPORT_QUEUE),
         4 => Call::Work,
-        5 => Call::Finish { queue: 0, index: 0 },
-        6 => Call::Finish { queue: 1, index: 0 },
-        7 => Call::Finish { queue: 4, index: 0 },
+        5 => finish_first(INFLATE_QUEUE),
+        6 => finish_first(DEFLATE_QUEUE),
+        7 => finish_first(REPORT_QUEUE),
         _ => Call::Ask,
     }
 }

@@ -1,6 +1,7 @@
 -- The event that a line of words names.
 use Rattle.std.specs.Prelude.{ℕ, List, [], ◌∷◌, Option, Some, None, Bool, true, false}
 use Rattle.std.specs.Option.{option_map, option_and_then}
+use Rattle.vb_model.specs.declared.negotiation.TheConstants.{OFFERED_FEATURES}
 use Rattle.vb_model.specs.declared.calls.Call.TheVariants.{Init as CallInit, Reset as CallReset}
 use Rattle.vb_model.specs.declared.calls.Call.TheVariants.{Alloc as CallAlloc, Free as CallFree}
 use Rattle.vb_model.specs.declared.calls.Call.TheVariants.{Read as CallRead, Write as CallWrite}
@@ -21,7 +22,6 @@ use Rattle.vb_model.specs.declared.calls.Event.TheVariants.{Plug as Plugs, Unplu
 use Rattle.vb_model.specs.declared.calls.Event.TheVariants.{Restart as Restarts, Guest as OnGuest}
 use Rattle.vb_model.specs.declared.calls.Event.TheVariants.{Query as Asking, Balance as Balances}
 use Rattle.vb_model.specs.declared.calls.Event.TheVariants.{Frames as CountFrames}
-use Rattle.vb_model.specs.Guest.{offered_features}
 use Rattle.vb_script.specs.declared.names.Form.{Form}
 use Rattle.vb_script.specs.declared.names.Form.TheVariants.{Frames, Init, Pages, One, Two, Three}
 use Rattle.vb_script.specs.declared.names.Form.TheVariants.{Four, Bytes}
@@ -43,10 +43,6 @@ use Rattle.vb_script.specs.Names.{form_of, pages_query_of}
 use Rattle.vb_script.specs.Values.{features_of, bytes_of, positive_of}
 use Rattle.vb_script.specs.Words.{◌>>=◌, number_of, only_word, only_number, two_numbers}
 use Rattle.vb_script.specs.Words.{three_numbers, four_numbers, three_numbers_and_a_word}
-
--- the features where no word names any: bits 0, 1, 2, 5 and 32
-abbrev pub default_features : ℕ
-default_features = offered_features
 
 -- NAME NUMBER
 abbrev pub one_number : OneNumber → ℕ → Event
@@ -94,7 +90,7 @@ with_bytes Scribble guest page offset bytes = OnGuest guest (CallScribble page o
 abbrev pub init_event : List (List ℕ) → Option Event
 init_event [] = None
 init_event (guest ∷ []) =
-    option_map (λ guest. OnGuest guest (CallInit default_features)) (number_of guest)
+    option_map (λ guest. OnGuest guest (CallInit OFFERED_FEATURES)) (number_of guest)
 init_event (guest ∷ word ∷ words) = do
   guest ← number_of guest
   word ← only_word (word ∷ words)

@@ -19,11 +19,8 @@ use crate::reading::Item;
 use crate::values::{bytes, features, number, positive};
 use crate::words::Words;
 use std::alloc::Global;
+use vb_model::negotiation::OFFERED_FEATURES;
 use vb_model::{Bytes, Call, Event, Query};
-
-/// The features that a driver asks for where a line `init` names none, a bit each (VIRTIO 1.1,
-/// 5.5.3 and 6): MUST_TELL_HOST, STATS_VQ, DEFLATE_ON_OOM, page reporting (profile) and VERSION_1.
-pub const DEFAULT_FEATURES: u64 = 0x1_0000_0027;
 
 impl Item for Event {
     ghost use Rattle.vb_script.specs.Texts.{events};
@@ -94,7 +91,7 @@ fn init(words: &mut Words<'_>) -> Option<Event>
 {
     let guest = number(words.next()?)?;
     let features = if words.is_at_end() {
-        DEFAULT_FEATURES
+        OFFERED_FEATURES
     } else {
         features(words.last()?)?
     };

@@ -18,7 +18,6 @@ mod threads;
 mod values;
 mod words;
 
-pub use events::DEFAULT_FEATURES;
 pub use lines::Pace;
 pub use reading::{ScriptFault, parse, parse_threads};
 pub use script::{Script, ThreadsGuest, ThreadsScript};

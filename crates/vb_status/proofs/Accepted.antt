@@ -2,7 +2,8 @@
 use Rattle.std.proofs.Common.{◌≡◌, ℕ, Bool, true, false, not, eqb, ◌&&◌, List, [], ◌∷◌, None, cond}
 use Rattle.std.proofs.Common.{refl, subst, IsTrue, ◌⊎◌, inl, inr}
 use Rattle.std.proofs.lemmas.Bool.{false≢true, eqb-true}
-use Rattle.vb_model.specs.Guest.{version_1, offered_features}
+use Rattle.vb_model.specs.declared.negotiation.TheConstants.{OFFERED_FEATURES}
+use Rattle.vb_model.specs.Guest.{version_1}
 use Rattle.vb_model.specs.declared.replies.Refusal.TheVariants.{ClearsBit, OutOfOrder}
 use Rattle.vb_model.specs.declared.replies.Refusal.TheVariants.{FeatureNotOffered, VersionMissing}
 use Rattle.vb_model.specs.Refusals.{◌⇒◌, first_refusal}
@@ -59,7 +60,7 @@ request_keeps a (Write w) h s = write_keeps a w (eqb w 0) h s
 request_keeps a (Negotiate wanted) h s =
     let at_three : a.status ≡ 3 =
     eqb-true a.status 3 (accepted_negotiation (eqb a.status 3)
-    (contains offered_features wanted) h) in
+    (contains OFFERED_FEATURES wanted) h) in
     λ e. absurd (false≢true (subst (λ (n : ℕ). contains n features_ok ≡ true) at_three e))
 
 pub requests_keep : (requests : List StatusRequest) (a last : Agreement) → Leads a requests last

@@ -2,7 +2,7 @@
 -- VIRTIO 1.1, 3.1.1.
 use Rattle.std.specs.Prelude.{◌≡◌, ℕ, ◌^◌, ◌<◌, ◌==◌, List, [], ◌∷◌, Option, Some}
 use Rattle.std.specs.Prelude.{None, if◌then◌else◌, ◌≢◌}
-use Rattle.vb_model.specs.Guest.{offered_features}
+use Rattle.vb_model.specs.declared.negotiation.TheConstants.{OFFERED_FEATURES, READY_STATUS}
 use Rattle.vb_model.specs.declared.replies.Refusal.{Refusal}
 use Rattle.vb_model.specs.Life.{feature_refusal}
 use Rattle.vb_model.specs.Status.{contains, status_refusal}
@@ -61,16 +61,17 @@ outcome a (request ∷ requests) =
 
 -- how a driver initialises a device with these features
 abbrev pub initialisation : ℕ → List StatusRequest
-initialisation wanted = Write 0 ∷ Write 1 ∷ Write 3 ∷ Negotiate wanted ∷ Write 11 ∷ Write 15 ∷ []
+initialisation wanted =
+    Write 0 ∷ Write 1 ∷ Write 3 ∷ Negotiate wanted ∷ Write 11 ∷ Write READY_STATUS ∷ []
 
 -- where it stands after an initialisation: ready, or at ACKNOWLEDGE and DRIVER with what was
 -- negotiated
 abbrev pub initialised : ℕ → Agreement × Option Refusal
 initialised wanted =
     elim (feature_refusal wanted) [
-      | None ↦ (record { status = 15; features = wanted }, None)
+      | None ↦ (record { status = READY_STATUS; features = wanted }, None)
       | Some refusal ↦ (
-        record { status = 3; features = if contains offered_features wanted then wanted else 0 },
+        record { status = 3; features = if contains OFFERED_FEATURES wanted then wanted else 0 },
         Some refusal,
       )
     ]

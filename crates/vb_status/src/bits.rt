@@ -4,6 +4,7 @@ ghost use Rattle.std.specs.Prelude.{⊤, ◌∷◌, [], codes};
 
 use bitflags::{Flag, Flags, bitflag_items};
 use thiserror::Error;
+use vb_model::negotiation::OFFERED_FEATURES;
 
 /// A device's status, a register of 8 bits: how far its driver has initialised it
 /// (VIRTIO 1.1, 2.1).
@@ -68,7 +69,7 @@ bitflag_items! {
 
 impl Features {
     /// What the device offers: all five.
-    pub const OFFERED: Features = Features(0x1_0000_0027);
+    pub const OFFERED: Features = Features(OFFERED_FEATURES);
 
     ghost use Rattle.std.specs.Prelude.{◌≡◌};
     ghost use Rattle.vb_model.specs.Guest.{must_tell_host, stats_vq, deflate_on_oom, reporting};
