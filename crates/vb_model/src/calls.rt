@@ -1,6 +1,6 @@
 //! What may be asked of a guest and of the world.
 
-ghost use Rattle.std.specs.Prelude.{◌≡◌, IfOk};
+ghost use Rattle.std.specs.Prelude.{◌≡◌, ◌↔◌, true, IfOk};
 
 use crate::places::Place;
 use std::alloc::{AllocError, Global};
@@ -18,6 +18,21 @@ impl Model for Bytes {
     ghost Value = { List ℕ };
 
     ghost view = { λ bytes. bytes.items.items };
+}
+
+impl PartialEq for Bytes {
+    ghost use Rattle.std.specs.Cmp.{partial_equiv_from_equiv};
+    ghost use Rattle.std.specs.Cmp.Lexicographic.{pointwise};
+    ghost use Rattle.std.specs.Prelude.{nat_eq};
+    ghost use Rattle.std.proofs.lemmas.Cmp.{nat_list_eq_equiv};
+
+    ghost eq = { pointwise nat_eq };
+
+    ghost laws = { partial_equiv_from_equiv nat_list_eq_equiv };
+
+    fn eq(&self, other: &Bytes) -> bool {
+        self.items == other.items
+    }
 }
 
 impl Bytes {
@@ -48,7 +63,7 @@ impl Bytes {
 /// A call on one guest: by what runs in it, by its balloon driver, or by the device behind it.
 /// Pages, orders, queues and processors are numbers from 0 on, and `at` is a place in a page, in
 /// bytes from its start; any number may be passed.
-#[derive(Drop)]
+#[derive(Drop, PartialEq)]
 pub enum Call {
     /// The driver initialises the device and asks for these features (VIRTIO 1.1, 3.1.1).
     Init { features: u64 },
@@ -91,6 +106,13 @@ pub enum Call {
 }
 
 impl Call {
+    /// Whether another call is the same one.
+    pub fn is_same(&self, other: &Call) -> bool
+        ensures { (result ≡ true) ↔ (self.now ≡ other.now) }
+    {
+        self == other
+    }
+
     /// The same call once more. Refused for want of memory alone.
     pub fn copy(&self, alloc: Global) -> Result<Call, AllocError>
         ensures { IfOk result (λ copy. copy ≡ self.now) }

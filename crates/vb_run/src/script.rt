@@ -115,82 +115,9 @@ fn are_same(calls: &[Call], others: &[Call]) -> bool
         return false;
     }
     for place in 0..calls.len() {
-        if !is_same(&calls[place], &others[place]) {
+        if !calls[place].is_same(&others[place]) {
             return false;
         }
     }
     true
-}
-
-/// Whether the two are one call.
-fn is_same(call: &Call, other: &Call) -> bool
-    ensures { (result ≡ true) ↔ (call.now ≡ other.now) }
-{
-    match (call, other) {
-        (Call::Alloc { cpu: a, order: b }, Call::Alloc { cpu: c, order: d }) => a == c && b == d,
-        (
-            Call::Free {
-                cpu: a,
-                start: b,
-                order: c,
-            },
-            Call::Free {
-                cpu: d,
-                start: e,
-                order: f,
-            },
-        ) => a == d && b == e && c == f,
-        (
-            Call::Read {
-                page: a,
-                at: b,
-                len: c,
-            },
-            Call::Read {
-                page: d,
-                at: e,
-                len: f,
-            },
-        ) => a == d && b == e && c == f,
-        (
-            Call::Write {
-                page: a,
-                at: b,
-                bytes: c,
-            },
-            Call::Write {
-                page: d,
-                at: e,
-                bytes: f,
-            },
-        ) => a == d && b == e && c.as_slice() == f.as_slice(),
-        (Call::Inflate { pages: a }, Call::Inflate { pages: b }) => a == b,
-        (Call::Deflate { pages: a }, Call::Deflate { pages: b }) => a == b,
-        (Call::Oom { pages: a }, Call::Oom { pages: b }) => a == b,
-        (Call::Report { from: a }, Call::Report { from: b }) => a == b,
-        (Call::Stats, Call::Stats) => true,
-        (Call::Reap { queue: a }, Call::Reap { queue: b }) => a == b,
-        (Call::Init { features: a }, Call::Init { features: b }) => a == b,
-        (Call::Reset, Call::Reset) => true,
-        (
-            Call::Scribble {
-                page: a,
-                at: b,
-                bytes: c,
-            },
-            Call::Scribble {
-                page: d,
-                at: e,
-                bytes: f,
-            },
-        ) => a == d && b == e && c.as_slice() == f.as_slice(),
-        (Call::Take { queue: a }, Call::Take { queue: b }) => a == b,
-        (Call::Work, Call::Work) => true,
-        (Call::Finish { queue: a, index: b }, Call::Finish { queue: c, index: d }) => a == c
-            && b == d,
-        (Call::Sweep { page: a }, Call::Sweep { page: b }) => a == b,
-        (Call::Ask, Call::Ask) => true,
-        (Call::SetTarget { pages: a }, Call::SetTarget { pages: b }) => a == b,
-        _ => false,
-    }
 }
