@@ -1,5 +1,5 @@
 -- Two steps of an honest guest by one call, with the same claims, agree.
-use Rattle.std.proofs.Common.{◌≡◌, ℕ, ◌<◌, List, [], ◌∷◌, ◌++◌, length, sym, ap, ◌∙◌}
+use Rattle.std.proofs.Common.{◌≡◌, ℕ, ◌<◌, List, [], ◌∷◌, ◌++◌, sym, ap, ◌∙◌}
 use Rattle.std.proofs.Common.{inl, inr, arith}
 use Rattle.std.specs.Prelude.{Option, Some, None, MatchOption, if◌then◌else◌}
 use Rattle.std.proofs.lemmas.Bool.{cases_lt}
@@ -12,15 +12,14 @@ use Rattle.vb_model.specs.declared.replies.Refusal.{Refusal}
 use Rattle.vb_model.specs.declared.replies.Reply.{Reply}
 use Rattle.vb_model.specs.declared.replies.Reply.TheVariants.{Done, Posted}
 use Rattle.vb_model.specs.declared.replies.Reply.TheVariants.{Refused}
-use Rattle.vb_model.specs.Pages.{pages_of_all}
 use Rattle.vb_model.specs.Requests.{Request, Requests, all_requests, headed, IsLeastHead, Kind}
-use Rattle.vb_model.specs.Requests.{Inflating, Deflating, Reporting_free, kind_of_queue, Buffer}
+use Rattle.vb_model.specs.Requests.{Inflating, kind_of_queue, Buffer}
 use Rattle.vb_model.specs.Requests.{NoBuffer, BufferPosted, BufferTaken, BufferDone}
 use Rattle.vb_model.specs.Guest.{Guest, requests}
-use Rattle.vb_model.specs.Refusals.{refusal_of, inflate_count, reported_blocks, deflate_count}
+use Rattle.vb_model.specs.Refusals.{refusal_of, inflate_count, deflate_count}
 use Rattle.vb_model.specs.Refusals.{oom_count}
 use Rattle.vb_model.specs.declared.calls.Claim.{Claim}
-use Rattle.vb_model.specs.Driver.{claim_refusal, lowest_lent, Supplying}
+use Rattle.vb_model.specs.Driver.{claim_refusal, Supplying}
 use Rattle.vb_model.specs.Driver.{asking, stranded_first, Deflates, Reports, Reaps, Fills, Written}
 use Rattle.vb_model.specs.Driver.{pages_needed}
 use Rattle.vb_model.specs.Device.{Takes, TakesBuffer, Works, Finishes, Asks, next_page}
@@ -63,22 +62,9 @@ same_last : (rs : List Request) (a b : Request) → rs ++ (a ∷ []) ≡ rs ++ (
 same_last [] a b e = cc
 same_last (r ∷ rs) a b e = same_last rs a b (let t : rs ++ (a ∷ []) ≡ rs ++ (b ∷ []) = cc in t)
 
-abbrev posted_of : Requests → List Request
-posted_of rs = rs.posted
-
 same_named : (head : ℕ) (a b : List ℕ) (g new new' : Guest) → new ≡ asking Inflating head a g
     → new' ≡ asking Inflating head b g → new.inflate ≡ new'.inflate → new ≡ new'
-same_named head a b g new new' e e' same =
-    let listed : (asking Inflating head a g).inflate.posted
-    ≡ (asking Inflating head b g).inflate.posted =
-    ap (λ (x : Guest). x.inflate.posted) (sym e)
-    ∙ (ap posted_of same ∙ ap (λ (x : Guest). x.inflate.posted) e') in
-    let last : request a ≡ request b = same_last g.inflate.posted (request a) (request b) listed in
-    let pages : a ≡ b = ap (λ (r : Request). r.pages) last in
-    e ∙ (ap (λ (ps : List ℕ). asking Inflating head ps g) pages ∙ sym e')
-  where
-    request : List ℕ → Request
-    request ps = record { head = head; pages = ps; visited = 0 }
+same_named head a b g new new' e e' same = grind (arith, same_last)
 
 -- ---- the parts of steps
 
@@ -114,31 +100,17 @@ takes_same : (kind : Kind) (posted : List Request) (g : Guest) (r : Reply) (new 
 takes_same kind [] g r new r' new' s t = both r r' _ new new' _ s.0 s.1 t.0 t.1
 takes_same kind (x ∷ rest) g r new r' new' s t = both r r' _ new new' _ s.0 s.1 t.0 t.1
 
-same_request : (a b : Request) → Some a ≡ Some b → a ≡ b
-same_request a b e = cc
-
 finishes_same : (kind : Kind) (i : ℕ) (g : Guest) (r : Reply) (new : Guest) (r' : Reply)
     (new' : Guest) → Finishes kind i g r new → Finishes kind i g r' new' → Same r new r' new'
 finishes_same kind i g r new r' new' s t = grind arith
 
 deflates_same : (count : ℕ) (g : Guest) (r : Reply) (new : Guest) (r' : Reply) (new' : Guest)
     → Deflates count g r new → Deflates count g r' new' → Same r new r' new'
-deflates_same count g r new r' new' s t =
-    let same : s.0 ≡ t.0 = least_same g.deflate s.0 t.0 s.1 t.1 in (
-      s.2 ∙ (ap (λ (h : ℕ). Posted h count) same ∙ sym t.2),
-      s.3
-          ∙ (ap (λ (h : ℕ). asking Deflating h (lowest_lent count g) g) same ∙ sym t.3),
-    )
+deflates_same count g r new r' new' s t = grind (arith, least_same g.deflate s.0 t.0 s.1 t.1)
 
 reports_same : (from : ℕ) (g : Guest) (r : Reply) (new : Guest) (r' : Reply) (new' : Guest)
     → Reports from g r new → Reports from g r' new' → Same r new r' new'
-reports_same from g r new r' new' s t =
-    let same : s.0 ≡ t.0 = least_same g.report s.0 t.0 s.1 t.1 in
-    let pages : List ℕ = pages_of_all (reported_blocks g from) in (
-      s.2 ∙ (ap (λ (h : ℕ). Posted h (length pages)) same ∙ sym t.2),
-      s.3
-          ∙ (ap (λ (h : ℕ). asking Reporting_free h pages g) same ∙ sym t.3),
-    )
+reports_same from g r new r' new' s t = grind (arith, least_same g.report s.0 t.0 s.1 t.1)
 
 works_same : (g : Guest) (r : Reply) (new : Guest) (r' : Reply) (new' : Guest) → Works g r new
     → Works g r' new' → Same r new r' new'
@@ -195,11 +167,7 @@ performs_agree (Oom n) g claims r new r' new' s t =
 performs_agree (Report from) g claims r new r' new' s t = reports_same from g r new r' new' s.1 t.1
 performs_agree Stats g claims r new r' new' s t = fills_same g.buffer g r new r' new' s.1 t.1
 performs_agree Ask g claims r new r' new' s t = asks_same g.buffer g r new r' new' s.1 t.1
-performs_agree (Reap q) g claims r new r' new' s t =
-    same_case (kind_of_queue q) ⊥ ⊥ (λ kind. Reaps kind (requests kind g).done g r new)
-    (λ kind. Reaps kind (requests kind g).done g r' new') (Same r new r' new') s.1 t.1
-    (λ s t. absurd s)
-    (λ kind s t. reaps_same kind (requests kind g).done g r new r' new' s t)
+performs_agree (Reap q) g claims r new r' new' s t = grind (arith, reaps_same)
 performs_agree (Take q) g claims r new r' new' s t =
     same_case (kind_of_queue q) (TakesBuffer g.buffer g r new) (TakesBuffer g.buffer g r' new')
     (λ kind. Takes kind (requests kind g).posted g r new)
@@ -239,28 +207,7 @@ performs_agree (Scribble page offset bytes) g claims r new r' new' s t =
 refused_agree : (call : Call) (g : Guest) (refusal : Refusal) (r : Reply) (new : Guest) (r' : Reply)
     (new' : Guest) → r ≡ Refused refusal → new ≡ g → r' ≡ Refused refusal → new' ≡ g
     → Agree call r new r' new'
-refused_agree (Alloc cpu order) g refusal r new r' new' a b c d = (λ e. b ∙ sym d, λ x e. c ∙ sym a)
-refused_agree (Inflate n) g refusal r new r' new' a b c d = (a ∙ sym c, λ e. b ∙ sym d)
-refused_agree (Read page offset len) g refusal r new r' new' a b c d = (b ∙ sym d, inl (a ∙ sym c))
-refused_agree (Scribble page offset bytes) g refusal r new r' new' a b c d =
-    (a ∙ sym c, λ x e. b ∙ sym d)
-refused_agree (Init wanted) g refusal r new r' new' a b c d = both r r' _ new new' _ a b c d
-refused_agree Reset g refusal r new r' new' a b c d = both r r' _ new new' _ a b c d
-refused_agree (Free cpu start order) g refusal r new r' new' a b c d =
-    both r r' _ new new' _ a b c d
-refused_agree (Write page offset bytes) g refusal r new r' new' a b c d =
-    both r r' _ new new' _ a b c d
-refused_agree (Deflate n) g refusal r new r' new' a b c d = both r r' _ new new' _ a b c d
-refused_agree (Oom n) g refusal r new r' new' a b c d = both r r' _ new new' _ a b c d
-refused_agree (Report from) g refusal r new r' new' a b c d = both r r' _ new new' _ a b c d
-refused_agree Stats g refusal r new r' new' a b c d = both r r' _ new new' _ a b c d
-refused_agree (Reap q) g refusal r new r' new' a b c d = both r r' _ new new' _ a b c d
-refused_agree (Take q) g refusal r new r' new' a b c d = both r r' _ new new' _ a b c d
-refused_agree Work g refusal r new r' new' a b c d = both r r' _ new new' _ a b c d
-refused_agree (Finish q i) g refusal r new r' new' a b c d = both r r' _ new new' _ a b c d
-refused_agree (Sweep page) g refusal r new r' new' a b c d = both r r' _ new new' _ a b c d
-refused_agree Ask g refusal r new r' new' a b c d = both r r' _ new new' _ a b c d
-refused_agree (SetTarget n) g refusal r new r' new' a b c d = both r r' _ new new' _ a b c d
+refused_agree call g refusal r new r' new' a b c d = grind arith
 
 pub honest_agree : (g : Guest) (call : Call) (claims : List Claim) (r : Reply) (new : Guest)
     (r' : Reply) (new' : Guest) → HonestStep g call claims r new → HonestStep g call claims r' new'

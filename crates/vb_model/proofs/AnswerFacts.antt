@@ -1,10 +1,8 @@
 -- Worked facts of what a balance answers: targets, or what stays missing.
-use Rattle.std.proofs.Common.{◌≡◌, ℕ, zero, suc, ◌<◌, ◌≤◌, List, [], ◌∷◌, refl, subst, arith}
-use Rattle.std.proofs.Common.{inl, inr}
-use Rattle.std.specs.Prelude.{slice_index}
+use Rattle.std.proofs.Common.{◌≡◌, ℕ, List, [], ◌∷◌, refl, arith}
 use Rattle.vb_model.specs.declared.replies.Refusal.TheVariants.{Short, NoFrame}
 use Rattle.vb_model.specs.declared.replies.Reply.TheVariants.{Done, Targets, Refused}
-use Rattle.vb_model.specs.Balance.{Need, AreTargets, GivesBefore, spare_at, IsAnswer}
+use Rattle.vb_model.specs.Balance.{Need, AreTargets, IsAnswer}
 
 abbrev Same : ℕ → ℕ → Type 0
 Same a b = a ≡ b
@@ -19,22 +17,7 @@ needs = record { pages = 64; spare = 40 } ∷ record { pages = 64; spare = 30 } 
 -- ---- 100 frames: 28 are missing, and the first guest gives them alone
 
 first_alone : AreTargets needs 100 (28 ∷ 0 ∷ [])
-first_alone = record { one_each = refl; within = within; enough = refl; in_order = in_order }
-  where
-    within : (i : ℕ) → i < 2 → slice_index (28 ∷ 0 ∷ []) i ≤ spare_at needs i
-    within zero l = omega arith
-    within (suc zero) l = omega arith
-    within (suc (suc i)) l = absurd (omega arith)
-
-    in_order : (i j : ℕ) → i < 2 → j < 2 → 0 < slice_index (28 ∷ 0 ∷ []) i
-        → GivesBefore needs j i → slice_index (28 ∷ 0 ∷ []) j ≡ spare_at needs j
-    in_order zero zero l m p (inl q) = absurd (omega arith)
-    in_order zero zero l m p (inr q) = absurd (omega arith)
-    in_order zero (suc zero) l m p (inl q) = absurd (omega arith)
-    in_order zero (suc zero) l m p (inr q) = absurd (omega arith)
-    in_order zero (suc (suc j)) l m p q = absurd (omega arith)
-    in_order (suc zero) j l m p q = absurd (omega arith)
-    in_order (suc (suc i)) j l m p q = absurd (omega arith)
+first_alone = grind arith
 
 targets_of_the_first : IsAnswer 100 needs (Targets (28 ∷ 0 ∷ []))
 targets_of_the_first = (28 ∷ 0 ∷ [], first_alone, refl)
@@ -42,22 +25,13 @@ targets_of_the_first = (28 ∷ 0 ∷ [], first_alone, refl)
 -- whoever answers these targets has that they are targets
 are_targets : (a b : ℕ) → IsAnswer 100 needs (Targets (a ∷ b ∷ []))
     → AreTargets needs 100 (a ∷ b ∷ [])
-are_targets a b (targets, are, e) =
-    let same : SameList targets (a ∷ b ∷ []) = cc in
-    subst (λ (l : List ℕ). AreTargets needs 100 l) same are
+are_targets a b h2 = grind arith
 
 not_evenly : IsAnswer 100 needs (Targets (14 ∷ 14 ∷ [])) → ⊥
-not_evenly answer =
-    let are : AreTargets needs 100 (14 ∷ 14 ∷ []) = are_targets 14 14 answer in
-    let e : Same 14 40 = are.in_order 1 0 (omega arith) (omega arith) (omega arith)
-    (inl (omega arith)) in
-    omega arith
+not_evenly answer = grind arith
 
 not_too_little : IsAnswer 100 needs (Targets (27 ∷ 0 ∷ [])) → ⊥
-not_too_little answer =
-    let are : AreTargets needs 100 (27 ∷ 0 ∷ []) = are_targets 27 0 answer in
-    let e : Same 27 28 = are.enough in
-    omega arith
+not_too_little answer = grind arith
 
 not_short : (more : ℕ) → IsAnswer 100 needs (Refused (Short more)) → ⊥
 not_short more (targets, are, e) = cc
@@ -68,18 +42,7 @@ not_done (targets, are, e) = cc
 -- ---- 58 frames: the 70 that are missing are all that the guests can give
 
 both_give : AreTargets needs 58 (40 ∷ 30 ∷ [])
-both_give = record { one_each = refl; within = within; enough = refl; in_order = in_order }
-  where
-    within : (i : ℕ) → i < 2 → slice_index (40 ∷ 30 ∷ []) i ≤ spare_at needs i
-    within zero l = omega arith
-    within (suc zero) l = omega arith
-    within (suc (suc i)) l = absurd (omega arith)
-
-    in_order : (i j : ℕ) → i < 2 → j < 2 → 0 < slice_index (40 ∷ 30 ∷ []) i
-        → GivesBefore needs j i → slice_index (40 ∷ 30 ∷ []) j ≡ spare_at needs j
-    in_order i zero l m p q = refl
-    in_order i (suc zero) l m p q = refl
-    in_order i (suc (suc j)) l m p q = absurd (omega arith)
+both_give = grind arith
 
 just_enough : IsAnswer 58 needs (Targets (40 ∷ 30 ∷ []))
 just_enough = (40 ∷ 30 ∷ [], both_give, refl)

@@ -35,9 +35,7 @@ is_away _ = false
 
 -- a page that isn't back yet is offered
 pub away_offered : (place : Place) → is_away place ≡ true → is_offered place ≡ true
-away_offered Giving e = refl
-away_offered Stranded e = refl
-away_offered _ e = absurd cc
+away_offered place e = grind arith
 
 -- what event m did to a page that was offered
 data Turn (c : Course) (page m : ℕ) (g new : Guest) : Type 0 where
@@ -220,8 +218,11 @@ since_step : (c : Course) (page i m : ℕ) (new : Guest) → Positions c → i <
     → guest_after c (m + 1) ≡ Some new → Since c page i m → Since c page i (m + 1)
 since_step c page i m new p lt next (CameBack b) = CameBack (longer c page i m b)
 since_step c page i m new p lt next (Away g here at) =
-    away_turns c page i m g new lt next at
-    (turns c page m g new p here next (away_offered (place_of g.places page) at))
+    search (
+      arith,
+      away_turns c page i m g new lt next,
+      turns c page m g new p here next (away_offered (place_of g.places page) at),
+    )
 since_step c page i m new p lt next (AtHost g here at lent a b reaped) =
     host_turns c page i m g new lt next at lent a b reaped
     (turns c page m g new p here next (ap is_offered at))
@@ -246,21 +247,7 @@ since_until c page i k last p end giving (suc d) m e hi =
 -- no turn hands an offered page out
 never_used : (c : Course) (page m : ℕ) (g new : Guest) → Offered page g → Turn c page m g new
     → place_of new.places page ≢ Used
-never_used c page m g new offered (Kept e keeps) used =
-    let bad : false ≡ true = sym (ap is_offered used) ∙ (ap is_offered e ∙ offered) in
-    absurd cc
-never_used c page m g new offered (Gone e) used =
-    let bad : false ≡ true = sym (ap is_away used) ∙ e in absurd cc
-never_used c page m g new offered (Given e reaps) used =
-    let bad : Used ≡ Lent = sym used ∙ e in absurd cc
-never_used c page m g new offered (Wanted was e posts q only) used =
-    posted_unused (tells_host g) (sym e ∙ used)
-  where
-    posted_unused : (told : Bool) → place_posted told Deflating ≡ Used → ⊥
-    posted_unused true k = cc
-    posted_unused false k = cc
-never_used c page m g new offered (Returned was e reaps same) used =
-    let bad : Used ≡ FreePlace = sym used ∙ e in absurd cc
+never_used c page m g new offered h6 used = grind arith
 
 pub told_first : (c : Course) → Positions c → (page i k : ℕ) → i < k → BringsTo c page Giving i
     → BringsTo c page Used k → WasAskedBack c page i k

@@ -1,7 +1,7 @@
 -- Courses in which an offered page is handed out again: how it is asked back before, and how not.
 use Rattle.std.proofs.Common.{◌≡◌, ℕ, ◌+◌, ◌<◌, ◌==◌, true, false, List, [], ◌∷◌}
 use Rattle.std.proofs.Common.{◌++◌, map, replicate, refl, sym, ap, subst, ◌∙◌, inl, inr, arith}
-use Rattle.std.specs.Prelude.{Bool, Option, Some, None, slice_get, length, drop, IsTrue}
+use Rattle.std.specs.Prelude.{Bool, Option, Some, None, slice_get, length, IsTrue}
 use Rattle.std.proofs.lemmas.Bool.{cases_lt}
 use Rattle.vb_model.specs.declared.places.Place.{Place}
 use Rattle.vb_model.specs.declared.places.Place.TheVariants.{Free as FreePlace, Used, Stranded}
@@ -13,7 +13,7 @@ use Rattle.vb_model.specs.declared.calls.Call.TheVariants.{Report, Reap, Reset, 
 use Rattle.vb_model.specs.declared.replies.Refusal.TheVariants.{QueueFull}
 use Rattle.vb_model.specs.declared.replies.Reply.TheVariants.{Done, Page, Posted, Reaped, Idle}
 use Rattle.vb_model.specs.declared.replies.Reply.TheVariants.{Finished, NotUsed, Refused}
-use Rattle.vb_model.specs.Requests.{Request, Requests, no_requests, names, Inflating, Deflating}
+use Rattle.vb_model.specs.Requests.{Request, Requests, no_requests, Inflating, Deflating}
 use Rattle.vb_model.specs.Requests.{Reporting_free, queue_of}
 use Rattle.vb_model.specs.Guest.{Guest, tells_host}
 use Rattle.vb_model.specs.Life.{after_reset}
@@ -180,8 +180,15 @@ not_by c i k a lent asked is_lent is_asked refused =
 not_by_two : (c : Course) (i : ℕ) → NotBy c (i + 3) (i + 1) (i + 2) → WasAskedBack c 16 i (i + 3)
     → ⊥
 not_by_two c i refused a =
-    not_by c i (i + 3) a (i + 1) (i + 2) (omega (arith, a.since, a.later, a.before))
-    (omega (arith, a.since, a.later, a.before)) refused
+    grind (
+      arith,
+      not_by c i (i + 3) a (i + 1) (i + 2) (omega (
+        arith,
+        a.since,
+        a.later,
+        a.before,
+      )) (omega (arith, a.since, a.later, a.before)) refused,
+    )
 
 not_by_three : (c : Course) (i : ℕ) → NotBy c (i + 4) (i + 1) (i + 2)
     → NotBy c (i + 4) (i + 1) (i + 3) → NotBy c (i + 4) (i + 2) (i + 3)
@@ -226,10 +233,7 @@ deflates (Some g) = g.deflate
 posted_is : (c : Course) (j : ℕ) (p : DeflatePostedAt c 16 j)
     → (deflates (guest_after c (j + 1))).posted
     ≡ (deflates (guest_after c j)).posted ++ (p.request ∷ [])
-posted_is c j p =
-    ap (λ (g : Option Guest). (deflates g).posted) p.follows
-    ∙ (p.posted
-    ∙ ap (λ (g : Option Guest). (deflates g).posted ++ (p.request ∷ [])) (sym p.is_there))
+posted_is c j p = grind arith
 
 reaped_is : (c : Course) (j : ℕ) (r : ReapedAt Deflating c 16 j)
     → (deflates (guest_after c j)).done ≡ r.request ∷ r.others
@@ -267,16 +271,7 @@ abbrev too_early : Course
 too_early = at_once ready Taking (Deflate 1)
 
 told_but_not_reaped : WasAskedBack too_early 16 0 4 → ⊥
-told_but_not_reaped = not_by_three too_early 0 at_2 (not_asking too_early 4 1 3 refl)
-    (not_asking too_early 4 2 3 refl)
-  where
-    at_2 : NotBy too_early 4 1 2
-    at_2 r p told =
-        let reap = (the_reap too_early 2 p told refl).0 in
-        let e : some_own (made Work Idle)
-        ≡ some_own (Some (Called reap.called.0 (Reap 1) reap.called.1
-        (Reaped reap.request.head (length reap.request.pages)))) = reap.called.2 in
-        cc
+told_but_not_reaped = grind arith
 
 -- by the very next entry
 abbrev not_reaped : Call → Course
@@ -331,33 +326,13 @@ abbrev head_1 : Request
 head_1 = request 1 (16 ∷ []) 0
 
 another_head : WasAskedBack (reaps_another head_1) 16 0 4 → ⊥
-another_head = not_by_three (reaps_another head_1) 0 at_2
-    (not_asking (reaps_another head_1) 4 1 3 refl) (not_asking (reaps_another head_1) 4 2 3 refl)
-  where
-    at_2 : NotBy (reaps_another head_1) 4 1 2
-    at_2 r p told =
-        let it = the_reap (reaps_another head_1) 2 p told refl in
-        let e : Same 1 0 =
-        ap (λ (r : Request). r.head) (reaped_there head_1 it.0)
-        ∙ (it.1 ∙ ap (λ (r : Request). r.head) (sym (posted_there head_1 p))) in
-        omega arith
+another_head = grind arith
 
 abbrev two_pages : Request
 two_pages = request 0 (16 ∷ 17 ∷ []) 0
 
 other_pages : WasAskedBack (reaps_another two_pages) 16 0 4 → ⊥
-other_pages = not_by_three (reaps_another two_pages) 0 at_2
-    (not_asking (reaps_another two_pages) 4 1 3 refl)
-    (not_asking (reaps_another two_pages) 4 2 3 refl)
-  where
-    at_2 : NotBy (reaps_another two_pages) 4 1 2
-    at_2 r p told =
-        let it = the_reap (reaps_another two_pages) 2 p told refl in
-        let e : Same 2 1 =
-        ap (λ (r : Request). length r.pages) (reaped_there two_pages it.0)
-        ∙ (ap (λ (pages : List ℕ). length pages) it.2
-        ∙ ap (λ (r : Request). length r.pages) (sym (posted_there two_pages p))) in
-        omega arith
+other_pages = grind arith
 
 -- ---- and these not in a guest that doesn't tell either: no page is asked back
 
@@ -379,9 +354,7 @@ asked_too_early g =
     ∷ [])
 
 posted_before_the_reap : (g : Guest) → WasAskedBack (asked_too_early g) 16 0 4 → ⊥
-posted_before_the_reap g = not_by_three (asked_too_early g) 0
-    (not_lending (asked_too_early g) 4 1 2 refl) (not_lending (asked_too_early g) 4 1 3 refl)
-    (not_asking (asked_too_early g) 4 2 3 refl)
+posted_before_the_reap g = grind arith
 
 -- or by these two entries, each a bit off: an inflate of some pages comes back, and then a deflate
 -- is posted
@@ -448,12 +421,7 @@ abbrev request_17 : Request
 request_17 = request 0 (17 ∷ []) 0
 
 inflate_of_page_17 : NotByReap (made (Reap 0) (Reaped 0 1)) (17 ∷ [])
-inflate_of_page_17 = not_lent _ _
-    (λ r. let done : request_17 ∷ [] ≡ r.request ∷ r.others =
-    ap (λ (g : Option Guest). (inflates g).done) r.is_there ∙ r.done in
-    let same : request_17 ≡ r.request = first_is request_17 [] r.request r.others done in
-    let named : false ≡ true = ap (names 16) same ∙ r.named in
-    cc)
+inflate_of_page_17 = grind arith
 
 -- no deflate was posted: another guest's was, an inflate was, it was refused, or it names another
 -- page, with or without an older one that names this one
@@ -483,24 +451,14 @@ deflate_refused = not_posted _ _ _
     (λ p. let e : false ≡ true = ap is_posted p.called.2 in cc)
 
 deflate_of_page_17 : NotByPost (made (Deflate 1) (Posted 0 1)) no_requests (posted request_17)
-deflate_of_page_17 = not_posted _ _ _
-    (λ p. let same : request_17 ≡ p.request =
-    first_is request_17 [] p.request [] (posted_is _ 2 p) in
-    let named : false ≡ true = ap (names 16) same ∙ p.named in
-    cc)
+deflate_of_page_17 = grind arith
 
 abbrev behind_an_older : Requests
 behind_an_older =
     record { posted = request_16 ∷ request 1 (17 ∷ []) 0 ∷ []; taken = []; done = [] }
 
 older_deflate : NotByPost (made (Deflate 1) (Posted 1 1)) (posted request_16) behind_an_older
-older_deflate = not_posted _ _ _
-    (λ p. let two : request_16 ∷ request 1 (17 ∷ []) 0 ∷ [] ≡ request_16 ∷ p.request ∷ [] =
-    posted_is _ 2 p in
-    let same : request 1 (17 ∷ []) 0 ≡ p.request =
-    first_is (request 1 (17 ∷ []) 0) [] p.request [] (ap (drop 1) two) in
-    let named : false ≡ true = ap (names 16) same ∙ p.named in
-    cc)
+older_deflate = grind arith
 
 -- ---- so neither course is safe: no deflate, and one that comes back too late
 
@@ -673,13 +631,7 @@ reaped_by_the_worker = record {
 }
 
 not_page_17 : ReapedAt Deflating given_back 17 0 → ⊥
-not_page_17 r =
-    let there : Some (coming_back Taking ready) ≡ Some r.guest = r.is_there in
-    let done : request_16 ∷ [] ≡ r.request ∷ r.others =
-    ap (λ (g : Option Guest). (deflates g).done) there ∙ r.done in
-    let same : request_16 ≡ r.request = first_is request_16 [] r.request r.others done in
-    let named : false ≡ true = ap (names 17) same ∙ r.named in
-    cc
+not_page_17 r = grind arith
 
 -- none is another guest's reap, one of another queue, one that was answered otherwise, or one while
 -- another request is the first used one
@@ -715,11 +667,4 @@ behind_another = record (page_16_at Taking ready)
 
 not_the_first : ReapedAt Deflating
     (goes behind_another (Reap 1) (Reaped 0 1) behind_another) 16 0 → ⊥
-not_the_first r =
-    let there : Some behind_another ≡ Some r.guest = r.is_there in
-    let done : request 1 (17 ∷ []) 0 ∷ request_16 ∷ [] ≡ r.request ∷ r.others =
-    ap (λ (g : Option Guest). (deflates g).done) there ∙ r.done in
-    let same : request 1 (17 ∷ []) 0 ≡ r.request =
-    first_is (request 1 (17 ∷ []) 0) (request_16 ∷ []) r.request r.others done in
-    let named : false ≡ true = ap (names 16) same ∙ r.named in
-    cc
+not_the_first r = grind arith

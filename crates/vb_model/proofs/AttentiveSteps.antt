@@ -1,6 +1,6 @@
 -- Nothing is outstanding of a guest that isn't ready.
-use Rattle.std.proofs.Common.{◌≡◌, ◌≢◌, ℕ, Bool, true, false, List, [], ◌∷◌, refl, sym, ap}
-use Rattle.std.proofs.Common.{subst, ◌∙◌, ◌⊎◌, inl, inr, arith}
+use Rattle.std.proofs.Common.{◌≡◌, ◌≢◌, ℕ, Bool, true, false, List, refl, sym}
+use Rattle.std.proofs.Common.{subst, ◌⊎◌, inl, inr, arith}
 use Rattle.std.specs.Prelude.{not, None}
 use Rattle.vb_model.specs.declared.calls.Call.{Call}
 use Rattle.vb_model.specs.declared.calls.Call.TheVariants.{Init, Reset, Alloc, Free, Read, Write}
@@ -9,10 +9,8 @@ use Rattle.vb_model.specs.declared.calls.Call.TheVariants.{Stats, Reap, Take, Wo
 use Rattle.vb_model.specs.declared.calls.Call.TheVariants.{Ask, SetTarget}
 use Rattle.vb_model.specs.declared.calls.Claim.{Claim}
 use Rattle.vb_model.specs.declared.replies.Reply.{Reply}
-use Rattle.vb_model.specs.declared.replies.Reply.TheVariants.{Refused}
-use Rattle.vb_model.specs.Requests.{Request, Kind, Inflating, Deflating, Reporting_free}
-use Rattle.vb_model.specs.Requests.{kind_of_queue, Buffer, NoBuffer, BufferPosted, BufferTaken}
-use Rattle.vb_model.specs.Requests.{BufferDone}
+use Rattle.vb_model.specs.Requests.{Request, Kind}
+use Rattle.vb_model.specs.Requests.{kind_of_queue, Buffer}
 use Rattle.vb_model.specs.Guest.{Guest, requests}
 use Rattle.vb_model.specs.Tables.{is_up, is_not_ready}
 use Rattle.vb_model.specs.Refusals.{refusal_of, tests}
@@ -30,10 +28,7 @@ not_down n z e = absurd (omega (arith, z, e))
 
 ready : (status : ℕ) (test : ℕ → Bool) → (status ≡ 0) ⊎ (status ≡ 15) ⊎ (status ≡ 131)
     → test 0 ≡ true → test 131 ≡ true → test status ≡ false → status ≡ 15
-ready status test (inl z) a b e = absurd (let w : true ≡ false = sym a ∙ ap test (sym z) ∙ e in cc)
-ready status test (inr (inl r)) a b e = r
-ready status test (inr (inr f)) a b e =
-    absurd (let w : true ≡ false = sym b ∙ ap test (sym f) ∙ e in cc)
+ready status test h2 a b e = grind arith
 
 up : (g : Guest) → IsOrderly g → not (is_up g.status) ≡ false → g.status ≡ 15
 up g o e = ready g.status (λ n. not (is_up n)) o.state refl refl e
@@ -45,45 +40,25 @@ open_to g o e = ready g.status is_not_ready o.state refl refl e
 stays_ready : (g new changed : Guest) → g.status ≡ 15 → IsAttentive g → new ≡ changed
     → changed.status ≡ g.status → changed.features ≡ g.features
     → has_buffer changed.buffer ≡ has_buffer g.buffer → IsAttentive new
-stays_ready g new changed is h e s f b =
-    let same : new.status ≡ 15 = ap (λ (x : Guest). x.status) e ∙ s ∙ is in
-    grind (arith, same, h)
+stays_ready g new changed is h e s f b = grind arith
 
 -- ---- by cases on lists, buffers and kinds
 
 fills_ready : (buffer : Buffer) (g : Guest) (reply : Reply) (new : Guest) → g.buffer ≡ buffer
     → g.status ≡ 15 → IsAttentive g → Fills buffer g reply new → IsAttentive new
-fills_ready NoBuffer g reply new e is h s = stays_ready g new _ is h s.1 refl refl refl
-fills_ready (BufferPosted f) g reply new e is h s = stays_ready g new _ is h s.1 refl refl refl
-fills_ready (BufferTaken f) g reply new e is h s = stays_ready g new _ is h s.1 refl refl refl
-fills_ready (BufferDone f) g reply new e is h s =
-    stays_ready g new _ is h s.1 refl refl (sym (ap has_buffer e))
+fills_ready state g reply new e is h s = grind arith
 
 takes_buffer_ready : (buffer : Buffer) (g : Guest) (reply : Reply) (new : Guest) → g.buffer ≡ buffer
     → g.status ≡ 15 → IsAttentive g → TakesBuffer buffer g reply new → IsAttentive new
-takes_buffer_ready NoBuffer g reply new e is h s = stays_ready g new _ is h s.1 refl refl refl
-takes_buffer_ready (BufferPosted f) g reply new e is h s =
-    stays_ready g new _ is h s.1 refl refl (sym (ap has_buffer e))
-takes_buffer_ready (BufferTaken f) g reply new e is h s = stays_ready g new _ is h s.1 refl refl refl
-takes_buffer_ready (BufferDone f) g reply new e is h s = stays_ready g new _ is h s.1 refl refl refl
+takes_buffer_ready state g reply new e is h s = grind arith
 
 asks_ready : (buffer : Buffer) (g : Guest) (reply : Reply) (new : Guest) → g.buffer ≡ buffer
     → g.status ≡ 15 → IsAttentive g → Asks buffer g reply new → IsAttentive new
-asks_ready NoBuffer g reply new e is h s = absurd s
-asks_ready (BufferPosted f) g reply new e is h s = absurd s
-asks_ready (BufferTaken f) g reply new e is h s =
-    stays_ready g new _ is h s.1 refl refl (sym (ap has_buffer e))
-asks_ready (BufferDone f) g reply new e is h s = absurd s
+asks_ready state g reply new e is h s = grind arith
 
 takes_ready : (kind : Kind) (posted : List Request) (g : Guest) (reply : Reply) (new : Guest)
     → g.status ≡ 15 → IsAttentive g → Takes kind posted g reply new → IsAttentive new
-takes_ready kind [] g reply new is h s = stays_ready g new _ is h s.1 refl refl refl
-takes_ready Inflating (r ∷ rest) g reply new is h s =
-    stays_ready g new _ is h s.1 refl refl refl
-takes_ready Deflating (r ∷ rest) g reply new is h s =
-    stays_ready g new _ is h s.1 refl refl refl
-takes_ready Reporting_free (r ∷ rest) g reply new is h s =
-    stays_ready g new _ is h s.1 refl refl refl
+takes_ready kind posted g reply new is h s = grind arith
 
 -- ---- a call that isn't refused
 
@@ -129,9 +104,4 @@ performs_attentive (Scribble page offset bytes) g claims reply new o h e s hones
 pub honest_attentive : (g : Guest) (call : Call) (claims : List Claim) (reply : Reply) (new : Guest)
     → IsOrderly g → IsAttentive g → HonestStep g call claims reply new → new.rogue ≡ false
     → IsAttentive new
-honest_attentive g call claims reply new o h s honest =
-    elim (match_cases (refusal_of g call) (Performs call g claims reply new)
-    (λ refusal. (claims ≡ []) × (reply ≡ Refused refusal) × (new ≡ g)) s) [
-      | inl p ↦ performs_attentive call g claims reply new o h p.0 p.1 honest
-      | inr r ↦ subst IsAttentive (sym r.2.2) h
-    ]
+honest_attentive g call claims reply new o h s honest = grind (arith, performs_attentive)

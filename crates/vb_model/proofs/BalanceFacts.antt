@@ -1,12 +1,12 @@
 -- Worked facts of needs and targets.
-use Rattle.std.proofs.Common.{◌≡◌, ℕ, zero, suc, ◌<◌, ◌≤◌, true, List, [], ◌∷◌, map, replicate}
-use Rattle.std.proofs.Common.{refl, inl, inr, arith}
-use Rattle.std.specs.Prelude.{Option, Some, None, slice_index, sum}
+use Rattle.std.proofs.Common.{◌≡◌, ℕ, ◌≤◌, true, List, [], ◌∷◌, map, replicate}
+use Rattle.std.proofs.Common.{refl, inl, arith}
+use Rattle.std.specs.Prelude.{Option, Some, None, sum}
 use Rattle.vb_model.specs.declared.calls.Event.TheVariants.{Balance}
 use Rattle.vb_model.specs.declared.replies.Refusal.TheVariants.{Short}
 use Rattle.vb_model.specs.declared.replies.Reply.TheVariants.{Targets, Refused}
 use Rattle.vb_model.specs.Guest.{Guest}
-use Rattle.vb_model.specs.Balance.{Need, AreTargets, GivesBefore, spare, need, spare_at, missing}
+use Rattle.vb_model.specs.Balance.{Need, AreTargets, spare, need, missing}
 use Rattle.vb_model.specs.Balance.{shortage}
 use Rattle.vb_model.specs.World.{World}
 use Rattle.vb_model.specs.HostEvents.{WorldStep, needs}
@@ -79,23 +79,7 @@ TargetsAre needs frames a b = AreTargets needs frames (a ∷ b ∷ [])
 -- the first can spare as much as the second at least, and gives alone
 first_alone : (a b frames t : ℕ) → b ≤ a → t ≤ a → sum (t ∷ 0 ∷ []) ≡ missing (needs_of a b) frames
     → TargetsAre (needs_of a b) frames t 0
-first_alone a b frames t most some e =
-    record { one_each = refl; within = within; enough = e; in_order = in_order }
-  where
-    within : (i : ℕ) → i < 2 → slice_index (t ∷ 0 ∷ []) i ≤ spare_at (needs_of a b) i
-    within zero l = some
-    within (suc zero) l = omega arith
-    within (suc (suc i)) l = absurd (omega arith)
-
-    in_order : (i j : ℕ) → i < 2 → j < 2 → 0 < slice_index (t ∷ 0 ∷ []) i
-        → GivesBefore (needs_of a b) j i → slice_index (t ∷ 0 ∷ []) j ≡ spare_at (needs_of a b) j
-    in_order zero zero l m p (inl q) = absurd (omega arith)
-    in_order zero zero l m p (inr q) = absurd (omega arith)
-    in_order zero (suc zero) l m p (inl q) = absurd (omega arith)
-    in_order zero (suc zero) l m p (inr q) = absurd (omega arith)
-    in_order zero (suc (suc j)) l m p q = absurd (omega arith)
-    in_order (suc zero) j l m p q = absurd (omega arith)
-    in_order (suc (suc i)) j l m p q = absurd (omega arith)
+first_alone a b frames t most some e = search arith
 
 -- the guest that can spare most gives first, and here alone; or nothing is missing
 one_gives : TargetsAre (needs_of 40 30) 100 28 0
@@ -106,43 +90,11 @@ none_gives = first_alone 40 30 128 0 (omega arith) (omega arith) refl
 
 -- the second gives once the first gives all that it can
 both_give : TargetsAre (needs_of 40 30) 60 40 28
-both_give = record { one_each = refl; within = within; enough = refl; in_order = in_order }
-  where
-    within : (i : ℕ) → i < 2 → slice_index (40 ∷ 28 ∷ []) i ≤ spare_at (needs_of 40 30) i
-    within zero l = omega arith
-    within (suc zero) l = omega arith
-    within (suc (suc i)) l = absurd (omega arith)
-
-    in_order : (i j : ℕ) → i < 2 → j < 2 → 0 < slice_index (40 ∷ 28 ∷ []) i
-        → GivesBefore (needs_of 40 30) j i
-        → slice_index (40 ∷ 28 ∷ []) j ≡ spare_at (needs_of 40 30) j
-    in_order i zero l m p q = refl
-    in_order zero (suc zero) l m p (inl q) = absurd (omega arith)
-    in_order zero (suc zero) l m p (inr q) = absurd (omega arith)
-    in_order (suc zero) (suc zero) l m p (inl q) = absurd (omega arith)
-    in_order (suc zero) (suc zero) l m p (inr q) = absurd (omega arith)
-    in_order (suc (suc i)) (suc zero) l m p q = absurd (omega arith)
-    in_order i (suc (suc j)) l m p q = absurd (omega arith)
+both_give = grind arith
 
 -- the higher number, where it can spare more
 second_alone : TargetsAre (needs_of 30 40) 100 0 28
-second_alone = record { one_each = refl; within = within; enough = refl; in_order = in_order }
-  where
-    within : (i : ℕ) → i < 2 → slice_index (0 ∷ 28 ∷ []) i ≤ spare_at (needs_of 30 40) i
-    within zero l = omega arith
-    within (suc zero) l = omega arith
-    within (suc (suc i)) l = absurd (omega arith)
-
-    in_order : (i j : ℕ) → i < 2 → j < 2 → 0 < slice_index (0 ∷ 28 ∷ []) i
-        → GivesBefore (needs_of 30 40) j i
-        → slice_index (0 ∷ 28 ∷ []) j ≡ spare_at (needs_of 30 40) j
-    in_order zero j l m p q = absurd (omega arith)
-    in_order (suc zero) zero l m p (inl q) = absurd (omega arith)
-    in_order (suc zero) zero l m p (inr q) = absurd (omega arith)
-    in_order (suc zero) (suc zero) l m p (inl q) = absurd (omega arith)
-    in_order (suc zero) (suc zero) l m p (inr q) = absurd (omega arith)
-    in_order (suc zero) (suc (suc j)) l m p q = absurd (omega arith)
-    in_order (suc (suc i)) j l m p q = absurd (omega arith)
+second_alone = grind arith
 
 abbrev Same : ℕ → ℕ → Type 0
 Same a b = a ≡ b
@@ -176,9 +128,7 @@ lower_number_gives : TargetsAre (needs_of 30 30) 100 28 0
 lower_number_gives = first_alone 30 30 100 28 (omega arith) (omega arith) refl
 
 not_the_higher_number : TargetsAre (needs_of 30 30) 100 0 28 → ⊥
-not_the_higher_number t = let e : Same 0 30 =
-    t.in_order 1 0 (omega arith) (omega arith) (omega arith) (inr (refl, omega arith)) in
-    omega arith
+not_the_higher_number t = grind arith
 
 -- ---- a balance of two guests of 64 pages, of which each has 48 free, with 100 frames
 

@@ -1,13 +1,13 @@
 -- Maximal blocks share no page.
-use Rattle.std.proofs.Common.{◌≡◌, ℕ, zero, suc, ◌+◌, ◌-◌, ◌*◌, ◌/◌, ◌^◌, ◌<◌, ◌≤◌, Bool, true}
-use Rattle.std.proofs.Common.{false, cond, List, [], ◌∷◌, take, refl, sym, ap, subst, ◌∙◌}
+use Rattle.std.proofs.Common.{◌≡◌, ℕ, zero, suc, ◌+◌, ◌-◌, ◌*◌, ◌^◌, ◌<◌, ◌≤◌, Bool, true}
+use Rattle.std.proofs.Common.{false, List, [], ◌∷◌, take, refl, sym, ap, subst, ◌∙◌}
 use Rattle.std.proofs.Common.{inl, inr, arith, ◌⊎◌, ◌≢◌}
 use Rattle.std.specs.Prelude.{◌==◌, ◌&&◌, ◌%◌, not, count_by, nat_lt, nat_le, filter, map}
 use Rattle.std.specs.List.{list_all, list_any, range_with_len, flat_map}
-use Rattle.std.proofs.lemmas.Nat.{pow_pos, mod-mul-add, pow-add, div-add-mod'}
+use Rattle.std.proofs.lemmas.Nat.{pow_pos, mod-mul-add, pow-add}
 use Rattle.std.proofs.Math.Nat.{lt_of_mul-lt-mul_left, mul-lt-mul_of_pos_left, mul_assoc, mul_comm}
 use Rattle.std.proofs.Math.Nat.{mul-add}
-use Rattle.std.proofs.lemmas.Bool.{eqb-true, eq-eqb, ne_eqb, le-leb, lt-ltb, and_parts, and_from}
+use Rattle.std.proofs.lemmas.Bool.{eq-eqb, ne_eqb, le-leb, lt-ltb, and_parts, and_from}
 use Rattle.std.proofs.lemmas.Bool.{cases_lt, cases_eq, leb-true, ltb-true, false_from_ne_true}
 use Rattle.vb_model.specs.Limits.{max_order}
 use Rattle.vb_model.specs.Tests.{one_if}
@@ -49,10 +49,7 @@ record CoversAligned (page : ℕ) (b : Block) : Type 0 where
 
 covering : (page : ℕ) (b : Block) → is_aligned b ≡ true → covers page b ≡ true
     → CoversAligned page b
-covering page b aligned c =
-    let parts = and_parts (nat_le b.start page) (nat_lt page (b.start + size b)) c in
-    let rest : b.start % size b ≡ 0 = eqb-true _ 0 aligned in
-    grind (arith, parts, rest, div-add-mod' b.start (size b), mul_comm (size b) (b.start / size b))
+covering page b aligned c = grind arith
 
 -- the block of the larger order round the smaller one's start is the larger one
 larger : (page : ℕ) (b c : Block) → b.order < c.order → is_aligned b ≡ true → covers page b ≡ true
@@ -217,7 +214,7 @@ pub times_in_blocks : (page : ℕ) (bs : List Block)
     → times page (pages_of_all bs) ≡ count_by (covers page) bs
 times_in_blocks page [] = refl
 times_in_blocks page (b ∷ bs) =
-    omega (
+    grind (
       arith,
       times-append page (pages_of b) (pages_of_all bs),
       times_in_range page b.start (size b),
@@ -235,21 +232,13 @@ count-take test (suc n) (x ∷ xs) =
 count-filter : {A : Type 0} (test keep : A → Bool) (xs : List A)
     → count_by test (filter keep xs) ≤ count_by (λ x. keep x && test x) xs
 count-filter test keep [] = omega arith
-count-filter test keep (x ∷ xs) = step (keep x) refl (count-filter test keep xs)
-  where
-    step : (v : Bool) → keep x ≡ v
-        → count_by test (filter keep xs) ≤ count_by (λ y. keep y && test y) xs
-        → count_by test (cond v (x ∷ filter keep xs) (filter keep xs)) ≤ count_by
-        (λ y. keep y && test y) (x ∷ xs)
-    step true e ih =
-        let o : one_if (keep x && test x) ≡ one_if (test x) =
-        ap (λ (v : Bool). one_if (v && test x)) e in
-        omega (
-          arith,
-          count_by-cons test x (filter keep xs),
-          count_by-cons (λ y. keep y && test y) x xs,
-        )
-    step false e ih = omega (arith, count_by-cons (λ y. keep y && test y) x xs)
+count-filter test keep (x ∷ xs) =
+    grind (
+      arith,
+      count-filter test keep xs,
+      count_by-cons test x (filter keep xs),
+      count_by-cons (λ y. keep y && test y) x xs,
+    )
 
 count-weaker : {A : Type 0} (keep test : A → Bool) (xs : List A)
     → count_by (λ x. keep x && test x) xs ≤ count_by test xs
@@ -304,20 +293,13 @@ passes-one test first (suc count) one =
 passes-some : (test : ℕ → Bool) (first count : ℕ) → 0 < count_by test (range_with_len first count)
     → (k : ℕ) × (k < first + count) × (test k ≡ true)
 passes-some test first zero h = absurd (omega arith)
-passes-some test first (suc count) h = step (test first) refl (passes-some test (first + 1) count)
-  where
-    step : (v : Bool) → test first ≡ v
-        → (0 < count_by test (range_with_len (first + 1) count)
-        → (k : ℕ) × (k < first + 1 + count) × (test k ≡ true))
-        → (k : ℕ) × (k < first + suc count) × (test k ≡ true)
-    step true e ih = (first, omega arith, e)
-    step false e ih = grind (arith, count_by-cons test first (range_with_len (first + 1) count))
+passes-some test first (suc count) h = grind (arith, passes-some test (first + 1) count)
 
 count-map : {A B : Type 0} (test : B → Bool) (f : A → B) (xs : List A)
     → count_by test (map f xs) ≡ count_by (λ x. test (f x)) xs
 count-map test f [] = refl
 count-map test f (x ∷ xs) =
-    omega (
+    grind (
       arith,
       count_by-cons test (f x) (map f xs),
       count_by-cons (λ y. test (f y)) x xs,

@@ -117,14 +117,10 @@ flagged_agree status features s = s.both_agree 0 (flagged status features) refl
 
 -- those of a posted or taken deflate and of a used inflate should be
 of_a_posted_deflate : (status features : ℕ) → IsSafeCourse (stands (busy status features)) → ⊥
-of_a_posted_deflate status features s =
-    let e : false ≡ true =
-    (unflagged_agree status features s 50).1 (inr (inr (inl (omega arith)))) in cc
+of_a_posted_deflate status features s = grind (arith, unflagged_agree status features s 50)
 
 of_a_taken_deflate : (status features : ℕ) → IsSafeCourse (stands (busy status features)) → ⊥
-of_a_taken_deflate status features s =
-    let e : false ≡ true =
-    (unflagged_agree status features s 51).1 (inr (inr (inr (omega arith)))) in cc
+of_a_taken_deflate status features s = grind (arith, unflagged_agree status features s 51)
 
 of_a_used_inflate : (status features : ℕ) → IsSafeCourse (stands (busy status features)) → ⊥
 of_a_used_inflate status features s =
@@ -132,10 +128,7 @@ of_a_used_inflate status features s =
 
 -- no other should be: of an inflate that isn't used yet, of a used deflate, of a report, free
 none : IsTrue false ⊎ (0 < 0 ⊎ (0 < 0 ⊎ 0 < 0)) → ⊥
-none (inl e) = cc
-none (inr (inl l)) = omega (arith, l)
-none (inr (inr (inl l))) = omega (arith, l)
-none (inr (inr (inr l))) = omega (arith, l)
+none h = grind arith
 
 of_a_posted_inflate : (status features : ℕ) → IsSafeCourse (stands (flagged status features)) → ⊥
 of_a_posted_inflate status features s = none ((flagged_agree status features s 40).0 refl)

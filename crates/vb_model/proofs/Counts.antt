@@ -139,25 +139,11 @@ named-all rs =
 pub named-posting : (head : ℕ) (pages : List ℕ) (rs : Requests)
     → pages_named (all_requests (posting head pages rs))
     ≡ pages_named (all_requests rs) + length pages
-named-posting head pages rs =
-    omega (
-      arith,
-      named-all rs,
-      named-all (posting head pages rs),
-      named-append rs.posted (record { head = head; pages = pages; visited = 0 } ∷ []),
-    )
+named-posting head pages rs = grind (arith, named-append)
 
 pub named-take : (r : Request) (rest : List Request) (rs : Requests) → rs.posted ≡ r ∷ rest
     → pages_named (all_requests (after_take r rest rs)) ≡ pages_named (all_requests rs)
-named-take r rest rs e =
-    let p : pages_named rs.posted ≡ length r.pages + pages_named rest = ap pages_named e in
-    omega (
-      arith,
-      p,
-      named-all rs,
-      named-all (after_take r rest rs),
-      named-append rs.taken (record r { visited = 0 } ∷ []),
-    )
+named-take r rest rs e = grind (arith, named-append)
 
 named-visiting : (rs : List Request) → pages_named (visiting rs) ≡ pages_named rs
 named-visiting [] = refl
@@ -173,7 +159,7 @@ pub named-work : (rs : Requests)
     → pages_named (all_requests (record rs { taken = visiting rs.taken }))
     ≡ pages_named (all_requests rs)
 named-work rs =
-    omega (
+    grind (
       arith,
       named-all rs,
       named-all (record rs { taken = visiting rs.taken }),
@@ -188,14 +174,7 @@ named-remove (x ∷ xs) (suc i) r e = omega (arith, named-remove xs i r e)
 
 pub named-finish : (i : ℕ) (r : Request) (rs : Requests) → slice_get rs.taken i ≡ Some r
     → pages_named (all_requests (after_finish i r rs)) ≡ pages_named (all_requests rs)
-named-finish i r rs e =
-    omega (
-      arith,
-      named-all rs,
-      named-all (after_finish i r rs),
-      named-remove rs.taken i r e,
-      named-append rs.done (r ∷ []),
-    )
+named-finish i r rs e = grind (arith, named-remove, named-append)
 
 -- where there is no request, none names the page
 pub named_by_none : (page : ℕ) (rs : Requests) → outstanding rs ≤ 0

@@ -1,13 +1,11 @@
 -- What holds in each state of a guest's course, and between two of them.
-use Rattle.std.proofs.Common.{◌≡◌, ℕ, zero, suc, ◌+◌, Bool, true, false, List, []}
-use Rattle.std.proofs.Common.{◌∷◌, refl, sym, subst, ◌∙◌, ◌⊎◌, inl, inr, arith}
-use Rattle.std.specs.Prelude.{Option, Some, None, slice_get, MatchBool}
+use Rattle.std.proofs.Common.{◌≡◌, ℕ, zero, suc, ◌+◌, false, List, []}
+use Rattle.std.proofs.Common.{◌∷◌, sym, subst, arith}
+use Rattle.std.specs.Prelude.{Option, Some, None, slice_get}
 use Rattle.vb_model.specs.declared.calls.Call.{Call}
-use Rattle.vb_model.specs.declared.calls.Call.TheVariants.{Scribble}
 use Rattle.vb_model.specs.declared.calls.Claim.{Claim}
 use Rattle.vb_model.specs.declared.replies.Reply.{Reply}
 use Rattle.vb_model.specs.Guest.{Guest, Config, fresh}
-use Rattle.vb_model.specs.Rogue.{RogueStep, IsRogueAfter}
 use Rattle.vb_model.specs.Step.{HonestStep}
 use Rattle.vb_model.specs.Rogue.{GuestStep}
 use Rattle.vb_model.specs.Consistent.{IsConsistent}
@@ -21,38 +19,19 @@ use Rattle.vb_model.proofs.CallSteps.{honest_keeps}
 use Rattle.vb_model.proofs.GuestSteps.{fresh_consistent}
 use Rattle.vb_model.proofs.OrderlySteps.{honest_order, fresh_order}
 use Rattle.vb_model.proofs.BlankSteps.{honest_blank, fresh_blank}
-use Rattle.vb_model.proofs.AttentiveSteps.{honest_attentive, not_down}
-use Rattle.vb_model.proofs.Unchanged.{step_keeps, MayBeRogue}
+use Rattle.vb_model.proofs.AttentiveSteps.{honest_attentive}
 use Rattle.vb_model.proofs.Changes.{same_some}
 
 -- ---- a step of an honest guest that isn't a scribble
 
 pub as_guest : (g : Guest) (call : Call) (claims : List Claim) (reply : Reply) (new : Guest)
     → g.rogue ≡ false → HonestStep g call claims reply new → GuestStep g call claims reply new
-as_guest g call claims reply new honest s = subst
-    (λ (b : Bool). MatchBool b (RogueStep g call claims reply new) (HonestStep g call claims reply new))
-    (sym honest) s
+as_guest g call claims reply new honest s = grind arith
 
 still_honest : (g : Guest) (call : Call) (claims : List Claim) (reply : Reply) (new : Guest)
     → g.rogue ≡ false → is_scribbled call reply ≡ false → HonestStep g call claims reply new
     → new.rogue ≡ false
-still_honest g call claims reply new honest none s = cases (step_keeps g call claims reply new step).rogue
-  where
-    step : GuestStep g call claims reply new
-    step = as_guest g call claims reply new honest s
-
-    scribble : (page offset : ℕ) (bytes : List ℕ)
-        → HonestStep g (Scribble page offset bytes) claims reply new
-        → is_scribbled (Scribble page offset bytes) reply ≡ false → new.rogue ≡ false
-    scribble page offset bytes s none = grind arith
-
-    cases : (new.rogue ≡ g.rogue) ⊎ (MayBeRogue g call × IsRogueAfter g new) → new.rogue ≡ false
-    cases (inl same) = same ∙ honest
-    cases (inr (inl rogue, after)) =
-        absurd (let wrong : true ≡ false = sym rogue ∙ honest in cc)
-    cases (inr (inr is, after)) =
-        scribble is.0 is.1 is.2 (subst (λ (c : Call). HonestStep g c claims reply new) is.3 s)
-        (subst (λ (c : Call). is_scribbled c reply ≡ false) is.3 none)
+still_honest g call claims reply new honest none s = search arith
 
 -- what holds of each state
 pub record IsFit (g : Guest) : Type 0 where
@@ -64,30 +43,17 @@ pub record IsFit (g : Guest) : Type 0 where
 
 pub fresh_fit : (config : Config) (target : ℕ) → IsFit (fresh config target)
 fresh_fit config target =
-    record {
-      honest = refl;
-      consistent = fresh_consistent config target;
-      orderly = fresh_order config target;
-      blank = fresh_blank config target;
-      attentive = record {
-        inflating = λ other. refl;
-        deflating = λ other. refl;
-        reporting = λ other. refl;
-        buffered = refl;
-      };
-    }
+    grind (
+      arith,
+      fresh_consistent config target,
+      fresh_order config target,
+      fresh_blank config target,
+    )
 
 pub call_fit : (g : Guest) (call : Call) (claims : List Claim) (reply : Reply) (new : Guest)
     → IsFit g → HonestStep g call claims reply new → new.rogue ≡ false → IsFit new
 call_fit g call claims reply new f s honest =
-    record {
-      honest = honest;
-      consistent = honest_keeps g call claims reply new f.consistent
-          (λ down. f.attentive.deflating (not_down g.status down)) s honest;
-      orderly = honest_order g call claims reply new f.consistent f.orderly s honest;
-      blank = honest_blank g call claims reply new f.blank s honest;
-      attentive = honest_attentive g call claims reply new f.orderly f.attentive s honest;
-    }
+    grind (arith, honest_keeps, honest_order, honest_blank, honest_attentive)
 
 entry_fit : (g : Guest) (entry : Entry) (new : Guest) → IsFit g → EntryStep g entry new → IsFit new
 entry_fit g (Looked floor answer) new f s = subst IsFit (sym s.1) f
@@ -122,8 +88,7 @@ every_step g [] [] s i a b ha hb = absurd cc
 every_step g (own ∷ entries) (new ∷ after) s zero a b ha hb =
     grind (arith)
 every_step g (own ∷ entries) (new ∷ after) s (suc i) a b ha hb =
-    let r = every_step new entries after s.1 i a b ha hb in
-    record { own = r.own; own_is = r.own_is; step = r.step }
+    grind (arith, every_step new entries after s.1 i a b ha hb)
 every_step g [] (new ∷ after) s i a b ha hb = absurd s
 every_step g (own ∷ entries) [] s i a b ha hb = absurd s
 
@@ -138,12 +103,9 @@ every_entry : (g : Guest) (entries : List (Option Entry)) (after : List Guest)
     → Leads g entries after → (i : ℕ) (entry : Entry) → slice_get entries i ≡ Some (Some entry)
     → MadeIn g after i entry
 every_entry g [] [] s i entry at = absurd cc
-every_entry g (own ∷ entries) (new ∷ after) s zero entry at =
-    let e : own ≡ Some entry = cc in
-    grind (arith, e)
+every_entry g (own ∷ entries) (new ∷ after) s zero entry at = grind arith
 every_entry g (own ∷ entries) (new ∷ after) s (suc i) entry at =
-    let r = every_entry new entries after s.1 i entry at in
-    record { before = r.before; next = r.next; is_there = r.is_there; step = r.step }
+    grind (arith, every_entry new entries after s.1 i entry)
 every_entry g [] (new ∷ after) s i entry at = absurd s
 every_entry g (own ∷ entries) [] s i entry at = absurd s
 

@@ -26,13 +26,7 @@ times-cons page x xs = count_by-cons (λ (p : ℕ). p == page) x xs
 
 pub times-none : (page : ℕ) (xs : List ℕ) → is_in page xs ≡ false → times page xs ≡ 0
 times-none page [] h = refl
-times-none page (x ∷ xs) h = step (x == page) refl h (times-none page xs)
-  where
-    step : (v : Bool) → (x == page) ≡ v → Rattle.std.specs.Prelude.◌||◌ v (is_in page xs) ≡ false
-        → (is_in page xs ≡ false → times page xs ≡ 0) → times page (x ∷ xs) ≡ 0
-    step true e h ih = absurd cc
-    step false e h ih = let z : one_if (x == page) ≡ 0 = ap one_if e in
-        omega (arith, times-cons page x xs, ih h)
+times-none page (x ∷ xs) h = grind (arith, times-none page xs)
 
 pub times-take : (page n : ℕ) (xs : List ℕ) → times page (take n xs) ≤ times page xs
 times-take page zero xs = omega arith

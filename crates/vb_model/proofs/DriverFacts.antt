@@ -1,6 +1,6 @@
 -- Worked facts of the driver's inflates, deflates and reaps.
-use Rattle.std.proofs.Common.{◌≡◌, ℕ, zero, suc, ◌+◌, ◌<◌, true, false, List, [], ◌∷◌, ◌++◌, map}
-use Rattle.std.proofs.Common.{replicate, length, drop, refl, sym, ap, subst, ◌∙◌, arith}
+use Rattle.std.proofs.Common.{◌≡◌, ℕ, ◌+◌, true, false, List, [], ◌∷◌, ◌++◌, map}
+use Rattle.std.proofs.Common.{replicate, length, refl, ap, subst, arith}
 use Rattle.std.specs.Prelude.{Some, None}
 use Rattle.vb_model.specs.declared.places.Place.{Place}
 use Rattle.vb_model.specs.declared.places.Place.TheVariants.{Reserved, Free, Giving, Lent, Taking}
@@ -83,24 +83,10 @@ heads a b c = record {
 }
 
 third_head : IsLeastHead (heads 0 2 1) 3
-third_head = record { new = refl; least = least }
-  where
-    least : (h : ℕ) → h < 3
-        → 0 < Rattle.vb_model.specs.Requests.headed h
-        (Rattle.vb_model.specs.Requests.all_requests (heads 0 2 1))
-    least zero l = omega arith
-    least (suc zero) l = omega arith
-    least (suc (suc zero)) l = omega arith
-    least (suc (suc (suc h))) l = absurd (omega arith)
+third_head = grind arith
 
 head_between : IsLeastHead (heads 3 0 2) 1
-head_between = record { new = refl; least = least }
-  where
-    least : (h : ℕ) → h < 1
-        → 0 < Rattle.vb_model.specs.Requests.headed h
-        (Rattle.vb_model.specs.Requests.all_requests (heads 3 0 2))
-    least zero l = omega arith
-    least (suc h) l = absurd (omega arith)
+head_between = grind arith
 
 -- ---- inflate: stranded pages first, lowest first, then any free ones
 
@@ -157,10 +143,7 @@ newest g = pages_of_second g.inflate.posted
 others_are : (others : List ℕ) (new : Guest)
     (s : HonestStep two_stranded (Inflate 3) [] (Posted 3 3) new)
     → new.inflate ≡ with_last (heads 0 2 1) (request 3 (20 ∷ 21 ∷ others) 0) → s.1.1 ≡ others
-others_are others new s e =
-    let named : 20 ∷ 21 ∷ s.1.1 ≡ 20 ∷ 21 ∷ others =
-    sym (ap newest s.1.7) ∙ ap (λ (rs : Requests). pages_of_second rs.posted) e in
-    ap (drop 2) named
+others_are others new s e = grind arith
 
 one_page_too_few : Offers (20 ∷ 21 ∷ [])
 one_page_too_few new s e = let same : s.1.1 ≡ [] = others_are [] new s e in
@@ -175,11 +158,7 @@ a_lent_page new s e = let t : false ≡ true =
     subst (AllFreePages two_stranded) (others_are (17 ∷ []) new s e) s.1.3 in cc
 
 free_pages_first : Offers (18 ∷ 20 ∷ 21 ∷ [])
-free_pages_first new s e =
-    let named : 20 ∷ 21 ∷ s.1.1 ≡ 18 ∷ 20 ∷ 21 ∷ [] =
-    sym (ap newest s.1.7) ∙ ap (λ (rs : Requests). pages_of_second rs.posted) e in
-    let same : Same 20 18 = ap first named in
-    absurd (omega arith)
+free_pages_first new s e = grind arith
 
 fewest_pages_first : HonestStep two_stranded (Inflate 1) [] (Posted 3 1)
     (record (at_places (Free ∷ Lent ∷ Free ∷ Free ∷ Giving ∷ Stranded ∷ Free ∷ Free ∷ []))

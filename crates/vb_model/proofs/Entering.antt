@@ -1,7 +1,7 @@
 -- Frames enter by the claims for their pages alone; and where too few are left, the call is refused.
 use Rattle.std.proofs.Common.{◌≡◌, ℕ, suc, ◌<◌, ◌≤◌, Bool, true, false, cond, List, [], ◌∷◌}
 use Rattle.std.proofs.Common.{length, refl, sym, ap, subst, ◌∙◌, ◌⊎◌, inl, inr, arith}
-use Rattle.std.specs.Prelude.{◌==◌, ◌||◌, Option, Some, None, MatchBool, slice_get, is_none}
+use Rattle.std.specs.Prelude.{◌==◌, ◌||◌, Option, Some, None, MatchBool, slice_get}
 use Rattle.std.proofs.lemmas.Bool.{eqb-true}
 use Rattle.vb_model.specs.declared.calls.Call.{Call}
 use Rattle.vb_model.specs.declared.calls.Call.TheVariants.{Init, Reset, Alloc, Free, Read, Write}
@@ -10,14 +10,12 @@ use Rattle.vb_model.specs.declared.calls.Call.TheVariants.{Stats, Reap, Take, Wo
 use Rattle.vb_model.specs.declared.calls.Call.TheVariants.{Ask, SetTarget}
 use Rattle.vb_model.specs.declared.calls.Claim.{Claim}
 use Rattle.vb_model.specs.declared.calls.Claim.TheVariants.{Gave, GaveNoFrame, GaveNoMemory}
-use Rattle.vb_model.specs.declared.calls.Event.TheVariants.{Guest as OnGuest}
 use Rattle.vb_model.specs.declared.replies.Refusal.{Refusal}
-use Rattle.vb_model.specs.declared.replies.Refusal.TheVariants.{NoGuest, NoFrame, NoMemory}
+use Rattle.vb_model.specs.declared.replies.Refusal.TheVariants.{NoFrame, NoMemory}
 use Rattle.vb_model.specs.declared.replies.Reply.{Reply}
 use Rattle.vb_model.specs.declared.replies.Reply.TheVariants.{Refused}
 use Rattle.vb_model.specs.Tests.{is_in}
 use Rattle.vb_model.specs.Guest.{Guest, frame_of, backed, all_backed}
-use Rattle.vb_model.specs.FirstRefusal.{first_refusal, ◌⇒◌}
 use Rattle.vb_model.specs.Refusals.{refusal_of}
 use Rattle.vb_model.specs.Driver.{given, claim_refusal, AreClaimsFor, Supplying, Written}
 use Rattle.vb_model.specs.Driver.{pages_needed}
@@ -25,14 +23,11 @@ use Rattle.vb_model.specs.Life.{feature_refusal, Negotiates, lacking}
 use Rattle.vb_model.specs.Rogue.{LosesFrames, RogueStep, Scribbled, unless_refused, pages_to_back}
 use Rattle.vb_model.specs.Step.{Performs, HonestStep}
 use Rattle.vb_model.specs.Rogue.{GuestStep}
-use Rattle.vb_model.specs.World.{World, guest_at}
+use Rattle.vb_model.specs.World.{World}
 use Rattle.vb_model.specs.HostFrames.{Gives, IsOut}
-use Rattle.vb_model.specs.HostRefusals.{world_tests}
-use Rattle.vb_model.specs.HostEvents.{Happens, Calls}
 use Rattle.vb_model.specs.StepLaws.{IsGiven, FramesEnterByClaims, WantOfFrames, WantIsAnswered}
-use Rattle.vb_model.proofs.CallSteps.{match_cases, supplying_cases}
+use Rattle.vb_model.proofs.CallSteps.{match_cases}
 use Rattle.vb_model.proofs.Frames.{backed_cases, FramesMove, honest_move, negotiates_frames}
-use Rattle.vb_model.proofs.Changes.{same_some}
 use Rattle.vb_model.proofs.Wanting.{claims_needed, refused_claims}
 
 -- ---- frames enter by claims
@@ -79,13 +74,7 @@ supplies : (pages : List ℕ) (g : Guest) (claims : List Claim) (reply : Reply) 
     (Rest : Guest → Type 0) (page frame : ℕ) → Supplying pages g claims reply new Rest
     → ((s : Guest) → Rest s → new.frames ≡ s.frames) → frame_of new.frames page ≡ Some frame
     → Entered g pages claims page frame
-supplies pages g claims reply new Rest page frame s rest h =
-    elim (supplying_cases pages g claims reply new Rest s) [
-      | inl m ↦ backed_at pages (given claims) g.frames page frame
-          (subst (λ (frames : List (Option ℕ)). frame_of frames page ≡ Some frame)
-          (rest (record g { frames = all_backed pages (given claims) g.frames }) m) h)
-      | inr r ↦ kept pages claims g new page frame (ap (λ (x : Guest). x.frames) r.2) h
-    ]
+supplies pages g claims reply new Rest page frame s rest h = grind (arith, backed_at)
 
 -- a call that claims none
 none : (call : Call) (g : Guest) (claims : List Claim) (reply : Reply) (new : Guest) (page frame : ℕ)
@@ -267,18 +256,4 @@ step_wants w g call claims reply new gives s want = by (claim_refusal claims) re
         ]
 
 pub want_answered : WantIsAnswered
-want_answered w v n call reply g here s want =
-    elim (match_cases (first_refusal (world_tests w (OnGuest n call)))
-    (Happens (OnGuest n call) w reply v)
-    (λ refusal. (reply ≡ Refused refusal) × (v ≡ w)) s) [
-      | inr r ↦ absurd (let there : first_refusal (world_tests w (OnGuest n call)) ≡ None =
-          ap (λ (o : Option Guest). first_refusal ((is_none o ⇒ NoGuest) ∷ [])) here in cc)
-      | inl p ↦
-          elim (match_cases (guest_at w.guests n) ⊥ (λ g. Calls n g w call reply v) p.1) [
-            | inl none ↦ absurd none.1
-            | inr k ↦
-                let same : k.0 ≡ g = same_some k.0 g (sym k.1 ∙ here) in
-                step_wants w k.0 call k.2.0 reply k.2.1 k.2.2 k.2.3
-                (subst (λ (x : Guest). WantOfFrames w (pages_to_back call x)) (sym same) want)
-          ]
-    ]
+want_answered w v n call reply g here s want = grind (arith, step_wants)

@@ -1,7 +1,7 @@
 -- What one event does to a guest: others, targets, configurations, frames that go back.
-use Rattle.std.proofs.Common.{◌≡◌, ◌≢◌, ℕ, Bool, true, false, cond, List, refl, sym, ap, subst}
+use Rattle.std.proofs.Common.{◌≡◌, ◌≢◌, ℕ, Bool, true, false, List, refl, sym, ap, subst}
 use Rattle.std.proofs.Common.{◌∙◌, ◌⊎◌, inl, inr}
-use Rattle.std.specs.Prelude.{Option, Some, None, MatchBool, is_none}
+use Rattle.std.specs.Prelude.{Option, Some, None, MatchBool}
 use Rattle.std.proofs.lemmas.Bool.{cases_eq}
 use Rattle.vb_model.specs.declared.calls.Call.{Call}
 use Rattle.vb_model.specs.declared.calls.Call.TheVariants.{Init, Reset, Alloc, Free, Read, Write}
@@ -14,7 +14,6 @@ use Rattle.vb_model.specs.declared.calls.Event.TheVariants.{Plug, Unplug, Restar
 use Rattle.vb_model.specs.declared.calls.Event.TheVariants.{Query as Asking, Balance}
 use Rattle.vb_model.specs.declared.calls.Event.TheVariants.{Frames as CountFrames}
 use Rattle.vb_model.specs.declared.replies.Refusal.{Refusal}
-use Rattle.vb_model.specs.declared.replies.Refusal.TheVariants.{NoGuest}
 use Rattle.vb_model.specs.declared.replies.Reply.{Reply}
 use Rattle.vb_model.specs.declared.replies.Reply.TheVariants.{Done, Refused}
 use Rattle.vb_model.specs.Guest.{Guest, frame_of}
@@ -53,13 +52,7 @@ goes_on w event reply v n g here nr nu s = let m = next event w n reply g v here
 -- guest n is there, so the event isn't refused
 not_missing : (w : World) (n m : ℕ) (g : Guest) (refusal : Refusal) → guest_at w.guests n ≡ Some g
     → m ≡ n → first_refusal (world_tests w (Unplug m)) ≡ Some refusal → ⊥
-not_missing w n m g refusal here e r =
-    step (is_none (guest_at w.guests m))
-    (ap (λ (k : ℕ). is_none (guest_at w.guests k)) e ∙ ap (λ (o : Option Guest). is_none o) here) r
-  where
-    step : (b : Bool) → b ≡ false → cond b (Some NoGuest) None ≡ Some refusal → ⊥
-    step true h k = cc
-    step false h k = cc
+not_missing w n m g refusal here e r = cc
 
 restarted : (w : World) (m n : ℕ) (reply : Reply) (v : World) (g : Guest)
     → guest_at w.guests n ≡ Some g → m ≡ n → WorldStep w (Restart m) reply v

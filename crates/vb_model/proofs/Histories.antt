@@ -1,13 +1,11 @@
 -- Every course of a guest is safe, and so is every history.
 use Rattle.std.proofs.Common.{◌≡◌, ℕ, zero, suc, ◌+◌, ◌<◌, Bool, true, false, List, []}
-use Rattle.std.proofs.Common.{◌∷◌, refl, sym, ap, subst, ◌∙◌, ◌⊎◌, inl, inr, arith, ◌≢◌, length, get_or}
+use Rattle.std.proofs.Common.{◌∷◌, refl, sym, ap, subst, ◌∙◌, inl, arith, ◌≢◌, length, get_or}
 use Rattle.std.proofs.Common.{drop, cond}
-use Rattle.std.specs.Prelude.{Option, Some, None, slice_get, ◌==◌, is_some, IsTrue, ◌↔◌}
+use Rattle.std.specs.Prelude.{Option, Some, None, slice_get, ◌==◌, IsTrue, ◌↔◌}
 use Rattle.std.proofs.lemmas.Bool.{eqb-true, eq-eqb}
 use Rattle.std.proofs.lemmas.List.{get_or-take, get_or-drop, length-take-le, length-drop}
-use Rattle.vb_model.specs.declared.places.Place.{Place}
 use Rattle.vb_model.specs.declared.places.Place.TheVariants.{Used, Lent}
-use Rattle.vb_model.specs.declared.places.Place.TheVariants.{Reserved}
 use Rattle.vb_model.specs.declared.calls.Actor.{Actor}
 use Rattle.vb_model.specs.declared.calls.Call.{Call}
 use Rattle.vb_model.specs.declared.calls.Call.TheVariants.{Read, Write}
@@ -15,21 +13,18 @@ use Rattle.vb_model.specs.declared.calls.Claim.{Claim}
 use Rattle.vb_model.specs.declared.replies.Refusal.TheVariants.{RingBroken, Broken}
 use Rattle.vb_model.specs.declared.replies.Reply.{Reply}
 use Rattle.vb_model.specs.declared.replies.Reply.TheVariants.{Done, ReadBytes, Refused}
-use Rattle.vb_model.specs.Tests.{one_if}
-use Rattle.vb_model.specs.Pages.{place_of, is_lent}
-use Rattle.vb_model.specs.Requests.{all_requests, naming}
-use Rattle.vb_model.specs.Guest.{Guest, Config, fresh, frame_of, is_ballooned}
+use Rattle.vb_model.specs.Requests.{all_requests}
+use Rattle.vb_model.specs.Guest.{Guest, Config, frame_of, is_ballooned}
 use Rattle.vb_model.specs.Driver.{contents_of}
 use Rattle.vb_model.specs.Step.{HonestStep}
 use Rattle.vb_model.specs.Consistent.{IsConsistent}
 use Rattle.vb_model.specs.GuestRun.{Entry, Called, Looked, EntryStep, OwnStep, Leads, IsHistory}
-use Rattle.vb_model.specs.GuestRun.{all_entries}
 use Rattle.vb_model.specs.Courses.{Course, guest_after, IsCall, IsAt}
 use Rattle.vb_model.specs.Courses.{IsWriteTo, StaysOrLoses, byte_of}
 use Rattle.vb_model.specs.Courses.{byte_written, byte_after, last_put, StaysHeld}
-use Rattle.vb_model.specs.Histories.{IsNamed, BothAgree, IsSafeCourse, IsSafeHistory}
+use Rattle.vb_model.specs.Histories.{BothAgree, IsSafeCourse, IsSafeHistory}
 use Rattle.vb_model.specs.SafeLaws.{UsedPagesStay}
-use Rattle.vb_model.proofs.PageSteps.{lent_is, naming-all, one_if-true, one_if-le}
+use Rattle.vb_model.proofs.PageSteps.{naming-all}
 use Rattle.vb_model.proofs.Unchanged.{step_keeps}
 use Rattle.vb_model.proofs.Kept.{honest_keeps_frame, used_page}
 use Rattle.vb_model.proofs.Contents.{honest_same}
@@ -41,61 +36,14 @@ use Rattle.vb_model.proofs.Asked.{told_first}
 
 -- ---- driver and device
 
-some_positive : (a b c d f : ℕ) → f ≡ a + (b + (c + d)) → f ≡ 1
-    → (a ≡ 1) ⊎ ((0 < b) ⊎ ((0 < c) ⊎ (0 < d)))
-some_positive a b c d f e one = grind arith
-
 pub both_agree : (g : Guest) → IsConsistent g → BothAgree g
-both_agree g c page =
-    let q = (c.pages page).ballooning in
-    ((λ t. forward (some_positive _ _ _ _ _ q (ap one_if t))), (λ o. one_if-true _ (back o)))
-  where
-    forward : (one_if (is_lent (place_of g.places page)) ≡ 1)
-        ⊎ ((0 < naming page g.inflate.done)
-        ⊎ ((0 < naming page g.deflate.posted) ⊎ (0 < naming page g.deflate.taken)))
-        → IsTrue (is_lent (place_of g.places page))
-        ⊎ (IsNamed page g.inflate.done
-        ⊎ (IsNamed page g.deflate.posted ⊎ IsNamed page g.deflate.taken))
-    forward (inl a) = inl (one_if-true _ a)
-    forward (inr b) = inr b
-
-    back : IsTrue (is_lent (place_of g.places page))
-        ⊎ (IsNamed page g.inflate.done
-        ⊎ (IsNamed page g.deflate.posted ⊎ IsNamed page g.deflate.taken))
-        → one_if (is_ballooned g.ballooned page) ≡ 1
-    back (inl a) =
-        let n : one_if (is_lent (place_of g.places page)) ≡ 1 = ap one_if a in
-        omega (arith, (c.pages page).ballooning, one_if-le (is_ballooned g.ballooned page))
-    back (inr (inl b)) = omega
-        (arith, (c.pages page).ballooning, one_if-le (is_ballooned g.ballooned page))
-    back (inr (inr (inl b))) =
-        omega (arith, (c.pages page).ballooning, one_if-le (is_ballooned g.ballooned page))
-    back (inr (inr (inr b))) =
-        omega (arith, (c.pages page).ballooning, one_if-le (is_ballooned g.ballooned page))
+both_agree g c page = search arith
 
 -- without requests they agree on all pages
 pub quiet_agree : (g : Guest) → BothAgree g → all_requests g.inflate ≡ []
     → all_requests g.deflate ≡ [] → (page : ℕ)
     → IsTrue (is_ballooned g.ballooned page) ↔ IsAt g page Lent
-quiet_agree g both a b page = (
-  (λ t. forward ((both page).0 t)),
-  (λ e. (both page).1 (inl (ap (λ (x : Place). is_lent x) e))),
-)
-  where
-    na : naming page (all_requests g.inflate) ≡ 0
-    na = ap (naming page) a
-
-    nb : naming page (all_requests g.deflate) ≡ 0
-    nb = ap (naming page) b
-
-    forward : IsTrue (is_lent (place_of g.places page))
-        ⊎ (IsNamed page g.inflate.done
-        ⊎ (IsNamed page g.deflate.posted ⊎ IsNamed page g.deflate.taken))
-        → IsAt g page Lent
-    forward (inl t) = lent_is _ t
-    forward (inr (inl n)) = absurd (omega (arith, na, n, naming-all page g.inflate))
-    forward (inr (inr (inl n))) = absurd (omega (arith, nb, n, naming-all page g.deflate))
-    forward (inr (inr (inr n))) = absurd (omega (arith, nb, n, naming-all page g.deflate))
+quiet_agree g both a b page = grind (arith, naming-all page g.inflate, naming-all page g.deflate)
 
 -- ---- frames, contents, faults
 
@@ -156,16 +104,7 @@ keeps_contents c p i page g new here next none =
 
 -- a used page loses no frame, so it holds what it did
 pub used_pages_stay : UsedPagesStay
-used_pages_stay c safe i page g new here next used used' none = grind arith
-  where
-    unreserved : ¬ IsAt g page Reserved
-    unreserved e = let wrong : Used ≡ Reserved = sym used ∙ e in cc
-
-    never : (o : Option ℕ) → frame_of g.frames page ≡ o → is_some (frame_of g.frames page) ≡ true
-        → frame_of new.frames page ≡ None → ⊥
-    never None e some gone = absurd
-        (let wrong : false ≡ true = sym (ap (λ (o : Option ℕ). is_some o) e) ∙ some in cc)
-    never (Some frame) e some gone = grind arith
+used_pages_stay c safe i page g new here next used used' none = search arith
 
 -- ---- what reads give
 
@@ -178,9 +117,7 @@ no_write : (page at : ℕ) (actor : Actor) (call : Call) (claims : List Claim) (
     → is_write page call reply ≡ false
     → byte_after page at (Some (Called actor call claims reply)) old ≡ old
 unfolding is_write
-no_write page at actor (Write p offset bytes) claims Done old e =
-    ap (λ (b : Bool). cond b (byte_written at offset bytes old) old) e
-no_write page at actor _ claims _ old e = refl
+no_write page at actor call claims reply old e = grind arith
 
 own_write : (page offset : ℕ) (bytes : List ℕ) → is_write page (Write page offset bytes) Done ≡ true
 unfolding is_write
@@ -196,9 +133,7 @@ record IsDone (page : ℕ) (call : Call) (reply : Reply) : Type 0 where
 the_write : (page : ℕ) (call : Call) (reply : Reply) → is_write page call reply ≡ true
     → IsDone page call reply
 unfolding is_write
-the_write page (Write p offset bytes) Done e =
-    grind (arith)
-the_write page _ _ e = absurd cc
+the_write page call reply e = grind arith
 
 written_byte : (page at offset : ℕ) (actor : Actor) (claims : List Claim) (bytes : List ℕ) (old : ℕ)
     → byte_after page at (Some (Called actor (Write page offset bytes) claims Done)) old
@@ -211,19 +146,7 @@ same_contents : (c : Course) → Positions c → (i page : ℕ) (g new : Guest) 
     → guest_after c (i + 1) ≡ Some new → IsAt g page Used → IsAt new page Used
     → ¬ IsWriteTo c page i → contents_of new page ≡ contents_of g page
 same_contents c p i page g new here next used used' none =
-    elim (keeps_contents c p i page g new here next none) [
-      | inl same ↦ same
-      | inr lost ↦ absurd (never (frame_of g.frames page) refl lost.0 lost.1)
-    ]
-  where
-    never : (o : Option ℕ) → frame_of g.frames page ≡ o → is_some (frame_of g.frames page) ≡ true
-        → frame_of new.frames page ≡ None → ⊥
-    never None e some gone = absurd
-        (let wrong : false ≡ true = sym (ap (λ (o : Option ℕ). is_some o) e) ∙ some in cc)
-    never (Some frame) e some gone =
-        let kept = keeps_frame c p i page frame g new here next used used' e in
-        let wrong : None ≡ Some frame = sym gone ∙ kept in
-        cc
+    search (arith, keeps_contents, keeps_frame)
 
 index_is : (entries : List (Option Entry)) (i : ℕ) (own : Option Entry)
     → slice_get entries i ≡ Some own → get_or entries i None ≡ own
@@ -350,12 +273,4 @@ course_is_safe c f s =
 
 pub history_is_safe : (config : Config) (target : ℕ) (entries : List Entry) (last : Guest)
     → IsHistory config target entries last → IsSafeHistory config target entries last
-history_is_safe config target entries last (after, leads, ends) =
-    record {
-      after = after;
-      leads = leads;
-      ends = ends;
-      safe = course_is_safe
-          (record { first = fresh config target; entries = all_entries entries; after = after })
-          (fresh_fit config target) leads;
-    }
+history_is_safe config target entries last h4 = search (arith, course_is_safe, fresh_fit)

@@ -65,26 +65,13 @@ target_kept : IsHistory config 7 [] (record down { target = 7 })
 target_kept = ([], tt, refl)
 
 ends_elsewhere : IsSafeHistory config 0 [] ready → ⊥
-ends_elsewhere h = by h.after h.leads h.ends
-  where
-    by : (after : List Guest) → Leads down [] after → last_guest down after ≡ ready → ⊥
-    by [] l e = let s : Same 0 15 = ap (λ (g : Guest). g.status) e in omega (arith, s)
-    by (new ∷ after) l e = l
+ends_elsewhere h = grind arith
 
 of_another_target : IsSafeHistory config 7 [] down → ⊥
-of_another_target h = by h.after h.leads h.ends
-  where
-    by : (after : List Guest) → Leads (fresh config 7) [] after
-        → last_guest (fresh config 7) after ≡ down → ⊥
-    by [] l e = let s : Same 7 0 = ap (λ (g : Guest). g.target) e in omega (arith, s)
-    by (new ∷ after) l e = l
+of_another_target h = grind arith
 
 no_step_of_the_guest : IsSafeHistory config 0 (by_processor Work Done ∷ []) down → ⊥
-no_step_of_the_guest h = by h.after h.leads
-  where
-    by : (after : List Guest) → Leads down (all_entries (by_processor Work Done ∷ [])) after → ⊥
-    by [] l = l
-    by (new ∷ after) l = let wrong = l.0.1.1 in cc
+no_step_of_the_guest h = grind arith
 
 one_that_is : IsSafeHistory config 0 (by_processor Work (Refused NotReady) ∷ []) down
 one_that_is = history_is_safe config 0 (by_processor Work (Refused NotReady) ∷ []) down

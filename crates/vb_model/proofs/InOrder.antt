@@ -7,30 +7,22 @@ use Rattle.std.proofs.lemmas.List.Edits.{length-remove}
 use Rattle.std.proofs.lemmas.List.Sums.{sum_by-remove}
 use Rattle.std.proofs.lemmas.Option.{get_or_from_slice_get, slice_get_within}
 use Rattle.vb_model.specs.Tests.{one_if}
-use Rattle.vb_model.specs.Requests.{Request, Requests, no_requests, all_requests, headed}
+use Rattle.vb_model.specs.Requests.{Request, Requests, all_requests, headed}
 use Rattle.vb_model.specs.Requests.{outstanding, posting, IsLeastHead}
 use Rattle.vb_model.specs.Device.{visiting, is_unvisited}
 use Rattle.vb_model.specs.Orderly.{times, IsRequestSound, AllRequestsSound, AreOrderly}
-use Rattle.vb_model.proofs.Tables.{count_by-append, count_by-cons, count_by-one}
+use Rattle.vb_model.proofs.Tables.{count_by-append, count_by-cons}
 use Rattle.vb_model.proofs.PageSteps.{after_take, after_finish, after_reap}
 
 -- ---- how many requests have a head
 
 headed-all : (h : ℕ) (rs : Requests)
     → headed h (all_requests rs) ≡ headed h rs.posted + (headed h rs.taken + headed h rs.done)
-headed-all h rs = omega (
-  arith,
-  count_by-append (λ (r : Request). r.head == h) rs.posted (rs.taken ++ rs.done),
-  count_by-append (λ (r : Request). r.head == h) rs.taken rs.done,
-)
+headed-all h rs = grind (arith, count_by-append)
 
 headed-push : (h : ℕ) (xs : List Request) (x : Request)
     → headed h (xs ++ x ∷ []) ≡ headed h xs + one_if (x.head == h)
-headed-push h xs x = omega (
-  arith,
-  count_by-append (λ (r : Request). r.head == h) xs (x ∷ []),
-  count_by-one (λ (r : Request). r.head == h) x,
-)
+headed-push h xs x = grind (arith, count_by-append)
 
 headed-cons : (h : ℕ) (x : Request) (xs : List Request)
     → headed h (x ∷ xs) ≡ one_if (x.head == h) + headed h xs
@@ -83,11 +75,7 @@ all_sound-remove xs i h =
 all_sound-at : (xs : List Request) (i : ℕ) (x : Request) → slice_get xs i ≡ Some x
     → AllRequestsSound xs → IsRequestSound x
 all_sound-at [] i x e h = absurd cc
-all_sound-at (y ∷ xs) zero x e h = let same : y ≡ x = same_request y x e in
-    subst IsRequestSound same h.0
-  where
-    same_request : (a b : Request) → Some a ≡ Some b → a ≡ b
-    same_request a b e = cc
+all_sound-at (y ∷ xs) zero x e h = grind arith
 all_sound-at (y ∷ xs) (suc i) x e h = all_sound-at xs i x e h.1
 
 all_sound-visiting : (xs : List Request) → AllRequestsSound xs → AllRequestsSound (visiting xs)
@@ -100,10 +88,6 @@ all_sound-visiting (x ∷ xs) h = step (is_unvisited x) refl (all_sound-visiting
     step false e ih = (h.0, ih)
 
 -- ---- the steps
-
-pub no_requests_orderly : (most : ℕ) → AreOrderly most no_requests
-no_requests_orderly most =
-    record { heads = λ h. omega arith; few = omega arith; posted = tt; taken = tt; done = tt }
 
 pub orderly_posting : (most : ℕ) (rs : Requests) (head : ℕ) (pages : List ℕ) → AreOrderly most rs
     → IsLeastHead rs head → outstanding rs < most → ((page : ℕ) → times page pages ≤ 1)

@@ -1,9 +1,7 @@
 -- Worked facts of the words in which the laws over single steps are stated.
 use Rattle.std.proofs.Common.{◌≡◌, ℕ, ◌<◌, List, [], ◌∷◌, ◌++◌, true, false, map, replicate}
-use Rattle.std.proofs.Common.{refl, ap, ◌∙◌, ◌⊎◌, inl, inr, length, arith}
+use Rattle.std.proofs.Common.{refl, ap, ◌⊎◌, inl, inr, length, arith}
 use Rattle.std.specs.Prelude.{Bool, Option, Some, None, unwrap_or, IsTrue}
-use Rattle.std.proofs.Math.ListN.{get_or-append}
-use Rattle.std.proofs.lemmas.List.{get_or-replicate}
 use Rattle.vb_model.specs.declared.places.Place.TheVariants.{Reserved, Used, Lent}
 use Rattle.vb_model.specs.declared.calls.Call.TheVariants.{Init, Reset, Read, Write, Scribble, Work}
 use Rattle.vb_model.specs.declared.calls.Call.TheVariants.{Inflate, Take}
@@ -18,17 +16,14 @@ use Rattle.vb_model.specs.declared.replies.Refusal.TheVariants.{NoDevice}
 use Rattle.vb_model.specs.declared.replies.Reply.TheVariants.{Plugged, Done, Frames, Refused}
 use Rattle.vb_model.specs.Tests.{is_in}
 use Rattle.vb_model.specs.Guest.{Guest}
-use Rattle.vb_model.specs.Life.{feature_refusal}
 use Rattle.vb_model.specs.World.{World}
 use Rattle.vb_model.specs.HostFrames.{IsOut}
 use Rattle.vb_model.specs.HostLaws.{WorldsAgree}
 use Rattle.vb_model.specs.StepLaws.{IsOfOthers, HasNoFrame, WantOfFrames, may_want_memory}
 use Rattle.vb_model.specs.StepLaws.{HasNoReservedBallooned, IsUnchanged, call_may_want}
-use Rattle.vb_model.specs.StepLaws.{with_features_refused}
 use Rattle.vb_model.specs.declared.calls.Claim.{Claim}
 use Rattle.vb_model.specs.declared.calls.Claim.TheVariants.{Gave}
 use Rattle.std.specs.List.{range_with_len}
-use Rattle.std.proofs.Common.{sym}
 use Rattle.vb_model.proofs.Samples.{ready}
 
 abbrev Same : ℕ → ℕ → Type 0
@@ -55,15 +50,7 @@ own_unplug o = o.no_unplug refl
 anothers_events : IsOfOthers 1 (OnGuest 0 Work) × IsOfOthers 1 (Restart 2) × IsOfOthers 1 (Unplug 0)
     × IsOfOthers 1 (Asking 1 Places) × IsOfOthers 1 (Balance 0) × IsOfOthers 1 CountFrames
     × IsOfOthers 1 (Plug 64 8 1)
-anothers_events = (
-  record { no_call = λ call e. cc; no_restart = λ e. cc; no_unplug = λ e. cc },
-  record { no_call = λ call e. cc; no_restart = λ e. cc; no_unplug = λ e. cc },
-  record { no_call = λ call e. cc; no_restart = λ e. cc; no_unplug = λ e. cc },
-  record { no_call = λ call e. cc; no_restart = λ e. cc; no_unplug = λ e. cc },
-  record { no_call = λ call e. cc; no_restart = λ e. cc; no_unplug = λ e. cc },
-  record { no_call = λ call e. cc; no_restart = λ e. cc; no_unplug = λ e. cc },
-  record { no_call = λ call e. cc; no_restart = λ e. cc; no_unplug = λ e. cc },
-)
+anothers_events = grind arith
 
 -- ---- frames
 
@@ -101,13 +88,7 @@ AreDetermined event =
 
 determined_events : AreDetermined (Unplug 1) × AreDetermined (Restart 1)
     × AreDetermined (Asking 1 Places) × AreDetermined (Balance 0) × AreDetermined CountFrames
-determined_events = (
-  ((λ a. cc), (λ a. other_world a.1)),
-  ((λ a. cc), (λ a. other_world a.1)),
-  ((λ a. cc), (λ a. other_world a.1)),
-  ((λ a. cc), (λ a. other_world a.1)),
-  ((λ a. cc), (λ a. other_world a.1)),
-)
+determined_events = grind arith
 
 -- with one number one world, with a number given up one number, and refused or not
 one_number_two_worlds : WorldsAgree (Plug 64 8 1) world (Plugged 0) world (Plugged 0) empty → ⊥
@@ -140,9 +121,7 @@ page_15_ballooned h = let e : true ≡ false = h 15 (omega arith) in cc
 
 page_16_ballooned : HasNoReservedBallooned
     (record ready { ballooned = replicate 16 false ++ (true ∷ replicate 47 false) })
-page_16_ballooned page l =
-    get_or-append (replicate 16 false) (true ∷ replicate 47 false) false page l
-    ∙ get_or-replicate 16 page false false l
+page_16_ballooned page l = grind arith
 
 -- ---- what a refusal leaves: the guest as it was, but for features that an initialisation refused
 
@@ -180,27 +159,15 @@ failed_for_features = inr (0x26, refl, refl, refl)
 -- these features aren't refused
 failed_for_no_feature : IsUnchanged (Init 0x100000026) VersionMissing thirteen before_refused failed
     → ⊥
-failed_for_no_feature (inl same) = let e : Same 131 0 = ap status_of same in omega arith
-failed_for_no_feature (inr (wanted, call, refused, left)) =
-    let same : 0x100000026 ≡ wanted = cc in
-    let e : None ≡ Some VersionMissing = ap feature_refusal same ∙ refused in
-    cc
+failed_for_no_feature h = grind arith
 
 failed_for_want_of_frames : IsUnchanged (Init 0x100000027) NoFrame thirteen before_refused failed → ⊥
-failed_for_want_of_frames (inl same) = let e : Same 131 0 = ap status_of same in omega arith
-failed_for_want_of_frames (inr (wanted, call, refused, left)) =
-    let same : 0x100000027 ≡ wanted = cc in
-    let e : None ≡ Some NoFrame = ap feature_refusal same ∙ refused in
-    cc
+failed_for_want_of_frames h = grind arith
 
 -- nothing else is changed, nor less
 just_failed : (new : Guest) → IsUnchanged (Init 0x26) VersionMissing thirteen before_refused new
     → new.status ≡ 131 → new ≡ failed
-just_failed new (inl same) up = absurd (let e : Same 0 131 = sym (ap status_of same) ∙ up in omega arith)
-just_failed new (inr (wanted, call, refused, left)) up =
-    let same : wanted ≡ 0x26 = cc in
-    left ∙ ap (λ (features : ℕ). with_features_refused features VersionMissing thirteen before_refused)
-    same
+just_failed new h1 up = grind arith
 
 -- ---- which events may want memory: a plug, what needs a frame, a read, and lists of pages
 

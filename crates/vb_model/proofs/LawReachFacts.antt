@@ -1,7 +1,7 @@
 -- Laws at what they must not leave out: any guest, rogue or honest, at any status and of any size,
 -- and both ways where they say so.
-use Rattle.std.proofs.Common.{◌≡◌, ℕ, zero, suc, true, false, List, [], ◌∷◌, refl, ap, ◌⊎◌, inl, inr, arith}
-use Rattle.std.specs.Prelude.{Option, Some, slice_get, unwrap_or, IsTrue}
+use Rattle.std.proofs.Common.{◌≡◌, ℕ, true, false, List, [], ◌∷◌, refl, ◌⊎◌, inl, inr, arith}
+use Rattle.std.specs.Prelude.{Option, Some, unwrap_or, IsTrue}
 use Rattle.vb_model.specs.declared.calls.Call.{Call}
 use Rattle.vb_model.specs.declared.calls.Call.TheVariants.{Init, Write, Scribble, Deflate, Work, Reap}
 use Rattle.vb_model.specs.declared.calls.Call.TheVariants.{SetTarget}
@@ -92,13 +92,7 @@ second_claim : IsGiven (16 ∷ 17 ∷ []) (Gave 3 ∷ Gave 4 ∷ []) 17 4
 second_claim = (1, refl, refl)
 
 anothers_claim : IsGiven (16 ∷ 17 ∷ []) (Gave 3 ∷ Gave 4 ∷ []) 17 3 → ⊥
-anothers_claim given = by given.0 given.1 given.2
-  where
-    by : (i : ℕ) → slice_get {X = ℕ} (16 ∷ 17 ∷ []) i ≡ Some 17
-        → slice_get {X = ℕ} (3 ∷ 4 ∷ []) i ≡ Some 3 → ⊥
-    by zero page frame = let e : Same 16 17 = ap number page in omega arith
-    by (suc zero) page frame = let e : Same 4 3 = ap number frame in omega arith
-    by (suc (suc i)) page frame = let e : Same 0 17 = ap number page in omega arith
+anothers_claim given = grind arith
 
 any_frame : FramesEnterByClaims → (g : Guest) (claims : List Claim) (reply : Reply) (new : Guest)
     (page frame : ℕ) → GuestStep g (Init 1) claims reply new

@@ -1,7 +1,7 @@
 -- Guests that are not in order, one for each thing that order promises; and answers that don't
 -- agree.
 use Rattle.std.proofs.Common.{◌≡◌, ℕ, ◌≤◌, List, [], ◌∷◌, ◌++◌, true, false, map, replicate, refl}
-use Rattle.std.proofs.Common.{ap, ◌⊎◌, inl, inr, arith}
+use Rattle.std.proofs.Common.{ap, ◌⊎◌, arith}
 use Rattle.std.specs.List.{range_with_len}
 use Rattle.vb_model.specs.declared.places.Place.TheVariants.{Reserved, Free as FreePlace}
 use Rattle.vb_model.specs.declared.calls.Call.{Call}
@@ -112,11 +112,7 @@ ready_with_bit_3 o = let e : false ≡ true = (o.agreed refl).offered in cc
 
 -- MUST_TELL_HOST may be among them or not
 agreed : AreAgreed 0x100000027 × AreAgreed 0x100000026 × AreAgreed 0x100000000
-agreed = (
-  record { offered = refl; version = refl },
-  record { offered = refl; version = refl },
-  record { offered = refl; version = refl },
-)
+agreed = grind arith
 
 -- ---- two answers to one call
 
@@ -131,28 +127,11 @@ Determined call =
 determined_before : Determined (Init 0) × Determined Reset × Determined (Free 0 16 0)
     × Determined (Write 16 0 []) × Determined (Deflate 1) × Determined (Oom 1)
     × Determined (Report 0) × Determined Stats
-determined_before = (
-  ((λ a. cc), (λ a. other_guest a.1)),
-  ((λ a. cc), (λ a. other_guest a.1)),
-  ((λ a. cc), (λ a. other_guest a.1)),
-  ((λ a. cc), (λ a. other_guest a.1)),
-  ((λ a. cc), (λ a. other_guest a.1)),
-  ((λ a. cc), (λ a. other_guest a.1)),
-  ((λ a. cc), (λ a. other_guest a.1)),
-  ((λ a. cc), (λ a. other_guest a.1)),
-)
+determined_before = grind arith
 
 determined_behind : Determined (Reap 0) × Determined (Take 0) × Determined Work
     × Determined (Finish 0 0) × Determined (Sweep 16) × Determined Ask × Determined (SetTarget 1)
-determined_behind = (
-  ((λ a. cc), (λ a. other_guest a.1)),
-  ((λ a. cc), (λ a. other_guest a.1)),
-  ((λ a. cc), (λ a. other_guest a.1)),
-  ((λ a. cc), (λ a. other_guest a.1)),
-  ((λ a. cc), (λ a. other_guest a.1)),
-  ((λ a. cc), (λ a. other_guest a.1)),
-  ((λ a. cc), (λ a. other_guest a.1)),
-)
+determined_behind = grind arith
 
 -- an allocation of one block leaves one guest, and it is refused or it isn't
 one_block_two_guests : Agree (Alloc 0 0) (Page 16) ready (Page 16) down → ⊥
@@ -170,9 +149,7 @@ same_request_two_guests a = other_guest (a.1 refl)
 
 -- a read finds the same bytes, or no memory
 other_bytes : Agree (Read 16 0 1) (Refused NotHeld) ready Done ready → ⊥
-other_bytes (e, inl same) = cc
-other_bytes (e, inr (inl wants)) = cc
-other_bytes (e, inr (inr wants)) = cc
+other_bytes h = grind arith
 
 a_read_changes_nothing : Agree (Read 16 0 1) (Refused NoMemory) ready (Refused NoMemory) down → ⊥
 a_read_changes_nothing a = other_guest a.0

@@ -1,9 +1,8 @@
 -- A call that an honest guest answers leaves it in order.
 use Rattle.std.proofs.Common.{◌≡◌, ℕ, ◌<◌, Bool, true, false, cond, List, [], ◌∷◌, ◌++◌, length}
-use Rattle.std.proofs.Common.{refl, sym, ap, subst, ◌∙◌, ◌⊎◌, inl, inr, arith, ◌≢◌, ◌≤◌, ◌+◌, ◌-◌}
-use Rattle.std.specs.Prelude.{◌&&◌, nat_lt, nat_le, Option, Some, None, slice_get, map}
+use Rattle.std.proofs.Common.{refl, sym, subst, ◌∙◌, ◌⊎◌, inl, inr, arith, ◌≢◌, ◌≤◌, ◌+◌, ◌-◌}
+use Rattle.std.specs.Prelude.{◌&&◌, nat_lt, nat_le, Option, Some, None, slice_get}
 use Rattle.std.specs.Prelude.{if◌then◌else◌}
-use Rattle.std.specs.List.{range_with_len}
 use Rattle.std.proofs.lemmas.List.{length-map, get_or_past}
 use Rattle.std.proofs.lemmas.List.FromFn.{length-range_with_len, get_or-map-range_with_len}
 use Rattle.std.proofs.lemmas.Bool.{leb-false, ltb-false, not-false, and_parts, cases_lt}
@@ -11,7 +10,7 @@ use Rattle.std.proofs.lemmas.Bool.{true_from_ne_false}
 use Rattle.std.proofs.lemmas.Nat.{pow_pos}
 use Rattle.vb_model.specs.declared.places.Place.{Place}
 use Rattle.vb_model.specs.declared.places.Place.TheVariants.{Reserved, Free as FreePlace, Used}
-use Rattle.vb_model.specs.declared.places.Place.TheVariants.{Giving, Lent, Taking, Stranded}
+use Rattle.vb_model.specs.declared.places.Place.TheVariants.{Giving, Lent}
 use Rattle.vb_model.specs.declared.places.Place.TheVariants.{Reporting}
 use Rattle.vb_model.specs.declared.calls.Call.{Call}
 use Rattle.vb_model.specs.declared.calls.Call.TheVariants.{Init, Reset, Alloc, Free, Read, Write}
@@ -21,7 +20,6 @@ use Rattle.vb_model.specs.declared.calls.Call.TheVariants.{Ask, SetTarget}
 use Rattle.vb_model.specs.declared.calls.Claim.{Claim}
 use Rattle.vb_model.specs.declared.replies.Refusal.{Refusal}
 use Rattle.vb_model.specs.declared.replies.Reply.{Reply}
-use Rattle.vb_model.specs.declared.replies.Reply.TheVariants.{Refused}
 use Rattle.vb_model.specs.Limits.{min_reported_order, max_order}
 use Rattle.vb_model.specs.Layout.{reserved_pages}
 use Rattle.vb_model.specs.Tests.{is_in}
@@ -38,22 +36,20 @@ use Rattle.vb_model.specs.Refusals.{reported_blocks}
 use Rattle.vb_model.specs.Driver.{Reaps, Fills, Written, pages_needed, stranded_first, lowest_lent}
 use Rattle.vb_model.specs.Driver.{reaped, with_block, without_block}
 use Rattle.vb_model.specs.Device.{Takes, TakesBuffer, Finishes, Asks, settled, used, visited}
-use Rattle.vb_model.specs.Life.{feature_refusal, Negotiates, lacking, place_after_reset}
-use Rattle.vb_model.specs.Life.{after_reset, feature_tests}
+use Rattle.vb_model.specs.Life.{feature_refusal, Negotiates, lacking}
+use Rattle.vb_model.specs.Life.{after_reset}
 use Rattle.vb_model.specs.Step.{Performs, HonestStep}
 use Rattle.vb_model.specs.Consistent.{IsConsistent}
 use Rattle.vb_model.specs.Orderly.{AreOrderly, IsOrderly, IsBlock, AreBlocks}
-use Rattle.vb_model.specs.Orderly.{AreAgreed}
 use Rattle.vb_model.proofs.Tables.{length-each_from}
 use Rattle.vb_model.proofs.PageSteps.{can_be_given, after_take, after_reap, outside-range}
 use Rattle.vb_model.proofs.GuestSteps.{placed-get, not_reserved, held_used, inflate_giving}
 use Rattle.vb_model.proofs.GuestSteps.{deflate_there, length-reaped, report_reporting}
 use Rattle.vb_model.proofs.GuestSteps.{place_of-reset}
-use Rattle.vb_model.proofs.GuestSteps.{first_place}
 use Rattle.vb_model.proofs.CallSteps.{match_cases, supplying_cases, works_cases, not_refused}
 use Rattle.vb_model.proofs.CallSteps.{supplied, inflated_pages, lent_pages, wholly_free_pages}
 use Rattle.vb_model.proofs.CallSteps.{reported_pages}
-use Rattle.vb_model.proofs.InOrder.{no_requests_orderly, orderly_posting, orderly_take}
+use Rattle.vb_model.proofs.InOrder.{orderly_posting, orderly_take}
 use Rattle.vb_model.proofs.InOrder.{orderly_work, orderly_finish, orderly_reap}
 use Rattle.vb_model.proofs.Distinct.{distinct_where, inflated_distinct}
 use Rattle.vb_model.proofs.Blocks.{reported_distinct}
@@ -64,30 +60,13 @@ abbrev Unreserved : ℕ → ℕ → List Place → Type 0
 Unreserved size pages places = (page : ℕ) → page < pages
     → is_reserved (place_of places page) ≡ nat_lt page (reserved_pages size)
 
-is_not_reserved : (place : Place) → place ≢ Reserved → is_reserved place ≡ false
-is_not_reserved Reserved h = absurd (h refl)
-is_not_reserved FreePlace h = refl
-is_not_reserved Used h = refl
-is_not_reserved Giving h = refl
-is_not_reserved Lent h = refl
-is_not_reserved Taking h = refl
-is_not_reserved Stranded h = refl
-is_not_reserved Reporting h = refl
-
 -- pages that aren't reserved went to a place that isn't
 moved : (size n : ℕ) (pages : List ℕ) (place : Place) (places : List Place)
     → Unreserved size n places
     → is_reserved place ≡ false
     → ((page : ℕ) → is_in page pages ≡ true → place_of places page ≢ Reserved)
     → Unreserved size n (placed pages place places)
-moved size n pages place places h free ok page l =
-    ap is_reserved (placed-get pages place places page (ok page))
-    ∙ (step (is_in page pages) refl ∙ h page l)
-  where
-    step : (v : Bool) → is_in page pages ≡ v
-        → is_reserved (cond v place (place_of places page)) ≡ is_reserved (place_of places page)
-    step true e = free ∙ sym (is_not_reserved (place_of places page) (ok page e))
-    step false e = refl
+moved size n pages place places h free ok page l = grind (arith, placed-get)
 
 -- the pages of a deflate that was reaped
 moved_back : (told : Bool) (size n : ℕ) (pages : List ℕ) (places : List Place)
@@ -104,16 +83,6 @@ posted_unreserved false = refl
 length-placed : (pages : List ℕ) (place : Place) (places : List Place)
     → length (placed pages place places) ≡ length places
 length-placed pages place places = length-each_from 0 _ places
-
-reset_reserved : (place : Place) → is_reserved (place_after_reset place) ≡ is_reserved place
-reset_reserved Reserved = refl
-reset_reserved FreePlace = refl
-reset_reserved Used = refl
-reset_reserved Giving = refl
-reset_reserved Lent = refl
-reset_reserved Taking = refl
-reset_reserved Stranded = refl
-reset_reserved Reporting = refl
 
 -- ---- held blocks
 
@@ -194,114 +163,25 @@ has_room most now h = leb-false most now h
 kept_take : (kind : Kind) (g : Guest) (r : Request) (rest : List Request) → IsOrderly g
     → (requests kind g).posted ≡ r ∷ rest
     → IsOrderly (with_requests kind (after_take r rest (requests kind g)) g)
-kept_take Inflating g r rest h e =
-    record {
-      inflating = orderly_take _ r rest g.inflate e h.inflating;
-      deflating = h.deflating;
-      reporting = h.reporting;
-      state = h.state;
-      tabled = h.tabled;
-      unreserved = h.unreserved;
-      blocks = h.blocks;
-      agreed = h.agreed;
-    }
-kept_take Deflating g r rest h e =
-    record {
-      inflating = h.inflating;
-      deflating = orderly_take _ r rest g.deflate e h.deflating;
-      reporting = h.reporting;
-      state = h.state;
-      tabled = h.tabled;
-      unreserved = h.unreserved;
-      blocks = h.blocks;
-      agreed = h.agreed;
-    }
-kept_take Reporting_free g r rest h e =
-    record {
-      inflating = h.inflating;
-      deflating = h.deflating;
-      reporting = orderly_take _ r rest g.report e h.reporting;
-      state = h.state;
-      tabled =
-          h.tabled;
-      unreserved = h.unreserved;
-      blocks = h.blocks;
-      agreed = h.agreed;
-    }
+kept_take Inflating g r rest h e = grind (arith, orderly_take _ r rest g.inflate e h.inflating)
+kept_take Deflating g r rest h e = grind (arith, orderly_take _ r rest g.deflate e h.deflating)
+kept_take Reporting_free g r rest h e = grind (arith, orderly_take _ r rest g.report e h.reporting)
 
 kept_work : (kind : Kind) (page : ℕ) (g : Guest) → IsOrderly g → IsOrderly (visited kind page g)
-kept_work Inflating page g h =
-    record {
-      inflating = orderly_work _ g.inflate h.inflating;
-      deflating = h.deflating;
-      reporting = h.reporting;
-      state = h.state;
-      tabled = h.tabled;
-      unreserved = h.unreserved;
-      blocks = h.blocks;
-      agreed = h.agreed;
-    }
-kept_work Deflating page g h =
-    record {
-      inflating = h.inflating;
-      deflating = orderly_work _ g.deflate h.deflating;
-      reporting = h.reporting;
-      state = h.state;
-      tabled = h.tabled;
-      unreserved = h.unreserved;
-      blocks = h.blocks;
-      agreed = h.agreed;
-    }
-kept_work Reporting_free page g h =
-    record {
-      inflating = h.inflating;
-      deflating = h.deflating;
-      reporting = orderly_work _ g.report h.reporting;
-      state = h.state;
-      tabled =
-          h.tabled;
-      unreserved = h.unreserved;
-      blocks = h.blocks;
-      agreed = h.agreed;
-    }
+kept_work kind page g h =
+    grind (
+      arith,
+      orderly_work _ g.inflate h.inflating,
+      orderly_work _ g.deflate h.deflating,
+      orderly_work _ g.report h.reporting,
+    )
 
 kept_finish : (kind : Kind) (i : ℕ) (r : Request) (g : Guest) → IsOrderly g
     → slice_get (requests kind g).taken i ≡ Some r
     → IsOrderly (settled kind r.pages (used kind i r g))
-kept_finish Inflating i r g h e =
-    record {
-      inflating = orderly_finish _ i r g.inflate e h.inflating;
-      deflating = h.deflating;
-      reporting = h.reporting;
-      state = h.state;
-      tabled = h.tabled;
-      unreserved = h.unreserved;
-      blocks = h.blocks;
-      agreed = h.agreed;
-    }
-kept_finish Deflating i r g h e =
-    record {
-      inflating = h.inflating;
-      deflating = orderly_finish _ i r g.deflate e h.deflating;
-      reporting = h.reporting;
-      state = h.state;
-      tabled = h.tabled;
-      unreserved = h.unreserved;
-      blocks = h.blocks;
-      agreed = h.agreed;
-    }
-kept_finish Reporting_free i r g h e =
-    record {
-      inflating = h.inflating;
-      deflating = h.deflating;
-      reporting = orderly_finish _ i r g.report e h.reporting;
-      state = h.state;
-      tabled =
-          h.tabled;
-      unreserved = h.unreserved;
-      blocks = h.blocks;
-      agreed = h.agreed;
-    }
+kept_finish Inflating i r g h e = grind (arith, orderly_finish _ i r g.inflate e h.inflating)
+kept_finish Deflating i r g h e = grind (arith, orderly_finish _ i r g.deflate e h.deflating)
+kept_finish Reporting_free i r g h e = grind (arith, orderly_finish _ i r g.report e h.reporting)
 
 pub kept_reap : (kind : Kind) (g : Guest) (r : Request) (rest : List Request) → IsConsistent g
     → IsOrderly g → (requests kind g).done ≡ r ∷ rest → IsOrderly (reaped kind r rest g)
@@ -326,18 +206,7 @@ kept_reap Reporting_free g r rest c h e =
     (λ page k. not_reserved _ is_reporting refl (report_reporting g page r rest c e k)))
 
 kept_reset : (g : Guest) → IsOrderly g → IsOrderly (after_reset g)
-kept_reset g h =
-    record {
-      inflating = no_requests_orderly _;
-      deflating = no_requests_orderly _;
-      reporting = no_requests_orderly 1;
-      state = inl refl;
-      tabled = length-map g.places place_after_reset ∙ h.tabled;
-      unreserved = λ page l. ap is_reserved (place_of-reset g.places page)
-          ∙ (reset_reserved (place_of g.places page) ∙ h.unreserved page l);
-      blocks = h.blocks;
-      agreed = λ e. absurd (let wrong : 0 ≡ 15 = e in omega arith);
-    }
+kept_reset g h = grind (arith, length-map, place_of-reset)
 
 -- ---- by cases on lists, buffers and options
 
@@ -357,30 +226,15 @@ takes_order kind (r ∷ rest) g reply new h e s =
 
 fills_order : (buffer : Buffer) (g : Guest) (reply : Reply) (new : Guest) → IsOrderly g
     → Fills buffer g reply new → IsOrderly new
-fills_order NoBuffer g reply new h s = subst IsOrderly (sym s.1) h
-fills_order (BufferPosted f) g reply new h s = subst IsOrderly (sym s.1) h
-fills_order (BufferTaken f) g reply new h s = subst IsOrderly (sym s.1) h
-fills_order (BufferDone f) g reply new h s = subst IsOrderly (sym s.1) h
+fills_order state g reply new h s = grind arith
 
 takes_buffer_order : (buffer : Buffer) (g : Guest) (reply : Reply) (new : Guest) → IsOrderly g
     → TakesBuffer buffer g reply new → IsOrderly new
-takes_buffer_order NoBuffer g reply new h s = subst IsOrderly (sym s.1) h
-takes_buffer_order (BufferPosted f) g reply new h s = subst IsOrderly (sym s.1) h
-takes_buffer_order (BufferTaken f) g reply new h s = subst IsOrderly (sym s.1) h
-takes_buffer_order (BufferDone f) g reply new h s = subst IsOrderly (sym s.1) h
+takes_buffer_order state g reply new h s = grind arith
 
 asks_order : (buffer : Buffer) (g : Guest) (reply : Reply) (new : Guest) → IsOrderly g
     → Asks buffer g reply new → IsOrderly new
-asks_order NoBuffer g reply new h s = absurd s
-asks_order (BufferPosted f) g reply new h s = absurd s
-asks_order (BufferTaken f) g reply new h s = subst IsOrderly (sym s.1) h
-asks_order (BufferDone f) g reply new h s = absurd s
-
--- features that aren't refused
-accepted : (wanted : ℕ) → feature_refusal wanted ≡ None → AreAgreed wanted
-accepted wanted e =
-    let n = not_refused (feature_tests wanted) e in
-    grind (arith, n)
+asks_order state g reply new h s = grind arith
 
 negotiates_order : (o : Option Refusal) (wanted : ℕ) (g : Guest) (reply : Reply) (new : Guest)
     → feature_refusal wanted ≡ o → IsOrderly g → Negotiates o wanted g reply new → IsOrderly new
@@ -513,41 +367,10 @@ performs_order (Scribble page offset bytes) g claims reply new c h e s honest = 
 pub honest_order : (g : Guest) (call : Call) (claims : List Claim) (reply : Reply) (new : Guest)
     → IsConsistent g → IsOrderly g → HonestStep g call claims reply new → new.rogue ≡ false
     → IsOrderly new
-honest_order g call claims reply new c h s honest =
-    elim (match_cases (refusal_of g call) (Performs call g claims reply new)
-    (λ refusal. (claims ≡ []) × (reply ≡ Refused refusal) × (new ≡ g)) s) [
-      | inl p ↦ performs_order call g claims reply new c h p.0 p.1 honest
-      | inr r ↦ subst IsOrderly (sym r.2.2) h
-    ]
+honest_order g call claims reply new c h s honest = grind (arith, performs_order)
 
 -- ---- a new guest
 
-first_reserved : (reserved page : ℕ)
-    → is_reserved (first_place reserved page) ≡ nat_lt page reserved
-first_reserved reserved page = step (nat_lt page reserved)
-  where
-    step : (v : Bool) → is_reserved (cond v Reserved FreePlace) ≡ v
-    step true = refl
-    step false = refl
-
 pub fresh_order : (config : Config) (target : ℕ) → IsOrderly (fresh config target)
 fresh_order config target =
-    record {
-      inflating = no_requests_orderly _;
-      deflating = no_requests_orderly _;
-      reporting = no_requests_orderly 1;
-      state = inl refl;
-      tabled = length-map (range_with_len 0 config.pages)
-          (first_place (reserved_pages config.queue_size))
-          ∙ length-range_with_len 0 config.pages;
-      unreserved = λ page l.
-          ap is_reserved (at page l) ∙ first_reserved (reserved_pages config.queue_size) page;
-      blocks = tt;
-      agreed = λ e. absurd (let wrong : 0 ≡ 15 = e in omega arith);
-    }
-  where
-    at : (page : ℕ) → page < config.pages
-        → place_of (map (first_place (reserved_pages config.queue_size))
-        (range_with_len 0 config.pages)) page ≡ first_place (reserved_pages config.queue_size) page
-    at page l = get_or-map-range_with_len (first_place (reserved_pages config.queue_size)) 0
-        config.pages page page Reserved l (omega arith)
+    grind (arith, length-map, length-range_with_len, get_or-map-range_with_len)

@@ -1,7 +1,7 @@
 -- Worked facts of the words of laws over runs: a page that is held, a guest that is there and makes
 -- no scribble, the last write to a byte, and what isn't outstanding of a guest that isn't ready.
 use Rattle.std.proofs.Common.{◌≡◌, ℕ, zero, suc, ◌+◌, ◌≤◌, true, false, List, [], ◌∷◌, ◌++◌, map}
-use Rattle.std.proofs.Common.{replicate, refl, sym, ap, ◌∙◌, inl, inr, arith}
+use Rattle.std.proofs.Common.{replicate, refl, ap, inl, inr, arith}
 use Rattle.std.specs.Prelude.{Option, Some, None}
 use Rattle.vb_model.specs.declared.places.Place.{Place}
 use Rattle.vb_model.specs.declared.places.Place.TheVariants.{Reserved, Free as FreePlace, Used}
@@ -84,11 +84,7 @@ place_there (Some g) = place_of g.places 16
 
 not_used_in : (c : Course) (j : ℕ) → j ≤ 2 → is_used (place_there (guest_after c (0 + j))) ≡ false
     → StaysHeld c 16 0 2 → ⊥
-not_used_in c j l free holds =
-    let (g, there, used) = holds j l in
-    let e : false ≡ true = sym free ∙ (ap (λ (o : Option Guest). is_used (place_there o)) there
-    ∙ ap is_used used) in
-    cc
+not_used_in c j l free holds = grind arith
 
 free_at_first : StaysHeld handed_out_late 16 0 2 → ⊥
 free_at_first = not_used_in handed_out_late 0 (omega arith) refl
@@ -96,16 +92,12 @@ free_at_first = not_used_in handed_out_late 0 (omega arith) refl
 free_in_between : StaysHeld
     (three_states (page_16_at Used down) (page_16_at FreePlace down) (page_16_at Used down)) 16 0 2
     → ⊥
-free_in_between = not_used_in
-    (three_states (page_16_at Used down) (page_16_at FreePlace down) (page_16_at Used down)) 1
-    (omega arith) refl
+free_in_between = grind arith
 
 free_at_last : StaysHeld
     (three_states (page_16_at Used down) (page_16_at Used down) (page_16_at FreePlace down)) 16 0 2
     → ⊥
-free_at_last = not_used_in
-    (three_states (page_16_at Used down) (page_16_at Used down) (page_16_at FreePlace down)) 2
-    (omega arith) refl
+free_at_last = grind arith
 
 past_the_last_state : StaysHeld (stands (page_16_at Used down)) 16 0 2 → ⊥
 past_the_last_state = not_used_in (stands (page_16_at Used down)) 1 (omega arith) refl
@@ -121,17 +113,11 @@ there (suc (suc (suc j))) l = absurd (omega arith)
 
 unplugged_in_between : IsThere
     (three (Some down) (Unplug 1) None (OnGuest 0 Work) (Some down)) 1 0 2 → ⊥
-unplugged_in_between there =
-    let (g, is) = there 1 (omega arith) in
-    let e : None ≡ Some g = is in
-    cc
+unplugged_in_between there = grind arith
 
 unplugged_at_last : IsThere (three (Some down) (OnGuest 0 Work) (Some down) (Unplug 1) None) 1 0 2
     → ⊥
-unplugged_at_last there =
-    let (g, is) = there 2 (omega arith) in
-    let e : None ≡ Some g = is in
-    cc
+unplugged_at_last there = grind arith
 
 -- ---- no scribble: one of another guest is none, nor is one before or behind
 
@@ -142,9 +128,7 @@ abbrev scribble : ℕ → Event
 scribble n = OnGuest n (Scribble 20 4 (7 ∷ []))
 
 anothers_scribble : MakesNoScribble (scribbled (scribble 0) (OnGuest 1 Reset)) 1 0 2
-anothers_scribble zero page offset bytes l e = cc
-anothers_scribble (suc zero) page offset bytes l e = cc
-anothers_scribble (suc (suc j)) page offset bytes l e = absurd (omega arith)
+anothers_scribble h page offset bytes l e = grind arith
 
 scribbled_before : MakesNoScribble (scribbled (scribble 1) (OnGuest 1 (Write 20 4 (7 ∷ [])))) 1 1 1
 scribbled_before zero page offset bytes l e = cc
@@ -276,17 +260,7 @@ unaccepted_buffer a = let e : true ≡ false = a.buffered in cc
 busy : IsAttentive
     (record ready
     { inflate = used; deflate = posted; report = used; buffer = BufferPosted figures })
-busy = record {
-  inflating = λ down. absurd (down refl);
-  deflating = λ down. absurd (down refl);
-  reporting = λ down. absurd (down refl);
-  buffered = refl;
-}
+busy = grind arith
 
 idle : IsAttentive failed
-idle = record {
-  inflating = λ down. refl;
-  deflating = λ down. refl;
-  reporting = λ down. refl;
-  buffered = refl;
-}
+idle = grind arith

@@ -1,26 +1,23 @@
 -- Worked facts of scribbles and of what a rogue guest may need.
 use Rattle.std.proofs.Common.{◌≡◌, ℕ, ◌<◌, true, false, List, [], ◌∷◌, ◌++◌, map, replicate, refl}
-use Rattle.std.proofs.Common.{◌∙◌, ap, inl, inr, arith}
+use Rattle.std.proofs.Common.{ap, arith}
 use Rattle.std.specs.Prelude.{Option, Some, None, unwrap_or}
 use Rattle.std.specs.List.{range_with_len}
-use Rattle.std.proofs.Math.ListN.{get_or-append}
-use Rattle.std.proofs.lemmas.Bool.{cases_lt}
-use Rattle.std.proofs.lemmas.List.{get_or-replicate, get_or_past}
+use Rattle.std.proofs.lemmas.List.{get_or-replicate}
 use Rattle.vb_model.specs.declared.calls.Call.TheVariants.{Init, Reset, Alloc, Free, Read, Write}
 use Rattle.vb_model.specs.declared.calls.Call.TheVariants.{Scribble, Inflate, Deflate, Oom, Report}
 use Rattle.vb_model.specs.declared.calls.Call.TheVariants.{Stats, Reap, Take, Work, Finish, Sweep}
 use Rattle.vb_model.specs.declared.calls.Call.TheVariants.{Ask, SetTarget}
 use Rattle.vb_model.specs.declared.calls.Claim.{Claim}
 use Rattle.vb_model.specs.declared.calls.Claim.TheVariants.{Gave, GaveNoFrame, GaveNoMemory}
-use Rattle.vb_model.specs.declared.replies.Refusal.{Refusal}
 use Rattle.vb_model.specs.declared.replies.Refusal.TheVariants.{OutOfRam, NoFrame, NoMemory}
 use Rattle.vb_model.specs.declared.replies.Reply.{Reply}
 use Rattle.vb_model.specs.declared.replies.Reply.TheVariants.{Done, Idle, Refused}
 use Rattle.vb_model.specs.declared.places.Place.TheVariants.{Lent, Used}
-use Rattle.vb_model.specs.Guest.{Guest, Config, is_ballooned, frame_of}
+use Rattle.vb_model.specs.Guest.{Guest, Config, is_ballooned}
 use Rattle.vb_model.specs.Refusals.{refusal_of}
 use Rattle.vb_model.specs.Rogue.{LosesFrames, HasAllPages, IsRogueAfter}
-use Rattle.vb_model.specs.Rogue.{RogueStep, pages_to_back, after_refused}
+use Rattle.vb_model.specs.Rogue.{RogueStep, pages_to_back}
 use Rattle.vb_model.specs.Step.{HonestStep}
 use Rattle.vb_model.proofs.Samples.{config, ready, down}
 
@@ -63,19 +60,7 @@ no_flag : (page : ℕ) → page < 16 → is_ballooned marked.ballooned page ≡ 
 no_flag page l = get_or-replicate 64 page false false (omega (arith, l))
 
 scribbled : HonestStep before (Scribble 17 0 (1 ∷ [])) (Gave 20 ∷ []) Done marked
-scribbled = (
-  tt,
-  record {
-    answered = refl;
-    state = record {
-      still = refl;
-      config = refl;
-      unreserved = no_flag;
-      sizes = record { placed = refl; flagged = refl; framed = refl; filled = refl };
-    };
-    memory = refl;
-  },
-)
+scribbled = search (arith, no_flag)
 
 all_that_is_said : (reply : Reply) (new : Guest)
     → HonestStep before (Scribble 17 0 (1 ∷ [])) (Gave 20 ∷ []) reply new
@@ -85,19 +70,7 @@ all_that_is_said reply new s = (s.1.answered, s.1.memory)
 -- any bytes may be left, in any page
 any_bytes : (bytes : List ℕ) → HonestStep before (Scribble 17 0 (1 ∷ [])) (Gave 20 ∷ []) Done
     (record marked { contents = replicate 64 bytes })
-any_bytes bytes = (
-  tt,
-  record {
-    answered = refl;
-    state = record {
-      still = refl;
-      config = refl;
-      unreserved = no_flag;
-      sizes = record { placed = refl; flagged = refl; framed = refl; filled = refl };
-    };
-    memory = refl;
-  },
-)
+any_bytes bytes = search (arith, no_flag)
 
 -- a claim that is refused is the answer, and the guest stays honest
 no_frame_for_a_scribble : HonestStep before (Scribble 17 0 (1 ∷ [])) (GaveNoFrame ∷ [])
@@ -121,9 +94,7 @@ after = record (backed (Some 13 ∷ Some 20 ∷ [])) {
 }
 
 no_reserved_flag : (page : ℕ) → page < 16 → is_ballooned after.ballooned page ≡ false
-no_reserved_flag page l =
-    get_or-append (replicate 16 false) (true ∷ replicate 47 false) false page l
-    ∙ get_or-replicate 16 page false false l
+no_reserved_flag page l = grind arith
 
 frames_of_a_write : map (λ page. pages_to_back (Write page 0 (1 ∷ []))
     (record after { places = replicate 64 Used })) (17 ∷ 18 ∷ 64 ∷ []) ≡ [] ∷ (18 ∷ []) ∷ [] ∷ []
@@ -153,15 +124,7 @@ abbrev lost : Guest
 lost = record after { frames = replicate 64 None; status = 0; features = 9 }
 
 none_gained : LosesFrames after.frames (replicate 64 None)
-none_gained page frame h = absurd (none_there page h)
-  where
-    none_there : (page : ℕ) → frame_of (replicate 64 None) page ≡ Some frame → ⊥
-    none_there page e = elim (cases_lt page 64) [
-      | inl lt ↦ (let is : frame_of (replicate 64 None) page
-          ≡ None = get_or-replicate 64 page None None lt in cc)
-      | inr past ↦ (let is : frame_of (replicate 64 None) page
-          ≡ None = get_or_past (replicate 64 None) page None past in cc)
-    ]
+none_gained page frame h = grind arith
 
 frames_may_go : RogueStep after Work [] Idle lost
 frames_may_go = record {
@@ -290,39 +253,14 @@ no_frame_without_a_claim new s = let e : None ≡ Some NoFrame = s.no_frame refl
 -- one for want of memory too, or a read, and it changes nothing
 no_memory_without_a_claim : (new : Guest)
     → RogueStep after (Write 18 0 (1 ∷ [])) [] (Refused NoMemory) new → ⊥
-no_memory_without_a_claim new s = elim (s.no_memory refl) [
-  | inl claimed ↦ (let e : None ≡ Some NoMemory = claimed in cc)
-  | inr read ↦ cc
-]
+no_memory_without_a_claim new s = grind arith
 
 no_memory_for_a_take : (new : Guest) → RogueStep after (Take 0) [] (Refused NoMemory) new → ⊥
-no_memory_for_a_take new s = elim (s.no_memory refl) [
-  | inl claimed ↦ (let e : None ≡ Some NoMemory = claimed in cc)
-  | inr read ↦ cc
-]
+no_memory_for_a_take new s = grind arith
 
 -- a read may find none
 no_memory_for_a_read : RogueStep after (Read 17 0 1) [] (Refused NoMemory) after
-no_memory_for_a_read = record {
-  stays = record {
-    still = refl;
-    config = refl;
-    unreserved = no_reserved_flag;
-    sizes = record { placed = refl; flagged = refl; framed = refl; filled = refl };
-  };
-  target = refl;
-  claimed = tt;
-  frames = λ page frame h. h;
-  no_frame = λ e. absurd cc;
-  no_memory = λ e. inr refl;
-  refused = λ refusal e. as_it_was refusal e;
-  scribble = λ page offset bytes e. cc;
-}
-  where
-    as_it_was : (refusal : Refusal) → Refused NoMemory ≡ Refused refusal
-        → after ≡ after_refused (Read 17 0 1) refusal [] after
-    as_it_was NoMemory e = refl
-    as_it_was _ e = absurd cc
+no_memory_for_a_read = grind (arith, no_reserved_flag)
 
 no_memory_keeps_all : (new : Guest)
     → RogueStep after (Read 17 0 1) [] (Refused NoMemory) new → new ≡ after

@@ -1,34 +1,27 @@
 -- No reserved page is ever ballooned, in a rogue guest neither.
-use Rattle.std.proofs.Common.{◌≡◌, ℕ, Bool, true, false, length, refl, sym, ap, subst, ◌∙◌, inl}
+use Rattle.std.proofs.Common.{◌≡◌, ℕ, true, false, length, refl, ◌∙◌, inl}
 use Rattle.std.proofs.Common.{inr, arith}
-use Rattle.std.specs.Prelude.{Some, MatchBool}
+use Rattle.std.specs.Prelude.{Some}
 use Rattle.std.proofs.lemmas.List.{get_or_past}
 use Rattle.std.proofs.lemmas.Bool.{cases_lt, lt-ltb}
 use Rattle.vb_model.specs.declared.places.Place.{Place}
 use Rattle.vb_model.specs.declared.places.Place.TheVariants.{Reserved}
 use Rattle.vb_model.specs.declared.calls.Event.{Event}
 use Rattle.vb_model.specs.declared.replies.Reply.{Reply}
-use Rattle.vb_model.specs.Tests.{one_if}
 use Rattle.vb_model.specs.Layout.{reserved_pages}
 use Rattle.vb_model.specs.Pages.{is_reserved, place_of}
 use Rattle.vb_model.specs.Guest.{Guest, is_ballooned}
-use Rattle.vb_model.specs.Rogue.{RogueStep}
-use Rattle.vb_model.specs.Step.{HonestStep}
 use Rattle.vb_model.specs.Consistent.{IsConsistent}
 use Rattle.vb_model.specs.Orderly.{IsOrderly}
 use Rattle.vb_model.specs.StepLaws.{HasNoReservedBallooned}
 use Rattle.vb_model.specs.World.{World, guest_at}
 use Rattle.vb_model.specs.HostEvents.{WorldStep}
 use Rattle.vb_model.proofs.PageSteps.{naming-all}
-use Rattle.vb_model.proofs.Changes.{Change, Untouched, Retargeted, Stepped, Restarted, New, changes}
+use Rattle.vb_model.proofs.Changes.{Change, changes}
 
 reserved_is : (place : Place) → is_reserved place ≡ true → place ≡ Reserved
 reserved_is Reserved e = refl
 reserved_is _ e = absurd cc
-
-flag_off : (b : Bool) → one_if b ≡ 0 → b ≡ false
-flag_off true h = absurd (omega arith)
-flag_off false h = refl
 
 pub honest_unreserved : (g : Guest) → IsConsistent g → IsOrderly g → HasNoReservedBallooned g
 honest_unreserved g c o page l = at_reserved place
@@ -52,22 +45,7 @@ AllUnreserved w = (n : ℕ) (g : Guest) → guest_at w.guests n ≡ Some g → g
 
 change_unreserved : (w : World) (event : Event) (reply : Reply) (m : ℕ) (new : Guest)
     → AllUnreserved w → Change w event reply m new → new.rogue ≡ true → HasNoReservedBallooned new
-change_unreserved w event reply m new h (Untouched at) rogue = h m new at rogue
-change_unreserved w event reply m new h (Retargeted old target at e) rogue =
-    let same : new.rogue ≡ old.rogue = ap (λ (g : Guest). g.rogue) e in
-    subst HasNoReservedBallooned (sym e) (h m old at (sym same ∙ rogue))
-change_unreserved w event reply m new h (Stepped old call claims on at gives step) rogue =
-    cases old.rogue refl step
-  where
-    cases : (b : Bool) → old.rogue ≡ b
-        → MatchBool b (RogueStep old call claims reply new) (HonestStep old call claims reply new)
-        → HasNoReservedBallooned new
-    cases true e r = r.stays.unreserved
-    cases false e p = grind arith
-change_unreserved w event reply m new h (Restarted old on at e) rogue =
-    absurd (let f : new.rogue ≡ false = ap (λ (g : Guest). g.rogue) e in cc)
-change_unreserved w event reply m new h (New config none e) rogue =
-    absurd (let f : new.rogue ≡ false = ap (λ (g : Guest). g.rogue) e in cc)
+change_unreserved w event reply m new h h6 rogue = search arith
 
 pub step_unreserved : (w : World) (event : Event) (reply : Reply) (v : World) → AllUnreserved w
     → WorldStep w event reply v → AllUnreserved v

@@ -1,5 +1,5 @@
 -- Worked facts of runs, of states, and of the entries of one guest.
-use Rattle.std.proofs.Common.{◌≡◌, ℕ, List, [], ◌∷◌, true, false, refl, sym, ◌∙◌, ap, subst}
+use Rattle.std.proofs.Common.{◌≡◌, ℕ, List, [], ◌∷◌, true, false, refl, ap}
 use Rattle.std.proofs.Common.{arith, length}
 use Rattle.std.specs.Prelude.{Option, Some, None, unwrap_or}
 use Rattle.vb_model.specs.declared.calls.Actor.TheVariants.{Balancer, Processor}
@@ -14,7 +14,6 @@ use Rattle.vb_model.specs.declared.replies.Reply.TheVariants.{Done, Idle, Frames
 use Rattle.vb_model.specs.declared.replies.Refusal.TheVariants.{OutOfRam, Short}
 use Rattle.vb_model.specs.Guest.{Guest}
 use Rattle.vb_model.specs.World.{World, made}
-use Rattle.vb_model.specs.HostFrames.{Gives, IsOut}
 use Rattle.vb_model.specs.Run.{History, Run, Steps, guest_in, last_world}
 use Rattle.vb_model.specs.GuestRun.{Entry, Called, Looked, EntryStep, IsOwnEntry, AreOwn, InOneLife}
 use Rattle.vb_model.specs.GuestRun.{Alone}
@@ -140,39 +139,21 @@ one_entry_too_many own = own
 -- and the guest is the one that is there then
 another_guest : AreOwn 1 (at ready) (OnGuest 1 Work ∷ []) (Idle ∷ []) (at ready ∷ [])
     (work_done ∷ []) (down ∷ []) → ⊥
-another_guest (own, there, rest) =
-    let e : Same 15 0 = ap (λ (o : Option Guest). status_of o) there in omega arith
-  where
-    status_of : Option Guest → ℕ
-    status_of None = 0
-    status_of (Some g) = g.status
+another_guest h = grind arith
 
 another_reply : IsOwnEntry 1 (at ready) (OnGuest 1 Work) Idle (at ready)
     (Some (Called (Processor 1 0) Work [] Done)) → ⊥
-another_reply own =
-    let e : Some (Called (Processor 1 0) Work [] Done) ≡ Some (Called own.0 Work own.1 Idle) =
-    own.3 in
-    cc
+another_reply own = grind arith
 
 another_call : IsOwnEntry 1 (at ready) (OnGuest 1 Work) Idle (at ready)
     (Some (Called (Processor 1 0) Ask [] Idle)) → ⊥
-another_call own =
-    let e : Some (Called (Processor 1 0) Ask [] Idle) ≡ Some (Called own.0 Work own.1 Idle) =
-    own.3 in
-    cc
+another_call own = grind arith
 
 -- no frame that is out is given: 64 frames, and a claim for frame 64
 claim_past_the_last : (own : Option Entry)
     → IsOwnEntry 1 (at ready) (OnGuest 1 (Write 20 0 (7 ∷ []))) Done (at ready) own
     → own ≡ Some (Called (Processor 1 0) (Write 20 0 (7 ∷ [])) (Gave 64 ∷ []) Done) → ⊥
-claim_past_the_last own is e =
-    let same : Some (Called is.0 (Write 20 0 (7 ∷ [])) is.1 Done)
-    ≡ Some (Called (Processor 1 0) (Write 20 0 (7 ∷ [])) (Gave 64 ∷ []) Done) =
-    sym is.3 ∙ e in
-    let claims : is.1 ≡ Gave 64 ∷ [] = cc in
-    let gives : Gives 64 (IsOut (at ready)) (Gave 64 ∷ []) =
-    subst (λ (l : List Claim). Gives 64 (IsOut (at ready)) l) claims is.2 in
-    omega (arith, gives.0)
+claim_past_the_last own is e = grind arith
 
 scribble_refused : IsOwnEntry 1 (at ready) (OnGuest 1 (Scribble 99 0 [])) (Refused OutOfRam)
     (at ready) (Some (Called (Processor 1 0) (Scribble 99 0 []) [] (Refused OutOfRam)))

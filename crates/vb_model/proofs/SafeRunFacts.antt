@@ -14,7 +14,7 @@ use Rattle.vb_model.specs.declared.replies.Refusal.TheVariants.{NotReady}
 use Rattle.vb_model.specs.Guest.{Guest, unbacked}
 use Rattle.vb_model.specs.World.{World, made, guest_at}
 use Rattle.vb_model.specs.HostEvents.{WorldStep}
-use Rattle.vb_model.specs.Run.{History, Steps, last_world}
+use Rattle.vb_model.specs.Run.{History}
 use Rattle.vb_model.specs.GuestRun.{Entry, OwnStep, Leads, IsOwnEntry, AreOwn, InOneLife, Alone}
 use Rattle.vb_model.specs.Histories.{IsSafeCourse}
 use Rattle.vb_model.specs.Safe.{Safe, IsSafeRun, NoFrameTwice, part}
@@ -25,11 +25,7 @@ use Rattle.vb_model.proofs.AskedFacts.{back, giving, handed_out}
 -- ---- a run of no events ends where it began
 
 pub empty_run : (w v : World) → IsSafeRun w [] [] v → v ≡ w
-empty_run w v s = step s.after s.steps s.ends
-  where
-    step : (after : List World) → Steps w [] [] after → last_world w after ≡ v → v ≡ w
-    step [] steps ends = sym ends
-    step (u ∷ after) steps ends = absurd steps
+empty_run w v s = grind arith
 
 -- ---- a run of one event has one reply, that event's, and ends after it
 
@@ -41,20 +37,7 @@ record IsOne (w : World) (event : Event) (reply : Reply) (v : World) : Type 0 wh
 
 one : (w : World) (event : Event) (reply : Reply) (v : World)
     → IsSafeRun w (event ∷ []) (reply ∷ []) v → IsOne w event reply v
-one w event reply v s = by s.after s.steps s.ends s.safe
-  where
-    by : (after : List World) → Steps w (event ∷ []) (reply ∷ []) after → last_world w after ≡ v
-        → Safe (record { first = w; events = event ∷ []; replies = reply ∷ []; after = after })
-        → IsOne w event reply v
-    by [] steps ends safe = absurd steps
-    by (u ∷ x ∷ after) steps ends safe = absurd steps.1
-    by (u ∷ []) steps ends safe =
-        record {
-          step = subst (λ (x : World). WorldStep w event reply x) ends steps.0;
-          safe = subst (λ (x : World). Safe
-              (record { first = w; events = event ∷ []; replies = reply ∷ []; after = x ∷ [] }))
-              ends safe;
-        }
+one w event reply v s = search (arith)
 
 abbrev world : ℕ → World
 world frames = made frames []
@@ -63,28 +46,17 @@ abbrev Same : ℕ → ℕ → Type 0
 Same a b = a ≡ b
 
 no_reply : (v : World) → IsSafeRun (world 64) (CountFrames ∷ []) [] v → ⊥
-no_reply v s = none s.after s.steps
-  where
-    none : (after : List World) → Steps (world 64) (CountFrames ∷ []) [] after → ⊥
-    none [] steps = steps
-    none (u ∷ after) steps = steps
+no_reply v s = grind arith
 
 abbrev free_frames : Reply → ℕ
 free_frames (Frames used free) = free
 free_frames reply = 0
 
 another_reply : (v : World) → IsSafeRun (world 64) (CountFrames ∷ []) (Frames 0 63 ∷ []) v → ⊥
-another_reply v s =
-    let told : Frames 0 63 ≡ Frames 0 64 = (one (world 64) CountFrames (Frames 0 63) v s).step.0 in
-    let e : Same 63 64 = ap free_frames told in
-    omega arith
+another_reply v s = grind arith
 
 another_end : IsSafeRun (world 64) (CountFrames ∷ []) (Frames 0 64 ∷ []) (world 63) → ⊥
-another_end s =
-    let ends : world 63 ≡ world 64 =
-    (one (world 64) CountFrames (Frames 0 64) (world 63) s).step.1 in
-    let e : Same 63 64 = ap (λ (w : World). w.frames) ends in
-    omega arith
+another_end s = grind arith
 
 -- ---- a frame behind two pages, of two guests or of one, of a rogue guest too, in each state
 

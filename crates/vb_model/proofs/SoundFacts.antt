@@ -1,5 +1,5 @@
 -- Guests whose parts don't agree, and pages that aren't blank, one for each thing that is promised.
-use Rattle.std.proofs.Common.{◌≡◌, ℕ, ◌≤◌, List, [], ◌∷◌, ◌++◌, true, false, replicate, ap, arith}
+use Rattle.std.proofs.Common.{◌≡◌, ℕ, List, [], ◌∷◌, ◌++◌, true, false, replicate, ap, arith}
 use Rattle.std.proofs.Common.{◌∙◌, length, refl}
 use Rattle.std.specs.Prelude.{Bool, None}
 use Rattle.vb_model.specs.declared.places.Place.{Place}
@@ -70,38 +70,17 @@ Named told place inflate deflate flag =
 
 -- the page is taking until the deflate is reaped, and a page of a guest that doesn't tell is free
 taking_and_named : Named true Taking no_requests naming_16 false
-taking_and_named = record {
-  holding = refl;
-  inflating = refl;
-  deflating = omega arith;
-  taking = refl;
-  reporting = refl;
-  ballooning = refl;
-}
+taking_and_named = grind arith
 
 free_and_named : Named false Free no_requests naming_16 false
-free_and_named = record {
-  holding = refl;
-  inflating = refl;
-  deflating = omega arith;
-  taking = refl;
-  reporting = refl;
-  ballooning = refl;
-}
+free_and_named = grind arith
 
 -- it is ballooned until the deflate is used
 abbrev asking_16 : Requests
 asking_16 = record { posted = []; taken = request 0 (16 ∷ []) 0 ∷ []; done = [] }
 
 free_and_ballooned : Named false Free no_requests asking_16 true
-free_and_ballooned = record {
-  holding = refl;
-  inflating = refl;
-  deflating = omega arith;
-  taking = refl;
-  reporting = refl;
-  ballooning = refl;
-}
+free_and_ballooned = grind arith
 
 free_too_early : Named false Free no_requests asking_16 false → ⊥
 free_too_early s = let e : Same 0 1 = s.ballooning in omega arith
@@ -122,22 +101,13 @@ Neither place inflate deflate flag =
     (Named true place inflate deflate flag → ⊥) × (Named false place inflate deflate flag → ⊥)
 
 lent_and_named : Neither Lent no_requests naming_16 true
-lent_and_named = (
-  (λ s. let l : 2 ≤ 1 = s.deflating in omega (arith, l)),
-  (λ s. let l : 2 ≤ 1 = s.deflating in omega (arith, l)),
-)
+lent_and_named = grind arith
 
 offered_and_named : Neither Giving naming_16 naming_16 true
-offered_and_named = (
-  (λ s. let l : 2 ≤ 1 = s.deflating in omega (arith, l)),
-  (λ s. let l : 2 ≤ 1 = s.deflating in omega (arith, l)),
-)
+offered_and_named = grind arith
 
 reserved_and_named : Neither Reserved no_requests naming_16 false
-reserved_and_named = (
-  (λ s. let l : 2 ≤ 1 = s.deflating in omega (arith, l)),
-  (λ s. let l : 2 ≤ 1 = s.deflating in omega (arith, l)),
-)
+reserved_and_named = grind arith
 
 abbrev twice : Requests
 twice = record {
@@ -148,10 +118,7 @@ twice = record {
 
 asked_back_twice : (Named true Taking no_requests twice true → ⊥)
     × (Named false Free no_requests twice true → ⊥)
-asked_back_twice = (
-  (λ s. let l : 2 ≤ 1 = s.deflating in omega (arith, l)),
-  (λ s. let l : 2 ≤ 1 = s.deflating in omega (arith, l)),
-)
+asked_back_twice = grind arith
 
 -- ---- a page of two blocks, or of two requests
 

@@ -1,41 +1,15 @@
 -- Two lists of targets are the same.
-use Rattle.std.proofs.Common.{◌≡◌, ℕ, ◌<◌, List, length, slice_index, sym, ◌∙◌, subst, ◌⊎◌, inl}
+use Rattle.std.proofs.Common.{◌≡◌, ℕ, ◌<◌, List, length, slice_index, sym, ◌∙◌, inl}
 use Rattle.std.proofs.Common.{inr, arith}
-use Rattle.vb_model.specs.Balance.{Need, AreTargets, GivesBefore}
+use Rattle.vb_model.specs.Balance.{Need, AreTargets}
 use Rattle.vb_model.proofs.Sums.{same_by_sum, somewhere_more}
-
--- of two guests one gives before the other
-pub one_before : (needs : List Need) (i j : ℕ)
-    → (i ≡ j) ⊎ (GivesBefore needs i j ⊎ GivesBefore needs j i)
-one_before needs i j = grind arith
 
 -- one list can't ask more of one guest and less of another
 clash : (needs : List Need) (frames : ℕ) (one other : List ℕ) → AreTargets needs frames one
     → AreTargets needs frames other
     → (i : ℕ) → i < length needs → slice_index other i < slice_index one i → (j : ℕ)
     → j < length needs → slice_index one j < slice_index other j → ⊥
-clash needs frames one other a b i li more j lj less =
-    elim (one_before needs i j) [
-      | inl same ↦ omega (
-        arith,
-        more,
-        subst (λ (k : ℕ). slice_index one k < slice_index other k) (sym same) less,
-      )
-      | inr apart ↦ elim apart [
-        | inl first ↦ omega (
-          arith,
-          b.in_order j i lj li (omega (arith, less)) first,
-          a.within i li,
-          more,
-        )
-        | inr later ↦ omega (
-          arith,
-          a.in_order i j li lj (omega (arith, more)) later,
-          b.within j lj,
-          less,
-        )
-      ]
-    ]
+clash needs frames one other a b i li more j lj less = grind arith
 
 pub unique : (needs : List Need) (frames : ℕ) (one other : List ℕ) → AreTargets needs frames one
     → AreTargets needs frames other → one ≡ other

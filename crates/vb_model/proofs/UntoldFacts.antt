@@ -1,7 +1,7 @@
 -- Worked facts of guests that haven't agreed to tell the host, beside those of guests that have.
 use Rattle.std.proofs.Common.{◌≡◌, ℕ, true, false, List, [], ◌∷◌, ◌++◌, map, replicate, refl}
-use Rattle.std.proofs.Common.{sym, ap, subst, ◌∙◌, arith}
-use Rattle.std.specs.Prelude.{Bool, Option, Some, None, IsTrue, drop}
+use Rattle.std.proofs.Common.{sym, ap, ◌∙◌, arith}
+use Rattle.std.specs.Prelude.{Bool, Option, Some, None, drop}
 use Rattle.std.specs.List.{range_with_len}
 use Rattle.vb_model.specs.declared.places.Place.{Place}
 use Rattle.vb_model.specs.declared.places.Place.TheVariants.{Reserved, Free as FreePlace, Used}
@@ -19,13 +19,12 @@ use Rattle.vb_model.specs.declared.replies.Refusal.TheVariants.{NoFeature, NotBa
 use Rattle.vb_model.specs.declared.replies.Refusal.TheVariants.{VersionMissing}
 use Rattle.vb_model.specs.declared.replies.Reply.TheVariants.{Done, Ready, Page, Posted, Reaped}
 use Rattle.vb_model.specs.declared.replies.Reply.TheVariants.{Taken, Finished, Swept, Refused}
-use Rattle.vb_model.specs.Pages.{block_at, is_wholly_free, place_of}
+use Rattle.vb_model.specs.Pages.{block_at, place_of}
 use Rattle.vb_model.specs.Requests.{Request, Requests, no_requests, IsLeastHead, given_away}
 use Rattle.vb_model.specs.Requests.{BufferPosted}
 use Rattle.vb_model.specs.Guest.{Guest, zero_page, is_ready, tells_host, frame_of, is_ballooned}
 use Rattle.vb_model.specs.Status.{status_refusal}
 use Rattle.vb_model.specs.FirstRefusal.{◌⇒◌}
-use Rattle.vb_model.specs.Tests.{flagged}
 use Rattle.vb_model.specs.Tables.{inflate_tests, deflate_tests, sweep_tests}
 use Rattle.vb_model.specs.Refusals.{refusal_of}
 use Rattle.vb_model.specs.Driver.{contents_of}
@@ -136,36 +135,16 @@ NotAt g place call =
     → place_of new.places 16 ≡ place → ⊥
 
 not_taking : NotAt untold Taking (Deflate 2) × NotAt untold Taking (Oom 2)
-not_taking = (
-  (λ new s e. let q : Taking ≡ FreePlace =
-      sym e ∙ ap (λ (g : Guest). place_of g.places 16) s.1.3 in cc),
-  (λ new s e. let q : Taking ≡ FreePlace =
-      sym e ∙ ap (λ (g : Guest). place_of g.places 16) s.1.3 in cc),
-)
+not_taking = grind arith
 
 not_lent_still : NotAt untold Lent (Deflate 2) × NotAt untold Lent (Oom 2)
-not_lent_still = (
-  (λ new s e. let q : Lent ≡ FreePlace =
-      sym e ∙ ap (λ (g : Guest). place_of g.places 16) s.1.3 in cc),
-  (λ new s e. let q : Lent ≡ FreePlace =
-      sym e ∙ ap (λ (g : Guest). place_of g.places 16) s.1.3 in cc),
-)
+not_lent_still = grind arith
 
 not_used : NotAt untold Used (Deflate 2) × NotAt untold Used (Oom 2)
-not_used = (
-  (λ new s e. let q : Used ≡ FreePlace =
-      sym e ∙ ap (λ (g : Guest). place_of g.places 16) s.1.3 in cc),
-  (λ new s e. let q : Used ≡ FreePlace =
-      sym e ∙ ap (λ (g : Guest). place_of g.places 16) s.1.3 in cc),
-)
+not_used = grind arith
 
 not_free_where_it_tells : NotAt ready FreePlace (Deflate 2) × NotAt ready FreePlace (Oom 2)
-not_free_where_it_tells = (
-  (λ new s e. let q : FreePlace ≡ Taking =
-      sym e ∙ ap (λ (g : Guest). place_of g.places 16) s.1.3 in cc),
-  (λ new s e. let q : FreePlace ≡ Taking =
-      sym e ∙ ap (λ (g : Guest). place_of g.places 16) s.1.3 in cc),
-)
+not_free_where_it_tells = grind arith
 
 -- they are ballooned still, and counted
 flag_cleared_too_early : (new : Guest)
@@ -212,11 +191,7 @@ both_handed_out = (refl, (16, refl, refl, refl))
 -- a taking page can't
 not_handed_out_yet : (new : Guest) → HonestStep (asked Taking ready) (Alloc 0 0) [] (Page 16) new
     → ⊥
-not_handed_out_yet new s =
-    let same : s.1.0 ≡ 16 = cc in
-    let free : false ≡ true = subst (λ (start : ℕ). IsTrue
-    (is_wholly_free (asked Taking ready).places (block_at start 0))) same s.1.1 in
-    cc
+not_handed_out_yet new s = grind arith
 
 -- where no other page is free
 abbrev just_these : Place → Guest → Guest
@@ -413,13 +388,7 @@ bytes_lost new s e =
     let q : SameBytes [] (7 ∷ []) = sym e ∙ ap (λ (g : Guest). contents_of g 16) s.1.3 in cc
 
 ballooned_still : (new : Guest) → FinishedSo new → is_ballooned new.ballooned 16 ≡ true → ⊥
-ballooned_still new s e =
-    let it : both ≡ s.1.0 = cc in
-    let flag : false ≡ is_ballooned new.ballooned 16 =
-    ap (λ (r : Request). is_ballooned (flagged r.pages false (flags true true)) 16) it
-    ∙ sym (ap (λ (g : Guest). is_ballooned g.ballooned 16) s.1.3) in
-    let q : false ≡ true = flag ∙ e in
-    cc
+ballooned_still new s e = grind arith
 
 -- all the way: asked back, handed out, taken, used, reaped
 all_the_way : Leads (three_lent untold)

@@ -1,5 +1,5 @@
 -- Worked facts of the host: plugging guests in, numbers, spare devices, and which frames are given.
-use Rattle.std.proofs.Common.{◌≡◌, ℕ, zero, suc, ◌<◌, true, false, List, [], ◌∷◌, ◌++◌, replicate}
+use Rattle.std.proofs.Common.{◌≡◌, ℕ, ◌<◌, true, false, List, [], ◌∷◌, ◌++◌, replicate}
 use Rattle.std.proofs.Common.{refl, ◌⊎◌, inl, inr, arith}
 use Rattle.std.specs.Prelude.{Option, Some, None}
 use Rattle.vb_model.specs.declared.calls.Claim.TheVariants.{Gave, GaveNoFrame, GaveNoMemory}
@@ -11,7 +11,7 @@ use Rattle.vb_model.specs.declared.replies.Refusal.TheVariants.{NoGuest, BadConf
 use Rattle.vb_model.specs.declared.replies.Refusal.TheVariants.{NoDevice, NoMemory}
 use Rattle.vb_model.specs.declared.replies.Reply.TheVariants.{Plugged, Done, Frames, Refused}
 use Rattle.vb_model.specs.Guest.{Guest, Config, fresh}
-use Rattle.vb_model.specs.World.{World, made, guest_at}
+use Rattle.vb_model.specs.World.{World, made}
 use Rattle.vb_model.specs.HostEvents.{WorldStep, with_targets}
 use Rattle.vb_model.specs.HostFrames.{Gives}
 use Rattle.vb_model.proofs.Samples.{ready, down}
@@ -48,11 +48,7 @@ number_given_up : WorldStep gap (Plug 128 2 4) (Plugged 1)
 number_given_up = inr (1, refl, refl, refl, refl)
 
 no_other_number : (v : World) → WorldStep gap (Plug 128 2 4) (Plugged 3) v → ⊥
-no_other_number v (inl none) = let e : Plugged 3 ≡ Refused NoMemory = none.0 in cc
-no_other_number v (inr p) =
-    let last : p.0 ≡ 1 = p.2 in
-    let told : Plugged 3 ≡ Plugged p.0 = p.3 in
-    cc
+no_other_number v h1 = grind arith
 
 -- with none given up any number that no guest has
 any_free_number : WorldStep (record gap { given_up = None }) (Plug 128 2 4) (Plugged 3)
@@ -61,12 +57,7 @@ any_free_number : WorldStep (record gap { given_up = None }) (Plug 128 2 4) (Plu
 any_free_number = inr (3, refl, tt, refl, refl)
 
 no_number_twice : (v : World) → WorldStep (world (Some ready ∷ [])) (Plug 128 2 4) (Plugged 0) v → ⊥
-no_number_twice v (inl none) = let e : Plugged 0 ≡ Refused NoMemory = none.0 in cc
-no_number_twice v (inr p) =
-    let told : Plugged 0 ≡ Plugged p.0 = p.3 in
-    let zeroth : p.0 ≡ 0 = cc in
-    let none : guest_at (Some ready ∷ []) 0 ≡ None = rw zeroth at p.1 in
-    cc
+no_number_twice v h1 = grind arith
 
 -- want of memory leaves the spare, and the number given up
 no_memory_for_a_plug : WorldStep gap (Plug 128 2 4) (Refused NoMemory) gap
@@ -150,48 +141,27 @@ abbrev Out : ℕ → Type 0
 Out x = (x ≡ 0) ⊎ ((x ≡ 1) ⊎ (x ≡ 3))
 
 below_2 : (x : ℕ) → x < 2 → Out x
-below_2 zero l = inl refl
-below_2 (suc zero) l = inr (inl refl)
-below_2 (suc (suc x)) l = absurd (omega arith)
+below_2 x l = grind arith
 
 two_is_not_out : Out 2 → ⊥
-two_is_not_out (inl e) = omega arith
-two_is_not_out (inr (inl e)) = omega arith
-two_is_not_out (inr (inr e)) = omega arith
+two_is_not_out h = grind arith
 
 -- and 2, once it is given
 abbrev OutThen : ℕ → Type 0
 OutThen x = Out x ⊎ (x ≡ 2)
 
 four_is_not_out : OutThen 4 → ⊥
-four_is_not_out (inl (inl e)) = omega arith
-four_is_not_out (inl (inr (inl e))) = omega arith
-four_is_not_out (inl (inr (inr e))) = omega arith
-four_is_not_out (inr e) = omega arith
+four_is_not_out h = grind arith
 
 below_4 : (x : ℕ) → x < 4 → OutThen x
-below_4 zero l = inl (inl refl)
-below_4 (suc zero) l = inl (inr (inl refl))
-below_4 (suc (suc zero)) l = inr refl
-below_4 (suc (suc (suc zero))) l = inl (inr (inr refl))
-below_4 (suc (suc (suc (suc x)))) l = absurd (omega arith)
+below_4 x l = grind arith
 
 below_5 : (x : ℕ) → x < 5 → OutThen x ⊎ (x ≡ 4)
-below_5 zero l = inl (inl (inl refl))
-below_5 (suc zero) l = inl (inl (inr (inl refl)))
-below_5 (suc (suc zero)) l = inl (inr refl)
-below_5 (suc (suc (suc zero))) l = inl (inl (inr (inr refl)))
-below_5 (suc (suc (suc (suc zero)))) l = inr refl
-below_5 (suc (suc (suc (suc (suc x))))) l = absurd (omega arith)
+below_5 x l = grind arith
 
 -- first the least that isn't out, 2, then 4, and then there is none
 least_first : Gives 5 Out (Gave 2 ∷ Gave 4 ∷ GaveNoFrame ∷ [])
-least_first = (
-  omega arith,
-  two_is_not_out,
-  below_2,
-  (omega arith, four_is_not_out, below_4, (below_5, refl)),
-)
+least_first = grind arith
 
 none_above_a_free_one : Gives 5 Out (Gave 4 ∷ []) → ⊥
 none_above_a_free_one g = two_is_not_out (g.2 2 (omega arith))
