@@ -9,6 +9,9 @@
 uint32_t reference_kind(const VbDevice *, uint32_t);
 uint32_t reference_place(VbDevice *, uint32_t, uint64_t, uint64_t, uint64_t, uint16_t);
 uint32_t reference_write_status(VbDevice *, uint8_t);
+uint32_t reference_write_config(VbDevice *, uint32_t, const uint8_t *, size_t);
+void reference_read_config(const VbDevice *, uint32_t, uint8_t *, size_t);
+uint32_t reference_keeps_reports(const VbDevice *);
 uint32_t reference_negotiate(VbDevice *, uint64_t);
 VbChain reference_next(VbDevice *, uint32_t, const uint8_t *, size_t, const uint8_t *, size_t, VbPiece *, size_t);
 VbNamed reference_name(VbDevice *, uint32_t, const uint8_t *, size_t, VbRun *, size_t);
@@ -78,7 +81,7 @@ static VbQueue any_queue(void)
 
 static VbDevice any_device(void)
 {
-    VbDevice device = { .settings = { .memory_end = 16ull << 20, .offered = LINUX_FEATURES } };
+    VbDevice device = { .settings = { .memory_end = 16ull << 20, .offered = LINUX_FEATURES | (once_in(2) ? VB_F_PAGE_POISON : 0) } };
     device.settings.reserved_pages = once_in(2) ? 0 : (uint32_t)any_number();
     device.settings.skips_bad_pages = once_in(2);
     if (once_in(8))
@@ -88,6 +91,7 @@ static VbDevice any_device(void)
     device.features = once_in(8) ? any() : once_in(4) ? VERSION_1 | any() % 64 : LINUX_FEATURES;
     device.target = (uint32_t)any();
     device.actual = (uint32_t)any();
+    device.poison = once_in(2) ? 0 : (uint32_t)any_number();
     device.status = once_in(4) ? (uint8_t)any() : 15;
     device.inflate = any_queue();
     device.deflate = any_queue();
@@ -109,6 +113,7 @@ static bool same(const VbDevice *one, const VbDevice *other)
         && one->settings.needs_must_tell == other->settings.needs_must_tell
         && one->settings.skips_bad_pages == other->settings.skips_bad_pages
         && one->features == other->features && one->target == other->target && one->actual == other->actual
+        && one->poison == other->poison
         && one->status == other->status && same_queue(&one->inflate, &other->inflate)
         && same_queue(&one->deflate, &other->deflate) && same_queue(&one->statistics, &other->statistics)
         && same_queue(&one->report, &other->report);
@@ -241,13 +246,22 @@ static void call_driver(void)
     EXPECT(vb_negotiate(&device, features) == reference_negotiate(&twin, features) && same(&device, &twin));
     device.settings.needs_must_tell = twin.settings.needs_must_tell = once_in(2);
     EXPECT(vb_write_status(&device, status) == reference_write_status(&twin, status) && same(&device, &twin));
-    size_t length = any() % 32;
-    uint8_t *out = list_of(2, length);
-    vb_read_config(&device, number, out, length);
-    for (size_t i = 0; number >= 8 && i < length; i++)
-        EXPECT(out[i] == 0);
     vb_set_target(&device, kind);
     EXPECT(device.target == kind && (device.target = twin.target, same(&device, &twin)));
+}
+
+/* Reads and writes of the configuration space: mostly of a field, or beside one. */
+static void call_config(void)
+{
+    VbDevice device = any_device(), twin = device;
+    uint32_t offset = once_in(4) ? (uint32_t)any_number() : any() % 20;
+    size_t length = once_in(4) ? any() % 32 : 4;
+    uint8_t *bytes = any_bytes(0, length), *out = list_of(2, length), why[32];
+    EXPECT(vb_write_config(&device, offset, bytes, length) == reference_write_config(&twin, offset, bytes, length));
+    EXPECT(same(&device, &twin) && vb_keeps_reports(&device) == reference_keeps_reports(&twin));
+    vb_read_config(&device, offset, out, length);
+    reference_read_config(&twin, offset, why, length);
+    EXPECT(memcmp(out, why, length) == 0);
 }
 
 /* A run of a set of so many words: mostly within it, at an end of a word as often as not. */
@@ -360,7 +374,8 @@ static void call_notice(void)
 int main(int count, char **words)
 {
     void (*const calls[])(void) = { call_next, call_name, call_report, call_statistics, call_use, call_driver,
-                                    call_mark, call_over, call_notice };
+                                    call_config, call_mark, call_over, call_notice };
+    enum { KINDS = sizeof calls / sizeof *calls };
     unsigned long long most = count > 1 ? strtoull(words[1], NULL, 10) : CALLS;
     alarm(600);
     for (int i = 0; i < 3; i++) {
@@ -369,7 +384,7 @@ int main(int count, char **words)
         arena_ends[i] = all + ARENA;
     }
     for (unsigned long long i = 0; i < most; i++)
-        calls[i % 9]();
+        calls[i % KINDS]();
     printf("ok  %llu calls of any arguments; answers by code:", most);
     for (int code = VB_OK; code <= VB_BAD_ARGUMENT; code++) {
         printf(" %llu", (unsigned long long)answers[code]);

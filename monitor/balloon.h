@@ -48,7 +48,8 @@ struct balloon {
     /* What a monitor may set after balloon_init; each hook may be NULL. They get `context`. */
     uint32_t most_chains, most_pages;   /* a notice begins no further chain after so many chains, or so many pages */
     void *context;
-    /* These pages are given up (VB_INFLATE) or free (VB_REPORT), and discarded next; or they are asked back (VB_DEFLATE). */
+    /* These pages are given up (VB_INFLATE) or free (VB_REPORT), and discarded next, but those of reports where
+     * vb_keeps_reports says so; or they are asked back (VB_DEFLATE). */
     void (*on_pages)(void *context, uint32_t kind, const VbRun *runs, uint32_t count);
     /* The guest told its statistics, any tags in any order. */
     void (*on_statistics)(void *context, const VbStatistic *figures, uint32_t count);
@@ -79,7 +80,8 @@ struct balloon_result {
     uint64_t marked;            /* pages put into the set of ballooned pages, or taken out of it */
     uint64_t unmarked;          /* pages of requests that the set hasn't enough words for: it is as before them */
     uint64_t in_holes;          /* pages to discard that lie in no region */
-    uint64_t kept;              /* pages that the machine failed to discard, for the reason `error` */
+    uint64_t kept;              /* pages that the machine failed to discard, for the reason `error`; and those of reports that
+                                   keep what is in them (vb_keeps_reports) */
     int error;
 };
 
@@ -131,6 +133,7 @@ static inline void balloon_tell_pages(struct balloon *balloon, struct balloon_re
     const VbNotice *notice = &balloon->notice;
     result->pages += notice->pages;
     result->skipped += notice->skipped;
+    result->kept += notice->kind == VB_REPORT && vb_keeps_reports(&balloon->state.device) ? notice->pages : 0;
     if (balloon->ballooned) {
         VbMarked marked = vb_mark(notice->kind, balloon->room.runs, notice->runs, balloon->ballooned, balloon->ballooned_words);
         result->marked += marked.pages;

@@ -159,6 +159,7 @@ uint32_t vb_kind(const VbDevice *device, uint32_t number) { return ANY_UP_TO(VB_
 uint32_t vb_write_config(VbDevice *device, uint32_t offset, const uint8_t *bytes, size_t length) { return any_u32(); }
 void vb_read_config(const VbDevice *device, uint32_t offset, uint8_t *out, size_t length) { }
 void vb_set_target(VbDevice *device, uint32_t pages) { device->target = pages; }
+uint32_t vb_keeps_reports(const VbDevice *device) { return ANY_UP_TO(1); }
 uint32_t vb_may_tell(const VbDevice *device) { return ANY_UP_TO(1); }
 uint32_t vb_save(const VbDevice *device, uint32_t held, uint8_t *out, size_t room) { return any_u32(); }
 

@@ -11,7 +11,7 @@ enum { MUST_TELL_HOST = 1, STATS_VQ = 2, REPORTING = 32, PAGE = 4096, REPORT_PIE
 enum { BAD_HEAD = 1, BAD_NEXT, TOO_LONG, INDIRECT, WRONG_DIRECTION, OUT_OF_MEMORY, INDEX_JUMP, BAD_LENGTH, BAD_PAGE,
        RESERVED_PAGE };
 static const uint64_t VERSION_1 = 1ull << 32;
-static const uint64_t KNOWN = 1ull << 32 | 0x27;
+static const uint64_t KNOWN = 1ull << 32 | 0x37;
 static const uint64_t MOST_MEMORY = 1ull << 44;
 
 static uint64_t little(const uint8_t *bytes, int count)
@@ -95,19 +95,26 @@ uint32_t vb_negotiate(VbDevice *device, uint64_t features)
 
 void vb_read_config(const VbDevice *device, uint32_t offset, uint8_t *out, size_t length)
 {
-    const uint32_t words[2] = { device->target, device->actual };
+    uint32_t poison = device->settings.offered & VB_F_PAGE_POISON ? device->poison : 0;
+    const uint32_t words[4] = { device->target, device->actual, 0, poison };
     for (size_t i = 0; i < length; i++) {
         uint64_t at = (uint64_t)offset + i;
-        out[i] = at < 8 ? (uint8_t)(words[at / 4] >> 8 * (at % 4)) : 0;
+        out[i] = at < sizeof words ? (uint8_t)(words[at / 4] >> 8 * (at % 4)) : 0;
     }
 }
 
 uint32_t vb_write_config(VbDevice *device, uint32_t offset, const uint8_t *bytes, size_t length)
 {
-    if (offset != 4 || length != 4)
+    bool poison = offset == 12 && (device->settings.offered & VB_F_PAGE_POISON);
+    if ((offset != 4 && !poison) || length != 4)
         return VB_BAD_ARGUMENT;
-    device->actual = (uint32_t)little(bytes, 4);
+    *(poison ? &device->poison : &device->actual) = (uint32_t)little(bytes, 4);
     return VB_OK;
+}
+
+uint32_t vb_keeps_reports(const VbDevice *device)
+{
+    return (device->features & VB_F_PAGE_POISON) && device->poison != 0;
 }
 
 /* ---- queues */
@@ -519,7 +526,7 @@ uint32_t vb_needs_targets(const uint32_t *old_targets, size_t old_count, const V
 uint32_t vb_version(void) { return VB_VERSION_NUMBER; }
 
 enum { STATE_SUM_AT = VB_STATE_BYTES - 8 };
-static const uint8_t STATE_BEGINS[16] = { 'V', 'B', 'S', 'T', 'A', 'T', 'E', 0, 1, 0, 0, 0, VB_STATE_BYTES, 0, 0, 0 };
+static const uint8_t STATE_BEGINS[16] = { 'V', 'B', 'S', 'T', 'A', 'T', 'E', 0, 2, 0, 0, 0, VB_STATE_BYTES, 0, 0, 0 };
 
 /* Where a number stands in a saved state, or is read from it. */
 typedef struct { uint8_t *at; bool writes; } Cursor;
@@ -561,6 +568,7 @@ static void state_numbers(Cursor *cursor, VbDevice *device, uint32_t *held)
     ring_numbers(cursor, &device->deflate);
     ring_numbers(cursor, &device->statistics);
     ring_numbers(cursor, &device->report);
+    number(cursor, &device->poison, 4);
 }
 
 /* FNV-1a with 64 bits. */
@@ -605,7 +613,7 @@ static bool is_possible(const VbDevice *device, uint32_t held)
 {
     return !are_impossible(&device->settings) && is_status(device->status) && are_agreed(device)
         && is_ring(device, VB_INFLATE) && is_ring(device, VB_DEFLATE) && is_ring(device, VB_STATISTICS)
-        && is_ring(device, VB_REPORT)
+        && is_ring(device, VB_REPORT) && (!device->poison || (device->settings.offered & VB_F_PAGE_POISON))
         && (!held || ((device->status & DRIVER_OK) && !lacks_feature(device, VB_STATISTICS)
                       && held <= device->statistics.size));
 }
@@ -635,7 +643,7 @@ uint32_t vb_restore(VbDevice *device, uint32_t *held, const uint8_t *bytes, size
         return VB_BAD_LENGTH;
     if (memcmp(bytes, STATE_BEGINS, 8) != 0)
         return VB_NOT_A_STATE;
-    if (little(bytes + 8, 4) != 1)
+    if (little(bytes + 8, 4) != 2)
         return VB_OTHER_VERSION;
     if (little(bytes + 12, 4) != VB_STATE_BYTES || length != VB_STATE_BYTES)
         return VB_BAD_LENGTH;

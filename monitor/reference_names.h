@@ -9,6 +9,7 @@
 #define vb_place reference_place
 #define vb_read_config reference_read_config
 #define vb_write_config reference_write_config
+#define vb_keeps_reports reference_keeps_reports
 #define vb_next reference_next
 #define vb_name reference_name
 #define vb_report reference_report

@@ -245,7 +245,7 @@ static bool cut_of(const Call *call, size_t number, VbRun run, VbCut *cut)
 static uint32_t ask_cut(const Call *call)
 {
     VbNotice *notice = call->notice;
-    if (notice->kind == VB_DEFLATE)
+    if (notice->kind == VB_DEFLATE || (notice->kind == VB_REPORT && vb_keeps_reports(&call->balloon->device)))
         return give_back(call);
     uint32_t cuts = 0;
     for (; notice->number < notice->runs && notice->number < VB_MAX_RUNS && cuts < MOST_AT_ONCE; notice->number += notice->from == 0) {

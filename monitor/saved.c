@@ -2,7 +2,7 @@
  * and each damaged one is refused by name and changes nothing. */
 #include "guest.h"
 
-enum { SUM_AT = VB_STATE_BYTES - 8, RINGS_AT = 59, RING_BYTES = 30, ROUNDS = 200000 };
+enum { SUM_AT = VB_STATE_BYTES - 8, POISON_AT = SUM_AT - 4, RINGS_AT = 59, RING_BYTES = 30, ROUNDS = 200000 };
 
 /* ---- the format, written down once more */
 
@@ -31,13 +31,14 @@ static void encode(const VbDevice *device, uint32_t held, uint8_t *bytes)
 {
     const VbSettings *settings = &device->settings;
     uint8_t *at = put_number(bytes, 0x0045544154534256, 8);     /* VBSTATE and a 0 */
-    at = put_number(put_number(at, 1, 4), VB_STATE_BYTES, 4);
+    at = put_number(put_number(at, 2, 4), VB_STATE_BYTES, 4);
     at = put_number(put_number(at, settings->memory_end, 8), settings->offered, 8);
     at = put_number(at, settings->reserved_pages, 4);
     at = put_number(put_number(at, settings->needs_must_tell, 1), settings->skips_bad_pages, 1);
     at = put_number(put_number(put_number(at, device->features, 8), device->target, 4), device->actual, 4);
     at = put_number(put_number(at, held, 4), device->status, 1);
     at = put_ring(put_ring(put_ring(put_ring(at, &device->inflate), &device->deflate), &device->statistics), &device->report);
+    at = put_number(at, device->poison, 4);
     EXPECT(at == bytes + SUM_AT);
     put_sum(bytes);
 }
@@ -46,7 +47,7 @@ static void encode(const VbDevice *device, uint32_t held, uint8_t *bytes)
 
 static struct guest guest;
 
-static const VbSettings SETTINGS = { .offered = 1ull << 32 | 0x27, .reserved_pages = 16, .skips_bad_pages = 7 };
+static const VbSettings SETTINGS = { .offered = 1ull << 32 | 0x37, .reserved_pages = 16, .skips_bad_pages = 7 };
 
 /* The states that a driver's steps lead through, by number; false past the last one. */
 static bool reach(unsigned state)
@@ -69,6 +70,7 @@ static bool reach(unsigned state)
         return balloon_write_status(balloon, 139, &result) == 0;
     balloon_set_target(balloon, 0x01020304);
     EXPECT(balloon_write_config(balloon, 4, (const uint8_t[]){ 9, 8, 7, 6 }, 4) == VB_OK);
+    EXPECT(balloon_write_config(balloon, 12, (const uint8_t[]){ 0xaa, 0xbb, 0, 1 }, 4) == VB_OK);
     if (state == 5)
         return true;
     EXPECT(balloon_write_status(balloon, 15, &result) == 0);
@@ -165,7 +167,7 @@ static void each_damaged_byte_is_refused(void)
  * right sum. */
 static const struct { unsigned state; size_t at; int bytes; uint64_t value; } IMPOSSIBLE[] = {
     { 7, 16, 8, 8191 }, { 7, 16, 8, 1ull << 44 }, { 7, 16, 8, 0x10000 },         /* the end of memory; before the queues */
-    { 7, 24, 8, 0x27 }, { 7, 24, 8, 1ull << 32 | 0x2f },                         /* offered */
+    { 7, 24, 8, 0x37 }, { 7, 24, 8, 1ull << 32 | 0x3f },                         /* offered */
     { 7, 38, 8, 1ull << 32 | 0x40 }, { 7, 38, 8, 0x27 }, { 7, 24, 8, 1ull << 32 }, /* features */
     { 7, 54, 4, 65 }, { 7, 54, 4, UINT32_MAX }, { 7, 38, 8, 1ull << 32 | 0x25 },  /* held; moved without STATS_VQ */
     { 7, 58, 1, 0 }, { 7, 58, 1, 2 }, { 7, 58, 1, 3 }, { 7, 58, 1, 5 }, { 7, 58, 1, 7 }, { 7, 58, 1, 11 },
@@ -175,6 +177,7 @@ static const struct { unsigned state; size_t at; int bytes; uint64_t value; } IM
     { 7, RINGS_AT + 24, 2, 1 }, { 7, RINGS_AT + 24, 2, 63 }, { 7, RINGS_AT + 24, 2, 512 },
     { 7, RINGS_AT + RING_BYTES, 8, 1 }, { 7, RINGS_AT + 2 * RING_BYTES, 8, 1 }, { 7, RINGS_AT + 3 * RING_BYTES, 8, 1 },
     { 5, RINGS_AT + 26, 2, 1 }, { 5, RINGS_AT + 3 * RING_BYTES + 28, 2, 1 }, { 5, 54, 4, 1 }, { 0, RINGS_AT + 26, 2, 1 },
+    { 7, 24, 8, 1ull << 32 | 0x27 },            /* poison_val where PAGE_POISON isn't offered */
     { 0, 38, 8, 1ull << 32 }, { 0, 54, 4, 1 }, { 0, RINGS_AT + 2 * RING_BYTES + 24, 2, 64 }, { 3, 38, 8, 1 },
     { 7, 20 + 16, 1, 0 },       /* nothing is changed: the one row that has to be restored */
 };
@@ -182,7 +185,7 @@ static const struct { unsigned state; size_t at; int bytes; uint64_t value; } IM
 /* Fields that may have any value in a running device. */
 static const struct { size_t at; int bytes; } FREE[] = {
     { 32, 4 }, { 37, 1 }, { 46, 4 }, { 50, 4 }, { RINGS_AT + 26, 2 }, { RINGS_AT + 28, 2 },
-    { RINGS_AT + RING_BYTES + 26, 2 }, { RINGS_AT + 3 * RING_BYTES + 28, 2 },
+    { RINGS_AT + RING_BYTES + 26, 2 }, { RINGS_AT + 3 * RING_BYTES + 28, 2 }, { POISON_AT, 4 },
 };
 
 static void impossible_devices_are_refused(void)
@@ -317,11 +320,11 @@ static void any_request(uint32_t kind)
 static void any_step(void)
 {
     static const uint8_t statuses[] = { 0, 1, 3, 11, 15, 128, 129, 131, 139, 143, 79, 207 };
-    static const uint64_t features[] = { 0, 1, 2, 0x20, 1ull << 32, 1ull << 32 | 2, 1ull << 32 | 0x22, 1ull << 32 | 0x27 };
+    static const uint64_t features[] = { 0, 1, 2, 0x30, 1ull << 32, 1ull << 32 | 2, 1ull << 32 | 0x22, 1ull << 32 | 0x27 };
     struct balloon *balloon = &guest.balloon;
     struct balloon_result result;
     uint32_t kind = chance(4);
-    switch (chance(10)) {
+    switch (chance(11)) {
     case 0: balloon_write_status(balloon, statuses[chance(5) * (chance(4) > 0) + chance(2) * chance(8)], &result); break;
     case 1: balloon_write_status(balloon, (uint8_t)(balloon->state.device.status | 1u << chance(8)), &result); break;
     case 2: balloon_negotiate(balloon, features[chance(8)]); break;
@@ -331,6 +334,7 @@ static void any_step(void)
     case 6:
     case 7: balloon_notify(balloon, kind); break;
     case 8: balloon_ask_statistics(balloon); break;
+    case 9: balloon_write_config(balloon, 4 * chance(5), (const uint8_t[]){ (uint8_t)chance(3), 0, 0, 0 }, 4); break;
     default: vb_use(&balloon->state.device, kind, chance(70)); break;
     }
 }

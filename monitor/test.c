@@ -37,7 +37,9 @@ static void settings_have_bounds(void)
     it = good;
     it.offered = 0x27;          /* without VERSION_1 */
     EXPECT(vb_new(&device, it) == VB_BAD_ARGUMENT);
-    const uint64_t never[] = { 1 << 3, 1 << 4, 1 << 6, 1ull << 28, 1ull << 29, 1ull << 33, 1ull << 63 };
+    it.offered = VERSION_1 | VB_F_PAGE_POISON;
+    EXPECT(vb_new(&device, it) == VB_OK);
+    const uint64_t never[] = { 1 << 3, 1 << 6, 1ull << 28, 1ull << 29, 1ull << 33, 1ull << 63 };
     for (size_t i = 0; i < sizeof never / sizeof never[0]; i++) {
         it.offered = VERSION_1 | never[i];
         EXPECT(vb_new(&device, it) == VB_BAD_ARGUMENT);
@@ -150,6 +152,30 @@ static void configuration_is_little_endian(void)
             if (offset != 4 || length != 4)
                 EXPECT(vb_write_config(&device, offset, all, length) == VB_BAD_ARGUMENT);
     EXPECT(vb_write_config(&device, UINT32_MAX, all, 4) == VB_BAD_ARGUMENT && device.actual == 0x44332211);
+}
+
+/* poison_val: 4 bytes at 12, which are there to read and to write where PAGE_POISON is offered (VIRTIO 1.2, 5.5.4). */
+static void poison_val_stands_at_12(bool offered)
+{
+    VbDevice device;
+    const VbSettings settings = { .memory_end = MIB, .offered = VERSION_1 | (offered ? VB_F_PAGE_POISON : 0) };
+    const uint8_t poison[] = { 0xdd, 0xcc, 0xbb, 0xaa, 1 };
+    EXPECT(vb_new(&device, settings) == VB_OK && device.poison == 0);
+    for (uint32_t offset = 0; offset < 20; offset++)
+        for (size_t length = 0; length < 6; length++)
+            if (length != 4 || (offset != 4 && offset != 12))
+                EXPECT(vb_write_config(&device, offset, poison, length) == VB_BAD_ARGUMENT && device.poison == 0);
+    EXPECT(vb_write_config(&device, 12, poison, 4) == (offered ? VB_OK : VB_BAD_ARGUMENT));
+    EXPECT(device.poison == (offered ? 0xaabbccdd : 0) && device.actual == 0 && device.target == 0);
+    for (uint32_t offset = 0; offset < 20; offset++) {
+        uint8_t byte = 0xee;
+        vb_read_config(&device, offset, &byte, 1);
+        EXPECT(byte == (offered && offset >= 12 && offset < 16 ? poison[offset - 12] : 0));
+    }
+    EXPECT(vb_write_status(&device, 1) == 0 && vb_write_status(&device, 3) == 0);
+    EXPECT(vb_negotiate(&device, VERSION_1 | VB_F_PAGE_POISON) == (offered ? 0 : 3));
+    EXPECT(vb_keeps_reports(&device) == offered && vb_write_status(&device, 0) == 0);
+    EXPECT(device.poison == 0 && device.settings.offered == settings.offered && vb_keeps_reports(&device) == 0);
 }
 
 static void places_are_refused(void)
@@ -767,6 +793,37 @@ static void reports_are_discarded(void)
     free_memory(&guest);
 }
 
+/* What a driver that poisons its free pages reports is told and given back, and keeps its bytes; but not what it inflates,
+ * nor where its free pages hold zeros (init_on_free), nor where it didn't negotiate PAGE_POISON. */
+static void reports_keep_their_bytes(uint32_t poison, uint64_t features, bool kept)
+{
+    static struct guest guest;
+    static struct seen seen;
+    const VbSettings settings = { .offered = LINUX_FEATURES | VB_F_PAGE_POISON };
+    const uint8_t word[] = { (uint8_t)poison, (uint8_t)(poison >> 8), (uint8_t)(poison >> 16), (uint8_t)(poison >> 24) };
+    const uint32_t inflated = 900;
+    memset(&seen, 0, sizeof seen);
+    start(&guest, 0, settings, features, 8);
+    guest.balloon.context = &seen;
+    guest.balloon.on_pages = see_pages;
+    EXPECT(balloon_write_config(&guest.balloon, 12, word, 4) == VB_OK);
+    describe(&guest, VB_REPORT, 0, 800 * 4096, 3 * 4096, WRITE, 0);
+    memset(at(&guest, 800 * 4096), 0xaa, 3 * 4096);
+    memset(at(&guest, inflated * 4096ull), 0xaa, 4096);
+    publish(&guest, VB_REPORT, 0);
+    struct balloon_result result = balloon_notify(&guest.balloon, VB_REPORT);
+    EXPECT(result.code == VB_OK && result.chains == 1 && result.pages == 3 && result.error == 0 && result.in_holes == 0);
+    EXPECT(result.kept == (kept ? 3 : 0) && result.discarded == (kept ? 0 : 3));
+    EXPECT(seen.runs == 1 && seen.run[0].first == 800 && seen.run[0].count == 3);
+    EXPECT(used_index(&guest, VB_REPORT) == 1 && result.interrupts == 1 << VB_REPORT);
+    for (uint32_t page = 800; page < 803; page++)
+        EXPECT(get(&guest, page * 4096ull + 4095, 1) == (kept ? 0xaa : 0));
+    name_pages(&guest, VB_INFLATE, &inflated, 1);
+    result = balloon_notify(&guest.balloon, VB_INFLATE);
+    EXPECT(result.discarded == 1 && result.kept == 0 && get(&guest, inflated * 4096ull, 1) == 0);
+    free_memory(&guest);
+}
+
 /* ---- holes, and pages that aren't there */
 
 static void holes_are_skipped(void)
@@ -894,6 +951,8 @@ int main(void)
     RUN(queues_are_numbered_without_gaps());
     RUN(status_is_refused());
     RUN(configuration_is_little_endian());
+    RUN(poison_val_stands_at_12(true));
+    RUN(poison_val_stands_at_12(false));
     RUN(places_are_refused());
     RUN(pages_go_and_come(0));
     RUN(pages_go_and_come(BALLOON_SHARED));
@@ -917,6 +976,10 @@ int main(void)
     RUN(statistics_come());
     RUN(one_buffer_is_held());
     RUN(reports_are_discarded());
+    RUN(reports_keep_their_bytes(0xaaaaaaaa, LINUX_FEATURES | VB_F_PAGE_POISON, true));
+    RUN(reports_keep_their_bytes(1 << 24, LINUX_FEATURES | VB_F_PAGE_POISON, true));
+    RUN(reports_keep_their_bytes(0, LINUX_FEATURES | VB_F_PAGE_POISON, false));
+    RUN(reports_keep_their_bytes(0xaaaaaaaa, LINUX_FEATURES, false));
     RUN(holes_are_skipped());
     RUN(wrong_pages_are_refused(6144, 9));
     RUN(wrong_pages_are_refused(UINT32_MAX, 9));

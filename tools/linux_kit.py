@@ -175,6 +175,7 @@ class Uml:
     """User Mode Linux: a kernel that is a process. Its device is reached by vhost-user."""
 
     backend = "vhost_user_balloon"
+    kernel_words = ()
 
     def __init__(self, folder):
         self.root = fetch("uml", lambda: ["user-mode-linux", "busybox-static"])
@@ -191,7 +192,8 @@ class Uml:
         enough_room(memory)
         kernel = os.path.join(self.root, "usr/bin/linux.uml")
         consoles = ("con=null", "con0=fd:0,fd:1", f"uml_dir={folder}/uml")
-        return [kernel, f"mem={memory}M", f"initrd={self.initramfs}", *consoles, f"virtio_uml.device={path}:5", *KERNEL_WORDS]
+        return [kernel, f"mem={memory}M", f"initrd={self.initramfs}", *consoles, f"virtio_uml.device={path}:5", *KERNEL_WORDS,
+                *self.kernel_words]
 
     def environment(self):
         """Returns the guest's environment: its memory is in /dev/shm, but where one of these names another folder."""
@@ -204,6 +206,7 @@ class Qemu:
 
     backend = "pci_proxy_balloon"
     device = "x-pci-proxy-dev"
+    kernel_words = ()
 
     def __init__(self, folder):
         busybox = os.path.join(fetch("uml", lambda: ["user-mode-linux", "busybox-static"]), "bin/busybox")
@@ -236,7 +239,7 @@ class Qemu:
             *self.program(), "-nodefaults", "-no-user-config", "-display", "none",
             "-accel", "tcg", "-smp", "1", "-m", str(memory), "-no-reboot", "-serial", "stdio",
             "-object", f"memory-backend-memfd,id=memory,size={memory}M,share=on", "-machine", "q35,memory-backend=memory",
-            "-kernel", kernel, "-initrd", self.initramfs, "-append", " ".join((*looks, *KERNEL_WORDS)),
+            "-kernel", kernel, "-initrd", self.initramfs, "-append", " ".join((*looks, *KERNEL_WORDS, *self.kernel_words)),
             "-device", f"{self.device},id=balloon,fd={number}",
         ]
 

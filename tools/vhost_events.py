@@ -10,8 +10,8 @@ import linux_guest
 import vhost_client
 from vhost_client import (
     BUFFERS, DEFLATE, FEATURES, GET_CONFIG, GET_MAX_MEM_SLOTS, GET_STATUS, INFLATE, LIMIT, NO_FILE, PAGE, PAGES_OF_REGION,
-    QEMU_PROTOCOL, REGIONS, REM_MEM_REG, REPLY_ACK, RESET_DEVICE, SET_CONFIG, SET_FEATURES, SET_STATUS, SET_VRING_CALL,
-    SET_VRING_ENABLE, SET_VRING_KICK, STATISTICS, STATUS,
+    POISON, QEMU_PROTOCOL, REGIONS, REM_MEM_REG, REPLY_ACK, REPORT, RESET_DEVICE, SET_CONFIG, SET_FEATURES, SET_STATUS,
+    SET_VRING_CALL, SET_VRING_ENABLE, SET_VRING_KICK, STATISTICS, STATUS, WRITE,
 )
 from vhost_served import program
 from vhost_serves import Good, post_statistics
@@ -200,6 +200,53 @@ class Events(Good):
         client.go_on()
         self.assertEqual((client.counter("status"), client.counter("actual")), (15, 0))
         self.served(client, INFLATE, [FIRST])
+
+    def poisoned(self, *options):
+        """Returns a client whose driver said that its free pages hold 0xff, and the word of PAGE_POISON."""
+        client = self.client("--features", "100000037", *options)
+        client.negotiate(FEATURES | POISON)
+        client.accepted(SET_CONFIG, struct.pack("<IIII", 12, 4, 0, 0xFFFFFFFF))
+        client.start_by_events(features=FEATURES | POISON)
+        return client
+
+    def reported(self, client, page, kept):
+        """Posts a report of a page, and demands that its bytes are kept, or gone."""
+        before = client.backend.counters()
+        client.describe(REPORT, 0, page * PAGE, PAGE, WRITE)
+        client.publish(REPORT, 0)
+        client.kick(REPORT)
+        self.assertEqual(client.called(REPORT), 1)
+        counters = client.backend.counters()
+        self.assertEqual([counters[it] - before[it] for it in ("reported", "kept", "discarded")], [1, kept, 1 - kept])
+        self.assertEqual(client.read(page * PAGE, PAGE), (b"\xff" if kept else b"\0") * PAGE)
+
+    def test_poisoned_reports_are_kept(self):
+        client = self.poisoned()
+        self.reported(client, FIRST, 1)
+        self.served(client, INFLATE, [FIRST + 1])
+        self.assertEqual((client.holes(), client.counter("in_holes")), ([FIRST + 1], 0))
+        client.accepted(SET_CONFIG, struct.pack("<IIII", 12, 4, 0, 0))
+        self.reported(client, FIRST + 2, 0)
+
+    def test_poison_val_is_there_only_where_it_is_offered(self):
+        client = self.started()
+        self.assertNotEqual(client.send(SET_CONFIG, struct.pack("<IIII", 12, 4, 0, 7)), bytes(8))
+        client = self.poisoned()
+        body = struct.pack("<III", 8, 8, 0) + bytes(8)
+        answer = client.send(GET_CONFIG, body, flags=1) or client.receive()[1]
+        self.assertEqual(answer[12:], struct.pack("<II", 0, 0xFFFFFFFF))
+
+    def test_poison_val_stays_while_no_ring_runs(self):
+        client = self.poisoned()
+        bases = [client.stop_ring(number) for number in range(4)]
+        client.accepted(SET_STATUS, word(0))
+        client.accepted(SET_FEATURES, word(FEATURES | POISON | vhost_client.HAS_PROTOCOL))
+        client.go_on(bases)
+        self.reported(client, FIRST, 1)
+        client.accepted(RESET_DEVICE)
+        client.accepted(SET_FEATURES, word(FEATURES | POISON | vhost_client.HAS_PROTOCOL))
+        client.go_on()
+        self.reported(client, FIRST + 1, 0)
 
     def test_a_reset_forgets_the_rings(self):
         client = self.started()

@@ -49,12 +49,14 @@ enum {                          /* kinds of queues, whatever their numbers are *
  * 6 out of memory, 7 available index jumps, 8 bad length, 9 bad page, 10 reserved page. */
 
 enum { VB_MAX_QUEUE_SIZE = 256, VB_MAX_PIECES = 256, VB_MAX_RUNS = 256, VB_MAX_BYTES = 1024, VB_MAX_FIGURES = 102,
-       VB_MAX_CUTS = 32, VB_STATE_BYTES = 187 };
+       VB_MAX_CUTS = 32, VB_STATE_BYTES = 191 };
+enum { VB_F_PAGE_POISON = 16 };    /* a feature: the driver says in poison_val what its free pages hold (VIRTIO 1.2, 5.5.3) */
 
 typedef struct {
     uint64_t memory_end;        /* bytes: where guest memory ends, from 8192 on and below 2^44; the last part of a page
                                    doesn't count. Holes below it are the caller's. */
-    uint64_t offered;           /* features: of bits 0, 1, 2, 5 and 32; bit 32 (VERSION_1) is among them */
+    uint64_t offered;           /* features: of bits 0, 1, 2, 4 (VB_F_PAGE_POISON), 5 and 32; bit 32 (VERSION_1) is among
+                                   them */
     uint32_t reserved_pages;    /* pages at the start that no request may name; none: 0 */
     uint8_t needs_must_tell;    /* unless 0: FEATURES_OK is refused without MUST_TELL_HOST */
     uint8_t skips_bad_pages;    /* unless 0: a page number past the end, or of a reserved page, is skipped and counted;
@@ -71,6 +73,7 @@ typedef struct {
     uint64_t features;          /* what the driver negotiated */
     uint32_t target, actual;    /* num_pages and actual of the configuration space */
     VbQueue inflate, deflate, statistics, report;
+    uint32_t poison;            /* poison_val of the configuration space */
     uint8_t status;
 } VbDevice;
 
@@ -157,7 +160,7 @@ VB_ASSERT(sizeof(VbQueue) == 32 && offsetof(VbQueue, avail) == 8 && offsetof(VbQ
 VB_ASSERT(sizeof(VbDevice) == 176 && offsetof(VbDevice, settings) == 0 && offsetof(VbDevice, features) == 24
           && offsetof(VbDevice, target) == 32 && offsetof(VbDevice, actual) == 36 && offsetof(VbDevice, inflate) == 40
           && offsetof(VbDevice, deflate) == 72 && offsetof(VbDevice, statistics) == 104
-          && offsetof(VbDevice, report) == 136 && offsetof(VbDevice, status) == 168);
+          && offsetof(VbDevice, report) == 136 && offsetof(VbDevice, poison) == 168 && offsetof(VbDevice, status) == 172);
 VB_ASSERT(sizeof(VbPiece) == 16 && offsetof(VbPiece, length) == 8 && offsetof(VbPiece, writable) == 12);
 VB_ASSERT(sizeof(VbRun) == 8 && offsetof(VbRun, count) == 4);
 VB_ASSERT(sizeof(VbStatistic) == 16 && offsetof(VbStatistic, value) == 8);
@@ -190,7 +193,7 @@ uint32_t vb_version(void);
 uint32_t vb_new(VbDevice *device, VbSettings settings);
 /* The host wants so many pages in the balloon: tell the driver of the change of configuration. */
 void vb_set_target(VbDevice *device, uint32_t pages);
-/* The driver writes the status register: 0 accepted (a write of 0 resets: features, actual and all places
+/* The driver writes the status register: 0 accepted (a write of 0 resets: features, actual, poison_val and all places
  * are gone), or, tested in this order, 1 clears a bit, 2 out of order, 5 VERSION_1 missing, 4 MUST_TELL_HOST missing;
  * then nothing is changed. At DRIVER_OK look at each queue once: Linux tells its first statistics buffer before. */
 uint32_t vb_write_status(VbDevice *device, uint8_t status);
@@ -202,10 +205,14 @@ uint32_t vb_kind(const VbDevice *device, uint32_t number);
  * VB_NO_QUEUE where the negotiated features leave it out; VB_MISPLACED where size is no power of two from 2 to 256, or a
  * part isn't aligned (16, 2, 4) or doesn't end within memory. */
 uint32_t vb_place(VbDevice *device, uint32_t kind, uint64_t table, uint64_t avail, uint64_t used, uint16_t size);
-/* Reads or writes bytes of the configuration space (num_pages, actual: little-endian). Bytes behind it read as 0;
- * only a write of the 4 bytes at 4 changes anything: VB_OK, else VB_BAD_ARGUMENT. */
+/* Reads or writes bytes of the configuration space (VIRTIO 1.1, 5.5.4), little-endian: num_pages at 0, actual at 4, and
+ * poison_val at 12 where PAGE_POISON is offered (VIRTIO 1.2, 5.5.4). All other bytes read as 0. Only a write of the 4 bytes
+ * at 4, or of the 4 bytes at 12 where PAGE_POISON is offered, changes anything: VB_OK, else VB_BAD_ARGUMENT. */
 void vb_read_config(const VbDevice *device, uint32_t offset, uint8_t *out, size_t length);
 uint32_t vb_write_config(VbDevice *device, uint32_t offset, const uint8_t *bytes, size_t length);
+/* 1 where the pages of a report keep what is in them: the driver negotiated PAGE_POISON, and poison_val isn't 0. A notice
+ * doesn't ask for such pages to be discarded, since they would read as zeros. Else 0. */
+uint32_t vb_keeps_reports(const VbDevice *device);
 
 /* The chain that stands next on the queue of inflates, deflates or statistics, with its pieces in order.
  * avail: a copy of the available ring, 4 + 2 size bytes: index first, then an acquire fence, then the rest.

@@ -159,7 +159,7 @@ static bool interrupt(struct backend *backend, const struct balloon_result *resu
 bool backend_finish(struct backend *backend, const struct balloon_result *result)
 {
     count_result(&backend->counters, result);
-    if (result->kept)
+    if (result->error)
         remark(backend, "%llu pages can't be discarded: %s", (unsigned long long)result->kept, strerror(result->error));
     if (!interrupt(backend, result))
         return false;

@@ -35,11 +35,19 @@ static bool write_status(struct backend *backend, uint8_t status)
     return backend_finish(backend, &result);
 }
 
+void configuration_write(struct balloon *balloon, uint32_t offset, uint32_t number)
+{
+    uint8_t bytes[4] = {(uint8_t)number, (uint8_t)(number >> 8), (uint8_t)(number >> 16), (uint8_t)(number >> 24)};
+    balloon_write_config(balloon, offset, bytes, sizeof bytes);
+}
+
 /* No ring runs any longer. The rings may go on where they were, so `actual` and the set of pages in the balloon stay
- * until the first ring starts anew. */
+ * until the first ring starts anew. So does poison_val, which QEMU writes before it tells the features, until it is written
+ * again, as each driver does that knows it. */
 static bool rest(struct backend *backend)
 {
     struct balloon *balloon = &backend->balloon;
+    uint32_t poison = balloon->state.device.poison;
     uint64_t *set = balloon->ballooned;
     if (backend_is_ready(backend)) {
         backend->told.goes_on = true;
@@ -48,6 +56,7 @@ static bool rest(struct backend *backend)
     balloon->ballooned = NULL;
     bool written = write_status(backend, 0);
     balloon->ballooned = set;
+    configuration_write(balloon, POISON_AT, poison);
     return written;
 }
 
@@ -133,13 +142,11 @@ static bool go_on(struct backend *backend, unsigned number, const VbQueue *at)
 static void begin_life(struct backend *backend, uint16_t position)
 {
     struct balloon *balloon = &backend->balloon;
-    uint32_t actual = backend->told.actual;
-    uint8_t bytes[4] = {(uint8_t)actual, (uint8_t)(actual >> 8), (uint8_t)(actual >> 16), (uint8_t)(actual >> 24)};
     if (!backend->told.goes_on)
         return;
     backend->told.goes_on = false;
     if (position > 0)
-        balloon_write_config(balloon, sizeof bytes, bytes, sizeof bytes);
+        configuration_write(balloon, ACTUAL_AT, backend->told.actual);
     else if (balloon->ballooned)
         memset(balloon->ballooned, 0, balloon->ballooned_words * sizeof balloon->ballooned[0]);
 }

@@ -31,6 +31,11 @@ struct told {
 };
 
 struct backend;
+struct balloon;
+
+/* Puts a number into the device's configuration as a driver does; a field that isn't offered takes none. */
+void configuration_write(struct balloon *balloon, uint32_t offset, uint32_t number);
+enum { ACTUAL_AT = 4, POISON_AT = 12 };
 
 /* No client has told anything. */
 void rings_clear(struct backend *backend);

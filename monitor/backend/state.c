@@ -25,6 +25,7 @@ bool state_load(struct backend *backend)
     if (code != VB_OK)
         return refuse("%s is no saved state: it is answered %u", path, code);
     balloon_set_target(&backend->balloon, device.target);
+    configuration_write(&backend->balloon, POISON_AT, device.poison);
     backend->told.actual = device.actual;
     backend->told.goes_on = true;
     return true;

@@ -41,7 +41,7 @@ void pci_start(struct virtio_pci *pci, struct backend *backend)
     capability(pci, 0x40, 0x50, COMMON, 0, COMMON_SIZE);
     capability(pci, 0x50, 0x64, NOTIFY, NOTIFY_AT, PART);
     capability(pci, 0x64, 0x74, ISR, ISR_AT, 4);
-    capability(pci, 0x74, 0, DEVICE, DEVICE_AT, 8);
+    capability(pci, 0x74, 0, DEVICE, DEVICE_AT, 16);
 }
 
 uint32_t pci_read_configuration(const struct virtio_pci *pci, uint32_t at, uint32_t length)

@@ -9,7 +9,7 @@ use Rattle.vb_status.specs.declared.bits.StatusFault.{StatusFault}
 use Rattle.vb_core.specs.Settings.{are_settings}
 use Rattle.vb_core.specs.Devices.{new_device, with_ring, placed, place_denial}
 use Rattle.vb_core.specs.Statuses.{status_denial, after_write, negotiate_denial}
-use Rattle.vb_core.specs.Config.{config_denies, with_actual}
+use Rattle.vb_core.specs.Config.{config_denies, with_written}
 use Rattle.vb_c.specs.Codes.{code_of, number_in}
 
 -- A device is made of settings that one may have, and else stays as it is.
@@ -43,9 +43,9 @@ PlacesFor None table avail used size d1 d2 result = (result ≡ code_of NoQueue)
 PlacesFor (Some kind) table avail used size d1 d2 result =
     Places kind table avail used size d1 d2 result
 
--- A write to the configuration space is refused, or is one of actual.
+-- A write to the configuration space is refused, or is one of a field that a driver may write.
 pub record WritesConfig (offset : ℕ) (bytes : List ℕ) (d1 d2 : Device) (result : ℕ) : Type 0 where
-  pub denied : config_denies offset (length bytes) ≡ true →
+  pub denied : config_denies offset (length bytes) d1 ≡ true →
       (result ≡ code_of BadArgument) × (d2 ≡ d1)
-  pub written : config_denies offset (length bytes) ≡ false →
-      (result ≡ 0) × (d2 ≡ with_actual bytes d1)
+  pub written : config_denies offset (length bytes) d1 ≡ false →
+      (result ≡ 0) × (d2 ≡ with_written offset bytes d1)

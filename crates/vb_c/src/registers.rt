@@ -2,7 +2,8 @@
 
 ghost use Rattle.std.specs.Prelude.{◌≡◌, ℕ, ◌+◌, ◌<◌, length, slice_index};
 ghost use Rattle.vb_core.specs.Kinds.{kind_of};
-ghost use Rattle.vb_core.specs.Config.{config_bytes};
+ghost use Rattle.vb_core.specs.Config.{config_bytes, keeps_reports};
+ghost use Rattle.vb_model.specs.Tests.{one_if};
 ghost use Rattle.vb_c.specs.Codes.{code_in, number_in, kind_of_code, code_of_kind};
 ghost use Rattle.vb_c.specs.Registers.{Starts, WritesStatus, Negotiates, PlacesFor};
 ghost use Rattle.vb_c.specs.Registers.{WritesConfig};
@@ -114,4 +115,12 @@ pub extern "C" fn vb_write_config(device: &mut Device, offset: u32, bytes: &[u8]
     ensures { WritesConfig offset bytes.now device.old device.new result }
 {
     code_in(device.write_config(offset, bytes))
+}
+
+/// Whether the pages of a report keep what is in them.
+#[unsafe(no_mangle)]
+pub extern "C" fn vb_keeps_reports(device: &Device) -> u32
+    ensures { result ≡ one_if (keeps_reports device.now) }
+{
+    u32::from(device.keeps_reports())
 }

@@ -11,6 +11,7 @@ pub mod CopyLaws
 pub mod CountLemmas
 pub mod MarkLemmas
 mod SettingFacts
+mod ConfigFacts
 mod RunFacts
 mod SavedFacts
 mod DenialFacts

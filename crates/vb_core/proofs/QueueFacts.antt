@@ -13,7 +13,6 @@ use Rattle.vb_core.specs.Devices.{new_device, placed, queue_denial, call_denial,
 use Rattle.vb_core.specs.Kinds.{kind_of}
 use Rattle.vb_core.specs.Next.{length_of, answer_to, are_copies}
 use Rattle.vb_core.specs.Using.{use_denial}
-use Rattle.vb_core.specs.Config.{config_bytes, config_denies, with_actual}
 use Rattle.vb_core.specs.Statuses.{after_write}
 use Rattle.vb_core.specs.Statistics.{AreFigures, statistics_denial}
 
@@ -176,24 +175,9 @@ no_fourth = refl
 
 -- ---- registers
 
-target_first : config_bytes (record ready { target = 258; actual = 1 }) ≡
-    2 ∷ 1 ∷ 0 ∷ 0 ∷ 1 ∷ 0 ∷ 0 ∷ 0 ∷ []
-target_first = refl
-
-num_pages_denied : config_denies 0 4 ≡ true
-num_pages_denied = refl
-
-actual_written : config_denies 4 4 ≡ false
-actual_written = refl
-
-half_denied : config_denies 4 2 ≡ true
-half_denied = refl
-
-actual_is : with_actual (2 ∷ 1 ∷ 0 ∷ 0 ∷ []) ready ≡ record ready { actual = 258 }
-actual_is = refl
-
 -- a reset forgets all but the target
-reset : after_write 0 (record ready { target = 9; actual = 4 }) ≡ record (new_device settings) { target = 9 }
+reset : after_write 0 (record ready { target = 9; actual = 4; poison = 7 }) ≡
+    record (new_device settings) { target = 9 }
 reset = refl
 
 acknowledged : after_write 1 (new_device settings) ≡ record (new_device settings) { status = 1 }

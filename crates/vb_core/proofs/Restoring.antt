@@ -87,18 +87,18 @@ both false b e = cc
 -- ---- what was saved is restored
 
 -- the bytes before the checksum
-front : (x : Saved) (bytes more : List ℕ) → length bytes ≡ 187 → length more ≡ 8
-    → bytes ≡ in_a_row (saved_parts x) more → take 179 bytes ≡ body x
+front : (x : Saved) (bytes more : List ℕ) → length bytes ≡ 191 → length more ≡ 8
+    → bytes ≡ in_a_row (saved_parts x) more → take 183 bytes ≡ body x
 front x bytes more len eight e =
     let whole : bytes ≡ body x ++ more = e ∙ row_more (saved_parts x) more in
-    let own : length (body x) ≡ 179 = omega (
+    let own : length (body x) ≡ 183 = omega (
       arith,
       len,
       eight,
       ap (λ (xs : List ℕ). length xs) whole,
       length-append (body x) more,
     ) in
-    ap (λ (xs : List ℕ). take 179 xs) whole ∙ take_at (body x) more 179 own
+    ap (λ (xs : List ℕ). take 183 xs) whole ∙ take_at (body x) more 183 own
 
 restored_from : (s : Saved) (bytes : List ℕ) → FitsSaved s → can_be s ≡ true
     → bytes ≡ in_a_row (saved_parts s) (u64_bytes (checksum (body s))) → restored bytes ≡ Ok s
@@ -106,13 +106,13 @@ restored_from s bytes f possible e =
     let sum = u64_bytes (checksum (body s)) in
     let w = says s sum bytes f e in
     let eight : length sum ≡ 8 = length-u64_bytes (checksum (body s)) in
-    let len : length bytes ≡ 187 = omega (
+    let len : length bytes ≡ 191 = omega (
       arith,
       eight,
       ap (λ (xs : List ℕ). length xs) w.behind,
-      length-drop 179 bytes,
+      length-drop 183 bytes,
     ) in
-    let told = u64_then (checksum (body s)) [] bytes 179 187 (checksum_fits (body s)) refl
+    let told = u64_then (checksum (body s)) [] bytes 183 191 (checksum_fits (body s)) refl
     (w.behind ∙ sym (append-nil sum)) in
     let same = front s bytes sum len eight e in
     let header : header_denial bytes ≡ None = header_passes (nat_lt (length bytes) HEADER_LENGTH)
@@ -124,7 +124,7 @@ restored_from s bytes f possible e =
     ∙ ap (λ (n : ℕ). n == SAVED_LENGTH) len) in
     let rest : read_saved bytes ≡ Ok s = read_passes (has_sum bytes) (can_be (saved_in bytes))
     (saved_in bytes) s
-    (eq-eqb (u64_at bytes 179) (checksum (take 179 bytes))
+    (eq-eqb (u64_at bytes 183) (checksum (take 183 bytes))
     (told.0 ∙ sym (ap (λ (xs : List ℕ). checksum xs) same)))
     (ap (λ (x : Saved). can_be x) w.saved ∙ possible) w.saved in
     ap (λ (o : Option StateDenial). unless_denied o (read_saved bytes)) header ∙ rest
@@ -144,19 +144,19 @@ only_saved bytes s all e =
     let rest = read_passed (has_sum bytes) (can_be (saved_in bytes)) (saved_in bytes) s parts.1 in
     let lengths = both (u32_at bytes LENGTH_AT == SAVED_LENGTH) (length bytes == SAVED_LENGTH)
     header.3 in
-    let len : length bytes ≡ 187 = eqb-true (length bytes) SAVED_LENGTH lengths.1 in
+    let len : length bytes ≡ 191 = eqb-true (length bytes) SAVED_LENGTH lengths.1 in
     let row = row_again bytes all (omega arith) (eqb-true (u64_at bytes 0) MAGIC header.1)
     (eqb-true (u32_at bytes VERSION_AT) FORMAT_VERSION header.2)
     (eqb-true (u32_at bytes LENGTH_AT) SAVED_LENGTH lengths.0) in
-    let eight : length (drop 179 bytes) ≡ 8 = omega (arith, len, length-drop 179 bytes) in
-    let same = front (saved_in bytes) bytes (drop 179 bytes) len eight row in
-    let told : u64_at bytes 179 ≡ checksum (body (saved_in bytes)) =
-    eqb-true (u64_at bytes 179) (checksum (take 179 bytes)) rest.0
+    let eight : length (drop 183 bytes) ≡ 8 = omega (arith, len, length-drop 183 bytes) in
+    let same = front (saved_in bytes) bytes (drop 183 bytes) len eight row in
+    let told : u64_at bytes 183 ≡ checksum (body (saved_in bytes)) =
+    eqb-true (u64_at bytes 183) (checksum (take 183 bytes)) rest.0
     ∙ ap (λ (xs : List ℕ). checksum xs) same in
-    let sum : drop 179 bytes ≡ u64_bytes (checksum (body (saved_in bytes))) =
-    u64_again bytes 179 187 all refl (omega arith)
-    ∙ ap (λ (xs : List ℕ). u64_bytes (u64_at bytes 179) ++ xs) (drop_all 187 bytes (omega arith))
-    ∙ append-nil (u64_bytes (u64_at bytes 179))
+    let sum : drop 183 bytes ≡ u64_bytes (checksum (body (saved_in bytes))) =
+    u64_again bytes 183 191 all refl (omega arith)
+    ∙ ap (λ (xs : List ℕ). u64_bytes (u64_at bytes 183) ++ xs) (drop_all 191 bytes (omega arith))
+    ∙ append-nil (u64_bytes (u64_at bytes 183))
     ∙ ap (λ (n : ℕ). u64_bytes n) told in (
       subst (λ (x : Saved). bytes ≡ saved_bytes x) rest.2
           (row ∙ ap (λ (xs : List ℕ). in_a_row (saved_parts (saved_in bytes)) xs) sum),

@@ -94,16 +94,17 @@ says s more bytes f e =
     let m = ring_then d.deflate _ bytes 89 f.deflate l.1 in
     let n = ring_then d.statistics _ bytes 119 f.statistics m.1 in
     let o = ring_then d.report _ bytes 149 f.report n.1 in
+    let q = u32_then d.poison _ bytes 179 183 f.poison refl o.1 in
     record {
       magic = a.0;
       version = b.0;
       length_told = c.0;
-      saved = rw (t.0, g.0, h.0, i.0, j.0, k.0, l.0, m.0, n.0, o.0);
-      behind = o.1;
+      saved = rw (t.0, g.0, h.0, i.0, j.0, k.0, l.0, m.0, n.0, o.0, q.0);
+      behind = q.1;
     }
 
 -- bytes with a good header are what is saved of what they say, and more
-pub row_again : (bytes : List ℕ) → AreBytes bytes → 179 ≤ length bytes → u64_at bytes 0 ≡ MAGIC
+pub row_again : (bytes : List ℕ) → AreBytes bytes → 183 ≤ length bytes → u64_at bytes 0 ≡ MAGIC
     → u32_at bytes VERSION_AT ≡ FORMAT_VERSION → u32_at bytes LENGTH_AT ≡ SAVED_LENGTH
     → bytes ≡ in_a_row (saved_parts (saved_in bytes)) (drop CHECKSUM_AT bytes)
 row_again bytes all l m v c =
@@ -122,4 +123,5 @@ row_again bytes all l m v c =
     (row (ring_parts (ring_at bytes 59)) _ _ _ (ring_again bytes 59 all (omega arith))
     (row (ring_parts (ring_at bytes 89)) _ _ _ (ring_again bytes 89 all (omega arith))
     (row (ring_parts (ring_at bytes 119)) _ _ _ (ring_again bytes 119 all (omega arith))
-    (ring_again bytes 149 all (omega arith)))))))))))))
+    (row (ring_parts (ring_at bytes 149)) _ _ _ (ring_again bytes 149 all (omega arith))
+    (u32_again bytes 179 183 all refl (omega arith))))))))))))))

@@ -9,17 +9,18 @@ use Rattle.vb_core.specs.declared.ring.Ring.{Ring}
 use Rattle.vb_core.specs.declared.device.Device.{Device}
 use Rattle.vb_core.specs.declared.saved.Saved.{Saved}
 use Rattle.vb_core.specs.declared.saved.StateDenial.TheVariants.{BadLength, NotAState, Impossible}
+use Rattle.vb_core.specs.declared.saved.StateDenial.TheVariants.{OtherVersion}
 use Rattle.vb_core.specs.declared.format.TheConstants.{SAVED_LENGTH, CHECKSUM_AT, HEADER_LENGTH}
 use Rattle.vb_core.specs.declared.format.TheConstants.{FORMAT_VERSION, VERSION_AT, LENGTH_AT, MAGIC}
 use Rattle.vb_core.specs.Devices.{new_device}
-use Rattle.vb_core.specs.Format.{u16_bytes, u64_bytes, u64_at, checksum}
-use Rattle.vb_core.specs.Saved.{is_status, are_agreed, is_ring, is_held, save_denial}
+use Rattle.vb_core.specs.Format.{u16_bytes, u64_bytes, u32_at, u64_at, checksum}
+use Rattle.vb_core.specs.Saved.{is_status, are_agreed, is_ring, is_held, is_poison, save_denial}
 use Rattle.vb_core.specs.Saved.{restored}
 
 -- ---- bytes
 
 places_are : FORMAT_VERSION ∷ VERSION_AT ∷ LENGTH_AT ∷ HEADER_LENGTH ∷ CHECKSUM_AT ∷ SAVED_LENGTH
-    ∷ [] ≡ 1 ∷ 8 ∷ 12 ∷ 16 ∷ 179 ∷ 187 ∷ []
+    ∷ [] ≡ 2 ∷ 8 ∷ 12 ∷ 16 ∷ 183 ∷ 191 ∷ []
 places_are = refl
 
 -- the text VBSTATE, and a 0
@@ -44,6 +45,13 @@ of_something_else : restored (1 ∷ 0 ∷ 0 ∷ 0 ∷ 0 ∷ 0 ∷ 0 ∷ 0 ∷ 0 
     ≡ Err NotAState
 unfolding u64_at
 of_something_else = refl
+
+-- the first version had 187 bytes, and no poison_val
+of_the_first_version :
+    restored (86 ∷ 66 ∷ 83 ∷ 84 ∷ 65 ∷ 84 ∷ 69 ∷ 0 ∷ 1 ∷ 0 ∷ 0 ∷ 0 ∷ 187 ∷ 0 ∷ 0 ∷ 0 ∷ [])
+    ≡ Err OtherVersion
+unfolding u32_at u64_at
+of_the_first_version = refl
 
 -- ---- statuses: none but the steps in their order, with FAILED or without, and a broken rule
 
@@ -143,10 +151,25 @@ not_held : map is_held
     ≡ false ∷ false ∷ false ∷ []
 not_held = refl
 
+-- ---- poison_val
+
+poisons : is_poison (at_step 0 0)
+    ∷ is_poison (record (at_step 3 0) { settings = record settings { offered = 0x100000011 }; poison = 7 })
+    ∷ [] ≡ true ∷ true ∷ []
+poisons = refl
+
+-- nothing is written there unless it is offered
+no_poison : is_poison (record (at_step 15 0x100000001) { poison = 7 }) ≡ false
+no_poison = refl
+
 -- ---- what is saved
 
-saved_or_not : save_denial (holding 15 0x100000003 64) 187
-    ∷ save_denial (holding 15 0x100000003 64) 186 ∷ save_denial (holding 15 0x100000003 65) 187 ∷ []
-    ≡ None ∷ Some BadLength ∷ Some Impossible ∷ []
+abbrev poisoned : Saved
+poisoned = record { device = record (at_step 3 0) { poison = 7 }; held = 0 }
+
+saved_or_not : save_denial (holding 15 0x100000003 64) 191
+    ∷ save_denial (holding 15 0x100000003 64) 190 ∷ save_denial (holding 15 0x100000003 65) 191
+    ∷ save_denial poisoned 191 ∷ []
+    ≡ None ∷ Some BadLength ∷ Some Impossible ∷ Some Impossible ∷ []
 unfolding lib.Count.ones
 saved_or_not = refl

@@ -28,6 +28,7 @@ new_device settings = record {
   deflate = no_ring;
   statistics = no_ring;
   report = no_ring;
+  poison = 0;
   status = 0;
 }
 

@@ -52,7 +52,7 @@ device_parts d held =
     ++ (u64_bytes d.features ∷ u32_bytes d.target ∷ u32_bytes d.actual ∷ u32_bytes held
     ∷ (d.status ∷ []) ∷ [])
     ++ ring_parts d.inflate ++ ring_parts d.deflate
-    ++ ring_parts d.statistics ++ ring_parts d.report
+    ++ ring_parts d.statistics ++ ring_parts d.report ++ (u32_bytes d.poison ∷ [])
 
 -- parts in a row, and more behind them
 abbrev pub in_a_row : List (List ℕ) → List ℕ → List ℕ
@@ -107,6 +107,7 @@ saved_in bytes = record {
     deflate = ring_at bytes 89;
     statistics = ring_at bytes 119;
     report = ring_at bytes 149;
+    poison = u32_at bytes 179;
     status = slice_index bytes 58;
   };
   held = u32_at bytes 54;
@@ -138,5 +139,6 @@ pub record FitsSaved (s : Saved) : Type 0 where
   pub deflate : FitsRing s.device.deflate
   pub statistics : FitsRing s.device.statistics
   pub report : FitsRing s.device.report
+  pub poison : s.device.poison < 2 ^ 32
   pub status : s.device.status < 256
   pub held : s.held < 2 ^ 32

@@ -16,7 +16,7 @@ use Rattle.vb_core.specs.declared.saved.StateDenial.TheVariants.{OtherVersion, B
 use Rattle.vb_core.specs.declared.format.TheConstants.{MAGIC, FORMAT_VERSION, HEADER_LENGTH}
 use Rattle.vb_core.specs.declared.format.TheConstants.{VERSION_AT, LENGTH_AT, CHECKSUM_AT}
 use Rattle.vb_core.specs.declared.format.TheConstants.{SAVED_LENGTH}
-use Rattle.vb_core.specs.Settings.{are_settings, needs_must_tell}
+use Rattle.vb_core.specs.Settings.{are_settings, needs_must_tell, page_poison}
 use Rattle.vb_core.specs.Rings.{has_place}
 use Rattle.vb_core.specs.Kinds.{queue_of}
 use Rattle.vb_core.specs.Devices.{ring_of}
@@ -77,11 +77,15 @@ is_held s =
     && not (lacks_feature s.device.features (queue_of Statistics))
     && nat_le s.held s.device.statistics.size
 
+-- poison_val is written only where PAGE_POISON is offered.
+abbrev pub is_poison : Device → Bool
+is_poison d = (d.poison == 0) || page_poison d.settings.offered
+
 abbrev pub can_be : Saved → Bool
 can_be s =
     are_settings s.device.settings && is_status s.device.status && are_agreed s.device
     && is_ring Inflate s.device && is_ring Deflate s.device && is_ring Statistics s.device
-    && is_ring Report s.device && is_held s
+    && is_ring Report s.device && is_held s && is_poison s.device
 
 -- ---- refusals
 

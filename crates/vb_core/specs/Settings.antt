@@ -1,18 +1,30 @@
 -- What a monitor settles for a device.
-use Rattle.std.specs.Prelude.{ℕ, ◌/◌, Bool, not, ◌==◌, ◌&&◌, nat_le, nat_lt}
+use Rattle.std.specs.Prelude.{ℕ, ◌/◌, Bool, not, ◌==◌, ◌&&◌, nat_le, nat_lt, bit_and, bit_or}
 use Rattle.vb_model.specs.declared.negotiation.TheConstants.{OFFERED_FEATURES}
 use Rattle.vb_model.specs.Limits.{page_size}
 use Rattle.vb_model.specs.Guest.{version_1}
 use Rattle.vb_model.specs.Status.{contains}
 use Rattle.vb_core.specs.declared.settings.Settings.{Settings}
-use Rattle.vb_core.specs.declared.settings.TheConstants.{MEMORY_LIMIT, LEAST_MEMORY}
+use Rattle.vb_core.specs.declared.settings.TheConstants.{MEMORY_LIMIT, LEAST_MEMORY, PAGE_POISON}
+
+-- The features that a device may offer: those of the definitions, and PAGE_POISON (VIRTIO 1.2,
+-- 5.5.3).
+abbrev pub known_features : ℕ
+known_features = bit_or OFFERED_FEATURES PAGE_POISON
+
+abbrev pub page_poison : ℕ → Bool
+page_poison features = contains features PAGE_POISON
+
+-- These features but PAGE_POISON, of which the definitions know nothing.
+abbrev pub without_poison : ℕ → ℕ
+without_poison features = bit_and features 0xffffffffffffffef
 
 -- Settings that a device may have.
 abbrev pub are_settings : Settings → Bool
 are_settings s =
     nat_le LEAST_MEMORY s.memory_end
     && nat_lt s.memory_end MEMORY_LIMIT
-    && contains OFFERED_FEATURES s.offered
+    && contains known_features s.offered
     && version_1 s.offered
 
 -- The whole pages of memory.

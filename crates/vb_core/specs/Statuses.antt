@@ -14,7 +14,7 @@ use Rattle.vb_status.specs.declared.bits.StatusFault.TheVariants.{FeatureNotOffe
 use Rattle.vb_status.specs.declared.bits.StatusFault.TheVariants.{MustTellHostMissing}
 use Rattle.vb_status.specs.declared.bits.StatusFault.TheVariants.{VersionMissing}
 use Rattle.vb_core.specs.declared.device.Device.{Device}
-use Rattle.vb_core.specs.Settings.{needs_must_tell}
+use Rattle.vb_core.specs.Settings.{needs_must_tell, without_poison}
 use Rattle.vb_core.specs.Devices.{new_device}
 
 -- The fault that says a refusal of the definitions: no write meets another one than these.
@@ -48,8 +48,8 @@ after_write write d =
     if write == 0 then record (new_device d.settings) { target = d.target }
     else record d { status = write }
 
--- What a set of features is refused for.
+-- What a set of features is refused for: the definitions judge all but PAGE_POISON.
 abbrev pub negotiate_denial : ℕ → Device → Option StatusFault
 negotiate_denial wanted d =
     denied_or (if contains d.settings.offered wanted then None else Some FeatureNotOffered)
-    (negotiate_refusal d.status wanted)
+    (negotiate_refusal d.status (without_poison wanted))

@@ -1,28 +1,48 @@
-//! The configuration space (VIRTIO 1.1, 5.5.4): `num_pages` and `actual`, little-endian.
+//! The configuration space (VIRTIO 1.1, 5.5.4): `num_pages`, `actual` and `poison_val`,
+//! little-endian.
 
 ghost use Rattle.std.specs.Prelude.{◌≡◌, ℕ, ◌+◌, ◌<◌, true, false, Ok, Err, length, slice_index};
 ghost use Rattle.vb_core.specs.declared.device.Denial.{Denial};
-ghost use Rattle.vb_core.specs.Config.{config_bytes, config_denies, with_actual};
+ghost use Rattle.vb_core.specs.Config.{shown_poison, config_bytes, is_written_at, config_denies};
+ghost use Rattle.vb_core.specs.Config.{with_written, keeps_reports};
 
+use crate::settings::has_page_poison;
 use crate::{Denial, Device};
 
 /// Where `actual` stands.
 const ACTUAL_AT: u32 = 4;
 
+/// Where `poison_val` stands (VIRTIO 1.2, 5.5.4).
+const POISON_AT: u32 = 12;
+
 impl Device {
+    /// What stands in `poison_val`.
+    fn shown_poison(&self) -> u32
+        ensures { result ≡ shown_poison self.now }
+    {
+        if has_page_poison(self.settings.offered) {
+            self.poison
+        } else {
+            0
+        }
+    }
+
     /// The bytes of the configuration space.
-    fn config_bytes(&self) -> [u8; 8]
+    fn config_bytes(&self) -> [u8; 16]
         ensures { result ≡ config_bytes self.now }
     {
         let target: [u8; 4] = self.target.to_le_bytes();
         let actual: [u8; 4] = self.actual.to_le_bytes();
+        let poison: [u8; 4] = self.shown_poison().to_le_bytes();
         [
             target[0], target[1], target[2], target[3], actual[0], actual[1], actual[2], actual[3],
+            0, 0, 0, 0, poison[0], poison[1], poison[2], poison[3],
         ]
     }
 
     /// The driver reads the configuration space from an offset on: `num_pages` from 0, `actual`
-    /// from 4. Bytes behind it read as 0.
+    /// from 4, and `poison_val` from 12 where PAGE_POISON is offered (VIRTIO 1.2, 5.5.4). All other
+    /// bytes read as 0.
     pub fn read_config(&self, offset: u32, out: &mut [u8])
         ensures { (k : ℕ) → k < length out.old →
             slice_index out.new k ≡ slice_index (config_bytes self.now) (offset + k) }
@@ -34,20 +54,42 @@ impl Device {
         }
     }
 
-    /// The driver writes to the configuration space: `actual`, whose 4 bytes stand from 4 on. Any
-    /// other write is refused with `BadArgument`, and changes nothing.
-    pub fn write_config(&mut self, offset: u32, bytes: &[u8]) -> Result<(), Denial>
-        ensures denied { config_denies offset (length bytes.now) ≡ true →
-            (result ≡ Err Denial.BadArgument) × (self.new ≡ self.old) }
-        ensures written { config_denies offset (length bytes.now) ≡ false →
-            (result ≡ Ok tt) × (self.new ≡ with_actual bytes.now self.old) }
+    /// Whether a field that the driver may write begins at an offset.
+    fn is_written_at(&self, offset: u32) -> bool
+        ensures { result ≡ is_written_at offset self.now }
     {
-        if offset != ACTUAL_AT || bytes.len() != 4 {
+        offset == ACTUAL_AT || offset == POISON_AT && has_page_poison(self.settings.offered)
+    }
+
+    /// The driver writes to the configuration space: `actual`, whose 4 bytes stand from 4 on, or
+    /// `poison_val`, whose 4 bytes stand from 12 on, where PAGE_POISON is offered (VIRTIO 1.2,
+    /// 5.5.4). Any other write is refused with `BadArgument`, and changes nothing.
+    pub fn write_config(&mut self, offset: u32, bytes: &[u8]) -> Result<(), Denial>
+        ensures denied { config_denies offset (length bytes.now) self.old ≡ true →
+            (result ≡ Err Denial.BadArgument) × (self.new ≡ self.old) }
+        ensures written { config_denies offset (length bytes.now) self.old ≡ false →
+            (result ≡ Ok tt) × (self.new ≡ with_written offset bytes.now self.old) }
+    {
+        if !self.is_written_at(offset) || bytes.len() != 4 {
             return Err(Denial::BadArgument);
         }
         let mut word = [0; 4];
         word.copy_from_slice(bytes);
-        self.actual = u32::from_le_bytes(word);
+        let number = u32::from_le_bytes(word);
+        if offset == ACTUAL_AT {
+            self.actual = number;
+        } else {
+            self.poison = number;
+        }
         Ok(())
+    }
+
+    /// Whether the pages of a report keep what is in them: the driver negotiated PAGE_POISON, and
+    /// wrote to `poison_val` that its free pages hold something else than zeros (VIRTIO 1.2,
+    /// 5.5.4). Such pages aren't to be discarded, since they would read as zeros.
+    pub fn keeps_reports(&self) -> bool
+        ensures { result ≡ keeps_reports self.now }
+    {
+        has_page_poison(self.features) && self.poison != 0
     }
 }

@@ -51,6 +51,8 @@ pub struct Device {
     pub deflate: Ring,
     pub statistics: Ring,
     pub report: Ring,
+    /// What the driver says that its free pages hold, in 4 bytes (`poison_val`).
+    pub poison: u32,
     /// The status register (VIRTIO 1.1, 2.1).
     pub status: u8,
 }
@@ -69,6 +71,7 @@ impl Device {
             deflate: Ring::NONE,
             statistics: Ring::NONE,
             report: Ring::NONE,
+            poison: 0,
             status: 0,
         }
     }

@@ -14,8 +14,8 @@ use arrayvec::ArrayVec;
 /// What a saved device begins with: the bytes of `VBSTATE` and a 0, as a little-endian number.
 pub(crate) const MAGIC: u64 = 0x0045_5441_5453_4256;
 
-/// The version of the format.
-pub const FORMAT_VERSION: u32 = 1;
+/// The version of the format: 2 since a device has `poison_val`.
+pub const FORMAT_VERSION: u32 = 2;
 
 /// Bytes that each version begins with: `MAGIC`, the version, the length.
 pub(crate) const HEADER_LENGTH: usize = 16;
@@ -27,10 +27,10 @@ pub(crate) const VERSION_AT: usize = 8;
 pub(crate) const LENGTH_AT: usize = 12;
 
 /// Where the checksum of all bytes before it stands.
-pub(crate) const CHECKSUM_AT: usize = 179;
+pub(crate) const CHECKSUM_AT: usize = 183;
 
 /// How many bytes a saved device has.
-pub const SAVED_LENGTH: usize = 187;
+pub const SAVED_LENGTH: usize = 191;
 
 /// The bytes of a saved device, as far as they are there.
 pub(crate) type SavedBytes = ArrayVec<u8, SAVED_LENGTH>;
@@ -111,6 +111,7 @@ pub(crate) fn saved_in(bytes: &[u8]) -> Saved
         deflate: ring_at(bytes, 89),
         statistics: ring_at(bytes, 119),
         report: ring_at(bytes, 149),
+        poison: u32_at(bytes, 179),
         status: bytes[58],
     };
     Saved {
@@ -221,6 +222,7 @@ fn push_body(out: &mut SavedBytes, saved: &Saved)
     push_ring(out, &device.deflate);
     push_ring(out, &device.statistics);
     push_ring(out, &device.report);
+    push_u32(out, device.poison);
 }
 
 /// The checksum of bytes: FNV-1a with 64 bits. A change of any one byte changes it.

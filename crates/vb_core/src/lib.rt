@@ -39,5 +39,5 @@ pub use ring::{Ring, UsedEntry};
 pub use runs::Run;
 pub use saved::{Saved, StateDenial};
 pub use saved_laws::{only_what_was_saved_is_restored, what_was_saved_is_restored};
-pub use settings::{LEAST_MEMORY, MEMORY_LIMIT, Settings};
+pub use settings::{LEAST_MEMORY, MEMORY_LIMIT, PAGE_POISON, Settings};
 pub use statistics::Statistic;

@@ -4,9 +4,10 @@ ghost use Rattle.std.specs.Prelude.{◌≡◌};
 ghost use Rattle.vb_model.specs.Status.{contains};
 ghost use Rattle.vb_status.specs.Bits.{status_bits};
 ghost use Rattle.vb_core.specs.Saved.{comes_after, is_status, are_agreed, offered_so_far, is_blank};
-ghost use Rattle.vb_core.specs.Saved.{has_moved, is_ring, is_held, can_be};
+ghost use Rattle.vb_core.specs.Saved.{has_moved, is_ring, is_held, is_poison, can_be};
 
 use crate::saved::Saved;
+use crate::settings::has_page_poison;
 use crate::{Device, Kind, Ring};
 use bitflags::Flags;
 use vb_request::lacks_feature;
@@ -97,6 +98,13 @@ impl Device {
         let placed = ring.has_place(self.settings.memory_end) && !lacked;
         ring.is_blank() || placed && (!ring.has_moved() || may_move)
     }
+
+    /// Whether the driver could write what stands in `poison_val`.
+    fn is_poison(&self) -> bool
+        ensures { result ≡ is_poison self.now }
+    {
+        self.poison == 0 || has_page_poison(self.settings.offered)
+    }
 }
 
 impl Saved {
@@ -124,5 +132,6 @@ impl Saved {
             && device.is_ring(Kind::Statistics)
             && device.is_ring(Kind::Report)
             && self.is_held()
+            && device.is_poison()
     }
 }

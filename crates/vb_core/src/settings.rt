@@ -2,6 +2,7 @@
 
 ghost use Rattle.std.specs.Prelude.{◌≡◌, ◌<◌, ◌≤◌, ◌^◌, ◌==◌, not, true};
 ghost use Rattle.vb_core.specs.Settings.{are_settings, memory_pages, needs_must_tell, skips};
+ghost use Rattle.vb_core.specs.Settings.{page_poison, without_poison};
 
 use bitflags::Flags;
 use vb_model::limits::PAGE_SIZE;
@@ -13,6 +14,30 @@ pub const MEMORY_LIMIT: u64 = 1 << 44;
 /// Guest memory ends at this address at least: it has two pages.
 pub const LEAST_MEMORY: u64 = 8192;
 
+/// The feature PAGE_POISON: the driver says in `poison_val` what its free pages hold (VIRTIO 1.2,
+/// 5.5.3).
+pub const PAGE_POISON: u64 = 16;
+
+/// All features but PAGE_POISON.
+const OTHERS: u64 = 0xffff_ffff_ffff_ffef;
+
+/// The features that a device may offer.
+const KNOWN: u64 = 0x1_0000_0037;
+
+/// Whether PAGE_POISON is one of these features.
+pub(crate) fn has_page_poison(features: u64) -> bool
+    ensures { result ≡ page_poison features }
+{
+    features & PAGE_POISON == PAGE_POISON
+}
+
+/// These features but PAGE_POISON.
+pub(crate) fn without_poison(features: u64) -> u64
+    ensures { result ≡ without_poison features }
+{
+    features & OTHERS
+}
+
 /// What a monitor settles for a device, once.
 #[repr(C)]
 #[derive(Clone, Copy, Debug)]
@@ -21,7 +46,7 @@ pub struct Settings {
     /// the monitor's.
     pub memory_end: u64,
     /// The features that the device offers: some of those that it knows, VERSION_1 among them
-    /// (VIRTIO 1.1, 5.5.3 and 6).
+    /// (VIRTIO 1.1, 5.5.3 and 6). It knows PAGE_POISON too (VIRTIO 1.2, 5.5.3).
     pub offered: u64,
     /// How many pages at the start of memory no request may name.
     pub reserved_pages: u32,
@@ -41,9 +66,10 @@ impl Settings {
             (2 ≤ memory_pages self.now) × (memory_pages self.now < 2 ^ 32) }
     {
         let offered = Features::from_bits_retain(self.offered);
+        let known = Features::from_bits_retain(KNOWN);
         self.memory_end >= LEAST_MEMORY
             && self.memory_end < MEMORY_LIMIT
-            && Features::OFFERED.contains(offered)
+            && known.contains(offered)
             && offered.version_1()
     }
 

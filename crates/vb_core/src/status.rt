@@ -6,6 +6,7 @@ ghost use Rattle.vb_core.specs.Statuses.{lacks_must_tell, status_denial, after_w
 ghost use Rattle.vb_core.specs.Statuses.{negotiate_denial};
 
 use crate::Device;
+use crate::settings::without_poison;
 use bitflags::Flags;
 use vb_status::{Features, Status, StatusFault, negotiate, write_status};
 
@@ -48,8 +49,8 @@ impl Device {
         self.target = target;
     }
 
-    /// The driver writes the status register. A write of 0 resets: features, `actual` and all
-    /// places are gone.
+    /// The driver writes the status register. A write of 0 resets: features, `actual`, `poison_val`
+    /// and all places are gone.
     ///
     /// Refused, tested in this order, and then nothing is changed: `ClearsBit`; `OutOfOrder`;
     /// where FEATURES_OK is added, `VersionMissing`, and then `MustTellHostMissing` where the
@@ -76,7 +77,8 @@ impl Device {
         ensures { result ≡ negotiate_denial wanted self.now }
     {
         let features = Features::from_bits_retain(wanted);
-        match negotiate(Status::from_bits_retain(self.status), features) {
+        let others = Features::from_bits_retain(without_poison(wanted));
+        match negotiate(Status::from_bits_retain(self.status), others) {
             Err(fault) => Some(fault),
             Ok(_) => {
                 if Features::from_bits_retain(self.settings.offered).contains(features) {

@@ -18,6 +18,7 @@ use Rattle.vb_core.specs.declared.device.Device.{Device}
 use Rattle.vb_core.specs.Rings.{used_entry}
 use Rattle.vb_core.specs.Devices.{ring_of, queue_denial}
 use Rattle.vb_core.specs.Using.{use_denial}
+use Rattle.vb_core.specs.Config.{keeps_reports}
 use Rattle.vb_core.specs.Statistics.{statistics_denial}
 use Rattle.vb_monitor.specs.declared.room.TheConstants.{MAX_FIGURES}
 use Rattle.vb_monitor.specs.declared.regions.Region.{Region}
@@ -105,7 +106,7 @@ tells : (m : ℕ) (w : Whole) (next : Then) (on : After m next) (d : Device) (t 
     (runs : List Run) (log : List Access) → TellsThen w next d t head runs log → Few (5 + m) log
 tells m w next on d t head runs log h =
     let few : others h.rest ≤ 4 + m =
-    asked (4 + m) h.rest _ h.discards.asks (cuts_few (4 + m) (cuts_for w.kind w.regions runs)
+    asked (4 + m) h.rest _ h.discards.asks (cuts_few (4 + m) (cuts_for w.kind (keeps_reports d) w.regions runs)
     h.discards.rest (gives m w next on d t head h.discards.rest h.discards.gives_back)) in
     asked (5 + m) log _ h.asks (omega (arith, few))
 

@@ -12,6 +12,7 @@ use Rattle.vb_core.specs.declared.device.Device.{Device}
 use Rattle.vb_core.specs.Devices.{ring_of}
 use Rattle.vb_core.specs.Rings.{used_entry}
 use Rattle.vb_core.specs.Using.{use_denial}
+use Rattle.vb_core.specs.Config.{keeps_reports}
 use Rattle.vb_monitor.specs.declared.regions.Spot.{Spot}
 use Rattle.vb_monitor.specs.declared.cuts.Cut.{Cut}
 use Rattle.vb_monitor.specs.declared.outcome.Tally.{Tally}
@@ -121,11 +122,12 @@ pub gives_row : (w : Whole) (may : Option Access → Access → Type 0) (allows 
 gives_row w may allows next on d t head b log told h =
     gives_by w may allows next on d t head (use_denial w.kind head d) b log told h
 
-cuts_for_row : (w : Whole) (may : Option Access → Access → Type 0) (allows : Allows w may) (kind : Kind) (runs : List Run) → Cuts may (cuts_for kind w.regions runs)
-cuts_for_row w may allows Inflate runs = allows.discards runs
-cuts_for_row w may allows Deflate runs = tt
-cuts_for_row w may allows Statistics runs = tt
-cuts_for_row w may allows Report runs = allows.discards runs
+cuts_for_row : (w : Whole) (may : Option Access → Access → Type 0) (allows : Allows w may) (kind : Kind) (kept : Bool) (runs : List Run) → Cuts may (cuts_for kind kept w.regions runs)
+cuts_for_row w may allows Inflate kept runs = allows.discards runs
+cuts_for_row w may allows Deflate kept runs = tt
+cuts_for_row w may allows Statistics kept runs = tt
+cuts_for_row w may allows Report true runs = tt
+cuts_for_row w may allows Report false runs = allows.discards runs
 
 cuts_row : (may : Option Access → Access → Type 0) (cuts : List Cut) (b : Option Access)
     (rest : List Access) (then_row : (b2 : Option Access) → is_told b2 ≡ true → Row may b2 rest) →
@@ -155,9 +157,9 @@ tells_row w may allows next on d t head runs b log copied h =
     subst (λ (l : List Access). Row may b l) (sym h.asks) (
       allows.pages b runs copied,
       subst (λ (l : List Access). Row may (Some (TellPages w.kind runs)) l) (sym h.discards.asks)
-          (cuts_row may (cuts_for w.kind w.regions runs) (Some (TellPages w.kind runs)) h.discards.rest
+          (cuts_row may (cuts_for w.kind (keeps_reports d) w.regions runs) (Some (TellPages w.kind runs)) h.discards.rest
           (λ b2 told. gives_row w may allows next on d t head b2 h.discards.rest (is_named_so b2 told)
-          h.discards.gives_back) refl (cuts_for_row w may allows w.kind runs)),
+          h.discards.gives_back) refl (cuts_for_row w may allows w.kind (keeps_reports d) runs)),
     )
 
 pub name_row : (w : Whole) (may : Option Access → Access → Type 0) (allows : Allows w may) (next : Then) (on : After may next) (d : Device) (t : Tally) (head : ℕ)

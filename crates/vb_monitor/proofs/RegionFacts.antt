@@ -82,16 +82,24 @@ no_page : cuts_of two (record { first = 5; count = 0 } ∷ []) ≡ []
 no_page = refl
 
 -- inflates and reports are discarded, deflates aren't
-of_a_deflate : cuts_for Deflate two (record { first = 5; count = 1 } ∷ []) ≡ []
+of_a_deflate : cuts_for Deflate false two (record { first = 5; count = 1 } ∷ []) ≡ []
 of_a_deflate = refl
 
-of_an_inflate : cuts_for Inflate two (record { first = 5; count = 1 } ∷ []) ≡
+of_an_inflate : cuts_for Inflate false two (record { first = 5; count = 1 } ∷ []) ≡
     record { region = 0; offset = 0x5000; in_file = 0x5000; length = 0x1000 } ∷ []
 of_an_inflate = refl
 
-of_a_report : cuts_for Report two (record { first = 5; count = 1 } ∷ []) ≡
+of_a_report : cuts_for Report false two (record { first = 5; count = 1 } ∷ []) ≡
     record { region = 0; offset = 0x5000; in_file = 0x5000; length = 0x1000 } ∷ []
 of_a_report = refl
+
+-- where the pages of reports are kept, an inflate is discarded still
+of_a_kept_report : cuts_for Report true two (record { first = 5; count = 1 } ∷ []) ≡ []
+of_a_kept_report = refl
+
+inflated_beside : cuts_for Inflate true two (record { first = 5; count = 1 } ∷ []) ≡
+    record { region = 0; offset = 0x5000; in_file = 0x5000; length = 0x1000 } ∷ []
+inflated_beside = refl
 
 -- ---- parts of pieces
 

@@ -84,7 +84,7 @@ descriptor_at w d0 d t head number on done more last writing pieces (Some at) b 
           (table_fault (descriptors (ring_of w.kind d)) (memory_end d) writing (length pieces)
           (descriptor_of h.bytes)) writing (descriptor_of h.bytes) pieces
           (CopyBytes at h.bytes ∷ b) h.rest
-          (record { ring = is.ring; settings = is.settings; lasts = refl })
+          (record { ring = is.ring; settings = is.settings; keeps = is.keeps; lasts = refl })
           (ap (λ (k : Known). with_copied w.kind h.bytes k) read) h.goes_on,
     )
 
@@ -130,7 +130,7 @@ entry_each w d0 next on d t (Some at) b log is new e h =
         ),
         head_each w d0 next on d t h.head (nat_lt h.head (descriptors (ring_of w.kind d)))
             (ReadWord at h.head ∷ Acquire ∷ b) h.rest
-            (record { ring = is.ring; settings = is.settings; lasts = refl }) refl h.goes_on,
+            (record { ring = is.ring; settings = is.settings; keeps = is.keeps; lasts = refl }) refl h.goes_on,
       ),
     )
 
@@ -177,7 +177,7 @@ index_at w d0 d t takes on (Some at) b log is looked e h =
         (tt, tt),
       ),
       index_by w d0 d t takes on (stands (ring_of w.kind d) h.index) (ReadWord at h.index ∷ b)
-          h.rest (record { ring = is.ring; settings = is.settings; lasts = looked.lasts })
+          h.rest (record { ring = is.ring; settings = is.settings; keeps = is.keeps; lasts = looked.lasts })
           (ap (λ (fenced : Bool). with_word fenced h.index) looked.unfenced) h.goes_on,
     )
 
@@ -223,7 +223,7 @@ all_come regions kind budget d1 d2 outcome log h =
     let w : Whole = record { regions = regions; kind = kind; device = d2; outcome = outcome } in
     looks_by w d1 d1 (fresh budget) (TakesNext budget.chains w d1 (fresh budget))
     (λ b rest is new go. takes_each budget.chains w d1 d1 (fresh budget) b rest is new go)
-    (queue_denial kind d1) [] log (record { ring = refl; settings = refl; lasts = refl })
+    (queue_denial kind d1) [] log (record { ring = refl; settings = refl; keeps = refl; lasts = refl })
     (record { word = λ rs r at e. e; unfenced = refl; lasts = refl }) h
 
 each_so : (may so : List Access → Access → Type 0) (b log : List Access) →

@@ -17,6 +17,7 @@ use Rattle.vb_core.specs.declared.device.Device.{Device}
 use Rattle.vb_core.specs.Devices.{ring_of, with_ring, with_one_taken, needing_reset}
 use Rattle.vb_core.specs.Rings.{used_entry, with_taken, with_used}
 use Rattle.vb_core.specs.Using.{use_denial}
+use Rattle.vb_core.specs.Config.{keeps_reports}
 use Rattle.vb_monitor.specs.declared.regions.Region.{Region}
 use Rattle.vb_monitor.specs.declared.regions.Spot.{Spot}
 use Rattle.vb_monitor.specs.declared.cuts.Cut.{Cut}
@@ -39,6 +40,7 @@ Comes w d0 before x =
 pub record Agrees (w : Whole) (d0 : Device) (before : List Access) (d : Device) : Type 0 where
   pub ring : ring_of w.kind d ≡ ring_after (ring_of w.kind d0) before
   pub settings : d.settings ≡ d0.settings
+  pub keeps : keeps_reports d ≡ keeps_reports d0
   pub lasts : is_over before ≡ false
 
 none_left : (may : List Access → Access → Type 0) (b : List Access) (log : List Access) →
@@ -73,6 +75,19 @@ used_ring Deflate d = refl
 used_ring Statistics d = refl
 used_ring Report d = refl
 
+pub taken_keeps : (kind : Kind) (d : Device) →
+    keeps_reports (with_one_taken kind d) ≡ keeps_reports d
+taken_keeps Inflate d = refl
+taken_keeps Deflate d = refl
+taken_keeps Statistics d = refl
+taken_keeps Report d = refl
+
+used_keeps : (kind : Kind) (d : Device) → keeps_reports (after_use kind d) ≡ keeps_reports d
+used_keeps Inflate d = refl
+used_keeps Deflate d = refl
+used_keeps Statistics d = refl
+used_keeps Report d = refl
+
 used_settings : (kind : Kind) (d : Device) → (after_use kind d).settings ≡ d.settings
 used_settings Inflate d = refl
 used_settings Deflate d = refl
@@ -85,6 +100,7 @@ pub one_taken : (w : Whole) (d0 : Device) (b c : List Access) (d : Device) → A
 one_taken w d0 b c d is e lasts = record {
   ring = taken_ring w.kind d ∙ (ap (λ (r : Ring). with_taken r) is.ring ∙ sym e);
   settings = taken_settings w.kind d ∙ is.settings;
+  keeps = taken_keeps w.kind d ∙ is.keeps;
   lasts = lasts;
 }
 
@@ -94,6 +110,7 @@ one_used : (w : Whole) (d0 : Device) (b c : List Access) (d : Device) → Agrees
 one_used w d0 b c d is e lasts = record {
   ring = used_ring w.kind d ∙ (ap (λ (r : Ring). with_used r) is.ring ∙ sym e);
   settings = used_settings w.kind d ∙ is.settings;
+  keeps = used_keeps w.kind d ∙ is.keeps;
   lasts = lasts;
 }
 
@@ -192,7 +209,7 @@ no_used_place w d0 d t fault b log is h =
 used_each : (w : Whole) (d0 : Device) (next : Then) (on : After w d0 next) (d : Device)
     (t : Tally) (head : ℕ) (pieces : List Piece) (bytes : List ℕ) (id len index : Option Spot)
     (b : List Access) (log : List Access) → Agrees w d0 b d → Read w head pieces bytes b →
-    left w.regions b ≡ [] → ends_in_number b ≡ false →
+    left (keeps_reports d0) w.regions b ≡ [] → ends_in_number b ≡ false →
     spot w.regions (used_entry (ring_of w.kind d) head).element_at 4 ≡ id →
     spot w.regions ((used_entry (ring_of w.kind d) head).element_at + 4) 4 ≡ len →
     spot w.regions (used_entry (ring_of w.kind d) head).index_at 2 ≡ index →
@@ -240,7 +257,7 @@ used_each w d0 next on d t head pieces bytes (Some id) (Some len) (Some index) b
 
 gives_by : (w : Whole) (d0 : Device) (next : Then) (on : After w d0 next) (d : Device) (t : Tally)
     (head : ℕ) (pieces : List Piece) (bytes : List ℕ) (denial : Option Denial) (b : List Access)
-    (log : List Access) → Agrees w d0 b d → Read w head pieces bytes b → left w.regions b ≡ [] →
+    (log : List Access) → Agrees w d0 b d → Read w head pieces bytes b → left (keeps_reports d0) w.regions b ≡ [] →
     ends_in_number b ≡ false → GivesBackBy denial w next d t head log → Each (Comes w d0) b log
 gives_by w d0 next on d t head pieces bytes (Some why) b log is read done first h =
     ends_each w d0 d t _ false b log (flags_of w d0 b d is) h
@@ -249,7 +266,7 @@ gives_by w d0 next on d t head pieces bytes None b log is read done first h =
 
 pub gives_each : (w : Whole) (d0 : Device) (next : Then) (on : After w d0 next) (d : Device)
     (t : Tally) (head : ℕ) (pieces : List Piece) (bytes : List ℕ) (b : List Access)
-    (log : List Access) → Agrees w d0 b d → Read w head pieces bytes b → left w.regions b ≡ [] →
+    (log : List Access) → Agrees w d0 b d → Read w head pieces bytes b → left (keeps_reports d0) w.regions b ≡ [] →
     ends_in_number b ≡ false → GivesBack w next d t head log → Each (Comes w d0) b log
 gives_each w d0 next on d t head pieces bytes b log is read done first h =
     gives_by w d0 next on d t head pieces bytes (use_denial w.kind head d) b log is read done first
@@ -260,15 +277,15 @@ gives_each w d0 next on d t head pieces bytes b log is read done first h =
 discards_each : (w : Whole) (d0 d : Device) (head : ℕ) (pieces : List Piece) (bytes : List ℕ)
     (cuts : List Cut) (b rest : List Access)
     (then_each : (b2 : List Access) → Agrees w d0 b2 d → Read w head pieces bytes b2 →
-    left w.regions b2 ≡ [] → ends_in_number b2 ≡ false → Each (Comes w d0) b2 rest) →
-    Agrees w d0 b d → Read w head pieces bytes b → left w.regions b ≡ cuts →
+    left (keeps_reports d0) w.regions b2 ≡ [] → ends_in_number b2 ≡ false → Each (Comes w d0) b2 rest) →
+    Agrees w d0 b d → Read w head pieces bytes b → left (keeps_reports d0) w.regions b ≡ cuts →
     ends_in_number b ≡ false → Each (Comes w d0) b (map Discard cuts ++ rest)
 discards_each w d0 d head pieces bytes [] b rest then_each is read left_so first =
     then_each b is read left_so first
 discards_each w d0 d head pieces bytes (cut ∷ cuts) b rest then_each is read left_so first = (
   (tt, (subst (λ (l : List Cut). IsNext cut l) (sym left_so) refl, tt)),
   discards_each w d0 d head pieces bytes cuts (Discard cut ∷ b) rest then_each
-      (record { ring = is.ring; settings = is.settings; lasts = refl }) read
+      (record { ring = is.ring; settings = is.settings; keeps = is.keeps; lasts = refl }) read
       (ap (λ (l : List Cut). without_first l) left_so) refl,
 )
 
@@ -294,8 +311,10 @@ tells_each w d0 next on d t head pieces bytes runs b log is read named h =
       ),
       subst (λ (l : List Access). Each (Comes w d0) b1 l) (sym h.discards.asks)
           (discards_each w d0 (with_one_taken w.kind d) head pieces bytes
-          (cuts_for w.kind w.regions runs) b1 h.discards.rest
+          (cuts_for w.kind (keeps_reports (with_one_taken w.kind d)) w.regions runs) b1 h.discards.rest
           (λ b2 is2 read2 left2 first2. gives_each w d0 next on (with_one_taken w.kind d) t head
           pieces bytes b2 h.discards.rest is2 read2 left2 first2 h.discards.gives_back)
-          (one_taken w d0 b b1 d is refl refl) read refl refl),
+          (one_taken w d0 b b1 d is refl refl) read
+          (ap (λ (kept : Bool). cuts_for w.kind kept w.regions runs)
+          (sym (taken_keeps w.kind d ∙ is.keeps))) refl),
     )

@@ -178,7 +178,7 @@ part_at w d0 d t head pieces part parts go on so_far (Some at) b log is read e h
         (tt, tt),
       ),
       on (so_far ++ h.bytes) (CopyBytes at h.bytes ∷ b) h.rest
-          (record { ring = is.ring; settings = is.settings; lasts = refl })
+          (record { ring = is.ring; settings = is.settings; keeps = is.keeps; lasts = refl })
           (ap (λ (k : Known). with_copied w.kind h.bytes k) read) h.goes_on,
     )
 

@@ -1,6 +1,6 @@
 -- What is done for a chain whose pages or figures are known: they are told, pages that were given
 -- up are discarded, and then the chain is given back (VIRTIO 1.1, 2.6.8 and 5.5.6).
-use Rattle.std.specs.Prelude.{◌≡◌, ℕ, ◌+◌, ◌-◌, true, false, List, [], ◌∷◌, ◌++◌, map, take}
+use Rattle.std.specs.Prelude.{◌≡◌, ℕ, ◌+◌, ◌-◌, Bool, true, false, List, [], ◌∷◌, ◌++◌, map, take}
 use Rattle.std.specs.Prelude.{Option, Some, None, Result, Ok, Err}
 use Rattle.vb_chain.specs.declared.fault.ChainFault.TheVariants.{OutOfRam}
 use Rattle.vb_core.specs.declared.kinds.Kind.{Kind}
@@ -12,6 +12,7 @@ use Rattle.vb_core.specs.declared.device.Denial.{Denial}
 use Rattle.vb_core.specs.declared.device.Device.{Device}
 use Rattle.vb_core.specs.Rings.{used_entry, with_used}
 use Rattle.vb_core.specs.Devices.{ring_of, with_ring}
+use Rattle.vb_core.specs.Config.{keeps_reports}
 use Rattle.vb_core.specs.Using.{use_denial}
 use Rattle.vb_monitor.specs.declared.regions.Region.{Region}
 use Rattle.vb_monitor.specs.declared.regions.Spot.{Spot}
@@ -78,12 +79,14 @@ GivesBack w next d tally head log =
 
 -- ---- discards
 
--- What is to be discarded, of a kind's runs: what a deflate asks back isn't.
-abbrev pub cuts_for : Kind → List Region → List Run → List Cut
-cuts_for Inflate regions runs = cuts_of regions runs
-cuts_for Deflate regions runs = []
-cuts_for Statistics regions runs = []
-cuts_for Report regions runs = cuts_of regions runs
+-- What is to be discarded, of a kind's runs: what a deflate asks back isn't, nor what a report
+-- names where the pages of reports are kept.
+abbrev pub cuts_for : Kind → Bool → List Region → List Run → List Cut
+cuts_for Inflate kept regions runs = cuts_of regions runs
+cuts_for Deflate kept regions runs = []
+cuts_for Statistics kept regions runs = []
+cuts_for Report true regions runs = []
+cuts_for Report false regions runs = cuts_of regions runs
 
 -- These parts are discarded, in order, and then the chain is given back.
 pub record DiscardsThen (w : Whole) (next : Then) (d : Device) (tally : Tally) (head : ℕ)
@@ -92,12 +95,13 @@ pub record DiscardsThen (w : Whole) (next : Then) (d : Device) (tally : Tally) (
   pub asks : log ≡ map Discard cuts ++ rest
   pub gives_back : GivesBack w next d tally head rest
 
--- The pages are told, then discarded.
+-- The pages are told, then discarded, if they may be.
 pub record TellsThen (w : Whole) (next : Then) (d : Device) (tally : Tally) (head : ℕ)
     (runs : List Run) (log : List Access) : Type 0 where
   pub rest : List Access
   pub asks : log ≡ TellPages w.kind runs ∷ rest
-  pub discards : DiscardsThen w next d tally head (cuts_for w.kind w.regions runs) rest
+  pub discards : DiscardsThen w next d tally head
+      (cuts_for w.kind (keeps_reports d) w.regions runs) rest
 
 -- So many pages fewer may be named yet.
 abbrev pub spent : ℕ → Tally → Tally

@@ -110,16 +110,17 @@ abbrev pub without_first : List Cut → List Cut
 without_first [] = []
 without_first (cut ∷ cuts) = cuts
 
--- The parts of the pages that were told last that are still to be discarded.
-abbrev pub left : List Region → List Access → List Cut
-left regions [] = []
-left regions (ReadWord at answer ∷ xs) = left regions xs
-left regions (CopyBytes at answer ∷ xs) = left regions xs
-left regions (Acquire ∷ xs) = left regions xs
-left regions (Release ∷ xs) = left regions xs
-left regions (Full ∷ xs) = left regions xs
-left regions (TellPages kind runs ∷ xs) = cuts_for kind regions runs
-left regions (TellFigures figures ∷ xs) = left regions xs
-left regions (Discard cut ∷ xs) = without_first (left regions xs)
-left regions (WriteNumber at number ∷ xs) = left regions xs
-left regions (WriteWord at word ∷ xs) = left regions xs
+-- The parts of the pages that were told last that are still to be discarded, where the pages of
+-- reports are kept, or not.
+abbrev pub left : Bool → List Region → List Access → List Cut
+left kept regions [] = []
+left kept regions (ReadWord at answer ∷ xs) = left kept regions xs
+left kept regions (CopyBytes at answer ∷ xs) = left kept regions xs
+left kept regions (Acquire ∷ xs) = left kept regions xs
+left kept regions (Release ∷ xs) = left kept regions xs
+left kept regions (Full ∷ xs) = left kept regions xs
+left kept regions (TellPages kind runs ∷ xs) = cuts_for kind kept regions runs
+left kept regions (TellFigures figures ∷ xs) = left kept regions xs
+left kept regions (Discard cut ∷ xs) = without_first (left kept regions xs)
+left kept regions (WriteNumber at number ∷ xs) = left kept regions xs
+left kept regions (WriteWord at word ∷ xs) = left kept regions xs

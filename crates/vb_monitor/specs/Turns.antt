@@ -17,6 +17,7 @@ use Rattle.vb_core.specs.Settings.{memory_pages, skips}
 use Rattle.vb_core.specs.Rings.{used_entry}
 use Rattle.vb_core.specs.Runs.{Tell}
 use Rattle.vb_core.specs.Devices.{ring_of}
+use Rattle.vb_core.specs.Config.{keeps_reports}
 use Rattle.vb_core.specs.Name.{fault_in, right_numbers}
 use Rattle.vb_core.specs.Report.{run_of}
 use Rattle.vb_core.specs.Statistics.{AreFigures}
@@ -154,14 +155,17 @@ IsNext cut [] = ⊥
 IsNext cut (next ∷ others) = cut ≡ next
 
 -- Pages and figures are told of what was copied, and of pages that were told those parts are
--- discarded that may be, in their order; all of them before an element is written.
+-- discarded that may be, in their order; all of them before an element is written. None is of a
+-- report whose pages are kept.
 abbrev pub TellsInTurn : List Region → Kind → Device → List Access → Access → Type 0
 TellsInTurn regions kind d before (TellPages of runs) =
     (of ≡ kind) × TellsOf kind d.settings (known kind before) runs
 TellsInTurn regions kind d before (TellFigures figures) =
     (kind ≡ Statistics) × FiguresOf (known kind before) figures
-TellsInTurn regions kind d before (Discard cut) = IsNext cut (left regions before)
-TellsInTurn regions kind d before (WriteNumber at number) = left regions before ≡ []
+TellsInTurn regions kind d before (Discard cut) =
+    IsNext cut (left (keeps_reports d) regions before)
+TellsInTurn regions kind d before (WriteNumber at number) =
+    left (keeps_reports d) regions before ≡ []
 TellsInTurn regions kind d before (ReadWord at answer) = Unit {0}
 TellsInTurn regions kind d before (CopyBytes at answer) = Unit {0}
 TellsInTurn regions kind d before Acquire = Unit {0}

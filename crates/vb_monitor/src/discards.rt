@@ -8,6 +8,7 @@ ghost use Rattle.vb_core.specs.declared.device.Device.{Device};
 ghost use Rattle.vb_monitor.specs.declared.outcome.Outcome.{Outcome};
 ghost use Rattle.vb_monitor.specs.Accesses.{Access};
 ghost use Rattle.vb_monitor.specs.Regions.{cuts_of};
+ghost use Rattle.vb_core.specs.Config.{keeps_reports};
 ghost use Rattle.vb_monitor.specs.Giving.{cuts_for, DiscardsThen};
 ghost use Rattle.vb_monitor.specs.Machine.{Fits, Ahead, whole, room_of, next_chain, cuts_behind};
 
@@ -65,7 +66,8 @@ fn discard_on(
     }
 }
 
-/// The pages of the first runs, so many, were told.
+/// The pages of the first runs, so many, were told. Those of a report may have to keep what is in
+/// them.
 pub(crate) fn after_told(
     device: &mut Device,
     regions: &[Region],
@@ -81,9 +83,12 @@ pub(crate) fn after_told(
         (room_of pieces bytes runs.now figures) log →
         DiscardsThen (whole regions.now kind after outcome)
         (next_chain (whole regions.now kind after outcome) tally) device.old tally head
-        (cuts_for kind regions.now (take count runs.now)) log }
+        (cuts_for kind (keeps_reports device.old) regions.now (take count runs.now)) log }
     ensures fits { Fits result.phase }
 {
+    if kind == Kind::Report && device.keeps_reports() {
+        return give_back(device, regions, kind, tally, head);
+    }
     match kind {
         Kind::Inflate | Kind::Report => {
             discard_on(device, regions, kind, tally, head, count, 0, runs)

@@ -69,8 +69,8 @@ pub fn what_counts_is_read_once()
 
 /// Only pages are told that the bytes name which were copied since the chain's entry was read, or
 /// the pieces of a report. Only parts of pages that were told are discarded, each once and in
-/// order, and all of them before the chain's used element is written; of a deflate's none is
-/// (VIRTIO 1.1, 5.5.6).
+/// order, and all of them before the chain's used element is written. None of a deflate's is, nor
+/// of a report's where the device keeps the pages of reports (VIRTIO 1.1, 5.5.6; 1.2, 5.5.4).
 #[tactic(auto, using(crate::proofs::TurnLaws::tells_in_turn))]
 pub fn only_named_pages_are_discarded()
     ensures { (regions : List Region) (kind : Kind) (budget : Budget) (d1 d2 : Device)

@@ -20,6 +20,8 @@ pub mod features {
     pub const MUST_TELL_HOST: u64 = 1;
     pub const STATS_VQ: u64 = 2;
     pub const DEFLATE_ON_OOM: u64 = 4;
+    /// The driver says in `poison_val` what its free pages hold (VIRTIO 1.2, 5.5.3).
+    pub const PAGE_POISON: u64 = 16;
     pub const REPORTING: u64 = 32;
     pub const VERSION_1: u64 = 1 << 32;
 }
@@ -108,7 +110,7 @@ pub struct Served {
     pub unmarked: u64,
     /// Pages to discard that lie in no region.
     pub in_holes: u64,
-    /// Pages that the machine failed to discard.
+    /// Pages that the machine failed to discard, and those of reports that keep what is in them ([`Balloon::keeps_reports`]).
     pub kept: u64,
     /// Why it failed last: the system's number.
     pub error: Option<i32>,
@@ -417,13 +419,19 @@ impl Balloon {
     /// The driver writes its configuration space.
     ///
     /// # Errors
-    /// `BadArgument` but for the 4 bytes of `actual`; nothing is changed.
+    /// `BadArgument` but for the 4 bytes of `actual`, or of `poison_val` where it is offered; nothing is changed.
     pub fn write_config(&mut self, offset: u32, bytes: &[u8]) -> Result<(), Refusal> {
         // SAFETY: the pointers are of a `&mut` and of a slice with its length.
         match unsafe { raw::vb_write_config(&mut self.state.0.device, offset, bytes.as_ptr(), bytes.len()) } {
             raw::OK => Ok(()),
             code => Err(refusal(code, 0)),
         }
+    }
+
+    /// Whether the pages of a report keep what is in them, and aren't discarded: the driver negotiated PAGE_POISON, and its
+    /// free pages hold something else than zeros.
+    pub fn keeps_reports(&self) -> bool {
+        self.state.0.keeps_reports()
     }
 
     /// The driver kicked this queue: serves what stands there, at most as much as a notice may.

@@ -128,7 +128,8 @@ impl<M: GuestMemory> LiveMemory for M {
 
 /// What a monitor may want to know, or to do in its own way. `()` does nothing of its own.
 pub trait Monitor {
-    /// These pages are given up (inflate) or free (report), and discarded next; or they are asked back (deflate).
+    /// These pages are given up (inflate) or free (report), and discarded next, unless reports keep what is in them; or they
+    /// are asked back (deflate).
     fn pages(&mut self, _kind: Kind, _runs: &[Run]) {}
 
     /// The guest told its statistics, any tags in any order.
@@ -153,10 +154,13 @@ pub(crate) struct Hands<'a> {
 
 impl Hands<'_> {
     /// Tells the pages that are named, and keeps the set of those in the balloon.
-    fn tell_pages(&mut self, notice: &Notice, room: &Room) {
+    fn tell_pages(&mut self, notice: &Notice, room: &Room, keeps: bool) {
         let runs = &room.runs[..notice.runs as usize];
         self.served.pages += u64::from(notice.pages);
         self.served.skipped += u64::from(notice.skipped);
+        if keeps && notice.kind == Kind::Report as u32 {
+            self.served.kept += u64::from(notice.pages);
+        }
         if !self.ballooned.is_empty() {
             let marked = raw::mark(notice.kind, runs, self.ballooned);
             self.served.marked += marked.pages;
@@ -187,11 +191,11 @@ impl Hands<'_> {
     }
 
     /// Does each thing that is to be done, in the order of the bits of `what`; answers the word that was read, if one was.
-    fn perform(&mut self, notice: &Notice, room: &mut Room) -> Result<u16, Unreachable> {
+    fn perform(&mut self, notice: &Notice, room: &mut Room, keeps: bool) -> Result<u16, Unreachable> {
         let is_asked = |bit| notice.what & bit != 0;
         let mut answer = 0;
         if is_asked(raw::TELL_PAGES) {
-            self.tell_pages(notice, room);
+            self.tell_pages(notice, room, keeps);
         }
         if is_asked(raw::TELL_FIGURES) {
             self.monitor.statistics(&room.figures[..notice.figures as usize]);
@@ -229,7 +233,7 @@ impl Hands<'_> {
         room: &mut Room,
     ) -> Result<(), Unreachable> {
         while notice.what != 0 {
-            let answer = self.perform(notice, room)?;
+            let answer = self.perform(notice, room, balloon.keeps_reports())?;
             raw::go_on(notice, balloon, regions, room, answer);
         }
         Ok(())

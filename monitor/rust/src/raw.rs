@@ -38,7 +38,7 @@ const MAX_FIGURES: usize = 102;
 const MAX_CUTS: usize = 32;
 
 /// Bytes of a saved state.
-pub const STATE_BYTES: usize = 187;
+pub const STATE_BYTES: usize = 191;
 
 /// The version of vb.h that this is written for, as `VB_VERSION_NUMBER`.
 pub const VERSION: u32 = 0x00_0100;
@@ -75,6 +75,7 @@ pub struct Device {
     pub deflate: Queue,
     pub statistics: Queue,
     pub report: Queue,
+    pub poison: u32,
     pub status: u8,
 }
 
@@ -136,6 +137,14 @@ pub struct Balloon {
     pub device: Device,
     /// One more than the head of the statistics buffer that is held, or 0.
     pub held: u32,
+}
+
+impl Balloon {
+    /// Whether the pages of a report keep what is in them.
+    pub fn keeps_reports(&self) -> bool {
+        // SAFETY: the pointer is of a `&`.
+        unsafe { vb_keeps_reports(&self.device) != 0 }
+    }
 }
 
 /// What is to be done next.
@@ -218,14 +227,14 @@ macro_rules! layout {
 layout!(Settings, 24, memory_end at 0, offered at 8, reserved_pages at 16, needs_must_tell at 20, skips_bad_pages at 21);
 layout!(Queue, 32, table at 0, avail at 8, used at 16, size at 24, next_avail at 26, next_used at 28);
 layout!(Device, 176, settings.memory_end at 0, features at 24, target at 32, actual at 36, inflate.table at 40);
-layout!(Device, 176, deflate.table at 72, statistics.table at 104, report.table at 136, status at 168);
+layout!(Device, 176, deflate.table at 72, statistics.table at 104, report.table at 136, poison at 168, status at 172);
 layout!(Run, 8, first at 0, count at 4);
 layout!(Statistic, 16, tag at 0, value at 8);
 layout!(Marked, 16, code at 0, pages at 8);
 layout!(Region, 24, guest at 0, length at 8, in_file at 16);
 layout!(Spot, 16, region at 0, offset at 8);
 layout!(Cut, 32, region at 0, offset at 8, in_file at 16, length at 24);
-layout!(Balloon, 184, device.status at 168, held at 176);
+layout!(Balloon, 184, device.status at 172, held at 176);
 layout!(Notice, 184, what at 0, kind at 4, at.region at 8, length at 24, into at 28, runs at 32, pages at 36);
 layout!(Notice, 184, skipped at 40, figures at 44, cuts at 48, id at 52, used_length at 56, used_index at 60);
 layout!(Notice, 184, id_at.region at 64, length_at.region at 80, index_at.region at 96, code at 112, rule at 116);
@@ -246,6 +255,7 @@ extern "C" {
     pub fn vb_kind(device: *const Device, number: u32) -> u32;
     pub fn vb_read_config(device: *const Device, offset: u32, out: *mut u8, length: usize);
     pub fn vb_write_config(device: *mut Device, offset: u32, bytes: *const u8, length: usize) -> u32;
+    fn vb_keeps_reports(device: *const Device) -> u32;
     pub fn vb_is_ballooned(set: *const u64, words: usize, page: u32) -> u32;
     pub fn vb_count_ballooned(set: *const u64, words: usize) -> u64;
     pub fn vb_new_over(balloon: *mut Balloon, settings: Settings, regions: *const Region, count: usize) -> u32;

@@ -98,13 +98,17 @@ impl Guest {
 
     /// A balloon at status 11, its queues at their places.
     fn prepared(&self, settings: Settings) -> Balloon {
+        self.prepared_with(settings, LINUX)
+    }
+
+    fn prepared_with(&self, settings: Settings, wanted: u64) -> Balloon {
         let mut balloon = Balloon::new(&self.memory, settings).expect("settings");
         assert_eq!(balloon.negotiate(LINUX), Err(Denied(2)));
         for status in [0, 1, 3] {
             balloon.write_status(&self.memory, status, &mut ()).expect("a step");
         }
         assert_eq!(balloon.negotiate(1 << 40), Err(Denied(3)));
-        balloon.negotiate(LINUX).expect("features");
+        balloon.negotiate(wanted).expect("features");
         balloon.write_status(&self.memory, 11, &mut ()).expect("a step");
         for number in 0..4 {
             let kind = balloon.kind(number).expect("a queue");
@@ -223,6 +227,29 @@ fn configuration_and_places() {
     assert_eq!(place(&mut balloon, 0x1000, 7), Err(Refusal::Misplaced));
     assert_eq!(place(&mut balloon, 0x1000, 256), Ok(()));
     assert!(Balloon::new(&guest.memory, Settings::default()).is_err());
+}
+
+/// What a driver that poisons its free pages reports is told and given back, and keeps its bytes.
+#[test]
+fn reports_keep_what_is_poisoned() {
+    for (poison, kept) in [(0xaa, 1), (0, 0)] {
+        let mut guest = Guest::new();
+        let offered = LINUX | features::PAGE_POISON;
+        let mut balloon = guest.prepared_with(Settings { offered, ..settings() }, offered);
+        balloon.write_config(12, &[poison; 4]).expect("poison_val");
+        balloon.write_status(&guest.memory, 15, &mut ()).expect("a step");
+        guest.put(700 << 12, &[0xaa; 4096]);
+        guest.describe(Kind::Report, 0, 700 << 12, 4096, 2, 0);
+        guest.publish(Kind::Report, 0);
+        let mut told = Told::default();
+        let served = balloon.notify(&guest.memory, Kind::Report, &mut told);
+        assert_eq!((served.pages, served.kept, served.discarded, served.in_holes), (1, kept, 1 - kept, 0));
+        assert_eq!((told.runs, served.error), (vec![(Kind::Report, vec![Run { first: 700, count: 1 }])], None));
+        assert_eq!((guest.byte(700 << 12), balloon.keeps_reports()), (poison, poison != 0));
+        assert_eq!(guest.used_index(Kind::Report), 1);
+    }
+    let mut balloon = Guest::new().prepared(settings());
+    assert_eq!(balloon.write_config(12, &[1; 4]), Err(Refusal::BadArgument));
 }
 
 #[test]

@@ -28,7 +28,7 @@ impl Region {
         Region { mapped: *mapped, file: file.map(|file| FileOffset::new(file, mapped.offset)) }
     }
 
-    fn bytes(&self) -> VolatileSlice<()> {
+    fn bytes(&self) -> VolatileSlice<'_, ()> {
         // SAFETY: the test has mapped them.
         unsafe { VolatileSlice::new(self.mapped.host, self.mapped.length as usize) }
     }

@@ -20,4 +20,5 @@ returns-clause-items c =
     let e9 = joins _ (ring_parts d.deflate) _ _ e8 c.push_ring-2.ensures.items in
     let e10 = joins _ (ring_parts d.statistics) _ _ e9 c.push_ring-3.ensures.items in
     let e11 = joins _ (ring_parts d.report) _ _ e10 c.push_ring-4.ensures.items in
-    e11.is
+    let e12 = adds _ (u32_bytes d.poison) _ _ e11 c.push_u32-4.ensures.items in
+    e12.is
