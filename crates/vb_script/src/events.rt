@@ -19,7 +19,7 @@ use crate::reading::Item;
 use crate::values::{bytes, features, number, positive};
 use crate::words::Words;
 use std::alloc::Global;
-use vb_model::{Bytes, Call, Event, Query};
+use vb_model::{Bytes, Call, Event, GuestSize, Query};
 
 /// The features that a driver asks for where a line `init` names none, a bit each (VIRTIO 1.1,
 /// 5.5.3 and 6): MUST_TELL_HOST, STATS_VQ, DEFLATE_ON_OOM, page reporting (profile) and VERSION_1.
@@ -192,9 +192,11 @@ fn of_three(name: ThreeNumbers, first: u32, second: u32, third: u32) -> Event
 {
     match name {
         ThreeNumbers::Plug => Event::Plug {
-            pages: first,
-            queue_size: second,
-            processors: third,
+            size: GuestSize {
+                pages: first,
+                queue_size: second,
+                processors: third,
+            },
         },
         ThreeNumbers::Alloc => on_guest(
             first,
