@@ -17,7 +17,7 @@ use Rattle.vb_ring.specs.Calls.{AddsUsedBy}
 use Rattle.vb_model.specs.Tables.{has_chains, has_unvisited}
 use Rattle.vb_device.specs.Conditions.{finish_refusal}
 use Rattle.vb_device.specs.Queues.{queue_end, with_queue}
-use Rattle.vb_model.specs.Guest.{LastStatistics}
+use Rattle.vb_model.specs.declared.replies.LastStatistics.{LastStatistics}
 use Rattle.vb_device.specs.QueueState.{QueueState, part_of, taken_refusal}
 use Rattle.vb_device.specs.Discards.{discarded}
 use Rattle.vb_device.specs.Base.{index_of, queue_at, base_part, IsDeviceQueue, IsBase, with_pace}

@@ -4,7 +4,7 @@ use Rattle.std.proofs.Common.{sym, ◌∙◌, ap, subst, arith, get_or, inl, inr
 use Rattle.std.proofs.lemmas.List.{length-map}
 use Rattle.std.proofs.Math.ListN.{set, length-set}
 use Rattle.vb_ram.specs.Pages.{Page, Pages}
-use Rattle.vb_model.specs.Guest.{LastStatistics}
+use Rattle.vb_model.specs.declared.replies.LastStatistics.{LastStatistics}
 use Rattle.vb_model.specs.Status.{contains, driver_ok}
 use Rattle.vb_model.specs.Tables.{has_chains, is_queue_of_requests}
 use Rattle.vb_model.proofs.Queues.{queue_cases, no_chains_at, no_requests_at}

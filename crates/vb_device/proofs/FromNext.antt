@@ -4,7 +4,7 @@ use Rattle.std.specs.Prelude.{Err, refl}
 use Rattle.std.proofs.Common.{sym, ◌∙◌, ap, arith}
 use Rattle.vb_model.specs.declared.replies.Refusal.{Refusal}
 use Rattle.vb_model.specs.declared.replies.Refusal.TheVariants.{Busy, Broken}
-use Rattle.vb_model.specs.Guest.{LastStatistics}
+use Rattle.vb_model.specs.declared.replies.LastStatistics.{LastStatistics}
 use Rattle.vb_ram.specs.Pages.{Pages, byte_at, field}
 use Rattle.vb_ram.proofs.FieldLaws.{field_zero}
 use Rattle.vb_chain.specs.declared.fault.ChainFault.{ChainFault}

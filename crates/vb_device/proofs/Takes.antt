@@ -11,7 +11,7 @@ use Rattle.vb_chain.specs.declared.fault.ChainFault.{ChainFault}
 use Rattle.vb_ring.specs.declared.device.Taken.{Taken}
 use Rattle.vb_ring.specs.Ends.{DeviceEnd}
 use Rattle.vb_ring.specs.Calls.{PopsBy}
-use Rattle.vb_model.specs.Guest.{LastStatistics}
+use Rattle.vb_model.specs.declared.replies.LastStatistics.{LastStatistics}
 use Rattle.vb_request.specs.Asked.{request_of, noted}
 use Rattle.vb_request.specs.Refusals.{rule_of}
 use Rattle.vb_device.specs.QueueState.{QueueState, with_request, is_full, TakesNext}

@@ -5,7 +5,7 @@ use Rattle.vb_model.specs.declared.layout.TheConstants.{INFLATE_QUEUE, DEFLATE_Q
 use Rattle.vb_model.specs.declared.layout.TheConstants.{STATISTICS_QUEUE, REPORT_QUEUE}
 use Rattle.vb_model.specs.declared.limits.TheConstants.{MIN_GUEST_PAGES, MAX_QUEUE_SIZE}
 use Rattle.vb_model.specs.Layout.{ring_page}
-use Rattle.vb_model.specs.Guest.{LastStatistics}
+use Rattle.vb_model.specs.declared.replies.LastStatistics.{LastStatistics}
 use Rattle.vb_model.specs.Tables.{has_chains}
 use Rattle.vb_model.specs.Status.{contains, driver_ok}
 use Rattle.vb_ram.specs.Pages.{Page, Pages}

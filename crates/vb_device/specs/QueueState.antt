@@ -9,7 +9,7 @@ use Rattle.vb_model.specs.FirstRefusal.{◌⇒◌, first_refusal}
 use Rattle.vb_model.specs.Tables.{has_unvisited, most_taken}
 use Rattle.vb_model.specs.Status.{needs_reset}
 use Rattle.vb_model.specs.Requests.{Request}
-use Rattle.vb_model.specs.Guest.{LastStatistics}
+use Rattle.vb_model.specs.declared.replies.LastStatistics.{LastStatistics}
 use Rattle.vb_model.specs.Limits.{page_size}
 use Rattle.vb_model.specs.Layout.{reserved_pages}
 use Rattle.vb_ram.specs.Pages.{Pages}

@@ -1,28 +1,27 @@
 -- How many pages a driver's calls move, and why one is refused: the formulas and tables of the
 -- definitions, with the driver's own values.
 use Rattle.std.specs.Prelude.{◌≡◌, ℕ, ◌≤◌, Bool, true, not, ◌==◌, List, [], ◌∷◌, ◌++◌, length}
-use Rattle.std.specs.Prelude.{is_some, is_err, IsSome}
+use Rattle.std.specs.Prelude.{false, is_some, is_err, IsSome}
 use Rattle.std.specs.List.{list_all}
 use Rattle.vb_model.specs.declared.replies.Refusal.TheVariants.{RingBroken, AlreadyUp, NoFrame}
+use Rattle.vb_model.specs.declared.replies.Refusal.TheVariants.{NoPages, NotHeld}
 use Rattle.vb_model.specs.declared.limits.TheConstants.{MIN_GUEST_PAGES}
 use Rattle.vb_model.specs.Layout.{is_start_page, start_pages}
 pub use Rattle.vb_model.specs.Pages.{block_at}
 use Rattle.vb_model.specs.Pages.{Block, reported, maximal_free_blocks}
-use Rattle.vb_model.specs.Guest.{deflate_on_oom, reporting}
+use Rattle.vb_model.specs.Guest.{stats_vq, deflate_on_oom, reporting}
 pub use Rattle.vb_model.specs.FirstRefusal.{refusal_in}
 use Rattle.vb_model.specs.FirstRefusal.{Test, ◌⇒◌}
 pub use Rattle.vb_model.specs.Tables.{is_up}
 use Rattle.vb_model.specs.Tables.{pages_to_offer, pages_to_ask, pages_when_short}
 use Rattle.vb_model.specs.Tables.{inflate_tests as tests_of_inflate}
-use Rattle.vb_model.specs.Tables.{deflate_tests as tests_of_deflate}
-use Rattle.vb_model.specs.Tables.{featured_tests, reap_tests as tests_of_reap}
-use Rattle.vb_model.specs.Tables.{alloc_tests as tests_of_alloc, free_tests as tests_of_free}
-use Rattle.vb_model.specs.Tables.{request_tests as tests_of_request, stats_tests as tests_of_stats}
+use Rattle.vb_model.specs.Tables.{driver_tests, request_tests, reap_tests as tests_of_reap}
+use Rattle.vb_model.specs.Tables.{block_tests, no_block_free, is_not_held}
 use Rattle.vb_model.specs.Life.{feature_tests}
 use Rattle.vb_ram.specs.Pages.{Pages, frame_at}
 use Rattle.vb_ram.specs.Part.{Part}
 use Rattle.vb_ring.specs.Ends.{DriverEnd, outstanding, used_answer}
-use Rattle.vb_driver.specs.State.{RequestSide, DriverState, room}
+use Rattle.vb_driver.specs.State.{DriverState, room}
 
 -- ---- the numbers of pages that a call moves
 
@@ -38,14 +37,12 @@ oom_count d n = pages_when_short d.places n
 -- ---- the tests
 
 abbrev pub alloc_tests : DriverState → ℕ → ℕ → List Test
-alloc_tests d cpu order = tests_of_alloc d.places d.pages d.processors cpu order
+alloc_tests d cpu order =
+    block_tests order d.processors cpu (no_block_free d.places d.pages order ⇒ NoPages)
 
 abbrev pub free_tests : DriverState → ℕ → ℕ → ℕ → List Test
-free_tests d cpu start order = tests_of_free d.held d.processors cpu (block_at start order)
-
--- a new request of a queue, for this many pages
-abbrev pub request_tests : DriverState → RequestSide → ℕ → List Test
-request_tests d side count = tests_of_request (outstanding side.ring) (room d) count
+free_tests d cpu start order =
+    block_tests order d.processors cpu (is_not_held d.held (block_at start order) ⇒ NotHeld)
 
 abbrev pub inflate_tests : DriverState → Part → ℕ → List Test
 inflate_tests d part n =
@@ -54,13 +51,13 @@ inflate_tests d part n =
 
 abbrev pub deflate_tests : DriverState → Part → ℕ → List Test
 deflate_tests d part n =
-    tests_of_deflate part.status (outstanding d.deflate.ring) (room d)
+    request_tests part.status false (outstanding d.deflate.ring) (room d)
     (deflate_count d part.target n)
 
 abbrev pub oom_tests : DriverState → Part → ℕ → List Test
 oom_tests d part n =
-    featured_tests part.status (deflate_on_oom d.features) (outstanding d.deflate.ring) (room d)
-    (oom_count d n)
+    request_tests part.status (not (deflate_on_oom d.features)) (outstanding d.deflate.ring)
+    (room d) (oom_count d n)
 
 -- the first blocks of order 4 or more from this page on that are wholly free
 abbrev pub blocks_to_report : DriverState → ℕ → List Block
@@ -68,7 +65,7 @@ blocks_to_report d from = reported (room d) from (maximal_free_blocks d.places)
 
 abbrev pub report_tests : DriverState → Part → ℕ → List Test
 report_tests d part from =
-    featured_tests part.status (reporting d.features) (outstanding d.report.ring) 1
+    request_tests part.status (not (reporting d.features)) (outstanding d.report.ring) 1
     (length (blocks_to_report d from))
 
 -- the used ring says what no device may say
@@ -82,7 +79,7 @@ reap_tests mem part d ring queue =
 
 abbrev pub stats_tests : Pages → Part → DriverState → List Test
 stats_tests mem part d =
-    tests_of_stats part.status d.features
+    driver_tests part.status (not (stats_vq d.features))
     ++ ((is_ring_broken mem d.statistics ⇒ RingBroken) ∷ [])
 
 -- memory has as many pages as the smallest guest's

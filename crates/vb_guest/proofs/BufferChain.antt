@@ -6,7 +6,7 @@ use Rattle.std.proofs.Common.{sym, ◌∙◌, ap, arith}
 use Rattle.std.proofs.lemmas.List.{append-nil, get_or-take, get_or-drop}
 use Rattle.std.proofs.lemmas.List.FromFn.{get_or-map-range_with_len}
 use Rattle.vb_model.specs.Requests.{Figures}
-use Rattle.vb_model.specs.Guest.{LastStatistics}
+use Rattle.vb_model.specs.declared.replies.LastStatistics.{LastStatistics}
 use Rattle.vb_ram.specs.Pages.{Pages, byte_at}
 use Rattle.vb_ram.proofs.FieldLaws.{field_2, field_8}
 use Rattle.vb_chain.specs.declared.pieces.Piece.{Piece}

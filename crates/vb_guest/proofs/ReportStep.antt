@@ -18,7 +18,7 @@ use Rattle.vb_model.specs.Requests.{posting, IsLeastHead, Reporting_free}
 use Rattle.vb_model.specs.Guest.{Guest, reporting}
 use Rattle.vb_model.specs.Driver.{asking}
 use Rattle.vb_model.specs.FirstRefusal.{◌⇒◌, first_refusal}
-use Rattle.vb_model.specs.Tables.{featured_tests, is_up, most_requests}
+use Rattle.vb_model.specs.Tables.{request_tests, is_up, most_requests}
 use Rattle.vb_model.specs.Refusals.{refusal_of, reported_blocks}
 use Rattle.vb_ram.specs.Pages.{Pages}
 use Rattle.vb_ram.specs.Part.{Part}
@@ -62,7 +62,7 @@ report_same : (p : Part) (d : DriverState) (g : Guest) (from : ℕ) → p.status
     → first_refusal (report_tests d p from) ≡ refusal_of g (Report from)
 report_same p d g from status features out blocks =
     let R : ℕ → ℕ → ℕ → List Block → Option Refusal =
-    λ s f o l. first_refusal (featured_tests s (reporting f) o 1 (length l)) in
+    λ s f o l. first_refusal (request_tests s (not (reporting f)) o 1 (length l)) in
     ap (λ s. R s d.features (outstanding_in d.report.ring) (blocks_to_report d from)) status
     ∙ ap (λ f. R g.status f (outstanding_in d.report.ring) (blocks_to_report d from)) features
     ∙ ap (λ o. R g.status g.features o (blocks_to_report d from)) out

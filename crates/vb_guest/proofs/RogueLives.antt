@@ -16,13 +16,13 @@ use Rattle.vb_model.specs.declared.replies.Reply.TheVariants.{Refused}
 use Rattle.vb_model.specs.declared.places.Place.{Place}
 use Rattle.vb_model.specs.Driver.{AllDistinct, given, AreClaimsFor, claim_refusal}
 use Rattle.vb_model.specs.FirstRefusal.{◌⇒◌, first_refusal}
-use Rattle.vb_model.specs.Guest.{Guest, LastStatistics, all_backed, stats_vq, is_ballooned}
+use Rattle.vb_model.specs.declared.replies.LastStatistics.{LastStatistics}
+use Rattle.vb_model.specs.Guest.{Guest, all_backed, stats_vq, is_ballooned}
 use Rattle.vb_model.specs.Guest.{no_statistics}
 use Rattle.vb_model.specs.Refusals.{refusal_of}
 use Rattle.vb_model.specs.Life.{lacking, feature_tests, feature_refusal, accepted_before}
 use Rattle.vb_model.specs.Orderly.{times}
 use Rattle.vb_model.specs.Rogue.{LosesFrames, pages_to_back, unless_refused, after_refused}
-use Rattle.vb_model.specs.Rogue.{gave_up}
 use Rattle.vb_model.specs.Status.{contains, driver_ok}
 use Rattle.vb_model.specs.Tests.{is_in}
 use Rattle.vb_model.proofs.Wanting.{wants, no_want, refused_otherwise, not_refused_pages}
@@ -50,6 +50,18 @@ use Rattle.vb_guest.proofs.Rogues.{no_refusal}
 use Rattle.vb_guest.proofs.Supplying.{all_distinct, bounded, frames_given, frames_filled}
 use Rattle.vb_guest.proofs.Supplying.{supplied_count}
 use Rattle.vb_guest.proofs.Writing.{HasFrames}
+
+-- what a refusal of the features leaves
+abbrev gave_up : Refusal → ℕ → List (Option ℕ) → Guest → Guest
+gave_up refusal wanted frames g =
+    record g {
+      status = 131;
+      features = accepted_before refusal wanted;
+      ballooned = replicate g.config.pages false;
+      actual = 0;
+      last = no_statistics;
+      frames = frames;
+    }
 
 pub init_up_rogue : (m : Pages) (p : Part) (d : DriverState) (g : Guest) (wanted : ℕ)
     → p.status ≢ 0 → Rogue m p d g

@@ -15,7 +15,8 @@ use Rattle.vb_model.specs.declared.replies.Reply.TheVariants.{Refused}
 use Rattle.vb_model.specs.Layout.{reserved_pages}
 use Rattle.vb_model.proofs.Shapes.{start_reserved}
 use Rattle.vb_model.specs.Status.{contains, driver_ok}
-use Rattle.vb_model.specs.Guest.{Guest, LastStatistics, frame_of, is_ballooned, all_backed}
+use Rattle.vb_model.specs.declared.replies.LastStatistics.{LastStatistics}
+use Rattle.vb_model.specs.Guest.{Guest, frame_of, is_ballooned, all_backed}
 use Rattle.vb_model.specs.Driver.{given, claim_refusal, AreClaimsFor}
 use Rattle.vb_model.specs.Rogue.{RogueStep, LosesFrames, pages_to_back, is_read}
 use Rattle.vb_model.specs.Rogue.{target_after, after_refused, with_fault}

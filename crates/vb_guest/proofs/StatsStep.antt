@@ -14,7 +14,7 @@ use Rattle.vb_model.specs.Requests.{BufferDone}
 use Rattle.vb_model.specs.Guest.{Guest, stats_vq}
 use Rattle.vb_model.specs.Driver.{figures, Fills}
 use Rattle.vb_model.specs.FirstRefusal.{first_refusal}
-use Rattle.vb_model.specs.Tables.{stats_tests as tests_of_stats, is_up}
+use Rattle.vb_model.specs.Tables.{driver_tests, is_up}
 use Rattle.vb_model.specs.Refusals.{refusal_of}
 use Rattle.vb_ram.specs.Pages.{Pages}
 use Rattle.vb_ram.specs.Part.{Part}
@@ -47,9 +47,9 @@ stats_same : (m : Pages) (p : Part) (d : DriverState) (g : Guest) (o : Option �
 stats_same m p d g o status features answer =
     let whole : is_ring_broken m d.statistics ≡ false =
     ap (λ (r : Result (Option ℕ) Broken). is_err r) answer in
-    last_test (tests_of_stats p.status d.features) (is_ring_broken m d.statistics) RingBroken whole
-    ∙ ap (λ (s : ℕ). first_refusal (tests_of_stats s d.features)) status
-    ∙ ap (λ (f : ℕ). first_refusal (tests_of_stats g.status f)) features
+    last_test (driver_tests p.status (not (stats_vq d.features))) (is_ring_broken m d.statistics) RingBroken whole
+    ∙ ap (λ (s : ℕ). first_refusal (driver_tests s (not (stats_vq d.features)))) status
+    ∙ ap (λ (f : ℕ). first_refusal (driver_tests g.status (not (stats_vq f)))) features
 
 stats_idle : (m : Pages) (p : Part) (d : DriverState) (g : Guest) → p.status ≡ g.status
     → IsIdleStatus g.status

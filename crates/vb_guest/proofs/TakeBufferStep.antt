@@ -9,7 +9,8 @@ use Rattle.vb_model.specs.declared.replies.Reply.TheVariants.{Taken, Empty}
 use Rattle.vb_model.specs.Tests.{one_if}
 use Rattle.vb_model.specs.Requests.{Request, Figures, Buffer, NoBuffer, BufferPosted, BufferTaken}
 use Rattle.vb_model.specs.Requests.{BufferDone}
-use Rattle.vb_model.specs.Guest.{Guest, LastStatistics}
+use Rattle.vb_model.specs.declared.replies.LastStatistics.{LastStatistics}
+use Rattle.vb_model.specs.Guest.{Guest}
 use Rattle.vb_model.specs.Device.{TakesBuffer}
 use Rattle.vb_model.specs.Refusals.{refusal_of, is_taken}
 use Rattle.vb_ram.specs.Pages.{Pages}

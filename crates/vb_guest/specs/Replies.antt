@@ -9,7 +9,7 @@ use Rattle.vb_model.specs.declared.replies.Reply.TheVariants.{Reaped, Swept, Pag
 use Rattle.vb_model.specs.declared.replies.Reply.TheVariants.{Refused, Idle, Worked, Filled}
 use Rattle.vb_model.specs.declared.replies.Reply.TheVariants.{Asked, Statistics as Memory}
 use Rattle.vb_model.specs.declared.places.PageRun.{PageRun}
-use Rattle.vb_guest.specs.declared.queries.BalloonState.{BalloonState}
+use Rattle.vb_model.specs.declared.replies.BalloonState.{BalloonState}
 use Rattle.vb_request.specs.declared.statistics.Statistics.{Statistics}
 use Rattle.vb_device.specs.declared.worked.Worked.{Worked as WorkedPage}
 use Rattle.vb_driver.specs.declared.answers.Posted.{Posted as PostedRequest}
@@ -73,7 +73,7 @@ runs_reply (Ok found) = Pages found
 runs_reply (Err e) = Refused NoMemory
 
 abbrev pub balloon_reply : BalloonState → Reply
-balloon_reply state = Balloon state.ballooned state.actual state.target state.status
+balloon_reply state = Balloon state
 
 abbrev pub statistics_reply : Statistics → Reply
-statistics_reply said = Memory said.free said.total
+statistics_reply said = Memory (record { free = said.free; total = said.total })

@@ -9,7 +9,8 @@ use Rattle.vb_model.specs.Tests.{one_if}
 use Rattle.vb_model.specs.Pages.{Block}
 use Rattle.vb_model.specs.Status.{contains, driver_ok}
 use Rattle.vb_model.specs.Requests.{Request, no_requests, NoBuffer}
-use Rattle.vb_model.specs.Guest.{Guest, Config, LastStatistics, no_statistics, frame_of}
+use Rattle.vb_model.specs.declared.replies.LastStatistics.{LastStatistics}
+use Rattle.vb_model.specs.Guest.{Guest, Config, no_statistics, frame_of}
 use Rattle.vb_model.specs.Guest.{is_ballooned}
 use Rattle.vb_model.specs.Consistent.{IsConsistent}
 use Rattle.vb_model.specs.Orderly.{IsOrderly}

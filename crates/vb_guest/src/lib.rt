@@ -16,6 +16,4 @@ pub use driver::{alloc, deflate, free, inflate, oom, reap, report, stats};
 pub use frames::{Claims, MAX_CLAIMS};
 pub use lives::{empty, init, reset, restart};
 pub use memory::{read, scribble, write};
-pub use queries::{
-    BalloonState, balloon, pages, pages_at, pages_ballooned, places, spare, statistics,
-};
+pub use queries::{balloon, pages, pages_at, pages_ballooned, places, spare, statistics};

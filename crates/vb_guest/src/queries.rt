@@ -19,20 +19,7 @@ use std::alloc::{AllocError, Global};
 use vb_device::{Device, Statistics};
 use vb_driver::Driver;
 use vb_model::limits::PAGE_SIZE;
-use vb_model::{PageRun, PageRuns, Place, PlaceCounts, Query};
-
-/// What a device and its driver say of the balloon.
-#[derive(Copy, Clone, Debug, PartialEq, Eq)]
-pub struct BalloonState {
-    /// How many pages the device holds to be ballooned.
-    pub ballooned: u32,
-    /// How many pages the driver says it gave (VIRTIO 1.1, 5.5.4).
-    pub actual: u32,
-    /// How many the host wants: `num_pages` (VIRTIO 1.1, 5.5.4).
-    pub target: u32,
-    /// The device's status (VIRTIO 1.1, 2.1).
-    pub status: u8,
-}
+use vb_model::{BalloonState, PageRun, PageRuns, Place, PlaceCounts, Query};
 
 /// How many pages each place has.
 pub fn places(driver: &Driver) -> PlaceCounts

@@ -6,11 +6,10 @@ ghost use Rattle.vb_guest.specs.Replies.{posted_reply, reaped_reply, taken_reply
 ghost use Rattle.vb_guest.specs.Replies.{swept_reply, worked_reply, runs_reply, balloon_reply};
 ghost use Rattle.vb_guest.specs.Replies.{filled_reply, asked_reply, statistics_reply};
 
-use crate::queries::BalloonState;
 use std::alloc::AllocError;
 use vb_device::{Statistics, Worked};
 use vb_driver::{Posted, Reaped};
-use vb_model::{Bytes, PageRuns, Refusal, Reply};
+use vb_model::{BalloonState, Bytes, LastStatistics, PageRuns, Refusal, Reply};
 
 pub(crate) fn ready_reply(answer: Result<(), Refusal>) -> Reply
     ensures { result ≡ ready_reply answer }
@@ -149,19 +148,15 @@ pub(crate) fn runs_reply(answer: Result<PageRuns, AllocError>) -> Reply
 pub(crate) fn balloon_reply(state: BalloonState) -> Reply
     ensures { result ≡ balloon_reply state }
 {
-    Reply::Balloon {
-        ballooned: state.ballooned,
-        actual: state.actual,
-        target: state.target,
-        status: u32::from(state.status),
-    }
+    Reply::Balloon { state }
 }
 
 pub(crate) fn statistics_reply(last: Statistics) -> Reply
     ensures { result ≡ statistics_reply last }
 {
-    Reply::Statistics {
+    let last = LastStatistics {
         free: last.free,
         total: last.total,
-    }
+    };
+    Reply::Statistics { last }
 }

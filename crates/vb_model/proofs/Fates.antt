@@ -103,7 +103,7 @@ fate (Unplug m) w reply v n g here s =
       | inr d ↦ goes_on w (Unplug m) reply v n g here (λ e. cc)
           (λ e. d (let q : Unplug m ≡ Unplug n = e in cc)) s
     ]
-fate (Plug a b c) w reply v n g here s = goes_on w _ reply v n g here (λ e. cc) (λ e. cc) s
+fate (Plug size) w reply v n g here s = goes_on w _ reply v n g here (λ e. cc) (λ e. cc) s
 fate (OnGuest m call) w reply v n g here s = goes_on w _ reply v n g here (λ e. cc) (λ e. cc) s
 fate (Asking m query) w reply v n g here s = goes_on w _ reply v n g here (λ e. cc) (λ e. cc) s
 fate (Balance floor) w reply v n g here s = goes_on w _ reply v n g here (λ e. cc) (λ e. cc) s

@@ -19,7 +19,7 @@ use Rattle.vb_model.specs.Guest.{Guest, Config, fresh}
 use Rattle.vb_model.specs.Life.{after_restart}
 use Rattle.vb_model.specs.Balance.{AreTargets, shortage}
 use Rattle.vb_model.specs.World.{World}
-use Rattle.vb_model.specs.HostEvents.{Happens, Plugs, PlugsIn, Calls, Balances, after_balance}
+use Rattle.vb_model.specs.HostEvents.{Happens, Plugs, PlugsIn, Calls, after_balance}
 use Rattle.vb_model.specs.Queries.{Answers}
 use Rattle.vb_model.specs.HostRefusals.{world_tests}
 use Rattle.vb_model.specs.World.{guest_at, with_guest, put_guest}
@@ -101,7 +101,7 @@ queries_agree query w (Some g) reply new reply' new' a b x y =
     (answers_agree query g reply reply' a.0 b.0 x y, a.1 ∙ sym b.1)
 
 balances_agree : (floor : ℕ) (w : World) (reply : Reply) (new : World) (reply' : Reply)
-    (new' : World) → Balances floor w reply new → Balances floor w reply' new'
+    (new' : World) → Happens (Balance floor) w reply new → Happens (Balance floor) w reply' new'
     → Same reply new reply' new'
 balances_agree floor w reply new reply' new' a b =
     let same = by (shortage (needs floor w) w.frames == 0) a.0 b.0 in
@@ -184,15 +184,15 @@ plugs_in_agree pages queue_size processors (paced ∷ rest) w reply new reply' n
 -- ---- all events
 
 pub hosts_agree : HostStepsAgree
-hosts_agree w (Plug pages queue_size processors) reply new reply' new' s t x y =
-    by (first_refusal (world_tests w (Plug pages queue_size processors))) s t
+hosts_agree w (Plug size) reply new reply' new' s t x y =
+    by (first_refusal (world_tests w (Plug size))) s t
   where
     by : (r : Option Refusal)
-        → Either r w reply new (PlugsIn pages queue_size processors w.spares w reply new)
-        → Either r w reply' new' (PlugsIn pages queue_size processors w.spares w reply' new')
+        → Either r w reply new (PlugsIn size.pages size.queue_size size.processors w.spares w reply new)
+        → Either r w reply' new' (PlugsIn size.pages size.queue_size size.processors w.spares w reply' new')
         → AgreeOnPlug w reply new reply' new'
     by None a b =
-        plugs_in_agree pages queue_size processors w.spares w reply new reply' new' a b x y
+        plugs_in_agree size.pages size.queue_size size.processors w.spares w reply new reply' new' a b x y
     by (Some refusal) a b =
         ((λ e. a.1 ∙ sym b.1), (λ last e. a.0 ∙ sym b.0), (λ other e. a.0 ∙ sym b.0))
 hosts_agree w (Unplug n) reply new reply' new' s t x y =

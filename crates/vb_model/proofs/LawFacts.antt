@@ -5,7 +5,7 @@ use Rattle.std.specs.Prelude.{Bool, Option, Some, None, unwrap_or, IsTrue}
 use Rattle.vb_model.specs.declared.places.Place.TheVariants.{Reserved, Used, Lent}
 use Rattle.vb_model.specs.declared.calls.Call.TheVariants.{Init, Reset, Read, Write, Scribble, Work}
 use Rattle.vb_model.specs.declared.calls.Call.TheVariants.{Inflate, Take}
-use Rattle.vb_model.specs.declared.calls.Event.TheVariants.{Plug, Unplug, Restart}
+use Rattle.vb_model.specs.declared.calls.Event.TheVariants.{Unplug, Restart}
 use Rattle.vb_model.specs.declared.calls.Event.TheVariants.{Guest as OnGuest, Query as Asking}
 use Rattle.vb_model.specs.declared.calls.Event.TheVariants.{Balance, Frames as CountFrames}
 use Rattle.vb_model.specs.declared.calls.Query.TheVariants.{Places, PagesAt, PagesBallooned}
@@ -24,7 +24,7 @@ use Rattle.vb_model.specs.StepLaws.{HasNoReservedBallooned, IsUnchanged, call_ma
 use Rattle.vb_model.specs.declared.calls.Claim.{Claim}
 use Rattle.vb_model.specs.declared.calls.Claim.TheVariants.{Gave}
 use Rattle.std.specs.List.{range_with_len}
-use Rattle.vb_model.proofs.Samples.{ready}
+use Rattle.vb_model.proofs.Samples.{ready, plug}
 
 abbrev Same : ℕ → ℕ → Type 0
 Same a b = a ≡ b
@@ -49,7 +49,7 @@ own_unplug o = o.no_unplug refl
 
 anothers_events : IsOfOthers 1 (OnGuest 0 Work) × IsOfOthers 1 (Restart 2) × IsOfOthers 1 (Unplug 0)
     × IsOfOthers 1 (Asking 1 Places) × IsOfOthers 1 (Balance 0) × IsOfOthers 1 CountFrames
-    × IsOfOthers 1 (Plug 64 8 1)
+    × IsOfOthers 1 (plug 64 8 1)
 anothers_events = grind arith
 
 -- ---- frames
@@ -91,14 +91,14 @@ determined_events : AreDetermined (Unplug 1) × AreDetermined (Restart 1)
 determined_events = grind arith
 
 -- with one number one world, with a number given up one number, and refused or not
-one_number_two_worlds : WorldsAgree (Plug 64 8 1) world (Plugged 0) world (Plugged 0) empty → ⊥
+one_number_two_worlds : WorldsAgree (plug 64 8 1) world (Plugged 0) world (Plugged 0) empty → ⊥
 one_number_two_worlds a = other_world (a.0 refl)
 
-two_numbers : WorldsAgree (Plug 64 8 1) (record world { given_up = Some 0 }) (Plugged 0) world
+two_numbers : WorldsAgree (plug 64 8 1) (record world { given_up = Some 0 }) (Plugged 0) world
     (Plugged 2) world → ⊥
 two_numbers a = let e : Plugged 0 ≡ Plugged 2 = a.1 0 refl in cc
 
-plugged_or_not : WorldsAgree (Plug 64 8 1) world (Refused NoDevice) world (Plugged 0) world → ⊥
+plugged_or_not : WorldsAgree (plug 64 8 1) world (Refused NoDevice) world (Plugged 0) world → ⊥
 plugged_or_not a = let e : Refused NoDevice ≡ Plugged 0 = a.2 NoDevice refl in cc
 
 -- whatever a guest's call leaves open
@@ -172,7 +172,7 @@ just_failed new h1 up = grind arith
 -- ---- which events may want memory: a plug, what needs a frame, a read, and lists of pages
 
 wants_of_events : map (may_want_memory world)
-    (Plug 64 8 1 ∷ Unplug 1 ∷ Restart 1 ∷ Balance 0 ∷ CountFrames ∷ []) ≡ true ∷ false ∷ false
+    (plug 64 8 1 ∷ Unplug 1 ∷ Restart 1 ∷ Balance 0 ∷ CountFrames ∷ []) ≡ true ∷ false ∷ false
     ∷ false ∷ false ∷ []
 wants_of_events = refl
 

@@ -94,11 +94,11 @@ answers_want (AskBacking page) g e = not_wanted _ e refl
 
 happens_want : (event : Event) (w v : World) → Happens event w (Refused NoMemory) v
     → (may_want_memory w event ≡ true) × (v ≡ w)
-happens_want (Plug pages queue_size processors) w v s = plugs w.spares s
+happens_want (Plug size) w v s = plugs w.spares s
   where
     plugs : (spares : List Bool)
-        → PlugsIn pages queue_size processors spares w (Refused NoMemory) v
-        → (may_want_memory w (Plug pages queue_size processors) ≡ true) × (v ≡ w)
+        → PlugsIn size.pages size.queue_size size.processors spares w (Refused NoMemory) v
+        → (may_want_memory w (Plug size) ≡ true) × (v ≡ w)
     plugs [] s = absurd s
     plugs (paced ∷ rest) (inl none) = (refl, none.1)
     plugs (paced ∷ rest) (inr p) = not_wanted _ p.3 refl
@@ -129,7 +129,7 @@ happens_want (Balance floor) w v s = by (balance_cases floor w (Refused NoMemory
 happens_want CountFrames w v s = not_wanted _ s.0 refl
 
 tests_of_others : (w : World) (event : Event) → none_wants (world_tests w event) ≡ true
-tests_of_others w (Plug pages queue_size processors) = refl
+tests_of_others w (Plug size) = refl
 tests_of_others w (Unplug n) = refl
 tests_of_others w (Restart n) = refl
 tests_of_others w (OnGuest n call) = refl

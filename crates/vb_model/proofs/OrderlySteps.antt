@@ -309,7 +309,7 @@ performs_order (Deflate n) g claims reply new c h e s honest =
     let t = not_refused (tests g (Deflate n)) e in
     subst IsOrderly (sym s.1.3)
     (deflates_order g (deflate_count g n) s.1.0 h s.1.1
-    (has_room (room g) (outstanding g.deflate) t.1.0))
+    (has_room (room g) (outstanding g.deflate) t.1.1.0))
 performs_order (Oom n) g claims reply new c h e s honest =
     let t = not_refused (tests g (Oom n)) e in
     subst IsOrderly (sym s.1.3)

@@ -82,21 +82,21 @@ ballooned_pages_are = inl refl
 
 -- the ballooned pages are counted, `actual` and the target are as they stand
 four_numbers : Answers AskBalloon (record ballooned { actual = 9; target = 11; status = 131 })
-    (Balloon 3 9 11 131)
+    (Balloon (record { ballooned = 3; actual = 9; target = 11; status = 131 }))
 four_numbers = refl
 
 -- ---- statistics: what is free, then the total; each may be missing
 
 free_then_total : Answers AskMemory
     (record ready { last = record { free = Some 196608; total = Some 262144 } })
-    (Statistics (Some 196608) (Some 262144))
+    (Statistics (record { free = Some 196608; total = Some 262144 }))
 free_then_total = refl
 
 no_total : Answers AskMemory (record ready { last = record { free = Some 8192; total = None } })
-    (Statistics (Some 8192) None)
+    (Statistics (record { free = Some 8192; total = None }))
 no_total = refl
 
-nothing_known : Answers AskMemory ready (Statistics None None)
+nothing_known : Answers AskMemory ready (Statistics (record { free = None; total = None }))
 nothing_known = refl
 
 -- ---- the frame of a page; there is none past the end
@@ -149,13 +149,13 @@ no_other_counts reply a = a
 
 no_other_numbers : (reply : Reply)
     → Answers AskBalloon (record ballooned { actual = 9; target = 11; status = 131 }) reply
-    → reply ≡ Balloon 3 9 11 131
+    → reply ≡ Balloon (record { ballooned = 3; actual = 9; target = 11; status = 131 })
 no_other_numbers reply a = a
 
 no_other_statistics : (reply : Reply)
     → Answers AskMemory (record ready { last = record { free = Some 196608; total = Some 262144 } })
     reply
-    → reply ≡ Statistics (Some 196608) (Some 262144)
+    → reply ≡ Statistics (record { free = Some 196608; total = Some 262144 })
 no_other_statistics reply a = a
 
 no_other_frame : (reply : Reply) → Answers (AskBacking 16) backed reply

@@ -161,9 +161,9 @@ refusals_change_nothing g call claims refusal new s =
 happens_refuses : (event : Event) (w : World) (refusal : Refusal) (v : World)
     → ((n : ℕ) (call : Call) → event ≡ OnGuest n call → ⊥) → Happens event w (Refused refusal) v
     → v ≡ w
-happens_refuses (Plug pages queue_size processors) w refusal v other s = plugs w.spares s
+happens_refuses (Plug size) w refusal v other s = plugs w.spares s
   where
-    plugs : (spares : List Bool) → PlugsIn pages queue_size processors spares w (Refused refusal) v
+    plugs : (spares : List Bool) → PlugsIn size.pages size.queue_size size.processors spares w (Refused refusal) v
         → v ≡ w
     plugs [] s = absurd s
     plugs (paced ∷ rest) (inl none) = none.1

@@ -2,7 +2,7 @@
 -- their targets are as any guest's.
 use Rattle.std.proofs.Common.{◌≡◌, true, false, List, [], ◌∷◌, ◌++◌, replicate, refl}
 use Rattle.std.specs.Prelude.{Option, Some, None}
-use Rattle.vb_model.specs.declared.calls.Event.TheVariants.{Plug, Restart}
+use Rattle.vb_model.specs.declared.calls.Event.TheVariants.{Restart}
 use Rattle.vb_model.specs.declared.calls.Event.TheVariants.{Frames as CountFrames}
 use Rattle.vb_model.specs.declared.calls.Query.TheVariants.{Balloon as AskBalloon}
 use Rattle.vb_model.specs.declared.replies.Refusal.TheVariants.{TooMany}
@@ -14,7 +14,7 @@ use Rattle.vb_model.specs.World.{World}
 use Rattle.vb_model.specs.HostFrames.{IsOut, used_frames}
 use Rattle.vb_model.specs.HostRefusals.{plugged_count}
 use Rattle.vb_model.specs.HostEvents.{WorldStep, needs, with_targets}
-use Rattle.vb_model.proofs.Samples.{config, ready}
+use Rattle.vb_model.proofs.Samples.{config, ready, plug}
 
 -- pages 16 and 17 have frames 5 and 9, page 18 is ballooned, and three pages were said to be free
 abbrev rogue : Guest
@@ -45,7 +45,7 @@ its_frames_are_out = (1, 17, record { guest = rogue; is_there = refl; has = refl
 it_is_counted : plugged_count both ≡ 2
 it_is_counted = refl
 
-eight_of_them : WorldStep (world (replicate 8 (Some rogue))) (Plug 64 8 1) (Refused TooMany)
+eight_of_them : WorldStep (world (replicate 8 (Some rogue))) (plug 64 8 1) (Refused TooMany)
     (world (replicate 8 (Some rogue)))
 eight_of_them = (refl, refl)
 
@@ -59,7 +59,8 @@ it_gets_its_target : with_targets (11 ∷ 12 ∷ []) both.guests
 it_gets_its_target = refl
 
 -- a question is answered with its state's values
-it_is_asked : (reply : Reply) → Answers AskBalloon rogue reply → reply ≡ Balloon 1 4 7 15
+it_is_asked : (reply : Reply) → Answers AskBalloon rogue reply
+    → reply ≡ Balloon (record { ballooned = 1; actual = 4; target = 7; status = 15 })
 it_is_asked reply answered = answered
 
 -- a restart leaves it as plugged in, with its target

@@ -17,6 +17,7 @@ use Rattle.vb_model.specs.HostEvents.{WorldStep}
 use Rattle.vb_model.specs.Run.{History}
 use Rattle.vb_model.specs.GuestRun.{Entry, OwnStep, Leads, IsOwnEntry, AreOwn, InOneLife, Alone}
 use Rattle.vb_model.specs.Histories.{IsSafeCourse}
+use Rattle.vb_model.specs.SafeLaws.{LivesAreAlone}
 use Rattle.vb_model.specs.Safe.{Safe, IsSafeRun, NoFrameTwice, part}
 use Rattle.vb_model.proofs.Changes.{same_some}
 use Rattle.vb_model.proofs.Samples.{ready, down, untold, page_16_at, request}
@@ -115,31 +116,25 @@ record IsOneStep (n : ℕ) (w : World) (event : Event) (reply : Reply) (v : Worl
   own : Option Entry
   is : IsOwnEntry n w event reply v own
   step : OwnStep g own new
-  safe : IsSafeCourse (record { first = g; entries = own ∷ []; after = new ∷ [] })
 
 one_step : (n : ℕ) (w : World) (event : Event) (reply : Reply) (v : World) (g new : Guest)
     → guest_at v.guests n ≡ Some new
-    → (own : Alone n w (event ∷ []) (reply ∷ []) (v ∷ []) g)
-    × IsSafeCourse (record { first = g; entries = own.entries; after = own.guests })
-    → IsOneStep n w event reply v g new
-one_step n w event reply v g new at (own, safe) = by own.entries own.guests own.are own.leads safe
+    → Alone n w (event ∷ []) (reply ∷ []) (v ∷ []) g → IsOneStep n w event reply v g new
+one_step n w event reply v g new at own = by own.entries own.guests own.are own.leads
   where
     by : (entries : List (Option Entry)) (guests : List Guest)
         → AreOwn n w (event ∷ []) (reply ∷ []) (v ∷ []) entries guests → Leads g entries guests
-        → IsSafeCourse (record { first = g; entries = entries; after = guests })
         → IsOneStep n w event reply v g new
-    by [] guests are leads safe = absurd are
-    by (o ∷ entries) [] are leads safe = absurd are
-    by (o ∷ p ∷ entries) (x ∷ guests) are leads safe = absurd are.2
-    by (o ∷ []) (x ∷ y ∷ guests) are leads safe = absurd are.2
-    by (o ∷ []) (x ∷ []) are leads safe =
+    by [] guests are leads = absurd are
+    by (o ∷ entries) [] are leads = absurd are
+    by (o ∷ p ∷ entries) (x ∷ guests) are leads = absurd are.2
+    by (o ∷ []) (x ∷ y ∷ guests) are leads = absurd are.2
+    by (o ∷ []) (x ∷ []) are leads =
         let same : x ≡ new = same_some x new (sym are.1 ∙ at) in
         record {
           own = o;
           is = are.0;
           step = subst (λ (y : Guest). OwnStep g o y) same leads.0;
-          safe = subst (λ (y : Guest). IsSafeCourse
-              (record { first = g; entries = o ∷ []; after = y ∷ [] })) same safe;
         }
 
 -- the run of one event of guest 0
@@ -148,22 +143,22 @@ goes g event reply new =
     record { first = at g; events = event ∷ []; replies = reply ∷ []; after = at new ∷ [] }
 
 of_one : (g : Guest) (event : Event) (reply : Reply) (new : Guest) → event ≢ Restart 0
-    → event ≢ Unplug 0 → new.rogue ≡ false → Safe (goes g event reply new)
+    → event ≢ Unplug 0 → new.rogue ≡ false → LivesAreAlone (goes g event reply new)
     → IsOneStep 0 (at g) event reply (at new) g new
 of_one g event reply new on still honest s =
     one_step 0 (at g) event reply (at new) g new refl
-    (s.lives 0 0 1 (at g) g new refl refl (refl, honest) (on, still, tt))
+    (s 0 0 1 (at g) g new refl refl (refl, honest) (on, still, tt)).0
 
 -- a state is safe by itself
 lent_but_not_ballooned : Safe (stands (page_16_at Lent ready)) → ⊥
 lent_but_not_ballooned s =
     let e : false ≡ true =
     ((s.lives 0 0 0 (at (page_16_at Lent ready)) (page_16_at Lent ready) (page_16_at Lent ready) refl
-    refl (refl, refl) tt).1.both_agree 0 (page_16_at Lent ready) refl 16).1 (inl refl) in
+    refl (refl, refl) tt).3.both_agree 0 (page_16_at Lent ready) refl 16).1 (inl refl) in
     cc
 
 -- a call is answered as no run of the guest's own has it, in a later life too
-not_its_own : Safe (goes ready (OnGuest 0 Work) Done ready) → ⊥
+not_its_own : LivesAreAlone (goes ready (OnGuest 0 Work) Done ready) → ⊥
 not_its_own s = by o.own o.is o.step
   where
     o : IsOneStep 0 (at ready) (OnGuest 0 Work) Done (at ready) ready ready
@@ -184,12 +179,12 @@ restarted = record {
   after = at down ∷ at down ∷ [];
 }
 
-not_its_own_later : Safe restarted → ⊥
+not_its_own_later : LivesAreAlone restarted → ⊥
 not_its_own_later s = by o.own o.is o.step
   where
     o : IsOneStep 0 (at down) (OnGuest 0 Work) Done (at down) down down
     o = one_step 0 (at down) (OnGuest 0 Work) Done (at down) down down refl
-        (s.lives 0 1 1 (at down) down down refl refl (refl, refl) ((λ e. cc), (λ e. cc), tt))
+        (s 0 1 1 (at down) down down refl refl (refl, refl) ((λ e. cc), (λ e. cc), tt)).0
 
     by : (own : Option Entry) → IsOwnEntry 0 (at down) (OnGuest 0 Work) Done (at down) own
         → OwnStep down own down → ⊥
@@ -199,7 +194,7 @@ not_its_own_later s = by o.own o.is o.step
         cc
 
 -- another's event changes the guest
-changed_by_another : Safe (goes ready CountFrames (Frames 0 64) down) → ⊥
+changed_by_another : LivesAreAlone (goes ready CountFrames (Frames 0 64) down) → ⊥
 changed_by_another s = by o.own o.is o.step
   where
     o : IsOneStep 0 (at ready) CountFrames (Frames 0 64) (at down) ready down
@@ -212,7 +207,7 @@ changed_by_another s = by o.own o.is o.step
         omega arith
 
 -- a reset that is done leaves the guest ready
-reset_but_ready : Safe (goes ready (OnGuest 0 Reset) Done ready) → ⊥
+reset_but_ready : LivesAreAlone (goes ready (OnGuest 0 Reset) Done ready) → ⊥
 reset_but_ready s = by o.own o.is o.step
   where
     o : IsOneStep 0 (at ready) (OnGuest 0 Reset) Done (at ready) ready ready
@@ -252,11 +247,20 @@ isnt_safe : IsSafeRun (at named) (OnGuest 0 (Sweep 16) ∷ []) (Swept true ∷ [
 isnt_safe s =
     let safe = (one (at named) (OnGuest 0 (Sweep 16)) (Swept true)
     (at (unbacked (16 ∷ []) named)) s).safe in
-    let o = of_one named (OnGuest 0 (Sweep 16)) (Swept true) (unbacked (16 ∷ []) named) (λ e. cc)
-    (λ e. cc) refl safe in
-    let e : SameFrame None (Some 5) =
-    o.safe.keeps_frame 0 16 5 named (unbacked (16 ∷ []) named) refl refl refl refl refl in
-    cc
+    let life = safe.lives 0 0 1 (at named) named (unbacked (16 ∷ []) named) refl refl (refl, refl)
+    ((λ e. cc), (λ e. cc), tt) in
+    by life.0 life.1 life.2 life.3
+  where
+    by : (entries : List (Option Entry)) (guests : List Guest)
+        → AreOwn 0 (at named) (OnGuest 0 (Sweep 16) ∷ []) (Swept true ∷ [])
+        (at (unbacked (16 ∷ []) named) ∷ []) entries guests
+        → IsSafeCourse (record { first = named; entries = entries; after = guests }) → ⊥
+    by [] guests are course = absurd are
+    by (o ∷ entries) [] are course = absurd are
+    by (o ∷ entries) (x ∷ guests) are course =
+        let e : SameFrame None (Some 5) =
+        course.keeps_frame 0 16 5 named (unbacked (16 ∷ []) named) refl (sym are.1) refl refl refl in
+        cc
 
 -- ---- over more events, of another guest
 
@@ -273,12 +277,11 @@ at_once = record {
 }
 
 handed_out_at_once : Safe at_once → ⊥
-handed_out_at_once s = by own.0.entries own.0.guests own.0.are own.1
+handed_out_at_once s = by own.0 own.1 own.2 own.3
   where
-    own : (own : Alone 1 (beside (back untold)) at_once.events at_once.replies at_once.after
-        (back untold))
-        × IsSafeCourse
-        (record { first = back untold; entries = own.entries; after = own.guests })
+    own : (entries : List (Option Entry)) × (guests : List Guest)
+        × AreOwn 1 (beside (back untold)) at_once.events at_once.replies at_once.after entries guests
+        × IsSafeCourse (record { first = back untold; entries = entries; after = guests })
     own = s.lives 1 0 3 (beside (back untold)) (back untold) (handed_out untold) refl refl
         (refl, refl) ((λ e. cc), (λ e. cc), ((λ e. cc), (λ e. cc), ((λ e. cc), (λ e. cc), tt)))
 

@@ -1,5 +1,7 @@
 -- Guests from which worked facts start.
 use Rattle.std.specs.Prelude.{ℕ, true, List, ◌∷◌, ◌++◌, replicate}
+use Rattle.vb_model.specs.declared.calls.Event.{Event}
+use Rattle.vb_model.specs.declared.calls.Event.TheVariants.{Plug}
 use Rattle.vb_model.specs.declared.places.Place.{Place}
 use Rattle.vb_model.specs.declared.places.Place.TheVariants.{Reserved, Free, Used, Giving, Lent}
 use Rattle.vb_model.specs.declared.places.Place.TheVariants.{Taking, Stranded, Reporting}
@@ -54,3 +56,8 @@ page_16_at place g =
 -- a request for these pages, of which so many are visited
 abbrev pub request : ℕ → List ℕ → ℕ → Request
 request head pages visited = record { head = head; pages = pages; visited = visited }
+
+-- a guest of so many pages, descriptors of each queue and processors is to be plugged in
+abbrev pub plug : (pages queue_size processors : ℕ) → Event
+plug pages queue_size processors =
+    Plug (record { pages = pages; queue_size = queue_size; processors = processors })

@@ -8,7 +8,8 @@ use Rattle.vb_model.specs.declared.replies.Reply.TheVariants.{Ready, Done, Fille
 use Rattle.vb_model.specs.declared.replies.Reply.TheVariants.{Empty, Asked}
 use Rattle.vb_model.specs.Requests.{Figures, Buffer, NoBuffer, BufferPosted, BufferTaken}
 use Rattle.vb_model.specs.Requests.{BufferDone}
-use Rattle.vb_model.specs.Guest.{Guest, LastStatistics}
+use Rattle.vb_model.specs.declared.replies.LastStatistics.{LastStatistics}
+use Rattle.vb_model.specs.Guest.{Guest}
 use Rattle.vb_model.specs.Refusals.{refusal_of}
 use Rattle.vb_model.specs.Driver.{figures}
 use Rattle.vb_model.specs.Life.{Negotiates}

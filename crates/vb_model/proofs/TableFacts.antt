@@ -10,8 +10,8 @@ use Rattle.vb_model.specs.declared.replies.Refusal.TheVariants.{NotTaken, NotWor
 use Rattle.vb_model.specs.Requests.{Request}
 use Rattle.vb_model.specs.FirstRefusal.{first_refusal}
 use Rattle.vb_model.specs.Tables.{is_up, is_not_ready, has_fault, most_requests, inflate_tests}
-use Rattle.vb_model.specs.Tables.{deflate_tests}
-use Rattle.vb_model.specs.Tables.{featured_tests, reap_tests, stats_tests, take_tests, work_tests}
+use Rattle.vb_model.specs.Tables.{request_tests}
+use Rattle.vb_model.specs.Tables.{driver_tests, reap_tests, take_tests, work_tests}
 use Rattle.vb_model.specs.Tables.{finish_tests, sweep_tests, ask_tests}
 
 -- ---- the status
@@ -34,7 +34,7 @@ inflates_of_a_failed_device : map (λ status. first_refusal (inflate_tests statu
     (15 ∷ 79 ∷ 143 ∷ 207 ∷ []) ≡ Some QueueFull ∷ Some NotReady ∷ Some NotReady ∷ Some NotReady ∷ []
 inflates_of_a_failed_device = refl
 
-deflates_of_a_failed_device : map (λ status. first_refusal (deflate_tests status 16 16 0))
+deflates_of_a_failed_device : map (λ status. first_refusal (request_tests status false 16 16 0))
     (15 ∷ 79 ∷ 143 ∷ 207 ∷ []) ≡ Some QueueFull ∷ Some NotReady ∷ Some NotReady ∷ Some NotReady ∷ []
 deflates_of_a_failed_device = refl
 
@@ -56,11 +56,11 @@ inflates_by_feature : map (λ features. first_refusal (inflate_tests 15 features
     ∷ []
 inflates_by_feature = refl
 
-deflates_in_order : map (λ count. first_refusal (deflate_tests 15 15 16 count)) (0 ∷ 1 ∷ [])
+deflates_in_order : map (λ count. first_refusal (request_tests 15 false 15 16 count)) (0 ∷ 1 ∷ [])
     ≡ Some Nothing ∷ None ∷ []
 deflates_in_order = refl
 
-requests_with_a_feature : map (λ status. first_refusal (featured_tests status false 16 16 0))
+requests_with_a_feature : map (λ status. first_refusal (request_tests status true 16 16 0))
     (15 ∷ 79 ∷ 143 ∷ []) ≡ Some NoFeature ∷ Some NotReady ∷ Some NotReady ∷ []
 requests_with_a_feature = refl
 
@@ -72,7 +72,7 @@ no_third_queue : map (λ status. first_refusal (reap_tests 3 status 0)) (0 ∷ 1
     ≡ Some NoQueue ∷ Some NoQueue ∷ Some NoQueue ∷ []
 no_third_queue = refl
 
-statistics_of_a_failed_device : map (λ status. first_refusal (stats_tests status 0))
+statistics_of_a_failed_device : map (λ status. first_refusal (driver_tests status true))
     (15 ∷ 79 ∷ 143 ∷ []) ≡ Some NoFeature ∷ Some NotReady ∷ Some NotReady ∷ []
 statistics_of_a_failed_device = refl
 

@@ -25,7 +25,7 @@ use Rattle.vb_model.specs.Requests.{BufferPosted}
 use Rattle.vb_model.specs.Guest.{Guest, zero_page, is_ready, tells_host, frame_of, is_ballooned}
 use Rattle.vb_model.specs.Status.{status_refusal}
 use Rattle.vb_model.specs.FirstRefusal.{◌⇒◌}
-use Rattle.vb_model.specs.Tables.{inflate_tests, deflate_tests, sweep_tests}
+use Rattle.vb_model.specs.Tables.{inflate_tests, request_tests, sweep_tests}
 use Rattle.vb_model.specs.Refusals.{refusal_of}
 use Rattle.vb_model.specs.Driver.{contents_of}
 use Rattle.vb_model.specs.Life.{feature_refusal, after_reset}
@@ -509,8 +509,8 @@ pending_where_it_tells : inflate_tests 15 0x100000027 8 7 8 1 ≡ (false ⇒ Not
     ∷ (false ⇒ QueueFull) ∷ (false ⇒ DeflatePending) ∷ (false ⇒ Nothing) ∷ []
 pending_where_it_tells = refl
 
-deflate_in_order : deflate_tests 0 8 8 0 ≡ (true ⇒ NotReady) ∷ (true ⇒ QueueFull)
-    ∷ (true ⇒ Nothing) ∷ []
+deflate_in_order : request_tests 0 false 8 8 0 ≡ (true ⇒ NotReady) ∷ (false ⇒ NoFeature)
+    ∷ (true ⇒ QueueFull) ∷ (true ⇒ Nothing) ∷ []
 deflate_in_order = refl
 
 sweep_in_order : sweep_tests 207 0x100000026 false ≡ (true ⇒ NotReady) ∷ (true ⇒ NeedsReset)

@@ -4,7 +4,7 @@ use Rattle.std.proofs.Common.{refl, ◌⊎◌, inl, inr, arith}
 use Rattle.std.specs.Prelude.{Option, Some, None}
 use Rattle.vb_model.specs.declared.calls.Claim.TheVariants.{Gave, GaveNoFrame, GaveNoMemory}
 use Rattle.vb_model.specs.declared.calls.Call.TheVariants.{SetTarget}
-use Rattle.vb_model.specs.declared.calls.Event.TheVariants.{Plug, Unplug, Restart, Guest as OnGuest}
+use Rattle.vb_model.specs.declared.calls.Event.TheVariants.{Unplug, Restart, Guest as OnGuest}
 use Rattle.vb_model.specs.declared.calls.Event.TheVariants.{Query as Asking, Frames as CountFrames}
 use Rattle.vb_model.specs.declared.calls.Query.TheVariants.{Places}
 use Rattle.vb_model.specs.declared.replies.Refusal.TheVariants.{NoGuest, BadConfig, TooMany}
@@ -14,7 +14,7 @@ use Rattle.vb_model.specs.Guest.{Guest, Config, fresh}
 use Rattle.vb_model.specs.World.{World, made}
 use Rattle.vb_model.specs.HostEvents.{WorldStep, with_targets}
 use Rattle.vb_model.specs.HostFrames.{Gives}
-use Rattle.vb_model.proofs.Samples.{ready, down}
+use Rattle.vb_model.proofs.Samples.{ready, down, plug}
 
 abbrev world : List (Option Guest) → World
 world guests = record
@@ -30,11 +30,11 @@ wide = record { pages = 128; queue_size = 2; processors = 4; paced = false }
 -- ---- a new guest
 
 -- it is as its configuration says, with the pace of the first spare, which is used up
-first_plug : WorldStep (made 64 (true ∷ false ∷ [])) (Plug 64 8 1) (Plugged 0)
+first_plug : WorldStep (made 64 (true ∷ false ∷ [])) (plug 64 8 1) (Plugged 0)
     (record { frames = 64; guests = Some down ∷ []; spares = false ∷ []; given_up = None })
 first_plug = inr (0, refl, tt, refl, refl)
 
-second_plug : WorldStep (world (Some ready ∷ [])) (Plug 128 2 4) (Plugged 1)
+second_plug : WorldStep (world (Some ready ∷ [])) (plug 128 2 4) (Plugged 1)
     (record (world (Some ready ∷ Some (fresh wide 0) ∷ [])) { spares = true ∷ true ∷ [] })
 second_plug = inr (1, refl, tt, refl, refl)
 
@@ -42,25 +42,25 @@ second_plug = inr (1, refl, tt, refl, refl)
 abbrev gap : World
 gap = record (world (Some ready ∷ None ∷ Some ready ∷ None ∷ [])) { given_up = Some 1 }
 
-number_given_up : WorldStep gap (Plug 128 2 4) (Plugged 1)
+number_given_up : WorldStep gap (plug 128 2 4) (Plugged 1)
     (record (world (Some ready ∷ Some (fresh wide 0) ∷ Some ready ∷ None ∷ []))
     { spares = true ∷ true ∷ []; given_up = None })
 number_given_up = inr (1, refl, refl, refl, refl)
 
-no_other_number : (v : World) → WorldStep gap (Plug 128 2 4) (Plugged 3) v → ⊥
+no_other_number : (v : World) → WorldStep gap (plug 128 2 4) (Plugged 3) v → ⊥
 no_other_number v h1 = grind arith
 
 -- with none given up any number that no guest has
-any_free_number : WorldStep (record gap { given_up = None }) (Plug 128 2 4) (Plugged 3)
+any_free_number : WorldStep (record gap { given_up = None }) (plug 128 2 4) (Plugged 3)
     (record (world (Some ready ∷ None ∷ Some ready ∷ Some (fresh wide 0) ∷ []))
     { spares = true ∷ true ∷ [] })
 any_free_number = inr (3, refl, tt, refl, refl)
 
-no_number_twice : (v : World) → WorldStep (world (Some ready ∷ [])) (Plug 128 2 4) (Plugged 0) v → ⊥
+no_number_twice : (v : World) → WorldStep (world (Some ready ∷ [])) (plug 128 2 4) (Plugged 0) v → ⊥
 no_number_twice v h1 = grind arith
 
 -- want of memory leaves the spare, and the number given up
-no_memory_for_a_plug : WorldStep gap (Plug 128 2 4) (Refused NoMemory) gap
+no_memory_for_a_plug : WorldStep gap (plug 128 2 4) (Refused NoMemory) gap
 no_memory_for_a_plug = inl (refl, refl)
 
 -- ---- refusals of a plug: the configuration, then the number of guests, then the spares
@@ -68,31 +68,31 @@ no_memory_for_a_plug = inl (refl, refl)
 abbrev eight : World
 eight = world (None ∷ replicate 8 (Some ready))
 
-ninth_guest : WorldStep eight (Plug 64 8 1) (Refused TooMany) eight
+ninth_guest : WorldStep eight (plug 64 8 1) (Refused TooMany) eight
 ninth_guest = (refl, refl)
 
 -- numbers without a guest don't count
-eighth_guest : WorldStep (world (None ∷ replicate 7 (Some ready))) (Plug 128 2 4) (Plugged 8)
+eighth_guest : WorldStep (world (None ∷ replicate 7 (Some ready))) (plug 128 2 4) (Plugged 8)
     (record (world (None ∷ replicate 7 (Some ready) ++ (Some (fresh wide 0) ∷ [])))
     { spares = true ∷ true ∷ [] })
 eighth_guest = inr (8, refl, tt, refl, refl)
 
-bad_config_before_too_many : WorldStep (without_spares eight) (Plug 65 8 1) (Refused BadConfig)
+bad_config_before_too_many : WorldStep (without_spares eight) (plug 65 8 1) (Refused BadConfig)
     (without_spares eight)
 bad_config_before_too_many = (refl, refl)
 
-too_many_before_no_device : WorldStep (without_spares eight) (Plug 64 8 1) (Refused TooMany)
+too_many_before_no_device : WorldStep (without_spares eight) (plug 64 8 1) (Refused TooMany)
     (without_spares eight)
 too_many_before_no_device = (refl, refl)
 
 -- a refused plug doesn't use the number up
-no_device : WorldStep (without_spares gap) (Plug 64 8 1) (Refused NoDevice) (without_spares gap)
+no_device : WorldStep (without_spares gap) (plug 64 8 1) (Refused NoDevice) (without_spares gap)
 no_device = (refl, refl)
 
-bad_queue_size : WorldStep gap (Plug 64 3 1) (Refused BadConfig) gap
+bad_queue_size : WorldStep gap (plug 64 3 1) (Refused BadConfig) gap
 bad_queue_size = (refl, refl)
 
-bad_processors : WorldStep gap (Plug 64 8 5) (Refused BadConfig) gap
+bad_processors : WorldStep gap (plug 64 8 5) (Refused BadConfig) gap
 bad_processors = (refl, refl)
 
 -- ---- numbers without a guest

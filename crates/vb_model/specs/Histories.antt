@@ -2,7 +2,7 @@
 -- is in it, and so nothing is said of frames that two guests have.
 -- The headline needs all of it; `IsSafeHistory` for guests on threads alone.
 use Rattle.std.specs.Prelude.{◌≡◌, ◌≢◌, ℕ, ◌+◌, ◌<◌, List, Some, slice_index_or, length, IsTrue}
-use Rattle.std.specs.Prelude.{◌↔◌, ◌⊎◌}
+use Rattle.std.specs.Prelude.{◌↔◌, ◌⊎◌, count_by}
 use Rattle.vb_model.specs.declared.places.Place.TheVariants.{Used, Giving, Reserved}
 use Rattle.vb_model.specs.declared.calls.Call.{Call}
 use Rattle.vb_model.specs.declared.calls.Call.TheVariants.{Read}
@@ -10,7 +10,7 @@ use Rattle.vb_model.specs.declared.replies.Refusal.TheVariants.{RingBroken, Brok
 use Rattle.vb_model.specs.declared.replies.Reply.{Reply}
 use Rattle.vb_model.specs.declared.replies.Reply.TheVariants.{ReadBytes, Refused}
 use Rattle.vb_model.specs.Pages.{place_of, is_lent}
-use Rattle.vb_model.specs.Requests.{Request, naming, given_away}
+use Rattle.vb_model.specs.Requests.{Request, names, given_away}
 use Rattle.vb_model.specs.Guest.{Guest, Config, fresh, frame_of, is_ballooned, is_ready}
 use Rattle.vb_model.specs.Orderly.{AreAgreed}
 use Rattle.vb_model.specs.GuestRun.{Entry, Leads, last_guest, all_entries}
@@ -19,7 +19,7 @@ use Rattle.vb_model.specs.Courses.{IsWriteTo, StaysOrLoses, byte_of, last_put, S
 
 -- some of these requests names the page
 abbrev pub IsNamed : ℕ → List Request → Type 0
-IsNamed page rs = 0 < naming page rs
+IsNamed page rs = 0 < count_by (names page) rs
 
 -- what the device calls ballooned, the driver calls lent, but for requests on their way
 abbrev pub BothAgree : Guest → Type 0

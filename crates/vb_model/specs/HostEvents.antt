@@ -23,7 +23,7 @@ use Rattle.vb_model.specs.Balance.{Need, need, IsAnswer}
 use Rattle.vb_model.specs.HostFrames.{IsOut, Gives, used_frames}
 use Rattle.vb_model.specs.HostRefusals.{world_tests}
 use Rattle.vb_model.specs.Queries.{Answers}
-use Rattle.vb_model.specs.World.{World, guest_at, with_guest, put_guest}
+use Rattle.vb_model.specs.World.{World, guest_at, put_guest}
 
 -- the first spare becomes the new guest's device; the number is the one last given up, or any that
 -- no guest has
@@ -33,12 +33,7 @@ Plugs config rest w reply new =
     × (guest_at w.guests n ≡ None)
     × MatchOption w.given_up ⊤ (λ last. n ≡ last)
     × (reply ≡ Plugged n)
-    × (new ≡ record {
-      frames = w.frames;
-      guests = with_guest n (Some (fresh config 0)) w.guests;
-      spares = rest;
-      given_up = None;
-    })
+    × (new ≡ record (put_guest n (Some (fresh config 0)) w) { spares = rest; given_up = None })
 
 -- or there is no memory for it, and nothing is changed
 abbrev pub PlugsIn : ℕ → ℕ → ℕ → List Bool → World → Reply → World → Type 0
@@ -75,14 +70,10 @@ abbrev pub after_balance : Reply → World → World
 after_balance (Targets targets) w = record w { guests = with_targets targets w.guests }
 after_balance answer w = w
 
-abbrev pub Balances : ℕ → World → Reply → World → Type 0
-Balances floor w reply new =
-    IsAnswer w.frames (needs floor w) reply × (new ≡ after_balance reply w)
-
 -- an event that isn't refused; one of a guest gets that guest
 abbrev pub Happens : Event → World → Reply → World → Type 0
-Happens (Plug pages queue_size processors) w reply new =
-    PlugsIn pages queue_size processors w.spares w reply new
+Happens (Plug size) w reply new =
+    PlugsIn size.pages size.queue_size size.processors w.spares w reply new
 Happens (Unplug n) w reply new =
     (reply ≡ Done) × (new ≡ record (put_guest n None w) { given_up = Some n })
 Happens (Restart n) w reply new =
@@ -92,7 +83,8 @@ Happens (OnGuest n call) w reply new =
     MatchOption (guest_at w.guests n) ⊥ (λ g. Calls n g w call reply new)
 Happens (Asking n query) w reply new =
     MatchOption (guest_at w.guests n) ⊥ (λ g. Answers query g reply) × (new ≡ w)
-Happens (Balance floor) w reply new = Balances floor w reply new
+Happens (Balance floor) w reply new =
+    IsAnswer w.frames (needs floor w) reply × (new ≡ after_balance reply w)
 Happens CountFrames w reply new =
     (reply ≡ Frames (used_frames w) (w.frames - used_frames w)) × (new ≡ w)
 

@@ -13,7 +13,7 @@ use Rattle.vb_model.specs.HostEvents.{WorldStep}
 -- two answers to one event, with the worlds that they leave
 abbrev pub WorldsAgree : Event → World → Reply → World → Reply → World → Type 0
 -- of a plug the number is open, where none was given up
-WorldsAgree (Plug pages queue_size processors) w reply new reply' new' =
+WorldsAgree (Plug size) w reply new reply' new' =
     (reply ≡ reply' → new ≡ new')
     × ((last : ℕ) → w.given_up ≡ Some last → reply ≡ reply')
     × ((refusal : Refusal) → reply ≡ Refused refusal → reply ≡ reply')

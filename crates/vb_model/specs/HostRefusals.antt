@@ -21,8 +21,8 @@ abbrev pub lacks_guest : World → ℕ → Bool
 lacks_guest w n = is_none (guest_at w.guests n)
 
 abbrev pub world_tests : World → Event → List Test
-world_tests w (Plug pages queue_size processors) =
-    (not (is_config pages queue_size processors) ⇒ BadConfig)
+world_tests w (Plug size) =
+    (not (is_config size.pages size.queue_size size.processors) ⇒ BadConfig)
     ∷ (nat_le MAX_GUESTS (plugged_count w) ⇒ TooMany)
     ∷ ((length w.spares == 0) ⇒ NoDevice)
     ∷ []

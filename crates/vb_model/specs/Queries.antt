@@ -3,7 +3,6 @@
 use Rattle.std.specs.Prelude.{◌≡◌, ℕ, suc, ◌==◌}
 use Rattle.std.specs.Prelude.{List, [], ◌∷◌, if◌then◌else◌}
 use Rattle.std.specs.Prelude.{◌⊎◌, count_by}
-use Rattle.vb_model.specs.declared.places.Place.{Place}
 use Rattle.vb_model.specs.declared.places.Place.TheVariants.{Free, Used, Giving, Lent}
 use Rattle.vb_model.specs.declared.places.Place.TheVariants.{Taking, Stranded, Reporting}
 use Rattle.vb_model.specs.declared.calls.Query.{Query}
@@ -33,19 +32,16 @@ abbrev pub runs : List ℕ → List PageRun
 runs [] = []
 runs (page ∷ pages) = runs_with page (runs pages)
 
-abbrev pub count_at : Place → Guest → ℕ
-count_at place g = count_by (is_place place) g.places
-
 abbrev pub place_counts : Guest → PlaceCounts
 place_counts g =
     record {
-      free = count_at Free g;
-      used = count_at Used g;
-      giving = count_at Giving g;
-      lent = count_at Lent g;
-      taking = count_at Taking g;
-      stranded = count_at Stranded g;
-      reporting = count_at Reporting g;
+      free = count_by (is_place Free) g.places;
+      used = count_by (is_place Used) g.places;
+      giving = count_by (is_place Giving) g.places;
+      lent = count_by (is_place Lent) g.places;
+      taking = count_by (is_place Taking) g.places;
+      stranded = count_by (is_place Stranded) g.places;
+      reporting = count_by (is_place Reporting) g.places;
     }
 
 -- the state's values; a list of runs may find no memory
@@ -55,6 +51,7 @@ Answers (PagesAt place) g reply =
     (reply ≡ Pages (runs (pages_where (is_place place) g.places))) ⊎ (reply ≡ Refused NoMemory)
 Answers PagesBallooned g reply =
     (reply ≡ Pages (runs (pages_where (λ b. b) g.ballooned))) ⊎ (reply ≡ Refused NoMemory)
-Answers AskBalloon g reply = reply ≡ Balloon (ballooned_count g) g.actual g.target g.status
-Answers AskMemory g reply = reply ≡ Statistics g.last.free g.last.total
+Answers AskBalloon g reply = reply ≡ Balloon (record
+    { ballooned = ballooned_count g; actual = g.actual; target = g.target; status = g.status })
+Answers AskMemory g reply = reply ≡ Statistics g.last
 Answers (AskBacking page) g reply = reply ≡ Backing (frame_of g.frames page)

@@ -1,5 +1,5 @@
 -- What follows of every guest that is safe.
-use Rattle.std.specs.Prelude.{◌≡◌, ◌≢◌, ℕ, ◌+◌, [], Some, IsTrue, IsFalse, ◌↔◌}
+use Rattle.std.specs.Prelude.{◌≡◌, ◌≢◌, ℕ, ◌+◌, [], Some, slice_get, IsTrue, IsFalse, ◌↔◌}
 use Rattle.vb_model.specs.declared.places.Place.TheVariants.{Used, Lent}
 use Rattle.vb_model.specs.declared.calls.Call.{Call}
 use Rattle.vb_model.specs.declared.calls.Event.TheVariants.{Guest as OnGuest}
@@ -11,8 +11,21 @@ use Rattle.vb_model.specs.Guest.{Guest, is_ballooned}
 use Rattle.vb_model.specs.Driver.{contents_of}
 use Rattle.vb_model.specs.World.{World, guest_at}
 use Rattle.vb_model.specs.HostEvents.{WorldStep}
+use Rattle.vb_model.specs.Run.{History, states}
+use Rattle.vb_model.specs.GuestRun.{InOneLife, Alone}
 use Rattle.vb_model.specs.Courses.{Course, guest_after, IsAt, IsWriteTo}
 use Rattle.vb_model.specs.Histories.{BothAgree, IsSafeCourse}
+use Rattle.vb_model.specs.Safe.{IsHonest, part}
+
+-- From state i, where guest n is g, the next k events are of one life, at whose end it is honest:
+-- then what these events were to it is not only safe, but leads it from state to state by itself.
+-- Other guests matter to it only by which frames its claims are given, and by the targets that
+-- balances set.
+abbrev pub LivesAreAlone : History → Type 0
+LivesAreAlone h = (n i k : ℕ) (w : World) (g new : Guest) → slice_get (states h) i ≡ Some w
+    → guest_at w.guests n ≡ Some g → IsHonest h n (i + k) new → InOneLife n (part i k h.events)
+    → (own : Alone n w (part i k h.events) (part i k h.replies) (part i k h.after) g)
+    × IsSafeCourse (record { first = g; entries = own.entries; after = own.guests })
 
 -- with no inflate or deflate request the device calls ballooned just what the driver calls lent
 abbrev pub QuietAgree : Type 0

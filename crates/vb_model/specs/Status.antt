@@ -1,6 +1,6 @@
 -- A device's status and the features that are agreed on: VIRTIO 1.1, 2.1, 2.2 and 3.1.1; which
 -- writes are refused and in what order they are tested is the profile's.
--- The headline needs all of it but `negotiate_refusal` and `status_refusal`.
+-- The headline needs `contains`, `needed_tests` and three of the bits.
 use Rattle.std.specs.Prelude.{ℕ, Bool, not, ◌==◌, ◌&&◌, ◌||◌, nat_lt, List, [], ◌∷◌, if◌then◌else◌}
 use Rattle.std.specs.Prelude.{Option, None, count_by, bit_and}
 use Rattle.std.specs.List.{list_any}

@@ -174,7 +174,7 @@ is_list _ = false
 
 -- the events that may find no memory
 abbrev pub may_want_memory : World → Event → Bool
-may_want_memory w (Plug pages queue_size processors) = true
+may_want_memory w (Plug size) = true
 may_want_memory w (OnGuest n call) = call_may_want (guest_at w.guests n) call
 may_want_memory w (Asking n query) = is_list query
 may_want_memory w _ = false

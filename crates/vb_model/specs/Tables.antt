@@ -1,7 +1,7 @@
 -- How many pages the driver's calls move, and what each call is refused for, in the order in which
 -- it is tested (profile).
 -- Both stand here once, over plain values; a guest, a driver and a device each put in their own.
--- The headline needs all of it.
+-- The headline needs all of it but `has_fault`.
 use Rattle.std.specs.Prelude.{◌++◌}
 use Rattle.std.specs.Prelude.{ℕ, ◌+◌, ◌-◌, Bool, false, not, ◌==◌, ◌&&◌, ◌||◌, nat_lt, nat_le, List}
 use Rattle.std.specs.Prelude.{[], ◌∷◌, length, if◌then◌else◌, Option, Some, None, is_some, is_none}
@@ -10,19 +10,19 @@ use Rattle.std.specs.List.{list_any, range_with_len}
 use Rattle.vb_model.specs.declared.layout.TheConstants.{DEFLATE_QUEUE, STATISTICS_QUEUE}
 use Rattle.vb_model.specs.declared.layout.TheConstants.{REPORT_QUEUE}
 use Rattle.vb_model.specs.declared.places.Place.{Place}
-use Rattle.vb_model.specs.declared.replies.Refusal.TheVariants.{BadOrder, BadCpu, NoPages, NotHeld}
+use Rattle.vb_model.specs.declared.places.Place.TheVariants.{Free, Giving, Lent, Stranded}
+use Rattle.vb_model.specs.declared.replies.Refusal.TheVariants.{BadOrder, BadCpu}
 use Rattle.vb_model.specs.declared.replies.Refusal.TheVariants.{NotReady, NeedsReset, QueueFull}
 use Rattle.vb_model.specs.declared.replies.Refusal.TheVariants.{DeflatePending}
 use Rattle.vb_model.specs.declared.replies.Refusal.TheVariants.{Nothing, NoFeature, NoQueue, Busy}
 use Rattle.vb_model.specs.declared.replies.Refusal.TheVariants.{NotTaken, NotWorked, NotBallooned}
 use Rattle.vb_model.specs.declared.limits.TheConstants.{MAX_ORDER}
 use Rattle.vb_model.specs.declared.limits.TheConstants.{MAX_OUTSTANDING, MAX_REQUEST_PAGES}
-use Rattle.vb_model.specs.Pages.{Block, block_at, is_free, is_giving, is_lent, is_stranded}
-use Rattle.vb_model.specs.Pages.{is_wholly_free, is_same_block}
+use Rattle.vb_model.specs.Pages.{Block, block_at, is_place, is_wholly_free, is_same_block}
 use Rattle.vb_model.specs.Requests.{Request, kind_of_queue}
 use Rattle.vb_model.specs.Guest.{must_tell_host, stats_vq, reporting}
 use Rattle.vb_model.specs.FirstRefusal.{Test, ◌⇒◌}
-use Rattle.vb_model.specs.Status.{contains, driver_ok, needs_reset, failed, is_broken}
+use Rattle.vb_model.specs.Status.{contains, driver_ok, needs_reset, failed}
 
 -- ---- the numbers of pages that the driver's calls move, at most `n` and at most those of a
 -- request
@@ -30,19 +30,21 @@ use Rattle.vb_model.specs.Status.{contains, driver_ok, needs_reset, failed, is_b
 -- an inflate offers the stranded pages, and others up to the target
 abbrev pub pages_to_offer : (places : List Place) (target n : ℕ) → ℕ
 pages_to_offer places target n =
-    let stranded : ℕ = count_by is_stranded places in
-    let missing : ℕ = target - count_by is_lent places - count_by is_giving places in
-    min (min n MAX_REQUEST_PAGES) (min (max stranded missing) (stranded + count_by is_free places))
+    let stranded : ℕ = count_by (is_place Stranded) places in
+    let missing : ℕ =
+    target - count_by (is_place Lent) places - count_by (is_place Giving) places in
+    min (min n MAX_REQUEST_PAGES)
+    (min (max stranded missing) (stranded + count_by (is_place Free) places))
 
 -- a deflate asks back what is above the target
 abbrev pub pages_to_ask : (places : List Place) (target n : ℕ) → ℕ
 pages_to_ask places target n =
-    let lent : ℕ = count_by is_lent places in
-    min (min n MAX_REQUEST_PAGES) (min lent (lent + count_by is_giving places - target))
+    let lent : ℕ = count_by (is_place Lent) places in
+    min (min n MAX_REQUEST_PAGES) (min lent (lent + count_by (is_place Giving) places - target))
 
 -- and where memory is short any lent page
 abbrev pub pages_when_short : List Place → ℕ → ℕ
-pages_when_short places n = min (min n MAX_REQUEST_PAGES) (count_by is_lent places)
+pages_when_short places n = min (min n MAX_REQUEST_PAGES) (count_by (is_place Lent) places)
 
 -- how many requests of queue 0 or 1, or blocks of a report, there may be at this queue size
 abbrev pub most_requests : ℕ → ℕ
@@ -52,15 +54,12 @@ most_requests queue_size = min queue_size MAX_OUTSTANDING
 
 -- the device is initialised, and neither it nor its driver has failed
 abbrev pub is_up : ℕ → Bool
-is_up status = contains status driver_ok && not (is_broken status)
+is_up status =
+    contains status driver_ok && not (contains status needs_reset || contains status failed)
 
 -- the driver isn't done with the initialisation, or has given up
 abbrev pub is_not_ready : ℕ → Bool
 is_not_ready status = not (contains status driver_ok) || contains status failed
-
--- the device met a broken rule
-abbrev pub has_fault : ℕ → Bool
-has_fault status = contains status needs_reset
 
 -- ---- queues
 
@@ -92,29 +91,27 @@ abbrev pub no_block_free : (places : List Place) (pages order : ℕ) → Bool
 no_block_free places pages order =
     not (list_any (λ start. is_wholly_free places (block_at start order)) (range_with_len 0 pages))
 
-abbrev pub is_among : Block → List Block → Bool
-is_among b held = list_any (λ h. is_same_block h b) held
+-- the block isn't among those that are held
+abbrev pub is_not_held : (held : List Block) (b : Block) → Bool
+is_not_held held b = not (list_any (λ h. is_same_block h b) held)
 
-abbrev pub alloc_tests : (places : List Place) (pages processors cpu order : ℕ) → List Test
-alloc_tests places pages processors cpu order =
-    (nat_lt MAX_ORDER order ⇒ BadOrder)
-    ∷ (nat_le processors cpu ⇒ BadCpu)
-    ∷ (no_block_free places pages order ⇒ NoPages)
-    ∷ []
+-- of a block that a processor asks for, and of one that it gives back
+abbrev pub block_tests : (order processors cpu : ℕ) (last : Test) → List Test
+block_tests order processors cpu last =
+    (nat_lt MAX_ORDER order ⇒ BadOrder) ∷ (nat_le processors cpu ⇒ BadCpu) ∷ last ∷ []
 
-abbrev pub free_tests : (held : List Block) (processors cpu : ℕ) (b : Block) → List Test
-free_tests held processors cpu b =
-    (nat_lt MAX_ORDER b.order ⇒ BadOrder)
-    ∷ (nat_le processors cpu ⇒ BadCpu)
-    ∷ (not (is_among b held) ⇒ NotHeld)
-    ∷ []
+-- ---- the driver's calls
 
--- ---- the driver's requests: how many are outstanding, how many may be, and how many pages or
--- blocks a new one would name
+-- of each of them, and of stats nothing else; it lacks a feature if one is missing that it needs
+abbrev pub driver_tests : (status : ℕ) (lacks : Bool) → List Test
+driver_tests status lacks = (not (is_up status) ⇒ NotReady) ∷ (lacks ⇒ NoFeature) ∷ []
 
-abbrev pub request_tests : (outstanding most count : ℕ) → List Test
-request_tests outstanding most count =
-    (nat_le most outstanding ⇒ QueueFull)
+-- deflate, which needs no feature, oom and report: how many requests are outstanding, how many may
+-- be, and how many pages or blocks a new one would name
+abbrev pub request_tests : (status : ℕ) (lacks : Bool) (outstanding most count : ℕ) → List Test
+request_tests status lacks outstanding most count =
+    driver_tests status lacks
+    ++ (nat_le most outstanding ⇒ QueueFull)
     ∷ ((count == 0) ⇒ Nothing)
     ∷ []
 
@@ -128,38 +125,17 @@ inflate_tests status features pending outstanding most count =
     ∷ ((count == 0) ⇒ Nothing)
     ∷ []
 
-abbrev pub deflate_tests : (status outstanding most count : ℕ) → List Test
-deflate_tests status outstanding most count =
-    (not (is_up status) ⇒ NotReady) ∷ request_tests outstanding most count
-
--- oom and report, which stand or fall with a feature
-abbrev pub featured_tests : (status : ℕ) (accepted : Bool) (outstanding most count : ℕ)
-    → List Test
-featured_tests status accepted outstanding most count =
-    (not (is_up status) ⇒ NotReady)
-    ∷ (not accepted ⇒ NoFeature)
-    ∷ request_tests outstanding most count
-
 -- of a reap, before the used ring is read
 abbrev pub reap_tests : (q status features : ℕ) → List Test
 reap_tests q status features =
-    (not (is_queue_of_requests q) ⇒ NoQueue)
-    ∷ (not (is_up status) ⇒ NotReady)
-    ∷ (lacks_feature features q ⇒ NoFeature)
-    ∷ []
-
--- of a new fill of the statistics buffer, before the used ring is read
-abbrev pub stats_tests : (status features : ℕ) → List Test
-stats_tests status features =
-    (not (is_up status) ⇒ NotReady)
-    ∷ (not (stats_vq features) ⇒ NoFeature)
-    ∷ []
+    (not (is_queue_of_requests q) ⇒ NoQueue) ∷ driver_tests status (lacks_feature features q)
 
 -- ---- the device's calls
 
 -- of each of them, and of work nothing else
 abbrev pub work_tests : ℕ → List Test
-work_tests status = (is_not_ready status ⇒ NotReady) ∷ (has_fault status ⇒ NeedsReset) ∷ []
+work_tests status =
+    (is_not_ready status ⇒ NotReady) ∷ (contains status needs_reset ⇒ NeedsReset) ∷ []
 
 -- of a take, before guest memory is read, where so many chains of the queue are taken
 abbrev pub take_tests : (q status features taken : ℕ) → List Test
@@ -193,3 +169,7 @@ ask_tests status taken =
     work_tests status
     ++ (not taken ⇒ NotTaken)
     ∷ []
+
+-- for devices: a broken rule was met
+abbrev pub has_fault : ℕ → Bool
+has_fault status = contains status needs_reset

@@ -182,37 +182,32 @@ pub enum Query {
     Backing { page: u32 },
 }
 
+/// How large a guest is to be; any numbers may be passed.
+#[derive(Clone, Copy, Debug, PartialEq, Eq)]
+pub struct GuestSize {
+    /// Pages of memory.
+    pub pages: u32,
+    /// Descriptors of each queue.
+    pub queue_size: u32,
+    /// Processors, each with a list of free pages.
+    pub processors: u32,
+}
+
 /// What may happen to the world: one line of a script.
 #[derive(Drop)]
 pub enum Event {
     /// A guest of this configuration is plugged in, with the first spare device.
-    Plug {
-        pages: u32,
-        queue_size: u32,
-        processors: u32,
-    },
+    Plug { size: GuestSize },
     /// A guest goes, and its frames with it.
-    Unplug {
-        guest: u32,
-    },
+    Unplug { guest: u32 },
     /// A guest begins a new life.
-    Restart {
-        guest: u32,
-    },
+    Restart { guest: u32 },
     /// A call on a guest.
-    Guest {
-        guest: u32,
-        call: Call,
-    },
+    Guest { guest: u32, call: Call },
     /// A question about a guest.
-    Query {
-        guest: u32,
-        query: Query,
-    },
+    Query { guest: u32, query: Query },
     /// All guests get targets, so that no guest is asked for pages below this floor of free memory.
-    Balance {
-        floor: u32,
-    },
+    Balance { floor: u32 },
     /// How many frames are in use.
     Frames,
 }

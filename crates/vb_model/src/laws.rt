@@ -15,6 +15,7 @@ ghost use Rattle.vb_model.specs.StepLaws.{WantIsAnswered};
 ghost use Rattle.vb_model.specs.StepLaws.{HasNoReservedBallooned, RefusalsChangeNothing};
 ghost use Rattle.vb_model.specs.StepLaws.{RefusedEventsChangeNothing, NoMemoryIsExact};
 ghost use Rattle.vb_model.specs.StepLaws.{WantsChangeNothing};
+ghost use Rattle.vb_model.specs.SafeLaws.{LivesAreAlone};
 ghost use Rattle.vb_model.specs.SafeLaws.{QuietAgree, UsedPagesStay, HonestMeetNoFault};
 ghost use Rattle.vb_model.specs.HonestRuns.{HonestStay, HonestAreIdleUnlessReady};
 ghost use Rattle.vb_model.specs.Histories.{IsSafeHistory};
@@ -31,9 +32,12 @@ ghost use Rattle.vb_model.specs.declared.replies.Reply.TheVariants.{ReadBytes, R
 ghost use Rattle.vb_model.specs.Guest.{Config, Guest};
 ghost use Rattle.vb_model.specs.World.{World, guest_at};
 
-/// Every run is safe, whatever events come in whatever order.
+/// Every run is safe, whatever events come in whatever order; and in each life of an honest guest
+/// its own entries lead it from state to state, whatever others do.
 pub fn every_run_is_safe()
     ensures safe { (frames : ℕ) (spares : List Bool) (h : History) → Run frames spares h → Safe h }
+    ensures alone { (frames : ℕ) (spares : List Bool) (h : History) → Run frames spares h
+        → LivesAreAlone h }
 {}
 
 /// In every state of a run an honest guest's parts agree: each used page lies in one held block,

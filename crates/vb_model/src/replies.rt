@@ -117,95 +117,77 @@ impl Numbers {
     }
 }
 
+/// What a device and its driver say of the balloon.
+#[derive(Clone, Copy, Debug, PartialEq, Eq)]
+pub struct BalloonState {
+    /// How many pages the device holds to be ballooned.
+    pub ballooned: u32,
+    /// How many pages the driver says it gave (VIRTIO 1.1, 5.5.4).
+    pub actual: u32,
+    /// How many the host wants: `num_pages` (VIRTIO 1.1, 5.5.4).
+    pub target: u32,
+    /// The device's status (VIRTIO 1.1, 2.1).
+    pub status: u8,
+}
+
+/// The last statistics that a device read, in bytes (VIRTIO 1.1, 5.5.6.4); each may be missing.
+#[derive(Clone, Copy, Debug, PartialEq, Eq)]
+pub struct LastStatistics {
+    /// Memory that is free.
+    pub free: Option<u64>,
+    /// All memory.
+    pub total: Option<u64>,
+}
+
 /// What an event is answered.
 #[derive(Drop)]
 pub enum Reply {
     /// The new guest's number.
-    Plugged {
-        guest: usize,
-    },
+    Plugged { guest: usize },
     /// It was done.
     Done,
     /// The driver is initialised.
     Ready,
     /// The first page of the block that was handed out.
-    Page {
-        start: u32,
-    },
+    Page { start: u32 },
     /// What was read.
-    ReadBytes {
-        bytes: Bytes,
-    },
+    ReadBytes { bytes: Bytes },
     /// The request's head, and how many pages it names.
-    Posted {
-        head: u32,
-        pages: u32,
-    },
+    Posted { head: u32, pages: u32 },
     /// The statistics buffer was filled and made available.
     Filled,
     /// No request was used, or the statistics buffer wasn't.
     NotUsed,
     /// The used request's head, and how many pages it named.
-    Reaped {
-        head: u32,
-        pages: u32,
-    },
+    Reaped { head: u32, pages: u32 },
     /// The head of the chain that was taken.
-    Taken {
-        head: u32,
-    },
+    Taken { head: u32 },
     /// No chain is available.
     Empty,
     /// The page that was visited, and whether it had a frame.
-    Worked {
-        page: u32,
-        freed: bool,
-    },
+    Worked { page: u32, freed: bool },
     /// There is no page to visit.
     Idle,
     /// The head of the chain that was used.
-    Finished {
-        head: u32,
-    },
+    Finished { head: u32 },
     /// The page was swept; whether it had a frame.
-    Swept {
-        freed: bool,
-    },
+    Swept { freed: bool },
     /// The statistics buffer was used.
     Asked,
     /// The new targets, by rising number of guest.
-    Targets {
-        pages: Numbers,
-    },
+    Targets { pages: Numbers },
     /// How many pages each place has.
-    Places {
-        counts: PlaceCounts,
-    },
+    Places { counts: PlaceCounts },
     /// Pages as maximal rising runs.
-    Pages {
-        runs: PageRuns,
-    },
+    Pages { runs: PageRuns },
     /// The count of ballooned pages, the configuration's two numbers, and the status.
-    Balloon {
-        ballooned: u32,
-        actual: u32,
-        target: u32,
-        status: u32,
-    },
+    Balloon { state: BalloonState },
     /// The last statistics, in bytes, as far as they are known.
-    Statistics {
-        free: Option<u64>,
-        total: Option<u64>,
-    },
+    Statistics { last: LastStatistics },
     /// The page's frame, if it has one.
-    Backing {
-        frame: Option<u32>,
-    },
+    Backing { frame: Option<u32> },
     /// How many frames are in use, and how many are not.
-    Frames {
-        used: u32,
-        free: u32,
-    },
+    Frames { used: u32, free: u32 },
     /// It was refused.
     Refused(Refusal),
 }
@@ -250,21 +232,8 @@ impl Reply {
             Reply::Pages { runs } => Reply::Pages {
                 runs: runs.copy(alloc)?,
             },
-            Reply::Balloon {
-                ballooned,
-                actual,
-                target,
-                status,
-            } => Reply::Balloon {
-                ballooned: *ballooned,
-                actual: *actual,
-                target: *target,
-                status: *status,
-            },
-            Reply::Statistics { free, total } => Reply::Statistics {
-                free: *free,
-                total: *total,
-            },
+            Reply::Balloon { state } => Reply::Balloon { state: *state },
+            Reply::Statistics { last } => Reply::Statistics { last: *last },
             Reply::Backing { frame } => Reply::Backing { frame: *frame },
             Reply::Frames { used, free } => Reply::Frames {
                 used: *used,

@@ -117,13 +117,13 @@ reply_text Asked = codes "asked"
 reply_text (Targets pages) = targets_text pages
 reply_text (Places counts) = counts_text counts
 reply_text (Pages runs) = runs_text runs
-reply_text (Balloon ballooned actual target status) =
-    codes "ballooned " ++ (decimal ballooned
-    ++ (codes " actual " ++ (decimal actual
-    ++ (codes " target " ++ (decimal target
-    ++ (codes " status " ++ decimal status))))))
-reply_text (Statistics free total) =
-    codes "memory" ++ (statistic_text free ++ statistic_text total)
+reply_text (Balloon state) =
+    codes "ballooned " ++ (decimal state.ballooned
+    ++ (codes " actual " ++ (decimal state.actual
+    ++ (codes " target " ++ (decimal state.target
+    ++ (codes " status " ++ decimal state.status))))))
+reply_text (Statistics last) =
+    codes "memory" ++ (statistic_text last.free ++ statistic_text last.total)
 reply_text (Backing None) = codes "no backing"
 reply_text (Backing (Some frame)) = codes "frame " ++ decimal frame
 reply_text (Frames used free) =

@@ -15,7 +15,7 @@ ghost use Rattle.vb_reply.specs.Replies.{statistic_text, target_text, targets_te
 use crate::held::{Failed, Held, put, put_digits, put_number, put_with, release};
 use std::io;
 use std::io::Write;
-use vb_model::{PageRun, PlaceCounts, Refusal, Reply};
+use vb_model::{BalloonState, LastStatistics, PageRun, PlaceCounts, Refusal, Reply};
 
 /// Writes what an event was answered as one line, which ends in a line feed. Fails where a write to
 /// `out` does; what was written until then is part of the line.
@@ -102,13 +102,8 @@ fn put_text<W: Write>(out: &mut W, held: &mut Held, reply: &Reply) -> Result<(),
         Reply::Targets { pages } => put_targets(out, held, pages.as_slice()),
         Reply::Places { counts } => put_counts(out, held, *counts),
         Reply::Pages { runs } => put_runs(out, held, runs.as_slice()),
-        Reply::Balloon {
-            ballooned,
-            actual,
-            target,
-            status,
-        } => put_balloon(out, held, *ballooned, *actual, *target, *status),
-        Reply::Statistics { free, total } => put_statistics(out, held, *free, *total),
+        Reply::Balloon { state } => put_balloon(out, held, *state),
+        Reply::Statistics { last } => put_statistics(out, held, *last),
         Reply::Backing { frame: None } => put(out, held, b"no backing"),
         Reply::Backing { frame: Some(frame) } => put_with(out, held, b"frame ", *frame),
         Reply::Frames { used, free } => {
@@ -154,19 +149,20 @@ fn put_swept<W: Write>(out: &mut W, held: &mut Held, freed: bool) -> Result<(), 
 }
 
 /// Puts the count of ballooned pages, the configuration's two numbers, and the status.
-fn put_balloon<W: Write>(
-    out: &mut W,
-    held: &mut Held,
-    ballooned: u32,
-    actual: u32,
-    target: u32,
-    status: u32,
-) -> Result<(), Failed>
+fn put_balloon<W: Write>(out: &mut W, held: &mut Held, state: BalloonState) -> Result<(), Failed>
     ensures { OnOk result (Puts (W.contents out.old) held.old.text.items (W.contents out.new)
-        held.new.text.items (reply_text (Balloon ballooned actual target status))) }
+        held.new.text.items (reply_text (Balloon state))) }
 {
-    put_two(out, held, b"ballooned ", ballooned, b" actual ", actual)?;
-    put_two(out, held, b" target ", target, b" status ", status)
+    let status = u32::from(state.status);
+    put_two(
+        out,
+        held,
+        b"ballooned ",
+        state.ballooned,
+        b" actual ",
+        state.actual,
+    )?;
+    put_two(out, held, b" target ", state.target, b" status ", status)
 }
 
 /// Puts bytes as hexadecimal digits of lower case.
@@ -267,15 +263,15 @@ fn put_run<W: Write>(out: &mut W, held: &mut Held, run: PageRun) -> Result<(), F
 fn put_statistics<W: Write>(
     out: &mut W,
     held: &mut Held,
-    free: Option<u64>,
-    total: Option<u64>,
+    last: LastStatistics,
 ) -> Result<(), Failed>
     ensures { OnOk result (Puts (W.contents out.old) held.old.text.items (W.contents out.new)
-        held.new.text.items (codes "memory" ++ (statistic_text free ++ statistic_text total))) }
+        held.new.text.items (codes "memory"
+        ++ (statistic_text last.free ++ statistic_text last.total))) }
 {
     put(out, held, b"memory")?;
-    put_statistic(out, held, free)?;
-    put_statistic(out, held, total)
+    put_statistic(out, held, last.free)?;
+    put_statistic(out, held, last.total)
 }
 
 /// Puts one statistic behind a space.

@@ -51,7 +51,7 @@ allowed false o line e = cc
 
 event_fits : (earlier : List ThreadsLine) (event : Event) (line : ThreadsLine)
     → event_line earlier event ≡ Some line → fits earlier line ≡ true
-event_fits earlier (Plugs pages queue_size processors) line e =
+event_fits earlier (Plugs size) line e =
     either_passes (is_later line) (are_plugs earlier) (allowed (are_plugs earlier) _ line e)
 event_fits earlier (OnGuest guest call) line e =
     let same : Call guest call ≡ line = cc in rw (← same) refl

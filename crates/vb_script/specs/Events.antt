@@ -71,7 +71,8 @@ two_number Backing guest page = Asking guest (AskBacking page)
 
 -- NAME NUMBER NUMBER NUMBER
 abbrev pub three_number : ThreeNumbers → ℕ → ℕ → ℕ → Event
-three_number Plug pages queue_size processors = Plugs pages queue_size processors
+three_number Plug pages queue_size processors =
+    Plugs (record { pages = pages; queue_size = queue_size; processors = processors })
 three_number Alloc guest cpu order = OnGuest guest (CallAlloc cpu order)
 three_number Finish guest queue index = OnGuest guest (CallFinish queue index)
 

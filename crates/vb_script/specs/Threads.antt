@@ -30,8 +30,8 @@ are_plugs earlier = is_plug_or_none (slice_get earlier (length earlier - 1))
 
 -- of the events a plug at its place, and each call
 abbrev pub event_line : List ThreadsLine → Event → Option ThreadsLine
-event_line earlier (Plugs pages queue_size processors) =
-    if are_plugs earlier then Some (Plug pages queue_size processors) else None
+event_line earlier (Plugs size) =
+    if are_plugs earlier then Some (Plug size.pages size.queue_size size.processors) else None
 event_line earlier (OnGuest guest call) = Some (Call guest call)
 event_line earlier _ = None
 

@@ -20,7 +20,7 @@ use crate::values::{bytes, features, number, positive};
 use crate::words::Words;
 use std::alloc::Global;
 use vb_model::negotiation::OFFERED_FEATURES;
-use vb_model::{Bytes, Call, Event, Query};
+use vb_model::{Bytes, Call, Event, GuestSize, Query};
 
 impl Item for Event {
     ghost use Rattle.vb_script.specs.Texts.{events};
@@ -189,9 +189,11 @@ fn of_three(name: ThreeNumbers, first: u32, second: u32, third: u32) -> Event
 {
     match name {
         ThreeNumbers::Plug => Event::Plug {
-            pages: first,
-            queue_size: second,
-            processors: third,
+            size: GuestSize {
+                pages: first,
+                queue_size: second,
+                processors: third,
+            },
         },
         ThreeNumbers::Alloc => on_guest(
             first,

@@ -14,7 +14,7 @@ use crate::names::{THREADS_FORMS, ThreadsForm, find};
 use crate::reading::Item;
 use crate::words::Words;
 use std::alloc::Global;
-use vb_model::{Call, Event};
+use vb_model::{Call, Event, GuestSize};
 
 /// What a line behind the spare devices says.
 #[derive(Drop)]
@@ -104,30 +104,21 @@ fn of_event(earlier: &[ThreadsLine], event: Event) -> Option<ThreadsLine>
 {
     match event {
         Event::Guest { guest, call } => Some(ThreadsLine::Call { guest, call }),
-        Event::Plug {
-            pages,
-            queue_size,
-            processors,
-        } => plug(earlier, pages, queue_size, processors),
+        Event::Plug { size } => plug(earlier, size),
         _ => None,
     }
 }
 
 /// A plug, if it is at its place.
-fn plug(
-    earlier: &[ThreadsLine],
-    pages: u32,
-    queue_size: u32,
-    processors: u32,
-) -> Option<ThreadsLine>
-    ensures { result ≡ event_line earlier.now (Plugs pages queue_size processors) }
+fn plug(earlier: &[ThreadsLine], size: GuestSize) -> Option<ThreadsLine>
+    ensures { result ≡ event_line earlier.now (Plugs size) }
 {
     if !are_plugs(earlier) {
         return None;
     }
     Some(ThreadsLine::Plug {
-        pages,
-        queue_size,
-        processors,
+        pages: size.pages,
+        queue_size: size.queue_size,
+        processors: size.processors,
     })
 }

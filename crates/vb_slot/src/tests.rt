@@ -342,12 +342,8 @@ fn call_of(plain: Plain) -> Call {
 fn answer_in(reply: &Reply) -> Answer {
     match reply {
         Reply::Places { counts } => Answer::Places(counts.free, counts.used),
-        Reply::Balloon {
-            ballooned,
-            actual,
-            ..
-        } => Answer::Balloon(*ballooned, *actual),
-        Reply::Statistics { free, total } => Answer::Statistics(*free, *total),
+        Reply::Balloon { state } => Answer::Balloon(state.ballooned, state.actual),
+        Reply::Statistics { last } => Answer::Statistics(last.free, last.total),
         Reply::Backing { frame } => Answer::Frame(*frame),
         Reply::Refused(refusal) => Answer::Refused(*refusal),
         _ => Answer::Other,

@@ -8,6 +8,7 @@ use Rattle.std.proofs.lemmas.Bool.{cases_lt}
 use Rattle.std.specs.List.{remove}
 use Rattle.std.proofs.lemmas.Bool.Decides.{eqb_tells, nat_tests}
 use Rattle.slab.specs.Slab.{Slab, get, slab_len, Updates}
+use Rattle.vb_model.specs.declared.calls.Event.{Event}
 use Rattle.vb_model.specs.declared.calls.Event.TheVariants.{Plug}
 use Rattle.vb_model.specs.declared.replies.Reply.{Reply}
 use Rattle.vb_model.specs.declared.replies.Reply.TheVariants.{Plugged, Refused}
@@ -223,22 +224,27 @@ at_most m n h = grind (arith, nat_tests)
 above : (m n : ℕ) → n < m → nat_le m n ≡ false
 above m n h = grind (arith, nat_tests)
 
+-- the event that plugs in a guest of this size
+abbrev plug : (pages queue_size processors : ℕ) → Event
+plug pages queue_size processors =
+    Plug (record { pages = pages; queue_size = queue_size; processors = processors })
+
 pub bad_config : (w : World) (pages queue_size processors : ℕ)
     → is_config pages queue_size processors ≡ false
-    → WorldStep w (Plug pages queue_size processors) (Refused BadConfig) w
+    → WorldStep w (plug pages queue_size processors) (Refused BadConfig) w
 bad_config w pages queue_size processors e = rw e (refl, refl)
 
 module _ {S D : Type 0} (Stand : S → Guest → Type 0) (Spare : D → Bool → Type 0) (slots : Slab S)
     (out : List Bool) (devices : List D) (w : World) (pages queue_size processors : ℕ) where
   pub too_many : IsHost Stand Spare slots out devices w
       → is_config pages queue_size processors ≡ true → max_guests ≤ slab_len slots
-      → WorldStep w (Plug pages queue_size processors) (Refused TooMany) w
+      → WorldStep w (plug pages queue_size processors) (Refused TooMany) w
   too_many host e most =
       rw (e, at_most max_guests (plugged_count w) (omega (arith, most, host.count))) (refl, refl)
 
   pub no_device : IsHost Stand Spare slots out devices w
       → is_config pages queue_size processors ≡ true → slab_len slots < max_guests
-      → length devices ≡ 0 → WorldStep w (Plug pages queue_size processors) (Refused NoDevice) w
+      → length devices ≡ 0 → WorldStep w (plug pages queue_size processors) (Refused NoDevice) w
   no_device host e few none =
       rw (
         e,
@@ -255,7 +261,7 @@ module _ {S D : Type 0} (Stand : S → Guest → Type 0) (Spare : D → Bool →
       → is_config pages queue_size processors ≡ true → slab_len slots < max_guests
       → 0 < length devices
       → PlugsIn pages queue_size processors w.spares w reply new
-      → WorldStep w (Plug pages queue_size processors) reply new
+      → WorldStep w (plug pages queue_size processors) reply new
   plug_happens reply new host e few some happens =
       rw (
         e,

@@ -23,7 +23,7 @@ use vb_balance::{GuestNeed, targets};
 use vb_device::Device;
 use vb_frames::FrameTable;
 use vb_model::limits::{MAX_FRAMES, MAX_GUESTS};
-use vb_model::{Call, Event, Query, Refusal, Reply};
+use vb_model::{Call, Event, GuestSize, Query, Refusal, Reply};
 use vb_ram::Config;
 use vb_slot::Slot;
 
@@ -127,13 +127,13 @@ impl World {
     }
 
     /// A guest is plugged in, with the first spare device.
-    fn plug(&mut self, alloc: Global, pages: u32, queue_size: u32, processors: u32) -> Reply
+    fn plug(&mut self, alloc: Global, size: GuestSize) -> Reply
         requires world { (w : Model) × IsWorld mem part self.old w }
         ensures { (w : Model) → IsWorld mem part self.old w →
             (new : Model) × IsWorld mem part self.new new ×
-            WorldStep w (Plug pages queue_size processors) result new }
+            WorldStep w (Plug size) result new }
     {
-        let Some(config) = Config::new(pages, queue_size, processors) else {
+        let Some(config) = Config::new(size.pages, size.queue_size, size.processors) else {
             return Reply::Refused(Refusal::BadConfig);
         };
         if self.slots.len() >= MAX_GUESTS as usize {
@@ -262,11 +262,7 @@ impl World {
             (new : Model) × IsWorld mem part self.new new × WorldStep w event.now result new }
     {
         match event {
-            Event::Plug {
-                pages,
-                queue_size,
-                processors,
-            } => self.plug(alloc, *pages, *queue_size, *processors),
+            Event::Plug { size } => self.plug(alloc, *size),
             Event::Unplug { guest } => self.unplug(*guest),
             Event::Restart { guest } => self.restart(*guest),
             Event::Guest { guest, call } => self.call(alloc, *guest, call),

@@ -105,14 +105,8 @@ fn sizes_of(events: &[Event]) -> Option<Config>
         (λ sizes. is_config sizes.pages sizes.queue_size sizes.processors ≡ true) }
 {
     match events.first() {
-        Some(
-            Event::Plug {
-                pages,
-                queue_size,
-                processors,
-            },
-        ) => {
-            let sizes = Config::new(*pages, *queue_size, *processors)?;
+        Some(Event::Plug { size }) => {
+            let sizes = Config::new(size.pages, size.queue_size, size.processors)?;
             Some(sizes)
         }
         _ => None,

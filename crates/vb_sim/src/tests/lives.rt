@@ -9,7 +9,7 @@ use std::alloc::{AllocError, Global};
 use std::process::Abort;
 use std::test::Fail;
 use vb_device::{Device, ImmediateDevice, PacedDevice};
-use vb_model::{Bytes, Call, Event, PlaceCounts, Query, Reply};
+use vb_model::{Bytes, Call, Event, GuestSize, PlaceCounts, Query, Reply};
 use vb_script::{Pace, Script};
 use vb_world::{World, add_spare};
 
@@ -228,14 +228,12 @@ fn add_all_questions(script: &mut Script) -> Result<(), AllocError> {
 
 /// Plugs in a guest.
 fn add_plug(script: &mut Script) -> Result<(), AllocError> {
-    add(
-        script,
-        Event::Plug {
-            pages: PAGES,
-            queue_size: 8,
-            processors: 2,
-        },
-    )
+    let size = GuestSize {
+        pages: PAGES,
+        queue_size: 8,
+        processors: 2,
+    };
+    add(script, Event::Plug { size })
 }
 
 /// Whoever makes up a script.

@@ -13,8 +13,8 @@ ghost use Rattle.vb_slot.specs.Slots.{OfItsGuest, SlotAnswers};
 use crate::slot::Slot;
 use std::alloc::{AllocError, Global};
 use vb_device::{Device, Statistics};
-use vb_guest::{BalloonState, MAX_CLAIMS};
-use vb_model::{Claim, PageRuns, Place, PlaceCounts, Query};
+use vb_guest::MAX_CLAIMS;
+use vb_model::{BalloonState, Claim, PageRuns, Place, PlaceCounts, Query};
 
 impl Slot {
     /// How many pages the guest has.

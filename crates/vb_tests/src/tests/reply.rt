@@ -5,7 +5,9 @@ use std::alloc::{AllocError, Global};
 use std::io;
 use std::io::{ErrorKind, Write};
 use std::process::Abort;
-use vb_model::{Bytes, Numbers, PageRun, PageRuns, PlaceCounts, Refusal, Reply};
+use vb_model::{
+    BalloonState, Bytes, LastStatistics, Numbers, PageRun, PageRuns, PlaceCounts, Refusal, Reply,
+};
 use vb_reply::{write_replies, write_reply};
 
 /// The text that is written of a reply.
@@ -81,12 +83,13 @@ fn numbers(rt: HostRuntime) {
 
 #[test]
 fn views(rt: HostRuntime) {
-    let balloon = Reply::Balloon {
+    let state = BalloonState {
         ballooned: 47,
         actual: 46,
         target: 48,
         status: 143,
     };
+    let balloon = Reply::Balloon { state };
     let line = "ballooned 47 actual 46 target 48 status 143";
     check(&rt, rt.alloc(), balloon, line);
     let counts = PlaceCounts {
@@ -113,7 +116,8 @@ static STATISTICS: [(Option<u64>, Option<u64>, &str); 3] = [
 fn statistics(rt: HostRuntime) {
     for (free, total, line) in &STATISTICS {
         let (free, total) = (*free, *total);
-        check(&rt, rt.alloc(), Reply::Statistics { free, total }, line);
+        let last = LastStatistics { free, total };
+        check(&rt, rt.alloc(), Reply::Statistics { last }, line);
     }
 }
 
@@ -338,17 +342,21 @@ const LARGE: [(Reply, &str); 7] = [
     ),
     (
         Reply::Balloon {
-            ballooned: u32::MAX,
-            actual: u32::MAX,
-            target: u32::MAX,
-            status: u32::MAX,
+            state: BalloonState {
+                ballooned: u32::MAX,
+                actual: u32::MAX,
+                target: u32::MAX,
+                status: u8::MAX,
+            },
         },
-        "ballooned 4294967295 actual 4294967295 target 4294967295 status 4294967295",
+        "ballooned 4294967295 actual 4294967295 target 4294967295 status 255",
     ),
     (
         Reply::Statistics {
-            free: Some(u64::MAX),
-            total: Some(u64::MAX),
+            last: LastStatistics {
+                free: Some(u64::MAX),
+                total: Some(u64::MAX),
+            },
         },
         "memory 18446744073709551615 18446744073709551615",
     ),

@@ -38,11 +38,11 @@ pub type Shown<'a> = (&'static str, [u32; 4], &'a [u8]);
 /// What the line of an event shows.
 fn shown(event: &Event) -> Shown<'_> {
     match event {
-        Event::Plug {
-            pages,
-            queue_size,
-            processors,
-        } => ("plug", [*pages, *queue_size, *processors, 0], &[]),
+        Event::Plug { size } => (
+            "plug",
+            [size.pages, size.queue_size, size.processors, 0],
+            &[],
+        ),
         Event::Unplug { guest } => ("unplug", [*guest, 0, 0, 0], &[]),
         Event::Restart { guest } => ("restart", [*guest, 0, 0, 0], &[]),
         Event::Balance { floor } => ("balance", [*floor, 0, 0, 0], &[]),

@@ -1,7 +1,7 @@
 use Rattle.std.proofs.Common.{ℕ, ◌≡◌, get_or, true, None, sym, ◌∙◌, ap, subst, rules}
 use Rattle.std.specs.Prelude.{vec_capacity}
 use Rattle.std.proofs.Math.ListN.{set}
-use Rattle.vb_model.specs.Guest.{LastStatistics}
+use Rattle.vb_model.specs.declared.replies.LastStatistics.{LastStatistics}
 use Rattle.vb_model.specs.Tables.{has_chains}
 use Rattle.vb_status.specs.Bits.{status_bits, feature_bits}
 use Rattle.vb_request.specs.declared.statistics.Statistics.{Statistics}

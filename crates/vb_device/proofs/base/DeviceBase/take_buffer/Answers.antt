@@ -1,7 +1,7 @@
 use Rattle.std.proofs.Common.{ℕ, ◌≡◌, ◌<◌, ◌∙◌, [], None, true, get_or, ap, sym, subst, refl, arith}
 use Rattle.std.proofs.Common.{rules}
 use Rattle.std.proofs.Math.ListN.{set}
-use Rattle.vb_model.specs.Guest.{LastStatistics}
+use Rattle.vb_model.specs.declared.replies.LastStatistics.{LastStatistics}
 use Rattle.vb_model.specs.Status.{contains, driver_ok}
 use Rattle.vb_model.specs.Layout.{ring_page}
 use Rattle.vb_ring.specs.Layout.{IsBacked, layout_of}

@@ -2,7 +2,7 @@ use Rattle.std.proofs.Common.{◌≡◌, ◌∙◌, ℕ, List, Some, get_or, tru
 use Rattle.std.specs.Prelude.{length, slice_get, vec_capacity}
 use Rattle.std.proofs.Math.ListN.{set}
 use Rattle.std.proofs.lemmas.Option.{slice_get_within}
-use Rattle.vb_model.specs.Guest.{LastStatistics}
+use Rattle.vb_model.specs.declared.replies.LastStatistics.{LastStatistics}
 use Rattle.vb_model.specs.Layout.{ring_page}
 use Rattle.vb_model.specs.Status.{contains, driver_ok}
 use Rattle.vb_model.specs.Tables.{has_chains}

@@ -1,5 +1,5 @@
 use Rattle.std.proofs.Common.{ℕ, ◌≡◌, get_or, ◌∙◌, ap, sym, subst, true}
-use Rattle.vb_model.specs.Guest.{LastStatistics}
+use Rattle.vb_model.specs.declared.replies.LastStatistics.{LastStatistics}
 use Rattle.std.proofs.Math.ListN.{set}
 use Rattle.vb_model.specs.Status.{contains, driver_ok}
 use Rattle.vb_status.specs.Bits.{status_bits, feature_bits}

@@ -10,7 +10,7 @@ use Rattle.vb_chain.specs.Table.{descriptor_at}
 use Rattle.vb_ring.specs.declared.device.Taken.{Taken}
 use Rattle.vb_ring.specs.Calls.{PopsBy, popped}
 use Rattle.vb_request.specs.Asked.{request_of, noted}
-use Rattle.vb_model.specs.Guest.{LastStatistics}
+use Rattle.vb_model.specs.declared.replies.LastStatistics.{LastStatistics}
 use Rattle.vb_device.specs.QueueState.{QueueState, IsTaken, is_full, TakesNext}
 use Rattle.vb_model.specs.Layout.{reserved_pages}
 use Rattle.vb_device.proofs.FromNext.{next_busy, next_idle}

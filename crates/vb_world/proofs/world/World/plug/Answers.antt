@@ -8,7 +8,7 @@ returns-in_default g c =
     λ w host. (
       w,
       host,
-      bad_config w c.args.pages c.args.queue_size c.args.processors
+      bad_config w c.args.size.pages c.args.size.queue_size c.args.size.processors
           (config_none _ _ _ c.new.ensures c.in_default.is),
     )
 
@@ -17,7 +17,7 @@ returns-then-len g c = λ w host.
     let config = config_some _ _ _ _ c.new.ensures c.in-Some.is in (
       w,
       host,
-      too_many _ _ _ _ _ w c.args.pages c.args.queue_size c.args.processors host config.fits
+      too_many _ _ _ _ _ w c.args.size.pages c.args.size.queue_size c.args.size.processors host config.fits
           (omega (arith, c.if-len.true, c.len.ensures)),
     )
 
@@ -26,7 +26,7 @@ returns-then-is_empty g c = λ w host.
     let config = config_some _ _ _ _ c.new.ensures c.in-Some.is in (
       w,
       host,
-      no_device _ _ _ _ _ w c.args.pages c.args.queue_size c.args.processors host
+      no_device _ _ _ _ _ w c.args.size.pages c.args.size.queue_size c.args.size.processors host
           config.fits (omega (arith, c.if-len.false, c.len.ensures))
           (omega (arith, none_there c.if-is_empty.ensures, c.args.self.now.spares.ok)),
     )
@@ -42,7 +42,7 @@ returns g c = λ w host.
     let (new, stands, plugs) = c.plug_first_spare.ensures w host in (
       new,
       stands,
-      plug_happens _ _ _ _ _ w c.args.pages c.args.queue_size c.args.processors _ new
+      plug_happens _ _ _ _ _ w c.args.size.pages c.args.size.queue_size c.args.size.processors _ new
           host config.fits (omega (arith, c.if-len.false, c.len.ensures))
           (omega (arith, some_there c.if-is_empty.ensures, c.args.self.now.spares.ok))
           (rw config.same at plugs),
