@@ -9,7 +9,7 @@ enum { GROUPS = false, MOST_AT_ONCE = 1 };
 enum { GROUPS = true, MOST_AT_ONCE = VB_MAX_CUTS };
 #endif
 
-/* What a notice waits for, in its field `index`. */
+/* What a notice waits for, in its field `phase`. */
 enum phase { NO_PHASE, AT_INDEX, AT_ENTRY, AT_WORD, AT_DESCRIPTOR, AT_PART, AT_TOLD, AT_FIGURES, AT_CUT, AT_GIVEN, AT_FLAGS, AT_FLAG_WORD };
 
 /* All that a call works on. */
@@ -42,7 +42,7 @@ static bool find_spot(const Call *call, uint64_t address, uint64_t length, VbSpo
 
 static uint32_t wait_for(const Call *call, enum phase phase, uint32_t what)
 {
-    call->notice->index = phase;
+    call->notice->phase = (uint8_t)phase;
     return call->notice->what = what;
 }
 
@@ -128,21 +128,21 @@ static uint32_t after_entry(const Call *call, uint16_t head)
 static uint32_t serve_bytes(const Call *call);
 static uint32_t tell_pages(const Call *call, const VbNamed *named);
 
-/* Asks for the next part of the pieces, each within a page; `number` is the piece, `element` says that its first part is
+/* Asks for the next part of the pieces, each within a page; `number` is the piece, `flag` says that its first part is
  * copied, `from` how many bytes are. */
 static uint32_t ask_part(const Call *call)
 {
     VbNotice *notice = call->notice;
-    for (; notice->number < notice->count; notice->number++, notice->element = 0) {
+    for (; notice->number < notice->count; notice->number++, notice->flag = 0) {
         const VbPiece piece = call->room->pieces[notice->number];
         uint32_t first = (uint32_t)(REGION_PAGE - piece.address % REGION_PAGE);
         first = first < piece.length ? first : piece.length;
-        uint32_t length = notice->element ? piece.length - first : first;
+        uint32_t length = notice->flag ? piece.length - first : first;
         if (length == 0)
             continue;
         if (notice->from > VB_MAX_BYTES || length > VB_MAX_BYTES - notice->from)
             return fail(call, BAD_LENGTH);
-        if (!find_spot(call, piece.address + (notice->element ? first : 0), length, &notice->at))
+        if (!find_spot(call, piece.address + (notice->flag ? first : 0), length, &notice->at))
             return fail(call, OUT_OF_MEMORY);
         notice->length = length;
         notice->into = (uint32_t)notice->from;
@@ -155,8 +155,8 @@ static uint32_t after_part(const Call *call)
 {
     VbNotice *notice = call->notice;
     notice->from += notice->length;
-    notice->number += notice->element != 0;
-    notice->element = !notice->element;
+    notice->number += notice->flag != 0;
+    notice->flag = !notice->flag;
     return ask_part(call);
 }
 
@@ -188,7 +188,7 @@ static uint32_t serve_chain(const Call *call)
     uint32_t rule = buffer_rule(notice->kind, call->room->pieces, notice->count, total);
     if (rule)
         return fail(call, rule);
-    notice->number = 0, notice->element = 0, notice->from = 0;
+    notice->number = 0, notice->flag = 0, notice->from = 0;
     return ask_part(call);
 }
 
@@ -315,9 +315,9 @@ static uint32_t step(const Call *call, uint16_t answer)
     VbNotice *notice = call->notice;
     bool holds = notice->count <= VB_MAX_PIECES && notice->runs <= VB_MAX_RUNS && notice->length <= VB_MAX_BYTES
         && notice->cuts <= VB_MAX_CUTS;
-    if (!call->queue || !holds || call->queue->size > VB_MAX_QUEUE_SIZE || (call->queue->size == 0 && notice->index != NO_PHASE))
+    if (!call->queue || !holds || call->queue->size > VB_MAX_QUEUE_SIZE || (call->queue->size == 0 && notice->phase != NO_PHASE))
         return stop(call, VB_BAD_ARGUMENT);
-    switch (notice->index) {
+    switch (notice->phase) {
     case AT_INDEX: return after_index(call, answer);
     case AT_ENTRY: return wait_for(call, AT_WORD, VB_READ);
     case AT_WORD: return after_entry(call, answer);

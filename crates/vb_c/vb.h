@@ -128,18 +128,18 @@ typedef struct {
     uint32_t pages, skipped;
     uint32_t figures;           /* VB_TELL_FIGURES */
     uint32_t cuts;              /* VB_DISCARD */
-    uint32_t id, used_length;   /* VB_GIVE_BACK */
+    VbSpot id_at, length_at, index_at;          /* VB_GIVE_BACK */
+    uint32_t id, used_length;
     uint16_t used_index;
-    VbSpot id_at, length_at, index_at;
+    size_t number, from;        /* these four: what the library remembers */
+    uint64_t in_file, cut_length;
     uint32_t code, rule;        /* at the end: VB_OK where a chain was served; VB_NOTHING; or why the last one wasn't */
     uint32_t interrupt;         /* at the end: 1 where the driver wants an interrupt for its used buffers, else 0 */
     uint32_t configuration;     /* at the end: 1 where the driver is to be told of a change of configuration, else 0 */
     uint32_t more;              /* at the end: 1 where another chain stands there, for which there was no budget, else 0 */
-    uint32_t chains_left, pages_left;           /* what the library remembers */
+    uint32_t chains_left, pages_left;           /* these too */
     uint16_t head, count, taken_head;
-    uint8_t given, taken, flag;
-    size_t number, from;
-    uint64_t element, index;
+    uint8_t given, taken, flag, phase;
 } VbNotice;
 
 /* The room that a notice needs, whatever stands in it at first; then the library's to write, but for `bytes`. One room
@@ -179,11 +179,12 @@ VB_ASSERT(sizeof(VbSpot) == 16 && offsetof(VbSpot, offset) == 8);
 VB_ASSERT(sizeof(VbCut) == 32 && offsetof(VbCut, offset) == 8 && offsetof(VbCut, in_file) == 16
           && offsetof(VbCut, length) == 24);
 VB_ASSERT(sizeof(VbBalloon) == 184 && offsetof(VbBalloon, held) == 176);
-VB_ASSERT(sizeof(VbNotice) == 184 && offsetof(VbNotice, at) == 8 && offsetof(VbNotice, length) == 24
-          && offsetof(VbNotice, runs) == 32 && offsetof(VbNotice, figures) == 44 && offsetof(VbNotice, id) == 52
-          && offsetof(VbNotice, id_at) == 64 && offsetof(VbNotice, code) == 112
-          && offsetof(VbNotice, chains_left) == 132 && offsetof(VbNotice, given) == 146
-          && offsetof(VbNotice, number) == 152 && offsetof(VbNotice, index) == 176);
+VB_ASSERT(sizeof(VbNotice) == 192 && offsetof(VbNotice, at) == 8 && offsetof(VbNotice, length) == 24
+          && offsetof(VbNotice, runs) == 32 && offsetof(VbNotice, figures) == 44 && offsetof(VbNotice, id_at) == 56
+          && offsetof(VbNotice, id) == 104 && offsetof(VbNotice, used_index) == 112
+          && offsetof(VbNotice, number) == 120 && offsetof(VbNotice, in_file) == 136
+          && offsetof(VbNotice, code) == 152 && offsetof(VbNotice, chains_left) == 172
+          && offsetof(VbNotice, given) == 186 && offsetof(VbNotice, phase) == 189);
 VB_ASSERT(sizeof(VbRoom) == 9824 && offsetof(VbRoom, bytes) == 4096 && offsetof(VbRoom, runs) == 5120
           && offsetof(VbRoom, figures) == 7168 && offsetof(VbRoom, cuts) == 8800);
 

@@ -1,2 +1,2 @@
 pub mod ShowLemmas
-pub mod ServeLemmas
+mod NoticeFacts

@@ -1,16 +1,16 @@
 -- A notice as C keeps it: which notice it is, and what else it says.
-use Rattle.std.specs.Prelude.{◌≡◌, ℕ, ◌+◌, Bool, true, false, not, ◌==◌, nat_le, List, slice_get}
+use Rattle.std.specs.Prelude.{◌≡◌, ℕ, ◌+◌, ◌*◌, Bool, true, false, not, ◌==◌, nat_le}
 use Rattle.std.specs.Prelude.{if◌then◌else◌, Option, Some, None}
 use Rattle.vb_model.specs.Tests.{one_if}
 use Rattle.vb_core.specs.declared.kinds.Kind.{Kind}
-use Rattle.vb_core.specs.declared.name.Named.{Named}
-use Rattle.vb_core.specs.declared.ring.UsedEntry.{UsedEntry}
 use Rattle.vb_core.specs.declared.device.Denial.{Denial}
 use Rattle.vb_core.specs.declared.device.Denial.TheVariants.{NoQueue, BadArgument, NotReady}
 use Rattle.vb_core.specs.declared.device.Denial.TheVariants.{NeedsReset, Misplaced, Broken}
 use Rattle.vb_monitor.specs.declared.room.TheConstants.{MAX_BYTES}
 use Rattle.vb_monitor.specs.declared.cuts.Cut.{Cut}
-use Rattle.vb_monitor.specs.declared.giving.UsedSpots.{UsedSpots}
+use Rattle.vb_monitor.specs.declared.orders.Told.{Told}
+use Rattle.vb_monitor.specs.declared.orders.Told.TheVariants.{Nothing, Pages, Figures}
+use Rattle.vb_monitor.specs.declared.orders.Asked.{Asked}
 use Rattle.vb_monitor.specs.declared.outcome.Tally.{Tally}
 use Rattle.vb_monitor.specs.declared.step.Walk.{Walk}
 use Rattle.vb_monitor.specs.declared.step.Place.{Place}
@@ -52,21 +52,14 @@ place_of c = record {
 }
 
 abbrev pub discarding_of : VbNotice → Discarding
-discarding_of c = record { head = c.head; runs = c.runs; run = c.number; from = c.from }
+discarding_of c = record { head = c.head; runs = c.length; run = c.number; from = c.from }
 
-abbrev pub named_of_notice : VbNotice → Named
-named_of_notice c = record { runs = c.runs; pages = c.pages; skipped = c.skipped }
-
-abbrev pub spots_of : VbNotice → UsedSpots
-spots_of c = record { id = c.id_at; length = c.length_at; index = c.index_at }
-
-abbrev pub entry_of : VbNotice → UsedEntry
-entry_of c = record {
-  element_at = c.element;
-  index_at = c.index;
-  id = c.id;
-  length = c.used_length;
-  index = c.used_index;
+abbrev pub cut_of_notice : VbNotice → Cut
+cut_of_notice c = record {
+  region = c.at.region;
+  offset = c.at.offset;
+  in_file = c.in_file;
+  length = c.cut_length;
 }
 
 -- Bytes that have no room are copied by no notice.
@@ -74,24 +67,18 @@ abbrev pub part_of : VbNotice → Option Phase
 part_of c =
     if nat_le (c.into + c.length) MAX_BYTES then Some (AwaitsPart c.at (place_of c)) else None
 
-abbrev pub discards_of : VbNotice → Option Cut → Option Phase
-discards_of c None = None
-discards_of c (Some cut) = Some (Discards cut (discarding_of c))
-
--- What is to be done, with the parts that are to be discarded; nothing is done otherwise.
-abbrev pub phase_of : VbNotice → List Cut → Option Phase
-phase_of c cuts =
-    if c.what == 0
+-- What it waits for, by its number: an answer, or room for the next part that is discarded. It
+-- waits for nothing once it has ended.
+abbrev pub phase_of : VbNotice → Option Phase
+phase_of c =
+    if c.phase == 0
     then Some (Ended (why_of c.code c.rule) (says_yes c.interrupt) (says_yes c.more))
-    else if c.what == 64 then Some (AwaitsIndex c.at)
-    else if c.what == 80 then Some (AwaitsEntry c.at)
-    else if c.what == 384 then Some (AwaitsDescriptor c.at (walk_of c))
-    else if c.what == 128 then part_of c
-    else if c.what == 1 then Some (TellsPages c.head (named_of_notice c))
-    else if c.what == 2 then Some (TellsFigures c.head c.figures)
-    else if c.what == 4 then discards_of c (slice_get cuts 0)
-    else if c.what == 8 then Some (GivesBack (spots_of c) (entry_of c))
-    else if c.what == 96 then Some (AwaitsFlags c.at (why_of c.code c.rule) (says_yes c.more))
+    else if c.phase == 1 then Some (AwaitsIndex c.at)
+    else if c.phase == 2 then Some (AwaitsEntry c.at)
+    else if c.phase == 3 then Some (AwaitsDescriptor c.at (walk_of c))
+    else if c.phase == 4 then part_of c
+    else if c.phase == 5 then Some (AwaitsFlags c.at (why_of c.code c.rule) (says_yes c.more))
+    else if c.phase == 6 then Some (Discards (cut_of_notice c) (discarding_of c))
     else None
 
 abbrev pub notice_by : Option Kind → Option Phase → Tally → Option Notice
@@ -100,8 +87,8 @@ notice_by (Some kind) None tally = None
 notice_by (Some kind) (Some phase) tally =
     Some (record { kind = kind; step = record { tally = tally; phase = phase } })
 
-abbrev pub notice_of : VbNotice → List Cut → Option Notice
-notice_of c cuts = notice_by (kind_of_code c.kind) (phase_of c cuts) (tally_of c)
+abbrev pub notice_of : VbNotice → Option Notice
+notice_of c = notice_by (kind_of_code c.kind) (phase_of c) (tally_of c)
 
 -- ---- what else it says
 
@@ -148,23 +135,53 @@ Says c tally (AwaitsDescriptor at walk) = (c.into ≡ 0) × (c.length ≡ 16)
 Says c tally (AwaitsPart at place) = Unit {0}
 Says c tally (TellsPages head named) = Unit {0}
 Says c tally (TellsFigures head count) = Unit {0}
-Says c tally (Discards cut x) = c.cuts ≡ 1
+Says c tally (Discards cut x) = Unit {0}
 Says c tally (GivesBack spots entry) = Unit {0}
 Says c tally (AwaitsFlags at why more) = Unit {0}
 Says c tally (Ended why interrupt more) = SaysEnd c tally why interrupt more
 
--- Of both the same was served, of a queue of the same kind.
-abbrev pub SameTally : VbNotice → VbNotice → Type 0
-SameTally c1 c2 = (tally_of c2 ≡ tally_of c1) × (c2.kind ≡ c1.kind)
+-- The bits of what needs no answer: pages are told, figures are, parts are discarded where there
+-- are any, and a chain is given back.
+abbrev pub told_bits : Told → ℕ
+told_bits Nothing = 0
+told_bits Pages = 1
+told_bits Figures = 2
 
--- It is this notice, and says all of it.
-pub record IsNotice (c : VbNotice) (cuts : List Cut) (n : Notice) : Type 0 where
-  pub read : notice_of c cuts ≡ Some n
+abbrev pub asked_bits : Asked → ℕ → ℕ
+asked_bits a cuts = told_bits a.told + (if cuts == 0 then 0 else 4) + 8 * one_if a.gives
+
+-- The bits of what is done for an answer: 16 and 32 are an acquire and a full fence, 64 reads a
+-- word, 128 copies bytes.
+abbrev pub answer_bits : Phase → ℕ
+answer_bits (AwaitsIndex at) = 64
+answer_bits (AwaitsEntry at) = 16 + 64
+answer_bits (AwaitsDescriptor at walk) = 128
+answer_bits (AwaitsPart at place) = 128
+answer_bits (AwaitsFlags at why more) = 32 + 64
+answer_bits (TellsPages head named) = 0
+answer_bits (TellsFigures head count) = 0
+answer_bits (Discards cut x) = 0
+answer_bits (GivesBack spots entry) = 0
+answer_bits (Ended why interrupt more) = 0
+
+-- All that is to be done: what needs no answer, and then what the notice waits for.
+abbrev pub what_of : Asked → ℕ → Phase → ℕ
+what_of a cuts phase = asked_bits a cuts + answer_bits phase
+
+-- Of both the same was served, of a queue of the same kind, and the same needs no answer.
+abbrev pub SameElse : VbNotice → VbNotice → Type 0
+SameElse c1 c2 = (tally_of c2 ≡ tally_of c1) × (c2.kind ≡ c1.kind) × (c2.orders ≡ c1.orders)
+
+-- It is this notice, and says all of it, and what was asked before.
+pub record IsNotice (c : VbNotice) (a : Asked) (n : Notice) : Type 0 where
+  pub read : notice_of c ≡ Some n
   pub says : Says c n.step.tally n.step.phase
+  pub what : c.what ≡ what_of a c.orders.cuts n.step.phase
 
 -- It has ended before anything was done, with this code.
 pub record HasEnded (c : VbNotice) (code : ℕ) : Type 0 where
   pub what : c.what ≡ 0
+  pub phase : c.phase ≡ 0
   pub code_is : c.code ≡ code
   pub rule : c.rule ≡ 0
   pub interrupt : c.interrupt ≡ 0

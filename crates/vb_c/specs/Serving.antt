@@ -5,7 +5,12 @@ use Rattle.vb_core.specs.declared.kinds.Kind.{Kind}
 use Rattle.vb_core.specs.declared.kinds.Kind.TheVariants.{Statistics}
 use Rattle.vb_core.specs.declared.device.Device.{Device}
 use Rattle.vb_core.specs.declared.device.Denial.TheVariants.{BadArgument, NoQueue}
+use Rattle.vb_core.specs.declared.next.Buffer.{Buffer}
+use Rattle.vb_core.specs.declared.runs.Run.{Run}
+use Rattle.vb_core.specs.declared.statistics.Statistic.{Statistic}
 use Rattle.vb_monitor.specs.declared.regions.Region.{Region}
+use Rattle.vb_monitor.specs.declared.cuts.Cut.{Cut}
+use Rattle.vb_monitor.specs.declared.orders.Asked.{Asked}
 use Rattle.vb_monitor.specs.declared.balloon.Balloon.{Balloon}
 use Rattle.vb_monitor.specs.declared.outcome.Budget.{Budget}
 use Rattle.vb_monitor.specs.declared.outcome.Outcome.{Outcome}
@@ -13,7 +18,8 @@ use Rattle.vb_monitor.specs.declared.notice.Notice.{Notice}
 use Rattle.vb_monitor.specs.Accesses.{Access}
 use Rattle.vb_monitor.specs.Balloons.{may_look, held_after}
 use Rattle.vb_monitor.specs.Notices.{Serves, Asks}
-use Rattle.vb_monitor.specs.Machine.{Fits, Room, Ahead, Does, whole, room_of, outcome_at}
+use Rattle.vb_monitor.specs.Machine.{Fits, waits, Room, Ahead, Awaited, whole, room_of, outcome_at}
+use Rattle.vb_monitor.specs.Orders.{at_once}
 use Rattle.vb_c.specs.declared.notice.VbNotice.{VbNotice}
 use Rattle.vb_c.specs.declared.notice.VbRoom.{VbRoom}
 use Rattle.vb_c.specs.Codes.{code_of}
@@ -36,17 +42,38 @@ pub record Refuses (code : ℕ) (b1 b2 : Balloon) (r1 r2 : VbRoom) (c : VbNotice
   pub balloon : b2 ≡ b1
   pub room : r2 ≡ r1
 
--- A notice begins: whatever may still come, the whole may come (`from`).
-pub record Begins (from : Device → Outcome → List Access → Type 0) (regions : List Region)
-    (kind : Kind) (b1 b2 : Balloon) (r1 r2 : VbRoom) (c : VbNotice) : Type 0 where
+-- A notice is handed over, with all that is done before it waits: behind that, whatever may still
+-- come then, all that could come may come.
+pub record HandsOver (n : Notice) (regions : List Region) (runs : List Run) (b1 b2 : Balloon)
+    (cuts : List Cut) (c : VbNotice) : Type 0 where
+  pub asked : Asked
   pub notice : Notice
-  pub is : IsNotice c r2.cuts notice
-  pub kind_is : notice.kind ≡ kind
-  pub step : (after : Device) (outcome : Outcome) (room : Room) (log : List Access) →
-      Ahead (whole regions kind after outcome) notice.step b2.device room log →
-      from after outcome log
+  pub is : IsNotice c asked notice
+  pub kind_is : notice.kind ≡ n.kind
+  pub step : (after : Device) (outcome : Outcome) (pieces : List Buffer) (bytes : List ℕ)
+      (figures : List Statistic) (rest : List Access) →
+      Ahead (whole regions n.kind after outcome) notice.step b2.device
+      (room_of pieces bytes runs figures) rest →
+      Ahead (whole regions n.kind after outcome) n.step b1.device
+      (room_of pieces bytes runs figures)
+      (at_once asked n.kind c.orders cuts runs figures rest)
+  pub waits_now : waits notice.step.phase ≡ true
   pub fits : Fits notice.step.phase
   pub held : b2.held ≡ held_then notice b1
+
+abbrev pub with_device : Device → Balloon → Balloon
+with_device d b = record b { device = d }
+
+-- A notice begins: whatever may still come, the whole may come (`from`). It is handed over then.
+pub record Begins (from : Device → Outcome → List Access → Type 0) (regions : List Region)
+    (kind : Kind) (b1 b2 : Balloon) (r1 r2 : VbRoom) (c : VbNotice) : Type 0 where
+  pub first : Notice
+  pub device : Device
+  pub kind_is : first.kind ≡ kind
+  pub step : (after : Device) (outcome : Outcome) (room : Room) (log : List Access) →
+      Ahead (whole regions kind after outcome) first.step device room log →
+      from after outcome log
+  pub hands : HandsOver first regions r2.runs (with_device device b1) b2 r2.cuts c
   pub room : room_in r2 ≡ room_in r1
 
 abbrev pub BeginsIf : Bool → List Region → Kind → Budget → Balloon → Balloon → VbRoom → VbRoom →
@@ -72,19 +99,18 @@ AsksFor (Some head) regions b1 b2 r1 r2 c =
     b1 b2 r1 r2 c
 
 -- A notice goes on with this answer: where this was done, and whatever may still come then, the
--- whole may come.
+-- whole may come. It is handed over then.
 pub record GoesOn (n : Notice) (regions : List Region) (answer : ℕ) (b1 b2 : Balloon)
     (r1 r2 : VbRoom) (c : VbNotice) : Type 0 where
-  pub notice : Notice
-  pub is : IsNotice c r2.cuts notice
-  pub kind_is : notice.kind ≡ n.kind
+  pub next : Notice
+  pub device : Device
+  pub kind_is : next.kind ≡ n.kind
   pub step : (after : Device) (outcome : Outcome) (before : List ℕ) (done rest : List Access) →
-      Does n.step.phase n.kind answer before (room_in r1) done →
-      Ahead (whole regions n.kind after outcome) notice.step b2.device (room_in r2) rest →
+      Awaited n.step.phase n.kind answer before (room_in r1) done →
+      Ahead (whole regions n.kind after outcome) next.step device (room_in r2) rest →
       Ahead (whole regions n.kind after outcome) n.step b1.device
       (room_of r1.pieces before r1.runs r1.figures) (done ++ rest)
-  pub fits : Fits notice.step.phase
-  pub held : b2.held ≡ held_then notice b1
+  pub hands : HandsOver next regions r2.runs (with_device device b1) b2 r2.cuts c
 
 -- What is no notice goes on by nothing.
 abbrev pub GoesOnBy : Option Notice → List Region → ℕ → Balloon → Balloon → VbRoom → VbRoom →

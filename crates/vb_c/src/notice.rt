@@ -3,30 +3,16 @@
 ghost use Rattle.std.specs.Prelude.{◌≡◌, ◌≤◌, true};
 ghost use Rattle.vb_monitor.specs.declared.room.TheConstants.{MAX_BYTES};
 ghost use Rattle.vb_c.specs.Codes.{fault_of, why_of, kind_of_code};
-ghost use Rattle.vb_c.specs.Notices.{tally_of, walk_of, place_of, discarding_of, spots_of};
-ghost use Rattle.vb_c.specs.Notices.{entry_of, named_of_notice, part_of, phase_of, notice_of};
+ghost use Rattle.vb_c.specs.Notices.{tally_of, walk_of, place_of, discarding_of, cut_of_notice};
+ghost use Rattle.vb_c.specs.Notices.{part_of, phase_of, notice_of};
 
 use crate::answers::kind_of_code;
 use vb_chain::ChainFault;
-use vb_core::{Buffer, Denial, Named, Run, Statistic, UsedEntry};
+use vb_core::{Buffer, Denial, Run, Statistic};
 use vb_monitor::{
-    Cut, Discarding, MAX_BYTES, MAX_FIGURES, MAX_PIECES, MAX_RUNS, Notice, Phase, Place, Spot,
-    Step, Tally, UsedSpots, Walk,
+    Cut, Discarding, MAX_BYTES, MAX_CUTS, MAX_FIGURES, MAX_PIECES, MAX_RUNS, Notice, Orders, Phase,
+    Place, Spot, Step, Tally, Walk,
 };
-
-/// Parts of runs that are discarded at once, at most.
-pub const MAX_CUTS: usize = 32;
-
-/// What is to be done, in this order.
-pub(crate) const ENDED: u32 = 0;
-
-pub(crate) const TELL_PAGES: u32 = 1;
-
-pub(crate) const TELL_FIGURES: u32 = 2;
-
-pub(crate) const DISCARD: u32 = 4;
-
-pub(crate) const GIVE_BACK: u32 = 8;
 
 /// The available index is read.
 pub(crate) const READ_INDEX: u32 = 64;
@@ -37,11 +23,29 @@ pub(crate) const READ_ENTRY: u32 = 16 + 64;
 /// Behind a full fence the flags are read.
 pub(crate) const READ_FLAGS: u32 = 32 + 64;
 
-/// A part of a piece is copied.
+/// Bytes are copied.
 pub(crate) const COPY: u32 = 128;
 
-/// A descriptor is copied.
-pub(crate) const COPY_DESCRIPTOR: u32 = 128 + 256;
+/// What a notice waits for: nothing, since it has ended.
+pub(crate) const ENDED: u8 = 0;
+
+/// The available index.
+pub(crate) const INDEX: u8 = 1;
+
+/// The entry that stands next.
+pub(crate) const ENTRY: u8 = 2;
+
+/// A descriptor.
+pub(crate) const DESCRIPTOR: u8 = 3;
+
+/// A part of a piece.
+pub(crate) const PART: u8 = 4;
+
+/// The driver's flags.
+pub(crate) const FLAGS: u8 = 5;
+
+/// Room for further parts that are discarded.
+pub(crate) const CUTS: u8 = 6;
 
 /// A notice: what is to be done next, and what is remembered until it was done.
 #[repr(C)]
@@ -56,21 +60,13 @@ pub struct VbNotice {
     /// How many bytes are copied, and behind how many others.
     pub length: u32,
     pub into: u32,
-    /// What is told of pages.
-    pub runs: u32,
-    pub pages: u32,
-    pub skipped: u32,
-    /// How many figures are told.
-    pub figures: u32,
-    /// How many parts are discarded.
-    pub cuts: u32,
-    /// The used element and its index, and where they go.
-    pub id: u32,
-    pub used_length: u32,
-    pub used_index: u16,
-    pub id_at: Spot,
-    pub length_at: Spot,
-    pub index_at: Spot,
+    /// What needs no answer.
+    pub orders: Orders,
+    /// What is remembered.
+    pub number: usize,
+    pub from: usize,
+    pub in_file: u64,
+    pub cut_length: u64,
     /// What it came to.
     pub code: u32,
     pub rule: u32,
@@ -86,10 +82,7 @@ pub struct VbNotice {
     pub given: u8,
     pub taken: u8,
     pub flag: u8,
-    pub number: usize,
-    pub from: usize,
-    pub element: u64,
-    pub index: u64,
+    pub phase: u8,
 }
 
 /// The room that a notice needs.
@@ -187,44 +180,21 @@ impl VbNotice {
     {
         Discarding {
             head: self.head,
-            runs: self.runs,
+            runs: self.length,
             run: self.number,
             from: self.from,
         }
     }
 
-    /// What was named.
-    fn named(&self) -> Named
-        ensures { result ≡ named_of_notice self.now }
+    /// The next part that is discarded.
+    fn cut(&self) -> Cut
+        ensures { result ≡ cut_of_notice self.now }
     {
-        Named {
-            runs: self.runs,
-            pages: self.pages,
-            skipped: self.skipped,
-        }
-    }
-
-    /// Where a used element goes.
-    fn spots(&self) -> UsedSpots
-        ensures { result ≡ spots_of self.now }
-    {
-        UsedSpots {
-            id: self.id_at,
-            length: self.length_at,
-            index: self.index_at,
-        }
-    }
-
-    /// A used element.
-    fn entry(&self) -> UsedEntry
-        ensures { result ≡ entry_of self.now }
-    {
-        UsedEntry {
-            element_at: self.element,
-            index_at: self.index,
-            id: self.id,
-            length: self.used_length,
-            index: self.used_index,
+        Cut {
+            region: self.at.region,
+            offset: self.at.offset,
+            in_file: self.in_file,
+            length: self.cut_length,
         }
     }
 
@@ -239,56 +209,44 @@ impl VbNotice {
         Some(Phase::AwaitsPart { at: self.at, place })
     }
 
-    /// What is to be done, if it is something.
-    fn phase(&self, cuts: &[Cut; MAX_CUTS]) -> Option<Phase>
-        ensures { result ≡ phase_of self.now cuts.now }
+    /// What it waits for, if it is something.
+    fn phase(&self) -> Option<Phase>
+        ensures { result ≡ phase_of self.now }
     {
         let at = self.at;
-        let head = self.head;
-        let why = why_of(self.code, self.rule);
-        let more = self.more != 0;
-        let interrupt = self.interrupt != 0;
-        match self.what {
+        match self.phase {
             ENDED => Some(Phase::Ended {
-                why,
-                interrupt,
-                more,
+                why: why_of(self.code, self.rule),
+                interrupt: self.interrupt != 0,
+                more: self.more != 0,
             }),
-            READ_INDEX => Some(Phase::AwaitsIndex { at }),
-            READ_ENTRY => Some(Phase::AwaitsEntry { at }),
-            COPY_DESCRIPTOR => Some(Phase::AwaitsDescriptor {
+            INDEX => Some(Phase::AwaitsIndex { at }),
+            ENTRY => Some(Phase::AwaitsEntry { at }),
+            DESCRIPTOR => Some(Phase::AwaitsDescriptor {
                 at,
                 walk: self.walk(),
             }),
-            COPY => self.part(),
-            TELL_PAGES => Some(Phase::TellsPages {
-                head,
-                named: self.named(),
+            PART => self.part(),
+            FLAGS => Some(Phase::AwaitsFlags {
+                at,
+                why: why_of(self.code, self.rule),
+                more: self.more != 0,
             }),
-            TELL_FIGURES => Some(Phase::TellsFigures {
-                head,
-                count: self.figures,
-            }),
-            DISCARD => Some(Phase::Discards {
-                cut: cuts[0],
+            CUTS => Some(Phase::Discards {
+                cut: self.cut(),
                 discarding: self.discarding(),
             }),
-            GIVE_BACK => Some(Phase::GivesBack {
-                spots: self.spots(),
-                entry: self.entry(),
-            }),
-            READ_FLAGS => Some(Phase::AwaitsFlags { at, why, more }),
             _ => None,
         }
     }
 
     /// The notice that it says, if it is one.
-    pub(crate) fn read(&self, cuts: &[Cut; MAX_CUTS]) -> Option<Notice>
-        ensures { result ≡ notice_of self.now cuts.now }
+    pub(crate) fn read(&self) -> Option<Notice>
+        ensures { result ≡ notice_of self.now }
     {
         match kind_of_code(self.kind) {
             None => None,
-            Some(kind) => match self.phase(cuts) {
+            Some(kind) => match self.phase() {
                 None => None,
                 Some(phase) => Some(Notice {
                     kind,

@@ -4,29 +4,35 @@ ghost use Rattle.std.specs.Prelude.{◌≡◌};
 ghost use Rattle.vb_monitor.specs.Balloons.{held_head};
 ghost use Rattle.vb_monitor.specs.Machine.{Fits};
 ghost use Rattle.vb_c.specs.Codes.{kind_of_code};
-ghost use Rattle.vb_c.specs.Notices.{HasEnded, IsNotice, notice_of};
-ghost use Rattle.vb_c.specs.Serving.{held_then, BeginsFor, AsksFor, GoesOnBy};
+ghost use Rattle.vb_c.specs.Notices.{HasEnded, notice_of};
+ghost use Rattle.vb_c.specs.Serving.{HandsOver, BeginsFor, AsksFor, GoesOnBy};
 
 use crate::answers::{BAD_ARGUMENT, NO_QUEUE, NOTHING, kind_of_code};
-use crate::notice::{MAX_CUTS, VbNotice, VbRoom};
-use vb_monitor::{Balloon, Budget, Cut, Notice, Region};
+use crate::notice::{VbNotice, VbRoom};
+use vb_core::Run;
+use vb_monitor::{Balloon, Budget, Cut, MAX_CUTS, MAX_RUNS, Notice, Region};
 
-/// Hands a notice over: what it came to is noted, once it has ended.
+/// Hands a notice over, with all that is to be done before it waits; what it came to is noted, once
+/// it has ended.
 fn hand_over(
     shown: &mut VbNotice,
     balloon: &mut Balloon,
+    regions: &[Region],
+    runs: &[Run; MAX_RUNS],
     cuts: &mut [Cut; MAX_CUTS],
-    notice: &Notice,
+    notice: Notice,
 ) -> u32
-    requires { Fits notice.now.step.phase }
-    ensures notice { IsNotice shown.new cuts.new notice.now }
-    ensures balloon { balloon.new ≡ record balloon.old { held = held_then notice.now balloon.old } }
+    requires { Fits notice.step.phase }
+    ensures hands { HandsOver notice regions.now runs.now balloon.old balloon.new cuts.new
+        shown.new }
     ensures what { result ≡ shown.new.what }
 {
-    if let Some(outcome) = notice.outcome() {
-        balloon.note(notice.kind, &outcome);
+    let mut next = notice;
+    let asked = next.at_once(&mut balloon.device, regions, runs, cuts, &mut shown.orders);
+    if let Some(outcome) = next.outcome() {
+        balloon.note(next.kind, &outcome);
     }
-    shown.show(cuts, notice);
+    shown.show(asked, &next);
     shown.what
 }
 
@@ -63,7 +69,7 @@ pub extern "C" fn vb_begin(
             }
             let budget = Budget { chains, pages };
             let begun = Notice::begin(&mut balloon.device, regions, kind, budget);
-            hand_over(notice, balloon, &mut room.cuts, &begun)
+            hand_over(notice, balloon, regions, &room.runs, &mut room.cuts, begun)
         }
     }
 }
@@ -84,7 +90,7 @@ pub extern "C" fn vb_ask(
         None => refuse(notice, NOTHING),
         Some(head) => {
             let begun = Notice::ask_statistics(&mut balloon.device, regions, head);
-            hand_over(notice, balloon, &mut room.cuts, &begun)
+            hand_over(notice, balloon, regions, &room.runs, &mut room.cuts, begun)
         }
     }
 }
@@ -98,14 +104,14 @@ pub extern "C" fn vb_go_on(
     room: &mut VbRoom,
     answer: u16,
 ) -> u32
-    ensures goes { GoesOnBy (notice_of notice.old room.old.cuts) regions.now answer balloon.old
+    ensures goes { GoesOnBy (notice_of notice.old) regions.now answer balloon.old
         balloon.new room.old room.new notice.new }
     ensures what { result ≡ notice.new.what }
 {
-    match notice.read(&room.cuts) {
+    match notice.read() {
         None => refuse(notice, BAD_ARGUMENT),
         Some(mut read) => {
-            read.next(
+            read.go_on(
                 &mut balloon.device,
                 regions,
                 answer,
@@ -114,7 +120,7 @@ pub extern "C" fn vb_go_on(
                 &mut room.runs,
                 &mut room.figures,
             );
-            hand_over(notice, balloon, &mut room.cuts, &read)
+            hand_over(notice, balloon, regions, &room.runs, &mut room.cuts, read)
         }
     }
 }

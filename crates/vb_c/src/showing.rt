@@ -1,23 +1,33 @@
 //! What a notice shows to C.
 
-ghost use Rattle.std.specs.Prelude.{◌≡◌, List, Some};
+ghost use Rattle.std.specs.Prelude.{◌≡◌, ◌+◌, ◌<◌, true, List, Some};
 ghost use Rattle.vb_monitor.specs.declared.outcome.Tally.{Tally};
 ghost use Rattle.vb_monitor.specs.declared.step.Phase.TheVariants.{AwaitsDescriptor, AwaitsPart};
-ghost use Rattle.vb_monitor.specs.declared.step.Phase.TheVariants.{TellsPages, Discards};
-ghost use Rattle.vb_monitor.specs.declared.step.Phase.TheVariants.{GivesBack, Ended};
-ghost use Rattle.vb_monitor.specs.declared.step.Phase.TheVariants.{TellsFigures, AwaitsFlags};
-ghost use Rattle.vb_monitor.specs.declared.cuts.Cut.{Cut};
-ghost use Rattle.vb_monitor.specs.Machine.{Fits};
+ghost use Rattle.vb_monitor.specs.declared.step.Phase.TheVariants.{Discards, AwaitsFlags, Ended};
+ghost use Rattle.vb_monitor.specs.Machine.{Fits, waits};
 ghost use Rattle.vb_c.specs.Notices.{tally_of, phase_of, Says, end_code, end_rule, breaks};
-ghost use Rattle.vb_c.specs.Notices.{why_code, SameTally, IsNotice, HasEnded};
+ghost use Rattle.vb_c.specs.Notices.{why_code, asked_bits, answer_bits, SameElse, IsNotice};
+ghost use Rattle.vb_c.specs.Notices.{HasEnded};
 
 use crate::answers::{NOTHING, OK, code_of, code_of_kind, rule_in};
 use crate::notice::{
-    COPY, COPY_DESCRIPTOR, DISCARD, ENDED, GIVE_BACK, MAX_CUTS, READ_ENTRY, READ_FLAGS, READ_INDEX,
-    TELL_FIGURES, TELL_PAGES, VbNotice,
+    COPY, CUTS, DESCRIPTOR, ENDED, ENTRY, FLAGS, INDEX, PART, READ_ENTRY, READ_FLAGS, READ_INDEX,
+    VbNotice,
 };
-use vb_core::{Denial, Named, UsedEntry};
-use vb_monitor::{Cut, Discarding, Notice, Phase, Place, Spot, Step, Tally, UsedSpots, Walk};
+use vb_core::Denial;
+use vb_monitor::{Asked, Cut, Discarding, Notice, Phase, Place, Spot, Step, Tally, Told, Walk};
+
+/// Pages are told.
+const TELL_PAGES: u32 = 1;
+
+/// Figures are told.
+const TELL_FIGURES: u32 = 2;
+
+/// Parts of runs are discarded.
+const DISCARD: u32 = 4;
+
+/// A used element is written.
+const GIVE_BACK: u32 = 8;
 
 /// The code of what a notice came to.
 fn end_code(why: Option<Denial>, tally: Tally) -> u32
@@ -62,12 +72,28 @@ fn breaks(why: Option<Denial>) -> bool
     matches!(why, Some(Denial::Broken(_)))
 }
 
+/// The bits of what needs no answer.
+fn asked_bits(asked: Asked, cuts: u32) -> u32
+    ensures bits { result ≡ asked_bits asked cuts }
+    ensures few { result < 16 }
+{
+    let told = match asked.told {
+        Told::Nothing => 0,
+        Told::Pages => TELL_PAGES,
+        Told::Figures => TELL_FIGURES,
+    };
+    let discards = if cuts == 0 { 0 } else { DISCARD };
+    let gives = if asked.gives { GIVE_BACK } else { 0 };
+    told + discards + gives
+}
+
 impl VbNotice {
     /// Shows that it has ended before anything was done.
     pub(crate) fn end_with(&mut self, code: u32)
         ensures { HasEnded self.new code }
     {
-        self.what = ENDED;
+        self.what = 0;
+        self.phase = ENDED;
         self.code = code;
         self.rule = 0;
         self.interrupt = 0;
@@ -79,6 +105,7 @@ impl VbNotice {
     fn show_tally(&mut self, tally: Tally)
         ensures tally { tally_of self.new ≡ tally }
         ensures kind { self.new.kind ≡ self.old.kind }
+        ensures orders { self.new.orders ≡ self.old.orders }
     {
         self.chains_left = tally.chains;
         self.pages_left = tally.pages;
@@ -93,21 +120,24 @@ impl VbNotice {
     }
 
     /// Shows a word that is to be read.
-    fn show_read(&mut self, what: u32, at: Spot)
-        ensures { self.new ≡ record self.old { what = what; at = at } }
+    fn show_read(&mut self, what: u32, phase: u8, at: Spot)
+        ensures { self.new ≡ record self.old { what = what; phase = phase; at = at } }
     {
         self.what = what;
+        self.phase = phase;
         self.at = at;
     }
 
     /// Shows a descriptor that is to be copied.
-    fn show_descriptor(&mut self, at: Spot, walk: Walk)
-        ensures phase { (cuts : List Cut) →
-            phase_of self.new cuts ≡ Some (AwaitsDescriptor at walk) }
+    fn show_descriptor(&mut self, bits: u32, at: Spot, walk: Walk)
+        requires { bits < 16 }
+        ensures phase { phase_of self.new ≡ Some (AwaitsDescriptor at walk) }
         ensures says { (tally : Tally) → Says self.new tally (AwaitsDescriptor at walk) }
-        ensures kept { SameTally self.old self.new }
+        ensures what { self.new.what ≡ bits + answer_bits (AwaitsDescriptor at walk) }
+        ensures kept { SameElse self.old self.new }
     {
-        self.what = COPY_DESCRIPTOR;
+        self.what = bits + COPY;
+        self.phase = DESCRIPTOR;
         self.at = at;
         self.length = 16;
         self.into = 0;
@@ -117,12 +147,15 @@ impl VbNotice {
     }
 
     /// Shows a part of a piece that is to be copied.
-    fn show_part(&mut self, at: Spot, place: Place)
-        requires { Fits (AwaitsPart at place) }
-        ensures phase { (cuts : List Cut) → phase_of self.new cuts ≡ Some (AwaitsPart at place) }
-        ensures kept { SameTally self.old self.new }
+    fn show_part(&mut self, bits: u32, at: Spot, place: Place)
+        requires bits { bits < 16 }
+        requires fits { Fits (AwaitsPart at place) }
+        ensures phase { phase_of self.new ≡ Some (AwaitsPart at place) }
+        ensures what { self.new.what ≡ bits + answer_bits (AwaitsPart at place) }
+        ensures kept { SameElse self.old self.new }
     {
-        self.what = COPY;
+        self.what = bits + COPY;
+        self.phase = PART;
         self.at = at;
         self.length = place.length;
         self.into = place.into as u32;
@@ -132,68 +165,36 @@ impl VbNotice {
         self.number = place.piece;
     }
 
-    /// Shows pages that are to be told.
-    fn show_pages(&mut self, head: u16, named: Named)
-        ensures phase { (cuts : List Cut) → phase_of self.new cuts ≡ Some (TellsPages head named) }
-        ensures kept { SameTally self.old self.new }
+    /// Shows the part that is to be discarded once there is room.
+    fn show_cut(&mut self, bits: u32, cut: Cut, discarding: Discarding)
+        ensures phase { phase_of self.new ≡ Some (Discards cut discarding) }
+        ensures what { self.new.what ≡ bits + answer_bits (Discards cut discarding) }
+        ensures kept { SameElse self.old self.new }
     {
-        self.what = TELL_PAGES;
-        self.head = head;
-        self.runs = named.runs;
-        self.pages = named.pages;
-        self.skipped = named.skipped;
-    }
-
-    /// Shows figures that are to be told.
-    fn show_figures(&mut self, head: u16, count: u32)
-        ensures phase { (cuts : List Cut) →
-            phase_of self.new cuts ≡ Some (TellsFigures head count) }
-        ensures kept { SameTally self.old self.new }
-    {
-        self.what = TELL_FIGURES;
-        self.head = head;
-        self.figures = count;
-    }
-
-    /// Shows bytes that are to be discarded.
-    fn show_discard(&mut self, cuts: &mut [Cut; MAX_CUTS], cut: Cut, discarding: Discarding)
-        ensures phase { phase_of self.new cuts.new ≡ Some (Discards cut discarding) }
-        ensures says { self.new.cuts ≡ 1 }
-        ensures kept { SameTally self.old self.new }
-    {
-        cuts[0] = cut;
-        self.what = DISCARD;
-        self.cuts = 1;
+        self.what = bits;
+        self.phase = CUTS;
+        self.at = Spot {
+            region: cut.region,
+            offset: cut.offset,
+        };
+        self.in_file = cut.in_file;
+        self.cut_length = cut.length;
         self.head = discarding.head;
-        self.runs = discarding.runs;
+        self.length = discarding.runs;
         self.number = discarding.run;
         self.from = discarding.from;
     }
 
-    /// Shows a used element that is to be written.
-    fn show_used(&mut self, spots: UsedSpots, entry: UsedEntry)
-        ensures phase { (cuts : List Cut) → phase_of self.new cuts ≡ Some (GivesBack spots entry) }
-        ensures kept { SameTally self.old self.new }
-    {
-        self.what = GIVE_BACK;
-        self.id_at = spots.id;
-        self.length_at = spots.length;
-        self.index_at = spots.index;
-        self.element = entry.element_at;
-        self.index = entry.index_at;
-        self.id = entry.id;
-        self.used_length = entry.length;
-        self.used_index = entry.index;
-    }
-
     /// Shows flags that are to be read.
     #[tactic(auto, using(crate::proofs::ShowLemmas::show_steps))]
-    fn show_flags(&mut self, at: Spot, why: Option<Denial>, more: bool)
-        ensures phase { (cuts : List Cut) →
-            phase_of self.new cuts ≡ Some (AwaitsFlags at why more) }
-        ensures kept { SameTally self.old self.new }
+    fn show_flags(&mut self, bits: u32, at: Spot, why: Option<Denial>, more: bool)
+        requires { bits < 16 }
+        ensures phase { phase_of self.new ≡ Some (AwaitsFlags at why more) }
+        ensures what { self.new.what ≡ bits + answer_bits (AwaitsFlags at why more) }
+        ensures kept { SameElse self.old self.new }
     {
-        self.what = READ_FLAGS;
+        self.what = bits + READ_FLAGS;
+        self.phase = FLAGS;
         self.at = at;
         self.code = why_code(why);
         self.rule = end_rule(why);
@@ -202,13 +203,21 @@ impl VbNotice {
 
     /// Shows what it came to.
     #[tactic(auto, using(crate::proofs::ShowLemmas::show_steps))]
-    fn show_end(&mut self, tally: Tally, why: Option<Denial>, interrupt: bool, more: bool)
-        ensures phase { (cuts : List Cut) →
-            phase_of self.new cuts ≡ Some (Ended why interrupt more) }
+    fn show_end(
+        &mut self,
+        bits: u32,
+        tally: Tally,
+        why: Option<Denial>,
+        interrupt: bool,
+        more: bool,
+    )
+        ensures phase { phase_of self.new ≡ Some (Ended why interrupt more) }
         ensures says { Says self.new tally (Ended why interrupt more) }
-        ensures kept { SameTally self.old self.new }
+        ensures what { self.new.what ≡ bits + answer_bits (Ended why interrupt more) }
+        ensures kept { SameElse self.old self.new }
     {
-        self.what = ENDED;
+        self.what = bits;
+        self.phase = ENDED;
         self.code = end_code(why, tally);
         self.rule = end_rule(why);
         self.interrupt = u32::from(interrupt);
@@ -216,39 +225,43 @@ impl VbNotice {
         self.more = u32::from(more);
     }
 
-    /// Shows what is to be done.
-    fn show_phase(&mut self, cuts: &mut [Cut; MAX_CUTS], tally: Tally, phase: Phase)
-        requires { Fits phase }
-        ensures phase { phase_of self.new cuts.new ≡ Some phase }
+    /// Shows what the notice waits for, beside what needs no answer.
+    fn show_phase(&mut self, bits: u32, tally: Tally, phase: Phase)
+        requires bits { bits < 16 }
+        requires fits { Fits phase }
+        requires waits { waits phase ≡ true }
+        ensures phase { phase_of self.new ≡ Some phase }
         ensures says { Says self.new tally phase }
-        ensures kept { SameTally self.old self.new }
+        ensures what { self.new.what ≡ bits + answer_bits phase }
+        ensures kept { SameElse self.old self.new }
     {
         match phase {
-            Phase::AwaitsIndex { at } => self.show_read(READ_INDEX, at),
-            Phase::AwaitsEntry { at } => self.show_read(READ_ENTRY, at),
-            Phase::AwaitsDescriptor { at, walk } => self.show_descriptor(at, walk),
-            Phase::AwaitsPart { at, place } => self.show_part(at, place),
-            Phase::TellsPages { head, named } => self.show_pages(head, named),
-            Phase::TellsFigures { head, count } => self.show_figures(head, count),
-            Phase::Discards { cut, discarding } => self.show_discard(cuts, cut, discarding),
-            Phase::GivesBack { spots, entry } => self.show_used(spots, entry),
-            Phase::AwaitsFlags { at, why, more } => self.show_flags(at, why, more),
+            Phase::AwaitsIndex { at } => self.show_read(bits + READ_INDEX, INDEX, at),
+            Phase::AwaitsEntry { at } => self.show_read(bits + READ_ENTRY, ENTRY, at),
+            Phase::AwaitsDescriptor { at, walk } => self.show_descriptor(bits, at, walk),
+            Phase::AwaitsPart { at, place } => self.show_part(bits, at, place),
+            Phase::Discards { cut, discarding } => self.show_cut(bits, cut, discarding),
+            Phase::AwaitsFlags { at, why, more } => self.show_flags(bits, at, why, more),
             Phase::Ended {
                 why,
                 interrupt,
                 more,
-            } => self.show_end(tally, why, interrupt, more),
+            } => self.show_end(bits, tally, why, interrupt, more),
+            Phase::TellsPages { .. } | Phase::TellsFigures { .. } | Phase::GivesBack { .. } => {}
         }
     }
 
-    /// Shows a notice.
-    pub(crate) fn show(&mut self, cuts: &mut [Cut; MAX_CUTS], notice: &Notice)
-        requires { Fits notice.now.step.phase }
-        ensures { IsNotice self.new cuts.new notice.now }
+    /// Shows a notice, beside what needs no answer.
+    pub(crate) fn show(&mut self, asked: Asked, notice: &Notice)
+        requires fits { Fits notice.now.step.phase }
+        requires waits { waits notice.now.step.phase ≡ true }
+        ensures is { IsNotice self.new asked notice.now }
+        ensures orders { self.new.orders ≡ self.old.orders }
     {
         let Step { tally, phase } = notice.step;
+        let bits = asked_bits(asked, self.orders.cuts);
         self.kind = code_of_kind(Some(notice.kind));
         self.show_tally(tally);
-        self.show_phase(cuts, tally, phase);
+        self.show_phase(bits, tally, phase);
     }
 }

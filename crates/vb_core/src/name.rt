@@ -11,6 +11,7 @@ use vb_chain::ChainFault;
 use vb_request::{is_request_length, number_at, number_fault};
 
 /// What a request names: so many runs of pages.
+#[repr(C)]
 #[derive(Clone, Copy, Debug)]
 pub struct Named {
     /// How many runs there are.

@@ -3,12 +3,14 @@ pub mod PartLemmas
 pub mod BufferLemmas
 pub mod NextLemmas
 pub mod GoesLemmas
+pub mod OrderLemmas
 pub mod GivenLemmas
 pub mod RowLemmas
 pub mod TouchLemmas
 pub mod CountLemmas
 mod RegionFacts
 mod NoticeFacts
+mod OrderFacts
 pub mod PlaceLemmas
 mod PlaceFacts
 pub mod TurnLemmas

@@ -113,6 +113,33 @@ Fits (GivesBack spots entry) = Unit {0}
 Fits (AwaitsFlags at why more) = Unit {0}
 Fits (Ended why interrupt more) = Unit {0}
 
+-- How far along a chain that is done which needs no answer: 0, something is told; 1, bytes are
+-- discarded; 2, the chain is given back; 3, an answer is awaited, or nothing is to be done.
+abbrev pub stage : Phase → ℕ
+stage (TellsPages head named) = 0
+stage (TellsFigures head count) = 0
+stage (Discards cut x) = 1
+stage (GivesBack spots entry) = 2
+stage (AwaitsIndex at) = 3
+stage (AwaitsEntry at) = 3
+stage (AwaitsDescriptor at walk) = 3
+stage (AwaitsPart at place) = 3
+stage (AwaitsFlags at why more) = 3
+stage (Ended why interrupt more) = 3
+
+-- It goes on by an answer, or has parts to discard for which there was no room; or it has ended.
+abbrev pub waits : Phase → Bool
+waits (AwaitsIndex at) = true
+waits (AwaitsEntry at) = true
+waits (AwaitsDescriptor at walk) = true
+waits (AwaitsPart at place) = true
+waits (AwaitsFlags at why more) = true
+waits (Ended why interrupt more) = true
+waits (Discards cut x) = true
+waits (TellsPages head named) = false
+waits (TellsFigures head count) = false
+waits (GivesBack spots entry) = false
+
 -- ---- what may still come
 
 -- What comes once the chain that is being served was given back.
@@ -183,6 +210,29 @@ Does (GivesBack spots entry) kind answer before room done = done ≡ used_access
 Does (AwaitsFlags at why more) kind answer before room done =
     done ≡ Full ∷ ReadWord at answer ∷ []
 Does (Ended why interrupt more) kind answer before room done = done ≡ []
+
+-- The next part is to be discarded, once there is room.
+abbrev pub is_discarding : Phase → Bool
+is_discarding (Discards cut x) = true
+is_discarding (AwaitsIndex at) = false
+is_discarding (AwaitsEntry at) = false
+is_discarding (AwaitsDescriptor at walk) = false
+is_discarding (AwaitsPart at place) = false
+is_discarding (TellsPages head named) = false
+is_discarding (TellsFigures head count) = false
+is_discarding (GivesBack spots entry) = false
+is_discarding (AwaitsFlags at why more) = false
+is_discarding (Ended why interrupt more) = false
+
+abbrev pub AwaitedBy : Bool → Phase → Kind → ℕ → List ℕ → Room → List Access → Type 0
+AwaitedBy true phase kind answer before room done = done ≡ []
+AwaitedBy false phase kind answer before room done = Does phase kind answer before room done
+
+-- These accesses are what a notice waited for: what is to be discarded needs no answer, and is done
+-- afterwards.
+abbrev pub Awaited : Phase → Kind → ℕ → List ℕ → Room → List Access → Type 0
+Awaited phase kind answer before room done =
+    AwaitedBy (is_discarding phase) phase kind answer before room done
 
 -- To a log, accesses were added; whatever may still come behind them, the whole may come where this
 -- was to be done before.

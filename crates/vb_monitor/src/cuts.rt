@@ -75,19 +75,45 @@ pub(crate) struct NextCut {
     pub(crate) run: usize,
     /// Its part in the first region that has one.
     pub(crate) cut: Cut,
+    /// The number of the region behind the one in which the part is.
+    pub(crate) from: usize,
 }
 
 /// The first part of the runs from this number on.
 #[tactic(auto, using(crate::proofs::RegionLemmas::run_steps))]
 pub(crate) fn first_cut(regions: &[Region], runs: &[Run], from: usize) -> Option<NextCut>
     ensures { MatchOption result (cuts_of regions.now (drop from runs.now) ≡ [])
-        (λ x. (x.cut.region < length regions.now) × (cuts_of regions.now (drop from runs.now) ≡
-        x.cut ∷ cuts_behind (x.cut.region + 1) x.run regions.now runs.now)) }
+        (λ x. cuts_of regions.now (drop from runs.now) ≡
+        x.cut ∷ cuts_behind x.from x.run regions.now runs.now) }
 {
     for run in from..runs.len() {
         if let Some(cut) = next_cut(regions, 0, runs[run]) {
-            return Some(NextCut { run, cut });
+            let from = cut.region + 1;
+            return Some(NextCut { run, cut, from });
         }
     }
     None
+}
+
+/// The first part behind those of a run in the regions below this number.
+pub(crate) fn cut_behind(
+    regions: &[Region],
+    runs: &[Run],
+    run: usize,
+    from: usize,
+) -> Option<NextCut>
+    ensures { MatchOption result (cuts_behind from run regions.now runs.now ≡ [])
+        (λ x. cuts_behind from run regions.now runs.now ≡
+        x.cut ∷ cuts_behind x.from x.run regions.now runs.now) }
+{
+    if run >= runs.len() {
+        return None;
+    }
+    match next_cut(regions, from, runs[run]) {
+        None => first_cut(regions, runs, run + 1),
+        Some(cut) => {
+            let from = cut.region + 1;
+            Some(NextCut { run, cut, from })
+        }
+    }
 }

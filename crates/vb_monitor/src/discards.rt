@@ -1,6 +1,6 @@
 //! The discards of a chain's runs, part by part.
 
-ghost use Rattle.std.specs.Prelude.{◌≡◌, ℕ, List, take, drop};
+ghost use Rattle.std.specs.Prelude.{◌≡◌, ◌≤◌, ℕ, List, take, drop};
 ghost use Rattle.vb_core.specs.declared.next.Buffer.{Buffer};
 ghost use Rattle.vb_core.specs.declared.runs.Run.{Run};
 ghost use Rattle.vb_core.specs.declared.statistics.Statistic.{Statistic};
@@ -10,9 +10,10 @@ ghost use Rattle.vb_monitor.specs.Accesses.{Access};
 ghost use Rattle.vb_monitor.specs.Regions.{cuts_of};
 ghost use Rattle.vb_core.specs.Config.{keeps_reports};
 ghost use Rattle.vb_monitor.specs.Giving.{cuts_for, DiscardsThen};
-ghost use Rattle.vb_monitor.specs.Machine.{Fits, Ahead, whole, room_of, next_chain, cuts_behind};
+ghost use Rattle.vb_monitor.specs.Machine.{Fits, stage, Ahead, whole, room_of, next_chain};
+ghost use Rattle.vb_monitor.specs.Machine.{cuts_behind};
 
-use crate::cuts::{first_cut, next_cut};
+use crate::cuts::{cut_behind, first_cut};
 use crate::giving::give_back;
 use crate::room::MAX_RUNS;
 use crate::step::Discarding;
@@ -45,6 +46,7 @@ fn discard_on(
         (next_chain (whole regions.now kind after outcome) tally) device.old tally head
         (cuts_of regions.now (drop from (take count runs.now))) log }
     ensures fits { Fits result.phase }
+    ensures stage { 1 ≤ stage result.phase }
 {
     match first_cut(regions, first_runs(runs, count as usize), from) {
         None => give_back(device, regions, kind, tally, head),
@@ -53,7 +55,7 @@ fn discard_on(
                 head,
                 runs: count,
                 run: found.run,
-                from: found.cut.region + 1,
+                from: found.from,
             };
             Step {
                 tally,
@@ -85,6 +87,7 @@ pub(crate) fn after_told(
         (next_chain (whole regions.now kind after outcome) tally) device.old tally head
         (cuts_for kind (keeps_reports device.old) regions.now (take count runs.now)) log }
     ensures fits { Fits result.phase }
+    ensures stage { 1 ≤ stage result.phase }
 {
     if kind == Kind::Report && device.keeps_reports() {
         return give_back(device, regions, kind, tally, head);
@@ -122,19 +125,17 @@ pub(crate) fn after_discard(
         run,
         from,
     } = discarding;
-    let named = first_runs(runs, count as usize);
-    if run >= named.len() {
-        return give_back(device, regions, kind, tally, head);
-    }
-    match next_cut(regions, from, named[run]) {
-        None => discard_on(device, regions, kind, tally, head, count, run + 1, runs),
-        Some(cut) => Step {
+    match cut_behind(regions, first_runs(runs, count as usize), run, from) {
+        None => give_back(device, regions, kind, tally, head),
+        Some(found) => Step {
             tally,
             phase: Phase::Discards {
-                cut,
+                cut: found.cut,
                 discarding: Discarding {
-                    from: cut.region + 1,
-                    ..discarding
+                    head,
+                    runs: count,
+                    run: found.run,
+                    from: found.from,
                 },
             },
         },

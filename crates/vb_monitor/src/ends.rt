@@ -5,7 +5,7 @@ ghost use Rattle.vb_core.specs.declared.device.Device.{Device};
 ghost use Rattle.vb_monitor.specs.declared.outcome.Outcome.{Outcome};
 ghost use Rattle.vb_monitor.specs.Accesses.{Access};
 ghost use Rattle.vb_monitor.specs.Ends.{Whole, wants_interrupt, Ends, Breaks, Stops};
-ghost use Rattle.vb_monitor.specs.Machine.{Fits, Room, Ahead, whole};
+ghost use Rattle.vb_monitor.specs.Machine.{Fits, stage, Room, Ahead, whole};
 
 use crate::regions::find;
 use crate::{Phase, Region, Step, Tally};
@@ -20,6 +20,7 @@ pub(crate) fn stop(tally: Tally, why: Option<Denial>, interrupt: bool, more: boo
     ensures step { (w : Whole) (d : Device) (room : Room) (log : List Access) →
         Ahead w result d room log → Stops w d tally why interrupt more log }
     ensures fits { Fits result.phase }
+    ensures stage { stage result.phase ≡ 3 }
 {
     Step {
         tally,
@@ -45,6 +46,7 @@ pub(crate) fn end(
         Ahead (whole regions.now kind after outcome) result device.now room log →
         Ends (whole regions.now kind after outcome) device.now tally why more log }
     ensures fits { Fits result.phase }
+    ensures stage { stage result.phase ≡ 3 }
 {
     if !tally.given {
         return stop(tally, why, false, more);
@@ -70,6 +72,7 @@ pub(crate) fn fail(
         Ahead (whole regions.now kind after outcome) result device.new room log →
         Breaks (whole regions.now kind after outcome) device.old tally fault log }
     ensures fits { Fits result.phase }
+    ensures stage { stage result.phase ≡ 3 }
 {
     device.note_fault();
     end(

@@ -1,11 +1,11 @@
 //! Chains that are given back.
 
-ghost use Rattle.std.specs.Prelude.{◌≡◌, ◌+◌, true, List};
+ghost use Rattle.std.specs.Prelude.{◌≡◌, ◌+◌, ◌≤◌, true, List};
 ghost use Rattle.vb_core.specs.declared.device.Device.{Device};
 ghost use Rattle.vb_monitor.specs.declared.outcome.Outcome.{Outcome};
 ghost use Rattle.vb_monitor.specs.Accesses.{Access};
 ghost use Rattle.vb_monitor.specs.Giving.{GivesBack, used_spots};
-ghost use Rattle.vb_monitor.specs.Machine.{Fits, Room, Ahead, whole, next_chain};
+ghost use Rattle.vb_monitor.specs.Machine.{Fits, stage, Room, Ahead, whole, next_chain};
 
 use crate::ends::{end, fail};
 use crate::regions::find_from;
@@ -54,6 +54,7 @@ pub(crate) fn give_back(
         GivesBack (whole regions.now kind after outcome)
         (next_chain (whole regions.now kind after outcome) tally) device.old tally head log }
     ensures fits { Fits result.phase }
+    ensures stage { 2 ≤ stage result.phase }
 {
     match device.use_chain(kind, u32::from(head)) {
         Err(why) => end(device, regions, kind, tally, Some(why), false),

@@ -13,6 +13,7 @@ mod looks;
 mod memory;
 mod naming;
 mod notice;
+mod orders;
 mod outcome;
 mod parts;
 mod pieces;
@@ -34,6 +35,7 @@ pub use laws::{
 };
 pub use memory::LiveMemory;
 pub use notice::Notice;
+pub use orders::{Asked, MAX_CUTS, Orders, Told, Used};
 pub use outcome::{Budget, Outcome, Tally};
 pub use parts::Part;
 pub use placing::{RestoreDenial, are_memory, memory_end_of};

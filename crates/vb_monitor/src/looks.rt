@@ -7,7 +7,7 @@ ghost use Rattle.vb_monitor.specs.declared.outcome.Outcome.{Outcome};
 ghost use Rattle.vb_monitor.specs.Accesses.{Access};
 ghost use Rattle.vb_monitor.specs.Notices.{entry_offset, stands, AfterEntry, AfterIndex, Looks};
 ghost use Rattle.vb_monitor.specs.Notices.{Takes, TakesNext, AfterGiven};
-ghost use Rattle.vb_monitor.specs.Machine.{Fits, Room, Ahead, whole, next_chain};
+ghost use Rattle.vb_monitor.specs.Machine.{Fits, stage, Room, Ahead, whole, next_chain};
 
 use crate::ends::{end, fail};
 use crate::regions::find_from;
@@ -46,6 +46,7 @@ pub(crate) fn look(device: &mut Device, regions: &[Region], kind: Kind, tally: T
         Ahead (whole regions.now kind after outcome) result device.new room log →
         Looks tally.chains (whole regions.now kind after outcome) device.old tally log }
     ensures fits { Fits result.phase }
+    ensures stage { stage result.phase ≡ 3 }
 {
     match device.queue_denial(kind) {
         Some(why) => end(device, regions, kind, tally, Some(why), false),
@@ -158,6 +159,7 @@ pub(crate) fn after_given(device: &mut Device, regions: &[Region], kind: Kind, t
         AfterGiven kind (whole regions.now kind after outcome)
         (Looks tally.chains (whole regions.now kind after outcome)) device.old tally log }
     ensures fits { Fits result.phase }
+    ensures stage { stage result.phase ≡ 3 }
 {
     match kind {
         Kind::Statistics => end(device, regions, kind, tally, None, false),

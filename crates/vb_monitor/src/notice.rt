@@ -9,7 +9,7 @@ ghost use Rattle.vb_monitor.specs.declared.outcome.Outcome.{Outcome};
 ghost use Rattle.vb_monitor.specs.Accesses.{Access};
 ghost use Rattle.vb_monitor.specs.Notices.{Serves, Asks};
 ghost use Rattle.vb_monitor.specs.Machine.{Fits, is_ended, Room, Ahead, AheadAt, Does, whole};
-ghost use Rattle.vb_monitor.specs.Machine.{room_of, outcome_at};
+ghost use Rattle.vb_monitor.specs.Machine.{room_of, outcome_at, is_discarding, Awaited};
 
 use crate::copying::after_part;
 use crate::discards::{after_discard, after_told};
@@ -151,6 +151,42 @@ impl Notice {
         self.step = advance(
             phase, tally, device, regions, kind, answer, pieces, bytes, runs, figures,
         );
+    }
+
+    /// Whether a part is to be discarded next.
+    fn is_discarding(&self) -> bool
+        ensures { result ≡ is_discarding self.now.step.phase }
+    {
+        matches!(self.step.phase, Phase::Discards { .. })
+    }
+
+    /// Goes on as by `next`, where all that needs no answer was done by `at_once`: what is to be
+    /// discarded next waits for no answer, and is done then.
+    pub fn go_on(
+        &mut self,
+        device: &mut Device,
+        regions: &[Region],
+        answer: u16,
+        pieces: &mut [Buffer; MAX_PIECES],
+        bytes: &[u8; MAX_BYTES],
+        runs: &mut [Run; MAX_RUNS],
+        figures: &mut [Statistic; MAX_FIGURES],
+    )
+        requires { Fits self.old.step.phase }
+        ensures kind { self.new.kind ≡ self.old.kind }
+        ensures step { (after : Device) (outcome : Outcome) (before : List ℕ)
+            (done rest : List Access) →
+            Awaited self.old.step.phase self.old.kind answer before
+            (room_of pieces.old bytes.now runs.old figures.old) done →
+            Ahead (whole regions.now self.old.kind after outcome) self.new.step device.new
+            (room_of pieces.new bytes.now runs.new figures.new) rest →
+            Ahead (whole regions.now self.old.kind after outcome) self.old.step device.old
+            (room_of pieces.old before runs.old figures.old) (done ++ rest) }
+        ensures fits { Fits self.new.step.phase }
+    {
+        if !self.is_discarding() {
+            self.next(device, regions, answer, pieces, bytes, runs, figures);
+        }
     }
 
     /// What the notice came to, if it has ended.

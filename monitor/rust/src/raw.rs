@@ -161,12 +161,13 @@ pub struct Notice {
     pub skipped: u32,
     pub figures: u32,
     pub cuts: u32,
-    pub id: u32,
-    pub used_length: u32,
-    pub used_index: u16,
     pub id_at: Spot,
     pub length_at: Spot,
     pub index_at: Spot,
+    pub id: u32,
+    pub used_length: u32,
+    pub used_index: u16,
+    places: [u64; 4],
     pub code: u32,
     pub rule: u32,
     pub interrupt: u32,
@@ -174,8 +175,7 @@ pub struct Notice {
     pub more: u32,
     numbers: [u32; 2],
     words: [u16; 3],
-    flags: [u8; 3],
-    places: [u64; 4],
+    flags: [u8; 4],
 }
 
 /// The room that a notice needs.
@@ -235,10 +235,10 @@ layout!(Region, 24, guest at 0, length at 8, in_file at 16);
 layout!(Spot, 16, region at 0, offset at 8);
 layout!(Cut, 32, region at 0, offset at 8, in_file at 16, length at 24);
 layout!(Balloon, 184, device.status at 172, held at 176);
-layout!(Notice, 184, what at 0, kind at 4, at.region at 8, length at 24, into at 28, runs at 32, pages at 36);
-layout!(Notice, 184, skipped at 40, figures at 44, cuts at 48, id at 52, used_length at 56, used_index at 60);
-layout!(Notice, 184, id_at.region at 64, length_at.region at 80, index_at.region at 96, code at 112, rule at 116);
-layout!(Notice, 184, interrupt at 120, configuration at 124, more at 128);
+layout!(Notice, 192, what at 0, kind at 4, at.region at 8, length at 24, into at 28, runs at 32, pages at 36);
+layout!(Notice, 192, skipped at 40, figures at 44, cuts at 48, id_at.region at 56, length_at.region at 72);
+layout!(Notice, 192, index_at.region at 88, id at 104, used_length at 108, used_index at 112, code at 152, rule at 156);
+layout!(Notice, 192, interrupt at 160, configuration at 164, more at 168);
 
 /// Where the parts of a room begin, in bytes.
 const _: () = {

@@ -1,0 +1,98 @@
+-- What is done at once, worked out, and what isn't.
+use Rattle.std.proofs.Common.{◌≡◌, refl, arith, ℕ, true, false, List, [], ◌∷◌, Some, None}
+use Rattle.vb_core.specs.declared.kinds.Kind.TheVariants.{Inflate, Statistics}
+use Rattle.vb_core.specs.declared.runs.Run.{Run}
+use Rattle.vb_core.specs.declared.statistics.Statistic.{Statistic}
+use Rattle.vb_monitor.specs.declared.regions.Spot.{Spot}
+use Rattle.vb_monitor.specs.declared.cuts.Cut.{Cut}
+use Rattle.vb_monitor.specs.declared.orders.Told.TheVariants.{Nothing, Pages, Figures}
+use Rattle.vb_monitor.specs.declared.orders.Asked.{Asked}
+use Rattle.vb_monitor.specs.declared.orders.Orders.{Orders}
+use Rattle.vb_monitor.specs.declared.step.Phase.{Phase}
+use Rattle.vb_monitor.specs.declared.step.Phase.TheVariants.{AwaitsIndex, Discards}
+use Rattle.vb_monitor.specs.Accesses.{Access, ReadWord, TellPages, TellFigures, Discard, WriteNumber}
+use Rattle.vb_monitor.specs.Accesses.{WriteWord, Release}
+use Rattle.vb_monitor.specs.Machine.{Awaited, Room, stage, waits}
+use Rattle.vb_monitor.specs.Orders.{at_once}
+
+abbrev spot : ℕ → Spot
+spot n = record { region = 0; offset = n }
+
+abbrev cut : ℕ → Cut
+cut n = record { region = 0; offset = n; in_file = n; length = 4096 }
+
+abbrev runs : List Run
+runs = record { first = 1; count = 1 } ∷ record { first = 3; count = 1 } ∷ []
+
+abbrev orders : Orders
+orders = record {
+  named = record { runs = 1; pages = 1; skipped = 0 };
+  figures = 1;
+  cuts = 2;
+  used = record {
+    spots = record { id = spot 8; length = spot 12; index = spot 2 };
+    id = 5;
+    length = 0;
+    index = 7;
+  };
+}
+
+abbrev figures : List Statistic
+figures = record { tag = 4; value = 9 } ∷ record { tag = 5; value = 0 } ∷ []
+
+abbrev cuts : List Cut
+cuts = cut 4096 ∷ cut 8192 ∷ cut 12288 ∷ []
+
+abbrev read : List Access
+read = ReadWord (spot 2) 1 ∷ []
+
+-- pages are told, two parts are discarded, and a chain is given back; then the index is read
+all_of_them : at_once (record { told = Pages; gives = true }) Inflate orders cuts runs figures read ≡
+    TellPages Inflate (record { first = 1; count = 1 } ∷ []) ∷ Discard (cut 4096) ∷ Discard (cut 8192)
+    ∷ WriteNumber (spot 8) 5 ∷ WriteNumber (spot 12) 0 ∷ Release ∷ WriteWord (spot 2) 7
+    ∷ ReadWord (spot 2) 1 ∷ []
+all_of_them = refl
+
+figures_alone : at_once (record { told = Figures; gives = false }) Statistics
+    (record orders { cuts = 0 }) cuts runs figures [] ≡
+    TellFigures (record { tag = 4; value = 9 } ∷ []) ∷ []
+figures_alone = refl
+
+nothing_at_all : at_once (record { told = Nothing; gives = false }) Inflate
+    (record orders { cuts = 0 }) cuts runs figures read ≡ read
+nothing_at_all = refl
+
+-- no discard is left out, and none comes behind the element
+not_one_less : at_once (record { told = Nothing; gives = false }) Inflate orders cuts runs figures [] ≡
+    Discard (cut 4096) ∷ [] → ⊥
+not_one_less e = grind arith
+
+not_the_other_way : at_once (record { told = Nothing; gives = true }) Inflate
+    (record orders { cuts = 1 }) cuts runs figures [] ≡
+    WriteNumber (spot 8) 5 ∷ WriteNumber (spot 12) 0 ∷ Release ∷ WriteWord (spot 2) 7
+    ∷ Discard (cut 4096) ∷ [] → ⊥
+not_the_other_way e = grind arith
+
+-- ---- what a notice waits for
+
+abbrev discards : Phase
+discards = Discards (cut 4096) (record { head = 0; runs = 1; run = 0; from = 1 })
+
+abbrev room : Room
+room = record { pieces = []; bytes = []; runs = runs; figures = [] }
+
+index_awaited : Awaited (AwaitsIndex (spot 2)) Inflate 1 [] room read
+index_awaited = refl
+
+not_unread : Awaited (AwaitsIndex (spot 2)) Inflate 1 [] room [] → ⊥
+not_unread e = grind arith
+
+-- a part for which there was no room isn't discarded yet
+not_yet : Awaited discards Inflate 1 [] room []
+not_yet = refl
+
+not_already : Awaited discards Inflate 1 [] room (Discard (cut 4096) ∷ []) → ⊥
+not_already e = grind arith
+
+waits_for_room : waits discards ≡ true
+waits_for_room = refl

@@ -1,0 +1,44 @@
+-- What is done at once, since none of it needs an answer.
+use Rattle.std.specs.Prelude.{ℕ, Bool, true, false, List, [], ◌∷◌, ◌++◌, map, take}
+use Rattle.std.specs.Prelude.{Option, Some, None}
+use Rattle.vb_core.specs.declared.kinds.Kind.{Kind}
+use Rattle.vb_core.specs.declared.runs.Run.{Run}
+use Rattle.vb_core.specs.declared.statistics.Statistic.{Statistic}
+use Rattle.vb_monitor.specs.declared.cuts.Cut.{Cut}
+use Rattle.vb_monitor.specs.declared.cuts.NextCut.{NextCut}
+use Rattle.vb_monitor.specs.declared.regions.Region.{Region}
+use Rattle.vb_monitor.specs.declared.orders.Told.{Told}
+use Rattle.vb_monitor.specs.declared.orders.Told.TheVariants.{Nothing, Pages, Figures}
+use Rattle.vb_monitor.specs.declared.orders.Used.{Used}
+use Rattle.vb_monitor.specs.declared.orders.Asked.{Asked}
+use Rattle.vb_monitor.specs.declared.orders.Orders.{Orders}
+use Rattle.vb_monitor.specs.Accesses.{Access, Release, TellPages, TellFigures, Discard, WriteNumber}
+use Rattle.vb_monitor.specs.Accesses.{WriteWord}
+use Rattle.vb_monitor.specs.Machine.{cuts_behind}
+
+-- The part that is left, and all behind it.
+abbrev pub cuts_left : List Region → List Run → Option NextCut → List Cut
+cuts_left regions runs None = []
+cuts_left regions runs (Some x) = x.cut ∷ cuts_behind x.from x.run regions runs
+
+-- What is told: the first runs, or the first figures.
+abbrev pub telling : Told → Kind → ℕ → ℕ → List Run → List Statistic → List Access
+telling Nothing kind some_runs some_figures runs figures = []
+telling Pages kind some_runs some_figures runs figures = TellPages kind (take some_runs runs) ∷ []
+telling Figures kind some_runs some_figures runs figures =
+    TellFigures (take some_figures figures) ∷ []
+
+-- A used element's id and length are written, and behind a fence its index.
+abbrev pub giving : Bool → Used → List Access
+giving true u =
+    WriteNumber u.spots.id u.id ∷ WriteNumber u.spots.length u.length ∷ Release
+    ∷ WriteWord u.spots.index u.index ∷ []
+giving false u = []
+
+-- These things are done at once, in this order: pages or figures are told, the first parts are
+-- discarded, and a chain is given back. Then the rest comes.
+abbrev pub at_once : Asked → Kind → Orders → List Cut → List Run → List Statistic → List Access →
+    List Access
+at_once a kind o cuts runs figures rest =
+    telling a.told kind o.named.runs o.figures runs figures
+    ++ (map Discard (take o.cuts cuts) ++ (giving a.gives o.used ++ rest))

@@ -1,0 +1,280 @@
+//! What is to be done at once, since none of it needs an answer.
+
+ghost use Rattle.std.specs.Prelude.{◌≡◌, ◌≤◌, ◌++◌, ◌∷◌, ℕ, true, List, take, map};
+ghost use Rattle.vb_core.specs.declared.next.Buffer.{Buffer};
+ghost use Rattle.vb_core.specs.declared.statistics.Statistic.{Statistic};
+ghost use Rattle.vb_core.specs.declared.device.Device.{Device};
+ghost use Rattle.vb_monitor.specs.declared.orders.TheConstants.{MAX_CUTS};
+ghost use Rattle.vb_monitor.specs.declared.outcome.Outcome.{Outcome};
+ghost use Rattle.vb_monitor.specs.Accesses.{Access, Discard};
+ghost use Rattle.vb_monitor.specs.Machine.{Fits, stage, waits, Room, Ahead, whole, room_of};
+ghost use Rattle.vb_monitor.specs.Machine.{cuts_behind};
+ghost use Rattle.vb_monitor.specs.Orders.{cuts_left, telling, giving, at_once};
+
+use crate::cuts::{NextCut, cut_behind};
+use crate::discards::{after_told, first_runs};
+use crate::ends::end;
+use crate::giving::give_back;
+use crate::looks::after_given;
+use crate::room::MAX_RUNS;
+use crate::{Cut, Discarding, Notice, Phase, Region, Step, Tally, UsedSpots};
+use vb_core::{Device, Kind, Named, Run};
+
+/// Parts of runs that are discarded at once, at most.
+pub const MAX_CUTS: usize = 32;
+
+/// What is told.
+#[derive(Clone, Copy, Debug)]
+pub enum Told {
+    Nothing,
+    /// The pages of the first runs.
+    Pages,
+    /// The first figures.
+    Figures,
+}
+
+/// A used element, and where it goes.
+#[repr(C)]
+#[derive(Clone, Copy, Debug)]
+pub struct Used {
+    pub spots: UsedSpots,
+    /// The number of the chain's first descriptor.
+    pub id: u32,
+    /// How many bytes were written to the chain.
+    pub length: u32,
+    /// The index behind the element.
+    pub index: u16,
+}
+
+/// What is done at once, in this order; how many of these there are is said where they are asked
+/// for.
+#[repr(C)]
+#[derive(Clone, Copy, Debug)]
+pub struct Orders {
+    /// What the monitor is told of pages.
+    pub named: Named,
+    /// How many figures it is told.
+    pub figures: u32,
+    /// How many parts are discarded.
+    pub cuts: u32,
+    /// What is written of a used chain.
+    pub used: Used,
+}
+
+/// Which of these are asked for; parts are where there are some.
+#[derive(Clone, Copy, Debug)]
+pub struct Asked {
+    pub told: Told,
+    pub gives: bool,
+}
+
+/// Tells pages or figures, where that is to be done next.
+fn tell(
+    step: &mut Step,
+    device: &mut Device,
+    regions: &[Region],
+    kind: Kind,
+    runs: &[Run; MAX_RUNS],
+    orders: &mut Orders,
+) -> Told
+    requires { Fits step.old.phase }
+    ensures step { (after : Device) (outcome : Outcome) (pieces : List Buffer) (bytes : List ℕ)
+        (figures : List Statistic) (rest : List Access) →
+        Ahead (whole regions.now kind after outcome) step.new device.new
+        (room_of pieces bytes runs.now figures) rest →
+        Ahead (whole regions.now kind after outcome) step.old device.old
+        (room_of pieces bytes runs.now figures)
+        (telling result kind orders.new.named.runs orders.new.figures runs.now figures ++ rest) }
+    ensures fits { Fits step.new.phase }
+    ensures stage { 1 ≤ stage step.new.phase }
+{
+    let Step { tally, phase } = *step;
+    match phase {
+        Phase::TellsPages { head, named } => {
+            orders.named = named;
+            *step = after_told(device, regions, kind, tally, head, named.runs, runs);
+            Told::Pages
+        }
+        Phase::TellsFigures { count, .. } => {
+            orders.figures = count;
+            *step = end(device, regions, kind, tally, None, false);
+            Told::Figures
+        }
+        Phase::Discards { .. }
+        | Phase::GivesBack { .. }
+        | Phase::AwaitsIndex { .. }
+        | Phase::AwaitsEntry { .. }
+        | Phase::AwaitsDescriptor { .. }
+        | Phase::AwaitsPart { .. }
+        | Phase::AwaitsFlags { .. }
+        | Phase::Ended { .. } => Told::Nothing,
+    }
+}
+
+/// Parts that were put into a list.
+#[derive(Clone, Copy, Debug)]
+struct Filled {
+    /// How many there are.
+    count: u32,
+    /// The part for which there was no room.
+    left: Option<NextCut>,
+}
+
+/// Puts a part and those behind it to the front of the list, as many as have room.
+fn fill(regions: &[Region], runs: &[Run], first: NextCut, cuts: &mut [Cut; MAX_CUTS]) -> Filled
+    ensures few { result.count ≤ MAX_CUTS }
+    ensures parts { first.cut ∷ cuts_behind first.from first.run regions.now runs.now ≡
+        take result.count cuts.new ++ cuts_left regions.now runs.now result.left }
+{
+    let mut next = first;
+    for count in 0..MAX_CUTS {
+        cuts[count] = next.cut;
+        match cut_behind(regions, runs, next.run, next.from) {
+            None => {
+                return Filled {
+                    count: count as u32 + 1,
+                    left: None,
+                };
+            }
+            Some(found) => next = found,
+        }
+    }
+    Filled {
+        count: MAX_CUTS as u32,
+        left: Some(next),
+    }
+}
+
+/// Discards parts, where that is to be done next, as many as the list has room for; says how many.
+#[tactic(auto, using(crate::proofs::OrderLemmas::discards_all))]
+fn discard(
+    step: &mut Step,
+    device: &mut Device,
+    regions: &[Region],
+    kind: Kind,
+    runs: &[Run; MAX_RUNS],
+    cuts: &mut [Cut; MAX_CUTS],
+) -> u32
+    requires fits { Fits step.old.phase }
+    requires stage { 1 ≤ stage step.old.phase }
+    ensures step { (after : Device) (outcome : Outcome) (pieces : List Buffer) (bytes : List ℕ)
+        (figures : List Statistic) (rest : List Access) →
+        Ahead (whole regions.now kind after outcome) step.new device.new
+        (room_of pieces bytes runs.now figures) rest →
+        Ahead (whole regions.now kind after outcome) step.old device.old
+        (room_of pieces bytes runs.now figures)
+        (map Discard (take result cuts.new) ++ rest) }
+    ensures fits { Fits step.new.phase }
+    ensures few { result ≤ MAX_CUTS }
+    ensures stage { 1 ≤ stage step.new.phase }
+{
+    let Step { tally, phase } = *step;
+    match phase {
+        Phase::Discards { cut, discarding } => {
+            let Discarding {
+                head,
+                runs: count,
+                run,
+                from,
+            } = discarding;
+            let named = first_runs(runs, count as usize);
+            let filled = fill(regions, named, NextCut { run, cut, from }, cuts);
+            match filled.left {
+                None => *step = give_back(device, regions, kind, tally, head),
+                Some(found) => {
+                    *step = Step {
+                        tally,
+                        phase: Phase::Discards {
+                            cut: found.cut,
+                            discarding: Discarding {
+                                head,
+                                runs: count,
+                                run: found.run,
+                                from: found.from,
+                            },
+                        },
+                    }
+                }
+            }
+            filled.count
+        }
+        _ => 0,
+    }
+}
+
+/// Gives a chain back, where that is to be done next; says whether it is.
+#[tactic(auto, using(crate::proofs::OrderLemmas::stage_waits))]
+fn give(
+    step: &mut Step,
+    device: &mut Device,
+    regions: &[Region],
+    kind: Kind,
+    used: &mut Used,
+) -> bool
+    requires fits { Fits step.old.phase }
+    requires stage { 1 ≤ stage step.old.phase }
+    ensures step { (after : Device) (outcome : Outcome) (room : Room) (rest : List Access) →
+        Ahead (whole regions.now kind after outcome) step.new device.new room rest →
+        Ahead (whole regions.now kind after outcome) step.old device.old room
+        (giving result used.new ++ rest) }
+    ensures fits { Fits step.new.phase }
+    ensures waits { waits step.new.phase ≡ true }
+{
+    let Step { tally, phase } = *step;
+    match phase {
+        Phase::GivesBack { spots, entry } => {
+            used.id = entry.id;
+            used.length = entry.length;
+            used.index = entry.index;
+            used.spots = spots;
+            let tally = Tally {
+                given: true,
+                ..tally
+            };
+            *step = after_given(device, regions, kind, tally);
+            true
+        }
+        Phase::TellsPages { .. }
+        | Phase::TellsFigures { .. }
+        | Phase::Discards { .. }
+        | Phase::AwaitsIndex { .. }
+        | Phase::AwaitsEntry { .. }
+        | Phase::AwaitsDescriptor { .. }
+        | Phase::AwaitsPart { .. }
+        | Phase::AwaitsFlags { .. }
+        | Phase::Ended { .. } => false,
+    }
+}
+
+impl Notice {
+    /// Goes on as long as nothing needs an answer, and parts that are discarded have room; what is
+    /// to be done so is put into the orders and the list of parts.
+    pub fn at_once(
+        &mut self,
+        device: &mut Device,
+        regions: &[Region],
+        runs: &[Run; MAX_RUNS],
+        cuts: &mut [Cut; MAX_CUTS],
+        orders: &mut Orders,
+    ) -> Asked
+        requires { Fits self.old.step.phase }
+        ensures kind { self.new.kind ≡ self.old.kind }
+        ensures step { (after : Device) (outcome : Outcome) (pieces : List Buffer)
+            (bytes : List ℕ) (figures : List Statistic) (rest : List Access) →
+            Ahead (whole regions.now self.old.kind after outcome) self.new.step device.new
+            (room_of pieces bytes runs.now figures) rest →
+            Ahead (whole regions.now self.old.kind after outcome) self.old.step device.old
+            (room_of pieces bytes runs.now figures)
+            (at_once result self.old.kind orders.new cuts.new runs.now figures rest) }
+        ensures fits { Fits self.new.step.phase }
+        ensures few { orders.new.cuts ≤ MAX_CUTS }
+        ensures waits { waits self.new.step.phase ≡ true }
+    {
+        let kind = self.kind;
+        let step = &mut self.step;
+        let told = tell(step, device, regions, kind, runs, orders);
+        orders.cuts = discard(step, device, regions, kind, runs, cuts);
+        let gives = give(step, device, regions, kind, &mut orders.used);
+        Asked { told, gives }
+    }
+}
