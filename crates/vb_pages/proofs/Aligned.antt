@@ -1,11 +1,7 @@
 -- Multiples of a number, and of powers of two.
-use Rattle.std.proofs.Common.{◌≡◌, ℕ, suc, ◌+◌, ◌-◌, ◌*◌, ◌/◌, ◌%◌, ◌^◌, ◌<◌, ◌≤◌, inl, inr, sym}
+use Rattle.std.proofs.Common.{◌≡◌, ℕ, suc, ◌+◌, ◌-◌, ◌*◌, ◌/◌, ◌%◌, ◌^◌, ◌<◌, ◌≤◌}
 use Rattle.std.proofs.Common.{◌∙◌, ap, min, arith}
-use Rattle.std.proofs.lemmas.Nat.{div-add-mod', div-mul-add, mod-mul-add, mul-le, pow-add, pow_pos}
-use Rattle.std.proofs.lemmas.Nat.{mod_below}
-use Rattle.std.proofs.lemmas.Grind.{div_ceil_times}
-use Rattle.std.proofs.lemmas.Bool.{cases_lt}
-use Rattle.std.proofs.Math.Nat.{mul_assoc}
+use Rattle.std.proofs.lemmas.Nat.{div-add-mod', div-mul-add, mod-mul-add, pow-add, pow_pos}
 use Rattle.std.proofs.Math.Pow.{pow_mono}
 
 pub multiple_of : (a m : ℕ) → a % m ≡ 0 → (a / m) * m ≡ a
@@ -21,107 +17,52 @@ times_div x m h = let e : x * m ≡ x * m + 0 = omega arith in
 
 -- which multiple it is, where one more fits
 pub block_fits : (a n m : ℕ) → 0 < m → a % m ≡ 0 → a + m ≤ n → a / m < n / m
-block_fits a n m pos h l =
-    elim (cases_lt (a / m) (n / m)) [
-      | inl lt ↦ lt
-      | inr ge ↦
-          let b : (n / m) * m ≤ (a / m) * m = mul-le (n / m) m (a / m) m ge (omega arith) in
-          let low : n % m < m = mod_below n m pos in
-          absurd (omega (arith, b, low, multiple_of a m h, div-add-mod' n m))
-    ]
+block_fits a n m pos h l = grind arith
 
 -- the multiples from a number on
 pub div_ceil_le : (n b m : ℕ) → 0 < m → n ≤ b * m → n / m + min 1 (n % m) ≤ b
-div_ceil_le n b m pos l =
-    let up = n / m + min 1 (n % m) in
-    elim (cases_lt b up) [
-      | inl lt ↦
-          let step : suc b * m ≤ up * m = mul-le (suc b) m up m lt (omega arith) in
-          let one : suc b * m ≡ b * m + m = omega arith in
-          absurd (omega (arith, step, one, (div_ceil_times n m pos).1))
-      | inr ge ↦ ge
-    ]
+div_ceil_le n b m pos l = grind arith
 
 pub div_ceil_from : (n b m : ℕ) → 0 < m → n / m + min 1 (n % m) ≤ b → n ≤ b * m
-div_ceil_from n b m pos l =
-    let up = n / m + min 1 (n % m) in
-    let step : up * m ≤ b * m = mul-le up m b m l (omega arith) in
-    omega (arith, step, (div_ceil_times n m pos).0)
+div_ceil_from n b m pos l = grind arith
 
 -- the next multiple
 pub aligned_step : (a e m : ℕ) → a % m ≡ 0 → e % m ≡ 0 → a < e → a + m ≤ e
-aligned_step a e m ha he h =
-    elim (cases_lt (a / m) (e / m)) [
-      | inl lt ↦
-          let b : suc (a / m) * m ≤ (e / m) * m =
-          mul-le (suc (a / m)) m (e / m) m lt (omega arith) in
-          let x = multiple_of a m ha in
-          let y = multiple_of e m he in
-          let z : suc (a / m) * m ≡ (a / m) * m + m = omega arith in
-          omega (arith, b, x, y, z)
-      | inr ge ↦
-          let b : (e / m) * m ≤ (a / m) * m = mul-le (e / m) m (a / m) m ge (omega arith) in
-          absurd (omega (arith, b, multiple_of a m ha, multiple_of e m he))
-    ]
+aligned_step a e m ha he h = grind arith
 
 -- two multiples less than one step apart
 pub aligned_same : (a b m p : ℕ) → a % m ≡ 0 → b % m ≡ 0 → a ≤ p → p < a + m → b ≤ p → p < b + m
     → a ≡ b
-aligned_same a b m p ha hb al ah bl bh =
-    elim (cases_lt a b) [
-      | inl lt ↦ absurd (omega (arith, aligned_step a b m ha hb lt))
-      | inr ge ↦
-          elim (cases_lt b a) [
-            | inl lt ↦ absurd (omega (arith, aligned_step b a m hb ha lt))
-            | inr le ↦ omega arith
-          ]
-    ]
+aligned_same a b m p ha hb al ah bl bh = grind arith
 
 pub aligned_add : (a b m : ℕ) → 0 < m → a % m ≡ 0 → b % m ≡ 0 → (a + b) % m ≡ 0
-aligned_add a b m pos ha hb =
-    let e : a + b ≡ (a / m + b / m) * m = omega (arith, multiple_of a m ha, multiple_of b m hb) in
-    ap (λ (n : ℕ). n % m) e ∙ zero_mod (a / m + b / m) m pos
+aligned_add a b m pos ha hb = grind (arith, zero_mod (a / m + b / m) m pos)
 
 aligned_mul : (x b m : ℕ) → 0 < m → b % m ≡ 0 → (x * b) % m ≡ 0
-aligned_mul x b m pos hb =
-    let e : x * b ≡ (x * (b / m)) * m =
-    ap (λ (n : ℕ). x * n) (sym (multiple_of b m hb)) ∙ sym (mul_assoc x (b / m) m) in
-    ap (λ (n : ℕ). n % m) e ∙ zero_mod (x * (b / m)) m pos
+aligned_mul x b m pos hb = grind (arith, zero_mod (x * (b / m)) m pos)
 
 pub pow_aligned : (j k : ℕ) → j ≤ k → (2 ^ k) % 2 ^ j ≡ 0
-pow_aligned j k h =
-    let n : k ≡ (k - j) + j = omega arith in
-    let e : 2 ^ k ≡ 2 ^ (k - j) * 2 ^ j = ap (λ (i : ℕ). 2 ^ i) n ∙ pow-add 2 (k - j) j in
-    ap (λ (i : ℕ). i % 2 ^ j) e ∙ zero_mod (2 ^ (k - j)) (2 ^ j) (pow_pos j)
+pow_aligned j k h = grind (arith, pow-add 2 (k - j) j)
 
 -- a multiple of a power is one of the lower powers too
 pub aligned_down : (s j k : ℕ) → j ≤ k → s % 2 ^ k ≡ 0 → s % 2 ^ j ≡ 0
 aligned_down s j k h e =
-    let m : (s / 2 ^ k * 2 ^ k) % 2 ^ j ≡ 0 =
-    aligned_mul (s / 2 ^ k) (2 ^ k) (2 ^ j) (pow_pos j) (pow_aligned j k h) in
-    ap (λ (i : ℕ). i % 2 ^ j) (sym (multiple_of s (2 ^ k) e)) ∙ m
+    grind (arith, aligned_mul (s / 2 ^ k) (2 ^ k) (2 ^ j) (pow_pos j) (pow_aligned j k h))
 
 pub end_aligned : (s j k : ℕ) → j ≤ k → s % 2 ^ k ≡ 0 → (s + 2 ^ k) % 2 ^ j ≡ 0
 end_aligned s j k h e =
     aligned_add s (2 ^ k) (2 ^ j) (pow_pos j) (aligned_down s j k h e) (pow_aligned j k h)
 
 pub pow_twice : (j : ℕ) → 2 ^ suc j ≡ 2 ^ j + 2 ^ j
-pow_twice j = let e : 2 ^ (1 + j) ≡ 2 ^ 1 * 2 ^ j = pow-add 2 1 j in
-    let n : suc j ≡ 1 + j = omega arith in
-    ap (λ (i : ℕ). 2 ^ i) n ∙ (e ∙ (let w : 2 ^ 1 * 2 ^ j ≡ 2 ^ j + 2 ^ j = omega arith in w))
+pow_twice j = grind arith
 
 -- the start of the aligned block in which a page lies
 pub floor_aligned : (p m : ℕ) → 0 < m → (p - p % m) % m ≡ 0
-floor_aligned p m pos =
-    let e : p - p % m ≡ (p / m) * m = omega (arith, div-add-mod' p m) in
-    ap (λ (n : ℕ). n % m) e ∙ zero_mod (p / m) m pos
+floor_aligned p m pos = grind arith
 
 -- the half that a block makes up of the next larger one
 pub right_half : (s k : ℕ) → s % 2 ^ suc k ≡ 0 → (s + 2 ^ k) % 2 ^ suc k ≡ 0 → ⊥
-right_half s k a b =
-    let twice : 2 ^ suc k ≡ 2 ^ k + 2 ^ k = pow_twice k in
-    let pos : 0 < 2 ^ k = pow_pos k in
-    omega (arith, aligned_step s (s + 2 ^ k) (2 ^ suc k) a b (omega arith))
+right_half s k a b = grind (arith, pow_pos)
 
 pub left_of : (s k : ℕ) → s % 2 ^ k ≡ 0 → (s % 2 ^ suc k ≡ 0 → ⊥)
     → (2 ^ k ≤ s) × ((s - 2 ^ k) % 2 ^ suc k ≡ 0)

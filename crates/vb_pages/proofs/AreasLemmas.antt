@@ -1,10 +1,9 @@
 -- The areas as a set: counts, the lowest maximal block, and all pages but the reserved ones.
 use Rattle.std.proofs.Common.{◌≡◌, ℕ, suc, ◌+◌, ◌^◌, ◌<◌, ◌≤◌, Bool, true, false, List, [], ◌∷◌}
-use Rattle.std.proofs.Common.{length, Option, Some, None, replicate, refl, sym, ◌∙◌, ap, arith}
+use Rattle.std.proofs.Common.{length, Option, Some, None, replicate, refl, ◌∙◌, ap, arith}
 use Rattle.std.specs.Prelude.{count_by, nat_le}
 use Rattle.std.proofs.lemmas.List.{length-replicate}
 use Rattle.std.proofs.lemmas.List.FromFn.{get_or-map-range_with_len, length-map-range_with_len}
-use Rattle.std.proofs.lemmas.Bool.{le-leb, leb-true}
 use Rattle.std.proofs.Math.Pow.{pow_mono}
 use Rattle.vb_model.specs.Tests.{one_if}
 use Rattle.vb_model.specs.Pages.{pages_of}
@@ -30,9 +29,7 @@ count_without_block s k set inside = count_without s k set inside
 -- the pages that a request of the order gets are in the set
 pub taken_inside : (set : List Bool) (s j k : ℕ) → IsChosen set j (block_at s k)
     → LiesIn set (block_at s j)
-taken_inside set s j k chosen p l h =
-    let m : 2 ^ j ≤ 2 ^ k = pow_mono chosen.sufficient in
-    chosen.maximal.inside p l (omega (arith, m))
+taken_inside set s j k chosen p l h = grind (arith, pow_mono)
 
 pub count_zero : (set : List Bool) → ((p : ℕ) → has set p ≡ false) → count_by (λ f. f) set ≡ 0
 count_zero [] h = refl
@@ -80,8 +77,4 @@ pub unreserved_is : (set : List Bool) (n r : ℕ) → length set ≡ n
     → ((p : ℕ) → has set p ≡ true → r ≤ p) → ((p : ℕ) → r ≤ p → p < n → has set p ≡ true)
     → set ≡ unreserved n r
 unreserved_is set n r l to from =
-    same_sets set (unreserved n r) (l ∙ sym (length-unreserved n r))
-    (λ p h. has-unreserved n r p (omega (arith, is_inside set p h, l)) ∙ le-leb r p (to p h))
-    (λ p h.
-    let b : p < n = omega (arith, is_inside (unreserved n r) p h, length-unreserved n r) in
-    from p (leb-true r p (sym (has-unreserved n r p b) ∙ h)) b)
+    grind (arith, same_sets, length-unreserved, has-unreserved, is_inside)

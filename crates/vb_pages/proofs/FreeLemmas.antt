@@ -1,6 +1,6 @@
 -- Free pages: how often each is free, before and after a call.
-use Rattle.std.proofs.Common.{◌≡◌, ℕ, zero, suc, ◌+◌, ◌%◌, ◌^◌, ◌<◌, ◌≤◌, inl, inr, Bool, true}
-use Rattle.std.proofs.Common.{false, cond, List, [], ◌∷◌, ◌++◌, length, get_or, set, take, drop}
+use Rattle.std.proofs.Common.{◌≡◌, ℕ, zero, suc, ◌+◌, ◌<◌, ◌≤◌, inl, inr, Bool, true}
+use Rattle.std.proofs.Common.{false, List, [], ◌∷◌, ◌++◌, length, get_or, set, take, drop}
 use Rattle.std.proofs.Common.{map, reverse, replicate, Option, Some, None, refl, sym, ◌∙◌, ap}
 use Rattle.std.proofs.Common.{subst, arith, length-append}
 use Rattle.std.specs.Prelude.{◌==◌, count_by, nat_lt, MatchOption}
@@ -11,7 +11,7 @@ use Rattle.std.proofs.lemmas.List.{length-reverse, reverse-append, nil_from_leng
 use Rattle.std.proofs.lemmas.List.{flat_map_more, take_all, same_lists, get_or_default, drop_all}
 use Rattle.std.proofs.lemmas.List.{append-nil}
 use Rattle.std.proofs.lemmas.Bool.{cases_eq, cases_Bool, both_ways, eq-eqb, eqb-true, ne_eqb}
-use Rattle.std.proofs.lemmas.Bool.{cond-true, cond-false, or_parts, lt-ltb, false_from_ne_true}
+use Rattle.std.proofs.lemmas.Bool.{cond-true, cond-false, lt-ltb, false_from_ne_true}
 use Rattle.std.proofs.lemmas.List.Sorted.{sum_by-IsPermutation, length_permutation}
 use Rattle.std.proofs.lemmas.List.Sums.{sum_by-append, sum_by-cons}
 use Rattle.std.specs.Prelude.{sum_by}
@@ -20,7 +20,7 @@ use Rattle.vb_model.specs.Pages.{pages_of, covers}
 use Rattle.vb_model.proofs.PageSteps.{covers_is}
 use Rattle.vb_pages.specs.declared.table.TheConstants.{MAX_PAGES}
 use Rattle.vb_pages.specs.Areas.{has, with_pages, without_pages, unreserved, block_at, IsBlock}
-use Rattle.vb_pages.specs.Areas.{HasNoBlock, IsChosen, TakesBlock, IsMaximal, IsLowestFrom}
+use Rattle.vb_pages.specs.Areas.{HasNoBlock, TakesBlock, IsMaximal, IsLowestFrom}
 use Rattle.vb_pages.specs.declared.block.FreeBlock.{FreeBlock}
 use Rattle.vb_pages.specs.FreePages.{FreePages, in_lists, is_free_in, times_free, list_of}
 use Rattle.vb_pages.specs.FreePages.{with_list, drained, TakesPages, Refills, Pops, TakesSingle}
@@ -32,7 +32,7 @@ use Rattle.vb_pages.proofs.AreasLemmas.{length-unreserved, count_without_block, 
 use Rattle.vb_pages.proofs.AreasLemmas.{taken_inside}
 use Rattle.vb_pages.proofs.ListsLemmas.{times, times-append, times-one, times_out, one_if_le, Once}
 use Rattle.vb_pages.proofs.ListsLemmas.{with_times, with_none, with_append_turned, takes_times}
-use Rattle.vb_pages.proofs.ListsLemmas.{takes_pages_times, takes_more, no_page, page_block}
+use Rattle.vb_pages.proofs.ListsLemmas.{takes_pages_times, takes_more, no_page}
 use Rattle.vb_pages.proofs.ListsLemmas.{covers_one}
 
 abbrev pub flat : List (List ℕ) → List ℕ
@@ -47,7 +47,7 @@ times-set p [] i l h = absurd (omega arith)
 times-set p (x ∷ xs) zero l h =
     omega (arith, times-append p l (flat xs), times-append p x (flat xs))
 times-set p (x ∷ xs) (suc i) l h =
-    omega (
+    grind (
       arith,
       times-append p x (flat (set xs i l)),
       times-append p x (flat xs),
@@ -79,20 +79,12 @@ list-empty (x ∷ xs) (suc i) = list-empty xs i
 pub sound_from : (f g : FreePages) → IsSoundFree f → length g.areas ≡ length f.areas
     → length g.lists ≡ length f.lists → ((p : ℕ) → times_free g p ≤ times_free f p)
     → ((cpu : ℕ) → length (list_of g cpu) < 16) → IsSoundFree g
-sound_from f g sound a l less short = record {
-  once = λ p. let e : one_if (nat_lt p (length g.areas)) ≡ one_if (nat_lt p (length f.areas)) =
-      ap (λ (n : ℕ). one_if (nat_lt p n)) a in omega (arith, sound.once p, less p, e);
-  short = short;
-  few = omega (arith, sound.few, l);
-  small = omega (arith, sound.small, a);
-}
+sound_from f g sound a l less short = search (arith)
 
 -- draining moves each page to the areas
 pub drained_times : (f : FreePages) → IsSoundFree f → (p : ℕ)
     → times_free (drained f) p ≡ times_free f p
-drained_times f sound p =
-    let e : times p (in_lists (drained f)) ≡ 0 = ap (times p) (flat-empty f.lists) in
-    omega (arith, e, with_times f.areas (in_lists f) sound.once p)
+drained_times f sound p = grind (arith, flat-empty, with_times)
 
 pub drained_sound : (f : FreePages) → IsSoundFree f → IsSoundFree (drained f)
 drained_sound f sound =
@@ -103,10 +95,7 @@ drained_sound f sound =
 -- ---- a block comes back
 
 not_free : (f : FreePages) (p : ℕ) → is_free_in f p ≡ false → times_free f p ≡ 0
-not_free f p h =
-    let q = or_parts (has f.areas p) (is_in p (in_lists f)) h in
-    let e : one_if (has f.areas p) ≡ 0 = ap one_if q.0 in
-    omega (arith, e, times_out p (in_lists f) q.1)
+not_free f p h = grind (arith, times_out)
 
 pub block_times : (f : FreePages) (s k : ℕ) → IsSoundFree f → HasRoomFor f s k → (p : ℕ)
     → one_if (has (with_pages (pages_of (block_at s k)) f.areas) p)
@@ -148,34 +137,11 @@ block_times f s k sound room p =
 -- a page of the block wasn't free, and is there
 pub room_once : (f : FreePages) (s k : ℕ) → IsSoundFree f → HasRoomFor f s k → (p : ℕ)
     → times_free f p + one_if (covers p (block_at s k)) ≤ one_if (nat_lt p (length f.areas))
-room_once f s k sound room p =
-    elim (cases_Bool (is_in p (pages_of (block_at s k)))) [
-      | inl i ↦
-          let b = block_bounds s k p i in
-          let c : one_if (covers p (block_at s k)) ≡ 1 =
-          ap one_if (covers_is p (block_at s k) true i) in
-          let l : one_if (nat_lt p (length f.areas)) ≡ 1 =
-          ap one_if (lt-ltb p (length f.areas) (omega (arith, b.1, room.1))) in
-          omega (arith, c, l, not_free f p (room.2 p b.0 b.1))
-      | inr o ↦
-          let c : one_if (covers p (block_at s k)) ≡ 0 =
-          ap one_if (covers_is p (block_at s k) false o) in
-          omega (arith, c, sound.once p)
-    ]
+room_once f s k sound room p = search (arith, cases_Bool, covers_is, lt-ltb, not_free)
 
 pub block_sound : (f : FreePages) (s k : ℕ) → IsSoundFree f → HasRoomFor f s k
     → IsSoundFree (record f { areas = with_pages (pages_of (block_at s k)) f.areas })
-block_sound f s k sound room = record {
-  once = λ p.
-      let e : one_if (nat_lt p (length (with_pages (pages_of (block_at s k)) f.areas)))
-      ≡ one_if (nat_lt p (length f.areas)) =
-      ap (λ (n : ℕ). one_if (nat_lt p n))
-      (length-with_pages (pages_of (block_at s k)) f.areas) in
-      omega (arith, block_times f s k sound room p, room_once f s k sound room p, e);
-  short = sound.short;
-  few = sound.few;
-  small = omega (arith, sound.small, length-with_pages (pages_of (block_at s k)) f.areas);
-}
+block_sound f s k sound room = grind (arith, length-with_pages, block_times, room_once)
 
 -- ---- a block goes out
 
@@ -190,21 +156,23 @@ pub length-takes_pages : (set new : List Bool) (pages : List ℕ) → TakesPages
     → length new ≡ length set
 length-takes_pages set new [] t = ap length t
 length-takes_pages set new (x ∷ pages) t =
-    length-takes_pages t.0 new pages t.2
-    ∙ (ap length t.1.1 ∙ length-without_pages (pages_of (block_at x 0)) set)
+    grind (
+      arith,
+      length-takes_pages t.0 new pages t.2,
+      length-without_pages (pages_of (block_at x 0)) set,
+    )
 
 -- ---- a single page goes out
 
 sum_by-reverse : (g : ℕ → ℕ) (xs : List ℕ) → sum_by g (reverse xs) ≡ sum_by g xs
 sum_by-reverse g [] = refl
 sum_by-reverse g (x ∷ xs) =
-    let e : sum_by g (reverse (x ∷ xs)) ≡ sum_by g (reverse xs ++ x ∷ []) =
-    ap (sum_by g) (reverse-append (x ∷ []) xs) in
-    omega (
+    grind (
       arith,
-      e,
+      reverse (x ∷ xs),
+      reverse xs,
+      reverse-append (x ∷ []) xs,
       sum_by-append g (reverse xs) (x ∷ []),
-      sum_by-cons g x [],
       sum_by-cons g x xs,
       sum_by-reverse g xs,
     )
@@ -212,22 +180,10 @@ sum_by-reverse g (x ∷ xs) =
 refill_times : (set new : List Bool) (list : List ℕ) → Refills set list new → (p : ℕ)
     → one_if (has new p) + times p list ≡ one_if (has set p)
 refill_times set new list r p =
-    let a : times p r.rising ≡ times p r.taken =
-    sum_by-IsPermutation (λ q. cond (q == p) 1 0) r.taken r.rising r.same in
-    let b : times p (reverse r.rising) ≡ times p r.rising =
-    sum_by-reverse (λ q. cond (q == p) 1 0) r.rising in
-    let c : times p list ≡ times p (reverse r.rising) = ap (times p) r.list_is in
-    omega (arith, a, b, c, takes_pages_times set new r.taken r.takes p)
+    grind (arith, times, sum_by-IsPermutation, sum_by-reverse, takes_pages_times)
 
 pub length-refill : (set new : List Bool) (list : List ℕ) → Refills set list new → length list ≤ 8
-length-refill set new list r =
-    omega (
-      arith,
-      ap length r.list_is,
-      length-reverse r.rising,
-      length_permutation r.taken r.rising r.same,
-      r.most,
-    )
+length-refill set new list r = grind (arith, length-reverse, length_permutation)
 
 abbrev taken_times : Option ℕ → ℕ → ℕ
 taken_times None p = 0
@@ -323,40 +279,27 @@ free_of areas lists reserved = record { areas = areas; lists = lists; reserved =
 
 pub same_free : (a b : FreePages) → a.areas ≡ b.areas → a.lists ≡ b.lists
     → a.reserved ≡ b.reserved → a ≡ b
-same_free a b e l r = ap (λ (x : List Bool). free_of x a.lists a.reserved) e
-    ∙ (ap (λ (xs : List (List ℕ)). free_of b.areas xs a.reserved) l
-    ∙ ap (λ (n : ℕ). free_of b.areas b.lists n) r)
+same_free a b e l r = search (arith)
 
 -- a try that gives nothing changes nothing, and there was no block
 pub tries_none : (f new : FreePages) (cpu order : ℕ) → Tries f cpu order None new
     → (new ≡ f) × HasNoBlock f.areas order
-tries_none f new cpu zero h =
-    let q = single_none f.areas new.areas (list_of f cpu) h.0 h.1 in
-    let lists : new.lists ≡ f.lists =
-    h.2 ∙ (ap (λ (l : List ℕ). set f.lists cpu l) (q.1 ∙ sym q.0)
-    ∙ set-get_or f.lists cpu nothing) in
-    (same_free new f q.2 lists h.3, q.3)
-tries_none f new cpu (suc order) h =
-    (same_free new f h.0.1 h.1 h.2, h.0.0)
+tries_none f new cpu order h = grind (arith, single_none, set-get_or)
 
 -- a try that gives a block takes just its pages
 pub tries_times : (f new : FreePages) (cpu order start : ℕ) → cpu < length f.lists
     → Tries f cpu order (Some start) new → (p : ℕ)
     → times_free new p + one_if (covers p (block_at start order)) ≡ times_free f p
 tries_times f new cpu zero start l h p =
-    let e : times p (in_lists new) ≡ times p (flat (set f.lists cpu h.0)) =
-    ap (λ (xs : List (List ℕ)). times p (flat xs)) h.2 in
-    omega (
+    grind (
       arith,
-      e,
+      times p (in_lists new),
       single_times f.areas new.areas (list_of f cpu) h.0 (Some start) h.1 p,
       times-set p f.lists cpu h.0 l,
       covers_one start p,
     )
 tries_times f new cpu (suc order) start l h p =
-    let e : times p (in_lists new) ≡ times p (in_lists f) =
-    ap (λ (xs : List (List ℕ)). times p (flat xs)) h.1 in
-    omega (arith, e, takes_times f.areas new.areas (suc order) start h.0 p)
+    grind (arith, times p (in_lists f), takes_times f.areas new.areas (suc order) start h.0 p)
 
 -- a request that is served takes just the block's pages
 pub serves_times : (f new : FreePages) (cpu order start : ℕ) → IsSoundFree f → cpu < length f.lists
@@ -386,21 +329,14 @@ pub record IsDrainedSoFar (areas : List Bool) (lists : List (List ℕ)) (i : ℕ
 
 pub drained_none : (areas : List Bool) (lists : List (List ℕ))
     → IsDrainedSoFar areas lists 0 areas lists
-drained_none areas lists =
-    record {
-      set = sym (with_none areas);
-      count = omega arith;
-      empty = λ k h. absurd (omega arith);
-      rest = λ k h. refl;
-      long = refl;
-    }
+drained_none areas lists = grind (arith, with_none)
 
 times_take : (p n : ℕ) (lists : List (List ℕ))
     → times p (flat (take n lists)) ≤ times p (flat lists)
 times_take p zero lists = omega arith
 times_take p (suc n) [] = omega arith
 times_take p (suc n) (x ∷ xs) =
-    omega (
+    grind (
       arith,
       times-append p x (flat (take n xs)),
       times-append p x (flat xs),
@@ -410,8 +346,11 @@ times_take p (suc n) (x ∷ xs) =
 flat_more : (lists : List (List ℕ)) (i : ℕ) → i < length lists
     → flat (take (i + 1) lists) ≡ flat (take i lists) ++ get_or lists i nothing
 flat_more lists i h =
-    ap flat (take_more lists i nothing h)
-    ∙ sym (flat_map_more (λ (l : List ℕ). l) nothing (take i lists) (get_or lists i nothing))
+    grind (
+      arith,
+      take_more lists i nothing h,
+      flat_map_more (λ (l : List ℕ). l) nothing (take i lists) (get_or lists i nothing),
+    )
 
 module _ (areas : List Bool) (lists : List (List ℕ)) (once : Once areas (flat lists)) (i : ℕ)
     (new : List Bool) (left : List (List ℕ)) (so_far : IsDrainedSoFar areas lists i new left)
@@ -495,63 +434,34 @@ pub record AreTakenSoFar (set : List Bool) (i : ℕ) (new : List Bool) (out : Li
 pub taken_one : (set mid new : List Bool) (i page : ℕ) (out : List ℕ) → AreTakenSoFar set i mid out
     → TakesBlock mid 0 (Some page) new → AreTakenSoFar set (i + 1) new (out ++ page ∷ [])
 taken_one set mid new i page out h t =
-    let n = count_without_block page 0 mid (taken_inside mid page 0 t.0.0 t.0.1) in
-    record {
-      takes = takes_more set mid new out page h.takes t;
-      long = omega (arith, length-append out (page ∷ []), h.long);
-      count =
-          omega (arith, h.count, n, ap (count_by (λ f. f)) t.1);
-    }
+    grind (
+      arith,
+      count_without_block page 0 mid (taken_inside mid page 0 t.0.0 t.0.1),
+      takes_more set mid new out page h.takes t,
+      length-append out (page ∷ []),
+    )
 
 pub taken_all : (set mid : List Bool) (i n : ℕ) (out : List ℕ) → AreTakenSoFar set i mid out
     → HasNoBlock mid 0 → i < n → n ≤ count_by (λ f. f) set → ⊥
-taken_all set mid i n out h none l enough =
-    let z : count_by (λ f. f) mid ≡ 0 = count_zero mid (no_page mid none) in
-    omega (arith, z, h.count)
+taken_all set mid i n out h none l enough = grind (arith, count_zero mid (no_page mid none))
 
 -- ---- the areas that another call leaves
 
-pub areas_sound : (f : FreePages) (new : List Bool) → IsSoundFree f → length new ≡ length f.areas
-    → ((p : ℕ) → one_if (has new p) ≤ one_if (has f.areas p)) → IsSoundFree (free_of new f.lists f.reserved)
-areas_sound f new sound l less =
-    sound_from f (free_of new f.lists f.reserved) sound l refl (λ p. omega (arith, less p)) sound.short
-
 pub takes_pages_sound : (f : FreePages) (new : List Bool) (pages : List ℕ) → IsSoundFree f
     → TakesPages f.areas pages new → IsSoundFree (free_of new f.lists f.reserved)
-takes_pages_sound f new pages sound t =
-    areas_sound f new sound (length-takes_pages f.areas new pages t)
-    (λ p. omega (arith, takes_pages_times f.areas new pages t p))
+takes_pages_sound f new pages sound t = grind (arith, length-takes_pages, takes_pages_times)
 
 pub without_sound : (f : FreePages) (pages : List ℕ) → IsSoundFree f
     → IsSoundFree (free_of (without_pages pages f.areas) f.lists f.reserved)
 without_sound f pages sound =
-    areas_sound f (without_pages pages f.areas) sound (length-without_pages pages f.areas) (λ p.
-    elim (cases_Bool (has (without_pages pages f.areas) p)) [
-      | inl t ↦ let e : one_if (has f.areas p) ≡ 1 =
-          ap one_if (without_parts pages f.areas p t).0 in
-          omega (arith, e, one_if_le (has (without_pages pages f.areas) p))
-      | inr n ↦ let e : one_if (has (without_pages pages f.areas) p) ≡ 0 = ap one_if n in
-          omega (arith, e)
-    ])
+    grind (arith, length-without_pages, cases_Bool, without_parts, one_if_le)
 
 -- all pages are free
 pub fresh_sound : (n r : ℕ) (lists : List (List ℕ)) → n ≤ MAX_PAGES → length lists ≤ 4
     → flat lists ≡ [] → ((i : ℕ) → get_or lists i nothing ≡ nothing)
     → IsSoundFree (free_of (unreserved n r) lists r)
-fresh_sound n r lists small few none empty = record {
-  once = λ p.
-      let e : times p (flat lists) ≡ 0 = ap (times p) none in
-      elim (cases_Bool (has (unreserved n r) p)) [
-        | inl t ↦
-            let l : one_if (nat_lt p (length (unreserved n r))) ≡ 1 =
-            ap one_if (lt-ltb p (length (unreserved n r)) (is_inside (unreserved n r) p t)) in
-            omega (arith, e, l, one_if_le (has (unreserved n r) p))
-        | inr f ↦ let z : one_if (has (unreserved n r) p) ≡ 0 = ap one_if f in omega (arith, e, z)
-      ];
-  short = λ cpu. omega (arith, ap length (empty cpu));
-  few = few;
-  small = omega (arith, length-unreserved n r, small);
-}
+fresh_sound n r lists small few none empty =
+    grind (arith, times, lt-ltb, is_inside, one_if_le, length-unreserved)
 
 pub flat-replicate : (n : ℕ) → flat (replicate n nothing) ≡ []
 flat-replicate zero = refl
@@ -694,25 +604,13 @@ module _ (f : FreePages) (cpu s : ℕ) (sound : IsSoundFree f) (l : cpu < length
 
 pub takes_any_sound : (f : FreePages) (new : List Bool) (k : ℕ) (got : Option ℕ) → IsSoundFree f
     → TakesBlock f.areas k got new → IsSoundFree (free_of new f.lists f.reserved)
-takes_any_sound f new k None sound t =
-    subst (λ (x : List Bool). IsSoundFree (free_of x f.lists f.reserved)) (sym t.1) sound
-takes_any_sound f new k (Some s) sound t = takes_sound f new k s sound t
+takes_any_sound f new k got sound t = grind (arith, takes_sound)
 
 -- a second try, after the first gave nothing
 pub serves_later : (f mid new : FreePages) (cpu order : ℕ) (got : Option ℕ)
     → Tries f cpu order None mid → Tries (drained mid) cpu order got new
     → Serves f cpu order got new
-serves_later f mid new cpu order got first second =
-    let same = (tries_none f mid cpu order first).0 in
-    step got (subst (λ (x : FreePages). Tries f cpu order None x) same first)
-    (subst (λ (x : FreePages). Tries (drained x) cpu order got new) same second)
-  where
-    step : (got : Option ℕ) → Tries f cpu order None f → Tries (drained f) cpu order got new
-        → Serves f cpu order got new
-    step None a b =
-        let e = (tries_none (drained f) new cpu order b).0 in
-        (a, subst (λ (x : FreePages). Tries (drained f) cpu order None x) e b, e)
-    step (Some s) a b = inr (a, b)
+serves_later f mid new cpu order got first second = grind (arith, tries_none)
 
 pub room_zero : (f : FreePages) (s k : ℕ) → k ≤ 0 → HasRoomFor f s k → HasRoomFor f s 0
 room_zero f s k h room = let e : k ≡ 0 = omega arith in subst (λ (n : ℕ). HasRoomFor f s n) e room
@@ -721,9 +619,7 @@ room_zero f s k h room = let e : k ≡ 0 = omega arith in subst (λ (n : ℕ). H
 
 pub rows_back : (n : ℕ) (ys xs : List (List ℕ)) → n ≡ length xs → length ys ≡ length xs
     → take n (ys ++ drop (length ys) xs) ≡ ys
-rows_back n ys xs e l =
-    ap (λ (zs : List (List ℕ)). take n (ys ++ zs)) (drop_all (length ys) xs (omega arith))
-    ∙ (ap (λ (zs : List (List ℕ)). take n zs) (append-nil ys) ∙ take_all n ys (omega arith))
+rows_back n ys xs e l = grind (arith, drop_all, append-nil, take_all)
 
 pub all_nothing : (ys xs : List (List ℕ)) → length ys ≡ length xs
     → ((k : ℕ) → k < length xs → get_or ys k nothing ≡ nothing)
@@ -745,11 +641,7 @@ pub isolated_sound : (f : FreePages) (new : List Bool) (order from : ℕ) (got :
     (λ b. IsLowestFrom f.areas order from (block_at b.start b.order)
     × (new ≡ without_pages (pages_of (block_at b.start b.order)) f.areas))
     → IsSoundFree (free_of new f.lists f.reserved)
-isolated_sound f new order from None sound h =
-    subst (λ (x : List Bool). IsSoundFree (free_of x f.lists f.reserved)) (sym h.1) sound
-isolated_sound f new order from (Some b) sound h =
-    subst (λ (x : List Bool). IsSoundFree (free_of x f.lists f.reserved)) (sym h.1)
-    (without_sound f (pages_of (block_at b.start b.order)) sound)
+isolated_sound f new order from got sound h = grind (arith, without_sound)
 
 pub sound_at : (x y : List Bool) (xs ys : List (List ℕ)) (r : ℕ) → x ≡ y → xs ≡ ys
     → IsSoundFree (free_of y ys r) → IsSoundFree (free_of x xs r)
@@ -791,79 +683,27 @@ given_times f cpu s zero sound l room p =
 
 pub given_length : (f : FreePages) (cpu s k : ℕ) → IsSoundFree f → cpu < length f.lists
     → HasRoomFor f s k → length (given_back cpu s k f).areas ≡ length f.areas
-given_length f cpu s (suc k) sound l room =
-    length-with_pages (pages_of (block_at s (suc k))) f.areas
-given_length f cpu s zero sound l room =
-    let long = longer f cpu s sound l room in
-    elim (cases_eq (length long) 16) [
-      | inl full ↦ ap (λ (x : FreePages). length x.areas)
-          (sym (given_full f cpu s sound l room full)) ∙ length-with_pages (take 8 long) f.areas
-      | inr short ↦ ap (λ (x : FreePages). length x.areas)
-          (sym (given_short f cpu s sound l room short))
-    ]
+given_length f cpu s k sound l room = grind (arith, length-with_pages)
 
 pub given_reserved : (f : FreePages) (cpu s k : ℕ) → (given_back cpu s k f).reserved ≡ f.reserved
-given_reserved f cpu s (suc k) = refl
-given_reserved f cpu s zero = at (length (list_of more cpu) == 16)
-  where
-    more : FreePages
-    more = with_list cpu (list_of f cpu ++ s ∷ []) f
-
-    at : (v : Bool) → (cond v
-        (record more {
-          areas = with_pages (take 8 (list_of more cpu)) more.areas;
-          lists = set more.lists cpu (drop 8 (list_of more cpu));
-        }) more).reserved ≡ f.reserved
-    at true = refl
-    at false = refl
+given_reserved f cpu s k = search (arith)
 
 tries_length : (f new : FreePages) (cpu order : ℕ) (got : Option ℕ) → Tries f cpu order got new
     → length new.areas ≡ length f.areas
-tries_length f new cpu zero got h = single_areas f.areas new.areas (list_of f cpu) h.0 got h.1
-tries_length f new cpu (suc order) None h = ap length h.0.1
-tries_length f new cpu (suc order) (Some s) h =
-    ap length h.0.1 ∙ length-without_pages (pages_of (block_at s (suc order))) f.areas
+tries_length f new cpu order got h = grind (arith, single_areas, length-without_pages)
 
 pub serves_length : (f new : FreePages) (cpu order start : ℕ) → Serves f cpu order (Some start) new
     → length new.areas ≡ length f.areas
-serves_length f new cpu order start h =
-    elim h [
-      | inl now ↦ tries_length f new cpu order (Some start) now
-      | inr later ↦ tries_length (drained f) new cpu order (Some start) later.1
-          ∙ length-with_pages (in_lists f) f.areas
-    ]
-
-tries_reserved : (f new : FreePages) (cpu order : ℕ) (got : Option ℕ) → Tries f cpu order got new
-    → new.reserved ≡ f.reserved
-tries_reserved f new cpu zero got h = h.3
-tries_reserved f new cpu (suc order) got h = h.2
+serves_length f new cpu order start h = grind (arith, tries_length, length-with_pages)
 
 pub serves_reserved : (f new : FreePages) (cpu order start : ℕ)
     → Serves f cpu order (Some start) new → new.reserved ≡ f.reserved
-serves_reserved f new cpu order start h =
-    elim h [
-      | inl now ↦ tries_reserved f new cpu order (Some start) now
-      | inr later ↦ tries_reserved (drained f) new cpu order (Some start) later.1
-    ]
+serves_reserved f new cpu order start h = grind arith
 
 tries_is_block : (f new : FreePages) (cpu order start : ℕ) → Tries f cpu order (Some start) new
     → IsBlock (block_at start order)
-tries_is_block f new cpu zero start h = page_block start
-tries_is_block f new cpu (suc order) start h = taken_block f.areas (suc order) start h.0.0.0 h.0.0.1
-  where
-    taken_block : (set : List Bool) (k s j : ℕ) → IsChosen set k (block_at s j)
-        → IsBlock (block_at s k)
-    taken_block set k s j c = (
-      omega (arith, c.sufficient, c.maximal.is_block.0),
-      eq-eqb (s % 2 ^ k) 0 (aligned_down s k j c.sufficient
-          (eqb-true (s % 2 ^ j) 0 c.maximal.is_block.1)),
-    )
+tries_is_block f new cpu order start h = grind (arith, eq-eqb, aligned_down, eqb-true)
 
 pub serves_is_block : (f new : FreePages) (cpu order start : ℕ)
     → Serves f cpu order (Some start) new → IsBlock (block_at start order)
-serves_is_block f new cpu order start h =
-    elim h [
-      | inl now ↦ tries_is_block f new cpu order start now
-      | inr later ↦
-          tries_is_block (drained f) new cpu order start later.1
-    ]
+serves_is_block f new cpu order start h = grind (arith, tries_is_block)

@@ -2,11 +2,11 @@
 use Rattle.std.proofs.Common.{◌≡◌, ℕ, zero, suc, ◌+◌, ◌-◌, ◌%◌, ◌^◌, ◌<◌, ◌≤◌, inl, inr, Bool, true}
 use Rattle.std.proofs.Common.{false, List, [], ◌∷◌, length, set, replicate, Option, Some, None}
 use Rattle.std.proofs.Common.{refl, sym, ◌∙◌, ap, arith}
-use Rattle.std.specs.Prelude.{◌==◌, nat_lt, nat_le}
+use Rattle.std.specs.Prelude.{◌==◌}
 use Rattle.std.specs.List.{list_any}
-use Rattle.std.proofs.lemmas.Bool.{both_ways, or_cases, or_left, or_right, and_parts}
-use Rattle.std.proofs.lemmas.Bool.{and_from, eqb-true, eq-eqb, ne_eqb, ltb-true, lt-ltb, le-ltb}
-use Rattle.std.proofs.lemmas.Bool.{le-leb, leb-true, cond-true, cond-false, and_left}
+use Rattle.std.proofs.lemmas.Bool.{both_ways, or_cases, or_left}
+use Rattle.std.proofs.lemmas.Bool.{and_from, eq-eqb}
+use Rattle.std.proofs.lemmas.Bool.{cond-true}
 use Rattle.std.proofs.lemmas.Bool.{false_from_ne_true}
 use Rattle.std.proofs.lemmas.Nat.{pow_pos}
 use Rattle.vb_model.specs.Pages.{Block, covers, is_same_block}
@@ -24,35 +24,21 @@ with_front : (b : Block) (f : ℕ) (t : List (Option ℕ)) → b.start < f
     → with_block b (blocks_from f t) ≡ b ∷ blocks_from f t
 with_front b f [] h = refl
 with_front b f (None ∷ t) h = with_front b (suc f) t (omega arith)
-with_front b f (Some j ∷ t) h =
-    cond-true (nat_lt b.start f) (b ∷ block_at f j ∷ blocks_from (suc f) t)
-    (block_at f j ∷ with_block b (blocks_from (suc f) t)) (lt-ltb b.start f h)
+with_front b f (Some j ∷ t) h = grind arith
 
 blocks_from-with : (f i k : ℕ) (t : List (Option ℕ)) → i < length t → order_at t i ≡ None
     → blocks_from f (set t i (Some k)) ≡ with_block (block_at (f + i) k) (blocks_from f t)
 blocks_from-with f i k [] h e = absurd (omega arith)
 blocks_from-with f zero k (None ∷ t) h e =
-    let z : f + 0 ≡ f = omega arith in
-    sym (with_front (block_at (f + 0) k) (suc f) t (omega arith)
-    ∙ ap (λ (n : ℕ). block_at n k ∷ blocks_from (suc f) t) z)
+    grind (arith, with_front (block_at (f + 0) k) (suc f) t (omega arith))
 blocks_from-with f zero k (Some j ∷ t) h e = absurd (let bad : Some j ≡ None = e in cc)
 blocks_from-with f (suc i) k (None ∷ t) h e =
-    blocks_from-with (suc f) i k t (omega arith) e
-    ∙ ap (λ (n : ℕ). with_block (block_at n k) (blocks_from (suc f) t)) (moved f i)
+    grind (arith, blocks_from-with (suc f) i k t (omega arith) e)
 blocks_from-with f (suc i) k (Some j ∷ t) h e =
-    ap (λ (bs : List Block). block_at f j ∷ bs)
-    (blocks_from-with (suc f) i k t (omega arith) e
-    ∙ ap (λ (n : ℕ). with_block (block_at n k) (blocks_from (suc f) t)) (moved f i))
-    ∙ sym (cond-false (nat_lt (f + suc i) f)
-    (block_at (f + suc i) k ∷ block_at f j ∷ blocks_from (suc f) t)
-    (block_at f j ∷ with_block (block_at (f + suc i) k) (blocks_from (suc f) t))
-    (le-ltb (f + suc i) f (omega arith)))
+    grind (arith, blocks_from-with (suc f) i k t (omega arith) e)
 
 same_here : (f j k : ℕ) → j ≡ k → is_same_block (block_at f j) (block_at (f + 0) k) ≡ true
 same_here f j k e = and_from (f == f + 0) (j == k) (eq-eqb f (f + 0) (omega arith)) (eq-eqb j k e)
-
-other_here : (f i j k : ℕ) → is_same_block (block_at f j) (block_at (f + suc i) k) ≡ false
-other_here f i j k = and_left (f == f + suc i) (j == k) (ne_eqb f (f + suc i) (λ e. omega arith))
 
 blocks_from-without : (f i k : ℕ) (t : List (Option ℕ)) → order_at t i ≡ Some k
     → blocks_from f (set t i None) ≡ without_block (block_at (f + i) k) (blocks_from f t)
@@ -64,17 +50,8 @@ blocks_from-without f zero k (Some j ∷ t) e =
     sym (cond-true (is_same_block (block_at f j) (block_at (f + 0) k)) (blocks_from (suc f) t)
     (block_at f j ∷ without_block (block_at (f + 0) k) (blocks_from (suc f) t))
     (same_here f j k same))
-blocks_from-without f (suc i) k (None ∷ t) e =
-    blocks_from-without (suc f) i k t e
-    ∙ ap (λ (n : ℕ). without_block (block_at n k) (blocks_from (suc f) t)) (moved f i)
-blocks_from-without f (suc i) k (Some j ∷ t) e =
-    ap (λ (bs : List Block). block_at f j ∷ bs)
-    (blocks_from-without (suc f) i k t e
-    ∙ ap (λ (n : ℕ). without_block (block_at n k) (blocks_from (suc f) t)) (moved f i))
-    ∙ sym (cond-false (is_same_block (block_at f j) (block_at (f + suc i) k))
-    (blocks_from (suc f) t)
-    (block_at f j ∷ without_block (block_at (f + suc i) k) (blocks_from (suc f) t))
-    (other_here f i j k))
+blocks_from-without f (suc i) k (None ∷ t) e = grind (arith, blocks_from-without (suc f) i k t e)
+blocks_from-without f (suc i) k (Some j ∷ t) e = grind (arith, blocks_from-without (suc f) i k t e)
 
 -- a test that a block of the table passes
 any_from : (test : Block → Bool) (f : ℕ) (t : List (Option ℕ))
@@ -110,64 +87,39 @@ any_to test f (Some j ∷ t) zero k e h =
     (ap (λ (n : ℕ). test (block_at f n)) same
     ∙ (ap (λ (n : ℕ). test (block_at n k)) (let z : f ≡ f + 0 = omega arith in z) ∙ h))
 any_to test f (Some j ∷ t) (suc i) k e h =
-    or_right (test (block_at f j)) (list_any test (blocks_from (suc f) t))
-    (any_to test (suc f) t i k e (ap (λ (n : ℕ). test (block_at n k)) (moved f i) ∙ h))
-
-at_zero : (i : ℕ) → 0 + i ≡ i
-at_zero i = omega arith
+    grind (arith, any_to test (suc f) t i k e (ap (λ (n : ℕ). test (block_at n k)) (moved f i) ∙ h))
 
 -- ---- what callers need
 
 pub blocks-with : (s k : ℕ) (t : List (Option ℕ)) → s < length t → order_at t s ≡ None
     → blocks_of (set t s (Some k)) ≡ with_block (block_at s k) (blocks_of t)
 unfolding blocks_of
-blocks-with s k t h e =
-    blocks_from-with 0 s k t h e
-    ∙ ap (λ (n : ℕ). with_block (block_at n k) (blocks_from 0 t)) (at_zero s)
+blocks-with s k t h e = grind (arith, blocks_from-with)
 
 pub blocks-without : (s k : ℕ) (t : List (Option ℕ)) → order_at t s ≡ Some k
     → blocks_of (set t s None) ≡ without_block (block_at s k) (blocks_of t)
 unfolding blocks_of
-blocks-without s k t e =
-    blocks_from-without 0 s k t e
-    ∙ ap (λ (n : ℕ). without_block (block_at n k) (blocks_from 0 t)) (at_zero s)
+blocks-without s k t e = grind (arith, blocks_from-without 0 s k t e)
 
 pub holds_at : (s k : ℕ) (t : List (Option ℕ))
     → list_any (λ h. is_same_block h (block_at s k)) (blocks_of t) ≡ true → order_at t s ≡ Some k
 unfolding blocks_of
-holds_at s k t h =
-    let q = any_from (λ b. is_same_block b (block_at s k)) 0 t h in
-    let parts = and_parts (0 + q.0 == s) (q.1 == k) q.3 in
-    let start : q.0 ≡ s = omega (arith, eqb-true (0 + q.0) s parts.0) in
-    ap (order_at t) (sym start) ∙ (q.2 ∙ ap (λ (n : ℕ). Some n) (eqb-true q.1 k parts.1))
+holds_at s k t h = grind (arith, any_from)
 
 pub at_holds : (s k : ℕ) (t : List (Option ℕ)) → order_at t s ≡ Some k
     → list_any (λ h. is_same_block h (block_at s k)) (blocks_of t) ≡ true
 unfolding blocks_of
-at_holds s k t e =
-    any_to (λ b. is_same_block b (block_at s k)) 0 t s k e
-    (and_from (0 + s == s) (k == k) (eq-eqb (0 + s) s (at_zero s)) (eq-eqb k k refl))
+at_holds s k t e = grind (arith, any_to)
 
 pub covers_at : (p : ℕ) (t : List (Option ℕ)) → list_any (covers p) (blocks_of t) ≡ true
     → (s : ℕ) × (k : ℕ) × (order_at t s ≡ Some k) × (s ≤ p) × (p < s + 2 ^ k)
 unfolding blocks_of
-covers_at p t h =
-    let q = any_from (covers p) 0 t h in
-    let parts = and_parts (nat_le (0 + q.0) p) (nat_lt p ((0 + q.0) + 2 ^ q.1)) q.3 in (
-      q.0,
-      q.1,
-      q.2,
-      omega (arith, leb-true (0 + q.0) p parts.0),
-      omega (arith, ltb-true p ((0 + q.0) + 2 ^ q.1) parts.1),
-    )
+covers_at p t h = grind (arith, any_from (covers p) 0 t h)
 
 pub at_covers : (p s k : ℕ) (t : List (Option ℕ)) → order_at t s ≡ Some k → s ≤ p → p < s + 2 ^ k
     → list_any (covers p) (blocks_of t) ≡ true
 unfolding blocks_of
-at_covers p s k t e l h =
-    any_to (covers p) 0 t s k e
-    (and_from (nat_le (0 + s) p) (nat_lt p ((0 + s) + 2 ^ k)) (le-leb (0 + s) p (omega arith))
-    (lt-ltb p ((0 + s) + 2 ^ k) (omega arith)))
+at_covers p s k t e l h = grind (arith, any_to)
 
 -- no block covers the page, so none starts there
 pub uncovered_empty : (s : ℕ) (t : List (Option ℕ)) → list_any (covers s) (blocks_of t) ≡ false

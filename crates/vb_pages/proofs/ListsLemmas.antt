@@ -4,8 +4,8 @@ use Rattle.std.proofs.Common.{[], ◌∷◌, ◌++◌, length, Some, refl, sym, 
 use Rattle.std.proofs.Common.{length-append}
 use Rattle.std.specs.Prelude.{◌==◌, count_by, nat_lt}
 use Rattle.std.proofs.lemmas.List.Folds.{list_any-append}
-use Rattle.std.proofs.lemmas.Bool.{cases_Bool, both_ways, or_cases, or_parts, or_left, or_right}
-use Rattle.std.proofs.lemmas.Bool.{eqb-true, eq-eqb, ltb-true, false_from_ne_true}
+use Rattle.std.proofs.lemmas.Bool.{cases_Bool, both_ways, or_cases, or_parts}
+use Rattle.std.proofs.lemmas.Bool.{eq-eqb, ltb-true, false_from_ne_true}
 use Rattle.vb_model.specs.Tests.{is_in, one_if}
 use Rattle.vb_model.specs.Pages.{pages_of, covers}
 use Rattle.vb_model.proofs.Tables.{count_by-cons, count_by-append}
@@ -14,7 +14,7 @@ use Rattle.vb_pages.specs.Areas.{has, with_pages, without_pages, block_at, IsBlo
 use Rattle.vb_pages.specs.Areas.{TakesBlock}
 use Rattle.vb_pages.specs.FreePages.{TakesPages}
 use Rattle.vb_pages.proofs.Sets.{with_union, with_cases, with_old, with_new, without_parts}
-use Rattle.vb_pages.proofs.Sets.{without_old, length-with_pages, count_one, same_sets, in_block}
+use Rattle.vb_pages.proofs.Sets.{without_old, length-with_pages, count_one, same_sets}
 use Rattle.vb_pages.proofs.Sets.{block_bounds}
 use Rattle.vb_pages.proofs.AreasLemmas.{taken_inside}
 
@@ -65,53 +65,16 @@ abbrev pub Once : List Bool → List ℕ → Type 0
 Once set list = (p : ℕ) → one_if (has set p) + times p list ≤ one_if (nat_lt p (length set))
 
 pub with_none : (set : List Bool) → with_pages [] set ≡ set
-with_none set =
-    same_sets (with_pages [] set) set (length-with_pages [] set)
-    (λ p e. elim (with_cases [] set p e)
-    [ inl old ↦ old | inr new ↦ absurd (both_ways false refl new) ])
-    (λ p e. with_old [] set p e)
+with_none set = grind (arith, same_sets, length-with_pages, with_cases, with_old)
 
 pub with_append : (xs ys : List ℕ) (set : List Bool)
     → with_pages xs (with_pages ys set) ≡ with_pages (xs ++ ys) set
-with_append xs ys set =
-    with_union xs ys (xs ++ ys) set
-    (λ p h. or_cases (is_in p xs) (is_in p ys) (sym (list_any-append (λ m. m == p) xs ys) ∙ h))
-    (λ p h. list_any-append (λ m. m == p) xs ys ∙ or_left (is_in p xs) (is_in p ys) h)
-    (λ p h. list_any-append (λ m. m == p) xs ys ∙ or_right (is_in p xs) (is_in p ys) h)
+with_append xs ys set = grind (arith, with_union, list_any-append)
 
 -- how often a page is in a set that some pages came to
 pub with_times : (set : List Bool) (xs : List ℕ) → Once set xs → (p : ℕ)
     → one_if (has (with_pages xs set) p) ≡ one_if (has set p) + times p xs
-with_times set xs once p =
-    elim (cases_Bool (is_in p xs)) [
-      | inl t ↦
-          let n : 1 ≤ times p xs = times_in p xs t in
-          let l : p < length set =
-          ltb-true p (length set)
-          (one_if_true (nat_lt p (length set)) (omega (arith, once p))) in
-          let h : one_if (has (with_pages xs set) p) ≡ 1 = ap one_if (with_new xs set p l t) in
-          omega (arith, h, once p, one_if_le (nat_lt p (length set)))
-      | inr f ↦
-          let n : times p xs ≡ 0 = times_out p xs f in
-          elim (cases_Bool (has set p)) [
-            | inl was ↦
-                let h : one_if (has (with_pages xs set) p) ≡ 1 =
-                ap one_if (with_old xs set p was) in
-                let o : one_if (has set p) ≡ 1 = ap one_if was in
-                omega (arith, h, o, n)
-            | inr not_was ↦
-                let none : has (with_pages xs set) p ≡ false =
-                false_from_ne_true (has (with_pages xs set) p)
-                (λ e. elim (with_cases xs set p e) [
-                  | inl old ↦ both_ways (has set p) not_was old
-                  | inr new ↦
-                      both_ways (is_in p xs) f new
-                ]) in
-                let h : one_if (has (with_pages xs set) p) ≡ 0 = ap one_if none in
-                let o : one_if (has set p) ≡ 0 = ap one_if not_was in
-                omega (arith, h, o, n)
-          ]
-    ]
+with_times set xs once p = grind (arith, times_in, with_new, times_out, with_old, with_cases)
 
 -- the last page of a list goes into the set first
 module _ (set : List Bool) (list rest : List ℕ) (page : ℕ) (is : list ≡ rest ++ page ∷ [])
@@ -193,18 +156,7 @@ takes_times set new k s t p =
     ]
 
 pub covers_one : (s p : ℕ) → one_if (covers p (block_at s 0)) ≡ one_if (s == p)
-covers_one s p =
-    elim (cases_Bool (s == p)) [
-      | inl e ↦ let q : s ≡ p = eqb-true s p e in
-          ap one_if (covers_is p (block_at s 0) true (in_block s 0 p (omega arith) (omega arith))
-          ∙ sym e)
-      | inr n ↦
-          ap one_if (covers_is p (block_at s 0) false
-          (false_from_ne_true (is_in p (pages_of (block_at s 0))) (λ i.
-          let b = block_bounds s 0 p i in
-          let q : s ≡ p = omega (arith, b.0, b.1) in
-          both_ways (s == p) n (eq-eqb s p q))) ∙ sym n)
-    ]
+covers_one s p = grind arith
 
 pub takes_page_times : (set new : List Bool) (s : ℕ) → TakesBlock set 0 (Some s) new → (p : ℕ)
     → one_if (has new p) + one_if (s == p) ≡ one_if (has set p)
@@ -215,7 +167,7 @@ pub takes_pages_times : (set new : List Bool) (pages : List ℕ) → TakesPages 
 takes_pages_times set new [] t p = let e : one_if (has new p) ≡ one_if (has set p) =
     ap (λ (x : List Bool). one_if (has x p)) t in omega (arith, e)
 takes_pages_times set new (x ∷ pages) t p =
-    omega (
+    grind (
       arith,
       takes_page_times set t.0 x t.1 p,
       takes_pages_times t.0 new pages t.2 p,
@@ -233,22 +185,13 @@ page_block p = (omega arith, eq-eqb (p % 2 ^ 0) 0 (omega arith))
 
 -- a set without a block of order 0 has no page
 pub no_page : (set : List Bool) → HasNoBlock set 0 → (p : ℕ) → has set p ≡ false
-no_page set none p =
-    false_from_ne_true (has set p)
-    (λ e. none p (page_block p)
-    (λ q l h. let same : p ≡ q = omega arith in ap (has set) (sym same) ∙ e))
+no_page set none p = grind (arith, page_block p)
 
 pub takes_none : (set new : List Bool) (p : ℕ) → HasNoBlock set 0 → TakesBlock set 0 (Some p) new
     → ⊥
 takes_none set new p none t =
-    both_ways (has set p) (no_page set none p)
-    (taken_inside set p 0 t.0.0 t.0.1 p (omega arith) (omega arith))
+    grind (arith, taken_inside set p 0 t.0.0 t.0.1 p (omega arith) (omega arith))
 
 pub with_append_turned : (xs ys : List ℕ) (set : List Bool)
     → with_pages xs (with_pages ys set) ≡ with_pages (ys ++ xs) set
-with_append_turned xs ys set =
-    with_union xs ys (ys ++ xs) set
-    (λ p h. elim (or_cases (is_in p ys) (is_in p xs)
-    (sym (list_any-append (λ m. m == p) ys xs) ∙ h)) [ inl a ↦ inr a | inr b ↦ inl b ])
-    (λ p h. list_any-append (λ m. m == p) ys xs ∙ or_right (is_in p ys) (is_in p xs) h)
-    (λ p h. list_any-append (λ m. m == p) ys xs ∙ or_left (is_in p ys) (is_in p xs) h)
+with_append_turned xs ys set = grind (arith, with_union, list_any-append)

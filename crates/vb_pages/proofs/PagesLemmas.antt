@@ -1,11 +1,11 @@
 -- Each page is free or held at most once, before and after a call.
-use Rattle.std.proofs.Common.{◌≡◌, ℕ, ◌+◌, ◌-◌, ◌^◌, ◌<◌, ◌≤◌, inl, inr, Bool, true, false, not}
+use Rattle.std.proofs.Common.{◌≡◌, ℕ, ◌+◌, ◌-◌, ◌^◌, ◌<◌, ◌≤◌, Bool, true, false, not}
 use Rattle.std.proofs.Common.{cond, List, [], ◌∷◌, length, map, replicate, Option, Some, None}
 use Rattle.std.proofs.Common.{MatchOption, IfSome, refl, sym, ◌∙◌, ap, subst, arith}
 use Rattle.std.specs.Prelude.{◌||◌, ◌&&◌, count_by, nat_lt, nat_le}
 use Rattle.std.specs.List.{list_any}
-use Rattle.std.proofs.lemmas.Bool.{cases_lt, cases_Bool, both_ways, or_cases, or_parts, or_right}
-use Rattle.std.proofs.lemmas.Bool.{and_parts, and_from, and_right, not_from_true, not_from_false}
+use Rattle.std.proofs.lemmas.Bool.{or_parts}
+use Rattle.std.proofs.lemmas.Bool.{and_parts, and_from}
 use Rattle.std.proofs.lemmas.Bool.{le-leb, leb-true, lt-ltb, ltb-true, false_from_ne_true}
 use Rattle.std.proofs.lemmas.Nat.{pow_pos}
 use Rattle.vb_model.specs.Tests.{is_in, one_if}
@@ -20,7 +20,7 @@ use Rattle.vb_pages.specs.FreePages.{FreePages, in_lists, is_free_in, times_free
 use Rattle.vb_pages.specs.FreePages.{TakesPages, Tries, Serves, given_back, IsSoundFree, HasRoomFor}
 use Rattle.vb_pages.specs.Held.{HeldBlocks}
 use Rattle.vb_pages.specs.PageState.{PageState, is_unreserved, IsKept, HasRoomIn}
-use Rattle.vb_pages.proofs.Sets.{is_inside, length-with_pages, length-without_pages, same_bool}
+use Rattle.vb_pages.proofs.Sets.{is_inside, length-with_pages, length-without_pages}
 use Rattle.vb_pages.proofs.Sets.{without_parts, without_old, in_block, not_in_block}
 use Rattle.vb_pages.proofs.AreasLemmas.{length-unreserved, has-unreserved}
 use Rattle.vb_pages.proofs.ListsLemmas.{times, times_in, times_out, one_if_le, one_if_true}
@@ -78,93 +78,40 @@ bounds_cover p s k l h =
 -- ---- how often a page is free, and whether it is
 
 free_some : (f : FreePages) (p : ℕ) → 1 ≤ times_free f p → is_free_in f p ≡ true
-free_some f p h =
-    elim (cases_Bool (is_free_in f p)) [
-      | inl t ↦ t
-      | inr n ↦
-          let q = or_parts (has f.areas p) (is_in p (in_lists f)) n in
-          let o : one_if (has f.areas p) ≡ 0 = ap one_if q.0 in
-          absurd (omega (arith, o, times_out p (in_lists f) q.1))
-    ]
+free_some f p h = grind (arith, times_out)
 
 some_free : (f : FreePages) (p : ℕ) → is_free_in f p ≡ true → 1 ≤ times_free f p
-some_free f p h =
-    elim (or_cases (has f.areas p) (is_in p (in_lists f)) h) [
-      | inl a ↦ let o : one_if (has f.areas p) ≡ 1 = ap one_if a in omega (arith, o)
-      | inr l ↦ omega (arith, times_in p (in_lists f) l)
-    ]
+some_free f p h = grind (arith, times_in)
 
 free_none : (f : FreePages) (p : ℕ) → times_free f p ≤ 0 → is_free_in f p ≡ false
 free_none f p h = false_from_ne_true (is_free_in f p) (λ t. omega (arith, some_free f p t))
 
 pub free_same : (f g : FreePages) (p : ℕ) → times_free g p ≡ times_free f p
     → is_free_in g p ≡ is_free_in f p
-free_same f g p e = same_bool (is_free_in g p) (is_free_in f p)
-    (λ t. free_some f p (omega (arith, e, some_free g p t)))
-    (λ t. free_some g p (omega (arith, e, some_free f p t)))
+free_same f g p e = grind (arith, free_some, some_free)
 
 pub free_left : (f g : FreePages) (p : ℕ) (b : Block) → times_free f p ≤ 1
     → times_free g p + one_if (covers p b) ≡ times_free f p
     → is_free_in g p ≡ (is_free_in f p && not (covers p b))
-free_left f g p b most e =
-    elim (cases_Bool (covers p b)) [
-      | inl t ↦
-          let o : one_if (covers p b) ≡ 1 = ap one_if t in
-          free_none g p (omega (arith, o, e))
-          ∙ sym (and_right (is_free_in f p) (not (covers p b)) (not_from_true (covers p b) t))
-      | inr n ↦
-          let o : one_if (covers p b) ≡ 0 = ap one_if n in
-          free_same f g p (omega (arith, o, e))
-          ∙ sym (and_true (is_free_in f p) (not (covers p b)) (not_from_false (covers p b) n))
-    ]
-  where
-    and_true : (x y : Bool) → y ≡ true → (x && y) ≡ x
-    and_true true y h = h
-    and_true false y h = refl
+free_left f g p b most e = grind (arith, free_none, free_same)
 
 pub free_gained : (f g : FreePages) (p : ℕ) (b : Block)
     → times_free g p ≡ times_free f p + one_if (covers p b)
     → is_free_in g p ≡ (is_free_in f p || covers p b)
-free_gained f g p b e =
-    elim (cases_Bool (covers p b)) [
-      | inl t ↦
-          let o : one_if (covers p b) ≡ 1 = ap one_if t in
-          free_some g p (omega (arith, o, e)) ∙ sym (or_right (is_free_in f p) (covers p b) t)
-      | inr n ↦
-          let o : one_if (covers p b) ≡ 0 = ap one_if n in
-          free_same f g p (omega (arith, o, e)) ∙ sym (or_none (is_free_in f p) (covers p b) n)
-    ]
-  where
-    or_none : (x y : Bool) → y ≡ false → (x || y) ≡ x
-    or_none true y h = refl
-    or_none false y h = h
+free_gained f g p b e = grind (arith, free_some, free_same)
 
 -- ---- the two parts are kept
 
 unreserved_below : (f : FreePages) (bs : List Block) (p : ℕ)
     → 1 ≤ one_if (is_unreserved (record { free = f; held = bs }) p)
     → (f.reserved ≤ p) × (p < length f.areas)
-unreserved_below f bs p h =
-    let t = one_if_true (is_unreserved (record { free = f; held = bs }) p) h in
-    let q = and_parts (nat_le f.reserved p) (nat_lt p (length f.areas)) t in
-    (leb-true f.reserved p q.0, ltb-true p (length f.areas) q.1)
-
-same_room : (f g : FreePages) (xs ys : List Block) (p : ℕ) → length g.areas ≡ length f.areas
-    → g.reserved ≡ f.reserved
-    → one_if (is_unreserved (record { free = g; held = ys }) p)
-    ≡ one_if (is_unreserved (record { free = f; held = xs }) p)
-same_room f g xs ys p e r =
-    ap (λ (n : ℕ). one_if (nat_le g.reserved p && nat_lt p n)) e
-    ∙ ap (λ (n : ℕ). one_if (nat_le n p && nat_lt p (length f.areas))) r
+unreserved_below f bs p h = grind arith
 
 pub kept_times : (f g : FreePages) (h : HeldBlocks) (blocks : List Block) → IsKept f h
     → length g.areas ≡ length f.areas → g.reserved ≡ f.reserved
     → ((p : ℕ) → times_free g p + count_by (covers p) blocks ≤ times_free f p + count_by (covers p)
     h.blocks) → IsKept g (held_of h.pages blocks)
-kept_times f g h blocks kept l r less = record {
-  apart = λ p. omega (arith, kept.apart p, less p, same_room f g h.blocks blocks p l r);
-  pages = kept.pages ∙ sym l;
-}
+kept_times f g h blocks kept l r less = grind arith
 
 pub kept_less : (f g : FreePages) (h : HeldBlocks) → IsKept f h → length g.areas ≡ length f.areas
     → g.reserved ≡ f.reserved → ((p : ℕ) → times_free g p ≤ times_free f p) → IsKept g h
@@ -176,9 +123,7 @@ times_once f h p kept =
 
 pub drained_kept : (f : FreePages) (h : HeldBlocks) → IsSoundFree f → IsKept f h
     → IsKept (drained f) h
-drained_kept f h sound kept =
-    kept_less f (drained f) h kept (length-with_pages (in_lists f) f.areas) refl
-    (λ p. omega (arith, drained_times f sound p))
+drained_kept f h sound kept = grind (arith, length-with_pages, drained_times)
 
 -- a block is handed out
 module _ (f g : FreePages) (h : HeldBlocks) (cpu order s : ℕ) (sound : IsSoundFree f)
@@ -275,53 +220,13 @@ room_for f h s k room = (room.0, room.2, λ p a e. (room.3 p a e).0)
 pub given_kept : (f : FreePages) (h : HeldBlocks) (s k : ℕ) → IsSoundFree f → IsKept f h
     → HasRoomIn (record { free = f; held = h.blocks }) (block_at s k)
     → IsKept (free_of (with_pages (pages_of (block_at s k)) f.areas) f.lists f.reserved) h
-given_kept f h s k sound kept room = record {
-  apart = λ p.
-      let r = same_room f (free_of (with_pages (pages_of (block_at s k)) f.areas) f.lists f.reserved)
-      h.blocks h.blocks p (length-with_pages (pages_of (block_at s k)) f.areas) refl in
-      let t = block_times f s k sound (room_for f h s k room) p in
-      elim (cases_Bool (covers p (block_at s k))) [
-        | inl c ↦
-            let b = covers_bounds p s k c in
-            let o : one_if (covers p (block_at s k)) ≡ 1 = ap one_if c in
-            let free : times_free f p ≤ 0 =
-            elim (cases_lt 0 (times_free f p)) [
-              | inl some ↦ absurd (both_ways (is_free_in f p) (room.3 p b.0 b.1).0
-                  (free_some f p some))
-              | inr no_times ↦ no_times
-            ] in
-            let held : count_by (covers p) h.blocks ≡ 0 =
-            none_count (covers p) h.blocks (room.3 p b.0 b.1).1 in
-            let u : one_if (is_unreserved (record { free = f; held = h.blocks }) p) ≡ 1 =
-            ap one_if (and_from (nat_le f.reserved p) (nat_lt p (length f.areas))
-            (le-leb f.reserved p (omega (arith, room.1, b.0)))
-            (lt-ltb p (length f.areas) (omega (arith, room.2, b.1)))) in
-            omega (arith, r, t, o, free, held, u)
-        | inr n ↦
-            let o : one_if (covers p (block_at s k)) ≡ 0 = ap one_if n in
-            omega (arith, r, t, o, kept.apart p)
-      ];
-  pages = kept.pages ∙ sym (length-with_pages (pages_of (block_at s k)) f.areas);
-}
+given_kept f h s k sound kept room =
+    grind (arith, length-with_pages, block_times, covers_bounds, free_some, none_count, le-leb)
 
 -- all pages are free
 pub fresh_kept : (n r : ℕ) (lists : List (List ℕ)) → flat lists ≡ []
     → IsKept (free_of (unreserved n r) lists r) (held_of n [])
-fresh_kept n r lists none = record {
-  apart = λ p.
-      let e : times p (flat lists) ≡ 0 = ap (times p) none in
-      elim (cases_Bool (has (unreserved n r) p)) [
-        | inl t ↦
-            let l : p < n = omega (arith, is_inside (unreserved n r) p t, length-unreserved n r) in
-            let a : nat_le r p ≡ true = sym (has-unreserved n r p l) ∙ t in
-            let u : one_if (nat_le r p && nat_lt p (length (unreserved n r))) ≡ 1 =
-            ap one_if (and_from (nat_le r p) (nat_lt p (length (unreserved n r))) a
-            (lt-ltb p (length (unreserved n r)) (is_inside (unreserved n r) p t))) in
-            omega (arith, e, u, one_if_le (has (unreserved n r) p))
-        | inr f ↦ let z : one_if (has (unreserved n r) p) ≡ 0 = ap one_if f in omega (arith, e, z)
-      ];
-  pages = sym (length-unreserved n r);
-}
+fresh_kept n r lists none = grind (arith, is_inside, length-unreserved, has-unreserved)
 
 pub kept_at : (f g : FreePages) (h i : HeldBlocks) → f ≡ g → h ≡ i → IsKept g i → IsKept f h
 kept_at f g h i a b k =
@@ -329,17 +234,7 @@ kept_at f g h i a b k =
 
 pub flag_times : (f : FreePages) (p : ℕ) → times_free f p ≤ 1
     → one_if (is_free_in f p) ≡ times_free f p
-flag_times f p most =
-    elim (cases_Bool (is_free_in f p)) [
-      | inl t ↦ let o : one_if (is_free_in f p) ≡ 1 = ap one_if t in
-          omega (arith, o, some_free f p t)
-      | inr n ↦
-          let o : one_if (is_free_in f p) ≡ 0 = ap one_if n in
-          elim (cases_lt 0 (times_free f p)) [
-            | inl some ↦ absurd (both_ways (is_free_in f p) n (free_some f p some))
-            | inr zero_times ↦ omega (arith, o)
-          ]
-    ]
+flag_times f p most = grind (arith, some_free, free_some)
 
 -- ---- a block that leaves a set in which it lies
 
@@ -347,29 +242,7 @@ without_times : (set : List Bool) (s k p : ℕ) → LiesIn set (block_at s k)
     → one_if (has (without_pages (pages_of (block_at s k)) set) p) + one_if
     (covers p (block_at s k)) ≡ one_if (has set p)
 without_times set s k p inside =
-    elim (cases_Bool (covers p (block_at s k))) [
-      | inl c ↦
-          let b = covers_bounds p s k c in
-          let o : one_if (covers p (block_at s k)) ≡ 1 = ap one_if c in
-          let h : one_if (has set p) ≡ 1 = ap one_if (inside p b.0 b.1) in
-          let gone : has (without_pages (pages_of (block_at s k)) set) p ≡ false =
-          false_from_ne_true (has (without_pages (pages_of (block_at s k)) set) p)
-          (λ w. both_ways (is_in p (pages_of (block_at s k)))
-          (without_parts (pages_of (block_at s k)) set p w).1 (in_block s k p b.0 b.1)) in
-          let n : one_if (has (without_pages (pages_of (block_at s k)) set) p) ≡ 0 =
-          ap one_if gone in
-          omega (arith, o, h, n)
-      | inr c ↦
-          let o : one_if (covers p (block_at s k)) ≡ 0 = ap one_if c in
-          let out : is_in p (pages_of (block_at s k)) ≡ false =
-          not_in_block s k p (λ a e. both_ways (covers p (block_at s k)) c
-          (bounds_cover p s k a e)) in
-          let same : has (without_pages (pages_of (block_at s k)) set) p ≡ has set p =
-          same_bool (has (without_pages (pages_of (block_at s k)) set) p) (has set p)
-          (λ w. (without_parts (pages_of (block_at s k)) set p w).0)
-          (λ w. without_old (pages_of (block_at s k)) set p w out) in
-          omega (arith, o, ap one_if same)
-    ]
+    grind (arith, covers_bounds, without_parts, in_block, not_in_block, without_old)
 
 abbrev pub IsolatesFrom : FreePages → ℕ → ℕ → Option FreeBlock → FreePages → Type 0
 IsolatesFrom f order from got new =
@@ -383,17 +256,7 @@ IsolatesFrom f order from got new =
 isolated_times : (f new : FreePages) (order from : ℕ) (b : FreeBlock) → IsSoundFree f
     → IsolatesFrom f order from (Some b) new → (p : ℕ)
     → times_free new p + one_if (covers p (block_at b.start b.order)) ≡ times_free f p
-isolated_times f new order from b sound h p =
-    let e : times_free new p
-    ≡ times_free (record (drained f)
-    { areas = without_pages (pages_of (block_at b.start b.order)) (drained f).areas }) p = ap
-    (λ (x : FreePages). times_free x p) h.1 in
-    omega (
-      arith,
-      e,
-      without_times (drained f).areas b.start b.order p h.0.maximal.inside,
-      drained_times f sound p,
-    )
+isolated_times f new order from b sound h p = grind (arith, without_times, drained_times)
 
 pub isolated_kept : (f new : FreePages) (h : HeldBlocks) (order from : ℕ) (got : Option FreeBlock)
     → IsSoundFree f → IsKept f h → IsolatesFrom f order from got new → IsKept new h
@@ -422,44 +285,24 @@ pub singles_times : (f new : FreePages) (pages : List ℕ) → IsSoundFree f
     → TakesPages (drained f).areas pages new.areas → new.lists ≡ (drained f).lists → (p : ℕ)
     → times_free new p + times p pages ≡ times_free f p
 singles_times f new pages sound t l p =
-    let e : times p (in_lists new) ≡ times p (in_lists (drained f)) =
-    ap (λ (xs : List (List ℕ)). times p (flat xs)) l in
-    omega (
-      arith,
-      e,
-      takes_pages_times (drained f).areas new.areas pages t p,
-      drained_times f sound p,
-    )
+    grind (arith, takes_pages_times (drained f).areas new.areas pages t p, drained_times f sound p)
 
 pub singles_kept : (f new : FreePages) (h : HeldBlocks) (pages : List ℕ) → IsSoundFree f
     → IsKept f h → TakesPages (drained f).areas pages new.areas → new.lists ≡ (drained f).lists
     → new.reserved ≡ f.reserved → IsKept new h
 singles_kept f new h pages sound kept t l r =
-    kept_less f new h kept
-    (length-takes_pages (drained f).areas new.areas pages t
-    ∙ length-with_pages (in_lists f) f.areas) r
-    (λ p. omega (arith, singles_times f new pages sound t l p))
+    grind (arith, length-takes_pages, length-with_pages, singles_times)
 
 pub singles_left : (f new : FreePages) (h : HeldBlocks) (pages : List ℕ) → IsSoundFree f
     → IsKept f h → TakesPages (drained f).areas pages new.areas → new.lists ≡ (drained f).lists
     → (p : ℕ) → one_if (is_free_in new p) + times p pages ≡ one_if (is_free_in f p)
-singles_left f new h pages sound kept t l p =
-    let e = singles_times f new pages sound t l p in
-    omega (
-      arith,
-      e,
-      flag_times new p (omega (arith, e, times_once f h p kept)),
-      flag_times f p (times_once f h p kept),
-    )
+singles_left f new h pages sound kept t l p = grind (arith, singles_times, flag_times)
 
 pub given_gained : (f : FreePages) (h : HeldBlocks) (s k : ℕ) → IsSoundFree f
     → HasRoomIn (record { free = f; held = h.blocks }) (block_at s k) → (p : ℕ)
     → is_free_in (free_of (with_pages (pages_of (block_at s k)) f.areas) f.lists f.reserved) p
     ≡ (is_free_in f p || covers p (block_at s k))
-given_gained f h s k sound room p =
-    free_gained f (free_of (with_pages (pages_of (block_at s k)) f.areas) f.lists f.reserved) p
-    (block_at s k)
-    (omega (arith, block_times f s k sound (room_for f h s k room) p))
+given_gained f h s k sound room p = grind (arith, block_times f s k sound (room_for f h s k room) p)
 
 pub map_nothing : (xs : List (List ℕ))
     → map (λ (l : List ℕ). nothing) xs ≡ replicate (length xs) nothing

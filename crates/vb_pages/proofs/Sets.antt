@@ -7,15 +7,13 @@ use Rattle.std.specs.Prelude.{◌==◌, count_by, slice_set as put}
 use Rattle.std.proofs.lemmas.Nat.{pow_pos}
 use Rattle.std.proofs.lemmas.List.{same_lists, get_or_default, get_or_past, get_or-set_same}
 use Rattle.std.proofs.lemmas.List.{get_or-set_other, length-set}
-use Rattle.std.proofs.lemmas.Bool.{cases_lt, cases_eq, cases_Bool, eq-eqb, ne_eqb, or_from}
-use Rattle.std.proofs.lemmas.Bool.{and_right, not_from_true, both_ways, or_cases, or_left, or_right}
-use Rattle.std.proofs.lemmas.Bool.{and_parts, and_from, not-true, not_from_false}
+use Rattle.std.proofs.lemmas.Bool.{cases_eq, eq-eqb, ne_eqb, or_from}
+use Rattle.std.proofs.lemmas.Bool.{and_right, not_from_true, both_ways, or_left, or_right}
 use Rattle.std.proofs.lemmas.Bool.{false_from_ne_true}
 use Rattle.vb_model.specs.Tests.{is_in, one_if}
 use Rattle.vb_model.specs.Pages.{pages_of}
 use Rattle.vb_model.proofs.Tables.{length-each_from, each_page-get, count_by-cons}
 use Rattle.vb_model.proofs.PageSteps.{is_in-range, outside-range}
-use Rattle.vb_pages.proofs.Aligned.{pow_twice}
 use Rattle.vb_pages.specs.Areas.{has, with_pages, without_pages, block_at}
 
 pub same_bool : (a b : Bool) → (a ≡ true → b ≡ true) → (b ≡ true → a ≡ true) → a ≡ b
@@ -23,11 +21,7 @@ same_bool true b f g = sym (f refl)
 same_bool false b f g = sym (false_from_ne_true b (λ e. both_ways false refl (g e)))
 
 pub is_inside : (set : List Bool) (p : ℕ) → has set p ≡ true → p < length set
-is_inside set p h =
-    elim (cases_lt p (length set)) [
-      | inl l ↦ l
-      | inr l ↦ absurd (both_ways (has set p) (get_or_past set p false l) h)
-    ]
+is_inside set p h = grind (arith, get_or_past)
 
 pub same_sets : (a b : List Bool) → length a ≡ length b
     → ((p : ℕ) → has a p ≡ true → has b p ≡ true) → ((p : ℕ) → has b p ≡ true → has a p ≡ true)
@@ -72,31 +66,20 @@ with_new ps set p l h = has-with_pages ps set p l ∙ or_right (has set p) (is_i
 
 pub with_cases : (ps : List ℕ) (set : List Bool) (p : ℕ) → has (with_pages ps set) p ≡ true
     → (has set p ≡ true) ⊎ (is_in p ps ≡ true)
-with_cases ps set p h =
-    let l : p < length set =
-    omega (arith, is_inside (with_pages ps set) p h, length-with_pages ps set) in
-    or_cases (has set p) (is_in p ps) (sym (has-with_pages ps set p l) ∙ h)
+with_cases ps set p h = grind (arith, is_inside, length-with_pages, has-with_pages)
 
 pub without_parts : (ps : List ℕ) (set : List Bool) (p : ℕ) → has (without_pages ps set) p ≡ true
     → (has set p ≡ true) × (is_in p ps ≡ false)
-without_parts ps set p h =
-    let q = and_parts (has set p) (not (is_in p ps)) (sym (has-without_pages ps set p) ∙ h) in
-    (q.0, not-true (is_in p ps) q.1)
+without_parts ps set p h = grind (arith, has-without_pages)
 
 pub without_old : (ps : List ℕ) (set : List Bool) (p : ℕ) → has set p ≡ true → is_in p ps ≡ false
     → has (without_pages ps set) p ≡ true
-without_old ps set p h n =
-    has-without_pages ps set p
-    ∙ and_from (has set p) (not (is_in p ps)) h (not_from_false (is_in p ps) n)
+without_old ps set p h n = grind (arith, has-without_pages)
 
 -- ---- the pages of a block
 
 pub in_block : (s k p : ℕ) → s ≤ p → p < s + 2 ^ k → is_in p (pages_of (block_at s k)) ≡ true
-in_block s k p l h =
-    elim (cases_Bool (is_in p (pages_of (block_at s k)))) [
-      | inl t ↦ t
-      | inr f ↦ absurd (outside-range p s (2 ^ k) f l h)
-    ]
+in_block s k p l h = grind (arith, outside-range)
 
 pub block_bounds : (s k p : ℕ) → is_in p (pages_of (block_at s k)) ≡ true
     → (s ≤ p) × (p < s + 2 ^ k)
@@ -104,9 +87,7 @@ block_bounds s k p h = is_in-range p s (2 ^ k) h
 
 pub not_in_block : (s k p : ℕ) → (s ≤ p → p < s + 2 ^ k → ⊥)
     → is_in p (pages_of (block_at s k)) ≡ false
-not_in_block s k p h =
-    false_from_ne_true (is_in p (pages_of (block_at s k)))
-    (λ t. let b = block_bounds s k p t in h b.0 b.1)
+not_in_block s k p h = grind (arith, block_bounds)
 
 -- ---- both at once
 
@@ -116,127 +97,54 @@ pub with_union : (ps qs rs : List ℕ) (set : List Bool)
     → ((p : ℕ) → is_in p qs ≡ true → is_in p rs ≡ true)
     → with_pages ps (with_pages qs set) ≡ with_pages rs set
 with_union ps qs rs set split left right =
-    same_sets (with_pages ps (with_pages qs set)) (with_pages rs set)
-    (length-with_pages ps (with_pages qs set)
-    ∙ (length-with_pages qs set ∙ sym (length-with_pages rs set))) to from
-  where
-    to : (p : ℕ) → has (with_pages ps (with_pages qs set)) p ≡ true
-        → has (with_pages rs set) p ≡ true
-    to p h =
-        let l : p < length set =
-        omega (
-          arith,
-          is_inside (with_pages ps (with_pages qs set)) p h,
-          length-with_pages ps (with_pages qs set),
-          length-with_pages qs set,
-        ) in
-        elim (with_cases ps (with_pages qs set) p h) [
-          | inl old ↦ elim (with_cases qs set p old) [
-            | inl older ↦ with_old rs set p older
-            | inr new ↦
-                with_new rs set p l (right p new)
-          ]
-          | inr new ↦ with_new rs set p l (left p new)
-        ]
-
-    from : (p : ℕ) → has (with_pages rs set) p ≡ true
-        → has (with_pages ps (with_pages qs set)) p ≡ true
-    from p h =
-        let l : p < length set =
-        omega (arith, is_inside (with_pages rs set) p h, length-with_pages rs set) in
-        elim (with_cases rs set p h) [
-          | inl old ↦ with_old ps (with_pages qs set) p (with_old qs set p old)
-          | inr new ↦
-              elim (split p new) [
-                | inl a ↦ with_new ps (with_pages qs set) p
-                    (omega (arith, length-with_pages qs set)) a
-                | inr b ↦ with_old ps (with_pages qs set) p (with_new qs set p l b)
-              ]
-        ]
+    grind (arith, same_sets, length-with_pages, is_inside, with_cases, with_old, with_new)
 
 pub with_without : (ps : List ℕ) (set : List Bool)
     → ((p : ℕ) → is_in p ps ≡ true → has set p ≡ true) → with_pages ps (without_pages ps set) ≡ set
 with_without ps set inside =
-    same_sets (with_pages ps (without_pages ps set)) set
-    (length-with_pages ps (without_pages ps set) ∙ length-without_pages ps set) to from
-  where
-    to : (p : ℕ) → has (with_pages ps (without_pages ps set)) p ≡ true → has set p ≡ true
-    to p h = elim (with_cases ps (without_pages ps set) p h)
-        [ inl old ↦ (without_parts ps set p old).0 | inr new ↦ inside p new ]
-
-    from : (p : ℕ) → has set p ≡ true → has (with_pages ps (without_pages ps set)) p ≡ true
-    from p h =
-        elim (cases_Bool (is_in p ps)) [
-          | inl t ↦ with_new ps (without_pages ps set) p
-              (omega (arith, is_inside set p h, length-without_pages ps set)) t
-          | inr f ↦ with_old ps (without_pages ps set) p (without_old ps set p h f)
-        ]
+    grind (
+      arith,
+      same_sets,
+      length-with_pages,
+      length-without_pages,
+      with_cases,
+      without_parts,
+      with_new,
+      is_inside,
+      with_old,
+      without_old,
+    )
 
 pub without_with : (ps : List ℕ) (set : List Bool)
     → ((p : ℕ) → is_in p ps ≡ true → has set p ≡ false) → without_pages ps (with_pages ps set) ≡ set
 without_with ps set outside =
-    same_sets (without_pages ps (with_pages ps set)) set
-    (length-without_pages ps (with_pages ps set) ∙ length-with_pages ps set) to from
-  where
-    to : (p : ℕ) → has (without_pages ps (with_pages ps set)) p ≡ true → has set p ≡ true
-    to p h =
-        let q = without_parts ps (with_pages ps set) p h in
-        elim (with_cases ps set p q.0)
-        [ inl old ↦ old | inr new ↦ absurd (both_ways (is_in p ps) q.1 new) ]
-
-    from : (p : ℕ) → has set p ≡ true → has (without_pages ps (with_pages ps set)) p ≡ true
-    from p h =
-        elim (cases_Bool (is_in p ps)) [
-          | inl t ↦ absurd (both_ways (has set p) (outside p t) h)
-          | inr f ↦ without_old ps (with_pages ps set) p (with_old ps set p h) f
-        ]
+    grind (
+      arith,
+      same_sets,
+      length-without_pages,
+      length-with_pages,
+      without_parts,
+      with_cases,
+      without_old,
+      with_old,
+    )
 
 -- the two halves of a block
 pub halves : (s k : ℕ) (set : List Bool)
     → with_pages (pages_of (block_at s k)) (with_pages (pages_of (block_at (s + 2 ^ k) k)) set)
     ≡ with_pages (pages_of (block_at s (suc k))) set
-halves s k set =
-    let twice : 2 ^ suc k ≡ 2 ^ k + 2 ^ k = pow_twice k in
-    with_union (pages_of (block_at s k)) (pages_of (block_at (s + 2 ^ k) k))
-    (pages_of (block_at s (suc k))) set
-    (λ p h.
-    let b = block_bounds s (suc k) p h in
-    elim (cases_lt p (s + 2 ^ k)) [
-      | inl l ↦ inl (in_block s k p b.0 l)
-      | inr l ↦ inr (in_block (s + 2 ^ k) k p l (omega (arith, b.1)))
-    ])
-    (λ p h. let b = block_bounds s k p h in in_block s (suc k) p b.0 (omega (arith, b.1)))
-    (λ p h. let b = block_bounds (s + 2 ^ k) k p h in
-    in_block s (suc k) p (omega (arith, b.0)) (omega (arith, b.1)))
+halves s k set = grind (arith, with_union, block_bounds, in_block)
 
 pub halves_turned : (s k : ℕ) (set : List Bool)
     → with_pages (pages_of (block_at (s + 2 ^ k) k)) (with_pages (pages_of (block_at s k)) set)
     ≡ with_pages (pages_of (block_at s (suc k))) set
-halves_turned s k set =
-    let twice : 2 ^ suc k ≡ 2 ^ k + 2 ^ k = pow_twice k in
-    with_union (pages_of (block_at (s + 2 ^ k) k)) (pages_of (block_at s k))
-    (pages_of (block_at s (suc k))) set
-    (λ p h.
-    let b = block_bounds s (suc k) p h in
-    elim (cases_lt p (s + 2 ^ k)) [
-      | inl l ↦ inr (in_block s k p b.0 l)
-      | inr l ↦ inl (in_block (s + 2 ^ k) k p l (omega (arith, b.1)))
-    ])
-    (λ p h. let b = block_bounds (s + 2 ^ k) k p h in
-    in_block s (suc k) p (omega (arith, b.0)) (omega (arith, b.1)))
-    (λ p h. let b = block_bounds s k p h in in_block s (suc k) p b.0 (omega (arith, b.1)))
+halves_turned s k set = grind (arith, with_union, block_bounds, in_block)
 
 -- ---- counts
 
 with_cons : (p : ℕ) (ps : List ℕ) (set : List Bool)
     → with_pages (p ∷ ps) set ≡ with_pages ps (with_pages (p ∷ []) set)
-with_cons p ps set =
-    sym (with_union ps (p ∷ []) (p ∷ ps) set
-    (λ q h. elim (or_cases (p == q) (is_in q ps) h)
-    [ inl e ↦ inr (or_left (p == q) false e) | inr m ↦ inl m ])
-    (λ q h. or_right (p == q) (is_in q ps) h)
-    (λ q h. elim (or_cases (p == q) false h)
-    [ inl e ↦ or_left (p == q) (is_in q ps) e | inr m ↦ absurd (both_ways false refl m) ]))
+with_cons p ps set = grind (arith, with_union)
 
 with_one : (p : ℕ) (set : List Bool) → p < length set → with_pages (p ∷ []) set ≡ put set p true
 with_one p set l =
@@ -321,8 +229,4 @@ count_without s k set inside =
 
 pub count_le : (set : List Bool) → count_by (λ f. f) set ≤ length set
 count_le [] = omega arith
-count_le (x ∷ xs) = omega (arith, count_by-cons (λ f. f) x xs, one x, count_le xs)
-  where
-    one : (b : Bool) → one_if b ≤ 1
-    one true = omega arith
-    one false = omega arith
+count_le (x ∷ xs) = grind (arith, count_by-cons (λ f. f) x xs, count_le xs)

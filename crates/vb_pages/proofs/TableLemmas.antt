@@ -31,12 +31,7 @@ is_order-true k (Some j) h = ap (λ (n : ℕ). Some n) (eqb-true j k h)
 
 -- a page where a block starts is there
 pub is_there : (t : List (Option ℕ)) (s k : ℕ) → order_at t s ≡ Some k → s < length t
-is_there t s k e =
-    elim (cases_lt s (length t)) [
-      | inl h ↦ h
-      | inr h ↦ let n : order_at t s ≡ None = get_or_past t s None h in
-          absurd (let bad : Some k ≡ None = sym e ∙ n in cc)
-    ]
+is_there t s k e = grind (arith, get_or_past)
 
 -- ---- the sets of a table
 
@@ -49,9 +44,7 @@ length-set_of_order k t =
 pub set_at : (k : ℕ) (t : List (Option ℕ)) (b : ℕ) → b < room_of k (length t)
     → has (set_of_order k t) b ≡ is_order k (order_at t (b * 2 ^ k))
 unfolding set_of_order
-set_at k t b h =
-    get_or-map-range_with_len (λ n. is_order k (order_at t (n * 2 ^ k))) 0 (room_of k (length t)) b
-    b false h (omega arith)
+set_at k t b h = grind (arith, get_or-map-range_with_len)
 
 pub length-sets_of : (t : List (Option ℕ)) → length (sets_of t) ≡ 10
 unfolding sets_of
@@ -71,25 +64,15 @@ block_below t s k e l = omega (arith, block_fits s (length t) (2 ^ k) (pow_pos k
 -- a member of an order's set is a block of the table
 pub member_listed : (t : List (Option ℕ)) (k b : ℕ) → has (set_of_order k t) b ≡ true
     → order_at t (b * 2 ^ k) ≡ Some k
-member_listed t k b h =
-    let below : b < room_of k (length t) =
-    omega (arith, is_inside (set_of_order k t) b h, length-set_of_order k t) in
-    is_order-true k (order_at t (b * 2 ^ k)) (sym (set_at k t b below) ∙ h)
+member_listed t k b h = grind (arith, is_inside, length-set_of_order, set_at)
 
 pub listed_member : (t : List (Option ℕ)) (k s : ℕ) → AreBlocks t → order_at t s ≡ Some k
     → has (set_of_order k t) (s / 2 ^ k) ≡ true
-listed_member t k s blocks e =
-    let aligned : s % 2 ^ k ≡ 0 = blocks.aligned s k e in
-    set_at k t (s / 2 ^ k) (block_below t s k aligned (blocks.fits s k e))
-    ∙ ap (λ (n : ℕ). is_order k (order_at t n)) (multiple_of s (2 ^ k) aligned)
-    ∙ ap (is_order k) e
-    ∙ is_order-self k
+listed_member t k s blocks e = grind (arith, set_at, block_below)
 
 pub listed_number : (t : List (Option ℕ)) (k b : ℕ) → AreBlocks t
     → order_at t (b * 2 ^ k) ≡ Some k → has (set_of_order k t) b ≡ true
-listed_number t k b blocks e =
-    ap (λ (n : ℕ). has (set_of_order k t) n) (sym (times_div b (2 ^ k) (pow_pos k)))
-    ∙ listed_member t k (b * 2 ^ k) blocks e
+listed_number t k b blocks e = grind (arith, pow_pos k, listed_member t k (b * 2 ^ k) blocks e)
 
 -- ---- the table of its sets
 
@@ -109,9 +92,7 @@ first_is test n (suc more) k l h e other =
 first_none : (test : ℕ → Bool) (n more : ℕ) → ((j : ℕ) → test j ≡ false)
     → first_of test n more ≡ None
 first_none test n zero other = refl
-first_none test n (suc more) other =
-    cond-false (test n) (Some n) (first_of test (suc n) more) (other n)
-    ∙ first_none test (suc n) more other
+first_none test n (suc more) other = grind (arith, first_none test (suc n) more other)
 
 -- a page's test is that of its entry
 tested : (t : List (Option ℕ)) (p k : ℕ) → AreBlocks t
@@ -170,11 +151,7 @@ table_at t blocks p d l =
 
 -- the sets of a table stand for it
 table_of_sets : (t : List (Option ℕ)) → AreBlocks t → table_of (length t) (sets_of t) ≡ t
-table_of_sets t blocks =
-    same_lists (table_of (length t) (sets_of t)) t (length-table_of (length t) (sets_of t))
-    (λ p d l.
-    let inside : p < length t = omega (arith, length-table_of (length t) (sets_of t)) in
-    table_at t blocks p d inside ∙ get_or_default t p None d inside)
+table_of_sets t blocks = grind (arith, same_lists, length-table_of, table_at, get_or_default)
 
 -- sets, and the table that they stand for
 pub record StandFor (pages : ℕ) (sets : List (List Bool)) (t : List (Option ℕ)) : Type 0 where
@@ -183,23 +160,13 @@ pub record StandFor (pages : ℕ) (sets : List (List Bool)) (t : List (Option �
 
 pub stand_for : (pages : ℕ) (sets : List (List Bool)) (t : List (Option ℕ)) → pages ≤ MAX_PAGES
     → pages ≡ length t → sets ≡ sets_of t → AreBlocks t → StandFor pages sets t
-stand_for pages sets t small l e blocks =
-    let same : table_of pages sets ≡ t =
-    ap (λ (n : ℕ). table_of n sets) l
-    ∙ ap (λ (xs : List (List Bool)). table_of (length t) xs) e
-    ∙ table_of_sets t blocks in
-    record {
-      table = same;
-      kept = record { small = small; same = e ∙ ap sets_of (sym same); blocks = rw same blocks };
-    }
+stand_for pages sets t small l e blocks = grind (arith, table_of_sets)
 
 -- what a read of the sets gives
 pub set_now : (pages : ℕ) (sets : List (List Bool)) (k : ℕ) (read : List Bool)
     → AreSetsOf pages sets → k < 10 → read ≡ get_or sets k read
     → read ≡ set_of_order k (table_of pages sets)
-set_now pages sets k read s h e =
-    e ∙ ap (λ (xs : List (List Bool)). get_or xs k read) s.same
-    ∙ sets_at (table_of pages sets) k read h
+set_now pages sets k read s h e = grind (arith, sets_at)
 
 pub ten_sets : (pages : ℕ) (sets : List (List Bool)) → AreSetsOf pages sets → length sets ≡ 10
 ten_sets pages sets s = ap length s.same ∙ length-sets_of (table_of pages sets)
@@ -278,104 +245,42 @@ sets-changed : (k s : ℕ) (t : List (Option ℕ)) (v : Option ℕ) (flag : Bool
     → ((j : ℕ) → j ≢ k → (is_order j v ≡ false) × (is_order j (order_at t s) ≡ false))
     → sets_of (set t s v) ≡ set (sets_of t) k (set (set_of_order k t) (s / 2 ^ k) flag)
 sets-changed k s t v flag ten l aligned e other =
-    same_lists (sets_of (set t s v)) (set (sets_of t) k new)
-    (length-sets_of (set t s v) ∙ sym (length-set (sets_of t) k new ∙ length-sets_of t)) at
-  where
-    new : List Bool
-    new = set (set_of_order k t) (s / 2 ^ k) flag
-
-    at : (j : ℕ) (d : List Bool) → j < length (sets_of (set t s v))
-        → get_or (sets_of (set t s v)) j d ≡ get_or (set (sets_of t) k new) j d
-    at j d h =
-        let below : j < 10 = omega (arith, length-sets_of (set t s v)) in
-        sets_at (set t s v) j d below
-        ∙ elim (cases_eq j k) [
-          | inl same ↦
-              ap (λ (n : ℕ). set_of_order n (set t s v)) same
-              ∙ set-changed k s t v flag l aligned e
-              ∙ sym (get_or-set_same (sets_of t) k new d (omega (arith, length-sets_of t)))
-              ∙ ap (λ (n : ℕ). get_or (set (sets_of t) k new) n d) (sym same)
-          | inr differ ↦
-              set-kept j s t v l (other j differ).0 (other j differ).1
-              ∙ sym (sets_at t j d below)
-              ∙ sym (get_or-set_other (sets_of t) k j new d differ)
-        ]
+    grind (
+      arith,
+      same_lists,
+      length-sets_of,
+      length-set,
+      sets_at,
+      set-changed,
+      get_or-set_same,
+      set-kept,
+      get_or-set_other,
+    )
 
 -- a block that comes to the table
 pub with_block_added : (t : List (Option ℕ)) (s k : ℕ) → AreBlocks t → k ≤ 9 → s % 2 ^ k ≡ 0
     → s + 2 ^ k ≤ length t → AreBlocks (set t s (Some k))
 with_block_added t s k blocks nine aligned fits =
-    record {
-      bounded = λ r j e. (all r j e).0;
-      aligned = λ r j e. (all r j e).1;
-      fits = λ r j e. (all r j e).2;
-    }
-  where
-    there : s < length t
-    there = let pos : 0 < 2 ^ k = pow_pos k in omega arith
-
-    all : (r j : ℕ) → order_at (set t s (Some k)) r ≡ Some j
-        → (j ≤ 9) × (r % 2 ^ j ≡ 0) × (r + 2 ^ j ≤ length (set t s (Some k)))
-    all r j e =
-        elim (cases_eq r s) [
-          | inl same ↦
-              let now : Some j ≡ Some k =
-              sym e ∙ (ap (order_at (set t s (Some k))) same
-              ∙ get_or-set_same t s (Some k) None there) in
-              let o : j ≡ k = cc in
-              let w : 2 ^ j ≡ 2 ^ k = ap (λ (i : ℕ). 2 ^ i) o in (
-                omega (arith, o),
-                ap (λ (n : ℕ). n % 2 ^ j) same ∙ ap (λ (n : ℕ). s % 2 ^ n) o ∙ aligned,
-                omega (arith, same, w, length-set t s (Some k)),
-              )
-          | inr differ ↦
-              let old : order_at t r ≡ Some j =
-              sym (get_or-set_other t s r (Some k) None differ) ∙ e in (
-                blocks.bounded r j old,
-                blocks.aligned r j old,
-                omega (arith, blocks.fits r j old, length-set t s (Some k)),
-              )
-        ]
+    grind (arith, pow_pos, get_or-set_same, length-set, get_or-set_other)
 
 -- an entry that stays when a block leaves
 pub entry_kept : (t : List (Option ℕ)) (s r j : ℕ) → s < length t
     → order_at (set t s None) r ≡ Some j → (r ≢ s) × (order_at t r ≡ Some j)
-entry_kept t s r j l e =
-    elim (cases_eq r s) [
-      | inl same ↦
-          let n : order_at (set t s None) r ≡ None =
-          ap (order_at (set t s None)) same ∙ get_or-set_same t s None None l in
-          absurd (let bad : Some j ≡ None = sym e ∙ n in cc)
-      | inr differ ↦ (differ, sym (get_or-set_other t s r None None differ) ∙ e)
-    ]
+entry_kept t s r j l e = grind (arith, get_or-set_same, get_or-set_other)
 
 pub with_block_removed : (t : List (Option ℕ)) (s : ℕ) → s < length t → AreBlocks t
     → AreBlocks (set t s None)
-with_block_removed t s l blocks = record {
-  bounded = λ r j e. blocks.bounded r j (entry_kept t s r j l e).1;
-  aligned = λ r j e. blocks.aligned r j (entry_kept t s r j l e).1;
-  fits = λ r j e.
-      omega (arith, blocks.fits r j (entry_kept t s r j l e).1, length-set t s None);
-}
+with_block_removed t s l blocks = grind (arith, entry_kept, length-set)
 
 -- a table without a block
 pub none_at : (n p : ℕ) → order_at (replicate n None) p ≡ None
-none_at n p =
-    elim (cases_lt p n) [
-      | inl l ↦ get_or-replicate n p None None l
-      | inr past ↦ get_or_past (replicate n None) p None
-          (omega (arith, length-replicate {A = Option ℕ} n None))
-    ]
+none_at n p = grind (arith, get_or-replicate, get_or_past, length-replicate)
 
 pub none_entry : (n s k : ℕ) → order_at (replicate n None) s ≡ Some k → ⊥
 none_entry n s k e = let bad : Some k ≡ None = sym e ∙ none_at n s in cc
 
 pub no_blocks : (n : ℕ) → AreBlocks (replicate n None)
-no_blocks n = record {
-  bounded = λ s k e. absurd (none_entry n s k e);
-  aligned = λ s k e. absurd (none_entry n s k e);
-  fits = λ s k e. absurd (none_entry n s k e);
-}
+no_blocks n = grind (arith, none_entry)
 
 -- ---- what the calls leave
 
@@ -458,13 +363,7 @@ pub cleared : (pages : ℕ) (sets new : List (List Bool)) → AreSetsOf pages se
     → get_or new k d ≡ replicate (length (get_or sets k d)) false)
     → StandFor pages new (replicate pages None)
 cleared pages sets new s l h =
-    none pages new s.small (l ∙ ten_sets pages sets s) (λ k d below.
-    h k d below
-    ∙ ap (λ (n : ℕ). replicate n false)
-    (ap (λ (xs : List (List Bool)). length (get_or xs k d)) s.same
-    ∙ ap length (sets_at (table_of pages sets) k d below)
-    ∙ length-set_of_order k (table_of pages sets)
-    ∙ ap (room_of k) (length-table_of pages sets)))
+    grind (arith, none, ten_sets, sets_at, length-set_of_order, length-table_of)
 
 -- ---- the lowest start
 

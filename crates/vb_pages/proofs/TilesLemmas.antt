@@ -22,7 +22,7 @@ use Rattle.vb_pages.specs.Areas.{LiesWithin, IsMaximal, HasNoBlock, IsChosen}
 use Rattle.vb_pages.proofs.Aligned.{aligned_step, aligned_same, right_half, aligned_down}
 use Rattle.vb_pages.proofs.Aligned.{end_aligned, pow_twice, floor_aligned}
 use Rattle.vb_pages.proofs.TableLemmas.{is_order-true, is_order-self, is_there, entry_kept}
-use Rattle.vb_pages.proofs.TableLemmas.{with_block_added, with_block_removed, no_blocks, none_entry}
+use Rattle.vb_pages.proofs.TableLemmas.{with_block_added, with_block_removed, none_entry}
 use Rattle.vb_pages.proofs.Sets.{same_sets, is_inside, length-with_pages, length-without_pages}
 use Rattle.vb_pages.proofs.Sets.{with_old, with_new, with_cases, without_parts, without_old}
 use Rattle.vb_pages.proofs.Sets.{in_block, block_bounds, not_in_block, has-without_pages}
@@ -95,9 +95,7 @@ unfolding set_of
 has-set_of t p h = get_or-map-range_with_len (is_covered t) 0 (length t) p p false h (omega arith)
 
 pub in_set : (t : List (Option ℕ)) (p : ℕ) → has (set_of t) p ≡ true → Covered t p
-in_set t p h =
-    let l : p < length t = omega (arith, is_inside (set_of t) p h, length-set_of t) in
-    covered_from t p (sym (has-set_of t p l) ∙ h)
+in_set t p h = grind (arith, is_inside, length-set_of, covered_from, has-set_of)
 
 module _ (t : List (Option ℕ)) (placed : IsPlaced t) where
   pub to_set : (p : ℕ) → Covered t p → has (set_of t) p ≡ true
@@ -278,11 +276,7 @@ module _ (t : List (Option ℕ)) (placed : IsPlaced t) where
 
 pub removed_placed : (t : List (Option ℕ)) (s : ℕ) → s < length t → IsPlaced t
     → IsPlaced (set t s None)
-removed_placed t s l placed = record {
-  blocks = with_block_removed t s l placed.blocks;
-  apart = λ r j q i e a b f.
-      placed.apart r j q i (entry_kept t s r j l e).1 a b (entry_kept t s q i l f).1;
-}
+removed_placed t s l placed = grind (arith, with_block_removed, entry_kept)
 
 pub removed_merged : (t : List (Option ℕ)) (s : ℕ) → s < length t → IsMerged t
     → IsMerged (set t s None)
@@ -508,18 +502,7 @@ module _ (t : List (Option ℕ)) (s k : ℕ) (placed : IsPlaced t) (room : HasRo
 
 pub no_buddy : (t : List (Option ℕ)) (s k b : ℕ) → IsBuddy s k b → (order_at t b ≡ Some k → ⊥)
     → HasNoBuddy t s k
-no_buddy t s k b buddy none =
-    elim buddy [
-      | inl q ↦ record {
-        right = λ e a nine. none (ap (order_at t) q.1 ∙ e);
-        left = λ r e f a nine. right_half r k a (ap (λ (n : ℕ). n % 2 ^ suc k) e ∙ q.0);
-      }
-      | inr q ↦ record {
-        right = λ e a nine. q.0 a;
-        left = λ r e f a nine. none
-            (ap (order_at t) (let same : b ≡ r = omega (arith, q.1, e) in same) ∙ f);
-      }
-    ]
+no_buddy t s k b buddy none = grind (arith, right_half)
 
 pub no_larger : (t : List (Option ℕ)) (s k : ℕ) → 9 ≤ k → HasNoBuddy t s k
 no_larger t s k h = record { right = λ e a nine. omega arith; left = λ r e f a nine. omega arith }
@@ -678,13 +661,7 @@ removed_room t s k placed e =
 
 pub removed_tiled : (t : List (Option ℕ)) (s k : ℕ) → IsTiled t → order_at t s ≡ Some k
     → IsTiled (set t s None)
-removed_tiled t s k tiled e =
-    let l = is_there t s k e in
-    record {
-      placed = removed_placed t s l tiled.placed;
-      merged = removed_merged t s l tiled.merged;
-      small = omega (arith, tiled.small, length-set t s None);
-    }
+removed_tiled t s k tiled e = search (arith, is_there, removed_placed, removed_merged, length-set)
 
 pub added_tiled : (t : List (Option ℕ)) (s k : ℕ) → IsTiled t → HasRoom t s k → HasNoBuddy t s k
     → IsTiled (set t s (Some k))
@@ -698,11 +675,7 @@ added_tiled t s k tiled room alone =
 
 -- no blocks make up no pages
 pub none_tiled : (n : ℕ) → n ≤ MAX_PAGES → IsTiled (replicate n None)
-none_tiled n h = record {
-  placed = record { blocks = no_blocks n; apart = λ s k r j e a b f. none_entry n s k e };
-  merged = λ s k e f a b. none_entry n s k e;
-  small = omega (arith, length-replicate {A = Option ℕ} n None);
-}
+none_tiled n h = grind (arith, none_entry, length-replicate)
 
 pub none_set : (n p : ℕ) → n ≤ MAX_PAGES → has (set_of (replicate n None)) p ≡ false
 none_set n p h =
@@ -721,9 +694,7 @@ IsLowestBelow table order from end (Some b) =
 
 pub lowest_all : (t : List (Option ℕ)) (order from end : ℕ) (best : Option FreeBlock) → 9 < end
     → IsLowestBelow t order from end best → IsLowestListed t order from best
-lowest_all t order from end None l h = λ s k a b c e. h s k a (omega arith) c e
-lowest_all t order from end (Some x) l h =
-    (h.0, h.1, h.2, h.3, λ s k a b c e. h.4 s k a (omega arith) c e)
+lowest_all t order from end best l h = search (arith)
 
 -- ---- what the calls leave
 
@@ -735,10 +706,7 @@ room_pages t s k room p h = let q = block_bounds s k p h in room.outside p q.0 q
 pub none_left : (t : List (Option ℕ)) (s k j : ℕ) → HasRoom t s k → j ≡ k
     → set_of t ≡ without_pages (pages_of (block_at s j))
     (with_pages (pages_of (block_at s k)) (set_of t))
-none_left t s k j room e =
-    sym (without_with (pages_of (block_at s k)) (set_of t) (room_pages t s k room))
-    ∙ ap (λ (n : ℕ). without_pages (pages_of (block_at s n))
-    (with_pages (pages_of (block_at s k)) (set_of t))) (sym e)
+none_left t s k j room e = grind (arith, without_with, room_pages)
 
 -- a block that left comes back but for its lower part
 pub part_left : (t : List (Option ℕ)) (s k j : ℕ) → IsPlaced t → order_at t s ≡ Some k
@@ -813,8 +781,4 @@ module _ (t : List (Option ℕ)) (s k b : ℕ) (tiled : IsTiled t) (room : HasRo
 pub none_more : (t : List (Option ℕ)) (order k : ℕ) → IsLowestStart t k 0 None
     → ((s j : ℕ) → order ≤ j → j < k → order_at t s ≡ Some j → ⊥) → (s j : ℕ) → order ≤ j
     → j < k + 1 → order_at t s ≡ Some j → ⊥
-none_more t order k none h s j a b e =
-    elim (cases_eq j k) [
-      | inl same ↦ none s (omega arith) (e ∙ ap (λ (i : ℕ). Some i) same)
-      | inr differ ↦ h s j a (omega arith) e
-    ]
+none_more t order k none h s j a b e = grind arith

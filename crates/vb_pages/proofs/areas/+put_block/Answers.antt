@@ -1,10 +1,8 @@
-use Rattle.std.proofs.Common.{◌≡◌, ◌<◌, ◌+◌, ℕ, List, Option, Some, None, set, min, ap, subst, ◌∙◌}
+use Rattle.std.proofs.Common.{◌≡◌, ◌<◌, ◌+◌, ℕ, List, Option, Some, None, set, min, subst}
 use Rattle.std.proofs.Common.{sym, arith}
 use Rattle.std.proofs.lemmas.Bool.{both_ways}
-use Rattle.vb_model.specs.Pages.{pages_of}
-use Rattle.vb_pages.specs.Areas.{with_pages, block_at}
 use Rattle.vb_pages.specs.Table.{order_at}
-use Rattle.vb_pages.specs.Tiles.{HasRoom, IsTiled, set_of}
+use Rattle.vb_pages.specs.Tiles.{HasRoom, IsTiled}
 use Rattle.vb_pages.proofs.TilesLemmas.{joined_tiled, joined_room, joined_set, room_empty}
 use Rattle.vb_pages.proofs.TilesLemmas.{added_tiled, added_set, no_buddy, no_larger, HasNoBuddy}
 use Rattle.vb_pages.proofs.areas.+put_block.Goals as goal
@@ -37,19 +35,7 @@ add-requires-clause-empty t c =
     room_empty c.args.table.now c.args.start c.args.order c.requires.tiled.placed c.requires.room
 
 pub returns-then-is_listed-clause-set : goal.returns-then-is_listed-clause-set
-returns-then-is_listed-clause-set t c =
-    let table = c.args.table.now in
-    let s = c.args.start in
-    let k = c.args.order in
-    let b = c.buddy_of-buddy.result in
-    let listed : order_at table b ≡ Some k = c.is_listed.ensures.0 c.if-is_listed.true in
-    c.put_block.ensures.set
-    ∙ (ap (λ (n : ℕ). with_pages (pages_of (block_at n (k + 1))) (set_of c.remove.new.self))
-    c.min.ensures
-    ∙ (ap (λ (u : List (Option ℕ)). with_pages (pages_of (block_at (min s b) (k + 1))) (set_of u))
-    c.remove.ensures
-    ∙ joined_set table s k b c.requires.tiled c.requires.room c.buddy_of-buddy.ensures listed
-    c.if-order-lt-MAX_ORDER.true))
+returns-then-is_listed-clause-set t c = grind (arith, joined_set)
 
 pub returns-else-order-lt-MAX_ORDER-clause-tiled : goal.returns-else-order-lt-MAX_ORDER-clause-tiled
 returns-else-order-lt-MAX_ORDER-clause-tiled t c =
@@ -67,7 +53,4 @@ returns-else-order-lt-MAX_ORDER-clause-tiled t c =
     subst IsTiled (sym c.add.ensures) (added_tiled table s k c.requires.tiled c.requires.room alone)
 
 pub returns-else-order-lt-MAX_ORDER-clause-set : goal.returns-else-order-lt-MAX_ORDER-clause-set
-returns-else-order-lt-MAX_ORDER-clause-set t c =
-    ap set_of c.add.ensures
-    ∙ added_set c.args.table.now c.args.start c.args.order c.requires.tiled.placed
-    c.requires.room
+returns-else-order-lt-MAX_ORDER-clause-set t c = grind (arith, added_set)

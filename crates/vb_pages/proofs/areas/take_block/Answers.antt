@@ -52,21 +52,10 @@ returns-in-Some-clause-taken c =
     )
 
 pub loop-larger-preserved : goal.loop-larger-preserved
-loop-larger-preserved c = (
-  c.loop-larger.invariant.0,
-  none_more c.args.table.now c.args.order c.loop-larger.larger
-      (subst (λ (u : List (Option ℕ)). IsLowestStart u c.loop-larger.larger 0 None)
-      c.loop-larger.invariant.0 c.in_default.ensures) c.loop-larger.invariant.1,
-)
+loop-larger-preserved c = grind (arith, none_more)
 
 pub returns-clause-tiled : goal.returns-clause-tiled
 returns-clause-tiled c = subst IsTiled (sym c.loop-larger.invariant.0) c.requires.tiled
 
 pub returns-clause-taken : goal.returns-clause-taken
-returns-clause-taken c = (
-  none_inside c.args.table.now c.requires.tiled.placed c.requires.tiled.merged c.args.order
-      (λ s k a e.
-      let nine : k ≤ 9 = c.requires.tiled.placed.blocks.bounded s k e in
-      c.loop-larger.invariant.1 s k a (omega arith) e),
-  ap set_of c.loop-larger.invariant.0,
-)
+returns-clause-taken c = grind (arith, none_inside)

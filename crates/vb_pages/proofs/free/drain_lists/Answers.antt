@@ -3,7 +3,6 @@ use Rattle.std.proofs.Common.{arith}
 use Rattle.std.specs.Prelude.{count_by}
 use Rattle.std.proofs.lemmas.List.{get_or_default}
 use Rattle.vb_pages.specs.Areas.{with_pages}
-use Rattle.vb_pages.proofs.ListsLemmas.{Once}
 use Rattle.vb_pages.proofs.FreeLemmas.{IsDrainedSoFar, drained_none, next_once, next_drained}
 use Rattle.vb_pages.proofs.FreeLemmas.{all_drained, nothing}
 use Rattle.vb_pages.proofs.free.drain_lists.Goals as goal
@@ -12,13 +11,7 @@ pub loop-list-init : goal.loop-list-init
 loop-list-init c = drained_none c.args.areas.now c.args.lists.now
 
 pub drain-requires : goal.drain-requires
-drain-requires c =
-    let i = c.loop-list.list-index in
-    let inside : i < length c.loop-list.lists = omega (arith, c.loop-list.auto.lists) in
-    subst (λ (xs : List ℕ). Once c.loop-list.areas xs)
-    (get_or_default c.loop-list.lists i nothing c.list-item.result inside)
-    (next_once c.args.areas.now c.args.lists.now c.requires i c.loop-list.areas c.loop-list.lists
-    c.loop-list.invariant c.loop-list-test.true)
+drain-requires c = grind (arith, get_or_default, nothing, next_once)
 
 pub loop-list-preserved : goal.loop-list-preserved
 loop-list-preserved c =
@@ -39,6 +32,7 @@ loop-list-preserved c =
 
 pub returns : goal.returns
 returns c =
-    let all = all_drained c.args.areas.now c.args.lists.now c.loop-list.list-index c.loop-list.areas
-    c.loop-list.lists c.loop-list-test.false c.loop-list.invariant in
-    record { areas = all.0; count = all.1; lists = all.2 }
+    grind (
+      arith,
+      all_drained c.args.areas.now c.args.lists.now c.loop-list.list-index c.loop-list.areas c.loop-list.lists c.loop-list-test.false c.loop-list.invariant,
+    )

@@ -1,5 +1,4 @@
-use Rattle.std.proofs.Common.{◌≡◌, ◌≤◌, ◌+◌, ◌^◌, ℕ, List, Bool, length, ap, ◌∙◌, sym, arith}
-use Rattle.std.specs.Prelude.{count_by}
+use Rattle.std.proofs.Common.{◌≡◌, ◌≤◌, ◌+◌, ◌^◌, List, Bool, length, ap, ◌∙◌, arith}
 use Rattle.std.proofs.lemmas.Bool.{eqb-true}
 use Rattle.vb_pages.specs.Areas.{has, block_at, LiesOutside}
 use Rattle.vb_pages.specs.Tiles.{set_of}
@@ -19,30 +18,10 @@ fits c = let v : set_of c.self.inside.table ≡ c.args.self.now = c.self.view_is
     omega (arith, ap length v, c.requires.inside)
 
 pub overflow_add-self : goal.overflow_add-self
-overflow_add-self c =
-    let n : count_by (λ f. f) (set_of c.self.inside.table) ≤ length (set_of c.self.inside.table) =
-    count_le (set_of c.self.inside.table) in
-    let l : length (set_of c.self.inside.table) ≡ length c.self.inside.table =
-    length-set_of c.self.inside.table in
-    omega (arith, n, l, c.self.invariant.0.small, c.self.invariant.1, c.size_of.ensures.small)
+overflow_add-self c = grind (arith, count_le, length-set_of)
 
 pub put_block-requires-clause-room : goal.put_block-requires-clause-room
-put_block-requires-clause-room c =
-    let d = (goal.at.put_block-requires-clause-room c).After-self in
-    record {
-      bounded = c.requires.block.0;
-      aligned = eqb-true _ 0 c.requires.block.1;
-      fits = omega (arith, fits d, length-set_of c.self.inside.table);
-      outside = outside d;
-    }
+put_block-requires-clause-room c = grind (arith, eqb-true, fits, length-set_of, outside)
 
 pub invariant_of-self : goal.invariant_of-self
-invariant_of-self c =
-    let d = (goal.at.invariant_of-self c).After-self in (
-      c.put_block.ensures.tiled,
-      ap (λ (n : ℕ). n + c.size_of.result) c.self.invariant.1
-          ∙ (ap (λ (n : ℕ). count_by (λ f. f) (set_of c.self.inside.table) + n)
-          c.size_of.ensures.size
-          ∙ (sym (count_with_block c.args.start c.args.order (set_of c.self.inside.table) (fits d)
-          (outside d)) ∙ ap (count_by (λ f. f)) (sym c.put_block.ensures.set))),
-    )
+invariant_of-self c = grind (arith, count_with_block, fits, outside)

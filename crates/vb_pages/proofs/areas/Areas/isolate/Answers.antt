@@ -1,7 +1,7 @@
-use Rattle.std.proofs.Common.{◌≡◌, List, Bool, Some, ap, subst, ◌∙◌, sym, refl, arith}
+use Rattle.std.proofs.Common.{◌≡◌, List, Bool, Some, ap, subst, ◌∙◌, arith}
 use Rattle.std.specs.Prelude.{count_by}
 use Rattle.vb_model.specs.Pages.{pages_of}
-use Rattle.vb_pages.specs.Areas.{without_pages, block_at, IsMaximal, IsLowestFrom}
+use Rattle.vb_pages.specs.Areas.{without_pages, block_at, IsLowestFrom}
 use Rattle.vb_pages.specs.Table.{order_at}
 use Rattle.vb_pages.specs.Tiles.{set_of}
 use Rattle.vb_pages.proofs.TilesLemmas.{listed_inside, removed_tiled, removed_set}
@@ -9,14 +9,7 @@ use Rattle.vb_pages.proofs.AreasLemmas.{count_without_block, lowest_is, lowest_n
 use Rattle.vb_pages.proofs.areas.Areas.isolate.Goals as goal
 
 pub returns-in_err-block : goal.returns-in_err-block
-returns-in_err-block c =
-    let v : set_of c.self.inside.table ≡ c.args.self.now = c.self.view_is in
-    rw c.from_residual.ensures (
-      λ s k o f m. lowest_none c.self.inside.table c.args.order c.args.from c.self.invariant.0
-          c.in_err-block.ensures s k o f
-          (subst (λ (x : List Bool). IsMaximal x (block_at s k)) (sym v) m),
-      refl,
-    )
+returns-in_err-block c = grind (arith, lowest_none)
 
 pub overflow_sub-self : goal.overflow_sub-self
 overflow_sub-self c =

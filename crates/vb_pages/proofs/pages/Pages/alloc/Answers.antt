@@ -1,9 +1,8 @@
-use Rattle.std.proofs.Common.{◌≡◌, ◌<◌, ℕ, List, not, length, map, ap, ◌∙◌, sym, refl, arith}
+use Rattle.std.proofs.Common.{◌≡◌, ◌<◌, not, length, ap, ◌∙◌, sym, refl, arith}
 use Rattle.std.specs.Prelude.{◌&&◌}
 use Rattle.vb_model.specs.Pages.{covers}
 use Rattle.vb_model.specs.Driver.{with_block}
 use Rattle.vb_pages.specs.Areas.{block_at}
-use Rattle.vb_pages.specs.FreePages.{FreePages, is_free_in, drained}
 use Rattle.vb_pages.specs.PageState.{PageState, is_free_page}
 use Rattle.vb_pages.proofs.FreeLemmas.{nothing, drained_times, serves_is_block}
 use Rattle.vb_pages.proofs.HeldLemmas.{held_of}
@@ -13,9 +12,10 @@ use Rattle.vb_pages.proofs.pages.Pages.alloc.Goals as goal
 
 pub invariant_of-self : goal.invariant_of-self
 invariant_of-self c =
-    kept_at c.take.new.self (drained c.self.inside.free) c.self.inside.held c.self.inside.held
-    c.in_default.ensures.serves.2 refl
-    (drained_kept c.self.inside.free c.self.inside.held c.take.ensures.sound c.self.invariant)
+    grind (
+      arith,
+      drained_kept c.self.inside.free c.self.inside.held c.take.ensures.sound c.self.invariant,
+    )
 
 pub returns-in_default-clause-none : goal.returns-in_default-clause-none
 returns-in_default-clause-none c e s b free =
@@ -26,22 +26,10 @@ returns-in_default-clause-none c e s b free =
     (λ p t. ap (λ (x : PageState). is_free_page x p) v ∙ free p t)
 
 pub returns-in_default-clause-same : goal.returns-in_default-clause-same
-returns-in_default-clause-same c e =
-    let f = c.self.inside.free in
-    let v : state_of f c.self.inside.held.blocks ≡ c.args.self.now = c.self.view_is in
-    let drains : c.take.new.self ≡ drained f = c.in_default.ensures.serves.2 in (
-      (λ p. ap (λ (x : FreePages). is_free_in x p) drains
-          ∙ (free_same f (drained f) p (drained_times f c.take.ensures.sound p)
-          ∙ ap (λ (x : PageState). is_free_page x p) v)),
-      ap (λ (x : PageState). x.held) v,
-      ap (λ (x : FreePages). x.lists) drains
-          ∙ ap (λ (x : PageState). map (λ (l : List ℕ). nothing) x.free.lists) v,
-    )
+returns-in_default-clause-same c e = grind (arith, state_of, free_same, drained_times, nothing)
 
 pub add-requires-clause-block : goal.add-requires-clause-block
-add-requires-clause-block c =
-    serves_is_block c.self.inside.free c.take.new.self c.args.cpu c.args.order c.in-Some.start
-    c.in-Some.ensures.serves
+add-requires-clause-block c = grind (arith, serves_is_block)
 
 pub add-requires-clause-fits : goal.add-requires-clause-fits
 add-requires-clause-fits c =
@@ -50,10 +38,7 @@ add-requires-clause-fits c =
     c.in-Some.start c.take.ensures.sound c.self.invariant l c.in-Some.ensures.serves
 
 pub add-requires-clause-outside : goal.add-requires-clause-outside
-add-requires-clause-outside c =
-    let l : c.args.cpu < length c.self.inside.free.lists = omega arith in
-    out_outside c.self.inside.free c.take.new.self c.self.inside.held c.args.cpu c.args.order
-    c.in-Some.start c.take.ensures.sound c.self.invariant l c.in-Some.ensures.serves
+add-requires-clause-outside c = grind (arith, out_outside)
 
 pub invariant_of-self-2 : goal.invariant_of-self-2
 invariant_of-self-2 c =

@@ -19,9 +19,7 @@ is_held : (c : After-remove)
 is_held c = sym c.holds.ensures ∙ c.if-not-holds.false
 
 pub give-requires-clause-room : goal.give-requires-clause-room
-give-requires-clause-room c =
-    back_room c.self.inside.free c.self.inside.held c.args.start c.args.order c.self.invariant
-    (is_held (goal.at.give-requires-clause-room c).After-remove) c.remove.ensures.block
+give-requires-clause-room c = search (arith, back_room, is_held)
 
 pub invariant_of-self : goal.invariant_of-self
 invariant_of-self c =

@@ -7,12 +7,7 @@ use Rattle.vb_pages.proofs.table.Table.add.Goals as goal
 use Rattle.vb_pages.proofs.table.Table.add.Goals.{After-insert}
 
 pub index_mut-requires : goal.index_mut-requires
-index_mut-requires c =
-    omega (
-      arith,
-      ten_sets c.self.inside.pages c.self.inside.blocks.items c.self.invariant,
-      c.self.inside.blocks.ok.0,
-    )
+index_mut-requires c = grind (arith, ten_sets)
 
 pub insert-requires : goal.insert-requires
 insert-requires c =
@@ -54,6 +49,4 @@ pub invariant_of-self : goal.invariant_of-self
 invariant_of-self c = (after (goal.at.invariant_of-self c).After-insert).kept
 
 pub returns : goal.returns
-returns c =
-    (after (goal.at.returns c).After-insert).table
-    ∙ ap (λ (u : List (Option ℕ)). set u c.args.start (Some c.args.order)) c.self.view_is
+returns c = grind (arith, after)

@@ -36,8 +36,4 @@ pub invariant_of-self : goal.invariant_of-self
 invariant_of-self c = (after (goal.at.invariant_of-self c).After-loop-set).kept
 
 pub returns : goal.returns
-returns c =
-    (after (goal.at.returns c).After-loop-set).table
-    ∙ ap (λ (n : ℕ). replicate n None)
-    (sym (length-table_of c.self.inside.pages c.self.inside.blocks.items)
-    ∙ ap length c.self.view_is)
+returns c = grind (arith, after, length-table_of)

@@ -1,17 +1,15 @@
-use Rattle.std.proofs.Common.{◌≡◌, ◌/◌, ◌%◌, ◌+◌, ◌*◌, ◌^◌, Some, List, Bool, ℕ, min, subst, sym, ◌∙◌}
-use Rattle.std.proofs.Common.{ap, arith}
+use Rattle.std.proofs.Common.{◌≡◌, ◌/◌, ◌%◌, ◌+◌, ◌*◌, ◌^◌, Some, List, Bool, ℕ, min, subst, sym}
+use Rattle.std.proofs.Common.{arith}
 use Rattle.vb_bits.specs.Sets.{HasNoneFrom, IsLeastFrom}
 use Rattle.vb_pages.specs.Table.{IsLowestStart}
-use Rattle.vb_pages.proofs.TableLemmas.{is_there, lowest_none, lowest_some}
+use Rattle.vb_pages.proofs.TableLemmas.{lowest_none, lowest_some}
 use Rattle.vb_pages.proofs.table.Table.first_from.Goals as goal
 use Rattle.vb_pages.proofs.table.Table.first_from.Goals.{After-first_from}
 
 -- the first number of a block that starts at the page or after it
 up : (c : After-first_from)
     → c.div_ceil.result ≡ c.args.from / 2 ^ c.args.order + min 1 (c.args.from % 2 ^ c.args.order)
-up c =
-    c.div_ceil.ensures
-    ∙ ap (λ (m : ℕ). c.args.from / m + min 1 (c.args.from % m)) c.size_of-size.ensures.size
+up c = search (arith)
 
 -- the start of a block that was found
 found : (c : After-first_from) (b : ℕ) → IsLeastFrom c.of_order-blocks.result.now c.div_ceil.result b
@@ -28,13 +26,9 @@ found c b least =
 
 pub overflow_mul-result : goal.overflow_mul-result
 overflow_mul-result c =
-    let t = c.args.self.now in
-    let low = found (goal.at.overflow_mul-result c).After-first_from c.in-Some.block
-    c.in-Some.ensures in
-    omega (
+    grind (
       arith,
-      is_there t (c.in-Some.block * c.size_of-size.result) c.args.order low.0,
-      c.of_order-blocks.ensures.small,
+      found (goal.at.overflow_mul-result c).After-first_from c.in-Some.block c.in-Some.ensures,
     )
 
 pub returns-in-Some : goal.returns-in-Some

@@ -1,5 +1,5 @@
 use Rattle.std.proofs.Common.{◌≡◌, ◌+◌, ◌/◌, ℕ, None, List, Bool, false, [], ◌∷◌, ◌++◌, length}
-use Rattle.std.proofs.Common.{get_or, map, max, replicate, arith, sym, ◌∙◌, ap}
+use Rattle.std.proofs.Common.{get_or, map, max, replicate, arith, ◌∙◌, ap}
 use Rattle.std.specs.List.{range_with_len}
 use Rattle.std.proofs.lemmas.List.FromFn.{map-range_with_len_more, length-map-range_with_len}
 use Rattle.std.proofs.lemmas.List.FromFn.{get_or-map-range_with_len}
@@ -18,10 +18,7 @@ pushed : (pages k room : ℕ) (old new : List (List Bool)) (row : List Bool)
     → old ≡ map (bare pages) (range_with_len 0 k)
     → new ≡ map (bare pages) (range_with_len 0 (k + 1))
 pushed pages k room old new row e set same before =
-    e
-    ∙ ap (λ (x : List Bool). old ++ x ∷ []) (set ∙ ap (λ (n : ℕ). replicate n false) same)
-    ∙ ap (λ (xs : List (List Bool)). xs ++ bare pages k ∷ []) before
-    ∙ sym (map-range_with_len_more (bare pages) 0 k k (omega arith))
+    grind (arith, map-range_with_len_more (bare pages) 0 k k (omega arith))
 
 pub loop-order-preserved : goal.loop-order-preserved
 loop-order-preserved c =
