@@ -1,9 +1,9 @@
 -- What follows for whoever adds and takes chains.
-use Rattle.std.specs.Prelude.{◌≡◌, ℕ, ◌<◌, ◌≤◌, Bool, true, false, List, [], ◌∷◌, Option}
+use Rattle.std.specs.Prelude.{◌≡◌, ℕ, ◌<◌, ◌≤◌, Bool, true, false, List, [], ◌∷◌}
 use Rattle.std.specs.Prelude.{Some, None, Result, Ok, Err, if◌then◌else◌, length, slice_get}
 use Rattle.std.specs.Prelude.{slice_index, slice_index_or, refl}
 use Rattle.std.proofs.Common.{sym, ◌∙◌, ap, subst, arith, inl, inr}
-use Rattle.std.proofs.lemmas.Bool.{cases_eq, cases_lt, lt-ltb, le-ltb}
+use Rattle.std.proofs.lemmas.Bool.{cases_eq}
 use Rattle.std.proofs.lemmas.List.{length-take}
 use Rattle.std.proofs.lemmas.Option.{slice_get-get_or}
 use Rattle.std.specs.Prelude.{nat_lt}
@@ -27,25 +27,11 @@ use Rattle.vb_ring.specs.Calls.{AddsBy}
 -- ---- what was added is a chain of these pieces
 
 pub next_route : (r : DriverEnd) (n : ℕ) → IsRoute r.size (next_path r n)
-next_route r n = record {
-  inside = λ k h. (next_path-free r n k h).0;
-  apart = λ j k l h e. absurd (omega (arith, next_path-rise r n j k l h, e));
-}
+next_route r n = grind (arith, next_path-free, next_path-rise)
 
 answer_ok : (a n h x : ℕ) (r : Result ℕ Full) → r ≡ Ok h
     → r ≡ (if nat_lt a n then Err TooFewFree else Ok x) → (n ≤ a) × (h ≡ x)
-answer_ok a n h x r is e = elim (cases_lt a n) [
-  | inl few ↦ (let wrong = ap (λ (b : Bool). if b then Err TooFewFree else Ok x) (lt-ltb a n few) in
-      absurd (err_ok r h is (e ∙ wrong)))
-  | inr enough ↦ (let right = ap (λ (b : Bool). if b then Err TooFewFree else Ok x)
-      (le-ltb a n enough) in (enough, same_ok r h x is (e ∙ right)))
-]
-  where
-    err_ok : (r : Result ℕ Full) (h : ℕ) → r ≡ Ok h → r ≡ Err TooFewFree → ⊥
-    err_ok r h p q = cc
-
-    same_ok : (r : Result ℕ Full) (h x : ℕ) → r ≡ Ok h → r ≡ Ok x → h ≡ x
-    same_ok r h x p q = cc
+answer_ok a n h x r is e = grind arith
 
 -- The chain that an add has written is a chain from its head, and its pieces are those that were
 -- added.
@@ -69,13 +55,7 @@ added_chain old new r1 r2 pieces h end adds sound =
 pub added_apart : (old new : Pages) (r1 r2 : DriverEnd) (pieces : List Piece) (h i j : ℕ)
     → AddsBy old new r1 r2 pieces (Ok h) → i < r1.size → slice_index_or r1.owner i None ≡ Some j
     → descriptor_at new r1.layout.table i ≡ descriptor_at old r1.layout.table i
-added_apart old new r1 r2 pieces h i j adds lt own =
-    adds.links.others i lt (nowhere_in (next_path r1 (length pieces)) i (λ k l e.
-    none_some j _ (next_path-free r1 (length pieces) k l).1
-    (ap (λ n. slice_index_or r1.owner n None) e ∙ own)))
-  where
-    none_some : (h : ℕ) (o : Option ℕ) → o ≡ None → o ≡ Some h → ⊥
-    none_some h o a b = cc
+added_apart old new r1 r2 pieces h i j adds lt own = grind (arith, nowhere_in, next_path-free)
 
 -- ---- chains of one descriptor
 

@@ -114,10 +114,7 @@ next_chain r n path is_end some along count = record {
 
 -- the next chain's descriptors are a route
 pub next_route : (r : DriverEnd) (n : ℕ) → IsRoute r.size (next_path r n)
-next_route r n = record {
-  inside = λ k h. (next_path-free r n k h).0;
-  apart = λ j k l h e. absurd (omega (arith, next_path-rise r n j k l h, e));
-}
+next_route r n = grind (arith, next_path-free, next_path-rise)
 
 -- ---- take_used
 
@@ -236,7 +233,7 @@ pub takes_after : (mem : Pages) (r : DriverEnd) (new : List (Option ℕ)) (id : 
     → is_head r.owner id ≡ true → new ≡ released id r.owner
     → TakesUsedBy mem r (record r { seen = (r.seen + 1) % 65536; owner = new }) (Ok (Some id))
 takes_after mem r new id is_end next out owner =
-    subst (λ (xs : List (Option ℕ)). TakesUsedBy mem r
-    (record r { seen = (r.seen + 1) % 65536; owner = xs }) (Ok (Some id))) (sym owner)
-    (takes_by mem r (Ok (Some id)) is_end (length-numbers (is_head r.owner) r.size)
-    (sym (ap (only_head r.owner) next ∙ only_out r.owner id out)))
+    grind (
+      arith,
+      takes_by mem r (Ok (Some id)) is_end (length-numbers (is_head r.owner) r.size) (sym (ap (only_head r.owner) next ∙ only_out r.owner id out)),
+    )

@@ -1,5 +1,5 @@
 -- What a write does to the lists that the rings show, and what stands next in them.
-use Rattle.std.specs.Prelude.{◌≡◌, ◌≢◌, ℕ, ◌+◌, ◌-◌, ◌*◌, ◌/◌, ◌%◌, ◌<◌, ◌≤◌, List, ◌∷◌, [], ◌++◌}
+use Rattle.std.specs.Prelude.{◌≡◌, ◌≢◌, ℕ, ◌+◌, ◌-◌, ◌*◌, ◌%◌, ◌<◌, ◌≤◌, List, ◌∷◌, [], ◌++◌}
 use Rattle.std.specs.Prelude.{length, slice_get, Some, None, Ok}
 use Rattle.std.proofs.Common.{sym, ◌∙◌, ap, arith, inl, inr}
 use Rattle.std.proofs.lemmas.List.{length_push, get_or_append_left, get_or_push, length-map}
@@ -7,8 +7,8 @@ use Rattle.std.proofs.lemmas.List.{get_or-map}
 use Rattle.std.proofs.lemmas.Option.{slice_get-get_or, slice_get_past}
 use Rattle.std.proofs.lemmas.Grind.{common_steps}
 use Rattle.std.proofs.lemmas.Nat.{mod_below}
-use Rattle.std.proofs.lemmas.Bool.{cases_eq, cases_lt}
-use Rattle.std.proofs.Math.Nat.{mod-mod_of_dvd, dvd_of_mod-eq-zero, div-add-mod, mul-le-mul_left}
+use Rattle.std.proofs.lemmas.Bool.{cases_eq}
+use Rattle.std.proofs.Math.Nat.{mod-mod_of_dvd, dvd_of_mod-eq-zero}
 use Rattle.vb_ram.specs.Pages.{byte_at, page_at, Pages, field, SameIn}
 use Rattle.vb_ram.proofs.FieldLaws.{same_page, field_in}
 use Rattle.vb_chain.specs.Table.{descriptor_at}
@@ -16,7 +16,7 @@ use Rattle.vb_chain.proofs.TableLaws.{descriptor_kept}
 use Rattle.vb_ring.specs.declared.layout.Layout.{Layout}
 use Rattle.vb_ring.specs.Layout.{IsSize, Fits}
 use Rattle.vb_ring.specs.Entries.{avail_index, avail_place, used_index, used_place, ahead}
-use Rattle.vb_ring.specs.Entries.{avail_ahead, used_ahead, next_by, next_entry, next_id}
+use Rattle.vb_ring.specs.Entries.{used_ahead, next_by, next_entry, next_id}
 use Rattle.vb_ring.specs.Meaning.{UsedElem, no_elem, ids, ShowsAvail, ShowsUsed, ShowsEntries}
 use Rattle.vb_ring.proofs.FrameLaws.{outside_in}
 use Rattle.vb_ring.specs.Calls.{PutsUsed, Publishes}
@@ -29,41 +29,19 @@ place_wraps n q e = mod-mod_of_dvd q n (dvd_of_mod-eq-zero q e)
 
 -- Fewer than q numbers apart, two numbers have different places.
 pub place_apart : (k n q : ℕ) → k < n → n < k + q → k % q ≢ n % q
-place_apart k n q lt near e =
-    let kd = div-add-mod k q in
-    let nd = div-add-mod n q in
-    elim (cases_lt (k / q) (n / q)) [
-      | inl more ↦ (let step : q * (k / q + 1) ≤ q * (n / q) = mul-le-mul_left q (omega arith) in
-          omega arith)
-      | inr fewer ↦ (let step = mul-le-mul_left q fewer in omega arith)
-    ]
+place_apart k n q lt near e = grind arith
 
 -- ---- bytes that are as before
 
 pub avail_kept : (old new : Pages) (l : Layout) (q : ℕ) (heads : List ℕ) → IsSize q
     → SameIn old new l.avail.page (l.avail.offset + 2) (l.avail.offset + (6 + 2 * q))
     → ShowsAvail old l q heads → ShowsAvail new l q heads
-avail_kept old new l q heads size same shows = record {
-  index = field_in 2 old new l.avail.page _ _ (avail_index l) same (omega arith) (omega arith)
-      ∙ shows.index;
-  entries = λ k lt near. let inside = mod_below k q (omega (arith, size.least)) in
-      field_in 2 old new l.avail.page _ _ (avail_place l q k) same (omega arith)
-      (omega (arith, inside)) ∙ shows.entries k lt near;
-}
+avail_kept old new l q heads size same shows = grind (arith, field_in)
 
 pub used_kept : (old new : Pages) (l : Layout) (q : ℕ) (elems : List UsedElem) → IsSize q
     → SameIn old new l.used.page (l.used.offset + 2) (l.used.offset + (6 + 8 * q))
     → ShowsUsed old l q elems → ShowsUsed new l q elems
-used_kept old new l q elems size same shows = record {
-  index = field_in 2 old new l.used.page _ _ (used_index l) same (omega arith) (omega arith)
-      ∙ shows.index;
-  ids = λ k lt near. let inside = mod_below k q (omega (arith, size.least)) in
-      field_in 4 old new l.used.page _ _ (used_place l q k) same (omega arith)
-      (omega (arith, inside)) ∙ shows.ids k lt near;
-  lens = λ k lt near. let inside = mod_below k q (omega (arith, size.least)) in
-      field_in 4 old new l.used.page _ _ (used_place l q k + 4) same (omega arith)
-      (omega (arith, inside)) ∙ shows.lens k lt near;
-}
+used_kept old new l q elems size same shows = grind (arith, field_in)
 
 -- ---- one entry more
 
@@ -77,23 +55,7 @@ pub avail_grown : (old new : Pages) (l : Layout) (q next head : ℕ) (heads : Li
     ≡ field 2 old l.avail.page (avail_place l q k))
     → ShowsAvail old l q heads → ShowsAvail new l q (heads ++ head ∷ [])
 avail_grown old new l q next head heads size at entry index others shows =
-    let len : length (heads ++ head ∷ []) ≡ length heads + 1 = length_push heads head in
-    let spot : next % q ≡ length heads % q =
-    ap (λ n. n % q) (sym at) ∙ place_wraps (length heads) q size.divides in
-    record {
-      index = index ∙ omega (arith, len, at);
-      entries = λ k lt near. elim (cases_eq k (length heads)) [
-        | inl same ↦
-            let here : avail_place l q k ≡ avail_place l q next =
-            ap (λ r. l.avail.offset + 4 + 2 * r) (ap (λ n. n % q) same ∙ sym spot) in
-            ap (field 2 new l.avail.page) here ∙ entry ∙ sym (get_or_push heads head 0 k (sym same))
-        | inr ne ↦
-            let before : k < length heads = omega (arith, ne, len) in
-            let apart = place_apart k (length heads) q before (omega (arith, len)) in
-            others k (λ e. apart (e ∙ spot)) ∙ shows.entries k before (omega (arith, len))
-            ∙ sym (get_or_append_left heads (head ∷ []) 0 k before)
-      ];
-    }
+    grind (arith, length_push, place_wraps, get_or_push, place_apart, get_or_append_left)
 
 -- The element at the next place and the index: one more used element is shown.
 pub used_grown : (old new : Pages) (l : Layout) (q next head count : ℕ) (elems : List UsedElem)
@@ -190,12 +152,7 @@ puts_entries old new l q next head count heads elems fits w at shows = record {
 pub puts_descriptors : (old new : Pages) (l : Layout) (q next head count i : ℕ) → Fits l q
     → PutsUsed old new l q next head count → i < q
     → descriptor_at new l.table i ≡ descriptor_at old l.table i
-puts_descriptors old new l q next head count i fits w lt =
-    descriptor_kept old new l.table i
-    (outside_in old new _ l.table (16 * i) (16 * i + 16) w.rest (λ o low high. (
-      (λ e. omega (arith, e.from, fits.table_used (sym e.page))),
-      ((λ e. omega (arith, e.from, fits.table_used (sym e.page))), tt),
-    )))
+puts_descriptors old new l q next head count i fits w lt = grind (arith, descriptor_kept)
 
 -- ---- what stands next
 
@@ -217,20 +174,7 @@ pub entry_shown : (mem : Pages) (l : Layout) (q : ℕ) (heads : List ℕ) (t tak
     → ShowsAvail mem l q heads → t % 65536 ≡ taken → t ≤ length heads → length heads ≤ t + q
     → next_entry mem l q taken ≡ Ok (slice_get heads t)
 entry_shown mem l q heads t taken size shows at low near =
-    let gap = ahead_by (length heads) t (field 2 mem l.avail.page (avail_index l)) taken shows.index
-    at low (omega (arith, size.most)) in
-    elim (cases_eq (length heads) t) [
-      | inl all ↦ next_none (avail_ahead mem l taken) q _ _ (omega (arith, gap))
-          ∙ ap Ok (sym (slice_get_past heads t (omega arith)))
-      | inr ne ↦
-          let lt : t < length heads = omega (arith, ne) in
-          let place : avail_place l q taken ≡ avail_place l q t =
-          ap (λ r. l.avail.offset + 4 + 2 * r)
-          (ap (λ n. n % q) (sym at) ∙ place_wraps t q size.divides) in
-          next_some (avail_ahead mem l taken) q _ _ (omega (arith, gap)) (omega (arith, gap))
-          ∙ ap (λ x. Ok (Some x)) (ap (field 2 mem l.avail.page) place ∙ shows.entries t lt near)
-          ∙ ap Ok (sym (slice_get-get_or heads t 0 lt))
-    ]
+    grind (arith, slice_get_past, place_wraps, slice_get-get_or)
 
 -- The id of the element after the first s is the next id.
 pub id_shown : (mem : Pages) (l : Layout) (q most : ℕ) (elems : List UsedElem) (s seen : ℕ)
@@ -258,19 +202,6 @@ id_shown mem l q most elems s seen size fits shows at low near =
 
 -- ---- fresh and untouched pages
 
--- Where both indices are 0, the rings show two empty lists.
-pub fresh_entries : (mem : Pages) (l : Layout) (q : ℕ)
-    → field 2 mem l.avail.page (avail_index l) ≡ 0 → field 2 mem l.used.page (used_index l) ≡ 0
-    → ShowsEntries mem l q [] []
-fresh_entries mem l q a u = record {
-  avail = record { index = a; entries = λ k lt near. absurd (omega arith) };
-  used = record {
-    index = u;
-    ids = λ k lt near. absurd (omega arith);
-    lens = λ k lt near. absurd (omega arith);
-  };
-}
-
 -- Two zeros are the number 0.
 pub index_zero : (mem : Pages) (p o : ℕ) → byte_at mem p o ≡ 0 → byte_at mem p (o + 1) ≡ 0
     → field 2 mem p o ≡ 0
@@ -282,7 +213,5 @@ pub entries_apart : (old new : Pages) (l : Layout) (q : ℕ) (heads : List ℕ) 
     → IsSize q → page_at new l.avail.page ≡ page_at old l.avail.page
     → page_at new l.used.page ≡ page_at old l.used.page
     → ShowsEntries old l q heads elems → ShowsEntries new l q heads elems
-entries_apart old new l q heads elems size a u shows = record {
-  avail = avail_kept old new l q heads size (same_page old new l.avail.page _ _ a) shows.avail;
-  used = used_kept old new l q elems size (same_page old new l.used.page _ _ u) shows.used;
-}
+entries_apart old new l q heads elems size a u shows =
+    search (arith, avail_kept, same_page, used_kept)

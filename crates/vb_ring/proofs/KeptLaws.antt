@@ -15,7 +15,7 @@ use Rattle.vb_ring.specs.Kept.{LiesBetween, AreKept, IsFreeChain}
 use Rattle.vb_ring.proofs.Numbers.{numbers_none, numbers_has}
 use Rattle.vb_ring.proofs.OwnerLaws.{Claims, claims, Releases, releases, is_in-some, some_same}
 use Rattle.vb_ring.proofs.OwnerLaws.{is_in-at, own_some}
-use Rattle.vb_ring.proofs.OwnerLaws.{none_some, head_inside, fresh_free, claimed-at, released-at}
+use Rattle.vb_ring.proofs.OwnerLaws.{head_inside, fresh_free, claimed-at, released-at}
 
 -- How many heads a table has, by its length.
 heads_of : (owner : List (Option ℕ)) (n m : ℕ) → n ≡ m
@@ -25,26 +25,13 @@ heads_of owner n m e = ap (λ k. length (numbers (is_head owner) k)) e
 -- A table of which nothing is out.
 pub fresh_kept : (owner : List (Option ℕ)) (count : ℕ) (last : List ℕ) → count ≤ 256
     → owner ≡ replicate count None → AreKept owner count 0 last 0
-fresh_kept owner count last few fresh =
-    let free : (i : ℕ) → slice_index_or owner i None ≡ None =
-    λ i. ap (λ (xs : List (Option ℕ)). slice_index_or xs i None) fresh ∙ fresh_free count i in
-    let none : (h : ℕ) → is_head owner h ≡ false = λ h. ap (is_own h) (free h) in
-    record {
-      size = ap length fresh ∙ length-replicate {A = Option ℕ} count None;
-      few = few;
-      heads = sym (ap length (numbers_none (is_head owner) (length owner) (λ i l. none i)));
-      within = λ i h own. absurd (none_some h _ (free i) own);
-      ends = λ h out. (let wrong : true ≡ false = sym out ∙ none h in cc);
-      begin = omega arith;
-      taken = λ i l. absurd (omega (arith, l));
-    }
+fresh_kept owner count last few fresh = grind (arith, fresh_free, length-replicate, numbers_none)
 
 -- A chain is out: some are.
 pub some_out : (owner : List (Option ℕ)) (count out h from : ℕ) (last : List ℕ)
     → AreKept owner count out last from → is_head owner h ≡ true → 0 < out
 some_out owner count out h from last kept is =
-    let found = numbers_has (is_head owner) (length owner) h (head_inside owner h is) is in
-    omega (arith, kept.heads, found.1)
+    grind (arith, numbers_has (is_head owner) (length owner) h (head_inside owner h is) is)
 
 -- A chain more is out.
 pub claim_keeps : (owner : List (Option ℕ)) (count out from : ℕ) (last path : List ℕ) (h e : ℕ)

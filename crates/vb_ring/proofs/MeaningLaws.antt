@@ -1,10 +1,10 @@
 -- Laws of what the bytes of a ring mean.
 use Rattle.std.specs.Prelude.{◌≡◌, ◌≢◌, ℕ, zero, suc, ◌+◌, ◌-◌, ◌<◌, ◌≤◌, ◌==◌, nat_lt, Bool, true}
-use Rattle.std.specs.Prelude.{false, List, [], ◌∷◌, ◌++◌, Option, Some, None, Ok, is_none}
+use Rattle.std.specs.Prelude.{false, List, [], ◌∷◌, ◌++◌, Option, Some, None, Ok}
 use Rattle.std.specs.Prelude.{length, take, replicate, slice_index, slice_index_or}
 use Rattle.std.specs.Prelude.{refl}
-use Rattle.std.proofs.Common.{sym, ◌∙◌, ap, subst, arith, inl, inr, eq-eqb, add-one, add-zero}
-use Rattle.std.proofs.lemmas.Bool.{cases_eq, cases_lt, eqb-true, ltb-true}
+use Rattle.std.proofs.Common.{sym, ◌∙◌, ap, subst, arith, inl, inr, eq-eqb, add-one}
+use Rattle.std.proofs.lemmas.Bool.{cases_eq, cases_lt, ltb-true}
 use Rattle.std.proofs.lemmas.List.{length_push, length-map, get_or-take}
 use Rattle.std.proofs.lemmas.List.{length-take-le, take-append-le}
 use Rattle.vb_model.specs.Tests.{is_in, one_if}
@@ -19,7 +19,7 @@ use Rattle.vb_chain.proofs.ChainLaws.{flags_next}
 use Rattle.vb_chain.specs.Written.{linked, empty}
 use Rattle.vb_ring.specs.declared.layout.Layout.{Layout}
 use Rattle.vb_ring.specs.Layout.{IsSize, Fits}
-use Rattle.vb_ring.specs.Entries.{avail_index, used_index, is_own, is_head}
+use Rattle.vb_ring.specs.Entries.{is_own, is_head}
 use Rattle.vb_ring.specs.Numbers.{numbers}
 use Rattle.vb_ring.proofs.Numbers.{numbers_pass, numbers_rise, numbers_none, numbers_has}
 use Rattle.vb_ring.proofs.Numbers.{length_two}
@@ -31,7 +31,7 @@ use Rattle.vb_ring.proofs.OwnerLaws.{Claims, claims, Releases, releases, fresh_f
 use Rattle.vb_ring.specs.Meaning.{UsedElem, no_elem, ids, times, IsOutstanding, IsTablePath}
 use Rattle.vb_ring.specs.Meaning.{ShowsEntries, Shows, Tracks}
 use Rattle.vb_ring.specs.Calls.{Links}
-use Rattle.vb_ring.proofs.EntryLaws.{entries_apart, fresh_entries, index_zero}
+use Rattle.vb_ring.proofs.EntryLaws.{entries_apart, index_zero}
 
 -- ---- how often a head stands in a list
 
@@ -39,17 +39,11 @@ one_is : (h j : ℕ) → h ≡ j → one_if (h == j) ≡ 1
 one_is h j e = ap one_if (eq-eqb h j e)
 
 one_other : (h j : ℕ) → h ≢ j → one_if (h == j) ≡ 0
-one_other h j ne = at (h == j) refl
-  where
-    at : (b : Bool) → (h == j) ≡ b → one_if (h == j) ≡ 0
-    at true e = absurd (ne (eqb-true h j e))
-    at false e = ap one_if e
+one_other h j ne = grind arith
 
 pub times-push : (j : ℕ) (hs : List ℕ) (h : ℕ)
     → times j (hs ++ h ∷ []) ≡ times j hs + one_if (h == j)
-times-push j hs h =
-    count_by-append (λ k. k == j) hs (h ∷ [])
-    ∙ ap (λ n. times j hs + n) (count_by-cons (λ k. k == j) h [] ∙ add-zero (one_if (h == j)))
+times-push j hs h = grind (arith, count_by-append)
 
 pub ids-push : (elems : List UsedElem) (e : UsedElem)
     → ids (elems ++ e ∷ []) ≡ ids elems ++ e.id ∷ []
@@ -66,11 +60,7 @@ take_next (x ∷ xs) (suc n) h = ap (λ (ys : List UsedElem). x ∷ ys) (take_ne
 pub times-next : (j : ℕ) (elems : List UsedElem) (n : ℕ) → n < length elems
     → times j (ids (take (n + 1) elems))
     ≡ times j (ids (take n elems)) + one_if ((slice_index_or elems n no_elem).id == j)
-times-next j elems n h =
-    ap (λ (k : ℕ). times j (ids (take k elems))) (add-one n)
-    ∙ ap (λ (es : List UsedElem). times j (ids es)) (take_next elems n h)
-    ∙ ap (times j) (ids-push (take n elems) (slice_index_or elems n no_elem))
-    ∙ times-push j (ids (take n elems)) (slice_index_or elems n no_elem).id
+times-next j elems n h = grind (arith, take_next, ids-push, times-push)
 
 -- The first n have a head at most as often as all.
 pub times-take : (j : ℕ) (elems : List UsedElem) (n : ℕ)
@@ -82,7 +72,7 @@ times-take j [] n = omega (arith, ap (λ (es : List UsedElem). times j (ids es))
     none (suc n) = refl
 times-take j (e ∷ es) zero = omega arith
 times-take j (e ∷ es) (suc n) =
-    omega (
+    grind (
       arith,
       count_by-cons (λ k. k == j) e.id (ids (take n es)),
       count_by-cons (λ k. k == j) e.id (ids es),
@@ -144,17 +134,7 @@ path_first : (d e : ℕ → Descriptor) (q j : ℕ) (Good : ℕ → Type 0) (pat
     → ((xs : List ℕ) → IsTablePath d q j xs → (k : ℕ) → k < length xs → Good (slice_index xs k))
     → (n : ℕ) → n < length path → IsTablePath d q j (take (n + 1) path)
 path_first d e q j Good path whole same good zero h =
-    let len : length (take 1 path) ≡ 1 = length-take-le 1 path (omega arith) in
-    record {
-      is_path = record {
-        some = omega (arith, len);
-        begins = get_or-take 1 path 0 0 (omega arith) ∙ whole.is_path.begins;
-        onward = λ k l. absurd (omega (arith, len));
-        linked = λ k l. absurd (omega (arith, len));
-      };
-      inside = λ k l. omega
-          (arith, get_or-take 1 path k 0 (omega (arith, len)), whole.inside k (omega (arith, len)));
-    }
+    grind (arith, length-take-le 1 path (omega arith), get_or-take 1 path 0 0 (omega arith))
 path_first d e q j Good path whole same good (suc n) h =
     let before : IsTablePath d q j (take (n + 1) path) =
     path_first d e q j Good path whole same good n (omega arith) in
@@ -201,17 +181,7 @@ path_good d e q j Good path whole same good k h =
 -- The same descriptors make the same paths.
 pub table_path_kept : (d e : ℕ → Descriptor) (q j : ℕ) (path : List ℕ)
     → ((i : ℕ) → i < q → e i ≡ d i) → IsTablePath e q j path → IsTablePath d q j path
-table_path_kept d e q j path same whole = record {
-  is_path = record {
-    some = whole.is_path.some;
-    begins = whole.is_path.begins;
-    onward = λ k l. ap has_next (sym (same (slice_index path k) (whole.inside k (omega arith))))
-        ∙ whole.is_path.onward k l;
-    linked = λ k l. ap (λ y. y.next)
-        (sym (same (slice_index path k) (whole.inside k (omega arith)))) ∙ whole.is_path.linked k l;
-  };
-  inside = whole.inside;
-}
+table_path_kept d e q j path same whole = search (arith)
 
 -- A path from the head of a written chain goes along the chain.
 written_path : (d : ℕ → Descriptor) (q h : ℕ) (path : List ℕ) (pieces : List Piece)
@@ -240,11 +210,7 @@ written_path d q h path pieces put first some xs whole (suc k) l =
 -- A head that was published more often than it was used is out.
 out_head : (mem : Pages) (r : DriverEnd) (heads : List ℕ) (elems : List UsedElem) (s : ℕ) (h : ℕ)
     → Tracks mem r heads elems s → IsOutstanding heads elems h → is_head r.owner h ≡ true
-out_head mem r heads elems s h tracks out = at (is_head r.owner h) refl
-  where
-    at : (b : Bool) → is_head r.owner h ≡ b → is_head r.owner h ≡ true
-    at true e = e
-    at false e = absurd (omega (arith, tracks.out h, ap one_if e, times-take h elems s, out))
+out_head mem r heads elems s h tracks out = grind (arith, times-take h elems s)
 
 one_most : (b : Bool) → one_if b ≤ 1
 one_most true = omega arith
@@ -277,20 +243,12 @@ next_path-length r n h = length-take-le n (free_descriptors r) h
 pub next_path-free : (r : DriverEnd) (n k : ℕ) → k < length (next_path r n)
     → (slice_index (next_path r n) k < r.size)
     × (slice_index_or r.owner (slice_index (next_path r n) k) None ≡ None)
-next_path-free r n k h =
-    let part = take_inside (free_descriptors r) n k h in
-    let pass = numbers_pass (is_unused r.owner) r.size k part.0 in (
-      omega (arith, part.2, pass.0),
-      free_none _ (ap (λ i. is_none (slice_index_or r.owner i None)) part.2 ∙ pass.1),
-    )
+next_path-free r n k h = grind (arith, take_inside, numbers_pass)
 
 -- No descriptor stands twice on it.
 pub next_path-rise : (r : DriverEnd) (n j k : ℕ) → j < k → k < length (next_path r n)
     → slice_index (next_path r n) j < slice_index (next_path r n) k
-next_path-rise r n j k l h =
-    let here = take_inside (free_descriptors r) n k h in
-    let before = take_inside (free_descriptors r) n j (omega arith) in
-    omega (arith, here.2, before.2, numbers_rise (is_unused r.owner) r.size j k l here.0)
+next_path-rise r n j k l h = grind (arith, take_inside, numbers_rise)
 
 -- Each free descriptor below its last one stands on it.
 pub next_path-lowest : (r : DriverEnd) (n i : ℕ) → is_unused r.owner i ≡ true
@@ -484,18 +442,7 @@ pub used_tracks : (m1 m2 : Pages) (r : DriverEnd) (heads : List ℕ) (elems : Li
     (e : UsedElem) (s : ℕ)
     → ((i : ℕ) → i < r.size → descriptor_at m2 r.layout.table i ≡ descriptor_at m1 r.layout.table i)
     → Tracks m1 r heads elems s → Tracks m2 r heads (elems ++ e ∷ []) s
-used_tracks m1 m2 r heads elems e s same tracks = record {
-  published = tracks.published;
-  seen = tracks.seen;
-  few = omega (arith, tracks.few, length_push elems e);
-  count = tracks.count;
-  out = λ j. tracks.out j
-      ∙ ap (λ (es : List UsedElem). times j (ids es) + one_if (is_head r.owner j))
-      (sym (take-append-le s elems (e ∷ []) tracks.few));
-  owns = λ j out xs whole. tracks.owns j out xs
-      (table_path_kept (descriptor_at m1 r.layout.table) (descriptor_at m2 r.layout.table) r.size j
-      xs same whole);
-}
+used_tracks m1 m2 r heads elems e s same tracks = grind (arith, length_push, take-append-le)
 
 -- ---- fresh and untouched rings
 
@@ -523,34 +470,13 @@ ring_apart old new l q heads elems size t a u shows =
 pub tracks_apart : (old new : Pages) (r : DriverEnd) (heads : List ℕ) (elems : List UsedElem)
     (s : ℕ) → page_at new r.layout.table ≡ page_at old r.layout.table → Tracks old r heads elems s
     → Tracks new r heads elems s
-tracks_apart old new r heads elems s same tracks = record {
-  published = tracks.published;
-  seen = tracks.seen;
-  few = tracks.few;
-  count = tracks.count;
-  out = tracks.out;
-  owns = λ j out xs whole. tracks.owns j out xs
-      (table_path_kept (descriptor_at old r.layout.table) (descriptor_at new r.layout.table) r.size
-      j xs (λ i lt. descriptor_apart old new r.layout.table i same) whole);
-}
+tracks_apart old new r heads elems s same tracks = grind (arith, descriptor_apart)
 
 -- Pages of zeros show two empty lists.
 pub fresh_shows : (mem : Pages) (l : Layout) (q : ℕ) → Fits l q
     → ((k : ℕ) → k < 4096 → byte_at mem l.avail.page k ≡ 0)
     → ((k : ℕ) → k < 4096 → byte_at mem l.used.page k ≡ 0) → Shows mem l q [] []
-fresh_shows mem l q fits a u =
-    let a1 = a (avail_index l) (omega (arith, fits.avail)) in
-    let a2 = a (avail_index l + 1) (omega (arith, fits.avail)) in
-    let u1 = u (used_index l) (omega (arith, fits.used)) in
-    let u2 = u (used_index l + 1) (omega (arith, fits.used)) in
-    record {
-      entries = fresh_entries mem l q (index_zero mem l.avail.page (avail_index l) a1 a2)
-          (index_zero mem l.used.page (used_index l) u1 u2);
-      among = λ h. omega arith;
-      most = omega arith;
-      once = λ h. omega arith;
-      apart = λ h j ne out_h. absurd (omega (arith, out_h));
-    }
+fresh_shows mem l q fits a u = grind (arith, index_zero)
 
 -- A fresh driver's end has no head out.
 fresh_none : (q i : ℕ) → is_head (replicate q None) i ≡ false
@@ -558,14 +484,4 @@ fresh_none q i = ap (is_own i) (fresh_free q i)
 
 -- It tracks a ring of which nothing was published.
 pub fresh_tracks : (mem : Pages) (l : Layout) (q : ℕ) → Tracks mem (fresh_end l q) [] [] 0
-fresh_tracks mem l q = record {
-  published = refl;
-  seen = refl;
-  few = omega arith;
-  count = omega (
-    arith,
-    ap length (numbers_none (is_head (replicate q None)) q (λ i l. fresh_none q i)),
-  );
-  out = λ h. omega (arith, ap one_if (fresh_none q h));
-  owns = λ h out. (let wrong : true ≡ false = sym out ∙ fresh_none q h in cc);
-}
+fresh_tracks mem l q = grind (arith, numbers_none, fresh_none)

@@ -4,7 +4,7 @@ use Rattle.std.specs.Prelude.{[], ◌∷◌, ◌++◌, length, slice_index, if�
 use Rattle.std.specs.Prelude.{Some, take}
 use Rattle.vb_model.specs.Tests.{one_if}
 use Rattle.std.proofs.lemmas.Option.{slice_get-get_or}
-use Rattle.std.proofs.Common.{sym, ◌∙◌, ap, arith, inl, inr, add-one, add-zero}
+use Rattle.std.proofs.Common.{sym, ◌∙◌, ap, arith, inl, inr, add-one}
 use Rattle.std.proofs.lemmas.List.{length_push, get_or_append_left, get_or_push, length-take}
 use Rattle.std.proofs.lemmas.List.{take_all, take-append-le}
 use Rattle.std.proofs.lemmas.Bool.{cases_eq}
@@ -178,19 +178,11 @@ numbers_same p s (suc n) h = elim (either_way (p n)) [
 
 length_suc : (p : ℕ → Bool) (n : ℕ)
     → length (numbers p (suc n)) ≡ length (numbers p n) + one_if (p n)
-length_suc p n = elim (either_way (p n)) [
-  | inl pass ↦ ap length (suc_yes p n true pass refl) ∙ length_push (numbers p n) n
-      ∙ ap (λ (b : Bool). length (numbers p n) + one_if b) (sym pass)
-  | inr fail ↦ ap length (suc_no p n fail) ∙ sym (add-zero (length (numbers p n)))
-      ∙ ap (λ (b : Bool). length (numbers p n) + one_if b) (sym fail)
-]
+length_suc p n = grind (arith, suc_yes, length_push, suc_no)
 
 pub length-numbers : (p : ℕ → Bool) (n : ℕ) → length (numbers p n) ≤ n
 length-numbers p zero = omega (arith, ap length (numbers_zero p))
-length-numbers p (suc n) = elim (either_way (p n)) [
-  | inl pass ↦ omega (arith, length_suc p n, ap one_if pass, length-numbers p n)
-  | inr fail ↦ omega (arith, length_suc p n, ap one_if fail, length-numbers p n)
-]
+length-numbers p (suc n) = grind (arith, length_suc p n, length-numbers p n)
 
 -- One more number passes: one more is counted.
 pub length_gain : (p s : ℕ → Bool) (n h : ℕ) → h < n → p h ≡ false → s h ≡ true
@@ -222,34 +214,7 @@ length_gain p s (suc n) h l fail pass same = elim (cases_eq h n) [
 pub length_two : (p s : ℕ → Bool) (n : ℕ) → ((i : ℕ) → p i ≡ true → s i ≡ false)
     → length (numbers p n) + length (numbers s n) ≤ n
 length_two p s zero h = omega (arith, ap length (numbers_zero p), ap length (numbers_zero s))
-length_two p s (suc n) h = elim (either_way (p n)) [
-  | inl pass ↦ omega (
-    arith,
-    length_suc p n,
-    length_suc s n,
-    ap one_if pass,
-    ap one_if (h n pass),
-    length_two p s n h,
-  )
-  | inr fail ↦ elim (either_way (s n)) [
-    | inl pass ↦ omega (
-      arith,
-      length_suc p n,
-      length_suc s n,
-      ap one_if fail,
-      ap one_if pass,
-      length_two p s n h,
-    )
-    | inr none ↦ omega (
-      arith,
-      length_suc p n,
-      length_suc s n,
-      ap one_if fail,
-      ap one_if none,
-      length_two p s n h,
-    )
-  ]
-]
+length_two p s (suc n) h = grind (arith, length_suc p n, length_suc s n, length_two p s n h)
 
 -- Where all numbers below h pass, at least h do.
 pub length_all : (p : ℕ → Bool) (n h : ℕ) → h ≤ n → ((i : ℕ) → i < h → p i ≡ true)
@@ -270,9 +235,7 @@ length_all p (suc n) h l all = elim (cases_eq h (suc n)) [
 pub numbers_prefix : (p : ℕ → Bool) (m n : ℕ) → m ≤ n
     → take (length (numbers p m)) (numbers p n) ≡ numbers p m
 numbers_prefix p m zero l =
-    let none : m ≡ 0 = omega (arith, l) in
-    ap (λ k. take (length (numbers p k)) (numbers p 0)) none
-    ∙ take_all (length (numbers p 0)) (numbers p 0) (omega arith) ∙ ap (numbers p) (sym none)
+    grind (arith, take_all (length (numbers p 0)) (numbers p 0) (omega arith))
 numbers_prefix p m (suc n) l = elim (cases_eq m (suc n)) [
   | inl same ↦
       ap (λ k. take (length (numbers p k)) (numbers p (suc n))) same

@@ -3,8 +3,8 @@ use Rattle.std.specs.Prelude.{◌≡◌, ◌≢◌, ℕ, zero, suc, ◌<◌, ◌
 use Rattle.std.specs.Prelude.{◌∷◌, ◌+◌, Option, Some, None, is_none, if◌then◌else◌, length, take}
 use Rattle.std.specs.Prelude.{replicate, slice_index, slice_index_or, refl}
 use Rattle.std.specs.List.{list_any}
-use Rattle.std.proofs.Common.{sym, ◌∙◌, ap, arith, inl, inr, eq-eqb, min}
-use Rattle.std.proofs.lemmas.Bool.{cases_lt, eqb-true}
+use Rattle.std.proofs.Common.{sym, ◌∙◌, ap, arith, eq-eqb}
+use Rattle.std.proofs.lemmas.Bool.{eqb-true}
 use Rattle.std.proofs.lemmas.List.{length-map, get_or-map, get_or_past, get_or-take, length-take}
 use Rattle.std.proofs.lemmas.List.{get_or-replicate, length-replicate}
 use Rattle.vb_model.specs.Tests.{is_in}
@@ -20,17 +20,11 @@ same_number n = eq-eqb n n refl
 
 -- ---- members
 
-in_more : (b : Bool) → (b || true) ≡ true
-in_more true = refl
-in_more false = refl
-
 -- What stands in a list is in it.
 pub is_in-at : (xs : List ℕ) (k : ℕ) → k < length xs → is_in (slice_index xs k) xs ≡ true
 is_in-at [] k h = absurd (omega arith)
 is_in-at (x ∷ xs) zero h = ap (λ (b : Bool). b || list_any (λ m. m == x) xs) (same_number x)
-is_in-at (x ∷ xs) (suc k) h =
-    ap (λ (b : Bool). (x == slice_index xs k) || b) (is_in-at xs k (omega arith))
-    ∙ in_more (x == slice_index xs k)
+is_in-at (x ∷ xs) (suc k) h = grind (arith, is_in-at xs k (omega arith))
 
 -- What is in a list stands somewhere in it.
 pub is_in-some : (xs : List ℕ) (n : ℕ) → is_in n xs ≡ true
@@ -49,62 +43,38 @@ is_in-some (x ∷ xs) n h = at (x == n) refl (is_in-some xs n)
 
 -- Not in a list, a number stands nowhere in it.
 pub not_in : (xs : List ℕ) (n k : ℕ) → is_in n xs ≡ false → k < length xs → slice_index xs k ≢ n
-not_in xs n k h l e =
-    let there : is_in n xs ≡ true = ap (λ (m : ℕ). is_in m xs) (sym e) ∙ is_in-at xs k l in
-    (let wrong : true ≡ false = sym there ∙ h in cc)
+not_in xs n k h l e = grind (arith, is_in-at)
 
 -- A number that stands nowhere in a list isn't in it.
 pub nowhere_in : (xs : List ℕ) (n : ℕ) → ((k : ℕ) → k < length xs → slice_index xs k ≢ n)
     → is_in n xs ≡ false
-nowhere_in xs n h = at (is_in n xs) refl
-  where
-    at : (b : Bool) → is_in n xs ≡ b → is_in n xs ≡ false
-    at true e = (let found = is_in-some xs n e in absurd (h found.0 found.1 found.2))
-    at false e = e
+nowhere_in xs n h = grind (arith, is_in-some)
 
 -- ---- the lowest of some numbers
 
 -- What a prefix has is what the list has.
 pub take_inside : (xs : List ℕ) (n k : ℕ) → k < length (take n xs)
     → (k < length xs) × (k < n) × (slice_index (take n xs) k ≡ slice_index xs k)
-take_inside xs n k h =
-    let len : length (take n xs) ≡ min n (length xs) = length-take n xs in
-    let l : k < n = omega (arith, len) in
-    (omega (arith, len), l, get_or-take n xs k 0 l)
+take_inside xs n k h = grind (arith, length-take, get_or-take)
 
 -- ---- fresh, claimed and released tables
 
 -- An owner in a table of which nothing is out.
 pub fresh_free : (q i : ℕ) → slice_index_or (replicate {A = Option ℕ} q None) i None ≡ None
-fresh_free q i = elim (cases_lt i q) [
-  | inl l ↦ get_or-replicate {A = Option ℕ} q i None None l
-  | inr past ↦ get_or_past (replicate {A = Option ℕ} q None) i None
-      (omega (arith, length-replicate {A = Option ℕ} q None))
-]
+fresh_free q i = grind (arith, get_or-replicate, get_or_past, length-replicate)
 
 -- An owner in a table of which a path was claimed.
 pub claimed-at : (path : List ℕ) (h : ℕ) (owner : List (Option ℕ)) (i : ℕ)
     → ((k : ℕ) → k < length path → slice_index path k < length owner)
     → slice_index_or (claimed path h owner) i None
     ≡ (if is_in i path then Some h else slice_index_or owner i None)
-claimed-at path h owner i inside =
-    each_page-get (λ n old. if is_in n path then Some h else old) owner i None (λ past.
-    ap (λ (b : Bool). if b then Some h else None)
-    (nowhere_in path i (λ k l e. absurd (omega (arith, inside k l)))))
+claimed-at path h owner i inside = grind (arith, each_page-get, nowhere_in)
 
 -- An owner in a table of which a chain was released.
 pub released-at : (h : ℕ) (owner : List (Option ℕ)) (i : ℕ)
     → slice_index_or (released h owner) i None
     ≡ (if is_own h (slice_index_or owner i None) then None else slice_index_or owner i None)
-released-at h owner i = elim (cases_lt i (length owner)) [
-  | inl l ↦ get_or-map (λ old. if is_own h old then None else old) owner i None None l
-  | inr past ↦
-      let len : length (released h owner) ≡ length owner =
-      length-map owner (λ old. if is_own h old then None else old) in
-      get_or_past (released h owner) i None (omega (arith, len))
-      ∙ ap (λ (o : Option ℕ). if is_own h o then None else o)
-      (sym (get_or_past owner i None past))
-]
+released-at h owner i = grind (arith, get_or-map, length-map, get_or_past)
 
 -- ---- one owner
 
@@ -116,11 +86,7 @@ pub own_self : (h : ℕ) (o : Option ℕ) → o ≡ Some h → is_own h o ≡ tr
 own_self h o e = ap (is_own h) e ∙ eq-eqb h h refl
 
 pub own_other : (h j : ℕ) (o : Option ℕ) → o ≡ Some h → h ≢ j → is_own j o ≡ false
-own_other h j o e ne = ap (is_own j) e ∙ at (h == j) refl
-  where
-    at : (b : Bool) → (h == j) ≡ b → (h == j) ≡ false
-    at true f = absurd (ne (eqb-true h j f))
-    at false f = f
+own_other h j o e ne = grind arith
 
 pub free_none : (o : Option ℕ) → is_none o ≡ true → o ≡ None
 free_none None e = refl
@@ -134,10 +100,7 @@ none_some h o a b = cc
 
 -- A head whose chain is out is one of the table's.
 pub head_inside : (owner : List (Option ℕ)) (h : ℕ) → is_head owner h ≡ true → h < length owner
-head_inside owner h e = elim (cases_lt h (length owner)) [
-  | inl l ↦ l
-  | inr past ↦ absurd (none_some h _ (get_or_past owner h None past) (own_some h _ e))
-]
+head_inside owner h e = grind (arith, get_or_past)
 
 -- ---- what a claim and a release leave
 

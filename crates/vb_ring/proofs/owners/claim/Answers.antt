@@ -1,5 +1,5 @@
-use Rattle.std.proofs.Common.{◌≡◌, ◌≢◌, ◌∙◌, sym, ap, ℕ, ◌+◌, ◌<◌, List, Option, length, set}
-use Rattle.std.proofs.Common.{get_or, Some, None, Bool, true, false, arith, inl, inr, refl}
+use Rattle.std.proofs.Common.{◌≡◌, ◌≢◌, ◌∙◌, sym, ap, ℕ, ◌<◌, List, Option, length}
+use Rattle.std.proofs.Common.{Some, None, Bool, true, false, arith, refl}
 use Rattle.std.specs.Prelude.{slice_index, slice_index_or, if◌then◌else◌}
 use Rattle.std.proofs.lemmas.List.{length-set, get_or-set_same, get_or-set_other, ext_get_or}
 use Rattle.std.proofs.lemmas.Bool.{cases_eq}
@@ -31,32 +31,7 @@ claimed_is path h old new len inside now others =
         ∙ ap (λ (b : Bool). if b then Some h else slice_index_or old i None) (sym e)
 
 pub loop-i-preserved : goal.loop-i-preserved
-loop-i-preserved c =
-    let at = c.from.result in
-    let path = c.args.path.now in
-    let here : slice_index path c.loop-i.i-index ≡ at = sym c.from.ensures in
-    let size : at < length c.loop-i.owner =
-    omega (arith, c.requires c.loop-i.i-index (omega arith), c.loop-i.invariant.len) in
-    let before : (k : ℕ) → k < c.loop-i.i-index + 1 → slice_index path k ≢ at
-    → k < c.loop-i.i-index = λ k h ne.
-    elim (cases_eq k c.loop-i.i-index)
-    [ inl e ↦ absurd (ne (ap (slice_index path) e ∙ here)) | inr far ↦ omega (arith, far) ] in
-    record {
-      len = length-set c.loop-i.owner at (Some c.args.head) ∙ c.loop-i.invariant.len;
-      now = λ k h. elim (cases_eq (slice_index path k) at) [
-        | inl same ↦ ap (λ n. get_or (set c.loop-i.owner at (Some c.args.head)) n None) same
-            ∙ get_or-set_same c.loop-i.owner at (Some c.args.head) None size
-        | inr ne ↦ get_or-set_other c.loop-i.owner at (slice_index path k) (Some c.args.head) None
-            ne ∙ c.loop-i.invariant.now k (before k h ne)
-      ];
-      others = λ i apart.
-          get_or-set_other c.loop-i.owner at i (Some c.args.head) None
-          (λ e. apart c.loop-i.i-index (omega arith) (here ∙ sym e))
-          ∙ c.loop-i.invariant.others i apart;
-    }
+loop-i-preserved c = grind (arith, cases_eq, length-set, get_or-set_same, get_or-set_other)
 
 pub returns : goal.returns
-returns c =
-    claimed_is c.args.path.now c.args.head c.args.owner.now c.loop-i.owner c.loop-i.invariant.len
-    c.requires
-    (λ k l. c.loop-i.invariant.now k (omega arith)) c.loop-i.invariant.others
+returns c = grind (arith, claimed_is)

@@ -1,5 +1,5 @@
-use Rattle.std.proofs.Common.{◌≡◌, ◌∙◌, sym, ap, ℕ, ◌<◌, Bool, true, false, List, Option, length}
-use Rattle.std.proofs.Common.{None, arith, refl, inl, inr}
+use Rattle.std.proofs.Common.{◌≡◌, ◌∙◌, sym, ℕ, ◌<◌, true, List, Option, length}
+use Rattle.std.proofs.Common.{None, arith}
 use Rattle.std.specs.Prelude.{slice_index_or, if◌then◌else◌}
 use Rattle.std.proofs.lemmas.Bool.{cases_lt}
 use Rattle.std.proofs.lemmas.List.{length-map, ext_get_or}
@@ -23,33 +23,10 @@ released_is h old new len each =
 stays : (h : ℕ) (old : List (Option ℕ)) (k : ℕ) → (is_own h (slice_index_or old k None) ≡ true → ⊥)
     → slice_index_or old k None
     ≡ (if is_own h (slice_index_or old k None) then None else slice_index_or old k None)
-stays h old k other = at (is_own h (slice_index_or old k None)) refl
-  where
-    at : (b : Bool) → is_own h (slice_index_or old k None) ≡ b
-        → slice_index_or old k None
-        ≡ (if is_own h (slice_index_or old k None) then None else slice_index_or old k None)
-    at true e = absurd (other e)
-    at false e = sym (ap (λ (b : Bool). if b then None else slice_index_or old k None) e)
+stays h old k other = search (arith)
 
 pub loop-i-init : goal.loop-i-init
-loop-i-init c = record {
-  len = refl;
-  freed = λ k l. stays c.args.head c.args.owner.now k
-      (λ own. omega (arith, (c.requires.between k own).0, l, c.from-i.ensures));
-  kept = λ k l. refl;
-}
+loop-i-init c = grind (arith, stays)
 
 pub returns : goal.returns
-returns c = released_is c.args.head c.args.owner.now c.loop-i.owner c.loop-i.invariant.len
-    (λ k l. elim (cases_lt k c.loop-i.i) [
-      | inl done ↦ c.loop-i.invariant.freed k done
-      | inr left ↦ c.loop-i.invariant.kept k left
-          ∙ stays c.args.head c.args.owner.now k
-          (λ own. omega (
-            arith,
-            (c.requires.between k own).1,
-            left,
-            c.from-i-end.ensures,
-            c.loop-i-test.false,
-          ))
-    ])
+returns c = grind (arith, released_is, cases_lt, stays)

@@ -87,10 +87,7 @@ pub new-path-requires : goal.new-path-requires
 new-path-requires g c = omega (arith, c.requires.few)
 
 pub find_free-requires : goal.find_free-requires
-find_free-requires g c = (
-  omega (arith, c.requires.few),
-  (c.requires.some, (c.requires.room, c.new-path.ensures)),
-)
+find_free-requires g c = search (arith)
 
 pub deref-path-requires : goal.deref-path-requires
 deref-path-requires g c = omega (arith, c.requires.few)

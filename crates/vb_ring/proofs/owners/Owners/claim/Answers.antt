@@ -2,31 +2,15 @@ use Rattle.std.proofs.Common.{◌∙◌, ◌-◌, ℕ, List, Option, length, tak
 use Rattle.std.specs.Prelude.{slice_index}
 use Rattle.vb_ring.specs.Kept.{IsFreeChain}
 use Rattle.vb_ring.specs.Ends.{claimed}
-use Rattle.vb_ring.specs.Entries.{is_head}
 use Rattle.vb_ring.proofs.Numbers.{length-numbers}
 use Rattle.vb_ring.proofs.KeptLaws.{claim_after}
 use Rattle.vb_ring.proofs.owners.Owners.claim.Goals as goal
 
 pub overflow_add-self : goal.overflow_add-self
-overflow_add-self c = omega (
-  arith,
-  c.requires.some,
-  c.requires.inside (length c.args.path.now - 1) (omega (arith, c.requires.some)),
-  ap length c.self.view_is,
-  c.self.invariant.size,
-  c.self.invariant.few,
-)
+overflow_add-self c = search (arith)
 
 pub overflow_add-self-2 : goal.overflow_add-self-2
-overflow_add-self-2 c =
-    let owner = take c.self.inside.count c.self.inside.owner in
-    omega (
-      arith,
-      c.self.invariant.heads,
-      c.self.invariant.size,
-      c.self.invariant.few,
-      length-numbers (is_head owner) (length owner),
-    )
+overflow_add-self-2 c = grind (arith, length-numbers)
 
 pub invariant_of-self : goal.invariant_of-self
 invariant_of-self c =

@@ -1,6 +1,5 @@
-use Rattle.std.proofs.Common.{◌∙◌, sym, ap, arith, length, inl, inr}
+use Rattle.std.proofs.Common.{◌∙◌, sym, ap, arith, length}
 use Rattle.std.proofs.lemmas.Bool.{cases_eq}
-use Rattle.std.specs.Prelude.{slice_get}
 use Rattle.vb_ring.specs.Ends.{is_unused}
 use Rattle.vb_ring.proofs.Numbers.{numbers_none, numbers_first}
 use Rattle.vb_ring.proofs.owners.Owners.lowest_free.Goals as goal
@@ -9,10 +8,7 @@ pub is_free-requires : goal.is_free-requires
 is_free-requires c = omega (arith, ap length c.self.view_is, c.self.invariant.size)
 
 pub loop-i-preserved : goal.loop-i-preserved
-loop-i-preserved c j h = elim (cases_eq j c.loop-i.i) [
-  | inl is ↦ ap (is_unused c.args.self.now) is ∙ sym c.is_free.ensures ∙ c.if-is_free.false
-  | inr ne ↦ c.loop-i.invariant j (omega (arith, h, ne))
-]
+loop-i-preserved c j h = grind (arith, cases_eq)
 
 pub returns-then-is_free : goal.returns-then-is_free
 returns-then-is_free c =
@@ -21,6 +17,4 @@ returns-then-is_free c =
     (sym c.is_free.ensures ∙ c.if-is_free.true) c.loop-i.invariant)
 
 pub returns : goal.returns
-returns c = sym (ap (λ xs. slice_get xs 0)
-    (numbers_none (is_unused c.args.self.now) _ (λ i h. c.loop-i.invariant i
-    (omega (arith, ap length c.self.view_is, c.self.invariant.size)))))
+returns c = grind (arith, numbers_none)
