@@ -3,7 +3,7 @@ use Rattle.std.proofs.Common.{◌≡◌, ℕ, zero, suc, ◌+◌, ◌<◌, Bool,
 use Rattle.std.proofs.Common.{◌∷◌, refl, sym, ap, subst, ◌∙◌, inl, arith, ◌≢◌, length, get_or}
 use Rattle.std.proofs.Common.{drop, cond}
 use Rattle.std.specs.Prelude.{Option, Some, None, slice_get, ◌==◌, IsTrue, ◌↔◌}
-use Rattle.std.proofs.lemmas.Bool.{eqb-true, eq-eqb}
+use Rattle.std.proofs.lemmas.Bool.{eq-eqb}
 use Rattle.std.proofs.lemmas.List.{get_or-take, get_or-drop, length-take-le, length-drop}
 use Rattle.vb_model.specs.declared.places.Place.TheVariants.{Used, Lent}
 use Rattle.vb_model.specs.declared.calls.Actor.{Actor}
@@ -261,7 +261,7 @@ pub course_is_safe : (c : Course) → IsFit c.first → Leads c.first c.entries 
 course_is_safe c f s =
     let p = positions c f s in
     record {
-      agreed = λ i g at ready. (p.fit i g at).orderly.agreed (eqb-true g.status 15 ready);
+      agreed = λ i g at ready. (p.fit i g at).orderly.agreed ready;
       keeps_frame = keeps_frame c p;
       keeps_contents = λ i page g new here next unreserved. keeps_contents c p i page g new here next;
       reads = reads c p;

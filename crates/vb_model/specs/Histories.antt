@@ -3,6 +3,7 @@
 -- The headline needs all of it; `IsSafeHistory` for guests on threads alone.
 use Rattle.std.specs.Prelude.{◌≡◌, ◌≢◌, ℕ, ◌+◌, ◌<◌, List, Some, slice_index_or, length, IsTrue}
 use Rattle.std.specs.Prelude.{◌↔◌, ◌⊎◌, count_by}
+use Rattle.vb_model.specs.declared.negotiation.TheConstants.{READY_STATUS}
 use Rattle.vb_model.specs.declared.places.Place.TheVariants.{Used, Giving, Reserved}
 use Rattle.vb_model.specs.declared.calls.Call.{Call}
 use Rattle.vb_model.specs.declared.calls.Call.TheVariants.{Read}
@@ -11,7 +12,7 @@ use Rattle.vb_model.specs.declared.replies.Reply.{Reply}
 use Rattle.vb_model.specs.declared.replies.Reply.TheVariants.{ReadBytes, Refused}
 use Rattle.vb_model.specs.Pages.{place_of, is_lent}
 use Rattle.vb_model.specs.Requests.{Request, names, given_away}
-use Rattle.vb_model.specs.Guest.{Guest, Config, fresh, frame_of, is_ballooned, is_ready}
+use Rattle.vb_model.specs.Guest.{Guest, Config, fresh, frame_of, is_ballooned}
 use Rattle.vb_model.specs.Orderly.{AreAgreed}
 use Rattle.vb_model.specs.GuestRun.{Entry, Leads, last_guest, all_entries}
 use Rattle.vb_model.specs.Courses.{Course, guest_after, IsCall, IsAt, BringsTo, WasAskedBack}
@@ -31,7 +32,7 @@ BothAgree g = (page : ℕ) →
 
 pub record IsSafeCourse (c : Course) : Type 0 where
   -- a guest that is ready agreed on features that its device offers
-  pub agreed : (i : ℕ) (g : Guest) → guest_after c i ≡ Some g → IsTrue (is_ready g)
+  pub agreed : (i : ℕ) (g : Guest) → guest_after c i ≡ Some g → g.status ≡ READY_STATUS
       → AreAgreed g.features
   -- a used page keeps its frame
   pub keeps_frame : (i page frame : ℕ) (g g' : Guest) → guest_after c i ≡ Some g

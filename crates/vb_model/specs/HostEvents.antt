@@ -17,7 +17,6 @@ use Rattle.vb_model.specs.declared.replies.Reply.TheVariants.{Refused}
 use Rattle.vb_model.specs.Guest.{Guest, Config, fresh}
 use Rattle.vb_model.specs.FirstRefusal.{first_refusal}
 use Rattle.vb_model.specs.declared.calls.Claim.{Claim}
-use Rattle.vb_model.specs.Life.{after_restart}
 use Rattle.vb_model.specs.Rogue.{GuestStep}
 use Rattle.vb_model.specs.Balance.{Need, need, IsAnswer}
 use Rattle.vb_model.specs.HostFrames.{IsOut, Gives, used_frames}
@@ -70,7 +69,8 @@ abbrev pub after_balance : Reply → World → World
 after_balance (Targets targets) w = record w { guests = with_targets targets w.guests }
 after_balance answer w = w
 
--- an event that isn't refused; one of a guest gets that guest
+-- an event that isn't refused; one of a guest gets that guest, and a restart leaves it as it was
+-- plugged in, with the target kept
 abbrev pub Happens : Event → World → Reply → World → Type 0
 Happens (Plug size) w reply new =
     PlugsIn size.pages size.queue_size size.processors w.spares w reply new
@@ -78,7 +78,7 @@ Happens (Unplug n) w reply new =
     (reply ≡ Done) × (new ≡ record (put_guest n None w) { given_up = Some n })
 Happens (Restart n) w reply new =
     MatchOption (guest_at w.guests n) ⊥
-    (λ g. (reply ≡ Done) × (new ≡ put_guest n (Some (after_restart g)) w))
+    (λ g. (reply ≡ Done) × (new ≡ put_guest n (Some (fresh g.config g.target)) w))
 Happens (OnGuest n call) w reply new =
     MatchOption (guest_at w.guests n) ⊥ (λ g. Calls n g w call reply new)
 Happens (Asking n query) w reply new =

@@ -1,5 +1,5 @@
 -- Why the host refuses an event, first cause first (profile).
--- The headline of a host needs all of it.
+-- The headline of a host needs all of it but `plugged_count`.
 use Rattle.std.specs.Prelude.{ℕ, Bool, not, ◌==◌, length, nat_le}
 use Rattle.std.specs.Prelude.{List, [], ◌∷◌, is_none, is_some}
 use Rattle.std.specs.Prelude.{count_by}
@@ -23,7 +23,7 @@ lacks_guest w n = is_none (guest_at w.guests n)
 abbrev pub world_tests : World → Event → List Test
 world_tests w (Plug size) =
     (not (is_config size.pages size.queue_size size.processors) ⇒ BadConfig)
-    ∷ (nat_le MAX_GUESTS (plugged_count w) ⇒ TooMany)
+    ∷ (nat_le MAX_GUESTS (count_by (λ x. is_some x) w.guests) ⇒ TooMany)
     ∷ ((length w.spares == 0) ⇒ NoDevice)
     ∷ []
 world_tests w (Unplug n) = (lacks_guest w n ⇒ NoGuest) ∷ []
