@@ -43,6 +43,3 @@ pub use regions::{FILE_LIMIT, Region, Spot, find};
 pub use room::{MAX_BYTES, MAX_FIGURES, MAX_PIECES, MAX_RUNS};
 pub use serving::serve;
 pub use step::{Discarding, Phase, Place, Step, Walk};
-
-#[cfg(test)]
-mod tests;

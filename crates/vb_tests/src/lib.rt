@@ -1,5 +1,5 @@
-//! Tests alone, by public calls: rings, page areas, a balloon driver, a device over copies, scripts
-//! and replies as text.
+//! Tests alone, by public calls: rings, page areas, a balloon driver, a device over copies, notices
+//! over changing memory, scripts and replies as text.
 #![tactic(auto)]
 
 #[cfg(test)]

@@ -3,6 +3,7 @@
 mod copies;
 mod driver;
 mod faults;
+mod notices;
 mod pages;
 mod reply;
 mod ring;

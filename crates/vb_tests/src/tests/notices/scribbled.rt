@@ -2,10 +2,29 @@
 
 ghost use Rattle.std.specs.Prelude.{◌≡◌, ◌++◌, ◌∷◌, []};
 
-use crate::{Cut, LiveMemory, Spot};
 use std::alloc::Global;
 use std::process::Abort;
 use vb_core::{Kind, Run, Statistic};
+use vb_monitor::{Cut, LiveMemory, Spot};
+
+/// How many bytes such a memory has.
+pub(super) const MEMORY: usize = 0x800;
+
+/// An access as tests compare it: a word with its answer, how many bytes were copied, how many runs
+/// or figures were told, what was discarded, and what was written.
+#[derive(Clone, Copy, PartialEq, Eq)]
+pub(super) enum Row {
+    Word(Spot, u16),
+    Bytes(Spot, usize),
+    Acquire,
+    Release,
+    Full,
+    Pages(usize),
+    Figures(usize),
+    Discarded(Cut),
+    Number(Spot, u32),
+    Written(Spot, u16),
+}
 
 /// What was asked, with its answer.
 #[derive(Drop)]
@@ -22,13 +41,31 @@ pub(super) enum Entry {
     WordWritten { at: Spot, word: u16 },
 }
 
+impl Entry {
+    /// It as a row.
+    pub(super) fn row(&self) -> Row {
+        match self {
+            Entry::Word { at, answer } => Row::Word(*at, *answer),
+            Entry::Bytes { at, bytes } => Row::Bytes(*at, bytes.len()),
+            Entry::AcquireFence => Row::Acquire,
+            Entry::ReleaseFence => Row::Release,
+            Entry::FullFence => Row::Full,
+            Entry::Pages { runs, .. } => Row::Pages(runs.len()),
+            Entry::Figures { figures } => Row::Figures(figures.len()),
+            Entry::Discarded { cut } => Row::Discarded(*cut),
+            Entry::NumberWritten { at, number } => Row::Number(*at, *number),
+            Entry::WordWritten { at, word } => Row::Written(*at, *word),
+        }
+    }
+}
+
 /// Memory that scribbles over each byte as soon as it was read, but the available ring's flags and
 /// index: a second read answers another one.
 #[derive(Drop)]
 pub(super) struct Scribbled<'r, R: Abort> {
     pub(super) rt: &'r R,
     pub(super) alloc: Global,
-    pub(super) bytes: Vec<u8>,
+    pub(super) bytes: [u8; MEMORY],
     pub(super) turn: u8,
     pub(super) trace: Vec<Entry>,
 }
@@ -38,7 +75,7 @@ impl<R: Abort> Scribbled<'_, R> {
     fn take_byte(&mut self, at: u64) -> u8
         ensures { self.new.trace ≡ self.old.trace }
     {
-        if at >= self.bytes.len() as u64 {
+        if at >= MEMORY as u64 {
             return 0;
         }
         let place = at as usize;
@@ -69,7 +106,7 @@ impl<R: Abort> Scribbled<'_, R> {
 
 impl<R: Abort> LiveMemory for Scribbled<'_, R> {
     ghost use Rattle.std.specs.Prelude.{map};
-    ghost use Rattle.vb_monitor.specs.declared.tests.scribbled.Entry.TheVariants.{
+    ghost use Rattle.vb_tests.specs.declared.tests.notices.scribbled.Entry.TheVariants.{
       Word,
       Bytes,
       AcquireFence,

@@ -1,0 +1,271 @@
+//! Notices, served over a memory whose bytes change as they are read.
+
+mod scribbled;
+
+use scribbled::{Entry, MEMORY, Row, Scribbled};
+use std::alloc::Global;
+use std::process::Abort;
+use vb_core::{Buffer, Device, Kind, Ring, Run, Settings, Statistic};
+use vb_monitor::{
+    Budget, Cut, MAX_BYTES, MAX_FIGURES, MAX_PIECES, MAX_RUNS, Outcome, Region, Spot, serve,
+};
+
+/// A guest of 32 pages.
+const SETTINGS: Settings = Settings {
+    memory_end: 0x2_0000,
+    offered: 0x1_0000_0027,
+    reserved_pages: 0,
+    needs_must_tell: 0,
+    skips_bad_pages: 0,
+};
+
+/// Its first 21 pages, and the others.
+const REGIONS: [Region; 2] = [
+    Region {
+        guest: 0,
+        length: 0x1_5000,
+        in_file: 0,
+    },
+    Region {
+        guest: 0x1_5000,
+        length: 0xb000,
+        in_file: 0x10_0000,
+    },
+];
+
+/// A ring of eight descriptors.
+const RING: Ring = Ring {
+    table: 0,
+    avail: 0x100,
+    used: 0x200,
+    size: 8,
+    next_avail: 0,
+    next_used: 0,
+};
+
+const NO_PIECE: Buffer = Buffer {
+    address: 0,
+    length: 0,
+    writable: 0,
+};
+
+const NO_FIGURE: Statistic = Statistic { tag: 0, value: 0 };
+
+/// Places in the first region: the ring's words, the table, the request, and the used element.
+const FLAGS: Spot = Spot {
+    region: 0,
+    offset: 0x100,
+};
+
+const INDEX: Spot = Spot {
+    region: 0,
+    offset: 0x102,
+};
+
+const ENTRY: Spot = Spot {
+    region: 0,
+    offset: 0x104,
+};
+
+const TABLE: Spot = Spot {
+    region: 0,
+    offset: 0,
+};
+
+const REQUEST: Spot = Spot {
+    region: 0,
+    offset: 0x400,
+};
+
+const USED_INDEX: Spot = Spot {
+    region: 0,
+    offset: 0x202,
+};
+
+const USED_ID: Spot = Spot {
+    region: 0,
+    offset: 0x204,
+};
+
+const USED_LENGTH: Spot = Spot {
+    region: 0,
+    offset: 0x208,
+};
+
+/// Page 20 in the first region, pages 21 and 22 in the second, and page 5.
+const PAGE_20: Cut = Cut {
+    region: 0,
+    offset: 0x1_4000,
+    in_file: 0x1_4000,
+    length: 0x1000,
+};
+
+const PAGES_21_AND_22: Cut = Cut {
+    region: 1,
+    offset: 0,
+    in_file: 0x10_0000,
+    length: 0x2000,
+};
+
+const PAGE_5: Cut = Cut {
+    region: 0,
+    offset: 0x5000,
+    in_file: 0x5000,
+    length: 0x1000,
+};
+
+/// A notice of the request of `put_request`: what it is, how many chains it may serve, whether an
+/// interrupt is wanted and more stands there at its end, and its accesses.
+struct Case {
+    name: &'static str,
+    kind: Kind,
+    chains: u32,
+    interrupt: bool,
+    more: bool,
+    accesses: &'static [Row],
+}
+
+static CASES: [Case; 3] = [
+    Case {
+        name: "an inflate",
+        kind: Kind::Inflate,
+        chains: 8,
+        interrupt: true,
+        more: false,
+        accesses: &[
+            Row::Word(INDEX, 1),
+            Row::Acquire,
+            Row::Word(ENTRY, 0),
+            Row::Bytes(TABLE, 16),
+            Row::Bytes(REQUEST, 16),
+            Row::Pages(2),
+            Row::Discarded(PAGE_20),
+            Row::Discarded(PAGES_21_AND_22),
+            Row::Discarded(PAGE_5),
+            Row::Number(USED_ID, 0),
+            Row::Number(USED_LENGTH, 0),
+            Row::Release,
+            Row::Written(USED_INDEX, 1),
+            Row::Word(INDEX, 1),
+            Row::Full,
+            Row::Word(FLAGS, 0),
+        ],
+    },
+    Case {
+        name: "a deflate, which discards nothing",
+        kind: Kind::Deflate,
+        chains: 8,
+        interrupt: true,
+        more: false,
+        accesses: &[
+            Row::Word(INDEX, 1),
+            Row::Acquire,
+            Row::Word(ENTRY, 0),
+            Row::Bytes(TABLE, 16),
+            Row::Bytes(REQUEST, 16),
+            Row::Pages(2),
+            Row::Number(USED_ID, 0),
+            Row::Number(USED_LENGTH, 0),
+            Row::Release,
+            Row::Written(USED_INDEX, 1),
+            Row::Word(INDEX, 1),
+            Row::Full,
+            Row::Word(FLAGS, 0),
+        ],
+    },
+    Case {
+        name: "a budget of no chain, behind which more stands there",
+        kind: Kind::Inflate,
+        chains: 0,
+        interrupt: false,
+        more: true,
+        accesses: &[Row::Word(INDEX, 1)],
+    },
+];
+
+/// One descriptor of 16 bytes at 0x400, one available entry, and a request of the pages 20, 21, 22
+/// and 5.
+fn put_request(bytes: &mut [u8]) {
+    if bytes.len() < MEMORY {
+        return;
+    }
+    bytes[1] = 4;
+    bytes[8] = 16;
+    bytes[0x102] = 1;
+    bytes[0x400] = 20;
+    bytes[0x404] = 21;
+    bytes[0x408] = 22;
+    bytes[0x40c] = 5;
+}
+
+/// Serves that request on a queue of this kind.
+fn serve_request<R: Abort>(memory: &mut Scribbled<R>, kind: Kind, chains: u32) -> Option<Outcome> {
+    let mut device = Device::new(SETTINGS);
+    device.features = SETTINGS.offered;
+    device.status = 15;
+    device.inflate = RING;
+    device.deflate = RING;
+    put_request(&mut memory.bytes);
+    serve(
+        memory,
+        &mut device,
+        &REGIONS,
+        kind,
+        Budget { chains, pages: 256 },
+        &mut [NO_PIECE; MAX_PIECES],
+        &mut [0; MAX_BYTES],
+        &mut [Run::NONE; MAX_RUNS],
+        &mut [NO_FIGURE; MAX_FIGURES],
+        100,
+    )
+}
+
+/// Whether a notice ended so.
+fn is_end(outcome: Option<Outcome>, interrupt: bool, more: bool) -> bool {
+    match outcome {
+        None => false,
+        Some(Outcome { why: Some(_), .. }) => false,
+        Some(end) => end.interrupt == interrupt && end.more == more,
+    }
+}
+
+/// The first access that is another one, or the number of accesses where there are more or fewer.
+fn first_other(trace: &[Entry], rows: &[Row]) -> Option<usize> {
+    for at in 0..trace.len().min(rows.len()) {
+        if trace[at].row() != rows[at] {
+            return Some(at);
+        }
+    }
+    if trace.len() == rows.len() {
+        None
+    } else {
+        Some(trace.len())
+    }
+}
+
+/// A notice ends as the case has it, by just its accesses.
+fn expect<R: Abort>(rt: &R, alloc: Global, case: &Case) {
+    let mut memory = Scribbled {
+        rt,
+        alloc,
+        bytes: [0; MEMORY],
+        turn: 0,
+        trace: Vec::new(alloc),
+    };
+    let outcome = serve_request(&mut memory, case.kind, case.chains);
+    let name = case.name;
+    assert!(rt;
+        is_end(outcome, case.interrupt, case.more),
+        "{name}: its end"
+    );
+    if let Some(at) = first_other(&memory.trace, case.accesses) {
+        assert!(rt; false, "{name}: access {at}");
+    }
+}
+
+#[test]
+fn notices_make_just_their_accesses(rt: HostRuntime) {
+    for case in &CASES {
+        expect(&rt, rt.alloc(), case);
+    }
+}
