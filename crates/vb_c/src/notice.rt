@@ -210,6 +210,7 @@ impl VbNotice {
     }
 
     /// What it waits for, if it is something.
+    #[inline(never)]
     fn phase(&self) -> Option<Phase>
         ensures { result ≡ phase_of self.now }
     {

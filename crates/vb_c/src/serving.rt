@@ -20,19 +20,18 @@ fn hand_over(
     regions: &[Region],
     runs: &[Run; MAX_RUNS],
     cuts: &mut [Cut; MAX_CUTS],
-    notice: Notice,
+    notice: &mut Notice,
 ) -> u32
-    requires { Fits notice.step.phase }
-    ensures hands { HandsOver notice regions.now runs.now balloon.old balloon.new cuts.new
+    requires { Fits notice.old.step.phase }
+    ensures hands { HandsOver notice.old regions.now runs.now balloon.old balloon.new cuts.new
         shown.new }
     ensures what { result ≡ shown.new.what }
 {
-    let mut next = notice;
-    let asked = next.at_once(&mut balloon.device, regions, runs, cuts, &mut shown.orders);
-    if let Some(outcome) = next.outcome() {
-        balloon.note(next.kind, &outcome);
+    let asked = notice.at_once(&mut balloon.device, regions, runs, cuts, &mut shown.orders);
+    if let Some(outcome) = notice.outcome() {
+        balloon.note(notice.kind, &outcome);
     }
-    shown.show(asked, &next);
+    shown.show(asked, notice);
     shown.what
 }
 
@@ -68,8 +67,15 @@ pub extern "C" fn vb_begin(
                 return refuse(notice, NOTHING);
             }
             let budget = Budget { chains, pages };
-            let begun = Notice::begin(&mut balloon.device, regions, kind, budget);
-            hand_over(notice, balloon, regions, &room.runs, &mut room.cuts, begun)
+            let mut begun = Notice::begin(&mut balloon.device, regions, kind, budget);
+            hand_over(
+                notice,
+                balloon,
+                regions,
+                &room.runs,
+                &mut room.cuts,
+                &mut begun,
+            )
         }
     }
 }
@@ -89,8 +95,15 @@ pub extern "C" fn vb_ask(
     match balloon.held_head() {
         None => refuse(notice, NOTHING),
         Some(head) => {
-            let begun = Notice::ask_statistics(&mut balloon.device, regions, head);
-            hand_over(notice, balloon, regions, &room.runs, &mut room.cuts, begun)
+            let mut begun = Notice::ask_statistics(&mut balloon.device, regions, head);
+            hand_over(
+                notice,
+                balloon,
+                regions,
+                &room.runs,
+                &mut room.cuts,
+                &mut begun,
+            )
         }
     }
 }
@@ -120,7 +133,14 @@ pub extern "C" fn vb_go_on(
                 &mut room.runs,
                 &mut room.figures,
             );
-            hand_over(notice, balloon, regions, &room.runs, &mut room.cuts, read)
+            hand_over(
+                notice,
+                balloon,
+                regions,
+                &room.runs,
+                &mut room.cuts,
+                &mut read,
+            )
         }
     }
 }

@@ -226,6 +226,7 @@ impl VbNotice {
     }
 
     /// Shows what the notice waits for, beside what needs no answer.
+    #[inline(never)]
     fn show_phase(&mut self, bits: u32, tally: Tally, phase: Phase)
         requires bits { bits < 16 }
         requires fits { Fits phase }

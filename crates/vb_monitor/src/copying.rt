@@ -21,6 +21,7 @@ use vb_chain::ChainFault;
 use vb_core::{Buffer, Device, Kind, Run, Statistic};
 
 /// Asks for a part of a piece.
+#[inline(never)]
 fn ask_part(
     device: &mut Device,
     regions: &[Region],
@@ -154,6 +155,7 @@ fn copy_second(
 
 /// A part was copied behind the others.
 #[tactic(auto, using(crate::proofs::NextLemmas::end_steps))]
+#[inline(never)]
 pub(crate) fn after_part(
     device: &mut Device,
     regions: &[Region],

@@ -23,10 +23,12 @@ pub struct Cut {
 }
 
 /// Whether a region has pages of a run.
+#[inline(always)]
 fn meets(region: &Region, run: Run) -> bool
     ensures { result ≡ meets region.now run }
 {
-    if !region.is_possible() {
+    let run_end = PAGE_BYTES * (u64::from(run.first) + u64::from(run.count));
+    if run_end <= region.guest || !region.is_possible() {
         return false;
     }
     let first = (region.guest / PAGE_BYTES).max(u64::from(run.first));
@@ -36,6 +38,7 @@ fn meets(region: &Region, run: Run) -> bool
 }
 
 /// The bytes of a run's pages in a region that has some.
+#[inline(always)]
 fn cut_of(number: usize, region: &Region, run: Run) -> Cut
     requires { meets region.now run ≡ true }
     ensures { result ≡ cut_of number region.now run }
@@ -54,6 +57,7 @@ fn cut_of(number: usize, region: &Region, run: Run) -> Cut
 
 /// The next part of a run in the regions from this number on.
 #[tactic(auto, using(crate::proofs::RegionLemmas::cut_steps))]
+#[inline(always)]
 pub(crate) fn next_cut(regions: &[Region], from: usize, run: Run) -> Option<Cut>
     ensures { MatchOption result (cuts_from from (drop from regions.now) run ≡ [])
         (λ cut. (cut.region < length regions.now) × (cuts_from from (drop from regions.now) run ≡
@@ -81,6 +85,7 @@ pub(crate) struct NextCut {
 
 /// The first part of the runs from this number on.
 #[tactic(auto, using(crate::proofs::RegionLemmas::run_steps))]
+#[inline(always)]
 pub(crate) fn first_cut(regions: &[Region], runs: &[Run], from: usize) -> Option<NextCut>
     ensures { MatchOption result (cuts_of regions.now (drop from runs.now) ≡ [])
         (λ x. cuts_of regions.now (drop from runs.now) ≡
@@ -96,6 +101,7 @@ pub(crate) fn first_cut(regions: &[Region], runs: &[Run], from: usize) -> Option
 }
 
 /// The first part behind those of a run in the regions below this number.
+#[inline(always)]
 pub(crate) fn cut_behind(
     regions: &[Region],
     runs: &[Run],

@@ -34,6 +34,7 @@ pub(crate) fn stop(tally: Tally, why: Option<Denial>, interrupt: bool, more: boo
 
 /// The notice ends: where a chain was given back, the driver is asked whether it wants an
 /// interrupt.
+#[inline(never)]
 pub(crate) fn end(
     device: &Device,
     regions: &[Region],
@@ -61,6 +62,7 @@ pub(crate) fn end(
 }
 
 /// The notice ends since the guest broke a rule.
+#[inline(never)]
 pub(crate) fn fail(
     device: &mut Device,
     regions: &[Region],

@@ -42,6 +42,7 @@ fn used_spots(regions: &[Region], entry: &UsedEntry) -> Option<UsedSpots>
 }
 
 /// Gives the chain of this head back.
+#[inline(never)]
 pub(crate) fn give_back(
     device: &mut Device,
     regions: &[Region],

@@ -41,6 +41,7 @@ fn stands(ring: &Ring, index: u16) -> Result<bool, ChainFault>
 }
 
 /// Looks at a queue.
+#[inline(never)]
 pub(crate) fn look(device: &mut Device, regions: &[Region], kind: Kind, tally: Tally) -> Step
     ensures step { (after : Device) (outcome : Outcome) (room : Room) (log : List Access) →
         Ahead (whole regions.now kind after outcome) result device.new room log →
@@ -100,6 +101,7 @@ fn take(device: &mut Device, regions: &[Region], kind: Kind, tally: Tally) -> St
 }
 
 /// The index was read.
+#[inline(never)]
 pub(crate) fn after_index(
     device: &mut Device,
     regions: &[Region],
@@ -128,6 +130,7 @@ pub(crate) fn after_index(
 
 /// The entry was read.
 #[tactic(auto, using(crate::proofs::BufferLemmas::none_in))]
+#[inline(never)]
 pub(crate) fn after_entry(
     device: &mut Device,
     regions: &[Region],
@@ -153,6 +156,7 @@ pub(crate) fn after_entry(
 }
 
 /// A chain was given back: the queue is looked at again, but that of statistics.
+#[inline(never)]
 pub(crate) fn after_given(device: &mut Device, regions: &[Region], kind: Kind, tally: Tally) -> Step
     ensures step { (after : Device) (outcome : Outcome) (room : Room) (log : List Access) →
         Ahead (whole regions.now kind after outcome) result device.new room log →

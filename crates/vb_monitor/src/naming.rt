@@ -120,6 +120,7 @@ fn keep_figures(
 }
 
 /// Serves a chain of these bytes.
+#[inline(never)]
 pub(crate) fn serve_bytes(
     device: &mut Device,
     regions: &[Region],
@@ -146,6 +147,7 @@ pub(crate) fn serve_bytes(
 }
 
 /// Serves a chain of the first pieces, so many.
+#[inline(never)]
 pub(crate) fn serve_pieces(
     device: &mut Device,
     regions: &[Region],

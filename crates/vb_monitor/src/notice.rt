@@ -8,7 +8,7 @@ ghost use Rattle.vb_core.specs.declared.device.Device.{Device};
 ghost use Rattle.vb_monitor.specs.declared.outcome.Outcome.{Outcome};
 ghost use Rattle.vb_monitor.specs.Accesses.{Access};
 ghost use Rattle.vb_monitor.specs.Notices.{Serves, Asks};
-ghost use Rattle.vb_monitor.specs.Machine.{Fits, is_ended, Room, Ahead, AheadAt, Does, whole};
+ghost use Rattle.vb_monitor.specs.Machine.{Fits, is_ended, Room, Ahead, Does, whole};
 ghost use Rattle.vb_monitor.specs.Machine.{room_of, outcome_at, is_discarding, Awaited};
 
 use crate::copying::after_part;
@@ -29,9 +29,9 @@ pub struct Notice {
 }
 
 /// What is to be done once a phase was, with this answer.
+#[inline(never)]
 fn advance(
-    phase: Phase,
-    tally: Tally,
+    step: &Step,
     device: &mut Device,
     regions: &[Region],
     kind: Kind,
@@ -41,18 +41,19 @@ fn advance(
     runs: &mut [Run; MAX_RUNS],
     figures: &mut [Statistic; MAX_FIGURES],
 ) -> Step
-    requires { Fits phase }
+    requires { Fits step.now.phase }
     ensures step { (after : Device) (outcome : Outcome) (before : List ℕ)
         (done rest : List Access) →
-        Does phase kind answer before
+        Does step.now.phase kind answer before
         (room_of pieces.old bytes.now runs.old figures.old) done →
         Ahead (whole regions.now kind after outcome) result device.new
         (room_of pieces.new bytes.now runs.new figures.new) rest →
-        AheadAt phase (whole regions.now kind after outcome) tally device.old
+        Ahead (whole regions.now kind after outcome) step.now device.old
         (room_of pieces.old before runs.old figures.old) (done ++ rest) }
     ensures fits { Fits result.phase }
 {
-    match phase {
+    let tally = step.tally;
+    match step.phase {
         Phase::AwaitsIndex { .. } => after_index(device, regions, kind, tally, answer),
         Phase::AwaitsEntry { .. } => after_entry(device, regions, kind, tally, answer),
         Phase::AwaitsDescriptor { walk, .. } => after_descriptor(
@@ -76,7 +77,7 @@ fn advance(
             after_given(device, regions, kind, tally)
         }
         Phase::AwaitsFlags { why, more, .. } => after_flags(tally, why, more, answer),
-        Phase::Ended { .. } => Step { tally, phase },
+        Phase::Ended { .. } => *step,
     }
 }
 
@@ -146,10 +147,9 @@ impl Notice {
             (room_of pieces.old before runs.old figures.old) (done ++ rest) }
         ensures fits { Fits self.new.step.phase }
     {
-        let Step { tally, phase } = self.step;
         let kind = self.kind;
         self.step = advance(
-            phase, tally, device, regions, kind, answer, pieces, bytes, runs, figures,
+            &self.step, device, regions, kind, answer, pieces, bytes, runs, figures,
         );
     }
 

@@ -69,6 +69,7 @@ pub struct Asked {
 }
 
 /// Tells pages or figures, where that is to be done next.
+#[inline(never)]
 fn tell(
     step: &mut Step,
     device: &mut Device,
@@ -121,6 +122,7 @@ struct Filled {
 }
 
 /// Puts a part and those behind it to the front of the list, as many as have room.
+#[inline(never)]
 fn fill(regions: &[Region], runs: &[Run], first: NextCut, cuts: &mut [Cut; MAX_CUTS]) -> Filled
     ensures few { result.count ≤ MAX_CUTS }
     ensures parts { first.cut ∷ cuts_behind first.from first.run regions.now runs.now ≡
@@ -147,6 +149,7 @@ fn fill(regions: &[Region], runs: &[Run], first: NextCut, cuts: &mut [Cut; MAX_C
 
 /// Discards parts, where that is to be done next, as many as the list has room for; says how many.
 #[tactic(auto, using(crate::proofs::OrderLemmas::discards_all))]
+#[inline(never)]
 fn discard(
     step: &mut Step,
     device: &mut Device,
@@ -204,6 +207,7 @@ fn discard(
 
 /// Gives a chain back, where that is to be done next; says whether it is.
 #[tactic(auto, using(crate::proofs::OrderLemmas::stage_waits))]
+#[inline(never)]
 fn give(
     step: &mut Step,
     device: &mut Device,
@@ -247,8 +251,27 @@ fn give(
 }
 
 impl Notice {
+    /// Whether an answer is awaited, or nothing is to be done.
+    fn is_awaited(&self) -> bool
+        ensures { result ≡ true → stage self.now.step.phase ≡ 3 }
+    {
+        match self.step.phase {
+            Phase::AwaitsIndex { .. }
+            | Phase::AwaitsEntry { .. }
+            | Phase::AwaitsDescriptor { .. }
+            | Phase::AwaitsPart { .. }
+            | Phase::AwaitsFlags { .. }
+            | Phase::Ended { .. } => true,
+            Phase::TellsPages { .. }
+            | Phase::TellsFigures { .. }
+            | Phase::Discards { .. }
+            | Phase::GivesBack { .. } => false,
+        }
+    }
+
     /// Goes on as long as nothing needs an answer, and parts that are discarded have room; what is
     /// to be done so is put into the orders and the list of parts.
+    #[tactic(auto, using(crate::proofs::OrderLemmas::stage_waits))]
     pub fn at_once(
         &mut self,
         device: &mut Device,
@@ -270,6 +293,13 @@ impl Notice {
         ensures few { orders.new.cuts ≤ MAX_CUTS }
         ensures waits { waits self.new.step.phase ≡ true }
     {
+        orders.cuts = 0;
+        if self.is_awaited() {
+            return Asked {
+                told: Told::Nothing,
+                gives: false,
+            };
+        }
         let kind = self.kind;
         let step = &mut self.step;
         let told = tell(step, device, regions, kind, runs, orders);

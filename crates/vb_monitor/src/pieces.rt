@@ -16,6 +16,10 @@ use vb_chain::{ChainFault, Descriptor, Piece};
 use vb_core::{Buffer, Denial, Device, Kind, Named, Run};
 use vb_request::{is_request_length, is_statistics_length};
 
+/// Pieces of a chain of reports that isn't refused for its length, at most: a list of so many is
+/// quicker to make.
+const SHORT: usize = 32;
+
 /// The first pieces, so many.
 pub(crate) fn first_pieces(pieces: &[Buffer; MAX_PIECES], count: u16) -> &[Buffer]
     ensures { result.now ≡ take count pieces.now }
@@ -121,8 +125,9 @@ pub(crate) fn statistics_length(pieces: &[Buffer]) -> Result<u32, ChainFault>
 
 /// The same pieces, as a chain has them.
 #[tactic(auto, using(crate::proofs::BufferLemmas::none_in, crate::proofs::BufferLemmas::push_in))]
-fn chain_of(buffers: &[Buffer]) -> ArrayVec<Piece, MAX_PIECES>
-    requires { length buffers.now ≤ MAX_QUEUE_SIZE }
+fn chain_of<const N: usize>(buffers: &[Buffer]) -> ArrayVec<Piece, N>
+    requires room { length buffers.now ≤ N }
+    requires few { N ≤ MAX_QUEUE_SIZE }
     ensures { result.items ≡ pieces_in buffers.now }
 {
     let mut chain = ArrayVec::new();
@@ -142,6 +147,10 @@ pub(crate) fn report_named(
     ensures { NamesPiecesBy (pieces_in pieces.now) MAX_REQUEST_PAGES runs.new device.old device.new
         result }
 {
-    let chain = chain_of(pieces);
+    if pieces.len() <= SHORT {
+        let short = chain_of::<SHORT>(pieces);
+        return device.name_report(short.as_slice(), runs);
+    }
+    let chain = chain_of::<MAX_PIECES>(pieces);
     device.name_report(chain.as_slice(), runs)
 }

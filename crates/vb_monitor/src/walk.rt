@@ -84,6 +84,7 @@ fn ask_descriptor(
 
 /// Goes on with the descriptor of this number, which comes after those that were walked.
 #[tactic(auto, using(crate::proofs::NextLemmas::follow_steps))]
+#[inline(never)]
 pub(crate) fn follow(
     device: &mut Device,
     regions: &[Region],
@@ -168,6 +169,7 @@ fn join_descriptor(
 
 /// The bytes of a descriptor were copied to the front of these.
 #[tactic(auto, using(crate::proofs::BufferLemmas::length_in))]
+#[inline(never)]
 pub(crate) fn after_descriptor(
     device: &mut Device,
     regions: &[Region],
