@@ -1,11 +1,11 @@
 -- What the allocator answers, as the driver sees it.
-use Rattle.std.proofs.Common.{◌≡◌, ◌∙◌, sym, ap, subst, arith, refl, ℕ, suc, ◌+◌, ◌^◌, ◌<◌, ◌≤◌}
+use Rattle.std.proofs.Common.{◌≡◌, ◌∙◌, sym, ap, subst, arith, refl, ℕ, suc, ◌+◌, ◌<◌, ◌≤◌}
 use Rattle.std.proofs.Common.{Bool, true, false, eqb, not, ◌||◌, ◌&&◌, ◌⊎◌, ◌↔◌, List, [], ◌∷◌}
 use Rattle.std.proofs.Common.{length, get_or, set, map, inl, inr, IsTrue, Option, Result, Ok, Err}
 use Rattle.std.proofs.Common.{IfOk, OnOk, OnErr, nat_le, nat_lt, count_by, eq-eqb}
 use Rattle.std.specs.List.{list_all, range_with_len}
 use Rattle.std.proofs.lemmas.Bool.{cases_lt, and_parts, and_from, false_from_ne_true}
-use Rattle.std.proofs.lemmas.Bool.{ne_eqb, ltb-true, leb-true, lt-ltb, le-ltb}
+use Rattle.std.proofs.lemmas.Bool.{ne_eqb, le-ltb}
 use Rattle.std.proofs.lemmas.Bool.{le-leb, lt-leb}
 use Rattle.std.proofs.lemmas.Nat.{pow_pos}
 use Rattle.std.proofs.lemmas.List.Sums.{count_by-le-length}
@@ -25,12 +25,11 @@ use Rattle.vb_pages.specs.declared.fault.PageFault.TheVariants.{BadCpu as NoSuch
 use Rattle.vb_pages.specs.declared.fault.PageFault.TheVariants.{NoPages as NoFreeBlock}
 use Rattle.vb_pages.specs.declared.fault.PageFault.TheVariants.{NotHeld as NoSuchBlock}
 use Rattle.vb_pages.specs.Areas.{has, IsBlock}
-use Rattle.vb_pages.specs.FreePages.{FreePages, in_lists, drained, free_count, given_back}
-use Rattle.vb_pages.specs.PageState.{PageState, page_count, cpu_count, is_free_page, is_held_page}
+use Rattle.vb_pages.specs.FreePages.{in_lists, drained, free_count, given_back}
+use Rattle.vb_pages.specs.PageState.{PageState, page_count, cpu_count, is_free_page}
 use Rattle.vb_pages.specs.PageState.{IsApart, IsWhollyFree, AllocatesBlock, TakesFree, freed}
 use Rattle.vb_pages.specs.PageState.{reserved_count, with_free_block, HasRoomIn}
 use Rattle.vb_pages.proofs.Sets.{length-with_pages, in_block}
-use Rattle.vb_pages.proofs.ListsLemmas.{page_block}
 use Rattle.vb_pages.proofs.FreeLemmas.{serves_length, length-takes_pages}
 use Rattle.vb_driver.specs.Answers.{refusal_in, block_at}
 use Rattle.vb_driver.specs.Areas.{AreApart, Becomes, Allots, has_block, flags_of, refusal_of}
@@ -41,7 +40,7 @@ use Rattle.vb_pages.proofs.ListsLemmas.{times_in}
 use Rattle.vb_driver.proofs.Placing.{marked_one}
 use Rattle.vb_driver.proofs.Flags.{length_flags, flag_at, flag_free, free_flag, free_inside}
 use Rattle.vb_driver.proofs.Flags.{held_unfree, flags_moved, flags_same, left_by, gained_by}
-use Rattle.vb_driver.proofs.Flags.{taken_by, for_itself, for_these, serves_for, drained_sizes}
+use Rattle.vb_driver.proofs.Flags.{taken_by, for_these, serves_for, drained_sizes}
 use Rattle.vb_driver.proofs.Flags.{given_sizes}
 
 -- the driver's answer, by the allocator's
@@ -66,10 +65,7 @@ whole_block : (s : PageState) (start order : ℕ) → IsApart s → IsBlock (blo
     → IsWhollyFree s (block_at start order)
     → is_free_block (flags_of s.free) (block_at start order) ≡ true
 whole_block s start order apart block free =
-    and_from (is_aligned (block_at start order))
-    (list_all (is_free_at (flags_of s.free)) (pages_of (block_at start order))) block.1
-    (list_all-from (is_free_at (flags_of s.free)) (pages_of (block_at start order))
-    (λ p h. free_flag s p apart (free p (covers_is p (block_at start order) true h))))
+    search (arith, and_from, list_all-from, free_flag, covers_is)
 
 some_block : (s : PageState) (start order : ℕ) → IsApart s → IsBlock (block_at start order)
     → IsWhollyFree s (block_at start order) → has_block s order ≡ true
@@ -89,9 +85,7 @@ some_block s start order apart block free =
 
 covered_in : (p start order : ℕ) → covers p (block_at start order) ≡ true
     → is_in p (pages_of (block_at start order)) ≡ true
-covered_in p start order h =
-    let q = and_parts (nat_le start p) (nat_lt p (start + 2 ^ order)) h in
-    in_block start order p (leb-true start p q.0) (ltb-true p (start + 2 ^ order) q.1)
+covered_in p start order h = grind (arith, in_block)
 
 not_whole : (s : PageState) (start order : ℕ) → order ≤ 9
     → (IsBlock (block_at start order) → IsWhollyFree s (block_at start order) → ⊥)
@@ -108,10 +102,7 @@ not_whole s start order small none =
 no_block : (s : PageState) (order : ℕ) → order ≤ 9
     → ((start : ℕ) → IsBlock (block_at start order) → IsWhollyFree s (block_at start order) → ⊥)
     → has_block s order ≡ false
-no_block s order small none =
-    let starts = range_with_len 0 (length (flags_of s.free)) in
-    list_any_none (λ start. is_free_block (flags_of s.free) (block_at start order)) starts
-    (λ k d lt. not_whole s (get_or starts k d) order small (none (get_or starts k d)))
+no_block s order small none = search (arith, list_any_none, not_whole)
 
 -- ---- alloc
 
@@ -145,9 +136,7 @@ small_order s new cpu order r served not_it =
 
 there_cpu : (s new : PageState) (cpu order : ℕ) (r : Result ℕ PageFault)
     → IsServed s new cpu order r → order ≤ 9 → (r ≡ Err NoSuchCpu → ⊥) → cpu < cpu_count s
-there_cpu s new cpu order r served small not_it =
-    elim (cases_lt cpu (cpu_count s))
-    [ inl lt ↦ lt | inr le ↦ absurd (not_it (served.bad_cpu.1 (small, le))) ]
+there_cpu s new cpu order r served small not_it = grind arith
 
 pub alloc_refusal : (s new : PageState) (cpu order : ℕ) (r : Result ℕ PageFault)
     → IsServed s new cpu order r
@@ -164,15 +153,8 @@ alloc_refusal s new cpu order (Ok start) served =
     sym (ap (λ (v : Bool). first_of v (nat_le (cpu_count s) cpu) (has_block s order)) a
     ∙ (ap (λ (v : Bool). first_of false v (has_block s order)) b
     ∙ ap (λ (v : Bool). first_of false false v) d))
-alloc_refusal s new cpu order (Err OrderTooLarge) served =
-    let a : nat_lt 9 order ≡ true = lt-ltb 9 order (served.bad_order.0 refl) in
-    sym (ap (λ (v : Bool). first_of v (nat_le (cpu_count s) cpu) (has_block s order)) a)
-alloc_refusal s new cpu order (Err NoSuchCpu) served =
-    let parts = served.bad_cpu.0 refl in
-    let a : nat_lt 9 order ≡ false = le-ltb 9 order parts.0 in
-    let b : nat_le (cpu_count s) cpu ≡ true = le-leb (cpu_count s) cpu parts.1 in
-    sym (ap (λ (v : Bool). first_of v (nat_le (cpu_count s) cpu) (has_block s order)) a
-    ∙ ap (λ (v : Bool). first_of false v (has_block s order)) b)
+alloc_refusal s new cpu order (Err OrderTooLarge) served = grind arith
+alloc_refusal s new cpu order (Err NoSuchCpu) served = grind arith
 alloc_refusal s new cpu order (Err NoFreeBlock) served =
     let small : order ≤ 9 = small_order s new cpu order (Err NoFreeBlock) served (λ e. cc) in
     let cpu_there : cpu < cpu_count s =
@@ -185,55 +167,19 @@ alloc_refusal s new cpu order (Err NoFreeBlock) served =
     ∙ ap (λ (v : Bool). first_of false false v) d))
 alloc_refusal s new cpu order (Err NoSuchBlock) served = absurd (served.never refl)
 
-stays : (s new : PageState) → new ≡ s → Becomes s new (flags_of s.free) s.held
-stays s new is = record {
-  free = ap (λ (v : PageState). flags_of v.free) is;
-  held = ap (λ (v : PageState). v.held) is;
-  same = for_these s.free s.free new.free (ap (λ (v : PageState). v.free) is) (for_itself s.free);
-}
-
 pub alloc_refused : (s new : PageState) (cpu order : ℕ) (r : Result ℕ PageFault)
     → IsServed s new cpu order r → OnErr (answered r) (Becomes s new (flags_of s.free) s.held)
-alloc_refused s new cpu order (Ok start) served = tt
-alloc_refused s new cpu order (Err OrderTooLarge) served =
-    stays s new (served.unchanged (inl (served.bad_order.0 refl)))
-alloc_refused s new cpu order (Err NoSuchCpu) served =
-    stays s new (served.unchanged (inr (served.bad_cpu.0 refl).1))
-alloc_refused s new cpu order (Err NoFreeBlock) served =
-    let small : order ≤ 9 = small_order s new cpu order (Err NoFreeBlock) served (λ e. cc) in
-    let cpu_there : cpu < cpu_count s =
-    there_cpu s new cpu order (Err NoFreeBlock) served small (λ e. cc) in
-    let is : new.free ≡ drained s.free = (served.allocates small cpu_there).1.2 in
-    let same = served.same refl in
-    let sizes = drained_sizes s.free in
-    record {
-      free = flags_same s new (ap (λ (f : FreePages). length f.areas) is ∙ sizes.pages) same.0;
-      held = same.1;
-      same = for_these s.free (drained s.free) new.free is sizes.same;
-    }
-alloc_refused s new cpu order (Err NoSuchBlock) served = absurd (served.never refl)
+alloc_refused s new cpu order r served = grind (arith, drained_sizes, flags_same)
 
 -- what an allocation does to the areas, by its refusal
 pub alloc_allots : (s new : PageState) (cpu order : ℕ) (r : Result ℕ PageFault)
     → IsServed s new cpu order r → Allots s cpu order (answered r) new
-alloc_allots s new cpu order (Ok start) served =
-    let small : order ≤ 9 = small_order s new cpu order (Ok start) served (λ e. cc) in
-    served.allocates small (there_cpu s new cpu order (Ok start) served small (λ e. cc))
-alloc_allots s new cpu order (Err OrderTooLarge) served =
-    served.unchanged (inl (served.bad_order.0 refl))
-alloc_allots s new cpu order (Err NoSuchCpu) served =
-    served.unchanged (inr (served.bad_cpu.0 refl).1)
-alloc_allots s new cpu order (Err NoFreeBlock) served =
-    let small : order ≤ 9 = small_order s new cpu order (Err NoFreeBlock) served (λ e. cc) in
-    served.allocates small (there_cpu s new cpu order (Err NoFreeBlock) served small (λ e. cc))
-alloc_allots s new cpu order (Err NoSuchBlock) served = absurd (served.never refl)
+alloc_allots s new cpu order r served = grind arith
 
 pub alloc_free : (s new : PageState) (cpu order : ℕ) (r : Result ℕ PageFault)
     → IsServed s new cpu order r
     → IfOk (answered r) (λ start. IsTrue (is_free_block (flags_of s.free) (block_at start order)))
-alloc_free s new cpu order (Ok start) served =
-    whole_block s start order served.apart served.was_free.0 served.was_free.1
-alloc_free s new cpu order (Err fault) served = tt
+alloc_free s new cpu order r served = grind (arith, whole_block)
 
 pub alloc_state : (s new : PageState) (cpu order : ℕ) (r : Result ℕ PageFault)
     → IsServed s new cpu order r
@@ -393,18 +339,7 @@ taken_once new false n h = omega arith
 pub given_room : (s : PageState) (page : ℕ) → reserved_count s ≤ page → page < length (flags_of s.free)
     → is_free_at (flags_of s.free) page ≡ false → is_covered page s.held ≡ false
     → HasRoomIn s (block_at page 0)
-given_room s page unreserved inside taken uncovered =
-    let lt : page < page_count s = omega (arith, length_flags s) in
-    let unfree : is_free_page s page ≡ false = sym (flag_at s page false lt) ∙ taken in (
-      page_block page,
-      unreserved,
-      omega arith,
-      λ p from to.
-          let same : page ≡ p = omega arith in (
-            subst (λ (n : ℕ). is_free_page s n ≡ false) same unfree,
-            subst (λ (n : ℕ). is_held_page s n ≡ false) same uncovered,
-          ),
-    )
+given_room s page unreserved inside taken uncovered = grind (arith, length_flags, flag_at)
 
 pub given_state : (s new : PageState) (page : ℕ) → new ≡ with_free_block (block_at page 0) s
     → ((p : ℕ) → is_free_page new p ≡ (is_free_page s p || covers p (block_at page 0)))

@@ -67,17 +67,12 @@ buffer_apart old new base h k n small but ne =
 
 pub names_at : (mem : Pages) (p o p' o' : ℕ) (xs ys : List ℕ) → p ≡ p' → o ≡ o' → xs ≡ ys
     → Names mem p o xs → Names mem p' o' ys
-names_at mem p o p' o' xs ys e f s n =
-    subst (λ q. Names mem q o' ys) e
-    (subst (λ q. Names mem p q ys) f (subst (λ zs. Names mem p o zs) s n))
+names_at mem p o p' o' xs ys e f s n = search (arith)
 
 -- page numbers in a page that a write to another leaves
 pub names_kept : (old new : Pages) (p o : ℕ) (xs : List ℕ) (hi : ℕ) → SameIn old new p o hi
     → o + 4 * length xs ≤ hi → Names old p o xs → Names new p o xs
-names_kept old new p o xs hi same fits n = record {
-  each = λ k lt. field_in 4 old new p o hi (o + 4 * k) same (omega arith) (omega arith)
-      ∙ n.each k lt;
-}
+names_kept old new p o xs hi same fits n = grind (arith, field_in)
 
 -- bytes of one page are written, and then others
 pub outside_both : (m1 m2 m3 : Pages) (p lo hi : ℕ) (es : List Extent) → SameBut m1 m2 p lo hi

@@ -4,77 +4,29 @@ use Rattle.std.proofs.Common.{length, get_or, set, count_by, inl, inr, eq-eqb, r
 use Rattle.std.proofs.Common.{Bool, true, false, zero, suc, replicate, map}
 use Rattle.std.proofs.lemmas.List.Sums.{sum_by-set, get_or-le-sum_by}
 use Rattle.std.proofs.lemmas.List.{length-replicate, get_or-set_same, get_or-set_other, length-set}
-use Rattle.std.specs.List.{list_all, range_with_len}
-use Rattle.std.proofs.lemmas.Bool.{cases_eq, ne_eqb, eqb-true}
-use Rattle.vb_model.specs.Tests.{one_if}
+use Rattle.std.proofs.lemmas.Bool.{cases_eq, ne_eqb}
 use Rattle.vb_model.specs.Pages.{is_lent, is_stranded}
 use Rattle.vb_model.specs.declared.places.Place.{Place}
 use Rattle.vb_model.specs.declared.places.Place.TheVariants.{Reserved, Free, Used, Giving, Lent}
 use Rattle.vb_model.specs.declared.places.Place.TheVariants.{Taking, Stranded, Reporting}
-use Rattle.vb_model.proofs.Tables.{list_all-at, count_by-cons}
-use Rattle.vb_pages.proofs.Sets.{in_block}
+use Rattle.vb_model.proofs.Tables.{count_by-cons}
 use Rattle.vb_driver.specs.Places.{number_of, is_at, AreCounts, IsTable}
 use Rattle.vb_driver.proofs.Marking.{none_of}
 
 pub number_small : (place : Place) → number_of place < 8
-number_small Reserved = omega arith
-number_small Free = omega arith
-number_small Used = omega arith
-number_small Giving = omega arith
-number_small Lent = omega arith
-number_small Taking = omega arith
-number_small Stranded = omega arith
-number_small Reporting = omega arith
+number_small place = search (arith)
 
 -- ---- a place and its number
-
-abbrev by_number : List Place
-by_number = Reserved ∷ Free ∷ Used ∷ Giving ∷ Lent ∷ Taking ∷ Stranded ∷ Reporting ∷ []
-
-numbered : (place : Place) → get_or by_number (number_of place) Reserved ≡ place
-numbered Reserved = refl
-numbered Free = refl
-numbered Used = refl
-numbered Giving = refl
-numbered Lent = refl
-numbered Taking = refl
-numbered Stranded = refl
-numbered Reporting = refl
 
 abbrev same : Bool → Bool → Bool
 same a b = cond a b (not b)
 
--- whether a page's place, by number, has the number of another
-abbrev cell : ℕ → ℕ → Bool
-cell i j = same (eqb j i) (is_at (get_or by_number i Reserved) (get_or by_number j Reserved))
-
-cells : list_all (λ i. list_all (cell i) (range_with_len 0 8)) (range_with_len 0 8) ≡ true
-cells = refl
-
 -- a page has a place just if the numbers are equal
 pub at_number : (place other : Place) → eqb (number_of other) (number_of place) ≡ is_at place other
-at_number place other =
-    let i = number_of place in
-    let j = number_of other in
-    let row = list_all-at (λ k. list_all (cell k) (range_with_len 0 8)) (range_with_len 0 8) i cells
-    (in_block 0 3 i (omega arith) (number_small place)) in
-    let here = list_all-at (cell i) (range_with_len 0 8) j row
-    (in_block 0 3 j (omega arith) (number_small other)) in
-    at (eqb j i) (is_at (get_or by_number i Reserved) (get_or by_number j Reserved)) here
-    ∙ (ap (λ (p : Place). is_at p (get_or by_number j Reserved)) (numbered place)
-    ∙ ap (is_at place) (numbered other))
-  where
-    at : (a b : Bool) → cond a b (not b) ≡ true → a ≡ b
-    at true true e = refl
-    at true false e = cc
-    at false true e = cc
-    at false false e = refl
+at_number place other = grind arith
 
 pub at_is : (place other : Place) → is_at place other ≡ true → other ≡ place
-at_is place other here =
-    let equal : number_of other ≡ number_of place =
-    eqb-true (number_of other) (number_of place) (at_number place other ∙ here) in
-    sym (numbered other) ∙ (ap (λ (n : ℕ). get_or by_number n Reserved) equal ∙ numbered place)
+at_is place other here = grind arith
 
 -- ---- counts
 
@@ -92,16 +44,7 @@ hits_other m a b ne = ap (λ v. cond v m 0) (ne_eqb a b ne)
 pub count_moves : (places : List Place) (page : ℕ) (which new old : Place) → page < length places
     → count_by (is_at which) (set places page new) + hits 1 (number_of (get_or places page old))
     (number_of which) ≡ count_by (is_at which) places + hits 1 (number_of new) (number_of which)
-count_moves places page which new old lt =
-    let at : (x : Place)
-    → hits 1 (number_of x) (number_of which) ≡ cond (is_at which x) 1 0 =
-    λ x. ap (λ v. cond v 1 0) (at_number which x) in
-    omega (
-      arith,
-      sum_by-set (λ x. cond (is_at which x) 1 0) places page new old lt,
-      at new,
-      at (get_or places page old),
-    )
+count_moves places page which new old lt = grind (arith, at_number, sum_by-set)
 
 -- a page's own place has a page
 pub counts_some : (places : List Place) (page : ℕ) (old : Place) → page < length places
@@ -195,12 +138,7 @@ count_replicate test x zero = at (test x)
     at true = refl
     at false = refl
 count_replicate test x (suc n) =
-    count_by-cons test x (replicate n x) ∙ at (test x) (count_replicate test x n)
-  where
-    at : (b : Bool) → count_by test (replicate n x) ≡ cond b n 0
-        → one_if b + count_by test (replicate n x) ≡ cond b (suc n) 0
-    at true ih = omega arith
-    at false ih = omega arith
+    grind (arith, count_by-cons test x (replicate n x), count_replicate test x n)
 
 pub reserved_table : (counts : List ℕ) (lent stranded : List Bool) (places : List Place) (pages : ℕ)
     → counts ≡ pages ∷ 0 ∷ 0 ∷ 0 ∷ 0 ∷ 0 ∷ 0 ∷ 0 ∷ [] → lent ≡ replicate pages false

@@ -1,5 +1,5 @@
 -- The statistics buffer is written.
-use Rattle.std.proofs.Common.{◌≡◌, ◌∙◌, sym, ap, subst, arith, ℕ, ◌+◌, ◌^◌, ◌<◌, List, ◌++◌}
+use Rattle.std.proofs.Common.{◌≡◌, ◌∙◌, ap, subst, arith, ℕ, ◌+◌, ◌^◌, ◌<◌, List, ◌++◌}
 use Rattle.std.proofs.Common.{IsSome, length, drop, slice_index, Result, IsOk, OnOk}
 use Rattle.std.proofs.lemmas.List.{get_or-drop}
 use Rattle.std.proofs.lemmas.Nat.{from_le_bytes-to_le_bytes_8}
@@ -16,9 +16,7 @@ figure_bytes free total =
 -- a byte of those from place n on
 placed : (old new : Pages) (p n : ℕ) (bs : List ℕ) (k : ℕ) → Wrote old new p 0 bs
     → n + k < length bs → slice_index (drop n bs) k ≡ byte_at new p (n + k)
-placed old new p n bs k w lt =
-    let at : 0 + (n + k) ≡ n + k = omega arith in
-    get_or-drop n bs k 0 ∙ (sym (w.written (n + k) lt) ∙ ap (byte_at new p) at)
+placed old new p n bs k w lt = grind (arith, get_or-drop)
 
 -- the two statistics stand where their bytes were written
 free_written : (old new : Pages) (free total : ℕ) → free < 2 ^ 64

@@ -1,6 +1,6 @@
 -- The statistics buffer goes out: it is written, and then its chain is published.
-use Rattle.std.proofs.Common.{◌≡◌, ◌∙◌, sym, ap, subst, arith, refl, ℕ, ◌+◌, ◌<◌}
-use Rattle.std.proofs.Common.{false, List, [], ◌∷◌, length, Some, Result, Ok, Err}
+use Rattle.std.proofs.Common.{◌≡◌, ◌∙◌, sym, ap, subst, arith, refl, ℕ, ◌<◌}
+use Rattle.std.proofs.Common.{false, List, [], ◌∷◌, length, Some, Ok, Err}
 use Rattle.vb_ram.specs.Pages.{Pages, page_at, SameBut}
 use Rattle.vb_ram.proofs.FieldLaws.{field_in, same_page, same_above, same_trans}
 use Rattle.vb_chain.specs.declared.pieces.Piece.{Piece}
@@ -9,13 +9,12 @@ use Rattle.vb_ring.specs.declared.driver.Full.{Full}
 use Rattle.vb_ring.specs.declared.layout.Layout.{Layout}
 use Rattle.vb_ring.specs.Layout.{IsSize}
 use Rattle.vb_ring.specs.Ends.{DriverEnd, IsDriverEnd, outstanding, next_head}
-use Rattle.vb_ring.specs.Ends.{add_answer, after_add}
+use Rattle.vb_ring.specs.Ends.{after_add}
 use Rattle.vb_ring.specs.Calls.{AddsBy}
 use Rattle.vb_driver.specs.Coding.{IsStatistic}
 use Rattle.vb_driver.specs.State.{IsStatisticsQueue}
 use Rattle.vb_driver.specs.Calls.{PostsBuffer, written_of}
 use Rattle.vb_driver.proofs.Buffers.{outside_both}
-use Rattle.vb_driver.proofs.RequestTables.{add_gives}
 use Rattle.vb_driver.proofs.Posting.{OnePiece, one_piece, added_head}
 use Rattle.vb_driver.proofs.Shapes.{IsBeside, beside_buffers, keeps_ring}
 use Rattle.vb_driver.proofs.OneBuffer.{none_used, first_head, queue_added}
@@ -33,19 +32,12 @@ pub record Filling (m1 m2 m3 : Pages) (r r2 : DriverEnd) (n a free total : ℕ) 
 -- a statistic in a page that a write to another leaves
 statistic_kept : (old new : Pages) (offset tag value : ℕ) → page_at new 12 ≡ page_at old 12
     → IsStatistic old offset tag value → IsStatistic new offset tag value
-statistic_kept old new offset tag value same s = record {
-  tagged = field_in 2 old new 12 offset (offset + 10) offset (same_page old new 12 _ _ same)
-      (omega arith) (omega arith) ∙ s.tagged;
-  valued = field_in 8 old new 12 offset (offset + 10) (offset + 2) (same_page old new 12 _ _ same)
-      (omega arith) (omega arith) ∙ s.valued;
-}
+statistic_kept old new offset tag value same s = grind (arith, field_in, same_page)
 
 -- the descriptor that the buffer gets is the lowest
 pub next_is_first : (r : DriverEnd) (n : ℕ) → IsStatisticsQueue r n → IsDriverEnd r
     → outstanding r ≡ 0 → next_head r ≡ Some 0
-next_is_first r n queue end none =
-    let some : 0 < r.size = omega (arith, end.fits.size.least) in
-    first_head r some (none_used r n queue some none)
+next_is_first r n queue end none = grind (arith, first_head, none_used)
 
 fills_at : (m1 m2 m3 : Pages) (r r2 : DriverEnd) (n a free total : ℕ)
     → Filling m1 m2 m3 r r2 n a free total
@@ -110,9 +102,4 @@ pub not_full : (m2 m3 : Pages) (r r2 : DriverEnd) (n : ℕ) (full : Full) (piece
     → length pieces ≡ 1 → IsStatisticsQueue r n → outstanding r ≡ 0
     → AddsBy m2 m3 r r2 pieces (Err full) → ⊥
 not_full m2 m3 r r2 n full pieces one queue none adds =
-    let answer : Err full ≡ add_answer r 1 = adds.value ∙ ap (add_answer r) one in
-    inside full (Err full) (Ok 0) refl refl
-    (answer ∙ add_gives r 0 (next_is_first r n queue adds.is_end none))
-  where
-    inside : (f : Full) (a b : Result ℕ Full) → a ≡ Err f → b ≡ Ok 0 → a ≡ b → ⊥
-    inside f a b e g q = cc
+    grind (arith, next_is_first r n queue adds.is_end none)

@@ -1,8 +1,7 @@
 -- What holds of each driver, as pages move.
 use Rattle.std.proofs.Common.{◌≡◌, ◌∙◌, sym, ap, arith, refl, ℕ, ◌<◌, ◌≤◌, Bool, true, false, cond}
-use Rattle.std.proofs.Common.{List, [], length, get_or, map, inl, inr, if◌then◌else◌}
+use Rattle.std.proofs.Common.{List, [], length, get_or, map, if◌then◌else◌}
 use Rattle.std.proofs.lemmas.List.{same_lists, length-map, get_or-map, get_or_past}
-use Rattle.std.proofs.lemmas.Bool.{cases_lt}
 use Rattle.vb_model.specs.Tests.{is_in, one_if}
 use Rattle.vb_model.specs.Pages.{place_of, placed, is_free, is_used, is_giving, is_taking}
 use Rattle.vb_model.specs.Pages.{is_reporting, Block, pages_of_all}
@@ -22,23 +21,12 @@ use Rattle.vb_driver.proofs.Placing.{length-marked, marked-get, marked_none}
 
 pub there_by : (places : List Place) (p : ℕ) (test : Place → Bool) → test Reserved ≡ false
     → test (place_of places p) ≡ true → p < length places
-there_by places p test fails passes = elim (cases_lt p (length places)) [
-  | inl lt ↦ lt
-  | inr past ↦ (let wrong : true ≡ false = sym passes
-      ∙ (ap test (get_or_past places p Reserved past) ∙ fails) in cc)
-]
+there_by places p test fails passes = grind (arith, get_or_past)
 
 pub place_placed : (pages : List ℕ) (to : Place) (places : List Place) (p : ℕ)
     → (is_in p pages ≡ true → p < length places)
     → place_of (placed pages to places) p ≡ cond (is_in p pages) to (place_of places p)
-place_placed pages to places p there =
-    each_page-get (λ page old. if is_in page pages then to else old) places p Reserved
-    (λ far. at (is_in p pages) refl far)
-  where
-    at : (b : Bool) → is_in p pages ≡ b → length places ≤ p
-        → cond (is_in p pages) to Reserved ≡ Reserved
-    at true e far = absurd (omega (arith, there e))
-    at false e far = ap (λ v. cond v to Reserved) e
+place_placed pages to places p there = search (arith, each_page-get)
 
 -- ---- free pages
 

@@ -1,5 +1,5 @@
 -- Sets of pages: the members in rising order, and the set of a place as a page moves.
-use Rattle.std.proofs.Common.{◌≡◌, ◌∙◌, sym, ap, arith, refl, ℕ, zero, suc, ◌+◌, ◌-◌, ◌<◌, ◌≤◌}
+use Rattle.std.proofs.Common.{◌≡◌, ◌∙◌, ap, arith, refl, ℕ, zero, suc, ◌+◌, ◌-◌, ◌<◌, ◌≤◌}
 use Rattle.std.proofs.Common.{Bool, true, false, cond, List, [], ◌∷◌, ◌++◌, length, take, drop}
 use Rattle.std.proofs.Common.{get_or, set, map, replicate, append-nil}
 use Rattle.std.proofs.lemmas.List.{get_or-drop, drop-drop, append_assoc, length-append, take_all}
@@ -86,23 +86,15 @@ pub record AreFirst (items : List ℕ) (flags : List Bool) (from count : ℕ) : 
 pub first_more : (items : List ℕ) (flags : List Bool) (from count page : ℕ)
     → AreFirst items flags from count → IsLeastFrom flags from page
     → AreFirst (items ++ page ∷ []) flags (page + 1) (count + 1)
-first_more items flags from count page so_far least = record {
-  whole = append_assoc items (page ∷ []) (members_from (page + 1) (drop (page + 1) flags))
-      ∙ (ap (λ (l : List ℕ). items ++ l) (sym (next_member flags from page least))
-      ∙ so_far.whole);
-  many = omega (arith, length-append items (page ∷ []), so_far.many);
-}
+first_more items flags from count page so_far least =
+    grind (arith, append_assoc, next_member, length-append)
 
 -- there is no further one
 pub first_all : (items : List ℕ) (flags : List Bool) (from count most : ℕ)
     → AreFirst items flags from count → HasNoneFrom flags from → count ≤ most
     → items ≡ take most (pages_where (λ b. b) flags)
 first_all items flags from count most so_far none few =
-    let rest : members_from from (drop from flags) ≡ [] = none_in from (drop from flags)
-    (λ k. get_or-drop from flags k false ∙ none (from + k) (omega arith)) in
-    sym (ap (take most) (sym so_far.whole
-    ∙ (ap (λ (l : List ℕ). items ++ l) rest ∙ append-nil items))
-    ∙ take_all most items (omega (arith, so_far.many)))
+    grind (arith, none_in, get_or-drop, append-nil, take_all)
 
 -- ---- the set of a place
 
@@ -110,14 +102,10 @@ first_all items flags from count most so_far none few =
 pub set_moved : (test : Place → Bool) (flags now : List Bool) (places : List Place) (page : ℕ)
     (place : Place) (is : Bool) → flags ≡ map test places → now ≡ set flags page is
     → is ≡ test place → now ≡ map test (set places page place)
-set_moved test flags now places page place is are changed tested =
-    changed ∙ (ap (λ (l : List Bool). set l page is) are
-    ∙ (ap (set (map test places) page) tested ∙ sym (map-set test places page place)))
+set_moved test flags now places page place is are changed tested = grind (arith, map-set)
 
 -- no page is in the set of a place that the only place isn't
 pub none_of : (test : Place → Bool) (x : Place) (n : ℕ) → test x ≡ false
     → replicate n false ≡ map test (replicate n x)
 none_of test x zero e = refl
-none_of test x (suc n) e =
-    ap (λ (b : Bool). b ∷ replicate n false) (sym e)
-    ∙ ap (λ (l : List Bool). test x ∷ l) (none_of test x n e)
+none_of test x (suc n) e = grind (arith, none_of test x n e)

@@ -3,7 +3,7 @@ use Rattle.std.proofs.Common.{◌≡◌, ◌∙◌, sym, ap, arith, refl, ℕ, s
 use Rattle.std.proofs.Common.{false, cond, eqb, not, List, [], ◌∷◌, ◌++◌, length, take, get_or, set}
 use Rattle.std.proofs.Common.{inl, inr, IsTrue}
 use Rattle.std.proofs.lemmas.List.Sums.{sum_by-set, sum_by-take-le, get_or-le-sum_by}
-use Rattle.std.proofs.lemmas.Bool.{cases_eq, cases_Bool, ne_eqb}
+use Rattle.std.proofs.lemmas.Bool.{cases_eq, ne_eqb}
 use Rattle.vb_model.specs.Tests.{is_in, one_if, pages_from, pages_where}
 use Rattle.vb_model.specs.Driver.{AllDistinct}
 use Rattle.vb_model.specs.Orderly.{times}
@@ -37,14 +37,7 @@ once_distinct p (x ∷ xs) d =
 pub later_none : {A : Type 0} (p k : ℕ) (test : A → Bool) (xs : List A) → p < k
     → times p (pages_from k test xs) ≡ 0
 later_none p k test [] lt = refl
-later_none p k test (x ∷ xs) lt = at (test x) (later_none p (suc k) test xs (omega arith))
-  where
-    at : (b : Bool) → times p (pages_from (suc k) test xs) ≡ 0
-        → times p (cond b (k ∷ pages_from (suc k) test xs) (pages_from (suc k) test xs)) ≡ 0
-    at true rest =
-        let none : one_if (eqb k p) ≡ 0 = ap one_if (ne_eqb k p (λ e. absurd (omega arith))) in
-        omega (arith, count_by-cons (λ q. eqb q p) k (pages_from (suc k) test xs))
-    at false rest = rest
+later_none p k test (x ∷ xs) lt = grind (arith, later_none p (suc k) test xs (omega arith))
 
 once_from : {A : Type 0} (p k : ℕ) (test : A → Bool) (xs : List A)
     → times p (pages_from k test xs) ≤ 1
@@ -68,19 +61,15 @@ once_from p k test (x ∷ xs) = at (test x) (once_from p (suc k) test xs)
 pub once_lowest : {A : Type 0} (p n : ℕ) (test : A → Bool) (xs : List A)
     → times p (take n (pages_where test xs)) ≤ 1
 once_lowest p n test xs =
-    let all : times p (pages_where test xs) ≤ 1 = once_from p 0 test xs in
-    let part : times p (take n (pages_where test xs)) ≤ times p (pages_where test xs) =
-    sum_by-take-le (λ q. cond (eqb q p) 1 0) (pages_where test xs) n in
-    omega arith
+    grind (
+      arith,
+      once_from p 0 test xs,
+      sum_by-take-le (λ q. cond (eqb q p) 1 0) (pages_where test xs) n,
+    )
 
 pub once_append : (p : ℕ) (xs ys : List ℕ) → times p xs ≤ 1 → times p ys ≤ 1
     → (is_in p xs ≡ true → is_in p ys ≡ false) → times p (xs ++ ys) ≤ 1
-once_append p xs ys a b apart =
-    let sum : times p (xs ++ ys) ≡ times p xs + times p ys = count_by-append (λ q. eqb q p) xs ys in
-    elim (cases_Bool (is_in p xs)) [
-      | inl here ↦ (let none : times p ys ≡ 0 = times_out p ys (apart here) in omega arith)
-      | inr gone ↦ (let none : times p xs ≡ 0 = times_out p xs gone in omega arith)
-    ]
+once_append p xs ys a b apart = grind (arith, count_by-append, times_out)
 
 -- ---- the requests of a queue
 
@@ -94,76 +83,26 @@ pub naming_more : (p h : ℕ) (pages : List ℕ) (sent : List (List ℕ)) (test 
     → (is_in p pages ≡ true → test place ≡ false) → times p pages ≤ 1 → test to ≡ true
     → naming p (set sent h pages) ≤ one_if (test (cond (is_in p pages) to place))
 naming_more p h pages sent test to place lt old before once is =
-    let set_is : naming p (set sent h pages) + times p (get_or sent h [])
-    ≡ naming p sent + times p pages = naming_set p h pages sent lt in
-    at (is_in p pages) refl set_is
-  where
-    at : (b : Bool) → is_in p pages ≡ b
-        → naming p (set sent h pages) + times p (get_or sent h []) ≡ naming p sent + times p pages
-        → naming p (set sent h pages) ≤ one_if (test (cond (is_in p pages) to place))
-    at true e s =
-        let none : one_if (test place) ≡ 0 = ap one_if (before e) in
-        let one : one_if (test (cond (is_in p pages) to place)) ≡ 1 =
-        ap (λ (v : Bool). one_if (test (cond v to place))) e ∙ ap one_if is in
-        omega arith
-    at false e s =
-        let none : times p pages ≡ 0 = times_out p pages e in
-        let same : one_if (test (cond (is_in p pages) to place)) ≡ one_if (test place) =
-        ap (λ (v : Bool). one_if (test (cond v to place))) e in
-        omega arith
+    grind (arith, naming_set, times_out)
 
 -- what a queue names, where its pages don't move
 pub naming_same : (p n : ℕ) (pages : List ℕ) (test : Place → Bool) (to place : Place)
     → n ≤ one_if (test place) → (is_in p pages ≡ true → test place ≡ false)
     → n ≤ one_if (test (cond (is_in p pages) to place))
-naming_same p n pages test to place old before = at (is_in p pages) refl
-  where
-    at : (b : Bool) → is_in p pages ≡ b → n ≤ one_if (test (cond (is_in p pages) to place))
-    at true e = (let none : one_if (test place) ≡ 0 = ap one_if (before e) in omega arith)
-    at false e = (let same : one_if (test (cond (is_in p pages) to place))
-        ≡ one_if (test place) = ap (λ (v : Bool). one_if (test (cond v to place))) e in omega arith)
+naming_same p n pages test to place old before = search (arith)
 
 -- a request is gone
 pub naming_less : (p h : ℕ) (sent : List (List ℕ)) (test : Place → Bool) (to place : Place)
     → h < length sent → naming p sent ≤ one_if (test place)
     → naming p (set sent h []) ≤ one_if (test (cond (is_in p (get_or sent h [])) to place))
-naming_less p h sent test to place lt old =
-    let set_is : naming p (set sent h []) + times p (get_or sent h [])
-    ≡ naming p sent + times p [] = naming_set p h [] sent lt in
-    at (is_in p (get_or sent h [])) refl set_is (one_if_le (test place))
-  where
-    at : (b : Bool) → is_in p (get_or sent h []) ≡ b
-        → naming p (set sent h []) + times p (get_or sent h []) ≡ naming p sent + times p []
-        → one_if (test place) ≤ 1
-        → naming p (set sent h []) ≤ one_if (test (cond (is_in p (get_or sent h [])) to place))
-    at true e s most = (let some : 1 ≤ times p (get_or sent h []) = times_in p (get_or sent h []) e
-        in omega arith)
-    at false e s most = (let same : one_if (test (cond (is_in p (get_or sent h [])) to place))
-        ≡ one_if (test place) = ap (λ (v : Bool). one_if (test (cond v to place))) e in omega arith)
+naming_less p h sent test to place lt old = grind (arith, naming_set, times_in)
 
 -- a page that a request names has the place of its queue
 pub named_place : (p h : ℕ) (sent : List (List ℕ)) (test : Place → Bool) (place : Place)
     → h < length sent → naming p sent ≤ one_if (test place) → is_in p (get_or sent h []) ≡ true
     → test place ≡ true
-named_place p h sent test place lt old here =
-    let some : 1 ≤ times p (get_or sent h []) = times_in p (get_or sent h []) here in
-    let part : times p (get_or sent h []) ≤ naming p sent =
-    get_or-le-sum_by (times p) sent h [] lt in
-    at (test place) refl some part
-  where
-    at : (b : Bool) → test place ≡ b → 1 ≤ times p (get_or sent h [])
-        → times p (get_or sent h []) ≤ naming p sent → test place ≡ true
-    at true e some part = e
-    at false e some part = absurd (omega (arith, ap one_if e))
+named_place p h sent test place lt old here = grind (arith, times_in, get_or-le-sum_by)
 
 pub named_once : (p h : ℕ) (sent : List (List ℕ)) (test : Place → Bool) (place : Place)
     → h < length sent → naming p sent ≤ one_if (test place) → times p (get_or sent h []) ≤ 1
-named_once p h sent test place lt old =
-    let part : times p (get_or sent h []) ≤ naming p sent =
-    get_or-le-sum_by (times p) sent h [] lt in
-    at (test place) refl part
-  where
-    at : (b : Bool) → test place ≡ b → times p (get_or sent h []) ≤ naming p sent
-        → times p (get_or sent h []) ≤ 1
-    at true e part = omega (arith, ap one_if e)
-    at false e part = omega (arith, ap one_if e)
+named_once p h sent test place lt old = grind (arith, get_or-le-sum_by)

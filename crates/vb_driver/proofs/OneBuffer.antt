@@ -1,12 +1,11 @@
 -- The queue of statistics, of which one buffer is out at the most: at descriptor 0.
 use Rattle.std.proofs.Common.{◌≡◌, ◌∙◌, sym, ap, subst, arith, refl, ℕ, ◌+◌, ◌<◌}
-use Rattle.std.proofs.Common.{◌%◌, Bool, true, false, cond, List, [], ◌∷◌, length}
-use Rattle.std.proofs.Common.{slice_index_or, inl, inr, eq-eqb, Option, Some, None, Result, Ok, Err}
+use Rattle.std.proofs.Common.{◌%◌, Bool, true, false, List, [], ◌∷◌, length}
+use Rattle.std.proofs.Common.{inl, inr, eq-eqb, Option, Some, None, Result, Ok}
 use Rattle.std.proofs.Common.{is_none, is_some, MatchBool}
-use Rattle.std.proofs.lemmas.Bool.{cases_eq, cases_Bool}
+use Rattle.std.proofs.lemmas.Bool.{cases_Bool}
 use Rattle.vb_ram.specs.Pages.{Pages}
 use Rattle.vb_ring.specs.declared.driver.RingBroken.{RingBroken}
-use Rattle.vb_ring.specs.declared.driver.RingBroken.TheVariants.{NotOutstanding}
 use Rattle.vb_ring.specs.Entries.{is_own, is_head, only_head}
 use Rattle.vb_ring.specs.Ends.{DriverEnd, IsDriverEnd, is_unused, outstanding, next_head, next_path}
 use Rattle.vb_ring.specs.Ends.{after_add, claimed, released, used_answer}
@@ -23,22 +22,10 @@ use Rattle.vb_driver.proofs.RequestTables.{next_path_is, claimed_same, claimed_o
 -- where nothing is out, no descriptor is in use
 pub none_used : (r : DriverEnd) (n : ℕ) → IsStatisticsQueue r n → 0 < r.size → outstanding r ≡ 0
     → (i : ℕ) → is_unused r.owner i ≡ true
-none_used r n queue some none i = elim (cases_Bool (is_unused r.owner i)) [
-  | inl unused ↦ unused
-  | inr used ↦
-      let head : is_head r.owner i ≡ true = queue.single i used in
-      let first : i ≡ 0 = queue.first i head in
-      let at : is_head r.owner 0 ≡ true = sym (ap (is_head r.owner) first) ∙ head in
-      let found = numbers_has (is_head r.owner) r.size 0 some at in
-      absurd (omega (arith, found.1, none))
-]
+none_used r n queue some none i = grind (arith, numbers_has (is_head r.owner) r.size 0 some)
 
 no_head : (owner : List (Option ℕ)) (i : ℕ) → is_unused owner i ≡ true → is_head owner i ≡ false
-no_head owner i unused = at (slice_index_or owner i None) unused
-  where
-    at : (o : Option ℕ) → is_none o ≡ true → is_own i o ≡ false
-    at None e = refl
-    at (Some h) e = cc
+no_head owner i unused = grind arith
 
 -- and the other way round
 pub none_out : (r : DriverEnd) → ((i : ℕ) → is_unused r.owner i ≡ true) → outstanding r ≡ 0
@@ -62,12 +49,7 @@ fresh_none size = none_out (fresh_statistics size) (fresh_unused size)
 
 claimed_queue : (owner : List (Option ℕ)) → ((i : ℕ) → is_unused owner i ≡ true)
     → 0 < length owner → (i : ℕ) → is_unused (claimed (0 ∷ []) 0 owner) i ≡ false → i ≡ 0
-claimed_queue owner unused some i used = elim (cases_eq i 0) [
-  | inl same ↦ same
-  | inr ne ↦
-      (let wrong : true ≡ false =
-      sym (unused i) ∙ (sym (ap is_none (claimed_other 0 i owner some ne)) ∙ used) in cc)
-]
+claimed_queue owner unused some i used = grind (arith, claimed_other)
 
 pub queue_added : (r : DriverEnd) (n : ℕ) → IsStatisticsQueue r n → IsDriverEnd r → 0 < r.size
     → ((i : ℕ) → is_unused r.owner i ≡ true) → IsStatisticsQueue (after_add r 1 (Ok 0)) n
@@ -96,30 +78,10 @@ queue_added r n queue end some unused =
 
 released_unused : (r : DriverEnd) (n : ℕ) → IsStatisticsQueue r n → (i : ℕ)
     → is_unused (released 0 r.owner) i ≡ true
-released_unused r n queue i = elim (cases_Bool (is_unused r.owner i)) [
-  | inl unused ↦ ap is_none (released-at 0 r.owner i) ∙ none_left (slice_index_or r.owner i None)
-      unused
-  | inr used ↦
-      let head : is_head r.owner i ≡ true = queue.single i used in
-      let own : is_own 0 (slice_index_or r.owner i None) ≡ true =
-      ap (λ (h : ℕ). is_own h (slice_index_or r.owner i None)) (sym (queue.first i head)) ∙ head in
-      ap is_none (released-at 0 r.owner i)
-      ∙ ap (λ (b : Bool). is_none (cond b None (slice_index_or r.owner i None))) own
-]
-  where
-    none_left : (o : Option ℕ) → is_none o ≡ true → is_none (cond (is_own 0 o) None o) ≡ true
-    none_left None e = refl
-    none_left (Some k) e = cc
+released_unused r n queue i = grind (arith, released-at)
 
 pub queue_taken : (r : DriverEnd) (n : ℕ) → IsStatisticsQueue r n → IsStatisticsQueue (emptied r) n
-queue_taken r n queue = record {
-  single = λ i used.
-      (let wrong : true ≡ false = sym (released_unused r n queue i) ∙ used in cc);
-  first = λ i head.
-      (let wrong : true ≡ false = sym head ∙ no_head _ i (released_unused r n queue i) in cc);
-  layout = queue.layout;
-  size = queue.size;
-}
+queue_taken r n queue = grind (arith, released_unused, no_head)
 
 pub taken_none : (r : DriverEnd) (n : ℕ) → IsStatisticsQueue r n → outstanding (emptied r) ≡ 0
 taken_none r n queue = none_out (emptied r) (released_unused r n queue)
@@ -127,24 +89,7 @@ taken_none r n queue = none_out (emptied r) (released_unused r n queue)
 -- a head that is taken is 0
 pub taken_first : (r : DriverEnd) (n h : ℕ) (next : Result (Option ℕ) RingBroken)
     → IsStatisticsQueue r n → only_head r.owner next ≡ Ok (Some h) → h ≡ 0
-taken_first r n h (Err fault) queue e = cc
-taken_first r n h (Ok None) queue e = cc
-taken_first r n h (Ok (Some id)) queue e = elim (cases_Bool (is_head r.owner id)) [
-  | inl head ↦
-      let same : id ≡ h = given id h (is_head r.owner id) head e in
-      sym same ∙ queue.first id head
-  | inr other ↦ refused id h (is_head r.owner id) other e
-]
-  where
-    given : (x y : ℕ) (b : Bool) → b ≡ true
-        → cond b (Ok (Some x)) (Err NotOutstanding) ≡ Ok (Some y) → x ≡ y
-    given x y true f g = cc
-    given x y false f g = cc
-
-    refused : (x y : ℕ) (b : Bool) → b ≡ false
-        → cond b (Ok (Some x)) (Err NotOutstanding) ≡ Ok (Some y) → y ≡ 0
-    refused x y true f g = cc
-    refused x y false f g = cc
+taken_first r n h next queue e = grind arith
 
 -- what is told of a take: whether the buffer was used
 abbrev Tells : Pages → DriverEnd → DriverEnd → ℕ → Bool → Type 0

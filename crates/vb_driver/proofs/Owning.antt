@@ -1,12 +1,12 @@
 -- The pages of the guest's own: blocks that are allocated and freed.
 use Rattle.std.proofs.Common.{◌≡◌, ◌∙◌, sym, ap, arith, refl, ℕ, ◌+◌, ◌^◌, ◌<◌, ◌≤◌, Bool}
-use Rattle.std.proofs.Common.{true, false, cond, eqb, not, ◌||◌, ◌&&◌, List, [], ◌∷◌, length, map}
+use Rattle.std.proofs.Common.{true, false, cond, eqb, not, ◌||◌, List, [], ◌∷◌, length, map}
 use Rattle.std.proofs.Common.{inl, inr, None, nat_le, nat_lt}
-use Rattle.std.specs.List.{list_any, list_all, range_with_len}
+use Rattle.std.specs.List.{list_any, range_with_len}
 use Rattle.std.proofs.lemmas.Bool.{and_parts, or_cases, or_left, or_right, both_ways, eqb-true}
 use Rattle.std.proofs.lemmas.List.{length-map}
 use Rattle.vb_model.specs.Tests.{is_in}
-use Rattle.vb_model.specs.Pages.{Block, covers, pages_of, is_aligned, is_same_block, is_wholly_free}
+use Rattle.vb_model.specs.Pages.{Block, covers, pages_of, is_same_block, is_wholly_free}
 use Rattle.vb_model.specs.Pages.{place_of, placed, is_free, is_used, is_giving, is_taking}
 use Rattle.vb_model.specs.Pages.{is_reporting, pages_of_all}
 use Rattle.vb_model.specs.Orderly.{times}
@@ -28,7 +28,7 @@ use Rattle.vb_driver.specs.Places.{marked}
 use Rattle.vb_driver.proofs.Naming.{naming_same}
 use Rattle.vb_driver.proofs.Keeping.{kept_changed, there_by, free_marked}
 use Rattle.vb_driver.proofs.Placing.{marked-get}
-use Rattle.vb_driver.proofs.Moving.{free_is_place, list_all_same}
+use Rattle.vb_driver.proofs.Moving.{free_is_place}
 use Rattle.vb_driver.proofs.Counting.{at_is}
 use Rattle.vb_driver.proofs.ReportTables.{block_inside}
 
@@ -36,17 +36,11 @@ use Rattle.vb_driver.proofs.ReportTables.{block_inside}
 
 list_any_same : {A : Type 0} (f h : A → Bool) (xs : List A) → ((x : A) → f x ≡ h x)
     → list_any f xs ≡ list_any h xs
-list_any_same f h [] same = refl
-list_any_same f h (x ∷ xs) same =
-    ap (λ (v : Bool). v || list_any f xs) (same x)
-    ∙ ap (λ (v : Bool). h x || v) (list_any_same f h xs same)
+list_any_same f h xs same = search (arith)
 
 pub whole_is : (places : List Place) (free : List Bool) (b : Block) → free ≡ map is_free places
     → is_free_block free b ≡ is_wholly_free places b
-whole_is places free b is =
-    ap (λ (v : Bool). is_aligned b && v)
-    (list_all_same (is_free_at free) (λ page. is_free (place_of places page)) (pages_of b)
-    (λ p. free_is_place places free p is))
+whole_is places free b is = grind (arith, free_is_place)
 
 -- a block of the areas is one of the driver
 pub blocks_same : (d : DriverState) (order : ℕ) → IsDriver d
@@ -67,49 +61,22 @@ pub alloc_tests_same : (d : DriverState) (cpu order : ℕ) → IsDriver d
     ∷ (not (list_any (λ start. is_free_block (flags_of d.areas) (block_at start order))
     (range_with_len 0 (length (flags_of d.areas)))) ⇒ NoPages) ∷ [])
     ≡ first_refusal (alloc_tests d cpu order)
-alloc_tests_same d cpu order kept =
-    let some = list_any (λ start. is_free_block (flags_of d.areas) (block_at start order))
-    (range_with_len 0 (length (flags_of d.areas))) in
-    ap (λ (n : ℕ). first_refusal
-    ((nat_lt 9 order ⇒ BadOrder) ∷ (nat_le n cpu ⇒ BadCpu) ∷ (not some ⇒ NoPages) ∷ []))
-    kept.processors
-    ∙ ap (λ (v : Bool). first_refusal
-    ((nat_lt 9 order ⇒ BadOrder) ∷ (nat_le d.processors cpu ⇒ BadCpu) ∷ (not v ⇒ NoPages) ∷ []))
-    (blocks_same d order kept)
+alloc_tests_same d cpu order kept = grind (arith, blocks_same)
 
 -- ---- blocks that are held
 
 swap : (x y z : Bool) → (x || (y || z)) ≡ (y || (x || z))
-swap true true z = refl
-swap true false z = refl
-swap false true z = refl
-swap false false z = refl
+swap x y z = search (arith)
 
 pub covered_with : (p : ℕ) (b : Block) (held : List Block)
     → is_covered p (with_block b held) ≡ (covers p b || is_covered p held)
 covered_with p b [] = refl
-covered_with p b (h ∷ held) = at (nat_lt b.start h.start) (covered_with p b held)
-  where
-    at : (v : Bool) → is_covered p (with_block b held) ≡ (covers p b || is_covered p held)
-        → is_covered p (cond v (b ∷ h ∷ held) (h ∷ with_block b held))
-        ≡ (covers p b || (covers p h || is_covered p held))
-    at true ih = refl
-    at false ih = ap (λ (v : Bool). covers p h || v) ih
-        ∙ swap (covers p h) (covers p b) (is_covered p held)
+covered_with p b (h ∷ held) = grind (arith, covered_with p b held)
 
 pub covered_without : (p : ℕ) (b : Block) (held : List Block)
     → is_covered p (without_block b held) ≡ true → is_covered p held ≡ true
 covered_without p b [] covered = covered
-covered_without p b (x ∷ held) covered = at (is_same_block x b) covered (covered_without p b held)
-  where
-    at : (v : Bool) → is_covered p (cond v held (x ∷ without_block b held)) ≡ true
-        → (is_covered p (without_block b held) ≡ true → is_covered p held ≡ true)
-        → (covers p x || is_covered p held) ≡ true
-    at true h ih = or_right (covers p x) (is_covered p held) h
-    at false h ih = elim (or_cases (covers p x) (is_covered p (without_block b held)) h) [
-      | inl here ↦ or_left (covers p x) (is_covered p held) here
-      | inr later ↦ or_right (covers p x) (is_covered p held) (ih later)
-    ]
+covered_without p b (x ∷ held) covered = grind (arith, covered_without p b held)
 
 pub covered_held : (p : ℕ) (b : Block) (held : List Block)
     → list_any (λ h. is_same_block h b) held ≡ true → covers p b ≡ true → is_covered p held ≡ true
@@ -132,12 +99,7 @@ covered_held p b (x ∷ held) found covered =
 block_free : (d : DriverState) (b : Block) (p : ℕ) → IsDriver d
     → is_free_block (flags_of d.areas) b ≡ true → is_in p (pages_of b) ≡ true
     → place_of d.places p ≡ Free
-block_free d b p kept whole here =
-    let all = (and_parts (is_aligned b) (list_all (is_free_at (flags_of d.areas)) (pages_of b))
-    whole).1 in
-    at_is Free (place_of d.places p)
-    (sym (free_is_place d.places (flags_of d.areas) p kept.free)
-    ∙ list_all-at (is_free_at (flags_of d.areas)) (pages_of b) p all here)
+block_free d b p kept whole here = search (arith, at_is, free_is_place, list_all-at)
 
 pub free_block_inside : (d : DriverState) (b : Block) → IsDriver d
     → is_free_block (flags_of d.areas) b ≡ true → b.start + 2 ^ b.order ≤ length d.places
@@ -196,24 +158,7 @@ allocated_kept d areas2 b kept whole taken same =
 pub unallocated_kept : (d : DriverState) (new : PageState) → IsDriver d
     → Becomes (page_state d) new (flags_of d.areas) d.held
     → IsDriver (record d { held = new.held; areas = new.free })
-unallocated_kept d new kept becomes = record {
-  table = kept.table;
-  least = kept.least;
-  most = kept.most;
-  size = kept.size;
-  inflate = kept.inflate;
-  deflate = kept.deflate;
-  giving = kept.giving;
-  taking = kept.taking;
-  statistics = kept.statistics;
-  report = kept.report;
-  reporting = kept.reporting;
-  free = becomes.free ∙ kept.free;
-  used = λ p covered. kept.used p (ap (is_covered p) (sym becomes.held) ∙ covered);
-  reserved = kept.reserved;
-  processors = becomes.same.processors ∙ kept.processors;
-  set_aside = becomes.same.reserved ∙ kept.set_aside;
-}
+unallocated_kept d new kept becomes = search (arith)
 
 -- ---- a block is freed
 
@@ -236,15 +181,7 @@ pub freed_was_held : (held : List Block) (b : Block) (processors cpu : ℕ)
     ((nat_lt 9 b.order ⇒ BadOrder) ∷ (nat_le processors cpu ⇒ BadCpu)
     ∷ (not (list_any (λ h. is_same_block h b) held) ⇒ NotHeld) ∷ [])
     → list_any (λ h. is_same_block h b) held ≡ true
-freed_was_held held b processors cpu e =
-    at (nat_lt 9 b.order) (nat_le processors cpu) (list_any (λ h. is_same_block h b) held) e
-  where
-    at : (x y v : Bool) → None
-        ≡ first_refusal ((x ⇒ BadOrder) ∷ (y ⇒ BadCpu) ∷ (not v ⇒ NotHeld) ∷ []) → v ≡ true
-    at true y v e = cc
-    at false true v e = cc
-    at false false true e = refl
-    at false false false e = cc
+freed_was_held held b processors cpu e = grind arith
 
 pub block_freed_kept : (d : DriverState) (new : PageState) (b : Block) → IsDriver d
     → list_any (λ h. is_same_block h b) d.held ≡ true

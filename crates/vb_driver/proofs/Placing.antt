@@ -1,13 +1,13 @@
 -- Tables of places, as pages move one by one.
 use Rattle.std.proofs.Common.{◌≡◌, ◌∙◌, sym, ap, arith, refl, ℕ, zero, suc, ◌+◌, ◌-◌, ◌<◌, ◌≤◌}
 use Rattle.std.proofs.Common.{Bool, true, false, cond, eqb, ◌||◌, List, [], ◌∷◌, ◌++◌, length, take}
-use Rattle.std.proofs.Common.{get_or, set, map, inl, inr, eq-eqb}
+use Rattle.std.proofs.Common.{get_or, set, map, eq-eqb}
 use Rattle.std.proofs.Common.{count_by, if◌then◌else◌}
 use Rattle.std.proofs.lemmas.List.{same_lists, get_or-set_same, get_or-set_other, length-set}
 use Rattle.std.proofs.lemmas.List.{get_or-map, length-map, take_more}
 use Rattle.std.proofs.lemmas.List.{length-take}
 use Rattle.std.proofs.lemmas.List.Folds.{list_any-append, list_any_at}
-use Rattle.std.proofs.lemmas.Bool.{cases_eq, ne_eqb}
+use Rattle.std.proofs.lemmas.Bool.{ne_eqb}
 use Rattle.std.specs.List.{range_with_len}
 use Rattle.vb_model.specs.declared.places.Place.{Place}
 use Rattle.vb_model.specs.Tests.{is_in, one_if, pages_from, pages_where}
@@ -25,9 +25,7 @@ length-marked pages value table =
 pub marked-get : {A : Type 0} (pages : List ℕ) (value : A) (table : List A) (k : ℕ) (d : A)
     → k < length table → get_or (marked pages value table) k d
     ≡ cond (is_in k pages) value (get_or table k d)
-marked-get pages value table k d lt =
-    each_page-get (λ page old. if is_in page pages then value else old) table k d
-    (λ far. absurd (omega arith))
+marked-get pages value table k d lt = grind (arith, each_page-get)
 
 pub is_in-push : (k : ℕ) (xs : List ℕ) (x : ℕ)
     → is_in k (xs ++ x ∷ []) ≡ (is_in k xs || (eqb x k || false))
@@ -45,35 +43,19 @@ or_true false = refl
 pub marked_more : {A : Type 0} (xs : List ℕ) (x : ℕ) (value : A) (table : List A) → x < length table
     → marked (xs ++ x ∷ []) value table ≡ set (marked xs value table) x value
 marked_more xs x value table lt =
-    let all = marked (xs ++ x ∷ []) value table in
-    let before = marked xs value table in
-    let n1 : length all ≡ length table = length-marked (xs ++ x ∷ []) value table in
-    let n2 : length before ≡ length table = length-marked xs value table in
-    same_lists all (set before x value) (omega (arith, length-set before x value)) (λ k d near.
-    let inside : k < length table = omega arith in
-    let left : get_or all k d ≡ cond (is_in k (xs ++ x ∷ [])) value (get_or table k d) =
-    marked-get (xs ++ x ∷ []) value table k d inside in
-    elim (cases_eq k x) [
-      | inl same ↦
-          let hit : is_in k (xs ++ x ∷ []) ≡ true =
-          is_in-push k xs x ∙ (ap (λ v. is_in k xs || (v || false)) (eq-eqb x k (sym same))
-          ∙ or_true (is_in k xs)) in
-          left ∙ (ap (λ v. cond v value (get_or table k d)) hit
-          ∙ sym (ap (λ n. get_or (set before x value) n d) same
-          ∙ get_or-set_same before x value d (omega arith)))
-      | inr ne ↦
-          let miss : is_in k (xs ++ x ∷ []) ≡ is_in k xs =
-          is_in-push k xs x ∙ (ap (λ v. is_in k xs || (v || false))
-          (ne_eqb x k (λ e. ne (sym e))) ∙ or_false (is_in k xs)) in
-          left ∙ (ap (λ v. cond v value (get_or table k d)) miss
-          ∙ (sym (marked-get xs value table k d inside)
-          ∙ sym (get_or-set_other before x k value d ne)))
-    ])
+    grind (
+      arith,
+      length-marked,
+      same_lists,
+      length-set,
+      marked-get,
+      is_in-push,
+      get_or-set_same,
+      get_or-set_other,
+    )
 
 pub marked_none : {A : Type 0} (value : A) (table : List A) → marked [] value table ≡ table
-marked_none value table =
-    same_lists (marked [] value table) table (length-marked [] value table)
-    (λ k d near. marked-get [] value table k d (omega (arith, length-marked [] value table)))
+marked_none value table = grind (arith, same_lists, length-marked, marked-get)
 
 -- one page alone
 pub marked_one : {A : Type 0} (x : ℕ) (value : A) (table : List A) → x < length table
@@ -85,35 +67,13 @@ marked_one x value table lt =
 pub marked_append : {A : Type 0} (xs ys : List ℕ) (value : A) (table : List A)
     → marked ys value (marked xs value table) ≡ marked (xs ++ ys) value table
 marked_append {A = A} xs ys value table =
-    let before = marked xs value table in
-    let after = marked ys value before in
-    let all = marked (xs ++ ys) value table in
-    let n1 : length before ≡ length table = length-marked xs value table in
-    let n2 : length after ≡ length before = length-marked ys value before in
-    let n3 : length all ≡ length table = length-marked (xs ++ ys) value table in
-    same_lists after all (omega arith) (λ k d near.
-    marked-get ys value before k d (omega arith)
-    ∙ (ap (λ v. cond (is_in k ys) value v) (marked-get xs value table k d (omega arith))
-    ∙ (swap (is_in k xs) (is_in k ys) value (get_or table k d)
-    ∙ sym (marked-get (xs ++ ys) value table k d (omega arith)
-    ∙ ap (λ (b : Bool). cond b value (get_or table k d))
-    (list_any-append (λ m. eqb m k) xs ys)))))
-  where
-    swap : (x y : Bool) (v old : A) → cond y v (cond x v old) ≡ cond (x || y) v old
-    swap true true v old = refl
-    swap true false v old = refl
-    swap false true v old = refl
-    swap false false v old = refl
+    grind (arith, length-marked, same_lists, marked-get, list_any-append)
 
 -- a block's pages, up to the next
 pub range_push : (start k : ℕ)
     → range_with_len start (suc k) ≡ range_with_len start k ++ (start + k) ∷ []
 range_push start zero = ap (λ (n : ℕ). n ∷ []) (omega arith)
-range_push start (suc k) =
-    let tail : range_with_len (start + 1) (suc k) ≡ range_with_len (start + 1) k ++ (start + suc k)
-    ∷ [] = range_push (start + 1) k
-    ∙ ap (λ (n : ℕ). range_with_len (start + 1) k ++ n ∷ []) (omega arith) in
-    ap (λ (l : List ℕ). start ∷ l) tail
+range_push start (suc k) = grind (arith, range_push (start + 1) k)
 
 pub placed_next : (start page : ℕ) (place : Place) (ps : List Place) → start ≤ page
     → page < length ps
@@ -147,12 +107,11 @@ pub placed_further : (start page next : ℕ) (place : Place) (ps : List Place) �
     (placed (range_with_len start (page - start)) place ps)
     ≡ placed (range_with_len start (next - start)) place ps
 placed_further start page next place ps from further =
-    let here : start + (page - start) ≡ page = omega arith in
-    let all : (page - start) + (next - page) ≡ next - start = omega arith in
-    marked_append (range_with_len start (page - start)) (range_with_len page (next - page)) place ps
-    ∙ ap (λ (l : List ℕ). placed l place ps)
-    (ap (λ (n : ℕ). range_with_len start (page - start) ++ range_with_len n (next - page)) (sym here)
-    ∙ (range_append start (page - start) (next - page) ∙ ap (range_with_len start) all))
+    grind (
+      arith,
+      marked_append (range_with_len start (page - start)) (range_with_len page (next - page)) place ps,
+      range_append start (page - start) (next - page),
+    )
 
 -- ---- each page to a place that its own decides
 
@@ -165,25 +124,11 @@ pub record Changing (old now : List Place) (f : Place → Place) (i : ℕ) : Typ
 pub changing_more : (old now : List Place) (f : Place → Place) (i : ℕ) (y : Place)
     → Changing old now f i → i < length old → ((d : Place) → y ≡ f (get_or old i d))
     → Changing old (set now i y) f (i + 1)
-changing_more old now f i y c lt is =
-    record {
-      same = length-set now i y ∙ c.same;
-      put = λ k d near inside. elim (cases_eq k i) [
-        | inl same ↦
-            ap (λ n. get_or (set now i y) n d) same
-            ∙ (get_or-set_same now i y d (omega (arith, c.same))
-            ∙ (is d ∙ sym (ap (λ n. f (get_or old n d)) same)))
-        | inr ne ↦ get_or-set_other now i k y d ne ∙ c.put k d (omega (arith, ne)) inside
-      ];
-      rest = λ k d far. get_or-set_other now i k y d (omega arith) ∙ c.rest k d (omega arith);
-    }
+changing_more old now f i y c lt is = search (arith, length-set, get_or-set_same, get_or-set_other)
 
 pub changed_all : (old now : List Place) (f : Place → Place) (i : ℕ) → Changing old now f i
     → length old ≤ i → now ≡ map f old
-changed_all old now f i c all =
-    same_lists now (map f old) (c.same ∙ sym (length-map old f)) (λ k d near.
-    let inside : k < length old = omega (arith, c.same) in
-    c.put k d (omega arith) inside ∙ sym (get_or-map f old k d d inside))
+changed_all old now f i c all = grind (arith, same_lists, length-map, get_or-map)
 
 -- ---- the pages that pass a test
 
@@ -191,32 +136,19 @@ pub pages_from-append : {A : Type 0} (first : ℕ) (test : A → Bool) (xs ys : 
     → pages_from first test (xs ++ ys) ≡ pages_from first test xs
     ++ pages_from (first + length xs) test ys
 pages_from-append first test [] ys = ap (λ n. pages_from n test ys) (omega arith)
-pages_from-append first test (x ∷ xs) ys =
-    let ih : pages_from (suc first) test (xs ++ ys) ≡ pages_from (suc first) test xs
-    ++ pages_from (suc first + length xs) test ys = pages_from-append (suc first) test xs ys in
-    let at : pages_from (suc first + length xs) test ys
-    ≡ pages_from (first + suc (length xs)) test ys =
-    ap (λ n. pages_from n test ys) (omega arith) in
-    let tail : pages_from (suc first) test (xs ++ ys) ≡ pages_from (suc first) test xs
-    ++ pages_from (first + suc (length xs)) test ys =
-    ih ∙ ap (λ l. pages_from (suc first) test xs ++ l) at in
-    step (test x) (pages_from (suc first) test (xs ++ ys)) (pages_from (suc first) test xs)
-    (pages_from (first + suc (length xs)) test ys) tail
-  where
-    step : (b : Bool) (all front back : List ℕ) → all ≡ front ++ back
-        → cond b (first ∷ all) all ≡ cond b (first ∷ front) front ++ back
-    step true all front back e = ap (λ l. first ∷ l) e
-    step false all front back e = e
+pages_from-append first test (x ∷ xs) ys = grind (arith, pages_from-append (suc first) test xs ys)
 
 -- one page more of a table
 pub pages_more : {A : Type 0} (test : A → Bool) (xs : List A) (i : ℕ) (d : A) → i < length xs
     → pages_where test (take (i + 1) xs) ≡ pages_where test (take i xs)
     ++ cond (test (get_or xs i d)) (i ∷ []) []
 pages_more test xs i d lt =
-    ap (pages_from 0 test) (take_more xs i d lt)
-    ∙ (pages_from-append 0 test (take i xs) (get_or xs i d ∷ [])
-    ∙ ap (λ n. pages_where test (take i xs) ++ cond (test (get_or xs i d)) (n ∷ []) [])
-    (omega (arith, length-take i xs)))
+    grind (
+      arith,
+      take_more xs i d lt,
+      pages_from-append 0 test (take i xs) (get_or xs i d ∷ []),
+      length-take i xs,
+    )
 
 -- there is none where their count is 0
 pub none_where : {A : Type 0} (test : A → Bool) (first : ℕ) (xs : List A) → count_by test xs ≡ 0

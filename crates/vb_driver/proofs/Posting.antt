@@ -1,6 +1,6 @@
 -- A request that goes out: its buffer is written, and then its chain is published.
 use Rattle.std.proofs.Common.{◌≡◌, ◌≢◌, ◌∙◌, sym, ap, subst, arith, refl, ℕ, ◌+◌, ◌*◌, ◌<◌, ◌≤◌}
-use Rattle.std.proofs.Common.{false, eqb, List, [], ◌∷◌, length, slice_index, Some, Result, Ok, set}
+use Rattle.std.proofs.Common.{false, eqb, List, [], ◌∷◌, length, slice_index, Some, Ok, set}
 use Rattle.std.proofs.Common.{min}
 use Rattle.std.proofs.lemmas.Bool.{ne_eqb}
 use Rattle.vb_model.specs.Tests.{is_in}
@@ -11,9 +11,7 @@ use Rattle.vb_chain.specs.declared.pieces.Piece.{Piece}
 use Rattle.vb_chain.specs.Written.{linked}
 use Rattle.vb_chain.specs.Table.{descriptor_at}
 use Rattle.vb_chain.proofs.TableLaws.{descriptor_apart, same_parts}
-use Rattle.vb_ring.specs.declared.driver.Full.{Full}
 use Rattle.vb_ring.specs.Ends.{DriverEnd, IsDriverEnd, outstanding, next_head, next_path}
-use Rattle.vb_ring.specs.Ends.{add_answer}
 use Rattle.vb_ring.specs.Calls.{AddsBy}
 use Rattle.vb_ring.proofs.EntryLaws.{entries_apart}
 use Rattle.vb_ring.proofs.MeaningLaws.{ring_apart, tracks_apart}
@@ -21,7 +19,7 @@ use Rattle.vb_driver.specs.Coding.{Names}
 use Rattle.vb_driver.specs.State.{AreRequests}
 use Rattle.vb_driver.specs.Calls.{Posts, Announces, written_of}
 use Rattle.vb_driver.proofs.Buffers.{buffer_apart, names_kept, outside_both}
-use Rattle.vb_driver.proofs.RequestTables.{add_gives, next_path_is, head_low, requests_added_at}
+use Rattle.vb_driver.proofs.RequestTables.{next_path_is, head_low, requests_added_at}
 use Rattle.vb_driver.proofs.Placing.{or_false}
 use Rattle.vb_driver.proofs.Shapes.{IsBeside, KeepsRing, keeps_ring}
 
@@ -125,13 +123,7 @@ posts_at m1 m2 m3 r r2 sent base h a l pages s adds =
 -- the head that was added is the one that was told
 pub added_head : (m2 m3 : Pages) (r r2 : DriverEnd) (h g : ℕ) (pieces : List Piece)
     → length pieces ≡ 1 → next_head r ≡ Some h → AddsBy m2 m3 r r2 pieces (Ok g) → h ≡ g
-added_head m2 m3 r r2 h g pieces one e adds =
-    let answer : Ok g ≡ add_answer r 1 = adds.value ∙ ap (add_answer r) one in
-    let same : Ok g ≡ Ok h = answer ∙ add_gives r h e in
-    inside g h (Ok g) (Ok h) refl refl same
-  where
-    inside : (x y : ℕ) (a b : Result ℕ Full) → a ≡ Ok x → b ≡ Ok y → a ≡ b → y ≡ x
-    inside x y a b e f q = cc
+added_head m2 m3 r r2 h g pieces one e adds = grind arith
 
 pub posts_by : (m1 m2 m3 : Pages) (r r2 : DriverEnd) (sent : List (List ℕ)) (base h g a l : ℕ)
     (pages : List ℕ) → Sending m1 m2 m3 r r2 sent base h a l pages

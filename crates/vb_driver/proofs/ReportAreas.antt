@@ -3,7 +3,6 @@ use Rattle.std.proofs.Common.{◌≡◌, ◌∙◌, sym, ap, subst, arith, refl,
 use Rattle.std.proofs.Common.{true, false, cond, eqb, not, ◌&&◌, ◌||◌, List, [], ◌∷◌, length, map}
 use Rattle.std.proofs.Common.{slice_index_or}
 use Rattle.std.specs.Prelude.{All}
-use Rattle.std.proofs.lemmas.Bool.{eqb-true}
 use Rattle.std.proofs.lemmas.Nat.{pow_pos}
 use Rattle.std.proofs.lemmas.List.{length-map, get_or-map}
 use Rattle.std.proofs.lemmas.List.Elements.{All-map}
@@ -18,7 +17,7 @@ use Rattle.vb_pages.specs.FreePages.{drained}
 use Rattle.vb_pages.specs.PageState.{PageState, page_count, reserved_count, is_free_page}
 use Rattle.vb_pages.specs.PageState.{IsApart}
 use Rattle.vb_pages.specs.Areas.{without_pages}
-use Rattle.vb_pages.proofs.Sets.{same_bool, in_block, length-with_pages, length-without_pages}
+use Rattle.vb_pages.proofs.Sets.{in_block, length-with_pages, length-without_pages}
 use Rattle.vb_pages.proofs.Sets.{same_sets, without_parts, without_old}
 use Rattle.vb_report.specs.Blocks.{block_of, blocks_of, is_covered, blocks_to_report, HaveRoom}
 use Rattle.vb_report.specs.Blocks.{with_blocks, without_blocks}
@@ -35,9 +34,7 @@ use Rattle.vb_driver.proofs.ReportTables.{in_all, block_inside_all}
 -- a page is free just where its flag says so
 flag_is : (s : PageState) (p : ℕ) → IsApart s
     → is_free_page s p ≡ is_free_at (flags_of s.free) p
-flag_is s p apart =
-    same_bool (is_free_page s p) (is_free_at (flags_of s.free) p) (free_flag s p apart)
-    (flag_free s p)
+flag_is s p apart = grind (arith, free_flag, flag_free)
 
 -- ---- blocks are chosen
 
@@ -48,9 +45,7 @@ pub chosen_places : (s : PageState) (from room : ℕ) → IsApart s
     → (places : List Place) → flags_of s.free ≡ map is_free places
     → blocks_to_report s from room ≡ reported room from (maximal_free_blocks places)
 chosen_places s from room apart law places is =
-    law s places
-    (omega (arith, length_flags s, ap (λ (l : List Bool). length l) is, length-map places is_free))
-    (λ p. flag_is s p apart ∙ free_is_place places (flags_of s.free) p is) from room
+    grind (arith, length_flags, length-map, flag_is, free_is_place)
 
 pub chosen_blocks : (s : PageState) (blocks : List FreeBlock) → HaveRoom s blocks
     → All IsAreaBlock (blocks_of blocks)
@@ -87,32 +82,19 @@ chosen_state s new blocks is left =
 
 pub no_blocks : (blocks : List FreeBlock) → eqb (length blocks) 0 ≡ true → blocks ≡ []
 no_blocks [] e = refl
-no_blocks (b ∷ blocks) e =
-    (let some : length (b ∷ blocks) ≡ 0 = eqb-true (length (b ∷ blocks)) 0 e in
-    absurd (omega arith))
+no_blocks (b ∷ blocks) e = grind arith
 
 pub none_chosen : (s new : PageState) (blocks : List FreeBlock) → blocks ≡ []
     → Becomes s new (marked (pages_of_all (blocks_of blocks)) false (flags_of s.free)) s.held
     → Becomes s new (flags_of s.free) s.held
-none_chosen s new blocks none becomes = record {
-  free = becomes.free
-      ∙ (ap (λ (l : List FreeBlock). marked (pages_of_all (blocks_of l)) false (flags_of s.free))
-      none ∙ marked_none false (flags_of s.free));
-  held = becomes.held;
-  same = becomes.same;
-}
+none_chosen s new blocks none becomes = grind (arith, marked_none)
 
 without_none : (set : List Bool) → without_pages [] set ≡ set
-without_none set =
-    same_sets (without_pages [] set) set (length-without_pages [] set)
-    (λ p e. (without_parts [] set p e).0) (λ p e. without_old [] set p e refl)
+without_none set = grind (arith, same_sets, length-without_pages, without_parts, without_old)
 
 pub only_drained : (s new : PageState) (blocks : List FreeBlock) → blocks ≡ []
     → new ≡ without_blocks blocks s → new ≡ record s { free = drained s.free }
-only_drained s new blocks none is =
-    is ∙ (ap (λ (l : List FreeBlock). without_blocks l s) none
-    ∙ ap (λ (set : List Bool). record s { free = record (drained s.free) { areas = set } })
-    (without_none (drained s.free).areas))
+only_drained s new blocks none is = grind (arith, without_none)
 
 -- ---- blocks come back
 
@@ -149,22 +131,4 @@ have_room s blocks apart good unreserved inside taken uncovered once = record {
 pub given_blocks : (s new : PageState) (blocks : List FreeBlock) → new ≡ with_blocks blocks s
     → ((p : ℕ) → is_free_page new p ≡ (is_free_page s p || is_covered p blocks))
     → Becomes s new (marked (pages_of_all (blocks_of blocks)) true (flags_of s.free)) s.held
-given_blocks s new blocks is gained =
-    let pages = pages_of_all (blocks_of blocks) in
-    record {
-      free = flags_moved s new pages true
-          (ap page_count is ∙ length-with_pages pages s.free.areas)
-          (λ p. gained p ∙ (ap (λ (v : Bool). is_free_page s p || v) (sym (in_covered p blocks))
-          ∙ came (is_free_page s p) (is_in p pages)));
-      held = ap (λ (v : PageState). v.held) is;
-      same = record {
-        processors = ap (λ (v : PageState). length v.free.lists) is;
-        reserved = ap (λ (v : PageState). v.free.reserved) is;
-      };
-    }
-  where
-    came : (old v : Bool) → (old || v) ≡ cond v true old
-    came true true = refl
-    came true false = refl
-    came false true = refl
-    came false false = refl
+given_blocks s new blocks is gained = search (arith, flags_moved, length-with_pages, in_covered)

@@ -1,5 +1,5 @@
 -- The driver as a report goes out, and as it comes back.
-use Rattle.std.proofs.Common.{◌≡◌, ◌∙◌, sym, ap, arith, refl, ℕ, ◌≤◌, Bool, true, false, cond}
+use Rattle.std.proofs.Common.{◌≡◌, ◌∙◌, ap, arith, refl, ℕ, ◌≤◌, Bool, true, false, cond}
 use Rattle.std.proofs.Common.{List, []}
 use Rattle.vb_model.specs.Tests.{is_in, one_if}
 use Rattle.vb_model.specs.Orderly.{times}
@@ -10,7 +10,7 @@ use Rattle.vb_model.specs.declared.places.Place.{Place}
 use Rattle.vb_model.specs.declared.places.Place.TheVariants.{Reserved, Free, Reporting}
 use Rattle.vb_model.proofs.Distinct.{distinct_list}
 use Rattle.vb_pages.specs.FreePages.{FreePages}
-use Rattle.vb_pages.proofs.ListsLemmas.{times_in, times_out, one_if_true}
+use Rattle.vb_pages.proofs.ListsLemmas.{times_in, times_out}
 use Rattle.vb_driver.specs.Places.{is_at, marked}
 use Rattle.vb_driver.specs.Areas.{AreFor, flags_of, is_free_at}
 use Rattle.vb_driver.specs.State.{ReportSide, DriverState, IsReportQueue, IsDriver, naming}
@@ -24,9 +24,7 @@ use Rattle.vb_driver.proofs.Moving.{free_is_place}
 -- a page whose flag says so is free
 pub free_place : (d : DriverState) (p : ℕ) → IsDriver d → is_free_at (flags_of d.areas) p ≡ true
     → place_of d.places p ≡ Free
-free_place d p kept h =
-    at_is Free (place_of d.places p)
-    (sym (free_is_place d.places (flags_of d.areas) p kept.free) ∙ h)
+free_place d p kept h = grind (arith, at_is, free_is_place)
 
 pub reported_kept : (d : DriverState) (areas2 : FreePages) (r2 : ReportSide) → IsDriver d
     → ((p : ℕ) → is_in p (pages_of_all r2.blocks) ≡ true → is_free_at (flags_of d.areas) p ≡ true)
@@ -80,10 +78,7 @@ reported_kept d areas2 r2 kept chosen distinct taken same queue =
 
 pub reported_place : (d : DriverState) (p : ℕ) → IsDriver d
     → is_in p (pages_of_all d.report.blocks) ≡ true → place_of d.places p ≡ Reporting
-reported_place d p kept here =
-    at_is Reporting (place_of d.places p)
-    (one_if_true (is_reporting (place_of d.places p))
-    (omega (arith, kept.reporting p, times_in p (pages_of_all d.report.blocks) here)))
+reported_place d p kept here = grind (arith, times_in)
 
 pub reported_once : (d : DriverState) (p : ℕ) → IsDriver d
     → times p (pages_of_all d.report.blocks) ≤ 1

@@ -5,7 +5,6 @@ use Rattle.std.proofs.Common.{Option, None, Some, Ok, Err, inl, inr, replicate, 
 use Rattle.std.proofs.Common.{slice_index, slice_index_or, nat_lt, add-one}
 use Rattle.std.proofs.lemmas.Bool.{cases_lt, le-ltb, lt-ltb, both_ways}
 use Rattle.std.proofs.lemmas.List.{length-replicate, get_or-replicate, get_or_past}
-use Rattle.std.proofs.lemmas.List.Elements.{All-nil}
 use Rattle.std.proofs.lemmas.List.FromFn.{take-map-range_with_len, length-range_with_len}
 use Rattle.std.proofs.lemmas.List.FromFn.{get_or-range_with_len}
 use Rattle.std.specs.List.{range_with_len}
@@ -16,7 +15,7 @@ use Rattle.vb_ring.specs.declared.driver.Full.TheVariants.{TooFewFree}
 use Rattle.std.specs.Prelude.{All}
 use Rattle.vb_ring.specs.Entries.{is_own, is_head}
 use Rattle.vb_ring.specs.Ends.{DriverEnd, IsDriverEnd, is_unused, outstanding, free_descriptors}
-use Rattle.vb_ring.specs.Ends.{next_path, add_answer, after_add, after_take, claimed, released}
+use Rattle.vb_ring.specs.Ends.{next_path, add_answer, after_add, after_take, claimed}
 use Rattle.vb_ring.specs.Numbers.{numbers}
 use Rattle.vb_ring.proofs.Numbers.{numbers_yes, numbers_zero, length_all}
 use Rattle.vb_ring.proofs.OwnerLaws.{claimed-at, released-at}
@@ -35,11 +34,7 @@ use Rattle.std.proofs.Common.{append-nil, ◌-◌, ◌^◌}
 
 -- nothing belongs to a chain
 pub none_owned : (size i : ℕ) → slice_index_or (replicate {A = Option ℕ} size None) i None ≡ None
-none_owned size i = elim (cases_lt i size) [
-  | inl l ↦ get_or-replicate {A = Option ℕ} size i None None l
-  | inr past ↦ get_or_past (replicate {A = Option ℕ} size None) i None
-      (omega (arith, length-replicate {A = Option ℕ} size None))
-]
+none_owned size i = grind (arith, cases_lt, get_or-replicate, get_or_past, length-replicate)
 
 -- the head of the one chain, of a descriptor that it has
 abbrev head_if : Bool → Option ℕ
@@ -49,13 +44,7 @@ no_block : (i : ℕ) → head_if (nat_lt i 0) ≡ None
 no_block i = ap head_if (le-ltb i 0 (omega arith))
 
 pub fresh_report_queue : (size : ℕ) → IsReportQueue (fresh_report size) size
-fresh_report_queue size = record {
-  owned = λ i. none_owned size i ∙ sym (no_block i);
-  few = omega arith;
-  blocks = All-nil IsAreaBlock;
-  layout = refl;
-  size = refl;
-}
+fresh_report_queue size = grind (arith, none_owned, no_block)
 
 -- ---- blocks, one after the other
 
@@ -68,9 +57,12 @@ block_in blocks i = block_of (slice_index_or blocks i no_free_block)
 pub orders_of : (blocks : List FreeBlock) → All IsAreaBlock (blocks_of blocks)
     → All HasOrder blocks
 orders_of blocks all k d lt =
-    let good : IsAreaBlock (slice_index_or (blocks_of blocks) k (block_of d)) =
-    all k (block_of d) (omega (arith, length-map blocks block_of)) in
-    subst (λ (b : Block). b.order ≤ 9) (get_or-map block_of blocks k d (block_of d) lt) good.order
+    grind (
+      arith,
+      slice_index_or (blocks_of blocks) k (block_of d),
+      length-map blocks block_of,
+      get_or-map block_of blocks k d (block_of d) lt,
+    )
 
 pub order_of : (blocks : List FreeBlock) (i : ℕ) → All IsAreaBlock (blocks_of blocks)
     → i < length blocks → (block_in blocks i).order ≤ 9
@@ -91,28 +83,25 @@ pub length_more_blocks : (blocks : List FreeBlock) (i : ℕ) → i < length bloc
     → length (pages_of_all (blocks_of (take (i + 1) blocks)))
     ≡ length (pages_of_all (blocks_of (take i blocks))) + 2 ^ (block_in blocks i).order
 length_more_blocks blocks i lt =
-    let b = block_in blocks i in
-    let all : length (pages_of_all (blocks_of (take (i + 1) blocks)))
-    ≡ length (pages_of_all (blocks_of (take i blocks)) ++ pages_of b) =
-    ap length (pages_more_blocks blocks i lt) in
-    omega (
-      arith,
-      all,
-      length-append (pages_of_all (blocks_of (take i blocks))) (pages_of b),
-      length-range_with_len b.start (2 ^ b.order),
-    )
+    grind (arith, pages_more_blocks, length-append, length-range_with_len)
 
 -- a page of one of the blocks is a page of all
 pub in_all : (bs : List Block) (i : ℕ) (d : Block) (p : ℕ) → i < length bs
     → is_in p (pages_of (slice_index_or bs i d)) ≡ true → is_in p (pages_of_all bs) ≡ true
 in_all [] i d p lt here = absurd (omega arith)
 in_all (b ∷ bs) zero d p lt here =
-    list_any-append (λ m. eqb m p) (pages_of b) (pages_of_all bs)
-    ∙ or_left (is_in p (pages_of b)) (is_in p (pages_of_all bs)) here
+    grind (
+      arith,
+      list_any-append (λ m. eqb m p) (pages_of b) (pages_of_all bs),
+      or_left (is_in p (pages_of b)) (is_in p (pages_of_all bs)) here,
+    )
 in_all (b ∷ bs) (suc i) d p lt here =
-    list_any-append (λ m. eqb m p) (pages_of b) (pages_of_all bs)
-    ∙ or_right (is_in p (pages_of b)) (is_in p (pages_of_all bs))
-    (in_all bs i d p (omega arith) here)
+    grind (
+      arith,
+      list_any-append (λ m. eqb m p) (pages_of b) (pages_of_all bs),
+      or_right (is_in p (pages_of b)) (is_in p (pages_of_all bs)) (in_all bs i d p (omega arith) here),
+      in_all bs i d p (omega arith) here,
+    )
 
 -- a block whose last page is there lies within
 pub block_inside : (n : ℕ) (b : Block) → ((p : ℕ) → is_in p (pages_of b) ≡ true → p < n)
@@ -162,9 +151,7 @@ none_out side size queue end none = at side.blocks refl
 -- and then no descriptor is in use
 pub unowned : (side : ReportSide) (size : ℕ) → IsReportQueue side size → side.blocks ≡ [] → (i : ℕ)
     → slice_index_or side.ring.owner i None ≡ None
-unowned side size queue none i =
-    queue.owned i
-    ∙ (ap (λ (n : ℕ). head_if (nat_lt i n)) (ap length none) ∙ no_block i)
+unowned side size queue none i = grind (arith, no_block i)
 
 -- ---- the first descriptors
 
@@ -172,11 +159,7 @@ all_numbers : (test : ℕ → Bool) (n : ℕ) → ((i : ℕ) → test i ≡ true
     → numbers test n ≡ range_with_len 0 n
 all_numbers test zero all = numbers_zero test
 all_numbers test (suc n) all =
-    let next : 0 + n ≡ n = omega arith in
-    ap (numbers test) (sym (add-one n))
-    ∙ (numbers_yes test n (all n)
-    ∙ (ap (λ (l : List ℕ). l ++ n ∷ []) (all_numbers test n all)
-    ∙ sym (range_push 0 n ∙ ap (λ (k : ℕ). range_with_len 0 n ++ k ∷ []) next)))
+    grind (arith, add-one n, numbers_yes test n (all n), all_numbers test n all, range_push 0 n)
 
 same_map : (xs : List ℕ) → map (λ (n : ℕ). n) xs ≡ xs
 same_map [] = refl
@@ -204,14 +187,7 @@ module _ (r : DriverEnd) (none : (i : ℕ) → slice_index_or r.owner i None ≡
       ∙ ap (λ (h : ℕ). Ok h) head
 
 in_first : (i n : ℕ) → is_in i (range_with_len 0 n) ≡ nat_lt i n
-in_first i n = at (is_in i (range_with_len 0 n)) refl
-  where
-    at : (b : Bool) → is_in i (range_with_len 0 n) ≡ b → is_in i (range_with_len 0 n) ≡ nat_lt i n
-    at true e = e ∙ sym (lt-ltb i n (omega (arith, (is_in-range i 0 n e).1)))
-    at false e = elim (cases_lt i n) [
-      | inl l ↦ absurd (outside-range i 0 n e (omega arith) (omega arith))
-      | inr past ↦ e ∙ sym (le-ltb i n past)
-    ]
+in_first i n = grind (arith, nat_lt, lt-ltb, is_in-range, cases_lt, outside-range, le-ltb)
 
 pub not_first : (i n : ℕ) → n ≤ i → is_in i (range_with_len 0 n) ≡ false
 not_first i n past = in_first i n ∙ le-ltb i n past
@@ -257,18 +233,4 @@ pub taken_report_queue : (side : ReportSide) (size h : ℕ) (r2 : DriverEnd) →
     → h ≡ 0 → r2 ≡ after_take side.ring (Ok (Some h))
     → IsReportQueue (record { ring = r2; blocks = [] }) size
 taken_report_queue side size h r2 queue zero_is state =
-    subst (λ (v : DriverEnd). IsReportQueue (record { ring = v; blocks = [] }) size) (sym state)
-    (record {
-      owned = λ i. ap (λ (n : ℕ). slice_index_or (released n side.ring.owner) i None) zero_is
-          ∙ (released-at 0 side.ring.owner i
-          ∙ (ap (λ (o : Option ℕ). cond (is_own 0 o) None o) (queue.owned i)
-          ∙ (gone (nat_lt i (length side.blocks)) ∙ sym (no_block i))));
-      few = omega arith;
-      blocks = All-nil IsAreaBlock;
-      layout = queue.layout;
-      size = queue.size;
-    })
-  where
-    gone : (v : Bool) → cond (is_own 0 (head_if v)) None (head_if v) ≡ None
-    gone true = refl
-    gone false = refl
+    grind (arith, slice_index_or, released-at, nat_lt, no_block)

@@ -1,24 +1,20 @@
 -- A queue whose chains are requests of one descriptor each.
-use Rattle.std.proofs.Common.{◌≡◌, ◌≢◌, ◌∙◌, sym, ap, subst, arith, refl, ℕ, zero, suc, ◌+◌, ◌<◌}
-use Rattle.std.proofs.Common.{◌≤◌, Bool, true, false, cond, eqb, List, [], ◌∷◌, length, take}
-use Rattle.std.proofs.Common.{slice_get, slice_index, slice_index_or, inl, inr, ◌⊎◌, eq-eqb, Option}
-use Rattle.std.proofs.Common.{Some, None, Result, Ok, Err, is_none, nat_lt, set, min}
-use Rattle.std.proofs.Common.{◌%◌}
-use Rattle.std.proofs.lemmas.Bool.{cases_eq, cases_lt, cases_Bool, ne_eqb, eqb-true}
+use Rattle.std.proofs.Common.{◌≡◌, ◌≢◌, sym, ap, subst, arith, refl, ℕ, ◌<◌}
+use Rattle.std.proofs.Common.{◌≤◌, true, false, List, [], ◌∷◌, length, take}
+use Rattle.std.proofs.Common.{slice_get, slice_index, slice_index_or, inl, inr, ◌⊎◌, Option}
+use Rattle.std.proofs.Common.{Some, None, Ok, nat_lt, set, min}
+use Rattle.std.proofs.lemmas.Bool.{cases_lt}
 use Rattle.std.proofs.lemmas.Bool.Decides.{nat_tests}
 use Rattle.std.proofs.lemmas.List.{length-set, get_or-set_other, get_or_past}
 use Rattle.std.proofs.lemmas.Grind.{get_or-set_at}
 use Rattle.vb_ring.specs.Layout.{layout_of}
-use Rattle.vb_ring.specs.Entries.{is_own, is_head}
+use Rattle.vb_ring.specs.Entries.{is_head}
 use Rattle.vb_ring.proofs.Numbers.{numbers_pass, numbers_rise, numbers_has, length_all}
 use Rattle.vb_ring.specs.Ends.{DriverEnd, IsDriverEnd, is_unused, free_descriptors, outstanding}
-use Rattle.vb_ring.specs.Ends.{next_head, next_path, add_answer, after_add, after_take, claimed}
-use Rattle.vb_ring.specs.Ends.{released, fresh_end}
+use Rattle.vb_ring.specs.Ends.{next_head, next_path, after_add, after_take, claimed}
+use Rattle.vb_ring.specs.Ends.{fresh_end}
 use Rattle.vb_ring.proofs.OwnerLaws.{claimed-at, released-at}
-use Rattle.vb_ring.specs.declared.driver.Full.{Full}
-use Rattle.vb_ring.specs.declared.driver.Full.TheVariants.{TooFewFree}
 use Rattle.vb_driver.specs.State.{RequestSide, AreRequests}
-use Rattle.vb_driver.proofs.Placing.{or_false}
 use Rattle.vb_driver.proofs.ReportTables.{none_owned}
 
 -- ---- the next head
@@ -33,16 +29,6 @@ first_of (x ∷ xs) h e =
   where
     few : (n : ℕ) → 1 ≤ n → nat_lt n 1 ≡ false
     few n l = grind (arith, nat_tests)
-
--- the head that is told is the one that is given
-pub add_gives : (r : DriverEnd) (h : ℕ) → next_head r ≡ Some h → add_answer r 1 ≡ Ok h
-add_gives r h e =
-    let f = first_of (free_descriptors r) h e in
-    let test : Bool → Result ℕ Full =
-    λ b. cond b (Err TooFewFree) (Ok (slice_index (next_path r 1) 0)) in
-    let picked : test (nat_lt (length (free_descriptors r)) 1) ≡ test false = ap test f.0 in
-    let head : slice_index (next_path r 1) 0 ≡ h = ap (λ l. slice_index l 0) f.1 in
-    picked ∙ ap (λ (n : ℕ). Ok n) head
 
 pub next_path_is : (r : DriverEnd) (h : ℕ) → next_head r ≡ Some h → next_path r 1 ≡ h ∷ []
 next_path_is r h e = (first_of (free_descriptors r) h e).1
@@ -60,10 +46,7 @@ first_is (x ∷ xs) h e = (omega arith, let same : x ≡ h = cc in same)
 unused_or_head : (owner : List (Option ℕ)) (i : ℕ)
     → ((k : ℕ) → is_unused owner k ≡ false → is_head owner k ≡ true)
     → (is_unused owner i ≡ true) ⊎ (is_head owner i ≡ true)
-unused_or_head owner i single = elim (cases_Bool (is_unused owner i)) [
-  | inl unused ↦ inl unused
-  | inr used ↦ inr (single i used)
-]
+unused_or_head owner i single = grind arith
 
 -- where all below are requests, so many are out
 pub out_below : (r : DriverEnd) (h : ℕ) → h ≤ r.size → ((i : ℕ) → i < h → is_head r.owner i ≡ true)
@@ -119,22 +102,13 @@ head_low r h single e =
 
 -- ---- what an add and a take make of the table
 
-one_inside : (h k n : ℕ) → h < n → k < length (h ∷ []) → slice_index (h ∷ []) k < n
-one_inside h zero n lt near = lt
-one_inside h (suc k) n lt near = absurd (omega arith)
-
 pub claimed_same : (h : ℕ) (owner : List (Option ℕ)) → h < length owner
     → slice_index_or (claimed (h ∷ []) h owner) h None ≡ Some h
-claimed_same h owner lt =
-    claimed-at (h ∷ []) h owner h (λ k near. one_inside h k (length owner) lt near)
-    ∙ ap (λ b. cond b (Some h) (slice_index_or owner h None)) (or_false (eqb h h) ∙ eq-eqb h h refl)
+claimed_same h owner lt = grind (arith, claimed-at)
 
 pub claimed_other : (h i : ℕ) (owner : List (Option ℕ)) → h < length owner → i ≢ h
     → slice_index_or (claimed (h ∷ []) h owner) i None ≡ slice_index_or owner i None
-claimed_other h i owner lt ne =
-    claimed-at (h ∷ []) h owner i (λ k near. one_inside h k (length owner) lt near)
-    ∙ ap (λ b. cond b (Some h) (slice_index_or owner i None))
-    (or_false (eqb h i) ∙ ne_eqb h i (λ e. ne (sym e)))
+claimed_other h i owner lt ne = grind (arith, claimed-at)
 
 -- what one request names, after it is set
 set_at : (sent : List (List ℕ)) (h i : ℕ) (pages : List ℕ) → i ≢ h
@@ -144,149 +118,41 @@ set_at sent h i pages ne = get_or-set_other sent h i pages [] ne
 set_short : (sent : List (List ℕ)) (h i : ℕ) (pages : List ℕ) → length pages ≤ 256
     → ((k : ℕ) → length (slice_index_or sent k []) ≤ 256)
     → length (slice_index_or (set sent h pages) i []) ≤ 256
-set_short sent h i pages few short = elim (cases_eq i h) [
-  | inl same ↦ elim (cases_lt i (length sent)) [
-    | inl lt ↦ subst (λ (l : List ℕ). length l ≤ 256)
-        (sym (get_or-set_at sent h i pages [] same (omega (arith, same, lt)))) few
-    | inr past ↦ subst (λ (l : List ℕ). length l ≤ 256)
-        (sym (get_or_past (set sent h pages) i [] (omega (arith, past, length-set sent h pages))))
-        (omega arith)
-  ]
-  | inr ne ↦ subst (λ (l : List ℕ). length l ≤ 256) (sym (set_at sent h i pages ne)) (short i)
-]
+set_short sent h i pages few short = grind (arith, get_or-set_at, get_or_past, length-set, set_at)
 
 -- nothing is named where nothing was set
 set_none : (sent : List (List ℕ)) (h i : ℕ) → i ≡ h → slice_index_or (set sent h []) i [] ≡ []
-set_none sent h i same = elim (cases_lt i (length sent)) [
-  | inl lt ↦ get_or-set_at sent h i [] [] same (omega (arith, same, lt))
-  | inr past ↦ get_or_past (set sent h []) i [] (omega (arith, past, length-set sent h []))
-]
-
-own_other : (h i : ℕ) (o : Option ℕ) → i ≢ h → is_own h o ≡ true → is_own i o ≡ false
-own_other h i None ne own = cc
-own_other h i (Some k) ne own =
-    let same : k ≡ h = eqb-true k h own in
-    ne_eqb k i (λ e. ne (sym e ∙ same))
+set_none sent h i same = grind (arith, get_or-set_at, get_or_past, length-set)
 
 pub requests_added : (r : DriverEnd) (sent : List (List ℕ)) (h : ℕ) (pages : List ℕ)
     → AreRequests (record { ring = r; sent = sent }) → IsDriverEnd r → next_head r ≡ Some h → h < 16
     → length pages ≤ 256
     → AreRequests (record { ring = after_add r 1 (Ok h); sent = set sent h pages })
 requests_added r sent h pages all end e small few_pages =
-    let low = head_low r h all.single e in
-    let path : next_path r 1 ≡ h ∷ [] = next_path_is r h e in
-    let owner = claimed (h ∷ []) h r.owner in
-    let inside : h < length r.owner = omega (arith, end.table, low.0) in
-    let good : AreRequests
-    (record {
-      ring = record r { published = (r.published + 1) % 65536; owner = owner };
-      sent = set sent h pages;
-    }) = record {
-      single = λ i used. elim (cases_eq i h) [
-        | inl same ↦ ap (λ n. is_own n (slice_index_or owner n None)) same
-            ∙ (ap (is_own h) (claimed_same h r.owner inside) ∙ eq-eqb h h refl)
-        | inr ne ↦ (let o = claimed_other h i r.owner inside ne in
-            ap (is_own i) o ∙ all.single i (sym (ap is_none o) ∙ used))
-      ];
-      few = λ i head. elim (cases_eq i h) [
-        | inl same ↦ omega arith
-        | inr ne ↦ all.few i (sym (ap (is_own i) (claimed_other h i r.owner inside ne)) ∙ head)
-      ];
-      buffers = length-set sent h pages ∙ all.buffers;
-      unsent = λ i head. elim (cases_eq i h) [
-        | inl same ↦ absurd (let is : is_own i (slice_index_or owner i None) ≡ true =
-            ap (λ n. is_own n (slice_index_or owner n None)) same
-            ∙ (ap (is_own h) (claimed_same h r.owner inside) ∙ eq-eqb h h refl) in
-            let wrong : true ≡ false = sym is ∙ head in cc)
-        | inr ne ↦ set_at sent h i pages ne
-            ∙ all.unsent i (sym (ap (is_own i) (claimed_other h i r.owner inside ne)) ∙ head)
-      ];
-      short = λ i. set_short sent h i pages few_pages all.short;
-    } in
-    subst (λ (p : List ℕ). AreRequests
-    (record {
-      ring = record r
-          { published = (r.published + 1) % 65536; owner = claimed p h r.owner };
-      sent =
-          set sent h pages;
-    })) (sym path) good
+    search (arith, head_low, claimed_same, claimed_other, length-set, set_at, set_short)
 
 pub requests_taken : (r : DriverEnd) (sent : List (List ℕ)) (h : ℕ)
     → AreRequests (record { ring = r; sent = sent })
     → AreRequests (record { ring = after_take r (Ok (Some h)); sent = set sent h [] })
-requests_taken r sent h all =
-    record {
-      single = λ i used. at i (is_own h (slice_index_or r.owner i None)) refl used;
-      few = λ i head. at_few i (is_own h (slice_index_or r.owner i None)) refl head;
-      buffers = length-set sent h [] ∙ all.buffers;
-      unsent = λ i head. at_unsent i (is_own h (slice_index_or r.owner i None)) refl head;
-      short = λ i. set_short sent h i [] (omega arith) all.short;
-    }
-  where
-    kept : (i : ℕ) (b : Bool) → is_own h (slice_index_or r.owner i None) ≡ b
-        → slice_index_or (released h r.owner) i None ≡ cond b None (slice_index_or r.owner i None)
-    kept i b e = released-at h r.owner i ∙ ap (λ v. cond v None (slice_index_or r.owner i None)) e
-
-    at : (i : ℕ) (b : Bool) → is_own h (slice_index_or r.owner i None) ≡ b
-        → is_unused (released h r.owner) i ≡ false → is_head (released h r.owner) i ≡ true
-    at i true e used = (let gone : true ≡ false = sym (ap is_none (kept i true e)) ∙ used in cc)
-    at i false e used = ap (is_own i) (kept i false e)
-        ∙ all.single i (sym (ap is_none (kept i false e)) ∙ used)
-
-    at_unsent : (i : ℕ) (b : Bool) → is_own h (slice_index_or r.owner i None) ≡ b
-        → is_head (released h r.owner) i ≡ false → slice_index_or (set sent h []) i [] ≡ []
-    at_unsent i true e head = elim (cases_eq i h) [
-      | inl same ↦ set_none sent h i same
-      | inr ne ↦ set_at sent h i [] ne
-          ∙ all.unsent i (own_other h i (slice_index_or r.owner i None) ne e)
-    ]
-    at_unsent i false e head = elim (cases_eq i h) [
-      | inl same ↦ set_none sent h i same
-      | inr ne ↦ set_at sent h i [] ne
-          ∙ all.unsent i (sym (ap (is_own i) (kept i false e)) ∙ head)
-    ]
-
-    at_few : (i : ℕ) (b : Bool) → is_own h (slice_index_or r.owner i None) ≡ b
-        → is_head (released h r.owner) i ≡ true → i < 16
-    at_few i true e head =
-        (let gone : false ≡ true = sym (ap (is_own i) (kept i true e)) ∙ head in cc)
-    at_few i false e head = all.few i (sym (ap (is_own i) (kept i false e)) ∙ head)
+requests_taken r sent h all = grind (arith, length-set, released-at, set_none, set_at)
 
 pub requests_fresh : (page size : ℕ) (sent : List (List ℕ)) → length sent ≡ 16
     → ((i : ℕ) → slice_index_or sent i [] ≡ [])
     → AreRequests (record { ring = fresh_end (layout_of page size) size; sent = sent })
-requests_fresh page size sent len none =
-    record {
-      single = λ i used. (let gone : true ≡ false = sym (ap is_none (none_owned size i)) ∙ used in cc);
-      few = λ i head. (let gone : false ≡ true = sym (ap (is_own i) (none_owned size i)) ∙ head in cc);
-      buffers = len;
-      unsent = λ i head. none i;
-      short = λ i. omega (arith, ap (λ (l : List ℕ). length l) (none i));
-    }
+requests_fresh page size sent len none = grind (arith, none_owned)
 
 pub requests_taken_at : (r r2 : DriverEnd) (sent : List (List ℕ)) (h i : ℕ) (blank : List ℕ)
     → AreRequests (record { ring = r; sent = sent }) → r2 ≡ after_take r (Ok (Some h)) → i ≡ h
     → blank ≡ []
     → AreRequests (record { ring = r2; sent = set sent i blank })
-requests_taken_at r r2 sent h i blank all state at none =
-    subst (λ (v : DriverEnd). AreRequests (record { ring = v; sent = set sent i blank }))
-    (sym state)
-    (subst (λ (n : ℕ). AreRequests
-    (record { ring = after_take r (Ok (Some h)); sent = set sent n blank })) (sym at)
-    (subst (λ (l : List ℕ). AreRequests
-    (record { ring = after_take r (Ok (Some h)); sent = set sent h l })) (sym none)
-    (requests_taken r sent h all)))
+requests_taken_at r r2 sent h i blank all state at none = grind (arith, requests_taken r sent h all)
 
 pub requests_added_at : (r r2 : DriverEnd) (sent : List (List ℕ)) (h i : ℕ) (pages : List ℕ)
     → AreRequests (record { ring = r; sent = sent }) → IsDriverEnd r → next_head r ≡ Some h → h < 16
     → length pages ≤ 256 → r2 ≡ after_add r 1 (Ok h) → i ≡ h
     → AreRequests (record { ring = r2; sent = set sent i pages })
 requests_added_at r r2 sent h i pages all end e small few state at =
-    subst (λ (v : DriverEnd). AreRequests (record { ring = v; sent = set sent i pages }))
-    (sym state)
-    (subst (λ (n : ℕ). AreRequests
-    (record { ring = after_add r 1 (Ok h); sent = set sent n pages })) (sym at)
-    (requests_added r sent h pages all end e small few))
+    grind (arith, requests_added r sent h pages all end e small few)
 
 -- the facts of a queue that has room, from what is seen of it
 pub room_inside : (r : DriverEnd) (sent : List (List ℕ)) (now : RequestSide)

@@ -1,21 +1,18 @@
 -- Tables of places, as the pages of a run move that are all at one place.
-use Rattle.std.proofs.Common.{◌≡◌, ◌∙◌, sym, ap, arith, refl, ℕ, zero, suc, ◌+◌, ◌-◌, ◌<◌, ◌≤◌}
-use Rattle.std.proofs.Common.{Bool, true, false, cond, List, length, get_or, set, map}
-use Rattle.std.proofs.Common.{count_by, eq-eqb, eqb, if◌then◌else◌, inl, inr, min}
-use Rattle.std.proofs.lemmas.Bool.{cases_Bool, cases_eq, cases_lt, false_from_ne_true, le-ltb}
-use Rattle.std.proofs.lemmas.Bool.{lt-ltb}
+use Rattle.std.proofs.Common.{◌≡◌, ◌∙◌, sym, ap, arith, ℕ, zero, suc, ◌+◌, ◌-◌, ◌<◌, ◌≤◌}
+use Rattle.std.proofs.Common.{Bool, true, false, List, length, get_or, set, map}
+use Rattle.std.proofs.Common.{count_by, min}
 use Rattle.std.proofs.lemmas.List.{get_or_default, length-map, length-set, same_lists}
 use Rattle.std.proofs.lemmas.List.FromFn.{get_or-map-range_with_len, length-range_with_len}
 use Rattle.std.proofs.Math.Seq.{map-set_same}
 use Rattle.std.specs.List.{range_with_len}
 use Rattle.vb_model.specs.declared.places.Place.{Place}
-use Rattle.vb_model.specs.declared.places.Place.TheVariants.{Reserved, Free, Used, Giving, Lent}
-use Rattle.vb_model.specs.declared.places.Place.TheVariants.{Taking, Stranded, Reporting}
+use Rattle.vb_model.specs.declared.places.Place.TheVariants.{Reserved, Free}
 use Rattle.vb_model.specs.Tests.{is_in}
 use Rattle.vb_model.specs.Pages.{all_free, placed, place_of, is_lent, is_stranded}
 use Rattle.vb_model.proofs.PageSteps.{is_in-range, outside-range}
-use Rattle.vb_driver.specs.Places.{number_of, is_at, first_place, IsTable}
-use Rattle.vb_driver.proofs.Counting.{hits, hits_other, count_moves, counts_shifted, number_small}
+use Rattle.vb_driver.specs.Places.{number_of, is_at, IsTable}
+use Rattle.vb_driver.proofs.Counting.{hits, count_moves, counts_shifted, number_small}
 use Rattle.vb_driver.proofs.Placing.{length-marked, marked-get, marked_none, marked_more, range_push}
 
 -- these pages are at this place
@@ -25,39 +22,23 @@ pub record AreAt (places : List Place) (start n : ℕ) (place : Place) : Type 0 
 
 fewer : (places : List Place) (start n : ℕ) (place : Place) → AreAt places start (suc n) place
     → AreAt places start n place
-fewer places start n place are = record {
-  inside = omega (arith, are.inside);
-  each = λ page from before. are.each page from (omega arith);
-}
+fewer places start n place are = search (arith)
 
 -- the pages of a run, and the others
 pub in_range : (page start len : ℕ) → start ≤ page → page < start + len
     → is_in page (range_with_len start len) ≡ true
-in_range page start len from before = elim (cases_Bool (is_in page (range_with_len start len))) [
-  | inl there ↦ there
-  | inr away ↦ absurd (outside-range page start len away from before)
-]
+in_range page start len from before = grind (arith, outside-range)
 
 not_in_range : (page start len : ℕ) → (start ≤ page → page < start + len → ⊥)
     → is_in page (range_with_len start len) ≡ false
-not_in_range page start len away =
-    false_from_ne_true (is_in page (range_with_len start len))
-    (λ there. let bounds = is_in-range page start len there in away bounds.0 bounds.1)
+not_in_range page start len away = grind (arith, is_in-range)
 
 -- the pages of a run, the first of which is where it was found
 pub run_is : (places : List Place) (start next : ℕ) (old : Place) → start < next
     → next ≤ length places → old ≡ get_or places start old
     → ((page : ℕ) → start + 1 ≤ page → page < next → place_of places page ≡ old)
     → AreAt places start (next - start) old
-run_is places start next old further bound here same = record {
-  inside = omega arith;
-  each = λ page from before. elim (cases_eq page start) [
-    | inl first ↦
-        ap (place_of places) first
-        ∙ (get_or_default places start Reserved old (omega arith) ∙ sym here)
-    | inr later ↦ same page (omega (arith, later)) (omega arith)
-  ];
-}
+run_is places start next old further bound here same = search (arith, get_or_default)
 
 -- one page more of the run
 abbrev moved : List Place → ℕ → ℕ → Place → List Place
@@ -65,35 +46,20 @@ moved places start n place = placed (range_with_len start n) place places
 
 moved_more : (places : List Place) (start n : ℕ) (place : Place) → start + n < length places
     → moved places start (suc n) place ≡ set (moved places start n place) (start + n) place
-moved_more places start n place lt =
-    ap (λ (l : List ℕ). placed l place places) (range_push start n)
-    ∙ marked_more (range_with_len start n) (start + n) place places lt
+moved_more places start n place lt = grind (arith, range_push, marked_more)
 
 -- the next page of the run is where it was
 next_at : (places : List Place) (start n : ℕ) (new old d : Place)
     → AreAt places start (suc n) old → get_or (moved places start n new) (start + n) d ≡ old
-next_at places start n new old d are =
-    marked-get (range_with_len start n) new places (start + n) d (omega (arith, are.inside))
-    ∙ (ap (λ (b : Bool). cond b new (get_or places (start + n) d))
-    (not_in_range (start + n) start n (λ from before. omega (arith, before)))
-    ∙ (get_or_default places (start + n) d Reserved (omega (arith, are.inside))
-    ∙ are.each (start + n) (omega arith) (omega arith)))
+next_at places start n new old d are = search (arith, marked-get, not_in_range, get_or_default)
 
 -- ---- counts
 
 hits_more : (n a b : ℕ) → hits (suc n) a b ≡ hits n a b + hits 1 a b
-hits_more n a b = at (eqb a b)
-  where
-    at : (b : Bool) → cond b (suc n) 0 ≡ cond b n 0 + cond b 1 0
-    at true = omega arith
-    at false = omega arith
+hits_more n a b = grind arith
 
 no_hits : (a b : ℕ) → hits 0 a b ≡ 0
-no_hits a b = at (eqb a b)
-  where
-    at : (b : Bool) → cond b zero zero ≡ zero
-    at true = refl
-    at false = refl
+no_hits a b = grind arith
 
 pub run_counted : (places : List Place) (start n : ℕ) (new old which : Place)
     → AreAt places start n old
@@ -101,9 +67,7 @@ pub run_counted : (places : List Place) (start n : ℕ) (new old which : Place)
     + hits n (number_of old) (number_of which)
     ≡ count_by (is_at which) places + hits n (number_of new) (number_of which)
 run_counted places start zero new old which are =
-    let none = no_hits (number_of old) (number_of which) in
-    let none2 = no_hits (number_of new) (number_of which) in
-    omega (arith, ap (λ (l : List Place). count_by (is_at which) l) (marked_none new places))
+    grind (arith, no_hits (number_of new) (number_of which), marked_none new places)
 run_counted places start (suc n) new old which are =
     let before = moved places start n new in
     let w = number_of which in
@@ -126,25 +90,10 @@ abbrev other : Place → Place
 other Reserved = Free
 other _ = Reserved
 
-is_other : (place : Place) → number_of (other place) ≡ number_of place → ⊥
-is_other Reserved e = omega (arith, e)
-is_other Free e = omega (arith, e)
-is_other Used e = omega (arith, e)
-is_other Giving e = omega (arith, e)
-is_other Lent e = omega (arith, e)
-is_other Taking e = omega (arith, e)
-is_other Stranded e = omega (arith, e)
-is_other Reporting e = omega (arith, e)
-
 -- so many pages are at the place at least
 pub run_some : (places : List Place) (start n : ℕ) (old : Place) → AreAt places start n old
     → n ≤ count_by (is_at old) places
-run_some places start n old are =
-    let own : hits n (number_of old) (number_of old) ≡ n =
-    ap (λ (b : Bool). cond b n 0) (eq-eqb (number_of old) (number_of old) refl) in
-    let none : hits n (number_of (other old)) (number_of old) ≡ 0 =
-    hits_other n (number_of (other old)) (number_of old) (is_other old) in
-    omega (arith, run_counted places start n (other old) old old are)
+run_some places start n old are = grind (arith, run_counted places start n (other old) old old are)
 
 -- ---- sets
 
@@ -195,38 +144,14 @@ pub first_table : (places : List Place) (count reserved : ℕ) → reserved ≡ 
     → placed (range_with_len reserved (length places - reserved)) Free
     (placed (range_with_len 0 reserved) Reserved places) ≡ all_free count (length places)
 first_table places count reserved is =
-    let n : ℕ = length places in
-    let low = placed (range_with_len 0 reserved) Reserved places in
-    let all = placed (range_with_len reserved (n - reserved)) Free low in
-    let n1 : length low ≡ n = length-marked (range_with_len 0 reserved) Reserved places in
-    let n2 : length all ≡ length low =
-    length-marked (range_with_len reserved (n - reserved)) Free low in
-    same_lists all (all_free count n)
-    (omega (arith, length-map (range_with_len 0 n) (first_place count), length-range_with_len 0 n))
-    (λ k d near.
-    let inside : k < n = omega arith in
-    marked-get (range_with_len reserved (n - reserved)) Free low k d (omega arith)
-    ∙ (at k d inside
-    ∙ sym (get_or-map-range_with_len (first_place count) 0 n k k d inside (omega arith))))
-  where
-    at : (k : ℕ) (d : Place) → k < length places
-        → cond (is_in k (range_with_len reserved (length places - reserved))) Free
-        (get_or (placed (range_with_len 0 reserved) Reserved places) k d) ≡ first_place count k
-    at k d inside = elim (cases_lt k reserved) [
-      | inl low ↦
-          ap (λ (b : Bool). cond b Free
-          (get_or (placed (range_with_len 0 reserved) Reserved places) k d))
-          (not_in_range k reserved (length places - reserved)
-          (λ from before. omega (arith, low, from)))
-          ∙ (marked-get (range_with_len 0 reserved) Reserved places k d inside
-          ∙ (ap (λ (b : Bool). cond b Reserved (get_or places k d))
-          (in_range k 0 reserved (omega arith) (omega (arith, low)))
-          ∙ sym (ap (λ (b : Bool). if b then Reserved else Free)
-          (lt-ltb k count (omega (arith, low, is))))))
-      | inr high ↦
-          ap (λ (b : Bool). cond b Free
-          (get_or (placed (range_with_len 0 reserved) Reserved places) k d))
-          (in_range k reserved (length places - reserved) high (omega (arith, high, is)))
-          ∙ sym (ap (λ (b : Bool). if b then Reserved else Free)
-          (le-ltb k count (omega (arith, high, is, inside))))
-    ]
+    grind (
+      arith,
+      length-marked,
+      same_lists,
+      length-map,
+      length-range_with_len,
+      marked-get,
+      get_or-map-range_with_len,
+      not_in_range,
+      in_range,
+    )

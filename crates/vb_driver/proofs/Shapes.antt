@@ -1,15 +1,15 @@
 -- Where a driver's rings and buffers lie, and which pages have to have frames, whatever the size of
 -- the queues.
 use Rattle.std.proofs.Common.{◌≡◌, ◌≢◌, ◌∙◌, sym, ap, arith, refl, ℕ, zero, suc, ◌+◌, ◌<◌, ◌≤◌}
-use Rattle.std.proofs.Common.{Bool, true, false, cond, List, ◌∷◌, length, inl, inr, IsSome}
+use Rattle.std.proofs.Common.{Bool, true, false, cond, List, ◌∷◌, length, inl, inr}
 use Rattle.std.proofs.Common.{is_some, ◌&&◌}
-use Rattle.std.specs.Prelude.{filter, ◌==◌, if◌then◌else◌}
+use Rattle.std.specs.Prelude.{filter}
 use Rattle.std.specs.List.{list_all, range_with_len}
 use Rattle.std.proofs.lemmas.Bool.{cases_eq, and_parts}
 use Rattle.vb_model.specs.Layout.{reserved_pages, ring_number, ring_page, is_start_page}
 use Rattle.vb_model.specs.Layout.{buffers_page, buffer_page}
-use Rattle.vb_model.proofs.Shapes.{InRing, in_ring_page, ring_reserved, ring_no_buffer, rings_apart}
-use Rattle.vb_model.proofs.Shapes.{start_of_ring, start_reserved, reserved_most}
+use Rattle.vb_model.proofs.Shapes.{InRing, in_ring_page, rings_apart}
+use Rattle.vb_model.proofs.Shapes.{start_reserved}
 use Rattle.vb_ram.specs.Pages.{Pages, page_at, frame_at, SameBut}
 use Rattle.vb_ring.specs.declared.layout.Layout.{Layout}
 use Rattle.vb_ring.specs.Layout.{IsSize, IsInside, IsBacked, layout_of}
@@ -31,34 +31,15 @@ pub record IsBeside (l : Layout) (p : ℕ) : Type 0 where
 -- a ring's pages hold no buffers
 pub beside_buffers : (size q p : ℕ) → IsSize size → 4 ≤ p → p < 16
     → IsBeside (ring_layout size q) p
-beside_buffers size q p sized low high =
-    let parts = parts_in_ring size q sized in
-    record {
-      table = apart _ parts.table;
-      avail = apart _ parts.avail;
-      used = apart _ parts.used;
-    }
-  where
-    apart : (k : ℕ) → InRing size q k → p ≢ k
-    apart k at same = elim (ring_no_buffer size k (in_ring_page size q k at)) [
-      | inl below ↦ omega (arith, same, below)
-      | inr above ↦ omega (arith, same, above)
-    ]
+beside_buffers size q p sized low high = grind arith
 
 -- the buffers of a queue of requests begin at page 4 or 8
 pub buffers_between : (q : ℕ) → (4 ≤ buffers_page q) × (buffers_page q ≤ 8)
-buffers_between q = step (q == 0)
-  where
-    step : (b : Bool) → (4 ≤ (if b then 4 else 8)) × ((if b then 4 else 8) ≤ 8)
-    step true = (omega arith, omega arith)
-    step false = (omega arith, omega arith)
+buffers_between q = search (arith)
 
 pub buffers_beside : (size q k : ℕ) → IsSize size → k < 16
     → IsBeside (ring_layout size q) (buffer_page (buffers_page q) k)
-buffers_beside size q k sized few =
-    let between = buffers_between q in
-    beside_buffers size q (buffer_page (buffers_page q) k) sized (omega (arith, between.0))
-    (omega (arith, between.1))
+buffers_beside size q k sized few = grind arith
 
 -- and none of another ring
 pub beside_rings : (size a b p : ℕ) → IsSize size → ring_number b ≢ ring_number a → InRing size b p
@@ -73,34 +54,11 @@ beside_rings size a b p sized ne at =
 
 pub ring_inside : (size q : ℕ) (mem : Pages) → IsSize size → 64 ≤ length mem
     → IsInside mem (ring_layout size q)
-ring_inside size q mem sized large =
-    let parts = parts_in_ring size q sized in
-    record {
-      table = inside _ parts.table;
-      avail = inside _ parts.avail;
-      used = inside _ parts.used;
-    }
-  where
-    inside : (k : ℕ) → InRing size q k → k < length mem
-    inside k at = omega (
-      arith,
-      ring_reserved size k (in_ring_page size q k at),
-      reserved_most size,
-      large,
-    )
+ring_inside size q mem sized large = grind arith
 
 pub ring_backed : (size q : ℕ) (mem : Pages) → IsSize size → HaveRingFrames size mem
     → IsBacked mem (ring_layout size q)
-ring_backed size q mem sized backed =
-    let parts = parts_in_ring size q sized in
-    record {
-      table = has _ parts.table;
-      avail = has _ parts.avail;
-      used = has _ parts.used;
-    }
-  where
-    has : (k : ℕ) → InRing size q k → IsSome (frame_at mem k)
-    has k at = backed k (start_of_ring size k (in_ring_page size q k at))
+ring_backed size q mem sized backed = grind (arith, in_ring_page)
 
 -- ---- a ring whose pages are as before
 
@@ -112,11 +70,7 @@ pub record KeepsRing (old new : Pages) (l : Layout) : Type 0 where
 -- where another page was written to
 pub keeps_ring : (old new : Pages) (l : Layout) (p lo hi : ℕ) → IsBeside l p
     → SameBut old new p lo hi → KeepsRing old new l
-keeps_ring old new l p lo hi beside wrote = record {
-  table = wrote.others l.table (λ e. beside.table (sym e));
-  avail = wrote.others l.avail.page (λ e. beside.avail (sym e));
-  used = wrote.others l.used.page (λ e. beside.used (sym e));
-}
+keeps_ring old new l p lo hi beside wrote = search (arith)
 
 -- ---- the frames that a start needs
 
@@ -159,9 +113,7 @@ one_filtered test f k (suc n) p low high passes all = elim (cases_eq p k) [
 
 -- the test finds just the memories whose pages of rings and buffers all have frames
 pub all_frames : (size : ℕ) (mem : Pages) → HaveRingFrames size mem → has_frames size mem ≡ true
-all_frames size mem backed =
-    all_filtered (λ page. is_some (frame_at mem page)) (is_start_page size) 0 (reserved_pages size)
-    (λ p lt e. backed p e)
+all_frames size mem backed = grind (arith, all_filtered)
 
 pub frames_there : (size : ℕ) (mem : Pages) → has_frames size mem ≡ true → HaveRingFrames size mem
 frames_there size mem all page start =

@@ -1,14 +1,9 @@
 -- A device is asked for features, and its rings begin.
 use Rattle.std.proofs.Common.{inl, inr}
-use Rattle.std.proofs.Common.{◌≡◌, ◌≢◌, ◌∙◌, sym, subst, ap, refl, arith, ℕ, ◌<◌, Bool, true}
-use Rattle.std.proofs.Common.{false, not, [], ◌∷◌, None, Some, Result, Ok, Err, is_err, OnOk}
-use Rattle.vb_model.specs.declared.negotiation.TheConstants.{OFFERED_FEATURES}
+use Rattle.std.proofs.Common.{◌≡◌, ◌≢◌, ◌∙◌, sym, subst, refl, arith, ℕ, ◌<◌, true}
+use Rattle.std.proofs.Common.{false, [], None, Some, Result, Ok, Err, is_err, OnOk}
 use Rattle.vb_model.specs.declared.replies.Refusal.{Refusal}
-use Rattle.vb_model.specs.declared.replies.Refusal.TheVariants.{OutOfOrder, FeatureNotOffered}
-use Rattle.vb_model.specs.declared.replies.Refusal.TheVariants.{VersionMissing}
-use Rattle.vb_model.specs.Guest.{version_1}
-use Rattle.vb_model.specs.Refusals.{◌⇒◌, first_refusal}
-use Rattle.vb_model.specs.Status.{contains, negotiate_refusal, status_refusal, status_tests}
+use Rattle.vb_model.specs.Status.{negotiate_refusal, status_refusal}
 use Rattle.vb_model.specs.Life.{feature_refusal, accepted_before}
 use Rattle.vb_ram.specs.Pages.{Pages, byte_at, SameIn}
 use Rattle.vb_ram.proofs.FieldLaws.{same_page}
@@ -28,27 +23,12 @@ use Rattle.vb_driver.specs.Calls.{IsNewRing, with_nothing_out}
 -- features that are offered are refused for what FEATURES_OK needs alone
 pub offered_then : (wanted : ℕ) → negotiate_refusal 3 wanted ≡ None
     → feature_refusal wanted ≡ status_refusal 3 wanted 11
-offered_then wanted h = at (contains OFFERED_FEATURES wanted) h
-  where
-    at : (offered : Bool)
-        → first_refusal ((not true ⇒ OutOfOrder) ∷ (not offered ⇒ FeatureNotOffered) ∷ []) ≡ None
-        → first_refusal ((not true ⇒ OutOfOrder) ∷ (not offered ⇒ FeatureNotOffered)
-        ∷ status_tests 3 wanted 11) ≡ first_refusal (status_tests 3 wanted 11)
-    at true e = refl
-    at false e = cc
+offered_then wanted h = search (arith)
 
 -- and were accepted then
 pub accepted_then : (wanted : ℕ) (refusal : Refusal) → Some refusal ≡ status_refusal 3 wanted 11
     → accepted_before refusal wanted ≡ wanted
-accepted_then wanted refusal e = at (version_1 wanted) e
-  where
-    same : (r : Refusal) → Some refusal ≡ Some r → refusal ≡ r
-    same r h = cc
-
-    at : (version : Bool) → Some refusal ≡ first_refusal ((not version ⇒ VersionMissing) ∷ [])
-        → accepted_before refusal wanted ≡ wanted
-    at false h = ap (λ (r : Refusal). accepted_before r wanted) (same VersionMissing h)
-    at true h = cc
+accepted_then wanted refusal e = search (arith)
 
 -- the pages of all rings are zeros
 abbrev pub AreZeros : ℕ → Pages → Type 0
@@ -105,11 +85,7 @@ pub record OthersFresh (d : DriverState) (size : ℕ) : Type 0 where
 
 pub others_fresh : (d1 d2 d3 : DriverState) → d2 ≡ with_nothing_out d1
     → d3 ≡ record d2 { statistics = d3.statistics } → OthersFresh d3 d1.queue_size
-others_fresh d1 d2 d3 e f = record {
-  inflate = ap (λ (d : DriverState). d.inflate.ring) f ∙ ap (λ (d : DriverState). d.inflate.ring) e;
-  deflate = ap (λ (d : DriverState). d.deflate.ring) f ∙ ap (λ (d : DriverState). d.deflate.ring) e;
-  report = ap (λ (d : DriverState). d.report.ring) f ∙ ap (λ (d : DriverState). d.report.ring) e;
-}
+others_fresh d1 d2 d3 e f = search (arith)
 
 -- ---- answers
 

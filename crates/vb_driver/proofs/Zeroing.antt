@@ -1,59 +1,26 @@
 -- Zeros written to guest memory.
-use Rattle.std.proofs.Common.{◌≡◌, ◌∙◌, sym, ap, arith, ℕ, ◌+◌, ◌-◌, ◌<◌, ◌≤◌, replicate, length}
-use Rattle.std.proofs.Common.{◌≢◌, ◌⊎◌, ◌&&◌, nat_lt, refl, Bool, true, false, inl, inr}
-use Rattle.std.proofs.lemmas.Bool.{cases_lt, cases_eq, lt-ltb, le-ltb}
-use Rattle.std.proofs.lemmas.Bool.Decides.{nat_tests}
+use Rattle.std.proofs.Common.{◌≡◌, ◌∙◌, sym, ap, arith, ℕ, ◌+◌, ◌-◌, ◌<◌, replicate, length}
+use Rattle.std.proofs.Common.{◌≢◌, ◌&&◌, nat_lt, Bool, true, false, inl, inr}
+use Rattle.std.proofs.lemmas.Bool.{cases_eq, lt-ltb}
 use Rattle.std.proofs.lemmas.List.{length-replicate, get_or-replicate}
 use Rattle.vb_ram.specs.Pages.{Pages, byte_at, SameBut, Wrote}
 use Rattle.vb_ram.proofs.FieldLaws.{same_page, but_trans, but_wider}
 use Rattle.vb_driver.specs.Coding.{AreZeroed}
 
--- the same where another test finds the same pages
-pub zeroed_as : (m1 m2 : Pages) (f g : ℕ → Bool) → ((p : ℕ) → g p ≡ f p) → AreZeroed m1 m2 f
-    → AreZeroed m1 m2 g
-zeroed_as m1 m2 f g same before = record {
-  zero = λ p o passes inside. before.zero p o (sym (same p) ∙ passes) inside;
-  others = λ p fails. before.others p (sym (same p) ∙ fails);
-  backing = before.backing;
-  sizes = before.sizes;
-  count = before.count;
-}
-
 -- the pages below n that pass
 abbrev pub passed : (ℕ → Bool) → ℕ → ℕ → Bool
 passed f n p = f p && nat_lt p n
 
-none_passed : (f : ℕ → Bool) (p : ℕ) → passed f 0 p ≡ false
-none_passed f p = grind (arith, nat_tests)
-
 pub zeroed_none : (m : Pages) (f : ℕ → Bool) → AreZeroed m m (passed f 0)
-zeroed_none m f = record {
-  zero = λ p o passes inside.
-      absurd (let wrong : false ≡ true = sym (none_passed f p) ∙ passes in cc);
-  others = λ p fails. refl;
-  backing = λ p. refl;
-  sizes = λ p. refl;
-  count = refl;
-}
+zeroed_none m f = grind arith
 
 other_passed : (f : ℕ → Bool) (n p : ℕ) → p ≢ n → passed f (n + 1) p ≡ passed f n p
-other_passed f n p ne = ap (λ (b : Bool). f p && b) (same (cases_lt p n))
-  where
-    same : ((p < n) ⊎ (n ≤ p)) → nat_lt p (n + 1) ≡ nat_lt p n
-    same (inl lt) = lt-ltb p (n + 1) (omega arith) ∙ sym (lt-ltb p n lt)
-    same (inr le) = le-ltb p (n + 1) (omega (arith, ne)) ∙ sym (le-ltb p n le)
+other_passed f n p ne = grind arith
 
 -- a page that doesn't pass
 pub pages_past : (m1 m2 : Pages) (f : ℕ → Bool) (n : ℕ) → f n ≡ false
     → AreZeroed m1 m2 (passed f n) → AreZeroed m1 m2 (passed f (n + 1))
-pages_past m1 m2 f n fails before =
-    zeroed_as m1 m2 (passed f n) (passed f (n + 1)) (λ p. elim (cases_eq p n) [
-      | inl is ↦ out (n + 1) p is ∙ sym (out n p is)
-      | inr ne ↦ other_passed f n p ne
-    ]) before
-  where
-    out : (k p : ℕ) → p ≡ n → passed f k p ≡ false
-    out k p is = ap (λ (b : Bool). b && nat_lt p k) (ap f is ∙ fails)
+pages_past m1 m2 f n fails before = grind arith
 
 -- one page of zeros more
 pub pages_more : (m1 m2 m3 : Pages) (f : ℕ → Bool) (n : ℕ) → f n ≡ true
@@ -82,8 +49,4 @@ pages_more m1 m2 m3 f n passes before zero rest = record {
 -- once all pages that may pass were visited
 pub pages_all : (m1 m2 : Pages) (f : ℕ → Bool) (n : ℕ) → ((p : ℕ) → f p ≡ true → p < n)
     → AreZeroed m1 m2 (passed f n) → AreZeroed m1 m2 f
-pages_all m1 m2 f n below before = zeroed_as m1 m2 (passed f n) f (λ p. at p (f p) refl) before
-  where
-    at : (p : ℕ) (b : Bool) → f p ≡ b → f p ≡ passed f n p
-    at p true e = e ∙ sym (ap (λ (b : Bool). b && nat_lt p n) e ∙ lt-ltb p n (below p e))
-    at p false e = e ∙ sym (ap (λ (b : Bool). b && nat_lt p n) e)
+pages_all m1 m2 f n below before = grind arith

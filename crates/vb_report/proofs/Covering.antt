@@ -37,13 +37,7 @@ covered_more p [] b = ends (covers p (block_of b))
     ends : (v : Bool) → (v || false) ≡ v
     ends true = refl
     ends false = refl
-covered_more p (x ∷ bs) b =
-    ap (λ (v : Bool). covers p (block_of x) || v) (covered_more p bs b)
-    ∙ either (covers p (block_of x)) (is_covered p bs) (covers p (block_of b))
-  where
-    either : (x y z : Bool) → (x || (y || z)) ≡ ((x || y) || z)
-    either true y z = refl
-    either false y z = refl
+covered_more p (x ∷ bs) b = grind (arith, covered_more p bs b)
 
 -- a block that covers the page, and what is known of it
 pub covering : (P : FreeBlock → Type 0) (p : ℕ) (bs : List FreeBlock) → All P bs

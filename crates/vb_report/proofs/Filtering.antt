@@ -9,15 +9,7 @@ use Rattle.std.proofs.lemmas.Bool.{cases_eq}
 pub filter_twice : {A : Type 0} (keep test : A → Bool) (xs : List A)
     → filter keep (filter test xs) ≡ filter (λ x. test x && keep x) xs
 filter_twice keep test [] = refl
-filter_twice {A = A} keep test (x ∷ xs) = step (test x) (filter_twice keep test xs)
-  where
-    step : (v : Bool)
-        → filter keep (filter test xs) ≡ filter (λ y. test y && keep y) xs
-        → filter keep (cond v (x ∷ filter test xs) (filter test xs))
-        ≡ cond (v && keep x) (x ∷ filter (λ y. test y && keep y) xs)
-        (filter (λ y. test y && keep y) xs)
-    step true ih = ap (λ (ys : List A). cond (keep x) (x ∷ ys) ys) ih
-    step false ih = ih
+filter_twice {A = A} keep test (x ∷ xs) = grind (arith, filter_twice keep test xs)
 
 -- ---- a list by number
 

@@ -74,9 +74,7 @@ with_areas s set = record s { free = record s.free { areas = set } }
 -- the first block, and then the others
 pub with_first : (s : PageState) (b : FreeBlock) (bs : List FreeBlock)
     → with_blocks bs (with_free_block (block_of b) s) ≡ with_blocks (b ∷ bs) s
-with_first s b bs =
-    ap (with_areas s)
-    (with_append_turned (pages_of_all (blocks_of bs)) (pages_of (block_of b)) s.free.areas)
+with_first s b bs = grind (arith, with_append_turned)
 
 pub with_no_block : (s : PageState) → with_blocks [] s ≡ s
 with_no_block s = ap (with_areas s) (with_none s.free.areas)
@@ -143,11 +141,11 @@ pub giving_next : (old now next : PageState) (all left : List FreeBlock) (b : Fr
     (bs : List FreeBlock) → left ≡ b ∷ bs → IsGiving old now all left
     → next ≡ with_free_block (block_of b) now → IsGiving old next all bs
 giving_next old now next all left b bs e g is =
-    subst (λ (s : PageState). IsGiving old s all bs) (sym is) (record {
-      room = rest_has_room now b bs (subst (λ (xs : List FreeBlock). HaveRoom now xs) e g.room);
-      same = with_first now b bs
-          ∙ (ap (λ (xs : List FreeBlock). with_blocks xs now) (sym e) ∙ g.same);
-    })
+    grind (
+      arith,
+      rest_has_room now b bs (subst (λ (xs : List FreeBlock). HaveRoom now xs) e g.room),
+      with_first now b bs,
+    )
 
 pub giving_done : (old now : PageState) (all left : List FreeBlock) → left ≡ []
     → IsGiving old now all left → now ≡ with_blocks all old

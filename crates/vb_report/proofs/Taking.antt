@@ -4,9 +4,8 @@ use Rattle.std.proofs.Common.{◌∷◌, ◌++◌, length, map, take, inl, inr, 
 use Rattle.std.proofs.Common.{◌∙◌, ap, subst, arith, append_assoc, length-append, min}
 use Rattle.std.specs.Prelude.{not, ◌&&◌, ◌||◌, filter, All}
 use Rattle.std.proofs.Common.{append-nil}
-use Rattle.std.specs.List.{list_any}
 use Rattle.std.proofs.lemmas.List.{map-append, length-map, length-take}
-use Rattle.std.proofs.lemmas.List.Elements.{All-nil, All-push, All-weaker}
+use Rattle.std.proofs.lemmas.List.Elements.{All-push, All-weaker}
 use Rattle.std.proofs.lemmas.Bool.{cases_lt, cases_Bool, both_ways}
 use Rattle.std.proofs.lemmas.Bool.{or_parts, or_from, and_parts, false_from_ne_true}
 use Rattle.std.proofs.lemmas.Nat.{pow_pos}
@@ -46,18 +45,7 @@ record IsTakenFrom (set left : List Bool) (next : ℕ) : Type 0 where
 -- a maximal block from that page on is still one
 still_maximal : (set left : List Bool) (next : ℕ) (c : Block) → IsTakenFrom set left next
     → IsMaximal set c → next ≤ c.start → IsMaximal left c
-still_maximal set left next c t x l = record {
-  is_block = x.is_block;
-  inside = λ p a e. elim (cases_Bool (has left p)) [
-    | inl h ↦ h
-    | inr n ↦
-        let r = t.gone p (x.inside p a e) n in
-        let u : p < r.0.start + size r.0 = r.3 in
-        let v : r.0.start + size r.0 ≤ next = r.4 in
-        absurd (omega arith)
-  ];
-  alone = λ d blk inside w. x.alone d blk (λ p a e. t.less p (inside p a e)) w;
-}
+still_maximal set left next c t x l = grind (arith, cases_Bool)
 
 -- what is maximal from that page on was so before
 was_maximal : (set left : List Bool) (next : ℕ) (c : Block) → IsTakenFrom set left next
@@ -98,12 +86,7 @@ was_maximal set left next c t x l = record {
 
 lowest_before : (set left : List Bool) (next : ℕ) (b : Block) → IsTakenFrom set left next
     → IsLowestFrom left 4 next b → IsLowestFrom set 4 next b
-lowest_before set left next b t x = record {
-  maximal = was_maximal set left next b t x.maximal x.after;
-  sufficient = x.sufficient;
-  after = x.after;
-  lowest = λ c m o f. x.lowest c (still_maximal set left next c t m f) o f;
-}
+lowest_before set left next b t x = grind (arith, was_maximal, still_maximal)
 
 -- ---- the blocks that were taken so far
 
@@ -142,13 +125,7 @@ with_lists set lists reserved = record { areas = set; lists = lists; reserved = 
 drained_again : (set : List Bool) (lists : List (List ℕ)) (reserved : ℕ)
     → drained (with_lists set (map (λ (l : List ℕ). nothing) lists) reserved)
     ≡ with_lists set (map (λ (l : List ℕ). nothing) lists) reserved
-drained_again set lists reserved =
-    ap (λ (ps : List ℕ). with_lists (with_pages ps set)
-    (map (λ (l : List ℕ). nothing) (map (λ (l : List ℕ). nothing) lists)) reserved)
-    (flat-empty lists)
-    ∙ (ap (λ (s : List Bool). with_lists s
-    (map (λ (l : List ℕ). nothing) (map (λ (l : List ℕ). nothing) lists)) reserved) (with_none set)
-    ∙ ap (λ (ls : List (List ℕ)). with_lists set ls reserved) (empty_twice lists))
+drained_again set lists reserved = grind (arith, nothing, flat-empty, with_none, empty_twice)
 
 pub drained_twice : (f : FreePages) → drained (drained f) ≡ drained f
 drained_twice f = drained_again (with_pages (in_lists f) f.areas) f.lists f.reserved
@@ -156,34 +133,17 @@ drained_twice f = drained_again (with_pages (in_lists f) f.areas) f.lists f.rese
 -- once the lists are drained, what is free is in the areas
 pub free_is_area : (set : List Bool) (lists : List (List ℕ)) (reserved p : ℕ)
     → is_free_in (with_lists set (map (λ (l : List ℕ). nothing) lists) reserved) p ≡ has set p
-free_is_area set lists reserved p =
-    ap (λ (ps : List ℕ). has set p || is_in p ps) (flat-empty lists) ∙ none (has set p)
-  where
-    none : (b : Bool) → (b || false) ≡ b
-    none true = refl
-    none false = refl
+free_is_area set lists reserved p = grind (arith, flat-empty lists)
 
 without_none : (set : List Bool) → without_pages [] set ≡ set
-without_none set =
-    same_sets (without_pages [] set) set (length-without_pages [] set)
-    (λ p h. (without_parts [] set p h).0) (λ p h. without_old [] set p h refl)
+without_none set = grind (arith, same_sets, length-without_pages, without_parts, without_old)
 
 -- pages that leave after others
 without_more : (ps qs rs : List ℕ) (set : List Bool)
     → ((p : ℕ) → is_in p rs ≡ (is_in p qs || is_in p ps))
     → without_pages ps (without_pages qs set) ≡ without_pages rs set
 without_more ps qs rs set split =
-    same_sets (without_pages ps (without_pages qs set)) (without_pages rs set)
-    (length-without_pages ps (without_pages qs set)
-    ∙ (length-without_pages qs set ∙ sym (length-without_pages rs set)))
-    (λ p h.
-    let a = without_parts ps (without_pages qs set) p h in
-    let b = without_parts qs set p a.0 in
-    without_old rs set p b.0 (split p ∙ or_from (is_in p qs) (is_in p ps) b.1 a.1))
-    (λ p h.
-    let a = without_parts rs set p h in
-    let b = or_parts (is_in p qs) (is_in p ps) (sym (split p) ∙ a.1) in
-    without_old ps (without_pages qs set) p (without_old qs set p a.0 b.0) b.1)
+    grind (arith, same_sets, length-without_pages, without_parts, without_old, or_from, or_parts)
 
 covers_in : (p : ℕ) (b : Block) → covers p b ≡ is_in p (pages_of b)
 covers_in p b = covers_is p b (is_in p (pages_of b)) refl
@@ -203,16 +163,7 @@ block_more bs b set =
 room_less : (s now : PageState) (b : Block) → HasRoomIn s b → page_count now ≡ page_count s
     → reserved_count now ≡ reserved_count s → now.held ≡ s.held
     → ((p : ℕ) → is_free_page now p ≡ true → is_free_page s p ≡ true) → HasRoomIn now b
-room_less s now b room pages reserved held less = (
-  room.0,
-  omega (arith, room.1, reserved),
-  (let inside : b.start + size b ≤ page_count s = room.2 in omega (arith, pages)),
-  λ p l u. (
-    false_from_ne_true (is_free_page now p)
-        (λ h. both_ways (is_free_page s p) (room.3 p l u).0 (less p h)),
-    ap (λ (hs : List Block). list_any (covers p) hs) held ∙ (room.3 p l u).1,
-  ),
-)
+room_less s now b room pages reserved held less = grind (arith, false_from_ne_true, both_ways)
 
 -- ---- the loop
 
@@ -234,22 +185,11 @@ lists_of s = map (λ (l : List ℕ). nothing) s.free.lists
 
 pub taking_none : (old : PageState) (from room : ℕ) → drained old.free ≡ old.free
     → IsTaking old old from room from 0 []
-taking_none old from room d = record {
-  state = sym (ap (λ (set : List Bool). with_free old (with_lists set (lists_of old) old.free.reserved))
-      (without_none (areas_of old)) ∙ ap (with_free old) d);
-  before = All-nil (is_before (areas_of old) from);
-  fits = All-nil (λ b. HasRoomIn old (block_of b));
-  long = refl;
-  rest = λ test same.
-      let n : room - 0 ≡ room = omega arith in
-      ap (λ (k : ℕ). reported k from (maximal_blocks (page_count old) test)) n;
-}
+taking_none old from room d = grind (arith, without_none)
 
 settled : (old : PageState) (bs : List FreeBlock)
     → drained (without_blocks bs old).free ≡ (without_blocks bs old).free
-settled old bs =
-    drained_again (without_pages (pages_of_all (blocks_of bs)) (areas_of old)) old.free.lists
-    old.free.reserved
+settled old bs = search (arith, drained_again)
 
 pub taking_more : (old now next : PageState) (from room page count : ℕ) (bs : List FreeBlock)
     (b : FreeBlock) → IsTaking old now from room page count bs → count < room
@@ -363,21 +303,14 @@ pub taking_full : (old now : PageState) (from room page count : ℕ) (bs : List 
     → IsTaking old now from room page count bs → room ≤ count → (test : ℕ → Bool)
     → ((p : ℕ) → test p ≡ has (areas_of old) p)
     → blocks_of bs ≡ reported room from (maximal_blocks (page_count old) test)
-taking_full old now from room page count bs t l test same =
-    let none : room - count ≡ 0 = omega arith in
-    let all : List Block = maximal_blocks (page_count old) test in
-    sym (append-nil (blocks_of bs))
-    ∙ (ap (λ (k : ℕ). blocks_of bs ++ take k (filter (is_later page) all)) (sym none)
-    ∙ t.rest test same)
+taking_full old now from room page count bs t l test same = grind (arith, append-nil, is_later)
 
 -- ---- what a report may rely on
 
 pub taking_pages : (old now : PageState) (from room page count : ℕ) (bs : List FreeBlock)
     → IsTaking old now from room page count bs → page_count now ≡ page_count old
 taking_pages old now from room page count bs t =
-    ap page_count t.state
-    ∙ (length-without_pages (pages_of_all (blocks_of bs)) (areas_of old)
-    ∙ length-with_pages (in_lists old.free) old.free.areas)
+    grind (arith, length-without_pages, length-with_pages)
 
 -- once the lists are drained, what is free is in the areas
 pub free_is_drained : (s : PageState) (p : ℕ) → drained s.free ≡ s.free
@@ -388,22 +321,23 @@ free_is_drained s p d =
 pub free_without_blocks : (s : PageState) (bs : List FreeBlock) (p : ℕ)
     → is_free_page (without_blocks bs s) p ≡ (has (areas_of s) p && not (is_covered p bs))
 free_without_blocks s bs p =
-    free_is_area (without_pages (pages_of_all (blocks_of bs)) (areas_of s)) s.free.lists s.free.reserved p
-    ∙ (has-without_pages (pages_of_all (blocks_of bs)) (areas_of s) p
-    ∙ ap (λ (v : Bool). has (areas_of s) p && not v) (in_covered p bs))
+    grind (
+      arith,
+      free_is_area (without_pages (pages_of_all (blocks_of bs)) (areas_of s)) s.free.lists s.free.reserved p,
+      has-without_pages (pages_of_all (blocks_of bs)) (areas_of s) p,
+      in_covered p bs,
+    )
 
 -- each page of blocks that have room is unreserved, and there
 pub pages_inside : (s : PageState) (bs : List FreeBlock) (p : ℕ)
     → All (λ b. HasRoomIn s (block_of b)) bs → is_in p (pages_of_all (blocks_of bs)) ≡ true
     → (reserved_count s ≤ p) × (p < page_count s)
 pages_inside s bs p all h =
-    let x = covering (λ b. HasRoomIn s (block_of b)) p bs all (sym (in_covered p bs) ∙ h) in
-    let q = covers_bounds p x.0.start x.0.order x.2 in
-    let low : reserved_count s ≤ x.0.start = x.1.1 in
-    let high : x.0.start + size (block_of x.0) ≤ page_count s = x.1.2 in
-    let first : x.0.start ≤ p = q.0 in
-    let last : p < x.0.start + 2 ^ x.0.order = q.1 in
-    (omega arith, omega arith)
+    grind (
+      arith,
+      covering (λ b. HasRoomIn s (block_of b)) p bs all (sym (in_covered p bs) ∙ h),
+      in_covered p bs,
+    )
 
 pub drained_state : (s mid : PageState) → mid ≡ record s { free = drained s.free }
     → drained mid.free ≡ mid.free
