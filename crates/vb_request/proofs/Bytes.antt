@@ -1,6 +1,6 @@
 -- Bytes of guest memory in a row.
 use Rattle.std.specs.Prelude.{◌≡◌, ℕ, ◌+◌, ◌-◌, ◌/◌, ◌%◌, ◌<◌, ◌≤◌, ◌⊎◌, true, false, List, [], ◌∷◌}
-use Rattle.std.specs.Prelude.{◌++◌, length, slice_index, Result, Ok, Err, refl, Bool, not, if◌then◌else◌}
+use Rattle.std.specs.Prelude.{◌++◌, length, slice_index, Result, Ok, Err, refl, Bool, if◌then◌else◌}
 use Rattle.std.specs.List.{list_any}
 use Rattle.std.proofs.Common.{sym, ◌∙◌, ap, arith, get_or, take, inl, inr, length-append}
 use Rattle.std.proofs.lemmas.Bool.{cases_lt}
@@ -77,26 +77,19 @@ pub pieces_more : (mem : Pages) (pieces : List Piece) (i : ℕ) (d : Piece) (so_
     → new ≡ bytes_of mem (take (i + 1) pieces)
 unfolding bytes_of
 pieces_more mem pieces i d so_far new lt e f =
-    f ∙ (ap (λ xs. xs ++ bytes_from mem (get_or pieces i d).addr (get_or pieces i d).len) e
-    ∙ sym (ap (bytes_of mem) (take_more pieces i d lt)
-    ∙ (flat_map-append (λ piece. bytes_from mem piece.addr piece.len) (take i pieces)
-    (get_or pieces i d ∷ [])
-    ∙ ap (λ xs. bytes_of mem (take i pieces) ++ xs)
-    (append-nil (bytes_from mem (get_or pieces i d).addr (get_or pieces i d).len)))))
+    grind (
+      arith,
+      take_more pieces i d lt,
+      flat_map-append (λ piece. bytes_from mem piece.addr piece.len) (take i pieces) (get_or pieces i d ∷ []),
+      append-nil (bytes_from mem (get_or pieces i d).addr (get_or pieces i d).len),
+    )
 
 pub pieces_count : (mem : Pages) (pieces : List Piece) (i : ℕ) (d : Piece) (so_far new : List ℕ) →
     i < length pieces → length so_far ≡ total_length (take i pieces) →
     new ≡ so_far ++ bytes_from mem (get_or pieces i d).addr (get_or pieces i d).len
     → length new ≡ total_length (take (i + 1) pieces)
 pieces_count mem pieces i d so_far new lt e f =
-    let all : length new ≡
-    length so_far + length (bytes_from mem (get_or pieces i d).addr (get_or pieces i d).len) =
-    ap (λ (xs : List ℕ). length xs) f ∙
-    length-append so_far (bytes_from mem (get_or pieces i d).addr (get_or pieces i d).len) in
-    all ∙ (ap (λ n. n + length (bytes_from mem (get_or pieces i d).addr (get_or pieces i d).len)) e
-    ∙ (ap (λ n. total_length (take i pieces) + n)
-    (bytes_from-length mem (get_or pieces i d).addr (get_or pieces i d).len) ∙
-    sym (sum_by_more (λ piece. piece.len) pieces i d lt)))
+    grind (arith, length-append, bytes_from-length, sum_by_more)
 
 -- ---- the three answers to a chain
 
@@ -104,34 +97,24 @@ refused_before : (writes wrong : Bool) (n : ℕ) (named : Result (List ℕ) Chai
     (fault : ChainFault)
     → (if writes then Err WrongDirection else (if wrong then Err BadLength else Ok n)) ≡ Err fault
     → (if writes then Err WrongDirection else (if wrong then Err BadLength else named)) ≡ Err fault
-refused_before true wrong n named fault e = cc
-refused_before false true n named fault e = cc
-refused_before false false n named fault e = absurd cc
+refused_before writes wrong n named fault e = search (arith)
 
 read_behind : (writes wrong : Bool) (n m : ℕ) (named : Result (List ℕ) ChainFault)
     → (if writes then Err WrongDirection else (if wrong then Err BadLength else Ok n)) ≡ Ok m
     → (if writes then Err WrongDirection else (if wrong then Err BadLength else named)) ≡ named
-read_behind true wrong n m named e = absurd cc
-read_behind false true n m named e = absurd cc
-read_behind false false n m named e = refl
+read_behind writes wrong n m named e = search (arith)
 
 pub refused_request : (mem : Pages) (pieces : List Piece) (reserved : ℕ) (fault : ChainFault)
     → request_length pieces ≡ Err fault → page_request mem pieces reserved ≡ Err fault
 unfolding page_request
-refused_request mem pieces reserved fault e =
-    refused_before (list_any (λ piece. piece.writable) pieces)
-    (not (is_request_length (total_length pieces))) (total_length pieces)
-    (pages_of_numbers reserved (length mem) (numbers_of (bytes_of mem pieces))) fault e
+refused_request mem pieces reserved fault e = grind (arith, refused_before)
 
 pub read_numbers : (mem : Pages) (pieces : List Piece) (reserved total : ℕ)
     → request_length pieces ≡ Ok total
     → page_request mem pieces reserved
     ≡ pages_of_numbers reserved (length mem) (numbers_of (bytes_of mem pieces))
 unfolding page_request
-read_numbers mem pieces reserved total e =
-    read_behind (list_any (λ piece. piece.writable) pieces)
-    (not (is_request_length (total_length pieces))) (total_length pieces) total
-    (pages_of_numbers reserved (length mem) (numbers_of (bytes_of mem pieces))) e
+read_numbers mem pieces reserved total e = grind (arith, read_behind)
 
 pub by_numbers : (mem : Pages) (pieces : List Piece) (reserved : ℕ)
     → list_any (λ piece. piece.writable) pieces ≡ false

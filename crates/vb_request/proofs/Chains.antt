@@ -1,6 +1,6 @@
 -- The pieces of a chain lie in memory, as `read_chain_into` wants them.
-use Rattle.std.specs.Prelude.{◌≡◌, ℕ, ◌+◌, ◌<◌, ◌≤◌, Bool, true, false, List, ◌∷◌, [], All, length}
-use Rattle.std.specs.Prelude.{map, slice_index, None, nat_lt, nat_le, not, ◌&&◌, refl}
+use Rattle.std.specs.Prelude.{◌≡◌, ℕ, ◌+◌, ◌<◌, ◌≤◌, Bool, false, List, ◌∷◌, [], All, length}
+use Rattle.std.specs.Prelude.{map, slice_index, None}
 use Rattle.std.specs.List.{list_any}
 use Rattle.std.proofs.Common.{sym, subst, arith, take}
 use Rattle.std.proofs.lemmas.Bool.{ltb-false}
@@ -9,26 +9,17 @@ use Rattle.std.proofs.lemmas.List.Elements.{All-from_get_or}
 use Rattle.vb_chain.specs.declared.descriptor.Descriptor.{Descriptor}
 use Rattle.vb_chain.specs.declared.pieces.Piece.{Piece}
 use Rattle.vb_chain.specs.declared.fault.ChainFault.{ChainFault}
-use Rattle.vb_chain.specs.declared.fault.ChainFault.TheVariants.{BadNext, TooLong, Indirect}
-use Rattle.vb_chain.specs.declared.fault.ChainFault.TheVariants.{WrongDirection, OutOfRam}
-use Rattle.vb_chain.specs.Rules.{piece_of, first_broken, first_fault, is_indirect, is_writable}
-use Rattle.vb_chain.specs.Rules.{has_next}
+use Rattle.vb_chain.specs.Rules.{piece_of, first_broken, first_fault, is_writable}
 use Rattle.vb_chain.specs.Chain.{ChainGives}
 use Rattle.vb_chain.specs.Written.{empty}
 
 second_holds : (b c : Bool) (f h : ChainFault) (rest : List (Bool × ChainFault)) →
     first_broken ((b, f) ∷ (c, h) ∷ rest) ≡ None → c ≡ false
-second_holds true c f h rest e = absurd cc
-second_holds false true f h rest e = absurd cc
-second_holds false false f h rest e = refl
+second_holds b c f h rest e = search (arith)
 
 fits_of : (q end : ℕ) (writing : Bool) (k : ℕ) (x : Descriptor) →
     first_fault q end writing k x ≡ None → x.addr + x.len ≤ end
-fits_of q end writing k x e =
-    ltb-false end (x.addr + x.len)
-    (second_holds (is_indirect x) (nat_lt end (x.addr + x.len)) Indirect OutOfRam
-    ((writing && not (is_writable x), WrongDirection) ∷ (has_next x && nat_le q x.next, BadNext) ∷
-    (has_next x && nat_le q (k + 1), TooLong) ∷ []) e)
+fits_of q end writing k x e = grind (arith, ltb-false, second_holds)
 
 pub chain_fits : (d : ℕ → Descriptor) (q end h : ℕ) (pieces : List Piece) →
     ChainGives d q end h pieces → All (λ piece. piece.addr + piece.len ≤ end) pieces

@@ -1,6 +1,6 @@
 -- Statistics one after another.
 use Rattle.std.specs.Prelude.{◌≡◌, ℕ, ◌+◌, ◌/◌, ◌<◌, Bool, true, false, ◌==◌, List}
-use Rattle.std.specs.Prelude.{[], ◌∷◌, ◌++◌, length, if◌then◌else◌, Option, Some, None, Ok, Err, refl}
+use Rattle.std.specs.Prelude.{[], ◌∷◌, ◌++◌, length, if◌then◌else◌, Option, Some, None, Err, refl}
 use Rattle.std.specs.List.{list_any}
 use Rattle.std.proofs.Common.{sym, ◌∙◌, ap, arith, get_or, take}
 use Rattle.std.proofs.lemmas.List.{take_more}
@@ -23,8 +23,11 @@ last_append tag [] ys = later_none (last_of tag ys)
     later_none None = refl
     later_none (Some v) = refl
 last_append tag (x ∷ xs) ys =
-    ap (λ o. later_or o (if x.tag == tag then Some x.value else None)) (last_append tag xs ys) ∙
-    sym (later_assoc (last_of tag ys) (last_of tag xs) (if x.tag == tag then Some x.value else None))
+    grind (
+      arith,
+      last_append tag xs ys,
+      later_assoc (last_of tag ys) (last_of tag xs) (if x.tag == tag then Some x.value else None),
+    )
 
 pub statistics_of-length : (bytes : List ℕ) → length (statistics_of bytes) ≡ length bytes / 10
 unfolding statistics_of
@@ -36,9 +39,7 @@ no_statistic = record { tag = 0; value = 0 }
 pub statistics_of-at : (bytes : List ℕ) (k : ℕ) → k < length bytes / 10 →
     get_or (statistics_of bytes) k no_statistic ≡ statistic_at bytes k
 unfolding statistics_of
-statistics_of-at bytes k lt =
-    get_or-map-range_with_len (statistic_at bytes) 0 (length bytes / 10) k k no_statistic lt
-    (omega arith)
+statistics_of-at bytes k lt = grind (arith, get_or-map-range_with_len)
 
 noted_so : (b : Bool) (value : ℕ) (old : Option ℕ) →
     (if b then Some value else old) ≡ later_or (if b then Some value else None) old
@@ -75,7 +76,3 @@ wrong_way pieces e = rw e refl
 pub wrong_length : (pieces : List Piece) → list_any (λ piece. piece.writable) pieces ≡ false →
     is_statistics_length (total_length pieces) ≡ false → statistics_request pieces ≡ Err BadLength
 wrong_length pieces e f = rw (e, f) refl
-
-pub right_length : (pieces : List Piece) → list_any (λ piece. piece.writable) pieces ≡ false →
-    is_statistics_length (total_length pieces) ≡ true → statistics_request pieces ≡ Ok []
-right_length pieces e f = rw (e, f) refl

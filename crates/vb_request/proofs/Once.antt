@@ -1,6 +1,6 @@
 -- Numbers, each once.
 use Rattle.std.specs.Prelude.{◌≡◌, ℕ, ◌+◌, ◌<◌, ◌≤◌, Bool, true, false, not, ◌==◌, ◌||◌, List, []}
-use Rattle.std.specs.Prelude.{◌∷◌, ◌++◌, length, filter, if◌then◌else◌, Option, Some, None, refl}
+use Rattle.std.specs.Prelude.{◌∷◌, ◌++◌, length, filter, if◌then◌else◌, Some, None, refl}
 use Rattle.std.specs.Prelude.{cond}
 use Rattle.std.proofs.Common.{sym, ◌∙◌, eq-eqb, ap, arith, ◌/◌, get_or, take, drop, drop-cons}
 use Rattle.std.proofs.Common.{add-one}
@@ -23,12 +23,7 @@ but m ns = filter (λ k. not (k == m)) ns
 but_step : (n m x : ℕ) (xs : List ℕ) (b : Bool) → (x == m) ≡ b → (m == n) ≡ false →
     is_in n (but m xs) ≡ is_in n xs →
     is_in n (cond (not (x == m)) (x ∷ but m xs) (but m xs)) ≡ ((x == n) || is_in n xs)
-but_step n m x xs true e ne ih =
-    let other : (x == n) ≡ false = ap (λ k. k == n) (eqb-true x m e) ∙ ne in
-    ap (λ v. is_in n (cond (not v) (x ∷ but m xs) (but m xs))) e ∙
-    (ih ∙ sym (ap (λ v. v || is_in n xs) other))
-but_step n m x xs false e ne ih =
-    ap (λ v. is_in n (cond (not v) (x ∷ but m xs) (but m xs))) e ∙ ap (λ v. (x == n) || v) ih
+but_step n m x xs b e ne ih = grind (arith, eqb-true)
 
 -- a number that isn't left out is in the list as before
 is_in-but : (n m : ℕ) (ns : List ℕ) → (m == n) ≡ false → is_in n (but m ns) ≡ is_in n ns
@@ -38,9 +33,7 @@ is_in-but n m (x ∷ xs) ne = but_step n m x xs (x == m) refl ne (is_in-but n m 
 once_step : (n x : ℕ) (xs : List ℕ) (b : Bool) → (x == n) ≡ b →
     is_in n (each_once xs) ≡ is_in n xs →
     ((x == n) || is_in n (but x (each_once xs))) ≡ ((x == n) || is_in n xs)
-once_step n x xs true e ih =
-    ap (λ v. v || is_in n (but x (each_once xs))) e ∙ sym (ap (λ v. v || is_in n xs) e)
-once_step n x xs false e ih = ap (λ v. (x == n) || v) (is_in-but n x (each_once xs) e ∙ ih)
+once_step n x xs b e ih = grind (arith, is_in-but)
 
 -- a list's numbers are those of the list with each once
 pub is_in-each_once : (n : ℕ) (ns : List ℕ) → is_in n (each_once ns) ≡ is_in n ns
@@ -65,24 +58,8 @@ push_step : (m n : ℕ) (ms : List ℕ) (b c : Bool) → is_in n ms ≡ b → (m
     → (m ∷ but m (each_once (ms ++ n ∷ []))) ≡
     put_last (m ∷ but m (each_once ms)) n ((m == n) || is_in n ms)
 unfolding put_last
-push_step m n ms true true e f ih =
-    ap (λ xs. m ∷ but m xs) (ih ∙ ap (put_last (each_once ms) n) e) ∙
-    sym (ap (put_last (m ∷ but m (each_once ms)) n) (ap (λ v. v || is_in n ms) f))
-push_step m n ms true false e f ih =
-    ap (λ xs. m ∷ but m xs) (ih ∙ ap (put_last (each_once ms) n) e) ∙
-    sym (ap (put_last (m ∷ but m (each_once ms)) n) (ap (λ v. v || is_in n ms) f ∙ e))
-push_step m n ms false true e f ih =
-    ap (λ xs. m ∷ but m xs) (ih ∙ ap (put_last (each_once ms) n) e)
-    ∙ (ap (λ xs. m ∷ xs) (filter-append (λ k. not (k == m)) (each_once ms) (n ∷ []) ∙
-    (ap (λ xs. but m (each_once ms) ++ xs)
-    (ap (λ k. but m (k ∷ [])) (sym (eqb-true m n f)) ∙ but_self m) ∙
-    append-nil (but m (each_once ms))))
-    ∙ sym (ap (put_last (m ∷ but m (each_once ms)) n) (ap (λ v. v || is_in n ms) f)))
-push_step m n ms false false e f ih =
-    ap (λ xs. m ∷ but m xs) (ih ∙ ap (put_last (each_once ms) n) e)
-    ∙ (ap (λ xs. m ∷ xs) (filter-append (λ k. not (k == m)) (each_once ms) (n ∷ []) ∙
-    ap (λ xs. but m (each_once ms) ++ xs) (but_other m n f))
-    ∙ sym (ap (put_last (m ∷ but m (each_once ms)) n) (ap (λ v. v || is_in n ms) f ∙ e)))
+push_step m n ms b c e f ih =
+    grind (arith, put_last, filter-append, eqb-true, but_self, append-nil, but_other)
 
 -- one more number
 pub each_once_push : (ns : List ℕ) (n : ℕ) →
@@ -98,21 +75,11 @@ pub first_fault-append : (reserved count : ℕ) (xs ys : List ℕ) →
     first_of_both (first_number_fault reserved count xs) (first_number_fault reserved count ys)
 first_fault-append reserved count [] ys = refl
 first_fault-append reserved count (x ∷ xs) ys =
-    ap (first_of_both (number_fault reserved count x)) (first_fault-append reserved count xs ys) ∙
-    assoc (number_fault reserved count x) (first_number_fault reserved count xs)
-    (first_number_fault reserved count ys)
-  where
-    assoc : (a b c : Option ChainFault) →
-        first_of_both a (first_of_both b c) ≡ first_of_both (first_of_both a b) c
-    assoc None b c = refl
-    assoc (Some f) b c = refl
+    grind (arith, first_fault-append reserved count xs ys)
 
 split_at : (ns : List ℕ) (k : ℕ) → k < length ns →
     ns ≡ take k ns ++ (get_or ns k 0 ∷ drop (k + 1) ns)
-split_at ns k lt =
-    sym (take-append-drop k ns) ∙
-    ap (λ xs. take k ns ++ xs)
-    (drop-cons ns k 0 lt ∙ ap (λ j. get_or ns k 0 ∷ drop j ns) (sym (add-one k)))
+split_at ns k lt = grind (arith, take-append-drop k ns, drop-cons ns k 0 lt, add-one k)
 
 -- the first wrong number
 pub fault_here : (reserved count : ℕ) (ns : List ℕ) (k number : ℕ) (fault : ChainFault) →
@@ -133,10 +100,11 @@ pub sound_more : (reserved count : ℕ) (ns : List ℕ) (k number : ℕ) → k <
     first_number_fault reserved count (take k ns) ≡ None → number_fault reserved count number ≡ None
     → first_number_fault reserved count (take (k + 1) ns) ≡ None
 sound_more reserved count ns k number lt at before here =
-    ap (first_number_fault reserved count) (take_more ns k 0 lt)
-    ∙ (first_fault-append reserved count (take k ns) (get_or ns k 0 ∷ [])
-    ∙ (ap (λ o. first_of_both o (first_number_fault reserved count (get_or ns k 0 ∷ []))) before
-    ∙ ap (λ o. first_of_both o None) (ap (number_fault reserved count) at ∙ here)))
+    grind (
+      arith,
+      take_more ns k 0 lt,
+      first_fault-append reserved count (take k ns) (get_or ns k 0 ∷ []),
+    )
 
 -- one more number, put behind the others where it is new
 pub once_more : (ns pages new : List ℕ) (k number : ℕ) → k < length ns → get_or ns k 0 ≡ number →
@@ -144,18 +112,16 @@ pub once_more : (ns pages new : List ℕ) (k number : ℕ) → k < length ns →
     new ≡ (if is_in number pages then pages else pages ++ number ∷ []) →
     new ≡ each_once (take (k + 1) ns)
 once_more ns pages new k number lt at so_far is =
-    let put : List ℕ → Bool → List ℕ = λ xs b. if b then xs else xs ++ number ∷ [] in
-    let same : is_in number pages ≡ is_in number (take k ns) =
-    ap (is_in number) so_far ∙ is_in-each_once number (take k ns) in
-    is ∙ (ap (put pages) same ∙ (ap (λ xs. put xs (is_in number (take k ns))) so_far
-    ∙ sym (ap each_once (take_more ns k 0 lt ∙ ap (λ n. take k ns ++ n ∷ []) at) ∙
-    each_once_push (take k ns) number)))
+    grind (
+      arith,
+      is_in-each_once number (take k ns),
+      take_more ns k 0 lt,
+      each_once_push (take k ns) number,
+    )
 
 pub once_few : (pages new : List ℕ) (number : ℕ) (b : Bool) →
     new ≡ (if b then pages else pages ++ number ∷ []) → length new ≤ length pages + 1
-once_few pages new number true e = omega (arith, ap (λ (xs : List ℕ). length xs) e)
-once_few pages new number false e =
-    omega (arith, ap (λ (xs : List ℕ). length xs) e, length_push pages number)
+once_few pages new number b e = grind (arith, length_push)
 
 -- ---- the numbers of some bytes
 

@@ -1,5 +1,5 @@
 -- The request that a driver writes as one readable piece, for the crates above.
-use Rattle.std.specs.Prelude.{◌≡◌, ℕ, suc, ◌+◌, ◌*◌, ◌/◌, ◌%◌, ◌<◌, ◌≤◌, Bool, true, false, not}
+use Rattle.std.specs.Prelude.{◌≡◌, ℕ, suc, ◌+◌, ◌*◌, ◌/◌, ◌<◌, ◌≤◌, Bool, true, false, not}
 use Rattle.std.specs.Prelude.{◌&&◌, ◌||◌, ◌==◌, nat_le, nat_lt, IsTrue, List, [], ◌∷◌, All, length}
 use Rattle.std.specs.Prelude.{filter, if◌then◌else◌, Option, Some, None, Ok, slice_index, refl}
 use Rattle.std.specs.Prelude.{cond}
@@ -25,10 +25,7 @@ use Rattle.vb_request.proofs.Bytes.{bytes_from-length, by_numbers}
 -- a byte of the piece
 byte_in : (mem : Pages) (piece : Piece) (p o i : ℕ) → piece.addr ≡ 4096 * p + o → o + i < 4096 →
     byte_of_address mem (piece.addr + i) ≡ byte_at mem p (o + i)
-byte_in mem piece p o i e lt =
-    let page : (piece.addr + i) / 4096 ≡ p = omega (arith, e, lt) in
-    let offset : (piece.addr + i) % 4096 ≡ o + i = omega (arith, e, lt) in
-    ap (λ (n : ℕ). byte_at mem n ((piece.addr + i) % 4096)) page ∙ ap (byte_at mem p) offset
+byte_in mem piece p o i e lt = search (arith)
 
 bytes_are : (mem : Pages) (piece : Piece) →
     bytes_of mem (piece ∷ []) ≡ bytes_from mem piece.addr piece.len
@@ -38,10 +35,7 @@ bytes_are mem piece = append-nil (bytes_from mem piece.addr piece.len)
 byte_at_index : (mem : Pages) (piece : Piece) (p o i : ℕ) (pages : List ℕ) →
     IsRequestPiece mem piece p o pages → i < 4 * length pages →
     slice_index (bytes_from mem piece.addr piece.len) i ≡ byte_at mem p (o + i)
-byte_at_index mem piece p o i pages r lt =
-    get_or-map-range_with_len (byte_of_address mem) piece.addr piece.len i (piece.addr + i) 0
-    (omega (arith, lt, r.len)) refl ∙
-    byte_in mem piece p o i r.addr (omega (arith, lt, r.inside))
+byte_at_index mem piece p o i pages r lt = grind (arith, get_or-map-range_with_len, byte_in)
 
 number_is : (mem : Pages) (piece : Piece) (p o k : ℕ) (pages : List ℕ) →
     IsRequestPiece mem piece p o pages → k < length pages →
@@ -71,9 +65,7 @@ numbers_are mem piece p o pages r =
 
 no_fault : (b c : Bool) → b ≡ false → c ≡ false →
     (if b then Some BadPage else (if c then Some ReservedPage else None)) ≡ None
-no_fault true c e f = absurd cc
-no_fault false true e f = absurd cc
-no_fault false false e f = refl
+no_fault b c e f = search (arith)
 
 right : (reserved count n : ℕ) → n < count → reserved ≤ n → number_fault reserved count n ≡ None
 right reserved count n lt above =
@@ -99,10 +91,7 @@ not_true false h = refl
 apart_step : (x n : ℕ) (xs : List ℕ) (b : Bool) → (x == n) ≡ b → ((x == n) || is_in n xs) ≡ false →
     (is_in n xs ≡ false → filter (λ m. not (m == n)) xs ≡ xs) →
     cond (not (x == n)) (x ∷ filter (λ m. not (m == n)) xs) (filter (λ m. not (m == n)) xs) ≡ x ∷ xs
-apart_step x n xs true e h ih = absurd (true_false (sym (ap (λ v. v || is_in n xs) e) ∙ h))
-apart_step x n xs false e h ih =
-    ap (λ v. cond (not v) (x ∷ filter (λ m. not (m == n)) xs) (filter (λ m. not (m == n)) xs)) e ∙
-    ap (λ ys. x ∷ ys) (ih (sym (ap (λ v. v || is_in n xs) e) ∙ h))
+apart_step x n xs b e h ih = grind (arith, true_false)
 
 without_apart : (n : ℕ) (xs : List ℕ) → is_in n xs ≡ false → filter (λ m. not (m == n)) xs ≡ xs
 without_apart n [] e = refl
@@ -111,18 +100,18 @@ without_apart n (x ∷ xs) e = apart_step x n xs (x == n) refl e (without_apart 
 pub once_distinct : (ns : List ℕ) → AllDistinct ns → each_once ns ≡ ns
 once_distinct [] d = refl
 once_distinct (n ∷ ns) d =
-    ap (λ xs. n ∷ filter (λ m. not (m == n)) xs) (once_distinct ns d.1) ∙
-    ap (λ xs. n ∷ xs) (without_apart n ns (not_true (is_in n ns) d.0))
+    grind (
+      arith,
+      once_distinct ns d.1,
+      without_apart n ns (not_true (is_in n ns) d.0),
+      not_true (is_in n ns) d.0,
+    )
 
 both_true : (a b c : Bool) → a ≡ true → b ≡ true → c ≡ true → (a && (b && c)) ≡ true
 both_true a b c e f g = ap (λ v. v && (b && c)) e ∙ (ap (λ v. v && c) f ∙ g)
 
 length_right : (n : ℕ) → 0 < n → n ≤ 256 → is_request_length (4 * n) ≡ true
-length_right n some few =
-    let rest : (4 * n) % 4 ≡ 0 = omega arith in
-    both_true (nat_lt 0 (4 * n)) (nat_le (4 * n) 1024) ((4 * n) % 4 == 0)
-    (lt-ltb 0 (4 * n) (omega arith)) (le-leb (4 * n) 1024 (omega arith))
-    (eq-eqb ((4 * n) % 4) 0 rest)
+length_right n some few = grind (arith, both_true, lt-ltb, le-leb, eq-eqb)
 
 -- A readable piece whose numbers are distinct unreserved pages of the guest is a request for these
 -- pages.

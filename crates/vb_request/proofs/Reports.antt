@@ -3,7 +3,7 @@ use Rattle.std.specs.Prelude.{◌≡◌, ℕ, suc, ◌+◌, ◌*◌, ◌/◌, �
 use Rattle.std.specs.Prelude.{not, ◌==◌, ◌||◌, nat_lt, List, [], ◌∷◌, ◌++◌, length, if◌then◌else◌}
 use Rattle.std.specs.Prelude.{Option, Some, None, Ok, Err, All, slice_get, slice_index_or, refl}
 use Rattle.std.specs.List.{list_any}
-use Rattle.std.proofs.Common.{sym, ◌∙◌, ap, subst, arith, get_or, take, drop, drop-cons, add-one}
+use Rattle.std.proofs.Common.{◌∙◌, ap, arith, get_or, take, drop, drop-cons, add-one}
 use Rattle.std.proofs.Common.{length-append}
 use Rattle.std.proofs.lemmas.Bool.{ltb-false}
 use Rattle.std.proofs.lemmas.Grind.{flat_map-append}
@@ -29,25 +29,28 @@ pages_more : (pieces : List Piece) (i : ℕ) (d : Piece) → i < length pieces �
     pages_of_pieces (take (i + 1) pieces) ≡
     pages_of_pieces (take i pieces) ++ pages_of_piece (get_or pieces i d)
 pages_more pieces i d lt =
-    ap pages_of_pieces (take_more pieces i d lt) ∙
-    (flat_map-append pages_of_piece (take i pieces) (get_or pieces i d ∷ []) ∙
-    ap (λ xs. pages_of_pieces (take i pieces) ++ xs)
-    (append-nil (pages_of_piece (get_or pieces i d))))
+    grind (
+      arith,
+      take_more pieces i d lt,
+      flat_map-append pages_of_piece (take i pieces) (get_or pieces i d ∷ []),
+      append-nil (pages_of_piece (get_or pieces i d)),
+    )
 
 pub count_more : (pieces : List Piece) (i : ℕ) (d : Piece) → i < length pieces →
     length (pages_of_pieces (take (i + 1) pieces)) ≡
     length (pages_of_pieces (take i pieces)) + (get_or pieces i d).len / 4096
 count_more pieces i d lt =
-    ap (λ (xs : List ℕ). length xs) (pages_more pieces i d lt) ∙
-    (length-append (pages_of_pieces (take i pieces)) (pages_of_piece (get_or pieces i d)) ∙
-    ap (λ n. length (pages_of_pieces (take i pieces)) + n) (piece_length (get_or pieces i d)))
+    grind (
+      arith,
+      pages_more pieces i d lt,
+      length-append (pages_of_pieces (take i pieces)) (pages_of_piece (get_or pieces i d)),
+      piece_length (get_or pieces i d),
+    )
 
 split_at : (pieces : List Piece) (i : ℕ) (d : Piece) → i < length pieces →
     pieces ≡ take i pieces ++ (get_or pieces i d ∷ drop (i + 1) pieces)
 split_at pieces i d lt =
-    sym (take-append-drop i pieces) ∙
-    ap (λ xs. take i pieces ++ xs)
-    (drop-cons pieces i d lt ∙ ap (λ j. get_or pieces i d ∷ drop j pieces) (sym (add-one i)))
+    grind (arith, take-append-drop i pieces, drop-cons pieces i d lt, add-one i)
 
 -- a page of this piece
 pub page_here : (pieces : List Piece) (i k rest : ℕ) (d : Piece) → i < length pieces →
@@ -85,14 +88,7 @@ pub first_fault-append : (reserved : ℕ) (xs ys : List Piece)
     → first_piece_fault reserved (xs ++ ys)
     ≡ first_of_both (first_piece_fault reserved xs) (first_piece_fault reserved ys)
 first_fault-append reserved [] ys = refl
-first_fault-append reserved (x ∷ xs) ys =
-    ap (first_of_both (piece_fault reserved x)) (first_fault-append reserved xs ys)
-    ∙ assoc (piece_fault reserved x) (first_piece_fault reserved xs) (first_piece_fault reserved ys)
-  where
-    assoc : (a b c : Option ChainFault) →
-        first_of_both a (first_of_both b c) ≡ first_of_both (first_of_both a b) c
-    assoc None b c = refl
-    assoc (Some f) b c = refl
+first_fault-append reserved (x ∷ xs) ys = grind (arith, first_fault-append reserved xs ys)
 
 -- the first wrong piece
 pub fault_here : (reserved : ℕ) (pieces : List Piece) (i : ℕ) (d : Piece) (fault : ChainFault)
@@ -112,10 +108,11 @@ pub sound_more : (reserved : ℕ) (pieces : List Piece) (i : ℕ) (d : Piece) �
     → piece_fault reserved (get_or pieces i d) ≡ None
     → first_piece_fault reserved (take (i + 1) pieces) ≡ None
 sound_more reserved pieces i d lt before here =
-    ap (first_piece_fault reserved) (take_more pieces i d lt)
-    ∙ (first_fault-append reserved (take i pieces) (get_or pieces i d ∷ [])
-    ∙ (ap (λ o. first_of_both o (first_piece_fault reserved (get_or pieces i d ∷ []))) before
-    ∙ ap (λ o. first_of_both o None) here))
+    grind (
+      arith,
+      take_more pieces i d lt,
+      first_fault-append reserved (take i pieces) (get_or pieces i d ∷ []),
+    )
 
 -- ---- the answers to a chain
 
@@ -145,16 +142,11 @@ none_of_both (Some f) b e = absurd cc
 
 second_no : (a b : Bool) →
     (if a then Some BadPage else (if b then Some ReservedPage else None)) ≡ None → b ≡ false
-second_no true b e = absurd cc
-second_no false true e = absurd cc
-second_no false false e = refl
+second_no a b e = search (arith)
 
 from_on : (reserved first n : ℕ) → reserved ≤ first → (k d : ℕ)
     → k < length (range_with_len first n) → reserved ≤ slice_index_or (range_with_len first n) k d
-from_on reserved first n le k d lt =
-    let at : get_or (range_with_len first n) k d ≡ first + k =
-    get_or-range_with_len first n k d (omega (arith, lt, length-range_with_len first n)) in
-    omega (arith, at, le)
+from_on reserved first n le k d lt = grind (arith, get_or-range_with_len, length-range_with_len)
 
 pub above_reserved : (reserved : ℕ) (pieces : List Piece)
     → first_piece_fault reserved pieces ≡ None
@@ -172,11 +164,7 @@ above_reserved reserved (x ∷ xs) e =
 
 up_to : (first n count : ℕ) → first + n ≤ count → (k d : ℕ) → k < length (range_with_len first n) →
     slice_index_or (range_with_len first n) k d < count
-up_to first n count le k d lt =
-    let inside : k < n = omega (arith, lt, length-range_with_len first n) in
-    let at : get_or (range_with_len first n) k d ≡ first + k =
-    get_or-range_with_len first n k d inside in
-    omega (arith, at, le, inside)
+up_to first n count le k d lt = grind (arith, length-range_with_len, get_or-range_with_len)
 
 pages_below : (count : ℕ) (pieces : List Piece) →
     All (λ piece. piece.addr + piece.len ≤ 4096 * count) pieces →
@@ -197,10 +185,7 @@ by_tests : (reserved : ℕ) (pieces : List Piece) (a b : Bool) (pages : List ℕ
     → (if a then Err WrongDirection else (if b then Err BadLength
     else unless_fault (first_piece_fault reserved pieces) (pages_of_pieces pieces))) ≡ Ok pages
     → (first_piece_fault reserved pieces ≡ None) × (pages_of_pieces pieces ≡ pages)
-by_tests reserved pieces true b pages e = absurd cc
-by_tests reserved pieces false true pages e = absurd cc
-by_tests reserved pieces false false pages e =
-    ok_of (first_piece_fault reserved pieces) (pages_of_pieces pieces) pages e
+by_tests reserved pieces a b pages e = grind (arith, ok_of)
 
 -- What a report names.
 pub report_pages : (count : ℕ) (pieces : List Piece) (reserved : ℕ) (pages : List ℕ)
@@ -208,10 +193,4 @@ pub report_pages : (count : ℕ) (pieces : List Piece) (reserved : ℕ) (pages :
     → report_request pieces reserved ≡ Ok pages
     → All (λ page. reserved ≤ page) pages × All (λ page. page < count) pages
 report_pages count pieces reserved pages inside e =
-    let both = by_tests reserved pieces (list_any (λ piece. not piece.writable) pieces)
-    (nat_lt 32 (length pieces) || list_any has_bad_length pieces) pages e in (
-      subst (λ (xs : List ℕ). All (λ page. reserved ≤ page) xs) both.1
-          (above_reserved reserved pieces both.0),
-      subst (λ (xs : List ℕ). All (λ page. page < count) xs) both.1
-          (pages_below count pieces inside),
-    )
+    grind (arith, by_tests, above_reserved, pages_below)

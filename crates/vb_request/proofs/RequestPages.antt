@@ -3,8 +3,7 @@ use Rattle.std.specs.Prelude.{◌≡◌, ℕ, zero, suc, slice_index_or, ◌<◌
 use Rattle.std.specs.Prelude.{◌==◌, ◌||◌, nat_le, nat_lt, IsTrue, List, [], ◌∷◌, All, length}
 use Rattle.std.specs.Prelude.{filter, if◌then◌else◌, Option, Some, None, Ok, Err, refl, cond}
 use Rattle.std.proofs.Common.{rules}
-use Rattle.std.specs.List.{list_any}
-use Rattle.std.proofs.Common.{sym, ◌∙◌, ap, subst, arith}
+use Rattle.std.proofs.Common.{sym, subst, arith}
 use Rattle.std.proofs.lemmas.Bool.{ltb-false, leb-false}
 use Rattle.std.proofs.lemmas.List.Elements.{All-filter}
 use Rattle.vb_model.specs.Tests.{is_in}
@@ -16,8 +15,8 @@ use Rattle.vb_chain.specs.declared.fault.ChainFault.TheVariants.{WrongDirection,
 use Rattle.vb_chain.specs.declared.fault.ChainFault.TheVariants.{ReservedPage}
 use Rattle.vb_request.specs.Request.{ArePages}
 use Rattle.vb_request.specs.Request.{each_once, number_fault, first_of_both, first_number_fault}
-use Rattle.vb_request.specs.Request.{unless_fault, pages_of_numbers, numbers_of, bytes_of}
-use Rattle.vb_request.specs.Request.{is_request_length, total_length, page_request}
+use Rattle.vb_request.specs.Request.{unless_fault, pages_of_numbers}
+use Rattle.vb_request.specs.Request.{page_request}
 
 unless_ok : (fault : Option ChainFault) (ns pages : List ℕ) → unless_fault fault ns ≡ Ok pages →
     (fault ≡ None) × (ns ≡ pages)
@@ -31,9 +30,7 @@ none_of_both (Some f) b e = absurd cc
 neither : (b c : Bool) →
     (if b then Some BadPage else (if c then Some ReservedPage else None)) ≡ None →
     (b ≡ false) × (c ≡ false)
-neither true c e = absurd cc
-neither false true e = absurd cc
-neither false false e = (refl, refl)
+neither b c e = search (arith)
 
 all_cons : (P : ℕ → Type 0) (x : ℕ) (xs : List ℕ) → P x → All P xs → (k d : ℕ) →
     k < length (x ∷ xs) → P (slice_index_or (x ∷ xs) k d)
@@ -70,10 +67,7 @@ true_false e = cc
 filter_step : (n : ℕ) (p : ℕ → Bool) (x : ℕ) (xs : List ℕ) (c b : Bool) → (x == n) ≡ c →
     ((x == n) || is_in n xs) ≡ false → (is_in n xs ≡ false → is_in n (filter p xs) ≡ false) →
     is_in n (cond b (x ∷ filter p xs) (filter p xs)) ≡ false
-filter_step n p x xs true b e h ih = absurd (true_false (sym (ap (λ v. v || is_in n xs) e) ∙ h))
-filter_step n p x xs false true e h ih =
-    ap (λ v. v || is_in n (filter p xs)) e ∙ ih (sym (ap (λ v. v || is_in n xs) e) ∙ h)
-filter_step n p x xs false false e h ih = ih (sym (ap (λ v. v || is_in n xs) e) ∙ h)
+filter_step n p x xs c b e h ih = grind (arith, true_false)
 
 out_of_filter : (n : ℕ) (p : ℕ → Bool) (ns : List ℕ) → is_in n ns ≡ false →
     is_in n (filter p ns) ≡ false
@@ -84,13 +78,7 @@ but_step : (n x : ℕ) (xs : List ℕ) (b : Bool) → (x == n) ≡ b →
     is_in n (filter (λ m. not (m == n)) xs) ≡ false →
     is_in n (cond (not (x == n)) (x ∷ filter (λ m. not (m == n)) xs)
     (filter (λ m. not (m == n)) xs)) ≡ false
-but_step n x xs true e ih =
-    ap (λ v. is_in n (cond (not v) (x ∷ filter (λ m. not (m == n)) xs)
-    (filter (λ m. not (m == n)) xs))) e ∙ ih
-but_step n x xs false e ih =
-    ap (λ v. is_in n (cond (not v) (x ∷ filter (λ m. not (m == n)) xs)
-    (filter (λ m. not (m == n)) xs))) e ∙
-    (ap (λ v. v || is_in n (filter (λ m. not (m == n)) xs)) e ∙ ih)
+but_step n x xs b e ih = search (arith)
 
 out_of_but : (n : ℕ) (ns : List ℕ) → is_in n (filter (λ m. not (m == n)) ns) ≡ false
 out_of_but n [] = refl
@@ -110,15 +98,15 @@ distinct_filter : (p : ℕ → Bool) (ns : List ℕ) → AllDistinct ns → AllD
 distinct_filter p [] d = tt
 distinct_filter p (x ∷ xs) d = distinct_step p x xs (p x) d.0 (distinct_filter p xs d.1)
 
-is_true : IsTrue (not false)
-is_true = search rules
-
 pub once_distinct : (ns : List ℕ) → AllDistinct (each_once ns)
 once_distinct [] = tt
-once_distinct (n ∷ ns) = (
-  subst (λ (v : Bool). IsTrue (not v)) (sym (out_of_but n (each_once ns))) is_true,
-  distinct_filter (λ m. not (m == n)) (each_once ns) (once_distinct ns),
-)
+once_distinct (n ∷ ns) =
+    grind (
+      arith,
+      out_of_but n (each_once ns),
+      distinct_filter (λ m. not (m == n)) (each_once ns) (once_distinct ns),
+      once_distinct ns,
+    )
 
 -- What the numbers of a request are.
 pub numbers_are_pages : (reserved count : ℕ) (ns pages : List ℕ)
@@ -149,6 +137,4 @@ pages_step reserved count ns pages false false e = numbers_are_pages reserved co
 pub request_pages : (mem : Pages) (pieces : List Piece) (reserved : ℕ) (pages : List ℕ)
     → page_request mem pieces reserved ≡ Ok pages → ArePages reserved (length mem) pages
 unfolding page_request
-request_pages mem pieces reserved pages e =
-    pages_step reserved (length mem) (numbers_of (bytes_of mem pieces)) pages
-    (list_any (λ piece. piece.writable) pieces) (not (is_request_length (total_length pieces))) e
+request_pages mem pieces reserved pages e = search (arith, pages_step)
