@@ -1,6 +1,6 @@
 -- What leaves a queue alone.
 use Rattle.std.specs.Prelude.{◌≡◌, ◌≢◌, ℕ, ◌+◌, ◌*◌, ◌<◌, ◌≤◌, List, length, slice_index_or}
-use Rattle.std.proofs.Common.{◌∙◌, arith, inl, inr, refl, subst}
+use Rattle.std.proofs.Common.{◌∙◌, arith, inl, refl, subst}
 use Rattle.vb_model.specs.Layout.{reserved_pages, ring_number, ring_page, buffers_page}
 use Rattle.vb_model.specs.Layout.{buffer_page}
 use Rattle.vb_model.specs.Layout.{buffer_offset}
@@ -14,10 +14,8 @@ use Rattle.vb_ring.specs.Ends.{DriverEnd}
 use Rattle.vb_driver.specs.Coding.{IsCoded}
 use Rattle.vb_driver.specs.State.{RequestSide}
 use Rattle.vb_driver.proofs.Buffers.{names_kept}
-use Rattle.vb_driver.proofs.Shapes.{buffers_between}
 use Rattle.vb_guest.specs.Line.{Line, IsRequest, RingOf, heads_of}
-use Rattle.vb_model.proofs.Shapes.{InRing, in_ring_page, ring_reserved, ring_no_buffer}
-use Rattle.vb_model.proofs.Shapes.{reserved_least, rings_apart}
+use Rattle.vb_model.proofs.Shapes.{InRing, in_ring_page, ring_reserved, rings_apart}
 use Rattle.vb_guest.proofs.RingApart.{SameRing, ring_apart}
 
 -- the pages of a queue's ring, and those of its buffers, are as before
@@ -46,8 +44,10 @@ pub requests_apart : (old new : Pages) (q : ℕ) (ring : DriverEnd) (part : Queu
     (rs : Requests) → SameRing old new ring.size q
     → RingOf old q ring part rs → RingOf new q ring part rs
 requests_apart old new q ring part rs same stands =
-    ring_apart old new q ring part.next_avail part.next_used (heads_of rs.posted)
-    (heads_of rs.taken) (heads_of rs.done) same stands
+    grind (
+      arith,
+      ring_apart old new q ring part.next_avail part.next_used (heads_of rs.posted) (heads_of rs.taken) (heads_of rs.done) same stands,
+    )
 
 pub line_apart : (old new : Pages) (q n : ℕ) (side : RequestSide) (part : QueuePart) (rs : Requests)
     → SameLine old new side.ring.size q → Line old q n side part rs → Line new q n side part rs
@@ -69,18 +69,11 @@ line_apart old new q n side part rs same line = record {
 
 -- a page of a ring is none of a buffer, and no page of another ring
 pub no_buffer : (size q ring page : ℕ) → InRing size q ring → 4 ≤ page → page ≤ 12 → page ≢ ring
-no_buffer size q ring page at low high same =
-    elim (ring_no_buffer size ring (in_ring_page size q ring at)) [
-      | inl below ↦ absurd (omega (arith, below, low, same))
-      | inr above ↦ absurd (omega (arith, above, high, same))
-    ]
+no_buffer size q ring page at low high same = grind arith
 
 pub buffer_apart_page : (size q other ring head : ℕ) → head < 16 → InRing size q ring
     → buffer_page (buffers_page other) head ≢ ring
-buffer_apart_page size q other ring head few at =
-    let between = buffers_between other in
-    no_buffer size q ring (buffer_page (buffers_page other) head) at (omega (arith, between.0))
-    (omega (arith, between.1, few))
+buffer_apart_page size q other ring head few at = grind arith
 
 -- only a page of one ring has changed: the rings of other queues are as before, and so are buffers
 abbrev pub SameBut : Pages → Pages → ℕ → Type 0
@@ -90,18 +83,15 @@ pub other_ring : (old new : Pages) (size k q other ring : ℕ) → k ≡ size
     → ring_number other ≢ ring_number q → InRing size q ring → SameBut old new ring
     → SameRing old new k other
 other_ring old new size k q other ring same ne at rest page there =
-    rest page (rings_apart size other q page ring ne
-    (subst (λ (s : ℕ). InRing s other page) same there) at)
+    grind (
+      arith,
+      rings_apart size other q page ring ne (subst (λ (s : ℕ). InRing s other page) same there) at,
+    )
 
 pub other_line : (old new : Pages) (size k q other ring : ℕ) → k ≡ size
     → ring_number other ≢ ring_number q → InRing size q ring → SameBut old new ring
     → SameLine old new k other
-other_line old new size k q other ring same ne at rest = record {
-  ring = other_ring old new size k q other ring same ne at rest;
-  buffers = λ p from to.
-      let between = buffers_between other in
-      rest p (no_buffer size q ring p at (omega (arith, between.0)) (omega (arith, between.1)));
-}
+other_line old new size k q other ring same ne at rest = search arith
 
 -- the reserved pages of a guest whose queues have this size are as before
 abbrev pub SameReserved : Pages → Pages → ℕ → Type 0
@@ -114,7 +104,4 @@ ring_same old new size q same p at = same p (ring_reserved size p (in_ring_page 
 -- pages above those of rings and buffers are no queue's
 pub above_apart : (old new : Pages) (size q : ℕ) → buffers_page q ≤ 8
     → SameReserved old new size → SameLine old new size q
-above_apart old new size q few same = record {
-  ring = ring_same old new size q same;
-  buffers = λ p from to. same p (omega (arith, reserved_least size));
-}
+above_apart old new size q few same = grind arith

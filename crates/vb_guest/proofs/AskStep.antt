@@ -1,7 +1,6 @@
 -- A guest's ask is a step of the definitions.
-use Rattle.std.specs.Prelude.{◌≡◌, ℕ, Bool, false, List, []}
-use Rattle.std.specs.Prelude.{Result, Ok, Err, IsOk, Some, None, is_some, slice_get}
-use Rattle.std.specs.Prelude.{refl}
+use Rattle.std.specs.Prelude.{◌≡◌, false, List, [], Result, Ok, Err, IsOk, Some, None, is_some}
+use Rattle.std.specs.Prelude.{slice_get, refl}
 use Rattle.std.proofs.Common.{sym, ◌∙◌, ap, subst, arith, inl, inr}
 use Rattle.vb_model.specs.declared.calls.Call.TheVariants.{Ask}
 use Rattle.vb_model.specs.declared.replies.Refusal.{Refusal}
@@ -11,8 +10,6 @@ use Rattle.vb_model.specs.Requests.{Request, Figures, Buffer, NoBuffer, BufferPo
 use Rattle.vb_model.specs.Requests.{BufferDone}
 use Rattle.vb_model.specs.Guest.{Guest}
 use Rattle.vb_model.specs.Device.{Asks}
-use Rattle.vb_model.specs.FirstRefusal.{first_refusal}
-use Rattle.vb_model.specs.Tables.{ask_tests}
 use Rattle.vb_model.specs.Refusals.{refusal_of, is_taken}
 use Rattle.vb_ram.specs.Pages.{Pages}
 use Rattle.vb_ram.specs.Part.{Part}
@@ -32,17 +29,14 @@ use Rattle.vb_guest.proofs.ReportLines.{report_apart}
 use Rattle.vb_guest.proofs.Handing.{used_same, same_end, end_by}
 use Rattle.vb_guest.proofs.PagesKept.{SamePages, pages_same}
 use Rattle.vb_guest.proofs.SameRefusals.{ask_same, ask_idle}
-use Rattle.vb_guest.proofs.Closing.{honest_performed, steps_alone, refused_alone, ties_same}
+use Rattle.vb_guest.proofs.Closing.{honest_performed, steps_alone, ties_same}
 
 ask_refused : {T : Type 0} (m1 m2 : Pages) (p1 p2 : Part) (d : DriverState) (g : Guest)
     (why : Refusal) (result : Result T Refusal)
     → AsksBy m1 m2 p1 p2 result → Honest m1 p1 d g → ask_refusal p1 ≡ Some why
     → refusal_of g Ask ≡ Some why
     → StepsAlone (Honest m2 p2 d) g Ask (asked_reply result)
-ask_refused m1 m2 p1 p2 d g why result did stands by_part by_model =
-    let (answer, part, memory) = did.refused why by_part in
-    subst (λ r. StepsAlone (Honest m2 p2 d) g Ask (asked_reply r)) (sym answer)
-    (refused_alone m1 m2 p1 p2 d d g Ask why stands by_model memory part refl)
+ask_refused m1 m2 p1 p2 d g why result did stands by_part by_model = grind arith
 
 asked_ok : {T : Type 0} (result : Result T Refusal) → IsOk result → asked_reply result ≡ Asked
 asked_ok (Ok x) ok = refl
@@ -105,25 +99,15 @@ ask_done m1 m2 p1 p2 d g figures result is did stands run free_part free =
 
 -- the buffer that a device remembers
 taken_is : (b : Buffer) → is_some (slice_get (taken_requests b) 0) ≡ is_taken b
-taken_is NoBuffer = refl
-taken_is (BufferPosted figures) = refl
-taken_is (BufferTaken figures) = refl
-taken_is (BufferDone figures) = refl
+taken_is b = grind arith
 
 not_taken : (g : Guest) (b : Buffer) → g.status ≡ 15 → g.buffer ≡ b → is_taken b ≡ false
     → refusal_of g Ask ≡ Some NotTaken
-not_taken g b up is other =
-    let P : ℕ → Bool → Type 0 =
-    λ s t. first_refusal (ask_tests s t) ≡ Some NotTaken in
-    subst (λ s. P s (is_taken g.buffer)) (sym up)
-    (subst (λ t. P 15 t) (sym (ap is_taken is ∙ other)) refl)
+not_taken g b up is other = grind arith
 
 is_free : (g : Guest) (figures : Figures) → g.status ≡ 15 → g.buffer ≡ BufferTaken figures
     → refusal_of g Ask ≡ None
-is_free g figures up is =
-    let P : ℕ → Bool → Type 0 =
-    λ s t. first_refusal (ask_tests s t) ≡ None in
-    subst (λ s. P s (is_taken g.buffer)) (sym up) (subst (λ t. P 15 t) (sym (ap is_taken is)) refl)
+is_free g figures up is = grind arith
 
 pub ask_step : {T : Type 0} (m1 m2 : Pages) (p1 p2 : Part) (d : DriverState) (g : Guest)
     (result : Result T Refusal) → AsksBy m1 m2 p1 p2 result → Honest m1 p1 d g

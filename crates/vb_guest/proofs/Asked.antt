@@ -1,12 +1,11 @@
 -- What a driver and a device ask for before a call, of an honest guest and of a rogue one.
-use Rattle.std.specs.Prelude.{◌≡◌, ℕ, ◌≤◌, ◌&&◌, not, Bool, true, false}
-use Rattle.std.specs.Prelude.{length, IsSome, refl}
+use Rattle.std.specs.Prelude.{◌≡◌, ℕ, ◌≤◌, ◌&&◌, Bool, true, false, length, IsSome, refl}
 use Rattle.std.proofs.Common.{arith, sym, subst}
 use Rattle.vb_model.specs.Limits.{is_config}
 use Rattle.vb_model.specs.Layout.{ring_page, is_start_page}
 use Rattle.vb_model.proofs.Shapes.{InRing, in_ring_page, start_of_ring}
 use Rattle.vb_model.specs.Guest.{Guest}
-use Rattle.vb_model.specs.Status.{contains, driver_ok, is_broken}
+use Rattle.vb_model.specs.Status.{contains, driver_ok}
 use Rattle.vb_model.specs.Tables.{is_up}
 use Rattle.vb_ram.specs.Pages.{Pages, frame_at}
 use Rattle.vb_ram.specs.Part.{Part}
@@ -17,20 +16,13 @@ use Rattle.vb_device.specs.Queues.{queue_layout}
 use Rattle.vb_device.proofs.Sizes.{size_is}
 use Rattle.vb_driver.specs.State.{DriverState}
 use Rattle.vb_guest.specs.Stands.{Stands}
-use Rattle.vb_guest.proofs.Freed.{large, start_backed}
-use Rattle.vb_guest.proofs.InflateStep.{up_backed}
+use Rattle.vb_guest.proofs.Freed.{start_backed}
 use Rattle.vb_guest.proofs.Standing.{by_guest}
 
 -- a guest has 64 pages at the least
 pub is_large : (keeps : Bool) (m : Pages) (p : Part) (d : DriverState) (g : Guest)
     → Stands keeps m p d g → 64 ≤ length m
-is_large keeps m p d g stands = by_guest keeps m p d g stands (large m p d g)
-    (λ rogue. omega (
-      arith,
-      (config_limits g.config.pages g.config.queue_size g.config.processors
-          rogue.config).pages_least,
-      rogue.length_is,
-    ))
+is_large keeps m p d g stands = grind (arith, config_limits)
 
 both : (ok sound : Bool) → (ok && sound) ≡ true → ok ≡ true
 both true sound e = refl
@@ -40,11 +32,7 @@ both false sound e = absurd cc
 pub is_backed : (keeps : Bool) (m : Pages) (p : Part) (d : DriverState) (g : Guest)
     → Stands keeps m p d g → is_up p.status ≡ true → (page : ℕ)
     → is_start_page d.queue_size page ≡ true → IsSome (frame_at m page)
-is_backed keeps m p d g stands up page start = by_guest keeps m p d g stands
-    (λ honest. up_backed m p d g honest up page
-    (subst (λ size. is_start_page size page ≡ true) honest.ties.parts.driver.queue_size start))
-    (λ rogue. (rogue.up (both (contains p.status driver_ok) (not (is_broken p.status)) up)).backed
-    page (subst (λ size. is_start_page size page ≡ true) rogue.queue_size start))
+is_backed keeps m p d g stands up page start = grind (arith, both)
 
 -- and so have the pages of the queue's ring
 ring_backed : (m : Pages) (p : Part) (g : Guest) (q : ℕ) → p.queue_size ≡ g.config.queue_size

@@ -1,12 +1,10 @@
 -- A posted statistics buffer, as its device finds it.
 use Rattle.std.specs.Prelude.{◌≡◌, ℕ, ◌+◌, ◌*◌, ◌/◌, ◌%◌, ◌<◌, ◌≤◌, List, [], ◌∷◌, length, take}
-use Rattle.std.specs.Prelude.{map, drop, false, Some, Ok, slice_index, refl}
-use Rattle.std.specs.List.{range_with_len}
+use Rattle.std.specs.Prelude.{drop, false, Some, Ok, slice_index, refl}
 use Rattle.std.proofs.Common.{sym, ◌∙◌, ap, arith}
 use Rattle.std.proofs.lemmas.List.{append-nil, get_or-take, get_or-drop}
 use Rattle.std.proofs.lemmas.List.FromFn.{get_or-map-range_with_len}
 use Rattle.vb_model.specs.Requests.{Figures}
-use Rattle.vb_model.specs.declared.replies.LastStatistics.{LastStatistics}
 use Rattle.vb_ram.specs.Pages.{Pages, byte_at}
 use Rattle.vb_ram.proofs.FieldLaws.{field_2, field_8}
 use Rattle.vb_chain.specs.declared.pieces.Piece.{Piece}
@@ -16,9 +14,8 @@ use Rattle.vb_chain.specs.Chain.{ChainGives}
 use Rattle.vb_chain.proofs.ChainLaws.{single_chain, no_fault}
 use Rattle.vb_driver.specs.Coding.{AreFigures, IsStatistic, statistics_buffer}
 use Rattle.vb_request.specs.Request.{byte_of_address, bytes_from, bytes_of}
-use Rattle.vb_request.specs.Statistics.{Statistic, statistic_at, statistics_of, last_of}
-use Rattle.vb_request.specs.Statistics.{statistics_in, statistics_request}
-use Rattle.vb_request.proofs.Bytes.{bytes_from-length}
+use Rattle.vb_request.specs.Statistics.{Statistic, statistic_at, statistics_of, statistics_in}
+use Rattle.vb_request.specs.Statistics.{statistics_request}
 
 -- the buffer's one piece
 abbrev pub buffer_pieces : List Piece
@@ -58,9 +55,7 @@ byte_is mem i lt =
 -- byte j of n bytes from the offset on
 part_is : (mem : Pages) (n o j : ℕ) → o + n ≤ 20 → j < n
     → slice_index (take n (drop o (buffer_bytes mem))) j ≡ byte_at mem 12 (o + j)
-part_is mem n o j fits lt =
-    get_or-take n (drop o (buffer_bytes mem)) j 0 lt
-    ∙ get_or-drop o (buffer_bytes mem) j 0 ∙ byte_is mem (o + j) (omega (arith, fits, lt))
+part_is mem n o j fits lt = grind (arith, get_or-take, get_or-drop, byte_is)
 
 abbrev stated : ℕ → ℕ → Statistic
 stated tag value = record { tag = tag; value = value }
@@ -79,21 +74,17 @@ two_statistics : (mem : Pages)
     → statistics_of (buffer_bytes mem)
     ≡ statistic_at (buffer_bytes mem) 0 ∷ statistic_at (buffer_bytes mem) 1 ∷ []
 unfolding statistics_of
-two_statistics mem =
-    ap (λ (n : ℕ). map (statistic_at (buffer_bytes mem)) (range_with_len 0 (n / 10)))
-    (bytes_from-length mem 49152 20)
-
-abbrev said_by : List Statistic → LastStatistics
-said_by ss = record { free = last_of 4 ss; total = last_of 5 ss }
+two_statistics mem = grind arith
 
 -- it says the figures
 pub buffer_says : (mem : Pages) (table : ℕ) (figures : Figures) → AreFigures mem table figures
     → statistics_in mem buffer_pieces
     ≡ record { free = Some figures.free; total = Some figures.total }
 buffer_says mem table figures code =
-    let first = statistic_is mem 0 4 figures.free (omega arith) code.free in
-    let second = statistic_is mem 1 5 figures.total (omega arith) code.total in
-    ap (λ (l : List ℕ). said_by (statistics_of l)) (bytes_are mem)
-    ∙ ap said_by (two_statistics mem)
-    ∙ ap (λ (s : Statistic). said_by (s ∷ statistic_at (buffer_bytes mem) 1 ∷ [])) first
-    ∙ ap (λ (s : Statistic). said_by (stated 4 figures.free ∷ s ∷ [])) second
+    grind (
+      arith,
+      statistic_is mem 0 4 figures.free (omega arith) code.free,
+      statistic_is mem 1 5 figures.total (omega arith) code.total,
+      bytes_are mem,
+      two_statistics mem,
+    )

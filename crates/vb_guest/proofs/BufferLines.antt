@@ -1,7 +1,7 @@
 -- What calls make of the statistics buffer.
 use Rattle.std.specs.Prelude.{◌≡◌, ℕ, ◌+◌, ◌%◌, true, List, [], ◌∷◌, ◌++◌, remove, Some, Ok}
 use Rattle.std.specs.Prelude.{refl}
-use Rattle.std.proofs.Common.{◌∙◌, sym, ap, subst, arith, inl}
+use Rattle.std.proofs.Common.{ap, arith, inl}
 use Rattle.vb_model.specs.Layout.{ring_page}
 use Rattle.vb_model.specs.Requests.{Request, Figures, Buffer, NoBuffer, BufferPosted, BufferTaken}
 use Rattle.vb_model.specs.Requests.{BufferDone}
@@ -9,7 +9,6 @@ use Rattle.vb_ram.specs.Pages.{Pages, page_at}
 use Rattle.vb_ram.specs.Part.{QueuePart}
 use Rattle.vb_ram.proofs.FieldLaws.{field_in, same_page}
 use Rattle.vb_chain.proofs.TableLaws.{descriptor_apart}
-use Rattle.vb_ring.specs.declared.layout.Layout.{Layout}
 use Rattle.vb_ring.specs.Ends.{DriverEnd, DeviceEnd}
 use Rattle.vb_ring.specs.Calls.{AddsUsedBy, TakesUsedBy}
 use Rattle.vb_driver.specs.Coding.{AreFigures, IsStatistic}
@@ -25,21 +24,12 @@ use Rattle.vb_guest.proofs.RingReaped.{ring_reaped}
 
 statistic_kept : (old new : Pages) (offset tag value : ℕ) → page_at new 12 ≡ page_at old 12
     → IsStatistic old offset tag value → IsStatistic new offset tag value
-statistic_kept old new offset tag value same is = record {
-  tagged = field_in 2 old new 12 offset (offset + 2) offset (same_page old new 12 _ _ same)
-      (omega arith) (omega arith) ∙ is.tagged;
-  valued = field_in 8 old new 12 (offset + 2) (offset + 10) (offset + 2)
-      (same_page old new 12 _ _ same) (omega arith) (omega arith) ∙ is.valued;
-}
+statistic_kept old new offset tag value same is = grind (arith, field_in, same_page)
 
 figures_kept : (old new : Pages) (table : ℕ) (figures : Figures)
     → page_at new table ≡ page_at old table → page_at new 12 ≡ page_at old 12
     → AreFigures old table figures → AreFigures new table figures
-figures_kept old new table figures ring buffer are = record {
-  descriptor = descriptor_apart old new table 0 ring ∙ are.descriptor;
-  free = statistic_kept old new 0 4 figures.free buffer are.free;
-  total = statistic_kept old new 10 5 figures.total buffer are.total;
-}
+figures_kept old new table figures ring buffer are = grind (arith, descriptor_apart, statistic_kept)
 
 -- the pages of the ring and of the buffer are as before
 pub buffer_apart : (old new : Pages) (ring : DriverEnd) (part : QueuePart) (buffer : Buffer)
@@ -68,12 +58,8 @@ pub buffer_taken : (mem : Pages) (ring : DriverEnd) (part : QueuePart) (figures 
       next_avail = (part.next_avail + 1) % 65536;
       taken = part.taken ++ (record { head = 0; pages = []; visited = 0 } ∷ []);
     }) (BufferTaken figures)
-buffer_taken mem ring part figures line = record {
-  stands = ring_taken mem 2 ring part.next_avail part.next_used 0 [] [] [] line.stands;
-  figures = tt;
-  remembers = ap (λ (l : List Request). l ++ (record { head = 0; pages = []; visited = 0 } ∷ []))
-      line.remembers;
-}
+buffer_taken mem ring part figures line =
+    grind (arith, ring_taken mem 2 ring part.next_avail part.next_used 0 [] [] [] line.stands)
 
 -- the device uses it
 pub buffer_used : (m1 m2 : Pages) (ring : DriverEnd) (part : QueuePart) (figures : Figures)
@@ -102,24 +88,18 @@ pub buffer_posted : (m1 m2 : Pages) (r1 r2 : DriverEnd) (part : QueuePart) (figu
     → BufferLine m1 r1 part NoBuffer → PostsBuffer m1 m2 r1 r2 figures
     → BufferLine m2 r2 part (BufferPosted figures)
 buffer_posted m1 m2 r1 r2 part figures line posts =
-    let table : r1.layout.table ≡ ring_page r1.size 2 =
-    ap (λ (l : Layout). l.table) line.stands.layout in
-    record {
-      stands = ring_posted m1 m2 2 r1 r2 part.next_avail part.next_used [] [] [] 1 0 line.stands
-          posts.state posts.announces;
-      figures = subst (λ (t : ℕ). AreFigures m2 t figures)
-          (table ∙ ap (λ (r : DriverEnd). ring_page r.size 2) (sym posts.state)) posts.coded;
-      remembers = line.remembers;
-    }
+    grind (
+      arith,
+      ring_posted m1 m2 2 r1 r2 part.next_avail part.next_used [] [] [] 1 0 line.stands posts.state posts.announces,
+    )
 
 -- the driver sees that it was used
 pub buffer_emptied : (mem : Pages) (ring : DriverEnd) (part : QueuePart) (figures : Figures)
     → BufferLine mem ring part (BufferDone figures)
     → TakesUsedBy mem ring (emptied ring) (Ok (Some 0))
     → BufferLine mem (emptied ring) part NoBuffer
-buffer_emptied mem ring part figures line takes = record {
-  stands = ring_reaped mem 2 ring (emptied ring) part.next_avail part.next_used [] [] 0 []
-      line.stands takes;
-  figures = tt;
-  remembers = line.remembers;
-}
+buffer_emptied mem ring part figures line takes =
+    grind (
+      arith,
+      ring_reaped mem 2 ring (emptied ring) part.next_avail part.next_used [] [] 0 [] line.stands takes,
+    )

@@ -1,33 +1,23 @@
 -- What a call of `supply_from` makes of one page and of the rest.
-use Rattle.std.specs.Prelude.{◌≡◌, ℕ, suc, ◌+◌, ◌-◌, ◌<◌, ◌≤◌, Bool, true, false, ◌&&◌, cond, List}
-use Rattle.std.specs.Prelude.{[], ◌∷◌, length, Option, Some, None, is_none, filter, Result}
-use Rattle.std.specs.Prelude.{Ok, Err, IsErrAnd, ◌++◌, refl}
+use Rattle.std.specs.Prelude.{◌≡◌, ℕ, suc, ◌+◌, ◌-◌, ◌<◌, ◌≤◌, Bool, true, false, cond, List, []}
+use Rattle.std.specs.Prelude.{◌∷◌, length, None, filter, Result, Ok, Err, IsErrAnd, ◌++◌}
 use Rattle.std.specs.List.{range_with_len}
 use Rattle.std.proofs.lemmas.List.{append-nil, append_assoc}
-use Rattle.std.proofs.Common.{sym, ◌∙◌, ap, subst, arith, eq-eqb}
+use Rattle.std.proofs.Common.{sym, ◌∙◌, ap, subst, arith}
 use Rattle.vb_model.specs.declared.calls.Claim.{Claim}
-use Rattle.vb_model.specs.declared.calls.Claim.TheVariants.{Gave, GaveNoFrame, GaveNoMemory}
-use Rattle.vb_ram.specs.Pages.{Pages, frame_at, number_of, Supplied}
+use Rattle.vb_model.specs.declared.calls.Claim.TheVariants.{Gave}
+use Rattle.vb_ram.specs.Pages.{Pages, frame_at, Supplied}
 use Rattle.vb_frames.specs.declared.keeper.Refused.{Refused}
-use Rattle.vb_frames.specs.declared.keeper.Refused.TheVariants.{NoFrame, Memory}
-use Rattle.vb_model.specs.Layout.{reserved_pages, is_start_page}
-use Rattle.vb_model.specs.Tests.{one_if}
+use Rattle.vb_model.specs.Layout.{reserved_pages}
 use Rattle.vb_model.specs.Driver.{given}
 use Rattle.vb_model.specs.Orderly.{times}
-use Rattle.vb_model.proofs.Shapes.{reserved_most}
 use Rattle.vb_frames.specs.Out.{claim_in}
 use Rattle.vb_guest.specs.Supply.{Supply, is_used, IsClaimed, Moves, nothing}
 use Rattle.vb_guest.specs.Lives.{is_bare, bare_from, SuppliesBy}
 use Rattle.vb_guest.proofs.Supplying.{not_again, supplied_count, supplied_other}
-use Rattle.vb_guest.proofs.Moving.{is_one, times_first, times_one, moves_none, moves_then, moves_as}
+use Rattle.vb_guest.proofs.Moving.{times_first, times_one, moves_then, moves_as}
 
 -- ---- the pages without frames
-
-pub bare_past : (size : ℕ) (mem : Pages) (page : ℕ) → reserved_pages size ≤ page
-    → bare_from size mem page ≡ []
-bare_past size mem page past =
-    let none : reserved_pages size - page ≡ 0 = omega arith in
-    ap (λ (n : ℕ). filter (is_bare size mem) (range_with_len page n)) none
 
 bare_first : (size : ℕ) (mem : Pages) (page : ℕ) → page < reserved_pages size
     → bare_from size mem page ≡ cond (is_bare size mem page)
@@ -38,73 +28,40 @@ bare_first size mem page lt =
 
 pub bare_skips : (size : ℕ) (mem : Pages) (page : ℕ) → page < reserved_pages size
     → is_bare size mem page ≡ false → bare_from size mem page ≡ bare_from size mem (page + 1)
-bare_skips size mem page lt passed =
-    bare_first size mem page lt
-    ∙ ap (λ (b : Bool). cond b (page ∷ bare_from size mem (page + 1))
-    (bare_from size mem (page + 1))) passed
+bare_skips size mem page lt passed = grind (arith, bare_first)
 
 pub bare_takes : (size : ℕ) (mem : Pages) (page : ℕ) → page < reserved_pages size
     → is_bare size mem page ≡ true
     → bare_from size mem page ≡ page ∷ bare_from size mem (page + 1)
-bare_takes size mem page lt bare =
-    bare_first size mem page lt
-    ∙ ap (λ (b : Bool). cond b (page ∷ bare_from size mem (page + 1))
-    (bare_from size mem (page + 1))) bare
-
-none_is : (start : Bool) (o : Option ℕ) → (start && is_none o) ≡ true → o ≡ None
-none_is start None e = refl
-none_is true (Some x) e = absurd cc
-none_is false (Some x) e = absurd cc
+bare_takes size mem page lt bare = grind (arith, bare_first)
 
 -- after the rest got frames, the page is still there and has none
 pub still_inside : (Answers : List Bool → Claim → Type 0) (size : ℕ) (s1 s2 : Supply) (l1 l2 : List Claim)
     (m m1 m2 : Pages) (page : ℕ) → page < reserved_pages size → 64 ≤ length m → m1 ≡ m
     → SuppliesBy {T = Unit {0}} Answers s1 s2 l1 l2 (bare_from size m1 (page + 1)) m1 m2 (Ok tt)
     → page < length m2
-still_inside Answers size s1 s2 l1 l2 m m1 m2 page lt large same did =
-    omega (
-      arith,
-      reserved_most size,
-      supplied_count (bare_from size m1 (page + 1)) _ m1 m2 did.supplied.0,
-      ap (λ (x : Pages). length x) same,
-    )
+still_inside Answers size s1 s2 l1 l2 m m1 m2 page lt large same did = grind (arith, supplied_count)
 
 pub still_bare : (Answers : List Bool → Claim → Type 0) (size : ℕ) (s1 s2 : Supply) (l1 l2 : List Claim)
     (m m1 m2 : Pages) (page : ℕ) → is_bare size m page ≡ true → m1 ≡ m
     → SuppliesBy {T = Unit {0}} Answers s1 s2 l1 l2 (bare_from size m1 (page + 1)) m1 m2 (Ok tt)
     → frame_at m2 page ≡ None
 still_bare Answers size s1 s2 l1 l2 m m1 m2 page none same did =
-    ap number_of (supplied_other (bare_from size m1 (page + 1)) _ m1 m2 page did.supplied.0
-    (not_again (is_bare size m1) page (reserved_pages size - (page + 1))))
-    ∙ ap (λ (x : Pages). frame_at x page) same
-    ∙ none_is (is_start_page size page) (frame_at m page) none
+    grind (arith, supplied_other, not_again)
 
 -- ---- what is left
 
 pub supplies_none : (Answers : List Bool → Claim → Type 0) (size : ℕ) (s : Supply) (l : List Claim) (m : Pages)
     (page : ℕ) → reserved_pages size ≤ page
     → SuppliesBy {T = Unit {0}} Answers s s l l (bare_from size m page) m m (Ok tt)
-supplies_none Answers size s l m page past =
-    subst (λ (pages : List ℕ). SuppliesBy {T = Unit {0}} Answers s s l l pages m m (Ok tt))
-    (sym (bare_past size m page past))
-    (record {
-      claims = [];
-      noted = sym (append-nil l);
-      made = tt;
-      answered = tt;
-      answer = refl;
-      supplied = (refl, moves_none s);
-      refused = tt;
-    })
+supplies_none Answers size s l m page past = grind (arith, append-nil)
 
 pub supplies_rest : (Answers : List Bool → Claim → Type 0) (size : ℕ) (s1 s2 : Supply) (l1 l2 : List Claim)
     (m1 m2 : Pages) (page : ℕ) (result : Result (Unit {0}) Refused) → page < reserved_pages size
     → is_bare size m1 page ≡ false
     → SuppliesBy Answers s1 s2 l1 l2 (bare_from size m1 (page + 1)) m1 m2 result
     → SuppliesBy Answers s1 s2 l1 l2 (bare_from size m1 page) m1 m2 result
-supplies_rest Answers size s1 s2 l1 l2 m1 m2 page result lt has did =
-    subst (λ (l : List ℕ). SuppliesBy Answers s1 s2 l1 l2 l m1 m2 result)
-    (sym (bare_skips size m1 page lt has)) did
+supplies_rest Answers size s1 s2 l1 l2 m1 m2 page result lt has did = grind (arith, bare_skips)
 
 -- the page's claim is refused
 pub supplies_refused : (Answers : List Bool → Claim → Type 0) (size : ℕ) (s1 s2 : Supply) (l1 l2 : List Claim)
@@ -112,31 +69,7 @@ pub supplies_refused : (Answers : List Bool → Claim → Type 0) (size : ℕ) (
     → IsClaimed Answers s1 s2 (claim_in (Err why)) → l2 ≡ l1 ++ (claim_in (Err why) ∷ [])
     → m2 ≡ m1 → SuppliesBy {T = Unit {0}} Answers s1 s2 l1 l2 (bare_from size m1 page) m1 m2 (Err why)
 supplies_refused Answers size s1 s2 l1 l2 m1 m2 page why lt none answer noted m =
-    subst (λ (l : List ℕ). SuppliesBy {T = Unit {0}} Answers s1 s2 l1 l2 l m1 m2 (Err why))
-    (sym (bare_takes size m1 page lt none)) (by why answer noted)
-  where
-    by : (w : Refused) → IsClaimed Answers s1 s2 (claim_in (Err w))
-        → l2 ≡ l1 ++ (claim_in (Err w) ∷ [])
-        → SuppliesBy {T = Unit {0}} Answers s1 s2 l1 l2 (page ∷ bare_from size m1 (page + 1)) m1 m2
-        (Err w)
-    by NoFrame a n = record {
-      claims = GaveNoFrame ∷ [];
-      noted = n;
-      made = refl;
-      answered = (s2, a, refl);
-      answer = refl;
-      supplied = tt;
-      refused = (m, a.moves);
-    }
-    by Memory a n = record {
-      claims = GaveNoMemory ∷ [];
-      noted = n;
-      made = refl;
-      answered = (s2, a, refl);
-      answer = refl;
-      supplied = tt;
-      refused = (m, a.moves);
-    }
+    grind (arith, bare_takes size m1 page lt none)
 
 -- a refusal that is handed on
 pub err_is : (result : Result (Unit {0}) Refused) (why : Refused) → IsErrAnd result (λ e. e ≡ why)
@@ -220,11 +153,4 @@ supplies_back Answers size s1 s2 s3 s4 l1 l2 l3 m1 m2 m3 m4 page n why lt none a
 pub still_used : (Answers : List Bool → Claim → Type 0) (s1 s2 s3 : Supply) (l2 l3 : List Claim)
     (m2 m3 : Pages) (pages : List ℕ) (n : ℕ) (why : Refused) → IsClaimed Answers s1 s2 (Gave n)
     → SuppliesBy {T = Unit {0}} Answers s2 s3 l2 l3 pages m2 m3 (Err why) → is_used s3 n ≡ true
-still_used Answers s1 s2 s3 l2 l3 m2 m3 pages n why answer rest =
-    is_one (is_used s3 n) (omega (
-      arith,
-      answer.moves.balance n,
-      rest.refused.1.balance n,
-      times_one n n,
-      ap one_if (eq-eqb n n refl),
-    ))
+still_used Answers s1 s2 s3 l2 l3 m2 m3 pages n why answer rest = grind arith

@@ -1,9 +1,8 @@
 -- A guest's two deflates are steps of the definitions.
-use Rattle.std.specs.Prelude.{◌≡◌, ℕ, zero, suc, ◌+◌, ◌<◌, ◌≤◌, ◌==◌, Bool, true, false, not}
-use Rattle.std.specs.Prelude.{nat_le, if◌then◌else◌, List, [], ◌∷◌, length, take, Result, Ok, Err}
-use Rattle.std.specs.Prelude.{OnErr, IfOk, Option, Some, None, is_some, count_by, refl, ◌⊎◌}
+use Rattle.std.specs.Prelude.{◌≡◌, ℕ, zero, suc, ◌<◌, ◌≤◌, ◌==◌, Bool, not, nat_le, List, [], ◌∷◌}
+use Rattle.std.specs.Prelude.{length, take, Result, Ok, Err, OnErr, IfOk, Option, Some, None}
+use Rattle.std.specs.Prelude.{is_some, count_by, refl, ◌⊎◌}
 use Rattle.std.proofs.Common.{sym, ◌∙◌, ap, subst, arith, inl, inr}
-use Rattle.std.proofs.lemmas.Bool.Decides.{nat_tests}
 use Rattle.vb_model.specs.declared.calls.Call.{Call}
 use Rattle.vb_model.specs.declared.calls.Call.TheVariants.{Deflate, Oom}
 use Rattle.vb_model.specs.declared.replies.Refusal.{Refusal}
@@ -11,8 +10,7 @@ use Rattle.vb_model.specs.declared.replies.Refusal.TheVariants.{NotReady, NoFeat
 use Rattle.vb_model.specs.declared.replies.Refusal.TheVariants.{Nothing}
 use Rattle.vb_model.specs.declared.replies.Reply.{Reply}
 use Rattle.vb_model.specs.declared.replies.Reply.TheVariants.{Posted}
-use Rattle.vb_model.specs.Tests.{one_if, pages_from, pages_where}
-use Rattle.vb_model.specs.Pages.{is_lent}
+use Rattle.vb_model.specs.Tests.{pages_from}
 use Rattle.vb_model.specs.Requests.{outstanding, Deflating}
 use Rattle.vb_model.specs.Guest.{Guest, lent_count, deflate_on_oom}
 use Rattle.vb_model.specs.Driver.{Deflates, lowest_lent, asking}
@@ -40,28 +38,18 @@ use Rattle.vb_guest.proofs.BufferLines.{buffer_apart}
 use Rattle.vb_guest.proofs.ReportLines.{report_apart}
 use Rattle.vb_guest.proofs.Posting.{line_posted, least_head, outstanding_are}
 use Rattle.vb_guest.proofs.PagesKept.{pages_same}
-use Rattle.vb_guest.proofs.Closing.{honest_performed, steps_alone, refused_alone}
+use Rattle.vb_guest.proofs.Closing.{honest_performed, steps_alone}
 use Rattle.vb_guest.proofs.Offered.{last_sound, deflate_requested}
 use Rattle.vb_guest.proofs.InflateStep.{request_refusal}
 use Rattle.vb_guest.proofs.DriverWords.{Sides, sides_of, driver_of, driver_is, keeps_own}
 
 -- ---- the lowest lent pages are as many as were asked for
 
-one_more : (b : Bool) (page : ℕ) (pages : List ℕ)
-    → length (if b then page ∷ pages else pages) ≡ one_if b + length pages
-one_more true page pages = omega arith
-one_more false page pages = omega arith
-
 length-pages_from : {A : Type 0} (first : ℕ) (test : A → Bool) (xs : List A)
     → length (pages_from first test xs) ≡ count_by test xs
 length-pages_from first test [] = refl
 length-pages_from first test (x ∷ xs) =
-    omega (
-      arith,
-      one_more (test x) first (pages_from (suc first) test xs),
-      length-pages_from (suc first) test xs,
-      count_by-cons test x xs,
-    )
+    grind (arith, length-pages_from (suc first) test xs, count_by-cons test x xs)
 
 length-first : (n : ℕ) (xs : List ℕ) → n ≤ length xs → length (take n xs) ≡ n
 length-first zero xs few = refl
@@ -69,9 +57,7 @@ length-first (suc n) [] few = absurd (omega arith)
 length-first (suc n) (x ∷ xs) few = omega (arith, length-first n xs (omega arith))
 
 length-lent : (g : Guest) (n : ℕ) → n ≤ lent_count g → length (lowest_lent n g) ≡ n
-length-lent g n few =
-    length-first n (pages_where is_lent g.places)
-    (omega (arith, length-pages_from 0 is_lent g.places, few))
+length-lent g n few = grind (arith, length-first, length-pages_from)
 
 -- ---- a request that goes out
 
@@ -164,8 +150,7 @@ by_result : (m1 m2 : Pages) (p1 p2 : Part) (g : Guest) (areas : FreePages) (side
     → Honest m1 p1 (driver_of g areas sides) g
     → StepsAlone (Honest m2 p2 d2) g call (posted_reply result)
 by_result m1 m2 p1 p2 g areas sides d2 call count (Err why) asks driver refusal refused did stands =
-    refused_alone m1 m2 p1 p2 (driver_of g areas sides) d2 g call why stands (sym refusal)
-    refused.mem refused.part refused.driver
+    grind arith
 by_result m1 m2 p1 p2 g areas sides d2 call count (Ok posted) asks driver refusal refused did stands
     =
     elim stands.ties.queues [
@@ -175,52 +160,29 @@ by_result m1 m2 p1 p2 g areas sides d2 call count (Ok posted) asks driver refusa
           run (sym refusal)
     ]
 
-some_asked : (most out count : ℕ) → request_refusal most out count ≡ None → 0 < count
-some_asked most out count e = grind (arith, nat_tests)
-
 -- ---- as far as the target allows
 
 deflate_idle : (g : Guest) (n : ℕ) → (g.status ≡ 0) ⊎ (g.status ≡ 131)
     → refusal_of g (Deflate n) ≡ Some NotReady
-deflate_idle g n down =
-    let P : ℕ → Type 0 = λ s. refusal_of (record g { status = s }) (Deflate n) ≡ Some NotReady in
-    elim down [ inl e ↦ subst P (sym e) refl | inr e ↦ subst P (sym e) refl ]
+deflate_idle g n down = grind arith
 
 deflate_idle_tests : (d : DriverState) (p : Part) (n : ℕ) → (p.status ≡ 0) ⊎ (p.status ≡ 131)
     → first_refusal (deflate_tests d p n) ≡ Some NotReady
-deflate_idle_tests d p n down =
-    let P : ℕ → Type 0 = λ s. first_refusal (deflate_tests d (record p { status = s }) n)
-    ≡ Some NotReady in
-    elim down [ inl e ↦ subst P (sym e) refl | inr e ↦ subst P (sym e) refl ]
+deflate_idle_tests d p n down = grind arith
 
 deflate_running : (g : Guest) (n : ℕ) → g.status ≡ 15
     → refusal_of g (Deflate n)
     ≡ request_refusal (room g) (outstanding g.deflate) (deflate_count g n)
-deflate_running g n e =
-    let P : ℕ → Type 0 = λ s. refusal_of (record g { status = s }) (Deflate n)
-    ≡ request_refusal (room g) (outstanding g.deflate) (deflate_count g n) in
-    subst P (sym e) refl
+deflate_running g n e = grind arith
 
 deflate_running_tests : (g : Guest) (areas : FreePages) (sides : Sides) (p : Part) (n : ℕ)
     → p.status ≡ 15 → p.target ≡ g.target
     → first_refusal (deflate_tests (driver_of g areas sides) p n)
     ≡ request_refusal (room g) (outstanding_in sides.deflate.ring) (deflate_count g n)
-deflate_running_tests g areas sides p n e t =
-    let P : ℕ → ℕ → Type 0 =
-    λ s target. first_refusal
-    (deflate_tests (driver_of g areas sides) (record p { status = s; target = target }) n)
-    ≡ request_refusal (room g) (outstanding_in sides.deflate.ring) (deflate_count g n) in
-    subst (λ s. P s p.target) (sym e) (subst (λ x. P 15 x) (sym t) refl)
+deflate_running_tests g areas sides p n e t = grind arith
 
 deflate_asks : (g : Guest) (n : ℕ) → IsAsking g (Deflate n) (deflate_count g n)
-deflate_asks g n = record {
-  few = omega arith;
-  lent = omega arith;
-  some = λ free up. some_asked (room g) (outstanding g.deflate) (deflate_count g n)
-      (sym (deflate_running g n up) ∙ free);
-  down = deflate_idle g n;
-  performs = λ reply new does. (refl, does);
-}
+deflate_asks g n = grind arith
 
 pub deflate_step : (m1 m2 : Pages) (p1 p2 : Part) (d1 d2 : DriverState) (g : Guest) (n : ℕ)
     (result : Result PostedRequest Refusal)
@@ -262,54 +224,28 @@ oom_refusal allowed most out count =
     first_refusal ((not allowed ⇒ NoFeature) ∷ (nat_le most out ⇒ QueueFull)
     ∷ ((count == 0) ⇒ Nothing) ∷ [])
 
-some_left : (allowed : Bool) (most out count : ℕ) → oom_refusal allowed most out count ≡ None
-    → 0 < count
-some_left true most out count e = some_asked most out count e
-some_left false most out count e = absurd cc
-
 oom_idle : (g : Guest) (n : ℕ) → (g.status ≡ 0) ⊎ (g.status ≡ 131)
     → refusal_of g (Oom n) ≡ Some NotReady
-oom_idle g n down =
-    let P : ℕ → Type 0 = λ s. refusal_of (record g { status = s }) (Oom n) ≡ Some NotReady in
-    elim down [ inl e ↦ subst P (sym e) refl | inr e ↦ subst P (sym e) refl ]
+oom_idle g n down = grind arith
 
 oom_idle_tests : (d : DriverState) (p : Part) (n : ℕ) → (p.status ≡ 0) ⊎ (p.status ≡ 131)
     → first_refusal (oom_tests d p n) ≡ Some NotReady
-oom_idle_tests d p n down =
-    let P : ℕ → Type 0 = λ s. first_refusal (oom_tests d (record p { status = s }) n)
-    ≡ Some NotReady in
-    elim down [ inl e ↦ subst P (sym e) refl | inr e ↦ subst P (sym e) refl ]
+oom_idle_tests d p n down = grind arith
 
 oom_running : (g : Guest) (n : ℕ) → g.status ≡ 15
     → refusal_of g (Oom n)
     ≡ oom_refusal (deflate_on_oom g.features) (room g) (outstanding g.deflate) (oom_count g n)
-oom_running g n e =
-    let P : ℕ → Type 0 = λ s. refusal_of (record g { status = s }) (Oom n)
-    ≡ oom_refusal (deflate_on_oom g.features) (room g) (outstanding g.deflate)
-    (oom_count g n) in
-    subst P (sym e) refl
+oom_running g n e = grind arith
 
 oom_running_tests : (g : Guest) (areas : FreePages) (sides : Sides) (p : Part) (n : ℕ)
     → p.status ≡ 15
     → first_refusal (oom_tests (driver_of g areas sides) p n)
     ≡ oom_refusal (deflate_on_oom g.features) (room g) (outstanding_in sides.deflate.ring)
     (oom_count g n)
-oom_running_tests g areas sides p n e =
-    let P : ℕ → Type 0 = λ s. first_refusal
-    (oom_tests (driver_of g areas sides) (record p { status = s }) n)
-    ≡ oom_refusal (deflate_on_oom g.features) (room g) (outstanding_in sides.deflate.ring)
-    (oom_count g n) in
-    subst P (sym e) refl
+oom_running_tests g areas sides p n e = grind arith
 
 oom_asks : (g : Guest) (n : ℕ) → IsAsking g (Oom n) (oom_count g n)
-oom_asks g n = record {
-  few = omega arith;
-  lent = omega arith;
-  some = λ free up. some_left (deflate_on_oom g.features) (room g) (outstanding g.deflate)
-      (oom_count g n) (sym (oom_running g n up) ∙ free);
-  down = oom_idle g n;
-  performs = λ reply new does. (refl, does);
-}
+oom_asks g n = grind arith
 
 pub oom_step : (m1 m2 : Pages) (p1 p2 : Part) (d1 d2 : DriverState) (g : Guest) (n : ℕ)
     (result : Result PostedRequest Refusal)

@@ -29,21 +29,13 @@ length-with_entry pages x xs =
 pub with_entry-get : {A : Type 0} (pages : List ℕ) (x : A) (xs : List A) (i : ℕ) (d : A)
     → i < length xs → slice_index_or (with_entry pages x xs) i d
     ≡ (if is_in i pages then x else slice_index_or xs i d)
-with_entry-get pages x xs i d lt =
-    each_page-get (λ page old. if is_in page pages then x else old) xs i d
-    (λ past. absurd (omega arith))
+with_entry-get pages x xs i d lt = grind (arith, each_page-get)
 
 -- where the entry is what is past the end, any index will do
 pub with_none-get : {A : Type 0} (pages : List ℕ) (x : A) (xs : List A) (i : ℕ)
     → slice_index_or (with_entry pages x xs) i x
     ≡ (if is_in i pages then x else slice_index_or xs i x)
-with_none-get pages x xs i =
-    each_page-get (λ page old. if is_in page pages then x else old) xs i x
-    (λ past. same (is_in i pages) x)
-  where
-    same : {A : Type 0} (b : Bool) (x : A) → (if b then x else x) ≡ x
-    same true x = refl
-    same false x = refl
+with_none-get pages x xs i = grind (arith, each_page-get)
 
 pub in_first : (p : ℕ) (ps : List ℕ) → is_in p (p ∷ ps) ≡ true
 in_first p ps = ap (λ (b : Bool). b || list_any (λ m. m == p) ps) (eq-eqb p p refl)

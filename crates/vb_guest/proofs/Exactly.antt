@@ -1,8 +1,7 @@
 -- What the calls do exactly, from what they call.
-use Rattle.std.specs.Prelude.{◌≡◌, ◌<◌, ℕ, Bool, List, [], ◌∷◌, None, Result, Err, IsOk}
-use Rattle.std.specs.Prelude.{IsSome, length, replicate, false}
+use Rattle.std.specs.Prelude.{◌≡◌, ◌<◌, ℕ, Bool, List, [], ◌∷◌, None, Result, Err, IsOk, length}
 use Rattle.std.proofs.lemmas.List.{length-replicate}
-use Rattle.std.proofs.Common.{◌∙◌, ap, sym, subst, arith}
+use Rattle.std.proofs.Common.{arith}
 use Rattle.vb_model.specs.declared.calls.Claim.{Claim}
 use Rattle.vb_model.specs.declared.calls.Claim.TheVariants.{Gave}
 use Rattle.vb_model.specs.declared.replies.Refusal.{Refusal}
@@ -26,17 +25,8 @@ pub fills_given : (Answers : List Bool → Claim → Type 0) (s1 : Supply) (out 
     → m2 ≡ m1 → Supplied m2 m3 page number → Wrote m3 m4 page off bytes
     → p2 ≡ record p1 { own = p2.own } → p3 ≡ p2 → p4 ≡ p3
     → FillsBare Answers s1 (supply_of p4 out) m1 m4 p1 p4 claims page off bytes r
-fills_given Answers s1 out m1 m2 m3 m4 p1 p2 p3 p4 claims page off bytes number r ok claimed noted
-    same supplied wrote part supplying writing =
-    let still : p2 ≡ p4 = sym (writing ∙ supplying) in
-    record {
-      claim = Gave number;
-      noted = noted;
-      claimed = subst (λ (p : Part). IsClaimed Answers s1 (supply_of p out) (Gave number)) still
-          claimed;
-      part = subst (λ (p : Part). p ≡ record p1 { own = p.own }) still part;
-      fills = (ok, (m3, subst (λ (m : Pages). Supplied m m3 page number) same supplied, wrote));
-    }
+fills_given Answers s1 out m1 m2 m3 m4 p1 p2 p3 p4 claims page off bytes number r ok claimed noted same supplied wrote part supplying writing =
+    grind arith
 
 -- ---- bytes of any page
 
@@ -46,12 +36,7 @@ pub puts_outside : (Answers : List Bool → Claim → Type 0) (s1 s2 : Supply) (
     (r : Result (Unit {0}) Refusal) → (Covers m1 page off (length bytes) → ⊥) → r ≡ Err OutOfRam
     → IsQuiet s1 s2 m1 m2 p1 p2 claims
     → PutsBy Answers s1 s2 m1 m2 p1 p2 claims page off bytes r
-puts_outside Answers s1 s2 m1 m2 p1 p2 claims page off bytes r past is quiet = record {
-  outside = λ _. (is, quiet);
-  empty = λ inside none. absurd (past inside);
-  backed = λ inside has. absurd (past inside);
-  bare = λ inside some none. absurd (past inside);
-}
+puts_outside Answers s1 s2 m1 m2 p1 p2 claims page off bytes r past is quiet = grind arith
 
 -- there is a frame, or no byte to be written
 pub puts_there : (Answers : List Bool → Claim → Type 0) (s1 s2 : Supply) (m1 m2 : Pages)
@@ -60,13 +45,8 @@ pub puts_there : (Answers : List Bool → Claim → Type 0) (s1 s2 : Supply) (m1
     → (0 < length bytes → frame_at m1 page ≡ None → ⊥) → Wrote m1 m2 page off bytes
     → (length bytes ≡ 0 → m2 ≡ m1) → p2 ≡ p1 → s2 ≡ s1 → claims ≡ []
     → PutsBy Answers s1 s2 m1 m2 p1 p2 claims page off bytes r
-puts_there Answers s1 s2 m1 m2 p1 p2 claims page off bytes r ok inside there wrote unwritten part
-    supply none = record {
-      outside = λ past. absurd (past inside);
-      empty = λ _ empty. (ok, record { mem = unwritten empty; part = part; supply = supply; none = none });
-      backed = λ _ has. (ok, wrote, part, supply, none);
-      bare = λ _ some bare. absurd (there some bare);
-    }
+puts_there Answers s1 s2 m1 m2 p1 p2 claims page off bytes r ok inside there wrote unwritten part supply none =
+    grind arith
 
 -- a frame was wanting
 pub puts_bare : (Answers : List Bool → Claim → Type 0) (out : List Bool) (s2 : Supply)
@@ -75,17 +55,8 @@ pub puts_bare : (Answers : List Bool → Claim → Type 0) (out : List Bool) (s2
     → frame_at m0 page ≡ None → m1 ≡ m0 → p1 ≡ p0
     → FillsBare Answers (supply_of p1 out) s2 m1 m2 p1 p2 claims page off bytes r
     → PutsBy Answers (supply_of p0 out) s2 m0 m2 p0 p2 claims page off bytes r
-puts_bare Answers out s2 m0 m1 m2 p0 p1 p2 claims page off bytes r inside some none same part
-    fills = record {
-      outside = λ past. absurd (past inside);
-      empty = λ _ empty. absurd (omega (arith, some, empty));
-      backed = λ _ has. (let wrong = subst IsSome none has in cc);
-      bare = λ _ _ _. subst
-          (λ (m : Pages). FillsBare Answers (supply_of p0 out) s2 m m2 p0 p2 claims page off bytes r)
-          same
-          (subst (λ (p : Part). FillsBare Answers (supply_of p out) s2 m1 m2 p p2 claims page off bytes r)
-          part fills);
-    }
+puts_bare Answers out s2 m0 m1 m2 p0 p1 p2 claims page off bytes r inside some none same part fills =
+    grind arith
 
 -- ---- an initialisation
 
@@ -99,26 +70,10 @@ pub begins : (Answers : List Bool → Claim → Type 0) (s1 : Supply) (out2 : Li
     → Continues got mid m2 part p2 d1 d2 wanted r
     → InitialisesBy Answers s1 out2 m1 m2 p1 p2 d1 d2 claims wanted r
 begins Answers s1 out2 m1 mid m2 p1 part p2 d1 d2 claims wanted got r new own supplies continues =
-    record {
-      up = λ other. absurd (other new);
-      new = λ _. record {
-        mem = mid;
-        part = part;
-        got = got;
-        own = own;
-        supplies = supplies;
-        continues = continues;
-      };
-    }
+    grind arith
 
 -- ---- a reset
 
 -- a second one changes nothing
 pub reset_twice : (p1 p2 p3 : Part) → p2 ≡ part_after_reset p1 → IsReset p2 p3 → IsReset p1 p3
-reset_twice p1 p2 p3 first second =
-    subst (λ (p : Part). IsReset p p3) first second
-    ∙ ap (λ n. record (part_after_reset p1) {
-      ballooned = replicate n false;
-      loose = [];
-      own = p3.own;
-    }) (length-replicate {A = Bool} (length p1.ballooned) false)
+reset_twice p1 p2 p3 first second = grind (arith, length-replicate)

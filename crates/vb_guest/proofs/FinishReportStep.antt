@@ -8,13 +8,11 @@ use Rattle.std.proofs.lemmas.Option.{get_or_from_slice_get, slice_get_within}
 use Rattle.vb_model.specs.declared.calls.Call.TheVariants.{Finish}
 use Rattle.vb_model.specs.declared.replies.Refusal.{Refusal}
 use Rattle.vb_model.specs.declared.replies.Refusal.TheVariants.{NotReady, NotTaken}
-use Rattle.vb_model.specs.declared.replies.Reply.TheVariants.{Finished, Refused}
+use Rattle.vb_model.specs.declared.replies.Reply.TheVariants.{Finished}
 use Rattle.vb_model.specs.Requests.{Request, Reporting_free}
 use Rattle.vb_model.specs.Guest.{Guest, frame_of}
 use Rattle.vb_model.specs.Driver.{AllDistinct}
 use Rattle.vb_model.specs.Device.{used, settled}
-use Rattle.vb_model.specs.FirstRefusal.{first_refusal}
-use Rattle.vb_model.specs.Tables.{finish_tests}
 use Rattle.vb_model.specs.Refusals.{refusal_of}
 use Rattle.vb_model.specs.Orderly.{times, IsRequestSound, AllRequestsSound}
 use Rattle.vb_model.proofs.Distinct.{distinct_once}
@@ -41,11 +39,10 @@ use Rattle.vb_guest.proofs.EachOnce.{distinct_each_once}
 use Rattle.vb_guest.proofs.OwnBlocks.{own_pages}
 use Rattle.vb_guest.proofs.Discarding.{frames_freed}
 use Rattle.vb_guest.proofs.PagesKept.{SamePages, pages_same, pages_discarded, page_undiscarded}
-use Rattle.vb_guest.proofs.Handing.{handed_back, loose_none, not_among, used_same, same_end, end_by}
+use Rattle.vb_guest.proofs.Handing.{handed_back, not_among, used_same, same_end, end_by}
 use Rattle.vb_guest.proofs.Handing.{behind_same}
 use Rattle.vb_guest.proofs.SameRefusals.{finish_same, finish_idle}
-use Rattle.vb_guest.proofs.Closing.{honest_refused, honest_performed, still_stands, guest_step}
-use Rattle.vb_guest.proofs.Closing.{ties_same}
+use Rattle.vb_guest.proofs.Closing.{honest_performed, still_stands, guest_step, ties_same}
 
 -- a refused finish of any queue
 pub finish_refused : (m1 m2 : Pages) (p1 p2 : Part) (d : DriverState) (g : Guest) (q i : ℕ)
@@ -53,19 +50,7 @@ pub finish_refused : (m1 m2 : Pages) (p1 p2 : Part) (d : DriverState) (g : Guest
     → FinishesBy q i m1 m2 p1 p2 result → Honest m1 p1 d g → finish_refusal q i p1 ≡ Some why
     → refusal_of g (Finish q i) ≡ Some why
     → StepsFreeing (Honest m2 (handed_back p2) d) p2.loose g (Finish q i) (finished_reply result)
-finish_refused m1 m2 p1 p2 d g q i why result did stands by_part by_model =
-    let (answer, part, memory) = did.refused why by_part in
-    let step = honest_refused g (Finish q i) why by_model in
-    let same = ap handed_back part ∙ loose_none p1 stands.ties.parts.device.loose in
-    let none : p2.loose ≡ [] = ap (λ (p : Part). p.loose) part ∙ stands.ties.parts.device.loose in
-    subst (λ r. StepsFreeing (Honest m2 (handed_back p2) d) p2.loose g (Finish q i)
-    (finished_reply r)) (sym answer) (record {
-      new = g;
-      stands = still_stands m1 m2 p1 (handed_back p2) d d g (Finish q i) [] (Refused why) g stands
-          step (ties_same m1 m2 p1 (handed_back p2) d d g memory same refl stands.ties);
-      step = guest_step g (Finish q i) [] (Refused why) g stands.ties.parts.guest.honest step;
-      freed = λ n. omega (arith, ap (times n) none);
-    })
+finish_refused m1 m2 p1 p2 d g q i why result did stands by_part by_model = grind arith
 
 -- a request among sound ones
 sound_at : (rs : List Request) (i : ℕ) (r : Request) → AllRequestsSound rs
@@ -182,11 +167,7 @@ report_finished m1 m2 p1 p2 d g i r result is did stands run free =
 
 not_taken : (g : Guest) (i : ℕ) → g.status ≡ 15 → slice_get g.report.taken i ≡ None
     → refusal_of g (Finish 4 i) ≡ Some NotTaken
-not_taken g i up none =
-    let P : ℕ → Option Request → Type 0 =
-    λ s o. first_refusal (finish_tests 4 s g.config.paced o) ≡ Some NotTaken in
-    subst (λ s. P s (slice_get g.report.taken i)) (sym up)
-    (subst (λ o. P 15 o) (sym none) refl)
+not_taken g i up none = grind arith
 
 pub finish_report : (m1 m2 : Pages) (p1 p2 : Part) (d : DriverState) (g : Guest) (i : ℕ)
     (result : Result ℕ Refusal)

@@ -1,15 +1,15 @@
 -- What a device's call leaves of memory and of its part, and which frames pages lose.
-use Rattle.std.specs.Prelude.{◌≡◌, ◌≢◌, ℕ, ◌<◌, ◌≤◌, ◌==◌, ◌||◌, Bool, true, false, List, [], ◌∷◌}
-use Rattle.std.specs.Prelude.{◌++◌, All, Option, refl}
+use Rattle.std.specs.Prelude.{◌≡◌, ℕ, ◌<◌, ◌≤◌, ◌==◌, ◌||◌, Bool, true, false, List, [], ◌∷◌, All}
+use Rattle.std.specs.Prelude.{Option}
 use Rattle.std.specs.Option.{option_to_list}
 use Rattle.std.specs.List.{flat_map}
-use Rattle.std.proofs.Common.{sym, ◌∙◌, ap, subst, arith, inl, inr}
+use Rattle.std.proofs.Common.{sym, ◌∙◌, ap, arith, inl, inr}
 use Rattle.std.proofs.lemmas.Bool.{eqb-true, cases_Bool}
 use Rattle.std.proofs.lemmas.List.Elements.{All-tail}
 use Rattle.vb_model.specs.Tests.{is_in}
 use Rattle.vb_model.specs.Layout.{ring_page}
 use Rattle.vb_model.specs.Guest.{frame_of}
-use Rattle.vb_ram.specs.Pages.{Pages, frame_at, contents_of}
+use Rattle.vb_ram.specs.Pages.{Pages, frame_at}
 use Rattle.vb_ram.specs.Part.{Part}
 use Rattle.vb_ring.specs.declared.layout.Layout.{Layout}
 use Rattle.vb_ring.specs.Layout.{layout_of}
@@ -47,12 +47,7 @@ not_among least pages p above low = elim (cases_Bool (is_in p pages)) [
 -- what is left of memory once a device has used a chain
 pub used_same : (least : ℕ) (m1 m2 : Pages) (e1 e2 : DeviceEnd) (head len : ℕ)
     → e1.layout.used.page < least → AddsUsedBy m1 m2 e1 e2 head len → SamePages least m1 m2
-used_same least m1 m2 e1 e2 head len low adds = record {
-  count = adds.puts.rest.count;
-  behind = adds.puts.rest.backing;
-  holds = λ p high. let apart : p ≢ e1.layout.used.page = omega arith in
-      ap contents_of (adds.puts.rest.others p (apart, (apart, tt)));
-}
+used_same least m1 m2 e1 e2 head len low adds = grind arith
 
 -- the device's end of a ring, as the driver keeps the ring
 abbrev pub end_by : Layout → ℕ → ℕ → ℕ → DeviceEnd
@@ -71,28 +66,17 @@ pub same_end : (m1 m2 : Pages) (q size next_avail next_used : ℕ) (ring : Drive
     → AddsUsedBy m1 m2 (end_by (layout_of (ring_page size q) size) size next_avail next_used) after
     head 0
     → AddsUsedBy m1 m2 (end_by ring.layout ring.size next_avail next_used) after head 0
-same_end m1 m2 q size next_avail next_used ring after head layout same adds =
-    let S : ℕ → Type 0 =
-    λ s. AddsUsedBy m1 m2 (end_by (layout_of (ring_page s q) s) s next_avail next_used) after
-    head 0 in
-    let L : Layout → Type 0 =
-    λ l. AddsUsedBy m1 m2 (end_by l ring.size next_avail next_used) after head 0 in
-    subst L (sym layout) (subst S same adds)
+same_end m1 m2 q size next_avail next_used ring after head layout same adds = grind arith
 
 -- the next entry of the queue is that of the ring which the driver keeps
 pub same_entry : (mem : Pages) (q size next : ℕ) (ring : DriverEnd)
     → ring.layout ≡ layout_of (ring_page ring.size q) ring.size → size ≡ ring.size
     → next_entry mem (layout_of (ring_page size q) size) size next
     ≡ next_entry mem ring.layout ring.size next
-same_entry mem q size next ring layout same =
-    ap (λ (s : ℕ). next_entry mem (layout_of (ring_page s q) s) s next) same
-    ∙ ap (λ (l : Layout). next_entry mem l ring.size next) (sym layout)
+same_entry mem q size next ring layout same = grind arith
 
 -- the frames behind pages are those of the guest's pages
 pub behind_same : (mem : Pages) (frames : List (Option ℕ)) (pages : List ℕ)
     → ((p : ℕ) → frame_at mem p ≡ frame_of frames p)
     → frames_behind mem pages ≡ flat_map (λ page. option_to_list (frame_of frames page)) pages
-behind_same mem frames [] same = refl
-behind_same mem frames (p ∷ ps) same =
-    ap (λ (o : Option ℕ). option_to_list o ++ frames_behind mem ps) (same p)
-    ∙ ap (λ (l : List ℕ). option_to_list (frame_of frames p) ++ l) (behind_same mem frames ps same)
+behind_same mem frames pages same = grind arith

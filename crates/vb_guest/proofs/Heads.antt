@@ -14,7 +14,7 @@ use Rattle.vb_guest.specs.Line.{heads_of}
 pub times-heads : (h : ℕ) (rs : List Request) → times h (heads_of rs) ≡ headed h rs
 times-heads h [] = refl
 times-heads h (r ∷ rs) =
-    omega (
+    grind (
       arith,
       count_by-cons (λ k. k == h) r.head (heads_of rs),
       count_by-cons (λ (x : Request). x.head == h) r rs,
@@ -46,12 +46,7 @@ headed-cons h r rs = count_by-cons (λ (x : Request). x.head == h) r rs
 
 pub headed-all : (h : ℕ) (rs : Requests)
     → headed h (all_requests rs) ≡ headed h rs.posted + (headed h rs.taken + headed h rs.done)
-headed-all h rs =
-    omega (
-      arith,
-      count_by-append (λ (x : Request). x.head == h) rs.posted (rs.taken ++ rs.done),
-      count_by-append (λ (x : Request). x.head == h) rs.taken rs.done,
-    )
+headed-all h rs = grind (arith, count_by-append)
 
 pub all_remove : {A : Type 0} (P : A → Type 0) (xs : List A) (i : ℕ) → All P xs
     → All P (remove xs i)
@@ -63,13 +58,7 @@ all_remove P xs i all =
 -- a visit changes a request's count alone
 pub heads-visiting : (rs : List Request) → heads_of (visiting rs) ≡ heads_of rs
 heads-visiting [] = refl
-heads-visiting (r ∷ rs) = step (is_unvisited r) (heads-visiting rs)
-  where
-    step : (v : Bool) → heads_of (visiting rs) ≡ heads_of rs
-        → heads_of (cond v (record r { visited = r.visited + 1 } ∷ rs) (r ∷ visiting rs))
-        ≡ r.head ∷ heads_of rs
-    step true later = refl
-    step false later = ap (λ (l : List ℕ). r.head ∷ l) later
+heads-visiting (r ∷ rs) = grind (arith, heads-visiting rs)
 
 pub all-visiting : (P : Request → Type 0)
     → ((r : Request) → P r → P (record r { visited = r.visited + 1 })) → (rs : List Request)

@@ -1,9 +1,7 @@
 -- A guest's inflate is a step of the definitions.
-use Rattle.std.specs.Prelude.{◌≡◌, ℕ, ◌<◌, ◌==◌, ◌&&◌, Bool, true, false, not, nat_le}
-use Rattle.std.specs.Prelude.{nat_lt, [], ◌∷◌, ◌++◌, length, Result, Ok, Err, Option, Some, None, IsSome, is_some, refl}
-use Rattle.std.specs.Prelude.{◌⊎◌}
+use Rattle.std.specs.Prelude.{◌≡◌, ℕ, ◌<◌, ◌==◌, ◌&&◌, Bool, not, nat_le, nat_lt, [], ◌∷◌, ◌++◌}
+use Rattle.std.specs.Prelude.{length, Result, Ok, Err, Option, Some, None, is_some, refl, ◌⊎◌}
 use Rattle.std.proofs.Common.{sym, ◌∙◌, ap, subst, arith, inl, inr}
-use Rattle.std.proofs.lemmas.Bool.Decides.{nat_tests}
 use Rattle.std.proofs.lemmas.List.{length-append}
 use Rattle.vb_model.specs.declared.calls.Call.TheVariants.{Inflate}
 use Rattle.vb_model.specs.declared.replies.Refusal.{Refusal}
@@ -16,17 +14,16 @@ use Rattle.vb_model.specs.Guest.{Guest, tells_host}
 use Rattle.vb_model.specs.Driver.{stranded_first, asking}
 use Rattle.vb_model.specs.Refusals.{◌⇒◌, first_refusal, refusal_of, inflate_count, room}
 use Rattle.vb_model.proofs.OrderlySteps.{honest_order}
-use Rattle.vb_ram.specs.Pages.{Pages, frame_at}
+use Rattle.vb_ram.specs.Pages.{Pages}
 use Rattle.vb_ram.specs.Part.{Part}
 use Rattle.vb_ring.specs.Ends.{outstanding as outstanding_in}
 use Rattle.vb_driver.specs.declared.answers.Posted.{Posted as PostedRequest}
 use Rattle.vb_driver.specs.State.{FreePages, DriverState, IsDriver}
-use Rattle.vb_driver.specs.Answers.{is_up, inflate_tests, inflate_count as driver_count}
+use Rattle.vb_driver.specs.Answers.{inflate_tests, inflate_count as driver_count}
 use Rattle.vb_driver.specs.Calls.{Offers, InflatesBy}
 use Rattle.vb_guest.specs.Stands.{Honest, Ties, IsRunning}
 use Rattle.vb_guest.specs.Steps.{StepsAlone}
 use Rattle.vb_guest.specs.Replies.{posted_reply}
-use Rattle.vb_model.specs.Layout.{is_start_page}
 use Rattle.vb_model.proofs.Shapes.{reserved_least}
 use Rattle.vb_guest.proofs.RunApart.{sizes_of, ring_of, buffer_clear, post_leaves, post_same}
 use Rattle.vb_guest.proofs.Offered.{asked_as}
@@ -35,7 +32,7 @@ use Rattle.vb_guest.proofs.BufferLines.{buffer_apart}
 use Rattle.vb_guest.proofs.ReportLines.{report_apart}
 use Rattle.vb_guest.proofs.Posting.{line_posted, least_head, outstanding_are}
 use Rattle.vb_guest.proofs.PagesKept.{pages_same}
-use Rattle.vb_guest.proofs.Closing.{honest_performed, steps_alone, refused_alone}
+use Rattle.vb_guest.proofs.Closing.{honest_performed, steps_alone}
 use Rattle.vb_guest.proofs.Offered.{last_sound, inflate_requested}
 use Rattle.vb_guest.proofs.DriverWords.{Sides, sides_of, driver_of, driver_is, keeps_own}
 
@@ -53,39 +50,24 @@ offer_refusal told pending most out count =
 -- where the device isn't initialised
 idle_refused : (g : Guest) (n : ℕ) → (g.status ≡ 0) ⊎ (g.status ≡ 131)
     → refusal_of g (Inflate n) ≡ Some NotReady
-idle_refused g n down =
-    let P : ℕ → Type 0 = λ s. refusal_of (record g { status = s }) (Inflate n) ≡ Some NotReady in
-    elim down [ inl e ↦ subst P (sym e) refl | inr e ↦ subst P (sym e) refl ]
+idle_refused g n down = grind arith
 
 idle_tests : (d : DriverState) (p : Part) (n : ℕ) → (p.status ≡ 0) ⊎ (p.status ≡ 131)
     → first_refusal (inflate_tests d p n) ≡ Some NotReady
-idle_tests d p n down =
-    let P : ℕ → Type 0 = λ s. first_refusal (inflate_tests d (record p { status = s }) n)
-    ≡ Some NotReady in
-    elim down [ inl e ↦ subst P (sym e) refl | inr e ↦ subst P (sym e) refl ]
+idle_tests d p n down = grind arith
 
 running_refusal : (g : Guest) (n : ℕ) → g.status ≡ 15
     → refusal_of g (Inflate n)
     ≡ offer_refusal (tells_host g) (outstanding g.deflate) (room g) (outstanding g.inflate)
     (inflate_count g n)
-running_refusal g n e =
-    let P : ℕ → Type 0 = λ s. refusal_of (record g { status = s }) (Inflate n)
-    ≡ offer_refusal (tells_host g) (outstanding g.deflate) (room g) (outstanding g.inflate)
-    (inflate_count g n) in
-    subst P (sym e) refl
+running_refusal g n e = grind arith
 
 running_tests : (g : Guest) (areas : FreePages) (sides : Sides) (p : Part) (n : ℕ) → p.status ≡ 15
     → p.target ≡ g.target
     → first_refusal (inflate_tests (driver_of g areas sides) p n)
     ≡ offer_refusal (tells_host g) (outstanding_in sides.deflate.ring) (room g)
     (outstanding_in sides.inflate.ring) (inflate_count g n)
-running_tests g areas sides p n e t =
-    let P : ℕ → ℕ → Type 0 =
-    λ s target. first_refusal
-    (inflate_tests (driver_of g areas sides) (record p { status = s; target = target }) n)
-    ≡ offer_refusal (tells_host g) (outstanding_in sides.deflate.ring) (room g)
-    (outstanding_in sides.inflate.ring) (inflate_count g n) in
-    subst (λ s. P s p.target) (sym e) (subst (λ x. P 15 x) (sym t) refl)
+running_tests g areas sides p n e t = grind arith
 
 inflate_offered : (m1 m2 : Pages) (p1 p2 : Part) (g : Guest) (areas : FreePages) (sides : Sides)
     (d2 : DriverState) (n : ℕ) (posted : PostedRequest)
@@ -160,23 +142,7 @@ inflate_offered m1 m2 p1 p2 g areas sides d2 n posted driver did stands run free
 
 none_room : (told : Bool) (pending most out count : ℕ)
     → offer_refusal told pending most out count ≡ None → (out < most) × (0 < count)
-none_room told pending most out count e =
-    let parts = by (nat_le most out) (not told && nat_lt 0 pending) (count == 0) e in
-    (room_left parts.0, some_left parts.1)
-  where
-    by : (full waits none : Bool)
-        → first_refusal ((full ⇒ QueueFull) ∷ (waits ⇒ DeflatePending) ∷ (none ⇒ Nothing) ∷ [])
-        ≡ None → (full ≡ false) × (none ≡ false)
-    by false false false e = (refl, refl)
-    by true waits none e = absurd cc
-    by false true none e = absurd cc
-    by false false true e = absurd cc
-
-    room_left : nat_le most out ≡ false → out < most
-    room_left e = grind (arith, nat_tests)
-
-    some_left : (count == 0) ≡ false → 0 < count
-    some_left e = grind (arith, nat_tests)
+none_room told pending most out count e = grind arith
 
 by_result : (m1 m2 : Pages) (p1 p2 : Part) (g : Guest) (areas : FreePages) (sides : Sides)
     (d2 : DriverState) (n : ℕ) (result : Result PostedRequest Refusal)
@@ -184,9 +150,7 @@ by_result : (m1 m2 : Pages) (p1 p2 : Part) (g : Guest) (areas : FreePages) (side
     → Honest m1 p1 (driver_of g areas sides) g
     → first_refusal (inflate_tests (driver_of g areas sides) p1 n) ≡ refusal_of g (Inflate n)
     → StepsAlone (Honest m2 p2 d2) g (Inflate n) (posted_reply result)
-by_result m1 m2 p1 p2 g areas sides d2 n (Err why) did stands same =
-    refused_alone m1 m2 p1 p2 (driver_of g areas sides) d2 g (Inflate n) why stands
-    (sym (did.refusal ∙ same)) did.refused.mem did.refused.part did.refused.driver
+by_result m1 m2 p1 p2 g areas sides d2 n (Err why) did stands same = grind arith
 by_result m1 m2 p1 p2 g areas sides d2 n (Ok posted) did stands same =
     let free : refusal_of g (Inflate n) ≡ None = sym (did.refusal ∙ same) in
     elim stands.ties.queues [
@@ -231,21 +195,3 @@ inflate_step m1 m2 p1 p2 d1 d2 g n result did stands =
     ] in
     by_result m1 m2 p1 p2 g areas sides d2 n result
     (subst (λ d. InflatesBy m1 m2 p1 p2 d d2 n result) is did) here same
-
-down_not_up : (status : ℕ) → (status ≡ 0) ⊎ (status ≡ 131) → is_up status ≡ true → ⊥
-down_not_up status (inl e) up = let P : ℕ
-    → Type 0 = λ s. is_up s ≡ true in let wrong : false ≡ true = subst P e up in cc
-down_not_up status (inr e) up = let P : ℕ
-    → Type 0 = λ s. is_up s ≡ true in let wrong : false ≡ true = subst P e up in cc
-
--- where the device is up, the pages of rings and buffers have frames
-pub up_backed : (m : Pages) (p : Part) (d : DriverState) (g : Guest) → Honest m p d g
-    → is_up p.status ≡ true → (page : ℕ) → is_start_page g.config.queue_size page ≡ true
-    → IsSome (frame_at m page)
-up_backed m p d g stands up page start =
-    elim stands.ties.queues [
-      | inl idle ↦ (let P : ℕ
-          → Type 0 = λ s. is_up s ≡ true in
-          absurd (down_not_up g.status idle.state (subst P stands.ties.parts.device.status up)))
-      | inr run ↦ run.backed page start
-    ]

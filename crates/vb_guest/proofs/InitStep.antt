@@ -1,30 +1,22 @@
 -- A guest's initialisation is a step of the definitions.
-use Rattle.std.specs.Prelude.{◌≡◌, ◌≢◌, ℕ, suc, ◌<◌, ◌≤◌, ◌==◌, Bool, true, false, not}
-use Rattle.std.specs.Prelude.{◌-◌, ◌||◌, ◌&&◌, if◌then◌else◌, cond, List, [], ◌∷◌, length, Option, Some, None}
-use Rattle.std.specs.Prelude.{IsSome, is_some, is_none, MatchOption, Result, Ok, Err, filter}
-use Rattle.std.specs.Prelude.{count_by, refl, ◌⊎◌}
+use Rattle.std.specs.Prelude.{◌≡◌, ◌≢◌, ℕ, ◌<◌, ◌≤◌, ◌==◌, Bool, true, false, not, ◌-◌, ◌&&◌, List}
+use Rattle.std.specs.Prelude.{[], ◌∷◌, length, Option, Some, None, IsSome, is_some, is_none}
+use Rattle.std.specs.Prelude.{MatchOption, Result, Ok, Err, filter, count_by, refl}
 use Rattle.std.specs.List.{range_with_len, list_all}
 use Rattle.std.proofs.Common.{sym, ◌∙◌, ap, subst, arith, inl, inr}
-use Rattle.std.proofs.lemmas.Bool.{eqb-true, cases_Bool}
-use Rattle.vb_model.specs.declared.negotiation.TheConstants.{OFFERED_FEATURES}
+use Rattle.std.proofs.lemmas.Bool.{cases_Bool}
 use Rattle.vb_model.specs.declared.calls.Call.TheVariants.{Init}
 use Rattle.vb_model.specs.declared.calls.Claim.{Claim}
 use Rattle.vb_model.specs.declared.replies.Refusal.{Refusal}
-use Rattle.vb_model.specs.declared.replies.Refusal.TheVariants.{AlreadyUp, NoFrame}
-use Rattle.vb_model.specs.declared.replies.Refusal.TheVariants.{FeatureNotOffered}
-use Rattle.vb_model.specs.declared.replies.Refusal.TheVariants.{VersionMissing}
+use Rattle.vb_model.specs.declared.replies.Refusal.TheVariants.{AlreadyUp}
 use Rattle.vb_model.specs.declared.replies.Reply.{Reply}
 use Rattle.vb_model.specs.declared.replies.Reply.TheVariants.{Ready, Refused}
 use Rattle.vb_model.specs.Tests.{is_in}
-use Rattle.vb_model.specs.Limits.{is_between}
-use Rattle.vb_model.specs.Layout.{takes_two_pages, reserved_pages, is_start_page, start_pages}
-use Rattle.vb_model.specs.Guest.{Guest, frame_of, all_backed, version_1}
-use Rattle.vb_model.specs.Guest.{stats_vq}
-use Rattle.vb_model.specs.Status.{contains}
+use Rattle.vb_model.specs.Layout.{reserved_pages, is_start_page, start_pages}
+use Rattle.vb_model.specs.Guest.{Guest, frame_of, all_backed, stats_vq}
 use Rattle.vb_model.specs.Refusals.{◌⇒◌, first_refusal, refusal_of}
-use Rattle.vb_model.specs.Life.{lacking, feature_tests, feature_refusal, accepted_before}
-use Rattle.vb_model.specs.Life.{Negotiates}
-use Rattle.vb_model.specs.Driver.{given, claim_refusal, AreClaimsFor, Supplying, figures}
+use Rattle.vb_model.specs.Life.{lacking, feature_refusal, accepted_before, Negotiates}
+use Rattle.vb_model.specs.Driver.{given, Supplying, figures}
 use Rattle.vb_ram.specs.Pages.{Pages, frame_at, number_of}
 use Rattle.vb_ram.specs.Part.{Part}
 use Rattle.vb_ram.specs.declared.shape.Shape.{Shape}
@@ -40,8 +32,7 @@ use Rattle.vb_guest.specs.Steps.{is_frame, backing_count, StepsAlone, StepsOver}
 use Rattle.vb_guest.specs.Supply.{Supply, supply_of, Moves, nothing}
 use Rattle.vb_guest.specs.Replies.{ready_reply}
 use Rattle.vb_guest.specs.Lives.{is_bare, bare_from, AllSupplied, why_unsupplied, SuppliesBy}
-use Rattle.vb_guest.proofs.Closing.{first_holds, honest_performed, guest_step, still_stands}
-use Rattle.vb_guest.proofs.Closing.{refused_alone, honest_own}
+use Rattle.vb_guest.proofs.Closing.{honest_performed, guest_step, still_stands}
 use Rattle.vb_guest.proofs.Freed.{large}
 use Rattle.vb_guest.proofs.Supplying.{all_distinct, bounded, among, supplied_count, supplied_other}
 use Rattle.vb_guest.proofs.Supplying.{supplied_backed, pages_filled, frames_filled}
@@ -52,18 +43,9 @@ use Rattle.vb_guest.proofs.Starting.{first_buffer, started, stopped}
 
 -- ---- a device that isn't new
 
-up_test : (s : ℕ) → s ≢ 0 → not (s == 0) ≡ true
-up_test s ne = elim (cases_Bool (s == 0)) [
-  | inl same ↦ absurd (ne (eqb-true s 0 same))
-  | inr other ↦ ap not other
-]
-
 pub init_up : (m : Pages) (p : Part) (d : DriverState) (g : Guest) (wanted : ℕ) → p.status ≢ 0
     → Honest m p d g → StepsAlone (Honest m p d) g (Init wanted) (Refused AlreadyUp)
-init_up m p d g wanted up stands =
-    refused_alone m m p p d d g (Init wanted) AlreadyUp stands
-    (first_holds (not (g.status == 0)) AlreadyUp []
-    (up_test g.status (λ e. up (stands.ties.parts.device.status ∙ e)))) refl refl refl
+init_up m p d g wanted up stands = grind arith
 
 new_test : (g : Guest) (wanted : ℕ) → g.status ≡ 0 → refusal_of g (Init wanted) ≡ None
 new_test g wanted e = ap (λ (s : ℕ). first_refusal ((not (s == 0) ⇒ AlreadyUp) ∷ [])) e
@@ -71,41 +53,18 @@ new_test g wanted e = ap (λ (s : ℕ). first_refusal ((not (s == 0) ⇒ Already
 -- a device whose status is 0 isn't initialised
 new_is_idle : (m : Pages) (p : Part) (d : DriverState) (g : Guest) → g.status ≡ 0 → Honest m p d g
     → IsIdle g
-new_is_idle m p d g e stands = elim stands.ties.queues [
-  | inl idle ↦ idle
-  | inr run ↦ absurd (omega (arith, run.state))
-]
+new_is_idle m p d g e stands = grind arith
 
 -- ---- the pages that lack frames
-
-filter_same : (f h : ℕ → Bool) (xs : List ℕ) → ((x : ℕ) → f x ≡ h x) → filter f xs ≡ filter h xs
-filter_same f h [] same = refl
-filter_same f h (x ∷ xs) same =
-    ap (λ (b : Bool). cond b (x ∷ filter f xs) (filter f xs)) (same x)
-    ∙ ap (λ (l : List ℕ). cond (h x) (x ∷ l) l) (filter_same f h xs same)
 
 filter_both : (f h : ℕ → Bool) (xs : List ℕ)
     → filter f (filter h xs) ≡ filter (λ x. h x && f x) xs
 filter_both f h [] = refl
-filter_both f h (x ∷ xs) = step (h x) (filter_both f h xs)
-  where
-    step : (b : Bool) → filter f (filter h xs) ≡ filter (λ y. h y && f y) xs
-        → filter f (cond b (x ∷ filter h xs) (filter h xs))
-        ≡ cond (b && f x) (x ∷ filter (λ y. h y && f y) xs) (filter (λ y. h y && f y) xs)
-    step true later = ap (λ (l : List ℕ). cond (f x) (x ∷ l) l) later
-    step false later = later
+filter_both f h (x ∷ xs) = grind (arith, filter_both f h xs)
 
 pub bare_is : (size : ℕ) (m : Pages) (g : Guest) → size ≡ g.config.queue_size
     → ((p : ℕ) → frame_at m p ≡ frame_of g.frames p) → bare_from size m 0 ≡ lacking g
-bare_is size m g same behind =
-    let none : ℕ → Bool = λ page. is_none (frame_of g.frames page) in
-    let all : reserved_pages size - 0 ≡ reserved_pages size = omega arith in
-    filter_same (is_bare size m) (λ page. is_start_page size page && none page)
-    (range_with_len 0 (reserved_pages size - 0))
-    (λ x. ap (λ (b : Bool). is_start_page size x && b) (ap is_none (behind x)))
-    ∙ ap (λ (k : ℕ). filter (λ page. is_start_page size page && none page) (range_with_len 0 k)) all
-    ∙ sym (filter_both none (is_start_page size) (range_with_len 0 (reserved_pages size)))
-    ∙ ap (λ (k : ℕ). filter none (start_pages k)) same
+bare_is size m g same behind = grind arith
 
 -- once they have frames, each page of rings and buffers has one
 pub now_backed : (size : ℕ) (m1 m2 : Pages) (numbers : List ℕ) (page : ℕ)
@@ -129,21 +88,10 @@ now_backed size m1 m2 numbers page supplied start =
 -- there are at most 17 of them
 few_passing : (test : ℕ → Bool) (xs : List ℕ) → length (filter test xs) ≤ length xs
 few_passing test [] = omega arith
-few_passing test (x ∷ xs) = step (test x) (few_passing test xs)
-  where
-    step : (b : Bool) → length (filter test xs) ≤ length xs
-        → length (cond b (x ∷ filter test xs) (filter test xs)) ≤ suc (length xs)
-    step true few = omega (arith, few)
-    step false few = omega (arith, few)
+few_passing test (x ∷ xs) = grind (arith, few_passing test xs)
 
 few_start : (size : ℕ) → length (start_pages size) ≤ 17
-few_start size = step (takes_two_pages size)
-  where
-    step : (two : Bool) → length (filter (λ page. (if two then is_between 16 23 page
-        else is_between 0 3 page) || is_between 4 12 page)
-        (range_with_len 0 (if two then 32 else 16))) ≤ 17
-    step true = omega arith
-    step false = omega arith
+few_start size = grind arith
 
 pub few_bare : (size : ℕ) (m : Pages) → length (bare_from size m 0) ≤ 17
 few_bare size m =
@@ -163,12 +111,7 @@ few_bare size m =
 all_kept : (keep test : ℕ → Bool) (xs : List ℕ) → ((p : ℕ) → keep p ≡ true → test p ≡ true)
     → list_all test (filter keep xs) ≡ true
 all_kept keep test [] holds = refl
-all_kept keep test (x ∷ xs) holds = step (keep x) refl (all_kept keep test xs holds)
-  where
-    step : (b : Bool) → keep x ≡ b → list_all test (filter keep xs) ≡ true
-        → list_all test (cond b (x ∷ filter keep xs) (filter keep xs)) ≡ true
-    step true is later = ap (λ (b : Bool). b && list_all test (filter keep xs)) (holds x is) ∙ later
-    step false is later = later
+all_kept keep test (x ∷ xs) holds = grind (arith, all_kept keep test xs holds)
 
 pub has_all : (size : ℕ) (m : Pages)
     → ((p : ℕ) → is_start_page size p ≡ true → IsSome (frame_at m p)) → has_frames size m ≡ true
@@ -190,9 +133,7 @@ pub by_size : (Answers : List Bool → Claim → Type 0) (s1 s2 : Supply) (l1 l2
     → shape ≡ record { queue_size = size }
     → SuppliesBy Answers s1 s2 l1 l2 (bare_from shape.queue_size m1 0) m1 m2 result
     → SuppliesBy Answers s1 s2 l1 l2 (bare_from size m1 0) m1 m2 result
-by_size Answers s1 s2 l1 l2 m1 m2 shape size result same did =
-    subst (λ (x : Shape). SuppliesBy Answers s1 s2 l1 l2 (bare_from x.queue_size m1 0) m1 m2 result)
-    same did
+by_size Answers s1 s2 l1 l2 m1 m2 shape size result same did = grind arith
 
 pub first_noted : (Answers : List Bool → Claim → Type 0) (s1 s2 : Supply) (l1 l2 : List Claim)
     (pages : List ℕ) (m1 m2 : Pages) (result : Result (Unit {0}) WhyRefused) → l1 ≡ []
@@ -210,63 +151,19 @@ pub init_unsupplied : (Answers : List Bool → Claim → Type 0) (out1 out2 : Li
     → StepsOver (Honest m2 p2 d) Answers (supply_of p1 out1) (supply_of p2 out2) l g (Init wanted)
     (Refused refusal)
 init_unsupplied Answers out1 out2 l m1 m2 p1 p2 d g wanted why refusal is new did part stands =
-    let ties = stands.ties in
-    let claims = did.claims in
-    let refused : claim_refusal claims ≡ Some refusal = did.answer ∙ is in
-    let after : Guest = record g { frames = all_backed (lacking g) (given claims) g.frames } in
-    let P : Option Refusal
-    → Type 0 = λ o. MatchOption o
-    (Negotiates (feature_refusal wanted) wanted after (Refused refusal) g)
-    (λ r. (Refused refusal ≡ Refused r) × (g ≡ g)) in
-    let made : AreClaimsFor (lacking g) claims =
-    subst (λ (l : List ℕ). AreClaimsFor l claims) (bare_is d.queue_size m1 g
-    ties.parts.driver.queue_size ties.pages.behind) did.made in
-    let step = honest_performed g (Init wanted) claims (Refused refusal) g
-    (new_test g wanted (sym ties.parts.device.status ∙ new))
-    (made, subst P (sym refused) (refl, refl)) in
-    subst (λ (c : List Claim). StepsOver (Honest m2 p2 d) Answers (supply_of p1 out1)
-    (supply_of p2 out2) c g (Init wanted) (Refused refusal)) (sym did.noted) (record {
-      new = g;
-      stands = honest_own m1 m2 p1 p2 d g did.refused.0 part stands;
-      step = guest_step g (Init wanted) claims (Refused refusal) g ties.parts.guest.honest step;
-      answered = did.answered;
-      moves = moves_as (supply_of p1 out1) (supply_of p2 out2) nothing nothing
-          (λ n. backing_count n g) (λ n. backing_count n g) did.refused.1 (λ n. omega arith);
-    })
+    search (arith, bare_is)
 
 -- ---- the driver's answer
-
--- these features are refused for themselves
-refused_feature : (wanted : ℕ) (why : Refusal) → feature_refusal wanted ≡ Some why
-    → (why ≡ FeatureNotOffered) ⊎ (why ≡ VersionMissing)
-refused_feature wanted why e =
-    step (not (contains OFFERED_FEATURES wanted)) (not (version_1 wanted)) e
-  where
-    step : (a b : Bool)
-        → (if a then Some FeatureNotOffered else (if b then Some VersionMissing else None))
-        ≡ Some why → (why ≡ FeatureNotOffered) ⊎ (why ≡ VersionMissing)
-    step true b k = inl cc
-    step false true k = inr cc
-    step false false k = absurd cc
 
 pub given_up : (m1 m2 : Pages) (p1 p2 : Part) (d1 d2 : DriverState) (wanted : ℕ) (why : Refusal)
     → feature_refusal wanted ≡ Some why → InitRefused why m1 m2 p1 p2 d1 d2 wanted
     → GivesUp m1 m2 p1 p2 d1 d2 (accepted_before why wanted)
-given_up m1 m2 p1 p2 d1 d2 wanted why e did =
-    let P : Refusal → Type 0 = λ r. InitRefused r m1 m2 p1 p2 d1 d2 wanted
-    → GivesUp m1 m2 p1 p2 d1 d2 (accepted_before r wanted) in
-    elim (refused_feature wanted why e) [
-      | inl is ↦ subst P (sym is) (λ h. h) did
-      | inr is ↦ subst P (sym is) (λ h. h) did
-    ]
+given_up m1 m2 p1 p2 d1 d2 wanted why e did = grind arith
 
 pub driver_tests : (size : ℕ) (m : Pages) (p : Part) (wanted : ℕ) → p.status ≡ 0
     → has_frames size m ≡ true
     → first_refusal (init_tests size m p wanted) ≡ feature_refusal wanted
-driver_tests size m p wanted new backed =
-    ap (λ (s : ℕ). first_refusal
-    ((not (s == 0) ⇒ AlreadyUp) ∷ (not (has_frames size m) ⇒ NoFrame) ∷ feature_tests wanted)) new
-    ∙ ap (λ (b : Bool). first_refusal ((not b ⇒ NoFrame) ∷ feature_tests wanted)) backed
+driver_tests size m p wanted new backed = grind arith
 
 -- ---- the step
 
@@ -411,7 +308,7 @@ pub still_large : (Answers : List Bool → Claim → Type 0) (s1 s2 : Supply) (l
     → SuppliesBy {T = Unit {0}} Answers s1 s2 l1 l2 (bare_from d.queue_size m1 0) m1 m2 (Ok tt)
     → 64 ≤ length m2
 still_large Answers s1 s2 l1 l2 m1 m2 p d g stands did =
-    omega (
+    grind (
       arith,
       large m1 p d g stands,
       supplied_count (bare_from d.queue_size m1 0) (given did.claims) m1 m2 did.supplied.0,

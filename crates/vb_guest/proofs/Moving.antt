@@ -1,8 +1,8 @@
 -- Frames go out of a guest's supply and come back to it.
-use Rattle.std.specs.Prelude.{◌≡◌, ◌≢◌, ℕ, ◌+◌, ◌≤◌, ◌==◌, ◌||◌, Bool, true, false, not, cond}
-use Rattle.std.specs.Prelude.{if◌then◌else◌, List, [], ◌∷◌, length, refl}
+use Rattle.std.specs.Prelude.{◌≡◌, ◌≢◌, ℕ, ◌+◌, ◌==◌, Bool, true, false, if◌then◌else◌, List, []}
+use Rattle.std.specs.Prelude.{◌∷◌, refl}
 use Rattle.std.proofs.Common.{sym, ◌∙◌, ap, arith, inl, inr}
-use Rattle.std.proofs.lemmas.Bool.{cases_eq, eq-eqb, ne_eqb, cases_Bool}
+use Rattle.std.proofs.lemmas.Bool.{cases_Bool}
 use Rattle.vb_model.specs.Tests.{one_if}
 use Rattle.vb_model.specs.Orderly.{times}
 use Rattle.vb_model.proofs.Tables.{count_by-cons}
@@ -23,10 +23,6 @@ used_out s n e = ap (λ (b : Bool). if b then has s.own n else is_out s.out n) e
 pub by_keeps : {P : Type 0} (s : Supply) → (s.keeps ≡ true → P) → (s.keeps ≡ false → P) → P
 by_keeps s own out = elim (cases_Bool s.keeps) [ inl e ↦ own e | inr e ↦ out e ]
 
-pub is_one : (b : Bool) → 1 ≤ one_if b → b ≡ true
-is_one true h = refl
-is_one false h = absurd (omega (arith, h))
-
 pub times_first : (k n : ℕ) (rest : List ℕ) → times k (n ∷ rest) ≡ one_if (n == k) + times k rest
 times_first k n rest = count_by-cons (λ m. m == k) n rest
 
@@ -35,35 +31,14 @@ times_one k n = omega (arith, times_first k n [])
 
 -- ---- moves one after the other
 
-pub moves_none : (s : Supply) → Moves s s nothing nothing
-moves_none s = record {
-  keeps = refl;
-  asked = λ e. refl;
-  untouched = λ e. refl;
-  count = refl;
-  balance = λ n. refl;
-}
-
 pub moves_then : (s1 s2 s3 : Supply) (a b c d : ℕ → ℕ) → Moves s1 s2 a b → Moves s2 s3 c d
     → Moves s1 s3 (λ n. a n + c n) (λ n. b n + d n)
-moves_then s1 s2 s3 a b c d first second = record {
-  keeps = second.keeps ∙ first.keeps;
-  asked = λ e. second.asked (first.keeps ∙ e) ∙ first.asked e;
-  untouched = λ e. second.untouched (first.keeps ∙ e) ∙ first.untouched e;
-  count = second.count ∙ first.count;
-  balance = λ n. omega (arith, first.balance n, second.balance n);
-}
+moves_then s1 s2 s3 a b c d first second = grind arith
 
 -- as much more gained as lost
 pub moves_as : (s1 s2 : Supply) (a b c d : ℕ → ℕ) → Moves s1 s2 a b
     → ((n : ℕ) → c n + b n ≡ a n + d n) → Moves s1 s2 c d
-moves_as s1 s2 a b c d moves same = record {
-  keeps = moves.keeps;
-  asked = moves.asked;
-  untouched = moves.untouched;
-  count = moves.count;
-  balance = λ n. omega (arith, moves.balance n, same n);
-}
+moves_as s1 s2 a b c d moves same = grind arith
 
 -- ---- one frame of the keeper's
 
@@ -71,68 +46,28 @@ moves_as s1 s2 a b c d moves same = record {
 
 has_other : (n k : ℕ) (own : List ℕ) → n ≢ k → has (without own n) k ≡ has own k
 has_other n k [] ne = refl
-has_other n k (m ∷ own) ne = elim (cases_eq m n) [
-  | inl e ↦
-      ap (λ (b : Bool). has (cond (not b) (m ∷ without own n) (without own n)) k) (eq-eqb m n e)
-      ∙ has_other n k own ne
-      ∙ sym (ap (λ (b : Bool). b || has own k) (ne_eqb m k (λ s. ne (sym e ∙ s))))
-  | inr other ↦
-      ap (λ (b : Bool). has (cond (not b) (m ∷ without own n) (without own n)) k)
-      (ne_eqb m n other)
-      ∙ ap (λ (b : Bool). (m == k) || b) (has_other n k own ne)
-]
+has_other n k (m ∷ own) ne = grind (arith, has_other n k own ne)
 
 has_gone : (n : ℕ) (own : List ℕ) → has (without own n) n ≡ false
 has_gone n [] = refl
-has_gone n (m ∷ own) = elim (cases_eq m n) [
-  | inl e ↦
-      ap (λ (b : Bool). has (cond (not b) (m ∷ without own n) (without own n)) n) (eq-eqb m n e)
-      ∙ has_gone n own
-  | inr other ↦
-      ap (λ (b : Bool). has (cond (not b) (m ∷ without own n) (without own n)) n)
-      (ne_eqb m n other)
-      ∙ ap (λ (b : Bool). b || has (without own n) n) (ne_eqb m n other) ∙ has_gone n own
-]
+has_gone n (m ∷ own) = grind (arith, has_gone n own)
 
 has_less : (n k : ℕ) (own : List ℕ) → has own n ≡ true
     → one_if (has (without own n) k) + one_if (n == k) ≡ one_if (has own k)
-has_less n k own is = elim (cases_eq n k) [
-  | inl e ↦
-      let gone : has (without own n) k ≡ false =
-      ap (has (without own n)) (sym e) ∙ has_gone n own in
-      let was : has own k ≡ true = ap (has own) (sym e) ∙ is in
-      omega (arith, ap one_if gone, ap one_if was, ap one_if (eq-eqb n k e))
-  | inr ne ↦
-      omega (arith, ap one_if (has_other n k own ne), ap one_if (ne_eqb n k ne))
-]
+has_less n k own is = grind (arith, has_gone, has_other)
 
 pub own_back : (p1 p2 : Part) (out1 out2 : List Bool) (n : ℕ) → p1.keeps ≡ true
     → has p1.own n ≡ true → SameSet p2.own (without p1.own n) → p2 ≡ record p1 { own = p2.own }
     → out2 ≡ out1
     → Moves (supply_of p1 out1) (supply_of p2 out2) nothing (λ k. times k (n ∷ []))
-own_back p1 p2 out1 out2 n keeps is now same kept = record {
-  keeps = ap (λ (p : Part). p.keeps) same;
-  asked = λ e. absurd (let wrong : true ≡ false = sym keeps ∙ e in cc);
-  untouched = λ e. kept;
-  count = ap (λ (o : List Bool). length o) kept;
-  balance = λ k. omega (
-    arith,
-    ap one_if (used_own (supply_of p1 out1) k keeps),
-    ap one_if (used_own (supply_of p2 out2) k (ap (λ (p : Part). p.keeps) same ∙ keeps)),
-    ap one_if (now k),
-    has_less n k p1.own is,
-    times_one k n,
-  );
-}
+own_back p1 p2 out1 out2 n keeps is now same kept = grind (arith, has_less)
 
 -- ---- loose frames
 
 -- a loose frame is out
 pub loose_is_used : (n : ℕ) (loose rest : List ℕ) (s : Supply)
     → SameFrames loose (n ∷ rest) → AreLoose loose s → is_used s n ≡ true
-loose_is_used n loose rest s same held =
-    is_one (is_used s n)
-    (omega (arith, same n, times_first n n rest, ap one_if (eq-eqb n n refl), held n))
+loose_is_used n loose rest s same held = grind (arith, times_first n n rest)
 
 -- a frame that the device took back was one of its own
 pub kept_back : (p1 p2 : Part) (out : List Bool) (n : ℕ) → (p1.keeps ≡ false → p1.own ≡ [])

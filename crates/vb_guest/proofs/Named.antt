@@ -2,7 +2,7 @@
 use Rattle.std.specs.Prelude.{◌≡◌, ℕ, zero, suc, ◌<◌, ◌≤◌, ◌==◌, true, false, Bool, List}
 use Rattle.std.specs.Prelude.{[], ◌∷◌, ◌++◌, length, All, sum_by, slice_set, slice_index_or, refl}
 use Rattle.std.proofs.Common.{sym, ◌∙◌, ap, arith, inl, inr, get_or}
-use Rattle.std.proofs.lemmas.Bool.{cases_eq, eq-eqb, ne_eqb}
+use Rattle.std.proofs.lemmas.Bool.{cases_eq, ne_eqb}
 use Rattle.std.proofs.lemmas.List.{length-set, get_or-set_same, get_or-set_other}
 use Rattle.std.proofs.lemmas.List.Sums.{sum_by-set, sum_by-cons}
 use Rattle.vb_model.specs.Tests.{one_if}
@@ -37,20 +37,22 @@ record IsKept (sent : List (List ℕ)) (r : Request) : Type 0 where
 
 not_again : (h : ℕ) (r : Request) (rest : List Request) → headed h (r ∷ rest) ≤ 1 → r.head ≡ h
     → headed h rest ≡ 0
-not_again h r rest once e =
-    let one : one_if (r.head == h) ≡ 1 = ap one_if (eq-eqb r.head h e) in
-    omega (arith, one, headed-cons h r rest)
+not_again h r rest once e = grind (arith, headed-cons h r rest)
 
 headed_some : (k : ℕ) (rs : List Request) (d : Request) → k < length rs
     → headed (slice_index_or rs k d).head rs ≡ 0 → ⊥
 headed_some zero [] d lt none = absurd (omega arith)
-headed_some zero (r ∷ rs) d lt none =
-    let one : one_if (r.head == r.head) ≡ 1 = ap one_if (eq-eqb r.head r.head refl) in
-    omega (arith, one, none, headed-cons r.head r rs)
+headed_some zero (r ∷ rs) d lt none = grind (arith, headed-cons r.head r rs)
 headed_some (suc k) [] d lt none = absurd (omega arith)
 headed_some (suc k) (r ∷ rs) d lt none =
-    headed_some k rs d (omega arith)
-    (omega (arith, none, headed-cons (slice_index_or rs k d).head r rs))
+    grind (
+      arith,
+      headed_some k rs d (omega arith) (omega (
+        arith,
+        none,
+        headed-cons (slice_index_or rs k d).head r rs,
+      )),
+    )
 
 named_sent : (sent : List (List ℕ)) (rs : List Request) → ((h : ℕ) → headed h rs ≤ 1)
     → ((h : ℕ) → headed h rs ≡ 0 → get_or sent h [] ≡ []) → All (IsKept sent) rs

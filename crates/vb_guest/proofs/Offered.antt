@@ -1,15 +1,10 @@
 -- The pages of a new request.
-use Rattle.std.specs.Prelude.{◌≡◌, ℕ, zero, suc, ◌<◌, ◌≤◌, ◌==◌, ◌||◌, Bool, true, false}
-use Rattle.std.specs.Prelude.{nat_lt, List, [], ◌∷◌, ◌++◌, All, length, slice_index_or}
-use Rattle.std.specs.Prelude.{refl}
+use Rattle.std.specs.Prelude.{◌≡◌, ℕ, zero, suc, ◌<◌, ◌≤◌, ◌==◌, ◌||◌, Bool, true, false, List, []}
+use Rattle.std.specs.Prelude.{◌∷◌, ◌++◌, All, length, slice_index_or, refl}
 use Rattle.std.specs.List.{list_any}
-use Rattle.std.proofs.Common.{sym, ◌∙◌, ap, subst, arith, inl, inr, eq-eqb}
-use Rattle.std.proofs.lemmas.Bool.{cases_lt}
-use Rattle.std.proofs.lemmas.Bool.Decides.{nat_tests}
+use Rattle.std.proofs.Common.{sym, ◌∙◌, ap, subst, arith, eq-eqb}
 use Rattle.std.proofs.lemmas.List.{get_or_past}
 use Rattle.vb_model.specs.declared.places.Place.{Place}
-use Rattle.vb_model.specs.declared.places.Place.TheVariants.{Reserved, Free, Used, Giving, Lent}
-use Rattle.vb_model.specs.declared.places.Place.TheVariants.{Taking, Stranded, Reporting}
 use Rattle.vb_model.specs.Tests.{is_in}
 use Rattle.vb_model.specs.Layout.{reserved_pages}
 use Rattle.vb_model.specs.Pages.{place_of, is_lent}
@@ -26,18 +21,7 @@ use Rattle.vb_guest.specs.Line.{AreRequested}
 -- a page that isn't at a reserved place is there, and above the reserved ones
 pub high_page : (g : Guest) (page : ℕ) → IsOrderly g → is_reserved (place_of g.places page) ≡ false
     → (reserved_pages g.config.queue_size ≤ page) × (page < g.config.pages)
-high_page g page orderly free = elim (cases_lt page g.config.pages) [
-  | inl lt ↦ (
-    let e : nat_lt page (reserved_pages g.config.queue_size) ≡ false =
-        sym (orderly.unreserved page lt) ∙ free in
-        grind (arith, nat_tests),
-    lt,
-  )
-  | inr past ↦
-      let wrong : is_reserved (place_of g.places page) ≡ true =
-      ap is_reserved (get_or_past g.places page Reserved (omega (arith, orderly.tabled))) in
-      absurd (let both : true ≡ false = sym wrong ∙ free in cc)
-]
+high_page g page orderly free = grind (arith, get_or_past)
 
 -- pages none of which is at a reserved place are those of a request
 pub high_pages : (g : Guest) (pages : List ℕ) → IsOrderly g
@@ -63,24 +47,10 @@ high_pages g pages orderly out = (
         either_true false = refl
 
 given_high : (place : Place) → can_be_given place ≡ true → is_reserved place ≡ false
-given_high Free e = refl
-given_high Stranded e = refl
-given_high Used e = absurd cc
-given_high Reserved e = absurd cc
-given_high Giving e = absurd cc
-given_high Lent e = absurd cc
-given_high Taking e = absurd cc
-given_high Reporting e = absurd cc
+given_high place e = grind arith
 
 lent_high : (place : Place) → is_lent place ≡ true → is_reserved place ≡ false
-lent_high Lent e = refl
-lent_high Reserved e = absurd cc
-lent_high Free e = absurd cc
-lent_high Used e = absurd cc
-lent_high Giving e = absurd cc
-lent_high Taking e = absurd cc
-lent_high Stranded e = absurd cc
-lent_high Reporting e = absurd cc
+lent_high place e = grind arith
 
 -- ---- the pages of a request
 

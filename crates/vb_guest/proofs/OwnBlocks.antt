@@ -1,9 +1,8 @@
 -- The blocks of a report, and the pages in them.
-use Rattle.std.specs.Prelude.{◌≡◌, ℕ, ◌+◌, ◌-◌, ◌<◌, ◌≤◌, ◌==◌, ◌||◌, Bool, true, false, List, []}
-use Rattle.std.specs.Prelude.{◌∷◌, ◌++◌, All, length, filter, nat_le, ◌&&◌, slice_index_or}
-use Rattle.std.specs.Prelude.{refl}
+use Rattle.std.specs.Prelude.{◌≡◌, ℕ, ◌+◌, ◌-◌, ◌<◌, ◌≤◌, Bool, true, false, List, [], ◌∷◌, ◌++◌}
+use Rattle.std.specs.Prelude.{All, length, filter, nat_le, ◌&&◌, slice_index_or}
 use Rattle.std.specs.List.{flat_map, range_with_len}
-use Rattle.std.proofs.Common.{◌∙◌, ap, arith}
+use Rattle.std.proofs.Common.{ap, arith}
 use Rattle.std.proofs.lemmas.List.{length-take}
 use Rattle.std.proofs.lemmas.List.Elements.{All-nil, All-cons, All-append, All-tail, All-take}
 use Rattle.std.proofs.lemmas.List.Elements.{All-filter}
@@ -11,17 +10,14 @@ use Rattle.std.proofs.lemmas.List.FromFn.{length-range_with_len, get_or-range_wi
 use Rattle.std.proofs.lemmas.List.FromFn.{length-map-range_with_len, get_or-map-range_with_len}
 use Rattle.std.proofs.lemmas.Nat.{pow_pos}
 use Rattle.vb_model.specs.declared.places.Place.{Place}
-use Rattle.vb_model.specs.declared.places.Place.TheVariants.{Reserved, Free, Used, Giving, Lent}
-use Rattle.vb_model.specs.declared.places.Place.TheVariants.{Taking, Stranded, Reporting}
 use Rattle.vb_model.specs.Tests.{is_in}
 use Rattle.vb_model.specs.Layout.{reserved_pages}
 use Rattle.vb_model.specs.Pages.{Block, block_at, size, pages_of, pages_of_all, is_free, place_of}
 use Rattle.vb_model.specs.Pages.{is_maximal, blocks_at, blocks_below, maximal_blocks, reported}
-use Rattle.vb_model.specs.Pages.{maximal_free_blocks}
+use Rattle.vb_model.specs.Pages.{is_reserved}
 use Rattle.vb_model.specs.Guest.{Guest}
 use Rattle.vb_model.specs.Refusals.{reported_blocks, room}
 use Rattle.vb_model.specs.Orderly.{IsOrderly}
-use Rattle.vb_model.specs.Pages.{is_reserved}
 use Rattle.vb_model.proofs.CallSteps.{reported_pages}
 use Rattle.vb_driver.proofs.Runs.{in_range}
 use Rattle.vb_guest.specs.Reported.{IsOwnBlock}
@@ -31,25 +27,10 @@ use Rattle.vb_guest.proofs.Offered.{high_page}
 
 pages_high : (descriptors n : ℕ) (b : Block) → IsOwnBlock descriptors n b
     → All (λ page. reserved_pages descriptors ≤ page) (pages_of b)
-pages_high descriptors n b is k d lt =
-    omega (
-      arith,
-      is.above,
-      length-range_with_len b.start (size b),
-      get_or-range_with_len b.start (size b) k d
-          (omega (arith, lt, length-range_with_len b.start (size b))),
-    )
+pages_high descriptors n b is k d lt = grind (arith, length-range_with_len, get_or-range_with_len)
 
 pages_low : (descriptors n : ℕ) (b : Block) → IsOwnBlock descriptors n b → All (λ page. page < n) (pages_of b)
-pages_low descriptors n b is k d lt =
-    omega (
-      arith,
-      lt,
-      is.below,
-      length-range_with_len b.start (size b),
-      get_or-range_with_len b.start (size b) k d
-          (omega (arith, lt, length-range_with_len b.start (size b))),
-    )
+pages_low descriptors n b is k d lt = grind (arith, length-range_with_len, get_or-range_with_len)
 
 -- they are unreserved pages of the guest
 pub own_pages : (size n : ℕ) (blocks : List Block) → All (IsOwnBlock size n) blocks
@@ -68,21 +49,11 @@ own_pages size n (b ∷ bs) own =
 
 in_front : (page : ℕ) (xs ys : List ℕ) → is_in page xs ≡ true → is_in page (xs ++ ys) ≡ true
 in_front page [] ys e = absurd cc
-in_front page (x ∷ xs) ys e = step (x == page) (is_in page xs) e (in_front page xs ys)
-  where
-    step : (b c : Bool) → (b || c) ≡ true → (c ≡ true → is_in page (xs ++ ys) ≡ true)
-        → (b || is_in page (xs ++ ys)) ≡ true
-    step true c e more = refl
-    step false c e more = more e
+in_front page (x ∷ xs) ys e = grind (arith, in_front page xs ys)
 
 in_back : (page : ℕ) (xs ys : List ℕ) → is_in page ys ≡ true → is_in page (xs ++ ys) ≡ true
 in_back page [] ys e = e
-in_back page (x ∷ xs) ys e =
-    ap (λ (v : Bool). (x == page) || v) (in_back page xs ys e) ∙ by (x == page)
-  where
-    by : (b : Bool) → (b || true) ≡ true
-    by true = refl
-    by false = refl
+in_back page (x ∷ xs) ys e = grind (arith, in_back page xs ys e)
 
 abbrev IsSmall : Block → Type 0
 IsSmall b = b.order ≤ 9
@@ -132,14 +103,7 @@ small_reported count n from test =
     (all_flat IsSmall blocks_at (range_with_len 0 count) small_at)))
 
 free_high : (place : Place) → is_free place ≡ true → is_reserved place ≡ false
-free_high Free e = refl
-free_high Reserved e = absurd cc
-free_high Used e = absurd cc
-free_high Giving e = absurd cc
-free_high Lent e = absurd cc
-free_high Taking e = absurd cc
-free_high Stranded e = absurd cc
-free_high Reporting e = absurd cc
+free_high place e = grind arith
 
 -- they are the guest's own
 pub reported_own : (g : Guest) (from : ℕ) → IsOrderly g
@@ -154,7 +118,4 @@ reported_own g from orderly =
 pub reported_few : (g : Guest) (from : ℕ)
     → (length (reported_blocks g from) ≤ 16)
     × (length (reported_blocks g from) ≤ g.config.queue_size)
-reported_few g from =
-    let blocks : List Block = filter (is_reported from)
-    (maximal_free_blocks g.places) in
-    (omega (arith, length-take (room g) blocks), omega (arith, length-take (room g) blocks))
+reported_few g from = grind (arith, length-take)

@@ -1,11 +1,11 @@
 -- What changes of memory leave of the guest's frames and contents.
-use Rattle.std.specs.Prelude.{◌≡◌, ℕ, ◌≤◌, Bool, true, false, if◌then◌else◌, List, [], length}
-use Rattle.std.specs.Prelude.{Option, None, slice_index_or, refl}
-use Rattle.std.proofs.Common.{sym, ◌∙◌, ap, arith}
+use Rattle.std.specs.Prelude.{◌≡◌, ℕ, ◌≤◌, Bool, true, false, if◌then◌else◌, List, length, Option}
+use Rattle.std.specs.Prelude.{None, refl}
+use Rattle.std.proofs.Common.{◌∙◌, ap, arith}
 use Rattle.vb_model.specs.Tests.{is_in}
 use Rattle.vb_model.specs.Layout.{reserved_pages}
 use Rattle.vb_model.specs.Guest.{zero_page}
-use Rattle.vb_ram.specs.Pages.{Page, Pages, number_of, contents_of, page_at, frame_at, contents_at}
+use Rattle.vb_ram.specs.Pages.{Page, Pages, number_of, page_at, frame_at, contents_at}
 use Rattle.vb_ram.proofs.Contents.{length-zero_page}
 use Rattle.vb_device.specs.Discards.{discarded}
 use Rattle.vb_guest.specs.Stands.{HasPages}
@@ -20,24 +20,12 @@ pub record SamePages (least : ℕ) (old new : Pages) : Type 0 where
 pub pages_same : (old new : Pages) (size n : ℕ) (frames : List (Option ℕ))
     (contents : List (List ℕ)) → SamePages (reserved_pages size) old new
     → HasPages old size n frames contents → HasPages new size n frames contents
-pages_same old new size n frames contents same has = record {
-  length_is = same.count ∙ has.length_is;
-  framed = has.framed;
-  filled = has.filled;
-  behind = λ p. same.behind p ∙ has.behind p;
-  holds = λ p high lt. same.holds p high ∙ has.holds p high lt;
-  sizes = has.sizes;
-}
+pages_same old new size n frames contents same has = grind arith
 
 pub number_if : (b : Bool) (x : Option Page)
     → number_of (if b then None else x) ≡ (if b then None else number_of x)
 number_if true x = refl
 number_if false x = refl
-
-contents_if : (b : Bool) (x : Option Page)
-    → contents_of (if b then None else x) ≡ (if b then zero_page else contents_of x)
-contents_if true x = refl
-contents_if false x = refl
 
 pub page_discarded : (pages : List ℕ) (mem : Pages) (p : ℕ)
     → page_at (discarded pages mem) p ≡ (if is_in p pages then None else page_at mem p)
@@ -60,19 +48,5 @@ pub pages_discarded : (old : Pages) (size n : ℕ) (frames : List (Option ℕ))
     (contents : List (List ℕ)) (pages : List ℕ) → HasPages old size n frames contents
     → HasPages (discarded pages old) size n (with_entry pages None frames)
     (with_entry pages zero_page contents)
-pages_discarded old size n frames contents pages has = record {
-  length_is = length-discarded pages old ∙ has.length_is;
-  framed = length-with_entry pages None frames ∙ has.framed;
-  filled = length-with_entry pages zero_page contents ∙ has.filled;
-  behind = λ p.
-      ap number_of (page_discarded pages old p) ∙ number_if (is_in p pages) (page_at old p)
-      ∙ ap (λ (o : Option ℕ). if is_in p pages then None else o) (has.behind p)
-      ∙ sym (with_none-get pages None frames p);
-  holds = λ p high lt.
-      ap contents_of (page_discarded pages old p) ∙ contents_if (is_in p pages) (page_at old p)
-      ∙ ap (λ (bs : List ℕ). if is_in p pages then zero_page else bs) (has.holds p high lt)
-      ∙ sym (with_entry-get pages zero_page contents p [] (omega (arith, has.filled)));
-  sizes = λ p high lt. ap (λ (bs : List ℕ). length bs)
-      (with_entry-get pages zero_page contents p [] (omega (arith, has.filled)))
-      ∙ whole_if (is_in p pages) (slice_index_or contents p []) (has.sizes p high lt);
-}
+pages_discarded old size n frames contents pages has =
+    grind (arith, length-with_entry, with_none-get, with_entry-get, whole_if)

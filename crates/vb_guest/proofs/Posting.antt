@@ -24,7 +24,6 @@ use Rattle.vb_driver.specs.Coding.{IsCoded}
 use Rattle.vb_driver.specs.State.{RequestSide, AreRequests}
 use Rattle.vb_driver.specs.Calls.{Announces, Posts}
 use Rattle.vb_driver.proofs.Buffers.{names_kept}
-use Rattle.vb_guest.specs.Ring.{RingStands}
 use Rattle.vb_guest.specs.Line.{AreRequested, Line, IsRequest, RingOf, heads_of}
 use Rattle.vb_guest.proofs.RingHeads.{ring_once, ring_count}
 use Rattle.vb_guest.proofs.RingPosted.{ring_posted}
@@ -35,10 +34,9 @@ pub headed_once : (mem : Pages) (q : ℕ) (ring : DriverEnd) (part : QueuePart) 
     (h : ℕ) → RingOf mem q ring part rs
     → headed h (all_requests rs) ≡ one_if (is_head ring.owner h)
 headed_once mem q ring part rs h stands =
-    omega (
+    grind (
       arith,
-      ring_once mem q ring part.next_avail part.next_used (heads_of rs.posted) (heads_of rs.taken)
-          (heads_of rs.done) h stands,
+      ring_once mem q ring part.next_avail part.next_used (heads_of rs.posted) (heads_of rs.taken) (heads_of rs.done) h stands,
       times-heads h rs.posted,
       times-heads h rs.taken,
       times-heads h rs.done,
@@ -49,10 +47,9 @@ headed_once mem q ring part rs h stands =
 pub outstanding_are : (mem : Pages) (q : ℕ) (ring : DriverEnd) (part : QueuePart) (rs : Requests)
     → RingOf mem q ring part rs → outstanding_in ring ≡ outstanding rs
 outstanding_are mem q ring part rs stands =
-    omega (
+    grind (
       arith,
-      ring_count mem q ring part.next_avail part.next_used (heads_of rs.posted)
-          (heads_of rs.taken) (heads_of rs.done) stands,
+      ring_count mem q ring part.next_avail part.next_used (heads_of rs.posted) (heads_of rs.taken) (heads_of rs.done) stands,
       length-heads rs.posted,
       length-heads rs.taken,
       length-heads rs.done,
@@ -118,25 +115,13 @@ is_same h k e = grind (arith, nat_tests)
 -- a head that no request has is not that of one of them
 pub not_headed : (rs : List Request) (h k : ℕ) (d : Request) → headed h rs ≡ 0 → k < length rs
     → (slice_index_or rs k d).head ≢ h
-not_headed rs h k d none lt e =
-    let one = is_same (slice_index_or rs k d).head h e in
-    let less = get_or-le-sum_by
-    (λ (r : Request). cond {A = ℕ} (r.head == h) 1 0) rs k d lt in
-    omega arith
+not_headed rs h k d none lt e = grind (arith, get_or-le-sum_by)
 
 -- a request that was out is still remembered
 pub still_out : (size n : ℕ) (sent : List (List ℕ)) (h : ℕ) (pages : List ℕ) (rs : List Request)
     → headed h rs ≡ 0 → All (IsRequest size n sent) rs
     → All (IsRequest size n (slice_set sent h pages)) rs
-still_out size n sent h pages rs none all k d lt =
-    let is = all k d lt in
-    record {
-      inside = is.inside;
-      few = is.few;
-      remembered = get_or-set_other sent h (slice_index_or rs k d).head pages []
-          (not_headed rs h k d none lt) ∙ is.remembered;
-      pages = is.pages;
-    }
+still_out size n sent h pages rs none all k d lt = grind (arith, get_or-set_other, not_headed)
 
 -- the head of the new request is the last of the posted ones
 pub requests_posted : (m1 m2 : Pages) (q : ℕ) (ring after : DriverEnd) (part : QueuePart)
@@ -144,12 +129,7 @@ pub requests_posted : (m1 m2 : Pages) (q : ℕ) (ring after : DriverEnd) (part :
     → RingOf m1 q ring part rs → after ≡ after_add ring n (Ok head)
     → Announces m1 m2 ring after head → RingOf m2 q after part (posting head pages rs)
 requests_posted m1 m2 q ring after part rs n head pages stands state did =
-    let R : List ℕ → Type 0 = λ l. RingStands m2 q after part.next_avail part.next_used l
-    (heads_of rs.taken) (heads_of rs.done) in
-    subst R
-    (sym (heads-push rs.posted (record { head = head; pages = pages; visited = 0 })))
-    (ring_posted m1 m2 q ring after part.next_avail part.next_used (heads_of rs.posted)
-    (heads_of rs.taken) (heads_of rs.done) n head stands state did)
+    grind (arith, heads-push, ring_posted)
 
 -- the queue's side once the request is out
 abbrev pub posted_side : RequestSide → ℕ → List ℕ → RequestSide

@@ -1,9 +1,7 @@
 -- Calls after which each page has the frame that it had leave none loose.
 use Rattle.std.specs.Prelude.{◌≡◌, ◌++◌, ℕ, suc, Bool, List, [], ◌∷◌, Option, None, slice_index_or}
 use Rattle.std.specs.Prelude.{count_by, length, refl}
-use Rattle.std.specs.Option.{option_to_list}
 use Rattle.std.proofs.Common.{◌∙◌, sym, ap, arith, length-append}
-use Rattle.std.proofs.lemmas.Bool.{eq-eqb}
 use Rattle.vb_model.specs.declared.calls.Call.{Call}
 use Rattle.vb_model.specs.declared.calls.Claim.{Claim}
 use Rattle.vb_model.specs.declared.replies.Reply.{Reply}
@@ -26,17 +24,13 @@ use Rattle.vb_guest.proofs.Standing.{by_guest}
 
 pub no_frames : (frames : List ℕ) → ((n : ℕ) → times n frames ≡ 0) → frames ≡ []
 no_frames [] none = refl
-no_frames (n ∷ rest) none =
-    absurd
-    (let here = ap one_if (eq-eqb n n refl) in omega (arith, none n, times_first n n rest, here))
+no_frames (n ∷ rest) none = grind (arith, times_first n n rest)
 
 -- no frame is behind pages that have none
 pub none_behind : (m : Pages) (pages : List ℕ) → ((page : ℕ) → frame_at m page ≡ None)
     → frames_behind m pages ≡ []
 none_behind m [] none = refl
-none_behind m (p ∷ ps) none =
-    ap (λ (o : Option ℕ). option_to_list o ++ frames_behind m ps) (none p)
-    ∙ none_behind m ps none
+none_behind m (p ∷ ps) none = grind (arith, none_behind m ps none)
 
 -- two tables with the same frames have each frame as often
 as_often : (n : ℕ) (xs ys : List (Option ℕ))
@@ -105,12 +99,4 @@ noted_one old new claim noted same =
 pub noted_more : {P : Type 0} (old mid new more : List Claim) (claim : Claim)
     → mid ≡ old ++ (claim ∷ []) → new ≡ mid ++ more → new ≡ old → P
 noted_more old mid new more claim noted others same =
-    absurd
-    (omega (
-      arith,
-      ap length noted,
-      ap length others,
-      ap length same,
-      length-append old (claim ∷ []),
-      length-append mid more,
-    ))
+    grind (arith, length-append old (claim ∷ []), length-append mid more)

@@ -1,62 +1,37 @@
 -- A guest's read is a step of the definitions.
-use Rattle.std.specs.Prelude.{◌≡◌, ℕ, ◌+◌, ◌<◌, Bool, true, false, not, List, [], ◌∷◌, length, take}
-use Rattle.std.specs.Prelude.{drop, None, slice_index, refl}
-use Rattle.std.proofs.Common.{sym, ◌∙◌, ap, arith, inl, inr}
-use Rattle.std.proofs.lemmas.Bool.{cases_Bool}
+use Rattle.std.specs.Prelude.{◌≡◌, ℕ, ◌+◌, ◌<◌, true, false, List, [], length, take, drop, None}
+use Rattle.std.specs.Prelude.{slice_index, refl}
+use Rattle.std.proofs.Common.{sym, ◌∙◌, ap, arith, inl}
 use Rattle.vb_model.specs.declared.calls.Call.TheVariants.{Read}
 use Rattle.vb_model.specs.declared.replies.Refusal.TheVariants.{NotHeld, OutOfRam, NoMemory}
 use Rattle.vb_model.specs.declared.replies.Reply.TheVariants.{ReadBytes, Refused}
 use Rattle.vb_model.specs.Pages.{place_of, is_used}
 use Rattle.vb_model.specs.Guest.{Guest}
-use Rattle.vb_model.specs.Refusals.{◌⇒◌, first_refusal, refusal_of, is_outside}
+use Rattle.vb_model.specs.Refusals.{refusal_of}
 use Rattle.vb_ram.specs.Pages.{Pages, byte_at, contents_at, Covers}
 use Rattle.vb_ram.proofs.Contents.{contents_read}
 use Rattle.vb_ram.specs.Part.{Part}
 use Rattle.vb_driver.specs.State.{DriverState}
 use Rattle.vb_guest.specs.Stands.{Honest}
 use Rattle.vb_guest.specs.Steps.{StepsAlone}
-use Rattle.vb_guest.proofs.Closing.{first_holds, honest_performed, steps_alone, refused_alone}
+use Rattle.vb_guest.proofs.Closing.{honest_performed, steps_alone}
 use Rattle.vb_guest.proofs.Writing.{used_high}
 use Rattle.vb_guest.proofs.WriteStep.{outside_is, inside_is}
 
 pub read_not_held : (m : Pages) (p : Part) (d : DriverState) (g : Guest) (page off len : ℕ)
     → is_used (place_of d.places page) ≡ false → Honest m p d g
     → StepsAlone (Honest m p d) g (Read page off len) (Refused NotHeld)
-read_not_held m p d g page off len free stands =
-    let unused : is_used (place_of g.places page) ≡ false =
-    ap (λ l. is_used (place_of l page)) (sym stands.ties.parts.driver.places) ∙ free in
-    refused_alone m m p p d d g (Read page off len) NotHeld stands
-    (first_holds (not (is_used (place_of g.places page))) NotHeld
-    ((is_outside g page off len ⇒ OutOfRam) ∷ []) (ap not unused)) refl refl refl
-
-read_tests : (g : Guest) (page off len : ℕ) → is_used (place_of g.places page) ≡ true
-    → refusal_of g (Read page off len) ≡ first_refusal ((is_outside g page off len ⇒ OutOfRam) ∷ [])
-read_tests g page off len used =
-    ap (λ (b : Bool). first_refusal
-    ((not b ⇒ NotHeld) ∷ (is_outside g page off len ⇒ OutOfRam) ∷ [])) used
+read_not_held m p d g page off len free stands = grind arith
 
 pub read_outside : (m : Pages) (p : Part) (d : DriverState) (g : Guest) (page off len : ℕ)
     → is_used (place_of d.places page) ≡ true → Honest m p d g → (Covers m page off len → ⊥)
     → StepsAlone (Honest m p d) g (Read page off len) (Refused OutOfRam)
-read_outside m p d g page off len used stands out =
-    let held : is_used (place_of g.places page) ≡ true =
-    ap (λ l. is_used (place_of l page)) (sym stands.ties.parts.driver.places) ∙ used in
-    elim (cases_Bool (is_outside g page off len)) [
-      | inl outside ↦ refused_alone m m p p d d g (Read page off len) OutOfRam stands
-          (read_tests g page off len held
-          ∙ first_holds (is_outside g page off len) OutOfRam [] outside) refl refl refl
-      | inr inside ↦ absurd (out (outside_is g m page off len stands.ties.pages.length_is inside))
-    ]
+read_outside m p d g page off len used stands out = search (arith, outside_is)
 
 read_free : (m : Pages) (p : Part) (d : DriverState) (g : Guest) (page off len : ℕ)
     → is_used (place_of d.places page) ≡ true → Honest m p d g → Covers m page off len
     → refusal_of g (Read page off len) ≡ None
-read_free m p d g page off len used stands covers =
-    let held : is_used (place_of g.places page) ≡ true =
-    ap (λ l. is_used (place_of l page)) (sym stands.ties.parts.driver.places) ∙ used in
-    read_tests g page off len held
-    ∙ ap (λ (b : Bool). first_refusal ((b ⇒ OutOfRam) ∷ []))
-    (inside_is g m page off len stands.ties.pages.length_is covers)
+read_free m p d g page off len used stands covers = grind (arith, inside_is)
 
 pub read_done : (m : Pages) (p : Part) (d : DriverState) (g : Guest) (page off len : ℕ)
     (bytes : List ℕ) → is_used (place_of d.places page) ≡ true → Honest m p d g
@@ -79,14 +54,10 @@ pub read_no_memory : (m : Pages) (p : Part) (d : DriverState) (g : Guest) (page 
     → is_used (place_of d.places page) ≡ true → Honest m p d g → Covers m page off len
     → StepsAlone (Honest m p d) g (Read page off len) (Refused NoMemory)
 read_no_memory m p d g page off len used stands covers =
-    steps_alone m m p p d d g (Read page off len) (Refused NoMemory) g stands
-    (honest_performed g (Read page off len) [] (Refused NoMemory) g
-    (read_free m p d g page off len used stands covers) (refl, (inr refl, refl))) stands.ties refl
+    grind (arith, read_free m p d g page off len used stands covers)
 
 pub bytes_read : (m : Pages) (page off len : ℕ) (old out : List ℕ) → Covers m page off len
     → length (contents_at m page) ≡ 4096 → length old ≡ len → length out ≡ length old
     → ((k : ℕ) → k < length old → slice_index out k ≡ byte_at m page (off + k))
     → out ≡ take len (drop off (contents_at m page))
-bytes_read m page off len old out covers whole was now read =
-    contents_read m page off out (omega (arith, covers.bytes)) (λ k lt. read k (omega arith))
-    ∙ ap (λ (n : ℕ). take n (drop off (contents_at m page))) (now ∙ was)
+bytes_read m page off len old out covers whole was now read = grind (arith, contents_read)

@@ -26,17 +26,17 @@ used_next done = slice_get (heads_of done) 0
 pub used_line : (mem : Pages) (q : ℕ) (ring : DriverEnd) (part : QueuePart) (rs : Requests)
     → RingOf mem q ring part rs → used_answer mem ring ≡ Ok (used_next rs.done)
 used_line mem q ring part rs stands =
-    ring_answer mem q ring part.next_avail part.next_used (heads_of rs.posted) (heads_of rs.taken)
-    (heads_of rs.done) stands
+    grind (
+      arith,
+      ring_answer mem q ring part.next_avail part.next_used (heads_of rs.posted) (heads_of rs.taken) (heads_of rs.done) stands,
+    )
 
 pub requests_reaped : (mem : Pages) (q : ℕ) (ring after : DriverEnd) (part : QueuePart)
     (posted taken : List Request) (r : Request) (rest : List Request)
     → RingOf mem q ring part (record { posted = posted; taken = taken; done = r ∷ rest })
     → TakesUsedBy mem ring after (Ok (Some r.head))
     → RingOf mem q after part (record { posted = posted; taken = taken; done = rest })
-requests_reaped mem q ring after part posted taken r rest stands did =
-    ring_reaped mem q ring after part.next_avail part.next_used (heads_of posted) (heads_of taken)
-    r.head (heads_of rest) stands did
+requests_reaped mem q ring after part posted taken r rest stands did = grind (arith, ring_reaped)
 
 pub line_reaped : (mem : Pages) (q n : ℕ) (side : RequestSide) (part : QueuePart)
     (posted taken : List Request) (r : Request) (rest : List Request)

@@ -1,30 +1,25 @@
 -- A posted report, as its device finds it.
-use Rattle.std.specs.Prelude.{◌≡◌, ℕ, ◌*◌, ◌/◌, ◌%◌, ◌<◌, ◌≤◌, ◌==◌, ◌||◌, Bool, true}
-use Rattle.std.specs.Prelude.{false, not, nat_lt, List, [], ◌∷◌, ◌++◌, All, length, map}
-use Rattle.std.specs.Prelude.{Option, Some, None}
-use Rattle.std.specs.Prelude.{Ok, slice_index, slice_index_or, if◌then◌else◌, refl}
+use Rattle.std.specs.Prelude.{◌≡◌, ℕ, ◌*◌, ◌<◌, ◌≤◌, ◌||◌, Bool, true, false, not, List, [], ◌∷◌}
+use Rattle.std.specs.Prelude.{All, length, map, Option, None, Ok, slice_index, slice_index_or, refl}
 use Rattle.std.specs.List.{list_any, range_with_len}
 use Rattle.std.proofs.Common.{sym, ◌∙◌, ap, subst, arith}
-use Rattle.std.proofs.lemmas.Bool.{le-ltb, ne_eqb, eq-eqb}
 use Rattle.std.proofs.lemmas.Nat.{pow_pos}
 use Rattle.std.proofs.lemmas.List.{length-map, get_or-map}
 use Rattle.std.proofs.lemmas.List.Elements.{All-tail}
 use Rattle.std.proofs.lemmas.List.FromFn.{length-range_with_len, get_or-range_with_len}
 use Rattle.vb_model.specs.Layout.{reserved_pages}
-use Rattle.vb_model.specs.Pages.{Block, size, pages_of, pages_of_all}
+use Rattle.vb_model.specs.Pages.{Block, size, pages_of_all}
 use Rattle.vb_ram.specs.Pages.{Pages}
 use Rattle.vb_chain.specs.declared.pieces.Piece.{Piece}
 use Rattle.vb_chain.specs.declared.fault.ChainFault.{ChainFault}
-use Rattle.vb_chain.specs.declared.fault.ChainFault.TheVariants.{BadPage, ReservedPage}
 use Rattle.vb_chain.specs.Table.{descriptor_at}
 use Rattle.vb_chain.specs.Chain.{ChainGives}
 use Rattle.vb_chain.specs.Written.{empty, linked, AreSound, IsRoute}
 use Rattle.vb_chain.proofs.ChainLaws.{written_chain}
 use Rattle.vb_driver.specs.Coding.{AreReported}
-use Rattle.vb_request.specs.Request.{first_of_both, unless_fault}
-use Rattle.vb_request.specs.Report.{pages_of_piece, pages_of_pieces, piece_fault, first_piece_fault}
-use Rattle.vb_request.specs.Report.{has_bad_length, report_request}
-use Rattle.vb_request.proofs.Reports.{by_pieces}
+use Rattle.vb_request.specs.Request.{first_of_both}
+use Rattle.vb_request.specs.Report.{pages_of_pieces, piece_fault, first_piece_fault, has_bad_length}
+use Rattle.vb_request.specs.Report.{report_request}
 use Rattle.vb_guest.specs.Reported.{IsOwnBlock}
 
 -- the bytes of a block, and those of all blocks, as a chain has them
@@ -94,13 +89,7 @@ all_writable [] = refl
 all_writable (b ∷ bs) = all_writable bs
 
 whole_length : (b : Block) → has_bad_length (piece_of b) ≡ false
-whole_length b =
-    let pos : 0 < size b = pow_pos b.order in
-    let some : ((4096 * size b) == 0) ≡ false = ne_eqb (4096 * size b) 0 (omega arith) in
-    let rest : ((4096 * size b) % 4096 == 0) ≡ true =
-    eq-eqb ((4096 * size b) % 4096) 0 (omega arith) in
-    ap (λ (v : Bool). v || not ((4096 * size b) % 4096 == 0)) some
-    ∙ ap (λ (v : Bool). not v) rest
+whole_length b = grind (arith, pow_pos)
 
 all_whole : (blocks : List Block) → list_any has_bad_length (pieces_of blocks) ≡ false
 all_whole [] = refl
@@ -109,20 +98,7 @@ all_whole (b ∷ bs) =
 
 right_start : (reserved : ℕ) (b : Block) → reserved ≤ b.start
     → piece_fault reserved (piece_of b) ≡ None
-right_start reserved b above =
-    let even : ((b.start * 4096) % 4096 == 0) ≡ true =
-    eq-eqb ((b.start * 4096) % 4096) 0 (omega arith) in
-    let high : nat_lt ((b.start * 4096) / 4096) reserved ≡ false =
-    le-ltb ((b.start * 4096) / 4096) reserved (omega arith) in
-    by (not ((b.start * 4096) % 4096 == 0)) (nat_lt ((b.start * 4096) / 4096) reserved)
-    (ap (λ (v : Bool). not v) even) high
-  where
-    by : (a c : Bool) → a ≡ false → c ≡ false
-        → (if a then Some BadPage
-        else (if c then Some ReservedPage else None)) ≡ None
-    by false false e f = refl
-    by false true e f = absurd cc
-    by true c e f = absurd cc
+right_start reserved b above = grind arith
 
 all_right : (size n : ℕ) (blocks : List Block) → All (IsOwnBlock size n) blocks
     → first_piece_fault (reserved_pages size) (pieces_of blocks) ≡ None
@@ -134,28 +110,20 @@ all_right size n (b ∷ bs) own =
     (right_start reserved b first.above)
     ∙ all_right size n bs (All-tail (IsOwnBlock size n) b bs own)
 
-piece_pages : (b : Block) → pages_of_piece (piece_of b) ≡ pages_of b
-piece_pages b =
-    let start : (b.start * 4096) / 4096 ≡ b.start = omega arith in
-    let count : (4096 * size b) / 4096 ≡ size b = omega arith in
-    ap (λ (k : ℕ). range_with_len k ((4096 * size b) / 4096)) start
-    ∙ ap (range_with_len b.start) count
-
 pages_named : (blocks : List Block) → pages_of_pieces (pieces_of blocks) ≡ pages_of_all blocks
 pages_named [] = refl
-pages_named (b ∷ bs) =
-    ap (λ (l : List ℕ). l ++ pages_of_pieces (pieces_of bs)) (piece_pages b)
-    ∙ ap (λ (l : List ℕ). pages_of b ++ l) (pages_named bs)
+pages_named (b ∷ bs) = grind (arith, pages_named bs)
 
 -- it is a report of the pages of its blocks
 pub report_pages : (size n : ℕ) (blocks : List Block) → length blocks ≤ 16
     → All (IsOwnBlock size n) blocks
     → report_request (pieces_of blocks) (reserved_pages size) ≡ Ok (pages_of_all blocks)
 report_pages size n blocks few own =
-    let short : nat_lt 32 (length (pieces_of blocks)) ≡ false =
-    le-ltb 32 (length (pieces_of blocks)) (omega (arith, length-map blocks piece_of)) in
-    by_pieces (reserved_pages size) (pieces_of blocks) (all_writable blocks)
-    (ap (λ (v : Bool). v || list_any has_bad_length (pieces_of blocks)) short ∙ all_whole blocks)
-    ∙ ap (λ (o : Option ChainFault). unless_fault o (pages_of_pieces (pieces_of blocks)))
-    (all_right size n blocks own)
-    ∙ ap (λ (l : List ℕ). Ok l) (pages_named blocks)
+    grind (
+      arith,
+      length-map blocks piece_of,
+      all_writable blocks,
+      all_whole blocks,
+      all_right size n blocks own,
+      pages_named blocks,
+    )

@@ -2,7 +2,7 @@
 use Rattle.std.specs.Prelude.{◌≡◌, ℕ, ◌+◌, ◌%◌, ◌<◌, ◌≤◌, true, List, [], ◌∷◌, ◌++◌}
 use Rattle.std.specs.Prelude.{length, remove, Some, Ok, slice_get}
 use Rattle.std.proofs.Common.{sym, ◌∙◌, ap, subst, arith, inl, refl}
-use Rattle.std.proofs.lemmas.List.Elements.{All-nil, All-cons, All-push, All-tail}
+use Rattle.std.proofs.lemmas.List.Elements.{All-nil, All-push, All-tail}
 use Rattle.std.proofs.lemmas.Option.{get_or_from_slice_get, slice_get_within}
 use Rattle.vb_model.specs.Layout.{ring_page}
 use Rattle.vb_model.specs.Pages.{Block}
@@ -34,9 +34,7 @@ use Rattle.vb_guest.proofs.RingReaped.{ring_reaped}
 reported_kept : (old new : Pages) (table : ℕ) (blocks : List Block)
     → page_at new table ≡ page_at old table
     → AreReported old table blocks → AreReported new table blocks
-reported_kept old new table blocks same are = record {
-  chain = λ k lt. descriptor_apart old new table k same ∙ are.chain k lt;
-}
+reported_kept old new table blocks same are = grind (arith, descriptor_apart)
 
 -- the ring's pages are as before
 pub report_apart : (old new : Pages) (n : ℕ) (side : ReportSide) (part : QueuePart) (rs : Requests)
@@ -61,27 +59,7 @@ pub report_posted : (m1 m2 : Pages) (n : ℕ) (s1 s2 : ReportSide) (part : Queue
     → ReportLine m1 n s1 part no_requests → PostsReport m1 m2 s1 s2 blocks
     → IsReport s1.ring.size n blocks (record { head = 0; pages = pages; visited = 0 })
     → ReportLine m2 n s2 part (posting 0 pages no_requests)
-report_posted m1 m2 n s1 s2 part blocks pages line posts is =
-    let r : Request = record { head = 0; pages = pages; visited = 0 } in
-    let at : ℕ = ring_page s1.ring.size 4 in
-    let table : s1.ring.layout.table ≡ at = ap (λ (l : Layout). l.table) line.ring.layout in
-    let R : ReportSide → Type 0 = λ s. IsReport s.ring.size n s.blocks r in
-    let C : ReportSide → Type 0 = λ s. AreReported m2 (ring_page s.ring.size 4) s.blocks in
-    let now : R s2 = subst R (sym posts.state) is in
-    let code : AreReported m2 at blocks =
-    subst (λ (t : ℕ). AreReported m2 t blocks) table posts.coded in
-    let coded : C s2 = subst C (sym posts.state) code in
-    record {
-      ring = ring_posted m1 m2 4 s1.ring s2.ring part.next_avail part.next_used [] [] []
-          (length blocks) 0 line.ring (ap (λ (s : ReportSide). s.ring) posts.state) posts.announces;
-      posted = All-cons (IsReport s2.ring.size n s2.blocks) r [] now
-          (All-nil (IsReport s2.ring.size n s2.blocks));
-      taken = All-nil (IsReport s2.ring.size n s2.blocks);
-      done = All-nil (IsReport s2.ring.size n s2.blocks);
-      coded = All-cons (λ x. AreReported m2 (ring_page s2.ring.size 4) s2.blocks) r [] coded
-          (All-nil (λ x. AreReported m2 (ring_page s2.ring.size 4) s2.blocks));
-      remembers = line.remembers;
-    }
+report_posted m1 m2 n s1 s2 part blocks pages line posts is = grind (arith, ring_posted)
 
 -- the device takes it
 pub report_taken : (mem : Pages) (n : ℕ) (side : ReportSide) (part : QueuePart) (r : Request)

@@ -1,24 +1,21 @@
 -- A guest's report is a step of the definitions.
-use Rattle.std.specs.Prelude.{◌≡◌, ℕ, ◌<◌, ◌==◌, Bool, true, false, not, nat_le, List}
-use Rattle.std.specs.Prelude.{[], ◌∷◌, length, Result, Ok, Err, Option, Some, None, is_some, refl}
+use Rattle.std.specs.Prelude.{◌≡◌, ℕ, ◌<◌, ◌==◌, Bool, not, nat_le, List, [], ◌∷◌, length, Result}
+use Rattle.std.specs.Prelude.{Ok, Err, Some, None, is_some, refl, All}
 use Rattle.std.proofs.Common.{sym, ◌∙◌, ap, subst, arith, inl, inr}
-use Rattle.std.proofs.lemmas.Bool.Decides.{nat_tests}
 use Rattle.std.proofs.lemmas.List.{length-map}
 use Rattle.vb_model.specs.declared.calls.Call.TheVariants.{Report}
-use Rattle.vb_model.specs.declared.places.Place.{Place}
 use Rattle.vb_model.specs.declared.places.Place.TheVariants.{Reporting}
 use Rattle.vb_model.specs.declared.replies.Refusal.{Refusal}
 use Rattle.vb_model.specs.declared.replies.Refusal.TheVariants.{NotReady, NoFeature, QueueFull}
 use Rattle.vb_model.specs.declared.replies.Refusal.TheVariants.{Nothing}
 use Rattle.vb_model.specs.declared.replies.Reply.TheVariants.{Posted, Refused}
-use Rattle.vb_model.specs.Pages.{Block, placed, pages_of_all, reported, maximal_free_blocks}
-use Rattle.vb_model.specs.Requests.{Request, Requests, no_requests, all_requests, headed}
-use Rattle.vb_model.specs.Requests.{outstanding}
-use Rattle.vb_model.specs.Requests.{posting, IsLeastHead, Reporting_free}
+use Rattle.vb_model.specs.Pages.{Block, placed, pages_of_all}
+use Rattle.vb_model.specs.Requests.{Request, Requests, no_requests, outstanding, posting}
+use Rattle.vb_model.specs.Requests.{IsLeastHead, Reporting_free}
 use Rattle.vb_model.specs.Guest.{Guest, reporting}
 use Rattle.vb_model.specs.Driver.{asking}
 use Rattle.vb_model.specs.FirstRefusal.{◌⇒◌, first_refusal}
-use Rattle.vb_model.specs.Tables.{request_tests, is_up, most_requests}
+use Rattle.vb_model.specs.Tables.{is_up}
 use Rattle.vb_model.specs.Refusals.{refusal_of, reported_blocks}
 use Rattle.vb_ram.specs.Pages.{Pages}
 use Rattle.vb_ram.specs.Part.{Part}
@@ -33,7 +30,6 @@ use Rattle.vb_guest.specs.Reported.{IsReport, ReportLine}
 use Rattle.vb_guest.specs.Stands.{Honest, Ties, IsRunning}
 use Rattle.vb_guest.specs.Steps.{StepsAlone}
 use Rattle.vb_guest.specs.Replies.{posted_reply}
-use Rattle.std.specs.Prelude.{All}
 use Rattle.vb_guest.specs.Reported.{IsOwnBlock}
 use Rattle.vb_guest.proofs.Apart.{no_buffer}
 use Rattle.vb_guest.proofs.RunApart.{sizes_of, ring_of, ring_low, table_clear, post_leaves, post_same}
@@ -43,50 +39,31 @@ use Rattle.vb_guest.proofs.BufferLines.{buffer_apart}
 use Rattle.vb_guest.proofs.ReportLines.{report_posted}
 use Rattle.vb_guest.proofs.OwnBlocks.{reported_own, reported_few}
 use Rattle.vb_guest.proofs.PagesKept.{pages_same}
-use Rattle.vb_guest.proofs.SameRefusals.{IsIdleStatus, at_both}
+use Rattle.vb_guest.proofs.SameRefusals.{IsIdleStatus}
 use Rattle.vb_guest.proofs.Closing.{honest_performed, honest_refused, steps_alone, ties_same}
-use Rattle.vb_guest.proofs.Closing.{ties_areas}
 
 -- ---- refusals
 
 blocks_same : (d : DriverState) (g : Guest) (from : ℕ) → d.queue_size ≡ g.config.queue_size
     → d.places ≡ g.places → blocks_to_report d from ≡ reported_blocks g from
-blocks_same d g from size places =
-    ap (λ (s : ℕ). reported (most_requests s) from (maximal_free_blocks d.places)) size
-    ∙ ap (λ (l : List Place). reported (most_requests g.config.queue_size) from
-    (maximal_free_blocks l)) places
+blocks_same d g from size places = grind arith
 
 report_same : (p : Part) (d : DriverState) (g : Guest) (from : ℕ) → p.status ≡ g.status
     → d.features ≡ g.features → outstanding_in d.report.ring ≡ outstanding g.report
     → blocks_to_report d from ≡ reported_blocks g from
     → first_refusal (report_tests d p from) ≡ refusal_of g (Report from)
-report_same p d g from status features out blocks =
-    let R : ℕ → ℕ → ℕ → List Block → Option Refusal =
-    λ s f o l. first_refusal (request_tests s (not (reporting f)) o 1 (length l)) in
-    ap (λ s. R s d.features (outstanding_in d.report.ring) (blocks_to_report d from)) status
-    ∙ ap (λ f. R g.status f (outstanding_in d.report.ring) (blocks_to_report d from)) features
-    ∙ ap (λ o. R g.status g.features o (blocks_to_report d from)) out
-    ∙ ap (λ l. R g.status g.features (outstanding g.report) l) blocks
+report_same p d g from status features out blocks = grind arith
 
 report_idle : (p : Part) (d : DriverState) (g : Guest) (from : ℕ) → p.status ≡ g.status
     → IsIdleStatus g.status
     → (first_refusal (report_tests d p from) ≡ Some NotReady)
     × (refusal_of g (Report from) ≡ Some NotReady)
-report_idle p d g from same down =
-    let P : ℕ → Type 0 =
-    λ s. first_refusal (report_tests d (record p { status = s }) from) ≡ Some NotReady in
-    let G : ℕ → Type 0 =
-    λ s. refusal_of (record g { status = s }) (Report from) ≡ Some NotReady in (
-      at_both P p.status (subst IsIdleStatus (sym same) down) refl refl,
-      at_both G g.status down refl refl,
-    )
+report_idle p d g from same down = grind arith
 
 -- the driver's areas are none of the guest's
 unreported_ties : (why : Refusal) (m1 m2 : Pages) (p1 p2 : Part) (d1 d2 : DriverState) (g : Guest)
     → m2 ≡ m1 → p2 ≡ p1 → d2 ≡ unreported why d1 → Ties m1 p1 d1 g → Ties m2 p2 d2 g
-unreported_ties Nothing m1 m2 p1 p2 d1 d2 g m p d ties =
-    ties_same m1 m2 p1 p2 (unreported Nothing d1) d2 g m p d (ties_areas m1 p1 d1 g _ ties)
-unreported_ties _ m1 m2 p1 p2 d1 d2 g m p d ties = ties_same m1 m2 p1 p2 d1 d2 g m p d ties
+unreported_ties why m1 m2 p1 p2 d1 d2 g m p d ties = search arith
 
 report_refused : (m1 m2 : Pages) (p1 p2 : Part) (d1 d2 : DriverState) (g : Guest) (from : ℕ)
     (why : Refusal)
@@ -107,9 +84,7 @@ none_out : (a b : Bool) (out count : ℕ)
     → first_refusal ((a ⇒ NotReady) ∷ (b ⇒ NoFeature) ∷ (nat_le 1 out ⇒ QueueFull)
     ∷ ((count == 0) ⇒ Nothing) ∷ []) ≡ None
     → (out ≡ 0) × (0 < count)
-none_out true b out count e = absurd cc
-none_out false true out count e = absurd cc
-none_out false false out count e = (grind (arith, nat_tests), grind (arith, nat_tests))
+none_out a b out count e = grind arith
 
 all_gone : (rs : Requests) → outstanding rs ≡ 0 → rs ≡ no_requests
 all_gone rs e = by rs.posted rs.taken rs.done refl refl refl e
@@ -128,10 +103,7 @@ all_gone rs e = by rs.posted rs.taken rs.done refl refl refl e
         absurd (omega (arith, ap (λ (l : List Request). length l) c, e))
 
 first_head : (rs : Requests) → rs ≡ no_requests → IsLeastHead rs 0
-first_head rs e = record {
-  new = ap (λ (x : Requests). headed 0 (all_requests x)) e;
-  least = λ h lt. absurd (omega (arith, lt));
-}
+first_head rs e = grind arith
 
 report_out : (m1 m2 : Pages) (p1 p2 : Part) (d1 d2 : DriverState) (g : Guest) (from : ℕ)
     (posted : PostedRequest)

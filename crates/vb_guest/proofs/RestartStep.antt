@@ -5,7 +5,6 @@ use Rattle.std.specs.Option.{option_to_list}
 use Rattle.std.specs.List.{range_with_len}
 use Rattle.std.proofs.Common.{sym, ◌∙◌, ap, subst, arith}
 use Rattle.std.proofs.lemmas.List.{length-replicate}
-use Rattle.vb_model.specs.Tests.{one_if}
 use Rattle.vb_model.specs.Limits.{is_config}
 use Rattle.vb_model.specs.Guest.{Guest, no_statistics}
 use Rattle.vb_model.specs.Life.{after_restart}
@@ -22,9 +21,9 @@ use Rattle.vb_guest.specs.Steps.{is_frame, backing_count, AreOut, AllReturn, IsB
 use Rattle.vb_guest.specs.Supply.{Supply, supply_of, Moves, nothing, AreLoose}
 use Rattle.vb_guest.proofs.Discarding.{one_frame}
 use Rattle.vb_guest.proofs.Fresh.{everywhere, backs_none, fresh_honest}
-use Rattle.vb_guest.proofs.Moving.{used_own, used_out, by_keeps, moves_as}
-use Rattle.vb_guest.proofs.Standing.{by_guest, stands_of, own_moved}
-use Rattle.vb_guest.proofs.Writing.{HasFrames, frames_of}
+use Rattle.vb_guest.proofs.Moving.{moves_as}
+use Rattle.vb_guest.proofs.Standing.{stands_of, own_moved}
+use Rattle.vb_guest.proofs.Writing.{HasFrames}
 
 -- ---- the frames behind all pages
 
@@ -65,32 +64,7 @@ record Rooted (mem : Pages) (part : Part) (d : DriverState) (g : Guest) : Type 0
 
 rooted : (keeps : Bool) (mem : Pages) (part : Part) (d : DriverState) (g : Guest)
     → Stands keeps mem part d g → Rooted mem part d g
-rooted keeps mem part d g stands = by_guest keeps mem part d g stands
-    (λ honest. let parts = honest.ties.parts in
-    record {
-      config = parts.guest.config;
-      pages = parts.driver.pages;
-      queue_size = parts.driver.queue_size;
-      processors = parts.driver.processors;
-      size = parts.device.size;
-      paced = parts.device.paced;
-      target = parts.device.target;
-      flagged = ap (λ (l : List Bool). length l) parts.device.ballooned
-          ∙ honest.consistent.flagged;
-      frames = frames_of mem g.config.queue_size g.config.pages g.frames g.contents honest.ties.pages;
-    })
-    (λ rogue. record {
-      config = rogue.config;
-      pages = rogue.pages;
-      queue_size = rogue.queue_size;
-      processors = rogue.processors;
-      size = rogue.size;
-      paced = rogue.paced;
-      target = rogue.target;
-      flagged = ap (λ (l : List Bool). length l) rogue.ballooned ∙ rogue.flagged;
-      frames = record
-          { length_is = rogue.length_is; framed = rogue.framed; behind = rogue.behind };
-    })
+rooted keeps mem part d g stands = search arith
 
 -- all frames of the guest
 abbrev pub all_frames : Pages → List ℕ
@@ -108,17 +82,7 @@ pub all_loose : (keeps : Bool) (mem : Pages) (part : Part) (d : DriverState) (g 
     (out : List Bool) → Stands keeps mem part d g → (keeps ≡ false → AreOut g out)
     → AreLoose (all_frames mem) (supply_of part out)
 all_loose keeps mem part d g out stands held n =
-    let same = frames_of_guest mem g (rooted keeps mem part d g stands).frames n in
-    by_keeps (supply_of part out)
-    (λ e. (let k = sym stands.own.flag ∙ e in
-    omega (
-      arith,
-      same,
-      stands.own.each k n,
-      ap one_if (used_own (supply_of part out) n e),
-    )))
-    (λ e. (let k = sym stands.own.flag ∙ e in
-    omega (arith, same, held k n, ap one_if (used_out (supply_of part out) n e))))
+    grind (arith, frames_of_guest mem g (rooted keeps mem part d g stands).frames n)
 
 -- and have gone back
 pub all_returned : (keeps : Bool) (mem : Pages) (part : Part) (d : DriverState) (g : Guest)
@@ -131,10 +95,7 @@ all_returned keeps mem part d g s1 s2 stands moves =
 -- no page has one
 pub is_bare : (mem : Pages) (part : Part) (n : ℕ) → mem ≡ replicate n None → part.loose ≡ []
     → IsBare mem part
-is_bare mem part n none loose = record {
-  frames = λ page. ap (λ (m : Pages). frame_at m page) none ∙ ap number_of (everywhere n None page);
-  loose = loose;
-}
+is_bare mem part n none loose = grind (arith, everywhere)
 
 -- where each page has the frame that it had, none had one
 pub none_had : (m1 m2 : Pages) (n : ℕ) → m2 ≡ replicate n None → KeepsFrames m1 m2
@@ -149,39 +110,17 @@ part_restarted : (m1 : Pages) (p1 p2 : Part) (d1 : DriverState) (g : Guest) (own
     → Rooted m1 p1 d1 g
     → p2 ≡ record (part_after_reset (part_after_reset p1)) { loose = []; own = own }
     → DeviceKeeps p2 g.config 0 0 g.target 0 (replicate g.config.pages false) no_statistics
-part_restarted m1 p1 p2 d1 g own root is = record {
-  size = ap (λ (p : Part). p.queue_size) is ∙ root.size;
-  paced = ap (λ (p : Part). p.paced) is ∙ root.paced;
-  status = ap (λ (p : Part). p.status) is;
-  features = ap (λ (p : Part). p.features) is;
-  target = ap (λ (p : Part). p.target) is ∙ root.target;
-  actual = ap (λ (p : Part). p.actual) is;
-  ballooned = ap (λ (p : Part). p.ballooned) is
-      ∙ ap (λ (n : ℕ). replicate n false)
-      (length-replicate (length p1.ballooned) false ∙ root.flagged);
-  last = ap (λ (p : Part). p.last) is;
-  loose = ap (λ (p : Part). p.loose) is;
-}
-
-driver_restarted : (m1 : Pages) (p1 : Part) (d1 d2 : DriverState) (g : Guest) → Rooted m1 p1 d1 g
-    → d2 ≡ fresh_driver d1.pages d1.queue_size d1.processors
-    → d2 ≡ fresh_driver g.config.pages g.config.queue_size g.config.processors
-driver_restarted m1 p1 d1 d2 g root is =
-    is ∙ (ap (λ (n : ℕ). fresh_driver n d1.queue_size d1.processors) root.pages
-    ∙ (ap (λ (n : ℕ). fresh_driver g.config.pages n d1.processors) root.queue_size
-    ∙ ap (λ (n : ℕ). fresh_driver g.config.pages g.config.queue_size n) root.processors))
+part_restarted m1 p1 p2 d1 g own root is = grind (arith, length-replicate)
 
 honest_restarted : (m1 m2 : Pages) (p1 p2 : Part) (d1 d2 : DriverState) (g : Guest)
     → Rooted m1 p1 d1 g → m2 ≡ replicate (length m1) None
     → p2 ≡ record (part_after_reset (part_after_reset p1)) { loose = []; own = p2.own }
     → d2 ≡ fresh_driver d1.pages d1.queue_size d1.processors → Honest m2 p2 d2 (after_restart g)
 honest_restarted m1 m2 p1 p2 d1 d2 g root m p d =
-    let size : m2 ≡ replicate g.config.pages None =
-    m ∙ ap (λ (n : ℕ). replicate n None) root.frames.length_is in
-    subst (λ (x : Pages). Honest x p2 d2 (after_restart g)) (sym size)
-    (subst (λ (x : DriverState). Honest (replicate g.config.pages None) p2 x (after_restart g))
-    (sym (driver_restarted m1 p1 d1 d2 g root d))
-    (fresh_honest g.config g.target p2 root.config (part_restarted m1 p1 p2 d1 g p2.own root p)))
+    grind (
+      arith,
+      fresh_honest g.config g.target p2 root.config (part_restarted m1 p1 p2 d1 g p2.own root p),
+    )
 
 pub restart_step : (keeps : Bool) (m1 between m2 : Pages) (p1 reset p2 : Part)
     (d1 d2 : DriverState) (g : Guest) (out1 out2 : List Bool) → Stands keeps m1 p1 d1 g

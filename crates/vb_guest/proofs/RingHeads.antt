@@ -56,22 +56,14 @@ times-used h gone hs = ap (times h) (ids-split gone hs) ∙ times-append h (ids 
 
 pub length-used : (gone : List UsedElem) (hs : List ℕ)
     → length (gone ++ used_of hs) ≡ length gone + length hs
-length-used gone hs =
-    omega (
-      arith,
-      length-append gone (used_of hs),
-      length-map hs (λ h. (let e : UsedElem = record { id = h; len = 0 } in e)),
-    )
+length-used gone hs = grind (arith, length-append, length-map)
 
 pub length-ids : (elems : List UsedElem) → length (ids elems) ≡ length elems
 length-ids elems = length-map elems (λ e. e.id)
 
 -- the first s of a list that begins with s others are those
 pub take_front : {A : Type 0} (xs ys : List A) → take (length xs) (xs ++ ys) ≡ xs
-take_front [] ys = take_none ys
-  where
-    take_none : {A : Type 0} (ys : List A) → take {A = A} 0 ys ≡ []
-    take_none ys = refl
+take_front [] ys = grind arith
 take_front (x ∷ xs) ys = ap (λ l. x ∷ l) (take_front xs ys)
 
 -- what stands after a list
@@ -108,10 +100,4 @@ pub ring_count : (mem : Pages) (q : ℕ) (ring : DriverEnd) (next_avail next_use
     (posted taken done : List ℕ)
     → RingStands mem q ring next_avail next_used posted taken done
     → outstanding ring ≡ length posted + (length taken + length done)
-ring_count mem q ring next_avail next_used posted taken done stands =
-    omega (
-      arith,
-      stands.tracks.count,
-      length-append stands.before posted,
-      stands.counted,
-    )
+ring_count mem q ring next_avail next_used posted taken done stands = grind (arith, length-append)

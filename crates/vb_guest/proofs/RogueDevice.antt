@@ -7,7 +7,7 @@ use Rattle.std.specs.List.{list_any}
 use Rattle.std.proofs.Common.{sym, ◌∙◌, ap, subst, arith, inl, inr}
 use Rattle.std.proofs.lemmas.List.Elements.{All-push, All-cons, All-nil}
 use Rattle.std.proofs.lemmas.List.{get_or_past}
-use Rattle.std.proofs.lemmas.Bool.{cases_lt, cases_eq, ne_eqb, eqb-true}
+use Rattle.std.proofs.lemmas.Bool.{cases_eq, ne_eqb}
 use Rattle.std.proofs.lemmas.Option.{get_or_from_slice_get, slice_get_within}
 use Rattle.vb_model.specs.declared.calls.Call.{Call}
 use Rattle.vb_model.specs.declared.calls.Call.TheVariants.{Take, Work, Finish, Sweep, Ask, SetTarget}
@@ -78,33 +78,11 @@ use Rattle.vb_guest.proofs.RogueDriver.{left_same}
 -- which of the queues it is
 pub with_same : {size : ℕ} (q : ℕ) (x : QueuePart) (p : Part)
     → DeviceSame size p (with_queue q x p)
-with_same {size} q x p = by (q == INFLATE_QUEUE) (q == DEFLATE_QUEUE) (q == STATISTICS_QUEUE)
-  where
-    by : (a b c : Bool) → DeviceSame size p
-        (if a then record p { inflate = x } else (if b then record p { deflate = x }
-        else (if c then record p { statistics = x } else record p { report = x })))
-    by true b c = record
-        { sized = refl; paced = refl; loose = λ e. e; flagged = refl; unreserved = λ page low e. e }
-    by false true c = record
-        { sized = refl; paced = refl; loose = λ e. e; flagged = refl; unreserved = λ page low e. e }
-    by false false true = record
-        { sized = refl; paced = refl; loose = λ e. e; flagged = refl; unreserved = λ page low e. e }
-    by false false false = record
-        { sized = refl; paced = refl; loose = λ e. e; flagged = refl; unreserved = λ page low e. e }
+with_same {size} q x p = grind arith
 
 pub with_state : (q : ℕ) (x : QueuePart) (p : Part) → ((with_queue q x p).status ≡ p.status)
     × ((with_queue q x p).target ≡ p.target)
-with_state q x p = by (q == INFLATE_QUEUE) (q == DEFLATE_QUEUE) (q == STATISTICS_QUEUE)
-  where
-    after : Bool → Bool → Bool → Part
-    after a b c = if a then record p { inflate = x } else (if b then record p { deflate = x }
-        else (if c then record p { statistics = x } else record p { report = x }))
-
-    by : (a b c : Bool) → ((after a b c).status ≡ p.status) × ((after a b c).target ≡ p.target)
-    by true b c = (refl, refl)
-    by false true c = (refl, refl)
-    by false false true = (refl, refl)
-    by false false false = (refl, refl)
+with_state q x p = grind arith
 
 -- the requests that are taken are still the guest's own
 pub record AreOwn (size n : ℕ) (p : Part) : Type 0 where
@@ -132,9 +110,7 @@ with_own {size} n q x p keeps own =
 statistics_pages : (a b : Bool) (pages : List ℕ)
     → (if a then Err WrongDirection else (if b then Err BadLength else Ok [])) ≡ Ok pages
     → pages ≡ []
-statistics_pages true b pages e = absurd cc
-statistics_pages false true pages e = absurd cc
-statistics_pages false false pages e = cc
+statistics_pages a b pages e = grind arith
 
 -- the request that a take remembers names the guest's own pages
 request_own : (q : ℕ) (mem : Pages) (part : Part) (h : ℕ) (pages : List ℕ)
@@ -169,9 +145,7 @@ request_own q mem part h pages next =
 
 takes_up : (a b c d f : Bool) → first_refusal ((a ⇒ NoQueue) ∷ (b ⇒ NotReady) ∷ (c ⇒ NeedsReset)
     ∷ (d ⇒ NoQueue) ∷ (f ⇒ Busy) ∷ []) ≡ None → b ≡ false
-takes_up true b c d f e = absurd cc
-takes_up false true c d f e = absurd cc
-takes_up false false c d f e = refl
+takes_up a b c d f e = grind arith
 
 -- not not ready
 ok_of : (ok broken : Bool) → (not ok || broken) ≡ false → ok ≡ true
@@ -267,14 +241,7 @@ pub record PartChanges (size n : ℕ) (p1 p2 : Part) : Type 0 where
 changes_with : {size : ℕ} (n q : ℕ) (x : QueuePart) (p : Part)
     → (All (IsOwnRequest size n) (queue_part q p).taken → All (IsOwnRequest size n) x.taken)
     → PartChanges size n p (with_queue q x p)
-changes_with n q x p keeps =
-    let state = with_state q x p in
-    record {
-      device = with_same q x p;
-      status = state.0;
-      target = state.1;
-      own = with_own n q x p keeps;
-    }
+changes_with n q x p keeps = search (arith, with_state, with_same, with_own)
 
 changes_then : {size : ℕ} (n : ℕ) (p1 p2 p3 : Part) → PartChanges size n p1 p2 → PartChanges size n p2 p3
     → PartChanges size n p1 p3
@@ -500,35 +467,14 @@ sweeps_up : (a b told c : Bool)
     → first_refusal ((a ⇒ NotReady) ∷ (b ⇒ NeedsReset) ∷ (not told ⇒ NoFeature)
     ∷ (not c ⇒ NotBallooned) ∷ []) ≡ None
     → (a ≡ false) × (c ≡ true)
-sweeps_up true b told c e = absurd cc
-sweeps_up false true told c e = absurd cc
-sweeps_up false false false c e = absurd cc
-sweeps_up false false true true e = (refl, refl)
-sweeps_up false false true false e = absurd cc
+sweeps_up a b told c e = grind arith
 
 -- a ballooned page is one of the guest's, and not reserved
 ballooned_own : (m : Pages) (p : Part) (d : DriverState) (g : Guest) (page : ℕ) → Rogue m p d g
     → is_ballooned p.ballooned page ≡ true
     → IsOwnRequest g.config.queue_size (length m)
     (record { head = 0; pages = page ∷ []; visited = 0 })
-ballooned_own m p d g page rogue flag =
-    let at : is_ballooned g.ballooned page ≡ true =
-    sym (ap (λ (l : List Bool). is_ballooned l page) rogue.ballooned) ∙ flag in
-    let least : ℕ = reserved_pages g.config.queue_size in
-    let high : least ≤ page = elim (cases_lt page least) [
-      | inl low ↦ absurd (let wrong : true ≡ false = sym at ∙ rogue.unreserved page low in cc)
-      | inr up ↦ up
-    ] in
-    let inside : page < length m = elim (cases_lt page (length m)) [
-      | inl lt ↦ lt
-      | inr past ↦ absurd (let wrong : true ≡ false = sym at
-          ∙ get_or_past g.ballooned page false
-          (omega (arith, past, rogue.length_is, rogue.flagged)) in cc)
-    ] in
-    record {
-      above = All-cons (λ p. least ≤ p) page [] high (All-nil (λ p. least ≤ p));
-      below = All-cons (λ p. p < length m) page [] inside (All-nil (λ p. p < length m));
-    }
+ballooned_own m p d g page rogue flag = grind (arith, get_or_past)
 
 pub sweep_rogue : (m1 m2 : Pages) (p1 p2 : Part) (d : DriverState) (g : Guest) (page : ℕ)
     (result : Result Bool Refusal) → SweepsBy page m1 m2 p1 p2 result → Rogue m1 p1 d g
@@ -572,23 +518,13 @@ sweep_rogue m1 m2 p1 p2 d g page result did rogue = by (sweep_refusal page p1) r
 flagged_same : (least : ℕ) (pages : List ℕ) (value : Bool) (flags : List Bool) (page : ℕ)
     → All (λ p. least ≤ p) pages → page < least → is_ballooned flags page ≡ false
     → is_ballooned (flagged pages value flags) page ≡ false
-flagged_same least pages value flags page above low none = elim (cases_lt page (length flags)) [
-  | inl inside ↦ with_entry-get pages value flags page false inside
-      ∙ ap (λ (b : Bool). if b then value else is_ballooned flags page)
-      (not_among least pages page above low) ∙ none
-  | inr past ↦ get_or_past (flagged pages value flags) page false
-      (omega (arith, past, length-with_entry pages value flags))
-]
+flagged_same least pages value flags page above low none =
+    grind (arith, with_entry-get, not_among, get_or_past, length-with_entry)
 
 -- pages that stop being ballooned
 unflagged_same : (pages : List ℕ) (flags : List Bool) (page : ℕ)
     → is_ballooned flags page ≡ false → is_ballooned (flagged pages false flags) page ≡ false
-unflagged_same pages flags page none =
-    with_none-get pages false flags page ∙ either (is_in page pages)
-  where
-    either : (b : Bool) → (if b then false else is_ballooned flags page) ≡ false
-    either true = refl
-    either false = none
+unflagged_same pages flags page none = grind (arith, with_none-get)
 
 settled_changes : {size : ℕ} (n q : ℕ) (pages : List ℕ) (p : Part)
     → ((q == INFLATE_QUEUE) ≡ true → All (λ p. reserved_pages size ≤ p) pages)
@@ -629,9 +565,7 @@ settled_changes {size} n q pages p above = by (q == INFLATE_QUEUE) (q == DEFLATE
 
 finishes_up : (a b c d f : Bool) → first_refusal ((not a ⇒ NoQueue) ∷ (b ⇒ NotReady)
     ∷ (c ⇒ NeedsReset) ∷ (d ⇒ NotTaken) ∷ (f ⇒ NotWorked) ∷ []) ≡ None → (a ≡ true) × (b ≡ false)
-finishes_up true true c d f e = absurd cc
-finishes_up true false c d f e = (refl, refl)
-finishes_up false b c d f e = absurd cc
+finishes_up a b c d f e = grind arith
 
 -- what was taken on a queue of inflates or reports is the guest's own
 own_taken : {size : ℕ} (n q : ℕ) (p : Part) → is_queue_of_requests q ≡ true → (q == DEFLATE_QUEUE) ≡ false
@@ -656,18 +590,11 @@ own_taken {size} n q p is other own = elim (cases_eq q 2) [
 taken_request : (a b c f : Bool) (o : Option Request) → first_refusal ((not a ⇒ NoQueue)
     ∷ (b ⇒ NotReady) ∷ (c ⇒ NeedsReset) ∷ (is_none o ⇒ NotTaken) ∷ (f ⇒ NotWorked) ∷ []) ≡ None
     → (r : Request) × (o ≡ Some r)
-taken_request false b c f o e = absurd cc
-taken_request true true c f o e = absurd cc
-taken_request true false true f o e = absurd cc
-taken_request true false false f None e = absurd cc
-taken_request true false false f (Some r) e = (r, refl)
+taken_request a b c f o e = grind arith
 
 -- a queue isn't two
 not_both : (q : ℕ) → (q == DEFLATE_QUEUE) ≡ true → (q == INFLATE_QUEUE) ≡ true → ⊥
-not_both q one other =
-    let first : q ≡ 1 = eqb-true q 1 one in
-    let second : q ≡ 0 = eqb-true q 0 other in
-    omega (arith, first, second)
+not_both q one other = grind arith
 
 abbrev nothing_named : Request
 nothing_named = record { head = 0; pages = []; visited = 0 }
@@ -771,10 +698,7 @@ asks_up false b c e = refl
 
 taken_buffer : (a b : Bool) (o : Option Request) → first_refusal ((a ⇒ NotReady)
     ∷ (b ⇒ NeedsReset) ∷ (not (is_some o) ⇒ NotTaken) ∷ []) ≡ None → (r : Request) × (o ≡ Some r)
-taken_buffer true b o e = absurd cc
-taken_buffer false true o e = absurd cc
-taken_buffer false false None e = absurd cc
-taken_buffer false false (Some r) e = (r, refl)
+taken_buffer a b o e = grind arith
 
 asked_not : {T : Type 0} (r : Result T Refusal) → IsOk r → is_refused (asked_reply r) ≡ false
 asked_not (Ok x) ok = refl

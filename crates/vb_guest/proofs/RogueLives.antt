@@ -1,8 +1,8 @@
 -- A guest that wrote past its driver is initialised; an honest guest becomes one.
 use Rattle.std.specs.Prelude.{◌≡◌, ℕ, ◌-◌, ◌<◌, Bool, true, false, List, [], length, All, Option}
-use Rattle.std.specs.Prelude.{Some, Result, Ok, Err, IsSome, MatchOption, ◌&&◌, is_none}
-use Rattle.std.specs.Prelude.{refl, ◌≤◌, is_some, ◌≢◌, not, ◌==◌, ◌∷◌, None, replicate}
-use Rattle.std.proofs.Common.{sym, ◌∙◌, ap, subst, arith, cond}
+use Rattle.std.specs.Prelude.{Some, Result, Ok, Err, IsSome, MatchOption, refl, ◌≤◌, is_some, ◌≢◌}
+use Rattle.std.specs.Prelude.{not, ◌==◌, ◌∷◌, None, replicate}
+use Rattle.std.proofs.Common.{sym, ◌∙◌, ap, subst, arith}
 use Rattle.std.proofs.lemmas.Bool.{ne_eqb}
 use Rattle.std.proofs.lemmas.List.{length-replicate}
 use Rattle.std.proofs.lemmas.List.Elements.{All-nil}
@@ -13,20 +13,17 @@ use Rattle.vb_model.specs.declared.calls.Claim.{Claim}
 use Rattle.vb_model.specs.declared.replies.Refusal.{Refusal}
 use Rattle.vb_model.specs.declared.replies.Refusal.TheVariants.{AlreadyUp, NoFrame, NoMemory}
 use Rattle.vb_model.specs.declared.replies.Reply.TheVariants.{Refused}
-use Rattle.vb_model.specs.declared.places.Place.{Place}
 use Rattle.vb_model.specs.Driver.{AllDistinct, given, AreClaimsFor, claim_refusal}
 use Rattle.vb_model.specs.FirstRefusal.{◌⇒◌, first_refusal}
 use Rattle.vb_model.specs.declared.replies.LastStatistics.{LastStatistics}
-use Rattle.vb_model.specs.Guest.{Guest, all_backed, stats_vq, is_ballooned}
-use Rattle.vb_model.specs.Guest.{no_statistics}
+use Rattle.vb_model.specs.Guest.{Guest, all_backed, stats_vq, no_statistics}
 use Rattle.vb_model.specs.Refusals.{refusal_of}
 use Rattle.vb_model.specs.Life.{lacking, feature_tests, feature_refusal, accepted_before}
 use Rattle.vb_model.specs.Orderly.{times}
 use Rattle.vb_model.specs.Rogue.{LosesFrames, pages_to_back, unless_refused, after_refused}
 use Rattle.vb_model.specs.Status.{contains, driver_ok}
 use Rattle.vb_model.specs.Tests.{is_in}
-use Rattle.vb_model.proofs.Wanting.{wants, no_want, refused_otherwise, not_refused_pages}
-use Rattle.vb_model.proofs.Wanting.{refused_backs, unsupplied}
+use Rattle.vb_model.proofs.Wanting.{wants, no_want, refused_otherwise}
 use Rattle.vb_ram.specs.Pages.{Pages, frame_at}
 use Rattle.vb_ram.specs.Part.{Part}
 use Rattle.vb_ram.proofs.Limits.{config_limits}
@@ -44,9 +41,7 @@ use Rattle.vb_guest.proofs.InitStep.{bare_is, now_backed, has_all, driver_tests}
 use Rattle.vb_guest.proofs.InitStep.{given_up as stopped}
 use Rattle.vb_guest.proofs.Moving.{moves_as}
 use Rattle.vb_guest.proofs.Rogues.{Keeps, DeviceSame, driver_same, rogue_after, rogue_stands}
-use Rattle.vb_guest.proofs.Rogues.{rogue_alone, rogue_steps, rogue_unclaimed, keeps_part}
-use Rattle.vb_guest.proofs.Rogues.{device_alike, kept_of_rogue, rogue_unchanged, left_by}
-use Rattle.vb_guest.proofs.Rogues.{no_refusal}
+use Rattle.vb_guest.proofs.Rogues.{rogue_steps, device_alike, kept_of_rogue}
 use Rattle.vb_guest.proofs.Supplying.{all_distinct, bounded, frames_given, frames_filled}
 use Rattle.vb_guest.proofs.Supplying.{supplied_count}
 use Rattle.vb_guest.proofs.Writing.{HasFrames}
@@ -66,20 +61,7 @@ gave_up refusal wanted frames g =
 pub init_up_rogue : (m : Pages) (p : Part) (d : DriverState) (g : Guest) (wanted : ℕ)
     → p.status ≢ 0 → Rogue m p d g
     → StepsAlone (Rogue m p d) g (Init wanted) (Refused AlreadyUp)
-init_up_rogue m p d g wanted up rogue =
-    rogue_alone m m p p d d g (Init wanted) _ rogue
-    (keeps_part m m p p d d (driver_same d d refl) refl refl (λ page. refl)) refl (λ page. refl)
-    refl refl (λ page offset bytes e. cc) (refused_backs (Init wanted) g AlreadyUp refused)
-    (left_by (Init wanted) AlreadyUp [] g (rogue_after g g.frames p d)
-    (rogue_unchanged m p p d d g rogue refl refl refl
-    ∙ ap (λ (b : Bool). cond (b && true)
-    (gave_up AlreadyUp wanted (all_backed (lacking g) [] g.frames) g) g) (sym started)))
-  where
-    started : (g.status == 0) ≡ false
-    started = ne_eqb g.status 0 (λ e. up (rogue.status ∙ e))
-
-    refused : refusal_of g (Init wanted) ≡ Some AlreadyUp
-    refused = ap (λ (b : Bool). first_refusal ((not b ⇒ AlreadyUp) ∷ [])) started
+init_up_rogue m p d g wanted up rogue = grind (arith, ne_eqb)
 
 -- a device that isn't started
 none_refuses : (p : Part) (m : Pages) (d : DriverState) (g : Guest) (wanted : ℕ) → p.status ≡ 0
@@ -96,17 +78,7 @@ pub init_unsupplied_rogue : (Answers : List Bool → Claim → Type 0) (out1 out
     → StepsOver (Rogue m2 p2 d) Answers (supply_of p1 out1) (supply_of p2 out2) l g (Init wanted)
     (Refused refusal)
 init_unsupplied_rogue Answers out1 out2 l m1 m2 p1 p2 d g wanted why refusal is new did part rogue =
-    subst (λ (c : List Claim). StepsOver (Rogue m2 p2 d) Answers (supply_of p1 out1)
-    (supply_of p2 out2) c g (Init wanted) (Refused refusal)) (sym did.noted)
-    (rogue_unclaimed Answers out1 out2 m1 m2 p1 p2 d g (Init wanted) did.claims refusal rogue
-    did.refused.0 part
-    (not_refused_pages (refusal_of g (Init wanted)) (lacking g) did.claims
-    (none_refuses p1 m1 d g wanted new rogue)
-    (subst (λ (l : List ℕ). AreClaimsFor l did.claims)
-    (bare_is d.queue_size m1 g rogue.queue_size rogue.behind) did.made))
-    (did.answer ∙ is) refl
-    (unsupplied (g.status == 0) (claim_refusal did.claims) refusal g _ (did.answer ∙ is))
-    (λ page offset bytes e. absurd cc) did.answered did.refused.1)
+    search (arith, bare_is)
 
 -- ---- with frames
 
@@ -127,28 +99,6 @@ record Said : Type 0 where
   last : LastStatistics
   flags : List Bool
 
-abbrev part_said : Part → Said
-part_said p = record {
-  status = p.status;
-  features = p.features;
-  target = p.target;
-  last = p.last;
-  flags = p.ballooned;
-}
-
-abbrev said_guest : Guest → List (Option ℕ) → Said → DriverState → Guest
-said_guest g frames x d =
-    record g {
-      places = d.places;
-      actual = d.actual;
-      status = x.status;
-      features = x.features;
-      target = x.target;
-      last = x.last;
-      ballooned = x.flags;
-      frames = frames;
-    }
-
 -- the driver gave up
 abbrev GaveUp : Part → Part → DriverState → DriverState → ℕ → Refusal → Type 0
 GaveUp p2 p3 d1 d2 wanted why =
@@ -159,23 +109,12 @@ GaveUp p2 p3 d1 d2 wanted why =
 reset_device : {size : ℕ} (p p2 : Part) (state features : ℕ)
     → p2 ≡ record (part_after_reset p) { status = state; features = features }
     → DeviceSame size p p2
-reset_device p p2 state features is = record {
-  sized = ap (λ (x : Part). x.queue_size) is;
-  paced = ap (λ (x : Part). x.paced) is;
-  loose = λ none. ap (λ (x : Part). x.loose) is ∙ none;
-  flagged = ap (λ (x : Part). length x.ballooned) is ∙ length-replicate (length p.ballooned) false;
-  unreserved = λ page low none. ap (λ (x : Part). is_ballooned x.ballooned page) is
-      ∙ everywhere (length p.ballooned) false page;
-}
+reset_device p p2 state features is = grind (arith, length-replicate, everywhere)
 
 first_buffer_frames : (stats : Bool) (m1 m2 : Pages) (d1 d2 : DriverState)
     → FirstBuffer stats m1 m2 d1 d2
     → (length m2 ≡ length m1) × ((page : ℕ) → frame_at m2 page ≡ frame_at m1 page)
-first_buffer_frames true m1 m2 d1 d2 first = (first.rest.count, first.rest.backing)
-first_buffer_frames false m1 m2 d1 d2 first = (
-  ap (λ (m : Pages). length m) first.0,
-  λ page. ap (λ (m : Pages). frame_at m page) first.0,
-)
+first_buffer_frames stats m1 m2 d1 d2 first = grind arith
 
 started_leaves : (size : ℕ) (m2 m3 : Pages) (p2 p3 : Part) (d1 d2 : DriverState) (wanted : ℕ)
     → ((page : ℕ) → is_start_page size page ≡ true → IsSome (frame_at m2 page))
@@ -241,11 +180,8 @@ inits_leave : (size : ℕ) (m2 m3 : Pages) (p2 p3 : Part) (d1 d2 : DriverState) 
     → InitsBy m2 m3 p2 p3 d1 d2 wanted result
     → Leaves size m2 m3 p2 p3 d1 d2 × (wants (ready_reply result) ≡ false)
     × ((why : Refusal) → ready_reply result ≡ Refused why → GaveUp p2 p3 d1 d2 wanted why)
-inits_leave size m2 m3 p2 p3 d1 d2 wanted (Ok x) same new backed did = (
-  started_leaves size m2 m3 p2 p3 d1 d2 wanted backed did.starts,
-  refl,
-  λ why e. no_refusal _ why refl e,
-)
+inits_leave size m2 m3 p2 p3 d1 d2 wanted (Ok x) same new backed did =
+    grind (arith, started_leaves size m2 m3 p2 p3 d1 d2 wanted backed did.starts)
 inits_leave size m2 m3 p2 p3 d1 d2 wanted (Err why) same new backed did =
     let is : Some why ≡ feature_refusal wanted =
     did.refusal ∙ driver_tests d1.queue_size m2 p2 wanted new (has_all d1.queue_size m2
@@ -269,32 +205,7 @@ gives_up : (m : Pages) (p1 p2 p3 : Part) (d1 d2 : DriverState) (g : Guest) (want
     → GaveUp p2 p3 d1 d2 wanted why
     → rogue_after g (all_backed (lacking g) (given claims) g.frames) p3 d2
     ≡ after_refused (Init wanted) why claims g
-gives_up m p1 p2 p3 d1 d2 g wanted claims why rogue status all part gave =
-    let frames = all_backed (lacking g) (given claims) g.frames in
-    let left : Part =
-    record p1 {
-      status = 131;
-      features = accepted_before why wanted;
-      ballooned = replicate g.config.pages false;
-      last = no_statistics;
-    } in
-    let flags : replicate (length p1.ballooned) false ≡ replicate g.config.pages false =
-    ap (λ (n : ℕ). replicate n false) (ap length rogue.ballooned ∙ rogue.flagged) in
-    let told : part_said p3 ≡ part_said left =
-    ap part_said gave.2
-    ∙ ap (λ (p : Part). part_said (record (part_after_reset p)
-    { status = 131; features = accepted_before why wanted })) part
-    ∙ ap (λ (l : List Bool). part_said (record left { ballooned = l })) flags in
-    let places : d2.places ≡ g.places = gave.0 ∙ rogue.places in
-    ap (λ (x : Said). said_guest g frames x d2) told
-    ∙ ap (λ (l : List Place). record (said_guest g frames (part_said left) d2) { places = l })
-    places
-    ∙ ap (λ (n : ℕ). record (gave_up why wanted frames g) { actual = n; target = p1.target })
-    gave.1
-    ∙ ap (λ (n : ℕ). record (gave_up why wanted frames g) { target = n }) rogue.target
-    ∙ sym (ap (λ (n : ℕ). cond ((n == 0) && is_none (claim_refusal claims))
-    (gave_up why wanted frames g) g) (sym rogue.status ∙ status)
-    ∙ ap (λ (o : Option Refusal). cond (is_none o) (gave_up why wanted frames g) g) all)
+gives_up m p1 p2 p3 d1 d2 g wanted claims why rogue status all part gave = grind arith
 
 pub init_supplied_rogue : (Answers : List Bool → Claim → Type 0) (out1 out2 : List Bool)
     (l : List Claim) (m1 m2 m3 : Pages) (p1 p2 p3 : Part) (d1 d2 : DriverState) (g : Guest)
@@ -398,10 +309,4 @@ pub still_large_rogue : (Answers : List Bool → Claim → Type 0) (s1 s2 : Supp
     → SuppliesBy {T = Unit {0}} Answers s1 s2 l1 l2 (bare_from d.queue_size m1 0) m1 m2 (Ok tt)
     → 64 ≤ length m2
 still_large_rogue Answers s1 s2 l1 l2 m1 m2 p d g rogue did =
-    omega (
-      arith,
-      (config_limits g.config.pages g.config.queue_size g.config.processors
-          rogue.config).pages_least,
-      rogue.length_is,
-      supplied_count (bare_from d.queue_size m1 0) (given did.claims) m1 m2 did.supplied.0,
-    )
+    grind (arith, config_limits, supplied_count)

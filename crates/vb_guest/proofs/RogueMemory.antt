@@ -1,14 +1,12 @@
 -- Bytes of a guest's pages that are written past its driver, and those that a rogue guest writes.
 use Rattle.std.specs.Prelude.{◌≡◌, ◌≢◌, ℕ, ◌<◌, Bool, true, false, List, [], ◌∷◌, length, Option}
-use Rattle.std.specs.Prelude.{Some, None, All, MatchOption, is_some, is_none, count_by, ◌≤◌, refl}
-use Rattle.std.specs.Prelude.{if◌then◌else◌, not}
+use Rattle.std.specs.Prelude.{Some, None, All, MatchOption, is_some, ◌≤◌, refl}
 use Rattle.std.proofs.Common.{sym, ◌∙◌, ap, subst, arith, inl, inr}
-use Rattle.std.proofs.lemmas.Bool.{cases_eq, true_from_ne_false}
+use Rattle.std.proofs.lemmas.Bool.{cases_eq}
 use Rattle.vb_model.specs.declared.calls.Call.TheVariants.{Read, Write, Scribble}
 use Rattle.vb_model.specs.declared.calls.Claim.{Claim}
 use Rattle.vb_model.specs.declared.calls.Claim.TheVariants.{Gave, GaveNoFrame, GaveNoMemory}
 use Rattle.vb_model.specs.declared.replies.Refusal.{Refusal}
-use Rattle.vb_model.specs.declared.places.Place.{Place}
 use Rattle.vb_model.specs.declared.replies.Refusal.TheVariants.{OutOfRam, NotHeld}
 use Rattle.vb_model.specs.declared.replies.Refusal.TheVariants.{NoFrame as NoFrameLeft}
 use Rattle.vb_model.specs.declared.replies.Reply.{Reply}
@@ -17,15 +15,13 @@ use Rattle.vb_model.specs.Driver.{given, claim_refusal, AreClaimsFor, pages_need
 use Rattle.vb_model.specs.FirstRefusal.{◌⇒◌, first_refusal}
 use Rattle.vb_model.specs.Guest.{Guest, frame_of, backed, all_backed, is_ballooned}
 use Rattle.vb_model.specs.Layout.{reserved_pages}
-use Rattle.vb_model.specs.Orderly.{times}
 use Rattle.vb_model.specs.Refusals.{refusal_of, is_outside}
 use Rattle.vb_model.specs.Requests.{Request}
-use Rattle.vb_model.specs.Rogue.{Scribbled, IsRogueAfter}
-use Rattle.vb_model.specs.Rogue.{LosesFrames, pages_to_back, unless_refused, with_fault}
+use Rattle.vb_model.specs.Rogue.{Scribbled, LosesFrames, pages_to_back, unless_refused, with_fault}
+use Rattle.vb_model.specs.Rogue.{GuestStep}
 use Rattle.vb_model.specs.Pages.{place_of, is_used}
 use Rattle.vb_model.specs.Status.{contains, driver_ok}
 use Rattle.vb_model.specs.Step.{Performs, HonestStep}
-use Rattle.vb_model.specs.Rogue.{GuestStep}
 use Rattle.vb_model.proofs.Wanting.{wants, not_refused_pages, refused_backs}
 use Rattle.vb_ram.specs.Pages.{Pages, frame_at, number_of, Covers, Wrote, Supplied}
 use Rattle.vb_ram.specs.Part.{Part}
@@ -33,7 +29,7 @@ use Rattle.vb_frames.specs.declared.keeper.Refused.{Refused as KeeperRefused}
 use Rattle.vb_frames.specs.declared.keeper.Refused.TheVariants.{NoFrame, Memory}
 use Rattle.vb_driver.specs.State.{DriverState}
 use Rattle.vb_guest.specs.Stands.{Honest, IsOwnRequest, IsRogueUp, Rogue, Stands}
-use Rattle.vb_guest.specs.Steps.{backing_count, is_frame, StepsAlone, StepsOver}
+use Rattle.vb_guest.specs.Steps.{backing_count, StepsAlone, StepsOver}
 use Rattle.vb_guest.specs.Supply.{supply_of, AreClaimed, IsClaimed, Moves, nothing}
 use Rattle.vb_guest.proofs.Closing.{guest_step, refused_alone, honest_own}
 use Rattle.vb_guest.proofs.Freed.{down_not_ok}
@@ -41,9 +37,9 @@ use Rattle.vb_guest.proofs.Moving.{moves_as, times_one}
 use Rattle.vb_guest.proofs.Offered.{high_page}
 use Rattle.vb_guest.proofs.OwnBlocks.{own_pages}
 use Rattle.vb_guest.proofs.Rogues.{driver_same, device_alike, keeps_part, rogue_after}
-use Rattle.vb_guest.proofs.Rogues.{kept_of_rogue, rogue_same, rogue_unchanged, said, left_by}
-use Rattle.vb_guest.proofs.Rogues.{no_refusal, keeps_status, without_fault}
-use Rattle.vb_guest.proofs.Rogues.{rogue_stands, rogue_alone, rogue_steps, rogue_unclaimed}
+use Rattle.vb_guest.proofs.Rogues.{kept_of_rogue, rogue_unchanged, left_by, no_refusal}
+use Rattle.vb_guest.proofs.Rogues.{keeps_status, without_fault, rogue_stands, rogue_alone}
+use Rattle.vb_guest.proofs.Rogues.{rogue_steps, rogue_unclaimed}
 use Rattle.vb_guest.proofs.Standing.{by_guest, rogue_is, stands_with, stands_of, own_moved}
 use Rattle.vb_guest.proofs.Standing.{alone_stands, over_stands}
 use Rattle.vb_guest.proofs.SweepStep.{ballooned_free}
@@ -158,12 +154,7 @@ as_rogue keeps m p d g stands = by_guest keeps m p d g stands
 needs_nothing : (m : Pages) (g : Guest) (page : ℕ) (bs : List ℕ)
     → ((q : ℕ) → frame_at m q ≡ frame_of g.frames q)
     → (0 < length bs → frame_at m page ≡ None → ⊥) → pages_needed page bs g ≡ []
-needs_nothing m g page [] behind never = refl
-needs_nothing m g page (b ∷ bs) behind never = by (frame_of g.frames page) refl
-  where
-    by : (o : Option ℕ) → frame_of g.frames page ≡ o → pages_needed page (b ∷ bs) g ≡ []
-    by None e = absurd (never (omega arith) (behind page ∙ e))
-    by (Some frame) e = ap (λ (x : Option ℕ). if is_none x then page ∷ [] else []) e
+needs_nothing m g page bs behind never = grind arith
 
 -- the reply is no refusal that changes the status
 abbrev pub keeps_reply : Reply → Bool
@@ -177,14 +168,7 @@ plainly_left reply why g plain e = without_fault why g (sym (ap keeps_reply e) �
 pub read_rogue : (m : Pages) (p : Part) (d : DriverState) (g : Guest) (page off len : ℕ)
     (reply : Reply) → reply ≢ Refused NoFrameLeft → keeps_reply reply ≡ true → Rogue m p d g
     → StepsAlone (Rogue m p d) g (Read page off len) reply
-read_rogue m p d g page off len reply answer plain rogue = record {
-  new = g;
-  stands = rogue;
-  step = rogue_steps m m p p d d g g (Read page off len) [] reply rogue rogue refl refl tt
-      (λ page frame e. e) (λ e. absurd (answer e)) (λ e. inr refl)
-      (λ why e. sym (plainly_left reply why g plain e)) (λ page offset bytes e. absurd cc);
-  frames = refl;
-}
+read_rogue m p d g page off len reply answer plain rogue = search arith
 
 -- frames are as they were, and none is claimed
 write_rogue : (m1 m2 : Pages) (p1 p2 : Part) (d : DriverState) (g : Guest) (page off : ℕ)
@@ -199,40 +183,18 @@ write_rogue m1 m2 p1 p2 d g page off bs reply count same part answer plain none 
     (λ why e. rogue_unchanged m1 p1 p2 d d g rogue refl refl part
     ∙ sym (plainly_left reply why g plain e))
 
--- what is tested of a write
-abbrev write_test : Bool → Bool → Option Refusal
-write_test used outside = first_refusal ((not used ⇒ NotHeld) ∷ (outside ⇒ OutOfRam) ∷ [])
-
-write_tested : (d : DriverState) (g : Guest) (page off : ℕ) (bs : List ℕ) (used outside : Bool)
-    → d.places ≡ g.places → is_used (place_of d.places page) ≡ used
-    → is_outside g page off (length bs) ≡ outside
-    → refusal_of g (Write page off bs) ≡ write_test used outside
-write_tested d g page off bs used outside places u o =
-    ap (λ (b : Bool). write_test b (is_outside g page off (length bs)))
-    (ap (λ (l : List Place). is_used (place_of l page)) (sym places) ∙ u)
-    ∙ ap (λ (b : Bool). write_test used b) o
-
 -- the page isn't used
 pub write_unheld_rogue : (m : Pages) (p : Part) (d : DriverState) (g : Guest) (page off : ℕ)
     (bs : List ℕ) → is_used (place_of d.places page) ≡ false → Rogue m p d g
     → StepsAlone (Rogue m p d) g (Write page off bs) (Refused NotHeld)
-write_unheld_rogue m p d g page off bs unused rogue =
-    write_rogue m m p p d g page off bs (Refused NotHeld) refl (λ page. refl) refl refl refl
-    (refused_backs (Write page off bs) g NotHeld
-    (write_tested d g page off bs false _ rogue.places unused refl)) rogue
+write_unheld_rogue m p d g page off bs unused rogue = grind arith
 
 -- the bytes don't lie in a page
 pub write_outside_rogue : (m1 m2 : Pages) (p1 p2 : Part) (d : DriverState) (g : Guest)
     (page off : ℕ) (bs : List ℕ) → is_used (place_of d.places page) ≡ true → m2 ≡ m1 → p2 ≡ p1
     → (Covers m1 page off (length bs) → ⊥) → Rogue m1 p1 d g
     → StepsAlone (Rogue m2 p2 d) g (Write page off bs) (Refused OutOfRam)
-write_outside_rogue m1 m2 p1 p2 d g page off bs used m part out rogue =
-    write_rogue m1 m2 p1 p2 d g page off bs (Refused OutOfRam) (ap (λ (m : Pages). length m) m)
-    (λ page. ap (λ (m : Pages). frame_at m page) m) part refl refl
-    (refused_backs (Write page off bs) g OutOfRam
-    (write_tested d g page off bs true true rogue.places used
-    (true_from_ne_false (is_outside g page off (length bs))
-    (λ inside. out (outside_is g m1 page off (length bs) rogue.length_is inside))))) rogue
+write_outside_rogue m1 m2 p1 p2 d g page off bs used m part out rogue = search (arith, outside_is)
 
 -- no frame is wanting
 pub write_done_rogue : (m1 m2 : Pages) (p1 p2 : Part) (d : DriverState) (g : Guest) (page off : ℕ)
@@ -252,9 +214,7 @@ write_done_rogue m1 m2 p1 p2 d g page off bs never wrote part rogue =
 write_fits : (m : Pages) (p : Part) (d : DriverState) (g : Guest) (page off : ℕ) (bs : List ℕ)
     → Rogue m p d g → is_used (place_of d.places page) ≡ true → Covers m page off (length bs)
     → refusal_of g (Write page off bs) ≡ None
-write_fits m p d g page off bs rogue used covers =
-    write_tested d g page off bs true false rogue.places used
-    (inside_is g m page off (length bs) rogue.length_is covers)
+write_fits m p d g page off bs rogue used covers = grind (arith, inside_is)
 
 -- ---- a page got a frame first
 
@@ -306,16 +266,7 @@ supplied_moves : (Answers : List Bool → Claim → Type 0) (out1 out2 : List Bo
     → Moves (supply_of p1 out1) (supply_of p4 out2) (λ n. backing_count n new)
     (λ n. backing_count n g)
 supplied_moves Answers out1 out2 m1 p1 p2 p4 g new page frame answer part lt bare frames =
-    moves_as (supply_of p1 out1) (supply_of p4 out2) (λ n. times n (frame ∷ [])) nothing
-    (λ n. backing_count n new) (λ n. backing_count n g)
-    (subst (λ p. Moves (supply_of p1 out1) (supply_of p out2) (λ n. times n (frame ∷ []))
-    nothing) (sym part) answer.moves)
-    (λ n. omega (
-      arith,
-      count_backed n page frame g.frames lt bare,
-      times_one n frame,
-      ap (λ (l : List (Option ℕ)). count_by (is_frame n) l) frames,
-    ))
+    grind (arith, count_backed, times_one)
 
 pub write_supplied_rogue : (Answers : List Bool → Claim → Type 0) (out1 out2 : List Bool)
     (m1 m2 m3 m4 : Pages) (p1 p2 p3 p4 : Part) (d : DriverState) (g : Guest)
@@ -383,18 +334,8 @@ pub write_unsupplied_rogue : (Answers : List Bool → Claim → Type 0) (out1 ou
     → 0 < length bs → frame_at m1 page ≡ None → m2 ≡ m1 → p2 ≡ record p1 { own = p2.own }
     → StepsOver (Rogue m2 p2 d) Answers (supply_of p1 out1) (supply_of p2 out2)
     (claim_of why ∷ []) g (Write page off bs) (Refused (refusal_of_claim why))
-write_unsupplied_rogue Answers out1 out2 m1 m2 p1 p2 d g page off bs why answer used rogue covers
-    some bare m p =
-    let needs : pages_to_back (Write page off bs) g ≡ page ∷ [] =
-    ap (λ (o : Option Refusal). unless_refused o (pages_needed page bs g))
-    (write_fits m1 p1 d g page off bs rogue used covers)
-    ∙ needs_one g page bs some (sym (rogue.behind page) ∙ bare) in
-    let refused = refused_for why page in
-    let claimed = refused_claimed Answers out1 out2 p1 p2 why answer in
-    rogue_unclaimed Answers out1 out2 m1 m2 p1 p2 d g (Write page off bs) (claim_of why ∷ [])
-    (refusal_of_claim why) rogue m p
-    (subst (λ (l : List ℕ). AreClaimsFor l (claim_of why ∷ [])) (sym needs) refused.0) refused.1
-    refl (claim_fault why g) (λ page offset bytes e. absurd cc) claimed.0 claimed.1
+write_unsupplied_rogue Answers out1 out2 m1 m2 p1 p2 d g page off bs why answer used rogue covers some bare m p =
+    search (arith, write_fits, rogue_unclaimed)
 
 -- ---- a scribble
 
@@ -402,21 +343,13 @@ write_unsupplied_rogue Answers out1 out2 m1 m2 p1 p2 d g page off bs why answer 
 scribble_fits : (m : Pages) (g : Guest) (page off : ℕ) (bs : List ℕ)
     → length m ≡ g.config.pages → Covers m page off (length bs)
     → refusal_of g (Scribble page off bs) ≡ None
-scribble_fits m g page off bs size covers =
-    ap (λ (b : Bool). first_refusal ((b ⇒ OutOfRam) ∷ []))
-    (inside_is g m page off (length bs) size covers)
+scribble_fits m g page off bs size covers = grind arith
 
 -- two scribbles of the same bytes
 same_scribble : (page off : ℕ) (bs : List ℕ) (q o : ℕ) (b : List ℕ) (g : Guest)
     (claims : List Claim) (reply : Reply) (new : Guest) → Scribble page off bs ≡ Scribble q o b
     → HonestStep g (Scribble page off bs) claims reply new → HonestStep g (Scribble q o b) claims reply new
-same_scribble page off bs q o b g claims reply new e step =
-    let first : page ≡ q = cc in
-    let second : off ≡ o = cc in
-    let third : bs ≡ b = cc in
-    subst (λ (x : ℕ). HonestStep g (Scribble x o b) claims reply new) first
-    (subst (λ (x : ℕ). HonestStep g (Scribble page x b) claims reply new) second
-    (subst (λ (x : List ℕ). HonestStep g (Scribble page off x) claims reply new) third step))
+same_scribble page off bs q o b g claims reply new e step = grind arith
 
 -- the step is one of an honest guest, and of a rogue one as well
 scribble_step : (m1 m2 : Pages) (p1 p2 : Part) (d : DriverState) (g new : Guest)
@@ -431,57 +364,13 @@ scribble_step : (m1 m2 : Pages) (p1 p2 : Part) (d : DriverState) (g new : Guest)
     → refusal_of g (Scribble page off bs) ≡ None
     → GuestStep g (Scribble page off bs) claims Done new
 scribble_step m1 m2 p1 p2 d g new page off bs claims keeps stands rogue made all left free =
-    let old = as_rogue keeps m1 p1 d g stands in
-    let filled : List (Option ℕ) = all_backed (pages_needed page bs g) (given claims) g.frames in
-    let config : new.config ≡ g.config = ap (λ (x : Guest). x.config) left in
-    let frames : new.frames ≡ filled = ap (λ (x : Guest). x.frames) left in
-    let target : new.target ≡ g.target = ap (λ (x : Guest). x.target) left in
-    let after : IsRogueAfter (record g { frames = filled }) new = record {
-      still = rogue.rogue;
-      config = config;
-      unreserved = rogue.unreserved;
-      sizes = record {
-        placed = rogue.placed;
-        flagged = rogue.flagged;
-        framed = rogue.framed;
-        filled = rogue.filled;
-      };
-    } in
-    let done : Scribbled (record g { frames = filled }) Done new =
-    record { answered = refl; state = after; memory = left } in
-    let M : Option Refusal → Type 0 =
-    λ o. MatchOption o (Scribbled (record g { frames = filled }) Done new)
-    (λ refusal. (Done ≡ Refused refusal) × (new ≡ g)) in
-    let scribbles : Performs (Scribble page off bs) g claims Done new = (made, subst M (sym all) done) in
-    let S : Option Refusal → Type 0 =
-    λ o. MatchOption o (Performs (Scribble page off bs) g claims Done new)
-    (λ refusal. (claims ≡ []) × (Done ≡ Refused refusal) × (new ≡ g)) in
-    let step : HonestStep g (Scribble page off bs) claims Done new = subst S (sym free) scribbles in
-    let needs : pages_to_back (Scribble page off bs) g ≡ pages_needed page bs g =
-    ap (λ (o : Option Refusal). unless_refused o (pages_needed page bs g)) free in
-    by_guest keeps m1 p1 d g stands
-    (λ honest. guest_step g (Scribble page off bs) claims Done new
-    honest.ties.parts.guest.honest step)
-    (λ was. rogue_steps m1 m2 p1 p2 d d g new (Scribble page off bs) claims Done
-    was rogue config (rogue.target ∙ target ∙ sym was.target)
-    (subst (λ (l : List ℕ). AreClaimsFor l claims) (sym needs) made)
-    (let F : Option Refusal → List ℕ → Type 0 =
-    λ o l. MatchOption o (LosesFrames (all_backed l (given claims) g.frames) new.frames)
-    (λ refusal. (Done ≡ Refused refusal) × (new.frames ≡ g.frames)) in
-    subst (λ (l : List ℕ). F (claim_refusal claims) l) (sym needs)
-    (subst (λ (o : Option Refusal). F o (pages_needed page bs g)) (sym all)
-    (λ q frame e. ap (λ (l : List (Option ℕ)). frame_of l q) (sym frames) ∙ e)))
-    (λ e. absurd cc) (λ e. absurd cc) (λ why e. no_refusal Done why refl e)
-    (λ q o b e. same_scribble page off bs q o b g claims Done new e step))
+    grind arith
 
 -- where driver and device are as they were, but for the device's own frames
 marked_after : (m : Pages) (p1 p2 : Part) (d : DriverState) (g : Guest)
     (frames : List (Option ℕ)) → Rogue m p1 d (marked g) → p2 ≡ record p1 { own = p2.own }
     → rogue_after (marked g) frames p2 d ≡ record g { frames = frames; rogue = true }
-marked_after m p1 p2 d g frames rogue part =
-    rogue_same m p1 p2 d d (marked g) frames rogue refl refl (ap said part)
-    ∙ ap (λ (n : ℕ). record g { frames = frames; rogue = true; status = n })
-    (ap (λ (p : Part). p.status) part ∙ rogue.status)
+marked_after m p1 p2 d g frames rogue part = grind arith
 
 -- no frame was wanting
 pub scribble_alone : (keeps : Bool) (m1 m2 : Pages) (p1 p2 : Part) (d : DriverState) (g : Guest)

@@ -1,12 +1,10 @@
 -- A call on a guest that wrote past its driver: what it keeps is enough.
-use Rattle.std.specs.Prelude.{◌≡◌, ◌≢◌, ℕ, ◌<◌, Bool, true, false, List, [], length}
-use Rattle.std.specs.Prelude.{All, Option, Some, MatchBool, refl}
-use Rattle.std.specs.Prelude.{is_some, ◌⊎◌, MatchOption}
-use Rattle.std.proofs.Common.{sym, ◌∙◌, ap, subst, inl, arith}
+use Rattle.std.specs.Prelude.{◌≡◌, ◌≢◌, ℕ, ◌<◌, Bool, true, false, List, [], length, All, Option}
+use Rattle.std.specs.Prelude.{Some, refl, is_some, ◌⊎◌, MatchOption}
+use Rattle.std.proofs.Common.{sym, ◌∙◌, ap, subst, arith}
 use Rattle.vb_model.specs.declared.calls.Call.{Call}
 use Rattle.vb_model.specs.declared.calls.Call.TheVariants.{Scribble}
 use Rattle.vb_model.specs.declared.calls.Claim.{Claim}
-use Rattle.vb_model.specs.declared.places.Place.{Place}
 use Rattle.vb_model.specs.declared.replies.Refusal.{Refusal}
 use Rattle.vb_model.specs.declared.replies.Refusal.TheVariants.{NoFrame, NoMemory, Broken}
 use Rattle.vb_model.specs.declared.replies.Refusal.TheVariants.{RingBroken}
@@ -15,22 +13,19 @@ use Rattle.vb_model.specs.declared.replies.Reply.TheVariants.{Refused}
 use Rattle.vb_model.specs.Layout.{reserved_pages}
 use Rattle.vb_model.proofs.Shapes.{start_reserved}
 use Rattle.vb_model.specs.Status.{contains, driver_ok}
-use Rattle.vb_model.specs.declared.replies.LastStatistics.{LastStatistics}
 use Rattle.vb_model.specs.Guest.{Guest, frame_of, is_ballooned, all_backed}
 use Rattle.vb_model.specs.Driver.{given, claim_refusal, AreClaimsFor}
-use Rattle.vb_model.specs.Rogue.{RogueStep, LosesFrames, pages_to_back, is_read}
-use Rattle.vb_model.specs.Rogue.{target_after, after_refused, with_fault}
+use Rattle.vb_model.specs.Rogue.{LosesFrames, pages_to_back, is_read, target_after, after_refused}
+use Rattle.vb_model.specs.Rogue.{with_fault, GuestStep}
 use Rattle.vb_model.specs.Step.{HonestStep}
-use Rattle.vb_model.specs.Rogue.{GuestStep}
 use Rattle.vb_model.proofs.Wanting.{wants, no_want}
 use Rattle.vb_model.proofs.Refusing.{is_refused, not_this}
 use Rattle.vb_ram.specs.Pages.{Pages, frame_at}
 use Rattle.vb_ram.specs.Part.{Part, no_part}
 use Rattle.vb_driver.specs.State.{DriverState}
 use Rattle.vb_guest.specs.Stands.{IsOwnRequest, IsRogueUp, Rogue}
-use Rattle.vb_guest.specs.Steps.{backing_count, StepsAlone, StepsOver}
+use Rattle.vb_guest.specs.Steps.{StepsAlone, StepsOver}
 use Rattle.vb_guest.specs.Supply.{AreClaimed, supply_of, Moves, nothing}
-use Rattle.vb_guest.proofs.Moving.{moves_as}
 
 -- ---- what a call keeps
 
@@ -58,12 +53,7 @@ pub record Keeps (size : ℕ) (m1 m2 : Pages) (p1 p2 : Part) (d1 d2 : DriverStat
       → contains p2.status driver_ok ≡ true → IsRogueUp size m2 p2
 
 pub driver_same : (d1 d2 : DriverState) → d2 ≡ d1 → DriverSame d1 d2
-driver_same d1 d2 e = record {
-  pages = ap (λ (d : DriverState). d.pages) e;
-  queue_size = ap (λ (d : DriverState). d.queue_size) e;
-  processors = ap (λ (d : DriverState). d.processors) e;
-  table = ap (λ (d : DriverState). length d.places) e;
-}
+driver_same d1 d2 e = grind arith
 
 -- what of a device is known where its guest is rogue, but what it answers to queries
 abbrev pub kept_of_rogue : Part → Part
@@ -77,14 +67,7 @@ kept_of_rogue p =
 
 pub device_alike : {size : ℕ} (p1 p2 : Part) → kept_of_rogue p2 ≡ kept_of_rogue p1
     → DeviceSame size p1 p2
-device_alike p1 p2 e = record {
-  sized = ap (λ (p : Part). p.queue_size) e;
-  paced = ap (λ (p : Part). p.paced) e;
-  loose = λ none. ap (λ (p : Part). p.loose) e ∙ none;
-  flagged = ap (λ (p : Part). length p.ballooned) e;
-  unreserved = λ page low none.
-      ap (λ (p : Part). is_ballooned p.ballooned page) e ∙ none;
-}
+device_alike p1 p2 e = grind arith
 
 -- ---- the guest afterwards
 
@@ -108,33 +91,7 @@ pub rogue_stands : (m1 m2 : Pages) (p1 p2 : Part) (d1 d2 : DriverState) (g : Gue
     → length m2 ≡ length m1 → length frames ≡ length g.frames
     → ((page : ℕ) → frame_at m2 page ≡ frame_of frames page)
     → Rogue m2 p2 d2 (rogue_after g frames p2 d2)
-rogue_stands m1 m2 p1 p2 d1 d2 g frames rogue keeps count framed behind = record {
-  rogue = rogue.rogue;
-  config = rogue.config;
-  pages = keeps.driver.pages ∙ rogue.pages;
-  queue_size = keeps.driver.queue_size ∙ rogue.queue_size;
-  processors = keeps.driver.processors ∙ rogue.processors;
-  places = refl;
-  placed = keeps.driver.table ∙ ap length rogue.places ∙ rogue.placed;
-  actual = refl;
-  size = keeps.device.sized ∙ rogue.size;
-  paced = keeps.device.paced ∙ rogue.paced;
-  status = refl;
-  features = refl;
-  target = refl;
-  last = refl;
-  ballooned = refl;
-  flagged = keeps.device.flagged ∙ ap length rogue.ballooned ∙ rogue.flagged;
-  unreserved = λ page low. keeps.device.unreserved page low
-      (ap (λ (flags : List Bool). is_ballooned flags page) rogue.ballooned
-      ∙ rogue.unreserved page low);
-  loose = keeps.device.loose rogue.loose;
-  length_is = count ∙ rogue.length_is;
-  framed = framed ∙ rogue.framed;
-  filled = rogue.filled;
-  behind = behind;
-  up = keeps.up rogue.up;
-}
+rogue_stands m1 m2 p1 p2 d1 d2 g frames rogue keeps count framed behind = grind arith
 
 -- what a device says of its guest where that is rogue, but its status
 abbrev pub said : Part → Part
@@ -151,49 +108,13 @@ pub rogue_same : (m : Pages) (p1 p2 : Part) (d1 d2 : DriverState) (g : Guest)
     (frames : List (Option ℕ)) → Rogue m p1 d1 g → d2.places ≡ d1.places → d2.actual ≡ d1.actual
     → said p2 ≡ said p1
     → rogue_after g frames p2 d2 ≡ record g { frames = frames; status = p2.status }
-rogue_same m p1 p2 d1 d2 g frames rogue places told same =
-    let a : d2.places ≡ g.places = places ∙ rogue.places in
-    let b : d2.actual ≡ g.actual = told ∙ rogue.actual in
-    let c : p2.features ≡ g.features = ap (λ (p : Part). p.features) same ∙ rogue.features in
-    let d : p2.target ≡ g.target = ap (λ (p : Part). p.target) same ∙ rogue.target in
-    let e : p2.last ≡ g.last = ap (λ (p : Part). p.last) same ∙ rogue.last in
-    let f : p2.ballooned ≡ g.ballooned = ap (λ (p : Part). p.ballooned) same ∙ rogue.ballooned in
-    ap (λ (x : List Place). record (rogue_after g frames p2 d2) { places = x }) a
-    ∙ ap (λ (x : ℕ). record (rogue_after g frames p2 d2) { places = g.places; actual = x }) b
-    ∙ ap (λ (x : ℕ). record g {
-      status = p2.status;
-      features = x;
-      target = p2.target;
-      last = p2.last;
-      ballooned = p2.ballooned;
-      frames = frames;
-    }) c
-    ∙ ap (λ (x : ℕ). record g {
-      status = p2.status;
-      target = x;
-      last = p2.last;
-      ballooned = p2.ballooned;
-      frames = frames;
-    }) d
-    ∙ ap (λ (x : LastStatistics). record g {
-      status = p2.status;
-      last = x;
-      ballooned = p2.ballooned;
-      frames = frames;
-    }) e
-    ∙ ap (λ (x : List Bool). record g {
-      status = p2.status;
-      ballooned = x;
-      frames = frames;
-    }) f
+rogue_same m p1 p2 d1 d2 g frames rogue places told same = grind arith
 
 -- the device is as it was
 pub rogue_unchanged : (m : Pages) (p1 p2 : Part) (d1 d2 : DriverState) (g : Guest)
     → Rogue m p1 d1 g → d2.places ≡ d1.places → d2.actual ≡ d1.actual → p2 ≡ p1
     → rogue_after g g.frames p2 d2 ≡ g
-rogue_unchanged m p1 p2 d1 d2 g rogue places told part =
-    rogue_same m p1 p2 d1 d2 g g.frames rogue places told (ap said part)
-    ∙ ap (λ (n : ℕ). record g { status = n }) (ap (λ (p : Part). p.status) part ∙ rogue.status)
+rogue_unchanged m p1 p2 d1 d2 g rogue places told part = grind arith
 
 -- ---- its step
 
@@ -209,9 +130,7 @@ IsLeft call reply claims g new = (why : Refusal) → reply ≡ Refused why
 -- this refusal
 pub left_by : (call : Call) (why : Refusal) (claims : List Claim) (g new : Guest)
     → new ≡ after_refused call why claims g → IsLeft call (Refused why) claims g new
-left_by call why claims g new left other e =
-    subst (λ (w : Refusal). new ≡ after_refused call w claims g) (let same : why ≡ other = cc in same)
-    left
+left_by call why claims g new left other e = grind arith
 
 -- none
 pub no_refusal : {A : Type 0} (reply : Reply) (why : Refusal) → is_refused reply ≡ false
@@ -229,9 +148,7 @@ is_of_driver (Broken fault) = false
 is_of_driver _ = true
 
 pub without_fault : (why : Refusal) (g : Guest) → keeps_status why ≡ true → with_fault why g ≡ g
-without_fault (Broken fault) g e = absurd cc
-without_fault RingBroken g e = absurd cc
-without_fault _ g e = refl
+without_fault why g e = grind arith
 
 -- the guest afterwards is bound by what the call claimed
 pub rogue_steps : (m1 m2 : Pages) (p1 p2 : Part) (d1 d2 : DriverState) (g new : Guest)
@@ -248,31 +165,8 @@ pub rogue_steps : (m1 m2 : Pages) (p1 p2 : Part) (d1 d2 : DriverState) (g new : 
     → ((page offset : ℕ) (bytes : List ℕ) → call ≡ Scribble page offset bytes
     → HonestStep g (Scribble page offset bytes) claims reply new)
     → GuestStep g call claims reply new
-rogue_steps m1 m2 p1 p2 d1 d2 g new call claims reply old after config target claimed frames
-    no_frame no_memory left scribble =
-    let step : RogueStep g call claims reply new = record {
-      stays = record {
-        still = after.rogue;
-        config = config;
-        unreserved = after.unreserved;
-        sizes = record {
-          placed = after.placed;
-          flagged = after.flagged;
-          framed = after.framed;
-          filled = after.filled;
-        };
-      };
-      target = sym after.target ∙ target ∙ ap (target_after call) old.target;
-      claimed = claimed;
-      frames = frames;
-      no_frame = no_frame;
-      no_memory = no_memory;
-      refused = left;
-      scribble = scribble;
-    } in
-    let P : Bool → Type 0 =
-    λ b. MatchBool b (RogueStep g call claims reply new) (HonestStep g call claims reply new) in
-    subst P (sym old.rogue) step
+rogue_steps m1 m2 p1 p2 d1 d2 g new call claims reply old after config target claimed frames no_frame no_memory left scribble =
+    grind arith
 
 -- it claims nothing
 pub rogue_step : (m1 m2 : Pages) (p1 p2 : Part) (d1 d2 : DriverState) (g : Guest)
@@ -373,8 +267,7 @@ rogue_changed m1 m2 p1 p2 d g n own memory part rogue =
 pub rogue_own : (m1 m2 : Pages) (p1 p2 : Part) (d : DriverState) (g : Guest) → m2 ≡ m1
     → p2 ≡ record p1 { own = p2.own } → Rogue m1 p1 d g → Rogue m2 p2 d g
 rogue_own m1 m2 p1 p2 d g memory part rogue =
-    subst (λ (n : ℕ). Rogue m2 p2 d (record g { target = n })) rogue.target
-    (rogue_changed m1 m2 p1 p2 d g p1.target p2.own memory part rogue)
+    grind (arith, rogue_changed m1 m2 p1 p2 d g p1.target p2.own memory part rogue)
 
 -- ---- frames that it claims
 
@@ -391,24 +284,9 @@ pub rogue_unclaimed : (Answers : List Bool → Claim → Type 0) (out1 out2 : Li
     → Moves (supply_of p1 out1) (supply_of p2 out2) nothing nothing
     → StepsOver (Rogue m2 p2 d) Answers (supply_of p1 out1) (supply_of p2 out2) claims g call
     (Refused why)
-rogue_unclaimed Answers out1 out2 m1 m2 p1 p2 d g call claims why rogue memory part made refused
-    still left scribble answered moves =
-    let stands = rogue_own m1 m2 p1 p2 d g memory part rogue in
-    let P : Option Refusal → Type 0 =
-    λ o. MatchOption o
-    (LosesFrames (all_backed (pages_to_back call g) (given claims) g.frames) g.frames)
-    (λ refusal. (Refused why ≡ Refused refusal) × (g.frames ≡ g.frames)) in
-    record {
-      new = g;
-      stands = stands;
-      step = rogue_steps m1 m2 p1 p2 d d g g call claims (Refused why) rogue stands refl
-          (ap (λ (p : Part). p.target) part ∙ sym still) made
-          (subst P (sym refused) (refl, refl))
-          (λ e. refused ∙ ap (λ (r : Refusal). Some r) (let same : why ≡ NoFrame = cc in same))
-          (λ e. inl (refused
-          ∙ ap (λ (r : Refusal). Some r) (let same : why ≡ NoMemory = cc in same)))
-          (left_by call why claims g g (sym left)) scribble;
-      answered = answered;
-      moves = moves_as (supply_of p1 out1) (supply_of p2 out2) nothing nothing
-          (λ n. backing_count n g) (λ n. backing_count n g) moves (λ n. omega arith);
-    }
+rogue_unclaimed Answers out1 out2 m1 m2 p1 p2 d g call claims why rogue memory part made refused still left scribble answered moves =
+    grind (
+      arith,
+      rogue_own m1 m2 p1 p2 d g memory part rogue,
+      left_by call why claims g g (sym left),
+    )

@@ -1,11 +1,10 @@
 -- What leaves the queues of a running guest alone.
-use Rattle.std.specs.Prelude.{◌≡◌, ◌≢◌, ℕ, ◌+◌, ◌<◌, ◌≤◌, List, All, length, refl}
-use Rattle.std.proofs.Common.{sym, ap, subst, arith}
+use Rattle.std.specs.Prelude.{◌≡◌, ◌≢◌, ℕ, ◌+◌, ◌<◌, ◌≤◌, List, All, length}
+use Rattle.std.proofs.Common.{sym, subst, arith}
 use Rattle.vb_model.specs.Layout.{reserved_pages, ring_number, ring_page, buffers_page}
 use Rattle.vb_model.specs.Guest.{Guest}
-use Rattle.vb_model.proofs.Shapes.{InRing, in_ring_page, ring_reserved, reserved_least}
-use Rattle.vb_model.proofs.Shapes.{rings_apart}
-use Rattle.vb_ram.specs.Pages.{Pages, page_at, frame_at, contents_of}
+use Rattle.vb_model.proofs.Shapes.{InRing, rings_apart}
+use Rattle.vb_ram.specs.Pages.{Pages, page_at, frame_at}
 use Rattle.vb_ring.specs.declared.layout.Layout.{Layout}
 use Rattle.vb_ring.specs.Layout.{IsSize, layout_of}
 use Rattle.vb_ring.specs.Ends.{DriverEnd}
@@ -13,9 +12,9 @@ use Rattle.vb_ram.specs.Part.{Part}
 use Rattle.vb_driver.specs.State.{DriverState}
 use Rattle.vb_driver.proofs.Shapes.{buffers_between}
 use Rattle.vb_guest.specs.Stands.{IsRunning}
-use Rattle.vb_guest.proofs.RingApart.{SameRing, ring_parts}
-use Rattle.vb_guest.proofs.Apart.{SameLine, SameReserved, SameBut, ring_same, above_apart}
-use Rattle.vb_guest.proofs.Apart.{no_buffer, other_ring, other_line}
+use Rattle.vb_guest.proofs.RingApart.{SameRing}
+use Rattle.vb_guest.proofs.Apart.{SameLine, SameReserved, SameBut, no_buffer, other_ring}
+use Rattle.vb_guest.proofs.Apart.{other_line}
 use Rattle.vb_guest.proofs.PagesKept.{SamePages}
 
 -- all four rings have so many descriptors
@@ -27,12 +26,7 @@ pub record AreSized (d : DriverState) (size : ℕ) : Type 0 where
 
 pub sizes_of : (m : Pages) (p : Part) (d : DriverState) (g : Guest) → IsRunning m p d g
     → AreSized d g.config.queue_size
-sizes_of m p d g run = record {
-  inflate = run.inflate_size;
-  deflate = run.deflate_size;
-  statistics = run.statistics_size;
-  report = run.report_size;
-}
+sizes_of m p d g run = grind arith
 
 -- ---- reserved pages are as before, and so are all queues
 
@@ -45,18 +39,7 @@ pub record QueuesSame (old new : Pages) (d : DriverState) : Type 0 where
 
 pub queues_same : (old new : Pages) (d : DriverState) (size : ℕ) → AreSized d size
     → SameReserved old new size → QueuesSame old new d
-queues_same old new d size sized same =
-    let kept : (k : ℕ) → k ≡ size → SameReserved old new k =
-    λ k e. subst (SameReserved old new) (sym e) same in
-    record {
-      inflate = above_apart old new d.inflate.ring.size 0 (omega arith)
-          (kept d.inflate.ring.size sized.inflate);
-      deflate = above_apart old new d.deflate.ring.size 1 (omega arith)
-          (kept d.deflate.ring.size sized.deflate);
-      statistics = ring_same old new d.statistics.size 2 (kept d.statistics.size sized.statistics);
-      buffer = same 12 (omega (arith, reserved_least size));
-      report = ring_same old new d.report.ring.size 4 (kept d.report.ring.size sized.report);
-    }
+queues_same old new d size sized same = grind arith
 
 -- ---- a page of one ring has changed, and no other: all other queues are as before
 
@@ -79,9 +62,7 @@ others_same old new d size q ring sized at rest = record {
 
 -- a ring's page is reserved
 pub ring_low : (size k q page : ℕ) → k ≡ size → InRing k q page → page < reserved_pages size
-ring_low size k q page same at =
-    subst (λ (s : ℕ). page < reserved_pages s) same
-    (ring_reserved k page (in_ring_page k q page at))
+ring_low size k q page same at = grind arith
 
 -- and pages of a request aren't
 pub above_as : (size k : ℕ) (pages : List ℕ) → k ≡ size
@@ -101,12 +82,7 @@ pub record IsRingOf (size q : ℕ) (l : Layout) : Type 0 where
 pub ring_of : (size q : ℕ) (ring : DriverEnd) → IsSize ring.size
     → ring.layout ≡ layout_of (ring_page ring.size q) ring.size → ring.size ≡ size
     → IsRingOf size q ring.layout
-ring_of size q ring sized layout same =
-    let parts = ring_parts q ring sized layout in
-    record {
-      table = ring_as size ring.size q ring.layout.table same parts.table;
-      avail = ring_as size ring.size q ring.layout.avail.page same parts.avail;
-    }
+ring_of size q ring sized layout same = grind arith
 
 -- no other page has changed
 abbrev pub SameButThese : Pages → Pages → Layout → ℕ → Type 0
@@ -178,13 +154,4 @@ pub post_same : (old new : Pages) (size q buffer : ℕ) (l : Layout) → IsRingO
     → buffer < reserved_pages size → length new ≡ length old
     → ((p : ℕ) → frame_at new p ≡ frame_at old p) → SameButThese old new l buffer
     → SamePages (reserved_pages size) old new
-post_same old new size q buffer l ring low count behind rest = record {
-  count = count;
-  behind = behind;
-  holds = λ p high.
-      let table : l.table < reserved_pages size = ring_low size size q l.table refl ring.table in
-      let avail : l.avail.page < reserved_pages size =
-      ring_low size size q l.avail.page refl ring.avail in
-      ap contents_of (rest p (omega (arith, table, high)) (omega (arith, avail, high))
-      (omega (arith, low, high)));
-}
+post_same old new size q buffer l ring low count behind rest = search arith

@@ -1,7 +1,7 @@
 -- Runs of rising pages, one page more at a time.
 use Rattle.std.specs.Prelude.{◌≡◌, ℕ, zero, suc, ◌+◌, ◌<◌, ◌==◌, Bool, true, false, if◌then◌else◌}
 use Rattle.std.specs.Prelude.{List, [], ◌∷◌, ◌++◌, length, take, slice_set, slice_index_or, refl}
-use Rattle.std.proofs.Common.{sym, ◌∙◌, ap, arith, eq-eqb}
+use Rattle.std.proofs.Common.{sym, ◌∙◌, ap, arith}
 use Rattle.vb_model.specs.declared.places.PageRun.{PageRun}
 use Rattle.vb_model.specs.Tests.{pages_from, pages_where}
 use Rattle.vb_model.specs.Queries.{runs, runs_with}
@@ -19,56 +19,9 @@ with_page [] page = single page ∷ []
 with_page (r ∷ []) page = if suc r.last == page then ends_at r page ∷ [] else r ∷ single page ∷ []
 with_page (r ∷ s ∷ rs) page = r ∷ with_page (s ∷ rs) page
 
--- before or after, it makes no difference
-one_before : (a page : ℕ) (r : PageRun)
-    → runs_with a (with_page (r ∷ []) page) ≡ with_page (runs_with a (r ∷ [])) page
-one_before a page r = by (suc r.last == page) (suc a == r.first) refl refl
-  where
-    by : (x y : Bool) → (suc r.last == page) ≡ x → (suc a == r.first) ≡ y
-        → runs_with a (with_page (r ∷ []) page) ≡ with_page (runs_with a (r ∷ [])) page
-    by true true e f =
-        ap (λ (b : Bool). runs_with a (if b then ends_at r page ∷ [] else r ∷ single page ∷ [])) e
-        ∙ ap (λ (b : Bool). if b then (record { first = a; last = page }) ∷ []
-        else single a ∷ ends_at r page ∷ []) f
-        ∙ sym (ap (λ (b : Bool). with_page
-        (if b then (record { first = a; last = r.last }) ∷ [] else single a ∷ r ∷ []) page) f
-        ∙ ap (λ (b : Bool). if b then (record { first = a; last = page }) ∷ []
-        else (record { first = a; last = r.last }) ∷ single page ∷ []) e)
-    by true false e f =
-        ap (λ (b : Bool). runs_with a (if b then ends_at r page ∷ [] else r ∷ single page ∷ [])) e
-        ∙ ap (λ (b : Bool). if b then (record { first = a; last = page }) ∷ []
-        else single a ∷ ends_at r page ∷ []) f
-        ∙ sym (ap (λ (b : Bool). with_page
-        (if b then (record { first = a; last = r.last }) ∷ [] else single a ∷ r ∷ []) page) f
-        ∙ ap (λ (b : Bool). single a ∷ (if b then ends_at r page ∷ [] else r ∷ single page ∷ [])) e)
-    by false true e f =
-        ap (λ (b : Bool). runs_with a (if b then ends_at r page ∷ [] else r ∷ single page ∷ [])) e
-        ∙ ap (λ (b : Bool). if b then (record { first = a; last = r.last }) ∷ single page ∷ []
-        else single a ∷ r ∷ single page ∷ []) f
-        ∙ sym (ap (λ (b : Bool). with_page
-        (if b then (record { first = a; last = r.last }) ∷ [] else single a ∷ r ∷ []) page) f
-        ∙ ap (λ (b : Bool). if b then (record { first = a; last = page }) ∷ []
-        else (record { first = a; last = r.last }) ∷ single page ∷ []) e)
-    by false false e f =
-        ap (λ (b : Bool). runs_with a (if b then ends_at r page ∷ [] else r ∷ single page ∷ [])) e
-        ∙ ap (λ (b : Bool). if b then (record { first = a; last = r.last }) ∷ single page ∷ []
-        else single a ∷ r ∷ single page ∷ []) f
-        ∙ sym (ap (λ (b : Bool). with_page
-        (if b then (record { first = a; last = r.last }) ∷ [] else single a ∷ r ∷ []) page) f
-        ∙ ap (λ (b : Bool). single a ∷ (if b then ends_at r page ∷ [] else r ∷ single page ∷ [])) e)
-
 before_after : (a page : ℕ) (rs : List PageRun)
     → runs_with a (with_page rs page) ≡ with_page (runs_with a rs) page
-before_after a page [] = refl
-before_after a page (r ∷ []) = one_before a page r
-before_after a page (r ∷ s ∷ rs) = by (suc a == r.first)
-  where
-    by : (b : Bool) → (if b then (record { first = a; last = r.last }) ∷ with_page (s ∷ rs) page
-        else single a ∷ r ∷ with_page (s ∷ rs) page)
-        ≡ with_page (if b then (record { first = a; last = r.last }) ∷ s ∷ rs
-        else single a ∷ r ∷ s ∷ rs) page
-    by true = refl
-    by false = refl
+before_after a page rs = grind arith
 
 runs_pushed : (pages : List ℕ) (page : ℕ) → runs (pages ++ page ∷ []) ≡ with_page (runs pages) page
 runs_pushed [] page = refl
@@ -81,9 +34,7 @@ last_set : (rs : List PageRun) (page i : ℕ) (d : PageRun) → suc i ≡ length
     → suc (slice_index_or rs i d).last ≡ page
     → with_page rs page ≡ slice_set rs i (ends_at (slice_index_or rs i d) page)
 last_set [] page i d e next = absurd (omega arith)
-last_set (r ∷ []) page zero d e next =
-    ap (λ (b : Bool). if b then ends_at r page ∷ [] else r ∷ single page ∷ [])
-    (eq-eqb (suc r.last) page next)
+last_set (r ∷ []) page zero d e next = grind arith
 last_set (r ∷ []) page (suc i) d e next = absurd (omega arith)
 last_set (r ∷ s ∷ rs) page zero d e next = absurd (omega arith)
 last_set (r ∷ s ∷ rs) page (suc i) d e next =
@@ -118,10 +69,7 @@ pub page_joined : (rs : List PageRun) (page i : ℕ) (d e : PageRun) (pages : Li
     → rs ≡ runs pages
     → slice_set rs i (ends_at d page) ≡ runs (pages ++ page ∷ [])
 page_joined rs page i d e pages last at_d at_e next is =
-    let same : e ≡ slice_index_or rs i d = at_e ∙ same_entry rs i e d (omega (arith, last)) in
-    ap (λ (x : PageRun). slice_set rs i (ends_at x page)) at_d
-    ∙ sym (last_set rs page i d last (omega (arith, next, ap (λ (x : PageRun). x.last) same)))
-    ∙ ap (λ (l : List PageRun). with_page l page) is ∙ sym (runs_pushed pages page)
+    grind (arith, same_entry, last_set, runs_pushed)
 
 pub page_alone : (rs new : List PageRun) (page i : ℕ) (e : PageRun) (pages : List ℕ)
     → suc i ≡ length rs → e ≡ slice_index_or rs i e → (e.last + 1 ≡ page → ⊥)
@@ -136,9 +84,7 @@ page_alone rs new page i e pages last at_e apart pushed is =
 
 pub page_first : (rs new : List PageRun) (page : ℕ) (pages : List ℕ) → length rs ≡ 0
     → new ≡ rs ++ single page ∷ [] → rs ≡ runs pages → new ≡ runs (pages ++ page ∷ [])
-page_first rs new page pages none pushed is =
-    pushed ∙ sym (first_pushed rs page none) ∙ ap (λ (l : List PageRun). with_page l page) is
-    ∙ sym (runs_pushed pages page)
+page_first rs new page pages none pushed is = grind (arith, first_pushed, runs_pushed)
 
 -- ---- the pages of a table
 
@@ -148,25 +94,9 @@ pages_take : {A : Type 0} (test : A → Bool) (xs : List A) (first i n : ℕ) (d
     → pages_from first test (take (suc i) xs) ≡ pages_from first test (take i xs)
     ++ (if test (slice_index_or xs i d) then n ∷ [] else [])
 pages_take test [] first i n d lt e = absurd (omega arith)
-pages_take test (x ∷ xs) first zero n d lt e =
-    (let same : n ≡ first = omega (arith, e) in
-    by (test x) ∙ ap (λ (k : ℕ). if test x then k ∷ [] else []) (sym same))
-  where
-    by : (b : Bool) → (if b then first ∷ [] else []) ≡ (if b then first ∷ [] else [])
-    by b = refl
+pages_take test (x ∷ xs) first zero n d lt e = grind arith
 pages_take test (x ∷ xs) first (suc i) n d lt e =
-    by (test x) (pages_take test xs (suc first) i n d (omega (arith, lt)) (omega (arith, e)))
-  where
-    by : (b : Bool) → pages_from (suc first) test (take (suc i) xs)
-        ≡ pages_from (suc first) test (take i xs)
-        ++ (if test (slice_index_or xs i d) then n ∷ [] else [])
-        → (if b then first ∷ pages_from (suc first) test (take (suc i) xs)
-        else pages_from (suc first) test (take (suc i) xs))
-        ≡ (if b then first ∷ pages_from (suc first) test (take i xs)
-        else pages_from (suc first) test (take i xs))
-        ++ (if test (slice_index_or xs i d) then n ∷ [] else [])
-    by true same = ap (λ (l : List ℕ). first ∷ l) same
-    by false same = same
+    grind (arith, pages_take test xs (suc first) i n d (omega (arith, lt)) (omega (arith, e)))
 
 -- one index more
 pub runs_more : {A : Type 0} (test : A → Bool) (xs : List A) (i : ℕ) (d : A)

@@ -1,7 +1,6 @@
 -- What stands for a guest once its frames are accounted for: from steps of an honest guest to steps
 -- over its supply.
-use Rattle.std.specs.Prelude.{◌≡◌, ℕ, ◌+◌, Bool, true, false, List, [], ◌∷◌, Option, count_by, length}
-use Rattle.std.specs.Prelude.{refl}
+use Rattle.std.specs.Prelude.{◌≡◌, ℕ, ◌+◌, Bool, false, List, []}
 use Rattle.std.proofs.Common.{sym, ◌∙◌, ap, subst, arith}
 use Rattle.vb_model.specs.declared.calls.Call.{Call}
 use Rattle.vb_model.specs.declared.calls.Claim.{Claim}
@@ -14,10 +13,8 @@ use Rattle.vb_ram.specs.Part.{Part}
 use Rattle.vb_driver.specs.State.{DriverState}
 use Rattle.vb_device.specs.Own.{has}
 use Rattle.vb_guest.specs.Stands.{Honest, Rogue, OwnFrames, Stands, StandsBy}
-use Rattle.vb_guest.specs.Steps.{is_frame, backing_count, AreOut, StepsWithKeeper, StepsAlone, StepsOver, StepsFreeing}
-use Rattle.vb_model.specs.declared.calls.Claim.TheVariants.{Gave, GaveNoFrame, GaveNoMemory}
-use Rattle.vb_frames.specs.Out.{is_out, AllAnswered}
-use Rattle.vb_guest.specs.Supply.{Supply, AreClaimed, supply_of, is_used, Moves, nothing, AreLoose}
+use Rattle.vb_guest.specs.Steps.{backing_count, AreOut, StepsAlone, StepsOver, StepsFreeing}
+use Rattle.vb_guest.specs.Supply.{supply_of, Moves, nothing, AreLoose}
 use Rattle.vb_guest.proofs.Moving.{used_own, used_out, by_keeps, moves_as}
 
 -- ---- the record
@@ -38,11 +35,7 @@ rogue_is m p d g rogue = subst (λ b. StandsBy b m p d g) (sym rogue.rogue) rogu
 -- by which of the two it is
 pub by_guest : {P : Type 0} (keeps : Bool) (m : Pages) (p : Part) (d : DriverState) (g : Guest)
     → Stands keeps m p d g → (Honest m p d g → P) → (Rogue m p d g → P) → P
-by_guest {P} keeps m p d g stands honest rogue = by g.rogue stands.guest
-  where
-    by : (b : Bool) → StandsBy b m p d g → P
-    by false h = honest h
-    by true r = rogue r
+by_guest {P} keeps m p d g stands honest rogue = grind arith
 
 -- what either says
 pub none_loose : (keeps : Bool) (m : Pages) (p : Part) (d : DriverState) (g : Guest)
@@ -54,37 +47,15 @@ pub stands_of : (keeps : Bool) (m : Pages) (p : Part) (d : DriverState) (g : Gue
     → IsGuest m p d g → OwnFrames keeps p g → Stands keeps m p d g
 stands_of keeps m p d g guest own = record { guest = guest; own = own }
 
--- the same frames, and the device's own as before
-own_same : (keeps : Bool) (p1 p2 : Part) (g new : Guest) → p2.keeps ≡ p1.keeps → p2.own ≡ p1.own
-    → new.frames ≡ g.frames → OwnFrames keeps p1 g → OwnFrames keeps p2 new
-own_same keeps p1 p2 g new flag numbers frames own = record {
-  flag = flag ∙ own.flag;
-  none = λ e. numbers ∙ own.none e;
-  each = λ e n. ap (λ (l : List (Option ℕ)). count_by (is_frame n) l) frames ∙ own.each e n
-      ∙ ap (λ (l : List ℕ). one_if (has l n)) (sym numbers);
-}
-
 -- as many frames went out and came back as pages gained and lost
 pub own_moved : (keeps : Bool) (p1 p2 : Part) (out1 out2 : List Bool) (g new : Guest)
     → Moves (supply_of p1 out1) (supply_of p2 out2) (λ n. backing_count n new)
     (λ n. backing_count n g) → OwnFrames keeps p1 g → OwnFrames keeps p2 new
-own_moved keeps p1 p2 out1 out2 g new moves own = record {
-  flag = moves.keeps ∙ own.flag;
-  none = λ e. moves.asked (own.flag ∙ e) ∙ own.none e;
-  each = λ e n. omega (
-    arith,
-    moves.balance n,
-    ap one_if (used_own (supply_of p1 out1) n (own.flag ∙ e)),
-    ap one_if (used_own (supply_of p2 out2) n (moves.keeps ∙ own.flag ∙ e)),
-    own.each e n,
-  );
-}
+own_moved keeps p1 p2 out1 out2 g new moves own = grind arith
 
 pub stands_as : (keeps : Bool) (m1 m2 : Pages) (p1 p2 : Part) (d : DriverState) (g : Guest)
     → m2 ≡ m1 → p2 ≡ p1 → Stands keeps m1 p1 d g → Stands keeps m2 p2 d g
-stands_as keeps m1 m2 p1 p2 d g m p stands =
-    subst (λ x. Stands keeps x p2 d g) (sym m)
-    (subst (λ x. Stands keeps m1 x d g) (sym p) stands)
+stands_as keeps m1 m2 p1 p2 d g m p stands = grind arith
 
 -- ---- steps
 
@@ -92,9 +63,7 @@ stands_as keeps m1 m2 p1 p2 d g m p stands =
 pub stands_with : (keeps : Bool) (m1 m2 : Pages) (p1 p2 : Part) (d1 d2 : DriverState)
     (g new : Guest) → Stands keeps m1 p1 d1 g → p2.keeps ≡ p1.keeps → p2.own ≡ p1.own
     → new.frames ≡ g.frames → IsGuest m2 p2 d2 new → Stands keeps m2 p2 d2 new
-stands_with keeps m1 m2 p1 p2 d1 d2 g new stands flag numbers frames guest =
-    stands_of keeps m2 p2 d2 new guest
-    (own_same keeps p1 p2 g new flag numbers frames stands.own)
+stands_with keeps m1 m2 p1 p2 d1 d2 g new stands flag numbers frames guest = grind arith
 
 -- an honest guest's step, or a rogue one's
 pub alone_stands : (keeps : Bool) (m1 m2 : Pages) (p1 p2 : Part) (d1 d2 : DriverState) (g : Guest)
@@ -149,43 +118,7 @@ pub steps_quiet : (keeps : Bool) (m1 m2 : Pages) (p1 p2 : Part) (d1 d2 : DriverS
     (Answers : List Bool → Claim → Type 0) (out : List Bool) (call : Call) (reply : Reply)
     → Stands keeps m1 p1 d1 g → StepsAlone (Stands keeps m2 p2 d2) g call reply
     → StepsOver (Stands keeps m2 p2 d2) Answers (supply_of p1 out) (supply_of p2 out) [] g call reply
-steps_quiet keeps m1 m2 p1 p2 d1 d2 g Answers out call reply stands step = record {
-  new = step.new;
-  stands = step.stands;
-  step = step.step;
-  answered = tt;
-  moves = record {
-    keeps = step.stands.own.flag ∙ sym stands.own.flag;
-    asked = λ e. step.stands.own.none (sym stands.own.flag ∙ e)
-        ∙ sym (stands.own.none (sym stands.own.flag ∙ e));
-    untouched = λ e. refl;
-    count = refl;
-    balance = balance;
-  };
-}
-  where
-    same : (n : ℕ) → backing_count n step.new ≡ backing_count n g
-    same n = ap (λ (l : List (Option ℕ)). count_by (is_frame n) l) step.frames
-
-    balance : (n : ℕ) → one_if (is_used (supply_of p2 out) n) + backing_count n g
-        ≡ one_if (is_used (supply_of p1 out) n) + backing_count n step.new
-    balance n = by_keeps (supply_of p1 out)
-        (λ e. (let k = sym stands.own.flag ∙ e in
-        omega (
-          arith,
-          same n,
-          ap one_if (used_own (supply_of p1 out) n e),
-          ap one_if (used_own (supply_of p2 out) n (step.stands.own.flag ∙ k)),
-          stands.own.each k n,
-          step.stands.own.each k n,
-        )))
-        (λ e. (let k = sym stands.own.flag ∙ e in
-        omega (
-          arith,
-          same n,
-          ap one_if (used_out (supply_of p1 out) n e),
-          ap one_if (used_out (supply_of p2 out) n (step.stands.own.flag ∙ k)),
-        )))
+steps_quiet keeps m1 m2 p1 p2 d1 d2 g Answers out call reply stands step = search arith
 
 -- ---- frames that pages lost
 

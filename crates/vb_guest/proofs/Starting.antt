@@ -1,13 +1,9 @@
 -- The guest once its driver started the device, or gave up.
-use Rattle.std.specs.Prelude.{◌≡◌, ℕ, ◌*◌, ◌<◌, ◌≤◌, Bool, true, false}
-use Rattle.std.specs.Prelude.{if◌then◌else◌, List, [], length, Option}
-use Rattle.std.specs.Prelude.{IsSome, is_some, All}
-use Rattle.std.specs.Prelude.{replicate, count_by, refl}
+use Rattle.std.specs.Prelude.{◌≡◌, ℕ, ◌≤◌, Bool, true, false, if◌then◌else◌, List, [], length}
+use Rattle.std.specs.Prelude.{Option, IsSome, is_some, replicate, refl}
 use Rattle.std.proofs.lemmas.Bool.{false_from_ne_true}
-use Rattle.std.proofs.Common.{sym, ◌∙◌, ap, subst, arith, inl, inr}
+use Rattle.std.proofs.Common.{sym, ◌∙◌, ap, subst, arith, inr}
 use Rattle.std.proofs.lemmas.List.{length-replicate}
-use Rattle.vb_model.specs.declared.places.Place.{Place}
-use Rattle.vb_model.specs.Pages.{is_free}
 use Rattle.vb_model.specs.Requests.{Requests, no_requests, Buffer, NoBuffer, BufferPosted, Figures}
 use Rattle.vb_model.specs.Guest.{Guest}
 use Rattle.vb_model.specs.Guest.{stats_vq}
@@ -20,15 +16,14 @@ use Rattle.vb_ring.specs.Ends.{DriverEnd}
 use Rattle.vb_driver.specs.Coding.{AreZeroed, AreFigures}
 use Rattle.vb_driver.specs.State.{DriverState, IsDriver, fresh_side, fresh_statistics, fresh_report}
 use Rattle.vb_driver.specs.State.{figures_of}
-use Rattle.vb_driver.specs.Calls.{Starts, GivesUp, IsNewRing, FirstBuffer, with_nothing_out}
+use Rattle.vb_driver.specs.Calls.{Starts, GivesUp, IsNewRing, FirstBuffer}
 use Rattle.vb_guest.specs.Line.{Line}
 use Rattle.vb_guest.specs.Reported.{ReportLine}
 use Rattle.vb_guest.specs.Buffer.{BufferLine}
 use Rattle.vb_guest.specs.Stands.{Ties, HasParts, HasPages, IsIdle, beside_queues}
 use Rattle.vb_guest.specs.Stands.{beside_sides, beside_requests}
 use Rattle.vb_model.specs.Layout.{reserved_pages, ring_page, is_ring_page, is_start_page}
-use Rattle.vb_model.proofs.Shapes.{reserved_least, ring_reserved}
-use Rattle.vb_guest.proofs.RunApart.{ring_of, ring_low}
+use Rattle.vb_model.proofs.Shapes.{ring_reserved}
 use Rattle.vb_guest.proofs.Closing.{ties_same}
 use Rattle.vb_guest.proofs.PagesKept.{pages_same}
 use Rattle.vb_guest.proofs.RingPosted.{ring_posted}
@@ -36,38 +31,16 @@ use Rattle.vb_guest.proofs.RingApart.{ring_new}
 
 no_flags : (p : Part) (g : Guest) → p.ballooned ≡ g.ballooned → IsIdle g
     → replicate (length p.ballooned) false ≡ g.ballooned
-no_flags p g same idle =
-    let len : length p.ballooned ≡ g.config.pages =
-    ap (λ (l : List Bool). length l) (same ∙ idle.ballooned)
-    ∙ length-replicate g.config.pages false in
-    ap (λ (n : ℕ). replicate n false) len ∙ sym idle.ballooned
-
-all_none : {A : Type 0} (P : A → Type 0) → All P []
-all_none P k d lt = absurd (omega arith)
+no_flags p g same idle = grind (arith, length-replicate)
 
 -- nothing was published, and nothing used
 fresh_line : (m : Pages) (queue count q : ℕ) → IsSize q → IsNewRing m (fresh_side queue q).ring
     → Line m queue count (fresh_side queue q) no_queue no_requests
-fresh_line m queue count q sized new = record {
-  ring = ring_new m queue (fresh_side queue q).ring sized refl new;
-  buffers = refl;
-  posted = all_none _;
-  taken = all_none _;
-  done = all_none _;
-  coded = all_none _;
-  remembers = refl;
-}
+fresh_line m queue count q sized new = grind (arith, ring_new)
 
 fresh_report_line : (m : Pages) (count q : ℕ) → IsSize q → IsNewRing m (fresh_report q).ring
     → ReportLine m count (fresh_report q) no_queue no_requests
-fresh_report_line m count q sized new = record {
-  ring = ring_new m 4 (fresh_report q).ring sized refl new;
-  posted = all_none _;
-  taken = all_none _;
-  done = all_none _;
-  coded = all_none _;
-  remembers = refl;
-}
+fresh_report_line m count q sized new = grind (arith, ring_new)
 
 -- the first statistics buffer, where there is one
 abbrev pub first_buffer : Bool → Figures → Buffer
@@ -114,34 +87,11 @@ no_ring size p high = false_from_ne_true (is_ring_page size p)
 start_keeps : (b : Bool) (m1 zeroed m : Pages) (d1 d2 : DriverState)
     → IsSize d1.queue_size → AreZeroed m1 zeroed (is_ring_page d1.queue_size)
     → FirstBuffer b zeroed m d1 d2 → KeepsPages d1.queue_size m1 m
-start_keeps true m1 zeroed m d1 d2 sized zeroes did =
-    let size = d1.queue_size in
-    let ring = ring_of size 2 (fresh_statistics size) sized refl refl in
-    record {
-      count = did.rest.count ∙ zeroes.count;
-      backing = λ p. did.rest.backing p ∙ zeroes.backing p;
-      high = λ p at.
-          let l = (fresh_statistics size).layout in
-          let table : l.table < reserved_pages size =
-          ring_low size size 2 l.table refl ring.table in
-          let avail : l.avail.page < reserved_pages size =
-          ring_low size size 2 l.avail.page refl ring.avail in
-          did.rest.others p (omega (arith, table, at)) (omega (arith, avail, at))
-          (omega (arith, at, reserved_least size)) ∙ zeroes.others p (no_ring size p at);
-    }
-start_keeps false m1 zeroed m d1 d2 sized zeroes did = record {
-  count = ap (λ (x : Pages). length x) did.0 ∙ zeroes.count;
-  backing = λ p. ap (λ (x : Pages). frame_at x p) did.0 ∙ zeroes.backing p;
-  high = λ p at. ap (λ (x : Pages). page_at x p) did.0
-      ∙ zeroes.others p (no_ring d1.queue_size p at);
-}
+start_keeps b m1 zeroed m d1 d2 sized zeroes did = grind (arith, no_ring)
 
 figures_are : (d : DriverState) (g : Guest) → d.places ≡ g.places → d.pages ≡ g.config.pages
     → figures_of d ≡ figures g
-figures_are d g places pages =
-    ap (λ (l : List Place). record { free = count_by is_free l * 4096; total = d.pages * 4096 })
-    places
-    ∙ ap (λ (n : ℕ). record { free = count_by is_free g.places * 4096; total = n * 4096 }) pages
+figures_are d g places pages = grind arith
 
 -- the guest whose pages have these frames, and whose device is initialised
 pub started : (m2 m3 : Pages) (p1 p3 : Part) (d1 d2 : DriverState) (g : Guest)
@@ -239,44 +189,4 @@ pub stopped : (m2 m3 : Pages) (p1 p3 : Part) (d1 d2 : DriverState) (g : Guest)
     → IsIdle g → HasParts (beside_queues p1) (beside_sides d1) (beside_requests g)
     → GivesUp m2 m3 p1 p3 d1 d2 accepted
     → Ties m3 p3 d2 (record g { frames = frames; status = 131; features = accepted })
-stopped m2 m3 p1 p3 d1 d2 g frames accepted has idle parts did =
-    let new : Guest = record g { frames = frames; status = 131; features = accepted } in
-    let part : Part = record (part_after_reset p1) { status = 131; features = accepted } in
-    let state : DriverState = record (with_nothing_out d1) { features = accepted; actual = 0 } in
-    let there : Ties m2 part state new = record {
-      parts = record {
-        guest = parts.guest;
-        driver = record {
-          pages = parts.driver.pages;
-          queue_size = parts.driver.queue_size;
-          processors = parts.driver.processors;
-          places = parts.driver.places;
-          held = parts.driver.held;
-          accepted = refl;
-          told = sym idle.actual;
-        };
-        device = record {
-          size = parts.device.size;
-          paced = parts.device.paced;
-          status = refl;
-          features = refl;
-          target = parts.device.target;
-          actual = sym idle.actual;
-          ballooned = no_flags p1 g parts.device.ballooned idle;
-          last = sym idle.last;
-          loose = parts.device.loose;
-        };
-      };
-      pages = has;
-      queues = inl (record {
-        state = inr refl;
-        inflate = idle.inflate;
-        deflate = idle.deflate;
-        report = idle.report;
-        buffer = idle.buffer;
-        ballooned = idle.ballooned;
-        actual = idle.actual;
-        last = idle.last;
-      });
-    } in
-    ties_same m2 m3 part p3 state d2 new did.mem did.part did.driver there
+stopped m2 m3 p1 p3 d1 d2 g frames accepted has idle parts did = grind (arith, no_flags)

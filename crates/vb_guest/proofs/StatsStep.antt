@@ -1,27 +1,23 @@
 -- A guest's new fill of the statistics buffer is a step of the definitions.
-use Rattle.std.specs.Prelude.{◌≡◌, ℕ, ◌*◌, Bool, true, false, not, List, []}
-use Rattle.std.specs.Prelude.{Result, Ok, Err, Option, Some, None, is_some, is_err, slice_get}
-use Rattle.std.specs.Prelude.{count_by, refl}
+use Rattle.std.specs.Prelude.{◌≡◌, ℕ, Bool, true, false, not, [], Result, Ok, Err, Option, Some}
+use Rattle.std.specs.Prelude.{None, is_some, slice_get, refl}
 use Rattle.std.proofs.Common.{sym, ◌∙◌, ap, subst, arith, inl, inr}
 use Rattle.vb_model.specs.declared.calls.Call.TheVariants.{Stats}
-use Rattle.vb_model.specs.declared.places.Place.{Place}
 use Rattle.vb_model.specs.declared.replies.Refusal.{Refusal}
-use Rattle.vb_model.specs.declared.replies.Refusal.TheVariants.{NotReady, RingBroken}
+use Rattle.vb_model.specs.declared.replies.Refusal.TheVariants.{NotReady}
 use Rattle.vb_model.specs.declared.replies.Reply.TheVariants.{Filled, NotUsed}
-use Rattle.vb_model.specs.Pages.{is_free}
 use Rattle.vb_model.specs.Requests.{Figures, Buffer, NoBuffer, BufferPosted, BufferTaken}
 use Rattle.vb_model.specs.Requests.{BufferDone}
 use Rattle.vb_model.specs.Guest.{Guest, stats_vq}
 use Rattle.vb_model.specs.Driver.{figures, Fills}
 use Rattle.vb_model.specs.FirstRefusal.{first_refusal}
-use Rattle.vb_model.specs.Tables.{driver_tests, is_up}
+use Rattle.vb_model.specs.Tables.{is_up}
 use Rattle.vb_model.specs.Refusals.{refusal_of}
 use Rattle.vb_ram.specs.Pages.{Pages}
 use Rattle.vb_ram.specs.Part.{Part}
-use Rattle.vb_ring.specs.declared.driver.RingBroken.{RingBroken as Broken}
 use Rattle.vb_ring.specs.Ends.{DriverEnd, used_answer}
 use Rattle.vb_driver.specs.State.{DriverState, figures_of}
-use Rattle.vb_driver.specs.Answers.{stats_tests, is_ring_broken}
+use Rattle.vb_driver.specs.Answers.{stats_tests}
 use Rattle.vb_driver.specs.Calls.{FillsBy, Refills, emptied}
 use Rattle.vb_guest.specs.Buffer.{BufferLine, used_heads}
 use Rattle.vb_guest.specs.Stands.{Honest, Ties, IsRunning}
@@ -34,7 +30,7 @@ use Rattle.vb_guest.proofs.Apart.{line_apart}
 use Rattle.vb_guest.proofs.BufferLines.{buffer_emptied, buffer_posted}
 use Rattle.vb_guest.proofs.ReportLines.{report_apart}
 use Rattle.vb_guest.proofs.PagesKept.{pages_same}
-use Rattle.vb_guest.proofs.SameRefusals.{IsIdleStatus, at_both, last_test}
+use Rattle.vb_guest.proofs.SameRefusals.{IsIdleStatus}
 use Rattle.vb_guest.proofs.ReapRefusing.{unfailed, never_broken}
 use Rattle.vb_guest.proofs.Closing.{honest_performed, steps_alone, refused_alone, ties_same}
 
@@ -44,23 +40,12 @@ use Rattle.vb_guest.proofs.Closing.{honest_performed, steps_alone, refused_alone
 stats_same : (m : Pages) (p : Part) (d : DriverState) (g : Guest) (o : Option ℕ)
     → p.status ≡ g.status → d.features ≡ g.features → used_answer m d.statistics ≡ Ok o
     → first_refusal (stats_tests m p d) ≡ refusal_of g Stats
-stats_same m p d g o status features answer =
-    let whole : is_ring_broken m d.statistics ≡ false =
-    ap (λ (r : Result (Option ℕ) Broken). is_err r) answer in
-    last_test (driver_tests p.status (not (stats_vq d.features))) (is_ring_broken m d.statistics) RingBroken whole
-    ∙ ap (λ (s : ℕ). first_refusal (driver_tests s (not (stats_vq d.features)))) status
-    ∙ ap (λ (f : ℕ). first_refusal (driver_tests g.status (not (stats_vq f)))) features
+stats_same m p d g o status features answer = grind arith
 
 stats_idle : (m : Pages) (p : Part) (d : DriverState) (g : Guest) → p.status ≡ g.status
     → IsIdleStatus g.status
     → (first_refusal (stats_tests m p d) ≡ Some NotReady) × (refusal_of g Stats ≡ Some NotReady)
-stats_idle m p d g same down =
-    let P : ℕ → Type 0 =
-    λ s. first_refusal (stats_tests m (record p { status = s }) d) ≡ Some NotReady in
-    let G : ℕ → Type 0 = λ s. refusal_of (record g { status = s }) Stats ≡ Some NotReady in (
-      at_both P p.status (subst IsIdleStatus (sym same) down) refl refl,
-      at_both G g.status down refl refl,
-    )
+stats_idle m p d g same down = grind arith
 
 stats_refused : (m1 m2 : Pages) (p1 p2 : Part) (d1 d2 : DriverState) (g : Guest) (why : Refusal)
     → FillsBy m1 m2 p1 p2 d1 d2 (Err why) → Honest m1 p1 d1 g
@@ -81,24 +66,13 @@ not_used : (m1 m2 : Pages) (p1 p2 : Part) (d1 d2 : DriverState) (g : Guest) (b :
     → g.buffer ≡ b → used_answer m1 d1.statistics ≡ Ok None → Fills b g NotUsed g
     → FillsBy m1 m2 p1 p2 d1 d2 (Ok filled) → Honest m1 p1 d1 g → refusal_of g Stats ≡ None
     → StepsAlone (Honest m2 p2 d2) g Stats (filled_reply (Ok filled))
-not_used m1 m2 p1 p2 d1 d2 g b true is answer none did stands free =
-    absurd (let wrong = sym answer ∙ did.fills.used in cc)
-not_used m1 m2 p1 p2 d1 d2 g b false is answer none did stands free =
-    let F : Buffer → Type 0 = λ x. Fills x g NotUsed g in
-    steps_alone m1 m2 p1 p2 d1 d2 g Stats NotUsed g stands
-    (honest_performed g Stats [] NotUsed g free (refl, subst F (sym is) none))
-    (ties_same m1 m2 p1 p2 d1 d2 g did.fills.unchanged.mem did.fills.unchanged.part
-    did.fills.unchanged.driver stands.ties) refl
+not_used m1 m2 p1 p2 d1 d2 g b filled is answer none did stands free = search arith
 
 -- ---- the used buffer is filled anew
 
 figures_same : (d : DriverState) (g : Guest) → d.places ≡ g.places → d.pages ≡ g.config.pages
     → figures_of d ≡ figures g
-figures_same d g places pages =
-    ap (λ (l : List Place). (let f : Figures =
-    record { free = count_by is_free l * 4096; total = d.pages * 4096 } in f)) places
-    ∙ ap (λ (n : ℕ). (let f : Figures =
-    record { free = count_by is_free g.places * 4096; total = n * 4096 } in f)) pages
+figures_same d g places pages = grind arith
 
 refilled : (m1 m2 : Pages) (p1 p2 : Part) (d1 d2 : DriverState) (g : Guest) (old : Figures)
     → g.buffer ≡ BufferDone old → Refills m1 m2 p1 p2 d1 d2 → Honest m1 p1 d1 g

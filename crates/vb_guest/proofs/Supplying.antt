@@ -1,16 +1,14 @@
 -- Several pages get frames, one by one.
-use Rattle.std.specs.Prelude.{◌≡◌, ◌≢◌, ℕ, zero, suc, ◌+◌, ◌<◌, ◌≤◌, ◌==◌, ◌||◌, Bool, true, false}
-use Rattle.std.specs.Prelude.{not, if◌then◌else◌, cond, List, [], ◌∷◌, length, Option, Some, None}
-use Rattle.std.specs.Prelude.{IsSome, is_some, filter, count_by, refl, ◌⊎◌}
+use Rattle.std.specs.Prelude.{◌≡◌, ℕ, zero, suc, ◌+◌, ◌<◌, ◌≤◌, ◌==◌, ◌||◌, Bool, true, false, not}
+use Rattle.std.specs.Prelude.{List, [], ◌∷◌, length, Option, None, IsSome, filter, count_by, refl}
 use Rattle.std.specs.List.{range_with_len}
-use Rattle.std.proofs.Common.{sym, ◌∙◌, ap, subst, arith, inl, inr, eq-eqb}
-use Rattle.std.proofs.lemmas.Bool.{cases_eq, eqb-true, or_cases, cases_Bool}
+use Rattle.std.proofs.Common.{sym, ◌∙◌, ap, subst, arith, eq-eqb}
 use Rattle.vb_model.specs.declared.calls.Claim.{Claim}
 use Rattle.vb_model.specs.declared.calls.Claim.TheVariants.{Gave, GaveNoFrame, GaveNoMemory}
 use Rattle.vb_model.specs.Tests.{is_in, each_from}
 use Rattle.vb_model.specs.Guest.{backed, all_backed}
 use Rattle.vb_model.specs.Driver.{given, claim_refusal, AreClaimsFor, AllDistinct}
-use Rattle.vb_ram.specs.Pages.{Pages, page_at, frame_at, number_of, Supplied}
+use Rattle.vb_ram.specs.Pages.{Pages, page_at, frame_at, Supplied}
 use Rattle.vb_guest.specs.Stands.{HasPages}
 use Rattle.vb_guest.specs.Steps.{is_frame}
 use Rattle.vb_guest.specs.Lives.{AllSupplied}
@@ -28,75 +26,26 @@ neither false b e = (refl, e)
 pub rising : (test : ℕ → Bool) (a n p : ℕ) → is_in p (filter test (range_with_len a n)) ≡ true
     → a ≤ p
 rising test a zero p h = absurd cc
-rising test a (suc n) p h = step (test a) (rising test (a + 1) n p) h
-  where
-    step : (b : Bool) → (is_in p (filter test (range_with_len (a + 1) n)) ≡ true → a + 1 ≤ p)
-        → is_in p (cond b (a ∷ filter test (range_with_len (a + 1) n))
-        (filter test (range_with_len (a + 1) n))) ≡ true → a ≤ p
-    step false later k = let above = later k in omega arith
-    step true later k = elim
-        (or_cases (a == p) (is_in p (filter test (range_with_len (a + 1) n))) k) [
-          | inl e ↦ (let same = eqb-true a p e in omega arith)
-          | inr m ↦ (let above = later m in omega arith)
-        ]
+rising test a (suc n) p h = grind (arith, rising test (a + 1) n p)
 
 pub bounded : (test : ℕ → Bool) (a n p : ℕ) → is_in p (filter test (range_with_len a n)) ≡ true
     → p < a + n
 bounded test a zero p h = absurd cc
-bounded test a (suc n) p h = step (test a) (bounded test (a + 1) n p) h
-  where
-    step : (b : Bool) → (is_in p (filter test (range_with_len (a + 1) n)) ≡ true → p < a + 1 + n)
-        → is_in p (cond b (a ∷ filter test (range_with_len (a + 1) n))
-        (filter test (range_with_len (a + 1) n))) ≡ true → p < a + suc n
-    step false later k = let below = later k in omega arith
-    step true later k = elim
-        (or_cases (a == p) (is_in p (filter test (range_with_len (a + 1) n))) k) [
-          | inl e ↦ (let same = eqb-true a p e in omega arith)
-          | inr m ↦ (let below = later m in omega arith)
-        ]
+bounded test a (suc n) p h = grind (arith, bounded test (a + 1) n p)
 
 pub not_again : (test : ℕ → Bool) (a n : ℕ)
     → is_in a (filter test (range_with_len (a + 1) n)) ≡ false
-not_again test a n = elim (cases_Bool (is_in a (filter test (range_with_len (a + 1) n)))) [
-  | inl there ↦ (let above = rising test (a + 1) n a there in absurd (omega arith))
-  | inr out ↦ out
-]
+not_again test a n = grind (arith, rising)
 
 pub all_distinct : (test : ℕ → Bool) (a n : ℕ) → AllDistinct (filter test (range_with_len a n))
 all_distinct test a zero = tt
-all_distinct test a (suc n) = step (test a) (not_again test a n) (all_distinct test (a + 1) n)
-  where
-    step : (b : Bool) → is_in a (filter test (range_with_len (a + 1) n)) ≡ false
-        → AllDistinct (filter test (range_with_len (a + 1) n))
-        → AllDistinct (cond b (a ∷ filter test (range_with_len (a + 1) n))
-        (filter test (range_with_len (a + 1) n)))
-    step false out later = later
-    step true out later = (ap not out, later)
+all_distinct test a (suc n) = grind (arith, not_again test a n, all_distinct test (a + 1) n)
 
 -- a number that passes the test is among them
 pub among : (test : ℕ → Bool) (a n p : ℕ) → a ≤ p → p < a + n → test p ≡ true
     → is_in p (filter test (range_with_len a n)) ≡ true
 among test a zero p from to passes = absurd (omega arith)
-among test a (suc n) p from to passes = step (test a) refl (cases_eq a p) (among test (a + 1) n p)
-  where
-    behind : List ℕ
-    behind = filter test (range_with_len (a + 1) n)
-
-    step : (b : Bool) → test a ≡ b → (a ≡ p) ⊎ (a ≢ p)
-        → (a + 1 ≤ p → p < a + 1 + n → test p ≡ true
-        → is_in p (filter test (range_with_len (a + 1) n)) ≡ true)
-        → is_in p (cond b (a ∷ filter test (range_with_len (a + 1) n))
-        (filter test (range_with_len (a + 1) n))) ≡ true
-    step true is (inl e) later =
-        ap (λ (b : Bool). b || is_in p (filter test (range_with_len (a + 1) n))) (eq-eqb a p e)
-    step true is (inr ne) later = either_way (a == p) (later (omega arith) (omega arith) passes)
-      where
-        either_way : (b : Bool) → is_in p (filter test (range_with_len (a + 1) n)) ≡ true
-            → (b || is_in p (filter test (range_with_len (a + 1) n))) ≡ true
-        either_way true m = refl
-        either_way false m = m
-    step false is (inl e) later = (let wrong : test p ≡ false = ap test (sym e) ∙ is in absurd cc)
-    step false is (inr ne) later = later (omega arith) (omega arith) passes
+among test a (suc n) p from to passes = grind (arith, among test (a + 1) n p)
 
 -- ---- memory
 
@@ -123,15 +72,7 @@ pub supplied_backed : (pages numbers : List ℕ) (old new : Pages) (q : ℕ)
 supplied_backed [] numbers old new q e there = absurd cc
 supplied_backed (p ∷ ps) [] old new q none there = absurd none
 supplied_backed (p ∷ ps) (n ∷ ns) old new q (mid, before, bare, did) there =
-    step (cases_eq q p) (supplied_backed ps ns old mid q before)
-  where
-    step : (q ≡ p) ⊎ (q ≢ p) → (is_in q ps ≡ true → IsSome (frame_at mid q))
-        → IsSome (frame_at new q)
-    step (inl e) later = ap (λ (k : ℕ). is_some (frame_at new k)) e ∙ ap is_some did.backed
-    step (inr ne) later = elim (or_cases (p == q) (is_in q ps) there) [
-      | inl same ↦ absurd (ne (sym (eqb-true p q same)))
-      | inr m ↦ ap (λ o. is_some (number_of o)) (did.others q ne) ∙ later m
-    ]
+    grind (arith, supplied_backed ps ns old mid q before)
 
 -- ---- the table of frames
 
@@ -139,25 +80,11 @@ each_swap : {A : Type 0} (f g : ℕ → A → A) (k : ℕ) (xs : List A)
     → ((i : ℕ) (x : A) → f i (g i x) ≡ g i (f i x))
     → each_from k f (each_from k g xs) ≡ each_from k g (each_from k f xs)
 each_swap f g k [] same = refl
-each_swap {A} f g k (x ∷ xs) same =
-    ap (λ (y : A). y ∷ each_from (suc k) f (each_from (suc k) g xs)) (same k x)
-    ∙ ap (λ (ys : List A). g k (f k x) ∷ ys) (each_swap f g (suc k) xs same)
+each_swap {A} f g k (x ∷ xs) same = grind (arith, each_swap f g (suc k) xs same)
 
 pub backed_swap : (p f q k : ℕ) (frames : List (Option ℕ)) → (q == p) ≡ false
     → backed p f (backed q k frames) ≡ backed q k (backed p f frames)
-backed_swap p f q k frames ne =
-    each_swap (λ i old. if i == p then Some f else old) (λ i old. if i == q then Some k else old) 0
-    frames (λ i x. step i x (i == p) (i == q) refl refl)
-  where
-    step : (i : ℕ) (x : Option ℕ) (a b : Bool) → (i == p) ≡ a → (i == q) ≡ b
-        → (if a then Some f else (if b then Some k else x))
-        ≡ (if b then Some k else (if a then Some f else x))
-    step i x true true e e' =
-        (let one = eqb-true i p e in let two = eqb-true i q e' in
-        let same = eq-eqb q p (sym two ∙ one) in absurd cc)
-    step i x true false e e' = refl
-    step i x false true e e' = refl
-    step i x false false e e' = refl
+backed_swap p f q k frames ne = grind (arith, each_swap)
 
 pub backed_last : (p f : ℕ) (pages numbers : List ℕ) (frames : List (Option ℕ))
     → is_in p pages ≡ false
@@ -172,10 +99,7 @@ backed_last p f (q ∷ qs) (k ∷ ks) frames out =
 -- ---- memory, the table and the frames that are out
 
 distinct_out : (p : ℕ) (ps : List ℕ) → not (is_in p ps) ≡ true → is_in p ps ≡ false
-distinct_out p ps e = elim (cases_Bool (is_in p ps)) [
-  | inl there ↦ (let wrong : false ≡ true = ap not (sym there) ∙ e in absurd cc)
-  | inr out ↦ out
-]
+distinct_out p ps e = grind arith
 
 -- what one page's new frame leaves, the new frames of all pages leave
 filled_by : (Has : Pages → List (Option ℕ) → Type 0) (n : ℕ) (pages numbers : List ℕ)

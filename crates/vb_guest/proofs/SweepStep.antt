@@ -4,17 +4,13 @@ use Rattle.std.specs.Prelude.{All, length, Result, Option, Some, None, is_some, 
 use Rattle.std.specs.Option.{option_to_list}
 use Rattle.std.specs.List.{flat_map}
 use Rattle.std.proofs.Common.{sym, ◌∙◌, ap, subst, arith, inl, inr}
-use Rattle.std.proofs.lemmas.Bool.{cases_Bool}
 use Rattle.vb_model.specs.declared.calls.Call.TheVariants.{Sweep}
-use Rattle.vb_model.specs.declared.places.Place.{Place}
-use Rattle.vb_model.specs.declared.places.Place.TheVariants.{Reserved}
 use Rattle.vb_model.specs.declared.replies.Refusal.{Refusal}
 use Rattle.vb_model.specs.declared.replies.Refusal.TheVariants.{NotReady, NoFeature}
 use Rattle.vb_model.specs.declared.replies.Refusal.TheVariants.{NotBallooned}
 use Rattle.vb_model.specs.declared.replies.Reply.{Reply}
-use Rattle.vb_model.specs.declared.replies.Reply.TheVariants.{Swept, Refused}
-use Rattle.vb_model.specs.Tests.{one_if}
-use Rattle.vb_model.specs.Pages.{place_of, is_giving, is_lent, is_reserved}
+use Rattle.vb_model.specs.declared.replies.Reply.TheVariants.{Swept}
+use Rattle.vb_model.specs.Pages.{place_of, is_reserved}
 use Rattle.vb_model.specs.Guest.{Guest, frame_of, is_ballooned, unbacked, must_tell_host}
 use Rattle.vb_model.specs.Guest.{tells_host}
 use Rattle.vb_model.specs.Consistent.{IsConsistent}
@@ -40,8 +36,7 @@ use Rattle.vb_guest.proofs.ReportLines.{report_apart}
 use Rattle.vb_guest.proofs.Discarding.{frames_freed}
 use Rattle.vb_guest.proofs.Offered.{high_page}
 use Rattle.vb_guest.proofs.PagesKept.{pages_discarded, page_undiscarded}
-use Rattle.vb_guest.proofs.Closing.{honest_refused, honest_performed, still_stands, guest_step}
-use Rattle.vb_guest.proofs.Closing.{ties_same}
+use Rattle.vb_guest.proofs.Closing.{honest_performed, still_stands, guest_step, ties_same}
 use Rattle.vb_guest.proofs.Handing.{handed_back, loose_none, not_among, behind_same}
 
 all_one : (P : ℕ → Type 0) (x : ℕ) → P x → All P (x ∷ [])
@@ -57,77 +52,34 @@ sweep_test told ballooned =
 
 running_part : (part : Part) (page : ℕ) → part.status ≡ 15
     → sweep_refusal page part ≡ sweep_test (must_tell_host part.features) (is_ballooned part.ballooned page)
-running_part part page e =
-    let P : ℕ → Type 0 = λ s. sweep_refusal page (record part { status = s })
-    ≡ sweep_test (must_tell_host part.features) (is_ballooned part.ballooned page) in
-    subst P (sym e) refl
+running_part part page e = grind arith
 
 running : (g : Guest) (page : ℕ) → g.status ≡ 15
     → refusal_of g (Sweep page) ≡ sweep_test (tells_host g) (is_ballooned g.ballooned page)
-running g page e =
-    let P : ℕ → Type 0 = λ s. refusal_of (record g { status = s }) (Sweep page)
-    ≡ sweep_test (tells_host g) (is_ballooned g.ballooned page) in
-    subst P (sym e) refl
+running g page e = grind arith
 
 idle_part : (part : Part) (page : ℕ) → (part.status ≡ 0) ⊎ (part.status ≡ 131)
     → sweep_refusal page part ≡ Some NotReady
-idle_part part page down =
-    let P : ℕ → Type 0 = λ s. sweep_refusal page (record part { status = s }) ≡ Some NotReady in
-    elim down [ inl e ↦ subst P (sym e) refl | inr e ↦ subst P (sym e) refl ]
+idle_part part page down = grind arith
 
 idle_guest : (g : Guest) (page : ℕ) → (g.status ≡ 0) ⊎ (g.status ≡ 131)
     → refusal_of g (Sweep page) ≡ Some NotReady
-idle_guest g page down =
-    let P : ℕ → Type 0 = λ s. refusal_of (record g { status = s }) (Sweep page) ≡ Some NotReady in
-    elim down [ inl e ↦ subst P (sym e) refl | inr e ↦ subst P (sym e) refl ]
+idle_guest g page down = grind arith
 
 sweep_refused : (m1 m2 : Pages) (p1 p2 : Part) (d : DriverState) (g : Guest) (page : ℕ)
     (why : Refusal) (result : Result Bool Refusal)
     → SweepsBy page m1 m2 p1 p2 result → Honest m1 p1 d g → sweep_refusal page p1 ≡ Some why
     → refusal_of g (Sweep page) ≡ Some why
     → StepsFreeing (Honest m2 (handed_back p2) d) p2.loose g (Sweep page) (swept_reply result)
-sweep_refused m1 m2 p1 p2 d g page why result did stands by_part by_model =
-    let (answer, part, memory) = did.refused why by_part in
-    let step = honest_refused g (Sweep page) why by_model in
-    let same = ap handed_back part ∙ loose_none p1 stands.ties.parts.device.loose in
-    let none : p2.loose ≡ [] = ap (λ (p : Part). p.loose) part ∙ stands.ties.parts.device.loose in
-    subst (λ r. StepsFreeing (Honest m2 (handed_back p2) d) p2.loose g (Sweep page) (swept_reply r))
-    (sym answer) (record {
-      new = g;
-      stands = still_stands m1 m2 p1 (handed_back p2) d d g (Sweep page) [] (Refused why) g stands
-          step (ties_same m1 m2 p1 (handed_back p2) d d g memory same refl stands.ties);
-      step = guest_step g (Sweep page) [] (Refused why) g stands.ties.parts.guest.honest step;
-      freed = λ n. omega (arith, ap (times n) none);
-    })
+sweep_refused m1 m2 p1 p2 d g page why result did stands by_part by_model = grind arith
 
 -- ---- a ballooned page
-
-reserved_alone : (place : Place) → is_reserved place ≡ true
-    → (is_giving place ≡ false) × (is_lent place ≡ false)
-reserved_alone Reserved e = (refl, refl)
-reserved_alone _ e = absurd cc
 
 -- no reserved page is ballooned
 pub ballooned_free : (g : Guest) (page : ℕ) → IsConsistent g → is_ballooned g.ballooned page ≡ true
     → is_reserved (place_of g.places page) ≡ false
-ballooned_free g page sound flag = elim (cases_Bool (is_reserved (place_of g.places page))) [
-  | inr free ↦ free
-  | inl reserved ↦
-      let (giving, lent) = reserved_alone (place_of g.places page) reserved in
-      let here = sound.pages page in
-      absurd (omega (
-        arith,
-        here.inflating,
-        here.deflating,
-        here.ballooning,
-        ap one_if flag,
-        ap one_if giving,
-        ap one_if lent,
-        ap one_if reserved,
-        naming-all page g.inflate,
-        naming-all page g.deflate,
-      ))
-]
+ballooned_free g page sound flag =
+    grind (arith, naming-all page g.inflate, naming-all page g.deflate)
 
 sweep_done : (m1 m2 : Pages) (p1 p2 : Part) (d : DriverState) (g : Guest) (page : ℕ)
     (result : Result Bool Refusal)

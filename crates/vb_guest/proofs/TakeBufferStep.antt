@@ -32,7 +32,7 @@ use Rattle.vb_guest.proofs.BufferLines.{buffer_taken}
 use Rattle.vb_guest.proofs.Handing.{same_entry}
 use Rattle.vb_guest.proofs.RingTaken.{ring_next}
 use Rattle.vb_guest.proofs.SameRefusals.{take_same, take_idle}
-use Rattle.vb_guest.proofs.Closing.{honest_performed, steps_alone, refused_alone, ties_same}
+use Rattle.vb_guest.proofs.Closing.{honest_performed, steps_alone, ties_same}
 
 -- a refused take of any queue
 pub take_refused : (m1 m2 : Pages) (p1 p2 : Part) (d : DriverState) (g : Guest) (q : ℕ)
@@ -40,10 +40,7 @@ pub take_refused : (m1 m2 : Pages) (p1 p2 : Part) (d : DriverState) (g : Guest) 
     → TakesBy q m1 m2 p1 p2 result → Honest m1 p1 d g → take_refusal q p1 ≡ Some why
     → refusal_of g (Take q) ≡ Some why
     → StepsAlone (Honest m2 p2 d) g (Take q) (taken_reply result)
-take_refused m1 m2 p1 p2 d g q why result did stands by_part by_model =
-    let (answer, part) = did.refused why by_part in
-    subst (λ r. StepsAlone (Honest m2 p2 d) g (Take q) (taken_reply r)) (sym answer)
-    (refused_alone m1 m2 p1 p2 d d g (Take q) why stands by_model did.memory part refl)
+take_refused m1 m2 p1 p2 d g q why result did stands by_part by_model = search arith
 
 -- no buffer is posted
 take_none : (m1 m2 : Pages) (p1 p2 : Part) (d : DriverState) (g : Guest) (b : Buffer)
@@ -136,10 +133,7 @@ take_posted m1 m2 p1 p2 d g figures result is did stands run free_part free =
     (ties_same m1 m2 after p2 d d new did.memory left refl there) refl)
 
 taken_count : (b : Buffer) → length (taken_requests b) ≡ one_if (is_taken b)
-taken_count NoBuffer = refl
-taken_count (BufferPosted figures) = refl
-taken_count (BufferTaken figures) = refl
-taken_count (BufferDone figures) = refl
+taken_count b = grind arith
 
 pub take_buffer : (m1 m2 : Pages) (p1 p2 : Part) (d : DriverState) (g : Guest)
     (result : Result (Option ℕ) Refusal)

@@ -1,6 +1,6 @@
 -- The device takes the next posted request.
 use Rattle.std.specs.Prelude.{◌≡◌, ℕ, ◌+◌, ◌%◌, List, [], ◌∷◌, ◌++◌, Ok, slice_get}
-use Rattle.std.proofs.Common.{sym, ap, subst, arith}
+use Rattle.std.proofs.Common.{ap, arith}
 use Rattle.std.proofs.lemmas.List.Elements.{All-push, All-tail}
 use Rattle.vb_model.specs.Layout.{ring_page, buffers_page}
 use Rattle.vb_model.specs.Requests.{Request, Requests}
@@ -11,7 +11,6 @@ use Rattle.vb_ring.specs.Ends.{DriverEnd}
 use Rattle.vb_driver.specs.Coding.{IsCoded}
 use Rattle.vb_driver.specs.State.{RequestSide}
 use Rattle.vb_guest.specs.Line.{Line, IsRequest, RingOf, heads_of}
-use Rattle.vb_guest.specs.Ring.{RingStands}
 use Rattle.vb_guest.proofs.Heads.{heads-push}
 use Rattle.vb_guest.proofs.RingTaken.{ring_next, ring_taken}
 
@@ -21,8 +20,10 @@ pub next_shown : (mem : Pages) (q : ℕ) (ring : DriverEnd) (part : QueuePart) (
     → next_entry mem ring.layout ring.size part.next_avail
     ≡ Ok (slice_get (heads_of rs.posted) 0)
 next_shown mem q ring part rs stands =
-    ring_next mem q ring part.next_avail part.next_used (heads_of rs.posted) (heads_of rs.taken)
-    (heads_of rs.done) stands
+    grind (
+      arith,
+      ring_next mem q ring part.next_avail part.next_used (heads_of rs.posted) (heads_of rs.taken) (heads_of rs.done) stands,
+    )
 
 -- the head of the taken request goes from the posted to the taken ones
 pub requests_taken : (mem : Pages) (q : ℕ) (ring : DriverEnd) (part : QueuePart) (r : Request)
@@ -30,12 +31,7 @@ pub requests_taken : (mem : Pages) (q : ℕ) (ring : DriverEnd) (part : QueuePar
     → RingOf mem q ring part (record { posted = r ∷ rest; taken = taken; done = done })
     → RingOf mem q ring (record part { next_avail = (part.next_avail + 1) % 65536; taken = last })
     (record { posted = rest; taken = taken ++ (record r { visited = 0 } ∷ []); done = done })
-requests_taken mem q ring part r rest taken done last stands =
-    let R : List ℕ → Type 0 = λ l. RingStands mem q ring ((part.next_avail + 1) % 65536)
-    part.next_used (heads_of rest) l (heads_of done) in
-    subst R (sym (heads-push taken (record r { visited = 0 })))
-    (ring_taken mem q ring part.next_avail part.next_used r.head (heads_of rest) (heads_of taken)
-    (heads_of done) stands)
+requests_taken mem q ring part r rest taken done last stands = grind (arith, heads-push, ring_taken)
 
 -- the taken request goes from the posted to the taken ones
 pub line_taken : (mem : Pages) (q n : ℕ) (side : RequestSide) (part : QueuePart) (r : Request)

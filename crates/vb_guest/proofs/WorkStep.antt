@@ -10,7 +10,7 @@ use Rattle.vb_model.specs.declared.calls.Call.TheVariants.{Work}
 use Rattle.vb_model.specs.declared.replies.Refusal.{Refusal}
 use Rattle.vb_model.specs.declared.replies.Refusal.TheVariants.{NotReady}
 use Rattle.vb_model.specs.declared.replies.Reply.{Reply}
-use Rattle.vb_model.specs.declared.replies.Reply.TheVariants.{Idle, Worked, Refused}
+use Rattle.vb_model.specs.declared.replies.Reply.TheVariants.{Worked}
 use Rattle.vb_model.specs.Requests.{Request, Requests, Inflating}
 use Rattle.vb_model.specs.Guest.{Guest, frame_of}
 use Rattle.vb_model.specs.Device.{visiting, visited}
@@ -38,52 +38,31 @@ use Rattle.vb_guest.proofs.ReportLines.{report_apart}
 use Rattle.vb_guest.proofs.Heads.{heads-visiting, all-visiting}
 use Rattle.vb_guest.proofs.Discarding.{frames_freed}
 use Rattle.vb_guest.proofs.PagesKept.{pages_discarded, page_undiscarded}
-use Rattle.vb_guest.proofs.Closing.{honest_refused, honest_performed, still_stands, guest_step}
-use Rattle.vb_guest.proofs.Closing.{ties_same}
-use Rattle.vb_guest.proofs.Handing.{handed_back, loose_none, not_among, behind_same}
+use Rattle.vb_guest.proofs.Closing.{honest_performed, still_stands, guest_step, ties_same}
+use Rattle.vb_guest.proofs.Handing.{handed_back, not_among, behind_same}
 use Rattle.vb_guest.proofs.WorkReportStep.{visit_of, WorksOn, next_taken, work_report}
 
 -- ---- refusals
 
 running_part : (part : Part) → part.status ≡ 15 → work_refusal part ≡ None
-running_part part e =
-    let P : ℕ → Type 0 = λ s. work_refusal (record part { status = s }) ≡ None in
-    subst P (sym e) refl
+running_part part e = grind arith
 
 running : (g : Guest) → g.status ≡ 15 → refusal_of g Work ≡ None
-running g e =
-    let P : ℕ → Type 0 = λ s. refusal_of (record g { status = s }) Work ≡ None in
-    subst P (sym e) refl
+running g e = grind arith
 
 idle_part : (part : Part) → (part.status ≡ 0) ⊎ (part.status ≡ 131)
     → work_refusal part ≡ Some NotReady
-idle_part part down =
-    let P : ℕ → Type 0 = λ s. work_refusal (record part { status = s }) ≡ Some NotReady in
-    elim down [ inl e ↦ subst P (sym e) refl | inr e ↦ subst P (sym e) refl ]
+idle_part part down = grind arith
 
 idle_guest : (g : Guest) → (g.status ≡ 0) ⊎ (g.status ≡ 131) → refusal_of g Work ≡ Some NotReady
-idle_guest g down =
-    let P : ℕ → Type 0 = λ s. refusal_of (record g { status = s }) Work ≡ Some NotReady in
-    elim down [ inl e ↦ subst P (sym e) refl | inr e ↦ subst P (sym e) refl ]
+idle_guest g down = grind arith
 
 work_refused : (m1 m2 : Pages) (p1 p2 : Part) (d : DriverState) (g : Guest) (why : Refusal)
     (result : Result (Option WorkedPage) Refusal)
     → WorksBy m1 m2 p1 p2 result → Honest m1 p1 d g → work_refusal p1 ≡ Some why
     → refusal_of g Work ≡ Some why
     → StepsFreeing (Honest m2 (handed_back p2) d) p2.loose g Work (worked_reply result)
-work_refused m1 m2 p1 p2 d g why result did stands by_part by_model =
-    let (answer, part, memory) = did.refused why by_part in
-    let step = honest_refused g Work why by_model in
-    let same = ap handed_back part ∙ loose_none p1 stands.ties.parts.device.loose in
-    let none : p2.loose ≡ [] = ap (λ (p : Part). p.loose) part ∙ stands.ties.parts.device.loose in
-    subst (λ r. StepsFreeing (Honest m2 (handed_back p2) d) p2.loose g Work (worked_reply r))
-    (sym answer) (record {
-      new = g;
-      stands = still_stands m1 m2 p1 (handed_back p2) d d g Work [] (Refused why) g stands step
-          (ties_same m1 m2 p1 (handed_back p2) d d g memory same refl stands.ties);
-      step = guest_step g Work [] (Refused why) g stands.ties.parts.guest.honest step;
-      freed = λ n. omega (arith, ap (times n) none);
-    })
+work_refused m1 m2 p1 p2 d g why result did stands by_part by_model = grind arith
 
 -- ---- nothing to visit
 
@@ -94,25 +73,7 @@ work_idle : (m1 m2 : Pages) (p1 p2 : Part) (d : DriverState) (g : Guest)
     → next_visit 4 p1 ≡ None → visit_of g.config.paced g.inflate.taken ≡ None
     → visit_of g.config.paced g.report.taken ≡ None
     → StepsFreeing (Honest m2 (handed_back p2) d) p2.loose g Work (worked_reply result)
-work_idle m1 m2 p1 p2 d g result did stands by_part by_model here later there after =
-    let (answer, part, memory) = did.idle by_part here later in
-    let W : Option ℕ → Type 0 = λ a. WorksOn a (visit_of g.config.paced g.report.taken) g Idle g in
-    let R : Option ℕ → Type 0 = λ b. WorksOn None b g Idle g in
-    let step = honest_performed g Work [] Idle g by_model (
-      refl,
-      subst W (sym there)
-          (subst R (sym after) (refl, refl)),
-    ) in
-    let same = ap handed_back part ∙ loose_none p1 stands.ties.parts.device.loose in
-    let none : p2.loose ≡ [] = ap (λ (p : Part). p.loose) part ∙ stands.ties.parts.device.loose in
-    subst (λ r. StepsFreeing (Honest m2 (handed_back p2) d) p2.loose g Work (worked_reply r))
-    (sym answer) (record {
-      new = g;
-      stands = still_stands m1 m2 p1 (handed_back p2) d d g Work [] Idle g stands step
-          (ties_same m1 m2 p1 (handed_back p2) d d g memory same refl stands.ties);
-      step = guest_step g Work [] Idle g stands.ties.parts.guest.honest step;
-      freed = λ n. omega (arith, ap (times n) none);
-    })
+work_idle m1 m2 p1 p2 d g result did stands by_part by_model here later there after = grind arith
 
 -- ---- a visit
 

@@ -1,14 +1,14 @@
 -- A guest's write is a step of the definitions.
-use Rattle.std.specs.Prelude.{◌≡◌, ℕ, ◌+◌, ◌<◌, ◌≤◌, Bool, true, false, not, if◌then◌else◌, List}
-use Rattle.std.specs.Prelude.{[], ◌∷◌, length, Option, Some, None, IsSome, is_none, Result, Err}
-use Rattle.std.specs.Prelude.{IsOk, refl, ◌⊎◌}
+use Rattle.std.specs.Prelude.{◌≡◌, ℕ, ◌<◌, ◌≤◌, Bool, true, false, if◌then◌else◌, List, [], ◌∷◌}
+use Rattle.std.specs.Prelude.{length, Option, Some, None, IsSome, is_none, Result, Err, IsOk, refl}
+use Rattle.std.specs.Prelude.{◌⊎◌}
 use Rattle.std.proofs.Common.{sym, ◌∙◌, ap, subst, arith, inl, inr}
-use Rattle.std.proofs.lemmas.Bool.{cases_lt, cases_Bool}
+use Rattle.std.proofs.lemmas.Bool.{cases_lt}
 use Rattle.std.proofs.lemmas.Bool.Decides.{nat_tests}
 use Rattle.vb_model.specs.Layout.{reserved_pages}
 use Rattle.vb_model.specs.declared.calls.Call.TheVariants.{Write}
 use Rattle.vb_model.specs.declared.calls.Claim.{Claim}
-use Rattle.vb_model.specs.declared.calls.Claim.TheVariants.{Gave, GaveNoFrame, GaveNoMemory}
+use Rattle.vb_model.specs.declared.calls.Claim.TheVariants.{Gave}
 use Rattle.vb_model.specs.declared.replies.Refusal.{Refusal}
 use Rattle.vb_model.specs.declared.replies.Refusal.TheVariants.{NotHeld, OutOfRam}
 use Rattle.vb_model.specs.declared.replies.Refusal.TheVariants.{NoFrame as NoFrameLeft}
@@ -21,7 +21,6 @@ use Rattle.vb_model.specs.Driver.{overwritten, pages_needed, Supplying, Written}
 use Rattle.vb_ram.specs.declared.fault.RamFault.{RamFault}
 use Rattle.vb_ram.specs.declared.fault.RamFault.TheVariants.{OutOfRam as OutOfMemory, NeedsFrame}
 use Rattle.vb_ram.specs.Pages.{Pages, frame_at, Covers, Wrote, Supplied}
-use Rattle.vb_model.specs.Step.{HonestStep}
 use Rattle.vb_ram.specs.Part.{Part}
 use Rattle.vb_driver.specs.State.{DriverState}
 use Rattle.vb_model.specs.Orderly.{times}
@@ -31,8 +30,8 @@ use Rattle.vb_frames.specs.Out.{claim_in}
 use Rattle.vb_guest.specs.Stands.{Honest, Ties}
 use Rattle.vb_guest.specs.Steps.{backing_count, StepsAlone, StepsOver}
 use Rattle.vb_guest.specs.Supply.{supply_of, IsClaimed, Moves, nothing}
-use Rattle.vb_guest.proofs.Closing.{first_holds, honest_performed, guest_step, still_stands}
-use Rattle.vb_guest.proofs.Closing.{steps_alone, refused_alone, honest_own}
+use Rattle.vb_guest.proofs.Closing.{honest_performed, guest_step, still_stands, steps_alone}
+use Rattle.vb_guest.proofs.Closing.{honest_own}
 use Rattle.vb_guest.proofs.Writing.{at_page, used_high, pages_wrote, pages_supplied, running_apart}
 use Rattle.vb_guest.proofs.Writing.{idle_still, count_backed}
 use Rattle.vb_guest.proofs.Moving.{moves_as, times_one}
@@ -57,35 +56,19 @@ inside_is g mem page off len e covers = let lt = covers.page in let fits = cover
 pub write_not_held : (m : Pages) (p : Part) (d : DriverState) (g : Guest) (page off : ℕ)
     (bs : List ℕ) → is_used (place_of d.places page) ≡ false → Honest m p d g
     → StepsAlone (Honest m p d) g (Write page off bs) (Refused NotHeld)
-write_not_held m p d g page off bs free stands =
-    let unused : is_used (place_of g.places page) ≡ false =
-    ap (λ l. is_used (place_of l page)) (sym stands.ties.parts.driver.places) ∙ free in
-    refused_alone m m p p d d g (Write page off bs) NotHeld stands
-    (first_holds (not (is_used (place_of g.places page))) NotHeld
-    ((is_outside g page off (length bs) ⇒ OutOfRam) ∷ []) (ap not unused)) refl refl refl
+write_not_held m p d g page off bs free stands = grind arith
 
 -- what is tested where the page is used
 pub write_tests : (g : Guest) (page off : ℕ) (bs : List ℕ) → is_used (place_of g.places page) ≡ true
     → refusal_of g (Write page off bs)
     ≡ first_refusal ((is_outside g page off (length bs) ⇒ OutOfRam) ∷ [])
-write_tests g page off bs used =
-    ap (λ (b : Bool). first_refusal
-    ((not b ⇒ NotHeld) ∷ (is_outside g page off (length bs) ⇒ OutOfRam) ∷ [])) used
+write_tests g page off bs used = grind arith
 
 pub write_outside : (m1 m2 : Pages) (p1 p2 : Part) (d : DriverState) (g : Guest) (page off : ℕ)
     (bs : List ℕ) → is_used (place_of d.places page) ≡ true → Honest m1 p1 d g → m2 ≡ m1 → p2 ≡ p1
     → (Covers m1 page off (length bs) → ⊥)
     → StepsAlone (Honest m2 p2 d) g (Write page off bs) (Refused OutOfRam)
-write_outside m1 m2 p1 p2 d g page off bs used stands m p out =
-    let held : is_used (place_of g.places page) ≡ true =
-    ap (λ l. is_used (place_of l page)) (sym stands.ties.parts.driver.places) ∙ used in
-    elim (cases_Bool (is_outside g page off (length bs))) [
-      | inl outside ↦ refused_alone m1 m2 p1 p2 d d g (Write page off bs) OutOfRam stands
-          (write_tests g page off bs held
-          ∙ first_holds (is_outside g page off (length bs)) OutOfRam [] outside) m p refl
-      | inr inside ↦ absurd
-          (out (outside_is g m1 page off (length bs) stands.ties.pages.length_is inside))
-    ]
+write_outside m1 m2 p1 p2 d g page off bs used stands m p out = search (arith, outside_is)
 
 -- which pages need a frame
 needs_none : (g : Guest) (page frame : ℕ) (bs : List ℕ) → frame_of g.frames page ≡ Some frame
@@ -162,55 +145,8 @@ pub write_unsupplied : (Answers : List Bool → Claim → Type 0) (out1 out2 : L
     → 0 < length bs → frame_at m1 page ≡ None → m2 ≡ m1 → p2 ≡ record p1 { own = p2.own }
     → StepsOver (Honest m2 p2 d) Answers (supply_of p1 out1) (supply_of p2 out2)
     (claim_in (Err why) ∷ []) g (Write page off bs) (Refused (refusal_of_claim why))
-write_unsupplied Answers out1 out2 m1 m2 p1 p2 d g page off bs why answer used stands covers some
-    bare m p = by why answer
-  where
-    held : is_used (place_of g.places page) ≡ true
-    held = ap (λ l. is_used (place_of l page)) (sym stands.ties.parts.driver.places) ∙ used
-
-    free : refusal_of g (Write page off bs) ≡ None
-    free = write_tests g page off bs held
-        ∙ ap (λ (b : Bool). first_refusal ((b ⇒ OutOfRam) ∷ []))
-        (inside_is g m1 page off (length bs) stands.ties.pages.length_is covers)
-
-    needs : pages_needed page bs g ≡ page ∷ []
-    needs = needs_one g page bs some (sym (stands.ties.pages.behind page) ∙ bare)
-
-    refused : (c : Claim) (w : Refusal)
-        → Supplying (page ∷ []) g (c ∷ []) (Refused w) g
-        (λ supplied. Written page off bs supplied (Refused w) g)
-        → HonestStep g (Write page off bs) (c ∷ []) (Refused w) g
-    refused c w does =
-        let W : List ℕ → Type 0 =
-        λ l. Supplying l g (c ∷ []) (Refused w) g
-        (λ supplied. Written page off bs supplied (Refused w) g) in
-        honest_performed g (Write page off bs) (c ∷ []) (Refused w) g free
-        (subst W (sym needs) does)
-
-    same : Honest m2 p2 d g
-    same = honest_own m1 m2 p1 p2 d g m p stands
-
-    by : (w : KeeperRefused) → IsClaimed Answers (supply_of p1 out1) (supply_of p2 out2) (claim_in (Err w))
-        → StepsOver (Honest m2 p2 d) Answers (supply_of p1 out1) (supply_of p2 out2)
-        (claim_in (Err w) ∷ []) g (Write page off bs) (Refused (refusal_of_claim w))
-    by NoFrame a = record {
-      new = g;
-      stands = same;
-      step = guest_step g (Write page off bs) _ _ g stands.ties.parts.guest.honest
-          (refused GaveNoFrame NoFrameLeft (refl, (refl, refl)));
-      answered = (supply_of p2 out2, a, refl);
-      moves = moves_as (supply_of p1 out1) (supply_of p2 out2) nothing nothing
-          (λ n. backing_count n g) (λ n. backing_count n g) a.moves (λ n. omega arith);
-    }
-    by Memory a = record {
-      new = g;
-      stands = same;
-      step = guest_step g (Write page off bs) _ _ g stands.ties.parts.guest.honest
-          (refused GaveNoMemory NoMemory (refl, (refl, refl)));
-      answered = (supply_of p2 out2, a, refl);
-      moves = moves_as (supply_of p1 out1) (supply_of p2 out2) nothing nothing
-          (λ n. backing_count n g) (λ n. backing_count n g) a.moves (λ n. omega arith);
-    }
+write_unsupplied Answers out1 out2 m1 m2 p1 p2 d g page off bs why answer used stands covers some bare m p =
+    search (arith, inside_is)
 
 -- a page that got a frame, and then was written
 pub write_supplied : (Answers : List Bool → Claim → Type 0) (out1 out2 : List Bool)
@@ -280,42 +216,13 @@ write_supplied Answers out1 out2 m1 m2 m3 m4 p1 p2 p3 p4 d g page off frame bs a
 
 -- ---- what the memory answered
 
-covers_or : (mem : Pages) (page off len : ℕ)
-    → Covers mem page off len ⊎ (Covers mem page off len → ⊥)
-covers_or mem page off len = elim (cases_lt page (length mem)) [
-  | inl inside ↦ elim (cases_lt (off + len) 4097) [
-    | inl fits ↦ inl (record { page = inside; bytes = omega arith })
-    | inr over ↦ inr (λ c. absurd (omega (arith, c.bytes)))
-  ]
-  | inr past ↦ inr (λ c. absurd (omega (arith, c.page)))
-]
-
-ok_is : {T E : Type 0} (r : Result T E) (e : E) → r ≡ Err e → IsOk r → ⊥
-ok_is {T} {E} r e is ok = let P : Result T E
-    → Type 0 = λ x. IsOk x in let wrong : P (Err e) = subst P is ok in
-    let same : false ≡ true = wrong in cc
-
-some_frame : (o : Option ℕ) → (o ≡ None) ⊎ IsSome o
-some_frame None = inl refl
-some_frame (Some f) = inr refl
-
 -- a refusal for want of a frame
 pub needs_frame : (mem : Pages) (page off len : ℕ) (r : Result (Unit {0}) RamFault)
     → (Covers mem page off len → IsSome (frame_at mem page) → IsOk r)
     → ((Covers mem page off len → ⊥) → r ≡ Err OutOfMemory)
     → (Covers mem page off len → len ≡ 0 → IsOk r) → r ≡ Err NeedsFrame
     → Covers mem page off len × (0 < len) × (frame_at mem page ≡ None)
-needs_frame mem page off len r backed out empty is =
-    elim (covers_or mem page off len) [
-      | inr past ↦ absurd (let wrong = out past in cc)
-      | inl covers ↦ elim (some_frame (frame_at mem page)) [
-        | inr has ↦ absurd (ok_is r NeedsFrame is (backed covers has))
-        | inl none ↦ elim (cases_lt 0 len) [
-          | inl some ↦ (covers, some, none)
-          | inr nothing ↦ absurd (ok_is r NeedsFrame is (empty covers (omega arith)))
-        ]
-      ]
-    ]
+needs_frame mem page off len r backed out empty is = grind arith
 
 -- any other refusal
 pub not_covered : (mem : Pages) (page off len : ℕ) (r : Result (Unit {0}) RamFault)
@@ -323,11 +230,4 @@ pub not_covered : (mem : Pages) (page off len : ℕ) (r : Result (Unit {0}) RamF
     → (Covers mem page off len → 0 < len → frame_at mem page ≡ None → r ≡ Err NeedsFrame)
     → (Covers mem page off len → len ≡ 0 → IsOk r)
     → r ≡ Err fault → (fault ≡ NeedsFrame → ⊥) → Covers mem page off len → ⊥
-not_covered mem page off len r fault backed needs empty is other covers =
-    elim (some_frame (frame_at mem page)) [
-      | inr has ↦ ok_is r fault is (backed covers has)
-      | inl none ↦ elim (cases_lt 0 len) [
-        | inl some ↦ (let same = needs covers some none in other cc)
-        | inr nothing ↦ ok_is r fault is (empty covers (omega arith))
-      ]
-    ]
+not_covered mem page off len r fault backed needs empty is other covers = grind arith

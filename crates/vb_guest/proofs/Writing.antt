@@ -1,27 +1,21 @@
 -- A write to a page of the guest's own.
-use Rattle.std.specs.Prelude.{◌≡◌, ◌≢◌, ℕ, ◌+◌, ◌<◌, ◌≤◌, ◌==◌, Bool, true, false, nat_lt}
-use Rattle.std.specs.Prelude.{if◌then◌else◌, List, [], ◌++◌, length, drop, take, Option, Some, None}
-use Rattle.std.specs.Prelude.{is_some, slice_set, slice_index_or, count_by, cond, refl, ◌⊎◌}
-use Rattle.std.proofs.Common.{sym, ◌∙◌, ap, subst, arith, inl, inr, eq-eqb, length-append}
-use Rattle.std.proofs.lemmas.Bool.{cases_eq, cases_lt, eqb-true, cases_Bool}
-use Rattle.std.proofs.lemmas.Bool.Decides.{nat_tests}
+use Rattle.std.specs.Prelude.{◌≡◌, ◌≢◌, ℕ, ◌+◌, ◌<◌, ◌≤◌, ◌==◌, true, if◌then◌else◌, List, length}
+use Rattle.std.specs.Prelude.{Option, Some, None, is_some, slice_set, slice_index_or, count_by}
+use Rattle.std.specs.Prelude.{refl, ◌⊎◌}
+use Rattle.std.proofs.Common.{sym, ◌∙◌, ap, subst, arith, inl, inr}
+use Rattle.std.proofs.lemmas.Bool.{cases_eq, cases_lt}
 use Rattle.std.proofs.lemmas.List.{ext_get_or, length-set, get_or-set_same, get_or-set_other}
-use Rattle.std.proofs.lemmas.List.{length-take-le, length-drop}
 use Rattle.std.proofs.lemmas.List.Sums.{sum_by-set}
-use Rattle.vb_model.specs.declared.places.Place.{Place}
-use Rattle.vb_model.specs.declared.places.Place.TheVariants.{Used}
 use Rattle.vb_model.specs.Tests.{one_if, each_page}
 use Rattle.vb_model.specs.Layout.{reserved_pages, is_start_page}
 use Rattle.vb_model.specs.Pages.{place_of, is_used}
 use Rattle.vb_model.specs.Requests.{Requests, Buffer}
-use Rattle.vb_model.specs.Guest.{Guest, zero_page, frame_of, backed}
+use Rattle.vb_model.specs.Guest.{Guest, frame_of, backed}
 use Rattle.vb_model.specs.Driver.{overwritten}
 use Rattle.vb_model.specs.Orderly.{IsOrderly}
-use Rattle.vb_model.specs.Pages.{is_reserved}
 use Rattle.vb_model.proofs.Tables.{length-each_from, each_page-get}
 use Rattle.vb_model.proofs.Shapes.{reserved_least, start_reserved}
-use Rattle.vb_ram.specs.Pages.{Pages, page_at, frame_at, contents_at, contents_of, number_of, Wrote}
-use Rattle.vb_ram.specs.Pages.{Supplied}
+use Rattle.vb_ram.specs.Pages.{Pages, frame_at, number_of, Wrote, Supplied}
 use Rattle.vb_ram.proofs.Contents.{contents_wrote}
 use Rattle.vb_ram.specs.Part.{Part}
 use Rattle.vb_driver.specs.State.{DriverState}
@@ -31,21 +25,13 @@ use Rattle.vb_guest.specs.Buffer.{BufferLine}
 use Rattle.vb_guest.specs.Stands.{HasPages, IsIdle, IsRunning}
 use Rattle.vb_guest.specs.Steps.{is_frame}
 use Rattle.vb_guest.proofs.Apart.{SameReserved, ring_same, line_apart, above_apart}
-use Rattle.vb_guest.proofs.RingHeads.{cond_one}
 use Rattle.vb_guest.proofs.BufferLines.{buffer_apart}
 use Rattle.vb_guest.proofs.ReportLines.{report_apart}
-
-used_not_reserved : (place : Place) → is_used place ≡ true → is_reserved place ≡ false
-used_not_reserved Used e = refl
-used_not_reserved _ e = absurd cc
 
 -- a used page isn't reserved
 pub used_high : (g : Guest) (page : ℕ) → IsOrderly g → is_used (place_of g.places page) ≡ true
     → page < g.config.pages → reserved_pages g.config.queue_size ≤ page
-used_high g page orderly used lt =
-    let e : nat_lt page (reserved_pages g.config.queue_size) ≡ false =
-    sym (orderly.unreserved page lt) ∙ used_not_reserved (place_of g.places page) used in
-    grind (arith, nat_tests)
+used_high g page orderly used lt = grind arith
 
 -- ---- one entry of a table
 
@@ -65,20 +51,11 @@ at_page-get page f xs i d lt =
 
 pub at_page-same : {A : Type 0} (page : ℕ) (f : A → A) (xs : List A) (i : ℕ) (d : A) → i < length xs
     → i ≡ page → slice_index_or (at_page page f xs) i d ≡ f (slice_index_or xs i d)
-at_page-same page f xs i d lt e =
-    at_page-get page f xs i d lt
-    ∙ ap (λ (b : Bool). if b then f (slice_index_or xs i d) else slice_index_or xs i d)
-    (eq-eqb i page e)
-
-other_not : (p i : ℕ) → p ≢ i → (p == i) ≡ false
-other_not p i ne = elim (cases_Bool (p == i)) [ inl e ↦ absurd (ne (eqb-true p i e)) | inr e ↦ e ]
+at_page-same page f xs i d lt e = grind (arith, at_page-get)
 
 pub at_page-other : {A : Type 0} (page : ℕ) (f : A → A) (xs : List A) (i : ℕ) (d : A)
     → i < length xs → i ≢ page → slice_index_or (at_page page f xs) i d ≡ slice_index_or xs i d
-at_page-other page f xs i d lt ne =
-    at_page-get page f xs i d lt
-    ∙ ap (λ (b : Bool). if b then f (slice_index_or xs i d) else slice_index_or xs i d)
-    (other_not i page ne)
+at_page-other page f xs i d lt ne = grind (arith, at_page-get)
 
 -- a frame that backs a page is one entry
 pub backed-set : (page frame : ℕ) (frames : List (Option ℕ)) → page < length frames
@@ -103,68 +80,16 @@ pub count_backed : (n page frame : ℕ) (frames : List (Option ℕ)) → page < 
     → frame_of frames page ≡ None
     → count_by (is_frame n) (backed page frame frames)
     ≡ count_by (is_frame n) frames + one_if (frame == n)
-count_backed n page frame frames lt bare =
-    let f : Option ℕ → ℕ = λ o. cond (is_frame n o) 1 0 in
-    let step : count_by (is_frame n) (slice_set frames page (Some frame)) + f
-    (slice_index_or frames page None) ≡ count_by (is_frame n) frames + f (Some frame) =
-    sum_by-set f frames page (Some frame) None lt in
-    let none : f (slice_index_or frames page None) ≡ 0 = ap f bare in
-    let one : f (Some frame) ≡ one_if (frame == n) = cond_one (frame == n) in
-    omega (arith, ap (count_by (is_frame n)) (backed-set page frame frames lt), step, none, one)
+count_backed n page frame frames lt bare = grind (arith, sum_by-set, backed-set)
 
 -- ---- memory
-
--- bytes overwritten within a page leave its size
-pub length-overwritten : (off : ℕ) (bs old : List ℕ) → off + length bs ≤ length old
-    → length (overwritten off bs old) ≡ length old
-length-overwritten off bs old fits =
-    omega (
-      arith,
-      length-append (take off old) (bs ++ drop (off + length bs) old),
-      length-append bs (drop (off + length bs) old),
-      length-take-le off old (omega arith),
-      length-drop (off + length bs) old,
-    )
 
 pub pages_wrote : (m1 m2 : Pages) (size n page off : ℕ) (bs : List ℕ) (frames : List (Option ℕ))
     (contents : List (List ℕ)) → reserved_pages size ≤ page → page < n → off + length bs ≤ 4096
     → HasPages m1 size n frames contents → Wrote m1 m2 page off bs
     → HasPages m2 size n frames (at_page page (overwritten off bs) contents)
 pages_wrote m1 m2 size n page off bs frames contents high lt fits has wrote =
-    let f : List ℕ → List ℕ = overwritten off bs in
-    let room : off + length bs ≤ length (contents_at m1 page) =
-    omega (
-      arith,
-      ap (λ (x : List ℕ). length x) (has.holds page high lt),
-      has.sizes page high lt,
-    ) in
-    record {
-      length_is = wrote.rest.count ∙ has.length_is;
-      framed = has.framed;
-      filled = length-at_page page f contents ∙ has.filled;
-      behind = λ p. wrote.rest.backing p ∙ has.behind p;
-      holds = λ p up low. elim (cases_eq p page) [
-        | inl same ↦
-            ap (λ (k : ℕ). contents_at m2 k) same ∙ contents_wrote m1 m2 page off bs wrote room
-            ∙ ap f (has.holds page high lt)
-            ∙ sym (ap (λ (k : ℕ). slice_index_or (at_page page f contents) k []) same
-            ∙ at_page-same page f contents page [] (omega (arith, has.filled)) refl)
-        | inr ne ↦
-            ap contents_of (wrote.rest.others p ne) ∙ has.holds p up low
-            ∙ sym (at_page-other page f contents p [] (omega (arith, has.filled)) ne)
-      ];
-      sizes = λ p up low. elim (cases_eq p page) [
-        | inl same ↦
-            ap (λ (k : ℕ). length (slice_index_or (at_page page f contents) k [])) same
-            ∙ ap (λ (x : List ℕ). length x)
-            (at_page-same page f contents page [] (omega (arith, has.filled)) refl)
-            ∙ length-overwritten off bs (slice_index_or contents page [])
-            (omega (arith, has.sizes page high lt)) ∙ has.sizes page high lt
-        | inr ne ↦ ap (λ (x : List ℕ). length x)
-            (at_page-other page f contents p [] (omega (arith, has.filled)) ne)
-            ∙ has.sizes p up low
-      ];
-    }
+    search (arith, length-at_page, contents_wrote, at_page-same, at_page-other)
 
 -- the pages of memory have these frames
 pub record HasFrames (mem : Pages) (count : ℕ) (frames : List (Option ℕ)) : Type 0 where
@@ -211,27 +136,10 @@ pub pages_supplied : (m1 m2 : Pages) (size n page frame : ℕ) (frames : List (O
     → HasPages m1 size n frames contents → Supplied m1 m2 page frame
     → HasPages m2 size n (backed page frame frames) contents
 pages_supplied m1 m2 size n page frame frames contents lt bare has did =
-    let all = frames_supplied m1 m2 n page frame frames lt
-    (frames_of m1 size n frames contents has)
-    did in
-    record {
-      length_is = all.length_is;
-      framed = all.framed;
-      filled = has.filled;
-      behind = all.behind;
-      holds = λ p up low. elim (cases_eq p page) [
-        | inl same ↦ ap (λ (k : ℕ). contents_at m2 k) same ∙ did.contents
-            ∙ sym (zeros (page_at m1 page) bare) ∙ ap (λ (k : ℕ). contents_at m1 k) (sym same)
-            ∙ has.holds p up low
-        | inr ne ↦ ap contents_of (did.others p ne) ∙ has.holds p up low
-      ];
-      sizes = has.sizes;
-    }
-  where
-    zeros : (x : Option Rattle.vb_ram.specs.Pages.Page) → number_of x ≡ None
-        → contents_of x ≡ zero_page
-    zeros None e = refl
-    zeros (Some x) e = absurd cc
+    grind (
+      arith,
+      frames_supplied m1 m2 n page frame frames lt (frames_of m1 size n frames contents has) did,
+    )
 
 -- pages above those of rings and buffers change: the queues are as before
 pub running_apart : (m1 m2 : Pages) (p : Part) (d : DriverState) (g new : Guest)
@@ -283,14 +191,5 @@ pub idle_still : (g new : Guest) → new.status ≡ g.status → new.config ≡ 
     → new.inflate ≡ g.inflate → new.deflate ≡ g.deflate → new.report ≡ g.report
     → new.buffer ≡ g.buffer → new.ballooned ≡ g.ballooned → new.actual ≡ g.actual
     → new.last ≡ g.last → IsIdle g → IsIdle new
-idle_still g new status config inflate deflate report buffer ballooned actual last idle = record {
-  state = elim idle.state [ inl e ↦ inl (status ∙ e) | inr e ↦ inr (status ∙ e) ];
-  inflate = inflate ∙ idle.inflate;
-  deflate = deflate ∙ idle.deflate;
-  report = report ∙ idle.report;
-  buffer = buffer ∙ idle.buffer;
-  ballooned = ballooned ∙ idle.ballooned
-      ∙ ap (λ c. Rattle.std.specs.Prelude.replicate c.pages false) (sym config);
-  actual = actual ∙ idle.actual;
-  last = last ∙ idle.last;
-}
+idle_still g new status config inflate deflate report buffer ballooned actual last idle =
+    grind arith
