@@ -39,12 +39,9 @@ abbrev pub PlugsIn : ℕ → ℕ → ℕ → List Bool → World → Reply → W
 PlugsIn pages queue_size processors [] w reply new = ⊥
 PlugsIn pages queue_size processors (paced ∷ rest) w reply new =
     ((reply ≡ Refused NoMemory) × (new ≡ w))
-    ⊎ Plugs (record {
-      pages = pages;
-      queue_size = queue_size;
-      processors = processors;
-      paced = paced;
-    }) rest w reply new
+    ⊎ Plugs
+    (record { pages = pages; queue_size = queue_size; processors = processors; paced = paced })
+    rest w reply new
 
 -- a guest's own step; what its claims get is the host's
 abbrev pub Calls : ℕ → Guest → World → Call → Reply → World → Type 0
