@@ -29,9 +29,7 @@ cond_same false x = refl
 
 pub discarded-at : (pages : List ℕ) (mem : Pages) (q : ℕ) →
     page_at (discarded pages mem) q ≡ cond (is_in q pages) None (page_at mem q)
-discarded-at pages mem q =
-    each_page-get (λ page old. cond (is_in page pages) None old) mem q None
-    (λ l. cond_same (is_in q pages) None)
+discarded-at pages mem q = grind (arith, each_page-get, cond_same)
 
 pub discarded-length : (pages : List ℕ) (mem : Pages) → length (discarded pages mem) ≡ length mem
 discarded-length pages mem = length-each_from 0 (λ page old. cond (is_in page pages) None old) mem
@@ -39,8 +37,11 @@ discarded-length pages mem = length-each_from 0 (λ page old. cond (is_in page p
 pub in_more : (pages : List ℕ) (i q : ℕ) → i < length pages →
     is_in q (take (i + 1) pages) ≡ (is_in q (take i pages) || ((get_or pages i 0 == q) || false))
 in_more pages i q lt =
-    ap (is_in q) (take_more pages i 0 lt) ∙
-    list_any-append (λ m. m == q) (take i pages) (get_or pages i 0 ∷ [])
+    grind (
+      arith,
+      take_more pages i 0 lt,
+      list_any-append (λ m. m == q) (take i pages) (get_or pages i 0 ∷ []),
+    )
 
 pub or_true : (a b : Bool) → b ≡ true → (a || (b || false)) ≡ true
 or_true true b e = refl
@@ -90,9 +91,7 @@ frame_now first mem pages i page e =
 frames_push : (first : Pages) (pages : List ℕ) (page : ℕ) →
     frames_behind first (pages ++ page ∷ []) ≡
     frames_behind first pages ++ option_to_list (frame_at first page)
-frames_push first pages page =
-    flat_map-append (λ p. option_to_list (frame_at first p)) pages (page ∷ []) ∙
-    ap (λ xs. frames_behind first pages ++ xs) (append-nil (option_to_list (frame_at first page)))
+frames_push first pages page = grind (arith, flat_map-append, append-nil)
 
 -- the frames behind pages of which each counts once, with one page more
 once_push : (first : Pages) (once : List ℕ) (page : ℕ) (b : Bool) →
@@ -154,10 +153,12 @@ past_none mem page le = get_or_past mem page None le
 loses_inside : (old new : Pages) (page : ℕ) → page < length old → Discarded old new page →
     frame_count new + one_if (is_some (page_at old page)) ≡ frame_count old
 loses_inside old new page lt d =
-    let all = sum_by-set (λ (o : Option Page). cond (is_some o) 1 0) old page None None lt in
-    let is : frame_count new ≡ frame_count (set old page None) =
-    ap frame_count (discarded_is old new page lt d) in
-    omega (arith, all, is, one_is (is_some (page_at old page)))
+    grind (
+      arith,
+      sum_by-set (λ (o : Option Page). cond (is_some o) 1 0) old page None None lt,
+      discarded_is old new page lt d,
+      one_is (is_some (page_at old page)),
+    )
 
 none_of : (o p : Option Page) (P : Type 0) → o ≡ p → IfNone o P → p ≡ None → P
 none_of None p P e is none = is
@@ -167,36 +168,25 @@ none_of (Some x) p P e is none = absurd cc
 loses_one : (old new : Pages) (page : ℕ) → Discarded old new page →
     (page_at old page ≡ None → new ≡ old) →
     frame_count new + one_if (is_some (page_at old page)) ≡ frame_count old
-loses_one old new page d same = elim (cases_lt page (length old)) [
-  | inl lt ↦ loses_inside old new page lt d
-  | inr le ↦
-      (let none : page_at old page ≡ None = past_none old page le in
-      omega (
-        arith,
-        ap frame_count (same none),
-        ap (λ (o : Option Page). one_if (is_some o)) none,
-      ))
-]
+loses_one old new page d same = grind (arith, cases_lt, loses_inside, past_none)
 
 -- the same, by what was found behind the page
 pub loses_found : (old new : Pages) (page : ℕ) (found : Option Page) → found ≡ page_at old page →
     Discarded old new page → IfNone found (new ≡ old) →
     frame_count new + one_if (is_some found) ≡ frame_count old
-loses_found old new page found is d same =
-    omega (
-      arith,
-      loses_one old new page d (none_of found (page_at old page) (new ≡ old) is same),
-      ap (λ (o : Option Page). one_if (is_some o)) is,
-    )
+loses_found old new page found is d same = grind (arith, loses_one, none_of)
 
 -- ---- all pages
 
 -- the pages of a memory, with one page more
 pages_more : (n : ℕ) → range_with_len 0 (n + 1) ≡ range_with_len 0 n ++ n ∷ []
 pages_more n =
-    sym (map-id (range_with_len 0 (n + 1)))
-    ∙ (map-range_with_len_more (λ (k : ℕ). k) 0 n n (omega arith) ∙
-    ap (λ (ns : List ℕ). ns ++ n ∷ []) (map-id (range_with_len 0 n)))
+    grind (
+      arith,
+      map-id (range_with_len 0 (n + 1)),
+      map-range_with_len_more (λ (k : ℕ). k) 0 n n (omega arith),
+      map-id (range_with_len 0 n),
+    )
 
 page_is_new : (n : ℕ) (b : Bool) → is_in n (range_with_len 0 n) ≡ b → b ≡ false
 page_is_new n true e = absurd (omega (arith, (is_in-range n 0 n e).1))
@@ -249,7 +239,4 @@ low_not_in reserved p (x ∷ xs) l above =
 pub reserved_still : (reserved p : ℕ) (pages : List ℕ) (mem new : Pages) → p < reserved
     → All (λ page. reserved ≤ page) pages → new ≡ discarded pages mem
     → page_at new p ≡ page_at mem p
-reserved_still reserved p pages mem new l above e =
-    ap (λ (m : Pages). page_at m p) e ∙
-    (discarded-at pages mem p ∙
-    ap (λ b. cond b None (page_at mem p)) (low_not_in reserved p pages l above))
+reserved_still reserved p pages mem new l above e = grind (arith, discarded-at, low_not_in)

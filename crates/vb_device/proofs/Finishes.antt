@@ -1,8 +1,8 @@
 -- A finish by a device, from the end of its queue.
-use Rattle.std.specs.Prelude.{◌≡◌, ℕ, ◌+◌, ◌%◌, ◌<◌, ◌≤◌, Bool, true, false, not, ◌==◌, ◌&&◌, List}
+use Rattle.std.specs.Prelude.{◌≡◌, ℕ, ◌+◌, ◌%◌, ◌<◌, ◌≤◌, Bool, true, not, ◌==◌, ◌&&◌, List}
 use Rattle.std.specs.Prelude.{[], length, remove, Option, Some, None, OnSome, is_none}
 use Rattle.std.specs.Prelude.{if◌then◌else◌, slice_get, All, refl}
-use Rattle.std.proofs.Common.{sym, ◌∙◌, ap, subst, arith, inl, inr, rules}
+use Rattle.std.proofs.Common.{sym, ◌∙◌, ap, subst, arith, rules}
 use Rattle.vb_model.specs.Device.{next_page}
 use Rattle.std.proofs.lemmas.Bool.{cases_eq}
 use Rattle.vb_model.specs.declared.replies.Refusal.{Refusal}
@@ -19,7 +19,6 @@ use Rattle.vb_device.specs.Conditions.{finish_refusal}
 use Rattle.vb_device.specs.Queues.{queue_end, with_queue}
 use Rattle.vb_model.specs.declared.replies.LastStatistics.{LastStatistics}
 use Rattle.vb_device.specs.QueueState.{QueueState, part_of, taken_refusal}
-use Rattle.vb_device.specs.Discards.{discarded}
 use Rattle.vb_device.specs.Base.{index_of, queue_at, base_part, IsDeviceQueue, IsBase, with_pace}
 use Rattle.vb_device.specs.BaseCalls.{queue_refusal, UsesChain, CanUse}
 use Rattle.vb_request.specs.Refusals.{readiness_refusal}
@@ -68,22 +67,15 @@ end_is : (r : DeviceEnd) (l : Layout) (n : ℕ) → r.layout ≡ l → r.size �
       next_avail = r.next_avail;
       next_used = r.next_used;
     }
-end_is r l n a b c =
-    ap (λ (x : Layout). record r { layout = x }) a ∙
-    (ap (λ (x : ℕ). record r { layout = l; size = x }) b ∙
-    ap (λ (x : Bool). record r { layout = l; size = n; ready = x }) c)
+end_is r l n a b c = search (arith)
 
 ends_so : (m1 m2 : Pages) (a b c d : DeviceEnd) (h : ℕ) → a ≡ c → b ≡ d → AddsUsedBy m1 m2 a b h 0 →
     AddsUsedBy m1 m2 c d h 0
-ends_so m1 m2 a b c d h e f adds =
-    subst (λ (x : DeviceEnd). AddsUsedBy m1 m2 x d h 0) e
-    (subst (λ (x : DeviceEnd). AddsUsedBy m1 m2 a x h 0) f adds)
+ends_so m1 m2 a b c d h e f adds = search (arith)
 
 queue_is : (x : QueueState) (ring : DeviceEnd) (taken : List Request) → x.ring ≡ ring →
     x.taken ≡ taken → x ≡ record { ring = ring; taken = taken }
-queue_is x ring taken e f =
-    ap (λ (r : DeviceEnd). record x { ring = r }) e ∙
-    ap (λ (ts : List Request). record { ring = ring; taken = ts }) f
+queue_is x ring taken e f = search (arith)
 
 -- the device's end of a queue
 end_of_queue : (q : ℕ) (mem : Pages) (s f t a n : ℕ) (qs : List QueueState) (l : LastStatistics)
@@ -91,14 +83,7 @@ end_of_queue : (q : ℕ) (mem : Pages) (s f t a n : ℕ) (qs : List QueueState) 
     queue_at q qs ≡ x → x.ring.layout ≡ layout_of (ring_page n q) n → x.ring.size ≡ n →
     x.ring.ready ≡ true → x.ring ≡ queue_end q (base_part s f t a n qs l loose)
 end_of_queue q mem s f t a n qs l loose x known at ring size ready =
-    end_is x.ring (layout_of (ring_page n q) n) n ring size ready ∙
-    ap (λ (k : QueuePart). record {
-      layout = layout_of (ring_page n q) n;
-      size = n;
-      ready = true;
-      next_avail = k.next_avail;
-      next_used = k.next_used;
-    }) (sym (part_get q s f t a n qs l loose known ∙ ap part_of at))
+    search (arith, end_is, part_get)
 
 -- a chain of one queue is used
 pub used_at : (q h : ℕ) (m1 m2 : Pages) (s f t a n c : ℕ) (qs : List QueueState)
@@ -139,10 +124,7 @@ nothing_taken ts index r e at =
 
 pub has_pages : (mem : Pages) (ts : List Request) (index : ℕ) (r : Request) →
     (length mem ≡ 0 → ts ≡ []) → slice_get ts index ≡ Some r → 0 < length mem
-has_pages mem ts index r none at = elim (cases_eq (length mem) 0) [
-  | inl e ↦ absurd (nothing_taken ts index r (none e) at)
-  | inr ne ↦ omega (arith, ne)
-]
+has_pages mem ts index r none at = grind (arith, cases_eq, nothing_taken)
 
 -- one queue's ring and memory's frames may have changed, and no count of pages
 pub base_used : (q : ℕ) (m1 m2 : Pages) (s n c1 c2 : ℕ) (qs : List QueueState) (x2 : QueueState) →
@@ -172,41 +154,17 @@ base_used q m1 m2 s n c1 c2 qs x2 b known len same pos layout size ready =
 -- the same where no queue is changed
 pub base_same : (m1 m2 : Pages) (s n c1 c2 : ℕ) (qs : List QueueState) → IsBase m1 s n qs c1 →
     length m2 ≡ length m1 → c2 ≡ c1 → 0 < length m1 → IsBase m2 s n qs c2
-base_same m1 m2 s n c1 c2 qs b len same pos =
-    let large : 64 ≤ length m1 = b.large pos in
-    let fits : length m1 ≤ c1 = b.room in
-    record {
-      four = b.four;
-      size = b.size;
-      each = λ q known. (let is = b.each q
-          known in record {
-            ring = is.ring;
-            size = is.size;
-            ready = is.ready;
-            idle = λ z. absurd (omega (arith, len, pos, z));
-            none = λ z. absurd (omega (arith, len, pos, z));
-          });
-      large = λ l. omega (arith, len, large);
-      room = omega (arith, len, same, fits);
-    }
+base_same m1 m2 s n c1 c2 qs b len same pos = search (arith)
 
 -- what can be used after a request was taken out
 pub kept_length : (q : ℕ) (pages : List ℕ) (mem : Pages) →
     length (without_frames q pages mem) ≡ length mem
-kept_length q pages mem = by_queue (q == 1)
-  where
-    by_queue : (b : Bool) → length (if b then mem else discarded pages mem) ≡ length mem
-    by_queue true = refl
-    by_queue false = discarded-length pages mem
+kept_length q pages mem = grind (arith, discarded-length)
 
 kept_page : (reserved q p : ℕ) (pages : List ℕ) (mem : Pages) → p < reserved
     → All (λ page. reserved ≤ page) pages
     → page_at (without_frames q pages mem) p ≡ page_at mem p
-kept_page reserved q p pages mem low above = by_queue (q == 1)
-  where
-    by_queue : (b : Bool) → page_at (if b then mem else discarded pages mem) p ≡ page_at mem p
-    by_queue true = refl
-    by_queue false = reserved_still reserved p pages mem (discarded pages mem) low above refl
+kept_page reserved q p pages mem low above = grind (arith, reserved_still)
 
 pub can_use : (q h : ℕ) (pages : List ℕ) (m1 m2 : Pages) (s f t a n c : ℕ)
     (qs : List QueueState) (x2 : QueueState) (l : LastStatistics) (loose : List Page) →
@@ -230,13 +188,7 @@ can_use q h pages m1 m2 s f t a n c qs x2 l loose is known ok lt above mem backe
 -- a request whose next page is visited stands in memory that has pages
 pub visits_attached : (mem : Pages) (ts : List Request) (page : ℕ) →
     (length mem ≡ 0 → ts ≡ []) → next_page ts ≡ Some page → 0 < length mem
-visits_attached mem ts page none at = elim (cases_eq (length mem) 0) [
-  | inl e ↦ absurd (no_page page (sym (ap next_page (none e)) ∙ at))
-  | inr ne ↦ omega (arith, ne)
-]
-  where
-    no_page : (page : ℕ) → None ≡ Some page → ⊥
-    no_page page e = cc
+visits_attached mem ts page none at = grind (arith, cases_eq)
 
 pub visits_some : (mem : Pages) (ts : List Request) (found : Option ℕ) →
     (length mem ≡ 0 → ts ≡ []) → found ≡ next_page ts → OnSome found (0 < length mem)
@@ -246,13 +198,7 @@ visits_some mem ts (Some page) none at = visits_attached mem ts page none (sym a
 -- what may be finished is on a queue of requests, of a device that is ready
 queue_open : (q index : ℕ) (part : Part) → finish_refusal q index part ≡ None
     → queue_refusal q part.status ≡ None
-queue_open q index part free = at (queue_refusal q part.status) refl
-  where
-    at : (o : Option Refusal) → queue_refusal q part.status ≡ o
-        → queue_refusal q part.status ≡ None
-    at None e = e
-    at (Some why) e =
-        absurd (none_some (finish_refusal q index part) why free (queue_finish q index part why e))
+queue_open q index part free = grind (arith, none_some, queue_finish)
 
 -- and is there
 taken_there : (visits : Bool) (taken : Option Request) → taken_refusal visits taken ≡ None

@@ -1,55 +1,27 @@
 -- The four queues of a device, of which one is changed, or all.
 use Rattle.std.specs.Prelude.{◌≡◌, ℕ, ◌<◌, ◌≤◌, Bool, true, false, List, [], ◌∷◌, length, map, refl}
-use Rattle.std.proofs.Common.{sym, ◌∙◌, ap, subst, arith, get_or, inl, inr}
+use Rattle.std.proofs.Common.{sym, ◌∙◌, subst, arith, get_or}
 use Rattle.std.proofs.lemmas.List.{length-map}
 use Rattle.std.proofs.Math.ListN.{set, length-set}
 use Rattle.vb_ram.specs.Pages.{Page, Pages}
 use Rattle.vb_model.specs.declared.replies.LastStatistics.{LastStatistics}
 use Rattle.vb_model.specs.Status.{contains, driver_ok}
 use Rattle.vb_model.specs.Tables.{has_chains, is_queue_of_requests}
-use Rattle.vb_model.proofs.Queues.{queue_cases, no_chains_at, no_requests_at}
+use Rattle.vb_model.proofs.Queues.{queue_cases}
 use Rattle.vb_model.specs.Layout.{ring_page}
 use Rattle.vb_ring.specs.Layout.{IsSize}
 use Rattle.vb_device.specs.Queues.{queue_part, with_queue}
 use Rattle.vb_device.specs.QueueState.{QueueState, part_of, new_queue, restarted}
 use Rattle.vb_device.specs.Base.{index_of, queue_at, new_queues, base_part, IsDeviceQueue, IsBase}
 
-true_false : (b : Bool) → b ≡ true → b ≡ false → ⊥
-true_false b e f = cc
-
 -- what holds of queues 0, 1, 2 and 4 holds of each queue
 pub at_each : (P : ℕ → Type 0) → P 0 → P 1 → P 2 → P 4 → (q : ℕ) → has_chains q ≡ true → P q
-at_each P a b c d q known = elim (queue_cases q) [
-  | inl e ↦ subst P (sym e) a
-  | inr r ↦ elim r [
-    | inl e ↦ subst P (sym e) b
-    | inr r2 ↦ elim r2 [
-      | inl e ↦ subst P (sym e) c
-      | inr r3 ↦ elim r3 [
-        | inl e ↦ subst P (sym e) d
-        | inr other ↦ absurd (true_false (has_chains q) known (no_chains_at q other))
-      ]
-    ]
-  ]
-]
+at_each P a b c d q known = grind (arith, queue_cases q)
 
 -- the same of the queues on which requests are finished
 pub at_requests : (P : ℕ → Type 0) → P 0 → P 1 → P 4 → (q : ℕ) → is_queue_of_requests q ≡ true →
     P q
-at_requests P a b d q known = elim (queue_cases q) [
-  | inl e ↦ subst P (sym e) a
-  | inr r ↦ elim r [
-    | inl e ↦ subst P (sym e) b
-    | inr r2 ↦ elim r2 [
-      | inl e ↦ absurd (true_false (is_queue_of_requests q) known (ap is_queue_of_requests e))
-      | inr r3 ↦ elim r3 [
-        | inl e ↦ subst P (sym e) d
-        | inr other ↦
-            absurd (true_false (is_queue_of_requests q) known (no_requests_at q other))
-      ]
-    ]
-  ]
-]
+at_requests P a b d q known = grind (arith, queue_cases q)
 
 -- what holds of four queues holds of a list of that length
 of_four : (P : List QueueState → Type 0) →
@@ -100,9 +72,7 @@ set_four qs i x four = length-set qs i x ∙ four
 pub part_get : (q s f t a n : ℕ) (qs : List QueueState) (last : LastStatistics)
     (loose : List Page) → has_chains q ≡ true →
     queue_part q (base_part s f t a n qs last loose) ≡ part_of (queue_at q qs)
-part_get q s f t a n qs last loose known =
-    at_each (λ k. queue_part k (base_part s f t a n qs last loose) ≡ part_of (queue_at k qs))
-    refl refl refl refl q known
+part_get q s f t a n qs last loose known = grind (arith, at_each)
 
 -- the part after one queue is changed
 pub part_set : (q s f t a n : ℕ) (qs : List QueueState) (x : QueueState) (last : LastStatistics)
@@ -166,38 +136,18 @@ base_map : (f : QueueState → QueueState) (m1 m2 : Pages) (s1 s2 n c1 c2 : ℕ)
     (qs new : List QueueState) → IsBase m1 s1 n qs c1 → new ≡ map f qs →
     ((q : ℕ) (x : QueueState) → IsDeviceQueue m1 s1 n q x → IsDeviceQueue m2 s2 n q (f x)) →
     (0 < length m2 → 64 ≤ length m2) → length m2 ≤ c2 → IsBase m2 s2 n new c2
-base_map f m1 m2 s1 s2 n c1 c2 qs new b e one large room =
-    subst (λ (l : List QueueState). IsBase m2 s2 n l c2) (sym e) (record {
-      four = length-map qs f ∙ b.four;
-      size = b.size;
-      each = λ q known. subst (λ (x : QueueState). IsDeviceQueue m2 s2 n q x)
-          (sym (map_four f qs b.four q known)) (one q (queue_at q qs) (b.each q known));
-      large = large;
-      room = room;
-    })
+base_map f m1 m2 s1 s2 n c1 c2 qs new b e one large room = grind (arith, length-map, map_four)
 
 -- a queue that begins anew
 restarted_is : (mem : Pages) (s1 s2 n q : ℕ) (ready : Bool) (x : QueueState) →
     IsDeviceQueue mem s1 n q x → (contains s2 driver_ok ≡ true → ready ≡ true) →
     IsDeviceQueue mem s2 n q (restarted ready x)
-restarted_is mem s1 s2 n q ready x is goes = record {
-  ring = is.ring;
-  size = is.size;
-  ready = λ h. goes h;
-  idle = λ z. refl;
-  none = λ z. refl;
-}
+restarted_is mem s1 s2 n q ready x is goes = search (arith)
 
 -- the queues of a device that nobody started
 new_is : (mem : Pages) (s n q : ℕ) → (contains s driver_ok ≡ true → false ≡ true)
     → IsDeviceQueue mem s n q (new_queue (ring_page n q) n)
-new_is mem s n q stopped = record {
-  ring = refl;
-  size = refl;
-  ready = λ h. stopped h;
-  idle = λ z. refl;
-  none = λ z. refl;
-}
+new_is mem s n q stopped = search (arith)
 
 pub base_new : (mem : Pages) (s n c : ℕ) (qs : List QueueState) → qs ≡ new_queues n → IsSize n
     → (contains s driver_ok ≡ true → false ≡ true) → (0 < length mem → 64 ≤ length mem)
@@ -216,6 +166,4 @@ base_new mem s n c qs e is stopped large room =
 pub base_restarted : (mem : Pages) (s1 s2 n c : ℕ) (ready : Bool) (qs new : List QueueState) →
     IsBase mem s1 n qs c → new ≡ map (restarted ready) qs →
     (contains s2 driver_ok ≡ true → ready ≡ true) → IsBase mem s2 n new c
-base_restarted mem s1 s2 n c ready qs new b e goes =
-    base_map (restarted ready) mem mem s1 s2 n c c qs new b e
-    (λ q x is. restarted_is mem s1 s2 n q ready x is goes) b.large b.room
+base_restarted mem s1 s2 n c ready qs new b e goes = search (arith, base_map, restarted_is)

@@ -1,6 +1,6 @@
 -- Flags by page.
 use Rattle.std.specs.Prelude.{◌≡◌, ℕ, ◌+◌, ◌<◌, ◌≤◌, Bool, true, false, ◌==◌, List, [], length}
-use Rattle.std.specs.Prelude.{count_by, refl, cond, if◌then◌else◌}
+use Rattle.std.specs.Prelude.{count_by, refl, cond}
 use Rattle.std.proofs.Common.{sym, ◌∙◌, ap, arith, get_or, take, eq-eqb, inl, inr}
 use Rattle.std.proofs.Math.ListN.{set, length-set}
 use Rattle.std.proofs.lemmas.Bool.{cases_eq}
@@ -20,15 +20,11 @@ one_is false = refl
 pub count_set : (flags : List Bool) (i : ℕ) (flag old : Bool) → i < length flags →
     get_or flags i old ≡ old →
     count_by (λ b. b) (set flags i flag) + one_if old ≡ count_by (λ b. b) flags + one_if flag
-count_set flags i flag old lt at =
-    let whole = sum_by-set (λ b. cond b 1 0) flags i flag old lt in
-    omega (arith, whole, one_is flag, one_is old, ap {B = ℕ} (λ (b : Bool). cond b 1 0) at)
+count_set flags i flag old lt at = grind (arith, sum_by-set, one_is)
 
 pub count_has : (flags : List Bool) (i : ℕ) (old : Bool) → i < length flags →
     get_or flags i old ≡ old → one_if old ≤ count_by (λ b. b) flags
-count_has flags i old lt at =
-    let some = get_or-le-sum_by (λ b. cond b 1 0) flags i old lt in
-    omega (arith, some, one_is old, ap {B = ℕ} (λ (b : Bool). cond b 1 0) at)
+count_has flags i old lt at = grind (arith, get_or-le-sum_by, one_is)
 
 pub flagged-length : (pages : List ℕ) (flag : Bool) (flags : List Bool) →
     length (flagged pages flag flags) ≡ length flags
@@ -37,9 +33,7 @@ flagged-length pages flag flags =
 
 flagged-at : (pages : List ℕ) (flag : Bool) (flags : List Bool) (k : ℕ) → k < length flags →
     get_or (flagged pages flag flags) k false ≡ cond (is_in k pages) flag (get_or flags k false)
-flagged-at pages flag flags k lt =
-    each_page-get (λ page old. cond (is_in page pages) flag old) flags k false
-    (λ h. absurd (omega (arith, h, lt)))
+flagged-at pages flag flags k lt = grind (arith, each_page-get)
 
 pub flagged_none : (flag : Bool) (flags : List Bool) → flags ≡ flagged [] flag flags
 flagged_none flag flags =
@@ -81,9 +75,4 @@ flag_more first flags pages i page flag lt at e =
 
 pub after-length : (q : ℕ) (pages : List ℕ) (flags : List Bool) →
     length (flags_after q pages flags) ≡ length flags
-after-length q pages flags = by_queue (q == 4)
-  where
-    by_queue : (b : Bool) →
-        length (if b then flags else flagged pages (q == 0) flags) ≡ length flags
-    by_queue true = refl
-    by_queue false = flagged-length pages (q == 0) flags
+after-length q pages flags = grind (arith, flagged-length)

@@ -1,11 +1,11 @@
 -- A queue size within the limits is a power of two in the words of the machine.
 use Rattle.std.proofs.Common.{◌≡◌, ◌∙◌, ℕ, zero, suc, ◌<◌, ◌≤◌, Bool, true, false, refl, arith, inl}
 use Rattle.std.proofs.Common.{inr, ap, rules}
-use Rattle.std.specs.Prelude.{◌%◌, ◌==◌, not, ◌||◌, ◌&&◌, IsTrue}
+use Rattle.std.specs.Prelude.{not, ◌||◌, ◌&&◌, IsTrue}
 use Rattle.std.specs.Int as int
 use lib.Count
 use Rattle.std.proofs.lemmas.Bool.{cases_eq, and_parts}
-use Rattle.vb_model.specs.Limits.{is_config, is_between, is_power_of_two}
+use Rattle.vb_model.specs.Limits.{is_config, is_power_of_two}
 use Rattle.vb_ram.proofs.Limits.{config_limits}
 use Rattle.vb_ring.specs.Layout.{IsSize}
 use Rattle.vb_ring.proofs.Powers.{size_of_power}
@@ -48,27 +48,9 @@ pub size_is_power : (pages queue_size processors : ℕ) →
     is_config pages queue_size processors ≡ true →
     IsTrue (int.is_power_of_two queue_size) × (2 ≤ queue_size) × (queue_size ≤ 256)
 size_is_power pages queue_size processors h =
-    let limits = config_limits pages queue_size processors h in
-    let all =
-    and_parts (is_between 64 65536 pages && (pages % 16 == 0))
-    ((is_between 2 256 queue_size && is_power_of_two queue_size) && is_between 1 4 processors) h
-    in
-    let rest =
-    and_parts (is_between 2 256 queue_size && is_power_of_two queue_size)
-    (is_between 1 4 processors) all.1 in
-    let two = and_parts (is_between 2 256 queue_size) (is_power_of_two queue_size) rest.0 in (
-      is_true (int.is_power_of_two queue_size) (power queue_size two.1 limits.queue_most),
-      limits.queue_least,
-      limits.queue_most,
-    )
+    grind (arith, config_limits, and_parts, is_true, power)
 
 -- and a size that a queue may have
 pub size_is : (pages queue_size processors : ℕ) → is_config pages queue_size processors ≡ true
     → IsSize queue_size
-size_is pages queue_size processors h =
-    let power = size_is_power pages queue_size processors h in
-    size_of_power queue_size (of_true (int.is_power_of_two queue_size) power.0) power.1 power.2
-  where
-    of_true : (b : Bool) → IsTrue b → b ≡ true
-    of_true true t = refl
-    of_true false t = absurd (search rules)
+size_is pages queue_size processors h = grind (arith, power, size_is_power, size_of_power)

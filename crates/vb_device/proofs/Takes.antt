@@ -84,10 +84,7 @@ next_err q mem r1 r2 taken l f free ready pops =
 back : (r1 r2 r3 : DeviceEnd) → r1.next_avail < 65536 →
     r2 ≡ record r1 { next_avail = (r1.next_avail + 1) % 65536 } →
     r3 ≡ record r2 { next_avail = (r2.next_avail + 65535) % 65536 } → r3 ≡ r1
-back r1 r2 r3 small e f =
-    let n : ((r1.next_avail + 1) % 65536 + 65535) % 65536 ≡ r1.next_avail = omega arith in
-    f ∙ (ap (λ (r : DeviceEnd). record r { next_avail = (r.next_avail + 65535) % 65536 }) e ∙
-    ap (λ (k : ℕ). record r1 { next_avail = k }) n)
+back r1 r2 r3 small e f = search (arith)
 
 pub next_wrong : (q : ℕ) (mem : Pages) (r1 r2 r3 : DeviceEnd) (taken : List Request)
     (l : LastStatistics) (t : Taken)

@@ -20,10 +20,7 @@ once_more r = record r { visited = r.visited + 1 }
 visits_here : (r : Request) (rs : List Request) (b : Bool) → is_unvisited r ≡ b →
     (visiting (r ∷ rs) ≡ (if b then once_more r ∷ rs else r ∷ visiting rs)) ×
     (next_page (r ∷ rs) ≡ (if b then slice_get r.pages r.visited else next_page rs))
-visits_here r rs b e = (
-  ap (λ v. if v then once_more r ∷ rs else r ∷ visiting rs) e,
-  ap (λ v. if v then slice_get r.pages r.visited else next_page rs) e,
-)
+visits_here r rs b e = search (arith)
 
 -- the first request with a page that isn't visited is what is visited next
 first_visit : (rs : List Request) (i : ℕ) (d : Request) → i < length rs →
