@@ -19,3 +19,16 @@ pub mod TurnRows
 pub mod TurnLaws
 pub mod AskingLemmas
 pub mod PartsOfRunLemmas
+mod Samples
+mod RowFacts
+mod TouchFacts
+mod SoFarFacts
+mod TurnFacts
+mod TellingFacts
+mod AskingFacts
+mod PartsOfRunsFacts
+mod MachineFacts
+mod GivingFacts
+mod ChainFacts
+mod LookFacts
+mod WholeFacts

@@ -1,0 +1,151 @@
+-- What the calls of a device answer in C, worked out: each refusal, and what it leaves.
+use Rattle.std.proofs.Common.{refl, ap, arith, ℕ, List, [], ◌∷◌, length, Some, None, Ok, Err}
+use Rattle.vb_core.specs.declared.kinds.Kind.TheVariants.{Inflate}
+use Rattle.vb_core.specs.declared.device.Denial.TheVariants.{NoQueue, BadArgument, Misplaced}
+use Rattle.vb_core.specs.declared.device.Device.{Device}
+use Rattle.vb_core.specs.Devices.{new_device, placed}
+use Rattle.vb_core.specs.Rings.{used_entry}
+use Rattle.vb_c.specs.declared.answers.VbChain.{VbChain}
+use Rattle.vb_c.specs.declared.answers.VbNamed.{VbNamed}
+use Rattle.vb_c.specs.declared.answers.VbUsed.{VbUsed}
+use Rattle.vb_c.specs.declared.marks.VbMarked.{VbMarked}
+use Rattle.vb_c.specs.Answers.{figures_of, used_of}
+use Rattle.vb_c.specs.Chains.{NextFor, NamesFor, SaysFigures, Uses, UsesFor}
+use Rattle.vb_c.specs.Marks.{MarksFor}
+use Rattle.vb_c.specs.Registers.{Starts, WritesStatus, Places, PlacesFor}
+use Rattle.vb_c.proofs.Samples.{Same, settings, no_settings, begun, ready}
+
+abbrev target_of : Device → ℕ
+target_of d = d.target
+
+abbrev changed : Device → Device
+changed d = record d { target = 1 }
+
+-- ---- no queue
+
+abbrev no_queue : VbChain
+no_queue = record { code = 5; rule = 0; head = 0; pieces = 0; bytes = 0 }
+
+next_of_no_kind : NextFor None [] [] 0 [] begun begun no_queue
+next_of_no_kind = (refl, refl)
+
+next_of_no_kind_changes : NextFor None [] [] 0 [] begun (changed begun) no_queue → ⊥
+next_of_no_kind_changes h = let e : Same 1 0 = ap target_of h.1 in omega arith
+
+next_of_no_kind_succeeds : NextFor None [] [] 0 [] begun begun (record no_queue { code = 0 }) → ⊥
+next_of_no_kind_succeeds h = let e : Same 0 5 = ap (λ (c : VbChain). c.code) h.0 in omega arith
+
+abbrev names_nothing : VbNamed
+names_nothing = record { code = 5; rule = 0; head = 0; runs = 0; pages = 0; skipped = 0 }
+
+names_of_no_kind : NamesFor None [] 0 [] begun begun names_nothing
+names_of_no_kind = (refl, refl)
+
+names_of_no_kind_changes : NamesFor None [] 0 [] begun (changed begun) names_nothing → ⊥
+names_of_no_kind_changes h = let e : Same 1 0 = ap target_of h.1 in omega arith
+
+marks_of_no_kind : MarksFor None [] (1 ∷ []) (1 ∷ []) (record { code = 5; pages = 0 })
+marks_of_no_kind = (refl, refl)
+
+abbrev first_word : List ℕ → ℕ
+first_word [] = 0
+first_word (w ∷ ws) = w
+
+marks_of_no_kind_changes : MarksFor None [] (1 ∷ []) (3 ∷ []) (record { code = 5; pages = 0 }) → ⊥
+marks_of_no_kind_changes h = let e : Same 3 1 = ap first_word h.1 in omega arith
+
+marks_of_no_kind_succeeds : MarksFor None [] [] [] (record { code = 0; pages = 0 }) → ⊥
+marks_of_no_kind_succeeds h = let e : Same 0 5 = ap (λ (m : VbMarked). m.code) h.0 in omega arith
+
+-- ---- chains that are used
+
+uses_of_no_kind : UsesFor None 3 ready ready (used_of (Err NoQueue))
+uses_of_no_kind = (refl, refl)
+
+uses_of_no_kind_changes : UsesFor None 3 ready (changed ready) (used_of (Err NoQueue)) → ⊥
+uses_of_no_kind_changes h = let e : Same 1 0 = ap target_of h.1 in omega arith
+
+used_so : UsesFor (Some Inflate) 3 ready (record ready { inflate = record (placed 0 0x100 0x200 8) { next_used = 1 } })
+    (record { code = 0; element_at = 0x204; index_at = 0x202; id = 3; length = 0; index = 1 })
+unfolding lib.Count.ones
+used_so = record { denied = λ why e. absurd cc; used = λ e. (refl, refl) }
+
+abbrev used_code : VbUsed → ℕ
+used_code u = u.code
+
+-- a head that the ring hasn't, another element, one that isn't counted
+no_such_head : (d : Device) → Uses Inflate 8 ready d (used_of (Ok (used_entry (ready.inflate) 8))) → ⊥
+unfolding lib.Count.ones
+no_such_head d h = let e : Same 0 7 = ap used_code (h.denied BadArgument refl).0 in omega arith
+
+another_element : (d : Device) → Uses Inflate 3 ready d
+    (record { code = 0; element_at = 0x20c; index_at = 0x202; id = 3; length = 0; index = 1 }) → ⊥
+unfolding lib.Count.ones
+another_element d h = let e : Same 0x20c 0x204 = ap (λ (u : VbUsed). u.element_at) (h.used refl).0 in omega arith
+
+not_counted : Uses Inflate 3 ready ready (used_of (Ok (used_entry (ready.inflate) 3))) → ⊥
+unfolding lib.Count.ones
+not_counted h = let e : Same 0 1 = ap (λ (d : Device). d.inflate.next_used) (h.used refl).1 in omega arith
+
+-- ---- figures
+
+-- one byte is no figure
+figures_although_refused : SaysFigures (0 ∷ []) 102 [] ready (changed ready) (figures_of (Err BadArgument)) → ⊥
+unfolding lib.Count.ones
+figures_although_refused h = let e : Same 1 0 = ap target_of (h.denied BadArgument refl).1 in omega arith
+
+-- ---- a start
+
+started : Starts settings begun (new_device settings) 0
+started = record { made = λ e. (refl, refl); denied = λ e. absurd cc }
+
+not_started : Starts no_settings begun begun 7
+not_started = record { made = λ e. absurd cc; denied = λ e. (refl, refl) }
+
+started_although_refused : Starts no_settings begun (new_device no_settings) 7 → ⊥
+started_although_refused h = let e : Same 0 11 = ap (λ (d : Device). d.status) (h.denied refl).1 in omega arith
+
+left_as_it_was : Starts settings begun begun 0 → ⊥
+left_as_it_was h = let e : Same 11 0 = ap (λ (d : Device). d.status) (h.made refl).1 in omega arith
+
+refused_although_possible : (d : Device) → Starts settings begun d 7 → ⊥
+refused_although_possible d h = let e : Same 7 0 = (h.made refl).0 in omega arith
+
+-- ---- the status, features
+
+became_ready : WritesStatus 15 begun (record begun { status = 15 }) 0
+became_ready = record { denied = λ why e. absurd cc; accepted = λ e. (refl, refl) }
+
+-- a bit that is cleared is refused with 1
+cleared : WritesStatus 3 begun (record begun { status = 3 }) 1 → ⊥
+cleared h = let e : Same 3 11 = ap (λ (d : Device). d.status) (h.denied _ refl).1 in omega arith
+
+clears_although_refused : (d : Device) → WritesStatus 3 begun d 0 → ⊥
+clears_although_refused d h = let e : Same 0 1 = (h.denied _ refl).0 in omega arith
+
+not_written : WritesStatus 15 begun begun 0 → ⊥
+not_written h = let e : Same 11 15 = ap (λ (d : Device). d.status) (h.accepted refl).1 in omega arith
+
+-- ---- places
+
+placed_so : Places Inflate 0 0x100 0x200 8 begun (record begun { inflate = placed 0 0x100 0x200 8 }) 0
+unfolding lib.Count.ones
+placed_so = record { denied = λ why e. absurd cc; placed_so = λ e. (refl, refl) }
+
+in_another_queue : Places Inflate 0 0x100 0x200 8 begun (record begun { deflate = placed 0 0x100 0x200 8 }) 0 → ⊥
+unfolding lib.Count.ones
+in_another_queue h = let e : Same 0 8 = ap (λ (d : Device). d.inflate.size) (h.placed_so refl).1 in omega arith
+
+-- nine is no size, and once DRIVER_OK is set no queue is placed
+of_nine : (d : Device) → Places Inflate 0 0x100 0x200 9 begun d 0 → ⊥
+unfolding lib.Count.ones
+of_nine d h = let e : Same 0 6 = (h.denied Misplaced refl).0 in omega arith
+
+once_ready : (d : Device) → Places Inflate 0 0x100 0x200 8 ready d 0 → ⊥
+once_ready d h = let e : Same 0 7 = (h.denied BadArgument refl).0 in omega arith
+
+place_of_no_kind : PlacesFor None 0 0x100 0x200 8 begun begun 5
+place_of_no_kind = (refl, refl)
+
+place_of_no_kind_changes : PlacesFor None 0 0x100 0x200 8 begun (changed begun) 5 → ⊥
+place_of_no_kind_changes h = let e : Same 1 0 = ap target_of h.1 in omega arith

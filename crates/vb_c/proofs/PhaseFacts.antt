@@ -1,0 +1,234 @@
+-- Which notice plain data of C is, what is none, and what a notice says at its end, worked out.
+use Rattle.std.proofs.Common.{◌≡◌, refl, ap, arith, ℕ, Bool, true, false, [], ◌∷◌, map, Option, Some, None}
+use Rattle.vb_chain.specs.declared.fault.ChainFault.TheVariants.{TooLong}
+use Rattle.vb_core.specs.declared.kinds.Kind.TheVariants.{Inflate, Statistics}
+use Rattle.vb_core.specs.declared.device.Denial.TheVariants.{NoQueue, BadArgument, NotReady, NeedsReset, Misplaced, Broken}
+use Rattle.vb_monitor.specs.declared.regions.Spot.{Spot}
+use Rattle.vb_monitor.specs.declared.outcome.Tally.{Tally}
+use Rattle.vb_monitor.specs.declared.outcome.Outcome.{Outcome}
+use Rattle.vb_monitor.specs.declared.orders.Orders.{Orders}
+use Rattle.vb_monitor.specs.declared.orders.Told.TheVariants.{Nothing, Pages}
+use Rattle.vb_monitor.specs.declared.notice.Notice.{Notice}
+use Rattle.vb_monitor.specs.declared.step.Phase.{Phase}
+use Rattle.vb_monitor.specs.declared.step.Phase.TheVariants.{AwaitsIndex, AwaitsEntry, AwaitsDescriptor, AwaitsPart, Discards, AwaitsFlags, Ended}
+use Rattle.vb_c.specs.declared.notice.VbNotice.{VbNotice}
+use Rattle.vb_c.specs.Codes.{code_of_kind}
+use Rattle.vb_c.specs.Notices.{tally_of, phase_of, notice_of, end_code, end_rule, breaks, SaysEnd, Says, IsNotice, HasEnded}
+use Rattle.vb_c.specs.Serving.{held_by, held_then}
+use Rattle.vb_c.proofs.Samples.{Same, balloon}
+
+abbrev spot : Spot
+spot = record { region = 1; offset = 0x102 }
+
+abbrev none_at : Spot
+none_at = record { region = 0; offset = 0 }
+
+abbrev orders : Orders
+orders = record {
+  named = record { runs = 0; pages = 0; skipped = 0 };
+  figures = 0;
+  cuts = 0;
+  used = record { spots = record { id = none_at; length = none_at; index = none_at }; id = 0; length = 0; index = 0 };
+}
+
+-- each number another one, so that none stands for another
+abbrev notice : VbNotice
+notice = record {
+  what = 64;
+  kind = 0;
+  at = spot;
+  length = 4;
+  into = 3;
+  orders = orders;
+  number = 5;
+  from = 6;
+  in_file = 7;
+  cut_length = 8;
+  code = 2;
+  rule = 3;
+  interrupt = 1;
+  configuration = 0;
+  more = 0;
+  chains_left = 9;
+  pages_left = 10;
+  head = 11;
+  count = 12;
+  taken_head = 13;
+  given = 0;
+  taken = 1;
+  flag = 2;
+  phase = 1;
+}
+
+-- ---- what it waits for
+
+abbrev waits_at : ℕ → Option Phase
+waits_at n = phase_of (record notice { phase = n })
+
+each_phase : map waits_at (0 ∷ 1 ∷ 2 ∷ 3 ∷ 4 ∷ 5 ∷ 6 ∷ 7 ∷ []) ≡
+    Some (Ended (Some (Broken TooLong)) true false)
+    ∷ Some (AwaitsIndex spot)
+    ∷ Some (AwaitsEntry spot)
+    ∷ Some (AwaitsDescriptor spot (record { head = 11; count = 12; writing = true }))
+    ∷ Some (AwaitsPart spot (record { head = 11; count = 12; piece = 5; is_second = true; into = 3; length = 4 }))
+    ∷ Some (AwaitsFlags spot (Some (Broken TooLong)) false)
+    ∷ Some (Discards (record { region = 1; offset = 0x102; in_file = 7; length = 8 })
+    (record { head = 11; runs = 4; run = 5; from = 6 }))
+    ∷ None ∷ []
+each_phase = refl
+
+-- bytes that just have room, and those that haven't
+last_that_fits : phase_of (record notice { phase = 4; into = 1020 }) ≡
+    Some (AwaitsPart spot (record { head = 11; count = 12; piece = 5; is_second = true; into = 1020; length = 4 }))
+last_that_fits = refl
+
+one_past_it : phase_of (record notice { phase = 4; into = 1021 }) ≡ None
+one_past_it = refl
+
+tally_is : tally_of notice ≡ record { chains = 9; pages = 10; given = false; held = Some 13 }
+tally_is = refl
+
+none_taken : tally_of (record notice { taken = 0; given = 1 }) ≡
+    record { chains = 9; pages = 10; given = true; held = None }
+none_taken = refl
+
+abbrev at_index : Notice
+at_index = record {
+  kind = Inflate;
+  step = record { tally = tally_of notice; phase = AwaitsIndex spot };
+}
+
+a_notice : notice_of notice ≡ Some at_index
+a_notice = refl
+
+of_no_kind : notice_of (record notice { kind = 4 }) ≡ None
+of_no_kind = refl
+
+at_no_phase : notice_of (record notice { phase = 7 }) ≡ None
+at_no_phase = refl
+
+-- ---- what it says
+
+says_it_all : IsNotice notice (record { told = Nothing; gives = false }) at_index
+says_it_all = record { read = refl; says = tt; what = refl }
+
+abbrev kind_in : Option Notice → ℕ
+kind_in None = 4
+kind_in (Some n) = code_of_kind (Some (n.kind))
+
+-- not what is told beside, nor another kind's
+tells_nothing : IsNotice notice (record { told = Pages; gives = false }) at_index → ⊥
+tells_nothing h = let e : Same 64 65 = h.what in omega arith
+
+of_another_kind : IsNotice notice (record { told = Nothing; gives = false }) (record at_index { kind = Statistics }) → ⊥
+of_another_kind h = let e : Same 0 2 = ap kind_in h.read in omega arith
+
+-- 16 bytes of a descriptor, in front
+descriptor_elsewhere : Says (record notice { length = 16 }) (tally_of notice)
+    (AwaitsDescriptor spot (record { head = 11; count = 12; writing = true })) → ⊥
+descriptor_elsewhere h = let e : Same 3 0 = h.0 in omega arith
+
+half_a_descriptor : Says (record notice { length = 8; into = 0 }) (tally_of notice)
+    (AwaitsDescriptor spot (record { head = 11; count = 12; writing = true })) → ⊥
+half_a_descriptor h = let e : Same 8 16 = h.1 in omega arith
+
+-- ---- its end
+
+abbrev tally : Bool → Option ℕ → Tally
+tally given held = record { chains = 0; pages = 0; given = given; held = held }
+
+served : end_code None (tally true None) ≡ 0
+served = refl
+
+held : end_code None (tally false (Some 3)) ≡ 0
+held = refl
+
+nothing_stood_there : end_code None (tally false None) ≡ 1
+nothing_stood_there = refl
+
+-- why the last chain wasn't served counts before those that were
+refused : end_code (Some NeedsReset) (tally true None) ≡ 4
+refused = refl
+
+its_rule : end_rule (Some (Broken TooLong)) ≡ 3
+its_rule = refl
+
+no_rule : end_rule (Some NotReady) ≡ 0
+no_rule = refl
+
+none_broken : end_rule None ≡ 0
+none_broken = refl
+
+broken_alone : map breaks
+    (None ∷ Some (Broken TooLong) ∷ Some NotReady ∷ Some NeedsReset ∷ Some NoQueue ∷ Some Misplaced ∷ Some BadArgument ∷ []) ≡
+    false ∷ true ∷ false ∷ false ∷ false ∷ false ∷ false ∷ []
+broken_alone = refl
+
+abbrev ended : VbNotice
+ended = record notice { what = 0; phase = 0; configuration = 1 }
+
+says_its_end : SaysEnd ended (tally true None) (Some (Broken TooLong)) true false
+says_its_end = record { code = refl; rule = refl; interrupt_is = refl; configuration = refl; more_is = refl }
+
+change_untold : SaysEnd (record ended { configuration = 0 }) (tally true None) (Some (Broken TooLong)) true false → ⊥
+change_untold h = let e : Same 0 1 = h.configuration in omega arith
+
+interrupt_lost : SaysEnd (record ended { interrupt = 0 }) (tally true None) (Some (Broken TooLong)) true false → ⊥
+interrupt_lost h = let e : Same 0 1 = h.interrupt_is in omega arith
+
+more_lost : SaysEnd ended (tally true None) (Some (Broken TooLong)) true true → ⊥
+more_lost h = let e : Same 0 1 = h.more_is in omega arith
+
+another_code : SaysEnd (record ended { code = 0 }) (tally true None) (Some (Broken TooLong)) true false → ⊥
+another_code h = let e : Same 0 2 = h.code in omega arith
+
+another_rule : SaysEnd (record ended { rule = 0 }) (tally true None) (Some (Broken TooLong)) true false → ⊥
+another_rule h = let e : Same 0 3 = h.rule in omega arith
+
+-- ---- one that did nothing
+
+abbrev over : VbNotice
+over = record notice { what = 0; phase = 0; code = 7; rule = 0; interrupt = 0 }
+
+has_ended : HasEnded over 7
+has_ended = record {
+  what = refl;
+  phase = refl;
+  code_is = refl;
+  rule = refl;
+  interrupt = refl;
+  configuration = refl;
+  more = refl;
+}
+
+with_another_code : HasEnded over 5 → ⊥
+with_another_code h = let e : Same 7 5 = h.code_is in omega arith
+
+still_reading : HasEnded (record over { what = 64 }) 7 → ⊥
+still_reading h = let e : Same 64 0 = h.what in omega arith
+
+interrupting : HasEnded (record over { interrupt = 1 }) 7 → ⊥
+interrupting h = let e : Same 1 0 = h.interrupt in omega arith
+
+with_more : HasEnded (record over { more = 1 }) 7 → ⊥
+with_more h = let e : Same 1 0 = h.more in omega arith
+
+-- ---- the buffer that is held
+
+abbrev outcome : Outcome
+outcome = record { tally = tally false (Some 6); why = None; interrupt = false; more = false }
+
+taken_by_statistics : held_by (Some outcome) Statistics balloon ≡ 7
+taken_by_statistics = refl
+
+kept_by_others : held_by (Some outcome) Inflate balloon ≡ 4
+kept_by_others = refl
+
+kept_meanwhile : held_by None Statistics balloon ≡ 4
+kept_meanwhile = refl
+
+noted_at_its_end : held_then (record {
+  kind = Statistics;
+  step = record { tally = tally true None; phase = Ended None true false };
+}) balloon ≡ 0
+noted_at_its_end = refl

@@ -1,0 +1,49 @@
+-- What calls for notices that do nothing leave, worked out.
+use Rattle.std.proofs.Common.{◌≡◌, ap, arith, ℕ, [], Some, None}
+use Rattle.vb_core.specs.declared.kinds.Kind.TheVariants.{Statistics}
+use Rattle.vb_monitor.specs.declared.balloon.Balloon.{Balloon}
+use Rattle.vb_c.specs.declared.notice.VbNotice.{VbNotice}
+use Rattle.vb_c.specs.declared.notice.VbRoom.{VbRoom}
+use Rattle.vb_c.specs.Serving.{BeginsFor, AsksFor, GoesOnBy}
+use Rattle.vb_c.proofs.Samples.{Same, two, balloon}
+
+abbrev room : VbRoom
+room = record { pieces = []; bytes = []; runs = []; figures = []; cuts = [] }
+
+abbrev held_of : Balloon → ℕ
+held_of b = b.held
+
+abbrev changed : Balloon
+changed = record balloon { held = 5 }
+
+-- a queue that isn't there has code 5, statistics whose buffer is held 1, none to ask back 1, no
+-- notice 7; each time the balloon stays
+no_such_queue : (c : VbNotice) → BeginsFor None two (record { chains = 1; pages = 1 }) balloon balloon room room c → c.code ≡ 5
+no_such_queue c h = h.ended.code_is
+
+changed_although_none : (c : VbNotice) →
+    BeginsFor None two (record { chains = 1; pages = 1 }) balloon changed room room c → ⊥
+changed_although_none c h = let e : Same 5 4 = ap held_of h.balloon in omega arith
+
+held_already : (c : VbNotice) →
+    BeginsFor (Some Statistics) two (record { chains = 1; pages = 1 }) balloon balloon room room c → c.code ≡ 1
+held_already c h = h.ended.code_is
+
+begun_although_held : (c : VbNotice) →
+    BeginsFor (Some Statistics) two (record { chains = 1; pages = 1 }) balloon changed room room c → ⊥
+begun_although_held c h = let e : Same 5 4 = ap held_of h.balloon in omega arith
+
+none_to_ask_back : (c : VbNotice) → AsksFor None two balloon balloon room room c → c.code ≡ 1
+none_to_ask_back c h = h.ended.code_is
+
+changed_although_unheld : (c : VbNotice) → AsksFor None two balloon changed room room c → ⊥
+changed_although_unheld c h = let e : Same 5 4 = ap held_of h.balloon in omega arith
+
+no_notice : (c : VbNotice) → GoesOnBy None two 0 balloon balloon room room c → c.code ≡ 7
+no_notice c h = h.ended.code_is
+
+reading_although_none : (c : VbNotice) → GoesOnBy None two 0 balloon balloon room room (record c { what = 64 }) → ⊥
+reading_although_none c h = let e : Same 64 0 = h.ended.what in omega arith
+
+changed_by_none : (c : VbNotice) → GoesOnBy None two 0 balloon changed room room c → ⊥
+changed_by_none c h = let e : Same 5 4 = ap held_of h.balloon in omega arith

@@ -1,0 +1,43 @@
+-- Settings, regions and balloons that the facts share.
+use Rattle.std.proofs.Common.{◌≡◌, ℕ, [], ◌∷◌, List}
+use Rattle.vb_core.specs.declared.settings.Settings.{Settings}
+use Rattle.vb_core.specs.declared.device.Device.{Device}
+use Rattle.vb_core.specs.Devices.{new_device, placed}
+use Rattle.vb_monitor.specs.declared.regions.Region.{Region}
+use Rattle.vb_monitor.specs.declared.balloon.Balloon.{Balloon}
+
+abbrev pub Same : ℕ → ℕ → Type 0
+Same a b = a ≡ b
+
+abbrev pub settings : Settings
+settings = record {
+  memory_end = 0x20000;
+  offered = 0x100000027;
+  reserved_pages = 0;
+  needs_must_tell = 0;
+  skips_bad_pages = 0;
+}
+
+-- settings that no device may have: no memory
+abbrev pub no_settings : Settings
+no_settings = record settings { memory_end = 0 }
+
+-- one whose driver has begun, and one that is ready
+abbrev pub begun : Device
+begun = record (new_device settings) { features = 0x100000027; status = 11 }
+
+abbrev pub ready : Device
+ready = record begun { status = 15; inflate = placed 0 0x100 0x200 8; statistics = placed 0 0x100 0x200 8 }
+
+-- pages 0 to 20, and, one page on, pages 22 to 31
+abbrev pub two : List Region
+two =
+    record { guest = 0; length = 0x15000; in_file = 0 } ∷ record { guest = 0x16000; length = 0xa000; in_file = 0x100000 }
+    ∷ []
+
+-- no region is half a page
+abbrev pub half : List Region
+half = record { guest = 0; length = 0x800; in_file = 0 } ∷ []
+
+abbrev pub balloon : Balloon
+balloon = record { device = begun; held = 4 }

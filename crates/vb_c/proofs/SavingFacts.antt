@@ -1,0 +1,49 @@
+-- What saving, restoring and targets answer in C, worked out.
+use Rattle.std.proofs.Common.{refl, ap, arith, inl, inr, ℕ, List, [], ◌∷◌}
+use Rattle.vb_model.specs.Balance.{Need}
+use Rattle.vb_balance.specs.Serving.{StillServe}
+use Rattle.vb_core.specs.declared.device.Device.{Device}
+use Rattle.vb_core.specs.declared.saved.Saved.{Saved}
+use Rattle.vb_core.specs.declared.saved.StateDenial.TheVariants.{BadLength}
+use Rattle.vb_c.specs.Saving.{Saves, Restores}
+use Rattle.vb_c.specs.Sharing.{TellsServing}
+use Rattle.vb_c.proofs.Samples.{Same, begun}
+
+abbrev saved : Saved
+saved = record { device = begun; held = 4 }
+
+abbrev first_byte : List ℕ → ℕ
+first_byte [] = 0
+first_byte (b ∷ bs) = b
+
+-- bytes that are too few are refused, and stay
+written_although_refused : Saves saved (7 ∷ []) (8 ∷ []) 9 → ⊥
+written_although_refused h = let e : Same 8 7 = ap first_byte (h.denied BadLength refl).1 in omega arith
+
+saved_in_one_byte : (new : List ℕ) → Saves saved (7 ∷ []) new 0 → ⊥
+saved_in_one_byte new h = let e : Same 0 9 = (h.denied BadLength refl).0 in omega arith
+
+-- of no byte nothing is restored
+changed_by_nothing : (held : ℕ) → Restores [] begun (record begun { target = 1 }) held held 9 → ⊥
+changed_by_nothing held h = let e : Same 1 0 = ap (λ (d : Device). d.target) (h.denied BadLength refl).1 in omega arith
+
+held_by_nothing : Restores [] begun begun 4 0 9 → ⊥
+held_by_nothing h = let e : Same 0 4 = (h.denied BadLength refl).2 in omega arith
+
+restored_from_nothing : (d : Device) (held : ℕ) → Restores [] begun d 4 held 0 → ⊥
+restored_from_nothing d held h = let e : Same 0 9 = (h.denied BadLength refl).0 in omega arith
+
+-- an answer of targets is 0 or 1, and only one of both
+no_other_answer : (needs : List Need) (frames : ℕ) (targets : List ℕ) → TellsServing needs frames targets 2 → ⊥
+no_other_answer needs frames targets (inl h) = let e : Same 2 1 = h.0 in omega arith
+no_other_answer needs frames targets (inr h) = let e : Same 2 0 = h.0 in omega arith
+
+still_serve : (needs : List Need) (frames : ℕ) (targets : List ℕ) → TellsServing needs frames targets 0 →
+    StillServe needs frames targets
+still_serve needs frames targets (inl h) = let e : Same 0 1 = h.0 in absurd (omega arith)
+still_serve needs frames targets (inr h) = h.1
+
+serve_no_longer : (needs : List Need) (frames : ℕ) (targets : List ℕ) → TellsServing needs frames targets 1 →
+    ¬ StillServe needs frames targets
+serve_no_longer needs frames targets (inl h) = h.1
+serve_no_longer needs frames targets (inr h) = let e : Same 1 0 = h.0 in absurd (omega arith)

@@ -1,0 +1,250 @@
+-- What each phase of a notice does, comes to, and leaves, worked out.
+use Rattle.std.proofs.Common.{◌≡◌, refl, ap, arith, ℕ, ◌≤◌, true, false, List, [], ◌∷◌, map, length, Option, Some, None}
+use Rattle.vb_chain.specs.declared.pieces.Piece.{Piece}
+use Rattle.vb_core.specs.declared.kinds.Kind.TheVariants.{Inflate, Deflate}
+use Rattle.vb_core.specs.declared.runs.Run.{Run}
+use Rattle.vb_core.specs.declared.name.Named.{Named}
+use Rattle.vb_core.specs.declared.device.Denial.TheVariants.{NotReady}
+use Rattle.vb_core.specs.Rings.{used_entry}
+use Rattle.vb_monitor.specs.declared.parts.Part.{Part}
+use Rattle.vb_monitor.specs.declared.giving.UsedSpots.{UsedSpots}
+use Rattle.vb_monitor.specs.declared.outcome.Outcome.{Outcome}
+use Rattle.vb_monitor.specs.declared.step.Walk.{Walk}
+use Rattle.vb_monitor.specs.declared.step.Place.{Place}
+use Rattle.vb_monitor.specs.declared.step.Discarding.{Discarding}
+use Rattle.vb_monitor.specs.declared.step.Phase.{Phase}
+use Rattle.vb_monitor.specs.declared.step.Phase.TheVariants.{AwaitsIndex, AwaitsEntry, AwaitsDescriptor, AwaitsPart}
+use Rattle.vb_monitor.specs.declared.step.Phase.TheVariants.{TellsPages, TellsFigures, Discards, GivesBack, AwaitsFlags, Ended}
+use Rattle.vb_monitor.specs.Accesses.{Access, Adds, ReadWord, CopyBytes, Acquire, Release, Full, TellPages, TellFigures}
+use Rattle.vb_monitor.specs.Machine.{Room, room_of, behind_part, cuts_behind, is_ended, stage, waits, outcome_at, Fits, Does, Goes}
+use Rattle.vb_monitor.proofs.Samples.{Same, two, at, tally, ring, page_5, over_the_hole, cut_5, cut_20, cut_22, last_descriptor, number, index, entry, discard, id, used_length, used_index, flags}
+
+-- ---- the phases
+
+abbrev walk : Walk
+walk = record { head = 3; count = 0; writing = false }
+
+abbrev place : Place
+place = record { head = 3; count = 1; piece = 0; is_second = false; into = 0; length = 4 }
+
+abbrev named : Named
+named = record { runs = 1; pages = 1; skipped = 0 }
+
+abbrev discarding : Discarding
+discarding = record { head = 3; runs = 1; run = 0; from = 1 }
+
+abbrev spots : UsedSpots
+spots = record { id = at 0x204; length = at 0x208; index = at 0x202 }
+
+abbrev phases : List Phase
+phases =
+    AwaitsIndex (at 0x102) ∷ AwaitsEntry (at 0x104) ∷ AwaitsDescriptor (at 0x30) walk ∷ AwaitsPart (at 0x400) place
+    ∷ TellsPages 3 named ∷ TellsFigures 3 1 ∷ Discards cut_5 discarding ∷ GivesBack spots (used_entry ring 3)
+    ∷ AwaitsFlags (at 0x100) None false ∷ Ended None true false ∷ []
+
+-- the last one alone has ended, and it alone has an outcome
+ended : map is_ended phases ≡
+    false ∷ false ∷ false ∷ false ∷ false ∷ false ∷ false ∷ false ∷ false ∷ true ∷ []
+ended = refl
+
+-- something is told, bytes are discarded, the chain is given back, and then an answer is awaited
+stages : map stage phases ≡ 3 ∷ 3 ∷ 3 ∷ 3 ∷ 0 ∷ 0 ∷ 1 ∷ 2 ∷ 3 ∷ 3 ∷ []
+stages = refl
+
+waiting : map waits phases ≡
+    true ∷ true ∷ true ∷ true ∷ false ∷ false ∷ true ∷ false ∷ true ∷ true ∷ []
+waiting = refl
+
+abbrev outcome_of : Phase → Option Outcome
+outcome_of phase = outcome_at phase tally
+
+outcomes : map outcome_of phases ≡
+    None ∷ None ∷ None ∷ None ∷ None ∷ None ∷ None ∷ None ∷ None
+    ∷ Some (record { tally = tally; why = None; interrupt = true; more = false }) ∷ []
+outcomes = refl
+
+as_it_ended : outcome_at (Ended (Some NotReady) false true) (record tally { pages = 2 }) ≡
+    Some (record { tally = record tally { pages = 2 }; why = Some NotReady; interrupt = false; more = true })
+as_it_ended = refl
+
+-- ---- what fits
+
+-- a chain has room for 1024 bytes
+to_the_end : Fits (AwaitsPart (at 0x400) (record place { into = 1020 }))
+to_the_end = omega arith
+
+past_the_end : Fits (AwaitsPart (at 0x400) (record place { into = 1021 })) → ⊥
+past_the_end h = let e : 1025 ≤ 1024 = h in omega (arith, e)
+
+-- ---- the parts that are left
+
+-- the first of two pieces lies over the end of a page
+abbrev pieces : List Piece
+pieces = record { addr = 4090; len = 10; writable = false } ∷ record { addr = 16; len = 8; writable = false } ∷ []
+
+abbrev second : Part
+second = record { address = 4090; plus = 6; length = 4 }
+
+abbrev other : Part
+other = record { address = 16; plus = 0; length = 8 }
+
+behind_the_first : behind_part false 0 pieces ≡ second ∷ other ∷ []
+behind_the_first = refl
+
+behind_the_second : behind_part true 0 pieces ≡ other ∷ []
+behind_the_second = refl
+
+-- the other one has no second part
+behind_the_last : behind_part false 1 pieces ≡ []
+behind_the_last = refl
+
+behind_no_piece : behind_part false 2 pieces ≡ []
+behind_no_piece = refl
+
+-- ---- the discards that are left
+
+abbrev runs : List Run
+runs = over_the_hole ∷ page_5 ∷ []
+
+behind_the_first_region : cuts_behind 1 0 two runs ≡ cut_22 ∷ cut_5 ∷ []
+behind_the_first_region = refl
+
+from_the_first_on : cuts_behind 0 0 two runs ≡ cut_20 ∷ cut_22 ∷ cut_5 ∷ []
+from_the_first_on = refl
+
+behind_both_regions : cuts_behind 2 0 two runs ≡ cut_5 ∷ []
+behind_both_regions = refl
+
+of_the_second_run : cuts_behind 0 1 two runs ≡ cut_5 ∷ []
+of_the_second_run = refl
+
+behind_the_second_run : cuts_behind 1 1 two runs ≡ []
+behind_the_second_run = refl
+
+behind_all_runs : cuts_behind 0 2 two runs ≡ []
+behind_all_runs = refl
+
+-- ---- what was done
+
+abbrev room : List ℕ → Room
+room bytes = room_of [] bytes (page_5 ∷ over_the_hole ∷ []) (record { tag = 1; value = 2 } ∷ [])
+
+reads_the_index : Does (AwaitsIndex (at 0x102)) Inflate 1 [] (room []) (index ∷ [])
+reads_the_index = refl
+
+reads_the_entry : Does (AwaitsEntry (at 0x104)) Inflate 3 [] (room []) (Acquire ∷ entry ∷ [])
+reads_the_entry = refl
+
+reads_the_flags : Does (AwaitsFlags (at 0x100) None false) Inflate 0 [] (room []) (Full ∷ flags ∷ [])
+reads_the_flags = refl
+
+-- the first of two runs alone is told, of the notice's kind
+tells_one : Does (TellsPages 3 named) Deflate 0 [] (room []) (TellPages Deflate (page_5 ∷ []) ∷ [])
+tells_one = refl
+
+tells_a_figure : Does (TellsFigures 3 1) Inflate 0 [] (room []) (TellFigures (record { tag = 1; value = 2 } ∷ []) ∷ [])
+tells_a_figure = refl
+
+discards_it : Does (Discards cut_5 discarding) Inflate 0 [] (room []) (discard ∷ [])
+discards_it = refl
+
+gives_it_back : Does (GivesBack spots (used_entry ring 3)) Inflate 0 [] (room [])
+    (id ∷ used_length ∷ Release ∷ used_index ∷ [])
+gives_it_back = refl
+
+does_nothing : Does (Ended None true false) Inflate 0 [] (room []) []
+does_nothing = refl
+
+-- bytes are copied to their place, and what stands in front of it stays
+copies : Does (AwaitsPart (at 0x400) (record place { into = 2 })) Inflate 0 (8 ∷ 9 ∷ 7 ∷ 7 ∷ 7 ∷ 7 ∷ 6 ∷ [])
+    (room (8 ∷ 9 ∷ 5 ∷ 0 ∷ 0 ∷ 0 ∷ 6 ∷ [])) (CopyBytes (at 0x400) number ∷ [])
+copies = record { bytes = number; asks = refl; long = refl; behind = refl }
+
+copies_a_descriptor : Does (AwaitsDescriptor (at 0x30) walk) Inflate 0 [] (room last_descriptor)
+    (CopyBytes (at 0x30) last_descriptor ∷ [])
+copies_a_descriptor = record { bytes = last_descriptor; asks = refl; long = refl; behind = refl }
+
+-- ---- what wasn't
+
+no_fence : Does (AwaitsEntry (at 0x104)) Inflate 3 [] (room []) (entry ∷ []) → ⊥
+no_fence h = absurd cc
+
+fence_behind : Does (AwaitsEntry (at 0x104)) Inflate 3 [] (room []) (entry ∷ Acquire ∷ []) → ⊥
+fence_behind h = absurd cc
+
+no_full_fence : Does (AwaitsFlags (at 0x100) None false) Inflate 0 [] (room []) (flags ∷ []) → ⊥
+no_full_fence h = absurd cc
+
+abbrev answer_of : List Access → ℕ
+answer_of (ReadWord at answer ∷ xs) = answer
+answer_of xs = 0
+
+another_answer : Does (AwaitsIndex (at 0x102)) Inflate 2 [] (room []) (index ∷ []) → ⊥
+another_answer h = let e : Same 1 2 = ap answer_of h in omega arith
+
+index_twice : Does (AwaitsIndex (at 0x102)) Inflate 1 [] (room []) (index ∷ index ∷ []) → ⊥
+index_twice h = absurd cc
+
+not_discarded : Does (Discards cut_5 discarding) Inflate 0 [] (room []) [] → ⊥
+not_discarded h = absurd cc
+
+discarded_twice : Does (Discards cut_5 discarding) Inflate 0 [] (room []) (discard ∷ discard ∷ []) → ⊥
+discarded_twice h = absurd cc
+
+index_before_its_element : Does (GivesBack spots (used_entry ring 3)) Inflate 0 [] (room [])
+    (used_index ∷ id ∷ used_length ∷ Release ∷ []) → ⊥
+index_before_its_element h = absurd cc
+
+told_of_another_kind : Does (TellsPages 3 named) Inflate 0 [] (room []) (TellPages Deflate (page_5 ∷ []) ∷ []) → ⊥
+told_of_another_kind h = absurd cc
+
+abbrev told : List Access → ℕ
+told (TellPages kind runs ∷ xs) = length runs
+told xs = 0
+
+both_told : Does (TellsPages 3 named) Inflate 0 [] (room []) (TellPages Inflate (page_5 ∷ over_the_hole ∷ []) ∷ []) → ⊥
+both_told h = let e : Same 2 1 = ap told h in omega arith
+
+something_once_ended : Does (Ended None true false) Inflate 0 [] (room []) (discard ∷ []) → ⊥
+something_once_ended h = absurd cc
+
+-- bytes that are too few, that don't stand in the room, or that stand on others
+abbrev copied : List Access → List ℕ
+copied (CopyBytes at bytes ∷ xs) = bytes
+copied xs = []
+
+abbrev head_of : List ℕ → ℕ
+head_of [] = 0
+head_of (n ∷ ns) = n
+
+too_few : Does (AwaitsPart (at 0x400) place) Inflate 0 [] (room (5 ∷ 0 ∷ [])) (CopyBytes (at 0x400) (5 ∷ 0 ∷ []) ∷ []) → ⊥
+too_few h =
+    let e : Same 2 (length h.bytes) = ap (λ (xs : List Access). length (copied xs)) h.asks in
+    omega (arith, e, h.long)
+
+not_in_the_room : Does (AwaitsPart (at 0x400) place) Inflate 0 [] (room (6 ∷ 0 ∷ 0 ∷ 0 ∷ []))
+    (CopyBytes (at 0x400) number ∷ []) → ⊥
+not_in_the_room h =
+    let e : Same 5 (head_of h.bytes) = ap (λ (xs : List Access). head_of (copied xs)) h.asks in
+    let stands : Same 6 (head_of h.bytes) = ap head_of h.behind in
+    omega (arith, e, stands)
+
+on_others : Does (AwaitsPart (at 0x400) (record place { into = 1; length = 1 })) Inflate 0 (8 ∷ []) (room (9 ∷ 5 ∷ []))
+    (CopyBytes (at 0x400) (5 ∷ []) ∷ []) → ⊥
+on_others h = let e : Same 9 8 = ap head_of h.behind in omega arith
+
+-- ---- what was added to a log
+
+-- whatever may come behind the index, the whole may come where the index was to be read
+abbrev From : List Access → Type 0
+From log = log ≡ index ∷ Acquire ∷ []
+
+adds : Adds (flags ∷ []) (flags ∷ index ∷ []) (λ added. added ≡ index ∷ [])
+adds = record { added = index ∷ []; whole = refl; is = refl }
+
+goes : Goes (flags ∷ []) (flags ∷ index ∷ []) (λ d o log. From log) (λ d o log. log ≡ Acquire ∷ [])
+goes = record { added = index ∷ []; whole = refl; is = λ d o rest e. ap (λ (xs : List Access). index ∷ xs) e }
+
+-- what stood in the log stays
+rewritten : Adds (flags ∷ []) (index ∷ []) (λ added. Unit {0}) → ⊥
+rewritten h = let e : Same 1 0 = ap answer_of h.whole in omega arith

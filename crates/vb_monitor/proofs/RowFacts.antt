@@ -1,0 +1,126 @@
+-- What may come directly behind what, worked out: of each access what it may follow, and what not.
+use Rattle.std.proofs.Common.{◌≡◌, refl, true, false, List, [], ◌∷◌, map, Option, Some, None}
+use Rattle.vb_monitor.specs.Accesses.{Access, Acquire, Release, Full}
+use Rattle.vb_monitor.specs.Order.{Row, Cuts, MayFollow, is_copied, is_word, is_read, is_told, is_named, is_number}
+use Rattle.vb_monitor.proofs.Samples.{cut_5, cut_20, index, entry, descriptor, part, pages, figures, discard, id, used_length, used_index, flags}
+
+-- ---- what stands before
+
+-- nothing, a word, bytes, an acquire, a release and a full fence, pages, figures, a discard, a
+-- number, a written word
+abbrev each : List (Option Access)
+each =
+    None ∷ Some index ∷ Some part ∷ Some Acquire ∷ Some Release ∷ Some Full ∷ Some pages ∷ Some figures
+    ∷ Some discard ∷ Some id ∷ Some used_index ∷ []
+
+words : map is_word each ≡ false ∷ true ∷ false ∷ false ∷ false ∷ false ∷ false ∷ false ∷ false ∷ false ∷ false ∷ []
+words = refl
+
+copies : map is_copied each ≡ false ∷ false ∷ true ∷ false ∷ false ∷ false ∷ false ∷ false ∷ false ∷ false ∷ false ∷ []
+copies = refl
+
+reads : map is_read each ≡ false ∷ true ∷ true ∷ false ∷ false ∷ false ∷ false ∷ false ∷ false ∷ false ∷ false ∷ []
+reads = refl
+
+told : map is_told each ≡ false ∷ false ∷ false ∷ false ∷ false ∷ false ∷ true ∷ false ∷ true ∷ false ∷ false ∷ []
+told = refl
+
+named : map is_named each ≡ false ∷ false ∷ false ∷ false ∷ false ∷ false ∷ true ∷ false ∷ true ∷ true ∷ false ∷ []
+named = refl
+
+numbers : map is_number each ≡ false ∷ false ∷ false ∷ false ∷ false ∷ false ∷ false ∷ false ∷ false ∷ true ∷ false ∷ []
+numbers = refl
+
+-- ---- whole lists
+
+-- page 5 is inflated, and the driver asked whether it wants an interrupt
+abbrev inflated : List Access
+inflated =
+    index ∷ Acquire ∷ entry ∷ descriptor ∷ part ∷ pages ∷ discard ∷ id ∷ used_length ∷ Release ∷ used_index
+    ∷ index ∷ Full ∷ flags ∷ []
+
+in_order : Row MayFollow None inflated
+in_order = (tt, (refl, (tt, (refl, (refl, (refl, (refl, (refl, (refl, (refl, (refl, (tt, (tt, (tt, tt))))))))))))))
+
+-- statistics are told, and the buffer stays
+statistics_in_order : Row MayFollow None (index ∷ Acquire ∷ entry ∷ descriptor ∷ part ∷ figures ∷ [])
+statistics_in_order = (tt, (refl, (tt, (refl, (refl, (refl, tt))))))
+
+-- what is behind the first one counts
+not_the_second : Row MayFollow (Some part) (pages ∷ Release ∷ []) → ⊥
+not_the_second row = let e : false ≡ true = row.1.0 in absurd cc
+
+-- ---- what isn't in order
+
+-- an acquire fence that comes first, or behind another one
+fence_first : MayFollow None Acquire → ⊥
+fence_first h = let e : false ≡ true = h in absurd cc
+
+fence_twice : MayFollow (Some Acquire) Acquire → ⊥
+fence_twice h = let e : false ≡ true = h in absurd cc
+
+-- bytes behind a fence, behind what was told, and behind an index
+bytes_behind_a_fence : MayFollow (Some Acquire) descriptor → ⊥
+bytes_behind_a_fence h = let e : false ≡ true = h in absurd cc
+
+bytes_once_told : MayFollow (Some pages) part → ⊥
+bytes_once_told h = let e : false ≡ true = h in absurd cc
+
+bytes_once_used : MayFollow (Some used_index) part → ⊥
+bytes_once_used h = let e : false ≡ true = h in absurd cc
+
+-- pages behind an entry, behind others, and behind their discarding
+told_unread : MayFollow (Some entry) pages → ⊥
+told_unread h = let e : false ≡ true = h in absurd cc
+
+told_twice : MayFollow (Some pages) pages → ⊥
+told_twice h = let e : false ≡ true = h in absurd cc
+
+told_once_discarded : MayFollow (Some discard) pages → ⊥
+told_once_discarded h = let e : false ≡ true = h in absurd cc
+
+-- figures behind an entry
+figures_unread : MayFollow (Some entry) figures → ⊥
+figures_unread h = let e : false ≡ true = h in absurd cc
+
+-- a discard behind bytes, behind an element, and behind its index
+discarded_untold : MayFollow (Some part) discard → ⊥
+discarded_untold h = let e : false ≡ true = h in absurd cc
+
+discarded_once_written : MayFollow (Some used_length) discard → ⊥
+discarded_once_written h = let e : false ≡ true = h in absurd cc
+
+discarded_once_used : MayFollow (Some used_index) discard → ⊥
+discarded_once_used h = let e : false ≡ true = h in absurd cc
+
+-- an element behind bytes, and behind a fence
+given_back_untold : MayFollow (Some part) id → ⊥
+given_back_untold h = let e : false ≡ true = h in absurd cc
+
+number_behind_a_fence : MayFollow (Some Release) used_length → ⊥
+number_behind_a_fence h = let e : false ≡ true = h in absurd cc
+
+-- a release fence before its element, and behind the index
+fence_too_early : MayFollow (Some discard) Release → ⊥
+fence_too_early h = let e : false ≡ true = h in absurd cc
+
+fence_too_late : MayFollow (Some used_index) Release → ⊥
+fence_too_late h = let e : false ≡ true = h in absurd cc
+
+-- an index behind its element with no fence, behind another fence, and one that comes first
+index_unfenced : MayFollow (Some used_length) used_index → ⊥
+index_unfenced h = absurd cc
+
+index_behind_a_full_fence : MayFollow (Some Full) used_index → ⊥
+index_behind_a_full_fence h = absurd cc
+
+index_first : MayFollow None used_index → ⊥
+index_first h = absurd cc
+
+-- ---- parts that may be discarded one behind the other
+
+abbrev may_all : Cuts MayFollow (cut_5 ∷ cut_20 ∷ [])
+may_all = ((λ before told. told), ((λ before told. told), tt))
+
+none_behind_bytes : Cuts (λ before x. MayFollow (Some part) x) (cut_5 ∷ []) → ⊥
+none_behind_bytes may = let e : false ≡ true = may.0 (Some pages) refl in absurd cc

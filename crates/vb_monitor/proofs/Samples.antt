@@ -1,0 +1,128 @@
+-- Regions, a ring, a device and the accesses of a notice, which the facts share.
+use Rattle.std.proofs.Common.{◌≡◌, ℕ, false, List, [], ◌∷◌, None}
+use Rattle.vb_chain.specs.declared.pieces.Piece.{Piece}
+use Rattle.vb_core.specs.declared.kinds.Kind.TheVariants.{Inflate}
+use Rattle.vb_core.specs.declared.runs.Run.{Run}
+use Rattle.vb_core.specs.declared.ring.Ring.{Ring}
+use Rattle.vb_core.specs.declared.settings.Settings.{Settings}
+use Rattle.vb_core.specs.declared.device.Device.{Device}
+use Rattle.vb_core.specs.Devices.{new_device, placed}
+use Rattle.vb_monitor.specs.declared.regions.Region.{Region}
+use Rattle.vb_monitor.specs.declared.regions.Spot.{Spot}
+use Rattle.vb_monitor.specs.declared.cuts.Cut.{Cut}
+use Rattle.vb_monitor.specs.declared.outcome.Tally.{Tally}
+use Rattle.vb_monitor.specs.Accesses.{Access, ReadWord, CopyBytes, TellPages, TellFigures, Discard, WriteNumber, WriteWord}
+
+abbrev pub Same : ℕ → ℕ → Type 0
+Same a b = a ≡ b
+
+-- ---- memory
+
+-- pages 0 to 20, and, one page on, pages 22 to 31
+abbrev pub low : Region
+low = record { guest = 0; length = 0x15000; in_file = 0 }
+
+abbrev pub high : Region
+high = record { guest = 0x16000; length = 0xa000; in_file = 0x100000 }
+
+abbrev pub two : List Region
+two = low ∷ high ∷ []
+
+abbrev pub at : ℕ → Spot
+at offset = record { region = 0; offset = offset }
+
+-- page 5, and pages 20 and 22, which lie in both regions with a hole between
+abbrev pub page_5 : Run
+page_5 = record { first = 5; count = 1 }
+
+abbrev pub over_the_hole : Run
+over_the_hole = record { first = 20; count = 3 }
+
+abbrev pub cut_5 : Cut
+cut_5 = record { region = 0; offset = 0x5000; in_file = 0x5000; length = 0x1000 }
+
+abbrev pub cut_20 : Cut
+cut_20 = record { region = 0; offset = 0x14000; in_file = 0x14000; length = 0x1000 }
+
+abbrev pub cut_22 : Cut
+cut_22 = record { region = 1; offset = 0; in_file = 0x100000; length = 0x1000 }
+
+-- ---- a device
+
+abbrev pub settings : Settings
+settings = record {
+  memory_end = 0x20000;
+  offered = 0x100000027;
+  reserved_pages = 0;
+  needs_must_tell = 0;
+  skips_bad_pages = 0;
+}
+
+-- eight descriptors: a table at 0, an available ring at 0x100, a used ring at 0x200
+abbrev pub ring : Ring
+ring = placed 0 0x100 0x200 8
+
+-- one that is ready, with this ring for each queue
+abbrev pub ready : Device
+ready =
+    record (new_device settings) {
+      features = 0x100000027;
+      status = 15;
+      inflate = ring;
+      deflate = ring;
+      statistics = ring;
+      report = ring;
+    }
+
+abbrev pub tally : Tally
+tally = record { chains = 8; pages = 3; given = false; held = None }
+
+-- ---- accesses
+
+abbrev pub index : Access
+index = ReadWord (at 0x102) 1
+
+abbrev pub entry : Access
+entry = ReadWord (at 0x104) 3
+
+-- descriptor 3: 4 bytes at 0x400, and no more
+abbrev pub last_descriptor : List ℕ
+last_descriptor = 0 ∷ 4 ∷ 0 ∷ 0 ∷ 0 ∷ 0 ∷ 0 ∷ 0 ∷ 4 ∷ 0 ∷ 0 ∷ 0 ∷ 0 ∷ 0 ∷ 0 ∷ 0 ∷ []
+
+-- 4 bytes at 0x400, and then descriptor 5
+abbrev pub first_descriptor : List ℕ
+first_descriptor = 0 ∷ 4 ∷ 0 ∷ 0 ∷ 0 ∷ 0 ∷ 0 ∷ 0 ∷ 4 ∷ 0 ∷ 0 ∷ 0 ∷ 1 ∷ 0 ∷ 5 ∷ 0 ∷ []
+
+abbrev pub piece : Piece
+piece = record { addr = 0x400; len = 4; writable = false }
+
+abbrev pub descriptor : Access
+descriptor = CopyBytes (at 0x30) last_descriptor
+
+-- the number of page 5
+abbrev pub number : List ℕ
+number = 5 ∷ 0 ∷ 0 ∷ 0 ∷ []
+
+abbrev pub part : Access
+part = CopyBytes (at 0x400) number
+
+abbrev pub pages : Access
+pages = TellPages Inflate (page_5 ∷ [])
+
+abbrev pub figures : Access
+figures = TellFigures []
+
+abbrev pub discard : Access
+discard = Discard cut_5
+
+abbrev pub id : Access
+id = WriteNumber (at 0x204) 3
+
+abbrev pub used_length : Access
+used_length = WriteNumber (at 0x208) 0
+
+abbrev pub used_index : Access
+used_index = WriteWord (at 0x202) 1
+
+abbrev pub flags : Access
+flags = ReadWord (at 0x100) 0

@@ -1,0 +1,175 @@
+-- Which reads come in their turn, worked out. Of a list the last access stands first.
+use Rattle.std.proofs.Common.{◌≡◌, refl, ap, arith, ℕ, Bool, true, false, List, [], ◌∷◌, map, Option, Some, None}
+use Rattle.vb_core.specs.declared.kinds.Kind.TheVariants.{Inflate, Report}
+use Rattle.vb_monitor.specs.declared.regions.Spot.{Spot}
+use Rattle.vb_monitor.specs.Accesses.{Access, ReadWord, CopyBytes, Acquire, Release, Full}
+use Rattle.vb_monitor.specs.Turns.{ReadsWord, is_over, ReadsInTurn}
+use Rattle.vb_monitor.proofs.Samples.{Same, two, at, ring, ready, first_descriptor, last_descriptor, number, index, entry, descriptor, part, pages, figures, discard, id, used_length, used_index, flags}
+
+abbrev offset_in : Option Spot → ℕ
+offset_in None = 0
+offset_in (Some s) = s.offset
+
+-- ---- words
+
+-- first of all, and once a chain was given back, the index
+index_first : ReadsWord two ring [] (at 0x102)
+index_first = refl
+
+index_again : ReadsWord two ring (used_index ∷ []) (at 0x102)
+index_again = refl
+
+-- behind an acquire fence the entry that is taken next
+entry_next : ReadsWord two (record ring { next_avail = 9 }) (Acquire ∷ index ∷ []) (at 0x106)
+entry_next = refl
+
+-- behind a full fence the flags
+flags_last : ReadsWord two ring (Full ∷ index ∷ []) (at 0x100)
+flags_last = refl
+
+-- and each of them nowhere else
+entry_first : ReadsWord two ring [] (at 0x104) → ⊥
+entry_first h = let e : Same 0x102 0x104 = ap offset_in h in omega arith
+
+flags_for_the_entry : ReadsWord two ring (Acquire ∷ index ∷ []) (at 0x100) → ⊥
+flags_for_the_entry h = let e : Same 0x104 0x100 = ap offset_in h in omega arith
+
+another_entry : ReadsWord two ring (Acquire ∷ index ∷ []) (at 0x106) → ⊥
+another_entry h = let e : Same 0x104 0x106 = ap offset_in h in omega arith
+
+index_for_the_flags : ReadsWord two ring (Full ∷ index ∷ []) (at 0x102) → ⊥
+index_for_the_flags h = let e : Same 0x100 0x102 = ap offset_in h in omega arith
+
+flags_once_used : ReadsWord two ring (used_index ∷ []) (at 0x100) → ⊥
+flags_once_used h = let e : Same 0x102 0x100 = ap offset_in h in omega arith
+
+-- none behind another word, bytes, another fence, what was told or discarded, and a number
+index_twice : ReadsWord two ring (index ∷ []) (at 0x102) → ⊥
+index_twice h = absurd h
+
+word_behind_bytes : ReadsWord two ring (part ∷ []) (at 0x102) → ⊥
+word_behind_bytes h = absurd h
+
+word_behind_a_release_fence : ReadsWord two ring (Release ∷ []) (at 0x102) → ⊥
+word_behind_a_release_fence h = absurd h
+
+word_once_told : ReadsWord two ring (pages ∷ []) (at 0x102) → ⊥
+word_once_told h = absurd h
+
+word_behind_figures : ReadsWord two ring (figures ∷ []) (at 0x102) → ⊥
+word_behind_figures h = absurd h
+
+word_once_discarded : ReadsWord two ring (discard ∷ []) (at 0x102) → ⊥
+word_once_discarded h = absurd h
+
+word_behind_a_number : ReadsWord two ring (id ∷ []) (at 0x102) → ⊥
+word_behind_a_number h = absurd h
+
+-- ---- the end
+
+over : is_over (flags ∷ Full ∷ index ∷ []) ≡ true
+over = refl
+
+-- no other access, nor a word behind another fence, nor the fence alone
+abbrev is_over_by : Access → Bool
+is_over_by x = is_over (x ∷ Full ∷ [])
+
+not_over : map is_over_by (flags ∷ part ∷ Acquire ∷ Release ∷ Full ∷ pages ∷ figures ∷ discard ∷ id ∷ used_index ∷ []) ≡
+    true ∷ false ∷ false ∷ false ∷ false ∷ false ∷ false ∷ false ∷ false ∷ false ∷ []
+not_over = refl
+
+abbrev is_over_behind : Access → Bool
+is_over_behind x = is_over (flags ∷ x ∷ [])
+
+no_other_fence : map is_over_behind (index ∷ part ∷ Acquire ∷ Release ∷ Full ∷ pages ∷ figures ∷ discard ∷ id ∷ used_index ∷ []) ≡
+    false ∷ false ∷ false ∷ false ∷ true ∷ false ∷ false ∷ false ∷ false ∷ false ∷ []
+no_other_fence = refl
+
+not_over_at_first : is_over [] ≡ false
+not_over_at_first = refl
+
+not_over_by_one_word : is_over (index ∷ []) ≡ false
+not_over_by_one_word = refl
+
+-- ---- bytes
+
+abbrev taken : List Access
+taken = entry ∷ Acquire ∷ index ∷ []
+
+-- the descriptor of the head, by its number, 16 bytes
+of_the_head : ReadsInTurn two Inflate ready taken descriptor
+of_the_head = record { place = refl; long = refl }
+
+another_descriptor : ReadsInTurn two Inflate ready taken (CopyBytes (at 0x40) last_descriptor) → ⊥
+another_descriptor h = let e : Same 0x30 0x40 = ap offset_in h.place in omega arith
+
+half_a_descriptor : ReadsInTurn two Inflate ready taken (CopyBytes (at 0x30) (0 ∷ 4 ∷ 0 ∷ 0 ∷ 0 ∷ 0 ∷ 0 ∷ 0 ∷ [])) → ⊥
+half_a_descriptor h = let e : Same 8 16 = h.long in omega arith
+
+-- the one that it names, and not the head's again
+abbrev walked : List Access
+walked = CopyBytes (at 0x30) first_descriptor ∷ taken
+
+of_the_next : ReadsInTurn two Inflate ready walked (CopyBytes (at 0x50) last_descriptor)
+of_the_next = record { place = refl; long = refl }
+
+descriptor_again : ReadsInTurn two Inflate ready walked descriptor → ⊥
+descriptor_again h = let e : Same 0x50 0x30 = ap offset_in h.place in omega arith
+
+-- then the piece's bytes, at its place, as long as it is, once
+abbrev chained : List Access
+chained = descriptor ∷ taken
+
+of_the_piece : ReadsInTurn two Inflate ready chained part
+of_the_piece = record { place = refl; long = refl }
+
+elsewhere : ReadsInTurn two Inflate ready chained (CopyBytes (at 0x404) number) → ⊥
+elsewhere h = let e : Same 0x400 0x404 = ap offset_in h.place in omega arith
+
+too_short : ReadsInTurn two Inflate ready chained (CopyBytes (at 0x400) (5 ∷ 0 ∷ [])) → ⊥
+too_short h = let e : Same 2 4 = h.long in omega arith
+
+twice : ReadsInTurn two Inflate ready (part ∷ chained) part → ⊥
+twice h = absurd h
+
+-- a report's pieces aren't read
+of_a_report : ReadsInTurn two Report ready chained part → ⊥
+of_a_report h = absurd h
+
+-- none where no entry was read
+without_an_entry : ReadsInTurn two Inflate ready (index ∷ []) descriptor → ⊥
+without_an_entry h = absurd h
+
+once_used : ReadsInTurn two Inflate ready (used_index ∷ Release ∷ used_length ∷ id ∷ discard ∷ pages ∷ part ∷ chained) part → ⊥
+once_used h = absurd h
+
+-- ---- fences, and the rest
+
+fence_behind_the_index : ReadsInTurn two Inflate ready (index ∷ []) Acquire
+fence_behind_the_index = (refl, refl)
+
+-- none while a chain is served, nor behind the flags
+second_entry : ReadsInTurn two Inflate ready chained Acquire → ⊥
+second_entry h = let e = h.0 in absurd cc
+
+entry_behind_the_flags : ReadsInTurn two Inflate ready (flags ∷ Full ∷ index ∷ []) Acquire → ⊥
+entry_behind_the_flags h = let e : true ≡ false = h.1 in absurd cc
+
+fence_before_the_flags : ReadsInTurn two Inflate ready (index ∷ []) Full
+fence_before_the_flags = refl
+
+flags_twice : ReadsInTurn two Inflate ready (flags ∷ Full ∷ index ∷ []) Full → ⊥
+flags_twice h = let e : true ≡ false = h in absurd cc
+
+-- the second index is read once the queue has gone on by the first chain, and the entry behind the first
+abbrev served : List Access
+served = used_index ∷ Release ∷ used_length ∷ id ∷ discard ∷ pages ∷ part ∷ chained
+
+second_index : ReadsInTurn two Inflate ready served index
+second_index = refl
+
+entry_of_the_second : ReadsInTurn two Inflate ready (Acquire ∷ index ∷ served) (ReadWord (at 0x106) 3)
+entry_of_the_second = refl
+
+first_entry_again : ReadsInTurn two Inflate ready (Acquire ∷ index ∷ served) entry → ⊥
+first_entry_again h = let e : Same 0x106 0x104 = ap offset_in h in omega arith
