@@ -18,6 +18,7 @@ VbNamed reference_name(VbDevice *, uint32_t, const uint8_t *, size_t, VbRun *, s
 VbNamed reference_report(VbDevice *, const uint8_t *, size_t, const uint8_t *, size_t, VbRun *, size_t);
 VbFigures reference_statistics(VbDevice *, const uint8_t *, size_t, VbStatistic *, size_t);
 VbUsed reference_use(VbDevice *, uint32_t, uint32_t);
+VbLarge reference_large_pages(const VbDevice *, const VbRegion *, uint64_t, const VbCut *, const uint64_t *, size_t);
 VbMarked reference_mark(uint32_t, const VbRun *, size_t, uint64_t *, size_t);
 uint32_t reference_is_ballooned(const uint64_t *, size_t, uint32_t);
 uint64_t reference_count_ballooned(const uint64_t *, size_t);
@@ -31,6 +32,7 @@ enum { CALLS = 1000000, ARENA = 16 * 4096 };
 
 static uint64_t state = 88172645463325252ull;
 static uint64_t answers[VB_BAD_ARGUMENT + 1];   /* how often each code came */
+static uint64_t went;                           /* how often large pages did */
 static uint8_t *arena_ends[3];
 static VbPiece other_pieces[65536];
 static VbRun other_runs[65536];
@@ -310,6 +312,27 @@ static VbRegion *any_regions(size_t *count)
     return regions;
 }
 
+/* Parts of regions whose pages are large: mostly of 16 KiB, in sets of which most pages are there. */
+static void call_large(void)
+{
+    VbDevice device = any_device();
+    VbRegion region = { any() % 8 * 65536, any() % 8 * 65536, any() % 8 * 65536 };
+    if (once_in(8))
+        region = (VbRegion){ any_number(), any_number(), any_number() };
+    VbCut part = { any() % 5, any() % 130 * 4096, any(), any() % 130 * 4096 };
+    if (once_in(8))
+        part = (VbCut){ any(), any_number(), any(), any_number() };
+    size_t words = any() % 9;
+    uint64_t *set = list_of(0, words * sizeof *set), size = once_in(4) ? any_number() : 4096ull << any() % 6;
+    for (size_t i = 0; i < words; i++)
+        set[i] = once_in(2) ? UINT64_MAX : any() | any() | any() | any() | any();
+    VbLarge large = vb_large_pages(&device, &region, size, &part, set, words);
+    VbLarge why = reference_large_pages(&device, &region, size, &part, set, words);
+    EXPECT(large.cut.region == why.cut.region && large.cut.offset == why.cut.offset && large.cut.length == why.cut.length);
+    EXPECT(large.cut.in_file == why.cut.in_file && large.waiting == why.waiting);
+    went += large.cut.length > 0;
+}
+
 static VbBalloon any_balloon(void)
 {
     VbBalloon balloon = { .device = any_device(), .held = once_in(2) ? 0 : (uint32_t)any_number() };
@@ -374,7 +397,7 @@ static void call_notice(void)
 int main(int count, char **words)
 {
     void (*const calls[])(void) = { call_next, call_name, call_report, call_statistics, call_use, call_driver,
-                                    call_config, call_mark, call_over, call_notice };
+                                    call_config, call_mark, call_over, call_notice, call_large };
     enum { KINDS = sizeof calls / sizeof *calls };
     unsigned long long most = count > 1 ? strtoull(words[1], NULL, 10) : CALLS;
     alarm(600);
@@ -390,6 +413,7 @@ int main(int count, char **words)
         printf(" %llu", (unsigned long long)answers[code]);
         EXPECT(answers[code] > most / 1000);
     }
+    EXPECT(went > most / 1000);
     puts("");
     return 0;
 }

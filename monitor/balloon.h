@@ -37,6 +37,7 @@ struct balloon_region {
     uint8_t *host;
     int fd;                     /* the shared file behind it, or BALLOON_PRIVATE or BALLOON_SHARED */
     uint64_t offset;            /* where the region begins in that file */
+    uint64_t page_size;         /* bytes of the pages of the machine that are behind it: 4096 (or 0) to 1 GiB, a power of two */
 };
 
 struct balloon {
@@ -53,7 +54,7 @@ struct balloon {
     void (*on_pages)(void *context, uint32_t kind, const VbRun *runs, uint32_t count);
     /* The guest told its statistics, any tags in any order. */
     void (*on_statistics)(void *context, const VbStatistic *figures, uint32_t count);
-    /* Discards bytes of a region, whole pages, in place of balloon_discard_bytes; 0 or an errno. */
+    /* Discards bytes of a region, whole pages of its page_size, in place of balloon_discard_bytes; 0 or an errno. */
     int (*discard)(void *context, const struct balloon_region *region, uint64_t at, uint64_t length);
 
     /* The set of the pages in the balloon, or NULL: words of the monitor's, zeros at first, page p bit p % 64 of word
@@ -76,6 +77,7 @@ struct balloon_result {
     bool more;                  /* as much was served as a notice may, and more stands there: call again, later */
     uint64_t pages;             /* named by inflates, deflates and reports */
     uint64_t discarded;         /* of these, discarded */
+    uint64_t waiting;           /* of these, pages whose large page wasn't given up whole yet (vb_large_pages) */
     uint64_t skipped;           /* numbers past the end or of reserved pages */
     uint64_t marked;            /* pages put into the set of ballooned pages, or taken out of it */
     uint64_t unmarked;          /* pages of requests that the set hasn't enough words for: it is as before them */
@@ -118,12 +120,21 @@ static inline int balloon_drop(const struct balloon_region *region, const VbCut 
     return status ? errno : 0;
 }
 
-static inline void balloon_discard(const struct balloon *balloon, const VbCut *cut, struct balloon_result *result)
+/* Discards a part; where the machine's pages are large, those that are given up whole. */
+static inline void balloon_discard(const struct balloon *balloon, const VbCut *part, struct balloon_result *result)
 {
-    const struct balloon_region *region = &balloon->regions[cut->region];
+    const struct balloon_region *region = &balloon->regions[part->region];
+    VbLarge large = { *part, 0 };
+    const VbCut *cut = &large.cut;
+    if (region->page_size)
+        large = vb_large_pages(&balloon->state.device, &balloon->places[part->region], region->page_size, part,
+                               balloon->ballooned, balloon->ballooned ? balloon->ballooned_words : 0);
+    result->waiting += large.waiting;
+    if (cut->length == 0)
+        return;
     int error = balloon->discard ? balloon->discard(balloon->context, region, cut->offset, cut->length)
                                  : balloon_drop(region, cut);
-    *(error ? &result->kept : &result->discarded) += cut->length / BALLOON_PAGE;
+    *(error ? &result->kept : &result->discarded) += part->length / BALLOON_PAGE - large.waiting;
     result->error = error ? error : result->error;
 }
 

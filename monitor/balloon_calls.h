@@ -34,7 +34,7 @@ static inline struct balloon_result balloon_finish(struct balloon *balloon)
     result.interrupts = notice->interrupt << (notice->kind & 3);
     result.configuration = notice->configuration != 0;
     result.more = notice->more != 0;
-    result.in_holes = notice->kind == VB_DEFLATE ? 0 : result.pages - result.discarded - result.kept;
+    result.in_holes = notice->kind == VB_DEFLATE ? 0 : result.pages - result.discarded - result.kept - result.waiting;
     return result;
 }
 
@@ -73,6 +73,7 @@ static inline void balloon_add_result(struct balloon_result *all, const struct b
     all->more |= one->more;
     all->pages += one->pages;
     all->discarded += one->discarded;
+    all->waiting += one->waiting;
     all->skipped += one->skipped;
     all->marked += one->marked;
     all->unmarked += one->unmarked;

@@ -18,7 +18,7 @@ int main(void)
     /* Guest memory as the monitor maps it: here 4 MiB from address 0 on. */
     void *mapped = mmap(NULL, 4 << 20, PROT_READ | PROT_WRITE, MAP_PRIVATE | MAP_ANONYMOUS, -1, 0);
     uint8_t *memory = (uint8_t *)mapped;
-    const struct balloon_region region = { 0, 4 << 20, memory, BALLOON_PRIVATE, 0 };
+    const struct balloon_region region = { 0, 4 << 20, memory, BALLOON_PRIVATE, 0, 0 };
     static VbSettings settings;
     settings.offered = 1ull << 32 | 0x27;
     settings.skips_bad_pages = 1;

@@ -160,6 +160,19 @@ uint32_t vb_write_config(VbDevice *device, uint32_t offset, const uint8_t *bytes
 void vb_read_config(const VbDevice *device, uint32_t offset, uint8_t *out, size_t length) { }
 void vb_set_target(VbDevice *device, uint32_t pages) { device->target = pages; }
 uint32_t vb_keeps_reports(const VbDevice *device) { return ANY_UP_TO(1); }
+
+/* Nothing, or all of the region: what goes back lies within it (vb_monitor, AreWholePages). */
+VbLarge vb_large_pages(const VbDevice *device, const VbRegion *region, uint64_t page_size, const VbCut *part,
+                       const uint64_t *set, size_t set_words)
+{
+    //@ assert large_set: set_words == 0 || (set == (uint64_t *)words && set_words == WORDS);
+    VbLarge large = { { part->region, 0, region->in_file, LENGTH }, 0 };
+    if (maybe())
+        return large;
+    large.cut.length = 0;
+    large.waiting = part->length / 4096;
+    return large;
+}
 uint32_t vb_may_tell(const VbDevice *device) { return ANY_UP_TO(1); }
 uint32_t vb_save(const VbDevice *device, uint32_t held, uint8_t *out, size_t room) { return any_u32(); }
 
@@ -231,8 +244,8 @@ static void any_call(void)
 static void begin(void)
 {
     const VbSettings settings = { 0 };
-    regions[0] = (struct balloon_region){ 0, LENGTH, low, maybe() ? BALLOON_SHARED : SOME_FD, IN_FILE };
-    regions[1] = (struct balloon_region){ 2 * LENGTH, LENGTH, high, maybe() ? BALLOON_PRIVATE : SOME_FD, IN_FILE };
+    regions[0] = (struct balloon_region){ 0, LENGTH, low, maybe() ? BALLOON_SHARED : SOME_FD, IN_FILE, maybe() ? 0 : 8192 };
+    regions[1] = (struct balloon_region){ 2 * LENGTH, LENGTH, high, maybe() ? BALLOON_PRIVATE : SOME_FD, IN_FILE, 0 };
     balloon_init(&balloon, regions, REGIONS, settings);
     balloon.on_pages = maybe() ? be_told : NULL;
     balloon.on_statistics = maybe() ? hear : NULL;

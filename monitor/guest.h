@@ -118,8 +118,8 @@ static inline void make_memory(struct guest *guest, int low)
                        low < 0 ? -1 : fd, 0);
     void *second = mmap(NULL, HIGH_MIB * MIB, PROT_READ | PROT_WRITE, MAP_PRIVATE | MAP_ANONYMOUS, -1, 0);
     EXPECT(first != MAP_FAILED && second != MAP_FAILED);
-    guest->regions[0] = (struct balloon_region){ 0, LOW_MIB * MIB, first, fd, 0 };
-    guest->regions[1] = (struct balloon_region){ HIGH_ADDRESS, HIGH_MIB * MIB, second, BALLOON_PRIVATE, 0 };
+    guest->regions[0] = (struct balloon_region){ 0, LOW_MIB * MIB, first, fd, 0, 0 };
+    guest->regions[1] = (struct balloon_region){ HIGH_ADDRESS, HIGH_MIB * MIB, second, BALLOON_PRIVATE, 0, 0 };
 }
 
 static inline void free_memory(struct guest *guest)

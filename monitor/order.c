@@ -126,7 +126,7 @@ static void begin(uint32_t kind)
     static struct balloon_region region;
     struct balloon_result result;
     memset(memory, 0, PAGES * 4096);
-    region = (struct balloon_region){ 0, PAGES * 4096, memory, BALLOON_PRIVATE, 0 };
+    region = (struct balloon_region){ 0, PAGES * 4096, memory, BALLOON_PRIVATE, 0, 0 };
     EXPECT(balloon_init(&balloon, &region, 1, (VbSettings){ .offered = LINUX_FEATURES }) == VB_OK);
     balloon.discard = discard;
     balloon.on_pages = be_told;

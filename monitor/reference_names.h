@@ -17,6 +17,7 @@
 #define vb_use reference_use
 #define vb_mark reference_mark
 #define vb_is_ballooned reference_is_ballooned
+#define vb_large_pages reference_large_pages
 #define vb_count_ballooned reference_count_ballooned
 #define vb_targets reference_targets
 #define vb_spare reference_spare

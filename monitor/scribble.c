@@ -305,8 +305,8 @@ static void begin(void)
     struct balloon_result result;
     const VbSettings settings = { .offered = LINUX_FEATURES, .reserved_pages = 16, .skips_bad_pages = 1 };
     uint8_t *high = guarded(HIGH_MIB * MIB), *low = guarded(LOW_MIB * MIB);
-    guest.regions[0] = (struct balloon_region){ HIGH_ADDRESS, HIGH_MIB * MIB, high, BALLOON_PRIVATE, 0 };
-    guest.regions[1] = (struct balloon_region){ 0, LOW_MIB * MIB, low, BALLOON_PRIVATE, 0 };
+    guest.regions[0] = (struct balloon_region){ HIGH_ADDRESS, HIGH_MIB * MIB, high, BALLOON_PRIVATE, 0, 0 };
+    guest.regions[1] = (struct balloon_region){ 0, LOW_MIB * MIB, low, BALLOON_PRIVATE, 0, 0 };
     EXPECT(balloon_init(&guest.balloon, guest.regions, 2, settings) == VB_OK);
     for (uint64_t page = FIRST_DATA; page < PAGES; page++)
         if (has_stamp(page))

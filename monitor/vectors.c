@@ -203,7 +203,7 @@ static void start_at_records(uint64_t begin)
     EXPECT(fd >= 0 && ftruncate(fd, (off_t)MEMORY) == 0);
     uint8_t *host = mmap(NULL, MEMORY - begin, PROT_READ | PROT_WRITE, MAP_SHARED, fd, (off_t)begin);
     EXPECT(host != MAP_FAILED);
-    region = (struct balloon_region){ begin, MEMORY - begin, host, fd, begin };
+    region = (struct balloon_region){ begin, MEMORY - begin, host, fd, begin, 0 };
     VbSettings settings = { .offered = LINUX_FEATURES };
     EXPECT(balloon_init(&guest.balloon, &region, 1, settings) == VB_OK);
     guest.balloon.on_pages = see_pages;

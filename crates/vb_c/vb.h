@@ -99,6 +99,8 @@ typedef struct {
 } VbRegion;
 typedef struct { size_t region; uint64_t offset; } VbSpot;     /* so many bytes into the region of this number */
 typedef struct { size_t region; uint64_t offset, in_file, length; } VbCut;     /* whole pages of one region */
+/* Whole large pages of one region (none: length 0), and how many pages of 4096 bytes of a part aren't among them. */
+typedef struct { VbCut cut; uint64_t waiting; } VbLarge;
 
 /* A device, and 1 more than the head of the statistics buffer that it holds until new ones are asked for; none: 0. */
 typedef struct { VbDevice device; uint32_t held; } VbBalloon;
@@ -178,6 +180,7 @@ VB_ASSERT(sizeof(VbRegion) == 24 && offsetof(VbRegion, length) == 8 && offsetof(
 VB_ASSERT(sizeof(VbSpot) == 16 && offsetof(VbSpot, offset) == 8);
 VB_ASSERT(sizeof(VbCut) == 32 && offsetof(VbCut, offset) == 8 && offsetof(VbCut, in_file) == 16
           && offsetof(VbCut, length) == 24);
+VB_ASSERT(sizeof(VbLarge) == 40 && offsetof(VbLarge, waiting) == 32);
 VB_ASSERT(sizeof(VbBalloon) == 184 && offsetof(VbBalloon, held) == 176);
 VB_ASSERT(sizeof(VbNotice) == 192 && offsetof(VbNotice, at) == 8 && offsetof(VbNotice, length) == 24
           && offsetof(VbNotice, runs) == 32 && offsetof(VbNotice, figures) == 44 && offsetof(VbNotice, id_at) == 56
@@ -299,6 +302,15 @@ VbMarked vb_mark(uint32_t kind, const VbRun *runs, size_t count, uint64_t *set, 
 uint32_t vb_is_ballooned(const uint64_t *set, size_t words, uint32_t page);
 /* How many pages are in the set: all words are looked at. */
 uint64_t vb_count_ballooned(const uint64_t *set, size_t words);
+/* Of a part that a notice says to discard (VB_DISCARD), what goes back to a machine whose pages behind this region have
+ * `page_size` bytes: a large page goes once each of its pages of 4096 bytes is the part's, or was given up before. That the set
+ * says, where the driver agreed to MUST_TELL_HOST; else it may use a page of the set, which doesn't count. `cut`: the large
+ * pages that go of those that the part has a page of, more than the part or fewer. `waiting`: its pages that aren't among
+ * them, and go with the last one of their large page. All wait, and `cut` is empty, where page_size is no power of two from 4096
+ * to 1 GiB; where the region doesn't begin and end at pages of this size, in memory and in its file; or where the part isn't
+ * whole pages of 4096 bytes of it. */
+VbLarge vb_large_pages(const VbDevice *device, const VbRegion *region, uint64_t page_size, const VbCut *part,
+                       const uint64_t *set, size_t words);
 
 /* For a host of several guests, which has fewer frames than they have pages together: what to ask each of them for. */
 

@@ -135,6 +135,7 @@ static void count_result(struct counters *counters, const struct balloon_result 
     counters->chains += result->chains;
     counters->pages += result->pages;
     counters->discarded += result->discarded;
+    counters->waiting += result->waiting;
     counters->skipped += result->skipped;
     counters->in_holes += result->in_holes;
     counters->kept += result->kept;

@@ -6,7 +6,7 @@
 
 #define COUNTERS(COUNT) \
     COUNT(messages) COUNT(kicks) COUNT(interrupts) COUNT(told) \
-    COUNT(chains) COUNT(pages) COUNT(discarded) COUNT(skipped) COUNT(in_holes) COUNT(kept) \
+    COUNT(chains) COUNT(pages) COUNT(discarded) COUNT(waiting) COUNT(skipped) COUNT(in_holes) COUNT(kept) \
     COUNT(marked) COUNT(unmarked) \
     COUNT(inflated) COUNT(deflated) COUNT(reported) COUNT(reports) COUNT(statistics) COUNT(taken)
 

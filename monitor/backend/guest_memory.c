@@ -1,6 +1,8 @@
 #include "guest_memory.h"
 
+#include <linux/magic.h>
 #include <sys/stat.h>
+#include <sys/vfs.h>
 #include <unistd.h>
 
 static void unmap(const struct balloon_region *region)
@@ -49,6 +51,13 @@ static bool has_bytes(int file, const struct region_place *place)
     return !fstat(file, &its) && S_ISREG(its.st_mode) && place->offset + place->size <= (uint64_t)its.st_size;
 }
 
+/* Bytes of the pages of a file of large pages; 0 where it has none. */
+static uint64_t page_size_of(int file)
+{
+    struct statfs its;
+    return !fstatfs(file, &its) && its.f_type == HUGETLBFS_MAGIC ? (uint64_t)its.f_bsize : 0;
+}
+
 bool memory_add(struct guest_memory *memory, struct region_place place, int file)
 {
     uint8_t *at = MAP_FAILED;
@@ -59,7 +68,8 @@ bool memory_add(struct guest_memory *memory, struct region_place place, int file
         return false;
     }
     memory->user[memory->count] = place.user;
-    memory->regions[memory->count++] = (struct balloon_region){place.guest, place.size, at, file, place.offset};
+    memory->regions[memory->count++] =
+        (struct balloon_region){place.guest, place.size, at, file, place.offset, page_size_of(file)};
     return true;
 }
 

@@ -1,13 +1,15 @@
-//! The set of the pages in the balloon, as words of the caller's.
+//! The set of the pages in the balloon, as words of the caller's, and what it says of large pages.
 
 ghost use Rattle.std.specs.Prelude.{◌≡◌, ◌-◌, ◌^◌, min};
 ghost use Rattle.vb_model.specs.Tests.{one_if};
 ghost use Rattle.vb_core.specs.Ballooned.{is_ballooned, ballooned_count};
 ghost use Rattle.vb_c.specs.Codes.{kind_of_code};
+ghost use Rattle.vb_monitor.specs.Large.{LargeBy, counted};
 ghost use Rattle.vb_c.specs.Marks.{marked_of, MarksFor};
 
 use crate::answers::{OK, code_of, kind_of_code};
-use vb_core::{Denial, Run, count_ballooned, is_ballooned, mark};
+use vb_core::{Denial, Device, Run, count_ballooned, is_ballooned, mark};
+use vb_monitor::{Cut, Large, Region, large_pages};
 
 /// How many pages were put into the set, or taken out of it.
 #[repr(C)]
@@ -55,4 +57,18 @@ pub extern "C" fn vb_count_ballooned(set: &[u64]) -> u64
     ensures { result ≡ min (ballooned_count set.now) (2 ^ 64 - 1) }
 {
     count_ballooned(set)
+}
+
+/// Of a part that is given up, what goes back to a machine whose pages are large.
+#[unsafe(no_mangle)]
+pub extern "C" fn vb_large_pages(
+    device: &Device,
+    region: &Region,
+    page_size: u64,
+    part: &Cut,
+    set: &[u64],
+) -> Large
+    ensures { LargeBy page_size region.now part.now (counted device.now set.now) result }
+{
+    large_pages(device, region, page_size, part, set)
 }

@@ -32,3 +32,6 @@ mod GivingFacts
 mod ChainFacts
 mod LookFacts
 mod WholeFacts
+pub mod LargeLemmas
+pub mod LargeLaws
+mod LargeFacts

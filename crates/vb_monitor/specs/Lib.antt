@@ -16,3 +16,4 @@ pub mod SoFar
 pub mod Turns
 pub mod Asking
 pub mod PartsOfRuns
+pub mod Large

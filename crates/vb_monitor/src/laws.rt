@@ -1,6 +1,6 @@
 //! What the accesses of a notice come to, whatever memory answers.
 
-ghost use Rattle.std.specs.Prelude.{ℕ, ◌+◌, ◌*◌, ◌≤◌, List, [], None, length};
+ghost use Rattle.std.specs.Prelude.{◌≡◌, ℕ, ◌+◌, ◌*◌, ◌≤◌, ◌||◌, true, List, [], None, length};
 ghost use Rattle.vb_core.specs.declared.kinds.Kind.{Kind};
 ghost use Rattle.vb_core.specs.declared.device.Device.{Device};
 ghost use Rattle.vb_monitor.specs.declared.regions.Region.{Region};
@@ -16,6 +16,11 @@ ghost use Rattle.vb_monitor.specs.Order.{Row, MayFollow};
 ghost use Rattle.vb_monitor.specs.SoFar.{Each};
 ghost use Rattle.vb_monitor.specs.Asking.{GivesHeldAlone};
 ghost use Rattle.vb_monitor.specs.PartsOfRuns.{ArePartsOf};
+ghost use Rattle.vb_monitor.specs.declared.cuts.Cut.{Cut};
+ghost use Rattle.vb_monitor.specs.declared.large.Large.{Large};
+ghost use Rattle.vb_monitor.specs.Large.{LargeBy, Goes, AreWholePages, may_go, is_of, is_of_large};
+ghost use Rattle.vb_monitor.specs.Large.{small_pages};
+ghost use Rattle.vb_core.specs.Ballooned.{is_ballooned};
 ghost use Rattle.vb_monitor.specs.Turns.{ReadsInTurn, TellsInTurn, WritesUsedAlone};
 
 /// A notice touches no byte outside its regions: each word and each copy that it reads, each number
@@ -112,4 +117,19 @@ pub fn asking_gives_the_buffer_back()
 pub fn asking_makes_few_accesses()
     ensures { (regions : List Region) (head : ℕ) (d1 d2 : Device) (outcome : Outcome)
         (log : List Access) → Asks regions head d1 d2 outcome log → length log ≤ 6 }
+{}
+
+/// Of large pages just those go back to the machine that a part enters and all whose pages of 4096
+/// bytes were given up: each page that is discarded is the part's or was given up before, whole
+/// large pages are discarded, in memory and in the region's file, and none stays that may go.
+pub fn large_pages_go_once_they_are_given_up()
+    ensures given { (size : ℕ) (r : Region) (part : Cut) (set : List ℕ) (answer : Large) →
+        LargeBy size r part set answer → (p : ℕ) → is_of r answer.cut p ≡ true →
+        (is_of r part p || is_ballooned set p) ≡ true }
+    ensures whole { (size : ℕ) (r : Region) (part : Cut) (set : List ℕ) (answer : Large) →
+        LargeBy size r part set answer → AreWholePages size r answer.cut }
+    ensures largest { (size : ℕ) (r : Region) (part : Cut) (set : List ℕ) (answer : Large) →
+        LargeBy size r part set answer → may_go size r part ≡ true → (n : ℕ) →
+        Goes size r part set n → (p : ℕ) → is_of_large (small_pages size) n p ≡ true →
+        is_of r answer.cut p ≡ true }
 {}

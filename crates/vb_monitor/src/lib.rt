@@ -8,6 +8,7 @@ mod cuts;
 mod discards;
 mod ends;
 mod giving;
+mod large;
 mod laws;
 mod looks;
 mod memory;
@@ -27,11 +28,12 @@ mod walk;
 pub use balloon::{Balloon, may_tell};
 pub use cuts::Cut;
 pub use giving::UsedSpots;
+pub use large::{LARGEST_PAGE, Large, large_pages};
 pub use laws::{
     a_notice_makes_few_accesses, a_part_is_whole_pages_of_its_run, a_run_has_few_parts,
     accesses_come_in_their_order, asking_gives_the_buffer_back, asking_makes_few_accesses,
-    nothing_outside_the_regions_is_touched, only_named_pages_are_discarded,
-    only_used_elements_are_written, what_counts_is_read_once,
+    large_pages_go_once_they_are_given_up, nothing_outside_the_regions_is_touched,
+    only_named_pages_are_discarded, only_used_elements_are_written, what_counts_is_read_once,
 };
 pub use memory::LiveMemory;
 pub use notice::Notice;

@@ -102,6 +102,8 @@ pub struct Served {
     pub pages: u64,
     /// Of these, discarded.
     pub discarded: u64,
+    /// Of these, pages whose large page wasn't given up whole yet ([`Monitor::page_size`]).
+    pub waiting: u64,
     /// Numbers past the end or of reserved pages.
     pub skipped: u64,
     /// Pages put into the set of ballooned pages, or taken out of it.
@@ -129,6 +131,7 @@ impl Served {
         self.more |= other.more;
         self.pages += other.pages;
         self.discarded += other.discarded;
+        self.waiting += other.waiting;
         self.skipped += other.skipped;
         self.marked += other.marked;
         self.unmarked += other.unmarked;
@@ -457,7 +460,7 @@ impl Balloon {
         let obeyed = hands.obey(notice, &mut state.0, regions, room);
         let mut served = hands.served;
         if notice.kind != Kind::Deflate as u32 {
-            served.in_holes = served.pages - served.discarded - served.kept;
+            served.in_holes = served.pages - served.discarded - served.kept - served.waiting;
         }
         if obeyed.is_err() {
             served.stopped = Some(Refusal::Unreachable);

@@ -135,7 +135,13 @@ pub trait Monitor {
     /// The guest told its statistics, any tags in any order.
     fn statistics(&mut self, _figures: &[Statistic]) {}
 
-    /// Discards whole pages of a region; an error where the machine keeps them.
+    /// Bytes of the pages of the machine that are behind the region of this number: a power of two from 4096 to 1 GiB; 0 is
+    /// 4096. A larger page is discarded once all of it is given up.
+    fn page_size(&self, _region: usize) -> u64 {
+        0
+    }
+
+    /// Discards whole pages of a region, of its `page_size`; an error where the machine keeps them.
     fn discard(&mut self, memory: &dyn LiveMemory, cut: &Cut) -> io::Result<()> {
         memory.discard(cut)
     }
@@ -171,9 +177,18 @@ impl Hands<'_> {
         }
     }
 
-    fn discard(&mut self, cut: &Cut) {
-        let pages = cut.length / PAGE;
-        match self.monitor.discard(self.memory, cut) {
+    /// Discards a part; where the machine's pages are large, those that are given up whole.
+    fn discard(&mut self, part: &Cut, balloon: &raw::Balloon, regions: &[Region]) {
+        let large = match self.monitor.page_size(part.region) {
+            0 => raw::Large { cut: *part, waiting: 0 },
+            size => raw::large_pages(&balloon.device, &regions[part.region], size, part, self.ballooned),
+        };
+        let pages = part.length / PAGE - large.waiting;
+        self.served.waiting += large.waiting;
+        if large.cut.length == 0 {
+            return;
+        }
+        match self.monitor.discard(self.memory, &large.cut) {
             Ok(()) => self.served.discarded += pages,
             Err(error) => {
                 self.served.kept += pages;
@@ -191,18 +206,24 @@ impl Hands<'_> {
     }
 
     /// Does each thing that is to be done, in the order of the bits of `what`; answers the word that was read, if one was.
-    fn perform(&mut self, notice: &Notice, room: &mut Room, keeps: bool) -> Result<u16, Unreachable> {
+    fn perform(
+        &mut self,
+        notice: &Notice,
+        room: &mut Room,
+        balloon: &raw::Balloon,
+        regions: &[Region],
+    ) -> Result<u16, Unreachable> {
         let is_asked = |bit| notice.what & bit != 0;
         let mut answer = 0;
         if is_asked(raw::TELL_PAGES) {
-            self.tell_pages(notice, room, keeps);
+            self.tell_pages(notice, room, balloon.keeps_reports());
         }
         if is_asked(raw::TELL_FIGURES) {
             self.monitor.statistics(&room.figures[..notice.figures as usize]);
             self.served.chains += 1;
         }
         if is_asked(raw::DISCARD) {
-            room.cuts[..notice.cuts as usize].iter().for_each(|cut| self.discard(cut));
+            room.cuts[..notice.cuts as usize].iter().for_each(|cut| self.discard(cut, balloon, regions));
         }
         if is_asked(raw::GIVE_BACK) {
             self.give_back(notice)?;
@@ -233,7 +254,7 @@ impl Hands<'_> {
         room: &mut Room,
     ) -> Result<(), Unreachable> {
         while notice.what != 0 {
-            let answer = self.perform(notice, room, balloon.keeps_reports())?;
+            let answer = self.perform(notice, room, balloon, regions)?;
             raw::go_on(notice, balloon, regions, room, answer);
         }
         Ok(())

@@ -130,6 +130,15 @@ pub struct Cut {
     pub length: u64,
 }
 
+/// Whole large pages of one region, none where they have no byte; and how many pages of 4096 bytes of a part aren't among
+/// them.
+#[repr(C)]
+#[derive(Clone, Copy)]
+pub struct Large {
+    pub cut: Cut,
+    pub waiting: u64,
+}
+
 /// All that a balloon is.
 #[repr(C)]
 #[derive(Clone, Copy, Default)]
@@ -234,6 +243,7 @@ layout!(Marked, 16, code at 0, pages at 8);
 layout!(Region, 24, guest at 0, length at 8, in_file at 16);
 layout!(Spot, 16, region at 0, offset at 8);
 layout!(Cut, 32, region at 0, offset at 8, in_file at 16, length at 24);
+layout!(Large, 40, cut.region at 0, cut.length at 24, waiting at 32);
 layout!(Balloon, 184, device.status at 172, held at 176);
 layout!(Notice, 192, what at 0, kind at 4, at.region at 8, length at 24, into at 28, runs at 32, pages at 36);
 layout!(Notice, 192, skipped at 40, figures at 44, cuts at 48, id_at.region at 56, length_at.region at 72);
@@ -255,6 +265,14 @@ extern "C" {
     pub fn vb_kind(device: *const Device, number: u32) -> u32;
     pub fn vb_read_config(device: *const Device, offset: u32, out: *mut u8, length: usize);
     pub fn vb_write_config(device: *mut Device, offset: u32, bytes: *const u8, length: usize) -> u32;
+    fn vb_large_pages(
+        device: *const Device,
+        region: *const Region,
+        page_size: u64,
+        part: *const Cut,
+        set: *const u64,
+        words: usize,
+    ) -> Large;
     fn vb_keeps_reports(device: *const Device) -> u32;
     pub fn vb_is_ballooned(set: *const u64, words: usize, page: u32) -> u32;
     pub fn vb_count_ballooned(set: *const u64, words: usize) -> u64;
@@ -311,6 +329,12 @@ extern "C" {
 pub fn mark(kind: u32, runs: &[Run], set: &mut [u64]) -> Marked {
     // SAFETY: the pointers are of slices with their lengths.
     unsafe { vb_mark(kind, runs.as_ptr(), runs.len(), set.as_mut_ptr(), set.len()) }
+}
+
+/// Of a part that is given up, what goes back to a machine whose pages have this size.
+pub fn large_pages(device: &Device, region: &Region, page_size: u64, part: &Cut, set: &[u64]) -> Large {
+    // SAFETY: the pointers are of `&`, and of a slice with its length.
+    unsafe { vb_large_pages(device, region, page_size, part, set.as_ptr(), set.len()) }
 }
 
 /// Begins a look at a queue, for so many chains and pages at most.

@@ -1,10 +1,12 @@
 //! A driver played by hand over two regions with a hole between them, one of them a file.
 
 use std::fs::File;
+use std::io;
 use std::os::unix::io::FromRawFd;
 use std::sync::atomic::{AtomicBool, Ordering};
 use vb_balloon::{
-    features, Balloon, Denied, Kind, Monitor, Refusal, Run, Settings, State, StateError, Statistic, STATE_BYTES,
+    features, Balloon, Cut, Denied, Kind, LiveMemory, Monitor, Refusal, Run, Settings, State, StateError, Statistic,
+    STATE_BYTES,
 };
 use std::sync::Arc;
 use vm_memory::{Bytes, FileOffset, GuestAddress, GuestMemoryMmap, GuestRegionMmap, MmapRegion};
@@ -250,6 +252,44 @@ fn reports_keep_what_is_poisoned() {
     }
     let mut balloon = Guest::new().prepared(settings());
     assert_eq!(balloon.write_config(12, &[1; 4]), Err(Refusal::BadArgument));
+}
+
+/// A machine of pages of 2 MiB: what is discarded is whole ones.
+#[derive(Default)]
+struct Larges(Vec<Cut>);
+
+impl Monitor for Larges {
+    fn page_size(&self, region: usize) -> u64 {
+        [2 << 20, 0][region]
+    }
+
+    fn discard(&mut self, memory: &dyn LiveMemory, cut: &Cut) -> io::Result<()> {
+        self.0.push(*cut);
+        memory.discard(cut)
+    }
+}
+
+#[test]
+fn a_large_page_goes_once_it_is_given_up() {
+    let mut guest = Guest::new();
+    let mut balloon = guest.ready(settings());
+    balloon.ballooned = vec![0; balloon.words_of_set()];
+    let mut larges = Larges::default();
+    let mut notify = |guest: &mut Guest, pages: &[u32]| {
+        guest.name(Kind::Inflate, pages);
+        let served = balloon.notify(&guest.memory, Kind::Inflate, &mut larges);
+        assert_eq!((served.stopped, served.in_holes, served.kept), (None, 0, 0));
+        (served.discarded, served.waiting, larges.0.clone())
+    };
+    guest.put(2 << 20, &[7; 4096]);
+    let pages: Vec<u32> = (512..1024).collect();
+    assert_eq!(notify(&mut guest, &pages[..256]), (0, 256, vec![]));
+    assert_eq!(notify(&mut guest, &pages[256..511]), (0, 255, vec![]));
+    assert_eq!(guest.byte(2 << 20), 7);
+    let large = Cut { region: 0, offset: 2 << 20, in_file: 2 << 20, length: 2 << 20 };
+    let small = Cut { region: 1, offset: 904 << 12, in_file: 904 << 12, length: 4096 };
+    assert_eq!(notify(&mut guest, &[1023, 5000]), (2, 0, vec![large, small]));
+    assert_eq!(guest.byte(2 << 20), 0);
 }
 
 #[test]

@@ -30,6 +30,7 @@ pub struct Mapped {
     host: *mut u8,
     fd: c_int,
     offset: u64,
+    page_size: u64,
 }
 
 /// `struct balloon`, without what is balloon.h's alone at its end.
@@ -70,6 +71,7 @@ pub struct Outcome {
     more: bool,
     pages: u64,
     discarded: u64,
+    waiting: u64,
     skipped: u64,
     marked: u64,
     unmarked: u64,
@@ -119,6 +121,7 @@ impl Outcome {
             more: served.more,
             pages: served.pages,
             discarded: served.discarded,
+            waiting: served.waiting,
             skipped: served.skipped,
             marked: served.marked,
             unmarked: served.unmarked,
@@ -145,6 +148,10 @@ impl Monitor for Hooks<'_> {
             // SAFETY: the pointer is of a slice with its length.
             unsafe { tell(self.0.context, figures.as_ptr(), figures.len() as u32) }
         }
+    }
+
+    fn page_size(&self, region: usize) -> u64 {
+        self.1.mapped(region).page_size
     }
 
     fn discard(&mut self, memory: &dyn LiveMemory, cut: &Cut) -> io::Result<()> {

@@ -1,0 +1,11 @@
+use Rattle.vb_monitor.proofs.LargeLaws.{given_up, whole_pages, largest}
+use Rattle.vb_monitor.proofs.laws.large_pages_go_once_they_are_given_up.Goals as goal
+
+pub returns-clause-given : goal.returns-clause-given
+returns-clause-given c = given_up
+
+pub returns-clause-whole : goal.returns-clause-whole
+returns-clause-whole c = whole_pages
+
+pub returns-clause-largest : goal.returns-clause-largest
+returns-clause-largest c = largest
