@@ -1,2 +1,3 @@
 pub mod ShowLemmas
+pub mod UsualLemmas
 mod NoticeFacts
