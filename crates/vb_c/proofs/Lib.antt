@@ -1,4 +1,5 @@
 pub mod ShowLemmas
+pub mod UsualLemmas
 mod NoticeFacts
 mod Samples
 mod CodeFacts

@@ -13,3 +13,4 @@ mod saving;
 mod serving;
 mod sharing;
 mod showing;
+mod usual;

@@ -134,7 +134,7 @@ fn why_of(code: u32, rule: u32) -> Option<Denial>
 
 impl VbNotice {
     /// What was served, and may be yet.
-    fn tally(&self) -> Tally
+    pub(crate) fn tally(&self) -> Tally
         ensures { result ≡ tally_of self.now }
     {
         Tally {
@@ -150,7 +150,7 @@ impl VbNotice {
     }
 
     /// How far the walk along a chain is.
-    fn walk(&self) -> Walk
+    pub(crate) fn walk(&self) -> Walk
         ensures { result ≡ walk_of self.now }
     {
         Walk {

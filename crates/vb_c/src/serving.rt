@@ -9,6 +9,7 @@ ghost use Rattle.vb_c.specs.Serving.{HandsOver, BeginsFor, AsksFor, GoesOnBy};
 
 use crate::answers::{BAD_ARGUMENT, NO_QUEUE, NOTHING, kind_of_code};
 use crate::notice::{VbNotice, VbRoom};
+use crate::usual::go_usually;
 use vb_core::Run;
 use vb_monitor::{Balloon, Budget, Cut, MAX_CUTS, MAX_RUNS, Notice, Region};
 
@@ -108,17 +109,16 @@ pub extern "C" fn vb_ask(
     }
 }
 
-/// What is to be done next, once that was done which was to be done.
-#[unsafe(no_mangle)]
-pub extern "C" fn vb_go_on(
+/// What is to be done next, however a notice goes on.
+fn go_anyhow(
     notice: &mut VbNotice,
     balloon: &mut Balloon,
     regions: &[Region],
     room: &mut VbRoom,
     answer: u16,
 ) -> u32
-    ensures goes { GoesOnBy (notice_of notice.old) regions.now answer balloon.old
-        balloon.new room.old room.new notice.new }
+    ensures goes { GoesOnBy (notice_of notice.old) regions.now answer balloon.old balloon.new
+        room.old room.new notice.new }
     ensures what { result ≡ notice.new.what }
 {
     match notice.read() {
@@ -143,4 +143,23 @@ pub extern "C" fn vb_go_on(
             )
         }
     }
+}
+
+/// What is to be done next, once that was done which was to be done.
+#[unsafe(no_mangle)]
+pub extern "C" fn vb_go_on(
+    notice: &mut VbNotice,
+    balloon: &mut Balloon,
+    regions: &[Region],
+    room: &mut VbRoom,
+    answer: u16,
+) -> u32
+    ensures goes { GoesOnBy (notice_of notice.old) regions.now answer balloon.old
+        balloon.new room.old room.new notice.new }
+    ensures what { result ≡ notice.new.what }
+{
+    if go_usually(notice, balloon, regions, room, answer) {
+        return notice.what;
+    }
+    go_anyhow(notice, balloon, regions, room, answer)
 }

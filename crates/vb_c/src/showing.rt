@@ -120,7 +120,7 @@ impl VbNotice {
     }
 
     /// Shows a word that is to be read.
-    fn show_read(&mut self, what: u32, phase: u8, at: Spot)
+    pub(crate) fn show_read(&mut self, what: u32, phase: u8, at: Spot)
         ensures { self.new ≡ record self.old { what = what; phase = phase; at = at } }
     {
         self.what = what;
@@ -129,7 +129,7 @@ impl VbNotice {
     }
 
     /// Shows a descriptor that is to be copied.
-    fn show_descriptor(&mut self, bits: u32, at: Spot, walk: Walk)
+    pub(crate) fn show_descriptor(&mut self, bits: u32, at: Spot, walk: Walk)
         requires { bits < 16 }
         ensures phase { phase_of self.new ≡ Some (AwaitsDescriptor at walk) }
         ensures says { (tally : Tally) → Says self.new tally (AwaitsDescriptor at walk) }
@@ -187,7 +187,7 @@ impl VbNotice {
 
     /// Shows flags that are to be read.
     #[tactic(auto, using(crate::proofs::ShowLemmas::show_steps))]
-    fn show_flags(&mut self, bits: u32, at: Spot, why: Option<Denial>, more: bool)
+    pub(crate) fn show_flags(&mut self, bits: u32, at: Spot, why: Option<Denial>, more: bool)
         requires { bits < 16 }
         ensures phase { phase_of self.new ≡ Some (AwaitsFlags at why more) }
         ensures what { self.new.what ≡ bits + answer_bits (AwaitsFlags at why more) }

@@ -2,6 +2,7 @@ pub mod RegionLemmas
 pub mod PartLemmas
 pub mod BufferLemmas
 pub mod NextLemmas
+pub mod UsualLemmas
 pub mod GoesLemmas
 pub mod OrderLemmas
 pub mod GivenLemmas

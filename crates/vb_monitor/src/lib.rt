@@ -23,6 +23,7 @@ mod regions;
 mod room;
 mod serving;
 mod step;
+mod usual;
 mod walk;
 
 pub use balloon::{Balloon, may_tell};
@@ -45,3 +46,4 @@ pub use regions::{FILE_LIMIT, Region, Spot, find};
 pub use room::{MAX_BYTES, MAX_FIGURES, MAX_PIECES, MAX_RUNS};
 pub use serving::serve;
 pub use step::{Discarding, Phase, Place, Step, Walk};
+pub use usual::{NextDescriptor, descriptor_after, entry_after, flags_after, next_descriptor};

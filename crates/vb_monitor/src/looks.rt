@@ -17,7 +17,7 @@ use vb_chain::ChainFault;
 use vb_core::{Device, Kind, Ring};
 
 /// Where the entry stands that is taken next, behind the available ring's begin.
-fn entry_offset(ring: &Ring) -> u64
+pub(crate) fn entry_offset(ring: &Ring) -> u64
     ensures { result ≡ entry_offset ring.now }
 {
     if ring.size == 0 {
@@ -27,7 +27,7 @@ fn entry_offset(ring: &Ring) -> u64
 }
 
 /// Whether a chain stands there by this index.
-fn stands(ring: &Ring, index: u16) -> Result<bool, ChainFault>
+pub(crate) fn stands(ring: &Ring, index: u16) -> Result<bool, ChainFault>
     ensures { result ≡ stands ring.now index }
 {
     let ahead = index.wrapping_sub(ring.next_avail);

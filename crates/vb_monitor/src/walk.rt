@@ -40,7 +40,7 @@ fn memory_end(device: &Device) -> u64
 }
 
 /// The descriptor of these bytes.
-fn descriptor_of(bytes: &[u8]) -> Descriptor
+pub(crate) fn descriptor_of(bytes: &[u8]) -> Descriptor
     requires { DESCRIPTOR_SIZE ≤ length bytes.now }
     ensures { result ≡ descriptor_of bytes.now }
 {
@@ -108,7 +108,7 @@ pub(crate) fn follow(
 }
 
 /// The first rule that a descriptor breaks, after `visited` others.
-fn table_fault(
+pub(crate) fn table_fault(
     device: &Device,
     kind: Kind,
     writing: bool,

@@ -1,0 +1,103 @@
+-- Notices that go on as they mostly do.
+use Rattle.std.proofs.Common.{◌≡◌, ◌∙◌, ap, sym, subst, refl, arith, ℕ, ◌+◌, true, false, List, [], ◌++◌, map, take, Option, Some, None}
+use Rattle.std.specs.Prelude.{◌==◌, if◌then◌else◌}
+use Rattle.vb_core.specs.declared.kinds.Kind.{Kind}
+use Rattle.vb_core.specs.declared.device.Device.{Device}
+use Rattle.vb_monitor.specs.declared.regions.Region.{Region}
+use Rattle.vb_monitor.specs.declared.orders.Told.TheVariants.{Nothing}
+use Rattle.vb_monitor.specs.declared.orders.Asked.{Asked}
+use Rattle.vb_monitor.specs.declared.balloon.Balloon.{Balloon}
+use Rattle.vb_monitor.specs.declared.outcome.Outcome.{Outcome}
+use Rattle.vb_monitor.specs.declared.outcome.Tally.{Tally}
+use Rattle.vb_monitor.specs.declared.notice.Notice.{Notice}
+use Rattle.vb_monitor.specs.declared.step.Phase.{Phase}
+use Rattle.vb_monitor.specs.declared.step.Phase.TheVariants.{AwaitsIndex, AwaitsEntry}
+use Rattle.vb_monitor.specs.declared.step.Phase.TheVariants.{AwaitsDescriptor, Discards}
+use Rattle.vb_monitor.specs.declared.step.Phase.TheVariants.{AwaitsFlags, Ended}
+use Rattle.vb_monitor.specs.Accesses.{Access, Discard}
+use Rattle.vb_monitor.specs.Machine.{Fits, waits, AheadAt, Awaited, whole, room_of, outcome_at}
+use Rattle.vb_c.specs.declared.notice.VbNotice.{VbNotice}
+use Rattle.vb_c.specs.declared.notice.VbRoom.{VbRoom}
+use Rattle.vb_c.specs.Codes.{kind_of_code, why_of}
+use Rattle.vb_c.specs.Notices.{says_yes, tally_of, walk_of, part_of, discarding_of, cut_of_notice}
+use Rattle.vb_c.specs.Notices.{phase_of, notice_by, notice_of, Says, answer_bits, what_of}
+use Rattle.vb_c.specs.Serving.{held_by, room_in, GoesOnBy}
+
+-- the phase of this number
+abbrev phase_at : ℕ → VbNotice → Option Phase
+phase_at n c =
+    if n == 0
+    then Some (Ended (why_of c.code c.rule) (says_yes c.interrupt) (says_yes c.more))
+    else if n == 1 then Some (AwaitsIndex c.at)
+    else if n == 2 then Some (AwaitsEntry c.at)
+    else if n == 3 then Some (AwaitsDescriptor c.at (walk_of c))
+    else if n == 4 then part_of c
+    else if n == 5 then Some (AwaitsFlags c.at (why_of c.code c.rule) (says_yes c.more))
+    else if n == 6 then Some (Discards (cut_of_notice c) (discarding_of c))
+    else None
+
+pub awaits_index : (c : VbNotice) → c.phase ≡ 1 → phase_of c ≡ Some (AwaitsIndex c.at)
+awaits_index c e = ap (λ (n : ℕ). phase_at n c) e
+
+pub awaits_entry : (c : VbNotice) → c.phase ≡ 2 → phase_of c ≡ Some (AwaitsEntry c.at)
+awaits_entry c e = ap (λ (n : ℕ). phase_at n c) e
+
+pub awaits_descriptor : (c : VbNotice) → c.phase ≡ 3 →
+    phase_of c ≡ Some (AwaitsDescriptor c.at (walk_of c))
+awaits_descriptor c e = ap (λ (n : ℕ). phase_at n c) e
+
+says_notice : (kind : Kind) (p : Phase) (t : Tally) (c : VbNotice) →
+    kind_of_code c.kind ≡ Some kind → phase_of c ≡ Some p → tally_of c ≡ t →
+    notice_of c ≡ Some (record { kind = kind; step = record { tally = t; phase = p } })
+says_notice kind p t c k e f =
+    ap (λ (x : Option Kind). notice_by x (phase_of c) (tally_of c)) k
+    ∙ (ap (λ (x : Option Phase). notice_by (Some kind) x (tally_of c)) e
+    ∙ ap (λ (x : Tally). notice_by (Some kind) (Some p) x) f)
+
+no_bits : (n : ℕ) → n ≡ 0 + n
+no_bits n = omega arith
+
+abbrev nothing : Asked
+nothing = record { told = Nothing; gives = false }
+
+-- where nothing is done before the notice waits, and nothing changes but what it says, and the room
+pub goes_usual : (kind : Kind) (p q : Phase) (s t : Tally) (regions : List Region) (answer : ℕ)
+    (b : Balloon) (r1 r2 : VbRoom) (c1 c2 : VbNotice) →
+    kind_of_code c1.kind ≡ Some kind → phase_of c1 ≡ Some p → tally_of c1 ≡ s →
+    kind_of_code c2.kind ≡ Some kind → phase_of c2 ≡ Some q → tally_of c2 ≡ t →
+    Says c2 t q → c2.what ≡ answer_bits q → c2.orders.cuts ≡ 0 → waits q ≡ true → Fits q →
+    outcome_at q t ≡ None →
+    ((after : Device) (outcome : Outcome) (before : List ℕ) (done rest : List Access) →
+    Awaited p kind answer before (room_in r1) done →
+    AheadAt q (whole regions kind after outcome) t b.device (room_in r2) rest →
+    AheadAt p (whole regions kind after outcome) s b.device
+    (room_of r1.pieces before r1.runs r1.figures) (done ++ rest)) →
+    GoesOnBy (notice_of c1) regions answer b b r1 r2 c2
+goes_usual kind p q s t regions answer b r1 r2 c1 c2 k1 e1 f1 k2 e2 f2 says what none w fits over
+    step =
+    let n : Notice = record { kind = kind; step = record { tally = s; phase = p } } in
+    let m : Notice = record { kind = kind; step = record { tally = t; phase = q } } in
+    subst (λ (o : Option Notice). GoesOnBy o regions answer b b r1 r2 c2)
+    (sym (says_notice kind p s c1 k1 e1 f1)) (record {
+      next = m;
+      device = b.device;
+      kind_is = refl;
+      step = step;
+      hands = record {
+        asked = nothing;
+        notice = m;
+        is = record {
+          read = says_notice kind q t c2 k2 e2 f2;
+          says = says;
+          what = what ∙ (no_bits (answer_bits q) ∙ sym (ap (λ (k : ℕ). what_of nothing k q) none));
+        };
+        kind_is = refl;
+        step = λ after outcome pieces bytes figures rest h.
+            subst (λ (k : ℕ). AheadAt q (whole regions kind after outcome) t b.device
+            (room_of pieces bytes r2.runs figures) (map Discard (take k r2.cuts) ++ rest))
+            (sym none) h;
+        waits_now = w;
+        fits = fits;
+        held = sym (ap (λ (o : Option Outcome). held_by o kind b) over);
+      };
+    })

@@ -1,0 +1,133 @@
+//! Notices that go on as they mostly do: what they say is changed where it stands.
+
+ghost use Rattle.std.specs.Prelude.{◌≡◌, true, false, Some};
+ghost use Rattle.vb_c.specs.Codes.{kind_of_code};
+ghost use Rattle.vb_c.specs.Notices.{notice_of};
+ghost use Rattle.vb_c.specs.Serving.{GoesOnBy};
+
+use crate::answers::kind_of_code;
+use crate::notice::{DESCRIPTOR, ENTRY, INDEX, READ_ENTRY, VbNotice, VbRoom};
+use vb_core::Kind;
+use vb_monitor::{
+    Balloon, Region, Walk, descriptor_after, entry_after, flags_after, next_descriptor,
+};
+
+/// The index was read, and another chain stands there, or none any more behind one that was given
+/// back; says whether it is so. Else nothing is changed.
+fn go_index(
+    notice: &mut VbNotice,
+    balloon: &Balloon,
+    regions: &[Region],
+    room: &VbRoom,
+    kind: Kind,
+    index: u16,
+) -> bool
+    requires kind { kind_of_code notice.old.kind ≡ Some kind }
+    requires phase { notice.old.phase ≡ 1 }
+    ensures went { result ≡ true → GoesOnBy (notice_of notice.old) regions.now index balloon.now
+        balloon.now room.now room.now notice.new }
+    ensures stays { result ≡ false → notice.new ≡ notice.old }
+{
+    let tally = notice.tally();
+    if let Some(at) = entry_after(&balloon.device, regions, kind, tally, index) {
+        notice.orders.cuts = 0;
+        notice.chains_left = notice.chains_left.saturating_sub(1);
+        notice.show_read(READ_ENTRY, ENTRY, at);
+        return true;
+    }
+    match flags_after(&balloon.device, regions, kind, tally, index) {
+        None => false,
+        Some(at) => {
+            notice.orders.cuts = 0;
+            notice.show_flags(0, at, None, false);
+            true
+        }
+    }
+}
+
+/// The entry was read, and its head is a descriptor of the queue; says whether it is so. Else
+/// nothing is changed.
+fn go_entry(
+    notice: &mut VbNotice,
+    balloon: &Balloon,
+    regions: &[Region],
+    room: &VbRoom,
+    kind: Kind,
+    head: u16,
+) -> bool
+    requires kind { kind_of_code notice.old.kind ≡ Some kind }
+    requires phase { notice.old.phase ≡ 2 }
+    ensures went { result ≡ true → GoesOnBy (notice_of notice.old) regions.now head balloon.now
+        balloon.now room.now room.now notice.new }
+    ensures stays { result ≡ false → notice.new ≡ notice.old }
+{
+    match descriptor_after(&balloon.device, regions, kind, head) {
+        None => false,
+        Some(at) => {
+            let walk = Walk {
+                head,
+                count: 0,
+                writing: false,
+            };
+            notice.orders.cuts = 0;
+            notice.show_descriptor(0, at, walk);
+            true
+        }
+    }
+}
+
+/// A descriptor was copied that names another one; says whether it is so. Else nothing is changed.
+fn go_descriptor(
+    notice: &mut VbNotice,
+    balloon: &Balloon,
+    regions: &[Region],
+    room: &mut VbRoom,
+    kind: Kind,
+    answer: u16,
+) -> bool
+    requires kind { kind_of_code notice.old.kind ≡ Some kind }
+    requires phase { notice.old.phase ≡ 3 }
+    ensures went { result ≡ true → GoesOnBy (notice_of notice.old) regions.now answer balloon.now
+        balloon.now room.old room.new notice.new }
+    ensures stays { result ≡ false → (notice.new ≡ notice.old) × (room.new ≡ room.old) }
+{
+    match next_descriptor(
+        &balloon.device,
+        regions,
+        kind,
+        notice.walk(),
+        &mut room.pieces,
+        &room.bytes,
+    ) {
+        None => false,
+        Some(next) => {
+            notice.orders.cuts = 0;
+            notice.show_descriptor(0, next.at, next.walk);
+            true
+        }
+    }
+}
+
+/// Goes on as a notice mostly does, where it does so; says whether it is so. Else nothing is
+/// changed.
+pub(crate) fn go_usually(
+    notice: &mut VbNotice,
+    balloon: &Balloon,
+    regions: &[Region],
+    room: &mut VbRoom,
+    answer: u16,
+) -> bool
+    ensures went { result ≡ true → GoesOnBy (notice_of notice.old) regions.now answer balloon.now
+        balloon.now room.old room.new notice.new }
+    ensures stays { result ≡ false → (notice.new ≡ notice.old) × (room.new ≡ room.old) }
+{
+    match kind_of_code(notice.kind) {
+        None => false,
+        Some(kind) => match notice.phase {
+            INDEX => go_index(notice, balloon, regions, room, kind, answer),
+            ENTRY => go_entry(notice, balloon, regions, room, kind, answer),
+            DESCRIPTOR => go_descriptor(notice, balloon, regions, room, kind, answer),
+            _ => false,
+        },
+    }
+}

@@ -1,0 +1,162 @@
+//! Where a notice goes on as it mostly does: the next place alone, which is all that has to be told.
+
+ghost use Rattle.std.specs.Prelude.{◌≡◌, ◌+◌, ◌-◌, false, List, None, IfSome, take};
+ghost use Rattle.vb_chain.specs.declared.descriptor.TheConstants.{DESCRIPTOR_SIZE};
+ghost use Rattle.vb_core.specs.declared.device.Device.{Device};
+ghost use Rattle.vb_core.specs.declared.runs.Run.{Run};
+ghost use Rattle.vb_core.specs.declared.statistics.Statistic.{Statistic};
+ghost use Rattle.vb_core.specs.Devices.{ring_of};
+ghost use Rattle.vb_monitor.specs.declared.outcome.Tally.{Tally};
+ghost use Rattle.vb_monitor.specs.declared.outcome.Outcome.{Outcome};
+ghost use Rattle.vb_monitor.specs.declared.step.Phase.TheVariants.{AwaitsEntry, AwaitsDescriptor};
+ghost use Rattle.vb_monitor.specs.declared.step.Phase.TheVariants.{AwaitsFlags};
+ghost use Rattle.vb_monitor.specs.Accesses.{Access};
+ghost use Rattle.vb_monitor.specs.Chains.{AfterDescriptor, Follows, descriptors};
+ghost use Rattle.vb_monitor.specs.Notices.{stands, AfterEntry, AfterIndex, TakesNext, with_chains};
+ghost use Rattle.vb_monitor.specs.Pieces.{pieces_in};
+ghost use Rattle.vb_monitor.specs.Machine.{Room, AheadAt, whole, room_of, next_chain, serves};
+
+use crate::copying::first_bytes;
+use crate::looks::{entry_offset, stands};
+use crate::pieces::{first_pieces, push_piece};
+use crate::regions::{find, find_from};
+use crate::room::{MAX_BYTES, MAX_PIECES};
+use crate::walk::{descriptor_of, descriptors, table_fault};
+use crate::{Region, Spot, Tally, Walk};
+use vb_chain::DESCRIPTOR_SIZE;
+use vb_core::{Buffer, Device, Kind};
+
+/// Where the entry is read, once the index was: another chain stands there, and the budget has room
+/// for it.
+#[tactic(auto, using(crate::proofs::NextLemmas::takes_next))]
+pub fn entry_after(
+    device: &Device,
+    regions: &[Region],
+    kind: Kind,
+    tally: Tally,
+    index: u16,
+) -> Option<Spot>
+    ensures { IfSome result (λ at. (after : Device) (outcome : Outcome) (room : Room)
+        (log : List Access) →
+        AheadAt (AwaitsEntry at) (whole regions.now kind after outcome)
+        (with_chains (tally.chains - 1) tally) device.now room log →
+        AfterIndex (stands (ring_of kind device.now) index) (whole regions.now kind after outcome)
+        (TakesNext tally.chains (whole regions.now kind after outcome) device.now tally)
+        device.now tally log) }
+{
+    let ring = device.ring(kind);
+    match stands(&ring, index) {
+        Ok(true) => {
+            if tally.chains == 0 || tally.pages == 0 {
+                return None;
+            }
+            find_from(regions, ring.avail, entry_offset(&ring), 2)
+        }
+        Ok(false) | Err(_) => None,
+    }
+}
+
+/// Where the driver's flags are read, once the index was: nothing stands there, and a chain was
+/// given back.
+pub fn flags_after(
+    device: &Device,
+    regions: &[Region],
+    kind: Kind,
+    tally: Tally,
+    index: u16,
+) -> Option<Spot>
+    ensures { IfSome result (λ at. (after : Device) (outcome : Outcome) (room : Room)
+        (log : List Access) →
+        AheadAt (AwaitsFlags at None false) (whole regions.now kind after outcome) tally device.now
+        room log →
+        AfterIndex (stands (ring_of kind device.now) index) (whole regions.now kind after outcome)
+        (TakesNext tally.chains (whole regions.now kind after outcome) device.now tally)
+        device.now tally log) }
+{
+    let ring = device.ring(kind);
+    match stands(&ring, index) {
+        Ok(false) => {
+            if !tally.given {
+                return None;
+            }
+            find(regions, ring.avail, 2)
+        }
+        Ok(true) | Err(_) => None,
+    }
+}
+
+/// Where the first descriptor of a chain is copied from, once its entry was read.
+pub fn descriptor_after(device: &Device, regions: &[Region], kind: Kind, head: u16) -> Option<Spot>
+    ensures { IfSome result (λ at. (tally : Tally) (after : Device) (outcome : Outcome)
+        (room : Room) (log : List Access) →
+        AheadAt (AwaitsDescriptor at (record { head = head; count = 0; writing = false }))
+        (whole regions.now kind after outcome) tally device.now room log →
+        AfterEntry (whole regions.now kind after outcome)
+        (next_chain (whole regions.now kind after outcome) tally) device.now tally head log) }
+{
+    let ring = device.ring(kind);
+    if head >= descriptors(&ring) {
+        return None;
+    }
+    match find_from(regions, ring.table, 16 * u64::from(head), 16) {
+        None => None,
+        Some(at) => Some(at),
+    }
+}
+
+/// The next descriptor of a chain.
+#[derive(Clone, Copy, Debug)]
+pub struct NextDescriptor {
+    pub at: Spot,
+    pub walk: Walk,
+}
+
+/// Where the next descriptor of a chain is copied from, once one was that breaks no rule and names
+/// another; that one's piece joins the others. Else they stay.
+#[tactic(auto, using(crate::proofs::BufferLemmas::length_in, crate::proofs::NextLemmas::follows_next))]
+pub fn next_descriptor(
+    device: &Device,
+    regions: &[Region],
+    kind: Kind,
+    walk: Walk,
+    pieces: &mut [Buffer; MAX_PIECES],
+    bytes: &[u8; MAX_BYTES],
+) -> Option<NextDescriptor>
+    ensures goes { IfSome result (λ x. (tally : Tally) (after : Device) (outcome : Outcome)
+        (runs : List Run) (figures : List Statistic) (log : List Access) →
+        AheadAt (AwaitsDescriptor x.at x.walk) (whole regions.now kind after outcome) tally
+        device.now (room_of pieces.new bytes.now runs figures) log →
+        AfterDescriptor (whole regions.now kind after outcome) device.now tally
+        (Follows (descriptors (ring_of kind device.now) - (walk.count + 1))
+        (whole regions.now kind after outcome) device.now tally
+        (serves (whole regions.now kind after outcome) tally device.now walk.head))
+        (serves (whole regions.now kind after outcome) tally device.now walk.head) walk.writing
+        (pieces_in (take walk.count pieces.old)) (take DESCRIPTOR_SIZE bytes.now) log) }
+    ensures stays { result ≡ None → pieces.new ≡ pieces.old }
+{
+    let descriptor = descriptor_of(first_bytes(bytes, DESCRIPTOR_SIZE));
+    let count = walk.count;
+    let visited = first_pieces(pieces, count).len() as u16;
+    if !descriptor.has_next() {
+        return None;
+    }
+    if let Some(_) = table_fault(device, kind, walk.writing, visited, &descriptor) {
+        return None;
+    }
+    let ring = device.ring(kind);
+    if count + 1 >= descriptors(&ring) {
+        return None;
+    }
+    match find_from(regions, ring.table, 16 * u64::from(descriptor.next), 16) {
+        None => None,
+        Some(at) => {
+            push_piece(pieces, count, &descriptor);
+            let walk = Walk {
+                head: walk.head,
+                count: count + 1,
+                writing: walk.writing || descriptor.is_writable(),
+            };
+            Some(NextDescriptor { at, walk })
+        }
+    }
+}
