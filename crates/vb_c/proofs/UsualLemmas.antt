@@ -1,6 +1,8 @@
 -- Notices that go on as they mostly do.
-use Rattle.std.proofs.Common.{◌≡◌, ◌∙◌, ap, sym, subst, refl, arith, ℕ, ◌+◌, true, false, List, [], ◌++◌, map, take, Option, Some, None}
-use Rattle.std.specs.Prelude.{◌==◌, if◌then◌else◌}
+use Rattle.std.proofs.Common.{◌≡◌, ◌∙◌, ap, sym, subst, refl, arith, ℕ, ◌+◌, ◌≤◌, Bool, true, false, List, [], ◌++◌, map, take, Option, Some, None}
+use Rattle.std.specs.Prelude.{◌==◌, nat_le, if◌then◌else◌}
+use Rattle.std.proofs.lemmas.Bool.Decides.{nat_tests}
+use Rattle.vb_monitor.specs.declared.room.TheConstants.{MAX_BYTES}
 use Rattle.vb_core.specs.declared.kinds.Kind.{Kind}
 use Rattle.vb_core.specs.declared.device.Device.{Device}
 use Rattle.vb_monitor.specs.declared.regions.Region.{Region}
@@ -12,14 +14,14 @@ use Rattle.vb_monitor.specs.declared.outcome.Tally.{Tally}
 use Rattle.vb_monitor.specs.declared.notice.Notice.{Notice}
 use Rattle.vb_monitor.specs.declared.step.Phase.{Phase}
 use Rattle.vb_monitor.specs.declared.step.Phase.TheVariants.{AwaitsIndex, AwaitsEntry}
-use Rattle.vb_monitor.specs.declared.step.Phase.TheVariants.{AwaitsDescriptor, Discards}
+use Rattle.vb_monitor.specs.declared.step.Phase.TheVariants.{AwaitsDescriptor, AwaitsPart, Discards}
 use Rattle.vb_monitor.specs.declared.step.Phase.TheVariants.{AwaitsFlags, Ended}
 use Rattle.vb_monitor.specs.Accesses.{Access, Discard}
 use Rattle.vb_monitor.specs.Machine.{Fits, waits, AheadAt, Awaited, whole, room_of, outcome_at}
 use Rattle.vb_c.specs.declared.notice.VbNotice.{VbNotice}
 use Rattle.vb_c.specs.declared.notice.VbRoom.{VbRoom}
 use Rattle.vb_c.specs.Codes.{kind_of_code, why_of}
-use Rattle.vb_c.specs.Notices.{says_yes, tally_of, walk_of, part_of, discarding_of, cut_of_notice}
+use Rattle.vb_c.specs.Notices.{says_yes, tally_of, walk_of, place_of, part_of, discarding_of, cut_of_notice}
 use Rattle.vb_c.specs.Notices.{phase_of, notice_by, notice_of, Says, answer_bits, what_of}
 use Rattle.vb_c.specs.Serving.{held_by, room_in, GoesOnBy}
 
@@ -46,7 +48,23 @@ pub awaits_descriptor : (c : VbNotice) → c.phase ≡ 3 →
     phase_of c ≡ Some (AwaitsDescriptor c.at (walk_of c))
 awaits_descriptor c e = ap (λ (n : ℕ). phase_at n c) e
 
-says_notice : (kind : Kind) (p : Phase) (t : Tally) (c : VbNotice) →
+pub awaits_flags : (c : VbNotice) → c.phase ≡ 5 → c.code ≡ 0 →
+    phase_of c ≡ Some (AwaitsFlags c.at None (says_yes c.more))
+awaits_flags c e f =
+    ap (λ (n : ℕ). phase_at n c) e
+    ∙ ap (λ (n : ℕ). Some (AwaitsFlags c.at (why_of n c.rule) (says_yes c.more))) f
+
+part_fits : (c : VbNotice) → c.into + c.length ≤ MAX_BYTES →
+    nat_le (c.into + c.length) MAX_BYTES ≡ true
+part_fits c h = grind (arith, nat_tests)
+
+pub awaits_part : (c : VbNotice) → c.phase ≡ 4 → c.into + c.length ≤ MAX_BYTES →
+    phase_of c ≡ Some (AwaitsPart c.at (place_of c))
+awaits_part c e h =
+    ap (λ (n : ℕ). phase_at n c) e
+    ∙ ap (λ (b : Bool). if b then Some (AwaitsPart c.at (place_of c)) else None) (part_fits c h)
+
+pub says_notice : (kind : Kind) (p : Phase) (t : Tally) (c : VbNotice) →
     kind_of_code c.kind ≡ Some kind → phase_of c ≡ Some p → tally_of c ≡ t →
     notice_of c ≡ Some (record { kind = kind; step = record { tally = t; phase = p } })
 says_notice kind p t c k e f =
@@ -66,7 +84,7 @@ pub goes_usual : (kind : Kind) (p q : Phase) (s t : Tally) (regions : List Regio
     kind_of_code c1.kind ≡ Some kind → phase_of c1 ≡ Some p → tally_of c1 ≡ s →
     kind_of_code c2.kind ≡ Some kind → phase_of c2 ≡ Some q → tally_of c2 ≡ t →
     Says c2 t q → c2.what ≡ answer_bits q → c2.orders.cuts ≡ 0 → waits q ≡ true → Fits q →
-    outcome_at q t ≡ None →
+    held_by (outcome_at q t) kind b ≡ b.held →
     ((after : Device) (outcome : Outcome) (before : List ℕ) (done rest : List Access) →
     Awaited p kind answer before (room_in r1) done →
     AheadAt q (whole regions kind after outcome) t b.device (room_in r2) rest →
@@ -98,6 +116,6 @@ goes_usual kind p q s t regions answer b r1 r2 c1 c2 k1 e1 f1 k2 e2 f2 says what
             (sym none) h;
         waits_now = w;
         fits = fits;
-        held = sym (ap (λ (o : Option Outcome). held_by o kind b) over);
+        held = sym over;
       };
     })

@@ -161,7 +161,7 @@ impl VbNotice {
     }
 
     /// Which part of a chain's pieces is copied.
-    fn place(&self) -> Place
+    pub(crate) fn place(&self) -> Place
         ensures { result ≡ place_of self.now }
     {
         Place {

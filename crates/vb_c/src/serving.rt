@@ -1,6 +1,7 @@
 //! Notices over the memory of a running guest.
 
-ghost use Rattle.std.specs.Prelude.{◌≡◌};
+ghost use Rattle.std.specs.Prelude.{◌≡◌, ◌+◌, ◌≤◌, Some};
+ghost use Rattle.vb_monitor.specs.declared.room.TheConstants.{MAX_BYTES};
 ghost use Rattle.vb_monitor.specs.Balloons.{held_head};
 ghost use Rattle.vb_monitor.specs.Machine.{Fits};
 ghost use Rattle.vb_c.specs.Codes.{kind_of_code};
@@ -8,10 +9,13 @@ ghost use Rattle.vb_c.specs.Notices.{HasEnded, notice_of};
 ghost use Rattle.vb_c.specs.Serving.{HandsOver, BeginsFor, AsksFor, GoesOnBy};
 
 use crate::answers::{BAD_ARGUMENT, NO_QUEUE, NOTHING, kind_of_code};
-use crate::notice::{VbNotice, VbRoom};
+use crate::notice::{DESCRIPTOR, PART, VbNotice, VbRoom};
 use crate::usual::go_usually;
-use vb_core::Run;
-use vb_monitor::{Balloon, Budget, Cut, MAX_CUTS, MAX_RUNS, Notice, Region};
+use vb_core::{Kind, Run};
+use vb_monitor::{
+    Balloon, Budget, Cut, MAX_BYTES, MAX_CUTS, MAX_RUNS, Notice, Region, after_descriptor,
+    after_part,
+};
 
 /// Hands a notice over, with all that is to be done before it waits; what it came to is noted, once
 /// it has ended.
@@ -145,6 +149,108 @@ fn go_anyhow(
     }
 }
 
+/// A descriptor was copied, which joins the others or breaks a rule.
+fn go_chain(
+    notice: &mut VbNotice,
+    balloon: &mut Balloon,
+    regions: &[Region],
+    room: &mut VbRoom,
+    kind: Kind,
+    answer: u16,
+) -> u32
+    requires kind { kind_of_code notice.old.kind ≡ Some kind }
+    requires phase { notice.old.phase ≡ 3 }
+    ensures goes { GoesOnBy (notice_of notice.old) regions.now answer balloon.old balloon.new
+        room.old room.new notice.new }
+    ensures what { result ≡ notice.new.what }
+{
+    let step = after_descriptor(
+        &mut balloon.device,
+        regions,
+        kind,
+        notice.tally(),
+        notice.walk(),
+        &mut room.pieces,
+        &room.bytes,
+        &mut room.runs,
+        &mut room.figures,
+    );
+    let mut next = Notice { kind, step };
+    hand_over(
+        notice,
+        balloon,
+        regions,
+        &room.runs,
+        &mut room.cuts,
+        &mut next,
+    )
+}
+
+/// A part of a piece was copied, behind others that leave room for it.
+fn go_part(
+    notice: &mut VbNotice,
+    balloon: &mut Balloon,
+    regions: &[Region],
+    room: &mut VbRoom,
+    kind: Kind,
+    answer: u16,
+) -> u32
+    requires kind { kind_of_code notice.old.kind ≡ Some kind }
+    requires phase { notice.old.phase ≡ 4 }
+    requires fits { notice.old.into + notice.old.length ≤ MAX_BYTES }
+    ensures goes { GoesOnBy (notice_of notice.old) regions.now answer balloon.old balloon.new
+        room.old room.new notice.new }
+    ensures what { result ≡ notice.new.what }
+{
+    let step = after_part(
+        &mut balloon.device,
+        regions,
+        kind,
+        notice.tally(),
+        notice.place(),
+        &room.pieces,
+        &room.bytes,
+        &mut room.runs,
+        &mut room.figures,
+    );
+    let mut next = Notice { kind, step };
+    hand_over(
+        notice,
+        balloon,
+        regions,
+        &room.runs,
+        &mut room.cuts,
+        &mut next,
+    )
+}
+
+/// What is to be done next, however a notice goes on; by less than any way where bytes were copied.
+fn go_else(
+    notice: &mut VbNotice,
+    balloon: &mut Balloon,
+    regions: &[Region],
+    room: &mut VbRoom,
+    answer: u16,
+) -> u32
+    ensures goes { GoesOnBy (notice_of notice.old) regions.now answer balloon.old balloon.new
+        room.old room.new notice.new }
+    ensures what { result ≡ notice.new.what }
+{
+    match kind_of_code(notice.kind) {
+        None => go_anyhow(notice, balloon, regions, room, answer),
+        Some(kind) => match notice.phase {
+            DESCRIPTOR => go_chain(notice, balloon, regions, room, kind, answer),
+            PART => {
+                if u64::from(notice.into) + u64::from(notice.length) > MAX_BYTES as u64 {
+                    return go_anyhow(notice, balloon, regions, room, answer);
+                }
+                go_part(notice, balloon, regions, room, kind, answer)
+            }
+            _ => go_anyhow(notice, balloon, regions, room, answer),
+        },
+    }
+}
+
 /// What is to be done next, once that was done which was to be done.
 #[unsafe(no_mangle)]
 pub extern "C" fn vb_go_on(
@@ -161,5 +267,5 @@ pub extern "C" fn vb_go_on(
     if go_usually(notice, balloon, regions, room, answer) {
         return notice.what;
     }
-    go_anyhow(notice, balloon, regions, room, answer)
+    go_else(notice, balloon, regions, room, answer)
 }

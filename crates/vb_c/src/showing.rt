@@ -203,7 +203,7 @@ impl VbNotice {
 
     /// Shows what it came to.
     #[tactic(auto, using(crate::proofs::ShowLemmas::show_steps))]
-    fn show_end(
+    pub(crate) fn show_end(
         &mut self,
         bits: u32,
         tally: Tally,

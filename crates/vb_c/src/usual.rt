@@ -1,12 +1,15 @@
 //! Notices that go on as they mostly do: what they say is changed where it stands.
 
 ghost use Rattle.std.specs.Prelude.{◌≡◌, true, false, Some};
+ghost use Rattle.vb_monitor.specs.declared.balloon.Balloon.{Balloon};
+ghost use Rattle.vb_monitor.specs.declared.outcome.Outcome.{Outcome};
+ghost use Rattle.vb_monitor.specs.Balloons.{held_after};
 ghost use Rattle.vb_c.specs.Codes.{kind_of_code};
 ghost use Rattle.vb_c.specs.Notices.{notice_of};
 ghost use Rattle.vb_c.specs.Serving.{GoesOnBy};
 
 use crate::answers::kind_of_code;
-use crate::notice::{DESCRIPTOR, ENTRY, INDEX, READ_ENTRY, VbNotice, VbRoom};
+use crate::notice::{DESCRIPTOR, ENTRY, FLAGS, INDEX, READ_ENTRY, VbNotice, VbRoom};
 use vb_core::Kind;
 use vb_monitor::{
     Balloon, Region, Walk, descriptor_after, entry_after, flags_after, next_descriptor,
@@ -108,6 +111,42 @@ fn go_descriptor(
     }
 }
 
+/// Whether no buffer of this kind's queue is held.
+fn holds_none(kind: Kind) -> bool
+    ensures { result ≡ true → (outcome : Outcome) (balloon : Balloon) →
+        held_after kind outcome balloon ≡ balloon.held }
+{
+    match kind {
+        Kind::Inflate | Kind::Deflate | Kind::Report => true,
+        Kind::Statistics => false,
+    }
+}
+
+/// The flags were read, and each chain was served; says whether it is so. Else nothing is changed.
+fn go_flags(
+    notice: &mut VbNotice,
+    balloon: &Balloon,
+    regions: &[Region],
+    room: &VbRoom,
+    kind: Kind,
+    flags: u16,
+) -> bool
+    requires kind { kind_of_code notice.old.kind ≡ Some kind }
+    requires phase { notice.old.phase ≡ 5 }
+    ensures went { result ≡ true → GoesOnBy (notice_of notice.old) regions.now flags balloon.now
+        balloon.now room.now room.now notice.new }
+    ensures stays { result ≡ false → notice.new ≡ notice.old }
+{
+    if notice.code != 0 || !holds_none(kind) {
+        return false;
+    }
+    let tally = notice.tally();
+    let more = notice.more != 0;
+    notice.orders.cuts = 0;
+    notice.show_end(0, tally, None, flags & 1 == 0, more);
+    true
+}
+
 /// Goes on as a notice mostly does, where it does so; says whether it is so. Else nothing is
 /// changed.
 pub(crate) fn go_usually(
@@ -127,6 +166,7 @@ pub(crate) fn go_usually(
             INDEX => go_index(notice, balloon, regions, room, kind, answer),
             ENTRY => go_entry(notice, balloon, regions, room, kind, answer),
             DESCRIPTOR => go_descriptor(notice, balloon, regions, room, kind, answer),
+            FLAGS => go_flags(notice, balloon, regions, room, kind, answer),
             _ => false,
         },
     }

@@ -156,7 +156,7 @@ fn copy_second(
 /// A part was copied behind the others.
 #[tactic(auto, using(crate::proofs::NextLemmas::end_steps))]
 #[inline(never)]
-pub(crate) fn after_part(
+pub fn after_part(
     device: &mut Device,
     regions: &[Region],
     kind: Kind,

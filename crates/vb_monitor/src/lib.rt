@@ -27,6 +27,7 @@ mod usual;
 mod walk;
 
 pub use balloon::{Balloon, may_tell};
+pub use copying::after_part;
 pub use cuts::Cut;
 pub use giving::UsedSpots;
 pub use large::{LARGEST_PAGE, Large, large_pages};
@@ -47,3 +48,4 @@ pub use room::{MAX_BYTES, MAX_FIGURES, MAX_PIECES, MAX_RUNS};
 pub use serving::serve;
 pub use step::{Discarding, Phase, Place, Step, Walk};
 pub use usual::{NextDescriptor, descriptor_after, entry_after, flags_after, next_descriptor};
+pub use walk::after_descriptor;

@@ -170,7 +170,7 @@ fn join_descriptor(
 /// The bytes of a descriptor were copied to the front of these.
 #[tactic(auto, using(crate::proofs::BufferLemmas::length_in))]
 #[inline(never)]
-pub(crate) fn after_descriptor(
+pub fn after_descriptor(
     device: &mut Device,
     regions: &[Region],
     kind: Kind,

@@ -1,0 +1,53 @@
+use Rattle.std.proofs.Common.{◌∙◌, ap, sym, subst, refl, ℕ, ◌+◌, ◌-◌, List, ◌++◌, Option, Some, take}
+use Rattle.vb_core.specs.Devices.{ring_of}
+use Rattle.vb_monitor.specs.declared.notice.Notice.{Notice}
+use Rattle.vb_monitor.specs.declared.step.Walk.{Walk}
+use Rattle.vb_monitor.specs.declared.step.Phase.TheVariants.{AwaitsDescriptor}
+use Rattle.vb_monitor.specs.Accesses.{Access}
+use Rattle.vb_monitor.specs.Pieces.{pieces_in}
+use Rattle.vb_monitor.specs.Chains.{AfterDescriptor, Follows, descriptors}
+use Rattle.vb_monitor.specs.Machine.{whole, serves}
+use Rattle.vb_c.specs.declared.notice.VbRoom.{VbRoom}
+use Rattle.vb_c.specs.Serving.{GoesOnBy}
+use Rattle.vb_c.proofs.UsualLemmas.{awaits_descriptor, says_notice}
+use Rattle.vb_c.proofs.serving.go_chain.Goals as goal
+
+pub returns-clause-goes : goal.returns-clause-goes
+returns-clause-goes c =
+    let old = c.args.notice.now in
+    let s = c.tally.result in
+    let x = c.walk.result in
+    let d = c.args.balloon.now.device in
+    let r1 = c.args.room.now in
+    let r2 : VbRoom = record {
+      pieces = c.after_descriptor-step.new.pieces;
+      bytes = r1.bytes;
+      runs = c.after_descriptor-step.new.runs;
+      figures = c.after_descriptor-step.new.figures;
+      cuts = c.hand_over.new.cuts;
+    } in
+    subst (λ (o : Option Notice). GoesOnBy o c.args.regions.now c.args.answer c.args.balloon.now
+    c.hand_over.new.balloon r1 r2 c.hand_over.new.shown)
+    (sym (says_notice c.args.kind (AwaitsDescriptor old.at x) s old c.requires.kind
+    (awaits_descriptor old c.requires.phase
+    ∙ ap (λ (w : Walk). Some (AwaitsDescriptor old.at w)) (sym c.walk.ensures))
+    (sym c.tally.ensures)))
+    (record {
+      next = record { kind = c.args.kind; step = c.after_descriptor-step.result };
+      device = c.after_descriptor-step.new.device;
+      kind_is = refl;
+      step = λ after outcome before done rest does h.
+          let w = whole c.args.regions.now c.args.kind after outcome in
+          record {
+            bytes = does.bytes;
+            rest = rest;
+            asks = ap (λ (l : List Access). l ++ rest) does.asks;
+            long = does.long;
+            goes_on = subst (λ (bs : List ℕ). AfterDescriptor w d s
+                (Follows (descriptors (ring_of c.args.kind d) - (x.count + 1)) w d s
+                (serves w s d x.head)) (serves w s d x.head) x.writing
+                (pieces_in (take x.count r1.pieces)) bs rest) does.behind
+                (c.after_descriptor-step.ensures.step after outcome rest h);
+          };
+      hands = c.hand_over.ensures.hands;
+    })

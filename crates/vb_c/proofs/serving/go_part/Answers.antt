@@ -1,0 +1,49 @@
+use Rattle.std.proofs.Common.{◌∙◌, ap, sym, subst, refl, ℕ, List, ◌++◌, Option, Some, take}
+use Rattle.vb_monitor.specs.declared.notice.Notice.{Notice}
+use Rattle.vb_monitor.specs.declared.step.Place.{Place}
+use Rattle.vb_monitor.specs.declared.step.Phase.TheVariants.{AwaitsPart}
+use Rattle.vb_monitor.specs.Accesses.{Access}
+use Rattle.vb_monitor.specs.Pieces.{pieces_in, CopiesParts}
+use Rattle.vb_monitor.specs.Machine.{whole, served, behind_part}
+use Rattle.vb_c.specs.declared.notice.VbRoom.{VbRoom}
+use Rattle.vb_c.specs.Serving.{GoesOnBy}
+use Rattle.vb_c.proofs.UsualLemmas.{awaits_part, says_notice}
+use Rattle.vb_c.proofs.serving.go_part.Goals as goal
+
+pub returns-clause-goes : goal.returns-clause-goes
+returns-clause-goes c =
+    let old = c.args.notice.now in
+    let s = c.tally.result in
+    let x = c.place.result in
+    let d = c.args.balloon.now.device in
+    let r1 = c.args.room.now in
+    let r2 : VbRoom = record {
+      pieces = r1.pieces;
+      bytes = r1.bytes;
+      runs = c.after_part-step.new.runs;
+      figures = c.after_part-step.new.figures;
+      cuts = c.hand_over.new.cuts;
+    } in
+    subst (λ (o : Option Notice). GoesOnBy o c.args.regions.now c.args.answer c.args.balloon.now
+    c.hand_over.new.balloon r1 r2 c.hand_over.new.shown)
+    (sym (says_notice c.args.kind (AwaitsPart old.at x) s old c.requires.kind
+    (awaits_part old c.requires.phase c.requires.fits
+    ∙ ap (λ (p : Place). Some (AwaitsPart old.at p)) (sym c.place.ensures))
+    (sym c.tally.ensures)))
+    (record {
+      next = record { kind = c.args.kind; step = c.after_part-step.result };
+      device = c.after_part-step.new.device;
+      kind_is = refl;
+      step = λ after outcome before done rest does h.
+          let w = whole c.args.regions.now c.args.kind after outcome in
+          record {
+            bytes = does.bytes;
+            rest = rest;
+            asks = ap (λ (l : List Access). l ++ rest) does.asks;
+            long = does.long;
+            goes_on = subst (λ (bs : List ℕ). CopiesParts w (served w s d x.head) d s
+                (behind_part x.is_second x.piece (pieces_in (take x.count r1.pieces))) bs rest)
+                does.behind (c.after_part-step.ensures.step after outcome rest h);
+          };
+      hands = c.hand_over.ensures.hands;
+    })
