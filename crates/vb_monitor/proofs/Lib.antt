@@ -32,3 +32,4 @@ mod GivingFacts
 mod ChainFacts
 mod LookFacts
 mod WholeFacts
+mod WholeReportFacts
