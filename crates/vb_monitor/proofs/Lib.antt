@@ -36,3 +36,4 @@ mod WholeFacts
 pub mod LargeLemmas
 pub mod LargeLaws
 mod LargeFacts
+mod WholeReportFacts

@@ -1,0 +1,193 @@
+-- A whole notice of a report, worked out: page 5 is free. It is told and discarded, or told and kept.
+use Rattle.std.proofs.Common.{refl, ℕ, true, false, List, [], ◌∷◌, None, Ok}
+use Rattle.vb_chain.specs.declared.pieces.Piece.{Piece}
+use Rattle.vb_core.specs.declared.kinds.Kind.TheVariants.{Report}
+use Rattle.vb_core.specs.declared.name.Named.{Named}
+use Rattle.vb_core.specs.declared.device.Device.{Device}
+use Rattle.vb_core.specs.Devices.{with_one_taken}
+use Rattle.vb_core.specs.Report.{NamesPiecesBy}
+use Rattle.vb_monitor.specs.declared.outcome.Budget.{Budget}
+use Rattle.vb_monitor.specs.declared.outcome.Outcome.{Outcome}
+use Rattle.vb_monitor.specs.Accesses.{Access, CopyBytes, Acquire, Release, Full, TellPages}
+use Rattle.vb_monitor.specs.Giving.{after_use}
+use Rattle.vb_monitor.specs.Notices.{Serves}
+use Rattle.vb_monitor.proofs.TurnLaws.{reads_in_turn, tells_in_turn}
+use Rattle.vb_monitor.proofs.Samples.{two, at, settings, ready, page_5, index, entry, part, discard, id, used_length, used_index, flags}
+
+abbrev budget : Budget
+budget = record { chains = 8; pages = 256 }
+
+-- descriptor 3: page 5, which the device may write, and no more
+abbrev bytes : List ℕ
+bytes = 0 ∷ 0x50 ∷ 0 ∷ 0 ∷ 0 ∷ 0 ∷ 0 ∷ 0 ∷ 0 ∷ 0x10 ∷ 0 ∷ 0 ∷ 2 ∷ 0 ∷ 0 ∷ 0 ∷ []
+
+abbrev free : Piece
+free = record { addr = 0x5000; len = 0x1000; writable = true }
+
+abbrev descriptor : Access
+descriptor = CopyBytes (at 0x30) bytes
+
+abbrev told : Access
+told = TellPages Report (page_5 ∷ [])
+
+abbrev given : List Access
+given = id ∷ used_length ∷ Release ∷ used_index ∷ index ∷ Full ∷ flags ∷ []
+
+abbrev taken : Device → Device
+taken d = with_one_taken Report d
+
+abbrev used : Device → Device
+used d = after_use Report (taken d)
+
+abbrev outcome : Outcome
+outcome = record {
+  tally = record { chains = 7; pages = 255; given = true; held = None };
+  why = None;
+  interrupt = true;
+  more = false;
+}
+
+abbrev named : Named
+named = record { runs = 1; pages = 1; skipped = 0 }
+
+-- ---- one that is discarded
+
+names_it : NamesPiecesBy (free ∷ []) 256 (page_5 ∷ []) ready (taken ready) (Ok named)
+unfolding lib.Count.ones
+names_it = record {
+  denied = λ why e. absurd cc;
+  answer = λ e. refl;
+  device = λ e. refl;
+  runs_are = λ ok. refl;
+}
+
+reported : Serves two Report budget ready (used ready) outcome
+    (index ∷ Acquire ∷ entry ∷ descriptor ∷ told ∷ discard ∷ given)
+unfolding lib.Count.ones
+reported = record {
+  index = 1;
+  rest = Acquire ∷ entry ∷ descriptor ∷ told ∷ discard ∷ given;
+  asks = refl;
+  goes_on = record {
+    head = 3;
+    rest = descriptor ∷ told ∷ discard ∷ given;
+    asks = refl;
+    goes_on = record {
+      bytes = bytes;
+      rest = told ∷ discard ∷ given;
+      asks = refl;
+      long = refl;
+      goes_on = record {
+        answer = Ok named;
+        runs = page_5 ∷ [];
+        device = taken ready;
+        names = names_it;
+        goes_on = record {
+          rest = discard ∷ given;
+          asks = refl;
+          discards = record {
+            rest = given;
+            asks = refl;
+            gives_back = record {
+              rest = index ∷ Full ∷ flags ∷ [];
+              asks = refl;
+              goes_on = record {
+                index = 1;
+                rest = Full ∷ flags ∷ [];
+                asks = refl;
+                goes_on = record {
+                  flags = 0;
+                  rest = [];
+                  asks = refl;
+                  then_stops = record { nothing = refl; device = refl; outcome = refl };
+                };
+              };
+            };
+          };
+        };
+      };
+    };
+  };
+}
+
+-- ---- one that is kept
+
+-- a driver that poisons its free pages
+abbrev poisoned : Device
+poisoned =
+    record ready { settings = record settings { offered = 0x100000037 }; features = 0x100000037; poison = 7 }
+
+names_it_too : NamesPiecesBy (free ∷ []) 256 (page_5 ∷ []) poisoned (taken poisoned) (Ok named)
+unfolding lib.Count.ones
+names_it_too = record {
+  denied = λ why e. absurd cc;
+  answer = λ e. refl;
+  device = λ e. refl;
+  runs_are = λ ok. refl;
+}
+
+kept : Serves two Report budget poisoned (used poisoned) outcome
+    (index ∷ Acquire ∷ entry ∷ descriptor ∷ told ∷ given)
+unfolding lib.Count.ones
+kept = record {
+  index = 1;
+  rest = Acquire ∷ entry ∷ descriptor ∷ told ∷ given;
+  asks = refl;
+  goes_on = record {
+    head = 3;
+    rest = descriptor ∷ told ∷ given;
+    asks = refl;
+    goes_on = record {
+      bytes = bytes;
+      rest = told ∷ given;
+      asks = refl;
+      long = refl;
+      goes_on = record {
+        answer = Ok named;
+        runs = page_5 ∷ [];
+        device = taken poisoned;
+        names = names_it_too;
+        goes_on = record {
+          rest = given;
+          asks = refl;
+          discards = record {
+            rest = given;
+            asks = refl;
+            gives_back = record {
+              rest = index ∷ Full ∷ flags ∷ [];
+              asks = refl;
+              goes_on = record {
+                index = 1;
+                rest = Full ∷ flags ∷ [];
+                asks = refl;
+                goes_on = record {
+                  flags = 0;
+                  rest = [];
+                  asks = refl;
+                  then_stops = record { nothing = refl; device = refl; outcome = refl };
+                };
+              };
+            };
+          };
+        };
+      };
+    };
+  };
+}
+
+-- ---- what isn't done, whatever the device and the outcome are then
+
+abbrev IsServed : Device → List Access → Type 0
+IsServed d1 log = (d2 : Device) × ((o : Outcome) × Serves two Report budget d1 d2 o log)
+
+discarded_although_poisoned : IsServed poisoned (index ∷ Acquire ∷ entry ∷ descriptor ∷ told ∷ discard ∷ given) → ⊥
+discarded_although_poisoned (d, (o, h)) =
+    absurd (tells_in_turn two Report budget poisoned d o _ h).1.1.1.1.1.0
+
+not_discarded : IsServed ready (index ∷ Acquire ∷ entry ∷ descriptor ∷ told ∷ given) → ⊥
+not_discarded (d, (o, h)) =
+    let e = (tells_in_turn two Report budget ready d o _ h).1.1.1.1.1.0 in absurd cc
+
+-- the page itself is read
+page_read : IsServed ready (index ∷ Acquire ∷ entry ∷ descriptor ∷ part ∷ told ∷ discard ∷ given) → ⊥
+page_read (d, (o, h)) = absurd (reads_in_turn two Report budget ready d o _ h).1.1.1.1.0
