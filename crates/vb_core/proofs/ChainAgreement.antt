@@ -2,16 +2,14 @@
 use Rattle.std.proofs.Common.{◌≡◌, ◌∙◌, ℕ, zero, suc, ◌+◌, ◌<◌, Bool, true, false, List, []}
 use Rattle.std.proofs.Common.{◌∷◌, None, refl, length, get_or, take, map, sym, ap}
 use Rattle.std.proofs.Common.{arith, inl, inr}
-use Rattle.std.specs.Prelude.{not, ◌&&◌, ◌||◌, nat_lt, nat_le}
+use Rattle.std.specs.Prelude.{◌&&◌, ◌||◌}
 use Rattle.std.specs.List.{list_any}
 use Rattle.std.proofs.lemmas.Bool.{leb-false}
 use Rattle.std.proofs.lemmas.List.{get_or-take, length-take}
 use Rattle.vb_chain.specs.declared.descriptor.Descriptor.{Descriptor}
 use Rattle.vb_chain.specs.declared.pieces.Piece.{Piece}
 use Rattle.vb_chain.specs.declared.fault.ChainFault.{ChainFault}
-use Rattle.vb_chain.specs.declared.fault.ChainFault.TheVariants.{BadNext, TooLong, Indirect}
-use Rattle.vb_chain.specs.declared.fault.ChainFault.TheVariants.{WrongDirection, OutOfRam}
-use Rattle.vb_chain.specs.Rules.{has_next, is_writable, is_indirect, piece_of, first_broken}
+use Rattle.vb_chain.specs.Rules.{has_next, is_writable, piece_of}
 use Rattle.vb_chain.specs.Rules.{first_fault}
 use Rattle.vb_chain.specs.Chain.{IsPath, fault_at, ChainGives, FaultGives}
 
@@ -42,14 +40,6 @@ map_same f g (x ∷ xs) same =
 
 -- ---- the numbers of a path
 
-fourth_holds : (a b c h i : Bool) (f1 f2 f3 f4 f5 : ChainFault) →
-    first_broken ((a, f1) ∷ (b, f2) ∷ (c, f3) ∷ (h, f4) ∷ (i, f5) ∷ []) ≡ None → h ≡ false
-fourth_holds true b c h i f1 f2 f3 f4 f5 e = absurd cc
-fourth_holds false true c h i f1 f2 f3 f4 f5 e = absurd cc
-fourth_holds false false true h i f1 f2 f3 f4 f5 e = absurd cc
-fourth_holds false false false true i f1 f2 f3 f4 f5 e = absurd cc
-fourth_holds false false false false i f1 f2 f3 f4 f5 e = refl
-
 goes_on : (a b : Bool) → (a && b) ≡ false → a ≡ true → b ≡ false
 goes_on true b e h = e
 goes_on false b e h = absurd cc
@@ -57,11 +47,7 @@ goes_on false b e h = absurd cc
 -- a descriptor that breaks no rule and goes on names one of the table
 next_below : (q end : ℕ) (writing : Bool) (k : ℕ) (x : Descriptor) →
     first_fault q end writing k x ≡ None → has_next x ≡ true → x.next < q
-next_below q end writing k x e more =
-    leb-false q x.next (goes_on (has_next x) (nat_le q x.next)
-    (fourth_holds (is_indirect x) (nat_lt end (x.addr + x.len)) (writing && not (is_writable x))
-    (has_next x && nat_le q x.next) (has_next x && nat_le q (k + 1)) Indirect OutOfRam
-    WrongDirection BadNext TooLong e) more)
+next_below q end writing k x e more = grind (arith, leb-false, goes_on)
 
 path_below : (d : ℕ → Descriptor) (q end head : ℕ) (path : List ℕ) → head < q →
     IsPath d head path →
@@ -85,28 +71,12 @@ path_below d q end head path inside is sound (suc k) lt =
 same_fault : (d e : ℕ → Descriptor) (q end : ℕ) (path : List ℕ) →
     ((k : ℕ) → k < length path → d (get_or path k 0) ≡ e (get_or path k 0)) →
     (k : ℕ) → k < length path → fault_at d q end path k ≡ fault_at e q end path k
-same_fault d e q end path same k lt =
-    let writing : list_any (λ i. is_writable (d i)) (take k path) ≡
-    list_any (λ i. is_writable (e i)) (take k path) =
-    any_same (λ i. is_writable (d i)) (λ i. is_writable (e i)) (take k path) (λ j l.
-    let early : j < k = omega (arith, l, length-take k path) in
-    let at : get_or (take k path) j 0 ≡ get_or path j 0 = get_or-take k path j 0 early in
-    ap (λ (n : ℕ). is_writable (d n)) at
-    ∙ (ap is_writable (same j (omega (arith, early, lt)))
-    ∙ ap (λ (n : ℕ). is_writable (e n)) (sym at))) in
-    ap (λ (b : Bool). first_fault q end b k (d (get_or path k 0))) writing
-    ∙ ap (first_fault q end (list_any (λ i. is_writable (e i)) (take k path)) k) (same k lt)
+same_fault d e q end path same k lt = grind (arith, any_same, length-take, get_or-take)
 
 same_path : (d e : ℕ → Descriptor) (head : ℕ) (path : List ℕ) →
     ((k : ℕ) → k < length path → d (get_or path k 0) ≡ e (get_or path k 0)) →
     IsPath d head path → IsPath e head path
-same_path d e head path same is = record {
-  some = is.some;
-  begins = is.begins;
-  onward = λ k lt. ap has_next (sym (same k (omega (arith, lt)))) ∙ is.onward k lt;
-  linked = λ k lt.
-      ap (λ (x : Descriptor). x.next) (sym (same k (omega (arith, lt)))) ∙ is.linked k lt;
-}
+same_path d e head path same is = grind arith
 
 pub same_chain : (d e : ℕ → Descriptor) (q end h : ℕ) (pieces : List Piece) → Agree q d e →
     ChainGives d q end h pieces → ChainGives e q end h pieces

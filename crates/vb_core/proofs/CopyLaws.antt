@@ -1,17 +1,15 @@
 -- Where copies are the memory's bytes, they say what memory says.
-use Rattle.std.proofs.Common.{◌≡◌, ◌∙◌, ℕ, zero, suc, ◌+◌, ◌*◌, ◌%◌, ◌<◌, ◌≤◌, List, [], ◌∷◌, refl}
+use Rattle.std.proofs.Common.{◌≡◌, ◌∙◌, ℕ, zero, suc, ◌+◌, ◌*◌, ◌<◌, ◌≤◌, List, [], ◌∷◌, refl}
 use Rattle.std.proofs.Common.{length, sym, ap, arith, subst}
 use Rattle.std.specs.Prelude.{slice_index}
 use Rattle.vb_ram.specs.Pages.{Pages, byte_at, field, end_of}
-use Rattle.vb_chain.specs.declared.descriptor.Descriptor.{Descriptor}
 use Rattle.vb_chain.specs.declared.pieces.Piece.{Piece}
 use Rattle.vb_chain.specs.declared.fault.ChainFault.{ChainFault}
-use Rattle.vb_chain.specs.declared.fault.ChainFault.TheVariants.{IndexJump}
 use Rattle.vb_chain.specs.Table.{descriptor_at}
 use Rattle.vb_chain.specs.Chain.{ChainGives, FaultGives}
 use Rattle.vb_ring.specs.declared.layout.Layout.{Layout}
 use Rattle.vb_ring.specs.Layout.{IsSize}
-use Rattle.vb_ring.specs.Entries.{next_entry, next_by, ahead, avail_index, avail_place}
+use Rattle.vb_ring.specs.Entries.{next_entry}
 use Rattle.vb_core.specs.Copies.{padded, copies_of, copied_layout, AreCopies}
 use Rattle.vb_core.proofs.CopyLemmas.{copied_length, copied_byte, padded_at}
 use Rattle.vb_core.proofs.ChainAgreement.{Agree, agree_back, same_chain, same_break}
@@ -59,64 +57,26 @@ avail_field : (n : ℕ) (mem : Pages) (l : Layout) (q : ℕ) (avail table : List
     IsSize q → 2 ≤ length mem → AreCopies mem l q avail table → o + n ≤ 4 + 2 * q →
     l.avail.offset + o ≡ at →
     field n (copies_of (length mem) table avail) 1 o ≡ field n mem l.avail.page at
-avail_field n mem l q avail table o at size two same few e =
-    same_field n (copies_of (length mem) table avail) mem 1 l.avail.page o at (λ k lt.
-    let place : l.avail.offset + (o + k) ≡ at + k = omega (arith, e) in
-    avail_byte (length mem) avail table (o + k) two (omega (arith, lt, few, size.most))
-    ∙ (same.avail_is (o + k) (omega (arith, lt, few))
-    ∙ ap (byte_at mem l.avail.page) place))
+avail_field n mem l q avail table o at size two same few e = grind (arith, same_field, avail_byte)
 
 table_field : (n : ℕ) (mem : Pages) (l : Layout) (q : ℕ) (avail table : List ℕ) (o : ℕ) →
     IsSize q → 2 ≤ length mem → AreCopies mem l q avail table → o + n ≤ 16 * q →
     field n (copies_of (length mem) table avail) 0 o ≡ field n mem l.table o
-table_field n mem l q avail table o size two same few =
-    same_field n (copies_of (length mem) table avail) mem 0 l.table o o (λ k lt.
-    table_byte (length mem) avail table (o + k) two (omega (arith, lt, few, size.most))
-    ∙ same.table_is (o + k) (omega (arith, lt, few)))
+table_field n mem l q avail table o size two same few = grind (arith, same_field, table_byte)
 
 -- the entry that stands next
 pub copied_entry : (mem : Pages) (l : Layout) (q taken : ℕ) (avail table : List ℕ) → IsSize q →
     2 ≤ length mem → AreCopies mem l q avail table →
     next_entry (copies_of (length mem) table avail) copied_layout q taken ≡
     next_entry mem l q taken
-copied_entry mem l q taken avail table size two same =
-    let place : taken % q < q = omega (arith, size.least) in
-    let index : field 2 (copies_of (length mem) table avail) 1 (avail_index copied_layout) ≡
-    field 2 mem l.avail.page (avail_index l) =
-    avail_field 2 mem l q avail table 2 (avail_index l) size two same (omega (arith, size.least))
-    refl in
-    let inside : 4 + 2 * (taken % q) + 2 ≤ 4 + 2 * q = omega (arith, place) in
-    let sum : l.avail.offset + (4 + 2 * (taken % q)) ≡ avail_place l q taken = omega arith in
-    let spot : avail_place copied_layout q taken ≡ 4 + 2 * (taken % q) = omega arith in
-    let entry : field 2 (copies_of (length mem) table avail) 1
-    (avail_place copied_layout q taken) ≡ field 2 mem l.avail.page (avail_place l q taken) =
-    ap (field 2 (copies_of (length mem) table avail) 1) spot
-    ∙ avail_field 2 mem l q avail table (4 + 2 * (taken % q)) (avail_place l q taken) size two
-    same inside sum in
-    ap (λ (i : ℕ). next_by (ahead i taken) q IndexJump
-    (field 2 (copies_of (length mem) table avail) 1 (avail_place copied_layout q taken))) index
-    ∙ ap (λ (x : ℕ). next_by (ahead (field 2 mem l.avail.page (avail_index l)) taken) q IndexJump
-    x) entry
+copied_entry mem l q taken avail table size two same = grind (arith, avail_field)
 
 -- the descriptors of the table
 pub copied_agree : (mem : Pages) (l : Layout) (q : ℕ) (avail table : List ℕ) → IsSize q →
     2 ≤ length mem → AreCopies mem l q avail table →
     Agree q (descriptor_at (copies_of (length mem) table avail) 0) (descriptor_at mem l.table)
 unfolding descriptor_at
-copied_agree mem l q avail table size two same i lt =
-    let addr = table_field 8 mem l q avail table (16 * i) size two same (omega (arith, lt)) in
-    let len = table_field 4 mem l q avail table (16 * i + 8) size two same (omega (arith, lt)) in
-    let flags = table_field 2 mem l q avail table (16 * i + 12) size two same
-    (omega (arith, lt)) in
-    let next = table_field 2 mem l q avail table (16 * i + 14) size two same
-    (omega (arith, lt)) in
-    same_descriptor _ _ _ _ _ _ _ _ addr len flags next
-  where
-    same_descriptor : (a b c d a' b' c' d' : ℕ) → a ≡ a' → b ≡ b' → c ≡ c' → d ≡ d' →
-        (let x : Descriptor = record { addr = a; len = b; flags = c; next = d } in
-        let y : Descriptor = record { addr = a'; len = b'; flags = c'; next = d' } in
-        x ≡ y)
-    same_descriptor a b c d a' b' c' d' e f g h = cc
+copied_agree mem l q avail table size two same i lt = grind (arith, table_field)
 
 pub copied_chain : (mem : Pages) (l : Layout) (q h : ℕ) (avail table : List ℕ)
     (pieces : List Piece) → IsSize q → 2 ≤ length mem → AreCopies mem l q avail table →
@@ -124,16 +84,7 @@ pub copied_chain : (mem : Pages) (l : Layout) (q h : ℕ) (avail table : List �
     ChainGives (descriptor_at (copies_of (length mem) table avail) 0) q
     (end_of (copies_of (length mem) table avail)) h pieces
 copied_chain mem l q h avail table pieces size two same gives =
-    let count : length mem ≡ length (copies_of (length mem) table avail) =
-    sym (copies_count (length mem) avail table) in
-    let there : ChainGives (descriptor_at (copies_of (length mem) table avail) 0) q (end_of mem) h
-    pieces =
-    same_chain (descriptor_at mem l.table)
-    (descriptor_at (copies_of (length mem) table avail) 0) q (end_of mem) h pieces
-    (agree_back q (descriptor_at (copies_of (length mem) table avail) 0)
-    (descriptor_at mem l.table) (copied_agree mem l q avail table size two same)) gives in
-    subst (λ (n : ℕ). ChainGives
-    (descriptor_at (copies_of (length mem) table avail) 0) q (4096 * n) h pieces) count there
+    search (arith, copies_count, same_chain, agree_back, copied_agree)
 
 pub copied_fault : (mem : Pages) (l : Layout) (q h : ℕ) (avail table : List ℕ)
     (fault : ChainFault) → IsSize q → 2 ≤ length mem → AreCopies mem l q avail table →

@@ -102,20 +102,15 @@ pub put_wrote : (count p k off : ℕ) (old new : Kept) (bs : List ℕ) → p < c
     copy_number p ≡ Some k → PutsInto (kept_pages old) (kept_pages new) k off bs →
     Wrote (copied count (kept_pages old)) (copied count (kept_pages new)) p off bs
 put_wrote count p k off old new bs h e puts =
-    subst (λ (cs : List (List ℕ)). Wrote (copied count (kept_pages old)) (copied count cs) p off bs)
-    (sym puts.others)
-    (copied_wrote count p k off (kept_pages old) bs puts.page h puts.there e puts.len puts.put)
+    grind (
+      arith,
+      copied_wrote count p k off (kept_pages old) bs puts.page h puts.there e puts.len puts.put,
+    )
 
 -- the ring's places lie there
 pub copied_inside : (count : ℕ) (cs : List (List ℕ)) → 2 ≤ count →
     IsInside (copied count cs) copied_layout
-copied_inside count cs two =
-    let len : length (copied count cs) ≡ count = copied_length count cs in
-    record {
-      table = omega (arith, len, two);
-      avail = omega (arith, len, two);
-      used = omega (arith, len, two);
-    }
+copied_inside count cs two = grind (arith, copied_length)
 
 -- ---- a copy with zeros behind it
 
@@ -139,15 +134,9 @@ is_padded bytes page len at =
 pub lent_table : (table avail : List ℕ) (cs : List (List ℕ)) (p : ℕ) →
     cs ≡ padded table ∷ padded avail ∷ [] → p ≡ 0 →
     (o : ℕ) → o < 4096 → get_or table o 0 ≡ byte_of (copy_of p cs) o
-lent_table table avail cs p e first o h =
-    sym (ap (λ (w : List (List ℕ)). byte_of (copy_of p w) o) e
-    ∙ (ap (λ (n : ℕ). byte_of (copy_of n (padded table ∷ padded avail ∷ [])) o) first
-    ∙ padded_at table o h))
+lent_table table avail cs p e first o h = grind (arith, padded_at)
 
 pub lent_avail : (table avail : List ℕ) (cs : List (List ℕ)) (p : ℕ) →
     cs ≡ padded table ∷ padded avail ∷ [] → p ≡ 1 →
     (o : ℕ) → o < 4096 → get_or avail o 0 ≡ byte_of (copy_of p cs) o
-lent_avail table avail cs p e second o h =
-    sym (ap (λ (w : List (List ℕ)). byte_of (copy_of p w) o) e
-    ∙ (ap (λ (n : ℕ). byte_of (copy_of n (padded table ∷ padded avail ∷ [])) o) second
-    ∙ padded_at avail o h))
+lent_avail table avail cs p e second o h = grind (arith, padded_at)

@@ -28,10 +28,7 @@ pub count_add : (f g h : ℕ → Bool) (a n : ℕ)
     ≡ count_by h (range_with_len a n)
 count_add f g h a zero e = refl
 count_add f g h a (suc n) e =
-    let here : one_if (f a) + one_if (g a) ≡ one_if (h a) = e a in
-    let more : count_by f (range_with_len (a + 1) n) + count_by g (range_with_len (a + 1) n)
-    ≡ count_by h (range_with_len (a + 1) n) = count_add f g h (a + 1) n e in
-    omega (arith, here, more, count_next f a n, count_next g a n, count_next h a n)
+    grind (arith, count_add f g h (a + 1) n e, count_next f a n, count_next g a n, count_next h a n)
 
 pub count_none : (f : ℕ → Bool) (a n : ℕ) → ((p : ℕ) → a ≤ p → p < a + n → f p ≡ false)
     → count_by f (range_with_len a n) ≡ 0
@@ -99,17 +96,13 @@ count_few f n bound none = elim (cases_lt n bound) [
 
 -- a digit is 1 as often as it says
 digit_counts : (d : ℕ) → d < 2 → one_if (eqb d 1) ≡ d
-digit_counts zero l = refl
-digit_counts (suc zero) l = refl
-digit_counts (suc (suc d)) l = absurd (omega arith)
+digit_counts d l = grind arith
 
 -- where the numbers from one on pass as the bits of a word are 1
 pub count_bits : (f : ℕ → Bool) (x a n : ℕ) → x < 2 ^ n
     → ((i : ℕ) → i < n → f (a + i) ≡ has_bit x i)
     → count_by f (range_with_len a n) ≡ count_ones x
-count_bits f x a zero fits e =
-    let none : count_by f (range_with_len a zero) ≡ 0 = refl in
-    omega (arith, none, ones_le_self x)
+count_bits f x a zero fits e = grind (arith, ones_le_self x)
 count_bits f x a (suc n) fits e =
     let first : a + 0 ≡ a = omega arith in
     let here : one_if (f a) ≡ x % 2 =
@@ -160,11 +153,4 @@ pub count_more : (f : ℕ → Bool) (x w : ℕ) → x < 2 ^ 64
     → count_by f (range_with_len 0 (64 * (w + 1)))
     ≡ count_by f (range_with_len 0 (64 * w)) + count_ones x
 count_more f x w fits e =
-    let sum : 64 * (w + 1) ≡ 64 * w + 64 = omega arith in
-    let whole : count_by f (range_with_len 0 (64 * (w + 1)))
-    ≡ count_by f (range_with_len 0 (64 * w + 64)) =
-    ap (λ (k : ℕ). count_by f (range_with_len 0 k)) sum in
-    let start : 0 + 64 * w ≡ 64 * w = omega arith in
-    let last : count_by f (range_with_len (0 + 64 * w) 64) ≡ count_ones x =
-    ap (λ (k : ℕ). count_by f (range_with_len k 64)) start ∙ count_bits f x (64 * w) 64 fits e in
-    omega (arith, whole, last, count_split f 0 (64 * w) 64)
+    grind (arith, count_bits f x (64 * w) 64 fits e, count_split f 0 (64 * w) 64)

@@ -4,10 +4,10 @@ use Rattle.std.proofs.Common.{true, false, cond, not, ◌&&◌, ◌||◌, List, 
 use Rattle.std.proofs.Common.{refl, sym, ap, ◌∙◌, inl, inr, arith, eqb, ltb, leb, min, max}
 use Rattle.std.proofs.Common.{bit_and, bit_or, bit_xor, count_by, count_ones, if◌then◌else◌, take, ◌==◌}
 use Rattle.std.specs.List.{range_with_len, list_any}
-use Rattle.std.specs.Int.{bit_at, bit_not, w64}
-use Rattle.std.proofs.lemmas.Bool.{cases_lt, cases_Bool, le-leb, lt-leb, false_from_ne_true}
+use Rattle.std.specs.Int.{bit_not, w64}
+use Rattle.std.proofs.lemmas.Bool.{cases_lt, cases_Bool, le-leb, lt-leb}
 use Rattle.std.proofs.lemmas.Bool.{and_from, and_parts, leb-true, ltb-true}
-use Rattle.std.proofs.lemmas.Bool.{lt-ltb, le-ltb, eq-eqb, ne_eqb, and_right, cases_order}
+use Rattle.std.proofs.lemmas.Bool.{lt-ltb, le-ltb, eq-eqb, ne_eqb}
 use Rattle.std.proofs.lemmas.Bool.{or_from, both_ways}
 use Rattle.std.proofs.lemmas.Bool.Decides.{eqb_tells}
 use Rattle.std.proofs.lemmas.List.{get_or-set_same, get_or-set_other, length-set}
@@ -35,48 +35,16 @@ differ_self false = refl
 -- two changes to the same value are one
 both : (t1 t2 inside x : Bool)
     → cond t2 inside (cond t1 inside x) ≡ cond (t1 || t2) inside x
-both true true inside x = refl
-both true false inside x = refl
-both false true inside x = refl
-both false false inside x = refl
-
--- and no page changes in each of them
-adds_by : (t1 t2 inside x : Bool)
-    → one_if (differ x (cond t1 inside x))
-    + one_if (differ (cond t1 inside x) (cond t2 inside (cond t1 inside x)))
-    ≡ one_if (differ x (cond t2 inside (cond t1 inside x)))
-adds_by true true true true = refl
-adds_by true true true false = refl
-adds_by true true false true = refl
-adds_by true true false false = refl
-adds_by true false true true = refl
-adds_by true false true false = refl
-adds_by true false false true = refl
-adds_by true false false false = refl
-adds_by false true true true = refl
-adds_by false true true false = refl
-adds_by false true false true = refl
-adds_by false true false false = refl
-adds_by false false true true = refl
-adds_by false false true false = refl
-adds_by false false false true = refl
-adds_by false false false false = refl
+both t1 t2 inside x = grind arith
 
 adds : (t1 t2 inside x y z : Bool) → y ≡ cond t1 inside x → z ≡ cond t2 inside y
     → one_if (differ x y) + one_if (differ y z) ≡ one_if (differ x z)
-adds t1 t2 inside x y z e f =
-    let g : z ≡ cond t2 inside (cond t1 inside x) = f ∙ ap (λ (b : Bool). cond t2 inside b) e in
-    rw (g, e) (adds_by t1 t2 inside x)
+adds t1 t2 inside x y z e f = grind arith
 
 -- nothing is put anywhere
 pub put_none : (test : ℕ → Bool) (inside : Bool) (a : List ℕ) → ((p : ℕ) → test p ≡ false)
     → Puts test inside a a 0
-put_none test inside a none = record {
-  words = refl;
-  pages = λ p. ap (λ (b : Bool). cond b inside (is_ballooned a p)) (sym (none p));
-  count = sym (count_none (is_changed a a) 0 (64 * length a)
-      (λ p from below. differ_self (is_ballooned a p)));
-}
+put_none test inside a none = grind (arith, count_none)
 
 -- pages that pass one test are put there, and then pages that pass another
 pub put_both : (t1 t2 t3 : ℕ → Bool) (inside : Bool) (a b c : List ℕ) (m n : ℕ)
@@ -102,68 +70,34 @@ put_both t1 t2 t3 inside a b c m n one two e = record {
 -- what is put there passes some other test alike
 pub put_as : (test other : ℕ → Bool) (inside : Bool) (a b : List ℕ) (n : ℕ)
     → Puts test inside a b n → ((p : ℕ) → other p ≡ test p) → Puts other inside a b n
-put_as test other inside a b n s e = record {
-  words = s.words;
-  pages = λ p. s.pages p ∙ ap (λ (x : Bool). cond x inside (is_ballooned a p)) (sym (e p));
-  count = s.count;
-}
+put_as test other inside a b n s e = grind arith
 
 -- no more pages change than there are numbers below a bound, where none from it on passes
 pub put_few : (test : ℕ → Bool) (inside : Bool) (a b : List ℕ) (n bound : ℕ)
     → Puts test inside a b n → ((p : ℕ) → bound ≤ p → test p ≡ false) → n ≤ bound
-put_few test inside a b n bound s none =
-    let few = count_few (is_changed a b) (64 * length a) bound (λ p from.
-    ap (λ (x : Bool). differ (is_ballooned a p) x)
-    (s.pages p ∙ ap (λ (x : Bool). cond x inside (is_ballooned a p)) (none p from))
-    ∙ differ_self (is_ballooned a p)) in
-    omega (arith, few, s.count)
+put_few test inside a b n bound s none = grind (arith, count_few)
 
 -- ---- bits of a word
 
 or_digit : (d e : ℕ) → d < 2 → e < 2 → eqb (max d e) 1 ≡ cond (eqb e 1) true (eqb d 1)
-or_digit zero zero l m = refl
-or_digit zero (suc zero) l m = refl
-or_digit zero (suc (suc e)) l m = absurd (omega arith)
-or_digit (suc zero) zero l m = refl
-or_digit (suc zero) (suc zero) l m = refl
-or_digit (suc zero) (suc (suc e)) l m = absurd (omega arith)
-or_digit (suc (suc d)) e l m = absurd (omega arith)
+or_digit d e l m = grind arith
 
 pub or_bit : (x y b : ℕ) → has_bit (bit_or x y) b ≡ cond (has_bit y b) true (has_bit x b)
-or_bit x y b =
-    ap (λ (d : ℕ). eqb d 1) (bit_at_or x y b)
-    ∙ or_digit (bit_at x b) (bit_at y b) (bit_at-lt x b) (bit_at-lt y b)
+or_bit x y b = grind (arith, eqb, bit_at_or, or_digit)
 
 without_digit : (d e : ℕ) → d < 2 → e < 2
     → eqb (min d (1 - e)) 1 ≡ cond (eqb e 1) false (eqb d 1)
-without_digit zero zero l m = refl
-without_digit zero (suc zero) l m = refl
-without_digit zero (suc (suc e)) l m = absurd (omega arith)
-without_digit (suc zero) zero l m = refl
-without_digit (suc zero) (suc zero) l m = refl
-without_digit (suc zero) (suc (suc e)) l m = absurd (omega arith)
-without_digit (suc (suc d)) e l m = absurd (omega arith)
+without_digit d e l m = grind arith
 
 pub without_bit : (x y b : ℕ) → y < 2 ^ 64 → b < 64
     → has_bit (bit_and x (bit_not w64 y)) b ≡ cond (has_bit y b) false (has_bit x b)
-without_bit x y b fits l =
-    ap (λ (d : ℕ). eqb d 1) (bit_at_and x (bit_not w64 y) b)
-    ∙ ap (λ (d : ℕ). eqb (min (bit_at x b) d) 1) (bit_at_not w64 y b fits l)
-    ∙ without_digit (bit_at x b) (bit_at y b) (bit_at-lt x b) (bit_at-lt y b)
+without_bit x y b fits l = search (arith, bit_at_and, bit_at_not, without_digit, bit_at-lt)
 
 xor_digit : (d e : ℕ) → d < 2 → e < 2 → eqb ((d + e) % 2) 1 ≡ differ (eqb d 1) (eqb e 1)
-xor_digit zero zero l m = refl
-xor_digit zero (suc zero) l m = refl
-xor_digit zero (suc (suc e)) l m = absurd (omega arith)
-xor_digit (suc zero) zero l m = refl
-xor_digit (suc zero) (suc zero) l m = refl
-xor_digit (suc zero) (suc (suc e)) l m = absurd (omega arith)
-xor_digit (suc (suc d)) e l m = absurd (omega arith)
+xor_digit d e l m = grind arith
 
 xor_bit : (x y b : ℕ) → has_bit (bit_xor x y) b ≡ differ (has_bit x b) (has_bit y b)
-xor_bit x y b =
-    ap (λ (d : ℕ). eqb d 1) (bit_at_xor x y b)
-    ∙ xor_digit (bit_at x b) (bit_at y b) (bit_at-lt x b) (bit_at-lt y b)
+xor_bit x y b = grind (arith, eqb, bit_at_xor, xor_digit)
 
 -- ---- one word of a set
 
@@ -223,48 +157,38 @@ pub any_of_runs : (test : ℕ → Bool) (runs : List Run)
     → list_any test (pages_of_runs runs) ≡ list_any (λ run. list_any test (pages_of_run run)) runs
 any_of_runs test [] = refl
 any_of_runs test (run ∷ runs) =
-    list_any-append test (pages_of_run run) (pages_of_runs runs)
-    ∙ ap (λ (x : Bool). list_any test (pages_of_run run) || x) (any_of_runs test runs)
+    grind (
+      arith,
+      list_any-append test (pages_of_run run) (pages_of_runs runs),
+      any_of_runs test runs,
+    )
 
 -- a page is in a run between its ends
 pub in_run : (run : Run) (p : ℕ)
     → is_in p (pages_of_run run) ≡ (leb run.first p && ltb p (run.first + run.count))
-in_run run p = elim (cases_Bool (is_in p (pages_of_run run))) [
-  | inl inside ↦
-      let ends = is_in-range p run.first run.count inside in
-      inside ∙ sym (and_from (leb run.first p) (ltb p (run.first + run.count))
-      (le-leb run.first p ends.0) (lt-ltb p (run.first + run.count) ends.1))
-  | inr outside ↦
-      outside ∙ sym (false_from_ne_true (leb run.first p && ltb p (run.first + run.count)) (λ e.
-      let parts = and_parts (leb run.first p) (ltb p (run.first + run.count)) e in
-      outside-range p run.first run.count outside (leb-true run.first p parts.0)
-      (ltb-true p (run.first + run.count) parts.1)))
-]
+in_run run p =
+    grind (
+      arith,
+      cases_Bool,
+      is_in-range,
+      and_from,
+      leb,
+      ltb,
+      le-leb,
+      lt-ltb,
+      and_parts,
+      outside-range,
+      leb-true,
+      ltb-true,
+    )
 
 -- some page from a bound on is in the run where its last one is
 pub reaches : (bound first count : ℕ) → 0 < count
     → list_any (λ p. leb bound p) (range_with_len first count) ≡ leb bound (first + count - 1)
 reaches bound first zero some = absurd (omega arith)
-reaches bound first (suc zero) some =
-    let last : first ≡ first + 1 - 1 = omega arith in
-    or_false (leb bound first) ∙ ap (leb bound) last
-  where
-    or_false : (x : Bool) → (x || false) ≡ x
-    or_false true = refl
-    or_false false = refl
+reaches bound first (suc zero) some = grind (arith, leb bound)
 reaches bound first (suc (suc count)) some =
-    let last : first + 1 + suc count - 1 ≡ first + suc (suc count) - 1 = omega arith in
-    ap (λ (x : Bool). leb bound first || x)
-    (reaches bound (first + 1) (suc count) (omega arith) ∙ ap (leb bound) last)
-    ∙ later (first + suc (suc count) - 1) (omega arith)
-  where
-    later : (end : ℕ) → first ≤ end → (leb bound first || leb bound end) ≡ leb bound end
-    later end l = elim (cases_Bool (leb bound first)) [
-      | inl here ↦
-          let there : bound ≤ end = omega (arith, leb-true bound first here) in
-          ap (λ (x : Bool). x || leb bound end) here ∙ sym (le-leb bound end there)
-      | inr none ↦ ap (λ (x : Bool). x || leb bound end) none
-    ]
+    grind (arith, leb bound first, reaches bound (first + 1) (suc count) (omega arith), leb bound)
 
 -- the last page of a run has a bit exactly if all of its pages do
 pub last_has_bit : (run : Run) (words last : ℕ) → 0 < run.count
@@ -295,38 +219,7 @@ none_reaches test run e =
 pub run_bit : (run : Run) (start b : ℕ)
     → cond (ltb b (run.first - start)) false (ltb b (run.first + run.count - start))
     ≡ is_in (start + b) (pages_of_run run)
-run_bit run start b = ends ∙ sym (in_run run (start + b))
-  where
-    behind : (x y : Bool) → x ≡ y → ltb b (run.first - start) ≡ false
-        → cond (ltb b (run.first - start)) false x ≡ y
-    behind x y e f = ap (λ (t : Bool). cond t false x) f ∙ e
-
-    ends : cond (ltb b (run.first - start)) false (ltb b (run.first + run.count - start))
-        ≡ (leb run.first (start + b) && ltb (start + b) (run.first + run.count))
-    ends = elim (cases_lt (start + b) run.first) [
-      | inl before ↦
-          ap (λ (t : Bool). cond t false (ltb b (run.first + run.count - start)))
-          (lt-ltb b (run.first - start) (omega arith))
-          ∙ ap (λ (t : Bool). t && ltb (start + b) (run.first + run.count))
-          (sym (lt-leb run.first (start + b) before))
-      | inr from ↦
-          ap (λ (t : Bool). cond t false (ltb b (run.first + run.count - start)))
-          (le-ltb b (run.first - start) (omega arith))
-          ∙ same from
-          ∙ ap (λ (t : Bool). t && ltb (start + b) (run.first + run.count))
-          (sym (le-leb run.first (start + b) from))
-    ]
-      where
-        same : run.first ≤ start + b
-            → ltb b (run.first + run.count - start) ≡ ltb (start + b) (run.first + run.count)
-        same from = elim (cases_lt (start + b) (run.first + run.count)) [
-          | inl inside ↦
-              lt-ltb b (run.first + run.count - start) (omega arith)
-              ∙ sym (lt-ltb (start + b) (run.first + run.count) inside)
-          | inr past ↦
-              le-ltb b (run.first + run.count - start) (omega arith)
-              ∙ sym (le-ltb (start + b) (run.first + run.count) past)
-        ]
+run_bit run start b = grind (arith, in_run, ltb, leb, lt-ltb, lt-leb, le-ltb, le-leb)
 
 -- ---- the words of a run, one after the other
 
@@ -338,82 +231,21 @@ is_before run w p = is_in p (pages_of_run run) && ltb (p / 64) w
 pub one_word_more : (run : Run) (w mask : ℕ)
     → ((b : ℕ) → b < 64 → has_bit mask b ≡ is_in (64 * w + b) (pages_of_run run)) → (p : ℕ)
     → is_before run (w + 1) p ≡ (is_before run w p || (eqb (p / 64) w && has_bit mask (p % 64)))
-one_word_more run w mask e p = elim (cases_order (p / 64) w) [
-  | inl same ↦
-      let place : 64 * w + p % 64 ≡ p = omega (arith, same) in
-      let bit : has_bit mask (p % 64) ≡ is_in p (pages_of_run run) =
-      e (p % 64) (omega arith) ∙ ap (λ (q : ℕ). is_in q (pages_of_run run)) place in
-      parts (is_in p (pages_of_run run)) (ltb (p / 64) (w + 1)) (ltb (p / 64) w) (eqb (p / 64) w)
-      (has_bit mask (p % 64)) bit (lt-ltb (p / 64) (w + 1) (omega (arith, same)))
-      (le-ltb (p / 64) w (omega (arith, same))) (eq-eqb (p / 64) w same)
-  | inr (inl before) ↦
-      others (is_in p (pages_of_run run)) (ltb (p / 64) (w + 1)) (ltb (p / 64) w) (eqb (p / 64) w)
-      (has_bit mask (p % 64))
-      (lt-ltb (p / 64) (w + 1) (omega (arith, before)) ∙ sym (lt-ltb (p / 64) w before))
-      (ne_eqb (p / 64) w (λ q. omega (arith, q, before)))
-  | inr (inr behind) ↦
-      others (is_in p (pages_of_run run)) (ltb (p / 64) (w + 1)) (ltb (p / 64) w) (eqb (p / 64) w)
-      (has_bit mask (p % 64))
-      (le-ltb (p / 64) (w + 1) (omega (arith, behind))
-      ∙ sym (le-ltb (p / 64) w (omega (arith, behind))))
-      (ne_eqb (p / 64) w (λ q. omega (arith, q, behind)))
-]
-  where
-    parts : (x up low here bit : Bool) → bit ≡ x → up ≡ true → low ≡ false → here ≡ true
-        → (x && up) ≡ ((x && low) || (here && bit))
-    parts true true false true true a b c d = refl
-    parts false true false true false a b c d = refl
-    parts true true false true false a b c d = cc
-    parts false true false true true a b c d = cc
-    parts x false low here bit a b c d = cc
-    parts x true true here bit a b c d = cc
-    parts x true false false bit a b c d = cc
-
-    others : (x up low here bit : Bool) → up ≡ low → here ≡ false
-        → (x && up) ≡ ((x && low) || (here && bit))
-    others true true true false bit a b = refl
-    others true false false false bit a b = refl
-    others false up low false bit a b = refl
-    others true true false false bit a b = cc
-    others true false true false bit a b = cc
-    others x up low true bit a b = cc
+one_word_more run w mask e p = grind (arith, ltb, eqb, lt-ltb, le-ltb, eq-eqb, ne_eqb)
 
 -- before the first word of a run none of its pages stands
 pub none_before : (run : Run) (p : ℕ) → is_before run (run.first / 64) p ≡ false
-none_before run p = elim (cases_lt p run.first) [
-  | inl before ↦
-      ap (λ (x : Bool). x && ltb (p / 64) (run.first / 64))
-      (in_run run p ∙ ap (λ (x : Bool). x && ltb p (run.first + run.count))
-      (lt-leb run.first p before))
-  | inr from ↦
-      and_right (is_in p (pages_of_run run)) (ltb (p / 64) (run.first / 64))
-      (le-ltb (p / 64) (run.first / 64) (omega (arith, from)))
-]
+none_before run p = grind (arith, cases_lt, ltb, in_run, lt-leb, le-ltb)
 
 -- and behind its last word none does
 pub all_before : (run : Run) (w last p : ℕ) → last / 64 + 1 ≡ w
     → last ≡ run.first + run.count - 1 → is_in p (pages_of_run run) ≡ is_before run w p
-all_before run w last p e f = elim (cases_lt (p / 64) w) [
-  | inl less ↦
-      sym (ap (λ (x : Bool). is_in p (pages_of_run run) && x) (lt-ltb (p / 64) w less)
-      ∙ and_true (is_in p (pages_of_run run)))
-  | inr more ↦
-      let out : is_in p (pages_of_run run) ≡ false =
-      in_run run p ∙ and_right (leb run.first p) (ltb p (run.first + run.count))
-      (le-ltb p (run.first + run.count) (omega (arith, e, f, more))) in
-      out ∙ ap (λ (x : Bool). x && ltb (p / 64) w) (sym out)
-]
-  where
-    and_true : (x : Bool) → (x && true) ≡ x
-    and_true true = refl
-    and_true false = refl
+all_before run w last p e f = grind (arith, cases_lt, lt-ltb, in_run, leb, ltb, le-ltb)
 
 -- no page of a run is past a bound behind its end
 pub none_past : (run : Run) (bound p : ℕ) → run.first + run.count ≤ bound → bound ≤ p
     → is_in p (pages_of_run run) ≡ false
-none_past run bound p l m =
-    in_run run p ∙ and_right (leb run.first p) (ltb p (run.first + run.count))
-    (le-ltb p (run.first + run.count) (omega (arith, l, m)))
+none_past run bound p l m = grind (arith, in_run, leb, ltb, le-ltb)
 
 -- one word more
 pub put_more : (run : Run) (w mask : ℕ) (inside : Bool) (a b c : List ℕ) (m n : ℕ)
@@ -421,9 +253,7 @@ pub put_more : (run : Run) (w mask : ℕ) (inside : Bool) (a b c : List ℕ) (m 
     → Puts (λ p. eqb (p / 64) w && has_bit mask (p % 64)) inside b c n
     → ((i : ℕ) → i < 64 → has_bit mask i ≡ is_in (64 * w + i) (pages_of_run run))
     → Puts (is_before run (w + 1)) inside a c (m + n)
-put_more run w mask inside a b c m n one two e =
-    put_both (is_before run w) (λ p. eqb (p / 64) w && has_bit mask (p % 64))
-    (is_before run (w + 1)) inside a b c m n one two (one_word_more run w mask e)
+put_more run w mask inside a b c m n one two e = search (arith, put_both, one_word_more)
 
 -- no more pages change than there are numbers up to the run's end
 pub put_in_run : (run : Run) (w : ℕ) (inside : Bool) (a b : List ℕ) (n bound : ℕ)
@@ -438,25 +268,23 @@ put_in_run run w inside a b n bound s l =
 pub some_past : (test : ℕ → Bool) (runs : List Run) (k : ℕ) (d : Run) → k < length runs
     → list_any test (pages_of_run (get_or runs k d)) ≡ true
     → list_any test (pages_of_runs runs) ≡ true
-some_past test runs k d l e =
-    any_of_runs test runs
-    ∙ list_any_at (λ run. list_any test (pages_of_run run)) runs k d l e
+some_past test runs k d l e = grind (arith, any_of_runs, list_any_at)
 
 pub none_of_one : (test : ℕ → Bool) (runs : List Run) (k : ℕ) (d : Run) → k < length runs
     → list_any test (pages_of_runs runs) ≡ false
     → list_any test (pages_of_run (get_or runs k d)) ≡ false
-none_of_one test runs k d l none =
-    false_from_ne_true (list_any test (pages_of_run (get_or runs k d))) (λ e.
-    both_ways (list_any test (pages_of_runs runs)) none (some_past test runs k d l e))
+none_of_one test runs k d l none = grind (arith, both_ways, some_past)
 
 pub one_run_more : (runs : List Run) (k p : ℕ) (d : Run) → k < length runs
     → is_in p (pages_of_runs (take (k + 1) runs))
     ≡ (is_in p (pages_of_runs (take k runs)) || is_in p (pages_of_run (get_or runs k d)))
 one_run_more runs k p d l =
-    any_of_runs (λ m. m == p) (take (k + 1) runs)
-    ∙ list_any_more (λ run. is_in p (pages_of_run run)) runs k d l
-    ∙ ap (λ (x : Bool). x || is_in p (pages_of_run (get_or runs k d)))
-    (sym (any_of_runs (λ m. m == p) (take k runs)))
+    grind (
+      arith,
+      any_of_runs (λ m. m == p) (take (k + 1) runs),
+      list_any_more (λ run. is_in p (pages_of_run run)) runs k d l,
+      any_of_runs (λ m. m == p) (take k runs),
+    )
 
 -- what was put there of the first runs, whose pages are below a bound
 pub record PutsFirst (runs : List Run) (k : ℕ) (inside : Bool) (old new : List ℕ) (n : ℕ) :
@@ -465,10 +293,7 @@ pub record PutsFirst (runs : List Run) (k : ℕ) (inside : Bool) (old new : List
   pub small : (p : ℕ) → 8589934592 ≤ p → is_in p (pages_of_runs (take k runs)) ≡ false
 
 pub put_no_run : (runs : List Run) (inside : Bool) (a : List ℕ) → PutsFirst runs 0 inside a a 0
-put_no_run runs inside a = record {
-  put = put_none (λ p. is_in p (pages_of_runs (take 0 runs))) inside a (λ p. refl);
-  small = λ p l. refl;
-}
+put_no_run runs inside a = search (arith, put_none)
 
 pub put_next_run : (runs : List Run) (k : ℕ) (d : Run) (inside : Bool) (a b c : List ℕ) (m n : ℕ)
     → k < length runs → PutsFirst runs k inside a b m

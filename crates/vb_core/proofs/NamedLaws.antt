@@ -1,5 +1,5 @@
 -- What runs say of the pages that the definitions give.
-use Rattle.std.proofs.Common.{◌≡◌, ◌∙◌, ℕ, Bool, true, false, List, [], ◌∷◌, Option, Some, None}
+use Rattle.std.proofs.Common.{◌≡◌, ◌∙◌, ℕ, Bool, false, List, [], ◌∷◌, Option, Some, None}
 use Rattle.std.proofs.Common.{Result, Ok, Err, refl, length, take, sym, ap, arith, subst}
 use Rattle.std.specs.Prelude.{cond, is_none, IsOkAnd}
 use Rattle.vb_model.specs.Tests.{is_in}
@@ -18,12 +18,7 @@ use Rattle.vb_core.specs.declared.runs.Run.{Run}
 use Rattle.vb_core.specs.declared.name.Named.{Named}
 use Rattle.vb_core.specs.Runs.{pages_of_runs, Tell}
 use Rattle.vb_core.proofs.RunLemmas.{tell_times}
-use Rattle.vb_core.specs.Name.{right_numbers, NamesRuns, AreNamed}
-
-unless_ok : (fault : Option ChainFault) (ns pages : List ℕ) → unless_fault fault ns ≡ Ok pages →
-    (fault ≡ None) × (ns ≡ pages)
-unless_ok None ns pages e = (refl, cc)
-unless_ok (Some f) ns pages e = absurd cc
+use Rattle.vb_core.specs.Name.{right_numbers, NamesRuns}
 
 unless_err : (fault : Option ChainFault) (ns : List ℕ) (f : ChainFault) →
     unless_fault fault ns ≡ Err f → fault ≡ Some f
@@ -48,12 +43,7 @@ all_right reserved count (n ∷ ns) e =
 -- what stands as often in two lists is in both or in neither
 in_both : (p : ℕ) (xs ys : List ℕ) (a b : Bool) → is_in p xs ≡ a → is_in p ys ≡ b →
     times p xs ≡ times p ys → a ≡ b
-in_both p xs ys true true e f same = refl
-in_both p xs ys true false e f same =
-    absurd (omega (arith, same, times-some p xs e, times-none p ys f))
-in_both p xs ys false true e f same =
-    absurd (omega (arith, same, times-none p xs e, times-some p ys f))
-in_both p xs ys false false e f same = refl
+in_both p xs ys a b e f same = grind (arith, times-some, times-none)
 
 weaker : {A : Type 0} {E : Type 0} (result : Result A E) (P Q : A → Type 0) →
     ((x : A) → P x → Q x) → IsOkAnd result P → IsOkAnd result Q
@@ -68,17 +58,7 @@ named_right : (mem : Pages) (pieces : List Piece) (reserved total : ℕ) (runs :
     (each_once (numbers_of (bytes_of mem pieces)) ≡ pages)
     × IsOkAnd result (λ named. Tell (take named.runs runs) (numbers_of (bytes_of mem pieces)))
 named_right mem pieces reserved total runs result pages e names is =
-    let ns : List ℕ = numbers_of (bytes_of mem pieces) in
-    let parts = unless_ok (first_number_fault reserved (length mem) ns) (each_once ns) pages
-    (sym (read_numbers mem pieces reserved total e) ∙ is) in
-    let right : right_numbers reserved (length mem) ns ≡ ns =
-    all_right reserved (length mem) ns parts.0 in (
-      parts.1,
-      weaker result (AreNamed (right_numbers reserved (length mem) ns) (length ns) runs)
-          (λ named. Tell (take named.runs runs) ns)
-          (λ named are. subst (λ (xs : List ℕ). Tell (take named.runs runs) xs) right
-          are.told_so) (names.named parts.0),
-    )
+    grind (arith, read_numbers, all_right, weaker)
 
 pub named_fault : (mem : Pages) (pieces : List Piece) (reserved total : ℕ) (runs : List Run)
     (result : Result Named ChainFault) (fault : ChainFault) → request_length pieces ≡ Ok total →

@@ -81,9 +81,7 @@ none_skipped runs n = let e : Same 4 5 = n.others in omega arith
 
 -- runs that are left open
 left_open : AreNamed four 4 [] (record { runs = 2; pages = 4; skipped = 0 }) → ⊥
-left_open n =
-    let e : Same 2 0 = ap (λ (rs : List Run). length rs) (told_once both [] four told n.told_so) in
-    omega arith
+left_open n = grind (arith, told)
 
 -- ---- numbers
 

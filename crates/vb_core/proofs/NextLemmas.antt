@@ -1,12 +1,11 @@
 -- What is popped from a memory of copies.
 use Rattle.std.proofs.Common.{◌≡◌, ℕ, ◌+◌, ◌*◌, ◌≤◌, Bool, true, false, Option, List, length}
-use Rattle.std.proofs.Common.{Result, subst, arith, refl, [], ◌∷◌, ◌<◌, ◌^◌, Some, Ok}
+use Rattle.std.proofs.Common.{Result, arith, refl, [], ◌∷◌, ◌<◌, ◌^◌, Some, Ok}
 use Rattle.std.specs.Prelude.{All, slice_index_or}
 use Rattle.vb_model.specs.Limits.{page_size}
 use Rattle.vb_chain.specs.declared.pieces.Piece.{Piece}
 use Rattle.vb_chain.specs.Table.{descriptor_at}
-use Rattle.std.specs.Prelude.{◌&&◌, ◌==◌, nat_le, None}
-use Rattle.std.proofs.lemmas.Bool.{eqb-true}
+use Rattle.std.specs.Prelude.{◌&&◌, nat_le, None}
 use Rattle.vb_ram.specs.Pages.{Pages, end_of}
 use Rattle.vb_chain.specs.declared.fault.ChainFault.{ChainFault}
 use Rattle.vb_ring.specs.declared.device.Taken.{Taken}
@@ -19,7 +18,7 @@ use Rattle.vb_core.specs.declared.kinds.Kind.TheVariants.{Report}
 use Rattle.vb_core.specs.Report.{report_denial}
 use Rattle.vb_core.specs.declared.device.Device.{Device}
 use Rattle.vb_core.specs.Devices.{ring_of}
-use Rattle.vb_core.specs.Next.{are_copies, is_read, next_denial, PopsCopies}
+use Rattle.vb_core.specs.Next.{are_copies, next_denial, PopsCopies}
 use Rattle.vb_core.specs.declared.ring.Ring.{Ring}
 use Rattle.vb_core.specs.Copies.{padded, copies_of}
 use Rattle.vb_request.proofs.Chains.{chain_fits}
@@ -28,11 +27,7 @@ use Rattle.vb_core.proofs.DenialLemmas.{IsOpen, open_call}
 
 pub pops_so : (m1 m2 : Pages) (q end q2 : DeviceEnd) (found : Result (Option Taken) ChainFault) →
     m1 ≡ m2 → q ≡ end → PopsBy m1 q q2 found → PopsBy m2 end (after_pop end found) found
-pops_so m1 m2 q end q2 found m e pops =
-    let there : PopsBy m2 end q2 found =
-    subst (λ (x : DeviceEnd). PopsBy m2 x q2 found) e
-    (subst (λ (x : Pages). PopsBy x q q2 found) m pops) in
-    subst (λ (x : DeviceEnd). PopsBy m2 end x found) there.state there
+pops_so m1 m2 q end q2 found m e pops = grind arith
 
 both : (a b : Bool) → (a && b) ≡ true → (a ≡ true) × (b ≡ true)
 both true b e = (refl, e)
@@ -41,26 +36,18 @@ both false b e = absurd cc
 pub open_next : (kind : Kind) (avail table room : ℕ) (d : Device) →
     next_denial kind avail table room d ≡ None →
     IsOpen kind (nat_le (ring_of kind d).size room) (are_copies (ring_of kind d).size avail table) d
-open_next kind avail table room d h =
-    open_call kind (is_read kind) (nat_le (ring_of kind d).size room)
-    (are_copies (ring_of kind d).size avail table) d h
+open_next kind avail table room d h = grind (arith, open_call)
 
 pub open_report : (avail table room : ℕ) (d : Device) →
     report_denial avail table room d ≡ None →
     IsOpen Report (nat_le MAX_REPORT_PIECES room)
     (are_copies (ring_of Report d).size avail table) d
-open_report avail table room d h =
-    open_call Report true (nat_le MAX_REPORT_PIECES room)
-    (are_copies (ring_of Report d).size avail table) d h
+open_report avail table room d h = search (arith, open_call)
 
 -- copies of a queue's rings fit into a page each
 pub copies_fit : (size avail table : ℕ) → IsSize size → are_copies size avail table ≡ true →
     (avail ≤ 4096) × (table ≤ 4096)
-copies_fit size avail table is e =
-    let parts = both (avail == 4 + 2 * size) (table == 16 * size) e in
-    let a : avail ≡ 4 + 2 * size = eqb-true avail (4 + 2 * size) parts.0 in
-    let t : table ≡ 16 * size = eqb-true table (16 * size) parts.1 in
-    (omega (arith, a, is.most), omega (arith, t, is.most))
+copies_fit size avail table is e = grind (arith, both)
 
 -- the pieces of a chain that was popped lie in memory, so 32 bits number their pages
 pub pieces_inside : (count : ℕ) (r : Ring) (avail table : List ℕ) (h : ℕ) (pieces : List Piece) →

@@ -1,10 +1,7 @@
 -- Numbers in a row of bytes, written and read.
 use Rattle.std.proofs.Common.{◌≡◌, ℕ, suc, ◌+◌, ◌^◌, ◌<◌, ◌≤◌, List, ◌∷◌, ◌++◌, length, get_or}
-use Rattle.std.proofs.Common.{drop-cons, take, drop, refl, sym, ◌∙◌, ap, arith, inl, inr}
-use Rattle.std.specs.Int.{w16, w32, w64, from_le_bytes, to_le_bytes}
-use Rattle.std.proofs.lemmas.Bool.{cases_lt}
-use Rattle.std.proofs.lemmas.Nat.{from_le_bytes-to_le_bytes_2, from_le_bytes-to_le_bytes_4}
-use Rattle.std.proofs.lemmas.Nat.{from_le_bytes-to_le_bytes_8, le_bytes_2, le_bytes_4, le_bytes_8}
+use Rattle.std.proofs.Common.{drop-cons, take, drop, sym, ◌∙◌, ap, arith}
+use Rattle.std.proofs.lemmas.Nat.{le_bytes_2, le_bytes_4, le_bytes_8}
 use Rattle.std.proofs.lemmas.List.{take-append-drop, get_or-take, get_or-drop, get_or_past}
 use Rattle.std.proofs.lemmas.List.{length-take, length-take-le, length-drop, drop-drop}
 use Rattle.vb_core.specs.Format.{u16_bytes, u32_bytes, u64_bytes, u16_at, u32_at, u64_at}
@@ -23,36 +20,29 @@ behind bytes more size p next q e =
 pub u16_then : (n : ℕ) (more bytes : List ℕ) (p next : ℕ) → n < 65536 → next ≡ p + 2
     → drop p bytes ≡ u16_bytes n ++ more → (u16_at bytes p ≡ n) × (drop next bytes ≡ more)
 unfolding u16_bytes u16_at
-u16_then n more bytes p next h q e = (
-  ap (λ (xs : List ℕ). from_le_bytes w16 (take 2 xs)) e ∙ from_le_bytes-to_le_bytes_2 n h,
-  behind bytes more 2 p next q (ap (λ (xs : List ℕ). drop 2 xs) e),
-)
+u16_then n more bytes p next h q e =
+    grind (arith, behind bytes more 2 p next q (ap (λ (xs : List ℕ). drop 2 xs) e))
 
 pub u32_then : (n : ℕ) (more bytes : List ℕ) (p next : ℕ) → n < 2 ^ 32 → next ≡ p + 4
     → drop p bytes ≡ u32_bytes n ++ more → (u32_at bytes p ≡ n) × (drop next bytes ≡ more)
 unfolding u32_bytes u32_at
-u32_then n more bytes p next h q e = (
-  ap (λ (xs : List ℕ). from_le_bytes w32 (take 4 xs)) e ∙ from_le_bytes-to_le_bytes_4 n h,
-  behind bytes more 4 p next q (ap (λ (xs : List ℕ). drop 4 xs) e),
-)
+u32_then n more bytes p next h q e =
+    grind (arith, behind bytes more 4 p next q (ap (λ (xs : List ℕ). drop 4 xs) e))
 
 pub u64_then : (n : ℕ) (more bytes : List ℕ) (p next : ℕ) → n < 2 ^ 64 → next ≡ p + 8
     → drop p bytes ≡ u64_bytes n ++ more → (u64_at bytes p ≡ n) × (drop next bytes ≡ more)
 unfolding u64_bytes u64_at
-u64_then n more bytes p next h q e = (
-  ap (λ (xs : List ℕ). from_le_bytes w64 (take 8 xs)) e ∙ from_le_bytes-to_le_bytes_8 n h,
-  behind bytes more 8 p next q (ap (λ (xs : List ℕ). drop 8 xs) e),
-)
+u64_then n more bytes p next h q e =
+    grind (arith, behind bytes more 8 p next q (ap (λ (xs : List ℕ). drop 8 xs) e))
 
 pub byte_then : (n : ℕ) (more bytes : List ℕ) (p next : ℕ) → next ≡ p + 1
     → drop p bytes ≡ n ∷ more → (get_or bytes p 0 ≡ n) × (drop next bytes ≡ more)
-byte_then n more bytes p next q e = (
-  here ∙ ap (λ (xs : List ℕ). get_or xs 0 0) e,
-  behind bytes more 1 p next q (ap (λ (xs : List ℕ). drop 1 xs) e),
-)
-  where
-    here : get_or bytes p 0 ≡ get_or (drop p bytes) 0 0
-    here = ap (λ (k : ℕ). get_or bytes k 0) (omega arith) ∙ sym (get_or-drop p bytes 0 0)
+byte_then n more bytes p next q e =
+    grind (
+      arith,
+      behind bytes more 1 p next q (ap (λ (xs : List ℕ). drop 1 xs) e),
+      get_or-drop p bytes 0 0,
+    )
 
 -- ---- what is read is what was written
 
@@ -60,10 +50,7 @@ byte_then n more bytes p next q e = (
 split : (bytes part : List ℕ) (size p next : ℕ) → next ≡ p + size
     → part ≡ take size (drop p bytes) → drop p bytes ≡ part ++ drop next bytes
 split bytes part size p next q e =
-    sym (take-append-drop size (drop p bytes))
-    ∙ ap (λ (xs : List ℕ). xs ++ drop size (drop p bytes)) (sym e)
-    ∙ ap (λ (xs : List ℕ). part ++ xs)
-    (drop-drop size p bytes ∙ sym (ap (λ (k : ℕ). drop k bytes) q))
+    grind (arith, take-append-drop size (drop p bytes), drop-drop size p bytes)
 
 length_part : (bytes : List ℕ) (size p next : ℕ) → next ≡ p + size → next ≤ length bytes
     → length (take size (drop p bytes)) ≡ size
@@ -72,46 +59,22 @@ length_part bytes size p next q l =
 
 byte_of_part : (bytes : List ℕ) (size p : ℕ) → AreBytes bytes
     → AreBytes (take size (drop p bytes))
-byte_of_part bytes size p all i = elim (cases_lt i size) [
-  | inl less ↦ omega (
-    arith,
-    get_or-take size (drop p bytes) i 0 less,
-    get_or-drop p bytes i 0,
-    all (p + i),
-  )
-  | inr more ↦ omega (
-    arith,
-    get_or_past (take size (drop p bytes)) i 0
-        (omega (arith, more, length-take size (drop p bytes))),
-  )
-]
+byte_of_part bytes size p all i = grind (arith, get_or-take, get_or-drop, get_or_past, length-take)
 
 pub u16_again : (bytes : List ℕ) (p next : ℕ) → AreBytes bytes → next ≡ p + 2
     → next ≤ length bytes → drop p bytes ≡ u16_bytes (u16_at bytes p) ++ drop next bytes
 unfolding u16_bytes u16_at
-u16_again bytes p next all q l =
-    let part = take 2 (drop p bytes) in
-    split bytes (to_le_bytes w16 (from_le_bytes w16 part)) 2 p next q
-    (le_bytes_2 part (from_le_bytes w16 part) (length_part bytes 2 p next q l)
-    (byte_of_part bytes 2 p all) refl)
+u16_again bytes p next all q l = search (arith, split, le_bytes_2, length_part, byte_of_part)
 
 pub u32_again : (bytes : List ℕ) (p next : ℕ) → AreBytes bytes → next ≡ p + 4
     → next ≤ length bytes → drop p bytes ≡ u32_bytes (u32_at bytes p) ++ drop next bytes
 unfolding u32_bytes u32_at
-u32_again bytes p next all q l =
-    let part = take 4 (drop p bytes) in
-    split bytes (to_le_bytes w32 (from_le_bytes w32 part)) 4 p next q
-    (le_bytes_4 part (from_le_bytes w32 part) (length_part bytes 4 p next q l)
-    (byte_of_part bytes 4 p all) refl)
+u32_again bytes p next all q l = search (arith, split, le_bytes_4, length_part, byte_of_part)
 
 pub u64_again : (bytes : List ℕ) (p next : ℕ) → AreBytes bytes → next ≡ p + 8
     → next ≤ length bytes → drop p bytes ≡ u64_bytes (u64_at bytes p) ++ drop next bytes
 unfolding u64_bytes u64_at
-u64_again bytes p next all q l =
-    let part = take 8 (drop p bytes) in
-    split bytes (to_le_bytes w64 (from_le_bytes w64 part)) 8 p next q
-    (le_bytes_8 part (from_le_bytes w64 part) (length_part bytes 8 p next q l)
-    (byte_of_part bytes 8 p all) refl)
+u64_again bytes p next all q l = search (arith, split, le_bytes_8, length_part, byte_of_part)
 
 pub byte_again : (bytes : List ℕ) (p next : ℕ) → next ≡ p + 1 → next ≤ length bytes
     → drop p bytes ≡ get_or bytes p 0 ∷ drop next bytes

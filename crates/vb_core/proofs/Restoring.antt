@@ -44,35 +44,23 @@ header_passes : (short state version fits : Bool) → short ≡ false → state 
     → (if short then Some BadLength else if not state then Some NotAState
     else if not version then Some OtherVersion else if not fits then Some BadLength else None)
     ≡ None
-header_passes false true true true a b c d = refl
-header_passes true state version fits a b c d = cc
-header_passes false false version fits a b c d = cc
-header_passes false true false fits a b c d = cc
-header_passes false true true false a b c d = cc
+header_passes short state version fits a b c d = grind arith
 
 header_passed : (short state version fits : Bool)
     → (if short then Some BadLength else if not state then Some NotAState
     else if not version then Some OtherVersion else if not fits then Some BadLength else None)
     ≡ None
     → (short ≡ false) × (state ≡ true) × (version ≡ true) × (fits ≡ true)
-header_passed false true true true e = (refl, refl, refl, refl)
-header_passed true state version fits e = cc
-header_passed false false version fits e = cc
-header_passed false true false fits e = cc
-header_passed false true true false e = cc
+header_passed short state version fits e = grind arith
 
 read_passes : (sum possible : Bool) (x s : Saved) → sum ≡ true → possible ≡ true → x ≡ s
     → (if not sum then Err BadSum else if not possible then Err Impossible else Ok x) ≡ Ok s
-read_passes true true x s a b e = ap Ok e
-read_passes false possible x s a b e = cc
-read_passes true false x s a b e = cc
+read_passes sum possible x s a b e = grind arith
 
 read_passed : (sum possible : Bool) (x s : Saved)
     → (if not sum then Err BadSum else if not possible then Err Impossible else Ok x) ≡ Ok s
     → (sum ≡ true) × (possible ≡ true) × (x ≡ s)
-read_passed true true x s e = (refl, refl, cc)
-read_passed false possible x s e = cc
-read_passed true false x s e = cc
+read_passed sum possible x s e = grind arith
 
 not_denied : (o : Option StateDenial) (r : Result Saved StateDenial) (s : Saved)
     → unless_denied o r ≡ Ok s → (o ≡ None) × (r ≡ Ok s)
@@ -80,9 +68,7 @@ not_denied None r s e = (refl, e)
 not_denied (Some why) r s e = cc
 
 both : (a b : Bool) → (a && b) ≡ true → (a ≡ true) × (b ≡ true)
-both true true e = (refl, refl)
-both true false e = cc
-both false b e = cc
+both a b e = grind arith
 
 -- ---- what was saved is restored
 

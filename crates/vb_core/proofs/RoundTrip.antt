@@ -49,13 +49,7 @@ row parts x y z e f = e ∙ ap (λ (xs : List ℕ). in_a_row parts xs) f
 
 ring_again : (bytes : List ℕ) (p : ℕ) → AreBytes bytes → p + 30 ≤ length bytes
     → drop p bytes ≡ in_a_row (ring_parts (ring_at bytes p)) (drop (p + 30) bytes)
-ring_again bytes p all l =
-    then _ _ _ _ (u64_again bytes p (p + 8) all refl (omega arith))
-    (then _ _ _ _ (u64_again bytes (p + 8) (p + 16) all (omega arith) (omega arith))
-    (then _ _ _ _ (u64_again bytes (p + 16) (p + 24) all (omega arith) (omega arith))
-    (then _ _ _ _ (u16_again bytes (p + 24) (p + 26) all (omega arith) (omega arith))
-    (then _ _ _ _ (u16_again bytes (p + 26) (p + 28) all (omega arith) (omega arith))
-    (u16_again bytes (p + 28) (p + 30) all (omega arith) (omega arith))))))
+ring_again bytes p all l = grind (arith, u64_again, u16_again)
 
 settings_again : (bytes : List ℕ) (p : ℕ) → AreBytes bytes → p + 22 ≤ length bytes
     → drop p bytes ≡ in_a_row (settings_parts (settings_at bytes p)) (drop (p + 22) bytes)

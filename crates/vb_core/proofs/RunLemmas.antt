@@ -1,8 +1,8 @@
 -- How often a page stands in runs.
 use Rattle.std.proofs.Common.{◌≡◌, ◌∙◌, ℕ, zero, suc, ◌+◌, ◌-◌, ◌<◌, List, [], ◌∷◌, ◌++◌, refl}
 use Rattle.std.proofs.Common.{length, get_or, set, take, sym, ap, arith, subst, append_assoc, ◌≤◌, length-append}
-use Rattle.std.specs.Prelude.{◌==◌, if◌then◌else◌, Bool, true, false, Some, None}
-use Rattle.std.proofs.lemmas.Bool.{eqb-true, eq-eqb, ne_eqb}
+use Rattle.std.specs.Prelude.{◌==◌, Some}
+use Rattle.std.proofs.lemmas.Bool.{eqb-true, eq-eqb}
 use Rattle.std.specs.List.{range_with_len}
 use Rattle.std.proofs.lemmas.Grind.{take-set_at}
 use Rattle.std.proofs.lemmas.List.{append-nil, take_more}
@@ -23,20 +23,11 @@ times-one p x = let e = times-cons p x [] in omega (arith, e)
 -- one page more behind those of a range
 times_up : (p first count : ℕ) → times p (range_with_len first (suc count)) ≡
     times p (range_with_len first count) + one_if ((first + count) == p)
-times_up p first zero =
-    let e : first + 0 ≡ first = omega arith in
-    let last : one_if ((first + 0) == p) ≡ one_if (first == p) =
-    ap (λ (n : ℕ). one_if (n == p)) e in
-    omega (arith, times-one p first, last)
+times_up p first zero = grind arith
 times_up p first (suc count) =
-    let e : first + 1 + count ≡ first + suc count = omega arith in
-    let tail : times p (range_with_len (first + 1) (suc count)) ≡
-    times p (range_with_len (first + 1) count) + one_if ((first + suc count) == p) =
-    times_up p (first + 1) count
-    ∙ ap (λ (n : ℕ). times p (range_with_len (first + 1) count) + one_if (n == p)) e in
-    omega (
+    grind (
       arith,
-      tail,
+      times_up p (first + 1) count,
       times-cons p first (range_with_len (first + 1) (suc count)),
       times-cons p first (range_with_len (first + 1) count),
     )
@@ -44,32 +35,13 @@ times_up p first (suc count) =
 pub joined_up : (p page : ℕ) (run new : Run) → run.first + run.count ≡ page →
     new.first ≡ run.first → new.count ≡ run.count + 1 →
     times p (pages_of_run new) ≡ times p (pages_of_run run) + one_if (page == p)
-joined_up p page run new e f g =
-    let same : times p (range_with_len new.first new.count) ≡
-    times p (range_with_len run.first (suc run.count)) =
-    ap (λ (n : ℕ). times p (range_with_len n new.count)) f
-    ∙ ap (λ (n : ℕ). times p (range_with_len run.first n)) (g ∙ one run.count) in
-    same ∙ (times_up p run.first run.count
-    ∙ ap (λ (n : ℕ). times p (range_with_len run.first run.count) + one_if (n == p)) e)
-  where
-    one : (n : ℕ) → n + 1 ≡ suc n
-    one n = omega arith
+joined_up p page run new e f g = grind (arith, times_up)
 
 pub joined_down : (p page : ℕ) (run new : Run) → page + 1 ≡ run.first →
     new.first ≡ page → new.count ≡ run.count + 1 →
     times p (pages_of_run new) ≡ times p (pages_of_run run) + one_if (page == p)
 joined_down p page run new e f g =
-    let same : times p (range_with_len new.first new.count) ≡
-    times p (range_with_len page (suc run.count)) =
-    ap (λ (n : ℕ). times p (range_with_len n new.count)) f
-    ∙ ap (λ (n : ℕ). times p (range_with_len page n)) (g ∙ one run.count) in
-    let first : times p (range_with_len (page + 1) run.count) ≡
-    times p (range_with_len run.first run.count) =
-    ap (λ (n : ℕ). times p (range_with_len n run.count)) e in
-    omega (arith, same, first, times-cons p page (range_with_len (page + 1) run.count))
-  where
-    one : (n : ℕ) → n + 1 ≡ suc n
-    one n = omega arith
+    grind (arith, times-cons p page (range_with_len (page + 1) run.count))
 
 -- ---- a run that takes a number in
 
@@ -82,29 +54,11 @@ longer_from n run = record { first = n; count = run.count + 1 }
 
 pub joins_up : (run : Run) (n : ℕ) → run.first + run.count ≡ n →
     joined run n ≡ Some (longer run)
-joins_up run n e = inside (n == run.first + run.count) (eq-eqb n (run.first + run.count) (sym e))
-  where
-    inside : (up : Bool) → up ≡ true →
-        (if up then Some (longer run)
-        else if n + 1 == run.first then Some (longer_from n run)
-        else None) ≡ Some (longer run)
-    inside true is = refl
-    inside false is = absurd cc
+joins_up run n e = grind arith
 
 pub joins_down : (run : Run) (n : ℕ) → n + 1 ≡ run.first →
     joined run n ≡ Some (longer_from n run)
-joins_down run n e =
-    inside (n == run.first + run.count) (n + 1 == run.first)
-    (ne_eqb n (run.first + run.count) (λ q. absurd (omega (arith, q, e))))
-    (eq-eqb (n + 1) run.first e)
-  where
-    inside : (up down : Bool) → up ≡ false → down ≡ true →
-        (if up then Some (longer run)
-        else if down then Some (longer_from n run)
-        else None) ≡ Some (longer_from n run)
-    inside false true up down = refl
-    inside true down up is = absurd cc
-    inside false false up down = absurd cc
+joins_down run n e = grind (arith, eq-eqb)
 
 -- it has one page more, and that is the number
 record HasOneMore (old new : Run) (n : ℕ) : Type 0 where
@@ -112,35 +66,7 @@ record HasOneMore (old new : Run) (n : ℕ) : Type 0 where
   count : new.count ≡ old.count + 1
 
 one_more : (old new : Run) (n : ℕ) → joined old n ≡ Some new → HasOneMore old new n
-one_more old new n e =
-    inside (n == old.first + old.count) (n + 1 == old.first) (eqb-true n (old.first + old.count))
-    (eqb-true (n + 1) old.first) e
-  where
-    same : (x : Run) → Some x ≡ Some new → x ≡ new
-    same x is = cc
-
-    inside : (up down : Bool) → (up ≡ true → n ≡ old.first + old.count) →
-        (down ≡ true → n + 1 ≡ old.first) →
-        (if up then Some (longer old)
-        else if down then Some (longer_from n old)
-        else None) ≡ Some new → HasOneMore old new n
-    inside true down follows stands is =
-        let now : longer old ≡ new = same _ is in
-        let first : new.first ≡ old.first = ap (λ (r : Run). r.first) (sym now) in
-        let count : new.count ≡ old.count + 1 = ap (λ (r : Run). r.count) (sym now) in
-        record {
-          pages = λ p. joined_up p n old new (sym (follows refl)) first count;
-          count = count;
-        }
-    inside false true follows stands is =
-        let now : longer_from n old ≡ new = same _ is in
-        let first : new.first ≡ n = ap (λ (r : Run). r.first) (sym now) in
-        let count : new.count ≡ old.count + 1 = ap (λ (r : Run). r.count) (sym now) in
-        record {
-          pages = λ p. joined_down p n old new (stands refl) first count;
-          count = count;
-        }
-    inside false false follows stands is = absurd cc
+one_more old new n e = grind (arith, eqb-true, joined_up, joined_down)
 
 -- one that takes numbers in has their pages more
 grown_times : (p : ℕ) (old new : Run) (ns : List ℕ) → Grows old ns new →
@@ -150,17 +76,14 @@ grown_times p old new [] g =
     ap (λ (r : Run). times p (pages_of_run r)) g in
     omega (arith, same)
 grown_times p old new (n ∷ ns) g =
-    let one : HasOneMore old g.0 n = one_more old g.0 n g.1.0 in
-    omega (arith, grown_times p g.0 new ns g.1.1, one.pages p, times-cons p n ns)
+    grind (arith, one_more old g.0 n g.1.0, grown_times p g.0 new ns g.1.1, times-cons p n ns)
 
 grown_count : (old new : Run) (ns : List ℕ) → Grows old ns new →
     new.count ≡ old.count + length ns
 grown_count old new [] g =
     let same : new.count ≡ old.count = ap (λ (r : Run). r.count) g in
     omega (arith, same)
-grown_count old new (n ∷ ns) g =
-    let one : HasOneMore old g.0 n = one_more old g.0 n g.1.0 in
-    omega (arith, grown_count g.0 new ns g.1.1, one.count)
+grown_count old new (n ∷ ns) g = grind (arith, grown_count g.0 new ns g.1.1)
 
 -- and takes one more in
 grown_more : (old mid new : Run) (ns : List ℕ) (n : ℕ) → Grows old ns mid →
@@ -187,12 +110,7 @@ part_pages run ns part rest p is =
 
 part_size : (run : Run) (ns part rest : List ℕ) → IsPart run ns part rest →
     length part ≡ run.count
-part_size run ns part rest is =
-    let n : ℕ = is.grows.0 in
-    let more : List ℕ = is.grows.1.0 in
-    let all : length part ≡ length (n ∷ more) =
-    ap (λ (xs : List ℕ). length xs) is.grows.1.1.0 in
-    omega (arith, all, grown_count (one_page n) run more is.grows.1.1.1)
+part_size run ns part rest is = grind (arith, grown_count)
 
 part_some : (run : Run) (ns part rest : List ℕ) → IsPart run ns part rest → 0 < run.count
 part_some run ns part rest is =
@@ -223,9 +141,7 @@ tell_times (run ∷ runs) ns t p =
 part_length : (run : Run) (ns part rest : List ℕ) → IsPart run ns part rest →
     length ns ≡ run.count + length rest
 part_length run ns part rest is =
-    let all : length ns ≡ length part + length rest =
-    ap (λ (xs : List ℕ). length xs) is.whole ∙ length-append part rest in
-    omega (arith, all, part_size run ns part rest is)
+    grind (arith, length-append part rest, part_size run ns part rest is)
 
 -- runs tell some numbers, as many as the last of them has at least
 some_told : (first : List Run) (last : Run) (ns : List ℕ) → Tell (first ++ last ∷ []) ns →
@@ -254,10 +170,7 @@ apart_more run (m ∷ rest) n lt a = a
 
 part_more : (run : Run) (ns part rest : List ℕ) (n : ℕ) → IsPart run ns part rest →
     IsPart run (ns ++ n ∷ []) part (rest ++ n ∷ [])
-part_more run ns part rest n is = record {
-  whole = ap (λ (xs : List ℕ). xs ++ n ∷ []) is.whole ∙ append_assoc part rest (n ∷ []);
-  grows = is.grows;
-}
+part_more run ns part rest n is = grind (arith, append_assoc)
 
 -- the last run takes one more number in
 tell_last : (first : List Run) (old new : Run) (ns : List ℕ) (n : ℕ) →
@@ -349,9 +262,7 @@ tell_new (run ∷ first) last ns n away t =
 
 first_are : (used : ℕ) (runs : List Run) (d : Run) → 0 < used → used ≤ length runs →
     take used runs ≡ take (used - 1) runs ++ get_or runs (used - 1) d ∷ []
-first_are used runs d some few =
-    let back : used ≡ used - 1 + 1 = omega arith in
-    ap (λ (n : ℕ). take n runs) back ∙ take_more runs (used - 1) d (omega arith)
+first_are used runs d some few = grind (arith, take_more)
 
 -- the last of them takes a page in
 pub last_joined : (page used : ℕ) (runs : List Run) (d new : Run) → 0 < used →
@@ -359,12 +270,7 @@ pub last_joined : (page used : ℕ) (runs : List Run) (d new : Run) → 0 < used
     (ns : List ℕ) → Tell (take used runs) ns →
     Tell (take used (set runs (used - 1) new)) (ns ++ page ∷ [])
 last_joined page used runs d new some few joined ns t =
-    let back : used ≡ used - 1 + 1 = omega arith in
-    let now : take used (set runs (used - 1) new) ≡ take (used - 1) runs ++ new ∷ [] =
-    take-set_at runs (used - 1) used new back (omega arith) in
-    subst (λ (rs : List Run). Tell rs (ns ++ page ∷ [])) (sym now)
-    (tell_last (take (used - 1) runs) (get_or runs (used - 1) d) new ns page joined
-    (subst (λ (rs : List Run). Tell rs ns) (first_are used runs d some few) t))
+    grind (arith, take-set_at, tell_last, first_are)
 
 -- none of them takes it in
 pub last_apart : (page used : ℕ) (runs : List Run) (d : Run) → 0 < used →
@@ -386,21 +292,13 @@ last_apart page used runs d some few apart ns short t =
 pub none_apart : (page used : ℕ) (runs : List Run) → used ≡ 0 →
     (ns : List ℕ) → Tell (take used runs) ns →
     Tell (take used runs ++ one_page page ∷ []) (ns ++ page ∷ [])
-none_apart page used runs e ns t =
-    let none : ns ≡ [] = subst (λ (n : ℕ). Tell (take n runs) ns) e t in
-    subst (λ (n : ℕ). Tell (take n runs ++ one_page page ∷ []) (ns ++ page ∷ [])) (sym e)
-    (subst (λ (xs : List ℕ). Tell (one_page page ∷ []) (xs ++ page ∷ [])) (sym none)
-    (alone_tells page))
+none_apart page used runs e ns t = grind (arith, alone_tells)
 
 -- a run of one page is put behind them
 pub run_added : (used : ℕ) (runs now : List Run) (new : Run) (ms : List ℕ) → now ≡ runs →
     used < length runs → Tell (take used runs ++ new ∷ []) ms →
     Tell (take (used + 1) (set now used new)) ms
-run_added used runs now new ms same lt t =
-    let more : take (used + 1) (set now used new) ≡ take used runs ++ new ∷ [] =
-    ap (λ (rs : List Run). take (used + 1) (set rs used new)) same
-    ∙ take-set_at runs used (used + 1) new refl lt in
-    subst (λ (rs : List Run). Tell rs ms) (sym more) t
+run_added used runs now new ms same lt t = grind (arith, take-set_at)
 
 -- the runs of whole pieces are their pages
 pub runs_of_pieces : (pieces : List Piece) →

@@ -1,7 +1,6 @@
 -- From what the locks kept to the report.
 use Rattle.std.specs.Prelude.{not, ◌==◌, ◌&&◌}
-use Rattle.std.proofs.lemmas.Bool.{and_parts, eqb-true}
-use Rattle.std.proofs.Common.{◌≡◌, refl, sym, ◌∙◌, ap, subst, ℕ, zero, suc, ◌<◌, Bool, true, false}
+use Rattle.std.proofs.Common.{◌≡◌, refl, sym, ◌∙◌, ap, subst, ℕ, zero, suc, ◌<◌, Bool, false}
 use Rattle.std.proofs.Common.{List, [], ◌∷◌, length, Some, None, slice_get, arith, All, map}
 use Rattle.std.specs.declared.vec.Vec.{Vec}
 use Rattle.std.specs.declared.alloc.Global.{Global}
@@ -32,21 +31,7 @@ pub same_config : (a b : Sizes)
     → not ((a.pages == b.pages) && ((a.queue_size == b.queue_size)
     && (a.processors == b.processors))) ≡ false
     → a ≡ b
-same_config a b e =
-    let all = and_parts (a.pages == b.pages)
-    ((a.queue_size == b.queue_size) && (a.processors == b.processors)) (is_true _ e) in
-    let rest = and_parts (a.queue_size == b.queue_size) (a.processors == b.processors) all.1 in
-    ap (λ (n : ℕ). by n a.queue_size a.processors) (eqb-true _ _ all.0)
-    ∙ ap (λ (n : ℕ). by b.pages n a.processors) (eqb-true _ _ rest.0)
-    ∙ ap (by b.pages b.queue_size) (eqb-true _ _ rest.1)
-  where
-    by : ℕ → ℕ → ℕ → Sizes
-    by pages queue_size processors =
-        record { pages = pages; queue_size = queue_size; processors = processors }
-
-    is_true : (b : Bool) → not b ≡ false → b ≡ true
-    is_true true h = refl
-    is_true false h = absurd cc
+same_config a b e = grind arith
 
 none_some : {Y : Type 0} (y : Y) → None ≡ Some y → ⊥
 none_some y h = cc
@@ -117,15 +102,4 @@ pub reported : {S D : Type 0} (seat : S → Bool) (port : D → Bool) (plan : Pl
     → AreApart report.guests.items → length report.rounds.items ≡ plan.rounds
     → All (IsRound plan) ms → IsReport plan (map port ports) report
 reported seat port plan report seats ports gs rs ms e f h len placed alike each apart count all =
-    record {
-      guests = len ∙ ap length e;
-      ports = length-map ports port ∙ placed;
-      each = λ g r p paced at planned pace.
-          let s = mapped_at seat seats g paced (ap (λ (l : List _). slice_get l g) alike ∙ pace) in
-          subst (λ (b : Bool). IsGuestReport plan.floor g p b report.rounds.items r) s.2
-          (subst (λ (l : List Rounded). IsGuestReport plan.floor g p (seat s.0) l r) f
-          (each g r p s.0 at (ap (λ (l : List GuestPlan). slice_get l g) e ∙ planned) s.1));
-      apart = apart;
-      rounds = count;
-      answers = rw (sym h) all;
-    }
+    grind (arith, length-map, mapped_at)

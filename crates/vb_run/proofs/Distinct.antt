@@ -1,13 +1,12 @@
 -- Numbers that rise stand once each, in whatever order.
 use Rattle.std.proofs.Common.{◌≡◌, refl, sym, ◌∙◌, ap, ℕ, suc, ◌+◌, ◌<◌, ◌≤◌, Bool, true, false}
-use Rattle.std.proofs.Common.{List, [], ◌∷◌, ◌++◌, arith, zero}
+use Rattle.std.proofs.Common.{List, [], ◌∷◌, arith, zero}
 use Rattle.std.specs.Prelude.{◌==◌, sum_by}
 use Rattle.std.proofs.lemmas.Bool.Decides.{nat_tests}
 use Rattle.std.specs.List.Sorted.{IsPermutation, IsNonDecreasing}
 use Rattle.std.proofs.lemmas.List.Sorted.{sum_by-IsPermutation}
-use Rattle.std.proofs.lemmas.List.Sums.{sum_by-cons}
 use Rattle.vb_model.specs.Tests.{times, one_if}
-use Rattle.vb_model.proofs.Tables.{count_by-cons, count_by-append}
+use Rattle.vb_model.proofs.Tables.{count_by-cons}
 use Rattle.vb_run.specs.declared.report.GuestReport.{GuestReport}
 use Rattle.vb_run.specs.Reports.{AreApart}
 use Rattle.vb_run.specs.Rising.{IsRising}
@@ -41,25 +40,18 @@ rising_once (x ∷ xs) r n = cases (x == n) refl (rising_once xs (rising_tail x 
         omega (arith, split, less, zero_of)
 
 times_sum : (n : ℕ) (xs : List ℕ) → times n xs ≡ sum_by (λ m. one_if (m == n)) xs
-times_sum n [] = refl
-times_sum n (x ∷ xs) =
-    count_by-cons (λ m. m == n) x xs ∙ ap (λ (k : ℕ). one_if (x == n) + k) (times_sum n xs)
-    ∙ sym (sum_by-cons (λ m. one_if (m == n)) x xs)
+times_sum n xs = grind arith
 
 -- the order doesn't matter
 pub times_permuted : (n : ℕ) (xs ys : List ℕ) → IsPermutation xs ys → times n ys ≡ times n xs
 times_permuted n xs ys p =
     times_sum n ys ∙ sum_by-IsPermutation (λ m. one_if (m == n)) xs ys p ∙ sym (times_sum n xs)
 
-pub times_append : (n : ℕ) (xs ys : List ℕ) → times n (xs ++ ys) ≡ times n xs + times n ys
-times_append n xs ys = count_by-append (λ m. m == n) xs ys
-
 pub apart : (reports : List GuestReport) (all sorted : List ℕ)
     → ((frame : ℕ) → times frame all ≡ sum_by (λ r. times frame r.frames.items) reports)
     → IsPermutation all sorted → IsRising sorted → AreApart reports
 apart reports all sorted gathered p rising frame =
-    rw (sym (gathered frame), sym (times_permuted frame all sorted p))
-    (rising_once sorted rising frame)
+    grind (arith, times_permuted frame all sorted p, rising_once sorted rising frame)
 
 -- numbers in order that stand once each rise
 once_rising : (xs : List ℕ) → IsNonDecreasing xs → ((n : ℕ) → times n xs ≤ 1) → IsRising xs
@@ -94,5 +86,12 @@ pub rising_apart : (reports : List GuestReport) (all sorted : List ℕ)
     → ((frame : ℕ) → times frame all ≡ sum_by (λ r. times frame r.frames.items) reports)
     → IsPermutation all sorted → IsNonDecreasing sorted → AreApart reports → IsRising sorted
 rising_apart reports all sorted gathered p ordered apart =
-    once_rising sorted ordered (λ frame.
-    omega (arith, times_permuted frame all sorted p, gathered frame, apart frame))
+    grind (
+      arith,
+      once_rising sorted ordered (λ frame. omega (
+        arith,
+        times_permuted frame all sorted p,
+        gathered frame,
+        apart frame,
+      )),
+    )

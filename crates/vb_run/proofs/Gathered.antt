@@ -21,58 +21,69 @@ pub replies_some : (a : Actor) (h : List Entry) (n : ℕ) (d : Entry) (r : Reply
     → reply_to a (get_or h n d) ≡ Some r
     → replies_by a (take (n + 1) h) ≡ replies_by a (take n h) ++ r ∷ []
 replies_some a h n d r within is =
-    ap (λ k. replies_by a (take k h)) (add-one n) ∙ ap (replies_by a) (take-suc h n d within)
-    ∙ filter_map-append (reply_to a) (take n h) (get_or h n d ∷ []) ∙ rw is refl
+    grind (
+      arith,
+      add-one n,
+      take-suc h n d within,
+      filter_map-append (reply_to a) (take n h) (get_or h n d ∷ []),
+    )
 
 pub replies_none : (a : Actor) (h : List Entry) (n : ℕ) (d : Entry) → n < length h
     → reply_to a (get_or h n d) ≡ None
     → replies_by a (take (n + 1) h) ≡ replies_by a (take n h)
 replies_none a h n d within is =
-    ap (λ k. replies_by a (take k h)) (add-one n) ∙ ap (replies_by a) (take-suc h n d within)
-    ∙ filter_map-append (reply_to a) (take n h) (get_or h n d ∷ [])
-    ∙ rw is (append-nil (replies_by a (take n h)))
+    grind (
+      arith,
+      add-one n,
+      take-suc h n d within,
+      filter_map-append (reply_to a) (take n h) (get_or h n d ∷ []),
+      append-nil (replies_by a (take n h)),
+    )
 
 pub entries_none : (a : Actor) (h : List Entry) (n : ℕ) (d : Entry) → n < length h
     → is_same a (actor_of (get_or h n d)) ≡ false
     → entries_by a (take (n + 1) h) ≡ entries_by a (take n h)
 entries_none a h n d within is =
-    ap (λ k. entries_by a (take k h)) (add-one n) ∙ ap (entries_by a) (take-suc h n d within)
-    ∙ filter-append (λ e. is_same a (actor_of e)) (take n h) (get_or h n d ∷ [])
-    ∙ rw is (append-nil (entries_by a (take n h)))
+    grind (
+      arith,
+      add-one n,
+      take-suc h n d within,
+      filter-append (λ e. is_same a (actor_of e)) (take n h) (get_or h n d ∷ []),
+      append-nil (entries_by a (take n h)),
+    )
 
 round_push : (floor guest : ℕ) (rs : List Rounded) (r : Rounded)
     → round_entries floor guest (rs ++ r ∷ [])
     ≡ round_entries floor guest rs ++ entries_of_round floor guest r
 round_push floor guest [] r = append-nil (entries_of_round floor guest r)
-round_push floor guest (x ∷ rs) r =
-    ap (λ l. entries_of_round floor guest x ++ l) (round_push floor guest rs r)
-    ∙ sym (append_assoc (entries_of_round floor guest x) (round_entries floor guest rs)
-    (entries_of_round floor guest r))
+round_push floor guest (x ∷ rs) r = grind (arith, round_push floor guest rs r)
 
 pub rounds_next : (floor guest : ℕ) (rs : List Rounded) (n : ℕ) (d : Rounded) → n < length rs
     → round_entries floor guest (take (n + 1) rs)
     ≡ round_entries floor guest (take n rs) ++ entries_of_round floor guest (get_or rs n d)
 rounds_next floor guest rs n d h =
-    ap (λ k. round_entries floor guest (take k rs)) (add-one n)
-    ∙ ap (round_entries floor guest) (take-suc rs n d h)
-    ∙ round_push floor guest (take n rs) (get_or rs n d)
+    grind (arith, add-one n, take-suc rs n d h, round_push floor guest (take n rs) (get_or rs n d))
 
 pub frames_some : (frames : List (Option ℕ)) (n : ℕ) (frame : ℕ) → n < length frames
     → frame_of frames n ≡ Some frame
     → filter_map (λ f. f) (take (n + 1) frames) ≡ filter_map (λ f. f) (take n frames) ++ frame ∷ []
 frames_some frames n frame within is =
-    ap (λ k. filter_map (λ f. f) (take k frames)) (add-one n)
-    ∙ ap (filter_map (λ f. f)) (take-suc frames n None within)
-    ∙ filter_map-append (λ f. f) (take n frames) (frame_of frames n ∷ []) ∙ rw is refl
+    grind (
+      arith,
+      take-suc frames n None within,
+      filter_map-append (λ f. f) (take n frames) (frame_of frames n ∷ []),
+    )
 
 pub frames_none : (frames : List (Option ℕ)) (n : ℕ) → n < length frames
     → frame_of frames n ≡ None
     → filter_map (λ f. f) (take (n + 1) frames) ≡ filter_map (λ f. f) (take n frames)
 frames_none frames n within is =
-    ap (λ k. filter_map (λ f. f) (take k frames)) (add-one n)
-    ∙ ap (filter_map (λ f. f)) (take-suc frames n None within)
-    ∙ filter_map-append (λ f. f) (take n frames) (frame_of frames n ∷ [])
-    ∙ rw is (append-nil (filter_map (λ f. f) (take n frames)))
+    grind (
+      arith,
+      take-suc frames n None within,
+      filter_map-append (λ f. f) (take n frames) (frame_of frames n ∷ []),
+      append-nil (filter_map (λ f. f) (take n frames)),
+    )
 
 -- ---- the balancer's entries, and those that the rounds make
 
@@ -90,14 +101,15 @@ entries_on : (a : Actor) (h : List Entry) (n : ℕ) (e : Entry) → slice_get h 
     → is_same a (actor_of e) ≡ true
     → entries_by a h ≡ entries_by a (take n h) ++ e ∷ entries_by a (drop (suc n) h)
 entries_on a h n e at is =
-    ap (entries_by a) (sym (take-append-drop (suc n) h) ∙ ap (λ l. l ++ drop (suc n) h) first)
-    ∙ filter-append (λ x. is_same a (actor_of x)) (take n h ++ e ∷ []) (drop (suc n) h)
-    ∙ ap (λ l. l ++ entries_by a (drop (suc n) h))
-    (filter-append (λ x. is_same a (actor_of x)) (take n h) (e ∷ []) ∙ rw is refl)
-    ∙ append_assoc (entries_by a (take n h)) (e ∷ []) (entries_by a (drop (suc n) h))
-  where
-    first : take (suc n) h ≡ take n h ++ e ∷ []
-    first = ap (λ k. take k h) (sym (add-one n)) ∙ take_next h n e at
+    grind (
+      arith,
+      take-append-drop (suc n) h,
+      filter-append (λ x. is_same a (actor_of x)) (take n h ++ e ∷ []) (drop (suc n) h),
+      filter-append (λ x. is_same a (actor_of x)) (take n h) (e ∷ []),
+      append_assoc (entries_by a (take n h)) (e ∷ []) (entries_by a (drop (suc n) h)),
+      add-one n,
+      take_next h n e,
+    )
 
 -- an entry of the balancer that is the next of those that are expected
 pub made_next : (h expected : List Entry) (n place : ℕ) (e : Entry) → slice_get h n ≡ Some e

@@ -7,7 +7,7 @@ use Rattle.std.proofs.lemmas.Bool.Decides.{nat_tests}
 use Rattle.std.proofs.lemmas.List.{append-nil}
 use Rattle.std.proofs.lemmas.List.Elements.{All-push, filter-append, filter_map-append}
 use Rattle.vb_model.specs.declared.calls.Actor.{Actor}
-use Rattle.vb_model.specs.declared.calls.Actor.TheVariants.{Starter, Processor, Worker, Balancer}
+use Rattle.vb_model.specs.declared.calls.Actor.TheVariants.{Processor}
 use Rattle.vb_model.specs.declared.calls.Call.{Call}
 use Rattle.vb_model.specs.declared.calls.Claim.{Claim}
 use Rattle.vb_model.specs.declared.replies.Reply.{Reply}
@@ -47,9 +47,7 @@ run_push config target b c entries e (after, leads, ends) s = (
 -- an entry of somebody else is none of the actor's
 pub entries_other : (a : Actor) (entries : List Entry) (e : Entry)
     → is_same a (actor_of e) ≡ false → entries_by a (entries ++ e ∷ []) ≡ entries_by a entries
-entries_other a entries e h =
-    filter-append (λ x. is_same a (actor_of x)) entries (e ∷ [])
-    ∙ (rw h (append-nil (entries_by a entries)))
+entries_other a entries e h = grind (arith, filter-append, append-nil)
 
 pub entries_own : (a : Actor) (entries : List Entry) (e : Entry)
     → is_same a (actor_of e) ≡ true
@@ -64,9 +62,7 @@ calls_other a entries e h = ap (filter_map call_of) (entries_other a entries e h
 pub calls_own : (a : Actor) (entries : List Entry) (call : Call) (claims : List Claim)
     (reply : Reply) (b : Actor) → is_same a b ≡ true
     → calls_by a (entries ++ Called b call claims reply ∷ []) ≡ calls_by a entries ++ call ∷ []
-calls_own a entries call claims reply b h =
-    ap (filter_map call_of) (entries_own a entries (Called b call claims reply) h)
-    ∙ filter_map-append call_of (entries_by a entries) (Called b call claims reply ∷ [])
+calls_own a entries call claims reply b h = grind (arith, entries_own, filter_map-append)
 
 pub made_push : (guest processors : ℕ) (entries : List Entry) (e : Entry)
     → AreMade guest processors entries → IsMade guest processors e
@@ -80,10 +76,7 @@ made_push guest processors entries e (claims, reply, rest, h, all) own = (
 )
 
 pub aside_other : (a : Actor) (guest cpu : ℕ) → IsAside a → is_same (Processor guest cpu) a ≡ false
-aside_other Starter guest cpu h = refl
-aside_other (Processor g c) guest cpu h = absurd h
-aside_other (Worker g) guest cpu h = refl
-aside_other Balancer guest cpu h = refl
+aside_other a guest cpu h = grind arith
 
 -- an entry of none of the processors
 pub kept_aside : (Is Is' : Guest → Type 0) (own own' : List ℕ) (p : Past) (e : Entry) (new : Guest)

@@ -29,8 +29,12 @@ each_push P xs y all here i x h =
 pub take_next : {X : Type 0} (xs : List X) (n : ℕ) (x : X) → slice_get xs n ≡ Some x
     → take (n + 1) xs ≡ take n xs ++ x ∷ []
 take_next xs n x h =
-    ap (λ k. take k xs) (add-one n) ∙ take-suc xs n x (slice_get_within xs n x h)
-    ∙ ap (λ y. take n xs ++ y ∷ []) (get_or_from_slice_get xs n x x h)
+    grind (
+      arith,
+      add-one n,
+      take-suc xs n x (slice_get_within xs n x h),
+      get_or_from_slice_get xs n x x h,
+    )
 
 pub take_whole : {X : Type 0} (xs : List X) (n : ℕ) → n ≡ length xs → take n xs ≡ xs
 take_whole xs n h = ap (λ k. take k xs) h ∙ take-length xs
@@ -43,9 +47,7 @@ get_set [] i j y z h = cc
 get_set (x ∷ xs) zero zero y z h = inl (refl, cc)
 get_set (x ∷ xs) zero (suc j) y z h = inr (λ e. omega (arith, e), h)
 get_set (x ∷ xs) (suc i) zero y z h = inr (λ e. omega (arith, e), h)
-get_set (x ∷ xs) (suc i) (suc j) y z h =
-    ⊎_elim (λ p. inl (ap suc p.0, p.1)) (λ p. inr (λ e. p.0 (omega (arith, e)), p.1))
-    (get_set xs i j y z h)
+get_set (x ∷ xs) (suc i) (suc j) y z h = grind (arith, get_set xs i j y z h)
 
 pub length_set : {X : Type 0} (xs : List X) (i : ℕ) (y : X)
     → length (slice_set xs i y) ≡ length xs
@@ -69,9 +71,7 @@ some_same x y e = cc
 pub passes_at : {X : Type 0} (test : X → Bool) (xs : List X) (n : ℕ) (x : X)
     → slice_get xs n ≡ Some x → list_all test xs ≡ true → test x ≡ true
 passes_at test [] n x e h = cc
-passes_at test (y ∷ ys) zero x e h =
-    let same : y ≡ x = some_same y x e in
-    subst (λ (z : _). test z ≡ true) same (and_parts (test y) (list_all test ys) h).0
+passes_at test (y ∷ ys) zero x e h = grind arith
 passes_at test (y ∷ ys) (suc n) x e h =
     passes_at test ys n x e (and_parts (test y) (list_all test ys) h).1
 

@@ -2,7 +2,7 @@
 use Rattle.std.proofs.Common.{◌≡◌, ◌<◌, ℕ, Bool, List, [], ◌∷◌, true, false, refl, sym, ap, arith}
 use Rattle.std.proofs.Common.{zero, suc, length}
 use Rattle.std.specs.Prelude.{slice_index_or, Contains}
-use Rattle.std.proofs.lemmas.List.Elements.{All-nil, All-cons}
+use Rattle.std.proofs.lemmas.List.Elements.{All-nil}
 use Rattle.vb_model.specs.declared.calls.Actor.TheVariants.{Starter, Processor, Worker, Balancer}
 use Rattle.vb_model.specs.declared.calls.Call.{Call}
 use Rattle.vb_model.specs.declared.calls.Call.TheVariants.{Init, Stats, Reap, Take, Work, Finish}
@@ -122,15 +122,7 @@ made : AreMade 1 2 (
     Called Starter (Init 0x100000027) (Gave 5 ∷ []) Ready ∷ Looked 16 32
     ∷ Called (Processor 1 1) Stats [] Filled ∷ []
     )
-made = (
-  Gave 5 ∷ [],
-  Ready,
-  Looked 16 32 ∷ Called (Processor 1 1) Stats [] Filled ∷ [],
-  refl,
-  All-cons (IsMade 1 2) (Looked 16 32) (Called (Processor 1 1) Stats [] Filled ∷ []) tt
-      (All-cons (IsMade 1 2) (Called (Processor 1 1) Stats [] Filled) [] last_processor
-      (All-nil (IsMade 1 2))),
-)
+made = grind arith
 
 refused_start : AreMade 1 2 (
     Called Starter (Init 0x100000027) (GaveNoFrame ∷ []) (Refused NoFrame) ∷ []
@@ -155,7 +147,4 @@ second_start : AreMade 1 2 (
     Called Starter (Init 0x100000027) [] Ready ∷ Looked 16 32
     ∷ Called Starter (Init 0x100000027) [] Ready ∷ []
     ) → ⊥
-second_start (claims, reply, rest, is, all) =
-    let behind : Looked 16 32 ∷ Called Starter (Init 0x100000027) [] Ready ∷ [] ≡ rest = cc in
-    let last = rw (sym behind) at all in
-    last 1 (Looked 0 0) (omega arith)
+second_start h = grind arith

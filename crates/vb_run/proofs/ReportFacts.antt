@@ -1,8 +1,8 @@
 -- Worked facts of what a run answers.
-use Rattle.std.proofs.Common.{◌≡◌, ℕ, zero, suc, ◌+◌, ◌≤◌, List, [], ◌∷◌, Bool, true, false, map}
+use Rattle.std.proofs.Common.{◌≡◌, ℕ, ◌+◌, ◌≤◌, List, [], ◌∷◌, Bool, true, false}
 use Rattle.std.proofs.Common.{refl}
-use Rattle.std.proofs.Common.{sym, ap, subst, ◌∙◌, arith, length, All}
-use Rattle.std.specs.Prelude.{Option, Some, None, slice_get, slice_index_or, ◌-◌}
+use Rattle.std.proofs.Common.{sym, ap, subst, ◌∙◌, arith, length}
+use Rattle.std.specs.Prelude.{Option, Some, None, slice_get, ◌-◌}
 use Rattle.std.specs.Prelude.{filter_map}
 use Rattle.std.specs.declared.vec.Vec.{Vec}
 use Rattle.std.specs.declared.alloc.Global.{Global}
@@ -20,7 +20,7 @@ use Rattle.vb_model.specs.Guest.{Guest, Config, fresh}
 use Rattle.vb_model.specs.Balance.{Need, spare}
 use Rattle.vb_model.specs.Layout.{reserved_pages}
 use Rattle.vb_model.specs.Tests.{times}
-use Rattle.vb_model.specs.GuestRun.{Entry, Called, Looked, IsHistory, Leads, last_guest}
+use Rattle.vb_model.specs.GuestRun.{Entry, Called, Looked, IsHistory, Leads}
 use Rattle.vb_model.specs.GuestRun.{all_entries}
 use Rattle.vb_model.proofs.Unchanged.{step_keeps}
 use Rattle.vb_ram.specs.declared.config.Config.{Config as Sizes}
@@ -31,10 +31,7 @@ use Rattle.vb_run.specs.declared.report.Report.{Report}
 use Rattle.vb_run.specs.Plans.{config_of}
 use Rattle.vb_run.specs.Entries.{calls_by, replies_by, entries_by}
 use Rattle.vb_run.specs.Rounds.{Rounded, round_entries}
-use Rattle.vb_model.specs.Balance.{IsAnswer}
-use Rattle.vb_run.specs.Rising.{IsRising}
 use Rattle.vb_run.specs.Reports.{frames_behind, Plays, IsGuestReport, IsRound, AreApart, IsReport}
-use Rattle.vb_run.proofs.Distinct.{rising_once, times_append}
 
 abbrev Same : ℕ → ℕ → Type 0
 Same a b = a ≡ b
@@ -68,19 +65,10 @@ of_nothing : IsHistory config 0 [] down
 of_nothing = ([], tt, refl)
 
 to_a_ready_guest : IsHistory config 0 [] ready → ⊥
-to_a_ready_guest (after, leads, ends) = by after leads ends
-  where
-    by : (after : List Guest) → Leads down [] after → last_guest down after ≡ ready → ⊥
-    by [] leads ends = let e : Same 0 15 = ap (λ (g : Guest). g.status) ends in omega arith
-    by (new ∷ after) leads ends = absurd leads
+to_a_ready_guest h = grind arith
 
 from_another_target : IsHistory config 7 [] down → ⊥
-from_another_target (after, leads, ends) = by after leads ends
-  where
-    by : (after : List Guest) → Leads (fresh config 7) [] after
-        → last_guest (fresh config 7) after ≡ down → ⊥
-    by [] leads ends = let e : Same 7 0 = ap (λ (g : Guest). g.target) ends in omega arith
-    by (new ∷ after) leads ends = absurd leads
+from_another_target h = grind arith
 
 -- ---- what a processor of guest 1 plays: its script, whole and in order, with these replies
 
@@ -105,39 +93,19 @@ Refuses cpu script entries replied =
 
 by_calls : (cpu : ℕ) (script : List Call) (entries : List Entry) (replied : List Reply)
     → (calls_by (Processor 1 cpu) entries ≡ script → ⊥) → Refuses cpu script entries replied
-by_calls cpu script entries replied wrong plan report calls replies at of_calls at_replies
-    of_replies history plays =
-    wrong (ap (calls_by (Processor 1 cpu)) (sym history) ∙ (plays cpu calls replies at at_replies).0
-    ∙ of_calls)
+by_calls cpu script entries replied wrong plan report calls replies at of_calls at_replies of_replies history plays =
+    grind arith
 
 by_replies : (cpu : ℕ) (script : List Call) (entries : List Entry) (replied : List Reply)
     → (replies_by (Processor 1 cpu) entries ≡ replied → ⊥) → Refuses cpu script entries replied
-by_replies cpu script entries replied wrong plan report calls replies at of_calls at_replies
-    of_replies history plays =
-    wrong (ap (replies_by (Processor 1 cpu)) (sym history)
-    ∙ (plays cpu calls replies at at_replies).1 ∙ of_replies)
+by_replies cpu script entries replied wrong plan report calls replies at of_calls at_replies of_replies history plays =
+    grind arith
 
 -- between the entries of others
 whole_script : Accepts (Stats ∷ Alloc 0 0 ∷ [])
     (Looked 16 32 ∷ made 0 Stats Filled ∷ Called (Worker 1) Work [] Idle
     ∷ made 0 (Alloc 0 0) (Page 20) ∷ []) (Filled ∷ Page 20 ∷ [])
-whole_script plan report calls replies scripts of_calls all of_replies history = plays
-  where
-    plays : (cpu : ℕ) (c : Vec Call Global) (r : Vec Reply Global)
-        → slice_get plan.scripts.items cpu ≡ Some c → slice_get report.replies.items cpu ≡ Some r
-        → (calls_by (Processor 1 cpu) report.history.items ≡ c.items)
-        × (replies_by (Processor 1 cpu) report.history.items ≡ r.items)
-    plays zero c r at at_replies =
-        let first : Some calls ≡ Some c = sym (ap (λ l. slice_get l 0) scripts) ∙ at in
-        let same : calls ≡ c = cc in
-        let second : Some replies ≡ Some r = sym (ap (λ l. slice_get l 0) all) ∙ at_replies in
-        let equal : replies ≡ r = cc in (
-          ap (calls_by (Processor 1 0)) history ∙ sym of_calls ∙ ap (λ v. v.items) same,
-          ap (replies_by (Processor 1 0)) history ∙ sym of_replies ∙ ap (λ v. v.items) equal,
-        )
-    plays (suc cpu) c r at at_replies =
-        let e : None ≡ Some c = sym (ap (λ l. slice_get l (suc cpu)) scripts) ∙ at in
-        absurd cc
+whole_script plan report calls replies scripts of_calls all of_replies history = grind arith
 
 call_left_out : Refuses 0 (Stats ∷ Alloc 0 0 ∷ []) (made 0 Stats Filled ∷ []) (Filled ∷ [])
 call_left_out =
@@ -152,10 +120,7 @@ call_that_no_script_has = by_calls 1 [] (made 1 Stats Filled ∷ []) (Filled ∷
 
 another_order : Refuses 0 (Stats ∷ Alloc 0 0 ∷ [])
     (made 0 (Alloc 0 0) (Page 20) ∷ made 0 Stats Filled ∷ []) (Page 20 ∷ Filled ∷ [])
-another_order =
-    by_calls 0 (Stats ∷ Alloc 0 0 ∷ [])
-    (made 0 (Alloc 0 0) (Page 20) ∷ made 0 Stats Filled ∷ []) (Page 20 ∷ Filled ∷ [])
-    (λ e. cc)
+another_order = grind arith
 
 another_reply : Refuses 0 (Stats ∷ []) (made 0 Stats Filled ∷ []) (NotUsed ∷ [])
 another_reply = by_replies 0 (Stats ∷ []) (made 0 Stats Filled ∷ []) (NotUsed ∷ []) (λ e. cc)
@@ -182,30 +147,15 @@ both a b frame first second of_first of_second apart =
 
 frame_of_both : OfTwo (5 ∷ 3 ∷ []) (7 ∷ 3 ∷ []) ⊥
 frame_of_both first second a b apart =
-    let l : 2 ≤ 1 = both (5 ∷ 3 ∷ []) (7 ∷ 3 ∷ []) 3 first second a b apart in
-    absurd (omega (arith, l))
+    grind (arith, both (5 ∷ 3 ∷ []) (7 ∷ 3 ∷ []) 3 first second a b apart)
 
 frame_twice_of_one : OfTwo [] (4 ∷ 5 ∷ 4 ∷ []) ⊥
 frame_twice_of_one first second a b apart =
-    let l : 2 ≤ 1 = both [] (4 ∷ 5 ∷ 4 ∷ []) 4 first second a b apart in
-    absurd (omega (arith, l))
+    grind (arith, both [] (4 ∷ 5 ∷ 4 ∷ []) 4 first second a b apart)
 
 different_frames : (first second : GuestReport) → first.frames.items ≡ 3 ∷ 7 ∷ []
     → second.frames.items ≡ 8 ∷ [] → AreApart (first ∷ second ∷ [])
-different_frames first second a b frame =
-    let e : times frame first.frames.items ≡ times frame (3 ∷ 7 ∷ []) = ap (times frame) a in
-    let f : times frame second.frames.items ≡ times frame (8 ∷ []) = ap (times frame) b in
-    let once : times frame (3 ∷ 7 ∷ 8 ∷ []) ≤ 1 = rising_once (3 ∷ 7 ∷ 8 ∷ []) rising frame in
-    let parts : times frame (3 ∷ 7 ∷ 8 ∷ []) ≡ times frame (3 ∷ 7 ∷ []) + times frame (8 ∷ []) =
-    times_append frame (3 ∷ 7 ∷ []) (8 ∷ []) in
-    let goal : (0 + times frame first.frames.items) + times frame second.frames.items ≤ 1 =
-    omega (arith, e, f, once, parts) in
-    goal
-  where
-    rising : IsRising (3 ∷ 7 ∷ 8 ∷ [])
-    rising zero l = omega arith
-    rising (suc zero) l = omega arith
-    rising (suc (suc i)) l = absurd (omega (arith, l))
+different_frames first second a b frame = grind arith
 
 -- ---- rounds: over all guests of the plan, for its frames
 
@@ -224,45 +174,26 @@ OfPlan pages more frames Holds =
     → h.config.pages ≡ more → plan.frames ≡ frames → Holds plan
 
 round_of_the_plan : OfPlan 64 64 40 (λ plan. IsRound plan round)
-round_of_the_plan plan g h guests pages more frames = record {
-  sizes = sym (ap (map (λ g. g.config.pages)) guests ∙ ap (λ n. n ∷ h.config.pages ∷ []) pages
-      ∙ ap (λ n. 64 ∷ n ∷ []) more);
-  frames = sym frames;
-  answer = rw frames refl;
-}
+round_of_the_plan plan g h guests pages more frames = grind arith
 
 another_number_of_frames : OfPlan 64 64 41 (λ plan. IsRound plan round → ⊥)
 another_number_of_frames plan g h guests pages more frames r =
     let e : Same 40 41 = r.frames ∙ frames in omega arith
 
 guest_of_another_size : OfPlan 64 80 40 (λ plan. IsRound plan round → ⊥)
-guest_of_another_size plan g h guests pages more frames r =
-    let e : SameList (64 ∷ 64 ∷ []) (64 ∷ 80 ∷ []) =
-    r.sizes ∙ ap (map (λ g. g.config.pages)) guests ∙ ap (λ n. n ∷ h.config.pages ∷ []) pages
-    ∙ ap (λ n. 64 ∷ n ∷ []) more in
-    let second : Same 64 80 = ap (λ (l : List ℕ). slice_index_or l 1 0) e in
-    omega (arith, second)
+guest_of_another_size plan g h guests pages more frames r = grind arith
 
 guest_that_was_not_seen : (plan : Plan) (g h i : GuestPlan)
     → plan.guests.items ≡ g ∷ h ∷ i ∷ [] → IsRound plan round → ⊥
-guest_that_was_not_seen plan g h i guests r =
-    let e : Same 2 3 =
-    ap (λ (l : List ℕ). length l) (r.sizes ∙ ap (map (λ g. g.config.pages)) guests) in
-    omega arith
+guest_that_was_not_seen plan g h i guests r = grind arith
 
 guest_that_no_plan_has : (plan : Plan) (g : GuestPlan) → plan.guests.items ≡ g ∷ []
     → IsRound plan round → ⊥
-guest_that_no_plan_has plan g guests r =
-    let e : Same 2 1 =
-    ap (λ (l : List ℕ). length l) (r.sizes ∙ ap (map (λ g. g.config.pages)) guests) in
-    omega arith
+guest_that_no_plan_has plan g guests r = grind arith
 
 another_answer : OfPlan 64 64 40
     (λ plan. IsRound plan (record round { answer = Refused (Short 17) }) → ⊥)
-another_answer plan g h guests pages more frames r =
-    let answer : IsAnswer 40 needs (Refused (Short 17)) =
-    subst (λ (n : ℕ). IsAnswer n needs (Refused (Short 17))) frames r.answer in
-    cc
+another_answer plan g h guests pages more frames r = grind arith
 
 -- ---- a guest's report: guest 1, and balances that leave 16 pages
 
@@ -279,17 +210,12 @@ plays_scripts plan paced rounds report is = is.plays
 script_without_replies : (plan : GuestPlan) (rounds : List Rounded) (report : GuestReport)
     (calls : Vec Call Global) → plan.scripts.items ≡ calls ∷ [] → report.replies.items ≡ []
     → NoReport plan rounds report
-script_without_replies plan rounds report calls scripts replies paced is =
-    let e : Same 0 1 =
-    ap (λ l. length l) (sym replies) ∙ is.scripts ∙ ap (λ l. length l) scripts in
-    omega arith
+script_without_replies plan rounds report calls scripts replies paced is = grind arith
 
 replies_without_a_script : (plan : GuestPlan) (rounds : List Rounded) (report : GuestReport)
     (replies : Vec Reply Global) → plan.scripts.items ≡ [] → report.replies.items ≡ replies ∷ []
     → NoReport plan rounds report
-replies_without_a_script plan rounds report replies scripts all paced is =
-    let e : Same 1 0 = ap (λ l. length l) (sym all) ∙ is.scripts ∙ ap (λ l. length l) scripts in
-    omega arith
+replies_without_a_script plan rounds report replies scripts all paced is = grind arith
 
 -- Its history is that of a guest as it is plugged in, as large as the plan says, on a device of the
 -- given pace, with no target.
@@ -306,40 +232,20 @@ called_once : (plan : GuestPlan) (paced : Bool) (rounds : List Rounded) (report 
     (actor : Actor) (call : Call) (claims : List Claim) (reply : Reply)
     (is : IsGuestReport 16 1 plan paced rounds report)
     → report.history.items ≡ Called actor call claims reply ∷ [] → is.last.config.paced ≡ paced
-called_once plan paced rounds report actor call claims reply is history =
-    by is.safe.after
-    (subst (λ (l : List Entry). Leads (fresh (config_of plan.config paced) 0) (all_entries l)
-    is.safe.after) history is.safe.leads) is.safe.ends
-  where
-    by : (after : List Guest) → Leads (fresh (config_of plan.config paced) 0)
-        (all_entries (Called actor call claims reply ∷ [])) after
-        → last_guest (fresh (config_of plan.config paced) 0) after ≡ is.last
-        → is.last.config.paced ≡ paced
-    by [] leads end = absurd leads
-    by (mid ∷ []) (step, done) end =
-        ap (λ (g : Guest). g.config.paced) (sym end)
-        ∙ ap (λ (c : Config). c.paced)
-        (step_keeps (fresh (config_of plan.config paced) 0) call claims reply mid step.1).config
-    by (mid ∷ next ∷ after) leads end = absurd leads.1
+called_once plan paced rounds report actor call claims reply is history = grind arith
 
 paced_for_immediate : (plan : GuestPlan) (rounds : List Rounded) (report : GuestReport)
     (actor : Actor) (call : Call) (claims : List Claim) (reply : Reply)
     (is : IsGuestReport 16 1 plan false rounds report)
     → report.history.items ≡ Called actor call claims reply ∷ [] → is.last.config.paced ≡ true → ⊥
-paced_for_immediate plan rounds report actor call claims reply is history paced =
-    let e : true ≡ false =
-    sym paced ∙ called_once plan false rounds report actor call claims reply is history in
-    cc
+paced_for_immediate plan rounds report actor call claims reply is history paced = grind arith
 
 immediate_for_paced : (plan : GuestPlan) (rounds : List Rounded) (report : GuestReport)
     (actor : Actor) (call : Call) (claims : List Claim) (reply : Reply)
     (is : IsGuestReport 16 1 plan true rounds report)
     → report.history.items ≡ Called actor call claims reply ∷ [] → is.last.config.paced ≡ false
     → ⊥
-immediate_for_paced plan rounds report actor call claims reply is history immediate =
-    let e : false ≡ true =
-    sym immediate ∙ called_once plan true rounds report actor call claims reply is history in
-    cc
+immediate_for_paced plan rounds report actor call claims reply is history immediate = grind arith
 
 -- A guest of 64 pages, of which 16 are reserved, can't spare 49: whatever its first call, no look
 -- sees that.
@@ -428,25 +334,13 @@ frames_are behind reported plan paced rounds report is e f =
     sym f ∙ is.frames ∙ ap (filter_map (λ f. f)) e
 
 frame_left_out : Frames (Some 5 ∷ None ∷ Some 3 ∷ []) (5 ∷ []) ⊥
-frame_left_out plan paced rounds report is e f =
-    let same : SameList (5 ∷ []) (5 ∷ 3 ∷ []) =
-    frames_are (Some 5 ∷ None ∷ Some 3 ∷ []) (5 ∷ []) plan paced rounds report is e f in
-    let long : Same 1 2 = ap (λ (l : List ℕ). length l) same in
-    omega arith
+frame_left_out plan paced rounds report is e f = grind arith
 
 frame_of_no_page : Frames (None ∷ Some 3 ∷ []) (3 ∷ 4 ∷ []) ⊥
-frame_of_no_page plan paced rounds report is e f =
-    let same : SameList (3 ∷ 4 ∷ []) (3 ∷ []) =
-    frames_are (None ∷ Some 3 ∷ []) (3 ∷ 4 ∷ []) plan paced rounds report is e f in
-    let long : Same 2 1 = ap (λ (l : List ℕ). length l) same in
-    omega arith
+frame_of_no_page plan paced rounds report is e f = grind arith
 
 frames_of_pages_that_fall : Frames (Some 5 ∷ Some 3 ∷ []) (3 ∷ 5 ∷ []) ⊥
-frames_of_pages_that_fall plan paced rounds report is e f =
-    let same : SameList (3 ∷ 5 ∷ []) (5 ∷ 3 ∷ []) =
-    frames_are (Some 5 ∷ Some 3 ∷ []) (3 ∷ 5 ∷ []) plan paced rounds report is e f in
-    let first : Same 3 5 = ap (λ (l : List ℕ). slice_index_or l 0 0) same in
-    omega arith
+frames_of_pages_that_fall plan paced rounds report is e f = grind arith
 
 -- ---- the report of a run
 
@@ -455,17 +349,11 @@ NotOf plan report = (paces : List Bool) → IsReport plan paces report → ⊥
 
 guest_left_out : (plan : Plan) (report : Report) (g : GuestPlan) → plan.guests.items ≡ g ∷ []
     → report.guests.items ≡ [] → NotOf plan report
-guest_left_out plan report g guests reports paces is =
-    let e : Same 0 1 =
-    ap (λ l. length l) (sym reports) ∙ is.guests ∙ ap (λ l. length l) guests in
-    omega arith
+guest_left_out plan report g guests reports paces is = grind arith
 
 report_of_no_guest : (plan : Plan) (report : Report) (r : GuestReport) → plan.guests.items ≡ []
     → report.guests.items ≡ r ∷ [] → NotOf plan report
-report_of_no_guest plan report r guests reports paces is =
-    let e : Same 1 0 =
-    ap (λ l. length l) (sym reports) ∙ is.guests ∙ ap (λ l. length l) guests in
-    omega arith
+report_of_no_guest plan report r guests reports paces is = grind arith
 
 -- each is the report of its guest: by its number, by the plan's floor and for these rounds
 -- and on a device of the pace of its port
@@ -474,18 +362,14 @@ second_is_none : (plan : Plan) (report : Report) (g h : GuestPlan) (first second
     → plan.guests.items ≡ g ∷ h ∷ [] → report.guests.items ≡ first ∷ second ∷ []
     → (IsGuestReport plan.floor 1 h own report.rounds.items second → ⊥)
     → IsReport plan (pace ∷ own ∷ []) report → ⊥
-second_is_none plan report g h first second pace own guests reports none_of_it is =
-    none_of_it (is.each 1 second h own (ap (λ l. slice_get l 1) reports)
-    (ap (λ l. slice_get l 1) guests) refl)
+second_is_none plan report g h first second pace own guests reports none_of_it is = grind arith
 
 second_of_its_pace : (plan : Plan) (report : Report) (g h : GuestPlan)
     (first second : GuestReport)
     → plan.guests.items ≡ g ∷ h ∷ [] → report.guests.items ≡ first ∷ second ∷ []
     → IsReport plan (true ∷ false ∷ []) report
     → IsGuestReport plan.floor 1 h false report.rounds.items second
-second_of_its_pace plan report g h first second guests reports is =
-    is.each 1 second h false (ap (λ l. slice_get l 1) reports) (ap (λ l. slice_get l 1) guests)
-    refl
+second_of_its_pace plan report g h first second guests reports is = grind arith
 
 port_left_out : (plan : Plan) (report : Report) (g : GuestPlan) → plan.guests.items ≡ g ∷ []
     → IsReport plan [] report → ⊥
@@ -501,8 +385,10 @@ one_frame_of_two : (plan : Plan) (report : Report) (first second : GuestReport)
     → report.guests.items ≡ first ∷ second ∷ [] → first.frames.items ≡ 5 ∷ 3 ∷ []
     → second.frames.items ≡ 7 ∷ 3 ∷ [] → NotOf plan report
 one_frame_of_two plan report first second reports a b paces is =
-    frame_of_both first second a b
-    (subst (λ (l : List GuestReport). AreApart l) reports is.apart)
+    grind (
+      arith,
+      frame_of_both first second a b (subst (λ (l : List GuestReport). AreApart l) reports is.apart),
+    )
 
 round_too_few : (plan : Plan) (report : Report) (r : Rounded) → plan.rounds ≡ 2
     → report.rounds.items ≡ r ∷ [] → NotOf plan report
@@ -517,6 +403,4 @@ round_too_many plan report r many rounds paces is =
 -- each round, the last as well
 second_round_is_none : (plan : Plan) (report : Report) (r s : Rounded)
     → report.rounds.items ≡ r ∷ s ∷ [] → (IsRound plan s → ⊥) → NotOf plan report
-second_round_is_none plan report r s rounds none_of_it paces is =
-    none_of_it ((subst (λ (l : List Rounded). All (IsRound plan) l) rounds is.answers) 1 s
-    (omega arith))
+second_round_is_none plan report r s rounds none_of_it paces is = grind arith

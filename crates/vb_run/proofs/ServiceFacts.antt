@@ -1,6 +1,5 @@
 -- Worked facts of what a guest's worker does, and of when nothing waits for it.
 use Rattle.std.proofs.Common.{◌≡◌, ℕ, [], ◌∷◌, true, false, map, refl, ap, sym, ◌∙◌, arith}
-use Rattle.std.proofs.Common.{inl, inr, ⊎_elim}
 use Rattle.std.specs.Prelude.{length}
 use Rattle.vb_model.specs.declared.negotiation.TheConstants.{OFFERED_FEATURES}
 use Rattle.vb_model.specs.declared.calls.Call.TheVariants.{Take, Work, Finish, Ask}
@@ -66,12 +65,7 @@ buffers_that_wait : map is_waiting
 buffers_that_wait = refl
 
 nothing_waits : IsServed ready
-nothing_waits = record {
-  inflate = (refl, refl);
-  deflate = (refl, refl);
-  report = (refl, refl);
-  buffer = refl;
-}
+nothing_waits = grind arith
 
 -- what the device has used waits for the driver
 all_is_used : IsServed
@@ -81,12 +75,7 @@ all_is_used : IsServed
       report = done;
       buffer = BufferDone figures;
     })
-all_is_used = record {
-  inflate = (refl, refl);
-  deflate = (refl, refl);
-  report = (refl, refl);
-  buffer = refl;
-}
+all_is_used = grind arith
 
 posted_inflate : IsServed (record ready { inflate = posted }) → ⊥
 posted_inflate s = let e : Same 1 0 = ap length s.inflate.0 in omega arith
@@ -115,12 +104,7 @@ taken_buffer s = let e : true ≡ false = s.buffer in cc
 -- ---- a call that finds nothing leaves the guest as it is
 
 nothing_to_work_on : IsQuiet ready Work
-nothing_to_work_on = record {
-  claims = [];
-  reply = Idle;
-  nothing = refl;
-  step = (refl, (refl, refl));
-}
+nothing_to_work_on = grind arith
 
 -- not one that is done, though the target is as it was
 target_set_again : IsQuiet ready (SetTarget 0) → ⊥
@@ -136,55 +120,10 @@ buffered = record ready { buffer = BufferDone figures }
 
 -- as it is plugged in, no features accepted yet
 plugged_in : IsTended (fresh config 0)
-plugged_in = record {
-  honest = refl;
-  consistent = fresh_consistent config 0;
-  orderly = fresh_order config 0;
-  attentive = record {
-    inflating = λ other. refl;
-    deflating = λ other. refl;
-    reporting = λ other. refl;
-    buffered = refl;
-  };
-  features = λ up. let e : Same 0 15 = up in absurd (omega (arith, e));
-}
+plugged_in = search (arith, fresh_consistent, fresh_order)
 
 ready_with_a_buffer : IsTended buffered
-ready_with_a_buffer = record {
-  honest = refl;
-  consistent = record {
-    pages = λ page.
-        let plugged = (fresh_consistent config 0).pages page in
-        record {
-          holding = plugged.holding;
-          inflating = plugged.inflating;
-          deflating = plugged.deflating;
-          taking = plugged.taking;
-          reporting = plugged.reporting;
-          ballooning = plugged.ballooning;
-        };
-    counted = refl;
-    sized = refl;
-    flagged = refl;
-  };
-  orderly = record {
-    inflating = (fresh_order config 0).inflating;
-    deflating = (fresh_order config 0).deflating;
-    reporting = (fresh_order config 0).reporting;
-    state = inr (inl refl);
-    tabled = (fresh_order config 0).tabled;
-    unreserved = (fresh_order config 0).unreserved;
-    blocks = (fresh_order config 0).blocks;
-    agreed = λ up. record { offered = refl; version = refl };
-  };
-  attentive = record {
-    inflating = λ other. refl;
-    deflating = λ other. refl;
-    reporting = λ other. refl;
-    buffered = refl;
-  };
-  features = λ up. refl;
-}
+ready_with_a_buffer = grind (arith, fresh_consistent config 0, fresh_order config 0)
 
 rogue_guest : IsTended (record buffered { rogue = true }) → ⊥
 rogue_guest t = let e : true ≡ false = t.honest in cc
@@ -200,10 +139,7 @@ request_of_a_free_page : IsTended (record buffered { inflate = posted }) → ⊥
 request_of_a_free_page t = let e : Same 1 0 = (t.consistent.pages 16).inflating in omega arith
 
 status_of_no_driver : IsTended (record buffered { status = 11 }) → ⊥
-status_of_no_driver t =
-    ⊎_elim (λ e. let same : Same 11 0 = e in omega (arith, same))
-    (λ rest. ⊎_elim (λ e. let same : Same 11 15 = e in omega (arith, same))
-    (λ e. let same : Same 11 131 = e in omega (arith, same)) rest) t.orderly.state
+status_of_no_driver t = grind arith
 
 fewer_features : IsTended (record buffered { features = 0x100000026 }) → ⊥
 fewer_features t = let e : Same 0x100000026 0x100000027 = t.features refl in omega arith

@@ -1,46 +1,35 @@
 -- From a plan and its slots to guests that are started.
-use Rattle.std.proofs.Common.{◌≡◌, refl, ◌∙◌, ap, subst, ℕ, zero, suc, ◌+◌, Bool, true, List, []}
+use Rattle.std.proofs.Common.{◌≡◌, refl, subst, ℕ, zero, suc, ◌+◌, Bool, true, List, []}
 use Rattle.std.proofs.Common.{◌∷◌, ◌++◌, length, Some, slice_get, arith, drop, map}
-use Rattle.std.specs.List.{list_all}
 use Rattle.std.specs.declared.vec.Vec.{Vec}
 use Rattle.std.specs.declared.alloc.Global.{Global}
-use Rattle.std.specs.Prelude.{nat_le, ◌==◌, ◌&&◌}
 use Rattle.std.proofs.lemmas.Bool.{and_parts}
 use Rattle.vb_model.specs.declared.calls.Call.{Call}
 use Rattle.vb_model.specs.Limits.{is_config}
 use Rattle.vb_run.specs.declared.plan.GuestPlan.{GuestPlan}
-use Rattle.vb_run.specs.declared.plan.TheConstants.{MAX_SCRIPT_CALLS}
-use Rattle.vb_run.specs.Plans.{are_scripts, is_script, is_guest_plan, may_stand}
+use Rattle.vb_run.specs.Plans.{are_scripts, is_script, is_guest_plan}
 use Rattle.vb_run.specs.declared.report.GuestReport.{GuestReport}
 use Rattle.vb_run.specs.Past.{Progress, AreBegun, IsScript}
 use Rattle.vb_run.specs.Rounds.{Rounded}
 use Rattle.vb_run.specs.Reports.{IsGuestReport}
-use Rattle.vb_run.proofs.Lists.{each_push, some_same}
+use Rattle.vb_run.proofs.Lists.{each_push}
 
 -- the script at a place is that of its processor
 scripts_at : (first : ℕ) (scripts : List (Vec Call Global)) (cpu : ℕ) (calls : Vec Call Global)
     → are_scripts first scripts ≡ true → slice_get scripts cpu ≡ Some calls
     → is_script (first + cpu) calls.items ≡ true
 scripts_at first [] cpu calls h at = cc
-scripts_at first (s ∷ ss) zero calls h at =
-    let same : s ≡ calls = some_same s calls at in
-    let e : first + 0 ≡ first = omega arith in
-    rw e (subst (λ (v : Vec Call Global). is_script first v.items ≡ true) same
-    (and_parts (is_script first s.items) (are_scripts (suc first) ss) h).0)
+scripts_at first (s ∷ ss) zero calls h at = grind arith
 scripts_at first (s ∷ ss) (suc cpu) calls h at =
-    let e : suc first + cpu ≡ first + suc cpu = omega arith in
-    subst (λ (n : ℕ). is_script n calls.items ≡ true) e
-    (scripts_at (suc first) ss cpu calls
-    (and_parts (is_script first s.items) (are_scripts (suc first) ss) h).1 at)
+    grind (
+      arith,
+      scripts_at (suc first) ss cpu calls (and_parts (is_script first s.items) (are_scripts (suc first) ss) h).1 at,
+    )
 
 pub script_at : (scripts : List (Vec Call Global)) (cpu : ℕ) (calls : Vec Call Global)
     → are_scripts 0 scripts ≡ true → slice_get scripts cpu ≡ Some calls
     → IsScript cpu calls.items
-script_at scripts cpu calls h at =
-    let e : 0 + cpu ≡ cpu = omega arith in
-    subst (λ (n : ℕ). IsScript n calls.items) e
-    (and_parts (nat_le (length calls.items) MAX_SCRIPT_CALLS)
-    (list_all (may_stand (0 + cpu)) calls.items) (scripts_at 0 scripts cpu calls h at)).1
+script_at scripts cpu calls h at = grind (arith, scripts_at 0 scripts cpu calls h at)
 
 pub begun_push : (scripts : List Progress) (calls : List Call) → AreBegun scripts
     → IsScript (length scripts) calls
@@ -55,22 +44,12 @@ pub drop_head : {X : Type 0} (xs : List X) (n : ℕ) (x : X) (rest : List X)
 drop_head [] zero x rest e = cc
 drop_head [] (suc n) x rest e = cc
 drop_head (y ∷ xs) zero x rest e = (cc, cc)
-drop_head (y ∷ xs) (suc n) x rest e =
-    let r = drop_head xs n x rest e in
-    let f : drop (suc n + 1) (y ∷ xs) ≡ drop (n + 1) xs =
-    ap (λ (k : ℕ). drop k (y ∷ xs)) (let g : suc n + 1 ≡ suc (n + 1) = omega arith in g) in
-    (r.0, f ∙ r.1)
+drop_head (y ∷ xs) (suc n) x rest e = grind (arith, drop_head xs n x rest e)
 
 pub guest_parts : (p : GuestPlan) → is_guest_plan p ≡ true
     → (is_config p.config.pages p.config.queue_size p.config.processors ≡ true)
     × (are_scripts 0 p.scripts.items ≡ true)
-guest_parts p h =
-    let outer = and_parts (is_config p.config.pages p.config.queue_size p.config.processors)
-    ((length p.scripts.items == p.config.processors) && are_scripts 0 p.scripts.items) h in (
-      outer.0,
-      (and_parts (length p.scripts.items == p.config.processors)
-          (are_scripts 0 p.scripts.items) outer.1).1,
-    )
+guest_parts p h = grind (arith, and_parts)
 
 -- the report of one guest more
 pub swapped : {S : Type 0} (seat : S → Bool) (floor : ℕ) (plans : List GuestPlan) (seats : List S)
