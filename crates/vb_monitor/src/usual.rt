@@ -1,4 +1,4 @@
-//! Where a notice goes on as it mostly does: the next place alone, which is all that has to be told.
+//! Where a notice goes on as it mostly does: the next place alone, which is all that is new.
 
 ghost use Rattle.std.specs.Prelude.{◌≡◌, ◌+◌, ◌-◌, false, List, None, IfSome, take};
 ghost use Rattle.vb_chain.specs.declared.descriptor.TheConstants.{DESCRIPTOR_SIZE};
@@ -113,7 +113,10 @@ pub struct NextDescriptor {
 
 /// Where the next descriptor of a chain is copied from, once one was that breaks no rule and names
 /// another; that one's piece joins the others. Else they stay.
-#[tactic(auto, using(crate::proofs::BufferLemmas::length_in, crate::proofs::NextLemmas::follows_next))]
+#[tactic(auto, using(
+    crate::proofs::BufferLemmas::length_in,
+    crate::proofs::NextLemmas::follows_next
+))]
 pub fn next_descriptor(
     device: &Device,
     regions: &[Region],
