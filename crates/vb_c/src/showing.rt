@@ -15,7 +15,7 @@ use crate::notice::{
     VbNotice,
 };
 use vb_core::Denial;
-use vb_monitor::{Asked, Cut, Discarding, Notice, Phase, Place, Spot, Step, Tally, Told, Walk};
+use vb_monitor::{Asked, Cut, Discarding, Notice, Phase, Place, Spot, Tally, Told, Walk};
 
 /// Pages are told.
 const TELL_PAGES: u32 = 1;
@@ -227,16 +227,16 @@ impl VbNotice {
 
     /// Shows what the notice waits for, beside what needs no answer.
     #[inline(never)]
-    fn show_phase(&mut self, bits: u32, tally: Tally, phase: Phase)
+    fn show_phase(&mut self, bits: u32, tally: Tally, phase: &Phase)
         requires bits { bits < 16 }
-        requires fits { Fits phase }
-        requires waits { waits phase ≡ true }
-        ensures phase { phase_of self.new ≡ Some phase }
-        ensures says { Says self.new tally phase }
-        ensures what { self.new.what ≡ bits + answer_bits phase }
+        requires fits { Fits phase.now }
+        requires waits { waits phase.now ≡ true }
+        ensures phase { phase_of self.new ≡ Some phase.now }
+        ensures says { Says self.new tally phase.now }
+        ensures what { self.new.what ≡ bits + answer_bits phase.now }
         ensures kept { SameElse self.old self.new }
     {
-        match phase {
+        match *phase {
             Phase::AwaitsIndex { at } => self.show_read(bits + READ_INDEX, INDEX, at),
             Phase::AwaitsEntry { at } => self.show_read(bits + READ_ENTRY, ENTRY, at),
             Phase::AwaitsDescriptor { at, walk } => self.show_descriptor(bits, at, walk),
@@ -259,10 +259,10 @@ impl VbNotice {
         ensures is { IsNotice self.new asked notice.now }
         ensures orders { self.new.orders ≡ self.old.orders }
     {
-        let Step { tally, phase } = notice.step;
+        let tally = notice.step.tally;
         let bits = asked_bits(asked, self.orders.cuts);
         self.kind = code_of_kind(Some(notice.kind));
         self.show_tally(tally);
-        self.show_phase(bits, tally, phase);
+        self.show_phase(bits, tally, &notice.step.phase);
     }
 }

@@ -14,7 +14,8 @@ use Rattle.vb_monitor.specs.Pieces.{pieces_in}
 use Rattle.vb_monitor.specs.Chains.{descriptors, AsksDescriptor, DescriptorAt, Follows}
 use Rattle.vb_monitor.specs.Notices.{HeadBy, AfterEntry}
 use Rattle.vb_monitor.specs.Machine.{next_chain, serves}
-use Rattle.vb_monitor.proofs.BufferLemmas.{none_in}
+use Rattle.vb_monitor.proofs.BufferLemmas.{none_in, length_in}
+use Rattle.vb_monitor.proofs.NextLemmas.{follows_next}
 
 is_less : (n m : ℕ) → n < m → nat_lt n m ≡ true
 is_less n m lt = grind (arith, nat_tests)
@@ -49,3 +50,7 @@ head_goes w d t head at log lt place h =
     (subst (λ (ps : List Piece). AsksDescriptor w d t
     (Follows (descriptors (ring_of w.kind d) - 1) w d t (serves w t d head)) (serves w t d head)
     false ps at log) none_in h)))
+
+-- ---- for the descriptors behind it
+
+pub ruleset next_steps = (length_in, follows_next)

@@ -21,7 +21,6 @@ use vb_chain::ChainFault;
 use vb_core::{Buffer, Device, Kind, Run, Statistic};
 
 /// Asks for a part of a piece.
-#[inline(never)]
 fn ask_part(
     device: &mut Device,
     regions: &[Region],
@@ -155,7 +154,6 @@ fn copy_second(
 
 /// A part was copied behind the others.
 #[tactic(auto, using(crate::proofs::NextLemmas::end_steps))]
-#[inline(never)]
 pub fn after_part(
     device: &mut Device,
     regions: &[Region],

@@ -70,7 +70,6 @@ fn discard_on(
 
 /// The pages of the first runs, so many, were told. Those of a report may have to keep what is in
 /// them.
-#[inline(never)]
 pub(crate) fn after_told(
     device: &mut Device,
     regions: &[Region],
@@ -102,7 +101,6 @@ pub(crate) fn after_told(
 }
 
 /// A part of a run was discarded.
-#[inline(never)]
 pub(crate) fn after_discard(
     device: &mut Device,
     regions: &[Region],

@@ -101,7 +101,6 @@ fn take(device: &mut Device, regions: &[Region], kind: Kind, tally: Tally) -> St
 }
 
 /// The index was read.
-#[inline(never)]
 pub(crate) fn after_index(
     device: &mut Device,
     regions: &[Region],
@@ -130,7 +129,6 @@ pub(crate) fn after_index(
 
 /// The entry was read.
 #[tactic(auto, using(crate::proofs::BufferLemmas::none_in))]
-#[inline(never)]
 pub(crate) fn after_entry(
     device: &mut Device,
     regions: &[Region],
@@ -156,7 +154,6 @@ pub(crate) fn after_entry(
 }
 
 /// A chain was given back: the queue is looked at again, but that of statistics.
-#[inline(never)]
 pub(crate) fn after_given(device: &mut Device, regions: &[Region], kind: Kind, tally: Tally) -> Step
     ensures step { (after : Device) (outcome : Outcome) (room : Room) (log : List Access) →
         Ahead (whole regions.now kind after outcome) result device.new room log →

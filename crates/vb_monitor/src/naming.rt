@@ -120,7 +120,6 @@ fn keep_figures(
 }
 
 /// Serves a chain of these bytes.
-#[inline(never)]
 pub(crate) fn serve_bytes(
     device: &mut Device,
     regions: &[Region],
@@ -147,7 +146,6 @@ pub(crate) fn serve_bytes(
 }
 
 /// Serves a chain of the first pieces, so many.
-#[inline(never)]
 pub(crate) fn serve_pieces(
     device: &mut Device,
     regions: &[Region],

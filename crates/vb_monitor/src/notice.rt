@@ -193,8 +193,8 @@ impl Notice {
     pub fn outcome(&self) -> Option<Outcome>
         ensures { result ≡ outcome_at self.now.step.phase self.now.step.tally }
     {
-        let Step { tally, phase } = self.step;
-        match phase {
+        let tally = self.step.tally;
+        match self.step.phase {
             Phase::Ended {
                 why,
                 interrupt,

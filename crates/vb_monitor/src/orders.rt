@@ -69,7 +69,6 @@ pub struct Asked {
 }
 
 /// Tells pages or figures, where that is to be done next.
-#[inline(never)]
 fn tell(
     step: &mut Step,
     device: &mut Device,
@@ -89,8 +88,8 @@ fn tell(
     ensures fits { Fits step.new.phase }
     ensures stage { 1 ≤ stage step.new.phase }
 {
-    let Step { tally, phase } = *step;
-    match phase {
+    let tally = step.tally;
+    match step.phase {
         Phase::TellsPages { head, named } => {
             orders.named = named;
             *step = after_told(device, regions, kind, tally, head, named.runs, runs);
@@ -149,7 +148,6 @@ fn fill(regions: &[Region], runs: &[Run], first: NextCut, cuts: &mut [Cut; MAX_C
 
 /// Discards parts, where that is to be done next, as many as the list has room for; says how many.
 #[tactic(auto, using(crate::proofs::OrderLemmas::discards_all))]
-#[inline(never)]
 fn discard(
     step: &mut Step,
     device: &mut Device,
@@ -207,7 +205,6 @@ fn discard(
 
 /// Gives a chain back, where that is to be done next; says whether it is.
 #[tactic(auto, using(crate::proofs::OrderLemmas::stage_waits))]
-#[inline(never)]
 fn give(
     step: &mut Step,
     device: &mut Device,
@@ -224,8 +221,8 @@ fn give(
     ensures fits { Fits step.new.phase }
     ensures waits { waits step.new.phase ≡ true }
 {
-    let Step { tally, phase } = *step;
-    match phase {
+    let tally = step.tally;
+    match step.phase {
         Phase::GivesBack { spots, entry } => {
             used.id = entry.id;
             used.length = entry.length;

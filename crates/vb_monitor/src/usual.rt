@@ -113,10 +113,7 @@ pub struct NextDescriptor {
 
 /// Where the next descriptor of a chain is copied from, once one was that breaks no rule and names
 /// another; that one's piece joins the others. Else they stay.
-#[tactic(auto, using(
-    crate::proofs::BufferLemmas::length_in,
-    crate::proofs::NextLemmas::follows_next
-))]
+#[tactic(auto, using(crate::proofs::UsualLemmas::next_steps))]
 pub fn next_descriptor(
     device: &Device,
     regions: &[Region],

@@ -169,7 +169,6 @@ fn join_descriptor(
 
 /// The bytes of a descriptor were copied to the front of these.
 #[tactic(auto, using(crate::proofs::BufferLemmas::length_in))]
-#[inline(never)]
 pub fn after_descriptor(
     device: &mut Device,
     regions: &[Region],
