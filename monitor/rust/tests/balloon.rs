@@ -390,7 +390,11 @@ fn another_processor_scribbles() {
         scope.spawn(scribble);
         let _stopping = Stopping(&stop);
         let (mut served, mut broken) = (0, 0);
-        for i in 0..100_000 {
+        // On a busy machine the other processor may stand still for long: then more notices than usual.
+        for i in 0..3_000_000 {
+            if i >= 100_000 && served > 0 && broken > 0 {
+                break;
+            }
             let result = balloon.notify(&guest.memory, Kind::ALL[i % 4], &mut InRange);
             served += result.chains;
             let _ = balloon.ask_statistics(&guest.memory);
