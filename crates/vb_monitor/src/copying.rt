@@ -21,6 +21,7 @@ use vb_chain::ChainFault;
 use vb_core::{Buffer, Device, Kind, Run, Statistic};
 
 /// Asks for a part of a piece.
+#[inline(always)]
 fn ask_part(
     device: &mut Device,
     regions: &[Region],
@@ -74,6 +75,7 @@ pub(crate) fn first_bytes(bytes: &[u8; MAX_BYTES], count: usize) -> &[u8]
 
 /// Copies the pieces from this number on, behind so many bytes that were copied.
 #[tactic(auto, using(crate::proofs::NextLemmas::copy_steps))]
+#[inline(always)]
 pub(crate) fn copy_on(
     device: &mut Device,
     regions: &[Region],

@@ -28,6 +28,7 @@ pub(crate) fn first_runs(runs: &[Run; MAX_RUNS], count: usize) -> &[Run]
 }
 
 /// Discards the first runs, so many, from this number on.
+#[inline(always)]
 fn discard_on(
     device: &mut Device,
     regions: &[Region],
@@ -70,6 +71,7 @@ fn discard_on(
 
 /// The pages of the first runs, so many, were told. Those of a report may have to keep what is in
 /// them.
+#[inline(always)]
 pub(crate) fn after_told(
     device: &mut Device,
     regions: &[Region],

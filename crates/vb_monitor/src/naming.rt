@@ -24,6 +24,7 @@ use crate::{Phase, Place, Region, Step, Tally};
 use vb_core::{Buffer, Device, Kind, Named, Run, Statistic};
 
 /// Tells the pages that were named.
+#[inline(always)]
 fn tell_pages(tally: Tally, head: u16, named: Named) -> Step
     ensures { result ≡
         record { tally = spent named.pages tally; phase = TellsPages head named } }
@@ -39,6 +40,7 @@ fn tell_pages(tally: Tally, head: u16, named: Named) -> Step
 }
 
 /// Names the pages of a request of these bytes.
+#[inline(always)]
 fn name_bytes(
     device: &mut Device,
     regions: &[Region],
@@ -120,6 +122,7 @@ fn keep_figures(
 }
 
 /// Serves a chain of these bytes.
+#[inline(always)]
 pub(crate) fn serve_bytes(
     device: &mut Device,
     regions: &[Region],
@@ -146,6 +149,7 @@ pub(crate) fn serve_bytes(
 }
 
 /// Serves a chain of the first pieces, so many.
+#[inline(always)]
 pub(crate) fn serve_pieces(
     device: &mut Device,
     regions: &[Region],

@@ -69,6 +69,7 @@ pub struct Asked {
 }
 
 /// Tells pages or figures, where that is to be done next.
+#[inline(always)]
 fn tell(
     step: &mut Step,
     device: &mut Device,
@@ -148,6 +149,7 @@ fn fill(regions: &[Region], runs: &[Run], first: NextCut, cuts: &mut [Cut; MAX_C
 
 /// Discards parts, where that is to be done next, as many as the list has room for; says how many.
 #[tactic(auto, using(crate::proofs::OrderLemmas::discards_all))]
+#[inline(always)]
 fn discard(
     step: &mut Step,
     device: &mut Device,
@@ -205,6 +207,7 @@ fn discard(
 
 /// Gives a chain back, where that is to be done next; says whether it is.
 #[tactic(auto, using(crate::proofs::OrderLemmas::stage_waits))]
+#[inline(always)]
 fn give(
     step: &mut Step,
     device: &mut Device,

@@ -127,6 +127,7 @@ pub(crate) fn table_fault(
 }
 
 /// A descriptor that breaks no rule joins the others.
+#[inline(always)]
 fn join_descriptor(
     device: &mut Device,
     regions: &[Region],
