@@ -5,7 +5,7 @@ use Rattle.std.specs.Int.{bit_at, trailing_zeros, w64}
 use Rattle.std.proofs.lemmas.Bool.{cases_lt}
 use Rattle.std.proofs.lemmas.Bool.Decides.{nat_tests}
 use Rattle.std.proofs.lemmas.Nat.Bits.{bit_at_and, bit_at_mask_inside, bit_at_mask_below}
-use Rattle.std.proofs.lemmas.Nat.Bits.{bit_at-lt, bit_at-trailing_zeros, bit_at-zero, ones_shl}
+use Rattle.std.proofs.lemmas.Nat.Bits.{bit_at-trailing_zeros, bit_at-zero, ones_shl}
 use Rattle.std.proofs.lemmas.Nat.Bits.{ones_shr, bit_at_ones, bit_at_ones_above}
 use Rattle.std.proofs.lemmas.Nat.{and_le_l}
 use Rattle.vb_model.specs.Tests.{has_bit}
@@ -33,21 +33,16 @@ rest_bit word bit k l = bit_at_and word ((2 ^ 64 - 1) * 2 ^ bit % 2 ^ 64) k
 rest_from : (word bit k : ℕ) → bit ≤ 64 → bit ≤ k → k < 64
     → bit_at (rest word bit) k ≡ bit_at word k
 rest_from word bit k l from below =
-    rest_bit word bit k l
-    ∙ ap (λ (m : ℕ). min (bit_at word k) m) (bit_at_mask_inside bit 64 k from below)
-    ∙ omega (arith, bit_at-lt word k)
+    grind (arith, rest_bit word bit k l, bit_at_mask_inside bit 64 k from below)
 
 rest_below : (word bit k : ℕ) → bit ≤ 64 → k < bit → bit_at (rest word bit) k ≡ 0
 rest_below word bit k l below =
-    rest_bit word bit k l
-    ∙ ap (λ (m : ℕ). min (bit_at word k) m) (bit_at_mask_below bit 64 k below)
-    ∙ omega arith
+    grind (arith, rest_bit word bit k l, bit_at_mask_below bit 64 k below)
 
 pub none_from : (word bit : ℕ) → bit ≤ 64 → rest word bit ≡ 0 → (k : ℕ) → bit ≤ k → k < 64
     → has_bit word k ≡ false
 none_from word bit l none k from below =
-    no_bit word k (sym (rest_from word bit k l from below)
-    ∙ ap (λ (n : ℕ). bit_at n k) none ∙ bit_at-zero k)
+    grind (arith, rest_from word bit k l from below, bit_at-zero k)
 
 pub found_from : (word bit : ℕ) → bit ≤ 64 → word < 2 ^ 64 → 0 < rest word bit
     → IsLowestFrom word bit (trailing_zeros w64 (rest word bit))

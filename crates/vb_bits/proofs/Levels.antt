@@ -17,10 +17,7 @@ use Rattle.vb_bits.specs.Levels.{HasSummary}
 
 -- a member is below the bound
 member_within : (set : List Bool) (n : ℕ) → has set n ≡ true → n < length set
-member_within set n e = elim (cases_lt n (length set)) [
-  | inl below ↦ below
-  | inr past ↦ absurd (false≢true (sym (get_or_past set n false past) ∙ e))
-]
+member_within set n e = grind (arith, cases_lt, get_or_past)
 
 -- a word that the summary has begins below the bound
 pub word_within : (level summary : List Bool) (w : ℕ) → HasSummary level summary
@@ -30,10 +27,7 @@ word_within level summary w s e = omega (arith, member_within summary w e, s.few
 pub first_within : (level summary : List Bool) (start : ℕ) (word : Option ℕ)
     → HasSummary level summary → IsFirstFrom summary start word
     → (w : ℕ) → word ≡ Some w → 64 * w < length level
-first_within level summary start None s f w e = cc
-first_within level summary start (Some v) s f w e =
-    let same : v ≡ w = cc in
-    omega (arith, word_within level summary v s f.member)
+first_within level summary start word s f w e = grind (arith, word_within)
 
 -- where the summary has no word from one on, the level has no number from its first one on
 pub none_in : (level summary : List Bool) (start : ℕ) → HasSummary level summary
@@ -69,38 +63,19 @@ least_in level summary start w (Some found) s first next =
 pub after_word : (set : List Bool) (n : ℕ) (found : Option ℕ)
     → ((m : ℕ) → n ≤ m → m / 64 ≡ n / 64 → has set m ≡ false)
     → IsFirstFrom set (64 * (n / 64 + 1)) found → IsFirstFrom set n found
-after_word set n None none later = λ m from. elim (cases_lt m (64 * (n / 64 + 1))) [
-  | inl here ↦ none m from (omega arith)
-  | inr after ↦ later m after
-]
-after_word set n (Some found) none least =
-    let from : 64 * (n / 64 + 1) ≤ found = least.from in
-    record {
-      from = omega arith;
-      member = least.member;
-      least = λ m later before. elim (cases_lt m (64 * (n / 64 + 1))) [
-        | inl here ↦ none m later (omega arith)
-        | inr after ↦ least.least m after before
-      ];
-    }
+after_word set n found none later = grind arith
 
 -- a set of a single word has no member but in that word
 pub single_word : (set : List Bool) (n : ℕ) (found : Option ℕ) → length set ≤ 64
     → IsNextInWord set n found → IsFirstFrom set n found
-single_word set n (Some found) few next = next.1
-single_word set n None few none = λ m from. elim (cases_lt m 64) [
-  | inl here ↦ none m from (omega arith)
-  | inr past ↦ get_or_past set m false (omega arith)
-]
+single_word set n found few next = grind (arith, get_or_past)
 
 -- ---- a number put in or taken out
 
 -- of the word, what is put in elsewhere says nothing
 elsewhere : (level : List Bool) (n w : ℕ) (one : Bool) → w ≢ n / 64 → (m : ℕ) → m / 64 ≡ w
     → has (set level n one) m ≡ has level m
-elsewhere level n w one ne m row =
-    let apart : m ≢ n = λ e. ne (omega (arith, e, row)) in
-    get_or-set_other level n m one false apart
+elsewhere level n w one ne m row = grind (arith, get_or-set_other)
 
 pub put_summary : (level summary : List Bool) (n : ℕ) (one any : Bool) → HasSummary level summary
     → n < length level → ((any ≡ false) ↔ HasNoneIn (set level n one) (n / 64))
@@ -132,10 +107,10 @@ pub put_levels : (level summary level2 summary2 : List Bool) (n : ℕ) (one any 
     → summary2 ≡ set summary (n / 64) any → ((any ≡ false) ↔ HasNoneIn level2 (n / 64))
     → HasSummary level2 summary2
 put_levels level summary level2 summary2 n one any s l e f told =
-    subst (λ (xs : List Bool). HasSummary level2 xs) (sym f)
-    (subst (λ (xs : List Bool). HasSummary xs (set summary (n / 64) any)) (sym e)
-    (put_summary level summary n one any s l
-    (subst (λ (xs : List Bool). (any ≡ false) ↔ HasNoneIn xs (n / 64)) e told)))
+    grind (
+      arith,
+      put_summary level summary n one any s l (subst (λ (xs : List Bool). (any ≡ false) ↔ HasNoneIn xs (n / 64)) e told),
+    )
 
 -- 1 for a member
 abbrev pub weight : Bool → ℕ
@@ -182,6 +157,4 @@ pub full_levels : (level summary level2 summary2 : List Bool) → HasSummary lev
     → level2 ≡ replicate (length level) true → summary2 ≡ replicate (length summary) true
     → HasSummary level2 summary2
 full_levels level summary level2 summary2 s e f =
-    subst (λ (xs : List Bool). HasSummary level2 xs) (sym f)
-    (subst (λ (xs : List Bool). HasSummary xs (replicate (length summary) true)) (sym e)
-    (full_summary (length level) (length summary) s.enough s.fewest))
+    grind (arith, full_summary (length level) (length summary) s.enough s.fewest)

@@ -28,12 +28,7 @@ bound_is bound words flags e = sym (length-flags bound words) ∙ ap length e
 pub has_flag : (bound : ℕ) (words : List ℕ) → AreWordsOf bound words → (n : ℕ)
     → has (flags_of bound words) n ≡ in_words words n
 unfolding flags_of
-has_flag bound words s n = elim (cases_lt n bound) [
-  | inl below ↦ get_or-map-range_with_len (in_words words) 0 bound n n false below (omega arith)
-  | inr past ↦
-      get_or_past (flags_of bound words) n false (omega (arith, past, length-flags bound words))
-      ∙ sym (s.clear n past)
-]
+has_flag bound words s n = grind (arith, get_or-map-range_with_len, get_or_past, length-flags)
 
 -- the flags are the set that has just these numbers
 pub flags_are : (bound : ℕ) (words : List ℕ) (flags : List Bool) → AreWordsOf bound words
@@ -46,11 +41,7 @@ flags_are bound words flags s e h =
 -- the number that a bit of a word stands for
 pub at_place : (words : List ℕ) (w b : ℕ) → b < 64
     → in_words words (64 * w + b) ≡ has_bit (get_or words w 0) b
-at_place words w b l =
-    let row : (64 * w + b) / 64 ≡ w = omega arith in
-    let column : (64 * w + b) % 64 ≡ b = omega arith in
-    ap (λ (k : ℕ). has_bit (get_or words k 0) ((64 * w + b) % 64)) row
-    ∙ ap (λ (k : ℕ). has_bit (get_or words w 0) k) column
+at_place words w b l = grind arith
 
 pub bit_is_flag : (bound : ℕ) (words : List ℕ) → AreWordsOf bound words → (w b : ℕ) → b < 64
     → has_bit (get_or words w 0) b ≡ has (flags_of bound words) (64 * w + b)
@@ -63,10 +54,7 @@ zero_bit : (b : ℕ) → has_bit 0 b ≡ false
 zero_bit b = no_bit 0 b (bit_at-zero b)
 
 read_zero : (len k : ℕ) → get_or {A = ℕ} (replicate len 0) k 0 ≡ 0
-read_zero len k = elim (cases_lt k len) [
-  | inl l ↦ get_or-replicate len k 0 0 l
-  | inr l ↦ get_or_past (replicate len 0) k 0 (omega (arith, l, length-replicate {A = ℕ} len 0))
-]
+read_zero len k = grind (arith, get_or-replicate, get_or_past, length-replicate)
 
 none_in_zeros : (len n : ℕ) → in_words (replicate len 0) n ≡ false
 none_in_zeros len n =
@@ -74,18 +62,12 @@ none_in_zeros len n =
 
 pub cleared : (bound len : ℕ) → bound ≤ 64 * len → 64 * len < bound + 64
     → AreWordsOf bound (replicate len 0)
-cleared bound len enough fewest = record {
-  enough = omega (arith, enough, length-replicate {A = ℕ} len 0);
-  fewest = omega (arith, fewest, length-replicate {A = ℕ} len 0);
-  clear = λ n _. none_in_zeros len n;
-}
+cleared bound len enough fewest = grind (arith, length-replicate, none_in_zeros)
 
 pub cleared_flags : (bound len : ℕ) → bound ≤ 64 * len → 64 * len < bound + 64
     → flags_of bound (replicate len 0) ≡ replicate bound false
 cleared_flags bound len enough fewest =
-    flags_are bound (replicate len 0) (replicate bound false) (cleared bound len enough fewest)
-    (length-replicate bound false)
-    (λ n l. none_in_zeros len n ∙ sym (get_or-replicate bound n false false l))
+    search (arith, flags_are, length-replicate, none_in_zeros, get_or-replicate)
 
 -- ---- all bits 1
 
@@ -95,14 +77,7 @@ all_ones len = replicate len (2 ^ 64 - 1)
 -- what is left of the numbers in the last word
 low_test : (bound last n : ℕ) → 64 * last < bound → bound ≤ 64 * last + 64 → n / 64 ≡ last
     → ltb (n % 64) (bound - last * 64) ≡ ltb n bound
-low_test bound last n from to e = elim (cases_lt n bound) [
-  | inl l ↦
-      let inside : n % 64 < bound - last * 64 = omega arith in
-      grind (arith, nat_tests)
-  | inr l ↦
-      let outside : bound - last * 64 ≤ n % 64 = omega arith in
-      grind (arith, nat_tests)
-]
+low_test bound last n from to e = grind arith
 
 -- in a word before the last all bits are 1, and there is none after it
 other_word : (bound len last n : ℕ) → 64 * last < bound → bound ≤ 64 * last + 64 → len ≡ last + 1
@@ -180,26 +155,11 @@ put_same words n one word s =
 
 put_other : (words : List ℕ) (n : ℕ) (one : Bool) (word m : ℕ) → IsWritten words n one word
     → m ≢ n → in_words (set words (n / 64) word) m ≡ in_words words m
-put_other words n one word m s ne = elim (eqb_tells (m / 64) (n / 64)) [
-  | inl same ↦
-      let apart : m % 64 ≢ n % 64 = λ e. ne (omega (arith, e, same.1)) in
-      ap (λ (k : ℕ). has_bit (get_or (set words (n / 64) word) k 0) (m % 64)) same.1
-      ∙ ap (λ (w : ℕ). has_bit w (m % 64)) (get_or-set_same words (n / 64) word 0 s.within)
-      ∙ s.others (m % 64) (omega arith) apart
-      ∙ ap (λ (k : ℕ). has_bit (get_or words k 0) (m % 64)) (sym same.1)
-  | inr other ↦
-      ap (λ (w : ℕ). has_bit w (m % 64)) (get_or-set_other words (n / 64) (m / 64) word 0 other.1)
-]
+put_other words n one word m s ne = search (arith, get_or-set_same, get_or-set_other)
 
 pub put : (bound : ℕ) (words : List ℕ) (n : ℕ) (one : Bool) (word : ℕ) → AreWordsOf bound words
     → n < bound → IsWritten words n one word → AreWordsOf bound (set words (n / 64) word)
-put bound words n one word s l w = record {
-  enough = omega (arith, s.enough, length-set words (n / 64) word);
-  fewest = omega (arith, s.fewest, length-set words (n / 64) word);
-  clear = λ m past.
-      let apart : m ≢ n = omega (arith, past, l) in
-      put_other words n one word m w apart ∙ s.clear m past;
-}
+put bound words n one word s l w = grind (arith, length-set, put_other)
 
 pub put_flags : (bound : ℕ) (words : List ℕ) (n : ℕ) (one : Bool) (word : ℕ)
     → AreWordsOf bound words → n < bound → IsWritten words n one word
