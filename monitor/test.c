@@ -382,6 +382,24 @@ static int fail_at_700(void *context, const struct balloon_region *region, uint6
     return from == 700 * 4096 ? EIO : 0;
 }
 
+/* What the machine refused of one queue is told beside what it did for a later one. */
+static void an_error_of_one_queue_is_told_with_the_others(void)
+{
+    static struct guest guest;
+    const uint32_t page = 700;
+    struct balloon_result result;
+    make_memory(&guest, 0);
+    EXPECT(balloon_init(&guest.balloon, guest.regions, 2, SKIPS) == VB_OK);
+    guest.balloon.discard = fail_at_700;
+    start_features(&guest, LINUX_FEATURES, 8);
+    name_pages(&guest, VB_INFLATE, &page, 1);
+    describe(&guest, VB_REPORT, 0, 600 * 4096, 4096, WRITE, 0);
+    publish(&guest, VB_REPORT, 0);
+    EXPECT(balloon_write_status(&guest.balloon, 15, &result) == 0);
+    EXPECT(result.chains == 2 && result.kept == 1 && result.discarded == 1 && result.error == EIO);
+    free_memory(&guest);
+}
+
 /* A driver may fill all its queues before DRIVER_OK: what each comes to is told together. The status again is no kick. */
 static void all_queues_are_looked_at(void)
 {
@@ -1134,6 +1152,7 @@ int main(void)
     RUN(a_notice_has_an_end());
     RUN(a_driver_never_stops());
     RUN(a_notice_keeps_to_its_budget());
+    RUN(an_error_of_one_queue_is_told_with_the_others());
     RUN(all_queues_are_looked_at());
     RUN(the_machine_is_asked_again());
     RUN(a_reason_stays());
