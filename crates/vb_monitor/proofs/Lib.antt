@@ -37,3 +37,4 @@ pub mod LargeLemmas
 pub mod LargeLaws
 mod LargeFacts
 mod WholeReportFacts
+mod UsualFacts

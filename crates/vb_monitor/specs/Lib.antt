@@ -17,3 +17,4 @@ pub mod Turns
 pub mod Asking
 pub mod PartsOfRuns
 pub mod Large
+pub mod Usual

@@ -1,6 +1,6 @@
 //! Where a notice goes on as it mostly does: the next place alone, which is all that is new.
 
-ghost use Rattle.std.specs.Prelude.{◌≡◌, ◌+◌, ◌-◌, false, List, None, IfSome, take};
+ghost use Rattle.std.specs.Prelude.{◌≡◌, ◌+◌, ◌-◌, false, List, None, IfSome, take, length};
 ghost use Rattle.vb_chain.specs.declared.descriptor.TheConstants.{DESCRIPTOR_SIZE};
 ghost use Rattle.vb_core.specs.declared.device.Device.{Device};
 ghost use Rattle.vb_core.specs.declared.runs.Run.{Run};
@@ -11,9 +11,12 @@ ghost use Rattle.vb_monitor.specs.declared.outcome.Outcome.{Outcome};
 ghost use Rattle.vb_monitor.specs.declared.step.Phase.TheVariants.{AwaitsEntry, AwaitsDescriptor};
 ghost use Rattle.vb_monitor.specs.declared.step.Phase.TheVariants.{AwaitsFlags};
 ghost use Rattle.vb_monitor.specs.Accesses.{Access};
-ghost use Rattle.vb_monitor.specs.Chains.{AfterDescriptor, Follows, descriptors};
+ghost use Rattle.vb_monitor.specs.Chains.{AfterDescriptor, Follows, descriptors, descriptor_of};
+ghost use Rattle.vb_monitor.specs.Chains.{memory_end};
 ghost use Rattle.vb_monitor.specs.Notices.{stands, AfterEntry, AfterIndex, TakesNext, with_chains};
 ghost use Rattle.vb_monitor.specs.Pieces.{pieces_in};
+ghost use Rattle.vb_monitor.specs.Usual.{entry_place, flags_place, descriptor_place, next_of};
+ghost use Rattle.vb_monitor.specs.Usual.{next_place};
 ghost use Rattle.vb_monitor.specs.Machine.{Room, AheadAt, whole, room_of, next_chain, serves};
 
 use crate::copying::first_bytes;
@@ -36,7 +39,8 @@ pub fn entry_after(
     tally: Tally,
     index: u16,
 ) -> Option<Spot>
-    ensures { IfSome result (λ at. (after : Device) (outcome : Outcome) (room : Room)
+    ensures place { result ≡ entry_place regions.now tally index (ring_of kind device.now) }
+    ensures goes { IfSome result (λ at. (after : Device) (outcome : Outcome) (room : Room)
         (log : List Access) →
         AheadAt (AwaitsEntry at) (whole regions.now kind after outcome)
         (with_chains (tally.chains - 1) tally) device.now room log →
@@ -65,7 +69,8 @@ pub fn flags_after(
     tally: Tally,
     index: u16,
 ) -> Option<Spot>
-    ensures { IfSome result (λ at. (after : Device) (outcome : Outcome) (room : Room)
+    ensures place { result ≡ flags_place regions.now tally index (ring_of kind device.now) }
+    ensures goes { IfSome result (λ at. (after : Device) (outcome : Outcome) (room : Room)
         (log : List Access) →
         AheadAt (AwaitsFlags at None false) (whole regions.now kind after outcome) tally device.now
         room log →
@@ -87,7 +92,8 @@ pub fn flags_after(
 
 /// Where the first descriptor of a chain is copied from, once its entry was read.
 pub fn descriptor_after(device: &Device, regions: &[Region], kind: Kind, head: u16) -> Option<Spot>
-    ensures { IfSome result (λ at. (tally : Tally) (after : Device) (outcome : Outcome)
+    ensures place { result ≡ descriptor_place regions.now head (ring_of kind device.now) }
+    ensures goes { IfSome result (λ at. (tally : Tally) (after : Device) (outcome : Outcome)
         (room : Room) (log : List Access) →
         AheadAt (AwaitsDescriptor at (record { head = head; count = 0; writing = false }))
         (whole regions.now kind after outcome) tally device.now room log →
@@ -122,6 +128,10 @@ pub fn next_descriptor(
     pieces: &mut [Buffer; MAX_PIECES],
     bytes: &[u8; MAX_BYTES],
 ) -> Option<NextDescriptor>
+    ensures place { result ≡ next_of walk (descriptor_of (take DESCRIPTOR_SIZE bytes.now))
+        (next_place regions.now walk (length (take walk.count pieces.old))
+        (descriptor_of (take DESCRIPTOR_SIZE bytes.now)) (memory_end device.now)
+        (ring_of kind device.now)) }
     ensures goes { IfSome result (λ x. (tally : Tally) (after : Device) (outcome : Outcome)
         (runs : List Run) (figures : List Statistic) (log : List Access) →
         AheadAt (AwaitsDescriptor x.at x.walk) (whole regions.now kind after outcome) tally

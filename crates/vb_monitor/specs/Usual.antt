@@ -1,0 +1,64 @@
+-- How a notice goes on mostly: the next place, where it goes on so.
+use Rattle.std.specs.Prelude.{ℕ, ◌+◌, ◌*◌, Bool, true, false, not, ◌==◌, ◌&&◌, ◌||◌, nat_lt, List}
+use Rattle.std.specs.Prelude.{length, take, if◌then◌else◌, Option, None, is_none, option_map}
+use Rattle.std.specs.Prelude.{Result, Ok, Err}
+use Rattle.vb_chain.specs.declared.descriptor.Descriptor.{Descriptor}
+use Rattle.vb_chain.specs.declared.fault.ChainFault.{ChainFault}
+use Rattle.vb_chain.specs.Rules.{has_next, is_writable}
+use Rattle.vb_core.specs.declared.kinds.Kind.{Kind}
+use Rattle.vb_core.specs.declared.ring.Ring.{Ring}
+use Rattle.vb_core.specs.declared.device.Device.{Device}
+use Rattle.vb_core.specs.Devices.{ring_of}
+use Rattle.vb_monitor.specs.declared.regions.Region.{Region}
+use Rattle.vb_monitor.specs.declared.regions.Spot.{Spot}
+use Rattle.vb_monitor.specs.declared.outcome.Tally.{Tally}
+use Rattle.vb_monitor.specs.declared.step.Walk.{Walk}
+use Rattle.vb_monitor.specs.declared.usual.NextDescriptor.{NextDescriptor}
+use Rattle.vb_monitor.specs.Regions.{spot}
+use Rattle.vb_monitor.specs.Chains.{descriptors, memory_end, table_fault}
+use Rattle.vb_monitor.specs.Notices.{entry_offset, stands}
+
+-- By the index another chain stands there, and by it none does.
+abbrev pub another : Result Bool ChainFault → Bool
+another (Ok there) = there
+another (Err fault) = false
+
+abbrev pub no_other : Result Bool ChainFault → Bool
+no_other (Ok there) = not there
+no_other (Err fault) = false
+
+-- Where the entry stands, if another chain is there and the budget has room for it.
+abbrev pub entry_place : List Region → Tally → ℕ → Ring → Option Spot
+entry_place regions tally index r =
+    if another (stands r index) && not ((tally.chains == 0) || (tally.pages == 0))
+    then spot regions (r.avail + entry_offset r) 2 else None
+
+-- Where the flags stand, if no other chain is there and one was given back.
+abbrev pub flags_place : List Region → Tally → ℕ → Ring → Option Spot
+flags_place regions tally index r =
+    if no_other (stands r index) && tally.given then spot regions r.avail 2 else None
+
+-- Where a descriptor stands, if the queue has one of this number.
+abbrev pub descriptor_place : List Region → ℕ → Ring → Option Spot
+descriptor_place regions number r =
+    if nat_lt number (descriptors r) then spot regions (r.table + 16 * number) 16 else None
+
+-- The walk behind one more descriptor.
+abbrev pub walk_on : Walk → Descriptor → Walk
+walk_on walk x = record {
+  head = walk.head;
+  count = walk.count + 1;
+  writing = walk.writing || is_writable x;
+}
+
+-- Where the descriptor stands that one names which was copied after these pieces, if that one breaks
+-- no rule and the table has room for another.
+abbrev pub next_place : List Region → Walk → ℕ → Descriptor → ℕ → Ring → Option Spot
+next_place regions walk visited x end r =
+    if has_next x && is_none (table_fault (descriptors r) end walk.writing visited x)
+    && nat_lt (walk.count + 1) (descriptors r)
+    then spot regions (r.table + 16 * x.next) 16 else None
+
+-- That place, and the walk up to it.
+abbrev pub next_of : Walk → Descriptor → Option Spot → Option NextDescriptor
+next_of walk x place = option_map (λ at. record { at = at; walk = walk_on walk x }) place
