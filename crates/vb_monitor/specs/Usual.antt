@@ -51,8 +51,8 @@ walk_on walk x = record {
   writing = walk.writing || is_writable x;
 }
 
--- Where the descriptor stands that one names which was copied after these pieces, if that one breaks
--- no rule and the table has room for another.
+-- Where the descriptor stands that another names, which was copied after so many pieces, if that
+-- one breaks no rule and the table has room for one more.
 abbrev pub next_place : List Region → Walk → ℕ → Descriptor → ℕ → Ring → Option Spot
 next_place regions walk visited x end r =
     if has_next x && is_none (table_fault (descriptors r) end walk.writing visited x)
