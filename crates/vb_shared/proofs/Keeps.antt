@@ -10,7 +10,7 @@ use mathlib.Core.Logic.{dite}
 use native.Mathlib.Decide.{ℕ_discrete}
 use prog.Atomic.{either}
 use lib.ListN.{get_elem?}
-use Rattle.atomic_table.specs.Table.{Me, Allows, step, keeps}
+use Rattle.atomic_table.specs.Table.{Me, Allows, step}
 use Rattle.atomic_table.proofs.Lists.{at_set, set_again}
 use Rattle.vb_model.specs.Tests.{one_if}
 use Rattle.vb_device.specs.Own.{has, without}
@@ -18,7 +18,7 @@ use Rattle.vb_shared.specs.declared.rule.Holding.{Holding}
 use Rattle.vb_shared.specs.declared.rule.View.{View}
 use Rattle.vb_shared.specs.declared.rule.Size.{Size}
 use Rattle.vb_shared.specs.Rule.{pass, count, count_all, AllTied, IsKept, Kept, StepKind, TryClaim}
-use Rattle.vb_shared.specs.Rule.{PutBack, Look, word_after, held_after}
+use Rattle.vb_shared.specs.Rule.{PutBack, word_after, held_after}
 use Rattle.vb_shared.specs.Steps.{claimed, returned}
 use Rattle.vb_shared.proofs.Lists.{has_without, has_not_without, without_none}
 
@@ -38,17 +38,10 @@ pub count_two : (tag : ℕ) (views : List View) (i j : ℕ) (v w : View) → i �
     → count tag v.holdings + count tag w.holdings ≤ count_all tag views
 count_two tag [] i j v w ne e f = absurd (some-ne-none v (sym e))
 count_two tag (x ∷ xs) zero zero v w ne e f = absurd (ne refl)
-count_two tag (x ∷ xs) zero (suc j) v w ne e f =
-    let h = count_at tag xs j w f in
-    subst (λ (y : View). count tag y.holdings + count tag w.holdings
-    ≤ count tag x.holdings + count_all tag xs) (some-injective x v e) (omega arith)
-count_two tag (x ∷ xs) (suc i) zero v w ne e f =
-    let h = count_at tag xs i v e in
-    subst (λ (y : View). count tag v.holdings + count tag y.holdings
-    ≤ count tag x.holdings + count_all tag xs) (some-injective x w f) (omega arith)
+count_two tag (x ∷ xs) zero (suc j) v w ne e f = grind (arith, count_at tag xs j w f)
+count_two tag (x ∷ xs) (suc i) zero v w ne e f = grind (arith, count_at tag xs i v e)
 count_two tag (x ∷ xs) (suc i) (suc j) v w ne e f =
-    let h = count_two tag xs i j v w (λ k. ne (ap suc k)) e f in
-    omega arith
+    grind (arith, count_two tag xs i j v w (λ k. ne (ap suc k)) e f)
 
 pub count_set : (tag : ℕ) (views : List View) (i : ℕ) (v w : View) → get_elem? views i ≡ some v
     → count_all tag (set views i w) + count tag v.holdings
@@ -64,9 +57,7 @@ pub one_tag : (tag : ℕ) → one_if (eqb tag tag) ≡ 1
 one_tag tag = ap one_if (eq-eqb tag tag refl)
 
 pub not_tag : (t tag n : ℕ) → one_if (eqb t tag) + n ≡ 0 → t ≢ tag
-not_tag t tag n zero_sum e =
-    let one : one_if (eqb t tag) ≡ 1 = ap one_if (eq-eqb t tag e) in
-    absurd (omega arith)
+not_tag t tag n zero_sum e = grind (arith, eqb, eq-eqb)
 
 -- ---- a step by the pass with a tag: the word f becomes x, and both are no other tag's
 
@@ -129,9 +120,7 @@ kept_after size words views id tag f x held held' r at m low new = record {
 pub still : (size : Size) (words : List ℕ) (views : List View) (id f : ℕ) (v : View)
     → IsKept size words views → get_elem? views id ≡ some v
     → IsKept size (set words f (slice_index words f)) (set views id v)
-still size words views id f v r at =
-    subst (λ (ws : List ℕ). IsKept size ws (set views id v)) (sym (set-get_or words f 0))
-    (subst (IsKept size words) (sym (set_again views id v at)) r)
+still size words views id f v r at = grind (arith, set-get_or, set_again)
 
 -- ---- a try
 
@@ -166,10 +155,7 @@ try_kept size words views id tag f held low r at false is =
 not_held : (size : Size) (words : List ℕ) (views : List View) (id tag f : ℕ) (held : List ℕ)
     → IsKept size words views → get_elem? views id ≡ some (pass tag held)
     → eqb (slice_index words f) 0 ≡ true → has held f ≡ false
-not_held size words views id tag f held r at is =
-    let free : slice_index words f ≡ 0 = eqb-true _ _ is in
-    sym ((r.tied id (pass tag held) at).0.1 f)
-    ∙ ne_eqb (slice_index words f) (tag + 1) (λ e. omega arith)
+not_held size words views id tag f held r at is = grind (arith, eqb-true, ne_eqb)
 
 -- ---- a put-back
 
@@ -203,9 +189,7 @@ without_is : (size : Size) (words : List ℕ) (views : List View) (id tag f : �
     → IsKept size words views → get_elem? views id ≡ some (pass tag held)
     → (b : Bool) → eqb (slice_index words f) (tag + 1) ≡ b
     → cond b (without held f) held ≡ without held f
-without_is size words views id tag f held r at true is = refl
-without_is size words views id tag f held r at false is =
-    sym (without_none held f (sym ((r.tied id (pass tag held) at).0.1 f) ∙ is))
+without_is size words views id tag f held r at b is = grind (arith, without_none)
 
 -- ---- all three
 
@@ -214,78 +198,49 @@ pub stepped : (kind : StepKind) (size : Size) (words : List ℕ) (views : List V
     → get_elem? views i ≡ some (pass tag held)
     → IsKept size (set words f (word_after kind tag (slice_index words f)))
     (set views i (pass tag (held_after kind tag (slice_index words f) f held)))
-stepped TryClaim size words views i tag f held low r at =
-    try_kept size words views i tag f held low r at (eqb (slice_index words f) 0) refl
-stepped PutBack size words views i tag f held low r at =
-    return_kept size words views i tag f held low r at (eqb (slice_index words f) (tag + 1)) refl
-stepped Look size words views i tag f held low r at =
-    still size words views i f (pass tag held) r at
+stepped kind size words views i tag f held low r at =
+    grind (
+      arith,
+      try_kept size words views i tag f held low r,
+      eqb (slice_index words f) 0,
+      return_kept size words views i tag f held low r,
+      eqb (slice_index words f) (tag + 1),
+      still size words views i f (pass tag held) r,
+    )
 
 -- ---- what a seat owes for a step
-
-either_is : (b : Bool) (n m : ℕ) → either b n m ≡ cond b n m
-either_is true n m = refl
-either_is false n m = refl
 
 claims_at : (size : Size) (slots id f tag : ℕ) (held : List ℕ) (c : List (ℕ × Unit {0}))
     → f < size.frames
     → Allows (Kept size) slots id (pass tag held, c) f (λ n. either (eqb n 0) (tag + 1) n)
     (claimed (step slots f 0 (tag + 1) none) (pass tag held, c))
-claims_at size slots id f tag held c low s r _ at _ =
-    let found = slice_index s.words f in (
-      pass tag (cond (eqb found 0) (f ∷ held) held),
-      keeps,
-      tt,
-      subst (λ (n : ℕ). IsKept size (set s.words f n)
-          (set s.views id (pass tag (cond (eqb found 0) (f ∷ held) held))))
-          (sym (either_is (eqb found 0) (tag + 1) found))
-          (stepped TryClaim size s.words s.views id tag f held low r at),
-      (refl, held_is (eqb found 0), not_held size s.words s.views id tag f held r at),
+claims_at size slots id f tag held c low s r h10 at h12 =
+    grind (
+      arith,
+      stepped TryClaim size s.words s.views id tag f held low r at,
+      not_held size s.words s.views id tag f held r at,
     )
-  where
-    held_is : (b : Bool) → pass tag (cond b (f ∷ held) held)
-        ≡ record {
-          holdings = cond b (record { tag = tag; held = f ∷ held } ∷ [])
-              (record { tag = tag; held = held } ∷ []);
-        }
-    held_is true = refl
-    held_is false = refl
 
 pub claims : (size : Size) (slots id f tag : ℕ) (held : List ℕ) (me : Me (Unit {0}) View)
     → f < size.frames → me.0 ≡ pass tag held
     → Allows (Kept size) slots id me f (λ n. either (eqb n 0) (tag + 1) n)
     (claimed (step slots f 0 (tag + 1) none) me)
 claims size slots id f tag held me low is =
-    subst (λ (v : View). Allows (Kept size) slots id (v, me.1) f
-    (λ n. either (eqb n 0) (tag + 1) n) (claimed (step slots f 0 (tag + 1) none) (v, me.1)))
-    (sym is) (claims_at size slots id f tag held me.1 low)
+    grind (arith, claims_at size slots id f tag held me.1 low)
 
 gives_at : (size : Size) (slots id f tag : ℕ) (held : List ℕ) (c : List (ℕ × Unit {0}))
     → f < size.frames
     → Allows (Kept size) slots id (pass tag held, c) f (λ n. either (eqb n (tag + 1)) 0 n)
     (returned (step slots f (tag + 1) 0 none) (pass tag held, c))
-gives_at size slots id f tag held c low s r _ at _ =
-    let found = slice_index s.words f in (
-      pass tag (cond (eqb found (tag + 1)) (without held f) held),
-      keeps,
-      tt,
-      subst (λ (n : ℕ). IsKept size (set s.words f n)
-          (set s.views id (pass tag (cond (eqb found (tag + 1)) (without held f) held))))
-          (sym (either_is (eqb found (tag + 1)) 0 found))
-          (stepped PutBack size s.words s.views id tag f held low r at),
-      (
-        refl,
-        ap (pass tag) (without_is size s.words s.views id tag f held r at
-            (eqb found (tag + 1)) refl),
-        (r.tied id (pass tag held) at).0.1 f,
-      ),
+gives_at size slots id f tag held c low s r h10 at h12 =
+    grind (
+      arith,
+      stepped PutBack size s.words s.views id tag f held low r at,
+      without_is size s.words s.views id tag f held r,
     )
 
 pub gives : (size : Size) (slots id f tag : ℕ) (held : List ℕ) (me : Me (Unit {0}) View)
     → f < size.frames → me.0 ≡ pass tag held
     → Allows (Kept size) slots id me f (λ n. either (eqb n (tag + 1)) 0 n)
     (returned (step slots f (tag + 1) 0 none) me)
-gives size slots id f tag held me low is =
-    subst (λ (v : View). Allows (Kept size) slots id (v, me.1) f
-    (λ n. either (eqb n (tag + 1)) 0 n) (returned (step slots f (tag + 1) 0 none) (v, me.1)))
-    (sym is) (gives_at size slots id f tag held me.1 low)
+gives size slots id f tag held me low is = grind (arith, gives_at size slots id f tag held me.1 low)

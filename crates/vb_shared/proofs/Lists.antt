@@ -1,11 +1,9 @@
 -- Numbers in a list, numbers from one on and below a bound, and passes that hold nothing.
-use Rattle.std.proofs.Common.{◌≡◌, ◌≢◌, ℕ, zero, suc, ◌+◌, ◌≤◌, Bool, true, false, cond, not}
-use Rattle.std.proofs.Common.{◌||◌, ◌==◌, List, [], ◌∷◌, ◌++◌, refl, sym, ap, ◌∙◌, subst, arith}
+use Rattle.std.proofs.Common.{◌≡◌, ◌≢◌, ℕ, zero, suc, ◌+◌, ◌≤◌, true, false, not}
+use Rattle.std.proofs.Common.{◌==◌, List, [], ◌∷◌, ◌++◌, refl, sym, ap, ◌∙◌, arith}
 use Rattle.std.proofs.Common.{eq-eqb, ne_eqb, eqb-true, replicate, None}
 use Rattle.std.specs.Prelude.{slice_index}
 use Rattle.std.proofs.lemmas.Map.Views.{any-filter_same}
-use mathlib.Core.Logic.{dite}
-use native.Mathlib.Decide.{ℕ_discrete}
 use Rattle.atomic_table.specs.Seated.{TableId}
 use Rattle.vb_device.specs.Own.{has, without}
 use Rattle.vb_shared.specs.Passes.{Within, Pass, new_passes}
@@ -25,45 +23,23 @@ has_not_without ns f =
 -- a list that lacks the number
 pub without_none : (ns : List ℕ) (f : ℕ) → has ns f ≡ false → without ns f ≡ ns
 without_none [] f lacks = refl
-without_none (n ∷ ns) f lacks = step (n == f) lacks (without_none ns f)
-  where
-    step : (b : Bool) → (b || has ns f) ≡ false → (has ns f ≡ false → without ns f ≡ ns)
-        → cond (not b) (n ∷ without ns f) (without ns f) ≡ n ∷ ns
-    step true lacks rest = absurd cc
-    step false lacks rest = ap (λ ms. n ∷ ms) (rest lacks)
+without_none (n ∷ ns) f lacks = grind (arith, without_none ns f)
 
 -- a number that comes and goes leaves the list as it was
 pub without_added : (ns : List ℕ) (f : ℕ) → has ns f ≡ false → without (f ∷ ns) f ≡ ns
-without_added ns f lacks =
-    ap (λ b. cond (not b) (f ∷ without ns f) (without ns f)) (eq-eqb f f refl)
-    ∙ without_none ns f lacks
+without_added ns f lacks = grind (arith, eq-eqb, without_none)
 
 -- ---- from one on, below a bound
 
 pub within_without : (i bound : ℕ) (ns : List ℕ) (f : ℕ) → Within i bound ns
     → Within i bound (without ns f)
 within_without i bound [] f w = tt
-within_without i bound (n ∷ ns) f w = step (n == f) (within_without i bound ns f w.2)
-  where
-    step : (b : Bool) → Within i bound (without ns f)
-        → Within i bound (cond (not b) (n ∷ without ns f) (without ns f))
-    step true rest = rest
-    step false rest = (w.0, w.1, rest)
+within_without i bound (n ∷ ns) f w = grind (arith, within_without i bound ns f w.2)
 
 pub within_next : (i bound : ℕ) (ns : List ℕ) → Within i bound ns
     → Within (i + 1) bound (without ns i)
 within_next i bound [] w = tt
-within_next i bound (n ∷ ns) w = dite (ℕ_discrete n i)
-    (λ e. subst left (sym (eq-eqb n i e)) (within_next i bound ns w.2))
-    (λ ne. let low = w.0 in
-    subst left (sym (ne_eqb n i ne)) (
-      dite (ℕ_discrete n i) (λ e. absurd (ne e)) (λ more. omega arith),
-      w.1,
-      within_next i bound ns w.2,
-    ))
-  where
-    left : Bool → Type 0
-    left b = Within (i + 1) bound (cond (not b) (n ∷ without ns i) (without ns i))
+within_next i bound (n ∷ ns) w = grind (arith, within_next i bound ns w.2)
 
 pub within_end : (bound : ℕ) (ns : List ℕ) → Within bound bound ns → ns ≡ []
 within_end bound [] w = refl
@@ -73,8 +49,7 @@ pub within_absent : (i bound : ℕ) (ns : List ℕ) (f : ℕ) → Within i bound
     → has ns f ≡ false
 within_absent i bound [] f w past = refl
 within_absent i bound (n ∷ ns) f w past =
-    let high = w.1 in
-    ap (λ b. b || has ns f) (ne_eqb n f (λ e. omega arith)) ∙ within_absent i bound ns f w.2 past
+    grind (arith, ne_eqb n f (λ e. omega arith), within_absent i bound ns f w.2 past)
 
 pub within_whole : (i bound : ℕ) (ns : List ℕ) (f : ℕ) → Within i bound ns → bound ≤ f
     → without ns f ≡ ns
@@ -95,17 +70,9 @@ new_passes_push : (table : TableId) (tag n : ℕ)
 new_passes_push table tag zero =
     let e : tag ≡ tag + 0 = omega arith in
     ap (λ (t : ℕ). new_pass table t ∷ []) e
-new_passes_push table tag (suc n) =
-    let e : suc tag + n ≡ tag + suc n = omega arith in
-    ap (λ (ps : List Pass). new_pass table tag ∷ ps)
-    (new_passes_push table (suc tag) n
-    ∙ ap (λ (t : ℕ). new_passes table (suc tag) n ++ new_pass table t ∷ []) e)
+new_passes_push table tag (suc n) = grind (arith, new_passes_push table (suc tag) n)
 
 -- one more pass has the next tag
 pub new_passes_next : (table : TableId) (n : ℕ)
     → new_passes table 0 (n + 1) ≡ new_passes table 0 n ++ new_pass table n ∷ []
-new_passes_next table n =
-    let one : n + 1 ≡ suc n = omega arith in
-    let e : 0 + n ≡ n = omega arith in
-    ap (new_passes table 0) one ∙ new_passes_push table 0 n
-    ∙ ap (λ (t : ℕ). new_passes table 0 n ++ new_pass table t ∷ []) e
+new_passes_next table n = grind (arith, new_passes_push)

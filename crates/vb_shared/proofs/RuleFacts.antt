@@ -1,14 +1,9 @@
 -- Worked facts of the rule over the words, and of the three kinds of step.
-use Rattle.std.proofs.Common.{◌≡◌, ◌≢◌, ℕ, zero, suc, ◌+◌, ◌<◌, ◌≤◌, ◌==◌, ◌||◌, Bool, true, false}
-use Rattle.std.proofs.Common.{List, [], ◌∷◌, map, refl, sym, ap, subst, arith, ne_eqb}
-use Rattle.std.specs.Prelude.{slice_index}
-use mathlib.Core.Option.{some, some-ne-none, some-injective}
-use lib.ListN.{get_elem?}
-use Rattle.vb_model.specs.Tests.{one_if}
+use Rattle.std.proofs.Common.{◌≡◌, ◌≢◌, ℕ, ◌<◌, ◌≤◌, ◌||◌, Bool, true, false}
+use Rattle.std.proofs.Common.{List, [], ◌∷◌, map, refl, ap, arith, ne_eqb}
 use Rattle.vb_device.specs.Own.{has}
-use Rattle.vb_shared.specs.declared.rule.View.{View}
 use Rattle.vb_shared.specs.declared.rule.Size.{Size}
-use Rattle.vb_shared.specs.Rule.{holding, view_of, pass, count, count_all, IsTied, AllTied, IsKept}
+use Rattle.vb_shared.specs.Rule.{holding, view_of, pass, count, count_all, IsTied, IsKept}
 use Rattle.vb_shared.specs.Rule.{FrameRule, TryClaim, PutBack, Look, word_after, held_after}
 
 abbrev Same : ℕ → ℕ → Type 0
@@ -35,22 +30,10 @@ only : (a k : ℕ) → a ≢ k → has (a ∷ []) k ≡ false
 only a k other = ap (λ (b : Bool). b || false) (ne_eqb a k other)
 
 first_tied : IsTied 2 words (holding 0 (1 ∷ []))
-first_tied = (omega arith, each)
-  where
-    each : (f : ℕ) → (slice_index words f == 0 + 1) ≡ has (1 ∷ []) f
-    each zero = refl
-    each (suc zero) = refl
-    each (suc (suc zero)) = refl
-    each (suc (suc (suc f))) = sym (only 1 (suc (suc (suc f))) (λ e. omega arith))
+first_tied = grind (arith, only)
 
 second_tied : IsTied 2 words (holding 1 (2 ∷ []))
-second_tied = (omega arith, each)
-  where
-    each : (f : ℕ) → (slice_index words f == 1 + 1) ≡ has (2 ∷ []) f
-    each zero = refl
-    each (suc zero) = refl
-    each (suc (suc zero)) = refl
-    each (suc (suc (suc f))) = sym (only 2 (suc (suc (suc f))) (λ e. omega arith))
+second_tied = grind (arith, only)
 
 tag_of_nobody : IsTied 2 words (holding 2 []) → ⊥
 tag_of_nobody tied = let low : 2 < 2 = tied.0 in omega arith
@@ -67,31 +50,7 @@ lacks_its_own tied = let wrong : true ≡ false = tied.1 1 in cc
 -- ---- all passes and the words
 
 kept : IsKept sizes words (pass 0 (1 ∷ []) ∷ pass 1 (2 ∷ []) ∷ [])
-kept = record { wide = refl; small = low; tied = each; apart = once }
-  where
-    low : (f : ℕ) → slice_index words f ≤ 2
-    low zero = omega arith
-    low (suc zero) = omega arith
-    low (suc (suc zero)) = omega arith
-    low (suc (suc (suc f))) = omega arith
-
-    each : (i : ℕ) (v : View)
-        → get_elem? (pass 0 (1 ∷ []) ∷ pass 1 (2 ∷ []) ∷ []) i ≡ some v
-        → AllTied 2 words v.holdings
-    each zero v at =
-        subst (λ (x : View). AllTied 2 words x.holdings) (some-injective _ _ at) (first_tied, tt)
-    each (suc zero) v at =
-        subst (λ (x : View). AllTied 2 words x.holdings) (some-injective _ _ at) (second_tied, tt)
-    each (suc (suc i)) v at = absurd (some-ne-none v (sym at))
-
-    once : (tag : ℕ) → count_all tag (pass 0 (1 ∷ []) ∷ pass 1 (2 ∷ []) ∷ []) ≤ 1
-    once zero = omega arith
-    once (suc zero) = omega arith
-    once (suc (suc tag)) = omega (
-      arith,
-      ap one_if (ne_eqb 0 (suc (suc tag)) (λ e. omega arith)),
-      ap one_if (ne_eqb 1 (suc (suc tag)) (λ e. omega arith)),
-    )
+kept = grind (arith, first_tied, second_tied, ne_eqb)
 
 a_word_too_few : IsKept (record { frames = 4; guests = 2 }) words [] → ⊥
 a_word_too_few is = let wide : Same 3 4 = is.wide in omega arith

@@ -40,28 +40,8 @@ splits : (size : Size) (id : ℕ) (v : View) (left right : List Holding)
     → ((words : List ℕ) → AllTied size.guests words v.holdings
     → AllTied size.guests words left × AllTied size.guests words right)
     → Splits (Kept size) id v (view_of left) (view_of right)
-splits size id v left right counts ties s r at = record {
-  wide = r.wide;
-  small = r.small;
-  tied = λ i u e. ⊎_elim
-      (λ (was : get_elem? (set s.views id (view_of left)) i ≡ some u). ⊎_elim
-      (λ (t : (i ≡ id) × (view_of left ≡ u)).
-      subst (λ (y : View). AllTied size.guests s.words y.holdings) t.1 both.0)
-      (λ (t : (i ≢ id) × (get_elem? s.views i ≡ some u)). r.tied i u t.1)
-      (at_set s.views id i (view_of left) u was))
-      (λ (same : view_of right ≡ u).
-      subst (λ (y : View). AllTied size.guests s.words y.holdings) same both.1)
-      (at_snoc (set s.views id (view_of left)) (view_of right) u i e);
-  apart = λ tag.
-      let a = count_snoc tag (set s.views id (view_of left)) (view_of right) in
-      let b = count_set tag s.views id v (view_of left) at in
-      let c = counts tag in
-      let most = r.apart tag in
-      omega arith;
-}
-  where
-    both : AllTied size.guests s.words left × AllTied size.guests s.words right
-    both = ties s.words (r.tied id v at)
+splits size id v left right counts ties s r at =
+    grind (arith, at_set, at_snoc, count_snoc, count_set)
 
 pub all_goes : (size : Size) (id : ℕ) (v : View) → Splits (Kept size) id v no_view v
 all_goes size id v =
@@ -79,9 +59,7 @@ tied_first_rest guests words (p ∷ ps) tied = ((tied.0, tt), tied.1)
 
 pub rest_goes : (size : Size) (id : ℕ) (v : View)
     → Splits (Kept size) id v (view_of (first_of v.holdings)) (view_of (rest_of v.holdings))
-rest_goes size id v =
-    splits size id v (first_of v.holdings) (rest_of v.holdings) (λ tag. first_rest tag v.holdings)
-    (λ words tied. tied_first_rest size.guests words v.holdings tied)
+rest_goes size id v = search (arith, splits, first_rest, tied_first_rest)
 
 pub first_goes : (size : Size) (id : ℕ) (v : View)
     → Splits (Kept size) id v (view_of (rest_of v.holdings)) (view_of (first_of v.holdings))
@@ -154,20 +132,18 @@ meets size slots id me s r _ at _ = (
 new_tied : (guests : ℕ) (words : List ℕ) (tag n : ℕ) → tag + n ≤ guests
     → ((f : ℕ) → slice_index words f ≡ 0) → AllTied guests words (new_holdings tag n)
 new_tied guests words tag zero low free = tt
-new_tied guests words tag (suc n) low free = (
-  (
-    omega arith,
-    λ f. ne_eqb (slice_index words f) (tag + 1) (λ e. let zero_there = free f in omega arith),
-  ),
-  new_tied guests words (suc tag) n (omega arith) free,
-)
+new_tied guests words tag (suc n) low free =
+    grind (arith, new_tied guests words (suc tag) n (omega arith) free)
 
 new_none : (tag first n : ℕ) → tag < first → count tag (new_holdings first n) ≡ 0
 new_none tag first zero low = refl
 new_none tag first (suc n) low =
-    let rest = new_none tag (suc first) n (omega arith) in
-    let other : one_if (eqb first tag) ≡ 0 = ap one_if (ne_eqb first tag (λ e. omega arith)) in
-    omega arith
+    grind (
+      arith,
+      new_none tag (suc first) n (omega arith),
+      eqb first tag,
+      ne_eqb first tag (λ e. omega arith),
+    )
 
 new_once : (tag first n : ℕ) → count tag (new_holdings first n) ≤ 1
 new_once tag first zero = omega arith

@@ -157,10 +157,7 @@ that_one : (frame : Page) → frame.number ≡ 9 → AnswersAs (Some 9) (Gave fr
 that_one frame is = is
 
 another_one : (frame : Page) → frame.number ≡ 8 → AnswersAs (Some 9) (Gave frame) → ⊥
-another_one frame is given =
-    let eight : Same frame.number 8 = is in
-    let nine : Same frame.number 9 = given in
-    omega (arith, eight, nine)
+another_one frame is given = grind arith
 
 one_though_none : (frame : Page) → AnswersAs None (Gave frame) → ⊥
 one_though_none frame is = is
