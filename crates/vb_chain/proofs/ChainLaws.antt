@@ -39,24 +39,15 @@ single_chain d q end head x lt is stop fine = record {
 -- the flags say what they were made of
 pub flags_next : (more writable : Bool) (piece : Piece) (n : ℕ)
     → has_next (link_to (record piece { writable = writable }) more n) ≡ more
-flags_next true true piece n = refl
-flags_next true false piece n = refl
-flags_next false true piece n = refl
-flags_next false false piece n = refl
+flags_next more writable piece n = grind arith
 
 pub flags_writable : (more writable : Bool) (piece : Piece) (n : ℕ)
     → is_writable (link_to (record piece { writable = writable }) more n) ≡ writable
-flags_writable true true piece n = refl
-flags_writable true false piece n = refl
-flags_writable false true piece n = refl
-flags_writable false false piece n = refl
+flags_writable more writable piece n = grind arith
 
 pub flags_indirect : (more writable : Bool) (piece : Piece) (n : ℕ)
     → flag (link_to (record piece { writable = writable }) more n) 4 ≡ false
-flags_indirect true true piece n = refl
-flags_indirect true false piece n = refl
-flags_indirect false true piece n = refl
-flags_indirect false false piece n = refl
+flags_indirect more writable piece n = grind arith
 
 -- no rule is broken where each of them is kept
 pub no_fault : (q end : ℕ) (writing : Bool) (k : ℕ) (x : Descriptor) → flag x 4 ≡ false
@@ -144,8 +135,4 @@ written_chain d q end path pieces route pair short sound put =
 -- a chain has a piece, and no more pieces than the table has descriptors
 pub chain_size : (d : ℕ → Descriptor) (q end head : ℕ) (pieces : List Piece)
     → ChainGives d q end head pieces → (0 < length pieces) × (length pieces ≤ q)
-chain_size d q end head pieces gives =
-    let len : length pieces ≡ length gives.path =
-    ap (λ (xs : List Piece). length xs) gives.pieces_are
-    ∙ length-map gives.path (λ i. piece_of (d i)) in
-    (omega (arith, len, gives.chain.is_path.some), omega (arith, len, gives.chain.short))
+chain_size d q end head pieces gives = grind (arith, length-map)

@@ -30,20 +30,14 @@ little_field (suc n) mem p o i bytes read =
 pub field_first : (n : ℕ) (mem : Pages) (p at : ℕ) (bytes : List ℕ)
     → ((k : ℕ) → k < 16 → slice_index bytes k ≡ byte_at mem p (at + k)) → n ≤ 16
     → little_number n bytes ≡ field n mem p at
-field_first n mem p at bytes read fits =
-    little_field n mem p at 0 bytes (λ k l.
-    ap (slice_index bytes) (omega arith) ∙ read k (omega (arith, l, fits)))
+field_first n mem p at bytes read fits = grind (arith, little_field)
 
 -- n of 16 bytes, after some others
 pub field_after : (n : ℕ) (mem : Pages) (p at skip rest : ℕ) (bytes : List ℕ)
     → ((k : ℕ) → k < 16 → slice_index bytes k ≡ byte_at mem p (at + k)) → skip + n ≤ 16 → n ≤ rest
     → little_number n (take rest (drop skip bytes)) ≡ field n mem p (at + skip)
 field_after n mem p at skip rest bytes read fits within =
-    little_field n mem p (at + skip) 0 (take rest (drop skip bytes)) (λ k l.
-    ap (slice_index (take rest (drop skip bytes))) (omega arith)
-    ∙ get_or-take rest (drop skip bytes) k 0 (omega (arith, l, within))
-    ∙ get_or-drop skip bytes k 0 ∙ read (skip + k) (omega (arith, l, fits))
-    ∙ ap (byte_at mem p) (omega arith))
+    grind (arith, little_field, get_or-take, get_or-drop)
 
 -- where the bytes of a descriptor were written it stands
 pub descriptor_written : (old new : Pages) (p i : ℕ) (d : Descriptor) → FitsBytes d

@@ -1,7 +1,6 @@
 -- From one head there is one chain, or one fault, and not both.
 use Rattle.std.proofs.Common.{◌≡◌, ℕ, zero, suc, ◌+◌, ◌-◌, ◌<◌, ◌≤◌, List, true, false, Some, None}
-use Rattle.std.proofs.Common.{length, map, take, sym, ◌∙◌, ap, inl, inr, arith}
-use Rattle.std.proofs.Common.{add-one}
+use Rattle.std.proofs.Common.{length, take, sym, ◌∙◌, ap, inl, inr, arith}
 use Rattle.std.specs.Prelude.{slice_index}
 use Rattle.std.specs.List.{list_any}
 use Rattle.std.proofs.lemmas.List.{length-take-le, get_or-take}
@@ -10,7 +9,7 @@ use Rattle.std.proofs.lemmas.Bool.{cases_lt}
 use Rattle.vb_chain.specs.declared.descriptor.Descriptor.{Descriptor}
 use Rattle.vb_chain.specs.declared.pieces.Piece.{Piece}
 use Rattle.vb_chain.specs.declared.fault.ChainFault.{ChainFault}
-use Rattle.vb_chain.specs.Rules.{has_next, is_writable, piece_of, first_fault}
+use Rattle.vb_chain.specs.Rules.{has_next, is_writable, first_fault}
 use Rattle.vb_chain.specs.Chain.{IsPath, fault_at, IsChain, BreaksAt, ChainGives, FaultGives}
 
 -- two paths from one head go the same way
@@ -18,9 +17,7 @@ paths_agree : (d : ℕ → Descriptor) (head : ℕ) (p s : List ℕ) → IsPath 
     → (k : ℕ) → k < length p → k < length s → slice_index p k ≡ slice_index s k
 paths_agree d head p s a b zero h l = a.begins ∙ sym b.begins
 paths_agree d head p s a b (suc k) h l =
-    let before = paths_agree d head p s a b k (omega arith) (omega arith) in
-    ap (slice_index p) (sym (add-one k)) ∙ sym (a.linked k (omega arith))
-    ∙ ap (λ n. (d n).next) before ∙ b.linked k (omega arith) ∙ ap (slice_index s) (add-one k)
+    grind (arith, paths_agree d head p s a b k (omega arith) (omega arith))
 
 faults_agree : (d : ℕ → Descriptor) (q end head : ℕ) (p s : List ℕ) → IsPath d head p
     → IsPath d head s → (k : ℕ) → k < length p → k < length s
@@ -108,8 +105,7 @@ breaks_same d q end head p s f g a b =
 pub chain_is_one : (d : ℕ → Descriptor) (q end head : ℕ) (xs ys : List Piece)
     → ChainGives d q end head xs → ChainGives d q end head ys → xs ≡ ys
 chain_is_one d q end head xs ys a b =
-    a.pieces_are ∙ ap (map (λ i. piece_of (d i)))
-    (chains_same d q end head a.path b.path a.chain b.chain) ∙ sym b.pieces_are
+    grind (arith, chains_same d q end head a.path b.path a.chain b.chain)
 
 pub chain_or_fault : (d : ℕ → Descriptor) (q end head : ℕ) (xs : List Piece) (f : ChainFault)
     → ChainGives d q end head xs → FaultGives d q end head f → ⊥

@@ -1,6 +1,6 @@
 -- How far a walk has come, and what it says at its end.
 use Rattle.std.proofs.Common.{◌≡◌, ℕ, ◌+◌, ◌<◌, List, [], ◌∷◌, ◌++◌, Bool, true, false, ◌||◌, Some}
-use Rattle.std.proofs.Common.{None, length, map, take, refl, sym, ◌∙◌, ap, inl, inr, arith}
+use Rattle.std.proofs.Common.{None, length, map, take, sym, ◌∙◌, ap, inl, inr, arith}
 use Rattle.std.specs.Prelude.{slice_index}
 use Rattle.std.specs.List.{list_any}
 use Rattle.std.proofs.lemmas.List.{length_push, get_or_append_left, get_or_push, take-append-le}
@@ -26,38 +26,18 @@ pub record Walked (d : ℕ → Descriptor) (q end head : ℕ) (path : List ℕ) 
 
 pub walked_init : (d : ℕ → Descriptor) (q end head : ℕ) → head < q
     → Walked d q end head (head ∷ []) 0 head false []
-walked_init d q end head lt = record {
-  inside = lt;
-  is_path = record {
-    some = omega arith;
-    begins = refl;
-    onward = λ k h. absurd (omega arith);
-    linked = λ k h. absurd (omega arith);
-  };
-  count = omega arith;
-  last = refl;
-  sound = λ k h. absurd (omega arith);
-  writes = refl;
-  read = refl;
-}
+walked_init d q end head lt = grind arith
 
 -- what stands at a place that was visited is the same on the longer path
 pub fault_kept : (d : ℕ → Descriptor) (q end : ℕ) (path : List ℕ) (j k : ℕ) → k < length path
     → fault_at d q end (path ++ j ∷ []) k ≡ fault_at d q end path k
-fault_kept d q end path j k lt =
-    let before = take-append-le k path (j ∷ []) (omega arith) in
-    let here = get_or_append_left path (j ∷ []) 0 k lt in
-    ap (λ xs. first_fault q end (list_any (λ i. is_writable (d i)) xs) k
-    (d (slice_index (path ++ j ∷ []) k))) before
-    ∙ ap (λ n. first_fault q end (list_any (λ i. is_writable (d i)) (take k path)) k (d n)) here
+fault_kept d q end path j k lt = grind (arith, take-append-le, get_or_append_left)
 
 -- the rule that is broken at the last place
 pub fault_last : (d : ℕ → Descriptor) (q end head : ℕ) (path : List ℕ) (i index : ℕ)
     (writing : Bool) (pieces : List Piece) → Walked d q end head path i index writing pieces
     → fault_at d q end path i ≡ first_fault q end writing i (d index)
-fault_last d q end head path i index writing pieces w =
-    ap (λ b. first_fault q end b i (d (slice_index path i))) (sym w.writes)
-    ∙ ap (λ n. first_fault q end writing i (d n)) w.last
+fault_last d q end head path i index writing pieces w = grind arith
 
 pub walked_fault : (d : ℕ → Descriptor) (q end head : ℕ) (path : List ℕ) (i index : ℕ)
     (writing : Bool) (pieces : List Piece) (f : ChainFault)
