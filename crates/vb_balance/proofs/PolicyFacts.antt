@@ -1,7 +1,6 @@
 -- Worked facts of what guests can spare, of levels, and of targets that still serve.
-use Rattle.std.proofs.Common.{◌≡◌, ℕ, zero, suc, ◌+◌, ◌<◌, ◌≤◌, List, [], ◌∷◌, map, refl, arith}
-use Rattle.std.proofs.Common.{slice_index}
-use Rattle.vb_model.specs.Balance.{Need, spare_of, spare_at}
+use Rattle.std.proofs.Common.{◌≡◌, ℕ, ◌+◌, ◌≤◌, List, [], ◌∷◌, map, refl, arith}
+use Rattle.vb_model.specs.Balance.{Need, spare_of}
 use Rattle.vb_balance.specs.Levels.{spared_from, IsLevel}
 use Rattle.vb_balance.specs.Serving.{StillServe}
 
@@ -38,12 +37,7 @@ abbrev Serve : List ℕ → Type 0
 Serve targets = StillServe (needs_of 40 30) 100 targets
 
 serving : (a b : ℕ) → a ≤ 40 → b ≤ 30 → 28 ≤ a + b → Serve (a ∷ b ∷ [])
-serving a b l m enough = record { one_each = refl; within = within; enough = omega (arith, enough) }
-  where
-    within : (i : ℕ) → i < 2 → slice_index (a ∷ b ∷ []) i ≤ spare_at (needs_of 40 30) i
-    within zero q = l
-    within (suc zero) q = m
-    within (suc (suc i)) q = absurd (omega arith)
+serving a b l m enough = grind arith
 
 -- those that are answered, others with the same sum, and more than is missing
 answered : Serve (28 ∷ 0 ∷ [])

@@ -3,7 +3,6 @@ use Rattle.std.proofs.Common.{◌≡◌, ◌≢◌, ℕ, ◌+◌, ◌-◌, ◌<�
 use Rattle.std.proofs.Common.{get_or, set, map, sum, take, ap, sym, ◌∙◌, subst, arith}
 use Rattle.std.proofs.Common.{◌⊎◌, inl, inr, min}
 use Rattle.std.proofs.lemmas.Bool.{cases_order, cases_lt}
-use Rattle.std.proofs.lemmas.Bool.Decides.{eqb_tells}
 use Rattle.std.proofs.lemmas.List.{length-set, length-map, get_or-set_same, get_or-set_other}
 use Rattle.std.proofs.lemmas.List.{take_more_set, take_all}
 use Rattle.std.proofs.lemmas.List.Sums.{sum_by_more, sum_by_push, sum-map}
@@ -20,35 +19,19 @@ pub record Gives (spare level left target after : ℕ) : Type 0 where
 
 pub gives_at_it : (spare level left target after : ℕ) → spare ≡ level → target ≡ min level left
     → after ≡ left - target → Gives spare level left target after
-gives_at_it spare level left target after e t a = record {
-  above = λ more. absurd (omega (arith, e, more));
-  below = λ less. absurd (omega (arith, e, less));
-  at_it = λ same. (t, a);
-}
+gives_at_it spare level left target after e t a = grind arith
 
 pub gives_elsewhere : (spare level left target after : ℕ) → spare ≢ level
     → (level < spare → target ≡ spare) → (spare < level → target ≡ 0) → after ≡ left
     → Gives spare level left target after
-gives_elsewhere spare level left target after ne above below a = record {
-  above = λ more. (above more, a);
-  below = λ less. (below less, a);
-  at_it = λ same. absurd (ne same);
-}
+gives_elsewhere spare level left target after ne above below a = grind arith
 
 -- the guest that has just got its target, and those before it
 reads : (needs : List Need) (i : ℕ) (targets : List ℕ) (target : ℕ) (n : Need)
     → i < length targets → spare_at needs i ≡ n.spare → (k : ℕ) → k < i + 1
     → ((k ≡ i) × (get_or (set targets i target) k 0 ≡ target) × (spare_at needs k ≡ n.spare))
     ⊎ ((k < i) × (get_or (set targets i target) k 0 ≡ get_or targets k 0))
-reads needs i targets target n listed own k l = elim (eqb_tells k i) [
-  | inl same ↦ inl (
-    same.1,
-    ap (λ (m : ℕ). get_or (set targets i target) m 0) same.1
-        ∙ get_or-set_same targets i target 0 listed,
-    ap (λ (m : ℕ). spare_at needs m) same.1 ∙ own,
-  )
-  | inr other ↦ inr (omega (arith, l, other.1), get_or-set_other targets i k target 0 other.1)
-]
+reads needs i targets target n listed own k l = grind (arith, get_or-set_same, get_or-set_other)
 
 -- one more guest has its target
 pub one_more : (needs : List Need) (level rest i : ℕ) (targets : List ℕ)
@@ -170,18 +153,7 @@ all_before : (needs : List Need) (level rest : ℕ) (targets : List ℕ) (left i
     → AreGiven needs level rest (length needs) targets left → i < length needs
     → j < length needs → 0 < get_or targets i 0 → level ≤ spare_at needs i
     → GivesBefore needs j i → get_or targets j 0 ≡ spare_at needs j
-all_before needs level rest targets left i j s l m more reached (inl larger) =
-    s.above j m (omega (arith, reached, larger))
-all_before needs level rest targets left i j s l m more reached (inr first) =
-    elim (cases_order (spare_at needs i) level) [
-      | inl same ↦
-          let at_it : spare_at needs j ≡ level = omega (arith, same, first.0) in
-          omega (arith, s.in_turn i j l first.1 same at_it more, at_it)
-      | inr other ↦ elim other [
-        | inl less ↦ absurd (omega (arith, less, reached))
-        | inr above ↦ s.above j m (omega (arith, first.0, above))
-      ]
-    ]
+all_before needs level rest targets left i j s l m more reached h12 = grind arith
 
 -- targets by the level of what is missing
 pub by_level : (needs : List Need) (frames level lack rest : ℕ) (targets : List ℕ) (left : ℕ)

@@ -1,7 +1,6 @@
 -- What guests can spare together from a level on.
 use Rattle.std.proofs.Common.{◌≡◌, ℕ, zero, suc, ◌+◌, ◌<◌, ◌≤◌, List, [], ◌∷◌, length, get_or}
-use Rattle.std.proofs.Common.{map, sum_by, refl, ap, sym, arith, inl, inr}
-use Rattle.std.proofs.lemmas.Bool.{cases_lt}
+use Rattle.std.proofs.Common.{map, sum_by, refl, ap, sym, arith}
 use Rattle.std.proofs.lemmas.Bool.Decides.{nat_tests}
 use Rattle.std.proofs.lemmas.List.Sums.{sum_by-cons}
 use Rattle.vb_model.specs.Balance.{Need, spare_at}
@@ -38,8 +37,5 @@ pub counts_at_most : (level : ℕ) (needs : List Need) (i t : ℕ) → i < lengt
     → (level ≤ spare_at needs i → spare_at needs i ≤ t)
     → get_or (map (spare_from level) needs) i 0 ≤ t
 counts_at_most level [] i t l h = absurd (omega arith)
-counts_at_most level (n ∷ ns) zero t l h = elim (cases_lt n.spare level) [
-  | inl less ↦ omega (arith, falls_short level n less)
-  | inr more ↦ omega (arith, reaches level n more, h more)
-]
+counts_at_most level (n ∷ ns) zero t l h = grind arith
 counts_at_most level (n ∷ ns) (suc i) t l h = counts_at_most level ns i t (omega arith) h
