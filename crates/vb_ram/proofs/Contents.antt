@@ -1,24 +1,20 @@
 -- Laws of a page's bytes as one list, for the crates above.
-use Rattle.std.specs.Prelude.{◌≡◌, ℕ, ◌+◌, ◌-◌, ◌<◌, ◌≤◌, List, ◌++◌, Option, Some, None, length}
+use Rattle.std.specs.Prelude.{◌≡◌, ℕ, ◌+◌, ◌-◌, ◌<◌, ◌≤◌, List, ◌++◌, length}
 use Rattle.std.specs.Prelude.{slice_index, take, drop, refl, replicate, ◌⊎◌}
 use Rattle.std.proofs.Common.{sym, ◌∙◌, ap, arith, inl, inr}
-use Rattle.std.proofs.lemmas.Bool.{cases_eq, cases_lt}
+use Rattle.std.proofs.lemmas.Bool.{cases_lt}
 use Rattle.std.proofs.lemmas.List.{get_or-replicate, get_or_past, length-replicate, ext_get_or}
 use Rattle.std.proofs.lemmas.List.{length-take-le, length-drop, length-append, get_or-take}
 use Rattle.std.proofs.lemmas.List.{get_or-drop, get_or_append_left, get_or-append_right}
 use Rattle.vb_model.specs.Guest.{zero_page}
 use Rattle.vb_model.specs.Driver.{overwritten}
-use Rattle.vb_ram.specs.Pages.{Page, Pages, byte_of, contents_of, number_of, page_at, frame_at}
+use Rattle.vb_ram.specs.Pages.{Pages, page_at, frame_at}
 use Rattle.vb_ram.specs.Pages.{contents_at, byte_at, IsWhole, SameBut, Wrote, Supplied}
 use Rattle.vb_ram.specs.Pages.{Discarded}
 
 -- so many zeros, at any offset
 zeros-at : (n k : ℕ) → slice_index (replicate n 0) k ≡ 0
-zeros-at n k = elim (cases_lt k n) [
-  | inl lt ↦ get_or-replicate n k 0 0 lt
-  | inr past ↦ (let len : length (replicate {A = ℕ} n 0) ≡ n = length-replicate {A = ℕ} n 0 in
-      get_or_past (replicate {A = ℕ} n 0) k 0 (omega (arith, len)))
-]
+zeros-at n k = grind (arith, get_or-replicate, length-replicate, get_or_past)
 
 -- any list of 4096 zeros is the page of zeros
 pub zero_page_is : (n : ℕ) → n ≡ 4096 → replicate n 0 ≡ zero_page
@@ -36,26 +32,12 @@ zero_page-at o = ap (λ (xs : List ℕ). slice_index xs o) (sym (zero_page_is 40
 -- a byte is one of the page's bytes
 pub byte_at-contents : (mem : Pages) (p o : ℕ) → byte_at mem p o ≡ slice_index (contents_at mem p) o
 unfolding byte_at
-byte_at-contents mem p o = of_page (page_at mem p)
-  where
-    of_page : (page : Option Page) → byte_of page o ≡ slice_index (contents_of page) o
-    of_page None = sym (zero_page-at o)
-    of_page (Some page) = refl
+byte_at-contents mem p o = grind (arith, zero_page-at)
 
 -- pages of one frame's number and of equal bytes are one page
 pub same_page_at : (a b : Pages) (p : ℕ) → frame_at a p ≡ frame_at b p
     → contents_at a p ≡ contents_at b p → page_at a p ≡ page_at b p
-same_page_at a b p number bytes = of_pages (page_at a p) (page_at b p) number bytes
-  where
-    of_pages : (x y : Option Page) → number_of x ≡ number_of y → contents_of x ≡ contents_of y
-        → x ≡ y
-    of_pages None None e f = refl
-    of_pages None (Some y) e f = cc
-    of_pages (Some x) None e f = cc
-    of_pages (Some x) (Some y) e f =
-        let same_number : x.number ≡ y.number = cc in
-        ap (λ (n : ℕ). Some (record { number = n; bytes = x.bytes })) same_number
-        ∙ ap (λ (bs : List ℕ). Some (record { number = y.number; bytes = bs })) f
+same_page_at a b p number bytes = grind arith
 
 -- pages of as many bytes, equal at each offset, have the same bytes
 pub same_contents : (a b : Pages) (p : ℕ) → length (contents_at a p) ≡ length (contents_at b p)
@@ -130,19 +112,7 @@ whole_but old new p lo hi whole but = record { sizes = λ q. but.sizes q ∙ who
 
 pub whole_supplied : (old new : Pages) (p number : ℕ) → IsWhole old → Supplied old new p number
     → IsWhole new
-whole_supplied old new p number whole s = record {
-  sizes = λ q. elim (cases_eq q p) [
-    | inl same ↦ ap (λ n. length (contents_at new n)) same
-        ∙ ap (λ (bs : List ℕ). length bs) s.contents ∙ length-zero_page
-    | inr ne ↦ ap (λ page. length (contents_of page)) (s.others q ne) ∙ whole.sizes q
-  ];
-}
+whole_supplied old new p number whole s = grind (arith, length-zero_page)
 
 pub whole_discarded : (old new : Pages) (p : ℕ) → IsWhole old → Discarded old new p → IsWhole new
-whole_discarded old new p whole d = record {
-  sizes = λ q. elim (cases_eq q p) [
-    | inl same ↦ ap (λ n. length (contents_at new n)) same
-        ∙ ap (λ page. length (contents_of page)) d.bare ∙ length-zero_page
-    | inr ne ↦ ap (λ page. length (contents_of page)) (d.others q ne) ∙ whole.sizes q
-  ];
-}
+whole_discarded old new p whole d = grind (arith, length-zero_page)

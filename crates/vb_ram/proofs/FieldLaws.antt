@@ -13,10 +13,7 @@ pub field_in : (n : ℕ) (old new : Pages) (p lo hi o : ℕ) → SameIn old new 
 unfolding field
 field_in zero old new p lo hi o same l h = refl
 field_in (suc n) old new p lo hi o same l h =
-    let first : byte_at new p o ≡ byte_at old p o = same.bytes o l (omega arith) in
-    let more : field n new p (o + 1) ≡ field n old p (o + 1) =
-    field_in n old new p lo hi (o + 1) same (omega arith) (omega arith) in
-    omega (arith, first, more)
+    grind (arith, field_in n old new p lo hi (o + 1) same (omega arith) (omega arith))
 
 -- what was written elsewhere left these bytes alone
 pub same_below : (old new : Pages) (p a b lo hi : ℕ) → SameBut old new p a b → hi ≤ a
@@ -43,75 +40,30 @@ same_trans m1 m2 m3 p lo hi a b = record { bytes = λ o l u. b.bytes o l u ∙ a
 -- writes within one range, one after the other
 pub but_trans : (m1 m2 m3 : Pages) (p lo hi : ℕ) → SameBut m1 m2 p lo hi → SameBut m2 m3 p lo hi
     → SameBut m1 m3 p lo hi
-but_trans m1 m2 m3 p lo hi a b = record {
-  below = λ o h. b.below o h ∙ a.below o h;
-  above = λ o h. b.above o h ∙ a.above o h;
-  others = λ q ne. b.others q ne ∙ a.others q ne;
-  backing = λ q. b.backing q ∙ a.backing q;
-  sizes = λ q. b.sizes q ∙ a.sizes q;
-  count = b.count ∙ a.count;
-}
+but_trans m1 m2 m3 p lo hi a b = grind arith
 
 pub but_wider : (old new : Pages) (p a b lo hi : ℕ) → SameBut old new p a b → lo ≤ a → b ≤ hi
     → SameBut old new p lo hi
-but_wider old new p a b lo hi w l h = record {
-  below = λ o u. w.below o (omega arith);
-  above = λ o u. w.above o (omega arith);
-  others = w.others;
-  backing = w.backing;
-  sizes = w.sizes;
-  count = w.count;
-}
+but_wider old new p a b lo hi w l h = grind arith
 
 -- the fields that bytes read one by one make
 pub field_2 : (mem : Pages) (p o : ℕ) (bs : List ℕ)
     → ((k : ℕ) → k < 2 → slice_index bs k ≡ byte_at mem p (o + k))
     → field 2 mem p o ≡ from_le_bytes w16 bs
 unfolding field
-field_2 mem p o bs h =
-    let e0 : byte_at mem p o ≡ slice_index bs 0 =
-    ap (byte_at mem p) (omega arith) ∙ sym (h 0 (omega arith)) in
-    let e1 : byte_at mem p (o + 1) ≡ slice_index bs 1 =
-    ap (byte_at mem p) (omega arith) ∙ sym (h 1 (omega arith)) in
-    omega arith
+field_2 mem p o bs h = grind arith
 
 pub field_4 : (mem : Pages) (p o : ℕ) (bs : List ℕ)
     → ((k : ℕ) → k < 4 → slice_index bs k ≡ byte_at mem p (o + k))
     → field 4 mem p o ≡ from_le_bytes w32 bs
 unfolding field
-field_4 mem p o bs h =
-    let e0 : byte_at mem p o ≡ slice_index bs 0 =
-    ap (byte_at mem p) (omega arith) ∙ sym (h 0 (omega arith)) in
-    let e1 : byte_at mem p (o + 1) ≡ slice_index bs 1 =
-    ap (byte_at mem p) (omega arith) ∙ sym (h 1 (omega arith)) in
-    let e2 : byte_at mem p (o + 1 + 1) ≡ slice_index bs 2 =
-    ap (byte_at mem p) (omega arith) ∙ sym (h 2 (omega arith)) in
-    let e3 : byte_at mem p (o + 1 + 1 + 1) ≡ slice_index bs 3 =
-    ap (byte_at mem p) (omega arith) ∙ sym (h 3 (omega arith)) in
-    omega arith
+field_4 mem p o bs h = grind arith
 
 pub field_8 : (mem : Pages) (p o : ℕ) (bs : List ℕ)
     → ((k : ℕ) → k < 8 → slice_index bs k ≡ byte_at mem p (o + k))
     → field 8 mem p o ≡ from_le_bytes w64 bs
 unfolding field
-field_8 mem p o bs h =
-    let e0 : byte_at mem p o ≡ slice_index bs 0 =
-    ap (byte_at mem p) (omega arith) ∙ sym (h 0 (omega arith)) in
-    let e1 : byte_at mem p (o + 1) ≡ slice_index bs 1 =
-    ap (byte_at mem p) (omega arith) ∙ sym (h 1 (omega arith)) in
-    let e2 : byte_at mem p (o + 1 + 1) ≡ slice_index bs 2 =
-    ap (byte_at mem p) (omega arith) ∙ sym (h 2 (omega arith)) in
-    let e3 : byte_at mem p (o + 1 + 1 + 1) ≡ slice_index bs 3 =
-    ap (byte_at mem p) (omega arith) ∙ sym (h 3 (omega arith)) in
-    let e4 : byte_at mem p (o + 1 + 1 + 1 + 1) ≡ slice_index bs 4 =
-    ap (byte_at mem p) (omega arith) ∙ sym (h 4 (omega arith)) in
-    let e5 : byte_at mem p (o + 1 + 1 + 1 + 1 + 1) ≡ slice_index bs 5 =
-    ap (byte_at mem p) (omega arith) ∙ sym (h 5 (omega arith)) in
-    let e6 : byte_at mem p (o + 1 + 1 + 1 + 1 + 1 + 1) ≡ slice_index bs 6 =
-    ap (byte_at mem p) (omega arith) ∙ sym (h 6 (omega arith)) in
-    let e7 : byte_at mem p (o + 1 + 1 + 1 + 1 + 1 + 1 + 1) ≡ slice_index bs 7 =
-    ap (byte_at mem p) (omega arith) ∙ sym (h 7 (omega arith)) in
-    omega arith
+field_8 mem p o bs h = grind arith
 
 -- what a number's bytes put
 pub put_2 : (old new : Pages) (p o x : ℕ) → x < 2 ^ 16 → Wrote old new p o (to_le_bytes w16 x)

@@ -1,12 +1,11 @@
 -- What a memory is where one of its pages was exchanged.
-use Rattle.std.proofs.Common.{◌≡◌, ◌≢◌, ℕ, zero, suc, ◌+◌, ◌<◌, List, Option, Some, None, length}
-use Rattle.std.proofs.Common.{slice_index, get_or, set, replicate, refl, sym, ◌∙◌, ap, inl, inr, subst, arith}
-use Rattle.std.proofs.lemmas.Bool.{cases_eq}
+use Rattle.std.proofs.Common.{◌≡◌, ℕ, zero, suc, ◌+◌, ◌<◌, List, Option, Some, None, length}
+use Rattle.std.proofs.Common.{get_or, set, replicate, refl, sym, ◌∙◌, ap, subst, arith}
 use Rattle.std.proofs.lemmas.List.{get_or-set_same, get_or-set_other, get_or_default, length-set}
 use Rattle.std.proofs.lemmas.List.{get_or_past}
 use Rattle.vb_model.specs.Guest.{zero_page}
-use Rattle.vb_ram.specs.Pages.{Page, Pages, byte_of, byte_at, number_of, contents_of, page_at}
-use Rattle.vb_ram.specs.Pages.{frame_at, contents_at, IsWhole, Wrote, Supplied, Cleared, SameBut}
+use Rattle.vb_ram.specs.Pages.{Page, Pages, byte_of, byte_at, contents_of, page_at}
+use Rattle.vb_ram.specs.Pages.{IsWhole, Wrote, Supplied, Cleared, SameBut}
 use Rattle.vb_ram.proofs.Contents.{length-zero_page, zero_page-at}
 use Rattle.vb_ram.specs.Memory.{IsMemory}
 use Rattle.vb_ram.specs.Put.{PutAt}
@@ -27,60 +26,19 @@ pub wrote : (mem : Pages) (p off : ℕ) (bs : List ℕ) (f g : Page) → p < len
     → PutAt f.bytes g.bytes off bs → Wrote mem (set mem p (Some g)) p off bs
 unfolding byte_at
 wrote mem p off bs f g lt was same_number same_length put =
-    let now : page_at (set mem p (Some g)) p ≡ Some g = get_or-set_same mem p (Some g) None lt in
-    let apart : (q : ℕ) → q ≢ p → page_at (set mem p (Some g)) q ≡ page_at mem q =
-    λ q ne. get_or-set_other mem p q (Some g) None ne in
-    record {
-      written = λ k h. ap (λ w. byte_of w (off + k)) now ∙ put.written k h;
-      rest = record {
-        below = λ o h. ap (λ w. byte_of w o) now ∙ put.below o h ∙ sym (ap (λ w. byte_of w o) was);
-        above = λ o h. ap (λ w. byte_of w o) now ∙ put.above o h ∙ sym (ap (λ w. byte_of w o) was);
-        others = apart;
-        backing = λ q. elim (cases_eq q p) [
-          | inl same ↦ ap (λ n. frame_at (set mem p (Some g)) n) same ∙ ap number_of now
-              ∙ ap Some same_number ∙ sym (ap number_of was) ∙ sym (ap (λ n. frame_at mem n) same)
-          | inr ne ↦ ap number_of (apart q ne)
-        ];
-        sizes = λ q. elim (cases_eq q p) [
-          | inl same ↦ ap (λ n. length (contents_at (set mem p (Some g)) n)) same
-              ∙ ap (λ w. length (contents_of w)) now ∙ same_length
-              ∙ sym (ap (λ w. length (contents_of w)) was)
-              ∙ sym (ap (λ n. length (contents_at mem n)) same)
-          | inr ne ↦ ap (λ w. length (contents_of w)) (apart q ne)
-        ];
-        count = length-set mem p (Some g);
-      };
-    }
+    grind (arith, get_or-set_same, get_or-set_other, length-set)
 
 -- a page has been exchanged for one of zeros
 pub supplied : (mem : Pages) (p : ℕ) (f : Page) → p < length mem → f.bytes ≡ zero_page
     → Supplied mem (set mem p (Some f)) p f.number
 unfolding byte_at
 supplied mem p f lt zeros =
-    let now : page_at (set mem p (Some f)) p ≡ Some f = get_or-set_same mem p (Some f) None lt in
-    record {
-      zero = λ o. ap (λ w. byte_of w o) now ∙ ap (λ (bs : List ℕ). get_or bs o 0) zeros
-          ∙ zero_page-at o;
-      contents = ap contents_of now ∙ zeros;
-      backed = ap number_of now;
-      others = λ q ne. get_or-set_other mem p q (Some f) None ne;
-      count = length-set mem p (Some f);
-    }
+    grind (arith, get_or-set_same, zero_page-at, get_or-set_other, length-set)
 
 -- memory stays whole where a page is exchanged for a whole one
 pub is_memory-set : (count : ℕ) (mem : Pages) (p : ℕ) (page : Option Page) → p < length mem
     → IsMemory count mem → length (contents_of page) ≡ 4096 → IsMemory count (set mem p page)
-is_memory-set count mem p page lt is full = record {
-  few = is.few;
-  whole = record {
-    sizes = λ q. elim (cases_eq q p) [
-      | inl same ↦ ap (λ n. length (contents_at (set mem p page) n)) same
-          ∙ ap (λ w. length (contents_of w)) (get_or-set_same mem p page None lt) ∙ full
-      | inr ne ↦ ap (λ w. length (contents_of w)) (get_or-set_other mem p q page None ne)
-          ∙ is.whole.sizes q
-    ];
-  };
-}
+is_memory-set count mem p page lt is full = grind (arith, get_or-set_same, get_or-set_other)
 
 -- pages without frames
 pub bare_at : (n q : ℕ) → page_at (replicate n None) q ≡ None
@@ -105,10 +63,4 @@ cleared old new p put =
 
 -- the page of zeros stands where it was put
 pub put_zeros : (old : List ℕ) → length old ≡ 4096 → PutAt old zero_page 0 zero_page
-put_zeros old whole = record {
-  written = λ k lt. let from_start : 0 + k ≡ k = omega arith in ap (slice_index zero_page) from_start;
-  below = λ o lt. absurd (omega arith);
-  above = λ o past.
-      get_or_past zero_page o 0 (omega (arith, length-zero_page))
-      ∙ sym (get_or_past old o 0 (omega (arith, length-zero_page, whole)));
-}
+put_zeros old whole = grind (arith, get_or_past, length-zero_page)
