@@ -14,12 +14,7 @@ of_length n (entry ∷ table) =
 
 -- words of other lengths are others
 other_word : (name word : List ℕ) → length name ≢ length word → bytes_eq name word ≡ false
-other_word name word differ = at (bytes_eq name word) refl
-  where
-    at : (b : Bool) → bytes_eq name word ≡ b → bytes_eq name word ≡ false
-    at false e = e
-    at true e =
-        absurd (differ (ap (λ (letters : List ℕ). length letters) ((bytes_eq-Decides name word).0 e)))
+other_word name word differ = grind (arith, bytes_eq-Decides)
 
 -- a word means what it means among the words of its length
 pub by_length : {T : Type 0} (table : List (List ℕ × T)) (word : List ℕ) (n : ℕ) → length word ≡ n

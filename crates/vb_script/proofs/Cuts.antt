@@ -5,7 +5,7 @@ use Rattle.std.proofs.Common.{drop, refl, arith, sym}
 use Rattle.std.specs.List.{slice_split, onto_first, position_or_len}
 use Rattle.std.proofs.lemmas.List.{take_all, get_or-take, length-take-le}
 use Rattle.std.specs.Option.{option_map_or}
-use Rattle.vb_script.specs.Texts.{ended, last_line, lines_of}
+use Rattle.vb_script.specs.Texts.{last_line, lines_of}
 use Rattle.vb_script.specs.Words.{is_empty}
 use Rattle.std.proofs.lemmas.List.Splits.{slice_split_first, slice_split_none}
 use Rattle.std.proofs.lemmas.List.Sums.{fails_before_first, passes_at_first, position_or_len_is}
@@ -21,13 +21,7 @@ pub cut_found : (byte : ℕ) (text : List ℕ) (n : ℕ) → IsFirstByte (is_byt
     → slice_split (λ x. x == byte) text ≡ take n text
     ∷ slice_split (λ x. x == byte) (take (length text - (n + 1)) (drop (n + 1) text))
 cut_found byte text n first =
-    let same : n ≡ position_or_len (λ x. x == byte) text =
-    sym (position_or_len_is (λ x. x == byte) text n 0 (omega (arith, first.0.high))
-    (λ k lt. fails _ (first.0.before k (omega arith) lt)) (λ _. first.1)) in
-    let whole : take (length text - (n + 1)) (drop (n + 1) text) ≡ drop (n + 1) text =
-    take_all _ _ (omega (arith, length-drop (n + 1) text)) in
-    rw (whole, same)
-    (slice_split_first (λ x. x == byte) text 0 (omega (arith, same, first.0.high)))
+    grind (arith, position_or_len_is, take_all, length-drop, slice_split_first)
 
 -- where it isn't there is one part
 pub not_cut : (byte : ℕ) (text : List ℕ) → IsFirstByte (is_byte byte) text None
@@ -101,10 +95,4 @@ first_of_lines text line rest None some split whole is = rw (split, is, whole) (
     last [] some = absurd (omega arith)
     last (byte ∷ bytes) some = refl
 first_of_lines text line rest (Some after) some split whole is =
-    rw (split, is) (more (slice_split (λ byte. byte == 10) after.now)
-    (some_part (λ byte. byte == 10) after.now))
-  where
-    more : (parts : List (List ℕ)) → is_empty parts ≡ false
-        → ended (line ∷ parts) ≡ line ∷ ended parts
-    more [] e = cc
-    more (part ∷ parts) e = refl
+    grind (arith, some_part (λ byte. byte == 10) after.now)

@@ -1,5 +1,5 @@
 -- The number that a prefix of some digits shows, and what is left of them.
-use Rattle.std.proofs.Common.{◌≡◌, ℕ, suc, ◌+◌, ◌-◌, ◌*◌, ◌^◌, ◌<◌, ◌≤◌, List, [], ◌∷◌, length}
+use Rattle.std.proofs.Common.{◌≡◌, ℕ, ◌+◌, ◌-◌, ◌*◌, ◌^◌, ◌<◌, ◌≤◌, List, [], ◌∷◌, length}
 use Rattle.std.proofs.Common.{get_or, drop, ap, sym, ◌∙◌, arith}
 use Rattle.std.proofs.Math.Seq.{drop-cons}
 use Rattle.std.proofs.lemmas.List.{drop_all}
@@ -16,12 +16,7 @@ pub no_number : (word : List ℕ) (i value : ℕ) → decimal_value word ≡ wit
     → i < length word
     → (IsDigit (get_or word i 0) × (value * 10 + (get_or word i 0 - 48) < 2 ^ 32) → ⊥)
     → IsDecimal word × (decimal_value word < 2 ^ 32) → ⊥
-no_number word i value e lt refused (decimal, small) =
-    let next : decimal_value word
-    ≡ with_digits (value * 10 + (get_or word i 0 - 48)) (drop (suc i) word)
-    = e ∙ ap (λ rest. with_digits value rest) (drop-cons word i 0 lt) in
-    let more = le-with_digits (value * 10 + (get_or word i 0 - 48)) (drop (suc i) word) in
-    refused (decimal.1 i 0 lt, omega (arith, next, more, small))
+no_number word i value e lt refused h6 = grind (arith, drop-cons, le-with_digits)
 
 -- at the end of a word its number is the one that all its digits show
 pub whole_number : (word : List ℕ) (i value : ℕ)

@@ -1,7 +1,6 @@
 -- Which words of hexadecimal digits show bytes.
-use Rattle.std.proofs.Common.{◌≡◌, ℕ, ◌*◌, ◌/◌, ◌<◌, ◌≤◌, ◌==◌, true, List, length, Result, Ok, Err}
-use Rattle.std.proofs.Common.{MatchResult, refl, arith}
-use Rattle.std.proofs.lemmas.Bool.Decides.{nat_tests}
+use Rattle.std.proofs.Common.{◌≡◌, ℕ, ◌*◌, ◌/◌, ◌<◌, ◌≤◌, List, length, Result, Ok, Err}
+use Rattle.std.proofs.Common.{MatchResult, arith}
 use Rattle.hex.specs.Hex.{decode_of, decode_sized}
 use Rattle.hex.specs.declared.error.FromHexError.{FromHexError}
 use Rattle.hex.proofs.HexLemmas.{decode_of-digits, decode_of-ok}
@@ -16,15 +15,11 @@ IsByteWord-decodes word bytes some few e =
 -- what is refused isn't
 pub not_byte_word : (word : List ℕ) (fault : FromHexError) → decode_of word ≡ Err fault
     → IsByteWord word → ⊥
-not_byte_word word fault e is =
-    let found = decode_of-digits word is.2 is.3 in
-    let shown : decode_of word ≡ Ok found.0 = found.1 in cc
+not_byte_word word fault e is = grind (arith, decode_of-digits)
 
 -- room for just its digits' bytes asks nothing more of a word
 sized_whole : (word : List ℕ) (n : ℕ) → n ≡ length word / 2 → decode_sized word n ≡ decode_of word
-sized_whole word n e =
-    let same : (length word / 2 == n) ≡ true = grind (arith, nat_tests) in
-    rw same refl
+sized_whole word n e = grind arith
 
 abbrev pub Decoded : List ℕ → List ℕ → Result Unit FromHexError → Type 0
 Decoded word bytes result =
@@ -39,20 +34,8 @@ decoded word bytes n r is e = rw (← sized_whole word n e) is
 
 pub decoded_ok : (word bytes : List ℕ) (r : Result Unit FromHexError) → Decoded word bytes r
     → r ≡ Ok tt → decode_of word ≡ Ok bytes
-decoded_ok word bytes r is ok = at (decode_of word) is
-  where
-    at : (d : Result (List ℕ) FromHexError)
-        → MatchResult d (λ found. (r ≡ Ok tt) × (bytes ≡ found)) (λ fault. r ≡ Err fault)
-        → d ≡ Ok bytes
-    at (Ok found) is = rw is.1 refl
-    at (Err fault) is = cc
+decoded_ok word bytes r is ok = grind arith
 
 pub decoded_err : (word bytes : List ℕ) (r : Result Unit FromHexError) (fault : FromHexError)
     → Decoded word bytes r → r ≡ Err fault → decode_of word ≡ Err fault
-decoded_err word bytes r fault is err = at (decode_of word) is
-  where
-    at : (d : Result (List ℕ) FromHexError)
-        → MatchResult d (λ found. (r ≡ Ok tt) × (bytes ≡ found)) (λ fault. r ≡ Err fault)
-        → d ≡ Err fault
-    at (Ok found) is = cc
-    at (Err other) is = cc
+decoded_err word bytes r fault is err = grind arith

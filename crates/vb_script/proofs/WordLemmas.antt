@@ -1,22 +1,19 @@
 -- What tells a word of digits from other words, as a test.
-use Rattle.std.proofs.Common.{◌≡◌, ℕ, ◌*◌, ◌^◌, ◌<◌, ◌≤◌, ◌&&◌, Bool, true, false, cond, ltb, leb}
+use Rattle.std.proofs.Common.{◌≡◌, ℕ, ◌*◌, ◌^◌, ◌<◌, ◌≤◌, ◌&&◌, Bool, cond, ltb, leb}
 use Rattle.std.proofs.Common.{List, length, Option, Some, None, Ok, Err, SomeIff, IsOk, MatchOption}
-use Rattle.std.proofs.Common.{All, Decides, refl, ap, arith}
+use Rattle.std.proofs.Common.{All, Decides, refl, arith}
 use Rattle.std.specs.List.{list_all}
-use Rattle.std.proofs.lemmas.Bool.Decides.{Decides-and, Decides-ltb, Decides-by_and, nat_tests}
+use Rattle.std.proofs.lemmas.Bool.Decides.{Decides-and, Decides-by_and, nat_tests}
 use Rattle.hex.specs.Hex.{decode_of, decode_sized}
 use Rattle.hex.specs.declared.error.FromHexError.{FromHexError}
 use Rattle.vb_script.specs.Numbers.{IsDigit, IsDecimal, ShowsBits, decimal_value}
-use Rattle.vb_script.specs.Values.{bytes_of, features_of, bits_in, value_in}
+use Rattle.vb_script.specs.Values.{bytes_of, features_of}
 use Rattle.vb_script.specs.Words.{is_digit, number_of}
 
 -- a value that is there exactly where a fact holds is there where its test passes
 some_where : {T : Type 0} {P : Type 0} (r : Option T) (b : Bool) (v : T) → SomeIff r P v
     → Decides b P → r ≡ cond b (Some v) None
-some_where None true v not d = absurd (not (d.0 refl))
-some_where None false v not d = refl
-some_where (Some x) true v is d = ap Some is.1
-some_where (Some x) false v is d = let same : false ≡ true = d.1 is.0 in cc
+some_where r b v not d = grind arith
 
 Decides-leb : (a b : ℕ) → Decides (leb a b) (a ≤ b)
 Decides-leb a b = (λ t. grind (arith, nat_tests), λ le. grind (arith, nat_tests))
@@ -32,9 +29,7 @@ Decides-digits word =
 Decides-decimal : (word : List ℕ)
     → Decides ((ltb 0 (length word) && list_all is_digit word) && ltb (decimal_value word) (2 ^ 32))
     (IsDecimal word × (decimal_value word < 2 ^ 32))
-Decides-decimal word =
-    Decides-and _ _ (Decides-and _ _ (Decides-ltb 0 (length word)) (Decides-digits word))
-    (Decides-ltb (decimal_value word) (2 ^ 32))
+Decides-decimal word = search (arith, Decides-digits)
 
 pub number_shown : (word : List ℕ) (r : Option ℕ)
     → SomeIff r (IsDecimal word × (decimal_value word < 2 ^ 32)) (decimal_value word)
@@ -46,31 +41,19 @@ pub features_shown : (word : List ℕ) (r : Option ℕ)
     → MatchOption r (¬ IsOk (decode_sized word 8)) (λ bits. ShowsBits word bits)
     → r ≡ features_of word
 unfolding features_of
-features_shown word None not = none (decode_sized word 8) not
-  where
-    none : (d : _) → ¬ IsOk d → None ≡ bits_in d
-    none (Ok bytes) not = absurd (not refl)
-    none (Err fault) not = refl
-features_shown word (Some bits) shown = rw shown.1 (ap Some shown.2)
+features_shown word r not = grind arith
 
 pub bytes_read : (word bytes : List ℕ) → 0 < length word → length word ≤ 2 * 4096
     → decode_of word ≡ Ok bytes → bytes_of word ≡ Some bytes
 unfolding bytes_of
-bytes_read word bytes some few is =
-    let first : ltb 0 (length word) ≡ true = grind (arith, nat_tests) in
-    let second : leb (length word) (2 * 4096) ≡ true = grind (arith, nat_tests) in
-    rw (first, second, is) refl
+bytes_read word bytes some few is = grind (arith, ltb, leb)
 
 pub no_bytes : (word : List ℕ) (fault : FromHexError) → decode_of word ≡ Err fault
     → bytes_of word ≡ None
 unfolding bytes_of
-no_bytes word fault is =
-    elim (ltb 0 (length word) && leb (length word) (2 * 4096)) as
-    (λ b. cond b (value_in (decode_of word)) None ≡ None) [ true ↦ rw is refl | false ↦ refl ]
+no_bytes word fault is = grind (arith, leb)
 
 pub bytes_out_of_range : (word : List ℕ) → (0 < length word → length word ≤ 2 * 4096 → ⊥)
     → bytes_of word ≡ None
 unfolding bytes_of
-bytes_out_of_range word not =
-    let test : ltb 0 (length word) && leb (length word) (2 * 4096) ≡ false =
-    grind (arith, nat_tests) in rw test refl
+bytes_out_of_range word not = grind (arith, ltb, leb)
