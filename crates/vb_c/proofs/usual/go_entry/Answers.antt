@@ -24,5 +24,5 @@ returns-in-Some-clause-went c e =
       head = c.args.head;
       rest = rest;
       asks = ap (λ (l : List Access). l ++ rest) does;
-      goes_on = c.in-Some.ensures s after outcome (room_in c.args.room.now) rest h;
+      goes_on = c.in-Some.ensures.goes s after outcome (room_in c.args.room.now) rest h;
     })

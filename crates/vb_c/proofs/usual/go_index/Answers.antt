@@ -30,7 +30,7 @@ returns-in-Some-clause-went c e =
       index = c.args.index;
       rest = rest;
       asks = ap (λ (l : List Access). l ++ rest) does;
-      goes_on = c.in-Some.ensures after outcome (room_in c.args.room.now) rest h;
+      goes_on = c.in-Some.ensures.goes after outcome (room_in c.args.room.now) rest h;
     })
 
 pub returns-in-Some-flags_after-clause-went : goal.returns-in-Some-flags_after-clause-went
@@ -50,5 +50,5 @@ returns-in-Some-flags_after-clause-went c e =
       index = c.args.index;
       rest = rest;
       asks = ap (λ (l : List Access). l ++ rest) does;
-      goes_on = c.in-Some-flags_after.ensures after outcome (room_in c.args.room.now) rest h;
+      goes_on = c.in-Some-flags_after.ensures.goes after outcome (room_in c.args.room.now) rest h;
     })
