@@ -6,6 +6,7 @@ use Rattle.vb_monitor.specs.declared.room.TheConstants.{MAX_BYTES}
 use Rattle.vb_core.specs.declared.kinds.Kind.{Kind}
 use Rattle.vb_core.specs.declared.device.Device.{Device}
 use Rattle.vb_monitor.specs.declared.regions.Region.{Region}
+use Rattle.vb_monitor.specs.declared.orders.TheConstants.{MAX_CUTS}
 use Rattle.vb_monitor.specs.declared.orders.Told.TheVariants.{Nothing}
 use Rattle.vb_monitor.specs.declared.orders.Asked.{Asked}
 use Rattle.vb_monitor.specs.declared.balloon.Balloon.{Balloon}
@@ -78,6 +79,9 @@ no_bits n = omega arith
 abbrev nothing : Asked
 nothing = record { told = Nothing; gives = false }
 
+no_cuts : (n : ℕ) → n ≡ 0 → n ≤ MAX_CUTS
+no_cuts n e = omega (arith, e)
+
 -- where nothing is done before the notice waits, and nothing changes but what it says, and the room
 pub goes_usual : (kind : Kind) (p q : Phase) (s t : Tally) (regions : List Region) (answer : ℕ)
     (b : Balloon) (r1 r2 : VbRoom) (c1 c2 : VbNotice) →
@@ -114,6 +118,7 @@ goes_usual kind p q s t regions answer b r1 r2 c1 c2 k1 e1 f1 k2 e2 f2 says what
             subst (λ (k : ℕ). AheadAt q (whole regions kind after outcome) t b.device
             (room_of pieces bytes r2.runs figures) (map Discard (take k r2.cuts) ++ rest))
             (sym none) h;
+        room = record { runs = λ e. cc; figures = λ e. cc; cuts = no_cuts c2.orders.cuts none };
         waits_now = w;
         fits = fits;
         held = sym over;

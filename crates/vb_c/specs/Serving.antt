@@ -19,7 +19,7 @@ use Rattle.vb_monitor.specs.Accesses.{Access}
 use Rattle.vb_monitor.specs.Balloons.{may_look, held_after}
 use Rattle.vb_monitor.specs.Notices.{Serves, Asks}
 use Rattle.vb_monitor.specs.Machine.{Fits, waits, Room, Ahead, Awaited, whole, room_of, outcome_at}
-use Rattle.vb_monitor.specs.Orders.{at_once}
+use Rattle.vb_monitor.specs.Orders.{at_once, HasRoom}
 use Rattle.vb_c.specs.declared.notice.VbNotice.{VbNotice}
 use Rattle.vb_c.specs.declared.notice.VbRoom.{VbRoom}
 use Rattle.vb_c.specs.Codes.{code_of}
@@ -57,6 +57,7 @@ pub record HandsOver (n : Notice) (regions : List Region) (runs : List Run) (b1 
       Ahead (whole regions n.kind after outcome) n.step b1.device
       (room_of pieces bytes runs figures)
       (at_once asked n.kind c.orders cuts runs figures rest)
+  pub room : HasRoom asked c.orders
   pub waits_now : waits notice.step.phase ≡ true
   pub fits : Fits notice.step.phase
   pub held : b2.held ≡ held_then notice b1

@@ -38,3 +38,4 @@ pub mod LargeLaws
 mod LargeFacts
 mod WholeReportFacts
 mod UsualFacts
+pub mod RoomLemmas

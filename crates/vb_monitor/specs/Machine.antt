@@ -10,7 +10,7 @@ use Rattle.vb_core.specs.declared.next.Buffer.{Buffer}
 use Rattle.vb_core.specs.declared.statistics.Statistic.{Statistic}
 use Rattle.vb_core.specs.declared.device.Device.{Device}
 use Rattle.vb_core.specs.Devices.{ring_of}
-use Rattle.vb_monitor.specs.declared.room.TheConstants.{MAX_BYTES}
+use Rattle.vb_monitor.specs.declared.room.TheConstants.{MAX_BYTES, MAX_RUNS, MAX_FIGURES}
 use Rattle.vb_monitor.specs.declared.regions.Region.{Region}
 use Rattle.vb_monitor.specs.declared.cuts.Cut.{Cut}
 use Rattle.vb_monitor.specs.declared.parts.Part.{Part}
@@ -100,14 +100,14 @@ outcome_at (Discards cut x) tally = None
 outcome_at (GivesBack spots entry) tally = None
 outcome_at (AwaitsFlags at why more) tally = None
 
--- The bytes that are to be copied have room.
+-- The bytes that are to be copied have room, and there are as many runs or figures as are to be told.
 abbrev pub Fits : Phase → Type 0
 Fits (AwaitsPart at place) = place.into + place.length ≤ MAX_BYTES
 Fits (AwaitsIndex at) = Unit {0}
 Fits (AwaitsEntry at) = Unit {0}
 Fits (AwaitsDescriptor at walk) = Unit {0}
-Fits (TellsPages head named) = Unit {0}
-Fits (TellsFigures head count) = Unit {0}
+Fits (TellsPages head named) = named.runs ≤ MAX_RUNS
+Fits (TellsFigures head count) = count ≤ MAX_FIGURES
 Fits (Discards cut x) = Unit {0}
 Fits (GivesBack spots entry) = Unit {0}
 Fits (AwaitsFlags at why more) = Unit {0}

@@ -1,9 +1,11 @@
 -- What is done at once, since none of it needs an answer.
-use Rattle.std.specs.Prelude.{ℕ, Bool, true, false, List, [], ◌∷◌, ◌++◌, map, take}
+use Rattle.std.specs.Prelude.{◌≡◌, ℕ, ◌≤◌, Bool, true, false, List, [], ◌∷◌, ◌++◌, map, take}
 use Rattle.std.specs.Prelude.{Option, Some, None}
 use Rattle.vb_core.specs.declared.kinds.Kind.{Kind}
 use Rattle.vb_core.specs.declared.runs.Run.{Run}
 use Rattle.vb_core.specs.declared.statistics.Statistic.{Statistic}
+use Rattle.vb_monitor.specs.declared.room.TheConstants.{MAX_RUNS, MAX_FIGURES}
+use Rattle.vb_monitor.specs.declared.orders.TheConstants.{MAX_CUTS}
 use Rattle.vb_monitor.specs.declared.cuts.Cut.{Cut}
 use Rattle.vb_monitor.specs.declared.cuts.NextCut.{NextCut}
 use Rattle.vb_monitor.specs.declared.regions.Region.{Region}
@@ -27,6 +29,13 @@ telling Nothing kind some_runs some_figures runs figures = []
 telling Pages kind some_runs some_figures runs figures = TellPages kind (take some_runs runs) ∷ []
 telling Figures kind some_runs some_figures runs figures =
     TellFigures (take some_figures figures) ∷ []
+
+-- There are as many runs or figures as are told, and as many parts as are discarded: none of them
+-- lies past the room for them.
+pub record HasRoom (a : Asked) (o : Orders) : Type 0 where
+  pub runs : a.told ≡ Pages → o.named.runs ≤ MAX_RUNS
+  pub figures : a.told ≡ Figures → o.figures ≤ MAX_FIGURES
+  pub cuts : o.cuts ≤ MAX_CUTS
 
 -- A used element's id and length are written, and behind a fence its index.
 abbrev pub giving : Bool → Used → List Access

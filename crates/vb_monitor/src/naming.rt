@@ -40,6 +40,7 @@ fn tell_pages(tally: Tally, head: u16, named: Named) -> Step
 }
 
 /// Names the pages of a request of these bytes.
+#[tactic(auto, using(crate::proofs::RoomLemmas::few_named))]
 #[inline(always)]
 fn name_bytes(
     device: &mut Device,
@@ -66,6 +67,7 @@ fn name_bytes(
 }
 
 /// Names the pages of a report of these pieces.
+#[tactic(auto, using(crate::proofs::RoomLemmas::few_reported))]
 fn name_report(
     device: &mut Device,
     regions: &[Region],

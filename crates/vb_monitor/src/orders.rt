@@ -9,7 +9,9 @@ ghost use Rattle.vb_monitor.specs.declared.outcome.Outcome.{Outcome};
 ghost use Rattle.vb_monitor.specs.Accesses.{Access, Discard};
 ghost use Rattle.vb_monitor.specs.Machine.{Fits, stage, waits, Room, Ahead, whole, room_of};
 ghost use Rattle.vb_monitor.specs.Machine.{cuts_behind};
-ghost use Rattle.vb_monitor.specs.Orders.{cuts_left, telling, giving, at_once};
+ghost use Rattle.vb_monitor.specs.declared.orders.Told.TheVariants.{Pages, Figures};
+ghost use Rattle.vb_monitor.specs.declared.room.TheConstants.{MAX_RUNS, MAX_FIGURES};
+ghost use Rattle.vb_monitor.specs.Orders.{cuts_left, telling, giving, at_once, HasRoom};
 
 use crate::cuts::{NextCut, cut_behind};
 use crate::discards::{after_told, first_runs};
@@ -88,6 +90,8 @@ fn tell(
         (telling result kind orders.new.named.runs orders.new.figures runs.now figures ++ rest) }
     ensures fits { Fits step.new.phase }
     ensures stage { 1 ≤ stage step.new.phase }
+    ensures runs { result ≡ Pages → orders.new.named.runs ≤ MAX_RUNS }
+    ensures figures { result ≡ Figures → orders.new.figures ≤ MAX_FIGURES }
 {
     let tally = step.tally;
     match step.phase {
@@ -290,7 +294,7 @@ impl Notice {
             (room_of pieces bytes runs.now figures)
             (at_once result self.old.kind orders.new cuts.new runs.now figures rest) }
         ensures fits { Fits self.new.step.phase }
-        ensures few { orders.new.cuts ≤ MAX_CUTS }
+        ensures room { HasRoom result orders.new }
         ensures waits { waits self.new.step.phase ≡ true }
     {
         orders.cuts = 0;
