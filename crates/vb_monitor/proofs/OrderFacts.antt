@@ -1,5 +1,5 @@
 -- What is done at once, worked out, and what isn't.
-use Rattle.std.proofs.Common.{◌≡◌, refl, arith, ℕ, true, false, List, [], ◌∷◌, Some, None}
+use Rattle.std.proofs.Common.{◌≡◌, ◌≤◌, refl, arith, ℕ, true, false, List, [], ◌∷◌, Some, None}
 use Rattle.vb_core.specs.declared.kinds.Kind.TheVariants.{Inflate, Statistics}
 use Rattle.vb_core.specs.declared.runs.Run.{Run}
 use Rattle.vb_core.specs.declared.statistics.Statistic.{Statistic}
@@ -13,7 +13,7 @@ use Rattle.vb_monitor.specs.declared.step.Phase.TheVariants.{AwaitsIndex, Discar
 use Rattle.vb_monitor.specs.Accesses.{Access, ReadWord, TellPages, TellFigures, Discard, WriteNumber}
 use Rattle.vb_monitor.specs.Accesses.{WriteWord, Release}
 use Rattle.vb_monitor.specs.Machine.{Awaited, Room, stage, waits}
-use Rattle.vb_monitor.specs.Orders.{at_once}
+use Rattle.vb_monitor.specs.Orders.{at_once, HasRoom}
 
 abbrev spot : ℕ → Spot
 spot n = record { region = 0; offset = n }
@@ -96,3 +96,29 @@ not_already e = grind arith
 
 waits_for_room : waits discards ≡ true
 waits_for_room = refl
+
+-- ---- there is room: 256 runs, 102 figures, 32 parts
+
+abbrev by_pages : Asked
+by_pages = record { told = Pages; gives = true }
+
+abbrev by_figures : Asked
+by_figures = record { told = Figures; gives = false }
+
+abbrev naming : ℕ → Orders
+naming n = record orders { named = record { runs = n; pages = n; skipped = 0 } }
+
+as_many_runs : HasRoom by_pages (naming 256)
+as_many_runs = record { runs = λ e. omega arith; figures = λ e. cc; cuts = omega arith }
+
+one_run_more : HasRoom by_pages (naming 257) → ⊥
+one_run_more h = let few : 257 ≤ 256 = h.runs refl in omega (arith, few)
+
+as_many_figures : HasRoom by_figures (record orders { figures = 102; cuts = 32 })
+as_many_figures = record { runs = λ e. cc; figures = λ e. omega arith; cuts = omega arith }
+
+one_figure_more : HasRoom by_figures (record orders { figures = 103 }) → ⊥
+one_figure_more h = let few : 103 ≤ 102 = h.figures refl in omega (arith, few)
+
+one_part_more : HasRoom by_figures (record orders { cuts = 33 }) → ⊥
+one_part_more h = let few : 33 ≤ 32 = h.cuts in omega (arith, few)

@@ -1,0 +1,110 @@
+-- As many runs as are told have room.
+use Rattle.std.proofs.Common.{◌≡◌, ◌∙◌, sym, subst, ap, arith, ℕ, ◌+◌, ◌≤◌, ◌/◌, Bool, true, false, List, length, take, Option, Some, None, Result, Ok, Err, refl}
+use Rattle.std.specs.Prelude.{nat_le, ◌&&◌}
+use Rattle.std.proofs.lemmas.Bool.Decides.{nat_tests}
+use Rattle.vb_chain.specs.declared.fault.ChainFault.{ChainFault}
+use Rattle.vb_chain.specs.declared.pieces.Piece.{Piece}
+use Rattle.vb_request.specs.Request.{numbers_of, is_request_length}
+use Rattle.vb_request.proofs.Once.{numbers_of-length}
+use Rattle.vb_core.specs.declared.kinds.Kind.{Kind}
+use Rattle.vb_core.specs.declared.runs.Run.{Run}
+use Rattle.vb_core.specs.declared.name.Named.{Named}
+use Rattle.vb_core.specs.declared.device.Denial.{Denial}
+use Rattle.vb_core.specs.declared.device.Device.{Device}
+use Rattle.vb_core.specs.Settings.{memory_pages, skips}
+use Rattle.vb_core.specs.Devices.{call_denial}
+use Rattle.vb_core.specs.Next.{told}
+use Rattle.vb_model.specs.declared.limits.TheConstants.{MAX_QUEUE_SIZE}
+use Rattle.vb_core.specs.declared.next.Buffer.{Buffer}
+use Rattle.vb_request.specs.Report.{report_request}
+use Rattle.vb_core.specs.Report.{NamesPiecesBy, pieces_denial, named_by, report_named}
+use Rattle.vb_monitor.specs.declared.room.TheConstants.{MAX_RUNS}
+use Rattle.vb_monitor.specs.Pieces.{pieces_in}
+use Rattle.vb_monitor.proofs.BufferLemmas.{length_in}
+use Rattle.vb_core.specs.Name.{NamesBy, NamesRuns, AreNamed, fault_in, right_numbers, name_denial, is_request, after_request}
+
+fits_then : (kind : Kind) (known fits copied : Bool) (d : Device) →
+    call_denial kind known fits copied d ≡ None → fits ≡ true
+fits_then kind known true copied d e = refl
+fits_then kind true false copied d e = cc
+fits_then kind false false copied d e = cc
+
+both_true : (a b : Bool) → (a && b) ≡ true → b ≡ true
+both_true true b e = e
+both_true false b e = cc
+
+has_room : (kind : Kind) (len room : ℕ) (d : Device) → name_denial kind len room d ≡ None →
+    len / 4 ≤ room
+has_room kind len room d e =
+    let both : nat_le (len / 4) room ≡ true =
+    both_true (is_request_length len) (nat_le (len / 4) room)
+    (fits_then kind (is_request kind) (is_request_length len && nat_le (len / 4) room) true d e) in
+    grind (arith, nat_tests)
+
+few_runs : (o : Option ChainFault) (skipping : Bool) (reserved count : ℕ) (ns : List ℕ)
+    (runs : List Run) (named : Named) → fault_in skipping reserved count ns ≡ o →
+    NamesRuns skipping reserved count ns runs (Ok named) → named.runs ≤ length ns
+few_runs (Some f) skipping reserved count ns runs named e n =
+    let wrong : Ok named ≡ Err f = n.fault f e in cc
+few_runs None skipping reserved count ns runs named e n =
+    let are : AreNamed (right_numbers reserved count ns) (length ns) runs named = n.named e in
+    let few = are.few in
+    let others = are.others in
+    omega (arith, few, others)
+
+few_told : (answer : Result Named ChainFault) (skipping : Bool) (reserved count : ℕ)
+    (ns : List ℕ) (runs : List Run) (named : Named) → Ok named ≡ told answer →
+    NamesRuns skipping reserved count ns runs answer → named.runs ≤ length ns
+few_told (Err f) skipping reserved count ns runs named e n = cc
+few_told (Ok x) skipping reserved count ns runs named e n =
+    let is : x ≡ named = cc in
+    few_runs (fault_in skipping reserved count ns) skipping reserved count ns runs named refl
+    (subst (λ (y : Named). NamesRuns skipping reserved count ns runs (Ok y)) is n)
+
+few_by : (o : Option Denial) (kind : Kind) (bytes : List ℕ) (room : ℕ) (runs : List Run)
+    (d1 d2 : Device) (named : Named) → name_denial kind (length bytes) room d1 ≡ o →
+    NamesBy kind bytes room runs d1 d2 (Ok named) → named.runs ≤ room
+few_by (Some why) kind bytes room runs d1 d2 named e n =
+    let wrong : Ok named ≡ Err why = (n.denied why e).0 in cc
+few_by None kind bytes room runs d1 d2 named e n =
+    let (answer, are, is, after) = n.names e in
+    let few : named.runs ≤ length (numbers_of bytes) =
+    few_told answer (skips d1.settings) d1.settings.reserved_pages (memory_pages d1.settings)
+    (numbers_of bytes) runs named is are in
+    let long : length (numbers_of bytes) ≡ length bytes / 4 = numbers_of-length bytes in
+    let fits : length bytes / 4 ≤ room = has_room kind (length bytes) room d1 e in
+    omega (arith, few, long, fits)
+
+pub few_named : (kind : Kind) (bytes : List ℕ) (room : ℕ) (runs : List Run) (d1 d2 : Device)
+    (named : Named) → NamesBy kind bytes room runs d1 d2 (Ok named) → named.runs ≤ room
+few_named kind bytes room runs d1 d2 named n =
+    few_by (name_denial kind (length bytes) room d1) kind bytes room runs d1 d2 named refl n
+
+-- ---- of reports
+
+runs_of_report : (answer : Result (List ℕ) ChainFault) (count : ℕ) (named : Named) →
+    Ok named ≡ told (named_by count answer) → named.runs ≡ count
+runs_of_report (Err f) count named e = cc
+runs_of_report (Ok pages) count named e =
+    let is : record { runs = count; pages = length pages; skipped = 0 } ≡ named = cc in
+    sym (ap (λ (x : Named). x.runs) is)
+
+few_by_pieces : (o : Option Denial) (pieces : List Piece) (room : ℕ) (runs : List Run)
+    (d1 d2 : Device) (named : Named) → pieces_denial pieces room d1 ≡ o →
+    NamesPiecesBy pieces room runs d1 d2 (Ok named) → named.runs ≡ length pieces
+few_by_pieces (Some why) pieces room runs d1 d2 named e n =
+    let wrong : Ok named ≡ Err why = (n.denied why e).0 in cc
+few_by_pieces None pieces room runs d1 d2 named e n =
+    runs_of_report (report_request pieces d1.settings.reserved_pages) (length pieces) named
+    (n.answer e)
+
+-- a report's pieces are copied buffers
+pub few_reported : (buffers : List Buffer) (room : ℕ) (runs : List Run) (d1 d2 : Device)
+    (named : Named) → length buffers ≤ MAX_QUEUE_SIZE →
+    NamesPiecesBy (pieces_in buffers) room runs d1 d2 (Ok named) → named.runs ≤ MAX_RUNS
+few_reported buffers room runs d1 d2 named short n =
+    let is : named.runs ≡ length (pieces_in buffers) =
+    few_by_pieces (pieces_denial (pieces_in buffers) room d1) (pieces_in buffers) room runs d1 d2
+    named refl n in
+    let long : length (pieces_in buffers) ≡ length buffers = length_in buffers in
+    omega (arith, is, long, short)
