@@ -100,7 +100,7 @@ outcome_at (Discards cut x) tally = None
 outcome_at (GivesBack spots entry) tally = None
 outcome_at (AwaitsFlags at why more) tally = None
 
--- The bytes that are to be copied have room, and there are as many runs or figures as are to be told.
+-- The bytes that are to be copied have room, and so have the runs or figures that are to be told.
 abbrev pub Fits : Phase → Type 0
 Fits (AwaitsPart at place) = place.into + place.length ≤ MAX_BYTES
 Fits (AwaitsIndex at) = Unit {0}
