@@ -1,9 +1,7 @@
 /* A balloon device over guest memory that lies in regions with holes between them.
- *
- * The library behind vb.h decides: which access is made, where, in which order, and what it means. This file obeys it, and
- * is all that touches guest memory: it tests no bound and makes no sum, since each number comes from the library. What a
- * monitor calls is in balloon_calls.h, which is included at the end. Nothing to link but the library. Include this file
- * first, or define _GNU_SOURCE. */
+ * The library behind vb.h decides which access is made, where, in which order, and what it means. This file obeys it, and is
+ * all that touches guest memory: it tests no bound and makes no sum, since each number comes from the library. What a monitor
+ * calls is in balloon_calls.h, included at the end. Include this file first, or define _GNU_SOURCE. */
 #ifndef BALLOON_H
 #define BALLOON_H
 #ifndef _GNU_SOURCE
@@ -19,7 +17,6 @@
 #if !defined FALLOC_FL_PUNCH_HOLE || !defined MADV_REMOVE
 #error "include balloon.h before other headers, or define _GNU_SOURCE"
 #endif
-
 #ifndef BALLOON_MOST_REGIONS
 #define BALLOON_MOST_REGIONS 64         /* regions that a balloon has at most */
 #endif
@@ -28,7 +25,6 @@ enum {
     BALLOON_PAGE = 4096,
     BALLOON_PRIVATE = -1,       /* in place of a file: private anonymous memory */
     BALLOON_SHARED = -2,        /* shared anonymous memory, or a file that the monitor has no descriptor of */
-    BALLOON_DRIVER_OK = 4,      /* a bit of the status (VIRTIO 1.1, 2.1) */
 };
 
 /* Guest memory from one address on, mapped at `host`: whole pages. No two overlap; their order is free. */
@@ -49,17 +45,15 @@ struct balloon {
     /* What a monitor may set after balloon_init; each hook may be NULL. They get `context`. */
     uint32_t most_chains, most_pages;   /* a notice begins no further chain after so many chains, or so many pages */
     void *context;
-    /* These pages are given up (VB_INFLATE) or free (VB_REPORT), and discarded next, but those of reports where
-     * vb_keeps_reports says so; or they are asked back (VB_DEFLATE). */
+    /* These pages are given up (VB_INFLATE) or free (VB_REPORT), before any is discarded; or asked back (VB_DEFLATE). */
     void (*on_pages)(void *context, uint32_t kind, const VbRun *runs, uint32_t count);
     /* The guest told its statistics, any tags in any order. */
     void (*on_statistics)(void *context, const VbStatistic *figures, uint32_t count);
     /* Discards bytes of a region, whole pages of its page_size, in place of balloon_discard_bytes; 0 or an errno. */
     int (*discard)(void *context, const struct balloon_region *region, uint64_t at, uint64_t length);
 
-    /* The set of the pages in the balloon, or NULL: words of the monitor's, zeros at first, page p bit p % 64 of word
-     * p / 64 (vb_is_ballooned, vb_count_ballooned). A page is put in before it is discarded, and taken out before its
-     * chain is given back; a reset empties the set. Save and restore it beside the state. */
+    /* The set of the pages in the balloon, or NULL: words of the monitor's, zeros at first (vb_mark). A page is put in before
+     * it is discarded, and taken out before its chain is given back. A reset empties it. Save and restore it beside `state`. */
     uint64_t *ballooned;
     size_t ballooned_words;     /* for all pages: memory_end / 4096 / 64, rounded up */
 
@@ -82,8 +76,7 @@ struct balloon_result {
     uint64_t marked;            /* pages put into the set of ballooned pages, or taken out of it */
     uint64_t unmarked;          /* pages of requests that the set hasn't enough words for: it is as before them */
     uint64_t in_holes;          /* pages to discard that lie in no region */
-    uint64_t kept;              /* pages that the machine failed to discard, for the reason `error`; and those of reports that
-                                   keep what is in them (vb_keeps_reports) */
+    uint64_t kept;              /* not discarded, by `error`, or since reports keep what is in them (vb_keeps_reports) */
     int error;
 };
 
@@ -125,15 +118,13 @@ static inline void balloon_discard(const struct balloon *balloon, const VbCut *p
 {
     const struct balloon_region *region = &balloon->regions[part->region];
     VbLarge large = { *part, 0 };
-    const VbCut *cut = &large.cut;
     if (region->page_size)
         large = vb_large_pages(&balloon->state.device, &balloon->places[part->region], region->page_size, part,
                                balloon->ballooned, balloon->ballooned ? balloon->ballooned_words : 0);
+    int error = large.cut.length == 0 ? 0
+              : balloon->discard      ? balloon->discard(balloon->context, region, large.cut.offset, large.cut.length)
+                                      : balloon_drop(region, &large.cut);
     result->waiting += large.waiting;
-    if (cut->length == 0)
-        return;
-    int error = balloon->discard ? balloon->discard(balloon->context, region, cut->offset, cut->length)
-                                 : balloon_drop(region, cut);
     *(error ? &result->kept : &result->discarded) += part->length / BALLOON_PAGE - large.waiting;
     result->error = error ? error : result->error;
 }
@@ -200,8 +191,7 @@ static inline uint16_t balloon_perform(struct balloon *balloon, uint32_t what, s
 /* Obeys until the notice has ended. */
 static inline void balloon_obey(struct balloon *balloon, struct balloon_result *result)
 {
-    uint32_t what = balloon->notice.what;
-    while (what) {
+    for (uint32_t what = balloon->notice.what; what;) {
         uint16_t answer = balloon_perform(balloon, what, result);
         what = vb_go_on(&balloon->notice, &balloon->state, balloon->places, balloon->region_count, &balloon->room, answer);
     }

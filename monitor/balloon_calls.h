@@ -5,6 +5,10 @@
 #ifndef BALLOON_CALLS_H
 #define BALLOON_CALLS_H
 
+enum {
+    BALLOON_DRIVER_OK = 4,      /* a bit of the status (VIRTIO 1.1, 2.1) */
+};
+
 /* Discards bytes of a region as the balloon does without a hook: whole pages that begin `at` bytes into it. 0 or an errno. */
 static inline int balloon_discard_bytes(const struct balloon_region *region, uint64_t at, uint64_t length)
 {

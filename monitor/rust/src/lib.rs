@@ -456,8 +456,9 @@ impl Balloon {
     /// Obeys a notice that has begun; what it came to.
     fn finish(&mut self, memory: &dyn LiveMemory, monitor: &mut dyn Monitor) -> Served {
         let Balloon { state, regions, notice, room, ballooned, .. } = self;
-        let mut hands = Hands { memory, monitor, ballooned, served: Served::default() };
-        let obeyed = hands.obey(notice, &mut state.0, regions, room);
+        let balloon = &mut state.0;
+        let mut hands = Hands { memory, monitor, ballooned, balloon, regions, served: Served::default() };
+        let obeyed = hands.obey(notice, room);
         let mut served = hands.served;
         if notice.kind != Kind::Deflate as u32 {
             served.in_holes = served.pages - served.discarded - served.kept - served.waiting;

@@ -15,8 +15,7 @@ pub use crate::raw::{Cut, Run, Spot, Statistic};
 #[derive(Clone, Copy, Debug, PartialEq, Eq)]
 pub struct Unreachable;
 
-/// Guest memory that its guest may write at any moment. Any `GuestMemory` of `vm-memory` is one. Each call but the first and
-/// the fence may fail.
+/// Guest memory that its guest may write at any moment. Any `GuestMemory` of `vm-memory` is one.
 pub trait LiveMemory {
     /// Puts the regions into `out`, in the order of their numbers.
     fn regions(&self, out: &mut Vec<Region>);
@@ -128,8 +127,7 @@ impl<M: GuestMemory> LiveMemory for M {
 
 /// What a monitor may want to know, or to do in its own way. `()` does nothing of its own.
 pub trait Monitor {
-    /// These pages are given up (inflate) or free (report), and discarded next, unless reports keep what is in them; or they
-    /// are asked back (deflate).
+    /// These pages are given up (inflate) or free (report), before any is discarded; or they are asked back (deflate).
     fn pages(&mut self, _kind: Kind, _runs: &[Run]) {}
 
     /// The guest told its statistics, any tags in any order.
@@ -155,16 +153,18 @@ pub(crate) struct Hands<'a> {
     pub monitor: &'a mut dyn Monitor,
     /// The set of the pages in the balloon; empty where none is kept.
     pub ballooned: &'a mut [u64],
+    pub balloon: &'a mut raw::Balloon,
+    pub regions: &'a [Region],
     pub served: Served,
 }
 
 impl Hands<'_> {
     /// Tells the pages that are named, and keeps the set of those in the balloon.
-    fn tell_pages(&mut self, notice: &Notice, room: &Room, keeps: bool) {
+    fn tell_pages(&mut self, notice: &Notice, room: &Room) {
         let runs = &room.runs[..notice.runs as usize];
         self.served.pages += u64::from(notice.pages);
         self.served.skipped += u64::from(notice.skipped);
-        if keeps && notice.kind == Kind::Report as u32 {
+        if notice.kind == Kind::Report as u32 && self.balloon.keeps_reports() {
             self.served.kept += u64::from(notice.pages);
         }
         if !self.ballooned.is_empty() {
@@ -178,10 +178,10 @@ impl Hands<'_> {
     }
 
     /// Discards a part; where the machine's pages are large, those that are given up whole.
-    fn discard(&mut self, part: &Cut, balloon: &raw::Balloon, regions: &[Region]) {
+    fn discard(&mut self, part: &Cut) {
         let large = match self.monitor.page_size(part.region) {
             0 => raw::Large { cut: *part, waiting: 0 },
-            size => raw::large_pages(&balloon.device, &regions[part.region], size, part, self.ballooned),
+            size => raw::large_pages(&self.balloon.device, &self.regions[part.region], size, part, self.ballooned),
         };
         let pages = part.length / PAGE - large.waiting;
         self.served.waiting += large.waiting;
@@ -192,7 +192,7 @@ impl Hands<'_> {
             Ok(()) => self.served.discarded += pages,
             Err(error) => {
                 self.served.kept += pages;
-                self.served.error = error.raw_os_error();
+                self.served.error = error.raw_os_error().or(self.served.error);
             }
         }
     }
@@ -206,24 +206,18 @@ impl Hands<'_> {
     }
 
     /// Does each thing that is to be done, in the order of the bits of `what`; answers the word that was read, if one was.
-    fn perform(
-        &mut self,
-        notice: &Notice,
-        room: &mut Room,
-        balloon: &raw::Balloon,
-        regions: &[Region],
-    ) -> Result<u16, Unreachable> {
+    fn perform(&mut self, notice: &Notice, room: &mut Room) -> Result<u16, Unreachable> {
         let is_asked = |bit| notice.what & bit != 0;
         let mut answer = 0;
         if is_asked(raw::TELL_PAGES) {
-            self.tell_pages(notice, room, balloon.keeps_reports());
+            self.tell_pages(notice, room);
         }
         if is_asked(raw::TELL_FIGURES) {
             self.monitor.statistics(&room.figures[..notice.figures as usize]);
             self.served.chains += 1;
         }
         if is_asked(raw::DISCARD) {
-            room.cuts[..notice.cuts as usize].iter().for_each(|cut| self.discard(cut, balloon, regions));
+            room.cuts[..notice.cuts as usize].iter().for_each(|cut| self.discard(cut));
         }
         if is_asked(raw::GIVE_BACK) {
             self.give_back(notice)?;
@@ -246,16 +240,10 @@ impl Hands<'_> {
     }
 
     /// Obeys until the notice has ended.
-    pub fn obey(
-        &mut self,
-        notice: &mut Notice,
-        balloon: &mut raw::Balloon,
-        regions: &[Region],
-        room: &mut Room,
-    ) -> Result<(), Unreachable> {
+    pub fn obey(&mut self, notice: &mut Notice, room: &mut Room) -> Result<(), Unreachable> {
         while notice.what != 0 {
-            let answer = self.perform(notice, room, balloon, regions)?;
-            raw::go_on(notice, balloon, regions, room, answer);
+            let answer = self.perform(notice, room)?;
+            raw::go_on(notice, self.balloon, self.regions, room, answer);
         }
         Ok(())
     }
