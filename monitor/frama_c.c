@@ -303,8 +303,11 @@ static uint64_t any_page_size(void)
  * each size and each number of pages is looked at by itself. */
 void discards(void)
 {
-    struct balloon_result result = { 0 };
+    struct balloon_result result;
     begin();
+    Frama_C_make_unknown((char *)&result, sizeof result);
+    Frama_C_make_unknown((char *)&balloon.notice, sizeof balloon.notice);
+    Frama_C_make_unknown((char *)&balloon.room, sizeof balloon.room);
     cut_region = ANY_UP_TO(REGIONS - 1);
     cut_pages = Frama_C_unsigned_long_long_interval(1, PAGES);
     //@ split cut_region;
