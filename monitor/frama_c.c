@@ -2,9 +2,9 @@
  *
  * The library stands here as what its contracts leave open: each answer is any that they allow, and what they promise is
  * named where it is used. What is copied, written, told and discarded is looked at by the analysis itself, and by the assertions
- * of the monitor's hooks and of the machine's calls below. There are three analyses, each from a function of its own: `main`,
- * all but the copies; `copies`, each copy that a notice may ask for, by the contract of balloon_read_once; `lengths`, that
- * contract. */
+ * of the monitor's hooks and of the machine's calls below. There are four analyses, each from a function of its own: `main`,
+ * all but the copies, by the contract of balloon_discard; `discards`, that contract; `copies`, each copy that a notice may ask
+ * for, by the contract of balloon_read_once; `lengths`, that contract. */
 #include <__fc_builtin.h>
 #include <stdint.h>
 #include <sys/types.h>
@@ -22,14 +22,33 @@ uint32_t htole32(uint32_t word);
 static inline void balloon_read_once(uint8_t *to, const uint8_t *from, size_t length);
 #include "balloon.h"
 
-enum { PAGES = 4, LENGTH = PAGES * BALLOON_PAGE, REGIONS = 2, WORDS = 3, SOME_FD = 3 };
+enum { PAGES = 4, LENGTH = PAGES * BALLOON_PAGE, REGIONS = 3, WORDS = 3, SOME_FD = 3 };
 static const uint64_t IN_FILE = 1ull << 20;
 
-static uint8_t low[LENGTH], high[LENGTH];
+/* Memory of each kind: shared, private, and of a file. */
+static uint8_t shared[LENGTH], private[LENGTH], of_file[LENGTH];
 static struct balloon_region regions[REGIONS];
 static struct balloon balloon;
 static uint64_t words[WORDS];
-static uint64_t cut_pages, cut_region;   /* of each cut of a notice */
+static bool has_set;
+
+/* Of what is discarded: its region, the size of the machine's pages there, its pages, and the large pages that go with it. */
+static uint64_t cut_region, cut_size, cut_pages, cut_large;
+
+/* The regions as the library sees them. */
+/*@ predicate as_they_are(VbRegion *places) =
+        places[0].guest == 0 && places[1].guest == 2 * LENGTH && places[2].guest == 4 * LENGTH
+        && places[0].length == LENGTH && places[1].length == LENGTH && places[2].length == LENGTH
+        && places[0].in_file == 0 && places[1].in_file == 0 && places[2].in_file == IN_FILE; */
+
+/* Discarding is asked for by a notice's cuts alone. Of what it gets, the result alone isn't const: that it may write. */
+/*@ requires the_balloon: the_one == &balloon && the_one->regions == (struct balloon_region *)regions;
+    requires the_regions: as_they_are((VbRegion *)balloon.places);
+    requires the_set: balloon.ballooned_words == WORDS && (balloon.ballooned == \null || balloon.ballooned == (uint64_t *)words);
+    requires a_part: (VbCut *)balloon.room.cuts <= part < balloon.room.cuts + balloon.notice.cuts;
+    requires counts: \valid(result);
+    assigns *result, errno \from *part; */
+static inline void balloon_discard(const struct balloon *the_one, const VbCut *part, struct balloon_result *result);
 
 #define ANY_UP_TO(most) Frama_C_unsigned_long_long_interval(0, most)
 static uint32_t any_u32(void) { return Frama_C_unsigned_int_interval(0, UINT32_MAX); }
@@ -45,34 +64,22 @@ static VbSpot any_spot(uint64_t bytes)
     return spot;
 }
 
-/* The same of what is discarded, which is whole pages and stands in the file where its region begins there (Cut). */
-static VbCut any_cut(uint64_t region, uint64_t pages)
+/* So many pages of this size, within one region, and where that region's file has them (vb_monitor, IsPartOf of a part of a run
+ * and GoesBack of large pages; that they lie within it is IsWithin and AreWholePages). */
+static VbCut any_cut(uint64_t region, uint64_t size, uint64_t pages)
 {
-    uint64_t first = ANY_UP_TO(PAGES - pages);
-    VbCut cut = { region, first * BALLOON_PAGE, IN_FILE + first * BALLOON_PAGE, pages * BALLOON_PAGE };
+    uint64_t offset = ANY_UP_TO(LENGTH / size - pages) * size;
+    VbCut cut = { region, offset, balloon.places[region].in_file + offset, pages * size };
     return cut;
-}
-
-/* Cuts, all of one length in one region, each of these looked at by itself: then the analysis sees what belongs together. */
-static void any_cuts(VbNotice *notice, VbRoom *room)
-{
-    cut_pages = Frama_C_unsigned_long_long_interval(1, PAGES);
-    cut_region = ANY_UP_TO(REGIONS - 1);
-    //@ split cut_pages;
-    //@ split cut_region;
-    notice->cuts = ANY_UP_TO(VB_MAX_CUTS);
-    room->cuts[0] = any_cut(cut_region, cut_pages);
-    for (int i = 1; i < VB_MAX_CUTS; i++)
-        room->cuts[i] = room->cuts[0];
 }
 
 /* The calls of a notice: any of their answers. */
 static uint32_t any_notice(VbNotice *notice, const VbBalloon *of, const VbRegion *places, size_t count, VbRoom *room)
 {
-    //@ merge cut_pages;
-    //@ merge cut_region;
     //@ assert the_balloon: notice == &balloon.notice && of == &balloon.state && room == &balloon.room;
     //@ assert the_regions: places == (VbRegion *)balloon.places && count == REGIONS;
+    Frama_C_make_unknown((char *)room, sizeof *room);   /* what is discarded: below */
+    Frama_C_make_unknown((char *)notice, sizeof *notice);
     notice->what = any_u32() & ~(uint32_t)VB_COPY;      /* copies: below */
     notice->kind = ANY_UP_TO(VB_REPORT);
     notice->id_at = any_spot(4);
@@ -92,7 +99,7 @@ static uint32_t any_notice(VbNotice *notice, const VbBalloon *of, const VbRegion
     notice->more = ANY_UP_TO(1);
     notice->at = any_spot(2);
     notice->length = notice->into = 0;
-    any_cuts(notice, room);
+    notice->cuts = ANY_UP_TO(VB_MAX_CUTS);              /* vb.h, VbNotice */
     return notice->what;
 }
 
@@ -116,6 +123,7 @@ VbMarked vb_mark(uint32_t kind, const VbRun *runs, size_t count, uint64_t *set, 
 {
     //@ assert the_set: set == (uint64_t *)words && set_words == WORDS;
     //@ assert the_runs: runs == (VbRun *)balloon.room.runs && count <= VB_MAX_RUNS;
+    Frama_C_make_unknown((char *)set, WORDS * sizeof *set);
     VbMarked marked = { any_u32(), ANY_UP_TO(UINT32_MAX) };
     return marked;
 }
@@ -124,8 +132,8 @@ VbMarked vb_mark(uint32_t kind, const VbRun *runs, size_t count, uint64_t *set, 
 
 static uint32_t any_answer(const VbRegion *places, size_t count)
 {
-    //@ assert two_regions: count == REGIONS;
-    //@ assert as_they_are: places[0].length == LENGTH && places[1].length == LENGTH && places[1].guest == 2 * LENGTH;
+    //@ assert all_regions: count == REGIONS;
+    //@ assert as_they_are: as_they_are(places);
     return any_u32();
 }
 
@@ -161,20 +169,33 @@ void vb_read_config(const VbDevice *device, uint32_t offset, uint8_t *out, size_
 void vb_set_target(VbDevice *device, uint32_t pages) { device->target = pages; }
 uint32_t vb_keeps_reports(const VbDevice *device) { return ANY_UP_TO(1); }
 
-/* Nothing, or all of the region: what goes back lies within it (vb_monitor, AreWholePages). */
+uint32_t vb_may_tell(const VbDevice *device) { return ANY_UP_TO(1); }
+uint32_t vb_save(const VbDevice *device, uint32_t held, uint8_t *out, size_t room) { return any_u32(); }
+
+/* ---- large pages */
+
+/* What goes back with a part (vb_monitor, LargeBy): large pages in a row (GoesBack), which lie within the region (AreWholePages,
+ * law large_pages_go_once_they_are_given_up), wherever the part lies; or none, and then all of it waits (AllWait), as it does
+ * where the region isn't made of such pages (may_go). Each number of them is looked at by itself, so that the analysis sees that
+ * it and where they begin belong together. */
 VbLarge vb_large_pages(const VbDevice *device, const VbRegion *region, uint64_t page_size, const VbCut *part,
                        const uint64_t *set, size_t set_words)
 {
+    //@ assert the_device: device == &balloon.state.device;
+    //@ assert its_region: region == &balloon.places[cut_region] && page_size == regions[cut_region].page_size;
+    //@ assert the_part: part->region == cut_region && part->length == cut_pages * 4096;
     //@ assert large_set: set_words == 0 || (set == (uint64_t *)words && set_words == WORDS);
-    VbLarge large = { { part->region, 0, region->in_file, LENGTH }, 0 };
-    if (maybe())
+    VbLarge large = { { part->region, 0, 0, 0 }, part->length / BALLOON_PAGE };
+    if (page_size > LENGTH)
         return large;
-    large.cut.length = 0;
-    large.waiting = part->length / 4096;
+    cut_large = ANY_UP_TO(LENGTH / page_size);
+    //@ split cut_large;
+    if (cut_large > 0) {
+        large.cut = any_cut(part->region, page_size, cut_large);
+        large.waiting = ANY_UP_TO(large.waiting);
+    }
     return large;
 }
-uint32_t vb_may_tell(const VbDevice *device) { return ANY_UP_TO(1); }
-uint32_t vb_save(const VbDevice *device, uint32_t held, uint8_t *out, size_t room) { return any_u32(); }
 
 /* ---- the machine and the monitor */
 
@@ -184,18 +205,22 @@ static int any_errno(void)
     return maybe() ? 0 : -1;
 }
 
-/* What is given up are bytes of one region: of memory, or of its file. */
+/* What is given up are whole pages of the region, of the size that they have there: of its memory, or of its file. */
 int madvise(void *from, size_t length, int advice)
 {
-    //@ assert whole_pages: length > 0 && length % 4096 == 0;
-    //@ assert within_memory: \valid((char *)from + (0 .. length - 1));
+    //@ assert not_a_file: cut_region < 2;
+    //@ assert within_memory: length > 0 && \valid((char *)from + (0 .. length - 1));
+    //@ assert its_memory: \base_addr(from) == \base_addr(regions[cut_region].host);
+    //@ assert whole_pages: \offset((char *)from) % cut_size == 0 && length % cut_size == 0;
     return any_errno();
 }
 
 int fallocate(int fd, int how, off_t from, off_t length)
 {
     //@ assert the_hole: fd == SOME_FD && how == 3;
+    //@ assert its_file: cut_region == 2;
     //@ assert within_the_file: IN_FILE <= from && length > 0 && from + length <= IN_FILE + LENGTH;
+    //@ assert whole_pages_of_the_file: from % cut_size == 0 && length % cut_size == 0;
     return any_errno();
 }
 
@@ -214,8 +239,10 @@ static void hear(void *context, const VbStatistic *figures, uint32_t count)
 
 static int discard(void *context, const struct balloon_region *region, uint64_t at, uint64_t length)
 {
+    //@ assert the_region: region == &regions[cut_region];
     uint8_t *from = region->host + at;
-    //@ assert within_the_region: \valid(from + (0 .. length - 1));
+    //@ assert within_the_region: length > 0 && \valid(from + (0 .. length - 1));
+    //@ assert whole_pages_of_the_region: at % cut_size == 0 && length % cut_size == 0;
     return Frama_C_interval(0, 133);
 }
 
@@ -225,7 +252,7 @@ static void any_call(void)
 {
     struct balloon_result result;
     uint8_t bytes[VB_STATE_BYTES];
-    switch (Frama_C_interval(0, 10)) {
+    switch (Frama_C_interval(0, 9)) {
     case 0: balloon_notify(&balloon, any_u32()); break;
     case 1: balloon_ask_statistics(&balloon); break;
     case 2: balloon_write_status(&balloon, ANY_UP_TO(255), &result); break;
@@ -235,7 +262,6 @@ static void any_call(void)
     case 6: balloon_restore(&balloon, bytes, sizeof bytes); break;
     case 7: balloon_save(&balloon, bytes, sizeof bytes); break;
     case 8: balloon_set_regions(&balloon, regions, BALLOON_MOST_REGIONS + 1); break;
-    case 9: balloon_discard_bytes(&regions[0], 0, LENGTH); break;
     default: balloon_negotiate(&balloon, any_u64()); break;
     }
 }
@@ -244,13 +270,16 @@ static void any_call(void)
 static void begin(void)
 {
     const VbSettings settings = { 0 };
-    regions[0] = (struct balloon_region){ 0, LENGTH, low, maybe() ? BALLOON_SHARED : SOME_FD, IN_FILE, maybe() ? 0 : 8192 };
-    regions[1] = (struct balloon_region){ 2 * LENGTH, LENGTH, high, maybe() ? BALLOON_PRIVATE : SOME_FD, IN_FILE, 0 };
+    has_set = maybe();
+    //@ split has_set;
+    regions[0] = (struct balloon_region){ 0, LENGTH, shared, BALLOON_SHARED, IN_FILE, any_u64() };
+    regions[1] = (struct balloon_region){ 2 * LENGTH, LENGTH, private, BALLOON_PRIVATE, IN_FILE, any_u64() };
+    regions[2] = (struct balloon_region){ 4 * LENGTH, LENGTH, of_file, SOME_FD, IN_FILE, any_u64() };
     balloon_init(&balloon, regions, REGIONS, settings);
     balloon.on_pages = maybe() ? be_told : NULL;
     balloon.on_statistics = maybe() ? hear : NULL;
     balloon.discard = maybe() ? discard : NULL;
-    balloon.ballooned = maybe() ? words : NULL;
+    balloon.ballooned = has_set ? words : NULL;
     balloon.ballooned_words = WORDS;
 }
 
@@ -260,6 +289,41 @@ int main(void)
     while (maybe())
         any_call();
     return 0;
+}
+
+/* A size of the machine's pages: a power of two from 4096 to 1 GiB, or 0, which says 4096. */
+static uint64_t any_page_size(void)
+{
+    uint64_t doublings = ANY_UP_TO(18);
+    //@ split doublings;
+    return doublings == 0 && maybe() ? 0 : BALLOON_PAGE << doublings;
+}
+
+/* Each part that a notice may discard, over the machine's pages of each size; and what a monitor discards by itself. Each region,
+ * each size and each number of pages is looked at by itself. */
+void discards(void)
+{
+    struct balloon_result result;
+    begin();
+    Frama_C_make_unknown((char *)&result, sizeof result);
+    Frama_C_make_unknown((char *)&balloon.notice, sizeof balloon.notice);
+    Frama_C_make_unknown((char *)&balloon.room, sizeof balloon.room);
+    cut_region = ANY_UP_TO(REGIONS - 1);
+    cut_pages = Frama_C_unsigned_long_long_interval(1, PAGES);
+    //@ split cut_region;
+    //@ split cut_pages;
+    VbCut part = any_cut(cut_region, BALLOON_PAGE, cut_pages);
+    if (maybe()) {
+        cut_size = BALLOON_PAGE;
+        balloon_discard_bytes(&regions[cut_region], part.offset, part.length);
+    } else {
+        uint64_t size = any_page_size();
+        regions[cut_region].page_size = size;
+        cut_size = size ? size : BALLOON_PAGE;
+        balloon.notice.cuts = 1;
+        balloon.room.cuts[0] = part;
+        balloon_discard(&balloon, &balloon.room.cuts[0], &result);
+    }
 }
 
 /* Each copy that a notice may ask for: it lies within a region, and has room behind what was copied (vb_monitor, Fits). Each
