@@ -6,6 +6,7 @@ ghost use Rattle.vb_core.specs.Settings.{page_poison, without_poison};
 
 use bitflags::Flags;
 use vb_model::limits::PAGE_SIZE;
+use vb_model::negotiation::OFFERED_FEATURES;
 use vb_status::Features;
 
 /// Guest memory ends before this address, so that 32 bits number its pages.
@@ -19,10 +20,10 @@ pub const LEAST_MEMORY: u64 = 8192;
 pub const PAGE_POISON: u64 = 16;
 
 /// All features but PAGE_POISON.
-const OTHERS: u64 = 0xffff_ffff_ffff_ffef;
+const OTHERS: u64 = !PAGE_POISON;
 
 /// The features that a device may offer.
-const KNOWN: u64 = 0x1_0000_0037;
+const KNOWN: u64 = OFFERED_FEATURES | PAGE_POISON;
 
 /// Whether PAGE_POISON is one of these features.
 pub(crate) fn has_page_poison(features: u64) -> bool
