@@ -9,9 +9,12 @@ import unittest
 import linux_kit
 from vhost_client import (
     BUFFERS, DEFLATE, FEATURES, GET_CONFIG, GET_FEATURES, GET_PROTOCOL_FEATURES, GET_QUEUE_NUM, HAS_PROTOCOL, INFLATE, LIMIT,
-    NEXT, OFFERED, PAGE, PAGES_OF_REGION, REGIONS, REPORT, SET_CONFIG, SET_FEATURES, SIZE, STATISTICS, WRITE,
+    NEXT, OFFERED, PAGE, PAGES_OF_REGION, REGIONS, REPORT, SET_CONFIG, SET_FEATURES, STATISTICS, WRITE,
 )
 from vhost_served import Served
+
+# Chains that a notice serves at most, however fast its queue is filled.
+MOST_CHAINS = 256
 
 
 def post_statistics(client, *values):
@@ -21,9 +24,6 @@ def post_statistics(client, *values):
     client.describe(STATISTICS, 0, BUFFERS, len(data))
     client.publish(STATISTICS, 0)
     client.kick(STATISTICS)
-
-# Chains that a notice serves at most, however fast its queue is filled.
-MOST_CHAINS = 256
 
 
 class Good(unittest.TestCase):
