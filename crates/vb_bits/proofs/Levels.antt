@@ -1,14 +1,11 @@
 -- The least member by a summary, and what keeps summaries and the count right.
-use Rattle.std.proofs.Common.{◌≡◌, ◌≢◌, ℕ, ◌+◌, ◌*◌, ◌/◌, ◌<◌, ◌≤◌, ◌↔◌, Bool, true, false}
-use Rattle.std.proofs.Common.{List, Option, None, Some, length, set, replicate, cond}
-use Rattle.std.proofs.Common.{refl, sym, ap, ◌∙◌, inl, inr, arith, subst}
-use Rattle.std.specs.Prelude.{count_by}
-use Rattle.std.proofs.lemmas.Bool.{cases_lt, false≢true}
-use Rattle.std.proofs.lemmas.Bool.Decides.{eqb_tells}
-use Rattle.std.proofs.lemmas.List.{get_or-set_same, get_or-set_other, get_or_past}
-use Rattle.std.proofs.lemmas.List.{length-set, length-replicate, get_or-replicate}
-use Rattle.std.proofs.lemmas.List.Sums.{sum_by-set}
-use Rattle.std.proofs.lemmas.List.Folds.{sum_by-replicate}
+use Rattle.std.proofs.Common.{◌≡◌, ◌≢◌, ℕ, ◌+◌, ◌*◌, ◌/◌, ◌<◌, ◌≤◌, ◌↔◌, Bool, true, false, List}
+use Rattle.std.proofs.Common.{Option, None, Some, length, set, replicate, cond, refl, sym, ap, ◌∙◌}
+use Rattle.std.proofs.lemmas.List.{get_or-set_same, get_or-set_other, get_or_past, length-set}
+use Rattle.std.{proofs.Common.{inl, inr, arith, subst}, specs.Prelude.count_by}
+use Rattle.std.{proofs.lemmas.Bool.{cases_lt, false≢true}, proofs.lemmas.Bool.Decides.eqb_tells}
+use Rattle.std.proofs.lemmas.List.{length-replicate, get_or-replicate}
+use Rattle.std.{proofs.lemmas.List.Sums.sum_by-set, proofs.lemmas.List.Folds.sum_by-replicate}
 use mir.Val.{bool_byte}
 use Rattle.vb_bits.specs.Sets.{has, HasNoneFrom, HasNoneIn, IsLeastFrom, IsFirstFrom, IsNextInWord}
 use Rattle.vb_bits.specs.Levels.{HasSummary}

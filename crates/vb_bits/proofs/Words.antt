@@ -1,18 +1,16 @@
 -- The flags that words stand for.
-use Rattle.std.proofs.Common.{◌≡◌, ◌≢◌, ℕ, ◌+◌, ◌-◌, ◌*◌, ◌/◌, ◌%◌, ◌^◌, ◌<◌, ◌≤◌, Bool, true}
-use Rattle.std.proofs.Common.{List, length, get_or, set, replicate, eqb, ltb, not, sym, ap, ◌∙◌}
-use Rattle.std.proofs.Common.{◌↔◌, false, inl, inr, arith}
-use Rattle.std.specs.Int.{bit_at}
+use Rattle.std.proofs.Common.{◌≡◌, ◌≢◌, ℕ, ◌+◌, ◌-◌, ◌*◌, ◌/◌, ◌%◌, ◌^◌, ◌<◌, ◌≤◌, Bool, true, List}
+use Rattle.std.proofs.Common.{length, get_or, set, replicate, eqb, ltb, not, sym, ap, ◌∙◌, ◌↔◌}
+use Rattle.std.proofs.lemmas.List.{get_or-set_same, get_or-set_other, get_or_past, ext_get_or}
+use Rattle.std.{proofs.Common.{false, inl, inr, arith}, specs.Int.bit_at}
 use Rattle.std.proofs.lemmas.Bool.{cases_lt, not-false, eqb-true, eq-eqb}
 use Rattle.std.proofs.lemmas.Bool.Decides.{eqb_tells, nat_tests}
-use Rattle.std.proofs.lemmas.List.{get_or-set_same, get_or-set_other, get_or_past, ext_get_or}
 use Rattle.std.proofs.lemmas.List.{length-set, length-replicate, get_or-replicate}
 use Rattle.std.proofs.lemmas.List.FromFn.{get_or-map-range_with_len, length-map-range_with_len}
 use Rattle.std.proofs.lemmas.Nat.Bits.{bit_at-zero, bit_at-lt, same_from_bits_below, bit_at_ones}
 use Rattle.vb_model.specs.Tests.{has_bit}
-use Rattle.vb_bits.specs.Sets.{has, HasNoneIn, IsLeastFrom}
+use Rattle.vb_bits.{specs.Sets.{has, HasNoneIn, IsLeastFrom}, proofs.Bits.{one_bit, no_bit}}
 use Rattle.vb_bits.specs.Words.{in_words, flags_of, AreWordsOf, IsLowestFrom}
-use Rattle.vb_bits.proofs.Bits.{one_bit, no_bit}
 
 -- ---- the flags
 

@@ -2,10 +2,8 @@
 use Rattle.std.proofs.Common.{◌≡◌, ap, arith, ℕ, [], Some, None}
 use Rattle.vb_core.specs.declared.kinds.Kind.TheVariants.{Statistics}
 use Rattle.vb_monitor.specs.declared.balloon.Balloon.{Balloon}
-use Rattle.vb_c.specs.declared.notice.VbNotice.{VbNotice}
-use Rattle.vb_c.specs.declared.notice.VbRoom.{VbRoom}
-use Rattle.vb_c.specs.Serving.{BeginsFor, AsksFor, GoesOnBy}
-use Rattle.vb_c.proofs.Samples.{Same, two, balloon}
+use Rattle.vb_c.{specs.declared.notice.VbNotice.VbNotice, specs.declared.notice.VbRoom.VbRoom}
+use Rattle.vb_c.{specs.Serving.{BeginsFor, AsksFor, GoesOnBy}, proofs.Samples.{Same, two, balloon}}
 
 abbrev room : VbRoom
 room = record { pieces = []; bytes = []; runs = []; figures = []; cuts = [] }

@@ -1,10 +1,8 @@
 -- Settings, regions and balloons that the facts share.
 use Rattle.std.proofs.Common.{◌≡◌, ℕ, [], ◌∷◌, List}
-use Rattle.vb_core.specs.declared.settings.Settings.{Settings}
-use Rattle.vb_core.specs.declared.device.Device.{Device}
+use Rattle.vb_core.{specs.declared.settings.Settings.Settings, specs.declared.device.Device.Device}
 use Rattle.vb_core.specs.Devices.{new_device, placed}
-use Rattle.vb_monitor.specs.declared.regions.Region.{Region}
-use Rattle.vb_monitor.specs.declared.balloon.Balloon.{Balloon}
+use Rattle.vb_monitor.{specs.declared.regions.Region.Region, specs.declared.balloon.Balloon.Balloon}
 
 abbrev pub Same : ℕ → ℕ → Type 0
 Same a b = a ≡ b

@@ -2,11 +2,9 @@
 use Rattle.std.proofs.Common.{refl, ap, arith, inl, inr, ℕ, List, [], ◌∷◌}
 use Rattle.vb_model.specs.Balance.{Need}
 use Rattle.vb_balance.specs.Serving.{StillServe}
-use Rattle.vb_core.specs.declared.device.Device.{Device}
-use Rattle.vb_core.specs.declared.saved.Saved.{Saved}
+use Rattle.vb_core.{specs.declared.device.Device.Device, specs.declared.saved.Saved.Saved}
 use Rattle.vb_core.specs.declared.saved.StateDenial.TheVariants.{BadLength}
-use Rattle.vb_c.specs.Saving.{Saves, Restores}
-use Rattle.vb_c.specs.Sharing.{TellsServing}
+use Rattle.vb_c.{specs.Saving.{Saves, Restores}, specs.Sharing.TellsServing}
 use Rattle.vb_c.proofs.Samples.{Same, begun}
 
 abbrev saved : Saved

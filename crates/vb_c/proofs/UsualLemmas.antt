@@ -1,29 +1,22 @@
 -- Notices that go on as they mostly do.
-use Rattle.std.proofs.Common.{◌≡◌, ◌∙◌, ap, sym, subst, refl, arith, ℕ, ◌+◌, ◌≤◌, Bool, true, false, List, [], ◌++◌, map, take, Option, Some, None}
-use Rattle.std.specs.Prelude.{◌==◌, nat_le, if◌then◌else◌}
-use Rattle.std.proofs.lemmas.Bool.Decides.{nat_tests}
-use Rattle.vb_monitor.specs.declared.room.TheConstants.{MAX_BYTES}
-use Rattle.vb_core.specs.declared.kinds.Kind.{Kind}
-use Rattle.vb_core.specs.declared.device.Device.{Device}
-use Rattle.vb_monitor.specs.declared.regions.Region.{Region}
-use Rattle.vb_monitor.specs.declared.orders.TheConstants.{MAX_CUTS}
-use Rattle.vb_monitor.specs.declared.orders.Told.TheVariants.{Nothing}
-use Rattle.vb_monitor.specs.declared.orders.Asked.{Asked}
-use Rattle.vb_monitor.specs.declared.balloon.Balloon.{Balloon}
-use Rattle.vb_monitor.specs.declared.outcome.Outcome.{Outcome}
-use Rattle.vb_monitor.specs.declared.outcome.Tally.{Tally}
-use Rattle.vb_monitor.specs.declared.notice.Notice.{Notice}
-use Rattle.vb_monitor.specs.declared.step.Phase.{Phase}
+use Rattle.std.proofs.Common.{◌≡◌, ◌∙◌, ap, sym, subst, refl, arith, ℕ, ◌+◌, ◌≤◌, Bool, true, false}
+use Rattle.std.proofs.Common.{List, [], ◌++◌, map, take, Option, Some, None}
+use Rattle.std.{specs.Prelude.{◌==◌, nat_le, if◌then◌else◌}, proofs.lemmas.Bool.Decides.nat_tests}
 use Rattle.vb_monitor.specs.declared.step.Phase.TheVariants.{AwaitsIndex, AwaitsEntry}
 use Rattle.vb_monitor.specs.declared.step.Phase.TheVariants.{AwaitsDescriptor, AwaitsPart, Discards}
-use Rattle.vb_monitor.specs.declared.step.Phase.TheVariants.{AwaitsFlags, Ended}
-use Rattle.vb_monitor.specs.Accesses.{Access, Discard}
 use Rattle.vb_monitor.specs.Machine.{Fits, waits, AheadAt, Awaited, whole, room_of, outcome_at}
-use Rattle.vb_c.specs.declared.notice.VbNotice.{VbNotice}
-use Rattle.vb_c.specs.declared.notice.VbRoom.{VbRoom}
-use Rattle.vb_c.specs.Codes.{kind_of_code, why_of}
-use Rattle.vb_c.specs.Notices.{says_yes, tally_of, walk_of, place_of, part_of, discarding_of, cut_of_notice}
-use Rattle.vb_c.specs.Notices.{phase_of, notice_by, notice_of, Says, answer_bits, what_of}
+use Rattle.vb_monitor.specs.declared.step.Phase.TheVariants.{AwaitsFlags, Ended}
+use Rattle.vb_monitor.specs.declared.orders.Told.TheVariants.{Nothing}
+use Rattle.vb_monitor.{specs.declared.orders.TheConstants.MAX_CUTS, specs.declared.step.Phase.Phase}
+use Rattle.vb_monitor.{specs.declared.room.TheConstants.MAX_BYTES, specs.Accesses.{Access, Discard}}
+use Rattle.vb_monitor.{specs.declared.balloon.Balloon.Balloon, specs.declared.regions.Region.Region}
+use Rattle.vb_monitor.{specs.declared.outcome.Outcome.Outcome, specs.declared.notice.Notice.Notice}
+use Rattle.vb_monitor.{specs.declared.outcome.Tally.Tally, specs.declared.orders.Asked.Asked}
+use Rattle.vb_core.{specs.declared.kinds.Kind.Kind, specs.declared.device.Device.Device}
+use Rattle.vb_c.specs.Notices.{says_yes, tally_of, walk_of, place_of, part_of, discarding_of}
+use Rattle.vb_c.specs.Notices.{cut_of_notice, phase_of, notice_by, notice_of, Says, answer_bits}
+use Rattle.vb_c.{specs.declared.notice.VbNotice.VbNotice, specs.declared.notice.VbRoom.VbRoom}
+use Rattle.vb_c.{specs.Codes.{kind_of_code, why_of}, specs.Notices.what_of}
 use Rattle.vb_c.specs.Serving.{held_by, room_in, GoesOnBy}
 
 -- the phase of this number

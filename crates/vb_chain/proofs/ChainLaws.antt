@@ -1,17 +1,13 @@
 -- Laws of chains, for the crates above.
 use Rattle.std.specs.Prelude.{◌≡◌, ℕ, ◌+◌, ◌<◌, ◌≤◌, List, [], ◌∷◌, Bool, true, false, None, length}
-use Rattle.std.specs.Prelude.{slice_index, refl}
-use Rattle.std.proofs.Common.{sym, ◌∙◌, ap, arith, map, take}
-use Rattle.std.specs.List.{list_any}
+use Rattle.std.specs.Prelude.{slice_index, refl, suc, slice_index_or, nat_lt, ◌||◌}
+use Rattle.std.{proofs.Common.{sym, ◌∙◌, ap, arith, map, take}, specs.List.list_any}
 use Rattle.std.proofs.lemmas.List.{ext_get_or, length-map, get_or-map, length-take-le, get_or-take}
+use Rattle.std.{proofs.lemmas.Bool.{lt-ltb, le-ltb, ltb-true}, proofs.lemmas.Grind.common_steps}
 use Rattle.vb_chain.specs.declared.descriptor.Descriptor.{Descriptor}
-use Rattle.vb_chain.specs.declared.pieces.Piece.{Piece}
-use Rattle.std.specs.Prelude.{suc, slice_index_or, nat_lt, ◌||◌}
-use Rattle.std.proofs.lemmas.Bool.{lt-ltb, le-ltb, ltb-true}
-use Rattle.std.proofs.lemmas.Grind.{common_steps}
+use Rattle.vb_chain.{specs.declared.pieces.Piece.Piece, specs.Chain.{fault_at, ChainGives}}
 use Rattle.vb_chain.specs.Written.{link_to, linked, empty, IsRoute, AreSound}
 use Rattle.vb_chain.specs.Rules.{flag, has_next, is_writable, piece_of, first_fault}
-use Rattle.vb_chain.specs.Chain.{fault_at, ChainGives}
 
 -- one descriptor with no NEXT, on which no rule is broken, is a chain
 pub single_chain : (d : ℕ → Descriptor) (q end head : ℕ) (x : Descriptor) → head < q → d head ≡ x

@@ -1,12 +1,11 @@
 -- The flags and sizes of descriptors as plain numbers (VIRTIO 1.1, 2.6.5), and what the flags say.
 use Rattle.std.specs.Prelude.{◌≡◌, ℕ, Bool, true, false, List, [], ◌∷◌, refl}
-use Rattle.vb_chain.specs.declared.descriptor.Descriptor.{Descriptor}
 use Rattle.vb_chain.specs.declared.descriptor.TheConstants.{VIRTQ_DESC_F_NEXT, VIRTQ_DESC_F_WRITE}
 use Rattle.vb_chain.specs.declared.descriptor.TheConstants.{VIRTQ_DESC_F_INDIRECT, DESCRIPTOR_SIZE}
+use Rattle.vb_chain.{specs.declared.descriptor.Descriptor.Descriptor, specs.Written.flags_of}
 use Rattle.vb_chain.specs.declared.descriptor.TheConstants.{DESCRIPTORS_IN_A_PAGE}
 use Rattle.vb_chain.specs.declared.pieces.TheConstants.{MAX_DESCRIPTORS}
 use Rattle.vb_chain.specs.Rules.{has_next, is_writable, is_indirect}
-use Rattle.vb_chain.specs.Written.{flags_of}
 
 -- NEXT, WRITE and INDIRECT
 flags_are : VIRTQ_DESC_F_NEXT ∷ VIRTQ_DESC_F_WRITE ∷ VIRTQ_DESC_F_INDIRECT ∷ [] ≡ 1 ∷ 2 ∷ 4 ∷ []

@@ -1,14 +1,12 @@
 -- Fields of guest memory in bytes that were read or written at once.
 use Rattle.std.specs.Prelude.{◌≡◌, ℕ, zero, suc, ◌+◌, ◌*◌, ◌<◌, ◌≤◌, List, [], ◌++◌, drop, take}
-use Rattle.std.specs.Prelude.{slice_index, refl}
-use Rattle.std.proofs.Common.{sym, ◌∙◌, ap, arith}
+use Rattle.std.{specs.Prelude.{slice_index, refl}, proofs.Common.{sym, ◌∙◌, ap, arith}}
 use Rattle.std.proofs.lemmas.List.{get_or-drop, get_or-take}
 use Rattle.byteorder.specs.Endian.{little_from, little_number, little_bytes}
 use Rattle.byteorder.specs.Numbers.{little_number-reads_back}
 use Rattle.vb_ram.specs.Pages.{Pages, byte_at, field, Wrote}
-use Rattle.vb_chain.specs.declared.descriptor.Descriptor.{Descriptor}
+use Rattle.vb_chain.{specs.declared.descriptor.Descriptor.Descriptor, proofs.TableLaws.same_parts}
 use Rattle.vb_chain.specs.Table.{descriptor_at, bytes_of, FitsBytes}
-use Rattle.vb_chain.proofs.TableLaws.{same_parts}
 
 -- bytes from a place on are the number that they are in memory
 little_field : (n : ℕ) (mem : Pages) (p o i : ℕ) (bytes : List ℕ)

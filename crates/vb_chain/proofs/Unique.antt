@@ -1,14 +1,10 @@
 -- From one head there is one chain, or one fault, and not both.
 use Rattle.std.proofs.Common.{◌≡◌, ℕ, zero, suc, ◌+◌, ◌-◌, ◌<◌, ◌≤◌, List, true, false, Some, None}
-use Rattle.std.proofs.Common.{length, take, sym, ◌∙◌, ap, inl, inr, arith}
-use Rattle.std.specs.Prelude.{slice_index}
-use Rattle.std.specs.List.{list_any}
-use Rattle.std.proofs.lemmas.List.{length-take-le, get_or-take}
-use Rattle.std.proofs.lemmas.Grind.{same_number_lists}
-use Rattle.std.proofs.lemmas.Bool.{cases_lt}
+use Rattle.std.{proofs.Common.{length, take, sym, ◌∙◌, ap, inl, inr, arith}, specs.List.list_any}
+use Rattle.std.{specs.Prelude.slice_index, proofs.lemmas.List.{length-take-le, get_or-take}}
+use Rattle.std.{proofs.lemmas.Grind.same_number_lists, proofs.lemmas.Bool.cases_lt}
 use Rattle.vb_chain.specs.declared.descriptor.Descriptor.{Descriptor}
-use Rattle.vb_chain.specs.declared.pieces.Piece.{Piece}
-use Rattle.vb_chain.specs.declared.fault.ChainFault.{ChainFault}
+use Rattle.vb_chain.{specs.declared.pieces.Piece.Piece, specs.declared.fault.ChainFault.ChainFault}
 use Rattle.vb_chain.specs.Rules.{has_next, is_writable, first_fault}
 use Rattle.vb_chain.specs.Chain.{IsPath, fault_at, IsChain, BreaksAt, ChainGives, FaultGives}
 

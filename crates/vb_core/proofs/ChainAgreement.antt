@@ -1,16 +1,11 @@
 -- Two tables that agree give the same chains and the same faults.
-use Rattle.std.proofs.Common.{◌≡◌, ◌∙◌, ℕ, zero, suc, ◌+◌, ◌<◌, Bool, true, false, List, []}
-use Rattle.std.proofs.Common.{◌∷◌, None, refl, length, get_or, take, map, sym, ap}
-use Rattle.std.proofs.Common.{arith, inl, inr}
-use Rattle.std.specs.Prelude.{◌&&◌, ◌||◌}
-use Rattle.std.specs.List.{list_any}
-use Rattle.std.proofs.lemmas.Bool.{leb-false}
+use Rattle.std.proofs.Common.{◌≡◌, ◌∙◌, ℕ, zero, suc, ◌+◌, ◌<◌, Bool, true, false, List, [], ◌∷◌}
+use Rattle.std.proofs.Common.{None, refl, length, get_or, take, map, sym, ap, arith, inl, inr}
+use Rattle.std.{specs.Prelude.{◌&&◌, ◌||◌}, specs.List.list_any, proofs.lemmas.Bool.leb-false}
 use Rattle.std.proofs.lemmas.List.{get_or-take, length-take}
 use Rattle.vb_chain.specs.declared.descriptor.Descriptor.{Descriptor}
-use Rattle.vb_chain.specs.declared.pieces.Piece.{Piece}
-use Rattle.vb_chain.specs.declared.fault.ChainFault.{ChainFault}
-use Rattle.vb_chain.specs.Rules.{has_next, is_writable, piece_of}
-use Rattle.vb_chain.specs.Rules.{first_fault}
+use Rattle.vb_chain.{specs.declared.pieces.Piece.Piece, specs.declared.fault.ChainFault.ChainFault}
+use Rattle.vb_chain.specs.Rules.{has_next, is_writable, piece_of, first_fault}
 use Rattle.vb_chain.specs.Chain.{IsPath, fault_at, ChainGives, FaultGives}
 
 -- The two give the same descriptors of a table of so many.

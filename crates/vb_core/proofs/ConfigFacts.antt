@@ -1,12 +1,9 @@
 -- The configuration space and PAGE_POISON, worked out.
-use Rattle.std.proofs.Common.{◌≡◌, refl, ℕ, true, false, [], ◌∷◌, map}
-use Rattle.std.specs.Prelude.{Some, None}
+use Rattle.std.{proofs.Common.{◌≡◌, refl, ℕ, true, false, [], ◌∷◌, map}, specs.Prelude.{Some, None}}
 use Rattle.vb_status.specs.declared.bits.StatusFault.TheVariants.{FeatureNotOffered, OutOfOrder}
-use Rattle.vb_core.specs.declared.settings.TheConstants.{PAGE_POISON}
-use Rattle.vb_core.specs.declared.device.Device.{Device}
+use Rattle.vb_core.{specs.declared.settings.TheConstants.PAGE_POISON, specs.Devices.new_device}
+use Rattle.vb_core.{specs.declared.device.Device.Device, specs.Statuses.negotiate_denial}
 use Rattle.vb_core.specs.Settings.{are_settings, known_features, page_poison, without_poison}
-use Rattle.vb_core.specs.Devices.{new_device}
-use Rattle.vb_core.specs.Statuses.{negotiate_denial}
 use Rattle.vb_core.specs.Config.{config_bytes, config_denies, with_written, keeps_reports}
 
 abbrev offering : ℕ → Device

@@ -1,14 +1,10 @@
 -- Where copies are the memory's bytes, they say what memory says.
 use Rattle.std.proofs.Common.{◌≡◌, ◌∙◌, ℕ, zero, suc, ◌+◌, ◌*◌, ◌<◌, ◌≤◌, List, [], ◌∷◌, refl}
-use Rattle.std.proofs.Common.{length, sym, ap, arith, subst}
-use Rattle.std.specs.Prelude.{slice_index}
+use Rattle.std.{proofs.Common.{length, sym, ap, arith, subst}, specs.Prelude.slice_index}
 use Rattle.vb_ram.specs.Pages.{Pages, byte_at, field, end_of}
-use Rattle.vb_chain.specs.declared.pieces.Piece.{Piece}
-use Rattle.vb_chain.specs.declared.fault.ChainFault.{ChainFault}
-use Rattle.vb_chain.specs.Table.{descriptor_at}
-use Rattle.vb_chain.specs.Chain.{ChainGives, FaultGives}
-use Rattle.vb_ring.specs.declared.layout.Layout.{Layout}
-use Rattle.vb_ring.specs.Layout.{IsSize}
+use Rattle.vb_chain.{specs.declared.pieces.Piece.Piece, specs.declared.fault.ChainFault.ChainFault}
+use Rattle.vb_chain.{specs.Table.descriptor_at, specs.Chain.{ChainGives, FaultGives}}
+use Rattle.vb_ring.{specs.declared.layout.Layout.Layout, specs.Layout.IsSize}
 use Rattle.vb_ring.specs.Entries.{next_entry}
 use Rattle.vb_core.specs.Copies.{padded, copies_of, copied_layout, AreCopies}
 use Rattle.vb_core.proofs.CopyLemmas.{copied_length, copied_byte, padded_at}

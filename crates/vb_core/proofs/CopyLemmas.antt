@@ -1,18 +1,14 @@
 -- What a page of a memory of copies is.
-use Rattle.std.proofs.Common.{rules, Option, ◌≡◌, ℕ, ◌<◌, ◌≤◌, List, []}
-use Rattle.std.proofs.Common.{Some, None, length, get_or, refl, sym, ◌∙◌, ap, set, subst}
-use Rattle.std.proofs.Common.{arith, inl, inr, ◌∷◌}
-use Rattle.std.specs.Prelude.{slice_index}
-use Rattle.std.proofs.lemmas.Bool.{cases_eq}
+use Rattle.std.proofs.Common.{rules, Option, ◌≡◌, ℕ, ◌<◌, ◌≤◌, List, [], Some, None, length, get_or}
+use Rattle.std.proofs.Common.{refl, sym, ◌∙◌, ap, set, subst, arith, inl, inr, ◌∷◌}
+use Rattle.std.{specs.Prelude.slice_index, proofs.lemmas.Bool.cases_eq}
 use Rattle.std.proofs.lemmas.List.{get_or-set_same, get_or-set_other, length-set, ext_get_or}
 use Rattle.std.proofs.lemmas.List.FromFn.{get_or-map-range_with_len, length-map-range_with_len}
 use Rattle.vb_ram.specs.Pages.{Page, Pages, byte_of, number_of, byte_at, page_at, frame_at, Wrote}
-use Rattle.vb_ram.specs.Put.{PutAt}
+use Rattle.vb_ram.{specs.Put.PutAt, proofs.PageLemmas.wrote}
 use Rattle.vb_ring.specs.Layout.{IsInside}
-use Rattle.vb_ram.proofs.PageLemmas.{wrote}
-use Rattle.vb_core.specs.declared.copies.Kept.{Kept}
 use Rattle.vb_core.specs.Copies.{lent, copy_number, copy_at, copy_of, copied, padded, copied_layout}
-use Rattle.vb_core.specs.Copies.{kept_pages, PutsInto}
+use Rattle.vb_core.{specs.declared.copies.Kept.Kept, specs.Copies.{kept_pages, PutsInto}}
 
 pub copied_length : (count : ℕ) (cs : List (List ℕ)) → length (copied count cs) ≡ count
 copied_length count cs = length-map-range_with_len (λ p. copy_at cs (copy_number p)) 0 count

@@ -1,16 +1,11 @@
 -- Counts of pages over the words that have their bits.
 use Rattle.std.proofs.Common.{◌≡◌, ◌≢◌, ℕ, zero, suc, ◌+◌, ◌-◌, ◌*◌, ◌/◌, ◌%◌, ◌^◌, ◌<◌, ◌≤◌, Bool}
-use Rattle.std.proofs.Common.{false, refl, sym, ap, ◌∙◌, inl, inr, arith}
-use Rattle.std.proofs.Common.{eqb, count_by, count_ones}
-use Rattle.std.specs.List.{range_with_len}
-use Rattle.std.specs.Int.{bit_at}
-use Rattle.std.proofs.lemmas.Bool.{cases_lt}
-use Rattle.std.proofs.lemmas.List.Sums.{count_by-le-length}
-use Rattle.std.proofs.lemmas.List.FromFn.{length-range_with_len}
+use Rattle.std.proofs.Common.{false, refl, sym, ap, ◌∙◌, inl, inr, arith, eqb, count_by, count_ones}
+use Rattle.std.{proofs.lemmas.Nat.Bits.{bit_at-lt, bit_at-suc, bit_at_lowest}, specs.Int.bit_at}
+use Rattle.std.{proofs.lemmas.List.FromFn.length-range_with_len, proofs.lemmas.Bool.cases_lt}
+use Rattle.std.{proofs.lemmas.List.Sums.count_by-le-length, specs.List.range_with_len}
 use Rattle.std.proofs.lemmas.Nat.{ones_le_self, pow-add}
-use Rattle.std.proofs.lemmas.Nat.Bits.{bit_at-lt, bit_at-suc, bit_at_lowest}
-use Rattle.vb_model.specs.Tests.{has_bit, one_if}
-use Rattle.vb_model.proofs.Tables.{count_by-cons}
+use Rattle.vb_model.{specs.Tests.{has_bit, one_if}, proofs.Tables.count_by-cons}
 use lib.Count.{ones_step}
 
 -- ---- over numbers in a row

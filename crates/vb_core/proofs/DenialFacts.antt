@@ -1,15 +1,9 @@
 -- A denied call that changes the device, and a count of too many changed pages: no answer of a device.
-use Rattle.std.proofs.Common.{◌≡◌, ℕ, [], ◌∷◌, refl, ap, arith}
-use Rattle.std.specs.Prelude.{Ok, Err}
-use Rattle.vb_core.specs.declared.kinds.Kind.TheVariants.{Inflate}
-use Rattle.vb_core.specs.declared.settings.Settings.{Settings}
-use Rattle.vb_core.specs.declared.device.Device.{Device}
-use Rattle.vb_core.specs.declared.device.Denial.TheVariants.{NotReady, NoQueue}
-use Rattle.vb_core.specs.Devices.{new_device}
-use Rattle.vb_core.specs.Next.{NextBy}
-use Rattle.vb_core.specs.Name.{NamesBy}
-use Rattle.vb_core.specs.Report.{ReportsBy}
-use Rattle.vb_core.specs.Ballooned.{MarksBy}
+use Rattle.std.{proofs.Common.{◌≡◌, ℕ, [], ◌∷◌, refl, ap, arith}, specs.Prelude.{Ok, Err}}
+use Rattle.vb_core.{specs.declared.kinds.Kind.TheVariants.Inflate, specs.Devices.new_device}
+use Rattle.vb_core.{specs.declared.settings.Settings.Settings, specs.declared.device.Device.Device}
+use Rattle.vb_core.{specs.declared.device.Denial.TheVariants.{NotReady, NoQueue}, specs.Next.NextBy}
+use Rattle.vb_core.{specs.Name.NamesBy, specs.Report.ReportsBy, specs.Ballooned.MarksBy}
 
 abbrev Same : ℕ → ℕ → Type 0
 Same a b = a ≡ b

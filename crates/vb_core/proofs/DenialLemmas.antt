@@ -2,15 +2,11 @@
 use Rattle.std.proofs.Common.{◌≡◌, Bool, true, false, Option, Some, None, refl}
 use Rattle.std.specs.Prelude.{not, ◌||◌, if◌then◌else◌}
 use Rattle.vb_model.specs.Tables.{is_not_ready, has_fault, lacks_feature}
-use Rattle.vb_core.specs.declared.kinds.Kind.{Kind}
-use Rattle.vb_core.specs.declared.device.Denial.{Denial}
 use Rattle.vb_core.specs.declared.device.Denial.TheVariants.{NoQueue, BadArgument, NotReady}
 use Rattle.vb_core.specs.declared.device.Denial.TheVariants.{NeedsReset, Misplaced}
-use Rattle.vb_core.specs.declared.device.Device.{Device}
-use Rattle.vb_core.specs.Settings.{are_settings}
-use Rattle.vb_core.specs.Rings.{has_place}
-use Rattle.vb_core.specs.Kinds.{queue_of}
-use Rattle.vb_core.specs.Devices.{ring_of, call_denial}
+use Rattle.vb_core.{specs.Devices.{ring_of, call_denial}, specs.declared.device.Denial.Denial}
+use Rattle.vb_core.{specs.declared.device.Device.Device, specs.declared.kinds.Kind.Kind}
+use Rattle.vb_core.{specs.Settings.are_settings, specs.Rings.has_place, specs.Kinds.queue_of}
 
 -- The arguments fit, and the queue has its place.
 pub record IsOpen (kind : Kind) (fits copied : Bool) (d : Device) : Type 0 where

@@ -1,15 +1,12 @@
 -- Pages that are put into a set, or taken out of it.
 use Rattle.std.proofs.Common.{◌≡◌, ◌≢◌, ℕ, zero, suc, ◌+◌, ◌-◌, ◌*◌, ◌/◌, ◌%◌, ◌^◌, ◌<◌, ◌≤◌, Bool}
-use Rattle.std.proofs.Common.{true, false, cond, not, ◌&&◌, ◌||◌, List, [], ◌∷◌, length, get_or, set}
-use Rattle.std.proofs.Common.{refl, sym, ap, ◌∙◌, inl, inr, arith, eqb, ltb, leb, min, max}
-use Rattle.std.proofs.Common.{bit_and, bit_or, bit_xor, count_by, count_ones, if◌then◌else◌, take, ◌==◌}
-use Rattle.std.specs.List.{range_with_len, list_any}
-use Rattle.std.specs.Int.{bit_not, w64}
-use Rattle.std.proofs.lemmas.Bool.{cases_lt, cases_Bool, le-leb, lt-leb}
-use Rattle.std.proofs.lemmas.Bool.{and_from, and_parts, leb-true, ltb-true}
-use Rattle.std.proofs.lemmas.Bool.{lt-ltb, le-ltb, eq-eqb, ne_eqb}
-use Rattle.std.proofs.lemmas.Bool.{or_from, both_ways}
-use Rattle.std.proofs.lemmas.Bool.Decides.{eqb_tells}
+use Rattle.std.proofs.Common.{true, false, cond, not, ◌&&◌, ◌||◌, List, [], ◌∷◌, length, get_or}
+use Rattle.std.proofs.Common.{set, refl, sym, ap, ◌∙◌, inl, inr, arith, eqb, ltb, leb, min, max}
+use Rattle.std.proofs.Common.{bit_and, bit_or, bit_xor, count_by, count_ones, if◌then◌else◌, take}
+use Rattle.std.proofs.lemmas.Bool.{cases_lt, cases_Bool, le-leb, lt-leb, and_from, and_parts}
+use Rattle.std.proofs.lemmas.Bool.{leb-true, ltb-true, lt-ltb, le-ltb, eq-eqb, ne_eqb, or_from}
+use Rattle.std.{proofs.Common.◌==◌, specs.List.{range_with_len, list_any}, specs.Int.{bit_not, w64}}
+use Rattle.std.{proofs.lemmas.Bool.both_ways, proofs.lemmas.Bool.Decides.eqb_tells}
 use Rattle.std.proofs.lemmas.List.{get_or-set_same, get_or-set_other, length-set}
 use Rattle.std.proofs.lemmas.List.Folds.{list_any-append, list_any_more, list_any_at}
 use Rattle.std.proofs.lemmas.Nat.{xor_lt}
@@ -17,8 +14,7 @@ use Rattle.std.proofs.lemmas.Nat.Bits.{bit_at_and, bit_at_or, bit_at_xor, bit_at
 use Rattle.vb_model.specs.Tests.{has_bit, is_in, one_if}
 use Rattle.vb_model.proofs.PageSteps.{is_in-range, outside-range}
 use Rattle.vb_bits.proofs.Words.{at_place}
-use Rattle.vb_core.specs.declared.runs.Run.{Run}
-use Rattle.vb_core.specs.Runs.{pages_of_run, pages_of_runs}
+use Rattle.vb_core.{specs.declared.runs.Run.Run, specs.Runs.{pages_of_run, pages_of_runs}}
 use Rattle.vb_core.specs.Ballooned.{is_ballooned, is_changed, Puts}
 use Rattle.vb_core.proofs.CountLemmas.{count_add, count_none, count_few, count_word}
 

@@ -1,16 +1,12 @@
 -- The numbers of a request, one after the other.
-use Rattle.std.proofs.Common.{◌≡◌, ℕ, ◌+◌, ◌-◌, ◌<◌, ◌≤◌, Bool, true, false, List, [], ◌∷◌}
-use Rattle.std.proofs.Common.{◌++◌, Some, None, Ok, Err, length, get_or, take}
-use Rattle.std.proofs.Common.{arith, length-append}
-use Rattle.std.specs.Prelude.{is_none}
-use Rattle.std.proofs.lemmas.List.{append-nil, take_more}
+use Rattle.std.proofs.Common.{◌≡◌, ℕ, ◌+◌, ◌-◌, ◌<◌, ◌≤◌, Bool, true, false, List, [], ◌∷◌, ◌++◌}
+use Rattle.std.proofs.Common.{Some, None, Ok, Err, length, get_or, take, arith, length-append}
+use Rattle.std.{specs.Prelude.is_none, proofs.lemmas.List.{append-nil, take_more}}
 use Rattle.std.proofs.lemmas.List.Elements.{filter-append}
 use Rattle.vb_chain.specs.declared.fault.ChainFault.{ChainFault}
 use Rattle.vb_request.specs.Request.{number_fault, first_number_fault}
 use Rattle.vb_request.proofs.Once.{fault_here, sound_more}
-use Rattle.vb_core.specs.declared.runs.Run.{Run}
-use Rattle.vb_core.specs.declared.name.Named.{Named}
-use Rattle.vb_core.specs.Runs.{Tell}
+use Rattle.vb_core.{specs.declared.runs.Run.Run, specs.declared.name.Named.Named, specs.Runs.Tell}
 use Rattle.vb_core.specs.Name.{right_numbers, NamesRuns}
 
 -- What stands in the runs after the first k numbers.

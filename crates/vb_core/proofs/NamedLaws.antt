@@ -1,23 +1,17 @@
 -- What runs say of the pages that the definitions give.
-use Rattle.std.proofs.Common.{◌≡◌, ◌∙◌, ℕ, Bool, false, List, [], ◌∷◌, Option, Some, None}
-use Rattle.std.proofs.Common.{Result, Ok, Err, refl, length, take, sym, ap, arith, subst}
+use Rattle.std.proofs.Common.{◌≡◌, ◌∙◌, ℕ, Bool, false, List, [], ◌∷◌, Option, Some, None, Result}
+use Rattle.std.proofs.Common.{Ok, Err, refl, length, take, sym, ap, arith, subst}
 use Rattle.std.specs.Prelude.{cond, is_none, IsOkAnd}
-use Rattle.vb_model.specs.Tests.{is_in}
-use Rattle.vb_model.specs.Orderly.{times}
-use Rattle.vb_model.specs.Driver.{AllDistinct}
+use Rattle.vb_model.{specs.Tests.is_in, specs.Orderly.times, specs.Driver.AllDistinct}
 use Rattle.vb_model.proofs.Distinct.{times-none, times-some}
 use Rattle.vb_ram.specs.Pages.{Pages}
-use Rattle.vb_chain.specs.declared.pieces.Piece.{Piece}
-use Rattle.vb_chain.specs.declared.fault.ChainFault.{ChainFault}
+use Rattle.vb_chain.{specs.declared.pieces.Piece.Piece, specs.declared.fault.ChainFault.ChainFault}
 use Rattle.vb_request.specs.Request.{number_fault, first_of_both, first_number_fault, each_once}
-use Rattle.vb_request.specs.Request.{unless_fault, numbers_of, bytes_of, request_length, page_request}
-use Rattle.vb_request.proofs.Bytes.{read_numbers}
-use Rattle.vb_request.proofs.Once.{is_in-each_once}
-use Rattle.vb_request.proofs.OneRequest.{once_distinct}
-use Rattle.vb_core.specs.declared.runs.Run.{Run}
-use Rattle.vb_core.specs.declared.name.Named.{Named}
-use Rattle.vb_core.specs.Runs.{pages_of_runs, Tell}
-use Rattle.vb_core.proofs.RunLemmas.{tell_times}
+use Rattle.vb_request.specs.Request.{unless_fault, numbers_of, bytes_of, request_length}
+use Rattle.vb_request.{specs.Request.page_request, proofs.Bytes.read_numbers}
+use Rattle.vb_request.{proofs.Once.is_in-each_once, proofs.OneRequest.once_distinct}
+use Rattle.vb_core.{specs.declared.runs.Run.Run, specs.declared.name.Named.Named}
+use Rattle.vb_core.{specs.Runs.{pages_of_runs, Tell}, proofs.RunLemmas.tell_times}
 use Rattle.vb_core.specs.Name.{right_numbers, NamesRuns}
 
 unless_err : (fault : Option ChainFault) (ns : List ℕ) (f : ChainFault) →

@@ -1,13 +1,11 @@
 -- What requests name, worked out, and what they don't.
-use Rattle.std.proofs.Common.{◌≡◌, refl, ap, arith, ℕ, true, false, List, [], ◌∷◌, ◌++◌, length, Some, None, Ok, Err}
+use Rattle.std.proofs.Common.{◌≡◌, refl, ap, arith, ℕ, true, false, List, [], ◌∷◌, ◌++◌, length}
+use Rattle.std.proofs.Common.{Some, None, Ok, Err}
 use Rattle.vb_chain.specs.declared.fault.ChainFault.TheVariants.{BadPage, ReservedPage}
-use Rattle.vb_core.specs.declared.runs.Run.{Run}
-use Rattle.vb_core.specs.declared.kinds.Kind.TheVariants.{Deflate}
-use Rattle.vb_core.specs.declared.device.Device.{Device}
-use Rattle.vb_core.specs.Devices.{new_device}
-use Rattle.vb_core.specs.Runs.{Tell, pages_of_runs}
+use Rattle.vb_core.{specs.declared.runs.Run.Run, specs.declared.kinds.Kind.TheVariants.Deflate}
+use Rattle.vb_core.{specs.declared.device.Device.Device, specs.Devices.new_device}
+use Rattle.vb_core.{specs.Runs.{Tell, pages_of_runs}, proofs.OneTelling.told_once}
 use Rattle.vb_core.specs.Name.{AreNamed, right_numbers, fault_in, after_request}
-use Rattle.vb_core.proofs.OneTelling.{told_once}
 
 abbrev Same : ℕ → ℕ → Type 0
 Same a b = a ≡ b

@@ -2,9 +2,8 @@
 use Rattle.std.proofs.Common.{◌≡◌, ◌∙◌, ℕ, ◌+◌, List, [], ◌∷◌, ◌++◌, refl, sym, ap, subst}
 use Rattle.std.specs.Prelude.{◌==◌, if◌then◌else◌, Bool, true, false, Option, Some, None}
 use Rattle.std.proofs.lemmas.Bool.{ne_eqb}
-use Rattle.vb_core.specs.declared.runs.Run.{Run}
+use Rattle.vb_core.{specs.declared.runs.Run.Run, proofs.RunLemmas.{longer, longer_from}}
 use Rattle.vb_core.specs.Runs.{joined, Grows, one_page, IsApartFrom, IsApart, IsPart, Tell}
-use Rattle.vb_core.proofs.RunLemmas.{longer, longer_from}
 
 -- a number that joins neither end isn't taken in
 not_joined : (run next : Run) (n : ℕ) → IsApartFrom run n → joined run n ≡ Some next → ⊥

@@ -1,20 +1,17 @@
 -- Queues, entries and registers of a device, worked out.
-use Rattle.std.proofs.Common.{◌≡◌, refl, ap, arith, ℕ, true, false, List, [], ◌∷◌, Some, None, Ok, Err}
+use Rattle.std.proofs.Common.{◌≡◌, refl, ap, arith, ℕ, true, false, List, [], ◌∷◌, Some, None, Ok}
+use Rattle.std.proofs.Common.{Err}
 use Rattle.vb_chain.specs.declared.fault.ChainFault.TheVariants.{BadLength, WrongDirection}
 use Rattle.vb_chain.specs.declared.pieces.Piece.{Piece}
-use Rattle.vb_core.specs.declared.kinds.Kind.TheVariants.{Inflate, Deflate, Statistics, Report}
-use Rattle.vb_core.specs.declared.settings.Settings.{Settings}
-use Rattle.vb_core.specs.declared.statistics.Statistic.{Statistic}
 use Rattle.vb_core.specs.declared.device.Denial.TheVariants.{NoQueue, BadArgument, NotReady}
+use Rattle.vb_core.specs.declared.kinds.Kind.TheVariants.{Inflate, Deflate, Statistics, Report}
+use Rattle.vb_core.{specs.declared.settings.Settings.Settings, specs.declared.device.Device.Device}
+use Rattle.vb_core.{specs.declared.statistics.Statistic.Statistic, specs.Kinds.kind_of}
 use Rattle.vb_core.specs.declared.device.Denial.TheVariants.{NeedsReset, Misplaced}
-use Rattle.vb_core.specs.declared.device.Device.{Device}
 use Rattle.vb_core.specs.Rings.{is_size, is_part, has_place, with_taken, with_used, used_entry}
 use Rattle.vb_core.specs.Devices.{new_device, placed, queue_denial, call_denial, place_denial}
-use Rattle.vb_core.specs.Kinds.{kind_of}
-use Rattle.vb_core.specs.Next.{length_of, answer_to, are_copies}
-use Rattle.vb_core.specs.Using.{use_denial}
-use Rattle.vb_core.specs.Statuses.{after_write}
-use Rattle.vb_core.specs.Statistics.{AreFigures, statistics_denial}
+use Rattle.vb_core.{specs.Next.{length_of, answer_to, are_copies}, specs.Using.use_denial}
+use Rattle.vb_core.{specs.Statuses.after_write, specs.Statistics.{AreFigures, statistics_denial}}
 
 abbrev Same : ℕ → ℕ → Type 0
 Same a b = a ≡ b

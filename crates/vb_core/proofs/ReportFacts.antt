@@ -1,16 +1,14 @@
 -- What reports name, worked out, and what they don't.
-use Rattle.std.proofs.Common.{◌≡◌, refl, ap, arith, ℕ, true, false, List, [], ◌∷◌, length, Some, None, Result, Ok, Err}
-use Rattle.vb_chain.specs.declared.pieces.Piece.{Piece}
+use Rattle.std.proofs.Common.{◌≡◌, refl, ap, arith, ℕ, true, false, List, [], ◌∷◌, length, Some}
+use Rattle.std.proofs.Common.{None, Result, Ok, Err}
 use Rattle.vb_chain.specs.declared.fault.ChainFault.TheVariants.{WrongDirection, BadLength, BadPage}
+use Rattle.vb_chain.specs.declared.pieces.Piece.{Piece}
 use Rattle.vb_chain.specs.declared.fault.ChainFault.TheVariants.{ReservedPage}
-use Rattle.vb_core.specs.declared.runs.Run.{Run}
-use Rattle.vb_core.specs.declared.name.Named.{Named}
-use Rattle.vb_core.specs.declared.settings.Settings.{Settings}
-use Rattle.vb_core.specs.declared.device.Denial.{Denial}
-use Rattle.vb_core.specs.declared.device.Denial.TheVariants.{BadArgument, NotReady}
-use Rattle.vb_core.specs.declared.device.Device.{Device}
-use Rattle.vb_core.specs.Devices.{new_device, placed}
 use Rattle.vb_core.specs.Report.{run_of, report_named, report_of, after_report, pieces_denial}
+use Rattle.vb_core.{specs.declared.runs.Run.Run, specs.declared.name.Named.Named}
+use Rattle.vb_core.{specs.declared.settings.Settings.Settings, specs.declared.device.Denial.Denial}
+use Rattle.vb_core.specs.declared.device.Denial.TheVariants.{BadArgument, NotReady}
+use Rattle.vb_core.{specs.declared.device.Device.Device, specs.Devices.{new_device, placed}}
 use Rattle.vb_core.specs.Report.{NamesPiecesBy}
 
 abbrev Same : ℕ → ℕ → Type 0

@@ -1,26 +1,20 @@
 -- What was saved is restored, and nothing else.
-use Rattle.std.proofs.Common.{◌≡◌, ℕ, ◌*◌, ◌%◌, ◌^◌, ◌<◌, Bool, true, false, not}
-use Rattle.std.proofs.Common.{List, [], ◌∷◌, ◌++◌, length, take, drop, refl, sym, ◌∙◌, ap}
-use Rattle.std.proofs.Common.{arith, lit<, subst, append-nil, length-append, if◌then◌else◌}
-use Rattle.std.proofs.Common.{◌==◌, ◌&&◌}
-use Rattle.std.proofs.Common.{nat_lt, bit_xor, fold}
-use Rattle.std.specs.Prelude.{Option, Some, None, Result, Ok, Err}
+use Rattle.std.proofs.Common.{◌≡◌, ℕ, ◌*◌, ◌%◌, ◌^◌, ◌<◌, Bool, true, false, not, List, [], ◌∷◌}
+use Rattle.std.proofs.Common.{◌++◌, length, take, drop, refl, sym, ◌∙◌, ap, arith, lit<, subst}
+use Rattle.std.proofs.Common.{append-nil, length-append, if◌then◌else◌, ◌==◌, ◌&&◌, nat_lt, bit_xor}
+use Rattle.std.{proofs.Common.fold, specs.Prelude.{Option, Some, None, Result, Ok, Err}}
 use Rattle.std.proofs.lemmas.Bool.{eqb-true, eq-eqb}
 use Rattle.std.proofs.lemmas.List.{length-drop, take_at, drop_all}
-use Rattle.vb_core.specs.declared.saved.Saved.{Saved}
-use Rattle.vb_core.specs.declared.saved.StateDenial.{StateDenial}
+use Rattle.vb_core.{specs.declared.saved.Saved.Saved, specs.declared.saved.StateDenial.StateDenial}
 use Rattle.vb_core.specs.declared.saved.StateDenial.TheVariants.{BadLength, NotAState}
 use Rattle.vb_core.specs.declared.saved.StateDenial.TheVariants.{OtherVersion, BadSum, Impossible}
 use Rattle.vb_core.specs.declared.format.TheConstants.{MAGIC, FORMAT_VERSION, SAVED_LENGTH}
-use Rattle.vb_core.specs.declared.format.TheConstants.{VERSION_AT, LENGTH_AT}
-use Rattle.vb_core.specs.declared.format.TheConstants.{HEADER_LENGTH}
+use Rattle.vb_core.specs.declared.format.TheConstants.{VERSION_AT, LENGTH_AT, HEADER_LENGTH}
 use Rattle.vb_core.specs.Format.{u64_bytes, u32_at, u64_at, in_a_row, saved_parts, body, checksum}
-use Rattle.vb_core.specs.Format.{saved_bytes, saved_in, FitsSaved}
+use Rattle.vb_core.{specs.Format.{saved_bytes, saved_in, FitsSaved}, proofs.Rows.row_more}
 use Rattle.vb_core.specs.Saved.{can_be, is_state, has_version, has_length, has_sum, header_denial}
-use Rattle.vb_core.specs.Saved.{read_saved, unless_denied, restored}
-use Rattle.vb_core.proofs.Rows.{row_more}
-use Rattle.vb_core.proofs.Numbers.{AreBytes, u64_then, u64_again}
-use Rattle.vb_core.proofs.RoundTrip.{says, row_again}
+use Rattle.vb_core.{specs.Saved.{read_saved, unless_denied, restored}, proofs.Numbers.AreBytes}
+use Rattle.vb_core.{proofs.Numbers.{u64_then, u64_again}, proofs.RoundTrip.{says, row_again}}
 
 -- a checksum fits its field
 checksum_fits : (bytes : List ℕ) → checksum bytes < 2 ^ 64

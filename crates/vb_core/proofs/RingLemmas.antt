@@ -1,10 +1,7 @@
 -- What a ring's place says.
-use Rattle.std.proofs.Common.{◌≡◌, ℕ, Bool, true, false, refl, arith}
-use Rattle.std.specs.Prelude.{◌&&◌}
-use Rattle.vb_ring.specs.Layout.{IsSize}
-use Rattle.vb_ring.proofs.Powers.{size_of_power}
-use Rattle.vb_core.specs.declared.ring.Ring.{Ring}
-use Rattle.vb_core.specs.Rings.{is_size, has_place}
+use Rattle.std.{proofs.Common.{◌≡◌, ℕ, Bool, true, false, refl, arith}, specs.Prelude.◌&&◌}
+use Rattle.vb_ring.{specs.Layout.IsSize, proofs.Powers.size_of_power}
+use Rattle.vb_core.{specs.declared.ring.Ring.Ring, specs.Rings.{is_size, has_place}}
 
 both : (a b : Bool) → (a && b) ≡ true → (a ≡ true) × (b ≡ true)
 both true b e = (refl, e)

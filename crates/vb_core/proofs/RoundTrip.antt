@@ -1,16 +1,14 @@
 -- A device is saved and restored.
-use Rattle.std.proofs.Common.{◌≡◌, ℕ, ◌+◌, ◌≤◌, List, [], ◌∷◌, ◌++◌, length, get_or, drop}
-use Rattle.std.proofs.Common.{refl, ◌∙◌, ap, arith, lit<}
-use Rattle.vb_core.specs.declared.settings.Settings.{Settings}
-use Rattle.vb_core.specs.declared.ring.Ring.{Ring}
-use Rattle.vb_core.specs.declared.saved.Saved.{Saved}
+use Rattle.std.proofs.Common.{◌≡◌, ℕ, ◌+◌, ◌≤◌, List, [], ◌∷◌, ◌++◌, length, get_or, drop, refl}
+use Rattle.std.proofs.Common.{◌∙◌, ap, arith, lit<}
 use Rattle.vb_core.specs.declared.format.TheConstants.{MAGIC, FORMAT_VERSION, SAVED_LENGTH}
-use Rattle.vb_core.specs.declared.format.TheConstants.{VERSION_AT, LENGTH_AT, CHECKSUM_AT}
-use Rattle.vb_core.specs.Format.{u32_bytes, u64_bytes, u32_at, u64_at}
-use Rattle.vb_core.specs.Format.{in_a_row, settings_parts, ring_parts, saved_parts}
-use Rattle.vb_core.specs.Format.{settings_at, ring_at, saved_in, FitsSettings, FitsRing, FitsSaved}
+use Rattle.vb_core.specs.Format.{u32_bytes, u64_bytes, u32_at, u64_at, in_a_row, settings_parts}
+use Rattle.vb_core.specs.Format.{ring_parts, saved_parts, settings_at, ring_at, saved_in}
 use Rattle.vb_core.proofs.Numbers.{AreBytes, u16_then, u32_then, u64_then, byte_then, u16_again}
+use Rattle.vb_core.specs.declared.format.TheConstants.{VERSION_AT, LENGTH_AT, CHECKSUM_AT}
 use Rattle.vb_core.proofs.Numbers.{u32_again, u64_again, byte_again}
+use Rattle.vb_core.{specs.Format.{FitsSettings, FitsRing, FitsSaved}, specs.declared.ring.Ring.Ring}
+use Rattle.vb_core.{specs.declared.settings.Settings.Settings, specs.declared.saved.Saved.Saved}
 
 -- ---- what was written is read
 

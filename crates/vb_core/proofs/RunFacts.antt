@@ -1,8 +1,6 @@
 -- Which numbers a run takes in, worked out.
-use Rattle.std.proofs.Common.{◌≡◌, refl}
-use Rattle.std.specs.Prelude.{Some, None}
-use Rattle.vb_core.specs.declared.runs.Run.{Run}
-use Rattle.vb_core.specs.Runs.{joined}
+use Rattle.std.{proofs.Common.{◌≡◌, refl}, specs.Prelude.{Some, None}}
+use Rattle.vb_core.{specs.declared.runs.Run.Run, specs.Runs.joined}
 
 -- pages 5 and 6
 abbrev two : Run

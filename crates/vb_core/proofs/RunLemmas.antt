@@ -1,21 +1,16 @@
 -- How often a page stands in runs.
 use Rattle.std.proofs.Common.{◌≡◌, ◌∙◌, ℕ, zero, suc, ◌+◌, ◌-◌, ◌<◌, List, [], ◌∷◌, ◌++◌, refl}
-use Rattle.std.proofs.Common.{length, get_or, set, take, sym, ap, arith, subst, append_assoc, ◌≤◌, length-append}
-use Rattle.std.specs.Prelude.{◌==◌, Some}
-use Rattle.std.proofs.lemmas.Bool.{eqb-true, eq-eqb}
-use Rattle.std.specs.List.{range_with_len}
-use Rattle.std.proofs.lemmas.Grind.{take-set_at}
-use Rattle.std.proofs.lemmas.List.{append-nil, take_more}
-use Rattle.vb_model.specs.Tests.{one_if}
-use Rattle.vb_model.specs.Orderly.{times}
+use Rattle.std.proofs.Common.{length, get_or, set, take, sym, ap, arith, subst, append_assoc, ◌≤◌}
+use Rattle.std.{proofs.Common.length-append, specs.Prelude.{◌==◌, Some, map}}
+use Rattle.std.{proofs.lemmas.Bool.{eqb-true, eq-eqb}, specs.List.range_with_len}
+use Rattle.std.{proofs.lemmas.Grind.take-set_at, proofs.lemmas.List.{append-nil, take_more}}
+use Rattle.vb_model.{specs.Tests.one_if, specs.Orderly.times}
 use Rattle.vb_model.proofs.Distinct.{times-append, times-cons}
-use Rattle.std.specs.Prelude.{map}
 use Rattle.vb_chain.specs.declared.pieces.Piece.{Piece}
 use Rattle.vb_request.specs.Report.{pages_of_piece, pages_of_pieces}
-use Rattle.vb_core.specs.Report.{run_of}
-use Rattle.vb_core.specs.declared.runs.Run.{Run}
-use Rattle.vb_core.specs.Runs.{pages_of_run, pages_of_runs, IsApartFrom, IsApart}
-use Rattle.vb_core.specs.Runs.{joined, Grows, one_page, IsPart, Tell}
+use Rattle.vb_core.specs.Runs.{pages_of_run, pages_of_runs, IsApartFrom, IsApart, joined, Grows}
+use Rattle.vb_core.{specs.Report.run_of, specs.declared.runs.Run.Run}
+use Rattle.vb_core.specs.Runs.{one_page, IsPart, Tell}
 
 pub times-one : (p x : ℕ) → times p (x ∷ []) ≡ one_if (x == p)
 times-one p x = let e = times-cons p x [] in omega (arith, e)

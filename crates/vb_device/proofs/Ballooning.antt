@@ -1,29 +1,21 @@
 -- A device that keeps ballooned pages, from one that has ballooned nothing.
 use Rattle.std.specs.Prelude.{◌≡◌, ℕ, ◌+◌, ◌%◌, ◌==◌, Bool, true, false, List, [], length}
 use Rattle.std.specs.Prelude.{replicate, Option, Some, None, Result, Ok, Err, if◌then◌else◌, ◌++◌}
-use Rattle.std.specs.Prelude.{not, refl}
-use Rattle.std.proofs.Common.{sym, ◌∙◌, ap, subst}
-use Rattle.vb_model.specs.declared.replies.Refusal.{Refusal}
+use Rattle.std.{specs.Prelude.{not, refl}, proofs.Common.{sym, ◌∙◌, ap, subst}}
+use Rattle.vb_model.{specs.declared.replies.Refusal.Refusal, specs.Requests.Request}
 use Rattle.vb_model.specs.declared.replies.Refusal.TheVariants.{Broken, NoQueue}
-use Rattle.vb_model.specs.Requests.{Request}
-use Rattle.vb_ram.specs.Pages.{Pages}
-use Rattle.vb_ram.specs.Part.{Part, QueuePart}
-use Rattle.vb_chain.specs.declared.fault.ChainFault.{ChainFault}
-use Rattle.vb_device.specs.Faults.{Breaks}
-use Rattle.vb_device.specs.Base.{with_pace}
-use Rattle.vb_device.specs.BaseCalls.{SettlesBy, taken_out}
-use Rattle.vb_device.specs.BaseCalls.{TakesOut, UsesChain}
-use Rattle.vb_device.specs.Queues.{queue_part, with_queue, queue_end}
-use Rattle.vb_ring.specs.Ends.{DeviceEnd}
-use Rattle.vb_ring.specs.Calls.{AddsUsedBy}
-use Rattle.vb_device.proofs.LooseFrames.{all_but_loose, lost_alone}
-use Rattle.vb_device.specs.Calls.{lost_frames, taking, noting, without_frames, settled, using}
-use Rattle.vb_device.specs.Calls.{TakeMeans, TakesBy, FinishesBy, Uses, DetachesBy}
-use Rattle.vb_status.specs.After.{part_after_reset}
 use Rattle.vb_model.specs.Tables.{has_chains, is_queue_of_requests}
+use Rattle.vb_ram.{specs.Pages.Pages, specs.Part.{Part, QueuePart}}
+use Rattle.vb_chain.specs.declared.fault.ChainFault.{ChainFault}
+use Rattle.vb_device.specs.Calls.{lost_frames, taking, noting, without_frames, settled, using}
+use Rattle.vb_device.specs.BaseCalls.{SettlesBy, taken_out, TakesOut, UsesChain, flags_after}
+use Rattle.vb_device.specs.Calls.{TakeMeans, TakesBy, FinishesBy, Uses, DetachesBy}
+use Rattle.vb_device.{specs.Queues.{queue_part, with_queue, queue_end}, specs.Base.with_pace}
+use Rattle.vb_device.{proofs.LooseFrames.{all_but_loose, lost_alone}, specs.Faults.Breaks}
 use Rattle.vb_device.specs.Conditions.{finish_refusal, taken_at}
-use Rattle.vb_device.specs.BaseCalls.{flags_after}
 use Rattle.vb_device.proofs.FourQueues.{at_each, at_requests}
+use Rattle.vb_ring.{specs.Ends.DeviceEnd, specs.Calls.AddsUsedBy}
+use Rattle.vb_status.specs.After.{part_after_reset}
 
 -- the part with these flags, of this pace
 abbrev pub over : Bool → List Bool → Part → Part

@@ -1,35 +1,26 @@
 -- A finish by a device, from the end of its queue.
-use Rattle.std.specs.Prelude.{◌≡◌, ℕ, ◌+◌, ◌%◌, ◌<◌, ◌≤◌, Bool, true, not, ◌==◌, ◌&&◌, List}
-use Rattle.std.specs.Prelude.{[], length, remove, Option, Some, None, OnSome, is_none}
-use Rattle.std.specs.Prelude.{if◌then◌else◌, slice_get, All, refl}
-use Rattle.std.proofs.Common.{sym, ◌∙◌, ap, subst, arith, rules}
-use Rattle.vb_model.specs.Device.{next_page}
-use Rattle.std.proofs.lemmas.Bool.{cases_eq}
-use Rattle.vb_model.specs.declared.replies.Refusal.{Refusal}
+use Rattle.std.specs.Prelude.{◌≡◌, ℕ, ◌+◌, ◌%◌, ◌<◌, ◌≤◌, Bool, true, not, ◌==◌, ◌&&◌, List, []}
+use Rattle.std.specs.Prelude.{length, remove, Option, Some, None, OnSome, is_none, if◌then◌else◌}
+use Rattle.std.{specs.Prelude.{slice_get, All, refl}, proofs.lemmas.Bool.cases_eq}
+use Rattle.std.{proofs.Common.{sym, ◌∙◌, ap, subst, arith, rules}, proofs.Math.ListN.set}
+use Rattle.vb_model.{specs.Device.next_page, specs.declared.replies.Refusal.Refusal}
 use Rattle.vb_model.specs.declared.replies.Refusal.TheVariants.{NotTaken, NotWorked}
-use Rattle.vb_model.specs.Requests.{Request}
+use Rattle.vb_model.{specs.Requests.Request, specs.Tables.{has_chains, has_unvisited}}
+use Rattle.vb_model.specs.declared.replies.LastStatistics.{LastStatistics}
+use Rattle.vb_model.{specs.Status.{contains, driver_ok}, specs.Layout.{reserved_pages, ring_page}}
 use Rattle.vb_ram.specs.Pages.{Page, Pages, page_at, frame_at, number_of}
 use Rattle.vb_ram.specs.Part.{Part, QueuePart}
-use Rattle.vb_ring.specs.declared.layout.Layout.{Layout}
-use Rattle.vb_ring.specs.Layout.{layout_of, IsBacked}
-use Rattle.vb_ring.specs.Ends.{DeviceEnd}
-use Rattle.vb_ring.specs.Calls.{AddsUsedBy}
-use Rattle.vb_model.specs.Tables.{has_chains, has_unvisited}
-use Rattle.vb_device.specs.Conditions.{finish_refusal}
-use Rattle.vb_device.specs.Queues.{queue_end, with_queue}
-use Rattle.vb_model.specs.declared.replies.LastStatistics.{LastStatistics}
+use Rattle.vb_ring.{specs.declared.layout.Layout.Layout, specs.Layout.{layout_of, IsBacked}}
+use Rattle.vb_ring.{specs.Ends.DeviceEnd, specs.Calls.AddsUsedBy}
+use Rattle.vb_device.{specs.Conditions.finish_refusal, specs.Queues.{queue_end, with_queue}}
 use Rattle.vb_device.specs.QueueState.{QueueState, part_of, taken_refusal}
 use Rattle.vb_device.specs.Base.{index_of, queue_at, base_part, IsDeviceQueue, IsBase, with_pace}
-use Rattle.vb_device.specs.BaseCalls.{queue_refusal, UsesChain, CanUse}
-use Rattle.vb_request.specs.Refusals.{readiness_refusal}
+use Rattle.vb_device.{specs.BaseCalls.{queue_refusal, UsesChain, CanUse}, proofs.Rings.backed_still}
 use Rattle.vb_device.specs.Calls.{without_frames}
 use Rattle.vb_device.proofs.FourQueues.{part_get, part_set, set_here, base_set}
 use Rattle.vb_device.proofs.TakesBy.{finish_open, queue_finish, queue_known, status_ok}
-use Rattle.vb_model.specs.Status.{contains, driver_ok}
-use Rattle.vb_model.specs.Layout.{reserved_pages, ring_page}
 use Rattle.vb_device.proofs.Discards.{discarded-length, reserved_still}
-use Rattle.vb_device.proofs.Rings.{backed_still}
-use Rattle.std.proofs.Math.ListN.{set}
+use Rattle.vb_request.specs.Refusals.{readiness_refusal}
 
 none_some : (o : Option Refusal) (x : Refusal) → o ≡ None → o ≡ Some x → ⊥
 none_some o x a b = cc

@@ -1,14 +1,11 @@
 -- The four queues of a device, of which one is changed, or all.
 use Rattle.std.specs.Prelude.{◌≡◌, ℕ, ◌<◌, ◌≤◌, Bool, true, false, List, [], ◌∷◌, length, map, refl}
-use Rattle.std.proofs.Common.{sym, ◌∙◌, subst, arith, get_or}
-use Rattle.std.proofs.lemmas.List.{length-map}
+use Rattle.std.{proofs.Common.{sym, ◌∙◌, subst, arith, get_or}, proofs.lemmas.List.length-map}
 use Rattle.std.proofs.Math.ListN.{set, length-set}
 use Rattle.vb_ram.specs.Pages.{Page, Pages}
-use Rattle.vb_model.specs.declared.replies.LastStatistics.{LastStatistics}
-use Rattle.vb_model.specs.Status.{contains, driver_ok}
+use Rattle.vb_model.{specs.declared.replies.LastStatistics.LastStatistics, specs.Layout.ring_page}
+use Rattle.vb_model.{specs.Status.{contains, driver_ok}, proofs.Queues.queue_cases}
 use Rattle.vb_model.specs.Tables.{has_chains, is_queue_of_requests}
-use Rattle.vb_model.proofs.Queues.{queue_cases}
-use Rattle.vb_model.specs.Layout.{ring_page}
 use Rattle.vb_ring.specs.Layout.{IsSize}
 use Rattle.vb_device.specs.Queues.{queue_part, with_queue}
 use Rattle.vb_device.specs.QueueState.{QueueState, part_of, new_queue, restarted}

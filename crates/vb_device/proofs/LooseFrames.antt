@@ -1,6 +1,5 @@
 -- The loose frames of a device that keeps them as a list, as a set.
-use Rattle.std.specs.Prelude.{◌≡◌, ℕ, List, [], ◌++◌}
-use Rattle.std.proofs.Common.{sym, ◌∙◌, ap}
+use Rattle.std.{specs.Prelude.{◌≡◌, ℕ, List, [], ◌++◌}, proofs.Common.{sym, ◌∙◌, ap}}
 use Rattle.vb_model.specs.Tests.{times}
 use Rattle.vb_ram.specs.Part.{Part}
 use Rattle.vb_device.specs.Calls.{SameFrames}

@@ -1,14 +1,11 @@
 -- A device that keeps frames of its own, round one that keeps none.
-use Rattle.std.specs.Prelude.{◌≡◌, ℕ, ◌==◌, Bool, true, false, List}
-use Rattle.std.specs.Prelude.{Option, Some, None, Result, Ok, Err, if◌then◌else◌, refl}
-use Rattle.std.proofs.Common.{◌∙◌, ap}
-use Rattle.vb_model.specs.declared.replies.Refusal.{Refusal}
+use Rattle.std.specs.Prelude.{◌≡◌, ℕ, ◌==◌, Bool, true, false, List, Option, Some, None, Result, Ok}
+use Rattle.std.{specs.Prelude.{Err, if◌then◌else◌, refl}, proofs.Common.{◌∙◌, ap}}
+use Rattle.vb_model.{specs.declared.replies.Refusal.Refusal, specs.Tests.flagged}
 use Rattle.vb_model.specs.declared.replies.Refusal.TheVariants.{Broken}
-use Rattle.vb_model.specs.Tests.{flagged}
-use Rattle.vb_ram.specs.Pages.{Pages}
-use Rattle.vb_ram.specs.Part.{Part, QueuePart}
-use Rattle.vb_device.specs.declared.worked.Worked.{Worked}
+use Rattle.vb_ram.{specs.Pages.Pages, specs.Part.{Part, QueuePart}}
 use Rattle.vb_device.specs.Calls.{taking, noting, using, settled, TakeMeans, TakesBy, FinishesBy}
+use Rattle.vb_device.specs.declared.worked.Worked.{Worked}
 use Rattle.vb_device.specs.Calls.{Visits, WorksBy, AsksBy, DetachesBy}
 
 -- the part with these frames of its own

@@ -1,11 +1,9 @@
 -- The pages of a queue's ring, whatever its size.
-use Rattle.std.specs.Prelude.{◌≡◌, ℕ, ◌<◌, Option, IsSome}
-use Rattle.std.proofs.Common.{sym, subst}
+use Rattle.std.{specs.Prelude.{◌≡◌, ℕ, ◌<◌, Option, IsSome}, proofs.Common.{sym, subst}}
 use Rattle.vb_model.specs.Layout.{reserved_pages, ring_page}
 use Rattle.vb_model.proofs.Shapes.{InRing, in_ring_page, ring_reserved}
 use Rattle.vb_ram.specs.Pages.{Pages, frame_at}
-use Rattle.vb_ring.specs.Layout.{IsSize, IsBacked, layout_of}
-use Rattle.vb_ring.proofs.Shapes.{parts_in_ring}
+use Rattle.vb_ring.{specs.Layout.{IsSize, IsBacked, layout_of}, proofs.Shapes.parts_in_ring}
 
 pub ring_below : (size q page : ℕ) → InRing size q page → page < reserved_pages size
 ring_below size q page at = ring_reserved size page (in_ring_page size q page at)

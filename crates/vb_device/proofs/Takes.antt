@@ -3,17 +3,13 @@
 use Rattle.std.specs.Prelude.{◌≡◌, ℕ, ◌+◌, ◌%◌, ◌<◌, true, false, List, [], ◌∷◌, ◌++◌, Option, Some}
 use Rattle.std.specs.Prelude.{None, Result, Ok, Err, refl}
 use Rattle.std.proofs.Common.{sym, ◌∙◌, ap, arith, zero, suc, get_or, length}
-use Rattle.vb_model.specs.declared.replies.Refusal.{Refusal}
+use Rattle.vb_model.{specs.declared.replies.Refusal.Refusal, specs.Requests.Request}
 use Rattle.vb_model.specs.declared.replies.Refusal.TheVariants.{Broken}
-use Rattle.vb_model.specs.Requests.{Request}
+use Rattle.vb_model.specs.declared.replies.LastStatistics.{LastStatistics}
 use Rattle.vb_ram.specs.Pages.{Pages}
 use Rattle.vb_chain.specs.declared.fault.ChainFault.{ChainFault}
-use Rattle.vb_ring.specs.declared.device.Taken.{Taken}
-use Rattle.vb_ring.specs.Ends.{DeviceEnd}
-use Rattle.vb_ring.specs.Calls.{PopsBy}
-use Rattle.vb_model.specs.declared.replies.LastStatistics.{LastStatistics}
-use Rattle.vb_request.specs.Asked.{request_of, noted}
-use Rattle.vb_request.specs.Refusals.{rule_of}
+use Rattle.vb_ring.{specs.declared.device.Taken.Taken, specs.Ends.DeviceEnd, specs.Calls.PopsBy}
+use Rattle.vb_request.{specs.Asked.{request_of, noted}, specs.Refusals.rule_of}
 use Rattle.vb_device.specs.QueueState.{QueueState, with_request, is_full, TakesNext}
 
 abbrev at : DeviceEnd → List Request → QueueState

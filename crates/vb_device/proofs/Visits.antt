@@ -1,17 +1,12 @@
 -- The oldest page of the taken requests that isn't visited yet.
 use Rattle.std.specs.Prelude.{◌≡◌, ℕ, zero, suc, ◌+◌, ◌<◌, ◌≤◌, Bool, true, false, List, [], ◌∷◌}
-use Rattle.std.specs.Prelude.{Some, All, refl}
-use Rattle.std.specs.Prelude.{length, if◌then◌else◌, None, Option, slice_get}
-use Rattle.std.specs.List.{position, position_or_len}
+use Rattle.std.specs.Prelude.{Some, All, refl, length, if◌then◌else◌, None, Option, slice_get}
+use Rattle.std.{specs.List.{position, position_or_len}, proofs.Math.ListN.set}
 use Rattle.std.proofs.Common.{◌∙◌, sym, subst, ap, arith, get_or}
-use Rattle.std.proofs.Math.ListN.{set}
-use Rattle.std.proofs.lemmas.Grind.{common_steps}
-use Rattle.std.proofs.lemmas.List.Quantifiers.{position-Some}
-use Rattle.std.proofs.lemmas.List.Elements.{All-set}
-use Rattle.std.proofs.lemmas.List.Sums.{fails_before_first}
-use Rattle.vb_model.specs.Requests.{Request}
+use Rattle.std.{proofs.lemmas.Grind.common_steps, proofs.lemmas.List.Quantifiers.position-Some}
+use Rattle.std.{proofs.lemmas.List.Elements.All-set, proofs.lemmas.List.Sums.fails_before_first}
+use Rattle.vb_model.{specs.Requests.Request, specs.Device.{is_unvisited, visiting, next_page}}
 use Rattle.vb_device.specs.QueueState.{IsTaken}
-use Rattle.vb_model.specs.Device.{is_unvisited, visiting, next_page}
 
 abbrev pub once_more : Request → Request
 once_more r = record r { visited = r.visited + 1 }

@@ -1,10 +1,8 @@
 -- Writes of the driver to guest memory.
 use Rattle.std.proofs.Common.{◌≡◌, ◌≢◌, ◌∙◌, sym, ap, subst, arith, ℕ, ◌+◌, ◌-◌, ◌*◌, ◌/◌, ◌%◌, ◌<◌}
 use Rattle.std.proofs.Common.{◌≤◌, List, length, inl, inr, None, Result, Ok, Err, slice_index, OnOk}
-use Rattle.std.proofs.Common.{OnErr, IsOk, ◌∷◌}
-use Rattle.std.proofs.lemmas.Bool.{cases_lt, cases_eq}
-use Rattle.std.proofs.lemmas.List.{same_lists, get_or_default}
-use Rattle.std.proofs.Math.Nat.{div-add-mod}
+use Rattle.std.{proofs.Common.{OnErr, IsOk, ◌∷◌}, proofs.lemmas.Bool.{cases_lt, cases_eq}}
+use Rattle.std.{proofs.lemmas.List.{same_lists, get_or_default}, proofs.Math.Nat.div-add-mod}
 use Rattle.vb_model.specs.Layout.{buffer_page, buffer_offset}
 use Rattle.vb_ram.specs.Pages.{Pages, page_at, byte_at, SameBut, SameIn, Wrote}
 use Rattle.vb_ram.proofs.FieldLaws.{field_in, same_page, same_below, same_above, same_other}

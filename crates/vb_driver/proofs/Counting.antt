@@ -5,13 +5,11 @@ use Rattle.std.proofs.Common.{Bool, true, false, zero, suc, replicate, map}
 use Rattle.std.proofs.lemmas.List.Sums.{sum_by-set, get_or-le-sum_by}
 use Rattle.std.proofs.lemmas.List.{length-replicate, get_or-set_same, get_or-set_other, length-set}
 use Rattle.std.proofs.lemmas.Bool.{cases_eq, ne_eqb}
-use Rattle.vb_model.specs.Pages.{is_lent, is_stranded}
-use Rattle.vb_model.specs.declared.places.Place.{Place}
 use Rattle.vb_model.specs.declared.places.Place.TheVariants.{Reserved, Free, Used, Giving, Lent}
+use Rattle.vb_model.{specs.Pages.{is_lent, is_stranded}, specs.declared.places.Place.Place}
 use Rattle.vb_model.specs.declared.places.Place.TheVariants.{Taking, Stranded, Reporting}
 use Rattle.vb_model.proofs.Tables.{count_by-cons}
-use Rattle.vb_driver.specs.Places.{number_of, is_at, AreCounts, IsTable}
-use Rattle.vb_driver.proofs.Marking.{none_of}
+use Rattle.vb_driver.{specs.Places.{number_of, is_at, AreCounts, IsTable}, proofs.Marking.none_of}
 
 pub number_small : (place : Place) → number_of place < 8
 number_small place = search (arith)

@@ -2,9 +2,8 @@
 use Rattle.std.proofs.Common.{◌≡◌, ap, refl, arith, ℕ, ◌<◌, Bool, true, false, not, ◌&&◌, Option}
 use Rattle.std.proofs.Common.{None, Some, is_none, cond, eqb, bit_or}
 use Rattle.std.specs.List.{list_all, range_with_len}
-use Rattle.vb_model.specs.declared.replies.Refusal.{Refusal}
+use Rattle.vb_model.{specs.declared.replies.Refusal.Refusal, proofs.Tables.list_all-at}
 use Rattle.vb_model.specs.Status.{status_refusal, adds, driver_ok}
-use Rattle.vb_model.proofs.Tables.{list_all-at}
 use Rattle.vb_pages.proofs.Sets.{in_block}
 use Rattle.vb_ram.specs.Part.{Part}
 use Rattle.vb_status.specs.After.{after_status, part_after_reset, with_new_queues}

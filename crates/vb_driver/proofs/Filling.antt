@@ -1,20 +1,14 @@
 -- The statistics buffer goes out: it is written, and then its chain is published.
-use Rattle.std.proofs.Common.{◌≡◌, ◌∙◌, sym, ap, subst, arith, refl, ℕ, ◌<◌}
-use Rattle.std.proofs.Common.{false, List, [], ◌∷◌, length, Some, Ok, Err}
+use Rattle.std.proofs.Common.{◌≡◌, ◌∙◌, sym, ap, subst, arith, refl, ℕ, ◌<◌, false, List, [], ◌∷◌}
+use Rattle.std.proofs.Common.{length, Some, Ok, Err}
 use Rattle.vb_ram.specs.Pages.{Pages, page_at, SameBut}
 use Rattle.vb_ram.proofs.FieldLaws.{field_in, same_page, same_above, same_trans}
-use Rattle.vb_chain.specs.declared.pieces.Piece.{Piece}
-use Rattle.vb_chain.proofs.TableLaws.{same_parts}
-use Rattle.vb_ring.specs.declared.driver.Full.{Full}
-use Rattle.vb_ring.specs.declared.layout.Layout.{Layout}
-use Rattle.vb_ring.specs.Layout.{IsSize}
-use Rattle.vb_ring.specs.Ends.{DriverEnd, IsDriverEnd, outstanding, next_head}
-use Rattle.vb_ring.specs.Ends.{after_add}
-use Rattle.vb_ring.specs.Calls.{AddsBy}
-use Rattle.vb_driver.specs.Coding.{IsStatistic}
-use Rattle.vb_driver.specs.State.{IsStatisticsQueue}
-use Rattle.vb_driver.specs.Calls.{PostsBuffer, written_of}
-use Rattle.vb_driver.proofs.Buffers.{outside_both}
+use Rattle.vb_chain.{specs.declared.pieces.Piece.Piece, proofs.TableLaws.same_parts}
+use Rattle.vb_ring.{specs.declared.driver.Full.Full, specs.declared.layout.Layout.Layout}
+use Rattle.vb_ring.{specs.Layout.IsSize, specs.Calls.AddsBy}
+use Rattle.vb_ring.specs.Ends.{DriverEnd, IsDriverEnd, outstanding, next_head, after_add}
+use Rattle.vb_driver.{specs.Coding.IsStatistic, specs.State.IsStatisticsQueue}
+use Rattle.vb_driver.{specs.Calls.{PostsBuffer, written_of}, proofs.Buffers.outside_both}
 use Rattle.vb_driver.proofs.Posting.{OnePiece, one_piece, added_head}
 use Rattle.vb_driver.proofs.Shapes.{IsBeside, beside_buffers, keeps_ring}
 use Rattle.vb_driver.proofs.OneBuffer.{none_used, first_head, queue_added}

@@ -1,34 +1,23 @@
 -- Which pages the allocator has free, as a flag a page.
-use Rattle.std.proofs.Common.{subst}
-use Rattle.std.proofs.Common.{◌≡◌, ◌∙◌, sym, ap, arith, refl, ℕ, ◌+◌, ◌<◌, ◌≤◌, Bool}
-use Rattle.std.proofs.Common.{true, false, cond, eqb, not, ◌||◌, ◌&&◌, List, [], ◌∷◌, ◌++◌, length}
-use Rattle.std.proofs.Common.{take, get_or, map, count_by, Option, Some}
-use Rattle.std.proofs.Common.{eq-eqb}
-use Rattle.std.specs.List.{list_any}
-use Rattle.std.proofs.lemmas.Bool.{false_from_ne_true}
+use Rattle.std.proofs.Common.{subst, ◌≡◌, ◌∙◌, sym, ap, arith, refl, ℕ, ◌+◌, ◌<◌, ◌≤◌, Bool, true}
+use Rattle.std.proofs.Common.{false, cond, eqb, not, ◌||◌, ◌&&◌, List, [], ◌∷◌, ◌++◌, length, take}
 use Rattle.std.proofs.lemmas.List.{same_lists, get_or_past, length-set, length-map, get_or-map}
-use Rattle.std.proofs.lemmas.List.{take_more}
+use Rattle.std.{proofs.Common.{get_or, map, count_by, Option, Some, eq-eqb}, specs.List.list_any}
+use Rattle.std.{proofs.lemmas.Bool.false_from_ne_true, proofs.lemmas.List.take_more}
 use Rattle.std.proofs.lemmas.List.Sums.{sum_by-take-le}
 use Rattle.std.proofs.lemmas.List.FromFn.{get_or-map-range_with_len, length-map-range_with_len}
-use Rattle.vb_model.specs.Tests.{is_in, one_if}
-use Rattle.vb_model.specs.declared.places.Place.TheVariants.{Reserved}
-use Rattle.vb_model.specs.Pages.{Block, covers, pages_of, is_free, all_free}
+use Rattle.vb_model.{specs.Tests.{is_in, one_if}, specs.declared.places.Place.TheVariants.Reserved}
+use Rattle.vb_model.{specs.Pages.{Block, covers, pages_of, is_free, all_free}, specs.Orderly.times}
 use Rattle.vb_model.proofs.Tables.{each_page-get, count_by-cons, count_by-append}
 use Rattle.vb_model.proofs.PageSteps.{covers_is}
-use Rattle.vb_pages.specs.FreePages.{FreePages, in_lists, drained, times_free}
-use Rattle.vb_pages.specs.FreePages.{given_back, Tries, Serves}
+use Rattle.vb_pages.specs.FreePages.{FreePages, in_lists, drained, times_free, given_back, Tries}
 use Rattle.vb_pages.specs.PageState.{PageState, page_count, is_free_page, is_unreserved, IsApart}
-use Rattle.vb_pages.specs.PageState.{new_page_state, with_free_block}
-use Rattle.vb_pages.proofs.Sets.{length-with_pages}
+use Rattle.vb_pages.{specs.FreePages.Serves, specs.PageState.{new_page_state, with_free_block}}
+use Rattle.vb_pages.{proofs.Sets.length-with_pages, proofs.FreeLemmas.flat-replicate}
 use Rattle.vb_pages.proofs.AreasLemmas.{length-unreserved, has-unreserved}
-use Rattle.vb_pages.proofs.ListsLemmas.{one_if_le}
-use Rattle.vb_pages.proofs.FreeLemmas.{flat-replicate}
-use Rattle.vb_driver.specs.Answers.{block_at}
-use Rattle.vb_driver.specs.Areas.{AreFor, flags_of, is_free_at, all_given}
-use Rattle.vb_driver.specs.Places.{marked, first_place}
-use Rattle.vb_model.specs.Orderly.{times}
-use Rattle.vb_pages.proofs.ListsLemmas.{times_in, times_out}
-use Rattle.vb_driver.proofs.Placing.{length-marked}
+use Rattle.vb_pages.proofs.ListsLemmas.{one_if_le, times_in, times_out}
+use Rattle.vb_driver.{specs.Answers.block_at, specs.Areas.{AreFor, flags_of, is_free_at, all_given}}
+use Rattle.vb_driver.{specs.Places.{marked, first_place}, proofs.Placing.length-marked}
 
 -- ---- a page's flag
 

@@ -2,49 +2,35 @@
 use Rattle.std.proofs.Common.{◌≡◌, ◌∙◌, sym, ap, subst, arith, refl, ℕ, zero, suc, replicate, ◌+◌}
 use Rattle.std.proofs.Common.{◌-◌, ◌<◌, ◌≤◌, Bool, true, false, cond, eqb, ◌||◌, ◌&&◌, List, []}
 use Rattle.std.proofs.Common.{◌∷◌, ◌++◌, length, take, set, get_or, map, count_by, inl, inr}
-use Rattle.std.proofs.Common.{is_none, slice_index_or}
-use Rattle.std.proofs.lemmas.Bool.{cases_lt, lt-ltb, eq-eqb, ne_eqb, false_from_ne_true}
-use Rattle.std.proofs.lemmas.Bool.{both_ways}
 use Rattle.std.proofs.lemmas.List.{length-replicate, length-take, length-map, get_or-map}
-use Rattle.std.proofs.lemmas.List.{get_or_past, get_or-replicate, same_lists}
-use Rattle.std.specs.List.{list_all}
-use Rattle.std.proofs.lemmas.List.Folds.{list_any-append}
-use Rattle.vb_model.specs.Tests.{is_in, one_if, pages_from, pages_where}
+use Rattle.std.proofs.lemmas.Bool.{cases_lt, lt-ltb, eq-eqb, ne_eqb, false_from_ne_true, both_ways}
+use Rattle.std.proofs.lemmas.List.FromFn.{get_or-map-range_with_len, length-map-range_with_len}
+use Rattle.std.{proofs.lemmas.List.{get_or_past, get_or-replicate, same_lists}, specs.List.list_all}
+use Rattle.std.{proofs.lemmas.List.Folds.list_any-append, proofs.Common.{is_none, slice_index_or}}
 use Rattle.vb_model.specs.Pages.{place_of, placed, is_free, is_used, is_giving, is_lent, is_taking}
-use Rattle.vb_model.specs.Pages.{is_stranded, is_reporting, all_free}
-use Rattle.vb_model.specs.Pages.{pages_of_all}
-use Rattle.vb_model.specs.declared.places.Place.{Place}
 use Rattle.vb_model.specs.declared.places.Place.TheVariants.{Reserved, Free, Used, Giving, Lent}
-use Rattle.vb_model.specs.declared.places.Place.TheVariants.{Taking, Stranded, Reporting}
 use Rattle.vb_model.proofs.Tables.{pages_where-passes, is_in-take, is_in-append, list_all-at}
-use Rattle.vb_model.proofs.Tables.{count_by-cons}
-use Rattle.vb_model.specs.Life.{place_after_reset}
-use Rattle.vb_model.specs.Layout.{reserved_pages, ring_page}
-use Rattle.vb_model.proofs.GuestSteps.{place_of-reset}
+use Rattle.vb_model.{specs.Tests.{is_in, one_if, pages_from, pages_where}, specs.Orderly.times}
+use Rattle.vb_model.specs.Pages.{is_stranded, is_reporting, all_free, pages_of_all}
+use Rattle.vb_model.{specs.declared.places.Place.Place, proofs.Tables.count_by-cons}
+use Rattle.vb_model.specs.declared.places.Place.TheVariants.{Taking, Stranded, Reporting}
+use Rattle.vb_model.{specs.Life.place_after_reset, specs.Layout.{reserved_pages, ring_page}}
+use Rattle.vb_model.{proofs.GuestSteps.place_of-reset, proofs.Counts.length-pages_where}
 use Rattle.vb_ram.specs.Pages.{Pages}
-use Rattle.vb_pages.specs.FreePages.{FreePages}
-use Rattle.vb_driver.specs.Places.{is_at}
+use Rattle.vb_pages.{specs.FreePages.FreePages, proofs.ListsLemmas.times_in}
+use Rattle.vb_driver.{specs.Places.{is_at, marked, first_place}, proofs.Counting.at_is}
 use Rattle.vb_driver.specs.State.{RequestSide, DriverState, IsQueue, naming, sent_by, fresh_side}
 use Rattle.vb_driver.specs.State.{fresh_driver, IsDriver, IsStatisticsQueue, fresh_statistics}
-use Rattle.vb_driver.specs.State.{fresh_report, tells_host}
-use Rattle.vb_model.proofs.Counts.{length-pages_where}
-use Rattle.vb_driver.specs.Areas.{AreFor, flags_of, is_free_at, is_covered}
-use Rattle.vb_driver.specs.Places.{marked, first_place}
+use Rattle.vb_driver.{specs.State.{fresh_report, tells_host}, specs.Areas.{AreFor, flags_of}}
+use Rattle.vb_driver.{specs.Areas.{is_free_at, is_covered}, proofs.Flags.{fresh_flags, for_itself}}
 use Rattle.vb_driver.specs.Calls.{Posts, lowest_lent, stranded_first, after_reap}
-use Rattle.vb_model.specs.Orderly.{times}
-use Rattle.vb_driver.proofs.Naming.{naming_more, naming_same, naming_less, named_place, named_once}
-use Rattle.vb_driver.proofs.Naming.{once_lowest, once_append, later_none}
-use Rattle.vb_pages.proofs.ListsLemmas.{times_in}
-use Rattle.vb_driver.proofs.Flags.{fresh_flags, for_itself}
-use Rattle.vb_driver.proofs.Counting.{at_is}
+use Rattle.vb_driver.proofs.Naming.{naming_more, naming_same, naming_less, named_place}
+use Rattle.vb_driver.proofs.Naming.{named_once, once_lowest, once_append, later_none}
 use Rattle.vb_driver.proofs.Keeping.{kept_moved, there_by, free_same, free_marked}
-use Rattle.std.proofs.lemmas.List.FromFn.{get_or-map-range_with_len, length-map-range_with_len}
-use Rattle.vb_ring.specs.Layout.{IsSize}
 use Rattle.vb_driver.proofs.Placing.{or_true, length-marked, marked-get}
 use Rattle.vb_driver.proofs.ReportTables.{none_owned, fresh_report_queue}
-use Rattle.vb_ring.specs.Entries.{is_own}
-use Rattle.vb_ring.specs.Ends.{DriverEnd}
 use Rattle.vb_driver.proofs.RequestTables.{requests_taken, requests_fresh}
+use Rattle.vb_ring.{specs.Layout.IsSize, specs.Entries.is_own, specs.Ends.DriverEnd}
 
 -- ---- tests of places
 

@@ -1,13 +1,10 @@
 -- How often requests name a page.
 use Rattle.std.proofs.Common.{◌≡◌, ◌∙◌, sym, ap, arith, refl, ℕ, suc, ◌+◌, ◌<◌, ◌≤◌, Bool, true}
 use Rattle.std.proofs.Common.{false, cond, eqb, not, List, [], ◌∷◌, ◌++◌, length, take, get_or, set}
-use Rattle.std.proofs.Common.{inl, inr, IsTrue}
+use Rattle.std.{proofs.Common.{inl, inr, IsTrue}, proofs.lemmas.Bool.{cases_eq, ne_eqb}}
 use Rattle.std.proofs.lemmas.List.Sums.{sum_by-set, sum_by-take-le, get_or-le-sum_by}
-use Rattle.std.proofs.lemmas.Bool.{cases_eq, ne_eqb}
-use Rattle.vb_model.specs.Tests.{is_in, one_if, pages_from, pages_where}
-use Rattle.vb_model.specs.Driver.{AllDistinct}
-use Rattle.vb_model.specs.Orderly.{times}
-use Rattle.vb_model.specs.declared.places.Place.{Place}
+use Rattle.vb_model.{specs.Tests.{is_in, one_if, pages_from, pages_where}, specs.Driver.AllDistinct}
+use Rattle.vb_model.{specs.Orderly.times, specs.declared.places.Place.Place}
 use Rattle.vb_model.proofs.Tables.{count_by-cons, count_by-append}
 use Rattle.vb_pages.proofs.ListsLemmas.{times_in, times_out, one_if_le}
 use Rattle.vb_driver.specs.State.{naming}

@@ -1,19 +1,15 @@
 -- The queue of statistics, of which one buffer is out at the most: at descriptor 0.
-use Rattle.std.proofs.Common.{◌≡◌, ◌∙◌, sym, ap, subst, arith, refl, ℕ, ◌+◌, ◌<◌}
-use Rattle.std.proofs.Common.{◌%◌, Bool, true, false, List, [], ◌∷◌, length}
-use Rattle.std.proofs.Common.{inl, inr, eq-eqb, Option, Some, None, Result, Ok}
-use Rattle.std.proofs.Common.{is_none, is_some, MatchBool}
+use Rattle.std.proofs.Common.{◌≡◌, ◌∙◌, sym, ap, subst, arith, refl, ℕ, ◌+◌, ◌<◌, ◌%◌, Bool, true}
+use Rattle.std.proofs.Common.{false, List, [], ◌∷◌, length, inl, inr, eq-eqb, Option, Some, None}
+use Rattle.std.proofs.Common.{Result, Ok, is_none, is_some, MatchBool}
 use Rattle.std.proofs.lemmas.Bool.{cases_Bool}
 use Rattle.vb_ram.specs.Pages.{Pages}
-use Rattle.vb_ring.specs.declared.driver.RingBroken.{RingBroken}
-use Rattle.vb_ring.specs.Entries.{is_own, is_head, only_head}
 use Rattle.vb_ring.specs.Ends.{DriverEnd, IsDriverEnd, is_unused, outstanding, next_head, next_path}
+use Rattle.vb_ring.{specs.declared.driver.RingBroken.RingBroken, specs.Calls.TakesUsedBy}
+use Rattle.vb_ring.{specs.Entries.{is_own, is_head, only_head}, proofs.OwnerLaws.released-at}
 use Rattle.vb_ring.specs.Ends.{after_add, claimed, released, used_answer}
-use Rattle.vb_ring.specs.Calls.{TakesUsedBy}
 use Rattle.vb_ring.proofs.Numbers.{numbers_first, numbers_has, numbers_none}
-use Rattle.vb_ring.proofs.OwnerLaws.{released-at}
-use Rattle.vb_driver.specs.State.{IsStatisticsQueue, fresh_statistics}
-use Rattle.vb_driver.specs.Calls.{emptied}
+use Rattle.vb_driver.{specs.State.{IsStatisticsQueue, fresh_statistics}, specs.Calls.emptied}
 use Rattle.vb_driver.proofs.ReportTables.{none_owned}
 use Rattle.vb_driver.proofs.RequestTables.{next_path_is, claimed_same, claimed_other}
 

@@ -1,35 +1,24 @@
 -- The pages of the guest's own: blocks that are allocated and freed.
-use Rattle.std.proofs.Common.{◌≡◌, ◌∙◌, sym, ap, arith, refl, ℕ, ◌+◌, ◌^◌, ◌<◌, ◌≤◌, Bool}
-use Rattle.std.proofs.Common.{true, false, cond, eqb, not, ◌||◌, List, [], ◌∷◌, length, map}
-use Rattle.std.proofs.Common.{inl, inr, None, nat_le, nat_lt}
-use Rattle.std.specs.List.{list_any, range_with_len}
+use Rattle.std.proofs.Common.{◌≡◌, ◌∙◌, sym, ap, arith, refl, ℕ, ◌+◌, ◌^◌, ◌<◌, ◌≤◌, Bool, true}
+use Rattle.std.proofs.Common.{false, cond, eqb, not, ◌||◌, List, [], ◌∷◌, length, map, inl, inr}
+use Rattle.std.{proofs.Common.{None, nat_le, nat_lt}, specs.List.{list_any, range_with_len}}
 use Rattle.std.proofs.lemmas.Bool.{and_parts, or_cases, or_left, or_right, both_ways, eqb-true}
 use Rattle.std.proofs.lemmas.List.{length-map}
-use Rattle.vb_model.specs.Tests.{is_in}
-use Rattle.vb_model.specs.Pages.{Block, covers, pages_of, is_same_block, is_wholly_free}
-use Rattle.vb_model.specs.Pages.{place_of, placed, is_free, is_used, is_giving, is_taking}
-use Rattle.vb_model.specs.Pages.{is_reporting, pages_of_all}
-use Rattle.vb_model.specs.Orderly.{times}
-use Rattle.vb_model.specs.Driver.{with_block, without_block}
-use Rattle.vb_model.specs.Refusals.{first_refusal, ◌⇒◌}
-use Rattle.vb_model.specs.declared.places.Place.{Place}
+use Rattle.vb_model.specs.Pages.{Block, covers, pages_of, is_same_block, is_wholly_free, place_of}
+use Rattle.vb_model.specs.Pages.{placed, is_free, is_used, is_giving, is_taking, is_reporting}
+use Rattle.vb_model.{specs.Tests.is_in, specs.Pages.pages_of_all, specs.Orderly.times}
+use Rattle.vb_model.{specs.Driver.{with_block, without_block}, specs.Refusals.{first_refusal, ◌⇒◌}}
+use Rattle.vb_model.{specs.declared.places.Place.Place, proofs.Tables.list_all-at}
 use Rattle.vb_model.specs.declared.places.Place.TheVariants.{Reserved, Free, Used}
 use Rattle.vb_model.specs.declared.replies.Refusal.TheVariants.{BadOrder, BadCpu, NoPages, NotHeld}
-use Rattle.vb_model.proofs.Tables.{list_all-at}
 use Rattle.vb_model.proofs.PageSteps.{covers_is}
-use Rattle.vb_pages.specs.FreePages.{FreePages}
-use Rattle.vb_pages.specs.PageState.{PageState}
-use Rattle.vb_driver.specs.Places.{is_at}
-use Rattle.vb_driver.specs.State.{DriverState, page_state, naming, IsDriver}
-use Rattle.vb_driver.specs.Answers.{block_at, alloc_tests}
+use Rattle.vb_pages.{specs.FreePages.FreePages, specs.PageState.PageState}
 use Rattle.vb_driver.specs.Areas.{flags_of, AreApart, AreFor, Becomes, is_free_at, is_covered}
-use Rattle.vb_driver.specs.Areas.{is_free_block}
-use Rattle.vb_driver.specs.Places.{marked}
-use Rattle.vb_driver.proofs.Naming.{naming_same}
+use Rattle.vb_driver.{specs.Places.{is_at, marked}, specs.Answers.{block_at, alloc_tests}}
+use Rattle.vb_driver.specs.State.{DriverState, page_state, naming, IsDriver}
+use Rattle.vb_driver.{specs.Areas.is_free_block, proofs.Naming.naming_same, proofs.Counting.at_is}
 use Rattle.vb_driver.proofs.Keeping.{kept_changed, there_by, free_marked}
-use Rattle.vb_driver.proofs.Placing.{marked-get}
-use Rattle.vb_driver.proofs.Moving.{free_is_place}
-use Rattle.vb_driver.proofs.Counting.{at_is}
+use Rattle.vb_driver.{proofs.Placing.marked-get, proofs.Moving.free_is_place}
 use Rattle.vb_driver.proofs.ReportTables.{block_inside}
 
 -- ---- free blocks

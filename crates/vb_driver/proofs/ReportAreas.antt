@@ -1,35 +1,22 @@
 -- Blocks leave the page areas for a report, and come back.
 use Rattle.std.proofs.Common.{◌≡◌, ◌∙◌, sym, ap, subst, arith, refl, ℕ, ◌+◌, ◌^◌, ◌<◌, ◌≤◌, Bool}
 use Rattle.std.proofs.Common.{true, false, cond, eqb, not, ◌&&◌, ◌||◌, List, [], ◌∷◌, length, map}
-use Rattle.std.proofs.Common.{slice_index_or}
-use Rattle.std.specs.Prelude.{All}
-use Rattle.std.proofs.lemmas.Nat.{pow_pos}
-use Rattle.std.proofs.lemmas.List.{length-map, get_or-map}
-use Rattle.std.proofs.lemmas.List.Elements.{All-map}
-use Rattle.vb_model.specs.Tests.{is_in}
-use Rattle.vb_model.specs.Orderly.{times}
+use Rattle.std.{proofs.Common.slice_index_or, specs.Prelude.All, proofs.lemmas.Nat.pow_pos}
+use Rattle.std.{proofs.lemmas.List.{length-map, get_or-map}, proofs.lemmas.List.Elements.All-map}
 use Rattle.vb_model.specs.Pages.{Block, pages_of, pages_of_all, is_free, place_of, reported}
-use Rattle.vb_model.specs.Pages.{maximal_free_blocks}
-use Rattle.vb_model.specs.declared.places.Place.{Place}
-use Rattle.vb_model.proofs.Distinct.{distinct_once}
-use Rattle.vb_pages.specs.declared.block.FreeBlock.{FreeBlock}
-use Rattle.vb_pages.specs.FreePages.{drained}
-use Rattle.vb_pages.specs.PageState.{PageState, page_count, reserved_count, is_free_page}
-use Rattle.vb_pages.specs.PageState.{IsApart}
-use Rattle.vb_pages.specs.Areas.{without_pages}
-use Rattle.vb_pages.proofs.Sets.{in_block, length-with_pages, length-without_pages}
-use Rattle.vb_pages.proofs.Sets.{same_sets, without_parts, without_old}
+use Rattle.vb_model.{specs.Tests.is_in, specs.Orderly.times, specs.Pages.maximal_free_blocks}
+use Rattle.vb_model.{specs.declared.places.Place.Place, proofs.Distinct.distinct_once}
+use Rattle.vb_pages.proofs.Sets.{in_block, length-with_pages, length-without_pages, same_sets}
+use Rattle.vb_pages.{specs.declared.block.FreeBlock.FreeBlock, specs.FreePages.drained}
+use Rattle.vb_pages.specs.PageState.{PageState, page_count, reserved_count, is_free_page, IsApart}
+use Rattle.vb_pages.{specs.Areas.without_pages, proofs.Sets.{without_parts, without_old}}
 use Rattle.vb_report.specs.Blocks.{block_of, blocks_of, is_covered, blocks_to_report, HaveRoom}
-use Rattle.vb_report.specs.Blocks.{with_blocks, without_blocks}
-use Rattle.vb_report.proofs.Covering.{in_covered}
-use Rattle.vb_driver.specs.Areas.{Becomes, flags_of, is_free_at}
+use Rattle.vb_report.{specs.Blocks.{with_blocks, without_blocks}, proofs.Covering.in_covered}
+use Rattle.vb_driver.proofs.Flags.{for_these, length_flags, flag_free, free_flag, flags_moved}
+use Rattle.vb_driver.{proofs.ReportTables.{in_all, block_inside_all}, proofs.Moving.free_is_place}
+use Rattle.vb_driver.{specs.Areas.{Becomes, flags_of, is_free_at}, proofs.Flags.drained_sizes}
+use Rattle.vb_driver.{proofs.Placing.marked_none, specs.State.IsAreaBlock, specs.Places.marked}
 use Rattle.vb_driver.specs.Areas.{is_covered as is_in_block}
-use Rattle.vb_driver.specs.Places.{marked}
-use Rattle.vb_driver.specs.State.{IsAreaBlock}
-use Rattle.vb_driver.proofs.Flags.{for_these, length_flags, flag_free, free_flag, flags_moved, drained_sizes}
-use Rattle.vb_driver.proofs.Moving.{free_is_place}
-use Rattle.vb_driver.proofs.Placing.{marked_none}
-use Rattle.vb_driver.proofs.ReportTables.{in_all, block_inside_all}
 
 -- a page is free just where its flag says so
 flag_is : (s : PageState) (p : ℕ) → IsApart s

@@ -1,23 +1,15 @@
 -- The driver as a report goes out, and as it comes back.
-use Rattle.std.proofs.Common.{◌≡◌, ◌∙◌, ap, arith, refl, ℕ, ◌≤◌, Bool, true, false, cond}
-use Rattle.std.proofs.Common.{List, []}
-use Rattle.vb_model.specs.Tests.{is_in, one_if}
-use Rattle.vb_model.specs.Orderly.{times}
-use Rattle.vb_model.specs.Driver.{AllDistinct}
+use Rattle.std.proofs.Common.{◌≡◌, ◌∙◌, ap, arith, refl, ℕ, ◌≤◌, Bool, true, false, cond, List, []}
 use Rattle.vb_model.specs.Pages.{Block, pages_of_all, place_of, placed, is_free, is_used, is_giving}
-use Rattle.vb_model.specs.Pages.{is_taking, is_reporting}
-use Rattle.vb_model.specs.declared.places.Place.{Place}
+use Rattle.vb_model.{specs.Tests.{is_in, one_if}, specs.Orderly.times, specs.Driver.AllDistinct}
+use Rattle.vb_model.{specs.Pages.{is_taking, is_reporting}, specs.declared.places.Place.Place}
 use Rattle.vb_model.specs.declared.places.Place.TheVariants.{Reserved, Free, Reporting}
 use Rattle.vb_model.proofs.Distinct.{distinct_list}
-use Rattle.vb_pages.specs.FreePages.{FreePages}
-use Rattle.vb_pages.proofs.ListsLemmas.{times_in, times_out}
-use Rattle.vb_driver.specs.Places.{is_at, marked}
-use Rattle.vb_driver.specs.Areas.{AreFor, flags_of, is_free_at}
+use Rattle.vb_pages.{specs.FreePages.FreePages, proofs.ListsLemmas.{times_in, times_out}}
+use Rattle.vb_driver.{specs.Places.{is_at, marked}, specs.Areas.{AreFor, flags_of, is_free_at}}
 use Rattle.vb_driver.specs.State.{ReportSide, DriverState, IsReportQueue, IsDriver, naming}
-use Rattle.vb_driver.proofs.Counting.{at_is}
-use Rattle.vb_driver.proofs.Naming.{naming_same}
+use Rattle.vb_driver.{proofs.Counting.at_is, proofs.Naming.naming_same, proofs.Moving.free_is_place}
 use Rattle.vb_driver.proofs.Keeping.{kept_moved, there_by, free_marked}
-use Rattle.vb_driver.proofs.Moving.{free_is_place}
 
 -- ---- a report goes out
 

@@ -1,22 +1,16 @@
 -- A report that goes out: its chain has the first descriptors.
-use Rattle.std.proofs.Common.{◌≡◌, ◌∙◌, sym, ap, subst, arith, ℕ, ◌+◌, ◌<◌, ◌≤◌, List, []}
-use Rattle.std.proofs.Common.{length, slice_index, Result, Ok, Err}
-use Rattle.std.specs.List.{range_with_len}
-use Rattle.std.proofs.lemmas.List.{length-map}
-use Rattle.std.proofs.lemmas.List.FromFn.{get_or-range_with_len}
-use Rattle.vb_model.specs.Tests.{is_in}
-use Rattle.vb_model.specs.Pages.{Block}
+use Rattle.std.proofs.Common.{◌≡◌, ◌∙◌, sym, ap, subst, arith, ℕ, ◌+◌, ◌<◌, ◌≤◌, List, [], length}
+use Rattle.std.{proofs.Common.{slice_index, Result, Ok, Err}, specs.List.range_with_len}
+use Rattle.std.{proofs.lemmas.List.length-map, proofs.lemmas.List.FromFn.get_or-range_with_len}
+use Rattle.vb_model.{specs.Tests.is_in, specs.Pages.Block}
 use Rattle.vb_ram.specs.Pages.{Pages}
-use Rattle.vb_chain.specs.Table.{descriptor_at}
-use Rattle.vb_chain.specs.declared.pieces.Piece.{Piece}
+use Rattle.vb_chain.{specs.Table.descriptor_at, specs.declared.pieces.Piece.Piece}
 use Rattle.vb_chain.specs.Written.{linked}
-use Rattle.vb_ring.specs.declared.driver.Full.{Full}
+use Rattle.vb_ring.{specs.declared.driver.Full.Full, specs.Calls.AddsBy}
 use Rattle.vb_ring.specs.Ends.{DriverEnd, outstanding, next_path, add_answer, after_add}
-use Rattle.vb_ring.specs.Calls.{AddsBy}
 use Rattle.vb_pages.specs.declared.block.FreeBlock.{FreeBlock}
 use Rattle.vb_report.specs.Blocks.{block_of, blocks_of, piece_of, pieces_of}
-use Rattle.vb_driver.specs.State.{ReportSide, IsReportQueue}
-use Rattle.vb_driver.specs.Calls.{PostsReport}
+use Rattle.vb_driver.{specs.State.{ReportSide, IsReportQueue}, specs.Calls.PostsReport}
 use Rattle.vb_driver.proofs.ReportTables.{none_out, unowned, first_path, first_head, not_first}
 
 pub same_head : (a b : ℕ) (x y : Result ℕ Full) → x ≡ Ok a → y ≡ Ok b → x ≡ y → a ≡ b

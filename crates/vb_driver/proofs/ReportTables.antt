@@ -2,35 +2,25 @@
 use Rattle.std.proofs.Common.{◌≡◌, ◌∙◌, sym, ap, subst, arith, refl, ℕ, zero, suc, ◌+◌, ◌<◌, ◌≤◌}
 use Rattle.std.proofs.Common.{Bool, true, false, cond, eqb, List, [], ◌∷◌, ◌++◌, length, take, map}
 use Rattle.std.proofs.Common.{Option, None, Some, Ok, Err, inl, inr, replicate, is_none}
-use Rattle.std.proofs.Common.{slice_index, slice_index_or, nat_lt, add-one}
-use Rattle.std.proofs.lemmas.Bool.{cases_lt, le-ltb, lt-ltb, both_ways}
-use Rattle.std.proofs.lemmas.List.{length-replicate, get_or-replicate, get_or_past}
+use Rattle.std.proofs.lemmas.List.{length-replicate, get_or-replicate, get_or_past, length-map}
 use Rattle.std.proofs.lemmas.List.FromFn.{take-map-range_with_len, length-range_with_len}
-use Rattle.std.proofs.lemmas.List.FromFn.{get_or-range_with_len}
-use Rattle.std.specs.List.{range_with_len}
-use Rattle.vb_model.specs.Tests.{is_in}
-use Rattle.vb_model.specs.Pages.{Block}
+use Rattle.std.proofs.Common.{slice_index, slice_index_or, nat_lt, add-one, append-nil, ◌-◌, ◌^◌}
+use Rattle.std.proofs.lemmas.Bool.{cases_lt, le-ltb, lt-ltb, both_ways, or_left, or_right}
+use Rattle.std.proofs.lemmas.List.{get_or-map, take_more, map-append, length-append}
+use Rattle.std.{proofs.lemmas.List.FromFn.get_or-range_with_len, specs.List.range_with_len}
+use Rattle.std.{specs.Prelude.All, proofs.lemmas.Nat.pow_pos, proofs.lemmas.Grind.flat_map-append}
+use Rattle.std.proofs.lemmas.List.Folds.{list_any-append}
+use Rattle.vb_model.{specs.Tests.is_in, specs.Pages.{Block, pages_of, pages_of_all}}
 use Rattle.vb_model.proofs.PageSteps.{is_in-range, outside-range}
-use Rattle.vb_ring.specs.declared.driver.Full.TheVariants.{TooFewFree}
-use Rattle.std.specs.Prelude.{All}
-use Rattle.vb_ring.specs.Entries.{is_own, is_head}
 use Rattle.vb_ring.specs.Ends.{DriverEnd, IsDriverEnd, is_unused, outstanding, free_descriptors}
+use Rattle.vb_ring.{specs.declared.driver.Full.TheVariants.TooFewFree, specs.Numbers.numbers}
+use Rattle.vb_ring.{specs.Entries.{is_own, is_head}, proofs.OwnerLaws.{claimed-at, released-at}}
 use Rattle.vb_ring.specs.Ends.{next_path, add_answer, after_add, after_take, claimed}
-use Rattle.vb_ring.specs.Numbers.{numbers}
 use Rattle.vb_ring.proofs.Numbers.{numbers_yes, numbers_zero, length_all}
-use Rattle.vb_ring.proofs.OwnerLaws.{claimed-at, released-at}
 use Rattle.vb_driver.specs.State.{ReportSide, IsReportQueue, IsAreaBlock, fresh_report}
 use Rattle.vb_driver.proofs.Placing.{range_push}
-use Rattle.vb_pages.proofs.Sets.{in_block}
-use Rattle.vb_pages.specs.declared.block.FreeBlock.{FreeBlock}
+use Rattle.vb_pages.{proofs.Sets.in_block, specs.declared.block.FreeBlock.FreeBlock}
 use Rattle.vb_report.specs.Blocks.{block_of, blocks_of, HasOrder}
-use Rattle.vb_model.specs.Pages.{pages_of, pages_of_all}
-use Rattle.std.proofs.lemmas.Nat.{pow_pos}
-use Rattle.std.proofs.lemmas.Bool.{or_left, or_right}
-use Rattle.std.proofs.lemmas.List.{length-map, get_or-map, take_more, map-append, length-append}
-use Rattle.std.proofs.lemmas.List.Folds.{list_any-append}
-use Rattle.std.proofs.lemmas.Grind.{flat_map-append}
-use Rattle.std.proofs.Common.{append-nil, ◌-◌, ◌^◌}
 
 -- nothing belongs to a chain
 pub none_owned : (size i : ℕ) → slice_index_or (replicate {A = Option ℕ} size None) i None ≡ None

@@ -1,17 +1,13 @@
 -- A driver that begins a new life is as a new one.
 use Rattle.std.proofs.Common.{◌≡◌, ◌∙◌, sym, ap, ℕ, List, length, map}
 use Rattle.std.proofs.lemmas.List.{length-map}
-use Rattle.vb_model.specs.declared.places.Place.{Place}
-use Rattle.vb_model.specs.Pages.{all_free, is_free}
-use Rattle.vb_model.specs.Life.{place_after_reset}
-use Rattle.vb_model.specs.Tests.{pages_where}
-use Rattle.vb_model.specs.Pages.{is_reporting}
+use Rattle.vb_model.{specs.declared.places.Place.Place, specs.Life.place_after_reset}
+use Rattle.vb_model.{specs.Pages.{all_free, is_free, is_reporting}, specs.Tests.pages_where}
 use Rattle.vb_model.specs.Layout.{reserved_pages}
 use Rattle.vb_pages.specs.PageState.{PageState, page_count, cpu_count, reserved_count}
 use Rattle.vb_pages.specs.PageState.{new_page_state}
-use Rattle.vb_driver.specs.Areas.{areas_with}
 use Rattle.vb_driver.specs.State.{DriverState, IsDriver, page_state, fresh_driver, fresh_side}
-use Rattle.vb_driver.specs.State.{fresh_statistics, fresh_report}
+use Rattle.vb_driver.{specs.Areas.areas_with, specs.State.{fresh_statistics, fresh_report}}
 use Rattle.vb_driver.proofs.Flags.{length_flags}
 
 abbrev after_reset : DriverState → DriverState

@@ -1,19 +1,16 @@
 -- Tables of places, as the pages of a run move that are all at one place.
-use Rattle.std.proofs.Common.{◌≡◌, ◌∙◌, sym, ap, arith, ℕ, zero, suc, ◌+◌, ◌-◌, ◌<◌, ◌≤◌}
-use Rattle.std.proofs.Common.{Bool, true, false, List, length, get_or, set, map}
-use Rattle.std.proofs.Common.{count_by, min}
+use Rattle.std.proofs.Common.{◌≡◌, ◌∙◌, sym, ap, arith, ℕ, zero, suc, ◌+◌, ◌-◌, ◌<◌, ◌≤◌, Bool}
+use Rattle.std.proofs.Common.{true, false, List, length, get_or, set, map, count_by, min}
 use Rattle.std.proofs.lemmas.List.{get_or_default, length-map, length-set, same_lists}
 use Rattle.std.proofs.lemmas.List.FromFn.{get_or-map-range_with_len, length-range_with_len}
-use Rattle.std.proofs.Math.Seq.{map-set_same}
-use Rattle.std.specs.List.{range_with_len}
-use Rattle.vb_model.specs.declared.places.Place.{Place}
+use Rattle.std.{proofs.Math.Seq.map-set_same, specs.List.range_with_len}
+use Rattle.vb_model.{specs.declared.places.Place.Place, specs.Tests.is_in}
 use Rattle.vb_model.specs.declared.places.Place.TheVariants.{Reserved, Free}
-use Rattle.vb_model.specs.Tests.{is_in}
 use Rattle.vb_model.specs.Pages.{all_free, placed, place_of, is_lent, is_stranded}
 use Rattle.vb_model.proofs.PageSteps.{is_in-range, outside-range}
-use Rattle.vb_driver.specs.Places.{number_of, is_at, IsTable}
+use Rattle.vb_driver.proofs.Placing.{length-marked, marked-get, marked_none, marked_more}
+use Rattle.vb_driver.{specs.Places.{number_of, is_at, IsTable}, proofs.Placing.range_push}
 use Rattle.vb_driver.proofs.Counting.{hits, count_moves, counts_shifted, number_small}
-use Rattle.vb_driver.proofs.Placing.{length-marked, marked-get, marked_none, marked_more, range_push}
 
 -- these pages are at this place
 pub record AreAt (places : List Place) (start n : ℕ) (place : Place) : Type 0 where

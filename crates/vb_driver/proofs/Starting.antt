@@ -1,24 +1,17 @@
 -- A device is asked for features, and its rings begin.
-use Rattle.std.proofs.Common.{inl, inr}
-use Rattle.std.proofs.Common.{◌≡◌, ◌≢◌, ◌∙◌, sym, subst, refl, arith, ℕ, ◌<◌, true}
-use Rattle.std.proofs.Common.{false, [], None, Some, Result, Ok, Err, is_err, OnOk}
-use Rattle.vb_model.specs.declared.replies.Refusal.{Refusal}
-use Rattle.vb_model.specs.Status.{negotiate_refusal, status_refusal}
-use Rattle.vb_model.specs.Life.{feature_refusal, accepted_before}
-use Rattle.vb_ram.specs.Pages.{Pages, byte_at, SameIn}
-use Rattle.vb_ram.proofs.FieldLaws.{same_page}
-use Rattle.vb_model.specs.Layout.{is_ring_page, ring_number, ring_page}
-use Rattle.vb_model.proofs.Shapes.{InRing, in_ring_page, ring_no_buffer}
-use Rattle.vb_ring.specs.Layout.{IsSize}
-use Rattle.vb_ring.proofs.Shapes.{parts_in_ring, fits_at}
-use Rattle.vb_ring.proofs.MeaningLaws.{fresh_shows, fresh_tracks}
-use Rattle.vb_status.specs.Answers.{answered_refusal}
-use Rattle.vb_status.specs.declared.bits.StatusFault.{StatusFault}
-use Rattle.vb_ring.specs.Ends.{DriverEnd}
+use Rattle.std.proofs.Common.{inl, inr, ◌≡◌, ◌≢◌, ◌∙◌, sym, subst, refl, arith, ℕ, ◌<◌, true, false}
+use Rattle.std.proofs.Common.{[], None, Some, Result, Ok, Err, is_err, OnOk}
+use Rattle.vb_model.{specs.declared.replies.Refusal.Refusal, specs.Status.negotiate_refusal}
+use Rattle.vb_model.{specs.Status.status_refusal, specs.Life.{feature_refusal, accepted_before}}
+use Rattle.vb_model.{specs.Layout.{is_ring_page, ring_number, ring_page}, proofs.Shapes.InRing}
+use Rattle.vb_model.proofs.Shapes.{in_ring_page, ring_no_buffer}
+use Rattle.vb_ram.{specs.Pages.{Pages, byte_at, SameIn}, proofs.FieldLaws.same_page}
+use Rattle.vb_ring.{specs.Layout.IsSize, proofs.Shapes.{parts_in_ring, fits_at}}
+use Rattle.vb_ring.{proofs.MeaningLaws.{fresh_shows, fresh_tracks}, specs.Ends.DriverEnd}
+use Rattle.vb_status.{specs.Answers.answered_refusal, specs.declared.bits.StatusFault.StatusFault}
 use Rattle.vb_driver.specs.State.{DriverState, fresh_ring, fresh_statistics}
 use Rattle.vb_driver.proofs.Shapes.{ring_layout, IsBeside, beside_rings}
-use Rattle.vb_driver.specs.Coding.{SameButPages}
-use Rattle.vb_driver.specs.Calls.{IsNewRing, with_nothing_out}
+use Rattle.vb_driver.{specs.Coding.SameButPages, specs.Calls.{IsNewRing, with_nothing_out}}
 
 -- features that are offered are refused for what FEATURES_OK needs alone
 pub offered_then : (wanted : ℕ) → negotiate_refusal 3 wanted ≡ None

@@ -1,11 +1,9 @@
 -- The frames that are out are those that aren't free.
-use Rattle.std.proofs.Common.{◌≡◌, ℕ, ◌+◌, ◌<◌, Bool, true, false, List, [], ◌∷◌, length}
-use Rattle.std.proofs.Common.{map, not, replicate, refl, sym, ap, ◌∙◌, inl, inr, arith, zero, suc}
-use Rattle.std.specs.Prelude.{count_by}
-use Rattle.std.proofs.lemmas.Bool.{cases_lt, false≢true}
+use Rattle.std.proofs.Common.{◌≡◌, ℕ, ◌+◌, ◌<◌, Bool, true, false, List, [], ◌∷◌, length, map, not}
+use Rattle.std.proofs.Common.{replicate, refl, sym, ap, ◌∙◌, inl, inr, arith, zero, suc}
+use Rattle.std.{specs.Prelude.count_by, proofs.lemmas.Bool.{cases_lt, false≢true}}
 use Rattle.std.proofs.lemmas.List.{get_or-map, get_or_past, length-map}
-use Rattle.vb_model.specs.Tests.{one_if}
-use Rattle.vb_model.proofs.Tables.{count_by-cons}
+use Rattle.vb_model.{specs.Tests.one_if, proofs.Tables.count_by-cons}
 use Rattle.vb_bits.specs.Sets.{has, HasNoneFrom, IsLeastFrom}
 use Rattle.vb_frames.specs.Out.{is_out, IsFree, AllOut}
 

@@ -1,14 +1,11 @@
 -- A table's claims are the model's.
 use Rattle.std.proofs.Common.{◌≡◌, ℕ, ◌<◌, Bool, true, false, List, [], ◌∷◌, length, set, sym}
-use Rattle.std.proofs.Common.{subst, ap, ◌∙◌, ◌⊎◌, inl, inr}
-use Rattle.std.proofs.lemmas.Bool.{false≢true}
+use Rattle.std.{proofs.Common.{subst, ap, ◌∙◌, ◌⊎◌, inl, inr}, proofs.lemmas.Bool.false≢true}
 use Rattle.std.proofs.lemmas.Bool.Decides.{eqb_tells}
 use Rattle.std.proofs.lemmas.List.{length-set, get_or-set_same, get_or-set_other}
-use Rattle.vb_model.specs.declared.calls.Claim.{Claim}
+use Rattle.vb_model.{specs.declared.calls.Claim.Claim, specs.HostFrames.Gives}
 use Rattle.vb_model.specs.declared.calls.Claim.TheVariants.{Gave, GaveNoFrame, GaveNoMemory}
-use Rattle.vb_model.specs.HostFrames.{Gives}
-use Rattle.vb_frames.proofs.Returns.{same_gives}
-use Rattle.vb_frames.specs.Out.{is_out, AllAnswered, TableAnswers}
+use Rattle.vb_frames.{proofs.Returns.same_gives, specs.Out.{is_out, AllAnswered, TableAnswers}}
 
 -- the frames that are out after one was given
 out_after : (out : List Bool) (f x : ℕ) → is_out (set out f true) x ≡ true

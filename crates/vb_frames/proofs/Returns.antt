@@ -1,10 +1,8 @@
 -- Laws of claims and returns, for the crates above.
 use Rattle.std.specs.Prelude.{◌≡◌, ℕ, zero, suc, ◌<◌, Bool, true, false, List, [], ◌∷◌, length}
-use Rattle.std.specs.Prelude.{slice_set, ◌⊎◌}
-use Rattle.std.proofs.Common.{arith, inl, inr, sym, ap, set}
-use Rattle.vb_model.specs.declared.calls.Claim.{Claim}
+use Rattle.std.{specs.Prelude.{slice_set, ◌⊎◌}, proofs.Common.{arith, inl, inr, sym, ap, set}}
+use Rattle.vb_model.{specs.declared.calls.Claim.Claim, specs.HostFrames.Gives}
 use Rattle.vb_model.specs.declared.calls.Claim.TheVariants.{Gave, GaveNoFrame, GaveNoMemory}
-use Rattle.vb_model.specs.HostFrames.{Gives}
 use Rattle.vb_frames.specs.Out.{is_out, IsFree}
 
 -- a frame that is given and put back leaves all as it was

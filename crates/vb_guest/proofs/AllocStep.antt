@@ -1,21 +1,13 @@
 -- A guest's allocation is a step of the definitions.
-use Rattle.std.specs.Prelude.{ℕ, [], Result, Ok, Err, refl}
-use Rattle.std.proofs.Common.{sym, subst, inl, inr}
-use Rattle.vb_model.specs.declared.calls.Call.TheVariants.{Alloc}
-use Rattle.vb_model.specs.declared.places.Place.TheVariants.{Used}
-use Rattle.vb_model.specs.declared.replies.Refusal.{Refusal}
+use Rattle.std.{specs.Prelude.{ℕ, [], Result, Ok, Err, refl}, proofs.Common.{sym, subst, inl, inr}}
+use Rattle.vb_model.{specs.declared.calls.Call.TheVariants.Alloc, specs.Pages.{pages_of, placed}}
+use Rattle.vb_model.{specs.declared.places.Place.TheVariants.Used, specs.Guest.Guest}
+use Rattle.vb_model.{specs.declared.replies.Refusal.Refusal, specs.Driver.with_block}
 use Rattle.vb_model.specs.declared.replies.Reply.TheVariants.{Page, Refused}
-use Rattle.vb_model.specs.Pages.{pages_of, placed}
-use Rattle.vb_model.specs.Guest.{Guest}
-use Rattle.vb_model.specs.Driver.{with_block}
-use Rattle.vb_ram.specs.Pages.{Pages}
-use Rattle.vb_ram.specs.Part.{Part}
-use Rattle.vb_driver.specs.State.{FreePages, DriverState}
-use Rattle.vb_driver.specs.Answers.{block_at}
+use Rattle.vb_ram.{specs.Pages.Pages, specs.Part.Part}
+use Rattle.vb_driver.{specs.State.{FreePages, DriverState}, specs.Answers.block_at}
 use Rattle.vb_driver.specs.Calls.{AllocatesBy}
-use Rattle.vb_guest.specs.Stands.{Honest, Ties}
-use Rattle.vb_guest.specs.Steps.{StepsAlone}
-use Rattle.vb_guest.specs.Replies.{page_reply}
+use Rattle.vb_guest.{specs.Stands.{Honest, Ties}, specs.Steps.StepsAlone, specs.Replies.page_reply}
 use Rattle.vb_guest.proofs.Closing.{honest_performed, honest_refused, steps_alone, ties_areas}
 use Rattle.vb_guest.proofs.Writing.{idle_still}
 use Rattle.vb_guest.proofs.DriverWords.{Sides, sides_of, driver_of, driver_is, keeps_own}

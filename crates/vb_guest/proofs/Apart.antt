@@ -1,21 +1,14 @@
 -- What leaves a queue alone.
 use Rattle.std.specs.Prelude.{◌≡◌, ◌≢◌, ℕ, ◌+◌, ◌*◌, ◌<◌, ◌≤◌, List, length, slice_index_or}
 use Rattle.std.proofs.Common.{◌∙◌, arith, inl, refl, subst}
-use Rattle.vb_model.specs.Layout.{reserved_pages, ring_number, ring_page, buffers_page}
-use Rattle.vb_model.specs.Layout.{buffer_page}
-use Rattle.vb_model.specs.Layout.{buffer_offset}
-use Rattle.vb_model.specs.Requests.{Request, Requests}
-use Rattle.vb_ram.specs.Pages.{Pages, page_at}
-use Rattle.vb_ram.specs.Part.{QueuePart}
-use Rattle.vb_ram.proofs.FieldLaws.{same_page}
-use Rattle.vb_chain.specs.Table.{descriptor_at}
-use Rattle.vb_chain.proofs.TableLaws.{descriptor_apart}
-use Rattle.vb_ring.specs.Ends.{DriverEnd}
-use Rattle.vb_driver.specs.Coding.{IsCoded}
-use Rattle.vb_driver.specs.State.{RequestSide}
-use Rattle.vb_driver.proofs.Buffers.{names_kept}
-use Rattle.vb_guest.specs.Line.{Line, IsRequest, RingOf, heads_of}
+use Rattle.vb_model.specs.Layout.{reserved_pages, ring_number, ring_page, buffers_page, buffer_page}
+use Rattle.vb_model.{specs.Layout.buffer_offset, specs.Requests.{Request, Requests}}
 use Rattle.vb_model.proofs.Shapes.{InRing, in_ring_page, ring_reserved, rings_apart}
+use Rattle.vb_ram.{specs.Pages.{Pages, page_at}, specs.Part.QueuePart, proofs.FieldLaws.same_page}
+use Rattle.vb_chain.{specs.Table.descriptor_at, proofs.TableLaws.descriptor_apart}
+use Rattle.vb_ring.specs.Ends.{DriverEnd}
+use Rattle.vb_driver.{specs.Coding.IsCoded, specs.State.RequestSide, proofs.Buffers.names_kept}
+use Rattle.vb_guest.specs.Line.{Line, IsRequest, RingOf, heads_of}
 use Rattle.vb_guest.proofs.RingApart.{SameRing, ring_apart}
 
 -- the pages of a queue's ring, and those of its buffers, are as before

@@ -2,34 +2,23 @@
 use Rattle.std.specs.Prelude.{◌≡◌, false, List, [], Result, Ok, Err, IsOk, Some, None, is_some}
 use Rattle.std.specs.Prelude.{slice_get, refl}
 use Rattle.std.proofs.Common.{sym, ◌∙◌, ap, subst, arith, inl, inr}
-use Rattle.vb_model.specs.declared.calls.Call.TheVariants.{Ask}
-use Rattle.vb_model.specs.declared.replies.Refusal.{Refusal}
-use Rattle.vb_model.specs.declared.replies.Refusal.TheVariants.{NotReady, NotTaken}
-use Rattle.vb_model.specs.declared.replies.Reply.TheVariants.{Asked}
 use Rattle.vb_model.specs.Requests.{Request, Figures, Buffer, NoBuffer, BufferPosted, BufferTaken}
-use Rattle.vb_model.specs.Requests.{BufferDone}
-use Rattle.vb_model.specs.Guest.{Guest}
-use Rattle.vb_model.specs.Device.{Asks}
+use Rattle.vb_model.{specs.declared.calls.Call.TheVariants.Ask, specs.Requests.BufferDone}
+use Rattle.vb_model.{specs.declared.replies.Refusal.Refusal, specs.Guest.Guest, specs.Device.Asks}
+use Rattle.vb_model.specs.declared.replies.Refusal.TheVariants.{NotReady, NotTaken}
+use Rattle.vb_model.{specs.declared.replies.Reply.TheVariants.Asked, specs.Layout.reserved_pages}
 use Rattle.vb_model.specs.Refusals.{refusal_of, is_taken}
-use Rattle.vb_ram.specs.Pages.{Pages}
-use Rattle.vb_ram.specs.Part.{Part}
+use Rattle.vb_ram.{specs.Pages.Pages, specs.Part.Part}
 use Rattle.vb_driver.specs.State.{DriverState}
-use Rattle.vb_device.specs.Conditions.{ask_refusal, taken_at}
-use Rattle.vb_device.specs.Calls.{AsksBy, using}
-use Rattle.vb_guest.specs.Buffer.{BufferLine, taken_requests}
-use Rattle.vb_guest.specs.Stands.{Honest, Ties, IsRunning}
-use Rattle.vb_guest.specs.Steps.{StepsAlone}
-use Rattle.vb_guest.specs.Replies.{asked_reply}
-use Rattle.vb_model.specs.Layout.{reserved_pages}
-use Rattle.vb_guest.proofs.RingApart.{ring_parts}
+use Rattle.vb_device.{specs.Conditions.{ask_refusal, taken_at}, specs.Calls.{AsksBy, using}}
 use Rattle.vb_guest.proofs.RunApart.{sizes_of, others_same, ring_low, ring_as}
-use Rattle.vb_guest.proofs.Apart.{line_apart}
-use Rattle.vb_guest.proofs.BufferLines.{buffer_used}
-use Rattle.vb_guest.proofs.ReportLines.{report_apart}
-use Rattle.vb_guest.proofs.Handing.{used_same, same_end, end_by}
-use Rattle.vb_guest.proofs.PagesKept.{SamePages, pages_same}
-use Rattle.vb_guest.proofs.SameRefusals.{ask_same, ask_idle}
 use Rattle.vb_guest.proofs.Closing.{honest_performed, steps_alone, ties_same}
+use Rattle.vb_guest.{proofs.Handing.{used_same, same_end, end_by}, proofs.ReportLines.report_apart}
+use Rattle.vb_guest.{specs.Buffer.{BufferLine, taken_requests}, proofs.BufferLines.buffer_used}
+use Rattle.vb_guest.{proofs.PagesKept.{SamePages, pages_same}, proofs.RingApart.ring_parts}
+use Rattle.vb_guest.{proofs.SameRefusals.{ask_same, ask_idle}, specs.Replies.asked_reply}
+use Rattle.vb_guest.{specs.Stands.{Honest, Ties, IsRunning}, proofs.Apart.line_apart}
+use Rattle.vb_guest.specs.Steps.{StepsAlone}
 
 ask_refused : {T : Type 0} (m1 m2 : Pages) (p1 p2 : Part) (d : DriverState) (g : Guest)
     (why : Refusal) (result : Result T Refusal)

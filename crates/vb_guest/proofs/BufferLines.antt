@@ -1,24 +1,16 @@
 -- What calls make of the statistics buffer.
-use Rattle.std.specs.Prelude.{◌≡◌, ℕ, ◌+◌, ◌%◌, true, List, [], ◌∷◌, ◌++◌, remove, Some, Ok}
-use Rattle.std.specs.Prelude.{refl}
+use Rattle.std.specs.Prelude.{◌≡◌, ℕ, ◌+◌, ◌%◌, true, List, [], ◌∷◌, ◌++◌, remove, Some, Ok, refl}
 use Rattle.std.proofs.Common.{ap, arith, inl}
-use Rattle.vb_model.specs.Layout.{ring_page}
 use Rattle.vb_model.specs.Requests.{Request, Figures, Buffer, NoBuffer, BufferPosted, BufferTaken}
-use Rattle.vb_model.specs.Requests.{BufferDone}
-use Rattle.vb_ram.specs.Pages.{Pages, page_at}
-use Rattle.vb_ram.specs.Part.{QueuePart}
+use Rattle.vb_model.{specs.Layout.ring_page, specs.Requests.BufferDone}
+use Rattle.vb_ram.{specs.Pages.{Pages, page_at}, specs.Part.QueuePart}
 use Rattle.vb_ram.proofs.FieldLaws.{field_in, same_page}
 use Rattle.vb_chain.proofs.TableLaws.{descriptor_apart}
-use Rattle.vb_ring.specs.Ends.{DriverEnd, DeviceEnd}
-use Rattle.vb_ring.specs.Calls.{AddsUsedBy, TakesUsedBy}
-use Rattle.vb_driver.specs.Coding.{AreFigures, IsStatistic}
-use Rattle.vb_driver.specs.Calls.{PostsBuffer, emptied}
-use Rattle.vb_guest.specs.Buffer.{BufferLine, HasFigures}
-use Rattle.vb_guest.proofs.RingApart.{SameRing, ring_apart}
-use Rattle.vb_guest.proofs.RingPosted.{ring_posted}
-use Rattle.vb_guest.proofs.RingTaken.{ring_taken}
-use Rattle.vb_guest.proofs.RingUsed.{ring_used}
-use Rattle.vb_guest.proofs.RingReaped.{ring_reaped}
+use Rattle.vb_ring.{specs.Ends.{DriverEnd, DeviceEnd}, specs.Calls.{AddsUsedBy, TakesUsedBy}}
+use Rattle.vb_driver.{specs.Coding.{AreFigures, IsStatistic}, specs.Calls.{PostsBuffer, emptied}}
+use Rattle.vb_guest.{specs.Buffer.{BufferLine, HasFigures}, proofs.RingApart.{SameRing, ring_apart}}
+use Rattle.vb_guest.{proofs.RingPosted.ring_posted, proofs.RingTaken.ring_taken}
+use Rattle.vb_guest.{proofs.RingUsed.ring_used, proofs.RingReaped.ring_reaped}
 
 -- ---- memory changes elsewhere
 

@@ -1,23 +1,15 @@
 -- From what a call ties and the model's step to what the guest's clauses say.
 use Rattle.std.specs.Prelude.{◌≡◌, Bool, true, false, List, [], ◌∷◌, Some, None, if◌then◌else◌, ◌⊎◌}
 use Rattle.std.proofs.Common.{ap, arith}
-use Rattle.vb_model.specs.declared.calls.Call.{Call}
-use Rattle.vb_model.specs.declared.calls.Claim.{Claim}
-use Rattle.vb_model.specs.declared.replies.Refusal.{Refusal}
-use Rattle.vb_model.specs.declared.replies.Reply.{Reply}
-use Rattle.vb_model.specs.declared.replies.Reply.TheVariants.{Refused}
-use Rattle.vb_model.specs.Requests.{no_requests}
-use Rattle.vb_model.specs.Guest.{Guest}
-use Rattle.vb_model.specs.Refusals.{Test, ◌⇒◌, first_refusal, refusal_of}
-use Rattle.vb_model.specs.Rogue.{GuestStep}
-use Rattle.vb_model.specs.Step.{Performs, HonestStep}
-use Rattle.vb_model.proofs.CallSteps.{honest_keeps}
-use Rattle.vb_model.proofs.OrderlySteps.{honest_order}
-use Rattle.vb_ram.specs.Pages.{Pages}
-use Rattle.vb_ram.specs.Part.{Part}
+use Rattle.vb_model.{specs.declared.calls.Call.Call, specs.declared.calls.Claim.Claim}
+use Rattle.vb_model.{specs.declared.replies.Refusal.Refusal, specs.declared.replies.Reply.Reply}
+use Rattle.vb_model.{specs.declared.replies.Reply.TheVariants.Refused, specs.Requests.no_requests}
+use Rattle.vb_model.{specs.Guest.Guest, specs.Refusals.{Test, ◌⇒◌, first_refusal, refusal_of}}
+use Rattle.vb_model.{specs.Rogue.GuestStep, specs.Step.{Performs, HonestStep}}
+use Rattle.vb_model.{proofs.CallSteps.honest_keeps, proofs.OrderlySteps.honest_order}
+use Rattle.vb_ram.{specs.Pages.Pages, specs.Part.Part}
 use Rattle.vb_driver.specs.State.{FreePages, DriverState}
-use Rattle.vb_guest.specs.Stands.{Honest, Ties, IsIdle, IsRunning}
-use Rattle.vb_guest.specs.Steps.{StepsAlone}
+use Rattle.vb_guest.{specs.Stands.{Honest, Ties, IsIdle, IsRunning}, specs.Steps.StepsAlone}
 
 pub first_holds : (b : Bool) (why : Refusal) (rest : List Test) → b ≡ true
     → first_refusal ((b ⇒ why) ∷ rest) ≡ Some why

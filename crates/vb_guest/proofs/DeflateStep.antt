@@ -3,45 +3,31 @@ use Rattle.std.specs.Prelude.{◌≡◌, ℕ, zero, suc, ◌<◌, ◌≤◌, ◌
 use Rattle.std.specs.Prelude.{length, take, Result, Ok, Err, OnErr, IfOk, Option, Some, None}
 use Rattle.std.specs.Prelude.{is_some, count_by, refl, ◌⊎◌}
 use Rattle.std.proofs.Common.{sym, ◌∙◌, ap, subst, arith, inl, inr}
-use Rattle.vb_model.specs.declared.calls.Call.{Call}
-use Rattle.vb_model.specs.declared.calls.Call.TheVariants.{Deflate, Oom}
-use Rattle.vb_model.specs.declared.replies.Refusal.{Refusal}
 use Rattle.vb_model.specs.declared.replies.Refusal.TheVariants.{NotReady, NoFeature, QueueFull}
-use Rattle.vb_model.specs.declared.replies.Refusal.TheVariants.{Nothing}
-use Rattle.vb_model.specs.declared.replies.Reply.{Reply}
-use Rattle.vb_model.specs.declared.replies.Reply.TheVariants.{Posted}
-use Rattle.vb_model.specs.Tests.{pages_from}
-use Rattle.vb_model.specs.Requests.{outstanding, Deflating}
-use Rattle.vb_model.specs.Guest.{Guest, lent_count, deflate_on_oom}
-use Rattle.vb_model.specs.Driver.{Deflates, lowest_lent, asking}
+use Rattle.vb_model.{specs.declared.calls.Call.Call, specs.declared.replies.Refusal.Refusal}
+use Rattle.vb_model.{specs.declared.calls.Call.TheVariants.{Deflate, Oom}, specs.Tests.pages_from}
+use Rattle.vb_model.{specs.declared.replies.Refusal.TheVariants.Nothing, specs.Step.Performs}
+use Rattle.vb_model.{specs.declared.replies.Reply.Reply, specs.Requests.{outstanding, Deflating}}
+use Rattle.vb_model.{specs.declared.replies.Reply.TheVariants.Posted, proofs.Tables.count_by-cons}
+use Rattle.vb_model.{specs.Guest.{Guest, lent_count, deflate_on_oom}, specs.Layout.buffer_page}
+use Rattle.vb_model.{specs.Driver.{Deflates, lowest_lent, asking}, proofs.OrderlySteps.honest_order}
 use Rattle.vb_model.specs.Refusals.{◌⇒◌, first_refusal, refusal_of, deflate_count, oom_count, room}
-use Rattle.vb_model.specs.Step.{Performs}
-use Rattle.vb_model.proofs.Tables.{count_by-cons}
-use Rattle.vb_model.proofs.OrderlySteps.{honest_order}
-use Rattle.vb_ram.specs.Pages.{Pages}
-use Rattle.vb_ram.specs.Part.{Part}
-use Rattle.vb_ring.specs.Ends.{outstanding as outstanding_in}
-use Rattle.vb_driver.specs.declared.answers.Posted.{Posted as PostedRequest}
+use Rattle.vb_model.proofs.Shapes.{reserved_least}
+use Rattle.vb_ram.{specs.Pages.Pages, specs.Part.Part}
 use Rattle.vb_driver.specs.State.{FreePages, DriverState, IsDriver}
 use Rattle.vb_driver.specs.Answers.{refusal_in, deflate_tests, oom_tests}
-use Rattle.vb_driver.specs.Answers.{deflate_count as driver_count}
 use Rattle.vb_driver.specs.Calls.{Unchanged, AsksBack, DeflatesBy, DeflatesOnOomBy, areas_asked}
-use Rattle.vb_guest.specs.Stands.{Honest, Ties, IsRunning}
-use Rattle.vb_guest.specs.Steps.{StepsAlone}
-use Rattle.vb_guest.specs.Replies.{posted_reply}
-use Rattle.vb_model.specs.Layout.{buffer_page}
-use Rattle.vb_model.proofs.Shapes.{reserved_least}
 use Rattle.vb_guest.proofs.RunApart.{sizes_of, ring_of, buffer_clear, post_leaves, post_same}
-use Rattle.vb_guest.proofs.Offered.{asked_as}
-use Rattle.vb_guest.proofs.Apart.{line_apart}
-use Rattle.vb_guest.proofs.BufferLines.{buffer_apart}
-use Rattle.vb_guest.proofs.ReportLines.{report_apart}
-use Rattle.vb_guest.proofs.Posting.{line_posted, least_head, outstanding_are}
-use Rattle.vb_guest.proofs.PagesKept.{pages_same}
-use Rattle.vb_guest.proofs.Closing.{honest_performed, steps_alone}
-use Rattle.vb_guest.proofs.Offered.{last_sound, deflate_requested}
-use Rattle.vb_guest.proofs.InflateStep.{request_refusal}
 use Rattle.vb_guest.proofs.DriverWords.{Sides, sides_of, driver_of, driver_is, keeps_own}
+use Rattle.vb_guest.proofs.Posting.{line_posted, least_head, outstanding_are}
+use Rattle.vb_guest.proofs.Offered.{asked_as, last_sound, deflate_requested}
+use Rattle.vb_guest.{proofs.Closing.{honest_performed, steps_alone}, proofs.PagesKept.pages_same}
+use Rattle.vb_guest.{specs.Stands.{Honest, Ties, IsRunning}, proofs.InflateStep.request_refusal}
+use Rattle.vb_guest.{proofs.BufferLines.buffer_apart, proofs.ReportLines.report_apart}
+use Rattle.vb_guest.{specs.Replies.posted_reply, proofs.Apart.line_apart, specs.Steps.StepsAlone}
+use Rattle.vb_ring.specs.Ends.{outstanding as outstanding_in}
+use Rattle.vb_driver.specs.declared.answers.Posted.{Posted as PostedRequest}
+use Rattle.vb_driver.specs.Answers.{deflate_count as driver_count}
 
 -- ---- the lowest lent pages are as many as were asked for
 

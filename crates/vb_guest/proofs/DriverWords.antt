@@ -1,6 +1,5 @@
 -- The driver in the words of its guest.
-use Rattle.std.specs.Prelude.{◌≡◌, refl}
-use Rattle.std.proofs.Common.{◌∙◌, ap}
+use Rattle.std.{specs.Prelude.{◌≡◌, refl}, proofs.Common.{◌∙◌, ap}}
 use Rattle.vb_model.specs.Guest.{Guest}
 use Rattle.vb_ram.specs.Part.{Part}
 use Rattle.vb_ring.specs.Ends.{DriverEnd}

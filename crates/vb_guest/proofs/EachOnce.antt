@@ -1,9 +1,7 @@
 -- Distinct numbers, each once, are the same numbers.
 use Rattle.std.specs.Prelude.{◌≡◌, ℕ, ◌==◌, ◌||◌, Bool, true, false, not, cond, List, [], ◌∷◌}
-use Rattle.std.specs.Prelude.{IsTrue, filter, refl}
-use Rattle.std.proofs.Common.{sym, ◌∙◌, ap}
-use Rattle.vb_model.specs.Tests.{is_in}
-use Rattle.vb_model.specs.Driver.{AllDistinct}
+use Rattle.std.{specs.Prelude.{IsTrue, filter, refl}, proofs.Common.{sym, ◌∙◌, ap}}
+use Rattle.vb_model.{specs.Tests.is_in, specs.Driver.AllDistinct}
 use Rattle.vb_request.specs.Request.{each_once}
 
 not_true : (b : Bool) → IsTrue (not b) → b ≡ false

@@ -1,47 +1,31 @@
 -- A guest's finish of a report is a step of the definitions.
-use Rattle.std.specs.Prelude.{◌≡◌, ℕ, zero, suc, ◌<◌, ◌≤◌, List, [], ◌∷◌}
-use Rattle.std.specs.Prelude.{All, Result, Option, Some, None, is_some, slice_get, refl}
-use Rattle.std.specs.Option.{option_to_list}
-use Rattle.std.specs.List.{flat_map}
-use Rattle.std.proofs.Common.{sym, ◌∙◌, ap, subst, arith, inl, inr}
+use Rattle.std.specs.Prelude.{◌≡◌, ℕ, zero, suc, ◌<◌, ◌≤◌, List, [], ◌∷◌, All, Result, Option, Some}
+use Rattle.std.{specs.Prelude.{None, is_some, slice_get, refl}, specs.Option.option_to_list}
+use Rattle.std.{specs.List.flat_map, proofs.Common.{sym, ◌∙◌, ap, subst, arith, inl, inr}}
 use Rattle.std.proofs.lemmas.Option.{get_or_from_slice_get, slice_get_within}
-use Rattle.vb_model.specs.declared.calls.Call.TheVariants.{Finish}
-use Rattle.vb_model.specs.declared.replies.Refusal.{Refusal}
+use Rattle.vb_model.{specs.declared.calls.Call.TheVariants.Finish, specs.Guest.{Guest, frame_of}}
+use Rattle.vb_model.{specs.declared.replies.Refusal.Refusal, specs.Driver.AllDistinct}
 use Rattle.vb_model.specs.declared.replies.Refusal.TheVariants.{NotReady, NotTaken}
-use Rattle.vb_model.specs.declared.replies.Reply.TheVariants.{Finished}
-use Rattle.vb_model.specs.Requests.{Request, Reporting_free}
-use Rattle.vb_model.specs.Guest.{Guest, frame_of}
-use Rattle.vb_model.specs.Driver.{AllDistinct}
-use Rattle.vb_model.specs.Device.{used, settled}
-use Rattle.vb_model.specs.Refusals.{refusal_of}
+use Rattle.vb_model.{specs.declared.replies.Reply.TheVariants.Finished, specs.Refusals.refusal_of}
+use Rattle.vb_model.{specs.Requests.{Request, Reporting_free}, specs.Device.{used, settled}}
 use Rattle.vb_model.specs.Orderly.{times, IsRequestSound, AllRequestsSound}
-use Rattle.vb_model.proofs.Distinct.{distinct_once}
-use Rattle.vb_ram.specs.Pages.{Pages, number_of}
-use Rattle.vb_ram.specs.Part.{Part}
-use Rattle.vb_driver.specs.State.{DriverState}
-use Rattle.vb_device.specs.Conditions.{finish_refusal}
-use Rattle.vb_device.specs.Discards.{discarded, frames_behind}
-use Rattle.vb_request.specs.Request.{each_once}
-use Rattle.vb_device.specs.Calls.{FinishesBy, Uses, using}
-use Rattle.vb_guest.specs.Reported.{IsReport}
-use Rattle.vb_guest.specs.Stands.{Honest, Ties, IsRunning}
-use Rattle.vb_guest.specs.Steps.{StepsFreeing}
-use Rattle.vb_guest.specs.Replies.{finished_reply}
-use Rattle.vb_model.specs.Layout.{reserved_pages}
+use Rattle.vb_model.{proofs.Distinct.distinct_once, specs.Layout.reserved_pages}
 use Rattle.vb_model.proofs.Shapes.{start_reserved}
-use Rattle.vb_guest.proofs.Apart.{SameReserved}
-use Rattle.vb_guest.proofs.RingApart.{ring_parts}
-use Rattle.vb_guest.proofs.RunApart.{sizes_of, queues_same, others_same, ring_low, above_as, ring_as}
-use Rattle.vb_guest.proofs.Apart.{line_apart}
-use Rattle.vb_guest.proofs.BufferLines.{buffer_apart}
-use Rattle.vb_guest.proofs.ReportLines.{report_apart, report_used}
-use Rattle.vb_guest.proofs.EachOnce.{distinct_each_once}
-use Rattle.vb_guest.proofs.OwnBlocks.{own_pages}
-use Rattle.vb_guest.proofs.Discarding.{frames_freed}
-use Rattle.vb_guest.proofs.PagesKept.{SamePages, pages_same, pages_discarded, page_undiscarded}
+use Rattle.vb_ram.{specs.Pages.{Pages, number_of}, specs.Part.Part}
+use Rattle.vb_driver.specs.State.{DriverState}
+use Rattle.vb_device.{specs.Conditions.finish_refusal, specs.Discards.{discarded, frames_behind}}
+use Rattle.vb_device.specs.Calls.{FinishesBy, Uses, using}
+use Rattle.vb_request.specs.Request.{each_once}
+use Rattle.vb_guest.proofs.RunApart.{sizes_of, queues_same, others_same, ring_low, above_as}
 use Rattle.vb_guest.proofs.Handing.{handed_back, not_among, used_same, same_end, end_by}
-use Rattle.vb_guest.proofs.Handing.{behind_same}
-use Rattle.vb_guest.proofs.SameRefusals.{finish_same, finish_idle}
+use Rattle.vb_guest.{specs.Reported.IsReport, specs.Stands.{Honest, Ties, IsRunning}}
+use Rattle.vb_guest.{specs.Steps.StepsFreeing, specs.Replies.finished_reply}
+use Rattle.vb_guest.{proofs.Apart.{SameReserved, line_apart}, proofs.RingApart.ring_parts}
+use Rattle.vb_guest.{proofs.RunApart.ring_as, proofs.BufferLines.buffer_apart}
+use Rattle.vb_guest.{proofs.ReportLines.{report_apart, report_used}, proofs.OwnBlocks.own_pages}
+use Rattle.vb_guest.{proofs.EachOnce.distinct_each_once, proofs.Discarding.frames_freed}
+use Rattle.vb_guest.proofs.PagesKept.{SamePages, pages_same, pages_discarded, page_undiscarded}
+use Rattle.vb_guest.{proofs.Handing.behind_same, proofs.SameRefusals.{finish_same, finish_idle}}
 use Rattle.vb_guest.proofs.Closing.{honest_performed, still_stands, guest_step, ties_same}
 
 -- a refused finish of any queue

@@ -1,49 +1,31 @@
 -- A guest's finish is a step of the definitions.
-use Rattle.std.specs.Prelude.{◌≡◌, ℕ, ◌+◌, ◌%◌, ◌<◌, Bool, true, false, List}
-use Rattle.std.specs.Prelude.{[], All, remove, Result, Option, Some, None, is_some}
-use Rattle.std.specs.Prelude.{slice_get, refl, ◌⊎◌}
-use Rattle.std.proofs.Common.{sym, ◌∙◌, ap, subst, arith, inl, inr}
-use Rattle.std.specs.Option.{option_to_list}
-use Rattle.std.specs.List.{flat_map}
-use Rattle.std.proofs.lemmas.Option.{get_or_from_slice_get, slice_get_within}
-use Rattle.vb_model.specs.declared.calls.Call.TheVariants.{Finish}
-use Rattle.vb_model.specs.declared.replies.Refusal.{Refusal}
+use Rattle.std.specs.Prelude.{◌≡◌, ℕ, ◌+◌, ◌%◌, ◌<◌, Bool, true, false, List, [], All, remove}
+use Rattle.std.specs.Prelude.{Result, Option, Some, None, is_some, slice_get, refl, ◌⊎◌}
+use Rattle.std.{proofs.Common.{sym, ◌∙◌, ap, subst, arith, inl, inr}, specs.Option.option_to_list}
+use Rattle.std.{specs.List.flat_map, proofs.lemmas.Option.{get_or_from_slice_get, slice_get_within}}
+use Rattle.vb_model.{specs.declared.calls.Call.TheVariants.Finish, specs.Guest.{Guest, frame_of}}
+use Rattle.vb_model.{specs.declared.replies.Refusal.Refusal, specs.Device.{used, settled}}
 use Rattle.vb_model.specs.declared.replies.Refusal.TheVariants.{NoQueue, NotReady}
-use Rattle.vb_model.specs.declared.replies.Reply.TheVariants.{Finished}
-use Rattle.vb_model.specs.Requests.{Request, Inflating, Deflating}
-use Rattle.vb_model.specs.Guest.{Guest, frame_of}
-use Rattle.vb_model.specs.Device.{used, settled}
-use Rattle.vb_model.specs.Orderly.{times}
-use Rattle.vb_model.specs.Refusals.{refusal_of}
-use Rattle.vb_ram.specs.Pages.{Pages, number_of}
-use Rattle.vb_ram.specs.Part.{Part}
-use Rattle.vb_driver.specs.State.{DriverState}
-use Rattle.vb_device.specs.Conditions.{finish_refusal}
-use Rattle.vb_device.specs.Discards.{discarded, frames_behind, flagged}
-use Rattle.vb_device.specs.Calls.{FinishesBy, Uses}
-use Rattle.vb_guest.specs.Line.{IsRequest}
-use Rattle.vb_guest.specs.Stands.{Honest, Ties, IsRunning}
-use Rattle.vb_guest.specs.Steps.{StepsFreeing}
-use Rattle.vb_guest.specs.Replies.{finished_reply}
-use Rattle.vb_model.specs.Layout.{reserved_pages}
-use Rattle.vb_model.proofs.Shapes.{start_reserved}
-use Rattle.vb_guest.proofs.Apart.{SameReserved}
-use Rattle.vb_guest.proofs.RingApart.{ring_parts}
-use Rattle.vb_guest.proofs.RunApart.{sizes_of, queues_same, others_same, ring_low, above_as, ring_as}
-use Rattle.vb_guest.proofs.Apart.{line_apart}
-use Rattle.vb_guest.proofs.BufferLines.{buffer_apart}
-use Rattle.vb_guest.proofs.ReportLines.{report_apart}
-use Rattle.vb_guest.proofs.EachOnce.{distinct_each_once}
-use Rattle.vb_guest.proofs.Finishing.{end_of, line_finished}
-use Rattle.vb_guest.proofs.Handing.{handed_back, not_among, used_same, same_end, behind_same}
-use Rattle.vb_guest.proofs.FinishReportStep.{finish_refused, finish_report}
-use Rattle.vb_guest.proofs.Discarding.{frames_freed}
-use Rattle.vb_guest.proofs.PagesKept.{pages_same, pages_discarded, page_undiscarded}
+use Rattle.vb_model.{specs.declared.replies.Reply.TheVariants.Finished, specs.Orderly.times}
+use Rattle.vb_model.{specs.Requests.{Request, Inflating, Deflating}, specs.Refusals.refusal_of}
+use Rattle.vb_model.{specs.Layout.reserved_pages, proofs.Shapes.start_reserved}
 use Rattle.vb_model.proofs.Queues.{queue_cases, no_requests_at}
+use Rattle.vb_ram.{specs.Pages.{Pages, number_of}, specs.Part.Part}
+use Rattle.vb_driver.specs.State.{DriverState}
+use Rattle.vb_device.{specs.Conditions.finish_refusal, specs.Calls.{FinishesBy, Uses}}
+use Rattle.vb_device.specs.Discards.{discarded, frames_behind, flagged}
+use Rattle.vb_guest.proofs.RunApart.{sizes_of, queues_same, others_same, ring_low, above_as}
 use Rattle.vb_guest.proofs.Refusing.{finish_no_queue, finish_running, finish_running_part}
+use Rattle.vb_guest.proofs.Handing.{handed_back, not_among, used_same, same_end, behind_same}
+use Rattle.vb_guest.proofs.Closing.{honest_performed, still_stands, guest_step, ties_same}
+use Rattle.vb_guest.proofs.PagesKept.{pages_same, pages_discarded, page_undiscarded}
 use Rattle.vb_guest.proofs.Refusing.{finish_idle, finish_idle_part, finish_test}
-use Rattle.vb_guest.proofs.Closing.{honest_performed, still_stands, guest_step}
-use Rattle.vb_guest.proofs.Closing.{ties_same}
+use Rattle.vb_guest.{proofs.FinishReportStep.{finish_refused, finish_report}, specs.Line.IsRequest}
+use Rattle.vb_guest.{proofs.Finishing.{end_of, line_finished}, proofs.EachOnce.distinct_each_once}
+use Rattle.vb_guest.{proofs.Apart.{SameReserved, line_apart}, proofs.BufferLines.buffer_apart}
+use Rattle.vb_guest.{specs.Stands.{Honest, Ties, IsRunning}, proofs.ReportLines.report_apart}
+use Rattle.vb_guest.{proofs.Discarding.frames_freed, specs.Replies.finished_reply}
+use Rattle.vb_guest.{proofs.RingApart.ring_parts, specs.Steps.StepsFreeing, proofs.RunApart.ring_as}
 
 -- no request has the index, or not all its pages were visited
 test_some : (paced visits : Bool) (o : Option Request) → finish_test paced visits o ≡ None

@@ -1,22 +1,17 @@
 -- The device uses a taken request.
-use Rattle.std.specs.Prelude.{◌≡◌, ◌≢◌, ℕ, ◌+◌, ◌%◌, true, List, [], ◌∷◌, ◌++◌}
-use Rattle.std.specs.Prelude.{remove, Some, slice_get, slice_index_or}
-use Rattle.std.proofs.Common.{sym, ◌∙◌, ap, subst}
+use Rattle.std.specs.Prelude.{◌≡◌, ◌≢◌, ℕ, ◌+◌, ◌%◌, true, List, [], ◌∷◌, ◌++◌, remove, Some}
+use Rattle.std.{specs.Prelude.{slice_get, slice_index_or}, proofs.Common.{sym, ◌∙◌, ap, subst}}
 use Rattle.std.proofs.lemmas.List.Elements.{All-push}
 use Rattle.std.proofs.lemmas.Option.{get_or_from_slice_get, slice_get_within}
 use Rattle.vb_model.specs.Layout.{ring_page, buffers_page, buffer_page}
 use Rattle.vb_model.specs.Requests.{Request, Requests}
-use Rattle.vb_ram.specs.Pages.{Pages}
-use Rattle.vb_ram.specs.Part.{QueuePart}
+use Rattle.vb_ram.{specs.Pages.Pages, specs.Part.QueuePart}
 use Rattle.vb_chain.specs.Table.{descriptor_at}
-use Rattle.vb_ring.specs.Ends.{DriverEnd, DeviceEnd}
-use Rattle.vb_ring.specs.Calls.{AddsUsedBy}
+use Rattle.vb_ring.{specs.Ends.{DriverEnd, DeviceEnd}, specs.Calls.AddsUsedBy}
 use Rattle.vb_driver.specs.State.{RequestSide}
-use Rattle.vb_guest.specs.Line.{Line, IsRequest, RingOf, heads_of}
-use Rattle.vb_guest.specs.Ring.{RingStands}
+use Rattle.vb_guest.{specs.Line.{Line, IsRequest, RingOf, heads_of}, specs.Ring.RingStands}
 use Rattle.vb_guest.proofs.Heads.{heads-push, heads-remove, heads-get, all_remove}
-use Rattle.vb_guest.proofs.RingUsed.{ring_used}
-use Rattle.vb_guest.proofs.RingApart.{ring_parts}
+use Rattle.vb_guest.{proofs.RingUsed.ring_used, proofs.RingApart.ring_parts}
 use Rattle.vb_guest.proofs.Apart.{buffer_apart_page, coded_kept}
 
 -- the device's end of a queue

@@ -1,24 +1,16 @@
 -- A guest's giving back of a block is a step of the definitions.
-use Rattle.std.specs.Prelude.{ℕ, [], Result, Ok, Err, refl}
-use Rattle.std.proofs.Common.{sym, subst, inl, inr}
-use Rattle.vb_model.specs.declared.calls.Call.TheVariants.{Free}
-use Rattle.vb_model.specs.declared.places.Place.TheVariants.{Free as FreePlace}
-use Rattle.vb_model.specs.declared.replies.Refusal.{Refusal}
-use Rattle.vb_model.specs.declared.replies.Reply.TheVariants.{Done}
-use Rattle.vb_model.specs.Pages.{pages_of, placed}
-use Rattle.vb_model.specs.Guest.{Guest}
-use Rattle.vb_model.specs.Driver.{without_block}
-use Rattle.vb_ram.specs.Pages.{Pages}
-use Rattle.vb_ram.specs.Part.{Part}
-use Rattle.vb_driver.specs.State.{FreePages, DriverState}
-use Rattle.vb_driver.specs.Answers.{block_at}
+use Rattle.std.{specs.Prelude.{ℕ, [], Result, Ok, Err, refl}, proofs.Common.{sym, subst, inl, inr}}
+use Rattle.vb_model.{specs.declared.calls.Call.TheVariants.Free, specs.Pages.{pages_of, placed}}
+use Rattle.vb_model.{specs.declared.replies.Refusal.Refusal, specs.Guest.Guest}
+use Rattle.vb_model.{specs.declared.replies.Reply.TheVariants.Done, specs.Driver.without_block}
+use Rattle.vb_ram.{specs.Pages.Pages, specs.Part.Part}
+use Rattle.vb_driver.{specs.State.{FreePages, DriverState}, specs.Answers.block_at}
 use Rattle.vb_driver.specs.Calls.{FreesBy, after_free}
-use Rattle.vb_guest.specs.Stands.{Honest, Ties}
-use Rattle.vb_guest.specs.Steps.{StepsAlone}
-use Rattle.vb_guest.specs.Replies.{done_reply}
+use Rattle.vb_guest.{specs.Stands.{Honest, Ties}, specs.Steps.StepsAlone, specs.Replies.done_reply}
 use Rattle.vb_guest.proofs.Closing.{honest_performed, steps_alone, refused_alone}
 use Rattle.vb_guest.proofs.Writing.{idle_still}
 use Rattle.vb_guest.proofs.DriverWords.{Sides, sides_of, driver_of, driver_is, keeps_own}
+use Rattle.vb_model.specs.declared.places.Place.TheVariants.{Free as FreePlace}
 
 by_result : (m : Pages) (p : Part) (g : Guest) (areas : FreePages) (sides : Sides)
     (d2 : DriverState)

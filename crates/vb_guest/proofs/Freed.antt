@@ -1,20 +1,11 @@
 -- Frames that pages lost have gone back.
-use Rattle.std.specs.Prelude.{◌≡◌, ℕ, ◌≤◌, true, [], length, IsSome, ◌⊎◌}
-use Rattle.std.proofs.Common.{arith}
-use Rattle.vb_model.specs.declared.calls.Call.{Call}
-use Rattle.vb_model.specs.declared.replies.Reply.{Reply}
-use Rattle.vb_model.specs.Layout.{is_start_page}
-use Rattle.vb_model.specs.Guest.{Guest}
-use Rattle.vb_model.specs.Status.{contains, driver_ok}
-use Rattle.vb_ram.specs.Pages.{Pages, frame_at}
-use Rattle.vb_ram.specs.Part.{Part}
-use Rattle.vb_ram.proofs.Limits.{config_limits}
+use Rattle.std.{specs.Prelude.{◌≡◌, ℕ, ◌≤◌, true, [], length, IsSome, ◌⊎◌}, proofs.Common.arith}
+use Rattle.vb_model.{specs.declared.replies.Reply.Reply, specs.Status.{contains, driver_ok}}
+use Rattle.vb_model.{specs.declared.calls.Call.Call, specs.Layout.is_start_page, specs.Guest.Guest}
+use Rattle.vb_ram.{specs.Pages.{Pages, frame_at}, specs.Part.Part, proofs.Limits.config_limits}
 use Rattle.vb_driver.specs.State.{DriverState}
-use Rattle.vb_guest.specs.Stands.{Honest, Rogue}
-use Rattle.vb_guest.specs.Steps.{StepsFreeing}
-use Rattle.vb_guest.proofs.Closing.{honest_own}
-use Rattle.vb_guest.proofs.Handing.{handed_back}
-use Rattle.vb_guest.proofs.Rogues.{rogue_own}
+use Rattle.vb_guest.{specs.Stands.{Honest, Rogue}, specs.Steps.StepsFreeing}
+use Rattle.vb_guest.{proofs.Closing.honest_own, proofs.Handing.handed_back, proofs.Rogues.rogue_own}
 
 -- the frames of the device's own may have changed
 pub freed_as : (m2 m3 : Pages) (p2 p3 : Part) (d : DriverState) (g : Guest) (call : Call)

@@ -1,21 +1,12 @@
 -- What a device's call leaves of memory and of its part, and which frames pages lose.
 use Rattle.std.specs.Prelude.{◌≡◌, ℕ, ◌<◌, ◌≤◌, ◌==◌, ◌||◌, Bool, true, false, List, [], ◌∷◌, All}
-use Rattle.std.specs.Prelude.{Option}
-use Rattle.std.specs.Option.{option_to_list}
-use Rattle.std.specs.List.{flat_map}
-use Rattle.std.proofs.Common.{sym, ◌∙◌, ap, arith, inl, inr}
+use Rattle.std.{specs.Prelude.Option, specs.Option.option_to_list, specs.List.flat_map}
+use Rattle.std.{proofs.Common.{sym, ◌∙◌, ap, arith, inl, inr}, proofs.lemmas.List.Elements.All-tail}
 use Rattle.std.proofs.lemmas.Bool.{eqb-true, cases_Bool}
-use Rattle.std.proofs.lemmas.List.Elements.{All-tail}
-use Rattle.vb_model.specs.Tests.{is_in}
-use Rattle.vb_model.specs.Layout.{ring_page}
-use Rattle.vb_model.specs.Guest.{frame_of}
-use Rattle.vb_ram.specs.Pages.{Pages, frame_at}
-use Rattle.vb_ram.specs.Part.{Part}
-use Rattle.vb_ring.specs.declared.layout.Layout.{Layout}
-use Rattle.vb_ring.specs.Layout.{layout_of}
-use Rattle.vb_ring.specs.Entries.{next_entry}
-use Rattle.vb_ring.specs.Ends.{DriverEnd, DeviceEnd}
-use Rattle.vb_ring.specs.Calls.{AddsUsedBy}
+use Rattle.vb_model.{specs.Tests.is_in, specs.Layout.ring_page, specs.Guest.frame_of}
+use Rattle.vb_ram.{specs.Pages.{Pages, frame_at}, specs.Part.Part}
+use Rattle.vb_ring.{specs.declared.layout.Layout.Layout, specs.Ends.{DriverEnd, DeviceEnd}}
+use Rattle.vb_ring.{specs.Entries.next_entry, specs.Layout.layout_of, specs.Calls.AddsUsedBy}
 use Rattle.vb_device.specs.Discards.{frames_behind}
 use Rattle.vb_guest.proofs.PagesKept.{SamePages}
 

@@ -1,13 +1,11 @@
 -- The heads of requests.
-use Rattle.std.specs.Prelude.{◌≡◌, ℕ, zero, suc, ◌+◌, ◌==◌, Bool, true, false, cond, List, []}
-use Rattle.std.specs.Prelude.{◌∷◌, ◌++◌, length, All, Some, slice_get, remove, option_map, refl}
-use Rattle.std.proofs.Common.{◌∙◌, ap, arith, take, drop}
+use Rattle.std.specs.Prelude.{◌≡◌, ℕ, zero, suc, ◌+◌, ◌==◌, Bool, true, false, cond, List, [], ◌∷◌}
+use Rattle.std.specs.Prelude.{◌++◌, length, All, Some, slice_get, remove, option_map, refl}
+use Rattle.std.{proofs.Common.{◌∙◌, ap, arith, take, drop}, proofs.lemmas.Option.slice_get-map}
 use Rattle.std.proofs.lemmas.List.{length-map, map_push}
 use Rattle.std.proofs.lemmas.List.Elements.{All-append, All-take, All-drop, All-cons, All-tail}
-use Rattle.std.proofs.lemmas.Option.{slice_get-map}
-use Rattle.vb_model.specs.Tests.{one_if, times}
+use Rattle.vb_model.{specs.Tests.{one_if, times}, specs.Device.{is_unvisited, visiting}}
 use Rattle.vb_model.specs.Requests.{Request, Requests, all_requests, headed}
-use Rattle.vb_model.specs.Device.{is_unvisited, visiting}
 use Rattle.vb_model.proofs.Tables.{count_by-cons, count_by-append}
 use Rattle.vb_guest.specs.Line.{heads_of}
 

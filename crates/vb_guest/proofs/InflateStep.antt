@@ -3,38 +3,28 @@ use Rattle.std.specs.Prelude.{◌≡◌, ℕ, ◌<◌, ◌==◌, ◌&&◌, Bool,
 use Rattle.std.specs.Prelude.{length, Result, Ok, Err, Option, Some, None, is_some, refl, ◌⊎◌}
 use Rattle.std.proofs.Common.{sym, ◌∙◌, ap, subst, arith, inl, inr}
 use Rattle.std.proofs.lemmas.List.{length-append}
-use Rattle.vb_model.specs.declared.calls.Call.TheVariants.{Inflate}
-use Rattle.vb_model.specs.declared.replies.Refusal.{Refusal}
 use Rattle.vb_model.specs.declared.replies.Refusal.TheVariants.{NotReady, QueueFull, Nothing}
+use Rattle.vb_model.{specs.declared.calls.Call.TheVariants.Inflate, specs.Layout.buffer_page}
+use Rattle.vb_model.{specs.declared.replies.Refusal.Refusal, specs.Guest.{Guest, tells_host}}
 use Rattle.vb_model.specs.declared.replies.Refusal.TheVariants.{DeflatePending}
-use Rattle.vb_model.specs.declared.replies.Reply.TheVariants.{Posted}
-use Rattle.vb_model.specs.Layout.{buffer_page}
-use Rattle.vb_model.specs.Requests.{outstanding, Inflating}
-use Rattle.vb_model.specs.Guest.{Guest, tells_host}
-use Rattle.vb_model.specs.Driver.{stranded_first, asking}
+use Rattle.vb_model.{specs.declared.replies.Reply.TheVariants.Posted, proofs.Shapes.reserved_least}
+use Rattle.vb_model.{specs.Requests.{outstanding, Inflating}, specs.Driver.{stranded_first, asking}}
 use Rattle.vb_model.specs.Refusals.{◌⇒◌, first_refusal, refusal_of, inflate_count, room}
 use Rattle.vb_model.proofs.OrderlySteps.{honest_order}
-use Rattle.vb_ram.specs.Pages.{Pages}
-use Rattle.vb_ram.specs.Part.{Part}
+use Rattle.vb_ram.{specs.Pages.Pages, specs.Part.Part}
+use Rattle.vb_driver.specs.State.{FreePages, DriverState, IsDriver}
+use Rattle.vb_driver.specs.Calls.{Offers, InflatesBy}
+use Rattle.vb_guest.{specs.Stands.{Honest, Ties, IsRunning}, specs.Steps.StepsAlone}
+use Rattle.vb_guest.{specs.Replies.posted_reply, proofs.Apart.line_apart}
+use Rattle.vb_guest.proofs.RunApart.{sizes_of, ring_of, buffer_clear, post_leaves, post_same}
+use Rattle.vb_guest.proofs.Offered.{asked_as, last_sound, inflate_requested}
+use Rattle.vb_guest.{proofs.BufferLines.buffer_apart, proofs.ReportLines.report_apart}
+use Rattle.vb_guest.proofs.Posting.{line_posted, least_head, outstanding_are}
+use Rattle.vb_guest.{proofs.PagesKept.pages_same, proofs.Closing.{honest_performed, steps_alone}}
+use Rattle.vb_guest.proofs.DriverWords.{Sides, sides_of, driver_of, driver_is, keeps_own}
 use Rattle.vb_ring.specs.Ends.{outstanding as outstanding_in}
 use Rattle.vb_driver.specs.declared.answers.Posted.{Posted as PostedRequest}
-use Rattle.vb_driver.specs.State.{FreePages, DriverState, IsDriver}
 use Rattle.vb_driver.specs.Answers.{inflate_tests, inflate_count as driver_count}
-use Rattle.vb_driver.specs.Calls.{Offers, InflatesBy}
-use Rattle.vb_guest.specs.Stands.{Honest, Ties, IsRunning}
-use Rattle.vb_guest.specs.Steps.{StepsAlone}
-use Rattle.vb_guest.specs.Replies.{posted_reply}
-use Rattle.vb_model.proofs.Shapes.{reserved_least}
-use Rattle.vb_guest.proofs.RunApart.{sizes_of, ring_of, buffer_clear, post_leaves, post_same}
-use Rattle.vb_guest.proofs.Offered.{asked_as}
-use Rattle.vb_guest.proofs.Apart.{line_apart}
-use Rattle.vb_guest.proofs.BufferLines.{buffer_apart}
-use Rattle.vb_guest.proofs.ReportLines.{report_apart}
-use Rattle.vb_guest.proofs.Posting.{line_posted, least_head, outstanding_are}
-use Rattle.vb_guest.proofs.PagesKept.{pages_same}
-use Rattle.vb_guest.proofs.Closing.{honest_performed, steps_alone}
-use Rattle.vb_guest.proofs.Offered.{last_sound, inflate_requested}
-use Rattle.vb_guest.proofs.DriverWords.{Sides, sides_of, driver_of, driver_is, keeps_own}
 
 -- a new request of a queue is refused for want of room, or of pages
 abbrev pub request_refusal : ℕ → ℕ → ℕ → Option Refusal

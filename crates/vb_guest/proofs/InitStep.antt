@@ -2,44 +2,33 @@
 use Rattle.std.specs.Prelude.{◌≡◌, ◌≢◌, ℕ, ◌<◌, ◌≤◌, ◌==◌, Bool, true, false, not, ◌-◌, ◌&&◌, List}
 use Rattle.std.specs.Prelude.{[], ◌∷◌, length, Option, Some, None, IsSome, is_some, is_none}
 use Rattle.std.specs.Prelude.{MatchOption, Result, Ok, Err, filter, count_by, refl}
-use Rattle.std.specs.List.{range_with_len, list_all}
+use Rattle.std.{specs.List.{range_with_len, list_all}, proofs.lemmas.Bool.cases_Bool}
 use Rattle.std.proofs.Common.{sym, ◌∙◌, ap, subst, arith, inl, inr}
-use Rattle.std.proofs.lemmas.Bool.{cases_Bool}
-use Rattle.vb_model.specs.declared.calls.Call.TheVariants.{Init}
-use Rattle.vb_model.specs.declared.calls.Claim.{Claim}
-use Rattle.vb_model.specs.declared.replies.Refusal.{Refusal}
-use Rattle.vb_model.specs.declared.replies.Refusal.TheVariants.{AlreadyUp}
-use Rattle.vb_model.specs.declared.replies.Reply.{Reply}
-use Rattle.vb_model.specs.declared.replies.Reply.TheVariants.{Ready, Refused}
-use Rattle.vb_model.specs.Tests.{is_in}
+use Rattle.vb_model.{specs.declared.calls.Call.TheVariants.Init, specs.declared.calls.Claim.Claim}
+use Rattle.vb_model.{specs.declared.replies.Refusal.Refusal, specs.declared.replies.Reply.Reply}
+use Rattle.vb_model.{specs.declared.replies.Refusal.TheVariants.AlreadyUp, specs.Tests.is_in}
+use Rattle.vb_model.{specs.declared.replies.Reply.TheVariants.{Ready, Refused}, specs.Orderly.times}
 use Rattle.vb_model.specs.Layout.{reserved_pages, is_start_page, start_pages}
 use Rattle.vb_model.specs.Guest.{Guest, frame_of, all_backed, stats_vq}
 use Rattle.vb_model.specs.Refusals.{◌⇒◌, first_refusal, refusal_of}
 use Rattle.vb_model.specs.Life.{lacking, feature_refusal, accepted_before, Negotiates}
 use Rattle.vb_model.specs.Driver.{given, Supplying, figures}
-use Rattle.vb_ram.specs.Pages.{Pages, frame_at, number_of}
-use Rattle.vb_ram.specs.Part.{Part}
-use Rattle.vb_ram.specs.declared.shape.Shape.{Shape}
 use Rattle.vb_model.proofs.Shapes.{reserved_most, start_reserved}
-use Rattle.vb_driver.specs.State.{DriverState}
-use Rattle.vb_driver.specs.Answers.{has_frames, init_tests}
+use Rattle.vb_ram.{specs.Pages.{Pages, frame_at, number_of}, specs.Part.Part}
+use Rattle.vb_ram.specs.declared.shape.Shape.{Shape}
+use Rattle.vb_driver.{specs.State.DriverState, specs.Answers.{has_frames, init_tests}}
 use Rattle.vb_driver.specs.Calls.{InitsBy, InitRefused, GivesUp}
-use Rattle.vb_frames.specs.declared.keeper.Refused.{Refused as WhyRefused}
-use Rattle.vb_model.specs.Orderly.{times}
 use Rattle.vb_guest.specs.Stands.{Honest, Ties, HasParts, HasPages, IsIdle, beside_queues}
-use Rattle.vb_guest.specs.Stands.{beside_sides, beside_requests}
+use Rattle.vb_guest.proofs.Supplying.{all_distinct, bounded, among, supplied_count, supplied_other}
+use Rattle.vb_guest.{specs.Stands.{beside_sides, beside_requests}, specs.Replies.ready_reply}
 use Rattle.vb_guest.specs.Steps.{is_frame, backing_count, StepsAlone, StepsOver}
-use Rattle.vb_guest.specs.Supply.{Supply, supply_of, Moves, nothing}
-use Rattle.vb_guest.specs.Replies.{ready_reply}
+use Rattle.vb_guest.{specs.Supply.{Supply, supply_of, Moves, nothing}, proofs.Freed.large}
 use Rattle.vb_guest.specs.Lives.{is_bare, bare_from, AllSupplied, why_unsupplied, SuppliesBy}
 use Rattle.vb_guest.proofs.Closing.{honest_performed, guest_step, still_stands}
-use Rattle.vb_guest.proofs.Freed.{large}
-use Rattle.vb_guest.proofs.Supplying.{all_distinct, bounded, among, supplied_count, supplied_other}
 use Rattle.vb_guest.proofs.Supplying.{supplied_backed, pages_filled, frames_filled}
-use Rattle.vb_guest.proofs.Writing.{frames_of}
-use Rattle.vb_guest.proofs.Moving.{moves_as}
-use Rattle.vb_guest.proofs.Kept.{SameOwn}
+use Rattle.vb_guest.{proofs.Writing.frames_of, proofs.Moving.moves_as, proofs.Kept.SameOwn}
 use Rattle.vb_guest.proofs.Starting.{first_buffer, started, stopped}
+use Rattle.vb_frames.specs.declared.keeper.Refused.{Refused as WhyRefused}
 
 -- ---- a device that isn't new
 

@@ -1,20 +1,16 @@
 -- The requests that are out name as many pages as the driver remembers.
-use Rattle.std.specs.Prelude.{◌≡◌, ℕ, zero, suc, ◌<◌, ◌≤◌, ◌==◌, true, false, Bool, List}
-use Rattle.std.specs.Prelude.{[], ◌∷◌, ◌++◌, length, All, sum_by, slice_set, slice_index_or, refl}
-use Rattle.std.proofs.Common.{sym, ◌∙◌, ap, arith, inl, inr, get_or}
-use Rattle.std.proofs.lemmas.Bool.{cases_eq, ne_eqb}
+use Rattle.std.specs.Prelude.{◌≡◌, ℕ, zero, suc, ◌<◌, ◌≤◌, ◌==◌, true, false, Bool, List, [], ◌∷◌}
+use Rattle.std.specs.Prelude.{◌++◌, length, All, sum_by, slice_set, slice_index_or, refl}
+use Rattle.std.{proofs.Common.{sym, ◌∙◌, ap, arith, inl, inr, get_or}, proofs.lemmas.Bool.cases_eq}
+use Rattle.std.{proofs.lemmas.Bool.ne_eqb, proofs.lemmas.List.Sums.{sum_by-set, sum_by-cons}}
 use Rattle.std.proofs.lemmas.List.{length-set, get_or-set_same, get_or-set_other}
-use Rattle.std.proofs.lemmas.List.Sums.{sum_by-set, sum_by-cons}
 use Rattle.vb_model.specs.Tests.{one_if}
 use Rattle.vb_model.specs.Requests.{Request, Requests, all_requests, headed, pages_named}
-use Rattle.vb_ram.specs.Pages.{Pages}
-use Rattle.vb_ram.specs.Part.{QueuePart}
+use Rattle.vb_ram.{specs.Pages.Pages, specs.Part.QueuePart}
 use Rattle.vb_ring.specs.Entries.{is_head}
+use Rattle.vb_guest.{specs.Line.{Line, IsRequest}, proofs.Heads.headed-cons}
+use Rattle.vb_guest.{proofs.Posting.headed_once, proofs.RingHeads.at_most_one}
 use Rattle.vb_driver.specs.State.{RequestSide, AreRequests, pages_named as pages_sent}
-use Rattle.vb_guest.specs.Line.{Line, IsRequest}
-use Rattle.vb_guest.proofs.Heads.{headed-cons}
-use Rattle.vb_guest.proofs.Posting.{headed_once}
-use Rattle.vb_guest.proofs.RingHeads.{at_most_one}
 
 abbrev count_all : List (List ℕ) → ℕ
 count_all sent = sum_by (λ (pages : List ℕ). length pages) sent

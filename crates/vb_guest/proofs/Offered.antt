@@ -1,21 +1,13 @@
 -- The pages of a new request.
 use Rattle.std.specs.Prelude.{◌≡◌, ℕ, zero, suc, ◌<◌, ◌≤◌, ◌==◌, ◌||◌, Bool, true, false, List, []}
-use Rattle.std.specs.Prelude.{◌∷◌, ◌++◌, All, length, slice_index_or, refl}
-use Rattle.std.specs.List.{list_any}
-use Rattle.std.proofs.Common.{sym, ◌∙◌, ap, subst, arith, eq-eqb}
-use Rattle.std.proofs.lemmas.List.{get_or_past}
-use Rattle.vb_model.specs.declared.places.Place.{Place}
-use Rattle.vb_model.specs.Tests.{is_in}
-use Rattle.vb_model.specs.Layout.{reserved_pages}
-use Rattle.vb_model.specs.Pages.{place_of, is_lent}
-use Rattle.vb_model.specs.Guest.{Guest}
-use Rattle.vb_model.specs.Requests.{Request}
+use Rattle.std.{specs.Prelude.{◌∷◌, ◌++◌, All, length, slice_index_or, refl}, specs.List.list_any}
+use Rattle.std.{proofs.Common.{sym, ◌∙◌, ap, subst, arith, eq-eqb}, proofs.lemmas.List.get_or_past}
+use Rattle.vb_model.{specs.declared.places.Place.Place, specs.Tests.is_in, specs.Guest.Guest}
+use Rattle.vb_model.{specs.Layout.reserved_pages, specs.Pages.{place_of, is_lent, is_reserved}}
+use Rattle.vb_model.{specs.Requests.Request, proofs.PageSteps.can_be_given}
 use Rattle.vb_model.specs.Driver.{AllFreePages, stranded_first, lowest_lent}
-use Rattle.vb_model.proofs.PageSteps.{can_be_given}
-use Rattle.vb_model.proofs.CallSteps.{inflated_pages, lent_pages}
-use Rattle.vb_model.proofs.Distinct.{distinct_once}
+use Rattle.vb_model.{proofs.CallSteps.{inflated_pages, lent_pages}, proofs.Distinct.distinct_once}
 use Rattle.vb_model.specs.Orderly.{IsOrderly, times, IsRequestSound, AllRequestsSound}
-use Rattle.vb_model.specs.Pages.{is_reserved}
 use Rattle.vb_guest.specs.Line.{AreRequested}
 
 -- a page that isn't at a reserved place is there, and above the reserved ones

@@ -1,10 +1,7 @@
 -- What changes of memory leave of the guest's frames and contents.
 use Rattle.std.specs.Prelude.{◌≡◌, ℕ, ◌≤◌, Bool, true, false, if◌then◌else◌, List, length, Option}
-use Rattle.std.specs.Prelude.{None, refl}
-use Rattle.std.proofs.Common.{◌∙◌, ap, arith}
-use Rattle.vb_model.specs.Tests.{is_in}
-use Rattle.vb_model.specs.Layout.{reserved_pages}
-use Rattle.vb_model.specs.Guest.{zero_page}
+use Rattle.std.{specs.Prelude.{None, refl}, proofs.Common.{◌∙◌, ap, arith}}
+use Rattle.vb_model.{specs.Tests.is_in, specs.Layout.reserved_pages, specs.Guest.zero_page}
 use Rattle.vb_ram.specs.Pages.{Page, Pages, number_of, page_at, frame_at, contents_at}
 use Rattle.vb_ram.proofs.Contents.{length-zero_page}
 use Rattle.vb_device.specs.Discards.{discarded}

@@ -1,33 +1,25 @@
 -- The driver posts a request.
 use Rattle.std.specs.Prelude.{◌≡◌, ◌≢◌, ℕ, ◌+◌, ◌<◌, ◌==◌, true, false, cond, List, [], All, length}
 use Rattle.std.specs.Prelude.{Option, Some, None, Ok, slice_set, slice_index, slice_index_or}
-use Rattle.std.specs.Prelude.{is_none, refl}
-use Rattle.std.proofs.Common.{sym, ◌∙◌, ap, subst, arith, inl, inr}
-use Rattle.std.proofs.lemmas.Bool.{cases_eq, cases_Bool}
+use Rattle.std.{specs.Prelude.{is_none, refl}, proofs.Common.{sym, ◌∙◌, ap, subst, arith, inl, inr}}
+use Rattle.std.{proofs.lemmas.Bool.{cases_eq, cases_Bool}, proofs.lemmas.List.Elements.All-push}
 use Rattle.std.proofs.lemmas.List.{length-set, get_or-set_same, get_or-set_other}
-use Rattle.std.proofs.lemmas.List.Elements.{All-push}
 use Rattle.std.proofs.lemmas.Option.{get_or_from_slice_get, slice_get_within}
-use Rattle.std.proofs.lemmas.List.Sums.{get_or-le-sum_by}
-use Rattle.std.proofs.lemmas.Bool.Decides.{nat_tests}
-use Rattle.vb_model.specs.Tests.{one_if}
-use Rattle.vb_model.specs.Layout.{ring_page, buffers_page, buffer_page, buffer_offset}
+use Rattle.std.{proofs.lemmas.List.Sums.get_or-le-sum_by, proofs.lemmas.Bool.Decides.nat_tests}
 use Rattle.vb_model.specs.Requests.{Request, Requests, all_requests, headed, outstanding, posting}
-use Rattle.vb_model.specs.Requests.{IsLeastHead}
-use Rattle.vb_ram.specs.Pages.{Pages}
-use Rattle.vb_ram.specs.Part.{QueuePart}
+use Rattle.vb_model.{specs.Tests.one_if, specs.Requests.IsLeastHead}
+use Rattle.vb_model.specs.Layout.{ring_page, buffers_page, buffer_page, buffer_offset}
+use Rattle.vb_ram.{specs.Pages.Pages, specs.Part.QueuePart}
 use Rattle.vb_chain.specs.Table.{descriptor_at}
 use Rattle.vb_ring.proofs.Numbers.{numbers_pass, numbers_has, numbers_rise}
 use Rattle.vb_ring.specs.Entries.{is_own, is_head}
 use Rattle.vb_ring.specs.Ends.{DriverEnd, is_unused, free_descriptors, next_head, after_add}
-use Rattle.vb_ring.specs.Ends.{outstanding as outstanding_in}
-use Rattle.vb_driver.specs.Coding.{IsCoded}
-use Rattle.vb_driver.specs.State.{RequestSide, AreRequests}
-use Rattle.vb_driver.specs.Calls.{Announces, Posts}
-use Rattle.vb_driver.proofs.Buffers.{names_kept}
+use Rattle.vb_driver.{specs.Coding.IsCoded, specs.State.{RequestSide, AreRequests}}
+use Rattle.vb_driver.{specs.Calls.{Announces, Posts}, proofs.Buffers.names_kept}
 use Rattle.vb_guest.specs.Line.{AreRequested, Line, IsRequest, RingOf, heads_of}
-use Rattle.vb_guest.proofs.RingHeads.{ring_once, ring_count}
-use Rattle.vb_guest.proofs.RingPosted.{ring_posted}
+use Rattle.vb_guest.{proofs.RingHeads.{ring_once, ring_count}, proofs.RingPosted.ring_posted}
 use Rattle.vb_guest.proofs.Heads.{times-heads, length-heads, heads-push, headed-all}
+use Rattle.vb_ring.specs.Ends.{outstanding as outstanding_in}
 
 -- the requests that have a head are one exactly where the driver's table has the head
 pub headed_once : (mem : Pages) (q : ℕ) (ring : DriverEnd) (part : QueuePart) (rs : Requests)

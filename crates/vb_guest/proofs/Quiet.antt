@@ -2,23 +2,15 @@
 use Rattle.std.specs.Prelude.{◌≡◌, ◌++◌, ℕ, suc, Bool, List, [], ◌∷◌, Option, None, slice_index_or}
 use Rattle.std.specs.Prelude.{count_by, length, refl}
 use Rattle.std.proofs.Common.{◌∙◌, sym, ap, arith, length-append}
-use Rattle.vb_model.specs.declared.calls.Call.{Call}
-use Rattle.vb_model.specs.declared.calls.Claim.{Claim}
-use Rattle.vb_model.specs.declared.replies.Reply.{Reply}
-use Rattle.vb_model.specs.Tests.{one_if}
-use Rattle.vb_model.specs.Guest.{Guest, frame_of}
-use Rattle.vb_model.specs.Orderly.{times}
-use Rattle.vb_model.proofs.Tables.{count_by-cons}
-use Rattle.vb_ram.specs.Pages.{Pages, frame_at}
-use Rattle.vb_ram.specs.Part.{Part}
+use Rattle.vb_model.{specs.declared.calls.Call.Call, specs.declared.calls.Claim.Claim}
+use Rattle.vb_model.{specs.declared.replies.Reply.Reply, specs.Tests.one_if, specs.Orderly.times}
+use Rattle.vb_model.{specs.Guest.{Guest, frame_of}, proofs.Tables.count_by-cons}
+use Rattle.vb_ram.{specs.Pages.{Pages, frame_at}, specs.Part.Part}
 use Rattle.vb_device.specs.Discards.{frames_behind}
 use Rattle.vb_driver.specs.State.{DriverState}
-use Rattle.vb_guest.specs.Exact.{KeepsFrames}
-use Rattle.vb_guest.specs.Stands.{Honest, Rogue, Stands}
-use Rattle.vb_guest.specs.Steps.{is_frame, StepsFreeing}
-use Rattle.vb_guest.proofs.Handing.{handed_back}
-use Rattle.vb_guest.proofs.Moving.{times_first}
-use Rattle.vb_guest.proofs.Standing.{by_guest}
+use Rattle.vb_guest.{specs.Exact.KeepsFrames, specs.Stands.{Honest, Rogue, Stands}}
+use Rattle.vb_guest.{specs.Steps.{is_frame, StepsFreeing}, proofs.Handing.handed_back}
+use Rattle.vb_guest.{proofs.Moving.times_first, proofs.Standing.by_guest}
 
 -- ---- frames
 

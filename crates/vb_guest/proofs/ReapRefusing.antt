@@ -2,30 +2,21 @@
 use Rattle.std.specs.Prelude.{◌≡◌, ℕ, Bool, true, false, not, List, [], ◌∷◌, Result, Ok, Err}
 use Rattle.std.specs.Prelude.{Option, Some, None, is_err, drop, refl}
 use Rattle.std.proofs.Common.{sym, ◌∙◌, ap, subst, inl, inr}
-use Rattle.vb_model.specs.declared.calls.Call.TheVariants.{Reap}
-use Rattle.vb_model.specs.declared.replies.Refusal.{Refusal}
 use Rattle.vb_model.specs.declared.replies.Refusal.TheVariants.{NoQueue, NotReady, NoFeature}
-use Rattle.vb_model.specs.declared.replies.Refusal.TheVariants.{RingBroken}
-use Rattle.vb_model.specs.Requests.{Request}
-use Rattle.vb_model.specs.Guest.{Guest}
-use Rattle.vb_model.specs.FirstRefusal.{Test, ◌⇒◌, first_refusal}
-use Rattle.vb_model.specs.Tables.{reap_tests as tests_of_reap, is_queue_of_requests, is_up}
-use Rattle.vb_model.specs.Tables.{lacks_feature}
-use Rattle.vb_model.specs.Refusals.{tests, refusal_of}
-use Rattle.vb_ram.specs.Pages.{Pages}
-use Rattle.vb_ram.specs.Part.{Part}
-use Rattle.vb_ring.specs.declared.driver.RingBroken.{RingBroken as Broken}
+use Rattle.vb_model.{specs.declared.replies.Refusal.TheVariants.RingBroken, specs.Requests.Request}
+use Rattle.vb_model.{specs.FirstRefusal.{Test, ◌⇒◌, first_refusal}, specs.Tables.lacks_feature}
+use Rattle.vb_model.{specs.declared.calls.Call.TheVariants.Reap, specs.Refusals.{tests, refusal_of}}
+use Rattle.vb_model.{specs.declared.replies.Refusal.Refusal, specs.Guest.Guest}
+use Rattle.vb_ram.{specs.Pages.Pages, specs.Part.Part}
 use Rattle.vb_ring.specs.Ends.{DriverEnd, used_answer}
-use Rattle.vb_driver.specs.declared.answers.Reaped.{Reaped as ReapedRequest}
-use Rattle.vb_driver.specs.State.{DriverState}
-use Rattle.vb_driver.specs.Answers.{reap_tests, is_ring_broken}
+use Rattle.vb_driver.{specs.State.DriverState, specs.Answers.{reap_tests, is_ring_broken}}
 use Rattle.vb_driver.specs.Calls.{ReapsBy, ring_of, next_of, after_refusal}
-use Rattle.vb_guest.specs.Stands.{Honest, IsRunning}
-use Rattle.vb_guest.specs.Steps.{StepsAlone}
-use Rattle.vb_guest.specs.Replies.{reaped_reply}
-use Rattle.vb_guest.proofs.Closing.{first_holds, refused_alone}
-use Rattle.vb_guest.proofs.Reaping.{used_next}
-use Rattle.vb_guest.proofs.SameRefusals.{IsIdleStatus, at_both, last_test}
+use Rattle.vb_guest.{proofs.SameRefusals.{IsIdleStatus, at_both, last_test}, specs.Steps.StepsAlone}
+use Rattle.vb_guest.{proofs.Closing.{first_holds, refused_alone}, specs.Stands.{Honest, IsRunning}}
+use Rattle.vb_guest.{specs.Replies.reaped_reply, proofs.Reaping.used_next}
+use Rattle.vb_model.specs.Tables.{reap_tests as tests_of_reap, is_queue_of_requests, is_up}
+use Rattle.vb_ring.specs.declared.driver.RingBroken.{RingBroken as Broken}
+use Rattle.vb_driver.specs.declared.answers.Reaped.{Reaped as ReapedRequest}
 
 -- where the ring isn't broken
 reap_same : (m : Pages) (p : Part) (d : DriverState) (g : Guest) (q : ℕ) (ring : DriverEnd)

@@ -1,35 +1,23 @@
 -- A guest's reap of a report is a step of the definitions.
-use Rattle.std.specs.Prelude.{◌≡◌, ℕ, ◌+◌, List, [], ◌∷◌, length, Result, Ok}
-use Rattle.std.specs.Prelude.{Option, Some, None, slice_get, count_by, refl}
+use Rattle.std.specs.Prelude.{◌≡◌, ℕ, ◌+◌, List, [], ◌∷◌, length, Result, Ok, Option, Some, None}
+use Rattle.std.specs.Prelude.{slice_get, count_by, refl}
 use Rattle.std.proofs.Common.{sym, ◌∙◌, ap, subst, arith, inr}
-use Rattle.vb_model.specs.declared.calls.Call.TheVariants.{Reap}
-use Rattle.vb_model.specs.declared.places.Place.{Place}
-use Rattle.vb_model.specs.declared.places.Place.TheVariants.{Free}
-use Rattle.vb_model.specs.declared.replies.Refusal.{Refusal}
+use Rattle.vb_model.{specs.declared.calls.Call.TheVariants.Reap, specs.declared.places.Place.Place}
+use Rattle.vb_model.{specs.declared.places.Place.TheVariants.Free, specs.Guest.Guest}
+use Rattle.vb_model.{specs.declared.replies.Refusal.Refusal, specs.Driver.{reaped, Reaps}}
 use Rattle.vb_model.specs.declared.replies.Reply.TheVariants.{NotUsed, Reaped}
-use Rattle.vb_model.specs.Pages.{placed, pages_of_all, is_lent}
+use Rattle.vb_model.{specs.Pages.{placed, pages_of_all, is_lent}, specs.Refusals.refusal_of}
 use Rattle.vb_model.specs.Requests.{Request, all_requests, pages_named, Reporting_free}
-use Rattle.vb_model.specs.Guest.{Guest}
-use Rattle.vb_model.specs.Driver.{reaped, Reaps}
-use Rattle.vb_model.specs.Refusals.{refusal_of}
-use Rattle.vb_ram.specs.Pages.{Pages}
-use Rattle.vb_ram.specs.Part.{Part}
-use Rattle.vb_ring.specs.Ends.{used_answer, after_take}
-use Rattle.vb_ring.specs.Calls.{TakesUsedBy}
+use Rattle.vb_ram.{specs.Pages.Pages, specs.Part.Part}
+use Rattle.vb_ring.{specs.Ends.{used_answer, after_take}, specs.Calls.TakesUsedBy}
+use Rattle.vb_driver.{specs.Areas.areas_with, specs.Calls.{ReapsBy, next_of, with_actual}}
+use Rattle.vb_guest.{specs.Line.heads_of, specs.Reported.{ReportLine, IsReport}}
+use Rattle.vb_guest.{specs.Stands.{Honest, Ties, IsRunning}, specs.Steps.StepsAlone}
+use Rattle.vb_guest.{specs.Replies.reaped_reply, proofs.ReportLines.report_reaped}
+use Rattle.vb_guest.{proofs.Named.line_named, proofs.Reaping.used_line, proofs.ReapRefusing.reap_by}
+use Rattle.vb_guest.proofs.Closing.{honest_performed, steps_alone, ties_same}
 use Rattle.vb_driver.specs.declared.answers.Reaped.{Reaped as ReapedRequest}
 use Rattle.vb_driver.specs.State.{DriverState, pages_named as pages_sent}
-use Rattle.vb_driver.specs.Areas.{areas_with}
-use Rattle.vb_driver.specs.Calls.{ReapsBy, next_of, with_actual}
-use Rattle.vb_guest.specs.Line.{heads_of}
-use Rattle.vb_guest.specs.Reported.{ReportLine, IsReport}
-use Rattle.vb_guest.specs.Stands.{Honest, Ties, IsRunning}
-use Rattle.vb_guest.specs.Steps.{StepsAlone}
-use Rattle.vb_guest.specs.Replies.{reaped_reply}
-use Rattle.vb_guest.proofs.ReportLines.{report_reaped}
-use Rattle.vb_guest.proofs.Named.{line_named}
-use Rattle.vb_guest.proofs.Reaping.{used_line}
-use Rattle.vb_guest.proofs.ReapRefusing.{reap_by}
-use Rattle.vb_guest.proofs.Closing.{honest_performed, steps_alone, ties_same}
 
 -- ---- a used report, or none
 

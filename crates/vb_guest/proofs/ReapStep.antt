@@ -1,41 +1,27 @@
 -- A guest's reap is a step of the definitions.
-use Rattle.std.specs.Prelude.{◌≡◌, ℕ}
-use Rattle.std.specs.Prelude.{List, [], ◌∷◌, length, Result, Ok, Option, Some, None}
-use Rattle.std.specs.Prelude.{◌+◌, count_by, if◌then◌else◌, refl}
+use Rattle.std.specs.Prelude.{◌≡◌, ℕ, List, [], ◌∷◌, length, Result, Ok, Option, Some, None, ◌+◌}
+use Rattle.std.specs.Prelude.{count_by, if◌then◌else◌, refl}
 use Rattle.std.proofs.Common.{sym, ◌∙◌, ap, subst, arith, inl, inr}
-use Rattle.vb_model.specs.declared.calls.Call.TheVariants.{Reap}
-use Rattle.vb_model.specs.declared.places.Place.TheVariants.{Lent}
-use Rattle.vb_model.specs.declared.replies.Refusal.{Refusal}
-use Rattle.vb_model.specs.declared.replies.Reply.TheVariants.{NotUsed, Reaped}
-use Rattle.vb_model.specs.declared.places.Place.{Place}
-use Rattle.vb_model.specs.Pages.{placed, is_lent}
 use Rattle.vb_model.specs.Requests.{Request, all_requests, pages_named, Inflating, Deflating}
-use Rattle.vb_model.specs.Requests.{places_reaped}
-use Rattle.vb_model.specs.Guest.{Guest, tells_host}
-use Rattle.vb_model.specs.Driver.{reaped, Reaps}
-use Rattle.vb_model.specs.Refusals.{refusal_of}
-use Rattle.vb_ram.specs.Pages.{Pages}
-use Rattle.vb_ram.specs.Part.{Part}
-use Rattle.vb_ring.specs.Ends.{used_answer}
-use Rattle.vb_ring.specs.Calls.{TakesUsedBy}
-use Rattle.vb_driver.specs.declared.answers.Reaped.{Reaped as ReapedRequest}
+use Rattle.vb_model.{specs.declared.calls.Call.TheVariants.Reap, specs.declared.places.Place.Place}
+use Rattle.vb_model.{specs.declared.places.Place.TheVariants.Lent, specs.Pages.{placed, is_lent}}
+use Rattle.vb_model.{specs.declared.replies.Refusal.Refusal, specs.Requests.places_reaped}
+use Rattle.vb_model.specs.declared.replies.Reply.TheVariants.{NotUsed, Reaped}
+use Rattle.vb_model.{specs.Guest.{Guest, tells_host}, specs.Driver.{reaped, Reaps}}
+use Rattle.vb_model.{specs.Refusals.refusal_of, proofs.Queues.{queue_cases, no_requests_at}}
+use Rattle.vb_ram.{specs.Pages.Pages, specs.Part.Part}
+use Rattle.vb_ring.{specs.Ends.used_answer, specs.Calls.TakesUsedBy}
 use Rattle.vb_driver.specs.State.{FreePages, RequestSide, DriverState, sent_by, page_state}
-use Rattle.vb_driver.specs.State.{pages_named as pages_sent}
-use Rattle.vb_driver.specs.Areas.{all_given}
+use Rattle.vb_driver.{specs.Areas.all_given, proofs.RequestTables.requests_taken}
 use Rattle.vb_driver.specs.Calls.{ReapsBy, after_reap, next_of, with_actual}
-use Rattle.vb_driver.proofs.RequestTables.{requests_taken}
-use Rattle.vb_guest.specs.Line.{Line, IsRequest}
-use Rattle.vb_guest.specs.Stands.{Honest, Ties, IsRunning}
-use Rattle.vb_guest.specs.Steps.{StepsAlone}
-use Rattle.vb_guest.specs.Replies.{reaped_reply}
-use Rattle.vb_guest.proofs.Reaping.{used_next, used_line, line_reaped}
-use Rattle.vb_guest.proofs.ReapRefusing.{reap_by, reap_no_queue}
-use Rattle.vb_guest.proofs.ReapReportStep.{reap_report}
-use Rattle.vb_model.proofs.Queues.{queue_cases, no_requests_at}
-use Rattle.vb_guest.proofs.Closing.{honest_performed, steps_alone}
-use Rattle.vb_guest.proofs.Closing.{ties_same}
-use Rattle.vb_guest.proofs.Named.{line_named}
 use Rattle.vb_guest.proofs.DriverWords.{Sides, sides_of, driver_of, driver_is, keeps_own}
+use Rattle.vb_guest.proofs.Closing.{honest_performed, steps_alone, ties_same}
+use Rattle.vb_guest.{proofs.Reaping.{used_next, used_line, line_reaped}, specs.Replies.reaped_reply}
+use Rattle.vb_guest.{proofs.ReapRefusing.{reap_by, reap_no_queue}, specs.Line.{Line, IsRequest}}
+use Rattle.vb_guest.{specs.Stands.{Honest, Ties, IsRunning}, proofs.ReapReportStep.reap_report}
+use Rattle.vb_guest.{proofs.Named.line_named, specs.Steps.StepsAlone}
+use Rattle.vb_driver.specs.declared.answers.Reaped.{Reaped as ReapedRequest}
+use Rattle.vb_driver.specs.State.{pages_named as pages_sent}
 
 -- ---- queue 0
 

@@ -1,21 +1,15 @@
 -- The driver takes a used request.
 use Rattle.std.specs.Prelude.{◌≡◌, ℕ, ◌==◌, List, [], ◌∷◌, Option, Some, Ok, slice_get}
-use Rattle.std.proofs.Common.{◌∙◌, arith}
-use Rattle.std.proofs.lemmas.List.{length-set}
+use Rattle.std.{proofs.Common.{◌∙◌, arith}, proofs.lemmas.List.length-set}
 use Rattle.std.proofs.lemmas.List.Elements.{All-tail}
-use Rattle.vb_model.specs.Tests.{one_if}
-use Rattle.vb_model.specs.Requests.{Request, Requests}
-use Rattle.vb_ram.specs.Pages.{Pages}
-use Rattle.vb_ram.specs.Part.{QueuePart}
-use Rattle.vb_ring.specs.Entries.{is_head}
-use Rattle.vb_ring.specs.Ends.{DriverEnd, used_answer}
+use Rattle.vb_model.{specs.Tests.one_if, specs.Requests.{Request, Requests}}
+use Rattle.vb_ram.{specs.Pages.Pages, specs.Part.QueuePart}
+use Rattle.vb_ring.{specs.Entries.is_head, specs.Ends.{DriverEnd, used_answer}}
 use Rattle.vb_ring.specs.Calls.{TakesUsedBy}
-use Rattle.vb_driver.specs.State.{RequestSide}
-use Rattle.vb_driver.specs.Calls.{after_reap}
+use Rattle.vb_driver.{specs.State.RequestSide, specs.Calls.after_reap}
 use Rattle.vb_guest.specs.Line.{Line, IsRequest, RingOf, heads_of}
-use Rattle.vb_guest.proofs.RingHeads.{one_is, at_most_one}
+use Rattle.vb_guest.{proofs.RingHeads.{one_is, at_most_one}, proofs.Heads.{headed-cons, headed-all}}
 use Rattle.vb_guest.proofs.RingReaped.{ring_answer, ring_reaped}
-use Rattle.vb_guest.proofs.Heads.{headed-cons, headed-all}
 use Rattle.vb_guest.proofs.Posting.{headed_once, still_out}
 
 -- the head of the first used request, which the driver is answered

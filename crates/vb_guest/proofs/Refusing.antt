@@ -1,19 +1,14 @@
 -- Device and model refuse the same calls.
-use Rattle.std.specs.Prelude.{◌≡◌, ℕ, Bool, true, false, not, ◌&&◌, nat_le, List}
-use Rattle.std.specs.Prelude.{[], ◌∷◌, length, Option, Some, is_none, slice_get, drop}
-use Rattle.std.specs.Prelude.{refl, ◌⊎◌}
+use Rattle.std.specs.Prelude.{◌≡◌, ℕ, Bool, true, false, not, ◌&&◌, nat_le, List, [], ◌∷◌, length}
+use Rattle.std.specs.Prelude.{Option, Some, is_none, slice_get, drop, refl, ◌⊎◌}
 use Rattle.std.proofs.Common.{sym, ap, subst, inl, inr}
-use Rattle.vb_model.specs.declared.calls.Call.TheVariants.{Take, Finish}
-use Rattle.vb_model.specs.declared.replies.Refusal.{Refusal}
 use Rattle.vb_model.specs.declared.replies.Refusal.TheVariants.{NoQueue, NotReady, Busy, NotTaken}
-use Rattle.vb_model.specs.declared.replies.Refusal.TheVariants.{NotWorked}
-use Rattle.vb_model.specs.Requests.{Request}
-use Rattle.vb_model.specs.Guest.{Guest}
-use Rattle.vb_model.specs.FirstRefusal.{◌⇒◌, first_refusal}
 use Rattle.vb_model.specs.Tables.{has_chains, is_queue_of_requests, has_unvisited, take_tests}
-use Rattle.vb_model.specs.Tables.{finish_tests}
-use Rattle.vb_model.specs.Refusals.{tests, refusal_of}
-use Rattle.vb_model.proofs.Queues.{IsNoQueue, no_chains_at}
+use Rattle.vb_model.{specs.declared.calls.Call.TheVariants.{Take, Finish}, specs.Requests.Request}
+use Rattle.vb_model.{specs.declared.replies.Refusal.Refusal, specs.Guest.Guest}
+use Rattle.vb_model.specs.declared.replies.Refusal.TheVariants.{NotWorked}
+use Rattle.vb_model.{specs.FirstRefusal.{◌⇒◌, first_refusal}, specs.Tables.finish_tests}
+use Rattle.vb_model.{specs.Refusals.{tests, refusal_of}, proofs.Queues.{IsNoQueue, no_chains_at}}
 use Rattle.vb_ram.specs.Part.{Part}
 use Rattle.vb_device.specs.Conditions.{take_refusal, finish_refusal, taken_at}
 use Rattle.vb_device.specs.Queues.{queue_part}

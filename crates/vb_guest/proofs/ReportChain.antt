@@ -1,25 +1,18 @@
 -- A posted report, as its device finds it.
 use Rattle.std.specs.Prelude.{◌≡◌, ℕ, ◌*◌, ◌<◌, ◌≤◌, ◌||◌, Bool, true, false, not, List, [], ◌∷◌}
 use Rattle.std.specs.Prelude.{All, length, map, Option, None, Ok, slice_index, slice_index_or, refl}
-use Rattle.std.specs.List.{list_any, range_with_len}
-use Rattle.std.proofs.Common.{sym, ◌∙◌, ap, subst, arith}
-use Rattle.std.proofs.lemmas.Nat.{pow_pos}
-use Rattle.std.proofs.lemmas.List.{length-map, get_or-map}
+use Rattle.std.{specs.List.{list_any, range_with_len}, proofs.Common.{sym, ◌∙◌, ap, subst, arith}}
+use Rattle.std.{proofs.lemmas.Nat.pow_pos, proofs.lemmas.List.{length-map, get_or-map}}
 use Rattle.std.proofs.lemmas.List.Elements.{All-tail}
 use Rattle.std.proofs.lemmas.List.FromFn.{length-range_with_len, get_or-range_with_len}
-use Rattle.vb_model.specs.Layout.{reserved_pages}
-use Rattle.vb_model.specs.Pages.{Block, size, pages_of_all}
+use Rattle.vb_model.{specs.Layout.reserved_pages, specs.Pages.{Block, size, pages_of_all}}
 use Rattle.vb_ram.specs.Pages.{Pages}
-use Rattle.vb_chain.specs.declared.pieces.Piece.{Piece}
-use Rattle.vb_chain.specs.declared.fault.ChainFault.{ChainFault}
-use Rattle.vb_chain.specs.Table.{descriptor_at}
-use Rattle.vb_chain.specs.Chain.{ChainGives}
-use Rattle.vb_chain.specs.Written.{empty, linked, AreSound, IsRoute}
-use Rattle.vb_chain.proofs.ChainLaws.{written_chain}
+use Rattle.vb_chain.{specs.Written.{empty, linked, AreSound, IsRoute}, specs.Table.descriptor_at}
+use Rattle.vb_chain.{specs.declared.fault.ChainFault.ChainFault, specs.declared.pieces.Piece.Piece}
+use Rattle.vb_chain.{proofs.ChainLaws.written_chain, specs.Chain.ChainGives}
 use Rattle.vb_driver.specs.Coding.{AreReported}
-use Rattle.vb_request.specs.Request.{first_of_both}
 use Rattle.vb_request.specs.Report.{pages_of_pieces, piece_fault, first_piece_fault, has_bad_length}
-use Rattle.vb_request.specs.Report.{report_request}
+use Rattle.vb_request.{specs.Request.first_of_both, specs.Report.report_request}
 use Rattle.vb_guest.specs.Reported.{IsOwnBlock}
 
 -- the bytes of a block, and those of all blocks, as a chain has them

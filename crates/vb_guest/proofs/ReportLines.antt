@@ -1,33 +1,21 @@
 -- What calls make of the queue of reports.
-use Rattle.std.specs.Prelude.{◌≡◌, ℕ, ◌+◌, ◌%◌, ◌<◌, ◌≤◌, true, List, [], ◌∷◌, ◌++◌}
-use Rattle.std.specs.Prelude.{length, remove, Some, Ok, slice_get}
+use Rattle.std.specs.Prelude.{◌≡◌, ℕ, ◌+◌, ◌%◌, ◌<◌, ◌≤◌, true, List, [], ◌∷◌, ◌++◌, length, remove}
+use Rattle.std.specs.Prelude.{Some, Ok, slice_get}
 use Rattle.std.proofs.Common.{sym, ◌∙◌, ap, subst, arith, inl, refl}
 use Rattle.std.proofs.lemmas.List.Elements.{All-nil, All-push, All-tail}
 use Rattle.std.proofs.lemmas.Option.{get_or_from_slice_get, slice_get_within}
-use Rattle.vb_model.specs.Layout.{ring_page}
-use Rattle.vb_model.specs.Pages.{Block}
+use Rattle.vb_model.{specs.Layout.ring_page, specs.Pages.Block, specs.Device.visiting}
 use Rattle.vb_model.specs.Requests.{Request, Requests, no_requests, posting}
-use Rattle.vb_model.specs.Device.{visiting}
-use Rattle.vb_ram.specs.Pages.{Pages, page_at}
-use Rattle.vb_ram.specs.Part.{QueuePart}
-use Rattle.vb_chain.specs.Table.{descriptor_at}
-use Rattle.vb_chain.proofs.TableLaws.{descriptor_apart}
-use Rattle.vb_ring.specs.declared.layout.Layout.{Layout}
-use Rattle.vb_ring.specs.Ends.{DriverEnd, DeviceEnd}
+use Rattle.vb_ram.{specs.Pages.{Pages, page_at}, specs.Part.QueuePart}
+use Rattle.vb_chain.{specs.Table.descriptor_at, proofs.TableLaws.descriptor_apart}
+use Rattle.vb_ring.{specs.declared.layout.Layout.Layout, specs.Ends.{DriverEnd, DeviceEnd}}
 use Rattle.vb_ring.specs.Calls.{AddsUsedBy, TakesUsedBy}
-use Rattle.vb_driver.specs.Coding.{AreReported}
-use Rattle.vb_driver.specs.State.{ReportSide}
-use Rattle.vb_driver.specs.Calls.{PostsReport}
-use Rattle.vb_guest.specs.Ring.{RingStands}
-use Rattle.vb_guest.specs.Line.{heads_of}
-use Rattle.vb_guest.specs.Reported.{IsReport, ReportLine}
+use Rattle.vb_driver.{specs.Coding.AreReported, specs.State.ReportSide, specs.Calls.PostsReport}
 use Rattle.vb_guest.proofs.Heads.{heads-push, heads-remove, heads-get, heads-visiting, all-visiting}
-use Rattle.vb_guest.proofs.Heads.{all_remove}
-use Rattle.vb_guest.proofs.RingApart.{SameRing, ring_apart}
-use Rattle.vb_guest.proofs.RingPosted.{ring_posted}
-use Rattle.vb_guest.proofs.RingTaken.{ring_taken}
-use Rattle.vb_guest.proofs.RingUsed.{ring_used}
-use Rattle.vb_guest.proofs.RingReaped.{ring_reaped}
+use Rattle.vb_guest.{specs.Ring.RingStands, specs.Line.heads_of, proofs.Heads.all_remove}
+use Rattle.vb_guest.{specs.Reported.{IsReport, ReportLine}, proofs.RingApart.{SameRing, ring_apart}}
+use Rattle.vb_guest.{proofs.RingPosted.ring_posted, proofs.RingTaken.ring_taken}
+use Rattle.vb_guest.{proofs.RingUsed.ring_used, proofs.RingReaped.ring_reaped}
 
 -- ---- memory changes elsewhere
 

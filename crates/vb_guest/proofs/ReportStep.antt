@@ -1,46 +1,31 @@
 -- A guest's report is a step of the definitions.
 use Rattle.std.specs.Prelude.{◌≡◌, ℕ, ◌<◌, ◌==◌, Bool, not, nat_le, List, [], ◌∷◌, length, Result}
 use Rattle.std.specs.Prelude.{Ok, Err, Some, None, is_some, refl, All}
-use Rattle.std.proofs.Common.{sym, ◌∙◌, ap, subst, arith, inl, inr}
-use Rattle.std.proofs.lemmas.List.{length-map}
-use Rattle.vb_model.specs.declared.calls.Call.TheVariants.{Report}
-use Rattle.vb_model.specs.declared.places.Place.TheVariants.{Reporting}
-use Rattle.vb_model.specs.declared.replies.Refusal.{Refusal}
+use Rattle.std.{proofs.Common.{sym, ◌∙◌, ap, subst, arith, inl, inr}, proofs.lemmas.List.length-map}
+use Rattle.vb_model.{specs.declared.calls.Call.TheVariants.Report, specs.Guest.{Guest, reporting}}
+use Rattle.vb_model.{specs.declared.places.Place.TheVariants.Reporting, specs.Driver.asking}
+use Rattle.vb_model.{specs.declared.replies.Refusal.Refusal, specs.Tables.is_up}
 use Rattle.vb_model.specs.declared.replies.Refusal.TheVariants.{NotReady, NoFeature, QueueFull}
 use Rattle.vb_model.specs.declared.replies.Refusal.TheVariants.{Nothing}
-use Rattle.vb_model.specs.declared.replies.Reply.TheVariants.{Posted, Refused}
-use Rattle.vb_model.specs.Pages.{Block, placed, pages_of_all}
+use Rattle.vb_model.{specs.declared.replies.Reply.TheVariants.{Posted, Refused}, specs.Pages.Block}
+use Rattle.vb_model.{specs.Pages.{placed, pages_of_all}, specs.FirstRefusal.{◌⇒◌, first_refusal}}
 use Rattle.vb_model.specs.Requests.{Request, Requests, no_requests, outstanding, posting}
-use Rattle.vb_model.specs.Requests.{IsLeastHead, Reporting_free}
-use Rattle.vb_model.specs.Guest.{Guest, reporting}
-use Rattle.vb_model.specs.Driver.{asking}
-use Rattle.vb_model.specs.FirstRefusal.{◌⇒◌, first_refusal}
-use Rattle.vb_model.specs.Tables.{is_up}
-use Rattle.vb_model.specs.Refusals.{refusal_of, reported_blocks}
-use Rattle.vb_ram.specs.Pages.{Pages}
-use Rattle.vb_ram.specs.Part.{Part}
-use Rattle.vb_ring.specs.Ends.{outstanding as outstanding_in}
-use Rattle.vb_driver.specs.declared.answers.Posted.{Posted as PostedRequest}
-use Rattle.vb_driver.specs.State.{DriverState, ReportSide}
-use Rattle.vb_driver.specs.Areas.{areas_without}
+use Rattle.vb_model.{specs.Requests.{IsLeastHead, Reporting_free}, specs.Refusals.refusal_of}
+use Rattle.vb_model.specs.Refusals.{reported_blocks}
+use Rattle.vb_ram.{specs.Pages.Pages, specs.Part.Part}
+use Rattle.vb_driver.{specs.State.{DriverState, ReportSide}, specs.Areas.areas_without}
 use Rattle.vb_driver.specs.Answers.{report_tests, blocks_to_report}
 use Rattle.vb_driver.specs.Calls.{Reports, ReportsBy, unreported}
-use Rattle.vb_guest.specs.Line.{heads_of}
-use Rattle.vb_guest.specs.Reported.{IsReport, ReportLine}
-use Rattle.vb_guest.specs.Stands.{Honest, Ties, IsRunning}
-use Rattle.vb_guest.specs.Steps.{StepsAlone}
-use Rattle.vb_guest.specs.Replies.{posted_reply}
-use Rattle.vb_guest.specs.Reported.{IsOwnBlock}
-use Rattle.vb_guest.proofs.Apart.{no_buffer}
-use Rattle.vb_guest.proofs.RunApart.{sizes_of, ring_of, ring_low, table_clear, post_leaves, post_same}
-use Rattle.vb_guest.proofs.RingHeads.{ring_count}
-use Rattle.vb_guest.proofs.Apart.{line_apart}
-use Rattle.vb_guest.proofs.BufferLines.{buffer_apart}
-use Rattle.vb_guest.proofs.ReportLines.{report_posted}
-use Rattle.vb_guest.proofs.OwnBlocks.{reported_own, reported_few}
-use Rattle.vb_guest.proofs.PagesKept.{pages_same}
-use Rattle.vb_guest.proofs.SameRefusals.{IsIdleStatus}
+use Rattle.vb_guest.proofs.RunApart.{sizes_of, ring_of, ring_low, table_clear, post_leaves}
 use Rattle.vb_guest.proofs.Closing.{honest_performed, honest_refused, steps_alone, ties_same}
+use Rattle.vb_guest.{specs.Reported.{IsReport, ReportLine, IsOwnBlock}, proofs.RingHeads.ring_count}
+use Rattle.vb_guest.{proofs.OwnBlocks.{reported_own, reported_few}, proofs.BufferLines.buffer_apart}
+use Rattle.vb_guest.{specs.Stands.{Honest, Ties, IsRunning}, proofs.Apart.{no_buffer, line_apart}}
+use Rattle.vb_guest.{proofs.ReportLines.report_posted, proofs.SameRefusals.IsIdleStatus}
+use Rattle.vb_guest.{proofs.PagesKept.pages_same, specs.Replies.posted_reply, specs.Line.heads_of}
+use Rattle.vb_guest.{proofs.RunApart.post_same, specs.Steps.StepsAlone}
+use Rattle.vb_ring.specs.Ends.{outstanding as outstanding_in}
+use Rattle.vb_driver.specs.declared.answers.Posted.{Posted as PostedRequest}
 
 -- ---- refusals
 

@@ -1,29 +1,21 @@
 -- A guest's life ends, and a new one begins: all its frames go back.
-use Rattle.std.specs.Prelude.{◌≡◌, ℕ, ◌+◌, ◌<◌, ◌==◌, Bool, true, false, List, [], ◌∷◌, length}
-use Rattle.std.specs.Prelude.{suc, Option, None, count_by, replicate, slice_index_or, refl}
-use Rattle.std.specs.Option.{option_to_list}
-use Rattle.std.specs.List.{range_with_len}
-use Rattle.std.proofs.Common.{sym, ◌∙◌, ap, subst, arith}
-use Rattle.std.proofs.lemmas.List.{length-replicate}
-use Rattle.vb_model.specs.Limits.{is_config}
-use Rattle.vb_model.specs.Guest.{Guest, no_statistics}
-use Rattle.vb_model.specs.Life.{after_restart}
-use Rattle.vb_model.specs.Orderly.{times}
+use Rattle.std.specs.Prelude.{◌≡◌, ℕ, ◌+◌, ◌<◌, ◌==◌, Bool, true, false, List, [], ◌∷◌, length, suc}
+use Rattle.std.specs.Prelude.{Option, None, count_by, replicate, slice_index_or, refl}
+use Rattle.std.{specs.Option.option_to_list, specs.List.range_with_len}
+use Rattle.std.{proofs.Common.{sym, ◌∙◌, ap, subst, arith}, proofs.lemmas.List.length-replicate}
+use Rattle.vb_model.{specs.Limits.is_config, specs.Guest.{Guest, no_statistics}}
+use Rattle.vb_model.{specs.Life.after_restart, specs.Orderly.times}
 use Rattle.vb_model.proofs.Tables.{count_by-cons, count_by-append}
-use Rattle.vb_ram.specs.Pages.{Pages, frame_at, number_of}
-use Rattle.vb_ram.specs.Part.{Part}
+use Rattle.vb_ram.{specs.Pages.{Pages, frame_at, number_of}, specs.Part.Part}
 use Rattle.vb_status.specs.After.{part_after_reset}
 use Rattle.vb_driver.specs.State.{DriverState, fresh_driver}
 use Rattle.vb_device.specs.Discards.{frames_behind}
-use Rattle.vb_guest.specs.Stands.{Honest, DeviceKeeps, Stands}
-use Rattle.vb_guest.specs.Exact.{KeepsFrames}
+use Rattle.vb_guest.{specs.Stands.{Honest, DeviceKeeps, Stands}, specs.Exact.KeepsFrames}
 use Rattle.vb_guest.specs.Steps.{is_frame, backing_count, AreOut, AllReturn, IsBare, Restarts}
 use Rattle.vb_guest.specs.Supply.{Supply, supply_of, Moves, nothing, AreLoose}
-use Rattle.vb_guest.proofs.Discarding.{one_frame}
+use Rattle.vb_guest.{proofs.Discarding.one_frame, proofs.Moving.moves_as, proofs.Writing.HasFrames}
 use Rattle.vb_guest.proofs.Fresh.{everywhere, backs_none, fresh_honest}
-use Rattle.vb_guest.proofs.Moving.{moves_as}
 use Rattle.vb_guest.proofs.Standing.{stands_of, own_moved}
-use Rattle.vb_guest.proofs.Writing.{HasFrames}
 
 -- ---- the frames behind all pages
 

@@ -1,17 +1,12 @@
 -- What leaves a ring alone, and a ring of which nothing was published.
-use Rattle.std.specs.Prelude.{◌≡◌, ℕ, List, [], ◌++◌}
-use Rattle.std.specs.Prelude.{length, refl}
-use Rattle.std.proofs.Common.{sym, subst}
-use Rattle.vb_model.specs.Layout.{ring_page}
+use Rattle.std.{specs.Prelude.{◌≡◌, ℕ, List, [], ◌++◌, length, refl}, proofs.Common.{sym, subst}}
+use Rattle.vb_model.{specs.Layout.ring_page, proofs.Shapes.InRing}
 use Rattle.vb_ram.specs.Pages.{Pages, page_at}
-use Rattle.vb_ring.specs.Layout.{IsSize, layout_of}
-use Rattle.vb_ring.specs.Ends.{DriverEnd}
-use Rattle.vb_model.proofs.Shapes.{InRing}
-use Rattle.vb_ring.proofs.Shapes.{AreInRing, parts_in_ring}
-use Rattle.vb_ring.proofs.MeaningLaws.{tracks_apart}
-use Rattle.vb_ring.proofs.MeaningLaws.{ring_apart as shows_apart}
+use Rattle.vb_ring.{specs.Layout.{IsSize, layout_of}, specs.Ends.DriverEnd}
+use Rattle.vb_ring.{proofs.Shapes.{AreInRing, parts_in_ring}, proofs.MeaningLaws.tracks_apart}
 use Rattle.vb_driver.specs.Calls.{IsNewRing}
 use Rattle.vb_guest.specs.Ring.{RingStands, used_of}
+use Rattle.vb_ring.proofs.MeaningLaws.{ring_apart as shows_apart}
 
 -- the pages of a queue's ring are as before
 abbrev pub SameRing : Pages → Pages → ℕ → ℕ → Type 0

@@ -1,10 +1,8 @@
 -- The driver publishes a head on a ring.
-use Rattle.std.specs.Prelude.{◌≡◌, ℕ, List, [], ◌∷◌, ◌++◌}
-use Rattle.std.specs.Prelude.{length, Ok}
+use Rattle.std.specs.Prelude.{◌≡◌, ℕ, List, [], ◌∷◌, ◌++◌, length, Ok}
 use Rattle.std.proofs.Common.{sym, subst, append_assoc}
 use Rattle.vb_ram.specs.Pages.{Pages}
-use Rattle.vb_ring.specs.Ends.{DriverEnd, after_add}
-use Rattle.vb_ring.specs.Meaning.{Shows, Tracks}
+use Rattle.vb_ring.{specs.Ends.{DriverEnd, after_add}, specs.Meaning.{Shows, Tracks}}
 use Rattle.vb_driver.specs.Calls.{Announces}
 use Rattle.vb_guest.specs.Ring.{RingStands, used_of}
 

@@ -5,18 +5,14 @@ use Rattle.std.proofs.Common.{sym, ◌∙◌, ap, subst, arith, append_assoc}
 use Rattle.std.proofs.lemmas.List.{length_push}
 use Rattle.vb_model.proofs.Distinct.{times-cons}
 use Rattle.vb_ram.specs.Pages.{Pages}
-use Rattle.vb_ring.specs.declared.driver.RingBroken.{RingBroken}
+use Rattle.vb_ring.{specs.declared.driver.RingBroken.RingBroken, specs.Entries.{is_head, only_head}}
 use Rattle.vb_ring.specs.declared.driver.RingBroken.TheVariants.{NotOutstanding}
-use Rattle.vb_ring.specs.Entries.{is_head, only_head}
 use Rattle.vb_ring.specs.Ends.{DriverEnd, after_take, used_answer, outstanding}
-use Rattle.vb_ring.specs.Meaning.{UsedElem, ids, times, Shows, Tracks}
-use Rattle.vb_ring.specs.Calls.{TakesUsedBy}
-use Rattle.vb_ring.proofs.EntryLaws.{id_shown}
-use Rattle.vb_ring.proofs.MeaningLaws.{times-push, ids-push}
+use Rattle.vb_ring.{specs.Meaning.{UsedElem, ids, times, Shows, Tracks}, specs.Calls.TakesUsedBy}
+use Rattle.vb_ring.{proofs.EntryLaws.id_shown, proofs.MeaningLaws.{times-push, ids-push}}
 use Rattle.vb_ring.proofs.Numbers.{length-numbers}
+use Rattle.vb_guest.proofs.RingHeads.{one_is, is_one, length-used, length-ids, ids-split, get_after}
 use Rattle.vb_guest.specs.Ring.{RingStands, used_of}
-use Rattle.vb_guest.proofs.RingHeads.{one_is, is_one}
-use Rattle.vb_guest.proofs.RingHeads.{length-used, length-ids, ids-split, get_after}
 use Rattle.vb_guest.proofs.RingHeads.{none_after, ring_once, ring_count}
 
 -- the driver's next used head is the first that it hasn't seen

@@ -1,17 +1,12 @@
 -- The device takes a posted head.
-use Rattle.std.specs.Prelude.{◌≡◌, ℕ, ◌+◌, ◌%◌, List, [], ◌∷◌, ◌++◌}
-use Rattle.std.specs.Prelude.{length, Ok, slice_get}
+use Rattle.std.specs.Prelude.{◌≡◌, ℕ, ◌+◌, ◌%◌, List, [], ◌∷◌, ◌++◌, length, Ok, slice_get}
 use Rattle.std.proofs.Common.{sym, ◌∙◌, ap, subst, arith, append_assoc}
 use Rattle.std.proofs.lemmas.List.{length_push}
 use Rattle.vb_ram.specs.Pages.{Pages}
-use Rattle.vb_ring.specs.Entries.{next_entry}
-use Rattle.vb_ring.specs.Ends.{DriverEnd}
-use Rattle.vb_ring.specs.Meaning.{Shows, Tracks}
-use Rattle.vb_ring.proofs.EntryLaws.{entry_shown}
-use Rattle.vb_ring.proofs.MeaningLaws.{times-push}
+use Rattle.vb_ring.{specs.Entries.next_entry, specs.Ends.DriverEnd, specs.Meaning.{Shows, Tracks}}
+use Rattle.vb_ring.{proofs.EntryLaws.entry_shown, proofs.MeaningLaws.times-push}
 use Rattle.vb_guest.specs.Ring.{RingStands, used_of}
-use Rattle.vb_guest.proofs.RingHeads.{length-used, get_after}
-use Rattle.vb_guest.proofs.RingHeads.{none_after}
+use Rattle.vb_guest.proofs.RingHeads.{length-used, get_after, none_after}
 
 -- the device's next entry is the first posted head
 pub ring_next : (mem : Pages) (q : ℕ) (ring : DriverEnd) (next_avail next_used : ℕ)

@@ -1,19 +1,14 @@
 -- The device uses a taken head.
-use Rattle.std.specs.Prelude.{◌≡◌, ℕ, ◌+◌, ◌%◌, ◌<◌, true, List, [], ◌∷◌, ◌++◌}
-use Rattle.std.specs.Prelude.{length, Some, slice_get, remove}
+use Rattle.std.specs.Prelude.{◌≡◌, ℕ, ◌+◌, ◌%◌, ◌<◌, true, List, [], ◌∷◌, ◌++◌, length, Some}
+use Rattle.std.{specs.Prelude.{slice_get, remove}, proofs.lemmas.List.{length_push, map_push}}
 use Rattle.std.proofs.Common.{sym, ◌∙◌, ap, subst, arith, append_assoc}
-use Rattle.std.proofs.lemmas.List.{length_push, map_push}
-use Rattle.std.proofs.lemmas.List.Edits.{length-remove}
-use Rattle.std.proofs.lemmas.Option.{slice_get_within}
+use Rattle.std.{proofs.lemmas.List.Edits.length-remove, proofs.lemmas.Option.slice_get_within}
 use Rattle.vb_model.proofs.Distinct.{times-append}
 use Rattle.vb_ram.specs.Pages.{Pages}
-use Rattle.vb_ring.specs.Ends.{DriverEnd, DeviceEnd}
-use Rattle.vb_ring.specs.Meaning.{UsedElem, ids, times, Shows, Tracks}
-use Rattle.vb_ring.specs.Calls.{AddsUsedBy}
-use Rattle.vb_ring.proofs.MeaningLaws.{times-push, used_tracks}
+use Rattle.vb_ring.{specs.Meaning.{UsedElem, ids, times, Shows, Tracks}, specs.Calls.AddsUsedBy}
+use Rattle.vb_ring.{proofs.MeaningLaws.{times-push, used_tracks}, specs.Ends.{DriverEnd, DeviceEnd}}
 use Rattle.vb_guest.specs.Ring.{RingStands, used_of}
-use Rattle.vb_guest.proofs.RingHeads.{one_is, times-remove}
-use Rattle.vb_guest.proofs.RingHeads.{times-used}
+use Rattle.vb_guest.proofs.RingHeads.{one_is, times-remove, times-used}
 
 pub ring_used : (m1 m2 : Pages) (q : ℕ) (ring : DriverEnd) (next_avail next_used : ℕ)
     (posted taken done : List ℕ) (i h : ℕ) (after : DeviceEnd)

@@ -1,77 +1,57 @@
 -- What a device does for a guest that wrote past its driver.
-use Rattle.std.specs.Prelude.{◌≡◌, ℕ, ◌+◌, ◌<◌, ◌≤◌, ◌==◌, Bool, true, false, not}
-use Rattle.std.specs.Prelude.{◌&&◌, ◌||◌, List, [], ◌∷◌, ◌++◌, length, All, Option, Some, None, Result, ◌%◌, ◌*◌}
-use Rattle.std.specs.Prelude.{Ok, Err, refl, if◌then◌else◌, remove, is_some}
-use Rattle.std.specs.Prelude.{is_none, count_by, IsOk, bit_or}
-use Rattle.std.specs.List.{list_any}
+use Rattle.std.specs.Prelude.{◌≡◌, ℕ, ◌+◌, ◌<◌, ◌≤◌, ◌==◌, Bool, true, false, not, ◌&&◌, ◌||◌, List}
+use Rattle.std.specs.Prelude.{[], ◌∷◌, ◌++◌, length, All, Option, Some, None, Result, ◌%◌, ◌*◌, Ok}
+use Rattle.std.specs.Prelude.{Err, refl, if◌then◌else◌, remove, is_some, is_none, count_by, IsOk}
+use Rattle.std.{proofs.lemmas.Option.{get_or_from_slice_get, slice_get_within}, specs.List.list_any}
+use Rattle.std.{proofs.lemmas.List.Elements.{All-push, All-cons, All-nil}, specs.Prelude.bit_or}
 use Rattle.std.proofs.Common.{sym, ◌∙◌, ap, subst, arith, inl, inr}
-use Rattle.std.proofs.lemmas.List.Elements.{All-push, All-cons, All-nil}
-use Rattle.std.proofs.lemmas.List.{get_or_past}
-use Rattle.std.proofs.lemmas.Bool.{cases_eq, ne_eqb}
-use Rattle.std.proofs.lemmas.Option.{get_or_from_slice_get, slice_get_within}
-use Rattle.vb_model.specs.declared.calls.Call.{Call}
-use Rattle.vb_model.specs.declared.calls.Call.TheVariants.{Take, Work, Finish, Sweep, Ask, SetTarget}
+use Rattle.std.{proofs.lemmas.Bool.{cases_eq, ne_eqb}, proofs.lemmas.List.get_or_past}
+use Rattle.vb_model.specs.declared.calls.Call.TheVariants.{Take, Work, Finish, Sweep, Ask}
 use Rattle.vb_model.specs.declared.layout.TheConstants.{INFLATE_QUEUE, DEFLATE_QUEUE}
-use Rattle.vb_model.specs.declared.layout.TheConstants.{STATISTICS_QUEUE, REPORT_QUEUE}
-use Rattle.vb_model.specs.declared.replies.Refusal.{Refusal}
 use Rattle.vb_model.specs.declared.replies.Refusal.TheVariants.{NoQueue, NotReady, NeedsReset}
 use Rattle.vb_model.specs.declared.replies.Refusal.TheVariants.{Broken, Busy, NotTaken, NotWorked}
-use Rattle.vb_model.specs.declared.replies.Refusal.TheVariants.{NoFeature, NotBallooned}
-use Rattle.vb_model.specs.declared.replies.Reply.{Reply}
-use Rattle.vb_model.specs.declared.replies.Reply.TheVariants.{Refused, Done}
-use Rattle.vb_model.specs.FirstRefusal.{◌⇒◌, first_refusal}
-use Rattle.vb_model.specs.Limits.{page_size}
-use Rattle.vb_model.specs.Layout.{reserved_pages}
-use Rattle.vb_model.proofs.Shapes.{start_reserved}
-use Rattle.vb_model.specs.Layout.{ring_page}
-use Rattle.vb_model.specs.Requests.{Request}
-use Rattle.vb_model.specs.Guest.{Guest, is_ballooned, frame_of, must_tell_host}
-use Rattle.vb_model.specs.Device.{next_page, visiting}
-use Rattle.vb_model.specs.Orderly.{times}
-use Rattle.vb_model.specs.Status.{contains, driver_ok, failed, needs_reset}
 use Rattle.vb_model.specs.Tables.{is_not_ready, has_fault, has_chains, lacks_feature}
 use Rattle.vb_model.specs.Tables.{is_queue_of_requests, has_unvisited, take_tests, work_tests}
+use Rattle.vb_model.{specs.declared.calls.Call.Call, specs.declared.replies.Refusal.Refusal}
+use Rattle.vb_model.{specs.declared.calls.Call.TheVariants.SetTarget, specs.Limits.page_size}
+use Rattle.vb_model.specs.declared.layout.TheConstants.{STATISTICS_QUEUE, REPORT_QUEUE}
+use Rattle.vb_model.specs.declared.replies.Refusal.TheVariants.{NoFeature, NotBallooned}
+use Rattle.vb_model.{specs.declared.replies.Reply.Reply, specs.FirstRefusal.{◌⇒◌, first_refusal}}
+use Rattle.vb_model.{specs.declared.replies.Reply.TheVariants.{Refused, Done}, specs.Orderly.times}
+use Rattle.vb_model.{specs.Layout.{reserved_pages, ring_page}, proofs.Shapes.start_reserved}
+use Rattle.vb_model.{specs.Requests.Request, specs.Device.{next_page, visiting}}
+use Rattle.vb_model.specs.Guest.{Guest, is_ballooned, frame_of, must_tell_host}
+use Rattle.vb_model.specs.Status.{contains, driver_ok, failed, needs_reset}
 use Rattle.vb_model.specs.Tables.{sweep_tests, finish_tests, ask_tests}
-use Rattle.vb_model.specs.Rogue.{target_after, pages_to_back}
-use Rattle.vb_model.specs.Tests.{flagged, is_in}
-use Rattle.vb_model.proofs.Refusing.{is_refused}
-use Rattle.vb_model.proofs.Wanting.{wants, refused_otherwise}
-use Rattle.vb_ram.specs.Pages.{Pages, frame_at, page_at, number_of}
-use Rattle.vb_ram.specs.Part.{Part, QueuePart}
+use Rattle.vb_model.{specs.Rogue.{target_after, pages_to_back}, specs.Tests.{flagged, is_in}}
+use Rattle.vb_model.{proofs.Refusing.is_refused, proofs.Wanting.{wants, refused_otherwise}}
+use Rattle.vb_ram.{specs.Pages.{Pages, frame_at, page_at, number_of}, specs.Part.{Part, QueuePart}}
 use Rattle.vb_chain.specs.declared.fault.ChainFault.TheVariants.{WrongDirection, BadLength}
 use Rattle.vb_chain.specs.Table.{descriptor_at}
-use Rattle.vb_request.specs.Request.{page_request, each_once}
-use Rattle.vb_request.specs.Request.{total_length}
-use Rattle.vb_request.specs.Report.{report_request}
+use Rattle.vb_request.specs.Request.{page_request, each_once, total_length}
+use Rattle.vb_request.{specs.Report.report_request, proofs.Reports.report_pages}
 use Rattle.vb_request.specs.Statistics.{statistics_request, is_statistics_length}
 use Rattle.vb_request.proofs.RequestPages.{request_pages, once_distinct, once_all}
-use Rattle.vb_request.proofs.Reports.{report_pages}
-use Rattle.vb_request.proofs.Once.{is_in-each_once}
-use Rattle.vb_request.proofs.Chains.{chain_fits}
-use Rattle.vb_device.specs.declared.worked.Worked.{Worked}
-use Rattle.vb_device.specs.Discards.{discarded, frames_behind}
-use Rattle.vb_device.specs.Queues.{queue_part, with_queue}
+use Rattle.vb_request.{proofs.Once.is_in-each_once, proofs.Chains.chain_fits}
 use Rattle.vb_device.specs.Conditions.{take_refusal, work_refusal, finish_refusal, sweep_refusal}
+use Rattle.vb_device.specs.Calls.{TakesBy, TakeMeans, IsNextRequest, noting, WorksBy, Visits}
+use Rattle.vb_device.specs.Calls.{next_visit, FinishesBy, Uses, using, settled, without_frames}
+use Rattle.vb_device.{specs.declared.worked.Worked.Worked, specs.Queues.{queue_part, with_queue}}
+use Rattle.vb_device.specs.Discards.{discarded, frames_behind}
 use Rattle.vb_device.specs.Conditions.{ask_refusal, taken_at}
-use Rattle.vb_device.specs.Calls.{TakesBy, TakeMeans, IsNextRequest, noting}
-use Rattle.vb_device.specs.Calls.{WorksBy, Visits, next_visit, FinishesBy, Uses, using, settled}
-use Rattle.vb_device.specs.Calls.{without_frames, lost_frames, SweepsBy, AsksBy, SameFrames}
+use Rattle.vb_device.specs.Calls.{lost_frames, SweepsBy, AsksBy, SameFrames}
 use Rattle.vb_driver.specs.State.{DriverState}
-use Rattle.vb_guest.specs.Stands.{IsOwnRequest, Rogue}
-use Rattle.vb_guest.specs.Steps.{StepsAlone, StepsFreeing, is_frame}
-use Rattle.vb_guest.specs.Replies.{taken_reply, worked_reply, finished_reply, swept_reply, asked_reply}
-use Rattle.vb_guest.proofs.Discarding.{with_entry, length-with_entry, with_entry-get}
-use Rattle.vb_guest.proofs.Discarding.{with_none-get, frames_freed}
-use Rattle.vb_guest.proofs.Handing.{handed_back, loose_none, not_among, behind_same}
-use Rattle.vb_guest.proofs.Heads.{all_remove, all-visiting}
-use Rattle.vb_guest.proofs.WorkReportStep.{next_taken}
-use Rattle.vb_guest.proofs.PagesKept.{number_if, page_discarded, length-discarded}
+use Rattle.vb_guest.specs.Replies.{taken_reply, worked_reply, finished_reply, swept_reply}
+use Rattle.vb_guest.proofs.Discarding.{with_entry, length-with_entry, with_entry-get, with_none-get}
 use Rattle.vb_guest.proofs.Rogues.{DeviceSame, Keeps, driver_same, device_alike, rogue_alone}
-use Rattle.vb_guest.proofs.Rogues.{kept_of_rogue}
-use Rattle.vb_guest.proofs.Rogues.{rogue_after, rogue_stands, rogue_step, IsOther}
+use Rattle.vb_guest.proofs.Rogues.{kept_of_rogue, rogue_after, rogue_stands, rogue_step, IsOther}
 use Rattle.vb_guest.proofs.Rogues.{keeps_part, up_kept, rogue_same, said, IsLeft, left_by}
-use Rattle.vb_guest.proofs.Rogues.{no_refusal}
-use Rattle.vb_guest.proofs.RogueDriver.{left_same}
+use Rattle.vb_guest.{specs.Stands.{IsOwnRequest, Rogue}, specs.Replies.asked_reply}
+use Rattle.vb_guest.{specs.Steps.{StepsAlone, StepsFreeing, is_frame}, proofs.Rogues.no_refusal}
+use Rattle.vb_guest.{proofs.Discarding.frames_freed, proofs.Heads.{all_remove, all-visiting}}
+use Rattle.vb_guest.proofs.Handing.{handed_back, loose_none, not_among, behind_same}
+use Rattle.vb_guest.{proofs.WorkReportStep.next_taken, proofs.RogueDriver.left_same}
+use Rattle.vb_guest.proofs.PagesKept.{number_if, page_discarded, length-discarded}
 
 -- ---- a queue of the device changes
 

@@ -1,50 +1,38 @@
 -- What a driver does for a guest that wrote past it.
 use Rattle.std.specs.Prelude.{◌≡◌, ℕ, ◌==◌, Bool, true, false, not, ◌&&◌, List, [], ◌∷◌, length}
 use Rattle.std.specs.Prelude.{Option, Some, None, Result, Ok, Err, refl, if◌then◌else◌, bit_or}
-use Rattle.std.specs.List.{list_all}
-use Rattle.std.proofs.Common.{sym, ◌∙◌, ap, subst}
+use Rattle.std.{specs.List.list_all, proofs.Common.{sym, ◌∙◌, ap, subst}}
 use Rattle.std.proofs.lemmas.List.{length-map, length-replicate}
-use Rattle.vb_model.specs.declared.calls.Call.{Call}
 use Rattle.vb_model.specs.declared.calls.Call.TheVariants.{Alloc, Free, Inflate, Deflate, Oom}
+use Rattle.vb_model.specs.declared.replies.Refusal.TheVariants.{NoQueue, NotReady, NoFeature}
+use Rattle.vb_model.{specs.declared.calls.Call.Call, specs.declared.places.Place.Place}
 use Rattle.vb_model.specs.declared.calls.Call.TheVariants.{Report, Stats, Reap, Reset}
 use Rattle.vb_model.specs.declared.layout.TheConstants.{INFLATE_QUEUE, DEFLATE_QUEUE}
-use Rattle.vb_model.specs.declared.places.Place.{Place}
-use Rattle.vb_model.specs.declared.replies.Refusal.{Refusal}
-use Rattle.vb_model.specs.declared.replies.Refusal.TheVariants.{NoQueue, NotReady, NoFeature}
+use Rattle.vb_model.{specs.declared.replies.Refusal.Refusal, specs.declared.replies.Reply.Reply}
 use Rattle.vb_model.specs.declared.replies.Refusal.TheVariants.{RingBroken, Nothing, Broken}
-use Rattle.vb_model.specs.declared.replies.Reply.{Reply}
-use Rattle.vb_model.specs.declared.replies.Reply.TheVariants.{Refused, Done}
-use Rattle.vb_model.specs.FirstRefusal.{Test, ◌⇒◌, first_refusal}
-use Rattle.vb_model.specs.Guest.{Guest, is_ballooned, stats_vq}
-use Rattle.vb_model.specs.Life.{place_after_reset}
-use Rattle.vb_model.specs.Pages.{placed}
+use Rattle.vb_model.{specs.declared.replies.Reply.TheVariants.{Refused, Done}, specs.Pages.placed}
+use Rattle.vb_model.{specs.FirstRefusal.{Test, ◌⇒◌, first_refusal}, specs.Life.place_after_reset}
+use Rattle.vb_model.{specs.Guest.{Guest, is_ballooned, stats_vq}, proofs.GuestSteps.length-reaped}
 use Rattle.vb_model.specs.Rogue.{target_after, pages_to_back, after_refused, with_fault}
 use Rattle.vb_model.specs.Status.{contains, driver_ok, failed, is_broken}
 use Rattle.vb_model.specs.Tables.{is_queue_of_requests, lacks_feature}
 use Rattle.vb_model.proofs.Wanting.{wants, none_wants, refused_otherwise, refused_passes}
-use Rattle.vb_ram.specs.Pages.{Pages, frame_at}
-use Rattle.vb_ram.specs.Part.{Part}
+use Rattle.vb_model.specs.Requests.{Inflating, Deflating, Reporting_free, places_reaped}
+use Rattle.vb_ram.{specs.Pages.{Pages, frame_at}, specs.Part.Part}
 use Rattle.vb_ring.specs.Ends.{after_take}
-use Rattle.vb_driver.specs.State.{DriverState, tells_host}
-use Rattle.vb_driver.specs.declared.answers.Posted.{Posted}
-use Rattle.vb_driver.specs.declared.answers.Reaped.{Reaped}
-use Rattle.vb_driver.specs.Answers.{alloc_tests, free_tests, inflate_tests, deflate_tests, oom_tests}
-use Rattle.vb_driver.specs.Answers.{report_tests, reap_tests, stats_tests, is_ring_broken}
+use Rattle.vb_driver.specs.Answers.{alloc_tests, free_tests, inflate_tests, deflate_tests}
+use Rattle.vb_driver.specs.Answers.{oom_tests, report_tests, reap_tests, stats_tests}
 use Rattle.vb_driver.specs.Calls.{AllocatesBy, FreesBy, InflatesBy, DeflatesBy, DeflatesOnOomBy}
 use Rattle.vb_driver.specs.Calls.{ReportsBy, FillsBy, ReapsBy, ResetsBy, Unchanged, AsksBack}
 use Rattle.vb_driver.specs.Calls.{after_refusal, after_reap, unreported, without_request, moved_on}
-use Rattle.vb_driver.specs.Calls.{with_actual, ring_of}
-use Rattle.vb_model.specs.Requests.{Inflating, Deflating, Reporting_free, places_reaped}
-use Rattle.vb_model.proofs.GuestSteps.{length-reaped}
-use Rattle.vb_driver.proofs.Placing.{length-marked}
-use Rattle.vb_guest.specs.Stands.{Rogue}
-use Rattle.vb_guest.specs.Steps.{StepsAlone}
-use Rattle.vb_guest.specs.Replies.{page_reply, done_reply, posted_reply, reaped_reply, filled_reply}
-use Rattle.vb_guest.proofs.Fresh.{everywhere}
-use Rattle.vb_guest.proofs.Rogues.{DriverSame, Keeps, driver_same, rogue_alone, IsOther}
-use Rattle.vb_guest.proofs.Rogues.{keeps_part, up_kept}
-use Rattle.vb_guest.proofs.Rogues.{device_alike, kept_of_rogue, rogue_after, rogue_same}
+use Rattle.vb_driver.{specs.State.{DriverState, tells_host}, specs.declared.answers.Posted.Posted}
+use Rattle.vb_driver.{specs.declared.answers.Reaped.Reaped, specs.Answers.is_ring_broken}
+use Rattle.vb_driver.{specs.Calls.{with_actual, ring_of}, proofs.Placing.length-marked}
+use Rattle.vb_guest.proofs.Rogues.{DriverSame, Keeps, driver_same, rogue_alone, IsOther, keeps_part}
+use Rattle.vb_guest.proofs.Rogues.{up_kept, device_alike, kept_of_rogue, rogue_after, rogue_same}
 use Rattle.vb_guest.proofs.Rogues.{rogue_unchanged, IsLeft, left_by, no_refusal, keeps_status}
+use Rattle.vb_guest.{specs.Stands.Rogue, specs.Steps.StepsAlone, proofs.Fresh.everywhere}
+use Rattle.vb_guest.specs.Replies.{page_reply, done_reply, posted_reply, reaped_reply, filled_reply}
 use Rattle.vb_guest.proofs.Rogues.{is_of_driver, without_fault, said}
 
 -- the refusal is one of these tests, none of which is for want of frames or of memory

@@ -1,50 +1,39 @@
 -- Bytes of a guest's pages that are written past its driver, and those that a rogue guest writes.
 use Rattle.std.specs.Prelude.{◌≡◌, ◌≢◌, ℕ, ◌<◌, Bool, true, false, List, [], ◌∷◌, length, Option}
 use Rattle.std.specs.Prelude.{Some, None, All, MatchOption, is_some, ◌≤◌, refl}
-use Rattle.std.proofs.Common.{sym, ◌∙◌, ap, subst, arith, inl, inr}
-use Rattle.std.proofs.lemmas.Bool.{cases_eq}
+use Rattle.std.{proofs.Common.{sym, ◌∙◌, ap, subst, arith, inl, inr}, proofs.lemmas.Bool.cases_eq}
+use Rattle.vb_model.specs.Rogue.{Scribbled, LosesFrames, pages_to_back, unless_refused, with_fault}
 use Rattle.vb_model.specs.declared.calls.Call.TheVariants.{Read, Write, Scribble}
-use Rattle.vb_model.specs.declared.calls.Claim.{Claim}
+use Rattle.vb_model.{specs.declared.calls.Claim.Claim, specs.declared.replies.Refusal.Refusal}
 use Rattle.vb_model.specs.declared.calls.Claim.TheVariants.{Gave, GaveNoFrame, GaveNoMemory}
-use Rattle.vb_model.specs.declared.replies.Refusal.{Refusal}
 use Rattle.vb_model.specs.declared.replies.Refusal.TheVariants.{OutOfRam, NotHeld}
-use Rattle.vb_model.specs.declared.replies.Refusal.TheVariants.{NoFrame as NoFrameLeft}
-use Rattle.vb_model.specs.declared.replies.Reply.{Reply}
+use Rattle.vb_model.{specs.declared.replies.Reply.Reply, specs.FirstRefusal.{◌⇒◌, first_refusal}}
 use Rattle.vb_model.specs.declared.replies.Reply.TheVariants.{Done, Refused}
 use Rattle.vb_model.specs.Driver.{given, claim_refusal, AreClaimsFor, pages_needed}
-use Rattle.vb_model.specs.FirstRefusal.{◌⇒◌, first_refusal}
 use Rattle.vb_model.specs.Guest.{Guest, frame_of, backed, all_backed, is_ballooned}
-use Rattle.vb_model.specs.Layout.{reserved_pages}
-use Rattle.vb_model.specs.Refusals.{refusal_of, is_outside}
-use Rattle.vb_model.specs.Requests.{Request}
-use Rattle.vb_model.specs.Rogue.{Scribbled, LosesFrames, pages_to_back, unless_refused, with_fault}
-use Rattle.vb_model.specs.Rogue.{GuestStep}
-use Rattle.vb_model.specs.Pages.{place_of, is_used}
-use Rattle.vb_model.specs.Status.{contains, driver_ok}
-use Rattle.vb_model.specs.Step.{Performs, HonestStep}
+use Rattle.vb_model.{specs.Layout.reserved_pages, specs.Refusals.{refusal_of, is_outside}}
+use Rattle.vb_model.{specs.Requests.Request, specs.Rogue.GuestStep, specs.Pages.{place_of, is_used}}
+use Rattle.vb_model.{specs.Status.{contains, driver_ok}, specs.Step.{Performs, HonestStep}}
 use Rattle.vb_model.proofs.Wanting.{wants, not_refused_pages, refused_backs}
 use Rattle.vb_ram.specs.Pages.{Pages, frame_at, number_of, Covers, Wrote, Supplied}
 use Rattle.vb_ram.specs.Part.{Part}
-use Rattle.vb_frames.specs.declared.keeper.Refused.{Refused as KeeperRefused}
 use Rattle.vb_frames.specs.declared.keeper.Refused.TheVariants.{NoFrame, Memory}
 use Rattle.vb_driver.specs.State.{DriverState}
-use Rattle.vb_guest.specs.Stands.{Honest, IsOwnRequest, IsRogueUp, Rogue, Stands}
-use Rattle.vb_guest.specs.Steps.{backing_count, StepsAlone, StepsOver}
-use Rattle.vb_guest.specs.Supply.{supply_of, AreClaimed, IsClaimed, Moves, nothing}
-use Rattle.vb_guest.proofs.Closing.{guest_step, refused_alone, honest_own}
-use Rattle.vb_guest.proofs.Freed.{down_not_ok}
-use Rattle.vb_guest.proofs.Moving.{moves_as, times_one}
-use Rattle.vb_guest.proofs.Offered.{high_page}
-use Rattle.vb_guest.proofs.OwnBlocks.{own_pages}
 use Rattle.vb_guest.proofs.Rogues.{driver_same, device_alike, keeps_part, rogue_after}
 use Rattle.vb_guest.proofs.Rogues.{kept_of_rogue, rogue_unchanged, left_by, no_refusal}
 use Rattle.vb_guest.proofs.Rogues.{keeps_status, without_fault, rogue_stands, rogue_alone}
-use Rattle.vb_guest.proofs.Rogues.{rogue_steps, rogue_unclaimed}
 use Rattle.vb_guest.proofs.Standing.{by_guest, rogue_is, stands_with, stands_of, own_moved}
-use Rattle.vb_guest.proofs.Standing.{alone_stands, over_stands}
-use Rattle.vb_guest.proofs.SweepStep.{ballooned_free}
+use Rattle.vb_guest.specs.Stands.{Honest, IsOwnRequest, IsRogueUp, Rogue, Stands}
+use Rattle.vb_guest.{specs.Steps.{backing_count, StepsAlone, StepsOver}, proofs.Freed.down_not_ok}
+use Rattle.vb_guest.specs.Supply.{supply_of, AreClaimed, IsClaimed, Moves, nothing}
+use Rattle.vb_guest.proofs.Closing.{guest_step, refused_alone, honest_own}
+use Rattle.vb_guest.{proofs.Moving.{moves_as, times_one}, proofs.Offered.high_page}
+use Rattle.vb_guest.{proofs.OwnBlocks.own_pages, proofs.Rogues.{rogue_steps, rogue_unclaimed}}
+use Rattle.vb_guest.{proofs.Standing.{alone_stands, over_stands}, proofs.SweepStep.ballooned_free}
 use Rattle.vb_guest.proofs.WriteStep.{inside_is, outside_is, needs_one, refusal_of_claim}
 use Rattle.vb_guest.proofs.Writing.{frames_supplied, count_backed}
+use Rattle.vb_model.specs.declared.replies.Refusal.TheVariants.{NoFrame as NoFrameLeft}
+use Rattle.vb_frames.specs.declared.keeper.Refused.{Refused as KeeperRefused}
 
 -- ---- any guest as a rogue one
 

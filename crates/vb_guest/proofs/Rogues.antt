@@ -2,30 +2,21 @@
 use Rattle.std.specs.Prelude.{◌≡◌, ◌≢◌, ℕ, ◌<◌, Bool, true, false, List, [], length, All, Option}
 use Rattle.std.specs.Prelude.{Some, refl, is_some, ◌⊎◌, MatchOption}
 use Rattle.std.proofs.Common.{sym, ◌∙◌, ap, subst, arith}
-use Rattle.vb_model.specs.declared.calls.Call.{Call}
-use Rattle.vb_model.specs.declared.calls.Call.TheVariants.{Scribble}
-use Rattle.vb_model.specs.declared.calls.Claim.{Claim}
-use Rattle.vb_model.specs.declared.replies.Refusal.{Refusal}
 use Rattle.vb_model.specs.declared.replies.Refusal.TheVariants.{NoFrame, NoMemory, Broken}
-use Rattle.vb_model.specs.declared.replies.Refusal.TheVariants.{RingBroken}
-use Rattle.vb_model.specs.declared.replies.Reply.{Reply}
-use Rattle.vb_model.specs.declared.replies.Reply.TheVariants.{Refused}
-use Rattle.vb_model.specs.Layout.{reserved_pages}
-use Rattle.vb_model.proofs.Shapes.{start_reserved}
-use Rattle.vb_model.specs.Status.{contains, driver_ok}
+use Rattle.vb_model.specs.Rogue.{LosesFrames, pages_to_back, is_read, target_after, after_refused}
+use Rattle.vb_model.{specs.declared.calls.Call.Call, specs.declared.calls.Call.TheVariants.Scribble}
+use Rattle.vb_model.{specs.declared.calls.Claim.Claim, specs.declared.replies.Refusal.Refusal}
+use Rattle.vb_model.{specs.declared.replies.Refusal.TheVariants.RingBroken, specs.Step.HonestStep}
+use Rattle.vb_model.{specs.declared.replies.Reply.Reply, specs.Layout.reserved_pages}
+use Rattle.vb_model.{specs.declared.replies.Reply.TheVariants.Refused, proofs.Shapes.start_reserved}
+use Rattle.vb_model.{specs.Status.{contains, driver_ok}, specs.Rogue.{with_fault, GuestStep}}
 use Rattle.vb_model.specs.Guest.{Guest, frame_of, is_ballooned, all_backed}
 use Rattle.vb_model.specs.Driver.{given, claim_refusal, AreClaimsFor}
-use Rattle.vb_model.specs.Rogue.{LosesFrames, pages_to_back, is_read, target_after, after_refused}
-use Rattle.vb_model.specs.Rogue.{with_fault, GuestStep}
-use Rattle.vb_model.specs.Step.{HonestStep}
-use Rattle.vb_model.proofs.Wanting.{wants, no_want}
-use Rattle.vb_model.proofs.Refusing.{is_refused, not_this}
-use Rattle.vb_ram.specs.Pages.{Pages, frame_at}
-use Rattle.vb_ram.specs.Part.{Part, no_part}
+use Rattle.vb_model.{proofs.Wanting.{wants, no_want}, proofs.Refusing.{is_refused, not_this}}
+use Rattle.vb_ram.{specs.Pages.{Pages, frame_at}, specs.Part.{Part, no_part}}
 use Rattle.vb_driver.specs.State.{DriverState}
-use Rattle.vb_guest.specs.Stands.{IsOwnRequest, IsRogueUp, Rogue}
-use Rattle.vb_guest.specs.Steps.{StepsAlone, StepsOver}
-use Rattle.vb_guest.specs.Supply.{AreClaimed, supply_of, Moves, nothing}
+use Rattle.vb_guest.{specs.Stands.{IsOwnRequest, IsRogueUp, Rogue}, specs.Steps.StepsAlone}
+use Rattle.vb_guest.{specs.Steps.StepsOver, specs.Supply.{AreClaimed, supply_of, Moves, nothing}}
 
 -- ---- what a call keeps
 

@@ -2,19 +2,13 @@
 use Rattle.std.specs.Prelude.{◌≡◌, ◌≢◌, ℕ, ◌+◌, ◌<◌, ◌≤◌, List, All, length}
 use Rattle.std.proofs.Common.{sym, subst, arith}
 use Rattle.vb_model.specs.Layout.{reserved_pages, ring_number, ring_page, buffers_page}
-use Rattle.vb_model.specs.Guest.{Guest}
-use Rattle.vb_model.proofs.Shapes.{InRing, rings_apart}
-use Rattle.vb_ram.specs.Pages.{Pages, page_at, frame_at}
-use Rattle.vb_ring.specs.declared.layout.Layout.{Layout}
-use Rattle.vb_ring.specs.Layout.{IsSize, layout_of}
+use Rattle.vb_model.{specs.Guest.Guest, proofs.Shapes.{InRing, rings_apart}}
+use Rattle.vb_ram.{specs.Pages.{Pages, page_at, frame_at}, specs.Part.Part}
+use Rattle.vb_ring.{specs.declared.layout.Layout.Layout, specs.Layout.{IsSize, layout_of}}
 use Rattle.vb_ring.specs.Ends.{DriverEnd}
-use Rattle.vb_ram.specs.Part.{Part}
-use Rattle.vb_driver.specs.State.{DriverState}
-use Rattle.vb_driver.proofs.Shapes.{buffers_between}
-use Rattle.vb_guest.specs.Stands.{IsRunning}
-use Rattle.vb_guest.proofs.RingApart.{SameRing}
+use Rattle.vb_driver.{specs.State.DriverState, proofs.Shapes.buffers_between}
 use Rattle.vb_guest.proofs.Apart.{SameLine, SameReserved, SameBut, no_buffer, other_ring}
-use Rattle.vb_guest.proofs.Apart.{other_line}
+use Rattle.vb_guest.{specs.Stands.IsRunning, proofs.RingApart.SameRing, proofs.Apart.other_line}
 use Rattle.vb_guest.proofs.PagesKept.{SamePages}
 
 -- all four rings have so many descriptors

@@ -2,8 +2,7 @@
 use Rattle.std.specs.Prelude.{◌≡◌, ℕ, zero, suc, ◌+◌, ◌<◌, ◌==◌, Bool, true, false, if◌then◌else◌}
 use Rattle.std.specs.Prelude.{List, [], ◌∷◌, ◌++◌, length, take, slice_set, slice_index_or, refl}
 use Rattle.std.proofs.Common.{sym, ◌∙◌, ap, arith}
-use Rattle.vb_model.specs.declared.places.PageRun.{PageRun}
-use Rattle.vb_model.specs.Tests.{pages_from, pages_where}
+use Rattle.vb_model.{specs.declared.places.PageRun.PageRun, specs.Tests.{pages_from, pages_where}}
 use Rattle.vb_model.specs.Queries.{runs, runs_with}
 use Rattle.vb_guest.proofs.Discarding.{other_not}
 

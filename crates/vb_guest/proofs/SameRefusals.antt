@@ -1,18 +1,16 @@
 -- Device, driver and model refuse the same calls on the queues of statistics and reports.
-use Rattle.std.specs.Prelude.{◌≡◌, ℕ, Bool, true, false, List, [], ◌∷◌, ◌++◌, length, Option}
-use Rattle.std.specs.Prelude.{Some, is_some, if◌then◌else◌, refl, ◌⊎◌}
+use Rattle.std.specs.Prelude.{◌≡◌, ℕ, Bool, true, false, List, [], ◌∷◌, ◌++◌, length, Option, Some}
+use Rattle.std.specs.Prelude.{is_some, if◌then◌else◌, refl, ◌⊎◌}
 use Rattle.std.proofs.Common.{sym, ◌∙◌, ap, subst, inl, inr}
-use Rattle.vb_model.specs.declared.calls.Call.TheVariants.{Take, Finish, Ask}
-use Rattle.vb_model.specs.declared.replies.Refusal.{Refusal}
+use Rattle.vb_model.{specs.declared.calls.Call.TheVariants.{Take, Finish, Ask}, specs.Guest.Guest}
+use Rattle.vb_model.{specs.declared.replies.Refusal.Refusal, specs.Requests.Request}
 use Rattle.vb_model.specs.declared.replies.Refusal.TheVariants.{NotReady}
-use Rattle.vb_model.specs.Requests.{Request}
-use Rattle.vb_model.specs.Guest.{Guest}
 use Rattle.vb_model.specs.FirstRefusal.{Test, ◌⇒◌, first_refusal}
 use Rattle.vb_model.specs.Tables.{take_tests, finish_tests, ask_tests}
-use Rattle.vb_model.specs.Refusals.{refusal_of, taken_count, taken_at as guests_taken, is_taken}
 use Rattle.vb_ram.specs.Part.{Part}
 use Rattle.vb_device.specs.Conditions.{take_refusal, finish_refusal, ask_refusal, taken_at}
 use Rattle.vb_device.specs.Queues.{queue_part}
+use Rattle.vb_model.specs.Refusals.{refusal_of, taken_count, taken_at as guests_taken, is_taken}
 
 abbrev pub IsIdleStatus : ℕ → Type 0
 IsIdleStatus status = (status ≡ 0) ⊎ (status ≡ 131)

@@ -1,33 +1,22 @@
 -- The guest once its driver started the device, or gave up.
 use Rattle.std.specs.Prelude.{◌≡◌, ℕ, ◌≤◌, Bool, true, false, if◌then◌else◌, List, [], length}
 use Rattle.std.specs.Prelude.{Option, IsSome, is_some, replicate, refl}
-use Rattle.std.proofs.lemmas.Bool.{false_from_ne_true}
+use Rattle.std.{proofs.lemmas.Bool.false_from_ne_true, proofs.lemmas.List.length-replicate}
 use Rattle.std.proofs.Common.{sym, ◌∙◌, ap, subst, arith, inr}
-use Rattle.std.proofs.lemmas.List.{length-replicate}
 use Rattle.vb_model.specs.Requests.{Requests, no_requests, Buffer, NoBuffer, BufferPosted, Figures}
-use Rattle.vb_model.specs.Guest.{Guest}
-use Rattle.vb_model.specs.Guest.{stats_vq}
-use Rattle.vb_model.specs.Driver.{figures}
-use Rattle.vb_ram.specs.Pages.{Pages, page_at, frame_at, contents_of}
-use Rattle.vb_ram.specs.Part.{Part, no_queue}
-use Rattle.vb_status.specs.After.{part_after_reset}
-use Rattle.vb_ring.specs.Layout.{IsSize}
-use Rattle.vb_ring.specs.Ends.{DriverEnd}
-use Rattle.vb_driver.specs.Coding.{AreZeroed, AreFigures}
-use Rattle.vb_driver.specs.State.{DriverState, IsDriver, fresh_side, fresh_statistics, fresh_report}
-use Rattle.vb_driver.specs.State.{figures_of}
-use Rattle.vb_driver.specs.Calls.{Starts, GivesUp, IsNewRing, FirstBuffer}
-use Rattle.vb_guest.specs.Line.{Line}
-use Rattle.vb_guest.specs.Reported.{ReportLine}
-use Rattle.vb_guest.specs.Buffer.{BufferLine}
-use Rattle.vb_guest.specs.Stands.{Ties, HasParts, HasPages, IsIdle, beside_queues}
-use Rattle.vb_guest.specs.Stands.{beside_sides, beside_requests}
+use Rattle.vb_model.{specs.Guest.{Guest, stats_vq}, specs.Driver.figures}
 use Rattle.vb_model.specs.Layout.{reserved_pages, ring_page, is_ring_page, is_start_page}
 use Rattle.vb_model.proofs.Shapes.{ring_reserved}
-use Rattle.vb_guest.proofs.Closing.{ties_same}
-use Rattle.vb_guest.proofs.PagesKept.{pages_same}
-use Rattle.vb_guest.proofs.RingPosted.{ring_posted}
-use Rattle.vb_guest.proofs.RingApart.{ring_new}
+use Rattle.vb_ram.{specs.Pages.{Pages, page_at, frame_at, contents_of}, specs.Part.{Part, no_queue}}
+use Rattle.vb_status.specs.After.{part_after_reset}
+use Rattle.vb_ring.{specs.Layout.IsSize, specs.Ends.DriverEnd}
+use Rattle.vb_driver.specs.State.{DriverState, IsDriver, fresh_side, fresh_statistics, fresh_report}
+use Rattle.vb_driver.{specs.Coding.{AreZeroed, AreFigures}, specs.State.figures_of}
+use Rattle.vb_driver.specs.Calls.{Starts, GivesUp, IsNewRing, FirstBuffer}
+use Rattle.vb_guest.specs.Stands.{Ties, HasParts, HasPages, IsIdle, beside_queues, beside_sides}
+use Rattle.vb_guest.{proofs.RingPosted.ring_posted, specs.Stands.beside_requests, specs.Line.Line}
+use Rattle.vb_guest.{proofs.PagesKept.pages_same, specs.Reported.ReportLine}
+use Rattle.vb_guest.{proofs.RingApart.ring_new, proofs.Closing.ties_same, specs.Buffer.BufferLine}
 
 no_flags : (p : Part) (g : Guest) → p.ballooned ≡ g.ballooned → IsIdle g
     → replicate (length p.ballooned) false ≡ g.ballooned

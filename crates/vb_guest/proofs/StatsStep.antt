@@ -2,37 +2,24 @@
 use Rattle.std.specs.Prelude.{◌≡◌, ℕ, Bool, true, false, not, [], Result, Ok, Err, Option, Some}
 use Rattle.std.specs.Prelude.{None, is_some, slice_get, refl}
 use Rattle.std.proofs.Common.{sym, ◌∙◌, ap, subst, arith, inl, inr}
-use Rattle.vb_model.specs.declared.calls.Call.TheVariants.{Stats}
-use Rattle.vb_model.specs.declared.replies.Refusal.{Refusal}
-use Rattle.vb_model.specs.declared.replies.Refusal.TheVariants.{NotReady}
-use Rattle.vb_model.specs.declared.replies.Reply.TheVariants.{Filled, NotUsed}
 use Rattle.vb_model.specs.Requests.{Figures, Buffer, NoBuffer, BufferPosted, BufferTaken}
-use Rattle.vb_model.specs.Requests.{BufferDone}
-use Rattle.vb_model.specs.Guest.{Guest, stats_vq}
-use Rattle.vb_model.specs.Driver.{figures, Fills}
-use Rattle.vb_model.specs.FirstRefusal.{first_refusal}
-use Rattle.vb_model.specs.Tables.{is_up}
-use Rattle.vb_model.specs.Refusals.{refusal_of}
-use Rattle.vb_ram.specs.Pages.{Pages}
-use Rattle.vb_ram.specs.Part.{Part}
+use Rattle.vb_model.{specs.declared.calls.Call.TheVariants.Stats, specs.Requests.BufferDone}
+use Rattle.vb_model.{specs.declared.replies.Refusal.Refusal, specs.Guest.{Guest, stats_vq}}
+use Rattle.vb_model.{specs.declared.replies.Refusal.TheVariants.NotReady, specs.Tables.is_up}
+use Rattle.vb_model.specs.declared.replies.Reply.TheVariants.{Filled, NotUsed}
+use Rattle.vb_model.{specs.Driver.{figures, Fills}, specs.FirstRefusal.first_refusal}
+use Rattle.vb_model.{specs.Refusals.refusal_of, proofs.Shapes.reserved_least}
+use Rattle.vb_ram.{specs.Pages.Pages, specs.Part.Part}
 use Rattle.vb_ring.specs.Ends.{DriverEnd, used_answer}
-use Rattle.vb_driver.specs.State.{DriverState, figures_of}
-use Rattle.vb_driver.specs.Answers.{stats_tests}
+use Rattle.vb_driver.{specs.State.{DriverState, figures_of}, specs.Answers.stats_tests}
 use Rattle.vb_driver.specs.Calls.{FillsBy, Refills, emptied}
-use Rattle.vb_guest.specs.Buffer.{BufferLine, used_heads}
-use Rattle.vb_guest.specs.Stands.{Honest, Ties, IsRunning}
-use Rattle.vb_guest.specs.Steps.{StepsAlone}
-use Rattle.vb_guest.specs.Replies.{filled_reply}
-use Rattle.vb_model.proofs.Shapes.{reserved_least}
 use Rattle.vb_guest.proofs.RunApart.{sizes_of, ring_of, buffer_clear, post_leaves, post_same}
-use Rattle.vb_guest.proofs.RingReaped.{ring_answer}
-use Rattle.vb_guest.proofs.Apart.{line_apart}
-use Rattle.vb_guest.proofs.BufferLines.{buffer_emptied, buffer_posted}
-use Rattle.vb_guest.proofs.ReportLines.{report_apart}
-use Rattle.vb_guest.proofs.PagesKept.{pages_same}
-use Rattle.vb_guest.proofs.SameRefusals.{IsIdleStatus}
-use Rattle.vb_guest.proofs.ReapRefusing.{unfailed, never_broken}
 use Rattle.vb_guest.proofs.Closing.{honest_performed, steps_alone, refused_alone, ties_same}
+use Rattle.vb_guest.{proofs.BufferLines.{buffer_emptied, buffer_posted}, specs.Replies.filled_reply}
+use Rattle.vb_guest.{proofs.ReapRefusing.{unfailed, never_broken}, proofs.SameRefusals.IsIdleStatus}
+use Rattle.vb_guest.{specs.Stands.{Honest, Ties, IsRunning}, specs.Buffer.{BufferLine, used_heads}}
+use Rattle.vb_guest.{proofs.ReportLines.report_apart, proofs.RingReaped.ring_answer}
+use Rattle.vb_guest.{proofs.PagesKept.pages_same, proofs.Apart.line_apart, specs.Steps.StepsAlone}
 
 -- ---- refusals
 

@@ -1,18 +1,13 @@
 -- Several pages get frames, one by one.
 use Rattle.std.specs.Prelude.{◌≡◌, ℕ, zero, suc, ◌+◌, ◌<◌, ◌≤◌, ◌==◌, ◌||◌, Bool, true, false, not}
 use Rattle.std.specs.Prelude.{List, [], ◌∷◌, length, Option, None, IsSome, filter, count_by, refl}
-use Rattle.std.specs.List.{range_with_len}
-use Rattle.std.proofs.Common.{sym, ◌∙◌, ap, subst, arith, eq-eqb}
-use Rattle.vb_model.specs.declared.calls.Claim.{Claim}
+use Rattle.std.{specs.List.range_with_len, proofs.Common.{sym, ◌∙◌, ap, subst, arith, eq-eqb}}
+use Rattle.vb_model.{specs.declared.calls.Claim.Claim, specs.Tests.{is_in, each_from}}
 use Rattle.vb_model.specs.declared.calls.Claim.TheVariants.{Gave, GaveNoFrame, GaveNoMemory}
-use Rattle.vb_model.specs.Tests.{is_in, each_from}
-use Rattle.vb_model.specs.Guest.{backed, all_backed}
+use Rattle.vb_model.{specs.Guest.{backed, all_backed}, specs.Orderly.times}
 use Rattle.vb_model.specs.Driver.{given, claim_refusal, AreClaimsFor, AllDistinct}
 use Rattle.vb_ram.specs.Pages.{Pages, page_at, frame_at, Supplied}
-use Rattle.vb_guest.specs.Stands.{HasPages}
-use Rattle.vb_guest.specs.Steps.{is_frame}
-use Rattle.vb_guest.specs.Lives.{AllSupplied}
-use Rattle.vb_model.specs.Orderly.{times}
+use Rattle.vb_guest.{specs.Stands.HasPages, specs.Steps.is_frame, specs.Lives.AllSupplied}
 use Rattle.vb_guest.proofs.Writing.{HasFrames, frames_supplied, pages_supplied, count_backed}
 use Rattle.vb_guest.proofs.Moving.{times_first}
 

@@ -1,41 +1,25 @@
 -- A guest's sweep is a step of the definitions.
 use Rattle.std.specs.Prelude.{◌≡◌, ℕ, zero, suc, ◌<◌, ◌≤◌, Bool, true, false, not, List, [], ◌∷◌}
 use Rattle.std.specs.Prelude.{All, length, Result, Option, Some, None, is_some, refl, ◌⊎◌}
-use Rattle.std.specs.Option.{option_to_list}
-use Rattle.std.specs.List.{flat_map}
+use Rattle.std.{specs.Option.option_to_list, specs.List.flat_map}
 use Rattle.std.proofs.Common.{sym, ◌∙◌, ap, subst, arith, inl, inr}
-use Rattle.vb_model.specs.declared.calls.Call.TheVariants.{Sweep}
-use Rattle.vb_model.specs.declared.replies.Refusal.{Refusal}
-use Rattle.vb_model.specs.declared.replies.Refusal.TheVariants.{NotReady, NoFeature}
-use Rattle.vb_model.specs.declared.replies.Refusal.TheVariants.{NotBallooned}
-use Rattle.vb_model.specs.declared.replies.Reply.{Reply}
-use Rattle.vb_model.specs.declared.replies.Reply.TheVariants.{Swept}
-use Rattle.vb_model.specs.Pages.{place_of, is_reserved}
 use Rattle.vb_model.specs.Guest.{Guest, frame_of, is_ballooned, unbacked, must_tell_host}
-use Rattle.vb_model.specs.Guest.{tells_host}
-use Rattle.vb_model.specs.Consistent.{IsConsistent}
-use Rattle.vb_model.specs.Orderly.{times}
-use Rattle.vb_model.specs.Refusals.{◌⇒◌, first_refusal, refusal_of}
-use Rattle.vb_model.proofs.PageSteps.{naming-all}
-use Rattle.vb_ram.specs.Pages.{Pages, frame_at, number_of}
-use Rattle.vb_ram.specs.Part.{Part}
+use Rattle.vb_model.{specs.declared.calls.Call.TheVariants.Sweep, specs.Guest.tells_host}
+use Rattle.vb_model.{specs.declared.replies.Refusal.Refusal, specs.declared.replies.Reply.Reply}
+use Rattle.vb_model.specs.declared.replies.Refusal.TheVariants.{NotReady, NoFeature, NotBallooned}
+use Rattle.vb_model.{specs.declared.replies.Reply.TheVariants.Swept, specs.Consistent.IsConsistent}
+use Rattle.vb_model.{specs.Pages.{place_of, is_reserved}, specs.Orderly.times}
+use Rattle.vb_model.{specs.Refusals.{◌⇒◌, first_refusal, refusal_of}, proofs.PageSteps.naming-all}
+use Rattle.vb_model.{specs.Layout.reserved_pages, proofs.Shapes.start_reserved}
+use Rattle.vb_ram.{specs.Pages.{Pages, frame_at, number_of}, specs.Part.Part}
 use Rattle.vb_driver.specs.State.{DriverState}
-use Rattle.vb_device.specs.Conditions.{sweep_refusal}
-use Rattle.vb_device.specs.Discards.{discarded, frames_behind}
+use Rattle.vb_device.{specs.Conditions.sweep_refusal, specs.Discards.{discarded, frames_behind}}
 use Rattle.vb_device.specs.Calls.{SweepsBy}
-use Rattle.vb_guest.specs.Stands.{Honest, Ties, IsRunning}
-use Rattle.vb_guest.specs.Steps.{StepsFreeing}
-use Rattle.vb_guest.specs.Replies.{swept_reply}
-use Rattle.vb_model.specs.Layout.{reserved_pages}
-use Rattle.vb_model.proofs.Shapes.{start_reserved}
-use Rattle.vb_guest.proofs.Apart.{SameReserved}
-use Rattle.vb_guest.proofs.RunApart.{sizes_of, queues_same}
-use Rattle.vb_guest.proofs.Apart.{line_apart}
-use Rattle.vb_guest.proofs.BufferLines.{buffer_apart}
-use Rattle.vb_guest.proofs.ReportLines.{report_apart}
-use Rattle.vb_guest.proofs.Discarding.{frames_freed}
-use Rattle.vb_guest.proofs.Offered.{high_page}
-use Rattle.vb_guest.proofs.PagesKept.{pages_discarded, page_undiscarded}
+use Rattle.vb_guest.{specs.Stands.{Honest, Ties, IsRunning}, specs.Steps.StepsFreeing}
+use Rattle.vb_guest.{specs.Replies.swept_reply, proofs.Apart.{SameReserved, line_apart}}
+use Rattle.vb_guest.{proofs.RunApart.{sizes_of, queues_same}, proofs.BufferLines.buffer_apart}
+use Rattle.vb_guest.{proofs.ReportLines.report_apart, proofs.Discarding.frames_freed}
+use Rattle.vb_guest.{proofs.Offered.high_page, proofs.PagesKept.{pages_discarded, page_undiscarded}}
 use Rattle.vb_guest.proofs.Closing.{honest_performed, still_stands, guest_step, ties_same}
 use Rattle.vb_guest.proofs.Handing.{handed_back, loose_none, not_among, behind_same}
 

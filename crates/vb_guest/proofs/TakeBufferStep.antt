@@ -1,38 +1,24 @@
 -- A guest's take of the statistics buffer is a step of the definitions.
-use Rattle.std.specs.Prelude.{◌≡◌, ℕ, ◌*◌, List, [], length, Result, Ok, Option, Some}
-use Rattle.std.specs.Prelude.{None, slice_get, refl}
+use Rattle.std.specs.Prelude.{◌≡◌, ℕ, ◌*◌, List, [], length, Result, Ok, Option, Some, None}
+use Rattle.std.specs.Prelude.{slice_get, refl}
 use Rattle.std.proofs.Common.{sym, ◌∙◌, ap, subst, arith, inl, inr}
-use Rattle.vb_model.specs.declared.calls.Call.TheVariants.{Take}
-use Rattle.vb_model.specs.declared.replies.Refusal.{Refusal}
-use Rattle.vb_model.specs.declared.replies.Refusal.TheVariants.{NotReady}
-use Rattle.vb_model.specs.declared.replies.Reply.TheVariants.{Taken, Empty}
-use Rattle.vb_model.specs.Tests.{one_if}
 use Rattle.vb_model.specs.Requests.{Request, Figures, Buffer, NoBuffer, BufferPosted, BufferTaken}
-use Rattle.vb_model.specs.Requests.{BufferDone}
-use Rattle.vb_model.specs.declared.replies.LastStatistics.{LastStatistics}
-use Rattle.vb_model.specs.Guest.{Guest}
-use Rattle.vb_model.specs.Device.{TakesBuffer}
-use Rattle.vb_model.specs.Refusals.{refusal_of, is_taken}
-use Rattle.vb_ram.specs.Pages.{Pages}
-use Rattle.vb_ram.specs.Part.{Part}
-use Rattle.vb_ram.proofs.Limits.{config_limits}
-use Rattle.vb_chain.specs.Table.{descriptor_at}
-use Rattle.vb_chain.specs.Chain.{ChainGives}
-use Rattle.vb_driver.specs.State.{DriverState}
-use Rattle.vb_device.specs.Conditions.{take_refusal}
-use Rattle.vb_device.specs.Calls.{TakesBy, taking}
-use Rattle.vb_guest.specs.Buffer.{BufferLine, posted_heads, taken_requests}
-use Rattle.vb_guest.specs.Stands.{Honest, Ties, IsRunning}
-use Rattle.vb_guest.specs.Steps.{StepsAlone}
-use Rattle.vb_guest.specs.Replies.{taken_reply}
-use Rattle.vb_model.specs.Layout.{ring_page}
-use Rattle.vb_driver.specs.Coding.{AreFigures}
+use Rattle.vb_model.{specs.declared.calls.Call.TheVariants.Take, specs.Tests.one_if}
+use Rattle.vb_model.{specs.declared.replies.Refusal.Refusal, specs.Requests.BufferDone}
+use Rattle.vb_model.{specs.declared.replies.Refusal.TheVariants.NotReady, specs.Guest.Guest}
+use Rattle.vb_model.specs.declared.replies.Reply.TheVariants.{Taken, Empty}
+use Rattle.vb_model.{specs.declared.replies.LastStatistics.LastStatistics, specs.Device.TakesBuffer}
+use Rattle.vb_model.{specs.Refusals.{refusal_of, is_taken}, specs.Layout.ring_page}
+use Rattle.vb_ram.{specs.Pages.Pages, specs.Part.Part, proofs.Limits.config_limits}
+use Rattle.vb_chain.{specs.Table.descriptor_at, specs.Chain.ChainGives}
+use Rattle.vb_driver.{specs.State.DriverState, specs.Coding.AreFigures}
+use Rattle.vb_device.{specs.Conditions.take_refusal, specs.Calls.{TakesBy, taking}}
 use Rattle.vb_guest.proofs.BufferChain.{buffer_pieces, buffer_chain, buffer_names, buffer_says}
-use Rattle.vb_guest.proofs.BufferLines.{buffer_taken}
-use Rattle.vb_guest.proofs.Handing.{same_entry}
-use Rattle.vb_guest.proofs.RingTaken.{ring_next}
-use Rattle.vb_guest.proofs.SameRefusals.{take_same, take_idle}
 use Rattle.vb_guest.proofs.Closing.{honest_performed, steps_alone, ties_same}
+use Rattle.vb_guest.specs.Buffer.{BufferLine, posted_heads, taken_requests}
+use Rattle.vb_guest.{proofs.SameRefusals.{take_same, take_idle}, proofs.BufferLines.buffer_taken}
+use Rattle.vb_guest.{specs.Stands.{Honest, Ties, IsRunning}, proofs.RingTaken.ring_next}
+use Rattle.vb_guest.{specs.Replies.taken_reply, proofs.Handing.same_entry, specs.Steps.StepsAlone}
 
 -- a refused take of any queue
 pub take_refused : (m1 m2 : Pages) (p1 p2 : Part) (d : DriverState) (g : Guest) (q : ℕ)

@@ -1,35 +1,23 @@
 -- A guest's take of a report is a step of the definitions.
-use Rattle.std.specs.Prelude.{◌≡◌, ℕ, ◌*◌, List, [], ◌∷◌, ◌++◌, length, Result, Ok, Option}
-use Rattle.std.specs.Prelude.{Some, None, refl}
-use Rattle.std.proofs.Common.{sym, ◌∙◌, ap, subst, arith, inl, inr}
-use Rattle.vb_model.specs.declared.calls.Call.TheVariants.{Take}
-use Rattle.vb_model.specs.declared.replies.Refusal.{Refusal}
-use Rattle.vb_model.specs.declared.replies.Refusal.TheVariants.{NotReady}
+use Rattle.std.specs.Prelude.{◌≡◌, ℕ, ◌*◌, List, [], ◌∷◌, ◌++◌, length, Result, Ok, Option, Some}
+use Rattle.std.{specs.Prelude.{None, refl}, proofs.Common.{sym, ◌∙◌, ap, subst, arith, inl, inr}}
+use Rattle.vb_model.{specs.declared.calls.Call.TheVariants.Take, specs.Guest.Guest}
+use Rattle.vb_model.{specs.declared.replies.Refusal.Refusal, specs.Device.Takes}
+use Rattle.vb_model.{specs.declared.replies.Refusal.TheVariants.NotReady, specs.Refusals.refusal_of}
 use Rattle.vb_model.specs.declared.replies.Reply.TheVariants.{Taken, Empty}
 use Rattle.vb_model.specs.Requests.{Request, Reporting_free}
-use Rattle.vb_model.specs.Guest.{Guest}
-use Rattle.vb_model.specs.Device.{Takes}
-use Rattle.vb_model.specs.Refusals.{refusal_of}
-use Rattle.vb_ram.specs.Pages.{Pages}
-use Rattle.vb_ram.specs.Part.{Part}
-use Rattle.vb_chain.specs.Table.{descriptor_at}
-use Rattle.vb_chain.specs.Chain.{ChainGives}
-use Rattle.vb_driver.specs.State.{DriverState}
-use Rattle.vb_device.specs.Conditions.{take_refusal}
-use Rattle.vb_device.specs.Calls.{TakesBy, taking}
-use Rattle.vb_guest.specs.Reported.{ReportLine, IsReport}
-use Rattle.vb_guest.specs.Stands.{Honest, Ties, IsRunning}
-use Rattle.vb_guest.specs.Steps.{StepsAlone}
-use Rattle.vb_guest.specs.Replies.{taken_reply}
 use Rattle.vb_model.specs.Layout.{reserved_pages, ring_page}
-use Rattle.vb_request.specs.Report.{report_request}
+use Rattle.vb_ram.{specs.Pages.Pages, specs.Part.Part}
+use Rattle.vb_chain.{specs.Table.descriptor_at, specs.Chain.ChainGives}
+use Rattle.vb_driver.specs.State.{DriverState}
+use Rattle.vb_device.{specs.Conditions.take_refusal, specs.Calls.{TakesBy, taking}}
+use Rattle.vb_guest.{specs.Reported.{ReportLine, IsReport}, specs.Stands.{Honest, Ties, IsRunning}}
+use Rattle.vb_guest.{specs.Steps.StepsAlone, specs.Replies.taken_reply, proofs.Handing.same_entry}
 use Rattle.vb_guest.proofs.ReportChain.{pieces_of, report_chain, report_pages}
-use Rattle.vb_guest.proofs.ReportLines.{report_taken}
-use Rattle.vb_guest.proofs.Handing.{same_entry}
-use Rattle.vb_guest.proofs.RingTaken.{ring_next}
-use Rattle.vb_guest.proofs.SameRefusals.{take_same, take_idle}
-use Rattle.vb_guest.proofs.TakeBufferStep.{take_refused}
+use Rattle.vb_guest.{proofs.ReportLines.report_taken, proofs.RingTaken.ring_next}
+use Rattle.vb_guest.{proofs.SameRefusals.{take_same, take_idle}, proofs.TakeBufferStep.take_refused}
 use Rattle.vb_guest.proofs.Closing.{honest_performed, steps_alone, ties_same}
+use Rattle.vb_request.specs.Report.{report_request}
 
 take_posted : (m1 m2 : Pages) (p1 p2 : Part) (d : DriverState) (g : Guest)
     (posted : List Request) (result : Result (Option ℕ) Refusal)

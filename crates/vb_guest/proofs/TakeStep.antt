@@ -1,43 +1,28 @@
 -- A guest's take is a step of the definitions.
 use Rattle.std.specs.Prelude.{◌≡◌, ℕ, ◌*◌, ◌≤◌, Bool, true, false, nat_le, List, [], ◌∷◌, ◌++◌}
 use Rattle.std.specs.Prelude.{length, Result, Ok, Option, Some, None, refl, ◌⊎◌}
-use Rattle.std.proofs.Common.{sym, ◌∙◌, ap, subst, arith, inl, inr}
-use Rattle.std.proofs.lemmas.Bool.{cases_Bool}
-use Rattle.vb_model.specs.declared.calls.Call.TheVariants.{Take}
-use Rattle.vb_model.specs.declared.replies.Refusal.{Refusal}
+use Rattle.std.{proofs.Common.{sym, ◌∙◌, ap, subst, arith, inl, inr}, proofs.lemmas.Bool.cases_Bool}
+use Rattle.vb_model.{specs.declared.calls.Call.TheVariants.Take, specs.Guest.Guest}
+use Rattle.vb_model.{specs.declared.replies.Refusal.Refusal, specs.Device.Takes}
 use Rattle.vb_model.specs.declared.replies.Refusal.TheVariants.{NoQueue, NotReady, Busy}
 use Rattle.vb_model.specs.declared.replies.Reply.TheVariants.{Taken, Empty}
 use Rattle.vb_model.specs.Layout.{reserved_pages, ring_page, buffers_page}
 use Rattle.vb_model.specs.Requests.{Request, Requests, Inflating, Deflating}
-use Rattle.vb_model.specs.Guest.{Guest}
-use Rattle.vb_model.specs.Device.{Takes}
-use Rattle.vb_model.specs.Refusals.{◌⇒◌, first_refusal, refusal_of}
-use Rattle.vb_ram.specs.Pages.{Pages}
-use Rattle.vb_ram.specs.Part.{Part}
-use Rattle.vb_ram.proofs.Limits.{config_limits}
-use Rattle.vb_chain.specs.Table.{descriptor_at}
-use Rattle.vb_chain.specs.declared.pieces.Piece.{Piece}
-use Rattle.vb_chain.specs.Rules.{piece_of}
-use Rattle.vb_chain.specs.Chain.{ChainGives}
-use Rattle.vb_driver.specs.Coding.{buffer_of}
-use Rattle.vb_driver.specs.State.{RequestSide, DriverState}
-use Rattle.vb_device.specs.Conditions.{take_refusal}
-use Rattle.vb_device.specs.Queues.{queue_part}
-use Rattle.vb_request.specs.Request.{page_request}
+use Rattle.vb_model.{specs.Refusals.{◌⇒◌, first_refusal, refusal_of}, proofs.Queues.queue_cases}
+use Rattle.vb_ram.{specs.Pages.Pages, specs.Part.Part, proofs.Limits.config_limits}
+use Rattle.vb_chain.{specs.Table.descriptor_at, specs.declared.pieces.Piece.Piece}
+use Rattle.vb_chain.{specs.Rules.piece_of, specs.Chain.ChainGives}
+use Rattle.vb_driver.{specs.Coding.buffer_of, specs.State.{RequestSide, DriverState}}
+use Rattle.vb_device.{specs.Conditions.take_refusal, specs.Queues.queue_part}
 use Rattle.vb_device.specs.Calls.{TakesBy, taking, request_of, noting}
-use Rattle.vb_guest.specs.Line.{Line, IsRequest}
-use Rattle.vb_guest.specs.Stands.{Honest, Ties, IsRunning}
-use Rattle.vb_guest.specs.Steps.{StepsAlone}
-use Rattle.vb_guest.specs.Replies.{taken_reply}
-use Rattle.vb_guest.proofs.Handing.{same_entry}
-use Rattle.vb_guest.proofs.TakeBufferStep.{take_refused, take_buffer}
-use Rattle.vb_guest.proofs.TakeReportStep.{take_report}
-use Rattle.vb_guest.proofs.Taking.{next_shown, line_taken}
-use Rattle.vb_guest.proofs.Chains.{coded_chain, coded_pages}
-use Rattle.vb_model.proofs.Queues.{queue_cases}
+use Rattle.vb_request.specs.Request.{page_request}
 use Rattle.vb_guest.proofs.Refusing.{take_no_queue, take_running, take_running_part, take_idle}
-use Rattle.vb_guest.proofs.Refusing.{take_idle_part, busy_test}
 use Rattle.vb_guest.proofs.Closing.{steps_alone, honest_performed, ties_same}
+use Rattle.vb_guest.{proofs.TakeBufferStep.{take_refused, take_buffer}, specs.Replies.taken_reply}
+use Rattle.vb_guest.{proofs.Refusing.{take_idle_part, busy_test}, proofs.TakeReportStep.take_report}
+use Rattle.vb_guest.{proofs.Chains.{coded_chain, coded_pages}, specs.Line.{Line, IsRequest}}
+use Rattle.vb_guest.{specs.Stands.{Honest, Ties, IsRunning}, proofs.Taking.{next_shown, line_taken}}
+use Rattle.vb_guest.{proofs.Handing.same_entry, specs.Steps.StepsAlone}
 
 -- what the device says of a queue with no posted request, and of one with some
 pub take_empty : (q n : ℕ) (m1 m2 : Pages) (p1 p2 : Part) (side : RequestSide) (taken done : List Request)

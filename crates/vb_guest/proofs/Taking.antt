@@ -1,17 +1,11 @@
 -- The device takes the next posted request.
 use Rattle.std.specs.Prelude.{◌≡◌, ℕ, ◌+◌, ◌%◌, List, [], ◌∷◌, ◌++◌, Ok, slice_get}
-use Rattle.std.proofs.Common.{ap, arith}
-use Rattle.std.proofs.lemmas.List.Elements.{All-push, All-tail}
-use Rattle.vb_model.specs.Layout.{ring_page, buffers_page}
-use Rattle.vb_model.specs.Requests.{Request, Requests}
-use Rattle.vb_ram.specs.Pages.{Pages}
-use Rattle.vb_ram.specs.Part.{QueuePart}
-use Rattle.vb_ring.specs.Entries.{next_entry}
-use Rattle.vb_ring.specs.Ends.{DriverEnd}
-use Rattle.vb_driver.specs.Coding.{IsCoded}
-use Rattle.vb_driver.specs.State.{RequestSide}
-use Rattle.vb_guest.specs.Line.{Line, IsRequest, RingOf, heads_of}
-use Rattle.vb_guest.proofs.Heads.{heads-push}
+use Rattle.std.{proofs.Common.{ap, arith}, proofs.lemmas.List.Elements.{All-push, All-tail}}
+use Rattle.vb_model.{specs.Layout.{ring_page, buffers_page}, specs.Requests.{Request, Requests}}
+use Rattle.vb_ram.{specs.Pages.Pages, specs.Part.QueuePart}
+use Rattle.vb_ring.{specs.Entries.next_entry, specs.Ends.DriverEnd}
+use Rattle.vb_driver.{specs.Coding.IsCoded, specs.State.RequestSide}
+use Rattle.vb_guest.{specs.Line.{Line, IsRequest, RingOf, heads_of}, proofs.Heads.heads-push}
 use Rattle.vb_guest.proofs.RingTaken.{ring_next, ring_taken}
 
 -- the device's next entry is the head of the first posted request

@@ -1,17 +1,11 @@
 -- A guest's new target is a step of the definitions.
-use Rattle.std.specs.Prelude.{◌≡◌, ℕ, [], refl}
-use Rattle.std.proofs.Common.{inl, inr}
-use Rattle.vb_model.specs.declared.calls.Call.TheVariants.{SetTarget}
-use Rattle.vb_model.specs.declared.replies.Reply.TheVariants.{Done}
-use Rattle.vb_model.specs.Guest.{Guest}
-use Rattle.vb_model.specs.Step.{HonestStep}
-use Rattle.vb_ram.specs.Pages.{Pages}
-use Rattle.vb_ram.specs.Part.{Part}
+use Rattle.std.{specs.Prelude.{◌≡◌, ℕ, [], refl}, proofs.Common.{inl, inr}}
+use Rattle.vb_model.{specs.declared.calls.Call.TheVariants.SetTarget, specs.Guest.Guest}
+use Rattle.vb_model.{specs.declared.replies.Reply.TheVariants.Done, specs.Step.HonestStep}
+use Rattle.vb_ram.{specs.Pages.Pages, specs.Part.Part}
 use Rattle.vb_driver.specs.State.{DriverState}
-use Rattle.vb_guest.specs.Stands.{Honest, Ties}
-use Rattle.vb_guest.specs.Steps.{StepsAlone}
+use Rattle.vb_guest.{specs.Stands.{Honest, Ties}, specs.Steps.StepsAlone, proofs.Writing.idle_still}
 use Rattle.vb_guest.proofs.Closing.{guest_step, honest_performed, still_stands, ties_same}
-use Rattle.vb_guest.proofs.Writing.{idle_still}
 
 target_set : (g : Guest) (n : ℕ) → HonestStep g (SetTarget n) [] Done (record g { target = n })
 target_set g n =

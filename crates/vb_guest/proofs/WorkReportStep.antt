@@ -1,46 +1,28 @@
 -- The visit of a report's page is a step of the definitions.
-use Rattle.std.specs.Prelude.{◌≡◌, ℕ, ◌<◌, ◌≤◌, Bool, true, false, cond, List, [], ◌∷◌}
-use Rattle.std.specs.Prelude.{All, length, if◌then◌else◌, Result, Option, Some, None}
-use Rattle.std.specs.Prelude.{MatchOption, is_some}
-use Rattle.std.specs.Prelude.{slice_get, refl}
-use Rattle.std.specs.Option.{option_to_list}
-use Rattle.std.specs.List.{flat_map}
+use Rattle.std.specs.Prelude.{◌≡◌, ℕ, ◌<◌, ◌≤◌, Bool, true, false, cond, List, [], ◌∷◌, All, length}
+use Rattle.std.specs.Prelude.{if◌then◌else◌, Result, Option, Some, None, MatchOption, is_some}
+use Rattle.std.{specs.Prelude.{slice_get, refl}, specs.Option.option_to_list, specs.List.flat_map}
 use Rattle.std.proofs.Common.{sym, ◌∙◌, ap, subst, arith, inr}
 use Rattle.std.proofs.lemmas.List.Elements.{All-nil, All-cons, All-tail}
 use Rattle.std.proofs.lemmas.Option.{get_or_from_slice_get, slice_get_within}
-use Rattle.vb_model.specs.declared.calls.Call.TheVariants.{Work}
-use Rattle.vb_model.specs.declared.replies.Refusal.{Refusal}
-use Rattle.vb_model.specs.declared.replies.Reply.{Reply}
-use Rattle.vb_model.specs.declared.replies.Reply.TheVariants.{Worked}
-use Rattle.vb_model.specs.Pages.{Block}
-use Rattle.vb_model.specs.Requests.{Request, Inflating, Reporting_free}
-use Rattle.vb_model.specs.Guest.{Guest, frame_of}
+use Rattle.vb_model.{specs.declared.calls.Call.TheVariants.Work, specs.declared.replies.Reply.Reply}
+use Rattle.vb_model.{specs.declared.replies.Refusal.Refusal, specs.Pages.Block, specs.Orderly.times}
+use Rattle.vb_model.{specs.declared.replies.Reply.TheVariants.Worked, specs.Guest.{Guest, frame_of}}
+use Rattle.vb_model.{specs.Requests.{Request, Inflating, Reporting_free}, specs.Refusals.refusal_of}
 use Rattle.vb_model.specs.Device.{is_unvisited, visiting, next_page, visited}
-use Rattle.vb_model.specs.Orderly.{times}
-use Rattle.vb_model.specs.Refusals.{refusal_of}
-use Rattle.vb_model.proofs.CallSteps.{Idles, Visits as VisitsOf}
-use Rattle.vb_ram.specs.Pages.{Pages, frame_at, number_of}
-use Rattle.vb_ram.specs.Part.{Part}
+use Rattle.vb_model.{specs.Layout.reserved_pages, proofs.Shapes.start_reserved}
+use Rattle.vb_ram.{specs.Pages.{Pages, frame_at, number_of}, specs.Part.Part}
 use Rattle.vb_driver.specs.State.{DriverState}
-use Rattle.vb_device.specs.declared.worked.Worked.{Worked as WorkedPage}
-use Rattle.vb_device.specs.Discards.{discarded, frames_behind}
-use Rattle.vb_device.specs.Calls.{Visits}
-use Rattle.vb_guest.specs.Reported.{IsReport}
-use Rattle.vb_guest.specs.Stands.{Honest, Ties, IsRunning}
-use Rattle.vb_guest.specs.Steps.{StepsFreeing}
-use Rattle.vb_guest.specs.Replies.{worked_reply}
-use Rattle.vb_model.specs.Layout.{reserved_pages}
-use Rattle.vb_model.proofs.Shapes.{start_reserved}
-use Rattle.vb_guest.proofs.Apart.{SameReserved}
-use Rattle.vb_guest.proofs.RunApart.{sizes_of, queues_same}
-use Rattle.vb_guest.proofs.Apart.{line_apart}
-use Rattle.vb_guest.proofs.BufferLines.{buffer_apart}
-use Rattle.vb_guest.proofs.ReportLines.{report_apart, report_visited}
-use Rattle.vb_guest.proofs.OwnBlocks.{own_pages}
-use Rattle.vb_guest.proofs.Discarding.{frames_freed}
-use Rattle.vb_guest.proofs.PagesKept.{pages_discarded, page_undiscarded}
-use Rattle.vb_guest.proofs.Handing.{handed_back, not_among, behind_same}
+use Rattle.vb_device.{specs.Discards.{discarded, frames_behind}, specs.Calls.Visits}
 use Rattle.vb_guest.proofs.Closing.{honest_performed, still_stands, guest_step, ties_same}
+use Rattle.vb_guest.{proofs.PagesKept.{pages_discarded, page_undiscarded}, specs.Steps.StepsFreeing}
+use Rattle.vb_guest.{proofs.Handing.{handed_back, not_among, behind_same}, specs.Reported.IsReport}
+use Rattle.vb_guest.{proofs.ReportLines.{report_apart, report_visited}, specs.Replies.worked_reply}
+use Rattle.vb_guest.{proofs.Apart.{SameReserved, line_apart}, proofs.BufferLines.buffer_apart}
+use Rattle.vb_guest.{proofs.RunApart.{sizes_of, queues_same}, proofs.Discarding.frames_freed}
+use Rattle.vb_guest.{specs.Stands.{Honest, Ties, IsRunning}, proofs.OwnBlocks.own_pages}
+use Rattle.vb_model.proofs.CallSteps.{Idles, Visits as VisitsOf}
+use Rattle.vb_device.specs.declared.worked.Worked.{Worked as WorkedPage}
 
 -- the next page of a device of this pace
 abbrev pub visit_of : Bool → List Request → Option ℕ

@@ -1,46 +1,28 @@
 -- The device's work is a step of the definitions.
-use Rattle.std.specs.Prelude.{◌≡◌, ℕ, ◌<◌, ◌≤◌, Bool, true, false, List}
-use Rattle.std.specs.Prelude.{[], ◌∷◌, All, length, Result, Option, Some, None, is_some}
-use Rattle.std.specs.Prelude.{refl, ◌⊎◌}
-use Rattle.std.specs.Option.{option_to_list}
-use Rattle.std.specs.List.{flat_map}
-use Rattle.std.proofs.Common.{sym, ◌∙◌, ap, subst, arith, inl, inr}
+use Rattle.std.specs.Prelude.{◌≡◌, ℕ, ◌<◌, ◌≤◌, Bool, true, false, List, [], ◌∷◌, All, length}
+use Rattle.std.{specs.Prelude.{Result, Option, Some, None, is_some, refl, ◌⊎◌}, specs.List.flat_map}
+use Rattle.std.{specs.Option.option_to_list, proofs.Common.{sym, ◌∙◌, ap, subst, arith, inl, inr}}
 use Rattle.std.proofs.lemmas.List.Elements.{All-nil, All-cons}
-use Rattle.vb_model.specs.declared.calls.Call.TheVariants.{Work}
-use Rattle.vb_model.specs.declared.replies.Refusal.{Refusal}
-use Rattle.vb_model.specs.declared.replies.Refusal.TheVariants.{NotReady}
-use Rattle.vb_model.specs.declared.replies.Reply.{Reply}
-use Rattle.vb_model.specs.declared.replies.Reply.TheVariants.{Worked}
-use Rattle.vb_model.specs.Requests.{Request, Requests, Inflating}
-use Rattle.vb_model.specs.Guest.{Guest, frame_of}
-use Rattle.vb_model.specs.Device.{visiting, visited}
-use Rattle.vb_model.specs.Orderly.{times}
-use Rattle.vb_model.specs.Refusals.{refusal_of}
-use Rattle.vb_ram.specs.Pages.{Pages, frame_at, number_of}
-use Rattle.vb_ram.specs.Part.{Part, QueuePart}
+use Rattle.vb_model.{specs.declared.calls.Call.TheVariants.Work, specs.declared.replies.Reply.Reply}
+use Rattle.vb_model.{specs.declared.replies.Refusal.Refusal, specs.Guest.{Guest, frame_of}}
+use Rattle.vb_model.{specs.declared.replies.Refusal.TheVariants.NotReady, specs.Orderly.times}
+use Rattle.vb_model.{specs.declared.replies.Reply.TheVariants.Worked, specs.Refusals.refusal_of}
+use Rattle.vb_model.{specs.Requests.{Request, Requests, Inflating}, specs.Layout.reserved_pages}
+use Rattle.vb_model.{specs.Device.{visiting, visited}, proofs.Shapes.start_reserved}
+use Rattle.vb_ram.{specs.Pages.{Pages, frame_at, number_of}, specs.Part.{Part, QueuePart}}
 use Rattle.vb_driver.specs.State.{RequestSide, DriverState}
-use Rattle.vb_device.specs.declared.worked.Worked.{Worked as WorkedPage}
-use Rattle.vb_device.specs.Conditions.{work_refusal}
-use Rattle.vb_device.specs.Discards.{discarded, frames_behind}
+use Rattle.vb_device.{specs.Conditions.work_refusal, specs.Discards.{discarded, frames_behind}}
 use Rattle.vb_device.specs.Calls.{next_visit, Visits, WorksBy}
-use Rattle.vb_guest.specs.Line.{Line, IsRequest, heads_of}
-use Rattle.vb_guest.specs.Ring.{RingStands}
-use Rattle.vb_guest.specs.Stands.{Honest, Ties, IsRunning}
-use Rattle.vb_guest.specs.Steps.{StepsFreeing}
-use Rattle.vb_guest.specs.Replies.{worked_reply}
-use Rattle.vb_model.specs.Layout.{reserved_pages}
-use Rattle.vb_model.proofs.Shapes.{start_reserved}
-use Rattle.vb_guest.proofs.Apart.{SameReserved}
-use Rattle.vb_guest.proofs.RunApart.{sizes_of, queues_same}
-use Rattle.vb_guest.proofs.Apart.{line_apart}
-use Rattle.vb_guest.proofs.BufferLines.{buffer_apart}
-use Rattle.vb_guest.proofs.ReportLines.{report_apart}
-use Rattle.vb_guest.proofs.Heads.{heads-visiting, all-visiting}
-use Rattle.vb_guest.proofs.Discarding.{frames_freed}
-use Rattle.vb_guest.proofs.PagesKept.{pages_discarded, page_undiscarded}
 use Rattle.vb_guest.proofs.Closing.{honest_performed, still_stands, guest_step, ties_same}
-use Rattle.vb_guest.proofs.Handing.{handed_back, not_among, behind_same}
 use Rattle.vb_guest.proofs.WorkReportStep.{visit_of, WorksOn, next_taken, work_report}
+use Rattle.vb_guest.{proofs.PagesKept.{pages_discarded, page_undiscarded}, specs.Steps.StepsFreeing}
+use Rattle.vb_guest.{proofs.Handing.{handed_back, not_among, behind_same}, specs.Ring.RingStands}
+use Rattle.vb_guest.{proofs.Heads.{heads-visiting, all-visiting}, proofs.BufferLines.buffer_apart}
+use Rattle.vb_guest.{proofs.Apart.{SameReserved, line_apart}, proofs.ReportLines.report_apart}
+use Rattle.vb_guest.{proofs.RunApart.{sizes_of, queues_same}, proofs.Discarding.frames_freed}
+use Rattle.vb_guest.{specs.Line.{Line, IsRequest, heads_of}, specs.Stands.{Honest, Ties, IsRunning}}
+use Rattle.vb_guest.specs.Replies.{worked_reply}
+use Rattle.vb_device.specs.declared.worked.Worked.{Worked as WorkedPage}
 
 -- ---- refusals
 

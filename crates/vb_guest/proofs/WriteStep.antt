@@ -1,40 +1,30 @@
 -- A guest's write is a step of the definitions.
 use Rattle.std.specs.Prelude.{◌≡◌, ℕ, ◌<◌, ◌≤◌, Bool, true, false, if◌then◌else◌, List, [], ◌∷◌}
 use Rattle.std.specs.Prelude.{length, Option, Some, None, IsSome, is_none, Result, Err, IsOk, refl}
-use Rattle.std.specs.Prelude.{◌⊎◌}
-use Rattle.std.proofs.Common.{sym, ◌∙◌, ap, subst, arith, inl, inr}
-use Rattle.std.proofs.lemmas.Bool.{cases_lt}
-use Rattle.std.proofs.lemmas.Bool.Decides.{nat_tests}
-use Rattle.vb_model.specs.Layout.{reserved_pages}
-use Rattle.vb_model.specs.declared.calls.Call.TheVariants.{Write}
-use Rattle.vb_model.specs.declared.calls.Claim.{Claim}
-use Rattle.vb_model.specs.declared.calls.Claim.TheVariants.{Gave}
-use Rattle.vb_model.specs.declared.replies.Refusal.{Refusal}
-use Rattle.vb_model.specs.declared.replies.Refusal.TheVariants.{NotHeld, OutOfRam}
-use Rattle.vb_model.specs.declared.replies.Refusal.TheVariants.{NoFrame as NoFrameLeft}
-use Rattle.vb_model.specs.declared.replies.Refusal.TheVariants.{NoMemory}
-use Rattle.vb_model.specs.declared.replies.Reply.TheVariants.{Done, Refused}
-use Rattle.vb_model.specs.Pages.{place_of, is_used}
+use Rattle.std.{specs.Prelude.◌⊎◌, proofs.Common.{sym, ◌∙◌, ap, subst, arith, inl, inr}}
+use Rattle.std.{proofs.lemmas.Bool.cases_lt, proofs.lemmas.Bool.Decides.nat_tests}
+use Rattle.vb_model.{specs.Layout.reserved_pages, specs.declared.calls.Call.TheVariants.Write}
+use Rattle.vb_model.{specs.declared.calls.Claim.Claim, specs.declared.calls.Claim.TheVariants.Gave}
+use Rattle.vb_model.{specs.declared.replies.Refusal.Refusal, specs.Pages.{place_of, is_used}}
+use Rattle.vb_model.specs.declared.replies.Refusal.TheVariants.{NotHeld, OutOfRam, NoMemory}
+use Rattle.vb_model.{specs.declared.replies.Reply.TheVariants.{Done, Refused}, specs.Orderly.times}
 use Rattle.vb_model.specs.Guest.{Guest, frame_of, backed}
 use Rattle.vb_model.specs.Refusals.{◌⇒◌, first_refusal, refusal_of, is_outside}
 use Rattle.vb_model.specs.Driver.{overwritten, pages_needed, Supplying, Written}
-use Rattle.vb_ram.specs.declared.fault.RamFault.{RamFault}
-use Rattle.vb_ram.specs.declared.fault.RamFault.TheVariants.{OutOfRam as OutOfMemory, NeedsFrame}
+use Rattle.vb_ram.{specs.declared.fault.RamFault.RamFault, specs.Part.Part}
 use Rattle.vb_ram.specs.Pages.{Pages, frame_at, Covers, Wrote, Supplied}
-use Rattle.vb_ram.specs.Part.{Part}
 use Rattle.vb_driver.specs.State.{DriverState}
-use Rattle.vb_model.specs.Orderly.{times}
-use Rattle.vb_frames.specs.declared.keeper.Refused.{Refused as KeeperRefused}
 use Rattle.vb_frames.specs.declared.keeper.Refused.TheVariants.{NoFrame, Memory}
 use Rattle.vb_frames.specs.Out.{claim_in}
-use Rattle.vb_guest.specs.Stands.{Honest, Ties}
+use Rattle.vb_guest.proofs.Closing.{honest_performed, guest_step, still_stands, steps_alone}
+use Rattle.vb_guest.proofs.Writing.{at_page, used_high, pages_wrote, pages_supplied, running_apart}
+use Rattle.vb_guest.{specs.Stands.{Honest, Ties}, proofs.Closing.honest_own}
 use Rattle.vb_guest.specs.Steps.{backing_count, StepsAlone, StepsOver}
 use Rattle.vb_guest.specs.Supply.{supply_of, IsClaimed, Moves, nothing}
-use Rattle.vb_guest.proofs.Closing.{honest_performed, guest_step, still_stands, steps_alone}
-use Rattle.vb_guest.proofs.Closing.{honest_own}
-use Rattle.vb_guest.proofs.Writing.{at_page, used_high, pages_wrote, pages_supplied, running_apart}
-use Rattle.vb_guest.proofs.Writing.{idle_still, count_backed}
-use Rattle.vb_guest.proofs.Moving.{moves_as, times_one}
+use Rattle.vb_guest.{proofs.Writing.{idle_still, count_backed}, proofs.Moving.{moves_as, times_one}}
+use Rattle.vb_model.specs.declared.replies.Refusal.TheVariants.{NoFrame as NoFrameLeft}
+use Rattle.vb_ram.specs.declared.fault.RamFault.TheVariants.{OutOfRam as OutOfMemory, NeedsFrame}
+use Rattle.vb_frames.specs.declared.keeper.Refused.{Refused as KeeperRefused}
 
 -- how a refused claim is replied
 abbrev pub refusal_of_claim : KeeperRefused → Refusal

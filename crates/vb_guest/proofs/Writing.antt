@@ -1,32 +1,21 @@
 -- A write to a page of the guest's own.
 use Rattle.std.specs.Prelude.{◌≡◌, ◌≢◌, ℕ, ◌+◌, ◌<◌, ◌≤◌, ◌==◌, true, if◌then◌else◌, List, length}
 use Rattle.std.specs.Prelude.{Option, Some, None, is_some, slice_set, slice_index_or, count_by}
-use Rattle.std.specs.Prelude.{refl, ◌⊎◌}
-use Rattle.std.proofs.Common.{sym, ◌∙◌, ap, subst, arith, inl, inr}
-use Rattle.std.proofs.lemmas.Bool.{cases_eq, cases_lt}
+use Rattle.std.{specs.Prelude.{refl, ◌⊎◌}, proofs.Common.{sym, ◌∙◌, ap, subst, arith, inl, inr}}
+use Rattle.std.{proofs.lemmas.Bool.{cases_eq, cases_lt}, proofs.lemmas.List.Sums.sum_by-set}
 use Rattle.std.proofs.lemmas.List.{ext_get_or, length-set, get_or-set_same, get_or-set_other}
-use Rattle.std.proofs.lemmas.List.Sums.{sum_by-set}
-use Rattle.vb_model.specs.Tests.{one_if, each_page}
-use Rattle.vb_model.specs.Layout.{reserved_pages, is_start_page}
-use Rattle.vb_model.specs.Pages.{place_of, is_used}
-use Rattle.vb_model.specs.Requests.{Requests, Buffer}
-use Rattle.vb_model.specs.Guest.{Guest, frame_of, backed}
-use Rattle.vb_model.specs.Driver.{overwritten}
-use Rattle.vb_model.specs.Orderly.{IsOrderly}
-use Rattle.vb_model.proofs.Tables.{length-each_from, each_page-get}
+use Rattle.vb_model.{specs.Tests.{one_if, each_page}, specs.Layout.{reserved_pages, is_start_page}}
+use Rattle.vb_model.{specs.Pages.{place_of, is_used}, specs.Requests.{Requests, Buffer}}
+use Rattle.vb_model.{specs.Guest.{Guest, frame_of, backed}, specs.Driver.overwritten}
+use Rattle.vb_model.{specs.Orderly.IsOrderly, proofs.Tables.{length-each_from, each_page-get}}
 use Rattle.vb_model.proofs.Shapes.{reserved_least, start_reserved}
-use Rattle.vb_ram.specs.Pages.{Pages, frame_at, number_of, Wrote, Supplied}
+use Rattle.vb_ram.{specs.Pages.{Pages, frame_at, number_of, Wrote, Supplied}, specs.Part.Part}
 use Rattle.vb_ram.proofs.Contents.{contents_wrote}
-use Rattle.vb_ram.specs.Part.{Part}
 use Rattle.vb_driver.specs.State.{DriverState}
-use Rattle.vb_guest.specs.Line.{Line}
-use Rattle.vb_guest.specs.Reported.{ReportLine}
-use Rattle.vb_guest.specs.Buffer.{BufferLine}
-use Rattle.vb_guest.specs.Stands.{HasPages, IsIdle, IsRunning}
-use Rattle.vb_guest.specs.Steps.{is_frame}
+use Rattle.vb_guest.{specs.Line.Line, specs.Reported.ReportLine, specs.Buffer.BufferLine}
+use Rattle.vb_guest.{specs.Stands.{HasPages, IsIdle, IsRunning}, specs.Steps.is_frame}
 use Rattle.vb_guest.proofs.Apart.{SameReserved, ring_same, line_apart, above_apart}
-use Rattle.vb_guest.proofs.BufferLines.{buffer_apart}
-use Rattle.vb_guest.proofs.ReportLines.{report_apart}
+use Rattle.vb_guest.{proofs.BufferLines.buffer_apart, proofs.ReportLines.report_apart}
 
 -- a used page isn't reserved
 pub used_high : (g : Guest) (page : ℕ) → IsOrderly g → is_used (place_of g.places page) ≡ true

@@ -1,33 +1,23 @@
 -- Two steps of an honest guest by one call, with the same claims, agree.
-use Rattle.std.proofs.Common.{◌≡◌, ℕ, ◌<◌, List, [], ◌∷◌, ◌++◌, sym, ap, ◌∙◌}
-use Rattle.std.proofs.Common.{inl, inr, arith}
+use Rattle.std.proofs.Common.{◌≡◌, ℕ, ◌<◌, List, [], ◌∷◌, ◌++◌, sym, ap, ◌∙◌, inl, inr, arith}
 use Rattle.std.specs.Prelude.{Option, Some, None, MatchOption, if◌then◌else◌}
 use Rattle.std.proofs.lemmas.Bool.{cases_lt}
-use Rattle.vb_model.specs.declared.calls.Call.{Call}
 use Rattle.vb_model.specs.declared.calls.Call.TheVariants.{Init, Reset, Alloc, Free, Read, Write}
 use Rattle.vb_model.specs.declared.calls.Call.TheVariants.{Scribble, Inflate, Deflate, Oom, Report}
 use Rattle.vb_model.specs.declared.calls.Call.TheVariants.{Stats, Reap, Take, Work, Finish, Sweep}
-use Rattle.vb_model.specs.declared.calls.Call.TheVariants.{Ask, SetTarget}
-use Rattle.vb_model.specs.declared.replies.Refusal.{Refusal}
-use Rattle.vb_model.specs.declared.replies.Reply.{Reply}
-use Rattle.vb_model.specs.declared.replies.Reply.TheVariants.{Done, Posted}
-use Rattle.vb_model.specs.declared.replies.Reply.TheVariants.{Refused}
 use Rattle.vb_model.specs.Requests.{Request, Requests, all_requests, headed, IsLeastHead, Kind}
-use Rattle.vb_model.specs.Requests.{Inflating, kind_of_queue, Buffer}
-use Rattle.vb_model.specs.Requests.{NoBuffer, BufferPosted, BufferTaken, BufferDone}
-use Rattle.vb_model.specs.Guest.{Guest, requests}
-use Rattle.vb_model.specs.Refusals.{refusal_of, inflate_count, deflate_count}
-use Rattle.vb_model.specs.Refusals.{oom_count}
-use Rattle.vb_model.specs.declared.calls.Claim.{Claim}
-use Rattle.vb_model.specs.Driver.{claim_refusal, Supplying}
-use Rattle.vb_model.specs.Driver.{asking, stranded_first, Deflates, Reports, Reaps, Fills, Written}
-use Rattle.vb_model.specs.Driver.{pages_needed}
+use Rattle.vb_model.specs.Requests.{Inflating, kind_of_queue, Buffer, NoBuffer, BufferPosted}
+use Rattle.vb_model.specs.Driver.{claim_refusal, Supplying, asking, stranded_first, Deflates}
+use Rattle.vb_model.{specs.declared.calls.Call.Call, specs.declared.replies.Refusal.Refusal}
+use Rattle.vb_model.{specs.declared.calls.Call.TheVariants.{Ask, SetTarget}, specs.Rogue.Scribbled}
+use Rattle.vb_model.{specs.declared.replies.Reply.Reply, specs.Requests.{BufferTaken, BufferDone}}
+use Rattle.vb_model.specs.declared.replies.Reply.TheVariants.{Done, Posted, Refused}
+use Rattle.vb_model.{specs.Guest.{Guest, requests}, specs.declared.calls.Claim.Claim}
+use Rattle.vb_model.specs.Refusals.{refusal_of, inflate_count, deflate_count, oom_count}
+use Rattle.vb_model.specs.Driver.{Reports, Reaps, Fills, Written, pages_needed}
 use Rattle.vb_model.specs.Device.{Takes, TakesBuffer, Works, Finishes, Asks, next_page}
-use Rattle.vb_model.specs.Life.{feature_refusal, Negotiates, lacking}
-use Rattle.vb_model.specs.Rogue.{Scribbled}
-use Rattle.vb_model.specs.Step.{Performs, HonestStep}
-use Rattle.vb_model.specs.Determined.{Agree}
-use Rattle.vb_model.proofs.CallSteps.{supplied}
+use Rattle.vb_model.{specs.Life.{feature_refusal, Negotiates, lacking}, specs.Determined.Agree}
+use Rattle.vb_model.{specs.Step.{Performs, HonestStep}, proofs.CallSteps.supplied}
 
 -- ---- two choices of one case
 

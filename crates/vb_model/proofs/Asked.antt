@@ -2,22 +2,17 @@
 use Rattle.std.proofs.Common.{◌≡◌, ℕ, zero, suc, ◌+◌, ◌-◌, ◌<◌, ◌≤◌, Bool, true, false, List, []}
 use Rattle.std.proofs.Common.{◌∷◌, refl, sym, ap, subst, ◌∙◌, arith, ◌≢◌}
 use Rattle.std.specs.Prelude.{Option, Some, None, slice_get}
-use Rattle.vb_model.specs.declared.places.Place.{Place}
-use Rattle.vb_model.specs.declared.places.Place.TheVariants.{Free as FreePlace, Used, Giving, Lent}
-use Rattle.vb_model.specs.declared.places.Place.TheVariants.{Taking, Stranded}
-use Rattle.vb_model.specs.declared.calls.Actor.{Actor}
-use Rattle.vb_model.specs.declared.calls.Call.{Call}
-use Rattle.vb_model.specs.declared.calls.Claim.{Claim}
-use Rattle.vb_model.specs.declared.replies.Reply.{Reply}
-use Rattle.vb_model.specs.Pages.{place_of}
-use Rattle.vb_model.specs.Requests.{Kind, Inflating, Deflating, place_posted}
-use Rattle.vb_model.specs.Guest.{Guest, tells_host}
-use Rattle.vb_model.specs.GuestRun.{Entry, Called, Looked, OwnStep}
-use Rattle.vb_model.specs.Courses.{Course, guest_after, BringsTo, ReapedAt}
-use Rattle.vb_model.specs.Courses.{DeflatePostedAt, WasAskedBack}
+use Rattle.vb_model.specs.Courses.{Course, guest_after, BringsTo, ReapedAt, DeflatePostedAt}
 use Rattle.vb_model.proofs.Offered.{Offered, is_offered, Only, only_done, Reaping, PageMove, Stays}
 use Rattle.vb_model.proofs.Offered.{Strands, Gives, Lends, Asks, Frees, honest_moves}
-use Rattle.vb_model.proofs.Courses.{EntryAt, Positions, some_own}
+use Rattle.vb_model.specs.declared.places.Place.TheVariants.{Taking, Stranded}
+use Rattle.vb_model.specs.Requests.{Kind, Inflating, Deflating, place_posted}
+use Rattle.vb_model.{specs.GuestRun.{Entry, Called, Looked, OwnStep}, specs.Courses.WasAskedBack}
+use Rattle.vb_model.{proofs.Courses.{EntryAt, Positions, some_own}, specs.Guest.{Guest, tells_host}}
+use Rattle.vb_model.{specs.declared.replies.Reply.Reply, specs.declared.places.Place.Place}
+use Rattle.vb_model.{specs.declared.calls.Actor.Actor, specs.declared.calls.Claim.Claim}
+use Rattle.vb_model.{specs.declared.calls.Call.Call, specs.Pages.place_of}
+use Rattle.vb_model.specs.declared.places.Place.TheVariants.{Free as FreePlace, Used, Giving, Lent}
 
 -- where there is a state, there are all before it
 there_below : {A : Type 0} (xs : List A) (i j : ℕ) (x : A) → i ≤ j → slice_get xs j ≡ Some x

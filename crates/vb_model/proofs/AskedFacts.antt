@@ -1,28 +1,24 @@
 -- Courses in which an offered page is handed out again: how it is asked back before, and how not.
-use Rattle.std.proofs.Common.{◌≡◌, ℕ, ◌+◌, ◌<◌, ◌==◌, true, false, List, [], ◌∷◌}
-use Rattle.std.proofs.Common.{◌++◌, map, replicate, refl, sym, ap, subst, ◌∙◌, inl, inr, arith}
+use Rattle.std.proofs.Common.{◌≡◌, ℕ, ◌+◌, ◌<◌, ◌==◌, true, false, List, [], ◌∷◌, ◌++◌, map}
+use Rattle.std.proofs.Common.{replicate, refl, sym, ap, subst, ◌∙◌, inl, inr, arith}
 use Rattle.std.specs.Prelude.{Bool, Option, Some, None, slice_get, length, IsTrue}
 use Rattle.std.proofs.lemmas.Bool.{cases_lt}
-use Rattle.vb_model.specs.declared.places.Place.{Place}
-use Rattle.vb_model.specs.declared.places.Place.TheVariants.{Free as FreePlace, Used, Stranded}
+use Rattle.vb_model.specs.declared.calls.Call.TheVariants.{Alloc, Inflate, Deflate, Oom, Report}
+use Rattle.vb_model.specs.declared.replies.Reply.TheVariants.{Done, Page, Posted, Reaped, Idle}
+use Rattle.vb_model.specs.Requests.{Request, Requests, no_requests, Inflating, Deflating}
+use Rattle.vb_model.specs.Courses.{Course, guest_after, ReapedAt, DeflatePostedAt, WasAskedBack}
+use Rattle.vb_model.{specs.declared.places.Place.Place, specs.declared.calls.Call.Call}
 use Rattle.vb_model.specs.declared.places.Place.TheVariants.{Giving, Lent, Taking}
 use Rattle.vb_model.specs.declared.calls.Actor.TheVariants.{Processor, Worker}
-use Rattle.vb_model.specs.declared.calls.Call.{Call}
-use Rattle.vb_model.specs.declared.calls.Call.TheVariants.{Alloc, Inflate, Deflate, Oom}
-use Rattle.vb_model.specs.declared.calls.Call.TheVariants.{Report, Reap, Reset, Work, Finish}
-use Rattle.vb_model.specs.declared.replies.Refusal.TheVariants.{QueueFull}
-use Rattle.vb_model.specs.declared.replies.Reply.TheVariants.{Done, Page, Posted, Reaped, Idle}
+use Rattle.vb_model.specs.declared.calls.Call.TheVariants.{Reap, Reset, Work, Finish}
+use Rattle.vb_model.{specs.declared.replies.Refusal.TheVariants.QueueFull, specs.Life.after_reset}
 use Rattle.vb_model.specs.declared.replies.Reply.TheVariants.{Finished, NotUsed, Refused}
-use Rattle.vb_model.specs.Requests.{Request, Requests, no_requests, Inflating, Deflating}
-use Rattle.vb_model.specs.Requests.{Reporting_free, queue_of}
-use Rattle.vb_model.specs.Guest.{Guest, tells_host}
-use Rattle.vb_model.specs.Life.{after_reset}
-use Rattle.vb_model.specs.GuestRun.{Entry, Called}
-use Rattle.vb_model.specs.Courses.{Course, guest_after, ReapedAt, DeflatePostedAt}
-use Rattle.vb_model.specs.Courses.{WasAskedBack, posts_deflate}
+use Rattle.vb_model.{specs.Requests.{Reporting_free, queue_of}, specs.Guest.{Guest, tells_host}}
+use Rattle.vb_model.{specs.GuestRun.{Entry, Called}, specs.Courses.posts_deflate}
 use Rattle.vb_model.specs.Histories.{IsSafeCourse}
 use Rattle.vb_model.proofs.Samples.{ready, down, untold, page_16_at, request}
 use Rattle.vb_model.proofs.SafeFacts.{made, goes, request_16, posted, used}
+use Rattle.vb_model.specs.declared.places.Place.TheVariants.{Free as FreePlace, Used, Stranded}
 
 -- page 16 is offered by entry 0, and then come these entries; the guest is the same but for the page
 -- and the requests

@@ -1,25 +1,16 @@
 -- Nothing is outstanding of a guest that isn't ready.
-use Rattle.std.proofs.Common.{◌≡◌, ◌≢◌, ℕ, Bool, true, false, List, refl, sym}
-use Rattle.std.proofs.Common.{subst, ◌⊎◌, inl, inr, arith}
-use Rattle.std.specs.Prelude.{not, None}
-use Rattle.vb_model.specs.declared.calls.Call.{Call}
+use Rattle.std.proofs.Common.{◌≡◌, ◌≢◌, ℕ, Bool, true, false, List, refl, sym, subst, ◌⊎◌, inl, inr}
+use Rattle.std.{proofs.Common.arith, specs.Prelude.{not, None}}
 use Rattle.vb_model.specs.declared.calls.Call.TheVariants.{Init, Reset, Alloc, Free, Read, Write}
 use Rattle.vb_model.specs.declared.calls.Call.TheVariants.{Scribble, Inflate, Deflate, Oom, Report}
 use Rattle.vb_model.specs.declared.calls.Call.TheVariants.{Stats, Reap, Take, Work, Finish, Sweep}
-use Rattle.vb_model.specs.declared.calls.Call.TheVariants.{Ask, SetTarget}
-use Rattle.vb_model.specs.declared.calls.Claim.{Claim}
-use Rattle.vb_model.specs.declared.replies.Reply.{Reply}
-use Rattle.vb_model.specs.Requests.{Request, Kind}
-use Rattle.vb_model.specs.Requests.{kind_of_queue, Buffer}
-use Rattle.vb_model.specs.Guest.{Guest, requests}
-use Rattle.vb_model.specs.Tables.{is_up, is_not_ready}
-use Rattle.vb_model.specs.Refusals.{refusal_of, tests}
-use Rattle.vb_model.specs.Driver.{Fills}
-use Rattle.vb_model.specs.Device.{Takes, TakesBuffer, Asks}
-use Rattle.vb_model.specs.Step.{Performs, HonestStep}
-use Rattle.vb_model.specs.Orderly.{IsOrderly}
-use Rattle.vb_model.specs.HonestRuns.{has_buffer, IsAttentive}
-use Rattle.vb_model.proofs.CallSteps.{match_cases, not_refused}
+use Rattle.vb_model.{specs.declared.calls.Call.TheVariants.{Ask, SetTarget}, specs.Driver.Fills}
+use Rattle.vb_model.{specs.Requests.{Request, Kind, kind_of_queue, Buffer}, specs.Orderly.IsOrderly}
+use Rattle.vb_model.{proofs.CallSteps.{match_cases, not_refused}, specs.Step.{Performs, HonestStep}}
+use Rattle.vb_model.{specs.HonestRuns.{has_buffer, IsAttentive}, specs.declared.replies.Reply.Reply}
+use Rattle.vb_model.{specs.Device.{Takes, TakesBuffer, Asks}, specs.Tables.{is_up, is_not_ready}}
+use Rattle.vb_model.{specs.Refusals.{refusal_of, tests}, specs.declared.calls.Claim.Claim}
+use Rattle.vb_model.{specs.declared.calls.Call.Call, specs.Guest.{Guest, requests}}
 
 -- ---- a ready guest
 

@@ -1,16 +1,11 @@
 -- Worked facts of needs and targets.
-use Rattle.std.proofs.Common.{◌≡◌, ℕ, ◌≤◌, true, List, [], ◌∷◌, map, replicate}
-use Rattle.std.proofs.Common.{refl, inl, arith}
+use Rattle.std.proofs.Common.{◌≡◌, ℕ, ◌≤◌, true, List, [], ◌∷◌, map, replicate, refl, inl, arith}
 use Rattle.std.specs.Prelude.{Option, Some, None, sum}
-use Rattle.vb_model.specs.declared.calls.Event.TheVariants.{Balance}
-use Rattle.vb_model.specs.declared.replies.Refusal.TheVariants.{Short}
+use Rattle.vb_model.{specs.declared.calls.Event.TheVariants.Balance, specs.Guest.Guest}
+use Rattle.vb_model.{specs.declared.replies.Refusal.TheVariants.Short, specs.World.World}
 use Rattle.vb_model.specs.declared.replies.Reply.TheVariants.{Targets, Refused}
-use Rattle.vb_model.specs.Guest.{Guest}
-use Rattle.vb_model.specs.Balance.{Need, AreTargets, spare, need, missing}
-use Rattle.vb_model.specs.Balance.{shortage}
-use Rattle.vb_model.specs.World.{World}
-use Rattle.vb_model.specs.HostEvents.{WorldStep, needs}
-use Rattle.vb_model.proofs.Samples.{config, ready}
+use Rattle.vb_model.specs.Balance.{Need, AreTargets, spare, need, missing, shortage}
+use Rattle.vb_model.{specs.HostEvents.{WorldStep, needs}, proofs.Samples.{config, ready}}
 
 -- ---- what a guest of 64 pages can spare: min(48, ballooned + (free - floor))
 

@@ -1,34 +1,24 @@
 -- A call that an honest guest answers leaves its pages without frames blank.
-use Rattle.std.proofs.Common.{◌≡◌, ℕ, ◌+◌, ◌<◌, ◌≤◌, true, false, cond, List, [], ◌∷◌}
-use Rattle.std.proofs.Common.{length, refl, sym, subst, ◌∙◌, ◌⊎◌, inl, inr}
-use Rattle.std.proofs.Common.{arith, length-append, length-take, length-drop}
-use Rattle.std.specs.Prelude.{◌==◌, Option, Some, None}
-use Rattle.std.specs.Prelude.{if◌then◌else◌}
+use Rattle.std.proofs.Common.{◌≡◌, ℕ, ◌+◌, ◌<◌, ◌≤◌, true, false, cond, List, [], ◌∷◌, length, refl}
+use Rattle.std.proofs.Common.{sym, subst, ◌∙◌, ◌⊎◌, inl, inr, arith, length-append, length-take}
+use Rattle.std.{proofs.Common.length-drop, specs.Prelude.{◌==◌, Option, Some, None, if◌then◌else◌}}
 use Rattle.std.proofs.lemmas.List.{take-append-drop, get_or-replicate, length-replicate}
-use Rattle.vb_model.specs.declared.calls.Call.{Call}
 use Rattle.vb_model.specs.declared.calls.Call.TheVariants.{Init, Reset, Alloc, Free, Read, Write}
 use Rattle.vb_model.specs.declared.calls.Call.TheVariants.{Scribble, Inflate, Deflate, Oom, Report}
 use Rattle.vb_model.specs.declared.calls.Call.TheVariants.{Stats, Reap, Take, Work, Finish, Sweep}
-use Rattle.vb_model.specs.declared.calls.Call.TheVariants.{Ask, SetTarget}
-use Rattle.vb_model.specs.declared.calls.Claim.{Claim}
-use Rattle.vb_model.specs.declared.replies.Reply.{Reply}
-use Rattle.vb_model.specs.declared.replies.Reply.TheVariants.{Refused}
-use Rattle.vb_model.specs.Limits.{page_size}
-use Rattle.vb_model.specs.Tests.{each_page}
 use Rattle.vb_model.specs.Requests.{Request, Kind, Inflating, Deflating, Reporting_free}
-use Rattle.vb_model.specs.Requests.{kind_of_queue}
 use Rattle.vb_model.specs.Guest.{Guest, Config, fresh, requests, unbacked, frame_of, backed}
-use Rattle.vb_model.specs.Guest.{all_backed, zero_page}
-use Rattle.vb_model.specs.Refusals.{refusal_of}
 use Rattle.vb_model.specs.Driver.{given, claim_refusal, AreClaimsFor, Supplying, Reaps, Written}
-use Rattle.vb_model.specs.Driver.{pages_needed, overwritten}
-use Rattle.vb_model.specs.Device.{Takes, TakesBuffer, Finishes, settled, used, next_page}
-use Rattle.vb_model.specs.Life.{feature_refusal, Negotiates, lacking}
-use Rattle.vb_model.specs.Step.{Performs, HonestStep}
-use Rattle.vb_model.specs.Blank.{IsBlank}
-use Rattle.vb_model.proofs.Tables.{length-each_from, each_page-get}
 use Rattle.vb_model.proofs.CallSteps.{match_cases, supplying_cases, works_cases, Idles, Visits}
-use Rattle.vb_model.proofs.CallSteps.{supplied}
+use Rattle.vb_model.{specs.declared.calls.Call.Call, specs.declared.calls.Claim.Claim}
+use Rattle.vb_model.{specs.declared.calls.Call.TheVariants.{Ask, SetTarget}, specs.Limits.page_size}
+use Rattle.vb_model.{specs.declared.replies.Reply.Reply, specs.Tests.each_page, specs.Blank.IsBlank}
+use Rattle.vb_model.{specs.declared.replies.Reply.TheVariants.Refused, specs.Requests.kind_of_queue}
+use Rattle.vb_model.{specs.Guest.{all_backed, zero_page}, specs.Refusals.refusal_of}
+use Rattle.vb_model.{specs.Driver.{pages_needed, overwritten}, specs.Step.{Performs, HonestStep}}
+use Rattle.vb_model.specs.Device.{Takes, TakesBuffer, Finishes, settled, used, next_page}
+use Rattle.vb_model.{specs.Life.{feature_refusal, Negotiates, lacking}, proofs.CallSteps.supplied}
+use Rattle.vb_model.proofs.Tables.{length-each_from, each_page-get}
 
 pub length-zero_page : length zero_page ≡ page_size
 unfolding zero_page

@@ -1,20 +1,15 @@
 -- Maximal blocks share no page.
-use Rattle.std.proofs.Common.{◌≡◌, ℕ, zero, suc, ◌+◌, ◌-◌, ◌*◌, ◌^◌, ◌<◌, ◌≤◌, Bool, true}
-use Rattle.std.proofs.Common.{false, List, [], ◌∷◌, take, refl, sym, ap, subst, ◌∙◌}
-use Rattle.std.proofs.Common.{inl, inr, arith, ◌⊎◌, ◌≢◌}
-use Rattle.std.specs.Prelude.{◌==◌, ◌&&◌, ◌%◌, not, count_by, nat_lt, nat_le, filter, map}
-use Rattle.std.specs.List.{list_all, list_any, range_with_len, flat_map}
-use Rattle.std.proofs.lemmas.Nat.{pow_pos, mod-mul-add, pow-add}
+use Rattle.std.proofs.Common.{◌≡◌, ℕ, zero, suc, ◌+◌, ◌-◌, ◌*◌, ◌^◌, ◌<◌, ◌≤◌, Bool, true, false}
+use Rattle.std.proofs.Common.{List, [], ◌∷◌, take, refl, sym, ap, subst, ◌∙◌, inl, inr, arith, ◌⊎◌}
 use Rattle.std.proofs.Math.Nat.{lt_of_mul-lt-mul_left, mul-lt-mul_of_pos_left, mul_assoc, mul_comm}
-use Rattle.std.proofs.Math.Nat.{mul-add}
-use Rattle.std.proofs.lemmas.Bool.{eq-eqb, ne_eqb, le-leb, lt-ltb, and_parts, and_from}
-use Rattle.std.proofs.lemmas.Bool.{cases_lt, cases_eq, leb-true, ltb-true, false_from_ne_true}
-use Rattle.vb_model.specs.Limits.{max_order}
-use Rattle.vb_model.specs.Tests.{one_if}
-use Rattle.vb_model.specs.Pages.{Block, size, pages_of, pages_of_all, covers, is_whole}
-use Rattle.vb_model.specs.Pages.{is_maximal, is_aligned, around, blocks_at, blocks_below}
-use Rattle.vb_model.specs.Pages.{maximal_blocks}
-use Rattle.vb_model.specs.Orderly.{times}
+use Rattle.std.proofs.lemmas.Bool.{eq-eqb, ne_eqb, le-leb, lt-ltb, and_parts, and_from, cases_lt}
+use Rattle.std.{proofs.Common.◌≢◌, specs.List.{list_all, list_any, range_with_len, flat_map}}
+use Rattle.std.specs.Prelude.{◌==◌, ◌&&◌, ◌%◌, not, count_by, nat_lt, nat_le, filter, map}
+use Rattle.std.{proofs.lemmas.Nat.{pow_pos, mod-mul-add, pow-add}, proofs.Math.Nat.mul-add}
+use Rattle.std.proofs.lemmas.Bool.{cases_eq, leb-true, ltb-true, false_from_ne_true}
+use Rattle.vb_model.specs.Pages.{Block, size, pages_of, pages_of_all, covers, is_whole, is_maximal}
+use Rattle.vb_model.{specs.Limits.max_order, specs.Tests.one_if, specs.Orderly.times}
+use Rattle.vb_model.specs.Pages.{is_aligned, around, blocks_at, blocks_below, maximal_blocks}
 use Rattle.vb_model.proofs.Tables.{count_by-append, count_by-cons}
 use Rattle.vb_model.proofs.Distinct.{times-append, times-cons}
 

@@ -1,23 +1,19 @@
 -- What is promised of a guest is promised of each: of any size, of either pace, at any status, with
 -- any features, while requests of all kinds are at all stages. One course for each promise that
 -- breaks it.
-use Rattle.std.proofs.Common.{◌≡◌, ℕ, zero, suc, ◌<◌, true, false, List, [], ◌∷◌, ◌++◌}
-use Rattle.std.proofs.Common.{replicate, refl, ◌⊎◌, inl, inr, arith}
+use Rattle.std.proofs.Common.{◌≡◌, ℕ, zero, suc, ◌<◌, true, false, List, [], ◌∷◌, ◌++◌, replicate}
+use Rattle.std.proofs.Common.{refl, ◌⊎◌, inl, inr, arith}
 use Rattle.std.specs.Prelude.{Option, Some, None, IsTrue}
-use Rattle.vb_model.specs.declared.places.Place.TheVariants.{Reserved, Free as FreePlace, Used}
-use Rattle.vb_model.specs.declared.calls.Actor.TheVariants.{Processor}
-use Rattle.vb_model.specs.declared.calls.Call.TheVariants.{Alloc, Inflate, Read, Reap, Sweep, Take}
-use Rattle.vb_model.specs.declared.calls.Call.TheVariants.{Work}
+use Rattle.vb_model.{specs.declared.calls.Actor.TheVariants.Processor, specs.Requests.Requests}
+use Rattle.vb_model.specs.declared.calls.Call.TheVariants.{Alloc, Inflate, Read, Reap, Sweep}
+use Rattle.vb_model.{specs.declared.calls.Call.TheVariants.{Take, Work}, specs.Guest.{Guest, fresh}}
 use Rattle.vb_model.specs.declared.replies.Refusal.TheVariants.{Broken, RingBroken}
 use Rattle.vb_model.specs.declared.replies.Reply.TheVariants.{Idle, Page, Posted, ReadBytes}
 use Rattle.vb_model.specs.declared.replies.Reply.TheVariants.{Refused, Swept}
-use Rattle.vb_model.specs.Requests.{Requests}
-use Rattle.vb_model.specs.Guest.{Guest, fresh}
-use Rattle.vb_model.specs.Courses.{Course, StaysHeld, StaysOrLoses}
-use Rattle.vb_model.specs.Histories.{IsSafeCourse, BothAgree}
-use Rattle.vb_model.proofs.Samples.{request}
-use Rattle.vb_model.proofs.SafeFacts.{SameFrame, made, stands, goes}
-use Rattle.vb_model.proofs.AskedFacts.{giving, back, handed_out}
+use Rattle.vb_model.{specs.Courses.{Course, StaysHeld, StaysOrLoses}, proofs.Samples.request}
+use Rattle.vb_model.{specs.Histories.{IsSafeCourse, BothAgree}, proofs.SafeFacts.{SameFrame, made}}
+use Rattle.vb_model.{proofs.SafeFacts.{stands, goes}, proofs.AskedFacts.{giving, back, handed_out}}
+use Rattle.vb_model.specs.declared.places.Place.TheVariants.{Reserved, Free as FreePlace, Used}
 
 abbrev Same : ℕ → ℕ → Type 0
 Same a b = a ≡ b

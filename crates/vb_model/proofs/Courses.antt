@@ -1,26 +1,15 @@
 -- What holds in each state of a guest's course, and between two of them.
-use Rattle.std.proofs.Common.{◌≡◌, ℕ, zero, suc, ◌+◌, false, List, []}
-use Rattle.std.proofs.Common.{◌∷◌, sym, subst, arith}
+use Rattle.std.proofs.Common.{◌≡◌, ℕ, zero, suc, ◌+◌, false, List, [], ◌∷◌, sym, subst, arith}
 use Rattle.std.specs.Prelude.{Option, Some, None, slice_get}
-use Rattle.vb_model.specs.declared.calls.Call.{Call}
-use Rattle.vb_model.specs.declared.calls.Claim.{Claim}
-use Rattle.vb_model.specs.declared.replies.Reply.{Reply}
-use Rattle.vb_model.specs.Guest.{Guest, Config, fresh}
-use Rattle.vb_model.specs.Step.{HonestStep}
-use Rattle.vb_model.specs.Rogue.{GuestStep}
-use Rattle.vb_model.specs.Consistent.{IsConsistent}
-use Rattle.vb_model.specs.Orderly.{IsOrderly}
-use Rattle.vb_model.specs.Blank.{IsBlank}
-use Rattle.vb_model.specs.HonestRuns.{IsAttentive}
-use Rattle.vb_model.specs.GuestRun.{Entry, Called, Looked, EntryStep, OwnStep, Leads}
-use Rattle.vb_model.specs.GuestRun.{is_scribbled}
-use Rattle.vb_model.specs.Courses.{Course, guest_after}
-use Rattle.vb_model.proofs.CallSteps.{honest_keeps}
-use Rattle.vb_model.proofs.GuestSteps.{fresh_consistent}
-use Rattle.vb_model.proofs.OrderlySteps.{honest_order, fresh_order}
+use Rattle.vb_model.{specs.declared.calls.Call.Call, specs.declared.calls.Claim.Claim}
+use Rattle.vb_model.{specs.declared.replies.Reply.Reply, specs.Guest.{Guest, Config, fresh}}
+use Rattle.vb_model.{specs.Step.HonestStep, specs.Rogue.GuestStep, specs.Consistent.IsConsistent}
+use Rattle.vb_model.{specs.Orderly.IsOrderly, specs.Blank.IsBlank, specs.HonestRuns.IsAttentive}
+use Rattle.vb_model.specs.GuestRun.{Entry, Called, Looked, EntryStep, OwnStep, Leads, is_scribbled}
+use Rattle.vb_model.{specs.Courses.{Course, guest_after}, proofs.CallSteps.honest_keeps}
+use Rattle.vb_model.{proofs.GuestSteps.fresh_consistent, proofs.AttentiveSteps.honest_attentive}
+use Rattle.vb_model.{proofs.OrderlySteps.{honest_order, fresh_order}, proofs.Changes.same_some}
 use Rattle.vb_model.proofs.BlankSteps.{honest_blank, fresh_blank}
-use Rattle.vb_model.proofs.AttentiveSteps.{honest_attentive}
-use Rattle.vb_model.proofs.Changes.{same_some}
 
 -- ---- a step of an honest guest that isn't a scribble
 

@@ -1,20 +1,16 @@
 -- The pages that a new request names are distinct.
 use Rattle.std.proofs.Common.{◌≡◌, ℕ, zero, suc, ◌+◌, ◌<◌, ◌≤◌, Bool, true, false, cond, List, []}
+use Rattle.std.proofs.lemmas.Bool.{eqb-true, eqb-false, eq-eqb, ne_eqb, false_from_ne_true}
 use Rattle.std.proofs.Common.{◌∷◌, ◌++◌, take, refl, ap, subst, arith}
 use Rattle.std.specs.Prelude.{◌==◌, ◌&&◌, ◌%◌, not, count_by, nat_lt, nat_le, filter, map}
 use Rattle.std.specs.List.{list_all, list_any, range_with_len, flat_map}
-use Rattle.std.proofs.lemmas.Bool.{eqb-true, eqb-false, eq-eqb, ne_eqb, false_from_ne_true}
 use Rattle.std.proofs.lemmas.Bool.{and_parts, cases_eq, not_from_false}
-use Rattle.vb_model.specs.declared.places.Place.{Place}
-use Rattle.vb_model.specs.declared.places.Place.TheVariants.{Reserved}
-use Rattle.vb_model.specs.Tests.{is_in, one_if, pages_from, pages_where}
-use Rattle.vb_model.specs.Pages.{is_free, is_stranded, place_of}
-use Rattle.vb_model.specs.Guest.{Guest}
-use Rattle.vb_model.specs.Driver.{AllFreePages, AllDistinct, stranded_first}
-use Rattle.vb_model.specs.Refusals.{inflate_count}
-use Rattle.vb_model.specs.Orderly.{times}
 use Rattle.vb_model.proofs.Tables.{count_by-append, count_by-cons, is_in-take, list_all-at}
-use Rattle.vb_model.proofs.Tables.{pages_where-passes}
+use Rattle.vb_model.{specs.declared.places.Place.Place, specs.Guest.Guest, specs.Orderly.times}
+use Rattle.vb_model.{specs.declared.places.Place.TheVariants.Reserved, specs.Refusals.inflate_count}
+use Rattle.vb_model.specs.Tests.{is_in, one_if, pages_from, pages_where}
+use Rattle.vb_model.{specs.Pages.{is_free, is_stranded, place_of}, proofs.Tables.pages_where-passes}
+use Rattle.vb_model.specs.Driver.{AllFreePages, AllDistinct, stranded_first}
 
 pub times-append : (page : ℕ) (xs ys : List ℕ)
     → times page (xs ++ ys) ≡ times page xs + times page ys

@@ -1,19 +1,16 @@
 -- Worked facts of the driver's inflates, deflates and reaps.
-use Rattle.std.proofs.Common.{◌≡◌, ℕ, ◌+◌, true, false, List, [], ◌∷◌, ◌++◌, map}
-use Rattle.std.proofs.Common.{replicate, length, refl, ap, subst, arith}
-use Rattle.std.specs.Prelude.{Some, None}
-use Rattle.vb_model.specs.declared.places.Place.{Place}
+use Rattle.std.proofs.Common.{◌≡◌, ℕ, ◌+◌, true, false, List, [], ◌∷◌, ◌++◌, map, replicate, length}
+use Rattle.std.{proofs.Common.{refl, ap, subst, arith}, specs.Prelude.{Some, None}}
 use Rattle.vb_model.specs.declared.places.Place.TheVariants.{Reserved, Free, Giving, Lent, Taking}
+use Rattle.vb_model.specs.declared.replies.Refusal.TheVariants.{NotReady, QueueFull, Nothing}
+use Rattle.vb_model.{specs.declared.places.Place.Place, specs.Guest.Guest, specs.Step.HonestStep}
 use Rattle.vb_model.specs.declared.places.Place.TheVariants.{Stranded, Reporting}
 use Rattle.vb_model.specs.declared.calls.Call.TheVariants.{Inflate, Deflate, Oom, Reap}
-use Rattle.vb_model.specs.declared.replies.Refusal.TheVariants.{NotReady, QueueFull, Nothing}
 use Rattle.vb_model.specs.declared.replies.Refusal.TheVariants.{NoFeature, NoQueue}
 use Rattle.vb_model.specs.declared.replies.Reply.TheVariants.{Posted, Reaped, NotUsed}
 use Rattle.vb_model.specs.Requests.{Request, Requests, no_requests, IsLeastHead}
-use Rattle.vb_model.specs.Guest.{Guest}
 use Rattle.vb_model.specs.Refusals.{refusal_of, inflate_count, deflate_count, oom_count, room}
 use Rattle.vb_model.specs.Driver.{AllFreePages}
-use Rattle.vb_model.specs.Step.{HonestStep}
 use Rattle.vb_model.proofs.Samples.{config, ready, down, without_oom, request}
 
 -- ---- how many pages are moved

@@ -1,34 +1,25 @@
 -- Frames enter by the claims for their pages alone; and where too few are left, the call is refused.
-use Rattle.std.proofs.Common.{◌≡◌, ℕ, suc, ◌<◌, ◌≤◌, Bool, true, false, cond, List, [], ◌∷◌}
-use Rattle.std.proofs.Common.{length, refl, sym, ap, subst, ◌∙◌, ◌⊎◌, inl, inr, arith}
+use Rattle.std.proofs.Common.{◌≡◌, ℕ, suc, ◌<◌, ◌≤◌, Bool, true, false, cond, List, [], ◌∷◌, length}
+use Rattle.std.proofs.Common.{refl, sym, ap, subst, ◌∙◌, ◌⊎◌, inl, inr, arith}
 use Rattle.std.specs.Prelude.{◌==◌, ◌||◌, Option, Some, None, MatchBool, slice_get}
 use Rattle.std.proofs.lemmas.Bool.{eqb-true}
-use Rattle.vb_model.specs.declared.calls.Call.{Call}
 use Rattle.vb_model.specs.declared.calls.Call.TheVariants.{Init, Reset, Alloc, Free, Read, Write}
 use Rattle.vb_model.specs.declared.calls.Call.TheVariants.{Scribble, Inflate, Deflate, Oom, Report}
 use Rattle.vb_model.specs.declared.calls.Call.TheVariants.{Stats, Reap, Take, Work, Finish, Sweep}
-use Rattle.vb_model.specs.declared.calls.Call.TheVariants.{Ask, SetTarget}
-use Rattle.vb_model.specs.declared.calls.Claim.{Claim}
-use Rattle.vb_model.specs.declared.calls.Claim.TheVariants.{Gave, GaveNoFrame, GaveNoMemory}
-use Rattle.vb_model.specs.declared.replies.Refusal.{Refusal}
-use Rattle.vb_model.specs.declared.replies.Refusal.TheVariants.{NoFrame, NoMemory}
-use Rattle.vb_model.specs.declared.replies.Reply.{Reply}
-use Rattle.vb_model.specs.declared.replies.Reply.TheVariants.{Refused}
-use Rattle.vb_model.specs.Tests.{is_in}
-use Rattle.vb_model.specs.Guest.{Guest, frame_of, backed, all_backed}
-use Rattle.vb_model.specs.Refusals.{refusal_of}
 use Rattle.vb_model.specs.Driver.{given, claim_refusal, AreClaimsFor, Supplying, Written}
-use Rattle.vb_model.specs.Driver.{pages_needed}
-use Rattle.vb_model.specs.Life.{feature_refusal, Negotiates, lacking}
 use Rattle.vb_model.specs.Rogue.{LosesFrames, RogueStep, Scribbled, unless_refused, pages_to_back}
-use Rattle.vb_model.specs.Step.{Performs, HonestStep}
-use Rattle.vb_model.specs.Rogue.{GuestStep}
-use Rattle.vb_model.specs.World.{World}
-use Rattle.vb_model.specs.HostFrames.{Gives, IsOut}
 use Rattle.vb_model.specs.StepLaws.{IsGiven, FramesEnterByClaims, WantOfFrames, WantIsAnswered}
-use Rattle.vb_model.proofs.CallSteps.{match_cases}
+use Rattle.vb_model.specs.declared.calls.Claim.TheVariants.{Gave, GaveNoFrame, GaveNoMemory}
 use Rattle.vb_model.proofs.Frames.{backed_cases, FramesMove, honest_move, negotiates_frames}
-use Rattle.vb_model.proofs.Wanting.{claims_needed, refused_claims}
+use Rattle.vb_model.specs.declared.replies.Refusal.TheVariants.{NoFrame, NoMemory}
+use Rattle.vb_model.{specs.declared.calls.Call.TheVariants.{Ask, SetTarget}, specs.Rogue.GuestStep}
+use Rattle.vb_model.{specs.Guest.{Guest, frame_of, backed, all_backed}, specs.Refusals.refusal_of}
+use Rattle.vb_model.{specs.Life.{feature_refusal, Negotiates, lacking}, specs.Driver.pages_needed}
+use Rattle.vb_model.{specs.declared.replies.Reply.TheVariants.Refused, proofs.CallSteps.match_cases}
+use Rattle.vb_model.{proofs.Wanting.{claims_needed, refused_claims}, specs.declared.calls.Call.Call}
+use Rattle.vb_model.{specs.declared.replies.Refusal.Refusal, specs.declared.replies.Reply.Reply}
+use Rattle.vb_model.{specs.Step.{Performs, HonestStep}, specs.declared.calls.Claim.Claim}
+use Rattle.vb_model.{specs.HostFrames.{Gives, IsOut}, specs.Tests.is_in, specs.World.World}
 
 -- ---- frames enter by claims
 

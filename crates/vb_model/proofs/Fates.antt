@@ -1,37 +1,28 @@
 -- What one event does to a guest: others, targets, configurations, frames that go back.
-use Rattle.std.proofs.Common.{◌≡◌, ◌≢◌, ℕ, Bool, true, false, List, refl, sym, ap, subst}
-use Rattle.std.proofs.Common.{◌∙◌, ◌⊎◌, inl, inr}
-use Rattle.std.specs.Prelude.{Option, Some, None, MatchBool}
+use Rattle.std.proofs.Common.{◌≡◌, ◌≢◌, ℕ, Bool, true, false, List, refl, sym, ap, subst, ◌∙◌, ◌⊎◌}
+use Rattle.std.{proofs.Common.{inl, inr}, specs.Prelude.{Option, Some, None, MatchBool}}
 use Rattle.std.proofs.lemmas.Bool.{cases_eq}
-use Rattle.vb_model.specs.declared.calls.Call.{Call}
 use Rattle.vb_model.specs.declared.calls.Call.TheVariants.{Init, Reset, Alloc, Free, Read, Write}
 use Rattle.vb_model.specs.declared.calls.Call.TheVariants.{Scribble, Inflate, Deflate, Oom, Report}
 use Rattle.vb_model.specs.declared.calls.Call.TheVariants.{Stats, Reap, Take, Work, Finish, Sweep}
-use Rattle.vb_model.specs.declared.calls.Call.TheVariants.{Ask, SetTarget}
-use Rattle.vb_model.specs.declared.calls.Claim.{Claim}
-use Rattle.vb_model.specs.declared.calls.Event.{Event}
+use Rattle.vb_model.specs.StepLaws.{OthersAreUntouched, TargetsAreKept, TargetsAreSet}
+use Rattle.vb_model.specs.StepLaws.{ConfigurationsAreKept, FramesGoBack, RestartedAreHonest}
+use Rattle.vb_model.proofs.Alone.{Own, Nothing_happens, Own_call, New_target, next, scribbled_rogue}
+use Rattle.vb_model.specs.StepLaws.{RoguesAreMade, RoguesStay, ScribblesMakeRogues}
+use Rattle.vb_model.specs.Rogue.{IsRogueAfter, RogueStep, target_after, GuestStep}
+use Rattle.vb_model.specs.declared.replies.Reply.TheVariants.{Done, Refused}
+use Rattle.vb_model.{specs.declared.calls.Call.TheVariants.{Ask, SetTarget}, specs.Step.HonestStep}
+use Rattle.vb_model.proofs.Changes.{with_guest-same, same_some, no_frames}
+use Rattle.vb_model.proofs.Unchanged.{IsScribble, MayBeRogue, step_keeps}
+use Rattle.vb_model.{specs.World.{World, guest_at, with_guest, put_guest}, specs.Life.after_restart}
+use Rattle.vb_model.{specs.declared.replies.Refusal.Refusal, specs.HostEvents.{WorldStep, Happens}}
+use Rattle.vb_model.{specs.declared.replies.Reply.Reply, specs.declared.calls.Claim.Claim}
+use Rattle.vb_model.{specs.declared.calls.Event.Event, specs.declared.calls.Call.Call}
+use Rattle.vb_model.{specs.HostRefusals.world_tests, specs.Guest.{Guest, frame_of}}
+use Rattle.vb_model.{specs.Refusals.first_refusal, proofs.CallSteps.match_cases}
 use Rattle.vb_model.specs.declared.calls.Event.TheVariants.{Plug, Unplug, Restart, Guest as OnGuest}
 use Rattle.vb_model.specs.declared.calls.Event.TheVariants.{Query as Asking, Balance}
 use Rattle.vb_model.specs.declared.calls.Event.TheVariants.{Frames as CountFrames}
-use Rattle.vb_model.specs.declared.replies.Refusal.{Refusal}
-use Rattle.vb_model.specs.declared.replies.Reply.{Reply}
-use Rattle.vb_model.specs.declared.replies.Reply.TheVariants.{Done, Refused}
-use Rattle.vb_model.specs.Guest.{Guest, frame_of}
-use Rattle.vb_model.specs.Refusals.{first_refusal}
-use Rattle.vb_model.specs.Life.{after_restart}
-use Rattle.vb_model.specs.Rogue.{IsRogueAfter, RogueStep, target_after}
-use Rattle.vb_model.specs.Step.{HonestStep}
-use Rattle.vb_model.specs.Rogue.{GuestStep}
-use Rattle.vb_model.specs.World.{World, guest_at, with_guest, put_guest}
-use Rattle.vb_model.specs.HostEvents.{WorldStep, Happens}
-use Rattle.vb_model.specs.HostRefusals.{world_tests}
-use Rattle.vb_model.specs.StepLaws.{OthersAreUntouched, TargetsAreKept, TargetsAreSet}
-use Rattle.vb_model.specs.StepLaws.{ConfigurationsAreKept, FramesGoBack, RestartedAreHonest}
-use Rattle.vb_model.specs.StepLaws.{RoguesAreMade, RoguesStay, ScribblesMakeRogues}
-use Rattle.vb_model.proofs.CallSteps.{match_cases}
-use Rattle.vb_model.proofs.Changes.{with_guest-same, same_some, no_frames}
-use Rattle.vb_model.proofs.Alone.{Own, Nothing_happens, Own_call, New_target, next, scribbled_rogue}
-use Rattle.vb_model.proofs.Unchanged.{IsScribble, MayBeRogue, step_keeps}
 
 -- ---- what becomes of a guest
 

@@ -2,18 +2,14 @@
 use Rattle.std.proofs.Common.{◌≡◌, ℕ, true, false, List, [], ◌∷◌, map, refl}
 use Rattle.std.specs.Prelude.{Bool, Some, None, not, ◌++◌, ◌+◌}
 use Rattle.vb_model.specs.declared.negotiation.TheConstants.{OFFERED_FEATURES, READY_STATUS}
-use Rattle.vb_model.specs.declared.negotiation.TheConstants.{FAILED_STATUS}
 use Rattle.vb_model.specs.declared.replies.Refusal.TheVariants.{ClearsBit, OutOfOrder}
-use Rattle.vb_model.specs.declared.replies.Refusal.TheVariants.{FeatureNotOffered, VersionMissing}
-use Rattle.vb_model.specs.Tests.{has_bit}
-use Rattle.vb_model.specs.Guest.{must_tell_host, stats_vq, deflate_on_oom}
-use Rattle.vb_model.specs.Guest.{reporting, version_1, is_ready}
-use Rattle.vb_model.specs.FirstRefusal.{◌⇒◌, first_refusal}
+use Rattle.vb_model.specs.Guest.{must_tell_host, stats_vq, deflate_on_oom, reporting, version_1}
 use Rattle.vb_model.specs.Status.{negotiate_refusal, status_refusal, negotiate_tests, status_tests}
 use Rattle.vb_model.specs.Status.{needed_tests, contains, acknowledge, driver, driver_ok}
-use Rattle.vb_model.specs.Status.{features_ok, failed}
-use Rattle.vb_model.specs.Life.{feature_refusal}
-use Rattle.vb_model.proofs.Samples.{ready}
+use Rattle.vb_model.specs.declared.replies.Refusal.TheVariants.{FeatureNotOffered, VersionMissing}
+use Rattle.vb_model.{specs.declared.negotiation.TheConstants.FAILED_STATUS, specs.Guest.is_ready}
+use Rattle.vb_model.{specs.FirstRefusal.{◌⇒◌, first_refusal}, specs.Status.{features_ok, failed}}
+use Rattle.vb_model.{specs.Life.feature_refusal, proofs.Samples.ready, specs.Tests.has_bit}
 
 -- ---- MUST_TELL_HOST, STATS_VQ, DEFLATE_ON_OOM, REPORTING and VERSION_1 are bits 0, 1, 2, 5 and 32
 

@@ -1,38 +1,27 @@
 -- Every course of a guest is safe, and so is every history.
-use Rattle.std.proofs.Common.{◌≡◌, ℕ, zero, suc, ◌+◌, ◌<◌, Bool, true, false, List, []}
-use Rattle.std.proofs.Common.{◌∷◌, refl, sym, ap, subst, ◌∙◌, inl, arith, ◌≢◌, length, get_or}
-use Rattle.std.proofs.Common.{drop, cond}
+use Rattle.std.proofs.Common.{◌≡◌, ℕ, zero, suc, ◌+◌, ◌<◌, Bool, true, false, List, [], ◌∷◌, refl}
+use Rattle.std.proofs.Common.{sym, ap, subst, ◌∙◌, inl, arith, ◌≢◌, length, get_or, drop, cond}
 use Rattle.std.specs.Prelude.{Option, Some, None, slice_get, ◌==◌, IsTrue, ◌↔◌}
 use Rattle.std.proofs.lemmas.Bool.{eq-eqb}
 use Rattle.std.proofs.lemmas.List.{get_or-take, get_or-drop, length-take-le, length-drop}
-use Rattle.vb_model.specs.declared.places.Place.TheVariants.{Used, Lent}
-use Rattle.vb_model.specs.declared.calls.Actor.{Actor}
-use Rattle.vb_model.specs.declared.calls.Call.{Call}
-use Rattle.vb_model.specs.declared.calls.Call.TheVariants.{Read, Write}
-use Rattle.vb_model.specs.declared.calls.Claim.{Claim}
+use Rattle.vb_model.specs.Courses.{Course, guest_after, IsCall, IsAt, IsWriteTo, StaysOrLoses}
+use Rattle.vb_model.proofs.Courses.{IsFit, fresh_fit, EntryAt, Positions, positions, as_guest}
+use Rattle.vb_model.{specs.declared.places.Place.TheVariants.{Used, Lent}, specs.Driver.contents_of}
+use Rattle.vb_model.{specs.declared.calls.Actor.Actor, specs.declared.calls.Call.Call}
+use Rattle.vb_model.{specs.declared.calls.Call.TheVariants.{Read, Write}, specs.Step.HonestStep}
+use Rattle.vb_model.{specs.declared.calls.Claim.Claim, specs.declared.replies.Reply.Reply}
 use Rattle.vb_model.specs.declared.replies.Refusal.TheVariants.{RingBroken, Broken}
-use Rattle.vb_model.specs.declared.replies.Reply.{Reply}
 use Rattle.vb_model.specs.declared.replies.Reply.TheVariants.{Done, ReadBytes, Refused}
-use Rattle.vb_model.specs.Requests.{all_requests}
-use Rattle.vb_model.specs.Guest.{Guest, Config, frame_of, is_ballooned}
-use Rattle.vb_model.specs.Driver.{contents_of}
-use Rattle.vb_model.specs.Step.{HonestStep}
-use Rattle.vb_model.specs.Consistent.{IsConsistent}
+use Rattle.vb_model.{specs.Requests.all_requests, specs.Consistent.IsConsistent}
+use Rattle.vb_model.{specs.Guest.{Guest, Config, frame_of, is_ballooned}, proofs.Changes.same_some}
 use Rattle.vb_model.specs.GuestRun.{Entry, Called, Looked, EntryStep, OwnStep, Leads, IsHistory}
-use Rattle.vb_model.specs.Courses.{Course, guest_after, IsCall, IsAt}
-use Rattle.vb_model.specs.Courses.{IsWriteTo, StaysOrLoses, byte_of}
-use Rattle.vb_model.specs.Courses.{byte_written, byte_after, last_put, StaysHeld}
+use Rattle.vb_model.specs.Courses.{byte_of, byte_written, byte_after, last_put, StaysHeld}
 use Rattle.vb_model.specs.Histories.{BothAgree, IsSafeCourse, IsSafeHistory}
-use Rattle.vb_model.specs.SafeLaws.{UsedPagesStay}
-use Rattle.vb_model.proofs.PageSteps.{naming-all}
-use Rattle.vb_model.proofs.Unchanged.{step_keeps}
-use Rattle.vb_model.proofs.Kept.{honest_keeps_frame, used_page}
-use Rattle.vb_model.proofs.Contents.{honest_same}
-use Rattle.vb_model.proofs.Faults.{honest_no_fault, is_fault}
+use Rattle.vb_model.{specs.SafeLaws.UsedPagesStay, proofs.PageSteps.naming-all}
+use Rattle.vb_model.{proofs.Unchanged.step_keeps, proofs.Kept.{honest_keeps_frame, used_page}}
+use Rattle.vb_model.{proofs.Contents.honest_same, proofs.Faults.{honest_no_fault, is_fault}}
 use Rattle.vb_model.proofs.LastWrites.{write_step, read_step, overwritten_byte}
-use Rattle.vb_model.proofs.Changes.{same_some}
-use Rattle.vb_model.proofs.Courses.{IsFit, fresh_fit, EntryAt, Positions, positions, as_guest, some_own}
-use Rattle.vb_model.proofs.Asked.{told_first}
+use Rattle.vb_model.{proofs.Courses.some_own, proofs.Asked.told_first}
 
 -- ---- driver and device
 

@@ -2,17 +2,14 @@
 -- entry leads to, and ends in the last.
 use Rattle.std.proofs.Common.{◌≡◌, ℕ, List, [], ◌∷◌, refl, ap, arith}
 use Rattle.std.specs.Prelude.{Option, Some, None}
+use Rattle.vb_model.specs.GuestRun.{Entry, Called, Looked, Leads, last_guest, all_entries}
 use Rattle.vb_model.specs.declared.calls.Actor.TheVariants.{Balancer, Processor}
-use Rattle.vb_model.specs.declared.calls.Call.{Call}
+use Rattle.vb_model.{specs.declared.calls.Call.Call, specs.declared.replies.Reply.Reply}
 use Rattle.vb_model.specs.declared.calls.Call.TheVariants.{SetTarget, Work}
-use Rattle.vb_model.specs.declared.replies.Refusal.TheVariants.{NotReady}
-use Rattle.vb_model.specs.declared.replies.Reply.{Reply}
+use Rattle.vb_model.{specs.declared.replies.Refusal.TheVariants.NotReady, specs.GuestRun.IsHistory}
 use Rattle.vb_model.specs.declared.replies.Reply.TheVariants.{Done, Idle, Refused}
-use Rattle.vb_model.specs.Guest.{Guest, fresh}
-use Rattle.vb_model.specs.GuestRun.{Entry, Called, Looked, Leads, last_guest, all_entries, IsHistory}
-use Rattle.vb_model.specs.Histories.{IsSafeCourse, IsSafeHistory}
-use Rattle.vb_model.proofs.Histories.{history_is_safe}
-use Rattle.vb_model.proofs.Samples.{config, ready, down}
+use Rattle.vb_model.{specs.Guest.{Guest, fresh}, specs.Histories.{IsSafeCourse, IsSafeHistory}}
+use Rattle.vb_model.{proofs.Histories.history_is_safe, proofs.Samples.{config, ready, down}}
 
 abbrev Same : ℕ → ℕ → Type 0
 Same a b = a ≡ b

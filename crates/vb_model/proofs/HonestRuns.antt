@@ -1,14 +1,9 @@
 -- A guest stays honest until it scribbles.
-use Rattle.std.proofs.Common.{◌≡◌, ℕ, zero, suc, ◌+◌, ap, subst}
-use Rattle.std.proofs.Common.{◌∙◌, arith}
+use Rattle.std.proofs.Common.{◌≡◌, ℕ, zero, suc, ◌+◌, ap, subst, ◌∙◌, arith}
 use Rattle.std.specs.Prelude.{Option, Some, IsFalse}
-use Rattle.vb_model.specs.declared.calls.Event.{Event}
-use Rattle.vb_model.specs.Guest.{Guest}
-use Rattle.vb_model.specs.Run.{History, guest_in}
-use Rattle.vb_model.specs.Safe.{IsHonest}
-use Rattle.vb_model.specs.HonestRuns.{IsThere, MakesNoScribble, HonestStay}
-use Rattle.vb_model.proofs.Fates.{rogues_made}
-use Rattle.vb_model.proofs.Runs.{Positions, positions, guest_there}
+use Rattle.vb_model.{specs.HonestRuns.{IsThere, MakesNoScribble, HonestStay}, specs.Safe.IsHonest}
+use Rattle.vb_model.{proofs.Runs.{Positions, positions, guest_there}, specs.Run.{History, guest_in}}
+use Rattle.vb_model.{specs.declared.calls.Event.Event, proofs.Fates.rogues_made, specs.Guest.Guest}
 
 still_honest : (h : History) → Positions h → (n i k : ℕ) (g new : Guest) → IsThere h n i k
     → MakesNoScribble h n i k → IsHonest h n i g → guest_in h n (i + k) ≡ Some new

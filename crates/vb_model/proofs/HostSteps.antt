@@ -1,31 +1,22 @@
 -- The host's events are determined, but for the number of a new guest and want of memory.
-use Rattle.std.proofs.Common.{◌≡◌, ◌≢◌, ℕ, Bool, true, false, List, [], ◌∷◌, sym, ap, ◌∙◌}
-use Rattle.std.proofs.Common.{inl, inr}
+use Rattle.std.proofs.Common.{◌≡◌, ◌≢◌, ℕ, Bool, true, false, List, [], ◌∷◌, sym, ap, ◌∙◌, inl, inr}
 use Rattle.std.specs.Prelude.{Option, Some, None, MatchOption, MatchBool, ◌==◌, ⊤}
+use Rattle.vb_model.specs.declared.replies.Reply.TheVariants.{Plugged, Done, Targets, Refused}
+use Rattle.vb_model.specs.HostEvents.{Happens, Plugs, PlugsIn, Calls, after_balance, needs}
 use Rattle.vb_model.specs.declared.calls.Event.TheVariants.{Plug, Unplug, Restart}
+use Rattle.vb_model.specs.declared.replies.Refusal.TheVariants.{NoMemory, Short}
+use Rattle.vb_model.{specs.World.{World, guest_at, with_guest, put_guest}, specs.Life.after_restart}
+use Rattle.vb_model.{specs.HostLaws.{HostStepsAgree, CallsLeaveTheHost}, specs.Queries.Answers}
+use Rattle.vb_model.{specs.declared.replies.Refusal.Refusal, specs.Balance.{AreTargets, shortage}}
+use Rattle.vb_model.{specs.declared.replies.Reply.Reply, specs.Guest.{Guest, Config, fresh}}
+use Rattle.vb_model.{specs.declared.calls.Query.Query, specs.FirstRefusal.first_refusal}
+use Rattle.vb_model.{specs.HostRefusals.world_tests, proofs.Unique.unique}
 use Rattle.vb_model.specs.declared.calls.Event.TheVariants.{Guest as OnGuest, Query as Asking}
 use Rattle.vb_model.specs.declared.calls.Event.TheVariants.{Balance, Frames as CountFrames}
-use Rattle.vb_model.specs.declared.calls.Query.{Query}
 use Rattle.vb_model.specs.declared.calls.Query.TheVariants.{Places as AskPlaces, PagesAt}
 use Rattle.vb_model.specs.declared.calls.Query.TheVariants.{PagesBallooned, Balloon as AskBalloon}
 use Rattle.vb_model.specs.declared.calls.Query.TheVariants.{Memory as AskMemory}
 use Rattle.vb_model.specs.declared.calls.Query.TheVariants.{Backing as AskBacking}
-use Rattle.vb_model.specs.declared.replies.Refusal.{Refusal}
-use Rattle.vb_model.specs.declared.replies.Refusal.TheVariants.{NoMemory, Short}
-use Rattle.vb_model.specs.declared.replies.Reply.{Reply}
-use Rattle.vb_model.specs.declared.replies.Reply.TheVariants.{Plugged, Done, Targets, Refused}
-use Rattle.vb_model.specs.FirstRefusal.{first_refusal}
-use Rattle.vb_model.specs.Guest.{Guest, Config, fresh}
-use Rattle.vb_model.specs.Life.{after_restart}
-use Rattle.vb_model.specs.Balance.{AreTargets, shortage}
-use Rattle.vb_model.specs.World.{World}
-use Rattle.vb_model.specs.HostEvents.{Happens, Plugs, PlugsIn, Calls, after_balance}
-use Rattle.vb_model.specs.Queries.{Answers}
-use Rattle.vb_model.specs.HostRefusals.{world_tests}
-use Rattle.vb_model.specs.World.{guest_at, with_guest, put_guest}
-use Rattle.vb_model.specs.HostEvents.{needs}
-use Rattle.vb_model.specs.HostLaws.{HostStepsAgree, CallsLeaveTheHost}
-use Rattle.vb_model.proofs.Unique.{unique}
 
 -- either the event is refused for this, and nothing is changed, or this happens
 abbrev Either : Option Refusal → World → Reply → World → Type 0 → Type 0

@@ -1,18 +1,14 @@
 -- Each kind of step keeps the requests of one kind in order.
 use Rattle.std.proofs.Common.{◌≡◌, ℕ, zero, suc, ◌+◌, ◌<◌, ◌≤◌, Bool, true, false, cond, List, []}
 use Rattle.std.proofs.Common.{◌∷◌, ◌++◌, length, get_or, take, drop, refl, ap, subst, ◌∙◌, arith}
-use Rattle.std.specs.Prelude.{◌==◌, slice_get, Some, remove}
-use Rattle.std.proofs.lemmas.List.{length-append}
-use Rattle.std.proofs.lemmas.List.Edits.{length-remove}
-use Rattle.std.proofs.lemmas.List.Sums.{sum_by-remove}
+use Rattle.std.{specs.Prelude.{◌==◌, slice_get, Some, remove}, proofs.lemmas.List.length-append}
+use Rattle.std.{proofs.lemmas.List.Edits.length-remove, proofs.lemmas.List.Sums.sum_by-remove}
 use Rattle.std.proofs.lemmas.Option.{get_or_from_slice_get, slice_get_within}
-use Rattle.vb_model.specs.Tests.{one_if}
-use Rattle.vb_model.specs.Requests.{Request, Requests, all_requests, headed}
-use Rattle.vb_model.specs.Requests.{outstanding, posting, IsLeastHead}
-use Rattle.vb_model.specs.Device.{visiting, is_unvisited}
+use Rattle.vb_model.specs.Requests.{Request, Requests, all_requests, headed, outstanding, posting}
 use Rattle.vb_model.specs.Orderly.{times, IsRequestSound, AllRequestsSound, AreOrderly}
-use Rattle.vb_model.proofs.Tables.{count_by-append, count_by-cons}
-use Rattle.vb_model.proofs.PageSteps.{after_take, after_finish, after_reap}
+use Rattle.vb_model.{proofs.PageSteps.{after_take, after_finish, after_reap}, specs.Tests.one_if}
+use Rattle.vb_model.{proofs.Tables.{count_by-append, count_by-cons}, specs.Requests.IsLeastHead}
+use Rattle.vb_model.specs.Device.{visiting, is_unvisited}
 
 -- ---- how many requests have a head
 

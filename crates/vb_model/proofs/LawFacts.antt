@@ -1,30 +1,23 @@
 -- Worked facts of the words in which the laws over single steps are stated.
-use Rattle.std.proofs.Common.{◌≡◌, ℕ, ◌<◌, List, [], ◌∷◌, ◌++◌, true, false, map, replicate}
-use Rattle.std.proofs.Common.{refl, ap, ◌⊎◌, inl, inr, length, arith}
+use Rattle.std.proofs.Common.{◌≡◌, ℕ, ◌<◌, List, [], ◌∷◌, ◌++◌, true, false, map, replicate, refl}
+use Rattle.std.{proofs.Common.{ap, ◌⊎◌, inl, inr, length, arith}, specs.List.range_with_len}
 use Rattle.std.specs.Prelude.{Bool, Option, Some, None, unwrap_or, IsTrue}
-use Rattle.vb_model.specs.declared.places.Place.TheVariants.{Reserved, Used, Lent}
 use Rattle.vb_model.specs.declared.calls.Call.TheVariants.{Init, Reset, Read, Write, Scribble, Work}
-use Rattle.vb_model.specs.declared.calls.Call.TheVariants.{Inflate, Take}
-use Rattle.vb_model.specs.declared.calls.Event.TheVariants.{Unplug, Restart}
-use Rattle.vb_model.specs.declared.calls.Event.TheVariants.{Guest as OnGuest, Query as Asking}
-use Rattle.vb_model.specs.declared.calls.Event.TheVariants.{Balance, Frames as CountFrames}
 use Rattle.vb_model.specs.declared.calls.Query.TheVariants.{Places, PagesAt, PagesBallooned}
-use Rattle.vb_model.specs.declared.calls.Query.TheVariants.{Balloon, Memory, Backing}
-use Rattle.vb_model.specs.declared.calls.Event.{Event}
 use Rattle.vb_model.specs.declared.replies.Refusal.TheVariants.{NotHeld, VersionMissing, NoFrame}
+use Rattle.vb_model.specs.StepLaws.{IsOfOthers, HasNoFrame, WantOfFrames, may_want_memory}
+use Rattle.vb_model.specs.declared.places.Place.TheVariants.{Reserved, Used, Lent}
+use Rattle.vb_model.{specs.declared.calls.Call.TheVariants.{Inflate, Take}, specs.Tests.is_in}
+use Rattle.vb_model.{specs.declared.calls.Event.TheVariants.{Unplug, Restart}, specs.Guest.Guest}
+use Rattle.vb_model.specs.declared.calls.Query.TheVariants.{Balloon, Memory, Backing}
+use Rattle.vb_model.{specs.declared.calls.Event.Event, specs.World.World, specs.HostFrames.IsOut}
 use Rattle.vb_model.specs.declared.replies.Refusal.TheVariants.{NoDevice}
 use Rattle.vb_model.specs.declared.replies.Reply.TheVariants.{Plugged, Done, Frames, Refused}
-use Rattle.vb_model.specs.Tests.{is_in}
-use Rattle.vb_model.specs.Guest.{Guest}
-use Rattle.vb_model.specs.World.{World}
-use Rattle.vb_model.specs.HostFrames.{IsOut}
-use Rattle.vb_model.specs.HostLaws.{WorldsAgree}
-use Rattle.vb_model.specs.StepLaws.{IsOfOthers, HasNoFrame, WantOfFrames, may_want_memory}
+use Rattle.vb_model.{specs.HostLaws.WorldsAgree, specs.declared.calls.Claim.Claim}
 use Rattle.vb_model.specs.StepLaws.{HasNoReservedBallooned, IsUnchanged, call_may_want}
-use Rattle.vb_model.specs.declared.calls.Claim.{Claim}
-use Rattle.vb_model.specs.declared.calls.Claim.TheVariants.{Gave}
-use Rattle.std.specs.List.{range_with_len}
-use Rattle.vb_model.proofs.Samples.{ready, plug}
+use Rattle.vb_model.{specs.declared.calls.Claim.TheVariants.Gave, proofs.Samples.{ready, plug}}
+use Rattle.vb_model.specs.declared.calls.Event.TheVariants.{Guest as OnGuest, Query as Asking}
+use Rattle.vb_model.specs.declared.calls.Event.TheVariants.{Balance, Frames as CountFrames}
 
 abbrev Same : ℕ → ℕ → Type 0
 Same a b = a ≡ b

@@ -2,31 +2,22 @@
 -- and both ways where they say so.
 use Rattle.std.proofs.Common.{◌≡◌, ℕ, true, false, List, [], ◌∷◌, refl, ◌⊎◌, inl, inr, arith}
 use Rattle.std.specs.Prelude.{Option, Some, unwrap_or, IsTrue}
-use Rattle.vb_model.specs.declared.calls.Call.{Call}
-use Rattle.vb_model.specs.declared.calls.Call.TheVariants.{Init, Write, Scribble, Deflate, Work, Reap}
-use Rattle.vb_model.specs.declared.calls.Call.TheVariants.{SetTarget}
-use Rattle.vb_model.specs.declared.calls.Claim.{Claim}
-use Rattle.vb_model.specs.declared.calls.Claim.TheVariants.{Gave}
-use Rattle.vb_model.specs.declared.calls.Event.TheVariants.{Unplug, Restart, Guest as OnGuest}
-use Rattle.vb_model.specs.declared.replies.Refusal.TheVariants.{NoFrame, NoMemory}
-use Rattle.vb_model.specs.declared.replies.Reply.{Reply}
-use Rattle.vb_model.specs.declared.replies.Reply.TheVariants.{Done, Refused}
-use Rattle.vb_model.specs.Guest.{Guest, frame_of, tells_host}
-use Rattle.vb_model.specs.Driver.{claim_refusal}
-use Rattle.vb_model.specs.Rogue.{pages_to_back, is_read}
-use Rattle.vb_model.specs.Step.{HonestStep}
-use Rattle.vb_model.specs.Rogue.{GuestStep}
-use Rattle.vb_model.specs.Consistent.{IsConsistent}
-use Rattle.vb_model.specs.Orderly.{IsOrderly}
-use Rattle.vb_model.specs.World.{World, guest_at}
-use Rattle.vb_model.specs.HostEvents.{WorldStep}
+use Rattle.vb_model.specs.declared.calls.Call.TheVariants.{Init, Write, Scribble, Deflate, Work}
 use Rattle.vb_model.specs.StepLaws.{Follows, TargetsAreKept, TargetsAreSet, ConfigurationsAreKept}
 use Rattle.vb_model.specs.StepLaws.{HasNoFrame, FramesGoBack, RestartedAreHonest, RoguesAreMade}
 use Rattle.vb_model.specs.StepLaws.{ScribblesMakeRogues, RoguesStay, IsGiven, FramesEnterByClaims}
 use Rattle.vb_model.specs.StepLaws.{RefusedClaimsAreAnswered, WantOfFrames, NoFrameIsExact}
-use Rattle.vb_model.specs.StepLaws.{WantIsAnswered, NoMemoryIsExact}
-use Rattle.vb_model.specs.Determined.{HonestStepsAgree}
-use Rattle.vb_model.specs.Telling.{ToldStep, ToldStepsAgree}
+use Rattle.vb_model.{specs.declared.calls.Call.Call, specs.declared.calls.Claim.Claim}
+use Rattle.vb_model.{specs.declared.calls.Call.TheVariants.{Reap, SetTarget}, specs.Step.HonestStep}
+use Rattle.vb_model.{specs.declared.calls.Claim.TheVariants.Gave, specs.Driver.claim_refusal}
+use Rattle.vb_model.specs.declared.replies.Refusal.TheVariants.{NoFrame, NoMemory}
+use Rattle.vb_model.{specs.declared.replies.Reply.Reply, specs.Guest.{Guest, frame_of, tells_host}}
+use Rattle.vb_model.specs.declared.replies.Reply.TheVariants.{Done, Refused}
+use Rattle.vb_model.{specs.Rogue.{pages_to_back, is_read, GuestStep}, specs.Consistent.IsConsistent}
+use Rattle.vb_model.{specs.Orderly.IsOrderly, specs.World.{World, guest_at}}
+use Rattle.vb_model.{specs.HostEvents.WorldStep, specs.StepLaws.{WantIsAnswered, NoMemoryIsExact}}
+use Rattle.vb_model.{specs.Determined.HonestStepsAgree, specs.Telling.{ToldStep, ToldStepsAgree}}
+use Rattle.vb_model.specs.declared.calls.Event.TheVariants.{Unplug, Restart, Guest as OnGuest}
 
 -- ---- targets and configurations, of rogue guests too
 

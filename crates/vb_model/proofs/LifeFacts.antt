@@ -1,26 +1,19 @@
 -- Worked facts of a guest's lives: initialisation, reset, restart and unplugging.
 use Rattle.std.proofs.Common.{◌≡◌, ℕ, ◌+◌, true, false, List, [], ◌∷◌, ◌++◌, map, replicate, refl}
-use Rattle.std.specs.Prelude.{Option, Some, None}
-use Rattle.std.specs.List.{range_with_len}
-use Rattle.vb_model.specs.declared.places.Place.TheVariants.{Reserved, Free as FreePlace, Used}
-use Rattle.vb_model.specs.declared.places.Place.TheVariants.{Stranded}
-use Rattle.vb_model.specs.declared.calls.Call.TheVariants.{Init, Reset}
-use Rattle.vb_model.specs.declared.calls.Claim.{Claim}
+use Rattle.std.{specs.Prelude.{Option, Some, None}, specs.List.range_with_len}
+use Rattle.vb_model.specs.declared.replies.Refusal.TheVariants.{AlreadyUp, NoFrame, NoMemory}
+use Rattle.vb_model.{specs.declared.places.Place.TheVariants.Stranded, specs.Refusals.refusal_of}
+use Rattle.vb_model.{specs.declared.calls.Call.TheVariants.{Init, Reset}, specs.Driver.AreClaimsFor}
+use Rattle.vb_model.{specs.declared.calls.Claim.Claim, specs.Step.HonestStep, specs.World.World}
 use Rattle.vb_model.specs.declared.calls.Claim.TheVariants.{Gave, GaveNoFrame, GaveNoMemory}
 use Rattle.vb_model.specs.declared.calls.Event.TheVariants.{Unplug, Restart}
-use Rattle.vb_model.specs.declared.replies.Refusal.TheVariants.{AlreadyUp, NoFrame, NoMemory}
 use Rattle.vb_model.specs.declared.replies.Refusal.TheVariants.{FeatureNotOffered, VersionMissing}
 use Rattle.vb_model.specs.declared.replies.Reply.TheVariants.{Ready, Done, Refused}
 use Rattle.vb_model.specs.Requests.{Requests, no_requests, NoBuffer, BufferPosted, BufferTaken}
-use Rattle.vb_model.specs.Guest.{Guest, zero_page, no_statistics}
-use Rattle.vb_model.specs.Refusals.{refusal_of}
-use Rattle.vb_model.specs.Driver.{AreClaimsFor}
-use Rattle.vb_model.specs.Life.{after_reset, after_restart, lacking}
-use Rattle.vb_model.specs.Step.{HonestStep}
-use Rattle.vb_model.specs.World.{World}
-use Rattle.vb_model.specs.HostEvents.{WorldStep}
-use Rattle.vb_model.specs.HostFrames.{used_frames}
+use Rattle.vb_model.{specs.Guest.{Guest, zero_page, no_statistics}, specs.HostEvents.WorldStep}
+use Rattle.vb_model.{specs.Life.{after_reset, after_restart, lacking}, specs.HostFrames.used_frames}
 use Rattle.vb_model.proofs.Samples.{config, ready, down, mixed_places, request}
+use Rattle.vb_model.specs.declared.places.Place.TheVariants.{Reserved, Free as FreePlace, Used}
 
 -- ---- a guest with something in every field
 

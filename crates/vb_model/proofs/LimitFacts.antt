@@ -7,23 +7,22 @@ use Rattle.vb_model.specs.declared.limits.TheConstants.{MAX_REQUEST_PAGES, MAX_G
 use Rattle.vb_model.specs.declared.limits.TheConstants.{MIN_GUEST_PAGES, MAX_GUEST_PAGES}
 use Rattle.vb_model.specs.declared.limits.TheConstants.{MIN_QUEUE_SIZE, MAX_QUEUE_SIZE}
 use Rattle.vb_model.specs.declared.limits.TheConstants.{MAX_PROCESSORS, MAX_FRAMES}
-use Rattle.vb_model.specs.declared.limits.TheConstants.{MAX_REPORT_PIECES}
 use Rattle.vb_model.specs.declared.layout.TheConstants.{STATISTIC_SIZE, MAX_STATISTICS_LENGTH}
 use Rattle.vb_model.specs.declared.layout.TheConstants.{FREE_MEMORY_TAG, TOTAL_MEMORY_TAG}
 use Rattle.vb_model.specs.declared.layout.TheConstants.{INFLATE_QUEUE, DEFLATE_QUEUE}
 use Rattle.vb_model.specs.declared.layout.TheConstants.{STATISTICS_QUEUE, REPORT_QUEUE}
-use Rattle.vb_model.specs.declared.layout.TheConstants.{MAX_QUEUE_SIZE_OF_A_PAGE}
-use Rattle.vb_model.specs.declared.layout.TheConstants.{FIRST_RING_PAGE, FIRST_RING_PAGE_OF_TWO}
-use Rattle.vb_model.specs.declared.layout.TheConstants.{RESERVED_PAGES, RESERVED_PAGES_OF_TWO}
-use Rattle.vb_model.specs.declared.layout.TheConstants.{REQUEST_BUFFER_SIZE, INFLATE_BUFFERS_PAGE}
-use Rattle.vb_model.specs.declared.layout.TheConstants.{DEFLATE_BUFFERS_PAGE, STATISTICS_PAGE}
-use Rattle.vb_model.specs.Limits.{page_size, max_order}
-use Rattle.vb_model.specs.Limits.{min_reported_order, max_outstanding, max_request_pages}
-use Rattle.vb_model.specs.Limits.{max_guests, max_frames, is_power_of_two, is_config}
-use Rattle.vb_model.specs.Status.{acknowledge, driver, features_ok, driver_ok, needs_reset, failed}
+use Rattle.vb_model.specs.declared.layout.TheConstants.{MAX_QUEUE_SIZE_OF_A_PAGE, FIRST_RING_PAGE}
+use Rattle.vb_model.specs.declared.layout.TheConstants.{FIRST_RING_PAGE_OF_TWO, RESERVED_PAGES}
+use Rattle.vb_model.specs.declared.layout.TheConstants.{RESERVED_PAGES_OF_TWO, REQUEST_BUFFER_SIZE}
+use Rattle.vb_model.specs.declared.layout.TheConstants.{INFLATE_BUFFERS_PAGE, DEFLATE_BUFFERS_PAGE}
+use Rattle.vb_model.specs.Limits.{page_size, max_order, min_reported_order, max_outstanding}
+use Rattle.vb_model.specs.Limits.{max_request_pages, max_guests, max_frames, is_power_of_two}
 use Rattle.vb_model.specs.Layout.{takes_two_pages, reserved_pages, ring_number, ring_page}
-use Rattle.vb_model.specs.Layout.{is_ring_page, is_start_page, start_pages}
-use Rattle.vb_model.specs.Layout.{buffers_page, buffer_page, buffer_offset}
+use Rattle.vb_model.specs.Layout.{is_ring_page, is_start_page, start_pages, buffers_page}
+use Rattle.vb_model.{specs.declared.limits.TheConstants.MAX_REPORT_PIECES, specs.Limits.is_config}
+use Rattle.vb_model.specs.declared.layout.TheConstants.{STATISTICS_PAGE}
+use Rattle.vb_model.specs.Status.{acknowledge, driver, features_ok, driver_ok, needs_reset, failed}
+use Rattle.vb_model.specs.Layout.{buffer_page, buffer_offset}
 
 -- bytes of a page; the pages of a guest are so many or a multiple of them
 pages_are : PAGE_SIZE ∷ GUEST_PAGES_STEP ∷ [] ≡ 4096 ∷ 16 ∷ []

@@ -1,18 +1,15 @@
 -- Worked facts of reads and writes.
 use Rattle.std.proofs.Common.{◌≡◌, ℕ, List, [], ◌∷◌, ◌++◌, map, replicate, refl, inl, inr}
 use Rattle.std.specs.Prelude.{Option, Some, None, drop}
-use Rattle.vb_model.specs.declared.places.Place.TheVariants.{Reserved, Free as FreePlace, Used}
-use Rattle.vb_model.specs.declared.places.Place.TheVariants.{Lent}
+use Rattle.vb_model.specs.declared.replies.Refusal.TheVariants.{BadOrder, BadCpu, NotHeld, OutOfRam}
+use Rattle.vb_model.{specs.declared.places.Place.TheVariants.Lent, specs.Guest.{Guest, zero_page}}
 use Rattle.vb_model.specs.declared.calls.Call.TheVariants.{Alloc, Free, Read, Write}
 use Rattle.vb_model.specs.declared.calls.Claim.TheVariants.{Gave, GaveNoFrame, GaveNoMemory}
-use Rattle.vb_model.specs.declared.replies.Refusal.TheVariants.{BadOrder, BadCpu, NotHeld, OutOfRam}
 use Rattle.vb_model.specs.declared.replies.Refusal.TheVariants.{NoFrame, NoMemory}
 use Rattle.vb_model.specs.declared.replies.Reply.TheVariants.{Done, ReadBytes, Refused}
-use Rattle.vb_model.specs.Guest.{Guest, zero_page}
-use Rattle.vb_model.specs.Refusals.{refusal_of}
-use Rattle.vb_model.specs.Driver.{pages_needed}
-use Rattle.vb_model.specs.Step.{HonestStep}
+use Rattle.vb_model.{specs.Refusals.refusal_of, specs.Driver.pages_needed, specs.Step.HonestStep}
 use Rattle.vb_model.proofs.Samples.{config, ready, down}
+use Rattle.vb_model.specs.declared.places.Place.TheVariants.{Reserved, Free as FreePlace, Used}
 
 -- pages 16 to 18 are used; pages 16 and 17 have frames. A short list stands for the bytes of a page
 abbrev frames : Option ℕ → List (Option ℕ)

@@ -1,37 +1,26 @@
 -- Which events may find no memory, and that nothing is changed then.
 use Rattle.std.proofs.Common.{sym, ◌≡◌, ℕ, zero, suc, Bool, true, false, List, [], ◌∷◌, refl, ap}
-use Rattle.std.proofs.Common.{◌∙◌, ◌⊎◌, inl, inr}
-use Rattle.std.specs.Prelude.{◌||◌, not, Option, Some}
-use Rattle.vb_model.specs.declared.calls.Call.{Call}
-use Rattle.vb_model.specs.declared.calls.Claim.{Claim}
-use Rattle.vb_model.specs.declared.calls.Event.{Event}
+use Rattle.std.{proofs.Common.{◌∙◌, ◌⊎◌, inl, inr}, specs.Prelude.{◌||◌, not, Option, Some}}
+use Rattle.vb_model.specs.StepLaws.{WantsChangeNothing, may_want_memory, call_may_want, is_none_of}
+use Rattle.vb_model.proofs.Wanting.{wants, none_wants, refused_otherwise, claims_needed, no_want}
+use Rattle.vb_model.{specs.declared.calls.Call.Call, specs.declared.calls.Claim.Claim}
+use Rattle.vb_model.{specs.declared.calls.Event.Event, specs.declared.calls.Query.Query}
+use Rattle.vb_model.{specs.declared.replies.Refusal.TheVariants.NoMemory, specs.Guest.Guest}
+use Rattle.vb_model.{specs.declared.replies.Reply.Reply, specs.FirstRefusal.first_refusal}
+use Rattle.vb_model.specs.declared.replies.Reply.TheVariants.{Done, Refused}
+use Rattle.vb_model.{specs.Driver.{AreClaimsFor, claim_refusal}, specs.Life.after_restart}
+use Rattle.vb_model.{specs.Rogue.{pages_to_back, is_read}, specs.Queries.Answers}
+use Rattle.vb_model.proofs.Changes.{Balanced, Sets, Comes_up_short, balance_cases}
+use Rattle.vb_model.{specs.World.{World, guest_at, with_guest, put_guest}, specs.StepLaws.is_list}
+use Rattle.vb_model.{specs.HostEvents.{Happens, Calls, PlugsIn}, specs.HostRefusals.world_tests}
+use Rattle.vb_model.{proofs.CallSteps.match_cases, proofs.Wanting.no_memory_exact}
 use Rattle.vb_model.specs.declared.calls.Event.TheVariants.{Plug, Unplug, Restart, Guest as OnGuest}
 use Rattle.vb_model.specs.declared.calls.Event.TheVariants.{Query as Asking, Balance}
 use Rattle.vb_model.specs.declared.calls.Event.TheVariants.{Frames as CountFrames}
-use Rattle.vb_model.specs.declared.calls.Query.{Query}
 use Rattle.vb_model.specs.declared.calls.Query.TheVariants.{Places as AskPlaces, PagesAt}
 use Rattle.vb_model.specs.declared.calls.Query.TheVariants.{PagesBallooned, Balloon as AskBalloon}
 use Rattle.vb_model.specs.declared.calls.Query.TheVariants.{Memory as AskMemory}
 use Rattle.vb_model.specs.declared.calls.Query.TheVariants.{Backing as AskBacking}
-use Rattle.vb_model.specs.declared.replies.Refusal.TheVariants.{NoMemory}
-use Rattle.vb_model.specs.declared.replies.Reply.{Reply}
-use Rattle.vb_model.specs.declared.replies.Reply.TheVariants.{Done, Refused}
-use Rattle.vb_model.specs.FirstRefusal.{first_refusal}
-use Rattle.vb_model.specs.Guest.{Guest}
-use Rattle.vb_model.specs.Driver.{AreClaimsFor, claim_refusal}
-use Rattle.vb_model.specs.Life.{after_restart}
-use Rattle.vb_model.specs.Rogue.{pages_to_back, is_read}
-use Rattle.vb_model.proofs.Changes.{Balanced, Sets, Comes_up_short, balance_cases}
-use Rattle.vb_model.specs.World.{World, guest_at}
-use Rattle.vb_model.specs.HostEvents.{Happens, Calls, PlugsIn}
-use Rattle.vb_model.specs.Queries.{Answers}
-use Rattle.vb_model.specs.World.{with_guest, put_guest}
-use Rattle.vb_model.specs.HostRefusals.{world_tests}
-use Rattle.vb_model.specs.StepLaws.{WantsChangeNothing, may_want_memory, call_may_want, is_none_of}
-use Rattle.vb_model.specs.StepLaws.{is_list}
-use Rattle.vb_model.proofs.CallSteps.{match_cases}
-use Rattle.vb_model.proofs.Wanting.{wants, none_wants, refused_otherwise, claims_needed}
-use Rattle.vb_model.proofs.Wanting.{no_want, no_memory_exact}
 
 -- a reply that isn't want of memory
 not_wanted : {A : Type 0} (reply : Reply) → Refused NoMemory ≡ reply → wants reply ≡ false → A

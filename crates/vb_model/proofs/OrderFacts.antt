@@ -1,24 +1,18 @@
 -- Guests that are not in order, one for each thing that order promises; and answers that don't
 -- agree.
 use Rattle.std.proofs.Common.{◌≡◌, ℕ, ◌≤◌, List, [], ◌∷◌, ◌++◌, true, false, map, replicate, refl}
-use Rattle.std.proofs.Common.{ap, ◌⊎◌, arith}
-use Rattle.std.specs.List.{range_with_len}
-use Rattle.vb_model.specs.declared.places.Place.TheVariants.{Reserved, Free as FreePlace}
-use Rattle.vb_model.specs.declared.calls.Call.{Call}
+use Rattle.std.{proofs.Common.{ap, ◌⊎◌, arith}, specs.List.range_with_len}
 use Rattle.vb_model.specs.declared.calls.Call.TheVariants.{Init, Reset, Alloc, Free, Read, Write}
 use Rattle.vb_model.specs.declared.calls.Call.TheVariants.{Scribble, Inflate, Deflate, Oom, Report}
 use Rattle.vb_model.specs.declared.calls.Call.TheVariants.{Stats, Reap, Take, Work, Finish, Sweep}
-use Rattle.vb_model.specs.declared.calls.Call.TheVariants.{Ask, SetTarget}
 use Rattle.vb_model.specs.declared.replies.Refusal.TheVariants.{NoPages, OutOfRam, NoMemory}
-use Rattle.vb_model.specs.declared.replies.Refusal.TheVariants.{NotHeld}
-use Rattle.vb_model.specs.declared.replies.Reply.TheVariants.{Done, Idle, Page, Posted}
-use Rattle.vb_model.specs.declared.replies.Reply.TheVariants.{Refused}
-use Rattle.vb_model.specs.Requests.{Request, Requests}
-use Rattle.vb_model.specs.Pages.{block_at}
-use Rattle.vb_model.specs.Guest.{Guest}
-use Rattle.vb_model.specs.Orderly.{IsOrderly, IsRequestSound, AreAgreed}
-use Rattle.vb_model.specs.Determined.{Agree}
+use Rattle.vb_model.{specs.declared.calls.Call.Call, specs.Requests.{Request, Requests}}
+use Rattle.vb_model.{specs.declared.calls.Call.TheVariants.{Ask, SetTarget}, specs.Pages.block_at}
+use Rattle.vb_model.{specs.declared.replies.Refusal.TheVariants.NotHeld, specs.Guest.Guest}
+use Rattle.vb_model.specs.declared.replies.Reply.TheVariants.{Done, Idle, Page, Posted, Refused}
+use Rattle.vb_model.{specs.Orderly.{IsOrderly, IsRequestSound, AreAgreed}, specs.Determined.Agree}
 use Rattle.vb_model.proofs.Samples.{ready, down, request}
+use Rattle.vb_model.specs.declared.places.Place.TheVariants.{Reserved, Free as FreePlace}
 
 abbrev Same : ℕ → ℕ → Type 0
 Same a b = a ≡ b

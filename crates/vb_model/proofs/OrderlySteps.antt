@@ -1,58 +1,44 @@
 -- A call that an honest guest answers leaves it in order.
 use Rattle.std.proofs.Common.{◌≡◌, ℕ, ◌<◌, Bool, true, false, cond, List, [], ◌∷◌, ◌++◌, length}
-use Rattle.std.proofs.Common.{refl, sym, subst, ◌∙◌, ◌⊎◌, inl, inr, arith, ◌≢◌, ◌≤◌, ◌+◌, ◌-◌}
-use Rattle.std.specs.Prelude.{◌&&◌, nat_lt, nat_le, Option, Some, None, slice_get}
-use Rattle.std.specs.Prelude.{if◌then◌else◌}
-use Rattle.std.proofs.lemmas.List.{length-map, get_or_past}
-use Rattle.std.proofs.lemmas.List.FromFn.{length-range_with_len, get_or-map-range_with_len}
 use Rattle.std.proofs.lemmas.Bool.{leb-false, ltb-false, not-false, and_parts, cases_lt}
-use Rattle.std.proofs.lemmas.Bool.{true_from_ne_false}
+use Rattle.std.proofs.Common.{refl, sym, subst, ◌∙◌, ◌⊎◌, inl, inr, arith, ◌≢◌, ◌≤◌, ◌+◌, ◌-◌}
+use Rattle.std.specs.Prelude.{◌&&◌, nat_lt, nat_le, Option, Some, None, slice_get, if◌then◌else◌}
+use Rattle.std.{proofs.lemmas.List.{length-map, get_or_past}, proofs.lemmas.Bool.true_from_ne_false}
+use Rattle.std.proofs.lemmas.List.FromFn.{length-range_with_len, get_or-map-range_with_len}
 use Rattle.std.proofs.lemmas.Nat.{pow_pos}
-use Rattle.vb_model.specs.declared.places.Place.{Place}
-use Rattle.vb_model.specs.declared.places.Place.TheVariants.{Reserved, Free as FreePlace, Used}
-use Rattle.vb_model.specs.declared.places.Place.TheVariants.{Giving, Lent}
-use Rattle.vb_model.specs.declared.places.Place.TheVariants.{Reporting}
-use Rattle.vb_model.specs.declared.calls.Call.{Call}
 use Rattle.vb_model.specs.declared.calls.Call.TheVariants.{Init, Reset, Alloc, Free, Read, Write}
 use Rattle.vb_model.specs.declared.calls.Call.TheVariants.{Scribble, Inflate, Deflate, Oom, Report}
 use Rattle.vb_model.specs.declared.calls.Call.TheVariants.{Stats, Reap, Take, Work, Finish, Sweep}
-use Rattle.vb_model.specs.declared.calls.Call.TheVariants.{Ask, SetTarget}
-use Rattle.vb_model.specs.declared.calls.Claim.{Claim}
-use Rattle.vb_model.specs.declared.replies.Refusal.{Refusal}
-use Rattle.vb_model.specs.declared.replies.Reply.{Reply}
-use Rattle.vb_model.specs.Limits.{min_reported_order, max_order}
-use Rattle.vb_model.specs.Layout.{reserved_pages}
-use Rattle.vb_model.specs.Tests.{is_in}
 use Rattle.vb_model.specs.Pages.{Block, pages_of, pages_of_all, is_free, is_used, is_giving}
 use Rattle.vb_model.specs.Pages.{is_lent, is_reporting, is_reserved, place_of, placed, size}
-use Rattle.vb_model.specs.Pages.{is_aligned, is_wholly_free, is_same_block}
 use Rattle.vb_model.specs.Requests.{Request, Requests, no_requests, outstanding, Kind, Inflating}
 use Rattle.vb_model.specs.Requests.{Deflating, Reporting_free, kind_of_queue, place_posted}
-use Rattle.vb_model.specs.Requests.{places_reaped, Buffer}
-use Rattle.vb_model.specs.Requests.{NoBuffer, BufferPosted, BufferTaken, BufferDone}
-use Rattle.vb_model.specs.Guest.{Guest, Config, fresh, requests, with_requests, tells_host}
+use Rattle.vb_model.specs.Requests.{places_reaped, Buffer, NoBuffer, BufferPosted, BufferTaken}
 use Rattle.vb_model.specs.Refusals.{refusal_of, tests, room, deflate_count, oom_count}
-use Rattle.vb_model.specs.Refusals.{reported_blocks}
 use Rattle.vb_model.specs.Driver.{Reaps, Fills, Written, pages_needed, stranded_first, lowest_lent}
-use Rattle.vb_model.specs.Driver.{reaped, with_block, without_block}
-use Rattle.vb_model.specs.Device.{Takes, TakesBuffer, Finishes, Asks, settled, used, visited}
-use Rattle.vb_model.specs.Life.{feature_refusal, Negotiates, lacking}
-use Rattle.vb_model.specs.Life.{after_reset}
-use Rattle.vb_model.specs.Step.{Performs, HonestStep}
-use Rattle.vb_model.specs.Consistent.{IsConsistent}
-use Rattle.vb_model.specs.Orderly.{AreOrderly, IsOrderly, IsBlock, AreBlocks}
-use Rattle.vb_model.proofs.Tables.{length-each_from}
-use Rattle.vb_model.proofs.PageSteps.{can_be_given, after_take, after_reap, outside-range}
 use Rattle.vb_model.proofs.GuestSteps.{placed-get, not_reserved, held_used, inflate_giving}
 use Rattle.vb_model.proofs.GuestSteps.{deflate_there, length-reaped, report_reporting}
-use Rattle.vb_model.proofs.GuestSteps.{place_of-reset}
 use Rattle.vb_model.proofs.CallSteps.{match_cases, supplying_cases, works_cases, not_refused}
 use Rattle.vb_model.proofs.CallSteps.{supplied, inflated_pages, lent_pages, wholly_free_pages}
-use Rattle.vb_model.proofs.CallSteps.{reported_pages}
-use Rattle.vb_model.proofs.InOrder.{orderly_posting, orderly_take}
-use Rattle.vb_model.proofs.InOrder.{orderly_work, orderly_finish, orderly_reap}
-use Rattle.vb_model.proofs.Distinct.{distinct_where, inflated_distinct}
-use Rattle.vb_model.proofs.Blocks.{reported_distinct}
+use Rattle.vb_model.proofs.InOrder.{orderly_posting, orderly_take, orderly_work, orderly_finish}
+use Rattle.vb_model.specs.Device.{Takes, TakesBuffer, Finishes, Asks, settled, used, visited}
+use Rattle.vb_model.specs.Guest.{Guest, Config, fresh, requests, with_requests, tells_host}
+use Rattle.vb_model.proofs.PageSteps.{can_be_given, after_take, after_reap, outside-range}
+use Rattle.vb_model.specs.declared.places.Place.TheVariants.{Giving, Lent, Reporting}
+use Rattle.vb_model.specs.Life.{feature_refusal, Negotiates, lacking, after_reset}
+use Rattle.vb_model.{specs.Orderly.{AreOrderly, IsOrderly, IsBlock, AreBlocks}, specs.Tests.is_in}
+use Rattle.vb_model.specs.Pages.{is_aligned, is_wholly_free, is_same_block}
+use Rattle.vb_model.specs.declared.calls.Call.TheVariants.{Ask, SetTarget}
+use Rattle.vb_model.{proofs.Distinct.{distinct_where, inflated_distinct}, specs.Requests.BufferDone}
+use Rattle.vb_model.{specs.Driver.{reaped, with_block, without_block}, specs.Layout.reserved_pages}
+use Rattle.vb_model.{specs.Limits.{min_reported_order, max_order}, specs.declared.calls.Claim.Claim}
+use Rattle.vb_model.{specs.declared.replies.Refusal.Refusal, specs.declared.replies.Reply.Reply}
+use Rattle.vb_model.{specs.declared.places.Place.Place, specs.Step.{Performs, HonestStep}}
+use Rattle.vb_model.{proofs.GuestSteps.place_of-reset, proofs.CallSteps.reported_pages}
+use Rattle.vb_model.{proofs.Blocks.reported_distinct, specs.declared.calls.Call.Call}
+use Rattle.vb_model.{specs.Refusals.reported_blocks, proofs.Tables.length-each_from}
+use Rattle.vb_model.{specs.Consistent.IsConsistent, proofs.InOrder.orderly_reap}
+use Rattle.vb_model.specs.declared.places.Place.TheVariants.{Reserved, Free as FreePlace, Used}
 
 -- ---- places
 

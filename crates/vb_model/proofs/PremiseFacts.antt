@@ -3,27 +3,20 @@
 use Rattle.std.proofs.Common.{◌≡◌, ℕ, zero, suc, ◌+◌, ◌≤◌, true, false, List, [], ◌∷◌, ◌++◌, map}
 use Rattle.std.proofs.Common.{replicate, refl, ap, inl, inr, arith}
 use Rattle.std.specs.Prelude.{Option, Some, None}
-use Rattle.vb_model.specs.declared.places.Place.{Place}
-use Rattle.vb_model.specs.declared.places.Place.TheVariants.{Reserved, Free as FreePlace, Used}
-use Rattle.vb_model.specs.declared.calls.Actor.TheVariants.{Worker}
-use Rattle.vb_model.specs.declared.calls.Claim.TheVariants.{Gave}
-use Rattle.vb_model.specs.declared.calls.Call.TheVariants.{Write, Scribble, Reset, Sweep, Work}
-use Rattle.vb_model.specs.declared.calls.Event.{Event}
-use Rattle.vb_model.specs.declared.calls.Event.TheVariants.{Guest as OnGuest, Restart, Unplug}
-use Rattle.vb_model.specs.declared.replies.Refusal.TheVariants.{NoFrame}
-use Rattle.vb_model.specs.declared.replies.Reply.TheVariants.{Done, Refused, Swept}
-use Rattle.vb_model.specs.Pages.{place_of, is_used}
 use Rattle.vb_model.specs.Requests.{Requests, outstanding, Figures, BufferPosted, BufferTaken}
-use Rattle.vb_model.specs.Requests.{BufferDone}
-use Rattle.vb_model.specs.Guest.{Guest}
-use Rattle.vb_model.specs.World.{World}
-use Rattle.vb_model.specs.Run.{History}
-use Rattle.vb_model.specs.GuestRun.{Called, Looked}
-use Rattle.vb_model.specs.Courses.{Course, guest_after, IsWriteTo, StaysHeld, StaysOrLoses}
-use Rattle.vb_model.specs.Courses.{byte_of, last_put}
+use Rattle.vb_model.specs.Courses.{Course, guest_after, IsWriteTo, StaysHeld, StaysOrLoses, byte_of}
+use Rattle.vb_model.{specs.declared.places.Place.Place, specs.declared.calls.Claim.TheVariants.Gave}
+use Rattle.vb_model.{specs.declared.calls.Actor.TheVariants.Worker, specs.Pages.{place_of, is_used}}
+use Rattle.vb_model.specs.declared.calls.Call.TheVariants.{Write, Scribble, Reset, Sweep, Work}
+use Rattle.vb_model.{specs.declared.calls.Event.Event, specs.Requests.BufferDone, specs.Guest.Guest}
+use Rattle.vb_model.{specs.declared.replies.Refusal.TheVariants.NoFrame, specs.World.World}
+use Rattle.vb_model.specs.declared.replies.Reply.TheVariants.{Done, Refused, Swept}
+use Rattle.vb_model.{specs.Run.History, specs.GuestRun.{Called, Looked}, specs.Courses.last_put}
 use Rattle.vb_model.specs.HonestRuns.{IsThere, MakesNoScribble, IsAttentive}
 use Rattle.vb_model.proofs.Samples.{ready, down, without_stats_vq, page_16_at, request}
 use Rattle.vb_model.proofs.SafeFacts.{made, stands}
+use Rattle.vb_model.specs.declared.places.Place.TheVariants.{Reserved, Free as FreePlace, Used}
+use Rattle.vb_model.specs.declared.calls.Event.TheVariants.{Guest as OnGuest, Restart, Unplug}
 
 abbrev Same : ℕ → ℕ → Type 0
 Same a b = a ≡ b

@@ -2,23 +2,18 @@
 use Rattle.std.proofs.Common.{◌≡◌, ℕ, true, false, [], ◌∷◌, ◌++◌, replicate, refl, inl, inr, ◌⊎◌}
 use Rattle.std.specs.Prelude.{Some, None}
 use Rattle.vb_model.specs.declared.places.Place.TheVariants.{Reserved, Free, Used, Giving, Lent}
+use Rattle.vb_model.specs.declared.replies.Reply.TheVariants.{Places, Pages, Balloon, Statistics}
 use Rattle.vb_model.specs.declared.places.Place.TheVariants.{Taking, Stranded, Reporting}
-use Rattle.vb_model.specs.declared.places.PageRun.{PageRun}
+use Rattle.vb_model.{specs.declared.replies.Reply.TheVariants.{Backing, Refused}, specs.Guest.Guest}
+use Rattle.vb_model.{specs.declared.replies.Refusal.TheVariants.NoMemory, specs.World.World}
+use Rattle.vb_model.{specs.declared.places.PageRun.PageRun, specs.declared.replies.Reply.Reply}
+use Rattle.vb_model.{specs.declared.calls.Query.Query, specs.Queries.{Answers, runs}}
+use Rattle.vb_model.{proofs.Samples.{ready, mixed}, specs.HostEvents.WorldStep}
 use Rattle.vb_model.specs.declared.calls.Event.TheVariants.{Query as Asking}
-use Rattle.vb_model.specs.declared.calls.Query.{Query}
 use Rattle.vb_model.specs.declared.calls.Query.TheVariants.{Places as AskPlaces, PagesAt}
 use Rattle.vb_model.specs.declared.calls.Query.TheVariants.{PagesBallooned, Balloon as AskBalloon}
 use Rattle.vb_model.specs.declared.calls.Query.TheVariants.{Memory as AskMemory}
 use Rattle.vb_model.specs.declared.calls.Query.TheVariants.{Backing as AskBacking}
-use Rattle.vb_model.specs.declared.replies.Refusal.TheVariants.{NoMemory}
-use Rattle.vb_model.specs.declared.replies.Reply.{Reply}
-use Rattle.vb_model.specs.declared.replies.Reply.TheVariants.{Places, Pages, Balloon, Statistics}
-use Rattle.vb_model.specs.declared.replies.Reply.TheVariants.{Backing, Refused}
-use Rattle.vb_model.specs.Guest.{Guest}
-use Rattle.vb_model.specs.World.{World}
-use Rattle.vb_model.specs.HostEvents.{WorldStep}
-use Rattle.vb_model.specs.Queries.{Answers, runs}
-use Rattle.vb_model.proofs.Samples.{ready, mixed}
 
 abbrev run : ℕ → ℕ → PageRun
 run first last = record { first = first; last = last }

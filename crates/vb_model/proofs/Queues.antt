@@ -1,7 +1,6 @@
 -- Which queues there are: those of inflates, of deflates, of statistics and of reports.
-use Rattle.std.specs.Prelude.{◌≡◌, ◌≢◌, ℕ, Bool, false, ◌==◌, ◌||◌, is_some, if◌then◌else◌}
-use Rattle.std.specs.Prelude.{Option, Some, None, ◌⊎◌}
-use Rattle.std.proofs.Common.{◌∙◌, ap, inl, inr}
+use Rattle.std.specs.Prelude.{◌≡◌, ◌≢◌, ℕ, Bool, false, ◌==◌, ◌||◌, is_some, if◌then◌else◌, Option}
+use Rattle.std.{specs.Prelude.{Some, None, ◌⊎◌}, proofs.Common.{◌∙◌, ap, inl, inr}}
 use Rattle.std.proofs.lemmas.Bool.{cases_eq, ne_eqb}
 use Rattle.vb_model.specs.Requests.{Kind, Inflating, Deflating, Reporting_free}
 use Rattle.vb_model.specs.Tables.{is_queue_of_requests, has_chains}

@@ -1,35 +1,26 @@
 -- A refusal changes nothing, but for an initialisation whose features are refused.
 use Rattle.std.proofs.Common.{◌≡◌, ℕ, Bool, true, false, cond, List, [], ◌∷◌, refl, ap, ◌∙◌, inl}
-use Rattle.std.proofs.Common.{inr}
-use Rattle.std.specs.Prelude.{Option, Some, None}
-use Rattle.vb_model.specs.declared.calls.Call.{Call}
+use Rattle.std.{proofs.Common.inr, specs.Prelude.{Option, Some, None}}
 use Rattle.vb_model.specs.declared.calls.Call.TheVariants.{Init, Reset, Alloc, Free, Read, Write}
 use Rattle.vb_model.specs.declared.calls.Call.TheVariants.{Scribble, Inflate, Deflate, Oom, Report}
 use Rattle.vb_model.specs.declared.calls.Call.TheVariants.{Stats, Reap, Take, Work, Finish, Sweep}
-use Rattle.vb_model.specs.declared.calls.Call.TheVariants.{Ask, SetTarget}
-use Rattle.vb_model.specs.declared.calls.Claim.{Claim}
-use Rattle.vb_model.specs.declared.calls.Event.{Event}
-use Rattle.vb_model.specs.declared.calls.Event.TheVariants.{Plug, Unplug, Restart, Guest as OnGuest}
-use Rattle.vb_model.specs.declared.calls.Event.TheVariants.{Query as Asking, Balance}
-use Rattle.vb_model.specs.declared.calls.Event.TheVariants.{Frames as CountFrames}
-use Rattle.vb_model.specs.declared.replies.Refusal.{Refusal}
-use Rattle.vb_model.specs.declared.replies.Reply.{Reply}
-use Rattle.vb_model.specs.declared.replies.Reply.TheVariants.{Done, Refused}
 use Rattle.vb_model.specs.Requests.{Request, Kind, kind_of_queue, Buffer, NoBuffer, BufferPosted}
-use Rattle.vb_model.specs.Requests.{BufferTaken, BufferDone}
-use Rattle.vb_model.specs.Guest.{Guest, requests}
-use Rattle.vb_model.specs.Refusals.{refusal_of, first_refusal}
+use Rattle.vb_model.specs.StepLaws.{IsUnchanged, with_features_refused, RefusalsChangeNothing}
+use Rattle.vb_model.{specs.declared.calls.Call.Call, specs.declared.calls.Claim.Claim}
+use Rattle.vb_model.{specs.declared.calls.Call.TheVariants.{Ask, SetTarget}, specs.Rogue.Scribbled}
+use Rattle.vb_model.{specs.declared.calls.Event.Event, specs.declared.replies.Refusal.Refusal}
+use Rattle.vb_model.{specs.declared.replies.Reply.Reply, specs.Requests.{BufferTaken, BufferDone}}
+use Rattle.vb_model.{specs.declared.replies.Reply.TheVariants.{Done, Refused}, specs.Step.Performs}
+use Rattle.vb_model.{specs.Guest.{Guest, requests}, specs.Refusals.{refusal_of, first_refusal}}
 use Rattle.vb_model.specs.Driver.{Reaps, Fills, Written, pages_needed}
 use Rattle.vb_model.specs.Device.{Takes, TakesBuffer, Finishes, Asks, next_page}
 use Rattle.vb_model.specs.Life.{feature_refusal, Negotiates, lacking, after_restart}
-use Rattle.vb_model.specs.Rogue.{Scribbled}
-use Rattle.vb_model.specs.Step.{Performs}
-use Rattle.vb_model.specs.World.{World, put_guest, guest_at}
-use Rattle.vb_model.specs.HostEvents.{Happens, PlugsIn}
-use Rattle.vb_model.specs.HostRefusals.{world_tests}
-use Rattle.vb_model.specs.StepLaws.{IsUnchanged, with_features_refused, RefusalsChangeNothing}
-use Rattle.vb_model.specs.StepLaws.{RefusedEventsChangeNothing}
+use Rattle.vb_model.{specs.World.{World, put_guest, guest_at}, specs.HostEvents.{Happens, PlugsIn}}
+use Rattle.vb_model.{specs.HostRefusals.world_tests, specs.StepLaws.RefusedEventsChangeNothing}
 use Rattle.vb_model.proofs.CallSteps.{match_cases, supplying_cases, works_cases, supplied}
+use Rattle.vb_model.specs.declared.calls.Event.TheVariants.{Plug, Unplug, Restart, Guest as OnGuest}
+use Rattle.vb_model.specs.declared.calls.Event.TheVariants.{Query as Asking, Balance}
+use Rattle.vb_model.specs.declared.calls.Event.TheVariants.{Frames as CountFrames}
 
 -- a reply that is no refusal
 abbrev pub is_refused : Reply → Bool

@@ -1,25 +1,21 @@
 -- Worked facts of free blocks, allocations, and page reports.
-use Rattle.std.proofs.Common.{◌≡◌, ℕ, Bool, true, false, List, [], ◌∷◌, ◌++◌, map, replicate, refl, arith}
-use Rattle.std.specs.Prelude.{Option, Some, None, drop}
+use Rattle.std.proofs.Common.{◌≡◌, ℕ, Bool, true, false, List, [], ◌∷◌, ◌++◌, map, replicate, refl}
+use Rattle.std.{proofs.Common.arith, specs.Prelude.{Option, Some, None, drop}}
 use Rattle.std.specs.List.{range_with_len, flat_map}
-use Rattle.vb_model.specs.declared.places.Place.{Place}
-use Rattle.vb_model.specs.declared.places.Place.TheVariants.{Reserved, Free as FreePlace, Used}
 use Rattle.vb_model.specs.declared.places.Place.TheVariants.{Giving, Lent, Taking, Stranded}
-use Rattle.vb_model.specs.declared.places.Place.TheVariants.{Reporting}
-use Rattle.vb_model.specs.declared.calls.Call.{Call}
-use Rattle.vb_model.specs.declared.calls.Call.TheVariants.{Alloc, Free, Report, Reap, Reset}
-use Rattle.vb_model.specs.declared.replies.Refusal.{Refusal}
 use Rattle.vb_model.specs.declared.replies.Refusal.TheVariants.{NotReady, NoFeature, QueueFull}
+use Rattle.vb_model.specs.Pages.{Block, all_free, blocks_at, maximal_free_blocks, is_maximal}
+use Rattle.vb_model.{specs.declared.places.Place.Place, specs.declared.calls.Call.Call}
+use Rattle.vb_model.{specs.declared.places.Place.TheVariants.Reporting, specs.Guest.{Guest, fresh}}
+use Rattle.vb_model.specs.declared.calls.Call.TheVariants.{Alloc, Free, Report, Reap, Reset}
+use Rattle.vb_model.{specs.declared.replies.Refusal.Refusal, specs.Step.{Performs, HonestStep}}
 use Rattle.vb_model.specs.declared.replies.Refusal.TheVariants.{Nothing, NoPages, NotHeld}
 use Rattle.vb_model.specs.declared.replies.Reply.TheVariants.{Page, Posted, Done, Reaped, NotUsed}
-use Rattle.vb_model.specs.Pages.{Block, all_free, blocks_at, maximal_free_blocks, is_maximal}
-use Rattle.vb_model.specs.Pages.{place_of, is_free}
-use Rattle.vb_model.specs.Pages.{is_wholly_free}
+use Rattle.vb_model.specs.Pages.{place_of, is_free, is_wholly_free}
 use Rattle.vb_model.specs.Requests.{Request, Requests, no_requests, IsLeastHead}
-use Rattle.vb_model.specs.Guest.{Guest, fresh}
 use Rattle.vb_model.specs.Refusals.{refusal_of, first_refusal, tests, reported_blocks}
-use Rattle.vb_model.specs.Step.{Performs, HonestStep}
 use Rattle.vb_model.proofs.Samples.{config, ready, down, without_reporting, request}
+use Rattle.vb_model.specs.declared.places.Place.TheVariants.{Reserved, Free as FreePlace, Used}
 
 abbrev block : ℕ → ℕ → Block
 block start order = record { start = start; order = order }

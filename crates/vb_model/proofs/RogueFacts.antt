@@ -1,24 +1,18 @@
 -- Worked facts of scribbles and of what a rogue guest may need.
 use Rattle.std.proofs.Common.{◌≡◌, ℕ, ◌<◌, true, false, List, [], ◌∷◌, ◌++◌, map, replicate, refl}
-use Rattle.std.proofs.Common.{ap, arith}
-use Rattle.std.specs.Prelude.{Option, Some, None, unwrap_or}
-use Rattle.std.specs.List.{range_with_len}
-use Rattle.std.proofs.lemmas.List.{get_or-replicate}
+use Rattle.std.{proofs.Common.{ap, arith}, specs.Prelude.{Option, Some, None, unwrap_or}}
+use Rattle.std.{specs.List.range_with_len, proofs.lemmas.List.get_or-replicate}
 use Rattle.vb_model.specs.declared.calls.Call.TheVariants.{Init, Reset, Alloc, Free, Read, Write}
 use Rattle.vb_model.specs.declared.calls.Call.TheVariants.{Scribble, Inflate, Deflate, Oom, Report}
 use Rattle.vb_model.specs.declared.calls.Call.TheVariants.{Stats, Reap, Take, Work, Finish, Sweep}
-use Rattle.vb_model.specs.declared.calls.Call.TheVariants.{Ask, SetTarget}
-use Rattle.vb_model.specs.declared.calls.Claim.{Claim}
+use Rattle.vb_model.{specs.declared.calls.Call.TheVariants.{Ask, SetTarget}, specs.Step.HonestStep}
+use Rattle.vb_model.{specs.declared.calls.Claim.Claim, specs.declared.replies.Reply.Reply}
 use Rattle.vb_model.specs.declared.calls.Claim.TheVariants.{Gave, GaveNoFrame, GaveNoMemory}
 use Rattle.vb_model.specs.declared.replies.Refusal.TheVariants.{OutOfRam, NoFrame, NoMemory}
-use Rattle.vb_model.specs.declared.replies.Reply.{Reply}
 use Rattle.vb_model.specs.declared.replies.Reply.TheVariants.{Done, Idle, Refused}
 use Rattle.vb_model.specs.declared.places.Place.TheVariants.{Lent, Used}
-use Rattle.vb_model.specs.Guest.{Guest, Config, is_ballooned}
-use Rattle.vb_model.specs.Refusals.{refusal_of}
-use Rattle.vb_model.specs.Rogue.{LosesFrames, HasAllPages, IsRogueAfter}
-use Rattle.vb_model.specs.Rogue.{RogueStep, pages_to_back}
-use Rattle.vb_model.specs.Step.{HonestStep}
+use Rattle.vb_model.{specs.Guest.{Guest, Config, is_ballooned}, specs.Refusals.refusal_of}
+use Rattle.vb_model.specs.Rogue.{LosesFrames, HasAllPages, IsRogueAfter, RogueStep, pages_to_back}
 use Rattle.vb_model.proofs.Samples.{config, ready, down}
 
 -- ---- a scribble is refused outside memory or past the end of its page, whatever place the page is

@@ -2,19 +2,14 @@
 -- their targets are as any guest's.
 use Rattle.std.proofs.Common.{◌≡◌, true, false, List, [], ◌∷◌, ◌++◌, replicate, refl}
 use Rattle.std.specs.Prelude.{Option, Some, None}
-use Rattle.vb_model.specs.declared.calls.Event.TheVariants.{Restart}
+use Rattle.vb_model.specs.declared.replies.Reply.TheVariants.{Balloon, Done, Frames, Refused}
+use Rattle.vb_model.{specs.declared.replies.Refusal.TheVariants.TooMany, specs.Guest.{Guest, fresh}}
+use Rattle.vb_model.{specs.HostEvents.{WorldStep, needs, with_targets}, specs.Queries.Answers}
+use Rattle.vb_model.{specs.declared.calls.Event.TheVariants.Restart, specs.World.World}
+use Rattle.vb_model.{specs.HostFrames.{IsOut, used_frames}, proofs.Samples.{config, ready, plug}}
+use Rattle.vb_model.{specs.declared.replies.Reply.Reply, specs.HostRefusals.plugged_count}
 use Rattle.vb_model.specs.declared.calls.Event.TheVariants.{Frames as CountFrames}
 use Rattle.vb_model.specs.declared.calls.Query.TheVariants.{Balloon as AskBalloon}
-use Rattle.vb_model.specs.declared.replies.Refusal.TheVariants.{TooMany}
-use Rattle.vb_model.specs.declared.replies.Reply.{Reply}
-use Rattle.vb_model.specs.declared.replies.Reply.TheVariants.{Balloon, Done, Frames, Refused}
-use Rattle.vb_model.specs.Guest.{Guest, fresh}
-use Rattle.vb_model.specs.Queries.{Answers}
-use Rattle.vb_model.specs.World.{World}
-use Rattle.vb_model.specs.HostFrames.{IsOut, used_frames}
-use Rattle.vb_model.specs.HostRefusals.{plugged_count}
-use Rattle.vb_model.specs.HostEvents.{WorldStep, needs, with_targets}
-use Rattle.vb_model.proofs.Samples.{config, ready, plug}
 
 -- pages 16 and 17 have frames 5 and 9, page 18 is ballooned, and three pages were said to be free
 abbrev rogue : Guest

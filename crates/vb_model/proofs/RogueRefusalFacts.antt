@@ -1,18 +1,15 @@
 -- Worked facts of what a rogue guest claims, and of what a refusal leaves of it.
 use Rattle.std.proofs.Common.{◌≡◌, ℕ, true, false, List, [], ◌∷◌, ◌++◌, replicate, refl}
 use Rattle.std.specs.Prelude.{Option, Some, None}
+use Rattle.vb_model.specs.declared.replies.Refusal.TheVariants.{NoFrame, NoMemory, AlreadyUp, Busy}
+use Rattle.vb_model.specs.declared.replies.Refusal.TheVariants.{FeatureNotOffered, Broken}
 use Rattle.vb_model.specs.declared.calls.Call.TheVariants.{Init, Write, Reap, Take}
-use Rattle.vb_model.specs.declared.calls.Claim.{Claim}
+use Rattle.vb_model.{specs.declared.calls.Claim.Claim, specs.declared.replies.Reply.Reply}
 use Rattle.vb_model.specs.declared.calls.Claim.TheVariants.{Gave, GaveNoFrame, GaveNoMemory}
 use Rattle.vb_model.specs.declared.places.Place.TheVariants.{Reserved, Used, Lent}
-use Rattle.vb_model.specs.declared.replies.Refusal.TheVariants.{NoFrame, NoMemory, AlreadyUp, Busy}
-use Rattle.vb_model.specs.declared.replies.Refusal.TheVariants.{FeatureNotOffered}
-use Rattle.vb_model.specs.declared.replies.Refusal.TheVariants.{Broken, RingBroken, VersionMissing}
-use Rattle.vb_model.specs.declared.replies.Reply.{Reply}
-use Rattle.vb_model.specs.declared.replies.Reply.TheVariants.{Refused}
-use Rattle.vb_model.specs.Guest.{Guest, no_statistics}
-use Rattle.vb_model.specs.Rogue.{RogueStep}
-use Rattle.vb_model.proofs.Samples.{ready, request}
+use Rattle.vb_model.specs.declared.replies.Refusal.TheVariants.{RingBroken, VersionMissing}
+use Rattle.vb_model.{specs.declared.replies.Reply.TheVariants.Refused, specs.Rogue.RogueStep}
+use Rattle.vb_model.{specs.Guest.{Guest, no_statistics}, proofs.Samples.{ready, request}}
 
 -- pages 16 to 62 are used and have no frame, page 63 is lent
 abbrev rogue : Guest

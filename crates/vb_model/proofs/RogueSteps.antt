@@ -1,23 +1,14 @@
 -- No reserved page is ever ballooned, in a rogue guest neither.
-use Rattle.std.proofs.Common.{◌≡◌, ℕ, true, false, length, refl, ◌∙◌, inl}
-use Rattle.std.proofs.Common.{inr, arith}
-use Rattle.std.specs.Prelude.{Some}
-use Rattle.std.proofs.lemmas.List.{get_or_past}
+use Rattle.std.proofs.Common.{◌≡◌, ℕ, true, false, length, refl, ◌∙◌, inl, inr, arith}
+use Rattle.std.{specs.Prelude.Some, proofs.lemmas.List.get_or_past}
 use Rattle.std.proofs.lemmas.Bool.{cases_lt, lt-ltb}
-use Rattle.vb_model.specs.declared.places.Place.{Place}
-use Rattle.vb_model.specs.declared.places.Place.TheVariants.{Reserved}
-use Rattle.vb_model.specs.declared.calls.Event.{Event}
-use Rattle.vb_model.specs.declared.replies.Reply.{Reply}
-use Rattle.vb_model.specs.Layout.{reserved_pages}
-use Rattle.vb_model.specs.Pages.{is_reserved, place_of}
-use Rattle.vb_model.specs.Guest.{Guest, is_ballooned}
-use Rattle.vb_model.specs.Consistent.{IsConsistent}
-use Rattle.vb_model.specs.Orderly.{IsOrderly}
-use Rattle.vb_model.specs.StepLaws.{HasNoReservedBallooned}
-use Rattle.vb_model.specs.World.{World, guest_at}
-use Rattle.vb_model.specs.HostEvents.{WorldStep}
-use Rattle.vb_model.proofs.PageSteps.{naming-all}
-use Rattle.vb_model.proofs.Changes.{Change, changes}
+use Rattle.vb_model.{specs.declared.places.Place.Place, specs.declared.calls.Event.Event}
+use Rattle.vb_model.{specs.declared.places.Place.TheVariants.Reserved, specs.Layout.reserved_pages}
+use Rattle.vb_model.{specs.declared.replies.Reply.Reply, specs.Pages.{is_reserved, place_of}}
+use Rattle.vb_model.{specs.Guest.{Guest, is_ballooned}, specs.Consistent.IsConsistent}
+use Rattle.vb_model.{specs.Orderly.IsOrderly, specs.StepLaws.HasNoReservedBallooned}
+use Rattle.vb_model.{specs.World.{World, guest_at}, specs.HostEvents.WorldStep}
+use Rattle.vb_model.{proofs.PageSteps.naming-all, proofs.Changes.{Change, changes}}
 
 reserved_is : (place : Place) → is_reserved place ≡ true → place ≡ Reserved
 reserved_is Reserved e = refl

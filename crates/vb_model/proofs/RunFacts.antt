@@ -1,23 +1,18 @@
 -- Worked facts of runs, of states, and of the entries of one guest.
-use Rattle.std.proofs.Common.{◌≡◌, ℕ, List, [], ◌∷◌, true, false, refl, ap}
-use Rattle.std.proofs.Common.{arith, length}
+use Rattle.std.proofs.Common.{◌≡◌, ℕ, List, [], ◌∷◌, true, false, refl, ap, arith, length}
 use Rattle.std.specs.Prelude.{Option, Some, None, unwrap_or}
+use Rattle.vb_model.specs.declared.calls.Call.TheVariants.{Ask, Init, Reset, Work, SetTarget, Write}
+use Rattle.vb_model.specs.GuestRun.{Entry, Called, Looked, EntryStep, IsOwnEntry, AreOwn, InOneLife}
 use Rattle.vb_model.specs.declared.calls.Actor.TheVariants.{Balancer, Processor}
-use Rattle.vb_model.specs.declared.calls.Call.TheVariants.{Ask, Init, Reset, Work, SetTarget}
-use Rattle.vb_model.specs.declared.calls.Call.TheVariants.{Write, Scribble}
-use Rattle.vb_model.specs.declared.calls.Claim.{Claim}
-use Rattle.vb_model.specs.declared.calls.Claim.TheVariants.{Gave}
-use Rattle.vb_model.specs.declared.calls.Event.TheVariants.{Unplug, Restart, Guest as OnGuest}
-use Rattle.vb_model.specs.declared.calls.Event.TheVariants.{Balance, Frames as CountFrames}
-use Rattle.vb_model.specs.declared.replies.Reply.{Reply}
+use Rattle.vb_model.{specs.declared.calls.Call.TheVariants.Scribble, specs.Guest.Guest}
+use Rattle.vb_model.{specs.declared.calls.Claim.Claim, specs.declared.calls.Claim.TheVariants.Gave}
+use Rattle.vb_model.{specs.declared.replies.Reply.Reply, specs.World.{World, made}}
 use Rattle.vb_model.specs.declared.replies.Reply.TheVariants.{Done, Idle, Frames, Targets, Refused}
 use Rattle.vb_model.specs.declared.replies.Refusal.TheVariants.{OutOfRam, Short}
-use Rattle.vb_model.specs.Guest.{Guest}
-use Rattle.vb_model.specs.World.{World, made}
-use Rattle.vb_model.specs.Run.{History, Run, Steps, guest_in, last_world}
-use Rattle.vb_model.specs.GuestRun.{Entry, Called, Looked, EntryStep, IsOwnEntry, AreOwn, InOneLife}
-use Rattle.vb_model.specs.GuestRun.{Alone}
+use Rattle.vb_model.{specs.Run.{History, Run, Steps, guest_in, last_world}, specs.GuestRun.Alone}
 use Rattle.vb_model.proofs.Samples.{ready, down}
+use Rattle.vb_model.specs.declared.calls.Event.TheVariants.{Unplug, Restart, Guest as OnGuest}
+use Rattle.vb_model.specs.declared.calls.Event.TheVariants.{Balance, Frames as CountFrames}
 
 abbrev world : ℕ → World
 world frames = made frames []

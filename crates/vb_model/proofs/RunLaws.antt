@@ -1,10 +1,7 @@
 -- A run goes on by one step.
 use Rattle.std.specs.Prelude.{◌≡◌, List, [], ◌∷◌, ◌++◌, refl}
-use Rattle.vb_model.specs.declared.calls.Event.{Event}
-use Rattle.vb_model.specs.declared.replies.Reply.{Reply}
-use Rattle.vb_model.specs.World.{World}
-use Rattle.vb_model.specs.HostEvents.{WorldStep}
-use Rattle.vb_model.specs.Run.{Steps, last_world}
+use Rattle.vb_model.{specs.declared.calls.Event.Event, specs.declared.replies.Reply.Reply}
+use Rattle.vb_model.{specs.World.World, specs.HostEvents.WorldStep, specs.Run.{Steps, last_world}}
 
 pub steps-push : (w : World) (events : List Event) (replies : List Reply) (after : List World)
     (event : Event) (reply : Reply) (v : World) → Steps w events replies after

@@ -1,24 +1,19 @@
 -- Courses of a guest that are not safe, one for each thing that safety promises: of its features,
 -- its frames, what its pages hold and what reads give, of driver and device, and of faults.
-use Rattle.std.proofs.Common.{◌≡◌, ℕ, zero, suc, true, false, List, [], ◌∷◌}
-use Rattle.std.proofs.Common.{◌++◌, replicate, refl, inl, inr, arith}
-use Rattle.std.specs.Prelude.{Option, Some, None}
-use Rattle.vb_model.specs.declared.places.Place.{Place}
-use Rattle.vb_model.specs.declared.places.Place.TheVariants.{Free as FreePlace, Used, Reserved}
-use Rattle.vb_model.specs.declared.places.Place.TheVariants.{Giving, Lent, Taking}
-use Rattle.vb_model.specs.declared.calls.Actor.TheVariants.{Processor}
-use Rattle.vb_model.specs.declared.calls.Call.{Call}
+use Rattle.std.proofs.Common.{◌≡◌, ℕ, zero, suc, true, false, List, [], ◌∷◌, ◌++◌, replicate, refl}
+use Rattle.std.{proofs.Common.{inl, inr, arith}, specs.Prelude.{Option, Some, None}}
 use Rattle.vb_model.specs.declared.calls.Call.TheVariants.{Read, Reap, Reset, Stats, Sweep, Take}
+use Rattle.vb_model.{specs.declared.places.Place.Place, specs.declared.calls.Call.Call}
+use Rattle.vb_model.specs.declared.places.Place.TheVariants.{Giving, Lent, Taking}
+use Rattle.vb_model.{specs.declared.calls.Actor.TheVariants.Processor, specs.Guest.{Guest, fresh}}
 use Rattle.vb_model.specs.declared.calls.Call.TheVariants.{Work, Write}
 use Rattle.vb_model.specs.declared.replies.Refusal.TheVariants.{RingBroken, Broken, NoFrame}
-use Rattle.vb_model.specs.declared.replies.Reply.{Reply}
+use Rattle.vb_model.{specs.declared.replies.Reply.Reply, specs.Requests.{Request, Requests}}
 use Rattle.vb_model.specs.declared.replies.Reply.TheVariants.{Done, Idle, ReadBytes, Swept, Refused}
-use Rattle.vb_model.specs.Requests.{Request, Requests}
-use Rattle.vb_model.specs.Guest.{Guest, fresh}
-use Rattle.vb_model.specs.GuestRun.{Entry, Called}
+use Rattle.vb_model.{specs.GuestRun.{Entry, Called}, specs.Histories.IsSafeCourse}
 use Rattle.vb_model.specs.Courses.{Course, StaysHeld, StaysOrLoses}
-use Rattle.vb_model.specs.Histories.{IsSafeCourse}
 use Rattle.vb_model.proofs.Samples.{ready, down, untold, page_16_at, request}
+use Rattle.vb_model.specs.declared.places.Place.TheVariants.{Free as FreePlace, Used, Reserved}
 
 -- the guest's own call
 abbrev pub made : Call → Reply → Option Entry

@@ -1,27 +1,20 @@
 -- What is read off a run that is promised to be safe: its end, its replies, and that it is safe.
 use Rattle.std.proofs.Common.{◌≡◌, ℕ, true, false, List, [], ◌∷◌, ◌++◌, replicate, refl, sym, ap}
-use Rattle.std.proofs.Common.{subst, arith, ◌≢◌, ◌∙◌, inl}
-use Rattle.std.specs.Prelude.{Option, Some, None}
-use Rattle.vb_model.specs.declared.places.Place.TheVariants.{Used, Lent}
+use Rattle.std.{proofs.Common.{subst, arith, ◌≢◌, ◌∙◌, inl}, specs.Prelude.{Option, Some, None}}
+use Rattle.vb_model.specs.declared.replies.Reply.TheVariants.{Done, Frames, Idle, Page, Posted}
+use Rattle.vb_model.{specs.declared.places.Place.TheVariants.{Used, Lent}, specs.Run.History}
 use Rattle.vb_model.specs.declared.calls.Call.TheVariants.{Alloc, Inflate, Init, Reset, Sweep, Work}
-use Rattle.vb_model.specs.declared.calls.Event.{Event}
-use Rattle.vb_model.specs.declared.calls.Event.TheVariants.{Guest as OnGuest, Restart, Unplug}
-use Rattle.vb_model.specs.declared.calls.Event.TheVariants.{Frames as CountFrames}
-use Rattle.vb_model.specs.declared.replies.Reply.{Reply}
-use Rattle.vb_model.specs.declared.replies.Reply.TheVariants.{Done, Frames, Idle, Page, Posted, Refused}
-use Rattle.vb_model.specs.declared.replies.Reply.TheVariants.{Swept}
-use Rattle.vb_model.specs.declared.replies.Refusal.TheVariants.{NotReady}
-use Rattle.vb_model.specs.Guest.{Guest, unbacked}
-use Rattle.vb_model.specs.World.{World, made, guest_at}
-use Rattle.vb_model.specs.HostEvents.{WorldStep}
-use Rattle.vb_model.specs.Run.{History}
+use Rattle.vb_model.{specs.declared.calls.Event.Event, specs.declared.replies.Reply.Reply}
+use Rattle.vb_model.specs.declared.replies.Reply.TheVariants.{Refused, Swept}
+use Rattle.vb_model.{specs.declared.replies.Refusal.TheVariants.NotReady, proofs.Changes.same_some}
+use Rattle.vb_model.{specs.Guest.{Guest, unbacked}, specs.World.{World, made, guest_at}}
+use Rattle.vb_model.{specs.HostEvents.WorldStep, specs.Histories.IsSafeCourse}
 use Rattle.vb_model.specs.GuestRun.{Entry, OwnStep, Leads, IsOwnEntry, AreOwn, InOneLife, Alone}
-use Rattle.vb_model.specs.Histories.{IsSafeCourse}
-use Rattle.vb_model.specs.SafeLaws.{LivesAreAlone}
-use Rattle.vb_model.specs.Safe.{Safe, IsSafeRun, NoFrameTwice, part}
-use Rattle.vb_model.proofs.Changes.{same_some}
+use Rattle.vb_model.{specs.SafeLaws.LivesAreAlone, specs.Safe.{Safe, IsSafeRun, NoFrameTwice, part}}
 use Rattle.vb_model.proofs.Samples.{ready, down, untold, page_16_at, request}
 use Rattle.vb_model.proofs.AskedFacts.{back, giving, handed_out}
+use Rattle.vb_model.specs.declared.calls.Event.TheVariants.{Guest as OnGuest, Restart, Unplug}
+use Rattle.vb_model.specs.declared.calls.Event.TheVariants.{Frames as CountFrames}
 
 -- ---- a run of no events ends where it began
 

@@ -1,11 +1,9 @@
 -- Guests from which worked facts start.
 use Rattle.std.specs.Prelude.{ℕ, true, List, ◌∷◌, ◌++◌, replicate}
-use Rattle.vb_model.specs.declared.calls.Event.{Event}
-use Rattle.vb_model.specs.declared.calls.Event.TheVariants.{Plug}
-use Rattle.vb_model.specs.declared.places.Place.{Place}
 use Rattle.vb_model.specs.declared.places.Place.TheVariants.{Reserved, Free, Used, Giving, Lent}
+use Rattle.vb_model.{specs.declared.calls.Event.Event, specs.declared.calls.Event.TheVariants.Plug}
+use Rattle.vb_model.{specs.declared.places.Place.Place, specs.Requests.Request}
 use Rattle.vb_model.specs.declared.places.Place.TheVariants.{Taking, Stranded, Reporting}
-use Rattle.vb_model.specs.Requests.{Request}
 use Rattle.vb_model.specs.Guest.{Guest, Config, fresh}
 
 -- 64 pages, queues of 8, one processor, a paced device

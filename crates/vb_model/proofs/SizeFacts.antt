@@ -1,23 +1,15 @@
 -- Worked facts of a guest of 80 pages whose queues have 256 descriptors, and so rings of two pages.
 use Rattle.std.proofs.Common.{◌≡◌, ℕ, true, false, List, [], ◌∷◌, ◌++◌, map, replicate, refl, arith}
-use Rattle.std.specs.Prelude.{Option, Some, None, ◌+◌}
-use Rattle.std.specs.List.{range_with_len}
-use Rattle.vb_model.specs.declared.places.Place.TheVariants.{Reserved, Free as FreePlace}
-use Rattle.vb_model.specs.declared.calls.Call.TheVariants.{Init}
-use Rattle.vb_model.specs.declared.calls.Claim.{Claim}
-use Rattle.vb_model.specs.declared.calls.Claim.TheVariants.{Gave, GaveNoFrame}
-use Rattle.vb_model.specs.declared.replies.Refusal.TheVariants.{NoFrame}
-use Rattle.vb_model.specs.declared.replies.Reply.TheVariants.{Ready, Refused}
+use Rattle.std.{specs.Prelude.{Option, Some, None, ◌+◌}, specs.List.range_with_len}
+use Rattle.vb_model.{specs.declared.calls.Call.TheVariants.Init, specs.declared.calls.Claim.Claim}
+use Rattle.vb_model.{specs.declared.calls.Claim.TheVariants.{Gave, GaveNoFrame}, specs.Life.lacking}
+use Rattle.vb_model.{specs.declared.replies.Refusal.TheVariants.NoFrame, specs.Driver.AreClaimsFor}
+use Rattle.vb_model.{specs.declared.replies.Reply.TheVariants.{Ready, Refused}, specs.Balance.spare}
 use Rattle.vb_model.specs.Pages.{all_free, maximal_free_blocks, is_wholly_free}
-use Rattle.vb_model.specs.Requests.{BufferPosted}
-use Rattle.vb_model.specs.Guest.{Guest, Config, fresh}
-use Rattle.vb_model.specs.Driver.{AreClaimsFor}
-use Rattle.vb_model.specs.Life.{lacking}
-use Rattle.vb_model.specs.Step.{HonestStep}
-use Rattle.vb_model.specs.Orderly.{IsOrderly}
-use Rattle.vb_model.specs.Rogue.{IsRogueAfter}
+use Rattle.vb_model.{specs.Requests.BufferPosted, specs.Guest.{Guest, Config, fresh}}
+use Rattle.vb_model.{specs.Step.HonestStep, specs.Orderly.IsOrderly, specs.Rogue.IsRogueAfter}
 use Rattle.vb_model.specs.StepLaws.{HasNoReservedBallooned}
-use Rattle.vb_model.specs.Balance.{spare}
+use Rattle.vb_model.specs.declared.places.Place.TheVariants.{Reserved, Free as FreePlace}
 
 abbrev large : Config
 large = record { pages = 80; queue_size = 256; processors = 1; paced = false }

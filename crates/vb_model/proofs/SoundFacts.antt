@@ -1,17 +1,12 @@
 -- Guests whose parts don't agree, and pages that aren't blank, one for each thing that is promised.
-use Rattle.std.proofs.Common.{◌≡◌, ℕ, List, [], ◌∷◌, ◌++◌, true, false, replicate, ap, arith}
-use Rattle.std.proofs.Common.{◌∙◌, length, refl}
-use Rattle.std.specs.Prelude.{Bool, None}
-use Rattle.vb_model.specs.declared.places.Place.{Place}
+use Rattle.std.proofs.Common.{◌≡◌, ℕ, List, [], ◌∷◌, ◌++◌, true, false, replicate, ap, arith, ◌∙◌}
+use Rattle.std.{proofs.Common.{length, refl}, specs.Prelude.{Bool, None}}
 use Rattle.vb_model.specs.declared.places.Place.TheVariants.{Free, Used, Giving, Lent, Taking}
 use Rattle.vb_model.specs.declared.places.Place.TheVariants.{Reserved, Reporting}
-use Rattle.vb_model.specs.Pages.{Block}
-use Rattle.vb_model.specs.Requests.{Requests, no_requests}
-use Rattle.vb_model.specs.Guest.{Guest, zero_page}
-use Rattle.vb_model.specs.Consistent.{IsConsistent, IsPageSound}
-use Rattle.vb_model.specs.Blank.{IsBlank}
-use Rattle.vb_model.proofs.BlankSteps.{length-zero_page}
-use Rattle.vb_model.proofs.Samples.{ready, untold, page_16_at, request}
+use Rattle.vb_model.{proofs.Samples.{ready, untold, page_16_at, request}, specs.Blank.IsBlank}
+use Rattle.vb_model.{specs.Consistent.{IsConsistent, IsPageSound}, specs.Guest.{Guest, zero_page}}
+use Rattle.vb_model.{specs.Requests.{Requests, no_requests}, proofs.BlankSteps.length-zero_page}
+use Rattle.vb_model.{specs.declared.places.Place.Place, specs.Pages.Block}
 
 abbrev Same : ℕ → ℕ → Type 0
 Same a b = a ≡ b

@@ -1,20 +1,14 @@
 -- Worked facts of the statistics buffer.
-use Rattle.std.proofs.Common.{◌≡◌, [], refl}
-use Rattle.std.specs.Prelude.{ℕ, Some, None}
-use Rattle.vb_model.specs.declared.calls.Call.TheVariants.{Reset, Stats, Take, Reap, Finish, Ask}
+use Rattle.std.{proofs.Common.{◌≡◌, [], refl}, specs.Prelude.{ℕ, Some, None}}
 use Rattle.vb_model.specs.declared.replies.Refusal.TheVariants.{NotReady, NoFeature, NoQueue, Busy}
-use Rattle.vb_model.specs.declared.replies.Refusal.TheVariants.{NotTaken}
 use Rattle.vb_model.specs.declared.replies.Reply.TheVariants.{Ready, Done, Filled, NotUsed, Taken}
-use Rattle.vb_model.specs.declared.replies.Reply.TheVariants.{Empty, Asked}
 use Rattle.vb_model.specs.Requests.{Figures, Buffer, NoBuffer, BufferPosted, BufferTaken}
-use Rattle.vb_model.specs.Requests.{BufferDone}
-use Rattle.vb_model.specs.declared.replies.LastStatistics.{LastStatistics}
-use Rattle.vb_model.specs.Guest.{Guest}
-use Rattle.vb_model.specs.Refusals.{refusal_of}
-use Rattle.vb_model.specs.Driver.{figures}
-use Rattle.vb_model.specs.Life.{Negotiates}
-use Rattle.vb_model.specs.Step.{Performs, HonestStep}
-use Rattle.vb_model.proofs.Samples.{ready, down, mixed, without_stats_vq}
+use Rattle.vb_model.specs.declared.calls.Call.TheVariants.{Reset, Stats, Take, Reap, Finish, Ask}
+use Rattle.vb_model.{specs.declared.replies.Reply.TheVariants.{Empty, Asked}, specs.Life.Negotiates}
+use Rattle.vb_model.{proofs.Samples.{ready, down, mixed, without_stats_vq}, specs.Driver.figures}
+use Rattle.vb_model.{specs.declared.replies.LastStatistics.LastStatistics, specs.Guest.Guest}
+use Rattle.vb_model.{specs.declared.replies.Refusal.TheVariants.NotTaken, specs.Requests.BufferDone}
+use Rattle.vb_model.{specs.Step.{Performs, HonestStep}, specs.Refusals.refusal_of}
 
 -- ---- figures, in bytes: the free pages, and all pages, the reserved ones among them
 

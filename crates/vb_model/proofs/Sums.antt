@@ -1,7 +1,6 @@
 -- Lists of numbers with one sum.
 use Rattle.std.proofs.Common.{◌≡◌, ℕ, zero, suc, ◌<◌, ◌≤◌, List, [], ◌∷◌, length, get_or, sum, refl}
-use Rattle.std.proofs.Common.{◌⊎◌, inl, inr, arith}
-use Rattle.std.proofs.lemmas.Bool.{cases_lt}
+use Rattle.std.{proofs.Common.{◌⊎◌, inl, inr, arith}, proofs.lemmas.Bool.cases_lt}
 use Rattle.std.proofs.lemmas.List.Sums.{sum_by-cons}
 
 -- no entry is larger than that of the other list

@@ -1,17 +1,14 @@
 -- Worked facts of the tables over plain values: statuses that an honest guest never has, and which
 -- test goes first.
 -- 79 is a ready device that needs a reset, 143 one whose driver gave up, 207 both.
-use Rattle.std.proofs.Common.{◌≡◌, true, false, [], ◌∷◌, map, refl}
-use Rattle.std.specs.Prelude.{Some, None}
+use Rattle.std.{proofs.Common.{◌≡◌, true, false, [], ◌∷◌, map, refl}, specs.Prelude.{Some, None}}
 use Rattle.vb_model.specs.declared.replies.Refusal.TheVariants.{NotReady, NeedsReset, QueueFull}
 use Rattle.vb_model.specs.declared.replies.Refusal.TheVariants.{DeflatePending, Nothing, NoFeature}
-use Rattle.vb_model.specs.declared.replies.Refusal.TheVariants.{NoQueue, Busy}
-use Rattle.vb_model.specs.declared.replies.Refusal.TheVariants.{NotTaken, NotWorked, NotBallooned}
-use Rattle.vb_model.specs.Requests.{Request}
-use Rattle.vb_model.specs.FirstRefusal.{first_refusal}
+use Rattle.vb_model.specs.declared.replies.Refusal.TheVariants.{NoQueue, Busy, NotTaken, NotWorked}
 use Rattle.vb_model.specs.Tables.{is_up, is_not_ready, has_fault, most_requests, inflate_tests}
-use Rattle.vb_model.specs.Tables.{request_tests}
-use Rattle.vb_model.specs.Tables.{driver_tests, reap_tests, take_tests, work_tests}
+use Rattle.vb_model.specs.Tables.{request_tests, driver_tests, reap_tests, take_tests, work_tests}
+use Rattle.vb_model.specs.declared.replies.Refusal.TheVariants.{NotBallooned}
+use Rattle.vb_model.{specs.Requests.Request, specs.FirstRefusal.first_refusal}
 use Rattle.vb_model.specs.Tables.{finish_tests, sweep_tests, ask_tests}
 
 -- ---- the status

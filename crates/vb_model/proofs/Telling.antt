@@ -1,32 +1,19 @@
 -- A guest that tells the host takes the steps of the rules that speak of no other.
-use Rattle.std.proofs.Common.{◌≡◌, ℕ, suc, ◌+◌, ◌<◌, true, List, []}
-use Rattle.std.proofs.Common.{◌∷◌, ◌++◌, length, get_or, refl, sym, ap, ◌∙◌, arith}
-use Rattle.std.specs.Prelude.{count_by}
-use Rattle.std.specs.Prelude.{◌↔◌}
-use Rattle.vb_model.specs.declared.places.Place.{Place}
-use Rattle.vb_model.specs.declared.places.Place.TheVariants.{Reserved}
-use Rattle.vb_model.specs.declared.calls.Call.{Call}
-use Rattle.vb_model.specs.declared.calls.Claim.{Claim}
-use Rattle.vb_model.specs.declared.replies.Reply.{Reply}
-use Rattle.vb_model.specs.Tests.{one_if}
-use Rattle.vb_model.specs.Pages.{is_lent, is_taking, place_of}
-use Rattle.vb_model.specs.Requests.{Request, all_requests, names, naming}
-use Rattle.vb_model.specs.Requests.{pages_named, Kind, Inflating, Deflating}
-use Rattle.vb_model.specs.Requests.{Reporting_free}
-use Rattle.vb_model.specs.Requests.{given_away}
+use Rattle.std.proofs.Common.{◌≡◌, ℕ, suc, ◌+◌, ◌<◌, true, List, [], ◌∷◌, ◌++◌, length, get_or}
+use Rattle.std.{proofs.Common.{refl, sym, ap, ◌∙◌, arith}, specs.Prelude.{count_by, ◌↔◌}}
+use Rattle.vb_model.specs.Requests.{Request, all_requests, names, naming, pages_named, Kind}
+use Rattle.vb_model.specs.Telling.{told_reaped, ToldReaps, ToldPerforms, ToldStep}
+use Rattle.vb_model.{specs.declared.places.Place.Place, specs.declared.calls.Call.Call}
+use Rattle.vb_model.{specs.declared.places.Place.TheVariants.Reserved, specs.Tests.one_if}
+use Rattle.vb_model.{specs.declared.calls.Claim.Claim, specs.declared.replies.Reply.Reply}
+use Rattle.vb_model.{specs.Pages.{is_lent, is_taking, place_of}, specs.Driver.{reaped, Reaps}}
+use Rattle.vb_model.specs.Requests.{Inflating, Deflating, Reporting_free, given_away}
 use Rattle.vb_model.specs.Guest.{Guest, requests, with_requests, is_ballooned, tells_host}
-use Rattle.vb_model.specs.Driver.{reaped, Reaps}
-use Rattle.vb_model.specs.Step.{Performs, HonestStep}
-use Rattle.vb_model.specs.Consistent.{IsConsistent}
-use Rattle.vb_model.specs.Orderly.{IsOrderly, AllRequestsSound}
-use Rattle.vb_model.specs.Telling.{told_reaped, ToldReaps}
-use Rattle.vb_model.specs.Telling.{ToldPerforms, ToldStep, is_lent_or_taking}
-use Rattle.vb_model.proofs.Tables.{count_by-cons}
-use Rattle.vb_model.proofs.PageSteps.{naming-cons, taking_named}
-use Rattle.vb_model.proofs.GuestSteps.{below_end, kept_by_reap}
-use Rattle.vb_model.proofs.OrderlySteps.{kept_reap}
-use Rattle.vb_model.proofs.Distinct.{distinct_once}
-use Rattle.vb_model.proofs.Counts.{inside, inside-all}
+use Rattle.vb_model.{specs.Step.{Performs, HonestStep}, specs.Consistent.IsConsistent}
+use Rattle.vb_model.{specs.Orderly.{IsOrderly, AllRequestsSound}, specs.Telling.is_lent_or_taking}
+use Rattle.vb_model.{proofs.Tables.count_by-cons, proofs.PageSteps.{naming-cons, taking_named}}
+use Rattle.vb_model.{proofs.GuestSteps.{below_end, kept_by_reap}, proofs.OrderlySteps.kept_reap}
+use Rattle.vb_model.{proofs.Distinct.distinct_once, proofs.Counts.{inside, inside-all}}
 
 -- ---- as many pages are taking as deflate requests name
 

@@ -1,29 +1,22 @@
 -- What calls leave alone: the target, but for `target`; the configuration; and whether the guest is
 -- rogue, but for a scribble.
 use Rattle.std.proofs.Common.{◌≡◌, Bool, true, false, cond, List, [], ◌∷◌, refl, ap, ◌∙◌, ◌⊎◌, inl}
-use Rattle.std.proofs.Common.{inr, ℕ}
-use Rattle.std.specs.Prelude.{Option, Some, None, MatchBool}
-use Rattle.vb_model.specs.declared.calls.Call.{Call}
+use Rattle.std.{proofs.Common.{inr, ℕ}, specs.Prelude.{Option, Some, None, MatchBool}}
 use Rattle.vb_model.specs.declared.calls.Call.TheVariants.{Init, Reset, Alloc, Free, Read, Write}
 use Rattle.vb_model.specs.declared.calls.Call.TheVariants.{Scribble, Inflate, Deflate, Oom, Report}
 use Rattle.vb_model.specs.declared.calls.Call.TheVariants.{Stats, Reap, Take, Work, Finish, Sweep}
-use Rattle.vb_model.specs.declared.calls.Call.TheVariants.{Ask, SetTarget}
-use Rattle.vb_model.specs.declared.calls.Claim.{Claim}
-use Rattle.vb_model.specs.declared.replies.Refusal.{Refusal}
-use Rattle.vb_model.specs.declared.replies.Reply.{Reply}
-use Rattle.vb_model.specs.declared.replies.Reply.TheVariants.{Refused}
 use Rattle.vb_model.specs.Requests.{Request, Kind, Inflating, Deflating, Reporting_free}
 use Rattle.vb_model.specs.Requests.{kind_of_queue, Buffer, NoBuffer, BufferPosted, BufferTaken}
-use Rattle.vb_model.specs.Requests.{BufferDone}
-use Rattle.vb_model.specs.Guest.{Guest, requests}
-use Rattle.vb_model.specs.Refusals.{refusal_of}
-use Rattle.vb_model.specs.Driver.{Supplying, Reaps, Fills, Written, pages_needed}
 use Rattle.vb_model.specs.Device.{Takes, TakesBuffer, Finishes, Asks, next_page, settled, used}
-use Rattle.vb_model.specs.Life.{feature_refusal, Negotiates, lacking}
-use Rattle.vb_model.specs.Rogue.{IsRogueAfter, RogueStep, Scribbled, target_after}
-use Rattle.vb_model.specs.Step.{Performs, HonestStep}
-use Rattle.vb_model.specs.Rogue.{GuestStep}
 use Rattle.vb_model.proofs.CallSteps.{match_cases, supplying_cases, works_cases, Idles, Visits}
+use Rattle.vb_model.specs.Rogue.{IsRogueAfter, RogueStep, Scribbled, target_after, GuestStep}
+use Rattle.vb_model.specs.Driver.{Supplying, Reaps, Fills, Written, pages_needed}
+use Rattle.vb_model.specs.declared.calls.Call.TheVariants.{Ask, SetTarget}
+use Rattle.vb_model.{specs.Life.{feature_refusal, Negotiates, lacking}, specs.Requests.BufferDone}
+use Rattle.vb_model.{specs.declared.replies.Reply.TheVariants.Refused, specs.Refusals.refusal_of}
+use Rattle.vb_model.{specs.declared.replies.Refusal.Refusal, specs.declared.replies.Reply.Reply}
+use Rattle.vb_model.{specs.Step.{Performs, HonestStep}, specs.declared.calls.Claim.Claim}
+use Rattle.vb_model.{specs.declared.calls.Call.Call, specs.Guest.{Guest, requests}}
 
 -- a guest with another target, with the same configuration, that is as honest as before, or rogue
 -- for this reason

@@ -1,37 +1,29 @@
 -- Worked facts of guests that haven't agreed to tell the host, beside those of guests that have.
-use Rattle.std.proofs.Common.{◌≡◌, ℕ, true, false, List, [], ◌∷◌, ◌++◌, map, replicate, refl}
-use Rattle.std.proofs.Common.{sym, ap, ◌∙◌, arith}
-use Rattle.std.specs.Prelude.{Bool, Option, Some, None, drop}
+use Rattle.std.proofs.Common.{◌≡◌, ℕ, true, false, List, [], ◌∷◌, ◌++◌, map, replicate, refl, sym}
+use Rattle.std.{proofs.Common.{ap, ◌∙◌, arith}, specs.Prelude.{Bool, Option, Some, None, drop}}
 use Rattle.std.specs.List.{range_with_len}
-use Rattle.vb_model.specs.declared.places.Place.{Place}
-use Rattle.vb_model.specs.declared.places.Place.TheVariants.{Reserved, Free as FreePlace, Used}
 use Rattle.vb_model.specs.declared.places.Place.TheVariants.{Giving, Lent, Taking, Stranded}
-use Rattle.vb_model.specs.declared.places.Place.TheVariants.{Reporting}
-use Rattle.vb_model.specs.declared.calls.Actor.TheVariants.{Processor, Worker}
-use Rattle.vb_model.specs.declared.calls.Call.{Call}
 use Rattle.vb_model.specs.declared.calls.Call.TheVariants.{Init, Reset, Alloc, Write, Inflate}
 use Rattle.vb_model.specs.declared.calls.Call.TheVariants.{Deflate, Oom, Report, Reap, Take, Work}
-use Rattle.vb_model.specs.declared.calls.Call.TheVariants.{Finish, Sweep}
-use Rattle.vb_model.specs.declared.calls.Claim.TheVariants.{Gave}
 use Rattle.vb_model.specs.declared.replies.Refusal.TheVariants.{NotReady, NeedsReset, QueueFull}
 use Rattle.vb_model.specs.declared.replies.Refusal.TheVariants.{DeflatePending, Nothing, NoPages}
 use Rattle.vb_model.specs.declared.replies.Refusal.TheVariants.{NoFeature, NotBallooned}
-use Rattle.vb_model.specs.declared.replies.Refusal.TheVariants.{VersionMissing}
 use Rattle.vb_model.specs.declared.replies.Reply.TheVariants.{Done, Ready, Page, Posted, Reaped}
-use Rattle.vb_model.specs.declared.replies.Reply.TheVariants.{Taken, Finished, Swept, Refused}
-use Rattle.vb_model.specs.Pages.{block_at, place_of}
 use Rattle.vb_model.specs.Requests.{Request, Requests, no_requests, IsLeastHead, given_away}
-use Rattle.vb_model.specs.Requests.{BufferPosted}
+use Rattle.vb_model.{specs.declared.places.Place.Place, specs.declared.calls.Call.Call}
+use Rattle.vb_model.{specs.declared.places.Place.TheVariants.Reporting, specs.Requests.BufferPosted}
+use Rattle.vb_model.specs.declared.calls.Actor.TheVariants.{Processor, Worker}
+use Rattle.vb_model.{specs.declared.calls.Call.TheVariants.{Finish, Sweep}, specs.FirstRefusal.◌⇒◌}
+use Rattle.vb_model.{specs.declared.calls.Claim.TheVariants.Gave, specs.Pages.{block_at, place_of}}
+use Rattle.vb_model.specs.declared.replies.Refusal.TheVariants.{VersionMissing}
+use Rattle.vb_model.specs.declared.replies.Reply.TheVariants.{Taken, Finished, Swept, Refused}
 use Rattle.vb_model.specs.Guest.{Guest, zero_page, is_ready, tells_host, frame_of, is_ballooned}
-use Rattle.vb_model.specs.Status.{status_refusal}
-use Rattle.vb_model.specs.FirstRefusal.{◌⇒◌}
+use Rattle.vb_model.{specs.Status.status_refusal, specs.Refusals.refusal_of}
 use Rattle.vb_model.specs.Tables.{inflate_tests, request_tests, sweep_tests}
-use Rattle.vb_model.specs.Refusals.{refusal_of}
-use Rattle.vb_model.specs.Driver.{contents_of}
-use Rattle.vb_model.specs.Life.{feature_refusal, after_reset}
-use Rattle.vb_model.specs.Step.{Performs, HonestStep}
-use Rattle.vb_model.specs.GuestRun.{Called, Leads}
+use Rattle.vb_model.{specs.Driver.contents_of, specs.Life.{feature_refusal, after_reset}}
+use Rattle.vb_model.{specs.Step.{Performs, HonestStep}, specs.GuestRun.{Called, Leads}}
 use Rattle.vb_model.proofs.Samples.{config, ready, untold, down, mixed_places, request}
+use Rattle.vb_model.specs.declared.places.Place.TheVariants.{Reserved, Free as FreePlace, Used}
 
 abbrev Same : ℕ → ℕ → Type 0
 Same a b = a ≡ b

@@ -1,37 +1,24 @@
 -- Which calls claim frames, and what a refusal for want of frames or of memory means.
 use Rattle.std.proofs.Common.{◌≡◌, ℕ, ◌<◌, Bool, true, false, cond, List, [], ◌∷◌, length, refl}
-use Rattle.std.proofs.Common.{sym, ap, ◌∙◌, ◌⊎◌, inl, inr, arith}
+use Rattle.std.{proofs.Common.{sym, ap, ◌∙◌, ◌⊎◌, inl, inr, arith}, specs.List.list_all}
 use Rattle.std.specs.Prelude.{◌==◌, ◌||◌, ◌&&◌, not, Option, Some, None, MatchBool, is_none}
-use Rattle.std.specs.List.{list_all}
 use Rattle.std.proofs.lemmas.Bool.{eq-eqb, not-true}
-use Rattle.vb_model.specs.Layout.{start_pages}
-use Rattle.vb_model.specs.declared.calls.Call.{Call}
 use Rattle.vb_model.specs.declared.calls.Call.TheVariants.{Init, Reset, Alloc, Free, Read, Write}
 use Rattle.vb_model.specs.declared.calls.Call.TheVariants.{Scribble, Inflate, Deflate, Oom, Report}
 use Rattle.vb_model.specs.declared.calls.Call.TheVariants.{Stats, Reap, Take, Work, Finish, Sweep}
-use Rattle.vb_model.specs.declared.calls.Call.TheVariants.{Ask, SetTarget}
-use Rattle.vb_model.specs.declared.calls.Claim.{Claim}
+use Rattle.vb_model.specs.Rogue.{RogueStep, unless_refused, pages_to_back, is_read, after_refused}
+use Rattle.vb_model.specs.StepLaws.{ClaimsAreNeeded, RefusedClaimsAreAnswered, NeededPagesAreBare}
 use Rattle.vb_model.specs.declared.calls.Claim.TheVariants.{Gave, GaveNoFrame, GaveNoMemory}
-use Rattle.vb_model.specs.declared.replies.Refusal.{Refusal}
 use Rattle.vb_model.specs.declared.replies.Refusal.TheVariants.{NoFrame, NoMemory}
-use Rattle.vb_model.specs.declared.replies.Reply.{Reply}
-use Rattle.vb_model.specs.declared.replies.Reply.TheVariants.{Refused}
-use Rattle.vb_model.specs.Tests.{is_in}
-use Rattle.vb_model.specs.Guest.{Guest, frame_of}
-use Rattle.vb_model.specs.Refusals.{Test, refusal_of, tests, first_refusal}
-use Rattle.vb_model.specs.Driver.{claim_refusal, AreClaimsFor}
-use Rattle.vb_model.specs.Driver.{pages_needed}
-use Rattle.vb_model.specs.Life.{lacking}
-use Rattle.vb_model.specs.Rogue.{RogueStep, unless_refused, pages_to_back}
-use Rattle.vb_model.specs.Rogue.{is_read, after_refused}
-use Rattle.vb_model.specs.Step.{Performs, HonestStep}
-use Rattle.vb_model.specs.Rogue.{GuestStep}
-use Rattle.vb_model.specs.HostFrames.{Gives}
-use Rattle.vb_model.specs.StepLaws.{ClaimsAreNeeded, RefusedClaimsAreAnswered}
-use Rattle.vb_model.specs.StepLaws.{NeededPagesAreBare, NoFrameIsExact}
-use Rattle.vb_model.specs.StepLaws.{NoMemoryIsExact}
-use Rattle.vb_model.proofs.Tables.{list_all-at}
-use Rattle.vb_model.proofs.CallSteps.{match_cases, all_filtered}
+use Rattle.vb_model.{specs.Driver.{claim_refusal, AreClaimsFor, pages_needed}, specs.Life.lacking}
+use Rattle.vb_model.{specs.Refusals.{Test, refusal_of, tests, first_refusal}, specs.Rogue.GuestStep}
+use Rattle.vb_model.{specs.declared.calls.Call.TheVariants.{Ask, SetTarget}, specs.HostFrames.Gives}
+use Rattle.vb_model.{specs.declared.replies.Reply.TheVariants.Refused, proofs.Tables.list_all-at}
+use Rattle.vb_model.{specs.StepLaws.{NoFrameIsExact, NoMemoryIsExact}, specs.Layout.start_pages}
+use Rattle.vb_model.{proofs.CallSteps.{match_cases, all_filtered}, specs.declared.calls.Claim.Claim}
+use Rattle.vb_model.{specs.declared.replies.Refusal.Refusal, specs.declared.replies.Reply.Reply}
+use Rattle.vb_model.{specs.Step.{Performs, HonestStep}, specs.declared.calls.Call.Call}
+use Rattle.vb_model.{specs.Guest.{Guest, frame_of}, specs.Tests.is_in}
 
 or_first : (v b : Bool) → v ≡ true → (v || b) ≡ true
 or_first true b e = refl

@@ -1,18 +1,14 @@
 -- Worked facts of the device's calls on requests: take, work, finish and sweep.
 use Rattle.std.proofs.Common.{◌≡◌, ℕ, ◌+◌, true, false, List, [], ◌∷◌, ◌++◌, map, replicate, refl}
-use Rattle.std.specs.Prelude.{Bool, Option, Some, None, drop}
-use Rattle.std.specs.List.{range_with_len}
-use Rattle.vb_model.specs.declared.calls.Call.{Call}
-use Rattle.vb_model.specs.declared.calls.Call.TheVariants.{Take, Work, Finish, Sweep}
-use Rattle.vb_model.specs.declared.replies.Refusal.{Refusal}
+use Rattle.std.{specs.Prelude.{Bool, Option, Some, None, drop}, specs.List.range_with_len}
 use Rattle.vb_model.specs.declared.replies.Refusal.TheVariants.{NotReady, NoQueue, Busy, NotTaken}
-use Rattle.vb_model.specs.declared.replies.Refusal.TheVariants.{NotWorked, NotBallooned}
 use Rattle.vb_model.specs.declared.replies.Reply.TheVariants.{Taken, Empty, Worked, Idle, Finished}
-use Rattle.vb_model.specs.declared.replies.Reply.TheVariants.{Swept}
-use Rattle.vb_model.specs.Requests.{Request, Requests}
-use Rattle.vb_model.specs.Guest.{Guest, zero_page}
+use Rattle.vb_model.{specs.declared.calls.Call.Call, specs.declared.replies.Refusal.Refusal}
+use Rattle.vb_model.specs.declared.calls.Call.TheVariants.{Take, Work, Finish, Sweep}
+use Rattle.vb_model.specs.declared.replies.Refusal.TheVariants.{NotWorked, NotBallooned}
+use Rattle.vb_model.{specs.declared.replies.Reply.TheVariants.Swept, specs.Guest.{Guest, zero_page}}
+use Rattle.vb_model.{specs.Requests.{Request, Requests}, specs.Step.{Performs, HonestStep}}
 use Rattle.vb_model.specs.Refusals.{refusal_of, first_refusal, tests}
-use Rattle.vb_model.specs.Step.{Performs, HonestStep}
 use Rattle.vb_model.proofs.Samples.{config, ready, down, without_reporting, request}
 
 -- ---- a guest with taken requests of all kinds

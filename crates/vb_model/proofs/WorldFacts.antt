@@ -1,20 +1,16 @@
 -- Worked facts of the host: plugging guests in, numbers, spare devices, and which frames are given.
-use Rattle.std.proofs.Common.{◌≡◌, ℕ, ◌<◌, true, false, List, [], ◌∷◌, ◌++◌, replicate}
-use Rattle.std.proofs.Common.{refl, ◌⊎◌, inl, inr, arith}
-use Rattle.std.specs.Prelude.{Option, Some, None}
-use Rattle.vb_model.specs.declared.calls.Claim.TheVariants.{Gave, GaveNoFrame, GaveNoMemory}
-use Rattle.vb_model.specs.declared.calls.Call.TheVariants.{SetTarget}
-use Rattle.vb_model.specs.declared.calls.Event.TheVariants.{Unplug, Restart, Guest as OnGuest}
-use Rattle.vb_model.specs.declared.calls.Event.TheVariants.{Query as Asking, Frames as CountFrames}
-use Rattle.vb_model.specs.declared.calls.Query.TheVariants.{Places}
+use Rattle.std.proofs.Common.{◌≡◌, ℕ, ◌<◌, true, false, List, [], ◌∷◌, ◌++◌, replicate, refl, ◌⊎◌}
+use Rattle.std.{proofs.Common.{inl, inr, arith}, specs.Prelude.{Option, Some, None}}
 use Rattle.vb_model.specs.declared.replies.Refusal.TheVariants.{NoGuest, BadConfig, TooMany}
+use Rattle.vb_model.specs.declared.calls.Claim.TheVariants.{Gave, GaveNoFrame, GaveNoMemory}
+use Rattle.vb_model.{specs.declared.calls.Call.TheVariants.SetTarget, specs.World.{World, made}}
+use Rattle.vb_model.{specs.declared.calls.Query.TheVariants.Places, specs.HostFrames.Gives}
 use Rattle.vb_model.specs.declared.replies.Refusal.TheVariants.{NoDevice, NoMemory}
 use Rattle.vb_model.specs.declared.replies.Reply.TheVariants.{Plugged, Done, Frames, Refused}
-use Rattle.vb_model.specs.Guest.{Guest, Config, fresh}
-use Rattle.vb_model.specs.World.{World, made}
-use Rattle.vb_model.specs.HostEvents.{WorldStep, with_targets}
-use Rattle.vb_model.specs.HostFrames.{Gives}
+use Rattle.vb_model.{specs.Guest.{Guest, Config, fresh}, specs.HostEvents.{WorldStep, with_targets}}
 use Rattle.vb_model.proofs.Samples.{ready, down, plug}
+use Rattle.vb_model.specs.declared.calls.Event.TheVariants.{Unplug, Restart, Guest as OnGuest}
+use Rattle.vb_model.specs.declared.calls.Event.TheVariants.{Query as Asking, Frames as CountFrames}
 
 abbrev world : List (Option Guest) → World
 world guests = record

@@ -1,23 +1,17 @@
 -- What is done to ask for new statistics.
-use Rattle.std.proofs.Common.{◌≡◌, ◌∙◌, ◌⊎◌, inl, inr, sym, subst, refl, arith, ℕ, ◌+◌, ◌≤◌, Bool, true, false, List, [], ◌∷◌, ◌++◌, length, Option, Some, None}
-use Rattle.vb_core.specs.declared.kinds.Kind.TheVariants.{Statistics}
-use Rattle.vb_core.specs.declared.ring.UsedEntry.{UsedEntry}
-use Rattle.vb_core.specs.declared.device.Denial.{Denial}
-use Rattle.vb_core.specs.declared.device.Device.{Device}
-use Rattle.vb_core.specs.Rings.{used_entry}
-use Rattle.vb_core.specs.Using.{use_denial}
-use Rattle.vb_monitor.specs.declared.regions.Region.{Region}
-use Rattle.vb_monitor.specs.declared.regions.Spot.{Spot}
-use Rattle.vb_monitor.specs.declared.giving.UsedSpots.{UsedSpots}
-use Rattle.vb_monitor.specs.declared.outcome.Budget.{Budget}
-use Rattle.vb_monitor.specs.declared.outcome.Outcome.{Outcome}
-use Rattle.vb_monitor.specs.declared.outcome.Tally.{Tally}
+use Rattle.std.proofs.Common.{◌≡◌, ◌∙◌, ◌⊎◌, inl, inr, sym, subst, refl, arith, ℕ, ◌+◌, ◌≤◌, Bool}
+use Rattle.std.proofs.Common.{true, false, List, [], ◌∷◌, ◌++◌, length, Option, Some, None}
+use Rattle.vb_core.{specs.declared.kinds.Kind.TheVariants.Statistics, specs.Rings.used_entry}
+use Rattle.vb_core.{specs.declared.ring.UsedEntry.UsedEntry, specs.declared.device.Denial.Denial}
+use Rattle.vb_core.{specs.declared.device.Device.Device, specs.Using.use_denial}
+use Rattle.vb_monitor.specs.Giving.{Then, used_spots, used_accesses, UsedAt, GivesBackBy}
+use Rattle.vb_monitor.{specs.Asking.{AsksForFlags, GivesHeld, GivesHeldAlone}, specs.Regions.spot}
+use Rattle.vb_monitor.{specs.declared.giving.UsedSpots.UsedSpots, specs.declared.regions.Spot.Spot}
+use Rattle.vb_monitor.{specs.Ends.{Whole, Stops, Ends, FlagsAt}, specs.declared.outcome.Tally.Tally}
 use Rattle.vb_monitor.specs.Accesses.{Access, ReadWord, Full}
-use Rattle.vb_monitor.specs.Regions.{spot}
-use Rattle.vb_monitor.specs.Ends.{Whole, Stops, Ends, FlagsAt}
-use Rattle.vb_monitor.specs.Giving.{Then, used_spots, used_accesses, UsedAt, GivesBackBy, with_given, after_use}
 use Rattle.vb_monitor.specs.Notices.{Asks, AfterGiven, fresh}
-use Rattle.vb_monitor.specs.Asking.{AsksForFlags, GivesHeld, GivesHeldAlone}
+use Rattle.vb_monitor.{specs.declared.outcome.Outcome.Outcome, specs.declared.regions.Region.Region}
+use Rattle.vb_monitor.{specs.declared.outcome.Budget.Budget, specs.Giving.{with_given, after_use}}
 
 -- what is asked of statistics
 abbrev whole : List Region → Device → Outcome → Whole

@@ -1,41 +1,34 @@
 -- How many accesses a notice makes beside its discards.
-use Rattle.std.proofs.Common.{◌≡◌, ◌∙◌, ap, sym, subst, refl, arith, ℕ, zero, suc, ◌+◌, ◌*◌, ◌≤◌, Bool, true, false, List, [], ◌∷◌, ◌++◌, length, map, Option, Some, None, Result, Ok, Err}
+use Rattle.std.proofs.Common.{◌≡◌, ◌∙◌, ap, sym, subst, refl, arith, ℕ, zero, suc, ◌+◌, ◌*◌, ◌≤◌}
+use Rattle.std.proofs.Common.{Bool, true, false, List, [], ◌∷◌, ◌++◌, length, map, Option, Some}
+use Rattle.std.proofs.Common.{None, Result, Ok, Err}
 use Rattle.std.specs.Prelude.{◌==◌, nat_lt, if◌then◌else◌, min}
-use Rattle.vb_chain.specs.declared.pieces.Piece.{Piece}
+use Rattle.vb_chain.{specs.declared.pieces.Piece.Piece, specs.declared.fault.ChainFault.ChainFault}
 use Rattle.vb_chain.specs.declared.descriptor.Descriptor.{Descriptor}
-use Rattle.vb_chain.specs.declared.fault.ChainFault.{ChainFault}
 use Rattle.vb_chain.specs.Rules.{has_next, is_writable, piece_of}
-use Rattle.vb_request.specs.Request.{request_length}
-use Rattle.vb_request.specs.Statistics.{statistics_length}
-use Rattle.vb_core.specs.declared.kinds.Kind.{Kind}
+use Rattle.vb_request.{specs.Request.request_length, specs.Statistics.statistics_length}
+use Rattle.vb_core.{specs.declared.kinds.Kind.Kind, specs.declared.runs.Run.Run}
 use Rattle.vb_core.specs.declared.kinds.Kind.TheVariants.{Inflate, Deflate, Statistics, Report}
-use Rattle.vb_core.specs.declared.runs.Run.{Run}
-use Rattle.vb_core.specs.declared.name.Named.{Named}
-use Rattle.vb_core.specs.declared.ring.Ring.{Ring}
-use Rattle.vb_core.specs.declared.ring.UsedEntry.{UsedEntry}
-use Rattle.vb_core.specs.declared.device.Denial.{Denial}
-use Rattle.vb_core.specs.declared.device.Device.{Device}
-use Rattle.vb_core.specs.Rings.{used_entry}
-use Rattle.vb_core.specs.Devices.{ring_of, queue_denial}
-use Rattle.vb_core.specs.Using.{use_denial}
-use Rattle.vb_core.specs.Config.{keeps_reports}
-use Rattle.vb_core.specs.Statistics.{statistics_denial}
-use Rattle.vb_monitor.specs.declared.room.TheConstants.{MAX_FIGURES}
-use Rattle.vb_monitor.specs.declared.regions.Region.{Region}
-use Rattle.vb_monitor.specs.declared.regions.Spot.{Spot}
-use Rattle.vb_monitor.specs.declared.cuts.Cut.{Cut}
-use Rattle.vb_monitor.specs.declared.parts.Part.{Part}
-use Rattle.vb_monitor.specs.declared.outcome.Tally.{Tally}
-use Rattle.vb_monitor.specs.declared.outcome.Budget.{Budget}
-use Rattle.vb_monitor.specs.declared.outcome.Outcome.{Outcome}
-use Rattle.vb_monitor.specs.Accesses.{Access, Discard}
-use Rattle.vb_monitor.specs.Regions.{spot, meets, cut_of, cuts_from, cuts_of}
-use Rattle.vb_monitor.specs.Ends.{Whole, Ends, EndsWhere, FlagsAt}
-use Rattle.vb_monitor.specs.Giving.{Then, three_spots, UsedAt, GivesBack, GivesBackBy, with_given, after_use, cuts_for, TellsThen, AfterName}
-use Rattle.vb_monitor.specs.Pieces.{first_part, second_part, unless_empty, parts_of, PartAt, PartBy, fits_behind, CopiesParts, all_parts}
-use Rattle.vb_monitor.specs.Chains.{FiguresBy, AfterBytes, CopiesBy, ServesPieces, GoesOn, DescriptorBy, DescriptorAt, Follows, table_fault, descriptor_of, descriptors, memory_end}
-use Rattle.vb_monitor.specs.Notices.{HeadBy, EntryAt, entry_offset, stands, AfterIndex, IndexAt, LooksBy, AfterGiven, TakesUnlessSpent, TakesNext, Looks, with_chains, Serves, fresh}
-use Rattle.vb_monitor.specs.Counts.{others}
+use Rattle.vb_core.{specs.declared.name.Named.Named, specs.declared.ring.Ring.Ring}
+use Rattle.vb_core.{specs.declared.ring.UsedEntry.UsedEntry, specs.declared.device.Denial.Denial}
+use Rattle.vb_core.{specs.declared.device.Device.Device, specs.Rings.used_entry}
+use Rattle.vb_core.{specs.Devices.{ring_of, queue_denial}, specs.Using.use_denial}
+use Rattle.vb_core.{specs.Config.keeps_reports, specs.Statistics.statistics_denial}
+use Rattle.vb_monitor.specs.Giving.{Then, three_spots, UsedAt, GivesBack, GivesBackBy, with_given}
+use Rattle.vb_monitor.specs.Pieces.{first_part, second_part, unless_empty, parts_of, PartAt, PartBy}
+use Rattle.vb_monitor.specs.Chains.{FiguresBy, AfterBytes, CopiesBy, ServesPieces, GoesOn}
+use Rattle.vb_monitor.specs.Chains.{DescriptorBy, DescriptorAt, Follows, table_fault, descriptor_of}
+use Rattle.vb_monitor.specs.Notices.{HeadBy, EntryAt, entry_offset, stands, AfterIndex, IndexAt}
+use Rattle.vb_monitor.specs.Notices.{LooksBy, AfterGiven, TakesUnlessSpent, TakesNext, Looks}
+use Rattle.vb_monitor.specs.Giving.{after_use, cuts_for, TellsThen, AfterName}
+use Rattle.vb_monitor.{specs.Regions.{spot, meets, cut_of, cuts_from, cuts_of}, specs.Counts.others}
+use Rattle.vb_monitor.specs.Pieces.{fits_behind, CopiesParts, all_parts}
+use Rattle.vb_monitor.{specs.declared.room.TheConstants.MAX_FIGURES, specs.declared.parts.Part.Part}
+use Rattle.vb_monitor.{specs.Ends.{Whole, Ends, EndsWhere, FlagsAt}, specs.declared.cuts.Cut.Cut}
+use Rattle.vb_monitor.{specs.Notices.{with_chains, Serves, fresh}, specs.declared.regions.Spot.Spot}
+use Rattle.vb_monitor.{specs.declared.outcome.Outcome.Outcome, specs.declared.regions.Region.Region}
+use Rattle.vb_monitor.{specs.Chains.{descriptors, memory_end}, specs.declared.outcome.Budget.Budget}
+use Rattle.vb_monitor.{specs.declared.outcome.Tally.Tally, specs.Accesses.{Access, Discard}}
 
 abbrev Few : ℕ → List Access → Type 0
 Few m log = others log ≤ m

@@ -1,26 +1,20 @@
 -- What comes behind what, at the end of a chain: told, discarded, given back, or refused.
-use Rattle.std.proofs.Common.{◌≡◌, sym, subst, refl, ℕ, ◌+◌, ◌*◌, Bool, true, false, List, [], ◌∷◌, ◌++◌, length, map, Option, Some, None, Result, Ok, Err}
+use Rattle.std.proofs.Common.{◌≡◌, sym, subst, refl, ℕ, ◌+◌, ◌*◌, Bool, true, false, List, [], ◌∷◌}
+use Rattle.std.proofs.Common.{◌++◌, length, map, Option, Some, None, Result, Ok, Err}
 use Rattle.std.specs.Prelude.{◌==◌}
-use Rattle.vb_core.specs.declared.kinds.Kind.{Kind}
+use Rattle.vb_core.{specs.declared.kinds.Kind.Kind, specs.declared.runs.Run.Run}
 use Rattle.vb_core.specs.declared.kinds.Kind.TheVariants.{Inflate, Deflate, Statistics, Report}
-use Rattle.vb_core.specs.declared.runs.Run.{Run}
-use Rattle.vb_core.specs.declared.name.Named.{Named}
-use Rattle.vb_core.specs.declared.ring.UsedEntry.{UsedEntry}
-use Rattle.vb_core.specs.declared.statistics.Statistic.{Statistic}
-use Rattle.vb_core.specs.declared.device.Denial.{Denial}
-use Rattle.vb_core.specs.declared.device.Device.{Device}
-use Rattle.vb_core.specs.Devices.{ring_of}
-use Rattle.vb_core.specs.Rings.{used_entry}
-use Rattle.vb_core.specs.Using.{use_denial}
-use Rattle.vb_core.specs.Config.{keeps_reports}
-use Rattle.vb_monitor.specs.declared.regions.Spot.{Spot}
-use Rattle.vb_monitor.specs.declared.cuts.Cut.{Cut}
-use Rattle.vb_monitor.specs.declared.outcome.Tally.{Tally}
-use Rattle.vb_monitor.specs.Accesses.{Access, ReadWord, CopyBytes, Acquire, Release, Full, TellPages, TellFigures, Discard, WriteNumber, WriteWord}
-use Rattle.vb_monitor.specs.Regions.{spot, cuts_of}
-use Rattle.vb_monitor.specs.Ends.{Whole, Ends, EndsWhere, FlagsAt}
-use Rattle.vb_monitor.specs.Giving.{Then, three_spots, UsedAt, GivesBack, GivesBackBy, with_given, after_use, cuts_for, TellsThen, AfterName}
-use Rattle.vb_monitor.specs.Notices.{stands}
+use Rattle.vb_core.{specs.declared.name.Named.Named, specs.declared.ring.UsedEntry.UsedEntry}
+use Rattle.vb_core.{specs.declared.statistics.Statistic.Statistic, specs.Devices.ring_of}
+use Rattle.vb_core.{specs.declared.device.Denial.Denial, specs.declared.device.Device.Device}
+use Rattle.vb_core.{specs.Rings.used_entry, specs.Using.use_denial, specs.Config.keeps_reports}
+use Rattle.vb_monitor.specs.Accesses.{Access, ReadWord, CopyBytes, Acquire, Release, Full}
+use Rattle.vb_monitor.specs.Giving.{Then, three_spots, UsedAt, GivesBack, GivesBackBy, with_given}
+use Rattle.vb_monitor.{specs.declared.regions.Spot.Spot, specs.declared.cuts.Cut.Cut}
+use Rattle.vb_monitor.{specs.declared.outcome.Tally.Tally, specs.Regions.{spot, cuts_of}}
+use Rattle.vb_monitor.specs.Accesses.{TellPages, TellFigures, Discard, WriteNumber, WriteWord}
+use Rattle.vb_monitor.{specs.Ends.{Whole, Ends, EndsWhere, FlagsAt}, specs.Notices.stands}
+use Rattle.vb_monitor.specs.Giving.{after_use, cuts_for, TellsThen, AfterName}
 use Rattle.vb_monitor.specs.Order.{is_read, is_copied, is_told, is_named, Row, Cuts}
 
 -- What each access is where it is made, by the one before it.

@@ -1,18 +1,14 @@
 -- Accesses behind accesses.
-use Rattle.std.proofs.Common.{◌≡◌, ◌∙◌, ap, sym, subst, refl, arith, List, [], ◌++◌, Option, Some, None}
-use Rattle.std.specs.Prelude.{IfSome}
+use Rattle.std.proofs.Common.{◌≡◌, ◌∙◌, ap, sym, subst, refl, arith, List, [], ◌++◌, Option, Some}
+use Rattle.std.{proofs.Common.None, specs.Prelude.IfSome}
 use Rattle.std.proofs.lemmas.List.{append_assoc, append-nil}
-use Rattle.vb_core.specs.declared.kinds.Kind.{Kind}
-use Rattle.vb_core.specs.declared.device.Device.{Device}
-use Rattle.vb_monitor.specs.declared.outcome.Outcome.{Outcome}
-use Rattle.vb_monitor.specs.declared.outcome.Tally.{Tally}
-use Rattle.vb_monitor.specs.Accesses.{Access, Adds}
-use Rattle.vb_monitor.specs.declared.regions.Region.{Region}
-use Rattle.vb_monitor.specs.declared.step.Step.{Step}
-use Rattle.vb_monitor.specs.declared.step.Phase.{Phase}
+use Rattle.vb_core.{specs.declared.kinds.Kind.Kind, specs.declared.device.Device.Device}
 use Rattle.vb_monitor.specs.declared.step.Phase.TheVariants.{AwaitsIndex, AwaitsEntry}
 use Rattle.vb_monitor.specs.declared.step.Phase.TheVariants.{AwaitsDescriptor, AwaitsPart}
 use Rattle.vb_monitor.specs.declared.step.Phase.TheVariants.{TellsPages, TellsFigures, Discards}
+use Rattle.vb_monitor.{specs.declared.outcome.Outcome.Outcome, specs.declared.outcome.Tally.Tally}
+use Rattle.vb_monitor.{specs.Accesses.{Access, Adds}, specs.declared.regions.Region.Region}
+use Rattle.vb_monitor.{specs.declared.step.Step.Step, specs.declared.step.Phase.Phase}
 use Rattle.vb_monitor.specs.declared.step.Phase.TheVariants.{GivesBack, AwaitsFlags, Ended}
 use Rattle.vb_monitor.specs.Machine.{Goes, Room, Ahead, AheadAt, whole, outcome_at}
 

@@ -1,17 +1,14 @@
 -- Large pages, worked out.
-use Rattle.std.proofs.Common.{◌≡◌, ◌⊎◌, refl, sym, subst, arith, ℕ, ◌+◌, ◌<◌, ◌≤◌, Bool, true, false, List, [], ◌∷◌, map, inl, inr}
-use Rattle.std.specs.Prelude.{◌||◌}
+use Rattle.std.proofs.Common.{◌≡◌, ◌⊎◌, refl, sym, subst, arith, ℕ, ◌+◌, ◌<◌, ◌≤◌, Bool, true}
+use Rattle.std.{proofs.Common.{false, List, [], ◌∷◌, map, inl, inr}, specs.Prelude.◌||◌}
 use Rattle.std.proofs.lemmas.Bool.{cases_order}
-use Rattle.vb_core.specs.declared.device.Device.{Device}
-use Rattle.vb_core.specs.Devices.{new_device}
+use Rattle.vb_core.{specs.declared.device.Device.Device, specs.Devices.new_device}
 use Rattle.vb_core.specs.Ballooned.{is_ballooned}
-use Rattle.vb_monitor.specs.declared.regions.Region.{Region}
-use Rattle.vb_monitor.specs.declared.cuts.Cut.{Cut}
-use Rattle.vb_monitor.specs.declared.large.Large.{Large}
-use Rattle.vb_monitor.specs.declared.large.TheConstants.{LARGEST_PAGE}
-use Rattle.vb_monitor.specs.Large.{is_page_size, is_made_of, is_part_of, is_of_large, is_of, outside, counted, Goes, all_wait, LargeBy}
-use Rattle.vb_monitor.proofs.LargeLemmas.{between_says}
-use Rattle.vb_monitor.proofs.LargeLaws.{largest, given_up}
+use Rattle.vb_monitor.specs.Large.{is_page_size, is_made_of, is_part_of, is_of_large, is_of}
+use Rattle.vb_monitor.specs.Large.{outside, counted, Goes, all_wait, LargeBy}
+use Rattle.vb_monitor.{specs.declared.large.TheConstants.LARGEST_PAGE, specs.declared.cuts.Cut.Cut}
+use Rattle.vb_monitor.{specs.declared.regions.Region.Region, proofs.LargeLaws.{largest, given_up}}
+use Rattle.vb_monitor.{specs.declared.large.Large.Large, proofs.LargeLemmas.between_says}
 
 -- ---- sizes
 

@@ -1,16 +1,14 @@
 -- How a queue is looked at, and a whole notice, worked out: which accesses it makes, and which it doesn't.
-use Rattle.std.proofs.Common.{◌≡◌, refl, ap, Bool, true, false, List, [], ◌∷◌, Option, Some, None, Ok, Err}
+use Rattle.std.proofs.Common.{◌≡◌, refl, ap, Bool, true, false, List, [], ◌∷◌, Option, Some, None}
+use Rattle.std.proofs.Common.{Ok, Err}
 use Rattle.vb_chain.specs.declared.fault.ChainFault.TheVariants.{IndexJump, BadHead}
 use Rattle.vb_core.specs.declared.kinds.Kind.TheVariants.{Inflate, Deflate, Statistics, Report}
-use Rattle.vb_core.specs.declared.device.Denial.{Denial}
+use Rattle.vb_core.{specs.declared.device.Denial.Denial, specs.declared.device.Device.Device}
 use Rattle.vb_core.specs.declared.device.Denial.TheVariants.{Broken}
-use Rattle.vb_core.specs.declared.device.Device.{Device}
-use Rattle.vb_monitor.specs.declared.outcome.Outcome.{Outcome}
-use Rattle.vb_monitor.specs.Accesses.{Access, Acquire}
-use Rattle.vb_monitor.specs.Ends.{Whole}
-use Rattle.vb_monitor.specs.Giving.{Then}
-use Rattle.vb_monitor.specs.Notices.{entry_offset, stands, AfterIndex, AfterGiven, TakesNext, with_chains, fresh, HeadBy}
-use Rattle.vb_monitor.proofs.Samples.{two, ring, ready, tally, index, pages}
+use Rattle.vb_monitor.specs.Notices.{entry_offset, stands, AfterIndex, AfterGiven, TakesNext}
+use Rattle.vb_monitor.{proofs.Samples.{two, ring, ready, tally, index, pages}, specs.Giving.Then}
+use Rattle.vb_monitor.{specs.Notices.{with_chains, fresh, HeadBy}, specs.Accesses.{Access, Acquire}}
+use Rattle.vb_monitor.{specs.declared.outcome.Outcome.Outcome, specs.Ends.Whole}
 
 -- ---- the index and the entry
 

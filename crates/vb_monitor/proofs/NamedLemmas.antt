@@ -1,22 +1,16 @@
 -- What is told of pages and figures, where something is told.
-use Rattle.std.proofs.Common.{◌≡◌, ◌∙◌, ap, sym, subst, refl, ℕ, Bool, true, false, List, [], ◌∷◌, length, map, take, Option, Some, None, Result, Ok, Err}
-use Rattle.vb_chain.specs.declared.pieces.Piece.{Piece}
-use Rattle.vb_chain.specs.declared.fault.ChainFault.{ChainFault}
-use Rattle.vb_request.specs.Request.{numbers_of}
-use Rattle.vb_request.specs.Report.{report_request}
-use Rattle.vb_core.specs.declared.kinds.Kind.{Kind}
+use Rattle.std.proofs.Common.{◌≡◌, ◌∙◌, ap, sym, subst, refl, ℕ, Bool, true, false, List, [], ◌∷◌}
+use Rattle.std.proofs.Common.{length, map, take, Option, Some, None, Result, Ok, Err}
+use Rattle.vb_chain.{specs.declared.pieces.Piece.Piece, specs.declared.fault.ChainFault.ChainFault}
+use Rattle.vb_request.{specs.Request.numbers_of, specs.Report.report_request}
 use Rattle.vb_core.specs.declared.kinds.Kind.TheVariants.{Inflate, Deflate, Statistics, Report}
-use Rattle.vb_core.specs.declared.runs.Run.{Run}
-use Rattle.vb_core.specs.declared.ring.Ring.{Ring}
-use Rattle.vb_core.specs.declared.name.Named.{Named}
-use Rattle.vb_core.specs.declared.device.Denial.{Denial}
-use Rattle.vb_core.specs.declared.device.Denial.TheVariants.{NoQueue}
-use Rattle.vb_core.specs.declared.device.Device.{Device}
-use Rattle.vb_core.specs.Settings.{memory_pages, skips}
-use Rattle.vb_core.specs.Devices.{ring_of, with_one_taken, needing_reset}
-use Rattle.vb_core.specs.Next.{told}
-use Rattle.vb_core.specs.Name.{NamesBy, NamesRuns, fault_in, name_denial, after_request}
 use Rattle.vb_core.specs.Report.{NamesPiecesBy, pieces_denial, named_by, report_named, run_of}
+use Rattle.vb_core.specs.Name.{NamesBy, NamesRuns, fault_in, name_denial, after_request}
+use Rattle.vb_core.{specs.Devices.{ring_of, with_one_taken, needing_reset}, specs.Next.told}
+use Rattle.vb_core.{specs.declared.device.Denial.TheVariants.NoQueue, specs.declared.ring.Ring.Ring}
+use Rattle.vb_core.{specs.Settings.{memory_pages, skips}, specs.declared.device.Denial.Denial}
+use Rattle.vb_core.{specs.declared.device.Device.Device, specs.declared.name.Named.Named}
+use Rattle.vb_core.{specs.declared.kinds.Kind.Kind, specs.declared.runs.Run.Run}
 use Rattle.vb_monitor.specs.Turns.{TellNumbers, TellPieces}
 use Rattle.vb_monitor.proofs.TurnLemmas.{same_ring, taken_ring}
 

@@ -1,19 +1,15 @@
 -- What is still to come, where a number counts down or a list gets shorter.
-use Rattle.std.proofs.Common.{◌≡◌, ◌∙◌, ap, sym, subst, refl, arith, ℕ, zero, suc, ◌+◌, ◌-◌, ◌<◌, ◌≤◌, ◌*◌, Bool, true, false, List, [], ◌∷◌, ◌++◌, Option, None}
+use Rattle.std.proofs.Common.{◌≡◌, ◌∙◌, ap, sym, subst, refl, arith, ℕ, zero, suc, ◌+◌, ◌-◌, ◌<◌}
+use Rattle.std.proofs.Common.{◌≤◌, ◌*◌, Bool, true, false, List, [], ◌∷◌, ◌++◌, Option, None}
 use Rattle.std.specs.Prelude.{◌==◌}
 use Rattle.vb_chain.specs.declared.pieces.Piece.{Piece}
 use Rattle.vb_chain.specs.declared.fault.ChainFault.TheVariants.{TooLong}
-use Rattle.vb_core.specs.declared.device.Device.{Device}
-use Rattle.vb_core.specs.Devices.{ring_of, queue_denial}
-use Rattle.vb_monitor.specs.declared.outcome.Tally.{Tally}
-use Rattle.vb_monitor.specs.declared.parts.Part.{Part}
-use Rattle.vb_monitor.specs.Accesses.{Access}
-use Rattle.vb_monitor.specs.Regions.{spot}
-use Rattle.vb_monitor.specs.Ends.{Whole, Ends, Breaks}
-use Rattle.vb_monitor.specs.Pieces.{PartBy, fits_behind, CopiesParts}
-use Rattle.vb_monitor.specs.Chains.{DescriptorAt, Follows}
-use Rattle.vb_monitor.specs.Notices.{Takes, TakesNext, TakesUnlessSpent, AfterGiven, Looks, LooksBy, with_chains}
-use Rattle.vb_monitor.specs.Machine.{next_chain}
+use Rattle.vb_core.{specs.declared.device.Device.Device, specs.Devices.{ring_of, queue_denial}}
+use Rattle.vb_monitor.specs.Notices.{Takes, TakesNext, TakesUnlessSpent, AfterGiven, Looks, LooksBy}
+use Rattle.vb_monitor.{specs.declared.outcome.Tally.Tally, specs.declared.parts.Part.Part}
+use Rattle.vb_monitor.{specs.Accesses.Access, specs.Regions.spot, specs.Ends.{Whole, Ends, Breaks}}
+use Rattle.vb_monitor.{specs.Pieces.{PartBy, fits_behind, CopiesParts}, specs.Notices.with_chains}
+use Rattle.vb_monitor.{specs.Chains.{DescriptorAt, Follows}, specs.Machine.next_chain}
 use Rattle.vb_monitor.proofs.BufferLemmas.{second_in, no_second_in, behind_in}
 
 -- the budget, one chain less

@@ -1,18 +1,14 @@
 -- What is done at once, worked out, and what isn't.
 use Rattle.std.proofs.Common.{◌≡◌, ◌≤◌, refl, arith, ℕ, true, false, List, [], ◌∷◌, Some, None}
 use Rattle.vb_core.specs.declared.kinds.Kind.TheVariants.{Inflate, Statistics}
-use Rattle.vb_core.specs.declared.runs.Run.{Run}
-use Rattle.vb_core.specs.declared.statistics.Statistic.{Statistic}
-use Rattle.vb_monitor.specs.declared.regions.Spot.{Spot}
-use Rattle.vb_monitor.specs.declared.cuts.Cut.{Cut}
+use Rattle.vb_core.{specs.declared.runs.Run.Run, specs.declared.statistics.Statistic.Statistic}
+use Rattle.vb_monitor.specs.Accesses.{Access, ReadWord, TellPages, TellFigures, Discard}
+use Rattle.vb_monitor.{specs.declared.regions.Spot.Spot, specs.declared.cuts.Cut.Cut}
 use Rattle.vb_monitor.specs.declared.orders.Told.TheVariants.{Nothing, Pages, Figures}
-use Rattle.vb_monitor.specs.declared.orders.Asked.{Asked}
-use Rattle.vb_monitor.specs.declared.orders.Orders.{Orders}
-use Rattle.vb_monitor.specs.declared.step.Phase.{Phase}
+use Rattle.vb_monitor.{specs.declared.orders.Asked.Asked, specs.declared.orders.Orders.Orders}
+use Rattle.vb_monitor.{specs.declared.step.Phase.Phase, specs.Machine.{Awaited, Room, stage, waits}}
 use Rattle.vb_monitor.specs.declared.step.Phase.TheVariants.{AwaitsIndex, Discards}
-use Rattle.vb_monitor.specs.Accesses.{Access, ReadWord, TellPages, TellFigures, Discard, WriteNumber}
-use Rattle.vb_monitor.specs.Accesses.{WriteWord, Release}
-use Rattle.vb_monitor.specs.Machine.{Awaited, Room, stage, waits}
+use Rattle.vb_monitor.specs.Accesses.{WriteNumber, WriteWord, Release}
 use Rattle.vb_monitor.specs.Orders.{at_once, HasRoom}
 
 abbrev spot : ℕ → Spot

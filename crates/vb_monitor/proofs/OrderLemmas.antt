@@ -1,22 +1,17 @@
 -- What is done at once.
-use Rattle.std.proofs.Common.{◌≡◌, ◌∙◌, ap, sym, refl, arith, ℕ, ◌+◌, ◌<◌, true, List, [], ◌∷◌, ◌++◌, length, map, take, slice_set, Option, Some, None}
+use Rattle.std.proofs.Common.{◌≡◌, ◌∙◌, ap, sym, refl, arith, ℕ, ◌+◌, ◌<◌, true, List, [], ◌∷◌}
+use Rattle.std.proofs.Common.{◌++◌, length, map, take, slice_set, Option, Some, None}
 use Rattle.std.proofs.lemmas.List.{append_assoc, map-append, take_more_set}
-use Rattle.vb_core.specs.declared.device.Device.{Device}
-use Rattle.vb_core.specs.declared.runs.Run.{Run}
-use Rattle.vb_monitor.specs.declared.cuts.Cut.{Cut}
-use Rattle.vb_monitor.specs.declared.cuts.NextCut.{NextCut}
-use Rattle.vb_monitor.specs.declared.regions.Region.{Region}
-use Rattle.vb_monitor.specs.declared.outcome.Tally.{Tally}
-use Rattle.vb_monitor.specs.declared.step.Phase.{Phase}
+use Rattle.vb_core.{specs.declared.device.Device.Device, specs.declared.runs.Run.Run}
 use Rattle.vb_monitor.specs.declared.step.Phase.TheVariants.{AwaitsIndex, AwaitsEntry}
 use Rattle.vb_monitor.specs.declared.step.Phase.TheVariants.{AwaitsDescriptor, AwaitsPart}
 use Rattle.vb_monitor.specs.declared.step.Phase.TheVariants.{TellsPages, TellsFigures, Discards}
+use Rattle.vb_monitor.{specs.declared.cuts.Cut.Cut, specs.declared.cuts.NextCut.NextCut}
+use Rattle.vb_monitor.{specs.declared.regions.Region.Region, specs.declared.outcome.Tally.Tally}
+use Rattle.vb_monitor.{specs.declared.step.Phase.Phase, specs.Accesses.{Access, Discard}}
 use Rattle.vb_monitor.specs.declared.step.Phase.TheVariants.{GivesBack, AwaitsFlags, Ended}
-use Rattle.vb_monitor.specs.Accesses.{Access, Discard}
-use Rattle.vb_monitor.specs.Ends.{Whole}
+use Rattle.vb_monitor.{specs.Ends.Whole, specs.Machine.{stage, waits}, specs.Orders.cuts_left}
 use Rattle.vb_monitor.specs.Giving.{Then, DiscardsThen, GivesBack as GivesChainBack}
-use Rattle.vb_monitor.specs.Machine.{stage, waits}
-use Rattle.vb_monitor.specs.Orders.{cuts_left}
 
 pub stage_waits : (p : Phase) → stage p ≡ 3 → waits p ≡ true
 stage_waits (AwaitsIndex at) e = refl

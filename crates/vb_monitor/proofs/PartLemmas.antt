@@ -1,12 +1,11 @@
 -- Parts of pieces, one piece after the other.
-use Rattle.std.proofs.Common.{◌≡◌, ◌∙◌, ap, sym, subst, refl, arith, ℕ, ◌+◌, ◌-◌, ◌<◌, ◌≤◌, ◌%◌, Bool, true, false, List, [], ◌∷◌, ◌++◌, length, drop, get_or}
-use Rattle.std.specs.Prelude.{if◌then◌else◌, ◌==◌}
-use Rattle.std.proofs.lemmas.List.{drop_more, drop_all}
+use Rattle.std.proofs.Common.{◌≡◌, ◌∙◌, ap, sym, subst, refl, arith, ℕ, ◌+◌, ◌-◌, ◌<◌, ◌≤◌, ◌%◌}
+use Rattle.std.proofs.Common.{Bool, true, false, List, [], ◌∷◌, ◌++◌, length, drop, get_or}
+use Rattle.std.{specs.Prelude.{if◌then◌else◌, ◌==◌}, proofs.lemmas.List.{drop_more, drop_all}}
 use Rattle.std.proofs.lemmas.Bool.Decides.{nat_tests}
 use Rattle.vb_chain.specs.declared.pieces.Piece.{Piece}
-use Rattle.vb_monitor.specs.declared.parts.Part.{Part}
+use Rattle.vb_monitor.{specs.declared.parts.Part.Part, specs.Machine.{seconds, behind_part}}
 use Rattle.vb_monitor.specs.Pieces.{first_part, second_part, unless_empty, parts_of, all_parts}
-use Rattle.vb_monitor.specs.Machine.{seconds, behind_part}
 
 some_first : (p : Piece) → 0 < p.len → ((first_part p).length == 0) ≡ false
 some_first p h = grind (arith, nat_tests)

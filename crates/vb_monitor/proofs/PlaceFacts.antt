@@ -1,18 +1,14 @@
 -- Where memory of regions ends, what of it is memory, and which queues lie in it, worked out.
 use Rattle.std.proofs.Common.{◌≡◌, refl, arith, ℕ, true, false, [], ◌∷◌, Some, None}
-use Rattle.vb_core.specs.declared.ring.Ring.{Ring}
-use Rattle.vb_core.specs.declared.settings.Settings.{Settings}
-use Rattle.vb_core.specs.declared.device.Device.{Device}
-use Rattle.vb_core.specs.Devices.{new_device, placed}
+use Rattle.vb_core.{specs.declared.ring.Ring.Ring, specs.declared.settings.Settings.Settings}
+use Rattle.vb_core.{specs.declared.device.Device.Device, specs.Devices.{new_device, placed}}
 use Rattle.vb_core.specs.declared.kinds.Kind.TheVariants.{Inflate, Statistics}
-use Rattle.vb_monitor.specs.declared.regions.Region.{Region}
-use Rattle.vb_monitor.specs.declared.cuts.Cut.{Cut}
+use Rattle.vb_monitor.specs.Places.{memory_end_of, is_memory, AreMemory, HasMemory, Lies}
+use Rattle.vb_monitor.{specs.Balloons.{held_head, held_after, may_tell}, specs.Counts.others}
+use Rattle.vb_monitor.{specs.Places.{balloon_over, may_be_memory}, specs.declared.cuts.Cut.Cut}
 use Rattle.vb_monitor.specs.Accesses.{Full, Release, Discard}
-use Rattle.vb_monitor.specs.Counts.{others}
-use Rattle.vb_monitor.specs.declared.outcome.Outcome.{Outcome}
+use Rattle.vb_monitor.{specs.declared.outcome.Outcome.Outcome, specs.declared.regions.Region.Region}
 use Rattle.vb_monitor.specs.declared.balloon.Balloon.{Balloon}
-use Rattle.vb_monitor.specs.Balloons.{held_head, held_after, may_tell}
-use Rattle.vb_monitor.specs.Places.{memory_end_of, is_memory, AreMemory, HasMemory, Lies, balloon_over, may_be_memory}
 
 -- pages 0 to 20, and, one page on, pages 22 to 31
 abbrev low : Region

@@ -3,12 +3,9 @@ use Rattle.std.proofs.Common.{◌≡◌, refl, true, false, List, [], ◌∷◌,
 use Rattle.vb_chain.specs.declared.pieces.Piece.{Piece}
 use Rattle.vb_core.specs.declared.kinds.Kind.TheVariants.{Inflate, Deflate, Report}
 use Rattle.vb_core.specs.declared.runs.Run.{Run}
-use Rattle.vb_monitor.specs.declared.regions.Region.{Region}
-use Rattle.vb_monitor.specs.declared.regions.Spot.{Spot}
-use Rattle.vb_monitor.specs.declared.cuts.Cut.{Cut}
-use Rattle.vb_monitor.specs.declared.parts.Part.{Part}
-use Rattle.vb_monitor.specs.Regions.{is_region, spot, cuts_of}
-use Rattle.vb_monitor.specs.Giving.{cuts_for}
+use Rattle.vb_monitor.{specs.declared.regions.Region.Region, specs.declared.regions.Spot.Spot}
+use Rattle.vb_monitor.{specs.declared.cuts.Cut.Cut, specs.declared.parts.Part.Part}
+use Rattle.vb_monitor.{specs.Regions.{is_region, spot, cuts_of}, specs.Giving.cuts_for}
 use Rattle.vb_monitor.specs.Pieces.{parts_of, all_parts}
 
 -- pages 0 to 20, and, one page on, pages 22 to 31

@@ -1,15 +1,12 @@
 -- Places and parts of runs, one region after the other.
-use Rattle.std.proofs.Common.{◌≡◌, ◌∙◌, ap, sym, subst, refl, arith, ℕ, ◌+◌, ◌-◌, ◌<◌, ◌≤◌, Bool, true, false, List, [], ◌∷◌, ◌++◌, length, drop, get_or, Option, Some, None}
-use Rattle.std.specs.Prelude.{if◌then◌else◌, nat_le, ◌&&◌}
-use Rattle.std.proofs.lemmas.List.{drop_more, drop_all}
-use Rattle.std.proofs.lemmas.Bool.Decides.{nat_tests}
-use Rattle.vb_core.specs.declared.settings.TheConstants.{MEMORY_LIMIT}
-use Rattle.vb_core.specs.declared.runs.Run.{Run}
-use Rattle.vb_monitor.specs.declared.regions.Region.{Region}
-use Rattle.vb_monitor.specs.declared.regions.Spot.{Spot}
-use Rattle.vb_monitor.specs.declared.cuts.Cut.{Cut}
+use Rattle.std.proofs.Common.{◌≡◌, ◌∙◌, ap, sym, subst, refl, arith, ℕ, ◌+◌, ◌-◌, ◌<◌, ◌≤◌, Bool}
+use Rattle.std.proofs.Common.{true, false, List, [], ◌∷◌, ◌++◌, length, drop, get_or, Option, Some}
+use Rattle.std.{proofs.Common.None, specs.Prelude.{if◌then◌else◌, nat_le, ◌&&◌}}
+use Rattle.std.{proofs.lemmas.List.{drop_more, drop_all}, proofs.lemmas.Bool.Decides.nat_tests}
+use Rattle.vb_core.{specs.declared.settings.TheConstants.MEMORY_LIMIT, specs.declared.runs.Run.Run}
+use Rattle.vb_monitor.{specs.declared.regions.Region.Region, specs.declared.regions.Spot.Spot}
+use Rattle.vb_monitor.{specs.declared.cuts.Cut.Cut, specs.Machine.{cuts_on, cuts_behind}}
 use Rattle.vb_monitor.specs.Regions.{is_region, holds, spot_from, meets, cut_of, cuts_from, cuts_of}
-use Rattle.vb_monitor.specs.Machine.{cuts_on, cuts_behind}
 
 -- ---- places
 

@@ -1,27 +1,20 @@
 -- As many runs as are told have room.
-use Rattle.std.proofs.Common.{◌≡◌, ◌∙◌, sym, subst, ap, arith, ℕ, ◌+◌, ◌≤◌, ◌/◌, Bool, true, false, List, length, take, Option, Some, None, Result, Ok, Err, refl}
-use Rattle.std.specs.Prelude.{nat_le, ◌&&◌}
-use Rattle.std.proofs.lemmas.Bool.Decides.{nat_tests}
-use Rattle.vb_chain.specs.declared.fault.ChainFault.{ChainFault}
-use Rattle.vb_chain.specs.declared.pieces.Piece.{Piece}
-use Rattle.vb_request.specs.Request.{numbers_of, is_request_length}
-use Rattle.vb_request.proofs.Once.{numbers_of-length}
-use Rattle.vb_core.specs.declared.kinds.Kind.{Kind}
-use Rattle.vb_core.specs.declared.runs.Run.{Run}
-use Rattle.vb_core.specs.declared.name.Named.{Named}
-use Rattle.vb_core.specs.declared.device.Denial.{Denial}
-use Rattle.vb_core.specs.declared.device.Device.{Device}
-use Rattle.vb_core.specs.Settings.{memory_pages, skips}
-use Rattle.vb_core.specs.Devices.{call_denial}
-use Rattle.vb_core.specs.Next.{told}
-use Rattle.vb_model.specs.declared.limits.TheConstants.{MAX_QUEUE_SIZE}
-use Rattle.vb_core.specs.declared.next.Buffer.{Buffer}
+use Rattle.std.proofs.Common.{◌≡◌, ◌∙◌, sym, subst, ap, arith, ℕ, ◌+◌, ◌≤◌, ◌/◌, Bool, true, false}
+use Rattle.std.proofs.Common.{List, length, take, Option, Some, None, Result, Ok, Err, refl}
+use Rattle.std.{specs.Prelude.{nat_le, ◌&&◌}, proofs.lemmas.Bool.Decides.nat_tests}
+use Rattle.vb_chain.{specs.declared.fault.ChainFault.ChainFault, specs.declared.pieces.Piece.Piece}
+use Rattle.vb_request.{specs.Request.{numbers_of, is_request_length}, proofs.Once.numbers_of-length}
 use Rattle.vb_request.specs.Report.{report_request}
+use Rattle.vb_core.specs.Name.{NamesBy, NamesRuns, AreNamed, fault_in, right_numbers, name_denial}
+use Rattle.vb_core.{specs.declared.kinds.Kind.Kind, specs.declared.runs.Run.Run, specs.Next.told}
+use Rattle.vb_core.{specs.declared.name.Named.Named, specs.declared.device.Denial.Denial}
+use Rattle.vb_core.{specs.declared.device.Device.Device, specs.Settings.{memory_pages, skips}}
+use Rattle.vb_core.{specs.Devices.call_denial, specs.declared.next.Buffer.Buffer}
 use Rattle.vb_core.specs.Report.{NamesPiecesBy, pieces_denial, named_by, report_named}
-use Rattle.vb_monitor.specs.declared.room.TheConstants.{MAX_RUNS}
-use Rattle.vb_monitor.specs.Pieces.{pieces_in}
+use Rattle.vb_core.specs.Name.{is_request, after_request}
+use Rattle.vb_model.specs.declared.limits.TheConstants.{MAX_QUEUE_SIZE}
+use Rattle.vb_monitor.{specs.declared.room.TheConstants.MAX_RUNS, specs.Pieces.pieces_in}
 use Rattle.vb_monitor.proofs.BufferLemmas.{length_in}
-use Rattle.vb_core.specs.Name.{NamesBy, NamesRuns, AreNamed, fault_in, right_numbers, name_denial, is_request, after_request}
 
 fits_then : (kind : Kind) (known fits copied : Bool) (d : Device) →
     call_denial kind known fits copied d ≡ None → fits ≡ true

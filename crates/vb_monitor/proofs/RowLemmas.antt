@@ -1,31 +1,26 @@
 -- What comes behind what in a notice.
-use Rattle.std.proofs.Common.{◌≡◌, sym, subst, refl, ℕ, zero, suc, ◌+◌, ◌*◌, Bool, true, false, List, [], ◌∷◌, ◌++◌, length, Option, Some, None, Result, Ok, Err}
+use Rattle.std.proofs.Common.{◌≡◌, sym, subst, refl, ℕ, zero, suc, ◌+◌, ◌*◌, Bool, true, false}
+use Rattle.std.proofs.Common.{List, [], ◌∷◌, ◌++◌, length, Option, Some, None, Result, Ok, Err}
 use Rattle.std.specs.Prelude.{◌==◌, nat_lt}
-use Rattle.vb_chain.specs.declared.pieces.Piece.{Piece}
-use Rattle.vb_chain.specs.declared.descriptor.Descriptor.{Descriptor}
-use Rattle.vb_chain.specs.declared.fault.ChainFault.{ChainFault}
-use Rattle.vb_chain.specs.Rules.{has_next}
-use Rattle.vb_request.specs.Request.{request_length}
-use Rattle.vb_request.specs.Statistics.{statistics_length}
-use Rattle.vb_core.specs.declared.kinds.Kind.{Kind}
+use Rattle.vb_chain.{specs.declared.pieces.Piece.Piece, specs.declared.fault.ChainFault.ChainFault}
+use Rattle.vb_chain.{specs.declared.descriptor.Descriptor.Descriptor, specs.Rules.has_next}
+use Rattle.vb_request.{specs.Request.request_length, specs.Statistics.statistics_length}
+use Rattle.vb_core.{specs.declared.kinds.Kind.Kind, specs.declared.device.Denial.Denial}
 use Rattle.vb_core.specs.declared.kinds.Kind.TheVariants.{Inflate, Deflate, Statistics, Report}
-use Rattle.vb_core.specs.declared.device.Denial.{Denial}
-use Rattle.vb_core.specs.declared.device.Device.{Device}
-use Rattle.vb_core.specs.Devices.{ring_of, queue_denial}
+use Rattle.vb_core.{specs.declared.device.Device.Device, specs.Devices.{ring_of, queue_denial}}
 use Rattle.vb_core.specs.Statistics.{statistics_denial}
-use Rattle.vb_monitor.specs.declared.room.TheConstants.{MAX_FIGURES}
-use Rattle.vb_monitor.specs.declared.regions.Spot.{Spot}
-use Rattle.vb_monitor.specs.declared.parts.Part.{Part}
-use Rattle.vb_monitor.specs.declared.outcome.Tally.{Tally}
-use Rattle.vb_monitor.specs.Accesses.{Access, ReadWord, CopyBytes, Acquire, Release, Full, TellPages, TellFigures, Discard, WriteNumber, WriteWord}
-use Rattle.vb_monitor.specs.Regions.{spot}
-use Rattle.vb_monitor.specs.Ends.{Whole}
-use Rattle.vb_monitor.specs.Giving.{Then}
+use Rattle.vb_monitor.specs.Accesses.{Access, ReadWord, CopyBytes, Acquire, Release, Full}
+use Rattle.vb_monitor.specs.Chains.{FiguresBy, AfterBytes, CopiesBy, ServesPieces, GoesOn}
+use Rattle.vb_monitor.specs.Chains.{DescriptorBy, DescriptorAt, Follows, table_fault, descriptor_of}
+use Rattle.vb_monitor.specs.Notices.{HeadBy, EntryAt, entry_offset, stands, AfterIndex, IndexAt}
+use Rattle.vb_monitor.specs.Notices.{LooksBy, AfterGiven, TakesUnlessSpent, TakesNext, Looks}
+use Rattle.vb_monitor.specs.Accesses.{TellPages, TellFigures, Discard, WriteNumber, WriteWord}
 use Rattle.vb_monitor.specs.Pieces.{PartAt, PartBy, fits_behind, CopiesParts, all_parts}
-use Rattle.vb_monitor.specs.Chains.{FiguresBy, AfterBytes, CopiesBy, ServesPieces, GoesOn, DescriptorBy, DescriptorAt, Follows, table_fault, descriptor_of, descriptors, memory_end}
-use Rattle.vb_monitor.specs.Notices.{HeadBy, EntryAt, entry_offset, stands, AfterIndex, IndexAt, LooksBy, AfterGiven, TakesUnlessSpent, TakesNext, Looks, with_chains}
-use Rattle.vb_monitor.specs.Order.{is_read, is_copied, Row}
-use Rattle.vb_monitor.proofs.GivenLemmas.{Allows, After, ends_row, name_row}
+use Rattle.vb_monitor.{proofs.GivenLemmas.{Allows, After, ends_row, name_row}, specs.Regions.spot}
+use Rattle.vb_monitor.{specs.declared.room.TheConstants.MAX_FIGURES, specs.declared.parts.Part.Part}
+use Rattle.vb_monitor.{specs.Chains.{descriptors, memory_end}, specs.declared.outcome.Tally.Tally}
+use Rattle.vb_monitor.{specs.Order.{is_read, is_copied, Row}, specs.declared.regions.Spot.Spot}
+use Rattle.vb_monitor.{specs.Notices.with_chains, specs.Giving.Then, specs.Ends.Whole}
 
 -- ---- what bytes and pieces come to
 

@@ -1,17 +1,13 @@
 -- Regions, a ring, a device and the accesses of a notice, which the facts share.
 use Rattle.std.proofs.Common.{◌≡◌, ℕ, false, List, [], ◌∷◌, None}
 use Rattle.vb_chain.specs.declared.pieces.Piece.{Piece}
-use Rattle.vb_core.specs.declared.kinds.Kind.TheVariants.{Inflate}
-use Rattle.vb_core.specs.declared.runs.Run.{Run}
-use Rattle.vb_core.specs.declared.ring.Ring.{Ring}
-use Rattle.vb_core.specs.declared.settings.Settings.{Settings}
-use Rattle.vb_core.specs.declared.device.Device.{Device}
-use Rattle.vb_core.specs.Devices.{new_device, placed}
-use Rattle.vb_monitor.specs.declared.regions.Region.{Region}
-use Rattle.vb_monitor.specs.declared.regions.Spot.{Spot}
-use Rattle.vb_monitor.specs.declared.cuts.Cut.{Cut}
-use Rattle.vb_monitor.specs.declared.outcome.Tally.{Tally}
-use Rattle.vb_monitor.specs.Accesses.{Access, ReadWord, CopyBytes, TellPages, TellFigures, Discard, WriteNumber, WriteWord}
+use Rattle.vb_core.{specs.declared.kinds.Kind.TheVariants.Inflate, specs.declared.runs.Run.Run}
+use Rattle.vb_core.{specs.declared.ring.Ring.Ring, specs.declared.settings.Settings.Settings}
+use Rattle.vb_core.{specs.declared.device.Device.Device, specs.Devices.{new_device, placed}}
+use Rattle.vb_monitor.specs.Accesses.{Access, ReadWord, CopyBytes, TellPages, TellFigures, Discard}
+use Rattle.vb_monitor.{specs.declared.regions.Region.Region, specs.declared.regions.Spot.Spot}
+use Rattle.vb_monitor.{specs.declared.cuts.Cut.Cut, specs.declared.outcome.Tally.Tally}
+use Rattle.vb_monitor.specs.Accesses.{WriteNumber, WriteWord}
 
 abbrev pub Same : ℕ → ℕ → Type 0
 Same a b = a ≡ b

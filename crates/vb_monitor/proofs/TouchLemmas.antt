@@ -1,23 +1,16 @@
 -- What is found lies within a region.
-use Rattle.std.proofs.Common.{◌≡◌, ◌∙◌, sym, subst, refl, arith, ℕ, suc, ◌+◌, ◌*◌, ◌-◌, ◌≤◌, ◌<◌, Bool, true, false, List, [], ◌∷◌, ◌++◌, Option, Some, None}
-use Rattle.std.specs.Prelude.{slice_get, if◌then◌else◌}
-use Rattle.std.proofs.lemmas.Bool.Decides.{nat_tests}
-use Rattle.vb_core.specs.declared.kinds.Kind.{Kind}
-use Rattle.vb_core.specs.declared.runs.Run.{Run}
+use Rattle.std.proofs.Common.{◌≡◌, ◌∙◌, sym, subst, refl, arith, ℕ, suc, ◌+◌, ◌*◌, ◌-◌, ◌≤◌, ◌<◌}
+use Rattle.std.proofs.Common.{Bool, true, false, List, [], ◌∷◌, ◌++◌, Option, Some, None}
+use Rattle.std.{specs.Prelude.{slice_get, if◌then◌else◌}, proofs.lemmas.Bool.Decides.nat_tests}
+use Rattle.vb_core.{specs.declared.kinds.Kind.Kind, specs.declared.runs.Run.Run}
 use Rattle.vb_core.specs.declared.device.Device.{Device}
-use Rattle.vb_monitor.specs.declared.regions.Region.{Region}
-use Rattle.vb_monitor.specs.declared.regions.Spot.{Spot}
-use Rattle.vb_monitor.specs.declared.cuts.Cut.{Cut}
-use Rattle.vb_monitor.specs.declared.outcome.Budget.{Budget}
-use Rattle.vb_monitor.specs.declared.outcome.Outcome.{Outcome}
-use Rattle.vb_monitor.specs.Accesses.{Access}
-use Rattle.vb_monitor.specs.Regions.{is_region, holds, spot_from, spot, meets, cut_of, cuts_from, cuts_of}
-use Rattle.vb_monitor.specs.Ends.{Whole}
-use Rattle.vb_monitor.specs.Notices.{Serves, fresh}
-use Rattle.vb_monitor.specs.Touched.{IsWithin, Touches}
-use Rattle.vb_monitor.specs.Order.{Row, Cuts, MayFollow}
-use Rattle.vb_monitor.proofs.GivenLemmas.{Allows}
-use Rattle.vb_monitor.proofs.RowLemmas.{looks_row}
+use Rattle.vb_monitor.specs.Regions.{is_region, holds, spot_from, spot, meets, cut_of, cuts_from}
+use Rattle.vb_monitor.{specs.declared.regions.Region.Region, specs.declared.regions.Spot.Spot}
+use Rattle.vb_monitor.{specs.declared.cuts.Cut.Cut, specs.declared.outcome.Budget.Budget}
+use Rattle.vb_monitor.{specs.declared.outcome.Outcome.Outcome, specs.Accesses.Access}
+use Rattle.vb_monitor.{specs.Regions.cuts_of, specs.Ends.Whole, specs.Notices.{Serves, fresh}}
+use Rattle.vb_monitor.{specs.Touched.{IsWithin, Touches}, specs.Order.{Row, Cuts, MayFollow}}
+use Rattle.vb_monitor.{proofs.GivenLemmas.Allows, proofs.RowLemmas.looks_row}
 
 -- the bytes lie in the region that is so many behind the first one
 pub record IsIn (rs : List Region) (k offset len : ℕ) : Type 0 where

@@ -1,31 +1,28 @@
 -- What each access of a notice is, by those before it: the walk along a chain, looks, and the laws.
-use Rattle.std.proofs.Common.{◌≡◌, ◌∙◌, ap, sym, subst, refl, ℕ, zero, suc, ◌+◌, ◌*◌, Bool, true, false, List, [], ◌∷◌, ◌++◌, length, Option, Some, None, Result, Ok, Err}
-use Rattle.std.specs.Prelude.{◌==◌, nat_lt}
-use Rattle.vb_chain.specs.declared.pieces.Piece.{Piece}
+use Rattle.std.proofs.Common.{◌≡◌, ◌∙◌, ap, sym, subst, refl, ℕ, zero, suc, ◌+◌, ◌*◌, Bool, true}
+use Rattle.std.proofs.Common.{false, List, [], ◌∷◌, ◌++◌, length, Option, Some, None, Result, Ok}
+use Rattle.std.{proofs.Common.Err, specs.Prelude.{◌==◌, nat_lt}}
+use Rattle.vb_chain.{specs.declared.pieces.Piece.Piece, specs.declared.fault.ChainFault.ChainFault}
 use Rattle.vb_chain.specs.declared.descriptor.Descriptor.{Descriptor}
-use Rattle.vb_chain.specs.declared.fault.ChainFault.{ChainFault}
 use Rattle.vb_chain.specs.Rules.{has_next, piece_of}
-use Rattle.vb_core.specs.declared.kinds.Kind.{Kind}
+use Rattle.vb_core.{specs.declared.kinds.Kind.Kind, specs.declared.ring.Ring.Ring}
 use Rattle.vb_core.specs.declared.kinds.Kind.TheVariants.{Inflate, Deflate, Statistics, Report}
-use Rattle.vb_core.specs.declared.ring.Ring.{Ring}
-use Rattle.vb_core.specs.declared.device.Denial.{Denial}
-use Rattle.vb_core.specs.declared.device.Device.{Device}
+use Rattle.vb_core.{specs.declared.device.Denial.Denial, specs.declared.device.Device.Device}
 use Rattle.vb_core.specs.Devices.{ring_of, queue_denial}
-use Rattle.vb_monitor.specs.declared.regions.Region.{Region}
-use Rattle.vb_monitor.specs.declared.regions.Spot.{Spot}
-use Rattle.vb_monitor.specs.declared.outcome.Tally.{Tally}
-use Rattle.vb_monitor.specs.declared.outcome.Budget.{Budget}
-use Rattle.vb_monitor.specs.declared.outcome.Outcome.{Outcome}
-use Rattle.vb_monitor.specs.Accesses.{Access, ReadWord, CopyBytes, Acquire, WriteWord}
-use Rattle.vb_monitor.specs.Regions.{spot}
-use Rattle.vb_monitor.specs.Ends.{Whole}
-use Rattle.vb_monitor.specs.Giving.{Then}
-use Rattle.vb_monitor.specs.Chains.{ServesPieces, GoesOn, DescriptorBy, DescriptorAt, Follows, table_fault, descriptor_of, descriptors, memory_end}
-use Rattle.vb_monitor.specs.Notices.{HeadBy, EntryAt, entry_offset, stands, AfterIndex, IndexAt, LooksBy, AfterGiven, TakesUnlessSpent, TakesNext, Looks, with_chains, Serves, fresh}
-use Rattle.vb_monitor.specs.SoFar.{Each, Known, Unknown, Walks, Has, known, ring_after, is_fenced, with_word, with_descriptor, with_copied}
-use Rattle.vb_monitor.specs.Turns.{is_over, ends_in_full, ReadsWord, CopiesNext, ReadsInTurn, TellsInTurn, WritesUsedAlone}
+use Rattle.vb_monitor.specs.Chains.{ServesPieces, GoesOn, DescriptorBy, DescriptorAt, Follows}
+use Rattle.vb_monitor.specs.Notices.{HeadBy, EntryAt, entry_offset, stands, AfterIndex, IndexAt}
+use Rattle.vb_monitor.specs.Notices.{LooksBy, AfterGiven, TakesUnlessSpent, TakesNext, Looks}
+use Rattle.vb_monitor.specs.SoFar.{Each, Known, Unknown, Walks, Has, known, ring_after, is_fenced}
+use Rattle.vb_monitor.specs.Turns.{is_over, ends_in_full, ReadsWord, CopiesNext, ReadsInTurn}
 use Rattle.vb_monitor.proofs.TurnLemmas.{Comes, Agrees, flags_of, ends_each, breaks_each, After}
-use Rattle.vb_monitor.proofs.TurnRows.{Begun, pieces_each}
+use Rattle.vb_monitor.specs.Chains.{table_fault, descriptor_of, descriptors, memory_end}
+use Rattle.vb_monitor.specs.Accesses.{Access, ReadWord, CopyBytes, Acquire, WriteWord}
+use Rattle.vb_monitor.{specs.SoFar.{with_word, with_descriptor, with_copied}, specs.Regions.spot}
+use Rattle.vb_monitor.{specs.Notices.{with_chains, Serves, fresh}, specs.declared.regions.Spot.Spot}
+use Rattle.vb_monitor.{specs.Turns.{TellsInTurn, WritesUsedAlone}, specs.Giving.Then}
+use Rattle.vb_monitor.{specs.declared.outcome.Outcome.Outcome, specs.declared.regions.Region.Region}
+use Rattle.vb_monitor.{specs.declared.outcome.Budget.Budget, proofs.TurnRows.{Begun, pieces_each}}
+use Rattle.vb_monitor.{specs.declared.outcome.Tally.Tally, specs.Ends.Whole}
 
 -- ---- the walk
 

@@ -1,34 +1,28 @@
 -- What each access of a notice is, by those before it: the end of a chain.
-use Rattle.std.proofs.Common.{◌≡◌, ◌∙◌, ap, sym, subst, refl, ℕ, zero, suc, ◌+◌, ◌*◌, ◌/◌, Bool, true, false, List, [], ◌∷◌, ◌++◌, length, map, take, Option, Some, None, Result, Ok, Err}
-use Rattle.std.specs.Prelude.{◌==◌, nat_lt, if◌then◌else◌}
+use Rattle.std.proofs.Common.{◌≡◌, ◌∙◌, ap, sym, subst, refl, ℕ, zero, suc, ◌+◌, ◌*◌, ◌/◌, Bool}
+use Rattle.std.proofs.Common.{true, false, List, [], ◌∷◌, ◌++◌, length, map, take, Option, Some}
+use Rattle.std.{proofs.Common.{None, Result, Ok, Err}, specs.Prelude.{◌==◌, nat_lt, if◌then◌else◌}}
 use Rattle.vb_model.specs.declared.layout.TheConstants.{STATISTIC_SIZE}
-use Rattle.vb_chain.specs.declared.pieces.Piece.{Piece}
-use Rattle.vb_chain.specs.declared.fault.ChainFault.{ChainFault}
-use Rattle.vb_core.specs.declared.kinds.Kind.{Kind}
+use Rattle.vb_chain.{specs.declared.pieces.Piece.Piece, specs.declared.fault.ChainFault.ChainFault}
+use Rattle.vb_core.{specs.declared.kinds.Kind.Kind, specs.declared.runs.Run.Run}
 use Rattle.vb_core.specs.declared.kinds.Kind.TheVariants.{Inflate, Deflate, Statistics, Report}
-use Rattle.vb_core.specs.declared.runs.Run.{Run}
-use Rattle.vb_core.specs.declared.name.Named.{Named}
-use Rattle.vb_core.specs.declared.ring.Ring.{Ring}
-use Rattle.vb_core.specs.declared.ring.UsedEntry.{UsedEntry}
-use Rattle.vb_core.specs.declared.settings.Settings.{Settings}
-use Rattle.vb_core.specs.declared.statistics.Statistic.{Statistic}
-use Rattle.vb_core.specs.declared.device.Denial.{Denial}
-use Rattle.vb_core.specs.declared.device.Device.{Device}
+use Rattle.vb_core.{specs.declared.name.Named.Named, specs.declared.ring.Ring.Ring}
+use Rattle.vb_core.{specs.declared.ring.UsedEntry.UsedEntry, specs.declared.device.Denial.Denial}
+use Rattle.vb_core.{specs.declared.settings.Settings.Settings, specs.declared.device.Device.Device}
+use Rattle.vb_core.{specs.declared.statistics.Statistic.Statistic, specs.Using.use_denial}
 use Rattle.vb_core.specs.Devices.{ring_of, with_ring, with_one_taken, needing_reset}
-use Rattle.vb_core.specs.Rings.{used_entry, with_taken, with_used}
-use Rattle.vb_core.specs.Using.{use_denial}
-use Rattle.vb_core.specs.Config.{keeps_reports}
-use Rattle.vb_monitor.specs.declared.regions.Region.{Region}
-use Rattle.vb_monitor.specs.declared.regions.Spot.{Spot}
-use Rattle.vb_monitor.specs.declared.cuts.Cut.{Cut}
-use Rattle.vb_monitor.specs.declared.parts.Part.{Part}
-use Rattle.vb_monitor.specs.declared.outcome.Tally.{Tally}
-use Rattle.vb_monitor.specs.Accesses.{Access, ReadWord, CopyBytes, Acquire, Release, Full, TellPages, TellFigures, Discard, WriteNumber, WriteWord}
-use Rattle.vb_monitor.specs.Regions.{spot}
+use Rattle.vb_core.{specs.Rings.{used_entry, with_taken, with_used}, specs.Config.keeps_reports}
+use Rattle.vb_monitor.specs.Accesses.{Access, ReadWord, CopyBytes, Acquire, Release, Full}
+use Rattle.vb_monitor.specs.Giving.{Then, three_spots, UsedAt, GivesBack, GivesBackBy, with_given}
+use Rattle.vb_monitor.specs.SoFar.{Each, Known, Unknown, Walks, Has, known, ring_after, left}
+use Rattle.vb_monitor.specs.Turns.{is_over, ReadsInTurn, TellsOf, TellNamed, TellsInTurn, IsNext}
+use Rattle.vb_monitor.specs.Accesses.{TellPages, TellFigures, Discard, WriteNumber, WriteWord}
+use Rattle.vb_monitor.specs.Turns.{ends_in_number, NumberFor, IndexFor, WritesUsedAlone}
+use Rattle.vb_monitor.{specs.Giving.{after_use, cuts_for, TellsThen, AfterName}, specs.Regions.spot}
 use Rattle.vb_monitor.specs.Ends.{Whole, Ends, EndsWhere, FlagsAt, Breaks}
-use Rattle.vb_monitor.specs.Giving.{Then, three_spots, UsedAt, GivesBack, GivesBackBy, with_given, after_use, cuts_for, TellsThen, AfterName}
-use Rattle.vb_monitor.specs.SoFar.{Each, Known, Unknown, Walks, Has, known, ring_after, left, without_first}
-use Rattle.vb_monitor.specs.Turns.{is_over, ReadsInTurn, TellsOf, TellNamed, TellsInTurn, IsNext, ends_in_number, NumberFor, IndexFor, WritesUsedAlone}
+use Rattle.vb_monitor.{specs.declared.regions.Region.Region, specs.declared.outcome.Tally.Tally}
+use Rattle.vb_monitor.{specs.declared.regions.Spot.Spot, specs.declared.parts.Part.Part}
+use Rattle.vb_monitor.{specs.declared.cuts.Cut.Cut, specs.SoFar.without_first}
 
 -- the access comes in its turn
 abbrev pub Comes : Whole → Device → List Access → Access → Type 0

@@ -1,41 +1,35 @@
 -- What each access of a notice is, by those before it: from a look to what its bytes come to.
-use Rattle.std.proofs.Common.{◌≡◌, ◌∙◌, ap, sym, subst, refl, ℕ, zero, suc, ◌+◌, ◌*◌, ◌/◌, Bool, true, false, List, [], ◌∷◌, ◌++◌, length, take, Option, Some, None, Result, Ok, Err}
-use Rattle.std.specs.Prelude.{◌==◌, nat_lt}
+use Rattle.std.proofs.Common.{◌≡◌, ◌∙◌, ap, sym, subst, refl, ℕ, zero, suc, ◌+◌, ◌*◌, ◌/◌, Bool}
+use Rattle.std.proofs.Common.{true, false, List, [], ◌∷◌, ◌++◌, length, take, Option, Some, None}
+use Rattle.std.{proofs.Common.{Result, Ok, Err}, specs.Prelude.{◌==◌, nat_lt}}
 use Rattle.vb_model.specs.declared.layout.TheConstants.{STATISTIC_SIZE}
 use Rattle.vb_model.specs.declared.limits.TheConstants.{MAX_REQUEST_PAGES}
-use Rattle.vb_chain.specs.declared.pieces.Piece.{Piece}
+use Rattle.vb_chain.{specs.declared.pieces.Piece.Piece, specs.declared.fault.ChainFault.ChainFault}
 use Rattle.vb_chain.specs.declared.descriptor.Descriptor.{Descriptor}
-use Rattle.vb_chain.specs.declared.fault.ChainFault.{ChainFault}
 use Rattle.vb_chain.specs.Rules.{has_next, piece_of}
-use Rattle.vb_request.specs.Request.{request_length}
-use Rattle.vb_request.specs.Statistics.{statistics_length}
-use Rattle.vb_core.specs.declared.kinds.Kind.{Kind}
+use Rattle.vb_request.{specs.Request.request_length, specs.Statistics.statistics_length}
 use Rattle.vb_core.specs.declared.kinds.Kind.TheVariants.{Inflate, Deflate, Statistics, Report}
-use Rattle.vb_core.specs.declared.ring.Ring.{Ring}
-use Rattle.vb_core.specs.declared.runs.Run.{Run}
-use Rattle.vb_core.specs.declared.name.Named.{Named}
-use Rattle.vb_core.specs.declared.device.Denial.{Denial}
-use Rattle.vb_core.specs.declared.device.Device.{Device}
-use Rattle.vb_core.specs.Devices.{ring_of, with_one_taken, queue_denial}
-use Rattle.vb_core.specs.Rings.{with_taken}
-use Rattle.vb_core.specs.Name.{NamesBy}
-use Rattle.vb_core.specs.Report.{NamesPiecesBy}
-use Rattle.vb_core.specs.Statistics.{statistics_denial}
-use Rattle.vb_monitor.specs.declared.room.TheConstants.{MAX_FIGURES}
-use Rattle.vb_monitor.specs.declared.regions.Spot.{Spot}
-use Rattle.vb_monitor.specs.declared.parts.Part.{Part}
-use Rattle.vb_monitor.specs.declared.outcome.Tally.{Tally}
+use Rattle.vb_core.{specs.Devices.{ring_of, with_one_taken, queue_denial}, specs.Rings.with_taken}
+use Rattle.vb_core.{specs.declared.device.Denial.Denial, specs.declared.device.Device.Device}
+use Rattle.vb_core.{specs.Statistics.statistics_denial, specs.declared.name.Named.Named}
+use Rattle.vb_core.{specs.declared.kinds.Kind.Kind, specs.declared.ring.Ring.Ring}
+use Rattle.vb_core.{specs.declared.runs.Run.Run, specs.Report.NamesPiecesBy, specs.Name.NamesBy}
+use Rattle.vb_monitor.specs.Chains.{FiguresBy, AfterBytes, NamesBytes, CopiesBy, ServesPieces}
+use Rattle.vb_monitor.specs.Chains.{GoesOn, DescriptorBy, DescriptorAt, Follows, table_fault}
+use Rattle.vb_monitor.specs.Notices.{HeadBy, EntryAt, entry_offset, stands, AfterIndex, IndexAt}
+use Rattle.vb_monitor.specs.Notices.{LooksBy, AfterGiven, TakesUnlessSpent, TakesNext, Looks}
+use Rattle.vb_monitor.specs.SoFar.{Each, Known, Unknown, Walks, Has, known, ring_after, parts_read}
+use Rattle.vb_monitor.proofs.TurnLemmas.{Comes, Agrees, Flags, flags_of, ends_each, breaks_each}
+use Rattle.vb_monitor.proofs.NamedLemmas.{names_avail, pieces_avail, named_numbers, no_report}
 use Rattle.vb_monitor.specs.Accesses.{Access, ReadWord, CopyBytes, Acquire, TellFigures, WriteWord}
-use Rattle.vb_monitor.specs.Regions.{spot}
-use Rattle.vb_monitor.specs.Ends.{Whole}
-use Rattle.vb_monitor.specs.Giving.{Then, AfterName, TellsThen, spent}
 use Rattle.vb_monitor.specs.Pieces.{PartAt, PartBy, fits_behind, CopiesParts, all_parts}
-use Rattle.vb_monitor.specs.Chains.{FiguresBy, AfterBytes, NamesBytes, CopiesBy, ServesPieces, GoesOn, DescriptorBy, DescriptorAt, Follows, table_fault, descriptor_of, descriptors, memory_end}
-use Rattle.vb_monitor.specs.Notices.{HeadBy, EntryAt, entry_offset, stands, AfterIndex, IndexAt, LooksBy, AfterGiven, TakesUnlessSpent, TakesNext, Looks, with_chains}
-use Rattle.vb_monitor.specs.SoFar.{Each, Known, Unknown, Walks, Has, known, ring_after, parts_read, with_descriptor, with_copied}
 use Rattle.vb_monitor.specs.Turns.{CopiesNext, TellNamed, TellNumbers, FiguresOf}
-use Rattle.vb_monitor.proofs.TurnLemmas.{Comes, Agrees, Flags, flags_of, ends_each, breaks_each, After, Read, tells_each}
-use Rattle.vb_monitor.proofs.NamedLemmas.{names_avail, pieces_avail, named_numbers, no_report, named_pieces}
+use Rattle.vb_monitor.{specs.Chains.{descriptor_of, descriptors, memory_end}, specs.Regions.spot}
+use Rattle.vb_monitor.{specs.Giving.{Then, AfterName, TellsThen, spent}, specs.Notices.with_chains}
+use Rattle.vb_monitor.{specs.declared.room.TheConstants.MAX_FIGURES, specs.declared.parts.Part.Part}
+use Rattle.vb_monitor.{proofs.TurnLemmas.{After, Read, tells_each}, proofs.NamedLemmas.named_pieces}
+use Rattle.vb_monitor.{specs.SoFar.{with_descriptor, with_copied}, specs.declared.regions.Spot.Spot}
+use Rattle.vb_monitor.{specs.declared.outcome.Tally.Tally, specs.Ends.Whole}
 
 -- ---- what is named
 

@@ -1,8 +1,7 @@
 -- Worked facts of how a notice mostly goes on.
 use Rattle.std.proofs.Common.{◌≡◌, refl, ℕ, false, true, Option, Some, None}
 use Rattle.vb_chain.specs.declared.descriptor.Descriptor.{Descriptor}
-use Rattle.vb_monitor.specs.declared.outcome.Tally.{Tally}
-use Rattle.vb_monitor.specs.declared.step.Walk.{Walk}
+use Rattle.vb_monitor.{specs.declared.outcome.Tally.Tally, specs.declared.step.Walk.Walk}
 use Rattle.vb_monitor.specs.declared.usual.NextDescriptor.{NextDescriptor}
 use Rattle.vb_monitor.specs.Usual.{entry_place, flags_place, descriptor_place, next_place, next_of}
 use Rattle.vb_monitor.specs.Chains.{descriptor_of}

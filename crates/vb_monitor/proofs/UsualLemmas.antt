@@ -1,20 +1,14 @@
 -- A chain's first descriptor.
-use Rattle.std.proofs.Common.{◌≡◌, sym, subst, arith, ℕ, suc, ◌+◌, ◌-◌, ◌<◌, ◌*◌, Bool, true, false, List, [], Option, Some}
-use Rattle.std.specs.Prelude.{nat_lt}
+use Rattle.std.proofs.Common.{◌≡◌, sym, subst, arith, ℕ, suc, ◌+◌, ◌-◌, ◌<◌, ◌*◌, Bool, true, false}
+use Rattle.std.{proofs.Common.{List, [], Option, Some}, specs.Prelude.nat_lt}
 use Rattle.std.proofs.lemmas.Bool.Decides.{nat_tests}
 use Rattle.vb_chain.specs.declared.pieces.Piece.{Piece}
-use Rattle.vb_core.specs.declared.device.Device.{Device}
-use Rattle.vb_core.specs.Devices.{ring_of}
-use Rattle.vb_monitor.specs.declared.regions.Spot.{Spot}
-use Rattle.vb_monitor.specs.declared.outcome.Tally.{Tally}
-use Rattle.vb_monitor.specs.Accesses.{Access}
-use Rattle.vb_monitor.specs.Regions.{spot}
-use Rattle.vb_monitor.specs.Ends.{Whole}
-use Rattle.vb_monitor.specs.Pieces.{pieces_in}
+use Rattle.vb_core.{specs.declared.device.Device.Device, specs.Devices.ring_of}
+use Rattle.vb_monitor.{specs.declared.regions.Spot.Spot, specs.declared.outcome.Tally.Tally}
+use Rattle.vb_monitor.{specs.Accesses.Access, specs.Regions.spot, specs.Ends.Whole}
+use Rattle.vb_monitor.{specs.Pieces.pieces_in, specs.Notices.{HeadBy, AfterEntry}}
 use Rattle.vb_monitor.specs.Chains.{descriptors, AsksDescriptor, DescriptorAt, Follows}
-use Rattle.vb_monitor.specs.Notices.{HeadBy, AfterEntry}
-use Rattle.vb_monitor.specs.Machine.{next_chain, serves}
-use Rattle.vb_monitor.proofs.BufferLemmas.{none_in, length_in}
+use Rattle.vb_monitor.{specs.Machine.{next_chain, serves}, proofs.BufferLemmas.{none_in, length_in}}
 use Rattle.vb_monitor.proofs.NextLemmas.{follows_next}
 
 is_less : (n m : ℕ) → n < m → nat_lt n m ≡ true

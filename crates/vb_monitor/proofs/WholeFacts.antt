@@ -1,21 +1,16 @@
 -- A whole notice, worked out: page 5 is inflated. Which accesses that makes, and which it doesn't.
 use Rattle.std.proofs.Common.{◌≡◌, refl, arith, true, false, List, [], ◌∷◌, Some, None, Ok}
 use Rattle.vb_request.specs.Request.{numbers_of}
-use Rattle.vb_core.specs.declared.kinds.Kind.TheVariants.{Inflate}
-use Rattle.vb_core.specs.declared.name.Named.{Named}
-use Rattle.vb_core.specs.declared.device.Denial.TheVariants.{NotReady}
-use Rattle.vb_core.specs.declared.device.Device.{Device}
-use Rattle.vb_core.specs.Devices.{with_one_taken}
-use Rattle.vb_core.specs.Name.{NamesBy}
-use Rattle.vb_core.specs.Runs.{Tell}
-use Rattle.vb_monitor.specs.declared.outcome.Budget.{Budget}
-use Rattle.vb_monitor.specs.declared.outcome.Outcome.{Outcome}
-use Rattle.vb_monitor.specs.Accesses.{Access, Acquire, Release, Full}
-use Rattle.vb_monitor.specs.Giving.{after_use}
-use Rattle.vb_monitor.specs.Notices.{Serves}
-use Rattle.vb_monitor.proofs.TouchLemmas.{in_order}
+use Rattle.vb_core.{specs.declared.kinds.Kind.TheVariants.Inflate, specs.declared.name.Named.Named}
+use Rattle.vb_core.{specs.declared.device.Denial.TheVariants.NotReady, specs.Devices.with_one_taken}
+use Rattle.vb_core.{specs.declared.device.Device.Device, specs.Name.NamesBy, specs.Runs.Tell}
+use Rattle.vb_monitor.proofs.Samples.{Same, two, ready, page_5, last_descriptor, number, index}
+use Rattle.vb_monitor.proofs.Samples.{entry, descriptor, part, pages, discard, id, used_length}
+use Rattle.vb_monitor.{specs.declared.outcome.Budget.Budget, specs.declared.outcome.Outcome.Outcome}
+use Rattle.vb_monitor.{specs.Accesses.{Access, Acquire, Release, Full}, specs.Giving.after_use}
+use Rattle.vb_monitor.{specs.Notices.Serves, proofs.TouchLemmas.in_order}
 use Rattle.vb_monitor.proofs.TurnLaws.{reads_in_turn, tells_in_turn, writes_used}
-use Rattle.vb_monitor.proofs.Samples.{Same, two, ready, page_5, last_descriptor, number, index, entry, descriptor, part, pages, discard, id, used_length, used_index, flags}
+use Rattle.vb_monitor.proofs.Samples.{used_index, flags}
 
 abbrev budget : Budget
 budget = record { chains = 8; pages = 256 }

@@ -1,18 +1,14 @@
 -- A whole notice of a report, worked out: page 5 is free. It is told and discarded, or told and kept.
 use Rattle.std.proofs.Common.{refl, ℕ, true, false, List, [], ◌∷◌, None, Ok}
 use Rattle.vb_chain.specs.declared.pieces.Piece.{Piece}
-use Rattle.vb_core.specs.declared.kinds.Kind.TheVariants.{Report}
-use Rattle.vb_core.specs.declared.name.Named.{Named}
-use Rattle.vb_core.specs.declared.device.Device.{Device}
-use Rattle.vb_core.specs.Devices.{with_one_taken}
+use Rattle.vb_core.{specs.declared.kinds.Kind.TheVariants.Report, specs.declared.name.Named.Named}
+use Rattle.vb_core.{specs.declared.device.Device.Device, specs.Devices.with_one_taken}
 use Rattle.vb_core.specs.Report.{NamesPiecesBy}
-use Rattle.vb_monitor.specs.declared.outcome.Budget.{Budget}
-use Rattle.vb_monitor.specs.declared.outcome.Outcome.{Outcome}
+use Rattle.vb_monitor.proofs.Samples.{two, at, settings, ready, page_5, index, entry, part, discard}
 use Rattle.vb_monitor.specs.Accesses.{Access, CopyBytes, Acquire, Release, Full, TellPages}
-use Rattle.vb_monitor.specs.Giving.{after_use}
-use Rattle.vb_monitor.specs.Notices.{Serves}
-use Rattle.vb_monitor.proofs.TurnLaws.{reads_in_turn, tells_in_turn}
-use Rattle.vb_monitor.proofs.Samples.{two, at, settings, ready, page_5, index, entry, part, discard, id, used_length, used_index, flags}
+use Rattle.vb_monitor.{proofs.Samples.{id, used_length, used_index, flags}, specs.Giving.after_use}
+use Rattle.vb_monitor.{proofs.TurnLaws.{reads_in_turn, tells_in_turn}, specs.Notices.Serves}
+use Rattle.vb_monitor.{specs.declared.outcome.Outcome.Outcome, specs.declared.outcome.Budget.Budget}
 
 abbrev budget : Budget
 budget = record { chains = 8; pages = 256 }

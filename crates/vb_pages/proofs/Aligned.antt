@@ -1,8 +1,7 @@
 -- Multiples of a number, and of powers of two.
-use Rattle.std.proofs.Common.{◌≡◌, ℕ, suc, ◌+◌, ◌-◌, ◌*◌, ◌/◌, ◌%◌, ◌^◌, ◌<◌, ◌≤◌}
-use Rattle.std.proofs.Common.{◌∙◌, ap, min, arith}
+use Rattle.std.proofs.Common.{◌≡◌, ℕ, suc, ◌+◌, ◌-◌, ◌*◌, ◌/◌, ◌%◌, ◌^◌, ◌<◌, ◌≤◌, ◌∙◌, ap, min}
+use Rattle.std.{proofs.Common.arith, proofs.Math.Pow.pow_mono}
 use Rattle.std.proofs.lemmas.Nat.{div-add-mod', div-mul-add, mod-mul-add, pow-add, pow_pos}
-use Rattle.std.proofs.Math.Pow.{pow_mono}
 
 pub multiple_of : (a m : ℕ) → a % m ≡ 0 → (a / m) * m ≡ a
 multiple_of a m h = omega (arith, div-add-mod' a m, h)

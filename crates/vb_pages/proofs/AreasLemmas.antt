@@ -1,16 +1,13 @@
 -- The areas as a set: counts, the lowest maximal block, and all pages but the reserved ones.
 use Rattle.std.proofs.Common.{◌≡◌, ℕ, suc, ◌+◌, ◌^◌, ◌<◌, ◌≤◌, Bool, true, false, List, [], ◌∷◌}
 use Rattle.std.proofs.Common.{length, Option, Some, None, replicate, refl, ◌∙◌, ap, arith}
-use Rattle.std.specs.Prelude.{count_by, nat_le}
-use Rattle.std.proofs.lemmas.List.{length-replicate}
+use Rattle.std.{specs.Prelude.{count_by, nat_le}, proofs.lemmas.List.length-replicate}
 use Rattle.std.proofs.lemmas.List.FromFn.{get_or-map-range_with_len, length-map-range_with_len}
 use Rattle.std.proofs.Math.Pow.{pow_mono}
-use Rattle.vb_model.specs.Tests.{one_if}
-use Rattle.vb_model.specs.Pages.{pages_of}
-use Rattle.vb_model.proofs.Tables.{count_by-cons}
+use Rattle.vb_model.{specs.Tests.one_if, specs.Pages.pages_of, proofs.Tables.count_by-cons}
+use Rattle.vb_pages.specs.Areas.{has, with_pages, without_pages, unreserved, block_at, LiesIn}
 use Rattle.vb_pages.specs.declared.table.TheConstants.{MAX_PAGES}
 use Rattle.vb_pages.specs.declared.block.FreeBlock.{FreeBlock}
-use Rattle.vb_pages.specs.Areas.{has, with_pages, without_pages, unreserved, block_at, LiesIn}
 use Rattle.vb_pages.specs.Areas.{LiesOutside, IsMaximal, IsChosen, IsLowestFrom}
 use Rattle.vb_pages.specs.Tiles.{set_of, IsTiled, IsLowestListed}
 use Rattle.vb_pages.proofs.Sets.{same_sets, is_inside, count_range, count_without}

@@ -1,39 +1,32 @@
 -- Free pages: how often each is free, before and after a call.
-use Rattle.std.proofs.Common.{◌≡◌, ℕ, zero, suc, ◌+◌, ◌<◌, ◌≤◌, inl, inr, Bool, true}
-use Rattle.std.proofs.Common.{false, List, [], ◌∷◌, ◌++◌, length, get_or, set, take, drop}
-use Rattle.std.proofs.Common.{map, reverse, replicate, Option, Some, None, refl, sym, ◌∙◌, ap}
-use Rattle.std.proofs.Common.{subst, arith, length-append}
-use Rattle.std.specs.Prelude.{◌==◌, count_by, nat_lt, MatchOption}
-use Rattle.std.specs.List.{flat_map}
+use Rattle.std.proofs.Common.{◌≡◌, ℕ, zero, suc, ◌+◌, ◌<◌, ◌≤◌, inl, inr, Bool, true, false, List}
+use Rattle.std.proofs.Common.{[], ◌∷◌, ◌++◌, length, get_or, set, take, drop, map, reverse}
+use Rattle.std.proofs.Common.{replicate, Option, Some, None, refl, sym, ◌∙◌, ap, subst, arith}
 use Rattle.std.proofs.lemmas.List.{get_or-set_same, get_or-set_other, set-set, set-get_or}
 use Rattle.std.proofs.lemmas.List.{length-set, length-map, take-append-drop, length-drop}
 use Rattle.std.proofs.lemmas.List.{length-reverse, reverse-append, nil_from_length, take_more}
 use Rattle.std.proofs.lemmas.List.{flat_map_more, take_all, same_lists, get_or_default, drop_all}
-use Rattle.std.proofs.lemmas.List.{append-nil}
 use Rattle.std.proofs.lemmas.Bool.{cases_eq, cases_Bool, both_ways, eq-eqb, eqb-true, ne_eqb}
+use Rattle.std.{proofs.Common.length-append, specs.List.flat_map, proofs.lemmas.List.append-nil}
+use Rattle.std.specs.Prelude.{◌==◌, count_by, nat_lt, MatchOption, sum_by}
 use Rattle.std.proofs.lemmas.Bool.{cond-true, cond-false, lt-ltb, false_from_ne_true}
 use Rattle.std.proofs.lemmas.List.Sorted.{sum_by-IsPermutation, length_permutation}
 use Rattle.std.proofs.lemmas.List.Sums.{sum_by-append, sum_by-cons}
-use Rattle.std.specs.Prelude.{sum_by}
-use Rattle.vb_model.specs.Tests.{is_in, one_if}
-use Rattle.vb_model.specs.Pages.{pages_of, covers}
+use Rattle.vb_model.{specs.Tests.{is_in, one_if}, specs.Pages.{pages_of, covers}}
 use Rattle.vb_model.proofs.PageSteps.{covers_is}
-use Rattle.vb_pages.specs.declared.table.TheConstants.{MAX_PAGES}
 use Rattle.vb_pages.specs.Areas.{has, with_pages, without_pages, unreserved, block_at, IsBlock}
-use Rattle.vb_pages.specs.Areas.{HasNoBlock, TakesBlock, IsMaximal, IsLowestFrom}
-use Rattle.vb_pages.specs.declared.block.FreeBlock.{FreeBlock}
 use Rattle.vb_pages.specs.FreePages.{FreePages, in_lists, is_free_in, times_free, list_of}
 use Rattle.vb_pages.specs.FreePages.{with_list, drained, TakesPages, Refills, Pops, TakesSingle}
-use Rattle.vb_pages.specs.FreePages.{Tries, Serves, given_back, IsSoundFree, HasRoomFor}
 use Rattle.vb_pages.proofs.Sets.{is_inside, without_parts, with_cases, with_old, with_new}
-use Rattle.vb_pages.proofs.Sets.{length-with_pages, length-without_pages, block_bounds}
-use Rattle.vb_pages.proofs.Aligned.{aligned_down}
 use Rattle.vb_pages.proofs.AreasLemmas.{length-unreserved, count_without_block, count_zero}
-use Rattle.vb_pages.proofs.AreasLemmas.{taken_inside}
 use Rattle.vb_pages.proofs.ListsLemmas.{times, times-append, times-one, times_out, one_if_le, Once}
 use Rattle.vb_pages.proofs.ListsLemmas.{with_times, with_none, with_append_turned, takes_times}
-use Rattle.vb_pages.proofs.ListsLemmas.{takes_pages_times, takes_more, no_page}
-use Rattle.vb_pages.proofs.ListsLemmas.{covers_one}
+use Rattle.vb_pages.{specs.declared.table.TheConstants.MAX_PAGES, proofs.Aligned.aligned_down}
+use Rattle.vb_pages.specs.Areas.{HasNoBlock, TakesBlock, IsMaximal, IsLowestFrom}
+use Rattle.vb_pages.{specs.declared.block.FreeBlock.FreeBlock, proofs.AreasLemmas.taken_inside}
+use Rattle.vb_pages.specs.FreePages.{Tries, Serves, given_back, IsSoundFree, HasRoomFor}
+use Rattle.vb_pages.proofs.Sets.{length-with_pages, length-without_pages, block_bounds}
+use Rattle.vb_pages.proofs.ListsLemmas.{takes_pages_times, takes_more, no_page, covers_one}
 
 abbrev pub flat : List (List ℕ) → List ℕ
 flat lists = flat_map (λ list. list) lists

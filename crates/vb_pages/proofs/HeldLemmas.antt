@@ -1,18 +1,12 @@
 -- Held blocks in a table.
 use Rattle.std.proofs.Common.{◌≡◌, ℕ, zero, suc, ◌+◌, ◌-◌, ◌%◌, ◌^◌, ◌<◌, ◌≤◌, inl, inr, Bool, true}
 use Rattle.std.proofs.Common.{false, List, [], ◌∷◌, length, set, replicate, Option, Some, None}
-use Rattle.std.proofs.Common.{refl, sym, ◌∙◌, ap, arith}
-use Rattle.std.specs.Prelude.{◌==◌}
-use Rattle.std.specs.List.{list_any}
-use Rattle.std.proofs.lemmas.Bool.{both_ways, or_cases, or_left}
-use Rattle.std.proofs.lemmas.Bool.{and_from, eq-eqb}
-use Rattle.std.proofs.lemmas.Bool.{cond-true}
-use Rattle.std.proofs.lemmas.Bool.{false_from_ne_true}
-use Rattle.std.proofs.lemmas.Nat.{pow_pos}
+use Rattle.std.proofs.lemmas.Bool.{both_ways, or_cases, or_left, and_from, eq-eqb, cond-true}
+use Rattle.std.{proofs.Common.{refl, sym, ◌∙◌, ap, arith}, specs.Prelude.◌==◌, specs.List.list_any}
+use Rattle.std.{proofs.lemmas.Bool.false_from_ne_true, proofs.lemmas.Nat.pow_pos}
 use Rattle.vb_model.specs.Pages.{Block, covers, is_same_block}
 use Rattle.vb_model.specs.Driver.{with_block, without_block}
-use Rattle.vb_pages.specs.Table.{order_at, AreBlocks}
-use Rattle.vb_pages.specs.Areas.{block_at}
+use Rattle.vb_pages.{specs.Table.{order_at, AreBlocks}, specs.Areas.block_at}
 use Rattle.vb_pages.specs.Held.{HeldBlocks, blocks_from, blocks_of}
 use Rattle.vb_pages.proofs.Aligned.{aligned_same, floor_aligned}
 

@@ -1,21 +1,15 @@
 -- Pages that move between a list and the areas: how often each is there.
 use Rattle.std.proofs.Common.{◌≡◌, ℕ, ◌+◌, ◌%◌, ◌^◌, ◌<◌, ◌≤◌, inl, inr, Bool, true, false, List}
 use Rattle.std.proofs.Common.{[], ◌∷◌, ◌++◌, length, Some, refl, sym, ◌∙◌, ap, subst, arith}
-use Rattle.std.proofs.Common.{length-append}
-use Rattle.std.specs.Prelude.{◌==◌, count_by, nat_lt}
-use Rattle.std.proofs.lemmas.List.Folds.{list_any-append}
-use Rattle.std.proofs.lemmas.Bool.{cases_Bool, both_ways, or_cases, or_parts}
-use Rattle.std.proofs.lemmas.Bool.{eq-eqb, ltb-true, false_from_ne_true}
-use Rattle.vb_model.specs.Tests.{is_in, one_if}
-use Rattle.vb_model.specs.Pages.{pages_of, covers}
-use Rattle.vb_model.proofs.Tables.{count_by-cons, count_by-append}
-use Rattle.vb_model.proofs.PageSteps.{covers_is}
+use Rattle.std.proofs.lemmas.Bool.{cases_Bool, both_ways, or_cases, or_parts, eq-eqb, ltb-true}
+use Rattle.std.{proofs.Common.length-append, specs.Prelude.{◌==◌, count_by, nat_lt}}
+use Rattle.std.{proofs.lemmas.List.Folds.list_any-append, proofs.lemmas.Bool.false_from_ne_true}
+use Rattle.vb_model.{specs.Tests.{is_in, one_if}, specs.Pages.{pages_of, covers}}
+use Rattle.vb_model.{proofs.Tables.{count_by-cons, count_by-append}, proofs.PageSteps.covers_is}
 use Rattle.vb_pages.specs.Areas.{has, with_pages, without_pages, block_at, IsBlock, HasNoBlock}
-use Rattle.vb_pages.specs.Areas.{TakesBlock}
-use Rattle.vb_pages.specs.FreePages.{TakesPages}
 use Rattle.vb_pages.proofs.Sets.{with_union, with_cases, with_old, with_new, without_parts}
-use Rattle.vb_pages.proofs.Sets.{without_old, length-with_pages, count_one, same_sets}
-use Rattle.vb_pages.proofs.Sets.{block_bounds}
+use Rattle.vb_pages.{specs.Areas.TakesBlock, specs.FreePages.TakesPages}
+use Rattle.vb_pages.proofs.Sets.{without_old, length-with_pages, count_one, same_sets, block_bounds}
 use Rattle.vb_pages.proofs.AreasLemmas.{taken_inside}
 
 -- how often a page is in a list

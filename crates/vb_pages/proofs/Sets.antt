@@ -1,20 +1,16 @@
 -- Sets of pages.
 use Rattle.std.proofs.Common.{◌≡◌, ℕ, zero, suc, ◌+◌, ◌-◌, ◌^◌, ◌<◌, ◌≤◌, ◌⊎◌, inl, inr, Bool, true}
 use Rattle.std.proofs.Common.{false, not, ◌&&◌, ◌||◌, List, [], ◌∷◌, length, get_or, refl, sym, ◌∙◌}
-use Rattle.std.proofs.Common.{ap, arith}
-use Rattle.std.specs.List.{range_with_len}
-use Rattle.std.specs.Prelude.{◌==◌, count_by, slice_set as put}
-use Rattle.std.proofs.lemmas.Nat.{pow_pos}
 use Rattle.std.proofs.lemmas.List.{same_lists, get_or_default, get_or_past, get_or-set_same}
+use Rattle.std.proofs.lemmas.Bool.{cases_eq, eq-eqb, ne_eqb, or_from, and_right, not_from_true}
+use Rattle.std.{proofs.Common.{ap, arith}, specs.List.range_with_len, proofs.lemmas.Nat.pow_pos}
 use Rattle.std.proofs.lemmas.List.{get_or-set_other, length-set}
-use Rattle.std.proofs.lemmas.Bool.{cases_eq, eq-eqb, ne_eqb, or_from}
-use Rattle.std.proofs.lemmas.Bool.{and_right, not_from_true, both_ways, or_left, or_right}
-use Rattle.std.proofs.lemmas.Bool.{false_from_ne_true}
-use Rattle.vb_model.specs.Tests.{is_in, one_if}
-use Rattle.vb_model.specs.Pages.{pages_of}
+use Rattle.std.proofs.lemmas.Bool.{both_ways, or_left, or_right, false_from_ne_true}
+use Rattle.vb_model.{specs.Tests.{is_in, one_if}, specs.Pages.pages_of}
 use Rattle.vb_model.proofs.Tables.{length-each_from, each_page-get, count_by-cons}
 use Rattle.vb_model.proofs.PageSteps.{is_in-range, outside-range}
 use Rattle.vb_pages.specs.Areas.{has, with_pages, without_pages, block_at}
+use Rattle.std.specs.Prelude.{◌==◌, count_by, slice_set as put}
 
 pub same_bool : (a b : Bool) → (a ≡ true → b ≡ true) → (b ≡ true → a ≡ true) → a ≡ b
 same_bool true b f g = sym (f refl)

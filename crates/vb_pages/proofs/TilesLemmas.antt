@@ -2,30 +2,27 @@
 -- one does to it.
 use Rattle.std.proofs.Common.{◌≡◌, ◌≢◌, ℕ, zero, suc, ◌+◌, ◌-◌, ◌%◌, ◌^◌, ◌<◌, ◌≤◌, min, ◌⊎◌, inl}
 use Rattle.std.proofs.Common.{inr, Bool, true, false, not, List, length, set, replicate, Option}
-use Rattle.std.proofs.Common.{Some, None, refl, sym, ◌∙◌, ap, subst, arith}
-use Rattle.std.specs.List.{list_any, range_with_len}
-use Rattle.std.proofs.lemmas.List.{get_or-set_same, get_or-set_other, length-set, length-replicate}
-use Rattle.std.proofs.lemmas.List.FromFn.{get_or-map-range_with_len, length-map-range_with_len}
-use Rattle.std.proofs.lemmas.Nat.{pow_pos}
 use Rattle.std.proofs.lemmas.Bool.{cases_lt, cases_eq, cases_Bool, both_ways, or_cases, or_left}
 use Rattle.std.proofs.lemmas.Bool.{or_right, eq-eqb, eqb-true, false_from_ne_true, and_right}
+use Rattle.std.proofs.Common.{Some, None, refl, sym, ◌∙◌, ap, subst, arith}
+use Rattle.std.{specs.List.{list_any, range_with_len}, proofs.lemmas.Nat.pow_pos}
+use Rattle.std.proofs.lemmas.List.{get_or-set_same, get_or-set_other, length-set, length-replicate}
+use Rattle.std.proofs.lemmas.List.FromFn.{get_or-map-range_with_len, length-map-range_with_len}
 use Rattle.std.proofs.lemmas.Bool.{not_from_true}
-use Rattle.vb_model.specs.Pages.{Block, pages_of}
-use Rattle.vb_pages.specs.declared.table.TheConstants.{MAX_PAGES}
-use Rattle.vb_pages.specs.declared.block.FreeBlock.{FreeBlock}
-use Rattle.vb_pages.specs.Table.{order_at, is_order, IsLowestStart}
-use Rattle.vb_model.specs.Tests.{is_in}
+use Rattle.vb_model.{specs.Pages.{Block, pages_of}, specs.Tests.is_in}
 use Rattle.vb_pages.specs.Tiles.{is_covered, set_of, IsPlaced, IsMerged, IsBuddy, HasRoom, IsTiled}
-use Rattle.vb_pages.specs.Tiles.{IsLowestListed}
 use Rattle.vb_pages.specs.Areas.{has, with_pages, without_pages, block_at, IsBlock, LiesIn}
-use Rattle.vb_pages.specs.Areas.{LiesWithin, IsMaximal, HasNoBlock, IsChosen}
 use Rattle.vb_pages.proofs.Aligned.{aligned_step, aligned_same, right_half, aligned_down}
-use Rattle.vb_pages.proofs.Aligned.{end_aligned, pow_twice, floor_aligned}
 use Rattle.vb_pages.proofs.TableLemmas.{is_order-true, is_order-self, is_there, entry_kept}
-use Rattle.vb_pages.proofs.TableLemmas.{with_block_added, with_block_removed, none_entry}
 use Rattle.vb_pages.proofs.Sets.{same_sets, is_inside, length-with_pages, length-without_pages}
 use Rattle.vb_pages.proofs.Sets.{with_old, with_new, with_cases, without_parts, without_old}
 use Rattle.vb_pages.proofs.Sets.{in_block, block_bounds, not_in_block, has-without_pages}
+use Rattle.vb_pages.{specs.declared.table.TheConstants.MAX_PAGES, specs.Tiles.IsLowestListed}
+use Rattle.vb_pages.specs.declared.block.FreeBlock.{FreeBlock}
+use Rattle.vb_pages.specs.Table.{order_at, is_order, IsLowestStart}
+use Rattle.vb_pages.specs.Areas.{LiesWithin, IsMaximal, HasNoBlock, IsChosen}
+use Rattle.vb_pages.proofs.Aligned.{end_aligned, pow_twice, floor_aligned}
+use Rattle.vb_pages.proofs.TableLemmas.{with_block_added, with_block_removed, none_entry}
 use Rattle.vb_pages.proofs.Sets.{with_without, without_with, halves, halves_turned}
 
 -- a block of the table that covers the page

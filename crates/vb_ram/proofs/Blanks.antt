@@ -2,8 +2,7 @@
 use Rattle.std.proofs.Common.{◌≡◌, ℕ, List, ◌++◌, length, take, replicate, sym, ap, subst}
 use Rattle.std.proofs.lemmas.List.{nil_from_length}
 use Rattle.vb_model.specs.Guest.{zero_page}
-use Rattle.vb_ram.specs.Blank.{shown}
-use Rattle.vb_ram.proofs.Contents.{zero_page_is}
+use Rattle.vb_ram.{specs.Blank.shown, proofs.Contents.zero_page_is}
 
 -- zeros, where none are held
 pub shown-none : (bytes : List ℕ) → length bytes ≡ 0 → shown bytes ≡ zero_page

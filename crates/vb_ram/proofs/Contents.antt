@@ -1,16 +1,13 @@
 -- Laws of a page's bytes as one list, for the crates above.
-use Rattle.std.specs.Prelude.{◌≡◌, ℕ, ◌+◌, ◌-◌, ◌<◌, ◌≤◌, List, ◌++◌, length}
-use Rattle.std.specs.Prelude.{slice_index, take, drop, refl, replicate, ◌⊎◌}
-use Rattle.std.proofs.Common.{sym, ◌∙◌, ap, arith, inl, inr}
-use Rattle.std.proofs.lemmas.Bool.{cases_lt}
+use Rattle.std.specs.Prelude.{◌≡◌, ℕ, ◌+◌, ◌-◌, ◌<◌, ◌≤◌, List, ◌++◌, length, slice_index, take}
 use Rattle.std.proofs.lemmas.List.{get_or-replicate, get_or_past, length-replicate, ext_get_or}
 use Rattle.std.proofs.lemmas.List.{length-take-le, length-drop, length-append, get_or-take}
+use Rattle.std.{specs.Prelude.{drop, refl, replicate, ◌⊎◌}, proofs.lemmas.Bool.cases_lt}
+use Rattle.std.proofs.Common.{sym, ◌∙◌, ap, arith, inl, inr}
 use Rattle.std.proofs.lemmas.List.{get_or-drop, get_or_append_left, get_or-append_right}
-use Rattle.vb_model.specs.Guest.{zero_page}
-use Rattle.vb_model.specs.Driver.{overwritten}
-use Rattle.vb_ram.specs.Pages.{Pages, page_at, frame_at}
-use Rattle.vb_ram.specs.Pages.{contents_at, byte_at, IsWhole, SameBut, Wrote, Supplied}
-use Rattle.vb_ram.specs.Pages.{Discarded}
+use Rattle.vb_model.{specs.Guest.zero_page, specs.Driver.overwritten}
+use Rattle.vb_ram.specs.Pages.{Pages, page_at, frame_at, contents_at, byte_at, IsWhole, SameBut}
+use Rattle.vb_ram.specs.Pages.{Wrote, Supplied, Discarded}
 
 -- so many zeros, at any offset
 zeros-at : (n k : ℕ) → slice_index (replicate n 0) k ≡ 0

@@ -1,8 +1,6 @@
 -- What a guest within the limits has, for the crates above.
-use Rattle.std.specs.Prelude.{◌≡◌, ℕ, ◌≤◌, true}
-use Rattle.std.proofs.Common.{arith}
-use Rattle.std.proofs.lemmas.Bool.Decides.{nat_tests}
-use Rattle.std.proofs.lemmas.Bool.{and_parts}
+use Rattle.std.{specs.Prelude.{◌≡◌, ℕ, ◌≤◌, true}, proofs.Common.arith}
+use Rattle.std.{proofs.lemmas.Bool.Decides.nat_tests, proofs.lemmas.Bool.and_parts}
 use Rattle.vb_model.specs.Limits.{is_config, is_between}
 use Rattle.vb_ram.specs.Limits.{AreWithinLimits}
 

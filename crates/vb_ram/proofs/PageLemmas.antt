@@ -1,14 +1,12 @@
 -- What a memory is where one of its pages was exchanged.
-use Rattle.std.proofs.Common.{◌≡◌, ℕ, zero, suc, ◌+◌, ◌<◌, List, Option, Some, None, length}
-use Rattle.std.proofs.Common.{get_or, set, replicate, refl, sym, ◌∙◌, ap, subst, arith}
+use Rattle.std.proofs.Common.{◌≡◌, ℕ, zero, suc, ◌+◌, ◌<◌, List, Option, Some, None, length, get_or}
 use Rattle.std.proofs.lemmas.List.{get_or-set_same, get_or-set_other, get_or_default, length-set}
+use Rattle.std.proofs.Common.{set, replicate, refl, sym, ◌∙◌, ap, subst, arith}
 use Rattle.std.proofs.lemmas.List.{get_or_past}
 use Rattle.vb_model.specs.Guest.{zero_page}
-use Rattle.vb_ram.specs.Pages.{Page, Pages, byte_of, byte_at, contents_of, page_at}
-use Rattle.vb_ram.specs.Pages.{IsWhole, Wrote, Supplied, Cleared, SameBut}
+use Rattle.vb_ram.specs.Pages.{Page, Pages, byte_of, byte_at, contents_of, page_at, IsWhole, Wrote}
+use Rattle.vb_ram.{specs.Pages.{Supplied, Cleared, SameBut}, specs.Memory.IsMemory, specs.Put.PutAt}
 use Rattle.vb_ram.proofs.Contents.{length-zero_page, zero_page-at}
-use Rattle.vb_ram.specs.Memory.{IsMemory}
-use Rattle.vb_ram.specs.Put.{PutAt}
 
 -- the page that was read is the page there
 pub page_read : (mem : Pages) (p : ℕ) (page : Option Page) → p < length mem

@@ -1,8 +1,7 @@
 -- What is put behind a writer's bytes, whether it is held or written.
 use Rattle.std.proofs.Common.{◌≡◌, ℕ, List, [], ◌∷◌, ◌++◌, Option, Some, None, refl, ap, sym, ◌∙◌}
 use Rattle.std.proofs.Common.{◌/◌, ◌%◌, slice_index, take, drop, append_assoc, append-nil}
-use Rattle.std.proofs.lemmas.List.{take-append-drop}
-use Rattle.std.specs.Io.KnownBytes.{Appends}
+use Rattle.std.{proofs.lemmas.List.take-append-drop, specs.Io.KnownBytes.Appends}
 use Rattle.hex.specs.Hex.{encode_lower, encode_with, lower_digits}
 use Rattle.vb_reply.specs.Held.{Puts}
 

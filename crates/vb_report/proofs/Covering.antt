@@ -1,18 +1,12 @@
 -- Which pages some blocks have.
-use Rattle.std.proofs.Common.{◌≡◌, ℕ, Bool, true, false, List, [], ◌∷◌, ◌++◌}
-use Rattle.std.proofs.Common.{inl, inr, refl, sym, ◌∙◌, ap, arith}
-use Rattle.std.specs.Prelude.{◌||◌, count_by, All}
-use Rattle.std.specs.List.{list_any}
-use Rattle.std.proofs.lemmas.List.Elements.{All-head, All-tail}
-use Rattle.std.proofs.lemmas.List.Folds.{list_any-append}
-use Rattle.std.proofs.lemmas.Bool.{or_cases, false_from_ne_true}
-use Rattle.vb_model.specs.Tests.{is_in, one_if}
-use Rattle.vb_model.specs.Pages.{Block, covers, pages_of, pages_of_all}
-use Rattle.vb_model.specs.Driver.{AllDistinct}
-use Rattle.vb_model.proofs.Tables.{count_by-cons}
-use Rattle.vb_model.proofs.PageSteps.{covers_is}
-use Rattle.vb_model.proofs.Blocks.{times_in_blocks}
+use Rattle.std.proofs.Common.{◌≡◌, ℕ, Bool, true, false, List, [], ◌∷◌, ◌++◌, inl, inr, refl, sym}
+use Rattle.std.{proofs.lemmas.Bool.{or_cases, false_from_ne_true}, proofs.Common.{◌∙◌, ap, arith}}
+use Rattle.std.{proofs.lemmas.List.Elements.{All-head, All-tail}, specs.List.list_any}
+use Rattle.std.{proofs.lemmas.List.Folds.list_any-append, specs.Prelude.{◌||◌, count_by, All}}
 use Rattle.vb_model.proofs.Distinct.{distinct_list, distinct_once, times-some}
+use Rattle.vb_model.{specs.Pages.{Block, covers, pages_of, pages_of_all}, specs.Driver.AllDistinct}
+use Rattle.vb_model.{proofs.Blocks.times_in_blocks, specs.Tests.{is_in, one_if}}
+use Rattle.vb_model.{proofs.Tables.count_by-cons, proofs.PageSteps.covers_is}
 use Rattle.vb_pages.specs.declared.block.FreeBlock.{FreeBlock}
 use Rattle.vb_report.specs.Blocks.{block_of, blocks_of, is_covered}
 

@@ -1,10 +1,8 @@
 -- What passes a test, of lists that stand by rising number.
 use Rattle.std.proofs.Common.{◌≡◌, ℕ, zero, suc, ◌+◌, ◌<◌, ◌≤◌, Bool, true, false, cond, List, []}
 use Rattle.std.proofs.Common.{◌∷◌, ◌++◌, map, inl, inr, refl, sym, ◌∙◌, ap, arith}
-use Rattle.std.specs.Prelude.{◌&&◌, filter}
-use Rattle.std.specs.List.{range_with_len, flat_map}
-use Rattle.std.proofs.lemmas.List.Elements.{filter-append}
-use Rattle.std.proofs.lemmas.Bool.{cases_eq}
+use Rattle.std.{specs.Prelude.{◌&&◌, filter}, specs.List.{range_with_len, flat_map}}
+use Rattle.std.{proofs.lemmas.List.Elements.filter-append, proofs.lemmas.Bool.cases_eq}
 
 pub filter_twice : {A : Type 0} (keep test : A → Bool) (xs : List A)
     → filter keep (filter test xs) ≡ filter (λ x. test x && keep x) xs

@@ -1,22 +1,15 @@
 -- Blocks come back, one after the other.
-use Rattle.std.proofs.Common.{◌≡◌, ℕ, ◌+◌, ◌<◌, ◌≤◌, Bool, true, false, List, [], ◌∷◌, length}
-use Rattle.std.proofs.Common.{inl, inr, sym, ◌∙◌, ap, subst, arith, drop, get_or, add-one}
-use Rattle.std.proofs.Common.{drop-cons}
-use Rattle.std.specs.Prelude.{◌||◌, All}
-use Rattle.std.proofs.lemmas.List.Elements.{All-head, All-tail}
-use Rattle.std.proofs.lemmas.List.Elements.{All-nil, All-cons}
+use Rattle.std.proofs.Common.{◌≡◌, ℕ, ◌+◌, ◌<◌, ◌≤◌, Bool, true, false, List, [], ◌∷◌, length, inl}
 use Rattle.std.proofs.lemmas.Bool.{or_cases, or_left, or_right, or_from, or_parts, both_ways}
-use Rattle.std.proofs.lemmas.Bool.{false_from_ne_true}
-use Rattle.vb_model.specs.Tests.{is_in}
-use Rattle.vb_model.specs.Pages.{Block, size, covers, pages_of, pages_of_all}
-use Rattle.vb_pages.specs.declared.block.FreeBlock.{FreeBlock}
-use Rattle.vb_pages.specs.Areas.{has, with_pages}
-use Rattle.vb_pages.specs.FreePages.{in_lists}
+use Rattle.std.proofs.Common.{inr, sym, ◌∙◌, ap, subst, arith, drop, get_or, add-one, drop-cons}
+use Rattle.std.{specs.Prelude.{◌||◌, All}, proofs.lemmas.Bool.false_from_ne_true}
+use Rattle.std.proofs.lemmas.List.Elements.{All-head, All-tail, All-nil, All-cons}
+use Rattle.vb_model.{specs.Tests.is_in, specs.Pages.{Block, size, covers, pages_of, pages_of_all}}
 use Rattle.vb_pages.specs.PageState.{PageState, page_count, is_free_page, HasRoomIn}
-use Rattle.vb_pages.specs.PageState.{with_free_block}
-use Rattle.vb_pages.proofs.Sets.{length-with_pages, same_bool, with_old}
-use Rattle.vb_pages.proofs.Sets.{with_new, with_cases, block_bounds}
-use Rattle.vb_pages.proofs.ListsLemmas.{with_none, with_append_turned}
+use Rattle.vb_pages.proofs.Sets.{length-with_pages, same_bool, with_old, with_new, with_cases}
+use Rattle.vb_pages.{specs.declared.block.FreeBlock.FreeBlock, specs.Areas.{has, with_pages}}
+use Rattle.vb_pages.{specs.FreePages.in_lists, specs.PageState.with_free_block}
+use Rattle.vb_pages.{proofs.Sets.block_bounds, proofs.ListsLemmas.{with_none, with_append_turned}}
 use Rattle.vb_pages.proofs.PagesLemmas.{covers_bounds, bounds_cover}
 use Rattle.vb_report.specs.Blocks.{block_of, blocks_of, is_covered, with_blocks, HaveRoom}
 use Rattle.vb_report.proofs.Covering.{in_covered, covering, distinct_rest, distinct_apart}

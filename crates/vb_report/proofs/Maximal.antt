@@ -1,18 +1,14 @@
 -- Maximal blocks of a set, and the test that finds them.
-use Rattle.std.proofs.Common.{◌≡◌, ℕ, zero, suc, ◌+◌, ◌-◌, ◌%◌, ◌^◌, ◌<◌, ◌≤◌, Bool, true}
-use Rattle.std.proofs.Common.{List, inl, inr, refl, sym, ◌∙◌, ap, arith}
-use Rattle.std.specs.Prelude.{not}
-use Rattle.std.specs.List.{list_all, list_any, range_with_len}
+use Rattle.std.proofs.Common.{◌≡◌, ℕ, zero, suc, ◌+◌, ◌-◌, ◌%◌, ◌^◌, ◌<◌, ◌≤◌, Bool, true, List}
 use Rattle.std.proofs.lemmas.Bool.{cases_lt, and_parts, and_from, eqb-true, not-true}
+use Rattle.std.{proofs.Common.{inl, inr, refl, sym, ◌∙◌, ap, arith}, specs.Prelude.not}
+use Rattle.std.{specs.List.{list_all, list_any, range_with_len}, proofs.lemmas.Nat.pow_pos}
 use Rattle.std.proofs.lemmas.Bool.{not_from_false, false_from_ne_true, both_ways}
-use Rattle.std.proofs.lemmas.Nat.{pow_pos}
 use Rattle.vb_model.specs.Pages.{Block, size, pages_of, is_aligned, around, is_whole, is_maximal}
-use Rattle.vb_model.proofs.Tables.{list_all-at}
-use Rattle.vb_model.proofs.Blocks.{any_in_range}
-use Rattle.vb_pages.specs.Areas.{has, block_at, IsBlock, LiesIn, LiesWithin, IsMaximal}
+use Rattle.vb_model.{proofs.Tables.list_all-at, proofs.Blocks.any_in_range}
 use Rattle.vb_pages.proofs.Aligned.{aligned_step, aligned_same, aligned_down, end_aligned}
-use Rattle.vb_pages.proofs.Aligned.{floor_aligned}
-use Rattle.vb_pages.proofs.Sets.{in_block}
+use Rattle.vb_pages.specs.Areas.{has, block_at, IsBlock, LiesIn, LiesWithin, IsMaximal}
+use Rattle.vb_pages.{proofs.Aligned.floor_aligned, proofs.Sets.in_block}
 use Rattle.vb_pages.proofs.TilesLemmas.{any_range}
 
 -- of two aligned blocks round one page, the smaller lies within the larger

@@ -1,37 +1,26 @@
 -- What is left of the areas while a report takes its blocks.
-use Rattle.std.proofs.Common.{◌≡◌, ℕ, zero, suc, ◌+◌, ◌-◌, ◌^◌, ◌<◌, ◌≤◌, Bool, true, false, List, []}
-use Rattle.std.proofs.Common.{◌∷◌, ◌++◌, length, map, take, inl, inr, Some, None, refl, sym}
-use Rattle.std.proofs.Common.{◌∙◌, ap, subst, arith, append_assoc, length-append, min}
-use Rattle.std.specs.Prelude.{not, ◌&&◌, ◌||◌, filter, All}
-use Rattle.std.proofs.Common.{append-nil}
-use Rattle.std.proofs.lemmas.List.{map-append, length-map, length-take}
+use Rattle.std.proofs.Common.{◌≡◌, ℕ, zero, suc, ◌+◌, ◌-◌, ◌^◌, ◌<◌, ◌≤◌, Bool, true, false, List}
+use Rattle.std.proofs.Common.{[], ◌∷◌, ◌++◌, length, map, take, inl, inr, Some, None, refl, sym}
+use Rattle.std.proofs.lemmas.Bool.{cases_lt, cases_Bool, both_ways, or_parts, or_from, and_parts}
+use Rattle.std.proofs.Common.{◌∙◌, ap, subst, arith, append_assoc, length-append, min, append-nil}
+use Rattle.std.{specs.Prelude.{not, ◌&&◌, ◌||◌, filter, All}, proofs.lemmas.Bool.false_from_ne_true}
+use Rattle.std.{proofs.lemmas.List.{map-append, length-map, length-take}, proofs.lemmas.Nat.pow_pos}
 use Rattle.std.proofs.lemmas.List.Elements.{All-push, All-weaker}
-use Rattle.std.proofs.lemmas.Bool.{cases_lt, cases_Bool, both_ways}
-use Rattle.std.proofs.lemmas.Bool.{or_parts, or_from, and_parts, false_from_ne_true}
-use Rattle.std.proofs.lemmas.Nat.{pow_pos}
-use Rattle.vb_model.specs.Tests.{is_in}
-use Rattle.vb_model.specs.Pages.{Block, size, covers, pages_of, pages_of_all, maximal_blocks, reported}
-use Rattle.vb_model.specs.Tests.{times}
-use Rattle.vb_model.specs.Driver.{AllDistinct}
-use Rattle.vb_model.proofs.Blocks.{reported_distinct}
-use Rattle.vb_model.proofs.CallSteps.{reported_pass}
-use Rattle.vb_model.proofs.Distinct.{distinct_once}
-use Rattle.vb_model.proofs.PageSteps.{covers_is}
-use Rattle.vb_pages.specs.declared.block.FreeBlock.{FreeBlock}
-use Rattle.vb_pages.specs.Areas.{has, with_pages, without_pages, IsBlock, LiesIn}
-use Rattle.vb_pages.specs.Areas.{LiesWithin, IsMaximal, IsLowestFrom}
-use Rattle.vb_pages.specs.FreePages.{FreePages, in_lists, drained, is_free_in}
-use Rattle.vb_pages.specs.PageState.{PageState, page_count, is_free_page, HasRoomIn}
-use Rattle.vb_pages.specs.PageState.{reserved_count, Isolates}
+use Rattle.vb_model.specs.Pages.{Block, size, covers, pages_of, pages_of_all, maximal_blocks}
+use Rattle.vb_model.{specs.Tests.{is_in, times}, specs.Pages.reported, specs.Driver.AllDistinct}
+use Rattle.vb_model.{proofs.Blocks.reported_distinct, proofs.CallSteps.reported_pass}
+use Rattle.vb_model.{proofs.Distinct.distinct_once, proofs.PageSteps.covers_is}
+use Rattle.vb_pages.specs.Areas.{has, with_pages, without_pages, IsBlock, LiesIn, LiesWithin}
+use Rattle.vb_pages.specs.PageState.{PageState, page_count, is_free_page, HasRoomIn, reserved_count}
 use Rattle.vb_pages.proofs.Sets.{is_inside, without_parts, without_old, same_sets}
+use Rattle.vb_pages.{specs.declared.block.FreeBlock.FreeBlock, specs.PageState.Isolates}
+use Rattle.vb_pages.{specs.Areas.{IsMaximal, IsLowestFrom}, proofs.ListsLemmas.with_none}
+use Rattle.vb_pages.specs.FreePages.{FreePages, in_lists, drained, is_free_in}
 use Rattle.vb_pages.proofs.Sets.{length-without_pages, length-with_pages, has-without_pages}
-use Rattle.vb_pages.proofs.ListsLemmas.{with_none}
-use Rattle.vb_pages.proofs.FreeLemmas.{flat-empty, nothing}
-use Rattle.vb_pages.proofs.PagesLemmas.{covers_bounds}
+use Rattle.vb_pages.{proofs.FreeLemmas.{flat-empty, nothing}, proofs.PagesLemmas.covers_bounds}
 use Rattle.vb_report.specs.Blocks.{block_of, blocks_of, is_covered, without_blocks}
-use Rattle.vb_report.specs.Blocks.{blocks_to_report}
+use Rattle.vb_report.{specs.Blocks.blocks_to_report, proofs.Maximal.{nested, aligned_is}}
 use Rattle.vb_report.proofs.Covering.{in_covered, covered_more, covering}
-use Rattle.vb_report.proofs.Maximal.{nested, aligned_is}
 use Rattle.vb_report.proofs.Choosing.{is_later, none_named, first_named}
 
 -- ---- a set that maximal blocks were taken from, all of which end at a page or before it

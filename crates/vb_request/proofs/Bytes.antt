@@ -1,17 +1,14 @@
 -- Bytes of guest memory in a row.
 use Rattle.std.specs.Prelude.{◌≡◌, ℕ, ◌+◌, ◌-◌, ◌/◌, ◌%◌, ◌<◌, ◌≤◌, ◌⊎◌, true, false, List, [], ◌∷◌}
-use Rattle.std.specs.Prelude.{◌++◌, length, slice_index, Result, Ok, Err, refl, Bool, if◌then◌else◌}
-use Rattle.std.specs.List.{list_any}
-use Rattle.std.proofs.Common.{sym, ◌∙◌, ap, arith, get_or, take, inl, inr, length-append}
-use Rattle.std.proofs.lemmas.Bool.{cases_lt}
-use Rattle.std.proofs.lemmas.Grind.{flat_map-append}
 use Rattle.std.proofs.lemmas.List.{append-nil, take_more, ext_get_or, get_or_append_left}
-use Rattle.std.proofs.lemmas.List.{get_or-append_right}
+use Rattle.std.specs.Prelude.{◌++◌, length, slice_index, Result, Ok, Err, refl, Bool, if◌then◌else◌}
+use Rattle.std.{specs.List.list_any, proofs.lemmas.Bool.cases_lt}
+use Rattle.std.proofs.Common.{sym, ◌∙◌, ap, arith, get_or, take, inl, inr, length-append}
+use Rattle.std.{proofs.lemmas.Grind.flat_map-append, proofs.lemmas.List.get_or-append_right}
 use Rattle.std.proofs.lemmas.List.FromFn.{get_or-map-range_with_len, length-map-range_with_len}
 use Rattle.std.proofs.lemmas.List.Sums.{sum_by_more}
 use Rattle.vb_ram.specs.Pages.{Pages, byte_at}
-use Rattle.vb_chain.specs.declared.pieces.Piece.{Piece}
-use Rattle.vb_chain.specs.declared.fault.ChainFault.{ChainFault}
+use Rattle.vb_chain.{specs.declared.pieces.Piece.Piece, specs.declared.fault.ChainFault.ChainFault}
 use Rattle.vb_chain.specs.declared.fault.ChainFault.TheVariants.{WrongDirection, BadLength}
 use Rattle.vb_request.specs.Request.{byte_of_address, bytes_from, bytes_of, total_length}
 use Rattle.vb_request.specs.Request.{is_request_length, numbers_of, pages_of_numbers}

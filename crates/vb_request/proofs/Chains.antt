@@ -1,16 +1,11 @@
 -- The pieces of a chain lie in memory, as `read_chain_into` wants them.
-use Rattle.std.specs.Prelude.{◌≡◌, ℕ, ◌+◌, ◌<◌, ◌≤◌, Bool, false, List, ◌∷◌, [], All, length}
-use Rattle.std.specs.Prelude.{map, slice_index, None}
-use Rattle.std.specs.List.{list_any}
-use Rattle.std.proofs.Common.{sym, subst, arith, take}
-use Rattle.std.proofs.lemmas.Bool.{ltb-false}
-use Rattle.std.proofs.lemmas.List.{get_or-map, length-map}
-use Rattle.std.proofs.lemmas.List.Elements.{All-from_get_or}
-use Rattle.vb_chain.specs.declared.descriptor.Descriptor.{Descriptor}
-use Rattle.vb_chain.specs.declared.pieces.Piece.{Piece}
-use Rattle.vb_chain.specs.declared.fault.ChainFault.{ChainFault}
+use Rattle.std.specs.Prelude.{◌≡◌, ℕ, ◌+◌, ◌<◌, ◌≤◌, Bool, false, List, ◌∷◌, [], All, length, map}
+use Rattle.std.{proofs.lemmas.List.{get_or-map, length-map}, specs.Prelude.{slice_index, None}}
+use Rattle.std.{proofs.lemmas.List.Elements.All-from_get_or, proofs.lemmas.Bool.ltb-false}
+use Rattle.std.{proofs.Common.{sym, subst, arith, take}, specs.List.list_any}
+use Rattle.vb_chain.{specs.declared.descriptor.Descriptor.Descriptor, specs.Chain.ChainGives}
+use Rattle.vb_chain.{specs.declared.pieces.Piece.Piece, specs.declared.fault.ChainFault.ChainFault}
 use Rattle.vb_chain.specs.Rules.{piece_of, first_broken, first_fault, is_writable}
-use Rattle.vb_chain.specs.Chain.{ChainGives}
 use Rattle.vb_chain.specs.Written.{empty}
 
 second_holds : (b c : Bool) (f h : ChainFault) (rest : List (Bool × ChainFault)) →

@@ -1,14 +1,13 @@
 -- Statistics one after another.
-use Rattle.std.specs.Prelude.{◌≡◌, ℕ, ◌+◌, ◌/◌, ◌<◌, Bool, true, false, ◌==◌, List}
-use Rattle.std.specs.Prelude.{[], ◌∷◌, ◌++◌, length, if◌then◌else◌, Option, Some, None, Err, refl}
-use Rattle.std.specs.List.{list_any}
-use Rattle.std.proofs.Common.{sym, ◌∙◌, ap, arith, get_or, take}
+use Rattle.std.specs.Prelude.{◌≡◌, ℕ, ◌+◌, ◌/◌, ◌<◌, Bool, true, false, ◌==◌, List, [], ◌∷◌, ◌++◌}
+use Rattle.std.specs.Prelude.{length, if◌then◌else◌, Option, Some, None, Err, refl}
+use Rattle.std.{specs.List.list_any, proofs.Common.{sym, ◌∙◌, ap, arith, get_or, take}}
 use Rattle.std.proofs.lemmas.List.{take_more}
 use Rattle.std.proofs.lemmas.List.FromFn.{length-map-range_with_len, get_or-map-range_with_len}
 use Rattle.vb_chain.specs.declared.pieces.Piece.{Piece}
 use Rattle.vb_chain.specs.declared.fault.ChainFault.TheVariants.{WrongDirection, BadLength}
-use Rattle.vb_request.specs.Request.{total_length}
 use Rattle.vb_request.specs.Statistics.{Statistic, statistic_at, statistics_of, later_or, last_of}
+use Rattle.vb_request.specs.Request.{total_length}
 use Rattle.vb_request.specs.Statistics.{is_statistics_length, statistics_request}
 
 later_assoc : (a b c : Option ℕ) → later_or a (later_or b c) ≡ later_or (later_or a b) c

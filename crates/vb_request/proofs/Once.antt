@@ -1,10 +1,8 @@
 -- Numbers, each once.
 use Rattle.std.specs.Prelude.{◌≡◌, ℕ, ◌+◌, ◌<◌, ◌≤◌, Bool, true, false, not, ◌==◌, ◌||◌, List, []}
-use Rattle.std.specs.Prelude.{◌∷◌, ◌++◌, length, filter, if◌then◌else◌, Some, None, refl}
-use Rattle.std.specs.Prelude.{cond}
 use Rattle.std.proofs.Common.{sym, ◌∙◌, eq-eqb, ap, arith, ◌/◌, get_or, take, drop, drop-cons}
-use Rattle.std.proofs.Common.{add-one}
-use Rattle.std.proofs.lemmas.Bool.{eqb-true}
+use Rattle.std.specs.Prelude.{◌∷◌, ◌++◌, length, filter, if◌then◌else◌, Some, None, refl, cond}
+use Rattle.std.{proofs.Common.add-one, proofs.lemmas.Bool.eqb-true}
 use Rattle.std.proofs.lemmas.List.Elements.{filter-append}
 use Rattle.std.proofs.lemmas.List.{append-nil, take_more, take-append-drop, length_push}
 use Rattle.std.proofs.lemmas.List.FromFn.{length-map-range_with_len, get_or-map-range_with_len}

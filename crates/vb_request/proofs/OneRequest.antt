@@ -1,24 +1,19 @@
 -- The request that a driver writes as one readable piece, for the crates above.
-use Rattle.std.specs.Prelude.{◌≡◌, ℕ, suc, ◌+◌, ◌*◌, ◌/◌, ◌<◌, ◌≤◌, Bool, true, false, not}
-use Rattle.std.specs.Prelude.{◌&&◌, ◌||◌, ◌==◌, nat_le, nat_lt, IsTrue, List, [], ◌∷◌, All, length}
+use Rattle.std.specs.Prelude.{◌≡◌, ℕ, suc, ◌+◌, ◌*◌, ◌/◌, ◌<◌, ◌≤◌, Bool, true, false, not, ◌&&◌}
+use Rattle.std.specs.Prelude.{◌||◌, ◌==◌, nat_le, nat_lt, IsTrue, List, [], ◌∷◌, All, length}
 use Rattle.std.specs.Prelude.{filter, if◌then◌else◌, Option, Some, None, Ok, slice_index, refl}
-use Rattle.std.specs.Prelude.{cond}
-use Rattle.std.proofs.Common.{sym, ◌∙◌, ap, arith, take, drop, eq-eqb, rules}
+use Rattle.std.{specs.Prelude.cond, proofs.Common.{sym, ◌∙◌, ap, arith, take, drop, eq-eqb, rules}}
 use Rattle.std.proofs.lemmas.Bool.{lt-ltb, le-leb, lt-leb, le-ltb}
 use Rattle.std.proofs.lemmas.List.{ext_get_or, get_or-take, get_or-drop, append-nil}
 use Rattle.std.proofs.lemmas.List.FromFn.{get_or-map-range_with_len}
-use Rattle.vb_model.specs.Tests.{is_in}
-use Rattle.vb_model.specs.Driver.{AllDistinct}
-use Rattle.vb_ram.specs.Pages.{Pages, byte_at}
-use Rattle.vb_ram.proofs.FieldLaws.{field_4}
-use Rattle.vb_chain.specs.declared.pieces.Piece.{Piece}
-use Rattle.vb_chain.specs.declared.fault.ChainFault.{ChainFault}
+use Rattle.vb_model.{specs.Tests.is_in, specs.Driver.AllDistinct}
+use Rattle.vb_ram.{specs.Pages.{Pages, byte_at}, proofs.FieldLaws.field_4}
+use Rattle.vb_chain.{specs.declared.pieces.Piece.Piece, specs.declared.fault.ChainFault.ChainFault}
 use Rattle.vb_chain.specs.declared.fault.ChainFault.TheVariants.{BadPage, ReservedPage}
 use Rattle.vb_request.specs.Request.{byte_of_address, bytes_from, bytes_of, total_length}
 use Rattle.vb_request.specs.Request.{is_request_length, number_at, numbers_of, number_fault}
 use Rattle.vb_request.specs.Request.{first_of_both, first_number_fault, unless_fault, each_once}
-use Rattle.vb_request.specs.Request.{pages_of_numbers, page_request}
-use Rattle.vb_request.specs.Request.{ArePages, IsRequestPiece}
+use Rattle.vb_request.specs.Request.{pages_of_numbers, page_request, ArePages, IsRequestPiece}
 use Rattle.vb_request.proofs.Once.{numbers_of-length, numbers_of-at}
 use Rattle.vb_request.proofs.Bytes.{bytes_from-length, by_numbers}
 

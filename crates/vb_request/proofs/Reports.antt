@@ -1,24 +1,18 @@
 -- The pages of a report, piece by piece.
-use Rattle.std.specs.Prelude.{◌≡◌, ℕ, suc, ◌+◌, ◌*◌, ◌/◌, ◌%◌, ◌<◌, ◌≤◌, Bool, true, false}
-use Rattle.std.specs.Prelude.{not, ◌==◌, ◌||◌, nat_lt, List, [], ◌∷◌, ◌++◌, length, if◌then◌else◌}
-use Rattle.std.specs.Prelude.{Option, Some, None, Ok, Err, All, slice_get, slice_index_or, refl}
-use Rattle.std.specs.List.{list_any}
-use Rattle.std.proofs.Common.{◌∙◌, ap, arith, get_or, take, drop, drop-cons, add-one}
-use Rattle.std.proofs.Common.{length-append}
-use Rattle.std.proofs.lemmas.Bool.{ltb-false}
-use Rattle.std.proofs.lemmas.Grind.{flat_map-append}
+use Rattle.std.specs.Prelude.{◌≡◌, ℕ, suc, ◌+◌, ◌*◌, ◌/◌, ◌%◌, ◌<◌, ◌≤◌, Bool, true, false, not}
+use Rattle.std.specs.Prelude.{◌==◌, ◌||◌, nat_lt, List, [], ◌∷◌, ◌++◌, length, if◌then◌else◌}
 use Rattle.std.proofs.lemmas.List.{append-nil, take_more, take-append-drop, get_or_append_left}
-use Rattle.std.proofs.lemmas.List.{get_or-append_right}
-use Rattle.std.proofs.lemmas.List.Elements.{All-append}
+use Rattle.std.specs.Prelude.{Option, Some, None, Ok, Err, All, slice_get, slice_index_or, refl}
+use Rattle.std.{specs.List.{list_any, range_with_len}, proofs.lemmas.Bool.ltb-false}
+use Rattle.std.proofs.Common.{◌∙◌, ap, arith, get_or, take, drop, drop-cons, add-one, length-append}
+use Rattle.std.{proofs.lemmas.Grind.flat_map-append, proofs.lemmas.List.get_or-append_right}
+use Rattle.std.{proofs.lemmas.List.Elements.All-append, proofs.lemmas.Option.slice_get-get_or}
 use Rattle.std.proofs.lemmas.List.FromFn.{length-range_with_len, get_or-range_with_len}
-use Rattle.std.proofs.lemmas.Option.{slice_get-get_or}
-use Rattle.std.specs.List.{range_with_len}
-use Rattle.vb_chain.specs.declared.pieces.Piece.{Piece}
-use Rattle.vb_chain.specs.declared.fault.ChainFault.{ChainFault}
 use Rattle.vb_chain.specs.declared.fault.ChainFault.TheVariants.{BadPage, ReservedPage, BadLength}
+use Rattle.vb_chain.{specs.declared.pieces.Piece.Piece, specs.declared.fault.ChainFault.ChainFault}
 use Rattle.vb_chain.specs.declared.fault.ChainFault.TheVariants.{WrongDirection}
-use Rattle.vb_request.specs.Request.{first_of_both, unless_fault}
 use Rattle.vb_request.specs.Report.{pages_of_piece, pages_of_pieces, piece_fault, first_piece_fault}
+use Rattle.vb_request.specs.Request.{first_of_both, unless_fault}
 use Rattle.vb_request.specs.Report.{has_bad_length, report_request}
 
 pub piece_length : (piece : Piece) → length (pages_of_piece piece) ≡ piece.len / 4096

@@ -2,20 +2,15 @@
 use Rattle.std.specs.Prelude.{◌≡◌, ℕ, zero, suc, slice_index_or, ◌<◌, ◌≤◌, Bool, true, false, not}
 use Rattle.std.specs.Prelude.{◌==◌, ◌||◌, nat_le, nat_lt, IsTrue, List, [], ◌∷◌, All, length}
 use Rattle.std.specs.Prelude.{filter, if◌then◌else◌, Option, Some, None, Ok, Err, refl, cond}
-use Rattle.std.proofs.Common.{rules}
-use Rattle.std.proofs.Common.{sym, subst, arith}
-use Rattle.std.proofs.lemmas.Bool.{ltb-false, leb-false}
+use Rattle.std.{proofs.Common.{rules, sym, subst, arith}, proofs.lemmas.Bool.{ltb-false, leb-false}}
 use Rattle.std.proofs.lemmas.List.Elements.{All-filter}
-use Rattle.vb_model.specs.Tests.{is_in}
-use Rattle.vb_model.specs.Driver.{AllDistinct}
+use Rattle.vb_model.{specs.Tests.is_in, specs.Driver.AllDistinct}
 use Rattle.vb_ram.specs.Pages.{Pages}
-use Rattle.vb_chain.specs.declared.pieces.Piece.{Piece}
-use Rattle.vb_chain.specs.declared.fault.ChainFault.{ChainFault}
 use Rattle.vb_chain.specs.declared.fault.ChainFault.TheVariants.{WrongDirection, BadLength, BadPage}
+use Rattle.vb_chain.{specs.declared.pieces.Piece.Piece, specs.declared.fault.ChainFault.ChainFault}
 use Rattle.vb_chain.specs.declared.fault.ChainFault.TheVariants.{ReservedPage}
-use Rattle.vb_request.specs.Request.{ArePages}
-use Rattle.vb_request.specs.Request.{each_once, number_fault, first_of_both, first_number_fault}
-use Rattle.vb_request.specs.Request.{unless_fault, pages_of_numbers}
+use Rattle.vb_request.specs.Request.{ArePages, each_once, number_fault, first_of_both}
+use Rattle.vb_request.specs.Request.{first_number_fault, unless_fault, pages_of_numbers}
 use Rattle.vb_request.specs.Request.{page_request}
 
 unless_ok : (fault : Option ChainFault) (ns pages : List ℕ) → unless_fault fault ns ≡ Ok pages →

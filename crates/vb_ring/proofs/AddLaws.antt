@@ -1,28 +1,19 @@
 -- What follows for whoever adds and takes chains.
-use Rattle.std.specs.Prelude.{◌≡◌, ℕ, ◌<◌, ◌≤◌, Bool, true, false, List, [], ◌∷◌}
-use Rattle.std.specs.Prelude.{Some, None, Result, Ok, Err, if◌then◌else◌, length, slice_get}
-use Rattle.std.specs.Prelude.{slice_index, slice_index_or, refl}
+use Rattle.std.specs.Prelude.{◌≡◌, ℕ, ◌<◌, ◌≤◌, Bool, true, false, List, [], ◌∷◌, Some, None}
+use Rattle.std.specs.Prelude.{Result, Ok, Err, if◌then◌else◌, length, slice_get, slice_index}
+use Rattle.std.{specs.Prelude.{slice_index_or, refl, nat_lt}, proofs.lemmas.Bool.cases_eq}
 use Rattle.std.proofs.Common.{sym, ◌∙◌, ap, subst, arith, inl, inr}
-use Rattle.std.proofs.lemmas.Bool.{cases_eq}
-use Rattle.std.proofs.lemmas.List.{length-take}
-use Rattle.std.proofs.lemmas.Option.{slice_get-get_or}
-use Rattle.std.specs.Prelude.{nat_lt}
-use Rattle.vb_ring.specs.declared.driver.Full.TheVariants.{TooFewFree}
-use Rattle.vb_ram.specs.Pages.{Pages}
-use Rattle.vb_chain.specs.declared.pieces.Piece.{Piece}
-use Rattle.vb_chain.specs.Table.{descriptor_at}
-use Rattle.vb_chain.specs.Written.{IsRoute, AreSound}
-use Rattle.vb_chain.specs.Chain.{ChainGives}
-use Rattle.vb_chain.proofs.ChainLaws.{written_chain}
-use Rattle.vb_ring.specs.declared.driver.Full.{Full}
-use Rattle.vb_ring.specs.Entries.{is_head}
+use Rattle.std.{proofs.lemmas.List.length-take, proofs.lemmas.Option.slice_get-get_or}
 use Rattle.vb_ring.proofs.Numbers.{numbers_pass, numbers_rise, numbers_has, length_all}
-use Rattle.vb_ring.proofs.Numbers.{length-numbers}
 use Rattle.vb_ring.specs.Ends.{DriverEnd, is_unused, free_descriptors, next_head, next_path}
-use Rattle.vb_ring.specs.Ends.{outstanding, AreSingle}
-use Rattle.vb_ring.proofs.OwnerLaws.{nowhere_in}
-use Rattle.vb_ring.proofs.MeaningLaws.{next_path-free, next_path-rise}
-use Rattle.vb_ring.specs.Calls.{AddsBy}
+use Rattle.vb_ring.{specs.declared.driver.Full.TheVariants.TooFewFree, specs.Entries.is_head}
+use Rattle.vb_ring.{specs.declared.driver.Full.Full, proofs.Numbers.length-numbers}
+use Rattle.vb_ring.{specs.Ends.{outstanding, AreSingle}, proofs.OwnerLaws.nowhere_in}
+use Rattle.vb_ring.{proofs.MeaningLaws.{next_path-free, next_path-rise}, specs.Calls.AddsBy}
+use Rattle.vb_ram.specs.Pages.{Pages}
+use Rattle.vb_chain.{specs.declared.pieces.Piece.Piece, specs.Table.descriptor_at}
+use Rattle.vb_chain.{specs.Written.{IsRoute, AreSound}, specs.Chain.ChainGives}
+use Rattle.vb_chain.proofs.ChainLaws.{written_chain}
 
 -- ---- what was added is a chain of these pieces
 

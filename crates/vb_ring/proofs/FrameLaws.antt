@@ -1,9 +1,7 @@
 -- Laws of what is left as it was.
-use Rattle.std.specs.Prelude.{◌≡◌, ℕ, ◌+◌, ◌<◌, ◌≤◌, List}
-use Rattle.std.proofs.Common.{sym, ◌∙◌, ap, arith, inl, inr}
-use Rattle.std.proofs.lemmas.Bool.{cases_eq, cases_lt}
-use Rattle.vb_ram.specs.Pages.{Pages, byte_at, SameBut, SameIn}
-use Rattle.vb_ram.proofs.FieldLaws.{same_page}
+use Rattle.std.{specs.Prelude.{◌≡◌, ℕ, ◌+◌, ◌<◌, ◌≤◌, List}, proofs.Common.{sym, ◌∙◌, ap, arith}}
+use Rattle.std.{proofs.Common.{inl, inr}, proofs.lemmas.Bool.{cases_eq, cases_lt}}
+use Rattle.vb_ram.{specs.Pages.{Pages, byte_at, SameBut, SameIn}, proofs.FieldLaws.same_page}
 use Rattle.vb_ring.specs.Frame.{Extent, IsIn, IsOutside, SameOutside}
 
 -- A byte that isn't where a write was.

@@ -1,21 +1,16 @@
 -- What the driver's table keeps, after each change of the owners.
-use Rattle.std.specs.Prelude.{◌≡◌, ◌≢◌, ℕ, ◌+◌, ◌-◌, ◌<◌, ◌≤◌, Bool, true, false, List, Option, Some, None}
-use Rattle.std.specs.Prelude.{◌++◌, if◌then◌else◌, replicate, take, length, slice_index, slice_index_or, refl}
-use Rattle.std.specs.Prelude.{is_none}
+use Rattle.std.specs.Prelude.{◌≡◌, ◌≢◌, ℕ, ◌+◌, ◌-◌, ◌<◌, ◌≤◌, Bool, true, false, List, Option}
+use Rattle.std.specs.Prelude.{Some, None, ◌++◌, if◌then◌else◌, replicate, take, length, slice_index}
+use Rattle.std.proofs.lemmas.List.{length-map, get_or-set_same, get_or-set_other, take_at}
+use Rattle.std.{specs.Prelude.{slice_index_or, refl, is_none}, proofs.lemmas.Bool.cases_eq}
 use Rattle.std.proofs.Common.{sym, ◌∙◌, ap, subst, arith, inl, inr, set}
-use Rattle.std.proofs.lemmas.Bool.{cases_eq}
-use Rattle.std.proofs.lemmas.List.{length-map, get_or-set_same, get_or-set_other}
-use Rattle.std.proofs.lemmas.List.{take_at, length-replicate}
-use Rattle.vb_model.specs.Tests.{is_in}
-use Rattle.vb_model.proofs.Tables.{length-each_from}
-use Rattle.vb_ring.specs.Entries.{is_own, is_head}
-use Rattle.vb_ring.specs.Numbers.{numbers}
-use Rattle.vb_ring.specs.Ends.{is_unused, claimed, released}
-use Rattle.vb_ring.specs.Kept.{LiesBetween, AreKept, IsFreeChain}
-use Rattle.vb_ring.proofs.Numbers.{numbers_none, numbers_has}
+use Rattle.std.proofs.lemmas.List.{length-replicate}
+use Rattle.vb_model.{specs.Tests.is_in, proofs.Tables.length-each_from}
 use Rattle.vb_ring.proofs.OwnerLaws.{Claims, claims, Releases, releases, is_in-some, some_same}
-use Rattle.vb_ring.proofs.OwnerLaws.{is_in-at, own_some}
-use Rattle.vb_ring.proofs.OwnerLaws.{head_inside, fresh_free, claimed-at, released-at}
+use Rattle.vb_ring.proofs.OwnerLaws.{is_in-at, own_some, head_inside, fresh_free, claimed-at}
+use Rattle.vb_ring.{specs.Kept.{LiesBetween, AreKept, IsFreeChain}, specs.Entries.{is_own, is_head}}
+use Rattle.vb_ring.{proofs.Numbers.{numbers_none, numbers_has}, proofs.OwnerLaws.released-at}
+use Rattle.vb_ring.{specs.Ends.{is_unused, claimed, released}, specs.Numbers.numbers}
 
 -- How many heads a table has, by its length.
 heads_of : (owner : List (Option ℕ)) (n m : ℕ) → n ≡ m

@@ -1,37 +1,25 @@
 -- Laws of what the bytes of a ring mean.
-use Rattle.std.specs.Prelude.{◌≡◌, ◌≢◌, ℕ, zero, suc, ◌+◌, ◌-◌, ◌<◌, ◌≤◌, ◌==◌, nat_lt, Bool, true}
-use Rattle.std.specs.Prelude.{false, List, [], ◌∷◌, ◌++◌, Option, Some, None, Ok}
-use Rattle.std.specs.Prelude.{length, take, replicate, slice_index, slice_index_or}
-use Rattle.std.specs.Prelude.{refl}
+use Rattle.std.specs.Prelude.{◌≡◌, ◌≢◌, ℕ, zero, suc, ◌+◌, ◌-◌, ◌<◌, ◌≤◌, ◌==◌, nat_lt, Bool}
+use Rattle.std.specs.Prelude.{true, false, List, [], ◌∷◌, ◌++◌, Option, Some, None, Ok, length}
+use Rattle.std.specs.Prelude.{take, replicate, slice_index, slice_index_or, refl}
 use Rattle.std.proofs.Common.{sym, ◌∙◌, ap, subst, arith, inl, inr, eq-eqb, add-one}
-use Rattle.std.proofs.lemmas.Bool.{cases_eq, cases_lt, ltb-true}
-use Rattle.std.proofs.lemmas.List.{length_push, length-map, get_or-take}
-use Rattle.std.proofs.lemmas.List.{length-take-le, take-append-le}
-use Rattle.vb_model.specs.Tests.{is_in, one_if}
-use Rattle.vb_model.proofs.Tables.{count_by-append, count_by-cons}
+use Rattle.std.{proofs.lemmas.Bool.{cases_eq, cases_lt, ltb-true}, proofs.lemmas.List.length_push}
+use Rattle.std.proofs.lemmas.List.{length-map, get_or-take, length-take-le, take-append-le}
+use Rattle.vb_model.{specs.Tests.{is_in, one_if}, proofs.Tables.{count_by-append, count_by-cons}}
 use Rattle.vb_ram.specs.Pages.{Pages, byte_at, page_at}
-use Rattle.vb_chain.specs.declared.descriptor.Descriptor.{Descriptor}
-use Rattle.vb_chain.specs.declared.pieces.Piece.{Piece}
-use Rattle.vb_chain.specs.Table.{descriptor_at}
-use Rattle.vb_chain.proofs.TableLaws.{descriptor_apart}
-use Rattle.vb_chain.specs.Rules.{has_next}
-use Rattle.vb_chain.proofs.ChainLaws.{flags_next}
-use Rattle.vb_chain.specs.Written.{linked, empty}
-use Rattle.vb_ring.specs.declared.layout.Layout.{Layout}
-use Rattle.vb_ring.specs.Layout.{IsSize, Fits}
-use Rattle.vb_ring.specs.Entries.{is_own, is_head}
-use Rattle.vb_ring.specs.Numbers.{numbers}
+use Rattle.vb_chain.{specs.declared.descriptor.Descriptor.Descriptor, specs.Written.{linked, empty}}
+use Rattle.vb_chain.{specs.declared.pieces.Piece.Piece, proofs.TableLaws.descriptor_apart}
+use Rattle.vb_chain.{proofs.ChainLaws.flags_next, specs.Table.descriptor_at, specs.Rules.has_next}
 use Rattle.vb_ring.proofs.Numbers.{numbers_pass, numbers_rise, numbers_none, numbers_has}
-use Rattle.vb_ring.proofs.Numbers.{length_two}
 use Rattle.vb_ring.specs.Ends.{DriverEnd, IsDriverEnd, is_unused, free_descriptors, outstanding}
-use Rattle.vb_ring.specs.Ends.{next_path, claimed, released, after_add, after_take, fresh_end}
-use Rattle.vb_ring.proofs.OwnerLaws.{is_in-at, nowhere_in, take_inside, free_none}
-use Rattle.vb_ring.proofs.OwnerLaws.{some_same, none_some, head_inside}
-use Rattle.vb_ring.proofs.OwnerLaws.{Claims, claims, Releases, releases, fresh_free}
+use Rattle.vb_ring.proofs.OwnerLaws.{is_in-at, nowhere_in, take_inside, free_none, some_same}
+use Rattle.vb_ring.proofs.OwnerLaws.{none_some, head_inside, Claims, claims, Releases, releases}
 use Rattle.vb_ring.specs.Meaning.{UsedElem, no_elem, ids, times, IsOutstanding, IsTablePath}
-use Rattle.vb_ring.specs.Meaning.{ShowsEntries, Shows, Tracks}
-use Rattle.vb_ring.specs.Calls.{Links}
-use Rattle.vb_ring.proofs.EntryLaws.{entries_apart, index_zero}
+use Rattle.vb_ring.specs.Ends.{next_path, claimed, released, after_add, after_take, fresh_end}
+use Rattle.vb_ring.{proofs.EntryLaws.{entries_apart, index_zero}, specs.Entries.{is_own, is_head}}
+use Rattle.vb_ring.{specs.Meaning.{ShowsEntries, Shows, Tracks}, specs.Layout.{IsSize, Fits}}
+use Rattle.vb_ring.{specs.declared.layout.Layout.Layout, proofs.OwnerLaws.fresh_free}
+use Rattle.vb_ring.{proofs.Numbers.length_two, specs.Numbers.numbers, specs.Calls.Links}
 
 -- ---- how often a head stands in a list
 

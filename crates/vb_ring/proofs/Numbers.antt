@@ -1,13 +1,11 @@
 -- The numbers below a limit that pass a test.
 use Rattle.std.specs.Prelude.{◌≡◌, ◌≢◌, ◌⊎◌, ℕ, zero, suc, ◌+◌, ◌<◌, ◌≤◌, Bool, true, false, List}
 use Rattle.std.specs.Prelude.{[], ◌∷◌, ◌++◌, length, slice_index, if◌then◌else◌, refl, slice_get}
-use Rattle.std.specs.Prelude.{Some, take}
-use Rattle.vb_model.specs.Tests.{one_if}
-use Rattle.std.proofs.lemmas.Option.{slice_get-get_or}
-use Rattle.std.proofs.Common.{sym, ◌∙◌, ap, arith, inl, inr, add-one}
 use Rattle.std.proofs.lemmas.List.{length_push, get_or_append_left, get_or_push, length-take}
+use Rattle.std.{specs.Prelude.{Some, take}, proofs.lemmas.Option.slice_get-get_or}
+use Rattle.std.{proofs.Common.{sym, ◌∙◌, ap, arith, inl, inr, add-one}, proofs.lemmas.Bool.cases_eq}
 use Rattle.std.proofs.lemmas.List.{take_all, take-append-le}
-use Rattle.std.proofs.lemmas.Bool.{cases_eq}
+use Rattle.vb_model.specs.Tests.{one_if}
 use Rattle.vb_ring.specs.Numbers.{numbers}
 
 suc_yes : (p : ℕ → Bool) (n : ℕ) (b : Bool) → p n ≡ b → b ≡ true

@@ -3,16 +3,11 @@ use Rattle.std.specs.Prelude.{◌≡◌, ℕ, ◌+◌, ◌*◌, ◌%◌, ◌≤�
 use Rattle.std.specs.Prelude.{Result, Ok, Err, length, slice_get, refl}
 use Rattle.std.proofs.Common.{sym, ◌∙◌, ap, subst}
 use Rattle.vb_ram.specs.Pages.{Pages}
-use Rattle.vb_chain.specs.declared.fault.ChainFault.{ChainFault}
-use Rattle.vb_chain.specs.declared.pieces.Piece.{Piece}
-use Rattle.vb_chain.specs.Table.{descriptor_at}
-use Rattle.vb_chain.specs.Chain.{ChainGives, FaultGives}
-use Rattle.vb_ring.specs.declared.device.Taken.{Taken}
-use Rattle.vb_ring.specs.Entries.{next_entry}
-use Rattle.vb_ring.specs.Ends.{DeviceEnd, IsDeviceEnd}
-use Rattle.vb_ring.specs.Meaning.{ShowsAvail}
-use Rattle.vb_ring.proofs.EntryLaws.{entry_shown}
-use Rattle.vb_ring.specs.Calls.{PopsBy, after_pop}
+use Rattle.vb_chain.{specs.declared.fault.ChainFault.ChainFault, specs.declared.pieces.Piece.Piece}
+use Rattle.vb_chain.{specs.Table.descriptor_at, specs.Chain.{ChainGives, FaultGives}}
+use Rattle.vb_ring.{specs.declared.device.Taken.Taken, specs.Entries.next_entry}
+use Rattle.vb_ring.{specs.Ends.{DeviceEnd, IsDeviceEnd}, specs.Meaning.ShowsAvail}
+use Rattle.vb_ring.{proofs.EntryLaws.entry_shown, specs.Calls.{PopsBy, after_pop}}
 
 never : true ≡ false → ⊥
 never e = cc

@@ -2,9 +2,8 @@
 use Rattle.std.proofs.Common.{◌∙◌, ◌+◌, ◌%◌, ◌*◌, ℕ, arith}
 use Rattle.vb_ram.specs.Pages.{Pages, PutField, SameBut}
 use Rattle.vb_ram.proofs.FieldLaws.{field_in, same_below, same_above}
-use Rattle.vb_ring.specs.declared.layout.Layout.{Layout}
+use Rattle.vb_ring.{specs.declared.layout.Layout.Layout, proofs.FrameLaws.byte_kept}
 use Rattle.vb_ring.specs.Entries.{avail_index, avail_place, used_index, used_place}
-use Rattle.vb_ring.proofs.FrameLaws.{byte_kept}
 use Rattle.vb_ring.specs.Calls.{PutsAvail, PutsUsed, Publishes}
 
 pub puts_avail : (m1 m2 m3 : Pages) (l : Layout) (q next head : ℕ)

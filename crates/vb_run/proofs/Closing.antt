@@ -1,30 +1,20 @@
 -- From what the locks kept to the report.
-use Rattle.std.specs.Prelude.{not, ◌==◌, ◌&&◌}
-use Rattle.std.proofs.Common.{◌≡◌, refl, sym, ◌∙◌, ap, subst, ℕ, zero, suc, ◌<◌, Bool, false}
-use Rattle.std.proofs.Common.{List, [], ◌∷◌, length, Some, None, slice_get, arith, All, map}
-use Rattle.std.specs.declared.vec.Vec.{Vec}
-use Rattle.std.specs.declared.alloc.Global.{Global}
-use Rattle.std.proofs.lemmas.Option.{slice_get_within}
+use Rattle.std.proofs.Common.{◌≡◌, refl, sym, ◌∙◌, ap, subst, ℕ, zero, suc, ◌<◌, Bool, false, List}
+use Rattle.std.{specs.Prelude.{not, ◌==◌, ◌&&◌}, specs.declared.vec.Vec.Vec}
+use Rattle.std.proofs.Common.{[], ◌∷◌, length, Some, None, slice_get, arith, All, map}
+use Rattle.std.{specs.declared.alloc.Global.Global, proofs.lemmas.Option.slice_get_within}
 use Rattle.std.proofs.lemmas.List.{length-map}
 use Rattle.vb_model.specs.declared.calls.Actor.TheVariants.{Processor, Balancer}
-use Rattle.vb_model.specs.declared.calls.Call.{Call}
-use Rattle.vb_model.specs.declared.replies.Reply.{Reply}
-use Rattle.vb_model.specs.Guest.{Guest}
-use Rattle.vb_model.specs.GuestRun.{IsHistory}
-use Rattle.vb_ram.specs.declared.config.Config.{Config as Sizes}
-use Rattle.vb_model.proofs.Histories.{history_is_safe}
-use Rattle.vb_run.specs.declared.plan.Plan.{Plan}
-use Rattle.vb_run.specs.declared.plan.GuestPlan.{GuestPlan}
-use Rattle.vb_run.specs.declared.report.GuestReport.{GuestReport}
-use Rattle.vb_run.specs.declared.report.Report.{Report}
-use Rattle.vb_run.specs.Entries.{calls_by, replies_by, entries_by}
-use Rattle.vb_run.specs.Plans.{config_of}
-use Rattle.vb_run.specs.Services.{services}
+use Rattle.vb_model.{specs.declared.calls.Call.Call, specs.declared.replies.Reply.Reply}
+use Rattle.vb_model.{specs.Guest.Guest, specs.GuestRun.IsHistory, proofs.Histories.history_is_safe}
+use Rattle.vb_run.{specs.declared.plan.Plan.Plan, specs.declared.plan.GuestPlan.GuestPlan}
+use Rattle.vb_run.{specs.declared.report.GuestReport.GuestReport, specs.Plans.config_of}
+use Rattle.vb_run.{specs.declared.report.Report.Report, specs.Services.services}
+use Rattle.vb_run.{specs.Entries.{calls_by, replies_by, entries_by}, proofs.Tended.served}
 use Rattle.vb_run.specs.Past.{Past, IsKept, AreScripts, AllEnded, AreHushed}
-use Rattle.vb_run.specs.Rounds.{Rounded, round_entries}
+use Rattle.vb_run.{specs.Rounds.{Rounded, round_entries}, proofs.Lists.{take_whole, some_same}}
 use Rattle.vb_run.specs.Reports.{IsGuestReport, IsReport, IsRound, AreApart, frames_behind}
-use Rattle.vb_run.proofs.Lists.{take_whole, some_same}
-use Rattle.vb_run.proofs.Tended.{served}
+use Rattle.vb_ram.specs.declared.config.Config.{Config as Sizes}
 
 -- configurations that aren't told apart are the same
 pub same_config : (a b : Sizes)

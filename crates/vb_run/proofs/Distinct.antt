@@ -1,14 +1,10 @@
 -- Numbers that rise stand once each, in whatever order.
 use Rattle.std.proofs.Common.{◌≡◌, refl, sym, ◌∙◌, ap, ℕ, suc, ◌+◌, ◌<◌, ◌≤◌, Bool, true, false}
-use Rattle.std.proofs.Common.{List, [], ◌∷◌, arith, zero}
-use Rattle.std.specs.Prelude.{◌==◌, sum_by}
-use Rattle.std.proofs.lemmas.Bool.Decides.{nat_tests}
-use Rattle.std.specs.List.Sorted.{IsPermutation, IsNonDecreasing}
+use Rattle.std.{specs.List.Sorted.{IsPermutation, IsNonDecreasing}, specs.Prelude.{◌==◌, sum_by}}
 use Rattle.std.proofs.lemmas.List.Sorted.{sum_by-IsPermutation}
-use Rattle.vb_model.specs.Tests.{times, one_if}
-use Rattle.vb_model.proofs.Tables.{count_by-cons}
-use Rattle.vb_run.specs.declared.report.GuestReport.{GuestReport}
-use Rattle.vb_run.specs.Reports.{AreApart}
+use Rattle.std.{proofs.Common.{List, [], ◌∷◌, arith, zero}, proofs.lemmas.Bool.Decides.nat_tests}
+use Rattle.vb_model.{specs.Tests.{times, one_if}, proofs.Tables.count_by-cons}
+use Rattle.vb_run.{specs.declared.report.GuestReport.GuestReport, specs.Reports.AreApart}
 use Rattle.vb_run.specs.Rising.{IsRising}
 
 rising_tail : (x : ℕ) (xs : List ℕ) → IsRising (x ∷ xs) → IsRising xs

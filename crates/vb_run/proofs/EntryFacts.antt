@@ -1,18 +1,14 @@
 -- Worked facts of a history's entries by who made them.
-use Rattle.std.proofs.Common.{◌≡◌, List, [], ◌∷◌, true, false, map, refl}
-use Rattle.std.specs.Prelude.{Some, None}
-use Rattle.std.specs.declared.vec.Vec.{Vec}
-use Rattle.std.specs.declared.alloc.Global.{Global}
-use Rattle.vb_model.specs.declared.calls.Actor.{Actor}
+use Rattle.std.{proofs.Common.{◌≡◌, List, [], ◌∷◌, true, false, map, refl}, specs.Prelude.Some}
+use Rattle.std.{specs.Prelude.None, specs.declared.vec.Vec.Vec, specs.declared.alloc.Global.Global}
 use Rattle.vb_model.specs.declared.calls.Actor.TheVariants.{Starter, Processor, Worker, Balancer}
 use Rattle.vb_model.specs.declared.calls.Call.TheVariants.{Init, Alloc, Stats, Work, SetTarget}
-use Rattle.vb_model.specs.declared.calls.Claim.{Claim}
-use Rattle.vb_model.specs.declared.calls.Claim.TheVariants.{Gave}
 use Rattle.vb_model.specs.declared.replies.Reply.TheVariants.{Done, Ready, Page, Filled, Idle}
-use Rattle.vb_model.specs.GuestRun.{Entry, Called, Looked}
-use Rattle.vb_run.specs.declared.entry.Step.TheVariants.{Called as CalledStep, Looked as LookedStep}
+use Rattle.vb_model.{specs.declared.calls.Claim.TheVariants.Gave, specs.declared.calls.Actor.Actor}
+use Rattle.vb_model.{specs.GuestRun.{Entry, Called, Looked}, specs.declared.calls.Claim.Claim}
 use Rattle.vb_run.specs.Entries.{entry_of, is_same, actor_of, call_of, reply_of, entries_by}
 use Rattle.vb_run.specs.Entries.{calls_by, reply_to, replies_by}
+use Rattle.vb_run.specs.declared.entry.Step.TheVariants.{Called as CalledStep, Looked as LookedStep}
 
 -- ---- which actors are one
 

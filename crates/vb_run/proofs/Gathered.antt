@@ -1,17 +1,12 @@
 -- What is gathered from a history, an entry at a time.
 use Rattle.std.proofs.Common.{◌≡◌, refl, sym, ◌∙◌, ap, ℕ, ◌+◌, ◌<◌, true, false, List, [], ◌∷◌}
 use Rattle.std.proofs.Common.{◌++◌, length, take, drop, Some, None, add-one, take-suc, get_or, zero}
-use Rattle.std.proofs.Common.{suc, arith, ◌≤◌, slice_get}
-use Rattle.std.specs.List.{list_all}
-use Rattle.std.proofs.lemmas.List.Folds.{list_all-append}
-use Rattle.std.specs.Prelude.{filter_map}
+use Rattle.std.{proofs.Common.{suc, arith, ◌≤◌, slice_get}, specs.List.list_all}
+use Rattle.std.{proofs.lemmas.List.Folds.list_all-append, specs.Prelude.{filter_map, Option}}
 use Rattle.std.proofs.lemmas.List.{append-nil, append_assoc, take-append-drop}
 use Rattle.std.proofs.lemmas.List.Elements.{filter_map-append, filter-append}
-use Rattle.vb_model.specs.declared.calls.Actor.{Actor}
-use Rattle.vb_model.specs.declared.calls.Actor.TheVariants.{Balancer}
-use Rattle.vb_model.specs.declared.replies.Reply.{Reply}
-use Rattle.std.specs.Prelude.{Option}
-use Rattle.vb_model.specs.Guest.{frame_of}
+use Rattle.vb_model.{specs.declared.calls.Actor.Actor, specs.declared.replies.Reply.Reply}
+use Rattle.vb_model.{specs.declared.calls.Actor.TheVariants.Balancer, specs.Guest.frame_of}
 use Rattle.vb_model.specs.GuestRun.{Entry}
 use Rattle.vb_run.specs.Entries.{is_same, actor_of, reply_to, replies_by, entries_by}
 use Rattle.vb_run.specs.Rounds.{Rounded, entries_of_round, is_of_round, round_entries}

@@ -1,33 +1,22 @@
 -- What a call or a look leaves behind a guest's lock.
-use Rattle.std.proofs.Common.{◌≡◌, refl, sym, ◌∙◌, ap, subst, ℕ, zero, suc, ◌+◌, Bool, true}
-use Rattle.std.proofs.Common.{false, List, [], ◌∷◌, ◌++◌, length, Some, slice_get, slice_set, ⊎_elim}
-use Rattle.std.proofs.Common.{◌⊎◌, inl, inr}
-use Rattle.std.proofs.Common.{take}
+use Rattle.std.proofs.Common.{◌≡◌, refl, sym, ◌∙◌, ap, subst, ℕ, zero, suc, ◌+◌, Bool, true, false}
+use Rattle.std.proofs.Common.{List, [], ◌∷◌, ◌++◌, length, Some, slice_get, slice_set, ⊎_elim, ◌⊎◌}
 use Rattle.std.specs.Prelude.{slice_index_or, Result, Ok, Err, IfOk, IsOkAnd, MatchBool}
-use Rattle.std.specs.Prelude.{MatchResult, MatchOption, Option}
-use Rattle.std.specs.declared.alloc.AllocError.{AllocError}
-use Rattle.std.proofs.lemmas.List.Elements.{All-nil}
-use Rattle.vb_model.specs.declared.negotiation.TheConstants.{OFFERED_FEATURES}
-use Rattle.vb_model.specs.declared.calls.Actor.{Actor}
+use Rattle.std.{proofs.Common.{inl, inr, take}, specs.Prelude.{MatchResult, MatchOption, Option}}
+use Rattle.std.{specs.declared.alloc.AllocError.AllocError, proofs.lemmas.List.Elements.All-nil}
+use Rattle.vb_model.{specs.declared.negotiation.TheConstants.OFFERED_FEATURES, specs.Balance.spare}
+use Rattle.vb_model.{specs.declared.calls.Actor.Actor, specs.declared.calls.Call.Call}
 use Rattle.vb_model.specs.declared.calls.Actor.TheVariants.{Processor, Balancer}
-use Rattle.vb_model.specs.declared.calls.Call.{Call}
-use Rattle.vb_model.specs.declared.calls.Call.TheVariants.{Init}
-use Rattle.vb_model.specs.declared.calls.Claim.{Claim}
-use Rattle.vb_model.specs.declared.replies.Reply.{Reply}
-use Rattle.vb_model.specs.Limits.{is_config}
-use Rattle.vb_model.specs.Guest.{Guest, fresh}
-use Rattle.vb_model.specs.Balance.{spare}
-use Rattle.vb_model.specs.GuestRun.{Called, Looked}
-use Rattle.vb_ram.specs.declared.config.Config.{Config as Sizes}
+use Rattle.vb_model.{specs.declared.calls.Call.TheVariants.Init, specs.declared.calls.Claim.Claim}
+use Rattle.vb_model.{specs.declared.replies.Reply.Reply, specs.Limits.is_config}
+use Rattle.vb_model.{specs.Guest.{Guest, fresh}, specs.GuestRun.{Called, Looked}}
 use Rattle.vb_slot.specs.Alone.{AreBehind, StepsTo}
-use Rattle.vb_run.specs.Plans.{config_of, is_plain, may_stand}
+use Rattle.vb_run.{specs.Plans.{config_of, is_plain, may_stand}, specs.Made.IsMade}
 use Rattle.vb_run.specs.Services.{IsQuiet, services, found_nothing}
-use Rattle.vb_run.specs.Made.{IsMade}
-use Rattle.vb_run.specs.Past.{Past, Progress, IsKept, IsAside, AreBegun, unknown}
-use Rattle.vb_run.specs.Past.{just_started}
+use Rattle.vb_run.specs.Past.{Past, Progress, IsKept, IsAside, AreBegun, unknown, just_started}
 use Rattle.vb_run.proofs.Tended.{plain_entry, service_plain, is_quiet, started, stands_plain}
-use Rattle.vb_run.proofs.Lists.{passes_at, some_same}
-use Rattle.vb_run.proofs.Histories.{kept_aside, kept_next}
+use Rattle.vb_run.{proofs.Lists.{passes_at, some_same}, proofs.Histories.{kept_aside, kept_next}}
+use Rattle.vb_ram.specs.declared.config.Config.{Config as Sizes}
 
 not_known : (n : ℕ) → slice_index_or unknown n false ≡ true → ⊥
 not_known zero h = cc

@@ -1,12 +1,10 @@
 -- Lists of one element more, and lists that are changed at a place.
 use Rattle.std.proofs.Common.{◌≡◌, refl, ap, ◌∙◌, subst, ℕ, zero, suc, ◌+◌, ◌<◌, ◌≤◌, List, [], ◌∷◌}
 use Rattle.std.proofs.Common.{◌++◌, length, Some, slice_get, slice_set, ◌⊎◌, inl, inr, ⊎_elim}
-use Rattle.std.proofs.Common.{arith, map, take, All, add-one, take-suc, take_all, get_or, ◌≢◌, true, Bool}
-use Rattle.std.specs.List.{list_all, Contains}
-use Rattle.std.proofs.lemmas.Bool.{and_parts}
-use Rattle.std.proofs.Math.Seq.{take-length}
+use Rattle.std.proofs.Common.{arith, map, take, All, add-one, take-suc, take_all, get_or, ◌≢◌, true}
+use Rattle.std.{proofs.Common.Bool, specs.List.{list_all, Contains}, proofs.lemmas.Bool.and_parts}
+use Rattle.std.{proofs.Math.Seq.take-length, proofs.lemmas.List.Elements.All-push}
 use Rattle.std.proofs.lemmas.Option.{slice_get_within, get_or_from_slice_get}
-use Rattle.std.proofs.lemmas.List.Elements.{All-push}
 pub use Rattle.std.proofs.lemmas.List.Folds.{list_all_more, list_all_at}
 
 -- what stands at a place of a list that one element was pushed to

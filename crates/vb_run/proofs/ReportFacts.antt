@@ -1,37 +1,24 @@
 -- Worked facts of what a run answers.
-use Rattle.std.proofs.Common.{◌≡◌, ℕ, ◌+◌, ◌≤◌, List, [], ◌∷◌, Bool, true, false}
-use Rattle.std.proofs.Common.{refl}
-use Rattle.std.proofs.Common.{sym, ap, subst, ◌∙◌, arith, length}
-use Rattle.std.specs.Prelude.{Option, Some, None, slice_get, ◌-◌}
-use Rattle.std.specs.Prelude.{filter_map}
-use Rattle.std.specs.declared.vec.Vec.{Vec}
+use Rattle.std.proofs.Common.{◌≡◌, ℕ, ◌+◌, ◌≤◌, List, [], ◌∷◌, Bool, true, false, refl, sym, ap}
+use Rattle.std.{proofs.Common.{subst, ◌∙◌, arith, length}, specs.declared.vec.Vec.Vec}
+use Rattle.std.specs.Prelude.{Option, Some, None, slice_get, ◌-◌, filter_map}
 use Rattle.std.specs.declared.alloc.Global.{Global}
-use Rattle.vb_model.specs.declared.calls.Actor.{Actor}
-use Rattle.vb_model.specs.declared.calls.Actor.TheVariants.{Processor, Worker, Balancer}
-use Rattle.vb_model.specs.declared.calls.Call.{Call}
-use Rattle.vb_model.specs.declared.calls.Call.TheVariants.{Alloc, Stats, Work, SetTarget}
-use Rattle.vb_model.specs.declared.calls.Claim.{Claim}
-use Rattle.vb_model.specs.declared.replies.Refusal.TheVariants.{Short}
-use Rattle.vb_model.specs.declared.replies.Reply.{Reply}
 use Rattle.vb_model.specs.declared.replies.Reply.TheVariants.{Done, Page, Filled, Idle, NotUsed}
-use Rattle.vb_model.specs.declared.replies.Reply.TheVariants.{Targets, Refused}
-use Rattle.vb_model.specs.Requests.{Request}
-use Rattle.vb_model.specs.Guest.{Guest, Config, fresh}
-use Rattle.vb_model.specs.Balance.{Need, spare}
-use Rattle.vb_model.specs.Layout.{reserved_pages}
-use Rattle.vb_model.specs.Tests.{times}
-use Rattle.vb_model.specs.GuestRun.{Entry, Called, Looked, IsHistory, Leads}
-use Rattle.vb_model.specs.GuestRun.{all_entries}
-use Rattle.vb_model.proofs.Unchanged.{step_keeps}
-use Rattle.vb_ram.specs.declared.config.Config.{Config as Sizes}
-use Rattle.vb_run.specs.declared.plan.GuestPlan.{GuestPlan}
-use Rattle.vb_run.specs.declared.plan.Plan.{Plan}
-use Rattle.vb_run.specs.declared.report.GuestReport.{GuestReport}
-use Rattle.vb_run.specs.declared.report.Report.{Report}
-use Rattle.vb_run.specs.Plans.{config_of}
+use Rattle.vb_model.{specs.declared.calls.Actor.Actor, specs.declared.calls.Call.Call}
+use Rattle.vb_model.specs.declared.calls.Actor.TheVariants.{Processor, Worker, Balancer}
+use Rattle.vb_model.specs.declared.calls.Call.TheVariants.{Alloc, Stats, Work, SetTarget}
+use Rattle.vb_model.{specs.declared.calls.Claim.Claim, specs.declared.replies.Reply.Reply}
+use Rattle.vb_model.{specs.declared.replies.Refusal.TheVariants.Short, specs.Requests.Request}
+use Rattle.vb_model.{specs.declared.replies.Reply.TheVariants.{Targets, Refused}, specs.Tests.times}
+use Rattle.vb_model.{specs.Guest.{Guest, Config, fresh}, specs.Balance.{Need, spare}}
+use Rattle.vb_model.{specs.Layout.reserved_pages, proofs.Unchanged.step_keeps}
+use Rattle.vb_model.specs.GuestRun.{Entry, Called, Looked, IsHistory, Leads, all_entries}
+use Rattle.vb_run.{specs.declared.plan.GuestPlan.GuestPlan, specs.declared.plan.Plan.Plan}
+use Rattle.vb_run.{specs.declared.report.GuestReport.GuestReport, specs.Plans.config_of}
+use Rattle.vb_run.{specs.declared.report.Report.Report, specs.Rounds.{Rounded, round_entries}}
 use Rattle.vb_run.specs.Entries.{calls_by, replies_by, entries_by}
-use Rattle.vb_run.specs.Rounds.{Rounded, round_entries}
 use Rattle.vb_run.specs.Reports.{frames_behind, Plays, IsGuestReport, IsRound, AreApart, IsReport}
+use Rattle.vb_ram.specs.declared.config.Config.{Config as Sizes}
 
 abbrev Same : ℕ → ℕ → Type 0
 Same a b = a ≡ b

@@ -1,12 +1,11 @@
 -- Worked facts of the balancer's rounds: a look in each round, and a target where the round has one
 -- for the guest.
 use Rattle.std.proofs.Common.{◌≡◌, ℕ, List, [], ◌∷◌, refl, map, true, false}
-use Rattle.vb_model.specs.declared.calls.Actor.TheVariants.{Balancer, Worker}
+use Rattle.vb_model.{specs.declared.calls.Actor.TheVariants.{Balancer, Worker}, specs.Balance.Need}
 use Rattle.vb_model.specs.declared.calls.Call.TheVariants.{Ask, SetTarget}
 use Rattle.vb_model.specs.declared.calls.Claim.TheVariants.{GaveNoFrame}
 use Rattle.vb_model.specs.declared.replies.Refusal.TheVariants.{Short, NoFrame}
 use Rattle.vb_model.specs.declared.replies.Reply.TheVariants.{Done, Targets, Refused}
-use Rattle.vb_model.specs.Balance.{Need}
 use Rattle.vb_model.specs.GuestRun.{Called, Looked}
 use Rattle.vb_run.specs.Rounds.{Rounded, is_of_round, round_entries}
 

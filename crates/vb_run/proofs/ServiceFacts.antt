@@ -1,20 +1,16 @@
 -- Worked facts of what a guest's worker does, and of when nothing waits for it.
 use Rattle.std.proofs.Common.{◌≡◌, ℕ, [], ◌∷◌, true, false, map, refl, ap, sym, ◌∙◌, arith}
 use Rattle.std.specs.Prelude.{length}
-use Rattle.vb_model.specs.declared.negotiation.TheConstants.{OFFERED_FEATURES}
-use Rattle.vb_model.specs.declared.calls.Call.TheVariants.{Take, Work, Finish, Ask}
-use Rattle.vb_model.specs.declared.calls.Call.TheVariants.{SetTarget}
-use Rattle.vb_model.specs.declared.replies.Refusal.TheVariants.{NotReady, NotTaken}
 use Rattle.vb_model.specs.declared.replies.Reply.TheVariants.{Done, Taken, Empty, Worked, Idle}
+use Rattle.vb_model.specs.Requests.{Request, Requests, no_requests, NoBuffer, BufferPosted}
+use Rattle.vb_model.specs.declared.negotiation.TheConstants.{OFFERED_FEATURES}
+use Rattle.vb_model.specs.declared.calls.Call.TheVariants.{Take, Work, Finish, Ask, SetTarget}
+use Rattle.vb_model.specs.declared.replies.Refusal.TheVariants.{NotReady, NotTaken}
 use Rattle.vb_model.specs.declared.replies.Reply.TheVariants.{Finished, Asked, Refused}
-use Rattle.vb_model.specs.Requests.{Request, Requests, no_requests}
-use Rattle.vb_model.specs.Requests.{NoBuffer, BufferPosted, BufferTaken}
-use Rattle.vb_model.specs.Requests.{BufferDone, Figures}
-use Rattle.vb_model.specs.Guest.{Guest, Config, fresh}
-use Rattle.vb_model.proofs.GuestSteps.{fresh_consistent}
+use Rattle.vb_model.specs.Requests.{BufferTaken, BufferDone, Figures}
+use Rattle.vb_model.{specs.Guest.{Guest, Config, fresh}, proofs.GuestSteps.fresh_consistent}
 use Rattle.vb_model.proofs.OrderlySteps.{fresh_order}
-use Rattle.vb_run.specs.Services.{services, found_nothing, IsServed, is_waiting}
-use Rattle.vb_run.specs.Services.{IsTended, IsQuiet}
+use Rattle.vb_run.specs.Services.{services, found_nothing, IsServed, is_waiting, IsTended, IsQuiet}
 
 abbrev Same : ℕ → ℕ → Type 0
 Same a b = a ≡ b

@@ -1,48 +1,26 @@
 -- Calls of processors and workers leave a tended guest tended, and what a worker that finds nothing
 -- more to do leaves behind.
 use Rattle.std.proofs.Common.{◌≡◌, ◌≢◌, ℕ, zero, suc, Bool, true, false, cond, List, [], ◌∷◌, refl}
-use Rattle.std.proofs.Common.{sym, ap, subst, ◌∙◌, ◌⊎◌, inl, inr, arith}
-use Rattle.std.specs.Prelude.{◌==◌, ◌<◌, Option, Some, None, MatchOption, length}
-use Rattle.std.specs.Prelude.{slice_get}
-use Rattle.std.specs.List.{list_all}
-use Rattle.std.proofs.lemmas.Bool.{ltb-true, and_parts}
-use Rattle.std.proofs.lemmas.Option.{slice_get-get_or}
-use Rattle.vb_model.specs.declared.negotiation.TheConstants.{OFFERED_FEATURES}
-use Rattle.vb_model.specs.declared.calls.Actor.{Actor}
-use Rattle.vb_model.specs.declared.calls.Actor.TheVariants.{Starter}
-use Rattle.vb_model.specs.declared.calls.Call.{Call}
-use Rattle.vb_model.specs.declared.calls.Call.TheVariants.{Init}
-use Rattle.vb_model.specs.declared.calls.Call.TheVariants.{Scribble}
-use Rattle.vb_model.specs.declared.calls.Call.TheVariants.{Take, Work, Finish}
-use Rattle.vb_model.specs.declared.calls.Call.TheVariants.{Ask}
-use Rattle.vb_model.specs.declared.calls.Claim.{Claim}
-use Rattle.vb_model.specs.declared.replies.Reply.{Reply}
-use Rattle.vb_model.specs.declared.replies.Reply.TheVariants.{Refused}
-use Rattle.vb_model.specs.Requests.{Request, Kind, Inflating, Deflating, Reporting_free}
-use Rattle.vb_model.specs.Requests.{Buffer}
-use Rattle.vb_model.specs.Guest.{Guest, Config, fresh}
-use Rattle.vb_model.specs.Limits.{is_config}
-use Rattle.vb_model.specs.Tables.{take_tests, finish_tests, work_tests}
-use Rattle.vb_model.specs.FirstRefusal.{first_refusal}
-use Rattle.vb_model.specs.Refusals.{refusal_of, taken_at}
-use Rattle.vb_model.specs.Driver.{Reaps}
-use Rattle.vb_model.specs.Device.{Takes, Asks, next_page}
-use Rattle.vb_model.specs.Device.{is_unvisited}
-use Rattle.vb_model.specs.Step.{Performs, HonestStep}
-use Rattle.vb_model.specs.Rogue.{GuestStep}
-use Rattle.vb_model.specs.Consistent.{IsConsistent}
-use Rattle.vb_model.specs.Orderly.{IsOrderly}
-use Rattle.vb_model.specs.HonestRuns.{IsAttentive}
-use Rattle.vb_model.specs.GuestRun.{Called, EntryStep, is_scribbled}
-use Rattle.vb_model.proofs.CallSteps.{match_cases, honest_keeps}
-use Rattle.vb_model.proofs.CallSteps.{Idles, Visits}
-use Rattle.vb_model.proofs.GuestSteps.{fresh_consistent}
-use Rattle.vb_model.proofs.OrderlySteps.{honest_order, fresh_order}
-use Rattle.vb_model.proofs.AttentiveSteps.{honest_attentive}
-use Rattle.vb_model.proofs.Unchanged.{step_keeps, IsScribble}
+use Rattle.std.{proofs.Common.{sym, ap, subst, ◌∙◌, ◌⊎◌, inl, inr, arith}, specs.List.list_all}
+use Rattle.std.specs.Prelude.{◌==◌, ◌<◌, Option, Some, None, MatchOption, length, slice_get}
+use Rattle.std.{proofs.lemmas.Bool.{ltb-true, and_parts}, proofs.lemmas.Option.slice_get-get_or}
+use Rattle.vb_model.specs.declared.calls.Call.TheVariants.{Init, Scribble, Take, Work, Finish, Ask}
+use Rattle.vb_model.specs.Requests.{Request, Kind, Inflating, Deflating, Reporting_free, Buffer}
+use Rattle.vb_model.proofs.CallSteps.{match_cases, honest_keeps, Idles, Visits}
+use Rattle.vb_model.{specs.declared.negotiation.TheConstants.OFFERED_FEATURES, specs.Driver.Reaps}
+use Rattle.vb_model.{specs.Tables.{take_tests, finish_tests, work_tests}, specs.Orderly.IsOrderly}
+use Rattle.vb_model.{specs.Device.{Takes, Asks, next_page, is_unvisited}, specs.Limits.is_config}
+use Rattle.vb_model.{specs.declared.replies.Reply.TheVariants.Refused, specs.HonestRuns.IsAttentive}
+use Rattle.vb_model.{specs.GuestRun.{Called, EntryStep, is_scribbled}, specs.Rogue.GuestStep}
+use Rattle.vb_model.{proofs.OrderlySteps.{honest_order, fresh_order}, specs.Consistent.IsConsistent}
+use Rattle.vb_model.{specs.declared.calls.Actor.TheVariants.Starter, specs.declared.calls.Call.Call}
+use Rattle.vb_model.{proofs.Unchanged.{step_keeps, IsScribble}, specs.declared.replies.Reply.Reply}
+use Rattle.vb_model.{proofs.AttentiveSteps.honest_attentive, specs.Refusals.{refusal_of, taken_at}}
+use Rattle.vb_model.{specs.Guest.{Guest, Config, fresh}, proofs.GuestSteps.fresh_consistent}
+use Rattle.vb_model.{specs.Step.{Performs, HonestStep}, specs.declared.calls.Actor.Actor}
+use Rattle.vb_model.{specs.declared.calls.Claim.Claim, specs.FirstRefusal.first_refusal}
 use Rattle.vb_run.specs.Plans.{may_stand, is_plain}
-use Rattle.vb_run.specs.Services.{services, found_nothing}
-use Rattle.vb_run.specs.Services.{IsQuiet, IsTended, IsServed, is_waiting}
+use Rattle.vb_run.specs.Services.{services, found_nothing, IsQuiet, IsTended, IsServed, is_waiting}
 
 -- ---- which calls these are
 

@@ -1,9 +1,7 @@
 -- A word that is looked up among the words of its length.
-use Rattle.std.proofs.Common.{◌≡◌, ◌≢◌, ℕ, ◌≤◌, ◌&&◌, Bool, true, false, cond, nat_eq, nat_le}
-use Rattle.std.proofs.Common.{List, [], ◌∷◌, Some, None, length, refl, ap, ◌∙◌, arith}
-use Rattle.std.proofs.Common.{bytes_eq}
-use Rattle.std.proofs.lemmas.Bool.Decides.{nat_tests}
-use Rattle.std.proofs.lemmas.Slice.Eq.{bytes_eq-Decides}
+use Rattle.std.proofs.Common.{◌≡◌, ◌≢◌, ℕ, ◌≤◌, ◌&&◌, Bool, true, false, cond, nat_eq, nat_le, List}
+use Rattle.std.proofs.Common.{[], ◌∷◌, Some, None, length, refl, ap, ◌∙◌, arith, bytes_eq}
+use Rattle.std.{proofs.lemmas.Bool.Decides.nat_tests, proofs.lemmas.Slice.Eq.bytes_eq-Decides}
 use Rattle.vb_script.specs.Names.{meaning_of}
 
 -- the entries whose words have so many letters

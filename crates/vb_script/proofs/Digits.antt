@@ -1,7 +1,6 @@
 -- The number that a prefix of some digits shows, and what is left of them.
-use Rattle.std.proofs.Common.{◌≡◌, ℕ, ◌+◌, ◌-◌, ◌*◌, ◌^◌, ◌<◌, ◌≤◌, List, [], ◌∷◌, length}
-use Rattle.std.proofs.Common.{get_or, drop, ap, sym, ◌∙◌, arith}
-use Rattle.std.proofs.Math.Seq.{drop-cons}
+use Rattle.std.proofs.Common.{◌≡◌, ℕ, ◌+◌, ◌-◌, ◌*◌, ◌^◌, ◌<◌, ◌≤◌, List, [], ◌∷◌, length, get_or}
+use Rattle.std.{proofs.Common.{drop, ap, sym, ◌∙◌, arith}, proofs.Math.Seq.drop-cons}
 use Rattle.std.proofs.lemmas.List.{drop_all}
 use Rattle.vb_script.specs.Numbers.{IsDecimal, IsDigit, decimal_value, with_digits}
 

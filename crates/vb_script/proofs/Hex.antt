@@ -1,8 +1,7 @@
 -- Which words of hexadecimal digits show bytes.
 use Rattle.std.proofs.Common.{◌≡◌, ℕ, ◌*◌, ◌/◌, ◌<◌, ◌≤◌, List, length, Result, Ok, Err}
 use Rattle.std.proofs.Common.{MatchResult, arith}
-use Rattle.hex.specs.Hex.{decode_of, decode_sized}
-use Rattle.hex.specs.declared.error.FromHexError.{FromHexError}
+use Rattle.hex.{specs.Hex.{decode_of, decode_sized}, specs.declared.error.FromHexError.FromHexError}
 use Rattle.hex.proofs.HexLemmas.{decode_of-digits, decode_of-ok}
 use Rattle.vb_script.specs.Numbers.{IsByteWord}
 

@@ -1,7 +1,6 @@
 -- A script for guests on threads has its parts in order: plugs, then rounds at most once, then
 -- processors and calls.
-use Rattle.std.proofs.Common.{◌||◌, Bool, true, false, cond, List, [], ◌∷◌}
-use Rattle.std.specs.List.{list_all}
+use Rattle.std.{proofs.Common.{◌||◌, Bool, true, false, cond, List, [], ◌∷◌}, specs.List.list_all}
 use Rattle.vb_script.specs.declared.threads.ThreadsLine.{ThreadsLine}
 use Rattle.vb_script.specs.declared.threads.ThreadsLine.TheVariants.{Plug, Rounds, Cpu, Call}
 use Rattle.vb_script.specs.Threads.{are_plugs, is_plug}

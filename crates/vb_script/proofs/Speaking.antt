@@ -1,8 +1,7 @@
 -- A text that says something begins with a host, in each language of scripts.
 use Rattle.std.proofs.Common.{◌≡◌, ℕ, List, [], ◌∷◌, Option, Some, None, Ok, is_some, true, refl}
-use Rattle.vb_script.specs.Lines.{host_of}
 use Rattle.vb_script.specs.Texts.{Language, Told, behind_host, begins_with_host, is_host_first}
-use Rattle.vb_script.specs.Texts.{lines_of, numbered, script_with, told_in}
+use Rattle.vb_script.{specs.Lines.host_of, specs.Texts.{lines_of, numbered, script_with, told_in}}
 use Rattle.vb_script.specs.Words.{words_of}
 
 pub speaks : {Item : Type 0} → (language : Language Item) (text : List ℕ) (told : Told Item)

@@ -1,13 +1,10 @@
 -- What lines of a script for guests on threads say, and what they make together, worked out.
 use Rattle.std.proofs.Common.{◌≡◌, List, [], ◌∷◌, Some, None, codes, refl}
 use Rattle.vb_model.specs.declared.calls.Call.TheVariants.{Alloc, Inflate, Reap, Stats}
-use Rattle.vb_script.specs.declared.lines.Pace.TheVariants.{Immediate, Paced}
-use Rattle.vb_script.specs.declared.threads.ThreadsLine.{ThreadsLine}
+use Rattle.vb_script.{specs.declared.lines.Pace.TheVariants.{Immediate, Paced}, specs.Plans.plan_of}
+use Rattle.vb_script.{specs.declared.threads.ThreadsLine.ThreadsLine, specs.Threads.threads}
 use Rattle.vb_script.specs.declared.threads.ThreadsLine.TheVariants.{Plug, Rounds, Cpu, Call}
-use Rattle.vb_script.specs.Names.{form_of, threads_form_of}
-use Rattle.vb_script.specs.Plans.{plan_of}
-use Rattle.vb_script.specs.Threads.{threads}
-use Rattle.vb_script.specs.Words.{number_of, words_of}
+use Rattle.vb_script.{specs.Names.{form_of, threads_form_of}, specs.Words.{number_of, words_of}}
 
 -- a plug stands first or behind a plug
 plug_first : threads [] (words_of (codes "plug 64 8 1")) ≡ Some (Plug 64 8 1)

@@ -1,14 +1,11 @@
 -- What tells a word of digits from other words, as a test.
-use Rattle.std.proofs.Common.{◌≡◌, ℕ, ◌*◌, ◌^◌, ◌<◌, ◌≤◌, ◌&&◌, Bool, cond, ltb, leb}
-use Rattle.std.proofs.Common.{List, length, Option, Some, None, Ok, Err, SomeIff, IsOk, MatchOption}
-use Rattle.std.proofs.Common.{All, Decides, refl, arith}
-use Rattle.std.specs.List.{list_all}
+use Rattle.std.proofs.Common.{◌≡◌, ℕ, ◌*◌, ◌^◌, ◌<◌, ◌≤◌, ◌&&◌, Bool, cond, ltb, leb, List, length}
+use Rattle.std.proofs.Common.{Option, Some, None, Ok, Err, SomeIff, IsOk, MatchOption, All, Decides}
+use Rattle.std.{proofs.Common.{refl, arith}, specs.List.list_all}
 use Rattle.std.proofs.lemmas.Bool.Decides.{Decides-and, Decides-by_and, nat_tests}
-use Rattle.hex.specs.Hex.{decode_of, decode_sized}
-use Rattle.hex.specs.declared.error.FromHexError.{FromHexError}
+use Rattle.hex.{specs.Hex.{decode_of, decode_sized}, specs.declared.error.FromHexError.FromHexError}
 use Rattle.vb_script.specs.Numbers.{IsDigit, IsDecimal, ShowsBits, decimal_value}
-use Rattle.vb_script.specs.Values.{bytes_of, features_of}
-use Rattle.vb_script.specs.Words.{is_digit, number_of}
+use Rattle.vb_script.{specs.Values.{bytes_of, features_of}, specs.Words.{is_digit, number_of}}
 
 -- a value that is there exactly where a fact holds is there where its test passes
 some_where : {T : Type 0} {P : Type 0} (r : Option T) (b : Bool) (v : T) → SomeIff r P v

@@ -1,8 +1,7 @@
 -- Numbers in a list, numbers from one on and below a bound, and passes that hold nothing.
-use Rattle.std.proofs.Common.{◌≡◌, ◌≢◌, ℕ, zero, suc, ◌+◌, ◌≤◌, true, false, not}
-use Rattle.std.proofs.Common.{◌==◌, List, [], ◌∷◌, ◌++◌, refl, sym, ap, ◌∙◌, arith}
-use Rattle.std.proofs.Common.{eq-eqb, ne_eqb, eqb-true, replicate, None}
-use Rattle.std.specs.Prelude.{slice_index}
+use Rattle.std.proofs.Common.{◌≡◌, ◌≢◌, ℕ, zero, suc, ◌+◌, ◌≤◌, true, false, not, ◌==◌, List, []}
+use Rattle.std.proofs.Common.{◌∷◌, ◌++◌, refl, sym, ap, ◌∙◌, arith, eq-eqb, ne_eqb, eqb-true}
+use Rattle.std.{proofs.Common.{replicate, None}, specs.Prelude.slice_index}
 use Rattle.std.proofs.lemmas.Map.Views.{any-filter_same}
 use Rattle.atomic_table.specs.Seated.{TableId}
 use Rattle.vb_device.specs.Own.{has, without}

@@ -1,16 +1,14 @@
 -- Worked facts of what a step tells its pass, and of how seats are cut.
-use Rattle.std.proofs.Common.{◌≡◌, ℕ, ◌<◌, ◌≤◌, true, false, List, [], ◌∷◌, map, length}
-use Rattle.std.proofs.Common.{refl, sym, ap, arith, Some, None}
+use Rattle.std.proofs.Common.{◌≡◌, ℕ, ◌<◌, ◌≤◌, true, false, List, [], ◌∷◌, map, length, refl, sym}
+use Rattle.std.proofs.Common.{ap, arith, Some, None}
 use mathlib.Core.Option.{none}
 use Rattle.atomic_table.specs.Table.{Me, Step, step}
 use Rattle.vb_device.specs.declared.claimed.Claimed.TheVariants.{Gave, AskHost, NoFrame, NoMemory}
 use Rattle.vb_ram.specs.Pages.{Page}
-use Rattle.vb_shared.specs.declared.rule.View.{View}
-use Rattle.vb_shared.specs.Rule.{holding, view_of, pass, count}
-use Rattle.vb_shared.specs.Steps.{held_of, added, removed, claimed, returned, Apart, met}
-use Rattle.vb_shared.specs.Steps.{no_view, first_of, rest_of, new_holdings, opening_view}
-use Rattle.vb_shared.specs.Passes.{new_passes, Within, IsPass}
-use Rattle.vb_shared.specs.Leases.{AnswersAs}
+use Rattle.vb_shared.specs.Steps.{held_of, added, removed, claimed, returned, Apart, met, no_view}
+use Rattle.vb_shared.{specs.declared.rule.View.View, specs.Rule.{holding, view_of, pass, count}}
+use Rattle.vb_shared.specs.Steps.{first_of, rest_of, new_holdings, opening_view}
+use Rattle.vb_shared.{specs.Passes.{new_passes, Within, IsPass}, specs.Leases.AnswersAs}
 
 abbrev Same : ℕ → ℕ → Type 0
 Same a b = a ≡ b

@@ -2,29 +2,23 @@
 use Rattle.std.specs.Prelude.{◌≡◌, ℕ, zero, suc, ◌+◌, ◌<◌, ◌≤◌, ◌==◌, ◌||◌, ◌&&◌, not, Bool, true}
 use Rattle.std.specs.Prelude.{false, List, [], ◌∷◌, ◌++◌, length, count_by, replicate, refl}
 use Rattle.std.specs.Prelude.{if◌then◌else◌, cond, MatchOption, ⊤, Option, Some, None, is_none}
-use Rattle.std.specs.Prelude.{Result}
+use Rattle.std.{specs.Prelude.Result, proofs.lemmas.List.Sums.count_by-le-length}
 use Rattle.std.proofs.Common.{sym, ◌∙◌, ap, subst, arith, get_or, take, eq-eqb}
 use Rattle.std.proofs.lemmas.List.{append-nil, length-replicate, take_more, length-take}
-use Rattle.std.proofs.lemmas.List.Sums.{count_by-le-length}
-use Rattle.vb_ram.specs.declared.config.Config.{Config}
-use Rattle.vb_ram.specs.Pages.{Pages}
+use Rattle.vb_ram.{specs.declared.config.Config.Config, specs.Pages.Pages}
 use Rattle.vb_ram.specs.Part.{Part, QueuePart}
-use Rattle.vb_model.specs.Requests.{Request}
-use Rattle.vb_model.specs.FirstRefusal.{◌⇒◌, first_refusal}
+use Rattle.vb_model.specs.declared.replies.Refusal.TheVariants.{NoQueue, NotReady, NeedsReset}
+use Rattle.vb_model.{specs.Requests.Request, specs.FirstRefusal.{◌⇒◌, first_refusal}}
 use Rattle.vb_model.specs.Tables.{is_queue_of_requests, has_unvisited, is_not_ready, has_fault}
 use Rattle.vb_model.specs.declared.layout.TheConstants.{INFLATE_QUEUE, DEFLATE_QUEUE, REPORT_QUEUE}
-use Rattle.vb_model.specs.declared.replies.Refusal.TheVariants.{NoQueue, NotReady, NeedsReset}
 use Rattle.vb_model.specs.declared.replies.Refusal.TheVariants.{NotTaken, NotWorked}
-use Rattle.vb_device.specs.Discards.{flagged}
-use Rattle.vb_device.proofs.Marks.{flagged-length}
-use Rattle.vb_device.specs.declared.worked.Worked.{Worked}
-use Rattle.vb_device.specs.Calls.{attached, using, next_visit, WorksBy, SweepsBy, FinishesBy, Uses}
-use Rattle.vb_device.specs.Calls.{AsksBy}
-use Rattle.vb_device.specs.Conditions.{work_refusal, sweep_refusal, finish_refusal, ask_refusal}
-use Rattle.vb_device.specs.Conditions.{taken_at}
 use Rattle.vb_model.specs.declared.replies.Refusal.{Refusal}
 use Rattle.vb_model.specs.Tests.{is_in, pages_from, pages_where}
 use Rattle.vb_model.proofs.Tables.{pages_where-passes, count_by-cons}
+use Rattle.vb_device.specs.Calls.{attached, using, next_visit, WorksBy, SweepsBy, FinishesBy, Uses}
+use Rattle.vb_device.specs.Conditions.{work_refusal, sweep_refusal, finish_refusal, ask_refusal}
+use Rattle.vb_device.{specs.Discards.flagged, proofs.Marks.flagged-length, specs.Calls.AsksBy}
+use Rattle.vb_device.{specs.declared.worked.Worked.Worked, specs.Conditions.taken_at}
 
 pub pages_from-append : {A : Type 0} (first : ℕ) (test : A → Bool) (xs ys : List A)
     → pages_from first test (xs ++ ys) ≡ pages_from first test xs

@@ -1,9 +1,7 @@
 -- The devices are made of the paces in turn.
-use Rattle.std.proofs.Common.{◌≡◌, ℕ, ◌+◌, ◌<◌, Bool, List, [], ◌∷◌, ◌++◌, length, get_or}
-use Rattle.std.proofs.Common.{map, take, refl, ap}
-use Rattle.std.proofs.lemmas.List.{take_more}
-use Rattle.vb_script.specs.declared.lines.Pace.{Pace}
-use Rattle.vb_script.specs.Lines.{is_paced}
+use Rattle.std.proofs.Common.{◌≡◌, ℕ, ◌+◌, ◌<◌, Bool, List, [], ◌∷◌, ◌++◌, length, get_or, map}
+use Rattle.std.{proofs.Common.{take, refl, ap}, proofs.lemmas.List.take_more}
+use Rattle.vb_script.{specs.declared.lines.Pace.Pace, specs.Lines.is_paced}
 
 map_push : {A B : Type 0} (f : A → B) (xs : List A) (x : A)
     → map f (xs ++ x ∷ []) ≡ map f xs ++ f x ∷ []

@@ -1,8 +1,7 @@
 -- Passes that hold no frame, and devices that have them.
 use Rattle.std.proofs.Common.{◌≡◌, refl, subst, ℕ, zero, suc, List, [], ◌∷◌}
 use Rattle.std.specs.Prelude.{⊤, true}
-use Rattle.vb_ram.specs.Pages.{Pages}
-use Rattle.vb_ram.specs.Part.{Part}
+use Rattle.vb_ram.{specs.Pages.Pages, specs.Part.Part}
 use Rattle.vb_device.specs.Calls.{IsUnused}
 use Rattle.vb_shared.specs.Passes.{Pass, new_passes}
 

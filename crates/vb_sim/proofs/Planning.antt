@@ -1,29 +1,21 @@
 -- A script's plan is as good as the one that the runner gets.
 use Rattle.std.proofs.Common.{◌≡◌, refl, sym, ap, ◌∙◌, subst, ℕ, suc, ◌+◌, Bool, true, false, List}
-use Rattle.std.proofs.Common.{[], ◌∷◌, ◌++◌, length, map, Some, None, arith}
+use Rattle.std.{proofs.Common.{[], ◌∷◌, ◌++◌, length, map, Some, None, arith}, specs.List.list_all}
 use Rattle.std.specs.Prelude.{◌==◌, ◌&&◌, not, nat_le, Option, Result, Ok, if◌then◌else◌}
-use Rattle.std.specs.List.{list_all}
-use Rattle.std.specs.declared.vec.Vec.{Vec}
-use Rattle.std.specs.declared.alloc.Global.{Global}
-use Rattle.std.proofs.lemmas.Bool.{and_parts}
-use Rattle.std.proofs.lemmas.Bool.Decides.{nat_tests}
-use Rattle.std.proofs.lemmas.List.{length-map}
-use Rattle.std.proofs.lemmas.List.Folds.{list_all-append}
-use Rattle.vb_model.specs.declared.calls.Call.{Call}
-use Rattle.vb_model.specs.Limits.{is_config, max_guests}
+use Rattle.std.{specs.declared.vec.Vec.Vec, specs.declared.alloc.Global.Global}
+use Rattle.std.{proofs.lemmas.Bool.and_parts, proofs.lemmas.Bool.Decides.nat_tests}
+use Rattle.std.{proofs.lemmas.List.length-map, proofs.lemmas.List.Folds.list_all-append}
+use Rattle.vb_model.{specs.declared.calls.Call.Call, specs.Limits.{is_config, max_guests}}
 use Rattle.vb_run.specs.Plans.{are_scripts, is_guest_plan, is_plan, is_script}
-use Rattle.vb_run.specs.declared.plan.Bells.{Bells}
-use Rattle.vb_run.specs.declared.plan.GuestPlan.{GuestPlan}
-use Rattle.vb_run.specs.declared.plan.Plan.{Plan}
-use Rattle.vb_run.specs.declared.report.Report.{Report}
-use Rattle.vb_script.specs.declared.script.ThreadsGuest.{ThreadsGuest}
-use Rattle.vb_script.specs.Lines.{is_paced}
-use Rattle.vb_script.specs.Plans.{Plan as Planned, guest_plan}
-use Rattle.vb_sim.specs.Plans.{IsPlanOf, Part, can_run, is_part, may_be_scripts, part_of, planned_part}
-use Rattle.vb_sim.specs.Threads.{IsPlanFault, IsRunOfText, IsThreadsFault}
-use Rattle.vb_sim.specs.declared.fault.ProgramFault.{ProgramFault}
+use Rattle.vb_run.{specs.declared.plan.Bells.Bells, specs.declared.plan.GuestPlan.GuestPlan}
+use Rattle.vb_run.{specs.declared.plan.Plan.Plan, specs.declared.report.Report.Report}
+use Rattle.vb_script.{specs.declared.script.ThreadsGuest.ThreadsGuest, specs.Lines.is_paced}
+use Rattle.vb_sim.specs.Plans.{IsPlanOf, Part, can_run, is_part, may_be_scripts, part_of}
 use Rattle.vb_sim.specs.declared.fault.ProgramFault.TheVariants.{BadLine, BadPlan, Memory, Audit}
+use Rattle.vb_sim.{specs.Plans.planned_part, specs.declared.fault.ProgramFault.ProgramFault}
+use Rattle.vb_sim.specs.Threads.{IsPlanFault, IsRunOfText, IsThreadsFault}
 use Rattle.vb_sim.specs.declared.fault.ProgramFault.TheVariants.{Stream}
+use Rattle.vb_script.specs.Plans.{Plan as Planned, guest_plan}
 
 pub config_none : {A : Type 0} (b : Bool) (x : A) (o : Option A)
     → o ≡ (if b then Some x else None) → o ≡ None → b ≡ false

@@ -1,11 +1,8 @@
 -- What is written as events happen.
 use Rattle.std.proofs.Common.{◌≡◌, ℕ, List, [], ◌∷◌, ◌++◌, Option, subst, sym, append-nil, ap, ◌∙◌}
-use Rattle.std.proofs.lemmas.Grind.{flat_map-append}
-use Rattle.std.specs.List.{flat_map}
+use Rattle.std.{proofs.lemmas.Grind.flat_map-append, specs.List.flat_map}
 use Rattle.vb_model.specs.declared.replies.Reply.{Reply}
-use Rattle.vb_reply.specs.Held.{Puts}
-use Rattle.vb_reply.specs.Replies.{line_of}
-use Rattle.vb_reply.proofs.Putting.{put_on}
+use Rattle.vb_reply.{specs.Held.Puts, specs.Replies.line_of, proofs.Putting.put_on}
 
 -- the line of one more reply is put after those of the others
 pub lines_on : (a b c : Option (List ℕ)) (held kept last : List ℕ) (replies : List Reply) (reply : Reply)

@@ -1,17 +1,13 @@
 -- What is known of a text that was read from an input.
 use Rattle.std.proofs.Common.{◌≡◌, ℕ, ◌+◌, ◌≤◌, min, List, length, take, Option, Some, None, IfSome}
 use Rattle.std.proofs.Common.{IfOk, MatchResult, Result, Ok, Err, ap, subst, ◌∙◌, arith, OnOk}
-use Rattle.std.specs.Prelude.{IfErr}
-use Rattle.std.specs.Option.{option_map}
+use Rattle.std.{specs.Prelude.IfErr, specs.Option.option_map}
 use Rattle.std.proofs.lemmas.List.{length-take, take_all}
-use Rattle.vb_script.specs.Plans.{threads_script_of}
-use Rattle.vb_script.specs.Texts.{script_of}
-use Rattle.vb_sim.specs.Ends.{IsWithinBound}
-use Rattle.vb_sim.specs.Faults.{IfBadLine, IfRead}
-use Rattle.vb_sim.specs.Threads.{IsTextFault, IsThreadsFault}
-use Rattle.vb_sim.specs.declared.fault.ProgramFault.{ProgramFault}
+use Rattle.vb_script.{specs.Plans.threads_script_of, specs.Texts.script_of}
 use Rattle.vb_sim.specs.declared.fault.ProgramFault.TheVariants.{BadLine, BadPlan, Memory, Audit}
-use Rattle.vb_sim.specs.declared.fault.ProgramFault.TheVariants.{Stream}
+use Rattle.vb_sim.{specs.declared.fault.ProgramFault.TheVariants.Stream, specs.Ends.IsWithinBound}
+use Rattle.vb_sim.{specs.declared.fault.ProgramFault.ProgramFault, specs.Faults.{IfBadLine, IfRead}}
+use Rattle.vb_sim.specs.Threads.{IsTextFault, IsThreadsFault}
 
 -- where no more is read than fits, a text that isn't longer is the whole one
 whole_text : (most : ℕ) (known : Option (List ℕ)) (text : List ℕ)

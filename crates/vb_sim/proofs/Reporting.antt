@@ -1,17 +1,13 @@
 -- The lines of a run of guests on threads, and how many calls its scripts have.
-use Rattle.std.proofs.Common.{◌≡◌, refl, sym, ap, ◌∙◌, subst, ℕ, suc, zero, ◌+◌, ◌*◌, ◌<◌, ◌≤◌, Bool, true}
-use Rattle.std.proofs.Common.{List, [], ◌∷◌, ◌++◌, length, get_or, take, arith, sum_by, add-one, drop}
-use Rattle.std.specs.Prelude.{◌==◌, ◌&&◌, nat_le}
-use Rattle.std.specs.List.{list_all}
-use Rattle.std.specs.declared.vec.Vec.{Vec}
-use Rattle.std.specs.declared.alloc.Global.{Global}
-use Rattle.std.proofs.lemmas.Bool.{and_parts}
-use Rattle.std.proofs.lemmas.Bool.Decides.{nat_tests}
+use Rattle.std.proofs.Common.{◌≡◌, refl, sym, ap, ◌∙◌, subst, ℕ, suc, zero, ◌+◌, ◌*◌, ◌<◌, ◌≤◌}
+use Rattle.std.proofs.Common.{Bool, true, List, [], ◌∷◌, ◌++◌, length, get_or, take, arith, sum_by}
+use Rattle.std.{proofs.Common.{add-one, drop}, specs.Prelude.{◌==◌, ◌&&◌, nat_le}}
+use Rattle.std.{specs.List.list_all, specs.declared.vec.Vec.Vec, specs.declared.alloc.Global.Global}
+use Rattle.std.{proofs.lemmas.Bool.and_parts, proofs.lemmas.Bool.Decides.nat_tests}
 use Rattle.std.proofs.lemmas.List.{append_assoc, append-nil, take-append-drop}
 use Rattle.std.proofs.lemmas.List.Folds.{list_all-append, list_all_more}
 use Rattle.std.proofs.lemmas.List.Sums.{sum_by-cons, sum_by-take-le, sum_by_more}
-use Rattle.vb_model.specs.declared.calls.Call.{Call}
-use Rattle.vb_model.specs.Limits.{is_config}
+use Rattle.vb_model.{specs.declared.calls.Call.Call, specs.Limits.is_config}
 use Rattle.vb_ram.proofs.Limits.{config_limits}
 use Rattle.vb_run.specs.Plans.{are_scripts, is_guest_plan, is_script, may_stand}
 use Rattle.vb_run.specs.declared.plan.GuestPlan.{GuestPlan}

@@ -1,22 +1,15 @@
 -- A guest whose frames come from its device alone: what it is plugged in with, and what a call does.
-use Rattle.std.specs.Prelude.{◌≡◌, ℕ, ◌≤◌, Bool, true, false, List, [], ◌∷◌, refl}
-use Rattle.std.specs.Prelude.{if◌then◌else◌, Option, None}
-use Rattle.std.proofs.Common.{sym, ◌∙◌, ap, arith, suc, zero}
-use Rattle.vb_model.specs.declared.calls.Call.{Call}
-use Rattle.vb_model.specs.declared.calls.Claim.{Claim}
-use Rattle.vb_model.specs.declared.replies.Reply.{Reply}
-use Rattle.vb_model.specs.declared.replies.Reply.TheVariants.{Backing}
-use Rattle.vb_model.specs.Guest.{Guest, Config, fresh}
-use Rattle.vb_model.specs.Tests.{one_if}
+use Rattle.std.specs.Prelude.{◌≡◌, ℕ, ◌≤◌, Bool, true, false, List, [], ◌∷◌, refl, if◌then◌else◌}
+use Rattle.std.{specs.Prelude.{Option, None}, proofs.Common.{sym, ◌∙◌, ap, arith, suc, zero}}
+use Rattle.vb_model.{specs.declared.calls.Call.Call, specs.declared.calls.Claim.Claim}
+use Rattle.vb_model.{specs.declared.replies.Reply.Reply, specs.Guest.{Guest, Config, fresh}}
+use Rattle.vb_model.{specs.declared.replies.Reply.TheVariants.Backing, specs.Tests.one_if}
 use Rattle.vb_frames.specs.Out.{is_out}
-use Rattle.vb_ram.specs.Pages.{Pages}
-use Rattle.vb_ram.specs.Part.{Part}
+use Rattle.vb_ram.{specs.Pages.Pages, specs.Part.Part}
 use Rattle.vb_device.specs.Own.{has}
 use Rattle.vb_driver.specs.State.{DriverState}
-use Rattle.vb_guest.specs.Stands.{Stands}
-use Rattle.vb_guest.specs.Steps.{AreOut, StepsOver, backing_count}
-use Rattle.vb_guest.specs.Supply.{supply_of, is_used}
-use Rattle.vb_guest.proofs.Fresh.{backs_none}
+use Rattle.vb_guest.{specs.Stands.Stands, specs.Steps.{AreOut, StepsOver, backing_count}}
+use Rattle.vb_guest.{specs.Supply.{supply_of, is_used}, proofs.Fresh.backs_none}
 use Rattle.vb_slot.specs.Alone.{AreBehind, IsAlone, StepsTo}
 
 -- a device that keeps no frames has none out

@@ -1,11 +1,9 @@
 -- Numbers that stand in one of two lists.
-use Rattle.std.specs.Prelude.{◌≡◌, ◌≢◌, ℕ, ◌+◌, ◌≤◌, ◌==◌, ◌||◌, not, Bool, true, false, cond, List}
-use Rattle.std.specs.Prelude.{[], ◌∷◌, ◌++◌, length, nat_lt, refl}
-use Rattle.std.proofs.Common.{sym, ◌∙◌, ap, arith, inl, inr}
+use Rattle.std.specs.Prelude.{◌≡◌, ◌≢◌, ℕ, ◌+◌, ◌≤◌, ◌==◌, ◌||◌, not, Bool, true, false, cond}
+use Rattle.std.{specs.Prelude.{List, [], ◌∷◌, ◌++◌, length, nat_lt, refl}, proofs.Common.{sym, ◌∙◌}}
+use Rattle.std.{proofs.Common.{ap, arith, inl, inr}, proofs.lemmas.List.Folds.list_any-append}
 use Rattle.std.proofs.lemmas.Bool.{cases_eq, cases_lt, eq-eqb, ne_eqb, lt-ltb, le-ltb}
-use Rattle.std.proofs.lemmas.List.Folds.{list_any-append}
-use Rattle.vb_model.specs.Tests.{times, one_if}
-use Rattle.vb_model.proofs.Tables.{count_by-append}
+use Rattle.vb_model.{specs.Tests.{times, one_if}, proofs.Tables.count_by-append}
 use Rattle.vb_device.specs.Own.{has, without, SameSet}
 use Rattle.vb_guest.proofs.Moving.{times_first, times_one}
 

@@ -7,8 +7,7 @@ use Rattle.vb_model.specs.Refusals.{first_refusal}
 use Rattle.vb_model.specs.Status.{contains, is_out_of_order, status_tests}
 use Rattle.vb_status.specs.Agreement.{StatusRequest, Write, Negotiate, Agreement}
 use Rattle.vb_status.specs.Agreement.{refusal_of_request, after_request, Leads, AreSteps, changes}
-use Rattle.vb_status.specs.Agreement.{unplugged}
-use Rattle.vb_status.proofs.Accepted.{accepted_write}
+use Rattle.vb_status.{specs.Agreement.unplugged, proofs.Accepted.accepted_write}
 
 -- the statuses on the way
 data Stage : Type 0 where

@@ -1,14 +1,11 @@
 -- All guests of a host in turn: what they need, and their new targets.
-use Rattle.std.specs.Option.{option_to_list}
-use Rattle.std.specs.Prelude.{slice_index}
 use Rattle.std.proofs.Common.{◌≡◌, ℕ, zero, suc, ◌+◌, ◌<◌, ◌≤◌, List, [], ◌∷◌, ◌++◌, length, refl}
+use Rattle.std.{specs.Option.option_to_list, specs.Prelude.slice_index}
 use Rattle.std.proofs.Common.{sym, ap, ◌∙◌, arith, Option, Some, None, is_some, count_by}
 use Rattle.std.proofs.lemmas.List.{append-nil, append_assoc}
-use Rattle.vb_model.specs.Balance.{Need, need}
-use Rattle.vb_model.specs.Guest.{Guest}
+use Rattle.vb_model.{specs.Balance.{Need, need}, specs.Guest.Guest, proofs.Tables.count_by-cons}
 use Rattle.vb_model.specs.World.{World, guest_at, with_guest}
 use Rattle.vb_model.specs.HostEvents.{with_targets, needs}
-use Rattle.vb_model.proofs.Tables.{count_by-cons}
 
 plus_one : (n : ℕ) → n + 1 ≡ suc n
 plus_one n = omega arith

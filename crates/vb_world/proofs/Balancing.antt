@@ -1,28 +1,21 @@
 -- A balance of a host is one of its world.
-use Rattle.std.specs.Option.{option_to_list}
-use Rattle.std.specs.Prelude.{slice_index, MatchBool, ◌==◌}
 use Rattle.std.proofs.Common.{◌≡◌, ℕ, ◌+◌, ◌<◌, ◌≤◌, Bool, true, false, List, ◌∷◌, [], ◌++◌, length}
 use Rattle.std.proofs.Common.{refl, sym, ap, subst, ◌∙◌, inl, inr, arith, Option, Some, None}
-use Rattle.std.proofs.Common.{is_some, count_by}
+use Rattle.std.{specs.Option.option_to_list, specs.Prelude.{slice_index, MatchBool, ◌==◌}}
+use Rattle.std.{proofs.Common.{is_some, count_by}, proofs.lemmas.Bool.Decides.eqb_tells}
 use Rattle.std.proofs.lemmas.List.{append-nil, get_or_past, length-append}
-use Rattle.std.proofs.lemmas.Bool.Decides.{eqb_tells}
 use Rattle.slab.specs.Slab.{Slab, get, with_value}
-use Rattle.vb_model.specs.declared.calls.Event.TheVariants.{Balance}
-use Rattle.vb_model.specs.declared.replies.Reply.TheVariants.{Targets, Refused}
-use Rattle.vb_model.specs.declared.replies.Refusal.TheVariants.{Short}
-use Rattle.vb_model.specs.Limits.{max_guests}
+use Rattle.vb_model.{specs.declared.calls.Event.TheVariants.Balance, specs.Limits.max_guests}
+use Rattle.vb_model.{specs.declared.replies.Reply.TheVariants.{Targets, Refused}, specs.Guest.Guest}
+use Rattle.vb_model.{specs.declared.replies.Refusal.TheVariants.Short, proofs.Tables.count_by-cons}
 use Rattle.vb_model.specs.Balance.{Need, need, AreTargets, shortage}
-use Rattle.vb_model.specs.Guest.{Guest}
-use Rattle.vb_model.specs.World.{World, guest_at, with_guest}
+use Rattle.vb_model.{specs.World.{World, guest_at, with_guest}, specs.HostRefusals.plugged_count}
 use Rattle.vb_model.specs.HostEvents.{WorldStep, with_targets, needs}
-use Rattle.vb_model.specs.HostRefusals.{plugged_count}
-use Rattle.vb_model.proofs.Tables.{count_by-cons}
-use Rattle.vb_world.proofs.KeeperFrames.{KeeperMoves}
-use Rattle.vb_world.specs.Hosts.{IsHost}
+use Rattle.vb_world.proofs.Aiming.{nobody, first_of, first_more, need_of, need_at, first_few}
+use Rattle.vb_world.proofs.Aiming.{all_needs, rank, rank_more, rank_same, rank_below, aimed}
+use Rattle.vb_world.{proofs.KeeperFrames.KeeperMoves, specs.Hosts.IsHost}
 use Rattle.vb_world.proofs.Calls.{guest_of, no_guest, host_with}
-use Rattle.vb_world.proofs.Aiming.{nobody, first_of, first_more, need_of, need_at, first_few, all_needs}
-use Rattle.vb_world.proofs.Aiming.{rank, rank_more, rank_same, rank_below, aimed, aimed_at}
-use Rattle.vb_world.proofs.Aiming.{aimed_more, aimed_same, all_aimed}
+use Rattle.vb_world.proofs.Aiming.{aimed_at, aimed_more, aimed_same, all_aimed}
 
 none_moves : (out : List Bool) (a b : ℕ → ℕ) → ((f : ℕ) → a f ≡ b f) → KeeperMoves out out a b
 none_moves out a b same = record { balance = λ f. omega (arith, same f); count = refl }

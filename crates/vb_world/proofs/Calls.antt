@@ -1,36 +1,25 @@
 -- What an event does to a host is what it does to its world.
-use Rattle.std.specs.Prelude.{MatchOption, ⊤}
 use Rattle.std.proofs.Common.{◌≡◌, ℕ, ◌-◌, ◌<◌, ◌≤◌, Bool, true, cond, List, length, refl, sym, ap}
+use Rattle.std.{specs.Prelude.{MatchOption, ⊤}, proofs.lemmas.List.Sums.sum_by-set}
 use Rattle.std.proofs.Common.{subst, ◌∙◌, inl, inr, arith, Option, Some, None, is_some, count_by}
 use Rattle.std.proofs.lemmas.List.{get_or-set_same, get_or-set_other, get_or_past}
-use Rattle.std.proofs.lemmas.List.Sums.{sum_by-set}
-use Rattle.std.proofs.lemmas.Bool.{cases_lt}
-use Rattle.std.proofs.lemmas.Bool.Decides.{eqb_tells}
+use Rattle.std.{proofs.lemmas.Bool.cases_lt, proofs.lemmas.Bool.Decides.eqb_tells}
 use Rattle.slab.specs.Slab.{Slab, get, slab_len, with_value, Updates}
-use Rattle.vb_model.specs.declared.calls.Call.{Call}
-use Rattle.vb_model.specs.declared.calls.Event.TheVariants.{Guest as OnGuest, Query as Asking}
-use Rattle.vb_model.specs.declared.calls.Event.TheVariants.{Frames as CountFrames}
-use Rattle.vb_model.specs.declared.calls.Query.{Query}
-use Rattle.vb_model.specs.declared.replies.Reply.{Reply}
+use Rattle.vb_model.{specs.declared.calls.Call.Call, specs.declared.calls.Query.Query}
+use Rattle.vb_model.{specs.declared.replies.Reply.Reply, specs.Guest.Guest, specs.Queries.Answers}
 use Rattle.vb_model.specs.declared.replies.Reply.TheVariants.{Frames, Refused}
-use Rattle.vb_model.specs.declared.replies.Refusal.TheVariants.{NoGuest}
-use Rattle.vb_model.specs.Guest.{Guest}
-use Rattle.vb_model.specs.World.{World, guest_at, with_guest, put_guest}
-use Rattle.vb_model.specs.HostEvents.{WorldStep}
-use Rattle.vb_model.specs.HostFrames.{used_frames}
-use Rattle.vb_model.specs.HostFrames.{Gives, IsOut}
-use Rattle.vb_model.specs.Queries.{Answers}
-use Rattle.vb_model.specs.HostRefusals.{plugged_count}
+use Rattle.vb_model.{specs.declared.replies.Refusal.TheVariants.NoGuest, specs.HostEvents.WorldStep}
+use Rattle.vb_model.{specs.World.{World, guest_at, with_guest, put_guest}, specs.Limits.max_guests}
+use Rattle.vb_model.{specs.HostFrames.{used_frames, Gives, IsOut}, specs.HostRefusals.plugged_count}
 use Rattle.vb_model.proofs.Changes.{with_guest-same, with_guest-other}
-use Rattle.vb_frames.specs.Out.{is_out, TableAnswers}
-use Rattle.vb_frames.proofs.Returns.{same_gives}
+use Rattle.vb_frames.{specs.Out.{is_out, TableAnswers}, proofs.Returns.same_gives}
 use Rattle.vb_frames.proofs.Least.{table_gives}
-use Rattle.vb_model.specs.Limits.{max_guests}
 use Rattle.vb_slot.specs.Steps.{StepsWithKeeper, AreOut, backing_count}
-use Rattle.vb_world.proofs.KeeperFrames.{KeeperMoves}
-use Rattle.vb_world.specs.Hosts.{IsHost, StandsAt, backing_at}
+use Rattle.vb_world.{proofs.KeeperFrames.KeeperMoves, specs.Hosts.{IsHost, StandsAt, backing_at}}
 use Rattle.vb_world.proofs.Guests.{backing-with, backing-part, count-with, backs_out, out_backs}
 use Rattle.vb_world.proofs.Frames.{used_are_out}
+use Rattle.vb_model.specs.declared.calls.Event.TheVariants.{Guest as OnGuest, Query as Asking}
+use Rattle.vb_model.specs.declared.calls.Event.TheVariants.{Frames as CountFrames}
 
 module _ {S D : Type 0} (Stand : S → Guest → Type 0) (Spare : D → Bool → Type 0) (slots : Slab S)
     (out : List Bool) (devices : List D) (w : World) where

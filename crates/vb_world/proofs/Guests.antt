@@ -1,16 +1,11 @@
 -- Sums and counts over all guests, where one of them changes.
 use Rattle.std.proofs.Common.{◌≡◌, ℕ, zero, suc, ◌+◌, ◌≤◌, Bool, true, false, cond, List, [], ◌∷◌}
 use Rattle.std.proofs.Common.{refl, ap, ◌∙◌, inl, inr, arith, sum_by, Option, Some, None, is_some}
-use Rattle.std.proofs.Common.{count_by}
-use Rattle.std.specs.Prelude.{◌==◌, slice_index_or}
-use Rattle.std.proofs.lemmas.List.Sums.{sum_by-cons}
-use Rattle.std.proofs.lemmas.Bool.{cases_lt}
+use Rattle.std.{proofs.Common.count_by, specs.Prelude.{◌==◌, slice_index_or}}
+use Rattle.std.{proofs.lemmas.List.Sums.sum_by-cons, proofs.lemmas.Bool.cases_lt}
 use Rattle.std.proofs.lemmas.Bool.Decides.{eqb_tells}
-use Rattle.vb_model.specs.Tests.{one_if}
-use Rattle.vb_model.specs.Guest.{Guest}
-use Rattle.vb_model.specs.World.{World, guest_at, with_guest}
-use Rattle.vb_model.specs.HostFrames.{IsOut}
-use Rattle.vb_model.proofs.Tables.{count_by-cons}
+use Rattle.vb_model.{specs.Tests.one_if, specs.Guest.Guest, specs.HostFrames.IsOut}
+use Rattle.vb_model.{specs.World.{World, guest_at, with_guest}, proofs.Tables.count_by-cons}
 use Rattle.vb_slot.specs.Steps.{is_frame, backing_count}
 use Rattle.vb_frames.specs.Out.{is_out}
 use Rattle.vb_world.specs.Hosts.{backing_at, backing_of}

@@ -1,13 +1,9 @@
 -- A run of a host goes on.
 use Rattle.std.proofs.Common.{◌≡◌, ℕ, zero, suc, ◌≤◌, Bool, List, [], ◌∷◌, ◌++◌, length, take, refl}
 use Rattle.std.proofs.Common.{sym, ap, subst, arith}
-use Rattle.vb_model.specs.declared.calls.Event.{Event}
-use Rattle.vb_model.specs.declared.replies.Reply.{Reply}
-use Rattle.vb_model.specs.World.{World, made}
-use Rattle.vb_model.specs.HostEvents.{WorldStep}
-use Rattle.vb_model.specs.Run.{Steps, last_world}
-use Rattle.vb_model.proofs.RunLaws.{steps-push, last_world-push}
-use Rattle.vb_model.specs.Safe.{IsSafeRun}
+use Rattle.vb_model.{specs.declared.calls.Event.Event, specs.declared.replies.Reply.Reply}
+use Rattle.vb_model.{specs.World.{World, made}, specs.HostEvents.WorldStep, specs.Safe.IsSafeRun}
+use Rattle.vb_model.{specs.Run.{Steps, last_world}, proofs.RunLaws.{steps-push, last_world-push}}
 use Rattle.vb_model.proofs.Runs.{run_is_safe}
 
 -- From the world w the events may get these replies and lead to a world for which Holds.

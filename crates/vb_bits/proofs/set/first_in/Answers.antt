@@ -1,6 +1,5 @@
 use Rattle.std.proofs.Common.{ℕ, Option, subst, arith}
-use Rattle.vb_bits.specs.Sets.{IsFirstFrom}
-use Rattle.vb_bits.proofs.Levels.{none_in, least_in}
+use Rattle.vb_bits.{specs.Sets.IsFirstFrom, proofs.Levels.{none_in, least_in}}
 use Rattle.vb_bits.proofs.set.first_in.Goals as goal
 
 pub overflow_mul-word : goal.overflow_mul-word

@@ -1,5 +1,4 @@
-use Rattle.std.specs.Int.{w64}
-use Rattle.std.proofs.lemmas.Nat.Bits.{bit_at_set_same, bit_at_set_other}
+use Rattle.std.{specs.Int.w64, proofs.lemmas.Nat.Bits.{bit_at_set_same, bit_at_set_other}}
 use Rattle.vb_bits.proofs.Bits.{one_bit, same_bit}
 use Rattle.vb_bits.proofs.word.with_one.Goals as goal
 

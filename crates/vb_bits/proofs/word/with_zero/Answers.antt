@@ -1,5 +1,4 @@
-use Rattle.std.specs.Int.{w64}
-use Rattle.std.proofs.lemmas.Nat.Bits.{bit_at_clear_same, bit_at_clear_other}
+use Rattle.std.{specs.Int.w64, proofs.lemmas.Nat.Bits.{bit_at_clear_same, bit_at_clear_other}}
 use Rattle.vb_bits.proofs.Bits.{no_bit, same_bit}
 use Rattle.vb_bits.proofs.word.with_zero.Goals as goal
 

@@ -1,12 +1,8 @@
 use Rattle.std.proofs.Common.{◌∙◌, ap, sym, subst, refl, ℕ, List, ◌++◌, Option, Some, take}
-use Rattle.vb_monitor.specs.declared.notice.Notice.{Notice}
-use Rattle.vb_monitor.specs.declared.step.Place.{Place}
-use Rattle.vb_monitor.specs.declared.step.Phase.TheVariants.{AwaitsPart}
-use Rattle.vb_monitor.specs.Accesses.{Access}
-use Rattle.vb_monitor.specs.Pieces.{pieces_in, CopiesParts}
-use Rattle.vb_monitor.specs.Machine.{whole, served, behind_part}
-use Rattle.vb_c.specs.declared.notice.VbRoom.{VbRoom}
-use Rattle.vb_c.specs.Serving.{GoesOnBy}
+use Rattle.vb_monitor.{specs.declared.step.Phase.TheVariants.AwaitsPart, specs.Accesses.Access}
+use Rattle.vb_monitor.{specs.Machine.{whole, served, behind_part}, specs.declared.step.Place.Place}
+use Rattle.vb_monitor.{specs.Pieces.{pieces_in, CopiesParts}, specs.declared.notice.Notice.Notice}
+use Rattle.vb_c.{specs.declared.notice.VbRoom.VbRoom, specs.Serving.GoesOnBy}
 use Rattle.vb_c.proofs.UsualLemmas.{awaits_part, says_notice}
 use Rattle.vb_c.proofs.serving.go_part.Goals as goal
 

@@ -1,16 +1,11 @@
 use Rattle.std.proofs.Common.{◌∙◌, ap, sym, subst, refl, ℕ, ◌+◌, ◌-◌, List, ◌++◌, Some, take}
 use Rattle.vb_core.specs.Devices.{ring_of}
-use Rattle.vb_monitor.specs.declared.orders.Orders.{Orders}
-use Rattle.vb_monitor.specs.declared.step.Walk.{Walk}
+use Rattle.vb_monitor.{specs.declared.orders.Orders.Orders, specs.declared.step.Walk.Walk}
 use Rattle.vb_monitor.specs.declared.step.Phase.TheVariants.{AwaitsDescriptor}
-use Rattle.vb_monitor.specs.Accesses.{Access}
-use Rattle.vb_monitor.specs.Pieces.{pieces_in}
+use Rattle.vb_monitor.{specs.Accesses.Access, specs.Pieces.pieces_in, specs.Machine.{whole, serves}}
 use Rattle.vb_monitor.specs.Chains.{AfterDescriptor, Follows, descriptors}
-use Rattle.vb_monitor.specs.Machine.{whole, serves}
-use Rattle.vb_c.specs.declared.notice.VbRoom.{VbRoom}
-use Rattle.vb_c.specs.Codes.{kind_of_code}
-use Rattle.vb_c.specs.Notices.{tally_of}
-use Rattle.vb_c.proofs.UsualLemmas.{awaits_descriptor, goes_usual}
+use Rattle.vb_c.{specs.declared.notice.VbRoom.VbRoom, specs.Codes.kind_of_code}
+use Rattle.vb_c.{specs.Notices.tally_of, proofs.UsualLemmas.{awaits_descriptor, goes_usual}}
 use Rattle.vb_c.proofs.usual.go_descriptor.Goals as goal
 
 pub returns-in-Some-clause-went : goal.returns-in-Some-clause-went

@@ -1,10 +1,7 @@
 use Rattle.std.proofs.Common.{◌∙◌, ap, refl, ℕ, false, List, ◌++◌}
-use Rattle.vb_monitor.specs.declared.orders.Orders.{Orders}
+use Rattle.vb_monitor.{specs.declared.orders.Orders.Orders, specs.Accesses.Access}
 use Rattle.vb_monitor.specs.declared.step.Phase.TheVariants.{AwaitsEntry, AwaitsDescriptor}
-use Rattle.vb_monitor.specs.Accesses.{Access}
-use Rattle.vb_c.specs.Codes.{kind_of_code}
-use Rattle.vb_c.specs.Notices.{tally_of}
-use Rattle.vb_c.specs.Serving.{room_in}
+use Rattle.vb_c.{specs.Codes.kind_of_code, specs.Notices.tally_of, specs.Serving.room_in}
 use Rattle.vb_c.proofs.UsualLemmas.{awaits_entry, goes_usual}
 use Rattle.vb_c.proofs.usual.go_entry.Goals as goal
 

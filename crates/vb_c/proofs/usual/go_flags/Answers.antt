@@ -1,10 +1,8 @@
 use Rattle.std.proofs.Common.{rules, ◌≡◌, ◌∙◌, ap, sym, refl, ℕ, List, ◌++◌, None}
-use Rattle.vb_monitor.specs.declared.orders.Orders.{Orders}
+use Rattle.vb_monitor.{specs.declared.orders.Orders.Orders, specs.Accesses.Access}
 use Rattle.vb_monitor.specs.declared.step.Phase.TheVariants.{AwaitsFlags, Ended}
-use Rattle.vb_monitor.specs.Accesses.{Access}
 use Rattle.vb_monitor.specs.Ends.{wants_interrupt}
-use Rattle.vb_c.specs.Codes.{kind_of_code}
-use Rattle.vb_c.specs.Notices.{says_yes}
+use Rattle.vb_c.{specs.Codes.kind_of_code, specs.Notices.says_yes}
 use Rattle.vb_c.proofs.UsualLemmas.{awaits_flags, goes_usual}
 use Rattle.vb_c.proofs.usual.go_flags.Goals as goal
 

@@ -1,13 +1,9 @@
 use Rattle.std.proofs.Common.{◌∙◌, ap, sym, refl, ℕ, ◌-◌, List, ◌++◌, None, false}
-use Rattle.vb_monitor.specs.declared.orders.Orders.{Orders}
-use Rattle.vb_monitor.specs.declared.outcome.Tally.{Tally}
+use Rattle.vb_monitor.{specs.declared.orders.Orders.Orders, specs.declared.outcome.Tally.Tally}
 use Rattle.vb_monitor.specs.declared.step.Phase.TheVariants.{AwaitsIndex, AwaitsEntry, AwaitsFlags}
-use Rattle.vb_monitor.specs.Accesses.{Access}
-use Rattle.vb_monitor.specs.Notices.{with_chains}
-use Rattle.vb_c.specs.declared.notice.VbNotice.{VbNotice}
-use Rattle.vb_c.specs.Codes.{kind_of_code}
-use Rattle.vb_c.specs.Notices.{phase_of, tally_of}
-use Rattle.vb_c.specs.Serving.{room_in}
+use Rattle.vb_monitor.{specs.Accesses.Access, specs.Notices.with_chains}
+use Rattle.vb_c.{specs.declared.notice.VbNotice.VbNotice, specs.Codes.kind_of_code}
+use Rattle.vb_c.{specs.Notices.{phase_of, tally_of}, specs.Serving.room_in}
 use Rattle.vb_c.proofs.UsualLemmas.{awaits_index, goes_usual}
 use Rattle.vb_c.proofs.usual.go_index.Goals as goal
 

@@ -1,7 +1,6 @@
 use Rattle.std.proofs.Common.{rules, ◌≡◌, ◌+◌, ◌*◌, ◌∷◌, ◌++◌, [], List, ℕ, ap, sym, ◌∙◌, arith}
 use Rattle.std.proofs.Common.{false, subst, Bool, ◌||◌}
-use Rattle.vb_chain.specs.declared.pieces.Piece.{Piece}
-use Rattle.vb_chain.specs.Table.{descriptor_at}
+use Rattle.vb_chain.{specs.declared.pieces.Piece.Piece, specs.Table.descriptor_at}
 use Rattle.vb_chain.specs.Rules.{first_fault, piece_of, has_next, is_writable}
 use Rattle.vb_chain.specs.Chain.{ChainGives, FaultGives}
 use Rattle.vb_chain.proofs.Walking.{Walked, walked_init, walked_fault, walked_chain, walked_more}

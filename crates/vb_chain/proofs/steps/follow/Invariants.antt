@@ -1,6 +1,5 @@
 use Rattle.std.proofs.Common.{◌<◌, List, ℕ}
-use Rattle.vb_chain.specs.Table.{descriptor_at}
-use Rattle.vb_chain.proofs.Walking.{Walked}
+use Rattle.vb_chain.{specs.Table.descriptor_at, proofs.Walking.Walked}
 use Rattle.vb_chain.proofs.steps.follow.Given as goal
 
 abbrev pub invariant-loop-visited : goal.invariant-loop-visited

@@ -1,9 +1,6 @@
-use Rattle.std.proofs.Common.{◌≡◌, ◌∙◌, ◌+◌, ◌*◌, ◌<◌, ℕ, ap, arith}
-use Rattle.std.specs.Prelude.{slice_index}
-use Rattle.vb_ram.specs.Pages.{byte_at, field}
-use Rattle.vb_ram.proofs.Outcome.{at_ok}
-use Rattle.vb_chain.specs.Table.{descriptor_at}
-use Rattle.vb_chain.proofs.TableLaws.{same_parts}
+use Rattle.std.{proofs.Common.{◌≡◌, ◌∙◌, ◌+◌, ◌*◌, ◌<◌, ℕ, ap, arith}, specs.Prelude.slice_index}
+use Rattle.vb_ram.{specs.Pages.{byte_at, field}, proofs.Outcome.at_ok}
+use Rattle.vb_chain.{specs.Table.descriptor_at, proofs.TableLaws.same_parts}
 use Rattle.vb_chain.proofs.ReadLaws.{field_first, field_after}
 use Rattle.vb_chain.proofs.table.read_descriptor.Goals as goal
 

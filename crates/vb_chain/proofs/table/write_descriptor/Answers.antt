@@ -1,8 +1,6 @@
 use Rattle.std.proofs.Common.{◌≡◌, ◌*◌, ℕ, List, ap, subst, arith, length}
-use Rattle.vb_ram.specs.Pages.{Wrote}
-use Rattle.vb_ram.proofs.Outcome.{at_ok}
-use Rattle.vb_chain.specs.Table.{bytes_of}
-use Rattle.vb_chain.proofs.ReadLaws.{descriptor_written}
+use Rattle.vb_ram.{specs.Pages.Wrote, proofs.Outcome.at_ok}
+use Rattle.vb_chain.{specs.Table.bytes_of, proofs.ReadLaws.descriptor_written}
 use Rattle.vb_chain.proofs.table.write_descriptor.Goals as goal
 
 pub returns-clause-put : goal.returns-clause-put

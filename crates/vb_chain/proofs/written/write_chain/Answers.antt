@@ -1,14 +1,11 @@
 use Rattle.std.proofs.Common.{◌≡◌, ◌≢◌, ◌∙◌, sym, ap, ◌+◌, ◌*◌, ◌≤◌, ℕ, length, arith, inl, inr}
-use Rattle.std.specs.Prelude.{slice_index, slice_index_or, nat_lt}
+use Rattle.std.{specs.Prelude.{slice_index, slice_index_or, nat_lt}, proofs.lemmas.List.get_or_past}
 use Rattle.std.proofs.lemmas.Bool.{cases_eq, cases_lt}
 use Rattle.vb_ram.proofs.FieldLaws.{same_below, same_above, but_trans, but_wider}
-use Rattle.vb_chain.specs.Table.{descriptor_at}
-use Rattle.vb_chain.proofs.TableLaws.{descriptor_kept}
-use Rattle.vb_chain.specs.Written.{linked, link_to, empty}
-use Rattle.std.proofs.lemmas.List.{get_or_past}
-use Rattle.vb_chain.proofs.ChainLaws.{written_chain}
-use Rattle.vb_chain.proofs.written.write_chain.Goals as goal
+use Rattle.vb_chain.{specs.Table.descriptor_at, proofs.TableLaws.descriptor_kept}
+use Rattle.vb_chain.{specs.Written.{linked, link_to, empty}, proofs.ChainLaws.written_chain}
 use Rattle.vb_chain.proofs.written.write_chain.Goals.{then-k-path, else-k-path}
+use Rattle.vb_chain.proofs.written.write_chain.Goals as goal
 
 pub loop-k-preserved : goal.loop-k-preserved
 loop-k-preserved g c =

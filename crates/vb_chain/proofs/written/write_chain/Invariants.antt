@@ -1,8 +1,6 @@
-use Rattle.std.proofs.Common.{◌≡◌, ◌≢◌, ◌*◌, ◌<◌, ℕ, length}
-use Rattle.std.specs.Prelude.{slice_index}
+use Rattle.std.{proofs.Common.{◌≡◌, ◌≢◌, ◌*◌, ◌<◌, ℕ, length}, specs.Prelude.slice_index}
 use Rattle.vb_ram.specs.Pages.{SameBut}
-use Rattle.vb_chain.specs.Table.{descriptor_at}
-use Rattle.vb_chain.specs.Written.{linked}
+use Rattle.vb_chain.{specs.Table.descriptor_at, specs.Written.linked}
 use Rattle.vb_chain.proofs.written.write_chain.Given as goal
 
 abbrev pub invariant-loop-k : goal.invariant-loop-k

@@ -1,8 +1,7 @@
 use Rattle.std.proofs.Common.{◌≡◌, ◌<◌, ◌^◌, ◌+◌, ◌*◌, get_or, arith, ℕ, count_by, count_ones}
 use Rattle.std.specs.List.{range_with_len}
 use Rattle.vb_bits.proofs.Words.{at_place}
-use Rattle.vb_core.specs.Ballooned.{is_ballooned}
-use Rattle.vb_core.proofs.CountLemmas.{count_more}
+use Rattle.vb_core.{specs.Ballooned.is_ballooned, proofs.CountLemmas.count_more}
 use Rattle.vb_core.proofs.ballooned.count_ballooned.Goals as goal
 
 pub loop-word-preserved : goal.loop-word-preserved

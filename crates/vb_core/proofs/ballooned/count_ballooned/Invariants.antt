@@ -1,5 +1,4 @@
-use Rattle.std.proofs.Common.{◌≡◌, ◌*◌, ◌-◌, ◌^◌, min, count_by}
-use Rattle.std.specs.List.{range_with_len}
+use Rattle.std.{proofs.Common.{◌≡◌, ◌*◌, ◌-◌, ◌^◌, min, count_by}, specs.List.range_with_len}
 use Rattle.vb_core.specs.Ballooned.{is_ballooned}
 use Rattle.vb_core.proofs.ballooned.count_ballooned.Given as goal
 

@@ -1,10 +1,7 @@
 use Rattle.std.proofs.Common.{◌≡◌, ◌≤◌, ◌*◌, ◌∙◌, arith, rules, List, false, not, leb, ap, sym}
-use Rattle.std.proofs.Common.{length}
-use Rattle.std.specs.List.{list_any}
-use Rattle.std.proofs.lemmas.Bool.{not-false}
+use Rattle.std.{proofs.Common.length, specs.List.list_any, proofs.lemmas.Bool.not-false}
 use Rattle.std.proofs.lemmas.List.{take_all}
-use Rattle.vb_core.specs.declared.runs.Run.{Run}
-use Rattle.vb_core.specs.Runs.{pages_of_run}
+use Rattle.vb_core.{specs.declared.runs.Run.Run, specs.Runs.pages_of_run}
 use Rattle.vb_core.proofs.MarkLemmas.{some_past, any_of_runs}
 use Rattle.vb_core.proofs.ballooned.have_bits.Goals as goal
 

@@ -1,6 +1,4 @@
-use Rattle.std.proofs.Common.{◌≡◌, ◌*◌, false, take}
-use Rattle.std.specs.Prelude.{nat_le}
-use Rattle.std.specs.List.{list_any}
+use Rattle.std.{proofs.Common.{◌≡◌, ◌*◌, false, take}, specs.Prelude.nat_le, specs.List.list_any}
 use Rattle.vb_core.specs.Runs.{pages_of_run}
 use Rattle.vb_core.proofs.ballooned.have_bits.Given as goal
 

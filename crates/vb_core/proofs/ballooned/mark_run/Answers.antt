@@ -1,10 +1,8 @@
-use Rattle.std.proofs.Common.{◌≡◌, ◌<◌, ◌≤◌, ◌+◌, ◌-◌, ◌*◌, ◌/◌, ◌∙◌, ◌==◌, arith, ℕ, ap, sym, subst}
-use Rattle.std.proofs.Common.{length, refl}
-use Rattle.std.proofs.lemmas.Bool.{leb-false}
+use Rattle.std.proofs.Common.{◌≡◌, ◌<◌, ◌≤◌, ◌+◌, ◌-◌, ◌*◌, ◌/◌, ◌∙◌, ◌==◌, arith, ℕ, ap, sym}
+use Rattle.std.{proofs.Common.{subst, length, refl}, proofs.lemmas.Bool.leb-false}
 use Rattle.vb_model.specs.Tests.{is_in}
-use Rattle.vb_core.specs.Runs.{pages_of_run}
-use Rattle.vb_core.specs.Ballooned.{Puts}
 use Rattle.vb_core.proofs.MarkLemmas.{put_none, put_as, put_more, put_in_run, none_reaches, reaches}
+use Rattle.vb_core.{specs.Runs.pages_of_run, specs.Ballooned.Puts}
 use Rattle.vb_core.proofs.MarkLemmas.{is_before, none_before, all_before, none_past}
 use Rattle.vb_core.proofs.ballooned.mark_run.Goals as goal
 

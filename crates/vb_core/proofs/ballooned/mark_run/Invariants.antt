@@ -1,5 +1,4 @@
-use Rattle.vb_core.specs.Ballooned.{Puts}
-use Rattle.vb_core.proofs.MarkLemmas.{is_before}
+use Rattle.vb_core.{specs.Ballooned.Puts, proofs.MarkLemmas.is_before}
 use Rattle.vb_core.proofs.ballooned.mark_run.Given as goal
 
 abbrev pub invariant-loop-word : goal.invariant-loop-word

@@ -1,10 +1,7 @@
-use Rattle.std.proofs.Common.{◌≡◌, ◌≤◌, ◌+◌, ◌*◌, ◌∙◌, arith, ℕ, List, leb, ap, subst}
-use Rattle.std.proofs.Common.{length, get_or}
-use Rattle.std.specs.List.{list_any}
-use Rattle.std.proofs.lemmas.List.{take_all}
+use Rattle.std.proofs.Common.{◌≡◌, ◌≤◌, ◌+◌, ◌*◌, ◌∙◌, arith, ℕ, List, leb, ap, subst, length}
+use Rattle.std.{proofs.Common.get_or, specs.List.list_any, proofs.lemmas.List.take_all}
 use Rattle.vb_model.specs.Tests.{is_in}
-use Rattle.vb_core.specs.declared.runs.Run.{Run}
-use Rattle.vb_core.specs.Runs.{pages_of_run, pages_of_runs}
+use Rattle.vb_core.{specs.declared.runs.Run.Run, specs.Runs.{pages_of_run, pages_of_runs}}
 use Rattle.vb_core.specs.Ballooned.{Puts}
 use Rattle.vb_core.proofs.MarkLemmas.{none_of_one, put_no_run, put_next_run, put_in_runs}
 use Rattle.vb_core.proofs.ballooned.mark_runs.Goals as goal

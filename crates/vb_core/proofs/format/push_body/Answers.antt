@@ -1,6 +1,5 @@
 use Rattle.std.proofs.Common.{[], ◌∷◌}
-use Rattle.vb_core.specs.Format.{u32_bytes, u64_bytes, header_parts, settings_parts}
-use Rattle.vb_core.specs.Format.{ring_parts}
+use Rattle.vb_core.specs.Format.{u32_bytes, u64_bytes, header_parts, settings_parts, ring_parts}
 use Rattle.vb_core.proofs.Rows.{joins, adds}
 use Rattle.vb_core.proofs.format.push_body.Goals as goal
 

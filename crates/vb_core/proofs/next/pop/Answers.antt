@@ -1,12 +1,8 @@
 use Rattle.std.proofs.Common.{ap, sym, subst, arith}
-use Rattle.vb_ring.specs.declared.layout.Layout.{Layout}
-use Rattle.vb_ring.specs.Layout.{IsInside}
+use Rattle.vb_ring.{specs.declared.layout.Layout.Layout, specs.Layout.IsInside, specs.Calls.popped}
 use Rattle.vb_ring.specs.Ends.{DeviceEnd}
-use Rattle.vb_ring.specs.Calls.{popped}
-use Rattle.vb_core.specs.Copies.{copied, kept_pages, copies_of}
-use Rattle.vb_core.specs.Next.{device_end}
-use Rattle.vb_core.proofs.CopyLemmas.{copied_inside, copied_so}
-use Rattle.vb_core.proofs.NextLemmas.{pops_so}
+use Rattle.vb_core.{specs.Copies.{copied, kept_pages, copies_of}, specs.Next.device_end}
+use Rattle.vb_core.{proofs.CopyLemmas.{copied_inside, copied_so}, proofs.NextLemmas.pops_so}
 use Rattle.vb_core.proofs.next.pop.Goals as goal
 
 pub pop_descriptor_chain_into-requires : goal.pop_descriptor_chain_into-requires

@@ -3,8 +3,7 @@ use Rattle.std.specs.Prelude.{All}
 use Rattle.vb_model.specs.Limits.{page_size}
 use Rattle.vb_chain.specs.declared.pieces.Piece.{Piece}
 use Rattle.vb_ring.specs.Calls.{popped}
-use Rattle.vb_core.specs.Next.{PopsCopies}
-use Rattle.vb_core.proofs.NextLemmas.{pieces_inside}
+use Rattle.vb_core.{specs.Next.PopsCopies, proofs.NextLemmas.pieces_inside}
 use Rattle.vb_core.proofs.report.next_report.Goals as goal
 
 pub put_runs-requires-clause-inside : goal.put_runs-requires-clause-inside

@@ -1,6 +1,5 @@
 use Rattle.std.proofs.Common.{◌≡◌, ◌++◌, ◌∷◌, [], rules, false}
-use Rattle.vb_core.specs.Runs.{one_page}
-use Rattle.vb_core.proofs.RunLemmas.{run_added}
+use Rattle.vb_core.{specs.Runs.one_page, proofs.RunLemmas.run_added}
 use Rattle.vb_core.proofs.runs.add_page.Goals as goal
 
 pub returns-clause-told : goal.returns-clause-told

@@ -1,5 +1,4 @@
-use Rattle.std.proofs.Common.{sym, arith}
-use Rattle.std.proofs.lemmas.List.{length-take-le}
+use Rattle.std.{proofs.Common.{sym, arith}, proofs.lemmas.List.length-take-le}
 use Rattle.vb_core.proofs.saved.has_sum.Goals as goal
 
 pub slice_bounds-checksum-end : goal.slice_bounds-checksum-end

@@ -1,11 +1,9 @@
 use Rattle.std.proofs.Common.{◌≡◌, ◌<◌, ◌∙◌, ◌++◌, ℕ, List, ap, sym, refl, arith, get_or, take}
-use Rattle.std.specs.Prelude.{length}
-use Rattle.std.proofs.lemmas.List.{append-nil, take_all}
+use Rattle.std.{specs.Prelude.length, proofs.lemmas.List.{append-nil, take_all}}
 use Rattle.std.proofs.lemmas.Option.{get_or_from_slice_get}
-use Rattle.vb_device.specs.Base.{numbers_of_frames}
-use Rattle.vb_request.specs.Request.{each_once}
-use Rattle.vb_device.specs.Discards.{discarded, frames_behind}
+use Rattle.vb_device.{specs.Base.numbers_of_frames, specs.Discards.{discarded, frames_behind}}
 use Rattle.vb_device.proofs.Discards.{discard_more, loose_more, discarded_none}
+use Rattle.vb_request.specs.Request.{each_once}
 use Rattle.vb_device.proofs.discarding.discard_all.Goals as goal
 
 pub loop-k-init : goal.loop-k-init

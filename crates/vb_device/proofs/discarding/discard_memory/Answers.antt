@@ -1,13 +1,11 @@
 use Rattle.std.proofs.Common.{◌≡◌, ◌<◌, ◌+◌, ◌∙◌, ◌++◌, ℕ, List, ap, sym, refl, arith, get_or, take}
-use Rattle.std.specs.Prelude.{length}
-use Rattle.std.specs.List.{range_with_len}
+use Rattle.std.{specs.Prelude.length, specs.List.range_with_len}
 use Rattle.std.proofs.lemmas.List.{append-nil, take_all}
 use Rattle.std.proofs.lemmas.List.FromFn.{length-range_with_len, get_or-range_with_len}
-use Rattle.vb_device.specs.Base.{numbers_of_frames}
+use Rattle.vb_device.proofs.Discards.{discard_more, loose_more, discarded_none, all_once}
+use Rattle.vb_device.{specs.Base.numbers_of_frames, specs.Discards.{discarded, frames_behind}}
+use Rattle.vb_device.proofs.Discards.{all_discarded}
 use Rattle.vb_request.specs.Request.{each_once}
-use Rattle.vb_device.specs.Discards.{discarded, frames_behind}
-use Rattle.vb_device.proofs.Discards.{discard_more, loose_more, discarded_none}
-use Rattle.vb_device.proofs.Discards.{all_once, all_discarded}
 use Rattle.vb_device.proofs.discarding.discard_memory.Goals as goal
 
 pub loop-page-init : goal.loop-page-init

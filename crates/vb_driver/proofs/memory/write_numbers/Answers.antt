@@ -1,7 +1,6 @@
 use Rattle.std.proofs.Common.{◌∙◌, sym, ap, arith, ◌+◌, ◌*◌, slice_index, inl, inr}
 use Rattle.std.proofs.lemmas.Bool.{cases_eq}
-use Rattle.vb_ram.specs.Pages.{field}
-use Rattle.vb_ram.proofs.FieldLaws.{field_in, same_below, but_trans, but_wider}
+use Rattle.vb_ram.{specs.Pages.field, proofs.FieldLaws.{field_in, same_below, but_trans, but_wider}}
 use Rattle.vb_driver.proofs.memory.write_numbers.Goals as goal
 
 pub loop-k-preserved : goal.loop-k-preserved

@@ -1,6 +1,5 @@
 use Rattle.std.proofs.Common.{◌∙◌, ◌+◌, sym, ap, subst, arith, refl}
-use Rattle.vb_model.specs.Layout.{is_ring_page}
-use Rattle.vb_model.proofs.Shapes.{ring_reserved}
+use Rattle.vb_model.{specs.Layout.is_ring_page, proofs.Shapes.ring_reserved}
 use Rattle.vb_driver.specs.Coding.{AreZeroed}
 use Rattle.vb_driver.proofs.Zeroing.{passed, pages_more, pages_past, pages_all, zeroed_none}
 use Rattle.vb_driver.proofs.memory.zero_rings.Goals.{then-is_ring_page, else-is_ring_page}

@@ -1,7 +1,6 @@
 use Rattle.std.proofs.Common.{◌≡◌, ◌∙◌, ◌<◌, sym, ap, arith, ℕ, bit_or, None, Result, Ok, Err, OnOk}
 use Rattle.vb_model.specs.Status.{status_refusal}
-use Rattle.vb_status.specs.After.{after_status}
-use Rattle.vb_status.specs.Answers.{answered_refusal}
+use Rattle.vb_status.{specs.After.after_status, specs.Answers.answered_refusal}
 use Rattle.vb_status.specs.declared.bits.StatusFault.{StatusFault}
 use Rattle.vb_driver.proofs.Failing.{accepted, after_failing}
 use Rattle.vb_driver.proofs.reaping.give_up.Goals as goal

@@ -1,8 +1,7 @@
 use Rattle.std.proofs.Common.{◌≡◌, Bool, List, refl}
 use Rattle.vb_model.specs.declared.calls.Claim.{Claim}
 use Rattle.vb_ram.specs.Pages.{Pages}
-use Rattle.vb_guest.specs.Dispatch.{LeavesAlone}
-use Rattle.vb_guest.proofs.Standing.{steps_quiet}
+use Rattle.vb_guest.{specs.Dispatch.LeavesAlone, proofs.Standing.steps_quiet}
 use Rattle.vb_guest.proofs.calls.call.Goals as goal
 
 left_alone : {A : Type 0} {x : A} {keeps : Bool} {m1 m2 : Pages} {claims : List Claim}

@@ -1,10 +1,7 @@
 use Rattle.std.proofs.Common.{◌∙◌, sym}
-use Rattle.vb_guest.proofs.FinishStep.{finish_step}
-use Rattle.vb_guest.proofs.RogueDevice.{finish_rogue}
-use Rattle.vb_guest.proofs.Freed.{freed_as, freed_rogue}
-use Rattle.vb_guest.proofs.Kept.{finish_kept}
-use Rattle.vb_guest.proofs.Asked.{has_ring}
-use Rattle.vb_guest.proofs.Quiet.{freeing_quiet}
+use Rattle.vb_guest.{proofs.FinishStep.finish_step, proofs.RogueDevice.finish_rogue}
+use Rattle.vb_guest.{proofs.Freed.{freed_as, freed_rogue}, proofs.Kept.finish_kept}
+use Rattle.vb_guest.{proofs.Asked.has_ring, proofs.Quiet.freeing_quiet}
 use Rattle.vb_guest.proofs.Standing.{none_loose, freed_loose, lost_by, steps_freed}
 use Rattle.vb_guest.proofs.device.finish.Goals as goal
 

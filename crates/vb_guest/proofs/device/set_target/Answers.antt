@@ -1,8 +1,7 @@
 use Rattle.std.proofs.Common.{ap, refl}
 use Rattle.vb_ram.specs.Part.{Part}
-use Rattle.vb_guest.proofs.TargetStep.{target_stands, target_step}
+use Rattle.vb_guest.{proofs.TargetStep.{target_stands, target_step}, proofs.Rogues.rogue_changed}
 use Rattle.vb_guest.proofs.RogueDevice.{target_rogue}
-use Rattle.vb_guest.proofs.Rogues.{rogue_changed}
 use Rattle.vb_guest.proofs.Standing.{alone_stands, by_guest, honest_is, rogue_is, stands_with}
 use Rattle.vb_guest.proofs.device.set_target.Goals as goal
 

@@ -1,8 +1,6 @@
 use Rattle.std.proofs.Common.{◌∙◌, sym}
-use Rattle.vb_guest.proofs.SweepStep.{sweep_step}
-use Rattle.vb_guest.proofs.RogueDevice.{sweep_rogue}
-use Rattle.vb_guest.proofs.Freed.{freed_as, freed_rogue}
-use Rattle.vb_guest.proofs.Kept.{sweep_kept}
+use Rattle.vb_guest.{proofs.SweepStep.sweep_step, proofs.RogueDevice.sweep_rogue}
+use Rattle.vb_guest.{proofs.Freed.{freed_as, freed_rogue}, proofs.Kept.sweep_kept}
 use Rattle.vb_guest.proofs.Quiet.{freeing_quiet}
 use Rattle.vb_guest.proofs.Standing.{none_loose, freed_loose, lost_by, steps_freed}
 use Rattle.vb_guest.proofs.device.sweep.Goals as goal

@@ -1,10 +1,7 @@
 use Rattle.std.proofs.Common.{◌∙◌, sym}
-use Rattle.vb_guest.proofs.WorkStep.{work_step}
-use Rattle.vb_guest.proofs.RogueDevice.{work_rogue}
-use Rattle.vb_guest.proofs.Freed.{freed_as, freed_rogue}
-use Rattle.vb_guest.proofs.Kept.{work_kept}
-use Rattle.vb_guest.proofs.Quiet.{freeing_quiet}
 use Rattle.vb_guest.proofs.Standing.{none_loose, freed_loose, lost_by, steps_freed}
+use Rattle.vb_guest.{proofs.Freed.{freed_as, freed_rogue}, proofs.RogueDevice.work_rogue}
+use Rattle.vb_guest.{proofs.Quiet.freeing_quiet, proofs.WorkStep.work_step, proofs.Kept.work_kept}
 use Rattle.vb_guest.proofs.device.work.Goals as goal
 
 pub work-answer-requires : goal.work-answer-requires

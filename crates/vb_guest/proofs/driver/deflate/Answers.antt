@@ -1,7 +1,5 @@
-use Rattle.vb_guest.proofs.DeflateStep.{deflate_step}
-use Rattle.vb_guest.proofs.Asked.{is_large, is_backed}
-use Rattle.vb_guest.proofs.Kept.{deflate_kept}
-use Rattle.vb_guest.proofs.RogueDriver.{deflate_rogue}
+use Rattle.vb_guest.{proofs.DeflateStep.deflate_step, proofs.Asked.{is_large, is_backed}}
+use Rattle.vb_guest.{proofs.Kept.deflate_kept, proofs.RogueDriver.deflate_rogue}
 use Rattle.vb_guest.proofs.Standing.{alone_stands}
 use Rattle.vb_guest.proofs.driver.deflate.Goals as goal
 

@@ -1,7 +1,5 @@
-use Rattle.vb_guest.proofs.InflateStep.{inflate_step}
-use Rattle.vb_guest.proofs.Asked.{is_large, is_backed}
-use Rattle.vb_guest.proofs.Kept.{inflate_kept}
-use Rattle.vb_guest.proofs.RogueDriver.{inflate_rogue}
+use Rattle.vb_guest.{proofs.InflateStep.inflate_step, proofs.Asked.{is_large, is_backed}}
+use Rattle.vb_guest.{proofs.Kept.inflate_kept, proofs.RogueDriver.inflate_rogue}
 use Rattle.vb_guest.proofs.Standing.{alone_stands}
 use Rattle.vb_guest.proofs.driver.inflate.Goals as goal
 

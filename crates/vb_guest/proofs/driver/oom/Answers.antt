@@ -1,7 +1,5 @@
-use Rattle.vb_guest.proofs.DeflateStep.{oom_step}
-use Rattle.vb_guest.proofs.Asked.{is_large, is_backed}
-use Rattle.vb_guest.proofs.Kept.{oom_kept}
-use Rattle.vb_guest.proofs.RogueDriver.{oom_rogue}
+use Rattle.vb_guest.{proofs.DeflateStep.oom_step, proofs.Asked.{is_large, is_backed}}
+use Rattle.vb_guest.{proofs.Kept.oom_kept, proofs.RogueDriver.oom_rogue}
 use Rattle.vb_guest.proofs.Standing.{alone_stands}
 use Rattle.vb_guest.proofs.driver.oom.Goals as goal
 

@@ -1,8 +1,5 @@
-use Rattle.vb_guest.proofs.ReapStep.{reap_step}
-use Rattle.vb_guest.proofs.Asked.{is_large}
-use Rattle.vb_guest.proofs.Kept.{reap_kept}
-use Rattle.vb_guest.proofs.RogueDriver.{reap_rogue}
-use Rattle.vb_guest.proofs.Standing.{alone_stands}
+use Rattle.vb_guest.{proofs.ReapStep.reap_step, proofs.Asked.is_large, proofs.Kept.reap_kept}
+use Rattle.vb_guest.{proofs.RogueDriver.reap_rogue, proofs.Standing.alone_stands}
 use Rattle.vb_guest.proofs.driver.reap.Goals as goal
 
 pub reap-requires : goal.reap-requires

@@ -1,7 +1,5 @@
-use Rattle.vb_guest.proofs.ReportStep.{report_step}
-use Rattle.vb_guest.proofs.Asked.{is_large, is_backed}
-use Rattle.vb_guest.proofs.Kept.{report_kept}
-use Rattle.vb_guest.proofs.RogueDriver.{report_rogue}
+use Rattle.vb_guest.{proofs.ReportStep.report_step, proofs.Asked.{is_large, is_backed}}
+use Rattle.vb_guest.{proofs.Kept.report_kept, proofs.RogueDriver.report_rogue}
 use Rattle.vb_guest.proofs.Standing.{alone_stands}
 use Rattle.vb_guest.proofs.driver.report.Goals as goal
 

@@ -1,7 +1,5 @@
-use Rattle.vb_guest.proofs.StatsStep.{stats_step}
-use Rattle.vb_guest.proofs.Asked.{is_large, is_backed}
-use Rattle.vb_guest.proofs.Kept.{stats_kept}
-use Rattle.vb_guest.proofs.RogueDriver.{stats_rogue}
+use Rattle.vb_guest.{proofs.StatsStep.stats_step, proofs.Asked.{is_large, is_backed}}
+use Rattle.vb_guest.{proofs.Kept.stats_kept, proofs.RogueDriver.stats_rogue}
 use Rattle.vb_guest.proofs.Standing.{alone_stands}
 use Rattle.vb_guest.proofs.driver.stats.Goals as goal
 

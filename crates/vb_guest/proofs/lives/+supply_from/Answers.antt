@@ -1,14 +1,11 @@
-use Rattle.std.proofs.Common.{◌≡◌, ◌∙◌, ◌∷◌, [], ◌+◌, ◌<◌, ℕ, List, sym, ap, subst, true, length, arith}
-use Rattle.std.proofs.Common.{rules, length-append}
-use Rattle.vb_model.specs.Layout.{reserved_pages}
+use Rattle.std.proofs.Common.{◌≡◌, ◌∙◌, ◌∷◌, [], ◌+◌, ◌<◌, ℕ, List, sym, ap, subst, true, length}
+use Rattle.std.proofs.Common.{arith, rules, length-append}
+use Rattle.vb_model.{specs.Layout.reserved_pages, specs.declared.calls.Claim.TheVariants.Gave}
 use Rattle.vb_ram.specs.Pages.{Pages}
-use Rattle.vb_guest.specs.Lives.{is_bare, bare_from, SuppliesBy}
-use Rattle.vb_model.specs.declared.calls.Claim.TheVariants.{Gave}
-use Rattle.vb_guest.specs.Supply.{supply_of}
-use Rattle.vb_guest.proofs.Claiming.{bare_skips, bare_takes}
-use Rattle.vb_guest.proofs.Claiming.{err_is, still_inside, still_bare, still_used}
-use Rattle.vb_guest.proofs.Claiming.{supplies_none, supplies_rest}
-use Rattle.vb_guest.proofs.Claiming.{supplies_refused, supplies_all, supplies_back}
+use Rattle.vb_guest.proofs.Claiming.{bare_skips, bare_takes, err_is, still_inside, still_bare}
+use Rattle.vb_guest.proofs.Claiming.{still_used, supplies_none, supplies_rest, supplies_refused}
+use Rattle.vb_guest.{specs.Lives.{is_bare, bare_from, SuppliesBy}, specs.Supply.supply_of}
+use Rattle.vb_guest.proofs.Claiming.{supplies_all, supplies_back}
 use Rattle.vb_guest.proofs.Quiet.{noted_one, noted_more}
 use Rattle.vb_guest.proofs.lives.+supply_from.Goals as goal
 

@@ -1,14 +1,13 @@
 use Rattle.std.proofs.Common.{◌≡◌, ◌∙◌, List, length, arith, sym, ap, refl, Err}
 use Rattle.vb_frames.specs.declared.keeper.Refused.TheVariants.{NoFrame, Memory}
 use Rattle.vb_model.specs.declared.calls.Claim.{Claim}
-use Rattle.vb_model.specs.declared.replies.Refusal.TheVariants.{NoFrame as NoFrameLeft, NoMemory}
 use Rattle.vb_guest.proofs.InitStep.{init_up, known_answer, init_unsupplied, still_large}
-use Rattle.vb_guest.proofs.InitStep.{init_supplied, first_noted, by_size, few_bare}
-use Rattle.vb_guest.proofs.Exactly.{begins}
-use Rattle.vb_guest.proofs.Asked.{is_large}
 use Rattle.vb_guest.proofs.RogueLives.{init_up_rogue, init_unsupplied_rogue, init_supplied_rogue}
+use Rattle.vb_guest.proofs.InitStep.{init_supplied, first_noted, by_size, few_bare}
+use Rattle.vb_guest.{proofs.Exactly.begins, proofs.Asked.is_large}
 use Rattle.vb_guest.proofs.RogueLives.{still_large_rogue}
 use Rattle.vb_guest.proofs.Standing.{by_guest, alone_stands, over_stands, steps_quiet}
+use Rattle.vb_model.specs.declared.replies.Refusal.TheVariants.{NoFrame as NoFrameLeft, NoMemory}
 use Rattle.vb_guest.proofs.lives.init.Goals as goal
 
 pub returns-then-bits-ne0 : goal.returns-then-bits-ne0

@@ -1,7 +1,6 @@
 use Rattle.std.proofs.Common.{ap}
 use Rattle.vb_ram.specs.Part.{Part}
-use Rattle.vb_guest.proofs.ResetStep.{reset_step}
-use Rattle.vb_guest.proofs.RogueDriver.{reset_rogue}
+use Rattle.vb_guest.{proofs.ResetStep.reset_step, proofs.RogueDriver.reset_rogue}
 use Rattle.vb_guest.proofs.Standing.{alone_stands}
 use Rattle.vb_guest.proofs.lives.reset.Goals as goal
 

@@ -1,12 +1,9 @@
 use Rattle.std.proofs.Common.{◌∙◌, List, Bool, length, ap, subst, arith}
 use Rattle.std.specs.List.{range_with_len}
-use Rattle.vb_model.specs.Tests.{one_if}
-use Rattle.vb_model.specs.Orderly.{times}
-use Rattle.vb_ram.specs.Pages.{Pages}
-use Rattle.vb_ram.specs.Part.{Part}
+use Rattle.vb_model.{specs.Tests.one_if, specs.Orderly.times}
+use Rattle.vb_ram.{specs.Pages.Pages, specs.Part.Part}
 use Rattle.vb_guest.specs.Supply.{Supply, supply_of, is_used, Moves, nothing}
-use Rattle.vb_guest.proofs.Moving.{moves_as}
-use Rattle.vb_guest.proofs.Quiet.{no_frames, none_behind}
+use Rattle.vb_guest.{proofs.Moving.moves_as, proofs.Quiet.{no_frames, none_behind}}
 use Rattle.vb_guest.proofs.RestartStep.{all_frames, none_had}
 use Rattle.vb_guest.proofs.lives.take_all_back.Goals as goal
 

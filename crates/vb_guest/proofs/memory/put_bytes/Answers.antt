@@ -1,13 +1,9 @@
-use Rattle.std.specs.Prelude.{◌≡◌, ◌<◌, None}
-use Rattle.std.proofs.Common.{◌∙◌, ap, length, Ok, Err, refl}
-use Rattle.vb_ram.specs.Pages.{frame_at, Covers}
+use Rattle.std.{specs.Prelude.{◌≡◌, ◌<◌, None}, proofs.Common.{◌∙◌, ap, length, Ok, Err, refl}}
+use Rattle.vb_ram.{specs.Pages.{frame_at, Covers}, specs.Part.Part}
 use Rattle.vb_ram.specs.declared.fault.RamFault.TheVariants.{OutOfRam}
-use Rattle.vb_ram.specs.Part.{Part}
-use Rattle.vb_guest.specs.Supply.{supply_of}
-use Rattle.vb_guest.proofs.Exactly.{puts_outside, puts_there, puts_bare}
-use Rattle.vb_guest.proofs.Filling.{bare_written, bare_scribbled}
-use Rattle.vb_guest.proofs.Kept.{as_it_was}
 use Rattle.vb_guest.proofs.RogueMemory.{write_done_rogue, write_outside_rogue, scribble_alone}
+use Rattle.vb_guest.{specs.Supply.supply_of, proofs.Exactly.{puts_outside, puts_there, puts_bare}}
+use Rattle.vb_guest.{proofs.Filling.{bare_written, bare_scribbled}, proofs.Kept.as_it_was}
 use Rattle.vb_guest.proofs.RogueMemory.{scribble_outside}
 use Rattle.vb_guest.proofs.Standing.{alone_stands, steps_quiet, stands_as}
 use Rattle.vb_guest.proofs.WriteStep.{write_backed, write_outside, needs_frame, not_covered}

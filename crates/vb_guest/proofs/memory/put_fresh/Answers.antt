@@ -1,8 +1,7 @@
 use Rattle.std.proofs.Common.{◌∙◌, List, length, arith, ap, refl, Ok, Err}
 use Rattle.vb_model.specs.declared.calls.Claim.{Claim}
 use Rattle.vb_model.specs.declared.calls.Claim.TheVariants.{GaveNoFrame, GaveNoMemory}
-use Rattle.vb_guest.proofs.Claimed.{claim_answered, noted_alone}
-use Rattle.vb_guest.proofs.Exactly.{fills_given}
+use Rattle.vb_guest.{proofs.Claimed.{claim_answered, noted_alone}, proofs.Exactly.fills_given}
 use Rattle.vb_guest.proofs.memory.put_fresh.Goals as goal
 
 pub claim_frame-requires : goal.claim_frame-requires

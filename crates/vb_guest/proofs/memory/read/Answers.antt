@@ -1,7 +1,6 @@
 use Rattle.std.proofs.Common.{sym, refl, ap, inl, inr, Ok}
 use Rattle.vb_guest.proofs.ReadStep.{read_not_held, read_outside, read_done, read_no_memory}
-use Rattle.vb_guest.proofs.RogueMemory.{read_rogue}
-use Rattle.vb_guest.proofs.Standing.{alone_stands}
+use Rattle.vb_guest.{proofs.RogueMemory.read_rogue, proofs.Standing.alone_stands}
 use Rattle.vb_guest.proofs.memory.read.Goals as goal
 
 pub returns-then-not-held : goal.returns-then-not-held

@@ -1,6 +1,5 @@
 use Rattle.std.proofs.Common.{◌∙◌, sym, ap, ◌≡◌, ℕ, ◌++◌, take, drop, length}
-use Rattle.vb_guest.proofs.RingHeads.{take_front}
-use Rattle.vb_guest.proofs.ReadStep.{bytes_read}
+use Rattle.vb_guest.{proofs.RingHeads.take_front, proofs.ReadStep.bytes_read}
 use Rattle.vb_guest.proofs.memory.read_bytes.Goals as goal
 
 pub returns : goal.returns

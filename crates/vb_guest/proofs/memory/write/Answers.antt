@@ -1,7 +1,6 @@
 use Rattle.std.proofs.Common.{sym, refl}
-use Rattle.vb_guest.proofs.RogueMemory.{write_unheld_rogue}
+use Rattle.vb_guest.{proofs.RogueMemory.write_unheld_rogue, proofs.WriteStep.write_not_held}
 use Rattle.vb_guest.proofs.Standing.{alone_stands, steps_quiet}
-use Rattle.vb_guest.proofs.WriteStep.{write_not_held}
 use Rattle.vb_guest.proofs.memory.write.Goals as goal
 
 pub returns-then-not-held : goal.returns-then-not-held

@@ -1,5 +1,4 @@
-use Rattle.vb_model.proofs.Entering.{frames_enter}
-use Rattle.vb_model.proofs.Wanting.{refused_claims}
+use Rattle.vb_model.{proofs.Entering.frames_enter, proofs.Wanting.refused_claims}
 use Rattle.vb_model.proofs.laws.frames_enter_by_claims.Goals as goal
 
 pub returns : goal.returns

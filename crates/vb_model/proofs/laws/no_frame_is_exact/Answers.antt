@@ -1,5 +1,4 @@
-use Rattle.vb_model.proofs.Entering.{want_answered}
-use Rattle.vb_model.proofs.Wanting.{no_frame_exact}
+use Rattle.vb_model.{proofs.Entering.want_answered, proofs.Wanting.no_frame_exact}
 use Rattle.vb_model.proofs.laws.no_frame_is_exact.Goals as goal
 
 pub returns : goal.returns

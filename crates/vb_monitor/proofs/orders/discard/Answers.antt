@@ -1,9 +1,7 @@
 use Rattle.std.proofs.Common.{◌≡◌, ◌∷◌, ◌++◌, List, map, sym, subst, take}
 use Rattle.vb_core.specs.declared.runs.Run.{Run}
-use Rattle.vb_monitor.specs.declared.step.Phase.{Phase}
-use Rattle.vb_monitor.specs.Accesses.{Discard}
-use Rattle.vb_monitor.specs.Machine.{AheadAt, whole, room_of, cuts_behind}
-use Rattle.vb_monitor.specs.Orders.{cuts_left}
+use Rattle.vb_monitor.{specs.declared.step.Phase.Phase, specs.Accesses.Discard}
+use Rattle.vb_monitor.{specs.Machine.{AheadAt, whole, room_of, cuts_behind}, specs.Orders.cuts_left}
 use Rattle.vb_monitor.proofs.OrderLemmas.{discards_some}
 use Rattle.vb_monitor.proofs.orders.discard.Goals as goal
 

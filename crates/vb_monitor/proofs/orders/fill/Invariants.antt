@@ -1,6 +1,5 @@
 use Rattle.std.proofs.Common.{◌≡◌, ◌∷◌, ◌++◌, length, take}
-use Rattle.vb_monitor.specs.declared.orders.TheConstants.{MAX_CUTS}
-use Rattle.vb_monitor.specs.Machine.{cuts_behind}
+use Rattle.vb_monitor.{specs.declared.orders.TheConstants.MAX_CUTS, specs.Machine.cuts_behind}
 use Rattle.vb_monitor.proofs.orders.fill.Given as goal
 
 abbrev pub invariant-loop-count : goal.invariant-loop-count

@@ -1,5 +1,4 @@
-use Rattle.std.proofs.Common.{◌≡◌, ◌*◌, ◌≤◌, take}
-use Rattle.std.specs.Prelude.{sum_by}
+use Rattle.std.{proofs.Common.{◌≡◌, ◌*◌, ◌≤◌, take}, specs.Prelude.sum_by}
 use Rattle.vb_core.specs.declared.next.Buffer.{Buffer}
 use Rattle.vb_monitor.proofs.pieces.sum_lengths.Given as goal
 

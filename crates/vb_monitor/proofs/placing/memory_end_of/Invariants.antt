@@ -1,5 +1,4 @@
-use Rattle.std.proofs.Common.{◌≡◌, ◌≤◌, drop}
-use Rattle.std.specs.Prelude.{max}
+use Rattle.std.{proofs.Common.{◌≡◌, ◌≤◌, drop}, specs.Prelude.max}
 use Rattle.vb_core.specs.declared.settings.TheConstants.{MEMORY_LIMIT}
 use Rattle.vb_monitor.specs.Places.{are_regions, end_of}
 use Rattle.vb_monitor.proofs.placing.memory_end_of.Given as goal

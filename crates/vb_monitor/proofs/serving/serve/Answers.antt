@@ -1,7 +1,6 @@
 use Rattle.std.proofs.Common.{sym, subst, ◌++◌}
 use Rattle.vb_core.specs.declared.kinds.Kind.{Kind}
-use Rattle.vb_monitor.specs.Notices.{Serves}
-use Rattle.vb_monitor.specs.Machine.{Ahead, whole, room_of}
+use Rattle.vb_monitor.{specs.Notices.Serves, specs.Machine.{Ahead, whole, room_of}}
 use Rattle.vb_monitor.proofs.GoesLemmas.{all_served}
 use Rattle.vb_monitor.proofs.serving.serve.Goals as goal
 

@@ -1,8 +1,6 @@
 use Rattle.std.proofs.Common.{rules, ◌≡◌, ◌+◌, ◌*◌, ◌<◌, Some}
 use Rattle.vb_core.specs.Devices.{ring_of}
-use Rattle.vb_monitor.specs.Regions.{spot}
-use Rattle.vb_monitor.specs.Chains.{descriptors}
-use Rattle.vb_monitor.specs.Machine.{whole}
+use Rattle.vb_monitor.{specs.Regions.spot, specs.Chains.descriptors, specs.Machine.whole}
 use Rattle.vb_monitor.proofs.UsualLemmas.{head_goes}
 use Rattle.vb_monitor.proofs.usual.descriptor_after.Goals as goal
 

@@ -1,13 +1,11 @@
 use Rattle.std.proofs.Common.{◌≡◌, ◌≤◌, ℕ, List, Option, Some, None, set, ap, subst, ◌∙◌, sym}
 use Rattle.std.proofs.Common.{arith}
 use Rattle.vb_model.specs.Pages.{pages_of}
-use Rattle.vb_pages.specs.Areas.{without_pages, with_pages, block_at}
-use Rattle.vb_pages.specs.Table.{IsLowestStart}
-use Rattle.vb_pages.specs.Tiles.{HasRoom, IsTiled, set_of}
 use Rattle.vb_pages.proofs.TilesLemmas.{removed_tiled, removed_room, chosen, none_inside, none_more}
-use Rattle.vb_pages.proofs.TilesLemmas.{part_left}
-use Rattle.vb_pages.proofs.areas.take_block.Goals as goal
+use Rattle.vb_pages.{specs.Areas.{without_pages, with_pages, block_at}, specs.Table.IsLowestStart}
+use Rattle.vb_pages.{specs.Tiles.{HasRoom, IsTiled, set_of}, proofs.TilesLemmas.part_left}
 use Rattle.vb_pages.proofs.areas.take_block.Goals.{After-remove}
+use Rattle.vb_pages.proofs.areas.take_block.Goals as goal
 
 -- the start that was found, in the table as it was
 found : (c : After-remove)

@@ -1,10 +1,7 @@
 use Rattle.std.proofs.Common.{◌≡◌, ◌<◌, ◌+◌, ℕ, List, length, get_or, set, ap, subst, ◌∙◌, sym}
-use Rattle.std.proofs.Common.{arith}
-use Rattle.std.specs.Prelude.{count_by}
-use Rattle.std.proofs.lemmas.List.{get_or_default}
-use Rattle.vb_pages.specs.Areas.{with_pages}
+use Rattle.std.{proofs.Common.arith, specs.Prelude.count_by, proofs.lemmas.List.get_or_default}
 use Rattle.vb_pages.proofs.FreeLemmas.{IsDrainedSoFar, drained_none, next_once, next_drained}
-use Rattle.vb_pages.proofs.FreeLemmas.{all_drained, nothing}
+use Rattle.vb_pages.{specs.Areas.with_pages, proofs.FreeLemmas.{all_drained, nothing}}
 use Rattle.vb_pages.proofs.free.drain_lists.Goals as goal
 
 pub loop-list-init : goal.loop-list-init

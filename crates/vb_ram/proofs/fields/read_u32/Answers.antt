@@ -1,6 +1,5 @@
 use Rattle.std.proofs.Common.{◌∙◌, sym}
-use Rattle.vb_ram.proofs.Outcome.{at_ok}
-use Rattle.vb_ram.proofs.FieldLaws.{field_4}
+use Rattle.vb_ram.{proofs.Outcome.at_ok, proofs.FieldLaws.field_4}
 use Rattle.vb_ram.proofs.fields.read_u32.Goals as goal
 
 pub returns : goal.returns

@@ -1,7 +1,5 @@
 use Rattle.std.proofs.Common.{◌≡◌, subst, ap, length, arith, List, ℕ}
-use Rattle.vb_ram.proofs.Outcome.{at_ok}
-use Rattle.vb_ram.specs.Pages.{Wrote}
-use Rattle.vb_ram.proofs.FieldLaws.{put_8}
+use Rattle.vb_ram.{proofs.Outcome.at_ok, specs.Pages.Wrote, proofs.FieldLaws.put_8}
 use Rattle.vb_ram.proofs.fields.write_u64.Goals as goal
 
 pub returns-clause-put : goal.returns-clause-put

@@ -1,5 +1,4 @@
-use Rattle.std.proofs.KnownBytes.{Appends-trans}
-use Rattle.std.specs.Io.KnownBytes.{append_known}
+use Rattle.std.{proofs.KnownBytes.Appends-trans, specs.Io.KnownBytes.append_known}
 use Rattle.vb_reply.proofs.Putting.{encoded_parts}
 use Rattle.vb_reply.proofs.held.+put_digits.Goals as goal
 

@@ -1,7 +1,5 @@
-use Rattle.std.proofs.Common.{take}
-use Rattle.std.specs.List.{flat_map}
-use Rattle.vb_reply.specs.Held.{Puts}
-use Rattle.vb_reply.specs.Replies.{line_of}
+use Rattle.std.{proofs.Common.take, specs.List.flat_map}
+use Rattle.vb_reply.{specs.Held.Puts, specs.Replies.line_of}
 use Rattle.vb_reply.proofs.replies.put_all.Given as goal
 
 abbrev pub invariant-loop-reply : goal.invariant-loop-reply

@@ -1,6 +1,5 @@
 use Rattle.std.proofs.Common.{take}
-use Rattle.vb_reply.specs.Held.{Puts}
-use Rattle.vb_reply.specs.Replies.{runs_text}
+use Rattle.vb_reply.{specs.Held.Puts, specs.Replies.runs_text}
 use Rattle.vb_reply.proofs.replies.put_runs.Given as goal
 
 abbrev pub invariant-loop-run : goal.invariant-loop-run

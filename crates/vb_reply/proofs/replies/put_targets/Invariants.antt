@@ -1,6 +1,5 @@
 use Rattle.std.proofs.Common.{take}
-use Rattle.vb_reply.specs.Held.{Puts}
-use Rattle.vb_reply.specs.Replies.{targets_text}
+use Rattle.vb_reply.{specs.Held.Puts, specs.Replies.targets_text}
 use Rattle.vb_reply.proofs.replies.put_targets.Given as goal
 
 abbrev pub invariant-loop-target : goal.invariant-loop-target

@@ -1,5 +1,4 @@
-use Rattle.std.proofs.Common.{ap, arith}
-use Rattle.std.proofs.lemmas.List.Elements.{All-weaker}
+use Rattle.std.{proofs.Common.{ap, arith}, proofs.lemmas.List.Elements.All-weaker}
 use Rattle.vb_pages.specs.PageState.{PageState, HasRoomIn}
 use Rattle.vb_report.specs.Blocks.{block_of, HasOrder}
 use Rattle.vb_report.proofs.Taking.{chooses, drained_state, drained_pages}

@@ -1,9 +1,7 @@
 use Rattle.std.proofs.Common.{◌≡◌, ℕ, ◌+◌, ◌*◌, ◌%◌, ◌^◌, ◌≤◌, List, sym, ◌∙◌, subst, arith, []}
 use Rattle.std.proofs.Common.{◌++◌, ◌∷◌}
-use Rattle.vb_pages.specs.declared.table.TheConstants.{MAX_PAGES}
-use Rattle.vb_pages.specs.declared.block.FreeBlock.{FreeBlock}
-use Rattle.vb_pages.specs.PageState.{page_count}
-use Rattle.vb_pages.proofs.Aligned.{pow_small}
+use Rattle.vb_pages.{specs.declared.table.TheConstants.MAX_PAGES, specs.PageState.page_count}
+use Rattle.vb_pages.{specs.declared.block.FreeBlock.FreeBlock, proofs.Aligned.pow_small}
 use Rattle.vb_report.proofs.Taking.{IsTaking, taking_none, taking_more, taking_all, taking_full}
 use Rattle.vb_report.proofs.Taking.{taking_pages, free_is_drained}
 use Rattle.vb_report.proofs.blocks.take_blocks.Goals as goal

@@ -1,7 +1,6 @@
 use Rattle.std.proofs.Common.{ap, arith, ℕ, List, length}
 use Rattle.vb_chain.specs.Written.{empty}
-use Rattle.vb_request.specs.Request.{bytes_of}
-use Rattle.vb_request.proofs.Bytes.{pieces_more, pieces_count}
+use Rattle.vb_request.{specs.Request.bytes_of, proofs.Bytes.{pieces_more, pieces_count}}
 use Rattle.vb_request.proofs.buffer.gather.Goals as goal
 
 pub loop-piece-init : goal.loop-piece-init

@@ -1,7 +1,6 @@
 use Rattle.std.proofs.Common.{◌≡◌, ◌<◌, ◌≤◌, ◌+◌, ◌/◌, arith, rules, length, take, get_or}
 use Rattle.vb_chain.specs.Written.{empty}
-use Rattle.vb_request.specs.Report.{pages_of_pieces}
-use Rattle.vb_request.proofs.Reports.{count_more}
+use Rattle.vb_request.{specs.Report.pages_of_pieces, proofs.Reports.count_more}
 use Rattle.vb_request.proofs.report.count_pages.Goals as goal
 
 pub loop-piece-preserved : goal.loop-piece-preserved

@@ -1,7 +1,6 @@
 use Rattle.std.proofs.Common.{◌≡◌, None, Some, sym, arith, rules, get_or}
 use Rattle.vb_chain.specs.Written.{empty}
-use Rattle.vb_request.specs.Report.{piece_fault}
-use Rattle.vb_request.proofs.Reports.{fault_here, sound_more}
+use Rattle.vb_request.{specs.Report.piece_fault, proofs.Reports.{fault_here, sound_more}}
 use Rattle.vb_request.proofs.report.fault_of_first.Goals as goal
 
 pub returns-in-Some : goal.returns-in-Some

@@ -1,9 +1,7 @@
 use Rattle.std.proofs.Common.{◌≡◌, ◌<◌, ◌+◌, ◌∙◌, List, Some, refl, ap, arith, length, take, get_or}
 use Rattle.std.proofs.lemmas.List.{take_all}
-use Rattle.vb_chain.specs.declared.pieces.Piece.{Piece}
-use Rattle.vb_chain.specs.Written.{empty}
-use Rattle.vb_request.specs.Report.{pages_of_pieces}
-use Rattle.vb_request.proofs.Reports.{page_here, count_more}
+use Rattle.vb_chain.{specs.declared.pieces.Piece.Piece, specs.Written.empty}
+use Rattle.vb_request.{specs.Report.pages_of_pieces, proofs.Reports.{page_here, count_more}}
 use Rattle.vb_request.proofs.report.run_at.Goals as goal
 
 pub returns-then-rest-count : goal.returns-then-rest-count

@@ -1,10 +1,9 @@
-use Rattle.std.proofs.Common.{◌≡◌, ◌∙◌, ℕ, List, Result, Ok, Err, OnOk, IfErr, sym, ap, subst, length}
+use Rattle.std.proofs.Common.{◌≡◌, ◌∙◌, ℕ, List, Result, Ok, Err, OnOk, IfErr, sym, ap, subst}
+use Rattle.std.proofs.Common.{length}
 use Rattle.vb_ram.specs.Pages.{Pages}
-use Rattle.vb_chain.specs.declared.fault.ChainFault.{ChainFault}
-use Rattle.vb_chain.specs.declared.pieces.Piece.{Piece}
+use Rattle.vb_chain.{specs.declared.fault.ChainFault.ChainFault, specs.declared.pieces.Piece.Piece}
 use Rattle.vb_request.specs.Request.{numbers_of, pages_of_numbers, page_request, bytes_of}
-use Rattle.vb_request.specs.Request.{request_length}
-use Rattle.vb_request.proofs.Bytes.{refused_request, read_numbers}
+use Rattle.vb_request.{specs.Request.request_length, proofs.Bytes.{refused_request, read_numbers}}
 use Rattle.vb_request.proofs.request.page_request.Goals as goal
 
 -- a request of a right length says what the numbers of its bytes do

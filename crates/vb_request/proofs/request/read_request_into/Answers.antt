@@ -1,9 +1,7 @@
 use Rattle.std.proofs.Common.{◌≡◌, ◌≤◌, ℕ, List, Result, Ok, Err, All, OnOk}
 use Rattle.vb_ram.specs.Pages.{Pages}
-use Rattle.vb_chain.specs.declared.fault.ChainFault.{ChainFault}
-use Rattle.vb_chain.specs.declared.pieces.Piece.{Piece}
-use Rattle.vb_request.specs.Request.{page_request}
-use Rattle.vb_request.proofs.RequestPages.{request_pages}
+use Rattle.vb_chain.{specs.declared.fault.ChainFault.ChainFault, specs.declared.pieces.Piece.Piece}
+use Rattle.vb_request.{specs.Request.page_request, proofs.RequestPages.request_pages}
 use Rattle.vb_request.proofs.request.read_request_into.Goals as goal
 
 -- what a request names, where it isn't refused, isn't reserved

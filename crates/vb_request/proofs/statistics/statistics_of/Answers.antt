@@ -1,5 +1,4 @@
-use Rattle.std.proofs.Common.{◌∙◌, ◌<◌, ◌/◌, ap, arith, length}
-use Rattle.std.proofs.lemmas.List.{take_all}
+use Rattle.std.{proofs.Common.{◌∙◌, ◌<◌, ◌/◌, ap, arith, length}, proofs.lemmas.List.take_all}
 use Rattle.vb_request.specs.Statistics.{statistics_of, last_of}
 use Rattle.vb_request.proofs.LastStatistics.{last_more, statistics_of-length}
 use Rattle.vb_request.proofs.statistics.statistics_of.Goals as goal

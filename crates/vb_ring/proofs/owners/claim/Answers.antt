@@ -1,12 +1,9 @@
-use Rattle.std.proofs.Common.{◌≡◌, ◌≢◌, ◌∙◌, sym, ap, ℕ, ◌<◌, List, Option, length}
-use Rattle.std.proofs.Common.{Some, None, Bool, true, false, arith, refl}
+use Rattle.std.proofs.Common.{◌≡◌, ◌≢◌, ◌∙◌, sym, ap, ℕ, ◌<◌, List, Option, length, Some, None}
+use Rattle.std.{proofs.Common.{Bool, true, false, arith, refl}, proofs.lemmas.Bool.cases_eq}
 use Rattle.std.specs.Prelude.{slice_index, slice_index_or, if◌then◌else◌}
 use Rattle.std.proofs.lemmas.List.{length-set, get_or-set_same, get_or-set_other, ext_get_or}
-use Rattle.std.proofs.lemmas.Bool.{cases_eq}
-use Rattle.vb_model.specs.Tests.{is_in}
-use Rattle.vb_model.proofs.Tables.{length-each_from}
-use Rattle.vb_ring.specs.Ends.{claimed}
-use Rattle.vb_ring.proofs.OwnerLaws.{is_in-some, not_in, claimed-at}
+use Rattle.vb_model.{specs.Tests.is_in, proofs.Tables.length-each_from}
+use Rattle.vb_ring.{specs.Ends.claimed, proofs.OwnerLaws.{is_in-some, not_in, claimed-at}}
 use Rattle.vb_ring.proofs.owners.claim.Goals as goal
 
 -- a table whose path belongs to the head, and whose rest is as before, is the claimed one

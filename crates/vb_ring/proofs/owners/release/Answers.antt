@@ -1,11 +1,7 @@
-use Rattle.std.proofs.Common.{◌≡◌, ◌∙◌, sym, ℕ, ◌<◌, true, List, Option, length}
-use Rattle.std.proofs.Common.{None, arith}
-use Rattle.std.specs.Prelude.{slice_index_or, if◌then◌else◌}
-use Rattle.std.proofs.lemmas.Bool.{cases_lt}
+use Rattle.std.proofs.Common.{◌≡◌, ◌∙◌, sym, ℕ, ◌<◌, true, List, Option, length, None, arith}
+use Rattle.std.{specs.Prelude.{slice_index_or, if◌then◌else◌}, proofs.lemmas.Bool.cases_lt}
 use Rattle.std.proofs.lemmas.List.{length-map, ext_get_or}
-use Rattle.vb_ring.specs.Entries.{is_own}
-use Rattle.vb_ring.specs.Ends.{released}
-use Rattle.vb_ring.proofs.OwnerLaws.{released-at}
+use Rattle.vb_ring.{specs.Entries.is_own, specs.Ends.released, proofs.OwnerLaws.released-at}
 use Rattle.vb_ring.proofs.owners.release.Goals as goal
 
 -- a table whose entries are each freed or kept is the released one

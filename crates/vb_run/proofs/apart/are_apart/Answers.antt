@@ -1,5 +1,4 @@
-use Rattle.std.proofs.Common.{rules}
-use Rattle.std.proofs.lemmas.List.Sorted.{IsNonDecreasingBy-from_sort}
+use Rattle.std.{proofs.Common.rules, proofs.lemmas.List.Sorted.IsNonDecreasingBy-from_sort}
 use Rattle.vb_run.proofs.Distinct.{apart, rising_apart}
 use Rattle.vb_run.proofs.apart.are_apart.Goals as goal
 

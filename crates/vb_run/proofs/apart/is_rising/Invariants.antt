@@ -1,5 +1,4 @@
-use Rattle.std.proofs.Common.{◌<◌, ℕ, suc}
-use Rattle.std.specs.Prelude.{slice_index_or}
+use Rattle.std.{proofs.Common.{◌<◌, ℕ, suc}, specs.Prelude.slice_index_or}
 use Rattle.vb_run.proofs.apart.is_rising.Given as goal
 
 abbrev pub invariant-loop-place : goal.invariant-loop-place

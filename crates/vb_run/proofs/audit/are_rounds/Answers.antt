@@ -1,6 +1,5 @@
 use Rattle.std.proofs.Common.{rules, refl}
-use Rattle.vb_run.specs.Reports.{IsRound}
-use Rattle.vb_run.proofs.Lists.{all_next, all_whole}
+use Rattle.vb_run.{specs.Reports.IsRound, proofs.Lists.{all_next, all_whole}}
 use Rattle.vb_run.proofs.audit.are_rounds.Goals as goal
 
 pub loop-round-preserved : goal.loop-round-preserved

@@ -1,7 +1,6 @@
 use Rattle.std.proofs.Common.{rules, ◌≡◌, ◌++◌, sym, ◌∙◌, ap, take, get_or}
 use Rattle.std.proofs.lemmas.List.{append_assoc}
-use Rattle.vb_run.specs.Rounds.{entries_of_round, round_entries}
-use Rattle.vb_run.proofs.Gathered.{rounds_next}
+use Rattle.vb_run.{specs.Rounds.{entries_of_round, round_entries}, proofs.Gathered.rounds_next}
 use Rattle.vb_run.proofs.audit.expected_of.Goals as goal
 
 pub loop-round-preserved : goal.loop-round-preserved

@@ -1,8 +1,7 @@
 use Rattle.std.proofs.Common.{rules, ◌≡◌, ◌∙◌, ap, Some, slice_get, true, false, arith}
 use Rattle.std.proofs.lemmas.Option.{slice_get-get_or, slice_get_within}
 use Rattle.vb_model.specs.declared.calls.Actor.TheVariants.{Balancer}
-use Rattle.vb_run.specs.Entries.{is_same, actor_of}
-use Rattle.vb_run.proofs.Gathered.{made_next, not_made}
+use Rattle.vb_run.{specs.Entries.{is_same, actor_of}, proofs.Gathered.{made_next, not_made}}
 use Rattle.vb_run.proofs.audit.has_made.Goals as goal
 
 pub returns-then-not-is_at : goal.returns-then-not-is_at

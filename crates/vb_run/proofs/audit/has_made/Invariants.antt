@@ -1,8 +1,6 @@
-use Rattle.std.proofs.Common.{◌≡◌, ◌≤◌, true, length, take}
-use Rattle.std.specs.List.{list_all}
+use Rattle.std.{proofs.Common.{◌≡◌, ◌≤◌, true, length, take}, specs.List.list_all}
 use Rattle.vb_model.specs.declared.calls.Actor.TheVariants.{Balancer}
-use Rattle.vb_run.specs.Entries.{entries_by}
-use Rattle.vb_run.specs.Rounds.{is_of_round}
+use Rattle.vb_run.{specs.Entries.entries_by, specs.Rounds.is_of_round}
 use Rattle.vb_run.proofs.audit.has_made.Given as goal
 
 abbrev pub invariant-loop-entry : goal.invariant-loop-entry

@@ -1,5 +1,4 @@
-use Rattle.std.proofs.Common.{◌≡◌, true, take}
-use Rattle.std.specs.List.{list_all}
+use Rattle.std.{proofs.Common.{◌≡◌, true, take}, specs.List.list_all}
 use Rattle.vb_run.specs.Plans.{may_stand}
 use Rattle.vb_run.proofs.plan.all_may_stand.Given as goal
 

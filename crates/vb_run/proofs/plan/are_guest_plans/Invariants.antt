@@ -1,5 +1,4 @@
-use Rattle.std.proofs.Common.{◌≡◌, true, take}
-use Rattle.std.specs.List.{list_all}
+use Rattle.std.{proofs.Common.{◌≡◌, true, take}, specs.List.list_all}
 use Rattle.vb_run.specs.Plans.{is_guest_plan}
 use Rattle.vb_run.proofs.plan.are_guest_plans.Given as goal
 

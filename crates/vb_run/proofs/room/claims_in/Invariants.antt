@@ -1,5 +1,4 @@
-use Rattle.std.proofs.Common.{◌≡◌, ◌≤◌, take}
-use Rattle.std.specs.Prelude.{vec_capacity}
+use Rattle.std.{proofs.Common.{◌≡◌, ◌≤◌, take}, specs.Prelude.vec_capacity}
 use Rattle.vb_run.proofs.room.claims_in.Given as goal
 
 abbrev pub invariant-loop-claim : goal.invariant-loop-claim

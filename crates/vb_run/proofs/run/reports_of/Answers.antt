@@ -1,7 +1,6 @@
 use Rattle.std.proofs.Common.{rules, ◌≡◌, [], ◌∷◌, ◌++◌, sym, ◌∙◌, drop}
 use Rattle.std.proofs.lemmas.Option.{get_or_from_slice_get}
-use Rattle.vb_run.proofs.Lists.{some_same}
-use Rattle.vb_run.proofs.Starting.{drop_head, swapped}
+use Rattle.vb_run.{proofs.Lists.some_same, proofs.Starting.{drop_head, swapped}}
 use Rattle.vb_run.proofs.run.reports_of.Goals as goal
 
 pub loop-guest-preserved : goal.loop-guest-preserved

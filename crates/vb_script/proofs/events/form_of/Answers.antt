@@ -1,6 +1,5 @@
 use Rattle.std.proofs.Common.{refl, sym, ◌∙◌, arith}
-use Rattle.vb_script.specs.Names.{form_of, forms}
-use Rattle.vb_script.proofs.ByLength.{by_length, none_of_length}
+use Rattle.vb_script.{specs.Names.{form_of, forms}, proofs.ByLength.{by_length, none_of_length}}
 use Rattle.vb_script.proofs.events.form_of.Goals as goal
 
 pub returns-in-3 : goal.returns-in-3

@@ -1,5 +1,4 @@
-use Rattle.std.proofs.Common.{◌≡◌, drop}
-use Rattle.std.specs.List.{list_all}
+use Rattle.std.{proofs.Common.{◌≡◌, drop}, specs.List.list_all}
 use Rattle.vb_script.specs.Plans.{calls_in, is_there, made_by}
 use Rattle.vb_script.proofs.plans.are_there.Given as goal
 

@@ -1,6 +1,5 @@
 use Rattle.std.proofs.Common.{rules}
-use Rattle.vb_script.specs.Plans.{calls_in, script_by}
-use Rattle.vb_script.proofs.Ranged.{one_more}
+use Rattle.vb_script.{specs.Plans.{calls_in, script_by}, proofs.Ranged.one_more}
 use Rattle.vb_script.proofs.plans.scripts_by.Goals as goal
 
 pub loop-cpu-preserved : goal.loop-cpu-preserved

@@ -1,5 +1,4 @@
-use Rattle.std.proofs.Common.{◌≡◌, map, vec_len}
-use Rattle.std.specs.List.{range_with_len}
+use Rattle.std.{proofs.Common.{◌≡◌, map, vec_len}, specs.List.range_with_len}
 use Rattle.vb_script.specs.Plans.{calls_in, script_by}
 use Rattle.vb_script.proofs.plans.scripts_by.Given as goal
 

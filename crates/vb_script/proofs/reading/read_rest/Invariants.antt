@@ -1,6 +1,5 @@
 use Rattle.std.proofs.Common.{◌≡◌, length}
-use Rattle.vb_script.specs.Scripts.{lines_left, told_by}
-use Rattle.vb_script.specs.Texts.{host_told, with_lines}
+use Rattle.vb_script.{specs.Scripts.{lines_left, told_by}, specs.Texts.{host_told, with_lines}}
 use Rattle.vb_script.proofs.reading.read_rest.Given as goal
 
 abbrev pub invariant-loop-line : goal.invariant-loop-line

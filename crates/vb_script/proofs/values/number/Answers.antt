@@ -1,6 +1,5 @@
 use Rattle.std.proofs.Common.{◌^◌, ◌<◌, length, rules, arith}
-use Rattle.vb_script.specs.Numbers.{decimal_value}
-use Rattle.vb_script.proofs.Digits.{no_number, whole_number}
+use Rattle.vb_script.{specs.Numbers.decimal_value, proofs.Digits.{no_number, whole_number}}
 use Rattle.vb_script.proofs.WordLemmas.{number_shown}
 use Rattle.vb_script.proofs.values.number.Goals as goal
 

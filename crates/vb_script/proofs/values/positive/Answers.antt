@@ -1,5 +1,4 @@
-use Rattle.std.proofs.Common.{arith}
-use Rattle.std.proofs.lemmas.Bool.Decides.{nat_tests}
+use Rattle.std.{proofs.Common.arith, proofs.lemmas.Bool.Decides.nat_tests}
 use Rattle.vb_script.specs.Values.{positive_of}
 use Rattle.vb_script.proofs.values.positive.Goals as goal
 

@@ -1,8 +1,6 @@
 use Rattle.std.proofs.Common.{◌≡◌, ℕ, ◌+◌, ◌-◌, [], ◌∷◌, ◌++◌, List, None, sym, ap, ◌∙◌, arith}
-use Rattle.vb_shared.specs.Rule.{view_of}
-use Rattle.vb_shared.specs.Steps.{held_of, new_holdings}
-use Rattle.vb_shared.specs.Passes.{Pass, new_passes}
-use Rattle.vb_shared.proofs.Lists.{new_passes_next}
+use Rattle.vb_shared.{specs.Rule.view_of, specs.Steps.{held_of, new_holdings}}
+use Rattle.vb_shared.{specs.Passes.{Pass, new_passes}, proofs.Lists.new_passes_next}
 use Rattle.vb_shared.proofs.pass.deal.Goals as goal
 
 pub loop-tag-preserved : goal.loop-tag-preserved

@@ -1,7 +1,5 @@
 use Rattle.std.proofs.Common.{◌≡◌, ◌-◌, []}
-use Rattle.vb_shared.specs.Rule.{view_of}
-use Rattle.vb_shared.specs.Steps.{new_holdings}
-use Rattle.vb_shared.specs.Passes.{new_passes}
+use Rattle.vb_shared.{specs.Rule.view_of, specs.Steps.new_holdings, specs.Passes.new_passes}
 use Rattle.vb_shared.proofs.pass.deal.Given as goal
 
 abbrev pub invariant-loop-tag : goal.invariant-loop-tag

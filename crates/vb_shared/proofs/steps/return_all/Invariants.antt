@@ -1,7 +1,5 @@
 use Rattle.std.proofs.Common.{◌≡◌, []}
-use Rattle.vb_shared.specs.Rule.{pass}
-use Rattle.vb_shared.specs.Steps.{held_of}
-use Rattle.vb_shared.specs.Passes.{Within}
+use Rattle.vb_shared.{specs.Rule.pass, specs.Steps.held_of, specs.Passes.Within}
 use Rattle.vb_shared.proofs.steps.return_all.Given as goal
 
 abbrev pub invariant-loop-frame : goal.invariant-loop-frame

@@ -2,12 +2,11 @@ use Rattle.std.proofs.Common.{◌≡◌, ◌≤◌, refl, List, Bool, map, lengt
 use Rattle.std.proofs.lemmas.List.{take_all}
 use Rattle.vb_script.specs.declared.lines.Pace.TheVariants.{Immediate, Paced}
 use Rattle.vb_script.specs.Lines.{is_paced}
-use Rattle.vb_sim.proofs.Paces.{one_more}
-use denote.Param.Object.{read_made}
-use Rattle.vb_sim.proofs.host.play_events.OwnLists.{own-1, at-1-1, at-1-2}
-use Rattle.vb_sim.proofs.host.play_events.Goals as goal
 use Rattle.vb_sim.proofs.host.play_events.Goals.{in-Immediate+in_ok-device-in-Immediate+in_ok-add_spare-in-Immediate}
+use Rattle.vb_sim.{proofs.Paces.one_more, proofs.host.play_events.OwnLists.{own-1, at-1-1, at-1-2}}
 use Rattle.vb_sim.proofs.host.play_events.Goals.{in-Paced+in_ok-device-in-Paced+in_ok-add_spare-in-Paced}
+use denote.Param.Object.{read_made}
+use Rattle.vb_sim.proofs.host.play_events.Goals as goal
 
 pub loop-pace-preserved : goal.loop-pace-preserved
 loop-pace-preserved g c = elim c.match-pace.branch [

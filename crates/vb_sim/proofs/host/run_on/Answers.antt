@@ -1,9 +1,7 @@
-use Rattle.std.proofs.Common.{◌++◌, ◌∷◌, [], refl, take}
-use Rattle.std.proofs.lemmas.List.{take_more}
+use Rattle.std.{proofs.Common.{◌++◌, ◌∷◌, [], refl, take}, proofs.lemmas.List.take_more}
 use Rattle.std.specs.List.{flat_map}
 use Rattle.vb_model.specs.Run.{last_world}
-use Rattle.vb_reply.proofs.Putting.{put_in_all, put_nothing}
-use Rattle.vb_reply.specs.Replies.{line_of}
+use Rattle.vb_reply.{proofs.Putting.{put_in_all, put_nothing}, specs.Replies.line_of}
 use Rattle.vb_world.proofs.Runs.{as_many, ran_none, ran_on, safe_run, take_whole}
 use Rattle.vb_sim.proofs.Playing.{lines_on}
 use Rattle.vb_sim.proofs.host.run_on.Goals as goal

@@ -1,11 +1,7 @@
-use Rattle.std.proofs.Common.{[], List, map, take}
-use Rattle.std.specs.List.{flat_map}
-use Rattle.vb_model.specs.declared.replies.Reply.{Reply}
-use Rattle.vb_model.specs.World.{made}
-use Rattle.vb_reply.specs.Held.{Puts}
-use Rattle.vb_reply.specs.Replies.{line_of}
-use Rattle.vb_world.specs.Hosts.{IsWorld}
-use Rattle.vb_world.proofs.Runs.{Ran}
+use Rattle.std.{proofs.Common.{[], List, map, take}, specs.List.flat_map}
+use Rattle.vb_model.{specs.declared.replies.Reply.Reply, specs.World.made}
+use Rattle.vb_reply.{specs.Held.Puts, specs.Replies.line_of}
+use Rattle.vb_world.{specs.Hosts.IsWorld, proofs.Runs.Ran}
 use Rattle.vb_sim.proofs.host.run_on.Given as goal
 
 abbrev pub invariant-loop-event : goal.invariant-loop-event

@@ -1,5 +1,4 @@
-use Rattle.std.proofs.Common.{rules}
-use Rattle.std.proofs.KnownBytes.{Appends-trans}
+use Rattle.std.{proofs.Common.rules, proofs.KnownBytes.Appends-trans}
 use Rattle.vb_run.specs.Plans.{is_guest_plan}
 use Rattle.vb_sim.proofs.Reporting.{one_more_line, one_passes}
 use Rattle.vb_sim.proofs.lines.write_guests.Goals as goal

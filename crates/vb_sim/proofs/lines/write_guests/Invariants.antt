@@ -1,5 +1,4 @@
-use Rattle.std.proofs.Common.{take}
-use Rattle.std.specs.Io.KnownBytes.{Appends}
+use Rattle.std.{proofs.Common.take, specs.Io.KnownBytes.Appends}
 use Rattle.vb_sim.specs.Threads.{guest_lines}
 use Rattle.vb_sim.proofs.lines.write_guests.Given as goal
 

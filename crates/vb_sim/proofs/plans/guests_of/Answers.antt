@@ -1,8 +1,6 @@
 use Rattle.std.proofs.Common.{rules, ◌≡◌, List, ◌∷◌, ◌++◌, map, subst}
-use Rattle.vb_script.specs.declared.script.ThreadsGuest.{ThreadsGuest}
-use Rattle.vb_script.specs.Plans.{guest_plan}
-use Rattle.vb_sim.specs.Plans.{part_of, planned_part}
-use Rattle.vb_sim.proofs.Planning.{part_fails, parts_fail}
+use Rattle.vb_script.{specs.declared.script.ThreadsGuest.ThreadsGuest, specs.Plans.guest_plan}
+use Rattle.vb_sim.{specs.Plans.{part_of, planned_part}, proofs.Planning.{part_fails, parts_fail}}
 use Rattle.vb_sim.proofs.plans.guests_of.Goals as goal
 
 pub returns-in_default : goal.returns-in_default

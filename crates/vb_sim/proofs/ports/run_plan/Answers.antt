@@ -2,14 +2,12 @@ use Rattle.std.proofs.Common.{rules, ◌≡◌, ◌∷◌, [], refl, List, Bool,
 use denote.Param.Object.{read_made}
 use Rattle.vb_script.specs.declared.lines.Pace.TheVariants.{Immediate, Paced}
 use Rattle.vb_script.specs.Lines.{is_paced}
-use Rattle.vb_sim.proofs.Paces.{one_more}
-use Rattle.vb_ram.specs.Pages.{Pages}
-use Rattle.vb_ram.specs.Part.{Part}
-use Rattle.vb_sim.proofs.Passes.{leased_unused, new_unheld, next_unheld}
-use Rattle.vb_sim.proofs.ports.run_plan.OwnLists.{own-1, at-1-1, at-1-2}
-use Rattle.vb_sim.proofs.ports.run_plan.Goals as goal
 use Rattle.vb_sim.proofs.ports.run_plan.Goals.{in-Immediate+in-Ok+in_ok-add_port-in-Immediate}
+use Rattle.vb_sim.{proofs.Paces.one_more, proofs.Passes.{leased_unused, new_unheld, next_unheld}}
+use Rattle.vb_sim.proofs.ports.run_plan.OwnLists.{own-1, at-1-1, at-1-2}
 use Rattle.vb_sim.proofs.ports.run_plan.Goals.{in-Paced+in-Ok-new+in_ok-add_port-in-Paced}
+use Rattle.vb_ram.{specs.Pages.Pages, specs.Part.Part}
+use Rattle.vb_sim.proofs.ports.run_plan.Goals as goal
 
 pub loop-pace-init : goal.loop-pace-init
 loop-pace-init g c = record {

@@ -1,8 +1,7 @@
 use Rattle.std.proofs.Common.{◌≡◌, All, map, take}
 use Rattle.vb_script.specs.Lines.{is_paced}
 use Rattle.vb_slot.specs.Spare.{IsNew}
-use Rattle.vb_sim.proofs.Passes.{AreUnheld}
-use Rattle.vb_sim.proofs.ports.run_plan.OwnLists.{own-1}
+use Rattle.vb_sim.{proofs.Passes.AreUnheld, proofs.ports.run_plan.OwnLists.own-1}
 use Rattle.vb_sim.proofs.ports.run_plan.Given as goal
 
 abbrev pub invariant-loop-pace : goal.invariant-loop-pace

@@ -1,7 +1,6 @@
 use Rattle.std.proofs.lemmas.Result.{on_ok_weaker}
 use Rattle.vb_script.specs.Texts.{script_of}
-use Rattle.vb_sim.specs.Ends.{IsWithinBound}
-use Rattle.vb_sim.specs.Plays.{Prints}
+use Rattle.vb_sim.{specs.Ends.IsWithinBound, specs.Plays.Prints}
 use Rattle.vb_sim.proofs.Reading.{bad_of_whole, said_of_whole}
 use Rattle.vb_sim.proofs.run.answer.Goals as goal
 

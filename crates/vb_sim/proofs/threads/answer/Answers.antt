@@ -1,7 +1,6 @@
 use Rattle.std.proofs.lemmas.Result.{on_ok_weaker}
 use Rattle.vb_script.specs.Plans.{threads_script_of}
-use Rattle.vb_sim.specs.Ends.{IsWithinBound}
-use Rattle.vb_sim.specs.Threads.{PrintsReport}
+use Rattle.vb_sim.{specs.Ends.IsWithinBound, specs.Threads.PrintsReport}
 use Rattle.vb_sim.proofs.Reading.{fault_of_whole, said_of_whole}
 use Rattle.vb_sim.proofs.threads.answer.Goals as goal
 

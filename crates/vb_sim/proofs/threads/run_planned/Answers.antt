@@ -1,8 +1,7 @@
 use Rattle.std.proofs.Common.{rules, ◌≡◌, Err, ◌∙◌, sym, Result, MatchResult, subst, ap, map, List}
 use Rattle.std.proofs.Common.{Bool}
 use Rattle.vb_run.specs.Reports.{IsReport}
-use Rattle.vb_script.specs.declared.script.ThreadsGuest.{ThreadsGuest}
-use Rattle.vb_script.specs.Lines.{is_paced}
+use Rattle.vb_script.{specs.declared.script.ThreadsGuest.ThreadsGuest, specs.Lines.is_paced}
 use Rattle.vb_script.specs.Plans.{planned_by}
 use Rattle.vb_sim.specs.Threads.{AreWithin}
 use Rattle.vb_sim.proofs.Planning.{fault_of_plan, paces_planned, plans_alike}

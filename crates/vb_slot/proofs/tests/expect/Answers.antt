@@ -1,8 +1,7 @@
 use Rattle.std.proofs.Common.{subst, refl, Bool, true, ◌≡◌}
 use denote.Param.Object.{read_made}
 use Rattle.vb_model.specs.Guest.{Guest}
-use Rattle.vb_ram.specs.Pages.{Pages}
-use Rattle.vb_ram.specs.Part.{Part}
+use Rattle.vb_ram.{specs.Pages.Pages, specs.Part.Part}
 use Rattle.vb_driver.specs.State.{DriverState}
 use Rattle.vb_guest.specs.Stands.{Stands}
 use Rattle.vb_slot.proofs.tests.expect.OwnLists.{own-1, at-1-1}

@@ -1,5 +1,4 @@
-use Rattle.vb_status.specs.Agreement.{unplugged}
-use Rattle.vb_status.proofs.Accepted.{requests_keep, at_first}
+use Rattle.vb_status.{specs.Agreement.unplugged, proofs.Accepted.{requests_keep, at_first}}
 use Rattle.vb_status.proofs.laws.features_ok_has_its_feature.Goals as goal
 
 pub returns : goal.returns

@@ -1,6 +1,5 @@
 use Rattle.std.proofs.Common.{List, ℕ, ap, subst, sym, ◌∙◌, arith}
-use Rattle.vb_bits.specs.Words.{flags_of, AreWordsOf}
-use Rattle.vb_bits.proofs.Words.{cleared, cleared_flags}
+use Rattle.vb_bits.{specs.Words.{flags_of, AreWordsOf}, proofs.Words.{cleared, cleared_flags}}
 use Rattle.vb_bits.proofs.level.Level.new.Goals as goal
 
 pub invariant_of-result : goal.invariant_of-result

@@ -1,6 +1,5 @@
 use Rattle.std.proofs.Common.{◌≡◌, List, Bool, true, length, arith, ap, sym, ◌∙◌}
-use Rattle.std.specs.Prelude.{count_by}
-use Rattle.std.proofs.lemmas.List.{length-replicate}
+use Rattle.std.{specs.Prelude.count_by, proofs.lemmas.List.length-replicate}
 use Rattle.vb_bits.proofs.Levels.{full_levels, count_full}
 use Rattle.vb_bits.proofs.set.BitSet.fill.Goals as goal
 

@@ -1,6 +1,5 @@
 use Rattle.std.proofs.Common.{◌*◌, ◌≤◌, ℕ, List, Bool, Option, length, arith, subst}
-use Rattle.vb_bits.specs.Levels.{HasSummary, IsSummed}
-use Rattle.vb_bits.specs.Sets.{IsFirstFrom, IsNextInWord}
+use Rattle.vb_bits.{specs.Levels.{HasSummary, IsSummed}, specs.Sets.{IsFirstFrom, IsNextInWord}}
 use Rattle.vb_bits.proofs.Levels.{first_within, single_word}
 use Rattle.vb_bits.proofs.set.BitSet.first.Goals as goal
 

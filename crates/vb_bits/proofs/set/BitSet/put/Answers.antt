@@ -1,6 +1,5 @@
 use Rattle.std.proofs.Common.{◌≡◌, ◌<◌, ◌/◌, Bool, List, length, set, arith, ap, ◌∙◌}
-use Rattle.std.specs.Prelude.{count_by}
-use Rattle.std.proofs.lemmas.List.{length-set}
+use Rattle.std.{specs.Prelude.count_by, proofs.lemmas.List.length-set}
 use Rattle.vb_bits.proofs.Levels.{put_levels, put_count, weight, weight_is}
 use Rattle.vb_bits.proofs.set.BitSet.put.Goals as goal
 

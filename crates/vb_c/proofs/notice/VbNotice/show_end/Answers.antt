@@ -1,9 +1,7 @@
 use Rattle.std.proofs.Common.{rules, ◌≡◌, ◌∙◌, ap, ℕ, Bool, Option, Some}
 use Rattle.vb_core.specs.declared.device.Denial.{Denial}
 use Rattle.vb_monitor.specs.declared.step.Phase.TheVariants.{Ended}
-use Rattle.vb_c.specs.Codes.{why_of}
-use Rattle.vb_c.specs.Notices.{says_yes, end_code}
-use Rattle.vb_c.proofs.ShowLemmas.{end_back}
+use Rattle.vb_c.{specs.Codes.why_of, specs.Notices.{says_yes, end_code}, proofs.ShowLemmas.end_back}
 use Rattle.vb_c.proofs.notice.VbNotice.show_end.Goals as goal
 
 pub returns-clause-phase : goal.returns-clause-phase

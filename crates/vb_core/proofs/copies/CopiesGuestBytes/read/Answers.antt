@@ -1,6 +1,5 @@
 use Rattle.std.proofs.Common.{◌+◌, ◌∙◌, sym, rules}
-use Rattle.vb_core.specs.Copies.{kept_pages}
-use Rattle.vb_core.proofs.CopyLemmas.{copied_byte_of}
+use Rattle.vb_core.{specs.Copies.kept_pages, proofs.CopyLemmas.copied_byte_of}
 use Rattle.vb_core.proofs.copies.CopiesGuestBytes.read.Goals as goal
 
 pub returns-clause-bytes : goal.returns-clause-bytes

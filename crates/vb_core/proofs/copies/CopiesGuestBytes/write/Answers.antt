@@ -1,5 +1,4 @@
-use Rattle.std.proofs.Common.{◌≡◌, Option, ℕ, Some, None, IsSome, sym}
-use Rattle.std.proofs.Common.{◌∙◌, subst}
+use Rattle.std.proofs.Common.{◌≡◌, Option, ℕ, Some, None, IsSome, sym, ◌∙◌, subst}
 use Rattle.vb_ram.specs.Pages.{frame_at}
 use Rattle.vb_core.specs.Copies.{copy_number, copied, kept_pages}
 use Rattle.vb_core.proofs.CopyLemmas.{copied_frame, bare_page, put_wrote}

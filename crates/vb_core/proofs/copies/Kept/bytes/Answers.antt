@@ -1,6 +1,5 @@
 use Rattle.std.proofs.Common.{◌≡◌, ap, arith}
-use Rattle.vb_core.specs.Copies.{kept_pages}
-use Rattle.vb_core.proofs.CopyLemmas.{lent_table, lent_avail}
+use Rattle.vb_core.{specs.Copies.kept_pages, proofs.CopyLemmas.{lent_table, lent_avail}}
 use Rattle.vb_core.proofs.copies.Kept.bytes.Goals as goal
 
 pub returns-then-page-eq0 : goal.returns-then-page-eq0

@@ -1,10 +1,7 @@
 use Rattle.std.proofs.Common.{◌≡◌, None, length, sym, subst, rules}
 use Rattle.vb_ring.specs.Layout.{IsSize}
-use Rattle.vb_core.specs.declared.ring.Ring.{Ring}
-use Rattle.vb_core.specs.Devices.{ring_of}
-use Rattle.vb_core.specs.Next.{next_denial}
-use Rattle.vb_core.proofs.RingLemmas.{placed_size}
-use Rattle.vb_core.proofs.NextLemmas.{open_next, copies_fit}
+use Rattle.vb_core.{specs.declared.ring.Ring.Ring, specs.Devices.ring_of, specs.Next.next_denial}
+use Rattle.vb_core.{proofs.RingLemmas.placed_size, proofs.NextLemmas.{open_next, copies_fit}}
 use Rattle.vb_core.proofs.device.Device.next.Goals as goal
 
 pub next_chain-requires-clause-size : goal.next_chain-requires-clause-size

@@ -1,11 +1,8 @@
 use Rattle.std.proofs.Common.{◌≡◌, None, length, sym, subst, rules}
 use Rattle.vb_ring.specs.Layout.{IsSize}
-use Rattle.vb_core.specs.declared.ring.Ring.{Ring}
-use Rattle.vb_core.specs.declared.kinds.Kind.TheVariants.{Report}
-use Rattle.vb_core.specs.Devices.{ring_of}
-use Rattle.vb_core.specs.Report.{report_denial}
-use Rattle.vb_core.proofs.RingLemmas.{placed_size}
-use Rattle.vb_core.proofs.NextLemmas.{open_report, copies_fit}
+use Rattle.vb_core.{specs.declared.ring.Ring.Ring, specs.declared.kinds.Kind.TheVariants.Report}
+use Rattle.vb_core.{specs.Devices.ring_of, specs.Report.report_denial}
+use Rattle.vb_core.{proofs.RingLemmas.placed_size, proofs.NextLemmas.{open_report, copies_fit}}
 use Rattle.vb_core.proofs.device.Device.report.Goals as goal
 
 pub next_report-requires-clause-size : goal.next_report-requires-clause-size

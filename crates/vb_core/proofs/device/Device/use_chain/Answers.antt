@@ -1,10 +1,6 @@
-use Rattle.std.proofs.Common.{◌≡◌, None, true, sym, subst, rules}
-use Rattle.vb_core.specs.declared.ring.Ring.{Ring}
-use Rattle.vb_core.specs.Rings.{has_place}
-use Rattle.std.specs.Prelude.{nat_lt}
-use Rattle.vb_core.specs.Devices.{ring_of}
-use Rattle.vb_core.specs.Using.{use_denial}
-use Rattle.vb_core.proofs.DenialLemmas.{open_call}
+use Rattle.std.{proofs.Common.{◌≡◌, None, true, sym, subst, rules}, specs.Prelude.nat_lt}
+use Rattle.vb_core.{specs.declared.ring.Ring.Ring, specs.Rings.has_place, specs.Devices.ring_of}
+use Rattle.vb_core.{specs.Using.use_denial, proofs.DenialLemmas.open_call}
 use Rattle.vb_core.proofs.device.Device.use_chain.Goals as goal
 
 pub add_used-entry-requires : goal.add_used-entry-requires

@@ -1,12 +1,9 @@
 use Rattle.std.proofs.Common.{◌≡◌, ◌∙◌, ℕ, List, Bool, Option, Some, None, Ok, sym, ap, subst, refl}
 use Rattle.std.specs.Prelude.{length, IsSome}
 use Rattle.vb_model.specs.Requests.{Request}
-use Rattle.vb_device.specs.State.{DeviceState}
-use Rattle.vb_device.specs.Base.{with_pace}
-use Rattle.vb_device.specs.BaseCalls.{TakesOut, SettlesBy}
+use Rattle.vb_device.{specs.State.DeviceState, specs.Base.with_pace, proofs.Marks.after-length}
+use Rattle.vb_device.{specs.BaseCalls.{TakesOut, SettlesBy}, proofs.Ballooning.{over, settles_ok}}
 use Rattle.vb_device.specs.Conditions.{finish_refusal, taken_at}
-use Rattle.vb_device.proofs.Marks.{after-length}
-use Rattle.vb_device.proofs.Ballooning.{over, settles_ok}
 use Rattle.vb_device.proofs.balloon.BalloonDevice.settle.Goals as goal
 
 -- the request that is there

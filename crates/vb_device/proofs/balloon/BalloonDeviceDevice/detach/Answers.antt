@@ -1,6 +1,5 @@
 use Rattle.std.proofs.Common.{subst}
-use Rattle.vb_device.specs.State.{DeviceState}
-use Rattle.vb_device.specs.Calls.{DetachesBy}
+use Rattle.vb_device.{specs.State.DeviceState, specs.Calls.DetachesBy}
 use Rattle.vb_device.proofs.Ballooning.{over, detaches_over}
 use Rattle.vb_device.proofs.balloon.BalloonDeviceDevice.detach.Goals as goal
 

@@ -1,7 +1,5 @@
 use Rattle.std.proofs.Common.{◌≡◌, Ok, Err, sym, refl, subst, rules}
-use Rattle.vb_device.specs.State.{DeviceState}
-use Rattle.vb_device.specs.BaseCalls.{SettlesBy}
-use Rattle.vb_device.specs.Calls.{FinishesBy}
+use Rattle.vb_device.{specs.State.DeviceState, specs.BaseCalls.SettlesBy, specs.Calls.FinishesBy}
 use Rattle.vb_device.proofs.Ballooning.{over, finishes_err, finishes_ok}
 use Rattle.vb_device.proofs.balloon.BalloonDeviceDevice.finish.Goals as goal
 

@@ -1,6 +1,5 @@
 use Rattle.std.proofs.Common.{subst}
-use Rattle.vb_device.specs.State.{DeviceState}
-use Rattle.vb_device.specs.Calls.{TakesBy}
+use Rattle.vb_device.{specs.State.DeviceState, specs.Calls.TakesBy}
 use Rattle.vb_device.proofs.Ballooning.{over, takes_over}
 use Rattle.vb_device.proofs.balloon.BalloonDeviceDevice.take.Goals as goal
 

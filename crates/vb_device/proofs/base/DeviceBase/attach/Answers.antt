@@ -1,17 +1,12 @@
 use Rattle.std.proofs.Common.{◌≡◌, ◌∙◌, ◌≤◌, None, false, ap, sym, subst, arith, rules}
-use Rattle.std.proofs.lemmas.List.{length-replicate}
-use Rattle.vb_model.specs.Status.{contains, driver_ok}
-use Rattle.vb_ram.specs.Pages.{Pages}
-use Rattle.vb_ram.specs.Part.{Part}
-use Rattle.vb_device.specs.State.{DeviceState}
-use Rattle.std.specs.Prelude.{length, IsTrue}
+use Rattle.std.{proofs.lemmas.List.length-replicate, specs.Prelude.{length, IsTrue}}
 use Rattle.std.specs.Int.{is_power_of_two}
-use Rattle.vb_ram.proofs.Limits.{config_limits}
-use Rattle.vb_status.specs.Bits.{status_bits}
+use Rattle.vb_model.specs.Status.{contains, driver_ok}
+use Rattle.vb_ram.{specs.Pages.Pages, specs.Part.Part, proofs.Limits.config_limits}
 use Rattle.vb_ram.specs.declared.shape.Shape.{Shape}
-use Rattle.vb_device.specs.Base.{new_queues}
-use Rattle.vb_device.proofs.FourQueues.{base_new}
+use Rattle.vb_device.{specs.State.DeviceState, specs.Base.new_queues, proofs.FourQueues.base_new}
 use Rattle.vb_device.proofs.Sizes.{size_is_power, size_is}
+use Rattle.vb_status.specs.Bits.{status_bits}
 use Rattle.vb_device.proofs.base.DeviceBase.attach.Goals as goal
 
 pub place_queues-requires : goal.place_queues-requires

@@ -1,9 +1,7 @@
 use Rattle.std.proofs.Common.{◌∙◌, refl, ap, sym}
 use Rattle.vb_model.specs.Device.{next_page}
-use Rattle.vb_device.specs.QueueState.{QueueState}
-use Rattle.vb_device.specs.Base.{queue_at}
-use Rattle.vb_device.proofs.FourQueues.{entry_is, last_entry}
-use Rattle.vb_device.proofs.Finishes.{visits_attached, visits_some}
+use Rattle.vb_device.{proofs.Finishes.{visits_attached, visits_some}, specs.QueueState.QueueState}
+use Rattle.vb_device.{proofs.FourQueues.{entry_is, last_entry}, specs.Base.queue_at}
 use Rattle.vb_device.proofs.base.DeviceBase.count_visit.Goals as goal
 
 pub returns-in-Some-clause-attached : goal.returns-in-Some-clause-attached

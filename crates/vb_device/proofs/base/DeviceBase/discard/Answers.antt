@@ -1,10 +1,7 @@
-use Rattle.std.proofs.Common.{◌<◌, ◌∷◌, [], ◌∙◌, ap, arith, refl, rules}
-use Rattle.std.specs.Prelude.{length}
+use Rattle.std.{proofs.Common.{◌<◌, ◌∷◌, [], ◌∙◌, ap, arith, refl, rules}, specs.Prelude.length}
 use Rattle.vb_status.specs.Bits.{status_bits}
-use Rattle.vb_device.specs.State.{DeviceState}
-use Rattle.vb_device.specs.Discards.{discarded}
+use Rattle.vb_device.{specs.State.DeviceState, specs.Discards.discarded, proofs.Finishes.base_same}
 use Rattle.vb_device.proofs.Discards.{discard_more, discarded_none}
-use Rattle.vb_device.proofs.Finishes.{base_same}
 use Rattle.vb_device.proofs.base.DeviceBase.discard.Goals as goal
 
 pub invariant_of-self : goal.invariant_of-self

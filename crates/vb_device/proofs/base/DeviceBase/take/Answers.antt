@@ -1,19 +1,13 @@
 use Rattle.std.proofs.Common.{ℕ, ◌≡◌, get_or, true, None, sym, ◌∙◌, ap, subst, rules}
-use Rattle.std.specs.Prelude.{vec_capacity}
-use Rattle.std.proofs.Math.ListN.{set}
-use Rattle.vb_model.specs.declared.replies.LastStatistics.{LastStatistics}
-use Rattle.vb_model.specs.Tables.{has_chains}
+use Rattle.std.{specs.Prelude.vec_capacity, proofs.Math.ListN.set}
+use Rattle.vb_model.{specs.declared.replies.LastStatistics.LastStatistics, specs.Tables.has_chains}
 use Rattle.vb_status.specs.Bits.{status_bits, feature_bits}
 use Rattle.vb_request.specs.declared.statistics.Statistics.{Statistics}
-use Rattle.vb_device.specs.State.{DeviceState}
-use Rattle.vb_device.specs.QueueState.{QueueState, TakesNext}
-use Rattle.vb_device.specs.Base.{queue_at, index_of, base_part, IsBase}
 use Rattle.vb_request.specs.Refusals.{take_refusal_by}
-use Rattle.vb_device.specs.Calls.{TakesBy}
-use Rattle.vb_device.proofs.FourQueues.{entry_is}
-use Rattle.vb_device.proofs.FromNext.{keeps_ring}
 use Rattle.vb_device.proofs.TakesBy.{takes_refused, takes_at, base_kept, take_known, take_ready}
-use Rattle.vb_device.proofs.TakesBy.{status_ok}
+use Rattle.vb_device.{specs.Base.{queue_at, index_of, base_part, IsBase}, proofs.TakesBy.status_ok}
+use Rattle.vb_device.{specs.QueueState.{QueueState, TakesNext}, proofs.FourQueues.entry_is}
+use Rattle.vb_device.{proofs.FromNext.keeps_ring, specs.State.DeviceState, specs.Calls.TakesBy}
 use Rattle.vb_device.proofs.base.DeviceBase.take.Goals as goal
 
 abbrev was : Statistics → LastStatistics

@@ -1,21 +1,14 @@
 use Rattle.std.proofs.Common.{ℕ, ◌≡◌, ◌<◌, ◌∙◌, [], None, true, get_or, ap, sym, subst, refl, arith}
-use Rattle.std.proofs.Common.{rules}
-use Rattle.std.proofs.Math.ListN.{set}
-use Rattle.vb_model.specs.declared.replies.LastStatistics.{LastStatistics}
+use Rattle.std.{proofs.Common.rules, proofs.Math.ListN.set}
+use Rattle.vb_model.{specs.declared.replies.LastStatistics.LastStatistics, specs.Layout.ring_page}
 use Rattle.vb_model.specs.Status.{contains, driver_ok}
-use Rattle.vb_model.specs.Layout.{ring_page}
 use Rattle.vb_ring.specs.Layout.{IsBacked, layout_of}
-use Rattle.vb_device.specs.Queues.{queue_layout}
+use Rattle.vb_device.{specs.Queues.queue_layout, specs.State.DeviceState, specs.BaseCalls.CanUse}
+use Rattle.vb_device.{specs.QueueState.QueueState, specs.Base.{queue_at, base_part}}
+use Rattle.vb_device.{proofs.Discards.discarded_none, proofs.FourQueues.entry_is}
+use Rattle.vb_device.{proofs.TakesBy.status_ok, proofs.Finishes.can_use}
 use Rattle.vb_status.specs.Bits.{status_bits, feature_bits}
-use Rattle.vb_device.specs.State.{DeviceState}
-use Rattle.vb_device.specs.QueueState.{QueueState}
-use Rattle.vb_device.specs.Base.{queue_at, base_part}
-use Rattle.vb_device.specs.BaseCalls.{CanUse}
 use Rattle.vb_request.specs.Refusals.{readiness_refusal}
-use Rattle.vb_device.proofs.Discards.{discarded_none}
-use Rattle.vb_device.proofs.FourQueues.{entry_is}
-use Rattle.vb_device.proofs.TakesBy.{status_ok}
-use Rattle.vb_device.proofs.Finishes.{can_use}
 use Rattle.vb_device.proofs.base.DeviceBase.take_buffer.Goals as goal
 
 pub returns-clause-ready : goal.returns-clause-ready

@@ -1,25 +1,17 @@
 use Rattle.std.proofs.Common.{◌≡◌, ◌∙◌, ℕ, List, Some, get_or, true, sym, ap, subst}
-use Rattle.std.specs.Prelude.{length, slice_get, vec_capacity}
-use Rattle.std.proofs.Math.ListN.{set}
+use Rattle.std.{specs.Prelude.{length, slice_get, vec_capacity}, proofs.Math.ListN.set}
 use Rattle.std.proofs.lemmas.Option.{slice_get_within}
-use Rattle.vb_model.specs.declared.replies.LastStatistics.{LastStatistics}
-use Rattle.vb_model.specs.Layout.{ring_page}
-use Rattle.vb_model.specs.Status.{contains, driver_ok}
-use Rattle.vb_model.specs.Tables.{has_chains}
-use Rattle.vb_ram.specs.Pages.{Pages}
-use Rattle.vb_ram.specs.Part.{QueuePart}
+use Rattle.vb_model.{specs.declared.replies.LastStatistics.LastStatistics, specs.Layout.ring_page}
+use Rattle.vb_model.{specs.Status.{contains, driver_ok}, specs.Tables.has_chains}
+use Rattle.vb_ram.{specs.Pages.Pages, specs.Part.QueuePart}
 use Rattle.vb_ring.specs.Layout.{IsBacked, layout_of}
 use Rattle.vb_status.specs.Bits.{status_bits, feature_bits}
-use Rattle.vb_device.specs.Queues.{queue_layout}
-use Rattle.vb_device.specs.State.{DeviceState}
-use Rattle.vb_device.specs.QueueState.{QueueState, IsTaken}
-use Rattle.vb_device.specs.Base.{queue_at, base_part, with_pace, IsBase}
-use Rattle.vb_device.specs.BaseCalls.{CanUse}
-use Rattle.vb_device.specs.Conditions.{finish_refusal, taken_at}
+use Rattle.vb_device.proofs.Finishes.{request_there, without_taken, base_used, has_pages, can_use}
+use Rattle.vb_device.{proofs.TakesBy.{queue_known, queue_status, status_ok}, specs.BaseCalls.CanUse}
+use Rattle.vb_device.{specs.Base.{queue_at, base_part, with_pace, IsBase}, specs.State.DeviceState}
+use Rattle.vb_device.{specs.Conditions.{finish_refusal, taken_at}, proofs.Finishes.kept_length}
+use Rattle.vb_device.{specs.QueueState.{QueueState, IsTaken}, specs.Queues.queue_layout}
 use Rattle.vb_device.proofs.FourQueues.{entry_is, part_get}
-use Rattle.vb_device.proofs.TakesBy.{queue_known, queue_status, status_ok}
-use Rattle.vb_device.proofs.Finishes.{request_there, without_taken}
-use Rattle.vb_device.proofs.Finishes.{base_used, has_pages, can_use, kept_length}
 use Rattle.vb_device.proofs.base.DeviceBase.take_out.Goals as goal
 
 pub take_out-requires-clause-inside : goal.take_out-requires-clause-inside

@@ -1,15 +1,11 @@
-use Rattle.std.proofs.Common.{ℕ, ◌≡◌, get_or, ◌∙◌, ap, sym, subst, true}
+use Rattle.std.{proofs.Common.{ℕ, ◌≡◌, get_or, ◌∙◌, ap, sym, subst, true}, proofs.Math.ListN.set}
 use Rattle.vb_model.specs.declared.replies.LastStatistics.{LastStatistics}
-use Rattle.std.proofs.Math.ListN.{set}
 use Rattle.vb_model.specs.Status.{contains, driver_ok}
 use Rattle.vb_status.specs.Bits.{status_bits, feature_bits}
 use Rattle.vb_ring.specs.Calls.{AddsUsedBy}
-use Rattle.vb_device.specs.State.{DeviceState}
-use Rattle.vb_device.specs.QueueState.{QueueState}
-use Rattle.vb_device.specs.Base.{queue_at, base_part}
-use Rattle.vb_device.specs.BaseCalls.{UsesChain}
+use Rattle.vb_device.{specs.State.DeviceState, specs.QueueState.QueueState, proofs.Finishes.used_at}
+use Rattle.vb_device.{specs.Base.{queue_at, base_part}, specs.BaseCalls.UsesChain}
 use Rattle.vb_device.proofs.FourQueues.{entry_is}
-use Rattle.vb_device.proofs.Finishes.{used_at}
 use Rattle.vb_device.proofs.base.DeviceBase.use_chain.Goals as goal
 
 pub returns : goal.returns

@@ -1,5 +1,4 @@
-use Rattle.std.proofs.Common.{◌<◌, length, arith, rules, sym}
-use Rattle.std.proofs.Math.ListN.{set, length-set}
+use Rattle.std.{proofs.Common.{◌<◌, length, arith, rules, sym}, proofs.Math.ListN.{set, length-set}}
 use Rattle.std.proofs.lemmas.List.Sums.{count_by-le-length}
 use Rattle.vb_device.proofs.Marks.{count_set, count_has}
 use Rattle.vb_device.proofs.flags.PageFlags.set.Goals as goal

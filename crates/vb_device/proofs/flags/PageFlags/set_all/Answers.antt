@@ -1,9 +1,6 @@
-use Rattle.std.proofs.Common.{◌≡◌, ◌<◌, ◌∙◌, ℕ, List, ap, arith, get_or}
-use Rattle.std.specs.Prelude.{length}
-use Rattle.std.proofs.lemmas.List.{take_all}
-use Rattle.std.proofs.lemmas.Option.{get_or_from_slice_get}
-use Rattle.vb_device.specs.Discards.{flagged}
-use Rattle.vb_device.proofs.Marks.{flagged_none, flag_more}
+use Rattle.std.{proofs.Common.{◌≡◌, ◌<◌, ◌∙◌, ℕ, List, ap, arith, get_or}, specs.Prelude.length}
+use Rattle.std.{proofs.lemmas.List.take_all, proofs.lemmas.Option.get_or_from_slice_get}
+use Rattle.vb_device.{specs.Discards.flagged, proofs.Marks.{flagged_none, flag_more}}
 use Rattle.vb_device.proofs.flags.PageFlags.set_all.Goals as goal
 
 pub loop-k-init : goal.loop-k-init

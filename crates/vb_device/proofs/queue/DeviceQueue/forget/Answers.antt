@@ -1,5 +1,4 @@
-use Rattle.std.proofs.Common.{suc, List, take, drop, sym, subst}
-use Rattle.std.specs.Prelude.{All}
+use Rattle.std.{proofs.Common.{suc, List, take, drop, sym, subst}, specs.Prelude.All}
 use Rattle.std.proofs.lemmas.List.Elements.{All-append, All-take, All-drop}
 use Rattle.vb_model.specs.Requests.{Request}
 use Rattle.vb_device.specs.QueueState.{IsTaken}

@@ -1,26 +1,19 @@
-use Rattle.std.proofs.Common.{◌≡◌, true, false, rules, ◌∙◌, ◌+◌, ◌*◌, ◌≤◌, ℕ, List, ◌∷◌, []}
-use Rattle.std.proofs.Common.{Option, Some, None, Result, Ok, Err, sym, ap, subst}
-use Rattle.std.specs.Prelude.{All, length}
-use Rattle.std.proofs.lemmas.List.Elements.{All-append}
-use Rattle.vb_model.specs.Requests.{Request}
-use Rattle.vb_ram.specs.Pages.{Pages}
-use Rattle.vb_chain.specs.declared.fault.ChainFault.{ChainFault}
-use Rattle.vb_chain.specs.declared.pieces.Piece.{Piece}
-use Rattle.vb_chain.specs.Table.{descriptor_at}
-use Rattle.vb_ring.specs.declared.device.Taken.{Taken}
-use Rattle.vb_ring.specs.Calls.{PopsBy, popped}
-use Rattle.vb_request.specs.Asked.{request_of, noted}
-use Rattle.vb_model.specs.declared.replies.LastStatistics.{LastStatistics}
-use Rattle.vb_device.specs.QueueState.{QueueState, IsTaken, is_full, TakesNext}
-use Rattle.vb_model.specs.Layout.{reserved_pages}
-use Rattle.vb_device.proofs.FromNext.{next_busy, next_idle}
-use Rattle.vb_model.specs.declared.replies.Refusal.{Refusal}
+use Rattle.std.proofs.Common.{◌≡◌, true, false, rules, ◌∙◌, ◌+◌, ◌*◌, ◌≤◌, ℕ, List, ◌∷◌, [], Option}
+use Rattle.std.proofs.Common.{Some, None, Result, Ok, Err, sym, ap, subst}
+use Rattle.std.{specs.Prelude.{All, length}, proofs.lemmas.List.Elements.All-append}
+use Rattle.vb_model.{specs.Requests.Request, specs.declared.replies.LastStatistics.LastStatistics}
+use Rattle.vb_model.{specs.Layout.reserved_pages, specs.declared.replies.Refusal.Refusal}
 use Rattle.vb_model.specs.declared.replies.Refusal.TheVariants.{Broken}
-use Rattle.vb_request.specs.Refusals.{rule_of}
-use Rattle.vb_request.proofs.Chains.{chain_fits}
-use Rattle.vb_device.proofs.Takes.{next_none, next_err, next_wrong, next_right, one_all}
+use Rattle.vb_ram.specs.Pages.{Pages}
+use Rattle.vb_chain.{specs.declared.fault.ChainFault.ChainFault, specs.declared.pieces.Piece.Piece}
+use Rattle.vb_chain.specs.Table.{descriptor_at}
+use Rattle.vb_ring.{specs.declared.device.Taken.Taken, specs.Calls.{PopsBy, popped}}
 use Rattle.vb_ring.specs.Ends.{DeviceEnd}
-use Rattle.vb_request.specs.declared.statistics.Statistics.{Statistics}
+use Rattle.vb_request.{specs.Asked.{request_of, noted}, specs.Refusals.rule_of}
+use Rattle.vb_request.{proofs.Chains.chain_fits, specs.declared.statistics.Statistics.Statistics}
+use Rattle.vb_device.specs.QueueState.{QueueState, IsTaken, is_full, TakesNext}
+use Rattle.vb_device.proofs.FromNext.{next_busy, next_idle}
+use Rattle.vb_device.proofs.Takes.{next_none, next_err, next_wrong, next_right, one_all}
 use Rattle.vb_device.proofs.queue.DeviceQueue.take.Goals as goal
 
 -- what the device knows of its guest's memory

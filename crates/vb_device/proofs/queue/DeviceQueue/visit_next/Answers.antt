@@ -1,8 +1,6 @@
-use Rattle.std.proofs.Common.{List, sym, subst}
-use Rattle.std.specs.Prelude.{All}
+use Rattle.std.{proofs.Common.{List, sym, subst}, specs.Prelude.All}
 use Rattle.vb_model.specs.Requests.{Request}
-use Rattle.vb_device.specs.QueueState.{IsTaken}
-use Rattle.vb_device.proofs.Visits.{visiting_still}
+use Rattle.vb_device.{specs.QueueState.IsTaken, proofs.Visits.visiting_still}
 use Rattle.vb_device.proofs.queue.DeviceQueue.visit_next.Goals as goal
 
 pub invariant_of-self : goal.invariant_of-self

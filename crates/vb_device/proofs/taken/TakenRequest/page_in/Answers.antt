@@ -1,5 +1,4 @@
-use Rattle.std.proofs.Common.{◌∙◌, ◌-◌, ℕ, ap, arith}
-use Rattle.std.specs.Prelude.{slice_get}
+use Rattle.std.{proofs.Common.{◌∙◌, ◌-◌, ℕ, ap, arith}, specs.Prelude.slice_get}
 use Rattle.vb_device.proofs.taken.TakenRequest.page_in.Goals as goal
 
 pub returns-then-k-run-clause-page : goal.returns-then-k-run-clause-page

@@ -1,11 +1,7 @@
 use Rattle.std.proofs.Common.{◌≡◌, ◌∙◌, ◌<◌, ℕ, List, Some, None, get_or, take, sym, ap, arith}
-use Rattle.std.proofs.Common.{slice_get}
-use Rattle.std.proofs.Math.ListN.{set}
-use Rattle.std.proofs.Math.Seq.{take-set-lt}
-use Rattle.std.proofs.lemmas.List.{get_or-take, length-take}
-use Rattle.std.specs.List.{position}
-use Rattle.vb_model.specs.Requests.{Request}
-use Rattle.vb_model.specs.Device.{is_unvisited, visiting, next_page}
+use Rattle.std.{proofs.Common.slice_get, proofs.Math.ListN.set, proofs.Math.Seq.take-set-lt}
+use Rattle.std.{proofs.lemmas.List.{get_or-take, length-take}, specs.List.position}
+use Rattle.vb_model.{specs.Requests.Request, specs.Device.{is_unvisited, visiting, next_page}}
 use Rattle.vb_device.proofs.Visits.{once_more, visits_at, visits_none}
 use Rattle.vb_device.proofs.taken_list.TakenList.visit_next.Goals as goal
 

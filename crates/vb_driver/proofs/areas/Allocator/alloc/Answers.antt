@@ -1,15 +1,12 @@
 use Rattle.std.proofs.Common.{◌≡◌, ◌∙◌, sym, subst, ap, ℕ, false, Err, IfOk, OnErr, IsTrue, Result}
 use Rattle.std.proofs.Common.{nat_le, nat_lt, not, ◌∷◌, []}
-use Rattle.vb_model.specs.Pages.{pages_of}
-use Rattle.vb_model.specs.Driver.{with_block}
-use Rattle.vb_model.specs.Refusals.{first_refusal, ◌⇒◌}
-use Rattle.vb_model.specs.declared.replies.Refusal.{Refusal}
+use Rattle.vb_model.{specs.Pages.pages_of, specs.Driver.with_block}
+use Rattle.vb_model.{specs.Refusals.{first_refusal, ◌⇒◌}, specs.declared.replies.Refusal.Refusal}
 use Rattle.vb_model.specs.declared.replies.Refusal.TheVariants.{BadOrder, BadCpu, NoPages}
 use Rattle.vb_pages.specs.PageState.{PageState, cpu_count}
-use Rattle.vb_driver.specs.Answers.{refusal_in, block_at}
-use Rattle.vb_driver.specs.Areas.{Becomes, Allots, flags_of, has_block, is_free_block}
-use Rattle.vb_driver.specs.Places.{marked}
 use Rattle.vb_driver.proofs.Allocating.{answered, IsServed, alloc_refusal, alloc_refused}
+use Rattle.vb_driver.{specs.Answers.{refusal_in, block_at}, specs.Places.marked}
+use Rattle.vb_driver.specs.Areas.{Becomes, Allots, flags_of, has_block, is_free_block}
 use Rattle.vb_driver.proofs.Allocating.{alloc_free, alloc_state, alloc_allots}
 use Rattle.vb_driver.proofs.areas.Allocator.alloc.Goals.{in-Ok, in-Err}
 use Rattle.vb_driver.proofs.areas.Allocator.alloc.Goals as goal

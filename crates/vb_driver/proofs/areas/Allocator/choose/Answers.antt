@@ -1,11 +1,9 @@
 use Rattle.std.proofs.Common.{◌≡◌, ◌∙◌, subst, ℕ, List, true, false, map}
-use Rattle.vb_model.specs.Tests.{is_in}
+use Rattle.vb_model.{specs.Tests.is_in, specs.declared.places.Place.Place}
 use Rattle.vb_model.specs.Pages.{pages_of_all, is_free, reported, maximal_free_blocks}
-use Rattle.vb_model.specs.declared.places.Place.{Place}
 use Rattle.vb_pages.specs.PageState.{PageState}
 use Rattle.vb_report.specs.Blocks.{blocks_of}
-use Rattle.vb_driver.specs.Areas.{Becomes, flags_of, is_free_at}
-use Rattle.vb_driver.specs.Places.{marked}
+use Rattle.vb_driver.{specs.Areas.{Becomes, flags_of, is_free_at}, specs.Places.marked}
 use Rattle.vb_driver.proofs.Flags.{free_flag}
 use Rattle.vb_driver.proofs.ReportAreas.{chosen_places, chosen_blocks, chosen_state}
 use Rattle.vb_driver.proofs.areas.Allocator.choose.Goals as goal

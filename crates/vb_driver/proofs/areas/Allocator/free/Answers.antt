@@ -1,11 +1,8 @@
 use Rattle.std.proofs.Common.{◌≡◌, ◌∙◌, sym, subst, ap, true, Err, OnOk, Result}
-use Rattle.vb_model.specs.Pages.{pages_of}
-use Rattle.vb_model.specs.Driver.{without_block}
+use Rattle.vb_model.{specs.Pages.pages_of, specs.Driver.without_block}
 use Rattle.vb_model.specs.declared.replies.Refusal.{Refusal}
 use Rattle.vb_pages.specs.PageState.{PageState}
-use Rattle.vb_driver.specs.Answers.{block_at}
-use Rattle.vb_driver.specs.Areas.{Becomes, flags_of}
-use Rattle.vb_driver.specs.Places.{marked}
+use Rattle.vb_driver.{specs.Answers.block_at, specs.Areas.{Becomes, flags_of}, specs.Places.marked}
 use Rattle.vb_driver.proofs.Allocating.{answered, free_state, areas_apart}
 use Rattle.vb_driver.proofs.areas.Allocator.free.Goals.{in-Ok, in-Err}
 use Rattle.vb_driver.proofs.areas.Allocator.free.Goals as goal

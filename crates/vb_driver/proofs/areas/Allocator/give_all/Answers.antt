@@ -1,9 +1,7 @@
 use Rattle.std.proofs.Common.{◌∙◌, sym, ap, arith, refl, ℕ, List, Bool, true, false, cond, length}
-use Rattle.std.proofs.Common.{set, take, get_or}
-use Rattle.std.proofs.lemmas.List.{take_more}
+use Rattle.std.{proofs.Common.{set, take, get_or}, proofs.lemmas.List.take_more}
 use Rattle.vb_model.specs.Pages.{Block}
-use Rattle.vb_pages.specs.Areas.{block_at}
-use Rattle.vb_pages.specs.PageState.{with_free_block}
+use Rattle.vb_pages.{specs.Areas.block_at, specs.PageState.with_free_block}
 use Rattle.vb_driver.specs.Areas.{flags_of, is_free_at, is_covered, all_given}
 use Rattle.vb_driver.specs.Places.{marked}
 use Rattle.vb_driver.proofs.Placing.{is_in-at, length-marked, marked-get, marked_more, marked_none}

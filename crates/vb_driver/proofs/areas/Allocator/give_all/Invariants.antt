@@ -1,6 +1,5 @@
 use Rattle.std.proofs.Common.{◌≡◌, true, take}
-use Rattle.vb_driver.specs.Areas.{Becomes, flags_of, all_given}
-use Rattle.vb_driver.specs.Places.{marked}
+use Rattle.vb_driver.{specs.Areas.{Becomes, flags_of, all_given}, specs.Places.marked}
 use Rattle.vb_driver.proofs.areas.Allocator.give_all.Given as goal
 
 abbrev pub invariant-loop-page : goal.invariant-loop-page

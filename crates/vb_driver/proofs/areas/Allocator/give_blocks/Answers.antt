@@ -1,10 +1,8 @@
 use Rattle.std.proofs.Common.{◌≡◌, ◌<◌, ◌≤◌, sym, subst, ℕ, true, false, length}
-use Rattle.vb_model.specs.Tests.{is_in}
-use Rattle.vb_model.specs.Pages.{pages_of_all}
+use Rattle.vb_model.{specs.Tests.is_in, specs.Pages.pages_of_all}
 use Rattle.vb_pages.specs.PageState.{PageState, reserved_count}
 use Rattle.vb_report.specs.Blocks.{blocks_of}
-use Rattle.vb_driver.specs.Areas.{Becomes, flags_of, is_free_at, is_covered}
-use Rattle.vb_driver.specs.Places.{marked}
+use Rattle.vb_driver.{specs.Areas.{Becomes, flags_of, is_free_at, is_covered}, specs.Places.marked}
 use Rattle.vb_driver.proofs.ReportAreas.{have_room, given_blocks}
 use Rattle.vb_driver.proofs.areas.Allocator.give_blocks.Goals as goal
 

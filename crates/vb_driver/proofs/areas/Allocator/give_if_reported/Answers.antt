@@ -1,9 +1,7 @@
 use Rattle.std.proofs.Common.{◌≡◌, ◌∙◌, sym, ap, subst, refl, Bool, true, cond, List, ◌∷◌, []}
 use Rattle.vb_pages.proofs.ListsLemmas.{with_none}
-use Rattle.vb_driver.specs.Areas.{Becomes, flags_of, areas_with}
-use Rattle.vb_driver.specs.Places.{marked}
-use Rattle.vb_driver.proofs.Placing.{marked_one, marked_none}
-use Rattle.vb_driver.proofs.Flags.{for_itself}
+use Rattle.vb_driver.{specs.Areas.{Becomes, flags_of, areas_with}, specs.Places.marked}
+use Rattle.vb_driver.{proofs.Placing.{marked_one, marked_none}, proofs.Flags.for_itself}
 use Rattle.vb_driver.proofs.areas.Allocator.give_if_reported.Goals as goal
 
 pub returns-then-is_reporting-clause-state : goal.returns-then-is_reporting-clause-state

@@ -1,16 +1,12 @@
-use Rattle.std.proofs.Common.{◌≡◌, ◌∙◌, ◌<◌, sym, ap, arith, refl, ℕ, List, Bool, true, false}
-use Rattle.std.proofs.Common.{cond, length, take, ◌+◌, ◌++◌, ◌∷◌, []}
-use Rattle.vb_model.specs.Tests.{pages_where}
-use Rattle.vb_model.specs.Pages.{Block, place_of, is_reporting}
-use Rattle.vb_model.specs.declared.places.Place.{Place}
-use Rattle.vb_model.specs.declared.places.Place.TheVariants.{Reserved}
-use Rattle.vb_pages.specs.PageState.{PageState}
-use Rattle.vb_pages.specs.Areas.{with_pages}
+use Rattle.std.proofs.Common.{◌≡◌, ◌∙◌, ◌<◌, sym, ap, arith, refl, ℕ, List, Bool, true, false, cond}
+use Rattle.std.proofs.Common.{length, take, ◌+◌, ◌++◌, ◌∷◌, []}
+use Rattle.vb_model.{specs.declared.places.Place.TheVariants.Reserved, specs.Tests.pages_where}
+use Rattle.vb_model.{specs.Pages.{Block, place_of, is_reporting}, specs.declared.places.Place.Place}
+use Rattle.vb_pages.{specs.PageState.PageState, specs.Areas.with_pages}
 use Rattle.vb_pages.proofs.ListsLemmas.{with_none, with_append_turned}
-use Rattle.vb_driver.specs.Areas.{flags_of, is_free_at, is_covered, areas_with}
-use Rattle.vb_driver.specs.Places.{marked}
 use Rattle.vb_driver.proofs.Placing.{length-marked, marked-get, marked_none, marked_append}
-use Rattle.vb_driver.proofs.Placing.{pages_more, not_in_first, none_where}
+use Rattle.vb_driver.specs.Areas.{flags_of, is_free_at, is_covered, areas_with}
+use Rattle.vb_driver.{specs.Places.marked, proofs.Placing.{pages_more, not_in_first, none_where}}
 use Rattle.vb_driver.proofs.Flags.{for_itself, for_both}
 use Rattle.vb_driver.proofs.areas.Allocator.give_reported.Goals as goal
 

@@ -1,12 +1,9 @@
-use Rattle.std.proofs.Common.{◌≤◌, sym, subst, arith, false, IsTrue}
-use Rattle.std.specs.Prelude.{count_by}
+use Rattle.std.{proofs.Common.{◌≤◌, sym, subst, arith, false, IsTrue}, specs.Prelude.count_by}
 use Rattle.std.specs.List.{list_all}
 use Rattle.vb_pages.specs.PageState.{PageState, is_free_page}
-use Rattle.vb_driver.specs.Areas.{Becomes, flags_of, is_free_at}
-use Rattle.vb_driver.specs.Places.{marked}
-use Rattle.vb_model.specs.Orderly.{times}
+use Rattle.vb_driver.{specs.Areas.{Becomes, flags_of, is_free_at}, specs.Places.marked}
 use Rattle.vb_driver.proofs.Allocating.{count_flags, taken_state, taken_free, taken_once}
-use Rattle.vb_model.proofs.Distinct.{distinct_once}
+use Rattle.vb_model.{specs.Orderly.times, proofs.Distinct.distinct_once}
 use Rattle.vb_driver.proofs.areas.Allocator.take_free.Goals as goal
 
 pub take_free-requires-clause-enough : goal.take_free-requires-clause-enough

@@ -1,14 +1,10 @@
 use Rattle.std.proofs.Common.{◌∙◌, sym, ap, subst, List, Ok, Err}
-use Rattle.vb_model.specs.Pages.{Block, pages_of, placed}
-use Rattle.vb_model.specs.declared.places.Place.{Place}
+use Rattle.vb_model.{specs.Pages.{Block, pages_of, placed}, specs.declared.places.Place.Place}
 use Rattle.vb_model.specs.declared.places.Place.TheVariants.{Used}
-use Rattle.vb_driver.specs.Answers.{block_at}
-use Rattle.vb_driver.specs.State.{DriverState, IsDriver}
-use Rattle.vb_driver.specs.Areas.{flags_of}
-use Rattle.vb_driver.specs.Calls.{AllocatesBy}
-use Rattle.vb_driver.specs.contracts.driver.Driver.{the_view}
 use Rattle.vb_driver.proofs.Owning.{whole_is, alloc_tests_same, free_block_inside, allocated_kept}
-use Rattle.vb_driver.proofs.Owning.{unallocated_kept}
+use Rattle.vb_driver.{specs.Answers.block_at, specs.State.{DriverState, IsDriver}}
+use Rattle.vb_driver.{specs.Areas.flags_of, specs.Calls.AllocatesBy, proofs.Owning.unallocated_kept}
+use Rattle.vb_driver.specs.contracts.driver.Driver.{the_view}
 use Rattle.vb_driver.proofs.driver.Driver.alloc.Goals as goal
 
 pub set_block-requires-clause-inside : goal.set_block-requires-clause-inside

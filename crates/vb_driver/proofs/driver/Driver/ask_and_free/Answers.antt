@@ -1,17 +1,11 @@
 use Rattle.std.proofs.Common.{◌≡◌, ◌≤◌, ◌∙◌, sym, ap, subst, refl, ℕ, List, true, false}
-use Rattle.vb_model.specs.Tests.{is_in}
-use Rattle.vb_model.specs.Orderly.{times}
+use Rattle.vb_model.{specs.Tests.is_in, specs.Orderly.times, specs.declared.places.Place.Place}
 use Rattle.vb_model.specs.Pages.{placed, is_lent, place_of, Block}
-use Rattle.vb_model.specs.declared.places.Place.{Place}
 use Rattle.vb_model.specs.declared.places.Place.TheVariants.{Free, Lent}
-use Rattle.vb_driver.specs.State.{DriverState, IsDriver, tells_host}
-use Rattle.vb_driver.specs.Areas.{flags_of}
-use Rattle.vb_driver.specs.Places.{marked}
-use Rattle.vb_driver.specs.Calls.{Posts, lowest_lent}
-use Rattle.vb_driver.specs.contracts.driver.Driver.{the_view}
-use Rattle.vb_driver.proofs.Counting.{at_is}
-use Rattle.vb_driver.proofs.Naming.{once_lowest}
 use Rattle.vb_driver.proofs.Moving.{lowest_is, asked_freed, place_uncovered, place_unfree}
+use Rattle.vb_driver.{specs.State.{DriverState, IsDriver, tells_host}, specs.Areas.flags_of}
+use Rattle.vb_driver.{specs.Places.marked, specs.Calls.{Posts, lowest_lent}, proofs.Counting.at_is}
+use Rattle.vb_driver.{specs.contracts.driver.Driver.the_view, proofs.Naming.once_lowest}
 use Rattle.vb_driver.proofs.Moving.{place_inside, place_unreserved}
 use Rattle.vb_driver.proofs.driver.Driver.ask_and_free.Goals as goal
 

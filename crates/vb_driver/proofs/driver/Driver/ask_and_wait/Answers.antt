@@ -1,13 +1,10 @@
 use Rattle.std.proofs.Common.{◌≡◌, ◌∙◌, sym, ap, subst, refl, ℕ, Bool, List, true}
 use Rattle.std.specs.Prelude.{if◌then◌else◌}
-use Rattle.vb_model.specs.Pages.{placed}
-use Rattle.vb_model.specs.declared.places.Place.{Place}
-use Rattle.vb_model.specs.declared.places.Place.TheVariants.{Taking}
-use Rattle.vb_model.specs.Requests.{Deflating, place_posted}
+use Rattle.vb_model.{specs.declared.places.Place.TheVariants.Taking, specs.Pages.placed}
+use Rattle.vb_model.{specs.Requests.{Deflating, place_posted}, specs.declared.places.Place.Place}
 use Rattle.vb_driver.specs.State.{RequestSide, DriverState, IsDriver, page_state, tells_host}
-use Rattle.vb_driver.specs.Areas.{all_given}
+use Rattle.vb_driver.{specs.Areas.all_given, specs.contracts.driver.Driver.the_view}
 use Rattle.vb_driver.specs.Calls.{Posts, AsksBack, lowest_lent, areas_asked}
-use Rattle.vb_driver.specs.contracts.driver.Driver.{the_view}
 use Rattle.vb_driver.proofs.Moving.{asked_kept}
 use Rattle.vb_driver.proofs.driver.Driver.ask_and_wait.Goals as goal
 

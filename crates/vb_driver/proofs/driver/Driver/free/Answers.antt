@@ -1,9 +1,7 @@
 use Rattle.std.proofs.Common.{sym, subst, List, length}
-use Rattle.vb_model.specs.Pages.{Block, pages_of, placed}
-use Rattle.vb_model.specs.declared.places.Place.{Place}
+use Rattle.vb_model.{specs.Pages.{Block, pages_of, placed}, specs.declared.places.Place.Place}
 use Rattle.vb_model.specs.declared.places.Place.TheVariants.{Free}
-use Rattle.vb_driver.specs.Answers.{block_at}
-use Rattle.vb_driver.specs.contracts.driver.Driver.{the_view}
+use Rattle.vb_driver.{specs.Answers.block_at, specs.contracts.driver.Driver.the_view}
 use Rattle.vb_driver.proofs.Owning.{freed_was_held, held_block_inside, block_freed_kept}
 use Rattle.vb_driver.specs.State.{IsDriver}
 use Rattle.vb_driver.proofs.driver.Driver.free.Goals as goal

@@ -1,8 +1,6 @@
-use Rattle.std.proofs.Common.{◌≡◌, subst, arith}
-use Rattle.std.specs.Prelude.{count_by}
+use Rattle.std.{proofs.Common.{◌≡◌, subst, arith}, specs.Prelude.count_by}
 use Rattle.vb_model.specs.Pages.{is_free, is_giving, is_lent, is_stranded}
-use Rattle.vb_driver.specs.State.{DriverState}
-use Rattle.vb_driver.specs.Answers.{inflate_count}
+use Rattle.vb_driver.{specs.State.DriverState, specs.Answers.inflate_count}
 use Rattle.vb_driver.specs.contracts.driver.Driver.{the_view}
 use Rattle.vb_driver.proofs.driver.Driver.inflate_count.Goals as goal
 

@@ -1,8 +1,7 @@
 use Rattle.std.proofs.Common.{◌≡◌, ◌∙◌, sym, ap, subst, true, IsSome}
 use Rattle.vb_model.specs.Layout.{is_start_page}
 use Rattle.vb_ram.specs.declared.shape.Shape.{Shape}
-use Rattle.vb_driver.specs.State.{DriverState}
-use Rattle.vb_driver.specs.Answers.{HaveRingFrames}
+use Rattle.vb_driver.{specs.State.DriverState, specs.Answers.HaveRingFrames}
 use Rattle.vb_driver.proofs.driver.Driver.init.Goals as goal
 
 pub zero_rings-requires-clause-backed : goal.zero_rings-requires-clause-backed

@@ -1,19 +1,14 @@
 use Rattle.std.proofs.Common.{◌≡◌, ◌∙◌, arith, sym, ap, subst, ℕ, List}
-use Rattle.vb_model.specs.declared.places.Place.{Place}
-use Rattle.vb_pages.specs.PageState.{PageState}
-use Rattle.vb_ring.specs.Layout.{IsSize}
-use Rattle.vb_ram.specs.declared.shape.Shape.{Shape}
-use Rattle.vb_ram.specs.Limits.{AreWithinLimits}
+use Rattle.vb_model.{specs.declared.places.Place.Place, specs.Layout.reserved_pages}
+use Rattle.vb_model.specs.Pages.{all_free}
+use Rattle.vb_pages.specs.PageState.{PageState, new_page_state}
+use Rattle.vb_ring.{specs.Layout.IsSize, specs.Ends.DriverEnd}
+use Rattle.vb_ram.{specs.declared.shape.Shape.Shape, specs.Limits.AreWithinLimits}
 use Rattle.vb_ram.proofs.Limits.{config_limits}
 use Rattle.vb_status.specs.Bits.{feature_bits}
-use Rattle.vb_ring.specs.Ends.{DriverEnd}
-use Rattle.vb_model.specs.Layout.{reserved_pages}
-use Rattle.vb_model.specs.Pages.{all_free}
-use Rattle.vb_pages.specs.PageState.{new_page_state}
 use Rattle.vb_driver.specs.State.{RequestSide, ReportSide, DriverState, fresh_driver, IsDriver}
 use Rattle.vb_driver.specs.State.{fresh_side, fresh_statistics, fresh_report}
-use Rattle.vb_driver.proofs.Moving.{fresh_kept}
-use Rattle.vb_driver.proofs.Sizes.{size_of_config}
+use Rattle.vb_driver.{proofs.Moving.fresh_kept, proofs.Sizes.size_of_config}
 use Rattle.vb_driver.proofs.driver.Driver.new.Goals as goal
 
 pub new_pages-requires-clause-size : goal.new_pages-requires-clause-size

@@ -1,17 +1,12 @@
 use Rattle.std.proofs.Common.{◌≡◌, ◌∙◌, ◌+◌, ◌≤◌, ◌++◌, sym, ap, subst, arith, refl, ℕ, List}
-use Rattle.std.proofs.Common.{length}
-use Rattle.std.specs.List.{list_all}
-use Rattle.vb_model.specs.Tests.{is_in}
-use Rattle.vb_model.specs.Pages.{placed, is_stranded, is_free, place_of}
+use Rattle.std.{proofs.Common.length, specs.List.list_all}
+use Rattle.vb_model.{specs.Tests.is_in, specs.Pages.{placed, is_stranded, is_free, place_of}}
 use Rattle.vb_model.specs.declared.places.Place.{Place}
 use Rattle.vb_model.specs.declared.places.Place.TheVariants.{Giving}
-use Rattle.vb_driver.specs.State.{DriverState, IsDriver}
-use Rattle.vb_driver.specs.Areas.{flags_of}
-use Rattle.vb_driver.specs.Calls.{Posts, Offers, stranded_first}
-use Rattle.vb_driver.specs.contracts.driver.Driver.{the_view}
-use Rattle.vb_driver.proofs.Naming.{once_distinct}
 use Rattle.vb_driver.proofs.Moving.{offered_kept, others_there, others_free, offered_inside}
-use Rattle.vb_driver.proofs.Moving.{first_few}
+use Rattle.vb_driver.{specs.State.{DriverState, IsDriver}, specs.Areas.flags_of}
+use Rattle.vb_driver.{specs.Calls.{Posts, Offers, stranded_first}, proofs.Naming.once_distinct}
+use Rattle.vb_driver.{specs.contracts.driver.Driver.the_view, proofs.Moving.first_few}
 use Rattle.vb_driver.proofs.driver.Driver.offer.Goals as goal
 
 pub take_free-requires-clause-free : goal.take_free-requires-clause-free

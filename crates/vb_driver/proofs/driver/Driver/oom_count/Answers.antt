@@ -1,8 +1,6 @@
-use Rattle.std.proofs.Common.{◌≡◌, subst, arith}
-use Rattle.std.specs.Prelude.{count_by}
+use Rattle.std.{proofs.Common.{◌≡◌, subst, arith}, specs.Prelude.count_by}
 use Rattle.vb_model.specs.Pages.{is_lent}
-use Rattle.vb_driver.specs.State.{DriverState}
-use Rattle.vb_driver.specs.Answers.{oom_count}
+use Rattle.vb_driver.{specs.State.DriverState, specs.Answers.oom_count}
 use Rattle.vb_driver.specs.contracts.driver.Driver.{the_view}
 use Rattle.vb_driver.proofs.driver.Driver.oom_count.Goals as goal
 

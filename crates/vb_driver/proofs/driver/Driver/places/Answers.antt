@@ -1,6 +1,5 @@
 use Rattle.std.proofs.Common.{subst}
-use Rattle.vb_driver.specs.State.{DriverState}
-use Rattle.vb_driver.specs.Calls.{AreCountsOf}
+use Rattle.vb_driver.{specs.State.DriverState, specs.Calls.AreCountsOf}
 use Rattle.vb_driver.specs.contracts.driver.Driver.{the_view}
 use Rattle.vb_driver.proofs.driver.Driver.places.Goals as goal
 

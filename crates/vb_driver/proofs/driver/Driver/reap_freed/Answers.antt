@@ -1,14 +1,10 @@
 use Rattle.std.proofs.Common.{◌≡◌, ◌≤◌, ◌∙◌, sym, ap, subst, refl, ℕ, List, true, false}
-use Rattle.vb_model.specs.Tests.{is_in}
-use Rattle.vb_model.specs.Pages.{placed, Block}
+use Rattle.vb_model.{specs.Tests.is_in, specs.Pages.{placed, Block}, specs.Orderly.times}
 use Rattle.vb_model.specs.declared.places.Place.{Place}
 use Rattle.vb_model.specs.declared.places.Place.TheVariants.{Free, Taking}
-use Rattle.vb_driver.specs.State.{RequestSide, sent_by, IsDriver, tells_host}
-use Rattle.vb_driver.specs.Areas.{flags_of}
-use Rattle.vb_driver.specs.Places.{marked}
-use Rattle.vb_driver.specs.contracts.driver.Driver.{the_view}
-use Rattle.vb_model.specs.Orderly.{times}
 use Rattle.vb_driver.proofs.Moving.{freed_taking, freed_once, place_uncovered, place_unfree}
+use Rattle.vb_driver.{specs.State.{RequestSide, sent_by, IsDriver, tells_host}, specs.Places.marked}
+use Rattle.vb_driver.{specs.Areas.flags_of, specs.contracts.driver.Driver.the_view}
 use Rattle.vb_driver.proofs.Moving.{place_inside, place_unreserved, freed_kept, forgotten_kept}
 use Rattle.vb_driver.proofs.driver.Driver.reap_freed.Goals as goal
 

@@ -1,7 +1,5 @@
 use Rattle.std.proofs.Common.{◌≡◌, ◌∙◌, sym, ap, subst, ℕ, List}
-use Rattle.vb_model.specs.Tests.{is_in}
-use Rattle.vb_model.specs.Pages.{placed}
-use Rattle.vb_model.specs.declared.places.Place.{Place}
+use Rattle.vb_model.{specs.Tests.is_in, specs.Pages.placed, specs.declared.places.Place.Place}
 use Rattle.vb_model.specs.declared.places.Place.TheVariants.{Lent}
 use Rattle.vb_driver.specs.State.{RequestSide, sent_by, IsDriver}
 use Rattle.vb_driver.specs.contracts.driver.Driver.{the_view}

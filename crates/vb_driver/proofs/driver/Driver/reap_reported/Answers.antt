@@ -1,17 +1,13 @@
 use Rattle.std.proofs.Common.{◌≡◌, ◌≤◌, ◌∙◌, sym, ap, subst, refl, List, true}
-use Rattle.vb_model.specs.Tests.{is_in}
-use Rattle.vb_model.specs.Orderly.{times}
+use Rattle.vb_model.{specs.Tests.is_in, specs.Orderly.times, specs.declared.places.Place.Place}
 use Rattle.vb_model.specs.Pages.{Block, pages_of_all, placed}
-use Rattle.vb_model.specs.declared.places.Place.{Place}
 use Rattle.vb_model.specs.declared.places.Place.TheVariants.{Free, Reporting}
 use Rattle.vb_report.specs.Blocks.{blocks_of}
-use Rattle.vb_driver.specs.Areas.{flags_of}
-use Rattle.vb_driver.specs.Places.{marked}
-use Rattle.vb_driver.specs.State.{ReportSide, IsReportQueue, IsDriver}
-use Rattle.vb_driver.specs.contracts.driver.Driver.{the_view}
 use Rattle.vb_driver.proofs.Moving.{place_uncovered, place_unfree, place_inside, place_unreserved}
-use Rattle.vb_driver.proofs.ReportTables.{taken_report_queue}
 use Rattle.vb_driver.proofs.ReportMoves.{reported_place, reported_once, returned_kept}
+use Rattle.vb_driver.{specs.State.{ReportSide, IsReportQueue, IsDriver}, specs.Areas.flags_of}
+use Rattle.vb_driver.{specs.contracts.driver.Driver.the_view, specs.Places.marked}
+use Rattle.vb_driver.proofs.ReportTables.{taken_report_queue}
 use Rattle.vb_driver.proofs.driver.Driver.reap_reported.Goals as goal
 
 pub give_blocks-requires-clause-unreserved : goal.give_blocks-requires-clause-unreserved

@@ -1,9 +1,8 @@
 use Rattle.std.proofs.Common.{◌≡◌, ◌∙◌, sym, ap, subst}
 use Rattle.vb_ram.specs.declared.shape.Shape.{Shape}
 use Rattle.vb_ring.specs.Ends.{DriverEnd}
-use Rattle.vb_driver.specs.State.{RequestSide, ReportSide, IsDriver}
-use Rattle.vb_driver.specs.State.{fresh_side, fresh_statistics, fresh_report}
-use Rattle.vb_driver.specs.contracts.driver.Driver.{the_view}
+use Rattle.vb_driver.specs.State.{RequestSide, ReportSide, IsDriver, fresh_side, fresh_statistics}
+use Rattle.vb_driver.{specs.State.fresh_report, specs.contracts.driver.Driver.the_view}
 use Rattle.vb_driver.proofs.Moving.{renewed_kept, fresh_statistics_queue}
 use Rattle.vb_driver.proofs.driver.Driver.renew.Goals as goal
 

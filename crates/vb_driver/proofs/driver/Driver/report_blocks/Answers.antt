@@ -1,18 +1,13 @@
 use Rattle.std.proofs.Common.{◌≡◌, ◌∙◌, sym, ap, subst, refl, ℕ, List, true, false}
-use Rattle.vb_model.specs.Tests.{is_in}
-use Rattle.vb_model.specs.Driver.{AllDistinct}
+use Rattle.vb_model.{specs.Tests.is_in, specs.Driver.AllDistinct, specs.declared.places.Place.Place}
 use Rattle.vb_model.specs.Pages.{Block, pages_of_all, placed}
-use Rattle.vb_model.specs.declared.places.Place.{Place}
 use Rattle.vb_model.specs.declared.places.Place.TheVariants.{Reporting}
-use Rattle.vb_pages.specs.declared.block.FreeBlock.{FreeBlock}
-use Rattle.vb_pages.specs.FreePages.{drained}
+use Rattle.vb_pages.{specs.declared.block.FreeBlock.FreeBlock, specs.FreePages.drained}
 use Rattle.vb_pages.specs.PageState.{PageState}
 use Rattle.vb_report.specs.Blocks.{blocks_of}
-use Rattle.vb_driver.specs.Areas.{flags_of, is_free_at}
-use Rattle.vb_driver.specs.Places.{marked}
+use Rattle.vb_driver.{specs.Areas.{flags_of, is_free_at}, specs.Places.marked}
 use Rattle.vb_driver.specs.State.{ReportSide, DriverState, IsReportQueue, IsDriver, page_state}
-use Rattle.vb_driver.specs.contracts.driver.Driver.{the_view}
-use Rattle.vb_driver.proofs.Owning.{unallocated_kept}
+use Rattle.vb_driver.{specs.contracts.driver.Driver.the_view, proofs.Owning.unallocated_kept}
 use Rattle.vb_driver.proofs.ReportAreas.{no_blocks, none_chosen, only_drained}
 use Rattle.vb_driver.proofs.ReportMoves.{reported_kept}
 use Rattle.vb_driver.proofs.driver.Driver.report_blocks.Goals as goal

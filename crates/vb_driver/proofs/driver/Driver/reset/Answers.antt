@@ -1,18 +1,12 @@
-use Rattle.std.specs.Prelude.{◌≡◌, true}
+use Rattle.std.{specs.Prelude.{◌≡◌, true}, proofs.lemmas.List.length-map}
 use Rattle.std.proofs.Common.{◌∙◌, sym, ap, subst, refl, List, map, length}
-use Rattle.std.proofs.lemmas.List.{length-map}
-use Rattle.vb_model.specs.Tests.{pages_where}
-use Rattle.vb_model.specs.Pages.{Block, place_of, is_free, is_reporting}
-use Rattle.vb_model.specs.Life.{place_after_reset}
-use Rattle.vb_model.specs.declared.places.Place.{Place}
+use Rattle.vb_model.{specs.Tests.pages_where, specs.Pages.{Block, place_of, is_free, is_reporting}}
+use Rattle.vb_model.{specs.Life.place_after_reset, specs.declared.places.Place.Place}
 use Rattle.vb_model.specs.declared.places.Place.TheVariants.{Reporting}
 use Rattle.vb_status.specs.Bits.{feature_bits}
-use Rattle.vb_driver.specs.Areas.{AreFor, flags_of}
-use Rattle.vb_driver.specs.Calls.{with_nothing_out}
-use Rattle.vb_driver.specs.Places.{marked}
-use Rattle.vb_driver.specs.State.{DriverState, IsDriver}
-use Rattle.vb_driver.specs.contracts.driver.Driver.{the_view}
-use Rattle.vb_driver.proofs.Counting.{at_is}
+use Rattle.vb_driver.{specs.Areas.{AreFor, flags_of}, specs.Calls.with_nothing_out}
+use Rattle.vb_driver.{specs.Places.marked, specs.State.{DriverState, IsDriver}}
+use Rattle.vb_driver.{specs.contracts.driver.Driver.the_view, proofs.Counting.at_is}
 use Rattle.vb_driver.proofs.Moving.{reset_kept, place_uncovered, place_unfree, place_unreserved}
 use Rattle.vb_driver.proofs.driver.Driver.reset.Goals as goal
 

@@ -1,10 +1,8 @@
 use Rattle.std.proofs.Common.{◌∙◌, sym, ap, subst}
 use Rattle.vb_model.specs.Layout.{reserved_pages}
 use Rattle.vb_ram.specs.declared.shape.Shape.{Shape}
-use Rattle.vb_driver.specs.State.{IsDriver}
-use Rattle.vb_driver.specs.contracts.driver.Driver.{the_view}
-use Rattle.vb_driver.proofs.Moving.{fresh_kept}
-use Rattle.vb_driver.proofs.Restarting.{restarted}
+use Rattle.vb_driver.{specs.State.IsDriver, specs.contracts.driver.Driver.the_view}
+use Rattle.vb_driver.{proofs.Moving.fresh_kept, proofs.Restarting.restarted}
 use Rattle.vb_driver.proofs.driver.Driver.restart.Goals as goal
 
 pub invariant_of-self : goal.invariant_of-self

@@ -1,6 +1,5 @@
 use Rattle.std.proofs.Common.{◌∙◌, ap, take, List}
-use Rattle.vb_model.specs.Tests.{pages_where}
-use Rattle.vb_model.specs.Pages.{is_stranded}
+use Rattle.vb_model.{specs.Tests.pages_where, specs.Pages.is_stranded}
 use Rattle.vb_model.specs.declared.places.Place.{Place}
 use Rattle.vb_driver.proofs.Marking.{pages_of_set}
 use Rattle.vb_driver.proofs.places.PlaceTable.lowest_stranded.Goals as goal

@@ -1,12 +1,9 @@
-use Rattle.std.proofs.Common.{◌≡◌, ◌∙◌, ◌+◌, ◌-◌, ◌++◌, sym, ap, subst, arith, ℕ, List, length, take, drop}
-use Rattle.std.proofs.Common.{set, count_by, get_or}
-use Rattle.std.proofs.lemmas.Bool.{or_parts}
-use Rattle.std.proofs.Math.Seq.{take-append_seam}
-use Rattle.std.specs.List.{range_with_len}
+use Rattle.std.proofs.Common.{◌≡◌, ◌∙◌, ◌+◌, ◌-◌, ◌++◌, sym, ap, subst, arith, ℕ, List, length}
+use Rattle.std.{proofs.Common.{take, drop, set, count_by, get_or}, proofs.lemmas.Bool.or_parts}
+use Rattle.std.{proofs.Math.Seq.take-append_seam, specs.List.range_with_len}
 use Rattle.vb_model.specs.declared.places.Place.{Place}
 use Rattle.vb_model.specs.Pages.{placed, place_of, is_lent, is_stranded}
-use Rattle.vb_driver.specs.Places.{is_at, IsTable}
-use Rattle.vb_driver.proofs.Placing.{marked_one, length-marked}
+use Rattle.vb_driver.{specs.Places.{is_at, IsTable}, proofs.Placing.{marked_one, length-marked}}
 use Rattle.vb_driver.proofs.Runs.{AreAt, run_is, run_some, run_table}
 use Rattle.vb_driver.proofs.places.PlaceTable.move_run.Goals as goal
 

@@ -1,10 +1,8 @@
 use Rattle.std.proofs.Common.{◌≡◌, ◌∙◌, ap, arith, ℕ, length, get_or, set, count_by}
 use Rattle.std.proofs.lemmas.List.{length-set}
-use Rattle.vb_model.specs.declared.places.Place.{Place}
-use Rattle.vb_model.specs.Pages.{is_lent, is_stranded}
-use Rattle.vb_driver.proofs.Counting.{counts_moved, counts_some, number_small}
+use Rattle.vb_model.{specs.declared.places.Place.Place, specs.Pages.{is_lent, is_stranded}}
+use Rattle.vb_driver.{proofs.Counting.{counts_moved, counts_some, number_small}, specs.Places.is_at}
 use Rattle.vb_driver.proofs.Marking.{set_moved}
-use Rattle.vb_driver.specs.Places.{is_at}
 use Rattle.vb_driver.proofs.places.PlaceTable.set.Goals as goal
 
 pub overflow_sub-self : goal.overflow_sub-self

@@ -1,7 +1,6 @@
 use Rattle.std.proofs.Common.{◌∙◌, sym, ap, arith, ℕ, List, length, take, get_or, set}
 use Rattle.std.proofs.lemmas.List.{take_more}
-use Rattle.vb_model.specs.declared.places.Place.{Place}
-use Rattle.vb_model.specs.Pages.{placed}
+use Rattle.vb_model.{specs.declared.places.Place.Place, specs.Pages.placed}
 use Rattle.vb_driver.proofs.Placing.{marked_none, marked_more, length-marked, is_in-at}
 use Rattle.vb_driver.proofs.places.PlaceTable.set_all.Goals as goal
 

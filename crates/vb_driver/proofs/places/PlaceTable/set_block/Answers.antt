@@ -1,5 +1,4 @@
-use Rattle.std.proofs.Common.{◌≡◌, ◌∙◌, ◌+◌, ◌-◌, ◌^◌, ap, arith, ℕ}
-use Rattle.std.specs.List.{range_with_len}
+use Rattle.std.{proofs.Common.{◌≡◌, ◌∙◌, ◌+◌, ◌-◌, ◌^◌, ap, arith, ℕ}, specs.List.range_with_len}
 use Rattle.vb_model.specs.Pages.{placed}
 use Rattle.vb_driver.proofs.places.PlaceTable.set_block.Goals as goal
 

@@ -1,7 +1,6 @@
 use Rattle.std.proofs.Common.{◌≡◌, ◌∙◌, ◌-◌, sym, ap, arith, ℕ, List, length}
 use Rattle.std.specs.List.{range_with_len}
-use Rattle.vb_model.specs.declared.places.Place.{Place}
-use Rattle.vb_model.specs.Pages.{placed}
+use Rattle.vb_model.{specs.declared.places.Place.Place, specs.Pages.placed}
 use Rattle.vb_driver.proofs.Placing.{marked_none, placed_further, length-marked}
 use Rattle.vb_driver.proofs.places.PlaceTable.set_range.Goals as goal
 

@@ -1,8 +1,7 @@
 use Rattle.std.proofs.Common.{◌≡◌, ◌∙◌, ◌<◌, ◌+◌, sym, ap, subst, arith, List, length}
 use Rattle.std.proofs.lemmas.List.{get_or_default}
-use Rattle.vb_model.specs.declared.places.Place.{Place}
+use Rattle.vb_model.{specs.declared.places.Place.Place, specs.Life.place_after_reset}
 use Rattle.vb_model.specs.declared.places.Place.TheVariants.{Reserved}
-use Rattle.vb_model.specs.Life.{place_after_reset}
 use Rattle.vb_driver.proofs.Placing.{Changing, changing_more, changed_all}
 use Rattle.vb_driver.proofs.places.PlaceTable.strand.Goals as goal
 

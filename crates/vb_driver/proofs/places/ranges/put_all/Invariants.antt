@@ -1,5 +1,4 @@
-use Rattle.std.proofs.Common.{◌≡◌, ◌-◌}
-use Rattle.std.specs.List.{range_with_len}
+use Rattle.std.{proofs.Common.{◌≡◌, ◌-◌}, specs.List.range_with_len}
 use Rattle.vb_model.specs.Pages.{placed}
 use Rattle.vb_driver.proofs.places.ranges.put_all.Given as goal
 

@@ -1,17 +1,13 @@
 use Rattle.std.proofs.Common.{◌≡◌, ◌∙◌, ◌<◌, ◌+◌, ◌*◌, sym, ap, subst, arith, refl, ℕ, set, Some}
-use Rattle.std.proofs.Common.{Ok, List, length, is_some}
-use Rattle.std.proofs.Math.Nat.{div-add-mod}
+use Rattle.std.{proofs.Common.{Ok, List, length, is_some}, proofs.Math.Nat.div-add-mod}
 use Rattle.vb_model.specs.Layout.{buffers_page, buffer_page, buffer_offset}
 use Rattle.vb_model.proofs.Shapes.{start_of_buffer}
 use Rattle.vb_ram.specs.Pages.{SameBut}
-use Rattle.vb_ring.specs.declared.layout.Layout.{Layout}
-use Rattle.vb_ring.specs.Layout.{IsSize, IsBacked}
+use Rattle.vb_ring.{specs.declared.layout.Layout.Layout, specs.Layout.{IsSize, IsBacked}}
 use Rattle.vb_ring.specs.Ends.{DriverEnd, after_add, next_head}
-use Rattle.vb_driver.specs.State.{RequestSide, AreRequests}
-use Rattle.vb_driver.specs.Calls.{Posts}
-use Rattle.vb_driver.proofs.Buffers.{names_at}
+use Rattle.vb_driver.{specs.State.{RequestSide, AreRequests}, specs.Calls.Posts}
+use Rattle.vb_driver.{proofs.Buffers.names_at, proofs.Posting.{Sending, added_head, posts_by}}
 use Rattle.vb_driver.proofs.RequestTables.{head_there, head_small, requests_added_at, room_inside}
-use Rattle.vb_driver.proofs.Posting.{Sending, added_head, posts_by}
 use Rattle.vb_driver.proofs.Shapes.{IsBeside, ring_backed, buffers_between, buffers_beside}
 use Rattle.vb_driver.proofs.queue.RequestQueue.post.Goals as goal
 

@@ -1,6 +1,5 @@
 use Rattle.std.proofs.Common.{◌≡◌, ◌∙◌, ap, ℕ, Option, Some, Result, Ok}
-use Rattle.vb_ring.specs.Ends.{after_take}
-use Rattle.vb_ring.specs.declared.driver.RingBroken.{RingBroken}
+use Rattle.vb_ring.{specs.Ends.after_take, specs.declared.driver.RingBroken.RingBroken}
 use Rattle.vb_driver.proofs.RequestTables.{requests_taken_at}
 use Rattle.vb_driver.proofs.queue.RequestQueue.take_used.Goals as goal
 

@@ -1,16 +1,13 @@
 use Rattle.std.proofs.Common.{◌≡◌, ◌∙◌, sym, ap, subst, refl, arith, List, All, Ok}
 use Rattle.std.proofs.lemmas.List.{length-map}
-use Rattle.vb_ring.specs.declared.layout.Layout.{Layout}
-use Rattle.vb_ring.specs.Layout.{IsBacked}
+use Rattle.vb_ring.{specs.declared.layout.Layout.Layout, specs.Layout.IsBacked}
 use Rattle.vb_pages.specs.declared.block.FreeBlock.{FreeBlock}
 use Rattle.vb_report.specs.Blocks.{block_of, blocks_of, pieces_of}
-use Rattle.vb_driver.specs.State.{ReportSide, IsAreaBlock}
-use Rattle.vb_driver.specs.Calls.{PostsReport}
-use Rattle.vb_driver.specs.contracts.reports.ReportQueue.{the_view}
-use Rattle.vb_driver.proofs.Shapes.{ring_backed}
+use Rattle.vb_driver.proofs.ReportPosting.{reporting, same_head, nothing, answer_is, ring_is}
+use Rattle.vb_driver.{specs.State.{ReportSide, IsAreaBlock}, specs.Calls.PostsReport}
+use Rattle.vb_driver.{specs.contracts.reports.ReportQueue.the_view, proofs.Shapes.ring_backed}
 use Rattle.vb_driver.proofs.ReportTables.{orders_of, posted_report_queue}
-use Rattle.vb_driver.proofs.ReportPosting.{reporting, same_head, nothing, answer_is}
-use Rattle.vb_driver.proofs.ReportPosting.{ring_is, posts_report, not_full}
+use Rattle.vb_driver.proofs.ReportPosting.{posts_report, not_full}
 use Rattle.vb_driver.proofs.reports.ReportQueue.post.Goals as goal
 
 pub encode-pieces-requires-clause-orders : goal.encode-pieces-requires-clause-orders

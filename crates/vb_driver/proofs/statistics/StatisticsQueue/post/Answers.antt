@@ -1,10 +1,8 @@
 use Rattle.std.proofs.Common.{◌≡◌, ◌∙◌, sym, ap, subst, arith, refl, is_some}
 use Rattle.vb_model.proofs.Shapes.{start_of_buffer}
-use Rattle.vb_ring.specs.declared.layout.Layout.{Layout}
-use Rattle.vb_ring.specs.Layout.{IsBacked}
+use Rattle.vb_ring.{specs.declared.layout.Layout.Layout, specs.Layout.IsBacked}
 use Rattle.vb_ring.specs.Ends.{DriverEnd, outstanding}
-use Rattle.vb_driver.specs.State.{IsStatisticsQueue}
-use Rattle.vb_driver.specs.Calls.{PostsBuffer}
+use Rattle.vb_driver.{specs.State.IsStatisticsQueue, specs.Calls.PostsBuffer}
 use Rattle.vb_driver.proofs.Shapes.{ring_backed}
 use Rattle.vb_driver.proofs.Filling.{Filling, fills_by, filled_queue, not_full}
 use Rattle.vb_driver.proofs.statistics.StatisticsQueue.post.Goals as goal

@@ -1,9 +1,7 @@
 use Rattle.std.proofs.Common.{◌∙◌, sym, ap, subst}
-use Rattle.vb_ring.specs.declared.layout.Layout.{Layout}
-use Rattle.vb_ring.specs.Layout.{IsInside}
+use Rattle.vb_ring.{specs.declared.layout.Layout.Layout, specs.Layout.IsInside}
 use Rattle.vb_ring.specs.Ends.{DriverEnd}
-use Rattle.vb_driver.proofs.OneBuffer.{tells_of}
-use Rattle.vb_driver.proofs.Shapes.{ring_inside}
+use Rattle.vb_driver.{proofs.OneBuffer.tells_of, proofs.Shapes.ring_inside}
 use Rattle.vb_driver.proofs.statistics.StatisticsQueue.take_used.Goals as goal
 
 pub take_used-requires : goal.take_used-requires

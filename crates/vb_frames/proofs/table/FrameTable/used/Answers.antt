@@ -1,5 +1,4 @@
-use Rattle.std.proofs.Common.{List, Bool, ap, arith}
-use Rattle.std.specs.Prelude.{count_by}
+use Rattle.std.{proofs.Common.{List, Bool, ap, arith}, specs.Prelude.count_by}
 use Rattle.vb_frames.proofs.Free.{count_out}
 use Rattle.vb_frames.proofs.table.FrameTable.used.Goals as goal
 

@@ -1,9 +1,7 @@
-use Rattle.std.proofs.Common.{◌≡◌, ◌<◌, ℕ, List, Bool, true, false, map, not, set}
-use Rattle.std.proofs.Common.{sym, ap, subst, ◌∙◌}
-use Rattle.std.proofs.lemmas.List.{map-set}
+use Rattle.std.proofs.Common.{◌≡◌, ◌<◌, ℕ, List, Bool, true, false, map, not, set, sym, ap, subst}
+use Rattle.std.{proofs.Common.◌∙◌, proofs.lemmas.List.map-set}
 use Rattle.vb_ram.specs.Pages.{Page}
-use Rattle.vb_frames.specs.Out.{AllOut, IsFree, is_out}
-use Rattle.vb_frames.proofs.Free.{all_out, least_free}
+use Rattle.vb_frames.{specs.Out.{AllOut, IsFree, is_out}, proofs.Free.{all_out, least_free}}
 use Rattle.vb_frames.proofs.table.FrameTableFrameKeeper.claim.Goals as goal
 
 -- the frame has the least number that isn't out

@@ -1,5 +1,4 @@
-use Rattle.std.proofs.Common.{ℕ, List, Bool, max, subst, ◌∙◌, sym, ap}
-use Rattle.std.proofs.Common.{◌/◌, ◌^◌, ◌*◌, ◌+◌}
+use Rattle.std.proofs.Common.{ℕ, List, Bool, max, subst, ◌∙◌, sym, ap, ◌/◌, ◌^◌, ◌*◌, ◌+◌}
 use Rattle.std.specs.Int.{div_ceil}
 use Rattle.vb_pages.specs.Areas.{block_at, AreBlockBits}
 use Rattle.vb_pages.proofs.TilesLemmas.{length-set_of, listed_maximal, maximal_listed}

@@ -1,8 +1,6 @@
-use Rattle.std.proofs.Common.{arith}
-use Rattle.std.proofs.lemmas.Bool.{cases_lt}
+use Rattle.std.{proofs.Common.arith, proofs.lemmas.Bool.cases_lt}
 use Rattle.vb_pages.proofs.Sets.{with_cases, with_old, with_new, length-with_pages, in_block}
-use Rattle.vb_pages.proofs.Sets.{block_bounds}
-use Rattle.vb_pages.proofs.AreasLemmas.{unreserved_is}
+use Rattle.vb_pages.{proofs.Sets.block_bounds, proofs.AreasLemmas.unreserved_is}
 use Rattle.vb_pages.proofs.areas.Areas.fill.Goals as goal
 
 pub returns : goal.returns

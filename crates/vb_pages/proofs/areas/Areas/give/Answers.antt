@@ -1,12 +1,9 @@
 use Rattle.std.proofs.Common.{◌≡◌, ◌≤◌, ◌+◌, ◌^◌, List, Bool, length, ap, ◌∙◌, arith}
 use Rattle.std.proofs.lemmas.Bool.{eqb-true}
-use Rattle.vb_pages.specs.Areas.{has, block_at, LiesOutside}
-use Rattle.vb_pages.specs.Tiles.{set_of}
-use Rattle.vb_pages.proofs.Sets.{count_le}
-use Rattle.vb_pages.proofs.TilesLemmas.{length-set_of}
-use Rattle.vb_pages.proofs.AreasLemmas.{count_with_block}
+use Rattle.vb_pages.{specs.Areas.{has, block_at, LiesOutside}, specs.Tiles.set_of}
+use Rattle.vb_pages.{proofs.Sets.count_le, proofs.TilesLemmas.length-set_of}
+use Rattle.vb_pages.{proofs.AreasLemmas.count_with_block, proofs.areas.Areas.give.Goals.After-self}
 use Rattle.vb_pages.proofs.areas.Areas.give.Goals as goal
-use Rattle.vb_pages.proofs.areas.Areas.give.Goals.{After-self}
 
 outside : (c : After-self)
     → LiesOutside (set_of c.self.inside.table) (block_at c.args.start c.args.order)

@@ -1,8 +1,7 @@
 use Rattle.std.proofs.Common.{◌≡◌, List, Bool, Some, ap, subst, ◌∙◌, arith}
 use Rattle.std.specs.Prelude.{count_by}
 use Rattle.vb_model.specs.Pages.{pages_of}
-use Rattle.vb_pages.specs.Areas.{without_pages, block_at, IsLowestFrom}
-use Rattle.vb_pages.specs.Table.{order_at}
+use Rattle.vb_pages.{specs.Areas.{without_pages, block_at, IsLowestFrom}, specs.Table.order_at}
 use Rattle.vb_pages.specs.Tiles.{set_of}
 use Rattle.vb_pages.proofs.TilesLemmas.{listed_inside, removed_tiled, removed_set}
 use Rattle.vb_pages.proofs.AreasLemmas.{count_without_block, lowest_is, lowest_none}

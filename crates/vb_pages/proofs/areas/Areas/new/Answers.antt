@@ -1,9 +1,7 @@
 use Rattle.std.proofs.Common.{◌≡◌, ℕ, List, Option, None, replicate, length, ap, subst, ◌∙◌, sym}
 use Rattle.std.specs.Prelude.{count_by}
-use Rattle.vb_pages.specs.Areas.{has}
-use Rattle.vb_pages.specs.Tiles.{set_of, IsTiled}
-use Rattle.vb_pages.proofs.TilesLemmas.{none_tiled, none_set}
-use Rattle.vb_pages.proofs.AreasLemmas.{count_none, length-none_set}
+use Rattle.vb_pages.{proofs.AreasLemmas.{count_none, length-none_set}, specs.Areas.has}
+use Rattle.vb_pages.{proofs.TilesLemmas.{none_tiled, none_set}, specs.Tiles.{set_of, IsTiled}}
 use Rattle.vb_pages.proofs.areas.Areas.new.Goals as goal
 
 pub invariant_of-areas : goal.invariant_of-areas

@@ -1,11 +1,8 @@
 use Rattle.std.proofs.Common.{◌≡◌, ◌≤◌, ℕ, List, Option, None, length, ap, subst, ◌∙◌, sym}
-use Rattle.std.specs.Prelude.{count_by}
-use Rattle.std.proofs.lemmas.List.{length-replicate}
-use Rattle.vb_pages.specs.declared.table.TheConstants.{MAX_PAGES}
-use Rattle.vb_pages.specs.Areas.{has, unreserved}
-use Rattle.vb_pages.specs.Tiles.{set_of, IsTiled}
+use Rattle.std.{specs.Prelude.count_by, proofs.lemmas.List.length-replicate}
+use Rattle.vb_pages.{specs.declared.table.TheConstants.MAX_PAGES, specs.Areas.{has, unreserved}}
+use Rattle.vb_pages.{specs.Tiles.{set_of, IsTiled}, proofs.AreasLemmas.count_none}
 use Rattle.vb_pages.proofs.TilesLemmas.{none_tiled, none_set, length-set_of}
-use Rattle.vb_pages.proofs.AreasLemmas.{count_none}
 use Rattle.vb_pages.proofs.areas.Areas.renew.Goals as goal
 
 pub invariant_of-self : goal.invariant_of-self

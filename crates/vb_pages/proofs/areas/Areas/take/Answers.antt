@@ -1,9 +1,7 @@
-use Rattle.std.proofs.Common.{◌≡◌, ◌+◌, arith}
-use Rattle.std.specs.Prelude.{count_by}
-use Rattle.vb_pages.specs.Tiles.{set_of}
-use Rattle.vb_pages.proofs.AreasLemmas.{count_without_block, taken_inside}
-use Rattle.vb_pages.proofs.areas.Areas.take.Goals as goal
+use Rattle.std.{proofs.Common.{◌≡◌, ◌+◌, arith}, specs.Prelude.count_by}
+use Rattle.vb_pages.{specs.Tiles.set_of, proofs.AreasLemmas.{count_without_block, taken_inside}}
 use Rattle.vb_pages.proofs.areas.Areas.take.Goals.{After-size_of}
+use Rattle.vb_pages.proofs.areas.Areas.take.Goals as goal
 
 counted : (c : After-size_of)
     → count_by (λ f. f) (set_of c.self.inside.table)

@@ -1,5 +1,4 @@
-use Rattle.std.proofs.Common.{◌≡◌, ◌+◌, ◌*◌, ◌≤◌, length, take}
-use Rattle.std.specs.Prelude.{count_by}
+use Rattle.std.{proofs.Common.{◌≡◌, ◌+◌, ◌*◌, ◌≤◌, length, take}, specs.Prelude.count_by}
 use Rattle.vb_pages.proofs.FreeLemmas.{flat}
 use Rattle.vb_pages.proofs.free.FreePages.count.Given as goal
 

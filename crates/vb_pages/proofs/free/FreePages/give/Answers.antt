@@ -1,15 +1,12 @@
 use Rattle.std.proofs.Common.{◌≡◌, ◌<◌, ◌≤◌, ◌+◌, ℕ, List, [], ◌∷◌, ◌++◌, Bool, length, set, take}
-use Rattle.std.proofs.Common.{drop, ap, subst, ◌∙◌, sym, arith}
-use Rattle.vb_pages.specs.Areas.{with_pages}
-use Rattle.vb_pages.specs.FreePages.{FreePages, IsSoundFree, HasRoomFor, list_of}
-use Rattle.std.proofs.lemmas.List.{get_or_default, length-append}
-use Rattle.std.proofs.lemmas.Bool.{eqb-false}
-use Rattle.std.specs.Prelude.{◌==◌, false}
-use Rattle.vb_pages.proofs.ListsLemmas.{Once}
+use Rattle.std.{proofs.Common.{drop, ap, subst, ◌∙◌, sym, arith}, proofs.lemmas.Bool.eqb-false}
+use Rattle.std.{proofs.lemmas.List.{get_or_default, length-append}, specs.Prelude.{◌==◌, false}}
 use Rattle.vb_pages.proofs.FreeLemmas.{block_sound, free_of, front_once, spilled_sound}
+use Rattle.vb_pages.{specs.Areas.with_pages, proofs.ListsLemmas.Once}
+use Rattle.vb_pages.specs.FreePages.{FreePages, IsSoundFree, HasRoomFor, list_of}
 use Rattle.vb_pages.proofs.FreeLemmas.{pushed_sound, longer, room_zero, nothing}
-use Rattle.vb_pages.proofs.free.FreePages.give.Goals as goal
 use Rattle.vb_pages.proofs.free.FreePages.give.Goals.{After-push}
+use Rattle.vb_pages.proofs.free.FreePages.give.Goals as goal
 
 pub invariant_of-self : goal.invariant_of-self
 invariant_of-self c = grind (arith, free_of, block_sound)

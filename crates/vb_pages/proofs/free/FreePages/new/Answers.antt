@@ -1,9 +1,7 @@
 use Rattle.std.proofs.Common.{◌≡◌, ℕ, List, Bool, replicate, ap, subst, ◌∙◌, sym, arith}
-use Rattle.vb_pages.specs.Areas.{unreserved}
-use Rattle.vb_pages.specs.FreePages.{IsSoundFree}
 use Rattle.std.proofs.lemmas.List.{length-replicate}
 use Rattle.vb_pages.proofs.FreeLemmas.{fresh_sound, flat-replicate, list-replicate, free_of}
-use Rattle.vb_pages.proofs.FreeLemmas.{nothing}
+use Rattle.vb_pages.{specs.Areas.unreserved, specs.FreePages.IsSoundFree, proofs.FreeLemmas.nothing}
 use Rattle.vb_pages.proofs.free.FreePages.new.Goals as goal
 
 pub invariant_of-result : goal.invariant_of-result

@@ -1,6 +1,5 @@
 use Rattle.std.proofs.Common.{subst}
-use Rattle.vb_pages.specs.FreePages.{FreePages, Tries}
-use Rattle.vb_pages.proofs.FreeLemmas.{serves_later}
+use Rattle.vb_pages.{specs.FreePages.{FreePages, Tries}, proofs.FreeLemmas.serves_later}
 use Rattle.vb_pages.proofs.free.FreePages.take.Goals as goal
 
 pub returns-clause-serves : goal.returns-clause-serves

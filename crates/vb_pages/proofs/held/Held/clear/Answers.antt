@@ -1,9 +1,7 @@
 use Rattle.std.proofs.Common.{◌≡◌, ℕ, [], Option, None, length, ap, subst, sym, ◌∙◌}
 use Rattle.std.proofs.lemmas.List.{length-replicate}
-use Rattle.vb_pages.specs.Table.{AreBlocks}
-use Rattle.vb_pages.specs.Held.{HeldBlocks, blocks_of}
-use Rattle.vb_pages.proofs.TableLemmas.{no_blocks}
-use Rattle.vb_pages.proofs.HeldLemmas.{held_of, same_held, blocks-none}
+use Rattle.vb_pages.{proofs.HeldLemmas.{held_of, same_held, blocks-none}, specs.Table.AreBlocks}
+use Rattle.vb_pages.{specs.Held.{HeldBlocks, blocks_of}, proofs.TableLemmas.no_blocks}
 use Rattle.vb_pages.proofs.held.Held.clear.Goals as goal
 
 pub invariant_of-self : goal.invariant_of-self

@@ -1,10 +1,7 @@
-use Rattle.std.proofs.Common.{◌≡◌, length, ap, ◌∙◌}
-use Rattle.std.specs.List.{list_any}
+use Rattle.std.{proofs.Common.{◌≡◌, length, ap, ◌∙◌}, specs.List.list_any}
 use Rattle.vb_model.specs.Pages.{is_same_block}
-use Rattle.vb_pages.specs.Areas.{block_at}
-use Rattle.vb_pages.specs.Held.{HeldBlocks, blocks_of}
-use Rattle.vb_pages.proofs.Sets.{same_bool}
-use Rattle.vb_pages.proofs.HeldLemmas.{held_of, holds_at, at_holds}
+use Rattle.vb_pages.{specs.Areas.block_at, specs.Held.{HeldBlocks, blocks_of}}
+use Rattle.vb_pages.{proofs.Sets.same_bool, proofs.HeldLemmas.{held_of, holds_at, at_holds}}
 use Rattle.vb_pages.proofs.held.Held.holds.Goals as goal
 
 pub returns : goal.returns

@@ -1,8 +1,6 @@
 use Rattle.std.proofs.Common.{ℕ, [], Option, None, length, ap, subst, sym, ◌∙◌}
 use Rattle.std.proofs.lemmas.List.{length-replicate}
-use Rattle.vb_pages.specs.Table.{AreBlocks}
-use Rattle.vb_pages.specs.Held.{blocks_of}
-use Rattle.vb_pages.proofs.TableLemmas.{no_blocks}
+use Rattle.vb_pages.{specs.Table.AreBlocks, specs.Held.blocks_of, proofs.TableLemmas.no_blocks}
 use Rattle.vb_pages.proofs.HeldLemmas.{same_held, blocks-none}
 use Rattle.vb_pages.proofs.held.Held.new.Goals as goal
 

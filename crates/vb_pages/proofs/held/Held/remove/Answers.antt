@@ -1,16 +1,11 @@
 use Rattle.std.proofs.Common.{◌≡◌, ◌%◌, ◌^◌, Some, None, length, ap, subst, sym, ◌∙◌}
-use Rattle.std.specs.List.{list_any}
-use Rattle.std.proofs.lemmas.List.{length-set}
-use Rattle.std.proofs.lemmas.Bool.{eq-eqb}
-use Rattle.vb_model.specs.Pages.{is_same_block}
-use Rattle.vb_model.specs.Driver.{without_block}
-use Rattle.vb_pages.specs.Areas.{block_at}
-use Rattle.vb_pages.specs.Table.{order_at, AreBlocks}
-use Rattle.vb_pages.specs.Held.{HeldBlocks, blocks_of}
+use Rattle.std.{specs.List.list_any, proofs.lemmas.List.length-set, proofs.lemmas.Bool.eq-eqb}
+use Rattle.vb_model.{specs.Pages.is_same_block, specs.Driver.without_block}
+use Rattle.vb_pages.{specs.Areas.block_at, specs.Table.{order_at, AreBlocks}}
+use Rattle.vb_pages.{specs.Held.{HeldBlocks, blocks_of}, proofs.held.Held.remove.Goals.After-self}
 use Rattle.vb_pages.proofs.TableLemmas.{is_there, with_block_removed}
 use Rattle.vb_pages.proofs.HeldLemmas.{held_of, same_held, blocks-without, holds_at}
 use Rattle.vb_pages.proofs.held.Held.remove.Goals as goal
-use Rattle.vb_pages.proofs.held.Held.remove.Goals.{After-self}
 
 listed : (c : After-self) → order_at c.self.inside.table c.args.start ≡ Some c.args.order
 listed c =

@@ -1,11 +1,10 @@
 use Rattle.std.proofs.Common.{◌≡◌, ◌<◌, ◌≤◌, ◌+◌, ℕ, List, [], ◌∷◌, ◌++◌, Bool, length, Some, inl}
 use Rattle.std.proofs.Common.{inr, subst, ◌∙◌, sym, arith, length-append}
 use Rattle.std.proofs.lemmas.Bool.{cases_lt}
-use Rattle.vb_pages.specs.Areas.{HasNoBlock, TakesBlock}
-use Rattle.vb_pages.specs.FreePages.{TakesPages}
+use Rattle.vb_pages.{specs.Areas.{HasNoBlock, TakesBlock}, specs.FreePages.TakesPages}
 use Rattle.vb_pages.proofs.ListsLemmas.{takes_more, takes_none}
-use Rattle.vb_pages.proofs.lists.PageList.refill.Goals as goal
 use Rattle.vb_pages.proofs.lists.PageList.refill.Goals.{in-Some, in_default}
+use Rattle.vb_pages.proofs.lists.PageList.refill.Goals as goal
 
 -- as many pages as turns, or the areas have none
 abbrev Kept : List Bool → List ℕ → List Bool → ℕ → Type 0

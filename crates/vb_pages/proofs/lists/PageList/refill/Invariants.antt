@@ -1,6 +1,5 @@
 use Rattle.std.proofs.Common.{◌≤◌, ◌<◌, length}
-use Rattle.vb_pages.specs.Areas.{HasNoBlock}
-use Rattle.vb_pages.specs.FreePages.{TakesPages}
+use Rattle.vb_pages.{specs.Areas.HasNoBlock, specs.FreePages.TakesPages}
 use Rattle.vb_pages.proofs.lists.PageList.refill.Given as goal
 
 -- as many pages as turns, or the areas have none

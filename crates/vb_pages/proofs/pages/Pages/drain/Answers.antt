@@ -1,7 +1,6 @@
 use Rattle.std.proofs.Common.{◌≡◌, ap, ◌∙◌, refl}
 use Rattle.vb_pages.specs.FreePages.{FreePages, is_free_in, drained}
-use Rattle.vb_pages.specs.PageState.{PageState, is_free_page}
-use Rattle.vb_pages.proofs.FreeLemmas.{drained_times}
+use Rattle.vb_pages.{specs.PageState.{PageState, is_free_page}, proofs.FreeLemmas.drained_times}
 use Rattle.vb_pages.proofs.PagesLemmas.{kept_at, state_of, drained_kept, free_same}
 use Rattle.vb_pages.proofs.pages.Pages.drain.Goals as goal
 

@@ -1,17 +1,11 @@
-use Rattle.std.proofs.Common.{◌≡◌, ◌<◌, true, length, ap, ◌∙◌, sym, arith}
-use Rattle.std.specs.Prelude.{◌||◌}
-use Rattle.std.specs.List.{list_any}
-use Rattle.std.proofs.lemmas.Bool.{both_ways}
-use Rattle.vb_model.specs.Pages.{covers, is_same_block}
-use Rattle.vb_model.specs.Driver.{without_block}
-use Rattle.vb_pages.specs.Areas.{block_at}
-use Rattle.vb_pages.specs.FreePages.{FreePages, is_free_in, given_back}
-use Rattle.vb_pages.specs.PageState.{PageState, is_free_page, is_held_block}
-use Rattle.vb_pages.proofs.FreeLemmas.{given_times}
-use Rattle.vb_pages.proofs.HeldLemmas.{held_of}
+use Rattle.std.{proofs.Common.{◌≡◌, ◌<◌, true, length, ap, ◌∙◌, sym, arith}, specs.Prelude.◌||◌}
+use Rattle.std.{specs.List.list_any, proofs.lemmas.Bool.both_ways}
+use Rattle.vb_model.{specs.Pages.{covers, is_same_block}, specs.Driver.without_block}
 use Rattle.vb_pages.proofs.PagesLemmas.{kept_at, state_of, free_gained, back_room, back_kept}
+use Rattle.vb_pages.{specs.PageState.{PageState, is_free_page, is_held_block}, specs.Areas.block_at}
+use Rattle.vb_pages.{specs.FreePages.{FreePages, is_free_in, given_back}, proofs.HeldLemmas.held_of}
+use Rattle.vb_pages.{proofs.pages.Pages.free.Goals.After-remove, proofs.FreeLemmas.given_times}
 use Rattle.vb_pages.proofs.pages.Pages.free.Goals as goal
-use Rattle.vb_pages.proofs.pages.Pages.free.Goals.{After-remove}
 
 is_held : (c : After-remove)
     → list_any (λ h. is_same_block h (block_at c.args.start c.args.order)) c.self.inside.held.blocks

@@ -1,11 +1,8 @@
-use Rattle.std.proofs.Common.{◌≡◌, ℕ, not, subst}
-use Rattle.std.specs.Prelude.{◌&&◌}
+use Rattle.std.{proofs.Common.{◌≡◌, ℕ, not, subst}, specs.Prelude.{◌&&◌, IfSome}}
 use Rattle.vb_model.specs.Pages.{covers}
-use Rattle.vb_pages.specs.Areas.{block_at}
-use Rattle.vb_pages.specs.FreePages.{is_free_in}
+use Rattle.vb_pages.{specs.Areas.block_at, specs.FreePages.is_free_in}
 use Rattle.vb_pages.specs.PageState.{PageState, is_free_page}
 use Rattle.vb_pages.proofs.PagesLemmas.{state_of, isolated_kept, isolated_left, isolated_room}
-use Rattle.std.specs.Prelude.{IfSome}
 use Rattle.vb_pages.proofs.pages.Pages.isolate.Goals as goal
 
 pub invariant_of-self : goal.invariant_of-self

@@ -1,8 +1,6 @@
 use Rattle.std.proofs.Common.{[], replicate}
-use Rattle.vb_pages.specs.Areas.{unreserved}
-use Rattle.vb_pages.proofs.FreeLemmas.{free_of, nothing, flat-replicate}
-use Rattle.vb_pages.proofs.HeldLemmas.{held_of}
-use Rattle.vb_pages.proofs.PagesLemmas.{kept_at, fresh_kept}
+use Rattle.vb_pages.{specs.Areas.unreserved, proofs.FreeLemmas.{free_of, nothing, flat-replicate}}
+use Rattle.vb_pages.{proofs.HeldLemmas.held_of, proofs.PagesLemmas.{kept_at, fresh_kept}}
 use Rattle.vb_pages.proofs.pages.Pages.new.Goals as goal
 
 pub invariant_of-result : goal.invariant_of-result

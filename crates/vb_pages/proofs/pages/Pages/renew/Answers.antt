@@ -1,9 +1,6 @@
 use Rattle.std.proofs.Common.{◌≡◌, ℕ, List, [], length, map, replicate, ap, ◌∙◌}
-use Rattle.vb_pages.specs.Areas.{unreserved}
-use Rattle.vb_pages.specs.Held.{HeldBlocks}
-use Rattle.vb_pages.specs.PageState.{PageState}
-use Rattle.vb_pages.proofs.FreeLemmas.{free_of, nothing, flat-empty}
-use Rattle.vb_pages.proofs.HeldLemmas.{held_of}
+use Rattle.vb_pages.{specs.Areas.unreserved, specs.Held.HeldBlocks, specs.PageState.PageState}
+use Rattle.vb_pages.{proofs.FreeLemmas.{free_of, nothing, flat-empty}, proofs.HeldLemmas.held_of}
 use Rattle.vb_pages.proofs.PagesLemmas.{kept_at, state_of, same_state, fresh_kept, map_nothing}
 use Rattle.vb_pages.proofs.pages.Pages.renew.Goals as goal
 

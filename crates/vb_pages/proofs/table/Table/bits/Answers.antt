@@ -1,6 +1,4 @@
-use Rattle.std.proofs.Common.{◌≡◌, ◌*◌, ◌+◌, ◌<◌, ◌≤◌, ℕ, max}
-use Rattle.std.proofs.Common.{arith}
-use Rattle.std.specs.Int.{div_ceil}
+use Rattle.std.{proofs.Common.{◌≡◌, ◌*◌, ◌+◌, ◌<◌, ◌≤◌, ℕ, max, arith}, specs.Int.div_ceil}
 use Rattle.vb_pages.proofs.TableLemmas.{member_listed, listed_number, length-set_of_order}
 use Rattle.vb_pages.proofs.table.Table.bits.Goals as goal
 

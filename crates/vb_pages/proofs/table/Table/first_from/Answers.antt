@@ -1,10 +1,9 @@
 use Rattle.std.proofs.Common.{◌≡◌, ◌/◌, ◌%◌, ◌+◌, ◌*◌, ◌^◌, Some, List, Bool, ℕ, min, subst, sym}
 use Rattle.std.proofs.Common.{arith}
 use Rattle.vb_bits.specs.Sets.{HasNoneFrom, IsLeastFrom}
-use Rattle.vb_pages.specs.Table.{IsLowestStart}
-use Rattle.vb_pages.proofs.TableLemmas.{lowest_none, lowest_some}
-use Rattle.vb_pages.proofs.table.Table.first_from.Goals as goal
+use Rattle.vb_pages.{specs.Table.IsLowestStart, proofs.TableLemmas.{lowest_none, lowest_some}}
 use Rattle.vb_pages.proofs.table.Table.first_from.Goals.{After-first_from}
+use Rattle.vb_pages.proofs.table.Table.first_from.Goals as goal
 
 -- the first number of a block that starts at the page or after it
 up : (c : After-first_from)

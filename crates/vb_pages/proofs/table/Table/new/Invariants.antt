@@ -1,5 +1,4 @@
-use Rattle.std.proofs.Common.{◌≡◌, map, replicate, false}
-use Rattle.std.specs.List.{range_with_len}
+use Rattle.std.{proofs.Common.{◌≡◌, map, replicate, false}, specs.List.range_with_len}
 use Rattle.vb_pages.specs.Table.{room_of}
 use Rattle.vb_pages.proofs.table.Table.new.Given as goal
 

@@ -1,6 +1,5 @@
 use Rattle.std.proofs.Common.{subst, arith}
-use Rattle.vb_pages.specs.Table.{AreBlocks}
-use Rattle.vb_pages.proofs.TableLemmas.{ten_sets, set_now, length-table_of}
+use Rattle.vb_pages.{specs.Table.AreBlocks, proofs.TableLemmas.{ten_sets, set_now, length-table_of}}
 use Rattle.vb_pages.proofs.table.Table.of_order.Goals as goal
 
 pub index-requires : goal.index-requires

@@ -1,8 +1,6 @@
 use Rattle.std.proofs.Common.{refl, subst, ℕ, List, Result, Ok, Err, OnOk, replicate}
-use Rattle.vb_ram.specs.Pages.{Pages, Wrote, Cleared}
-use Rattle.vb_ram.specs.declared.fault.RamFault.{RamFault}
-use Rattle.vb_ram.proofs.Contents.{zero_page_is}
-use Rattle.vb_ram.proofs.PageLemmas.{cleared}
+use Rattle.vb_ram.{specs.Pages.{Pages, Wrote, Cleared}, specs.declared.fault.RamFault.RamFault}
+use Rattle.vb_ram.{proofs.Contents.zero_page_is, proofs.PageLemmas.cleared}
 use Rattle.vb_ram.proofs.bytes.GuestBytes.clear_page.Goals as goal
 
 -- where the zeros were written, the page is cleared

@@ -1,8 +1,6 @@
 use Rattle.std.proofs.Common.{◌≡◌, length, refl, sym, ◌∙◌, ap, arith}
 use Rattle.std.proofs.lemmas.Bool.Decides.{nat_tests}
-use Rattle.vb_ram.specs.Pages.{Page}
-use Rattle.vb_ram.proofs.Blanks.{shown-none}
-use Rattle.vb_ram.proofs.Contents.{zero_page_is}
+use Rattle.vb_ram.{specs.Pages.Page, proofs.Blanks.shown-none, proofs.Contents.zero_page_is}
 use Rattle.vb_ram.proofs.frame.Frame.bytes.Goals as goal
 
 pub returns-then-is_empty-clause-bytes : goal.returns-then-is_empty-clause-bytes

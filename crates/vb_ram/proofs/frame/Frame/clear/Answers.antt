@@ -1,8 +1,6 @@
 use Rattle.std.proofs.Common.{◌≡◌, ℕ, List, ◌∙◌, ap, arith, length}
 use Rattle.vb_model.specs.Guest.{zero_page}
-use Rattle.vb_ram.specs.Blank.{shown}
-use Rattle.vb_ram.specs.Pages.{Page}
-use Rattle.vb_ram.proofs.Contents.{length-zero_page}
+use Rattle.vb_ram.{specs.Blank.shown, specs.Pages.Page, proofs.Contents.length-zero_page}
 use Rattle.vb_ram.proofs.frame.Frame.clear.Goals as goal
 
 pub returns : goal.returns

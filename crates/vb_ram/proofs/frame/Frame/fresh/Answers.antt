@@ -1,6 +1,5 @@
 use Rattle.std.proofs.Common.{ℕ, List, ◌∙◌, ap, arith, length}
-use Rattle.vb_ram.specs.Blank.{shown}
-use Rattle.vb_ram.proofs.Contents.{length-zero_page}
+use Rattle.vb_ram.{specs.Blank.shown, proofs.Contents.length-zero_page}
 use Rattle.vb_ram.proofs.frame.Frame.fresh.Goals as goal
 
 pub returns-clause-ok : goal.returns-clause-ok

@@ -1,6 +1,5 @@
 use Rattle.std.proofs.Common.{◌<◌, length, ◌∙◌, ap, arith}
-use Rattle.vb_ram.specs.Pages.{contents_of}
-use Rattle.vb_ram.proofs.Contents.{length-zero_page}
+use Rattle.vb_ram.{specs.Pages.contents_of, proofs.Contents.length-zero_page}
 use Rattle.vb_ram.proofs.PageLemmas.{is_memory-set}
 use Rattle.vb_ram.proofs.memory.Ram.discard.Goals as goal
 

@@ -1,7 +1,5 @@
 use Rattle.std.proofs.Common.{◌^◌, ◌<◌, sym, arith, subst, vec_len}
-use Rattle.vb_ram.specs.Pages.{Pages}
-use Rattle.vb_ram.specs.Memory.{IsMemory}
-use Rattle.vb_ram.proofs.PageLemmas.{whole-bare}
+use Rattle.vb_ram.{specs.Pages.Pages, specs.Memory.IsMemory, proofs.PageLemmas.whole-bare}
 use Rattle.vb_ram.proofs.memory.Ram.empty.Goals as goal
 
 pub invariant_of-result : goal.invariant_of-result

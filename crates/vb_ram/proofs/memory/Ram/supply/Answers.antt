@@ -1,6 +1,5 @@
 use Rattle.std.proofs.Common.{ℕ, ◌<◌, length, set, Some, ap, arith, subst}
-use Rattle.vb_ram.specs.Pages.{Page, Pages, Supplied}
-use Rattle.vb_ram.proofs.PageLemmas.{supplied}
+use Rattle.vb_ram.{specs.Pages.{Page, Pages, Supplied}, proofs.PageLemmas.supplied}
 use Rattle.vb_ram.proofs.memory.Ram.supply.Goals as goal
 
 pub returns-clause-ok : goal.returns-clause-ok

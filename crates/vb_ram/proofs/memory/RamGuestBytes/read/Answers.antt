@@ -1,7 +1,5 @@
-use Rattle.std.proofs.Common.{◌+◌, ◌<◌, length, ap, arith}
-use Rattle.std.proofs.lemmas.Grind.{common_steps}
-use Rattle.vb_ram.proofs.PageLemmas.{byte_read}
-use Rattle.vb_ram.specs.Pages.{Pages, Covers, byte_at}
+use Rattle.std.{proofs.Common.{◌+◌, ◌<◌, length, ap, arith}, proofs.lemmas.Grind.common_steps}
+use Rattle.vb_ram.{proofs.PageLemmas.byte_read, specs.Pages.{Pages, Covers, byte_at}}
 use Rattle.vb_ram.proofs.memory.RamGuestBytes.read.Goals as goal
 
 pub returns-in-Some-clause-bytes : goal.returns-in-Some-clause-bytes

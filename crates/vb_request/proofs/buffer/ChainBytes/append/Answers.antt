@@ -1,6 +1,5 @@
 use Rattle.std.proofs.Common.{◌≡◌, ◌≤◌, ◌+◌, ◌-◌, ◌++◌, ◌∙◌, ℕ, List, ap, arith, rules, length}
-use Rattle.std.proofs.Common.{length-append}
-use Rattle.std.proofs.lemmas.List.{append_assoc}
+use Rattle.std.{proofs.Common.length-append, proofs.lemmas.List.append_assoc}
 use Rattle.vb_request.specs.Request.{bytes_from}
 use Rattle.vb_request.proofs.Bytes.{bytes_from-length, bytes_from-append}
 use Rattle.vb_request.proofs.buffer.ChainBytes.append.Goals as goal

@@ -1,6 +1,5 @@
 use Rattle.std.proofs.Common.{subst, ◌+◌, ◌%◌}
-use Rattle.vb_ring.specs.Ends.{DeviceEnd, IsDeviceEnd}
-use Rattle.vb_ring.specs.Calls.{AddsUsedBy}
+use Rattle.vb_ring.{specs.Ends.{DeviceEnd, IsDeviceEnd}, specs.Calls.AddsUsedBy}
 use Rattle.vb_ring.proofs.Assemble.{adds_used_by}
 use Rattle.vb_ring.proofs.device.Queue.add_used.Goals as goal
 

@@ -1,8 +1,7 @@
 use Rattle.std.proofs.Common.{◌≡◌, ℕ, true, false, Option, Some, None, Result, Ok, Err, subst}
 use Rattle.std.proofs.Common.{rules}
 use Rattle.vb_chain.specs.declared.fault.ChainFault.{ChainFault}
-use Rattle.vb_ring.specs.declared.device.Taken.{Taken}
-use Rattle.vb_ring.specs.Ends.{DeviceEnd, IsDeviceEnd}
+use Rattle.vb_ring.{specs.declared.device.Taken.Taken, specs.Ends.{DeviceEnd, IsDeviceEnd}}
 use Rattle.vb_ring.specs.Calls.{PopsBy, after_pop}
 use Rattle.vb_ring.proofs.Pops.{pops_idle, pops_none, pops_chain, pops_fault}
 use Rattle.vb_ring.proofs.device.Queue.pop_descriptor_chain_into.Goals as goal

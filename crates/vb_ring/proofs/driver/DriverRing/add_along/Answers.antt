@@ -1,13 +1,9 @@
-use Rattle.std.proofs.Common.{◌≡◌, ◌∙◌, ◌+◌, ◌%◌, Some, Ok, length, take, sym, ap, subst}
-use Rattle.std.proofs.Common.{arith}
+use Rattle.std.proofs.Common.{◌≡◌, ◌∙◌, ◌+◌, ◌%◌, Some, Ok, length, take, sym, ap, subst, arith}
 use Rattle.std.specs.Prelude.{slice_index, if◌then◌else◌}
-use Rattle.vb_model.specs.Tests.{is_in}
-use Rattle.vb_model.proofs.Tables.{length-each_from}
+use Rattle.vb_model.{specs.Tests.is_in, proofs.Tables.length-each_from}
 use Rattle.vb_chain.specs.Written.{IsRoute}
-use Rattle.vb_ring.specs.Numbers.{numbers}
-use Rattle.vb_ring.specs.Ends.{DriverEnd, is_unused, next_path}
-use Rattle.vb_ring.specs.Calls.{AddsBy}
-use Rattle.vb_ring.proofs.Assemble.{adds_along, next_route, next_chain}
+use Rattle.vb_ring.{specs.Numbers.numbers, specs.Ends.{DriverEnd, is_unused, next_path}}
+use Rattle.vb_ring.{specs.Calls.AddsBy, proofs.Assemble.{adds_along, next_route, next_chain}}
 use Rattle.vb_ring.proofs.driver.DriverRing.add_along.Goals as goal
 
 pub write_chain-requires-clause-route : goal.write_chain-requires-clause-route

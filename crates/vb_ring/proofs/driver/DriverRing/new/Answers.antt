@@ -1,7 +1,5 @@
-use Rattle.std.proofs.Common.{◌≡◌, ℕ, List, Option, None}
-use Rattle.std.specs.Prelude.{replicate}
-use Rattle.vb_ring.specs.declared.layout.Layout.{Layout}
-use Rattle.vb_ring.specs.Layout.{layout_of}
+use Rattle.std.{proofs.Common.{◌≡◌, ℕ, List, Option, None}, specs.Prelude.replicate}
+use Rattle.vb_ring.{specs.declared.layout.Layout.Layout, specs.Layout.layout_of}
 use Rattle.vb_ring.specs.Ends.{fresh_end}
 use Rattle.vb_ring.proofs.driver.DriverRing.new.Goals as goal
 

@@ -1,6 +1,5 @@
 use Rattle.std.proofs.Common.{◌≡◌, rules, subst, sym}
-use Rattle.vb_ring.specs.declared.layout.Layout.{Layout}
-use Rattle.vb_ring.specs.Layout.{Fits, layout_of}
+use Rattle.vb_ring.{specs.declared.layout.Layout.Layout, specs.Layout.{Fits, layout_of}}
 use Rattle.vb_ring.proofs.Shapes.{fits_at}
 use Rattle.vb_ring.proofs.layout.Layout.at.Goals as goal
 

@@ -1,8 +1,6 @@
 use Rattle.std.proofs.Common.{◌∙◌, ◌-◌, ℕ, List, Option, length, take, sym, ap, subst, arith, refl}
 use Rattle.std.specs.Prelude.{slice_index}
-use Rattle.vb_ring.specs.Kept.{IsFreeChain}
-use Rattle.vb_ring.specs.Ends.{claimed}
-use Rattle.vb_ring.proofs.Numbers.{length-numbers}
+use Rattle.vb_ring.{specs.Kept.IsFreeChain, specs.Ends.claimed, proofs.Numbers.length-numbers}
 use Rattle.vb_ring.proofs.KeptLaws.{claim_after}
 use Rattle.vb_ring.proofs.owners.Owners.claim.Goals as goal
 

@@ -1,11 +1,9 @@
-use Rattle.std.proofs.Common.{◌≡◌, ◌+◌, ◌<◌, ℕ, Bool, true, List, [], ◌∷◌, ◌++◌, length, take}
-use Rattle.std.proofs.Common.{ap, arith}
-use Rattle.std.proofs.lemmas.List.{length_push}
-use Rattle.vb_ring.specs.Numbers.{numbers}
+use Rattle.std.proofs.Common.{◌≡◌, ◌+◌, ◌<◌, ℕ, Bool, true, List, [], ◌∷◌, ◌++◌, length, take, ap}
+use Rattle.std.{proofs.Common.arith, proofs.lemmas.List.length_push}
 use Rattle.vb_ring.proofs.Numbers.{numbers_none, numbers_yes, numbers_no, numbers_prefix}
-use Rattle.vb_ring.proofs.Numbers.{length-numbers}
-use Rattle.vb_ring.proofs.owners.Owners.find_free.Goals as goal
+use Rattle.vb_ring.{specs.Numbers.numbers, proofs.Numbers.length-numbers}
 use Rattle.vb_ring.proofs.owners.Owners.find_free.Goals.{then-is_free+else-len-count, else-is_free}
+use Rattle.vb_ring.proofs.owners.Owners.find_free.Goals as goal
 
 -- the numbers found below i and i itself are the first ones of all
 first_ones : (p : ℕ → Bool) (n i count : ℕ) (xs ys : List ℕ) → xs ≡ numbers p i → p i ≡ true

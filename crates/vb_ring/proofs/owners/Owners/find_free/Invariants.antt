@@ -1,6 +1,5 @@
 use Rattle.std.proofs.Common.{◌≡◌, ◌<◌, length}
-use Rattle.vb_ring.specs.Ends.{is_unused}
-use Rattle.vb_ring.specs.Numbers.{numbers}
+use Rattle.vb_ring.{specs.Ends.is_unused, specs.Numbers.numbers}
 use Rattle.vb_ring.proofs.owners.Owners.find_free.Given as goal
 
 abbrev pub invariant-loop-i : goal.invariant-loop-i

@@ -1,7 +1,5 @@
-use Rattle.std.proofs.Common.{◌∙◌, sym, ap, arith, length}
-use Rattle.std.proofs.lemmas.Bool.{cases_eq}
-use Rattle.vb_ring.specs.Ends.{is_unused}
-use Rattle.vb_ring.proofs.Numbers.{numbers_none, numbers_first}
+use Rattle.std.{proofs.Common.{◌∙◌, sym, ap, arith, length}, proofs.lemmas.Bool.cases_eq}
+use Rattle.vb_ring.{specs.Ends.is_unused, proofs.Numbers.{numbers_none, numbers_first}}
 use Rattle.vb_ring.proofs.owners.Owners.lowest_free.Goals as goal
 
 pub is_free-requires : goal.is_free-requires

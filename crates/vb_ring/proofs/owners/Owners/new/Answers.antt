@@ -1,5 +1,4 @@
-use Rattle.std.proofs.Common.{None, arith}
-use Rattle.std.proofs.lemmas.List.{take-replicate}
+use Rattle.std.{proofs.Common.{None, arith}, proofs.lemmas.List.take-replicate}
 use Rattle.vb_ring.proofs.KeptLaws.{fresh_kept}
 use Rattle.vb_ring.proofs.owners.Owners.new.Goals as goal
 

@@ -1,6 +1,5 @@
 use Rattle.std.proofs.Common.{◌≡◌, ◌∙◌, true, take, ap, arith}
-use Rattle.vb_ring.specs.Ends.{released}
-use Rattle.vb_ring.specs.Entries.{is_head}
+use Rattle.vb_ring.{specs.Ends.released, specs.Entries.is_head}
 use Rattle.vb_ring.proofs.KeptLaws.{some_out, release_after}
 use Rattle.vb_ring.proofs.owners.Owners.release.Goals as goal
 

@@ -1,6 +1,5 @@
 use Rattle.std.proofs.Common.{rules, refl, sym, subst}
-use Rattle.vb_run.specs.Past.{Past, AreHushed}
-use Rattle.vb_run.proofs.Closing.{closes, same_config}
+use Rattle.vb_run.{specs.Past.{Past, AreHushed}, proofs.Closing.{closes, same_config}}
 use Rattle.vb_run.proofs.kept.Kept.close.Goals as goal
 
 pub returns-clause-report : goal.returns-clause-report

@@ -1,8 +1,6 @@
 use Rattle.std.proofs.Common.{rules, ◌+◌, sym, ◌∙◌, ◌≡◌, slice_get, slice_set, Some, ap, refl}
-use Rattle.std.proofs.Common.{subst}
-use Rattle.std.proofs.lemmas.Option.{slice_get-get_or, get_or_from_slice_get}
-use Rattle.vb_run.specs.Past.{NotesNext, Past, unknown}
-use Rattle.vb_run.proofs.Keeping.{call_next, copied_next}
+use Rattle.std.{proofs.Common.subst, proofs.lemmas.Option.{slice_get-get_or, get_or_from_slice_get}}
+use Rattle.vb_run.{specs.Past.{NotesNext, Past, unknown}, proofs.Keeping.{call_next, copied_next}}
 use Rattle.vb_run.proofs.kept.Kept.next.Goals as goal
 
 pub invariant_of-self-2 : goal.invariant_of-self-2

@@ -1,5 +1,4 @@
-use Rattle.std.proofs.Common.{◌≡◌, ◌<◌, ℕ, true, false}
-use Rattle.std.specs.Prelude.{slice_index_or}
+use Rattle.std.{proofs.Common.{◌≡◌, ◌<◌, ℕ, true, false}, specs.Prelude.slice_index_or}
 use Rattle.vb_run.proofs.kept.Kept.next_service.Given as goal
 
 abbrev pub invariant-loop-number : goal.invariant-loop-number

@@ -1,9 +1,7 @@
 use Rattle.std.proofs.Common.{rules, refl, sym, ◌∙◌}
 use Rattle.vb_model.specs.declared.calls.Actor.TheVariants.{Worker}
-use Rattle.vb_run.proofs.Keeping.{call_aside, copied_noted, served_quiet}
-use Rattle.vb_run.specs.Services.{services}
-use Rattle.vb_run.proofs.Lists.{contains_at}
-use Rattle.vb_run.proofs.Tended.{service_plain}
+use Rattle.vb_run.{proofs.Keeping.{call_aside, copied_noted, served_quiet}, specs.Services.services}
+use Rattle.vb_run.{proofs.Lists.contains_at, proofs.Tended.service_plain}
 use Rattle.vb_run.proofs.kept.Kept.serve.Goals as goal
 
 pub invariant_of-self-then-found_nothing : goal.invariant_of-self-then-found_nothing

@@ -1,7 +1,6 @@
 use Rattle.std.proofs.Common.{◌≡◌, refl, ap, ◌∙◌}
 use denote.Param.Object.{read_made}
-use Rattle.vb_ram.specs.Pages.{Pages}
-use Rattle.vb_ram.specs.Part.{Part}
+use Rattle.vb_ram.{specs.Pages.Pages, specs.Part.Part}
 use Rattle.vb_shared.specs.Passes.{Pass}
 use Rattle.vb_run_tests.proofs.tests.leased.run_leased.OwnLists.{own-1, at-1-1, at-1-2}
 use Rattle.vb_run_tests.proofs.tests.leased.run_leased.Goals as goal

@@ -1,6 +1,5 @@
 use Rattle.std.proofs.Common.{◌≡◌, ◌≤◌, false, length, rules, ◌∙◌}
-use Rattle.vb_script.specs.Texts.{is_skipped}
-use Rattle.vb_script.proofs.Numbered.{numbered_line, numbered_none}
+use Rattle.vb_script.{specs.Texts.is_skipped, proofs.Numbered.{numbered_line, numbered_none}}
 use Rattle.vb_script.proofs.texts.Lines.next.Goals as goal
 
 pub returns-then-not-is_skipped-clause-line : goal.returns-then-not-is_skipped-clause-line

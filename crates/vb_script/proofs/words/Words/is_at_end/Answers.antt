@@ -1,7 +1,6 @@
 use Rattle.std.proofs.Common.{◌≡◌, ◌==◌, Bool, true, false, Some, None, not, is_some, refl, sym}
 use Rattle.std.proofs.Common.{◌∙◌, List, Option, Bor, ℕ}
-use Rattle.vb_script.specs.Words.{is_empty, words_left}
-use Rattle.vb_script.proofs.Cuts.{some_part}
+use Rattle.vb_script.{specs.Words.{is_empty, words_left}, proofs.Cuts.some_part}
 use Rattle.vb_script.proofs.words.Words.is_at_end.Goals as goal
 
 none_left : (rest : Option (Bor (List ℕ))) → not (is_some rest) ≡ is_empty (words_left rest)

@@ -1,7 +1,6 @@
 use Rattle.std.proofs.Common.{◌≡◌, refl, ap, ◌∙◌}
 use denote.Param.Object.{read_made}
-use Rattle.vb_ram.specs.Pages.{Pages}
-use Rattle.vb_ram.specs.Part.{Part}
+use Rattle.vb_ram.{specs.Pages.Pages, specs.Part.Part}
 use Rattle.vb_sim.proofs.Passes.{leased_unused}
 use Rattle.vb_sim.proofs.tests.leased.answer_all.OwnLists.{own-1, at-1-1, at-1-2}
 use Rattle.vb_sim.proofs.tests.leased.answer_all.Goals as goal

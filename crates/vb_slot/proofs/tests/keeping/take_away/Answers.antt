@@ -1,5 +1,4 @@
-use Rattle.std.proofs.Common.{rules}
-use Rattle.std.proofs.lemmas.Fn.{filter_same}
+use Rattle.std.{proofs.Common.rules, proofs.lemmas.Fn.filter_same}
 use Rattle.vb_slot.proofs.tests.keeping.take_away.Goals as goal
 
 pub returns-clause-items : goal.returns-clause-items

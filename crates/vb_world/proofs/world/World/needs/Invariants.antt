@@ -1,7 +1,6 @@
 use Rattle.std.proofs.Common.{◌≡◌}
 use Rattle.vb_model.specs.World.{World}
-use Rattle.vb_world.specs.Hosts.{IsWorld}
-use Rattle.vb_world.proofs.Aiming.{first_of, need_at}
+use Rattle.vb_world.{specs.Hosts.IsWorld, proofs.Aiming.{first_of, need_at}}
 use Rattle.vb_world.proofs.world.World.needs.Given as goal
 
 abbrev pub invariant-loop-key : goal.invariant-loop-key

@@ -1,7 +1,6 @@
 use Rattle.std.proofs.Common.{arith, ◌<◌, length}
 use Rattle.vb_world.proofs.Plugs.{plugged, not_plugged, device_back, spare_of, first_removed}
-use Rattle.vb_world.proofs.Plugs.{spare_like}
-use Rattle.vb_world.proofs.KeeperFrames.{stands_keeping}
+use Rattle.vb_world.{proofs.Plugs.spare_like, proofs.KeeperFrames.stands_keeping}
 use Rattle.vb_world.proofs.world.World.plug_first_spare.Goals as goal
 
 pub new-requires : goal.new-requires

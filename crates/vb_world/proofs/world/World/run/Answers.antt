@@ -1,7 +1,5 @@
-use Rattle.std.proofs.Common.{take, rules}
-use Rattle.std.proofs.lemmas.List.{take_more}
-use Rattle.vb_model.specs.Run.{last_world}
-use Rattle.vb_model.specs.World.{made}
+use Rattle.std.{proofs.Common.{take, rules}, proofs.lemmas.List.take_more}
+use Rattle.vb_model.{specs.Run.last_world, specs.World.made}
 use Rattle.vb_world.proofs.Runs.{ran_none, ran_on, safe_run, take_whole}
 use Rattle.vb_world.proofs.world.World.run.Goals as goal
 

@@ -1,5 +1,4 @@
-use Rattle.std.proofs.Common.{◌≡◌, vec_len, MatchOption}
-use Rattle.std.specs.Bool.{⊤}
+use Rattle.std.{proofs.Common.{◌≡◌, vec_len, MatchOption}, specs.Bool.⊤}
 use Rattle.vb_model.specs.Guest.{Guest}
 use Rattle.vb_slot.specs.contracts.lone.LoneSlotGuestSlot.TheImpl.{ghosts}
 use Rattle.vb_sim.proofs.tests.leased.Table.answer_each.Given as goal

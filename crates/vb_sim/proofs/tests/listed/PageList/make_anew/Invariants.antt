@@ -1,5 +1,4 @@
-use Rattle.std.proofs.Common.{◌≡◌, ◌≤◌, take, vec_len}
-use Rattle.std.specs.Prelude.{vec_capacity}
+use Rattle.std.{proofs.Common.{◌≡◌, ◌≤◌, take, vec_len}, specs.Prelude.vec_capacity}
 use Rattle.vb_model.specs.Tests.{pages_where}
 use Rattle.vb_sim.proofs.tests.listed.PageList.make_anew.Given as goal
 

@@ -1,7 +1,6 @@
 use Rattle.std.proofs.Common.{◌≡◌, ◌∙◌, ◌++◌, ◌∷◌, ◌≤◌, ℕ, List, [], sym, ap, arith, refl}
-use Rattle.vb_model.specs.Tests.{times}
 use Rattle.std.proofs.lemmas.Bool.{eq-eqb}
-use Rattle.vb_model.specs.Tests.{one_if}
+use Rattle.vb_model.specs.Tests.{times, one_if}
 use Rattle.vb_ram.specs.Pages.{Page}
 use Rattle.vb_device.specs.Own.{has}
 use Rattle.vb_slot.proofs.Numbers.{last, with_last, absent, not_both}
