@@ -7,6 +7,7 @@ pub mod Chains
 pub mod Notices
 pub mod Machine
 pub mod Orders
+pub mod Sole
 pub mod Touched
 pub mod Balloons
 pub mod Order
