@@ -1,5 +1,6 @@
 pub mod RegionLemmas
 pub mod SoleLemmas
+pub mod SingleLemmas
 pub mod PartLemmas
 pub mod BufferLemmas
 pub mod NextLemmas

@@ -8,6 +8,7 @@ pub mod Notices
 pub mod Machine
 pub mod Orders
 pub mod Sole
+pub mod Single
 pub mod Touched
 pub mod Balloons
 pub mod Order

@@ -28,7 +28,7 @@ pub(crate) fn first_pieces(pieces: &[Buffer; MAX_PIECES], count: u16) -> &[Buffe
 }
 
 /// What a descriptor says of its buffer.
-fn buffer_of(descriptor: &Descriptor) -> Buffer
+pub(crate) fn buffer_of(descriptor: &Descriptor) -> Buffer
     ensures { piece_in result ≡ piece_of descriptor.now }
 {
     Buffer {
