@@ -1,5 +1,4 @@
 -- Worked facts of saved devices: their bytes, the states that calls lead to, and those that none do.
-use lib.{Count}
 use Rattle.std.proofs.Common.{◌≡◌, ℕ, true, false, [], ◌∷◌, map, refl, count_by}
 use Rattle.std.{specs.Prelude.{Some, None, Err}, specs.List.range_with_len}
 use Rattle.vb_core.specs.declared.saved.StateDenial.TheVariants.{BadLength, NotAState, Impossible}
@@ -12,6 +11,7 @@ use Rattle.vb_core.{specs.declared.saved.StateDenial.TheVariants.OtherVersion, s
 use Rattle.vb_core.specs.declared.format.TheConstants.{FORMAT_VERSION, VERSION_AT, LENGTH_AT, MAGIC}
 use Rattle.vb_core.specs.Devices.{new_device}
 use Rattle.vb_core.specs.Format.{u16_bytes, u64_bytes, u32_at, u64_at, checksum}
+use lib.Count
 
 -- ---- bytes
 
