@@ -1,17 +1,18 @@
 -- Worked facts of saved devices: their bytes, the states that calls lead to, and those that none do.
-use lib.{Count}
 use Rattle.std.proofs.Common.{◌≡◌, ℕ, true, false, [], ◌∷◌, map, refl, count_by}
 use Rattle.std.{specs.Prelude.{Some, None, Err}, specs.List.range_with_len}
 use Rattle.vb_core.specs.declared.saved.StateDenial.TheVariants.{BadLength, NotAState, Impossible}
 use Rattle.vb_core.specs.declared.format.TheConstants.{SAVED_LENGTH, CHECKSUM_AT, HEADER_LENGTH}
 use Rattle.vb_core.specs.Saved.{is_status, are_agreed, is_ring, is_held, is_poison, save_denial}
 use Rattle.vb_core.specs.declared.kinds.Kind.TheVariants.{Inflate, Statistics, Report}
-use Rattle.vb_core.{specs.declared.settings.Settings.Settings, specs.declared.ring.Ring.Ring}
+use Rattle.vb_core.specs.declared.settings.Settings.{Settings}
+use Rattle.vb_core.specs.declared.ring.Virtqueue.{Virtqueue}
 use Rattle.vb_core.{specs.declared.device.Device.Device, specs.declared.saved.Saved.Saved}
 use Rattle.vb_core.{specs.declared.saved.StateDenial.TheVariants.OtherVersion, specs.Saved.restored}
 use Rattle.vb_core.specs.declared.format.TheConstants.{FORMAT_VERSION, VERSION_AT, LENGTH_AT, MAGIC}
 use Rattle.vb_core.specs.Devices.{new_device}
 use Rattle.vb_core.specs.Format.{u16_bytes, u64_bytes, u32_at, u64_at, checksum}
+use lib.Count
 
 -- ---- bytes
 
@@ -84,7 +85,7 @@ features_not_agreed : map are_agreed
     ∷ at_step 15 0x100000005 ∷ []) ≡ false ∷ false ∷ false ∷ false ∷ false ∷ false ∷ []
 features_not_agreed = refl
 
-abbrev ring : ℕ → Ring
+abbrev ring : ℕ → Virtqueue
 ring moved = record {
   table = 0x10000;
   avail = 0x11000;

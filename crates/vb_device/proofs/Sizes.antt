@@ -2,11 +2,11 @@
 use Rattle.std.proofs.Common.{◌≡◌, ◌∙◌, ℕ, zero, suc, ◌<◌, ◌≤◌, Bool, true, false, refl, arith, inl}
 use Rattle.std.{proofs.Common.{inr, ap, rules}, specs.Prelude.{not, ◌||◌, ◌&&◌, IsTrue}}
 use Rattle.std.proofs.lemmas.Bool.{cases_eq, and_parts}
-use lib.{Count}
 use Rattle.vb_model.specs.Limits.{is_config, is_power_of_two}
 use Rattle.vb_ram.proofs.Limits.{config_limits}
 use Rattle.vb_ring.{specs.Layout.IsSize, proofs.Powers.size_of_power}
 use Rattle.std.specs.Int as int
+use lib.Count
 
 abbrev all_below : (ℕ → Bool) → ℕ → Bool
 all_below p zero = true

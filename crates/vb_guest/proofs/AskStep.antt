@@ -2,9 +2,11 @@
 use Rattle.std.specs.Prelude.{◌≡◌, false, List, [], Result, Ok, Err, IsOk, Some, None, is_some}
 use Rattle.std.specs.Prelude.{slice_get, refl}
 use Rattle.std.proofs.Common.{sym, ◌∙◌, ap, subst, arith, inl, inr}
-use Rattle.vb_model.specs.Requests.{Request, Figures, Buffer, NoBuffer, BufferPosted, BufferTaken}
+use Rattle.vb_model.specs.Requests.{Request, Figures, StatisticsBuffer, NoBuffer, BufferPosted}
+use Rattle.vb_model.specs.Requests.{BufferTaken}
 use Rattle.vb_model.{specs.declared.calls.Call.TheVariants.Ask, specs.Requests.BufferDone}
-use Rattle.vb_model.{specs.declared.replies.Refusal.Refusal, specs.Guest.Guest, specs.Device.Asks}
+use Rattle.vb_model.{specs.declared.replies.Refusal.Refusal, specs.Guest.Guest}
+use Rattle.vb_model.specs.Device.{ReturnsBuffer}
 use Rattle.vb_model.specs.declared.replies.Refusal.TheVariants.{NotReady, NotTaken}
 use Rattle.vb_model.{specs.declared.replies.Reply.TheVariants.Asked, specs.Layout.reserved_pages}
 use Rattle.vb_model.specs.Refusals.{refusal_of, is_taken}
@@ -41,7 +43,7 @@ ask_done m1 m2 p1 p2 d g figures result is did stands run free_part free =
     let ties = stands.ties in
     let n = g.config.pages in
     let r : Request = record { head = 0; pages = []; visited = 0 } in
-    let L : Buffer → Type 0 = λ b. BufferLine m1 d.statistics p1.statistics b in
+    let L : StatisticsBuffer → Type 0 = λ b. BufferLine m1 d.statistics p1.statistics b in
     let line : L (BufferTaken figures) = subst L is run.statistics in
     let taken : taken_at 2 0 p1 ≡ Some r =
     ap (λ (l : List Request). slice_get l 0) line.remembers in
@@ -59,7 +61,7 @@ ask_done m1 m2 p1 p2 d g figures result is did stands run free_part free =
     (ring_as size d.statistics.size 2 used_page run.statistics_size at)
     (λ p ne. adds.puts.rest.others p (ne, (ne, tt))) in
     let new : Guest = record g { buffer = BufferDone figures } in
-    let A : Buffer → Type 0 = λ b. Asks b g Asked new in
+    let A : StatisticsBuffer → Type 0 = λ b. ReturnsBuffer b g Asked new in
     let step = honest_performed g Ask [] Asked new free (refl, subst A (sym is) (refl, refl)) in
     let after : Part = using 2 0 p1 in
     let there : Ties m2 after d new = record {
@@ -87,10 +89,10 @@ ask_done m1 m2 p1 p2 d g figures result is did stands run free_part free =
     (ties_same m2 m2 after p2 d d new refl (did.part free_part) refl there) refl)
 
 -- the buffer that a device remembers
-taken_is : (b : Buffer) → is_some (slice_get (taken_requests b) 0) ≡ is_taken b
+taken_is : (b : StatisticsBuffer) → is_some (slice_get (taken_requests b) 0) ≡ is_taken b
 taken_is b = grind arith
 
-not_taken : (g : Guest) (b : Buffer) → g.status ≡ 15 → g.buffer ≡ b → is_taken b ≡ false
+not_taken : (g : Guest) (b : StatisticsBuffer) → g.status ≡ 15 → g.buffer ≡ b → is_taken b ≡ false
     → refusal_of g Ask ≡ Some NotTaken
 not_taken g b up is other = grind arith
 
@@ -112,14 +114,14 @@ ask_step m1 m2 p1 p2 d g result did stands =
           ∙ taken_is g.buffer))
     ]
   where
-    refused : (b : Buffer) → g.buffer ≡ b → is_taken b ≡ false → IsRunning m1 p1 d g
+    refused : (b : StatisticsBuffer) → g.buffer ≡ b → is_taken b ≡ false → IsRunning m1 p1 d g
         → ask_refusal p1 ≡ refusal_of g Ask
         → StepsAlone (Honest m2 p2 d) g Ask (asked_reply result)
     refused b is other run same =
         let why = not_taken g b run.state is other in
         ask_refused m1 m2 p1 p2 d g NotTaken result did stands (same ∙ why) why
 
-    by_buffer : (b : Buffer) → g.buffer ≡ b → IsRunning m1 p1 d g
+    by_buffer : (b : StatisticsBuffer) → g.buffer ≡ b → IsRunning m1 p1 d g
         → ask_refusal p1 ≡ refusal_of g Ask
         → StepsAlone (Honest m2 p2 d) g Ask (asked_reply result)
     by_buffer (BufferTaken figures) is run same =

@@ -10,12 +10,13 @@ use Rattle.vb_model.{specs.declared.replies.Refusal.TheVariants.Nothing, specs.S
 use Rattle.vb_model.{specs.declared.replies.Reply.Reply, specs.Requests.{outstanding, Deflating}}
 use Rattle.vb_model.{specs.declared.replies.Reply.TheVariants.Posted, proofs.Tables.count_by-cons}
 use Rattle.vb_model.{specs.Guest.{Guest, lent_count, deflate_on_oom}, specs.Layout.buffer_page}
-use Rattle.vb_model.{specs.Driver.{Deflates, lowest_lent, asking}, proofs.OrderlySteps.honest_order}
+use Rattle.vb_model.specs.Driver.{Deflates, lowest_lent, after_posting}
+use Rattle.vb_model.proofs.OrderlySteps.{honest_order}
 use Rattle.vb_model.specs.Refusals.{◌⇒◌, first_refusal, refusal_of, deflate_count, oom_count, room}
 use Rattle.vb_model.proofs.Shapes.{reserved_least}
 use Rattle.vb_ram.{specs.Pages.Pages, specs.Part.Part}
 use Rattle.vb_driver.specs.State.{FreePages, DriverState, IsDriver}
-use Rattle.vb_driver.specs.Answers.{refusal_in, deflate_tests, oom_tests}
+use Rattle.vb_driver.specs.Answers.{refusal_in, deflate_causes, oom_causes}
 use Rattle.vb_driver.specs.Calls.{Unchanged, AsksBack, DeflatesBy, DeflatesOnOomBy, areas_asked}
 use Rattle.vb_guest.proofs.RunApart.{sizes_of, ring_of, buffer_clear, post_leaves, post_same}
 use Rattle.vb_guest.proofs.DriverWords.{Sides, sides_of, driver_of, driver_is, keeps_own}
@@ -69,7 +70,7 @@ asked_back m1 m2 p1 p2 g areas sides d2 call count posted asks driver did stands
     let single = driver.deflate.requests in
     let least = least_head m1 1 sides.deflate p1.deflate g.deflate posted.head run.deflate.ring
     single did.posts.lowest in
-    let new : Guest = asking Deflating posted.head pages g in
+    let new : Guest = after_posting Deflating posted.head pages g in
     let reply = ap (λ (k : ℕ). Posted posted.head k) did.pages in
     let step = honest_performed g call [] (Posted posted.head posted.pages) new free
     (asks.performs (Posted posted.head posted.pages) new (posted.head, least, reply, refl)) in
@@ -152,20 +153,20 @@ deflate_idle : (g : Guest) (n : ℕ) → (g.status ≡ 0) ⊎ (g.status ≡ 131)
     → refusal_of g (Deflate n) ≡ Some NotReady
 deflate_idle g n down = grind arith
 
-deflate_idle_tests : (d : DriverState) (p : Part) (n : ℕ) → (p.status ≡ 0) ⊎ (p.status ≡ 131)
-    → first_refusal (deflate_tests d p n) ≡ Some NotReady
-deflate_idle_tests d p n down = grind arith
+deflate_idle_causes : (d : DriverState) (p : Part) (n : ℕ) → (p.status ≡ 0) ⊎ (p.status ≡ 131)
+    → first_refusal (deflate_causes d p n) ≡ Some NotReady
+deflate_idle_causes d p n down = grind arith
 
 deflate_running : (g : Guest) (n : ℕ) → g.status ≡ 15
     → refusal_of g (Deflate n)
     ≡ request_refusal (room g) (outstanding g.deflate) (deflate_count g n)
 deflate_running g n e = grind arith
 
-deflate_running_tests : (g : Guest) (areas : FreePages) (sides : Sides) (p : Part) (n : ℕ)
+deflate_running_causes : (g : Guest) (areas : FreePages) (sides : Sides) (p : Part) (n : ℕ)
     → p.status ≡ 15 → p.target ≡ g.target
-    → first_refusal (deflate_tests (driver_of g areas sides) p n)
+    → first_refusal (deflate_causes (driver_of g areas sides) p n)
     ≡ request_refusal (room g) (outstanding_in sides.deflate.ring) (deflate_count g n)
-deflate_running_tests g areas sides p n e t = grind arith
+deflate_running_causes g areas sides p n e t = grind arith
 
 deflate_asks : (g : Guest) (n : ℕ) → IsAsking g (Deflate n) (deflate_count g n)
 deflate_asks g n = grind arith
@@ -182,14 +183,14 @@ deflate_step m1 m2 p1 p2 d1 d2 g n result did stands =
     let at : DeflatesBy m1 m2 p1 p2 (driver_of g areas sides) d2 n result =
     subst (λ d. DeflatesBy m1 m2 p1 p2 d d2 n result) is did in
     let D : ℕ → Type 0 = λ s. (s ≡ 0) ⊎ (s ≡ 131) in
-    let same : first_refusal (deflate_tests (driver_of g areas sides) p1 n)
+    let same : first_refusal (deflate_causes (driver_of g areas sides) p1 n)
     ≡ refusal_of g (Deflate n) =
     elim here.ties.queues [
-      | inl idle ↦ deflate_idle_tests (driver_of g areas sides) p1 n
+      | inl idle ↦ deflate_idle_causes (driver_of g areas sides) p1 n
           (subst D (sym here.ties.parts.device.status) idle.state)
           ∙ sym (deflate_idle g n idle.state)
       | inr run ↦
-          deflate_running_tests g areas sides p1 n (here.ties.parts.device.status ∙ run.state)
+          deflate_running_causes g areas sides p1 n (here.ties.parts.device.status ∙ run.state)
           here.ties.parts.device.target
           ∙ ap (λ (k : ℕ). request_refusal (room g) k (deflate_count g n))
           (outstanding_are m1 1 sides.deflate.ring p1.deflate g.deflate run.deflate.ring)
@@ -214,21 +215,21 @@ oom_idle : (g : Guest) (n : ℕ) → (g.status ≡ 0) ⊎ (g.status ≡ 131)
     → refusal_of g (Oom n) ≡ Some NotReady
 oom_idle g n down = grind arith
 
-oom_idle_tests : (d : DriverState) (p : Part) (n : ℕ) → (p.status ≡ 0) ⊎ (p.status ≡ 131)
-    → first_refusal (oom_tests d p n) ≡ Some NotReady
-oom_idle_tests d p n down = grind arith
+oom_idle_causes : (d : DriverState) (p : Part) (n : ℕ) → (p.status ≡ 0) ⊎ (p.status ≡ 131)
+    → first_refusal (oom_causes d p n) ≡ Some NotReady
+oom_idle_causes d p n down = grind arith
 
 oom_running : (g : Guest) (n : ℕ) → g.status ≡ 15
     → refusal_of g (Oom n)
     ≡ oom_refusal (deflate_on_oom g.features) (room g) (outstanding g.deflate) (oom_count g n)
 oom_running g n e = grind arith
 
-oom_running_tests : (g : Guest) (areas : FreePages) (sides : Sides) (p : Part) (n : ℕ)
+oom_running_causes : (g : Guest) (areas : FreePages) (sides : Sides) (p : Part) (n : ℕ)
     → p.status ≡ 15
-    → first_refusal (oom_tests (driver_of g areas sides) p n)
+    → first_refusal (oom_causes (driver_of g areas sides) p n)
     ≡ oom_refusal (deflate_on_oom g.features) (room g) (outstanding_in sides.deflate.ring)
     (oom_count g n)
-oom_running_tests g areas sides p n e = grind arith
+oom_running_causes g areas sides p n e = grind arith
 
 oom_asks : (g : Guest) (n : ℕ) → IsAsking g (Oom n) (oom_count g n)
 oom_asks g n = grind arith
@@ -245,12 +246,12 @@ oom_step m1 m2 p1 p2 d1 d2 g n result did stands =
     let at : DeflatesOnOomBy m1 m2 p1 p2 (driver_of g areas sides) d2 n result =
     subst (λ d. DeflatesOnOomBy m1 m2 p1 p2 d d2 n result) is did in
     let D : ℕ → Type 0 = λ s. (s ≡ 0) ⊎ (s ≡ 131) in
-    let same : first_refusal (oom_tests (driver_of g areas sides) p1 n) ≡ refusal_of g (Oom n) =
+    let same : first_refusal (oom_causes (driver_of g areas sides) p1 n) ≡ refusal_of g (Oom n) =
     elim here.ties.queues [
-      | inl idle ↦ oom_idle_tests (driver_of g areas sides) p1 n
+      | inl idle ↦ oom_idle_causes (driver_of g areas sides) p1 n
           (subst D (sym here.ties.parts.device.status) idle.state) ∙ sym (oom_idle g n idle.state)
       | inr run ↦
-          oom_running_tests g areas sides p1 n (here.ties.parts.device.status ∙ run.state)
+          oom_running_causes g areas sides p1 n (here.ties.parts.device.status ∙ run.state)
           ∙ ap (λ (k : ℕ). oom_refusal (deflate_on_oom g.features) (room g) k (oom_count g n))
           (outstanding_are m1 1 sides.deflate.ring p1.deflate g.deflate run.deflate.ring)
           ∙ sym (oom_running g n run.state)

@@ -8,7 +8,8 @@ use Rattle.vb_model.{specs.declared.calls.Call.TheVariants.Inflate, specs.Layout
 use Rattle.vb_model.{specs.declared.replies.Refusal.Refusal, specs.Guest.{Guest, tells_host}}
 use Rattle.vb_model.specs.declared.replies.Refusal.TheVariants.{DeflatePending}
 use Rattle.vb_model.{specs.declared.replies.Reply.TheVariants.Posted, proofs.Shapes.reserved_least}
-use Rattle.vb_model.{specs.Requests.{outstanding, Inflating}, specs.Driver.{stranded_first, asking}}
+use Rattle.vb_model.specs.Requests.{outstanding, Inflating}
+use Rattle.vb_model.specs.Driver.{stranded_first, after_posting}
 use Rattle.vb_model.specs.Refusals.{◌⇒◌, first_refusal, refusal_of, inflate_count, room}
 use Rattle.vb_model.proofs.OrderlySteps.{honest_order}
 use Rattle.vb_ram.{specs.Pages.Pages, specs.Part.Part}
@@ -24,7 +25,7 @@ use Rattle.vb_guest.{proofs.PagesKept.pages_same, proofs.Closing.{honest_perform
 use Rattle.vb_guest.proofs.DriverWords.{Sides, sides_of, driver_of, driver_is, keeps_own}
 use Rattle.vb_ring.specs.Ends.{outstanding as outstanding_in}
 use Rattle.vb_driver.specs.declared.answers.Posted.{Posted as PostedRequest}
-use Rattle.vb_driver.specs.Answers.{inflate_tests, inflate_count as driver_count}
+use Rattle.vb_driver.specs.Answers.{inflate_causes, inflate_count as driver_count}
 
 -- a new request of a queue is refused for want of room, or of pages
 abbrev pub request_refusal : ℕ → ℕ → ℕ → Option Refusal
@@ -42,9 +43,9 @@ idle_refused : (g : Guest) (n : ℕ) → (g.status ≡ 0) ⊎ (g.status ≡ 131)
     → refusal_of g (Inflate n) ≡ Some NotReady
 idle_refused g n down = grind arith
 
-idle_tests : (d : DriverState) (p : Part) (n : ℕ) → (p.status ≡ 0) ⊎ (p.status ≡ 131)
-    → first_refusal (inflate_tests d p n) ≡ Some NotReady
-idle_tests d p n down = grind arith
+idle_causes : (d : DriverState) (p : Part) (n : ℕ) → (p.status ≡ 0) ⊎ (p.status ≡ 131)
+    → first_refusal (inflate_causes d p n) ≡ Some NotReady
+idle_causes d p n down = grind arith
 
 running_refusal : (g : Guest) (n : ℕ) → g.status ≡ 15
     → refusal_of g (Inflate n)
@@ -52,12 +53,12 @@ running_refusal : (g : Guest) (n : ℕ) → g.status ≡ 15
     (inflate_count g n)
 running_refusal g n e = grind arith
 
-running_tests : (g : Guest) (areas : FreePages) (sides : Sides) (p : Part) (n : ℕ) → p.status ≡ 15
+running_causes : (g : Guest) (areas : FreePages) (sides : Sides) (p : Part) (n : ℕ) → p.status ≡ 15
     → p.target ≡ g.target
-    → first_refusal (inflate_tests (driver_of g areas sides) p n)
+    → first_refusal (inflate_causes (driver_of g areas sides) p n)
     ≡ offer_refusal (tells_host g) (outstanding_in sides.deflate.ring) (room g)
     (outstanding_in sides.inflate.ring) (inflate_count g n)
-running_tests g areas sides p n e t = grind arith
+running_causes g areas sides p n e t = grind arith
 
 inflate_offered : (m1 m2 : Pages) (p1 p2 : Part) (g : Guest) (areas : FreePages) (sides : Sides)
     (d2 : DriverState) (n : ℕ) (posted : PostedRequest)
@@ -72,7 +73,7 @@ inflate_offered m1 m2 p1 p2 g areas sides d2 n posted driver did stands run free
     let single = driver.inflate.requests in
     let least = least_head m1 0 sides.inflate p1.inflate g.inflate posted.head run.inflate.ring
     single did.posts.lowest in
-    let new : Guest = asking Inflating posted.head pages g in
+    let new : Guest = after_posting Inflating posted.head pages g in
     let reply = ap (λ (k : ℕ). Posted posted.head k) did.pages in
     let step = honest_performed g (Inflate n) [] (Posted posted.head posted.pages) new free
     (refl, (posted.head, did.others, least, did.free, did.distinct, did.enough, reply, refl)) in
@@ -138,7 +139,7 @@ by_result : (m1 m2 : Pages) (p1 p2 : Part) (g : Guest) (areas : FreePages) (side
     (d2 : DriverState) (n : ℕ) (result : Result PostedRequest Refusal)
     → InflatesBy m1 m2 p1 p2 (driver_of g areas sides) d2 n result
     → Honest m1 p1 (driver_of g areas sides) g
-    → first_refusal (inflate_tests (driver_of g areas sides) p1 n) ≡ refusal_of g (Inflate n)
+    → first_refusal (inflate_causes (driver_of g areas sides) p1 n) ≡ refusal_of g (Inflate n)
     → StepsAlone (Honest m2 p2 d2) g (Inflate n) (posted_reply result)
 by_result m1 m2 p1 p2 g areas sides d2 n (Err why) did stands same = grind arith
 by_result m1 m2 p1 p2 g areas sides d2 n (Ok posted) did stands same =
@@ -166,14 +167,14 @@ inflate_step m1 m2 p1 p2 d1 d2 g n result did stands =
     let sides = sides_of d1 in
     let here : Honest m1 p1 (driver_of g areas sides) g = subst (λ d. Honest m1 p1 d g) is stands in
     let D : ℕ → Type 0 = λ s. (s ≡ 0) ⊎ (s ≡ 131) in
-    let same : first_refusal (inflate_tests (driver_of g areas sides) p1 n)
+    let same : first_refusal (inflate_causes (driver_of g areas sides) p1 n)
     ≡ refusal_of g (Inflate n) =
     elim here.ties.queues [
-      | inl idle ↦ idle_tests (driver_of g areas sides) p1 n
+      | inl idle ↦ idle_causes (driver_of g areas sides) p1 n
           (subst D (sym here.ties.parts.device.status) idle.state)
           ∙ sym (idle_refused g n idle.state)
       | inr run ↦
-          running_tests g areas sides p1 n (here.ties.parts.device.status ∙ run.state)
+          running_causes g areas sides p1 n (here.ties.parts.device.status ∙ run.state)
           here.ties.parts.device.target
           ∙ ap (λ (k : ℕ). offer_refusal (tells_host g) (outstanding_in sides.deflate.ring)
           (room g) k (inflate_count g n))

@@ -3,12 +3,12 @@ use Rattle.std.specs.Prelude.{◌≡◌, ℕ, Bool, true, false, not, ◌&&◌, 
 use Rattle.std.specs.Prelude.{Option, Some, is_none, slice_get, drop, refl, ◌⊎◌}
 use Rattle.std.proofs.Common.{sym, ap, subst, inl, inr}
 use Rattle.vb_model.specs.declared.replies.Refusal.TheVariants.{NoQueue, NotReady, Busy, NotTaken}
-use Rattle.vb_model.specs.Tables.{has_chains, is_queue_of_requests, has_unvisited, take_tests}
+use Rattle.vb_model.specs.Tables.{has_chains, is_queue_of_requests, has_unvisited, take_causes}
 use Rattle.vb_model.{specs.declared.calls.Call.TheVariants.{Take, Finish}, specs.Requests.Request}
 use Rattle.vb_model.{specs.declared.replies.Refusal.Refusal, specs.Guest.Guest}
 use Rattle.vb_model.specs.declared.replies.Refusal.TheVariants.{NotWorked}
-use Rattle.vb_model.{specs.FirstRefusal.{◌⇒◌, first_refusal}, specs.Tables.finish_tests}
-use Rattle.vb_model.{specs.Refusals.{tests, refusal_of}, proofs.Queues.{IsNoQueue, no_chains_at}}
+use Rattle.vb_model.{specs.FirstRefusal.{◌⇒◌, first_refusal}, specs.Tables.finish_causes}
+use Rattle.vb_model.{specs.Refusals.{causes, refusal_of}, proofs.Queues.{IsNoQueue, no_chains_at}}
 use Rattle.vb_ram.specs.Part.{Part}
 use Rattle.vb_device.specs.Conditions.{take_refusal, finish_refusal, taken_at}
 use Rattle.vb_device.specs.Queues.{queue_part}
@@ -23,9 +23,9 @@ pub take_no_queue : (q : ℕ) (g : Guest) (part : Part) → IsNoQueue q
     → (take_refusal q part ≡ Some NoQueue) × (refusal_of g (Take q) ≡ Some NoQueue)
 take_no_queue q g part h = (
   first_holds (not (has_chains q)) NoQueue
-      (drop 1 (take_tests q part.status part.features (length (queue_part q part).taken)))
+      (drop 1 (take_causes q part.status part.features (length (queue_part q part).taken)))
       (no_chains q h),
-  first_holds (not (has_chains q)) NoQueue (drop 1 (tests g (Take q)))
+  first_holds (not (has_chains q)) NoQueue (drop 1 (causes g (Take q)))
       (no_chains q h),
 )
 
@@ -73,9 +73,9 @@ pub finish_no_queue : (q i : ℕ) (g : Guest) (part : Part) → is_queue_of_requ
     → (finish_refusal q i part ≡ Some NoQueue) × (refusal_of g (Finish q i) ≡ Some NoQueue)
 finish_no_queue q i g part h = (
   first_holds (not (is_queue_of_requests q)) NoQueue
-      (drop 1 (finish_tests q part.status part.paced (taken_at q i part)))
+      (drop 1 (finish_causes q part.status part.paced (taken_at q i part)))
       (ap not h),
-  first_holds (not (is_queue_of_requests q)) NoQueue (drop 1 (tests g (Finish q i)))
+  first_holds (not (is_queue_of_requests q)) NoQueue (drop 1 (causes g (Finish q i)))
       (ap not h),
 )
 

@@ -3,7 +3,7 @@ use Rattle.std.specs.Prelude.{◌≡◌, ℕ, ◌<◌, ◌==◌, Bool, not, nat_
 use Rattle.std.specs.Prelude.{Ok, Err, Some, None, is_some, refl, All}
 use Rattle.std.{proofs.Common.{sym, ◌∙◌, ap, subst, arith, inl, inr}, proofs.lemmas.List.length-map}
 use Rattle.vb_model.{specs.declared.calls.Call.TheVariants.Report, specs.Guest.{Guest, reporting}}
-use Rattle.vb_model.{specs.declared.places.Place.TheVariants.Reporting, specs.Driver.asking}
+use Rattle.vb_model.{specs.declared.places.Place.TheVariants.Reporting, specs.Driver.after_posting}
 use Rattle.vb_model.{specs.declared.replies.Refusal.Refusal, specs.Tables.is_up}
 use Rattle.vb_model.specs.declared.replies.Refusal.TheVariants.{NotReady, NoFeature, QueueFull}
 use Rattle.vb_model.specs.declared.replies.Refusal.TheVariants.{Nothing}
@@ -14,7 +14,7 @@ use Rattle.vb_model.{specs.Requests.{IsLeastHead, Reporting_free}, specs.Refusal
 use Rattle.vb_model.specs.Refusals.{reported_blocks}
 use Rattle.vb_ram.{specs.Pages.Pages, specs.Part.Part}
 use Rattle.vb_driver.{specs.State.{DriverState, ReportSide}, specs.Areas.areas_without}
-use Rattle.vb_driver.specs.Answers.{report_tests, blocks_to_report}
+use Rattle.vb_driver.specs.Answers.{report_causes, blocks_to_report}
 use Rattle.vb_driver.specs.Calls.{Reports, ReportsBy, unreported}
 use Rattle.vb_guest.proofs.RunApart.{sizes_of, ring_of, ring_low, table_clear, post_leaves}
 use Rattle.vb_guest.proofs.Closing.{honest_performed, honest_refused, steps_alone, ties_same}
@@ -36,12 +36,12 @@ blocks_same d g from size places = grind arith
 report_same : (p : Part) (d : DriverState) (g : Guest) (from : ℕ) → p.status ≡ g.status
     → d.features ≡ g.features → outstanding_in d.report.ring ≡ outstanding g.report
     → blocks_to_report d from ≡ reported_blocks g from
-    → first_refusal (report_tests d p from) ≡ refusal_of g (Report from)
+    → first_refusal (report_causes d p from) ≡ refusal_of g (Report from)
 report_same p d g from status features out blocks = grind arith
 
 report_idle : (p : Part) (d : DriverState) (g : Guest) (from : ℕ) → p.status ≡ g.status
     → IsIdleStatus g.status
-    → (first_refusal (report_tests d p from) ≡ Some NotReady)
+    → (first_refusal (report_causes d p from) ≡ Some NotReady)
     × (refusal_of g (Report from) ≡ Some NotReady)
 report_idle p d g from same down = grind arith
 
@@ -53,7 +53,7 @@ unreported_ties why m1 m2 p1 p2 d1 d2 g m p d ties = search arith
 report_refused : (m1 m2 : Pages) (p1 p2 : Part) (d1 d2 : DriverState) (g : Guest) (from : ℕ)
     (why : Refusal)
     → ReportsBy m1 m2 p1 p2 d1 d2 from (Err why) → Honest m1 p1 d1 g
-    → first_refusal (report_tests d1 p1 from) ≡ refusal_of g (Report from)
+    → first_refusal (report_causes d1 p1 from) ≡ refusal_of g (Report from)
     → StepsAlone (Honest m2 p2 d2) g (Report from) (posted_reply (Err why))
 report_refused m1 m2 p1 p2 d1 d2 g from why did stands same =
     steps_alone m1 m2 p1 p2 d1 d2 g (Report from)
@@ -102,7 +102,7 @@ report_out m1 m2 p1 p2 d1 d2 g from posted did stands run free none some =
     let blocks = reported_blocks g from in
     let pages = pages_of_all blocks in
     let gone : g.report ≡ no_requests = all_gone g.report none in
-    let new : Guest = asking Reporting_free 0 pages g in
+    let new : Guest = after_posting Reporting_free 0 pages g in
     let reply : Posted posted.head posted.pages ≡ Posted 0 (length pages) =
     ap (λ (h : ℕ). Posted h posted.pages) did.head ∙ ap (Posted 0) did.pages in
     let step = honest_performed g (Report from) [] (Posted posted.head posted.pages) new free
@@ -205,7 +205,7 @@ report_step m1 m2 p1 p2 d1 d2 g from result did stands =
         )
 
     down : (result : Result PostedRequest Refusal) → ReportsBy m1 m2 p1 p2 d1 d2 from result
-        → first_refusal (report_tests d1 p1 from) ≡ Some NotReady
+        → first_refusal (report_causes d1 p1 from) ≡ Some NotReady
         → refusal_of g (Report from) ≡ Some NotReady
         → StepsAlone (Honest m2 p2 d2) g (Report from) (posted_reply result)
     down (Ok posted) did by_driver by_model = absurd (let wrong = did.refusal ∙ by_driver in cc)
@@ -214,7 +214,7 @@ report_step m1 m2 p1 p2 d1 d2 g from result did stands =
 
     up : (result : Result PostedRequest Refusal) → ReportsBy m1 m2 p1 p2 d1 d2 from result
         → IsRunning m1 p1 d1 g
-        → first_refusal (report_tests d1 p1 from) ≡ refusal_of g (Report from)
+        → first_refusal (report_causes d1 p1 from) ≡ refusal_of g (Report from)
         → StepsAlone (Honest m2 p2 d2) g (Report from) (posted_reply result)
     up (Err why) did run same = report_refused m1 m2 p1 p2 d1 d2 g from why did stands same
     up (Ok posted) did run same =

@@ -11,7 +11,7 @@ use Rattle.vb_model.specs.declared.layout.TheConstants.{INFLATE_QUEUE, DEFLATE_Q
 use Rattle.vb_model.specs.declared.replies.Refusal.TheVariants.{NoQueue, NotReady, NeedsReset}
 use Rattle.vb_model.specs.declared.replies.Refusal.TheVariants.{Broken, Busy, NotTaken, NotWorked}
 use Rattle.vb_model.specs.Tables.{is_not_ready, has_fault, has_chains, lacks_feature}
-use Rattle.vb_model.specs.Tables.{is_queue_of_requests, has_unvisited, take_tests, work_tests}
+use Rattle.vb_model.specs.Tables.{is_queue_of_requests, has_unvisited, take_causes, work_causes}
 use Rattle.vb_model.{specs.declared.calls.Call.Call, specs.declared.replies.Refusal.Refusal}
 use Rattle.vb_model.{specs.declared.calls.Call.TheVariants.SetTarget, specs.Limits.page_size}
 use Rattle.vb_model.specs.declared.layout.TheConstants.{STATISTICS_QUEUE, REPORT_QUEUE}
@@ -22,7 +22,7 @@ use Rattle.vb_model.{specs.Layout.{reserved_pages, ring_page}, proofs.Shapes.sta
 use Rattle.vb_model.{specs.Requests.Request, specs.Device.{next_page, visiting}}
 use Rattle.vb_model.specs.Guest.{Guest, is_ballooned, frame_of, must_tell_host}
 use Rattle.vb_model.specs.Status.{contains, driver_ok, failed, needs_reset}
-use Rattle.vb_model.specs.Tables.{sweep_tests, finish_tests, ask_tests}
+use Rattle.vb_model.specs.Tables.{sweep_causes, finish_causes, ask_causes}
 use Rattle.vb_model.{specs.Rogue.{target_after, pages_to_back}, specs.Tests.{flagged, is_in}}
 use Rattle.vb_model.{proofs.Refusing.is_refused, proofs.Wanting.{wants, refused_otherwise}}
 use Rattle.vb_ram.{specs.Pages.{Pages, frame_at, page_at, number_of}, specs.Part.{Part, QueuePart}}
@@ -203,10 +203,10 @@ take_rogue m1 m2 p1 p2 d g q result did rogue =
     by (Err why) means = rogue_alone m1 m1 p1 p2 d d g (Take q) _ rogue
         (keeps_part m1 m1 p1 p2 d d (driver_same d d refl) means.1 refl (λ page. refl)) refl
         (λ page. refl) (ap (λ (p : Part). p.target) means.1)
-        (refused_otherwise (take_tests q p1.status p1.features
+        (refused_otherwise (take_causes q p1.status p1.features
         (length (queue_part q p1).taken)) why refl means.0)
         (λ page offset bytes e. cc) refl
-        (left_same m1 p1 p2 d d g (Take q) why (take_tests q p1.status p1.features
+        (left_same m1 p1 p2 d d g (Take q) why (take_causes q p1.status p1.features
         (length (queue_part q p1).taken)) rogue refl refl means.1 (sym means.0) refl refl)
 
 -- ---- pages lose their frames
@@ -435,9 +435,9 @@ work_rogue m1 m2 p1 p2 d g result did rogue = by (work_refusal p1) refl
     by (Some why) e =
         let (answer, part, memory) = did.refused why e in
         subst Done (sym answer) (none_freed m1 m2 p1 p2 d g Work _ memory part refl
-        (refused_otherwise (work_tests p1.status) why refl e)
+        (refused_otherwise (work_causes p1.status) why refl e)
         (λ page offset bytes x. cc) refl
-        (left_same m1 p1 p2 d d g Work why (work_tests p1.status) rogue refl refl part (sym e) refl refl)
+        (left_same m1 p1 p2 d d g Work why (work_causes p1.status) rogue refl refl part (sym e) refl refl)
         rogue)
     by None e = visits e (next_visit INFLATE_QUEUE p1) refl
 
@@ -468,10 +468,10 @@ sweep_rogue m1 m2 p1 p2 d g page result did rogue = by (sweep_refusal page p1) r
     by (Some why) e =
         let (answer, part, memory) = did.refused why e in
         subst Done (sym answer) (none_freed m1 m2 p1 p2 d g (Sweep page) _ memory part refl
-        (refused_otherwise (sweep_tests p1.status p1.features (is_ballooned p1.ballooned page)) why refl e)
+        (refused_otherwise (sweep_causes p1.status p1.features (is_ballooned p1.ballooned page)) why refl e)
         (λ page offset bytes x. cc) refl
         (left_same m1 p1 p2 d d g (Sweep page) why
-        (sweep_tests p1.status p1.features (is_ballooned p1.ballooned page)) rogue refl refl part (sym e) refl refl)
+        (sweep_causes p1.status p1.features (is_ballooned p1.ballooned page)) rogue refl refl part (sym e) refl refl)
         rogue)
     by None e =
         let (up, flag) = sweeps_up (is_not_ready p1.status) (has_fault p1.status)
@@ -659,10 +659,10 @@ finish_rogue m1 m2 p1 p2 d g q i result did rogue = by (finish_refusal q i p1) r
     by (Some why) e =
         let (answer, part, memory) = did.refused why e in
         subst Done (sym answer) (none_freed m1 m2 p1 p2 d g (Finish q i) _ memory part refl
-        (refused_otherwise (finish_tests q p1.status p1.paced (taken_at q i p1)) why refl e)
+        (refused_otherwise (finish_causes q p1.status p1.paced (taken_at q i p1)) why refl e)
         (λ page offset bytes x. cc) refl
         (left_same m1 p1 p2 d d g (Finish q i) why
-        (finish_tests q p1.status p1.paced (taken_at q i p1)) rogue refl refl part (sym e) refl refl)
+        (finish_causes q p1.status p1.paced (taken_at q i p1)) rogue refl refl part (sym e) refl refl)
         rogue)
     by None e =
         let (r, at) = taken_request (is_queue_of_requests q) (is_not_ready p1.status)
@@ -701,10 +701,10 @@ ask_rogue m1 m2 p1 p2 d g result did rogue = by (ask_refusal p1) refl
         (rogue_alone m1 m2 p1 p2 d d g Ask (Refused why) rogue
         (keeps_part m1 m2 p1 p2 d d (driver_same d d refl) part count same) count same
         (ap (λ (p : Part). p.target) part)
-        (refused_otherwise (ask_tests p1.status
+        (refused_otherwise (ask_causes p1.status
         (is_some (taken_at STATISTICS_QUEUE 0 p1))) why refl e)
         (λ page offset bytes x. cc) refl
-        (left_same m1 p1 p2 d d g Ask why (ask_tests p1.status
+        (left_same m1 p1 p2 d d g Ask why (ask_causes p1.status
         (is_some (taken_at STATISTICS_QUEUE 0 p1))) rogue refl refl part (sym e) refl refl))
     by None e =
         let part = did.part e in

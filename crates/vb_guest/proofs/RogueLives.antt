@@ -13,7 +13,7 @@ use Rattle.vb_model.specs.Driver.{AllDistinct, given, AreClaimsFor, claim_refusa
 use Rattle.vb_model.{specs.FirstRefusal.{◌⇒◌, first_refusal}, specs.Status.{contains, driver_ok}}
 use Rattle.vb_model.{specs.declared.replies.LastStatistics.LastStatistics, specs.Tests.is_in}
 use Rattle.vb_model.specs.Guest.{Guest, all_backed, stats_vq, no_statistics}
-use Rattle.vb_model.specs.Life.{lacking, feature_tests, feature_refusal, accepted_before}
+use Rattle.vb_model.specs.Life.{lacking, feature_causes, feature_refusal, accepted_before}
 use Rattle.vb_model.specs.Rogue.{LosesFrames, pages_to_back, unless_refused, after_refused}
 use Rattle.vb_model.proofs.Wanting.{wants, no_want, refused_otherwise}
 use Rattle.vb_ram.{specs.Pages.{Pages, frame_at}, specs.Part.Part, proofs.Limits.config_limits}
@@ -25,7 +25,7 @@ use Rattle.vb_guest.specs.Lives.{is_bare, bare_from, AllSupplied, why_unsupplied
 use Rattle.vb_guest.{specs.Replies.ready_reply, specs.Stands.{IsOwnRequest, Rogue}}
 use Rattle.vb_guest.{specs.Steps.{backing_count, StepsAlone, StepsOver}, proofs.Fresh.everywhere}
 use Rattle.vb_guest.{specs.Supply.{Supply, supply_of, Moves, nothing}, proofs.Moving.moves_as}
-use Rattle.vb_guest.proofs.InitStep.{bare_is, now_backed, has_all, driver_tests}
+use Rattle.vb_guest.proofs.InitStep.{bare_is, now_backed, has_all, driver_causes}
 use Rattle.vb_guest.proofs.Rogues.{rogue_steps, device_alike, kept_of_rogue}
 use Rattle.vb_guest.{proofs.Supplying.supplied_count, proofs.Writing.HasFrames}
 use Rattle.vb_frames.specs.declared.keeper.Refused.{Refused as WhyRefused}
@@ -169,11 +169,11 @@ inits_leave size m2 m3 p2 p3 d1 d2 wanted (Ok x) same new backed did =
     grind (arith, started_leaves size m2 m3 p2 p3 d1 d2 wanted backed did.starts)
 inits_leave size m2 m3 p2 p3 d1 d2 wanted (Err why) same new backed did =
     let is : Some why ≡ feature_refusal wanted =
-    did.refusal ∙ driver_tests d1.queue_size m2 p2 wanted new (has_all d1.queue_size m2
+    did.refusal ∙ driver_causes d1.queue_size m2 p2 wanted new (has_all d1.queue_size m2
     (λ p start. backed p (subst (λ k. is_start_page k p ≡ true) same start))) in
     let stops = stopped m2 m3 p2 p3 d1 d2 wanted why (sym is) did.refused in (
       stopped_leaves m2 m3 p2 p3 d1 d2 (accepted_before why wanted) stops,
-      refused_otherwise (feature_tests wanted) why refl (sym is),
+      refused_otherwise (feature_causes wanted) why refl (sym is),
       λ other e. (
         ap (λ (d : DriverState). d.places) stops.driver,
         ap (λ (d : DriverState). d.actual) stops.driver,

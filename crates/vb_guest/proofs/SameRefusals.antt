@@ -5,8 +5,8 @@ use Rattle.std.proofs.Common.{sym, ◌∙◌, ap, subst, inl, inr}
 use Rattle.vb_model.{specs.declared.calls.Call.TheVariants.{Take, Finish, Ask}, specs.Guest.Guest}
 use Rattle.vb_model.{specs.declared.replies.Refusal.Refusal, specs.Requests.Request}
 use Rattle.vb_model.specs.declared.replies.Refusal.TheVariants.{NotReady}
-use Rattle.vb_model.specs.FirstRefusal.{Test, ◌⇒◌, first_refusal}
-use Rattle.vb_model.specs.Tables.{take_tests, finish_tests, ask_tests}
+use Rattle.vb_model.specs.FirstRefusal.{Cause, ◌⇒◌, first_refusal}
+use Rattle.vb_model.specs.Tables.{take_causes, finish_causes, ask_causes}
 use Rattle.vb_ram.specs.Part.{Part}
 use Rattle.vb_device.specs.Conditions.{take_refusal, finish_refusal, ask_refusal, taken_at}
 use Rattle.vb_device.specs.Queues.{queue_part}
@@ -21,14 +21,14 @@ at_both P status (inl e) a b = subst P (sym e) a
 at_both P status (inr e) a b = subst P (sym e) b
 
 -- a last test that doesn't hold
-pub last_test : (tests : List Test) (b : Bool) (why : Refusal) → b ≡ false
-    → first_refusal (tests ++ (b ⇒ why) ∷ []) ≡ first_refusal tests
-last_test [] b why e = ap (λ (v : Bool). first_refusal ((v ⇒ why) ∷ [])) e
-last_test (test ∷ tests) b why e = by test.holds (last_test tests b why e)
+pub last_cause : (causes : List Cause) (b : Bool) (why : Refusal) → b ≡ false
+    → first_refusal (causes ++ (b ⇒ why) ∷ []) ≡ first_refusal causes
+last_cause [] b why e = ap (λ (v : Bool). first_refusal ((v ⇒ why) ∷ [])) e
+last_cause (cause ∷ causes) b why e = by cause.holds (last_cause causes b why e)
   where
-    by : (v : Bool) → first_refusal (tests ++ (b ⇒ why) ∷ []) ≡ first_refusal tests
-        → (if v then Some test.refusal else first_refusal (tests ++ (b ⇒ why) ∷ []))
-        ≡ (if v then Some test.refusal else first_refusal tests)
+    by : (v : Bool) → first_refusal (causes ++ (b ⇒ why) ∷ []) ≡ first_refusal causes
+        → (if v then Some cause.refusal else first_refusal (causes ++ (b ⇒ why) ∷ []))
+        ≡ (if v then Some cause.refusal else first_refusal causes)
     by true same = refl
     by false same = same
 
@@ -39,9 +39,9 @@ pub take_same : (q : ℕ) (part : Part) (g : Guest) → part.status ≡ g.status
     → take_refusal q part ≡ refusal_of g (Take q)
 take_same q part g status features taken =
     let count : ℕ = length (queue_part q part).taken in
-    ap (λ (s : ℕ). first_refusal (take_tests q s part.features count)) status
-    ∙ ap (λ (f : ℕ). first_refusal (take_tests q g.status f count)) features
-    ∙ ap (λ (n : ℕ). first_refusal (take_tests q g.status g.features n)) taken
+    ap (λ (s : ℕ). first_refusal (take_causes q s part.features count)) status
+    ∙ ap (λ (f : ℕ). first_refusal (take_causes q g.status f count)) features
+    ∙ ap (λ (n : ℕ). first_refusal (take_causes q g.status g.features n)) taken
 
 pub take_idle : (part : Part) (g : Guest) → part.status ≡ g.status → IsIdleStatus g.status
     → ((take_refusal 2 part ≡ Some NotReady) × (refusal_of g (Take 2) ≡ Some NotReady))
@@ -64,9 +64,9 @@ pub finish_same : (q i : ℕ) (part : Part) (g : Guest) → part.status ≡ g.st
     → part.paced ≡ g.config.paced → taken_at q i part ≡ guests_taken g q i
     → finish_refusal q i part ≡ refusal_of g (Finish q i)
 finish_same q i part g status paced taken =
-    ap (λ (s : ℕ). first_refusal (finish_tests q s part.paced (taken_at q i part))) status
-    ∙ ap (λ (b : Bool). first_refusal (finish_tests q g.status b (taken_at q i part))) paced
-    ∙ ap (λ (o : Option Request). first_refusal (finish_tests q g.status g.config.paced o)) taken
+    ap (λ (s : ℕ). first_refusal (finish_causes q s part.paced (taken_at q i part))) status
+    ∙ ap (λ (b : Bool). first_refusal (finish_causes q g.status b (taken_at q i part))) paced
+    ∙ ap (λ (o : Option Request). first_refusal (finish_causes q g.status g.config.paced o)) taken
 
 pub finish_idle : (i : ℕ) (part : Part) (g : Guest) → part.status ≡ g.status
     → IsIdleStatus g.status
@@ -83,8 +83,8 @@ finish_idle i part g same down =
 pub ask_same : (part : Part) (g : Guest) → part.status ≡ g.status
     → is_some (taken_at 2 0 part) ≡ is_taken g.buffer → ask_refusal part ≡ refusal_of g Ask
 ask_same part g status taken =
-    ap (λ (s : ℕ). first_refusal (ask_tests s (is_some (taken_at 2 0 part)))) status
-    ∙ ap (λ (b : Bool). first_refusal (ask_tests g.status b)) taken
+    ap (λ (s : ℕ). first_refusal (ask_causes s (is_some (taken_at 2 0 part)))) status
+    ∙ ap (λ (b : Bool). first_refusal (ask_causes g.status b)) taken
 
 pub ask_idle : (part : Part) (g : Guest) → part.status ≡ g.status → IsIdleStatus g.status
     → (ask_refusal part ≡ Some NotReady) × (refusal_of g Ask ≡ Some NotReady)

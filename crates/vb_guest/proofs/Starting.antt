@@ -3,7 +3,8 @@ use Rattle.std.specs.Prelude.{◌≡◌, ℕ, ◌≤◌, Bool, true, false, if�
 use Rattle.std.specs.Prelude.{Option, IsSome, is_some, replicate, refl}
 use Rattle.std.{proofs.lemmas.Bool.false_from_ne_true, proofs.lemmas.List.length-replicate}
 use Rattle.std.proofs.Common.{sym, ◌∙◌, ap, subst, arith, inr}
-use Rattle.vb_model.specs.Requests.{Requests, no_requests, Buffer, NoBuffer, BufferPosted, Figures}
+use Rattle.vb_model.specs.Requests.{Requests, no_requests, StatisticsBuffer, NoBuffer, BufferPosted}
+use Rattle.vb_model.specs.Requests.{Figures}
 use Rattle.vb_model.{specs.Guest.{Guest, stats_vq}, specs.Driver.figures}
 use Rattle.vb_model.specs.Layout.{reserved_pages, ring_page, is_ring_page, is_start_page}
 use Rattle.vb_model.proofs.Shapes.{ring_reserved}
@@ -32,7 +33,7 @@ fresh_report_line : (m : Pages) (count q : ℕ) → IsSize q → IsNewRing m (fr
 fresh_report_line m count q sized new = grind (arith, ring_new)
 
 -- the first statistics buffer, where there is one
-abbrev pub first_buffer : Bool → Figures → Buffer
+abbrev pub first_buffer : Bool → Figures → StatisticsBuffer
 first_buffer b f = if b then BufferPosted f else NoBuffer
 
 first_line : (b : Bool) (zeroed m : Pages) (d1 d2 : DriverState) (f : Figures)

@@ -2,7 +2,7 @@
 use Rattle.std.specs.Prelude.{◌≡◌, ℕ, Bool, true, false, not, [], Result, Ok, Err, Option, Some}
 use Rattle.std.specs.Prelude.{None, is_some, slice_get, refl}
 use Rattle.std.proofs.Common.{sym, ◌∙◌, ap, subst, arith, inl, inr}
-use Rattle.vb_model.specs.Requests.{Figures, Buffer, NoBuffer, BufferPosted, BufferTaken}
+use Rattle.vb_model.specs.Requests.{Figures, StatisticsBuffer, NoBuffer, BufferPosted, BufferTaken}
 use Rattle.vb_model.{specs.declared.calls.Call.TheVariants.Stats, specs.Requests.BufferDone}
 use Rattle.vb_model.{specs.declared.replies.Refusal.Refusal, specs.Guest.{Guest, stats_vq}}
 use Rattle.vb_model.{specs.declared.replies.Refusal.TheVariants.NotReady, specs.Tables.is_up}
@@ -11,7 +11,7 @@ use Rattle.vb_model.{specs.Driver.{figures, Fills}, specs.FirstRefusal.first_ref
 use Rattle.vb_model.{specs.Refusals.refusal_of, proofs.Shapes.reserved_least}
 use Rattle.vb_ram.{specs.Pages.Pages, specs.Part.Part}
 use Rattle.vb_ring.specs.Ends.{DriverEnd, used_answer}
-use Rattle.vb_driver.{specs.State.{DriverState, figures_of}, specs.Answers.stats_tests}
+use Rattle.vb_driver.{specs.State.{DriverState, figures_of}, specs.Answers.stats_causes}
 use Rattle.vb_driver.specs.Calls.{FillsBy, Refills, emptied}
 use Rattle.vb_guest.proofs.RunApart.{sizes_of, ring_of, buffer_clear, post_leaves, post_same}
 use Rattle.vb_guest.proofs.Closing.{honest_performed, steps_alone, refused_alone, ties_same}
@@ -26,17 +26,17 @@ use Rattle.vb_guest.{proofs.PagesKept.pages_same, proofs.Apart.line_apart, specs
 -- where the ring isn't broken
 stats_same : (m : Pages) (p : Part) (d : DriverState) (g : Guest) (o : Option ℕ)
     → p.status ≡ g.status → d.features ≡ g.features → used_answer m d.statistics ≡ Ok o
-    → first_refusal (stats_tests m p d) ≡ refusal_of g Stats
+    → first_refusal (stats_causes m p d) ≡ refusal_of g Stats
 stats_same m p d g o status features answer = grind arith
 
 stats_idle : (m : Pages) (p : Part) (d : DriverState) (g : Guest) → p.status ≡ g.status
     → IsIdleStatus g.status
-    → (first_refusal (stats_tests m p d) ≡ Some NotReady) × (refusal_of g Stats ≡ Some NotReady)
+    → (first_refusal (stats_causes m p d) ≡ Some NotReady) × (refusal_of g Stats ≡ Some NotReady)
 stats_idle m p d g same down = grind arith
 
 stats_refused : (m1 m2 : Pages) (p1 p2 : Part) (d1 d2 : DriverState) (g : Guest) (why : Refusal)
     → FillsBy m1 m2 p1 p2 d1 d2 (Err why) → Honest m1 p1 d1 g
-    → first_refusal (stats_tests m1 p1 d1) ≡ refusal_of g Stats
+    → first_refusal (stats_causes m1 p1 d1) ≡ refusal_of g Stats
     → StepsAlone (Honest m2 p2 d2) g Stats (filled_reply (Err why))
 stats_refused m1 m2 p1 p2 d1 d2 g why did stands same =
     let by_model : refusal_of g Stats ≡ Some why = sym (did.refusal ∙ same) in
@@ -48,7 +48,7 @@ stats_refused m1 m2 p1 p2 d1 d2 g why did stands same =
 
 -- ---- the buffer wasn't used
 
-not_used : (m1 m2 : Pages) (p1 p2 : Part) (d1 d2 : DriverState) (g : Guest) (b : Buffer)
+not_used : (m1 m2 : Pages) (p1 p2 : Part) (d1 d2 : DriverState) (g : Guest) (b : StatisticsBuffer)
     (filled : Bool)
     → g.buffer ≡ b → used_answer m1 d1.statistics ≡ Ok None → Fills b g NotUsed g
     → FillsBy m1 m2 p1 p2 d1 d2 (Ok filled) → Honest m1 p1 d1 g → refusal_of g Stats ≡ None
@@ -69,7 +69,7 @@ refilled m1 m2 p1 p2 d1 d2 g old is did stands run free =
     let ties = stands.ties in
     let n = g.config.pages in
     let now : Figures = figures g in
-    let L : Buffer → Type 0 = λ b. BufferLine m1 d1.statistics p1.statistics b in
+    let L : StatisticsBuffer → Type 0 = λ b. BufferLine m1 d1.statistics p1.statistics b in
     let line : L (BufferDone old) = subst L is run.statistics in
     let size = g.config.queue_size in
     let rest = did.posts.rest in
@@ -80,7 +80,7 @@ refilled m1 m2 p1 p2 d1 d2 g old is did stands run free =
     let leaves = post_leaves m1 m2 d1 size 2 12 d1.statistics.layout (sizes_of m1 p1 d1 g run) ring
     (buffer_clear size 2 12 (omega arith) (omega arith)) rest.others in
     let new : Guest = record g { buffer = BufferPosted now } in
-    let F : Buffer → Type 0 = λ b. Fills b g Filled new in
+    let F : StatisticsBuffer → Type 0 = λ b. Fills b g Filled new in
     let step = honest_performed g Stats [] Filled new free (refl, subst F (sym is) (refl, refl)) in
     let after : DriverState = record d1 { statistics = d2.statistics } in
     let emptied_line = buffer_emptied m1 d1.statistics p1.statistics old line did.takes in
@@ -127,13 +127,13 @@ stats_step m1 m2 p1 p2 d1 d2 g result did stands =
     ]
   where
     down : (result : Result Bool Refusal) → FillsBy m1 m2 p1 p2 d1 d2 result
-        → first_refusal (stats_tests m1 p1 d1) ≡ Some NotReady → refusal_of g Stats ≡ Some NotReady
+        → first_refusal (stats_causes m1 p1 d1) ≡ Some NotReady → refusal_of g Stats ≡ Some NotReady
         → StepsAlone (Honest m2 p2 d2) g Stats (filled_reply result)
     down (Ok filled) did by_driver by_model = absurd (let wrong = did.refusal ∙ by_driver in cc)
     down (Err why) did by_driver by_model =
         stats_refused m1 m2 p1 p2 d1 d2 g why did stands (by_driver ∙ sym by_model)
 
-    by_buffer : (b : Buffer) (filled : Bool) → g.buffer ≡ b
+    by_buffer : (b : StatisticsBuffer) (filled : Bool) → g.buffer ≡ b
         → FillsBy m1 m2 p1 p2 d1 d2 (Ok filled)
         → IsRunning m1 p1 d1 g → used_answer m1 d1.statistics ≡ Ok (slice_get (used_heads b) 0)
         → refusal_of g Stats ≡ None
@@ -153,7 +153,7 @@ stats_step m1 m2 p1 p2 d1 d2 g result did stands =
 
     up : (result : Result Bool Refusal) → FillsBy m1 m2 p1 p2 d1 d2 result → IsRunning m1 p1 d1 g
         → used_answer m1 d1.statistics ≡ Ok (slice_get (used_heads g.buffer) 0)
-        → first_refusal (stats_tests m1 p1 d1) ≡ refusal_of g Stats
+        → first_refusal (stats_causes m1 p1 d1) ≡ refusal_of g Stats
         → StepsAlone (Honest m2 p2 d2) g Stats (filled_reply result)
     up (Err why) did run answer same = stats_refused m1 m2 p1 p2 d1 d2 g why did stands same
     up (Ok filled) did run answer same =

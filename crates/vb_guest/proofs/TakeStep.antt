@@ -3,7 +3,7 @@ use Rattle.std.specs.Prelude.{◌≡◌, ℕ, ◌*◌, ◌≤◌, Bool, true, fa
 use Rattle.std.specs.Prelude.{length, Result, Ok, Option, Some, None, refl, ◌⊎◌}
 use Rattle.std.{proofs.Common.{sym, ◌∙◌, ap, subst, arith, inl, inr}, proofs.lemmas.Bool.cases_Bool}
 use Rattle.vb_model.{specs.declared.calls.Call.TheVariants.Take, specs.Guest.Guest}
-use Rattle.vb_model.{specs.declared.replies.Refusal.Refusal, specs.Device.Takes}
+use Rattle.vb_model.{specs.declared.replies.Refusal.Refusal, specs.Device.TakesRequest}
 use Rattle.vb_model.specs.declared.replies.Refusal.TheVariants.{NoQueue, NotReady, Busy}
 use Rattle.vb_model.specs.declared.replies.Reply.TheVariants.{Taken, Empty}
 use Rattle.vb_model.specs.Layout.{reserved_pages, ring_page, buffers_page}
@@ -84,7 +84,7 @@ inflate_posted m1 m2 p1 p2 d g [] result is did stands run free_part free =
     let (answer, part) = take_empty 0 g.config.pages m1 m2 p1 p2 d.inflate g.inflate.taken
     g.inflate.done result did free_part (stands.ties.parts.device.size ∙ sym run.inflate_size)
     (subst L is run.inflate) in
-    let T : List Request → Type 0 = λ l. Takes Inflating l g Empty g in
+    let T : List Request → Type 0 = λ l. TakesRequest Inflating l g Empty g in
     let step = honest_performed g (Take 0) [] Empty g free (refl, subst T (sym is) (refl, refl)) in
     subst (λ r. StepsAlone (Honest m2 p2 d) g (Take 0) (taken_reply r)) (sym answer)
     (steps_alone m1 m2 p1 p2 d d g (Take 0) Empty g stands step
@@ -103,7 +103,7 @@ inflate_posted m1 m2 p1 p2 d g (r ∷ rest) result is did stands run free_part f
       inflate = record g.inflate
           { posted = rest; taken = g.inflate.taken ++ (record r { visited = 0 } ∷ []) };
     } in
-    let T : List Request → Type 0 = λ l. Takes Inflating l g (Taken r.head) new in
+    let T : List Request → Type 0 = λ l. TakesRequest Inflating l g (Taken r.head) new in
     let step = honest_performed g (Take 0) [] (Taken r.head) new free
     (refl, subst T (sym is) (refl, refl)) in
     let after : Part = taking 0 r.head r.pages p1 in
@@ -164,7 +164,7 @@ deflate_posted m1 m2 p1 p2 d g [] result is did stands run free_part free =
     let (answer, part) = take_empty 1 g.config.pages m1 m2 p1 p2 d.deflate g.deflate.taken
     g.deflate.done result did free_part (stands.ties.parts.device.size ∙ sym run.deflate_size)
     (subst L is run.deflate) in
-    let T : List Request → Type 0 = λ l. Takes Deflating l g Empty g in
+    let T : List Request → Type 0 = λ l. TakesRequest Deflating l g Empty g in
     let step = honest_performed g (Take 1) [] Empty g free (refl, subst T (sym is) (refl, refl)) in
     subst (λ r. StepsAlone (Honest m2 p2 d) g (Take 1) (taken_reply r)) (sym answer)
     (steps_alone m1 m2 p1 p2 d d g (Take 1) Empty g stands step
@@ -183,7 +183,7 @@ deflate_posted m1 m2 p1 p2 d g (r ∷ rest) result is did stands run free_part f
       deflate = record g.deflate
           { posted = rest; taken = g.deflate.taken ++ (record r { visited = 0 } ∷ []) };
     } in
-    let T : List Request → Type 0 = λ l. Takes Deflating l g (Taken r.head) new in
+    let T : List Request → Type 0 = λ l. TakesRequest Deflating l g (Taken r.head) new in
     let step = honest_performed g (Take 1) [] (Taken r.head) new free
     (refl, subst T (sym is) (refl, refl)) in
     let after : Part = taking 1 r.head r.pages p1 in

@@ -49,10 +49,10 @@ pub write_not_held : (m : Pages) (p : Part) (d : DriverState) (g : Guest) (page 
 write_not_held m p d g page off bs free stands = grind arith
 
 -- what is tested where the page is used
-pub write_tests : (g : Guest) (page off : ℕ) (bs : List ℕ) → is_used (place_of g.places page) ≡ true
+pub write_causes : (g : Guest) (page off : ℕ) (bs : List ℕ) → is_used (place_of g.places page) ≡ true
     → refusal_of g (Write page off bs)
     ≡ first_refusal ((is_outside g page off (length bs) ⇒ OutOfRam) ∷ [])
-write_tests g page off bs used = grind arith
+write_causes g page off bs used = grind arith
 
 pub write_outside : (m1 m2 : Pages) (p1 p2 : Part) (d : DriverState) (g : Guest) (page off : ℕ)
     (bs : List ℕ) → is_used (place_of d.places page) ≡ true → Honest m1 p1 d g → m2 ≡ m1 → p2 ≡ p1
@@ -107,7 +107,7 @@ write_backed m1 m2 p1 p2 d g page off bs used stands covers never wrote part =
     (omega (arith, covers.page, stands.ties.pages.length_is)) in
     let new : Guest = record g { contents = at_page page (overwritten off bs) g.contents } in
     let free : refusal_of g (Write page off bs) ≡ None =
-    write_tests g page off bs held
+    write_causes g page off bs held
     ∙ ap (λ (b : Bool). first_refusal ((b ⇒ OutOfRam) ∷ []))
     (inside_is g m1 page off (length bs) stands.ties.pages.length_is covers) in
     let needs : pages_needed page bs g ≡ [] =
@@ -158,7 +158,7 @@ write_supplied Answers out1 out2 m1 m2 m3 m4 p1 p2 p3 p4 d g page off frame bs a
     let lt : page < g.config.pages = omega (arith, covers.page, stands.ties.pages.length_is) in
     let high = used_high g page stands.orderly held lt in
     let free : refusal_of g (Write page off bs) ≡ None =
-    write_tests g page off bs held
+    write_causes g page off bs held
     ∙ ap (λ (b : Bool). first_refusal ((b ⇒ OutOfRam) ∷ []))
     (inside_is g m1 page off (length bs) stands.ties.pages.length_is covers) in
     let bare_too : frame_of g.frames page ≡ None = sym (stands.ties.pages.behind page) ∙ bare in

@@ -5,7 +5,7 @@ use Rattle.std.{specs.Prelude.{refl, ◌⊎◌}, proofs.Common.{sym, ◌∙◌, 
 use Rattle.std.{proofs.lemmas.Bool.{cases_eq, cases_lt}, proofs.lemmas.List.Sums.sum_by-set}
 use Rattle.std.proofs.lemmas.List.{ext_get_or, length-set, get_or-set_same, get_or-set_other}
 use Rattle.vb_model.{specs.Tests.{one_if, each_page}, specs.Layout.{reserved_pages, is_start_page}}
-use Rattle.vb_model.{specs.Pages.{place_of, is_used}, specs.Requests.{Requests, Buffer}}
+use Rattle.vb_model.{specs.Pages.{place_of, is_used}, specs.Requests.{Requests, StatisticsBuffer}}
 use Rattle.vb_model.{specs.Guest.{Guest, frame_of, backed}, specs.Driver.overwritten}
 use Rattle.vb_model.{specs.Orderly.IsOrderly, proofs.Tables.{length-each_from, each_page-get}}
 use Rattle.vb_model.proofs.Shapes.{reserved_least, start_reserved}
@@ -144,7 +144,7 @@ running_apart m1 m2 p d g new same status config inflate deflate report buffer r
     let I : ℕ → Requests → Type 0 = λ k rs. Line m2 0 k d.inflate p.inflate rs in
     let D : ℕ → Requests → Type 0 = λ k rs. Line m2 1 k d.deflate p.deflate rs in
     let R : ℕ → Requests → Type 0 = λ k rs. ReportLine m2 k d.report p.report rs in
-    let B : Buffer → Type 0 = λ b. BufferLine m2 d.statistics p.statistics b in
+    let B : StatisticsBuffer → Type 0 = λ b. BufferLine m2 d.statistics p.statistics b in
     record {
       state = status ∙ run.state;
       backed = λ page start.

@@ -25,7 +25,7 @@ use crate::room::{MAX_BYTES, MAX_PIECES};
 use crate::walk::{descriptor_of, table_fault};
 use crate::{Place, Region, Spot, Walk};
 use vb_chain::{DESCRIPTOR_SIZE, Descriptor};
-use vb_core::{Buffer, Device, Kind};
+use vb_core::{ChainPiece, Device, Kind};
 use vb_request::is_request_length;
 
 /// Where the index is read when a queue is looked at: the queue is served, and its index is guest
@@ -67,7 +67,7 @@ pub fn first_of_single(
     regions: &[Region],
     kind: Kind,
     walk: Walk,
-    pieces: &mut [Buffer; MAX_PIECES],
+    pieces: &mut [ChainPiece; MAX_PIECES],
     bytes: &[u8; MAX_BYTES],
 ) -> Option<FirstPart>
     ensures goes { IfSome result (λ x. (tally : Tally) (after : Device) (outcome : Outcome)
