@@ -54,7 +54,8 @@ fn read_run<G: GuestBytes>(ram: &G, addr: u64, run: &mut [u8])
 
 impl ChainBytes {
     /// No bytes.
-    fn new() -> ChainBytes
+    #[inline]
+    pub(crate) fn new() -> ChainBytes
         ensures { result ≡ [] }
     {
         ChainBytes {
@@ -102,19 +103,19 @@ impl ChainBytes {
     }
 }
 
-/// The bytes of all pieces in a row.
-pub(crate) fn gather<G: GuestBytes>(ram: &G, pieces: &[Piece]) -> ChainBytes
+/// Reads the bytes of all pieces in a row into room that the caller has, so that none of it is
+/// moved.
+pub(crate) fn gather<G: GuestBytes>(ram: &G, pieces: &[Piece], bytes: &mut ChainBytes)
+    requires empty { bytes.old ≡ [] }
     requires inside { All
         (λ piece. piece.addr + piece.len ≤ page_size * length (G.mem ram.now)) pieces.now }
     requires few { length (G.mem ram.now) < 2 ^ 32 }
     requires fits { total_length pieces.now ≤ REQUEST_BUFFER_SIZE }
-    ensures { result ≡ bytes_of (G.mem ram.now) pieces.now }
+    ensures { bytes.new ≡ bytes_of (G.mem ram.now) pieces.now }
 {
-    let mut bytes = ChainBytes::new();
     for piece in pieces {
         bytes.append(ram, piece.addr, piece.len);
     }
-    bytes
 }
 
 /// How many bytes the pieces have together.

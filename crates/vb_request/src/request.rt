@@ -11,7 +11,7 @@ ghost use Rattle.vb_request.specs.Request.{number_at, numbers_of, number_fault, 
 ghost use Rattle.vb_request.specs.Request.{is_request_length, request_length, page_request};
 
 use crate::NamedPages;
-use crate::buffer::{gather, has_writable, total_length};
+use crate::buffer::{ChainBytes, gather, has_writable, total_length};
 use crate::named::RequestPages;
 use vb_chain::{ChainFault, Piece};
 use vb_model::layout::REQUEST_BUFFER_SIZE;
@@ -131,7 +131,11 @@ pub(crate) fn page_request<G: GuestBytes>(
     let count = ram.pages();
     match request_length(pieces) {
         Err(fault) => Err(fault),
-        Ok(_) => list_pages(reserved, count, gather(ram, pieces).as_slice(), pages),
+        Ok(_) => {
+            let mut bytes = ChainBytes::new();
+            gather(ram, pieces, &mut bytes);
+            list_pages(reserved, count, bytes.as_slice(), pages)
+        }
     }
 }
 

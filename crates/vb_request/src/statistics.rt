@@ -10,7 +10,7 @@ ghost use Rattle.vb_request.specs.Statistics.{statistic_at, statistics_of, last_
 ghost use Rattle.vb_request.specs.Statistics.{is_statistics_length, statistics_length};
 ghost use Rattle.vb_request.specs.Statistics.{statistics_request, statistics_in};
 
-use crate::buffer::{gather, has_writable, total_length};
+use crate::buffer::{ChainBytes, gather, has_writable, total_length};
 use byteorder::{ByteOrder, LittleEndian};
 use vb_chain::{ChainFault, Piece};
 use vb_model::layout::{FREE_MEMORY_TAG, MAX_STATISTICS_LENGTH, STATISTIC_SIZE, TOTAL_MEMORY_TAG};
@@ -130,6 +130,10 @@ pub fn read_statistics<G: GuestBytes>(ram: &G, pieces: &[Piece]) -> Result<Stati
     let _few = ram.pages();
     match statistics_length(pieces) {
         Err(fault) => Err(fault),
-        Ok(_) => Ok(statistics_of(gather(ram, pieces).as_slice())),
+        Ok(_) => {
+            let mut bytes = ChainBytes::new();
+            gather(ram, pieces, &mut bytes);
+            Ok(statistics_of(bytes.as_slice()))
+        }
     }
 }

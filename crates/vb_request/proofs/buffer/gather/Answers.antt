@@ -7,8 +7,8 @@ pub loop-piece-init : goal.loop-piece-init
 unfolding bytes_of
 loop-piece-init g c =
     record {
-      bytes = c.new-bytes.ensures;
-      count = ap (λ (xs : List ℕ). length xs) c.new-bytes.ensures;
+      bytes = c.requires.empty;
+      count = ap (λ (xs : List ℕ). length xs) c.requires.empty;
     }
 
 pub loop-piece-preserved : goal.loop-piece-preserved
