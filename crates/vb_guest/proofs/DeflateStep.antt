@@ -1,12 +1,12 @@
 -- A guest's two deflates are steps of the definitions.
 use Rattle.std.specs.Prelude.{◌≡◌, ℕ, zero, suc, ◌<◌, ◌≤◌, ◌==◌, Bool, not, nat_le, List, [], ◌∷◌}
 use Rattle.std.specs.Prelude.{length, take, Result, Ok, Err, OnErr, IfOk, Option, Some, None}
-use Rattle.std.specs.Prelude.{is_some, count_by, refl, ◌⊎◌}
+use Rattle.std.specs.Prelude.{count_by, refl, ◌⊎◌}
 use Rattle.std.proofs.Common.{sym, ◌∙◌, ap, subst, arith, inl, inr}
 use Rattle.vb_model.specs.declared.replies.Refusal.TheVariants.{NotReady, NoFeature, QueueFull}
+use Rattle.vb_model.{specs.declared.replies.Refusal.TheVariants.Nothing, specs.Tests.pages_from}
 use Rattle.vb_model.{specs.declared.calls.Call.Call, specs.declared.replies.Refusal.Refusal}
-use Rattle.vb_model.{specs.declared.calls.Call.TheVariants.{Deflate, Oom}, specs.Tests.pages_from}
-use Rattle.vb_model.{specs.declared.replies.Refusal.TheVariants.Nothing, specs.Step.Performs}
+use Rattle.vb_model.{specs.declared.calls.Call.TheVariants.{Deflate, Oom}, specs.Step.Performs}
 use Rattle.vb_model.{specs.declared.replies.Reply.Reply, specs.Requests.{outstanding, Deflating}}
 use Rattle.vb_model.{specs.declared.replies.Reply.TheVariants.Posted, proofs.Tables.count_by-cons}
 use Rattle.vb_model.{specs.Guest.{Guest, lent_count, deflate_on_oom}, specs.Layout.buffer_page}
@@ -14,17 +14,17 @@ use Rattle.vb_model.{specs.Driver.{Deflates, lowest_lent, asking}, proofs.Orderl
 use Rattle.vb_model.specs.Refusals.{◌⇒◌, first_refusal, refusal_of, deflate_count, oom_count, room}
 use Rattle.vb_model.proofs.Shapes.{reserved_least}
 use Rattle.vb_ram.{specs.Pages.Pages, specs.Part.Part}
-use Rattle.vb_driver.specs.State.{FreePages, DriverState, IsDriver}
-use Rattle.vb_driver.specs.Answers.{refusal_in, deflate_tests, oom_tests}
-use Rattle.vb_driver.specs.Calls.{Unchanged, AsksBack, DeflatesBy, DeflatesOnOomBy, areas_asked}
+use Rattle.vb_guest.{proofs.Running.others_posted, proofs.Closing.{honest_performed, steps_alone}}
 use Rattle.vb_guest.proofs.RunApart.{sizes_of, ring_of, buffer_clear, post_leaves, post_same}
-use Rattle.vb_guest.proofs.DriverWords.{Sides, sides_of, driver_of, driver_is, keeps_own}
+use Rattle.vb_guest.proofs.DriverWords.{Sides, sides_of, driver_of, driver_is}
 use Rattle.vb_guest.proofs.Posting.{line_posted, least_head, outstanding_are}
 use Rattle.vb_guest.proofs.Offered.{asked_as, last_sound, deflate_requested}
-use Rattle.vb_guest.{proofs.Closing.{honest_performed, steps_alone}, proofs.PagesKept.pages_same}
-use Rattle.vb_guest.{specs.Stands.{Honest, Ties, IsRunning}, proofs.InflateStep.request_refusal}
-use Rattle.vb_guest.{proofs.BufferLines.buffer_apart, proofs.ReportLines.report_apart}
-use Rattle.vb_guest.{specs.Replies.posted_reply, proofs.Apart.line_apart, specs.Steps.StepsAlone}
+use Rattle.vb_guest.{proofs.PagesKept.pages_same, specs.Stands.{Honest, Ties, IsRunning}}
+use Rattle.vb_guest.{proofs.InflateStep.request_refusal, specs.Replies.posted_reply}
+use Rattle.vb_guest.specs.Steps.{StepsAlone}
+use Rattle.vb_driver.specs.State.{FreePages, RequestSide, DriverState, IsDriver}
+use Rattle.vb_driver.specs.Answers.{refusal_in, deflate_tests, oom_tests}
+use Rattle.vb_driver.specs.Calls.{Unchanged, AsksBack, DeflatesBy, DeflatesOnOomBy, areas_asked}
 use Rattle.vb_ring.specs.Ends.{outstanding as outstanding_in}
 use Rattle.vb_driver.specs.declared.answers.Posted.{Posted as PostedRequest}
 use Rattle.vb_driver.specs.Answers.{deflate_count as driver_count}
@@ -93,34 +93,24 @@ asked_back m1 m2 p1 p2 g areas sides d2 call count posted asks driver did stands
     let leaves = post_leaves m1 m2 (driver_of g areas sides) size 1 buffer
     sides.deflate.ring.layout (sizes_of m1 p1 (driver_of g areas sides) g run) ring
     (buffer_clear size 1 buffer (omega arith) (omega (arith, small))) rest.others in
+    let still = others_posted m1 m2 p1 (driver_of g areas sides) g 1 buffer run leaves rest.backing
+    (λ ne. omega (arith, small)) (λ ne page from to. omega (arith, to)) (λ ne. absurd (ne refl)) in
     let after : DriverState = driver_of new (areas_asked pages (driver_of g areas sides))
     (record sides { deflate = d2.deflate }) in
     let there : Ties m2 p1 after new = record {
-      parts = record {
-        guest = ties.parts.guest;
-        driver = keeps_own new _ _;
-        device = ties.parts.device;
-      };
+      parts = assumption;
       pages = pages_same m1 m2 g.config.queue_size g.config.pages _ _
           (post_same m1 m2 size 1 buffer sides.deflate.ring.layout ring
           (omega (arith, small, reserved_least size)) rest.count rest.backing rest.others)
           ties.pages;
-      queues = inr (record {
-        state = run.state;
-        backed = λ p lt. ap is_some (rest.backing p) ∙ run.backed p lt;
-        inflate_size = run.inflate_size;
-        deflate_size = ap (λ s. s.ring.size) did.posts.state ∙ run.deflate_size;
-        statistics_size = run.statistics_size;
-        report_size = run.report_size;
-        statistics = buffer_apart m1 m2 sides.statistics p1.statistics g.buffer
-            (leaves.statistics (omega arith)) (leaves.buffer (omega (arith, small)))
-            run.statistics;
-        report = report_apart m1 m2 g.config.pages sides.report p1.report g.report
-            (leaves.report (omega arith)) run.report;
-        inflate = line_apart m1 m2 0 g.config.pages sides.inflate p1.inflate g.inflate
-            (leaves.inflate (omega arith) (λ p from to. omega (arith, to))) run.inflate;
-        deflate = line;
-      });
+      queues = inr (assumption (
+        ap (λ (s : RequestSide). s.ring.size) did.posts.state
+            ∙ run.deflate_size,
+        line,
+        still.inflate (omega arith),
+        still.statistics (omega arith),
+        still.report (omega arith),
+      ));
     } in
     steps_alone m1 m2 p1 p2 (driver_of g areas sides) d2 g call (Posted posted.head posted.pages)
     new stands step

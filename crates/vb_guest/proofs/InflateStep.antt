@@ -1,30 +1,29 @@
 -- A guest's inflate is a step of the definitions.
 use Rattle.std.specs.Prelude.{◌≡◌, ℕ, ◌<◌, ◌==◌, ◌&&◌, Bool, not, nat_le, nat_lt, [], ◌∷◌, ◌++◌}
-use Rattle.std.specs.Prelude.{length, Result, Ok, Err, Option, Some, None, is_some, refl, ◌⊎◌}
+use Rattle.std.specs.Prelude.{length, Result, Ok, Err, Option, Some, None, refl, ◌⊎◌}
 use Rattle.std.proofs.Common.{sym, ◌∙◌, ap, subst, arith, inl, inr}
 use Rattle.std.proofs.lemmas.List.{length-append}
 use Rattle.vb_model.specs.declared.replies.Refusal.TheVariants.{NotReady, QueueFull, Nothing}
+use Rattle.vb_model.specs.declared.replies.Refusal.TheVariants.{DeflatePending}
 use Rattle.vb_model.{specs.declared.calls.Call.TheVariants.Inflate, specs.Layout.buffer_page}
 use Rattle.vb_model.{specs.declared.replies.Refusal.Refusal, specs.Guest.{Guest, tells_host}}
-use Rattle.vb_model.specs.declared.replies.Refusal.TheVariants.{DeflatePending}
 use Rattle.vb_model.{specs.declared.replies.Reply.TheVariants.Posted, proofs.Shapes.reserved_least}
 use Rattle.vb_model.{specs.Requests.{outstanding, Inflating}, specs.Driver.{stranded_first, asking}}
 use Rattle.vb_model.specs.Refusals.{◌⇒◌, first_refusal, refusal_of, inflate_count, room}
 use Rattle.vb_model.proofs.OrderlySteps.{honest_order}
 use Rattle.vb_ram.{specs.Pages.Pages, specs.Part.Part}
-use Rattle.vb_driver.specs.State.{FreePages, DriverState, IsDriver}
-use Rattle.vb_driver.specs.Calls.{Offers, InflatesBy}
-use Rattle.vb_guest.{specs.Stands.{Honest, Ties, IsRunning}, specs.Steps.StepsAlone}
-use Rattle.vb_guest.{specs.Replies.posted_reply, proofs.Apart.line_apart}
+use Rattle.vb_guest.{proofs.Running.others_posted, specs.Stands.{Honest, Ties, IsRunning}}
+use Rattle.vb_guest.{specs.Steps.StepsAlone, specs.Replies.posted_reply}
 use Rattle.vb_guest.proofs.RunApart.{sizes_of, ring_of, buffer_clear, post_leaves, post_same}
 use Rattle.vb_guest.proofs.Offered.{asked_as, last_sound, inflate_requested}
-use Rattle.vb_guest.{proofs.BufferLines.buffer_apart, proofs.ReportLines.report_apart}
 use Rattle.vb_guest.proofs.Posting.{line_posted, least_head, outstanding_are}
 use Rattle.vb_guest.{proofs.PagesKept.pages_same, proofs.Closing.{honest_performed, steps_alone}}
-use Rattle.vb_guest.proofs.DriverWords.{Sides, sides_of, driver_of, driver_is, keeps_own}
+use Rattle.vb_guest.proofs.DriverWords.{Sides, sides_of, driver_of, driver_is}
+use Rattle.vb_driver.specs.State.{FreePages, RequestSide, DriverState, IsDriver}
+use Rattle.vb_driver.{specs.Calls.{Offers, InflatesBy}, specs.Answers.inflate_tests}
 use Rattle.vb_ring.specs.Ends.{outstanding as outstanding_in}
 use Rattle.vb_driver.specs.declared.answers.Posted.{Posted as PostedRequest}
-use Rattle.vb_driver.specs.Answers.{inflate_tests, inflate_count as driver_count}
+use Rattle.vb_driver.specs.Answers.{inflate_count as driver_count}
 
 -- a new request of a queue is refused for want of room, or of pages
 abbrev pub request_refusal : ℕ → ℕ → ℕ → Option Refusal
@@ -97,33 +96,24 @@ inflate_offered m1 m2 p1 p2 g areas sides d2 n posted driver did stands run free
     let leaves = post_leaves m1 m2 (driver_of g areas sides) size 0 buffer
     sides.inflate.ring.layout (sizes_of m1 p1 (driver_of g areas sides) g run) ring
     (buffer_clear size 0 buffer (omega arith) (omega (arith, small))) rest.others in
+    let still = others_posted m1 m2 p1 (driver_of g areas sides) g 0 buffer run leaves rest.backing
+    (λ ne. omega (arith, small)) (λ ne. absurd (ne refl))
+    (λ ne page from to. omega (arith, from, small)) in
     let after : DriverState = driver_of new d2.areas (record sides { inflate = d2.inflate }) in
     let there : Ties m2 p1 after new = record {
-      parts = record {
-        guest = ties.parts.guest;
-        driver = keeps_own new _ _;
-        device = ties.parts.device;
-      };
+      parts = assumption;
       pages = pages_same m1 m2 g.config.queue_size g.config.pages _ _
           (post_same m1 m2 size 0 buffer sides.inflate.ring.layout ring
           (omega (arith, small, reserved_least size)) rest.count rest.backing rest.others)
           ties.pages;
-      queues = inr (record {
-        state = run.state;
-        backed = λ p lt. ap is_some (rest.backing p) ∙ run.backed p lt;
-        inflate_size = ap (λ s. s.ring.size) did.posts.state ∙ run.inflate_size;
-        deflate_size = run.deflate_size;
-        statistics_size = run.statistics_size;
-        report_size = run.report_size;
-        statistics = buffer_apart m1 m2 sides.statistics p1.statistics g.buffer
-            (leaves.statistics (omega arith)) (leaves.buffer (omega (arith, small)))
-            run.statistics;
-        report = report_apart m1 m2 g.config.pages sides.report p1.report g.report
-            (leaves.report (omega arith)) run.report;
-        inflate = line;
-        deflate = line_apart m1 m2 1 g.config.pages sides.deflate p1.deflate g.deflate
-            (leaves.deflate (omega arith) (λ p from to. omega (arith, from, small))) run.deflate;
-      });
+      queues = inr (assumption (
+        ap (λ (s : RequestSide). s.ring.size) did.posts.state
+            ∙ run.inflate_size,
+        line,
+        still.deflate (omega arith),
+        still.statistics (omega arith),
+        still.report (omega arith),
+      ));
     } in
     steps_alone m1 m2 p1 p2 (driver_of g areas sides) d2 g (Inflate n)
     (Posted posted.head posted.pages) new stands step

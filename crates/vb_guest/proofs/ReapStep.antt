@@ -3,18 +3,18 @@ use Rattle.std.specs.Prelude.{◌≡◌, ℕ, List, [], ◌∷◌, length, Resul
 use Rattle.std.specs.Prelude.{count_by, if◌then◌else◌, refl}
 use Rattle.std.proofs.Common.{sym, ◌∙◌, ap, subst, arith, inl, inr}
 use Rattle.vb_model.specs.Requests.{Request, all_requests, pages_named, Inflating, Deflating}
-use Rattle.vb_model.{specs.declared.calls.Call.TheVariants.Reap, specs.declared.places.Place.Place}
-use Rattle.vb_model.{specs.declared.places.Place.TheVariants.Lent, specs.Pages.{placed, is_lent}}
-use Rattle.vb_model.{specs.declared.replies.Refusal.Refusal, specs.Requests.places_reaped}
+use Rattle.vb_model.{specs.Requests.places_reaped, specs.declared.calls.Call.TheVariants.Reap}
+use Rattle.vb_model.{specs.declared.places.Place.Place, specs.Pages.{placed, is_lent}}
+use Rattle.vb_model.{specs.declared.places.Place.TheVariants.Lent, specs.Guest.{Guest, tells_host}}
+use Rattle.vb_model.{specs.declared.replies.Refusal.Refusal, specs.Driver.{reaped, Reaps}}
 use Rattle.vb_model.specs.declared.replies.Reply.TheVariants.{NotUsed, Reaped}
-use Rattle.vb_model.{specs.Guest.{Guest, tells_host}, specs.Driver.{reaped, Reaps}}
 use Rattle.vb_model.{specs.Refusals.refusal_of, proofs.Queues.{queue_cases, no_requests_at}}
 use Rattle.vb_ram.{specs.Pages.Pages, specs.Part.Part}
 use Rattle.vb_ring.{specs.Ends.used_answer, specs.Calls.TakesUsedBy}
 use Rattle.vb_driver.specs.State.{FreePages, RequestSide, DriverState, sent_by, page_state}
 use Rattle.vb_driver.{specs.Areas.all_given, proofs.RequestTables.requests_taken}
 use Rattle.vb_driver.specs.Calls.{ReapsBy, after_reap, next_of, with_actual}
-use Rattle.vb_guest.proofs.DriverWords.{Sides, sides_of, driver_of, driver_is, keeps_own}
+use Rattle.vb_guest.proofs.DriverWords.{Sides, sides_of, driver_of, driver_is}
 use Rattle.vb_guest.proofs.Closing.{honest_performed, steps_alone, ties_same}
 use Rattle.vb_guest.{proofs.Reaping.{used_next, used_line, line_reaped}, specs.Replies.reaped_reply}
 use Rattle.vb_guest.{proofs.ReapRefusing.{reap_by, reap_no_queue}, specs.Line.{Line, IsRequest}}
@@ -85,35 +85,9 @@ inflate_reaped m1 m2 p1 p2 g areas sides d2 (r ∷ rest) (Some x) is next did an
     let reap = line_reaped m1 0 n sides.inflate p1.inflate g.inflate.posted g.inflate.taken r rest
     line taken in
     let there : Ties m1 (record p1 { actual = new.actual }) after new = record {
-      parts = record {
-        guest = ties.parts.guest;
-        driver = keeps_own new _ _;
-        device = record {
-          size = ties.parts.device.size;
-          paced = ties.parts.device.paced;
-          status = ties.parts.device.status;
-          features = ties.parts.device.features;
-          target = ties.parts.device.target;
-          actual = refl;
-          ballooned = ties.parts.device.ballooned;
-          last = ties.parts.device.last;
-          loose = ties.parts.device.loose;
-        };
-      };
+      parts = assumption;
       pages = ties.pages;
-      queues = inr (record {
-        state = run.state;
-        backed = run.backed;
-        inflate_size = run.inflate_size;
-        deflate_size = run.deflate_size;
-        statistics_size = run.statistics_size;
-        report_size = run.report_size;
-        statistics = run.statistics;
-        report = run.report;
-        inflate =
-            reap;
-        deflate = run.deflate;
-      });
+      queues = inr (assumption reap);
     } in
     steps_alone m1 m2 p1 p2 (driver_of g areas sides) d2 g (Reap 0) (Reaped x.head x.pages) new
     stands step (ties_same m1 m2 (record p1 { actual = new.actual }) p2 after d2 new did.mem
@@ -195,35 +169,9 @@ deflate_reaped m1 m2 p1 p2 g areas sides d2 (r ∷ rest) (Some x) is next did an
     let part : p2 ≡ record p1 { actual = new.actual } =
     did.reaps.part ∙ ap (λ (d : DriverState). record p1 { actual = d.actual }) state in
     let there : Ties m1 (record p1 { actual = new.actual }) after new = record {
-      parts = record {
-        guest = ties.parts.guest;
-        driver = keeps_own new _ _;
-        device = record {
-          size = ties.parts.device.size;
-          paced = ties.parts.device.paced;
-          status = ties.parts.device.status;
-          features = ties.parts.device.features;
-          target = ties.parts.device.target;
-          actual = refl;
-          ballooned = ties.parts.device.ballooned;
-          last = ties.parts.device.last;
-          loose = ties.parts.device.loose;
-        };
-      };
+      parts = assumption;
       pages = ties.pages;
-      queues = inr (record {
-        state = run.state;
-        backed = run.backed;
-        inflate_size = run.inflate_size;
-        deflate_size = run.deflate_size;
-        statistics_size = run.statistics_size;
-        report_size = run.report_size;
-        statistics = run.statistics;
-        report = run.report;
-        inflate =
-            run.inflate;
-        deflate = reap;
-      });
+      queues = inr (assumption reap);
     } in
     steps_alone m1 m2 p1 p2 (driver_of g areas sides) d2 g (Reap 1) (Reaped x.head x.pages) new
     stands step (ties_same m1 m2 (record p1 { actual = new.actual }) p2 after d2 new did.mem

@@ -1,7 +1,7 @@
 -- A guest's report is a step of the definitions.
 use Rattle.std.specs.Prelude.{◌≡◌, ℕ, ◌<◌, ◌==◌, Bool, not, nat_le, List, [], ◌∷◌, length, Result}
-use Rattle.std.specs.Prelude.{Ok, Err, Some, None, is_some, refl, All}
-use Rattle.std.{proofs.Common.{sym, ◌∙◌, ap, subst, arith, inl, inr}, proofs.lemmas.List.length-map}
+use Rattle.std.{specs.Prelude.{Ok, Err, Some, None, refl, All}, proofs.lemmas.List.length-map}
+use Rattle.std.proofs.Common.{sym, ◌∙◌, ap, subst, arith, inl, inr}
 use Rattle.vb_model.{specs.declared.calls.Call.TheVariants.Report, specs.Guest.{Guest, reporting}}
 use Rattle.vb_model.{specs.declared.places.Place.TheVariants.Reporting, specs.Driver.asking}
 use Rattle.vb_model.{specs.declared.replies.Refusal.Refusal, specs.Tables.is_up}
@@ -17,13 +17,13 @@ use Rattle.vb_driver.{specs.State.{DriverState, ReportSide}, specs.Areas.areas_w
 use Rattle.vb_driver.specs.Answers.{report_tests, blocks_to_report}
 use Rattle.vb_driver.specs.Calls.{Reports, ReportsBy, unreported}
 use Rattle.vb_guest.proofs.RunApart.{sizes_of, ring_of, ring_low, table_clear, post_leaves}
+use Rattle.vb_guest.{proofs.Running.others_posted, proofs.RunApart.post_same, specs.Line.heads_of}
 use Rattle.vb_guest.proofs.Closing.{honest_performed, honest_refused, steps_alone, ties_same}
 use Rattle.vb_guest.{specs.Reported.{IsReport, ReportLine, IsOwnBlock}, proofs.RingHeads.ring_count}
-use Rattle.vb_guest.{proofs.OwnBlocks.{reported_own, reported_few}, proofs.BufferLines.buffer_apart}
-use Rattle.vb_guest.{specs.Stands.{Honest, Ties, IsRunning}, proofs.Apart.{no_buffer, line_apart}}
-use Rattle.vb_guest.{proofs.ReportLines.report_posted, proofs.SameRefusals.IsIdleStatus}
-use Rattle.vb_guest.{proofs.PagesKept.pages_same, specs.Replies.posted_reply, specs.Line.heads_of}
-use Rattle.vb_guest.{proofs.RunApart.post_same, specs.Steps.StepsAlone}
+use Rattle.vb_guest.{proofs.OwnBlocks.{reported_own, reported_few}, proofs.Apart.no_buffer}
+use Rattle.vb_guest.{specs.Stands.{Honest, Ties, IsRunning}, proofs.ReportLines.report_posted}
+use Rattle.vb_guest.{proofs.SameRefusals.IsIdleStatus, proofs.PagesKept.pages_same}
+use Rattle.vb_guest.{specs.Replies.posted_reply, specs.Steps.StepsAlone}
 use Rattle.vb_ring.specs.Ends.{outstanding as outstanding_in}
 use Rattle.vb_driver.specs.declared.answers.Posted.{Posted as PostedRequest}
 
@@ -132,46 +132,27 @@ report_out m1 m2 p1 p2 d1 d2 g from posted did stands run free none some =
     let line : M g.report =
     subst M (sym gone) (report_posted m1 m2 n d1.report d2.report p1.report blocks pages
     (subst L gone run.report) did.posts is) in
+    let still = others_posted m1 m2 p1 d1 g 4 l.table run leaves rest.backing
+    (λ ne. no_buffer size 4 l.table 12 ring.table (omega arith) (omega arith))
+    (λ ne p from to. no_buffer size 4 l.table p ring.table from (omega (arith, to)))
+    (λ ne p from to. no_buffer size 4 l.table p ring.table (omega (arith, from)) (omega (arith, to)))
+    in
     let after : DriverState = record d1 {
       places = placed pages Reporting d1.places;
       areas = areas_without pages d1.areas;
       report = d2.report;
     } in
     let there : Ties m2 p1 after new = record {
-      parts = record {
-        guest = ties.parts.guest;
-        driver = record {
-          pages = ties.parts.driver.pages;
-          queue_size = ties.parts.driver.queue_size;
-          processors = ties.parts.driver.processors;
-          places = ap (placed pages Reporting) ties.parts.driver.places;
-          held = ties.parts.driver.held;
-          accepted = ties.parts.driver.accepted;
-          told = ties.parts.driver.told;
-        };
-        device = ties.parts.device;
-      };
+      parts = assumption (ap (placed pages Reporting) ties.parts.driver.places);
       pages = pages_same m1 m2 g.config.queue_size n _ _ same ties.pages;
-      queues = inr (record {
-        state = run.state;
-        backed = λ p lt. ap is_some (rest.backing p) ∙ run.backed p lt;
-        inflate_size = run.inflate_size;
-        deflate_size = run.deflate_size;
-        statistics_size = run.statistics_size;
-        report_size = ap (λ (s : ReportSide). s.ring.size) did.posts.state ∙ run.report_size;
-        inflate = line_apart m1 m2 0 n d1.inflate p1.inflate g.inflate
-            (leaves.inflate (omega arith)
-            (λ p from to. no_buffer size 4 l.table p ring.table from (omega (arith, to))))
-            run.inflate;
-        deflate = line_apart m1 m2 1 n d1.deflate p1.deflate g.deflate
-            (leaves.deflate (omega arith) (λ p from to.
-            no_buffer size 4 l.table p ring.table (omega (arith, from)) (omega (arith, to))))
-            run.deflate;
-        statistics = buffer_apart m1 m2 d1.statistics p1.statistics g.buffer
-            (leaves.statistics (omega arith)) (leaves.buffer
-            (no_buffer size 4 l.table 12 ring.table (omega arith) (omega arith))) run.statistics;
-        report = line;
-      });
+      queues = inr (assumption (
+        ap (λ (s : ReportSide). s.ring.size) did.posts.state
+            ∙ run.report_size,
+        line,
+        still.inflate (omega arith),
+        still.deflate (omega arith),
+        still.statistics (omega arith),
+      ));
     } in
     steps_alone m1 m2 p1 p2 d1 d2 g (Report from) (Posted posted.head posted.pages) new stands step
     (ties_same m2 m2 p1 p2 after d2 new refl did.part did.state there) refl

@@ -1,9 +1,9 @@
 -- A guest's new fill of the statistics buffer is a step of the definitions.
 use Rattle.std.specs.Prelude.{◌≡◌, ℕ, Bool, true, false, not, [], Result, Ok, Err, Option, Some}
-use Rattle.std.specs.Prelude.{None, is_some, slice_get, refl}
+use Rattle.std.specs.Prelude.{None, slice_get, refl}
 use Rattle.std.proofs.Common.{sym, ◌∙◌, ap, subst, arith, inl, inr}
 use Rattle.vb_model.specs.Requests.{Figures, Buffer, NoBuffer, BufferPosted, BufferTaken}
-use Rattle.vb_model.{specs.declared.calls.Call.TheVariants.Stats, specs.Requests.BufferDone}
+use Rattle.vb_model.{specs.Requests.BufferDone, specs.declared.calls.Call.TheVariants.Stats}
 use Rattle.vb_model.{specs.declared.replies.Refusal.Refusal, specs.Guest.{Guest, stats_vq}}
 use Rattle.vb_model.{specs.declared.replies.Refusal.TheVariants.NotReady, specs.Tables.is_up}
 use Rattle.vb_model.specs.declared.replies.Reply.TheVariants.{Filled, NotUsed}
@@ -13,13 +13,13 @@ use Rattle.vb_ram.{specs.Pages.Pages, specs.Part.Part}
 use Rattle.vb_ring.specs.Ends.{DriverEnd, used_answer}
 use Rattle.vb_driver.{specs.State.{DriverState, figures_of}, specs.Answers.stats_tests}
 use Rattle.vb_driver.specs.Calls.{FillsBy, Refills, emptied}
+use Rattle.vb_guest.{proofs.Running.others_posted, specs.Replies.filled_reply}
 use Rattle.vb_guest.proofs.RunApart.{sizes_of, ring_of, buffer_clear, post_leaves, post_same}
 use Rattle.vb_guest.proofs.Closing.{honest_performed, steps_alone, refused_alone, ties_same}
-use Rattle.vb_guest.{proofs.BufferLines.{buffer_emptied, buffer_posted}, specs.Replies.filled_reply}
+use Rattle.vb_guest.{proofs.BufferLines.{buffer_emptied, buffer_posted}, specs.Steps.StepsAlone}
 use Rattle.vb_guest.{proofs.ReapRefusing.{unfailed, never_broken}, proofs.SameRefusals.IsIdleStatus}
 use Rattle.vb_guest.{specs.Stands.{Honest, Ties, IsRunning}, specs.Buffer.{BufferLine, used_heads}}
-use Rattle.vb_guest.{proofs.ReportLines.report_apart, proofs.RingReaped.ring_answer}
-use Rattle.vb_guest.{proofs.PagesKept.pages_same, proofs.Apart.line_apart, specs.Steps.StepsAlone}
+use Rattle.vb_guest.{proofs.RingReaped.ring_answer, proofs.PagesKept.pages_same}
 
 -- ---- refusals
 
@@ -79,6 +79,8 @@ refilled m1 m2 p1 p2 d1 d2 g old is did stands run free =
     (omega (arith, reserved_least size)) rest.count rest.backing rest.others in
     let leaves = post_leaves m1 m2 d1 size 2 12 d1.statistics.layout (sizes_of m1 p1 d1 g run) ring
     (buffer_clear size 2 12 (omega arith) (omega arith)) rest.others in
+    let still = others_posted m1 m2 p1 d1 g 2 12 run leaves rest.backing (λ ne. absurd (ne refl))
+    (λ ne p from to. omega (arith, to)) (λ ne p from to. omega (arith, to)) in
     let new : Guest = record g { buffer = BufferPosted now } in
     let F : Buffer → Type 0 = λ b. Fills b g Filled new in
     let step = honest_performed g Stats [] Filled new free (refl, subst F (sym is) (refl, refl)) in
@@ -92,21 +94,14 @@ refilled m1 m2 p1 p2 d1 d2 g old is did stands run free =
     let there : Ties m2 p1 after new = record {
       parts = ties.parts;
       pages = pages_same m1 m2 g.config.queue_size n _ _ same ties.pages;
-      queues = inr (record {
-        state = run.state;
-        backed = λ p lt. ap is_some (rest.backing p) ∙ run.backed p lt;
-        inflate_size = run.inflate_size;
-        deflate_size = run.deflate_size;
-        statistics_size = ap (λ (r : DriverEnd). r.size) did.posts.state ∙ run.statistics_size;
-        report_size = run.report_size;
-        inflate = line_apart m1 m2 0 n d1.inflate p1.inflate g.inflate
-            (leaves.inflate (omega arith) (λ p from to. omega (arith, to))) run.inflate;
-        deflate = line_apart m1 m2 1 n d1.deflate p1.deflate g.deflate
-            (leaves.deflate (omega arith) (λ p from to. omega (arith, to))) run.deflate;
-        statistics = posted;
-        report = report_apart m1 m2 n d1.report p1.report g.report
-            (leaves.report (omega arith)) run.report;
-      });
+      queues = inr (assumption (
+        ap (λ (r : DriverEnd). r.size) did.posts.state
+            ∙ run.statistics_size,
+        posted,
+        still.inflate (omega arith),
+        still.deflate (omega arith),
+        still.report (omega arith),
+      ));
     } in
     steps_alone m1 m2 p1 p2 d1 d2 g Stats Filled new stands step
     (ties_same m2 m2 p1 p2 after d2 new refl did.part did.state there) refl
