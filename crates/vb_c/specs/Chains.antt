@@ -8,7 +8,7 @@ use Rattle.vb_core.specs.declared.device.Denial.{Denial}
 use Rattle.vb_core.specs.declared.device.Denial.TheVariants.{NoQueue}
 use Rattle.vb_core.specs.declared.device.Device.{Device}
 use Rattle.vb_core.specs.declared.next.NextChain.{NextChain}
-use Rattle.vb_core.specs.declared.next.Buffer.{Buffer}
+use Rattle.vb_core.specs.declared.next.ChainPiece.{ChainPiece}
 use Rattle.vb_core.specs.declared.runs.Run.{Run}
 use Rattle.vb_core.specs.declared.name.Named.{Named}
 use Rattle.vb_core.specs.declared.report.Reported.{Reported}
@@ -26,8 +26,8 @@ use Rattle.vb_c.specs.declared.answers.VbFigures.{VbFigures}
 use Rattle.vb_c.specs.declared.answers.VbUsed.{VbUsed}
 use Rattle.vb_c.specs.Answers.{chain_of, named_of, reported_of, figures_of, used_of}
 
-abbrev pub NextFor : Option Kind → List ℕ → List ℕ → ℕ → List Buffer → Device → Device → VbChain →
-    Type 0
+abbrev pub NextFor : Option Kind → List ℕ → List ℕ → ℕ → List ChainPiece → Device → Device →
+    VbChain → Type 0
 NextFor None avail table room pieces d1 d2 result = (result ≡ chain_of (Err NoQueue)) × (d2 ≡ d1)
 NextFor (Some kind) avail table room pieces d1 d2 result =
     (answer : Result (Option NextChain) Denial) ×

@@ -5,7 +5,7 @@ use Rattle.vb_core.specs.declared.kinds.Kind.{Kind}
 use Rattle.vb_core.specs.declared.kinds.Kind.TheVariants.{Statistics}
 use Rattle.vb_core.specs.declared.device.Device.{Device}
 use Rattle.vb_core.specs.declared.device.Denial.TheVariants.{BadArgument, NoQueue}
-use Rattle.vb_core.specs.declared.next.Buffer.{Buffer}
+use Rattle.vb_core.specs.declared.next.ChainPiece.{ChainPiece}
 use Rattle.vb_core.specs.declared.runs.Run.{Run}
 use Rattle.vb_core.specs.declared.statistics.Statistic.{Statistic}
 use Rattle.vb_monitor.specs.declared.regions.Region.{Region}
@@ -17,7 +17,7 @@ use Rattle.vb_monitor.specs.declared.outcome.Outcome.{Outcome}
 use Rattle.vb_monitor.specs.declared.notice.Notice.{Notice}
 use Rattle.vb_monitor.specs.Accesses.{Access}
 use Rattle.vb_monitor.specs.Balloons.{may_look, held_after}
-use Rattle.vb_monitor.specs.Notices.{Serves, Asks}
+use Rattle.vb_monitor.specs.Notices.{Serves, AsksStatistics}
 use Rattle.vb_monitor.specs.Machine.{Fits, waits, Room, Ahead, Awaited, whole, room_of, outcome_at}
 use Rattle.vb_monitor.specs.Orders.{at_once, HasRoom}
 use Rattle.vb_c.specs.declared.notice.VbNotice.{VbNotice}
@@ -50,7 +50,7 @@ pub record HandsOver (n : Notice) (regions : List Region) (runs : List Run) (b1 
   pub notice : Notice
   pub is : IsNotice c asked notice
   pub kind_is : notice.kind ≡ n.kind
-  pub step : (after : Device) (outcome : Outcome) (pieces : List Buffer) (bytes : List ℕ)
+  pub step : (after : Device) (outcome : Outcome) (pieces : List ChainPiece) (bytes : List ℕ)
       (figures : List Statistic) (rest : List Access) →
       Ahead (whole regions n.kind after outcome) notice.step b2.device
       (room_of pieces bytes runs figures) rest →
@@ -96,8 +96,8 @@ abbrev pub AsksFor : Option ℕ → List Region → Balloon → Balloon → VbRo
     Type 0
 AsksFor None regions b1 b2 r1 r2 c = Refuses 1 b1 b2 r1 r2 c
 AsksFor (Some head) regions b1 b2 r1 r2 c =
-    Begins (λ after outcome log. Asks regions head b1.device after outcome log) regions Statistics
-    b1 b2 r1 r2 c
+    Begins (λ after outcome log. AsksStatistics regions head b1.device after outcome log) regions
+    Statistics b1 b2 r1 r2 c
 
 -- A notice goes on with this answer: where this was done, and whatever may still come then, the
 -- whole may come. It is handed over then.

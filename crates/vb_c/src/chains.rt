@@ -8,7 +8,7 @@ use crate::answers::{
     VbChain, VbFigures, VbNamed, VbUsed, chain_of, figures_of, kind_of_code, named_of, reported_of,
     used_of,
 };
-use vb_core::{Buffer, Denial, Device, Run, Statistic};
+use vb_core::{ChainPiece, Denial, Device, Run, Statistic};
 
 /// The chain that stands next on the queue of inflates, deflates or statistics.
 #[unsafe(no_mangle)]
@@ -17,7 +17,7 @@ pub extern "C" fn vb_next(
     kind: u32,
     avail: &[u8],
     table: &[u8],
-    pieces: &mut [Buffer],
+    pieces: &mut [ChainPiece],
 ) -> VbChain
     ensures { NextFor (kind_of_code kind) avail.now table.now (length pieces.old) pieces.new
         device.old device.new result }

@@ -8,7 +8,7 @@ ghost use Rattle.vb_c.specs.Notices.{part_of, phase_of, notice_of};
 
 use crate::answers::kind_of_code;
 use vb_chain::ChainFault;
-use vb_core::{Buffer, Denial, Run, Statistic};
+use vb_core::{ChainPiece, Denial, Run, Statistic};
 use vb_monitor::{
     Cut, Discarding, MAX_BYTES, MAX_CUTS, MAX_FIGURES, MAX_PIECES, MAX_RUNS, Notice, Orders, Phase,
     Place, Spot, Step, Tally, Walk,
@@ -88,7 +88,7 @@ pub struct VbNotice {
 /// The room that a notice needs.
 #[repr(C)]
 pub struct VbRoom {
-    pub pieces: [Buffer; MAX_PIECES],
+    pub pieces: [ChainPiece; MAX_PIECES],
     pub bytes: [u8; MAX_BYTES],
     pub runs: [Run; MAX_RUNS],
     pub figures: [Statistic; MAX_FIGURES],

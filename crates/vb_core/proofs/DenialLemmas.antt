@@ -15,13 +15,13 @@ pub record IsOpen (kind : Kind) (fits copied : Bool) (d : Device) : Type 0 where
   pub copied_so : copied ≡ true
   pub place : has_place d.settings.memory_end (ring_of kind d) ≡ true
 
-abbrev six_tests : Bool → Bool → Bool → Bool → Bool → Bool → Option Denial
-six_tests a b c d e f =
+abbrev six_causes : Bool → Bool → Bool → Bool → Bool → Bool → Option Denial
+six_causes a b c d e f =
     if a then Some NoQueue else (if b then Some BadArgument else (if c then Some NotReady
     else (if d then Some NeedsReset else (if e then Some NoQueue else (if f then Some Misplaced
     else None)))))
 
-passes : (a b c d e f : Bool) → six_tests a b c d e f ≡ None → (b ≡ false) × (f ≡ false)
+passes : (a b c d e f : Bool) → six_causes a b c d e f ≡ None → (b ≡ false) × (f ≡ false)
 passes true b c d e f h = absurd cc
 passes false true c d e f h = absurd cc
 passes false false true d e f h = absurd cc

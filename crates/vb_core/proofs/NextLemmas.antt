@@ -11,7 +11,7 @@ use Rattle.vb_ring.specs.Calls.{PopsBy, after_pop}
 use Rattle.vb_core.{specs.declared.kinds.Kind.Kind, specs.declared.kinds.Kind.TheVariants.Report}
 use Rattle.vb_core.{specs.Report.report_denial, specs.declared.device.Device.Device}
 use Rattle.vb_core.{specs.Devices.ring_of, specs.Next.{are_copies, next_denial, PopsCopies}}
-use Rattle.vb_core.{specs.declared.ring.Ring.Ring, specs.Copies.{padded, copies_of}}
+use Rattle.vb_core.{specs.declared.ring.Virtqueue.Virtqueue, specs.Copies.{padded, copies_of}}
 use Rattle.vb_core.{proofs.CopyLemmas.copied_length, proofs.DenialLemmas.{IsOpen, open_call}}
 use Rattle.vb_request.proofs.Chains.{chain_fits}
 
@@ -40,7 +40,7 @@ pub copies_fit : (size avail table : ℕ) → IsSize size → are_copies size av
 copies_fit size avail table is e = grind (arith, both)
 
 -- the pieces of a chain that was popped lie in memory, so 32 bits number their pages
-pub pieces_inside : (count : ℕ) (r : Ring) (avail table : List ℕ) (h : ℕ) (pieces : List Piece) →
+pub pieces_inside : (count : ℕ) (r : Virtqueue) (avail table : List ℕ) (h : ℕ) (pieces : List Piece) →
     PopsCopies count r avail table (Ok (Some (record { head = h; chain = pieces }))) →
     count < 2 ^ 32 → All (λ piece. piece.addr < page_size * 2 ^ 32) pieces
 pieces_inside count r avail table h pieces pops few =

@@ -7,12 +7,13 @@ use Rattle.vb_core.specs.Format.{ring_parts, saved_parts, settings_at, ring_at, 
 use Rattle.vb_core.proofs.Numbers.{AreBytes, u16_then, u32_then, u64_then, byte_then, u16_again}
 use Rattle.vb_core.specs.declared.format.TheConstants.{VERSION_AT, LENGTH_AT, CHECKSUM_AT}
 use Rattle.vb_core.proofs.Numbers.{u32_again, u64_again, byte_again}
-use Rattle.vb_core.{specs.Format.{FitsSettings, FitsRing, FitsSaved}, specs.declared.ring.Ring.Ring}
+use Rattle.vb_core.specs.Format.{FitsSettings, FitsRing, FitsSaved}
+use Rattle.vb_core.specs.declared.ring.Virtqueue.{Virtqueue}
 use Rattle.vb_core.{specs.declared.settings.Settings.Settings, specs.declared.saved.Saved.Saved}
 
 -- ---- what was written is read
 
-ring_then : (r : Ring) (more bytes : List ℕ) (p : ℕ) → FitsRing r
+ring_then : (r : Virtqueue) (more bytes : List ℕ) (p : ℕ) → FitsRing r
     → drop p bytes ≡ in_a_row (ring_parts r) more
     → (ring_at bytes p ≡ r) × (drop (p + 30) bytes ≡ more)
 ring_then r more bytes p f e =

@@ -5,7 +5,8 @@ use Rattle.vb_core.specs.declared.saved.StateDenial.TheVariants.{BadLength, NotA
 use Rattle.vb_core.specs.declared.format.TheConstants.{SAVED_LENGTH, CHECKSUM_AT, HEADER_LENGTH}
 use Rattle.vb_core.specs.Saved.{is_status, are_agreed, is_ring, is_held, is_poison, save_denial}
 use Rattle.vb_core.specs.declared.kinds.Kind.TheVariants.{Inflate, Statistics, Report}
-use Rattle.vb_core.{specs.declared.settings.Settings.Settings, specs.declared.ring.Ring.Ring}
+use Rattle.vb_core.specs.declared.settings.Settings.{Settings}
+use Rattle.vb_core.specs.declared.ring.Virtqueue.{Virtqueue}
 use Rattle.vb_core.{specs.declared.device.Device.Device, specs.declared.saved.Saved.Saved}
 use Rattle.vb_core.{specs.declared.saved.StateDenial.TheVariants.OtherVersion, specs.Saved.restored}
 use Rattle.vb_core.specs.declared.format.TheConstants.{FORMAT_VERSION, VERSION_AT, LENGTH_AT, MAGIC}
@@ -84,7 +85,7 @@ features_not_agreed : map are_agreed
     ∷ at_step 15 0x100000005 ∷ []) ≡ false ∷ false ∷ false ∷ false ∷ false ∷ false ∷ []
 features_not_agreed = refl
 
-abbrev ring : ℕ → Ring
+abbrev ring : ℕ → Virtqueue
 ring moved = record {
   table = 0x10000;
   avail = 0x11000;

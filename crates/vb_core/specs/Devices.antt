@@ -4,7 +4,7 @@ use Rattle.std.specs.Prelude.{None, bit_or}
 use Rattle.vb_model.specs.Status.{contains, driver_ok, needs_reset}
 use Rattle.vb_model.specs.Tables.{is_not_ready, has_fault, lacks_feature}
 use Rattle.vb_core.specs.declared.settings.Settings.{Settings}
-use Rattle.vb_core.specs.declared.ring.Ring.{Ring}
+use Rattle.vb_core.specs.declared.ring.Virtqueue.{Virtqueue}
 use Rattle.vb_core.specs.declared.kinds.Kind.{Kind}
 use Rattle.vb_core.specs.declared.kinds.Kind.TheVariants.{Inflate, Deflate, Statistics, Report}
 use Rattle.vb_core.specs.declared.device.Denial.{Denial}
@@ -32,14 +32,14 @@ new_device settings = record {
   status = 0;
 }
 
-abbrev pub ring_of : Kind → Device → Ring
+abbrev pub ring_of : Kind → Device → Virtqueue
 ring_of Inflate d = d.inflate
 ring_of Deflate d = d.deflate
 ring_of Statistics d = d.statistics
 ring_of Report d = d.report
 
 -- The device with this ring of the kind's queue.
-abbrev pub with_ring : Kind → Ring → Device → Device
+abbrev pub with_ring : Kind → Virtqueue → Device → Device
 with_ring Inflate r d = record d { inflate = r }
 with_ring Deflate r d = record d { deflate = r }
 with_ring Statistics r d = record d { statistics = r }
@@ -54,7 +54,7 @@ abbrev pub needing_reset : Device → Device
 needing_reset d = record d { status = bit_or d.status needs_reset }
 
 -- A ring of these parts from which nothing was taken.
-abbrev pub placed : ℕ → ℕ → ℕ → ℕ → Ring
+abbrev pub placed : ℕ → ℕ → ℕ → ℕ → Virtqueue
 placed table avail used size = record {
   table = table;
   avail = avail;
@@ -97,7 +97,7 @@ abbrev pub queue_denial : Kind → Device → Option Denial
 queue_denial kind d = call_denial kind true true true d
 
 -- What a place of a kind's queue is refused for.
-abbrev pub place_denial : Kind → Ring → Device → Option Denial
+abbrev pub place_denial : Kind → Virtqueue → Device → Option Denial
 place_denial kind ring d =
     first_denial
     (((contains d.status driver_ok || not (are_settings d.settings)) ⇛ BadArgument)

@@ -5,7 +5,7 @@ use Rattle.std.specs.Prelude.{drop, bit_xor}
 use Rattle.std.specs.List.{fold}
 use Rattle.std.specs.Int.{w16, w32, w64, from_le_bytes, to_le_bytes}
 use Rattle.vb_core.specs.declared.settings.Settings.{Settings}
-use Rattle.vb_core.specs.declared.ring.Ring.{Ring}
+use Rattle.vb_core.specs.declared.ring.Virtqueue.{Virtqueue}
 use Rattle.vb_core.specs.declared.device.Device.{Device}
 use Rattle.vb_core.specs.declared.saved.Saved.{Saved}
 use Rattle.vb_core.specs.declared.format.TheConstants.{MAGIC, FORMAT_VERSION, SAVED_LENGTH}
@@ -41,7 +41,7 @@ settings_parts s =
     u64_bytes s.memory_end ∷ u64_bytes s.offered ∷ u32_bytes s.reserved_pages
     ∷ (s.needs_must_tell ∷ []) ∷ (s.skips_bad_pages ∷ []) ∷ []
 
-abbrev pub ring_parts : Ring → List (List ℕ)
+abbrev pub ring_parts : Virtqueue → List (List ℕ)
 ring_parts r =
     u64_bytes r.table ∷ u64_bytes r.avail ∷ u64_bytes r.used
     ∷ u16_bytes r.size ∷ u16_bytes r.next_avail ∷ u16_bytes r.next_used ∷ []
@@ -86,7 +86,7 @@ settings_at bytes at = record {
   skips_bad_pages = slice_index bytes (at + 21);
 }
 
-abbrev pub ring_at : List ℕ → ℕ → Ring
+abbrev pub ring_at : List ℕ → ℕ → Virtqueue
 ring_at bytes at = record {
   table = u64_at bytes at;
   avail = u64_at bytes (at + 8);
@@ -122,7 +122,7 @@ pub record FitsSettings (s : Settings) : Type 0 where
   pub needs_must_tell : s.needs_must_tell < 256
   pub skips_bad_pages : s.skips_bad_pages < 256
 
-pub record FitsRing (r : Ring) : Type 0 where
+pub record FitsRing (r : Virtqueue) : Type 0 where
   pub table : r.table < 2 ^ 64
   pub avail : r.avail < 2 ^ 64
   pub used : r.used < 2 ^ 64

@@ -10,11 +10,11 @@ use Rattle.vb_ring.specs.Ends.{DeviceEnd}
 use Rattle.vb_ring.specs.Calls.{PopsBy, after_pop}
 use Rattle.vb_request.specs.Request.{request_length}
 use Rattle.vb_request.specs.Statistics.{statistics_length}
-use Rattle.vb_core.specs.declared.ring.Ring.{Ring}
+use Rattle.vb_core.specs.declared.ring.Virtqueue.{Virtqueue}
 use Rattle.vb_core.specs.declared.kinds.Kind.{Kind}
 use Rattle.vb_core.specs.declared.kinds.Kind.TheVariants.{Inflate, Deflate, Statistics, Report}
 use Rattle.vb_core.specs.declared.next.NextChain.{NextChain}
-use Rattle.vb_core.specs.declared.next.Buffer.{Buffer}
+use Rattle.vb_core.specs.declared.next.ChainPiece.{ChainPiece}
 use Rattle.vb_core.specs.declared.device.Denial.{Denial}
 use Rattle.vb_core.specs.declared.device.Denial.TheVariants.{Broken}
 use Rattle.vb_core.specs.declared.device.Device.{Device}
@@ -41,14 +41,14 @@ length_of Statistics pieces = statistics_length pieces
 length_of Report pieces = request_length pieces
 
 -- The piece as plain data.
-abbrev pub buffer_of : Piece → Buffer
+abbrev pub buffer_of : Piece → ChainPiece
 buffer_of piece =
     record { address = piece.addr; length = piece.len; writable = one_if piece.writable }
 
 -- ---- what is popped
 
 -- The device's end of the ring over its copies.
-abbrev pub device_end : Ring → DeviceEnd
+abbrev pub device_end : Virtqueue → DeviceEnd
 device_end r = record {
   layout = copied_layout;
   size = r.size;
@@ -58,7 +58,7 @@ device_end r = record {
 }
 
 -- A queue with this end finds so in a memory of so many pages that has these copies.
-abbrev pub PopsCopies : ℕ → Ring → List ℕ → List ℕ → Result (Option Taken) ChainFault → Type 0
+abbrev pub PopsCopies : ℕ → Virtqueue → List ℕ → List ℕ → Result (Option Taken) ChainFault → Type 0
 PopsCopies count r avail table found =
     PopsBy (copies_of count table avail) (device_end r) (after_pop (device_end r) found) found
 
@@ -77,8 +77,8 @@ answer_to kind (Ok None) = Ok None
 answer_to kind (Ok (Some taken)) = answer_of taken (length_of kind taken.chain)
 
 -- What stands next in copies of a ring, and its pieces at the front of a list.
-pub record ReadsNext (kind : Kind) (count : ℕ) (r : Ring) (avail table : List ℕ)
-    (buffers : List Buffer) (result : Result (Option NextChain) ChainFault) : Type 0 where
+pub record ReadsNext (kind : Kind) (count : ℕ) (r : Virtqueue) (avail table : List ℕ)
+    (buffers : List ChainPiece) (result : Result (Option NextChain) ChainFault) : Type 0 where
   pub found : Result (Option Taken) ChainFault
   pub pops : PopsCopies count r avail table found
   pub answer : result ≡ answer_to kind found
@@ -102,7 +102,7 @@ after_fault (Err fault) d = needing_reset d
 after_fault (Ok x) d = d
 
 -- The next chain of a queue, on any bytes of its copies.
-pub record NextBy (kind : Kind) (avail table : List ℕ) (room : ℕ) (buffers : List Buffer)
+pub record NextBy (kind : Kind) (avail table : List ℕ) (room : ℕ) (buffers : List ChainPiece)
     (d1 d2 : Device) (result : Result (Option NextChain) Denial) : Type 0 where
   pub denied : (why : Denial) → next_denial kind (length avail) (length table) room d1 ≡ Some why →
       (result ≡ Err why) × (d2 ≡ d1)

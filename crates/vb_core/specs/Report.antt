@@ -8,7 +8,7 @@ use Rattle.vb_chain.specs.declared.pieces.Piece.{Piece}
 use Rattle.vb_chain.specs.declared.fault.ChainFault.{ChainFault}
 use Rattle.vb_ring.specs.declared.device.Taken.{Taken}
 use Rattle.vb_request.specs.Report.{report_request}
-use Rattle.vb_core.specs.declared.ring.Ring.{Ring}
+use Rattle.vb_core.specs.declared.ring.Virtqueue.{Virtqueue}
 use Rattle.vb_core.specs.declared.runs.Run.{Run}
 use Rattle.vb_core.specs.declared.report.Reported.{Reported}
 use Rattle.vb_core.specs.declared.name.Named.{Named}
@@ -37,7 +37,7 @@ report_of reserved (Ok None) = Ok None
 report_of reserved (Ok (Some taken)) = answer_with taken (report_request taken.chain reserved)
 
 -- What stands next in copies of a ring, and its pages in the front of a list, one run for a piece.
-pub record ReadsReport (reserved count : ℕ) (r : Ring) (avail table : List ℕ)
+pub record ReadsReport (reserved count : ℕ) (r : Virtqueue) (avail table : List ℕ)
     (runs : List Run) (result : Result (Option Reported) ChainFault) : Type 0 where
   pub found : Result (Option Taken) ChainFault
   pub pops : PopsCopies count r avail table found

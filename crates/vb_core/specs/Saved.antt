@@ -5,7 +5,7 @@ use Rattle.vb_model.specs.Guest.{version_1, must_tell_host}
 use Rattle.vb_model.specs.Status.{contains, acknowledge, driver, driver_ok, features_ok}
 use Rattle.vb_model.specs.Status.{needs_reset}
 use Rattle.vb_model.specs.Tables.{lacks_feature}
-use Rattle.vb_core.specs.declared.ring.Ring.{Ring}
+use Rattle.vb_core.specs.declared.ring.Virtqueue.{Virtqueue}
 use Rattle.vb_core.specs.declared.kinds.Kind.{Kind}
 use Rattle.vb_core.specs.declared.kinds.Kind.TheVariants.{Inflate, Deflate, Statistics, Report}
 use Rattle.vb_core.specs.declared.device.Device.{Device}
@@ -46,13 +46,13 @@ are_agreed d =
     && (not (contains d.status features_ok)
     || version_1 d.features && (not (needs_must_tell d.settings) || must_tell_host d.features))
 
-abbrev pub is_blank : Ring → Bool
+abbrev pub is_blank : Virtqueue → Bool
 is_blank r =
     (r.table == 0) && (r.avail == 0) && (r.used == 0) && (r.size == 0) && (r.next_avail == 0)
     && (r.next_used == 0)
 
 -- a chain was taken, or given back
-abbrev pub has_moved : Ring → Bool
+abbrev pub has_moved : Virtqueue → Bool
 has_moved r = not (r.next_avail == 0) || not (r.next_used == 0)
 
 -- the features that a driver may have had until now

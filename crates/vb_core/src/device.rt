@@ -7,7 +7,7 @@ ghost use Rattle.vb_core.specs.Kinds.{queue_of};
 ghost use Rattle.vb_core.specs.Devices.{new_device, ring_of, with_ring, needing_reset};
 ghost use Rattle.vb_core.specs.Devices.{call_denial, queue_denial, place_denial, placed};
 
-use crate::{Kind, Ring, Settings};
+use crate::{Kind, Settings, Virtqueue};
 use bitflags::Flags;
 use vb_chain::ChainFault;
 use vb_request::{has_fault, is_not_ready, lacks_feature};
@@ -47,10 +47,10 @@ pub struct Device {
     /// How many the driver says are there (`actual`).
     pub actual: u32,
     /// The ring of each queue.
-    pub inflate: Ring,
-    pub deflate: Ring,
-    pub statistics: Ring,
-    pub report: Ring,
+    pub inflate: Virtqueue,
+    pub deflate: Virtqueue,
+    pub statistics: Virtqueue,
+    pub report: Virtqueue,
     /// What the driver says that its free pages hold, in 4 bytes (`poison_val`).
     pub poison: u32,
     /// The status register (VIRTIO 1.1, 2.1).
@@ -67,17 +67,17 @@ impl Device {
             features: 0,
             target: 0,
             actual: 0,
-            inflate: Ring::NONE,
-            deflate: Ring::NONE,
-            statistics: Ring::NONE,
-            report: Ring::NONE,
+            inflate: Virtqueue::NONE,
+            deflate: Virtqueue::NONE,
+            statistics: Virtqueue::NONE,
+            report: Virtqueue::NONE,
             poison: 0,
             status: 0,
         }
     }
 
     /// The ring of a kind's queue.
-    pub fn ring(&self, kind: Kind) -> Ring
+    pub fn ring(&self, kind: Kind) -> Virtqueue
         ensures { result ≡ ring_of kind self.now }
     {
         match kind {
@@ -89,7 +89,7 @@ impl Device {
     }
 
     /// Puts a ring in the place of that of a kind's queue.
-    pub(crate) fn set_ring(&mut self, kind: Kind, ring: Ring)
+    pub(crate) fn set_ring(&mut self, kind: Kind, ring: Virtqueue)
         ensures { self.new ≡ with_ring kind ring self.old }
     {
         match kind {
@@ -158,7 +158,7 @@ impl Device {
     }
 
     /// What a place of this kind's queue is refused for.
-    fn place_denial(&self, kind: Kind, ring: &Ring) -> Option<Denial>
+    fn place_denial(&self, kind: Kind, ring: &Virtqueue) -> Option<Denial>
         ensures { result ≡ place_denial kind ring.now self.now }
     {
         let status = Status::from_bits_retain(self.status);
@@ -178,8 +178,8 @@ impl Device {
     /// Nothing was taken from it then.
     ///
     /// Refused, tested in this order: `BadArgument` once DRIVER_OK is set; `NoQueue` where the
-    /// negotiated features leave the queue out; `Misplaced` as `Ring::has_place` says. Then nothing
-    /// is changed.
+    /// negotiated features leave the queue out; `Misplaced` as `Virtqueue::has_place` says. Then
+    /// nothing is changed.
     pub fn place(
         &mut self,
         kind: Kind,
@@ -195,7 +195,7 @@ impl Device {
             (result ≡ Ok tt) × (self.new ≡
             with_ring kind (placed table avail used size) self.old) }
     {
-        let ring = Ring {
+        let ring = Virtqueue {
             table,
             avail,
             used,

@@ -8,7 +8,7 @@ ghost use Rattle.vb_core.specs.Format.{settings_at, ring_at, saved_in, checksum,
 ghost use Rattle.vb_core.specs.Format.{FitsSettings, FitsRing, FitsSaved};
 
 use crate::saved::Saved;
-use crate::{Device, Ring, Settings};
+use crate::{Device, Settings, Virtqueue};
 use arrayvec::ArrayVec;
 
 /// What a saved device begins with: the bytes of `VBSTATE` and a 0, as a little-endian number.
@@ -83,11 +83,11 @@ fn settings_at(bytes: &[u8], at: usize) -> Settings
 }
 
 /// The ring that stands here.
-fn ring_at(bytes: &[u8], at: usize) -> Ring
+fn ring_at(bytes: &[u8], at: usize) -> Virtqueue
     requires { at + 30 ≤ length bytes.now }
     ensures { result ≡ ring_at bytes.now at }
 {
-    Ring {
+    Virtqueue {
         table: u64_at(bytes, at),
         avail: u64_at(bytes, at + 8),
         used: u64_at(bytes, at + 16),
@@ -188,7 +188,7 @@ fn push_settings(out: &mut SavedBytes, settings: &Settings)
 }
 
 /// Adds a ring.
-fn push_ring(out: &mut SavedBytes, ring: &Ring)
+fn push_ring(out: &mut SavedBytes, ring: &Virtqueue)
     requires { array_vec_len out.old + 30 ≤ SAVED_LENGTH }
     ensures items { out.new.items ≡ out.old.items ++ in_a_row (ring_parts ring.now) [] }
     ensures len { array_vec_len out.new ≡ array_vec_len out.old + 30 }

@@ -15,7 +15,7 @@ ghost use Rattle.vb_ring.specs.Layout.{IsSize};
 ghost use Rattle.vb_ring.specs.Entries.{next_entry, used_place, used_index};
 ghost use Rattle.vb_request.specs.Request.{numbers_of, bytes_of, request_length, page_request};
 ghost use Rattle.vb_request.specs.Report.{pages_of_pieces};
-ghost use Rattle.vb_core.specs.declared.ring.Ring.{Ring};
+ghost use Rattle.vb_core.specs.declared.ring.Virtqueue.{Virtqueue};
 ghost use Rattle.vb_core.specs.declared.runs.Run.{Run};
 ghost use Rattle.vb_core.specs.declared.name.Named.{Named};
 ghost use Rattle.vb_core.specs.Copies.{copies_of, copied_layout, AreCopies};
@@ -83,11 +83,11 @@ pub fn runs_are_the_pages_of_the_report()
 
 /// What is written for a used chain goes to where the ring has its next element and its index.
 pub fn a_used_entry_is_the_rings_next()
-    ensures element { (r : Ring) (l : Layout) (head : ℕ) →
+    ensures element { (r : Virtqueue) (l : Layout) (head : ℕ) →
         page_size * l.used.page + l.used.offset ≡ r.used →
         (used_entry r head).element_at ≡
         page_size * l.used.page + used_place l r.size r.next_used }
-    ensures index { (r : Ring) (l : Layout) (head : ℕ) →
+    ensures index { (r : Virtqueue) (l : Layout) (head : ℕ) →
         page_size * l.used.page + l.used.offset ≡ r.used →
         (used_entry r head).index_at ≡ page_size * l.used.page + used_index l }
 {}

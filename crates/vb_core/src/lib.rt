@@ -33,9 +33,9 @@ pub use laws::{
     runs_are_the_pages_of_the_request,
 };
 pub use name::Named;
-pub use next::{Buffer, NextChain};
+pub use next::{ChainPiece, NextChain};
 pub use report::{MAX_REPORT_RUNS, Reported};
-pub use ring::{Ring, UsedEntry};
+pub use ring::{UsedEntry, Virtqueue};
 pub use runs::Run;
 pub use saved::{Saved, StateDenial};
 pub use saved_laws::{only_what_was_saved_is_restored, what_was_saved_is_restored};

@@ -9,7 +9,7 @@ ghost use Rattle.vb_core.specs.Next.{is_read, buffer_of, length_of, are_copies, 
 ghost use Rattle.vb_core.specs.Next.{ReadsNext, NextBy};
 
 use crate::copies::{Copies, LAYOUT};
-use crate::{Denial, Device, Kind, Ring};
+use crate::{Denial, Device, Kind, Virtqueue};
 use vb_chain::{Chain, ChainFault, Piece};
 use vb_request::{request_length, statistics_length};
 use vb_ring::Queue;
@@ -17,7 +17,7 @@ use vb_ring::Queue;
 /// A part of guest memory that a chain gives to the device, as plain data.
 #[repr(C)]
 #[derive(Clone, Copy, Debug)]
-pub struct Buffer {
+pub struct ChainPiece {
     /// Where it begins in guest memory, in bytes.
     pub address: u64,
     /// Its length in bytes.
@@ -47,7 +47,7 @@ pub(crate) fn are_copies(size: u16, avail: &[u8], table: &[u8]) -> bool
 
 /// Takes the next chain out of a memory of the copies; answers its head. The ring isn't changed.
 pub(crate) fn pop(
-    ring: Ring,
+    ring: Virtqueue,
     pages: u32,
     avail: &[u8],
     table: &[u8],
@@ -78,10 +78,10 @@ fn length_of(kind: Kind, pieces: &[Piece]) -> Result<u32, ChainFault>
 }
 
 /// The piece as plain data.
-fn buffer_of(piece: &Piece) -> Buffer
+fn buffer_of(piece: &Piece) -> ChainPiece
     ensures { result ≡ buffer_of piece.now }
 {
-    Buffer {
+    ChainPiece {
         address: piece.addr,
         length: piece.len,
         writable: if piece.writable { 1 } else { 0 },
@@ -89,7 +89,7 @@ fn buffer_of(piece: &Piece) -> Buffer
 }
 
 /// Puts a chain's pieces into the front of a slice.
-fn put_buffers(pieces: &[Piece], out: &mut [Buffer])
+fn put_buffers(pieces: &[Piece], out: &mut [ChainPiece])
     requires { length pieces.now ≤ length out.old }
     ensures { take (length pieces.now) out.new ≡ map buffer_of pieces.now }
 {
@@ -101,11 +101,11 @@ fn put_buffers(pieces: &[Piece], out: &mut [Buffer])
 /// The chain that stands next in copies of a ring, with its pieces; or the rule that it breaks.
 fn next_chain(
     kind: Kind,
-    ring: Ring,
+    ring: Virtqueue,
     pages: u32,
     avail: &[u8],
     table: &[u8],
-    out: &mut [Buffer],
+    out: &mut [ChainPiece],
 ) -> Result<Option<NextChain>, ChainFault>
     requires size { IsSize ring.size }
     requires pages { 2 ≤ pages }
@@ -164,7 +164,7 @@ impl Device {
         kind: Kind,
         avail: &[u8],
         table: &[u8],
-        pieces: &mut [Buffer],
+        pieces: &mut [ChainPiece],
     ) -> Result<Option<NextChain>, Denial>
         ensures { NextBy kind avail.now table.now (length pieces.old) pieces.new
             self.old self.new result }

@@ -8,7 +8,7 @@ ghost use Rattle.vb_core.specs.Saved.{has_moved, is_ring, is_held, is_poison, ca
 
 use crate::saved::Saved;
 use crate::settings::has_page_poison;
-use crate::{Device, Kind, Ring};
+use crate::{Device, Kind, Virtqueue};
 use bitflags::Flags;
 use vb_request::lacks_feature;
 use vb_status::{Features, Status};
@@ -34,7 +34,7 @@ fn is_status(status: Status) -> bool
     steps && broken && !unused
 }
 
-impl Ring {
+impl Virtqueue {
     /// Whether it is the ring of a queue that has no place.
     fn is_blank(&self) -> bool
         ensures { result ≡ is_blank self.now }

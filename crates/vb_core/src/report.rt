@@ -12,7 +12,7 @@ ghost use Rattle.vb_core.specs.Report.{run_of, is_beyond, report_named, ReadsRep
 ghost use Rattle.vb_core.specs.Report.{NamesPiecesBy};
 
 use crate::next::{are_copies, pop};
-use crate::{Denial, Device, Kind, MEMORY_LIMIT, Named, Ring, Run};
+use crate::{Denial, Device, Kind, MEMORY_LIMIT, Named, Run, Virtqueue};
 use vb_chain::{Chain, ChainFault, Piece};
 use vb_model::limits::{MAX_REPORT_PIECES, PAGE_SIZE};
 use vb_request::{check_report, count_pages};
@@ -56,7 +56,7 @@ fn put_runs(pieces: &[Piece], runs: &mut [Run])
 /// The report that stands next in copies of a ring, with its pages; or the rule that it breaks.
 fn next_report(
     reserved: u32,
-    ring: Ring,
+    ring: Virtqueue,
     pages: u32,
     avail: &[u8],
     table: &[u8],

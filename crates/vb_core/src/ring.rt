@@ -9,7 +9,7 @@ use vb_ring::{MAX_QUEUE_SIZE, MIN_QUEUE_SIZE};
 /// far the device is (VIRTIO 1.1, 2.6).
 #[repr(C)]
 #[derive(Clone, Copy, Debug)]
-pub struct Ring {
+pub struct Virtqueue {
     /// Where the descriptor table begins.
     pub table: u64,
     /// Where the available ring begins.
@@ -55,9 +55,9 @@ fn is_part(end: u64, at: u64, align: u64, len: u64) -> bool
     at % align == 0 && at <= end && len <= end - at
 }
 
-impl Ring {
+impl Virtqueue {
     /// The ring of a queue that has no place.
-    pub const NONE: Ring = Ring {
+    pub const NONE: Virtqueue = Virtqueue {
         table: 0,
         avail: 0,
         used: 0,

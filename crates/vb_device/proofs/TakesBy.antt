@@ -50,32 +50,32 @@ after_status false true rest e = absurd cc
 after_status false false rest e = refl
 
 -- the four tests of a take
-abbrev four_tests : Bool → Bool → Bool → Bool → Option Refusal → Option Refusal
-four_tests a b c d rest =
+abbrev four_causes : Bool → Bool → Bool → Bool → Option Refusal → Option Refusal
+four_causes a b c d rest =
     if a then Some NoQueue else (if b then Some NotReady else (if c then Some NeedsReset
     else (if d then Some NoQueue else rest)))
 
 by_four : (a b c d : Bool) (rest : Option Refusal) (why : Refusal) →
-    four_tests a b c d None ≡ Some why → four_tests a b c d rest ≡ Some why
+    four_causes a b c d None ≡ Some why → four_causes a b c d rest ≡ Some why
 by_four true b c d rest why e = e
 by_four false true c d rest why e = e
 by_four false false true d rest why e = e
 by_four false false false true rest why e = e
 by_four false false false false rest why e = absurd cc
 
-after_four : (a b c d : Bool) (rest : Option Refusal) → four_tests a b c d None ≡ None →
-    four_tests a b c d rest ≡ rest
+after_four : (a b c d : Bool) (rest : Option Refusal) → four_causes a b c d None ≡ None →
+    four_causes a b c d rest ≡ rest
 after_four true b c d rest e = absurd cc
 after_four false true c d rest e = absurd cc
 after_four false false true d rest e = absurd cc
 after_four false false false true rest e = absurd cc
 after_four false false false false rest e = refl
 
-first_false : (a b c d : Bool) → four_tests (not a) b c d None ≡ None → a ≡ true
+first_false : (a b c d : Bool) → four_causes (not a) b c d None ≡ None → a ≡ true
 first_false true b c d e = refl
 first_false false b c d e = absurd cc
 
-status_false : (a b c d : Bool) → four_tests a b c d None ≡ None →
+status_false : (a b c d : Bool) → four_causes a b c d None ≡ None →
     (if b then Some NotReady else (if c then Some NeedsReset else None)) ≡ None
 status_false true b c d e = absurd cc
 status_false false true c d e = absurd cc
@@ -151,7 +151,7 @@ queue_status q s e = kind_rest (not (is_queue_of_requests q)) (readiness_refusal
 
 -- a refusal of a take is answered as it is
 means_refused : (q : ℕ) (mem : Pages) (part : Part) (a b c d : Bool) (why : Refusal) →
-    four_tests a b c d None ≡ Some why → take_refusal q part ≡ Some why →
+    four_causes a b c d None ≡ Some why → take_refusal q part ≡ Some why →
     TakeMeans q mem part part (Err why)
 means_refused q mem part true b c d why e is =
     subst (λ (w : Refusal). take_refusal q part ≡ Some w → TakeMeans q mem part part (Err w))

@@ -13,7 +13,7 @@ use Rattle.vb_device.specs.declared.worked.Worked.{Worked}
 pub use Rattle.vb_model.specs.FirstRefusal.{refusal_in}
 use Rattle.vb_model.specs.FirstRefusal.{◌⇒◌, first_refusal}
 use Rattle.vb_model.specs.Tables.{has_chains, is_queue_of_requests}
-use Rattle.vb_model.specs.Tables.{work_tests}
+use Rattle.vb_model.specs.Tables.{work_causes}
 use Rattle.vb_ram.specs.Pages.{Page, Pages, frame_at}
 use Rattle.vb_ram.specs.Part.{Part}
 use Rattle.vb_ring.specs.Layout.{IsBacked}
@@ -26,7 +26,7 @@ use Rattle.vb_device.specs.Calls.{without_frames, lost_frames, settled}
 -- Why a queue's number and the status refuse a finish, where they do.
 abbrev pub queue_refusal : ℕ → ℕ → Option Refusal
 queue_refusal q status =
-    first_refusal ((not (is_queue_of_requests q) ⇒ NoQueue) ∷ work_tests status)
+    first_refusal ((not (is_queue_of_requests q) ⇒ NoQueue) ∷ work_causes status)
 
 -- ---- loose frames
 

@@ -5,8 +5,8 @@ use Rattle.vb_model.specs.declared.replies.Refusal.{Refusal}
 use Rattle.vb_model.specs.Requests.{Request}
 use Rattle.vb_model.specs.Guest.{is_ballooned}
 use Rattle.vb_model.specs.FirstRefusal.{first_refusal}
-use Rattle.vb_model.specs.Tables.{take_tests, work_tests, finish_tests}
-use Rattle.vb_model.specs.Tables.{sweep_tests, ask_tests}
+use Rattle.vb_model.specs.Tables.{take_causes, work_causes, finish_causes}
+use Rattle.vb_model.specs.Tables.{sweep_causes, ask_causes}
 use Rattle.vb_model.specs.declared.layout.TheConstants.{STATISTICS_QUEUE}
 use Rattle.vb_ram.specs.Part.{Part}
 use Rattle.vb_device.specs.Queues.{queue_part}
@@ -17,19 +17,19 @@ taken_at q index part = slice_get (queue_part q part).taken index
 
 abbrev pub take_refusal : ℕ → Part → Option Refusal
 take_refusal q part =
-    first_refusal (take_tests q part.status part.features (length (queue_part q part).taken))
+    first_refusal (take_causes q part.status part.features (length (queue_part q part).taken))
 
 abbrev pub work_refusal : Part → Option Refusal
-work_refusal part = first_refusal (work_tests part.status)
+work_refusal part = first_refusal (work_causes part.status)
 
 abbrev pub finish_refusal : ℕ → ℕ → Part → Option Refusal
 finish_refusal q index part =
-    first_refusal (finish_tests q part.status part.paced (taken_at q index part))
+    first_refusal (finish_causes q part.status part.paced (taken_at q index part))
 
 abbrev pub ask_refusal : Part → Option Refusal
 ask_refusal part =
-    first_refusal (ask_tests part.status (is_some (taken_at STATISTICS_QUEUE 0 part)))
+    first_refusal (ask_causes part.status (is_some (taken_at STATISTICS_QUEUE 0 part)))
 
 abbrev pub sweep_refusal : ℕ → Part → Option Refusal
 sweep_refusal page part =
-    first_refusal (sweep_tests part.status part.features (is_ballooned part.ballooned page))
+    first_refusal (sweep_causes part.status part.features (is_ballooned part.ballooned page))

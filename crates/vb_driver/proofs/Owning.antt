@@ -14,7 +14,7 @@ use Rattle.vb_model.specs.declared.replies.Refusal.TheVariants.{BadOrder, BadCpu
 use Rattle.vb_model.proofs.PageSteps.{covers_is}
 use Rattle.vb_pages.{specs.FreePages.FreePages, specs.PageState.PageState}
 use Rattle.vb_driver.specs.Areas.{flags_of, AreApart, AreFor, Becomes, is_free_at, is_covered}
-use Rattle.vb_driver.{specs.Places.{is_at, marked}, specs.Answers.{block_at, alloc_tests}}
+use Rattle.vb_driver.{specs.Places.{is_at, marked}, specs.Answers.{block_at, alloc_causes}}
 use Rattle.vb_driver.specs.State.{DriverState, page_state, naming, IsDriver}
 use Rattle.vb_driver.{specs.Areas.is_free_block, proofs.Naming.naming_same, proofs.Counting.at_is}
 use Rattle.vb_driver.proofs.Keeping.{kept_changed, there_by, free_marked}
@@ -49,7 +49,7 @@ pub alloc_tests_same : (d : DriverState) (cpu order : ℕ) → IsDriver d
     → first_refusal ((nat_lt 9 order ⇒ BadOrder) ∷ (nat_le (length d.areas.lists) cpu ⇒ BadCpu)
     ∷ (not (list_any (λ start. is_free_block (flags_of d.areas) (block_at start order))
     (range_with_len 0 (length (flags_of d.areas)))) ⇒ NoPages) ∷ [])
-    ≡ first_refusal (alloc_tests d cpu order)
+    ≡ first_refusal (alloc_causes d cpu order)
 alloc_tests_same d cpu order kept = grind (arith, blocks_same)
 
 -- ---- blocks that are held

@@ -11,13 +11,13 @@ pub use Rattle.vb_model.specs.Pages.{block_at}
 use Rattle.vb_model.specs.Pages.{Block, reported, maximal_free_blocks}
 use Rattle.vb_model.specs.Guest.{stats_vq, deflate_on_oom, reporting}
 pub use Rattle.vb_model.specs.FirstRefusal.{refusal_in}
-use Rattle.vb_model.specs.FirstRefusal.{Test, ◌⇒◌}
+use Rattle.vb_model.specs.FirstRefusal.{Cause, ◌⇒◌}
 pub use Rattle.vb_model.specs.Tables.{is_up}
-use Rattle.vb_model.specs.Tables.{pages_to_offer, pages_to_ask, pages_when_short}
-use Rattle.vb_model.specs.Tables.{inflate_tests as tests_of_inflate}
-use Rattle.vb_model.specs.Tables.{driver_tests, request_tests, reap_tests as tests_of_reap}
-use Rattle.vb_model.specs.Tables.{block_tests, no_block_free, is_not_held}
-use Rattle.vb_model.specs.Life.{feature_tests}
+use Rattle.vb_model.specs.Tables.{pages_to_inflate, pages_to_deflate, pages_when_short}
+use Rattle.vb_model.specs.Tables.{inflate_causes as causes_of_inflate}
+use Rattle.vb_model.specs.Tables.{driver_causes, request_causes, reap_causes as causes_of_reap}
+use Rattle.vb_model.specs.Tables.{block_causes, no_block_free, is_not_held}
+use Rattle.vb_model.specs.Life.{feature_causes}
 use Rattle.vb_ram.specs.Pages.{Pages, frame_at}
 use Rattle.vb_ram.specs.Part.{Part}
 use Rattle.vb_ring.specs.Ends.{DriverEnd, outstanding, used_answer}
@@ -26,46 +26,46 @@ use Rattle.vb_driver.specs.State.{DriverState, room}
 -- ---- the numbers of pages that a call moves
 
 abbrev pub inflate_count : DriverState → ℕ → ℕ → ℕ
-inflate_count d target n = pages_to_offer d.places target n
+inflate_count d target n = pages_to_inflate d.places target n
 
 abbrev pub deflate_count : DriverState → ℕ → ℕ → ℕ
-deflate_count d target n = pages_to_ask d.places target n
+deflate_count d target n = pages_to_deflate d.places target n
 
 abbrev pub oom_count : DriverState → ℕ → ℕ
 oom_count d n = pages_when_short d.places n
 
 -- ---- the tests
 
-abbrev pub alloc_tests : DriverState → ℕ → ℕ → List Test
-alloc_tests d cpu order =
-    block_tests order d.processors cpu (no_block_free d.places d.pages order ⇒ NoPages)
+abbrev pub alloc_causes : DriverState → ℕ → ℕ → List Cause
+alloc_causes d cpu order =
+    block_causes order d.processors cpu (no_block_free d.places d.pages order ⇒ NoPages)
 
-abbrev pub free_tests : DriverState → ℕ → ℕ → ℕ → List Test
-free_tests d cpu start order =
-    block_tests order d.processors cpu (is_not_held d.held (block_at start order) ⇒ NotHeld)
+abbrev pub free_causes : DriverState → ℕ → ℕ → ℕ → List Cause
+free_causes d cpu start order =
+    block_causes order d.processors cpu (is_not_held d.held (block_at start order) ⇒ NotHeld)
 
-abbrev pub inflate_tests : DriverState → Part → ℕ → List Test
-inflate_tests d part n =
-    tests_of_inflate part.status d.features (outstanding d.deflate.ring)
+abbrev pub inflate_causes : DriverState → Part → ℕ → List Cause
+inflate_causes d part n =
+    causes_of_inflate part.status d.features (outstanding d.deflate.ring)
     (outstanding d.inflate.ring) (room d) (inflate_count d part.target n)
 
-abbrev pub deflate_tests : DriverState → Part → ℕ → List Test
-deflate_tests d part n =
-    request_tests part.status false (outstanding d.deflate.ring) (room d)
+abbrev pub deflate_causes : DriverState → Part → ℕ → List Cause
+deflate_causes d part n =
+    request_causes part.status false (outstanding d.deflate.ring) (room d)
     (deflate_count d part.target n)
 
-abbrev pub oom_tests : DriverState → Part → ℕ → List Test
-oom_tests d part n =
-    request_tests part.status (not (deflate_on_oom d.features)) (outstanding d.deflate.ring)
+abbrev pub oom_causes : DriverState → Part → ℕ → List Cause
+oom_causes d part n =
+    request_causes part.status (not (deflate_on_oom d.features)) (outstanding d.deflate.ring)
     (room d) (oom_count d n)
 
 -- the first blocks of order 4 or more from this page on that are wholly free
 abbrev pub blocks_to_report : DriverState → ℕ → List Block
 blocks_to_report d from = reported (room d) from (maximal_free_blocks d.places)
 
-abbrev pub report_tests : DriverState → Part → ℕ → List Test
-report_tests d part from =
-    request_tests part.status (not (reporting d.features)) (outstanding d.report.ring) 1
+abbrev pub report_causes : DriverState → Part → ℕ → List Cause
+report_causes d part from =
+    request_causes part.status (not (reporting d.features)) (outstanding d.report.ring) 1
     (length (blocks_to_report d from))
 
 -- the used ring says what no device may say
@@ -73,13 +73,13 @@ abbrev pub is_ring_broken : Pages → DriverEnd → Bool
 is_ring_broken mem ring = is_err (used_answer mem ring)
 
 -- a reap from the queue whose ring this is
-abbrev pub reap_tests : Pages → Part → DriverState → DriverEnd → ℕ → List Test
-reap_tests mem part d ring queue =
-    tests_of_reap queue part.status d.features ++ ((is_ring_broken mem ring ⇒ RingBroken) ∷ [])
+abbrev pub reap_causes : Pages → Part → DriverState → DriverEnd → ℕ → List Cause
+reap_causes mem part d ring queue =
+    causes_of_reap queue part.status d.features ++ ((is_ring_broken mem ring ⇒ RingBroken) ∷ [])
 
-abbrev pub stats_tests : Pages → Part → DriverState → List Test
-stats_tests mem part d =
-    driver_tests part.status (not (stats_vq d.features))
+abbrev pub stats_causes : Pages → Part → DriverState → List Cause
+stats_causes mem part d =
+    driver_causes part.status (not (stats_vq d.features))
     ++ ((is_ring_broken mem d.statistics ⇒ RingBroken) ∷ [])
 
 -- memory has as many pages as the smallest guest's
@@ -95,8 +95,8 @@ HaveRingFrames size mem =
 abbrev pub has_frames : ℕ → Pages → Bool
 has_frames size mem = list_all (λ page. is_some (frame_at mem page)) (start_pages size)
 
-abbrev pub init_tests : ℕ → Pages → Part → ℕ → List Test
-init_tests size mem part wanted =
+abbrev pub init_causes : ℕ → Pages → Part → ℕ → List Cause
+init_causes size mem part wanted =
     (not (part.status == 0) ⇒ AlreadyUp)
     ∷ (not (has_frames size mem) ⇒ NoFrame)
-    ∷ feature_tests wanted
+    ∷ feature_causes wanted

@@ -19,7 +19,7 @@ use Rattle.vb_driver.specs.Coding.{AreZeroed}
 use Rattle.vb_driver.specs.State.{DriverState, IsDriver, fresh_side, fresh_statistics, fresh_report}
 use Rattle.vb_driver.specs.State.{figures_of}
 use Rattle.vb_driver.specs.Areas.{areas_with}
-use Rattle.vb_driver.specs.Answers.{refusal_in, init_tests}
+use Rattle.vb_driver.specs.Answers.{refusal_in, init_causes}
 use Rattle.vb_driver.specs.Unchanged.{Unchanged}
 use Rattle.vb_driver.specs.Statistics.{PostsBuffer}
 
@@ -95,7 +95,7 @@ pub record NegotiatesBy {T : Type 0} (m1 m2 : Pages) (p1 p2 : Part) (d1 d2 : Dri
 pub record InitsBy {T : Type 0} (m1 m2 : Pages) (p1 p2 : Part) (d1 d2 : DriverState) (wanted : ℕ)
     (result : Result T Refusal) : Type 0 where
   pub driver : IsDriver d1
-  pub refusal : refusal_in result ≡ first_refusal (init_tests d1.queue_size m1 p1 wanted)
+  pub refusal : refusal_in result ≡ first_refusal (init_causes d1.queue_size m1 p1 wanted)
   pub refused : IfErr result (λ refusal. InitRefused refusal m1 m2 p1 p2 d1 d2 wanted)
   pub starts : OnOk result (Starts m1 m2 p1 p2 d1 d2 wanted)
 

@@ -10,7 +10,7 @@ use Rattle.vb_pages.specs.FreePages.{FreePages}
 use Rattle.vb_pages.specs.PageState.{freed}
 use Rattle.vb_driver.specs.State.{DriverState, IsDriver, page_state}
 use Rattle.vb_driver.specs.Areas.{Allots}
-use Rattle.vb_driver.specs.Answers.{refusal_in, block_at, alloc_tests, free_tests}
+use Rattle.vb_driver.specs.Answers.{refusal_in, block_at, alloc_causes, free_causes}
 
 -- A block is used and held, and the page areas are these.
 abbrev pub after_alloc : DriverState → FreePages → Block → DriverState
@@ -26,7 +26,7 @@ after_alloc d areas b =
 pub record AllocatesBy (d1 d2 : DriverState) (cpu order : ℕ)
     (result : Result ℕ Refusal) : Type 0 where
   pub driver : IsDriver d1
-  pub refusal : refusal_in result ≡ first_refusal (alloc_tests d1 cpu order)
+  pub refusal : refusal_in result ≡ first_refusal (alloc_causes d1 cpu order)
   pub refused : OnErr result (d2 ≡ record d1 { areas = d2.areas })
   pub free : IfOk result (λ start. IsTrue (is_wholly_free d1.places (block_at start order)))
   pub state : IfOk result (λ start. d2 ≡ after_alloc d1 d2.areas (block_at start order))
@@ -44,6 +44,6 @@ after_free d cpu start order =
 pub record FreesBy {T : Type 0} (d1 d2 : DriverState) (cpu start order : ℕ)
     (result : Result T Refusal) : Type 0 where
   pub driver : IsDriver d1
-  pub refusal : refusal_in result ≡ first_refusal (free_tests d1 cpu start order)
+  pub refusal : refusal_in result ≡ first_refusal (free_causes d1 cpu start order)
   pub refused : OnErr result (d2 ≡ d1)
   pub state : OnOk result (d2 ≡ after_free d1 cpu start order)

@@ -20,7 +20,7 @@ use Rattle.vb_driver.specs.declared.answers.Reaped.{Reaped}
 use Rattle.vb_driver.specs.State.{RequestSide, DriverState, IsDriver, sent_by, page_state}
 use Rattle.vb_driver.specs.State.{tells_host, given_away}
 use Rattle.vb_driver.specs.Areas.{all_given, areas_with}
-use Rattle.vb_driver.specs.Answers.{refusal_in, reap_tests}
+use Rattle.vb_driver.specs.Answers.{refusal_in, reap_causes}
 
 -- The driver's end of the ring of queue 0, 1 or 4.
 abbrev pub ring_of : ℕ → DriverState → DriverEnd
@@ -98,7 +98,7 @@ pub record ReapsBy (m1 m2 : Pages) (p1 p2 : Part) (d1 d2 : DriverState) (queue :
     (result : Result (Option Reaped) Refusal) : Type 0 where
   pub driver : IsDriver d1
   pub mem : m2 ≡ m1
-  pub refusal : refusal_in result ≡ first_refusal (reap_tests m1 p1 d1 (ring_of queue d1) queue)
+  pub refusal : refusal_in result ≡ first_refusal (reap_causes m1 p1 d1 (ring_of queue d1) queue)
   pub refused : OnErr result (d2 ≡ d1)
   pub failed : IfErr result (λ refusal. p2 ≡ after_refusal refusal p1)
   pub next : IfOk result (λ got. used_answer m1 (ring_of queue d1) ≡ Ok (next_of got))

@@ -31,7 +31,7 @@ use Rattle.vb_driver.specs.State.{RequestSide, ReportSide, DriverState, AreReque
 use Rattle.vb_driver.specs.State.{page_state, tells_host, index_values}
 use Rattle.vb_driver.specs.Areas.{all_given, areas_without}
 use Rattle.vb_driver.specs.Answers.{refusal_in, inflate_count, deflate_count, oom_count}
-use Rattle.vb_driver.specs.Answers.{inflate_tests, deflate_tests, oom_tests, report_tests}
+use Rattle.vb_driver.specs.Answers.{inflate_causes, deflate_causes, oom_causes, report_causes}
 use Rattle.vb_driver.specs.Answers.{blocks_to_report}
 use Rattle.vb_driver.specs.Unchanged.{Unchanged}
 
@@ -114,7 +114,7 @@ pub record Offers (m1 m2 : Pages) (p1 p2 : Part) (d1 d2 : DriverState) (count : 
 pub record InflatesBy (m1 m2 : Pages) (p1 p2 : Part) (d1 d2 : DriverState) (n : ℕ)
     (result : Result Posted Refusal) : Type 0 where
   pub driver : IsDriver d1
-  pub refusal : refusal_in result ≡ first_refusal (inflate_tests d1 p1 n)
+  pub refusal : refusal_in result ≡ first_refusal (inflate_causes d1 p1 n)
   pub refused : OnErr result (Unchanged m1 m2 p1 p2 d1 d2)
   pub offers : IfOk result (Offers m1 m2 p1 p2 d1 d2 (inflate_count d1 p1.target n))
 
@@ -142,14 +142,14 @@ pub record AsksBack (m1 m2 : Pages) (p1 p2 : Part) (d1 d2 : DriverState) (count 
 pub record DeflatesBy (m1 m2 : Pages) (p1 p2 : Part) (d1 d2 : DriverState) (n : ℕ)
     (result : Result Posted Refusal) : Type 0 where
   pub driver : IsDriver d1
-  pub refusal : refusal_in result ≡ first_refusal (deflate_tests d1 p1 n)
+  pub refusal : refusal_in result ≡ first_refusal (deflate_causes d1 p1 n)
   pub refused : OnErr result (Unchanged m1 m2 p1 p2 d1 d2)
   pub asks : IfOk result (AsksBack m1 m2 p1 p2 d1 d2 (deflate_count d1 p1.target n))
 
 pub record DeflatesOnOomBy (m1 m2 : Pages) (p1 p2 : Part) (d1 d2 : DriverState) (n : ℕ)
     (result : Result Posted Refusal) : Type 0 where
   pub driver : IsDriver d1
-  pub refusal : refusal_in result ≡ first_refusal (oom_tests d1 p1 n)
+  pub refusal : refusal_in result ≡ first_refusal (oom_causes d1 p1 n)
   pub refused : OnErr result (Unchanged m1 m2 p1 p2 d1 d2)
   pub asks : IfOk result (AsksBack m1 m2 p1 p2 d1 d2 (oom_count d1 n))
 
@@ -185,6 +185,6 @@ unreported _ d = d
 pub record ReportsBy (m1 m2 : Pages) (p1 p2 : Part) (d1 d2 : DriverState) (from : ℕ)
     (result : Result Posted Refusal) : Type 0 where
   pub driver : IsDriver d1
-  pub refusal : refusal_in result ≡ first_refusal (report_tests d1 p1 from)
+  pub refusal : refusal_in result ≡ first_refusal (report_causes d1 p1 from)
   pub refused : IfErr result (λ refusal. Unchanged m1 m2 p1 p2 (unreported refusal d1) d2)
   pub reports : IfOk result (Reports m1 m2 p1 p2 d1 d2 (blocks_to_report d1 from))

@@ -14,7 +14,7 @@ use Rattle.vb_ring.specs.Calls.{TakesUsedBy}
 use Rattle.vb_ring.specs.Frame.{SameOutside}
 use Rattle.vb_driver.specs.Coding.{AreFigures, SameButPages}
 use Rattle.vb_driver.specs.State.{DriverState, IsDriver, figures_of}
-use Rattle.vb_driver.specs.Answers.{refusal_in, stats_tests}
+use Rattle.vb_driver.specs.Answers.{refusal_in, stats_causes}
 use Rattle.vb_driver.specs.Unchanged.{Unchanged}
 use Rattle.vb_driver.specs.Requests.{Announces, written_of, figures_extent}
 use Rattle.vb_driver.specs.Reaps.{after_refusal}
@@ -51,7 +51,7 @@ pub record WasntUsed (m1 m2 : Pages) (p1 p2 : Part) (d1 d2 : DriverState) : Type
 pub record FillsBy (m1 m2 : Pages) (p1 p2 : Part) (d1 d2 : DriverState)
     (result : Result Bool Refusal) : Type 0 where
   pub driver : IsDriver d1
-  pub refusal : refusal_in result ≡ first_refusal (stats_tests m1 p1 d1)
+  pub refusal : refusal_in result ≡ first_refusal (stats_causes m1 p1 d1)
   pub refused : IfErr result (λ refusal. Unchanged m1 m2 (after_refusal refusal p1) p2 d1 d2)
   pub fills : IfOk result (λ filled. MatchBool filled
       (Refills m1 m2 p1 p2 d1 d2) (WasntUsed m1 m2 p1 p2 d1 d2))

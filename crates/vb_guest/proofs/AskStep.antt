@@ -1,11 +1,11 @@
 -- A guest's ask is a step of the definitions.
 use Rattle.std.specs.Prelude.{◌≡◌, false, List, [], Result, Ok, Err, IsOk, Some, None, is_some}
 use Rattle.std.{specs.Prelude.{slice_get, refl}, proofs.Common.{sym, ◌∙◌, ap, subst, arith, inr}}
-use Rattle.vb_model.specs.Requests.{Request, Figures, Buffer, NoBuffer, BufferPosted, BufferTaken}
-use Rattle.vb_model.{specs.Requests.BufferDone, specs.declared.calls.Call.TheVariants.Ask}
-use Rattle.vb_model.{specs.declared.replies.Refusal.Refusal, specs.Guest.Guest, specs.Device.Asks}
-use Rattle.vb_model.{specs.declared.replies.Reply.TheVariants.Asked, specs.Layout.reserved_pages}
-use Rattle.vb_model.specs.Refusals.{refusal_of, is_taken}
+use Rattle.vb_model.specs.Requests.{Request, Figures, StatisticsBuffer, NoBuffer, BufferPosted}
+use Rattle.vb_model.{specs.Requests.{BufferTaken, BufferDone}, specs.Layout.reserved_pages}
+use Rattle.vb_model.{specs.declared.replies.Reply.TheVariants.Asked, specs.Device.ReturnsBuffer}
+use Rattle.vb_model.{specs.declared.calls.Call.TheVariants.Ask, specs.Guest.Guest}
+use Rattle.vb_model.{specs.declared.replies.Refusal.Refusal, specs.Refusals.{refusal_of, is_taken}}
 use Rattle.vb_ram.{specs.Pages.Pages, specs.Part.Part}
 use Rattle.vb_guest.{proofs.Running.others_run, proofs.Handing.{used_same, same_end, end_by}}
 use Rattle.vb_guest.proofs.RunApart.{sizes_of, others_same, ring_low, ring_as}
@@ -38,7 +38,7 @@ ask_done m1 m2 p1 p2 d g figures result is did stands run free_part free =
     let ties = stands.ties in
     let n = g.config.pages in
     let r : Request = record { head = 0; pages = []; visited = 0 } in
-    let L : Buffer → Type 0 = λ b. BufferLine m1 d.statistics p1.statistics b in
+    let L : StatisticsBuffer → Type 0 = λ b. BufferLine m1 d.statistics p1.statistics b in
     let line : L (BufferTaken figures) = subst L is run.statistics in
     let taken : taken_at 2 0 p1 ≡ Some r =
     ap (λ (l : List Request). slice_get l 0) line.remembers in
@@ -58,18 +58,13 @@ ask_done m1 m2 p1 p2 d g figures result is did stands run free_part free =
     (λ p ne. adds.puts.rest.others p (ne, (ne, tt)))) same.behind in
     let used = buffer_used m1 m2 d.statistics p1.statistics figures _ line adds in
     let new : Guest = record g { buffer = BufferDone figures } in
-    let A : Buffer → Type 0 = λ b. Asks b g Asked new in
+    let A : StatisticsBuffer → Type 0 = λ b. ReturnsBuffer b g Asked new in
     let step = honest_performed g Ask [] Asked new free (refl, subst A (sym is) (refl, refl)) in
     let after : Part = using 2 0 p1 in
     let there : Ties m2 after d new = record {
       parts = ties.parts;
       pages = pages_same m1 m2 g.config.queue_size n _ _ same ties.pages;
-      queues = inr (assumption (
-        used,
-        still.inflate (omega arith),
-        still.deflate (omega arith),
-        still.report (omega arith),
-      ));
+      queues = inr (assumption (still.inflate refl, still.deflate refl, still.report refl));
     } in
     subst (StepsAlone (Honest m2 p2 d) g Ask)
     (sym (asked_ok result (did.answers free_part)))
@@ -77,10 +72,10 @@ ask_done m1 m2 p1 p2 d g figures result is did stands run free_part free =
     (ties_same m2 m2 after p2 d d new refl (did.part free_part) refl there) refl)
 
 -- the buffer that a device remembers
-taken_is : (b : Buffer) → is_some (slice_get (taken_requests b) 0) ≡ is_taken b
+taken_is : (b : StatisticsBuffer) → is_some (slice_get (taken_requests b) 0) ≡ is_taken b
 taken_is b = grind arith
 
-not_free : (g : Guest) (b : Buffer) → g.buffer ≡ b → is_taken b ≡ false
+not_free : (g : Guest) (b : StatisticsBuffer) → g.buffer ≡ b → is_taken b ≡ false
     → refusal_of g Ask ≡ None → ⊥
 not_free g b is other free = grind arith
 
@@ -96,7 +91,7 @@ ask_step m1 m2 p1 p2 d g result did stands =
     (λ why. ask_refused m1 m2 p1 p2 d g why result did stands)
     (λ run. by_buffer g.buffer refl run)
   where
-    by_buffer : (b : Buffer) → g.buffer ≡ b → IsRunning m1 p1 d g → ask_refusal p1 ≡ None
+    by_buffer : (b : StatisticsBuffer) → g.buffer ≡ b → IsRunning m1 p1 d g → ask_refusal p1 ≡ None
         → refusal_of g Ask ≡ None → StepsAlone (Honest m2 p2 d) g Ask (asked_reply result)
     by_buffer (BufferTaken figures) is run by_part free =
         ask_done m1 m2 p1 p2 d g figures result is did stands run by_part free

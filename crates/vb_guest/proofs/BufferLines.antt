@@ -1,8 +1,8 @@
 -- What calls make of the statistics buffer.
 use Rattle.std.specs.Prelude.{◌≡◌, ℕ, ◌+◌, ◌%◌, true, List, [], ◌∷◌, ◌++◌, remove, Some, Ok, refl}
 use Rattle.std.proofs.Common.{ap, arith, inl}
-use Rattle.vb_model.specs.Requests.{Request, Figures, Buffer, NoBuffer, BufferPosted, BufferTaken}
-use Rattle.vb_model.{specs.Layout.ring_page, specs.Requests.BufferDone}
+use Rattle.vb_model.specs.Requests.{Request, Figures, StatisticsBuffer, NoBuffer, BufferPosted}
+use Rattle.vb_model.{specs.Requests.{BufferTaken, BufferDone}, specs.Layout.ring_page}
 use Rattle.vb_ram.{specs.Pages.{Pages, page_at}, specs.Part.QueuePart}
 use Rattle.vb_ram.proofs.FieldLaws.{field_in, same_page}
 use Rattle.vb_chain.proofs.TableLaws.{descriptor_apart}
@@ -24,7 +24,7 @@ figures_kept : (old new : Pages) (table : ℕ) (figures : Figures)
 figures_kept old new table figures ring buffer are = grind (arith, descriptor_apart, statistic_kept)
 
 -- the pages of the ring and of the buffer are as before
-pub buffer_apart : (old new : Pages) (ring : DriverEnd) (part : QueuePart) (buffer : Buffer)
+pub buffer_apart : (old new : Pages) (ring : DriverEnd) (part : QueuePart) (buffer : StatisticsBuffer)
     → SameRing old new ring.size 2 → page_at new 12 ≡ page_at old 12
     → BufferLine old ring part buffer → BufferLine new ring part buffer
 buffer_apart old new ring part buffer same_ring same_buffer line = record {
@@ -33,7 +33,7 @@ buffer_apart old new ring part buffer same_ring same_buffer line = record {
   remembers = line.remembers;
 }
   where
-    by : (buffer : Buffer) → HasFigures ring.size old buffer → HasFigures ring.size new buffer
+    by : (buffer : StatisticsBuffer) → HasFigures ring.size old buffer → HasFigures ring.size new buffer
     by (BufferPosted figures) has =
         let table : ℕ = ring_page ring.size 2 in
         figures_kept old new table figures (same_ring table (inl refl)) same_buffer has

@@ -4,14 +4,14 @@ use Rattle.std.proofs.Common.{ap, arith}
 use Rattle.vb_model.{specs.declared.calls.Call.Call, specs.declared.calls.Claim.Claim}
 use Rattle.vb_model.{specs.declared.replies.Refusal.Refusal, specs.declared.replies.Reply.Reply}
 use Rattle.vb_model.{specs.declared.replies.Reply.TheVariants.Refused, specs.Requests.no_requests}
-use Rattle.vb_model.{specs.Guest.Guest, specs.Refusals.{Test, ◌⇒◌, first_refusal, refusal_of}}
+use Rattle.vb_model.{specs.Guest.Guest, specs.Refusals.{Cause, ◌⇒◌, first_refusal, refusal_of}}
 use Rattle.vb_model.{specs.Rogue.GuestStep, specs.Step.{Performs, HonestStep}}
 use Rattle.vb_model.{proofs.CallSteps.honest_keeps, proofs.OrderlySteps.honest_order}
 use Rattle.vb_ram.{specs.Pages.Pages, specs.Part.Part}
 use Rattle.vb_driver.specs.State.{FreePages, DriverState}
 use Rattle.vb_guest.{specs.Stands.{Honest, Ties, IsIdle, IsRunning}, specs.Steps.StepsAlone}
 
-pub first_holds : (b : Bool) (why : Refusal) (rest : List Test) → b ≡ true
+pub first_holds : (b : Bool) (why : Refusal) (rest : List Cause) → b ≡ true
     → first_refusal ((b ⇒ why) ∷ rest) ≡ Some why
 first_holds b why rest e = ap (λ (v : Bool). if v then Some why else first_refusal rest) e
 

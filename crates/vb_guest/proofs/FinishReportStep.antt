@@ -109,12 +109,7 @@ report_finished m1 m2 p1 p2 d g i r result is did stands run free =
       parts = assumption;
       pages = pages_same bare m2 size n _ _ same
           (pages_discarded m1 size n g.frames g.contents r.pages ties.pages);
-      queues = inr (assumption (
-        line,
-        still.inflate (omega arith),
-        still.deflate (omega arith),
-        still.statistics (omega arith),
-      ));
+      queues = inr (assumption (still.inflate refl, still.deflate refl, still.statistics refl));
     } in
     subst (λ x. StepsFreeing (Honest m2 (handed_back p2) d) p2.loose g (Finish 4 i)
     (finished_reply x)) (sym did.answer)

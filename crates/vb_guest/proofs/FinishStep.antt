@@ -1,13 +1,12 @@
 -- A guest's finish is a step of the definitions.
 use Rattle.std.specs.Prelude.{◌≡◌, ℕ, true, false, List, [], Result, Some, None, slice_get, refl}
-use Rattle.std.proofs.Common.{sym, ◌∙◌, ap, subst, arith, inl, inr}
+use Rattle.std.proofs.Common.{sym, ◌∙◌, ap, subst, arith, inr}
 use Rattle.std.proofs.lemmas.Option.{get_or_from_slice_get, slice_get_within}
-use Rattle.vb_model.{specs.declared.calls.Call.TheVariants.Finish, specs.Guest.Guest}
-use Rattle.vb_model.{specs.declared.replies.Refusal.Refusal, specs.Device.{used, settled}}
-use Rattle.vb_model.{specs.declared.replies.Refusal.TheVariants.NoQueue, specs.Orderly.times}
-use Rattle.vb_model.{specs.declared.replies.Reply.TheVariants.Finished, specs.Refusals.refusal_of}
-use Rattle.vb_model.{specs.Requests.{Request, Inflating, Deflating}, specs.Layout.reserved_pages}
-use Rattle.vb_model.proofs.Queues.{queue_cases, no_requests_at}
+use Rattle.vb_model.{specs.declared.replies.Refusal.TheVariants.NoQueue, specs.Refusals.refusal_of}
+use Rattle.vb_model.{specs.declared.replies.Reply.TheVariants.Finished, specs.Layout.reserved_pages}
+use Rattle.vb_model.{specs.Requests.{Request, Inflating, Deflating}, specs.Device.{used, settled}}
+use Rattle.vb_model.{specs.declared.calls.Call.TheVariants.Finish, proofs.Queues.no_requests_at}
+use Rattle.vb_model.{specs.declared.replies.Refusal.Refusal, specs.Orderly.times, specs.Guest.Guest}
 use Rattle.vb_ram.{specs.Pages.Pages, specs.Part.Part}
 use Rattle.vb_driver.specs.State.{DriverState}
 use Rattle.vb_device.specs.Calls.{using, FinishesBy, Uses}
@@ -19,7 +18,7 @@ use Rattle.vb_guest.proofs.PagesKept.{pages_same, pages_discarded, page_undiscar
 use Rattle.vb_guest.proofs.Handing.{handed_back, not_among, used_same, same_end}
 use Rattle.vb_guest.{proofs.Finishing.{end_of, line_finished}, proofs.Running.{runs_on, others_run}}
 use Rattle.vb_guest.{specs.Stands.{Honest, Ties, IsRunning}, proofs.EachOnce.distinct_each_once}
-use Rattle.vb_guest.{proofs.Refusing.finish_no_queue, specs.Replies.finished_reply}
+use Rattle.vb_guest.{proofs.Refusing.{by_queue, finish_no_queue}, specs.Replies.finished_reply}
 use Rattle.vb_guest.{proofs.RingApart.ring_parts, proofs.Losing.steps_losing, specs.Line.IsRequest}
 use Rattle.vb_guest.{proofs.Apart.SameReserved, specs.Steps.StepsFreeing}
 use Rattle.vb_device.specs.Calls.{settled as settles}
@@ -63,12 +62,7 @@ inflate_finished m1 m2 p1 p2 d g i r result is did stands run free =
       parts = assumption (ap (flagged r.pages true) ties.parts.device.ballooned);
       pages = pages_same bare m2 size n _ _ same
           (pages_discarded m1 size n g.frames g.contents r.pages ties.pages);
-      queues = inr (assumption (
-        line,
-        still.deflate (omega arith),
-        still.statistics (omega arith),
-        still.report (omega arith),
-      ));
+      queues = inr (assumption (still.deflate refl, still.statistics refl, still.report refl));
     } in
     subst (λ x. StepsFreeing (Honest m2 (handed_back p2) d) p2.loose g (Finish 0 i)
     (finished_reply x)) (sym did.answer)
@@ -108,12 +102,7 @@ deflate_finished m1 m2 p1 p2 d g i r result is did stands run free =
     let there : Ties m2 after d new = record {
       parts = assumption (ap (flagged r.pages false) ties.parts.device.ballooned);
       pages = pages_same m1 m2 size n _ _ same ties.pages;
-      queues = inr (assumption (
-        line,
-        still.inflate (omega arith),
-        still.statistics (omega arith),
-        still.report (omega arith),
-      ));
+      queues = inr (assumption (still.inflate refl, still.statistics refl, still.report refl));
     } in
     let stays = ties_same m2 m2 after (handed_back p2) d d new refl (ap handed_back did.part) refl
     there in
@@ -132,30 +121,16 @@ pub finish_step : (m1 m2 : Pages) (p1 p2 : Part) (d : DriverState) (g : Guest) (
     → StepsFreeing (Honest m2 (handed_back p2) d) p2.loose g (Finish q i)
     (finished_reply result)
 finish_step m1 m2 p1 p2 d g q i result did stands =
-    let B : ℕ → Type 0 = λ k. FinishesBy k i m1 m2 p1 p2 result in
-    let S : ℕ → Type 0 = λ k. StepsFreeing (Honest m2 (handed_back p2) d) p2.loose g (Finish k i)
-    (finished_reply result) in
-    elim (queue_cases q) [
-      | inl first ↦ subst S (sym first)
-          (finish_by m1 m2 p1 p2 d g 0 i result refl (subst B first did) stands
-          (λ run. ap (λ (l : List Request). slice_get l i) run.inflate.remembers)
-          (λ r is did run. inflate_finished m1 m2 p1 p2 d g i r result is did stands run))
-      | inr a ↦ elim a [
-        | inl second ↦ subst S (sym second)
-            (finish_by m1 m2 p1 p2 d g 1 i result refl (subst B second did) stands
-            (λ run. ap (λ (l : List Request). slice_get l i) run.deflate.remembers)
-            (λ r is did run. deflate_finished m1 m2 p1 p2 d g i r result is did stands run))
-        | inr b ↦ elim b [
-          | inl third ↦ subst S (sym third)
-              (let no = finish_no_queue 2 i g p1 refl in
-              finish_refused m1 m2 p1 p2 d g 2 i NoQueue result (subst B third did) stands no.0
-              no.1)
-          | inr c ↦ elim c [
-            | inl last ↦ subst S (sym last)
-                (finish_report m1 m2 p1 p2 d g i result (subst B last did) stands)
-            | inr none ↦ (let no = finish_no_queue q i g p1 (no_requests_at q none) in
-                finish_refused m1 m2 p1 p2 d g q i NoQueue result did stands no.0 no.1)
-          ]
-        ]
-      ]
-    ]
+    by_queue (λ k. FinishesBy k i m1 m2 p1 p2 result
+    → StepsFreeing (Honest m2 (handed_back p2) d) p2.loose g (Finish k i) (finished_reply result)) q
+    (λ at. finish_by m1 m2 p1 p2 d g 0 i result refl at stands
+    (λ run. ap (λ (l : List Request). slice_get l i) run.inflate.remembers)
+    (λ r is did run. inflate_finished m1 m2 p1 p2 d g i r result is did stands run))
+    (λ at. finish_by m1 m2 p1 p2 d g 1 i result refl at stands
+    (λ run. ap (λ (l : List Request). slice_get l i) run.deflate.remembers)
+    (λ r is did run. deflate_finished m1 m2 p1 p2 d g i r result is did stands run))
+    (λ at. let no = finish_no_queue 2 i g p1 refl in
+    finish_refused m1 m2 p1 p2 d g 2 i NoQueue result at stands no.0 no.1)
+    (λ at. finish_report m1 m2 p1 p2 d g i result at stands)
+    (λ none at. let no = finish_no_queue q i g p1 (no_requests_at q none) in
+    finish_refused m1 m2 p1 p2 d g q i NoQueue result at stands no.0 no.1) did

@@ -16,16 +16,16 @@ use Rattle.vb_model.specs.Driver.{given, Supplying, figures}
 use Rattle.vb_model.proofs.Shapes.{reserved_most, start_reserved}
 use Rattle.vb_ram.{specs.Pages.{Pages, frame_at, number_of}, specs.Part.Part}
 use Rattle.vb_ram.specs.declared.shape.Shape.{Shape}
-use Rattle.vb_driver.{specs.State.DriverState, specs.Answers.{has_frames, init_tests}}
+use Rattle.vb_driver.{specs.State.DriverState, specs.Answers.{has_frames, init_causes}}
 use Rattle.vb_driver.specs.Calls.{InitsBy, InitRefused, GivesUp}
 use Rattle.vb_guest.specs.Stands.{Honest, Ties, HasParts, HasPages, IsIdle, beside_queues}
 use Rattle.vb_guest.proofs.Supplying.{all_distinct, bounded, among, supplied_count, supplied_other}
 use Rattle.vb_guest.{specs.Stands.{beside_sides, beside_requests}, specs.Replies.ready_reply}
+use Rattle.vb_guest.proofs.Supplying.{supplied_backed, pages_filled, frames_filled}
 use Rattle.vb_guest.specs.Steps.{is_frame, backing_count, StepsAlone, StepsOver}
 use Rattle.vb_guest.{specs.Supply.{Supply, supply_of, Moves, nothing}, proofs.Freed.large}
 use Rattle.vb_guest.specs.Lives.{is_bare, bare_from, AllSupplied, why_unsupplied, SuppliesBy}
 use Rattle.vb_guest.proofs.Closing.{honest_performed, guest_step, still_stands}
-use Rattle.vb_guest.proofs.Supplying.{supplied_backed, pages_filled, frames_filled}
 use Rattle.vb_guest.{proofs.Writing.frames_of, proofs.Moving.moves_as, proofs.Kept.SameOwn}
 use Rattle.vb_guest.proofs.Starting.{first_buffer, started, stopped}
 use Rattle.vb_frames.specs.declared.keeper.Refused.{Refused as WhyRefused}
@@ -149,10 +149,10 @@ pub given_up : (m1 m2 : Pages) (p1 p2 : Part) (d1 d2 : DriverState) (wanted : �
     → GivesUp m1 m2 p1 p2 d1 d2 (accepted_before why wanted)
 given_up m1 m2 p1 p2 d1 d2 wanted why e did = grind arith
 
-pub driver_tests : (size : ℕ) (m : Pages) (p : Part) (wanted : ℕ) → p.status ≡ 0
+pub driver_causes : (size : ℕ) (m : Pages) (p : Part) (wanted : ℕ) → p.status ≡ 0
     → has_frames size m ≡ true
-    → first_refusal (init_tests size m p wanted) ≡ feature_refusal wanted
-driver_tests size m p wanted new backed = grind arith
+    → first_refusal (init_causes size m p wanted) ≡ feature_refusal wanted
+driver_causes size m p wanted new backed = grind arith
 
 -- ---- the step
 
@@ -175,7 +175,7 @@ initialised : (m2 m3 : Pages) (p1 p3 : Part) (d1 d2 : DriverState) (g : Guest)
     → Leaves m3 p1 p3 d2 g frames wanted (ready_reply result)
 initialised m2 m3 p1 p3 d1 d2 g frames wanted (Ok x) has backed new idle parts did =
     let fine : None ≡ feature_refusal wanted =
-    did.refusal ∙ driver_tests d1.queue_size m2 p1 wanted new (has_all d1.queue_size m2
+    did.refusal ∙ driver_causes d1.queue_size m2 p1 wanted new (has_all d1.queue_size m2
     (λ p start. backed p
     (subst (λ k. is_start_page k p ≡ true) parts.driver.queue_size start))) in
     let after : Guest =
@@ -198,7 +198,7 @@ initialised m2 m3 p1 p3 d1 d2 g frames wanted (Ok x) has backed new idle parts d
     }
 initialised m2 m3 p1 p3 d1 d2 g frames wanted (Err why) has backed new idle parts did =
     let wrong : Some why ≡ feature_refusal wanted =
-    did.refusal ∙ driver_tests d1.queue_size m2 p1 wanted new (has_all d1.queue_size m2
+    did.refusal ∙ driver_causes d1.queue_size m2 p1 wanted new (has_all d1.queue_size m2
     (λ p start. backed p
     (subst (λ k. is_start_page k p ≡ true) parts.driver.queue_size start))) in
     let accepted = accepted_before why wanted in

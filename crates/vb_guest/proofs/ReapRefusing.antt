@@ -4,33 +4,34 @@ use Rattle.std.specs.Prelude.{Option, Some, None, is_err, drop, refl}
 use Rattle.std.proofs.Common.{sym, ◌∙◌, ap, subst, inl, inr}
 use Rattle.vb_model.specs.declared.replies.Refusal.TheVariants.{NoQueue, NotReady, NoFeature}
 use Rattle.vb_model.{specs.declared.replies.Refusal.TheVariants.RingBroken, specs.Requests.Request}
-use Rattle.vb_model.{specs.FirstRefusal.{Test, ◌⇒◌, first_refusal}, specs.Tables.lacks_feature}
-use Rattle.vb_model.{specs.declared.calls.Call.TheVariants.Reap, specs.Refusals.{tests, refusal_of}}
-use Rattle.vb_model.{specs.declared.replies.Refusal.Refusal, specs.Guest.Guest}
+use Rattle.vb_model.{specs.FirstRefusal.{Cause, ◌⇒◌, first_refusal}, specs.Guest.Guest}
+use Rattle.vb_model.specs.Tables.{lacks_feature, is_queue_of_requests, is_up}
+use Rattle.vb_model.specs.declared.calls.Call.TheVariants.{Reap}
+use Rattle.vb_model.{specs.Refusals.{causes, refusal_of}, specs.declared.replies.Refusal.Refusal}
 use Rattle.vb_ram.{specs.Pages.Pages, specs.Part.Part}
 use Rattle.vb_ring.specs.Ends.{DriverEnd, used_answer}
-use Rattle.vb_driver.{specs.State.DriverState, specs.Answers.{reap_tests, is_ring_broken}}
+use Rattle.vb_driver.{specs.State.DriverState, specs.Answers.{reap_causes, is_ring_broken}}
 use Rattle.vb_driver.specs.Calls.{ReapsBy, ring_of, next_of, after_refusal}
-use Rattle.vb_guest.{proofs.SameRefusals.{IsIdleStatus, at_both, last_test}, specs.Steps.StepsAlone}
+use Rattle.vb_guest.proofs.SameRefusals.{IsIdleStatus, at_both, last_cause}
 use Rattle.vb_guest.{proofs.Closing.{first_holds, refused_alone}, specs.Stands.{Honest, IsRunning}}
-use Rattle.vb_guest.{specs.Replies.reaped_reply, proofs.Reaping.used_next}
-use Rattle.vb_model.specs.Tables.{reap_tests as tests_of_reap, is_queue_of_requests, is_up}
+use Rattle.vb_guest.{specs.Replies.reaped_reply, proofs.Reaping.used_next, specs.Steps.StepsAlone}
+use Rattle.vb_model.specs.Tables.{reap_causes as causes_of_reap}
 use Rattle.vb_ring.specs.declared.driver.RingBroken.{RingBroken as Broken}
 use Rattle.vb_driver.specs.declared.answers.Reaped.{Reaped as ReapedRequest}
 
 -- where the ring isn't broken
 reap_same : (m : Pages) (p : Part) (d : DriverState) (g : Guest) (q : ℕ) (ring : DriverEnd)
     (o : Option ℕ) → p.status ≡ g.status → d.features ≡ g.features → used_answer m ring ≡ Ok o
-    → first_refusal (reap_tests m p d ring q) ≡ refusal_of g (Reap q)
+    → first_refusal (reap_causes m p d ring q) ≡ refusal_of g (Reap q)
 reap_same m p d g q ring o status features answer =
     let whole : is_ring_broken m ring ≡ false =
     ap (λ (r : Result (Option ℕ) Broken). is_err r) answer in
-    last_test (tests_of_reap q p.status d.features) (is_ring_broken m ring) RingBroken whole
-    ∙ ap (λ (s : ℕ). first_refusal (tests_of_reap q s d.features)) status
-    ∙ ap (λ (f : ℕ). first_refusal (tests_of_reap q g.status f)) features
+    last_cause (causes_of_reap q p.status d.features) (is_ring_broken m ring) RingBroken whole
+    ∙ ap (λ (s : ℕ). first_refusal (causes_of_reap q s d.features)) status
+    ∙ ap (λ (f : ℕ). first_refusal (causes_of_reap q g.status f)) features
 
 -- a queue of requests before an initialisation
-not_up : (b : Bool) (s : ℕ) (rest : List Test) → b ≡ true → IsIdleStatus s
+not_up : (b : Bool) (s : ℕ) (rest : List Cause) → b ≡ true → IsIdleStatus s
     → first_refusal ((not b ⇒ NoQueue) ∷ (not (is_up s) ⇒ NotReady) ∷ rest) ≡ Some NotReady
 not_up b s rest there down =
     let P : ℕ → Type 0 = λ k. first_refusal ((not (is_up k) ⇒ NotReady) ∷ rest) ≡ Some NotReady in
@@ -39,7 +40,7 @@ not_up b s rest there down =
 
 reap_idle : (m : Pages) (p : Part) (d : DriverState) (g : Guest) (q : ℕ) (ring : DriverEnd)
     → is_queue_of_requests q ≡ true → p.status ≡ g.status → IsIdleStatus g.status
-    → (first_refusal (reap_tests m p d ring q) ≡ Some NotReady)
+    → (first_refusal (reap_causes m p d ring q) ≡ Some NotReady)
     × (refusal_of g (Reap q) ≡ Some NotReady)
 reap_idle m p d g q ring there same down = (
   not_up (is_queue_of_requests q) p.status
@@ -64,7 +65,7 @@ unfailed _ p other = refl
 reap_refused : (m1 m2 : Pages) (p1 p2 : Part) (d1 d2 : DriverState) (g : Guest) (q : ℕ)
     (why : Refusal)
     → ReapsBy m1 m2 p1 p2 d1 d2 q (Err why) → Honest m1 p1 d1 g
-    → first_refusal (reap_tests m1 p1 d1 (ring_of q d1) q) ≡ refusal_of g (Reap q)
+    → first_refusal (reap_causes m1 p1 d1 (ring_of q d1) q) ≡ refusal_of g (Reap q)
     → StepsAlone (Honest m2 p2 d2) g (Reap q) (reaped_reply (Err why))
 reap_refused m1 m2 p1 p2 d1 d2 g q why did stands same =
     let by_model : refusal_of g (Reap q) ≡ Some why = sym (did.refusal ∙ same) in
@@ -76,7 +77,7 @@ reap_refused m1 m2 p1 p2 d1 d2 g q why did stands same =
 refused_by_both : (m1 m2 : Pages) (p1 p2 : Part) (d1 d2 : DriverState) (g : Guest) (q : ℕ)
     (why : Refusal) (result : Result (Option ReapedRequest) Refusal)
     → ReapsBy m1 m2 p1 p2 d1 d2 q result → Honest m1 p1 d1 g
-    → first_refusal (reap_tests m1 p1 d1 (ring_of q d1) q) ≡ Some why
+    → first_refusal (reap_causes m1 p1 d1 (ring_of q d1) q) ≡ Some why
     → refusal_of g (Reap q) ≡ Some why
     → StepsAlone (Honest m2 p2 d2) g (Reap q) (reaped_reply result)
 refused_by_both m1 m2 p1 p2 d1 d2 g q why (Ok got) did stands by_driver by_model =
@@ -92,8 +93,8 @@ pub reap_no_queue : (m1 m2 : Pages) (p1 p2 : Part) (d1 d2 : DriverState) (g : Gu
 reap_no_queue m1 m2 p1 p2 d1 d2 g q result none did stands =
     refused_by_both m1 m2 p1 p2 d1 d2 g q NoQueue result did stands
     (first_holds (not (is_queue_of_requests q)) NoQueue
-    (drop 1 (reap_tests m1 p1 d1 (ring_of q d1) q)) (ap not none))
-    (first_holds (not (is_queue_of_requests q)) NoQueue (drop 1 (tests g (Reap q))) (ap not none))
+    (drop 1 (reap_causes m1 p1 d1 (ring_of q d1) q)) (ap not none))
+    (first_holds (not (is_queue_of_requests q)) NoQueue (drop 1 (causes g (Reap q))) (ap not none))
 
 -- a reap of a queue of requests, of which these are used, is a step where one that isn't refused is
 pub reap_by : (m1 m2 : Pages) (p1 p2 : Part) (d1 d2 : DriverState) (g : Guest) (q : ℕ)
@@ -118,7 +119,7 @@ reap_by m1 m2 p1 p2 d1 d2 g q done result there did stands says performed =
   where
     up : (result : Result (Option ReapedRequest) Refusal) → ReapsBy m1 m2 p1 p2 d1 d2 q result
         → IsRunning m1 p1 d1 g → used_answer m1 (ring_of q d1) ≡ Ok (used_next done)
-        → first_refusal (reap_tests m1 p1 d1 (ring_of q d1) q) ≡ refusal_of g (Reap q)
+        → first_refusal (reap_causes m1 p1 d1 (ring_of q d1) q) ≡ refusal_of g (Reap q)
         → StepsAlone (Honest m2 p2 d2) g (Reap q) (reaped_reply result)
     up (Err why) did run answer same = reap_refused m1 m2 p1 p2 d1 d2 g q why did stands same
     up (Ok got) did run answer same =

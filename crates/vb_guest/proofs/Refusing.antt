@@ -1,9 +1,11 @@
 -- Device and model refuse the same calls.
-use Rattle.std.{specs.Prelude.{◌≡◌, ℕ, true, false, not, length, Some, drop}, proofs.Common.ap}
-use Rattle.vb_model.{specs.declared.replies.Refusal.TheVariants.NoQueue, specs.Guest.Guest}
-use Rattle.vb_model.specs.Tables.{has_chains, is_queue_of_requests, take_tests, finish_tests}
+use Rattle.std.specs.Prelude.{◌≡◌, ℕ, true, false, not, length, Some, drop}
+use Rattle.std.proofs.Common.{ap, sym, subst, inl, inr}
+use Rattle.vb_model.{proofs.Queues.{queue_cases, IsNoQueue, no_chains_at}, specs.Guest.Guest}
+use Rattle.vb_model.specs.declared.replies.Refusal.TheVariants.{NoQueue}
+use Rattle.vb_model.specs.Tables.{has_chains, is_queue_of_requests, take_causes, finish_causes}
 use Rattle.vb_model.specs.declared.calls.Call.TheVariants.{Take, Finish}
-use Rattle.vb_model.{specs.Refusals.{tests, refusal_of}, proofs.Queues.{IsNoQueue, no_chains_at}}
+use Rattle.vb_model.specs.Refusals.{causes, refusal_of}
 use Rattle.vb_ram.specs.Part.{Part}
 use Rattle.vb_device.specs.Conditions.{take_refusal, finish_refusal, taken_at}
 use Rattle.vb_device.specs.Queues.{queue_part}
@@ -18,9 +20,9 @@ pub take_no_queue : (q : ℕ) (g : Guest) (part : Part) → IsNoQueue q
     → (take_refusal q part ≡ Some NoQueue) × (refusal_of g (Take q) ≡ Some NoQueue)
 take_no_queue q g part h = (
   first_holds (not (has_chains q)) NoQueue
-      (drop 1 (take_tests q part.status part.features (length (queue_part q part).taken)))
+      (drop 1 (take_causes q part.status part.features (length (queue_part q part).taken)))
       (no_chains q h),
-  first_holds (not (has_chains q)) NoQueue (drop 1 (tests g (Take q)))
+  first_holds (not (has_chains q)) NoQueue (drop 1 (causes g (Take q)))
       (no_chains q h),
 )
 
@@ -30,8 +32,21 @@ pub finish_no_queue : (q i : ℕ) (g : Guest) (part : Part) → is_queue_of_requ
     → (finish_refusal q i part ≡ Some NoQueue) × (refusal_of g (Finish q i) ≡ Some NoQueue)
 finish_no_queue q i g part h = (
   first_holds (not (is_queue_of_requests q)) NoQueue
-      (drop 1 (finish_tests q part.status part.paced (taken_at q i part)))
+      (drop 1 (finish_causes q part.status part.paced (taken_at q i part)))
       (ap not h),
-  first_holds (not (is_queue_of_requests q)) NoQueue (drop 1 (tests g (Finish q i)))
+  first_holds (not (is_queue_of_requests q)) NoQueue (drop 1 (causes g (Finish q i)))
       (ap not h),
 )
+
+-- one of the four queues, or none
+pub by_queue : (P : ℕ → Type 0) (q : ℕ) → P 0 → P 1 → P 2 → P 4 → (IsNoQueue q → P q) → P q
+by_queue P q first second third last none = elim (queue_cases q) [
+  | inl is ↦ subst P (sym is) first
+  | inr a ↦ elim a [
+    | inl is ↦ subst P (sym is) second
+    | inr b ↦ elim b [
+      | inl is ↦ subst P (sym is) third
+      | inr c ↦ elim c [ inl is ↦ subst P (sym is) last | inr out ↦ none out ]
+    ]
+  ]
+]

@@ -1,9 +1,9 @@
 -- A guest's report is a step of the definitions.
 use Rattle.std.specs.Prelude.{◌≡◌, ℕ, ◌<◌, ◌==◌, Bool, not, nat_le, List, [], ◌∷◌, length, Result}
 use Rattle.std.{specs.Prelude.{Ok, Err, Some, None, refl, All}, proofs.lemmas.List.length-map}
-use Rattle.std.proofs.Common.{sym, ◌∙◌, ap, subst, arith, inl, inr}
+use Rattle.std.proofs.Common.{sym, ◌∙◌, ap, subst, arith, inr}
 use Rattle.vb_model.{specs.declared.calls.Call.TheVariants.Report, specs.Guest.{Guest, reporting}}
-use Rattle.vb_model.{specs.declared.places.Place.TheVariants.Reporting, specs.Driver.asking}
+use Rattle.vb_model.{specs.declared.places.Place.TheVariants.Reporting, specs.Driver.after_posting}
 use Rattle.vb_model.{specs.declared.replies.Refusal.Refusal, specs.Tables.is_up}
 use Rattle.vb_model.specs.declared.replies.Refusal.TheVariants.{NotReady, NoFeature, QueueFull}
 use Rattle.vb_model.specs.declared.replies.Refusal.TheVariants.{Nothing}
@@ -14,16 +14,16 @@ use Rattle.vb_model.{specs.Requests.{IsLeastHead, Reporting_free}, specs.Refusal
 use Rattle.vb_model.specs.Refusals.{reported_blocks}
 use Rattle.vb_ram.{specs.Pages.Pages, specs.Part.Part}
 use Rattle.vb_driver.{specs.State.{DriverState, ReportSide}, specs.Areas.areas_without}
-use Rattle.vb_driver.specs.Answers.{report_tests, blocks_to_report}
+use Rattle.vb_driver.specs.Answers.{report_causes, blocks_to_report}
 use Rattle.vb_driver.specs.Calls.{Reports, ReportsBy, unreported}
 use Rattle.vb_guest.proofs.RunApart.{sizes_of, ring_of, ring_low, table_clear, post_leaves}
-use Rattle.vb_guest.{proofs.Running.others_posted, proofs.RunApart.post_same, specs.Line.heads_of}
 use Rattle.vb_guest.proofs.Closing.{honest_performed, honest_refused, steps_alone, ties_same}
+use Rattle.vb_guest.proofs.SameRefusals.{refused_alike, runs_where, IsIdleStatus}
 use Rattle.vb_guest.{specs.Reported.{IsReport, ReportLine, IsOwnBlock}, proofs.RingHeads.ring_count}
-use Rattle.vb_guest.{proofs.OwnBlocks.{reported_own, reported_few}, proofs.Apart.no_buffer}
+use Rattle.vb_guest.{proofs.OwnBlocks.{reported_own, reported_few}, proofs.Running.others_posted}
 use Rattle.vb_guest.{specs.Stands.{Honest, Ties, IsRunning}, proofs.ReportLines.report_posted}
-use Rattle.vb_guest.{proofs.SameRefusals.IsIdleStatus, proofs.PagesKept.pages_same}
-use Rattle.vb_guest.{specs.Replies.posted_reply, specs.Steps.StepsAlone}
+use Rattle.vb_guest.{proofs.PagesKept.pages_same, specs.Replies.posted_reply, specs.Line.heads_of}
+use Rattle.vb_guest.{proofs.RunApart.post_same, proofs.Apart.no_buffer, specs.Steps.StepsAlone}
 use Rattle.vb_ring.specs.Ends.{outstanding as outstanding_in}
 use Rattle.vb_driver.specs.declared.answers.Posted.{Posted as PostedRequest}
 
@@ -36,12 +36,12 @@ blocks_same d g from size places = grind arith
 report_same : (p : Part) (d : DriverState) (g : Guest) (from : ℕ) → p.status ≡ g.status
     → d.features ≡ g.features → outstanding_in d.report.ring ≡ outstanding g.report
     → blocks_to_report d from ≡ reported_blocks g from
-    → first_refusal (report_tests d p from) ≡ refusal_of g (Report from)
+    → first_refusal (report_causes d p from) ≡ refusal_of g (Report from)
 report_same p d g from status features out blocks = grind arith
 
 report_idle : (p : Part) (d : DriverState) (g : Guest) (from : ℕ) → p.status ≡ g.status
     → IsIdleStatus g.status
-    → (first_refusal (report_tests d p from) ≡ Some NotReady)
+    → (first_refusal (report_causes d p from) ≡ Some NotReady)
     × (refusal_of g (Report from) ≡ Some NotReady)
 report_idle p d g from same down = grind arith
 
@@ -53,7 +53,7 @@ unreported_ties why m1 m2 p1 p2 d1 d2 g m p d ties = search arith
 report_refused : (m1 m2 : Pages) (p1 p2 : Part) (d1 d2 : DriverState) (g : Guest) (from : ℕ)
     (why : Refusal)
     → ReportsBy m1 m2 p1 p2 d1 d2 from (Err why) → Honest m1 p1 d1 g
-    → first_refusal (report_tests d1 p1 from) ≡ refusal_of g (Report from)
+    → first_refusal (report_causes d1 p1 from) ≡ refusal_of g (Report from)
     → StepsAlone (Honest m2 p2 d2) g (Report from) (posted_reply (Err why))
 report_refused m1 m2 p1 p2 d1 d2 g from why did stands same =
     steps_alone m1 m2 p1 p2 d1 d2 g (Report from)
@@ -102,7 +102,7 @@ report_out m1 m2 p1 p2 d1 d2 g from posted did stands run free none some =
     let blocks = reported_blocks g from in
     let pages = pages_of_all blocks in
     let gone : g.report ≡ no_requests = all_gone g.report none in
-    let new : Guest = asking Reporting_free 0 pages g in
+    let new : Guest = after_posting Reporting_free 0 pages g in
     let reply : Posted posted.head posted.pages ≡ Posted 0 (length pages) =
     ap (λ (h : ℕ). Posted h posted.pages) did.head ∙ ap (Posted 0) did.pages in
     let step = honest_performed g (Report from) [] (Posted posted.head posted.pages) new free
@@ -142,17 +142,11 @@ report_out m1 m2 p1 p2 d1 d2 g from posted did stands run free none some =
       areas = areas_without pages d1.areas;
       report = d2.report;
     } in
+    let sized = ap (λ (s : ReportSide). s.ring.size) did.posts.state ∙ run.report_size in
     let there : Ties m2 p1 after new = record {
       parts = assumption (ap (placed pages Reporting) ties.parts.driver.places);
       pages = pages_same m1 m2 g.config.queue_size n _ _ same ties.pages;
-      queues = inr (assumption (
-        ap (λ (s : ReportSide). s.ring.size) did.posts.state
-            ∙ run.report_size,
-        line,
-        still.inflate (omega arith),
-        still.deflate (omega arith),
-        still.statistics (omega arith),
-      ));
+      queues = inr (assumption (still.inflate refl, still.deflate refl, still.statistics refl));
     } in
     steps_alone m1 m2 p1 p2 d1 d2 g (Report from) (Posted posted.head posted.pages) new stands step
     (ties_same m2 m2 p1 p2 after d2 new refl did.part did.state there) refl
@@ -162,16 +156,13 @@ pub report_step : (m1 m2 : Pages) (p1 p2 : Part) (d1 d2 : DriverState) (g : Gues
     → ReportsBy m1 m2 p1 p2 d1 d2 from result → Honest m1 p1 d1 g
     → StepsAlone (Honest m2 p2 d2) g (Report from) (posted_reply result)
 report_step m1 m2 p1 p2 d1 d2 g from result did stands =
-    elim stands.ties.queues [
-      | inl idle ↦
-          let both = report_idle p1 d1 g from stands.ties.parts.device.status idle.state in
-          down result did both.0 both.1
-      | inr run ↦
-          up result did run (report_same p1 d1 g from stands.ties.parts.device.status
-          stands.ties.parts.driver.accepted (out_same run)
-          (blocks_same d1 g from stands.ties.parts.driver.queue_size
-          stands.ties.parts.driver.places))
-    ]
+    let device = stands.ties.parts.device in
+    let driver = stands.ties.parts.driver in
+    by result did
+    (refused_alike m1 p1 d1 g (Report from) _ stands.ties.queues
+    (report_idle p1 d1 g from device.status)
+    (λ run. report_same p1 d1 g from device.status driver.accepted (out_same run)
+    (blocks_same d1 g from driver.queue_size driver.places)))
   where
     out_same : IsRunning m1 p1 d1 g → outstanding_in d1.report.ring ≡ outstanding g.report
     out_same run =
@@ -185,24 +176,17 @@ report_step m1 m2 p1 p2 d1 d2 g from result did stands =
           length-map rs.done (λ (r : Request). r.head),
         )
 
-    down : (result : Result PostedRequest Refusal) → ReportsBy m1 m2 p1 p2 d1 d2 from result
-        → first_refusal (report_tests d1 p1 from) ≡ Some NotReady
-        → refusal_of g (Report from) ≡ Some NotReady
+    by : (result : Result PostedRequest Refusal) → ReportsBy m1 m2 p1 p2 d1 d2 from result
+        → first_refusal (report_causes d1 p1 from) ≡ refusal_of g (Report from)
         → StepsAlone (Honest m2 p2 d2) g (Report from) (posted_reply result)
-    down (Ok posted) did by_driver by_model = absurd (let wrong = did.refusal ∙ by_driver in cc)
-    down (Err why) did by_driver by_model =
-        report_refused m1 m2 p1 p2 d1 d2 g from why did stands (by_driver ∙ sym by_model)
-
-    up : (result : Result PostedRequest Refusal) → ReportsBy m1 m2 p1 p2 d1 d2 from result
-        → IsRunning m1 p1 d1 g
-        → first_refusal (report_tests d1 p1 from) ≡ refusal_of g (Report from)
-        → StepsAlone (Honest m2 p2 d2) g (Report from) (posted_reply result)
-    up (Err why) did run same = report_refused m1 m2 p1 p2 d1 d2 g from why did stands same
-    up (Ok posted) did run same =
+    by (Err why) did same = report_refused m1 m2 p1 p2 d1 d2 g from why did stands same
+    by (Ok posted) did same =
         let free : refusal_of g (Report from) ≡ None = sym (did.refusal ∙ same) in
         let fits = none_out (not (is_up g.status)) (not (reporting g.features))
         (outstanding g.report) (length (reported_blocks g from)) free in
         let R : List Block → Type 0 = λ l. Reports m1 m2 p1 p2 d1 d2 l posted in
         report_out m1 m2 p1 p2 d1 d2 g from posted
         (subst R (blocks_same d1 g from stands.ties.parts.driver.queue_size
-        stands.ties.parts.driver.places) did.reports) stands run free fits.0 fits.1
+        stands.ties.parts.driver.places) did.reports) stands
+        (runs_where m1 p1 d1 g (Report from) _ stands.ties.queues
+        (report_idle p1 d1 g from stands.ties.parts.device.status) free) free fits.0 fits.1

@@ -5,13 +5,13 @@ use Rattle.std.{specs.List.list_all, proofs.Common.{sym, ◌∙◌, ap, subst}}
 use Rattle.std.proofs.lemmas.List.{length-map, length-replicate}
 use Rattle.vb_model.specs.declared.calls.Call.TheVariants.{Alloc, Free, Inflate, Deflate, Oom}
 use Rattle.vb_model.specs.declared.replies.Refusal.TheVariants.{NoQueue, NotReady, NoFeature}
-use Rattle.vb_model.{specs.declared.calls.Call.Call, specs.declared.places.Place.Place}
 use Rattle.vb_model.specs.declared.calls.Call.TheVariants.{Report, Stats, Reap, Reset}
+use Rattle.vb_model.specs.declared.replies.Refusal.TheVariants.{RingBroken, Nothing, Broken}
+use Rattle.vb_model.{specs.declared.calls.Call.Call, specs.declared.places.Place.Place}
 use Rattle.vb_model.specs.declared.layout.TheConstants.{INFLATE_QUEUE, DEFLATE_QUEUE}
 use Rattle.vb_model.{specs.declared.replies.Refusal.Refusal, specs.declared.replies.Reply.Reply}
-use Rattle.vb_model.specs.declared.replies.Refusal.TheVariants.{RingBroken, Nothing, Broken}
 use Rattle.vb_model.{specs.declared.replies.Reply.TheVariants.{Refused, Done}, specs.Pages.placed}
-use Rattle.vb_model.{specs.FirstRefusal.{Test, ◌⇒◌, first_refusal}, specs.Life.place_after_reset}
+use Rattle.vb_model.{specs.FirstRefusal.{Cause, ◌⇒◌, first_refusal}, specs.Life.place_after_reset}
 use Rattle.vb_model.{specs.Guest.{Guest, is_ballooned, stats_vq}, proofs.GuestSteps.length-reaped}
 use Rattle.vb_model.specs.Rogue.{target_after, pages_to_back, after_refused, with_fault}
 use Rattle.vb_model.specs.Status.{contains, driver_ok, failed, is_broken}
@@ -20,25 +20,25 @@ use Rattle.vb_model.proofs.Wanting.{wants, none_wants, refused_otherwise, refuse
 use Rattle.vb_model.specs.Requests.{Inflating, Deflating, Reporting_free, places_reaped}
 use Rattle.vb_ram.{specs.Pages.{Pages, frame_at}, specs.Part.Part}
 use Rattle.vb_ring.specs.Ends.{after_take}
-use Rattle.vb_driver.specs.Answers.{alloc_tests, free_tests, inflate_tests, deflate_tests}
-use Rattle.vb_driver.specs.Answers.{oom_tests, report_tests, reap_tests, stats_tests}
+use Rattle.vb_driver.specs.Answers.{alloc_causes, free_causes, inflate_causes, deflate_causes}
+use Rattle.vb_driver.specs.Answers.{oom_causes, report_causes, reap_causes, stats_causes}
 use Rattle.vb_driver.specs.Calls.{AllocatesBy, FreesBy, InflatesBy, DeflatesBy, DeflatesOnOomBy}
 use Rattle.vb_driver.specs.Calls.{ReportsBy, FillsBy, ReapsBy, ResetsBy, Unchanged, AsksBack}
 use Rattle.vb_driver.specs.Calls.{after_refusal, after_reap, unreported, without_request, moved_on}
+use Rattle.vb_driver.{specs.Answers.is_ring_broken, specs.Calls.{with_actual, ring_of}}
 use Rattle.vb_driver.{specs.State.{DriverState, tells_host}, specs.declared.answers.Posted.Posted}
-use Rattle.vb_driver.{specs.declared.answers.Reaped.Reaped, specs.Answers.is_ring_broken}
-use Rattle.vb_driver.{specs.Calls.{with_actual, ring_of}, proofs.Placing.length-marked}
-use Rattle.vb_guest.proofs.Rogues.{DriverSame, Keeps, driver_same, rogue_alone, IsOther, keeps_part}
-use Rattle.vb_guest.proofs.Rogues.{up_kept, device_alike, kept_of_rogue, rogue_after, rogue_same}
-use Rattle.vb_guest.proofs.Rogues.{rogue_unchanged, IsLeft, left_by, no_refusal, keeps_status}
+use Rattle.vb_driver.{specs.declared.answers.Reaped.Reaped, proofs.Placing.length-marked}
+use Rattle.vb_guest.proofs.Rogues.{shape_of, shaped, DriverSame, Keeps, driver_same, rogue_alone}
+use Rattle.vb_guest.proofs.Rogues.{IsOther, keeps_part, up_kept, device_alike, kept_of_rogue}
+use Rattle.vb_guest.proofs.Rogues.{rogue_after, rogue_same, rogue_unchanged, IsLeft, left_by}
+use Rattle.vb_guest.proofs.Rogues.{no_refusal, keeps_status, is_of_driver, without_fault, said}
 use Rattle.vb_guest.{specs.Stands.Rogue, specs.Steps.StepsAlone, proofs.Fresh.everywhere}
 use Rattle.vb_guest.specs.Replies.{page_reply, done_reply, posted_reply, reaped_reply, filled_reply}
-use Rattle.vb_guest.proofs.Rogues.{is_of_driver, without_fault, said}
 
 -- the refusal is one of these tests, none of which is for want of frames or of memory
-not_for_want : (why : Refusal) (tests : List Test) → Some why ≡ first_refusal tests
-    → none_wants tests ≡ true → wants (Refused why) ≡ false
-not_for_want why tests is others = refused_otherwise tests why others (sym is)
+not_for_want : (why : Refusal) (causes : List Cause) → Some why ≡ first_refusal causes
+    → none_wants causes ≡ true → wants (Refused why) ≡ false
+not_for_want why causes is others = refused_otherwise causes why others (sym is)
 
 -- ---- calls that leave the device alone
 
@@ -56,62 +56,51 @@ part_alone m1 m2 p1 p2 d1 d2 g call reply driver part count same still answer ot
 
 -- a refusal leaves the guest as it was
 pub left_same : (m : Pages) (p1 p2 : Part) (d1 d2 : DriverState) (g : Guest) (call : Call)
-    (why : Refusal) (tests : List Test) → Rogue m p1 d1 g → d2.places ≡ d1.places
-    → d2.actual ≡ d1.actual → p2 ≡ p1 → Some why ≡ first_refusal tests → list_all (λ t. keeps_status t.refusal) tests ≡ true
+    (why : Refusal) (causes : List Cause) → Rogue m p1 d1 g → d2.places ≡ d1.places
+    → d2.actual ≡ d1.actual → p2 ≡ p1 → Some why ≡ first_refusal causes → list_all (λ t. keeps_status t.refusal) causes ≡ true
     → after_refused call why [] g ≡ with_fault why g
     → IsLeft call (Refused why) [] g (rogue_after g g.frames p2 d2)
-left_same m p1 p2 d1 d2 g call why tests rogue places told part is keep plain =
+left_same m p1 p2 d1 d2 g call why causes rogue places told part is keep plain =
     left_by call why [] g (rogue_after g g.frames p2 d2)
     (rogue_unchanged m p1 p2 d1 d2 g rogue places told part
-    ∙ sym (plain ∙ without_fault why g (refused_passes keeps_status tests why keep (sym is))))
+    ∙ sym (plain ∙ without_fault why g (refused_passes keeps_status causes why keep (sym is))))
 
 -- one that changes nothing
-unchanged_alone : (m1 m2 : Pages) (p1 p2 : Part) (d1 d2 : DriverState) (g : Guest) (call : Call)
-    (why : Refusal) (tests : List Test) → Unchanged m1 m2 p1 p2 d1 d2
-    → target_after call p1.target ≡ p1.target → Some why ≡ first_refusal tests
-    → none_wants tests ≡ true → list_all (λ t. keeps_status t.refusal) tests ≡ true
+pub unchanged_alone : (m1 m2 : Pages) (p1 p2 : Part) (d1 d2 : DriverState) (g : Guest) (call : Call)
+    (why : Refusal) (causes : List Cause) → Unchanged m1 m2 p1 p2 d1 d2
+    → target_after call p1.target ≡ p1.target → Some why ≡ first_refusal causes
+    → none_wants causes ≡ true → list_all (λ t. keeps_status t.refusal) causes ≡ true
     → after_refused call why [] g ≡ with_fault why g → pages_to_back call g ≡ [] → IsOther call
     → Rogue m1 p1 d1 g → StepsAlone (Rogue m2 p2 d2) g call (Refused why)
-unchanged_alone m1 m2 p1 p2 d1 d2 g call why tests same still is wanted keep plain none other rogue =
+unchanged_alone m1 m2 p1 p2 d1 d2 g call why causes same still is wanted keep plain none other rogue =
     part_alone m1 m2 p1 p2 d1 d2 g call (Refused why) (driver_same d1 d2 same.driver) same.part
     (ap (λ (m : Pages). length m) same.mem)
     (λ page. ap (λ (m : Pages). frame_at m page) same.mem) still
-    (not_for_want why tests is wanted) other none
-    (left_same m1 p1 p2 d1 d2 g call why tests rogue
+    (not_for_want why causes is wanted) other none
+    (left_same m1 p1 p2 d1 d2 g call why causes rogue
     (ap (λ (d : DriverState). d.places) same.driver)
     (ap (λ (d : DriverState). d.actual) same.driver) same.part is keep plain) rogue
 
 -- pages have changed their places
 moved : (d1 d2 : DriverState) (pages : List ℕ) (place : Place)
-    → d2.pages ≡ d1.pages → d2.queue_size ≡ d1.queue_size → d2.processors ≡ d1.processors
-    → d2.places ≡ placed pages place d1.places → DriverSame d1 d2
-moved d1 d2 pages place count size processors places = record {
-  pages = count;
-  queue_size = size;
-  processors = processors;
-  table = ap (λ (l : List Place). length l) places ∙ length-marked pages place d1.places;
-}
+    → shape_of d2 ≡ shape_of (record d1 { places = placed pages place d1.places })
+    → DriverSame d1 d2
+moved d1 d2 pages place e = shaped d1 d2 (e
+    ∙ ap (λ (n : ℕ). (d1.pages, d1.queue_size, d1.processors, n))
+    (length-marked pages place d1.places))
 
 pub alloc_rogue : (m : Pages) (p : Part) (d1 d2 : DriverState) (g : Guest) (cpu order : ℕ)
     (result : Result ℕ Refusal) → AllocatesBy d1 d2 cpu order result → Rogue m p d1 g
     → StepsAlone (Rogue m p d2) g (Alloc cpu order) (page_reply result)
 alloc_rogue m p d1 d2 g cpu order (Ok start) did rogue =
     part_alone m m p p d1 d2 g (Alloc cpu order) _
-    (moved d1 d2 _ _ (ap (λ (d : DriverState). d.pages) did.state)
-    (ap (λ (d : DriverState). d.queue_size) did.state)
-    (ap (λ (d : DriverState). d.processors) did.state)
-    (ap (λ (d : DriverState). d.places) did.state)) refl refl (λ page. refl) refl refl
+    (moved d1 d2 _ _ (ap shape_of did.state)) refl refl (λ page. refl) refl refl
     (λ page offset bytes e. cc) refl (λ why e. no_refusal _ why refl e) rogue
 alloc_rogue m p d1 d2 g cpu order (Err why) did rogue =
     part_alone m m p p d1 d2 g (Alloc cpu order) (Refused why)
-    (record {
-      pages = ap (λ (d : DriverState). d.pages) did.refused;
-      queue_size = ap (λ (d : DriverState). d.queue_size) did.refused;
-      processors = ap (λ (d : DriverState). d.processors) did.refused;
-      table = ap (λ (d : DriverState). length d.places) did.refused;
-    }) refl refl (λ page. refl) refl
-    (not_for_want why (alloc_tests d1 cpu order) did.refusal refl) (λ page offset bytes e. cc) refl
-    (left_same m p p d1 d2 g (Alloc cpu order) why (alloc_tests d1 cpu order) rogue
+    (shaped d1 d2 (ap shape_of did.refused)) refl refl (λ page. refl) refl
+    (not_for_want why (alloc_causes d1 cpu order) did.refusal refl) (λ page offset bytes e. cc) refl
+    (left_same m p p d1 d2 g (Alloc cpu order) why (alloc_causes d1 cpu order) rogue
     (ap (λ (d : DriverState). d.places) did.refused)
     (ap (λ (d : DriverState). d.actual) did.refused) refl did.refusal refl refl) rogue
 
@@ -120,17 +109,14 @@ pub free_rogue : {T : Type 0} (m : Pages) (p : Part) (d1 d2 : DriverState) (g : 
     → Rogue m p d1 g → StepsAlone (Rogue m p d2) g (Free cpu start order) (done_reply result)
 free_rogue m p d1 d2 g cpu start order (Ok x) did rogue =
     part_alone m m p p d1 d2 g (Free cpu start order) _
-    (moved d1 d2 _ _ (ap (λ (d : DriverState). d.pages) did.state)
-    (ap (λ (d : DriverState). d.queue_size) did.state)
-    (ap (λ (d : DriverState). d.processors) did.state)
-    (ap (λ (d : DriverState). d.places) did.state)) refl refl (λ page. refl) refl refl
+    (moved d1 d2 _ _ (ap shape_of did.state)) refl refl (λ page. refl) refl refl
     (λ page offset bytes e. cc) refl (λ why e. no_refusal _ why refl e) rogue
 free_rogue m p d1 d2 g cpu start order (Err why) did rogue =
     part_alone m m p p d1 d2 g (Free cpu start order) (Refused why)
     (driver_same d1 d2 did.refused) refl refl (λ page. refl) refl
-    (not_for_want why (free_tests d1 cpu start order) did.refusal refl)
+    (not_for_want why (free_causes d1 cpu start order) did.refusal refl)
     (λ page offset bytes e. cc) refl
-    (left_same m p p d1 d2 g (Free cpu start order) why (free_tests d1 cpu start order) rogue
+    (left_same m p p d1 d2 g (Free cpu start order) why (free_causes d1 cpu start order) rogue
     (ap (λ (d : DriverState). d.places) did.refused)
     (ap (λ (d : DriverState). d.actual) did.refused) refl did.refusal refl refl) rogue
 
@@ -142,14 +128,11 @@ pub inflate_rogue : (m1 m2 : Pages) (p1 p2 : Part) (d1 d2 : DriverState) (g : Gu
 inflate_rogue m1 m2 p1 p2 d1 d2 g n (Ok posted) did rogue =
     let offers = did.offers in
     part_alone m1 m2 p1 p2 d1 d2 g (Inflate n) _
-    (moved d1 d2 _ _ (ap (λ (d : DriverState). d.pages) offers.state)
-    (ap (λ (d : DriverState). d.queue_size) offers.state)
-    (ap (λ (d : DriverState). d.processors) offers.state)
-    (ap (λ (d : DriverState). d.places) offers.state)) offers.part offers.posts.rest.count
+    (moved d1 d2 _ _ (ap shape_of offers.state)) offers.part offers.posts.rest.count
     offers.posts.rest.backing refl refl (λ page offset bytes e. cc)
     refl (λ why e. no_refusal _ why refl e) rogue
 inflate_rogue m1 m2 p1 p2 d1 d2 g n (Err why) did rogue =
-    unchanged_alone m1 m2 p1 p2 d1 d2 g (Inflate n) why (inflate_tests d1 p1 n) did.refused refl
+    unchanged_alone m1 m2 p1 p2 d1 d2 g (Inflate n) why (inflate_causes d1 p1 n) did.refused refl
     did.refusal refl refl refl refl (λ page offset bytes e. cc) rogue
 
 asks_rogue : (m1 m2 : Pages) (p1 p2 : Part) (d1 d2 : DriverState) (g : Guest) (call : Call)
@@ -158,10 +141,7 @@ asks_rogue : (m1 m2 : Pages) (p1 p2 : Part) (d1 d2 : DriverState) (g : Guest) (c
     → Rogue m1 p1 d1 g → StepsAlone (Rogue m2 p2 d2) g call (posted_reply (Ok posted))
 asks_rogue m1 m2 p1 p2 d1 d2 g call count posted asks still other none rogue =
     part_alone m1 m2 p1 p2 d1 d2 g call _
-    (moved d1 d2 _ _ (ap (λ (d : DriverState). d.pages) asks.state)
-    (ap (λ (d : DriverState). d.queue_size) asks.state)
-    (ap (λ (d : DriverState). d.processors) asks.state)
-    (ap (λ (d : DriverState). d.places) asks.state)) asks.part asks.posts.rest.count
+    (moved d1 d2 _ _ (ap shape_of asks.state)) asks.part asks.posts.rest.count
     asks.posts.rest.backing still refl other none (λ why e. no_refusal _ why refl e) rogue
 
 pub deflate_rogue : (m1 m2 : Pages) (p1 p2 : Part) (d1 d2 : DriverState) (g : Guest) (n : ℕ)
@@ -171,7 +151,7 @@ deflate_rogue m1 m2 p1 p2 d1 d2 g n (Ok posted) did rogue =
     asks_rogue m1 m2 p1 p2 d1 d2 g (Deflate n) _ posted did.asks refl
     (λ page offset bytes e. cc) refl rogue
 deflate_rogue m1 m2 p1 p2 d1 d2 g n (Err why) did rogue =
-    unchanged_alone m1 m2 p1 p2 d1 d2 g (Deflate n) why (deflate_tests d1 p1 n) did.refused refl
+    unchanged_alone m1 m2 p1 p2 d1 d2 g (Deflate n) why (deflate_causes d1 p1 n) did.refused refl
     did.refusal refl refl refl refl (λ page offset bytes e. cc) rogue
 
 pub oom_rogue : (m1 m2 : Pages) (p1 p2 : Part) (d1 d2 : DriverState) (g : Guest) (n : ℕ)
@@ -181,7 +161,7 @@ oom_rogue m1 m2 p1 p2 d1 d2 g n (Ok posted) did rogue =
     asks_rogue m1 m2 p1 p2 d1 d2 g (Oom n) _ posted did.asks refl (λ page offset bytes e. cc)
     refl rogue
 oom_rogue m1 m2 p1 p2 d1 d2 g n (Err why) did rogue =
-    unchanged_alone m1 m2 p1 p2 d1 d2 g (Oom n) why (oom_tests d1 p1 n) did.refused refl
+    unchanged_alone m1 m2 p1 p2 d1 d2 g (Oom n) why (oom_causes d1 p1 n) did.refused refl
     did.refusal refl refl refl refl (λ page offset bytes e. cc) rogue
 
 unreported_same : (why : Refusal) (d : DriverState) → DriverSame d (unreported why d)
@@ -206,10 +186,7 @@ pub report_rogue : (m1 m2 : Pages) (p1 p2 : Part) (d1 d2 : DriverState) (g : Gue
 report_rogue m1 m2 p1 p2 d1 d2 g from (Ok posted) did rogue =
     let reports = did.reports in
     part_alone m1 m2 p1 p2 d1 d2 g (Report from) _
-    (moved d1 d2 _ _ (ap (λ (d : DriverState). d.pages) reports.state)
-    (ap (λ (d : DriverState). d.queue_size) reports.state)
-    (ap (λ (d : DriverState). d.processors) reports.state)
-    (ap (λ (d : DriverState). d.places) reports.state)) reports.part reports.posts.rest.count
+    (moved d1 d2 _ _ (ap shape_of reports.state)) reports.part reports.posts.rest.count
     reports.posts.rest.backing refl refl (λ page offset bytes e. cc)
     refl (λ why e. no_refusal _ why refl e) rogue
 report_rogue m1 m2 p1 p2 d1 d2 g from (Err why) did rogue =
@@ -218,8 +195,8 @@ report_rogue m1 m2 p1 p2 d1 d2 g from (Err why) did rogue =
     (same_driver d1 (unreported why d1) d2 (unreported_same why d1) same.driver) same.part
     (ap (λ (m : Pages). length m) same.mem)
     (λ page. ap (λ (m : Pages). frame_at m page) same.mem) refl
-    (not_for_want why (report_tests d1 p1 from) did.refusal refl) (λ page offset bytes e. cc) refl
-    (left_same m1 p1 p2 d1 d2 g (Report from) why (report_tests d1 p1 from) rogue
+    (not_for_want why (report_causes d1 p1 from) did.refusal refl) (λ page offset bytes e. cc) refl
+    (left_same m1 p1 p2 d1 d2 g (Report from) why (report_causes d1 p1 from) rogue
     (ap (λ (d : DriverState). d.places) same.driver ∙ unreported_places why d1)
     (ap (λ (d : DriverState). d.actual) same.driver ∙ unreported_actual why d1) same.part did.refusal
     refl refl) rogue
@@ -257,22 +234,22 @@ failed_left RingBroken m p1 p2 d g rogue is told =
 failed_left _ m p1 p2 d g rogue is told = rogue_unchanged m p1 p2 d d g rogue refl refl is
 
 failed_alone : (m1 m2 : Pages) (p1 p2 : Part) (d1 d2 : DriverState) (g : Guest) (call : Call)
-    (why : Refusal) (tests : List Test) → Unchanged m1 m2 (after_refusal why p1) p2 d1 d2
+    (why : Refusal) (causes : List Cause) → Unchanged m1 m2 (after_refusal why p1) p2 d1 d2
     → (why ≡ RingBroken → contains p1.status driver_ok ≡ true)
-    → target_after call p1.target ≡ p1.target → Some why ≡ first_refusal tests
-    → none_wants tests ≡ true → list_all (λ t. is_of_driver t.refusal) tests ≡ true
+    → target_after call p1.target ≡ p1.target → Some why ≡ first_refusal causes
+    → none_wants causes ≡ true → list_all (λ t. is_of_driver t.refusal) causes ≡ true
     → after_refused call why [] g ≡ with_fault why g → pages_to_back call g ≡ [] → IsOther call
     → Rogue m1 p1 d1 g → StepsAlone (Rogue m2 p2 d2) g call (Refused why)
-failed_alone m1 m2 p1 p2 d1 d2 g call why tests same up still is wanted told plain none other rogue =
+failed_alone m1 m2 p1 p2 d1 d2 g call why causes same up still is wanted told plain none other rogue =
     subst (λ (m : Pages). StepsAlone (Rogue m p2 d2) g call (Refused why)) (sym same.mem)
     (subst (λ (d : DriverState). StepsAlone (Rogue m1 p2 d) g call (Refused why)) (sym same.driver)
     (rogue_alone m1 m1 p1 p2 d1 d1 g call (Refused why) rogue
     (failed_keeps why m1 p1 p2 d1 same.part up) refl (λ page. refl)
     (ap (λ (p : Part). p.target) same.part ∙ failed_target why p1 ∙ sym still)
-    (not_for_want why tests is wanted) other none
+    (not_for_want why causes is wanted) other none
     (left_by call why [] g (rogue_after g g.frames p2 d1)
     (failed_left why m1 p1 p2 d1 g rogue same.part
-    (refused_passes is_of_driver tests why told (sym is)) ∙ sym plain))))
+    (refused_passes is_of_driver causes why told (sym is)) ∙ sym plain))))
 
 reap_up : (queue up sound lacks broken : Bool) (why : Refusal)
     → Some why ≡ first_refusal ((not queue ⇒ NoQueue) ∷ (not (up && sound) ⇒ NotReady)
@@ -342,7 +319,7 @@ reap_rogue m1 m2 p1 p2 d1 d2 g q (Ok (Some reaped)) did rogue =
     }) count same (ap (λ (p : Part). p.target) part) refl (λ page offset bytes e. cc) refl
     (λ why e. no_refusal _ why refl e)
 reap_rogue m1 m2 p1 p2 d1 d2 g q (Err why) did rogue =
-    failed_alone m1 m2 p1 p2 d1 d2 g (Reap q) why (reap_tests m1 p1 d1 (ring_of q d1) q)
+    failed_alone m1 m2 p1 p2 d1 d2 g (Reap q) why (reap_causes m1 p1 d1 (ring_of q d1) q)
     (record { mem = did.mem; part = did.failed; driver = did.refused })
     (reap_up (is_queue_of_requests q) (contains p1.status driver_ok) (not (is_broken p1.status))
     (lacks_feature d1.features q) (is_ring_broken m1 (ring_of q d1)) why did.refusal) refl
@@ -355,12 +332,7 @@ pub stats_rogue : (m1 m2 : Pages) (p1 p2 : Part) (d1 d2 : DriverState) (g : Gues
 stats_rogue m1 m2 p1 p2 d1 d2 g (Ok true) did rogue =
     let fills = did.fills in
     part_alone m1 m2 p1 p2 d1 d2 g Stats _
-    (record {
-      pages = ap (λ (d : DriverState). d.pages) fills.state;
-      queue_size = ap (λ (d : DriverState). d.queue_size) fills.state;
-      processors = ap (λ (d : DriverState). d.processors) fills.state;
-      table = ap (λ (d : DriverState). length d.places) fills.state;
-    }) fills.part fills.posts.rest.count fills.posts.rest.backing refl refl
+    (shaped d1 d2 (ap shape_of fills.state)) fills.part fills.posts.rest.count fills.posts.rest.backing refl refl
     (λ page offset bytes e. cc) refl (λ why e. no_refusal _ why refl e) rogue
 stats_rogue m1 m2 p1 p2 d1 d2 g (Ok false) did rogue =
     let same = did.fills.unchanged in
@@ -369,7 +341,7 @@ stats_rogue m1 m2 p1 p2 d1 d2 g (Ok false) did rogue =
     (λ page. ap (λ (m : Pages). frame_at m page) same.mem) refl refl
     (λ page offset bytes e. cc) refl (λ why e. no_refusal _ why refl e) rogue
 stats_rogue m1 m2 p1 p2 d1 d2 g (Err why) did rogue =
-    failed_alone m1 m2 p1 p2 d1 d2 g Stats why (stats_tests m1 p1 d1) did.refused
+    failed_alone m1 m2 p1 p2 d1 d2 g Stats why (stats_causes m1 p1 d1) did.refused
     (stats_up (contains p1.status driver_ok) (not (is_broken p1.status)) (stats_vq d1.features)
     (is_ring_broken m1 d1.statistics) why did.refusal) refl did.refusal
     refl refl refl refl (λ page offset bytes e. cc) rogue

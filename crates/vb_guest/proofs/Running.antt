@@ -1,6 +1,6 @@
 -- What a running guest's queues are once memory has changed elsewhere.
-use Rattle.std.specs.Prelude.{◌≡◌, ◌≢◌, ℕ, ◌<◌, ◌≤◌, true, IsSome, is_some}
-use Rattle.std.proofs.Common.{◌∙◌, ap}
+use Rattle.std.specs.Prelude.{◌≡◌, ◌≢◌, ◌==◌, false, ℕ, ◌<◌, ◌≤◌, true, IsSome, is_some}
+use Rattle.std.proofs.Common.{sym, eq-eqb, ◌∙◌, ap}
 use Rattle.vb_model.{specs.Layout.{is_start_page, ring_number}, specs.Guest.Guest}
 use Rattle.vb_model.proofs.Shapes.{start_reserved}
 use Rattle.vb_ram.{specs.Pages.{Pages, frame_at, number_of}, specs.Part.Part}
@@ -33,14 +33,17 @@ runs_on m1 m2 p d g run low =
       report = report_apart m1 m2 n d.report p.report g.report same.report run.report;
     }
 
+apart_of : (k n : ℕ) → (n == k) ≡ false → k ≢ n
+apart_of k n other e = absurd (let yes = eq-eqb n k (sym e) in cc)
+
 -- all queues of a running guest but one
 pub record OthersRun (m : Pages) (p : Part) (d : DriverState) (g : Guest) (q : ℕ) : Type 0 where
   pub backed : (page : ℕ) → is_start_page g.config.queue_size page ≡ true
       → IsSome (frame_at m page)
-  pub inflate : 0 ≢ ring_number q → Line m 0 g.config.pages d.inflate p.inflate g.inflate
-  pub deflate : 1 ≢ ring_number q → Line m 1 g.config.pages d.deflate p.deflate g.deflate
-  pub statistics : 2 ≢ ring_number q → BufferLine m d.statistics p.statistics g.buffer
-  pub report : 3 ≢ ring_number q → ReportLine m g.config.pages d.report p.report g.report
+  pub inflate : (ring_number q == 0) ≡ false → Line m 0 g.config.pages d.inflate p.inflate g.inflate
+  pub deflate : (ring_number q == 1) ≡ false → Line m 1 g.config.pages d.deflate p.deflate g.deflate
+  pub statistics : (ring_number q == 2) ≡ false → BufferLine m d.statistics p.statistics g.buffer
+  pub report : (ring_number q == 3) ≡ false → ReportLine m g.config.pages d.report p.report g.report
 
 -- a page of that one's ring has changed
 pub others_run : (m1 m2 : Pages) (p : Part) (d : DriverState) (g : Guest) (q : ℕ)
@@ -50,13 +53,13 @@ others_run m1 m2 p d g q run same behind =
     let n = g.config.pages in
     record {
       backed = λ page start. ap is_some (behind page) ∙ run.backed page start;
-      inflate = λ ne.
-          line_apart m1 m2 0 n d.inflate p.inflate g.inflate (same.inflate ne) run.inflate;
-      deflate = λ ne.
-          line_apart m1 m2 1 n d.deflate p.deflate g.deflate (same.deflate ne) run.deflate;
-      statistics = λ ne. buffer_apart m1 m2 d.statistics p.statistics g.buffer (same.statistics ne)
-          (same.buffer ne) run.statistics;
-      report = λ ne. report_apart m1 m2 n d.report p.report g.report (same.report ne) run.report;
+      inflate = λ other.
+          line_apart m1 m2 0 n d.inflate p.inflate g.inflate (same.inflate (apart_of 0 (ring_number q) other)) run.inflate;
+      deflate = λ other.
+          line_apart m1 m2 1 n d.deflate p.deflate g.deflate (same.deflate (apart_of 1 (ring_number q) other)) run.deflate;
+      statistics = λ other. buffer_apart m1 m2 d.statistics p.statistics g.buffer (same.statistics (apart_of 2 (ring_number q) other))
+          (same.buffer (apart_of 2 (ring_number q) other)) run.statistics;
+      report = λ other. report_apart m1 m2 n d.report p.report g.report (same.report (apart_of 3 (ring_number q) other)) run.report;
     }
 
 -- a driver has written to that one's ring and to a page of buffers

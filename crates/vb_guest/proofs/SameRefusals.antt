@@ -2,13 +2,13 @@
 use Rattle.std.specs.Prelude.{◌≡◌, ℕ, Bool, true, false, List, [], ◌∷◌, ◌++◌, length, Option, Some}
 use Rattle.std.specs.Prelude.{None, is_some, not, if◌then◌else◌, refl, ◌⊎◌}
 use Rattle.std.proofs.Common.{sym, ◌∙◌, ap, subst, arith, inl, inr}
-use Rattle.vb_model.specs.Tables.{has_chains, is_queue_of_requests, take_tests, finish_tests}
+use Rattle.vb_model.specs.Tables.{has_chains, is_queue_of_requests, take_causes, finish_causes}
+use Rattle.vb_model.{specs.Tables.{ask_causes, work_causes}, specs.Requests.Request}
 use Rattle.vb_model.specs.declared.calls.Call.TheVariants.{Take, Finish, Ask, Sweep, Work}
-use Rattle.vb_model.{specs.declared.calls.Call.Call, specs.Guest.Guest, specs.Requests.Request}
-use Rattle.vb_model.{specs.declared.replies.Refusal.Refusal, specs.Tables.{ask_tests, work_tests}}
 use Rattle.vb_model.specs.declared.replies.Refusal.TheVariants.{NotReady, NoQueue}
-use Rattle.vb_model.specs.FirstRefusal.{Test, ◌⇒◌, first_refusal}
-use Rattle.vb_model.specs.Refusals.{refusal_of, taken_count, is_taken}
+use Rattle.vb_model.{specs.Refusals.{refusal_of, taken_count, is_taken}, specs.Guest.Guest}
+use Rattle.vb_model.{specs.FirstRefusal.{Cause, ◌⇒◌, first_refusal}, specs.declared.calls.Call.Call}
+use Rattle.vb_model.specs.declared.replies.Refusal.{Refusal}
 use Rattle.vb_ram.{specs.Part.Part, specs.Pages.Pages}
 use Rattle.vb_driver.specs.State.{DriverState}
 use Rattle.vb_device.specs.Conditions.{sweep_refusal, work_refusal, take_refusal, finish_refusal}
@@ -25,14 +25,14 @@ at_both P status (inl e) a b = subst P (sym e) a
 at_both P status (inr e) a b = subst P (sym e) b
 
 -- a last test that doesn't hold
-pub last_test : (tests : List Test) (b : Bool) (why : Refusal) → b ≡ false
-    → first_refusal (tests ++ (b ⇒ why) ∷ []) ≡ first_refusal tests
-last_test [] b why e = ap (λ (v : Bool). first_refusal ((v ⇒ why) ∷ [])) e
-last_test (test ∷ tests) b why e = by test.holds (last_test tests b why e)
+pub last_cause : (causes : List Cause) (b : Bool) (why : Refusal) → b ≡ false
+    → first_refusal (causes ++ (b ⇒ why) ∷ []) ≡ first_refusal causes
+last_cause [] b why e = ap (λ (v : Bool). first_refusal ((v ⇒ why) ∷ [])) e
+last_cause (cause ∷ causes) b why e = by cause.holds (last_cause causes b why e)
   where
-    by : (v : Bool) → first_refusal (tests ++ (b ⇒ why) ∷ []) ≡ first_refusal tests
-        → (if v then Some test.refusal else first_refusal (tests ++ (b ⇒ why) ∷ []))
-        ≡ (if v then Some test.refusal else first_refusal tests)
+    by : (v : Bool) → first_refusal (causes ++ (b ⇒ why) ∷ []) ≡ first_refusal causes
+        → (if v then Some cause.refusal else first_refusal (causes ++ (b ⇒ why) ∷ []))
+        ≡ (if v then Some cause.refusal else first_refusal causes)
     by true same = refl
     by false same = same
 
@@ -43,9 +43,9 @@ pub take_same : (q : ℕ) (part : Part) (g : Guest) → part.status ≡ g.status
     → take_refusal q part ≡ refusal_of g (Take q)
 take_same q part g status features taken =
     let count : ℕ = length (queue_part q part).taken in
-    ap (λ (s : ℕ). first_refusal (take_tests q s part.features count)) status
-    ∙ ap (λ (f : ℕ). first_refusal (take_tests q g.status f count)) features
-    ∙ ap (λ (n : ℕ). first_refusal (take_tests q g.status g.features n)) taken
+    ap (λ (s : ℕ). first_refusal (take_causes q s part.features count)) status
+    ∙ ap (λ (f : ℕ). first_refusal (take_causes q g.status f count)) features
+    ∙ ap (λ (n : ℕ). first_refusal (take_causes q g.status g.features n)) taken
 
 -- a queue that there is, where the device isn't initialised
 pub take_idle : (q : ℕ) (part : Part) (g : Guest) → has_chains q ≡ true → part.status ≡ g.status
@@ -65,9 +65,9 @@ pub finish_same : (q i : ℕ) (part : Part) (g : Guest) → part.status ≡ g.st
     → part.paced ≡ g.config.paced → taken_at q i part ≡ guests_taken g q i
     → finish_refusal q i part ≡ refusal_of g (Finish q i)
 finish_same q i part g status paced taken =
-    ap (λ (s : ℕ). first_refusal (finish_tests q s part.paced (taken_at q i part))) status
-    ∙ ap (λ (b : Bool). first_refusal (finish_tests q g.status b (taken_at q i part))) paced
-    ∙ ap (λ (o : Option Request). first_refusal (finish_tests q g.status g.config.paced o)) taken
+    ap (λ (s : ℕ). first_refusal (finish_causes q s part.paced (taken_at q i part))) status
+    ∙ ap (λ (b : Bool). first_refusal (finish_causes q g.status b (taken_at q i part))) paced
+    ∙ ap (λ (o : Option Request). first_refusal (finish_causes q g.status g.config.paced o)) taken
 
 pub finish_idle : (q i : ℕ) (part : Part) (g : Guest) → is_queue_of_requests q ≡ true
     → part.status ≡ g.status → IsIdleStatus g.status
@@ -85,8 +85,8 @@ finish_idle q i part g has same down =
 pub ask_same : (part : Part) (g : Guest) → part.status ≡ g.status
     → is_some (taken_at 2 0 part) ≡ is_taken g.buffer → ask_refusal part ≡ refusal_of g Ask
 ask_same part g status taken =
-    ap (λ (s : ℕ). first_refusal (ask_tests s (is_some (taken_at 2 0 part)))) status
-    ∙ ap (λ (b : Bool). first_refusal (ask_tests g.status b)) taken
+    ap (λ (s : ℕ). first_refusal (ask_causes s (is_some (taken_at 2 0 part)))) status
+    ∙ ap (λ (b : Bool). first_refusal (ask_causes g.status b)) taken
 
 pub ask_idle : (part : Part) (g : Guest) → part.status ≡ g.status → IsIdleStatus g.status
     → (ask_refusal part ≡ Some NotReady) × (refusal_of g Ask ≡ Some NotReady)
@@ -111,7 +111,7 @@ sweep_idle page part g same down = grind arith
 
 pub works_same : (part : Part) (g : Guest) → part.status ≡ g.status
     → work_refusal part ≡ refusal_of g Work
-works_same part g status = ap (λ (s : ℕ). first_refusal (work_tests s)) status
+works_same part g status = ap (λ (s : ℕ). first_refusal (work_causes s)) status
 
 pub works_idle : (part : Part) (g : Guest) → part.status ≡ g.status → IsIdleStatus g.status
     → (work_refusal part ≡ Some NotReady) × (refusal_of g Work ≡ Some NotReady)
@@ -134,3 +134,23 @@ by_state {S} m p d g call refused (inr run) down same stops goes = by (refusal_o
     by : (o : Option Refusal) → refusal_of g call ≡ o → S
     by (Some why) is = stops why (same run ∙ is) is
     by None is = goes run (same run ∙ is) is
+
+-- ---- a call on a driver
+
+-- driver and guest refuse it for the same cause, whether the device is initialised or not
+pub refused_alike : (m : Pages) (p : Part) (d : DriverState) (g : Guest) (call : Call)
+    (refused : Option Refusal) → IsIdle g ⊎ IsRunning m p d g
+    → (IsIdleStatus g.status → (refused ≡ Some NotReady) × (refusal_of g call ≡ Some NotReady))
+    → (IsRunning m p d g → refused ≡ refusal_of g call) → refused ≡ refusal_of g call
+refused_alike m p d g call refused (inl idle) down same =
+    let both = down idle.state in
+    both.0 ∙ sym both.1
+refused_alike m p d g call refused (inr run) down same = same run
+
+-- where it isn't refused, the guest runs
+pub runs_where : (m : Pages) (p : Part) (d : DriverState) (g : Guest) (call : Call)
+    (refused : Option Refusal) → IsIdle g ⊎ IsRunning m p d g
+    → (IsIdleStatus g.status → (refused ≡ Some NotReady) × (refusal_of g call ≡ Some NotReady))
+    → refusal_of g call ≡ None → IsRunning m p d g
+runs_where m p d g call refused (inl idle) down free = absurd (let wrong = (down idle.state).1 in cc)
+runs_where m p d g call refused (inr run) down free = run

@@ -1,8 +1,8 @@
 -- A guest's new fill of the statistics buffer is a step of the definitions.
 use Rattle.std.specs.Prelude.{◌≡◌, ℕ, Bool, true, false, not, [], Result, Ok, Err, Option, Some}
 use Rattle.std.specs.Prelude.{None, slice_get, refl}
-use Rattle.std.proofs.Common.{sym, ◌∙◌, ap, subst, arith, inl, inr}
-use Rattle.vb_model.specs.Requests.{Figures, Buffer, NoBuffer, BufferPosted, BufferTaken}
+use Rattle.std.proofs.Common.{sym, ◌∙◌, ap, subst, arith, inr}
+use Rattle.vb_model.specs.Requests.{Figures, StatisticsBuffer, NoBuffer, BufferPosted, BufferTaken}
 use Rattle.vb_model.{specs.Requests.BufferDone, specs.declared.calls.Call.TheVariants.Stats}
 use Rattle.vb_model.{specs.declared.replies.Refusal.Refusal, specs.Guest.{Guest, stats_vq}}
 use Rattle.vb_model.{specs.declared.replies.Refusal.TheVariants.NotReady, specs.Tables.is_up}
@@ -11,32 +11,33 @@ use Rattle.vb_model.{specs.Driver.{figures, Fills}, specs.FirstRefusal.first_ref
 use Rattle.vb_model.{specs.Refusals.refusal_of, proofs.Shapes.reserved_least}
 use Rattle.vb_ram.{specs.Pages.Pages, specs.Part.Part}
 use Rattle.vb_ring.specs.Ends.{DriverEnd, used_answer}
-use Rattle.vb_driver.{specs.State.{DriverState, figures_of}, specs.Answers.stats_tests}
+use Rattle.vb_driver.{specs.State.{DriverState, figures_of}, specs.Answers.stats_causes}
 use Rattle.vb_driver.specs.Calls.{FillsBy, Refills, emptied}
+use Rattle.vb_guest.proofs.SameRefusals.{refused_alike, runs_where, IsIdleStatus}
 use Rattle.vb_guest.{proofs.Running.others_posted, specs.Replies.filled_reply}
 use Rattle.vb_guest.proofs.RunApart.{sizes_of, ring_of, buffer_clear, post_leaves, post_same}
 use Rattle.vb_guest.proofs.Closing.{honest_performed, steps_alone, refused_alone, ties_same}
 use Rattle.vb_guest.{proofs.BufferLines.{buffer_emptied, buffer_posted}, specs.Steps.StepsAlone}
-use Rattle.vb_guest.{proofs.ReapRefusing.{unfailed, never_broken}, proofs.SameRefusals.IsIdleStatus}
+use Rattle.vb_guest.{proofs.ReapRefusing.{unfailed, never_broken}, proofs.RingReaped.ring_answer}
 use Rattle.vb_guest.{specs.Stands.{Honest, Ties, IsRunning}, specs.Buffer.{BufferLine, used_heads}}
-use Rattle.vb_guest.{proofs.RingReaped.ring_answer, proofs.PagesKept.pages_same}
+use Rattle.vb_guest.proofs.PagesKept.{pages_same}
 
 -- ---- refusals
 
 -- where the ring isn't broken
 stats_same : (m : Pages) (p : Part) (d : DriverState) (g : Guest) (o : Option ℕ)
     → p.status ≡ g.status → d.features ≡ g.features → used_answer m d.statistics ≡ Ok o
-    → first_refusal (stats_tests m p d) ≡ refusal_of g Stats
+    → first_refusal (stats_causes m p d) ≡ refusal_of g Stats
 stats_same m p d g o status features answer = grind arith
 
 stats_idle : (m : Pages) (p : Part) (d : DriverState) (g : Guest) → p.status ≡ g.status
     → IsIdleStatus g.status
-    → (first_refusal (stats_tests m p d) ≡ Some NotReady) × (refusal_of g Stats ≡ Some NotReady)
+    → (first_refusal (stats_causes m p d) ≡ Some NotReady) × (refusal_of g Stats ≡ Some NotReady)
 stats_idle m p d g same down = grind arith
 
 stats_refused : (m1 m2 : Pages) (p1 p2 : Part) (d1 d2 : DriverState) (g : Guest) (why : Refusal)
     → FillsBy m1 m2 p1 p2 d1 d2 (Err why) → Honest m1 p1 d1 g
-    → first_refusal (stats_tests m1 p1 d1) ≡ refusal_of g Stats
+    → first_refusal (stats_causes m1 p1 d1) ≡ refusal_of g Stats
     → StepsAlone (Honest m2 p2 d2) g Stats (filled_reply (Err why))
 stats_refused m1 m2 p1 p2 d1 d2 g why did stands same =
     let by_model : refusal_of g Stats ≡ Some why = sym (did.refusal ∙ same) in
@@ -48,7 +49,7 @@ stats_refused m1 m2 p1 p2 d1 d2 g why did stands same =
 
 -- ---- the buffer wasn't used
 
-not_used : (m1 m2 : Pages) (p1 p2 : Part) (d1 d2 : DriverState) (g : Guest) (b : Buffer)
+not_used : (m1 m2 : Pages) (p1 p2 : Part) (d1 d2 : DriverState) (g : Guest) (b : StatisticsBuffer)
     (filled : Bool)
     → g.buffer ≡ b → used_answer m1 d1.statistics ≡ Ok None → Fills b g NotUsed g
     → FillsBy m1 m2 p1 p2 d1 d2 (Ok filled) → Honest m1 p1 d1 g → refusal_of g Stats ≡ None
@@ -69,7 +70,7 @@ refilled m1 m2 p1 p2 d1 d2 g old is did stands run free =
     let ties = stands.ties in
     let n = g.config.pages in
     let now : Figures = figures g in
-    let L : Buffer → Type 0 = λ b. BufferLine m1 d1.statistics p1.statistics b in
+    let L : StatisticsBuffer → Type 0 = λ b. BufferLine m1 d1.statistics p1.statistics b in
     let line : L (BufferDone old) = subst L is run.statistics in
     let size = g.config.queue_size in
     let rest = did.posts.rest in
@@ -82,7 +83,7 @@ refilled m1 m2 p1 p2 d1 d2 g old is did stands run free =
     let still = others_posted m1 m2 p1 d1 g 2 12 run leaves rest.backing (λ ne. absurd (ne refl))
     (λ ne p from to. omega (arith, to)) (λ ne p from to. omega (arith, to)) in
     let new : Guest = record g { buffer = BufferPosted now } in
-    let F : Buffer → Type 0 = λ b. Fills b g Filled new in
+    let F : StatisticsBuffer → Type 0 = λ b. Fills b g Filled new in
     let step = honest_performed g Stats [] Filled new free (refl, subst F (sym is) (refl, refl)) in
     let after : DriverState = record d1 { statistics = d2.statistics } in
     let emptied_line = buffer_emptied m1 d1.statistics p1.statistics old line did.takes in
@@ -91,17 +92,11 @@ refilled m1 m2 p1 p2 d1 d2 g old is did stands run free =
     subst B (figures_same d1 g ties.parts.driver.places ties.parts.driver.pages)
     (buffer_posted m1 m2 (emptied d1.statistics) d2.statistics p1.statistics (figures_of d1)
     emptied_line did.posts) in
+    let sized = ap (λ (r : DriverEnd). r.size) did.posts.state ∙ run.statistics_size in
     let there : Ties m2 p1 after new = record {
       parts = ties.parts;
       pages = pages_same m1 m2 g.config.queue_size n _ _ same ties.pages;
-      queues = inr (assumption (
-        ap (λ (r : DriverEnd). r.size) did.posts.state
-            ∙ run.statistics_size,
-        posted,
-        still.inflate (omega arith),
-        still.deflate (omega arith),
-        still.report (omega arith),
-      ));
+      queues = inr (assumption (still.inflate refl, still.deflate refl, still.report refl));
     } in
     steps_alone m1 m2 p1 p2 d1 d2 g Stats Filled new stands step
     (ties_same m2 m2 p1 p2 after d2 new refl did.part did.state there) refl
@@ -110,25 +105,18 @@ pub stats_step : (m1 m2 : Pages) (p1 p2 : Part) (d1 d2 : DriverState) (g : Guest
     (result : Result Bool Refusal) → FillsBy m1 m2 p1 p2 d1 d2 result → Honest m1 p1 d1 g
     → StepsAlone (Honest m2 p2 d2) g Stats (filled_reply result)
 stats_step m1 m2 p1 p2 d1 d2 g result did stands =
-    elim stands.ties.queues [
-      | inl idle ↦
-          let both = stats_idle m1 p1 d1 g stands.ties.parts.device.status idle.state in
-          down result did both.0 both.1
-      | inr run ↦
-          let answer = ring_answer m1 2 d1.statistics p1.statistics.next_avail
-          p1.statistics.next_used _ _ (used_heads g.buffer) run.statistics.stands in
-          up result did run answer (stats_same m1 p1 d1 g (slice_get (used_heads g.buffer) 0)
-          stands.ties.parts.device.status stands.ties.parts.driver.accepted answer)
-    ]
+    let device = stands.ties.parts.device in
+    by result did
+    (refused_alike m1 p1 d1 g Stats _ stands.ties.queues (stats_idle m1 p1 d1 g device.status)
+    (λ run. stats_same m1 p1 d1 g (slice_get (used_heads g.buffer) 0) device.status
+    stands.ties.parts.driver.accepted (answer run)))
   where
-    down : (result : Result Bool Refusal) → FillsBy m1 m2 p1 p2 d1 d2 result
-        → first_refusal (stats_tests m1 p1 d1) ≡ Some NotReady → refusal_of g Stats ≡ Some NotReady
-        → StepsAlone (Honest m2 p2 d2) g Stats (filled_reply result)
-    down (Ok filled) did by_driver by_model = absurd (let wrong = did.refusal ∙ by_driver in cc)
-    down (Err why) did by_driver by_model =
-        stats_refused m1 m2 p1 p2 d1 d2 g why did stands (by_driver ∙ sym by_model)
+    answer : IsRunning m1 p1 d1 g
+        → used_answer m1 d1.statistics ≡ Ok (slice_get (used_heads g.buffer) 0)
+    answer run = ring_answer m1 2 d1.statistics p1.statistics.next_avail p1.statistics.next_used
+        _ _ (used_heads g.buffer) run.statistics.stands
 
-    by_buffer : (b : Buffer) (filled : Bool) → g.buffer ≡ b
+    by_buffer : (b : StatisticsBuffer) (filled : Bool) → g.buffer ≡ b
         → FillsBy m1 m2 p1 p2 d1 d2 (Ok filled)
         → IsRunning m1 p1 d1 g → used_answer m1 d1.statistics ≡ Ok (slice_get (used_heads b) 0)
         → refusal_of g Stats ≡ None
@@ -146,10 +134,12 @@ stats_step m1 m2 p1 p2 d1 d2 g result did stands =
         not_used m1 m2 p1 p2 d1 d2 g (BufferTaken figures) filled is answer (refl, refl) did stands
         free
 
-    up : (result : Result Bool Refusal) → FillsBy m1 m2 p1 p2 d1 d2 result → IsRunning m1 p1 d1 g
-        → used_answer m1 d1.statistics ≡ Ok (slice_get (used_heads g.buffer) 0)
-        → first_refusal (stats_tests m1 p1 d1) ≡ refusal_of g Stats
+    by : (result : Result Bool Refusal) → FillsBy m1 m2 p1 p2 d1 d2 result
+        → first_refusal (stats_causes m1 p1 d1) ≡ refusal_of g Stats
         → StepsAlone (Honest m2 p2 d2) g Stats (filled_reply result)
-    up (Err why) did run answer same = stats_refused m1 m2 p1 p2 d1 d2 g why did stands same
-    up (Ok filled) did run answer same =
-        by_buffer g.buffer filled refl did run answer (sym (did.refusal ∙ same))
+    by (Err why) did same = stats_refused m1 m2 p1 p2 d1 d2 g why did stands same
+    by (Ok filled) did same =
+        let free : refusal_of g Stats ≡ None = sym (did.refusal ∙ same) in
+        let run = runs_where m1 p1 d1 g Stats _ stands.ties.queues
+        (stats_idle m1 p1 d1 g stands.ties.parts.device.status) free in
+        by_buffer g.buffer filled refl did run (answer run) free

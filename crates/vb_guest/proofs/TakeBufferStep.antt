@@ -1,13 +1,13 @@
 -- A guest's take of the statistics buffer is a step of the definitions.
 use Rattle.std.specs.Prelude.{true, ◌≡◌, ℕ, ◌*◌, List, [], length, Result, Ok, Option, Some, None}
 use Rattle.std.{specs.Prelude.{slice_get, refl}, proofs.Common.{sym, ◌∙◌, ap, subst, arith, inr}}
-use Rattle.vb_model.specs.Requests.{Request, Figures, Buffer, NoBuffer, BufferPosted, BufferTaken}
-use Rattle.vb_model.{specs.Requests.BufferDone, specs.declared.calls.Call.TheVariants.Take}
-use Rattle.vb_model.{specs.Tests.one_if, specs.declared.replies.Refusal.Refusal, specs.Guest.Guest}
+use Rattle.vb_model.specs.Requests.{Request, Figures, StatisticsBuffer, NoBuffer, BufferPosted}
+use Rattle.vb_model.{specs.Requests.{BufferTaken, BufferDone}, specs.Tests.one_if}
+use Rattle.vb_model.{specs.declared.calls.Call.TheVariants.Take, specs.Guest.Guest}
+use Rattle.vb_model.{specs.declared.replies.Refusal.Refusal, specs.Device.TakesBuffer}
 use Rattle.vb_model.specs.declared.replies.Reply.TheVariants.{Taken, Empty}
-use Rattle.vb_model.{specs.declared.replies.LastStatistics.LastStatistics, specs.Device.TakesBuffer}
-use Rattle.vb_model.{specs.Refusals.{refusal_of, is_taken, taken_count}, specs.Layout.ring_page}
-use Rattle.vb_model.specs.Tables.{has_chains}
+use Rattle.vb_model.{specs.declared.replies.LastStatistics.LastStatistics, specs.Layout.ring_page}
+use Rattle.vb_model.{specs.Refusals.{refusal_of, is_taken, taken_count}, specs.Tables.has_chains}
 use Rattle.vb_ram.{specs.Pages.Pages, specs.Part.Part, proofs.Limits.config_limits}
 use Rattle.vb_chain.{specs.Table.descriptor_at, specs.Chain.ChainGives}
 use Rattle.vb_driver.{specs.State.DriverState, specs.Coding.AreFigures}
@@ -30,7 +30,7 @@ pub take_refused : (m1 m2 : Pages) (p1 p2 : Part) (d : DriverState) (g : Guest) 
 take_refused m1 m2 p1 p2 d g q why result did stands by_part by_model = search arith
 
 -- no buffer is posted
-take_none : (m1 m2 : Pages) (p1 p2 : Part) (d : DriverState) (g : Guest) (b : Buffer)
+take_none : (m1 m2 : Pages) (p1 p2 : Part) (d : DriverState) (g : Guest) (b : StatisticsBuffer)
     (result : Result (Option ℕ) Refusal)
     → g.buffer ≡ b → posted_heads b ≡ [] → TakesBuffer b g Empty g → TakesBy 2 m1 m2 p1 p2 result
     → Honest m1 p1 d g → IsRunning m1 p1 d g → take_refusal 2 p1 ≡ None
@@ -43,7 +43,7 @@ take_none m1 m2 p1 p2 d g b result is none empty did stands run free_part free =
     ∙ ring_next m1 2 d.statistics p1.statistics.next_avail p1.statistics.next_used _ _ _ line.stands
     ∙ ap (λ (l : List ℕ). Ok (slice_get l 0)) (ap posted_heads is ∙ none) in
     let (answer, part) = did.empty free_part next in
-    let T : Buffer → Type 0 = λ x. TakesBuffer x g Empty g in
+    let T : StatisticsBuffer → Type 0 = λ x. TakesBuffer x g Empty g in
     let step = honest_performed g (Take 2) [] Empty g free (refl, subst T (sym is) empty) in
     subst (λ r. StepsAlone (Honest m2 p2 d) g (Take 2) (taken_reply r)) (sym answer)
     (steps_alone m1 m2 p1 p2 d d g (Take 2) Empty g stands step
@@ -60,7 +60,7 @@ take_posted m1 m2 p1 p2 d g figures result is did stands run free_part free =
     let ties = stands.ties in
     let said : LastStatistics =
     record { free = Some figures.free; total = Some figures.total } in
-    let L : Buffer → Type 0 = λ b. BufferLine m1 d.statistics p1.statistics b in
+    let L : StatisticsBuffer → Type 0 = λ b. BufferLine m1 d.statistics p1.statistics b in
     let line : L (BufferPosted figures) = subst L is run.statistics in
     let size = ties.parts.device.size ∙ sym run.statistics_size in
     let next = same_entry m1 2 p1.queue_size p1.statistics.next_avail d.statistics
@@ -78,7 +78,7 @@ take_posted m1 m2 p1 p2 d g figures result is did stands run free_part free =
     (subst (λ (s : ℕ). AreFigures m1 (ring_page s 2) figures) (sym size) line.figures) in
     let (answer, part) = did.takes 0 buffer_pieces [] free_part next chain buffer_names in
     let new : Guest = record g { buffer = BufferTaken figures; last = said } in
-    let T : Buffer → Type 0 = λ b. TakesBuffer b g (Taken 0) new in
+    let T : StatisticsBuffer → Type 0 = λ b. TakesBuffer b g (Taken 0) new in
     let step = honest_performed g (Take 2) [] (Taken 0) new free
     (refl, subst T (sym is) (refl, refl)) in
     let after : Part = taking 2 0 [] (record p1 { last = said }) in
@@ -92,7 +92,7 @@ take_posted m1 m2 p1 p2 d g figures result is did stands run free_part free =
     (steps_alone m1 m2 p1 p2 d d g (Take 2) (Taken 0) new stands step
     (ties_same m1 m2 after p2 d d new did.memory left refl there) refl)
 
-one_taken : (b : Buffer) → length (taken_requests b) ≡ one_if (is_taken b)
+one_taken : (b : StatisticsBuffer) → length (taken_requests b) ≡ one_if (is_taken b)
 one_taken b = grind arith
 
 -- a take from a queue that there is, by what it does where it isn't refused
@@ -119,7 +119,7 @@ take_buffer m1 m2 p1 p2 d g result did stands =
     (λ run. ap (λ (l : List Request). length l) run.statistics.remembers ∙ one_taken g.buffer)
     (λ run. by_buffer g.buffer refl run)
   where
-    by_buffer : (b : Buffer) → g.buffer ≡ b → IsRunning m1 p1 d g → take_refusal 2 p1 ≡ None
+    by_buffer : (b : StatisticsBuffer) → g.buffer ≡ b → IsRunning m1 p1 d g → take_refusal 2 p1 ≡ None
         → refusal_of g (Take 2) ≡ None
         → StepsAlone (Honest m2 p2 d) g (Take 2) (taken_reply result)
     by_buffer (BufferPosted figures) is run =

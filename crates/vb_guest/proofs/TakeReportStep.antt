@@ -1,8 +1,8 @@
 -- A guest's take of a report is a step of the definitions.
 use Rattle.std.specs.Prelude.{◌≡◌, ℕ, ◌*◌, List, [], ◌∷◌, ◌++◌, length, Result, Ok, Option, None}
 use Rattle.std.{specs.Prelude.refl, proofs.Common.{sym, ◌∙◌, ap, subst, arith, inr}}
-use Rattle.vb_model.{specs.declared.calls.Call.TheVariants.Take, specs.Guest.Guest}
-use Rattle.vb_model.{specs.declared.replies.Refusal.Refusal, specs.Device.Takes}
+use Rattle.vb_model.{specs.Device.TakesRequest, specs.declared.calls.Call.TheVariants.Take}
+use Rattle.vb_model.{specs.Guest.Guest, specs.declared.replies.Refusal.Refusal}
 use Rattle.vb_model.{specs.Refusals.refusal_of, specs.Requests.{Request, Reporting_free}}
 use Rattle.vb_model.specs.declared.replies.Reply.TheVariants.{Taken, Empty}
 use Rattle.vb_model.specs.Layout.{reserved_pages, ring_page}
@@ -31,7 +31,7 @@ take_posted m1 m2 p1 p2 d g [] result is did stands run free_part free =
     line.ring.layout (stands.ties.parts.device.size ∙ sym run.report_size)
     ∙ ring_next m1 4 d.report.ring p1.report.next_avail p1.report.next_used _ _ _ line.ring in
     let (answer, part) = did.empty free_part next in
-    let T : List Request → Type 0 = λ l. Takes Reporting_free l g Empty g in
+    let T : List Request → Type 0 = λ l. TakesRequest Reporting_free l g Empty g in
     let step = honest_performed g (Take 4) [] Empty g free (refl, subst T (sym is) (refl, refl)) in
     subst (λ r. StepsAlone (Honest m2 p2 d) g (Take 4) (taken_reply r)) (sym answer)
     (steps_alone m1 m2 p1 p2 d d g (Take 4) Empty g stands step
@@ -65,7 +65,7 @@ take_posted m1 m2 p1 p2 d g (r ∷ rest) result is did stands run free_part free
       report = record g.report
           { posted = rest; taken = g.report.taken ++ (record r { visited = 0 } ∷ []) };
     } in
-    let T : List Request → Type 0 = λ l. Takes Reporting_free l g (Taken r.head) new in
+    let T : List Request → Type 0 = λ l. TakesRequest Reporting_free l g (Taken r.head) new in
     let step = honest_performed g (Take 4) [] (Taken r.head) new free
     (refl, subst T (sym is) (refl, refl)) in
     let after : Part = taking 4 r.head r.pages p1 in

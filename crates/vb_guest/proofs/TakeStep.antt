@@ -1,12 +1,11 @@
 -- A guest's take is a step of the definitions.
 use Rattle.std.specs.Prelude.{◌≡◌, ℕ, ◌*◌, ◌≤◌, List, [], ◌∷◌, ◌++◌, length, Result, Ok, Option}
-use Rattle.std.specs.Prelude.{Some, None, refl}
-use Rattle.std.proofs.Common.{sym, ◌∙◌, ap, subst, arith, inl, inr}
-use Rattle.vb_model.{specs.Requests.{Request, Requests, Inflating, Deflating}, specs.Device.Takes}
-use Rattle.vb_model.{specs.declared.replies.Reply.TheVariants.{Taken, Empty}, specs.Guest.Guest}
+use Rattle.std.{specs.Prelude.{Some, None, refl}, proofs.Common.{sym, ◌∙◌, ap, subst, arith, inr}}
+use Rattle.vb_model.{specs.Requests.{Request, Requests, Inflating, Deflating}, specs.Guest.Guest}
+use Rattle.vb_model.specs.declared.replies.Reply.TheVariants.{Taken, Empty}
 use Rattle.vb_model.specs.Layout.{reserved_pages, ring_page, buffers_page}
-use Rattle.vb_model.{specs.declared.replies.Refusal.TheVariants.NoQueue, specs.Refusals.refusal_of}
-use Rattle.vb_model.{specs.declared.calls.Call.TheVariants.Take, proofs.Queues.queue_cases}
+use Rattle.vb_model.{specs.declared.replies.Refusal.TheVariants.NoQueue, specs.Device.TakesRequest}
+use Rattle.vb_model.{specs.declared.calls.Call.TheVariants.Take, specs.Refusals.refusal_of}
 use Rattle.vb_model.specs.declared.replies.Refusal.{Refusal}
 use Rattle.vb_ram.{specs.Pages.Pages, specs.Part.Part, proofs.Limits.config_limits}
 use Rattle.vb_chain.{specs.Table.descriptor_at, specs.declared.pieces.Piece.Piece}
@@ -19,7 +18,7 @@ use Rattle.vb_guest.proofs.TakeBufferStep.{take_refused, take_by, take_buffer}
 use Rattle.vb_guest.proofs.Closing.{steps_alone, honest_performed, ties_same}
 use Rattle.vb_guest.{proofs.Chains.{coded_chain, coded_pages}, proofs.TakeReportStep.take_report}
 use Rattle.vb_guest.{specs.Stands.{Honest, Ties, IsRunning}, proofs.Taking.{next_shown, line_taken}}
-use Rattle.vb_guest.{proofs.Refusing.take_no_queue, specs.Line.{Line, IsRequest}}
+use Rattle.vb_guest.{proofs.Refusing.{by_queue, take_no_queue}, specs.Line.{Line, IsRequest}}
 use Rattle.vb_guest.{specs.Replies.taken_reply, proofs.Handing.same_entry, specs.Steps.StepsAlone}
 
 -- what the device says of a queue with no posted request, and of one with some
@@ -76,7 +75,7 @@ inflate_posted m1 m2 p1 p2 d g [] result is did stands run free_part free =
     let (answer, part) = take_empty 0 g.config.pages m1 m2 p1 p2 d.inflate g.inflate.taken
     g.inflate.done result did free_part (stands.ties.parts.device.size ∙ sym run.inflate_size)
     (subst L is run.inflate) in
-    let T : List Request → Type 0 = λ l. Takes Inflating l g Empty g in
+    let T : List Request → Type 0 = λ l. TakesRequest Inflating l g Empty g in
     let step = honest_performed g (Take 0) [] Empty g free (refl, subst T (sym is) (refl, refl)) in
     subst (λ r. StepsAlone (Honest m2 p2 d) g (Take 0) (taken_reply r)) (sym answer)
     (steps_alone m1 m2 p1 p2 d d g (Take 0) Empty g stands step
@@ -95,7 +94,7 @@ inflate_posted m1 m2 p1 p2 d g (r ∷ rest) result is did stands run free_part f
       inflate = record g.inflate
           { posted = rest; taken = g.inflate.taken ++ (record r { visited = 0 } ∷ []) };
     } in
-    let T : List Request → Type 0 = λ l. Takes Inflating l g (Taken r.head) new in
+    let T : List Request → Type 0 = λ l. TakesRequest Inflating l g (Taken r.head) new in
     let step = honest_performed g (Take 0) [] (Taken r.head) new free
     (refl, subst T (sym is) (refl, refl)) in
     let after : Part = taking 0 r.head r.pages p1 in
@@ -120,7 +119,7 @@ deflate_posted m1 m2 p1 p2 d g [] result is did stands run free_part free =
     let (answer, part) = take_empty 1 g.config.pages m1 m2 p1 p2 d.deflate g.deflate.taken
     g.deflate.done result did free_part (stands.ties.parts.device.size ∙ sym run.deflate_size)
     (subst L is run.deflate) in
-    let T : List Request → Type 0 = λ l. Takes Deflating l g Empty g in
+    let T : List Request → Type 0 = λ l. TakesRequest Deflating l g Empty g in
     let step = honest_performed g (Take 1) [] Empty g free (refl, subst T (sym is) (refl, refl)) in
     subst (λ r. StepsAlone (Honest m2 p2 d) g (Take 1) (taken_reply r)) (sym answer)
     (steps_alone m1 m2 p1 p2 d d g (Take 1) Empty g stands step
@@ -139,7 +138,7 @@ deflate_posted m1 m2 p1 p2 d g (r ∷ rest) result is did stands run free_part f
       deflate = record g.deflate
           { posted = rest; taken = g.deflate.taken ++ (record r { visited = 0 } ∷ []) };
     } in
-    let T : List Request → Type 0 = λ l. Takes Deflating l g (Taken r.head) new in
+    let T : List Request → Type 0 = λ l. TakesRequest Deflating l g (Taken r.head) new in
     let step = honest_performed g (Take 1) [] (Taken r.head) new free
     (refl, subst T (sym is) (refl, refl)) in
     let after : Part = taking 1 r.head r.pages p1 in
@@ -156,29 +155,15 @@ pub take_step : (m1 m2 : Pages) (p1 p2 : Part) (d : DriverState) (g : Guest) (q 
     → TakesBy q m1 m2 p1 p2 result → Honest m1 p1 d g
     → StepsAlone (Honest m2 p2 d) g (Take q) (taken_reply result)
 take_step m1 m2 p1 p2 d g q result did stands =
-    let B : ℕ → Type 0 = λ k. TakesBy k m1 m2 p1 p2 result in
-    let S : ℕ → Type 0 = λ k. StepsAlone (Honest m2 p2 d) g (Take k) (taken_reply result) in
-    elim (queue_cases q) [
-      | inl first ↦ subst S (sym first)
-          (let at = subst B first did in
-          take_by m1 m2 p1 p2 d g 0 result refl at stands
-          (λ run. ap (λ (l : List Request). length l) run.inflate.remembers)
-          (λ run. inflate_posted m1 m2 p1 p2 d g g.inflate.posted result refl at stands run))
-      | inr a ↦ elim a [
-        | inl second ↦ subst S (sym second)
-            (let at = subst B second did in
-            take_by m1 m2 p1 p2 d g 1 result refl at stands
-            (λ run. ap (λ (l : List Request). length l) run.deflate.remembers)
-            (λ run. deflate_posted m1 m2 p1 p2 d g g.deflate.posted result refl at stands run))
-        | inr b ↦ elim b [
-          | inl third ↦ subst S (sym third)
-              (take_buffer m1 m2 p1 p2 d g result (subst B third did) stands)
-          | inr c ↦ elim c [
-            | inl last ↦ subst S (sym last)
-                (take_report m1 m2 p1 p2 d g result (subst B last did) stands)
-            | inr none ↦ (let no = take_no_queue q g p1 none in
-                take_refused m1 m2 p1 p2 d g q NoQueue result did stands no.0 no.1)
-          ]
-        ]
-      ]
-    ]
+    by_queue (λ k. TakesBy k m1 m2 p1 p2 result
+    → StepsAlone (Honest m2 p2 d) g (Take k) (taken_reply result)) q
+    (λ at. take_by m1 m2 p1 p2 d g 0 result refl at stands
+    (λ run. ap (λ (l : List Request). length l) run.inflate.remembers)
+    (λ run. inflate_posted m1 m2 p1 p2 d g g.inflate.posted result refl at stands run))
+    (λ at. take_by m1 m2 p1 p2 d g 1 result refl at stands
+    (λ run. ap (λ (l : List Request). length l) run.deflate.remembers)
+    (λ run. deflate_posted m1 m2 p1 p2 d g g.deflate.posted result refl at stands run))
+    (λ at. take_buffer m1 m2 p1 p2 d g result at stands)
+    (λ at. take_report m1 m2 p1 p2 d g result at stands)
+    (λ none at. let no = take_no_queue q g p1 none in
+    take_refused m1 m2 p1 p2 d g q NoQueue result at stands no.0 no.1) did

@@ -51,20 +51,7 @@ line_visited : (mem : Pages) (q n : ℕ) (side : RequestSide) (part : QueuePart)
 line_visited mem q n side part rs line =
     let S : List ℕ → Type 0 = λ l. RingStands mem q side.ring part.next_avail part.next_used
     (heads_of rs.posted) l (heads_of rs.done) in
-    record {
-      ring = subst S (sym (heads-visiting rs.taken)) line.ring;
-      buffers = line.buffers;
-      posted = line.posted;
-      taken = all-visiting (IsRequest side.ring.size n side.sent) (λ r is. record {
-        inside = is.inside;
-        few = is.few;
-        remembered = is.remembered;
-        pages = is.pages;
-      }) rs.taken line.taken;
-      done = line.done;
-      coded = line.coded;
-      remembers = ap visiting line.remembers;
-    }
+    (assumption (subst S (sym (heads-visiting rs.taken)) line.ring, all-visiting (IsRequest side.ring.size n side.sent) (λ r is. assumption) rs.taken line.taken, ap visiting line.remembers))
 
 work_visits : (m1 m2 : Pages) (p1 p2 : Part) (d : DriverState) (g : Guest) (page : ℕ)
     (result : Result (Option WorkedPage) Refusal)

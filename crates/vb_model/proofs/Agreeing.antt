@@ -6,8 +6,9 @@ use Rattle.vb_model.specs.declared.calls.Call.TheVariants.{Init, Reset, Alloc, F
 use Rattle.vb_model.specs.declared.calls.Call.TheVariants.{Scribble, Inflate, Deflate, Oom, Report}
 use Rattle.vb_model.specs.declared.calls.Call.TheVariants.{Stats, Reap, Take, Work, Finish, Sweep}
 use Rattle.vb_model.specs.Requests.{Request, Requests, all_requests, headed, IsLeastHead, Kind}
-use Rattle.vb_model.specs.Requests.{Inflating, kind_of_queue, Buffer, NoBuffer, BufferPosted}
-use Rattle.vb_model.specs.Driver.{claim_refusal, Supplying, asking, stranded_first, Deflates}
+use Rattle.vb_model.specs.Requests.{Inflating, kind_of_queue, StatisticsBuffer, NoBuffer}
+use Rattle.vb_model.specs.Requests.{BufferPosted}
+use Rattle.vb_model.specs.Driver.{claim_refusal, Supplying, after_posting, stranded_first, Deflates}
 use Rattle.vb_model.{specs.declared.calls.Call.Call, specs.declared.replies.Refusal.Refusal}
 use Rattle.vb_model.{specs.declared.calls.Call.TheVariants.{Ask, SetTarget}, specs.Rogue.Scribbled}
 use Rattle.vb_model.{specs.declared.replies.Reply.Reply, specs.Requests.{BufferTaken, BufferDone}}
@@ -15,7 +16,8 @@ use Rattle.vb_model.specs.declared.replies.Reply.TheVariants.{Done, Posted, Refu
 use Rattle.vb_model.{specs.Guest.{Guest, requests}, specs.declared.calls.Claim.Claim}
 use Rattle.vb_model.specs.Refusals.{refusal_of, inflate_count, deflate_count, oom_count}
 use Rattle.vb_model.specs.Driver.{Reports, Reaps, Fills, Written, pages_needed}
-use Rattle.vb_model.specs.Device.{Takes, TakesBuffer, Works, Finishes, Asks, next_page}
+use Rattle.vb_model.specs.Device.{TakesRequest, TakesBuffer, Works, Finishes, ReturnsBuffer}
+use Rattle.vb_model.specs.Device.{next_page}
 use Rattle.vb_model.{specs.Life.{feature_refusal, Negotiates, lacking}, specs.Determined.Agree}
 use Rattle.vb_model.{specs.Step.{Performs, HonestStep}, proofs.CallSteps.supplied}
 
@@ -52,28 +54,28 @@ same_last : (rs : List Request) (a b : Request) → rs ++ (a ∷ []) ≡ rs ++ (
 same_last [] a b e = cc
 same_last (r ∷ rs) a b e = same_last rs a b (let t : rs ++ (a ∷ []) ≡ rs ++ (b ∷ []) = cc in t)
 
-same_named : (head : ℕ) (a b : List ℕ) (g new new' : Guest) → new ≡ asking Inflating head a g
-    → new' ≡ asking Inflating head b g → new.inflate ≡ new'.inflate → new ≡ new'
+same_named : (head : ℕ) (a b : List ℕ) (g new new' : Guest) → new ≡ after_posting Inflating head a g
+    → new' ≡ after_posting Inflating head b g → new.inflate ≡ new'.inflate → new ≡ new'
 same_named head a b g new new' e e' same = grind (arith, same_last)
 
 -- ---- the parts of steps
 
-fills_same : (buffer : Buffer) (g : Guest) (r : Reply) (new : Guest) (r' : Reply) (new' : Guest)
+fills_same : (buffer : StatisticsBuffer) (g : Guest) (r : Reply) (new : Guest) (r' : Reply) (new' : Guest)
     → Fills buffer g r new → Fills buffer g r' new' → Same r new r' new'
 fills_same NoBuffer g r new r' new' s t = both r r' _ new new' _ s.0 s.1 t.0 t.1
 fills_same (BufferPosted f) g r new r' new' s t = both r r' _ new new' _ s.0 s.1 t.0 t.1
 fills_same (BufferTaken f) g r new r' new' s t = both r r' _ new new' _ s.0 s.1 t.0 t.1
 fills_same (BufferDone f) g r new r' new' s t = both r r' _ new new' _ s.0 s.1 t.0 t.1
 
-takes_buffer_same : (buffer : Buffer) (g : Guest) (r : Reply) (new : Guest) (r' : Reply)
+takes_buffer_same : (buffer : StatisticsBuffer) (g : Guest) (r : Reply) (new : Guest) (r' : Reply)
     (new' : Guest) → TakesBuffer buffer g r new → TakesBuffer buffer g r' new' → Same r new r' new'
 takes_buffer_same NoBuffer g r new r' new' s t = both r r' _ new new' _ s.0 s.1 t.0 t.1
 takes_buffer_same (BufferPosted f) g r new r' new' s t = both r r' _ new new' _ s.0 s.1 t.0 t.1
 takes_buffer_same (BufferTaken f) g r new r' new' s t = both r r' _ new new' _ s.0 s.1 t.0 t.1
 takes_buffer_same (BufferDone f) g r new r' new' s t = both r r' _ new new' _ s.0 s.1 t.0 t.1
 
-asks_same : (buffer : Buffer) (g : Guest) (r : Reply) (new : Guest) (r' : Reply) (new' : Guest)
-    → Asks buffer g r new → Asks buffer g r' new' → Same r new r' new'
+asks_same : (buffer : StatisticsBuffer) (g : Guest) (r : Reply) (new : Guest) (r' : Reply) (new' : Guest)
+    → ReturnsBuffer buffer g r new → ReturnsBuffer buffer g r' new' → Same r new r' new'
 asks_same NoBuffer g r new r' new' s t = absurd s
 asks_same (BufferPosted f) g r new r' new' s t = absurd s
 asks_same (BufferTaken f) g r new r' new' s t = both r r' _ new new' _ s.0 s.1 t.0 t.1
@@ -85,7 +87,7 @@ reaps_same kind [] g r new r' new' s t = both r r' _ new new' _ s.0 s.1 t.0 t.1
 reaps_same kind (x ∷ rest) g r new r' new' s t = both r r' _ new new' _ s.0 s.1 t.0 t.1
 
 takes_same : (kind : Kind) (posted : List Request) (g : Guest) (r : Reply) (new : Guest)
-    (r' : Reply) (new' : Guest) → Takes kind posted g r new → Takes kind posted g r' new'
+    (r' : Reply) (new' : Guest) → TakesRequest kind posted g r new → TakesRequest kind posted g r' new'
     → Same r new r' new'
 takes_same kind [] g r new r' new' s t = both r r' _ new new' _ s.0 s.1 t.0 t.1
 takes_same kind (x ∷ rest) g r new r' new' s t = both r r' _ new new' _ s.0 s.1 t.0 t.1
@@ -148,7 +150,7 @@ performs_agree (Inflate n) g claims r new r' new' s t =
     let head : s.1.0 ≡ t.1.0 = least_same g.inflate s.1.0 t.1.0 s.1.2 t.1.2 in (
       s.1.6 ∙ (ap (λ (h : ℕ). Posted h (inflate_count g n)) head ∙ sym t.1.6),
       λ e. same_named t.1.0 (stranded_first g n ++ s.1.1) (stranded_first g n ++ t.1.1) g new new'
-          (s.1.7 ∙ ap (λ (h : ℕ). asking Inflating h (stranded_first g n ++ s.1.1) g) head) t.1.7 e,
+          (s.1.7 ∙ ap (λ (h : ℕ). after_posting Inflating h (stranded_first g n ++ s.1.1) g) head) t.1.7 e,
     )
 performs_agree (Deflate n) g claims r new r' new' s t =
     deflates_same (deflate_count g n) g r new r' new' s.1 t.1
@@ -160,8 +162,8 @@ performs_agree Ask g claims r new r' new' s t = asks_same g.buffer g r new r' ne
 performs_agree (Reap q) g claims r new r' new' s t = grind (arith, reaps_same)
 performs_agree (Take q) g claims r new r' new' s t =
     same_case (kind_of_queue q) (TakesBuffer g.buffer g r new) (TakesBuffer g.buffer g r' new')
-    (λ kind. Takes kind (requests kind g).posted g r new)
-    (λ kind. Takes kind (requests kind g).posted g r' new') (Same r new r' new') s.1 t.1
+    (λ kind. TakesRequest kind (requests kind g).posted g r new)
+    (λ kind. TakesRequest kind (requests kind g).posted g r' new') (Same r new r' new') s.1 t.1
     (λ s t. takes_buffer_same g.buffer g r new r' new' s t)
     (λ kind s t. takes_same kind (requests kind g).posted g r new r' new' s t)
 performs_agree Work g claims r new r' new' s t = works_same g r new r' new' s.1 t.1

@@ -4,7 +4,7 @@ use Rattle.std.proofs.Common.{◌∷◌, refl, sym, ap, subst, ◌∙◌, arith,
 use Rattle.std.specs.Prelude.{Option, Some, None, slice_get}
 use Rattle.vb_model.specs.Courses.{Course, guest_after, BringsTo, ReapedAt, DeflatePostedAt}
 use Rattle.vb_model.proofs.Offered.{Offered, is_offered, Only, only_done, Reaping, PageMove, Stays}
-use Rattle.vb_model.proofs.Offered.{Strands, Gives, Lends, Asks, Frees, honest_moves}
+use Rattle.vb_model.proofs.Offered.{Strands, Gives, Lends, TakesBack, Frees, honest_moves}
 use Rattle.vb_model.specs.declared.places.Place.TheVariants.{Taking, Stranded}
 use Rattle.vb_model.specs.Requests.{Kind, Inflating, Deflating, place_posted}
 use Rattle.vb_model.{specs.GuestRun.{Entry, Called, Looked, OwnStep}, specs.Courses.WasAskedBack}
@@ -68,7 +68,7 @@ call_turns c page m g new actor call claims reply here next at (Strands e) = Gon
 call_turns c page m g new actor call claims reply here next at (Gives e) = Gone (ap is_away e)
 call_turns c page m g new actor call claims reply here next at (Lends e r) =
     Given e (reaped_at Inflating c page m g actor call claims reply here at r)
-call_turns c page m g new actor call claims reply here next at (Asks was e a) =
+call_turns c page m g new actor call claims reply here next at (TakesBack was e a) =
     Wanted was e (record {
       before = g;
       after = new;

@@ -5,11 +5,13 @@ use Rattle.vb_model.specs.declared.calls.Call.TheVariants.{Init, Reset, Alloc, F
 use Rattle.vb_model.specs.declared.calls.Call.TheVariants.{Scribble, Inflate, Deflate, Oom, Report}
 use Rattle.vb_model.specs.declared.calls.Call.TheVariants.{Stats, Reap, Take, Work, Finish, Sweep}
 use Rattle.vb_model.{specs.declared.calls.Call.TheVariants.{Ask, SetTarget}, specs.Driver.Fills}
-use Rattle.vb_model.{specs.Requests.{Request, Kind, kind_of_queue, Buffer}, specs.Orderly.IsOrderly}
+use Rattle.vb_model.specs.Requests.{Request, Kind, kind_of_queue, StatisticsBuffer}
+use Rattle.vb_model.specs.Orderly.{IsOrderly}
 use Rattle.vb_model.{proofs.CallSteps.{match_cases, not_refused}, specs.Step.{Performs, HonestStep}}
 use Rattle.vb_model.{specs.HonestRuns.{has_buffer, IsAttentive}, specs.declared.replies.Reply.Reply}
-use Rattle.vb_model.{specs.Device.{Takes, TakesBuffer, Asks}, specs.Tables.{is_up, is_not_ready}}
-use Rattle.vb_model.{specs.Refusals.{refusal_of, tests}, specs.declared.calls.Claim.Claim}
+use Rattle.vb_model.specs.Device.{TakesRequest, TakesBuffer, ReturnsBuffer}
+use Rattle.vb_model.specs.Tables.{is_up, is_not_ready}
+use Rattle.vb_model.{specs.Refusals.{refusal_of, causes}, specs.declared.calls.Claim.Claim}
 use Rattle.vb_model.{specs.declared.calls.Call.Call, specs.Guest.{Guest, requests}}
 
 -- ---- a ready guest
@@ -35,20 +37,20 @@ stays_ready g new changed is h e s f b = grind arith
 
 -- ---- by cases on lists, buffers and kinds
 
-fills_ready : (buffer : Buffer) (g : Guest) (reply : Reply) (new : Guest) → g.buffer ≡ buffer
+fills_ready : (buffer : StatisticsBuffer) (g : Guest) (reply : Reply) (new : Guest) → g.buffer ≡ buffer
     → g.status ≡ 15 → IsAttentive g → Fills buffer g reply new → IsAttentive new
 fills_ready state g reply new e is h s = grind arith
 
-takes_buffer_ready : (buffer : Buffer) (g : Guest) (reply : Reply) (new : Guest) → g.buffer ≡ buffer
+takes_buffer_ready : (buffer : StatisticsBuffer) (g : Guest) (reply : Reply) (new : Guest) → g.buffer ≡ buffer
     → g.status ≡ 15 → IsAttentive g → TakesBuffer buffer g reply new → IsAttentive new
 takes_buffer_ready state g reply new e is h s = grind arith
 
-asks_ready : (buffer : Buffer) (g : Guest) (reply : Reply) (new : Guest) → g.buffer ≡ buffer
-    → g.status ≡ 15 → IsAttentive g → Asks buffer g reply new → IsAttentive new
+asks_ready : (buffer : StatisticsBuffer) (g : Guest) (reply : Reply) (new : Guest) → g.buffer ≡ buffer
+    → g.status ≡ 15 → IsAttentive g → ReturnsBuffer buffer g reply new → IsAttentive new
 asks_ready state g reply new e is h s = grind arith
 
 takes_ready : (kind : Kind) (posted : List Request) (g : Guest) (reply : Reply) (new : Guest)
-    → g.status ≡ 15 → IsAttentive g → Takes kind posted g reply new → IsAttentive new
+    → g.status ≡ 15 → IsAttentive g → TakesRequest kind posted g reply new → IsAttentive new
 takes_ready kind posted g reply new is h s = grind arith
 
 -- ---- a call that isn't refused
@@ -66,25 +68,25 @@ performs_attentive (Alloc cpu order) g claims reply new o h e s honest =
 performs_attentive (Free cpu start order) g claims reply new o h e s honest =
     subst IsAttentive (sym s.1.1) h
 performs_attentive (Sweep page) g claims reply new o h e s honest =
-    stays_ready g new _ (open_to g o (not_refused (tests g (Sweep page)) e).0) h s.1.1 refl refl refl
+    stays_ready g new _ (open_to g o (not_refused (causes g (Sweep page)) e).0) h s.1.1 refl refl refl
 performs_attentive (Inflate n) g claims reply new o h e s honest =
-    stays_ready g new _ (up g o (not_refused (tests g (Inflate n)) e).0) h s.1.7 refl refl refl
+    stays_ready g new _ (up g o (not_refused (causes g (Inflate n)) e).0) h s.1.7 refl refl refl
 performs_attentive (Deflate n) g claims reply new o h e s honest =
-    stays_ready g new _ (up g o (not_refused (tests g (Deflate n)) e).0) h s.1.3 refl refl refl
+    stays_ready g new _ (up g o (not_refused (causes g (Deflate n)) e).0) h s.1.3 refl refl refl
 performs_attentive (Oom n) g claims reply new o h e s honest =
-    stays_ready g new _ (up g o (not_refused (tests g (Oom n)) e).0) h s.1.3 refl refl refl
+    stays_ready g new _ (up g o (not_refused (causes g (Oom n)) e).0) h s.1.3 refl refl refl
 performs_attentive (Report from) g claims reply new o h e s honest =
-    stays_ready g new _ (up g o (not_refused (tests g (Report from)) e).0) h s.1.3 refl refl refl
+    stays_ready g new _ (up g o (not_refused (causes g (Report from)) e).0) h s.1.3 refl refl refl
 performs_attentive Stats g claims reply new o h e s honest =
-    fills_ready g.buffer g reply new refl (up g o (not_refused (tests g Stats) e).0) h s.1
+    fills_ready g.buffer g reply new refl (up g o (not_refused (causes g Stats) e).0) h s.1
 performs_attentive Ask g claims reply new o h e s honest =
-    asks_ready g.buffer g reply new refl (open_to g o (not_refused (tests g Ask) e).0) h s.1
+    asks_ready g.buffer g reply new refl (open_to g o (not_refused (causes g Ask) e).0) h s.1
 performs_attentive (Reap q) g claims reply new o h e s honest = grind (arith, h)
 performs_attentive (Take q) g claims reply new o h e s honest =
     elim (match_cases (kind_of_queue q) (TakesBuffer g.buffer g reply new)
-    (λ kind. Takes kind (requests kind g).posted g reply new) s.1) [
-      | inl n ↦ takes_buffer_ready g.buffer g reply new refl (open_to g o (not_refused (tests g (Take q)) e).1.0) h n.1
-      | inr k ↦ takes_ready k.0 (requests k.0 g).posted g reply new (open_to g o (not_refused (tests g (Take q)) e).1.0) h k.2
+    (λ kind. TakesRequest kind (requests kind g).posted g reply new) s.1) [
+      | inl n ↦ takes_buffer_ready g.buffer g reply new refl (open_to g o (not_refused (causes g (Take q)) e).1.0) h n.1
+      | inr k ↦ takes_ready k.0 (requests k.0 g).posted g reply new (open_to g o (not_refused (causes g (Take q)) e).1.0) h k.2
     ]
 performs_attentive Work g claims reply new o h e s honest = grind (arith, h)
 performs_attentive (Finish q i) g claims reply new o h e s honest = grind (arith, h)

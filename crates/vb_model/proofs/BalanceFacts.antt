@@ -133,7 +133,7 @@ world a b = record {
   guests = None ∷ a ∷ None ∷ b ∷ [];
   spares = true
       ∷ [];
-  given_up = Some 2;
+  vacated = Some 2;
 }
 
 abbrev aiming : ℕ → Guest
@@ -150,7 +150,7 @@ needs_from_0_on : needs 16
       guests = Some (known 1 None) ∷ Some (known 2 None)
           ∷ [];
       spares = [];
-      given_up = None;
+      vacated = None;
     }) ≡ record { pages = 64; spare = 1 }
     ∷ record { pages = 64; spare = 2 } ∷ []
 needs_from_0_on = refl

@@ -16,7 +16,7 @@ use Rattle.vb_model.{specs.declared.replies.Reply.Reply, specs.Tests.each_page, 
 use Rattle.vb_model.{specs.declared.replies.Reply.TheVariants.Refused, specs.Requests.kind_of_queue}
 use Rattle.vb_model.{specs.Guest.{all_backed, zero_page}, specs.Refusals.refusal_of}
 use Rattle.vb_model.{specs.Driver.{pages_needed, overwritten}, specs.Step.{Performs, HonestStep}}
-use Rattle.vb_model.specs.Device.{Takes, TakesBuffer, Finishes, settled, used, next_page}
+use Rattle.vb_model.specs.Device.{TakesRequest, TakesBuffer, Finishes, settled, used, next_page}
 use Rattle.vb_model.{specs.Life.{feature_refusal, Negotiates, lacking}, proofs.CallSteps.supplied}
 use Rattle.vb_model.proofs.Tables.{length-each_from, each_page-get}
 
@@ -106,12 +106,12 @@ works_blank g reply new h (inr (Deflating, page, v)) = keeps g new _ v.1 (loses 
 works_blank g reply new h (inr (Reporting_free, page, v)) =
     keeps g new _ v.1 (loses (page ∷ []) g h)
 
-fills_blank : (buffer : Rattle.vb_model.specs.Requests.Buffer) (g : Guest) (reply : Reply)
+fills_blank : (buffer : Rattle.vb_model.specs.Requests.StatisticsBuffer) (g : Guest) (reply : Reply)
     (new : Guest) → IsBlank g → Rattle.vb_model.specs.Driver.Fills buffer g reply new → IsBlank new
 fills_blank state g reply new h s = grind arith
 
-asks_blank : (buffer : Rattle.vb_model.specs.Requests.Buffer) (g : Guest) (reply : Reply)
-    (new : Guest) → IsBlank g → Rattle.vb_model.specs.Device.Asks buffer g reply new → IsBlank new
+asks_blank : (buffer : Rattle.vb_model.specs.Requests.StatisticsBuffer) (g : Guest) (reply : Reply)
+    (new : Guest) → IsBlank g → Rattle.vb_model.specs.Device.ReturnsBuffer buffer g reply new → IsBlank new
 asks_blank state g reply new h s = grind arith
 
 -- a write that isn't refused lies in its page
@@ -139,7 +139,7 @@ performs_blank (Reap q) g claims reply new h r s honest = grind (arith, h)
 performs_blank (Take q) g claims reply new h r s honest =
     search (
       arith,
-      match_cases (kind_of_queue q) (TakesBuffer g.buffer g reply new) (λ kind. Takes kind (requests kind g).posted g reply new) s.1,
+      match_cases (kind_of_queue q) (TakesBuffer g.buffer g reply new) (λ kind. TakesRequest kind (requests kind g).posted g reply new) s.1,
     )
 performs_blank Work g claims reply new h r s honest =
     works_blank g reply new h

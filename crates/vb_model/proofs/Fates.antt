@@ -18,10 +18,10 @@ use Rattle.vb_model.{specs.World.{World, guest_at, with_guest, put_guest}, specs
 use Rattle.vb_model.{specs.declared.replies.Refusal.Refusal, specs.HostEvents.{WorldStep, Happens}}
 use Rattle.vb_model.{specs.declared.replies.Reply.Reply, specs.declared.calls.Claim.Claim}
 use Rattle.vb_model.{specs.declared.calls.Event.Event, specs.declared.calls.Call.Call}
-use Rattle.vb_model.{specs.HostRefusals.world_tests, specs.Guest.{Guest, frame_of}}
+use Rattle.vb_model.{specs.HostRefusals.world_causes, specs.Guest.{Guest, frame_of}}
 use Rattle.vb_model.{specs.Refusals.first_refusal, proofs.CallSteps.match_cases}
 use Rattle.vb_model.specs.declared.calls.Event.TheVariants.{Plug, Unplug, Restart, Guest as OnGuest}
-use Rattle.vb_model.specs.declared.calls.Event.TheVariants.{Query as Asking, Balance}
+use Rattle.vb_model.specs.declared.calls.Event.TheVariants.{Query as OnQuery, Balance}
 use Rattle.vb_model.specs.declared.calls.Event.TheVariants.{Frames as CountFrames}
 
 -- ---- what becomes of a guest
@@ -42,14 +42,14 @@ goes_on w event reply v n g here nr nu s = let m = next event w n reply g v here
 
 -- guest n is there, so the event isn't refused
 not_missing : (w : World) (n m : ℕ) (g : Guest) (refusal : Refusal) → guest_at w.guests n ≡ Some g
-    → m ≡ n → first_refusal (world_tests w (Unplug m)) ≡ Some refusal → ⊥
+    → m ≡ n → first_refusal (world_causes w (Unplug m)) ≡ Some refusal → ⊥
 not_missing w n m g refusal here e r = cc
 
 restarted : (w : World) (m n : ℕ) (reply : Reply) (v : World) (g : Guest)
     → guest_at w.guests n ≡ Some g → m ≡ n → WorldStep w (Restart m) reply v
     → guest_at v.guests n ≡ Some (after_restart g)
 restarted w m n reply v g here e s =
-    elim (match_cases (first_refusal (world_tests w (Restart m))) (Happens (Restart m) w reply v)
+    elim (match_cases (first_refusal (world_causes w (Restart m))) (Happens (Restart m) w reply v)
     (λ refusal. (reply ≡ Refused refusal) × (v ≡ w)) s) [
       | inr r ↦ absurd (not_missing w n m g r.0 here e r.1)
       | inl p ↦
@@ -73,7 +73,7 @@ unplugged : (w : World) (m n : ℕ) (reply : Reply) (v : World) (g : Guest)
     → guest_at w.guests n ≡ Some g → m ≡ n → WorldStep w (Unplug m) reply v
     → guest_at v.guests n ≡ None
 unplugged w m n reply v g here e s =
-    elim (match_cases (first_refusal (world_tests w (Unplug m))) (Happens (Unplug m) w reply v)
+    elim (match_cases (first_refusal (world_causes w (Unplug m))) (Happens (Unplug m) w reply v)
     (λ refusal. (reply ≡ Refused refusal) × (v ≡ w)) s) [
       | inr r ↦ absurd (not_missing w n m g r.0 here e r.1)
       | inl p ↦ ap (λ (u : World). guest_at u.guests n) p.1.1
@@ -96,7 +96,7 @@ fate (Unplug m) w reply v n g here s =
     ]
 fate (Plug size) w reply v n g here s = goes_on w _ reply v n g here (λ e. cc) (λ e. cc) s
 fate (OnGuest m call) w reply v n g here s = goes_on w _ reply v n g here (λ e. cc) (λ e. cc) s
-fate (Asking m query) w reply v n g here s = goes_on w _ reply v n g here (λ e. cc) (λ e. cc) s
+fate (OnQuery m query) w reply v n g here s = goes_on w _ reply v n g here (λ e. cc) (λ e. cc) s
 fate (Balance floor) w reply v n g here s = goes_on w _ reply v n g here (λ e. cc) (λ e. cc) s
 fate CountFrames w reply v n g here s = goes_on w _ reply v n g here (λ e. cc) (λ e. cc) s
 
@@ -213,7 +213,7 @@ absent : (w : World) (event : Event) (reply : Reply) (v : World) (n : ℕ) → W
     → guest_at v.guests n ≡ None
 absent w event reply v n s (inl e) none =
     let q : WorldStep w (Restart n) reply v = subst (λ (x : Event). WorldStep w x reply v) e s in
-    elim (match_cases (first_refusal (world_tests w (Restart n))) (Happens (Restart n) w reply v)
+    elim (match_cases (first_refusal (world_causes w (Restart n))) (Happens (Restart n) w reply v)
     (λ refusal. (reply ≡ Refused refusal) × (v ≡ w)) q) [
       | inr r ↦ ap (λ (u : World). guest_at u.guests n) r.2.1 ∙ none
       | inl p ↦
@@ -225,7 +225,7 @@ absent w event reply v n s (inl e) none =
     ]
 absent w event reply v n s (inr e) none =
     let q : WorldStep w (Unplug n) reply v = subst (λ (x : Event). WorldStep w x reply v) e s in
-    elim (match_cases (first_refusal (world_tests w (Unplug n))) (Happens (Unplug n) w reply v)
+    elim (match_cases (first_refusal (world_causes w (Unplug n))) (Happens (Unplug n) w reply v)
     (λ refusal. (reply ≡ Refused refusal) × (v ≡ w)) q) [
       | inr r ↦ ap (λ (u : World). guest_at u.guests n) r.2.1 ∙ none
       | inl p ↦ ap (λ (u : World). guest_at u.guests n) p.1.1 ∙ with_guest-same n None w.guests

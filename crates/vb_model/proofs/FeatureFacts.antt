@@ -4,8 +4,9 @@ use Rattle.std.specs.Prelude.{Bool, Some, None, not, ◌++◌, ◌+◌}
 use Rattle.vb_model.specs.declared.negotiation.TheConstants.{OFFERED_FEATURES, READY_STATUS}
 use Rattle.vb_model.specs.declared.replies.Refusal.TheVariants.{ClearsBit, OutOfOrder}
 use Rattle.vb_model.specs.Guest.{must_tell_host, stats_vq, deflate_on_oom, reporting, version_1}
-use Rattle.vb_model.specs.Status.{negotiate_refusal, status_refusal, negotiate_tests, status_tests}
-use Rattle.vb_model.specs.Status.{needed_tests, contains, acknowledge, driver, driver_ok}
+use Rattle.vb_model.specs.Status.{negotiate_refusal, status_refusal, negotiate_causes}
+use Rattle.vb_model.specs.Status.{status_causes}
+use Rattle.vb_model.specs.Status.{needed_causes, contains, acknowledge, driver, driver_ok}
 use Rattle.vb_model.specs.declared.replies.Refusal.TheVariants.{FeatureNotOffered, VersionMissing}
 use Rattle.vb_model.{specs.declared.negotiation.TheConstants.FAILED_STATUS, specs.Guest.is_ready}
 use Rattle.vb_model.{specs.FirstRefusal.{◌⇒◌, first_refusal}, specs.Status.{features_ok, failed}}
@@ -92,12 +93,12 @@ version_with_others = refl
 -- just what its two writes are refused for: of the features, at ACKNOWLEDGE and DRIVER, and of
 -- FEATURES_OK then
 as_written : (wanted : ℕ)
-    → feature_refusal wanted ≡ first_refusal (negotiate_tests 3 wanted ++ status_tests 3 wanted 11)
+    → feature_refusal wanted ≡ first_refusal (negotiate_causes 3 wanted ++ status_causes 3 wanted 11)
 as_written wanted = cases (contains OFFERED_FEATURES wanted)
   where
     cases : (offered : Bool)
-        → first_refusal ((not offered ⇒ FeatureNotOffered) ∷ needed_tests wanted)
-        ≡ first_refusal ((not offered ⇒ FeatureNotOffered) ∷ status_tests 3 wanted 11)
+        → first_refusal ((not offered ⇒ FeatureNotOffered) ∷ needed_causes wanted)
+        ≡ first_refusal ((not offered ⇒ FeatureNotOffered) ∷ status_causes 3 wanted 11)
     cases true = refl
     cases false = refl
 

@@ -10,13 +10,13 @@ use Rattle.vb_model.{specs.HostLaws.{HostStepsAgree, CallsLeaveTheHost}, specs.Q
 use Rattle.vb_model.{specs.declared.replies.Refusal.Refusal, specs.Balance.{AreTargets, shortage}}
 use Rattle.vb_model.{specs.declared.replies.Reply.Reply, specs.Guest.{Guest, Config, fresh}}
 use Rattle.vb_model.{specs.declared.calls.Query.Query, specs.FirstRefusal.first_refusal}
-use Rattle.vb_model.{specs.HostRefusals.world_tests, proofs.Unique.unique}
-use Rattle.vb_model.specs.declared.calls.Event.TheVariants.{Guest as OnGuest, Query as Asking}
+use Rattle.vb_model.{specs.HostRefusals.world_causes, proofs.Unique.unique}
+use Rattle.vb_model.specs.declared.calls.Event.TheVariants.{Guest as OnGuest, Query as OnQuery}
 use Rattle.vb_model.specs.declared.calls.Event.TheVariants.{Balance, Frames as CountFrames}
-use Rattle.vb_model.specs.declared.calls.Query.TheVariants.{Places as AskPlaces, PagesAt}
-use Rattle.vb_model.specs.declared.calls.Query.TheVariants.{PagesBallooned, Balloon as AskBalloon}
-use Rattle.vb_model.specs.declared.calls.Query.TheVariants.{Memory as AskMemory}
-use Rattle.vb_model.specs.declared.calls.Query.TheVariants.{Backing as AskBacking}
+use Rattle.vb_model.specs.declared.calls.Query.TheVariants.{Places as QueryPlaces, PagesAt}
+use Rattle.vb_model.specs.declared.calls.Query.TheVariants.{PagesBallooned, Balloon as QueryBalloon}
+use Rattle.vb_model.specs.declared.calls.Query.TheVariants.{Memory as QueryMemory}
+use Rattle.vb_model.specs.declared.calls.Query.TheVariants.{Backing as QueryBacking}
 
 -- either the event is refused for this, and nothing is changed, or this happens
 abbrev Either : Option Refusal → World → Reply → World → Type 0 → Type 0
@@ -25,11 +25,11 @@ Either r w reply new Else = MatchOption r Else (λ refusal. (reply ≡ Refused r
 -- ---- what one call leaves
 
 abbrev SameHost : World → World → Type 0
-SameHost w new = (new.frames ≡ w.frames) × (new.spares ≡ w.spares) × (new.given_up ≡ w.given_up)
+SameHost w new = (new.frames ≡ w.frames) × (new.spares ≡ w.spares) × (new.vacated ≡ w.vacated)
 
 pub call_leaves_host : CallsLeaveTheHost
 call_leaves_host w n call reply new s =
-    by (first_refusal (world_tests w (OnGuest n call))) s
+    by (first_refusal (world_causes w (OnGuest n call))) s
   where
     performed : (g : Option Guest)
         → MatchOption g ⊥ (λ h. Calls n h w call reply new) → SameHost w new
@@ -37,7 +37,7 @@ call_leaves_host w n call reply new s =
     performed (Some g) c = (
       ap (λ (v : World). v.frames) c.4,
       ap (λ (v : World). v.spares) c.4,
-      ap (λ (v : World). v.given_up) c.4,
+      ap (λ (v : World). v.vacated) c.4,
     )
 
     by : (r : Option Refusal) → Either r w reply new (Happens (OnGuest n call) w reply new)
@@ -46,7 +46,7 @@ call_leaves_host w n call reply new s =
     by (Some refusal) c = (
       ap (λ (v : World). v.frames) c.1,
       ap (λ (v : World). v.spares) c.1,
-      ap (λ (v : World). v.given_up) c.1,
+      ap (λ (v : World). v.vacated) c.1,
     )
 
 -- ---- two answers to one event
@@ -71,10 +71,10 @@ restarts_agree w n (Some g) reply new reply' new' a b = (a.0 ∙ sym b.0, a.1 �
 
 answers_agree : (query : Query) (g : Guest) (reply reply' : Reply) → Answers query g reply
     → Answers query g reply' → reply ≢ Refused NoMemory → reply' ≢ Refused NoMemory → reply ≡ reply'
-answers_agree AskPlaces g reply reply' a b x y = a ∙ sym b
-answers_agree AskBalloon g reply reply' a b x y = a ∙ sym b
-answers_agree AskMemory g reply reply' a b x y = a ∙ sym b
-answers_agree (AskBacking page) g reply reply' a b x y = a ∙ sym b
+answers_agree QueryPlaces g reply reply' a b x y = a ∙ sym b
+answers_agree QueryBalloon g reply reply' a b x y = a ∙ sym b
+answers_agree QueryMemory g reply reply' a b x y = a ∙ sym b
+answers_agree (QueryBacking page) g reply reply' a b x y = a ∙ sym b
 answers_agree (PagesAt place) g reply reply' (inl a) (inl b) x y = a ∙ sym b
 answers_agree (PagesAt place) g reply reply' (inr a) b x y = absurd (x a)
 answers_agree (PagesAt place) g reply reply' (inl a) (inr b) x y = absurd (y b)
@@ -120,7 +120,7 @@ plugged_in config rest w n =
       frames = w.frames;
       guests = with_guest n (Some (fresh config 0)) w.guests;
       spares = rest;
-      given_up = None;
+      vacated = None;
     }
 
 one_number : (config : Config) (rest : List Bool) (w : World) (reply : Reply) (new : World)
@@ -129,15 +129,15 @@ one_number : (config : Config) (rest : List Bool) (w : World) (reply : Reply) (n
 one_number config rest w reply new reply' new' p q e =
     (p.3 ∙ (ap Plugged e ∙ sym q.3), p.4 ∙ (ap (plugged_in config rest w) e ∙ sym q.4))
 
-last_number : (given_up : Option ℕ) (last n : ℕ) → given_up ≡ Some last
-    → MatchOption given_up ⊤ (λ number. n ≡ number) → n ≡ last
+last_number : (vacated : Option ℕ) (last n : ℕ) → vacated ≡ Some last
+    → MatchOption vacated ⊤ (λ number. n ≡ number) → n ≡ last
 last_number None last n e m = absurd cc
 last_number (Some number) last n e m = let same : number ≡ last = cc in m ∙ same
 
 abbrev AgreeOnPlug : World → Reply → World → Reply → World → Type 0
 AgreeOnPlug w reply new reply' new' =
     (reply ≡ reply' → new ≡ new')
-    × ((last : ℕ) → w.given_up ≡ Some last → reply ≡ reply')
+    × ((last : ℕ) → w.vacated ≡ Some last → reply ≡ reply')
     × ((refusal : Refusal) → reply ≡ Refused refusal → reply ≡ reply')
 
 plugs_agree : (config : Config) (rest : List Bool) (w : World) (reply : Reply) (new : World)
@@ -147,7 +147,7 @@ plugs_agree config rest w reply new reply' new' p q = (
   (λ e. (one_number config rest w reply new reply' new' p q
       (number_of p.0 q.0 (sym p.3 ∙ (e ∙ q.3)))).1),
   (λ last e. (one_number config rest w reply new reply' new' p q
-      (last_number w.given_up last p.0 e p.2 ∙ sym (last_number w.given_up last q.0 e q.2))).0),
+      (last_number w.vacated last p.0 e p.2 ∙ sym (last_number w.vacated last q.0 e q.2))).0),
   (λ refusal e. absurd (none refusal (sym p.3 ∙ e))),
 )
   where
@@ -176,7 +176,7 @@ plugs_in_agree pages queue_size processors (paced ∷ rest) w reply new reply' n
 
 pub hosts_agree : HostStepsAgree
 hosts_agree w (Plug size) reply new reply' new' s t x y =
-    by (first_refusal (world_tests w (Plug size))) s t
+    by (first_refusal (world_causes w (Plug size))) s t
   where
     by : (r : Option Refusal)
         → Either r w reply new (PlugsIn size.pages size.queue_size size.processors w.spares w reply new)
@@ -187,17 +187,17 @@ hosts_agree w (Plug size) reply new reply' new' s t x y =
     by (Some refusal) a b =
         ((λ e. a.1 ∙ sym b.1), (λ last e. a.0 ∙ sym b.0), (λ other e. a.0 ∙ sym b.0))
 hosts_agree w (Unplug n) reply new reply' new' s t x y =
-    by_refusal (first_refusal (world_tests w (Unplug n))) w reply new reply' new' _ _ s t
+    by_refusal (first_refusal (world_causes w (Unplug n))) w reply new reply' new' _ _ s t
     (λ a b. (a.0 ∙ sym b.0, a.1 ∙ sym b.1))
 hosts_agree w (Restart n) reply new reply' new' s t x y =
-    by_refusal (first_refusal (world_tests w (Restart n))) w reply new reply' new' _ _ s t
+    by_refusal (first_refusal (world_causes w (Restart n))) w reply new reply' new' _ _ s t
     (λ a b. restarts_agree w n (guest_at w.guests n) reply new reply' new' a b)
 hosts_agree w (OnGuest n call) reply new reply' new' s t x y =
     let a = call_leaves_host w n call reply new s in
     let b = call_leaves_host w n call reply' new' t in
     (a.0 ∙ sym b.0, a.1 ∙ sym b.1, a.2 ∙ sym b.2)
-hosts_agree w (Asking n query) reply new reply' new' s t x y =
-    by_refusal (first_refusal (world_tests w (Asking n query))) w reply new reply' new' _ _ s t
+hosts_agree w (OnQuery n query) reply new reply' new' s t x y =
+    by_refusal (first_refusal (world_causes w (OnQuery n query))) w reply new reply' new' _ _ s t
     (λ a b. queries_agree query w (guest_at w.guests n) reply new reply' new' a b x y)
 hosts_agree w (Balance floor) reply new reply' new' s t x y =
     balances_agree floor w reply new reply' new' s t

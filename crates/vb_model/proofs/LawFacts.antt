@@ -16,7 +16,7 @@ use Rattle.vb_model.specs.declared.replies.Reply.TheVariants.{Plugged, Done, Fra
 use Rattle.vb_model.{specs.HostLaws.WorldsAgree, specs.declared.calls.Claim.Claim}
 use Rattle.vb_model.specs.StepLaws.{HasNoReservedBallooned, IsUnchanged, call_may_want}
 use Rattle.vb_model.{specs.declared.calls.Claim.TheVariants.Gave, proofs.Samples.{ready, plug}}
-use Rattle.vb_model.specs.declared.calls.Event.TheVariants.{Guest as OnGuest, Query as Asking}
+use Rattle.vb_model.specs.declared.calls.Event.TheVariants.{Guest as OnGuest, Query as OnQuery}
 use Rattle.vb_model.specs.declared.calls.Event.TheVariants.{Balance, Frames as CountFrames}
 
 abbrev Same : ℕ → ℕ → Type 0
@@ -27,7 +27,7 @@ abbrev backed : Guest
 backed = record ready { frames = replicate 16 None ++ (Some 5 ∷ replicate 47 None) }
 
 abbrev world : World
-world = record { frames = 6; guests = None ∷ Some backed ∷ []; spares = []; given_up = None }
+world = record { frames = 6; guests = None ∷ Some backed ∷ []; spares = []; vacated = None }
 
 -- ---- events that are made for a guest, and those that aren't
 
@@ -41,7 +41,7 @@ own_unplug : IsOfOthers 1 (Unplug 1) → ⊥
 own_unplug o = o.no_unplug refl
 
 anothers_events : IsOfOthers 1 (OnGuest 0 Work) × IsOfOthers 1 (Restart 2) × IsOfOthers 1 (Unplug 0)
-    × IsOfOthers 1 (Asking 1 Places) × IsOfOthers 1 (Balance 0) × IsOfOthers 1 CountFrames
+    × IsOfOthers 1 (OnQuery 1 Places) × IsOfOthers 1 (Balance 0) × IsOfOthers 1 CountFrames
     × IsOfOthers 1 (plug 64 8 1)
 anothers_events = grind arith
 
@@ -52,7 +52,7 @@ a_frame_is_there h = h 16 5 (record { guest = backed; is_there = refl; has = ref
 
 -- a page wants a frame while no frame is out; or no page wants one
 abbrev empty : World
-empty = record { frames = 6; guests = []; spares = []; given_up = None }
+empty = record { frames = 6; guests = []; spares = []; vacated = None }
 
 frame_0_is_free : WantOfFrames empty (17 ∷ []) → ⊥
 frame_0_is_free want = by want.claimed want.fewer want.all_out
@@ -80,14 +80,14 @@ AreDetermined event =
     × (WorldsAgree event world Done world Done empty → ⊥)
 
 determined_events : AreDetermined (Unplug 1) × AreDetermined (Restart 1)
-    × AreDetermined (Asking 1 Places) × AreDetermined (Balance 0) × AreDetermined CountFrames
+    × AreDetermined (OnQuery 1 Places) × AreDetermined (Balance 0) × AreDetermined CountFrames
 determined_events = grind arith
 
 -- with one number one world, with a number given up one number, and refused or not
 one_number_two_worlds : WorldsAgree (plug 64 8 1) world (Plugged 0) world (Plugged 0) empty → ⊥
 one_number_two_worlds a = other_world (a.0 refl)
 
-two_numbers : WorldsAgree (plug 64 8 1) (record world { given_up = Some 0 }) (Plugged 0) world
+two_numbers : WorldsAgree (plug 64 8 1) (record world { vacated = Some 0 }) (Plugged 0) world
     (Plugged 2) world → ⊥
 two_numbers a = let e : Plugged 0 ≡ Plugged 2 = a.1 0 refl in cc
 
@@ -103,7 +103,7 @@ other_spares : WorldsAgree (OnGuest 1 Work) world Done world Done
 other_spares a = let e : Same 0 1 = ap (λ (spares : List Bool). length spares) a.1 in omega arith
 
 other_number : WorldsAgree (OnGuest 1 Work) world Done world Done
-    (record world { given_up = Some 3 }) → ⊥
+    (record world { vacated = Some 3 }) → ⊥
 other_number a = let e : Same 4 3 = ap (λ (n : Option ℕ). unwrap_or n 4) a.2 in omega arith
 
 -- ---- reserved pages
@@ -169,7 +169,7 @@ wants_of_events : map (may_want_memory world)
     ∷ false ∷ false ∷ []
 wants_of_events = refl
 
-wants_of_questions : map (λ query. may_want_memory world (Asking 1 query))
+wants_of_questions : map (λ query. may_want_memory world (OnQuery 1 query))
     (Places ∷ PagesAt Lent ∷ PagesBallooned ∷ Balloon ∷ Memory ∷ Backing 16 ∷ []) ≡ false ∷ true
     ∷ true ∷ false ∷ false ∷ false ∷ []
 wants_of_questions = refl

@@ -115,7 +115,7 @@ three_guests middle =
       guests = Some ready ∷ middle ∷ Some down ∷ [];
       spares = true ∷ false
           ∷ [];
-      given_up = Some 3;
+      vacated = Some 3;
     }
 
 -- of three guests just the one is renewed; the host stays as it was
@@ -136,7 +136,7 @@ frames_go_back = refl
 -- the guest is gone, its frames with it, and its number is the one last given up; its device isn't
 -- a spare again
 unplug : WorldStep (three_guests (Some full)) (Unplug 1) Done
-    (record (three_guests None) { given_up = Some 1 })
+    (record (three_guests None) { vacated = Some 1 })
 unplug = (refl, refl)
 
 frames_are_gone : used_frames (three_guests None) ≡ 0

@@ -12,15 +12,15 @@ use Rattle.vb_model.{specs.Driver.{AreClaimsFor, claim_refusal}, specs.Life.afte
 use Rattle.vb_model.{specs.Rogue.{pages_to_back, is_read}, specs.Queries.Answers}
 use Rattle.vb_model.proofs.Changes.{Balanced, Sets, Comes_up_short, balance_cases}
 use Rattle.vb_model.{specs.World.{World, guest_at, with_guest, put_guest}, specs.StepLaws.is_list}
-use Rattle.vb_model.{specs.HostEvents.{Happens, Calls, PlugsIn}, specs.HostRefusals.world_tests}
+use Rattle.vb_model.{specs.HostEvents.{Happens, Calls, PlugsIn}, specs.HostRefusals.world_causes}
 use Rattle.vb_model.{proofs.CallSteps.match_cases, proofs.Wanting.no_memory_exact}
 use Rattle.vb_model.specs.declared.calls.Event.TheVariants.{Plug, Unplug, Restart, Guest as OnGuest}
-use Rattle.vb_model.specs.declared.calls.Event.TheVariants.{Query as Asking, Balance}
+use Rattle.vb_model.specs.declared.calls.Event.TheVariants.{Query as OnQuery, Balance}
 use Rattle.vb_model.specs.declared.calls.Event.TheVariants.{Frames as CountFrames}
-use Rattle.vb_model.specs.declared.calls.Query.TheVariants.{Places as AskPlaces, PagesAt}
-use Rattle.vb_model.specs.declared.calls.Query.TheVariants.{PagesBallooned, Balloon as AskBalloon}
-use Rattle.vb_model.specs.declared.calls.Query.TheVariants.{Memory as AskMemory}
-use Rattle.vb_model.specs.declared.calls.Query.TheVariants.{Backing as AskBacking}
+use Rattle.vb_model.specs.declared.calls.Query.TheVariants.{Places as QueryPlaces, PagesAt}
+use Rattle.vb_model.specs.declared.calls.Query.TheVariants.{PagesBallooned, Balloon as QueryBalloon}
+use Rattle.vb_model.specs.declared.calls.Query.TheVariants.{Memory as QueryMemory}
+use Rattle.vb_model.specs.declared.calls.Query.TheVariants.{Backing as QueryBacking}
 
 -- a reply that isn't want of memory
 not_wanted : {A : Type 0} (reply : Reply) → Refused NoMemory ≡ reply → wants reply ≡ false → A
@@ -72,12 +72,12 @@ calls_want n call g w v here s =
 
 answers_want : (query : Query) (g : Guest) → Answers query g (Refused NoMemory)
     → is_list query ≡ true
-answers_want AskPlaces g e = not_wanted _ e refl
+answers_want QueryPlaces g e = not_wanted _ e refl
 answers_want (PagesAt place) g e = refl
 answers_want PagesBallooned g e = refl
-answers_want AskBalloon g e = not_wanted _ e refl
-answers_want AskMemory g e = not_wanted _ e refl
-answers_want (AskBacking page) g e = not_wanted _ e refl
+answers_want QueryBalloon g e = not_wanted _ e refl
+answers_want QueryMemory g e = not_wanted _ e refl
+answers_want (QueryBacking page) g e = not_wanted _ e refl
 
 -- ---- an event
 
@@ -104,7 +104,7 @@ happens_want (OnGuest n call) w v s =
       | inl none ↦ absurd none.1
       | inr g ↦ calls_want n call g.0 w v g.1 g.2
     ]
-happens_want (Asking n query) w v s =
+happens_want (OnQuery n query) w v s =
     elim (match_cases (guest_at w.guests n) ⊥ (λ g. Answers query g (Refused NoMemory)) s.0) [
       | inl none ↦ absurd none.1
       | inr g ↦ (answers_want query g.0 g.2, s.1)
@@ -117,20 +117,20 @@ happens_want (Balance floor) w v s = by (balance_cases floor w (Refused NoMemory
     by (Sets targets are said is) = not_wanted _ said refl
 happens_want CountFrames w v s = not_wanted _ s.0 refl
 
-tests_of_others : (w : World) (event : Event) → none_wants (world_tests w event) ≡ true
-tests_of_others w (Plug size) = refl
-tests_of_others w (Unplug n) = refl
-tests_of_others w (Restart n) = refl
-tests_of_others w (OnGuest n call) = refl
-tests_of_others w (Asking n query) = refl
-tests_of_others w (Balance floor) = refl
-tests_of_others w CountFrames = refl
+causes_of_others : (w : World) (event : Event) → none_wants (world_causes w event) ≡ true
+causes_of_others w (Plug size) = refl
+causes_of_others w (Unplug n) = refl
+causes_of_others w (Restart n) = refl
+causes_of_others w (OnGuest n call) = refl
+causes_of_others w (OnQuery n query) = refl
+causes_of_others w (Balance floor) = refl
+causes_of_others w CountFrames = refl
 
 pub wants_change_nothing : WantsChangeNothing
 wants_change_nothing w event v s =
-    elim (match_cases (first_refusal (world_tests w event)) (Happens event w (Refused NoMemory) v)
+    elim (match_cases (first_refusal (world_causes w event)) (Happens event w (Refused NoMemory) v)
     (λ r. (Refused NoMemory ≡ Refused r) × (v ≡ w)) s) [
       | inl p ↦ happens_want event w v p.1
       | inr r ↦ not_wanted (Refused r.0) r.2.0
-          (refused_otherwise (world_tests w event) r.0 (tests_of_others w event) r.1)
+          (refused_otherwise (world_causes w event) r.0 (causes_of_others w event) r.1)
     ]

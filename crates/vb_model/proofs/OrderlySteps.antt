@@ -13,15 +13,17 @@ use Rattle.vb_model.specs.Pages.{Block, pages_of, pages_of_all, is_free, is_used
 use Rattle.vb_model.specs.Pages.{is_lent, is_reporting, is_reserved, place_of, placed, size}
 use Rattle.vb_model.specs.Requests.{Request, Requests, no_requests, outstanding, Kind, Inflating}
 use Rattle.vb_model.specs.Requests.{Deflating, Reporting_free, kind_of_queue, place_posted}
-use Rattle.vb_model.specs.Requests.{places_reaped, Buffer, NoBuffer, BufferPosted, BufferTaken}
-use Rattle.vb_model.specs.Refusals.{refusal_of, tests, room, deflate_count, oom_count}
+use Rattle.vb_model.specs.Requests.{places_reaped, StatisticsBuffer, NoBuffer, BufferPosted}
+use Rattle.vb_model.specs.Requests.{BufferTaken}
+use Rattle.vb_model.specs.Refusals.{refusal_of, causes, room, deflate_count, oom_count}
 use Rattle.vb_model.specs.Driver.{Reaps, Fills, Written, pages_needed, stranded_first, lowest_lent}
 use Rattle.vb_model.proofs.GuestSteps.{placed-get, not_reserved, held_used, inflate_giving}
 use Rattle.vb_model.proofs.GuestSteps.{deflate_there, length-reaped, report_reporting}
 use Rattle.vb_model.proofs.CallSteps.{match_cases, supplying_cases, works_cases, not_refused}
 use Rattle.vb_model.proofs.CallSteps.{supplied, inflated_pages, lent_pages, wholly_free_pages}
 use Rattle.vb_model.proofs.InOrder.{orderly_posting, orderly_take, orderly_work, orderly_finish}
-use Rattle.vb_model.specs.Device.{Takes, TakesBuffer, Finishes, Asks, settled, used, visited}
+use Rattle.vb_model.specs.Device.{TakesRequest, TakesBuffer, Finishes, ReturnsBuffer, settled, used}
+use Rattle.vb_model.specs.Device.{visited}
 use Rattle.vb_model.specs.Guest.{Guest, Config, fresh, requests, with_requests, tells_host}
 use Rattle.vb_model.proofs.PageSteps.{can_be_given, after_take, after_reap, outside-range}
 use Rattle.vb_model.specs.declared.places.Place.TheVariants.{Giving, Lent, Reporting}
@@ -204,22 +206,22 @@ reaps_order kind (r ∷ rest) g reply new c h e s =
     subst IsOrderly (sym s.1) (kept_reap kind g r rest c h e)
 
 takes_order : (kind : Kind) (posted : List Request) (g : Guest) (reply : Reply) (new : Guest)
-    → IsOrderly g → (requests kind g).posted ≡ posted → Takes kind posted g reply new
+    → IsOrderly g → (requests kind g).posted ≡ posted → TakesRequest kind posted g reply new
     → IsOrderly new
 takes_order kind [] g reply new h e s = subst IsOrderly (sym s.1) h
 takes_order kind (r ∷ rest) g reply new h e s =
     subst IsOrderly (sym s.1) (kept_take kind g r rest h e)
 
-fills_order : (buffer : Buffer) (g : Guest) (reply : Reply) (new : Guest) → IsOrderly g
+fills_order : (buffer : StatisticsBuffer) (g : Guest) (reply : Reply) (new : Guest) → IsOrderly g
     → Fills buffer g reply new → IsOrderly new
 fills_order state g reply new h s = grind arith
 
-takes_buffer_order : (buffer : Buffer) (g : Guest) (reply : Reply) (new : Guest) → IsOrderly g
+takes_buffer_order : (buffer : StatisticsBuffer) (g : Guest) (reply : Reply) (new : Guest) → IsOrderly g
     → TakesBuffer buffer g reply new → IsOrderly new
 takes_buffer_order state g reply new h s = grind arith
 
-asks_order : (buffer : Buffer) (g : Guest) (reply : Reply) (new : Guest) → IsOrderly g
-    → Asks buffer g reply new → IsOrderly new
+asks_order : (buffer : StatisticsBuffer) (g : Guest) (reply : Reply) (new : Guest) → IsOrderly g
+    → ReturnsBuffer buffer g reply new → IsOrderly new
 asks_order state g reply new h s = grind arith
 
 negotiates_order : (o : Option Refusal) (wanted : ℕ) (g : Guest) (reply : Reply) (new : Guest)
@@ -231,7 +233,7 @@ negotiates_order (Some refusal) wanted g reply new e h s = grind (arith, h)
 
 deflates_order : (g : Guest) (count head : ℕ) → IsOrderly g
     → Rattle.vb_model.specs.Requests.IsLeastHead g.deflate head → outstanding g.deflate < room g
-    → IsOrderly (Rattle.vb_model.specs.Driver.asking Deflating head (lowest_lent count g) g)
+    → IsOrderly (Rattle.vb_model.specs.Driver.after_posting Deflating head (lowest_lent count g) g)
 deflates_order g count head h least now =
     with_deflate g _ (placed (lowest_lent count g) (place_posted (tells_host g) Deflating) g.places) h
     (orderly_posting (room g) g.deflate head (lowest_lent count g) h.deflating least now
@@ -262,12 +264,12 @@ performs_order (Alloc cpu order) g claims reply new c h e s honest =
           (λ page k. not_reserved _ is_free refl (wholly_free_pages g.places b page s.1.1 k));
       blocks = blocks_with g.config.pages b g.held
           (free_block g.config.pages g.places b h.tabled
-          (ltb-false _ _ (not_refused (tests g (Alloc cpu order)) e).0) s.1.1) h.blocks;
+          (ltb-false _ _ (not_refused (causes g (Alloc cpu order)) e).0) s.1.1) h.blocks;
       agreed = h.agreed;
     })
 performs_order (Free cpu start order) g claims reply new c h e s honest =
     let b : Block = record { start = start; order = order } in
-    let n = not_refused (tests g (Free cpu start order)) e in
+    let n = not_refused (causes g (Free cpu start order)) e in
     subst IsOrderly (sym s.1.1)
     (record {
       inflating = h.inflating;
@@ -281,7 +283,7 @@ performs_order (Free cpu start order) g claims reply new c h e s honest =
       agreed = h.agreed;
     })
 performs_order (Inflate n) g claims reply new c h e s honest =
-    let t = not_refused (tests g (Inflate n)) e in
+    let t = not_refused (causes g (Inflate n)) e in
     let pages : List ℕ = stranded_first g n ++ s.1.1 in
     subst IsOrderly (sym s.1.7)
     (with_inflate g _ (placed pages Giving g.places) h
@@ -292,17 +294,17 @@ performs_order (Inflate n) g claims reply new c h e s honest =
     (moved g.config.queue_size g.config.pages pages Giving g.places h.unreserved refl
     (λ page k. not_reserved _ can_be_given refl (inflated_pages g n s.1.1 page s.1.3 k))))
 performs_order (Deflate n) g claims reply new c h e s honest =
-    let t = not_refused (tests g (Deflate n)) e in
+    let t = not_refused (causes g (Deflate n)) e in
     subst IsOrderly (sym s.1.3)
     (deflates_order g (deflate_count g n) s.1.0 h s.1.1
     (has_room (room g) (outstanding g.deflate) t.1.1.0))
 performs_order (Oom n) g claims reply new c h e s honest =
-    let t = not_refused (tests g (Oom n)) e in
+    let t = not_refused (causes g (Oom n)) e in
     subst IsOrderly (sym s.1.3)
     (deflates_order g (oom_count g n) s.1.0 h s.1.1
     (has_room (room g) (outstanding g.deflate) t.1.1.0))
 performs_order (Report from) g claims reply new c h e s honest =
-    let t = not_refused (tests g (Report from)) e in
+    let t = not_refused (causes g (Report from)) e in
     let pages : List ℕ = pages_of_all (reported_blocks g from) in
     subst IsOrderly (sym s.1.3)
     (with_report g _ (placed pages Reporting g.places) h
@@ -323,7 +325,7 @@ performs_order (Reap q) g claims reply new c h e s honest =
     ]
 performs_order (Take q) g claims reply new c h e s honest =
     elim (match_cases (kind_of_queue q) (TakesBuffer g.buffer g reply new)
-    (λ kind. Takes kind (requests kind g).posted g reply new) s.1) [
+    (λ kind. TakesRequest kind (requests kind g).posted g reply new) s.1) [
       | inl n ↦ takes_buffer_order g.buffer g reply new h n.1
       | inr k ↦ takes_order k.0 (requests k.0 g).posted g reply new h refl k.2
     ]

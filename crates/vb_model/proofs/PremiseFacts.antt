@@ -22,7 +22,7 @@ abbrev Same : ℕ → ℕ → Type 0
 Same a b = a ≡ b
 
 abbrev at : Option Guest → World
-at g = record { frames = 64; guests = Some ready ∷ g ∷ []; spares = []; given_up = None }
+at g = record { frames = 64; guests = Some ready ∷ g ∷ []; spares = []; vacated = None }
 
 -- guest 1 in three states, with two events between
 abbrev three : Option Guest → Event → Option Guest → Event → Option Guest → History

@@ -9,11 +9,11 @@ use Rattle.vb_model.{specs.declared.replies.Refusal.TheVariants.NoMemory, specs.
 use Rattle.vb_model.{specs.declared.places.PageRun.PageRun, specs.declared.replies.Reply.Reply}
 use Rattle.vb_model.{specs.declared.calls.Query.Query, specs.Queries.{Answers, runs}}
 use Rattle.vb_model.{proofs.Samples.{ready, mixed}, specs.HostEvents.WorldStep}
-use Rattle.vb_model.specs.declared.calls.Event.TheVariants.{Query as Asking}
-use Rattle.vb_model.specs.declared.calls.Query.TheVariants.{Places as AskPlaces, PagesAt}
-use Rattle.vb_model.specs.declared.calls.Query.TheVariants.{PagesBallooned, Balloon as AskBalloon}
-use Rattle.vb_model.specs.declared.calls.Query.TheVariants.{Memory as AskMemory}
-use Rattle.vb_model.specs.declared.calls.Query.TheVariants.{Backing as AskBacking}
+use Rattle.vb_model.specs.declared.calls.Event.TheVariants.{Query as OnQuery}
+use Rattle.vb_model.specs.declared.calls.Query.TheVariants.{Places as QueryPlaces, PagesAt}
+use Rattle.vb_model.specs.declared.calls.Query.TheVariants.{PagesBallooned, Balloon as QueryBalloon}
+use Rattle.vb_model.specs.declared.calls.Query.TheVariants.{Memory as QueryMemory}
+use Rattle.vb_model.specs.declared.calls.Query.TheVariants.{Backing as QueryBacking}
 
 abbrev run : ℕ → ℕ → PageRun
 run first last = record { first = first; last = last }
@@ -21,7 +21,7 @@ run first last = record { first = first; last = last }
 -- ---- places
 
 -- seven different counts, each in its own field
-seven_counts : Answers AskPlaces mixed
+seven_counts : Answers QueryPlaces mixed
     (Places (record {
       free = 21;
       used = 2;
@@ -76,22 +76,22 @@ ballooned_pages_are : Answers PagesBallooned ballooned (Pages (run 41 42 ∷ run
 ballooned_pages_are = inl refl
 
 -- the ballooned pages are counted, `actual` and the target are as they stand
-four_numbers : Answers AskBalloon (record ballooned { actual = 9; target = 11; status = 131 })
+four_numbers : Answers QueryBalloon (record ballooned { actual = 9; target = 11; status = 131 })
     (Balloon (record { ballooned = 3; actual = 9; target = 11; status = 131 }))
 four_numbers = refl
 
 -- ---- statistics: what is free, then the total; each may be missing
 
-free_then_total : Answers AskMemory
+free_then_total : Answers QueryMemory
     (record ready { last = record { free = Some 196608; total = Some 262144 } })
     (Statistics (record { free = Some 196608; total = Some 262144 }))
 free_then_total = refl
 
-no_total : Answers AskMemory (record ready { last = record { free = Some 8192; total = None } })
+no_total : Answers QueryMemory (record ready { last = record { free = Some 8192; total = None } })
     (Statistics (record { free = Some 8192; total = None }))
 no_total = refl
 
-nothing_known : Answers AskMemory ready (Statistics (record { free = None; total = None }))
+nothing_known : Answers QueryMemory ready (Statistics (record { free = None; total = None }))
 nothing_known = refl
 
 -- ---- the frame of a page; there is none past the end
@@ -99,13 +99,13 @@ nothing_known = refl
 abbrev backed : Guest
 backed = record ready { frames = replicate 16 None ++ (Some 13 ∷ replicate 47 None) }
 
-page_with_frame : Answers (AskBacking 16) backed (Backing (Some 13))
+page_with_frame : Answers (QueryBacking 16) backed (Backing (Some 13))
 page_with_frame = refl
 
-page_without_frame : Answers (AskBacking 17) backed (Backing None)
+page_without_frame : Answers (QueryBacking 17) backed (Backing None)
 page_without_frame = refl
 
-page_past_the_end : Answers (AskBacking 64) backed (Backing None)
+page_past_the_end : Answers (QueryBacking 64) backed (Backing None)
 page_past_the_end = refl
 
 -- ---- want of memory may be the answer where a list is, and only there; nothing changes
@@ -116,21 +116,21 @@ NoMemoryFor query = Answers query mixed (Refused NoMemory)
 for_lists : NoMemoryFor (PagesAt Free) × NoMemoryFor PagesBallooned
 for_lists = (inr refl, inr refl)
 
-not_for_places : NoMemoryFor AskPlaces → ⊥
+not_for_places : NoMemoryFor QueryPlaces → ⊥
 not_for_places e = cc
 
-not_for_balloon : NoMemoryFor AskBalloon → ⊥
+not_for_balloon : NoMemoryFor QueryBalloon → ⊥
 not_for_balloon e = cc
 
-not_for_memory : NoMemoryFor AskMemory → ⊥
+not_for_memory : NoMemoryFor QueryMemory → ⊥
 not_for_memory e = cc
 
-not_for_backing : NoMemoryFor (AskBacking 16) → ⊥
+not_for_backing : NoMemoryFor (QueryBacking 16) → ⊥
 not_for_backing e = cc
 
 -- ---- and no other answer is one
 
-no_other_counts : (reply : Reply) → Answers AskPlaces mixed reply
+no_other_counts : (reply : Reply) → Answers QueryPlaces mixed reply
     → reply ≡ Places (record {
       free = 21;
       used = 2;
@@ -143,21 +143,21 @@ no_other_counts : (reply : Reply) → Answers AskPlaces mixed reply
 no_other_counts reply a = a
 
 no_other_numbers : (reply : Reply)
-    → Answers AskBalloon (record ballooned { actual = 9; target = 11; status = 131 }) reply
+    → Answers QueryBalloon (record ballooned { actual = 9; target = 11; status = 131 }) reply
     → reply ≡ Balloon (record { ballooned = 3; actual = 9; target = 11; status = 131 })
 no_other_numbers reply a = a
 
 no_other_statistics : (reply : Reply)
-    → Answers AskMemory (record ready { last = record { free = Some 196608; total = Some 262144 } })
+    → Answers QueryMemory (record ready { last = record { free = Some 196608; total = Some 262144 } })
     reply
     → reply ≡ Statistics (record { free = Some 196608; total = Some 262144 })
 no_other_statistics reply a = a
 
-no_other_frame : (reply : Reply) → Answers (AskBacking 16) backed reply
+no_other_frame : (reply : Reply) → Answers (QueryBacking 16) backed reply
     → reply ≡ Backing (Some 13)
 no_other_frame reply a = a
 
-no_frame_at_all : (reply : Reply) → Answers (AskBacking 17) backed reply → reply ≡ Backing None
+no_frame_at_all : (reply : Reply) → Answers (QueryBacking 17) backed reply → reply ≡ Backing None
 no_frame_at_all reply a = a
 
 no_other_pages : (reply : Reply) → Answers (PagesAt Taking) mixed reply
@@ -175,8 +175,8 @@ world = record {
   guests = Some ready ∷ Some (record backed { rogue = true })
       ∷ [];
   spares = true ∷ [];
-  given_up = Some 7;
+  vacated = Some 7;
 }
 
-asked_in_the_world : WorldStep world (Asking 1 (AskBacking 16)) (Backing (Some 13)) world
+asked_in_the_world : WorldStep world (OnQuery 1 (QueryBacking 16)) (Backing (Some 13)) world
 asked_in_the_world = (refl, refl)

@@ -4,7 +4,8 @@ use Rattle.std.{proofs.Common.inr, specs.Prelude.{Option, Some, None}}
 use Rattle.vb_model.specs.declared.calls.Call.TheVariants.{Init, Reset, Alloc, Free, Read, Write}
 use Rattle.vb_model.specs.declared.calls.Call.TheVariants.{Scribble, Inflate, Deflate, Oom, Report}
 use Rattle.vb_model.specs.declared.calls.Call.TheVariants.{Stats, Reap, Take, Work, Finish, Sweep}
-use Rattle.vb_model.specs.Requests.{Request, Kind, kind_of_queue, Buffer, NoBuffer, BufferPosted}
+use Rattle.vb_model.specs.Requests.{Request, Kind, kind_of_queue, StatisticsBuffer, NoBuffer}
+use Rattle.vb_model.specs.Requests.{BufferPosted}
 use Rattle.vb_model.specs.StepLaws.{IsUnchanged, with_features_refused, RefusalsChangeNothing}
 use Rattle.vb_model.{specs.declared.calls.Call.Call, specs.declared.calls.Claim.Claim}
 use Rattle.vb_model.{specs.declared.calls.Call.TheVariants.{Ask, SetTarget}, specs.Rogue.Scribbled}
@@ -13,13 +14,13 @@ use Rattle.vb_model.{specs.declared.replies.Reply.Reply, specs.Requests.{BufferT
 use Rattle.vb_model.{specs.declared.replies.Reply.TheVariants.{Done, Refused}, specs.Step.Performs}
 use Rattle.vb_model.{specs.Guest.{Guest, requests}, specs.Refusals.{refusal_of, first_refusal}}
 use Rattle.vb_model.specs.Driver.{Reaps, Fills, Written, pages_needed}
-use Rattle.vb_model.specs.Device.{Takes, TakesBuffer, Finishes, Asks, next_page}
+use Rattle.vb_model.specs.Device.{TakesRequest, TakesBuffer, Finishes, ReturnsBuffer, next_page}
 use Rattle.vb_model.specs.Life.{feature_refusal, Negotiates, lacking, after_restart}
 use Rattle.vb_model.{specs.World.{World, put_guest, guest_at}, specs.HostEvents.{Happens, PlugsIn}}
-use Rattle.vb_model.{specs.HostRefusals.world_tests, specs.StepLaws.RefusedEventsChangeNothing}
+use Rattle.vb_model.{specs.HostRefusals.world_causes, specs.StepLaws.RefusedEventsChangeNothing}
 use Rattle.vb_model.proofs.CallSteps.{match_cases, supplying_cases, works_cases, supplied}
 use Rattle.vb_model.specs.declared.calls.Event.TheVariants.{Plug, Unplug, Restart, Guest as OnGuest}
-use Rattle.vb_model.specs.declared.calls.Event.TheVariants.{Query as Asking, Balance}
+use Rattle.vb_model.specs.declared.calls.Event.TheVariants.{Query as OnQuery, Balance}
 use Rattle.vb_model.specs.declared.calls.Event.TheVariants.{Frames as CountFrames}
 
 -- a reply that is no refusal
@@ -32,22 +33,22 @@ pub not_this : {A : Type 0} (refusal : Refusal) (reply : Reply) → Refused refu
 not_this refusal reply e f =
     absurd (let t : is_refused (Refused refusal) ≡ false = ap is_refused e ∙ f in cc)
 
-fills_refuse : {A : Type 0} (buffer : Buffer) (g : Guest) (refusal : Refusal) (new : Guest)
+fills_refuse : {A : Type 0} (buffer : StatisticsBuffer) (g : Guest) (refusal : Refusal) (new : Guest)
     → Fills buffer g (Refused refusal) new → A
 fills_refuse NoBuffer g refusal new s = not_this refusal _ s.0 refl
 fills_refuse (BufferPosted f) g refusal new s = not_this refusal _ s.0 refl
 fills_refuse (BufferTaken f) g refusal new s = not_this refusal _ s.0 refl
 fills_refuse (BufferDone f) g refusal new s = not_this refusal _ s.0 refl
 
-takes_buffer_refuse : {A : Type 0} (buffer : Buffer) (g : Guest) (refusal : Refusal) (new : Guest)
+takes_buffer_refuse : {A : Type 0} (buffer : StatisticsBuffer) (g : Guest) (refusal : Refusal) (new : Guest)
     → TakesBuffer buffer g (Refused refusal) new → A
 takes_buffer_refuse NoBuffer g refusal new s = not_this refusal _ s.0 refl
 takes_buffer_refuse (BufferPosted f) g refusal new s = not_this refusal _ s.0 refl
 takes_buffer_refuse (BufferTaken f) g refusal new s = not_this refusal _ s.0 refl
 takes_buffer_refuse (BufferDone f) g refusal new s = not_this refusal _ s.0 refl
 
-asks_refuse : {A : Type 0} (buffer : Buffer) (g : Guest) (refusal : Refusal) (new : Guest)
-    → Asks buffer g (Refused refusal) new → A
+asks_refuse : {A : Type 0} (buffer : StatisticsBuffer) (g : Guest) (refusal : Refusal) (new : Guest)
+    → ReturnsBuffer buffer g (Refused refusal) new → A
 asks_refuse NoBuffer g refusal new s = absurd s
 asks_refuse (BufferPosted f) g refusal new s = absurd s
 asks_refuse (BufferTaken f) g refusal new s = not_this refusal _ s.0 refl
@@ -59,7 +60,7 @@ reaps_refuse kind [] g refusal new s = not_this refusal _ s.0 refl
 reaps_refuse kind (r ∷ rest) g refusal new s = not_this refusal _ s.0 refl
 
 takes_refuse : {A : Type 0} (kind : Kind) (posted : List Request) (g : Guest) (refusal : Refusal)
-    (new : Guest) → Takes kind posted g (Refused refusal) new → A
+    (new : Guest) → TakesRequest kind posted g (Refused refusal) new → A
 takes_refuse kind [] g refusal new s = not_this refusal _ s.0 refl
 takes_refuse kind (r ∷ rest) g refusal new s = not_this refusal _ s.0 refl
 
@@ -105,7 +106,7 @@ performs_refuses (Reap q) g claims refusal new s =
     ]
 performs_refuses (Take q) g claims refusal new s =
     elim (match_cases (kind_of_queue q) (TakesBuffer g.buffer g (Refused refusal) new)
-    (λ kind. Takes kind (requests kind g).posted g (Refused refusal) new) s.1) [
+    (λ kind. TakesRequest kind (requests kind g).posted g (Refused refusal) new) s.1) [
       | inl n ↦ takes_buffer_refuse g.buffer g refusal new n.1
       | inr k ↦ takes_refuse k.0 (requests k.0 g).posted g refusal new k.2
     ]
@@ -167,13 +168,13 @@ happens_refuses (Restart n) w refusal v other s =
       | inr g ↦ not_this refusal _ g.2.0 refl
     ]
 happens_refuses (OnGuest n call) w refusal v other s = absurd (other n call refl)
-happens_refuses (Asking n query) w refusal v other s = s.1
+happens_refuses (OnQuery n query) w refusal v other s = s.1
 happens_refuses (Balance floor) w refusal v other s = s.1
 happens_refuses CountFrames w refusal v other s = s.1
 
 pub refused_events_change_nothing : RefusedEventsChangeNothing
 refused_events_change_nothing w event refusal v other s =
-    elim (match_cases (first_refusal (world_tests w event)) (Happens event w (Refused refusal) v)
+    elim (match_cases (first_refusal (world_causes w event)) (Happens event w (Refused refusal) v)
     (λ r. (Refused refusal ≡ Refused r) × (v ≡ w)) s) [
       | inl p ↦ happens_refuses event w refusal v other p.1
       | inr r ↦ r.2.1

@@ -13,7 +13,7 @@ use Rattle.vb_model.specs.declared.replies.Refusal.TheVariants.{Nothing, NoPages
 use Rattle.vb_model.specs.declared.replies.Reply.TheVariants.{Page, Posted, Done, Reaped, NotUsed}
 use Rattle.vb_model.specs.Pages.{place_of, is_free, is_wholly_free}
 use Rattle.vb_model.specs.Requests.{Request, Requests, no_requests, IsLeastHead}
-use Rattle.vb_model.specs.Refusals.{refusal_of, first_refusal, tests, reported_blocks}
+use Rattle.vb_model.specs.Refusals.{refusal_of, first_refusal, causes, reported_blocks}
 use Rattle.vb_model.proofs.Samples.{config, ready, down, without_reporting, request}
 use Rattle.vb_model.specs.declared.places.Place.TheVariants.{Reserved, Free as FreePlace, Used}
 
@@ -246,7 +246,7 @@ not_used_report : Performs (Reap 4) reporting [] NotUsed reporting
 not_used_report = (refl, (refl, refl))
 
 abbrev behind_no_queue : Guest → Call → Option Refusal
-behind_no_queue g call = first_refusal (drop 1 (tests g call))
+behind_no_queue g call = first_refusal (drop 1 (causes g call))
 
 -- a reap of queue 4: readiness, then the feature
 reap_without_reporting : behind_no_queue without_reporting (Reap 4) ∷ behind_no_queue down (Reap 4)

@@ -9,7 +9,7 @@ use Rattle.vb_model.{specs.declared.calls.Event.TheVariants.Restart, specs.World
 use Rattle.vb_model.{specs.HostFrames.{IsOut, used_frames}, proofs.Samples.{config, ready, plug}}
 use Rattle.vb_model.{specs.declared.replies.Reply.Reply, specs.HostRefusals.plugged_count}
 use Rattle.vb_model.specs.declared.calls.Event.TheVariants.{Frames as CountFrames}
-use Rattle.vb_model.specs.declared.calls.Query.TheVariants.{Balloon as AskBalloon}
+use Rattle.vb_model.specs.declared.calls.Query.TheVariants.{Balloon as QueryBalloon}
 
 -- pages 16 and 17 have frames 5 and 9, page 18 is ballooned, and three pages were said to be free
 abbrev rogue : Guest
@@ -23,7 +23,7 @@ rogue = record ready {
 }
 
 abbrev world : List (Option Guest) → World
-world guests = record { frames = 64; guests = guests; spares = true ∷ []; given_up = None }
+world guests = record { frames = 64; guests = guests; spares = true ∷ []; vacated = None }
 
 abbrev both : World
 both = world (Some ready ∷ Some rogue ∷ [])
@@ -54,7 +54,7 @@ it_gets_its_target : with_targets (11 ∷ 12 ∷ []) both.guests
 it_gets_its_target = refl
 
 -- a question is answered with its state's values
-it_is_asked : (reply : Reply) → Answers AskBalloon rogue reply
+it_is_asked : (reply : Reply) → Answers QueryBalloon rogue reply
     → reply ≡ Balloon (record { ballooned = 1; actual = 4; target = 7; status = 15 })
 it_is_asked reply answered = answered
 

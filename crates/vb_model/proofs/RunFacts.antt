@@ -62,7 +62,7 @@ another_state_between s = let e : Same 65 64 = ap (λ (w : World). w.frames) s.1
 -- ---- states by number: the first is the one before the first event
 
 abbrev at : Guest → World
-at g = record { frames = 64; guests = None ∷ Some g ∷ []; spares = []; given_up = None }
+at g = record { frames = 64; guests = None ∷ Some g ∷ []; spares = []; vacated = None }
 
 abbrev two_events : History
 two_events = record {
@@ -161,7 +161,7 @@ aimed = record {
   guests = Some (record ready { target = 28 })
       ∷ Some (record ready { target = 5 }) ∷ [];
   spares = [];
-  given_up = None;
+  vacated = None;
 }
 
 abbrev told : ℕ → Option Entry

@@ -55,7 +55,7 @@ another_end s = grind arith
 -- ---- a frame behind two pages, of two guests or of one, of a rogue guest too, in each state
 
 abbrev at : Guest → World
-at g = record { frames = 64; guests = Some g ∷ []; spares = []; given_up = None }
+at g = record { frames = 64; guests = Some g ∷ []; spares = []; vacated = None }
 
 abbrev stands : Guest → History
 stands g = record { first = at g; events = []; replies = []; after = [] }
@@ -69,7 +69,7 @@ two_guests : NoFrameTwice
       guests = Some (frame_5 16) ∷ None ∷ Some (frame_5 16)
           ∷ [];
       spares = [];
-      given_up = None;
+      vacated = None;
     }) → ⊥
 two_guests s = let e =
     s 5 0 16 2 16 (record { guest = frame_5 16; is_there = refl; has = refl })
@@ -258,7 +258,7 @@ isnt_safe s =
 -- ---- over more events, of another guest
 
 abbrev beside : Guest → World
-beside g = record { frames = 64; guests = Some ready ∷ Some g ∷ []; spares = []; given_up = None }
+beside g = record { frames = 64; guests = Some ready ∷ Some g ∷ []; spares = []; vacated = None }
 
 -- a page is offered behind another's event, and handed out by the next event
 abbrev at_once : History

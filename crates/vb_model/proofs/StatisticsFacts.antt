@@ -2,7 +2,7 @@
 use Rattle.std.{proofs.Common.{◌≡◌, [], refl}, specs.Prelude.{ℕ, Some, None}}
 use Rattle.vb_model.specs.declared.replies.Refusal.TheVariants.{NotReady, NoFeature, NoQueue, Busy}
 use Rattle.vb_model.specs.declared.replies.Reply.TheVariants.{Ready, Done, Filled, NotUsed, Taken}
-use Rattle.vb_model.specs.Requests.{Figures, Buffer, NoBuffer, BufferPosted, BufferTaken}
+use Rattle.vb_model.specs.Requests.{Figures, StatisticsBuffer, NoBuffer, BufferPosted, BufferTaken}
 use Rattle.vb_model.specs.declared.calls.Call.TheVariants.{Reset, Stats, Take, Reap, Finish, Ask}
 use Rattle.vb_model.{specs.declared.replies.Reply.TheVariants.{Empty, Asked}, specs.Life.Negotiates}
 use Rattle.vb_model.{proofs.Samples.{ready, down, mixed, without_stats_vq}, specs.Driver.figures}
@@ -25,7 +25,7 @@ figures_of_21_free_pages = refl
 abbrev old : Figures
 old = record { free = 131072; total = 262144 }
 
-abbrev with_buffer : Buffer → Guest
+abbrev with_buffer : StatisticsBuffer → Guest
 with_buffer buffer = record ready { buffer = buffer }
 
 abbrev last_is : ℕ → ℕ → LastStatistics

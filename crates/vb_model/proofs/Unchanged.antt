@@ -6,8 +6,10 @@ use Rattle.vb_model.specs.declared.calls.Call.TheVariants.{Init, Reset, Alloc, F
 use Rattle.vb_model.specs.declared.calls.Call.TheVariants.{Scribble, Inflate, Deflate, Oom, Report}
 use Rattle.vb_model.specs.declared.calls.Call.TheVariants.{Stats, Reap, Take, Work, Finish, Sweep}
 use Rattle.vb_model.specs.Requests.{Request, Kind, Inflating, Deflating, Reporting_free}
-use Rattle.vb_model.specs.Requests.{kind_of_queue, Buffer, NoBuffer, BufferPosted, BufferTaken}
-use Rattle.vb_model.specs.Device.{Takes, TakesBuffer, Finishes, Asks, next_page, settled, used}
+use Rattle.vb_model.specs.Requests.{kind_of_queue, StatisticsBuffer, NoBuffer, BufferPosted}
+use Rattle.vb_model.specs.Requests.{BufferTaken}
+use Rattle.vb_model.specs.Device.{TakesRequest, TakesBuffer, Finishes, ReturnsBuffer, next_page}
+use Rattle.vb_model.specs.Device.{settled, used}
 use Rattle.vb_model.proofs.CallSteps.{match_cases, supplying_cases, works_cases, Idles, Visits}
 use Rattle.vb_model.specs.Rogue.{IsRogueAfter, RogueStep, Scribbled, target_after, GuestStep}
 use Rattle.vb_model.specs.Driver.{Supplying, Reaps, Fills, Written, pages_needed}
@@ -38,22 +40,22 @@ same_three g new changed e t c r =
       rogue = inl (ap (λ (x : Guest). x.rogue) e ∙ r);
     }
 
-fills_keep : {Reason : Type 0} (buffer : Buffer) (g : Guest) (reply : Reply) (new : Guest)
+fills_keep : {Reason : Type 0} (buffer : StatisticsBuffer) (g : Guest) (reply : Reply) (new : Guest)
     → Fills buffer g reply new → Keeps Reason g.target g new
 fills_keep NoBuffer g reply new s = same_three g new _ s.1 refl refl refl
 fills_keep (BufferPosted f) g reply new s = same_three g new _ s.1 refl refl refl
 fills_keep (BufferTaken f) g reply new s = same_three g new _ s.1 refl refl refl
 fills_keep (BufferDone f) g reply new s = same_three g new _ s.1 refl refl refl
 
-takes_buffer_keep : {Reason : Type 0} (buffer : Buffer) (g : Guest) (reply : Reply) (new : Guest)
+takes_buffer_keep : {Reason : Type 0} (buffer : StatisticsBuffer) (g : Guest) (reply : Reply) (new : Guest)
     → TakesBuffer buffer g reply new → Keeps Reason g.target g new
 takes_buffer_keep NoBuffer g reply new s = same_three g new _ s.1 refl refl refl
 takes_buffer_keep (BufferPosted f) g reply new s = same_three g new _ s.1 refl refl refl
 takes_buffer_keep (BufferTaken f) g reply new s = same_three g new _ s.1 refl refl refl
 takes_buffer_keep (BufferDone f) g reply new s = same_three g new _ s.1 refl refl refl
 
-asks_keep : {Reason : Type 0} (buffer : Buffer) (g : Guest) (reply : Reply) (new : Guest)
-    → Asks buffer g reply new → Keeps Reason g.target g new
+asks_keep : {Reason : Type 0} (buffer : StatisticsBuffer) (g : Guest) (reply : Reply) (new : Guest)
+    → ReturnsBuffer buffer g reply new → Keeps Reason g.target g new
 asks_keep NoBuffer g reply new s = absurd s
 asks_keep (BufferPosted f) g reply new s = absurd s
 asks_keep (BufferTaken f) g reply new s = same_three g new _ s.1 refl refl refl
@@ -67,7 +69,7 @@ reaps_keep Deflating (r ∷ rest) g reply new s = same_three g new _ s.1 refl re
 reaps_keep Reporting_free (r ∷ rest) g reply new s = same_three g new _ s.1 refl refl refl
 
 takes_keep : {Reason : Type 0} (kind : Kind) (posted : List Request) (g : Guest) (reply : Reply)
-    (new : Guest) → Takes kind posted g reply new → Keeps Reason g.target g new
+    (new : Guest) → TakesRequest kind posted g reply new → Keeps Reason g.target g new
 takes_keep kind [] g reply new s = same_three g new _ s.1 refl refl refl
 takes_keep Inflating (r ∷ rest) g reply new s = same_three g new _ s.1 refl refl refl
 takes_keep Deflating (r ∷ rest) g reply new s = same_three g new _ s.1 refl refl refl
@@ -148,7 +150,7 @@ performs_keep (Reap q) g claims reply new s =
     ]
 performs_keep (Take q) g claims reply new s =
     elim (match_cases (kind_of_queue q) (TakesBuffer g.buffer g reply new)
-    (λ kind. Takes kind (requests kind g).posted g reply new) s.1) [
+    (λ kind. TakesRequest kind (requests kind g).posted g reply new) s.1) [
       | inl n ↦ takes_buffer_keep g.buffer g reply new n.1
       | inr k ↦ takes_keep k.0 (requests k.0 g).posted g reply new k.2
     ]

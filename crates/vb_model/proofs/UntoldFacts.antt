@@ -19,7 +19,7 @@ use Rattle.vb_model.specs.declared.replies.Refusal.TheVariants.{VersionMissing}
 use Rattle.vb_model.specs.declared.replies.Reply.TheVariants.{Taken, Finished, Swept, Refused}
 use Rattle.vb_model.specs.Guest.{Guest, zero_page, is_ready, tells_host, frame_of, is_ballooned}
 use Rattle.vb_model.{specs.Status.status_refusal, specs.Refusals.refusal_of}
-use Rattle.vb_model.specs.Tables.{inflate_tests, request_tests, sweep_tests}
+use Rattle.vb_model.specs.Tables.{inflate_causes, request_causes, sweep_causes}
 use Rattle.vb_model.{specs.Driver.contents_of, specs.Life.{feature_refusal, after_reset}}
 use Rattle.vb_model.{specs.Step.{Performs, HonestStep}, specs.GuestRun.{Called, Leads}}
 use Rattle.vb_model.proofs.Samples.{config, ready, untold, down, mixed_places, request}
@@ -485,34 +485,34 @@ offered_anew = refl
 
 -- ---- the tests, in their order
 
-inflate_in_order : inflate_tests 0 0x100000026 1 8 8 0 ≡ (true ⇒ NotReady) ∷ (true ⇒ QueueFull)
+inflate_in_order : inflate_causes 0 0x100000026 1 8 8 0 ≡ (true ⇒ NotReady) ∷ (true ⇒ QueueFull)
     ∷ (true ⇒ DeflatePending) ∷ (true ⇒ Nothing) ∷ []
 inflate_in_order = refl
 
-just_one_pending : inflate_tests 15 0x100000026 1 7 8 1 ≡ (false ⇒ NotReady) ∷ (false ⇒ QueueFull)
+just_one_pending : inflate_causes 15 0x100000026 1 7 8 1 ≡ (false ⇒ NotReady) ∷ (false ⇒ QueueFull)
     ∷ (true ⇒ DeflatePending) ∷ (false ⇒ Nothing) ∷ []
 just_one_pending = refl
 
-none_pending : inflate_tests 15 0x100000026 0 7 8 1 ≡ (false ⇒ NotReady) ∷ (false ⇒ QueueFull)
+none_pending : inflate_causes 15 0x100000026 0 7 8 1 ≡ (false ⇒ NotReady) ∷ (false ⇒ QueueFull)
     ∷ (false ⇒ DeflatePending) ∷ (false ⇒ Nothing) ∷ []
 none_pending = refl
 
-pending_where_it_tells : inflate_tests 15 0x100000027 8 7 8 1 ≡ (false ⇒ NotReady)
+pending_where_it_tells : inflate_causes 15 0x100000027 8 7 8 1 ≡ (false ⇒ NotReady)
     ∷ (false ⇒ QueueFull) ∷ (false ⇒ DeflatePending) ∷ (false ⇒ Nothing) ∷ []
 pending_where_it_tells = refl
 
-deflate_in_order : request_tests 0 false 8 8 0 ≡ (true ⇒ NotReady) ∷ (false ⇒ NoFeature)
+deflate_in_order : request_causes 0 false 8 8 0 ≡ (true ⇒ NotReady) ∷ (false ⇒ NoFeature)
     ∷ (true ⇒ QueueFull) ∷ (true ⇒ Nothing) ∷ []
 deflate_in_order = refl
 
-sweep_in_order : sweep_tests 207 0x100000026 false ≡ (true ⇒ NotReady) ∷ (true ⇒ NeedsReset)
+sweep_in_order : sweep_causes 207 0x100000026 false ≡ (true ⇒ NotReady) ∷ (true ⇒ NeedsReset)
     ∷ (true ⇒ NoFeature) ∷ (true ⇒ NotBallooned) ∷ []
 sweep_in_order = refl
 
-sweep_of_a_ballooned_page : sweep_tests 15 0x100000026 true ≡ (false ⇒ NotReady)
+sweep_of_a_ballooned_page : sweep_causes 15 0x100000026 true ≡ (false ⇒ NotReady)
     ∷ (false ⇒ NeedsReset) ∷ (true ⇒ NoFeature) ∷ (false ⇒ NotBallooned) ∷ []
 sweep_of_a_ballooned_page = refl
 
-sweep_tested_where_it_tells : sweep_tests 15 0x100000027 true ≡ (false ⇒ NotReady)
+sweep_tested_where_it_tells : sweep_causes 15 0x100000027 true ≡ (false ⇒ NotReady)
     ∷ (false ⇒ NeedsReset) ∷ (false ⇒ NoFeature) ∷ (false ⇒ NotBallooned) ∷ []
 sweep_tested_where_it_tells = refl

@@ -11,7 +11,8 @@ use Rattle.vb_model.specs.StepLaws.{ClaimsAreNeeded, RefusedClaimsAreAnswered, N
 use Rattle.vb_model.specs.declared.calls.Claim.TheVariants.{Gave, GaveNoFrame, GaveNoMemory}
 use Rattle.vb_model.specs.declared.replies.Refusal.TheVariants.{NoFrame, NoMemory}
 use Rattle.vb_model.{specs.Driver.{claim_refusal, AreClaimsFor, pages_needed}, specs.Life.lacking}
-use Rattle.vb_model.{specs.Refusals.{Test, refusal_of, tests, first_refusal}, specs.Rogue.GuestStep}
+use Rattle.vb_model.specs.Refusals.{Cause, refusal_of, causes, first_refusal}
+use Rattle.vb_model.specs.Rogue.{GuestStep}
 use Rattle.vb_model.{specs.declared.calls.Call.TheVariants.{Ask, SetTarget}, specs.HostFrames.Gives}
 use Rattle.vb_model.{specs.declared.replies.Reply.TheVariants.Refused, proofs.Tables.list_all-at}
 use Rattle.vb_model.{specs.StepLaws.{NoFrameIsExact, NoMemoryIsExact}, specs.Layout.start_pages}
@@ -159,23 +160,23 @@ abbrev pub wants : Reply → Bool
 wants (Refused refusal) = is_want refusal
 wants _ = false
 
-abbrev pub none_wants : List Test → Bool
+abbrev pub none_wants : List Cause → Bool
 none_wants ts = list_all (λ t. not (is_want t.refusal)) ts
 
 -- a refusal of these tests passes what all of theirs pass
-pub refused_passes : (passes : Refusal → Bool) (ts : List Test) (refusal : Refusal)
+pub refused_passes : (passes : Refusal → Bool) (ts : List Cause) (refusal : Refusal)
     → list_all (λ t. passes t.refusal) ts ≡ true → first_refusal ts ≡ Some refusal
     → passes refusal ≡ true
 refused_passes passes [] refusal h e = absurd cc
 refused_passes passes (t ∷ ts) refusal h e = grind (arith, refused_passes passes ts refusal)
 
-pub refused_otherwise : (ts : List Test) (refusal : Refusal) → none_wants ts ≡ true
+pub refused_otherwise : (ts : List Cause) (refusal : Refusal) → none_wants ts ≡ true
     → first_refusal ts ≡ Some refusal → is_want refusal ≡ false
 refused_otherwise ts refusal h e =
     not-true _ (refused_passes (λ r. not (is_want r)) ts refusal h e)
 
-tests_otherwise : (g : Guest) (call : Call) → none_wants (tests g call) ≡ true
-tests_otherwise g call = grind arith
+causes_otherwise : (g : Guest) (call : Call) → none_wants (causes g call) ≡ true
+causes_otherwise g call = grind arith
 
 -- the call's claims ended so, and nothing is changed
 abbrev Lacks : Refusal → Guest → List Claim → Guest → Type 0
@@ -215,7 +216,7 @@ step_lacks g call claims new s = cases g.rogue s
               ]
           | inr r ↦ absurd (let told : Refused NoFrame ≡ Refused r.0 = r.2.1 in
               let f : is_want r.0 ≡ false =
-              refused_otherwise (tests g call) r.0 (tests_otherwise g call) r.1 in
+              refused_otherwise (causes g call) r.0 (causes_otherwise g call) r.1 in
               let t : wants (Refused NoFrame) ≡ false = ap wants told ∙ f in cc)
         ]
 
@@ -270,6 +271,6 @@ no_memory_exact g call claims new s = cases g.rogue s
               ]
           | inr r ↦ absurd (let told : Refused NoMemory ≡ Refused r.0 = r.2.1 in
               let f : is_want r.0 ≡ false =
-              refused_otherwise (tests g call) r.0 (tests_otherwise g call) r.1 in
+              refused_otherwise (causes g call) r.0 (causes_otherwise g call) r.1 in
               let t : wants (Refused NoMemory) ≡ false = ap wants told ∙ f in cc)
         ]

@@ -8,7 +8,7 @@ use Rattle.vb_model.specs.declared.calls.Call.TheVariants.{Take, Work, Finish, S
 use Rattle.vb_model.specs.declared.replies.Refusal.TheVariants.{NotWorked, NotBallooned}
 use Rattle.vb_model.{specs.declared.replies.Reply.TheVariants.Swept, specs.Guest.{Guest, zero_page}}
 use Rattle.vb_model.{specs.Requests.{Request, Requests}, specs.Step.{Performs, HonestStep}}
-use Rattle.vb_model.specs.Refusals.{refusal_of, first_refusal, tests}
+use Rattle.vb_model.specs.Refusals.{refusal_of, first_refusal, causes}
 use Rattle.vb_model.proofs.Samples.{config, ready, down, without_reporting, request}
 
 -- ---- a guest with taken requests of all kinds
@@ -216,7 +216,7 @@ inflate_worked : refusal_of after_19 (Finish 0 1) ≡ None
 inflate_worked = refl
 
 abbrev behind_no_queue : Guest → Call → Option Refusal
-behind_no_queue g call = first_refusal (drop 1 (tests g call))
+behind_no_queue g call = first_refusal (drop 1 (causes g call))
 
 report_not_worked : behind_no_queue after_20 (Finish 4 0) ≡ Some NotWorked
 report_not_worked = refl

@@ -10,11 +10,11 @@ use Rattle.vb_model.specs.declared.replies.Reply.TheVariants.{Plugged, Done, Fra
 use Rattle.vb_model.{specs.Guest.{Guest, Config, fresh}, specs.HostEvents.{WorldStep, with_targets}}
 use Rattle.vb_model.proofs.Samples.{ready, down, plug}
 use Rattle.vb_model.specs.declared.calls.Event.TheVariants.{Unplug, Restart, Guest as OnGuest}
-use Rattle.vb_model.specs.declared.calls.Event.TheVariants.{Query as Asking, Frames as CountFrames}
+use Rattle.vb_model.specs.declared.calls.Event.TheVariants.{Query as OnQuery, Frames as CountFrames}
 
 abbrev world : List (Option Guest) → World
 world guests = record
-    { frames = 200; guests = guests; spares = false ∷ true ∷ true ∷ []; given_up = None }
+    { frames = 200; guests = guests; spares = false ∷ true ∷ true ∷ []; vacated = None }
 
 abbrev without_spares : World → World
 without_spares w = record w { spares = [] }
@@ -27,7 +27,7 @@ wide = record { pages = 128; queue_size = 2; processors = 4; paced = false }
 
 -- it is as its configuration says, with the pace of the first spare, which is used up
 first_plug : WorldStep (made 64 (true ∷ false ∷ [])) (plug 64 8 1) (Plugged 0)
-    (record { frames = 64; guests = Some down ∷ []; spares = false ∷ []; given_up = None })
+    (record { frames = 64; guests = Some down ∷ []; spares = false ∷ []; vacated = None })
 first_plug = inr (0, refl, tt, refl, refl)
 
 second_plug : WorldStep (world (Some ready ∷ [])) (plug 128 2 4) (Plugged 1)
@@ -36,18 +36,18 @@ second_plug = inr (1, refl, tt, refl, refl)
 
 -- a number that was given up is used by the next plug, and by that one alone
 abbrev gap : World
-gap = record (world (Some ready ∷ None ∷ Some ready ∷ None ∷ [])) { given_up = Some 1 }
+gap = record (world (Some ready ∷ None ∷ Some ready ∷ None ∷ [])) { vacated = Some 1 }
 
 number_given_up : WorldStep gap (plug 128 2 4) (Plugged 1)
     (record (world (Some ready ∷ Some (fresh wide 0) ∷ Some ready ∷ None ∷ []))
-    { spares = true ∷ true ∷ []; given_up = None })
+    { spares = true ∷ true ∷ []; vacated = None })
 number_given_up = inr (1, refl, refl, refl, refl)
 
 no_other_number : (v : World) → WorldStep gap (plug 128 2 4) (Plugged 3) v → ⊥
 no_other_number v h1 = grind arith
 
 -- with none given up any number that no guest has
-any_free_number : WorldStep (record gap { given_up = None }) (plug 128 2 4) (Plugged 3)
+any_free_number : WorldStep (record gap { vacated = None }) (plug 128 2 4) (Plugged 3)
     (record (world (Some ready ∷ None ∷ Some ready ∷ Some (fresh wide 0) ∷ []))
     { spares = true ∷ true ∷ [] })
 any_free_number = inr (3, refl, tt, refl, refl)
@@ -98,7 +98,7 @@ NoGuestAt n =
     WorldStep gap (Unplug n) (Refused NoGuest) gap
     × WorldStep gap (Restart n) (Refused NoGuest) gap
     × WorldStep gap (OnGuest n (SetTarget 1)) (Refused NoGuest) gap
-    × WorldStep gap (Asking n Places) (Refused NoGuest) gap
+    × WorldStep gap (OnQuery n Places) (Refused NoGuest) gap
 
 number_given_up_has_no_guest : NoGuestAt 1
 number_given_up_has_no_guest = ((refl, refl), (refl, refl), (refl, refl), (refl, refl))

@@ -6,7 +6,7 @@ use Rattle.std.specs.Prelude.{List, Some, IsFalse, slice_get}
 use Rattle.vb_model.specs.declared.negotiation.TheConstants.{READY_STATUS}
 use Rattle.vb_model.specs.declared.calls.Call.TheVariants.{Scribble}
 use Rattle.vb_model.specs.declared.calls.Event.TheVariants.{Guest as OnGuest}
-use Rattle.vb_model.specs.Requests.{Requests, no_requests, Buffer, NoBuffer}
+use Rattle.vb_model.specs.Requests.{Requests, no_requests, StatisticsBuffer, NoBuffer}
 use Rattle.vb_model.specs.Guest.{Guest, stats_vq}
 use Rattle.vb_model.specs.Run.{History, Run, guest_in}
 use Rattle.vb_model.specs.Safe.{IsHonest}
@@ -27,14 +27,14 @@ HonestStay =
     → (n i k : ℕ) (g new : Guest) → IsThere h n i k → MakesNoScribble h n i k → IsHonest h n i g
     → guest_in h n (i + k) ≡ Some new → IsFalse new.rogue
 
-abbrev pub has_buffer : Buffer → Bool
+abbrev pub has_buffer : StatisticsBuffer → Bool
 has_buffer NoBuffer = false
 has_buffer _ = true
 
 -- Nothing is outstanding of a guest that isn't ready, and it has a statistics buffer just where it
 -- is ready and accepted STATS_VQ.
 pub record IsIdleUnlessReady (status features : ℕ) (inflate deflate report : Requests)
-    (buffer : Buffer) : Type 0 where
+    (buffer : StatisticsBuffer) : Type 0 where
   pub inflating : status ≢ READY_STATUS → inflate ≡ no_requests
   pub deflating : status ≢ READY_STATUS → deflate ≡ no_requests
   pub reporting : status ≢ READY_STATUS → report ≡ no_requests

@@ -7,7 +7,7 @@ use Rattle.std.specs.Prelude.{MatchOption, ◌⊎◌, filter_map, ⊤}
 use Rattle.vb_model.specs.declared.calls.Call.{Call}
 use Rattle.vb_model.specs.declared.calls.Event.{Event}
 use Rattle.vb_model.specs.declared.calls.Event.TheVariants.{Plug, Unplug, Restart, Guest as OnGuest}
-use Rattle.vb_model.specs.declared.calls.Event.TheVariants.{Query as Asking, Balance}
+use Rattle.vb_model.specs.declared.calls.Event.TheVariants.{Query as OnQuery, Balance}
 use Rattle.vb_model.specs.declared.calls.Event.TheVariants.{Frames as CountFrames}
 use Rattle.vb_model.specs.declared.replies.Refusal.TheVariants.{NoMemory}
 use Rattle.vb_model.specs.declared.replies.Reply.{Reply}
@@ -20,7 +20,7 @@ use Rattle.vb_model.specs.declared.calls.Claim.{Claim}
 use Rattle.vb_model.specs.Rogue.{GuestStep}
 use Rattle.vb_model.specs.Balance.{Need, need, IsAnswer}
 use Rattle.vb_model.specs.HostFrames.{IsOut, Gives, used_frames}
-use Rattle.vb_model.specs.HostRefusals.{world_tests}
+use Rattle.vb_model.specs.HostRefusals.{world_causes}
 use Rattle.vb_model.specs.Queries.{Answers}
 use Rattle.vb_model.specs.World.{World, guest_at, put_guest}
 
@@ -30,9 +30,9 @@ abbrev pub Plugs : Config → List Bool → World → Reply → World → Type 0
 Plugs config rest w reply new =
     (n : ℕ)
     × (guest_at w.guests n ≡ None)
-    × MatchOption w.given_up ⊤ (λ last. n ≡ last)
+    × MatchOption w.vacated ⊤ (λ last. n ≡ last)
     × (reply ≡ Plugged n)
-    × (new ≡ record (put_guest n (Some (fresh config 0)) w) { spares = rest; given_up = None })
+    × (new ≡ record (put_guest n (Some (fresh config 0)) w) { spares = rest; vacated = None })
 
 -- or there is no memory for it, and nothing is changed
 abbrev pub PlugsIn : ℕ → ℕ → ℕ → List Bool → World → Reply → World → Type 0
@@ -72,13 +72,13 @@ abbrev pub Happens : Event → World → Reply → World → Type 0
 Happens (Plug size) w reply new =
     PlugsIn size.pages size.queue_size size.processors w.spares w reply new
 Happens (Unplug n) w reply new =
-    (reply ≡ Done) × (new ≡ record (put_guest n None w) { given_up = Some n })
+    (reply ≡ Done) × (new ≡ record (put_guest n None w) { vacated = Some n })
 Happens (Restart n) w reply new =
     MatchOption (guest_at w.guests n) ⊥
     (λ g. (reply ≡ Done) × (new ≡ put_guest n (Some (fresh g.config g.target)) w))
 Happens (OnGuest n call) w reply new =
     MatchOption (guest_at w.guests n) ⊥ (λ g. Calls n g w call reply new)
-Happens (Asking n query) w reply new =
+Happens (OnQuery n query) w reply new =
     MatchOption (guest_at w.guests n) ⊥ (λ g. Answers query g reply) × (new ≡ w)
 Happens (Balance floor) w reply new =
     IsAnswer w.frames (needs floor w) reply × (new ≡ after_balance reply w)
@@ -87,6 +87,6 @@ Happens CountFrames w reply new =
 
 abbrev pub WorldStep : World → Event → Reply → World → Type 0
 WorldStep w event reply new =
-    MatchOption (first_refusal (world_tests w event))
+    MatchOption (first_refusal (world_causes w event))
     (Happens event w reply new)
     (λ refusal. (reply ≡ Refused refusal) × (new ≡ w))

@@ -15,11 +15,11 @@ abbrev pub WorldsAgree : Event → World → Reply → World → Reply → World
 -- of a plug the number is open, where none was given up
 WorldsAgree (Plug size) w reply new reply' new' =
     (reply ≡ reply' → new ≡ new')
-    × ((last : ℕ) → w.given_up ≡ Some last → reply ≡ reply')
+    × ((last : ℕ) → w.vacated ≡ Some last → reply ≡ reply')
     × ((refusal : Refusal) → reply ≡ Refused refusal → reply ≡ reply')
 -- a guest's own step is another matter
 WorldsAgree (OnGuest n call) w reply new reply' new' =
-    (new.frames ≡ new'.frames) × (new.spares ≡ new'.spares) × (new.given_up ≡ new'.given_up)
+    (new.frames ≡ new'.frames) × (new.spares ≡ new'.spares) × (new.vacated ≡ new'.vacated)
 -- all else is determined
 WorldsAgree _ w reply new reply' new' = (reply ≡ reply') × (new ≡ new')
 
@@ -36,4 +36,4 @@ abbrev pub CallsLeaveTheHost : Type 0
 CallsLeaveTheHost =
     (w : World) (n : ℕ) (call : Call) (reply : Reply) (new : World)
     → WorldStep w (OnGuest n call) reply new
-    → (new.frames ≡ w.frames) × (new.spares ≡ w.spares) × (new.given_up ≡ w.given_up)
+    → (new.frames ≡ w.frames) × (new.spares ≡ w.spares) × (new.vacated ≡ w.vacated)

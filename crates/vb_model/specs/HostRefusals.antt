@@ -5,13 +5,13 @@ use Rattle.std.specs.Prelude.{List, [], ◌∷◌, is_none, is_some}
 use Rattle.std.specs.Prelude.{count_by}
 use Rattle.vb_model.specs.declared.calls.Event.{Event}
 use Rattle.vb_model.specs.declared.calls.Event.TheVariants.{Plug, Unplug, Restart, Guest as OnGuest}
-use Rattle.vb_model.specs.declared.calls.Event.TheVariants.{Query as Asking, Balance}
+use Rattle.vb_model.specs.declared.calls.Event.TheVariants.{Query as OnQuery, Balance}
 use Rattle.vb_model.specs.declared.calls.Event.TheVariants.{Frames as CountFrames}
 use Rattle.vb_model.specs.declared.replies.Refusal.TheVariants.{NoGuest, BadConfig, TooMany}
 use Rattle.vb_model.specs.declared.replies.Refusal.TheVariants.{NoDevice}
 use Rattle.vb_model.specs.Limits.{is_config}
 use Rattle.vb_model.specs.declared.limits.TheConstants.{MAX_GUESTS}
-use Rattle.vb_model.specs.FirstRefusal.{Test, ◌⇒◌}
+use Rattle.vb_model.specs.FirstRefusal.{Cause, ◌⇒◌}
 use Rattle.vb_model.specs.World.{World, guest_at}
 
 abbrev pub plugged_count : World → ℕ
@@ -20,15 +20,15 @@ plugged_count w = count_by (λ x. is_some x) w.guests
 abbrev pub lacks_guest : World → ℕ → Bool
 lacks_guest w n = is_none (guest_at w.guests n)
 
-abbrev pub world_tests : World → Event → List Test
-world_tests w (Plug size) =
+abbrev pub world_causes : World → Event → List Cause
+world_causes w (Plug size) =
     (not (is_config size.pages size.queue_size size.processors) ⇒ BadConfig)
     ∷ (nat_le MAX_GUESTS (count_by (λ x. is_some x) w.guests) ⇒ TooMany)
     ∷ ((length w.spares == 0) ⇒ NoDevice)
     ∷ []
-world_tests w (Unplug n) = (lacks_guest w n ⇒ NoGuest) ∷ []
-world_tests w (Restart n) = (lacks_guest w n ⇒ NoGuest) ∷ []
-world_tests w (OnGuest n call) = (lacks_guest w n ⇒ NoGuest) ∷ []
-world_tests w (Asking n query) = (lacks_guest w n ⇒ NoGuest) ∷ []
-world_tests w (Balance floor) = []
-world_tests w CountFrames = []
+world_causes w (Unplug n) = (lacks_guest w n ⇒ NoGuest) ∷ []
+world_causes w (Restart n) = (lacks_guest w n ⇒ NoGuest) ∷ []
+world_causes w (OnGuest n call) = (lacks_guest w n ⇒ NoGuest) ∷ []
+world_causes w (OnQuery n query) = (lacks_guest w n ⇒ NoGuest) ∷ []
+world_causes w (Balance floor) = []
+world_causes w CountFrames = []

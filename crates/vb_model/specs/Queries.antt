@@ -6,10 +6,10 @@ use Rattle.std.specs.Prelude.{◌⊎◌, count_by}
 use Rattle.vb_model.specs.declared.places.Place.TheVariants.{Free, Used, Giving, Lent}
 use Rattle.vb_model.specs.declared.places.Place.TheVariants.{Taking, Stranded, Reporting}
 use Rattle.vb_model.specs.declared.calls.Query.{Query}
-use Rattle.vb_model.specs.declared.calls.Query.TheVariants.{Places as AskPlaces, PagesAt}
-use Rattle.vb_model.specs.declared.calls.Query.TheVariants.{PagesBallooned, Balloon as AskBalloon}
-use Rattle.vb_model.specs.declared.calls.Query.TheVariants.{Memory as AskMemory}
-use Rattle.vb_model.specs.declared.calls.Query.TheVariants.{Backing as AskBacking}
+use Rattle.vb_model.specs.declared.calls.Query.TheVariants.{Places as QueryPlaces, PagesAt}
+use Rattle.vb_model.specs.declared.calls.Query.TheVariants.{PagesBallooned, Balloon as QueryBalloon}
+use Rattle.vb_model.specs.declared.calls.Query.TheVariants.{Memory as QueryMemory}
+use Rattle.vb_model.specs.declared.calls.Query.TheVariants.{Backing as QueryBacking}
 use Rattle.vb_model.specs.declared.replies.Refusal.TheVariants.{NoMemory}
 use Rattle.vb_model.specs.declared.replies.Reply.{Reply}
 use Rattle.vb_model.specs.declared.replies.Reply.TheVariants.{Places, Pages}
@@ -46,12 +46,12 @@ place_counts g =
 
 -- the state's values; a list of runs may find no memory
 abbrev pub Answers : Query → Guest → Reply → Type 0
-Answers AskPlaces g reply = reply ≡ Places (place_counts g)
+Answers QueryPlaces g reply = reply ≡ Places (place_counts g)
 Answers (PagesAt place) g reply =
     (reply ≡ Pages (runs (pages_where (is_place place) g.places))) ⊎ (reply ≡ Refused NoMemory)
 Answers PagesBallooned g reply =
     (reply ≡ Pages (runs (pages_where (λ b. b) g.ballooned))) ⊎ (reply ≡ Refused NoMemory)
-Answers AskBalloon g reply = reply ≡ Balloon (record
+Answers QueryBalloon g reply = reply ≡ Balloon (record
     { ballooned = ballooned_count g; actual = g.actual; target = g.target; status = g.status })
-Answers AskMemory g reply = reply ≡ Statistics g.last
-Answers (AskBacking page) g reply = reply ≡ Backing (frame_of g.frames page)
+Answers QueryMemory g reply = reply ≡ Statistics g.last
+Answers (QueryBacking page) g reply = reply ≡ Backing (frame_of g.frames page)

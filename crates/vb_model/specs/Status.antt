@@ -1,6 +1,6 @@
 -- A device's status and the features that are agreed on: VIRTIO 1.1, 2.1, 2.2 and 3.1.1; which
 -- writes are refused and in what order they are tested is the profile's.
--- The headline needs `contains`, `needed_tests` and three of the bits.
+-- The headline needs `contains`, `needed_causes` and three of the bits.
 use Rattle.std.specs.Prelude.{ℕ, Bool, not, ◌==◌, ◌&&◌, ◌||◌, nat_lt, List, [], ◌∷◌, if◌then◌else◌}
 use Rattle.std.specs.Prelude.{Option, None, count_by, bit_and}
 use Rattle.std.specs.List.{list_any}
@@ -8,7 +8,7 @@ use Rattle.vb_model.specs.declared.negotiation.TheConstants.{OFFERED_FEATURES}
 use Rattle.vb_model.specs.declared.replies.Refusal.{Refusal}
 use Rattle.vb_model.specs.declared.replies.Refusal.TheVariants.{ClearsBit, OutOfOrder}
 use Rattle.vb_model.specs.declared.replies.Refusal.TheVariants.{FeatureNotOffered, VersionMissing}
-use Rattle.vb_model.specs.FirstRefusal.{Test, ◌⇒◌, first_refusal}
+use Rattle.vb_model.specs.FirstRefusal.{Cause, ◌⇒◌, first_refusal}
 use Rattle.vb_model.specs.Guest.{version_1}
 
 -- ---- the bits of the status, which has eight
@@ -78,23 +78,23 @@ is_out_of_order status write =
 -- ---- the rules
 
 -- the feature that FEATURES_OK asks for: VERSION_1 (VIRTIO 1.1, 2.2 and 6.1)
-abbrev pub needed_tests : ℕ → List Test
-needed_tests negotiated = (not (version_1 negotiated) ⇒ VersionMissing) ∷ []
+abbrev pub needed_causes : ℕ → List Cause
+needed_causes negotiated = (not (version_1 negotiated) ⇒ VersionMissing) ∷ []
 
-abbrev pub status_tests : ℕ → ℕ → ℕ → List Test
-status_tests status negotiated write =
+abbrev pub status_causes : ℕ → ℕ → ℕ → List Cause
+status_causes status negotiated write =
     (not (contains write status) ⇒ ClearsBit)
     ∷ (is_out_of_order status write ⇒ OutOfOrder)
-    ∷ (if adds status write features_ok then needed_tests negotiated else [])
+    ∷ (if adds status write features_ok then needed_causes negotiated else [])
 
 -- why a write of the status is refused, where it is, at these negotiated features; a write of 0
 -- resets
 abbrev pub status_refusal : ℕ → ℕ → ℕ → Option Refusal
 status_refusal status negotiated write =
-    if write == 0 then None else first_refusal (status_tests status negotiated write)
+    if write == 0 then None else first_refusal (status_causes status negotiated write)
 
-abbrev pub negotiate_tests : ℕ → ℕ → List Test
-negotiate_tests status wanted =
+abbrev pub negotiate_causes : ℕ → ℕ → List Cause
+negotiate_causes status wanted =
     (not (status == 3) ⇒ OutOfOrder)
     ∷ (not (contains OFFERED_FEATURES wanted) ⇒ FeatureNotOffered)
     ∷ []
@@ -102,4 +102,4 @@ negotiate_tests status wanted =
 -- why these features are refused, where they are: they are negotiated between DRIVER and
 -- FEATURES_OK
 abbrev pub negotiate_refusal : ℕ → ℕ → Option Refusal
-negotiate_refusal status wanted = first_refusal (negotiate_tests status wanted)
+negotiate_refusal status wanted = first_refusal (negotiate_causes status wanted)

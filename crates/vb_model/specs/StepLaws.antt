@@ -7,7 +7,7 @@ use Rattle.vb_model.specs.declared.calls.Call.TheVariants.{Init, Scribble, SetTa
 use Rattle.vb_model.specs.declared.calls.Claim.{Claim}
 use Rattle.vb_model.specs.declared.calls.Event.{Event}
 use Rattle.vb_model.specs.declared.calls.Event.TheVariants.{Plug, Unplug, Restart}
-use Rattle.vb_model.specs.declared.calls.Event.TheVariants.{Guest as OnGuest, Query as Asking}
+use Rattle.vb_model.specs.declared.calls.Event.TheVariants.{Guest as OnGuest, Query as OnQuery}
 use Rattle.vb_model.specs.declared.calls.Event.TheVariants.{Balance}
 use Rattle.vb_model.specs.declared.calls.Query.{Query}
 use Rattle.vb_model.specs.declared.calls.Query.TheVariants.{PagesAt, PagesBallooned}
@@ -176,7 +176,7 @@ is_list _ = false
 abbrev pub may_want_memory : World → Event → Bool
 may_want_memory w (Plug size) = true
 may_want_memory w (OnGuest n call) = call_may_want (guest_at w.guests n) call
-may_want_memory w (Asking n query) = is_list query
+may_want_memory w (OnQuery n query) = is_list query
 may_want_memory w _ = false
 
 -- and each of them leaves the world as it was

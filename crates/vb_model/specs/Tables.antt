@@ -21,15 +21,15 @@ use Rattle.vb_model.specs.declared.limits.TheConstants.{MAX_OUTSTANDING, MAX_REQ
 use Rattle.vb_model.specs.Pages.{Block, block_at, is_place, is_wholly_free, is_same_block}
 use Rattle.vb_model.specs.Requests.{Request, kind_of_queue}
 use Rattle.vb_model.specs.Guest.{must_tell_host, stats_vq, reporting}
-use Rattle.vb_model.specs.FirstRefusal.{Test, ◌⇒◌}
+use Rattle.vb_model.specs.FirstRefusal.{Cause, ◌⇒◌}
 use Rattle.vb_model.specs.Status.{contains, driver_ok, needs_reset, failed}
 
 -- ---- the numbers of pages that the driver's calls move, at most `n` and at most those of a
 -- request
 
 -- an inflate offers the stranded pages, and others up to the target
-abbrev pub pages_to_offer : (places : List Place) (target n : ℕ) → ℕ
-pages_to_offer places target n =
+abbrev pub pages_to_inflate : (places : List Place) (target n : ℕ) → ℕ
+pages_to_inflate places target n =
     let stranded : ℕ = count_by (is_place Stranded) places in
     let missing : ℕ =
     target - count_by (is_place Lent) places - count_by (is_place Giving) places in
@@ -37,8 +37,8 @@ pages_to_offer places target n =
     (min (max stranded missing) (stranded + count_by (is_place Free) places))
 
 -- a deflate asks back what is above the target
-abbrev pub pages_to_ask : (places : List Place) (target n : ℕ) → ℕ
-pages_to_ask places target n =
+abbrev pub pages_to_deflate : (places : List Place) (target n : ℕ) → ℕ
+pages_to_deflate places target n =
     let lent : ℕ = count_by (is_place Lent) places in
     min (min n MAX_REQUEST_PAGES) (min lent (lent + count_by (is_place Giving) places - target))
 
@@ -96,29 +96,29 @@ abbrev pub is_not_held : (held : List Block) (b : Block) → Bool
 is_not_held held b = not (list_any (λ h. is_same_block h b) held)
 
 -- of a block that a processor asks for, and of one that it gives back
-abbrev pub block_tests : (order processors cpu : ℕ) (last : Test) → List Test
-block_tests order processors cpu last =
+abbrev pub block_causes : (order processors cpu : ℕ) (last : Cause) → List Cause
+block_causes order processors cpu last =
     (nat_lt MAX_ORDER order ⇒ BadOrder) ∷ (nat_le processors cpu ⇒ BadCpu) ∷ last ∷ []
 
 -- ---- the driver's calls
 
 -- of each of them, and of stats nothing else; it lacks a feature if one is missing that it needs
-abbrev pub driver_tests : (status : ℕ) (lacks : Bool) → List Test
-driver_tests status lacks = (not (is_up status) ⇒ NotReady) ∷ (lacks ⇒ NoFeature) ∷ []
+abbrev pub driver_causes : (status : ℕ) (lacks : Bool) → List Cause
+driver_causes status lacks = (not (is_up status) ⇒ NotReady) ∷ (lacks ⇒ NoFeature) ∷ []
 
 -- deflate, which needs no feature, oom and report: how many requests are outstanding, how many may
 -- be, and how many pages or blocks a new one would name
-abbrev pub request_tests : (status : ℕ) (lacks : Bool) (outstanding most count : ℕ) → List Test
-request_tests status lacks outstanding most count =
-    driver_tests status lacks
+abbrev pub request_causes : (status : ℕ) (lacks : Bool) (outstanding most count : ℕ) → List Cause
+request_causes status lacks outstanding most count =
+    driver_causes status lacks
     ++ (nat_le most outstanding ⇒ QueueFull)
     ∷ ((count == 0) ⇒ Nothing)
     ∷ []
 
 -- inflate: where the guest doesn't tell the host first, pages to offer may be among those that a
 -- pending deflate names, which would take them out of the balloon later
-abbrev pub inflate_tests : (status features pending outstanding most count : ℕ) → List Test
-inflate_tests status features pending outstanding most count =
+abbrev pub inflate_causes : (status features pending outstanding most count : ℕ) → List Cause
+inflate_causes status features pending outstanding most count =
     (not (is_up status) ⇒ NotReady)
     ∷ (nat_le most outstanding ⇒ QueueFull)
     ∷ ((not (must_tell_host features) && nat_lt 0 pending) ⇒ DeflatePending)
@@ -126,47 +126,47 @@ inflate_tests status features pending outstanding most count =
     ∷ []
 
 -- of a reap, before the used ring is read
-abbrev pub reap_tests : (q status features : ℕ) → List Test
-reap_tests q status features =
-    (not (is_queue_of_requests q) ⇒ NoQueue) ∷ driver_tests status (lacks_feature features q)
+abbrev pub reap_causes : (q status features : ℕ) → List Cause
+reap_causes q status features =
+    (not (is_queue_of_requests q) ⇒ NoQueue) ∷ driver_causes status (lacks_feature features q)
 
 -- ---- the device's calls
 
 -- of each of them, and of work nothing else
-abbrev pub work_tests : ℕ → List Test
-work_tests status =
+abbrev pub work_causes : ℕ → List Cause
+work_causes status =
     (is_not_ready status ⇒ NotReady) ∷ (contains status needs_reset ⇒ NeedsReset) ∷ []
 
 -- of a take, before guest memory is read, where so many chains of the queue are taken
-abbrev pub take_tests : (q status features taken : ℕ) → List Test
-take_tests q status features taken =
+abbrev pub take_causes : (q status features taken : ℕ) → List Cause
+take_causes q status features taken =
     (not (has_chains q) ⇒ NoQueue)
-    ∷ work_tests status
+    ∷ work_causes status
     ++ (lacks_feature features q ⇒ NoQueue)
     ∷ (nat_le (most_taken q) taken ⇒ Busy)
     ∷ []
 
 -- of a finish of this taken request, if there is one
-abbrev pub finish_tests : (q status : ℕ) (paced : Bool) (taken : Option Request) → List Test
-finish_tests q status paced taken =
+abbrev pub finish_causes : (q status : ℕ) (paced : Bool) (taken : Option Request) → List Cause
+finish_causes q status paced taken =
     (not (is_queue_of_requests q) ⇒ NoQueue)
-    ∷ work_tests status
+    ∷ work_causes status
     ++ (is_none taken ⇒ NotTaken)
     ∷ ((paced && not (q == DEFLATE_QUEUE) && has_unvisited taken) ⇒ NotWorked)
     ∷ []
 
 -- of a sweep: without MUST_TELL_HOST a guest may use a ballooned page that it has asked back
-abbrev pub sweep_tests : (status features : ℕ) (ballooned : Bool) → List Test
-sweep_tests status features ballooned =
-    work_tests status
+abbrev pub sweep_causes : (status features : ℕ) (ballooned : Bool) → List Cause
+sweep_causes status features ballooned =
+    work_causes status
     ++ (not (must_tell_host features) ⇒ NoFeature)
     ∷ (not ballooned ⇒ NotBallooned)
     ∷ []
 
 -- of the return of the statistics buffer, which is taken or isn't
-abbrev pub ask_tests : (status : ℕ) (taken : Bool) → List Test
-ask_tests status taken =
-    work_tests status
+abbrev pub ask_causes : (status : ℕ) (taken : Bool) → List Cause
+ask_causes status taken =
+    work_causes status
     ++ (not taken ⇒ NotTaken)
     ∷ []
 

@@ -16,7 +16,7 @@ use Rattle.vb_model.specs.Requests.{Request, posting, outstanding, IsLeastHead, 
 use Rattle.vb_model.specs.Requests.{Deflating, Reporting_free, kind_of_queue}
 use Rattle.vb_model.specs.Guest.{Guest, requests, with_requests, is_ballooned, tells_host}
 use Rattle.vb_model.specs.Tables.{is_up, is_not_ready, has_fault}
-use Rattle.vb_model.specs.Refusals.{Test, ◌⇒◌, first_refusal, tests, room}
+use Rattle.vb_model.specs.Refusals.{Cause, ◌⇒◌, first_refusal, causes, room}
 use Rattle.vb_model.specs.Refusals.{inflate_count, deflate_count, oom_count}
 use Rattle.vb_model.specs.Driver.{lowest_lent}
 use Rattle.vb_model.specs.Step.{Performs, HonestStep}
@@ -24,18 +24,18 @@ use Rattle.vb_model.specs.Consistent.{IsConsistent}
 use Rattle.vb_model.specs.Orderly.{IsOrderly}
 
 -- an inflate and a sweep have these refusals alone
-abbrev pub told_tests : Guest → Call → List Test
-told_tests g (Inflate n) =
+abbrev pub told_causes : Guest → Call → List Cause
+told_causes g (Inflate n) =
     (not (is_up g.status) ⇒ NotReady)
     ∷ (nat_le (room g) (outstanding g.inflate) ⇒ QueueFull)
     ∷ ((inflate_count g n == 0) ⇒ Nothing)
     ∷ []
-told_tests g (Sweep page) =
+told_causes g (Sweep page) =
     (is_not_ready g.status ⇒ NotReady)
     ∷ (has_fault g.status ⇒ NeedsReset)
     ∷ (not (is_ballooned g.ballooned page) ⇒ NotBallooned)
     ∷ []
-told_tests g call = tests g call
+told_causes g call = causes g call
 
 -- pages that are asked back are taking
 abbrev pub CallsBack : ℕ → Guest → Reply → Guest → Type 0
@@ -80,7 +80,7 @@ ToldPerforms call g claims reply new = Performs call g claims reply new
 
 abbrev pub ToldStep : Guest → Call → List Claim → Reply → Guest → Type 0
 ToldStep g call claims reply new =
-    MatchOption (first_refusal (told_tests g call))
+    MatchOption (first_refusal (told_causes g call))
     (ToldPerforms call g claims reply new)
     (λ refusal. (claims ≡ []) × (reply ≡ Refused refusal) × (new ≡ g))
 

@@ -9,7 +9,7 @@ use Rattle.vb_monitor.{specs.Asking.{AsksForFlags, GivesHeld, GivesHeldAlone}, s
 use Rattle.vb_monitor.{specs.declared.giving.UsedSpots.UsedSpots, specs.declared.regions.Spot.Spot}
 use Rattle.vb_monitor.{specs.Ends.{Whole, Stops, Ends, FlagsAt}, specs.declared.outcome.Tally.Tally}
 use Rattle.vb_monitor.specs.Accesses.{Access, ReadWord, Full}
-use Rattle.vb_monitor.specs.Notices.{Asks, AfterGiven, fresh}
+use Rattle.vb_monitor.specs.Notices.{AsksStatistics, AfterGiven, fresh}
 use Rattle.vb_monitor.{specs.declared.outcome.Outcome.Outcome, specs.declared.regions.Region.Region}
 use Rattle.vb_monitor.{specs.declared.outcome.Budget.Budget, specs.Giving.{with_given, after_use}}
 
@@ -65,7 +65,7 @@ gives regions head d1 d2 outcome None log h =
     used regions head d1 d2 outcome (used_spots regions (used_entry d1.statistics head)) log refl h
 
 pub gives_held : (regions : List Region) (head : ℕ) (d1 d2 : Device) (outcome : Outcome)
-    (log : List Access) → Asks regions head d1 d2 outcome log →
+    (log : List Access) → AsksStatistics regions head d1 d2 outcome log →
     GivesHeldAlone regions head d1 log
 gives_held regions head d1 d2 outcome log h =
     gives regions head d1 d2 outcome (use_denial Statistics head d1) log h
@@ -88,6 +88,6 @@ held_few regions head d log (inr gives) =
     subst (λ (l : List Access). length l ≤ 6) (sym gives.asks) (omega (arith, few))
 
 pub few_to_ask : (regions : List Region) (head : ℕ) (d1 d2 : Device) (outcome : Outcome)
-    (log : List Access) → Asks regions head d1 d2 outcome log → length log ≤ 6
+    (log : List Access) → AsksStatistics regions head d1 d2 outcome log → length log ≤ 6
 few_to_ask regions head d1 d2 outcome log h =
     held_few regions head d1 log (gives_held regions head d1 d2 outcome log h)

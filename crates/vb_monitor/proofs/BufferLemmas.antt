@@ -1,14 +1,16 @@
 -- Lists of buffers, and of the pieces that they say.
-use Rattle.std.proofs.Common.{◌≡◌, ◌∙◌, ap, sym, subst, refl, ℕ, ◌+◌, ◌<◌, ◌≤◌, Bool, false, true, List, [], ◌∷◌, ◌++◌, length, map, take, drop, get_or, slice_set}
+use Rattle.std.proofs.Common.{◌≡◌, ◌∙◌, ap, sym, subst, refl, ℕ, ◌+◌, ◌<◌, ◌≤◌, Bool, false, true}
+use Rattle.std.proofs.Common.{List, [], ◌∷◌, ◌++◌, length, map, take, drop, get_or, slice_set}
 use Rattle.std.specs.Prelude.{◌||◌, not, ◌==◌, sum_by, fold}
 use Rattle.std.specs.List.{list_any}
 use Rattle.std.proofs.lemmas.List.{length-map, get_or-map, map-append, take_more, take_more_set}
-use Rattle.vb_core.specs.declared.next.Buffer.{Buffer}
+use Rattle.vb_core.specs.declared.next.ChainPiece.{ChainPiece}
 use Rattle.vb_chain.specs.declared.pieces.Piece.{Piece}
 use Rattle.vb_request.specs.Request.{total_length}
 use Rattle.vb_monitor.specs.Pieces.{piece_in, pieces_in, first_part, second_part, all_parts}
 use Rattle.vb_monitor.specs.Machine.{behind_part}
-use Rattle.vb_monitor.proofs.PartLemmas.{part_here, part_on, part_end, second_here, second_none, behind_end}
+use Rattle.vb_monitor.proofs.PartLemmas.{part_here, part_on, part_end, second_here, second_none}
+use Rattle.vb_monitor.proofs.PartLemmas.{behind_end}
 
 -- ---- all of them
 
@@ -16,47 +18,47 @@ pub none_in : pieces_in [] ≡ []
 unfolding pieces_in
 none_in = refl
 
-pub length_in : (bs : List Buffer) → length (pieces_in bs) ≡ length bs
+pub length_in : (bs : List ChainPiece) → length (pieces_in bs) ≡ length bs
 unfolding pieces_in
 length_in bs = length-map bs piece_in
 
-pub join_in : (bs : List Buffer) (b : Buffer) →
+pub join_in : (bs : List ChainPiece) (b : ChainPiece) →
     pieces_in (bs ++ b ∷ []) ≡ pieces_in bs ++ piece_in b ∷ []
 unfolding pieces_in
 join_in bs b = map-append piece_in bs (b ∷ [])
 
-pub any_in : (bs : List Buffer) →
+pub any_in : (bs : List ChainPiece) →
     list_any (λ (p : Piece). p.writable) (pieces_in bs) ≡
-    list_any (λ (b : Buffer). not (b.writable == 0)) bs
+    list_any (λ (b : ChainPiece). not (b.writable == 0)) bs
 unfolding pieces_in
 any_in [] = refl
 any_in (b ∷ bs) = ap (λ (x : Bool). not (b.writable == 0) || x) (any_in bs)
 
-total_from : (from : ℕ) (bs : List Buffer) →
+total_from : (from : ℕ) (bs : List ChainPiece) →
     fold (λ (n : ℕ) (p : Piece). n + p.len) from (map piece_in bs) ≡
-    fold (λ (n : ℕ) (b : Buffer). n + b.length) from bs
+    fold (λ (n : ℕ) (b : ChainPiece). n + b.length) from bs
 total_from from [] = refl
 total_from from (b ∷ bs) = total_from (from + b.length) bs
 
-pub total_in : (bs : List Buffer) →
-    total_length (pieces_in bs) ≡ sum_by (λ (b : Buffer). b.length) bs
+pub total_in : (bs : List ChainPiece) →
+    total_length (pieces_in bs) ≡ sum_by (λ (b : ChainPiece). b.length) bs
 unfolding pieces_in
 total_in bs = total_from 0 bs
 
 -- ---- one buffer of a list
 
-get_in : (bs : List Buffer) (n : ℕ) (d : Buffer) → n < length bs →
+get_in : (bs : List ChainPiece) (n : ℕ) (d : ChainPiece) → n < length bs →
     get_or (pieces_in bs) n (piece_in d) ≡ piece_in (get_or bs n d)
 unfolding pieces_in
 get_in bs n d lt = get_or-map piece_in bs n d (piece_in d) lt
 
-less_in : (bs : List Buffer) (n : ℕ) → n < length bs → n < length (pieces_in bs)
+less_in : (bs : List ChainPiece) (n : ℕ) → n < length bs → n < length (pieces_in bs)
 less_in bs n lt = subst (λ (m : ℕ). n < m) (sym (length_in bs)) lt
 
-more_in : (bs : List Buffer) (n : ℕ) → length bs ≤ n → length (pieces_in bs) ≤ n
+more_in : (bs : List ChainPiece) (n : ℕ) → length bs ≤ n → length (pieces_in bs) ≤ n
 more_in bs n le = subst (λ (m : ℕ). m ≤ n) (sym (length_in bs)) le
 
-pub here_in : (bs : List Buffer) (n : ℕ) (d : Buffer) → n < length bs → 0 < (get_or bs n d).length →
+pub here_in : (bs : List ChainPiece) (n : ℕ) (d : ChainPiece) → n < length bs → 0 < (get_or bs n d).length →
     all_parts (drop n (pieces_in bs)) ≡
     first_part (piece_in (get_or bs n d)) ∷ behind_part false n (pieces_in bs)
 here_in bs n d lt =
@@ -64,19 +66,19 @@ here_in bs n d lt =
     first_part p ∷ behind_part false n (pieces_in bs)) (get_in bs n d lt)
     (part_here (pieces_in bs) n (piece_in d) (less_in bs n lt))
 
-pub on_in : (bs : List Buffer) (n : ℕ) (d : Buffer) → n < length bs → (get_or bs n d).length ≡ 0 →
+pub on_in : (bs : List ChainPiece) (n : ℕ) (d : ChainPiece) → n < length bs → (get_or bs n d).length ≡ 0 →
     all_parts (drop n (pieces_in bs)) ≡ all_parts (drop (n + 1) (pieces_in bs))
 on_in bs n d lt =
     subst (λ (p : Piece). p.len ≡ 0 → all_parts (drop n (pieces_in bs)) ≡
     all_parts (drop (n + 1) (pieces_in bs))) (get_in bs n d lt)
     (part_on (pieces_in bs) n (piece_in d) (less_in bs n lt))
 
-pub end_in : (bs : List Buffer) (n : ℕ) → length bs ≤ n → all_parts (drop n (pieces_in bs)) ≡ []
+pub end_in : (bs : List ChainPiece) (n : ℕ) → length bs ≤ n → all_parts (drop n (pieces_in bs)) ≡ []
 end_in bs n le = part_end (pieces_in bs) n (more_in bs n le)
 
 -- ---- the second part of a piece
 
-pub second_in : (bs : List Buffer) (n : ℕ) (d : Buffer) → n < length bs →
+pub second_in : (bs : List ChainPiece) (n : ℕ) (d : ChainPiece) → n < length bs →
     0 < (second_part (piece_in (get_or bs n d))).length →
     behind_part false n (pieces_in bs) ≡
     second_part (piece_in (get_or bs n d)) ∷ behind_part true n (pieces_in bs)
@@ -85,7 +87,7 @@ second_in bs n d lt =
     second_part p ∷ behind_part true n (pieces_in bs)) (get_in bs n d lt)
     (second_here (pieces_in bs) n (piece_in d) (less_in bs n lt))
 
-pub no_second_in : (bs : List Buffer) (n : ℕ) (d : Buffer) → n < length bs →
+pub no_second_in : (bs : List ChainPiece) (n : ℕ) (d : ChainPiece) → n < length bs →
     (second_part (piece_in (get_or bs n d))).length ≡ 0 →
     behind_part false n (pieces_in bs) ≡ all_parts (drop (n + 1) (pieces_in bs))
 no_second_in bs n d lt =
@@ -93,7 +95,7 @@ no_second_in bs n d lt =
     all_parts (drop (n + 1) (pieces_in bs))) (get_in bs n d lt)
     (second_none (pieces_in bs) n (piece_in d) (less_in bs n lt))
 
-pub behind_in : (b : Bool) (bs : List Buffer) (n : ℕ) → length bs ≤ n →
+pub behind_in : (b : Bool) (bs : List ChainPiece) (n : ℕ) → length bs ≤ n →
     behind_part b n (pieces_in bs) ≡ []
 behind_in b bs n le = behind_end b (pieces_in bs) n (more_in bs n le)
 
@@ -101,17 +103,17 @@ pub ruleset part_steps = (here_in, on_in, end_in)
 
 -- ---- one more
 
-pub join_at : (bs : List Buffer) (k : ℕ) (b : Buffer) (p : Piece) → k < length bs → piece_in b ≡ p →
+pub join_at : (bs : List ChainPiece) (k : ℕ) (b : ChainPiece) (p : Piece) → k < length bs → piece_in b ≡ p →
     pieces_in (take (k + 1) (slice_set bs k b)) ≡ pieces_in (take k bs) ++ p ∷ []
 join_at bs k b p lt e =
-    ap (λ (l : List Buffer). pieces_in l) (take_more_set bs k b lt)
+    ap (λ (l : List ChainPiece). pieces_in l) (take_more_set bs k b lt)
     ∙ (join_in (take k bs) b ∙ ap (λ (q : Piece). pieces_in (take k bs) ++ q ∷ []) e)
 
-pub push_in : (bs : List Buffer) (k : ℕ) (d : Buffer) (items more : List Piece) (p : Piece) →
+pub push_in : (bs : List ChainPiece) (k : ℕ) (d : ChainPiece) (items more : List Piece) (p : Piece) →
     k < length bs → items ≡ pieces_in (take k bs) → p ≡ piece_in (get_or bs k d) →
     more ≡ items ++ p ∷ [] → more ≡ pieces_in (take (k + 1) bs)
 push_in bs k d items more p lt e f g =
     g ∙ (ap (λ (l : List Piece). l ++ p ∷ []) e
     ∙ (ap (λ (q : Piece). pieces_in (take k bs) ++ q ∷ []) f
     ∙ (sym (join_in (take k bs) (get_or bs k d))
-    ∙ ap (λ (l : List Buffer). pieces_in l) (sym (take_more bs k d lt)))))
+    ∙ ap (λ (l : List ChainPiece). pieces_in l) (sym (take_more bs k d lt)))))

@@ -9,7 +9,7 @@ use Rattle.vb_chain.specs.Rules.{has_next, is_writable, piece_of}
 use Rattle.vb_request.{specs.Request.request_length, specs.Statistics.statistics_length}
 use Rattle.vb_core.{specs.declared.kinds.Kind.Kind, specs.declared.runs.Run.Run}
 use Rattle.vb_core.specs.declared.kinds.Kind.TheVariants.{Inflate, Deflate, Statistics, Report}
-use Rattle.vb_core.{specs.declared.name.Named.Named, specs.declared.ring.Ring.Ring}
+use Rattle.vb_core.{specs.declared.name.Named.Named, specs.declared.ring.Virtqueue.Virtqueue}
 use Rattle.vb_core.{specs.declared.ring.UsedEntry.UsedEntry, specs.declared.device.Denial.Denial}
 use Rattle.vb_core.{specs.declared.device.Device.Device, specs.Rings.used_entry}
 use Rattle.vb_core.{specs.Devices.{ring_of, queue_denial}, specs.Using.use_denial}
@@ -279,7 +279,7 @@ follows (suc n) m w d t done last number writing pieces log h =
 -- ---- a look
 
 -- all that a chain takes behind its entry
-a_table : (r : Ring) → descriptors r ≤ 256
+a_table : (r : Virtqueue) → descriptors r ≤ 256
 a_table r = grind arith
 
 head_few : (m : ℕ) (w : Whole) (next : Then) (on : After m next) (d : Device) (t : Tally)

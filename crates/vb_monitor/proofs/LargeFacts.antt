@@ -7,7 +7,7 @@ use Rattle.vb_core.specs.Ballooned.{is_ballooned}
 use Rattle.vb_monitor.specs.Large.{is_page_size, is_made_of, is_part_of, is_of_large, is_of}
 use Rattle.vb_monitor.specs.Large.{outside, counted, Goes, all_wait, LargeBy}
 use Rattle.vb_monitor.{specs.declared.large.TheConstants.LARGEST_PAGE, specs.declared.cuts.Cut.Cut}
-use Rattle.vb_monitor.{specs.declared.regions.Region.Region, proofs.LargeLaws.{largest, given_up}}
+use Rattle.vb_monitor.{specs.declared.regions.Region.Region, proofs.LargeLaws.{largest, wholly_given}}
 use Rattle.vb_monitor.{specs.declared.large.Large.Large, proofs.LargeLemmas.between_says}
 
 -- ---- sizes
@@ -159,7 +159,7 @@ page_five = record {
 }
 
 not_early : LargeBy 0x4000 region half one page_five → ⊥
-not_early is = let e = given_up 0x4000 region half one page_five is 23 refl in cc
+not_early is = let e = wholly_given 0x4000 region half one page_five is 23 refl in cc
 
 -- where the region isn't pages of this size, all waits
 misfit : (answer : Large) →

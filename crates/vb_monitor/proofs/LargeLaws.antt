@@ -127,10 +127,10 @@ given_by_test true size r part set answer may (inl g) p e =
 given_by_test true size r part set answer may (inr n) p e =
     absurd (none_given r part p (subst (λ (a : Large). is_of r a.cut p ≡ true) n.all e))
 
-pub given_up : (size : ℕ) (r : Region) (part : Cut) (set : List ℕ) (answer : Large) →
+pub wholly_given : (size : ℕ) (r : Region) (part : Cut) (set : List ℕ) (answer : Large) →
     LargeBy size r part set answer → (p : ℕ) → is_of r answer.cut p ≡ true →
     (is_of r part p || is_ballooned set p) ≡ true
-given_up size r part set answer is p e =
+wholly_given size r part set answer is p e =
     given_by_test (may_go size r part) size r part set answer refl is p e
 
 whole_by_test : (b : Bool) (size : ℕ) (r : Region) (part : Cut) (set : List ℕ) (answer : Large) →

@@ -7,7 +7,8 @@ use Rattle.vb_core.specs.declared.kinds.Kind.TheVariants.{Inflate, Deflate, Stat
 use Rattle.vb_core.specs.Report.{NamesPiecesBy, pieces_denial, named_by, report_named, run_of}
 use Rattle.vb_core.specs.Name.{NamesBy, NamesRuns, fault_in, name_denial, after_request}
 use Rattle.vb_core.{specs.Devices.{ring_of, with_one_taken, needing_reset}, specs.Next.told}
-use Rattle.vb_core.{specs.declared.device.Denial.TheVariants.NoQueue, specs.declared.ring.Ring.Ring}
+use Rattle.vb_core.specs.declared.device.Denial.TheVariants.{NoQueue}
+use Rattle.vb_core.specs.declared.ring.Virtqueue.{Virtqueue}
 use Rattle.vb_core.{specs.Settings.{memory_pages, skips}, specs.declared.device.Denial.Denial}
 use Rattle.vb_core.{specs.declared.device.Device.Device, specs.declared.name.Named.Named}
 use Rattle.vb_core.{specs.declared.kinds.Kind.Kind, specs.declared.runs.Run.Run}
@@ -20,10 +21,10 @@ answered_avail : (kind : Kind) (d d2 : Device) (answer : Result Named ChainFault
     d2 ≡ after_request kind answer d → (ring_of kind d2).avail ≡ (ring_of kind d).avail
 answered_avail kind d d2 (Ok named) e =
     ap (λ (x : Device). (ring_of kind x).avail) e
-    ∙ ap (λ (r : Ring). r.avail) (taken_ring kind d)
+    ∙ ap (λ (r : Virtqueue). r.avail) (taken_ring kind d)
 answered_avail kind d d2 (Err fault) e =
     ap (λ (x : Device). (ring_of kind x).avail) e
-    ∙ ap (λ (r : Ring). r.avail) (same_ring kind d)
+    ∙ ap (λ (r : Virtqueue). r.avail) (same_ring kind d)
 
 avail_by : (kind : Kind) (bytes : List ℕ) (room : ℕ) (runs : List Run) (d d2 : Device)
     (result : Result Named Denial) (denial : Option Denial) →

@@ -5,7 +5,8 @@ use Rattle.std.specs.Prelude.{◌==◌}
 use Rattle.vb_chain.specs.declared.pieces.Piece.{Piece}
 use Rattle.vb_chain.specs.declared.fault.ChainFault.TheVariants.{TooLong}
 use Rattle.vb_core.{specs.declared.device.Device.Device, specs.Devices.{ring_of, queue_denial}}
-use Rattle.vb_monitor.specs.Notices.{Takes, TakesNext, TakesUnlessSpent, AfterGiven, Looks, LooksBy}
+use Rattle.vb_monitor.specs.Notices.{TakesChain, TakesNext, TakesUnlessSpent, AfterGiven, Looks}
+use Rattle.vb_monitor.specs.Notices.{LooksBy}
 use Rattle.vb_monitor.{specs.declared.outcome.Tally.Tally, specs.declared.parts.Part.Part}
 use Rattle.vb_monitor.{specs.Accesses.Access, specs.Regions.spot, specs.Ends.{Whole, Ends, Breaks}}
 use Rattle.vb_monitor.{specs.Pieces.{PartBy, fits_behind, CopiesParts}, specs.Notices.with_chains}
@@ -23,7 +24,7 @@ takes_by m w d t log spent e h =
 
 pub takes_next : (n : ℕ) (w : Whole) (d : Device) (t : Tally) (log : List Access) → 0 < n →
     (t.pages == 0) ≡ false →
-    Takes w (next_chain w (with_chains (n - 1) t)) d (with_chains (n - 1) t) log →
+    TakesChain w (next_chain w (with_chains (n - 1) t)) d (with_chains (n - 1) t) log →
     TakesNext n w d t log
 takes_next n w d t log some e h =
     let is : suc (n - 1) ≡ n = omega (arith, some) in

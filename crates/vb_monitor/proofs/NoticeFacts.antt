@@ -4,7 +4,8 @@ use Rattle.std.proofs.Common.{Some, None, Ok, Err}
 use Rattle.vb_chain.specs.declared.descriptor.Descriptor.{Descriptor}
 use Rattle.vb_chain.specs.declared.fault.ChainFault.TheVariants.{IndexJump, TooLong, OutOfRam}
 use Rattle.vb_core.specs.declared.kinds.Kind.TheVariants.{Inflate, Statistics}
-use Rattle.vb_core.{specs.declared.ring.Ring.Ring, specs.declared.ring.UsedEntry.UsedEntry}
+use Rattle.vb_core.specs.declared.ring.Virtqueue.{Virtqueue}
+use Rattle.vb_core.specs.declared.ring.UsedEntry.{UsedEntry}
 use Rattle.vb_core.{specs.declared.device.Denial.Denial, specs.declared.device.Device.Device}
 use Rattle.vb_core.specs.Devices.{new_device, placed}
 use Rattle.vb_monitor.{specs.declared.regions.Spot.Spot, specs.declared.giving.UsedSpots.UsedSpots}
@@ -16,7 +17,7 @@ use Rattle.vb_monitor.specs.Chains.{descriptor_of, table_fault, descriptors, Ask
 use Rattle.vb_monitor.specs.Notices.{entry_offset, stands, AsksEntry, AsksIndex}
 use Rattle.vb_monitor.specs.Balloons.{may_look, after_status, becomes_ready}
 
-abbrev ring : Ring
+abbrev ring : Virtqueue
 ring = placed 0 256 512 8
 
 -- ---- the index and the entry

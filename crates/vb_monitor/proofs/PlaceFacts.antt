@@ -1,6 +1,7 @@
 -- Where memory of regions ends, what of it is memory, and which queues lie in it, worked out.
 use Rattle.std.proofs.Common.{◌≡◌, refl, arith, ℕ, true, false, [], ◌∷◌, Some, None}
-use Rattle.vb_core.{specs.declared.ring.Ring.Ring, specs.declared.settings.Settings.Settings}
+use Rattle.vb_core.specs.declared.ring.Virtqueue.{Virtqueue}
+use Rattle.vb_core.specs.declared.settings.Settings.{Settings}
 use Rattle.vb_core.{specs.declared.device.Device.Device, specs.Devices.{new_device, placed}}
 use Rattle.vb_core.specs.declared.kinds.Kind.TheVariants.{Inflate, Statistics}
 use Rattle.vb_monitor.specs.Places.{memory_end_of, is_memory, AreMemory, HasMemory, Lies}

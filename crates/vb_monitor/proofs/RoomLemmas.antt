@@ -9,7 +9,7 @@ use Rattle.vb_core.specs.Name.{NamesBy, NamesRuns, AreNamed, fault_in, right_num
 use Rattle.vb_core.{specs.declared.kinds.Kind.Kind, specs.declared.runs.Run.Run, specs.Next.told}
 use Rattle.vb_core.{specs.declared.name.Named.Named, specs.declared.device.Denial.Denial}
 use Rattle.vb_core.{specs.declared.device.Device.Device, specs.Settings.{memory_pages, skips}}
-use Rattle.vb_core.{specs.Devices.call_denial, specs.declared.next.Buffer.Buffer}
+use Rattle.vb_core.{specs.Devices.call_denial, specs.declared.next.ChainPiece.ChainPiece}
 use Rattle.vb_core.specs.Report.{NamesPiecesBy, pieces_denial, named_by, report_named}
 use Rattle.vb_core.specs.Name.{is_request, after_request}
 use Rattle.vb_model.specs.declared.limits.TheConstants.{MAX_QUEUE_SIZE}
@@ -92,7 +92,7 @@ few_by_pieces None pieces room runs d1 d2 named e n =
     (n.answer e)
 
 -- a report's pieces are copied buffers
-pub few_reported : (buffers : List Buffer) (room : ℕ) (runs : List Run) (d1 d2 : Device)
+pub few_reported : (buffers : List ChainPiece) (room : ℕ) (runs : List Run) (d1 d2 : Device)
     (named : Named) → length buffers ≤ MAX_QUEUE_SIZE →
     NamesPiecesBy (pieces_in buffers) room runs d1 d2 (Ok named) → named.runs ≤ MAX_RUNS
 few_reported buffers room runs d1 d2 named short n =

@@ -2,7 +2,8 @@
 use Rattle.std.proofs.Common.{◌≡◌, ℕ, false, List, [], ◌∷◌, None}
 use Rattle.vb_chain.specs.declared.pieces.Piece.{Piece}
 use Rattle.vb_core.{specs.declared.kinds.Kind.TheVariants.Inflate, specs.declared.runs.Run.Run}
-use Rattle.vb_core.{specs.declared.ring.Ring.Ring, specs.declared.settings.Settings.Settings}
+use Rattle.vb_core.specs.declared.ring.Virtqueue.{Virtqueue}
+use Rattle.vb_core.specs.declared.settings.Settings.{Settings}
 use Rattle.vb_core.{specs.declared.device.Device.Device, specs.Devices.{new_device, placed}}
 use Rattle.vb_monitor.specs.Accesses.{Access, ReadWord, CopyBytes, TellPages, TellFigures, Discard}
 use Rattle.vb_monitor.{specs.declared.regions.Region.Region, specs.declared.regions.Spot.Spot}
@@ -55,7 +56,7 @@ settings = record {
 }
 
 -- eight descriptors: a table at 0, an available ring at 0x100, a used ring at 0x200
-abbrev pub ring : Ring
+abbrev pub ring : Virtqueue
 ring = placed 0 0x100 0x200 8
 
 -- one that is ready, with this ring for each queue

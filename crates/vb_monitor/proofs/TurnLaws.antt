@@ -5,7 +5,7 @@ use Rattle.std.{proofs.Common.Err, specs.Prelude.{◌==◌, nat_lt}}
 use Rattle.vb_chain.{specs.declared.pieces.Piece.Piece, specs.declared.fault.ChainFault.ChainFault}
 use Rattle.vb_chain.specs.declared.descriptor.Descriptor.{Descriptor}
 use Rattle.vb_chain.specs.Rules.{has_next, piece_of}
-use Rattle.vb_core.{specs.declared.kinds.Kind.Kind, specs.declared.ring.Ring.Ring}
+use Rattle.vb_core.{specs.declared.kinds.Kind.Kind, specs.declared.ring.Virtqueue.Virtqueue}
 use Rattle.vb_core.specs.declared.kinds.Kind.TheVariants.{Inflate, Deflate, Statistics, Report}
 use Rattle.vb_core.{specs.declared.device.Denial.Denial, specs.declared.device.Device.Device}
 use Rattle.vb_core.specs.Devices.{ring_of, queue_denial}
@@ -70,7 +70,7 @@ descriptor_at w d0 d t head number on done more last writing pieces None b log i
     breaks_each w d0 d t _ b log is h
 descriptor_at w d0 d t head number on done more last writing pieces (Some at) b log is read e h =
     let there : spot w.regions ((ring_after (ring_of w.kind d0) b).table + 16 * number) 16 ≡ Some at =
-    subst (λ (r : Ring). spot w.regions (r.table + 16 * number) 16 ≡ Some at) is.ring e in
+    subst (λ (r : Virtqueue). spot w.regions (r.table + 16 * number) 16 ≡ Some at) is.ring e in
     subst (λ (l : List Access). Each (Comes w d0) b l) (sym h.asks) (
       (
         subst (λ (k : Known). CopiesNext w.regions (ring_after (ring_of w.kind d0) b).table k at
@@ -122,7 +122,7 @@ entry_each w d0 next on d t (Some at) b log is new e h =
       ((new, is.lasts), (tt, tt)),
       (
         (
-          subst (λ (r : Ring). spot w.regions (r.avail + entry_offset r) 2 ≡ Some at) is.ring e,
+          subst (λ (r : Virtqueue). spot w.regions (r.avail + entry_offset r) 2 ≡ Some at) is.ring e,
           (tt, tt),
         ),
         head_each w d0 next on d t h.head (nat_lt h.head (descriptors (ring_of w.kind d)))
@@ -156,7 +156,7 @@ index_by w d0 d t takes on (Ok true) b log is new h = on b log is new h
 
 -- behind these accesses the index is read
 pub record Looked (b : List Access) : Type 0 where
-  pub word : (regions : List Region) (r : Ring) (at : Spot) →
+  pub word : (regions : List Region) (r : Virtqueue) (at : Spot) →
       spot regions (r.avail + 2) 2 ≡ Some at → ReadsWord regions r b at
   pub unfenced : is_fenced b ≡ false
   pub lasts : ends_in_full b ≡ false
@@ -170,7 +170,7 @@ index_at w d0 d t takes on (Some at) b log is looked e h =
     subst (λ (l : List Access). Each (Comes w d0) b l) (sym h.asks) (
       (
         looked.word w.regions (ring_after (ring_of w.kind d0) b) at
-            (subst (λ (r : Ring). spot w.regions (r.avail + 2) 2 ≡ Some at) is.ring e),
+            (subst (λ (r : Virtqueue). spot w.regions (r.avail + 2) 2 ≡ Some at) is.ring e),
         (tt, tt),
       ),
       index_by w d0 d t takes on (stands (ring_of w.kind d) h.index) (ReadWord at h.index ∷ b)

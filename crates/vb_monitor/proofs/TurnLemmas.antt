@@ -6,7 +6,7 @@ use Rattle.vb_model.specs.declared.layout.TheConstants.{STATISTIC_SIZE}
 use Rattle.vb_chain.{specs.declared.pieces.Piece.Piece, specs.declared.fault.ChainFault.ChainFault}
 use Rattle.vb_core.{specs.declared.kinds.Kind.Kind, specs.declared.runs.Run.Run}
 use Rattle.vb_core.specs.declared.kinds.Kind.TheVariants.{Inflate, Deflate, Statistics, Report}
-use Rattle.vb_core.{specs.declared.name.Named.Named, specs.declared.ring.Ring.Ring}
+use Rattle.vb_core.{specs.declared.name.Named.Named, specs.declared.ring.Virtqueue.Virtqueue}
 use Rattle.vb_core.{specs.declared.ring.UsedEntry.UsedEntry, specs.declared.device.Denial.Denial}
 use Rattle.vb_core.{specs.declared.settings.Settings.Settings, specs.declared.device.Device.Device}
 use Rattle.vb_core.{specs.declared.statistics.Statistic.Statistic, specs.Using.use_denial}
@@ -92,7 +92,7 @@ pub one_taken : (w : Whole) (d0 : Device) (b c : List Access) (d : Device) → A
     ring_after (ring_of w.kind d0) c ≡ with_taken (ring_after (ring_of w.kind d0) b) →
     is_over c ≡ false → Agrees w d0 c (with_one_taken w.kind d)
 one_taken w d0 b c d is e lasts = record {
-  ring = taken_ring w.kind d ∙ (ap (λ (r : Ring). with_taken r) is.ring ∙ sym e);
+  ring = taken_ring w.kind d ∙ (ap (λ (r : Virtqueue). with_taken r) is.ring ∙ sym e);
   settings = taken_settings w.kind d ∙ is.settings;
   keeps = taken_keeps w.kind d ∙ is.keeps;
   lasts = lasts;
@@ -102,7 +102,7 @@ one_used : (w : Whole) (d0 : Device) (b c : List Access) (d : Device) → Agrees
     ring_after (ring_of w.kind d0) c ≡ with_used (ring_after (ring_of w.kind d0) b) →
     is_over c ≡ false → Agrees w d0 c (after_use w.kind d)
 one_used w d0 b c d is e lasts = record {
-  ring = used_ring w.kind d ∙ (ap (λ (r : Ring). with_used r) is.ring ∙ sym e);
+  ring = used_ring w.kind d ∙ (ap (λ (r : Virtqueue). with_used r) is.ring ∙ sym e);
   settings = used_settings w.kind d ∙ is.settings;
   keeps = used_keeps w.kind d ∙ is.keeps;
   lasts = lasts;
@@ -117,18 +117,18 @@ Flags w d0 b d =
 
 pub flags_of : (w : Whole) (d0 : Device) (b : List Access) (d : Device) → Agrees w d0 b d →
     Flags w d0 b d
-flags_of w d0 b d is = (ap (λ (r : Ring). r.avail) is.ring, is.lasts)
+flags_of w d0 b d is = (ap (λ (r : Virtqueue). r.avail) is.ring, is.lasts)
 
 pub broken : (w : Whole) (d0 : Device) (b : List Access) (d : Device) → Agrees w d0 b d →
     Flags w d0 b (needing_reset d)
 broken w d0 b d is =
-    (ap (λ (r : Ring). r.avail) (same_ring w.kind d ∙ is.ring), is.lasts)
+    (ap (λ (r : Virtqueue). r.avail) (same_ring w.kind d ∙ is.ring), is.lasts)
 
 broken_use : (w : Whole) (d0 : Device) (b : List Access) (d : Device) → Agrees w d0 b d →
     Flags w d0 b (needing_reset (after_use w.kind d))
 broken_use w d0 b d is = (
-  ap (λ (r : Ring). r.avail) (same_ring w.kind (after_use w.kind d))
-      ∙ (ap (λ (r : Ring). r.avail) (used_ring w.kind d) ∙ (flags_of w d0 b d is).0),
+  ap (λ (r : Virtqueue). r.avail) (same_ring w.kind (after_use w.kind d))
+      ∙ (ap (λ (r : Virtqueue). r.avail) (used_ring w.kind d) ∙ (flags_of w d0 b d is).0),
   is.lasts,
 )
 
@@ -184,7 +184,7 @@ number_for : (w : Whole) (d0 d : Device) (head : ℕ) (pieces : List Piece) (byt
 number_for w d0 d head pieces bytes second b at n read is h =
     subst (λ (k : Known). NumberFor k second w.regions (ring_after (ring_of w.kind d0) b) at n)
     (sym read)
-    (subst (λ (r : Ring). NumberFor (Has head pieces [] bytes) second w.regions r at n) is.ring h)
+    (subst (λ (r : Virtqueue). NumberFor (Has head pieces [] bytes) second w.regions r at n) is.ring h)
 
 index_for : (w : Whole) (d0 d : Device) (head : ℕ) (pieces : List Piece) (bytes : List ℕ)
     (b : List Access) (at : Spot) (n : ℕ) → Read w head pieces bytes b → Agrees w d0 b d →
@@ -192,7 +192,7 @@ index_for : (w : Whole) (d0 d : Device) (head : ℕ) (pieces : List Piece) (byte
     IndexFor (known w.kind b) w.regions (ring_after (ring_of w.kind d0) b) at n
 index_for w d0 d head pieces bytes b at n read is h =
     subst (λ (k : Known). IndexFor k w.regions (ring_after (ring_of w.kind d0) b) at n) (sym read)
-    (subst (λ (r : Ring). IndexFor (Has head pieces [] bytes) w.regions r at n) is.ring h)
+    (subst (λ (r : Virtqueue). IndexFor (Has head pieces [] bytes) w.regions r at n) is.ring h)
 
 no_used_place : (w : Whole) (d0 d : Device) (t : Tally) (fault : ChainFault) (b : List Access)
     (log : List Access) → Agrees w d0 b d → Breaks w (after_use w.kind d) t fault log →

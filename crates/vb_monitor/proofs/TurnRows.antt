@@ -12,7 +12,7 @@ use Rattle.vb_core.specs.declared.kinds.Kind.TheVariants.{Inflate, Deflate, Stat
 use Rattle.vb_core.{specs.Devices.{ring_of, with_one_taken, queue_denial}, specs.Rings.with_taken}
 use Rattle.vb_core.{specs.declared.device.Denial.Denial, specs.declared.device.Device.Device}
 use Rattle.vb_core.{specs.Statistics.statistics_denial, specs.declared.name.Named.Named}
-use Rattle.vb_core.{specs.declared.kinds.Kind.Kind, specs.declared.ring.Ring.Ring}
+use Rattle.vb_core.{specs.declared.kinds.Kind.Kind, specs.declared.ring.Virtqueue.Virtqueue}
 use Rattle.vb_core.{specs.declared.runs.Run.Run, specs.Report.NamesPiecesBy, specs.Name.NamesBy}
 use Rattle.vb_monitor.specs.Chains.{FiguresBy, AfterBytes, NamesBytes, CopiesBy, ServesPieces}
 use Rattle.vb_monitor.specs.Chains.{GoesOn, DescriptorBy, DescriptorAt, Follows, table_fault}

@@ -18,7 +18,7 @@ use Rattle.vb_request.specs.Statistics.{statistics_length}
 use Rattle.vb_core.specs.declared.kinds.Kind.{Kind}
 use Rattle.vb_core.specs.declared.kinds.Kind.TheVariants.{Inflate, Deflate, Statistics, Report}
 use Rattle.vb_core.specs.declared.runs.Run.{Run}
-use Rattle.vb_core.specs.declared.ring.Ring.{Ring}
+use Rattle.vb_core.specs.declared.ring.Virtqueue.{Virtqueue}
 use Rattle.vb_core.specs.declared.name.Named.{Named}
 use Rattle.vb_core.specs.declared.statistics.Statistic.{Statistic}
 use Rattle.vb_core.specs.declared.device.Denial.{Denial}
@@ -119,7 +119,7 @@ descriptor_of bytes = record {
 }
 
 -- The descriptors of a ring: never more than a queue has.
-abbrev pub descriptors : Ring → ℕ
+abbrev pub descriptors : Virtqueue → ℕ
 descriptors r = min r.size MAX_QUEUE_SIZE
 
 -- Where guest memory ends.

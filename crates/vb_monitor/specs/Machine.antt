@@ -6,7 +6,7 @@ use Rattle.vb_chain.specs.declared.descriptor.TheConstants.{DESCRIPTOR_SIZE}
 use Rattle.vb_chain.specs.declared.pieces.Piece.{Piece}
 use Rattle.vb_core.specs.declared.kinds.Kind.{Kind}
 use Rattle.vb_core.specs.declared.runs.Run.{Run}
-use Rattle.vb_core.specs.declared.next.Buffer.{Buffer}
+use Rattle.vb_core.specs.declared.next.ChainPiece.{ChainPiece}
 use Rattle.vb_core.specs.declared.statistics.Statistic.{Statistic}
 use Rattle.vb_core.specs.declared.device.Device.{Device}
 use Rattle.vb_core.specs.Devices.{ring_of}
@@ -38,7 +38,7 @@ use Rattle.vb_monitor.specs.Notices.{AsksIndex, AsksEntry, TakesNext, Looks, Aft
 
 -- What stands in the room that a notice has.
 pub record Room : Type 0 where
-  pub pieces : List Buffer
+  pub pieces : List ChainPiece
   pub bytes : List ℕ
   pub runs : List Run
   pub figures : List Statistic
@@ -47,7 +47,7 @@ abbrev pub whole : List Region → Kind → Device → Outcome → Whole
 whole regions kind after outcome =
     record { regions = regions; kind = kind; device = after; outcome = outcome }
 
-abbrev pub room_of : List Buffer → List ℕ → List Run → List Statistic → Room
+abbrev pub room_of : List ChainPiece → List ℕ → List Run → List Statistic → Room
 room_of pieces bytes runs figures =
     record { pieces = pieces; bytes = bytes; runs = runs; figures = figures }
 

@@ -8,7 +8,7 @@ use Rattle.vb_chain.specs.declared.fault.ChainFault.TheVariants.{BadHead, IndexJ
 use Rattle.vb_ring.specs.Entries.{ahead}
 use Rattle.vb_core.specs.declared.kinds.Kind.{Kind}
 use Rattle.vb_core.specs.declared.kinds.Kind.TheVariants.{Inflate, Deflate, Statistics, Report}
-use Rattle.vb_core.specs.declared.ring.Ring.{Ring}
+use Rattle.vb_core.specs.declared.ring.Virtqueue.{Virtqueue}
 use Rattle.vb_core.specs.declared.device.Denial.{Denial}
 use Rattle.vb_core.specs.declared.device.Device.{Device}
 use Rattle.vb_core.specs.Devices.{ring_of, queue_denial}
@@ -26,7 +26,7 @@ use Rattle.vb_monitor.specs.Chains.{descriptors, Follows, ServesPieces}
 -- ---- the chain that stands next
 
 -- Where the entry stands that a device takes next, behind the available ring's begin.
-abbrev pub entry_offset : Ring → ℕ
+abbrev pub entry_offset : Virtqueue → ℕ
 entry_offset r = if r.size == 0 then 4 else 4 + 2 * (r.next_avail % r.size)
 
 -- The chain from this head is followed and served.
@@ -52,8 +52,8 @@ abbrev pub EntryAt : Whole → Then → Device → Tally → Option Spot → Lis
 EntryAt w next d tally None log = Breaks w d tally OutOfRam log
 EntryAt w next d tally (Some at) log = AsksEntry w next d tally at log
 
-abbrev pub Takes : Whole → Then → Device → Tally → List Access → Type 0
-Takes w next d tally log =
+abbrev pub TakesChain : Whole → Then → Device → Tally → List Access → Type 0
+TakesChain w next d tally log =
     EntryAt w next d tally
     (spot w.regions ((ring_of w.kind d).avail + entry_offset (ring_of w.kind d)) 2) log
 
@@ -64,7 +64,7 @@ abbrev pub stands_by : ℕ → ℕ → Result Bool ChainFault
 stands_by ahead size =
     if ahead == 0 then Ok false else (if nat_le ahead size then Ok true else Err IndexJump)
 
-abbrev pub stands : Ring → ℕ → Result Bool ChainFault
+abbrev pub stands : Virtqueue → ℕ → Result Bool ChainFault
 stands r index = stands_by (ahead index r.next_avail) r.size
 
 abbrev pub AfterIndex : Result Bool ChainFault → Whole → (List Access → Type 0) → Device → Tally →
@@ -108,7 +108,7 @@ with_chains n tally = record tally { chains = n }
 -- A chain stands there: where no more may be served or named, it is told that one does.
 abbrev pub TakesUnlessSpent : Bool → Whole → Then → Device → Tally → List Access → Type 0
 TakesUnlessSpent true w next d tally log = Ends w d tally None true log
-TakesUnlessSpent false w next d tally log = Takes w next d tally log
+TakesUnlessSpent false w next d tally log = TakesChain w next d tally log
 
 -- What is served of a chain that stands there, where so many may be yet.
 abbrev pub TakesNext : ℕ → Whole → Device → Tally → List Access → Type 0
@@ -137,8 +137,8 @@ Serves regions kind budget d1 d2 outcome log =
     d1 (fresh budget) log
 
 -- The buffer of statistics of this head, which is held, is given back, to ask for new ones.
-abbrev pub Asks : List Region → ℕ → Device → Device → Outcome → List Access → Type 0
-Asks regions head d1 d2 outcome log =
+abbrev pub AsksStatistics : List Region → ℕ → Device → Device → Outcome → List Access → Type 0
+AsksStatistics regions head d1 d2 outcome log =
     GivesBack
     (record { regions = regions; kind = Statistics; device = d2; outcome = outcome })
     (AfterGiven Statistics

@@ -6,7 +6,7 @@ use Rattle.std.specs.List.{flat_map}
 use Rattle.vb_model.specs.Limits.{page_size}
 use Rattle.vb_chain.specs.declared.pieces.Piece.{Piece}
 use Rattle.vb_chain.specs.declared.fault.ChainFault.TheVariants.{OutOfRam, BadLength}
-use Rattle.vb_core.specs.declared.next.Buffer.{Buffer}
+use Rattle.vb_core.specs.declared.next.ChainPiece.{ChainPiece}
 use Rattle.vb_core.specs.declared.device.Device.{Device}
 use Rattle.vb_monitor.specs.declared.room.TheConstants.{MAX_BYTES}
 use Rattle.vb_monitor.specs.declared.parts.Part.{Part}
@@ -17,10 +17,10 @@ use Rattle.vb_monitor.specs.Regions.{spot}
 use Rattle.vb_monitor.specs.Ends.{Whole, Breaks}
 
 -- The piece that a buffer says.
-abbrev pub piece_in : Buffer → Piece
+abbrev pub piece_in : ChainPiece → Piece
 piece_in b = record { addr = b.address; len = b.length; writable = not (b.writable == 0) }
 
-unfoldable pub pieces_in : List Buffer → List Piece
+unfoldable pub pieces_in : List ChainPiece → List Piece
 pieces_in buffers = map piece_in buffers
 
 -- A piece's bytes up to the end of the page in which it begins, and those behind it.

@@ -2,7 +2,7 @@
 use Rattle.std.specs.Prelude.{◌≡◌, ◌⊎◌, ℕ, ◌+◌, ◌*◌, ◌≤◌, ◌<◌, Bool, true, false, ◌==◌, ◌&&◌, ◌||◌}
 use Rattle.std.specs.Prelude.{max, List, [], ◌∷◌, if◌then◌else◌, Option, Some, None}
 use Rattle.std.specs.Prelude.{Result, Ok, Err}
-use Rattle.vb_core.specs.declared.ring.Ring.{Ring}
+use Rattle.vb_core.specs.declared.ring.Virtqueue.{Virtqueue}
 use Rattle.vb_core.specs.declared.settings.Settings.{Settings}
 use Rattle.vb_core.specs.declared.device.Device.{Device}
 use Rattle.vb_core.specs.declared.saved.Saved.{Saved}
@@ -43,13 +43,13 @@ abbrev pub AreMemory : List Region → ℕ → ℕ → Type 0
 AreMemory regions a len = (b : ℕ) → a ≤ b → b < a + len → is_memory regions b ≡ true
 
 -- Each part of a queue is memory (VIRTIO 1.1, 2.6).
-pub record HasMemory (regions : List Region) (r : Ring) : Type 0 where
+pub record HasMemory (regions : List Region) (r : Virtqueue) : Type 0 where
   pub table : AreMemory regions r.table (16 * r.size)
   pub avail : AreMemory regions r.avail (6 + 2 * r.size)
   pub used : AreMemory regions r.used (6 + 8 * r.size)
 
 -- The queue has no place, or one that is memory.
-abbrev pub Lies : List Region → Ring → Type 0
+abbrev pub Lies : List Region → Virtqueue → Type 0
 Lies regions r = (r.size ≡ 0) ⊎ HasMemory regions r
 
 -- So does each queue of a device.

@@ -6,7 +6,7 @@ use Rattle.vb_chain.specs.declared.pieces.Piece.{Piece}
 use Rattle.vb_chain.specs.Rules.{has_next, piece_of}
 use Rattle.vb_core.specs.declared.kinds.Kind.{Kind}
 use Rattle.vb_core.specs.declared.kinds.Kind.TheVariants.{Inflate, Deflate, Statistics, Report}
-use Rattle.vb_core.specs.declared.ring.Ring.{Ring}
+use Rattle.vb_core.specs.declared.ring.Virtqueue.{Virtqueue}
 use Rattle.vb_core.specs.Rings.{with_taken, with_used}
 use Rattle.vb_monitor.specs.declared.regions.Region.{Region}
 use Rattle.vb_monitor.specs.declared.cuts.Cut.{Cut}
@@ -91,7 +91,7 @@ known kind (WriteWord at word ∷ xs) = Unknown
 
 -- How far the device is in a ring: one more entry is taken where a chain's pages or figures are
 -- told, and one more used where its index is written.
-abbrev pub ring_after : Ring → List Access → Ring
+abbrev pub ring_after : Virtqueue → List Access → Virtqueue
 ring_after r [] = r
 ring_after r (ReadWord at answer ∷ xs) = ring_after r xs
 ring_after r (CopyBytes at answer ∷ xs) = ring_after r xs

@@ -8,7 +8,7 @@ use Rattle.vb_request.specs.Report.{report_request}
 use Rattle.vb_core.specs.declared.kinds.Kind.{Kind}
 use Rattle.vb_core.specs.declared.kinds.Kind.TheVariants.{Inflate, Deflate, Statistics, Report}
 use Rattle.vb_core.specs.declared.runs.Run.{Run}
-use Rattle.vb_core.specs.declared.ring.Ring.{Ring}
+use Rattle.vb_core.specs.declared.ring.Virtqueue.{Virtqueue}
 use Rattle.vb_core.specs.declared.ring.UsedEntry.{UsedEntry}
 use Rattle.vb_core.specs.declared.statistics.Statistic.{Statistic}
 use Rattle.vb_core.specs.declared.settings.Settings.{Settings}
@@ -35,7 +35,7 @@ use Rattle.vb_monitor.specs.SoFar.{Known, Unknown, Walks, Has, known, ring_after
 -- The word that is read next: first of all, and once a chain was given back, the available index;
 -- behind an acquire fence the entry that is taken next, and behind a full fence the driver's flags
 -- (VIRTIO 1.1, 2.6.6 and 2.6.7). Elsewhere none is.
-abbrev pub ReadsWord : List Region → Ring → List Access → Spot → Type 0
+abbrev pub ReadsWord : List Region → Virtqueue → List Access → Spot → Type 0
 ReadsWord regions r [] at = spot regions (r.avail + 2) 2 ≡ Some at
 ReadsWord regions r (WriteWord before word ∷ xs) at = spot regions (r.avail + 2) 2 ≡ Some at
 ReadsWord regions r (Acquire ∷ xs) at = spot regions (r.avail + entry_offset r) 2 ≡ Some at
@@ -200,14 +200,14 @@ IsIndexOf regions e at n = (spot regions e.index_at 2 ≡ Some at) × (n ≡ e.i
 
 -- An element is written for a chain alone of which all was read, and it has the chain's head: the
 -- entry that was read.
-abbrev pub NumberFor : Known → Bool → List Region → Ring → Spot → ℕ → Type 0
+abbrev pub NumberFor : Known → Bool → List Region → Virtqueue → Spot → ℕ → Type 0
 NumberFor Unknown second regions r at n = ⊥
 NumberFor (Walks head number pieces) second regions r at n = ⊥
 NumberFor (Has head pieces [] bytes) second regions r at n =
     IsNumberOf second regions (used_entry r head) at n
 NumberFor (Has head pieces (part ∷ parts) bytes) second regions r at n = ⊥
 
-abbrev pub IndexFor : Known → List Region → Ring → Spot → ℕ → Type 0
+abbrev pub IndexFor : Known → List Region → Virtqueue → Spot → ℕ → Type 0
 IndexFor Unknown regions r at n = ⊥
 IndexFor (Walks head number pieces) regions r at n = ⊥
 IndexFor (Has head pieces [] bytes) regions r at n = IsIndexOf regions (used_entry r head) at n

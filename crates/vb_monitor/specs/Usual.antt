@@ -6,7 +6,7 @@ use Rattle.vb_chain.specs.declared.descriptor.Descriptor.{Descriptor}
 use Rattle.vb_chain.specs.declared.fault.ChainFault.{ChainFault}
 use Rattle.vb_chain.specs.Rules.{has_next, is_writable}
 use Rattle.vb_core.specs.declared.kinds.Kind.{Kind}
-use Rattle.vb_core.specs.declared.ring.Ring.{Ring}
+use Rattle.vb_core.specs.declared.ring.Virtqueue.{Virtqueue}
 use Rattle.vb_core.specs.declared.device.Device.{Device}
 use Rattle.vb_core.specs.Devices.{ring_of}
 use Rattle.vb_monitor.specs.declared.regions.Region.{Region}
@@ -28,18 +28,18 @@ no_other (Ok there) = not there
 no_other (Err fault) = false
 
 -- Where the entry stands, if another chain is there and the budget has room for it.
-abbrev pub entry_place : List Region → Tally → ℕ → Ring → Option Spot
+abbrev pub entry_place : List Region → Tally → ℕ → Virtqueue → Option Spot
 entry_place regions tally index r =
     if another (stands r index) && not ((tally.chains == 0) || (tally.pages == 0))
     then spot regions (r.avail + entry_offset r) 2 else None
 
 -- Where the flags stand, if no other chain is there and one was given back.
-abbrev pub flags_place : List Region → Tally → ℕ → Ring → Option Spot
+abbrev pub flags_place : List Region → Tally → ℕ → Virtqueue → Option Spot
 flags_place regions tally index r =
     if no_other (stands r index) && tally.given then spot regions r.avail 2 else None
 
 -- Where a descriptor stands, if the queue has one of this number.
-abbrev pub descriptor_place : List Region → ℕ → Ring → Option Spot
+abbrev pub descriptor_place : List Region → ℕ → Virtqueue → Option Spot
 descriptor_place regions number r =
     if nat_lt number (descriptors r) then spot regions (r.table + 16 * number) 16 else None
 
@@ -53,7 +53,7 @@ walk_on walk x = record {
 
 -- Where the descriptor stands that another names, which was copied after so many pieces, if that
 -- one breaks no rule and the table has room for one more.
-abbrev pub next_place : List Region → Walk → ℕ → Descriptor → ℕ → Ring → Option Spot
+abbrev pub next_place : List Region → Walk → ℕ → Descriptor → ℕ → Virtqueue → Option Spot
 next_place regions walk visited x end r =
     if has_next x && is_none (table_fault (descriptors r) end walk.writing visited x)
     && nat_lt (walk.count + 1) (descriptors r)

@@ -18,7 +18,7 @@ use crate::regions::find_from;
 use crate::room::{MAX_BYTES, MAX_FIGURES, MAX_PIECES, MAX_RUNS};
 use crate::{Part, Phase, Place, Region, Step, Tally};
 use vb_chain::ChainFault;
-use vb_core::{Buffer, Device, Kind, Run, Statistic};
+use vb_core::{ChainPiece, Device, Kind, Run, Statistic};
 
 /// Asks for a part of a piece.
 #[inline(always)]
@@ -82,7 +82,7 @@ pub(crate) fn copy_on(
     kind: Kind,
     tally: Tally,
     place: Place,
-    pieces: &[Buffer; MAX_PIECES],
+    pieces: &[ChainPiece; MAX_PIECES],
     bytes: &[u8; MAX_BYTES],
     runs: &mut [Run; MAX_RUNS],
     figures: &mut [Statistic; MAX_FIGURES],
@@ -122,7 +122,7 @@ fn copy_second(
     kind: Kind,
     tally: Tally,
     place: Place,
-    pieces: &[Buffer; MAX_PIECES],
+    pieces: &[ChainPiece; MAX_PIECES],
     bytes: &[u8; MAX_BYTES],
     runs: &mut [Run; MAX_RUNS],
     figures: &mut [Statistic; MAX_FIGURES],
@@ -162,7 +162,7 @@ pub fn after_part(
     kind: Kind,
     tally: Tally,
     place: Place,
-    pieces: &[Buffer; MAX_PIECES],
+    pieces: &[ChainPiece; MAX_PIECES],
     bytes: &[u8; MAX_BYTES],
     runs: &mut [Run; MAX_RUNS],
     figures: &mut [Statistic; MAX_FIGURES],

@@ -1,7 +1,7 @@
 //! The discards of a chain's runs, part by part.
 
 ghost use Rattle.std.specs.Prelude.{◌≡◌, ◌≤◌, ℕ, List, take, drop};
-ghost use Rattle.vb_core.specs.declared.next.Buffer.{Buffer};
+ghost use Rattle.vb_core.specs.declared.next.ChainPiece.{ChainPiece};
 ghost use Rattle.vb_core.specs.declared.runs.Run.{Run};
 ghost use Rattle.vb_core.specs.declared.statistics.Statistic.{Statistic};
 ghost use Rattle.vb_core.specs.declared.device.Device.{Device};
@@ -39,7 +39,7 @@ fn discard_on(
     from: usize,
     runs: &[Run; MAX_RUNS],
 ) -> Step
-    ensures step { (after : Device) (outcome : Outcome) (pieces : List Buffer) (bytes : List ℕ)
+    ensures step { (after : Device) (outcome : Outcome) (pieces : List ChainPiece) (bytes : List ℕ)
         (figures : List Statistic) (log : List Access) →
         Ahead (whole regions.now kind after outcome) result device.new
         (room_of pieces bytes runs.now figures) log →
@@ -81,7 +81,7 @@ pub(crate) fn after_told(
     count: u32,
     runs: &[Run; MAX_RUNS],
 ) -> Step
-    ensures step { (after : Device) (outcome : Outcome) (pieces : List Buffer) (bytes : List ℕ)
+    ensures step { (after : Device) (outcome : Outcome) (pieces : List ChainPiece) (bytes : List ℕ)
         (figures : List Statistic) (log : List Access) →
         Ahead (whole regions.now kind after outcome) result device.new
         (room_of pieces bytes runs.now figures) log →
@@ -111,7 +111,7 @@ pub(crate) fn after_discard(
     discarding: Discarding,
     runs: &[Run; MAX_RUNS],
 ) -> Step
-    ensures step { (after : Device) (outcome : Outcome) (pieces : List Buffer) (bytes : List ℕ)
+    ensures step { (after : Device) (outcome : Outcome) (pieces : List ChainPiece) (bytes : List ℕ)
         (figures : List Statistic) (log : List Access) →
         Ahead (whole regions.now kind after outcome) result device.new
         (room_of pieces bytes runs.now figures) log →

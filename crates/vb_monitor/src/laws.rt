@@ -7,7 +7,7 @@ ghost use Rattle.vb_monitor.specs.declared.regions.Region.{Region};
 ghost use Rattle.vb_monitor.specs.declared.outcome.Budget.{Budget};
 ghost use Rattle.vb_monitor.specs.declared.outcome.Outcome.{Outcome};
 ghost use Rattle.vb_monitor.specs.Accesses.{Access};
-ghost use Rattle.vb_monitor.specs.Notices.{Serves, Asks};
+ghost use Rattle.vb_monitor.specs.Notices.{Serves, AsksStatistics};
 ghost use Rattle.vb_core.specs.declared.runs.Run.{Run};
 ghost use Rattle.vb_monitor.specs.Regions.{cuts_of};
 ghost use Rattle.vb_monitor.specs.Touched.{Touches};
@@ -109,14 +109,14 @@ pub fn a_part_is_whole_pages_of_its_run()
 pub fn asking_gives_the_buffer_back()
     ensures { (regions : List Region) (head : ℕ) (d1 d2 : Device) (outcome : Outcome)
         (log : List Access) →
-        Asks regions head d1 d2 outcome log → GivesHeldAlone regions head d1 log }
+        AsksStatistics regions head d1 d2 outcome log → GivesHeldAlone regions head d1 log }
 {}
 
 /// To ask for new statistics takes 6 accesses at most.
 #[tactic(auto, using(crate::proofs::AskingLemmas::few_to_ask))]
 pub fn asking_makes_few_accesses()
     ensures { (regions : List Region) (head : ℕ) (d1 d2 : Device) (outcome : Outcome)
-        (log : List Access) → Asks regions head d1 d2 outcome log → length log ≤ 6 }
+        (log : List Access) → AsksStatistics regions head d1 d2 outcome log → length log ≤ 6 }
 {}
 
 /// Of large pages just those go back to the machine that a part enters and all whose pages of 4096

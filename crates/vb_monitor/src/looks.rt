@@ -6,7 +6,7 @@ ghost use Rattle.vb_core.specs.Devices.{ring_of};
 ghost use Rattle.vb_monitor.specs.declared.outcome.Outcome.{Outcome};
 ghost use Rattle.vb_monitor.specs.Accesses.{Access};
 ghost use Rattle.vb_monitor.specs.Notices.{entry_offset, stands, AfterEntry, AfterIndex, Looks};
-ghost use Rattle.vb_monitor.specs.Notices.{Takes, TakesNext, AfterGiven};
+ghost use Rattle.vb_monitor.specs.Notices.{TakesChain, TakesNext, AfterGiven};
 ghost use Rattle.vb_monitor.specs.Machine.{Fits, stage, Room, Ahead, whole, next_chain};
 
 use crate::ends::{end, fail};
@@ -14,10 +14,10 @@ use crate::regions::find_from;
 use crate::walk::{descriptors, follow};
 use crate::{Phase, Region, Step, Tally, Walk};
 use vb_chain::ChainFault;
-use vb_core::{Device, Kind, Ring};
+use vb_core::{Device, Kind, Virtqueue};
 
 /// Where the entry stands that is taken next, behind the available ring's begin.
-pub(crate) fn entry_offset(ring: &Ring) -> u64
+pub(crate) fn entry_offset(ring: &Virtqueue) -> u64
     ensures { result ≡ entry_offset ring.now }
 {
     if ring.size == 0 {
@@ -27,7 +27,7 @@ pub(crate) fn entry_offset(ring: &Ring) -> u64
 }
 
 /// Whether a chain stands there by this index.
-pub(crate) fn stands(ring: &Ring, index: u16) -> Result<bool, ChainFault>
+pub(crate) fn stands(ring: &Virtqueue, index: u16) -> Result<bool, ChainFault>
     ensures { result ≡ stands ring.now index }
 {
     let ahead = index.wrapping_sub(ring.next_avail);
@@ -65,7 +65,7 @@ pub(crate) fn look(device: &mut Device, regions: &[Region], kind: Kind, tally: T
 fn ask_entry(device: &mut Device, regions: &[Region], kind: Kind, tally: Tally) -> Step
     ensures step { (after : Device) (outcome : Outcome) (room : Room) (log : List Access) →
         Ahead (whole regions.now kind after outcome) result device.new room log →
-        Takes (whole regions.now kind after outcome)
+        TakesChain (whole regions.now kind after outcome)
         (next_chain (whole regions.now kind after outcome) tally) device.old tally log }
     ensures fits { Fits result.phase }
 {

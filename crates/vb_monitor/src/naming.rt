@@ -2,7 +2,7 @@
 
 ghost use Rattle.std.specs.Prelude.{◌≡◌, ◌≤◌, ℕ, List, length, take};
 ghost use Rattle.vb_model.specs.declared.limits.TheConstants.{MAX_QUEUE_SIZE};
-ghost use Rattle.vb_core.specs.declared.next.Buffer.{Buffer};
+ghost use Rattle.vb_core.specs.declared.next.ChainPiece.{ChainPiece};
 ghost use Rattle.vb_core.specs.declared.runs.Run.{Run};
 ghost use Rattle.vb_core.specs.declared.statistics.Statistic.{Statistic};
 ghost use Rattle.vb_core.specs.declared.device.Device.{Device};
@@ -21,7 +21,7 @@ use crate::ends::{end, fail};
 use crate::pieces::{first_pieces, report_named, request_length, statistics_length};
 use crate::room::{MAX_BYTES, MAX_FIGURES, MAX_PIECES, MAX_RUNS};
 use crate::{Phase, Place, Region, Step, Tally};
-use vb_core::{Buffer, Device, Kind, Named, Run, Statistic};
+use vb_core::{ChainPiece, Device, Kind, Named, Run, Statistic};
 
 /// Tells the pages that were named.
 #[inline(always)]
@@ -51,7 +51,7 @@ fn name_bytes(
     bytes: &[u8],
     runs: &mut [Run; MAX_RUNS],
 ) -> Step
-    ensures step { (after : Device) (outcome : Outcome) (pieces : List Buffer) (all : List ℕ)
+    ensures step { (after : Device) (outcome : Outcome) (pieces : List ChainPiece) (all : List ℕ)
         (figures : List Statistic) (log : List Access) →
         Ahead (whole regions.now kind after outcome) result device.new
         (room_of pieces all runs.new figures) log →
@@ -74,11 +74,11 @@ fn name_report(
     kind: Kind,
     tally: Tally,
     head: u16,
-    chain: &[Buffer],
+    chain: &[ChainPiece],
     runs: &mut [Run; MAX_RUNS],
 ) -> Step
     requires { length chain.now ≤ MAX_QUEUE_SIZE }
-    ensures step { (after : Device) (outcome : Outcome) (pieces : List Buffer) (all : List ℕ)
+    ensures step { (after : Device) (outcome : Outcome) (pieces : List ChainPiece) (all : List ℕ)
         (figures : List Statistic) (log : List Access) →
         Ahead (whole regions.now kind after outcome) result device.new
         (room_of pieces all runs.new figures) log →
@@ -103,7 +103,7 @@ fn keep_figures(
     bytes: &[u8],
     figures: &mut [Statistic; MAX_FIGURES],
 ) -> Step
-    ensures step { (after : Device) (outcome : Outcome) (pieces : List Buffer) (all : List ℕ)
+    ensures step { (after : Device) (outcome : Outcome) (pieces : List ChainPiece) (all : List ℕ)
         (runs : List Run) (log : List Access) →
         Ahead (whole regions.now kind after outcome) result device.new
         (room_of pieces all runs figures.new) log →
@@ -135,7 +135,7 @@ pub(crate) fn serve_bytes(
     runs: &mut [Run; MAX_RUNS],
     figures: &mut [Statistic; MAX_FIGURES],
 ) -> Step
-    ensures step { (after : Device) (outcome : Outcome) (pieces : List Buffer) (all : List ℕ)
+    ensures step { (after : Device) (outcome : Outcome) (pieces : List ChainPiece) (all : List ℕ)
         (log : List Access) →
         Ahead (whole regions.now kind after outcome) result device.new
         (room_of pieces all runs.new figures.new) log →
@@ -159,7 +159,7 @@ pub(crate) fn serve_pieces(
     tally: Tally,
     head: u16,
     count: u16,
-    pieces: &[Buffer; MAX_PIECES],
+    pieces: &[ChainPiece; MAX_PIECES],
     bytes: &[u8; MAX_BYTES],
     runs: &mut [Run; MAX_RUNS],
     figures: &mut [Statistic; MAX_FIGURES],

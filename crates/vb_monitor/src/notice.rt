@@ -7,7 +7,7 @@ ghost use Rattle.vb_core.specs.declared.statistics.Statistic.{Statistic};
 ghost use Rattle.vb_core.specs.declared.device.Device.{Device};
 ghost use Rattle.vb_monitor.specs.declared.outcome.Outcome.{Outcome};
 ghost use Rattle.vb_monitor.specs.Accesses.{Access};
-ghost use Rattle.vb_monitor.specs.Notices.{Serves, Asks};
+ghost use Rattle.vb_monitor.specs.Notices.{Serves, AsksStatistics};
 ghost use Rattle.vb_monitor.specs.Machine.{Fits, is_ended, Room, Ahead, Does, whole};
 ghost use Rattle.vb_monitor.specs.Machine.{room_of, outcome_at, is_discarding, Awaited};
 
@@ -19,7 +19,7 @@ use crate::looks::{after_entry, after_given, after_index, look};
 use crate::room::{MAX_BYTES, MAX_FIGURES, MAX_PIECES, MAX_RUNS};
 use crate::walk::after_descriptor;
 use crate::{Budget, Outcome, Phase, Region, Step, Tally};
-use vb_core::{Buffer, Device, Kind, Run, Statistic};
+use vb_core::{ChainPiece, Device, Kind, Run, Statistic};
 
 /// A notice: whose queue it is of, and what is to be done next.
 #[derive(Clone, Copy, Debug)]
@@ -36,7 +36,7 @@ fn advance(
     regions: &[Region],
     kind: Kind,
     answer: u16,
-    pieces: &mut [Buffer; MAX_PIECES],
+    pieces: &mut [ChainPiece; MAX_PIECES],
     bytes: &[u8; MAX_BYTES],
     runs: &mut [Run; MAX_RUNS],
     figures: &mut [Statistic; MAX_FIGURES],
@@ -107,7 +107,7 @@ impl Notice {
         ensures kind { result.kind ≡ Statistics }
         ensures step { (after : Device) (outcome : Outcome) (room : Room) (log : List Access) →
             Ahead (whole regions.now Statistics after outcome) result.step device.new room log →
-            Asks regions.now head device.old after outcome log }
+            AsksStatistics regions.now head device.old after outcome log }
         ensures fits { Fits result.step.phase }
     {
         let tally = Tally {
@@ -130,7 +130,7 @@ impl Notice {
         device: &mut Device,
         regions: &[Region],
         answer: u16,
-        pieces: &mut [Buffer; MAX_PIECES],
+        pieces: &mut [ChainPiece; MAX_PIECES],
         bytes: &[u8; MAX_BYTES],
         runs: &mut [Run; MAX_RUNS],
         figures: &mut [Statistic; MAX_FIGURES],
@@ -167,7 +167,7 @@ impl Notice {
         device: &mut Device,
         regions: &[Region],
         answer: u16,
-        pieces: &mut [Buffer; MAX_PIECES],
+        pieces: &mut [ChainPiece; MAX_PIECES],
         bytes: &[u8; MAX_BYTES],
         runs: &mut [Run; MAX_RUNS],
         figures: &mut [Statistic; MAX_FIGURES],

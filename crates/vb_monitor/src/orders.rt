@@ -1,7 +1,7 @@
 //! What is to be done at once, since none of it needs an answer.
 
 ghost use Rattle.std.specs.Prelude.{◌≡◌, ◌≤◌, ◌++◌, ◌∷◌, ℕ, true, List, take, map};
-ghost use Rattle.vb_core.specs.declared.next.Buffer.{Buffer};
+ghost use Rattle.vb_core.specs.declared.next.ChainPiece.{ChainPiece};
 ghost use Rattle.vb_core.specs.declared.statistics.Statistic.{Statistic};
 ghost use Rattle.vb_core.specs.declared.device.Device.{Device};
 ghost use Rattle.vb_monitor.specs.declared.orders.TheConstants.{MAX_CUTS};
@@ -81,7 +81,7 @@ fn tell(
     orders: &mut Orders,
 ) -> Told
     requires { Fits step.old.phase }
-    ensures step { (after : Device) (outcome : Outcome) (pieces : List Buffer) (bytes : List ℕ)
+    ensures step { (after : Device) (outcome : Outcome) (pieces : List ChainPiece) (bytes : List ℕ)
         (figures : List Statistic) (rest : List Access) →
         Ahead (whole regions.now kind after outcome) step.new device.new
         (room_of pieces bytes runs.now figures) rest →
@@ -164,7 +164,7 @@ fn discard(
 ) -> u32
     requires fits { Fits step.old.phase }
     requires stage { 1 ≤ stage step.old.phase }
-    ensures step { (after : Device) (outcome : Outcome) (pieces : List Buffer) (bytes : List ℕ)
+    ensures step { (after : Device) (outcome : Outcome) (pieces : List ChainPiece) (bytes : List ℕ)
         (figures : List Statistic) (rest : List Access) →
         Ahead (whole regions.now kind after outcome) step.new device.new
         (room_of pieces bytes runs.now figures) rest →
@@ -286,7 +286,7 @@ impl Notice {
     ) -> Asked
         requires { Fits self.old.step.phase }
         ensures kind { self.new.kind ≡ self.old.kind }
-        ensures step { (after : Device) (outcome : Outcome) (pieces : List Buffer)
+        ensures step { (after : Device) (outcome : Outcome) (pieces : List ChainPiece)
             (bytes : List ℕ) (figures : List Statistic) (rest : List Access) →
             Ahead (whole regions.now self.old.kind after outcome) self.new.step device.new
             (room_of pieces bytes runs.now figures) rest →

@@ -5,7 +5,7 @@ ghost use Rattle.vb_monitor.specs.Pieces.{piece_in, pieces_in, first_part, secon
 ghost use Rattle.vb_monitor.specs.Machine.{behind_part};
 
 use crate::regions::PAGE_BYTES;
-use vb_core::Buffer;
+use vb_core::ChainPiece;
 
 /// Bytes of a piece, all in one page.
 #[derive(Clone, Copy, Debug)]
@@ -19,7 +19,7 @@ pub struct Part {
 }
 
 /// A piece's bytes up to the end of the page in which it begins.
-pub(crate) fn first_part(piece: &Buffer) -> Part
+pub(crate) fn first_part(piece: &ChainPiece) -> Part
     ensures { result ≡ first_part (piece_in piece.now) }
 {
     let room = (PAGE_BYTES - piece.address % PAGE_BYTES) as u32;
@@ -31,7 +31,7 @@ pub(crate) fn first_part(piece: &Buffer) -> Part
 }
 
 /// Its bytes behind that page.
-pub(crate) fn second_part(piece: &Buffer) -> Part
+pub(crate) fn second_part(piece: &ChainPiece) -> Part
     ensures { result ≡ second_part (piece_in piece.now) }
 {
     let first = first_part(piece);
@@ -53,7 +53,7 @@ pub(crate) struct NextPart {
 
 /// The first part of the pieces from this number on.
 #[tactic(auto, using(crate::proofs::BufferLemmas::part_steps))]
-pub(crate) fn next_part(pieces: &[Buffer], from: usize) -> Option<NextPart>
+pub(crate) fn next_part(pieces: &[ChainPiece], from: usize) -> Option<NextPart>
     ensures { MatchOption result (all_parts (drop from (pieces_in pieces.now)) ≡ [])
         (λ x. all_parts (drop from (pieces_in pieces.now)) ≡
         x.part ∷ behind_part false x.piece (pieces_in pieces.now)) }

@@ -13,7 +13,7 @@ ghost use Rattle.vb_monitor.specs.Pieces.{piece_in, pieces_in};
 use crate::room::{MAX_PIECES, MAX_RUNS};
 use arrayvec::ArrayVec;
 use vb_chain::{ChainFault, Descriptor, Piece};
-use vb_core::{Buffer, Denial, Device, Kind, Named, Run};
+use vb_core::{ChainPiece, Denial, Device, Kind, Named, Run};
 use vb_request::{is_request_length, is_statistics_length};
 
 /// Pieces of a chain of reports that isn't refused for its length, at most: a list of so many is
@@ -21,17 +21,17 @@ use vb_request::{is_request_length, is_statistics_length};
 const SHORT: usize = 32;
 
 /// The first pieces, so many.
-pub(crate) fn first_pieces(pieces: &[Buffer; MAX_PIECES], count: u16) -> &[Buffer]
+pub(crate) fn first_pieces(pieces: &[ChainPiece; MAX_PIECES], count: u16) -> &[ChainPiece]
     ensures { result.now ≡ take count pieces.now }
 {
     &pieces[..usize::from(count).min(MAX_PIECES)]
 }
 
 /// What a descriptor says of its buffer.
-fn buffer_of(descriptor: &Descriptor) -> Buffer
+fn buffer_of(descriptor: &Descriptor) -> ChainPiece
     ensures { piece_in result ≡ piece_of descriptor.now }
 {
-    Buffer {
+    ChainPiece {
         address: descriptor.addr,
         length: descriptor.len,
         writable: u8::from(descriptor.is_writable()),
@@ -40,7 +40,7 @@ fn buffer_of(descriptor: &Descriptor) -> Buffer
 
 /// Puts what a descriptor says of its buffer behind the first pieces, so many.
 #[tactic(auto, using(crate::proofs::BufferLemmas::join_at))]
-pub(crate) fn push_piece(pieces: &mut [Buffer; MAX_PIECES], count: u16, descriptor: &Descriptor)
+pub(crate) fn push_piece(pieces: &mut [ChainPiece; MAX_PIECES], count: u16, descriptor: &Descriptor)
     requires { count < MAX_QUEUE_SIZE }
     ensures { pieces_in (take (count + 1) pieces.new) ≡
         pieces_in (take count pieces.old) ++ piece_of descriptor.now ∷ [] }
@@ -49,7 +49,7 @@ pub(crate) fn push_piece(pieces: &mut [Buffer; MAX_PIECES], count: u16, descript
 }
 
 /// The piece that a buffer says.
-fn piece_in(buffer: &Buffer) -> Piece
+fn piece_in(buffer: &ChainPiece) -> Piece
     ensures { result ≡ piece_in buffer.now }
 {
     Piece {
@@ -60,21 +60,21 @@ fn piece_in(buffer: &Buffer) -> Piece
 }
 
 /// Whether one of the buffers is the device's to write.
-fn any_writable(buffers: &[Buffer]) -> bool
+fn any_writable(buffers: &[ChainPiece]) -> bool
     ensures { result ≡ list_any (λ buffer. not (buffer.writable == 0)) buffers.now }
 {
     buffers.iter().any(|buffer| buffer.writable != 0)
 }
 
 /// Whether a piece is the device's to write.
-fn has_writable(pieces: &[Buffer]) -> bool
+fn has_writable(pieces: &[ChainPiece]) -> bool
     ensures { result ≡ list_any (λ piece. piece.writable) (pieces_in pieces.now) }
 {
     any_writable(pieces)
 }
 
 /// How many bytes the buffers have together.
-fn sum_lengths(buffers: &[Buffer]) -> u64
+fn sum_lengths(buffers: &[ChainPiece]) -> u64
     requires { length buffers.now ≤ MAX_QUEUE_SIZE }
     ensures { result ≡ sum_by (λ buffer. buffer.length) buffers.now }
 {
@@ -86,7 +86,7 @@ fn sum_lengths(buffers: &[Buffer]) -> u64
 }
 
 /// How many bytes the pieces have together.
-fn total_length(pieces: &[Buffer]) -> u64
+fn total_length(pieces: &[ChainPiece]) -> u64
     requires { length pieces.now ≤ MAX_QUEUE_SIZE }
     ensures { result ≡ total_length (pieces_in pieces.now) }
 {
@@ -94,7 +94,7 @@ fn total_length(pieces: &[Buffer]) -> u64
 }
 
 /// How many bytes a request of these pieces has, or the rule that they break.
-pub(crate) fn request_length(pieces: &[Buffer]) -> Result<u32, ChainFault>
+pub(crate) fn request_length(pieces: &[ChainPiece]) -> Result<u32, ChainFault>
     requires { length pieces.now ≤ MAX_QUEUE_SIZE }
     ensures { result ≡ request_length (pieces_in pieces.now) }
 {
@@ -109,7 +109,7 @@ pub(crate) fn request_length(pieces: &[Buffer]) -> Result<u32, ChainFault>
 }
 
 /// How many bytes a buffer of statistics of these pieces has, or the rule that they break.
-pub(crate) fn statistics_length(pieces: &[Buffer]) -> Result<u32, ChainFault>
+pub(crate) fn statistics_length(pieces: &[ChainPiece]) -> Result<u32, ChainFault>
     requires { length pieces.now ≤ MAX_QUEUE_SIZE }
     ensures { result ≡ statistics_length (pieces_in pieces.now) }
 {
@@ -125,7 +125,7 @@ pub(crate) fn statistics_length(pieces: &[Buffer]) -> Result<u32, ChainFault>
 
 /// The same pieces, as a chain has them.
 #[tactic(auto, using(crate::proofs::BufferLemmas::none_in, crate::proofs::BufferLemmas::push_in))]
-fn chain_of<const N: usize>(buffers: &[Buffer]) -> ArrayVec<Piece, N>
+fn chain_of<const N: usize>(buffers: &[ChainPiece]) -> ArrayVec<Piece, N>
     requires room { length buffers.now ≤ N }
     requires few { N ≤ MAX_QUEUE_SIZE }
     ensures { result.items ≡ pieces_in buffers.now }
@@ -140,7 +140,7 @@ fn chain_of<const N: usize>(buffers: &[Buffer]) -> ArrayVec<Piece, N>
 /// Names the pages of a report of these pieces.
 pub(crate) fn report_named(
     device: &mut Device,
-    pieces: &[Buffer],
+    pieces: &[ChainPiece],
     runs: &mut [Run; MAX_RUNS],
 ) -> Result<Named, Denial>
     requires { length pieces.now ≤ MAX_QUEUE_SIZE }

@@ -13,7 +13,7 @@ ghost use Rattle.vb_monitor.specs.Places.{balloon_over, ending_with, may_be_memo
 
 use crate::regions::{PAGE_BYTES, find};
 use crate::{Balloon, Region};
-use vb_core::{Denial, Device, Kind, MEMORY_LIMIT, Ring, Saved, Settings, StateDenial};
+use vb_core::{Denial, Device, Kind, MEMORY_LIMIT, Saved, Settings, StateDenial, Virtqueue};
 
 /// Why a balloon isn't restored over regions.
 #[derive(Clone, Copy, Debug, PartialEq, Eq)]
@@ -70,7 +70,7 @@ pub fn are_memory(regions: &[Region], address: u64, length: u64) -> bool
 }
 
 /// Whether each part of a queue is memory.
-fn has_memory(regions: &[Region], ring: &Ring) -> bool
+fn has_memory(regions: &[Region], ring: &Virtqueue) -> bool
     ensures yes { result ≡ true → HasMemory regions.now ring.now }
     ensures no { result ≡ false → ¬ HasMemory regions.now ring.now }
 {
@@ -81,7 +81,7 @@ fn has_memory(regions: &[Region], ring: &Ring) -> bool
 }
 
 /// Whether a queue has no place, or one that is memory.
-fn lies(regions: &[Region], ring: &Ring) -> bool
+fn lies(regions: &[Region], ring: &Virtqueue) -> bool
     ensures yes { result ≡ true → Lies regions.now ring.now }
     ensures no { result ≡ false → ¬ Lies regions.now ring.now }
 {
@@ -190,7 +190,7 @@ impl Balloon {
               device = with_ring kind (placed table avail used size) self.old.device;
             }) }
     {
-        let ring = Ring {
+        let ring = Virtqueue {
             table,
             avail,
             used,

@@ -1,7 +1,7 @@
 //! A notice over a running guest's memory.
 
 ghost use Rattle.std.specs.Prelude.{◌≡◌, ◌+◌, ◌≤◌, ◌++◌, List, IfSome};
-ghost use Rattle.vb_core.specs.declared.next.Buffer.{Buffer};
+ghost use Rattle.vb_core.specs.declared.next.ChainPiece.{ChainPiece};
 ghost use Rattle.vb_monitor.specs.declared.room.TheConstants.{MAX_BYTES};
 ghost use Rattle.vb_monitor.specs.Accesses.{Adds};
 ghost use Rattle.vb_monitor.specs.Notices.{Serves};
@@ -13,7 +13,7 @@ use crate::discards::first_runs;
 use crate::room::{MAX_BYTES, MAX_FIGURES, MAX_PIECES, MAX_RUNS};
 use crate::{Budget, LiveMemory, Notice, Outcome, Phase, Region, Spot, UsedSpots};
 use vb_chain::DESCRIPTOR_SIZE;
-use vb_core::{Buffer, Device, Kind, Run, Statistic, UsedEntry};
+use vb_core::{ChainPiece, Device, Kind, Run, Statistic, UsedEntry};
 
 /// Copies so many bytes behind the first ones, so many.
 fn copy_bytes<M: LiveMemory>(
@@ -50,7 +50,7 @@ pub(crate) fn perform<M: LiveMemory>(
     figures: &[Statistic; MAX_FIGURES],
 ) -> u16
     requires { Fits phase }
-    ensures { (pieces : List Buffer) → Adds (M.log memory.old) (M.log memory.new)
+    ensures { (pieces : List ChainPiece) → Adds (M.log memory.old) (M.log memory.new)
         (Does phase kind result bytes.old (room_of pieces bytes.new runs.now figures.now)) }
 {
     match phase {
@@ -98,7 +98,7 @@ impl Notice {
         memory: &mut M,
         device: &mut Device,
         regions: &[Region],
-        pieces: &mut [Buffer; MAX_PIECES],
+        pieces: &mut [ChainPiece; MAX_PIECES],
         bytes: &mut [u8; MAX_BYTES],
         runs: &mut [Run; MAX_RUNS],
         figures: &mut [Statistic; MAX_FIGURES],
@@ -124,7 +124,7 @@ impl Notice {
         memory: &mut M,
         device: &mut Device,
         regions: &[Region],
-        pieces: &mut [Buffer; MAX_PIECES],
+        pieces: &mut [ChainPiece; MAX_PIECES],
         bytes: &mut [u8; MAX_BYTES],
         runs: &mut [Run; MAX_RUNS],
         figures: &mut [Statistic; MAX_FIGURES],
@@ -157,7 +157,7 @@ pub fn serve<M: LiveMemory>(
     regions: &[Region],
     kind: Kind,
     budget: Budget,
-    pieces: &mut [Buffer; MAX_PIECES],
+    pieces: &mut [ChainPiece; MAX_PIECES],
     bytes: &mut [u8; MAX_BYTES],
     runs: &mut [Run; MAX_RUNS],
     figures: &mut [Statistic; MAX_FIGURES],

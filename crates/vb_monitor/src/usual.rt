@@ -27,7 +27,7 @@ use crate::room::{MAX_BYTES, MAX_PIECES};
 use crate::walk::{descriptor_of, descriptors, table_fault};
 use crate::{Region, Spot, Tally, Walk};
 use vb_chain::DESCRIPTOR_SIZE;
-use vb_core::{Buffer, Device, Kind};
+use vb_core::{ChainPiece, Device, Kind};
 
 /// Where the entry is read, once the index was: another chain stands there, and the budget has room
 /// for it.
@@ -125,7 +125,7 @@ pub fn next_descriptor(
     regions: &[Region],
     kind: Kind,
     walk: Walk,
-    pieces: &mut [Buffer; MAX_PIECES],
+    pieces: &mut [ChainPiece; MAX_PIECES],
     bytes: &[u8; MAX_BYTES],
 ) -> Option<NextDescriptor>
     ensures place { result ≡ next_of walk (descriptor_of (take DESCRIPTOR_SIZE bytes.now))

@@ -22,11 +22,11 @@ use crate::room::{MAX_BYTES, MAX_FIGURES, MAX_PIECES, MAX_RUNS};
 use crate::{Phase, Region, Step, Tally, Walk};
 use byteorder::{ByteOrder, LittleEndian};
 use vb_chain::{ChainFault, DESCRIPTOR_SIZE, Descriptor, descriptor_fault};
-use vb_core::{Buffer, Device, Kind, Ring, Run, Statistic};
+use vb_core::{ChainPiece, Device, Kind, Run, Statistic, Virtqueue};
 use vb_model::limits::MAX_QUEUE_SIZE;
 
 /// How many descriptors a ring has: never more than a queue may have.
-pub(crate) fn descriptors(ring: &Ring) -> u16
+pub(crate) fn descriptors(ring: &Virtqueue) -> u16
     ensures { result ≡ descriptors ring.now }
 {
     ring.size.min(MAX_QUEUE_SIZE as u16)
@@ -135,7 +135,7 @@ fn join_descriptor(
     tally: Tally,
     walk: Walk,
     descriptor: &Descriptor,
-    pieces: &mut [Buffer; MAX_PIECES],
+    pieces: &mut [ChainPiece; MAX_PIECES],
     bytes: &[u8; MAX_BYTES],
     runs: &mut [Run; MAX_RUNS],
     figures: &mut [Statistic; MAX_FIGURES],
@@ -176,7 +176,7 @@ pub fn after_descriptor(
     kind: Kind,
     tally: Tally,
     walk: Walk,
-    pieces: &mut [Buffer; MAX_PIECES],
+    pieces: &mut [ChainPiece; MAX_PIECES],
     bytes: &[u8; MAX_BYTES],
     runs: &mut [Run; MAX_RUNS],
     figures: &mut [Statistic; MAX_FIGURES],

@@ -10,7 +10,7 @@ use Rattle.vb_ram.specs.Pages.{Pages, page_at, frame_at, contents_at, byte_at, I
 use Rattle.vb_ram.specs.Pages.{Wrote, Supplied, Discarded}
 
 -- so many zeros, at any offset
-zeros-at : (n k : ℕ) → slice_index (replicate n 0) k ≡ 0
+pub zeros-at : (n k : ℕ) → slice_index (replicate n 0) k ≡ 0
 zeros-at n k = grind (arith, get_or-replicate, length-replicate, get_or_past)
 
 -- any list of 4096 zeros is the page of zeros

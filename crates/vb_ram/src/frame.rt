@@ -1,6 +1,7 @@
 //! A frame of the host.
 
-ghost use Rattle.std.specs.Prelude.{◌≡◌, ◌+◌, ◌≤◌, IfOk, IfErr, length, vec_capacity};
+ghost use Rattle.std.specs.Prelude.{◌≡◌, ℕ, ◌+◌, ◌<◌, ◌≤◌, IfOk, IfErr, length, slice_index};
+ghost use Rattle.std.specs.Prelude.{vec_capacity};
 ghost use Rattle.vb_ram.specs.Blank.{shown, HoldsPage};
 ghost use Rattle.vb_ram.specs.Put.{PutAt};
 ghost use Rattle.vb_model.specs.Guest.{zero_page};
@@ -14,8 +15,12 @@ use vb_model::limits;
 /// The bytes of a page, and of a frame.
 pub const PAGE_SIZE: usize = limits::PAGE_SIZE as usize;
 
-/// The bytes of a frame that nothing was written to.
+/// A page of zeros.
 pub(crate) static ZEROS: [u8; PAGE_SIZE] = [0; PAGE_SIZE];
+
+/// How many zeros are held at the most behind the last byte that is written past those that are
+/// held, so that writes in rising order don't each add a few.
+const ZEROS_AHEAD: usize = 240;
 
 /// A frame of the host: a number, and `PAGE_SIZE` bytes. It can't be cloned, so whoever has it is
 /// the only one; that no other frame has its number is for those who make frames to keep.
@@ -23,8 +28,8 @@ pub(crate) static ZEROS: [u8; PAGE_SIZE] = [0; PAGE_SIZE];
 pub struct Frame {
     /// Which of the host's frames it is.
     number: u32,
-    /// Its bytes, `PAGE_SIZE` of them, or none while nothing was written to it and all of them are
-    /// zeros. There is room for them from the start.
+    /// Its first bytes. Those that aren't held, up to `PAGE_SIZE`, are zeros, so a write takes no
+    /// time for what stands behind it. There is room for all of them from the start.
     bytes: Vec<u8>,
 }
 
@@ -58,15 +63,15 @@ impl Frame {
         self.number
     }
 
-    /// The frame's bytes.
-    pub(crate) fn bytes(&self) -> &[u8]
-        ensures bytes { result.now ≡ self.now.bytes }
-        ensures whole { length result.now ≡ PAGE_SIZE }
+    /// Reads the bytes from an offset on, as many as `out` has.
+    #[inline]
+    pub(crate) fn get(&self, offset: usize, out: &mut [u8])
+        requires { offset + length out.old ≤ PAGE_SIZE }
+        ensures len { length out.new ≡ length out.old }
+        ensures read { (k : ℕ) → k < length out.old →
+            slice_index out.new k ≡ slice_index self.now.bytes (offset + k) }
     {
-        if self.bytes.is_empty() {
-            return &ZEROS;
-        }
-        &self.bytes
+        read_bytes(&self.bytes, offset, out);
     }
 
     /// Makes all bytes zeros: they are forgotten.
@@ -84,30 +89,75 @@ impl Frame {
         ensures len { length self.new.bytes ≡ length self.old.bytes }
         ensures whole { length self.new.bytes ≡ PAGE_SIZE }
     {
-        hold_zeros(&mut self.bytes);
+        hold(&mut self.bytes, offset + bytes.len());
         put_bytes(&mut self.bytes, offset, bytes);
     }
 }
 
-/// Writes the zeros of a frame that nothing was written to; any other stays as it is.
+/// Holds the bytes up to an end: where they aren't held, the zeros that they are.
 #[inline]
-fn hold_zeros(bytes: &mut Vec<u8>)
-    requires { HoldsPage bytes.old.items (vec_capacity bytes.old) }
-    ensures shown { bytes.new.items ≡ shown bytes.old.items }
-    ensures room { vec_capacity bytes.old ≤ vec_capacity bytes.new }
+fn hold(held: &mut Vec<u8>, end: usize)
+    requires few { end ≤ PAGE_SIZE }
+    requires holds { HoldsPage held.old.items (vec_capacity held.old) }
+    ensures shown { shown held.new.items ≡ shown held.old.items }
+    ensures holds { HoldsPage held.new.items (vec_capacity held.new) }
+    ensures enough { end ≤ length held.new.items }
 {
-    if bytes.is_empty() {
-        match bytes.resize(PAGE_SIZE, 0) {
-            Ok(()) => (),
-            Err(_) => unreachable!(),
-        }
+    if end > held.len() {
+        hold_zeros(held, end);
     }
 }
 
+/// Holds the zeros up to an end, and some behind it.
+#[inline(never)]
+fn hold_zeros(held: &mut Vec<u8>, end: usize)
+    requires few { end ≤ PAGE_SIZE }
+    requires more { length held.old.items ≤ end }
+    requires holds { HoldsPage held.old.items (vec_capacity held.old) }
+    ensures shown { shown held.new.items ≡ shown held.old.items }
+    ensures holds { HoldsPage held.new.items (vec_capacity held.new) }
+    ensures enough { end ≤ length held.new.items }
+{
+    match held.resize((end + ZEROS_AHEAD).min(PAGE_SIZE), 0) {
+        Ok(()) => (),
+        Err(_) => unreachable!(),
+    }
+}
+
+/// Reads bytes from an offset on, and zeros behind the last one.
+#[inline]
+fn read_bytes(held: &[u8], offset: usize, out: &mut [u8])
+    requires { offset + length out.old ≤ PAGE_SIZE }
+    ensures len { length out.new ≡ length out.old }
+    ensures read { (k : ℕ) → k < length out.old →
+        slice_index out.new k ≡ slice_index held.now (offset + k) }
+{
+    if offset + out.len() <= held.len() {
+        out.copy_from_slice(&held[offset..offset + out.len()]);
+    } else if offset >= held.len() {
+        out.fill(0);
+    } else {
+        read_last(&held[offset..], out);
+    }
+}
+
+/// Reads bytes, and zeros behind the last one.
+#[inline(never)]
+fn read_last(held: &[u8], out: &mut [u8])
+    requires { length held.now ≤ length out.old }
+    ensures len { length out.new ≡ length out.old }
+    ensures read { (k : ℕ) → slice_index out.new k ≡ slice_index held.now k }
+{
+    out.fill(0);
+    out[..held.len()].copy_from_slice(held);
+}
+
 /// Writes bytes from an offset on.
+#[inline]
 fn put_bytes(old: &mut [u8], offset: usize, bytes: &[u8])
     requires { offset + length bytes.now ≤ length old.old }
-    ensures { PutAt old.old old.new offset bytes.now }
+    ensures put { PutAt old.old old.new offset bytes.now }
+    ensures len { length old.new ≡ length old.old }
 {
     old[offset..offset + bytes.len()].copy_from_slice(bytes);
 }

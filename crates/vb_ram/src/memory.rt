@@ -136,7 +136,7 @@ impl GuestBytes for Ram {
     fn read(&self, page: u32, offset: usize, out: &mut [u8]) -> Result<(), RamFault> {
         self.check(page, offset, out.len())?;
         match &self.pages[page as usize] {
-            Some(frame) => out.copy_from_slice(&frame.bytes()[offset..offset + out.len()]),
+            Some(frame) => frame.get(offset, out),
             None => out.fill(0),
         }
         Ok(())

@@ -175,11 +175,11 @@ ok_of : (o : Option ChainFault) (ns pages : List ℕ) → unless_fault o ns ≡ 
 ok_of None ns pages e = (refl, cc)
 ok_of (Some f) ns pages e = absurd cc
 
-by_tests : (reserved : ℕ) (pieces : List Piece) (a b : Bool) (pages : List ℕ)
+by_causes : (reserved : ℕ) (pieces : List Piece) (a b : Bool) (pages : List ℕ)
     → (if a then Err WrongDirection else (if b then Err BadLength
     else unless_fault (first_piece_fault reserved pieces) (pages_of_pieces pieces))) ≡ Ok pages
     → (first_piece_fault reserved pieces ≡ None) × (pages_of_pieces pieces ≡ pages)
-by_tests reserved pieces a b pages e = grind (arith, ok_of)
+by_causes reserved pieces a b pages e = grind (arith, ok_of)
 
 -- What a report names.
 pub report_pages : (count : ℕ) (pieces : List Piece) (reserved : ℕ) (pages : List ℕ)
@@ -187,4 +187,4 @@ pub report_pages : (count : ℕ) (pieces : List Piece) (reserved : ℕ) (pages :
     → report_request pieces reserved ≡ Ok pages
     → All (λ page. reserved ≤ page) pages × All (λ page. page < count) pages
 report_pages count pieces reserved pages inside e =
-    grind (arith, by_tests, above_reserved, pages_below)
+    grind (arith, by_causes, above_reserved, pages_below)

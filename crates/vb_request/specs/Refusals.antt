@@ -4,7 +4,7 @@ use Rattle.std.specs.Prelude.{ℕ, not, [], ◌∷◌, Option}
 use Rattle.vb_model.specs.declared.replies.Refusal.{Refusal}
 use Rattle.vb_model.specs.declared.replies.Refusal.TheVariants.{NoQueue, NotReady, NeedsReset}
 use Rattle.vb_model.specs.FirstRefusal.{◌⇒◌, first_refusal}
-use Rattle.vb_model.specs.Tables.{has_chains, is_not_ready, has_fault, lacks_feature, work_tests}
+use Rattle.vb_model.specs.Tables.{has_chains, is_not_ready, has_fault, lacks_feature, work_causes}
 use Rattle.vb_chain.specs.declared.fault.ChainFault.{ChainFault}
 use Rattle.vb_chain.specs.declared.fault.ChainFault.TheVariants.{BadHead, BadNext, TooLong}
 use Rattle.vb_chain.specs.declared.fault.ChainFault.TheVariants.{Indirect, WrongDirection, OutOfRam}
@@ -26,7 +26,7 @@ rule_of ReservedPage = 10
 
 -- Why the status alone refuses a call, where it does.
 abbrev pub readiness_refusal : ℕ → Option Refusal
-readiness_refusal status = first_refusal (work_tests status)
+readiness_refusal status = first_refusal (work_causes status)
 
 -- Why a queue's number, the status and the features refuse a take, where they do.
 abbrev pub take_refusal_by : ℕ → ℕ → ℕ → Option Refusal

@@ -11,7 +11,7 @@ use Rattle.vb_model.{specs.declared.calls.Call.TheVariants.Init, specs.declared.
 use Rattle.vb_model.{specs.declared.replies.Reply.Reply, specs.Limits.is_config}
 use Rattle.vb_model.{specs.Guest.{Guest, fresh}, specs.GuestRun.{Called, Looked}}
 use Rattle.vb_slot.specs.Alone.{AreBehind, StepsTo}
-use Rattle.vb_run.{specs.Plans.{config_of, is_plain, may_stand}, specs.Made.IsMade}
+use Rattle.vb_run.{specs.Plans.{config_of, is_actor_call, may_stand}, specs.Made.IsMade}
 use Rattle.vb_run.specs.Services.{IsQuiet, services, found_nothing}
 use Rattle.vb_run.specs.Past.{Past, Progress, IsKept, IsAside, AreBegun, unknown, just_started}
 use Rattle.vb_run.proofs.Tended.{plain_entry, service_plain, is_quiet, started, stands_plain}
@@ -32,7 +32,7 @@ not_known (suc (suc (suc (suc (suc (suc (suc (suc (suc n))))))))) h = cc
 
 pub call_aside : (Is Is' : Guest → Type 0) (own own' : List ℕ) (p : Past) (actor : Actor)
     (call : Call) (claims : List Claim) (reply : Reply) (k : IsKept Is own p) → IsAside actor
-    → IsMade p.guest (length p.scripts) (Called actor call claims reply) → is_plain call ≡ true
+    → IsMade p.guest (length p.scripts) (Called actor call claims reply) → is_actor_call call ≡ true
     → StepsTo Is' claims k.now call reply → ((g : Guest) → Is' g → AreBehind own' g)
     → IsKept Is' own' (record p {
       history = p.history ++ Called actor call claims reply ∷ [];

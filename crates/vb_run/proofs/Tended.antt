@@ -5,11 +5,14 @@ use Rattle.std.{proofs.Common.{sym, ap, subst, ◌∙◌, ◌⊎◌, inl, inr, a
 use Rattle.std.specs.Prelude.{◌==◌, ◌<◌, Option, Some, None, MatchOption, length, slice_get}
 use Rattle.std.{proofs.lemmas.Bool.{ltb-true, and_parts}, proofs.lemmas.Option.slice_get-get_or}
 use Rattle.vb_model.specs.declared.calls.Call.TheVariants.{Init, Scribble, Take, Work, Finish, Ask}
-use Rattle.vb_model.specs.Requests.{Request, Kind, Inflating, Deflating, Reporting_free, Buffer}
+use Rattle.vb_model.specs.Requests.{Request, Kind, Inflating, Deflating, Reporting_free}
+use Rattle.vb_model.specs.Requests.{StatisticsBuffer}
 use Rattle.vb_model.proofs.CallSteps.{match_cases, honest_keeps, Idles, Visits}
 use Rattle.vb_model.{specs.declared.negotiation.TheConstants.OFFERED_FEATURES, specs.Driver.Reaps}
-use Rattle.vb_model.{specs.Tables.{take_tests, finish_tests, work_tests}, specs.Orderly.IsOrderly}
-use Rattle.vb_model.{specs.Device.{Takes, Asks, next_page, is_unvisited}, specs.Limits.is_config}
+use Rattle.vb_model.specs.Tables.{take_causes, finish_causes, work_causes}
+use Rattle.vb_model.specs.Orderly.{IsOrderly}
+use Rattle.vb_model.specs.Device.{TakesRequest, ReturnsBuffer, next_page, is_unvisited}
+use Rattle.vb_model.specs.Limits.{is_config}
 use Rattle.vb_model.{specs.declared.replies.Reply.TheVariants.Refused, specs.HonestRuns.IsAttentive}
 use Rattle.vb_model.{specs.GuestRun.{Called, EntryStep, is_scribbled}, specs.Rogue.GuestStep}
 use Rattle.vb_model.{proofs.OrderlySteps.{honest_order, fresh_order}, specs.Consistent.IsConsistent}
@@ -19,12 +22,12 @@ use Rattle.vb_model.{proofs.AttentiveSteps.honest_attentive, specs.Refusals.{ref
 use Rattle.vb_model.{specs.Guest.{Guest, Config, fresh}, proofs.GuestSteps.fresh_consistent}
 use Rattle.vb_model.{specs.Step.{Performs, HonestStep}, specs.declared.calls.Actor.Actor}
 use Rattle.vb_model.{specs.declared.calls.Claim.Claim, specs.FirstRefusal.first_refusal}
-use Rattle.vb_run.specs.Plans.{may_stand, is_plain}
+use Rattle.vb_run.specs.Plans.{may_stand, is_actor_call}
 use Rattle.vb_run.specs.Services.{services, found_nothing, IsQuiet, IsTended, IsServed, is_waiting}
 
 -- ---- which calls these are
 
-pub stands_plain : (cpu : ℕ) (call : Call) → may_stand cpu call ≡ true → is_plain call ≡ true
+pub stands_plain : (cpu : ℕ) (call : Call) → may_stand cpu call ≡ true → is_actor_call call ≡ true
 stands_plain cpu call h = grind arith
 
 this_call : (a b : Call) → Some a ≡ Some b → a ≡ b
@@ -40,8 +43,8 @@ each_passes test (c ∷ calls) all (suc n) call e =
     each_passes test calls (and_parts (test c) (list_all test calls) all).1 n call e
 
 pub service_plain : (n : ℕ) (call : Call) → slice_get services n ≡ Some call
-    → is_plain call ≡ true
-service_plain n call e = each_passes is_plain services refl n call e
+    → is_actor_call call ≡ true
+service_plain n call e = each_passes is_actor_call services refl n call e
 
 -- ---- a worker's call that found nothing changed nothing
 
@@ -51,7 +54,7 @@ found : {A : Type 0} (reply other : Reply) → reply ≡ other → found_nothing
 found reply other e f t = absurd (let w : true ≡ false = sym t ∙ ap found_nothing e ∙ f in cc)
 
 takes_quiet : (kind : Kind) (posted : List Request) (g : Guest) (reply : Reply) (new : Guest)
-    → Takes kind posted g reply new → found_nothing reply ≡ true → new ≡ g
+    → TakesRequest kind posted g reply new → found_nothing reply ≡ true → new ≡ g
 takes_quiet kind [] g reply new s t = s.1
 takes_quiet kind (r ∷ rest) g reply new s t = found reply _ s.0 refl t
 
@@ -95,8 +98,8 @@ steady : (g new changed : Guest) → new ≡ changed → changed.status ≡ g.st
     → changed.features ≡ g.features → Steady g new
 steady g new changed e s f = grind arith
 
-asks_steady : (buffer : Buffer) (g : Guest) (reply : Reply) (new : Guest)
-    → Asks buffer g reply new → Steady g new
+asks_steady : (buffer : StatisticsBuffer) (g : Guest) (reply : Reply) (new : Guest)
+    → ReturnsBuffer buffer g reply new → Steady g new
 asks_steady buffer g reply new s = grind arith
 
 reaps_steady : (kind : Kind) (done : List Request) (g : Guest) (reply : Reply) (new : Guest)
@@ -104,16 +107,16 @@ reaps_steady : (kind : Kind) (done : List Request) (g : Guest) (reply : Reply) (
 reaps_steady kind done g reply new s = grind arith
 
 takes_steady : (kind : Kind) (posted : List Request) (g : Guest) (reply : Reply) (new : Guest)
-    → Takes kind posted g reply new → Steady g new
+    → TakesRequest kind posted g reply new → Steady g new
 takes_steady kind posted g reply new s = grind arith
 
 performs_steady : (call : Call) (g : Guest) (claims : List Claim) (reply : Reply) (new : Guest)
-    → is_plain call ≡ true → Performs call g claims reply new → Steady g new
+    → is_actor_call call ≡ true → Performs call g claims reply new → Steady g new
 performs_steady call g claims reply new p s =
     grind (arith, steady, asks_steady, match_cases, reaps_steady, takes_steady)
 
 honest_steady : (g : Guest) (call : Call) (claims : List Claim) (reply : Reply) (new : Guest)
-    → is_plain call ≡ true → HonestStep g call claims reply new → Steady g new
+    → is_actor_call call ≡ true → HonestStep g call claims reply new → Steady g new
 honest_steady g call claims reply new p s = grind (arith, match_cases, performs_steady)
 
 -- ---- a tended guest stays tended
@@ -131,13 +134,13 @@ tended_after : (g : Guest) (call : Call) (claims : List Claim) (reply : Reply) (
 tended_after g call claims reply new c o a s honest f =
     grind (arith, honest_keeps, honest_order, honest_attentive)
 
-not_scribbled : (call : Call) (reply : Reply) → is_plain call ≡ true
+not_scribbled : (call : Call) (reply : Reply) → is_actor_call call ≡ true
     → is_scribbled call reply ≡ false
 not_scribbled (Scribble page offset bytes) reply p = absurd cc
 not_scribbled _ reply p = refl
 
 pub plain_entry : (g : Guest) (actor : Actor) (call : Call) (claims : List Claim) (reply : Reply)
-    (new : Guest) → IsTended g → is_plain call ≡ true → GuestStep g call claims reply new
+    (new : Guest) → IsTended g → is_actor_call call ≡ true → GuestStep g call claims reply new
     → EntryStep g (Called actor call claims reply) new × IsTended new
     × HonestStep g call claims reply new
 plain_entry g actor call claims reply new t p s =
@@ -198,17 +201,17 @@ works_none a b g reply new s t = grind arith
 -- ---- calls on a ready guest that aren't refused
 
 open_take : (q status features taken : ℕ) → status ≡ 15 → features ≡ OFFERED_FEATURES → taken ≡ 0
-    → first_refusal (take_tests q 15 OFFERED_FEATURES 0) ≡ None
-    → first_refusal (take_tests q status features taken) ≡ None
+    → first_refusal (take_causes q 15 OFFERED_FEATURES 0) ≡ None
+    → first_refusal (take_causes q status features taken) ≡ None
 open_take q status features taken up f none h = grind arith
 
 open_finish : (q status : ℕ) (paced : Bool) (taken : Option Request) (r : Request) → status ≡ 15
-    → taken ≡ Some r → first_refusal (finish_tests q 15 paced (Some r)) ≡ None
-    → first_refusal (finish_tests q status paced taken) ≡ None
+    → taken ≡ Some r → first_refusal (finish_causes q 15 paced (Some r)) ≡ None
+    → first_refusal (finish_causes q status paced taken) ≡ None
 open_finish q status paced taken r up e h = grind arith
 
-open_work : (status : ℕ) → status ≡ 15 → first_refusal (work_tests status) ≡ None
-open_work status up = subst (λ (s : ℕ). first_refusal (work_tests s) ≡ None) (sym up) refl
+open_work : (status : ℕ) → status ≡ 15 → first_refusal (work_causes status) ≡ None
+open_work status up = subst (λ (s : ℕ). first_refusal (work_causes s) ≡ None) (sym up) refl
 
 -- ---- taken requests
 
@@ -227,15 +230,15 @@ all_visited r rest w = step (is_unvisited r) refl w
 
 -- so a finish of it isn't refused
 inflate_open : (paced : Bool) (r : Request) (rest : List Request) → NoWork paced (r ∷ rest)
-    → first_refusal (finish_tests 0 15 paced (Some r)) ≡ None
+    → first_refusal (finish_causes 0 15 paced (Some r)) ≡ None
 inflate_open paced r rest w = grind (arith, all_visited)
 
 report_open : (paced : Bool) (r : Request) (rest : List Request) → NoWork paced (r ∷ rest)
-    → first_refusal (finish_tests 4 15 paced (Some r)) ≡ None
+    → first_refusal (finish_causes 4 15 paced (Some r)) ≡ None
 report_open paced r rest w = grind (arith, all_visited)
 
 deflate_open : (paced : Bool) (r : Request)
-    → first_refusal (finish_tests 1 15 paced (Some r)) ≡ None
+    → first_refusal (finish_causes 1 15 paced (Some r)) ≡ None
 deflate_open true r = refl
 deflate_open false r = refl
 
@@ -248,7 +251,7 @@ unfinished g q quiet e = grind arith
 none_taken : (q : ℕ) (g : Guest) (rs : List Request) → g.status ≡ 15 → IsQuiet g (Finish q 0)
     → taken_at g q 0 ≡ slice_get rs 0
     → ((r : Request) (rest : List Request) → rs ≡ r ∷ rest
-    → first_refusal (finish_tests q 15 g.config.paced (Some r)) ≡ None)
+    → first_refusal (finish_causes q 15 g.config.paced (Some r)) ≡ None)
     → rs ≡ []
 none_taken q g [] up quiet e free = refl
 none_taken q g (r ∷ rest) up quiet e free =
@@ -258,13 +261,13 @@ none_taken q g (r ∷ rest) up quiet e free =
 -- ---- posted requests
 
 takes_none : (kind : Kind) (posted : List Request) (g : Guest) (reply : Reply) (new : Guest)
-    → Takes kind posted g reply new → found_nothing reply ≡ true → posted ≡ []
+    → TakesRequest kind posted g reply new → found_nothing reply ≡ true → posted ≡ []
 takes_none kind [] g reply new s t = refl
 takes_none kind (r ∷ rest) g reply new s t = found reply _ s.0 refl t
 
 -- ---- the statistics buffer
 
-buffer_served : (g : Guest) (buffer : Buffer) → g.buffer ≡ buffer → g.status ≡ 15
+buffer_served : (g : Guest) (buffer : StatisticsBuffer) → g.buffer ≡ buffer → g.status ≡ 15
     → g.features ≡ OFFERED_FEATURES → IsQuiet g Ask → IsQuiet g (Take 2)
     → is_waiting buffer ≡ false
 buffer_served g buffer e up f ask take = grind arith

@@ -44,12 +44,12 @@ is_guest_plan p =
     && ((length p.scripts.items == p.config.processors) && are_scripts 0 p.scripts.items)
 
 -- a call of an actor of a guest that was started
-abbrev pub is_plain : Call → Bool
-is_plain (Init wanted) = false
-is_plain Reset = false
-is_plain (Scribble page offset bytes) = false
-is_plain (Sweep page) = false
-is_plain _ = true
+abbrev pub is_actor_call : Call → Bool
+is_actor_call (Init wanted) = false
+is_actor_call Reset = false
+is_actor_call (Scribble page offset bytes) = false
+is_actor_call (Sweep page) = false
+is_actor_call _ = true
 
 -- one to eight guests that can be run, and a port for each
 abbrev pub is_plan : Plan → ℕ → Bool

@@ -8,7 +8,7 @@ use Rattle.vb_model.specs.declared.calls.Call.TheVariants.{Take, Work, Finish, A
 use Rattle.vb_model.specs.declared.calls.Claim.{Claim}
 use Rattle.vb_model.specs.declared.replies.Reply.{Reply}
 use Rattle.vb_model.specs.declared.replies.Reply.TheVariants.{Empty, Idle, Refused}
-use Rattle.vb_model.specs.Requests.{Requests, Buffer, NoBuffer, BufferDone}
+use Rattle.vb_model.specs.Requests.{Requests, StatisticsBuffer, NoBuffer, BufferDone}
 use Rattle.vb_model.specs.Guest.{Guest}
 use Rattle.vb_model.specs.Consistent.{IsConsistent}
 use Rattle.vb_model.specs.Orderly.{IsOrderly}
@@ -39,7 +39,7 @@ pub record IsQuiet (g : Guest) (call : Call) : Type 0 where
 abbrev pub AreServed : Requests → Type 0
 AreServed rs = (rs.posted ≡ []) × (rs.taken ≡ [])
 
-abbrev pub is_waiting : Buffer → Bool
+abbrev pub is_waiting : StatisticsBuffer → Bool
 is_waiting NoBuffer = false
 is_waiting (BufferDone figures) = false
 is_waiting _ = true

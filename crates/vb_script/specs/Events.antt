@@ -13,14 +13,14 @@ use Rattle.vb_model.specs.declared.calls.Call.TheVariants.{Reap as CallReap, Tak
 use Rattle.vb_model.specs.declared.calls.Call.TheVariants.{Work as CallWork, Finish as CallFinish}
 use Rattle.vb_model.specs.declared.calls.Call.TheVariants.{Sweep as CallSweep, Ask as CallAsk}
 use Rattle.vb_model.specs.declared.calls.Call.TheVariants.{SetTarget}
-use Rattle.vb_model.specs.declared.calls.Query.TheVariants.{Places as AskPlaces}
-use Rattle.vb_model.specs.declared.calls.Query.TheVariants.{Balloon as AskBalloon}
-use Rattle.vb_model.specs.declared.calls.Query.TheVariants.{Memory as AskMemory}
-use Rattle.vb_model.specs.declared.calls.Query.TheVariants.{Backing as AskBacking}
+use Rattle.vb_model.specs.declared.calls.Query.TheVariants.{Places as QueryPlaces}
+use Rattle.vb_model.specs.declared.calls.Query.TheVariants.{Balloon as QueryBalloon}
+use Rattle.vb_model.specs.declared.calls.Query.TheVariants.{Memory as QueryMemory}
+use Rattle.vb_model.specs.declared.calls.Query.TheVariants.{Backing as QueryBacking}
 use Rattle.vb_model.specs.declared.calls.Event.{Event}
 use Rattle.vb_model.specs.declared.calls.Event.TheVariants.{Plug as Plugs, Unplug as Unplugs}
 use Rattle.vb_model.specs.declared.calls.Event.TheVariants.{Restart as Restarts, Guest as OnGuest}
-use Rattle.vb_model.specs.declared.calls.Event.TheVariants.{Query as Asking, Balance as Balances}
+use Rattle.vb_model.specs.declared.calls.Event.TheVariants.{Query as OnQuery, Balance as Balances}
 use Rattle.vb_model.specs.declared.calls.Event.TheVariants.{Frames as CountFrames}
 use Rattle.vb_script.specs.declared.names.Form.{Form}
 use Rattle.vb_script.specs.declared.names.Form.TheVariants.{Frames, Init, Pages, One, Two, Three}
@@ -53,9 +53,9 @@ one_number Stats guest = OnGuest guest CallStats
 one_number Work guest = OnGuest guest CallWork
 one_number Ask guest = OnGuest guest CallAsk
 one_number Balance floor = Balances floor
-one_number Places guest = Asking guest AskPlaces
-one_number Balloon guest = Asking guest AskBalloon
-one_number Memory guest = Asking guest AskMemory
+one_number Places guest = OnQuery guest QueryPlaces
+one_number Balloon guest = OnQuery guest QueryBalloon
+one_number Memory guest = OnQuery guest QueryMemory
 
 -- NAME GUEST NUMBER
 abbrev pub two_number : TwoNumbers → ℕ → ℕ → Event
@@ -67,7 +67,7 @@ two_number Reap guest queue = OnGuest guest (CallReap queue)
 two_number Take guest queue = OnGuest guest (CallTake queue)
 two_number Sweep guest page = OnGuest guest (CallSweep page)
 two_number Target guest pages = OnGuest guest (SetTarget pages)
-two_number Backing guest page = Asking guest (AskBacking page)
+two_number Backing guest page = OnQuery guest (QueryBacking page)
 
 -- NAME NUMBER NUMBER NUMBER
 abbrev pub three_number : ThreeNumbers → ℕ → ℕ → ℕ → Event
@@ -105,7 +105,7 @@ pages_event (guest ∷ words) = do
   guest ← number_of guest
   word ← only_word words
   query ← pages_query_of word
-  Some (Asking guest query)
+  Some (OnQuery guest query)
 
 abbrev pub bytes_event : WithBytes → List (List ℕ) → Option Event
 bytes_event name words = do

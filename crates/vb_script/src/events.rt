@@ -2,7 +2,7 @@
 
 ghost use Rattle.std.specs.Prelude.{◌≡◌, ◌∷◌, IfOk, MatchOption, true};
 ghost use Rattle.vb_model.specs.declared.calls.Event.TheVariants.{Guest as OnGuest};
-ghost use Rattle.vb_model.specs.declared.calls.Event.TheVariants.{Query as Asking};
+ghost use Rattle.vb_model.specs.declared.calls.Event.TheVariants.{Query as OnQuery};
 ghost use Rattle.vb_script.specs.Events.{bytes_event, event_of, four_number, init_event, is_call};
 ghost use Rattle.vb_script.specs.Events.{one_number, pages_event, said, three_number, two_number};
 ghost use Rattle.vb_script.specs.Events.{with_bytes};
@@ -240,7 +240,7 @@ fn on_guest(guest: u32, call: Call) -> Event
 
 /// A question about a guest.
 fn asking(guest: u32, query: Query) -> Event
-    ensures { result ≡ Asking guest query }
+    ensures { result ≡ OnQuery guest query }
 {
     Event::Query { guest, query }
 }

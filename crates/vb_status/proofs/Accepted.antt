@@ -6,7 +6,7 @@ use Rattle.vb_model.specs.declared.replies.Refusal.TheVariants.{ClearsBit, OutOf
 use Rattle.vb_model.specs.declared.negotiation.TheConstants.{OFFERED_FEATURES}
 use Rattle.vb_model.{specs.Guest.version_1, specs.Refusals.{◌⇒◌, first_refusal}}
 use Rattle.vb_model.specs.declared.replies.Refusal.TheVariants.{FeatureNotOffered, VersionMissing}
-use Rattle.vb_model.specs.Status.{contains, adds, is_out_of_order, status_tests, features_ok}
+use Rattle.vb_model.specs.Status.{contains, adds, is_out_of_order, status_causes, features_ok}
 use Rattle.vb_status.specs.Agreement.{StatusRequest, Write, Negotiate, Agreement}
 use Rattle.vb_status.specs.Agreement.{refusal_of_request, after_request, Leads, unplugged}
 
@@ -26,7 +26,7 @@ accepted false false true false h = absurd (cc h)
 accepted false false true true h = (refl, refl, λ e. refl)
 
 pub accepted_write : (status negotiated write : ℕ)
-    → first_refusal (status_tests status negotiated write) ≡ None
+    → first_refusal (status_causes status negotiated write) ≡ None
     → (not (contains write status) ≡ false) × (is_out_of_order status write ≡ false)
     × (adds status write features_ok ≡ true → version_1 negotiated ≡ true)
 accepted_write s f w h =
@@ -43,7 +43,7 @@ added_or_there true new e = inl refl
 added_or_there false new e = inr (rw e refl)
 
 write_keeps : (a : Agreement) (w : ℕ) (reset : Bool)
-    → cond reset None (first_refusal (status_tests a.status a.features w)) ≡ None → HasFeatures a
+    → cond reset None (first_refusal (status_causes a.status a.features w)) ≡ None → HasFeatures a
     → HasFeatures (cond reset (record { status = 0; features = 0 }) (record a { status = w }))
 write_keeps a w true h s = λ e. absurd (false≢true e)
 write_keeps a w false h s = λ e.

@@ -4,7 +4,7 @@ use Rattle.std.proofs.Common.{◌||◌, List, [], ◌∷◌, None, cond, refl, s
 use Rattle.std.proofs.Common.{inr, below_more, arith}
 use Rattle.std.proofs.lemmas.Bool.{false≢true, eqb-true, eq-eqb}
 use Rattle.vb_model.specs.Refusals.{first_refusal}
-use Rattle.vb_model.specs.Status.{contains, is_out_of_order, status_tests}
+use Rattle.vb_model.specs.Status.{contains, is_out_of_order, status_causes}
 use Rattle.vb_status.specs.Agreement.{StatusRequest, Write, Negotiate, Agreement}
 use Rattle.vb_status.specs.Agreement.{refusal_of_request, after_request, Leads, AreSteps, changes}
 use Rattle.vb_status.{specs.Agreement.unplugged, proofs.Accepted.accepted_write}
@@ -109,7 +109,7 @@ fails p w h ne e =
 
 -- what an accepted write that doesn't reset says
 written : (status negotiated w : ℕ) (reset : Bool) → eqb w 0 ≡ reset → w ≢ 0
-    → cond reset None (first_refusal (status_tests status negotiated w)) ≡ None
+    → cond reset None (first_refusal (status_causes status negotiated w)) ≡ None
     → may_follow status w ≡ true
 written s f w true z ne h = absurd (ne (eqb-true w 0 z))
 written s f w false z ne h =

@@ -3,7 +3,7 @@
 ghost use Rattle.std.specs.Prelude.{◌≡◌, IfOk};
 ghost use Rattle.vb_model.specs.Guest.{version_1};
 ghost use Rattle.vb_model.specs.Refusals.{first_refusal};
-ghost use Rattle.vb_model.specs.Status.{status_refusal, negotiate_refusal, needed_tests, adds};
+ghost use Rattle.vb_model.specs.Status.{status_refusal, negotiate_refusal, needed_causes, adds};
 ghost use Rattle.vb_model.specs.Status.{adds_any, adds_more, skips, is_broken, is_out_of_order};
 ghost use Rattle.vb_model.specs.Status.{steps, not_for_drivers};
 ghost use Rattle.vb_status.specs.Answers.{answered_refusal};
@@ -101,7 +101,7 @@ pub fn write_status(
 
 /// Tests the feature that FEATURES_OK asks for.
 fn check_features(negotiated: Features) -> Result<(), StatusFault>
-    ensures { answered_refusal result ≡ first_refusal (needed_tests (feature_bits negotiated)) }
+    ensures { answered_refusal result ≡ first_refusal (needed_causes (feature_bits negotiated)) }
 {
     if !negotiated.version_1() {
         return Err(StatusFault::VersionMissing);

@@ -18,7 +18,7 @@ use Rattle.vb_slot.specs.Steps.{StepsWithKeeper, AreOut, backing_count}
 use Rattle.vb_world.{proofs.KeeperFrames.KeeperMoves, specs.Hosts.{IsHost, StandsAt, backing_at}}
 use Rattle.vb_world.proofs.Guests.{backing-with, backing-part, count-with, backs_out, out_backs}
 use Rattle.vb_world.proofs.Frames.{used_are_out}
-use Rattle.vb_model.specs.declared.calls.Event.TheVariants.{Guest as OnGuest, Query as Asking}
+use Rattle.vb_model.specs.declared.calls.Event.TheVariants.{Guest as OnGuest, Query as OnQuery}
 use Rattle.vb_model.specs.declared.calls.Event.TheVariants.{Frames as CountFrames}
 
 module _ {S D : Type 0} (Stand : S → Guest → Type 0) (Spare : D → Bool → Type 0) (slots : Slab S)
@@ -65,12 +65,12 @@ module _ {S D : Type 0} (Stand : S → Guest → Type 0) (Spare : D → Bool →
   no_guest_step n call host e = rw (no_guest n host e) (refl, refl)
 
   pub no_guest_query : (n : ℕ) (query : Query) → IsHost Stand Spare slots out devices w
-      → get slots n ≡ None → WorldStep w (Asking n query) (Refused NoGuest) w
+      → get slots n ≡ None → WorldStep w (OnQuery n query) (Refused NoGuest) w
   no_guest_query n query host e = rw (no_guest n host e) (refl, refl)
 
   pub guest_query : (n : ℕ) (s : S) (query : Query) (reply : Reply)
       → IsHost Stand Spare slots out devices w → get slots n ≡ Some s
-      → ((g : Guest) → Stand s g → Answers query g reply) → WorldStep w (Asking n query) reply w
+      → ((g : Guest) → Stand s g → Answers query g reply) → WorldStep w (OnQuery n query) reply w
   guest_query n s query reply host e answers =
       let has = guest_of n s host e in
       rw has.there (answers has.guest has.stands, refl)
@@ -113,7 +113,7 @@ module _ {S D : Type 0} (Stand : S → Guest → Type 0) (Spare : D → Bool →
       → slots'.capacity ≡ slots.capacity
       → MatchOption given ⊤ (λ last. last ≡ slots'.vacant_key)
       → KeeperMoves out out' (λ f. backing_at f x) (λ f. backing_at f (guest_at w.guests n))
-      → IsHost Stand Spare slots' out' devices (record (put_guest n x w) { given_up = given })
+      → IsHost Stand Spare slots' out' devices (record (put_guest n x w) { vacated = given })
   host_updated n slots' o x out' given host new stands count few capacity next moves = record {
     guests = stands_with n slots' o x host new stands;
     count = count;
@@ -157,7 +157,7 @@ module _ {S D : Type 0} (Stand : S → Guest → Type 0) (Spare : D → Bool →
       → IsHost Stand Spare (with_value slots n s') out' devices (put_guest n (Some new) w)
   host_with n s s' g new out' host e there stands moves =
       let same = plugged_with n new (Some g) there refl in
-      host_updated n (with_value slots n s') (Some s') (Some new) out' w.given_up host
+      host_updated n (with_value slots n s') (Some s') (Some new) out' w.vacated host
       (value_updates n s s' e) stands (count_with n s s' e ∙ (host.count ∙ sym same))
       (omega (arith, same, host.few)) refl host.next
       (record {

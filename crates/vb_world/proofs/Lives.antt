@@ -66,7 +66,7 @@ module _ {S D : Type 0} (Stand : S → Guest → Type 0) (Spare : D → Bool →
       let has = guest_of Stand Spare slots out devices w n s host e in
       let moves = back has.guest has.stands in
       let less = one_less n has.guest has.there in (
-        record (put_guest n None w) { given_up = Some n },
+        record (put_guest n None w) { vacated = Some n },
         host_updated Stand Spare slots out devices w n slots' None None out' (Some n) host new tt
             (omega (arith, len, less, host.count)) (omega (arith, less, host.few)) capacity (sym key)
             (record {

@@ -121,7 +121,7 @@ module _ {S D : Type 0} (Stand : S → Guest → Type 0) (Spare : D → Bool →
         frames = w.frames;
         guests = with_guest n (Some g) w.guests;
         spares = has.others;
-        given_up = None;
+        vacated = None;
       } in
       let stood : IsHost Stand Spare slots' out rest after = record {
         guests = plugs n s slots' g host vacant new
@@ -157,8 +157,8 @@ module _ {S D : Type 0} (Stand : S → Guest → Type 0) (Spare : D → Bool →
       )
     where
       given : IsHost Stand Spare slots out devices w → n ≡ slots.vacant_key
-          → MatchOption w.given_up ⊤ (λ last. n ≡ last)
-      given host key = of w.given_up host.next
+          → MatchOption w.vacated ⊤ (λ last. n ≡ last)
+      given host key = of w.vacated host.next
         where
           of : (o : Option ℕ) → MatchOption o ⊤ (λ last. last ≡ slots.vacant_key)
               → MatchOption o ⊤ (λ last. n ≡ last)

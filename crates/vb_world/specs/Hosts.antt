@@ -48,7 +48,7 @@ pub record IsHost {S D : Type 0} (Stand : S → Guest → Type 0) (Spare : D →
   pub count : slab_len slots ≡ plugged_count w
   pub few : plugged_count w ≤ max_guests
   pub room : max_guests ≤ slots.capacity
-  pub next : MatchOption w.given_up ⊤ (λ last. last ≡ slots.vacant_key)
+  pub next : MatchOption w.vacated ⊤ (λ last. last ≡ slots.vacant_key)
   pub frames : length out ≡ w.frames
   pub backed : (frame : ℕ) → backing_of frame w.guests ≡ one_if (is_out out frame)
   pub spares : AreSpares Spare devices w.spares

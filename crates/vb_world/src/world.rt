@@ -9,7 +9,7 @@ ghost use Rattle.vb_model.specs.HostEvents.{WorldStep, PlugsIn};
 ghost use Rattle.vb_model.specs.HostEvents.{needs, with_targets};
 ghost use Rattle.vb_model.specs.declared.calls.Event.TheVariants.{Plug, Guest as OnGuest};
 ghost use Rattle.vb_model.specs.declared.calls.Event.TheVariants.{Unplug, Restart, Balance};
-ghost use Rattle.vb_model.specs.declared.calls.Event.TheVariants.{Query as Asking};
+ghost use Rattle.vb_model.specs.declared.calls.Event.TheVariants.{Query as OnQuery};
 ghost use Rattle.vb_model.specs.declared.calls.Event.TheVariants.{Frames as CountFrames};
 ghost use Rattle.vb_model.specs.Limits.{is_config, max_guests};
 ghost use Rattle.slab.specs.Slab.{slab_len};
@@ -118,7 +118,7 @@ impl World {
     fn query(&self, alloc: Global, guest: u32, query: &Query) -> Reply
         requires world { (w : Model) × IsWorld mem part self.now w }
         ensures { (w : Model) → IsWorld mem part self.now w →
-            WorldStep w (Asking guest query.now) result w }
+            WorldStep w (OnQuery guest query.now) result w }
     {
         match self.slots.get(guest as usize) {
             Some(slot) => slot.query(alloc, query),

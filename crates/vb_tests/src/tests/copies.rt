@@ -7,7 +7,7 @@ use bitflags::Flags;
 use real_rings::{RINGS, RealRing};
 use std::process::Abort;
 use vb_chain::ChainFault;
-use vb_core::{Buffer, Denial, Device, Kind, Ring, Run, Settings, Statistic};
+use vb_core::{ChainPiece, Denial, Device, Kind, Run, Settings, Statistic, Virtqueue};
 use vb_status::Features;
 
 /// A guest of 512 MiB, and all features.
@@ -20,14 +20,14 @@ const SETTINGS: Settings = Settings {
 };
 
 /// No piece.
-const NO_BUFFER: Buffer = Buffer {
+const NO_BUFFER: ChainPiece = ChainPiece {
     address: 0,
     length: 0,
     writable: 0,
 };
 
 /// A ring of eight descriptors.
-const SMALL: Ring = Ring {
+const SMALL: Virtqueue = Virtqueue {
     table: 0x1000,
     avail: 0x1080,
     used: 0x10a0,
@@ -37,7 +37,7 @@ const SMALL: Ring = Ring {
 };
 
 /// A device whose driver is ready, with this ring of one queue.
-fn ready(settings: Settings, kind: Kind, ring: Ring) -> Device {
+fn ready(settings: Settings, kind: Kind, ring: Virtqueue) -> Device {
     let mut device = Device::new(settings);
     device.features = settings.offered;
     device.status = 15;
@@ -80,7 +80,7 @@ fn avail_of(index: u16) -> [u8; 516] {
 }
 
 /// Whether the pieces are the expected ones, all to be read.
-fn are_pieces(expected: &[(u64, u32)], pieces: &[Buffer]) -> bool {
+fn are_pieces(expected: &[(u64, u32)], pieces: &[ChainPiece]) -> bool {
     for (k, (address, length)) in expected.iter().enumerate() {
         if k >= pieces.len() {
             return false;
@@ -135,7 +135,7 @@ fn is_report(device: &mut Device, ring: &RealRing, avail: &[u8], table: &[u8]) -
 
 /// Whether a real ring's next chain is read as its driver meant it.
 fn is_read_so(ring: &RealRing) -> bool {
-    let at = Ring {
+    let at = Virtqueue {
         table: ring.places[0],
         avail: ring.places[1],
         used: ring.places[2],

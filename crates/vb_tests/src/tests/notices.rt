@@ -5,7 +5,7 @@ mod scribbled;
 use scribbled::{Entry, MEMORY, Row, Scribbled};
 use std::alloc::Global;
 use std::process::Abort;
-use vb_core::{Buffer, Device, Kind, Ring, Run, Settings, Statistic};
+use vb_core::{ChainPiece, Device, Kind, Run, Settings, Statistic, Virtqueue};
 use vb_monitor::{
     Budget, Cut, MAX_BYTES, MAX_FIGURES, MAX_PIECES, MAX_RUNS, Outcome, Region, Spot, serve,
 };
@@ -34,7 +34,7 @@ const REGIONS: [Region; 2] = [
 ];
 
 /// A ring of eight descriptors.
-const RING: Ring = Ring {
+const RING: Virtqueue = Virtqueue {
     table: 0,
     avail: 0x100,
     used: 0x200,
@@ -43,7 +43,7 @@ const RING: Ring = Ring {
     next_used: 0,
 };
 
-const NO_PIECE: Buffer = Buffer {
+const NO_PIECE: ChainPiece = ChainPiece {
     address: 0,
     length: 0,
     writable: 0,

@@ -1,8 +1,8 @@
-use Rattle.vb_monitor.proofs.LargeLaws.{given_up, whole_pages, largest}
+use Rattle.vb_monitor.proofs.LargeLaws.{wholly_given, whole_pages, largest}
 use Rattle.vb_monitor.proofs.laws.large_pages_go_once_they_are_given_up.Goals as goal
 
 pub returns-clause-given : goal.returns-clause-given
-returns-clause-given c = given_up
+returns-clause-given c = wholly_given
 
 pub returns-clause-whole : goal.returns-clause-whole
 returns-clause-whole c = whole_pages

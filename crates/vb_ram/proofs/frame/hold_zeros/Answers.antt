@@ -1,11 +1,14 @@
-use Rattle.std.proofs.Common.{◌≡◌, ◌-◌, length, ◌∙◌, arith, vec_len}
-use Rattle.std.proofs.lemmas.Bool.Decides.{nat_tests}
-use Rattle.vb_ram.proofs.Blanks.{shown-filled}
+use Rattle.std.proofs.Common.{◌-◌, ℕ, List, ◌++◌, replicate, ◌∙◌, ap, arith, vec_len}
+use Rattle.std.proofs.lemmas.List.{take_all}
+use Rattle.vb_ram.{specs.Blank.shown, proofs.Blanks.shown-more}
 use Rattle.vb_ram.proofs.frame.hold_zeros.Goals as goal
 
-pub returns-in-Ok-clause-shown : goal.returns-in-Ok-clause-shown
-returns-in-Ok-clause-shown c =
-    let none : length c.args.bytes.now.items ≡ 0 =
-    grind (arith, nat_tests, c.is_empty.ensures, c.if-is_empty.true) in
-    c.in-Ok.ensures.items
-    ∙ shown-filled c.args.bytes.now.items (4096 - vec_len c.args.bytes.now) none (omega (arith, none))
+pub returns-clause-shown : goal.returns-clause-shown
+returns-clause-shown c =
+    let held = c.args.held.now.items in
+    let more = c.min.result - vec_len c.args.held.now in
+    ap shown c.in-Ok.ensures.items
+    ∙ ap (λ (front : List ℕ). shown (front ++ replicate more 0))
+    (take_all c.min.result held
+    (omega (arith, c.requires.more, c.requires.holds.few, c.min.ensures)))
+    ∙ shown-more held more (omega (arith, c.requires.more, c.requires.holds.few, c.min.ensures))

@@ -24,10 +24,10 @@ fn below_16(numbers: &mut Pcg32, end: u32) -> u16 {
 }
 
 /// The bytes of a ring of at most 256 descriptors: its table, its available ring, and what follows.
-type Ring = [u8; 4614];
+type RingBytes = [u8; 4614];
 
 /// Writes a descriptor, mostly of a small address, length and number.
-fn put_descriptor(numbers: &mut Pcg32, bytes: &mut Ring, size: u16, index: u16) {
+fn put_descriptor(numbers: &mut Pcg32, bytes: &mut RingBytes, size: u16, index: u16) {
     let at = 16 * usize::from(index % 256);
     let flags = if below(numbers, 12) > 0 { 4 } else { 65_536 };
     let more = if below(numbers, 12) > 0 { 0 } else { 2 };
@@ -41,7 +41,7 @@ fn put_descriptor(numbers: &mut Pcg32, bytes: &mut Ring, size: u16, index: u16) 
 }
 
 /// Writes a descriptor that mostly goes on to the one behind it, so that long chains come about.
-fn put_link(numbers: &mut Pcg32, bytes: &mut Ring, size: u16, index: u16) {
+fn put_link(numbers: &mut Pcg32, bytes: &mut RingBytes, size: u16, index: u16) {
     let at = 16 * usize::from(index % 256);
     let is_jump = below(numbers, 64) == 0;
     let next = if is_jump {
@@ -57,7 +57,7 @@ fn put_link(numbers: &mut Pcg32, bytes: &mut Ring, size: u16, index: u16) {
 }
 
 /// Writes a number of 16 bits at this byte of the available ring.
-fn put_available(bytes: &mut Ring, size: u16, offset: usize, number: u16)
+fn put_available(bytes: &mut RingBytes, size: u16, offset: usize, number: u16)
     requires size { size ≤ 256 }
     requires offset { offset ≤ 514 }
 {
@@ -65,7 +65,7 @@ fn put_available(bytes: &mut Ring, size: u16, offset: usize, number: u16)
 }
 
 /// Writes a place of the available ring and a descriptor anew, of a ring with long chains or not.
-fn put_place(numbers: &mut Pcg32, bytes: &mut Ring, size: u16, index: u16, is_long: bool)
+fn put_place(numbers: &mut Pcg32, bytes: &mut RingBytes, size: u16, index: u16, is_long: bool)
     requires size { size ≤ 256 }
     requires index { index < size }
 {
@@ -83,7 +83,7 @@ fn put_place(numbers: &mut Pcg32, bytes: &mut Ring, size: u16, index: u16, is_lo
 /// Writes the index and 8 places of a ring anew: all of a ring of 8, and of a larger one those that
 /// are next. Numbers are mostly small, so that chains come about; for 64 of 256 rounds these are
 /// long.
-fn put_some(numbers: &mut Pcg32, bytes: &mut Ring, size: u16, round: u16)
+fn put_some(numbers: &mut Pcg32, bytes: &mut RingBytes, size: u16, round: u16)
     requires some { 0 < size }
     requires size { size ≤ 256 }
 {
@@ -109,7 +109,7 @@ struct Link {
 }
 
 impl Link {
-    fn at(bytes: &Ring, index: u16) -> Link {
+    fn at(bytes: &RingBytes, index: u16) -> Link {
         let bytes = &bytes[16 * usize::from(index % 256)..];
         Link {
             addr: LittleEndian::read_u64(bytes),
@@ -148,7 +148,7 @@ impl Link {
 }
 
 /// The first fault on the way from a head.
-fn first_fault(bytes: &Ring, size: u16, head: u16) -> Option<ChainFault> {
+fn first_fault(bytes: &RingBytes, size: u16, head: u16) -> Option<ChainFault> {
     if head >= size {
         return Some(ChainFault::BadHead);
     }
@@ -167,7 +167,7 @@ fn first_fault(bytes: &Ring, size: u16, head: u16) -> Option<ChainFault> {
 }
 
 /// Whether the pieces are those of the whole chain from a head.
-fn are_chain(bytes: &Ring, head: u16, pieces: &[Piece]) -> bool {
+fn are_chain(bytes: &RingBytes, head: u16, pieces: &[Piece]) -> bool {
     let mut index = head;
     let mut goes_on = true;
     for piece in pieces {
@@ -182,7 +182,7 @@ fn are_chain(bytes: &Ring, head: u16, pieces: &[Piece]) -> bool {
 }
 
 /// A number of 16 bits that stands at this byte of the available ring.
-fn available(bytes: &Ring, size: u16, offset: usize) -> u16
+fn available(bytes: &RingBytes, size: u16, offset: usize) -> u16
     requires size { size ≤ 256 }
     requires offset { offset ≤ 516 }
 {
@@ -190,7 +190,7 @@ fn available(bytes: &Ring, size: u16, offset: usize) -> u16
 }
 
 /// Whether a second reading of the rules gives the same next chain, or the same fault.
-fn agrees(bytes: &Ring, size: u16, taken: u16, got: &Result<Option<Taken>, ChainFault>) -> bool
+fn agrees(bytes: &RingBytes, size: u16, taken: u16, got: &Result<Option<Taken>, ChainFault>) -> bool
     requires size { size ≤ 256 }
     requires taken { taken ≤ size }
 {
@@ -212,7 +212,7 @@ fn agrees(bytes: &Ring, size: u16, taken: u16, got: &Result<Option<Taken>, Chain
 
 impl Ends {
     /// Whether a chain is popped, as a second reading has it.
-    fn pop_next(&mut self, rt: &impl Abort, bytes: &Ring, size: u16, taken: u16) -> bool
+    fn pop_next(&mut self, rt: &impl Abort, bytes: &RingBytes, size: u16, taken: u16) -> bool
         requires size { size ≤ 256 }
         requires taken { taken ≤ size }
     {
@@ -222,7 +222,7 @@ impl Ends {
     }
 
     /// Pops all chains of a ring, and answers how many came.
-    fn pop_all(&mut self, rt: &impl Abort, bytes: &Ring, size: u16) -> u32
+    fn pop_all(&mut self, rt: &impl Abort, bytes: &RingBytes, size: u16) -> u32
         requires { size ≤ 256 }
     {
         assert!(rt; self.ram.write(0, 0, &bytes[..4096]).is_ok());

@@ -1,6 +1,7 @@
 use Rattle.std.proofs.Common.{◌≡◌, None, length, sym, subst, rules}
 use Rattle.vb_ring.specs.Layout.{IsSize}
-use Rattle.vb_core.{specs.declared.ring.Ring.Ring, specs.Devices.ring_of, specs.Next.next_denial}
+use Rattle.vb_core.{specs.declared.ring.Virtqueue.Virtqueue, specs.Devices.ring_of}
+use Rattle.vb_core.specs.Next.{next_denial}
 use Rattle.vb_core.{proofs.RingLemmas.placed_size, proofs.NextLemmas.{open_next, copies_fit}}
 use Rattle.vb_core.proofs.device.Device.next.Goals as goal
 
@@ -10,7 +11,7 @@ next_chain-requires-clause-size c =
     (length c.args.pieces.now) c.args.self.now ≡ None = search rules in
     let passed = open_next c.args.kind (length c.args.avail.now) (length c.args.table.now)
     (length c.args.pieces.now) c.args.self.now none in
-    subst (λ (r : Ring). IsSize r.size) (sym c.ring-ring.ensures)
+    subst (λ (r : Virtqueue). IsSize r.size) (sym c.ring-ring.ensures)
     (placed_size c.args.self.now.settings.memory_end (ring_of c.args.kind c.args.self.now)
     passed.place)
 

@@ -1,6 +1,7 @@
 use Rattle.std.proofs.Common.{◌≡◌, None, length, sym, subst, rules}
 use Rattle.vb_ring.specs.Layout.{IsSize}
-use Rattle.vb_core.{specs.declared.ring.Ring.Ring, specs.declared.kinds.Kind.TheVariants.Report}
+use Rattle.vb_core.specs.declared.ring.Virtqueue.{Virtqueue}
+use Rattle.vb_core.specs.declared.kinds.Kind.TheVariants.{Report}
 use Rattle.vb_core.{specs.Devices.ring_of, specs.Report.report_denial}
 use Rattle.vb_core.{proofs.RingLemmas.placed_size, proofs.NextLemmas.{open_report, copies_fit}}
 use Rattle.vb_core.proofs.device.Device.report.Goals as goal
@@ -11,7 +12,7 @@ next_report-requires-clause-size c =
     (length c.args.runs.now) c.args.self.now ≡ None = search rules in
     let passed = open_report (length c.args.avail.now) (length c.args.table.now)
     (length c.args.runs.now) c.args.self.now none in
-    subst (λ (r : Ring). IsSize r.size) (sym c.ring-ring.ensures)
+    subst (λ (r : Virtqueue). IsSize r.size) (sym c.ring-ring.ensures)
     (placed_size c.args.self.now.settings.memory_end (ring_of Report c.args.self.now)
     passed.place)
 

@@ -20,11 +20,11 @@ returns-in-Some c =
 
 pub invariant_of-self : goal.invariant_of-self
 invariant_of-self c =
-    let open_tests : take_refusal_by c.args.queue (status_bits c.self.inside.status)
+    let open_causes : take_refusal_by c.args.queue (status_bits c.self.inside.status)
     (feature_bits c.self.inside.features) ≡ None = search rules in
     let known : has_chains c.args.queue ≡ true =
     take_known c.args.queue (status_bits c.self.inside.status) (feature_bits c.self.inside.features)
-    open_tests in
+    open_causes in
     let entry : get_or c.self.inside.queues c.index_of-place.result c.index-self-place.result ≡
     queue_at c.args.queue c.self.inside.queues =
     ap (λ (i : ℕ). get_or c.self.inside.queues i c.index-self-place.result)
@@ -46,18 +46,18 @@ invariant_of-self c =
     c.take-taken.new.self c.self.invariant known
     (status_ok (status_bits c.self.inside.status)
     (take_ready c.args.queue (status_bits c.self.inside.status)
-    (feature_bits c.self.inside.features) open_tests))
+    (feature_bits c.self.inside.features) open_causes))
     (keeps_ring c.args.queue c.self.inside.ram (queue_at c.args.queue c.self.inside.queues)
     c.take-taken.new.self (was c.self.inside.last) (was c.take-taken.new.last) c.take-taken.result
     (c.self.invariant.each c.args.queue known).idle takes.means))
 
 pub returns : goal.returns
 returns c =
-    let open_tests : take_refusal_by c.args.queue (status_bits c.self.inside.status)
+    let open_causes : take_refusal_by c.args.queue (status_bits c.self.inside.status)
     (feature_bits c.self.inside.features) ≡ None = search rules in
     let known : has_chains c.args.queue ≡ true =
     take_known c.args.queue (status_bits c.self.inside.status) (feature_bits c.self.inside.features)
-    open_tests in
+    open_causes in
     let entry : get_or c.self.inside.queues c.index_of-place.result c.index-self-place.result ≡
     queue_at c.args.queue c.self.inside.queues =
     ap (λ (i : ℕ). get_or c.self.inside.queues i c.index-self-place.result)
@@ -97,4 +97,4 @@ returns c =
     (feature_bits c.self.inside.features) c.self.inside.target c.self.inside.actual
     c.self.inside.queue_size _ c.self.inside.queues c.take-taken.new.self (was c.self.inside.last)
     (was c.take-taken.new.last) c.self.inside.loose.items c.take-taken.result
-    c.self.invariant open_tests takes)))
+    c.self.invariant open_causes takes)))

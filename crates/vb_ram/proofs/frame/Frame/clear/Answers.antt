@@ -1,6 +1,6 @@
 use Rattle.std.proofs.Common.{◌≡◌, ℕ, List, ◌∙◌, ap, arith, length}
 use Rattle.vb_model.specs.Guest.{zero_page}
-use Rattle.vb_ram.{specs.Blank.shown, specs.Pages.Page, proofs.Contents.length-zero_page}
+use Rattle.vb_ram.{specs.Blank.shown, specs.Pages.Page}
 use Rattle.vb_ram.proofs.frame.Frame.clear.Goals as goal
 
 pub returns : goal.returns
@@ -13,6 +13,6 @@ returns c =
 
 pub invariant_of-self : goal.invariant_of-self
 invariant_of-self c = record {
-  whole = ap (λ (bs : List ℕ). length (shown bs)) c.clear.ensures.items ∙ length-zero_page;
+  few = omega (arith, ap (λ (bs : List ℕ). length bs) c.clear.ensures.items);
   room = omega (arith, c.clear.ensures.capacity, c.self.invariant.room);
 }

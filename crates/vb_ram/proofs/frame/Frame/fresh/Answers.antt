@@ -1,5 +1,5 @@
-use Rattle.std.proofs.Common.{ℕ, List, ◌∙◌, ap, arith, length}
-use Rattle.vb_ram.{specs.Blank.shown, proofs.Contents.length-zero_page}
+use Rattle.std.proofs.Common.{ℕ, List, ap, arith, length}
+use Rattle.vb_ram.specs.Blank.{shown}
 use Rattle.vb_ram.proofs.frame.Frame.fresh.Goals as goal
 
 pub returns-clause-ok : goal.returns-clause-ok
@@ -9,6 +9,6 @@ returns-clause-ok c =
 
 pub invariant_of-result : goal.invariant_of-result
 invariant_of-result c = record {
-  whole = ap (λ (bs : List ℕ). length (shown bs)) c.in_ok-bytes.ensures.items ∙ length-zero_page;
+  few = omega (arith, ap (λ (bs : List ℕ). length bs) c.in_ok-bytes.ensures.items);
   room = omega (arith, c.in_ok-bytes.ensures.capacity);
 }

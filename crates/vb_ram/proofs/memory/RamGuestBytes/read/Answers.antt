@@ -11,7 +11,7 @@ returns-in-Some-clause-bytes c k h =
     let is = byte_read c.self.inside.pages.items c.args.page (c.args.offset + k) _ there
     c.index.ensures in
     let seen = ap (λ (mem : Pages). byte_at mem c.args.page (c.args.offset + k)) c.self.view_is in
-    grind (arith, common_steps, is, seen, c.in-Some.is, c.bytes.ensures.bytes)
+    grind (arith, common_steps, is, seen, c.in-Some.is, c.get.ensures.read k h)
 
 pub returns-in-None-clause-bytes : goal.returns-in-None-clause-bytes
 returns-in-None-clause-bytes c k h =
