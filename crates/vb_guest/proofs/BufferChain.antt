@@ -9,8 +9,8 @@ use Rattle.vb_chain.{proofs.ChainLaws.{single_chain, no_fault}, specs.declared.p
 use Rattle.vb_chain.{specs.Table.descriptor_at, specs.Chain.ChainGives, specs.Rules.piece_of}
 use Rattle.vb_driver.specs.Coding.{AreFigures, IsStatistic, statistics_buffer}
 use Rattle.vb_request.specs.Statistics.{Statistic, statistic_at, statistics_of, statistics_in}
-use Rattle.vb_request.specs.Request.{byte_of_address, bytes_from, bytes_of}
 use Rattle.vb_request.specs.Statistics.{statistics_request}
+use Rattle.vb_request.specs.Request.{byte_of_address, bytes_from, bytes_of}
 
 -- the buffer's one piece
 abbrev pub buffer_pieces : List Piece

@@ -2,8 +2,7 @@
 use Rattle.std.specs.Prelude.{◌≡◌, ℕ, ◌+◌, ◌%◌, true, List, [], ◌∷◌, ◌++◌, remove, Some, Ok, refl}
 use Rattle.std.proofs.Common.{ap, arith, inl}
 use Rattle.vb_model.specs.Requests.{Request, Figures, StatisticsBuffer, NoBuffer, BufferPosted}
-use Rattle.vb_model.specs.Requests.{BufferTaken}
-use Rattle.vb_model.{specs.Layout.ring_page, specs.Requests.BufferDone}
+use Rattle.vb_model.{specs.Requests.{BufferTaken, BufferDone}, specs.Layout.ring_page}
 use Rattle.vb_ram.{specs.Pages.{Pages, page_at}, specs.Part.QueuePart}
 use Rattle.vb_ram.proofs.FieldLaws.{field_in, same_page}
 use Rattle.vb_chain.proofs.TableLaws.{descriptor_apart}

@@ -1,31 +1,28 @@
 -- A guest's two deflates are steps of the definitions.
-use Rattle.std.specs.Prelude.{◌≡◌, ℕ, zero, suc, ◌<◌, ◌≤◌, ◌==◌, Bool, not, nat_le, List, [], ◌∷◌}
-use Rattle.std.specs.Prelude.{length, take, Result, Ok, Err, OnErr, IfOk, Option, Some, None}
-use Rattle.std.specs.Prelude.{is_some, count_by, refl, ◌⊎◌}
-use Rattle.std.proofs.Common.{sym, ◌∙◌, ap, subst, arith, inl, inr}
-use Rattle.vb_model.specs.declared.replies.Refusal.TheVariants.{NotReady, NoFeature, QueueFull}
+use Rattle.std.specs.Prelude.{◌≡◌, ℕ, zero, suc, ◌<◌, ◌≤◌, Bool, List, [], ◌∷◌, length, take}
+use Rattle.std.specs.Prelude.{Result, Ok, Err, OnErr, IfOk, Some, None, count_by, refl, ◌⊎◌}
+use Rattle.std.proofs.Common.{sym, ◌∙◌, ap, subst, arith, inr}
+use Rattle.vb_model.{specs.declared.replies.Refusal.TheVariants.NotReady, specs.Tests.pages_from}
 use Rattle.vb_model.{specs.declared.calls.Call.Call, specs.declared.replies.Refusal.Refusal}
-use Rattle.vb_model.{specs.declared.calls.Call.TheVariants.{Deflate, Oom}, specs.Tests.pages_from}
-use Rattle.vb_model.{specs.declared.replies.Refusal.TheVariants.Nothing, specs.Step.Performs}
+use Rattle.vb_model.{specs.declared.calls.Call.TheVariants.{Deflate, Oom}, specs.Step.Performs}
 use Rattle.vb_model.{specs.declared.replies.Reply.Reply, specs.Requests.{outstanding, Deflating}}
 use Rattle.vb_model.{specs.declared.replies.Reply.TheVariants.Posted, proofs.Tables.count_by-cons}
-use Rattle.vb_model.{specs.Guest.{Guest, lent_count, deflate_on_oom}, specs.Layout.buffer_page}
+use Rattle.vb_model.{specs.Guest.{Guest, lent_count}, specs.Layout.buffer_page}
 use Rattle.vb_model.specs.Driver.{Deflates, lowest_lent, after_posting}
-use Rattle.vb_model.proofs.OrderlySteps.{honest_order}
-use Rattle.vb_model.specs.Refusals.{◌⇒◌, first_refusal, refusal_of, deflate_count, oom_count, room}
-use Rattle.vb_model.proofs.Shapes.{reserved_least}
+use Rattle.vb_model.{proofs.OrderlySteps.honest_order, proofs.Shapes.reserved_least}
+use Rattle.vb_model.specs.Refusals.{first_refusal, refusal_of, deflate_count, oom_count}
 use Rattle.vb_ram.{specs.Pages.Pages, specs.Part.Part}
-use Rattle.vb_driver.specs.State.{FreePages, DriverState, IsDriver}
-use Rattle.vb_driver.specs.Answers.{refusal_in, deflate_causes, oom_causes}
-use Rattle.vb_driver.specs.Calls.{Unchanged, AsksBack, DeflatesBy, DeflatesOnOomBy, areas_asked}
+use Rattle.vb_guest.proofs.SameRefusals.{IsIdleStatus, refused_alike, runs_where}
+use Rattle.vb_guest.{proofs.Running.others_posted, proofs.Closing.{honest_performed, steps_alone}}
 use Rattle.vb_guest.proofs.RunApart.{sizes_of, ring_of, buffer_clear, post_leaves, post_same}
-use Rattle.vb_guest.proofs.DriverWords.{Sides, sides_of, driver_of, driver_is, keeps_own}
+use Rattle.vb_guest.proofs.DriverWords.{Sides, sides_of, driver_of, driver_is}
 use Rattle.vb_guest.proofs.Posting.{line_posted, least_head, outstanding_are}
 use Rattle.vb_guest.proofs.Offered.{asked_as, last_sound, deflate_requested}
-use Rattle.vb_guest.{proofs.Closing.{honest_performed, steps_alone}, proofs.PagesKept.pages_same}
-use Rattle.vb_guest.{specs.Stands.{Honest, Ties, IsRunning}, proofs.InflateStep.request_refusal}
-use Rattle.vb_guest.{proofs.BufferLines.buffer_apart, proofs.ReportLines.report_apart}
-use Rattle.vb_guest.{specs.Replies.posted_reply, proofs.Apart.line_apart, specs.Steps.StepsAlone}
+use Rattle.vb_guest.{proofs.PagesKept.pages_same, specs.Stands.{Honest, Ties, IsRunning}}
+use Rattle.vb_guest.{specs.Replies.posted_reply, specs.Steps.StepsAlone}
+use Rattle.vb_driver.specs.State.{FreePages, RequestSide, DriverState, IsDriver}
+use Rattle.vb_driver.specs.Answers.{refusal_in, deflate_causes, oom_causes}
+use Rattle.vb_driver.specs.Calls.{Unchanged, AsksBack, DeflatesBy, DeflatesOnOomBy, areas_asked}
 use Rattle.vb_ring.specs.Ends.{outstanding as outstanding_in}
 use Rattle.vb_driver.specs.declared.answers.Posted.{Posted as PostedRequest}
 use Rattle.vb_driver.specs.Answers.{deflate_count as driver_count}
@@ -94,34 +91,18 @@ asked_back m1 m2 p1 p2 g areas sides d2 call count posted asks driver did stands
     let leaves = post_leaves m1 m2 (driver_of g areas sides) size 1 buffer
     sides.deflate.ring.layout (sizes_of m1 p1 (driver_of g areas sides) g run) ring
     (buffer_clear size 1 buffer (omega arith) (omega (arith, small))) rest.others in
+    let still = others_posted m1 m2 p1 (driver_of g areas sides) g 1 buffer run leaves rest.backing
+    (λ ne. omega (arith, small)) (λ ne page from to. omega (arith, to)) (λ ne. absurd (ne refl)) in
     let after : DriverState = driver_of new (areas_asked pages (driver_of g areas sides))
     (record sides { deflate = d2.deflate }) in
+    let sized = ap (λ (s : RequestSide). s.ring.size) did.posts.state ∙ run.deflate_size in
     let there : Ties m2 p1 after new = record {
-      parts = record {
-        guest = ties.parts.guest;
-        driver = keeps_own new _ _;
-        device = ties.parts.device;
-      };
+      parts = assumption;
       pages = pages_same m1 m2 g.config.queue_size g.config.pages _ _
           (post_same m1 m2 size 1 buffer sides.deflate.ring.layout ring
           (omega (arith, small, reserved_least size)) rest.count rest.backing rest.others)
           ties.pages;
-      queues = inr (record {
-        state = run.state;
-        backed = λ p lt. ap is_some (rest.backing p) ∙ run.backed p lt;
-        inflate_size = run.inflate_size;
-        deflate_size = ap (λ s. s.ring.size) did.posts.state ∙ run.deflate_size;
-        statistics_size = run.statistics_size;
-        report_size = run.report_size;
-        statistics = buffer_apart m1 m2 sides.statistics p1.statistics g.buffer
-            (leaves.statistics (omega arith)) (leaves.buffer (omega (arith, small)))
-            run.statistics;
-        report = report_apart m1 m2 g.config.pages sides.report p1.report g.report
-            (leaves.report (omega arith)) run.report;
-        inflate = line_apart m1 m2 0 g.config.pages sides.inflate p1.inflate g.inflate
-            (leaves.inflate (omega arith) (λ p from to. omega (arith, to))) run.inflate;
-        deflate = line;
-      });
+      queues = inr (assumption (still.inflate refl, still.statistics refl, still.report refl));
     } in
     steps_alone m1 m2 p1 p2 (driver_of g areas sides) d2 g call (Posted posted.head posted.pages)
     new stands step
@@ -140,33 +121,24 @@ by_result m1 m2 p1 p2 g areas sides d2 call count (Err why) asks driver refusal 
     grind arith
 by_result m1 m2 p1 p2 g areas sides d2 call count (Ok posted) asks driver refusal refused did stands
     =
-    elim stands.ties.queues [
-      | inl idle ↦ absurd (let down = asks.down idle.state in
-          let free : refusal_of g call ≡ None = sym refusal in cc)
-      | inr run ↦ asked_back m1 m2 p1 p2 g areas sides d2 call count posted asks driver did stands
-          run (sym refusal)
-    ]
+    let run = runs_where m1 p1 (driver_of g areas sides) g call (refusal_of g call)
+    stands.ties.queues (λ state. (asks.down state, asks.down state)) (sym refusal) in
+    asked_back m1 m2 p1 p2 g areas sides d2 call count posted asks driver did stands run
+    (sym refusal)
 
 -- ---- as far as the target allows
 
-deflate_idle : (g : Guest) (n : ℕ) → (g.status ≡ 0) ⊎ (g.status ≡ 131)
-    → refusal_of g (Deflate n) ≡ Some NotReady
-deflate_idle g n down = grind arith
+deflate_idle : (d : DriverState) (p : Part) (g : Guest) (n : ℕ) → p.status ≡ g.status
+    → IsIdleStatus g.status
+    → (first_refusal (deflate_causes d p n) ≡ Some NotReady)
+    × (refusal_of g (Deflate n) ≡ Some NotReady)
+deflate_idle d p g n same down = grind arith
 
-deflate_idle_causes : (d : DriverState) (p : Part) (n : ℕ) → (p.status ≡ 0) ⊎ (p.status ≡ 131)
-    → first_refusal (deflate_causes d p n) ≡ Some NotReady
-deflate_idle_causes d p n down = grind arith
-
-deflate_running : (g : Guest) (n : ℕ) → g.status ≡ 15
-    → refusal_of g (Deflate n)
-    ≡ request_refusal (room g) (outstanding g.deflate) (deflate_count g n)
-deflate_running g n e = grind arith
-
-deflate_running_causes : (g : Guest) (areas : FreePages) (sides : Sides) (p : Part) (n : ℕ)
-    → p.status ≡ 15 → p.target ≡ g.target
-    → first_refusal (deflate_causes (driver_of g areas sides) p n)
-    ≡ request_refusal (room g) (outstanding_in sides.deflate.ring) (deflate_count g n)
-deflate_running_causes g areas sides p n e t = grind arith
+deflate_same : (g : Guest) (areas : FreePages) (sides : Sides) (p : Part) (n : ℕ)
+    → p.status ≡ g.status → p.target ≡ g.target
+    → outstanding_in sides.deflate.ring ≡ outstanding g.deflate
+    → first_refusal (deflate_causes (driver_of g areas sides) p n) ≡ refusal_of g (Deflate n)
+deflate_same g areas sides p n status target out = grind arith
 
 deflate_asks : (g : Guest) (n : ℕ) → IsAsking g (Deflate n) (deflate_count g n)
 deflate_asks g n = grind arith
@@ -182,20 +154,11 @@ deflate_step m1 m2 p1 p2 d1 d2 g n result did stands =
     let here : Honest m1 p1 (driver_of g areas sides) g = subst (λ d. Honest m1 p1 d g) is stands in
     let at : DeflatesBy m1 m2 p1 p2 (driver_of g areas sides) d2 n result =
     subst (λ d. DeflatesBy m1 m2 p1 p2 d d2 n result) is did in
-    let D : ℕ → Type 0 = λ s. (s ≡ 0) ⊎ (s ≡ 131) in
-    let same : first_refusal (deflate_causes (driver_of g areas sides) p1 n)
-    ≡ refusal_of g (Deflate n) =
-    elim here.ties.queues [
-      | inl idle ↦ deflate_idle_causes (driver_of g areas sides) p1 n
-          (subst D (sym here.ties.parts.device.status) idle.state)
-          ∙ sym (deflate_idle g n idle.state)
-      | inr run ↦
-          deflate_running_causes g areas sides p1 n (here.ties.parts.device.status ∙ run.state)
-          here.ties.parts.device.target
-          ∙ ap (λ (k : ℕ). request_refusal (room g) k (deflate_count g n))
-          (outstanding_are m1 1 sides.deflate.ring p1.deflate g.deflate run.deflate.ring)
-          ∙ sym (deflate_running g n run.state)
-    ] in
+    let device = here.ties.parts.device in
+    let same = refused_alike m1 p1 (driver_of g areas sides) g (Deflate n) _ here.ties.queues
+    (deflate_idle (driver_of g areas sides) p1 g n device.status)
+    (λ run. deflate_same g areas sides p1 n device.status device.target
+    (outstanding_are m1 1 sides.deflate.ring p1.deflate g.deflate run.deflate.ring)) in
     let A : ℕ → Type 0 = λ t. IfOk result
     (AsksBack m1 m2 p1 p2 (driver_of g areas sides) d2
     (driver_count (driver_of g areas sides) t n)) in
@@ -205,31 +168,15 @@ deflate_step m1 m2 p1 p2 d1 d2 g n result did stands =
 
 -- ---- whatever the target
 
--- what is tested once the device is initialised
-abbrev oom_refusal : Bool → ℕ → ℕ → ℕ → Option Refusal
-oom_refusal allowed most out count =
-    first_refusal ((not allowed ⇒ NoFeature) ∷ (nat_le most out ⇒ QueueFull)
-    ∷ ((count == 0) ⇒ Nothing) ∷ [])
+oom_idle : (d : DriverState) (p : Part) (g : Guest) (n : ℕ) → p.status ≡ g.status
+    → IsIdleStatus g.status
+    → (first_refusal (oom_causes d p n) ≡ Some NotReady) × (refusal_of g (Oom n) ≡ Some NotReady)
+oom_idle d p g n same down = grind arith
 
-oom_idle : (g : Guest) (n : ℕ) → (g.status ≡ 0) ⊎ (g.status ≡ 131)
-    → refusal_of g (Oom n) ≡ Some NotReady
-oom_idle g n down = grind arith
-
-oom_idle_causes : (d : DriverState) (p : Part) (n : ℕ) → (p.status ≡ 0) ⊎ (p.status ≡ 131)
-    → first_refusal (oom_causes d p n) ≡ Some NotReady
-oom_idle_causes d p n down = grind arith
-
-oom_running : (g : Guest) (n : ℕ) → g.status ≡ 15
-    → refusal_of g (Oom n)
-    ≡ oom_refusal (deflate_on_oom g.features) (room g) (outstanding g.deflate) (oom_count g n)
-oom_running g n e = grind arith
-
-oom_running_causes : (g : Guest) (areas : FreePages) (sides : Sides) (p : Part) (n : ℕ)
-    → p.status ≡ 15
-    → first_refusal (oom_causes (driver_of g areas sides) p n)
-    ≡ oom_refusal (deflate_on_oom g.features) (room g) (outstanding_in sides.deflate.ring)
-    (oom_count g n)
-oom_running_causes g areas sides p n e = grind arith
+oom_same : (g : Guest) (areas : FreePages) (sides : Sides) (p : Part) (n : ℕ)
+    → p.status ≡ g.status → outstanding_in sides.deflate.ring ≡ outstanding g.deflate
+    → first_refusal (oom_causes (driver_of g areas sides) p n) ≡ refusal_of g (Oom n)
+oom_same g areas sides p n status out = grind arith
 
 oom_asks : (g : Guest) (n : ℕ) → IsAsking g (Oom n) (oom_count g n)
 oom_asks g n = grind arith
@@ -245,16 +192,10 @@ oom_step m1 m2 p1 p2 d1 d2 g n result did stands =
     let here : Honest m1 p1 (driver_of g areas sides) g = subst (λ d. Honest m1 p1 d g) is stands in
     let at : DeflatesOnOomBy m1 m2 p1 p2 (driver_of g areas sides) d2 n result =
     subst (λ d. DeflatesOnOomBy m1 m2 p1 p2 d d2 n result) is did in
-    let D : ℕ → Type 0 = λ s. (s ≡ 0) ⊎ (s ≡ 131) in
-    let same : first_refusal (oom_causes (driver_of g areas sides) p1 n) ≡ refusal_of g (Oom n) =
-    elim here.ties.queues [
-      | inl idle ↦ oom_idle_causes (driver_of g areas sides) p1 n
-          (subst D (sym here.ties.parts.device.status) idle.state) ∙ sym (oom_idle g n idle.state)
-      | inr run ↦
-          oom_running_causes g areas sides p1 n (here.ties.parts.device.status ∙ run.state)
-          ∙ ap (λ (k : ℕ). oom_refusal (deflate_on_oom g.features) (room g) k (oom_count g n))
-          (outstanding_are m1 1 sides.deflate.ring p1.deflate g.deflate run.deflate.ring)
-          ∙ sym (oom_running g n run.state)
-    ] in
+    let device = here.ties.parts.device in
+    let same = refused_alike m1 p1 (driver_of g areas sides) g (Oom n) _ here.ties.queues
+    (oom_idle (driver_of g areas sides) p1 g n device.status)
+    (λ run. oom_same g areas sides p1 n device.status
+    (outstanding_are m1 1 sides.deflate.ring p1.deflate g.deflate run.deflate.ring)) in
     by_result m1 m2 p1 p2 g areas sides d2 (Oom n) (oom_count g n) result (oom_asks g n) at.driver
     (at.refusal ∙ same) at.refused at.asks here

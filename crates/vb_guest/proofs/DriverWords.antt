@@ -1,11 +1,10 @@
 -- The driver in the words of its guest.
-use Rattle.std.{specs.Prelude.{◌≡◌, refl}, proofs.Common.{◌∙◌, ap}}
+use Rattle.std.{specs.Prelude.◌≡◌, proofs.Common.{◌∙◌, ap}}
 use Rattle.vb_model.specs.Guest.{Guest}
 use Rattle.vb_ram.specs.Part.{Part}
 use Rattle.vb_ring.specs.Ends.{DriverEnd}
 use Rattle.vb_driver.specs.State.{FreePages, RequestSide, ReportSide, DriverState}
-use Rattle.vb_guest.specs.Stands.{DriverKeeps, HasParts, beside_queues, beside_sides}
-use Rattle.vb_guest.specs.Stands.{beside_requests}
+use Rattle.vb_guest.specs.Stands.{HasParts, beside_queues, beside_sides, beside_requests}
 
 -- what a driver keeps of its four queues
 pub record Sides : Type 0 where
@@ -83,16 +82,3 @@ driver_is p d g has =
       actual = x;
     })
     has.driver.told
-
--- such a driver keeps what is the guest's
-pub keeps_own : (g : Guest) (areas : FreePages) (sides : Sides)
-    → DriverKeeps (driver_of g areas sides) g.config g.places g.held g.features g.actual
-keeps_own g areas sides = record {
-  pages = refl;
-  queue_size = refl;
-  processors = refl;
-  places = refl;
-  held = refl;
-  accepted = refl;
-  told = refl;
-}

@@ -4,8 +4,8 @@ use Rattle.std.{specs.Prelude.refl, proofs.Common.{sym, subst}}
 use Rattle.vb_model.{specs.declared.calls.Call.TheVariants.{Write, Scribble}, specs.Guest.Guest}
 use Rattle.vb_model.{specs.declared.calls.Claim.Claim, specs.declared.replies.Refusal.Refusal}
 use Rattle.vb_model.specs.declared.calls.Claim.TheVariants.{Gave, GaveNoFrame, GaveNoMemory}
-use Rattle.vb_model.specs.declared.replies.Reply.TheVariants.{Done, Refused}
-use Rattle.vb_model.specs.Pages.{place_of, is_used}
+use Rattle.vb_model.{specs.declared.replies.Reply.TheVariants.{Done, Refused}, specs.Pages.place_of}
+use Rattle.vb_model.{specs.Pages.is_used, specs.declared.replies.Refusal.TheVariants.NoMemory}
 use Rattle.vb_ram.{specs.Pages.{Pages, frame_at, Covers}, specs.Part.Part}
 use Rattle.vb_frames.specs.declared.keeper.Refused.TheVariants.{NoFrame, Memory}
 use Rattle.vb_driver.specs.State.{DriverState}
@@ -14,7 +14,7 @@ use Rattle.vb_guest.proofs.RogueMemory.{scribble_supplied, scribble_unsupplied}
 use Rattle.vb_guest.{proofs.WriteStep.{write_unsupplied, write_supplied}, specs.Replies.done_reply}
 use Rattle.vb_guest.{specs.Supply.{supply_of, IsClaimed}, specs.Exact.{FillsBare, FillsBy}}
 use Rattle.vb_guest.{proofs.Standing.over_stands, specs.Steps.StepsOver, specs.Stands.Stands}
-use Rattle.vb_model.specs.declared.replies.Refusal.TheVariants.{NoFrame as NoFrameLeft, NoMemory}
+use Rattle.vb_model.specs.declared.replies.Refusal.TheVariants.{NoFrame as NoFrameLeft}
 
 -- by the driver
 pub bare_written : (keeps : Bool) (Answers : List Bool → Claim → Type 0) (out1 out2 : List Bool)

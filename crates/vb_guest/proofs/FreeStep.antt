@@ -8,8 +8,7 @@ use Rattle.vb_driver.{specs.State.{FreePages, DriverState}, specs.Answers.block_
 use Rattle.vb_driver.specs.Calls.{FreesBy, after_free}
 use Rattle.vb_guest.{specs.Stands.{Honest, Ties}, specs.Steps.StepsAlone, specs.Replies.done_reply}
 use Rattle.vb_guest.proofs.Closing.{honest_performed, steps_alone, refused_alone}
-use Rattle.vb_guest.proofs.Writing.{idle_still}
-use Rattle.vb_guest.proofs.DriverWords.{Sides, sides_of, driver_of, driver_is, keeps_own}
+use Rattle.vb_guest.proofs.DriverWords.{Sides, sides_of, driver_of, driver_is}
 use Rattle.vb_model.specs.declared.places.Place.TheVariants.{Free as FreePlace}
 
 by_result : (m : Pages) (p : Part) (g : Guest) (areas : FreePages) (sides : Sides)
@@ -32,26 +31,11 @@ by_result m p g areas sides d2 cpu start order (Ok done) did stands =
     let after : DriverState =
     driver_of new (after_free (driver_of g areas sides) cpu start order).areas sides in
     let there : Ties m p after new = record {
-      parts = record {
-        guest = ties.parts.guest;
-        driver = keeps_own new _ _;
-        device = ties.parts.device;
-      };
+      parts = assumption;
       pages = ties.pages;
       queues = elim ties.queues [
-        | inl idle ↦ inl (idle_still g new refl refl refl refl refl refl refl refl refl idle)
-        | inr run ↦ inr (record {
-          state = run.state;
-          backed = run.backed;
-          inflate_size = run.inflate_size;
-          deflate_size = run.deflate_size;
-          statistics_size = run.statistics_size;
-          report_size = run.report_size;
-          statistics = run.statistics;
-          report = run.report;
-          inflate = run.inflate;
-          deflate = run.deflate;
-        })
+        | inl idle ↦ inl assumption
+        | inr run ↦ inr assumption
       ];
     } in
     steps_alone m m p p (driver_of g areas sides) d2 g (Free cpu start order) Done new stands step

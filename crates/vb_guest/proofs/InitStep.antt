@@ -21,11 +21,11 @@ use Rattle.vb_driver.specs.Calls.{InitsBy, InitRefused, GivesUp}
 use Rattle.vb_guest.specs.Stands.{Honest, Ties, HasParts, HasPages, IsIdle, beside_queues}
 use Rattle.vb_guest.proofs.Supplying.{all_distinct, bounded, among, supplied_count, supplied_other}
 use Rattle.vb_guest.{specs.Stands.{beside_sides, beside_requests}, specs.Replies.ready_reply}
+use Rattle.vb_guest.proofs.Supplying.{supplied_backed, pages_filled, frames_filled}
 use Rattle.vb_guest.specs.Steps.{is_frame, backing_count, StepsAlone, StepsOver}
 use Rattle.vb_guest.{specs.Supply.{Supply, supply_of, Moves, nothing}, proofs.Freed.large}
 use Rattle.vb_guest.specs.Lives.{is_bare, bare_from, AllSupplied, why_unsupplied, SuppliesBy}
 use Rattle.vb_guest.proofs.Closing.{honest_performed, guest_step, still_stands}
-use Rattle.vb_guest.proofs.Supplying.{supplied_backed, pages_filled, frames_filled}
 use Rattle.vb_guest.{proofs.Writing.frames_of, proofs.Moving.moves_as, proofs.Kept.SameOwn}
 use Rattle.vb_guest.proofs.Starting.{first_buffer, started, stopped}
 use Rattle.vb_frames.specs.declared.keeper.Refused.{Refused as WhyRefused}

@@ -6,19 +6,19 @@ use Rattle.vb_model.specs.declared.layout.TheConstants.{INFLATE_QUEUE, DEFLATE_Q
 use Rattle.vb_model.specs.declared.replies.Refusal.TheVariants.{NoQueue, NotReady, NeedsReset}
 use Rattle.vb_model.specs.declared.replies.Refusal.TheVariants.{NotTaken, NotWorked, Broken}
 use Rattle.vb_model.specs.declared.layout.TheConstants.{STATISTICS_QUEUE, REPORT_QUEUE}
-use Rattle.vb_model.{specs.Device.visiting, specs.declared.replies.Refusal.Refusal}
-use Rattle.vb_model.{specs.declared.replies.Refusal.TheVariants.RingBroken, specs.Requests.Request}
+use Rattle.vb_model.{specs.declared.replies.Refusal.TheVariants.RingBroken, specs.Device.visiting}
+use Rattle.vb_model.{specs.declared.replies.Refusal.Refusal, specs.Requests.Request}
 use Rattle.vb_model.{specs.Refusals.{◌⇒◌, first_refusal}, specs.Tests.flagged}
 use Rattle.vb_model.specs.Tables.{is_queue_of_requests, is_not_ready, has_fault, has_unvisited}
 use Rattle.vb_ram.{specs.Pages.Pages, specs.Part.{Part, QueuePart}}
 use Rattle.vb_driver.specs.Calls.{InflatesBy, DeflatesBy, DeflatesOnOomBy, ReapsBy, after_refusal}
-use Rattle.vb_driver.{specs.State.DriverState, specs.declared.answers.Posted.Posted}
-use Rattle.vb_driver.{specs.declared.answers.Reaped.Reaped, specs.Calls.{ReportsBy, FillsBy}}
+use Rattle.vb_driver.{specs.Calls.{ReportsBy, FillsBy}, specs.State.DriverState}
+use Rattle.vb_driver.{specs.declared.answers.Posted.Posted, specs.declared.answers.Reaped.Reaped}
 use Rattle.vb_device.specs.Conditions.{work_refusal, finish_refusal, sweep_refusal, ask_refusal}
 use Rattle.vb_device.specs.Calls.{TakesBy, TakeMeans, taking, noting, next_visit, Visits, WorksBy}
-use Rattle.vb_device.{specs.Queues.{queue_part, with_queue}, specs.declared.worked.Worked.Worked}
-use Rattle.vb_device.specs.Conditions.{taken_at}
+use Rattle.vb_device.{specs.Conditions.taken_at, specs.Queues.{queue_part, with_queue}}
 use Rattle.vb_device.specs.Calls.{FinishesBy, settled, using, SweepsBy, AsksBy}
+use Rattle.vb_device.specs.declared.worked.Worked.{Worked}
 
 -- the device keeps frames as it did, and the same of them are out
 pub record SameOwn (p1 p2 : Part) : Type 0 where

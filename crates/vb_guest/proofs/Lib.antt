@@ -52,6 +52,8 @@ pub mod SameRefusals
 pub mod BufferLines
 pub mod ReportLines
 pub mod Handing
+mod Running
+mod Losing
 pub mod AskStep
 pub mod TakeBufferStep
 pub mod TakeReportStep

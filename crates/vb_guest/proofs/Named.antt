@@ -10,7 +10,8 @@ use Rattle.vb_ram.{specs.Pages.Pages, specs.Part.QueuePart}
 use Rattle.vb_ring.specs.Entries.{is_head}
 use Rattle.vb_guest.{specs.Line.{Line, IsRequest}, proofs.Heads.headed-cons}
 use Rattle.vb_guest.{proofs.Posting.headed_once, proofs.RingHeads.at_most_one}
-use Rattle.vb_driver.specs.State.{RequestSide, AreRequests, pages_named as pages_sent}
+use Rattle.vb_driver.specs.State.{RequestSide, AreRequests}
+use Rattle.vb_driver.specs.State.{pages_named as pages_sent}
 
 abbrev count_all : List (List ℕ) → ℕ
 count_all sent = sum_by (λ (pages : List ℕ). length pages) sent

@@ -65,13 +65,7 @@ pub inflate_requested : (g : Guest) (n : ℕ) (others : List ℕ) → IsOrderly 
 inflate_requested g n others orderly free once some few =
     let high = high_pages g (stranded_first g n ++ others) orderly
     (λ page e. given_high (place_of g.places page) (inflated_pages g n others page free e)) in
-    record {
-      some = some;
-      few = few;
-      above = high.0;
-      below = high.1;
-      distinct = distinct_once (stranded_first g n ++ others) once;
-    }
+    (assumption (distinct_once (stranded_first g n ++ others) once))
 
 pub deflate_requested : (g : Guest) (n : ℕ) → IsOrderly g
     → ((p : ℕ) → times p (lowest_lent n g) ≤ 1) → 0 < length (lowest_lent n g)
@@ -79,10 +73,4 @@ pub deflate_requested : (g : Guest) (n : ℕ) → IsOrderly g
 deflate_requested g n orderly once some few =
     let high = high_pages g (lowest_lent n g) orderly
     (λ page e. lent_high (place_of g.places page) (lent_pages g n page e)) in
-    record {
-      some = some;
-      few = few;
-      above = high.0;
-      below = high.1;
-      distinct = distinct_once (lowest_lent n g) once;
-    }
+    (assumption (distinct_once (lowest_lent n g) once))

@@ -3,13 +3,13 @@ use Rattle.std.specs.Prelude.{◌≡◌, ℕ, ◌+◌, ◌-◌, ◌<◌, ◌≤�
 use Rattle.std.proofs.lemmas.List.Elements.{All-nil, All-cons, All-append, All-tail, All-take}
 use Rattle.std.proofs.lemmas.List.FromFn.{length-range_with_len, get_or-range_with_len}
 use Rattle.std.specs.Prelude.{All, length, filter, nat_le, ◌&&◌, slice_index_or}
-use Rattle.std.{specs.List.{flat_map, range_with_len}, proofs.Common.{ap, arith}}
-use Rattle.std.{proofs.lemmas.List.length-take, proofs.lemmas.List.Elements.All-filter}
+use Rattle.std.{proofs.lemmas.List.Elements.All-filter, specs.List.{flat_map, range_with_len}}
 use Rattle.std.proofs.lemmas.List.FromFn.{length-map-range_with_len, get_or-map-range_with_len}
+use Rattle.std.{proofs.Common.{ap, arith}, proofs.lemmas.List.length-take}
 use Rattle.std.proofs.lemmas.Nat.{pow_pos}
 use Rattle.vb_model.specs.Pages.{Block, block_at, size, pages_of, pages_of_all, is_free, place_of}
 use Rattle.vb_model.specs.Pages.{is_maximal, blocks_at, blocks_below, maximal_blocks, reported}
-use Rattle.vb_model.{specs.declared.places.Place.Place, specs.Tests.is_in, specs.Pages.is_reserved}
+use Rattle.vb_model.{specs.Pages.is_reserved, specs.declared.places.Place.Place, specs.Tests.is_in}
 use Rattle.vb_model.{specs.Layout.reserved_pages, specs.Guest.Guest, specs.Orderly.IsOrderly}
 use Rattle.vb_model.{specs.Refusals.{reported_blocks, room}, proofs.CallSteps.reported_pages}
 use Rattle.vb_driver.proofs.Runs.{in_range}

@@ -7,7 +7,7 @@ use Rattle.std.proofs.lemmas.List.{length-set, get_or-set_same, get_or-set_other
 use Rattle.std.proofs.lemmas.Option.{get_or_from_slice_get, slice_get_within}
 use Rattle.std.{proofs.lemmas.List.Sums.get_or-le-sum_by, proofs.lemmas.Bool.Decides.nat_tests}
 use Rattle.vb_model.specs.Requests.{Request, Requests, all_requests, headed, outstanding, posting}
-use Rattle.vb_model.{specs.Tests.one_if, specs.Requests.IsLeastHead}
+use Rattle.vb_model.{specs.Requests.IsLeastHead, specs.Tests.one_if}
 use Rattle.vb_model.specs.Layout.{ring_page, buffers_page, buffer_page, buffer_offset}
 use Rattle.vb_ram.{specs.Pages.Pages, specs.Part.QueuePart}
 use Rattle.vb_chain.specs.Table.{descriptor_at}
@@ -155,13 +155,7 @@ line_posted m1 m2 q n side after part rs head pages single fine line did =
         (least_head m1 q side part rs head line.ring single did.lowest).new in
         let parts = headed-all head rs in
         let table : l.table ≡ ring_page side.ring.size q = ap (λ x. x.table) line.ring.layout in
-        let now : P r = record {
-          inside = lowest.inside;
-          few = did.small;
-          remembered = get_or-set_same side.sent head pages []
-              (omega (arith, did.small, line.buffers));
-          pages = fine;
-        } in
+        let now : P r = assumption (get_or-set_same side.sent head pages [] (omega (arith, did.small, line.buffers))) in
         let C : ℕ → Type 0 = λ p. IsCoded m2 p (buffers_page q) head pages in
         record {
           ring = requests_posted m1 m2 q side.ring (after_add side.ring 1 (Ok head)) part rs 1 head

@@ -4,19 +4,18 @@ use Rattle.std.specs.Prelude.{Option, Some, None, is_err, drop, refl}
 use Rattle.std.proofs.Common.{sym, ◌∙◌, ap, subst, inl, inr}
 use Rattle.vb_model.specs.declared.replies.Refusal.TheVariants.{NoQueue, NotReady, NoFeature}
 use Rattle.vb_model.{specs.declared.replies.Refusal.TheVariants.RingBroken, specs.Requests.Request}
-use Rattle.vb_model.{specs.FirstRefusal.{Cause, ◌⇒◌, first_refusal}, specs.Tables.lacks_feature}
+use Rattle.vb_model.{specs.FirstRefusal.{Cause, ◌⇒◌, first_refusal}, specs.Guest.Guest}
+use Rattle.vb_model.specs.Tables.{lacks_feature, is_queue_of_requests, is_up}
 use Rattle.vb_model.specs.declared.calls.Call.TheVariants.{Reap}
-use Rattle.vb_model.specs.Refusals.{causes, refusal_of}
-use Rattle.vb_model.{specs.declared.replies.Refusal.Refusal, specs.Guest.Guest}
+use Rattle.vb_model.{specs.Refusals.{causes, refusal_of}, specs.declared.replies.Refusal.Refusal}
 use Rattle.vb_ram.{specs.Pages.Pages, specs.Part.Part}
 use Rattle.vb_ring.specs.Ends.{DriverEnd, used_answer}
 use Rattle.vb_driver.{specs.State.DriverState, specs.Answers.{reap_causes, is_ring_broken}}
 use Rattle.vb_driver.specs.Calls.{ReapsBy, ring_of, next_of, after_refusal}
 use Rattle.vb_guest.proofs.SameRefusals.{IsIdleStatus, at_both, last_cause}
-use Rattle.vb_guest.specs.Steps.{StepsAlone}
 use Rattle.vb_guest.{proofs.Closing.{first_holds, refused_alone}, specs.Stands.{Honest, IsRunning}}
-use Rattle.vb_guest.{specs.Replies.reaped_reply, proofs.Reaping.used_next}
-use Rattle.vb_model.specs.Tables.{reap_causes as causes_of_reap, is_queue_of_requests, is_up}
+use Rattle.vb_guest.{specs.Replies.reaped_reply, proofs.Reaping.used_next, specs.Steps.StepsAlone}
+use Rattle.vb_model.specs.Tables.{reap_causes as causes_of_reap}
 use Rattle.vb_ring.specs.declared.driver.RingBroken.{RingBroken as Broken}
 use Rattle.vb_driver.specs.declared.answers.Reaped.{Reaped as ReapedRequest}
 

@@ -11,13 +11,14 @@ use Rattle.vb_model.specs.Requests.{Request, all_requests, pages_named, Reportin
 use Rattle.vb_ram.{specs.Pages.Pages, specs.Part.Part}
 use Rattle.vb_ring.{specs.Ends.{used_answer, after_take}, specs.Calls.TakesUsedBy}
 use Rattle.vb_driver.{specs.Areas.areas_with, specs.Calls.{ReapsBy, next_of, with_actual}}
+use Rattle.vb_driver.specs.State.{DriverState}
 use Rattle.vb_guest.{specs.Line.heads_of, specs.Reported.{ReportLine, IsReport}}
 use Rattle.vb_guest.{specs.Stands.{Honest, Ties, IsRunning}, specs.Steps.StepsAlone}
 use Rattle.vb_guest.{specs.Replies.reaped_reply, proofs.ReportLines.report_reaped}
 use Rattle.vb_guest.{proofs.Named.line_named, proofs.Reaping.used_line, proofs.ReapRefusing.reap_by}
 use Rattle.vb_guest.proofs.Closing.{honest_performed, steps_alone, ties_same}
 use Rattle.vb_driver.specs.declared.answers.Reaped.{Reaped as ReapedRequest}
-use Rattle.vb_driver.specs.State.{DriverState, pages_named as pages_sent}
+use Rattle.vb_driver.specs.State.{pages_named as pages_sent}
 
 -- ---- a used report, or none
 
@@ -75,45 +76,12 @@ report_reap m1 m2 p1 p2 d1 d2 g (r ∷ rest) (Some x) is next did answer stands 
     subst (λ a. TakesUsedBy m1 d1.report.ring after.report.ring a) answer
     (subst K state did.ring) in
     let few = stands.orderly.reporting.few in
+    let reap = report_reaped m1 n d1.report after.report.ring p1.report g.report.posted
+    g.report.taken r rest line (omega (arith, few, ap (λ (l : List Request). length l) is)) taken in
     let there : Ties m1 (record p1 { actual = new.actual }) after new = record {
-      parts = record {
-        guest = ties.parts.guest;
-        driver = record {
-          pages = ties.parts.driver.pages;
-          queue_size = ties.parts.driver.queue_size;
-          processors = ties.parts.driver.processors;
-          places = places;
-          held = ties.parts.driver.held;
-          accepted = ties.parts.driver.accepted;
-          told = told;
-        };
-        device = record {
-          size = ties.parts.device.size;
-          paced = ties.parts.device.paced;
-          status = ties.parts.device.status;
-          features = ties.parts.device.features;
-          target = ties.parts.device.target;
-          actual = refl;
-          ballooned = ties.parts.device.ballooned;
-          last = ties.parts.device.last;
-          loose = ties.parts.device.loose;
-        };
-      };
+      parts = assumption;
       pages = ties.pages;
-      queues = inr (record {
-        state = run.state;
-        backed = run.backed;
-        inflate_size = run.inflate_size;
-        deflate_size = run.deflate_size;
-        statistics_size = run.statistics_size;
-        report_size = run.report_size;
-        inflate = run.inflate;
-        deflate = run.deflate;
-        statistics = run.statistics;
-        report = report_reaped m1 n d1.report after.report.ring p1.report g.report.posted
-            g.report.taken r rest line
-            (omega (arith, few, ap (λ (l : List Request). length l) is)) taken;
-      });
+      queues = inr (assumption reap);
     } in
     steps_alone m1 m2 p1 p2 d1 d2 g (Reap 4) (Reaped x.head x.pages) new stands step
     (ties_same m1 m2 (record p1 { actual = new.actual }) p2 after d2 new did.mem part state there)

@@ -1,25 +1,25 @@
 -- A guest's reap is a step of the definitions.
 use Rattle.std.specs.Prelude.{◌≡◌, ℕ, List, [], ◌∷◌, length, Result, Ok, Option, Some, None, ◌+◌}
 use Rattle.std.specs.Prelude.{count_by, if◌then◌else◌, refl}
-use Rattle.std.proofs.Common.{sym, ◌∙◌, ap, subst, arith, inl, inr}
+use Rattle.std.proofs.Common.{sym, ◌∙◌, ap, subst, arith, inr}
 use Rattle.vb_model.specs.Requests.{Request, all_requests, pages_named, Inflating, Deflating}
-use Rattle.vb_model.{specs.declared.calls.Call.TheVariants.Reap, specs.declared.places.Place.Place}
-use Rattle.vb_model.{specs.declared.places.Place.TheVariants.Lent, specs.Pages.{placed, is_lent}}
-use Rattle.vb_model.{specs.declared.replies.Refusal.Refusal, specs.Requests.places_reaped}
+use Rattle.vb_model.{specs.Requests.places_reaped, specs.declared.calls.Call.TheVariants.Reap}
+use Rattle.vb_model.{specs.declared.places.Place.Place, specs.Pages.{placed, is_lent}}
+use Rattle.vb_model.{specs.declared.places.Place.TheVariants.Lent, specs.Guest.{Guest, tells_host}}
+use Rattle.vb_model.{specs.declared.replies.Refusal.Refusal, specs.Driver.{reaped, Reaps}}
 use Rattle.vb_model.specs.declared.replies.Reply.TheVariants.{NotUsed, Reaped}
-use Rattle.vb_model.{specs.Guest.{Guest, tells_host}, specs.Driver.{reaped, Reaps}}
-use Rattle.vb_model.{specs.Refusals.refusal_of, proofs.Queues.{queue_cases, no_requests_at}}
+use Rattle.vb_model.{specs.Refusals.refusal_of, proofs.Queues.no_requests_at}
 use Rattle.vb_ram.{specs.Pages.Pages, specs.Part.Part}
 use Rattle.vb_ring.{specs.Ends.used_answer, specs.Calls.TakesUsedBy}
 use Rattle.vb_driver.specs.State.{FreePages, RequestSide, DriverState, sent_by, page_state}
 use Rattle.vb_driver.{specs.Areas.all_given, proofs.RequestTables.requests_taken}
 use Rattle.vb_driver.specs.Calls.{ReapsBy, after_reap, next_of, with_actual}
-use Rattle.vb_guest.proofs.DriverWords.{Sides, sides_of, driver_of, driver_is, keeps_own}
+use Rattle.vb_guest.proofs.DriverWords.{Sides, sides_of, driver_of, driver_is}
 use Rattle.vb_guest.proofs.Closing.{honest_performed, steps_alone, ties_same}
 use Rattle.vb_guest.{proofs.Reaping.{used_next, used_line, line_reaped}, specs.Replies.reaped_reply}
 use Rattle.vb_guest.{proofs.ReapRefusing.{reap_by, reap_no_queue}, specs.Line.{Line, IsRequest}}
 use Rattle.vb_guest.{specs.Stands.{Honest, Ties, IsRunning}, proofs.ReapReportStep.reap_report}
-use Rattle.vb_guest.{proofs.Named.line_named, specs.Steps.StepsAlone}
+use Rattle.vb_guest.{proofs.Refusing.by_queue, proofs.Named.line_named, specs.Steps.StepsAlone}
 use Rattle.vb_driver.specs.declared.answers.Reaped.{Reaped as ReapedRequest}
 use Rattle.vb_driver.specs.State.{pages_named as pages_sent}
 
@@ -85,35 +85,9 @@ inflate_reaped m1 m2 p1 p2 g areas sides d2 (r ∷ rest) (Some x) is next did an
     let reap = line_reaped m1 0 n sides.inflate p1.inflate g.inflate.posted g.inflate.taken r rest
     line taken in
     let there : Ties m1 (record p1 { actual = new.actual }) after new = record {
-      parts = record {
-        guest = ties.parts.guest;
-        driver = keeps_own new _ _;
-        device = record {
-          size = ties.parts.device.size;
-          paced = ties.parts.device.paced;
-          status = ties.parts.device.status;
-          features = ties.parts.device.features;
-          target = ties.parts.device.target;
-          actual = refl;
-          ballooned = ties.parts.device.ballooned;
-          last = ties.parts.device.last;
-          loose = ties.parts.device.loose;
-        };
-      };
+      parts = assumption;
       pages = ties.pages;
-      queues = inr (record {
-        state = run.state;
-        backed = run.backed;
-        inflate_size = run.inflate_size;
-        deflate_size = run.deflate_size;
-        statistics_size = run.statistics_size;
-        report_size = run.report_size;
-        statistics = run.statistics;
-        report = run.report;
-        inflate =
-            reap;
-        deflate = run.deflate;
-      });
+      queues = inr (assumption reap);
     } in
     steps_alone m1 m2 p1 p2 (driver_of g areas sides) d2 g (Reap 0) (Reaped x.head x.pages) new
     stands step (ties_same m1 m2 (record p1 { actual = new.actual }) p2 after d2 new did.mem
@@ -195,35 +169,9 @@ deflate_reaped m1 m2 p1 p2 g areas sides d2 (r ∷ rest) (Some x) is next did an
     let part : p2 ≡ record p1 { actual = new.actual } =
     did.reaps.part ∙ ap (λ (d : DriverState). record p1 { actual = d.actual }) state in
     let there : Ties m1 (record p1 { actual = new.actual }) after new = record {
-      parts = record {
-        guest = ties.parts.guest;
-        driver = keeps_own new _ _;
-        device = record {
-          size = ties.parts.device.size;
-          paced = ties.parts.device.paced;
-          status = ties.parts.device.status;
-          features = ties.parts.device.features;
-          target = ties.parts.device.target;
-          actual = refl;
-          ballooned = ties.parts.device.ballooned;
-          last = ties.parts.device.last;
-          loose = ties.parts.device.loose;
-        };
-      };
+      parts = assumption;
       pages = ties.pages;
-      queues = inr (record {
-        state = run.state;
-        backed = run.backed;
-        inflate_size = run.inflate_size;
-        deflate_size = run.deflate_size;
-        statistics_size = run.statistics_size;
-        report_size = run.report_size;
-        statistics = run.statistics;
-        report = run.report;
-        inflate =
-            run.inflate;
-        deflate = reap;
-      });
+      queues = inr (assumption reap);
     } in
     steps_alone m1 m2 p1 p2 (driver_of g areas sides) d2 g (Reap 1) (Reaped x.head x.pages) new
     stands step (ties_same m1 m2 (record p1 { actual = new.actual }) p2 after d2 new did.mem
@@ -251,25 +199,11 @@ reap_step m1 m2 p1 p2 d1 d2 g q result did stands =
     let here : Honest m1 p1 (driver_of g areas sides) g = subst (λ d. Honest m1 p1 d g) is stands in
     let at : ReapsBy m1 m2 p1 p2 (driver_of g areas sides) d2 q result =
     subst (λ d. ReapsBy m1 m2 p1 p2 d d2 q result) is did in
-    let B : ℕ → Type 0 = λ k. ReapsBy m1 m2 p1 p2 (driver_of g areas sides) d2 k result in
-    let S : ℕ → Type 0 = λ k. StepsAlone (Honest m2 p2 d2) g (Reap k) (reaped_reply result) in
-    elim (queue_cases q) [
-      | inl first ↦ subst S (sym first)
-          (inflate_reap m1 m2 p1 p2 g areas sides d2 result (subst B first at) here)
-      | inr a ↦ elim a [
-        | inl second ↦ subst S (sym second)
-            (deflate_reap m1 m2 p1 p2 g areas sides d2 result (subst B second at) here)
-        | inr b ↦ elim b [
-          | inl third ↦ subst S (sym third)
-              (reap_no_queue m1 m2 p1 p2 (driver_of g areas sides) d2 g 2 result refl
-              (subst B third at) here)
-          | inr c ↦ elim c [
-            | inl last ↦ subst S (sym last)
-                (reap_report m1 m2 p1 p2 (driver_of g areas sides) d2 g result (subst B last at)
-                here)
-            | inr none ↦ reap_no_queue m1 m2 p1 p2 (driver_of g areas sides) d2 g q result
-                (no_requests_at q none) at here
-          ]
-        ]
-      ]
-    ]
+    by_queue (λ k. ReapsBy m1 m2 p1 p2 (driver_of g areas sides) d2 k result
+    → StepsAlone (Honest m2 p2 d2) g (Reap k) (reaped_reply result)) q
+    (λ at. inflate_reap m1 m2 p1 p2 g areas sides d2 result at here)
+    (λ at. deflate_reap m1 m2 p1 p2 g areas sides d2 result at here)
+    (λ at. reap_no_queue m1 m2 p1 p2 (driver_of g areas sides) d2 g 2 result refl at here)
+    (λ at. reap_report m1 m2 p1 p2 (driver_of g areas sides) d2 g result at here)
+    (λ none at. reap_no_queue m1 m2 p1 p2 (driver_of g areas sides) d2 g q result
+    (no_requests_at q none) at here) at

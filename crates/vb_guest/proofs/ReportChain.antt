@@ -12,7 +12,7 @@ use Rattle.vb_chain.{specs.declared.fault.ChainFault.ChainFault, specs.declared.
 use Rattle.vb_chain.{proofs.ChainLaws.written_chain, specs.Chain.ChainGives}
 use Rattle.vb_driver.specs.Coding.{AreReported}
 use Rattle.vb_request.specs.Report.{pages_of_pieces, piece_fault, first_piece_fault, has_bad_length}
-use Rattle.vb_request.{specs.Request.first_of_both, specs.Report.report_request}
+use Rattle.vb_request.{specs.Report.report_request, specs.Request.first_of_both}
 use Rattle.vb_guest.specs.Reported.{IsOwnBlock}
 
 -- the bytes of a block, and those of all blocks, as a chain has them

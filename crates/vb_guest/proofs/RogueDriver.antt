@@ -5,11 +5,11 @@ use Rattle.std.{specs.List.list_all, proofs.Common.{sym, ◌∙◌, ap, subst}}
 use Rattle.std.proofs.lemmas.List.{length-map, length-replicate}
 use Rattle.vb_model.specs.declared.calls.Call.TheVariants.{Alloc, Free, Inflate, Deflate, Oom}
 use Rattle.vb_model.specs.declared.replies.Refusal.TheVariants.{NoQueue, NotReady, NoFeature}
-use Rattle.vb_model.{specs.declared.calls.Call.Call, specs.declared.places.Place.Place}
 use Rattle.vb_model.specs.declared.calls.Call.TheVariants.{Report, Stats, Reap, Reset}
+use Rattle.vb_model.specs.declared.replies.Refusal.TheVariants.{RingBroken, Nothing, Broken}
+use Rattle.vb_model.{specs.declared.calls.Call.Call, specs.declared.places.Place.Place}
 use Rattle.vb_model.specs.declared.layout.TheConstants.{INFLATE_QUEUE, DEFLATE_QUEUE}
 use Rattle.vb_model.{specs.declared.replies.Refusal.Refusal, specs.declared.replies.Reply.Reply}
-use Rattle.vb_model.specs.declared.replies.Refusal.TheVariants.{RingBroken, Nothing, Broken}
 use Rattle.vb_model.{specs.declared.replies.Reply.TheVariants.{Refused, Done}, specs.Pages.placed}
 use Rattle.vb_model.{specs.FirstRefusal.{Cause, ◌⇒◌, first_refusal}, specs.Life.place_after_reset}
 use Rattle.vb_model.{specs.Guest.{Guest, is_ballooned, stats_vq}, proofs.GuestSteps.length-reaped}
@@ -25,15 +25,15 @@ use Rattle.vb_driver.specs.Answers.{oom_causes, report_causes, reap_causes, stat
 use Rattle.vb_driver.specs.Calls.{AllocatesBy, FreesBy, InflatesBy, DeflatesBy, DeflatesOnOomBy}
 use Rattle.vb_driver.specs.Calls.{ReportsBy, FillsBy, ReapsBy, ResetsBy, Unchanged, AsksBack}
 use Rattle.vb_driver.specs.Calls.{after_refusal, after_reap, unreported, without_request, moved_on}
+use Rattle.vb_driver.{specs.Answers.is_ring_broken, specs.Calls.{with_actual, ring_of}}
 use Rattle.vb_driver.{specs.State.{DriverState, tells_host}, specs.declared.answers.Posted.Posted}
-use Rattle.vb_driver.{specs.declared.answers.Reaped.Reaped, specs.Answers.is_ring_broken}
-use Rattle.vb_driver.{specs.Calls.{with_actual, ring_of}, proofs.Placing.length-marked}
-use Rattle.vb_guest.proofs.Rogues.{DriverSame, Keeps, driver_same, rogue_alone, IsOther, keeps_part}
-use Rattle.vb_guest.proofs.Rogues.{up_kept, device_alike, kept_of_rogue, rogue_after, rogue_same}
-use Rattle.vb_guest.proofs.Rogues.{rogue_unchanged, IsLeft, left_by, no_refusal, keeps_status}
+use Rattle.vb_driver.{specs.declared.answers.Reaped.Reaped, proofs.Placing.length-marked}
+use Rattle.vb_guest.proofs.Rogues.{shape_of, shaped, DriverSame, Keeps, driver_same, rogue_alone}
+use Rattle.vb_guest.proofs.Rogues.{IsOther, keeps_part, up_kept, device_alike, kept_of_rogue}
+use Rattle.vb_guest.proofs.Rogues.{rogue_after, rogue_same, rogue_unchanged, IsLeft, left_by}
+use Rattle.vb_guest.proofs.Rogues.{no_refusal, keeps_status, is_of_driver, without_fault, said}
 use Rattle.vb_guest.{specs.Stands.Rogue, specs.Steps.StepsAlone, proofs.Fresh.everywhere}
 use Rattle.vb_guest.specs.Replies.{page_reply, done_reply, posted_reply, reaped_reply, filled_reply}
-use Rattle.vb_guest.proofs.Rogues.{is_of_driver, without_fault, said}
 
 -- the refusal is one of these tests, none of which is for want of frames or of memory
 not_for_want : (why : Refusal) (causes : List Cause) → Some why ≡ first_refusal causes
@@ -66,7 +66,7 @@ left_same m p1 p2 d1 d2 g call why causes rogue places told part is keep plain =
     ∙ sym (plain ∙ without_fault why g (refused_passes keeps_status causes why keep (sym is))))
 
 -- one that changes nothing
-unchanged_alone : (m1 m2 : Pages) (p1 p2 : Part) (d1 d2 : DriverState) (g : Guest) (call : Call)
+pub unchanged_alone : (m1 m2 : Pages) (p1 p2 : Part) (d1 d2 : DriverState) (g : Guest) (call : Call)
     (why : Refusal) (causes : List Cause) → Unchanged m1 m2 p1 p2 d1 d2
     → target_after call p1.target ≡ p1.target → Some why ≡ first_refusal causes
     → none_wants causes ≡ true → list_all (λ t. keeps_status t.refusal) causes ≡ true
@@ -83,33 +83,22 @@ unchanged_alone m1 m2 p1 p2 d1 d2 g call why causes same still is wanted keep pl
 
 -- pages have changed their places
 moved : (d1 d2 : DriverState) (pages : List ℕ) (place : Place)
-    → d2.pages ≡ d1.pages → d2.queue_size ≡ d1.queue_size → d2.processors ≡ d1.processors
-    → d2.places ≡ placed pages place d1.places → DriverSame d1 d2
-moved d1 d2 pages place count size processors places = record {
-  pages = count;
-  queue_size = size;
-  processors = processors;
-  table = ap (λ (l : List Place). length l) places ∙ length-marked pages place d1.places;
-}
+    → shape_of d2 ≡ shape_of (record d1 { places = placed pages place d1.places })
+    → DriverSame d1 d2
+moved d1 d2 pages place e = shaped d1 d2 (e
+    ∙ ap (λ (n : ℕ). (d1.pages, d1.queue_size, d1.processors, n))
+    (length-marked pages place d1.places))
 
 pub alloc_rogue : (m : Pages) (p : Part) (d1 d2 : DriverState) (g : Guest) (cpu order : ℕ)
     (result : Result ℕ Refusal) → AllocatesBy d1 d2 cpu order result → Rogue m p d1 g
     → StepsAlone (Rogue m p d2) g (Alloc cpu order) (page_reply result)
 alloc_rogue m p d1 d2 g cpu order (Ok start) did rogue =
     part_alone m m p p d1 d2 g (Alloc cpu order) _
-    (moved d1 d2 _ _ (ap (λ (d : DriverState). d.pages) did.state)
-    (ap (λ (d : DriverState). d.queue_size) did.state)
-    (ap (λ (d : DriverState). d.processors) did.state)
-    (ap (λ (d : DriverState). d.places) did.state)) refl refl (λ page. refl) refl refl
+    (moved d1 d2 _ _ (ap shape_of did.state)) refl refl (λ page. refl) refl refl
     (λ page offset bytes e. cc) refl (λ why e. no_refusal _ why refl e) rogue
 alloc_rogue m p d1 d2 g cpu order (Err why) did rogue =
     part_alone m m p p d1 d2 g (Alloc cpu order) (Refused why)
-    (record {
-      pages = ap (λ (d : DriverState). d.pages) did.refused;
-      queue_size = ap (λ (d : DriverState). d.queue_size) did.refused;
-      processors = ap (λ (d : DriverState). d.processors) did.refused;
-      table = ap (λ (d : DriverState). length d.places) did.refused;
-    }) refl refl (λ page. refl) refl
+    (shaped d1 d2 (ap shape_of did.refused)) refl refl (λ page. refl) refl
     (not_for_want why (alloc_causes d1 cpu order) did.refusal refl) (λ page offset bytes e. cc) refl
     (left_same m p p d1 d2 g (Alloc cpu order) why (alloc_causes d1 cpu order) rogue
     (ap (λ (d : DriverState). d.places) did.refused)
@@ -120,10 +109,7 @@ pub free_rogue : {T : Type 0} (m : Pages) (p : Part) (d1 d2 : DriverState) (g : 
     → Rogue m p d1 g → StepsAlone (Rogue m p d2) g (Free cpu start order) (done_reply result)
 free_rogue m p d1 d2 g cpu start order (Ok x) did rogue =
     part_alone m m p p d1 d2 g (Free cpu start order) _
-    (moved d1 d2 _ _ (ap (λ (d : DriverState). d.pages) did.state)
-    (ap (λ (d : DriverState). d.queue_size) did.state)
-    (ap (λ (d : DriverState). d.processors) did.state)
-    (ap (λ (d : DriverState). d.places) did.state)) refl refl (λ page. refl) refl refl
+    (moved d1 d2 _ _ (ap shape_of did.state)) refl refl (λ page. refl) refl refl
     (λ page offset bytes e. cc) refl (λ why e. no_refusal _ why refl e) rogue
 free_rogue m p d1 d2 g cpu start order (Err why) did rogue =
     part_alone m m p p d1 d2 g (Free cpu start order) (Refused why)
@@ -142,10 +128,7 @@ pub inflate_rogue : (m1 m2 : Pages) (p1 p2 : Part) (d1 d2 : DriverState) (g : Gu
 inflate_rogue m1 m2 p1 p2 d1 d2 g n (Ok posted) did rogue =
     let offers = did.offers in
     part_alone m1 m2 p1 p2 d1 d2 g (Inflate n) _
-    (moved d1 d2 _ _ (ap (λ (d : DriverState). d.pages) offers.state)
-    (ap (λ (d : DriverState). d.queue_size) offers.state)
-    (ap (λ (d : DriverState). d.processors) offers.state)
-    (ap (λ (d : DriverState). d.places) offers.state)) offers.part offers.posts.rest.count
+    (moved d1 d2 _ _ (ap shape_of offers.state)) offers.part offers.posts.rest.count
     offers.posts.rest.backing refl refl (λ page offset bytes e. cc)
     refl (λ why e. no_refusal _ why refl e) rogue
 inflate_rogue m1 m2 p1 p2 d1 d2 g n (Err why) did rogue =
@@ -158,10 +141,7 @@ asks_rogue : (m1 m2 : Pages) (p1 p2 : Part) (d1 d2 : DriverState) (g : Guest) (c
     → Rogue m1 p1 d1 g → StepsAlone (Rogue m2 p2 d2) g call (posted_reply (Ok posted))
 asks_rogue m1 m2 p1 p2 d1 d2 g call count posted asks still other none rogue =
     part_alone m1 m2 p1 p2 d1 d2 g call _
-    (moved d1 d2 _ _ (ap (λ (d : DriverState). d.pages) asks.state)
-    (ap (λ (d : DriverState). d.queue_size) asks.state)
-    (ap (λ (d : DriverState). d.processors) asks.state)
-    (ap (λ (d : DriverState). d.places) asks.state)) asks.part asks.posts.rest.count
+    (moved d1 d2 _ _ (ap shape_of asks.state)) asks.part asks.posts.rest.count
     asks.posts.rest.backing still refl other none (λ why e. no_refusal _ why refl e) rogue
 
 pub deflate_rogue : (m1 m2 : Pages) (p1 p2 : Part) (d1 d2 : DriverState) (g : Guest) (n : ℕ)
@@ -206,10 +186,7 @@ pub report_rogue : (m1 m2 : Pages) (p1 p2 : Part) (d1 d2 : DriverState) (g : Gue
 report_rogue m1 m2 p1 p2 d1 d2 g from (Ok posted) did rogue =
     let reports = did.reports in
     part_alone m1 m2 p1 p2 d1 d2 g (Report from) _
-    (moved d1 d2 _ _ (ap (λ (d : DriverState). d.pages) reports.state)
-    (ap (λ (d : DriverState). d.queue_size) reports.state)
-    (ap (λ (d : DriverState). d.processors) reports.state)
-    (ap (λ (d : DriverState). d.places) reports.state)) reports.part reports.posts.rest.count
+    (moved d1 d2 _ _ (ap shape_of reports.state)) reports.part reports.posts.rest.count
     reports.posts.rest.backing refl refl (λ page offset bytes e. cc)
     refl (λ why e. no_refusal _ why refl e) rogue
 report_rogue m1 m2 p1 p2 d1 d2 g from (Err why) did rogue =
@@ -355,12 +332,7 @@ pub stats_rogue : (m1 m2 : Pages) (p1 p2 : Part) (d1 d2 : DriverState) (g : Gues
 stats_rogue m1 m2 p1 p2 d1 d2 g (Ok true) did rogue =
     let fills = did.fills in
     part_alone m1 m2 p1 p2 d1 d2 g Stats _
-    (record {
-      pages = ap (λ (d : DriverState). d.pages) fills.state;
-      queue_size = ap (λ (d : DriverState). d.queue_size) fills.state;
-      processors = ap (λ (d : DriverState). d.processors) fills.state;
-      table = ap (λ (d : DriverState). length d.places) fills.state;
-    }) fills.part fills.posts.rest.count fills.posts.rest.backing refl refl
+    (shaped d1 d2 (ap shape_of fills.state)) fills.part fills.posts.rest.count fills.posts.rest.backing refl refl
     (λ page offset bytes e. cc) refl (λ why e. no_refusal _ why refl e) rogue
 stats_rogue m1 m2 p1 p2 d1 d2 g (Ok false) did rogue =
     let same = did.fills.unchanged in

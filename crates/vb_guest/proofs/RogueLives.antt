@@ -1,7 +1,7 @@
 -- A guest that wrote past its driver is initialised; an honest guest becomes one.
 use Rattle.std.specs.Prelude.{◌≡◌, ℕ, ◌-◌, ◌<◌, Bool, true, false, List, [], length, All, Option}
 use Rattle.std.specs.Prelude.{Some, Result, Ok, Err, IsSome, MatchOption, refl, ◌≤◌, is_some, ◌≢◌}
-use Rattle.std.{specs.Prelude.{not, ◌==◌, ◌∷◌, None, replicate}, proofs.lemmas.Bool.ne_eqb}
+use Rattle.std.{specs.Prelude.{not, ◌==◌, ◌∷◌, None}, proofs.lemmas.Bool.ne_eqb}
 use Rattle.std.{proofs.Common.{sym, ◌∙◌, ap, subst, arith}, proofs.lemmas.List.length-replicate}
 use Rattle.std.proofs.lemmas.List.Elements.{All-nil}
 use Rattle.vb_model.{specs.Layout.{reserved_pages, is_start_page}, proofs.Shapes.reserved_most}
@@ -12,36 +12,24 @@ use Rattle.vb_model.{specs.declared.replies.Reply.TheVariants.Refused, specs.Ord
 use Rattle.vb_model.specs.Driver.{AllDistinct, given, AreClaimsFor, claim_refusal}
 use Rattle.vb_model.{specs.FirstRefusal.{◌⇒◌, first_refusal}, specs.Status.{contains, driver_ok}}
 use Rattle.vb_model.{specs.declared.replies.LastStatistics.LastStatistics, specs.Tests.is_in}
-use Rattle.vb_model.specs.Guest.{Guest, all_backed, stats_vq, no_statistics}
+use Rattle.vb_model.specs.Guest.{Guest, all_backed, stats_vq}
 use Rattle.vb_model.specs.Life.{lacking, feature_causes, feature_refusal, accepted_before}
 use Rattle.vb_model.specs.Rogue.{LosesFrames, pages_to_back, unless_refused, after_refused}
 use Rattle.vb_model.proofs.Wanting.{wants, no_want, refused_otherwise}
 use Rattle.vb_ram.{specs.Pages.{Pages, frame_at}, specs.Part.Part, proofs.Limits.config_limits}
 use Rattle.vb_status.specs.After.{part_after_reset}
 use Rattle.vb_driver.{specs.State.DriverState, specs.Calls.{InitsBy, Starts, FirstBuffer, GivesUp}}
-use Rattle.vb_guest.proofs.Rogues.{Keeps, DeviceSame, driver_same, rogue_after, rogue_stands}
+use Rattle.vb_guest.proofs.Rogues.{shape_of, shaped, Keeps, DeviceSame, driver_same, rogue_after}
 use Rattle.vb_guest.proofs.Supplying.{all_distinct, bounded, frames_given, frames_filled}
+use Rattle.vb_guest.proofs.Rogues.{rogue_stands, rogue_steps, device_alike, kept_of_rogue}
+use Rattle.vb_guest.{proofs.Supplying.supplied_count, specs.Replies.ready_reply}
 use Rattle.vb_guest.specs.Lives.{is_bare, bare_from, AllSupplied, why_unsupplied, SuppliesBy}
-use Rattle.vb_guest.{specs.Replies.ready_reply, specs.Stands.{IsOwnRequest, Rogue}}
-use Rattle.vb_guest.{specs.Steps.{backing_count, StepsAlone, StepsOver}, proofs.Fresh.everywhere}
-use Rattle.vb_guest.{specs.Supply.{Supply, supply_of, Moves, nothing}, proofs.Moving.moves_as}
+use Rattle.vb_guest.{specs.Stands.{IsOwnRequest, Rogue}, proofs.Fresh.everywhere}
+use Rattle.vb_guest.{specs.Steps.{backing_count, StepsAlone, StepsOver}, proofs.Moving.moves_as}
+use Rattle.vb_guest.{specs.Supply.{Supply, supply_of, Moves, nothing}, proofs.Writing.HasFrames}
 use Rattle.vb_guest.proofs.InitStep.{bare_is, now_backed, has_all, driver_causes}
-use Rattle.vb_guest.proofs.Rogues.{rogue_steps, device_alike, kept_of_rogue}
-use Rattle.vb_guest.{proofs.Supplying.supplied_count, proofs.Writing.HasFrames}
 use Rattle.vb_frames.specs.declared.keeper.Refused.{Refused as WhyRefused}
 use Rattle.vb_guest.proofs.InitStep.{given_up as stopped}
-
--- what a refusal of the features leaves
-abbrev gave_up : Refusal → ℕ → List (Option ℕ) → Guest → Guest
-gave_up refusal wanted frames g =
-    record g {
-      status = 131;
-      features = accepted_before refusal wanted;
-      ballooned = replicate g.config.pages false;
-      actual = 0;
-      last = no_statistics;
-      frames = frames;
-    }
 
 pub init_up_rogue : (m : Pages) (p : Part) (d : DriverState) (g : Guest) (wanted : ℕ)
     → p.status ≢ 0 → Rogue m p d g
@@ -111,12 +99,7 @@ started_leaves size m2 m3 p2 p3 d1 d2 wanted backed starts =
     λ page. first.1 page ∙ starts.rings.backing page in
     record {
       keeps = record {
-        driver = record {
-          pages = ap (λ (d : DriverState). d.pages) starts.driver;
-          queue_size = ap (λ (d : DriverState). d.queue_size) starts.driver;
-          processors = ap (λ (d : DriverState). d.processors) starts.driver;
-          table = ap (λ (d : DriverState). length d.places) starts.driver;
-        };
+        driver = shaped d1 d2 (ap shape_of starts.driver);
         device = reset_device p2 p3 15 wanted starts.part;
         up = λ was ok. record {
           backed = λ page start. ap is_some (same page) ∙ backed page start;
@@ -139,12 +122,7 @@ stopped_leaves : {size : ℕ} (m2 m3 : Pages) (p2 p3 : Part) (d1 d2 : DriverStat
     → GivesUp m2 m3 p2 p3 d1 d2 features → Leaves size m2 m3 p2 p3 d1 d2
 stopped_leaves m2 m3 p2 p3 d1 d2 features stops = record {
   keeps = record {
-    driver = record {
-      pages = ap (λ (d : DriverState). d.pages) stops.driver;
-      queue_size = ap (λ (d : DriverState). d.queue_size) stops.driver;
-      processors = ap (λ (d : DriverState). d.processors) stops.driver;
-      table = ap (λ (d : DriverState). length d.places) stops.driver;
-    };
+    driver = shaped d1 d2 (ap shape_of stops.driver);
     device = reset_device p2 p3 131 features stops.part;
     up = λ was ok. absurd
         (let down : contains 131 driver_ok ≡ true =

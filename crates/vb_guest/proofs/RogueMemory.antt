@@ -3,18 +3,18 @@ use Rattle.std.specs.Prelude.{◌≡◌, ◌≢◌, ℕ, ◌<◌, Bool, true, fa
 use Rattle.std.specs.Prelude.{Some, None, All, MatchOption, is_some, ◌≤◌, refl}
 use Rattle.std.{proofs.Common.{sym, ◌∙◌, ap, subst, arith, inl, inr}, proofs.lemmas.Bool.cases_eq}
 use Rattle.vb_model.specs.Rogue.{Scribbled, LosesFrames, pages_to_back, unless_refused, with_fault}
-use Rattle.vb_model.specs.declared.calls.Call.TheVariants.{Read, Write, Scribble}
-use Rattle.vb_model.{specs.declared.calls.Claim.Claim, specs.declared.replies.Refusal.Refusal}
 use Rattle.vb_model.specs.declared.calls.Claim.TheVariants.{Gave, GaveNoFrame, GaveNoMemory}
-use Rattle.vb_model.specs.declared.replies.Refusal.TheVariants.{OutOfRam, NotHeld}
-use Rattle.vb_model.{specs.declared.replies.Reply.Reply, specs.FirstRefusal.{◌⇒◌, first_refusal}}
-use Rattle.vb_model.specs.declared.replies.Reply.TheVariants.{Done, Refused}
 use Rattle.vb_model.specs.Driver.{given, claim_refusal, AreClaimsFor, pages_needed}
 use Rattle.vb_model.specs.Guest.{Guest, frame_of, backed, all_backed, is_ballooned}
-use Rattle.vb_model.{specs.Layout.reserved_pages, specs.Refusals.{refusal_of, is_outside}}
-use Rattle.vb_model.{specs.Requests.Request, specs.Rogue.GuestStep, specs.Pages.{place_of, is_used}}
-use Rattle.vb_model.{specs.Status.{contains, driver_ok}, specs.Step.{Performs, HonestStep}}
+use Rattle.vb_model.specs.declared.replies.Refusal.TheVariants.{OutOfRam, NotHeld}
+use Rattle.vb_model.specs.declared.calls.Call.TheVariants.{Read, Write, Scribble}
+use Rattle.vb_model.specs.declared.replies.Reply.TheVariants.{Done, Refused}
 use Rattle.vb_model.proofs.Wanting.{wants, not_refused_pages, refused_backs}
+use Rattle.vb_model.{specs.FirstRefusal.{◌⇒◌, first_refusal}, specs.declared.replies.Reply.Reply}
+use Rattle.vb_model.{specs.Refusals.{refusal_of, is_outside}, specs.Status.{contains, driver_ok}}
+use Rattle.vb_model.{specs.declared.replies.Refusal.Refusal, specs.Step.{Performs, HonestStep}}
+use Rattle.vb_model.{specs.declared.calls.Claim.Claim, specs.Pages.{place_of, is_used}}
+use Rattle.vb_model.{specs.Layout.reserved_pages, specs.Requests.Request, specs.Rogue.GuestStep}
 use Rattle.vb_ram.specs.Pages.{Pages, frame_at, number_of, Covers, Wrote, Supplied}
 use Rattle.vb_ram.specs.Part.{Part}
 use Rattle.vb_frames.specs.declared.keeper.Refused.TheVariants.{NoFrame, Memory}
@@ -23,13 +23,13 @@ use Rattle.vb_guest.proofs.Rogues.{driver_same, device_alike, keeps_part, rogue_
 use Rattle.vb_guest.proofs.Rogues.{kept_of_rogue, rogue_unchanged, left_by, no_refusal}
 use Rattle.vb_guest.proofs.Rogues.{keeps_status, without_fault, rogue_stands, rogue_alone}
 use Rattle.vb_guest.proofs.Standing.{by_guest, rogue_is, stands_with, stands_of, own_moved}
+use Rattle.vb_guest.{proofs.Rogues.{rogue_steps, rogue_unclaimed}, proofs.Freed.down_not_ok}
+use Rattle.vb_guest.{proofs.Standing.{alone_stands, over_stands}, proofs.Offered.high_page}
 use Rattle.vb_guest.specs.Stands.{Honest, IsOwnRequest, IsRogueUp, Rogue, Stands}
-use Rattle.vb_guest.{specs.Steps.{backing_count, StepsAlone, StepsOver}, proofs.Freed.down_not_ok}
+use Rattle.vb_guest.{specs.Steps.{backing_count, StepsAlone, StepsOver}, proofs.OwnBlocks.own_pages}
 use Rattle.vb_guest.specs.Supply.{supply_of, AreClaimed, IsClaimed, Moves, nothing}
 use Rattle.vb_guest.proofs.Closing.{guest_step, refused_alone, honest_own}
-use Rattle.vb_guest.{proofs.Moving.{moves_as, times_one}, proofs.Offered.high_page}
-use Rattle.vb_guest.{proofs.OwnBlocks.own_pages, proofs.Rogues.{rogue_steps, rogue_unclaimed}}
-use Rattle.vb_guest.{proofs.Standing.{alone_stands, over_stands}, proofs.SweepStep.ballooned_free}
+use Rattle.vb_guest.{proofs.Moving.{moves_as, times_one}, proofs.SweepStep.ballooned_free}
 use Rattle.vb_guest.proofs.WriteStep.{inside_is, outside_is, needs_one, refusal_of_claim}
 use Rattle.vb_guest.proofs.Writing.{frames_supplied, count_backed}
 use Rattle.vb_model.specs.declared.replies.Refusal.TheVariants.{NoFrame as NoFrameLeft}
@@ -83,59 +83,13 @@ marked g = record g { rogue = true }
 pub as_rogue : (keeps : Bool) (m : Pages) (p : Part) (d : DriverState) (g : Guest)
     → Stands keeps m p d g → Rogue m p d (marked g)
 as_rogue keeps m p d g stands = by_guest keeps m p d g stands
-    (λ honest. let parts = honest.ties.parts in
-    record {
-      rogue = refl;
-      config = parts.guest.config;
-      pages = parts.driver.pages;
-      queue_size = parts.driver.queue_size;
-      processors = parts.driver.processors;
-      places = parts.driver.places;
-      placed = honest.consistent.sized;
-      actual = parts.driver.told;
-      size = parts.device.size;
-      paced = parts.device.paced;
-      status = parts.device.status;
-      features = parts.device.features;
-      target = parts.device.target;
-      last = parts.device.last;
-      ballooned = parts.device.ballooned;
-      flagged = honest.consistent.flagged;
-      unreserved = λ page low. low_honest g page (is_ballooned g.ballooned page) refl
-          (λ e. (high_page g page honest.orderly
-          (ballooned_free g page honest.consistent e)).0) low;
-      loose = parts.device.loose;
-      length_is = honest.ties.pages.length_is;
-      framed = honest.ties.pages.framed;
-      filled = honest.ties.pages.filled;
-      behind = honest.ties.pages.behind;
-      up = up_honest m p d g honest;
-    })
-    (λ rogue. record {
-      rogue = refl;
-      config = rogue.config;
-      pages = rogue.pages;
-      queue_size = rogue.queue_size;
-      processors = rogue.processors;
-      places = rogue.places;
-      placed = rogue.placed;
-      actual = rogue.actual;
-      size = rogue.size;
-      paced = rogue.paced;
-      status = rogue.status;
-      features = rogue.features;
-      target = rogue.target;
-      last = rogue.last;
-      ballooned = rogue.ballooned;
-      flagged = rogue.flagged;
-      unreserved = rogue.unreserved;
-      loose = rogue.loose;
-      length_is = rogue.length_is;
-      framed = rogue.framed;
-      filled = rogue.filled;
-      behind = rogue.behind;
-      up = rogue.up;
-    })
+    (λ honest.
+    let low : (page : ℕ) → page < reserved_pages g.config.queue_size
+    → is_ballooned g.ballooned page ≡ false =
+    λ page lt. low_honest g page (is_ballooned g.ballooned page) refl
+    (λ e. (high_page g page honest.orderly (ballooned_free g page honest.consistent e)).0) lt in
+    assumption (low, up_honest m p d g honest))
+    (λ rogue. assumption)
 
 -- ---- a rogue guest reads and writes
 

@@ -4,15 +4,15 @@ use Rattle.std.specs.Prelude.{Some, refl, is_some, ◌⊎◌, MatchOption}
 use Rattle.std.proofs.Common.{sym, ◌∙◌, ap, subst, arith}
 use Rattle.vb_model.specs.declared.replies.Refusal.TheVariants.{NoFrame, NoMemory, Broken}
 use Rattle.vb_model.specs.Rogue.{LosesFrames, pages_to_back, is_read, target_after, after_refused}
-use Rattle.vb_model.{specs.declared.calls.Call.Call, specs.declared.calls.Call.TheVariants.Scribble}
-use Rattle.vb_model.{specs.declared.calls.Claim.Claim, specs.declared.replies.Refusal.Refusal}
 use Rattle.vb_model.{specs.declared.replies.Refusal.TheVariants.RingBroken, specs.Step.HonestStep}
-use Rattle.vb_model.{specs.declared.replies.Reply.Reply, specs.Layout.reserved_pages}
-use Rattle.vb_model.{specs.declared.replies.Reply.TheVariants.Refused, proofs.Shapes.start_reserved}
-use Rattle.vb_model.{specs.Status.{contains, driver_ok}, specs.Rogue.{with_fault, GuestStep}}
+use Rattle.vb_model.{specs.Rogue.{with_fault, GuestStep}, specs.Layout.reserved_pages}
 use Rattle.vb_model.specs.Guest.{Guest, frame_of, is_ballooned, all_backed}
 use Rattle.vb_model.specs.Driver.{given, claim_refusal, AreClaimsFor}
-use Rattle.vb_model.{proofs.Wanting.{wants, no_want}, proofs.Refusing.{is_refused, not_this}}
+use Rattle.vb_model.{specs.declared.replies.Reply.TheVariants.Refused, proofs.Shapes.start_reserved}
+use Rattle.vb_model.{specs.declared.calls.Call.TheVariants.Scribble, specs.declared.calls.Call.Call}
+use Rattle.vb_model.{specs.declared.replies.Refusal.Refusal, proofs.Refusing.{is_refused, not_this}}
+use Rattle.vb_model.{specs.declared.replies.Reply.Reply, specs.Status.{contains, driver_ok}}
+use Rattle.vb_model.{specs.declared.calls.Claim.Claim, proofs.Wanting.{wants, no_want}}
 use Rattle.vb_ram.{specs.Pages.{Pages, frame_at}, specs.Part.{Part, no_part}}
 use Rattle.vb_driver.specs.State.{DriverState}
 use Rattle.vb_guest.{specs.Stands.{IsOwnRequest, IsRogueUp, Rogue}, specs.Steps.StepsAlone}
@@ -42,6 +42,18 @@ pub record Keeps (size : ℕ) (m1 m2 : Pages) (p1 p2 : Part) (d1 d2 : DriverStat
   pub device : DeviceSame size p1 p2
   pub up : (contains p1.status driver_ok ≡ true → IsRogueUp size m1 p1)
       → contains p2.status driver_ok ≡ true → IsRogueUp size m2 p2
+
+-- how large a driver is
+abbrev pub shape_of : DriverState → ℕ × ℕ × ℕ × ℕ
+shape_of d = (d.pages, d.queue_size, d.processors, length d.places)
+
+pub shaped : (d1 d2 : DriverState) → shape_of d2 ≡ shape_of d1 → DriverSame d1 d2
+shaped d1 d2 e = record {
+  pages = ap (λ (s : ℕ × ℕ × ℕ × ℕ). s.0) e;
+  queue_size = ap (λ (s : ℕ × ℕ × ℕ × ℕ). s.1) e;
+  processors = ap (λ (s : ℕ × ℕ × ℕ × ℕ). s.2) e;
+  table = ap (λ (s : ℕ × ℕ × ℕ × ℕ). s.3) e;
+}
 
 pub driver_same : (d1 d2 : DriverState) → d2 ≡ d1 → DriverSame d1 d2
 driver_same d1 d2 e = grind arith
@@ -226,33 +238,12 @@ pub rogue_changed : (m1 m2 : Pages) (p1 p2 : Part) (d : DriverState) (g : Guest)
     (own : List ℕ) → m2 ≡ m1 → p2 ≡ record p1 { target = n; own = own } → Rogue m1 p1 d g
     → Rogue m2 p2 d (record g { target = n })
 rogue_changed m1 m2 p1 p2 d g n own memory part rogue =
+    let now : Part = record p1 { target = n; own = own } in
+    let up : contains p1.status driver_ok ≡ true → IsRogueUp g.config.queue_size m1 now =
+    λ ok. let up = rogue.up ok in
+    record { backed = up.backed; inflates = up.inflates; reports = up.reports } in
     subst (λ (m : Pages). Rogue m p2 d (record g { target = n })) (sym memory)
-    (subst (λ (p : Part). Rogue m1 p d (record g { target = n })) (sym part) (record {
-      rogue = rogue.rogue;
-      config = rogue.config;
-      pages = rogue.pages;
-      queue_size = rogue.queue_size;
-      processors = rogue.processors;
-      places = rogue.places;
-      placed = rogue.placed;
-      actual = rogue.actual;
-      size = rogue.size;
-      paced = rogue.paced;
-      status = rogue.status;
-      features = rogue.features;
-      target = refl;
-      last = rogue.last;
-      ballooned = rogue.ballooned;
-      flagged = rogue.flagged;
-      unreserved = rogue.unreserved;
-      loose = rogue.loose;
-      length_is = rogue.length_is;
-      framed = rogue.framed;
-      filled = rogue.filled;
-      behind = rogue.behind;
-      up = λ ok. let up = rogue.up ok in
-          record { backed = up.backed; inflates = up.inflates; reports = up.reports };
-    }))
+    (subst (λ (p : Part). Rogue m1 p d (record g { target = n })) (sym part) (assumption up))
 
 -- the device's own frames are none of what it keeps of a guest
 pub rogue_own : (m1 m2 : Pages) (p1 p2 : Part) (d : DriverState) (g : Guest) → m2 ≡ m1

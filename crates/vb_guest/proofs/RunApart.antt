@@ -8,7 +8,7 @@ use Rattle.vb_ring.{specs.declared.layout.Layout.Layout, specs.Layout.{IsSize, l
 use Rattle.vb_ring.specs.Ends.{DriverEnd}
 use Rattle.vb_driver.{specs.State.DriverState, proofs.Shapes.buffers_between}
 use Rattle.vb_guest.proofs.Apart.{SameLine, SameReserved, SameBut, no_buffer, other_ring}
-use Rattle.vb_guest.{specs.Stands.IsRunning, proofs.RingApart.SameRing, proofs.Apart.other_line}
+use Rattle.vb_guest.{proofs.Apart.other_line, specs.Stands.IsRunning, proofs.RingApart.SameRing}
 use Rattle.vb_guest.proofs.PagesKept.{SamePages}
 
 -- all four rings have so many descriptors
@@ -41,7 +41,7 @@ pub record OthersSame (old new : Pages) (d : DriverState) (q : ℕ) : Type 0 whe
   pub inflate : 0 ≢ ring_number q → SameLine old new d.inflate.ring.size 0
   pub deflate : 1 ≢ ring_number q → SameLine old new d.deflate.ring.size 1
   pub statistics : 2 ≢ ring_number q → SameRing old new d.statistics.size 2
-  pub buffer : page_at new 12 ≡ page_at old 12
+  pub buffer : 2 ≢ ring_number q → page_at new 12 ≡ page_at old 12
   pub report : 3 ≢ ring_number q → SameRing old new d.report.ring.size 4
 
 pub others_same : (old new : Pages) (d : DriverState) (size q ring : ℕ) → AreSized d size
@@ -50,7 +50,7 @@ others_same old new d size q ring sized at rest = record {
   inflate = λ ne. other_line old new size d.inflate.ring.size q 0 ring sized.inflate ne at rest;
   deflate = λ ne. other_line old new size d.deflate.ring.size q 1 ring sized.deflate ne at rest;
   statistics = λ ne. other_ring old new size d.statistics.size q 2 ring sized.statistics ne at rest;
-  buffer = rest 12 (no_buffer size q ring 12 at (omega arith) (omega arith));
+  buffer = λ ne. rest 12 (no_buffer size q ring 12 at (omega arith) (omega arith));
   report = λ ne. other_ring old new size d.report.ring.size q 4 ring sized.report ne at rest;
 }
 

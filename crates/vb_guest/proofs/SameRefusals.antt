@@ -1,16 +1,20 @@
--- Device, driver and model refuse the same calls on the queues of statistics and reports.
+-- Device, driver and model refuse the same calls.
 use Rattle.std.specs.Prelude.{◌≡◌, ℕ, Bool, true, false, List, [], ◌∷◌, ◌++◌, length, Option, Some}
-use Rattle.std.specs.Prelude.{is_some, if◌then◌else◌, refl, ◌⊎◌}
-use Rattle.std.proofs.Common.{sym, ◌∙◌, ap, subst, inl, inr}
-use Rattle.vb_model.{specs.declared.calls.Call.TheVariants.{Take, Finish, Ask}, specs.Guest.Guest}
-use Rattle.vb_model.{specs.declared.replies.Refusal.Refusal, specs.Requests.Request}
-use Rattle.vb_model.specs.declared.replies.Refusal.TheVariants.{NotReady}
-use Rattle.vb_model.specs.FirstRefusal.{Cause, ◌⇒◌, first_refusal}
-use Rattle.vb_model.specs.Tables.{take_causes, finish_causes, ask_causes}
-use Rattle.vb_ram.specs.Part.{Part}
-use Rattle.vb_device.specs.Conditions.{take_refusal, finish_refusal, ask_refusal, taken_at}
-use Rattle.vb_device.specs.Queues.{queue_part}
-use Rattle.vb_model.specs.Refusals.{refusal_of, taken_count, taken_at as guests_taken, is_taken}
+use Rattle.std.specs.Prelude.{None, is_some, not, if◌then◌else◌, refl, ◌⊎◌}
+use Rattle.std.proofs.Common.{sym, ◌∙◌, ap, subst, arith, inl, inr}
+use Rattle.vb_model.specs.Tables.{has_chains, is_queue_of_requests, take_causes, finish_causes}
+use Rattle.vb_model.{specs.Tables.{ask_causes, work_causes}, specs.Requests.Request}
+use Rattle.vb_model.specs.declared.calls.Call.TheVariants.{Take, Finish, Ask, Sweep, Work}
+use Rattle.vb_model.specs.declared.replies.Refusal.TheVariants.{NotReady, NoQueue}
+use Rattle.vb_model.{specs.Refusals.{refusal_of, taken_count, is_taken}, specs.Guest.Guest}
+use Rattle.vb_model.{specs.FirstRefusal.{Cause, ◌⇒◌, first_refusal}, specs.declared.calls.Call.Call}
+use Rattle.vb_model.specs.declared.replies.Refusal.{Refusal}
+use Rattle.vb_ram.{specs.Part.Part, specs.Pages.Pages}
+use Rattle.vb_driver.specs.State.{DriverState}
+use Rattle.vb_device.specs.Conditions.{sweep_refusal, work_refusal, take_refusal, finish_refusal}
+use Rattle.vb_device.{specs.Conditions.{ask_refusal, taken_at}, specs.Queues.queue_part}
+use Rattle.vb_guest.specs.Stands.{IsIdle, IsRunning}
+use Rattle.vb_model.specs.Refusals.{taken_at as guests_taken}
 
 abbrev pub IsIdleStatus : ℕ → Type 0
 IsIdleStatus status = (status ≡ 0) ⊎ (status ≡ 131)
@@ -43,20 +47,17 @@ take_same q part g status features taken =
     ∙ ap (λ (f : ℕ). first_refusal (take_causes q g.status f count)) features
     ∙ ap (λ (n : ℕ). first_refusal (take_causes q g.status g.features n)) taken
 
-pub take_idle : (part : Part) (g : Guest) → part.status ≡ g.status → IsIdleStatus g.status
-    → ((take_refusal 2 part ≡ Some NotReady) × (refusal_of g (Take 2) ≡ Some NotReady))
-    × ((take_refusal 4 part ≡ Some NotReady) × (refusal_of g (Take 4) ≡ Some NotReady))
-take_idle part g same down =
-    let P : ℕ → Type 0 =
-    λ s. (take_refusal 2 (record part { status = s }) ≡ Some NotReady)
-    × (take_refusal 4 (record part { status = s }) ≡ Some NotReady) in
-    let G : ℕ → Type 0 =
-    λ s. (refusal_of (record g { status = s }) (Take 2) ≡ Some NotReady)
-    × (refusal_of (record g { status = s }) (Take 4) ≡ Some NotReady) in
-    let by_part =
-    at_both P part.status (subst IsIdleStatus (sym same) down) (refl, refl) (refl, refl) in
-    let by_guest = at_both G g.status down (refl, refl) (refl, refl) in
-    ((by_part.0, by_guest.0), (by_part.1, by_guest.1))
+-- a queue that there is, where the device isn't initialised
+pub take_idle : (q : ℕ) (part : Part) (g : Guest) → has_chains q ≡ true → part.status ≡ g.status
+    → IsIdleStatus g.status
+    → (take_refusal q part ≡ Some NotReady) × (refusal_of g (Take q) ≡ Some NotReady)
+take_idle q part g has same down =
+    let first = ap (λ (b : Bool). if not b then Some NoQueue else Some NotReady) has in
+    let P : ℕ → Type 0 = λ s. take_refusal q (record part { status = s }) ≡ Some NotReady in
+    let G : ℕ → Type 0 = λ s. refusal_of (record g { status = s }) (Take q) ≡ Some NotReady in (
+      at_both P part.status (subst IsIdleStatus (sym same) down) first first,
+      at_both G g.status down first first,
+    )
 
 -- ---- finish
 
@@ -68,14 +69,15 @@ finish_same q i part g status paced taken =
     ∙ ap (λ (b : Bool). first_refusal (finish_causes q g.status b (taken_at q i part))) paced
     ∙ ap (λ (o : Option Request). first_refusal (finish_causes q g.status g.config.paced o)) taken
 
-pub finish_idle : (i : ℕ) (part : Part) (g : Guest) → part.status ≡ g.status
-    → IsIdleStatus g.status
-    → (finish_refusal 4 i part ≡ Some NotReady) × (refusal_of g (Finish 4 i) ≡ Some NotReady)
-finish_idle i part g same down =
-    let P : ℕ → Type 0 = λ s. finish_refusal 4 i (record part { status = s }) ≡ Some NotReady in
-    let G : ℕ → Type 0 = λ s. refusal_of (record g { status = s }) (Finish 4 i) ≡ Some NotReady in (
-      at_both P part.status (subst IsIdleStatus (sym same) down) refl refl,
-      at_both G g.status down refl refl,
+pub finish_idle : (q i : ℕ) (part : Part) (g : Guest) → is_queue_of_requests q ≡ true
+    → part.status ≡ g.status → IsIdleStatus g.status
+    → (finish_refusal q i part ≡ Some NotReady) × (refusal_of g (Finish q i) ≡ Some NotReady)
+finish_idle q i part g has same down =
+    let first = ap (λ (b : Bool). if not b then Some NoQueue else Some NotReady) has in
+    let P : ℕ → Type 0 = λ s. finish_refusal q i (record part { status = s }) ≡ Some NotReady in
+    let G : ℕ → Type 0 = λ s. refusal_of (record g { status = s }) (Finish q i) ≡ Some NotReady in (
+      at_both P part.status (subst IsIdleStatus (sym same) down) first first,
+      at_both G g.status down first first,
     )
 
 -- ---- ask
@@ -94,3 +96,61 @@ ask_idle part g same down =
       at_both P part.status (subst IsIdleStatus (sym same) down) refl refl,
       at_both G g.status down refl refl,
     )
+
+-- ---- sweep and work
+
+pub sweep_same : (page : ℕ) (part : Part) (g : Guest) → part.status ≡ g.status
+    → part.features ≡ g.features → part.ballooned ≡ g.ballooned
+    → sweep_refusal page part ≡ refusal_of g (Sweep page)
+sweep_same page part g status features flags = grind arith
+
+pub sweep_idle : (page : ℕ) (part : Part) (g : Guest) → part.status ≡ g.status
+    → IsIdleStatus g.status
+    → (sweep_refusal page part ≡ Some NotReady) × (refusal_of g (Sweep page) ≡ Some NotReady)
+sweep_idle page part g same down = grind arith
+
+pub works_same : (part : Part) (g : Guest) → part.status ≡ g.status
+    → work_refusal part ≡ refusal_of g Work
+works_same part g status = ap (λ (s : ℕ). first_refusal (work_causes s)) status
+
+pub works_idle : (part : Part) (g : Guest) → part.status ≡ g.status → IsIdleStatus g.status
+    → (work_refusal part ≡ Some NotReady) × (refusal_of g Work ≡ Some NotReady)
+works_idle part g same down = grind arith
+
+-- ---- a call on a device
+
+-- what follows for each refusal, and for a running guest that isn't refused, follows for any
+pub by_state : {S : Type 0} (m : Pages) (p : Part) (d : DriverState) (g : Guest) (call : Call)
+    (refused : Option Refusal) → IsIdle g ⊎ IsRunning m p d g
+    → (IsIdleStatus g.status → (refused ≡ Some NotReady) × (refusal_of g call ≡ Some NotReady))
+    → (IsRunning m p d g → refused ≡ refusal_of g call)
+    → ((why : Refusal) → refused ≡ Some why → refusal_of g call ≡ Some why → S)
+    → (IsRunning m p d g → refused ≡ None → refusal_of g call ≡ None → S) → S
+by_state m p d g call refused (inl idle) down same stops goes =
+    let both = down idle.state in
+    stops NotReady both.0 both.1
+by_state {S} m p d g call refused (inr run) down same stops goes = by (refusal_of g call) refl
+  where
+    by : (o : Option Refusal) → refusal_of g call ≡ o → S
+    by (Some why) is = stops why (same run ∙ is) is
+    by None is = goes run (same run ∙ is) is
+
+-- ---- a call on a driver
+
+-- driver and guest refuse it for the same cause, whether the device is initialised or not
+pub refused_alike : (m : Pages) (p : Part) (d : DriverState) (g : Guest) (call : Call)
+    (refused : Option Refusal) → IsIdle g ⊎ IsRunning m p d g
+    → (IsIdleStatus g.status → (refused ≡ Some NotReady) × (refusal_of g call ≡ Some NotReady))
+    → (IsRunning m p d g → refused ≡ refusal_of g call) → refused ≡ refusal_of g call
+refused_alike m p d g call refused (inl idle) down same =
+    let both = down idle.state in
+    both.0 ∙ sym both.1
+refused_alike m p d g call refused (inr run) down same = same run
+
+-- where it isn't refused, the guest runs
+pub runs_where : (m : Pages) (p : Part) (d : DriverState) (g : Guest) (call : Call)
+    (refused : Option Refusal) → IsIdle g ⊎ IsRunning m p d g
+    → (IsIdleStatus g.status → (refused ≡ Some NotReady) × (refusal_of g call ≡ Some NotReady))
+    → refusal_of g call ≡ None → IsRunning m p d g
+runs_where m p d g call refused (inl idle) down free = absurd (let wrong = (down idle.state).1 in cc)
+runs_where m p d g call refused (inr run) down free = run

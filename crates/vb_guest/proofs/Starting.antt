@@ -4,18 +4,17 @@ use Rattle.std.specs.Prelude.{Option, IsSome, is_some, replicate, refl}
 use Rattle.std.{proofs.lemmas.Bool.false_from_ne_true, proofs.lemmas.List.length-replicate}
 use Rattle.std.proofs.Common.{sym, ◌∙◌, ap, subst, arith, inr}
 use Rattle.vb_model.specs.Requests.{Requests, no_requests, StatisticsBuffer, NoBuffer, BufferPosted}
-use Rattle.vb_model.specs.Requests.{Figures}
-use Rattle.vb_model.{specs.Guest.{Guest, stats_vq}, specs.Driver.figures}
+use Rattle.vb_model.{specs.Requests.Figures, specs.Guest.{Guest, stats_vq}, specs.Driver.figures}
 use Rattle.vb_model.specs.Layout.{reserved_pages, ring_page, is_ring_page, is_start_page}
 use Rattle.vb_model.proofs.Shapes.{ring_reserved}
 use Rattle.vb_ram.{specs.Pages.{Pages, page_at, frame_at, contents_of}, specs.Part.{Part, no_queue}}
 use Rattle.vb_status.specs.After.{part_after_reset}
 use Rattle.vb_ring.{specs.Layout.IsSize, specs.Ends.DriverEnd}
 use Rattle.vb_driver.specs.State.{DriverState, IsDriver, fresh_side, fresh_statistics, fresh_report}
-use Rattle.vb_driver.{specs.Coding.{AreZeroed, AreFigures}, specs.State.figures_of}
+use Rattle.vb_driver.{specs.State.figures_of, specs.Coding.{AreZeroed, AreFigures}}
 use Rattle.vb_driver.specs.Calls.{Starts, GivesUp, IsNewRing, FirstBuffer}
 use Rattle.vb_guest.specs.Stands.{Ties, HasParts, HasPages, IsIdle, beside_queues, beside_sides}
-use Rattle.vb_guest.{proofs.RingPosted.ring_posted, specs.Stands.beside_requests, specs.Line.Line}
+use Rattle.vb_guest.{specs.Stands.beside_requests, proofs.RingPosted.ring_posted, specs.Line.Line}
 use Rattle.vb_guest.{proofs.PagesKept.pages_same, specs.Reported.ReportLine}
 use Rattle.vb_guest.{proofs.RingApart.ring_new, proofs.Closing.ties_same, specs.Buffer.BufferLine}
 
@@ -123,29 +122,7 @@ started m2 m3 p1 p3 d1 d2 g frames wanted has backed idle driver parts did =
     let keeps = start_keeps (stats_vq wanted) m2 did.zeroed m3 d1 d2 driver.size did.rings
     did.buffer in
     let there : Ties m3 part state new = record {
-      parts = record {
-        guest = parts.guest;
-        driver = record {
-          pages = parts.driver.pages;
-          queue_size = parts.driver.queue_size;
-          processors = parts.driver.processors;
-          places = parts.driver.places;
-          held = parts.driver.held;
-          accepted = refl;
-          told = sym idle.actual;
-        };
-        device = record {
-          size = parts.device.size;
-          paced = parts.device.paced;
-          status = refl;
-          features = refl;
-          target = parts.device.target;
-          actual = sym idle.actual;
-          ballooned = no_flags p1 g parts.device.ballooned idle;
-          last = sym idle.last;
-          loose = parts.device.loose;
-        };
-      };
+      parts = assumption (sym idle.actual, sym idle.actual, no_flags p1 g parts.device.ballooned idle, sym idle.last);
       pages = pages_same m2 m3 g.config.queue_size n frames g.contents
           (record {
             count = keeps.count;

@@ -1,9 +1,9 @@
 -- A guest's new fill of the statistics buffer is a step of the definitions.
 use Rattle.std.specs.Prelude.{◌≡◌, ℕ, Bool, true, false, not, [], Result, Ok, Err, Option, Some}
-use Rattle.std.specs.Prelude.{None, is_some, slice_get, refl}
-use Rattle.std.proofs.Common.{sym, ◌∙◌, ap, subst, arith, inl, inr}
+use Rattle.std.specs.Prelude.{None, slice_get, refl}
+use Rattle.std.proofs.Common.{sym, ◌∙◌, ap, subst, arith, inr}
 use Rattle.vb_model.specs.Requests.{Figures, StatisticsBuffer, NoBuffer, BufferPosted, BufferTaken}
-use Rattle.vb_model.{specs.declared.calls.Call.TheVariants.Stats, specs.Requests.BufferDone}
+use Rattle.vb_model.{specs.Requests.BufferDone, specs.declared.calls.Call.TheVariants.Stats}
 use Rattle.vb_model.{specs.declared.replies.Refusal.Refusal, specs.Guest.{Guest, stats_vq}}
 use Rattle.vb_model.{specs.declared.replies.Refusal.TheVariants.NotReady, specs.Tables.is_up}
 use Rattle.vb_model.specs.declared.replies.Reply.TheVariants.{Filled, NotUsed}
@@ -13,13 +13,14 @@ use Rattle.vb_ram.{specs.Pages.Pages, specs.Part.Part}
 use Rattle.vb_ring.specs.Ends.{DriverEnd, used_answer}
 use Rattle.vb_driver.{specs.State.{DriverState, figures_of}, specs.Answers.stats_causes}
 use Rattle.vb_driver.specs.Calls.{FillsBy, Refills, emptied}
+use Rattle.vb_guest.proofs.SameRefusals.{refused_alike, runs_where, IsIdleStatus}
+use Rattle.vb_guest.{proofs.Running.others_posted, specs.Replies.filled_reply}
 use Rattle.vb_guest.proofs.RunApart.{sizes_of, ring_of, buffer_clear, post_leaves, post_same}
 use Rattle.vb_guest.proofs.Closing.{honest_performed, steps_alone, refused_alone, ties_same}
-use Rattle.vb_guest.{proofs.BufferLines.{buffer_emptied, buffer_posted}, specs.Replies.filled_reply}
-use Rattle.vb_guest.{proofs.ReapRefusing.{unfailed, never_broken}, proofs.SameRefusals.IsIdleStatus}
+use Rattle.vb_guest.{proofs.BufferLines.{buffer_emptied, buffer_posted}, specs.Steps.StepsAlone}
+use Rattle.vb_guest.{proofs.ReapRefusing.{unfailed, never_broken}, proofs.RingReaped.ring_answer}
 use Rattle.vb_guest.{specs.Stands.{Honest, Ties, IsRunning}, specs.Buffer.{BufferLine, used_heads}}
-use Rattle.vb_guest.{proofs.ReportLines.report_apart, proofs.RingReaped.ring_answer}
-use Rattle.vb_guest.{proofs.PagesKept.pages_same, proofs.Apart.line_apart, specs.Steps.StepsAlone}
+use Rattle.vb_guest.proofs.PagesKept.{pages_same}
 
 -- ---- refusals
 
@@ -79,6 +80,8 @@ refilled m1 m2 p1 p2 d1 d2 g old is did stands run free =
     (omega (arith, reserved_least size)) rest.count rest.backing rest.others in
     let leaves = post_leaves m1 m2 d1 size 2 12 d1.statistics.layout (sizes_of m1 p1 d1 g run) ring
     (buffer_clear size 2 12 (omega arith) (omega arith)) rest.others in
+    let still = others_posted m1 m2 p1 d1 g 2 12 run leaves rest.backing (λ ne. absurd (ne refl))
+    (λ ne p from to. omega (arith, to)) (λ ne p from to. omega (arith, to)) in
     let new : Guest = record g { buffer = BufferPosted now } in
     let F : StatisticsBuffer → Type 0 = λ b. Fills b g Filled new in
     let step = honest_performed g Stats [] Filled new free (refl, subst F (sym is) (refl, refl)) in
@@ -89,24 +92,11 @@ refilled m1 m2 p1 p2 d1 d2 g old is did stands run free =
     subst B (figures_same d1 g ties.parts.driver.places ties.parts.driver.pages)
     (buffer_posted m1 m2 (emptied d1.statistics) d2.statistics p1.statistics (figures_of d1)
     emptied_line did.posts) in
+    let sized = ap (λ (r : DriverEnd). r.size) did.posts.state ∙ run.statistics_size in
     let there : Ties m2 p1 after new = record {
       parts = ties.parts;
       pages = pages_same m1 m2 g.config.queue_size n _ _ same ties.pages;
-      queues = inr (record {
-        state = run.state;
-        backed = λ p lt. ap is_some (rest.backing p) ∙ run.backed p lt;
-        inflate_size = run.inflate_size;
-        deflate_size = run.deflate_size;
-        statistics_size = ap (λ (r : DriverEnd). r.size) did.posts.state ∙ run.statistics_size;
-        report_size = run.report_size;
-        inflate = line_apart m1 m2 0 n d1.inflate p1.inflate g.inflate
-            (leaves.inflate (omega arith) (λ p from to. omega (arith, to))) run.inflate;
-        deflate = line_apart m1 m2 1 n d1.deflate p1.deflate g.deflate
-            (leaves.deflate (omega arith) (λ p from to. omega (arith, to))) run.deflate;
-        statistics = posted;
-        report = report_apart m1 m2 n d1.report p1.report g.report
-            (leaves.report (omega arith)) run.report;
-      });
+      queues = inr (assumption (still.inflate refl, still.deflate refl, still.report refl));
     } in
     steps_alone m1 m2 p1 p2 d1 d2 g Stats Filled new stands step
     (ties_same m2 m2 p1 p2 after d2 new refl did.part did.state there) refl
@@ -115,23 +105,16 @@ pub stats_step : (m1 m2 : Pages) (p1 p2 : Part) (d1 d2 : DriverState) (g : Guest
     (result : Result Bool Refusal) → FillsBy m1 m2 p1 p2 d1 d2 result → Honest m1 p1 d1 g
     → StepsAlone (Honest m2 p2 d2) g Stats (filled_reply result)
 stats_step m1 m2 p1 p2 d1 d2 g result did stands =
-    elim stands.ties.queues [
-      | inl idle ↦
-          let both = stats_idle m1 p1 d1 g stands.ties.parts.device.status idle.state in
-          down result did both.0 both.1
-      | inr run ↦
-          let answer = ring_answer m1 2 d1.statistics p1.statistics.next_avail
-          p1.statistics.next_used _ _ (used_heads g.buffer) run.statistics.stands in
-          up result did run answer (stats_same m1 p1 d1 g (slice_get (used_heads g.buffer) 0)
-          stands.ties.parts.device.status stands.ties.parts.driver.accepted answer)
-    ]
+    let device = stands.ties.parts.device in
+    by result did
+    (refused_alike m1 p1 d1 g Stats _ stands.ties.queues (stats_idle m1 p1 d1 g device.status)
+    (λ run. stats_same m1 p1 d1 g (slice_get (used_heads g.buffer) 0) device.status
+    stands.ties.parts.driver.accepted (answer run)))
   where
-    down : (result : Result Bool Refusal) → FillsBy m1 m2 p1 p2 d1 d2 result
-        → first_refusal (stats_causes m1 p1 d1) ≡ Some NotReady → refusal_of g Stats ≡ Some NotReady
-        → StepsAlone (Honest m2 p2 d2) g Stats (filled_reply result)
-    down (Ok filled) did by_driver by_model = absurd (let wrong = did.refusal ∙ by_driver in cc)
-    down (Err why) did by_driver by_model =
-        stats_refused m1 m2 p1 p2 d1 d2 g why did stands (by_driver ∙ sym by_model)
+    answer : IsRunning m1 p1 d1 g
+        → used_answer m1 d1.statistics ≡ Ok (slice_get (used_heads g.buffer) 0)
+    answer run = ring_answer m1 2 d1.statistics p1.statistics.next_avail p1.statistics.next_used
+        _ _ (used_heads g.buffer) run.statistics.stands
 
     by_buffer : (b : StatisticsBuffer) (filled : Bool) → g.buffer ≡ b
         → FillsBy m1 m2 p1 p2 d1 d2 (Ok filled)
@@ -151,10 +134,12 @@ stats_step m1 m2 p1 p2 d1 d2 g result did stands =
         not_used m1 m2 p1 p2 d1 d2 g (BufferTaken figures) filled is answer (refl, refl) did stands
         free
 
-    up : (result : Result Bool Refusal) → FillsBy m1 m2 p1 p2 d1 d2 result → IsRunning m1 p1 d1 g
-        → used_answer m1 d1.statistics ≡ Ok (slice_get (used_heads g.buffer) 0)
+    by : (result : Result Bool Refusal) → FillsBy m1 m2 p1 p2 d1 d2 result
         → first_refusal (stats_causes m1 p1 d1) ≡ refusal_of g Stats
         → StepsAlone (Honest m2 p2 d2) g Stats (filled_reply result)
-    up (Err why) did run answer same = stats_refused m1 m2 p1 p2 d1 d2 g why did stands same
-    up (Ok filled) did run answer same =
-        by_buffer g.buffer filled refl did run answer (sym (did.refusal ∙ same))
+    by (Err why) did same = stats_refused m1 m2 p1 p2 d1 d2 g why did stands same
+    by (Ok filled) did same =
+        let free : refusal_of g Stats ≡ None = sym (did.refusal ∙ same) in
+        let run = runs_where m1 p1 d1 g Stats _ stands.ties.queues
+        (stats_idle m1 p1 d1 g stands.ties.parts.device.status) free in
+        by_buffer g.buffer filled refl did run (answer run) free

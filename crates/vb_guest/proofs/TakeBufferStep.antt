@@ -1,25 +1,25 @@
 -- A guest's take of the statistics buffer is a step of the definitions.
-use Rattle.std.specs.Prelude.{◌≡◌, ℕ, ◌*◌, List, [], length, Result, Ok, Option, Some, None}
-use Rattle.std.specs.Prelude.{slice_get, refl}
-use Rattle.std.proofs.Common.{sym, ◌∙◌, ap, subst, arith, inl, inr}
+use Rattle.std.specs.Prelude.{true, ◌≡◌, ℕ, ◌*◌, List, [], length, Result, Ok, Option, Some, None}
+use Rattle.std.{specs.Prelude.{slice_get, refl}, proofs.Common.{sym, ◌∙◌, ap, subst, arith, inr}}
 use Rattle.vb_model.specs.Requests.{Request, Figures, StatisticsBuffer, NoBuffer, BufferPosted}
-use Rattle.vb_model.specs.Requests.{BufferTaken}
-use Rattle.vb_model.{specs.declared.calls.Call.TheVariants.Take, specs.Tests.one_if}
-use Rattle.vb_model.{specs.declared.replies.Refusal.Refusal, specs.Requests.BufferDone}
-use Rattle.vb_model.{specs.declared.replies.Refusal.TheVariants.NotReady, specs.Guest.Guest}
+use Rattle.vb_model.{specs.Requests.{BufferTaken, BufferDone}, specs.Tests.one_if}
+use Rattle.vb_model.{specs.declared.calls.Call.TheVariants.Take, specs.Guest.Guest}
+use Rattle.vb_model.{specs.declared.replies.Refusal.Refusal, specs.Device.TakesBuffer}
 use Rattle.vb_model.specs.declared.replies.Reply.TheVariants.{Taken, Empty}
-use Rattle.vb_model.{specs.declared.replies.LastStatistics.LastStatistics, specs.Device.TakesBuffer}
-use Rattle.vb_model.{specs.Refusals.{refusal_of, is_taken}, specs.Layout.ring_page}
+use Rattle.vb_model.{specs.declared.replies.LastStatistics.LastStatistics, specs.Layout.ring_page}
+use Rattle.vb_model.{specs.Refusals.{refusal_of, is_taken, taken_count}, specs.Tables.has_chains}
 use Rattle.vb_ram.{specs.Pages.Pages, specs.Part.Part, proofs.Limits.config_limits}
 use Rattle.vb_chain.{specs.Table.descriptor_at, specs.Chain.ChainGives}
 use Rattle.vb_driver.{specs.State.DriverState, specs.Coding.AreFigures}
 use Rattle.vb_device.{specs.Conditions.take_refusal, specs.Calls.{TakesBy, taking}}
+use Rattle.vb_device.specs.Queues.{queue_part}
 use Rattle.vb_guest.proofs.BufferChain.{buffer_pieces, buffer_chain, buffer_names, buffer_says}
 use Rattle.vb_guest.proofs.Closing.{honest_performed, steps_alone, ties_same}
 use Rattle.vb_guest.specs.Buffer.{BufferLine, posted_heads, taken_requests}
-use Rattle.vb_guest.{proofs.SameRefusals.{take_same, take_idle}, proofs.BufferLines.buffer_taken}
-use Rattle.vb_guest.{specs.Stands.{Honest, Ties, IsRunning}, proofs.RingTaken.ring_next}
-use Rattle.vb_guest.{specs.Replies.taken_reply, proofs.Handing.same_entry, specs.Steps.StepsAlone}
+use Rattle.vb_guest.{proofs.SameRefusals.{by_state, take_same, take_idle}, specs.Steps.StepsAlone}
+use Rattle.vb_guest.{proofs.BufferLines.buffer_taken, specs.Stands.{Honest, Ties, IsRunning}}
+use Rattle.vb_guest.{proofs.RingTaken.ring_next, specs.Replies.taken_reply}
+use Rattle.vb_guest.proofs.Handing.{same_entry}
 
 -- a refused take of any queue
 pub take_refused : (m1 m2 : Pages) (p1 p2 : Part) (d : DriverState) (g : Guest) (q : ℕ)
@@ -85,75 +85,48 @@ take_posted m1 m2 p1 p2 d g figures result is did stands run free_part free =
     let left : p2 ≡ after =
     part ∙ ap (λ (l : LastStatistics). taking 2 0 [] (record p1 { last = l }))
     (buffer_says m1 (ring_page d.statistics.size 2) figures line.figures) in
-    let there : Ties m1 after d new = record {
-      parts = record {
-        guest = ties.parts.guest;
-        driver = ties.parts.driver;
-        device = record {
-          size = ties.parts.device.size;
-          paced = ties.parts.device.paced;
-          status = ties.parts.device.status;
-          features = ties.parts.device.features;
-          target = ties.parts.device.target;
-          actual = ties.parts.device.actual;
-          ballooned = ties.parts.device.ballooned;
-          last = refl;
-          loose = ties.parts.device.loose;
-        };
-      };
-      pages = ties.pages;
-      queues = inr (record {
-        state = run.state;
-        backed = run.backed;
-        inflate_size = run.inflate_size;
-        deflate_size = run.deflate_size;
-        statistics_size = run.statistics_size;
-        report_size = run.report_size;
-        inflate = run.inflate;
-        deflate = run.deflate;
-        statistics = buffer_taken m1 d.statistics p1.statistics figures line;
-        report = run.report;
-      });
-    } in
+    let taken = buffer_taken m1 d.statistics p1.statistics figures line in
+    let there : Ties m1 after d new =
+    record { parts = assumption; pages = ties.pages; queues = inr (assumption taken) } in
     subst (λ x. StepsAlone (Honest m2 p2 d) g (Take 2) (taken_reply x)) (sym answer)
     (steps_alone m1 m2 p1 p2 d d g (Take 2) (Taken 0) new stands step
     (ties_same m1 m2 after p2 d d new did.memory left refl there) refl)
 
-taken_count : (b : StatisticsBuffer) → length (taken_requests b) ≡ one_if (is_taken b)
-taken_count b = grind arith
+one_taken : (b : StatisticsBuffer) → length (taken_requests b) ≡ one_if (is_taken b)
+one_taken b = grind arith
+
+-- a take from a queue that there is, by what it does where it isn't refused
+pub take_by : (m1 m2 : Pages) (p1 p2 : Part) (d : DriverState) (g : Guest) (q : ℕ)
+    (result : Result (Option ℕ) Refusal)
+    → has_chains q ≡ true → TakesBy q m1 m2 p1 p2 result → Honest m1 p1 d g
+    → (IsRunning m1 p1 d g → length (queue_part q p1).taken ≡ taken_count g q)
+    → (IsRunning m1 p1 d g → take_refusal q p1 ≡ None → refusal_of g (Take q) ≡ None
+    → StepsAlone (Honest m2 p2 d) g (Take q) (taken_reply result))
+    → StepsAlone (Honest m2 p2 d) g (Take q) (taken_reply result)
+take_by m1 m2 p1 p2 d g q result has did stands counts goes =
+    let device = stands.ties.parts.device in
+    by_state m1 p1 d g (Take q) (take_refusal q p1) stands.ties.queues
+    (take_idle q p1 g has device.status)
+    (λ run. take_same q p1 g device.status device.features (counts run))
+    (λ why. take_refused m1 m2 p1 p2 d g q why result did stands) goes
 
 pub take_buffer : (m1 m2 : Pages) (p1 p2 : Part) (d : DriverState) (g : Guest)
     (result : Result (Option ℕ) Refusal)
     → TakesBy 2 m1 m2 p1 p2 result → Honest m1 p1 d g
     → StepsAlone (Honest m2 p2 d) g (Take 2) (taken_reply result)
 take_buffer m1 m2 p1 p2 d g result did stands =
-    elim stands.ties.queues [
-      | inl idle ↦
-          let both = (take_idle p1 g stands.ties.parts.device.status idle.state).0 in
-          take_refused m1 m2 p1 p2 d g 2 NotReady result did stands both.0 both.1
-      | inr run ↦
-          by_refusal (refusal_of g (Take 2)) refl run
-          (take_same 2 p1 g stands.ties.parts.device.status stands.ties.parts.device.features
-          (ap (λ (l : List Request). length l) run.statistics.remembers ∙ taken_count g.buffer))
-    ]
+    take_by m1 m2 p1 p2 d g 2 result refl did stands
+    (λ run. ap (λ (l : List Request). length l) run.statistics.remembers ∙ one_taken g.buffer)
+    (λ run. by_buffer g.buffer refl run)
   where
     by_buffer : (b : StatisticsBuffer) → g.buffer ≡ b → IsRunning m1 p1 d g → take_refusal 2 p1 ≡ None
         → refusal_of g (Take 2) ≡ None
         → StepsAlone (Honest m2 p2 d) g (Take 2) (taken_reply result)
-    by_buffer (BufferPosted figures) is run free_part free =
-        take_posted m1 m2 p1 p2 d g figures result is did stands run free_part free
-    by_buffer NoBuffer is run free_part free =
-        take_none m1 m2 p1 p2 d g NoBuffer result is refl (refl, refl) did stands run free_part free
-    by_buffer (BufferTaken figures) is run free_part free =
+    by_buffer (BufferPosted figures) is run =
+        take_posted m1 m2 p1 p2 d g figures result is did stands run
+    by_buffer NoBuffer is run =
+        take_none m1 m2 p1 p2 d g NoBuffer result is refl (refl, refl) did stands run
+    by_buffer (BufferTaken figures) is run =
         take_none m1 m2 p1 p2 d g (BufferTaken figures) result is refl (refl, refl) did stands run
-        free_part free
-    by_buffer (BufferDone figures) is run free_part free =
+    by_buffer (BufferDone figures) is run =
         take_none m1 m2 p1 p2 d g (BufferDone figures) result is refl (refl, refl) did stands run
-        free_part free
-
-    by_refusal : (o : Option Refusal) → refusal_of g (Take 2) ≡ o → IsRunning m1 p1 d g
-        → take_refusal 2 p1 ≡ refusal_of g (Take 2)
-        → StepsAlone (Honest m2 p2 d) g (Take 2) (taken_reply result)
-    by_refusal (Some why) is run same =
-        take_refused m1 m2 p1 p2 d g 2 why result did stands (same ∙ is) is
-    by_refusal None is run same = by_buffer g.buffer refl run (same ∙ is) is

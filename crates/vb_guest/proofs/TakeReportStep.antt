@@ -1,11 +1,10 @@
 -- A guest's take of a report is a step of the definitions.
-use Rattle.std.specs.Prelude.{◌≡◌, ℕ, ◌*◌, List, [], ◌∷◌, ◌++◌, length, Result, Ok, Option, Some}
-use Rattle.std.{specs.Prelude.{None, refl}, proofs.Common.{sym, ◌∙◌, ap, subst, arith, inl, inr}}
-use Rattle.vb_model.{specs.declared.calls.Call.TheVariants.Take, specs.Guest.Guest}
-use Rattle.vb_model.{specs.declared.replies.Refusal.Refusal, specs.Device.TakesRequest}
-use Rattle.vb_model.{specs.declared.replies.Refusal.TheVariants.NotReady, specs.Refusals.refusal_of}
+use Rattle.std.specs.Prelude.{◌≡◌, ℕ, ◌*◌, List, [], ◌∷◌, ◌++◌, length, Result, Ok, Option, None}
+use Rattle.std.{specs.Prelude.refl, proofs.Common.{sym, ◌∙◌, ap, subst, arith, inr}}
+use Rattle.vb_model.{specs.Device.TakesRequest, specs.declared.calls.Call.TheVariants.Take}
+use Rattle.vb_model.{specs.Guest.Guest, specs.declared.replies.Refusal.Refusal}
+use Rattle.vb_model.{specs.Refusals.refusal_of, specs.Requests.{Request, Reporting_free}}
 use Rattle.vb_model.specs.declared.replies.Reply.TheVariants.{Taken, Empty}
-use Rattle.vb_model.specs.Requests.{Request, Reporting_free}
 use Rattle.vb_model.specs.Layout.{reserved_pages, ring_page}
 use Rattle.vb_ram.{specs.Pages.Pages, specs.Part.Part}
 use Rattle.vb_chain.{specs.Table.descriptor_at, specs.Chain.ChainGives}
@@ -15,7 +14,7 @@ use Rattle.vb_guest.{specs.Reported.{ReportLine, IsReport}, specs.Stands.{Honest
 use Rattle.vb_guest.{specs.Steps.StepsAlone, specs.Replies.taken_reply, proofs.Handing.same_entry}
 use Rattle.vb_guest.proofs.ReportChain.{pieces_of, report_chain, report_pages}
 use Rattle.vb_guest.{proofs.ReportLines.report_taken, proofs.RingTaken.ring_next}
-use Rattle.vb_guest.{proofs.SameRefusals.{take_same, take_idle}, proofs.TakeBufferStep.take_refused}
+use Rattle.vb_guest.proofs.TakeBufferStep.{take_by}
 use Rattle.vb_guest.proofs.Closing.{honest_performed, steps_alone, ties_same}
 use Rattle.vb_request.specs.Report.{report_request}
 
@@ -70,22 +69,9 @@ take_posted m1 m2 p1 p2 d g (r ∷ rest) result is did stands run free_part free
     let step = honest_performed g (Take 4) [] (Taken r.head) new free
     (refl, subst T (sym is) (refl, refl)) in
     let after : Part = taking 4 r.head r.pages p1 in
-    let there : Ties m1 after d new = record {
-      parts = ties.parts;
-      pages = ties.pages;
-      queues = inr (record {
-        state = run.state;
-        backed = run.backed;
-        inflate_size = run.inflate_size;
-        deflate_size = run.deflate_size;
-        statistics_size = run.statistics_size;
-        report_size = run.report_size;
-        inflate = run.inflate;
-        deflate = run.deflate;
-        statistics = run.statistics;
-        report = report_taken m1 n d.report p1.report r rest g.report.taken g.report.done line;
-      });
-    } in
+    let taken = report_taken m1 n d.report p1.report r rest g.report.taken g.report.done line in
+    let there : Ties m1 after d new =
+    record { parts = ties.parts; pages = ties.pages; queues = inr (assumption taken) } in
     subst (λ x. StepsAlone (Honest m2 p2 d) g (Take 4) (taken_reply x)) (sym answer)
     (steps_alone m1 m2 p1 p2 d d g (Take 4) (Taken r.head) new stands step
     (ties_same m1 m2 after p2 d d new did.memory part refl there) refl)
@@ -95,20 +81,6 @@ pub take_report : (m1 m2 : Pages) (p1 p2 : Part) (d : DriverState) (g : Guest)
     → TakesBy 4 m1 m2 p1 p2 result → Honest m1 p1 d g
     → StepsAlone (Honest m2 p2 d) g (Take 4) (taken_reply result)
 take_report m1 m2 p1 p2 d g result did stands =
-    elim stands.ties.queues [
-      | inl idle ↦
-          let both = (take_idle p1 g stands.ties.parts.device.status idle.state).1 in
-          take_refused m1 m2 p1 p2 d g 4 NotReady result did stands both.0 both.1
-      | inr run ↦
-          by_refusal (refusal_of g (Take 4)) refl run
-          (take_same 4 p1 g stands.ties.parts.device.status stands.ties.parts.device.features
-          (ap (λ (l : List Request). length l) run.report.remembers))
-    ]
-  where
-    by_refusal : (o : Option Refusal) → refusal_of g (Take 4) ≡ o → IsRunning m1 p1 d g
-        → take_refusal 4 p1 ≡ refusal_of g (Take 4)
-        → StepsAlone (Honest m2 p2 d) g (Take 4) (taken_reply result)
-    by_refusal (Some why) is run same =
-        take_refused m1 m2 p1 p2 d g 4 why result did stands (same ∙ is) is
-    by_refusal None is run same =
-        take_posted m1 m2 p1 p2 d g g.report.posted result refl did stands run (same ∙ is) is
+    take_by m1 m2 p1 p2 d g 4 result refl did stands
+    (λ run. ap (λ (l : List Request). length l) run.report.remembers)
+    (λ run. take_posted m1 m2 p1 p2 d g g.report.posted result refl did stands run)

@@ -1,14 +1,12 @@
 -- A guest's take is a step of the definitions.
-use Rattle.std.specs.Prelude.{◌≡◌, ℕ, ◌*◌, ◌≤◌, Bool, true, false, nat_le, List, [], ◌∷◌, ◌++◌}
-use Rattle.std.specs.Prelude.{length, Result, Ok, Option, Some, None, refl, ◌⊎◌}
-use Rattle.std.{proofs.Common.{sym, ◌∙◌, ap, subst, arith, inl, inr}, proofs.lemmas.Bool.cases_Bool}
-use Rattle.vb_model.{specs.declared.calls.Call.TheVariants.Take, specs.Guest.Guest}
-use Rattle.vb_model.{specs.declared.replies.Refusal.Refusal, specs.Device.TakesRequest}
-use Rattle.vb_model.specs.declared.replies.Refusal.TheVariants.{NoQueue, NotReady, Busy}
+use Rattle.std.specs.Prelude.{◌≡◌, ℕ, ◌*◌, ◌≤◌, List, [], ◌∷◌, ◌++◌, length, Result, Ok, Option}
+use Rattle.std.{specs.Prelude.{Some, None, refl}, proofs.Common.{sym, ◌∙◌, ap, subst, arith, inr}}
+use Rattle.vb_model.{specs.Requests.{Request, Requests, Inflating, Deflating}, specs.Guest.Guest}
 use Rattle.vb_model.specs.declared.replies.Reply.TheVariants.{Taken, Empty}
 use Rattle.vb_model.specs.Layout.{reserved_pages, ring_page, buffers_page}
-use Rattle.vb_model.specs.Requests.{Request, Requests, Inflating, Deflating}
-use Rattle.vb_model.{specs.Refusals.{◌⇒◌, first_refusal, refusal_of}, proofs.Queues.queue_cases}
+use Rattle.vb_model.{specs.declared.replies.Refusal.TheVariants.NoQueue, specs.Device.TakesRequest}
+use Rattle.vb_model.{specs.declared.calls.Call.TheVariants.Take, specs.Refusals.refusal_of}
+use Rattle.vb_model.specs.declared.replies.Refusal.{Refusal}
 use Rattle.vb_ram.{specs.Pages.Pages, specs.Part.Part, proofs.Limits.config_limits}
 use Rattle.vb_chain.{specs.Table.descriptor_at, specs.declared.pieces.Piece.Piece}
 use Rattle.vb_chain.{specs.Rules.piece_of, specs.Chain.ChainGives}
@@ -16,13 +14,12 @@ use Rattle.vb_driver.{specs.Coding.buffer_of, specs.State.{RequestSide, DriverSt
 use Rattle.vb_device.{specs.Conditions.take_refusal, specs.Queues.queue_part}
 use Rattle.vb_device.specs.Calls.{TakesBy, taking, request_of, noting}
 use Rattle.vb_request.specs.Request.{page_request}
-use Rattle.vb_guest.proofs.Refusing.{take_no_queue, take_running, take_running_part, take_idle}
+use Rattle.vb_guest.proofs.TakeBufferStep.{take_refused, take_by, take_buffer}
 use Rattle.vb_guest.proofs.Closing.{steps_alone, honest_performed, ties_same}
-use Rattle.vb_guest.{proofs.TakeBufferStep.{take_refused, take_buffer}, specs.Replies.taken_reply}
-use Rattle.vb_guest.{proofs.Refusing.{take_idle_part, busy_test}, proofs.TakeReportStep.take_report}
-use Rattle.vb_guest.{proofs.Chains.{coded_chain, coded_pages}, specs.Line.{Line, IsRequest}}
+use Rattle.vb_guest.{proofs.Chains.{coded_chain, coded_pages}, proofs.TakeReportStep.take_report}
 use Rattle.vb_guest.{specs.Stands.{Honest, Ties, IsRunning}, proofs.Taking.{next_shown, line_taken}}
-use Rattle.vb_guest.{proofs.Handing.same_entry, specs.Steps.StepsAlone}
+use Rattle.vb_guest.{proofs.Refusing.{by_queue, take_no_queue}, specs.Line.{Line, IsRequest}}
+use Rattle.vb_guest.{specs.Replies.taken_reply, proofs.Handing.same_entry, specs.Steps.StepsAlone}
 
 -- what the device says of a queue with no posted request, and of one with some
 pub take_empty : (q n : ℕ) (m1 m2 : Pages) (p1 p2 : Part) (side : RequestSide) (taken done : List Request)
@@ -65,12 +62,6 @@ take_next q n m1 m2 p1 p2 side r rest taken done result low large len plain did 
     ∙ coded_pages m1 q side.ring.size n side.sent r len is code) in
     (answer, part ∙ ap (taking q r.head r.pages) plain.quiet)
 
-busy_is : (taken : List Request) → nat_le 16 (length taken) ≡ true → busy_test taken ≡ Some Busy
-busy_is taken e = ap (λ (b : Bool). first_refusal ((b ⇒ Busy) ∷ [])) e
-
-free_is : (taken : List Request) → nat_le 16 (length taken) ≡ false → busy_test taken ≡ None
-free_is taken e = ap (λ (b : Bool). first_refusal ((b ⇒ Busy) ∷ [])) e
-
 -- ---- queue 0
 
 inflate_posted : (m1 m2 : Pages) (p1 p2 : Part) (d : DriverState) (g : Guest)
@@ -107,49 +98,13 @@ inflate_posted m1 m2 p1 p2 d g (r ∷ rest) result is did stands run free_part f
     let step = honest_performed g (Take 0) [] (Taken r.head) new free
     (refl, subst T (sym is) (refl, refl)) in
     let after : Part = taking 0 r.head r.pages p1 in
-    let ties : Ties m1 after d new = record {
-      parts = stands.ties.parts;
-      pages = stands.ties.pages;
-      queues = inr (record {
-        state = run.state;
-        backed = run.backed;
-        inflate_size = run.inflate_size;
-        deflate_size = run.deflate_size;
-        statistics_size = run.statistics_size;
-        report_size = run.report_size;
-        statistics = run.statistics;
-        report = run.report;
-        inflate = line_taken m1 0 g.config.pages d.inflate p1.inflate r rest g.inflate.taken
-            g.inflate.done line;
-        deflate = run.deflate;
-      });
-    } in
+    let taken = line_taken m1 0 g.config.pages d.inflate p1.inflate r rest g.inflate.taken
+    g.inflate.done line in
+    let ties : Ties m1 after d new =
+    record { parts = stands.ties.parts; pages = stands.ties.pages; queues = inr (assumption taken) } in
     subst (λ x. StepsAlone (Honest m2 p2 d) g (Take 0) (taken_reply x)) (sym answer)
     (steps_alone m1 m2 p1 p2 d d g (Take 0) (Taken r.head) new stands step
     (ties_same m1 m2 after p2 d d new did.memory part refl ties) refl)
-
-inflate_take : (m1 m2 : Pages) (p1 p2 : Part) (d : DriverState) (g : Guest)
-    (result : Result (Option ℕ) Refusal)
-    → TakesBy 0 m1 m2 p1 p2 result → Honest m1 p1 d g
-    → StepsAlone (Honest m2 p2 d) g (Take 0) (taken_reply result)
-inflate_take m1 m2 p1 p2 d g result did stands =
-    elim stands.ties.queues [
-      | inl idle ↦
-          let D : ℕ → Type 0 = λ s. (s ≡ 0) ⊎ (s ≡ 131) in
-          take_refused m1 m2 p1 p2 d g 0 NotReady result did stands
-          (take_idle_part p1 (subst D (sym stands.ties.parts.device.status) idle.state)).0
-          (take_idle g idle.state).0
-      | inr run ↦
-          let by_part = (take_running_part p1 (stands.ties.parts.device.status ∙ run.state)).0
-          ∙ ap busy_test run.inflate.remembers in
-          let by_model = (take_running g run.state).0 in
-          elim (cases_Bool (nat_le 16 (length g.inflate.taken))) [
-            | inl full ↦ take_refused m1 m2 p1 p2 d g 0 Busy result did stands
-                (by_part ∙ busy_is g.inflate.taken full) (by_model ∙ busy_is g.inflate.taken full)
-            | inr some ↦ inflate_posted m1 m2 p1 p2 d g g.inflate.posted result refl did stands run
-                (by_part ∙ free_is g.inflate.taken some) (by_model ∙ free_is g.inflate.taken some)
-          ]
-    ]
 
 -- ---- queue 1
 
@@ -187,72 +142,28 @@ deflate_posted m1 m2 p1 p2 d g (r ∷ rest) result is did stands run free_part f
     let step = honest_performed g (Take 1) [] (Taken r.head) new free
     (refl, subst T (sym is) (refl, refl)) in
     let after : Part = taking 1 r.head r.pages p1 in
-    let ties : Ties m1 after d new = record {
-      parts = stands.ties.parts;
-      pages = stands.ties.pages;
-      queues = inr (record {
-        state = run.state;
-        backed = run.backed;
-        inflate_size = run.inflate_size;
-        deflate_size = run.deflate_size;
-        statistics_size = run.statistics_size;
-        report_size = run.report_size;
-        statistics = run.statistics;
-        report = run.report;
-        deflate = line_taken m1 1 g.config.pages d.deflate p1.deflate r rest g.deflate.taken
-            g.deflate.done line;
-        inflate = run.inflate;
-      });
-    } in
+    let taken = line_taken m1 1 g.config.pages d.deflate p1.deflate r rest g.deflate.taken
+    g.deflate.done line in
+    let ties : Ties m1 after d new =
+    record { parts = stands.ties.parts; pages = stands.ties.pages; queues = inr (assumption taken) } in
     subst (λ x. StepsAlone (Honest m2 p2 d) g (Take 1) (taken_reply x)) (sym answer)
     (steps_alone m1 m2 p1 p2 d d g (Take 1) (Taken r.head) new stands step
     (ties_same m1 m2 after p2 d d new did.memory part refl ties) refl)
-
-deflate_take : (m1 m2 : Pages) (p1 p2 : Part) (d : DriverState) (g : Guest)
-    (result : Result (Option ℕ) Refusal)
-    → TakesBy 1 m1 m2 p1 p2 result → Honest m1 p1 d g
-    → StepsAlone (Honest m2 p2 d) g (Take 1) (taken_reply result)
-deflate_take m1 m2 p1 p2 d g result did stands =
-    elim stands.ties.queues [
-      | inl idle ↦
-          let D : ℕ → Type 0 = λ s. (s ≡ 0) ⊎ (s ≡ 131) in
-          take_refused m1 m2 p1 p2 d g 1 NotReady result did stands
-          (take_idle_part p1 (subst D (sym stands.ties.parts.device.status) idle.state)).1
-          (take_idle g idle.state).1
-      | inr run ↦
-          let by_part = (take_running_part p1 (stands.ties.parts.device.status ∙ run.state)).1
-          ∙ ap busy_test run.deflate.remembers in
-          let by_model = (take_running g run.state).1 in
-          elim (cases_Bool (nat_le 16 (length g.deflate.taken))) [
-            | inl full ↦ take_refused m1 m2 p1 p2 d g 1 Busy result did stands
-                (by_part ∙ busy_is g.deflate.taken full) (by_model ∙ busy_is g.deflate.taken full)
-            | inr some ↦ deflate_posted m1 m2 p1 p2 d g g.deflate.posted result refl did stands run
-                (by_part ∙ free_is g.deflate.taken some) (by_model ∙ free_is g.deflate.taken some)
-          ]
-    ]
 
 pub take_step : (m1 m2 : Pages) (p1 p2 : Part) (d : DriverState) (g : Guest) (q : ℕ)
     (result : Result (Option ℕ) Refusal)
     → TakesBy q m1 m2 p1 p2 result → Honest m1 p1 d g
     → StepsAlone (Honest m2 p2 d) g (Take q) (taken_reply result)
 take_step m1 m2 p1 p2 d g q result did stands =
-    let B : ℕ → Type 0 = λ k. TakesBy k m1 m2 p1 p2 result in
-    let S : ℕ → Type 0 = λ k. StepsAlone (Honest m2 p2 d) g (Take k) (taken_reply result) in
-    elim (queue_cases q) [
-      | inl first ↦ subst S (sym first)
-          (inflate_take m1 m2 p1 p2 d g result (subst B first did) stands)
-      | inr a ↦ elim a [
-        | inl second ↦ subst S (sym second)
-            (deflate_take m1 m2 p1 p2 d g result (subst B second did) stands)
-        | inr b ↦ elim b [
-          | inl third ↦ subst S (sym third)
-              (take_buffer m1 m2 p1 p2 d g result (subst B third did) stands)
-          | inr c ↦ elim c [
-            | inl last ↦ subst S (sym last)
-                (take_report m1 m2 p1 p2 d g result (subst B last did) stands)
-            | inr none ↦ (let no = take_no_queue q g p1 none in
-                take_refused m1 m2 p1 p2 d g q NoQueue result did stands no.0 no.1)
-          ]
-        ]
-      ]
-    ]
+    by_queue (λ k. TakesBy k m1 m2 p1 p2 result
+    → StepsAlone (Honest m2 p2 d) g (Take k) (taken_reply result)) q
+    (λ at. take_by m1 m2 p1 p2 d g 0 result refl at stands
+    (λ run. ap (λ (l : List Request). length l) run.inflate.remembers)
+    (λ run. inflate_posted m1 m2 p1 p2 d g g.inflate.posted result refl at stands run))
+    (λ at. take_by m1 m2 p1 p2 d g 1 result refl at stands
+    (λ run. ap (λ (l : List Request). length l) run.deflate.remembers)
+    (λ run. deflate_posted m1 m2 p1 p2 d g g.deflate.posted result refl at stands run))
+    (λ at. take_buffer m1 m2 p1 p2 d g result at stands)
+    (λ at. take_report m1 m2 p1 p2 d g result at stands)
+    (λ none at. let no = take_no_queue q g p1 none in
+    take_refused m1 m2 p1 p2 d g q NoQueue result at stands no.0 no.1) did

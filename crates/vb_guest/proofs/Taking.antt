@@ -41,12 +41,7 @@ line_taken mem q n side part r rest taken done line =
     let r' : Request = record r { visited = 0 } in
     let P : Request → Type 0 = IsRequest side.ring.size n side.sent in
     let first : P r = line.posted 0 r (omega arith) in
-    let now : P r' = record {
-      inside = first.inside;
-      few = first.few;
-      remembered = first.remembered;
-      pages = first.pages;
-    } in
+    let now : P r' = assumption in
     record {
       ring = requests_taken mem q side.ring part r rest taken done (part.taken ++ (r' ∷ []))
           line.ring;

@@ -4,7 +4,7 @@ use Rattle.vb_model.{specs.declared.calls.Call.TheVariants.SetTarget, specs.Gues
 use Rattle.vb_model.{specs.declared.replies.Reply.TheVariants.Done, specs.Step.HonestStep}
 use Rattle.vb_ram.{specs.Pages.Pages, specs.Part.Part}
 use Rattle.vb_driver.specs.State.{DriverState}
-use Rattle.vb_guest.{specs.Stands.{Honest, Ties}, specs.Steps.StepsAlone, proofs.Writing.idle_still}
+use Rattle.vb_guest.{specs.Stands.{Honest, Ties}, specs.Steps.StepsAlone}
 use Rattle.vb_guest.proofs.Closing.{guest_step, honest_performed, still_stands, ties_same}
 
 target_set : (g : Guest) (n : ℕ) → HonestStep g (SetTarget n) [] Done (record g { target = n })
@@ -19,36 +19,11 @@ target_stands m1 m2 p1 p2 d g n memory part stands =
     let new : Guest = record g { target = n } in
     let after : Part = record p1 { target = n } in
     let there : Ties m1 after d new = record {
-      parts = record {
-        guest = ties.parts.guest;
-        driver = ties.parts.driver;
-        device = record {
-          size = ties.parts.device.size;
-          paced = ties.parts.device.paced;
-          status = ties.parts.device.status;
-          features = ties.parts.device.features;
-          target = refl;
-          actual = ties.parts.device.actual;
-          ballooned = ties.parts.device.ballooned;
-          last = ties.parts.device.last;
-          loose = ties.parts.device.loose;
-        };
-      };
+      parts = assumption;
       pages = ties.pages;
       queues = elim ties.queues [
-        | inl idle ↦ inl (idle_still g new refl refl refl refl refl refl refl refl refl idle)
-        | inr run ↦ inr (record {
-          state = run.state;
-          backed = run.backed;
-          inflate_size = run.inflate_size;
-          deflate_size = run.deflate_size;
-          statistics_size = run.statistics_size;
-          report_size = run.report_size;
-          statistics = run.statistics;
-          report = run.report;
-          inflate = run.inflate;
-          deflate = run.deflate;
-        })
+        | inl idle ↦ inl assumption
+        | inr run ↦ inr assumption
       ];
     } in
     still_stands m1 m2 p1 p2 d d g (SetTarget n) [] Done new stands (target_set g n)

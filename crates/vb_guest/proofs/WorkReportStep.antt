@@ -1,27 +1,25 @@
 -- The visit of a report's page is a step of the definitions.
-use Rattle.std.specs.Prelude.{◌≡◌, ℕ, ◌<◌, ◌≤◌, Bool, true, false, cond, List, [], ◌∷◌, All, length}
+use Rattle.std.specs.Prelude.{◌≡◌, ℕ, ◌<◌, ◌≤◌, Bool, true, false, cond, List, [], ◌∷◌, All}
 use Rattle.std.specs.Prelude.{if◌then◌else◌, Result, Option, Some, None, MatchOption, is_some}
-use Rattle.std.{specs.Prelude.{slice_get, refl}, specs.Option.option_to_list, specs.List.flat_map}
-use Rattle.std.proofs.Common.{sym, ◌∙◌, ap, subst, arith, inr}
+use Rattle.std.{specs.Prelude.{slice_get, refl}, proofs.Common.{sym, ap, subst, arith, inr}}
 use Rattle.std.proofs.lemmas.List.Elements.{All-nil, All-cons, All-tail}
 use Rattle.std.proofs.lemmas.Option.{get_or_from_slice_get, slice_get_within}
 use Rattle.vb_model.{specs.declared.calls.Call.TheVariants.Work, specs.declared.replies.Reply.Reply}
-use Rattle.vb_model.{specs.declared.replies.Refusal.Refusal, specs.Pages.Block, specs.Orderly.times}
-use Rattle.vb_model.{specs.declared.replies.Reply.TheVariants.Worked, specs.Guest.{Guest, frame_of}}
-use Rattle.vb_model.{specs.Requests.{Request, Inflating, Reporting_free}, specs.Refusals.refusal_of}
+use Rattle.vb_model.{specs.declared.replies.Refusal.Refusal, specs.Pages.Block, specs.Guest.Guest}
+use Rattle.vb_model.{specs.declared.replies.Reply.TheVariants.Worked, specs.Refusals.refusal_of}
+use Rattle.vb_model.{specs.Requests.{Request, Inflating, Reporting_free}, proofs.CallSteps.Idles}
 use Rattle.vb_model.specs.Device.{is_unvisited, visiting, next_page, visited}
-use Rattle.vb_model.{specs.Layout.reserved_pages, proofs.Shapes.start_reserved}
-use Rattle.vb_ram.{specs.Pages.{Pages, frame_at, number_of}, specs.Part.Part}
-use Rattle.vb_driver.specs.State.{DriverState}
-use Rattle.vb_device.{specs.Discards.{discarded, frames_behind}, specs.Calls.Visits}
-use Rattle.vb_guest.proofs.Closing.{honest_performed, still_stands, guest_step, ties_same}
-use Rattle.vb_guest.{proofs.PagesKept.{pages_discarded, page_undiscarded}, specs.Steps.StepsFreeing}
-use Rattle.vb_guest.{proofs.Handing.{handed_back, not_among, behind_same}, specs.Reported.IsReport}
-use Rattle.vb_guest.{proofs.ReportLines.{report_apart, report_visited}, specs.Replies.worked_reply}
-use Rattle.vb_guest.{proofs.Apart.{SameReserved, line_apart}, proofs.BufferLines.buffer_apart}
-use Rattle.vb_guest.{proofs.RunApart.{sizes_of, queues_same}, proofs.Discarding.frames_freed}
+use Rattle.vb_model.specs.Layout.{reserved_pages}
+use Rattle.vb_ram.{specs.Pages.{Pages, frame_at}, specs.Part.Part}
+use Rattle.vb_guest.{proofs.Running.runs_on, proofs.Losing.steps_losing, specs.Steps.StepsFreeing}
+use Rattle.vb_guest.{proofs.Closing.{honest_performed, ties_same}, specs.Reported.IsReport}
+use Rattle.vb_guest.proofs.PagesKept.{pages_discarded, page_undiscarded}
+use Rattle.vb_guest.{proofs.Handing.{handed_back, not_among}, proofs.ReportLines.report_visited}
+use Rattle.vb_guest.{specs.Replies.worked_reply, proofs.Apart.SameReserved}
 use Rattle.vb_guest.{specs.Stands.{Honest, Ties, IsRunning}, proofs.OwnBlocks.own_pages}
-use Rattle.vb_model.proofs.CallSteps.{Idles, Visits as VisitsOf}
+use Rattle.vb_driver.specs.State.{DriverState}
+use Rattle.vb_device.{specs.Discards.discarded, specs.Calls.Visits}
+use Rattle.vb_model.proofs.CallSteps.{Visits as VisitsOf}
 use Rattle.vb_device.specs.declared.worked.Worked.{Worked as WorkedPage}
 
 -- the next page of a device of this pace
@@ -83,7 +81,7 @@ work_report m1 m2 p1 p2 d g page result did stands run by_model none there =
     All-cons (λ p. least ≤ p) page [] high.0 (All-nil (λ p. least ≤ p)) in
     let low : SameReserved m1 bare size =
     λ p lt. page_undiscarded one m1 p (not_among least one p above lt) in
-    let queues = queues_same m1 bare d size (sizes_of m1 p1 d g run) low in
+    let rests = runs_on m1 bare p1 d g run low in
     let new : Guest = visited Reporting_free page g in
     let reply : Reply = Worked page (is_some (frame_at m1 page)) in
     let W : Option ℕ → Type 0 =
@@ -97,60 +95,13 @@ work_report m1 m2 p1 p2 d g page result did stands run by_model none there =
     ) in
     let after : Part = handed_back
     (record p1 { report = record p1.report { taken = visiting p1.report.taken } }) in
-    let part : handed_back p2 ≡ after = ap handed_back did.part in
     let fresh : Ties bare after d new = record {
-      parts = record {
-        guest = ties.parts.guest;
-        driver = ties.parts.driver;
-        device = record {
-          size = ties.parts.device.size;
-          paced = ties.parts.device.paced;
-          status = ties.parts.device.status;
-          features = ties.parts.device.features;
-          target = ties.parts.device.target;
-          actual = ties.parts.device.actual;
-          ballooned = ties.parts.device.ballooned;
-          last = ties.parts.device.last;
-          loose = refl;
-        };
-      };
-      pages = pages_discarded m1 g.config.queue_size n g.frames g.contents one ties.pages;
-      queues = inr (record {
-        state = run.state;
-        backed = λ p start. ap is_some (ap number_of (low p (start_reserved size p start)))
-            ∙ run.backed p start;
-        inflate_size = run.inflate_size;
-        deflate_size = run.deflate_size;
-        statistics_size = run.statistics_size;
-        report_size = run.report_size;
-        inflate = line_apart m1 bare 0 n d.inflate p1.inflate g.inflate
-            queues.inflate run.inflate;
-        deflate = line_apart m1 bare 1 n d.deflate p1.deflate g.deflate
-            queues.deflate run.deflate;
-        statistics = buffer_apart m1 bare d.statistics p1.statistics g.buffer queues.statistics
-            queues.buffer run.statistics;
-        report = report_visited bare n d.report p1.report g.report
-            (report_apart m1 bare n d.report p1.report g.report queues.report run.report);
-      });
+      parts = assumption;
+      pages = pages_discarded m1 size n g.frames g.contents one ties.pages;
+      queues = inr (assumption (report_visited bare n d.report p1.report g.report rests.report));
     } in
-    let numbers : (k : ℕ)
-    → times k p2.loose ≡ times k (frames_behind m1 one) =
-    λ k. did.loose k in
-    let behind : frames_behind m1 one
-    ≡ flat_map (λ page. option_to_list (frame_of g.frames page)) one =
-    behind_same m1 g.frames one ties.pages.behind in
-    let F : ℕ → Type 0 = λ p. p < length g.frames in
+    let F : ℕ → Type 0 = λ p. p < n in
     subst (λ x. StepsFreeing (Honest m2 (handed_back p2) d) p2.loose g Work (worked_reply x))
-    (sym did.answer) (record {
-      new = new;
-      stands = still_stands m1 m2 p1 (handed_back p2) d d g Work [] reply new stands step
-          (ties_same bare m2 after (handed_back p2) d d new did.memory part refl fresh);
-      step = guest_step g Work [] reply new ties.parts.guest.honest step;
-      freed = λ k. omega (
-        arith,
-        numbers k,
-        ap (times k) behind,
-        frames_freed k one g.frames (refl, tt)
-            (All-cons F page [] (omega (arith, high.1, ties.pages.framed)) (All-nil F)),
-      );
-    })
+    (sym did.answer) (steps_losing m1 m2 p1 p2 d g new Work reply one stands step
+    (ties_same bare m2 after (handed_back p2) d d new did.memory (ap handed_back did.part) refl fresh)
+    refl did.loose (refl, tt) (All-cons F page [] high.1 (All-nil F)))

@@ -13,17 +13,17 @@ use Rattle.vb_model.specs.Refusals.{◌⇒◌, first_refusal, refusal_of, is_out
 use Rattle.vb_model.specs.Driver.{overwritten, pages_needed, Supplying, Written}
 use Rattle.vb_ram.{specs.declared.fault.RamFault.RamFault, specs.Part.Part}
 use Rattle.vb_ram.specs.Pages.{Pages, frame_at, Covers, Wrote, Supplied}
+use Rattle.vb_ram.specs.declared.fault.RamFault.TheVariants.{NeedsFrame}
 use Rattle.vb_driver.specs.State.{DriverState}
 use Rattle.vb_frames.specs.declared.keeper.Refused.TheVariants.{NoFrame, Memory}
 use Rattle.vb_frames.specs.Out.{claim_in}
 use Rattle.vb_guest.proofs.Closing.{honest_performed, guest_step, still_stands, steps_alone}
-use Rattle.vb_guest.proofs.Writing.{at_page, used_high, pages_wrote, pages_supplied, running_apart}
-use Rattle.vb_guest.{specs.Stands.{Honest, Ties}, proofs.Closing.honest_own}
-use Rattle.vb_guest.specs.Steps.{backing_count, StepsAlone, StepsOver}
-use Rattle.vb_guest.specs.Supply.{supply_of, IsClaimed, Moves, nothing}
-use Rattle.vb_guest.{proofs.Writing.{idle_still, count_backed}, proofs.Moving.{moves_as, times_one}}
+use Rattle.vb_guest.proofs.Writing.{at_page, used_high, pages_wrote, pages_supplied, count_backed}
+use Rattle.vb_guest.{specs.Supply.{supply_of, IsClaimed, Moves, nothing}, proofs.Closing.honest_own}
+use Rattle.vb_guest.{specs.Steps.{backing_count, StepsAlone, StepsOver}, proofs.Running.runs_on}
+use Rattle.vb_guest.{proofs.Moving.{moves_as, times_one}, specs.Stands.{Honest, Ties}}
 use Rattle.vb_model.specs.declared.replies.Refusal.TheVariants.{NoFrame as NoFrameLeft}
-use Rattle.vb_ram.specs.declared.fault.RamFault.TheVariants.{OutOfRam as OutOfMemory, NeedsFrame}
+use Rattle.vb_ram.specs.declared.fault.RamFault.TheVariants.{OutOfRam as OutOfMemory}
 use Rattle.vb_frames.specs.declared.keeper.Refused.{Refused as KeeperRefused}
 
 -- how a refused claim is replied
@@ -87,10 +87,9 @@ written_ties m1 m2 p1 p2 d g page off bs high covers ties wrote part =
       pages = pages_wrote m1 m2 g.config.queue_size g.config.pages page off bs g.frames g.contents high
           (omega (arith, covers.page, ties.pages.length_is)) covers.bytes ties.pages wrote;
       queues = elim ties.queues [
-        | inl idle ↦ inl (idle_still g new refl refl refl refl refl refl refl refl refl idle)
-        | inr run ↦ inr (running_apart m1 m2 p1 d g new
-            (λ p lt. wrote.rest.others p (omega (arith, lt, high)))
-            refl refl refl refl refl refl run)
+        | inl idle ↦ inl assumption
+        | inr run ↦ (let still = runs_on m1 m2 p1 d g run
+            (λ p lt. wrote.rest.others p (omega (arith, lt, high))) in inr assumption)
       ];
     } in
     subst (λ p. Ties m2 p d new) (sym part) there
@@ -170,9 +169,9 @@ write_supplied Answers out1 out2 m1 m2 m3 m4 p1 p2 p3 p4 d g page off frame bs a
       pages = pages_supplied m1 m3 g.config.queue_size g.config.pages page frame g.frames g.contents lt bare
           stands.ties.pages supplied;
       queues = elim stands.ties.queues [
-        | inl idle ↦ inl (idle_still g after refl refl refl refl refl refl refl refl refl idle)
-        | inr run ↦ inr (running_apart m1 m3 p1 d g after (λ p low. supplied.others p (omega arith))
-            refl refl refl refl refl refl run)
+        | inl idle ↦ inl assumption
+        | inr run ↦ (let still = runs_on m1 m3 p1 d g run
+            (λ p low. supplied.others p (omega arith)) in inr assumption)
       ];
     } in
     let W : List ℕ → Type 0 =

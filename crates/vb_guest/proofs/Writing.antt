@@ -1,21 +1,16 @@
 -- A write to a page of the guest's own.
 use Rattle.std.specs.Prelude.{◌≡◌, ◌≢◌, ℕ, ◌+◌, ◌<◌, ◌≤◌, ◌==◌, true, if◌then◌else◌, List, length}
-use Rattle.std.specs.Prelude.{Option, Some, None, is_some, slice_set, slice_index_or, count_by}
-use Rattle.std.{specs.Prelude.{refl, ◌⊎◌}, proofs.Common.{sym, ◌∙◌, ap, subst, arith, inl, inr}}
-use Rattle.std.{proofs.lemmas.Bool.{cases_eq, cases_lt}, proofs.lemmas.List.Sums.sum_by-set}
+use Rattle.std.specs.Prelude.{Option, Some, None, slice_set, slice_index_or, count_by, refl, ◌⊎◌}
+use Rattle.std.{proofs.Common.{sym, ◌∙◌, ap, arith, inl, inr}, proofs.lemmas.List.Sums.sum_by-set}
+use Rattle.std.proofs.lemmas.Bool.{cases_eq, cases_lt}
 use Rattle.std.proofs.lemmas.List.{ext_get_or, length-set, get_or-set_same, get_or-set_other}
-use Rattle.vb_model.{specs.Tests.{one_if, each_page}, specs.Layout.{reserved_pages, is_start_page}}
-use Rattle.vb_model.{specs.Pages.{place_of, is_used}, specs.Requests.{Requests, StatisticsBuffer}}
-use Rattle.vb_model.{specs.Guest.{Guest, frame_of, backed}, specs.Driver.overwritten}
-use Rattle.vb_model.{specs.Orderly.IsOrderly, proofs.Tables.{length-each_from, each_page-get}}
-use Rattle.vb_model.proofs.Shapes.{reserved_least, start_reserved}
-use Rattle.vb_ram.{specs.Pages.{Pages, frame_at, number_of, Wrote, Supplied}, specs.Part.Part}
+use Rattle.vb_model.{specs.Tests.{one_if, each_page}, specs.Layout.reserved_pages}
+use Rattle.vb_model.{specs.Pages.{place_of, is_used}, specs.Guest.{Guest, frame_of, backed}}
+use Rattle.vb_model.{specs.Driver.overwritten, specs.Orderly.IsOrderly}
+use Rattle.vb_model.proofs.Tables.{length-each_from, each_page-get}
+use Rattle.vb_ram.specs.Pages.{Pages, frame_at, number_of, Wrote, Supplied}
 use Rattle.vb_ram.proofs.Contents.{contents_wrote}
-use Rattle.vb_driver.specs.State.{DriverState}
-use Rattle.vb_guest.{specs.Line.Line, specs.Reported.ReportLine, specs.Buffer.BufferLine}
-use Rattle.vb_guest.{specs.Stands.{HasPages, IsIdle, IsRunning}, specs.Steps.is_frame}
-use Rattle.vb_guest.proofs.Apart.{SameReserved, ring_same, line_apart, above_apart}
-use Rattle.vb_guest.{proofs.BufferLines.buffer_apart, proofs.ReportLines.report_apart}
+use Rattle.vb_guest.{specs.Stands.HasPages, specs.Steps.is_frame}
 
 -- a used page isn't reserved
 pub used_high : (g : Guest) (page : ℕ) → IsOrderly g → is_used (place_of g.places page) ≡ true
@@ -129,56 +124,3 @@ pages_supplied m1 m2 size n page frame frames contents lt bare has did =
       arith,
       frames_supplied m1 m2 n page frame frames lt (frames_of m1 size n frames contents has) did,
     )
-
--- pages above those of rings and buffers change: the queues are as before
-pub running_apart : (m1 m2 : Pages) (p : Part) (d : DriverState) (g new : Guest)
-    → SameReserved m1 m2 g.config.queue_size → new.status ≡ g.status → new.config ≡ g.config → new.inflate ≡ g.inflate
-    → new.deflate ≡ g.deflate → new.report ≡ g.report → new.buffer ≡ g.buffer
-    → IsRunning m1 p d g → IsRunning m2 p d new
-running_apart m1 m2 p d g new same status config inflate deflate report buffer run =
-    let n = g.config.pages in
-    let pages : n ≡ new.config.pages = ap (λ c. c.pages) (sym config) in
-    let size : g.config.queue_size ≡ new.config.queue_size = ap (λ c. c.queue_size) (sym config) in
-    let kept : (k : ℕ) → k ≡ g.config.queue_size → SameReserved m1 m2 k =
-    λ k e. subst (SameReserved m1 m2) (sym e) same in
-    let I : ℕ → Requests → Type 0 = λ k rs. Line m2 0 k d.inflate p.inflate rs in
-    let D : ℕ → Requests → Type 0 = λ k rs. Line m2 1 k d.deflate p.deflate rs in
-    let R : ℕ → Requests → Type 0 = λ k rs. ReportLine m2 k d.report p.report rs in
-    let B : StatisticsBuffer → Type 0 = λ b. BufferLine m2 d.statistics p.statistics b in
-    record {
-      state = status ∙ run.state;
-      backed = λ page start.
-          let was : is_start_page g.config.queue_size page ≡ true =
-          subst (λ k. is_start_page k page ≡ true) (sym size) start in
-          ap is_some (ap number_of (same page (start_reserved g.config.queue_size page was)))
-          ∙ run.backed page was;
-      inflate_size = run.inflate_size ∙ size;
-      deflate_size = run.deflate_size ∙ size;
-      statistics_size = run.statistics_size ∙ size;
-      report_size = run.report_size ∙ size;
-      inflate = subst (λ rs. I new.config.pages rs) (sym inflate)
-          (subst (λ k. I k g.inflate) pages
-          (line_apart m1 m2 0 n d.inflate p.inflate g.inflate
-          (above_apart m1 m2 d.inflate.ring.size 0 (omega arith)
-          (kept d.inflate.ring.size run.inflate_size)) run.inflate));
-      deflate = subst (λ rs. D new.config.pages rs) (sym deflate)
-          (subst (λ k. D k g.deflate) pages
-          (line_apart m1 m2 1 n d.deflate p.deflate g.deflate
-          (above_apart m1 m2 d.deflate.ring.size 1 (omega arith)
-          (kept d.deflate.ring.size run.deflate_size)) run.deflate));
-      statistics = subst B (sym buffer)
-          (buffer_apart m1 m2 d.statistics p.statistics g.buffer
-          (ring_same m1 m2 d.statistics.size 2 (kept d.statistics.size run.statistics_size))
-          (same 12 (omega (arith, reserved_least g.config.queue_size))) run.statistics);
-      report = subst (λ rs. R new.config.pages rs) (sym report)
-          (subst (λ k. R k g.report) pages
-          (report_apart m1 m2 n d.report p.report g.report
-          (ring_same m1 m2 d.report.ring.size 4 (kept d.report.ring.size run.report_size)) run.report));
-    }
-
-pub idle_still : (g new : Guest) → new.status ≡ g.status → new.config ≡ g.config
-    → new.inflate ≡ g.inflate → new.deflate ≡ g.deflate → new.report ≡ g.report
-    → new.buffer ≡ g.buffer → new.ballooned ≡ g.ballooned → new.actual ≡ g.actual
-    → new.last ≡ g.last → IsIdle g → IsIdle new
-idle_still g new status config inflate deflate report buffer ballooned actual last idle =
-    grind arith

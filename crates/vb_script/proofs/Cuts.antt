@@ -5,7 +5,7 @@ use Rattle.std.proofs.lemmas.List.Sums.{fails_before_first, passes_at_first, pos
 use Rattle.std.proofs.lemmas.List.Splits.{slice_split_first, slice_split_none}
 use Rattle.std.proofs.lemmas.List.{take_all, get_or-take, length-take-le}
 use Rattle.std.{specs.List.{slice_split, onto_first, position_or_len}, specs.Option.option_map_or}
-use Rattle.std.{proofs.Common.{take, drop, refl, arith, sym}, proofs.lemmas.Bool.Decides.nat_tests}
+use Rattle.std.{proofs.Common.{take, drop, refl, arith}, proofs.lemmas.Bool.Decides.nat_tests}
 use Rattle.vb_script.{specs.Texts.{last_line, lines_of}, specs.Words.is_empty}
 use Rattle.memchr.specs.Find.{IsFirstByte, is_byte}
 
@@ -47,25 +47,7 @@ found_near byte near text n within e =
         → Some n ≡ cond b (Some (position_or_len (λ x. x == byte) (take near text))) None
         → IsFirstByte (is_byte byte) text (Some n)
     at true t e =
-        let same : n ≡ position_or_len (λ x. x == byte) (take near text) = cc in
-        let count : length (take near text) ≡ near = length-take-le near text within in
-        let lt : position_or_len (λ x. x == byte) (take near text) < length (take near text) =
-        grind (arith, nat_tests) in (
-          record {
-            low = omega arith;
-            high = omega (arith, same, count, lt);
-            before = λ k _ below is.
-                let missed = fails_before_first (λ x. x == byte) (take near text) k 0
-                (omega (arith, same, below)) in
-                let read = get_or-take near text k 0 (omega (arith, same, count, lt, below)) in
-                grind (arith, missed, read, is);
-          },
-          rw same
-              (let yes = passes_at_first (λ x. x == byte) (take near text) 0 lt in
-              let read = get_or-take near text (position_or_len (λ x. x == byte) (take near text)) 0
-              (omega (arith, count, lt)) in
-              rw (sym read) yes),
-        )
+        search (arith, length-take-le, nat_tests, fails_before_first, get_or-take, passes_at_first)
     at false t e = cc
 
 -- there is always a part

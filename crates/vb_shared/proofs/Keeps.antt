@@ -1,7 +1,7 @@
 -- Each step keeps the rule.
 use Rattle.std.proofs.Common.{◌≡◌, ◌≢◌, ℕ, zero, suc, ◌+◌, ◌<◌, ◌≤◌, Bool, true, false, cond, eqb}
-use Rattle.std.proofs.Common.{◌||◌, List, [], ◌∷◌, length, set, refl, sym, ap, ◌∙◌, subst, ⊎_elim}
-use Rattle.std.proofs.Common.{arith, eq-eqb, ne_eqb, eqb-true, get_or-set_same, get_or-set_other}
+use Rattle.std.proofs.Common.{List, [], ◌∷◌, length, set, refl, sym, ap, ◌∙◌, subst, ⊎_elim, arith}
+use Rattle.std.proofs.Common.{eq-eqb, ne_eqb, eqb-true, get_or-set_same, get_or-set_other}
 use Rattle.std.{proofs.Common.length-set, specs.Prelude.slice_index, proofs.lemmas.List.set-get_or}
 use mathlib.Core.Option.{some, none, some-ne-none, some-injective}
 use mathlib.Core.Logic.{dite}
@@ -12,8 +12,8 @@ use Rattle.atomic_table.{specs.Table.{Me, Allows, step}, proofs.Lists.{at_set, s
 use Rattle.vb_model.specs.Tests.{one_if}
 use Rattle.vb_device.specs.Own.{has, without}
 use Rattle.vb_shared.specs.Rule.{pass, count, count_all, AllTied, IsKept, Kept, StepKind, TryClaim}
-use Rattle.vb_shared.{specs.declared.rule.Holding.Holding, specs.declared.rule.View.View}
-use Rattle.vb_shared.{specs.declared.rule.Size.Size, specs.Rule.{PutBack, word_after, held_after}}
+use Rattle.vb_shared.{specs.Rule.{PutBack, word_after, held_after}, specs.declared.rule.View.View}
+use Rattle.vb_shared.{specs.declared.rule.Holding.Holding, specs.declared.rule.Size.Size}
 use Rattle.vb_shared.specs.Steps.{claimed, returned}
 use Rattle.vb_shared.proofs.Lists.{has_without, has_not_without, without_none}
 
@@ -43,9 +43,7 @@ pub count_set : (tag : ℕ) (views : List View) (i : ℕ) (v w : View) → get_e
     ≡ count_all tag views + count tag w.holdings
 count_set tag [] i v w e = absurd (some-ne-none v (sym e))
 count_set tag (x ∷ xs) zero v w e =
-    subst (λ (y : View). count tag w.holdings + count_all tag xs + count tag y.holdings
-    ≡ count tag x.holdings + count_all tag xs + count tag w.holdings)
-    (some-injective x v e) (omega arith)
+    search arith
 count_set tag (x ∷ xs) (suc i) v w e = let h = count_set tag xs i v w e in omega arith
 
 pub one_tag : (tag : ℕ) → one_if (eqb tag tag) ≡ 1
@@ -90,15 +88,9 @@ kept_after : (size : Size) (words : List ℕ) (views : List View) (id tag f x : 
     → IsKept size (set words f x) (set views id (pass tag held'))
 kept_after size words views id tag f x held held' r at m low new = record {
   wide = length-set words f x ∙ r.wide;
-  small = λ j. dite (ℕ_discrete j f)
-      (λ e. subst (λ (k : ℕ). k ≤ size.guests)
-      (sym (ap (slice_index (set words f x)) e ∙ get_or-set_same words f x 0 m.inside)) low)
-      (λ n. subst (λ (k : ℕ). k ≤ size.guests) (sym (get_or-set_other words f j x 0 n))
-      (r.small j));
+  small = search (arith, get_or-set_same, get_or-set_other);
   tied = λ i v e. ⊎_elim
-      (λ (t : (i ≡ id) × (pass tag held' ≡ v)).
-      subst (λ (y : View). AllTied size.guests (set words f x) y.holdings) t.1
-      (((r.tied id (pass tag held) at).0.0, new), tt))
+      (search arith)
       (λ (t : (i ≢ id) × (get_elem? views i ≡ some v)).
       let two = count_two tag views i id v (pass tag held) t.0 t.1 at in
       let most = r.apart tag in
@@ -129,20 +121,9 @@ try_kept size words views id tag f held low r at true is =
     let mine = (r.tied id (pass tag held) at).0 in
     let wide = r.wide in
     let tag_low = mine.0 in
-    let m : Moves words f (tag + 1) tag = record {
-      inside = omega arith;
-      before = λ t _ e. omega arith;
-      after = λ t ne e. ne (omega arith);
-    } in
+    let m : Moves words f (tag + 1) tag = search arith in
     kept_after size words views id tag f (tag + 1) held (f ∷ held) r at m (omega arith)
-    (λ j. dite (ℕ_discrete j f)
-    (λ e. ap (λ k. eqb (slice_index (set words f (tag + 1)) k) (tag + 1)) e
-    ∙ ap (λ n. eqb n (tag + 1)) (get_or-set_same words f (tag + 1) 0 m.inside)
-    ∙ eq-eqb (tag + 1) (tag + 1) refl
-    ∙ sym (ap (λ b. b || has held j) (eq-eqb f j (sym e))))
-    (λ n. ap (λ k. eqb k (tag + 1)) (get_or-set_other words f j (tag + 1) 0 n)
-    ∙ mine.1 j
-    ∙ sym (ap (λ b. b || has held j) (ne_eqb f j (λ e. n (sym e))))))
+    (search (arith, get_or-set_same, eq-eqb, get_or-set_other, ne_eqb))
 try_kept size words views id tag f held low r at false is =
     still size words views id f (pass tag held) r at
 
@@ -163,19 +144,9 @@ return_kept size words views id tag f held low r at true is =
     let own : slice_index words f ≡ tag + 1 = eqb-true _ _ is in
     let mine = (r.tied id (pass tag held) at).0 in
     let wide = r.wide in
-    let m : Moves words f 0 tag = record {
-      inside = omega arith;
-      before = λ t ne e. ne (omega arith);
-      after = λ t _ e. omega arith;
-    } in
+    let m : Moves words f 0 tag = search arith in
     kept_after size words views id tag f 0 held (without held f) r at m (omega arith)
-    (λ j. dite (ℕ_discrete j f)
-    (λ e. ap (λ k. eqb (slice_index (set words f 0) k) (tag + 1)) e
-    ∙ ap (λ n. eqb n (tag + 1)) (get_or-set_same words f 0 0 m.inside)
-    ∙ ne_eqb 0 (tag + 1) (λ z. omega arith)
-    ∙ sym (ap (has (without held f)) e ∙ has_not_without held f))
-    (λ n. ap (λ k. eqb k (tag + 1)) (get_or-set_other words f j 0 0 n)
-    ∙ mine.1 j ∙ sym (has_without held f j n)))
+    (search (arith, get_or-set_same, ne_eqb, has_not_without, get_or-set_other, has_without))
 return_kept size words views id tag f held low r at false is =
     still size words views id f (pass tag held) r at
 

@@ -1,6 +1,6 @@
 -- Views that are cut, joined and compared.
 use Rattle.std.proofs.Common.{◌≡◌, ◌≢◌, ℕ, zero, suc, ◌+◌, ◌<◌, ◌≤◌, eqb, List, [], ◌∷◌, ◌++◌}
-use Rattle.std.proofs.Common.{length, set, refl, sym, ap, ◌∙◌, subst, ⊎_elim, arith, eq-eqb, ne_eqb}
+use Rattle.std.proofs.Common.{length, set, refl, sym, ap, ◌∙◌, subst, arith, eq-eqb, ne_eqb}
 use Rattle.std.{proofs.Common.{eqb-true, replicate}, specs.Prelude.slice_index}
 use Rattle.std.proofs.lemmas.List.{length-replicate}
 use mathlib.Core.Option.{some, none, some-ne-none, some-injective}
@@ -11,10 +11,10 @@ use Rattle.atomic_table.specs.Table.{Me, Allows, Splits, Joins, step, opening, k
 use Rattle.atomic_table.proofs.Lists.{at_set, at_snoc}
 use Rattle.vb_model.specs.Tests.{one_if}
 use Rattle.vb_shared.specs.Steps.{Apart, met, no_view, first_of, rest_of, new_holdings}
-use Rattle.vb_shared.{specs.declared.rule.Holding.Holding, specs.declared.rule.View.View}
-use Rattle.vb_shared.{specs.declared.rule.Size.Size, specs.Steps.opening_view, proofs.Lists.zeros}
 use Rattle.vb_shared.specs.Rule.{view_of, count, count_all, AllTied, IsKept, Kept, pass, FrameRule}
 use Rattle.vb_shared.proofs.Keeps.{count_set, count_at, count_two, one_tag, not_tag, still}
+use Rattle.vb_shared.{specs.declared.rule.Holding.Holding, specs.declared.rule.View.View}
+use Rattle.vb_shared.{specs.declared.rule.Size.Size, specs.Steps.opening_view, proofs.Lists.zeros}
 
 count_snoc : (tag : ℕ) (views : List View) (v : View)
     → count_all tag (views ++ v ∷ []) ≡ count_all tag views + count tag v.holdings
@@ -71,24 +71,13 @@ pub joins : (size : Size) (id : ℕ) (v : View) (other : ℕ) (w : View)
     → Joins (Kept size) id v other w (view_of (v.holdings ++ w.holdings)) no_view
 joins size id v other w s r at ne there =
     let both : View = view_of (v.holdings ++ w.holdings) in
-    let before : get_elem? s.views other ≡ some w = ⊎_elim
-    (λ (t : (other ≡ id) × (both ≡ w)). absurd (ne t.0))
-    (λ (t : (other ≢ id) × (get_elem? s.views other ≡ some w)). t.1)
-    (at_set s.views id other both w there) in
+    let before : get_elem? s.views other ≡ some w = search (arith, at_set) in
     let joined = tied_append size.guests s.words v.holdings w.holdings (r.tied id v at)
     (r.tied other w before) in
     record {
       wide = r.wide;
       small = r.small;
-      tied = λ i u e. ⊎_elim
-          (λ (t : (i ≡ other) × (no_view ≡ u)).
-          subst (λ (y : View). AllTied size.guests s.words y.holdings) t.1 tt)
-          (λ (t : (i ≢ other) × (get_elem? (set s.views id both) i ≡ some u)). ⊎_elim
-          (λ (p : (i ≡ id) × (both ≡ u)).
-          subst (λ (y : View). AllTied size.guests s.words y.holdings) p.1 joined)
-          (λ (p : (i ≢ id) × (get_elem? s.views i ≡ some u)). r.tied i u p.1)
-          (at_set s.views id i both u t.1))
-          (at_set (set s.views id both) other i no_view u e);
+      tied = search (arith, at_set);
       apart = λ tag.
           let a = count_set tag s.views id v both at in
           let b = count_set tag (set s.views id both) other w no_view there in
@@ -145,9 +134,7 @@ new_none tag first (suc n) low =
 new_once : (tag first n : ℕ) → count tag (new_holdings first n) ≤ 1
 new_once tag first zero = omega arith
 new_once tag first (suc n) = dite (ℕ_discrete first tag)
-    (λ e. let one : one_if (eqb first tag) ≡ 1 = ap one_if (eq-eqb first tag e) in
-    let rest = new_none tag (suc first) n (omega arith) in
-    omega arith)
+    (search (arith, eq-eqb, new_none))
     (λ ne. let other : one_if (eqb first tag) ≡ 0 = ap one_if (ne_eqb first tag ne) in
     let rest = new_once tag (suc first) n in
     omega arith)
@@ -178,9 +165,7 @@ pub in_words : (size : Size) (words : List ℕ) (views : List View) → IsKept s
     → FrameRule size words views
 in_words size words views r = record {
   tags = differ;
-  holder = λ i t f held at.
-      let tied = (r.tied i (pass t held) at).0.1 f in
-      ((λ e. sym tied ∙ eq-eqb (slice_index words f) (t + 1) e), (λ e. eqb-true _ _ (tied ∙ e)));
+  holder = search (arith, eq-eqb, eqb-true);
   guests = r.small;
   frames = λ i j t u f held other ne at there mine.
       let here : slice_index words f ≡ t + 1

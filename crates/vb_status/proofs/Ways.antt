@@ -97,10 +97,7 @@ follows p w h e =
     elim (following (may_follow (number p) w) (eqb w (number p)) (eqb w (number (next p)))
     (eqb w (number p + 128)) e (below 256 (follows_rightly p) (all_follow p) w h)) [
       | inl same ↦ inl (eqb-true w (number p) same)
-      | inr other ↦ elim other [
-        | inl on ↦ inr (inl (eqb-true w (number (next p)) on))
-        | inr gone ↦ inr (inr (eqb-true w (number p + 128) gone))
-      ]
+      | inr other ↦ search (arith, eqb-true)
     ]
 
 fails : (p : Stage) (w : ℕ) → w < 256 → w ≢ 0 → may_follow (number p + 128) w ≡ true
@@ -139,9 +136,7 @@ may_write a w s at ne h =
 never_ready : (p : Stage) (requests : List StatusRequest) (a last : Agreement)
     → a.status ≡ number p + 128 → Leads a requests last → AreSteps requests → last.status ≡ 15 → ⊥
 never_ready p [] a last at h steps e =
-    let there : last.status ≡ number p + 128 =
-    subst (λ (x : Agreement). x.status ≡ number p + 128) h at in
-    omega arith
+    search arith
 never_ready p (Write w ∷ requests) a last at h steps e =
     let same = fails p w steps.1 steps.0 (may_write a w (number p + 128) at steps.0 h.0) in
     never_ready p requests (after_request a (Write w)) last
