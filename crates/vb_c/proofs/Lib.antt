@@ -8,3 +8,4 @@ mod OverFacts
 mod SavingFacts
 mod PhaseFacts
 mod RefusalFacts
+mod HandingFacts

@@ -68,7 +68,7 @@ pub(crate) fn perform<M: LiveMemory>(
             0
         }
         Phase::TellsPages { named, .. } => {
-            memory.tell_pages(kind, first_runs(runs, named.runs as usize));
+            memory.tell_pages(kind, first_runs(runs, named.runs as usize), named);
             0
         }
         Phase::TellsFigures { count, .. } => {
