@@ -216,7 +216,6 @@ fn serve_request<R: Abort>(memory: &mut Scribbled<R>, kind: Kind, chains: u32) -
         &mut [0; MAX_BYTES],
         &mut [Run::NONE; MAX_RUNS],
         &mut [NO_FIGURE; MAX_FIGURES],
-        100,
     )
 }
 
