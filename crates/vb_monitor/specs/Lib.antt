@@ -18,3 +18,4 @@ pub mod Asking
 pub mod PartsOfRuns
 pub mod Large
 pub mod Usual
+pub mod Still
