@@ -8,3 +8,5 @@ mod OverFacts
 mod SavingFacts
 mod PhaseFacts
 mod RefusalFacts
+mod RegisterFacts
+mod HandingFacts

@@ -4,7 +4,8 @@ use Rattle.std.proofs.Common.{List, [], ◌++◌, map, take, Option, Some, None}
 use Rattle.std.{specs.Prelude.{◌==◌, nat_le, if◌then◌else◌}, proofs.lemmas.Bool.Decides.nat_tests}
 use Rattle.vb_monitor.specs.declared.step.Phase.TheVariants.{AwaitsIndex, AwaitsEntry}
 use Rattle.vb_monitor.specs.declared.step.Phase.TheVariants.{AwaitsDescriptor, AwaitsPart, Discards}
-use Rattle.vb_monitor.specs.Machine.{Fits, waits, AheadAt, Awaited, whole, room_of, outcome_at}
+use Rattle.vb_monitor.specs.Machine.{Fits, stage, AheadAt, Awaited, whole, room_of}
+use Rattle.vb_monitor.specs.Machine.{outcome_at}
 use Rattle.vb_monitor.specs.declared.step.Phase.TheVariants.{AwaitsFlags, Ended}
 use Rattle.vb_monitor.specs.declared.orders.Told.TheVariants.{Nothing}
 use Rattle.vb_monitor.{specs.declared.orders.TheConstants.MAX_CUTS, specs.declared.step.Phase.Phase}
@@ -20,6 +21,7 @@ use Rattle.vb_c.{specs.Codes.{kind_of_code, why_of}, specs.Notices.what_of}
 use Rattle.vb_c.specs.Serving.{held_by, room_in, HandsOver, Begins, GoesOnBy}
 use Rattle.vb_core.specs.declared.runs.Run.{Run}
 use Rattle.vb_monitor.{specs.declared.cuts.Cut.Cut, specs.Machine.Room}
+use Rattle.vb_monitor.proofs.OrderLemmas.{stage_waits}
 
 -- the phase of this number
 abbrev phase_at : ℕ → VbNotice → Option Phase
@@ -77,12 +79,15 @@ nothing = record { told = Nothing; gives = false }
 no_cuts : (n : ℕ) → n ≡ 0 → n ≤ MAX_CUTS
 no_cuts n e = omega (arith, e)
 
+no_part_left : (q : Phase) → stage q ≡ 3 → stage q ≡ 1 → ⊥
+no_part_left q e f = let x : 3 ≡ 1 = sym e ∙ f in omega (arith, x)
+
 -- where nothing is done before the notice waits, and nothing changes but what it says, and the room
 pub goes_usual : (kind : Kind) (p q : Phase) (s t : Tally) (regions : List Region) (answer : ℕ)
     (b : Balloon) (r1 r2 : VbRoom) (c1 c2 : VbNotice) →
     kind_of_code c1.kind ≡ Some kind → phase_of c1 ≡ Some p → tally_of c1 ≡ s →
     kind_of_code c2.kind ≡ Some kind → phase_of c2 ≡ Some q → tally_of c2 ≡ t →
-    Says c2 t q → c2.what ≡ answer_bits q → c2.orders.cuts ≡ 0 → waits q ≡ true → Fits q →
+    Says c2 t q → c2.what ≡ answer_bits q → c2.orders.cuts ≡ 0 → stage q ≡ 3 → Fits q →
     held_by (outcome_at q t) kind b ≡ b.held →
     ((after : Device) (outcome : Outcome) (before : List ℕ) (done rest : List Access) →
     Awaited p kind answer before (room_in r1) done →
@@ -90,8 +95,8 @@ pub goes_usual : (kind : Kind) (p q : Phase) (s t : Tally) (regions : List Regio
     AheadAt p (whole regions kind after outcome) s b.device
     (room_of r1.pieces before r1.runs r1.figures) (done ++ rest)) →
     GoesOnBy (notice_of c1) regions answer b b r1 r2 c2
-goes_usual kind p q s t regions answer b r1 r2 c1 c2 k1 e1 f1 k2 e2 f2 says what none w fits over
-    step =
+goes_usual kind p q s t regions answer b r1 r2 c1 c2 k1 e1 f1 k2 e2 f2 says what none late fits
+    over step =
     let n : Notice = record { kind = kind; step = record { tally = s; phase = p } } in
     let m : Notice = record { kind = kind; step = record { tally = t; phase = q } } in
     subst (λ (o : Option Notice). GoesOnBy o regions answer b b r1 r2 c2)
@@ -114,7 +119,8 @@ goes_usual kind p q s t regions answer b r1 r2 c1 c2 k1 e1 f1 k2 e2 f2 says what
             (room_of pieces bytes r2.runs figures) (map Discard (take k r2.cuts) ++ rest))
             (sym none) h;
         room = record { runs = λ e. cc; figures = λ e. cc; cuts = no_cuts c2.orders.cuts none };
-        waits_now = w;
+        waits_now = stage_waits q late;
+        fills = record { full = λ e. absurd (no_part_left q late e) };
         fits = fits;
         held = sym over;
       };

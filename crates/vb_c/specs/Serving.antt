@@ -18,8 +18,9 @@ use Rattle.vb_monitor.specs.declared.notice.Notice.{Notice}
 use Rattle.vb_monitor.specs.Accesses.{Access}
 use Rattle.vb_monitor.specs.Balloons.{may_look, held_after}
 use Rattle.vb_monitor.specs.Notices.{Serves, AsksStatistics}
-use Rattle.vb_monitor.specs.Machine.{Fits, waits, Room, Ahead, Awaited, whole, room_of, outcome_at}
-use Rattle.vb_monitor.specs.Orders.{at_once, HasRoom}
+use Rattle.vb_monitor.specs.Machine.{Fits, waits, Room, Ahead, Awaited, whole, room_of}
+use Rattle.vb_monitor.specs.Machine.{outcome_at}
+use Rattle.vb_monitor.specs.Orders.{at_once, HasRoom, FillsList}
 use Rattle.vb_c.specs.declared.notice.VbNotice.{VbNotice}
 use Rattle.vb_c.specs.declared.notice.VbRoom.{VbRoom}
 use Rattle.vb_c.specs.Codes.{code_of}
@@ -43,7 +44,8 @@ pub record Refuses (code : ℕ) (b1 b2 : Balloon) (r1 r2 : VbRoom) (c : VbNotice
   pub room : r2 ≡ r1
 
 -- A notice is handed over, with all that is done before it waits: behind that, whatever may still
--- come then, all that could come may come.
+-- come then, all that could come may come. Parts are left to discard only where the list of those
+-- that are discarded now is full.
 pub record HandsOver (n : Notice) (regions : List Region) (runs : List Run) (b1 b2 : Balloon)
     (cuts : List Cut) (c : VbNotice) : Type 0 where
   pub asked : Asked
@@ -59,6 +61,7 @@ pub record HandsOver (n : Notice) (regions : List Region) (runs : List Run) (b1 
       (at_once asked n.kind c.orders cuts runs figures rest)
   pub room : HasRoom asked c.orders
   pub waits_now : waits notice.step.phase ≡ true
+  pub fills : FillsList notice.step.phase c.orders
   pub fits : Fits notice.step.phase
   pub held : b2.held ≡ held_then notice b1
 

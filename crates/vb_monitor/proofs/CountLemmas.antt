@@ -96,8 +96,9 @@ cuts_few m (cut ∷ cuts) rest h =
     let few = cuts_few m cuts rest h in omega (arith, few)
 
 tells : (m : ℕ) (w : Whole) (next : Then) (on : After m next) (d : Device) (t : Tally) (head : ℕ)
-    (runs : List Run) (log : List Access) → TellsThen w next d t head runs log → Few (5 + m) log
-tells m w next on d t head runs log h =
+    (runs : List Run) (named : Named) (log : List Access) →
+    TellsThen w next d t head runs named log → Few (5 + m) log
+tells m w next on d t head runs named log h =
     let few : others h.rest ≤ 4 + m =
     asked (4 + m) h.rest _ h.discards.asks (cuts_few (4 + m) (cuts_for w.kind (keeps_reports d) w.regions runs)
     h.discards.rest (gives m w next on d t head h.discards.rest h.discards.gives_back)) in
@@ -107,7 +108,7 @@ names : (m : ℕ) (w : Whole) (next : Then) (on : After m next) (d : Device) (t 
     (runs : List Run) (answer : Result Named Denial) (log : List Access) →
     AfterName w next d t head runs answer log → Few (5 + m) log
 names m w next on d t head runs (Err why) log h = ends (5 + m) w d t _ false log (omega arith) h
-names m w next on d t head runs (Ok named) log h = tells m w next on d _ head _ log h
+names m w next on d t head runs (Ok named) log h = tells m w next on d _ head _ named log h
 
 figures : (m : ℕ) (w : Whole) (d : Device) (t : Tally) (head : ℕ) (bytes : List ℕ)
     (denial : Option Denial) (log : List Access) → FiguresBy denial w d t head bytes log →

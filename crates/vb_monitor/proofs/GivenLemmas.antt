@@ -26,8 +26,8 @@ pub record Allows (w : Whole) (may : Option Access → Access → Type 0) : Type
   pub acquire : (at : Spot) (answer : ℕ) → may (Some (ReadWord at answer)) Acquire
   pub release : (at : Spot) (n : ℕ) → may (Some (WriteNumber at n)) Release
   pub full : (b : Option Access) → may b Full
-  pub pages : (b : Option Access) (runs : List Run) → is_copied b ≡ true →
-      may b (TellPages w.kind runs)
+  pub pages : (b : Option Access) (runs : List Run) (named : Named) → is_copied b ≡ true →
+      may b (TellPages w.kind runs named)
   pub figures : (b : Option Access) (figures : List Statistic) → is_copied b ≡ true →
       may b (TellFigures figures)
   pub discards : (runs : List Run) → Cuts may (cuts_of w.regions runs)
@@ -133,7 +133,7 @@ cuts_row may (cut ∷ cuts) b rest then_row told is =
 -- what was told or discarded may be given back
 is_named_so : (b : Option Access) → is_told b ≡ true → is_named b ≡ true
 is_named_so None h = absurd cc
-is_named_so (Some (TellPages kind runs)) h = refl
+is_named_so (Some (TellPages kind runs named)) h = refl
 is_named_so (Some (Discard cut)) h = refl
 is_named_so (Some (ReadWord at answer)) h = absurd cc
 is_named_so (Some (CopyBytes at answer)) h = absurd cc
@@ -145,13 +145,13 @@ is_named_so (Some (WriteNumber at n)) h = absurd cc
 is_named_so (Some (WriteWord at n)) h = absurd cc
 
 tells_row : (w : Whole) (may : Option Access → Access → Type 0) (allows : Allows w may) (next : Then) (on : After may next) (d : Device) (t : Tally) (head : ℕ)
-    (runs : List Run) (b : Option Access) (log : List Access) → is_copied b ≡ true →
-    TellsThen w next d t head runs log → Row may b log
-tells_row w may allows next on d t head runs b log copied h =
+    (runs : List Run) (named : Named) (b : Option Access) (log : List Access) →
+    is_copied b ≡ true → TellsThen w next d t head runs named log → Row may b log
+tells_row w may allows next on d t head runs named b log copied h =
     subst (λ (l : List Access). Row may b l) (sym h.asks) (
-      allows.pages b runs copied,
-      subst (λ (l : List Access). Row may (Some (TellPages w.kind runs)) l) (sym h.discards.asks)
-          (cuts_row may (cuts_for w.kind (keeps_reports d) w.regions runs) (Some (TellPages w.kind runs)) h.discards.rest
+      allows.pages b runs named copied,
+      subst (λ (l : List Access). Row may (Some (TellPages w.kind runs named)) l) (sym h.discards.asks)
+          (cuts_row may (cuts_for w.kind (keeps_reports d) w.regions runs) (Some (TellPages w.kind runs named)) h.discards.rest
           (λ b2 told. gives_row w may allows next on d t head b2 h.discards.rest (is_named_so b2 told)
           h.discards.gives_back) refl (cuts_for_row w may allows w.kind (keeps_reports d) runs)),
     )
@@ -162,4 +162,4 @@ pub name_row : (w : Whole) (may : Option Access → Access → Type 0) (allows :
 name_row w may allows next on d t head runs (Err why) b log copied h =
     ends_row w may allows d t _ false b log h
 name_row w may allows next on d t head runs (Ok named) b log copied h =
-    tells_row w may allows next on d _ head _ b log copied h
+    tells_row w may allows next on d _ head _ named b log copied h

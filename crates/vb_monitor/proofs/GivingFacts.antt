@@ -1,6 +1,7 @@
 -- How a chain is given back, and what comes before, worked out, and what isn't done.
 use Rattle.std.proofs.Common.{◌≡◌, refl, ap, arith, ℕ, true, false, List, [], ◌∷◌, map, Some, None, Ok, Err}
 use Rattle.vb_core.specs.declared.kinds.Kind.{Kind}
+use Rattle.vb_core.specs.declared.name.Named.{Named}
 use Rattle.vb_core.specs.declared.kinds.Kind.TheVariants.{Inflate, Deflate, Statistics, Report}
 use Rattle.vb_core.specs.declared.device.Denial.TheVariants.{BadArgument}
 use Rattle.vb_core.specs.Rings.{used_entry}
@@ -11,7 +12,7 @@ use Rattle.vb_monitor.specs.declared.outcome.Outcome.{Outcome}
 use Rattle.vb_monitor.specs.Accesses.{Access, Acquire, Release, TellPages, Discard, WriteNumber, WriteWord}
 use Rattle.vb_monitor.specs.Ends.{Whole}
 use Rattle.vb_monitor.specs.Giving.{Then, used_spots, used_accesses, WritesUsed, with_given, after_use, GivesBack, cuts_for, DiscardsThen, TellsThen, spent, AfterName}
-use Rattle.vb_monitor.proofs.Samples.{Same, two, at, ring, ready, tally, page_5, over_the_hole, cut_5, cut_20, cut_22, pages, discard, id, used_length, used_index, index}
+use Rattle.vb_monitor.proofs.Samples.{Same, two, at, ring, ready, tally, page_5, over_the_hole, cut_5, cut_20, cut_22, one_page, pages, discard, id, used_length, used_index, index}
 
 -- ---- the used element
 
@@ -95,7 +96,7 @@ gives_back : GivesBack whole last ready tally 3 (id ∷ used_length ∷ Release 
 unfolding lib.Count.ones
 gives_back = record { rest = []; asks = refl; goes_on = (refl, (refl, refl)) }
 
-told_discarded_given : TellsThen whole last ready tally 3 (page_5 ∷ [])
+told_discarded_given : TellsThen whole last ready tally 3 (page_5 ∷ []) one_page
     (pages ∷ discard ∷ id ∷ used_length ∷ Release ∷ used_index ∷ [])
 unfolding lib.Count.ones
 told_discarded_given = record {
@@ -165,15 +166,32 @@ exchanged : Cuts (cut_20 ∷ cut_5 ∷ []) (Discard cut_5 ∷ Discard cut_20 ∷
 exchanged h = let e : Same 0x5000 0x14000 = ap cut_at h.asks in omega arith
 
 -- pages that aren't told, or only once they were discarded
-untold : TellsThen whole last ready tally 3 (page_5 ∷ []) (discard ∷ id ∷ used_length ∷ Release ∷ used_index ∷ []) → ⊥
+untold : TellsThen whole last ready tally 3 (page_5 ∷ []) one_page (discard ∷ id ∷ used_length ∷ Release ∷ used_index ∷ []) → ⊥
 untold h = let e = h.asks in absurd cc
 
-told_behind : TellsThen whole last ready tally 3 (page_5 ∷ [])
+told_behind : TellsThen whole last ready tally 3 (page_5 ∷ []) one_page
     (discard ∷ pages ∷ id ∷ used_length ∷ Release ∷ used_index ∷ []) → ⊥
 told_behind h = let e = h.asks in absurd cc
 
-told_as_a_deflate : TellsThen whole last ready tally 3 (page_5 ∷ []) (TellPages Deflate (page_5 ∷ []) ∷ []) → ⊥
+told_as_a_deflate : TellsThen whole last ready tally 3 (page_5 ∷ []) one_page (TellPages Deflate (page_5 ∷ []) one_page ∷ []) → ⊥
 told_as_a_deflate h = let e = h.asks in absurd cc
+
+-- other counts than those that are named
+abbrev skipped_in : List Access → ℕ
+skipped_in (TellPages kind runs named ∷ xs) = named.skipped
+skipped_in xs = 0
+
+abbrev pages_in : List Access → ℕ
+pages_in (TellPages kind runs named ∷ xs) = named.pages
+pages_in xs = 0
+
+one_skipped : TellsThen whole last ready tally 3 (page_5 ∷ []) one_page
+    (TellPages Inflate (page_5 ∷ []) (record one_page { skipped = 1 }) ∷ []) → ⊥
+one_skipped h = let e : Same 1 0 = ap skipped_in h.asks in omega arith
+
+two_pages : TellsThen whole last ready tally 3 (page_5 ∷ []) one_page
+    (TellPages Inflate (page_5 ∷ []) (record one_page { pages = 2 }) ∷ []) → ⊥
+two_pages h = let e : Same 2 1 = ap pages_in h.asks in omega arith
 
 -- ---- what was named
 
@@ -188,8 +206,11 @@ refused_and_told : AfterName whole last ready tally 3 (page_5 ∷ []) (Err BadAr
 refused_and_told h = let e = h.nothing in absurd cc
 
 -- the first runs alone count, and the pages are taken off the budget
+abbrev two_skipped : Named
+two_skipped = record one_page { skipped = 2 }
+
 first_run : AfterName whole (λ d t log. (t ≡ with_given (spent 1 tally)) × (log ≡ [])) ready tally 3 (page_5 ∷ over_the_hole ∷ [])
-    (Ok (record { runs = 1; pages = 1; skipped = 2 })) (pages ∷ discard ∷ id ∷ used_length ∷ Release ∷ used_index ∷ [])
+    (Ok two_skipped) (TellPages Inflate (page_5 ∷ []) two_skipped ∷ discard ∷ id ∷ used_length ∷ Release ∷ used_index ∷ [])
 unfolding lib.Count.ones
 first_run = record {
   rest = discard ∷ id ∷ used_length ∷ Release ∷ used_index ∷ [];

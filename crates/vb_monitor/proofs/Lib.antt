@@ -42,3 +42,8 @@ mod LargeFacts
 mod WholeReportFacts
 mod UsualFacts
 pub mod RoomLemmas
+pub mod StillBytes
+pub mod StillWalk
+pub mod StillParts
+pub mod StillLaws
+mod StillFacts

@@ -17,7 +17,7 @@ use Rattle.vb_monitor.specs.declared.step.Phase.TheVariants.{AwaitsIndex, Awaits
 use Rattle.vb_monitor.specs.declared.step.Phase.TheVariants.{TellsPages, TellsFigures, Discards, GivesBack, AwaitsFlags, Ended}
 use Rattle.vb_monitor.specs.Accesses.{Access, Adds, ReadWord, CopyBytes, Acquire, Release, Full, TellPages, TellFigures}
 use Rattle.vb_monitor.specs.Machine.{Room, room_of, behind_part, cuts_behind, is_ended, stage, waits, outcome_at, Fits, Does, Goes}
-use Rattle.vb_monitor.proofs.Samples.{Same, two, at, tally, ring, page_5, over_the_hole, cut_5, cut_20, cut_22, last_descriptor, number, index, entry, discard, id, used_length, used_index, flags}
+use Rattle.vb_monitor.proofs.Samples.{Same, two, at, tally, ring, page_5, one_page, over_the_hole, cut_5, cut_20, cut_22, last_descriptor, number, index, entry, discard, id, used_length, used_index, flags}
 
 -- ---- the phases
 
@@ -139,7 +139,7 @@ reads_the_flags : Does (AwaitsFlags (at 0x100) None false) Inflate 0 [] (room []
 reads_the_flags = refl
 
 -- the first of two runs alone is told, of the notice's kind
-tells_one : Does (TellsPages 3 named) Deflate 0 [] (room []) (TellPages Deflate (page_5 ∷ []) ∷ [])
+tells_one : Does (TellsPages 3 named) Deflate 0 [] (room []) (TellPages Deflate (page_5 ∷ []) one_page ∷ [])
 tells_one = refl
 
 tells_a_figure : Does (TellsFigures 3 1) Inflate 0 [] (room []) (TellFigures (record { tag = 1; value = 2 } ∷ []) ∷ [])
@@ -195,14 +195,22 @@ index_before_its_element : Does (GivesBack spots (used_entry ring 3)) Inflate 0 
     (used_index ∷ id ∷ used_length ∷ Release ∷ []) → ⊥
 index_before_its_element h = absurd cc
 
-told_of_another_kind : Does (TellsPages 3 named) Inflate 0 [] (room []) (TellPages Deflate (page_5 ∷ []) ∷ []) → ⊥
+told_of_another_kind : Does (TellsPages 3 named) Inflate 0 [] (room []) (TellPages Deflate (page_5 ∷ []) one_page ∷ []) → ⊥
 told_of_another_kind h = absurd cc
 
+abbrev counted : List Access → ℕ
+counted (TellPages kind runs named ∷ xs) = named.pages
+counted xs = 0
+
+more_counted : Does (TellsPages 3 named) Inflate 0 [] (room [])
+    (TellPages Inflate (page_5 ∷ []) (record one_page { pages = 2 }) ∷ []) → ⊥
+more_counted h = let e : Same 2 1 = ap counted h in omega arith
+
 abbrev told : List Access → ℕ
-told (TellPages kind runs ∷ xs) = length runs
+told (TellPages kind runs named ∷ xs) = length runs
 told xs = 0
 
-both_told : Does (TellsPages 3 named) Inflate 0 [] (room []) (TellPages Inflate (page_5 ∷ over_the_hole ∷ []) ∷ []) → ⊥
+both_told : Does (TellsPages 3 named) Inflate 0 [] (room []) (TellPages Inflate (page_5 ∷ over_the_hole ∷ []) one_page ∷ []) → ⊥
 both_told h = let e : Same 2 1 = ap told h in omega arith
 
 something_once_ended : Does (Ended None true false) Inflate 0 [] (room []) (discard ∷ []) → ⊥

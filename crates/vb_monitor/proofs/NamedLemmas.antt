@@ -1,6 +1,6 @@
 -- What is told of pages and figures, where something is told.
 use Rattle.std.proofs.Common.{◌≡◌, ◌∙◌, ap, sym, subst, refl, ℕ, Bool, true, false, List, [], ◌∷◌}
-use Rattle.std.proofs.Common.{length, map, take, Option, Some, None, Result, Ok, Err}
+use Rattle.std.proofs.Common.{◌+◌, length, map, take, Option, Some, None, Result, Ok, Err}
 use Rattle.vb_chain.{specs.declared.pieces.Piece.Piece, specs.declared.fault.ChainFault.ChainFault}
 use Rattle.vb_request.{specs.Request.numbers_of, specs.Report.report_request}
 use Rattle.vb_core.specs.declared.kinds.Kind.TheVariants.{Inflate, Deflate, Statistics, Report}
@@ -60,16 +60,23 @@ pieces_avail pieces room runs d d2 result h =
 
 abbrev pub Numbers : Kind → List ℕ → List Run → Device → Device → Named → Type 0
 Numbers kind bytes runs d d2 named =
-    TellNumbers d.settings bytes (take named.runs runs) × (d2 ≡ with_one_taken kind d)
+    TellNumbers d.settings bytes (take named.runs runs) named × (d2 ≡ with_one_taken kind d)
 
 sound_by : (bytes : List ℕ) (runs : List Run) (d : Device) (named : Named)
     (fault : Option ChainFault) →
     fault_in (skips d.settings) d.settings.reserved_pages (memory_pages d.settings)
     (numbers_of bytes) ≡ fault →
     NamesRuns (skips d.settings) d.settings.reserved_pages (memory_pages d.settings)
-    (numbers_of bytes) runs (Ok named) → TellNumbers d.settings bytes (take named.runs runs)
+    (numbers_of bytes) runs (Ok named) → TellNumbers d.settings bytes (take named.runs runs) named
 sound_by bytes runs d named (Some fault) e h = let x = h.fault fault e in absurd cc
-sound_by bytes runs d named None e h = record { sound = e; tell = (h.named e).told_so }
+sound_by bytes runs d named None e h =
+    let are = h.named e in
+    record {
+      sound = e;
+      tell = are.told_so;
+      pages = are.count;
+      skipped = ap (λ (n : ℕ). named.skipped + n) are.count ∙ are.others;
+    }
 
 answered : (kind : Kind) (bytes : List ℕ) (runs : List Run) (d d2 : Device) (named : Named)
     (answer : Result Named ChainFault) →
@@ -79,7 +86,7 @@ answered : (kind : Kind) (bytes : List ℕ) (runs : List Run) (d d2 : Device) (n
 answered kind bytes runs d d2 named (Err fault) h e after = absurd cc
 answered kind bytes runs d d2 named (Ok other) h e after =
     let same : other ≡ named = cc in (
-      subst (λ (n : Named). TellNumbers d.settings bytes (take n.runs runs)) same
+      subst (λ (n : Named). TellNumbers d.settings bytes (take n.runs runs) n) same
           (sound_by bytes runs d other _ refl h),
       after,
     )
@@ -107,7 +114,7 @@ no_report bytes room runs d d2 named h = let x = (h.denied NoQueue refl).0 in ab
 
 abbrev pub Pieces : List Piece → List Run → Device → Device → Named → Type 0
 Pieces pieces runs d d2 named =
-    TellPieces d.settings pieces (take named.runs runs) × (d2 ≡ with_one_taken Report d)
+    TellPieces d.settings pieces (take named.runs runs) named × (d2 ≡ with_one_taken Report d)
 
 pieces_answered : (pieces : List Piece) (room : ℕ) (runs : List Run) (d d2 : Device)
     (named : Named) (request : Result (List ℕ) ChainFault) →
@@ -119,9 +126,11 @@ pieces_answered pieces room runs d d2 named (Err fault) is e after are = absurd 
 pieces_answered pieces room runs d d2 named (Ok pages) is e after are =
     let so_many : named.runs ≡ length pieces = cc in (
       record {
-        pages = pages;
+        free = pages;
         sound = is;
         are = ap (λ (n : ℕ). take n runs) so_many ∙ are;
+        pages = cc;
+        skipped = cc;
       },
       after,
     )

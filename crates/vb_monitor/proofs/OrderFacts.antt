@@ -9,7 +9,7 @@ use Rattle.vb_monitor.{specs.declared.orders.Asked.Asked, specs.declared.orders.
 use Rattle.vb_monitor.{specs.declared.step.Phase.Phase, specs.Machine.{Awaited, Room, stage, waits}}
 use Rattle.vb_monitor.specs.declared.step.Phase.TheVariants.{AwaitsIndex, Discards}
 use Rattle.vb_monitor.specs.Accesses.{WriteNumber, WriteWord, Release}
-use Rattle.vb_monitor.specs.Orders.{at_once, HasRoom}
+use Rattle.vb_monitor.specs.Orders.{at_once, HasRoom, FillsList}
 
 abbrev spot : ℕ → Spot
 spot n = record { region = 0; offset = n }
@@ -22,7 +22,7 @@ runs = record { first = 1; count = 1 } ∷ record { first = 3; count = 1 } ∷ [
 
 abbrev orders : Orders
 orders = record {
-  named = record { runs = 1; pages = 1; skipped = 0 };
+  named = record { runs = 1; pages = 1; skipped = 3 };
   figures = 1;
   cuts = 2;
   used = record {
@@ -44,7 +44,8 @@ read = ReadWord (spot 2) 1 ∷ []
 
 -- pages are told, two parts are discarded, and a chain is given back; then the index is read
 all_of_them : at_once (record { told = Pages; gives = true }) Inflate orders cuts runs figures read ≡
-    TellPages Inflate (record { first = 1; count = 1 } ∷ []) ∷ Discard (cut 4096) ∷ Discard (cut 8192)
+    TellPages Inflate (record { first = 1; count = 1 } ∷ []) (record { runs = 1; pages = 1; skipped = 3 })
+    ∷ Discard (cut 4096) ∷ Discard (cut 8192)
     ∷ WriteNumber (spot 8) 5 ∷ WriteNumber (spot 12) 0 ∷ Release ∷ WriteWord (spot 2) 7
     ∷ ReadWord (spot 2) 1 ∷ []
 all_of_them = refl
@@ -118,3 +119,14 @@ one_figure_more h = let few : 103 ≤ 102 = h.figures refl in omega (arith, few)
 
 one_part_more : HasRoom by_figures (record orders { cuts = 33 }) → ⊥
 one_part_more h = let few : 33 ≤ 32 = h.cuts in omega (arith, few)
+
+-- ---- none is left while there is room
+
+a_full_list : FillsList discards (record orders { cuts = 32 })
+a_full_list = record { full = λ e. refl }
+
+left_with_room : FillsList discards (record orders { cuts = 31 }) → ⊥
+left_with_room h = let e : 31 ≡ 32 = h.full refl in omega (arith, e)
+
+none_is_left : FillsList (AwaitsIndex (spot 2)) (record orders { cuts = 0 })
+none_is_left = record { full = λ e. absurd (grind arith) }

@@ -50,7 +50,7 @@ bytes_row w may allows Report next on d t head bytes b log copied h =
 is_read_so : (b : Option Access) → is_copied b ≡ true → is_read b ≡ true
 is_read_so None h = absurd cc
 is_read_so (Some (CopyBytes at answer)) h = refl
-is_read_so (Some (TellPages kind runs)) h = absurd cc
+is_read_so (Some (TellPages kind runs named)) h = absurd cc
 is_read_so (Some (Discard cut)) h = absurd cc
 is_read_so (Some (ReadWord at answer)) h = absurd cc
 is_read_so (Some Acquire) h = absurd cc

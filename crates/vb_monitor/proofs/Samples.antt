@@ -2,8 +2,8 @@
 use Rattle.std.proofs.Common.{◌≡◌, ℕ, false, List, [], ◌∷◌, None}
 use Rattle.vb_chain.specs.declared.pieces.Piece.{Piece}
 use Rattle.vb_core.{specs.declared.kinds.Kind.TheVariants.Inflate, specs.declared.runs.Run.Run}
-use Rattle.vb_core.specs.declared.ring.Virtqueue.{Virtqueue}
-use Rattle.vb_core.specs.declared.settings.Settings.{Settings}
+use Rattle.vb_core.{specs.declared.ring.Virtqueue.Virtqueue, specs.declared.name.Named.Named}
+use Rattle.vb_core.{specs.declared.settings.Settings.Settings}
 use Rattle.vb_core.{specs.declared.device.Device.Device, specs.Devices.{new_device, placed}}
 use Rattle.vb_monitor.specs.Accesses.{Access, ReadWord, CopyBytes, TellPages, TellFigures, Discard}
 use Rattle.vb_monitor.{specs.declared.regions.Region.Region, specs.declared.regions.Spot.Spot}
@@ -103,8 +103,12 @@ number = 5 ∷ 0 ∷ 0 ∷ 0 ∷ []
 abbrev pub part : Access
 part = CopyBytes (at 0x400) number
 
+-- one run of one page is named, and nothing skipped
+abbrev pub one_page : Named
+one_page = record { runs = 1; pages = 1; skipped = 0 }
+
 abbrev pub pages : Access
-pages = TellPages Inflate (page_5 ∷ [])
+pages = TellPages Inflate (page_5 ∷ []) one_page
 
 abbrev pub figures : Access
 figures = TellFigures []

@@ -5,7 +5,7 @@ use Rattle.vb_monitor.specs.declared.cuts.Cut.{Cut}
 use Rattle.vb_monitor.specs.declared.parts.Part.{Part}
 use Rattle.vb_monitor.specs.Accesses.{Access, CopyBytes, Acquire, Release, Full, TellPages}
 use Rattle.vb_monitor.specs.SoFar.{Each, Known, Unknown, Walks, Has, parts_read, with_copied, is_fenced, known, ring_after, left}
-use Rattle.vb_monitor.proofs.Samples.{two, ring, page_5, over_the_hole, cut_5, cut_20, cut_22, piece, first_descriptor, last_descriptor, number, index, entry, descriptor, part, pages, figures, discard, id, used_length, used_index, flags}
+use Rattle.vb_monitor.proofs.Samples.{two, ring, page_5, one_page, over_the_hole, cut_5, cut_20, cut_22, piece, first_descriptor, last_descriptor, number, index, entry, descriptor, part, pages, figures, discard, id, used_length, used_index, flags}
 
 -- ---- what is known of a chain
 
@@ -134,7 +134,7 @@ abbrev left_of : List Access → List Cut
 left_of log = left false two log
 
 abbrev hole_told : Access
-hole_told = TellPages Inflate (over_the_hole ∷ page_5 ∷ [])
+hole_told = TellPages Inflate (over_the_hole ∷ page_5 ∷ []) one_page
 
 all_left : left_of (hole_told ∷ whole) ≡ cut_20 ∷ cut_22 ∷ cut_5 ∷ []
 all_left = refl
@@ -149,13 +149,13 @@ no_more_than_none : left_of (discard ∷ pages ∷ discard ∷ discard ∷ []) �
 no_more_than_none = refl
 
 -- none of a deflate's, all of a report's, and none before any was told
-left_of_a_deflate : left_of (TellPages Deflate (page_5 ∷ []) ∷ whole) ≡ []
+left_of_a_deflate : left_of (TellPages Deflate (page_5 ∷ []) one_page ∷ whole) ≡ []
 left_of_a_deflate = refl
 
-left_of_a_report : left_of (TellPages Report (page_5 ∷ []) ∷ whole) ≡ cut_5 ∷ []
+left_of_a_report : left_of (TellPages Report (page_5 ∷ []) one_page ∷ whole) ≡ cut_5 ∷ []
 left_of_a_report = refl
 
-left_of_a_kept_report : left true two (TellPages Report (page_5 ∷ []) ∷ whole) ≡ []
+left_of_a_kept_report : left true two (TellPages Report (page_5 ∷ []) one_page ∷ whole) ≡ []
 left_of_a_kept_report = refl
 
 left_at_first : left_of whole ≡ []

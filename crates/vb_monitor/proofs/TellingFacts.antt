@@ -1,10 +1,14 @@
 -- What is told, discarded and written in its turn, worked out. Of a list the last access stands first.
-use Rattle.std.proofs.Common.{◌≡◌, ◌∙◌, ◌<◌, refl, ap, arith, ℕ, zero, suc, Bool, true, false, List, [], ◌∷◌, map, length, take, Option, Some, None}
+use Rattle.std.proofs.Common.{◌≡◌, ◌∙◌, ◌<◌, refl, ap, arith, ℕ, zero, suc, Bool, true, false, List, [], ◌∷◌, map, length, take, Option, Some, None, Result, Ok, Err, sym}
 use Rattle.std.specs.Prelude.{slice_index_or}
 use Rattle.vb_chain.specs.declared.pieces.Piece.{Piece}
+use Rattle.vb_chain.specs.declared.fault.ChainFault.{ChainFault}
 use Rattle.vb_request.specs.Request.{numbers_of}
+use Rattle.vb_request.specs.Report.{report_request}
 use Rattle.vb_core.specs.declared.kinds.Kind.TheVariants.{Inflate, Deflate, Statistics, Report}
 use Rattle.vb_core.specs.declared.runs.Run.{Run}
+use Rattle.vb_core.specs.declared.name.Named.{Named}
+use Rattle.vb_core.specs.declared.settings.Settings.{Settings}
 use Rattle.vb_core.specs.declared.statistics.Statistic.{Statistic}
 use Rattle.vb_core.specs.Runs.{Tell}
 use Rattle.vb_core.specs.Statistics.{figure_at}
@@ -14,7 +18,7 @@ use Rattle.vb_monitor.specs.declared.cuts.Cut.{Cut}
 use Rattle.vb_monitor.specs.Accesses.{Access, Acquire, Release, TellPages, Discard, WriteNumber, WriteWord}
 use Rattle.vb_monitor.specs.SoFar.{Unknown, Walks, Has}
 use Rattle.vb_monitor.specs.Turns.{TellNumbers, TellPieces, TellsOf, FiguresOf, TellsInTurn, ends_in_number, WritesUsedAlone}
-use Rattle.vb_monitor.proofs.Samples.{Same, two, at, settings, ready, page_5, cut_5, cut_20, cut_22, over_the_hole, piece, number, index, entry, descriptor, part, pages, figures, discard, id, used_length, used_index}
+use Rattle.vb_monitor.proofs.Samples.{Same, two, at, settings, ready, page_5, cut_5, cut_20, cut_22, over_the_hole, piece, one_page, number, index, entry, descriptor, part, pages, figures, discard, id, used_length, used_index}
 
 abbrev taken : List Access
 taken = entry ∷ Acquire ∷ index ∷ []
@@ -27,66 +31,111 @@ read = part ∷ descriptor ∷ taken
 abbrev tells_5 : Tell (page_5 ∷ []) (5 ∷ [])
 tells_5 = (5 ∷ [], ([], (record { whole = refl; grows = (5, ([], (refl, refl))) }, (tt, refl))))
 
-named : TellNumbers settings number (page_5 ∷ [])
+named : TellNumbers settings number (page_5 ∷ []) one_page
 unfolding numbers_of
-named = record { sound = refl; tell = tells_5 }
+named = record { sound = refl; tell = tells_5; pages = refl; skipped = refl }
+
+abbrev pages_or : List ℕ → Result (List ℕ) ChainFault → List ℕ
+pages_or ns (Ok pages) = pages
+pages_or ns (Err fault) = ns
 
 abbrev first_of : List Run → ℕ
 first_of [] = 0
 first_of (r ∷ rs) = r.first
 
-another_page : TellNumbers settings number (record page_5 { first = 6 } ∷ []) → ⊥
+another_page : TellNumbers settings number (record page_5 { first = 6 } ∷ []) one_page → ⊥
 unfolding numbers_of
 another_page h =
     let e : Same 5 6 = ap first_of (told_once (page_5 ∷ []) (record page_5 { first = 6 } ∷ []) (5 ∷ []) tells_5 h.tell) in
     omega arith
 
 -- of memory of 32 pages none of a request with a page past it, where such pages aren't skipped
-past_memory : (runs : List Run) → TellNumbers settings (40 ∷ 0 ∷ 0 ∷ 0 ∷ []) runs → ⊥
+past_memory : (runs : List Run) (named : Named) → TellNumbers settings (40 ∷ 0 ∷ 0 ∷ 0 ∷ []) runs named → ⊥
 unfolding numbers_of
-past_memory runs h = let e = h.sound in absurd cc
+past_memory runs named h = let e = h.sound in absurd cc
 
-none_of_those_skipped : TellNumbers (record settings { skips_bad_pages = 1 }) (40 ∷ 0 ∷ 0 ∷ 0 ∷ 5 ∷ 0 ∷ 0 ∷ 0 ∷ []) (page_5 ∷ [])
+abbrev skipping : Settings
+skipping = record settings { skips_bad_pages = 1 }
+
+-- page 40 is skipped, and page 5 is named
+abbrev one_skipped : List ℕ
+one_skipped = 40 ∷ 0 ∷ 0 ∷ 0 ∷ 5 ∷ 0 ∷ 0 ∷ 0 ∷ []
+
+none_of_those_skipped : TellNumbers skipping one_skipped (page_5 ∷ []) (record one_page { skipped = 1 })
 unfolding numbers_of
-none_of_those_skipped = record { sound = refl; tell = tells_5 }
+none_of_those_skipped = record { sound = refl; tell = tells_5; pages = refl; skipped = refl }
+
+-- each number is named or skipped, and none is both
+not_skipped : TellNumbers skipping one_skipped (page_5 ∷ []) one_page → ⊥
+unfolding numbers_of
+not_skipped h = let e : Same 1 2 = h.skipped in omega arith
+
+both_named : TellNumbers skipping one_skipped (page_5 ∷ []) (record one_page { pages = 2 }) → ⊥
+unfolding numbers_of
+both_named h = let e : Same 2 1 = h.pages in omega arith
+
+both_skipped : TellNumbers skipping one_skipped (page_5 ∷ []) (record { runs = 1; pages = 0; skipped = 2 }) → ⊥
+unfolding numbers_of
+both_skipped h = let e : Same 0 1 = h.pages in omega arith
 
 -- ---- the pages that pieces are
 
 abbrev page_2 : Piece
 page_2 = record { addr = 0x2000; len = 0x1000; writable = true }
 
-reported : TellPieces settings (page_2 ∷ []) (record { first = 2; count = 1 } ∷ [])
-reported = record { pages = 2 ∷ []; sound = refl; are = refl }
+reported : TellPieces settings (page_2 ∷ []) (record { first = 2; count = 1 } ∷ []) one_page
+reported = record { free = 2 ∷ []; sound = refl; are = refl; pages = refl; skipped = refl }
 
-another_run : TellPieces settings (page_2 ∷ []) (record { first = 3; count = 1 } ∷ []) → ⊥
+another_run : TellPieces settings (page_2 ∷ []) (record { first = 3; count = 1 } ∷ []) one_page → ⊥
 another_run h = let e : Same 3 2 = ap first_of h.are in omega arith
 
+-- two pages in one run count as two, and no page of a report is skipped
+abbrev pages_2_and_3 : Piece
+pages_2_and_3 = record { addr = 0x2000; len = 0x2000; writable = true }
+
+two_reported : TellPieces settings (pages_2_and_3 ∷ []) (record { first = 2; count = 2 } ∷ [])
+    (record one_page { pages = 2 })
+two_reported = record { free = 2 ∷ 3 ∷ []; sound = refl; are = refl; pages = refl; skipped = refl }
+
+one_of_two : TellPieces settings (pages_2_and_3 ∷ []) (record { first = 2; count = 2 } ∷ []) one_page → ⊥
+one_of_two h =
+    let e : report_request (pages_2_and_3 ∷ []) settings.reserved_pages ≡ Ok (2 ∷ 3 ∷ []) = refl in
+    let same : h.free ≡ 2 ∷ 3 ∷ [] = ap (pages_or []) (sym h.sound ∙ e) in
+    let so_many : length h.free ≡ 2 = ap (λ (ns : List ℕ). length ns) same in
+    let one : 1 ≡ length h.free = h.pages in
+    omega (arith, so_many, one)
+
+reported_and_skipped : TellPieces settings (page_2 ∷ []) (record { first = 2; count = 1 } ∷ [])
+    (record one_page { skipped = 1 }) → ⊥
+reported_and_skipped h = let e : Same 1 0 = h.skipped in omega arith
+
 -- what is no report is told by no runs
-to_read : (runs : List Run) → TellPieces settings (record page_2 { writable = false } ∷ []) runs → ⊥
-to_read runs h = let e = h.sound in absurd cc
+to_read : (runs : List Run) (named : Named) → TellPieces settings (record page_2 { writable = false } ∷ []) runs named → ⊥
+to_read runs named h = let e = h.sound in absurd cc
 
 -- ---- which chain's
 
 -- only once all of it was read, and by its kind
-unread : TellsOf Inflate settings (Walks 3 3 []) (page_5 ∷ []) → ⊥
+unread : TellsOf Inflate settings (Walks 3 3 []) (page_5 ∷ []) one_page → ⊥
 unread h = absurd h
 
-no_chain : TellsOf Inflate settings Unknown (page_5 ∷ []) → ⊥
+no_chain : TellsOf Inflate settings Unknown (page_5 ∷ []) one_page → ⊥
 no_chain h = absurd h
 
-half_read : TellsOf Inflate settings (Has 3 (piece ∷ []) (record { address = 0x400; plus = 0; length = 4 } ∷ []) number) (page_5 ∷ []) → ⊥
+half_read : TellsOf Inflate settings (Has 3 (piece ∷ []) (record { address = 0x400; plus = 0; length = 4 } ∷ []) number) (page_5 ∷ []) one_page → ⊥
 half_read h = absurd h
 
-of_an_inflate : TellsOf Inflate settings (Has 3 (piece ∷ []) [] number) (page_5 ∷ [])
+of_an_inflate : TellsOf Inflate settings (Has 3 (piece ∷ []) [] number) (page_5 ∷ []) one_page
 of_an_inflate = named
 
-of_a_deflate : TellsOf Deflate settings (Has 3 (piece ∷ []) [] number) (page_5 ∷ [])
+of_a_deflate : TellsOf Deflate settings (Has 3 (piece ∷ []) [] number) (page_5 ∷ []) one_page
 of_a_deflate = named
 
 of_a_report : TellsOf Report settings (Has 3 (page_2 ∷ []) [] []) (record { first = 2; count = 1 } ∷ [])
+    one_page
 of_a_report = reported
 
-of_statistics : TellsOf Statistics settings (Has 3 (piece ∷ []) [] number) (page_5 ∷ []) → ⊥
+of_statistics : TellsOf Statistics settings (Has 3 (piece ∷ []) [] number) (page_5 ∷ []) one_page → ⊥
 of_statistics h = absurd h
 
 -- ---- figures
@@ -136,6 +185,11 @@ figures_unread h = absurd h
 pages_told : TellsInTurn two Inflate ready read pages
 pages_told = (refl, named)
 
+-- with other counts than those of the bytes
+one_too_many : TellsInTurn two Inflate ready read (TellPages Inflate (page_5 ∷ []) (record one_page { pages = 2 })) → ⊥
+unfolding numbers_of
+one_too_many h = let e : Same 2 1 = h.1.pages in omega arith
+
 of_another_kind : TellsInTurn two Deflate ready read pages → ⊥
 of_another_kind h = let e = h.0 in absurd cc
 
@@ -144,7 +198,7 @@ figures_of_an_inflate h = let e = h.0 in absurd cc
 
 -- the parts in their order, each once, and none of another page
 abbrev hole_told : List Access
-hole_told = TellPages Inflate (over_the_hole ∷ []) ∷ read
+hole_told = TellPages Inflate (over_the_hole ∷ []) one_page ∷ read
 
 first_discarded : TellsInTurn two Inflate ready hole_told (Discard cut_20)
 first_discarded = refl
@@ -164,7 +218,7 @@ discarded_twice h = let e : Same 0x14000 0 = ap place_of h in omega arith
 discarded_once_more : TellsInTurn two Inflate ready (discard ∷ pages ∷ read) discard → ⊥
 discarded_once_more h = absurd h
 
-discarded_of_a_deflate : TellsInTurn two Deflate ready (TellPages Deflate (page_5 ∷ []) ∷ read) discard → ⊥
+discarded_of_a_deflate : TellsInTurn two Deflate ready (TellPages Deflate (page_5 ∷ []) one_page ∷ read) discard → ⊥
 discarded_of_a_deflate h = absurd h
 
 discarded_untold : TellsInTurn two Inflate ready read discard → ⊥
@@ -180,7 +234,7 @@ all_discarded = refl
 one_left : TellsInTurn two Inflate ready (pages ∷ read) id → ⊥
 one_left h = absurd cc
 
-none_to_discard : TellsInTurn two Deflate ready (TellPages Deflate (page_5 ∷ []) ∷ read) id
+none_to_discard : TellsInTurn two Deflate ready (TellPages Deflate (page_5 ∷ []) one_page ∷ read) id
 none_to_discard = refl
 
 -- ---- what is written

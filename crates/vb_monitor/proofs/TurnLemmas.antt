@@ -286,19 +286,19 @@ discards_each w d0 d head pieces bytes (cut ∷ cuts) b rest then_each is read l
 -- pages that may be told are told, discarded, and their chain is given back
 pub tells_each : (w : Whole) (d0 : Device) (next : Then) (on : After w d0 next) (d : Device)
     (t : Tally) (head : ℕ) (pieces : List Piece) (bytes : List ℕ) (runs : List Run)
-    (b log : List Access) → Agrees w d0 b d → Read w head pieces bytes b →
-    TellNamed w.kind d.settings pieces bytes runs →
-    TellsThen w next (with_one_taken w.kind d) t head runs log → Each (Comes w d0) b log
-tells_each w d0 next on d t head pieces bytes runs b log is read named h =
-    let b1 = TellPages w.kind runs ∷ b in
+    (named : Named) (b log : List Access) → Agrees w d0 b d → Read w head pieces bytes b →
+    TellNamed w.kind d.settings pieces bytes runs named →
+    TellsThen w next (with_one_taken w.kind d) t head runs named log → Each (Comes w d0) b log
+tells_each w d0 next on d t head pieces bytes runs named b log is read right h =
+    let b1 = TellPages w.kind runs named ∷ b in
     subst (λ (l : List Access). Each (Comes w d0) b l) (sym h.asks) (
       (
         tt,
         (
           (
             refl,
-            subst (λ (k : Known). TellsOf w.kind d0.settings k runs) (sym read)
-                (subst (λ (s : Settings). TellNamed w.kind s pieces bytes runs) is.settings named),
+            subst (λ (k : Known). TellsOf w.kind d0.settings k runs named) (sym read)
+                (subst (λ (s : Settings). TellNamed w.kind s pieces bytes runs named) is.settings right),
           ),
           tt,
         ),

@@ -38,7 +38,7 @@ abbrev Right : Whole → Device → Device → List Piece → List ℕ → List 
     Type 0
 Right w d d2 pieces bytes runs answer =
     (named : Named) → answer ≡ Ok named →
-    TellNamed w.kind d.settings pieces bytes (take named.runs runs)
+    TellNamed w.kind d.settings pieces bytes (take named.runs runs) named
     × (d2 ≡ with_one_taken w.kind d)
 
 names_each : (w : Whole) (d0 : Device) (next : Then) (on : After w d0 next) (d d2 : Device)
@@ -50,9 +50,10 @@ names_each w d0 next on d d2 t head pieces bytes runs (Err why) b log is read fl
     ends_each w d0 d2 t _ false b log flags h
 names_each w d0 next on d d2 t head pieces bytes runs (Ok named) b log is read flags right h =
     let x = right named refl in
-    tells_each w d0 next on d (spent named.pages t) head pieces bytes (take named.runs runs) b log
-    is read x.0
-    (subst (λ (y : Device). TellsThen w next y (spent named.pages t) head (take named.runs runs) log)
+    tells_each w d0 next on d (spent named.pages t) head pieces bytes (take named.runs runs) named b
+    log is read x.0
+    (subst (λ (y : Device). TellsThen w next y (spent named.pages t) head (take named.runs runs)
+    named log)
     x.1 h)
 
 -- figures that are told
@@ -89,12 +90,12 @@ figures_each w d0 d t head pieces bytes None b log e is read h =
 
 right_of : (w : Whole) (d : Device) (pieces : List Piece) (bytes : List ℕ) (runs : List Run)
     (d2 : Device) (kind : Kind) (named : Named) → w.kind ≡ kind →
-    TellNamed kind d.settings pieces bytes (take named.runs runs) →
+    TellNamed kind d.settings pieces bytes (take named.runs runs) named →
     (d2 ≡ with_one_taken w.kind d) →
-    TellNamed w.kind d.settings pieces bytes (take named.runs runs)
+    TellNamed w.kind d.settings pieces bytes (take named.runs runs) named
     × (d2 ≡ with_one_taken w.kind d)
 right_of w d pieces bytes runs d2 kind named e x y =
-    (subst (λ (k : Kind). TellNamed k d.settings pieces bytes (take named.runs runs)) (sym e) x, y)
+    (subst (λ (k : Kind). TellNamed k d.settings pieces bytes (take named.runs runs) named) (sym e) x, y)
 
 names_flags : (w : Whole) (d0 : Device) (b : List Access) (d d2 : Device) → Agrees w d0 b d →
     (ring_of w.kind d2).avail ≡ (ring_of w.kind d).avail → Flags w d0 b d2
@@ -103,8 +104,8 @@ names_flags w d0 b d d2 is e = (e ∙ (flags_of w d0 b d is).0, is.lasts)
 numbers_right : (w : Whole) (kind : Kind) (d d2 : Device) (pieces : List Piece) (bytes : List ℕ)
     (room : ℕ) (runs : List Run) (answer : Result Named Denial) → w.kind ≡ kind →
     NamesBy w.kind bytes room runs d d2 answer →
-    ((named : Named) → TellNumbers d.settings bytes (take named.runs runs) →
-    answer ≡ Ok named → TellNamed kind d.settings pieces bytes (take named.runs runs)) →
+    ((named : Named) → TellNumbers d.settings bytes (take named.runs runs) named →
+    answer ≡ Ok named → TellNamed kind d.settings pieces bytes (take named.runs runs) named) →
     Right w d d2 pieces bytes runs answer
 numbers_right w kind d d2 pieces bytes room runs answer e h so named is =
     let x = named_numbers w.kind bytes room runs d d2 named
@@ -115,8 +116,8 @@ bytes_named : (w : Whole) (d0 : Device) (kind : Kind) (e : w.kind ≡ kind) (nex
     (on : After w d0 next) (d : Device) (t : Tally) (head : ℕ) (pieces : List Piece)
     (bytes : List ℕ) (b log : List Access) → Agrees w d0 b d → Read w head pieces bytes b →
     (h : NamesBytes w next d t head bytes log) →
-    ((named : Named) → TellNumbers d.settings bytes (take named.runs h.runs) →
-    h.answer ≡ Ok named → TellNamed kind d.settings pieces bytes (take named.runs h.runs)) →
+    ((named : Named) → TellNumbers d.settings bytes (take named.runs h.runs) named →
+    h.answer ≡ Ok named → TellNamed kind d.settings pieces bytes (take named.runs h.runs) named) →
     Each (Comes w d0) b log
 bytes_named w d0 kind e next on d t head pieces bytes b log is read h so =
     names_each w d0 next on d h.device t head pieces bytes h.runs h.answer b log is read

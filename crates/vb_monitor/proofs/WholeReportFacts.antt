@@ -1,10 +1,10 @@
 -- A whole notice of a report, worked out: page 5 is free. It is told and discarded, or told and kept.
 use Rattle.std.proofs.Common.{refl, ℕ, true, false, List, [], ◌∷◌, None, Ok}
 use Rattle.vb_chain.specs.declared.pieces.Piece.{Piece}
-use Rattle.vb_core.{specs.declared.kinds.Kind.TheVariants.Report, specs.declared.name.Named.Named}
+use Rattle.vb_core.specs.declared.kinds.Kind.TheVariants.{Report}
 use Rattle.vb_core.{specs.declared.device.Device.Device, specs.Devices.with_one_taken}
 use Rattle.vb_core.specs.Report.{NamesPiecesBy}
-use Rattle.vb_monitor.proofs.Samples.{two, at, settings, ready, page_5, index, entry, part, discard}
+use Rattle.vb_monitor.proofs.Samples.{two, at, settings, ready, page_5, one_page, index, entry, part, discard}
 use Rattle.vb_monitor.specs.Accesses.{Access, CopyBytes, Acquire, Release, Full, TellPages}
 use Rattle.vb_monitor.{proofs.Samples.{id, used_length, used_index, flags}, specs.Giving.after_use}
 use Rattle.vb_monitor.{proofs.TurnLaws.{reads_in_turn, tells_in_turn}, specs.Notices.Serves}
@@ -24,7 +24,7 @@ abbrev descriptor : Access
 descriptor = CopyBytes (at 0x30) bytes
 
 abbrev told : Access
-told = TellPages Report (page_5 ∷ [])
+told = TellPages Report (page_5 ∷ []) one_page
 
 abbrev given : List Access
 given = id ∷ used_length ∷ Release ∷ used_index ∷ index ∷ Full ∷ flags ∷ []
@@ -43,12 +43,9 @@ outcome = record {
   more = false;
 }
 
-abbrev named : Named
-named = record { runs = 1; pages = 1; skipped = 0 }
-
 -- ---- one that is discarded
 
-names_it : NamesPiecesBy (free ∷ []) 256 (page_5 ∷ []) ready (taken ready) (Ok named)
+names_it : NamesPiecesBy (free ∷ []) 256 (page_5 ∷ []) ready (taken ready) (Ok one_page)
 unfolding lib.Count.ones
 names_it = record {
   denied = λ why e. absurd cc;
@@ -74,7 +71,7 @@ reported = record {
       asks = refl;
       long = refl;
       goes_on = record {
-        answer = Ok named;
+        answer = Ok one_page;
         runs = page_5 ∷ [];
         device = taken ready;
         names = names_it;
@@ -113,7 +110,7 @@ abbrev poisoned : Device
 poisoned =
     record ready { settings = record settings { offered = 0x100000037 }; features = 0x100000037; poison = 7 }
 
-names_it_too : NamesPiecesBy (free ∷ []) 256 (page_5 ∷ []) poisoned (taken poisoned) (Ok named)
+names_it_too : NamesPiecesBy (free ∷ []) 256 (page_5 ∷ []) poisoned (taken poisoned) (Ok one_page)
 unfolding lib.Count.ones
 names_it_too = record {
   denied = λ why e. absurd cc;
@@ -139,7 +136,7 @@ kept = record {
       asks = refl;
       long = refl;
       goes_on = record {
-        answer = Ok named;
+        answer = Ok one_page;
         runs = page_5 ∷ [];
         device = taken poisoned;
         names = names_it_too;

@@ -2,6 +2,7 @@
 use Rattle.std.specs.Prelude.{◌≡◌, ℕ, List, ◌++◌}
 use Rattle.vb_core.specs.declared.kinds.Kind.{Kind}
 use Rattle.vb_core.specs.declared.runs.Run.{Run}
+use Rattle.vb_core.specs.declared.name.Named.{Named}
 use Rattle.vb_core.specs.declared.statistics.Statistic.{Statistic}
 use Rattle.vb_monitor.specs.declared.regions.Spot.{Spot}
 use Rattle.vb_monitor.specs.declared.cuts.Cut.{Cut}
@@ -14,7 +15,7 @@ pub data Access : Type 0 where
   Acquire : Access
   Release : Access
   Full : Access
-  TellPages : (kind : Kind) (runs : List Run) → Access
+  TellPages : (kind : Kind) (runs : List Run) (named : Named) → Access
   TellFigures : (figures : List Statistic) → Access
   Discard : (cut : Cut) → Access
   WriteNumber : (at : Spot) (number : ℕ) → Access

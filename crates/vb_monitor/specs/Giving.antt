@@ -97,9 +97,9 @@ pub record DiscardsThen (w : Whole) (next : Then) (d : Device) (tally : Tally) (
 
 -- The pages are told, then discarded, if they may be.
 pub record TellsThen (w : Whole) (next : Then) (d : Device) (tally : Tally) (head : ℕ)
-    (runs : List Run) (log : List Access) : Type 0 where
+    (runs : List Run) (named : Named) (log : List Access) : Type 0 where
   pub rest : List Access
-  pub asks : log ≡ TellPages w.kind runs ∷ rest
+  pub asks : log ≡ TellPages w.kind runs named ∷ rest
   pub discards : DiscardsThen w next d tally head
       (cuts_for w.kind (keeps_reports d) w.regions runs) rest
 
@@ -112,4 +112,4 @@ abbrev pub AfterName : Whole → Then → Device → Tally → ℕ → List Run 
     List Access → Type 0
 AfterName w next d tally head runs (Err why) log = Ends w d tally (Some why) false log
 AfterName w next d tally head runs (Ok named) log =
-    TellsThen w next d (spent named.pages tally) head (take named.runs runs) log
+    TellsThen w next d (spent named.pages tally) head (take named.runs runs) named log

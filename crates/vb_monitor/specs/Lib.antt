@@ -20,3 +20,4 @@ pub mod Asking
 pub mod PartsOfRuns
 pub mod Large
 pub mod Usual
+pub mod Still

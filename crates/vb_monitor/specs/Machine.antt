@@ -169,7 +169,7 @@ AheadAt (AwaitsPart at place) w tally d room log =
     place.length
     (take place.into room.bytes) at log
 AheadAt (TellsPages head named) w tally d room log =
-    TellsThen w (next_chain w tally) d tally head (take named.runs room.runs) log
+    TellsThen w (next_chain w tally) d tally head (take named.runs room.runs) named log
 AheadAt (TellsFigures head count) w tally d room log =
     TellsThenEnds w d tally (take count room.figures) log
 AheadAt (Discards cut x) w tally d room log =
@@ -202,7 +202,7 @@ Does (AwaitsDescriptor at walk) kind answer before room done =
 Does (AwaitsPart at place) kind answer before room done =
     Copies at place.into place.length before room.bytes done
 Does (TellsPages head named) kind answer before room done =
-    done ≡ ToldPages kind (take named.runs room.runs) ∷ []
+    done ≡ ToldPages kind (take named.runs room.runs) named ∷ []
 Does (TellsFigures head count) kind answer before room done =
     done ≡ ToldFigures (take count room.figures) ∷ []
 Does (Discards cut x) kind answer before room done = done ≡ Discard cut ∷ []

@@ -19,7 +19,7 @@ is_copied (Some (ReadWord at answer)) = false
 is_copied (Some Acquire) = false
 is_copied (Some Release) = false
 is_copied (Some Full) = false
-is_copied (Some (TellPages kind runs)) = false
+is_copied (Some (TellPages kind runs named)) = false
 is_copied (Some (TellFigures figures)) = false
 is_copied (Some (Discard cut)) = false
 is_copied (Some (WriteNumber at number)) = false
@@ -33,7 +33,7 @@ is_word (Some (CopyBytes at answer)) = false
 is_word (Some Acquire) = false
 is_word (Some Release) = false
 is_word (Some Full) = false
-is_word (Some (TellPages kind runs)) = false
+is_word (Some (TellPages kind runs named)) = false
 is_word (Some (TellFigures figures)) = false
 is_word (Some (Discard cut)) = false
 is_word (Some (WriteNumber at number)) = false
@@ -47,7 +47,7 @@ is_read None = false
 is_read (Some Acquire) = false
 is_read (Some Release) = false
 is_read (Some Full) = false
-is_read (Some (TellPages kind runs)) = false
+is_read (Some (TellPages kind runs named)) = false
 is_read (Some (TellFigures figures)) = false
 is_read (Some (Discard cut)) = false
 is_read (Some (WriteNumber at number)) = false
@@ -55,7 +55,7 @@ is_read (Some (WriteWord at word)) = false
 
 -- Pages were told, or some of them discarded.
 abbrev pub is_told : Option Access → Bool
-is_told (Some (TellPages kind runs)) = true
+is_told (Some (TellPages kind runs named)) = true
 is_told (Some (Discard cut)) = true
 is_told None = false
 is_told (Some (ReadWord at answer)) = false
@@ -69,7 +69,7 @@ is_told (Some (WriteWord at word)) = false
 
 -- Pages were told, some of them discarded, or a number of a used element was written.
 abbrev pub is_named : Option Access → Bool
-is_named (Some (TellPages kind runs)) = true
+is_named (Some (TellPages kind runs named)) = true
 is_named (Some (Discard cut)) = true
 is_named (Some (WriteNumber at number)) = true
 is_named None = false
@@ -90,7 +90,7 @@ is_number (Some (CopyBytes at answer)) = false
 is_number (Some Acquire) = false
 is_number (Some Release) = false
 is_number (Some Full) = false
-is_number (Some (TellPages kind runs)) = false
+is_number (Some (TellPages kind runs named)) = false
 is_number (Some (TellFigures figures)) = false
 is_number (Some (Discard cut)) = false
 is_number (Some (WriteWord at word)) = false
@@ -113,7 +113,7 @@ MayFollow before (CopyBytes at answer) = is_read before ≡ true
 MayFollow before Acquire = is_word before ≡ true
 MayFollow before Release = is_number before ≡ true
 MayFollow before Full = Unit {0}
-MayFollow before (TellPages kind runs) = is_copied before ≡ true
+MayFollow before (TellPages kind runs named) = is_copied before ≡ true
 MayFollow before (TellFigures figures) = is_copied before ≡ true
 MayFollow before (Discard cut) = is_told before ≡ true
 MayFollow before (WriteNumber at number) = is_named before ≡ true

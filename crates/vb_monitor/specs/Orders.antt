@@ -3,6 +3,7 @@ use Rattle.std.specs.Prelude.{◌≡◌, ℕ, ◌≤◌, Bool, true, false, List
 use Rattle.std.specs.Prelude.{Option, Some, None}
 use Rattle.vb_core.specs.declared.kinds.Kind.{Kind}
 use Rattle.vb_core.specs.declared.runs.Run.{Run}
+use Rattle.vb_core.specs.declared.name.Named.{Named}
 use Rattle.vb_core.specs.declared.statistics.Statistic.{Statistic}
 use Rattle.vb_monitor.specs.declared.room.TheConstants.{MAX_RUNS, MAX_FIGURES}
 use Rattle.vb_monitor.specs.declared.orders.TheConstants.{MAX_CUTS}
@@ -16,7 +17,8 @@ use Rattle.vb_monitor.specs.declared.orders.Asked.{Asked}
 use Rattle.vb_monitor.specs.declared.orders.Orders.{Orders}
 use Rattle.vb_monitor.specs.Accesses.{Access, Release, TellPages, TellFigures, Discard, WriteNumber}
 use Rattle.vb_monitor.specs.Accesses.{WriteWord}
-use Rattle.vb_monitor.specs.Machine.{cuts_behind}
+use Rattle.vb_monitor.specs.declared.step.Phase.{Phase}
+use Rattle.vb_monitor.specs.Machine.{cuts_behind, stage}
 
 -- The part that is left, and all behind it.
 abbrev pub cuts_left : List Region → List Run → Option NextCut → List Cut
@@ -24,10 +26,11 @@ cuts_left regions runs None = []
 cuts_left regions runs (Some x) = x.cut ∷ cuts_behind x.from x.run regions runs
 
 -- What is told: the first runs, or the first figures.
-abbrev pub telling : Told → Kind → ℕ → ℕ → List Run → List Statistic → List Access
-telling Nothing kind some_runs some_figures runs figures = []
-telling Pages kind some_runs some_figures runs figures = TellPages kind (take some_runs runs) ∷ []
-telling Figures kind some_runs some_figures runs figures =
+abbrev pub telling : Told → Kind → Named → ℕ → List Run → List Statistic → List Access
+telling Nothing kind named some_figures runs figures = []
+telling Pages kind named some_figures runs figures =
+    TellPages kind (take named.runs runs) named ∷ []
+telling Figures kind named some_figures runs figures =
     TellFigures (take some_figures figures) ∷ []
 
 -- There are as many runs or figures as are told, and as many parts as are discarded: none of them
@@ -36,6 +39,10 @@ pub record HasRoom (a : Asked) (o : Orders) : Type 0 where
   pub runs : a.told ≡ Pages → o.named.runs ≤ MAX_RUNS
   pub figures : a.told ≡ Figures → o.figures ≤ MAX_FIGURES
   pub cuts : o.cuts ≤ MAX_CUTS
+
+-- Parts are left to discard only where the list of those that are discarded now is full.
+pub record FillsList (p : Phase) (o : Orders) : Type 0 where
+  pub full : stage p ≡ 1 → o.cuts ≡ MAX_CUTS
 
 -- A used element's id and length are written, and behind a fence its index.
 abbrev pub giving : Bool → Used → List Access
@@ -49,5 +56,5 @@ giving false u = []
 abbrev pub at_once : Asked → Kind → Orders → List Cut → List Run → List Statistic → List Access →
     List Access
 at_once a kind o cuts runs figures rest =
-    telling a.told kind o.named.runs o.figures runs figures
+    telling a.told kind o.named o.figures runs figures
     ++ (map Discard (take o.cuts cuts) ++ (giving a.gives o.used ++ rest))

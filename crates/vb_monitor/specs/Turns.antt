@@ -8,6 +8,7 @@ use Rattle.vb_request.specs.Report.{report_request}
 use Rattle.vb_core.specs.declared.kinds.Kind.{Kind}
 use Rattle.vb_core.specs.declared.kinds.Kind.TheVariants.{Inflate, Deflate, Statistics, Report}
 use Rattle.vb_core.specs.declared.runs.Run.{Run}
+use Rattle.vb_core.specs.declared.name.Named.{Named}
 use Rattle.vb_core.specs.declared.ring.Virtqueue.{Virtqueue}
 use Rattle.vb_core.specs.declared.ring.UsedEntry.{UsedEntry}
 use Rattle.vb_core.specs.declared.statistics.Statistic.{Statistic}
@@ -43,7 +44,7 @@ ReadsWord regions r (Full ∷ xs) at = spot regions r.avail 2 ≡ Some at
 ReadsWord regions r (ReadWord before answer ∷ xs) at = ⊥
 ReadsWord regions r (CopyBytes before answer ∷ xs) at = ⊥
 ReadsWord regions r (Release ∷ xs) at = ⊥
-ReadsWord regions r (TellPages kind runs ∷ xs) at = ⊥
+ReadsWord regions r (TellPages kind runs named ∷ xs) at = ⊥
 ReadsWord regions r (TellFigures figures ∷ xs) at = ⊥
 ReadsWord regions r (Discard cut ∷ xs) at = ⊥
 ReadsWord regions r (WriteNumber before number ∷ xs) at = ⊥
@@ -56,7 +57,7 @@ ends_in_full (ReadWord at answer ∷ xs) = false
 ends_in_full (CopyBytes at answer ∷ xs) = false
 ends_in_full (Acquire ∷ xs) = false
 ends_in_full (Release ∷ xs) = false
-ends_in_full (TellPages kind runs ∷ xs) = false
+ends_in_full (TellPages kind runs named ∷ xs) = false
 ends_in_full (TellFigures figures ∷ xs) = false
 ends_in_full (Discard cut ∷ xs) = false
 ends_in_full (WriteNumber at number ∷ xs) = false
@@ -70,7 +71,7 @@ is_over (CopyBytes at answer ∷ xs) = false
 is_over (Acquire ∷ xs) = false
 is_over (Release ∷ xs) = false
 is_over (Full ∷ xs) = false
-is_over (TellPages kind runs ∷ xs) = false
+is_over (TellPages kind runs named ∷ xs) = false
 is_over (TellFigures figures ∷ xs) = false
 is_over (Discard cut ∷ xs) = false
 is_over (WriteNumber at number ∷ xs) = false
@@ -103,7 +104,7 @@ ReadsInTurn regions kind d before Acquire =
     (known kind before ≡ Unknown) × (is_over before ≡ false)
 ReadsInTurn regions kind d before Release = Unit {0}
 ReadsInTurn regions kind d before Full = is_over before ≡ false
-ReadsInTurn regions kind d before (TellPages of runs) = Unit {0}
+ReadsInTurn regions kind d before (TellPages of runs named) = Unit {0}
 ReadsInTurn regions kind d before (TellFigures figures) = Unit {0}
 ReadsInTurn regions kind d before (Discard cut) = Unit {0}
 ReadsInTurn regions kind d before (WriteNumber at number) = Unit {0}
@@ -113,29 +114,37 @@ ReadsInTurn regions kind d before (WriteWord at word) = Unit {0}
 
 -- The runs tell the pages that the numbers in these bytes name: each that may be named, in their
 -- order; one that may not is skipped where the device skips such numbers, and else none is there.
-pub record TellNumbers (s : Settings) (bytes : List ℕ) (runs : List Run) : Type 0 where
-  pub sound : fault_in (skips s) s.reserved_pages (memory_pages s) (numbers_of bytes) ≡ None
-  pub tell : Tell runs (right_numbers s.reserved_pages (memory_pages s) (numbers_of bytes))
+-- So many are named, and each other number is skipped.
+pub record TellNumbers (s : Settings) (bytes : List ℕ) (runs : List Run) (named : Named) : Type 0
+  where
+    pub sound : fault_in (skips s) s.reserved_pages (memory_pages s) (numbers_of bytes) ≡ None
+    pub tell : Tell runs (right_numbers s.reserved_pages (memory_pages s) (numbers_of bytes))
+    pub pages : named.pages ≡
+        length (right_numbers s.reserved_pages (memory_pages s) (numbers_of bytes))
+    pub skipped : named.skipped + named.pages ≡ length (numbers_of bytes)
 
--- The runs are the pages of these pieces, which are a report.
-pub record TellPieces (s : Settings) (pieces : List Piece) (runs : List Run) : Type 0 where
-  pub pages : List ℕ
-  pub sound : report_request pieces s.reserved_pages ≡ Ok pages
+-- The runs are the pages of these pieces, which are a report: so many, and none is skipped.
+pub record TellPieces (s : Settings) (pieces : List Piece) (runs : List Run) (named : Named) :
+    Type 0 where
+  pub free : List ℕ
+  pub sound : report_request pieces s.reserved_pages ≡ Ok free
   pub are : runs ≡ map run_of pieces
+  pub pages : named.pages ≡ length free
+  pub skipped : named.skipped ≡ 0
 
-abbrev pub TellNamed : Kind → Settings → List Piece → List ℕ → List Run → Type 0
-TellNamed Inflate s pieces bytes runs = TellNumbers s bytes runs
-TellNamed Deflate s pieces bytes runs = TellNumbers s bytes runs
-TellNamed Statistics s pieces bytes runs = ⊥
-TellNamed Report s pieces bytes runs = TellPieces s pieces runs
+abbrev pub TellNamed : Kind → Settings → List Piece → List ℕ → List Run → Named → Type 0
+TellNamed Inflate s pieces bytes runs named = TellNumbers s bytes runs named
+TellNamed Deflate s pieces bytes runs named = TellNumbers s bytes runs named
+TellNamed Statistics s pieces bytes runs named = ⊥
+TellNamed Report s pieces bytes runs named = TellPieces s pieces runs named
 
 -- Pages are told once all of a chain was read: those that the bytes name that were copied since its
 -- entry was read, or the pieces of a report.
-abbrev pub TellsOf : Kind → Settings → Known → List Run → Type 0
-TellsOf kind s Unknown runs = ⊥
-TellsOf kind s (Walks head number pieces) runs = ⊥
-TellsOf kind s (Has head pieces [] bytes) runs = TellNamed kind s pieces bytes runs
-TellsOf kind s (Has head pieces (part ∷ parts) bytes) runs = ⊥
+abbrev pub TellsOf : Kind → Settings → Known → List Run → Named → Type 0
+TellsOf kind s Unknown runs named = ⊥
+TellsOf kind s (Walks head number pieces) runs named = ⊥
+TellsOf kind s (Has head pieces [] bytes) runs named = TellNamed kind s pieces bytes runs named
+TellsOf kind s (Has head pieces (part ∷ parts) bytes) runs named = ⊥
 
 -- The figures that stand in these bytes.
 pub record TellFiguresOf (bytes : List ℕ) (told : List Statistic) : Type 0 where
@@ -158,8 +167,8 @@ IsNext cut (next ∷ others) = cut ≡ next
 -- discarded that may be, in their order; all of them before an element is written. None is of a
 -- report whose pages are kept.
 abbrev pub TellsInTurn : List Region → Kind → Device → List Access → Access → Type 0
-TellsInTurn regions kind d before (TellPages of runs) =
-    (of ≡ kind) × TellsOf kind d.settings (known kind before) runs
+TellsInTurn regions kind d before (TellPages of runs named) =
+    (of ≡ kind) × TellsOf kind d.settings (known kind before) runs named
 TellsInTurn regions kind d before (TellFigures figures) =
     (kind ≡ Statistics) × FiguresOf (known kind before) figures
 TellsInTurn regions kind d before (Discard cut) =
@@ -184,7 +193,7 @@ ends_in_number (CopyBytes at answer ∷ xs) = false
 ends_in_number (Acquire ∷ xs) = false
 ends_in_number (Release ∷ xs) = false
 ends_in_number (Full ∷ xs) = false
-ends_in_number (TellPages kind runs ∷ xs) = false
+ends_in_number (TellPages kind runs named ∷ xs) = false
 ends_in_number (TellFigures figures ∷ xs) = false
 ends_in_number (Discard cut ∷ xs) = false
 ends_in_number (WriteWord at word ∷ xs) = false
@@ -225,6 +234,6 @@ WritesUsedAlone regions kind d before (CopyBytes at answer) = Unit {0}
 WritesUsedAlone regions kind d before Acquire = Unit {0}
 WritesUsedAlone regions kind d before Release = Unit {0}
 WritesUsedAlone regions kind d before Full = Unit {0}
-WritesUsedAlone regions kind d before (TellPages of runs) = Unit {0}
+WritesUsedAlone regions kind d before (TellPages of runs named) = Unit {0}
 WritesUsedAlone regions kind d before (TellFigures figures) = Unit {0}
 WritesUsedAlone regions kind d before (Discard cut) = Unit {0}

@@ -1,7 +1,8 @@
 //! The list of the parts that are discarded at once.
 
 ghost use Rattle.std.specs.Prelude.{◌≡◌, ◌+◌, ◌<◌, ◌≤◌, ◌++◌, ◌∷◌, List, drop, length, take};
-ghost use Rattle.std.specs.Prelude.{IfSome};
+ghost use Rattle.std.specs.Prelude.{IfSome, Some};
+ghost use Rattle.vb_monitor.specs.declared.cuts.NextCut.{NextCut};
 ghost use Rattle.vb_monitor.specs.declared.orders.TheConstants.{MAX_CUTS};
 ghost use Rattle.vb_monitor.specs.declared.regions.Region.{Region};
 ghost use Rattle.vb_monitor.specs.Regions.{cuts_of};
@@ -84,6 +85,7 @@ fn fill_on(
 ) -> Filled
     requires { count ≤ MAX_CUTS }
     ensures few { result.count ≤ MAX_CUTS }
+    ensures full { (x : NextCut) → result.left ≡ Some x → result.count ≡ MAX_CUTS }
     ensures parts { take count cuts.old ++ cuts_left regions.now runs.now first ≡
         take result.count cuts.new ++ cuts_left regions.now runs.now result.left }
 {
@@ -116,6 +118,7 @@ pub(crate) fn fill(
     cuts: &mut [Cut; MAX_CUTS],
 ) -> Filled
     ensures few { result.count ≤ MAX_CUTS }
+    ensures full { (x : NextCut) → result.left ≡ Some x → result.count ≡ MAX_CUTS }
     ensures parts { first.now.cut ∷ cuts_behind first.now.from first.now.run regions.now runs.now ≡
         take result.count cuts.new ++ cuts_left regions.now runs.now result.left }
 {

@@ -1,6 +1,7 @@
 //! What the accesses of a notice come to, whatever memory answers.
 
-ghost use Rattle.std.specs.Prelude.{◌≡◌, ℕ, ◌+◌, ◌*◌, ◌≤◌, ◌||◌, true, List, [], None, length};
+ghost use Rattle.std.specs.Prelude.{◌≡◌, ℕ, suc, ◌+◌, ◌*◌, ◌==◌, ◌≤◌, ◌||◌, true, false, List, []};
+ghost use Rattle.std.specs.Prelude.{None, length, Option, Result, Ok};
 ghost use Rattle.vb_core.specs.declared.kinds.Kind.{Kind};
 ghost use Rattle.vb_core.specs.declared.device.Device.{Device};
 ghost use Rattle.vb_monitor.specs.declared.regions.Region.{Region};
@@ -22,6 +23,20 @@ ghost use Rattle.vb_monitor.specs.Large.{LargeBy, Goes, AreWholePages, may_go, i
 ghost use Rattle.vb_monitor.specs.Large.{small_pages};
 ghost use Rattle.vb_core.specs.Ballooned.{is_ballooned};
 ghost use Rattle.vb_monitor.specs.Turns.{ReadsInTurn, TellsInTurn, WritesUsedAlone};
+ghost use Rattle.vb_core.specs.declared.next.ChainPiece.{ChainPiece};
+ghost use Rattle.vb_core.specs.declared.next.NextChain.{NextChain};
+ghost use Rattle.vb_core.specs.declared.device.Denial.{Denial};
+ghost use Rattle.vb_core.specs.Devices.{ring_of};
+ghost use Rattle.vb_core.specs.Next.{NextBy, is_read, length_of};
+ghost use Rattle.vb_chain.specs.declared.pieces.Piece.{Piece};
+ghost use Rattle.vb_monitor.specs.declared.outcome.Tally.{Tally};
+ghost use Rattle.vb_monitor.specs.declared.room.TheConstants.{MAX_BYTES};
+ghost use Rattle.vb_monitor.specs.Ends.{Whole};
+ghost use Rattle.vb_monitor.specs.Pieces.{all_parts};
+ghost use Rattle.vb_monitor.specs.Notices.{fresh, with_chains};
+ghost use Rattle.vb_monitor.specs.Machine.{whole, serves, served};
+ghost use Rattle.vb_monitor.specs.Still.{Stays, IsMapped, avail_copy, table_copy, DoesAs};
+ghost use Rattle.vb_monitor.specs.Still.{Behind, bytes_of, ArePartsMapped};
 
 /// A notice touches no byte outside its regions: each word and each copy that it reads, each number
 /// that it writes, and all that it discards lies within one of them.
@@ -132,4 +147,32 @@ pub fn large_pages_go_once_they_are_given_up()
         LargeBy size r part set answer → may_go size r part ≡ true → (n : ℕ) →
         Goes size r part set n → (p : ℕ) → is_of_large (small_pages size) n p ≡ true →
         is_of r answer.cut p ≡ true }
+{}
+
+/// Where memory stays as it is, a notice does what `vb_core`'s `next` answers to private copies of
+/// its queue: it refuses what that refuses, ends where nothing stands there, and breaks the rule
+/// that the copies break; or it serves the chain of that head, by just those pieces. So what may be
+/// said of copies holds of notices too.
+pub fn a_notice_does_what_is_answered_to_copies()
+    ensures { (byte : ℕ → ℕ) (regions : List Region) (kind : Kind) (budget : Budget) (n room : ℕ)
+        (d1 d2 d3 : Device) (outcome : Outcome) (log : List Access) (buffers : List ChainPiece)
+        (answer : Result (Option NextChain) Denial) → is_read kind ≡ true →
+        budget.chains ≡ suc n → (budget.pages == 0) ≡ false →
+        IsMapped regions (ring_of kind d1) → (ring_of kind d1).size ≤ room →
+        Stays byte regions log →
+        NextBy kind (avail_copy byte (ring_of kind d1)) (table_copy byte (ring_of kind d1)) room
+        buffers d1 d3 answer → Serves regions kind budget d1 d2 outcome log →
+        DoesAs answer buffers (whole regions kind d2 outcome) (with_chains n (fresh budget)) d3
+        log }
+{}
+
+/// Where memory stays as it is, a chain of pieces that lie in it is served by the bytes that they
+/// have there: what a request names, or a buffer of statistics tells, is what `vb_core`'s `name`
+/// and `statistics` say of them.
+pub fn a_chain_is_served_by_its_bytes()
+    ensures { (byte : ℕ → ℕ) (w : Whole) (t : Tally) (d : Device) (head : ℕ)
+        (pieces : List Piece) (n : ℕ) (log : List Access) → is_read w.kind ≡ true →
+        length_of w.kind pieces ≡ Ok n → ArePartsMapped w.regions (all_parts pieces) →
+        length (bytes_of byte pieces) ≤ MAX_BYTES → Stays byte w.regions log →
+        serves w t d head pieces log → Behind (served w t d head (bytes_of byte pieces)) log }
 {}

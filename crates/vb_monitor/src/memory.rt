@@ -6,7 +6,7 @@ ghost use Rattle.vb_monitor.specs.Accesses.{TellPages, TellFigures, Discard, Wri
 ghost use Rattle.vb_monitor.specs.Accesses.{WriteWord};
 
 use crate::{Cut, Spot};
-use vb_core::{Kind, Run, Statistic};
+use vb_core::{Kind, Named, Run, Statistic};
 
 /// Memory that its guest may write at any moment, and who watches it: known by what was asked of
 /// it and what it answered, in order. Answers are open: two reads of a place may differ. Each place
@@ -34,9 +34,10 @@ pub trait LiveMemory {
     fn full(&mut self)
         ensures { log self.new ≡ log self.old ++ Full ∷ [] };
 
-    /// These pages were given up (inflates), are asked back (deflates), or are free (reports).
-    fn tell_pages(&mut self, kind: Kind, runs: &[Run])
-        ensures { log self.new ≡ log self.old ++ TellPages kind runs.now ∷ [] };
+    /// These pages were given up (inflates), are asked back (deflates), or are free (reports): the
+    /// runs have so many pages together, and so many numbers of the request were skipped.
+    fn tell_pages(&mut self, kind: Kind, runs: &[Run], named: Named)
+        ensures { log self.new ≡ log self.old ++ TellPages kind runs.now named ∷ [] };
 
     /// The guest told these figures.
     fn tell_figures(&mut self, figures: &[Statistic])

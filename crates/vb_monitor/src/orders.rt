@@ -1,6 +1,7 @@
 //! What is to be done at once, since none of it needs an answer.
 
-ghost use Rattle.std.specs.Prelude.{◌≡◌, ◌≤◌, ◌++◌, ◌∷◌, ℕ, true, List, take, map};
+ghost use Rattle.std.specs.Prelude.{◌≡◌, ◌≤◌, ◌++◌, ◌∷◌, ℕ, true, List, take, map, Some};
+ghost use Rattle.vb_monitor.specs.declared.cuts.NextCut.{NextCut};
 ghost use Rattle.vb_core.specs.declared.next.ChainPiece.{ChainPiece};
 ghost use Rattle.vb_core.specs.declared.statistics.Statistic.{Statistic};
 ghost use Rattle.vb_core.specs.declared.device.Device.{Device};
@@ -11,7 +12,7 @@ ghost use Rattle.vb_monitor.specs.Machine.{Fits, stage, waits, Room, Ahead, whol
 ghost use Rattle.vb_monitor.specs.Machine.{cuts_behind};
 ghost use Rattle.vb_monitor.specs.declared.orders.Told.TheVariants.{Pages, Figures};
 ghost use Rattle.vb_monitor.specs.declared.room.TheConstants.{MAX_RUNS, MAX_FIGURES};
-ghost use Rattle.vb_monitor.specs.Orders.{cuts_left, telling, giving, at_once, HasRoom};
+ghost use Rattle.vb_monitor.specs.Orders.{cuts_left, telling, giving, at_once, HasRoom, FillsList};
 
 use crate::cuts::NextCut;
 use crate::discards::{after_told, first_runs};
@@ -88,7 +89,7 @@ fn tell(
         (room_of pieces bytes runs.now figures) rest →
         Ahead (whole regions.now kind after outcome) step.old device.old
         (room_of pieces bytes runs.now figures)
-        (telling result kind orders.new.named.runs orders.new.figures runs.now figures ++ rest) }
+        (telling result kind orders.new.named orders.new.figures runs.now figures ++ rest) }
     ensures fits { Fits step.new.phase }
     ensures stage { 1 ≤ stage step.new.phase }
     ensures runs { result ≡ Pages → orders.new.named.runs ≤ MAX_RUNS }
@@ -139,6 +140,7 @@ fn discard(
         (map Discard (take result cuts.new) ++ rest) }
     ensures fits { Fits step.new.phase }
     ensures few { result ≤ MAX_CUTS }
+    ensures full { stage step.new.phase ≡ 1 → result ≡ MAX_CUTS }
     ensures stage { 1 ≤ stage step.new.phase }
 {
     let Step { tally, phase } = *step;
@@ -172,7 +174,15 @@ fn discard(
             }
             filled.count
         }
-        _ => 0,
+        Phase::TellsPages { .. }
+        | Phase::TellsFigures { .. }
+        | Phase::GivesBack { .. }
+        | Phase::AwaitsIndex { .. }
+        | Phase::AwaitsEntry { .. }
+        | Phase::AwaitsDescriptor { .. }
+        | Phase::AwaitsPart { .. }
+        | Phase::AwaitsFlags { .. }
+        | Phase::Ended { .. } => 0,
     }
 }
 
@@ -193,6 +203,7 @@ fn give(
         Ahead (whole regions.now kind after outcome) step.old device.old room
         (giving result used.new ++ rest) }
     ensures fits { Fits step.new.phase }
+    ensures stage { stage step.new.phase ≡ 1 → stage step.old.phase ≡ 1 }
     ensures waits { waits step.new.phase ≡ true }
 {
     let tally = step.tally;
@@ -241,7 +252,8 @@ impl Notice {
     }
 
     /// Goes on as long as nothing needs an answer, and parts that are discarded have room; what is
-    /// to be done so is put into the orders and the list of parts.
+    /// to be done so is put into the orders and the list of parts. A part is left only where the
+    /// list is full.
     #[tactic(auto, using(crate::proofs::OrderLemmas::stage_waits))]
     pub fn at_once(
         &mut self,
@@ -262,6 +274,7 @@ impl Notice {
             (at_once result self.old.kind orders.new cuts.new runs.now figures rest) }
         ensures fits { Fits self.new.step.phase }
         ensures room { HasRoom result orders.new }
+        ensures full { FillsList self.new.step.phase orders.new }
         ensures waits { waits self.new.step.phase ≡ true }
     {
         orders.cuts = 0;

@@ -68,7 +68,7 @@ pub(crate) fn perform<M: LiveMemory>(
             0
         }
         Phase::TellsPages { named, .. } => {
-            memory.tell_pages(kind, first_runs(runs, named.runs as usize));
+            memory.tell_pages(kind, first_runs(runs, named.runs as usize), named);
             0
         }
         Phase::TellsFigures { count, .. } => {
@@ -149,8 +149,8 @@ impl Notice {
     }
 }
 
-/// Serves the queue of a kind, as far as the budget has room; none where it hasn't ended after so
-/// many accesses.
+/// Serves the queue of a kind, as far as the budget has room, and says what it came to; none where
+/// it hasn't ended after 2^64 - 1 steps.
 pub fn serve<M: LiveMemory>(
     memory: &mut M,
     device: &mut Device,
@@ -161,12 +161,20 @@ pub fn serve<M: LiveMemory>(
     bytes: &mut [u8; MAX_BYTES],
     runs: &mut [Run; MAX_RUNS],
     figures: &mut [Statistic; MAX_FIGURES],
-    times: u64,
 ) -> Option<Outcome>
     ensures { IfSome result (λ outcome. Adds (M.log memory.old) (M.log memory.new)
         (Serves regions.now kind budget device.old device.new outcome)) }
 {
     let mut notice = Notice::begin(device, regions, kind, budget);
-    notice.serve_steps(memory, device, regions, pieces, bytes, runs, figures, times);
+    notice.serve_steps(
+        memory,
+        device,
+        regions,
+        pieces,
+        bytes,
+        runs,
+        figures,
+        u64::MAX,
+    );
     notice.outcome()
 }

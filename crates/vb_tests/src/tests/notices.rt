@@ -138,7 +138,7 @@ static CASES: [Case; 3] = [
             Row::Word(ENTRY, 0),
             Row::Bytes(TABLE, 16),
             Row::Bytes(REQUEST, 16),
-            Row::Pages(2),
+            Row::Pages(2, 4),
             Row::Discarded(PAGE_20),
             Row::Discarded(PAGES_21_AND_22),
             Row::Discarded(PAGE_5),
@@ -163,7 +163,7 @@ static CASES: [Case; 3] = [
             Row::Word(ENTRY, 0),
             Row::Bytes(TABLE, 16),
             Row::Bytes(REQUEST, 16),
-            Row::Pages(2),
+            Row::Pages(2, 4),
             Row::Number(USED_ID, 0),
             Row::Number(USED_LENGTH, 0),
             Row::Release,
@@ -216,7 +216,6 @@ fn serve_request<R: Abort>(memory: &mut Scribbled<R>, kind: Kind, chains: u32) -
         &mut [0; MAX_BYTES],
         &mut [Run::NONE; MAX_RUNS],
         &mut [NO_FIGURE; MAX_FIGURES],
-        100,
     )
 }
 

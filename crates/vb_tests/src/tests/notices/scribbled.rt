@@ -4,14 +4,14 @@ ghost use Rattle.std.specs.Prelude.{◌≡◌, ◌++◌, ◌∷◌, []};
 
 use std::alloc::Global;
 use std::process::Abort;
-use vb_core::{Kind, Run, Statistic};
+use vb_core::{Kind, Named, Run, Statistic};
 use vb_monitor::{Cut, LiveMemory, Spot};
 
 /// How many bytes such a memory has.
 pub(super) const MEMORY: usize = 0x800;
 
 /// An access as tests compare it: a word with its answer, how many bytes were copied, how many runs
-/// or figures were told, what was discarded, and what was written.
+/// with how many pages, or figures, were told, what was discarded, and what was written.
 #[derive(Clone, Copy, PartialEq, Eq)]
 pub(super) enum Row {
     Word(Spot, u16),
@@ -19,7 +19,7 @@ pub(super) enum Row {
     Acquire,
     Release,
     Full,
-    Pages(usize),
+    Pages(usize, u32),
     Figures(usize),
     Discarded(Cut),
     Number(Spot, u32),
@@ -29,16 +29,36 @@ pub(super) enum Row {
 /// What was asked, with its answer.
 #[derive(Drop)]
 pub(super) enum Entry {
-    Word { at: Spot, answer: u16 },
-    Bytes { at: Spot, bytes: Vec<u8> },
+    Word {
+        at: Spot,
+        answer: u16,
+    },
+    Bytes {
+        at: Spot,
+        bytes: Vec<u8>,
+    },
     AcquireFence,
     ReleaseFence,
     FullFence,
-    Pages { kind: Kind, runs: Vec<Run> },
-    Figures { figures: Vec<Statistic> },
-    Discarded { cut: Cut },
-    NumberWritten { at: Spot, number: u32 },
-    WordWritten { at: Spot, word: u16 },
+    Pages {
+        kind: Kind,
+        runs: Vec<Run>,
+        named: Named,
+    },
+    Figures {
+        figures: Vec<Statistic>,
+    },
+    Discarded {
+        cut: Cut,
+    },
+    NumberWritten {
+        at: Spot,
+        number: u32,
+    },
+    WordWritten {
+        at: Spot,
+        word: u16,
+    },
 }
 
 impl Entry {
@@ -50,7 +70,7 @@ impl Entry {
             Entry::AcquireFence => Row::Acquire,
             Entry::ReleaseFence => Row::Release,
             Entry::FullFence => Row::Full,
-            Entry::Pages { runs, .. } => Row::Pages(runs.len()),
+            Entry::Pages { runs, named, .. } => Row::Pages(runs.len(), named.pages),
             Entry::Figures { figures } => Row::Figures(figures.len()),
             Entry::Discarded { cut } => Row::Discarded(*cut),
             Entry::NumberWritten { at, number } => Row::Number(*at, *number),
@@ -128,7 +148,7 @@ impl<R: Abort> LiveMemory for Scribbled<'_, R> {
       | AcquireFence ↦ Acquire
       | ReleaseFence ↦ Release
       | FullFence ↦ Full
-      | Pages kind runs ↦ TellPages kind runs.items
+      | Pages kind runs named ↦ TellPages kind runs.items named
       | Figures figures ↦ TellFigures figures.items
       | Discarded cut ↦ Discard cut
       | NumberWritten at number ↦ WriteNumber at number
@@ -161,9 +181,9 @@ impl<R: Abort> LiveMemory for Scribbled<'_, R> {
         self.note(Entry::FullFence);
     }
 
-    fn tell_pages(&mut self, kind: Kind, runs: &[Run]) {
+    fn tell_pages(&mut self, kind: Kind, runs: &[Run], named: Named) {
         let runs = runs.to_vec(self.alloc).expect(self.rt, "memory");
-        self.note(Entry::Pages { kind, runs });
+        self.note(Entry::Pages { kind, runs, named });
     }
 
     fn tell_figures(&mut self, figures: &[Statistic]) {

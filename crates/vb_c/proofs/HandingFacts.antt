@@ -1,0 +1,141 @@
+-- Which notices are handed over to C, and which aren't.
+use Rattle.std.proofs.Common.{◌≡◌, ◌∙◌, refl, ap, sym, arith, ℕ, ◌+◌, true, false, [], Option, Some, None}
+use Rattle.vb_core.specs.declared.kinds.Kind.TheVariants.{Inflate}
+use Rattle.vb_monitor.{specs.declared.regions.Spot.Spot, specs.declared.orders.Orders.Orders}
+use Rattle.vb_monitor.specs.declared.orders.Told.TheVariants.{Nothing}
+use Rattle.vb_monitor.{specs.declared.orders.Asked.Asked, specs.declared.notice.Notice.Notice}
+use Rattle.vb_monitor.specs.declared.step.Phase.TheVariants.{AwaitsIndex, AwaitsEntry}
+use Rattle.vb_monitor.specs.declared.step.Phase.TheVariants.{AwaitsDescriptor, AwaitsPart, TellsPages}
+use Rattle.vb_monitor.specs.declared.step.Phase.TheVariants.{TellsFigures, Discards, GivesBack}
+use Rattle.vb_monitor.specs.declared.step.Phase.TheVariants.{AwaitsFlags, Ended}
+use Rattle.vb_monitor.specs.declared.step.Phase.{Phase}
+use Rattle.vb_monitor.{specs.declared.balloon.Balloon.Balloon, specs.Machine.{stage, waits, is_ended}}
+use Rattle.vb_c.specs.declared.notice.{VbNotice.VbNotice, VbRoom.VbRoom}
+use Rattle.vb_c.specs.Notices.{tally_of, notice_of, asked_bits, what_of}
+use Rattle.vb_c.specs.Serving.{held_then, Refuses, HandsOver}
+use Rattle.vb_c.proofs.Samples.{Same, two, balloon}
+
+abbrev spot : Spot
+spot = record { region = 0; offset = 0x102 }
+
+abbrev none_asked : Orders
+none_asked = record {
+  named = record { runs = 0; pages = 0; skipped = 0 };
+  figures = 0;
+  cuts = 0;
+  used = record { spots = record { id = spot; length = spot; index = spot }; id = 0; length = 0; index = 0 };
+}
+
+-- the index is awaited
+abbrev shown : VbNotice
+shown = record {
+  what = 64;
+  kind = 0;
+  at = spot;
+  length = 0;
+  into = 0;
+  orders = none_asked;
+  number = 0;
+  from = 0;
+  in_file = 0;
+  cut_length = 4096;
+  code = 0;
+  rule = 0;
+  interrupt = 0;
+  configuration = 0;
+  more = 0;
+  chains_left = 8;
+  pages_left = 256;
+  head = 0;
+  count = 0;
+  taken_head = 0;
+  given = 0;
+  taken = 0;
+  flag = 0;
+  phase = 1;
+}
+
+abbrev nothing : Asked
+nothing = record { told = Nothing; gives = false }
+
+abbrev at_index : Notice
+at_index = record { kind = Inflate; step = record { tally = tally_of shown; phase = AwaitsIndex spot } }
+
+handed : HandsOver at_index two [] balloon balloon [] shown
+handed = record {
+  asked = nothing;
+  notice = at_index;
+  is = record { read = refl; says = tt; what = refl };
+  kind_is = refl;
+  step = λ after outcome pieces bytes figures rest h. h;
+  room = record { runs = λ e. cc; figures = λ e. cc; cuts = omega arith };
+  waits_now = refl;
+  fills = record { full = λ e. absurd (grind arith) };
+  fits = tt;
+  held = refl;
+}
+
+abbrev stage_in : Option Notice → ℕ
+stage_in None = 0
+stage_in (Some n) = stage n.step.phase
+
+-- parts are left though there is room: who obeys would take it for ended
+abbrev left : VbNotice
+left = record shown { what = 0; phase = 6 }
+
+left_with_room : (n : Notice) (b1 b2 : Balloon) → HandsOver n two [] b1 b2 [] left → ⊥
+left_with_room n b1 b2 h =
+    let at : Same 1 (stage h.notice.step.phase) = ap stage_in h.is.read in
+    let e : Same 0 32 = h.fills.full (sym at) in
+    omega arith
+
+-- one part more than the list has
+too_many_parts : (n : Notice) (b1 b2 : Balloon) →
+    HandsOver n two [] b1 b2 [] (record shown { what = 68; orders = record none_asked { cuts = 33 } }) → ⊥
+too_many_parts n b1 b2 h = let e = h.room.cuts in omega (arith, e)
+
+-- what is of no kind is no notice
+of_no_kind : (n : Notice) (b1 b2 : Balloon) → HandsOver n two [] b1 b2 [] (record shown { kind = 4 }) → ⊥
+of_no_kind n b1 b2 h = let e = h.is.read in absurd cc
+
+abbrev held_in : Option Notice → Balloon → ℕ
+held_in None b = 0
+held_in (Some n) b = held_then n b
+
+-- the buffer that is held isn't lost while the notice goes on
+buffer_lost : (n : Notice) → HandsOver n two [] balloon (record balloon { held = 0 }) [] shown → ⊥
+buffer_lost n h =
+    let noted : Same 4 (held_then h.notice balloon) = ap (λ (o : Option Notice). held_in o balloon) h.is.read in
+    let e : Same 0 4 = h.held ∙ sym noted in
+    omega arith
+
+-- ---- what is refused changes nothing
+
+refused_and_forgotten : (r1 r2 : VbRoom) (c : VbNotice) → Refuses 1 balloon (record balloon { held = 0 }) r1 r2 c → ⊥
+refused_and_forgotten r1 r2 c h = let e : Same 0 4 = ap (λ (b : Balloon). b.held) h.balloon in omega arith
+
+-- ---- where nothing is asked for, it has ended
+
+abbrev Full : Phase → ℕ → Type 0
+Full p cuts = stage p ≡ 1 → cuts ≡ 32
+
+ended_by : (p : Phase) (a : Asked) (cuts : ℕ) → waits p ≡ true → Full p cuts →
+    what_of a cuts p ≡ 0 → is_ended p ≡ true
+ended_by (Ended why interrupt more) a cuts w f e = refl
+ended_by (AwaitsIndex at) a cuts w f e = absurd (omega (arith, e))
+ended_by (AwaitsEntry at) a cuts w f e = absurd (omega (arith, e))
+ended_by (AwaitsDescriptor at walk) a cuts w f e = absurd (omega (arith, e))
+ended_by (AwaitsPart at place) a cuts w f e = absurd (omega (arith, e))
+ended_by (AwaitsFlags at why more) a cuts w f e = absurd (omega (arith, e))
+ended_by (Discards cut x) a cuts w f e =
+    let some : asked_bits a 32 + 0 ≡ 0 = ap (λ (n : ℕ). asked_bits a n + 0) (sym (f refl)) ∙ e in
+    absurd (omega (arith, some))
+ended_by (TellsPages head named) a cuts w f e = absurd cc
+ended_by (TellsFigures head count) a cuts w f e = absurd cc
+ended_by (GivesBack spots entry) a cuts w f e = absurd cc
+
+-- so whoever obeys while there is something to do obeys to its end
+nothing_to_do : (n : Notice) (b1 b2 : Balloon) (c : VbNotice) →
+    (h : HandsOver n two [] b1 b2 [] c) → c.what ≡ 0 → is_ended h.notice.step.phase ≡ true
+nothing_to_do n b1 b2 c h e =
+    ended_by h.notice.step.phase h.asked c.orders.cuts h.waits_now h.fills.full (sym h.is.what ∙ e)

@@ -1,0 +1,133 @@
+-- What the calls for features, the configuration space, reports and targets answer in C, worked out: each refusal, and what it leaves.
+use Rattle.std.proofs.Common.{refl, ap, sym, ◌∙◌, arith, ℕ, List, [], ◌∷◌, length, Result, Ok, Err}
+use Rattle.vb_balance.specs.declared.need.NoTargets.{NoTargets}
+use Rattle.vb_balance.specs.declared.need.NoTargets.TheVariants.{OtherLength, Short}
+use Rattle.vb_core.specs.declared.device.Denial.TheVariants.{NotReady}
+use Rattle.vb_core.{specs.declared.device.Device.Device, specs.Devices.new_device}
+use Rattle.vb_core.specs.declared.settings.Settings.{Settings}
+use Rattle.vb_c.{specs.Answers.reported_of, specs.Registers.{Negotiates, WritesConfig}}
+use Rattle.vb_c.{specs.Chains.Reports, specs.Sharing.{SharesFor, targets_of}}
+use Rattle.vb_c.{specs.declared.answers.VbNamed.VbNamed, specs.declared.sharing.VbTargets.VbTargets}
+use Rattle.vb_c.proofs.Samples.{Same, settings, begun, ready}
+
+abbrev target_of : Device → ℕ
+target_of d = d.target
+
+-- ---- features
+
+-- the driver has begun, and features may be written
+abbrev driving : Device
+driving = record (new_device settings) { status = 3 }
+
+negotiated : Negotiates 0x100000007 driving (record driving { features = 0x100000007 }) 0
+negotiated = record { denied = λ why e. absurd cc; accepted = λ e. (refl, refl) }
+
+not_taken : Negotiates 0x100000007 driving driving 0 → ⊥
+not_taken h = let e : Same 0 0x100000007 = ap (λ (d : Device). d.features) (h.accepted refl).1 in omega arith
+
+refused_although_offered : (d : Device) → Negotiates 0x100000007 driving d 3 → ⊥
+refused_although_offered d h = let e : Same 3 0 = (h.accepted refl).0 in omega arith
+
+-- a feature that isn't offered is refused with 3, and features that come late with 2
+not_offered : (d : Device) → Negotiates 0x300000007 driving d 0 → ⊥
+not_offered d h = let e : Same 0 3 = (h.denied _ refl).0 in omega arith
+
+taken_although_refused : Negotiates 0x300000007 driving (record driving { features = 0x300000007 }) 3 → ⊥
+taken_although_refused h =
+    let e : Same 0x300000007 0 = ap (λ (d : Device). d.features) (h.denied _ refl).1 in omega arith
+
+late : (d : Device) → Negotiates 0x100000007 begun d 0 → ⊥
+late d h = let e : Same 0 2 = (h.denied _ refl).0 in omega arith
+
+-- ---- the configuration space
+
+-- the lowest byte first: 5 and 256
+abbrev number : List ℕ
+number = 5 ∷ 1 ∷ 0 ∷ 0 ∷ []
+
+actual_written : WritesConfig 4 number ready (record ready { actual = 261 }) 0
+actual_written = record { denied = λ e. absurd cc; written = λ e. (refl, refl) }
+
+not_written : WritesConfig 4 number ready ready 0 → ⊥
+not_written h = let e : Same 0 261 = ap (λ (d : Device). d.actual) (h.written refl).1 in omega arith
+
+in_another_field : WritesConfig 4 number ready (record ready { target = 261 }) 0 → ⊥
+in_another_field h = let e : Same 261 0 = ap target_of (h.written refl).1 in omega arith
+
+-- num_pages is the host's, and a field is written as a whole
+target_written : (d : Device) → WritesConfig 0 number ready d 0 → ⊥
+target_written d h = let e : Same 0 7 = (h.denied refl).0 in omega arith
+
+three_bytes : (d : Device) → WritesConfig 4 (5 ∷ 1 ∷ 0 ∷ []) ready d 0 → ⊥
+three_bytes d h = let e : Same 0 7 = (h.denied refl).0 in omega arith
+
+written_although_refused : WritesConfig 0 number ready (record ready { target = 261 }) 7 → ⊥
+written_although_refused h = let e : Same 261 0 = ap target_of (h.denied refl).1 in omega arith
+
+refused_although_its : (d : Device) → WritesConfig 4 number ready d 7 → ⊥
+refused_although_its d h = let e : Same 7 0 = (h.written refl).0 in omega arith
+
+-- poison_val is there only where PAGE_POISON is offered
+poison_unoffered : (d : Device) → WritesConfig 12 number ready d 0 → ⊥
+unfolding lib.Count.ones
+poison_unoffered d h = let e : Same 0 7 = (h.denied refl).0 in omega arith
+
+abbrev poisoning : Device
+poisoning = record ready { settings = record settings { offered = 0x100000037 } }
+
+poison_written : WritesConfig 12 number poisoning (record poisoning { poison = 261 }) 0
+unfolding lib.Count.ones
+poison_written = record { denied = λ e. absurd cc; written = λ e. (refl, refl) }
+
+poison_as_actual : WritesConfig 12 number poisoning (record poisoning { actual = 261 }) 0 → ⊥
+unfolding lib.Count.ones
+poison_as_actual h = let e : Same 261 0 = ap (λ (d : Device). d.actual) (h.written refl).1 in omega arith
+
+-- ---- reports
+
+not_ready : Reports [] [] 32 [] begun begun (reported_of (Err NotReady))
+unfolding lib.Count.ones
+not_ready = (Err NotReady, (record { denied = λ why e. (cc, refl); reads = λ e. absurd cc }, refl))
+
+not_ready_changes : (result : VbNamed) → Reports [] [] 32 [] begun (record begun { target = 1 }) result → ⊥
+unfolding lib.Count.ones
+not_ready_changes result (answer, (by, is)) =
+    let e : Same 1 0 = ap target_of (by.denied NotReady refl).1 in omega arith
+
+reported_although_refused : (d : Device) → Reports [] [] 32 [] begun d
+    (record { code = 0; rule = 0; head = 0; runs = 0; pages = 0; skipped = 0 }) → ⊥
+unfolding lib.Count.ones
+reported_although_refused d (answer, (by, is)) =
+    let e : Same 0 3 = ap (λ (r : VbNamed). r.code) (is ∙ ap reported_of (by.denied NotReady refl).0) in
+    omega arith
+
+-- ---- targets
+
+other_length : SharesFor [] 5 (1 ∷ []) (1 ∷ []) (record { code = 7; missing = 0 })
+other_length = (
+  Err OtherLength,
+  (
+    record {
+      other_length = λ ne. (refl, refl);
+      short = λ e. let x : Same 1 0 = e in absurd (omega arith);
+      shared = λ e. let x : Same 1 0 = e in absurd (omega arith);
+    },
+    refl,
+  ),
+)
+
+abbrev first_of : List ℕ → ℕ
+first_of [] = 0
+first_of (n ∷ ns) = n
+
+changed_although_refused : (result : VbTargets) → SharesFor [] 5 (1 ∷ []) (2 ∷ []) result → ⊥
+changed_although_refused result (answer, (by, is)) =
+    let e : Same 2 1 = ap first_of (by.other_length (λ e. let x : Same 1 0 = e in omega arith)).1 in omega arith
+
+shared_although_refused : (new : List ℕ) → SharesFor [] 5 (1 ∷ []) new (record { code = 0; missing = 0 }) → ⊥
+shared_although_refused new (answer, (by, is)) =
+    let e : Same 0 7 = ap (λ (t : VbTargets). t.code) (is ∙ ap targets_of (by.other_length (λ e. let x : Same 1 0 = e in omega arith)).0) in
+    omega arith
+
+missing_told : targets_of (Err (Short (record { missing = 9 }))) ≡ record { code = 8; missing = 9 }
+missing_told = refl

@@ -1,0 +1,133 @@
+-- Memory that stays as it is, its copies, and what is done as is answered to them, worked out.
+use Rattle.std.proofs.Common.{◌≡◌, refl, ap, arith, ℕ, false, true, List, [], ◌∷◌, ◌++◌, Option, Some, None, Ok, Err}
+use Rattle.vb_chain.specs.declared.pieces.Piece.{Piece}
+use Rattle.vb_core.specs.declared.device.Denial.{Denial}
+use Rattle.vb_core.specs.declared.device.Denial.TheVariants.{NotReady, NeedsReset}
+use Rattle.vb_core.{specs.declared.device.Device.Device, specs.declared.ring.Virtqueue.Virtqueue}
+use Rattle.vb_core.specs.declared.kinds.Kind.TheVariants.{Inflate}
+use Rattle.vb_monitor.{specs.declared.parts.Part.Part, specs.declared.outcome.Outcome.Outcome}
+use Rattle.vb_monitor.specs.Accesses.{Access, ReadWord, CopyBytes, Acquire}
+use Rattle.vb_monitor.{specs.Ends.Whole, specs.Machine.whole}
+use Rattle.vb_monitor.specs.Still.{bytes_from, Holds, Stays, IsMapped, avail_copy, table_copy, Behind}
+use Rattle.vb_monitor.specs.Still.{DoesAs, bytes_of, ArePartsMapped}
+use Rattle.vb_monitor.proofs.Samples.{Same, two, at, ring, ready, tally, index, discard}
+
+-- each byte is the lowest of its address; all are 0
+abbrev own : ℕ → ℕ
+own a = a
+
+abbrev zeros : ℕ → ℕ
+zeros a = 0
+
+-- ---- what memory has
+
+three : bytes_from own 5 3 ≡ 5 ∷ 6 ∷ 7 ∷ []
+three = refl
+
+none : bytes_from own 5 0 ≡ []
+none = refl
+
+-- the index and the flags in front, an entry for each descriptor; 16 bytes for each descriptor
+available : avail_copy own (record ring { avail = 100; size = 2 }) ≡
+    100 ∷ 101 ∷ 102 ∷ 103 ∷ 104 ∷ 105 ∷ 106 ∷ 107 ∷ []
+available = refl
+
+descriptors : table_copy own (record ring { table = 20; size = 1 }) ≡
+    20 ∷ 21 ∷ 22 ∷ 23 ∷ 24 ∷ 25 ∷ 26 ∷ 27 ∷ 28 ∷ 29 ∷ 30 ∷ 31 ∷ 32 ∷ 33 ∷ 34 ∷ 35 ∷ []
+descriptors = refl
+
+one_behind_the_other : bytes_of own
+    (record { addr = 5; len = 2; writable = false } ∷ record { addr = 9; len = 1; writable = true } ∷ []) ≡
+    5 ∷ 6 ∷ 9 ∷ []
+one_behind_the_other = refl
+
+-- ---- what is read
+
+zero_is_read : Holds zeros two (ReadWord (at 0x102) 0)
+zero_is_read = λ a e. refl
+
+zeros_are_copied : Holds zeros two (CopyBytes (at 0x400) (0 ∷ 0 ∷ []))
+zeros_are_copied = λ a e. refl
+
+another_word : Holds zeros two (ReadWord (at 0x102) 1) → ⊥
+another_word h = let e : Same 1 0 = h 0x102 refl in omega arith
+
+-- lowest byte first, of the address that the guest has
+first_low : Holds own two (ReadWord (at 0x10) 0x1011) → ⊥
+first_low h = let e : Same 0x1011 0x1110 = h 0x10 refl in omega arith
+
+abbrev first_of : List ℕ → ℕ
+first_of [] = 9
+first_of (n ∷ ns) = n
+
+abbrev second_of : List ℕ → ℕ
+second_of [] = 9
+second_of (n ∷ ns) = first_of ns
+
+another_byte : Holds zeros two (CopyBytes (at 0x400) (0 ∷ 7 ∷ [])) → ⊥
+another_byte h = let e : Same 7 0 = ap second_of (h 0x400 refl) in omega arith
+
+all_stay : Stays zeros two (ReadWord (at 0x102) 0 ∷ Acquire ∷ discard ∷ [])
+all_stay = (λ a e. refl, (tt, (tt, tt)))
+
+-- each of them
+the_last_one_too : Stays zeros two (Acquire ∷ index ∷ []) → ⊥
+the_last_one_too h = let e : Same 1 0 = h.1.0 0x102 refl in omega arith
+
+-- ---- what is guest memory
+
+index_in_the_hole : IsMapped two (record ring { avail = 0x15000 }) → ⊥
+index_in_the_hole h = h.index refl
+
+entry_in_the_hole : IsMapped two (record ring { avail = 0x14ffc }) → ⊥
+entry_in_the_hole h = h.entry refl
+
+table_in_the_hole : IsMapped two (record ring { table = 0x15000 }) → ⊥
+table_in_the_hole h = h.descriptors 0 (omega arith) refl
+
+last_descriptor_too : IsMapped two (record ring { table = 0x14f90 }) → ⊥
+last_descriptor_too h = h.descriptors 7 (omega arith) refl
+
+there : ArePartsMapped two (record { address = 0x400; plus = 4; length = 4 } ∷ [])
+there = (λ e. absurd cc, tt)
+
+behind_it_a_hole : ArePartsMapped two
+    (record { address = 0x400; plus = 4; length = 4 } ∷ record { address = 0x14ffc; plus = 4; length = 4 } ∷ []) → ⊥
+behind_it_a_hole h = h.1.0 refl
+
+-- ---- what is done
+
+abbrev over : Option Denial → Device → Whole
+over why d = whole two Inflate d (record { tally = tally; why = why; interrupt = false; more = false })
+
+refused : DoesAs (Err NotReady) [] (over (Some NotReady) ready) tally ready []
+refused = (refl, refl)
+
+for_another_reason : DoesAs (Err NotReady) [] (over (Some NeedsReset) ready) tally ready [] → ⊥
+for_another_reason h = let e = h.0 in absurd cc
+
+for_none : DoesAs (Err NotReady) [] (over None ready) tally ready [] → ⊥
+for_none h = let e = h.0 in absurd cc
+
+another_device : DoesAs (Err NotReady) [] (over (Some NotReady) ready) tally (record ready { target = 9 }) [] → ⊥
+another_device h = let e : Same 0 9 = ap (λ (d : Device). d.target) h.1 in omega arith
+
+nothing_there : DoesAs (Ok None) [] (over None ready) tally ready []
+nothing_there = (refl, refl)
+
+refused_although_none_is_there : DoesAs (Ok None) [] (over (Some NotReady) ready) tally ready [] → ⊥
+refused_although_none_is_there h = let e = h.0 in absurd cc
+
+-- the rest of a list, and no other one
+abbrev Rest : List Access → Type 0
+Rest rest = rest ≡ discard ∷ []
+
+behind : Behind Rest (index ∷ Acquire ∷ discard ∷ [])
+behind = record { read = index ∷ Acquire ∷ []; rest = discard ∷ []; all = refl; is = refl }
+
+joined : (read rest : List Access) → [] ≡ read ++ rest → rest ≡ discard ∷ [] → ⊥
+joined [] rest e f = absurd cc
+joined (x ∷ xs) rest e f = absurd cc
+
+behind_nothing : Behind Rest [] → ⊥
+behind_nothing h = joined h.read h.rest h.all h.is

@@ -1,0 +1,451 @@
+-- A notice over memory that stays as it is does what the device answers to copies of it.
+use Rattle.std.proofs.Common.{◌≡◌, ◌≢◌, ◌∙◌, ap, sym, subst, refl, arith, inl, inr, ℕ, zero, suc, ◌+◌}
+use Rattle.std.proofs.Common.{◌*◌, ◌/◌, ◌%◌, ◌<◌, ◌≤◌, Bool, true, false, List, [], ◌∷◌, ◌++◌, length, map}
+use Rattle.std.proofs.Common.{take, Option, Some, None, Result, Ok, Err}
+use Rattle.std.specs.Prelude.{◌&&◌, ◌==◌, nat_lt, nat_le, min, not, if◌then◌else◌, IsOk, IsOkAnd}
+use Rattle.std.specs.Prelude.{IsSomeAnd}
+use Rattle.std.{specs.Int.{w16, from_le_bytes}, proofs.lemmas.Bool.Decides.nat_tests}
+use Rattle.std.proofs.lemmas.List.FromFn.{length-map-range_with_len}
+use Rattle.vb_model.specs.Tests.{one_if}
+use Rattle.vb_ram.specs.Pages.{Pages, field, end_of}
+use Rattle.vb_chain.{specs.declared.pieces.Piece.Piece, specs.declared.fault.ChainFault.ChainFault}
+use Rattle.vb_chain.specs.declared.fault.ChainFault.TheVariants.{BadHead, IndexJump}
+use Rattle.vb_chain.{specs.Chain.{ChainGives, FaultGives}, specs.Table.descriptor_at}
+use Rattle.vb_chain.proofs.Walking.{walked_init}
+use Rattle.vb_ring.{specs.declared.device.Taken.Taken, specs.Entries.{ahead, next_by, next_entry}}
+use Rattle.vb_ring.{specs.Calls.PopsBy, specs.Layout.IsSize}
+use Rattle.vb_core.specs.Next.{NextBy, ReadsNext, PopsCopies, is_read, length_of, next_denial, told}
+use Rattle.vb_core.specs.Next.{are_copies, buffer_of, answer_of, answer_to, after_fault, device_end}
+use Rattle.vb_core.{specs.declared.kinds.Kind.Kind, specs.declared.ring.Virtqueue.Virtqueue}
+use Rattle.vb_core.specs.declared.kinds.Kind.TheVariants.{Inflate, Deflate, Statistics, Report}
+use Rattle.vb_core.{specs.declared.next.NextChain.NextChain, specs.declared.next.ChainPiece.ChainPiece}
+use Rattle.vb_core.{specs.declared.device.Denial.Denial, specs.declared.device.Device.Device}
+use Rattle.vb_core.specs.declared.device.Denial.TheVariants.{Broken}
+use Rattle.vb_core.specs.Devices.{ring_of, needing_reset, queue_denial, call_denial}
+use Rattle.vb_core.{specs.declared.settings.Settings.Settings, specs.Copies.copied_layout}
+use Rattle.vb_core.specs.Settings.{memory_pages, are_settings}
+use Rattle.vb_core.proofs.{ChainAgreement.{Agree, same_chain, same_break}, CopyLaws.copies_count}
+use Rattle.vb_core.proofs.{DenialLemmas.{IsOpen, open_call}, RingLemmas.placed_size}
+use Rattle.vb_monitor.{specs.declared.regions.Region.Region, specs.declared.regions.Spot.Spot}
+use Rattle.vb_monitor.{specs.declared.outcome.Tally.Tally, specs.declared.outcome.Budget.Budget}
+use Rattle.vb_monitor.{specs.declared.outcome.Outcome.Outcome, specs.Regions.spot}
+use Rattle.vb_monitor.specs.Accesses.{Access, ReadWord, Acquire}
+use Rattle.vb_monitor.specs.Ends.{Whole, EndsWhere, Ends, Breaks}
+use Rattle.vb_monitor.specs.Chains.{descriptors, memory_end, Follows, CopiesBy, ServesPieces}
+use Rattle.vb_monitor.specs.Giving.{Then}
+use Rattle.vb_monitor.specs.Notices.{entry_offset, stands, HeadBy, EntryAt, TakesChain, AfterIndex}
+use Rattle.vb_monitor.specs.Notices.{IndexAt, LooksBy, TakesUnlessSpent, TakesNext, with_chains}
+use Rattle.vb_monitor.specs.Notices.{fresh, Serves}
+use Rattle.vb_monitor.specs.{Machine.{whole, next_chain, serves}, Pieces.{piece_in, pieces_in}}
+use Rattle.vb_monitor.specs.Still.{bytes_from, Holds, Stays, IsMapped, avail_copy, table_copy}
+use Rattle.vb_monitor.specs.Still.{Behind, DoesAs}
+use Rattle.vb_monitor.proofs.StillBytes.{shown, word_shown, descriptor_shown}
+use Rattle.vb_monitor.proofs.StillWalk.{in_memory, IsWhole, IsBroken, Walk, walks}
+
+-- ---- what a notice does by what is found
+
+one_behind : (does : List Access → Type 0) (x : Access) (rest log : List Access) → log ≡ x ∷ rest →
+    Behind does rest → Behind does log
+one_behind does x rest log e h = record {
+  read = x ∷ h.read;
+  rest = h.rest;
+  all = e ∙ ap (λ (l : List Access). x ∷ l) h.all;
+  is = h.is;
+}
+
+abbrev ByFound : Result (Option Taken) ChainFault → Whole → Device → Tally → List Access → Type 0
+ByFound (Err f) w d t log =
+    (w.outcome.why ≡ Some (Broken f)) × (w.device ≡ needing_reset d)
+ByFound (Ok None) w d t log = (w.outcome.why ≡ None) × (w.device ≡ d)
+ByFound (Ok (Some taken)) w d t log = Behind (serves w t d taken.head taken.chain) log
+
+one_more : (found : Result (Option Taken) ChainFault) (w : Whole) (d : Device) (t : Tally)
+    (x : Access) (rest log : List Access) → log ≡ x ∷ rest → ByFound found w d t rest →
+    ByFound found w d t log
+one_more (Err f) w d t x rest log e h = h
+one_more (Ok None) w d t x rest log e h = h
+one_more (Ok (Some taken)) w d t x rest log e h =
+    one_behind (serves w t d taken.head taken.chain) x rest log e h
+
+-- nothing was given back before
+ends_so : (given : Bool) (w : Whole) (d : Device) (t : Tally) (why : Option Denial) (more : Bool)
+    (log : List Access) → given ≡ false → EndsWhere given w d t why more log →
+    (w.outcome.why ≡ why) × (w.device ≡ d)
+ends_so true w d t why more log e h = absurd cc
+ends_so false w d t why more log e h = (ap (λ (o : Outcome). o.why) h.outcome, h.device)
+
+-- ---- the entry
+
+abbrev found_by : Result Bool ChainFault → ℕ → Result (Option ℕ) ChainFault
+found_by (Err f) head = Err f
+found_by (Ok false) head = Ok None
+found_by (Ok true) head = Ok (Some head)
+
+tests_alike : (z fits : Bool) (head : ℕ) →
+    (if z then Ok None else (if fits then Ok (Some head) else Err IndexJump)) ≡
+    found_by (if z then Ok false else (if fits then Ok true else Err IndexJump)) head
+tests_alike true fits head = refl
+tests_alike false true head = refl
+tests_alike false false head = refl
+
+offset_so : (r : Virtqueue) → 2 ≤ r.size → entry_offset r ≡ 4 + 2 * (r.next_avail % r.size)
+offset_so r least = grind (arith, nat_tests)
+
+offset_fits : (r : Virtqueue) → 2 ≤ r.size → entry_offset r + 2 ≤ 4 + 2 * r.size
+offset_fits r least =
+    let at : entry_offset r ≡ 4 + 2 * (r.next_avail % r.size) = offset_so r least in
+    let below : r.next_avail % r.size < r.size = grind arith in
+    omega (arith, at, below)
+
+chain_found : (found : Result (Option Taken) ChainFault) (h : ℕ) (pieces : List Piece) →
+    IsOkAnd found (λ got. IsSomeAnd got (λ taken. (taken.head ≡ h) × (taken.chain ≡ pieces))) →
+    found ≡ Ok (Some (record { head = h; chain = pieces }))
+chain_found (Err f) h pieces x = absurd x
+chain_found (Ok None) h pieces x = absurd x
+chain_found (Ok (Some taken)) h pieces x =
+    ap (λ (n : ℕ). Ok (Some (record { head = n; chain = taken.chain }))) x.0
+    ∙ ap (λ (ps : List Piece). Ok (Some (record { head = h; chain = ps }))) x.1
+
+-- ---- what is found in copies
+
+-- the queue is one, and its copies are those of memory
+record IsShown (byte : ℕ → ℕ) (w : Whole) (d : Device) (found : Result (Option Taken) ChainFault) :
+    Type 0 where
+  size : IsSize (ring_of w.kind d).size
+  two : 2 ≤ memory_pages d.settings
+  mapped : IsMapped w.regions (ring_of w.kind d)
+  pops : PopsCopies (memory_pages d.settings) (ring_of w.kind d)
+      (avail_copy byte (ring_of w.kind d)) (table_copy byte (ring_of w.kind d)) found
+
+abbrev memory : (ℕ → ℕ) → Whole → Device → Pages
+memory byte w d = shown byte (ring_of w.kind d) (memory_pages d.settings)
+
+agree : (byte : ℕ → ℕ) (w : Whole) (d : Device) (found : Result (Option Taken) ChainFault) →
+    IsShown byte w d found →
+    Agree (ring_of w.kind d).size (in_memory byte (ring_of w.kind d).table)
+    (descriptor_at (memory byte w d) 0)
+agree byte w d found is i lt =
+    sym (descriptor_shown byte (ring_of w.kind d) (memory_pages d.settings) i is.two is.size.most lt)
+
+same_end : (byte : ℕ → ℕ) (w : Whole) (d : Device) → memory_end d ≡ end_of (memory byte w d)
+same_end byte w d =
+    ap (λ (n : ℕ). 4096 * n) (sym (copies_count (memory_pages d.settings)
+    (avail_copy byte (ring_of w.kind d)) (table_copy byte (ring_of w.kind d))))
+
+size_so : (r : Virtqueue) → IsSize r.size → r.size ≡ descriptors r
+size_so r is = let most = is.most in grind (arith, nat_tests)
+
+abbrev Next : (ℕ → ℕ) → Whole → Device → Result (Option ℕ) ChainFault
+Next byte w d =
+    next_entry (memory byte w d) copied_layout (ring_of w.kind d).size (ring_of w.kind d).next_avail
+
+fault_found : (byte : ℕ → ℕ) (w : Whole) (d : Device) (found : Result (Option Taken) ChainFault)
+    (head : ℕ) (f : ChainFault) → IsShown byte w d found → Next byte w d ≡ Ok (Some head) →
+    FaultGives (in_memory byte (ring_of w.kind d).table) (ring_of w.kind d).size (memory_end d) head
+    f → found ≡ Err f
+fault_found byte w d found head f is e gives =
+    is.pops.fault head f refl e
+    (subst (λ (n : ℕ). FaultGives (descriptor_at (memory byte w d) 0) (ring_of w.kind d).size n
+    head f) (same_end byte w d)
+    (same_break (in_memory byte (ring_of w.kind d).table) (descriptor_at (memory byte w d) 0)
+    (ring_of w.kind d).size (memory_end d) head f (agree byte w d found is) gives))
+
+pieces_found : (byte : ℕ → ℕ) (w : Whole) (d : Device) (found : Result (Option Taken) ChainFault)
+    (head : ℕ) (pieces : List Piece) → IsShown byte w d found → Next byte w d ≡ Ok (Some head) →
+    ChainGives (in_memory byte (ring_of w.kind d).table) (ring_of w.kind d).size (memory_end d) head
+    pieces → found ≡ Ok (Some (record { head = head; chain = pieces }))
+pieces_found byte w d found head pieces is e gives =
+    chain_found found head pieces
+    (is.pops.chain head pieces refl e
+    (subst (λ (n : ℕ). ChainGives (descriptor_at (memory byte w d) 0) (ring_of w.kind d).size n
+    head pieces) (same_end byte w d)
+    (same_chain (in_memory byte (ring_of w.kind d).table) (descriptor_at (memory byte w d) 0)
+    (ring_of w.kind d).size (memory_end d) head pieces (agree byte w d found is) gives)))
+
+-- ---- the chain of a head
+
+walked : (byte : ℕ → ℕ) (w : Whole) (d : Device) (t : Tally)
+    (found : Result (Option Taken) ChainFault) (head : ℕ) (log : List Access) →
+    IsShown byte w d found → t.given ≡ false → Next byte w d ≡ Ok (Some head) →
+    Walk w d t (serves w t d head) (in_memory byte (ring_of w.kind d).table)
+    (ring_of w.kind d).size (memory_end d) head log → ByFound found w d t log
+walked byte w d t found head log is none e (inl h) =
+    subst (λ (o : Result (Option Taken) ChainFault). ByFound o w d t log)
+    (sym (pieces_found byte w d found head h.pieces is e h.gives))
+    (record { read = h.read; rest = h.rest; all = h.all; is = h.serves })
+walked byte w d t found head log is none e (inr h) =
+    subst (λ (o : Result (Option Taken) ChainFault). ByFound o w d t log)
+    (sym (fault_found byte w d found head h.fault is e h.gives))
+    (ends_so t.given w (needing_reset d) t (Some (Broken h.fault)) false h.rest none h.breaks)
+
+lt_false : (a b : ℕ) → nat_lt a b ≡ false → b ≤ a
+lt_false a b e = grind (arith, nat_tests)
+
+lt_true : (a b : ℕ) → nat_lt a b ≡ true → a < b
+lt_true a b e = grind (arith, nat_tests)
+
+by_head : (byte : ℕ → ℕ) (w : Whole) (d : Device) (t : Tally)
+    (found : Result (Option Taken) ChainFault) (head : ℕ) (below : Bool) (log : List Access) →
+    IsShown byte w d found → t.given ≡ false → Next byte w d ≡ Ok (Some head) →
+    nat_lt head (descriptors (ring_of w.kind d)) ≡ below → Stays byte w.regions log →
+    HeadBy below w (next_chain w t) d t head log → ByFound found w d t log
+by_head byte w d t found head false log is none e f stays h =
+    let past : (ring_of w.kind d).size ≤ head =
+    let far : descriptors (ring_of w.kind d) ≤ head = lt_false head _ f in
+    omega (arith, far, size_so (ring_of w.kind d) is.size) in
+    subst (λ (o : Result (Option Taken) ChainFault). ByFound o w d t log)
+    (sym (fault_found byte w d found head BadHead is e (inl (record { past = past; is = refl }))))
+    (ends_so t.given w (needing_reset d) t (Some (Broken BadHead)) false log none h)
+by_head byte w d t found head true log is none e f stays h =
+    let r = ring_of w.kind d in
+    let same : r.size ≡ descriptors r = size_so r is.size in
+    let below : head < r.size =
+    let near : head < descriptors r = lt_true head _ f in omega (arith, near, same) in
+    let some : 0 < r.size = omega (arith, below) in
+    walked byte w d t found head log is none e
+    (walks r.size byte w d t (serves w t d head) r.size head (head ∷ []) 0 head false [] log same
+    is.mapped.descriptors (omega arith) some below
+    (walked_init (in_memory byte r.table) r.size (memory_end d) head below) stays
+    (subst (λ (n : ℕ). Follows n w d t (serves w t d head) head false [] log) (sym same) h))
+
+-- ---- the entry and the index
+
+by_entry : (byte : ℕ → ℕ) (w : Whole) (d : Device) (t : Tally)
+    (found : Result (Option Taken) ChainFault) (o : Option Spot) (log : List Access) →
+    IsShown byte w d found → t.given ≡ false →
+    ((head : ℕ) → head ≡ field 2 (memory byte w d) 1 (entry_offset (ring_of w.kind d)) →
+    Next byte w d ≡ Ok (Some head)) →
+    spot w.regions ((ring_of w.kind d).avail + entry_offset (ring_of w.kind d)) 2 ≡ o → o ≢ None →
+    Stays byte w.regions log → EntryAt w (next_chain w t) d t o log → ByFound found w d t log
+by_entry byte w d t found None log is none next e mapped stays h = absurd (mapped refl)
+by_entry byte w d t found (Some at) log is none next e mapped stays h =
+    let r = ring_of w.kind d in
+    let all : Stays byte w.regions (Acquire ∷ ReadWord at h.head ∷ h.rest) =
+    subst (λ (l : List Access). Stays byte w.regions l) h.asks stays in
+    let head : h.head ≡ field 2 (memory byte w d) 1 (entry_offset r) =
+    all.1.0 (r.avail + entry_offset r) e
+    ∙ sym (word_shown byte r (memory_pages d.settings) (entry_offset r) is.two is.size.most
+    (offset_fits r is.size.least)) in
+    one_more found w d t Acquire (ReadWord at h.head ∷ h.rest) log h.asks
+    (one_more found w d t (ReadWord at h.head) h.rest (ReadWord at h.head ∷ h.rest) refl
+    (by_head byte w d t found h.head (nat_lt h.head (descriptors r)) h.rest is none
+    (next h.head head) refl all.1.1 h.goes_on))
+
+next_is : (byte : ℕ → ℕ) (w : Whole) (d : Device) (found : Result (Option Taken) ChainFault)
+    (index : ℕ) → IsShown byte w d found → index ≡ field 2 (memory byte w d) 1 2 →
+    Next byte w d ≡
+    found_by (stands (ring_of w.kind d) index)
+    (field 2 (memory byte w d) 1 (entry_offset (ring_of w.kind d)))
+next_is byte w d found index is e =
+    let r = ring_of w.kind d in
+    let mem = memory byte w d in
+    let at : 0 + 4 + 2 * (r.next_avail % r.size) ≡ entry_offset r =
+    omega (arith, offset_so r is.size.least) in
+    ap (λ (n : ℕ). next_by (ahead n r.next_avail) r.size IndexJump
+    (field 2 mem 1 (0 + 4 + 2 * (r.next_avail % r.size)))) (sym e)
+    ∙ (ap (λ (n : ℕ). next_by (ahead index r.next_avail) r.size IndexJump (field 2 mem 1 n)) at
+    ∙ tests_alike (ahead index r.next_avail == 0) (nat_le (ahead index r.next_avail) r.size)
+    (field 2 mem 1 (entry_offset r)))
+
+by_index : (byte : ℕ → ℕ) (w : Whole) (d : Device) (t0 t : Tally)
+    (takes : List Access → Type 0) (found : Result (Option Taken) ChainFault)
+    (o : Result Bool ChainFault) (log : List Access) → IsShown byte w d found →
+    t0.given ≡ false → t.given ≡ false →
+    ((l : List Access) → takes l → TakesChain w (next_chain w t) d t l) →
+    Next byte w d ≡
+    found_by o (field 2 (memory byte w d) 1 (entry_offset (ring_of w.kind d))) →
+    Stays byte w.regions log → AfterIndex o w takes d t0 log → ByFound found w d t log
+by_index byte w d t0 t takes found (Err f) log is none0 none into e stays h =
+    subst (λ (x : Result (Option Taken) ChainFault). ByFound x w d t log)
+    (sym (is.pops.jump f refl e))
+    (ends_so t0.given w (needing_reset d) t0 (Some (Broken f)) false log none0 h)
+by_index byte w d t0 t takes found (Ok false) log is none0 none into e stays h =
+    subst (λ (x : Result (Option Taken) ChainFault). ByFound x w d t log)
+    (sym (is.pops.none refl e)) (ends_so t0.given w d t0 None false log none0 h)
+by_index byte w d t0 t takes found (Ok true) log is none0 none into e stays h =
+    let r = ring_of w.kind d in
+    by_entry byte w d t found (spot w.regions (r.avail + entry_offset r) 2) log is none
+    (λ head same. e ∙ ap (λ (n : ℕ). Ok (Some n)) (sym same)) refl is.mapped.entry stays (into log h)
+
+by_place : (byte : ℕ → ℕ) (w : Whole) (d : Device) (t0 t : Tally)
+    (takes : List Access → Type 0) (found : Result (Option Taken) ChainFault) (o : Option Spot)
+    (log : List Access) → IsShown byte w d found → t0.given ≡ false → t.given ≡ false →
+    ((l : List Access) → takes l → TakesChain w (next_chain w t) d t l) →
+    spot w.regions ((ring_of w.kind d).avail + 2) 2 ≡ o → o ≢ None → Stays byte w.regions log →
+    IndexAt w takes d t0 o log → ByFound found w d t log
+by_place byte w d t0 t takes found None log is none0 none into e mapped stays h =
+    absurd (mapped refl)
+by_place byte w d t0 t takes found (Some at) log is none0 none into e mapped stays h =
+    let r = ring_of w.kind d in
+    let all : Stays byte w.regions (ReadWord at h.index ∷ h.rest) =
+    subst (λ (l : List Access). Stays byte w.regions l) h.asks stays in
+    let index : h.index ≡ field 2 (memory byte w d) 1 2 =
+    all.0 (r.avail + 2) e
+    ∙ sym (word_shown byte r (memory_pages d.settings) 2 is.two is.size.most (omega arith)) in
+    one_more found w d t (ReadWord at h.index) h.rest log h.asks
+    (by_index byte w d t0 t takes found (stands r h.index) h.rest is none0 none into
+    (next_is byte w d found h.index is index) all.1 h.goes_on)
+
+-- ---- what is answered
+
+served_broken : (kind : Kind) (w : Whole) (next : Then) (d : Device) (t : Tally) (head : ℕ)
+    (pieces : List Piece) (f : ChainFault) (log : List Access) → is_read kind ≡ true →
+    t.given ≡ false → length_of kind pieces ≡ Err f → ServesPieces kind w next d t head pieces log →
+    (w.outcome.why ≡ Some (Broken f)) × (w.device ≡ needing_reset d)
+served_broken Inflate w next d t head pieces f log read none e h =
+    ends_so t.given w (needing_reset d) t (Some (Broken f)) false log none
+    (subst (λ (o : Result ℕ ChainFault). CopiesBy o w next d t head pieces log) e h)
+served_broken Deflate w next d t head pieces f log read none e h =
+    ends_so t.given w (needing_reset d) t (Some (Broken f)) false log none
+    (subst (λ (o : Result ℕ ChainFault). CopiesBy o w next d t head pieces log) e h)
+served_broken Statistics w next d t head pieces f log read none e h =
+    ends_so t.given w (needing_reset d) t (Some (Broken f)) false log none
+    (subst (λ (o : Result ℕ ChainFault). CopiesBy o w next d t head pieces log) e h)
+served_broken Report w next d t head pieces f log read none e h = absurd cc
+
+flag_back : (b : Bool) → not (one_if b == 0) ≡ b
+flag_back true = refl
+flag_back false = refl
+
+piece_back : (p : Piece) → piece_in (buffer_of p) ≡ p
+piece_back p =
+    ap (λ (b : Bool). record { addr = p.addr; len = p.len; writable = b }) (flag_back p.writable)
+
+buffers_back : (ps : List Piece) → pieces_in (map buffer_of ps) ≡ ps
+unfolding pieces_in
+buffers_back [] = refl
+buffers_back (p ∷ ps) =
+    ap (λ (q : Piece). q ∷ map piece_in (map buffer_of ps)) (piece_back p)
+    ∙ ap (λ (qs : List Piece). p ∷ qs) (buffers_back ps)
+
+by_length : (w : Whole) (d : Device) (t : Tally) (taken : Taken) (buffers : List ChainPiece)
+    (o : Result ℕ ChainFault) (log : List Access) → is_read w.kind ≡ true → t.given ≡ false →
+    length_of w.kind taken.chain ≡ o →
+    (IsOk (answer_of taken o) →
+    take (length taken.chain) buffers ≡ map buffer_of taken.chain) →
+    Behind (serves w t d taken.head taken.chain) log →
+    DoesAs (told (answer_of taken o)) buffers w t (after_fault (answer_of taken o) d) log
+by_length w d t taken buffers (Err f) log read none e are h =
+    served_broken w.kind w (next_chain w t) d t taken.head taken.chain f h.rest read none e h.is
+by_length w d t taken buffers (Ok bytes) log read none e are h =
+    let same : pieces_in (take (length taken.chain) buffers) ≡ taken.chain =
+    ap (λ (bs : List ChainPiece). pieces_in bs) (are refl) ∙ buffers_back taken.chain in
+    subst (λ (ps : List Piece). Behind (serves w t d taken.head ps) log) (sym same) h
+
+by_found : (w : Whole) (d : Device) (t : Tally) (found : Result (Option Taken) ChainFault)
+    (buffers : List ChainPiece) (log : List Access) → is_read w.kind ≡ true → t.given ≡ false →
+    ((taken : Taken) → found ≡ Ok (Some taken) → IsOk (answer_to w.kind found) →
+    take (length taken.chain) buffers ≡ map buffer_of taken.chain) → ByFound found w d t log →
+    DoesAs (told (answer_to w.kind found)) buffers w t (after_fault (answer_to w.kind found) d) log
+by_found w d t (Err f) buffers log read none are h = h
+by_found w d t (Ok None) buffers log read none are h = h
+by_found w d t (Ok (Some taken)) buffers log read none are h =
+    by_length w d t taken buffers (length_of w.kind taken.chain) log read none refl (are taken refl) h
+
+as_answered : (w : Whole) (d d3 : Device) (t : Tally) (found : Result (Option Taken) ChainFault)
+    (answer : Result (Option NextChain) ChainFault) (result : Result (Option NextChain) Denial)
+    (buffers : List ChainPiece) (log : List Access) → is_read w.kind ≡ true → t.given ≡ false →
+    answer ≡ answer_to w.kind found →
+    ((taken : Taken) → found ≡ Ok (Some taken) → IsOk answer →
+    take (length taken.chain) buffers ≡ map buffer_of taken.chain) → result ≡ told answer →
+    d3 ≡ after_fault answer d → ByFound found w d t log → DoesAs result buffers w t d3 log
+as_answered w d d3 t found answer result buffers log read none e are is after h =
+    subst (λ (o : Result (Option NextChain) Denial). DoesAs o buffers w t d3 log)
+    (sym (is ∙ ap (λ (o : Result (Option NextChain) ChainFault). told o) e))
+    (subst (λ (x : Device). DoesAs (told (answer_to w.kind found)) buffers w t x log)
+    (sym (after ∙ ap (λ (o : Result (Option NextChain) ChainFault). after_fault o d) e))
+    (by_found w d t found buffers log read none
+    (subst (λ (o : Result (Option NextChain) ChainFault). (taken : Taken) →
+    found ≡ Ok (Some taken) → IsOk o →
+    take (length taken.chain) buffers ≡ map buffer_of taken.chain) e are) h))
+
+-- ---- what is refused
+
+le_so : (a b : ℕ) → a ≤ b → nat_le a b ≡ true
+le_so a b h = grind (arith, nat_tests)
+
+copies_so : (size a t : ℕ) → a ≡ 4 + 2 * size → t ≡ 16 * size → are_copies size a t ≡ true
+copies_so size a t e f = grind (arith, nat_tests)
+
+refused_alike : (kind : Kind) (a t room : ℕ) (d : Device) → is_read kind ≡ true →
+    (ring_of kind d).size ≤ room → a ≡ 4 + 2 * (ring_of kind d).size →
+    t ≡ 16 * (ring_of kind d).size → next_denial kind a t room d ≡ queue_denial kind d
+refused_alike kind a t room d read fits e f =
+    let size = (ring_of kind d).size in
+    ap (λ (b : Bool). call_denial kind b (nat_le size room) (are_copies size a t) d) read
+    ∙ (ap (λ (b : Bool). call_denial kind true b (are_copies size a t) d) (le_so size room fits)
+    ∙ ap (λ (b : Bool). call_denial kind true true b d) (copies_so size a t e f))
+
+first_of : (a b : Bool) → (a && b) ≡ true → a ≡ true
+first_of true b e = refl
+first_of false b e = absurd cc
+
+le_true : (a b : ℕ) → nat_le a b ≡ true → a ≤ b
+le_true a b e = grind (arith, nat_tests)
+
+two_pages : (s : Settings) → are_settings s ≡ true → 2 ≤ memory_pages s
+two_pages s e =
+    let least : 8192 ≤ s.memory_end = le_true 8192 s.memory_end (grind (arith, first_of)) in
+    omega (arith, least)
+
+-- ---- the whole
+
+looks_as : (byte : ℕ → ℕ) (w : Whole) (d d3 : Device) (t0 t : Tally) (room : ℕ)
+    (takes : List Access → Type 0) (buffers : List ChainPiece)
+    (result : Result (Option NextChain) Denial) (o : Option Denial) (log : List Access) →
+    is_read w.kind ≡ true → IsMapped w.regions (ring_of w.kind d) →
+    (ring_of w.kind d).size ≤ room → t0.given ≡ false → t.given ≡ false →
+    ((l : List Access) → takes l → TakesChain w (next_chain w t) d t l) →
+    queue_denial w.kind d ≡ o → Stays byte w.regions log →
+    NextBy w.kind (avail_copy byte (ring_of w.kind d)) (table_copy byte (ring_of w.kind d)) room
+    buffers d d3 result → LooksBy o w takes d t0 log → DoesAs result buffers w t d3 log
+looks_as byte w d d3 t0 t room takes buffers result (Some why) log read mapped fits none0 none into
+    e stays n h =
+    let r = ring_of w.kind d in
+    let x = n.denied why (refused_alike w.kind _ _ room d read fits
+    (length-map-range_with_len byte r.avail (4 + 2 * r.size))
+    (length-map-range_with_len byte r.table (16 * r.size)) ∙ e) in
+    let y = ends_so t0.given w d t0 (Some why) false log none0 h in
+    subst (λ (o : Result (Option NextChain) Denial). DoesAs o buffers w t d3 log) (sym x.0)
+    (y.0, y.1 ∙ sym x.1)
+looks_as byte w d d3 t0 t room takes buffers result None log read mapped fits none0 none into e stays
+    n h =
+    let r = ring_of w.kind d in
+    let (answer, reads, is, after) = n.reads (refused_alike w.kind _ _ room d read fits
+    (length-map-range_with_len byte r.avail (4 + 2 * r.size))
+    (length-map-range_with_len byte r.table (16 * r.size)) ∙ e) in
+    let open_so = open_call w.kind true true true d e in
+    let shown_so : IsShown byte w d reads.found = record {
+      size = placed_size d.settings.memory_end r open_so.place;
+      two = two_pages d.settings open_so.settings;
+      mapped = mapped;
+      pops = reads.pops;
+    } in
+    as_answered w d d3 t reads.found answer result buffers log read none reads.answer
+    reads.pieces_are is after
+    (by_place byte w d t0 t takes reads.found (spot w.regions (r.avail + 2) 2) log shown_so none0
+    none into refl mapped.index stays h)
+
+unspent : (w : Whole) (d : Device) (budget : Budget) (n : ℕ) (log : List Access) →
+    budget.chains ≡ suc n → (budget.pages == 0) ≡ false →
+    TakesNext budget.chains w d (fresh budget) log →
+    TakesChain w (next_chain w (with_chains n (fresh budget))) d (with_chains n (fresh budget)) log
+unspent w d budget n log e f h =
+    subst (λ (b : Bool). TakesUnlessSpent b w
+    (next_chain w (with_chains n (fresh budget))) d (with_chains n (fresh budget)) log) f
+    (subst (λ (m : ℕ). TakesNext m w d (fresh budget) log) e h)
+
+pub serves_as : (byte : ℕ → ℕ) (regions : List Region) (kind : Kind) (budget : Budget) (n room : ℕ)
+    (d1 d2 d3 : Device) (outcome : Outcome) (log : List Access) (buffers : List ChainPiece)
+    (answer : Result (Option NextChain) Denial) → is_read kind ≡ true → budget.chains ≡ suc n →
+    (budget.pages == 0) ≡ false → IsMapped regions (ring_of kind d1) →
+    (ring_of kind d1).size ≤ room → Stays byte regions log →
+    NextBy kind (avail_copy byte (ring_of kind d1)) (table_copy byte (ring_of kind d1)) room buffers
+    d1 d3 answer → Serves regions kind budget d1 d2 outcome log →
+    DoesAs answer buffers (whole regions kind d2 outcome) (with_chains n (fresh budget)) d3 log
+serves_as byte regions kind budget n room d1 d2 d3 outcome log buffers answer read some some_pages
+    mapped fits stays next h =
+    let w = whole regions kind d2 outcome in
+    looks_as byte w d1 d3 (fresh budget) (with_chains n (fresh budget)) room
+    (TakesNext budget.chains w d1 (fresh budget)) buffers answer (queue_denial kind d1) log read
+    mapped fits refl refl (λ l x. unspent w d1 budget n l some some_pages x) refl stays next h

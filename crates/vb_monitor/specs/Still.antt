@@ -1,0 +1,87 @@
+-- A notice over memory that stays as it is, beside what the device answers to private copies of it.
+use Rattle.std.specs.Prelude.{◌≡◌, ◌≢◌, ℕ, ◌+◌, ◌*◌, ◌<◌, List, ◌++◌, length, map, take, Option}
+use Rattle.std.specs.Prelude.{Some, None, Result, Ok, Err}
+use Rattle.std.specs.List.{range_with_len, flat_map, AllByRecursion}
+use Rattle.std.specs.Int.{w16, from_le_bytes}
+use Rattle.vb_chain.specs.declared.pieces.Piece.{Piece}
+use Rattle.vb_core.specs.declared.ring.Virtqueue.{Virtqueue}
+use Rattle.vb_core.specs.declared.next.ChainPiece.{ChainPiece}
+use Rattle.vb_core.specs.declared.next.NextChain.{NextChain}
+use Rattle.vb_core.specs.declared.device.Denial.{Denial}
+use Rattle.vb_core.specs.declared.device.Device.{Device}
+use Rattle.vb_monitor.specs.declared.regions.Region.{Region}
+use Rattle.vb_monitor.specs.declared.parts.Part.{Part}
+use Rattle.vb_monitor.specs.declared.outcome.Tally.{Tally}
+use Rattle.vb_monitor.specs.Accesses.{Access, ReadWord, CopyBytes, Acquire, Release, Full}
+use Rattle.vb_monitor.specs.Accesses.{TellPages, TellFigures, Discard, WriteNumber, WriteWord}
+use Rattle.vb_monitor.specs.Regions.{spot}
+use Rattle.vb_monitor.specs.Ends.{Whole}
+use Rattle.vb_monitor.specs.Notices.{entry_offset}
+use Rattle.vb_monitor.specs.Pieces.{pieces_in}
+use Rattle.vb_monitor.specs.Machine.{serves}
+
+-- So many bytes of memory from an address on.
+abbrev pub bytes_from : (ℕ → ℕ) → ℕ → ℕ → List ℕ
+bytes_from byte a len = map byte (range_with_len a len)
+
+-- What is read is what memory has there.
+abbrev pub Holds : (ℕ → ℕ) → List Region → Access → Type 0
+Holds byte regions (ReadWord at answer) =
+    (a : ℕ) → spot regions a 2 ≡ Some at → answer ≡ from_le_bytes w16 (bytes_from byte a 2)
+Holds byte regions (CopyBytes at answer) =
+    (a : ℕ) → spot regions a (length answer) ≡ Some at →
+    answer ≡ bytes_from byte a (length answer)
+Holds byte regions Acquire = Unit {0}
+Holds byte regions Release = Unit {0}
+Holds byte regions Full = Unit {0}
+Holds byte regions (TellPages kind runs named) = Unit {0}
+Holds byte regions (TellFigures figures) = Unit {0}
+Holds byte regions (Discard cut) = Unit {0}
+Holds byte regions (WriteNumber at number) = Unit {0}
+Holds byte regions (WriteWord at word) = Unit {0}
+
+-- Each byte that these accesses read stays as it is.
+abbrev pub Stays : (ℕ → ℕ) → List Region → List Access → Type 0
+Stays byte regions log = AllByRecursion (Holds byte regions) log
+
+-- What is read of a ring is guest memory: the available index, the entry that is taken next, and
+-- each descriptor.
+pub record IsMapped (regions : List Region) (r : Virtqueue) : Type 0 where
+  pub index : spot regions (r.avail + 2) 2 ≢ None
+  pub entry : spot regions (r.avail + entry_offset r) 2 ≢ None
+  pub descriptors : (k : ℕ) → k < r.size → spot regions (r.table + 16 * k) 16 ≢ None
+
+-- Copies of the available ring, up to its last entry, and of the table.
+abbrev pub avail_copy : (ℕ → ℕ) → Virtqueue → List ℕ
+avail_copy byte r = bytes_from byte r.avail (4 + 2 * r.size)
+
+abbrev pub table_copy : (ℕ → ℕ) → Virtqueue → List ℕ
+table_copy byte r = bytes_from byte r.table (16 * r.size)
+
+-- Behind accesses that were made, of the others this holds.
+pub record Behind (does : List Access → Type 0) (log : List Access) : Type 0 where
+  pub read : List Access
+  pub rest : List Access
+  pub all : log ≡ read ++ rest
+  pub is : does rest
+
+-- A notice does what is answered: it ends for the reason that is answered, or as nothing stands
+-- there, with the same device; or the chain that is answered is served, by its pieces, which stand
+-- at the front of these.
+abbrev pub DoesAs : Result (Option NextChain) Denial → List ChainPiece → Whole → Tally → Device →
+    List Access → Type 0
+DoesAs (Err why) buffers w tally d log = (w.outcome.why ≡ Some why) × (w.device ≡ d)
+DoesAs (Ok None) buffers w tally d log = (w.outcome.why ≡ None) × (w.device ≡ d)
+DoesAs (Ok (Some chain)) buffers w tally d log =
+    Behind (serves w tally d chain.head (pieces_in (take chain.pieces buffers))) log
+
+-- ---- the bytes of its pieces
+
+-- The bytes of pieces, one piece after the other.
+abbrev pub bytes_of : (ℕ → ℕ) → List Piece → List ℕ
+bytes_of byte pieces = flat_map (λ p. bytes_from byte p.addr p.len) pieces
+
+-- Each part is guest memory, within one region.
+abbrev pub ArePartsMapped : List Region → List Part → Type 0
+ArePartsMapped regions parts =
+    AllByRecursion (λ part. spot regions (part.address + part.plus) part.length ≢ None) parts
