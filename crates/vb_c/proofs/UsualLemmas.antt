@@ -82,6 +82,33 @@ no_cuts n e = omega (arith, e)
 no_part_left : (q : Phase) → stage q ≡ 3 → stage q ≡ 1 → ⊥
 no_part_left q e f = let x : 3 ≡ 1 = sym e ∙ f in omega (arith, x)
 
+-- what hands a notice over that does nothing before it waits
+hands_nothing : (kind : Kind) (q : Phase) (t : Tally) (regions : List Region) (runs : List Run)
+    (cuts : List Cut) (b : Balloon) (c : VbNotice) →
+    kind_of_code c.kind ≡ Some kind → phase_of c ≡ Some q → tally_of c ≡ t → Says c t q →
+    c.what ≡ answer_bits q → c.orders.cuts ≡ 0 → stage q ≡ 3 → Fits q →
+    held_by (outcome_at q t) kind b ≡ b.held →
+    HandsOver (record { kind = kind; step = record { tally = t; phase = q } }) regions runs b b
+    cuts c
+hands_nothing kind q t regions runs cuts b c k e f says what none late fits over = record {
+  asked = nothing;
+  notice = record { kind = kind; step = record { tally = t; phase = q } };
+  is = record {
+    read = says_notice kind q t c k e f;
+    says = says;
+    what = what ∙ (no_bits (answer_bits q) ∙ sym (ap (λ (n : ℕ). what_of nothing n q) none));
+  };
+  kind_is = refl;
+  step = λ after outcome pieces bytes figures rest h.
+      subst (λ (n : ℕ). AheadAt q (whole regions kind after outcome) t b.device
+      (room_of pieces bytes runs figures) (map Discard (take n cuts) ++ rest)) (sym none) h;
+  room = record { runs = λ x. cc; figures = λ x. cc; cuts = no_cuts c.orders.cuts none };
+  waits_now = stage_waits q late;
+  fills = record { full = λ x. absurd (no_part_left q late x) };
+  fits = fits;
+  held = sym over;
+}
+
 -- where nothing is done before the notice waits, and nothing changes but what it says, and the room
 pub goes_usual : (kind : Kind) (p q : Phase) (s t : Tally) (regions : List Region) (answer : ℕ)
     (b : Balloon) (r1 r2 : VbRoom) (c1 c2 : VbNotice) →
@@ -105,67 +132,24 @@ goes_usual kind p q s t regions answer b r1 r2 c1 c2 k1 e1 f1 k2 e2 f2 says what
       device = b.device;
       kind_is = refl;
       step = step;
-      hands = record {
-        asked = nothing;
-        notice = m;
-        is = record {
-          read = says_notice kind q t c2 k2 e2 f2;
-          says = says;
-          what = what ∙ (no_bits (answer_bits q) ∙ sym (ap (λ (k : ℕ). what_of nothing k q) none));
-        };
-        kind_is = refl;
-        step = λ after outcome pieces bytes figures rest h.
-            subst (λ (k : ℕ). AheadAt q (whole regions kind after outcome) t b.device
-            (room_of pieces bytes r2.runs figures) (map Discard (take k r2.cuts) ++ rest))
-            (sym none) h;
-        room = record { runs = λ e. cc; figures = λ e. cc; cuts = no_cuts c2.orders.cuts none };
-        waits_now = stage_waits q late;
-        fills = record { full = λ e. absurd (no_part_left q late e) };
-        fits = fits;
-        held = sym over;
-      };
+      hands =
+          hands_nothing kind q t regions r2.runs r2.cuts b c2 k2 e2 f2 says what none late fits over;
     })
-
--- what hands a notice over that does nothing before it waits
-hands_nothing : (kind : Kind) (q : Phase) (t : Tally) (regions : List Region) (runs : List Run)
-    (cuts : List Cut) (b : Balloon) (c : VbNotice) →
-    kind_of_code c.kind ≡ Some kind → phase_of c ≡ Some q → tally_of c ≡ t → Says c t q →
-    c.what ≡ answer_bits q → c.orders.cuts ≡ 0 → waits q ≡ true → Fits q →
-    held_by (outcome_at q t) kind b ≡ b.held →
-    HandsOver (record { kind = kind; step = record { tally = t; phase = q } }) regions runs b b
-    cuts c
-hands_nothing kind q t regions runs cuts b c k e f says what none w fits over = record {
-  asked = nothing;
-  notice = record { kind = kind; step = record { tally = t; phase = q } };
-  is = record {
-    read = says_notice kind q t c k e f;
-    says = says;
-    what = what ∙ (no_bits (answer_bits q) ∙ sym (ap (λ (n : ℕ). what_of nothing n q) none));
-  };
-  kind_is = refl;
-  step = λ after outcome pieces bytes figures rest h.
-      subst (λ (n : ℕ). AheadAt q (whole regions kind after outcome) t b.device
-      (room_of pieces bytes runs figures) (map Discard (take n cuts) ++ rest)) (sym none) h;
-  room = record { runs = λ x. cc; figures = λ x. cc; cuts = no_cuts c.orders.cuts none };
-  waits_now = w;
-  fits = fits;
-  held = sym over;
-}
 
 -- a notice that begins so
 pub begins_usual : (from : Device → Outcome → List Access → Type 0) (kind : Kind) (q : Phase)
     (t : Tally) (regions : List Region) (b : Balloon) (r : VbRoom) (c : VbNotice) →
     kind_of_code c.kind ≡ Some kind → phase_of c ≡ Some q → tally_of c ≡ t → Says c t q →
-    c.what ≡ answer_bits q → c.orders.cuts ≡ 0 → waits q ≡ true → Fits q →
+    c.what ≡ answer_bits q → c.orders.cuts ≡ 0 → stage q ≡ 3 → Fits q →
     held_by (outcome_at q t) kind b ≡ b.held →
     ((after : Device) (outcome : Outcome) (room : Room) (log : List Access) →
     AheadAt q (whole regions kind after outcome) t b.device room log → from after outcome log) →
     Begins from regions kind b b r r c
-begins_usual from kind q t regions b r c k e f says what none w fits over step = record {
+begins_usual from kind q t regions b r c k e f says what none late fits over step = record {
   first = record { kind = kind; step = record { tally = t; phase = q } };
   device = b.device;
   kind_is = refl;
   step = step;
-  hands = hands_nothing kind q t regions r.runs r.cuts b c k e f says what none w fits over;
+  hands = hands_nothing kind q t regions r.runs r.cuts b c k e f says what none late fits over;
   room = refl;
 }
