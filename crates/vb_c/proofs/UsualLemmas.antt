@@ -17,7 +17,9 @@ use Rattle.vb_c.specs.Notices.{says_yes, tally_of, walk_of, place_of, part_of, d
 use Rattle.vb_c.specs.Notices.{cut_of_notice, phase_of, notice_by, notice_of, Says, answer_bits}
 use Rattle.vb_c.{specs.declared.notice.VbNotice.VbNotice, specs.declared.notice.VbRoom.VbRoom}
 use Rattle.vb_c.{specs.Codes.{kind_of_code, why_of}, specs.Notices.what_of}
-use Rattle.vb_c.specs.Serving.{held_by, room_in, GoesOnBy}
+use Rattle.vb_c.specs.Serving.{held_by, room_in, HandsOver, Begins, GoesOnBy}
+use Rattle.vb_core.specs.declared.runs.Run.{Run}
+use Rattle.vb_monitor.{specs.declared.cuts.Cut.Cut, specs.Machine.Room}
 
 -- the phase of this number
 abbrev phase_at : ℕ → VbNotice → Option Phase
@@ -117,3 +119,47 @@ goes_usual kind p q s t regions answer b r1 r2 c1 c2 k1 e1 f1 k2 e2 f2 says what
         held = sym over;
       };
     })
+
+-- what hands a notice over that does nothing before it waits
+hands_nothing : (kind : Kind) (q : Phase) (t : Tally) (regions : List Region) (runs : List Run)
+    (cuts : List Cut) (b : Balloon) (c : VbNotice) →
+    kind_of_code c.kind ≡ Some kind → phase_of c ≡ Some q → tally_of c ≡ t → Says c t q →
+    c.what ≡ answer_bits q → c.orders.cuts ≡ 0 → waits q ≡ true → Fits q →
+    held_by (outcome_at q t) kind b ≡ b.held →
+    HandsOver (record { kind = kind; step = record { tally = t; phase = q } }) regions runs b b
+    cuts c
+hands_nothing kind q t regions runs cuts b c k e f says what none w fits over = record {
+  asked = nothing;
+  notice = record { kind = kind; step = record { tally = t; phase = q } };
+  is = record {
+    read = says_notice kind q t c k e f;
+    says = says;
+    what = what ∙ (no_bits (answer_bits q) ∙ sym (ap (λ (n : ℕ). what_of nothing n q) none));
+  };
+  kind_is = refl;
+  step = λ after outcome pieces bytes figures rest h.
+      subst (λ (n : ℕ). AheadAt q (whole regions kind after outcome) t b.device
+      (room_of pieces bytes runs figures) (map Discard (take n cuts) ++ rest)) (sym none) h;
+  room = record { runs = λ x. cc; figures = λ x. cc; cuts = no_cuts c.orders.cuts none };
+  waits_now = w;
+  fits = fits;
+  held = sym over;
+}
+
+-- a notice that begins so
+pub begins_usual : (from : Device → Outcome → List Access → Type 0) (kind : Kind) (q : Phase)
+    (t : Tally) (regions : List Region) (b : Balloon) (r : VbRoom) (c : VbNotice) →
+    kind_of_code c.kind ≡ Some kind → phase_of c ≡ Some q → tally_of c ≡ t → Says c t q →
+    c.what ≡ answer_bits q → c.orders.cuts ≡ 0 → waits q ≡ true → Fits q →
+    held_by (outcome_at q t) kind b ≡ b.held →
+    ((after : Device) (outcome : Outcome) (room : Room) (log : List Access) →
+    AheadAt q (whole regions kind after outcome) t b.device room log → from after outcome log) →
+    Begins from regions kind b b r r c
+begins_usual from kind q t regions b r c k e f says what none w fits over step = record {
+  first = record { kind = kind; step = record { tally = t; phase = q } };
+  device = b.device;
+  kind_is = refl;
+  step = step;
+  hands = hands_nothing kind q t regions r.runs r.cuts b c k e f says what none w fits over;
+  room = refl;
+}

@@ -10,7 +10,7 @@ ghost use Rattle.vb_c.specs.Serving.{HandsOver, BeginsFor, AsksFor, GoesOnBy};
 
 use crate::answers::{BAD_ARGUMENT, NO_QUEUE, NOTHING, kind_of_code};
 use crate::notice::{DESCRIPTOR, PART, VbNotice, VbRoom};
-use crate::usual::go_usually;
+use crate::usual::{begin_usually, go_usually};
 use vb_core::{Kind, Run};
 use vb_monitor::{
     Balloon, Budget, Cut, MAX_BYTES, MAX_CUTS, MAX_RUNS, Notice, Region, after_descriptor,
@@ -67,12 +67,15 @@ pub extern "C" fn vb_begin(
 {
     match kind_of_code(kind) {
         None => refuse(notice, NO_QUEUE),
-        Some(kind) => {
-            if !balloon.may_look(kind) {
+        Some(queue) => {
+            if !balloon.may_look(queue) {
                 return refuse(notice, NOTHING);
             }
             let budget = Budget { chains, pages };
-            let mut begun = Notice::begin(&mut balloon.device, regions, kind, budget);
+            if begin_usually(notice, balloon, regions, room, kind, queue, budget) {
+                return notice.what;
+            }
+            let mut begun = Notice::begin(&mut balloon.device, regions, queue, budget);
             hand_over(
                 notice,
                 balloon,

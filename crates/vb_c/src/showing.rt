@@ -102,7 +102,7 @@ impl VbNotice {
     }
 
     /// Shows what was served, and may be yet.
-    fn show_tally(&mut self, tally: Tally)
+    pub(crate) fn show_tally(&mut self, tally: Tally)
         ensures tally { tally_of self.new ≡ tally }
         ensures kind { self.new.kind ≡ self.old.kind }
         ensures orders { self.new.orders ≡ self.old.orders }
@@ -147,7 +147,7 @@ impl VbNotice {
     }
 
     /// Shows a part of a piece that is to be copied.
-    fn show_part(&mut self, bits: u32, at: Spot, place: Place)
+    pub(crate) fn show_part(&mut self, bits: u32, at: Spot, place: Place)
         requires bits { bits < 16 }
         requires fits { Fits (AwaitsPart at place) }
         ensures phase { phase_of self.new ≡ Some (AwaitsPart at place) }

@@ -6,14 +6,51 @@ ghost use Rattle.vb_monitor.specs.declared.outcome.Outcome.{Outcome};
 ghost use Rattle.vb_monitor.specs.Balloons.{held_after};
 ghost use Rattle.vb_c.specs.Codes.{kind_of_code};
 ghost use Rattle.vb_c.specs.Notices.{notice_of};
-ghost use Rattle.vb_c.specs.Serving.{GoesOnBy};
+ghost use Rattle.vb_monitor.specs.Notices.{Serves};
+ghost use Rattle.vb_c.specs.Serving.{Begins, GoesOnBy};
 
 use crate::answers::kind_of_code;
-use crate::notice::{DESCRIPTOR, ENTRY, FLAGS, INDEX, READ_ENTRY, VbNotice, VbRoom};
+use crate::notice::{DESCRIPTOR, ENTRY, FLAGS, INDEX, READ_ENTRY, READ_INDEX, VbNotice, VbRoom};
 use vb_core::Kind;
 use vb_monitor::{
-    Balloon, Region, Walk, descriptor_after, entry_after, flags_after, next_descriptor,
+    Balloon, Budget, Region, Tally, Walk, descriptor_after, entry_after, first_of_single,
+    flags_after, index_to_look, next_descriptor,
 };
+
+/// A queue that is served is looked at, and its index is guest memory; says whether it is so. Else
+/// nothing is changed.
+pub(crate) fn begin_usually(
+    notice: &mut VbNotice,
+    balloon: &Balloon,
+    regions: &[Region],
+    room: &VbRoom,
+    code: u32,
+    kind: Kind,
+    budget: Budget,
+) -> bool
+    requires { kind_of_code code ≡ Some kind }
+    ensures began { result ≡ true → Begins (λ after outcome log. Serves regions.now kind budget
+        balloon.now.device after outcome log) regions.now kind balloon.now balloon.now room.now
+        room.now notice.new }
+    ensures stays { result ≡ false → notice.new ≡ notice.old }
+{
+    match index_to_look(&balloon.device, regions, kind) {
+        None => false,
+        Some(at) => {
+            let tally = Tally {
+                chains: budget.chains,
+                pages: budget.pages,
+                given: false,
+                held: None,
+            };
+            notice.kind = code;
+            notice.orders.cuts = 0;
+            notice.show_tally(tally);
+            notice.show_read(READ_INDEX, INDEX, at);
+            true
+        }
+    }
+}
 
 /// The index was read, and another chain stands there, or none any more behind one that was given
 /// back; says whether it is so. Else nothing is changed.
@@ -111,6 +148,39 @@ fn go_descriptor(
     }
 }
 
+/// A descriptor was copied that is a whole request by itself; says whether it is so. Else nothing
+/// is changed.
+fn go_single(
+    notice: &mut VbNotice,
+    balloon: &Balloon,
+    regions: &[Region],
+    room: &mut VbRoom,
+    kind: Kind,
+    answer: u16,
+) -> bool
+    requires kind { kind_of_code notice.old.kind ≡ Some kind }
+    requires phase { notice.old.phase ≡ 3 }
+    ensures went { result ≡ true → GoesOnBy (notice_of notice.old) regions.now answer balloon.now
+        balloon.now room.old room.new notice.new }
+    ensures stays { result ≡ false → (notice.new ≡ notice.old) × (room.new ≡ room.old) }
+{
+    match first_of_single(
+        &balloon.device,
+        regions,
+        kind,
+        notice.walk(),
+        &mut room.pieces,
+        &room.bytes,
+    ) {
+        None => false,
+        Some(first) => {
+            notice.orders.cuts = 0;
+            notice.show_part(0, first.at, first.place);
+            true
+        }
+    }
+}
+
 /// Whether no buffer of this kind's queue is held.
 fn holds_none(kind: Kind) -> bool
     ensures { result ≡ true → (outcome : Outcome) (balloon : Balloon) →
@@ -165,7 +235,12 @@ pub(crate) fn go_usually(
         Some(kind) => match notice.phase {
             INDEX => go_index(notice, balloon, regions, room, kind, answer),
             ENTRY => go_entry(notice, balloon, regions, room, kind, answer),
-            DESCRIPTOR => go_descriptor(notice, balloon, regions, room, kind, answer),
+            DESCRIPTOR => {
+                if go_descriptor(notice, balloon, regions, room, kind, answer) {
+                    return true;
+                }
+                go_single(notice, balloon, regions, room, kind, answer)
+            }
             FLAGS => go_flags(notice, balloon, regions, room, kind, answer),
             _ => false,
         },

@@ -1,7 +1,7 @@
 -- How often a page stands in runs.
 use Rattle.std.proofs.Common.{◌≡◌, ◌∙◌, ℕ, zero, suc, ◌+◌, ◌-◌, ◌<◌, List, [], ◌∷◌, ◌++◌, refl}
 use Rattle.std.proofs.Common.{length, get_or, set, take, sym, ap, arith, subst, append_assoc, ◌≤◌}
-use Rattle.std.{proofs.Common.length-append, specs.Prelude.{◌==◌, Some, map}}
+use Rattle.std.{proofs.Common.length-append, specs.Prelude.{◌==◌, Some, map, ◌≢◌, ◌^◌, ◌%◌, ◌↔◌}}
 use Rattle.std.{proofs.lemmas.Bool.{eqb-true, eq-eqb}, specs.List.range_with_len}
 use Rattle.std.{proofs.lemmas.Grind.take-set_at, proofs.lemmas.List.{append-nil, take_more}}
 use Rattle.vb_model.{specs.Tests.one_if, specs.Orderly.times}
@@ -10,7 +10,9 @@ use Rattle.vb_chain.specs.declared.pieces.Piece.{Piece}
 use Rattle.vb_request.specs.Report.{pages_of_piece, pages_of_pieces}
 use Rattle.vb_core.specs.Runs.{pages_of_run, pages_of_runs, IsApartFrom, IsApart, joined, Grows}
 use Rattle.vb_core.{specs.Report.run_of, specs.declared.runs.Run.Run}
-use Rattle.vb_core.specs.Runs.{one_page, IsPart, Tell}
+use Rattle.vb_core.{specs.declared.runs.Ends.Ends, specs.Runs.{one_page, IsPart, Tell}}
+use Rattle.vb_core.specs.RunEnds.{AreEndsOf, AreEnds}
+use Rattle.std.proofs.lemmas.Grind.{get_or-set_at}
 
 pub times-one : (p x : ℕ) → times p (x ∷ []) ≡ one_if (x == p)
 times-one p x = let e = times-cons p x [] in omega (arith, e)
@@ -268,23 +270,16 @@ last_joined page used runs d new some few joined ns t =
     grind (arith, take-set_at, tell_last, first_are)
 
 -- none of them takes it in
-pub last_apart : (page used : ℕ) (runs : List Run) (d : Run) → 0 < used →
-    used ≤ length runs →
-    ((get_or runs (used - 1) d).count < 4294967295 →
-    IsApartFrom (get_or runs (used - 1) d) page) →
-    (ns : List ℕ) → length ns < 4294967295 → Tell (take used runs) ns →
+last_apart : (page used : ℕ) (runs : List Run) (d : Run) → 0 < used → used ≤ length runs →
+    IsApartFrom (get_or runs (used - 1) d) page → (ns : List ℕ) → Tell (take used runs) ns →
     Tell (take used runs ++ one_page page ∷ []) (ns ++ page ∷ [])
-last_apart page used runs d some few apart ns short t =
+last_apart page used runs d some few apart ns t =
     let is = first_are used runs d some few in
-    let there : Tell (take (used - 1) runs ++ get_or runs (used - 1) d ∷ []) ns =
-    subst (λ (rs : List Run). Tell rs ns) is t in
-    let count : (get_or runs (used - 1) d).count ≤ length ns =
-    last_few (take (used - 1) runs) (get_or runs (used - 1) d) ns there in
     subst (λ (rs : List Run). Tell (rs ++ one_page page ∷ []) (ns ++ page ∷ [])) (sym is)
-    (tell_new (take (used - 1) runs) (get_or runs (used - 1) d) ns page
-    (apart (omega (arith, count, short))) there)
+    (tell_new (take (used - 1) runs) (get_or runs (used - 1) d) ns page apart
+    (subst (λ (rs : List Run). Tell rs ns) is t))
 
-pub none_apart : (page used : ℕ) (runs : List Run) → used ≡ 0 →
+none_apart : (page used : ℕ) (runs : List Run) → used ≡ 0 →
     (ns : List ℕ) → Tell (take used runs) ns →
     Tell (take used runs ++ one_page page ∷ []) (ns ++ page ∷ [])
 none_apart page used runs e ns t = grind (arith, alone_tells)
@@ -301,3 +296,118 @@ pub runs_of_pieces : (pieces : List Piece) →
 runs_of_pieces [] = refl
 runs_of_pieces (piece ∷ pieces) =
     ap (λ (xs : List ℕ). pages_of_piece piece ++ xs) (runs_of_pieces pieces)
+
+-- ---- the pages that join the last run
+
+last_count : (used : ℕ) (runs : List Run) (d : Run) (ns : List ℕ) → 0 < used →
+    used ≤ length runs → Tell (take used runs) ns → (get_or runs (used - 1) d).count ≤ length ns
+last_count used runs d ns some few t =
+    last_few (take (used - 1) runs) (get_or runs (used - 1) d) ns
+    (subst (λ (rs : List Run). Tell rs ns) (first_are used runs d some few) t)
+
+ends_of_last : (ends : Ends) (used : ℕ) (runs : List Run) (new : Run) → 0 < used →
+    used ≤ length runs → AreEndsOf ends new → AreEnds ends used (set runs (used - 1) new)
+ends_of_last ends used runs new some few are = record {
+  none = λ e. absurd (omega (arith, some, e));
+  some = λ d lt.
+      subst (λ (r : Run). AreEndsOf ends r)
+      (sym (get_or-set_at runs (used - 1) (used - 1) new d refl (omega (arith, some, few)))) are;
+}
+
+-- it takes one of them in
+pub last_longer : (page used : ℕ) (runs : List Run) (d new : Run) (now : Ends) → 0 < used →
+    used ≤ length runs →
+    ((get_or runs (used - 1) d).count < 4294967295 →
+    (joined (get_or runs (used - 1) d) page ≡ Some new) × AreEndsOf now new) →
+    (ns : List ℕ) → length ns < 4294967295 → Tell (take used runs) ns →
+    Tell (take used (set runs (used - 1) new)) (ns ++ page ∷ [])
+    × AreEnds now used (set runs (used - 1) new)
+last_longer page used runs d new now some few joins ns short t =
+    let count = last_count used runs d ns some few t in
+    let h = joins (omega (arith, count, short)) in
+    (last_joined page used runs d new some few h.0 ns t, ends_of_last now used runs new some few h.1)
+
+-- a page that is one of them joins it, and others join it then
+pub joins_behind : (r : Run) (page : ℕ) (ends : Ends) → ends.behind ≡ page → AreEndsOf ends r →
+    r.count < 4294967295 →
+    (joined r page ≡ Some (record { first = r.first; count = (r.count + 1) % 4294967296 }))
+    × AreEndsOf (record { behind = ends.behind + 1; before = ends.before })
+    (record { first = r.first; count = (r.count + 1) % 4294967296 })
+joins_behind r page ends e are short =
+    let small : r.count + 1 ≡ (r.count + 1) % 4294967296 = omega (arith, short) in
+    subst (λ (n : ℕ). (joined r page ≡ Some (record { first = r.first; count = n }))
+    × AreEndsOf (record { behind = ends.behind + 1; before = ends.before })
+    (record { first = r.first; count = n })) small (
+      joins_up r page (sym are.behind ∙ e),
+      record { behind = omega (arith, are.behind); before = are.before },
+    )
+
+page_before : (page n : ℕ) → page < 4294967296 → n < 2 ^ 32 →
+    ((page + 18446744073709551615) % 18446744073709551616 ≡ n) ↔ (n + 1 ≡ page)
+page_before page n fits small =
+    (λ e. omega (arith, e, fits, small), λ e. omega (arith, e, fits, small))
+
+pub joins_before : (r : Run) (page number : ℕ) (ends : Ends) → number ≡ page →
+    page < 4294967296 → ends.before ≡ page → AreEndsOf ends r → r.count < 4294967295 →
+    (joined r page ≡ Some (record { first = page; count = (r.count + 1) % 4294967296 }))
+    × AreEndsOf (record {
+      behind = ends.behind;
+      before = (number + 18446744073709551615) % 18446744073709551616;
+    }) (record { first = page; count = (r.count + 1) % 4294967296 })
+joins_before r page number ends same fits e are short =
+    let small : r.count + 1 ≡ (r.count + 1) % 4294967296 = omega (arith, short) in
+    let first : page + 1 ≡ r.first = (are.before page fits).0 e in
+    subst (λ (n : ℕ). (joined r page ≡ Some (record { first = page; count = n }))
+    × AreEndsOf (record {
+      behind = ends.behind;
+      before = (number + 18446744073709551615) % 18446744073709551616;
+    }) (record { first = page; count = n })) small (
+      joins_down r page first,
+      record {
+        behind = omega (arith, are.behind, first);
+        before = λ n lt.
+            subst (λ (m : ℕ). ((m + 18446744073709551615) % 18446744073709551616 ≡ n) ↔
+            (n + 1 ≡ page)) (sym same) (page_before page n fits lt);
+      },
+    )
+
+-- one that is none of them doesn't
+pub no_end : (page used : ℕ) (runs : List Run) (d : Run) (ends : Ends) → AreEnds ends used runs →
+    used ≤ length runs → page < 4294967296 → ends.behind ≢ page → ends.before ≢ page →
+    (ns : List ℕ) → Tell (take used runs) ns →
+    Tell (take used runs ++ one_page page ∷ []) (ns ++ page ∷ [])
+no_end page zero runs d ends are few fits behind before ns t = none_apart page zero runs refl ns t
+no_end page (suc n) runs d ends are few fits behind before ns t =
+    let of = are.some d (omega arith) in
+    last_apart page (suc n) runs d (omega arith) few
+    (λ e. behind (of.behind ∙ sym e), λ e. before ((of.before page fits).1 e)) ns t
+
+pub some_behind : (page used : ℕ) (runs : List Run) (ends : Ends) → AreEnds ends used runs →
+    page < 4294967296 → ends.behind ≡ page → 0 < used
+some_behind page zero runs ends are fits e =
+    let none = (are.none refl).0 in
+    absurd (omega (arith, none, fits, e))
+some_behind page (suc n) runs ends are fits e = omega arith
+
+pub some_before : (page used : ℕ) (runs : List Run) (ends : Ends) → AreEnds ends used runs →
+    page < 4294967296 → ends.before ≡ page → 0 < used
+some_before page zero runs ends are fits e =
+    let none = (are.none refl).1 in
+    absurd (omega (arith, none, fits, e))
+some_before page (suc n) runs ends are fits e = omega arith
+
+pub ends_of_new : (ends : Ends) (used : ℕ) (runs : List Run) (new : Run) → used < length runs →
+    AreEndsOf ends new → AreEnds ends (used + 1) (set runs used new)
+ends_of_new ends used runs new room are = record {
+  none = λ e. absurd (omega (arith, e));
+  some = λ d lt.
+      subst (λ (r : Run). AreEndsOf ends r)
+      (sym (get_or-set_at runs used (used + 1 - 1) new d (omega arith) room)) are;
+}
+
+pub same_ends : (ends now : Ends) (used others : ℕ) (runs new : List Run) → ends ≡ now →
+    used ≡ others → runs ≡ new → AreEnds now others new → AreEnds ends used runs
+same_ends ends now used others runs new e f g are =
+    subst (λ (x : Ends). AreEnds x used runs) (sym e)
+    (subst (λ (n : ℕ). AreEnds now n runs) (sym f)
+    (subst (λ (rs : List Run). AreEnds now others rs) (sym g) are))

@@ -8,6 +8,7 @@ pub mod Using
 pub mod Statuses
 pub mod Config
 pub mod Runs
+pub mod RunEnds
 pub mod Name
 pub mod Report
 pub mod Statistics

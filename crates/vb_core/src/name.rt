@@ -5,7 +5,7 @@ ghost use Rattle.vb_model.specs.declared.layout.TheConstants.{REQUEST_BUFFER_SIZ
 ghost use Rattle.vb_request.specs.Request.{numbers_of};
 ghost use Rattle.vb_core.specs.Name.{is_request, NamesRuns, NamesBy};
 
-use crate::runs::add_page;
+use crate::runs::{Ends, add_page};
 use crate::{Denial, Device, Kind, Run};
 use vb_chain::ChainFault;
 use vb_request::{is_request_length, number_at, number_fault};
@@ -44,10 +44,11 @@ fn name_runs(limits: Limits, bytes: &[u8], runs: &mut [Run]) -> Result<Named, Ch
     let total = bytes.len() / 4;
     let mut used = 0;
     let mut skipped = 0;
+    let mut ends = Ends::NONE;
     for k in 0..total {
         let number = number_at(bytes, k);
         match number_fault(limits.reserved, limits.count, number) {
-            None => used = add_page(runs, used, number),
+            None => used = add_page(runs, used, &mut ends, number),
             Some(fault) => {
                 if !limits.skips {
                     return Err(fault);

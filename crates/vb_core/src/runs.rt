@@ -2,7 +2,8 @@
 
 ghost use Rattle.std.specs.Prelude.{◌≡◌, ℕ, ◌+◌, ◌<◌, ◌≤◌, ◌==◌, ◌++◌, ◌∷◌, [], true, false, List};
 ghost use Rattle.std.specs.Prelude.{Some, length, take};
-ghost use Rattle.vb_core.specs.Runs.{IsApartFrom, Tell, joined, one_page};
+ghost use Rattle.vb_core.specs.Runs.{Tell, one_page};
+ghost use Rattle.vb_core.specs.RunEnds.{AreEndsOf, AreEnds};
 
 /// Pages whose numbers rise by one.
 #[repr(C)]
@@ -17,63 +18,85 @@ pub struct Run {
 impl Run {
     /// No pages.
     pub const NONE: Run = Run { first: 0, count: 0 };
+}
 
-    /// Takes a page in where it follows the run's pages, or stands right before them; says whether
-    /// it was taken in.
-    fn join(&mut self, page: u32) -> bool
-        ensures joined { result ≡ true → joined self.old page ≡ Some self.new }
-        ensures apart { result ≡ false → self.old.count < 4294967295 →
-            IsApartFrom self.old page }
-        ensures same { result ≡ false → self.new ≡ self.old }
+/// The pages that join the last one of some runs.
+#[derive(Clone, Copy, Debug)]
+pub(crate) struct Ends {
+    /// The page that follows it. Past all pages where there is no run.
+    behind: u64,
+    /// The page right before it. Past all pages where there is none.
+    before: u64,
+}
+
+impl Ends {
+    /// Those of no runs.
+    pub(crate) const NONE: Ends = Ends {
+        behind: u64::MAX,
+        before: u64::MAX,
+    };
+
+    /// Those of runs whose last one is one page.
+    #[inline(always)]
+    fn of_page(page: u32) -> Ends
+        ensures { AreEndsOf result (one_page page) }
     {
-        if self.count == u32::MAX {
-            return false;
+        let number = u64::from(page);
+        Ends {
+            behind: number + 1,
+            before: number.wrapping_sub(1),
         }
-        let behind = u64::from(self.first) + u64::from(self.count);
-        let before = u64::from(page) + 1;
-        if behind == u64::from(page) {
-            self.count += 1;
-            return true;
-        }
-        if before == u64::from(self.first) {
-            self.first = page;
-            self.count += 1;
-            return true;
-        }
-        false
     }
 }
 
 /// Takes a page into the last of the first `used` runs, where it joins that one; says whether.
-fn join_last(runs: &mut [Run], used: usize, page: u32) -> bool
-    requires { used ≤ length runs.old }
-    ensures joined { result ≡ true → (ns : List ℕ) → Tell (take used runs.old) ns →
-        Tell (take used runs.new) (ns ++ page ∷ []) }
-    ensures apart { result ≡ false → (ns : List ℕ) → length ns < 4294967295 →
+#[inline(always)]
+fn join_last(runs: &mut [Run], used: usize, ends: &mut Ends, page: u32) -> bool
+    requires room { used ≤ length runs.old }
+    requires ends { AreEnds ends.old used runs.old }
+    ensures joined { result ≡ true → (ns : List ℕ) → length ns < 4294967295 →
         Tell (take used runs.old) ns →
+        Tell (take used runs.new) (ns ++ page ∷ []) × AreEnds ends.new used runs.new }
+    ensures apart { result ≡ false → (ns : List ℕ) → Tell (take used runs.old) ns →
         Tell (take used runs.old ++ one_page page ∷ []) (ns ++ page ∷ []) }
     ensures same { result ≡ false → runs.new ≡ runs.old }
 {
-    if used == 0 {
-        return false;
+    let number = u64::from(page);
+    if ends.behind == number {
+        let last = &mut runs[used - 1];
+        last.count = last.count.wrapping_add(1);
+        ends.behind += 1;
+        return true;
     }
-    runs[used - 1].join(page)
+    if ends.before == number {
+        let last = &mut runs[used - 1];
+        *last = Run {
+            first: page,
+            count: last.count.wrapping_add(1),
+        };
+        ends.before = number.wrapping_sub(1);
+        return true;
+    }
+    false
 }
 
 /// Puts a page behind those of the first `used` runs: into the last of them where it joins that
 /// one, and else into a run of its own. Answers how many runs are used then.
-pub(crate) fn add_page(runs: &mut [Run], used: usize, page: u32) -> usize
-    requires { used < length runs.old }
+#[inline(always)]
+pub(crate) fn add_page(runs: &mut [Run], used: usize, ends: &mut Ends, page: u32) -> usize
+    requires room { used < length runs.old }
+    requires ends { AreEnds ends.old used runs.old }
     ensures told { (ns : List ℕ) → length ns < 4294967295 → Tell (take used runs.old) ns →
-        Tell (take result runs.new) (ns ++ page ∷ []) }
+        Tell (take result runs.new) (ns ++ page ∷ []) × AreEnds ends.new result runs.new }
     ensures few { result ≤ used + 1 }
 {
-    if join_last(runs, used, page) {
+    if join_last(runs, used, ends, page) {
         return used;
     }
     runs[used] = Run {
         first: page,
         count: 1,
     };
+    *ends = Ends::of_page(page);
     used + 1
 }

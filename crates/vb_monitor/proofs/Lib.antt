@@ -1,4 +1,6 @@
 pub mod RegionLemmas
+pub mod SoleLemmas
+pub mod SingleLemmas
 pub mod PartLemmas
 pub mod BufferLemmas
 pub mod NextLemmas
@@ -10,6 +12,7 @@ pub mod RowLemmas
 pub mod TouchLemmas
 pub mod CountLemmas
 mod RegionFacts
+mod SoleFacts
 mod NoticeFacts
 mod OrderFacts
 pub mod PlaceLemmas

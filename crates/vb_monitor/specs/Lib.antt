@@ -7,6 +7,8 @@ pub mod Chains
 pub mod Notices
 pub mod Machine
 pub mod Orders
+pub mod Sole
+pub mod Single
 pub mod Touched
 pub mod Balloons
 pub mod Order

@@ -13,9 +13,10 @@ ghost use Rattle.vb_monitor.specs.declared.orders.Told.TheVariants.{Pages, Figur
 ghost use Rattle.vb_monitor.specs.declared.room.TheConstants.{MAX_RUNS, MAX_FIGURES};
 ghost use Rattle.vb_monitor.specs.Orders.{cuts_left, telling, giving, at_once, HasRoom};
 
-use crate::cuts::{NextCut, cut_behind};
+use crate::cuts::NextCut;
 use crate::discards::{after_told, first_runs};
 use crate::ends::end;
+use crate::filling::fill;
 use crate::giving::give_back;
 use crate::looks::after_given;
 use crate::room::MAX_RUNS;
@@ -116,41 +117,6 @@ fn tell(
     }
 }
 
-/// Parts that were put into a list.
-#[derive(Clone, Copy, Debug)]
-struct Filled {
-    /// How many there are.
-    count: u32,
-    /// The part for which there was no room.
-    left: Option<NextCut>,
-}
-
-/// Puts a part and those behind it to the front of the list, as many as have room.
-#[inline(never)]
-fn fill(regions: &[Region], runs: &[Run], first: NextCut, cuts: &mut [Cut; MAX_CUTS]) -> Filled
-    ensures few { result.count ≤ MAX_CUTS }
-    ensures parts { first.cut ∷ cuts_behind first.from first.run regions.now runs.now ≡
-        take result.count cuts.new ++ cuts_left regions.now runs.now result.left }
-{
-    let mut next = first;
-    for count in 0..MAX_CUTS {
-        cuts[count] = next.cut;
-        match cut_behind(regions, runs, next.run, next.from) {
-            None => {
-                return Filled {
-                    count: count as u32 + 1,
-                    left: None,
-                };
-            }
-            Some(found) => next = found,
-        }
-    }
-    Filled {
-        count: MAX_CUTS as u32,
-        left: Some(next),
-    }
-}
-
 /// Discards parts, where that is to be done next, as many as the list has room for; says how many.
 #[tactic(auto, using(crate::proofs::OrderLemmas::discards_all))]
 #[inline(always)]
@@ -185,7 +151,8 @@ fn discard(
                 from,
             } = discarding;
             let named = first_runs(runs, count as usize);
-            let filled = fill(regions, named, NextCut { run, cut, from }, cuts);
+            let first = NextCut { run, cut, from };
+            let filled = fill(regions, named, &first, cuts);
             match filled.left {
                 None => *step = give_back(device, regions, kind, tally, head),
                 Some(found) => {

@@ -28,7 +28,7 @@ pub(crate) fn first_pieces(pieces: &[ChainPiece; MAX_PIECES], count: u16) -> &[C
 }
 
 /// What a descriptor says of its buffer.
-fn buffer_of(descriptor: &Descriptor) -> ChainPiece
+pub(crate) fn buffer_of(descriptor: &Descriptor) -> ChainPiece
     ensures { piece_in result ≡ piece_of descriptor.now }
 {
     ChainPiece {

@@ -4,6 +4,7 @@ use Rattle.std.proofs.lemmas.List.{take_all}
 use Rattle.vb_request.specs.Request.{number_fault, numbers_of}
 use Rattle.vb_request.proofs.Once.{numbers_of-length, numbers_of-at}
 use Rattle.vb_core.proofs.NameLemmas.{Named_so_far, more_named, more_skipped, same_named}
+use Rattle.vb_core.{specs.Name.right_numbers, proofs.RunLemmas.same_ends}
 use Rattle.vb_core.proofs.NameLemmas.{all_named, names_fault}
 use Rattle.vb_core.proofs.name.name_runs.Goals as goal
 use Rattle.vb_core.proofs.name.name_runs.Goals.{in-None, in-Some+else-not-limits}
@@ -20,7 +21,7 @@ returns-then-not-limits c =
     let stays : c.args.limits.skips ≡ false = search rules in
     names_fault c.args.limits.skips c.args.limits.reserved c.args.limits.count
     (numbers_of c.args.bytes.now) c.loop-k.k c.number_at-number.result c.in-Some.fault
-    c.loop-k.runs lt at wrong stays c.loop-k.invariant.sound
+    c.loop-k.runs lt at wrong stays c.loop-k.invariant.named.sound
 
 pub loop-k-preserved : goal.loop-k-preserved
 loop-k-preserved c =
@@ -33,28 +34,48 @@ loop-k-preserved c =
       | in-None w ↦
           let right : number_fault c.args.limits.reserved c.args.limits.count
           c.number_at-number.result ≡ None = sym w.in-None.ensures in
-          same_named c.args.limits.skips c.args.limits.reserved c.args.limits.count
-          (take (c.loop-k.k + 1) (numbers_of c.args.bytes.now)) (c.loop-k.k + 1)
-          c.match-number_fault.runs w.add_page-used.new.runs c.match-number_fault.used
-          w.add_page-used.result c.match-number_fault.skipped c.loop-k.skipped
-          w.runs-is w.used-is w.skipped-is
-          (more_named c.args.limits.skips c.args.limits.reserved c.args.limits.count
-          (numbers_of c.args.bytes.now) c.loop-k.k c.number_at-number.result c.loop-k.runs
-          w.add_page-used.new.runs c.loop-k.used w.add_page-used.result c.loop-k.skipped lt at
-          right w.add_page-used.ensures.few w.add_page-used.ensures.told
-          (omega (arith, inside, c.requires.few)) c.loop-k.invariant)
+          let short : c.loop-k.k < 4294967295 = omega (arith, inside, c.requires.few) in
+          let told = w.add_page-used.ensures.told in
+          let before = c.loop-k.invariant.named in
+          record {
+            named =
+                same_named c.args.limits.skips c.args.limits.reserved c.args.limits.count
+                (take (c.loop-k.k + 1) (numbers_of c.args.bytes.now)) (c.loop-k.k + 1)
+                c.match-number_fault.runs w.add_page-used.new.runs c.match-number_fault.used
+                w.add_page-used.result c.match-number_fault.skipped c.loop-k.skipped
+                w.runs-is w.used-is w.skipped-is
+                (more_named c.args.limits.skips c.args.limits.reserved c.args.limits.count
+                (numbers_of c.args.bytes.now) c.loop-k.k c.number_at-number.result c.loop-k.runs
+                w.add_page-used.new.runs c.loop-k.used w.add_page-used.result c.loop-k.skipped lt
+                at right w.add_page-used.ensures.few (λ ms few t. (told ms few t).0) short before);
+            ends =
+                same_ends c.match-number_fault.ends w.add_page-used.new.ends
+                c.match-number_fault.used w.add_page-used.result c.match-number_fault.runs
+                w.add_page-used.new.runs w.ends-is w.used-is w.runs-is
+                (told (right_numbers c.args.limits.reserved c.args.limits.count
+                (take c.loop-k.k (numbers_of c.args.bytes.now)))
+                (omega (arith, before.others, short)) before.told_so).1;
+          }
       | in-Some+else-not-limits w ↦
           let wrong : number_fault c.args.limits.reserved c.args.limits.count
           c.number_at-number.result ≡ Some w.in-Some.fault = sym w.in-Some.ensures in
           let skips : c.args.limits.skips ≡ true = search rules in
-          same_named c.args.limits.skips c.args.limits.reserved c.args.limits.count
-          (take (c.loop-k.k + 1) (numbers_of c.args.bytes.now)) (c.loop-k.k + 1)
-          c.match-number_fault.runs c.loop-k.runs c.match-number_fault.used
-          c.loop-k.used c.match-number_fault.skipped (c.loop-k.skipped + 1)
-          w.runs-is w.used-is w.skipped-is
-          (more_skipped c.args.limits.skips c.args.limits.reserved c.args.limits.count
-          (numbers_of c.args.bytes.now) c.loop-k.k c.number_at-number.result w.in-Some.fault
-          c.loop-k.runs c.loop-k.used c.loop-k.skipped lt at wrong skips c.loop-k.invariant)
+          record {
+            named =
+                same_named c.args.limits.skips c.args.limits.reserved c.args.limits.count
+                (take (c.loop-k.k + 1) (numbers_of c.args.bytes.now)) (c.loop-k.k + 1)
+                c.match-number_fault.runs c.loop-k.runs c.match-number_fault.used
+                c.loop-k.used c.match-number_fault.skipped (c.loop-k.skipped + 1)
+                w.runs-is w.used-is w.skipped-is
+                (more_skipped c.args.limits.skips c.args.limits.reserved c.args.limits.count
+                (numbers_of c.args.bytes.now) c.loop-k.k c.number_at-number.result
+                w.in-Some.fault c.loop-k.runs c.loop-k.used c.loop-k.skipped lt at wrong skips
+                c.loop-k.invariant.named);
+            ends =
+                same_ends c.match-number_fault.ends c.loop-k.ends c.match-number_fault.used
+                c.loop-k.used c.match-number_fault.runs c.loop-k.runs w.ends-is w.used-is
+                w.runs-is c.loop-k.invariant.ends;
+          }
     ]
 
 pub returns : goal.returns
@@ -73,7 +94,7 @@ returns c =
     c.loop-k.skipped) whole
     (subst (λ (n : ℕ). Named_so_far c.args.limits.skips c.args.limits.reserved
     c.args.limits.count (take c.loop-k.k (numbers_of c.args.bytes.now)) n c.loop-k.runs
-    c.loop-k.used c.loop-k.skipped) last c.loop-k.invariant) in
+    c.loop-k.used c.loop-k.skipped) last c.loop-k.invariant.named) in
     all_named c.args.limits.skips c.args.limits.reserved c.args.limits.count
     (numbers_of c.args.bytes.now) c.loop-k.runs c.loop-k.used c.loop-k.skipped
     (record {

@@ -1,20 +1,33 @@
-use Rattle.std.proofs.Common.{◌<◌, ◌≤◌, length, arith}
-use Rattle.vb_core.proofs.RunLemmas.{last_joined, last_apart, none_apart}
+use Rattle.std.proofs.Common.{◌≡◌, ◌∙◌, ◌-◌, get_or, sym}
+use Rattle.vb_core.{specs.declared.runs.Run.Run, proofs.RunLemmas.{last_longer, no_end}}
+use Rattle.vb_core.proofs.RunLemmas.{joins_behind, joins_before, some_behind, some_before}
 use Rattle.vb_core.proofs.runs.join_last.Goals as goal
 
-pub returns-then-used-eq0-clause-apart : goal.returns-then-used-eq0-clause-apart
-returns-then-used-eq0-clause-apart c _ ns short t =
-    none_apart c.args.page c.args.used c.args.runs.now c.if-used-eq0.true ns t
+abbrev none : Run
+none = record { first = 0; count = 0 }
 
-pub returns-clause-joined : goal.returns-clause-joined
-returns-clause-joined c e ns t =
-    let some : 0 < c.args.used = omega (arith, c.if-used-eq0.false) in
-    let few : c.args.used ≤ length c.args.runs.now = omega (arith, c.requires) in
-    last_joined c.args.page c.args.used c.args.runs.now _ c.join.new.self some few
-    (c.join.ensures.joined e) ns t
+pub returns-then-ends-number-clause-joined : goal.returns-then-ends-number-clause-joined
+returns-then-ends-number-clause-joined c _ =
+    let is : c.args.ends.now.behind ≡ c.args.page = c.if-ends-number.true ∙ c.from-number.ensures in
+    let some = some_behind c.args.page c.args.used c.args.runs.now c.args.ends.now c.requires.ends
+    c.ranges.page.fits is in
+    last_longer c.args.page c.args.used c.args.runs.now none _ _ some c.requires.room
+    (joins_behind (get_or c.args.runs.now (c.args.used - 1) none) c.args.page c.args.ends.now is
+    (c.requires.ends.some none some))
+
+pub returns-then-ends-number-2-clause-joined : goal.returns-then-ends-number-2-clause-joined
+returns-then-ends-number-2-clause-joined c _ =
+    let is : c.args.ends.now.before ≡ c.args.page =
+    c.if-ends-number-2.true ∙ c.from-number.ensures in
+    let some = some_before c.args.page c.args.used c.args.runs.now c.args.ends.now c.requires.ends
+    c.ranges.page.fits is in
+    last_longer c.args.page c.args.used c.args.runs.now none _ _ some c.requires.room
+    (joins_before (get_or c.args.runs.now (c.args.used - 1) none) c.args.page c.from-number.result
+    c.args.ends.now c.from-number.ensures c.ranges.page.fits is (c.requires.ends.some none some))
 
 pub returns-clause-apart : goal.returns-clause-apart
-returns-clause-apart c e ns short t =
-    let some : 0 < c.args.used = omega (arith, c.if-used-eq0.false) in
-    let few : c.args.used ≤ length c.args.runs.now = omega (arith, c.requires) in
-    last_apart c.args.page c.args.used c.args.runs.now _ some few (c.join.ensures.apart e) ns short t
+returns-clause-apart c _ =
+    no_end c.args.page c.args.used c.args.runs.now none c.args.ends.now c.requires.ends
+    c.requires.room c.ranges.page.fits
+    (λ e. c.if-ends-number.false (e ∙ sym c.from-number.ensures))
+    (λ e. c.if-ends-number-2.false (e ∙ sym c.from-number.ensures))
