@@ -134,14 +134,7 @@ supplies_back Answers size s1 s2 s3 s4 l1 l2 l3 m1 m2 m3 m4 page n why lt none a
       answered = (s2, answer, here.answered);
       answer = here.answer;
       supplied = tt;
-      refused = (
-        left ∙ here.refused.0,
-        moves_as s1 s4 (λ x. times x (n ∷ []) + 0 + 0) (λ x. 0 + 0 + times x (n ∷ [])) nothing
-            nothing
-            (moves_then s1 s3 s4 (λ x. times x (n ∷ []) + 0) (λ x. 0 + 0) nothing
-            (λ x. times x (n ∷ [])) out back)
-            (λ x. omega arith),
-      );
+      refused = search (arith, moves_as, moves_then);
     })
 
 -- the claimed frame is out still, where the rest got none

@@ -1,9 +1,9 @@
 -- What a device does for a guest that wrote past its driver.
 use Rattle.std.specs.Prelude.{◌≡◌, ℕ, ◌+◌, ◌<◌, ◌≤◌, ◌==◌, Bool, true, false, not, ◌&&◌, ◌||◌, List}
 use Rattle.std.specs.Prelude.{[], ◌∷◌, ◌++◌, length, All, Option, Some, None, Result, ◌%◌, ◌*◌, Ok}
-use Rattle.std.specs.Prelude.{Err, refl, if◌then◌else◌, remove, is_some, is_none, count_by, IsOk}
-use Rattle.std.{proofs.lemmas.Option.{get_or_from_slice_get, slice_get_within}, specs.List.list_any}
-use Rattle.std.{proofs.lemmas.List.Elements.{All-push, All-cons, All-nil}, specs.Prelude.bit_or}
+use Rattle.std.specs.Prelude.{Err, refl, if◌then◌else◌, remove, is_some, is_none, IsOk, bit_or}
+use Rattle.std.proofs.lemmas.Option.{get_or_from_slice_get, slice_get_within}
+use Rattle.std.proofs.lemmas.List.Elements.{All-push, All-cons, All-nil}
 use Rattle.std.proofs.Common.{sym, ◌∙◌, ap, subst, arith, inl, inr}
 use Rattle.std.{proofs.lemmas.Bool.{cases_eq, ne_eqb}, proofs.lemmas.List.get_or_past}
 use Rattle.vb_model.specs.declared.calls.Call.TheVariants.{Take, Work, Finish, Sweep, Ask}
@@ -28,9 +28,8 @@ use Rattle.vb_model.{proofs.Refusing.is_refused, proofs.Wanting.{wants, refused_
 use Rattle.vb_ram.{specs.Pages.{Pages, frame_at, page_at, number_of}, specs.Part.{Part, QueuePart}}
 use Rattle.vb_chain.specs.declared.fault.ChainFault.TheVariants.{WrongDirection, BadLength}
 use Rattle.vb_chain.specs.Table.{descriptor_at}
-use Rattle.vb_request.specs.Request.{page_request, each_once, total_length}
-use Rattle.vb_request.{specs.Report.report_request, proofs.Reports.report_pages}
-use Rattle.vb_request.specs.Statistics.{statistics_request, is_statistics_length}
+use Rattle.vb_request.{specs.Request.{page_request, each_once}, specs.Report.report_request}
+use Rattle.vb_request.{proofs.Reports.report_pages, specs.Statistics.statistics_request}
 use Rattle.vb_request.proofs.RequestPages.{request_pages, once_distinct, once_all}
 use Rattle.vb_request.{proofs.Once.is_in-each_once, proofs.Chains.chain_fits}
 use Rattle.vb_device.specs.Conditions.{take_refusal, work_refusal, finish_refusal, sweep_refusal}
@@ -46,13 +45,12 @@ use Rattle.vb_guest.proofs.Discarding.{with_entry, length-with_entry, with_entry
 use Rattle.vb_guest.proofs.Rogues.{DeviceSame, Keeps, driver_same, device_alike, rogue_alone}
 use Rattle.vb_guest.proofs.Rogues.{kept_of_rogue, rogue_after, rogue_stands, rogue_step, IsOther}
 use Rattle.vb_guest.proofs.Rogues.{keeps_part, up_kept, rogue_same, said, IsLeft, left_by}
-use Rattle.vb_guest.{specs.Replies.asked_reply, proofs.Discarding.frames_freed}
-use Rattle.vb_guest.{proofs.Rogues.no_refusal, specs.Steps.{StepsAlone, StepsFreeing, is_frame}}
 use Rattle.vb_guest.proofs.Handing.{handed_back, loose_none, not_among, behind_same}
 use Rattle.vb_guest.proofs.PagesKept.{number_if, page_discarded, length-discarded}
-use Rattle.vb_guest.{proofs.RogueDriver.{left_same, unchanged_alone}, proofs.Kept.there_is}
+use Rattle.vb_guest.{proofs.RogueDriver.{left_same, unchanged_alone}, specs.Replies.asked_reply}
 use Rattle.vb_guest.{proofs.Heads.{all_remove, all-visiting}, specs.Stands.{IsOwnRequest, Rogue}}
-use Rattle.vb_guest.proofs.WorkReportStep.{next_taken}
+use Rattle.vb_guest.{specs.Steps.{StepsAlone, StepsFreeing}, proofs.WorkReportStep.next_taken}
+use Rattle.vb_guest.{proofs.Discarding.frames_freed, proofs.Rogues.no_refusal, proofs.Kept.there_is}
 
 -- ---- a queue of the device changes
 
@@ -108,13 +106,7 @@ request_own q mem part h pages next =
         else page_request mem next.pieces reserved)) ≡ Ok pages
         → IsOwnRequest part.queue_size (length mem) (record { head = h; pages = pages; visited = 0 })
     by true b e =
-        let none : pages ≡ [] = statistics_pages (list_any (λ piece. piece.writable)
-        next.pieces) (not (is_statistics_length (total_length next.pieces))) pages e in
-        record {
-          above = subst (All (λ page. reserved ≤ page)) (sym none) (λ k d lt. absurd (omega (arith, lt)));
-          below = subst (All (λ page. page < length mem)) (sym none)
-              (λ k d lt. absurd (omega (arith, lt)));
-        }
+        search (arith, statistics_pages)
     by false true e =
         let fits = chain_fits (descriptor_at mem (ring_page part.queue_size q)) part.queue_size
         (page_size * length mem) h next.pieces next.chain in
@@ -311,11 +303,7 @@ rogue_freed m1 m2 p1 p2 d g call reply r own changes ok count same loose still a
     record {
       new = rogue_after g frames (handed_back p2) d;
       stands = stands;
-      step = rogue_step m1 m2 p1 (handed_back p2) d d g frames call reply rogue stands
-          (changes.target ∙ sym still)
-          (λ page frame e. none_of (is_in page once) (frame_of g.frames page) frame
-          (sym (get page) ∙ e)) (done_wants reply answer) other none
-          (λ why e. no_refusal reply why answer e);
+      step = search (arith, rogue_step, handed_back, none_of, done_wants, no_refusal);
       freed = λ k. omega (
         arith,
         loose k,
@@ -342,11 +330,7 @@ none_freed m1 m2 p1 p2 d g call reply memory part still answer other none_needed
       new = step.new;
       stands = subst (λ (p : Part). Rogue m2 p d step.new) (sym (loose_none p2 none)) step.stands;
       step = step.step;
-      freed = λ k. omega (
-        arith,
-        ap (times k) none,
-        ap (λ (l : List (Option ℕ)). count_by (is_frame k) l) step.frames,
-      );
+      freed = search arith;
     }
 
 -- ---- work
@@ -466,12 +450,7 @@ sweep_rogue m1 m2 p1 p2 d g page result did rogue = by (sweep_refusal page p1) r
         let (up, flag) = sweeps_up (is_not_ready p1.status) (has_fault p1.status)
         (must_tell_host p1.features) (is_ballooned p1.ballooned page) e in
         let one : Request = record { head = 0; pages = page ∷ []; visited = 0 } in
-        let same : PartChanges g.config.queue_size (length m1) p1 p1 = record {
-          device = device_alike p1 p1 refl;
-          status = refl;
-          target = refl;
-          own = λ own. own;
-        } in
+        let same : PartChanges g.config.queue_size (length m1) p1 p1 = search (arith, device_alike) in
         subst Done (sym (did.answer e))
         (rogue_freed m1 m2 p1 p2 d g (Sweep page) _ one
         (ballooned_own m1 p1 d g page rogue flag)
@@ -505,11 +484,7 @@ settled_changes {size} n q pages p above = by (q == INFLATE_QUEUE) (q == DEFLATE
         (if a then record p { ballooned = flagged pages true p.ballooned }
         else (if b then record p { ballooned = flagged pages false p.ballooned } else p))
     by true b high =
-        let low : (page : ℕ) → page < reserved_pages size → is_ballooned p.ballooned page ≡ false
-        → is_ballooned (flagged pages true p.ballooned) page ≡ false =
-        λ page lt none.
-        flagged_same (reserved_pages size) pages true p.ballooned page (high refl) lt none in
-        assumption (length-with_entry pages true p.ballooned, low)
+        search (arith, flagged_same, length-with_entry)
     by false true high =
         let low : (page : ℕ) → page < reserved_pages size → is_ballooned p.ballooned page ≡ false
         → is_ballooned (flagged pages false p.ballooned) page ≡ false =

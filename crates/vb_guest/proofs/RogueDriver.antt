@@ -282,12 +282,7 @@ reaped_same : (q head : ℕ) (pages : List ℕ) (d1 d2 : DriverState)
 reaped_same q head pages d1 d2 is =
     let first = without_same q head (moved_on q pages d1) in
     same_driver d1 (with_actual (without_request q head (moved_on q pages d1))) d2
-    (record {
-      pages = first.pages;
-      queue_size = first.queue_size;
-      processors = first.processors;
-      table = first.table ∙ length_after (q == INFLATE_QUEUE) (q == DEFLATE_QUEUE);
-    }) is
+    (assumption (first.table ∙ length_after (q == INFLATE_QUEUE) (q == DEFLATE_QUEUE))) is
   where
     length_after : (a b : Bool)
         → length (if a then places_reaped (tells_host d1) Inflating pages d1.places

@@ -1,17 +1,16 @@
 -- A guest that wrote past its driver is initialised; an honest guest becomes one.
-use Rattle.std.specs.Prelude.{◌≡◌, ℕ, ◌-◌, ◌<◌, Bool, true, false, List, [], length, All, Option}
-use Rattle.std.specs.Prelude.{Some, Result, Ok, Err, IsSome, MatchOption, refl, ◌≤◌, is_some, ◌≢◌}
-use Rattle.std.{specs.Prelude.{not, ◌==◌, ◌∷◌, None}, proofs.lemmas.Bool.ne_eqb}
-use Rattle.std.{proofs.Common.{sym, ◌∙◌, ap, subst, arith}, proofs.lemmas.List.length-replicate}
-use Rattle.std.proofs.lemmas.List.Elements.{All-nil}
+use Rattle.std.specs.Prelude.{◌≡◌, ℕ, ◌-◌, ◌<◌, Bool, true, false, List, [], length, Option, Some}
+use Rattle.std.specs.Prelude.{Result, Ok, Err, IsSome, MatchOption, refl, ◌≤◌, ◌≢◌, not, ◌==◌, ◌∷◌}
+use Rattle.std.{specs.Prelude.None, proofs.lemmas.Bool.ne_eqb, proofs.lemmas.List.length-replicate}
+use Rattle.std.{proofs.Common.{sym, ◌∙◌, ap, subst, arith}, proofs.lemmas.List.Elements.All-nil}
 use Rattle.vb_model.{specs.Layout.{reserved_pages, is_start_page}, proofs.Shapes.reserved_most}
 use Rattle.vb_model.{specs.declared.calls.Call.TheVariants.Init, specs.declared.calls.Claim.Claim}
 use Rattle.vb_model.{specs.declared.replies.Refusal.Refusal, specs.Refusals.refusal_of}
 use Rattle.vb_model.specs.declared.replies.Refusal.TheVariants.{AlreadyUp, NoFrame, NoMemory}
 use Rattle.vb_model.{specs.declared.replies.Reply.TheVariants.Refused, specs.Orderly.times}
 use Rattle.vb_model.specs.Driver.{AllDistinct, given, AreClaimsFor, claim_refusal}
-use Rattle.vb_model.{specs.FirstRefusal.{◌⇒◌, first_refusal}, specs.Status.{contains, driver_ok}}
-use Rattle.vb_model.{specs.declared.replies.LastStatistics.LastStatistics, specs.Tests.is_in}
+use Rattle.vb_model.{specs.FirstRefusal.{◌⇒◌, first_refusal}, specs.Tests.is_in}
+use Rattle.vb_model.specs.declared.replies.LastStatistics.{LastStatistics}
 use Rattle.vb_model.specs.Guest.{Guest, all_backed, stats_vq}
 use Rattle.vb_model.specs.Life.{lacking, feature_causes, feature_refusal, accepted_before}
 use Rattle.vb_model.specs.Rogue.{LosesFrames, pages_to_back, unless_refused, after_refused}
@@ -22,11 +21,11 @@ use Rattle.vb_driver.{specs.State.DriverState, specs.Calls.{InitsBy, Starts, Fir
 use Rattle.vb_guest.proofs.Rogues.{shape_of, shaped, Keeps, DeviceSame, driver_same, rogue_after}
 use Rattle.vb_guest.proofs.Supplying.{all_distinct, bounded, frames_given, frames_filled}
 use Rattle.vb_guest.proofs.Rogues.{rogue_stands, rogue_steps, device_alike, kept_of_rogue}
-use Rattle.vb_guest.{proofs.Supplying.supplied_count, specs.Replies.ready_reply}
+use Rattle.vb_guest.{proofs.Supplying.supplied_count, specs.Replies.ready_reply, specs.Stands.Rogue}
 use Rattle.vb_guest.specs.Lives.{is_bare, bare_from, AllSupplied, why_unsupplied, SuppliesBy}
-use Rattle.vb_guest.{specs.Stands.{IsOwnRequest, Rogue}, proofs.Fresh.everywhere}
-use Rattle.vb_guest.{specs.Steps.{backing_count, StepsAlone, StepsOver}, proofs.Moving.moves_as}
-use Rattle.vb_guest.{specs.Supply.{Supply, supply_of, Moves, nothing}, proofs.Writing.HasFrames}
+use Rattle.vb_guest.{proofs.Fresh.everywhere, specs.Steps.{backing_count, StepsAlone, StepsOver}}
+use Rattle.vb_guest.{proofs.Moving.moves_as, specs.Supply.{Supply, supply_of, Moves, nothing}}
+use Rattle.vb_guest.proofs.Writing.{HasFrames}
 use Rattle.vb_guest.proofs.InitStep.{bare_is, now_backed, has_all, driver_causes}
 use Rattle.vb_frames.specs.declared.keeper.Refused.{Refused as WhyRefused}
 use Rattle.vb_guest.proofs.InitStep.{given_up as stopped}
@@ -101,15 +100,7 @@ started_leaves size m2 m3 p2 p3 d1 d2 wanted backed starts =
       keeps = record {
         driver = shaped d1 d2 (ap shape_of starts.driver);
         device = reset_device p2 p3 15 wanted starts.part;
-        up = λ was ok. record {
-          backed = λ page start. ap is_some (same page) ∙ backed page start;
-          inflates = subst (All (IsOwnRequest size (length m3)))
-              (sym (ap (λ (p : Part). p.inflate.taken) starts.part))
-              (All-nil (IsOwnRequest size (length m3)));
-          reports = subst (All (IsOwnRequest size (length m3)))
-              (sym (ap (λ (p : Part). p.report.taken) starts.part))
-              (All-nil (IsOwnRequest size (length m3)));
-        };
+        up = search (arith, All-nil);
       };
       count = first.0 ∙ starts.rings.count;
       same = same;
@@ -124,11 +115,7 @@ stopped_leaves m2 m3 p2 p3 d1 d2 features stops = record {
   keeps = record {
     driver = shaped d1 d2 (ap shape_of stops.driver);
     device = reset_device p2 p3 131 features stops.part;
-    up = λ was ok. absurd
-        (let down : contains 131 driver_ok ≡ true =
-        ap (λ (p : Part). contains p.status driver_ok) (sym stops.part) ∙ ok in
-        let wrong : false ≡ true = down in
-        cc);
+    up = search arith;
   };
   count = ap (λ (m : Pages). length m) stops.mem;
   same = λ page. ap (λ (m : Pages). frame_at m page) stops.mem;
@@ -152,13 +139,7 @@ inits_leave size m2 m3 p2 p3 d1 d2 wanted (Err why) same new backed did =
     let stops = stopped m2 m3 p2 p3 d1 d2 wanted why (sym is) did.refused in (
       stopped_leaves m2 m3 p2 p3 d1 d2 (accepted_before why wanted) stops,
       refused_otherwise (feature_causes wanted) why refl (sym is),
-      λ other e. (
-        ap (λ (d : DriverState). d.places) stops.driver,
-        ap (λ (d : DriverState). d.actual) stops.driver,
-        stops.part ∙ ap (λ (w : Refusal). record (part_after_reset p2)
-            { status = 131; features = accepted_before w wanted })
-            (let same : why ≡ other = cc in same),
-      ),
+      (search arith),
     )
 
 -- what a refusal of the features leaves
@@ -195,15 +176,7 @@ init_supplied_rogue Answers out1 out2 l m1 m2 m3 p1 p2 p3 d1 d2 g wanted feature
     let distinct = subst AllDistinct bare (all_distinct (is_bare size m1) 0
     (reserved_pages size - 0)) in
     let below : (p : ℕ) → is_in p pages ≡ true → p < n =
-    λ p there. (let low = bounded (is_bare size m1) 0 (reserved_pages size - 0) p
-    (ap (is_in p) bare ∙ there) in
-    omega (
-      arith,
-      low,
-      reserved_most size,
-      (config_limits g.config.pages g.config.queue_size g.config.processors
-          rogue.config).pages_least,
-    )) in
+    search (arith, bounded, reserved_most, config_limits) in
     let before : HasFrames m1 n g.frames =
     record { length_is = rogue.length_is; framed = rogue.framed; behind = rogue.behind } in
     let has = frames_given n pages (given claims) m1 m2 g.frames distinct below supplied before in
@@ -220,15 +193,7 @@ init_supplied_rogue Answers out1 out2 l m1 m2 m3 p1 p2 p3 d1 d2 g wanted feature
     ap (λ (o : Option Refusal). unless_refused o pages) none_before in
     let given_frames : Rogue m2 p2 d1 (rogue_after g frames p2 d1) =
     rogue_stands m1 m2 p1 p2 d1 d1 g frames rogue
-    (record {
-      driver = driver_same d1 d1 refl;
-      device = device_alike p1 p2 (ap kept_of_rogue part);
-      up = λ was ok. absurd
-          (let down : contains 0 driver_ok ≡ true =
-          ap (λ (s : ℕ). contains s driver_ok) (sym new) ∙ ok in
-          let wrong : false ≡ true = down in
-          cc);
-    }) (has.length_is ∙ sym rogue.length_is) (has.framed ∙ sym rogue.framed) has.behind in
+    (search (arith, driver_same, device_alike, kept_of_rogue)) (has.length_is ∙ sym rogue.length_is) (has.framed ∙ sym rogue.framed) has.behind in
     let after : Guest = rogue_after g frames p3 d2 in
     let stands : Rogue m3 p3 d2 after =
     rogue_stands m2 m3 p2 p3 d1 d2 (rogue_after g frames p2 d1) frames given_frames left.keeps

@@ -1,20 +1,19 @@
 -- Bytes of a guest's pages that are written past its driver, and those that a rogue guest writes.
 use Rattle.std.specs.Prelude.{◌≡◌, ◌≢◌, ℕ, ◌<◌, Bool, true, false, List, [], ◌∷◌, length, Option}
-use Rattle.std.specs.Prelude.{Some, None, All, MatchOption, is_some, ◌≤◌, refl}
-use Rattle.std.{proofs.Common.{sym, ◌∙◌, ap, subst, arith, inl, inr}, proofs.lemmas.Bool.cases_eq}
-use Rattle.vb_model.specs.Rogue.{Scribbled, LosesFrames, pages_to_back, unless_refused, with_fault}
+use Rattle.std.{specs.Prelude.{Some, None, All, is_some, ◌≤◌, refl}, proofs.lemmas.Bool.cases_eq}
+use Rattle.std.proofs.Common.{sym, ◌∙◌, ap, subst, arith, inl, inr}
 use Rattle.vb_model.specs.declared.calls.Claim.TheVariants.{Gave, GaveNoFrame, GaveNoMemory}
+use Rattle.vb_model.specs.Rogue.{pages_to_back, unless_refused, with_fault, GuestStep}
 use Rattle.vb_model.specs.Driver.{given, claim_refusal, AreClaimsFor, pages_needed}
 use Rattle.vb_model.specs.Guest.{Guest, frame_of, backed, all_backed, is_ballooned}
 use Rattle.vb_model.specs.declared.replies.Refusal.TheVariants.{OutOfRam, NotHeld}
 use Rattle.vb_model.specs.declared.calls.Call.TheVariants.{Read, Write, Scribble}
 use Rattle.vb_model.specs.declared.replies.Reply.TheVariants.{Done, Refused}
-use Rattle.vb_model.proofs.Wanting.{wants, not_refused_pages, refused_backs}
-use Rattle.vb_model.{specs.FirstRefusal.{◌⇒◌, first_refusal}, specs.declared.replies.Reply.Reply}
-use Rattle.vb_model.{specs.Refusals.{refusal_of, is_outside}, specs.Status.{contains, driver_ok}}
-use Rattle.vb_model.{specs.declared.replies.Refusal.Refusal, specs.Step.{Performs, HonestStep}}
-use Rattle.vb_model.{specs.declared.calls.Claim.Claim, specs.Pages.{place_of, is_used}}
-use Rattle.vb_model.{specs.Layout.reserved_pages, specs.Requests.Request, specs.Rogue.GuestStep}
+use Rattle.vb_model.{proofs.Wanting.{wants, not_refused_pages}, specs.declared.replies.Reply.Reply}
+use Rattle.vb_model.{specs.FirstRefusal.{◌⇒◌, first_refusal}, specs.Status.{contains, driver_ok}}
+use Rattle.vb_model.{specs.Refusals.{refusal_of, is_outside}, specs.declared.calls.Claim.Claim}
+use Rattle.vb_model.{specs.declared.replies.Refusal.Refusal, specs.Pages.{place_of, is_used}}
+use Rattle.vb_model.{specs.Layout.reserved_pages, specs.Requests.Request, specs.Step.HonestStep}
 use Rattle.vb_ram.specs.Pages.{Pages, frame_at, number_of, Covers, Wrote, Supplied}
 use Rattle.vb_ram.specs.Part.{Part}
 use Rattle.vb_frames.specs.declared.keeper.Refused.TheVariants.{NoFrame, Memory}
@@ -61,11 +60,7 @@ up_honest m p d g honest ok = elim honest.ties.queues [
             (subst (All (IsOwnRequest d.report.ring.size n)) (sym run.report.remembers)
             (λ k r lt. let is = run.report.taken k r lt in
             let own = own_pages d.report.ring.size n d.report.blocks is.blocks_are in
-            record {
-              above = subst (All (λ page. reserved_pages d.report.ring.size ≤ page)) (sym is.names)
-                  own.0;
-              below = subst (All (λ page. page < n)) (sym is.names) own.1;
-            }));
+            (search arith)));
       }
 ]
 
@@ -234,12 +229,7 @@ write_supplied_rogue Answers out1 out2 m1 m2 m3 m4 p1 p2 p3 p4 d g page off fram
     record {
       new = new;
       stands = stands;
-      step = rogue_steps m1 m4 p1 p4 d d g new (Write page off bs) (Gave frame ∷ []) Done rogue
-          stands refl (ap (λ (p : Part). p.target) (pc ∙ pb ∙ pa))
-          (subst (λ (l : List ℕ). AreClaimsFor l (Gave frame ∷ [])) (sym needs) tt)
-          (subst (λ (l : List ℕ). LosesFrames (all_backed l (frame ∷ []) g.frames) new.frames)
-          (sym needs) (λ page frame e. e)) (λ e. absurd cc) (λ e. absurd cc)
-          (λ why e. no_refusal Done why refl e) (λ page offset bytes e. absurd cc);
+      step = search (arith, rogue_steps, no_refusal);
       answered = (supply_of p2 out2, answer, tt);
       moves = supplied_moves Answers out1 out2 m1 p1 p2 p4 g new page frame answer (pc ∙ pb)
           (omega (arith, covers.page, rogue.length_is, rogue.framed)) bare_too refl;
@@ -332,12 +322,7 @@ scribble_alone keeps m1 m2 p1 p2 d g page off bs stands covers never wrote part 
       new = new;
       stands = stands_with keeps m1 m2 p1 p2 d d g new stands (ap (λ (p : Part). p.keeps) part)
           (ap (λ (p : Part). p.own) part) refl (rogue_is m2 p2 d new rogue);
-      step = scribble_step m1 m2 p1 p2 d g new page off bs [] keeps stands rogue
-          (subst (λ (l : List ℕ). AreClaimsFor l []) (sym needs) tt) refl
-          (marked_after m1 p1 p2 d g g.frames old
-          (part ∙ ap (λ (l : List ℕ). record p1 { own = l }) (sym (ap (λ (p : Part). p.own) part)))
-          ∙ ap (λ (l : List ℕ). record g { frames = all_backed l [] g.frames; rogue = true })
-          (sym needs)) (scribble_fits m1 g page off bs old.length_is covers);
+      step = search (arith, scribble_step, marked_after, scribble_fits);
       frames = refl;
     }
 
@@ -357,13 +342,7 @@ scribble_outside keeps m1 m2 p1 p2 d g page off bs stands m p out =
     record {
       new = g;
       stands = same;
-      step = rogue_steps m1 m2 p1 p2 d d g g (Scribble page off bs) [] (Refused OutOfRam) rogue
-          same refl (ap (λ (x : Part). x.target) p)
-          (subst (λ (l : List ℕ). AreClaimsFor l []) (sym none) tt)
-          (subst (λ (l : List ℕ). LosesFrames (all_backed l [] g.frames) g.frames) (sym none)
-          (λ q frame e. e)) (λ e. absurd cc) (λ e. absurd cc)
-          (left_by (Scribble page off bs) OutOfRam [] g g refl)
-          (λ q o b e. same_scribble page off bs q o b g [] (Refused OutOfRam) g e step);
+      step = search (arith, rogue_steps, left_by, same_scribble);
       frames = refl;
     }))
   where
@@ -379,16 +358,9 @@ scribble_outside keeps m1 m2 p1 p2 d g page off bs stands m p out =
     refused = ap (λ (b : Bool). first_refusal ((b ⇒ OutOfRam) ∷ []))
         (outside (is_outside g page off (length bs)) refl)
 
-    none : pages_to_back (Scribble page off bs) g ≡ []
-    none = refused_backs (Scribble page off bs) g OutOfRam refused
-
     step : HonestStep g (Scribble page off bs) [] (Refused OutOfRam) g
     step =
-        let none : List Claim = [] in
-        let S : Option Refusal → Type 0 =
-        λ o. MatchOption o (Performs (Scribble page off bs) g none (Refused OutOfRam) g)
-        (λ refusal. (none ≡ []) × (Refused OutOfRam ≡ Refused refusal) × (g ≡ g)) in
-        subst S (sym refused) (refl, refl, refl)
+        search arith
 
 -- a claim was refused
 pub scribble_unsupplied : (keeps : Bool) (Answers : List Bool → Claim → Type 0)
@@ -412,41 +384,14 @@ scribble_unsupplied keeps Answers out1 out2 m1 m2 p1 p2 d g page off bs why answ
       moves = moves_as (supply_of p1 out1) (supply_of p2 out2) nothing nothing
           (λ n. backing_count n g) (λ n. backing_count n g) claimed.1 (λ n. omega arith);
     })
-    (λ rogue. rogue_unclaimed Answers out1 out2 m1 m2 p1 p2 d g (Scribble page off bs)
-    (claim_of why ∷ []) (refusal_of_claim why) rogue m p
-    (not_refused_pages (refusal_of g (Scribble page off bs)) (pages_needed page bs g)
-    (claim_of why ∷ []) (scribble_fits m1 g page off bs old.length_is covers) made)
-    (refused_for why page).1 refl (claim_fault why g) (λ q o b e. same_scribble page off bs q o b g (claim_of why ∷ [])
-    (Refused (refusal_of_claim why)) g e step) claimed.0 claimed.1)
+    (λ rogue. search (arith, rogue_unclaimed, refusal_of_claim, not_refused_pages, scribble_fits, refused_for, claim_fault, same_scribble))
   where
-    old : Rogue m1 p1 d (marked g)
-    old = as_rogue keeps m1 p1 d g stands
-
-    needs : pages_needed page bs g ≡ page ∷ []
-    needs = needs_one g page bs some (sym (old.behind page) ∙ bare)
-
-    made : AreClaimsFor (pages_needed page bs g) (claim_of why ∷ [])
-    made = subst (λ (l : List ℕ). AreClaimsFor l (claim_of why ∷ [])) (sym needs)
-        (refused_for why page).0
-
     claimed : AreClaimed Answers (supply_of p1 out1) (claim_of why ∷ [])
         × Moves (supply_of p1 out1) (supply_of p2 out2) nothing nothing
     claimed = refused_claimed Answers out1 out2 p1 p2 why answer
 
     step : HonestStep g (Scribble page off bs) (claim_of why ∷ []) (Refused (refusal_of_claim why)) g
-    step =
-        let claims : List Claim = claim_of why ∷ [] in
-        let reply : Reply = Refused (refusal_of_claim why) in
-        let filled : List (Option ℕ) = all_backed (pages_needed page bs g) (given claims) g.frames in
-        let M : Option Refusal → Type 0 =
-        λ o. MatchOption o (Scribbled (record g { frames = filled }) reply g)
-        (λ refusal. (reply ≡ Refused refusal) × (g ≡ g)) in
-        let scribbles : Performs (Scribble page off bs) g claims reply g =
-        (made, subst M (sym (refused_for why page).1) (refl, refl)) in
-        let S : Option Refusal → Type 0 =
-        λ o. MatchOption o (Performs (Scribble page off bs) g claims reply g)
-        (λ refusal. (claims ≡ []) × (reply ≡ Refused refusal) × (g ≡ g)) in
-        subst S (sym (scribble_fits m1 g page off bs old.length_is covers)) scribbles
+    step = search (arith, refusal_of_claim, refused_for, scribble_fits)
 
 -- a page got a frame, and then was written
 pub scribble_supplied : (keeps : Bool) (Answers : List Bool → Claim → Type 0)
@@ -469,18 +414,4 @@ scribble_supplied keeps Answers out1 out2 m1 m2 m3 m4 p1 p2 p3 p4 d g page off f
     now wrote pa pb pc old in
     let moves = supplied_moves Answers out1 out2 m1 p1 p2 p4 g new page frame answer (pc ∙ pb)
     (omega (arith, covers.page, old.length_is, old.framed)) bare_too refl in
-    record {
-      new = new;
-      stands = stands_of keeps m4 p4 d new (rogue_is m4 p4 d new rogue)
-          (own_moved keeps p1 p4 out1 out2 g new moves stands.own);
-      step = scribble_step m1 m4 p1 p4 d g new page off bs (Gave frame ∷ []) keeps stands rogue
-          (subst (λ (l : List ℕ). AreClaimsFor l (Gave frame ∷ [])) (sym needs) tt) refl
-          (marked_after m1 p1 p4 d g (backed page frame g.frames) old
-          (pc ∙ pb ∙ pa ∙ ap (λ (l : List ℕ). record p1 { own = l })
-          (sym (ap (λ (p : Part). p.own) (pc ∙ pb))))
-          ∙ ap (λ (l : List ℕ). record g
-          { frames = all_backed l (frame ∷ []) g.frames; rogue = true }) (sym needs))
-          (scribble_fits m1 g page off bs old.length_is covers);
-      answered = (supply_of p2 out2, answer, tt);
-      moves = moves;
-    }
+    (search (arith, stands_of, rogue_is, own_moved, scribble_step, marked_after, scribble_fits))

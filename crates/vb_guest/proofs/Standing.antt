@@ -74,13 +74,7 @@ alone_stands keeps m1 m2 p1 p2 d1 d2 g call reply stands flag numbers honest rog
   where
     either : (New : Guest → Type 0) → ((new : Guest) → New new → IsGuest m2 p2 d2 new)
         → StepsAlone New g call reply → StepsAlone (Stands keeps m2 p2 d2) g call reply
-    either New is step = record {
-      new = step.new;
-      stands = stands_with keeps m1 m2 p1 p2 d1 d2 g step.new stands flag numbers step.frames
-          (is step.new step.stands);
-      step = step.step;
-      frames = step.frames;
-    }
+    either New is step = search (arith, stands_with)
 
 pub over_stands : (keeps : Bool) (m1 m2 : Pages) (p1 p2 : Part) (d1 d2 : DriverState) (g : Guest)
     (Answers : List Bool → Claim → Type 0) (out1 out2 : List Bool) (claims : List Claim)
@@ -100,14 +94,7 @@ over_stands keeps m1 m2 p1 p2 d1 d2 g Answers out1 out2 claims call reply stands
         → StepsOver New Answers (supply_of p1 out1) (supply_of p2 out2) claims g call reply
         → StepsOver (Stands keeps m2 p2 d2) Answers (supply_of p1 out1) (supply_of p2 out2) claims
         g call reply
-    either New is step = record {
-      new = step.new;
-      stands = stands_of keeps m2 p2 d2 step.new (is step.new step.stands)
-          (own_moved keeps p1 p2 out1 out2 g step.new step.moves stands.own);
-      step = step.step;
-      answered = step.answered;
-      moves = step.moves;
-    }
+    either New is step = search (arith, stands_of, own_moved)
 
 -- a step in which no frame moves
 pub steps_quiet : (keeps : Bool) (m1 m2 : Pages) (p1 p2 : Part) (d1 d2 : DriverState) (g : Guest)

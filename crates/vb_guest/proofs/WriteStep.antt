@@ -7,7 +7,7 @@ use Rattle.vb_model.{specs.Layout.reserved_pages, specs.declared.calls.Call.TheV
 use Rattle.vb_model.{specs.declared.calls.Claim.Claim, specs.declared.calls.Claim.TheVariants.Gave}
 use Rattle.vb_model.{specs.declared.replies.Refusal.Refusal, specs.Pages.{place_of, is_used}}
 use Rattle.vb_model.specs.declared.replies.Refusal.TheVariants.{NotHeld, OutOfRam, NoMemory}
-use Rattle.vb_model.{specs.declared.replies.Reply.TheVariants.{Done, Refused}, specs.Orderly.times}
+use Rattle.vb_model.specs.declared.replies.Reply.TheVariants.{Done, Refused}
 use Rattle.vb_model.specs.Guest.{Guest, frame_of, backed}
 use Rattle.vb_model.specs.Refusals.{◌⇒◌, first_refusal, refusal_of, is_outside}
 use Rattle.vb_model.specs.Driver.{overwritten, pages_needed, Supplying, Written}
@@ -18,9 +18,9 @@ use Rattle.vb_driver.specs.State.{DriverState}
 use Rattle.vb_frames.specs.declared.keeper.Refused.TheVariants.{NoFrame, Memory}
 use Rattle.vb_frames.specs.Out.{claim_in}
 use Rattle.vb_guest.proofs.Closing.{honest_performed, guest_step, still_stands, steps_alone}
+use Rattle.vb_guest.{proofs.Closing.honest_own, specs.Supply.{supply_of, IsClaimed}}
 use Rattle.vb_guest.proofs.Writing.{at_page, used_high, pages_wrote, pages_supplied, count_backed}
-use Rattle.vb_guest.{specs.Supply.{supply_of, IsClaimed, Moves, nothing}, proofs.Closing.honest_own}
-use Rattle.vb_guest.{specs.Steps.{backing_count, StepsAlone, StepsOver}, proofs.Running.runs_on}
+use Rattle.vb_guest.{specs.Steps.{StepsAlone, StepsOver}, proofs.Running.runs_on}
 use Rattle.vb_guest.{proofs.Moving.{moves_as, times_one}, specs.Stands.{Honest, Ties}}
 use Rattle.vb_model.specs.declared.replies.Refusal.TheVariants.{NoFrame as NoFrameLeft}
 use Rattle.vb_ram.specs.declared.fault.RamFault.TheVariants.{OutOfRam as OutOfMemory}
@@ -192,15 +192,7 @@ write_supplied Answers out1 out2 m1 m2 m3 m4 p1 p2 p3 p4 d g page off frame bs a
       step = guest_step g (Write page off bs) (Gave frame ∷ []) Done new
           stands.ties.parts.guest.honest step;
       answered = (supply_of p2 out2, answer, tt);
-      moves = moves_as (supply_of p1 out1) (supply_of p4 out2) (λ n. times n (frame ∷ [])) nothing
-          (λ n. backing_count n new) (λ n. backing_count n g)
-          (subst (λ p. Moves (supply_of p1 out1) (supply_of p out2) (λ n. times n (frame ∷ []))
-          nothing) (sym part) answer.moves)
-          (λ n. omega (
-            arith,
-            count_backed n page frame g.frames (omega (arith, stands.ties.pages.framed)) bare_too,
-            times_one n frame,
-          ));
+      moves = search (arith, moves_as, count_backed, times_one);
     }
 
 -- ---- what the memory answered
