@@ -12,7 +12,7 @@ use Rattle.vb_model.specs.Layout.{reserved_pages, is_start_page, start_pages}
 use Rattle.vb_model.specs.Guest.{Guest, frame_of, all_backed, stats_vq}
 use Rattle.vb_model.specs.Refusals.{◌⇒◌, first_refusal, refusal_of}
 use Rattle.vb_model.specs.Life.{lacking, feature_refusal, accepted_before, Negotiates}
-use Rattle.vb_model.specs.Driver.{given, Supplying, figures}
+use Rattle.vb_model.specs.Driver.{given, figures}
 use Rattle.vb_model.proofs.Shapes.{reserved_most, start_reserved}
 use Rattle.vb_ram.{specs.Pages.{Pages, frame_at, number_of}, specs.Part.Part}
 use Rattle.vb_ram.specs.declared.shape.Shape.{Shape}
@@ -28,6 +28,7 @@ use Rattle.vb_guest.proofs.Closing.{honest_performed, guest_step, still_stands}
 use Rattle.vb_guest.proofs.Supplying.{supplied_backed, pages_filled, frames_filled}
 use Rattle.vb_guest.{proofs.Writing.frames_of, proofs.Moving.moves_as, proofs.Kept.SameOwn}
 use Rattle.vb_guest.proofs.Starting.{first_buffer, started, stopped}
+use Rattle.vb_model.proofs.Performed.{Supplying}
 use Rattle.vb_frames.specs.declared.keeper.Refused.{Refused as WhyRefused}
 
 -- ---- a device that isn't new

@@ -10,7 +10,8 @@ use Rattle.vb_model.specs.Tables.{take_causes, finish_causes, ask_causes}
 use Rattle.vb_ram.specs.Part.{Part}
 use Rattle.vb_device.specs.Conditions.{take_refusal, finish_refusal, ask_refusal, taken_at}
 use Rattle.vb_device.specs.Queues.{queue_part}
-use Rattle.vb_model.specs.Refusals.{refusal_of, taken_count, taken_at as guests_taken, is_taken}
+use Rattle.vb_model.specs.Refusals.{refusal_of, negotiated, taken_count, taken_of, is_taken}
+use Rattle.std.specs.Prelude.{slice_get}
 
 abbrev pub IsIdleStatus : ℕ → Type 0
 IsIdleStatus status = (status ≡ 0) ⊎ (status ≡ 131)
@@ -39,9 +40,11 @@ pub take_same : (q : ℕ) (part : Part) (g : Guest) → part.status ≡ g.status
     → take_refusal q part ≡ refusal_of g (Take q)
 take_same q part g status features taken =
     let count : ℕ = length (queue_part q part).taken in
-    ap (λ (s : ℕ). first_refusal (take_causes q s part.features count)) status
-    ∙ ap (λ (f : ℕ). first_refusal (take_causes q g.status f count)) features
-    ∙ ap (λ (n : ℕ). first_refusal (take_causes q g.status g.features n)) taken
+    ap (λ (s : ℕ). first_refusal
+    (take_causes q (record { status = s; features = part.features }) count)) status
+    ∙ ap (λ (f : ℕ). first_refusal
+    (take_causes q (record { status = g.status; features = f }) count)) features
+    ∙ ap (λ (n : ℕ). first_refusal (take_causes q (negotiated g) n)) taken
 
 pub take_idle : (part : Part) (g : Guest) → part.status ≡ g.status → IsIdleStatus g.status
     → ((take_refusal 2 part ≡ Some NotReady) × (refusal_of g (Take 2) ≡ Some NotReady))
@@ -61,12 +64,14 @@ take_idle part g same down =
 -- ---- finish
 
 pub finish_same : (q i : ℕ) (part : Part) (g : Guest) → part.status ≡ g.status
-    → part.paced ≡ g.config.paced → taken_at q i part ≡ guests_taken g q i
+    → part.paced ≡ g.config.paced → taken_at q i part ≡ slice_get (taken_of g q) i
     → finish_refusal q i part ≡ refusal_of g (Finish q i)
 finish_same q i part g status paced taken =
-    ap (λ (s : ℕ). first_refusal (finish_causes q s part.paced (taken_at q i part))) status
-    ∙ ap (λ (b : Bool). first_refusal (finish_causes q g.status b (taken_at q i part))) paced
-    ∙ ap (λ (o : Option Request). first_refusal (finish_causes q g.status g.config.paced o)) taken
+    ap (λ (s : ℕ). first_refusal (finish_causes q (record { status = s; features = g.features })
+    part.paced (taken_at q i part))) status
+    ∙ ap (λ (b : Bool). first_refusal (finish_causes q (negotiated g) b (taken_at q i part))) paced
+    ∙ ap (λ (o : Option Request). first_refusal (finish_causes q (negotiated g) g.config.paced o))
+    taken
 
 pub finish_idle : (i : ℕ) (part : Part) (g : Guest) → part.status ≡ g.status
     → IsIdleStatus g.status

@@ -4,7 +4,8 @@ use Rattle.std.specs.Prelude.{slice_get, refl}
 use Rattle.std.proofs.Common.{sym, ◌∙◌, ap, subst, arith, inl, inr}
 use Rattle.vb_model.specs.Requests.{Request, Figures, StatisticsBuffer, NoBuffer, BufferPosted}
 use Rattle.vb_model.specs.Requests.{BufferTaken}
-use Rattle.vb_model.{specs.declared.calls.Call.TheVariants.Take, specs.Tests.one_if}
+use Rattle.vb_model.specs.declared.calls.Call.TheVariants.{Take}
+use Rattle.std.specs.Prelude.{if◌then◌else◌}
 use Rattle.vb_model.{specs.declared.replies.Refusal.Refusal, specs.Requests.BufferDone}
 use Rattle.vb_model.{specs.declared.replies.Refusal.TheVariants.NotReady, specs.Guest.Guest}
 use Rattle.vb_model.specs.declared.replies.Reply.TheVariants.{Taken, Empty}
@@ -119,7 +120,7 @@ take_posted m1 m2 p1 p2 d g figures result is did stands run free_part free =
     (steps_alone m1 m2 p1 p2 d d g (Take 2) (Taken 0) new stands step
     (ties_same m1 m2 after p2 d d new did.memory left refl there) refl)
 
-taken_count : (b : StatisticsBuffer) → length (taken_requests b) ≡ one_if (is_taken b)
+taken_count : (b : StatisticsBuffer) → length (taken_requests b) ≡ (if is_taken b then 1 else 0)
 taken_count b = grind arith
 
 pub take_buffer : (m1 m2 : Pages) (p1 p2 : Part) (d : DriverState) (g : Guest)
