@@ -1,7 +1,7 @@
 -- What is promised of a guest is promised of each: of any size, of either pace, at any status, with
 -- any features, while requests of all kinds are at all stages. One course for each promise that
 -- breaks it.
-use Rattle.std.proofs.Common.{◌≡◌, ℕ, suc, ◌<◌, true, false, List, [], ◌∷◌, ◌++◌, replicate}
+use Rattle.std.proofs.Common.{◌≡◌, ℕ, zero, suc, ◌<◌, true, false, List, [], ◌∷◌, ◌++◌, replicate}
 use Rattle.std.proofs.Common.{refl, ◌⊎◌, inl, inr, arith}
 use Rattle.std.specs.Prelude.{Option, Some, None, IsTrue}
 use Rattle.vb_model.{specs.declared.calls.Actor.TheVariants.Processor, specs.Requests.Requests}
@@ -10,7 +10,8 @@ use Rattle.vb_model.{specs.declared.calls.Call.TheVariants.{Take, Work}, specs.G
 use Rattle.vb_model.specs.declared.replies.Refusal.TheVariants.{Broken, RingBroken}
 use Rattle.vb_model.specs.declared.replies.Reply.TheVariants.{Idle, Page, Posted, ReadBytes}
 use Rattle.vb_model.specs.declared.replies.Reply.TheVariants.{Refused, Swept}
-use Rattle.vb_model.{specs.Courses.{Course, StaysOrLoses}, proofs.Samples.request}
+use Rattle.vb_model.specs.Courses.{Course, StaysHeld, StaysOrLoses, ReadsGiveLastWrites}
+use Rattle.vb_model.proofs.Samples.{request}
 use Rattle.vb_model.{specs.Histories.{IsSafeCourse, BothAgree}, proofs.SafeFacts.{SameFrame, made}}
 use Rattle.vb_model.{proofs.SafeFacts.{stands, goes}, proofs.AskedFacts.{giving, back, handed_out}}
 use Rattle.vb_model.specs.declared.places.Place.TheVariants.{Reserved, Free as FreePlace, Used}
@@ -91,6 +92,17 @@ another_byte status features s =
     let e : SameBytes (2 ∷ []) (1 ∷ []) = (s.reads 0 32 0 1 (2 ∷ [])
     (with_page (Some 5) (1 ∷ []) (busy status features)) refl (Processor 0 0, [], refl)).1 in
     cc
+
+held : (status features : ℕ) → StaysHeld (misread status features) 32 0 0
+held status features zero le = (with_page (Some 5) (1 ∷ []) (busy status features), refl, refl)
+held status features (suc j) le = absurd (omega arith)
+
+another_byte_by_law : (status features : ℕ) → ReadsGiveLastWrites (misread status features) → ⊥
+another_byte_by_law status features s =
+    let e : Same 2 1 = (s 32 0 0 0 1 (2 ∷ [])
+    (with_page (Some 5) (1 ∷ []) (busy status features)) (held status features) refl
+    (Processor 0 0, [], refl)).1 0 (omega arith) in
+    omega (arith, e)
 
 -- ---- ballooned pages
 

@@ -1,6 +1,6 @@
 -- Courses of a guest that are not safe, one for each thing that safety promises: of its features,
 -- its frames, what its pages hold and what reads give, of driver and device, and of faults.
-use Rattle.std.proofs.Common.{◌≡◌, ℕ, true, false, List, [], ◌∷◌, ◌++◌, replicate, refl}
+use Rattle.std.proofs.Common.{◌≡◌, ℕ, zero, suc, true, false, List, [], ◌∷◌, ◌++◌, replicate, refl}
 use Rattle.std.{proofs.Common.{inl, inr, arith}, specs.Prelude.{Option, Some, None}}
 use Rattle.vb_model.specs.declared.calls.Call.TheVariants.{Read, Reap, Reset, Stats, Sweep, Take}
 use Rattle.vb_model.{specs.declared.places.Place.Place, specs.declared.calls.Call.Call}
@@ -11,7 +11,7 @@ use Rattle.vb_model.specs.declared.replies.Refusal.TheVariants.{RingBroken, Brok
 use Rattle.vb_model.{specs.declared.replies.Reply.Reply, specs.Requests.{Request, Requests}}
 use Rattle.vb_model.specs.declared.replies.Reply.TheVariants.{Done, Idle, ReadBytes, Swept, Refused}
 use Rattle.vb_model.{specs.GuestRun.{Entry, Called}, specs.Histories.IsSafeCourse}
-use Rattle.vb_model.specs.Courses.{Course, StaysOrLoses}
+use Rattle.vb_model.specs.Courses.{Course, StaysHeld, StaysOrLoses, ReadsGiveLastWrites}
 use Rattle.vb_model.proofs.Samples.{ready, down, untold, page_16_at, request}
 use Rattle.vb_model.specs.declared.places.Place.TheVariants.{Free as FreePlace, Used, Reserved}
 
@@ -255,6 +255,48 @@ write_forgotten s = let e : Same 7 8 = reads_the_last 7 s in omega (arith, e)
 
 both_forgotten : IsSafeCourse (written_and_read 1) → ⊥
 both_forgotten s = let e : Same 1 8 = reads_the_last 1 s in omega (arith, e)
+
+-- the same by the law of reads since a state, which looks at entries alone
+held : (len : ℕ) (bytes : List ℕ) → StaysHeld (reads len bytes) 16 0 0
+held len bytes zero le = (used_with (Some 5) (1 ∷ 2 ∷ []) ready, refl, refl)
+held len bytes (suc j) le = absurd (omega (arith, le))
+
+other_bytes_by_law : ReadsGiveLastWrites (reads 1 (9 ∷ [])) → ⊥
+other_bytes_by_law s =
+    let e : Same 9 1 = (s 16 0 0 0 1 (9 ∷ []) (used_with (Some 5) (1 ∷ 2 ∷ []) ready)
+    (held 1 (9 ∷ [])) refl (Processor 0 0, [], refl)).1 0 (omega arith) in
+    omega (arith, e)
+
+too_few_bytes_by_law : ReadsGiveLastWrites (reads 2 (1 ∷ [])) → ⊥
+too_few_bytes_by_law s =
+    let e : Same 1 2 = (s 16 0 0 0 2 (1 ∷ []) (used_with (Some 5) (1 ∷ 2 ∷ []) ready)
+    (held 2 (1 ∷ [])) refl (Processor 0 0, [], refl)).0 in
+    omega (arith, e)
+
+-- whatever the states say
+abbrev written_unseen : ℕ → Course
+written_unseen byte = record (written_and_read byte)
+    { after = replicate 5 (used_with (Some 5) (1 ∷ 2 ∷ []) down) }
+
+held_then : (byte : ℕ) → StaysHeld (written_unseen byte) 16 0 4
+held_then byte zero le = (used_with (Some 5) (1 ∷ 2 ∷ []) down, refl, refl)
+held_then byte (suc zero) le = (used_with (Some 5) (1 ∷ 2 ∷ []) down, refl, refl)
+held_then byte (suc (suc zero)) le = (used_with (Some 5) (1 ∷ 2 ∷ []) down, refl, refl)
+held_then byte (suc (suc (suc zero))) le = (used_with (Some 5) (1 ∷ 2 ∷ []) down, refl, refl)
+held_then byte (suc (suc (suc (suc zero)))) le =
+    (used_with (Some 5) (1 ∷ 2 ∷ []) down, refl, refl)
+held_then byte (suc (suc (suc (suc (suc j))))) le = absurd (omega arith)
+
+last_by_law : (byte : ℕ) → ReadsGiveLastWrites (written_unseen byte) → byte ≡ 8
+last_by_law byte s =
+    (s 16 0 4 0 1 (byte ∷ []) (used_with (Some 5) (1 ∷ 2 ∷ []) down) (held_then byte) refl
+    (Processor 0 0, [], refl)).1 0 (omega arith)
+
+write_forgotten_by_law : ReadsGiveLastWrites (written_unseen 7) → ⊥
+write_forgotten_by_law s = let e : Same 7 8 = last_by_law 7 s in omega (arith, e)
+
+both_forgotten_by_law : ReadsGiveLastWrites (written_unseen 1) → ⊥
+both_forgotten_by_law s = let e : Same 1 8 = last_by_law 1 s in omega (arith, e)
 
 -- a write that is done, and the page holds what it did, or the bytes stand elsewhere in it
 abbrev written_as : List ℕ → Course
