@@ -5,7 +5,7 @@ use Rattle.vb_model.specs.declared.replies.Refusal.{Refusal}
 use Rattle.vb_model.specs.Requests.{Request}
 use Rattle.vb_model.specs.Guest.{is_ballooned}
 use Rattle.vb_model.specs.FirstRefusal.{first_refusal}
-use Rattle.vb_model.specs.Tables.{take_causes, work_causes, finish_causes}
+use Rattle.vb_model.specs.Tables.{Negotiated, take_causes, work_causes, finish_causes}
 use Rattle.vb_model.specs.Tables.{sweep_causes, ask_causes}
 use Rattle.vb_model.specs.declared.layout.TheConstants.{STATISTICS_QUEUE}
 use Rattle.vb_ram.specs.Part.{Part}
@@ -15,16 +15,19 @@ use Rattle.vb_device.specs.Queues.{queue_part}
 abbrev pub taken_at : ℕ → ℕ → Part → Option Request
 taken_at q index part = slice_get (queue_part q part).taken index
 
+abbrev pub negotiated : Part → Negotiated
+negotiated part = record { status = part.status; features = part.features }
+
 abbrev pub take_refusal : ℕ → Part → Option Refusal
 take_refusal q part =
-    first_refusal (take_causes q part.status part.features (length (queue_part q part).taken))
+    first_refusal (take_causes q (negotiated part) (length (queue_part q part).taken))
 
 abbrev pub work_refusal : Part → Option Refusal
 work_refusal part = first_refusal (work_causes part.status)
 
 abbrev pub finish_refusal : ℕ → ℕ → Part → Option Refusal
 finish_refusal q index part =
-    first_refusal (finish_causes q part.status part.paced (taken_at q index part))
+    first_refusal (finish_causes q (negotiated part) part.paced (taken_at q index part))
 
 abbrev pub ask_refusal : Part → Option Refusal
 ask_refusal part =
@@ -32,4 +35,4 @@ ask_refusal part =
 
 abbrev pub sweep_refusal : ℕ → Part → Option Refusal
 sweep_refusal page part =
-    first_refusal (sweep_causes part.status part.features (is_ballooned part.ballooned page))
+    first_refusal (sweep_causes (negotiated part) (is_ballooned part.ballooned page))

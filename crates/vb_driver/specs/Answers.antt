@@ -1,7 +1,7 @@
 -- How many pages a driver's calls move, and why one is refused: the formulas and tables of the
 -- definitions, with the driver's own values.
 use Rattle.std.specs.Prelude.{◌≡◌, ℕ, ◌≤◌, Bool, true, not, ◌==◌, List, [], ◌∷◌, ◌++◌, length}
-use Rattle.std.specs.Prelude.{false, is_some, is_err, IsSome}
+use Rattle.std.specs.Prelude.{nat_le, false, is_some, is_err, IsSome}
 use Rattle.std.specs.List.{list_all}
 use Rattle.vb_model.specs.declared.replies.Refusal.TheVariants.{RingBroken, AlreadyUp, NoFrame}
 use Rattle.vb_model.specs.declared.replies.Refusal.TheVariants.{NoPages, NotHeld}
@@ -14,7 +14,7 @@ pub use Rattle.vb_model.specs.FirstRefusal.{refusal_in}
 use Rattle.vb_model.specs.FirstRefusal.{Cause, ◌⇒◌}
 pub use Rattle.vb_model.specs.Tables.{is_up}
 use Rattle.vb_model.specs.Tables.{pages_to_inflate, pages_to_deflate, pages_when_short}
-use Rattle.vb_model.specs.Tables.{inflate_causes as causes_of_inflate}
+use Rattle.vb_model.specs.Tables.{Negotiated, inflate_causes as causes_of_inflate}
 use Rattle.vb_model.specs.Tables.{driver_causes, request_causes, reap_causes as causes_of_reap}
 use Rattle.vb_model.specs.Tables.{block_causes, no_block_free, is_not_held}
 use Rattle.vb_model.specs.Life.{feature_causes}
@@ -34,30 +34,40 @@ deflate_count d target n = pages_to_deflate d.places target n
 abbrev pub oom_count : DriverState → ℕ → ℕ
 oom_count d n = pages_when_short d.places n
 
--- ---- the tests
+-- ---- the causes
+
+abbrev pub negotiated : DriverState → Part → Negotiated
+negotiated d part = record { status = part.status; features = d.features }
 
 abbrev pub alloc_causes : DriverState → ℕ → ℕ → List Cause
 alloc_causes d cpu order =
-    block_causes order d.processors cpu (no_block_free d.places d.pages order ⇒ NoPages)
+    block_causes order (nat_le d.processors cpu) (no_block_free d.places d.pages order ⇒ NoPages)
 
 abbrev pub free_causes : DriverState → ℕ → ℕ → ℕ → List Cause
 free_causes d cpu start order =
-    block_causes order d.processors cpu (is_not_held d.held (block_at start order) ⇒ NotHeld)
+    block_causes order (nat_le d.processors cpu)
+    (is_not_held d.held (block_at start order) ⇒ NotHeld)
 
 abbrev pub inflate_causes : DriverState → Part → ℕ → List Cause
 inflate_causes d part n =
-    causes_of_inflate part.status d.features (outstanding d.deflate.ring)
-    (outstanding d.inflate.ring) (room d) (inflate_count d part.target n)
+    causes_of_inflate (negotiated d part) (outstanding d.deflate.ring) (record {
+      outstanding = outstanding d.inflate.ring;
+      most = room d;
+      count = inflate_count d part.target n;
+    })
 
 abbrev pub deflate_causes : DriverState → Part → ℕ → List Cause
 deflate_causes d part n =
-    request_causes part.status false (outstanding d.deflate.ring) (room d)
-    (deflate_count d part.target n)
+    request_causes part.status false (record {
+      outstanding = outstanding d.deflate.ring;
+      most = room d;
+      count = deflate_count d part.target n;
+    })
 
 abbrev pub oom_causes : DriverState → Part → ℕ → List Cause
 oom_causes d part n =
-    request_causes part.status (not (deflate_on_oom d.features)) (outstanding d.deflate.ring)
-    (room d) (oom_count d n)
+    request_causes part.status (not (deflate_on_oom d.features)) (record
+    { outstanding = outstanding d.deflate.ring; most = room d; count = oom_count d n })
 
 -- the first blocks of order 4 or more from this page on that are wholly free
 abbrev pub blocks_to_report : DriverState → ℕ → List Block
@@ -65,8 +75,11 @@ blocks_to_report d from = reported (room d) from (maximal_free_blocks d.places)
 
 abbrev pub report_causes : DriverState → Part → ℕ → List Cause
 report_causes d part from =
-    request_causes part.status (not (reporting d.features)) (outstanding d.report.ring) 1
-    (length (blocks_to_report d from))
+    request_causes part.status (not (reporting d.features)) (record {
+      outstanding = outstanding d.report.ring;
+      most = 1;
+      count = length (blocks_to_report d from);
+    })
 
 -- the used ring says what no device may say
 abbrev pub is_ring_broken : Pages → DriverEnd → Bool
@@ -75,7 +88,7 @@ is_ring_broken mem ring = is_err (used_answer mem ring)
 -- a reap from the queue whose ring this is
 abbrev pub reap_causes : Pages → Part → DriverState → DriverEnd → ℕ → List Cause
 reap_causes mem part d ring queue =
-    causes_of_reap queue part.status d.features ++ ((is_ring_broken mem ring ⇒ RingBroken) ∷ [])
+    causes_of_reap queue (negotiated d part) ++ ((is_ring_broken mem ring ⇒ RingBroken) ∷ [])
 
 abbrev pub stats_causes : Pages → Part → DriverState → List Cause
 stats_causes mem part d =

@@ -53,7 +53,7 @@ inflate_offered m1 m2 p1 p2 g areas sides d2 n posted driver did stands run free
     let new : Guest = after_posting Inflating posted.head pages g in
     let reply = ap (λ (k : ℕ). Posted posted.head k) did.pages in
     let step = honest_performed g (Inflate n) [] (Posted posted.head posted.pages) new free
-    (refl, (posted.head, did.others, least, did.free, did.distinct, did.enough, reply, refl)) in
+    (refl, (did.others, did.free, did.distinct, did.enough, (posted.head, least, reply, refl))) in
     let orderly = honest_order g (Inflate n) [] (Posted posted.head posted.pages) new
     stands.consistent stands.orderly step ties.parts.guest.honest in
     let once = (last_sound g.inflate.posted

@@ -10,10 +10,9 @@ use Rattle.vb_model.{specs.declared.replies.Refusal.TheVariants.AlreadyUp, specs
 use Rattle.vb_model.{specs.declared.replies.Reply.TheVariants.{Ready, Refused}, specs.Orderly.times}
 use Rattle.vb_model.specs.Layout.{reserved_pages, is_start_page, start_pages}
 use Rattle.vb_model.specs.Guest.{Guest, frame_of, all_backed, stats_vq}
-use Rattle.vb_model.specs.Refusals.{◌⇒◌, first_refusal, refusal_of}
+use Rattle.vb_model.{specs.Refusals.{◌⇒◌, first_refusal, refusal_of}, specs.Driver.{given, figures}}
 use Rattle.vb_model.specs.Life.{lacking, feature_refusal, accepted_before, Negotiates}
-use Rattle.vb_model.specs.Driver.{given, Supplying, figures}
-use Rattle.vb_model.proofs.Shapes.{reserved_most, start_reserved}
+use Rattle.vb_model.{proofs.Shapes.{reserved_most, start_reserved}, proofs.Performed.Supplying}
 use Rattle.vb_ram.{specs.Pages.{Pages, frame_at, number_of}, specs.Part.Part}
 use Rattle.vb_ram.specs.declared.shape.Shape.{Shape}
 use Rattle.vb_driver.{specs.State.DriverState, specs.Answers.{has_frames, init_causes}}

@@ -10,7 +10,7 @@ use Rattle.vb_model.specs.declared.calls.Call.TheVariants.{Reap}
 use Rattle.vb_model.{specs.Refusals.{causes, refusal_of}, specs.declared.replies.Refusal.Refusal}
 use Rattle.vb_ram.{specs.Pages.Pages, specs.Part.Part}
 use Rattle.vb_ring.specs.Ends.{DriverEnd, used_answer}
-use Rattle.vb_driver.{specs.State.DriverState, specs.Answers.{reap_causes, is_ring_broken}}
+use Rattle.vb_driver.{specs.State.DriverState, specs.Answers.{negotiated, reap_causes, is_ring_broken}}
 use Rattle.vb_driver.specs.Calls.{ReapsBy, ring_of, next_of, after_refusal}
 use Rattle.vb_guest.proofs.SameRefusals.{IsIdleStatus, at_both, last_cause}
 use Rattle.vb_guest.{proofs.Closing.{first_holds, refused_alone}, specs.Stands.{Honest, IsRunning}}
@@ -26,9 +26,11 @@ reap_same : (m : Pages) (p : Part) (d : DriverState) (g : Guest) (q : ℕ) (ring
 reap_same m p d g q ring o status features answer =
     let whole : is_ring_broken m ring ≡ false =
     ap (λ (r : Result (Option ℕ) Broken). is_err r) answer in
-    last_cause (causes_of_reap q p.status d.features) (is_ring_broken m ring) RingBroken whole
-    ∙ ap (λ (s : ℕ). first_refusal (causes_of_reap q s d.features)) status
-    ∙ ap (λ (f : ℕ). first_refusal (causes_of_reap q g.status f)) features
+    last_cause (causes_of_reap q (negotiated d p)) (is_ring_broken m ring) RingBroken whole
+    ∙ ap (λ (s : ℕ). first_refusal
+    (causes_of_reap q (record { status = s; features = d.features }))) status
+    ∙ ap (λ (f : ℕ). first_refusal
+    (causes_of_reap q (record { status = g.status; features = f }))) features
 
 -- a queue of requests before an initialisation
 not_up : (b : Bool) (s : ℕ) (rest : List Cause) → b ≡ true → IsIdleStatus s

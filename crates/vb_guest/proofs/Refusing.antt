@@ -7,7 +7,7 @@ use Rattle.vb_model.specs.Tables.{has_chains, is_queue_of_requests, take_causes,
 use Rattle.vb_model.specs.declared.calls.Call.TheVariants.{Take, Finish}
 use Rattle.vb_model.specs.Refusals.{causes, refusal_of}
 use Rattle.vb_ram.specs.Part.{Part}
-use Rattle.vb_device.specs.Conditions.{take_refusal, finish_refusal, taken_at}
+use Rattle.vb_device.specs.Conditions.{negotiated, take_refusal, finish_refusal, taken_at}
 use Rattle.vb_device.specs.Queues.{queue_part}
 use Rattle.vb_guest.proofs.Closing.{first_holds}
 
@@ -20,7 +20,7 @@ pub take_no_queue : (q : ℕ) (g : Guest) (part : Part) → IsNoQueue q
     → (take_refusal q part ≡ Some NoQueue) × (refusal_of g (Take q) ≡ Some NoQueue)
 take_no_queue q g part h = (
   first_holds (not (has_chains q)) NoQueue
-      (drop 1 (take_causes q part.status part.features (length (queue_part q part).taken)))
+      (drop 1 (take_causes q (negotiated part) (length (queue_part q part).taken)))
       (no_chains q h),
   first_holds (not (has_chains q)) NoQueue (drop 1 (causes g (Take q)))
       (no_chains q h),
@@ -32,7 +32,7 @@ pub finish_no_queue : (q i : ℕ) (g : Guest) (part : Part) → is_queue_of_requ
     → (finish_refusal q i part ≡ Some NoQueue) × (refusal_of g (Finish q i) ≡ Some NoQueue)
 finish_no_queue q i g part h = (
   first_holds (not (is_queue_of_requests q)) NoQueue
-      (drop 1 (finish_causes q part.status part.paced (taken_at q i part)))
+      (drop 1 (finish_causes q (negotiated part) part.paced (taken_at q i part)))
       (ap not h),
   first_holds (not (is_queue_of_requests q)) NoQueue (drop 1 (causes g (Finish q i)))
       (ap not h),

@@ -4,11 +4,12 @@ use Rattle.std.{specs.Prelude.{Ok, Err, Some, None, refl, All}, proofs.lemmas.Li
 use Rattle.std.proofs.Common.{sym, ◌∙◌, ap, subst, arith, inr}
 use Rattle.vb_model.{specs.declared.calls.Call.TheVariants.Report, specs.Guest.{Guest, reporting}}
 use Rattle.vb_model.{specs.declared.places.Place.TheVariants.Reporting, specs.Driver.after_posting}
-use Rattle.vb_model.{specs.declared.replies.Refusal.Refusal, specs.Tables.is_up}
+use Rattle.vb_model.{specs.declared.replies.Refusal.Refusal, specs.Tables.{is_up, most_requests}}
 use Rattle.vb_model.specs.declared.replies.Refusal.TheVariants.{NotReady, NoFeature, QueueFull}
 use Rattle.vb_model.specs.declared.replies.Refusal.TheVariants.{Nothing}
 use Rattle.vb_model.{specs.declared.replies.Reply.TheVariants.{Posted, Refused}, specs.Pages.Block}
-use Rattle.vb_model.{specs.Pages.{placed, pages_of_all}, specs.FirstRefusal.{◌⇒◌, first_refusal}}
+use Rattle.vb_model.specs.Pages.{placed, pages_of_all, reported, maximal_free_blocks}
+use Rattle.vb_model.{specs.declared.places.Place.Place, specs.FirstRefusal.{◌⇒◌, first_refusal}}
 use Rattle.vb_model.specs.Requests.{Request, Requests, no_requests, outstanding, posting}
 use Rattle.vb_model.{specs.Requests.{IsLeastHead, Reporting_free}, specs.Refusals.refusal_of}
 use Rattle.vb_model.specs.Refusals.{reported_blocks}
@@ -31,7 +32,10 @@ use Rattle.vb_driver.specs.declared.answers.Posted.{Posted as PostedRequest}
 
 blocks_same : (d : DriverState) (g : Guest) (from : ℕ) → d.queue_size ≡ g.config.queue_size
     → d.places ≡ g.places → blocks_to_report d from ≡ reported_blocks g from
-blocks_same d g from size places = grind arith
+blocks_same d g from size places =
+    let B : ℕ → List Place → List Block =
+    λ queue_size ps. reported (most_requests queue_size) from (maximal_free_blocks ps) in
+    ap (λ (n : ℕ). B n d.places) size ∙ ap (λ (ps : List Place). B g.config.queue_size ps) places
 
 report_same : (p : Part) (d : DriverState) (g : Guest) (from : ℕ) → p.status ≡ g.status
     → d.features ≡ g.features → outstanding_in d.report.ring ≡ outstanding g.report

@@ -12,19 +12,18 @@ use Rattle.vb_model.specs.declared.replies.Refusal.TheVariants.{NoQueue, NotRead
 use Rattle.vb_model.specs.declared.replies.Refusal.TheVariants.{Broken, Busy, NotTaken, NotWorked}
 use Rattle.vb_model.specs.Tables.{is_not_ready, has_fault, has_chains, lacks_feature}
 use Rattle.vb_model.specs.Tables.{is_queue_of_requests, has_unvisited, take_causes, work_causes}
-use Rattle.vb_model.{specs.declared.calls.Call.TheVariants.SetTarget, specs.Limits.page_size}
-use Rattle.vb_model.specs.declared.layout.TheConstants.{STATISTICS_QUEUE, REPORT_QUEUE}
 use Rattle.vb_model.specs.declared.replies.Refusal.TheVariants.{NoFeature, NotBallooned}
-use Rattle.vb_model.{specs.Tables.{sweep_causes, finish_causes, ask_causes}, specs.Orderly.times}
-use Rattle.vb_model.{specs.declared.calls.Call.Call, specs.declared.replies.Refusal.Refusal}
-use Rattle.vb_model.{specs.declared.replies.Reply.Reply, specs.FirstRefusal.{◌⇒◌, first_refusal}}
-use Rattle.vb_model.specs.declared.replies.Reply.TheVariants.{Refused, Done}
-use Rattle.vb_model.{specs.Layout.{reserved_pages, ring_page}, proofs.Shapes.start_reserved}
-use Rattle.vb_model.{specs.Requests.Request, specs.Device.{next_page, visiting}}
+use Rattle.vb_model.specs.declared.layout.TheConstants.{STATISTICS_QUEUE, REPORT_QUEUE}
 use Rattle.vb_model.specs.Guest.{Guest, is_ballooned, frame_of, must_tell_host}
-use Rattle.vb_model.specs.Status.{contains, driver_ok, failed, needs_reset}
-use Rattle.vb_model.{specs.Rogue.{target_after, pages_to_back}, specs.Tests.{flagged, is_in}}
-use Rattle.vb_model.{proofs.Refusing.is_refused, proofs.Wanting.{wants, refused_otherwise}}
+use Rattle.vb_model.{specs.declared.replies.Reply.TheVariants.{Refused, Done}, specs.Orderly.times}
+use Rattle.vb_model.{specs.Status.{contains, driver_ok, failed, needs_reset}, specs.Step.bare_pages}
+use Rattle.vb_model.{specs.Tables.{sweep_causes, finish_causes, ask_causes}, specs.Limits.page_size}
+use Rattle.vb_model.{specs.declared.calls.Call.TheVariants.SetTarget, proofs.Shapes.start_reserved}
+use Rattle.vb_model.{proofs.Wanting.{wants, refused_otherwise}, specs.declared.replies.Reply.Reply}
+use Rattle.vb_model.{specs.Layout.{reserved_pages, ring_page}, specs.Device.{next_page, visiting}}
+use Rattle.vb_model.{specs.FirstRefusal.{◌⇒◌, first_refusal}, specs.declared.calls.Call.Call}
+use Rattle.vb_model.{specs.declared.replies.Refusal.Refusal, specs.Tests.{flagged, is_in}}
+use Rattle.vb_model.{proofs.Refusing.is_refused, specs.Rogue.target_after, specs.Requests.Request}
 use Rattle.vb_ram.{specs.Pages.{Pages, frame_at, page_at, number_of}, specs.Part.{Part, QueuePart}}
 use Rattle.vb_chain.specs.declared.fault.ChainFault.TheVariants.{WrongDirection, BadLength}
 use Rattle.vb_chain.specs.Table.{descriptor_at}
@@ -35,9 +34,9 @@ use Rattle.vb_request.{proofs.Once.is_in-each_once, proofs.Chains.chain_fits}
 use Rattle.vb_device.specs.Conditions.{take_refusal, work_refusal, finish_refusal, sweep_refusal}
 use Rattle.vb_device.specs.Calls.{TakesBy, TakeMeans, IsNextRequest, noting, WorksBy, Visits}
 use Rattle.vb_device.specs.Calls.{next_visit, FinishesBy, Uses, using, settled, without_frames}
-use Rattle.vb_device.{specs.Conditions.{ask_refusal, taken_at}, specs.declared.worked.Worked.Worked}
+use Rattle.vb_device.specs.Conditions.{ask_refusal, taken_at, negotiated}
 use Rattle.vb_device.specs.Calls.{lost_frames, SweepsBy, AsksBy, SameFrames}
-use Rattle.vb_device.specs.Queues.{queue_part, with_queue}
+use Rattle.vb_device.{specs.declared.worked.Worked.Worked, specs.Queues.{queue_part, with_queue}}
 use Rattle.vb_device.specs.Discards.{discarded, frames_behind}
 use Rattle.vb_driver.specs.State.{DriverState}
 use Rattle.vb_guest.specs.Replies.{taken_reply, worked_reply, finished_reply, swept_reply}
@@ -194,7 +193,7 @@ take_rogue m1 m2 p1 p2 d g q result did rogue =
         ∙ ap (λ (n : ℕ). record g { status = n })
         (ap (λ (p : Part). p.status) part ∙ ap (λ (n : ℕ). bit_or n needs_reset) rogue.status)))
     by (Err why) means = unchanged_alone m1 m1 p1 p2 d d g (Take q) why
-        (take_causes q p1.status p1.features (length (queue_part q p1).taken))
+        (take_causes q (negotiated p1) (length (queue_part q p1).taken))
         (record { mem = refl; part = means.1; driver = refl }) refl (sym means.0) refl refl refl refl
         (λ page offset bytes e. cc) rogue
 
@@ -255,7 +254,7 @@ pub rogue_freed : (m1 m2 : Pages) (p1 p2 : Part) (d : DriverState) (g : Guest) (
     → ((page : ℕ) → frame_at m2 page ≡ frame_at (discarded r.pages m1) page)
     → SameFrames p2.loose (frames_behind m1 (each_once r.pages))
     → target_after call p1.target ≡ p1.target → is_refused reply ≡ false → IsOther call
-    → pages_to_back call g ≡ [] → Rogue m1 p1 d g
+    → bare_pages call g ≡ [] → Rogue m1 p1 d g
     → StepsFreeing (Rogue m2 (handed_back p2) d) p2.loose g call reply
 rogue_freed m1 m2 p1 p2 d g call reply r own changes ok count same loose still answer other none
     rogue =
@@ -315,7 +314,7 @@ rogue_freed m1 m2 p1 p2 d g call reply r own changes ok count same loose still a
 -- no page does
 pub none_freed : (m1 m2 : Pages) (p1 p2 : Part) (d : DriverState) (g : Guest) (call : Call)
     (reply : Reply) → m2 ≡ m1 → p2 ≡ p1 → target_after call p1.target ≡ p1.target
-    → wants reply ≡ false → IsOther call → pages_to_back call g ≡ []
+    → wants reply ≡ false → IsOther call → bare_pages call g ≡ []
     → IsLeft call reply [] g (rogue_after g g.frames p2 d) → Rogue m1 p1 d g
     → StepsFreeing (Rogue m2 (handed_back p2) d) p2.loose g call reply
 none_freed m1 m2 p1 p2 d g call reply memory part still answer other none_needed left rogue =
@@ -441,10 +440,10 @@ sweep_rogue m1 m2 p1 p2 d g page result did rogue = by (sweep_refusal page p1) r
     by (Some why) e =
         let (answer, part, memory) = did.refused why e in
         subst Done (sym answer) (none_freed m1 m2 p1 p2 d g (Sweep page) _ memory part refl
-        (refused_otherwise (sweep_causes p1.status p1.features (is_ballooned p1.ballooned page)) why refl e)
+        (refused_otherwise (sweep_causes (negotiated p1) (is_ballooned p1.ballooned page)) why refl e)
         (λ page offset bytes x. cc) refl
         (left_same m1 p1 p2 d d g (Sweep page) why
-        (sweep_causes p1.status p1.features (is_ballooned p1.ballooned page)) rogue refl refl part (sym e) refl refl)
+        (sweep_causes (negotiated p1) (is_ballooned p1.ballooned page)) rogue refl refl part (sym e) refl refl)
         rogue)
     by None e =
         let (up, flag) = sweeps_up (is_not_ready p1.status) (has_fault p1.status)
@@ -603,10 +602,10 @@ finish_rogue m1 m2 p1 p2 d g q i result did rogue = by (finish_refusal q i p1) r
     by (Some why) e =
         let (answer, part, memory) = did.refused why e in
         subst Done (sym answer) (none_freed m1 m2 p1 p2 d g (Finish q i) _ memory part refl
-        (refused_otherwise (finish_causes q p1.status p1.paced (taken_at q i p1)) why refl e)
+        (refused_otherwise (finish_causes q (negotiated p1) p1.paced (taken_at q i p1)) why refl e)
         (λ page offset bytes x. cc) refl
         (left_same m1 p1 p2 d d g (Finish q i) why
-        (finish_causes q p1.status p1.paced (taken_at q i p1)) rogue refl refl part (sym e) refl refl)
+        (finish_causes q (negotiated p1) p1.paced (taken_at q i p1)) rogue refl refl part (sym e) refl refl)
         rogue)
     by None e =
         let (r, at) = there_is (not (is_queue_of_requests q)) (is_not_ready p1.status)

@@ -13,7 +13,7 @@ use Rattle.vb_model.{specs.declared.replies.Refusal.Refusal, specs.declared.repl
 use Rattle.vb_model.{specs.declared.replies.Reply.TheVariants.{Refused, Done}, specs.Pages.placed}
 use Rattle.vb_model.{specs.FirstRefusal.{Cause, ◌⇒◌, first_refusal}, specs.Life.place_after_reset}
 use Rattle.vb_model.{specs.Guest.{Guest, is_ballooned, stats_vq}, proofs.GuestSteps.length-reaped}
-use Rattle.vb_model.specs.Rogue.{target_after, pages_to_back, after_refused, with_fault}
+use Rattle.vb_model.{specs.Rogue.{target_after, after_refused, with_fault}, specs.Step.bare_pages}
 use Rattle.vb_model.specs.Status.{contains, driver_ok, failed, is_broken}
 use Rattle.vb_model.specs.Tables.{is_queue_of_requests, lacks_feature}
 use Rattle.vb_model.proofs.Wanting.{wants, none_wants, refused_otherwise, refused_passes}
@@ -47,7 +47,7 @@ part_alone : (m1 m2 : Pages) (p1 p2 : Part) (d1 d2 : DriverState) (g : Guest) (c
     (reply : Reply) → DriverSame d1 d2 → p2 ≡ p1 → length m2 ≡ length m1
     → ((page : ℕ) → frame_at m2 page ≡ frame_at m1 page)
     → target_after call p1.target ≡ p1.target → wants reply ≡ false → IsOther call
-    → pages_to_back call g ≡ [] → IsLeft call reply [] g (rogue_after g g.frames p2 d2)
+    → bare_pages call g ≡ [] → IsLeft call reply [] g (rogue_after g g.frames p2 d2)
     → Rogue m1 p1 d1 g → StepsAlone (Rogue m2 p2 d2) g call reply
 part_alone m1 m2 p1 p2 d1 d2 g call reply driver part count same still answer other none left rogue =
     rogue_alone m1 m2 p1 p2 d1 d2 g call reply rogue
@@ -70,7 +70,7 @@ pub unchanged_alone : (m1 m2 : Pages) (p1 p2 : Part) (d1 d2 : DriverState) (g : 
     (why : Refusal) (causes : List Cause) → Unchanged m1 m2 p1 p2 d1 d2
     → target_after call p1.target ≡ p1.target → Some why ≡ first_refusal causes
     → none_wants causes ≡ true → list_all (λ t. keeps_status t.refusal) causes ≡ true
-    → after_refused call why [] g ≡ with_fault why g → pages_to_back call g ≡ [] → IsOther call
+    → after_refused call why [] g ≡ with_fault why g → bare_pages call g ≡ [] → IsOther call
     → Rogue m1 p1 d1 g → StepsAlone (Rogue m2 p2 d2) g call (Refused why)
 unchanged_alone m1 m2 p1 p2 d1 d2 g call why causes same still is wanted keep plain none other rogue =
     part_alone m1 m2 p1 p2 d1 d2 g call (Refused why) (driver_same d1 d2 same.driver) same.part
@@ -137,7 +137,7 @@ inflate_rogue m1 m2 p1 p2 d1 d2 g n (Err why) did rogue =
 
 asks_rogue : (m1 m2 : Pages) (p1 p2 : Part) (d1 d2 : DriverState) (g : Guest) (call : Call)
     (count : ℕ) (posted : Posted) → AsksBack m1 m2 p1 p2 d1 d2 count posted
-    → target_after call p1.target ≡ p1.target → IsOther call → pages_to_back call g ≡ []
+    → target_after call p1.target ≡ p1.target → IsOther call → bare_pages call g ≡ []
     → Rogue m1 p1 d1 g → StepsAlone (Rogue m2 p2 d2) g call (posted_reply (Ok posted))
 asks_rogue m1 m2 p1 p2 d1 d2 g call count posted asks still other none rogue =
     part_alone m1 m2 p1 p2 d1 d2 g call _
@@ -238,7 +238,7 @@ failed_alone : (m1 m2 : Pages) (p1 p2 : Part) (d1 d2 : DriverState) (g : Guest) 
     → (why ≡ RingBroken → contains p1.status driver_ok ≡ true)
     → target_after call p1.target ≡ p1.target → Some why ≡ first_refusal causes
     → none_wants causes ≡ true → list_all (λ t. is_of_driver t.refusal) causes ≡ true
-    → after_refused call why [] g ≡ with_fault why g → pages_to_back call g ≡ [] → IsOther call
+    → after_refused call why [] g ≡ with_fault why g → bare_pages call g ≡ [] → IsOther call
     → Rogue m1 p1 d1 g → StepsAlone (Rogue m2 p2 d2) g call (Refused why)
 failed_alone m1 m2 p1 p2 d1 d2 g call why causes same up still is wanted told plain none other rogue =
     subst (λ (m : Pages). StepsAlone (Rogue m p2 d2) g call (Refused why)) (sym same.mem)

@@ -22,15 +22,15 @@ use Rattle.vb_guest.proofs.Rogues.{driver_same, device_alike, keeps_part, rogue_
 use Rattle.vb_guest.proofs.Rogues.{kept_of_rogue, rogue_unchanged, left_by, no_refusal}
 use Rattle.vb_guest.proofs.Rogues.{keeps_status, without_fault, rogue_stands, rogue_alone}
 use Rattle.vb_guest.proofs.Standing.{by_guest, rogue_is, stands_with, stands_of, own_moved}
-use Rattle.vb_guest.{proofs.Rogues.{rogue_steps, rogue_unclaimed}, proofs.Freed.down_not_ok}
-use Rattle.vb_guest.{proofs.Standing.{alone_stands, over_stands}, proofs.Offered.high_page}
-use Rattle.vb_guest.specs.Stands.{Honest, IsOwnRequest, IsRogueUp, Rogue, Stands}
-use Rattle.vb_guest.{specs.Steps.{backing_count, StepsAlone, StepsOver}, proofs.OwnBlocks.own_pages}
-use Rattle.vb_guest.specs.Supply.{supply_of, AreClaimed, IsClaimed, Moves, nothing}
-use Rattle.vb_guest.proofs.Closing.{guest_step, refused_alone, honest_own}
-use Rattle.vb_guest.{proofs.Moving.{moves_as, times_one}, proofs.SweepStep.ballooned_free}
 use Rattle.vb_guest.proofs.WriteStep.{inside_is, outside_is, needs_one, refusal_of_claim}
-use Rattle.vb_guest.proofs.Writing.{frames_supplied, count_backed}
+use Rattle.vb_guest.specs.Supply.{supply_of, AreClaimed, IsClaimed, Moves, nothing}
+use Rattle.vb_guest.specs.Stands.{Honest, IsOwnRequest, IsRogueUp, Rogue, Stands}
+use Rattle.vb_guest.proofs.Rogues.{rogue_steps, rogue_unclaimed, nothing_backed}
+use Rattle.vb_guest.proofs.Closing.{guest_step, refused_alone, honest_own}
+use Rattle.vb_guest.{specs.Steps.{backing_count, StepsAlone, StepsOver}, proofs.OwnBlocks.own_pages}
+use Rattle.vb_guest.{proofs.Writing.{frames_supplied, count_backed}, proofs.Freed.down_not_ok}
+use Rattle.vb_guest.{proofs.Standing.{alone_stands, over_stands}, proofs.SweepStep.ballooned_free}
+use Rattle.vb_guest.{proofs.Moving.{moves_as, times_one}, proofs.Offered.high_page}
 use Rattle.vb_model.specs.declared.replies.Refusal.TheVariants.{NoFrame as NoFrameLeft}
 use Rattle.vb_frames.specs.declared.keeper.Refused.{Refused as KeeperRefused}
 
@@ -106,13 +106,24 @@ plainly_left reply why g plain e = without_fault why g (sym (ap keeps_reply e) �
 pub read_rogue : (m : Pages) (p : Part) (d : DriverState) (g : Guest) (page off len : ℕ)
     (reply : Reply) → reply ≢ Refused NoFrameLeft → keeps_reply reply ≡ true → Rogue m p d g
     → StepsAlone (Rogue m p d) g (Read page off len) reply
-read_rogue m p d g page off len reply answer plain rogue = search arith
+read_rogue m p d g page off len reply answer plain rogue =
+    let none = nothing_backed (Read page off len) g refl in
+    record {
+      new = g;
+      stands = rogue;
+      step = rogue_steps m m p p d d g g (Read page off len) [] reply rogue rogue refl refl
+          (subst (λ (l : List ℕ). AreClaimsFor l []) (sym none) refl)
+          (subst (λ (l : List ℕ). LosesFrames (all_backed l [] g.frames) g.frames) (sym none)
+          (λ q frame e. e)) (λ e. absurd (answer e)) (λ e. inr refl)
+          (λ why e. sym (plainly_left reply why g plain e)) (λ page offset bytes e. absurd cc);
+      frames = refl;
+    }
 
 -- frames are as they were, and none is claimed
 write_rogue : (m1 m2 : Pages) (p1 p2 : Part) (d : DriverState) (g : Guest) (page off : ℕ)
     (bs : List ℕ) (reply : Reply) → length m2 ≡ length m1
     → ((page : ℕ) → frame_at m2 page ≡ frame_at m1 page) → p2 ≡ p1
-    → wants reply ≡ false → keeps_reply reply ≡ true → pages_to_back (Write page off bs) g ≡ []
+    → wants reply ≡ false → keeps_reply reply ≡ true → pages_needed page bs g ≡ []
     → Rogue m1 p1 d g → StepsAlone (Rogue m2 p2 d) g (Write page off bs) reply
 write_rogue m1 m2 p1 p2 d g page off bs reply count same part answer plain none rogue =
     rogue_alone m1 m2 p1 p2 d d g (Write page off bs) reply rogue
@@ -140,13 +151,7 @@ pub write_done_rogue : (m1 m2 : Pages) (p1 p2 : Part) (d : DriverState) (g : Gue
     → p2 ≡ p1 → Rogue m1 p1 d g → StepsAlone (Rogue m2 p2 d) g (Write page off bs) Done
 write_done_rogue m1 m2 p1 p2 d g page off bs never wrote part rogue =
     write_rogue m1 m2 p1 p2 d g page off bs Done wrote.rest.count wrote.rest.backing part refl refl
-    (ap (λ (l : List ℕ). unless_refused (refusal_of g (Write page off bs)) l)
-    (needs_nothing m1 g page bs rogue.behind never)
-    ∙ unless_none (refusal_of g (Write page off bs))) rogue
-  where
-    unless_none : (o : Option Refusal) → unless_refused o [] ≡ []
-    unless_none None = refl
-    unless_none (Some why) = refl
+    (needs_nothing m1 g page bs rogue.behind never) rogue
 
 -- a page that is used, and bytes that lie in it
 write_fits : (m : Pages) (p : Part) (d : DriverState) (g : Guest) (page off : ℕ) (bs : List ℕ)
@@ -229,7 +234,12 @@ write_supplied_rogue Answers out1 out2 m1 m2 m3 m4 p1 p2 p3 p4 d g page off fram
     record {
       new = new;
       stands = stands;
-      step = search (arith, rogue_steps, no_refusal);
+      step = rogue_steps m1 m4 p1 p4 d d g new (Write page off bs) (Gave frame ∷ []) Done rogue
+          stands refl (ap (λ (p : Part). p.target) (pc ∙ pb ∙ pa))
+          (subst (λ (l : List ℕ). AreClaimsFor l (Gave frame ∷ [])) (sym needs) refl)
+          (subst (λ (l : List ℕ). LosesFrames (all_backed l (frame ∷ []) g.frames) new.frames)
+          (sym needs) (λ page frame e. e)) (λ e. absurd cc) (λ e. absurd cc)
+          (λ why e. no_refusal Done why refl e) (λ page offset bytes e. absurd cc);
       answered = (supply_of p2 out2, answer, tt);
       moves = supplied_moves Answers out1 out2 m1 p1 p2 p4 g new page frame answer (pc ∙ pb)
           (omega (arith, covers.page, rogue.length_is, rogue.framed)) bare_too refl;
@@ -322,7 +332,12 @@ scribble_alone keeps m1 m2 p1 p2 d g page off bs stands covers never wrote part 
       new = new;
       stands = stands_with keeps m1 m2 p1 p2 d d g new stands (ap (λ (p : Part). p.keeps) part)
           (ap (λ (p : Part). p.own) part) refl (rogue_is m2 p2 d new rogue);
-      step = search (arith, scribble_step, marked_after, scribble_fits);
+      step = scribble_step m1 m2 p1 p2 d g new page off bs [] keeps stands rogue
+          (subst (λ (l : List ℕ). AreClaimsFor l []) (sym needs) refl) refl
+          (marked_after m1 p1 p2 d g g.frames old
+          (part ∙ ap (λ (l : List ℕ). record p1 { own = l }) (sym (ap (λ (p : Part). p.own) part)))
+          ∙ ap (λ (l : List ℕ). record g { frames = all_backed l [] g.frames; rogue = true })
+          (sym needs)) (scribble_fits m1 g page off bs old.length_is covers);
       frames = refl;
     }
 
@@ -342,7 +357,13 @@ scribble_outside keeps m1 m2 p1 p2 d g page off bs stands m p out =
     record {
       new = g;
       stands = same;
-      step = search (arith, rogue_steps, left_by, same_scribble);
+      step = rogue_steps m1 m2 p1 p2 d d g g (Scribble page off bs) [] (Refused OutOfRam) rogue
+          same refl (ap (λ (x : Part). x.target) p)
+          (subst (λ (l : List ℕ). AreClaimsFor l []) (sym none) refl)
+          (subst (λ (l : List ℕ). LosesFrames (all_backed l [] g.frames) g.frames) (sym none)
+          (λ q frame e. e)) (λ e. absurd cc) (λ e. absurd cc)
+          (left_by (Scribble page off bs) OutOfRam [] g g refl)
+          (λ q o b e. same_scribble page off bs q o b g [] (Refused OutOfRam) g e step);
       frames = refl;
     }))
   where
@@ -414,4 +435,18 @@ scribble_supplied keeps Answers out1 out2 m1 m2 m3 m4 p1 p2 p3 p4 d g page off f
     now wrote pa pb pc old in
     let moves = supplied_moves Answers out1 out2 m1 p1 p2 p4 g new page frame answer (pc ∙ pb)
     (omega (arith, covers.page, old.length_is, old.framed)) bare_too refl in
-    (search (arith, stands_of, rogue_is, own_moved, scribble_step, marked_after, scribble_fits))
+    record {
+      new = new;
+      stands = stands_of keeps m4 p4 d new (rogue_is m4 p4 d new rogue)
+          (own_moved keeps p1 p4 out1 out2 g new moves stands.own);
+      step = scribble_step m1 m4 p1 p4 d g new page off bs (Gave frame ∷ []) keeps stands rogue
+          (subst (λ (l : List ℕ). AreClaimsFor l (Gave frame ∷ [])) (sym needs) refl) refl
+          (marked_after m1 p1 p4 d g (backed page frame g.frames) old
+          (pc ∙ pb ∙ pa ∙ ap (λ (l : List ℕ). record p1 { own = l })
+          (sym (ap (λ (p : Part). p.own) (pc ∙ pb))))
+          ∙ ap (λ (l : List ℕ). record g
+          { frames = all_backed l (frame ∷ []) g.frames; rogue = true }) (sym needs))
+          (scribble_fits m1 g page off bs old.length_is covers);
+      answered = (supply_of p2 out2, answer, tt);
+      moves = moves;
+    }

@@ -1,22 +1,24 @@
 -- A call on a guest that wrote past its driver: what it keeps is enough.
 use Rattle.std.specs.Prelude.{◌≡◌, ◌≢◌, ℕ, ◌<◌, Bool, true, false, List, [], length, All, Option}
-use Rattle.std.specs.Prelude.{Some, refl, is_some, ◌⊎◌, MatchOption}
-use Rattle.std.proofs.Common.{sym, ◌∙◌, ap, subst, arith}
+use Rattle.std.specs.Prelude.{Some, refl, is_some, is_none, ◌⊎◌, MatchOption, MatchBool}
+use Rattle.std.{specs.Prelude.if◌then◌else◌, proofs.Common.{sym, ◌∙◌, ap, subst, arith, inl, inr}}
 use Rattle.vb_model.specs.declared.replies.Refusal.TheVariants.{NoFrame, NoMemory, Broken}
 use Rattle.vb_model.specs.Rogue.{LosesFrames, pages_to_back, is_read, target_after, after_refused}
-use Rattle.vb_model.{specs.declared.replies.Refusal.TheVariants.RingBroken, specs.Step.HonestStep}
-use Rattle.vb_model.{specs.Rogue.{with_fault, GuestStep}, specs.Layout.reserved_pages}
 use Rattle.vb_model.specs.Guest.{Guest, frame_of, is_ballooned, all_backed}
-use Rattle.vb_model.specs.Driver.{given, claim_refusal, AreClaimsFor}
+use Rattle.vb_model.specs.declared.calls.Call.TheVariants.{Read, Scribble}
+use Rattle.vb_model.specs.declared.replies.Refusal.TheVariants.{RingBroken}
+use Rattle.vb_model.{specs.Driver.{given, claim_refusal, AreClaimsFor}, specs.Layout.reserved_pages}
 use Rattle.vb_model.{specs.declared.replies.Reply.TheVariants.Refused, proofs.Shapes.start_reserved}
-use Rattle.vb_model.{specs.declared.calls.Call.TheVariants.Scribble, specs.declared.calls.Call.Call}
+use Rattle.vb_model.{specs.Rogue.{with_fault, GuestStep, RogueStep}, specs.declared.calls.Call.Call}
 use Rattle.vb_model.{specs.declared.replies.Refusal.Refusal, proofs.Refusing.{is_refused, not_this}}
-use Rattle.vb_model.{specs.declared.replies.Reply.Reply, specs.Status.{contains, driver_ok}}
-use Rattle.vb_model.{specs.declared.calls.Claim.Claim, proofs.Wanting.{wants, no_want}}
+use Rattle.vb_model.{specs.Step.{HonestStep, bare_pages}, specs.declared.replies.Reply.Reply}
+use Rattle.vb_model.{specs.Status.{contains, driver_ok}, specs.declared.calls.Claim.Claim}
+use Rattle.vb_model.{proofs.Wanting.{wants, no_want}, specs.Refusals.refusal_of}
 use Rattle.vb_ram.{specs.Pages.{Pages, frame_at}, specs.Part.{Part, no_part}}
 use Rattle.vb_driver.specs.State.{DriverState}
-use Rattle.vb_guest.{specs.Stands.{IsOwnRequest, IsRogueUp, Rogue}, specs.Steps.StepsAlone}
-use Rattle.vb_guest.{specs.Steps.StepsOver, specs.Supply.{AreClaimed, supply_of, Moves, nothing}}
+use Rattle.vb_guest.{specs.Stands.{IsOwnRequest, IsRogueUp, Rogue}, proofs.Moving.moves_as}
+use Rattle.vb_guest.specs.Steps.{StepsAlone, backing_count, StepsOver}
+use Rattle.vb_guest.specs.Supply.{AreClaimed, supply_of, Moves, nothing}
 
 -- ---- what a call keeps
 
@@ -153,6 +155,20 @@ is_of_driver _ = true
 pub without_fault : (why : Refusal) (g : Guest) → keeps_status why ≡ true → with_fault why g ≡ g
 without_fault why g e = grind arith
 
+-- a call that needs no frame claims none
+pub nothing_backed : (call : Call) (g : Guest) → bare_pages call g ≡ [] → pages_to_back call g ≡ []
+nothing_backed call g none = by (is_none (refusal_of g call))
+  where
+    by : (b : Bool) → (if b then bare_pages call g else []) ≡ []
+    by true = none
+    by false = refl
+
+-- the read that it is
+read_call : (call : Call) → is_read call ≡ true
+    → (page : ℕ) × (offset : ℕ) × (len : ℕ) × (call ≡ Read page offset len)
+read_call (Read page offset len) e = (page, offset, len, refl)
+read_call _ e = absurd cc
+
 -- the guest afterwards is bound by what the call claimed
 pub rogue_steps : (m1 m2 : Pages) (p1 p2 : Part) (d1 d2 : DriverState) (g new : Guest)
     (call : Call) (claims : List Claim) (reply : Reply) → Rogue m1 p1 d1 g
@@ -169,19 +185,47 @@ pub rogue_steps : (m1 m2 : Pages) (p1 p2 : Part) (d1 d2 : DriverState) (g new : 
     → HonestStep g (Scribble page offset bytes) claims reply new)
     → GuestStep g call claims reply new
 rogue_steps m1 m2 p1 p2 d1 d2 g new call claims reply old after config target claimed frames no_frame no_memory left scribble =
-    grind arith
+    let S : Bool → Type 0 =
+    λ b. MatchBool b (RogueStep g call claims reply new) (HonestStep g call claims reply new) in
+    subst S (sym old.rogue) (record {
+      stays = record {
+        still = after.rogue;
+        config = config;
+        unreserved = after.unreserved;
+        sizes = record {
+          placed = after.placed;
+          flagged = after.flagged;
+          framed = after.framed;
+          filled = after.filled;
+        };
+      };
+      target = sym after.target ∙ target ∙ ap (target_after call) old.target;
+      claimed = claimed;
+      frames = frames;
+      no_frame = no_frame;
+      no_memory = λ e. by_read (no_memory e);
+      refused = left;
+      scribble = scribble;
+    })
+  where
+    by_read : (claim_refusal claims ≡ Some NoMemory) ⊎ (is_read call ≡ true)
+        → (claim_refusal claims ≡ Some NoMemory)
+        ⊎ ((page : ℕ) × (offset : ℕ) × (len : ℕ) × (call ≡ Read page offset len))
+    by_read (inl e) = inl e
+    by_read (inr e) = inr (read_call call e)
 
 -- it claims nothing
 pub rogue_step : (m1 m2 : Pages) (p1 p2 : Part) (d1 d2 : DriverState) (g : Guest)
     (frames : List (Option ℕ)) (call : Call) (reply : Reply) → Rogue m1 p1 d1 g
     → Rogue m2 p2 d2 (rogue_after g frames p2 d2) → p2.target ≡ target_after call p1.target
-    → LosesFrames g.frames frames → wants reply ≡ false → IsOther call → pages_to_back call g ≡ []
+    → LosesFrames g.frames frames → wants reply ≡ false → IsOther call → bare_pages call g ≡ []
     → IsLeft call reply [] g (rogue_after g frames p2 d2)
     → GuestStep g call [] reply (rogue_after g frames p2 d2)
 rogue_step m1 m2 p1 p2 d1 d2 g frames call reply old new target loses answer other none left =
     rogue_steps m1 m2 p1 p2 d1 d2 g (rogue_after g frames p2 d2) call [] reply old new refl target
-    (subst (λ (l : List ℕ). AreClaimsFor l []) (sym none) tt)
-    (subst (λ (l : List ℕ). LosesFrames (all_backed l [] g.frames) frames) (sym none) loses)
+    (subst (λ (l : List ℕ). AreClaimsFor l []) (sym (nothing_backed call g none)) refl)
+    (subst (λ (l : List ℕ). LosesFrames (all_backed l [] g.frames) frames)
+    (sym (nothing_backed call g none)) loses)
     (no_want reply NoFrame answer refl) (no_want reply NoMemory answer refl) left
     (λ page offset bytes e. absurd (other page offset bytes e))
 
@@ -191,7 +235,7 @@ pub rogue_alone : (m1 m2 : Pages) (p1 p2 : Part) (d1 d2 : DriverState) (g : Gues
     → Keeps g.config.queue_size m1 m2 p1 p2 d1 d2 → length m2 ≡ length m1
     → ((page : ℕ) → frame_at m2 page ≡ frame_at m1 page)
     → p2.target ≡ target_after call p1.target → wants reply ≡ false → IsOther call
-    → pages_to_back call g ≡ [] → IsLeft call reply [] g (rogue_after g g.frames p2 d2)
+    → bare_pages call g ≡ [] → IsLeft call reply [] g (rogue_after g g.frames p2 d2)
     → StepsAlone (Rogue m2 p2 d2) g call reply
 rogue_alone m1 m2 p1 p2 d1 d2 g call reply rogue keeps count same target answer other none left =
     let stands = rogue_stands m1 m2 p1 p2 d1 d2 g g.frames rogue keeps count refl
@@ -261,8 +305,21 @@ pub rogue_unclaimed : (Answers : List Bool → Claim → Type 0) (out1 out2 : Li
     → StepsOver (Rogue m2 p2 d) Answers (supply_of p1 out1) (supply_of p2 out2) claims g call
     (Refused why)
 rogue_unclaimed Answers out1 out2 m1 m2 p1 p2 d g call claims why rogue memory part made refused still left scribble answered moves =
-    grind (
-      arith,
-      rogue_own m1 m2 p1 p2 d g memory part rogue,
-      left_by call why claims g g (sym left),
-    )
+    let stands = rogue_own m1 m2 p1 p2 d g memory part rogue in
+    let F : Option Refusal → Type 0 = λ o. MatchOption o
+    (LosesFrames (all_backed (pages_to_back call g) (given claims) g.frames) g.frames)
+    (λ refusal. (Refused why ≡ Refused refusal) × (g.frames ≡ g.frames)) in
+    record {
+      new = g;
+      stands = stands;
+      step = rogue_steps m1 m2 p1 p2 d d g g call claims (Refused why) rogue stands refl
+          (ap (λ (p : Part). p.target) part ∙ sym still) made
+          (subst F (sym refused) (refl, refl))
+          (λ e. refused ∙ (let same : why ≡ NoFrame = cc in ap (λ (r : Refusal). Some r) same))
+          (λ e. inl (refused
+          ∙ (let same : why ≡ NoMemory = cc in ap (λ (r : Refusal). Some r) same)))
+          (left_by call why claims g g (sym left)) scribble;
+      answered = answered;
+      moves = moves_as (supply_of p1 out1) (supply_of p2 out2) nothing nothing
+          (λ n. backing_count n g) (λ n. backing_count n g) moves (λ n. omega arith);
+    }

@@ -1,20 +1,19 @@
 -- Device, driver and model refuse the same calls.
 use Rattle.std.specs.Prelude.{◌≡◌, ℕ, Bool, true, false, List, [], ◌∷◌, ◌++◌, length, Option, Some}
-use Rattle.std.specs.Prelude.{None, is_some, not, if◌then◌else◌, refl, ◌⊎◌}
+use Rattle.std.specs.Prelude.{None, is_some, not, if◌then◌else◌, refl, ◌⊎◌, slice_get}
 use Rattle.std.proofs.Common.{sym, ◌∙◌, ap, subst, arith, inl, inr}
 use Rattle.vb_model.specs.Tables.{has_chains, is_queue_of_requests, take_causes, finish_causes}
 use Rattle.vb_model.{specs.Tables.{ask_causes, work_causes}, specs.Requests.Request}
 use Rattle.vb_model.specs.declared.calls.Call.TheVariants.{Take, Finish, Ask, Sweep, Work}
 use Rattle.vb_model.specs.declared.replies.Refusal.TheVariants.{NotReady, NoQueue}
-use Rattle.vb_model.{specs.Refusals.{refusal_of, taken_count, is_taken}, specs.Guest.Guest}
-use Rattle.vb_model.{specs.FirstRefusal.{Cause, ◌⇒◌, first_refusal}, specs.declared.calls.Call.Call}
-use Rattle.vb_model.specs.declared.replies.Refusal.{Refusal}
+use Rattle.vb_model.specs.Refusals.{refusal_of, taken_count, is_taken, negotiated, taken_of}
+use Rattle.vb_model.{specs.Guest.Guest, specs.FirstRefusal.{Cause, ◌⇒◌, first_refusal}}
+use Rattle.vb_model.{specs.declared.calls.Call.Call, specs.declared.replies.Refusal.Refusal}
 use Rattle.vb_ram.{specs.Part.Part, specs.Pages.Pages}
 use Rattle.vb_driver.specs.State.{DriverState}
 use Rattle.vb_device.specs.Conditions.{sweep_refusal, work_refusal, take_refusal, finish_refusal}
 use Rattle.vb_device.{specs.Conditions.{ask_refusal, taken_at}, specs.Queues.queue_part}
 use Rattle.vb_guest.specs.Stands.{IsIdle, IsRunning}
-use Rattle.vb_model.specs.Refusals.{taken_at as guests_taken}
 
 abbrev pub IsIdleStatus : ℕ → Type 0
 IsIdleStatus status = (status ≡ 0) ⊎ (status ≡ 131)
@@ -43,9 +42,11 @@ pub take_same : (q : ℕ) (part : Part) (g : Guest) → part.status ≡ g.status
     → take_refusal q part ≡ refusal_of g (Take q)
 take_same q part g status features taken =
     let count : ℕ = length (queue_part q part).taken in
-    ap (λ (s : ℕ). first_refusal (take_causes q s part.features count)) status
-    ∙ ap (λ (f : ℕ). first_refusal (take_causes q g.status f count)) features
-    ∙ ap (λ (n : ℕ). first_refusal (take_causes q g.status g.features n)) taken
+    ap (λ (s : ℕ). first_refusal
+    (take_causes q (record { status = s; features = part.features }) count)) status
+    ∙ ap (λ (f : ℕ). first_refusal
+    (take_causes q (record { status = g.status; features = f }) count)) features
+    ∙ ap (λ (n : ℕ). first_refusal (take_causes q (negotiated g) n)) taken
 
 -- a queue that there is, where the device isn't initialised
 pub take_idle : (q : ℕ) (part : Part) (g : Guest) → has_chains q ≡ true → part.status ≡ g.status
@@ -62,12 +63,14 @@ take_idle q part g has same down =
 -- ---- finish
 
 pub finish_same : (q i : ℕ) (part : Part) (g : Guest) → part.status ≡ g.status
-    → part.paced ≡ g.config.paced → taken_at q i part ≡ guests_taken g q i
+    → part.paced ≡ g.config.paced → taken_at q i part ≡ slice_get (taken_of g q) i
     → finish_refusal q i part ≡ refusal_of g (Finish q i)
 finish_same q i part g status paced taken =
-    ap (λ (s : ℕ). first_refusal (finish_causes q s part.paced (taken_at q i part))) status
-    ∙ ap (λ (b : Bool). first_refusal (finish_causes q g.status b (taken_at q i part))) paced
-    ∙ ap (λ (o : Option Request). first_refusal (finish_causes q g.status g.config.paced o)) taken
+    ap (λ (s : ℕ). first_refusal (finish_causes q (record { status = s; features = g.features })
+    part.paced (taken_at q i part))) status
+    ∙ ap (λ (b : Bool). first_refusal (finish_causes q (negotiated g) b (taken_at q i part))) paced
+    ∙ ap (λ (o : Option Request). first_refusal (finish_causes q (negotiated g) g.config.paced o))
+    taken
 
 pub finish_idle : (q i : ℕ) (part : Part) (g : Guest) → is_queue_of_requests q ≡ true
     → part.status ≡ g.status → IsIdleStatus g.status

@@ -148,7 +148,7 @@ pub frames_filled : (x n : ℕ) (pages : List ℕ) (claims : List Claim) (m1 m2 
     ≡ count_by (is_frame x) frames + times x (given claims)
 frames_filled x n [] [] m1 m2 frames all made distinct below supplied has = omega arith
 frames_filled x n [] (c ∷ cs) m1 m2 frames all made distinct below supplied has =
-    absurd made
+    absurd (let none : c ∷ cs ≡ [] = made in cc)
 frames_filled x n (p ∷ ps) [] m1 m2 frames all made distinct below supplied has =
     absurd made
 frames_filled x n (p ∷ ps) (GaveNoFrame ∷ cs) m1 m2 frames all made distinct below supplied

@@ -1,13 +1,15 @@
 -- A guest's take of the statistics buffer is a step of the definitions.
 use Rattle.std.specs.Prelude.{true, ◌≡◌, ℕ, ◌*◌, List, [], length, Result, Ok, Option, Some, None}
-use Rattle.std.{specs.Prelude.{slice_get, refl}, proofs.Common.{sym, ◌∙◌, ap, subst, arith, inr}}
+use Rattle.std.specs.Prelude.{slice_get, refl, if◌then◌else◌}
+use Rattle.std.proofs.Common.{sym, ◌∙◌, ap, subst, arith, inr}
 use Rattle.vb_model.specs.Requests.{Request, Figures, StatisticsBuffer, NoBuffer, BufferPosted}
 use Rattle.vb_model.{specs.Requests.{BufferTaken, BufferDone}, specs.Tests.one_if}
 use Rattle.vb_model.{specs.declared.calls.Call.TheVariants.Take, specs.Guest.Guest}
 use Rattle.vb_model.{specs.declared.replies.Refusal.Refusal, specs.Device.TakesBuffer}
+use Rattle.vb_model.{specs.Layout.ring_page}
 use Rattle.vb_model.specs.declared.replies.Reply.TheVariants.{Taken, Empty}
-use Rattle.vb_model.{specs.declared.replies.LastStatistics.LastStatistics, specs.Layout.ring_page}
-use Rattle.vb_model.{specs.Refusals.{refusal_of, is_taken, taken_count}, specs.Tables.has_chains}
+use Rattle.vb_model.{specs.declared.replies.LastStatistics.LastStatistics, specs.Tables.has_chains}
+use Rattle.vb_model.specs.Refusals.{refusal_of, is_taken, taken_count}
 use Rattle.vb_ram.{specs.Pages.Pages, specs.Part.Part, proofs.Limits.config_limits}
 use Rattle.vb_chain.{specs.Table.descriptor_at, specs.Chain.ChainGives}
 use Rattle.vb_driver.{specs.State.DriverState, specs.Coding.AreFigures}

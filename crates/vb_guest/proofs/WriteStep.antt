@@ -8,9 +8,9 @@ use Rattle.vb_model.{specs.declared.calls.Claim.Claim, specs.declared.calls.Clai
 use Rattle.vb_model.{specs.declared.replies.Refusal.Refusal, specs.Pages.{place_of, is_used}}
 use Rattle.vb_model.specs.declared.replies.Refusal.TheVariants.{NotHeld, OutOfRam, NoMemory}
 use Rattle.vb_model.specs.declared.replies.Reply.TheVariants.{Done, Refused}
-use Rattle.vb_model.specs.Guest.{Guest, frame_of, backed}
+use Rattle.vb_model.{specs.Guest.{Guest, frame_of, backed}, proofs.Performed.Supplying}
 use Rattle.vb_model.specs.Refusals.{◌⇒◌, first_refusal, refusal_of, is_outside}
-use Rattle.vb_model.specs.Driver.{overwritten, pages_needed, Supplying, Written}
+use Rattle.vb_model.specs.Driver.{overwritten, pages_needed, Written}
 use Rattle.vb_ram.{specs.declared.fault.RamFault.RamFault, specs.Part.Part}
 use Rattle.vb_ram.specs.Pages.{Pages, frame_at, Covers, Wrote, Supplied}
 use Rattle.vb_ram.specs.declared.fault.RamFault.TheVariants.{NeedsFrame}
@@ -115,7 +115,7 @@ write_backed m1 m2 p1 p2 d g page off bs used stands covers never wrote part =
     let W : List ℕ → Type 0 =
     λ l. Supplying l g [] Done new (λ supplied. Written page off bs supplied Done new) in
     let step = honest_performed g (Write page off bs) [] Done new free
-    (subst W (sym needs) (tt, (refl, refl))) in
+    (subst W (sym needs) (refl, (refl, refl))) in
     steps_alone m1 m2 p1 p2 d d g (Write page off bs) Done new stands step
     (written_ties m1 m2 p1 p2 d g page off bs high covers stands.ties wrote part) refl
   where
@@ -178,7 +178,7 @@ write_supplied Answers out1 out2 m1 m2 m3 m4 p1 p2 p3 p4 d g page off frame bs a
     λ l. Supplying l g (Gave frame ∷ []) Done new
     (λ supplied. Written page off bs supplied Done new) in
     let step = honest_performed g (Write page off bs) (Gave frame ∷ []) Done new free
-    (subst W (sym needs) (tt, (refl, refl))) in
+    (subst W (sym needs) (refl, (refl, refl))) in
     let covers2 : Covers m3 page off (length bs) =
     record { page = omega (arith, covers.page, supplied.count); bytes = covers.bytes } in
     let written = still_stands m1 m4 p1 p1 d d g (Write page off bs) (Gave frame ∷ []) Done new stands

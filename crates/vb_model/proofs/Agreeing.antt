@@ -8,7 +8,7 @@ use Rattle.vb_model.specs.declared.calls.Call.TheVariants.{Stats, Reap, Take, Wo
 use Rattle.vb_model.specs.Requests.{Request, Requests, all_requests, headed, IsLeastHead, Kind}
 use Rattle.vb_model.specs.Requests.{Inflating, kind_of_queue, StatisticsBuffer, NoBuffer}
 use Rattle.vb_model.specs.Requests.{BufferPosted}
-use Rattle.vb_model.specs.Driver.{claim_refusal, Supplying, after_posting, stranded_first, Deflates}
+use Rattle.vb_model.specs.Driver.{claim_refusal, after_posting, stranded_first, Deflates}
 use Rattle.vb_model.{specs.declared.calls.Call.Call, specs.declared.replies.Refusal.Refusal}
 use Rattle.vb_model.{specs.declared.calls.Call.TheVariants.{Ask, SetTarget}, specs.Rogue.Scribbled}
 use Rattle.vb_model.{specs.declared.replies.Reply.Reply, specs.Requests.{BufferTaken, BufferDone}}
@@ -19,7 +19,8 @@ use Rattle.vb_model.specs.Driver.{Reports, Reaps, Fills, Written, pages_needed}
 use Rattle.vb_model.specs.Device.{TakesRequest, TakesBuffer, Works, Finishes, ReturnsBuffer}
 use Rattle.vb_model.specs.Device.{next_page}
 use Rattle.vb_model.{specs.Life.{feature_refusal, Negotiates, lacking}, specs.Determined.Agree}
-use Rattle.vb_model.{specs.Step.{Performs, HonestStep}, proofs.CallSteps.supplied}
+use Rattle.vb_model.{specs.Step.HonestStep, proofs.CallSteps.supplied}
+use Rattle.vb_model.proofs.Performed.{Performed, Supplying, honest_case}
 
 -- ---- two choices of one case
 
@@ -136,7 +137,7 @@ supplies_same pages g claims r new r' new' Rest Rest' s t rest =
 -- ---- one call
 
 performs_agree : (call : Call) (g : Guest) (claims : List Claim) (r : Reply) (new : Guest)
-    (r' : Reply) (new' : Guest) → Performs call g claims r new → Performs call g claims r' new'
+    (r' : Reply) (new' : Guest) → Performed call g claims r new → Performed call g claims r' new'
     → Agree call r new r' new'
 performs_agree (SetTarget n) g claims r new r' new' s t = both r r' _ new new' _ s.1.0 s.1.1 t.1.0 t.1.1
 performs_agree Reset g claims r new r' new' s t = both r r' _ new new' _ s.1.0 s.1.1 t.1.0 t.1.1
@@ -147,10 +148,10 @@ performs_agree (Sweep page) g claims r new r' new' s t =
 performs_agree (Read page offset len) g claims r new r' new' s t = grind arith
 performs_agree (Alloc cpu order) g claims r new r' new' s t = grind arith
 performs_agree (Inflate n) g claims r new r' new' s t =
-    let head : s.1.0 ≡ t.1.0 = least_same g.inflate s.1.0 t.1.0 s.1.2 t.1.2 in (
-      s.1.6 ∙ (ap (λ (h : ℕ). Posted h (inflate_count g n)) head ∙ sym t.1.6),
-      λ e. same_named t.1.0 (stranded_first g n ++ s.1.1) (stranded_first g n ++ t.1.1) g new new'
-          (s.1.7 ∙ ap (λ (h : ℕ). after_posting Inflating h (stranded_first g n ++ s.1.1) g) head) t.1.7 e,
+    let head : s.1.4.0 ≡ t.1.4.0 = least_same g.inflate s.1.4.0 t.1.4.0 s.1.4.1 t.1.4.1 in (
+      s.1.4.2 ∙ (ap (λ (h : ℕ). Posted h (inflate_count g n)) head ∙ sym t.1.4.2),
+      λ e. same_named t.1.4.0 (stranded_first g n ++ s.1.0) (stranded_first g n ++ t.1.0) g new new'
+          (s.1.4.3 ∙ ap (λ (h : ℕ). after_posting Inflating h (stranded_first g n ++ s.1.0) g) head) t.1.4.3 e,
     )
 performs_agree (Deflate n) g claims r new r' new' s t =
     deflates_same (deflate_count g n) g r new r' new' s.1 t.1
@@ -205,9 +206,9 @@ pub honest_agree : (g : Guest) (call : Call) (claims : List Claim) (r : Reply) (
     (r' : Reply) (new' : Guest) → HonestStep g call claims r new → HonestStep g call claims r' new'
     → Agree call r new r' new'
 honest_agree g call claims r new r' new' s t =
-    same_case (refusal_of g call) (Performs call g claims r new) (Performs call g claims r' new')
+    same_case (refusal_of g call) (Performed call g claims r new) (Performed call g claims r' new')
     (λ refusal. (claims ≡ []) × (r ≡ Refused refusal) × (new ≡ g))
     (λ refusal. (claims ≡ []) × (r' ≡ Refused refusal) × (new' ≡ g)) (Agree call r new r' new')
-    s t
+    (honest_case g call claims r new s) (honest_case g call claims r' new' t)
     (λ s t. performs_agree call g claims r new r' new' s t)
     (λ refusal s t. refused_agree call g refusal r new r' new' s.1 s.2 t.1 t.2)

@@ -7,12 +7,13 @@ use Rattle.vb_model.specs.declared.calls.Call.TheVariants.{Stats, Reap, Take, Wo
 use Rattle.vb_model.{specs.declared.calls.Call.TheVariants.{Ask, SetTarget}, specs.Driver.Fills}
 use Rattle.vb_model.specs.Requests.{Request, Kind, kind_of_queue, StatisticsBuffer}
 use Rattle.vb_model.specs.Orderly.{IsOrderly}
-use Rattle.vb_model.{proofs.CallSteps.{match_cases, not_refused}, specs.Step.{Performs, HonestStep}}
+use Rattle.vb_model.{proofs.CallSteps.{match_cases, not_refused}, specs.Step.HonestStep}
 use Rattle.vb_model.{specs.HonestRuns.{has_buffer, IsAttentive}, specs.declared.replies.Reply.Reply}
 use Rattle.vb_model.specs.Device.{TakesRequest, TakesBuffer, ReturnsBuffer}
 use Rattle.vb_model.specs.Tables.{is_up, is_not_ready}
 use Rattle.vb_model.{specs.Refusals.{refusal_of, causes}, specs.declared.calls.Claim.Claim}
 use Rattle.vb_model.{specs.declared.calls.Call.Call, specs.Guest.{Guest, requests}}
+use Rattle.vb_model.proofs.Performed.{Performed, honest_case}
 
 -- ---- a ready guest
 
@@ -56,7 +57,7 @@ takes_ready kind posted g reply new is h s = grind arith
 -- ---- a call that isn't refused
 
 performs_attentive : (call : Call) (g : Guest) (claims : List Claim) (reply : Reply) (new : Guest)
-    → IsOrderly g → IsAttentive g → refusal_of g call ≡ None → Performs call g claims reply new
+    → IsOrderly g → IsAttentive g → refusal_of g call ≡ None → Performed call g claims reply new
     → new.rogue ≡ false → IsAttentive new
 performs_attentive (SetTarget n) g claims reply new o h e s honest =
     subst IsAttentive (sym s.1.1) h
@@ -70,7 +71,7 @@ performs_attentive (Free cpu start order) g claims reply new o h e s honest =
 performs_attentive (Sweep page) g claims reply new o h e s honest =
     stays_ready g new _ (open_to g o (not_refused (causes g (Sweep page)) e).0) h s.1.1 refl refl refl
 performs_attentive (Inflate n) g claims reply new o h e s honest =
-    stays_ready g new _ (up g o (not_refused (causes g (Inflate n)) e).0) h s.1.7 refl refl refl
+    stays_ready g new _ (up g o (not_refused (causes g (Inflate n)) e).0) h s.1.4.3 refl refl refl
 performs_attentive (Deflate n) g claims reply new o h e s honest =
     stays_ready g new _ (up g o (not_refused (causes g (Deflate n)) e).0) h s.1.3 refl refl refl
 performs_attentive (Oom n) g claims reply new o h e s honest =
@@ -97,4 +98,4 @@ performs_attentive (Scribble page offset bytes) g claims reply new o h e s hones
 pub honest_attentive : (g : Guest) (call : Call) (claims : List Claim) (reply : Reply) (new : Guest)
     → IsOrderly g → IsAttentive g → HonestStep g call claims reply new → new.rogue ≡ false
     → IsAttentive new
-honest_attentive g call claims reply new o h s honest = grind (arith, performs_attentive)
+honest_attentive g call claims reply new o h s honest = grind (arith, performs_attentive, honest_case g call claims reply new s)

@@ -8,17 +8,18 @@ use Rattle.vb_model.specs.declared.calls.Call.TheVariants.{Scribble, Inflate, De
 use Rattle.vb_model.specs.declared.calls.Call.TheVariants.{Stats, Reap, Take, Work, Finish, Sweep}
 use Rattle.vb_model.specs.Requests.{Request, Kind, Inflating, Deflating, Reporting_free}
 use Rattle.vb_model.specs.Guest.{Guest, Config, fresh, requests, unbacked, frame_of, backed}
-use Rattle.vb_model.specs.Driver.{given, claim_refusal, AreClaimsFor, Supplying, Reaps, Written}
+use Rattle.vb_model.specs.Driver.{given, claim_refusal, AreClaimsFor, Reaps, Written}
 use Rattle.vb_model.proofs.CallSteps.{match_cases, supplying_cases, works_cases, Idles, Visits}
 use Rattle.vb_model.{specs.declared.calls.Call.Call, specs.declared.calls.Claim.Claim}
 use Rattle.vb_model.{specs.declared.calls.Call.TheVariants.{Ask, SetTarget}, specs.Limits.page_size}
 use Rattle.vb_model.{specs.declared.replies.Reply.Reply, specs.Tests.each_page, specs.Blank.IsBlank}
 use Rattle.vb_model.{specs.declared.replies.Reply.TheVariants.Refused, specs.Requests.kind_of_queue}
 use Rattle.vb_model.{specs.Guest.{all_backed, zero_page}, specs.Refusals.refusal_of}
-use Rattle.vb_model.{specs.Driver.{pages_needed, overwritten}, specs.Step.{Performs, HonestStep}}
+use Rattle.vb_model.{specs.Driver.{pages_needed, overwritten}, specs.Step.HonestStep}
 use Rattle.vb_model.specs.Device.{TakesRequest, TakesBuffer, Finishes, settled, used, next_page}
 use Rattle.vb_model.{specs.Life.{feature_refusal, Negotiates, lacking}, proofs.CallSteps.supplied}
 use Rattle.vb_model.proofs.Tables.{length-each_from, each_page-get}
+use Rattle.vb_model.proofs.Performed.{Performed, honest_case}
 
 pub length-zero_page : length zero_page ≡ page_size
 unfolding zero_page
@@ -120,7 +121,7 @@ in_page : (g : Guest) (page offset : ℕ) (bytes : List ℕ)
 in_page g page offset bytes e = grind arith
 
 performs_blank : (call : Call) (g : Guest) (claims : List Claim) (reply : Reply) (new : Guest)
-    → IsBlank g → refusal_of g call ≡ None → Performs call g claims reply new → new.rogue ≡ false
+    → IsBlank g → refusal_of g call ≡ None → Performed call g claims reply new → new.rogue ≡ false
     → IsBlank new
 performs_blank (SetTarget n) g claims reply new h r s honest = subst IsBlank (sym s.1.1) h
 performs_blank Reset g claims reply new h r s honest = subst IsBlank (sym s.1.1) h
@@ -129,7 +130,7 @@ performs_blank (Sweep page) g claims reply new h r s honest =
     keeps g new _ s.1.1 (loses (page ∷ []) g h)
 performs_blank (Alloc cpu order) g claims reply new h r s honest = subst IsBlank (sym s.1.3) h
 performs_blank (Free cpu start order) g claims reply new h r s honest = subst IsBlank (sym s.1.1) h
-performs_blank (Inflate n) g claims reply new h r s honest = subst IsBlank (sym s.1.7) h
+performs_blank (Inflate n) g claims reply new h r s honest = subst IsBlank (sym s.1.4.3) h
 performs_blank (Deflate n) g claims reply new h r s honest = subst IsBlank (sym s.1.3) h
 performs_blank (Oom n) g claims reply new h r s honest = subst IsBlank (sym s.1.3) h
 performs_blank (Report from) g claims reply new h r s honest = subst IsBlank (sym s.1.3) h
@@ -171,7 +172,7 @@ performs_blank (Scribble page offset bytes) g claims reply new h r s honest = gr
 
 pub honest_blank : (g : Guest) (call : Call) (claims : List Claim) (reply : Reply) (new : Guest)
     → IsBlank g → HonestStep g call claims reply new → new.rogue ≡ false → IsBlank new
-honest_blank g call claims reply new h s honest = grind (arith, performs_blank)
+honest_blank g call claims reply new h s honest = grind (arith, performs_blank, honest_case g call claims reply new s)
 
 pub fresh_blank : (config : Config) (target : ℕ) → IsBlank (fresh config target)
 fresh_blank config target = grind (arith, length-replicate, get_or-replicate, length-zero_page)

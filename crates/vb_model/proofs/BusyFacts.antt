@@ -10,7 +10,8 @@ use Rattle.vb_model.{specs.declared.calls.Call.TheVariants.{Take, Work}, specs.G
 use Rattle.vb_model.specs.declared.replies.Refusal.TheVariants.{Broken, RingBroken}
 use Rattle.vb_model.specs.declared.replies.Reply.TheVariants.{Idle, Page, Posted, ReadBytes}
 use Rattle.vb_model.specs.declared.replies.Reply.TheVariants.{Refused, Swept}
-use Rattle.vb_model.{specs.Courses.{Course, StaysHeld, StaysOrLoses}, proofs.Samples.request}
+use Rattle.vb_model.specs.Courses.{Course, StaysHeld, StaysOrLoses, ReadsGiveLastWrites}
+use Rattle.vb_model.proofs.Samples.{request}
 use Rattle.vb_model.{specs.Histories.{IsSafeCourse, BothAgree}, proofs.SafeFacts.{SameFrame, made}}
 use Rattle.vb_model.{proofs.SafeFacts.{stands, goes}, proofs.AskedFacts.{giving, back, handed_out}}
 use Rattle.vb_model.specs.declared.places.Place.TheVariants.{Reserved, Free as FreePlace, Used}
@@ -51,11 +52,11 @@ with_page frame bytes g = record g
 
 without_version : IsSafeCourse (stands (busy 15 0x27)) → ⊥
 without_version s =
-    let e : false ≡ true = (s.agreed 0 (busy 15 0x27) refl refl).version in cc
+    let e : false ≡ true = (s.agreed 0 (busy 15 0x27) refl refl).1 in cc
 
 without_version_untold : IsSafeCourse (stands (busy 15 0x26)) → ⊥
 without_version_untold s =
-    let e : false ≡ true = (s.agreed 0 (busy 15 0x26) refl refl).version in cc
+    let e : false ≡ true = (s.agreed 0 (busy 15 0x26) refl refl).1 in cc
 
 -- ---- frames and bytes
 
@@ -86,13 +87,19 @@ misread status features =
     goes (with_page (Some 5) (1 ∷ []) (busy status features)) (Read 32 0 1) (ReadBytes (2 ∷ []))
     (with_page (Some 5) (1 ∷ []) (busy status features))
 
+another_byte : (status features : ℕ) → IsSafeCourse (misread status features) → ⊥
+another_byte status features s =
+    let e : SameBytes (2 ∷ []) (1 ∷ []) = (s.reads 0 32 0 1 (2 ∷ [])
+    (with_page (Some 5) (1 ∷ []) (busy status features)) refl (Processor 0 0, [], refl)).1 in
+    cc
+
 held : (status features : ℕ) → StaysHeld (misread status features) 32 0 0
 held status features zero le = (with_page (Some 5) (1 ∷ []) (busy status features), refl, refl)
 held status features (suc j) le = absurd (omega arith)
 
-another_byte : (status features : ℕ) → IsSafeCourse (misread status features) → ⊥
-another_byte status features s =
-    let e : Same 2 1 = (s.reads 32 0 0 0 1 (2 ∷ [])
+another_byte_by_law : (status features : ℕ) → ReadsGiveLastWrites (misread status features) → ⊥
+another_byte_by_law status features s =
+    let e : Same 2 1 = (s 32 0 0 0 1 (2 ∷ [])
     (with_page (Some 5) (1 ∷ []) (busy status features)) (held status features) refl
     (Processor 0 0, [], refl)).1 0 (omega arith) in
     omega (arith, e)

@@ -113,19 +113,19 @@ with_last rs r = record rs { posted = rs.posted ++ (r ∷ []) }
 offered : HonestStep two_stranded (Inflate 3) [] (Posted 3 3)
     (record (at_places (Free ∷ Lent ∷ Free ∷ Giving ∷ Giving ∷ Giving ∷ Free ∷ Free ∷ []))
     { inflate = with_last (heads 0 2 1) (request 3 (20 ∷ 21 ∷ 19 ∷ []) 0) })
-offered = (refl, (3, 19 ∷ [], third_head, refl, (refl, tt), refl, refl, refl))
+offered = (refl, (19 ∷ [], refl, (refl, tt), refl, (3, third_head, refl, refl)))
 
 -- any free page will do
 offered_another : HonestStep two_stranded (Inflate 3) [] (Posted 3 3)
     (record (at_places (Free ∷ Lent ∷ Free ∷ Free ∷ Giving ∷ Giving ∷ Free ∷ Giving ∷ []))
     { inflate = with_last (heads 0 2 1) (request 3 (20 ∷ 21 ∷ 23 ∷ []) 0) })
-offered_another = (refl, (3, 23 ∷ [], third_head, refl, (refl, tt), refl, refl, refl))
+offered_another = (refl, (23 ∷ [], refl, (refl, tt), refl, (3, third_head, refl, refl)))
 
 -- as far as the target goes, whatever is asked for
 offered_up_to_the_target : HonestStep two_stranded (Inflate 300) [] (Posted 3 3)
     (record (at_places (Free ∷ Lent ∷ Free ∷ Giving ∷ Giving ∷ Giving ∷ Free ∷ Free ∷ []))
     { inflate = with_last (heads 0 2 1) (request 3 (20 ∷ 21 ∷ 19 ∷ []) 0) })
-offered_up_to_the_target = (refl, (3, 19 ∷ [], third_head, refl, (refl, tt), refl, refl, refl))
+offered_up_to_the_target = (refl, (19 ∷ [], refl, (refl, tt), refl, (3, third_head, refl, refl)))
 
 -- but no other number of pages than is told, no page twice, and free ones alone
 abbrev Offers : List ℕ → Type 0
@@ -139,20 +139,20 @@ newest g = pages_of_second g.inflate.posted
 -- the pages after the two stranded ones
 others_are : (others : List ℕ) (new : Guest)
     (s : HonestStep two_stranded (Inflate 3) [] (Posted 3 3) new)
-    → new.inflate ≡ with_last (heads 0 2 1) (request 3 (20 ∷ 21 ∷ others) 0) → s.1.1 ≡ others
+    → new.inflate ≡ with_last (heads 0 2 1) (request 3 (20 ∷ 21 ∷ others) 0) → s.1.0 ≡ others
 others_are others new s e = grind arith
 
 one_page_too_few : Offers (20 ∷ 21 ∷ [])
-one_page_too_few new s e = let same : s.1.1 ≡ [] = others_are [] new s e in
-    let n : 2 + length s.1.1 ≡ 3 = s.1.5 in absurd (omega (arith, ap length same))
+one_page_too_few new s e = let same : s.1.0 ≡ [] = others_are [] new s e in
+    let n : 2 + length s.1.0 ≡ 3 = s.1.3 in absurd (omega (arith, ap length same))
 
 one_page_too_many : Offers (20 ∷ 21 ∷ 19 ∷ 22 ∷ [])
-one_page_too_many new s e = let same : s.1.1 ≡ 19 ∷ 22 ∷ [] = others_are (19 ∷ 22 ∷ []) new s e in
-    let n : 2 + length s.1.1 ≡ 3 = s.1.5 in absurd (omega (arith, ap length same))
+one_page_too_many new s e = let same : s.1.0 ≡ 19 ∷ 22 ∷ [] = others_are (19 ∷ 22 ∷ []) new s e in
+    let n : 2 + length s.1.0 ≡ 3 = s.1.3 in absurd (omega (arith, ap length same))
 
 a_lent_page : Offers (20 ∷ 21 ∷ 17 ∷ [])
 a_lent_page new s e = let t : false ≡ true =
-    subst (AllFreePages two_stranded) (others_are (17 ∷ []) new s e) s.1.3 in cc
+    subst (AllFreePages two_stranded) (others_are (17 ∷ []) new s e) s.1.1 in cc
 
 free_pages_first : Offers (18 ∷ 20 ∷ 21 ∷ [])
 free_pages_first new s e = grind arith
@@ -160,7 +160,7 @@ free_pages_first new s e = grind arith
 fewest_pages_first : HonestStep two_stranded (Inflate 1) [] (Posted 3 1)
     (record (at_places (Free ∷ Lent ∷ Free ∷ Free ∷ Giving ∷ Stranded ∷ Free ∷ Free ∷ []))
     { inflate = with_last (heads 0 2 1) (request 3 (20 ∷ []) 0) })
-fewest_pages_first = (refl, (3, [], third_head, refl, tt, refl, refl, refl))
+fewest_pages_first = (refl, ([], refl, tt, refl, (3, third_head, refl, refl)))
 
 -- ---- deflate: the lowest lent pages
 

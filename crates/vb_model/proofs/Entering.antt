@@ -6,7 +6,7 @@ use Rattle.std.proofs.lemmas.Bool.{eqb-true}
 use Rattle.vb_model.specs.declared.calls.Call.TheVariants.{Init, Reset, Alloc, Free, Read, Write}
 use Rattle.vb_model.specs.declared.calls.Call.TheVariants.{Scribble, Inflate, Deflate, Oom, Report}
 use Rattle.vb_model.specs.declared.calls.Call.TheVariants.{Stats, Reap, Take, Work, Finish, Sweep}
-use Rattle.vb_model.specs.Driver.{given, claim_refusal, AreClaimsFor, Supplying, Written}
+use Rattle.vb_model.specs.Driver.{given, claim_refusal, AreClaimsFor, Written}
 use Rattle.vb_model.specs.Rogue.{LosesFrames, RogueStep, Scribbled, unless_refused, pages_to_back}
 use Rattle.vb_model.specs.StepLaws.{IsGiven, FramesEnterByClaims, WantOfFrames, WantIsAnswered}
 use Rattle.vb_model.specs.declared.calls.Claim.TheVariants.{Gave, GaveNoFrame, GaveNoMemory}
@@ -18,8 +18,9 @@ use Rattle.vb_model.{specs.Life.{feature_refusal, Negotiates, lacking}, specs.Dr
 use Rattle.vb_model.{specs.declared.replies.Reply.TheVariants.Refused, proofs.CallSteps.match_cases}
 use Rattle.vb_model.{proofs.Wanting.{claims_needed, refused_claims}, specs.declared.calls.Call.Call}
 use Rattle.vb_model.{specs.declared.replies.Refusal.Refusal, specs.declared.replies.Reply.Reply}
-use Rattle.vb_model.{specs.Step.{Performs, HonestStep}, specs.declared.calls.Claim.Claim}
+use Rattle.vb_model.{specs.Step.HonestStep, specs.declared.calls.Claim.Claim}
 use Rattle.vb_model.{specs.HostFrames.{Gives, IsOut}, specs.Tests.is_in, specs.World.World}
+use Rattle.vb_model.proofs.Performed.{Performed, Supplying, honest_case}
 
 -- ---- frames enter by claims
 
@@ -81,7 +82,7 @@ none call g claims reply new page frame s e h pages =
 
 performs : (call : Call) (g : Guest) (claims : List Claim) (reply : Reply) (new : Guest)
     (page frame : ℕ) → HonestStep g call claims reply new → refusal_of g call ≡ None
-    → Performs call g claims reply new → frame_of new.frames page ≡ Some frame
+    → Performed call g claims reply new → frame_of new.frames page ≡ Some frame
     → Entered g (pages_to_back call g) claims page frame
 performs (Init wanted) g claims reply new page frame step e s h =
     subst (λ o. Entered g (unless_refused o (lacking g)) claims page frame) (sym e)
@@ -98,37 +99,37 @@ performs (Scribble p offset bytes) g claims reply new page frame step e s h =
     (supplies (pages_needed p bytes g) g claims reply new (λ m. Scribbled m reply new) page frame s
     (λ m rest. ap (λ (x : Guest). x.frames) rest.memory) h)
 performs (SetTarget n) g claims reply new page frame step e s h =
-    none (SetTarget n) g claims reply new page frame step s.0 h []
+    none (SetTarget n) g claims reply new page frame step s.0 h (pages_to_back (SetTarget n) g)
 performs Reset g claims reply new page frame step e s h =
-    none Reset g claims reply new page frame step s.0 h []
+    none Reset g claims reply new page frame step s.0 h (pages_to_back Reset g)
 performs (Alloc cpu order) g claims reply new page frame step e s h =
-    none (Alloc cpu order) g claims reply new page frame step s.0 h []
+    none (Alloc cpu order) g claims reply new page frame step s.0 h (pages_to_back (Alloc cpu order) g)
 performs (Free cpu start order) g claims reply new page frame step e s h =
-    none (Free cpu start order) g claims reply new page frame step s.0 h []
+    none (Free cpu start order) g claims reply new page frame step s.0 h (pages_to_back (Free cpu start order) g)
 performs (Read p offset len) g claims reply new page frame step e s h =
-    none (Read p offset len) g claims reply new page frame step s.0 h []
+    none (Read p offset len) g claims reply new page frame step s.0 h (pages_to_back (Read p offset len) g)
 performs (Inflate n) g claims reply new page frame step e s h =
-    none (Inflate n) g claims reply new page frame step s.0 h []
+    none (Inflate n) g claims reply new page frame step s.0 h (pages_to_back (Inflate n) g)
 performs (Deflate n) g claims reply new page frame step e s h =
-    none (Deflate n) g claims reply new page frame step s.0 h []
+    none (Deflate n) g claims reply new page frame step s.0 h (pages_to_back (Deflate n) g)
 performs (Oom n) g claims reply new page frame step e s h =
-    none (Oom n) g claims reply new page frame step s.0 h []
+    none (Oom n) g claims reply new page frame step s.0 h (pages_to_back (Oom n) g)
 performs (Report from) g claims reply new page frame step e s h =
-    none (Report from) g claims reply new page frame step s.0 h []
+    none (Report from) g claims reply new page frame step s.0 h (pages_to_back (Report from) g)
 performs Stats g claims reply new page frame step e s h =
-    none Stats g claims reply new page frame step s.0 h []
+    none Stats g claims reply new page frame step s.0 h (pages_to_back Stats g)
 performs (Reap q) g claims reply new page frame step e s h =
-    none (Reap q) g claims reply new page frame step s.0 h []
+    none (Reap q) g claims reply new page frame step s.0 h (pages_to_back (Reap q) g)
 performs (Take q) g claims reply new page frame step e s h =
-    none (Take q) g claims reply new page frame step s.0 h []
+    none (Take q) g claims reply new page frame step s.0 h (pages_to_back (Take q) g)
 performs Work g claims reply new page frame step e s h =
-    none Work g claims reply new page frame step s.0 h []
+    none Work g claims reply new page frame step s.0 h (pages_to_back Work g)
 performs (Finish q i) g claims reply new page frame step e s h =
-    none (Finish q i) g claims reply new page frame step s.0 h []
+    none (Finish q i) g claims reply new page frame step s.0 h (pages_to_back (Finish q i) g)
 performs (Sweep p) g claims reply new page frame step e s h =
-    none (Sweep p) g claims reply new page frame step s.0 h []
+    none (Sweep p) g claims reply new page frame step s.0 h (pages_to_back (Sweep p) g)
 performs Ask g claims reply new page frame step e s h =
-    none Ask g claims reply new page frame step s.0 h []
+    none Ask g claims reply new page frame step s.0 h (pages_to_back Ask g)
 
 pub frames_enter : FramesEnterByClaims
 frames_enter g call claims reply new s page frame h = cases g.rogue s
@@ -143,8 +144,8 @@ frames_enter g call claims reply new s page frame h = cases g.rogue s
           | inr m ↦ kept (pages_to_back call g) claims g new page frame m.2.1 h
         ]
     cases false p =
-        elim (match_cases (refusal_of g call) (Performs call g claims reply new)
-        (λ refusal. (claims ≡ []) × (reply ≡ Refused refusal) × (new ≡ g)) p) [
+        elim (match_cases (refusal_of g call) (Performed call g claims reply new)
+        (λ refusal. (claims ≡ []) × (reply ≡ Refused refusal) × (new ≡ g)) (honest_case g call claims reply new p)) [
           | inl d ↦ performs call g claims reply new page frame p d.0 d.1 h
           | inr r ↦ kept (pages_to_back call g) claims g new page frame
               (ap (λ (x : Guest). x.frames) r.2.2) h

@@ -1,12 +1,12 @@
 -- Every course of a guest is safe, and so is every history.
-use Rattle.std.proofs.Common.{◌≡◌, ℕ, zero, suc, ◌+◌, ◌<◌, Bool, true, false, List, [], ◌∷◌, refl}
-use Rattle.std.proofs.Common.{sym, ap, subst, ◌∙◌, inl, arith, ◌≢◌, length, get_or, drop, cond}
-use Rattle.std.specs.Prelude.{Option, Some, None, slice_get, ◌==◌, IsTrue, ◌↔◌}
+use Rattle.std.proofs.Common.{◌≡◌, ℕ, zero, suc, ◌+◌, Bool, true, false, List, [], ◌∷◌, refl}
+use Rattle.std.proofs.Common.{sym, ap, subst, ◌∙◌, inl, arith, ◌≢◌, length, get_or, take, drop, cond}
+use Rattle.std.specs.Prelude.{◌≤◌, Option, Some, None, slice_get, ◌==◌, IsTrue, ◌↔◌}
 use Rattle.std.proofs.lemmas.Bool.{eq-eqb}
 use Rattle.std.proofs.lemmas.List.{get_or-take, get_or-drop, length-take-le, length-drop}
 use Rattle.vb_model.specs.Courses.{Course, guest_after, IsCall, IsAt, IsWriteTo, StaysOrLoses}
 use Rattle.vb_model.proofs.Courses.{IsFit, fresh_fit, EntryAt, Positions, positions, as_guest}
-use Rattle.vb_model.{specs.declared.places.Place.TheVariants.{Used, Lent}, specs.Driver.contents_of}
+use Rattle.vb_model.{specs.declared.places.Place.TheVariants.{Used, Lent}, specs.Driver.{contents_of, overwritten}}
 use Rattle.vb_model.{specs.declared.calls.Actor.Actor, specs.declared.calls.Call.Call}
 use Rattle.vb_model.{specs.declared.calls.Call.TheVariants.{Read, Write}, specs.Step.HonestStep}
 use Rattle.vb_model.{specs.declared.calls.Claim.Claim, specs.declared.replies.Reply.Reply}
@@ -16,6 +16,7 @@ use Rattle.vb_model.{specs.Requests.all_requests, specs.Consistent.IsConsistent}
 use Rattle.vb_model.{specs.Guest.{Guest, Config, frame_of, is_ballooned}, proofs.Changes.same_some}
 use Rattle.vb_model.specs.GuestRun.{Entry, Called, Looked, EntryStep, OwnStep, Leads, IsHistory}
 use Rattle.vb_model.specs.Courses.{byte_of, byte_written, byte_after, last_put, StaysHeld}
+use Rattle.vb_model.specs.Courses.{ReadsGiveLastWrites}
 use Rattle.vb_model.specs.Histories.{BothAgree, IsSafeCourse, IsSafeHistory}
 use Rattle.vb_model.{specs.SafeLaws.UsedPagesStay, proofs.PageSteps.naming-all}
 use Rattle.vb_model.{proofs.Unchanged.step_keeps, proofs.Kept.{honest_keeps_frame, used_page}}
@@ -221,13 +222,39 @@ bytes_are c p page at i (suc k) g new holds here there =
     (subst (λ (m : ℕ). guest_after c m ≡ Some now.0) next now.1) old.2 now.2
     ∙ ap (λ (b : ℕ). byte_after page at (get_or c.entries (i + k) None) b) before
 
-reads : (c : Course) → Positions c → (page i k offset len : ℕ) (bytes : List ℕ) (g : Guest)
-    → StaysHeld c page i k → guest_after c i ≡ Some g
-    → IsCall c (i + k) (Read page offset len) (ReadBytes bytes)
-    → (length bytes ≡ len)
-    × ((j : ℕ) → j < len → get_or bytes j 0
-    ≡ last_put c page (offset + j) i k (byte_of g page (offset + j)))
-reads c p page i k offset len bytes g holds here (actor, claims, entry) =
+writes : (c : Course) → Positions c → (i page offset : ℕ) (bytes : List ℕ) (g new : Guest)
+    → guest_after c i ≡ Some g → guest_after c (i + 1) ≡ Some new
+    → IsCall c i (Write page offset bytes) Done
+    → (offset + length bytes ≤ length (contents_of g page))
+    × (contents_of new page ≡ overwritten offset bytes (contents_of g page))
+writes c p i page offset bytes g new here next (actor, claims, entry) =
+    let s = p.step i g new here next in
+    let same : s.own ≡ Some (Called actor (Write page offset bytes) claims Done) =
+    (let e : Some s.own ≡ Some (Some (Called actor (Write page offset bytes) claims Done)) =
+    sym s.own_is ∙ entry in cc) in
+    let step : OwnStep g (Some (Called actor (Write page offset bytes) claims Done)) new =
+    subst (λ (own : Option Entry). OwnStep g own new) same s.step in
+    let blank = (p.fit i g here).blank in
+    let did = write_step g page offset bytes claims new blank step.1 in
+    (let whole = blank.whole page did.there in omega (arith, did.inside, whole), did.contents)
+
+reads : (c : Course) → Positions c → (i page offset len : ℕ) (bytes : List ℕ) (g : Guest)
+    → guest_after c i ≡ Some g → IsCall c i (Read page offset len) (ReadBytes bytes)
+    → (length bytes ≡ len) × (bytes ≡ take len (drop offset (contents_of g page)))
+reads c p i page offset len bytes g here (actor, claims, entry) =
+    let m = p.made i (Called actor (Read page offset len) claims (ReadBytes bytes)) entry in
+    let same : m.before ≡ g = same_some m.before g (sym m.is_there ∙ here) in
+    let did = read_step g page offset len bytes claims m.next
+    (subst (λ (x : Guest). HonestStep x (Read page offset len) claims (ReadBytes bytes) m.next) same
+    m.step.1) in
+    let whole = (p.fit i g here).blank.whole page did.there in (
+      ap length did.bytes_are ∙ length-take-le len (drop offset (contents_of g page))
+          (omega (arith, did.inside, whole, length-drop offset (contents_of g page))),
+      did.bytes_are,
+    )
+
+last_writes : (c : Course) → Positions c → ReadsGiveLastWrites c
+last_writes c p page i k offset len bytes g holds here (actor, claims, entry) =
     let last = holds k (omega arith) in
     let m = p.made (i + k) (Called actor (Read page offset len) claims (ReadBytes bytes)) entry in
     let same : m.before ≡ last.0 = same_some m.before last.0 (sym m.is_there ∙ last.1) in
@@ -244,15 +271,21 @@ reads c p page i k offset len bytes g holds here (actor, claims, entry) =
           ∙ bytes_are c p page (offset + j) i k g last.0 holds here last.1,
     )
 
+pub course_reads : (c : Course) → IsFit c.first → Leads c.first c.entries c.after
+    → ReadsGiveLastWrites c
+course_reads c f s = last_writes c (positions c f s)
+
 -- ---- a history
 
 pub course_is_safe : (c : Course) → IsFit c.first → Leads c.first c.entries c.after → IsSafeCourse c
 course_is_safe c f s =
     let p = positions c f s in
     record {
-      agreed = λ i g at ready. (p.fit i g at).orderly.agreed ready;
+      agreed = λ i g at ready.
+          let a = (p.fit i g at).orderly.agreed ready in (a.offered, a.version);
       keeps_frame = keeps_frame c p;
       keeps_contents = λ i page g new here next unreserved. keeps_contents c p i page g new here next;
+      writes = writes c p;
       reads = reads c p;
       told_first = told_first c p;
       both_agree = λ i g at. both_agree g (p.fit i g at).consistent;

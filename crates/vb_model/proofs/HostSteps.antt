@@ -11,6 +11,7 @@ use Rattle.vb_model.{specs.declared.replies.Refusal.Refusal, specs.Balance.{AreT
 use Rattle.vb_model.{specs.declared.replies.Reply.Reply, specs.Guest.{Guest, Config, fresh}}
 use Rattle.vb_model.{specs.declared.calls.Query.Query, specs.FirstRefusal.first_refusal}
 use Rattle.vb_model.{specs.HostRefusals.world_causes, proofs.Unique.unique}
+use Rattle.vb_model.specs.declared.calls.GuestSize.{GuestSize}
 use Rattle.vb_model.specs.declared.calls.Event.TheVariants.{Guest as OnGuest, Query as OnQuery}
 use Rattle.vb_model.specs.declared.calls.Event.TheVariants.{Balance, Frames as CountFrames}
 use Rattle.vb_model.specs.declared.calls.Query.TheVariants.{Places as QueryPlaces, PagesAt}
@@ -157,18 +158,18 @@ plugs_agree config rest w reply new reply' new' p q = (
     none : (refusal : Refusal) → Plugged p.0 ≡ Refused refusal → ⊥
     none refusal e = cc
 
-plugs_in_agree : (pages queue_size processors : ℕ) (spares : List Bool) (w : World) (reply : Reply)
+plugs_in_agree : (size : GuestSize) (spares : List Bool) (w : World) (reply : Reply)
     (new : World) (reply' : Reply) (new' : World)
-    → PlugsIn pages queue_size processors spares w reply new
-    → PlugsIn pages queue_size processors spares w reply' new' → reply ≢ Refused NoMemory
+    → PlugsIn size spares w reply new
+    → PlugsIn size spares w reply' new' → reply ≢ Refused NoMemory
     → reply' ≢ Refused NoMemory → AgreeOnPlug w reply new reply' new'
-plugs_in_agree pages queue_size processors [] w reply new reply' new' a b x y = absurd a
-plugs_in_agree pages queue_size processors (paced ∷ rest) w reply new reply' new' (inl a) b x y =
+plugs_in_agree size [] w reply new reply' new' a b x y = absurd a
+plugs_in_agree size (paced ∷ rest) w reply new reply' new' (inl a) b x y =
     absurd (x a.0)
-plugs_in_agree pages queue_size processors (paced ∷ rest) w reply new reply' new' (inr p) (inl b) x
+plugs_in_agree size (paced ∷ rest) w reply new reply' new' (inr p) (inl b) x
     y =
     absurd (y b.0)
-plugs_in_agree pages queue_size processors (paced ∷ rest) w reply new reply' new' (inr p) (inr q) x
+plugs_in_agree size (paced ∷ rest) w reply new reply' new' (inr p) (inr q) x
     y =
     plugs_agree _ rest w reply new reply' new' p q
 
@@ -179,11 +180,11 @@ hosts_agree w (Plug size) reply new reply' new' s t x y =
     by (first_refusal (world_causes w (Plug size))) s t
   where
     by : (r : Option Refusal)
-        → Either r w reply new (PlugsIn size.pages size.queue_size size.processors w.spares w reply new)
-        → Either r w reply' new' (PlugsIn size.pages size.queue_size size.processors w.spares w reply' new')
+        → Either r w reply new (PlugsIn size w.spares w reply new)
+        → Either r w reply' new' (PlugsIn size w.spares w reply' new')
         → AgreeOnPlug w reply new reply' new'
     by None a b =
-        plugs_in_agree size.pages size.queue_size size.processors w.spares w reply new reply' new' a b x y
+        plugs_in_agree size w.spares w reply new reply' new' a b x y
     by (Some refusal) a b =
         ((λ e. a.1 ∙ sym b.1), (λ last e. a.0 ∙ sym b.0), (λ other e. a.0 ∙ sym b.0))
 hosts_agree w (Unplug n) reply new reply' new' s t x y =

@@ -166,7 +166,7 @@ thirteen_frames = map (λ k. Some (k + 20)) (range_with_len 0 13) ++ replicate 5
 -- without STATS_VQ there is no statistics buffer
 initialised : HonestStep down (Init 0x100000025) thirteen Ready
     (record down { status = 15; features = 0x100000025; frames = thirteen_frames })
-initialised = (tt, (refl, refl))
+initialised = (refl, (refl, refl))
 
 -- a guest needn't agree to tell the host
 initialised_untold : HonestStep down (Init 0x100000026) thirteen Ready (record down {
@@ -175,11 +175,11 @@ initialised_untold : HonestStep down (Init 0x100000026) thirteen Ready (record d
   buffer = BufferPosted (record { free = 196608; total = 262144 });
   frames = thirteen_frames;
 })
-initialised_untold = (tt, (refl, refl))
+initialised_untold = (refl, (refl, refl))
 
 with_version_alone : HonestStep down (Init 0x100000000) thirteen Ready
     (record down { status = 15; features = 0x100000000; frames = thirteen_frames })
-with_version_alone = (tt, (refl, refl))
+with_version_alone = (refl, (refl, refl))
 
 untold_but_refused : (new : Guest)
     → HonestStep down (Init 0x100000026) thirteen (Refused VersionMissing) new → ⊥
@@ -190,7 +190,7 @@ one_claim_too_few : AreClaimsFor (0 ∷ 1 ∷ []) (Gave 5 ∷ []) → ⊥
 one_claim_too_few a = a
 
 one_claim_too_many : AreClaimsFor (0 ∷ []) (Gave 5 ∷ Gave 6 ∷ []) → ⊥
-one_claim_too_many a = a
+one_claim_too_many a = let e : Gave 6 ∷ [] ≡ [] = a in cc
 
 none_after_no_frame : AreClaimsFor (0 ∷ 1 ∷ []) (GaveNoFrame ∷ Gave 5 ∷ []) → ⊥
 none_after_no_frame a = let e : Gave 5 ∷ [] ≡ [] = a in cc
@@ -211,16 +211,16 @@ no_memory_left = (refl, (refl, refl))
 -- frames stay
 version_missing : HonestStep down (Init 0x27) thirteen (Refused VersionMissing)
     (record down { status = 131; features = 0x27; frames = thirteen_frames })
-version_missing = (tt, (refl, refl))
+version_missing = (refl, (refl, refl))
 
 no_features : HonestStep down (Init 0) thirteen (Refused VersionMissing)
     (record down { status = 131; features = 0; frames = thirteen_frames })
-no_features = (tt, (refl, refl))
+no_features = (refl, (refl, refl))
 
 -- none were accepted that aren't offered
 not_offered : HonestStep down (Init 0x100000067) thirteen (Refused FeatureNotOffered)
     (record down { status = 131; features = 0; frames = thirteen_frames })
-not_offered = (tt, (refl, refl))
+not_offered = (refl, (refl, refl))
 
 -- the features come after the frames
 frames_before_features : HonestStep down (Init 0x26) (GaveNoFrame ∷ []) (Refused NoFrame) down

@@ -47,12 +47,12 @@ read_no_memory = (refl, (inr refl, refl))
 
 written_two : HonestStep before (Write 17 1 (8 ∷ 9 ∷ [])) [] Done
     (holding (1 ∷ 8 ∷ 9 ∷ 4 ∷ 5 ∷ []) None zero_page)
-written_two = (tt, (refl, refl))
+written_two = (refl, (refl, refl))
 
 -- a page without a frame gets one first, and is zero but for these bytes
 written_to_a_bare_page : HonestStep before (Write 18 0 (8 ∷ 9 ∷ [])) (Gave 33 ∷ []) Done
     (holding five_bytes (Some 33) (8 ∷ 9 ∷ drop 2 zero_page))
-written_to_a_bare_page = (tt, (refl, refl))
+written_to_a_bare_page = (refl, (refl, refl))
 
 -- or nothing is changed
 no_frame_for_a_write : HonestStep before (Write 18 0 (8 ∷ [])) (GaveNoFrame ∷ []) (Refused NoFrame)

@@ -39,7 +39,7 @@ with_guest-again (suc n) g (x ∷ xs) e = ap (λ ys. x ∷ ys) (with_guest-again
 some_needed : (pages : List ℕ) (claims : List Claim) → AreClaimsFor pages claims
     → claim_refusal claims ≡ Some NoMemory → not (is_none_of pages) ≡ true
 some_needed [] [] a e = absurd cc
-some_needed [] (claim ∷ claims) a e = absurd a
+some_needed [] (claim ∷ claims) a e = absurd (let none : claim ∷ claims ≡ [] = a in cc)
 some_needed (page ∷ pages) claims a e = refl
 
 or_second : (a b : Bool) → b ≡ true → (a || b) ≡ true
@@ -86,7 +86,7 @@ happens_want : (event : Event) (w v : World) → Happens event w (Refused NoMemo
 happens_want (Plug size) w v s = plugs w.spares s
   where
     plugs : (spares : List Bool)
-        → PlugsIn size.pages size.queue_size size.processors spares w (Refused NoMemory) v
+        → PlugsIn size spares w (Refused NoMemory) v
         → (may_want_memory w (Plug size) ≡ true) × (v ≡ w)
     plugs [] s = absurd s
     plugs (paced ∷ rest) (inl none) = (refl, none.1)

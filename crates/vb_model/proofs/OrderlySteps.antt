@@ -35,12 +35,13 @@ use Rattle.vb_model.{proofs.Distinct.{distinct_where, inflated_distinct}, specs.
 use Rattle.vb_model.{specs.Driver.{reaped, with_block, without_block}, specs.Layout.reserved_pages}
 use Rattle.vb_model.{specs.Limits.{min_reported_order, max_order}, specs.declared.calls.Claim.Claim}
 use Rattle.vb_model.{specs.declared.replies.Refusal.Refusal, specs.declared.replies.Reply.Reply}
-use Rattle.vb_model.{specs.declared.places.Place.Place, specs.Step.{Performs, HonestStep}}
+use Rattle.vb_model.{specs.declared.places.Place.Place, specs.Step.HonestStep}
 use Rattle.vb_model.{proofs.GuestSteps.place_of-reset, proofs.CallSteps.reported_pages}
 use Rattle.vb_model.{proofs.Blocks.reported_distinct, specs.declared.calls.Call.Call}
 use Rattle.vb_model.{specs.Refusals.reported_blocks, proofs.Tables.length-each_from}
 use Rattle.vb_model.{specs.Consistent.IsConsistent, proofs.InOrder.orderly_reap}
 use Rattle.vb_model.specs.declared.places.Place.TheVariants.{Reserved, Free as FreePlace, Used}
+use Rattle.vb_model.proofs.Performed.{Performed, honest_case}
 
 -- ---- places
 
@@ -244,7 +245,7 @@ deflates_order g count head h least now =
     (λ page k. not_reserved _ is_lent refl (lent_pages g count page k)))
 
 performs_order : (call : Call) (g : Guest) (claims : List Claim) (reply : Reply) (new : Guest)
-    → IsConsistent g → IsOrderly g → refusal_of g call ≡ None → Performs call g claims reply new
+    → IsConsistent g → IsOrderly g → refusal_of g call ≡ None → Performed call g claims reply new
     → new.rogue ≡ false → IsOrderly new
 performs_order (SetTarget n) g claims reply new c h e s honest = subst IsOrderly (sym s.1.1) h
 performs_order Reset g claims reply new c h e s honest = subst IsOrderly (sym s.1.1) (kept_reset g h)
@@ -284,15 +285,15 @@ performs_order (Free cpu start order) g claims reply new c h e s honest =
     })
 performs_order (Inflate n) g claims reply new c h e s honest =
     let t = not_refused (causes g (Inflate n)) e in
-    let pages : List ℕ = stranded_first g n ++ s.1.1 in
-    subst IsOrderly (sym s.1.7)
+    let pages : List ℕ = stranded_first g n ++ s.1.0 in
+    subst IsOrderly (sym s.1.4.3)
     (with_inflate g _ (placed pages Giving g.places) h
-    (orderly_posting (room g) g.inflate s.1.0 pages h.inflating s.1.2
+    (orderly_posting (room g) g.inflate s.1.4.0 pages h.inflating s.1.4.1
     (has_room (room g) (outstanding g.inflate) t.1.0)
-    (λ page. inflated_distinct g n s.1.1 page s.1.3 s.1.4))
+    (λ page. inflated_distinct g n s.1.0 page s.1.1 s.1.2))
     (length-placed pages Giving g.places ∙ h.tabled)
     (moved g.config.queue_size g.config.pages pages Giving g.places h.unreserved refl
-    (λ page k. not_reserved _ can_be_given refl (inflated_pages g n s.1.1 page s.1.3 k))))
+    (λ page k. not_reserved _ can_be_given refl (inflated_pages g n s.1.0 page s.1.1 k))))
 performs_order (Deflate n) g claims reply new c h e s honest =
     let t = not_refused (causes g (Deflate n)) e in
     subst IsOrderly (sym s.1.3)
@@ -355,7 +356,7 @@ performs_order (Scribble page offset bytes) g claims reply new c h e s honest = 
 pub honest_order : (g : Guest) (call : Call) (claims : List Claim) (reply : Reply) (new : Guest)
     → IsConsistent g → IsOrderly g → HonestStep g call claims reply new → new.rogue ≡ false
     → IsOrderly new
-honest_order g call claims reply new c h s honest = grind (arith, performs_order)
+honest_order g call claims reply new c h s honest = grind (arith, performs_order, honest_case g call claims reply new s)
 
 -- ---- a new guest
 

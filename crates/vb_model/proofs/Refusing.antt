@@ -11,7 +11,7 @@ use Rattle.vb_model.{specs.declared.calls.Call.Call, specs.declared.calls.Claim.
 use Rattle.vb_model.{specs.declared.calls.Call.TheVariants.{Ask, SetTarget}, specs.Rogue.Scribbled}
 use Rattle.vb_model.{specs.declared.calls.Event.Event, specs.declared.replies.Refusal.Refusal}
 use Rattle.vb_model.{specs.declared.replies.Reply.Reply, specs.Requests.{BufferTaken, BufferDone}}
-use Rattle.vb_model.{specs.declared.replies.Reply.TheVariants.{Done, Refused}, specs.Step.Performs}
+use Rattle.vb_model.{specs.declared.replies.Reply.TheVariants.{Done, Refused}}
 use Rattle.vb_model.{specs.Guest.{Guest, requests}, specs.Refusals.{refusal_of, first_refusal}}
 use Rattle.vb_model.specs.Driver.{Reaps, Fills, Written, pages_needed}
 use Rattle.vb_model.specs.Device.{TakesRequest, TakesBuffer, Finishes, ReturnsBuffer, next_page}
@@ -22,6 +22,7 @@ use Rattle.vb_model.proofs.CallSteps.{match_cases, supplying_cases, works_cases,
 use Rattle.vb_model.specs.declared.calls.Event.TheVariants.{Plug, Unplug, Restart, Guest as OnGuest}
 use Rattle.vb_model.specs.declared.calls.Event.TheVariants.{Query as OnQuery, Balance}
 use Rattle.vb_model.specs.declared.calls.Event.TheVariants.{Frames as CountFrames}
+use Rattle.vb_model.proofs.Performed.{Performed, honest_case}
 
 -- a reply that is no refusal
 abbrev pub is_refused : Reply → Bool
@@ -85,13 +86,13 @@ negotiates_refuse wanted (Some r) g claims refusal new e s =
     some_refusal x = Some x
 
 performs_refuses : (call : Call) (g : Guest) (claims : List Claim) (refusal : Refusal) (new : Guest)
-    → Performs call g claims (Refused refusal) new → IsUnchanged call refusal claims g new
+    → Performed call g claims (Refused refusal) new → IsUnchanged call refusal claims g new
 performs_refuses (SetTarget n) g claims refusal new s = not_this refusal _ s.1.0 refl
 performs_refuses Reset g claims refusal new s = not_this refusal _ s.1.0 refl
 performs_refuses (Alloc cpu order) g claims refusal new s = not_this refusal _ s.1.2 refl
 performs_refuses (Free cpu start order) g claims refusal new s = not_this refusal _ s.1.0 refl
 performs_refuses (Read page offset len) g claims refusal new s = inl s.1.1
-performs_refuses (Inflate n) g claims refusal new s = not_this refusal _ s.1.6 refl
+performs_refuses (Inflate n) g claims refusal new s = not_this refusal _ s.1.4.2 refl
 performs_refuses (Deflate n) g claims refusal new s = not_this refusal _ s.1.2 refl
 performs_refuses (Oom n) g claims refusal new s = not_this refusal _ s.1.2 refl
 performs_refuses (Report from) g claims refusal new s = not_this refusal _ s.1.2 refl
@@ -142,8 +143,8 @@ performs_refuses (Scribble page offset bytes) g claims refusal new s =
 
 pub refusals_change_nothing : RefusalsChangeNothing
 refusals_change_nothing g call claims refusal new s =
-    elim (match_cases (refusal_of g call) (Performs call g claims (Refused refusal) new)
-    (λ r. (claims ≡ []) × (Refused refusal ≡ Refused r) × (new ≡ g)) s) [
+    elim (match_cases (refusal_of g call) (Performed call g claims (Refused refusal) new)
+    (λ r. (claims ≡ []) × (Refused refusal ≡ Refused r) × (new ≡ g)) (honest_case g call claims (Refused refusal) new s)) [
       | inl p ↦ performs_refuses call g claims refusal new p.1
       | inr r ↦ inl r.2.2
     ]
@@ -155,7 +156,7 @@ happens_refuses : (event : Event) (w : World) (refusal : Refusal) (v : World)
     → v ≡ w
 happens_refuses (Plug size) w refusal v other s = plugs w.spares s
   where
-    plugs : (spares : List Bool) → PlugsIn size.pages size.queue_size size.processors spares w (Refused refusal) v
+    plugs : (spares : List Bool) → PlugsIn size spares w (Refused refusal) v
         → v ≡ w
     plugs [] s = absurd s
     plugs (paced ∷ rest) (inl none) = none.1

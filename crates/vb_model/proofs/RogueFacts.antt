@@ -129,7 +129,7 @@ frames_may_go = record {
     sizes = record { placed = refl; flagged = refl; framed = refl; filled = refl };
   };
   target = refl;
-  claimed = tt;
+  claimed = refl;
   frames = none_gained;
   no_frame = λ e. cc;
   no_memory = λ e. absurd cc;

@@ -31,11 +31,11 @@ claims_its_frame reply new s = s.claimed
 
 lent_page_claims_none : (reply : Reply) (new : Guest)
     → RogueStep rogue (Write 63 0 (1 ∷ [])) (Gave 3 ∷ []) reply new → ⊥
-lent_page_claims_none reply new s = s.claimed
+lent_page_claims_none reply new s = let none : Gave 3 ∷ [] ≡ [] = s.claimed in cc
 
 init_claims_none_when_up : (reply : Reply) (new : Guest)
     → RogueStep rogue (Init 0x100000001) (Gave 3 ∷ []) reply new → ⊥
-init_claims_none_when_up reply new s = s.claimed
+init_claims_none_when_up reply new s = let none : Gave 3 ∷ [] ≡ [] = s.claimed in cc
 
 init_claims : (reply : Reply) (new : Guest)
     → RogueStep (record rogue { status = 0 }) (Init 0x100000001) [] reply new → ⊥

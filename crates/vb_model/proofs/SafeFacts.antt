@@ -11,7 +11,7 @@ use Rattle.vb_model.specs.declared.replies.Refusal.TheVariants.{RingBroken, Brok
 use Rattle.vb_model.{specs.declared.replies.Reply.Reply, specs.Requests.{Request, Requests}}
 use Rattle.vb_model.specs.declared.replies.Reply.TheVariants.{Done, Idle, ReadBytes, Swept, Refused}
 use Rattle.vb_model.{specs.GuestRun.{Entry, Called}, specs.Histories.IsSafeCourse}
-use Rattle.vb_model.specs.Courses.{Course, StaysHeld, StaysOrLoses}
+use Rattle.vb_model.specs.Courses.{Course, StaysHeld, StaysOrLoses, ReadsGiveLastWrites}
 use Rattle.vb_model.proofs.Samples.{ready, down, untold, page_16_at, request}
 use Rattle.vb_model.specs.declared.places.Place.TheVariants.{Free as FreePlace, Used, Reserved}
 
@@ -50,28 +50,28 @@ Same a b = a ≡ b
 
 without_version : IsSafeCourse (stands (record ready { features = 0x27 })) → ⊥
 without_version s = let e : false ≡ true =
-    (s.agreed 0 (record ready { features = 0x27 }) refl refl).version in cc
+    (s.agreed 0 (record ready { features = 0x27 }) refl refl).1 in cc
 
 with_bit_3 : IsSafeCourse (stands (record ready { features = 0x10000002f })) → ⊥
 with_bit_3 s = let e : false ≡ true =
-    (s.agreed 0 (record ready { features = 0x10000002f }) refl refl).offered in cc
+    (s.agreed 0 (record ready { features = 0x10000002f }) refl refl).0 in cc
 
 untold_without_version : IsSafeCourse (stands (record ready { features = 0x26 })) → ⊥
 untold_without_version s = let e : false ≡ true =
-    (s.agreed 0 (record ready { features = 0x26 }) refl refl).version in cc
+    (s.agreed 0 (record ready { features = 0x26 }) refl refl).1 in cc
 
 -- in a later state, by a call or by another's event
 version_lost : IsSafeCourse (goes ready Work (Refused NoFrame) (record ready { features = 0x27 })) → ⊥
 version_lost s = let e : false ≡ true =
-    (s.agreed 1 (record ready { features = 0x27 }) refl refl).version in cc
+    (s.agreed 1 (record ready { features = 0x27 }) refl refl).1 in cc
 
 version_lost_later : IsSafeCourse (becomes (record ready { features = 0x27 })) → ⊥
 version_lost_later s = let e : false ≡ true =
-    (s.agreed 1 (record ready { features = 0x27 }) refl refl).version in cc
+    (s.agreed 1 (record ready { features = 0x27 }) refl refl).1 in cc
 
 bit_3_gained : IsSafeCourse (becomes (record ready { features = 0x10000002f })) → ⊥
 bit_3_gained s = let e : false ≡ true =
-    (s.agreed 1 (record ready { features = 0x10000002f }) refl refl).offered in cc
+    (s.agreed 1 (record ready { features = 0x10000002f }) refl refl).0 in cc
 
 -- ---- a used page loses its frame, or gets another one
 
@@ -218,20 +218,17 @@ abbrev reads : ℕ → List ℕ → Course
 reads len bytes = goes (used_with (Some 5) (1 ∷ 2 ∷ []) ready) (Read 16 0 len) (ReadBytes bytes)
     (used_with (Some 5) (1 ∷ 2 ∷ []) ready)
 
-held : (len : ℕ) (bytes : List ℕ) → StaysHeld (reads len bytes) 16 0 0
-held len bytes zero le = (used_with (Some 5) (1 ∷ 2 ∷ []) ready, refl, refl)
-held len bytes (suc j) le = absurd (omega (arith, le))
-
 other_bytes : IsSafeCourse (reads 1 (9 ∷ [])) → ⊥
 other_bytes s =
-    let e : Same 9 1 = (s.reads 16 0 0 0 1 (9 ∷ []) (used_with (Some 5) (1 ∷ 2 ∷ []) ready)
-    (held 1 (9 ∷ [])) refl (Processor 0 0, [], refl)).1 0 (omega arith) in
-    omega (arith, e)
+    let e : SameBytes (9 ∷ []) (1 ∷ []) =
+    (s.reads 0 16 0 1 (9 ∷ []) (used_with (Some 5) (1 ∷ 2 ∷ []) ready) refl
+    (Processor 0 0, [], refl)).1 in
+    cc
 
 too_few_bytes : IsSafeCourse (reads 2 (1 ∷ [])) → ⊥
 too_few_bytes s =
-    let e : Same 1 2 = (s.reads 16 0 0 0 2 (1 ∷ []) (used_with (Some 5) (1 ∷ 2 ∷ []) ready)
-    (held 2 (1 ∷ [])) refl (Processor 0 0, [], refl)).0 in
+    let e : Same 1 2 = (s.reads 0 16 0 2 (1 ∷ []) (used_with (Some 5) (1 ∷ 2 ∷ []) ready) refl
+    (Processor 0 0, [], refl)).0 in
     omega (arith, e)
 
 -- two writes, with another's event behind each, and then a read that gives what was there before
@@ -241,10 +238,47 @@ written_and_read byte = record {
   first = used_with (Some 5) (1 ∷ 2 ∷ []) down;
   entries = made (Write 16 0 (7 ∷ [])) Done ∷ None ∷ made (Write 16 0 (8 ∷ [])) Done ∷ None
       ∷ made (Read 16 0 1) (ReadBytes (byte ∷ [])) ∷ [];
-  after = replicate 5 (used_with (Some 5) (1 ∷ 2 ∷ []) down);
+  after = used_with (Some 5) (7 ∷ 2 ∷ []) down ∷ used_with (Some 5) (7 ∷ 2 ∷ []) down
+      ∷ used_with (Some 5) (8 ∷ 2 ∷ []) down ∷ used_with (Some 5) (8 ∷ 2 ∷ []) down
+      ∷ used_with (Some 5) (8 ∷ 2 ∷ []) down ∷ [];
 }
 
-held_then : (byte : ℕ) → StaysHeld (written_and_read byte) 16 0 4
+reads_the_last : (byte : ℕ) → IsSafeCourse (written_and_read byte) → byte ≡ 8
+reads_the_last byte s =
+    let e : SameBytes (byte ∷ []) (8 ∷ []) =
+    (s.reads 4 16 0 1 (byte ∷ []) (used_with (Some 5) (8 ∷ 2 ∷ []) down) refl
+    (Processor 0 0, [], refl)).1 in
+    cc
+
+write_forgotten : IsSafeCourse (written_and_read 7) → ⊥
+write_forgotten s = let e : Same 7 8 = reads_the_last 7 s in omega (arith, e)
+
+both_forgotten : IsSafeCourse (written_and_read 1) → ⊥
+both_forgotten s = let e : Same 1 8 = reads_the_last 1 s in omega (arith, e)
+
+-- the same by the law of reads since a state, which looks at entries alone
+held : (len : ℕ) (bytes : List ℕ) → StaysHeld (reads len bytes) 16 0 0
+held len bytes zero le = (used_with (Some 5) (1 ∷ 2 ∷ []) ready, refl, refl)
+held len bytes (suc j) le = absurd (omega (arith, le))
+
+other_bytes_by_law : ReadsGiveLastWrites (reads 1 (9 ∷ [])) → ⊥
+other_bytes_by_law s =
+    let e : Same 9 1 = (s 16 0 0 0 1 (9 ∷ []) (used_with (Some 5) (1 ∷ 2 ∷ []) ready)
+    (held 1 (9 ∷ [])) refl (Processor 0 0, [], refl)).1 0 (omega arith) in
+    omega (arith, e)
+
+too_few_bytes_by_law : ReadsGiveLastWrites (reads 2 (1 ∷ [])) → ⊥
+too_few_bytes_by_law s =
+    let e : Same 1 2 = (s 16 0 0 0 2 (1 ∷ []) (used_with (Some 5) (1 ∷ 2 ∷ []) ready)
+    (held 2 (1 ∷ [])) refl (Processor 0 0, [], refl)).0 in
+    omega (arith, e)
+
+-- whatever the states say
+abbrev written_unseen : ℕ → Course
+written_unseen byte = record (written_and_read byte)
+    { after = replicate 5 (used_with (Some 5) (1 ∷ 2 ∷ []) down) }
+
+held_then : (byte : ℕ) → StaysHeld (written_unseen byte) 16 0 4
 held_then byte zero le = (used_with (Some 5) (1 ∷ 2 ∷ []) down, refl, refl)
 held_then byte (suc zero) le = (used_with (Some 5) (1 ∷ 2 ∷ []) down, refl, refl)
 held_then byte (suc (suc zero)) le = (used_with (Some 5) (1 ∷ 2 ∷ []) down, refl, refl)
@@ -253,16 +287,34 @@ held_then byte (suc (suc (suc (suc zero)))) le =
     (used_with (Some 5) (1 ∷ 2 ∷ []) down, refl, refl)
 held_then byte (suc (suc (suc (suc (suc j))))) le = absurd (omega arith)
 
-reads_the_last : (byte : ℕ) → IsSafeCourse (written_and_read byte) → byte ≡ 8
-reads_the_last byte s =
-    (s.reads 16 0 4 0 1 (byte ∷ []) (used_with (Some 5) (1 ∷ 2 ∷ []) down) (held_then byte) refl
+last_by_law : (byte : ℕ) → ReadsGiveLastWrites (written_unseen byte) → byte ≡ 8
+last_by_law byte s =
+    (s 16 0 4 0 1 (byte ∷ []) (used_with (Some 5) (1 ∷ 2 ∷ []) down) (held_then byte) refl
     (Processor 0 0, [], refl)).1 0 (omega arith)
 
-write_forgotten : IsSafeCourse (written_and_read 7) → ⊥
-write_forgotten s = let e : Same 7 8 = reads_the_last 7 s in omega (arith, e)
+write_forgotten_by_law : ReadsGiveLastWrites (written_unseen 7) → ⊥
+write_forgotten_by_law s = let e : Same 7 8 = last_by_law 7 s in omega (arith, e)
 
-both_forgotten : IsSafeCourse (written_and_read 1) → ⊥
-both_forgotten s = let e : Same 1 8 = reads_the_last 1 s in omega (arith, e)
+both_forgotten_by_law : ReadsGiveLastWrites (written_unseen 1) → ⊥
+both_forgotten_by_law s = let e : Same 1 8 = last_by_law 1 s in omega (arith, e)
+
+-- a write that is done, and the page holds what it did, or the bytes stand elsewhere in it
+abbrev written_as : List ℕ → Course
+written_as bytes = goes (used_with (Some 5) (1 ∷ 2 ∷ []) down) (Write 16 0 (7 ∷ [])) Done
+    (used_with (Some 5) bytes down)
+
+writes_first_byte : (bytes : List ℕ) → IsSafeCourse (written_as bytes) → bytes ≡ 7 ∷ 2 ∷ []
+writes_first_byte bytes s =
+    (s.writes 0 16 0 (7 ∷ []) (used_with (Some 5) (1 ∷ 2 ∷ []) down)
+    (used_with (Some 5) bytes down) refl refl (Processor 0 0, [], refl)).1
+
+write_without_effect : IsSafeCourse (written_as (1 ∷ 2 ∷ [])) → ⊥
+write_without_effect s =
+    let e : SameBytes (1 ∷ 2 ∷ []) (7 ∷ 2 ∷ []) = writes_first_byte (1 ∷ 2 ∷ []) s in cc
+
+written_elsewhere : IsSafeCourse (written_as (1 ∷ 7 ∷ [])) → ⊥
+written_elsewhere s =
+    let e : SameBytes (1 ∷ 7 ∷ []) (7 ∷ 2 ∷ []) = writes_first_byte (1 ∷ 7 ∷ []) s in cc
 
 -- ---- driver and device don't agree on a page
 

@@ -10,11 +10,12 @@ use Rattle.vb_model.{specs.declared.replies.Refusal.TheVariants.NotReady, proofs
 use Rattle.vb_model.{specs.Guest.{Guest, unbacked}, specs.World.{World, made, guest_at}}
 use Rattle.vb_model.{specs.HostEvents.WorldStep, specs.Histories.IsSafeCourse}
 use Rattle.vb_model.specs.GuestRun.{Entry, OwnStep, Leads, IsOwnEntry, AreOwn, InOneLife, Alone}
-use Rattle.vb_model.{specs.SafeLaws.LivesAreAlone, specs.Safe.{Safe, IsSafeRun, NoFrameTwice, part}}
+use Rattle.vb_model.{specs.SafeLaws.LivesAreAlone, specs.Safe.{Safe, IsSafeOf, IsSafeRun, NoFrameTwice, part}}
 use Rattle.vb_model.proofs.Samples.{ready, down, untold, page_16_at, request}
 use Rattle.vb_model.proofs.AskedFacts.{back, giving, handed_out}
 use Rattle.vb_model.specs.declared.calls.Event.TheVariants.{Guest as OnGuest, Restart, Unplug}
 use Rattle.vb_model.specs.declared.calls.Event.TheVariants.{Frames as CountFrames}
+use Rattle.vb_model.proofs.Performed.{performed}
 
 -- ---- a run of no events ends where it began
 
@@ -26,8 +27,7 @@ empty_run w v s = grind arith
 -- what is promised of one event with its reply
 record IsOne (w : World) (event : Event) (reply : Reply) (v : World) : Type 0 where
   pub step : WorldStep w event reply v
-  pub safe : Safe
-      (record { first = w; events = event ∷ []; replies = reply ∷ []; after = v ∷ [] })
+  pub safe : Safe w (event ∷ []) (reply ∷ []) (v ∷ [])
 
 one : (w : World) (event : Event) (reply : Reply) (v : World)
     → IsSafeRun w (event ∷ []) (reply ∷ []) v → IsOne w event reply v
@@ -78,7 +78,7 @@ two_guests s = let e =
 abbrev twice : Guest → Guest
 twice g = record g { frames = Some 5 ∷ None ∷ Some 5 ∷ [] }
 
-one_guest : Safe (stands (twice ready)) → ⊥
+one_guest : IsSafeOf (stands (twice ready)) → ⊥
 one_guest s =
     let e = s.no_frame_twice 0 (at (twice ready)) refl 5 0 0 0 2
     (record { guest = twice ready; is_there = refl; has = refl })
@@ -88,7 +88,7 @@ one_guest s =
 abbrev rogue : Guest
 rogue = record (twice down) { rogue = true }
 
-frame_twice_later : Safe
+frame_twice_later : IsSafeOf
     (record {
       first = at down;
       events = CountFrames ∷ [];
@@ -143,11 +143,11 @@ of_one g event reply new on still honest s =
     (s 0 0 1 (at g) g new refl refl (refl, honest) (on, still, tt)).0
 
 -- a state is safe by itself
-lent_but_not_ballooned : Safe (stands (page_16_at Lent ready)) → ⊥
+lent_but_not_ballooned : IsSafeOf (stands (page_16_at Lent ready)) → ⊥
 lent_but_not_ballooned s =
     let e : false ≡ true =
-    ((s.lives 0 0 0 (at (page_16_at Lent ready)) (page_16_at Lent ready) (page_16_at Lent ready) refl
-    refl (refl, refl) tt).3.both_agree 0 (page_16_at Lent ready) refl 16).1 (inl refl) in
+    ((s.lives 0 0 0 (at (page_16_at Lent ready)) (at (page_16_at Lent ready))
+    (page_16_at Lent ready) (page_16_at Lent ready) refl refl refl refl refl tt).3.both_agree 0 (page_16_at Lent ready) refl 16).1 (inl refl) in
     cc
 
 -- a call is answered as no run of the guest's own has it, in a later life too
@@ -161,7 +161,7 @@ not_its_own s = by o.own o.is o.step
         → OwnStep ready own ready → ⊥
     by own is step =
         let made = subst (λ (x : Option Entry). OwnStep ready x ready) is.3 step in
-        let wrong : Done ≡ Idle = made.1.1.0 in
+        let wrong : Done ≡ Idle = (performed Work ready is.1 Done ready made.1).1.0 in
         cc
 
 abbrev restarted : History
@@ -210,7 +210,8 @@ reset_but_ready s = by o.own o.is o.step
         → OwnStep ready own ready → ⊥
     by own is step =
         let made = subst (λ (x : Option Entry). OwnStep ready x ready) is.3 step in
-        let status : Same 15 0 = ap (λ (g : Guest). g.status) made.1.1.1 in
+        let status : Same 15 0 =
+        ap (λ (g : Guest). g.status) (performed Reset ready is.1 Done ready made.1).1.1 in
         omega arith
 
 -- a reset ends no life, and what comes behind it goes on from what it left
@@ -240,8 +241,8 @@ isnt_safe : IsSafeRun (at named) (OnGuest 0 (Sweep 16) ∷ []) (Swept true ∷ [
 isnt_safe s =
     let safe = (one (at named) (OnGuest 0 (Sweep 16)) (Swept true)
     (at (unbacked (16 ∷ []) named)) s).safe in
-    let life = safe.lives 0 0 1 (at named) named (unbacked (16 ∷ []) named) refl refl (refl, refl)
-    ((λ e. cc), (λ e. cc), tt) in
+    let life = safe.lives 0 0 1 (at named) (at (unbacked (16 ∷ []) named)) named
+    (unbacked (16 ∷ []) named) refl refl refl refl refl ((λ e. cc), (λ e. cc), tt) in
     by life.0 life.1 life.2 life.3
   where
     by : (entries : List (Option Entry)) (guests : List Guest)
@@ -269,14 +270,14 @@ at_once = record {
   after = beside (back untold) ∷ beside (giving untold) ∷ beside (handed_out untold) ∷ [];
 }
 
-handed_out_at_once : Safe at_once → ⊥
+handed_out_at_once : IsSafeOf at_once → ⊥
 handed_out_at_once s = by own.0 own.1 own.2 own.3
   where
     own : (entries : List (Option Entry)) × (guests : List Guest)
         × AreOwn 1 (beside (back untold)) at_once.events at_once.replies at_once.after entries guests
         × IsSafeCourse (record { first = back untold; entries = entries; after = guests })
-    own = s.lives 1 0 3 (beside (back untold)) (back untold) (handed_out untold) refl refl
-        (refl, refl) ((λ e. cc), (λ e. cc), ((λ e. cc), (λ e. cc), ((λ e. cc), (λ e. cc), tt)))
+    own = s.lives 1 0 3 (beside (back untold)) (beside (handed_out untold)) (back untold)
+        (handed_out untold) refl refl refl refl refl ((λ e. cc), (λ e. cc), ((λ e. cc), (λ e. cc), ((λ e. cc), (λ e. cc), tt)))
 
     by : (entries : List (Option Entry)) (guests : List Guest)
         → AreOwn 1 (beside (back untold)) at_once.events at_once.replies at_once.after entries guests

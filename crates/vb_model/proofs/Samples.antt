@@ -4,7 +4,7 @@ use Rattle.vb_model.specs.declared.places.Place.TheVariants.{Reserved, Free, Use
 use Rattle.vb_model.{specs.declared.calls.Event.Event, specs.declared.calls.Event.TheVariants.Plug}
 use Rattle.vb_model.{specs.declared.places.Place.Place, specs.Requests.Request}
 use Rattle.vb_model.specs.declared.places.Place.TheVariants.{Taking, Stranded, Reporting}
-use Rattle.vb_model.specs.Guest.{Guest, Config, fresh}
+use Rattle.vb_model.{specs.Guest.{Guest, Config, fresh}, specs.Tables.{Negotiated, NewRequest}}
 
 -- 64 pages, queues of 8, one processor, a paced device
 abbrev pub config : Config
@@ -59,3 +59,12 @@ request head pages visited = record { head = head; pages = pages; visited = visi
 abbrev pub plug : (pages queue_size processors : ℕ) → Event
 plug pages queue_size processors =
     Plug (record { pages = pages; queue_size = queue_size; processors = processors })
+
+-- ---- what a driver and its device know
+
+abbrev pub at : ℕ → ℕ → Negotiated
+at status features = record { status = status; features = features }
+
+abbrev pub new_request : (outstanding most count : ℕ) → NewRequest
+new_request outstanding most count =
+    record { outstanding = outstanding; most = most; count = count }

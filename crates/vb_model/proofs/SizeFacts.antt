@@ -75,7 +75,7 @@ initialised : HonestStep down (Init 0x100000027) seventeen Ready (record down {
   buffer = BufferPosted (record { free = 196608; total = 327680 });
   frames = seventeen_frames;
 })
-initialised = (tt, (refl, refl))
+initialised = (refl, (refl, refl))
 
 thirteen_are_too_few : AreClaimsFor (lacking down) (map (λ k. Gave (k + 20)) (range_with_len 0 13)) → ⊥
 thirteen_are_too_few a = a

@@ -9,11 +9,20 @@ use Rattle.vb_model.{specs.declared.calls.Claim.Claim, specs.declared.replies.Re
 use Rattle.vb_model.{specs.Pages.{is_lent, is_taking, place_of}, specs.Driver.{reaped, Reaps}}
 use Rattle.vb_model.specs.Requests.{Inflating, Deflating, Reporting_free, given_away}
 use Rattle.vb_model.specs.Guest.{Guest, requests, with_requests, is_ballooned, tells_host}
-use Rattle.vb_model.{specs.Step.{Performs, HonestStep}, specs.Consistent.IsConsistent}
+use Rattle.vb_model.{specs.Step.HonestStep, specs.Consistent.IsConsistent}
 use Rattle.vb_model.{specs.Orderly.{IsOrderly, AllRequestsSound}, specs.Telling.is_lent_or_taking}
 use Rattle.vb_model.{proofs.Tables.count_by-cons, proofs.PageSteps.{naming-cons, taking_named}}
 use Rattle.vb_model.{proofs.GuestSteps.{below_end, kept_by_reap}, proofs.OrderlySteps.kept_reap}
 use Rattle.vb_model.{proofs.Distinct.distinct_once, proofs.Counts.{inside, inside-all}}
+use Rattle.std.specs.Prelude.{Option, MatchOption}
+use Rattle.vb_model.specs.declared.replies.Refusal.{Refusal}
+use Rattle.vb_model.specs.declared.calls.Call.TheVariants.{Init, Reset, Alloc, Free, Read, Write}
+use Rattle.vb_model.specs.declared.calls.Call.TheVariants.{Scribble, Inflate, Deflate, Oom, Report}
+use Rattle.vb_model.specs.declared.calls.Call.TheVariants.{Stats, Reap, Take, Work, Finish, Sweep}
+use Rattle.vb_model.specs.declared.calls.Call.TheVariants.{Ask, SetTarget}
+use Rattle.vb_model.specs.{FirstRefusal.first_refusal, Refusals.refusal_of, Telling.told_causes}
+use Rattle.vb_model.proofs.Performed.{Performed, HonestCase, performed, performs, honest_case}
+use Rattle.vb_model.proofs.Performed.{honest_step}
 
 -- ---- as many pages are taking as deflate requests name
 
@@ -129,10 +138,47 @@ reaps_ways kind done g reply new c o told e = grind (arith, same_reaped)
 
 performs_ways : (g : Guest) (call : Call) (claims : List Claim) (reply : Reply) (new : Guest)
     → IsConsistent g → IsOrderly g → tells_host g ≡ true
-    → Performs call g claims reply new ↔ ToldPerforms call g claims reply new
-performs_ways g call claims reply new c o told = grind (arith, reaps_ways)
+    → Performed call g claims reply new ↔ ToldPerforms call g claims reply new
+performs_ways g call claims reply new c o told = grind (arith, reaps_ways, performed, performs)
+
+-- what it is refused for
+same_refusals : (g : Guest) (call : Call) → tells_host g ≡ true
+    → refusal_of g call ≡ first_refusal (told_causes g call)
+same_refusals g (Inflate n) told = grind arith
+same_refusals g (Sweep page) told = grind arith
+same_refusals g (SetTarget n) told = refl
+same_refusals g Reset told = refl
+same_refusals g (Alloc cpu order) told = refl
+same_refusals g (Free cpu start order) told = refl
+same_refusals g (Read page offset len) told = refl
+same_refusals g (Write page offset bytes) told = refl
+same_refusals g (Scribble page offset bytes) told = refl
+same_refusals g (Deflate n) told = refl
+same_refusals g (Oom n) told = refl
+same_refusals g (Report from) told = refl
+same_refusals g Stats told = refl
+same_refusals g (Reap q) told = refl
+same_refusals g (Take q) told = refl
+same_refusals g Work told = refl
+same_refusals g (Finish q i) told = refl
+same_refusals g Ask told = refl
+same_refusals g (Init wanted) told = refl
+
+ways : (o p : Option Refusal) (P Q : Type 0) (R : Refusal → Type 0) → o ≡ p → P ↔ Q
+    → MatchOption o P R ↔ MatchOption p Q R
+ways o p P Q R e both = grind arith
+
+case_ways : (g : Guest) (call : Call) (claims : List Claim) (reply : Reply) (new : Guest)
+    → IsConsistent g → IsOrderly g → tells_host g ≡ true
+    → HonestCase g call claims reply new ↔ ToldStep g call claims reply new
+case_ways g call claims reply new c o told =
+    ways (refusal_of g call) (first_refusal (told_causes g call)) _ _ _ (same_refusals g call told)
+    (performs_ways g call claims reply new c o told)
 
 pub told_agree : (g : Guest) (call : Call) (claims : List Claim) (reply : Reply) (new : Guest)
     → IsConsistent g → IsOrderly g → tells_host g ≡ true
     → HonestStep g call claims reply new ↔ ToldStep g call claims reply new
-told_agree g call claims reply new c o told = search (arith, performs_ways)
+told_agree g call claims reply new c o told = let both = case_ways g call claims reply new c o told in (
+  λ s. both.0 (honest_case g call claims reply new s),
+  λ s. honest_step g call claims reply new (both.1 s),
+)

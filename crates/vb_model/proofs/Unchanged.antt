@@ -12,13 +12,14 @@ use Rattle.vb_model.specs.Device.{TakesRequest, TakesBuffer, Finishes, ReturnsBu
 use Rattle.vb_model.specs.Device.{settled, used}
 use Rattle.vb_model.proofs.CallSteps.{match_cases, supplying_cases, works_cases, Idles, Visits}
 use Rattle.vb_model.specs.Rogue.{IsRogueAfter, RogueStep, Scribbled, target_after, GuestStep}
-use Rattle.vb_model.specs.Driver.{Supplying, Reaps, Fills, Written, pages_needed}
+use Rattle.vb_model.specs.Driver.{Reaps, Fills, Written, pages_needed}
 use Rattle.vb_model.specs.declared.calls.Call.TheVariants.{Ask, SetTarget}
 use Rattle.vb_model.{specs.Life.{feature_refusal, Negotiates, lacking}, specs.Requests.BufferDone}
 use Rattle.vb_model.{specs.declared.replies.Reply.TheVariants.Refused, specs.Refusals.refusal_of}
 use Rattle.vb_model.{specs.declared.replies.Refusal.Refusal, specs.declared.replies.Reply.Reply}
-use Rattle.vb_model.{specs.Step.{Performs, HonestStep}, specs.declared.calls.Claim.Claim}
+use Rattle.vb_model.{specs.Step.HonestStep, specs.declared.calls.Claim.Claim}
 use Rattle.vb_model.{specs.declared.calls.Call.Call, specs.Guest.{Guest, requests}}
+use Rattle.vb_model.proofs.Performed.{Performed, Supplying, honest_case}
 
 -- a guest with another target, with the same configuration, that is as honest as before, or rogue
 -- for this reason
@@ -124,7 +125,7 @@ supplies_keep pages g claims reply new Rest s rest =
     ]
 
 performs_keep : (call : Call) (g : Guest) (claims : List Claim) (reply : Reply) (new : Guest)
-    → Performs call g claims reply new → Keeps (IsScribble call) (target_after call g.target) g new
+    → Performed call g claims reply new → Keeps (IsScribble call) (target_after call g.target) g new
 performs_keep (SetTarget n) g claims reply new s =
     record {
       aimed = ap (λ (x : Guest). x.target) s.1.1;
@@ -136,7 +137,7 @@ performs_keep (Read page offset len) g claims reply new s = same_three g new _ s
 performs_keep (Sweep page) g claims reply new s = same_three g new _ s.1.1 refl refl refl
 performs_keep (Alloc cpu order) g claims reply new s = same_three g new _ s.1.3 refl refl refl
 performs_keep (Free cpu start order) g claims reply new s = same_three g new _ s.1.1 refl refl refl
-performs_keep (Inflate n) g claims reply new s = same_three g new _ s.1.7 refl refl refl
+performs_keep (Inflate n) g claims reply new s = same_three g new _ s.1.4.3 refl refl refl
 performs_keep (Deflate n) g claims reply new s = same_three g new _ s.1.3 refl refl refl
 performs_keep (Oom n) g claims reply new s = same_three g new _ s.1.3 refl refl refl
 performs_keep (Report from) g claims reply new s = same_three g new _ s.1.3 refl refl refl
@@ -225,8 +226,8 @@ step_keeps g call claims reply new s = cases g.rogue refl s
     cases true e r = record
         { aimed = r.target; config = r.stays.config; rogue = inr (inl e, r.stays) }
     cases false e p =
-        elim (match_cases (refusal_of g call) (Performs call g claims reply new)
-        (λ refusal. (claims ≡ []) × (reply ≡ Refused refusal) × (new ≡ g)) p) [
+        elim (match_cases (refusal_of g call) (Performed call g claims reply new)
+        (λ refusal. (claims ≡ []) × (reply ≡ Refused refusal) × (new ≡ g)) (honest_case g call claims reply new p)) [
           | inl d ↦ widen (performs_keep call g claims reply new d.1)
           | inr r ↦ refused call r.0 r.1 r.2.2
         ]

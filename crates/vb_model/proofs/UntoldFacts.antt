@@ -24,6 +24,7 @@ use Rattle.vb_model.{specs.Driver.contents_of, specs.Life.{feature_refusal, afte
 use Rattle.vb_model.{specs.Step.{Performs, HonestStep}, specs.GuestRun.{Called, Leads}}
 use Rattle.vb_model.proofs.Samples.{config, ready, untold, down, mixed_places, request}
 use Rattle.vb_model.specs.declared.places.Place.TheVariants.{Reserved, Free as FreePlace, Used}
+use Rattle.vb_model.proofs.Samples.{at, new_request}
 
 abbrev Same : ℕ → ℕ → Type 0
 Same a b = a ≡ b
@@ -50,7 +51,7 @@ started : HonestStep with_frames (Init 0x100000026) [] Ready (record with_frames
   features = 0x100000026;
   buffer = BufferPosted (record { free = 196608; total = 262144 });
 })
-started = (tt, (refl, refl))
+started = (refl, (refl, refl))
 
 refused_at_the_start : (new : Guest)
     → HonestStep with_frames (Init 0x100000026) [] (Refused VersionMissing) new → ⊥
@@ -202,7 +203,7 @@ written_at_once : HonestStep (in_use true (posted both)) (Write 16 0 (7 ∷ []))
       frames = replicate 16 None ++ (Some 5 ∷ replicate 47 None);
       contents = replicate 16 zero_page ++ ((7 ∷ drop 1 zero_page) ∷ replicate 47 zero_page);
     })
-written_at_once = (tt, (refl, refl))
+written_at_once = (refl, (refl, refl))
 
 -- ---- no page is offered while a deflate is outstanding, at whatever stage
 
@@ -287,7 +288,7 @@ offered_where_it_tells : HonestStep (record (asked Taking ready) { target = 9 })
           ++ (Taking ∷ Taking ∷ Lent ∷ Giving ∷ replicate 44 FreePlace);
       inflate = posted (request 0 (19 ∷ []) 0);
     })
-offered_where_it_tells = (refl, (0, 19 ∷ [], no_head_out, refl, (refl, tt), refl, refl, refl))
+offered_where_it_tells = (refl, (19 ∷ [], refl, (refl, tt), refl, (0, no_head_out, refl, refl)))
 
 -- ---- a reaped deflate moves no page: page 16 is used by then, and page 17 is free
 
@@ -483,36 +484,36 @@ offered_anew : refusal_of (record after_it { status = 15; features = 0x100000026
     ≡ None
 offered_anew = refl
 
--- ---- the tests, in their order
+-- ---- the causes, in their order
 
-inflate_in_order : inflate_causes 0 0x100000026 1 8 8 0 ≡ (true ⇒ NotReady) ∷ (true ⇒ QueueFull)
+inflate_in_order : inflate_causes (at 0 0x100000026) 1 (new_request 8 8 0) ≡ (true ⇒ NotReady) ∷ (true ⇒ QueueFull)
     ∷ (true ⇒ DeflatePending) ∷ (true ⇒ Nothing) ∷ []
 inflate_in_order = refl
 
-just_one_pending : inflate_causes 15 0x100000026 1 7 8 1 ≡ (false ⇒ NotReady) ∷ (false ⇒ QueueFull)
+just_one_pending : inflate_causes (at 15 0x100000026) 1 (new_request 7 8 1) ≡ (false ⇒ NotReady) ∷ (false ⇒ QueueFull)
     ∷ (true ⇒ DeflatePending) ∷ (false ⇒ Nothing) ∷ []
 just_one_pending = refl
 
-none_pending : inflate_causes 15 0x100000026 0 7 8 1 ≡ (false ⇒ NotReady) ∷ (false ⇒ QueueFull)
+none_pending : inflate_causes (at 15 0x100000026) 0 (new_request 7 8 1) ≡ (false ⇒ NotReady) ∷ (false ⇒ QueueFull)
     ∷ (false ⇒ DeflatePending) ∷ (false ⇒ Nothing) ∷ []
 none_pending = refl
 
-pending_where_it_tells : inflate_causes 15 0x100000027 8 7 8 1 ≡ (false ⇒ NotReady)
+pending_where_it_tells : inflate_causes (at 15 0x100000027) 8 (new_request 7 8 1) ≡ (false ⇒ NotReady)
     ∷ (false ⇒ QueueFull) ∷ (false ⇒ DeflatePending) ∷ (false ⇒ Nothing) ∷ []
 pending_where_it_tells = refl
 
-deflate_in_order : request_causes 0 false 8 8 0 ≡ (true ⇒ NotReady) ∷ (false ⇒ NoFeature)
+deflate_in_order : request_causes 0 false (new_request 8 8 0) ≡ (true ⇒ NotReady) ∷ (false ⇒ NoFeature)
     ∷ (true ⇒ QueueFull) ∷ (true ⇒ Nothing) ∷ []
 deflate_in_order = refl
 
-sweep_in_order : sweep_causes 207 0x100000026 false ≡ (true ⇒ NotReady) ∷ (true ⇒ NeedsReset)
+sweep_in_order : sweep_causes (at 207 0x100000026) false ≡ (true ⇒ NotReady) ∷ (true ⇒ NeedsReset)
     ∷ (true ⇒ NoFeature) ∷ (true ⇒ NotBallooned) ∷ []
 sweep_in_order = refl
 
-sweep_of_a_ballooned_page : sweep_causes 15 0x100000026 true ≡ (false ⇒ NotReady)
+sweep_of_a_ballooned_page : sweep_causes (at 15 0x100000026) true ≡ (false ⇒ NotReady)
     ∷ (false ⇒ NeedsReset) ∷ (true ⇒ NoFeature) ∷ (false ⇒ NotBallooned) ∷ []
 sweep_of_a_ballooned_page = refl
 
-sweep_tested_where_it_tells : sweep_causes 15 0x100000027 true ≡ (false ⇒ NotReady)
+sweep_tested_where_it_tells : sweep_causes (at 15 0x100000027) true ≡ (false ⇒ NotReady)
     ∷ (false ⇒ NeedsReset) ∷ (false ⇒ NoFeature) ∷ (false ⇒ NotBallooned) ∷ []
 sweep_tested_where_it_tells = refl

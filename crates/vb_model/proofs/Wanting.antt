@@ -18,8 +18,9 @@ use Rattle.vb_model.{specs.declared.replies.Reply.TheVariants.Refused, proofs.Ta
 use Rattle.vb_model.{specs.StepLaws.{NoFrameIsExact, NoMemoryIsExact}, specs.Layout.start_pages}
 use Rattle.vb_model.{proofs.CallSteps.{match_cases, all_filtered}, specs.declared.calls.Claim.Claim}
 use Rattle.vb_model.{specs.declared.replies.Refusal.Refusal, specs.declared.replies.Reply.Reply}
-use Rattle.vb_model.{specs.Step.{Performs, HonestStep}, specs.declared.calls.Call.Call}
+use Rattle.vb_model.{specs.Step.HonestStep, specs.declared.calls.Call.Call}
 use Rattle.vb_model.{specs.Guest.{Guest, frame_of}, specs.Tests.is_in}
+use Rattle.vb_model.proofs.Performed.{Performed, honest_case}
 
 or_first : (v b : Bool) → v ≡ true → (v || b) ≡ true
 or_first true b e = refl
@@ -51,7 +52,7 @@ pub none_refused : (claims : List Claim) (refusal : Refusal) → claims ≡ []
 none_refused claims refusal e r = let none : claim_refusal claims ≡ None = ap claim_refusal e in cc
 
 performs_refused : (call : Call) (g : Guest) (claims : List Claim) (reply : Reply) (new : Guest)
-    (refusal : Refusal) → Performs call g claims reply new → claim_refusal claims ≡ Some refusal
+    (refusal : Refusal) → Performed call g claims reply new → claim_refusal claims ≡ Some refusal
     → (reply ≡ Refused refusal) × (new.frames ≡ g.frames)
 performs_refused (Init wanted) g claims reply new refusal s r = grind arith
 performs_refused (Write page offset bytes) g claims reply new refusal s r = grind arith
@@ -95,8 +96,8 @@ refused_claims g call claims reply new refusal s r = cases g.rogue s
         (HonestStep g call claims reply new) → (reply ≡ Refused refusal) × (new.frames ≡ g.frames)
     cases true k = grind arith
     cases false p =
-        elim (match_cases (refusal_of g call) (Performs call g claims reply new)
-        (λ refusal. (claims ≡ []) × (reply ≡ Refused refusal) × (new ≡ g)) p) [
+        elim (match_cases (refusal_of g call) (Performed call g claims reply new)
+        (λ refusal. (claims ≡ []) × (reply ≡ Refused refusal) × (new ≡ g)) (honest_case g call claims reply new p)) [
           | inl d ↦ performs_refused call g claims reply new refusal d.1 r
           | inr k ↦ absurd (none_refused claims refusal k.2.0 r)
         ]
@@ -134,7 +135,7 @@ want : (frames : ℕ) (Out : ℕ → Type 0) (pages : List ℕ) (claims : List C
     → (got : List ℕ) × (length got < length pages)
     × ((x : ℕ) → x < frames → Out x ⊎ (is_in x got ≡ true))
 want frames Out [] [] gives a r = absurd cc
-want frames Out [] (claim ∷ claims) gives a r = absurd a
+want frames Out [] (claim ∷ claims) gives a r = absurd (let e : claim ∷ claims ≡ [] = a in cc)
 want frames Out (page ∷ pages) [] gives a r = absurd a
 want frames Out (page ∷ pages) (GaveNoMemory ∷ claims) gives a r = absurd cc
 want frames Out (page ∷ pages) (GaveNoFrame ∷ claims) gives a r =
@@ -194,7 +195,7 @@ pub no_want : {A : Type 0} (reply : Reply) (why : Refusal) → wants reply ≡ f
 no_want reply why f w e = absurd (let t : wants reply ≡ true = ap wants e ∙ w in cc)
 
 performs_lack : (call : Call) (g : Guest) (claims : List Claim) (reply : Reply) (new : Guest)
-    (why : Refusal) → Performs call g claims reply new → is_want why ≡ true
+    (why : Refusal) → Performed call g claims reply new → is_want why ≡ true
     → reply ≡ Refused why → Fails why call g claims new
 performs_lack call g claims reply new why s w e = search arith
 
@@ -207,8 +208,8 @@ step_lacks g call claims new s = cases g.rogue s
         (HonestStep g call claims (Refused NoFrame) new) → claim_refusal claims ≡ Some NoFrame
     cases true r = r.no_frame refl
     cases false p =
-        elim (match_cases (refusal_of g call) (Performs call g claims (Refused NoFrame) new)
-        (λ refusal. (claims ≡ []) × (Refused NoFrame ≡ Refused refusal) × (new ≡ g)) p) [
+        elim (match_cases (refusal_of g call) (Performed call g claims (Refused NoFrame) new)
+        (λ refusal. (claims ≡ []) × (Refused NoFrame ≡ Refused refusal) × (new ≡ g)) (honest_case g call claims (Refused NoFrame) new p)) [
           | inl d ↦
               elim (performs_lack call g claims (Refused NoFrame) new NoFrame d.1 refl refl) [
                 | inl lacks ↦ lacks.0
@@ -256,14 +257,21 @@ no_memory_exact g call claims new s = cases g.rogue s
     left (Sweep page) e = refl
     left Ask e = refl
 
+    caused : (claim_refusal claims ≡ Some NoMemory)
+        ⊎ ((page : ℕ) × (offset : ℕ) × (len : ℕ) × (call ≡ Read page offset len))
+        → (claim_refusal claims ≡ Some NoMemory) ⊎ (is_read call ≡ true)
+    caused (inl e) = inl e
+    caused (inr (page, offset, len, is)) = inr (ap is_read is)
+
     cases : (b : Bool) → MatchBool b (RogueStep g call claims (Refused NoMemory) new)
         (HonestStep g call claims (Refused NoMemory) new)
         → ((claim_refusal claims ≡ Some NoMemory) ⊎ (is_read call ≡ true)) × (new ≡ g)
     cases true r =
-        (r.no_memory refl, r.refused NoMemory refl ∙ left call (r.no_memory refl))
+        let by_cause = caused (r.no_memory refl) in
+        (by_cause, r.refused NoMemory refl ∙ left call by_cause)
     cases false p =
-        elim (match_cases (refusal_of g call) (Performs call g claims (Refused NoMemory) new)
-        (λ refusal. (claims ≡ []) × (Refused NoMemory ≡ Refused refusal) × (new ≡ g)) p) [
+        elim (match_cases (refusal_of g call) (Performed call g claims (Refused NoMemory) new)
+        (λ refusal. (claims ≡ []) × (Refused NoMemory ≡ Refused refusal) × (new ≡ g)) (honest_case g call claims (Refused NoMemory) new p)) [
           | inl d ↦
               elim (performs_lack call g claims (Refused NoMemory) new NoMemory d.1 refl refl) [
                 | inl lacks ↦ (inl lacks.0, lacks.1)

@@ -1,5 +1,5 @@
 -- A guest's course: its states in one life, and the entries between them; and words about one.
--- The headline needs all of it.
+-- The headline needs all of it but the last part.
 use Rattle.std.specs.Prelude.{◌≡◌, ℕ, zero, suc, ◌+◌, ◌-◌, ◌<◌, ◌≤◌, Bool, true, false, ◌==◌, ◌&&◌}
 use Rattle.std.specs.Prelude.{nat_le, nat_lt, List, [], ◌∷◌, ◌++◌, length, Option, Some, None}
 use Rattle.std.specs.Prelude.{slice_get, slice_index_or, if◌then◌else◌, IsSome, IsTrue, ◌⊎◌}
@@ -7,13 +7,14 @@ use Rattle.vb_model.specs.declared.places.Place.{Place}
 use Rattle.vb_model.specs.declared.places.Place.TheVariants.{Used}
 use Rattle.vb_model.specs.declared.calls.Actor.{Actor}
 use Rattle.vb_model.specs.declared.calls.Call.{Call}
-use Rattle.vb_model.specs.declared.calls.Call.TheVariants.{Write, Deflate, Oom, Reap}
+use Rattle.vb_model.specs.declared.calls.Call.TheVariants.{Read, Write, Deflate, Oom, Reap}
 use Rattle.vb_model.specs.declared.calls.Claim.{Claim}
 use Rattle.vb_model.specs.declared.replies.Reply.{Reply}
-use Rattle.vb_model.specs.declared.replies.Reply.TheVariants.{Done, Posted, Reaped}
+use Rattle.vb_model.specs.declared.replies.Reply.TheVariants.{Done, ReadBytes, Posted, Reaped}
 use Rattle.vb_model.specs.Pages.{place_of}
-use Rattle.vb_model.specs.Requests.{Request, names, Kind, Inflating, Deflating, queue_of}
-use Rattle.vb_model.specs.Guest.{Guest, requests, frame_of, tells_host}
+use Rattle.vb_model.specs.Tests.{is_in}
+use Rattle.vb_model.specs.Requests.{Request, Kind, Inflating, Deflating, queue_of}
+use Rattle.vb_model.specs.Guest.{Guest, requests, frame_of, must_tell_host}
 use Rattle.vb_model.specs.Driver.{contents_of}
 use Rattle.vb_model.specs.GuestRun.{Entry, Called}
 
@@ -55,7 +56,7 @@ pub record ReapedAt (kind : Kind) (c : Course) (page j : ℕ) : Type 0 where
   pub called : IsCall c j (Reap (queue_of kind)) (Reaped request.head (length request.pages))
   pub is_there : guest_after c j ≡ Some guest
   pub done : (requests kind guest).done ≡ request ∷ others
-  pub named : IsTrue (names page request)
+  pub named : IsTrue (is_in page request.pages)
 
 -- a call that posts a deflate request, which asks pages back
 abbrev pub posts_deflate : Call → Bool
@@ -74,7 +75,7 @@ pub record DeflatePostedAt (c : Course) (page j : ℕ) : Type 0 where
   pub is_there : guest_after c j ≡ Some before
   pub follows : guest_after c (j + 1) ≡ Some after
   pub posted : after.deflate.posted ≡ before.deflate.posted ++ (request ∷ [])
-  pub named : IsTrue (names page request)
+  pub named : IsTrue (is_in page request.pages)
 
 -- Between entries i and k the page was asked back: an inflate request that names it came back, and
 -- later a deflate request that names it was posted; which came back, too, where the guest had
@@ -87,11 +88,11 @@ pub record WasAskedBack (c : Course) (page i k : ℕ) : Type 0 where
   pub before : asked < k
   pub inflate : ReapedAt Inflating c page lent
   pub deflate : DeflatePostedAt c page asked
-  pub told : IsTrue (tells_host deflate.before)
+  pub told : IsTrue (must_tell_host deflate.before.features)
       → (j : ℕ) × (asked < j) × (j < k) × (reap : ReapedAt Deflating c page j)
       × (reap.request.head ≡ deflate.request.head) × (reap.request.pages ≡ deflate.request.pages)
 
--- ---- contents
+-- ---- for laws and proofs: what a page holds, and what a read of it gives
 
 -- entry i is the guest's own write to the page, and it was done
 abbrev pub IsWriteTo : Course → ℕ → ℕ → Type 0
@@ -131,3 +132,13 @@ last_put c page at i (suc k) old =
 abbrev pub StaysHeld : Course → ℕ → ℕ → ℕ → Type 0
 StaysHeld c page i k = (j : ℕ) → j ≤ k
     → (g : Guest) × (guest_after c (i + j) ≡ Some g) × IsAt g page Used
+
+-- a read of a page that was used since state i gives, byte by byte, what the last write since then
+-- put there, else the byte of the page in state i
+abbrev pub ReadsGiveLastWrites : Course → Type 0
+ReadsGiveLastWrites c = (page i k offset len : ℕ) (bytes : List ℕ) (g : Guest)
+    → StaysHeld c page i k → guest_after c i ≡ Some g
+    → IsCall c (i + k) (Read page offset len) (ReadBytes bytes)
+    → (length bytes ≡ len)
+    × ((j : ℕ) → j < len → slice_index_or bytes j 0
+    ≡ last_put c page (offset + j) i k (byte_of g page (offset + j)))

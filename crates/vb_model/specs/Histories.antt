@@ -1,39 +1,32 @@
 -- What is safe of one guest in one life: of its states, and of the entries between them. No world
 -- is in it, and so nothing is said of frames that two guests have.
--- The headline needs all of it; `IsSafeHistory` for guests on threads alone.
-use Rattle.std.specs.Prelude.{◌≡◌, ◌≢◌, ℕ, ◌+◌, ◌<◌, List, Some, slice_index_or, length, IsTrue}
-use Rattle.std.specs.Prelude.{◌↔◌, ◌⊎◌, count_by}
-use Rattle.vb_model.specs.declared.negotiation.TheConstants.{READY_STATUS}
-use Rattle.vb_model.specs.declared.places.Place.TheVariants.{Used, Giving, Reserved}
+-- The headline needs all of it but the last part; `IsSafeHistory` for guests on threads alone.
+use Rattle.std.specs.Prelude.{◌≡◌, ◌≢◌, ℕ, ◌+◌, ◌<◌, ◌≤◌, List, None, Some, IsSome, length, IsTrue}
+use Rattle.std.specs.Prelude.{◌↔◌, ◌⊎◌, count_by, take, drop}
+use Rattle.vb_model.specs.declared.negotiation.TheConstants.{OFFERED_FEATURES, READY_STATUS}
+use Rattle.vb_model.specs.declared.places.Place.TheVariants.{Used, Giving, Lent, Reserved}
 use Rattle.vb_model.specs.declared.calls.Call.{Call}
-use Rattle.vb_model.specs.declared.calls.Call.TheVariants.{Read}
+use Rattle.vb_model.specs.declared.calls.Call.TheVariants.{Read, Write}
 use Rattle.vb_model.specs.declared.replies.Refusal.TheVariants.{RingBroken, Broken}
 use Rattle.vb_model.specs.declared.replies.Reply.{Reply}
-use Rattle.vb_model.specs.declared.replies.Reply.TheVariants.{ReadBytes, Refused}
-use Rattle.vb_model.specs.Pages.{place_of, is_lent}
-use Rattle.vb_model.specs.Requests.{Request, names, given_away}
-use Rattle.vb_model.specs.Guest.{Guest, Config, fresh, frame_of, is_ballooned}
-use Rattle.vb_model.specs.Orderly.{AreAgreed}
+use Rattle.vb_model.specs.declared.replies.Reply.TheVariants.{Done, ReadBytes, Refused}
+use Rattle.vb_model.specs.Tests.{is_in}
+use Rattle.vb_model.specs.Pages.{place_of, is_place}
+use Rattle.vb_model.specs.Requests.{Request, given_away}
+use Rattle.vb_model.specs.Guest.{Guest, Config, fresh, frame_of, is_ballooned, version_1}
+use Rattle.vb_model.specs.Status.{contains}
+use Rattle.vb_model.specs.Driver.{contents_of, overwritten}
 use Rattle.vb_model.specs.GuestRun.{Entry, Leads, last_guest, all_entries}
 use Rattle.vb_model.specs.Courses.{Course, guest_after, IsCall, IsAt, BringsTo, WasAskedBack}
-use Rattle.vb_model.specs.Courses.{IsWriteTo, StaysOrLoses, byte_of, last_put, StaysHeld}
 
 -- some of these requests names the page
 abbrev pub IsNamed : ℕ → List Request → Type 0
-IsNamed page rs = 0 < count_by (names page) rs
-
--- what the device calls ballooned, the driver calls lent, but for requests on their way
-abbrev pub BothAgree : Guest → Type 0
-BothAgree g = (page : ℕ) →
-    IsTrue (is_ballooned g.ballooned page)
-    ↔ (IsTrue (is_lent (place_of g.places page))
-    ⊎ (IsNamed page g.inflate.done
-    ⊎ (IsNamed page g.deflate.posted ⊎ IsNamed page g.deflate.taken)))
+IsNamed page rs = 0 < count_by (λ r. is_in page r.pages) rs
 
 pub record IsSafeCourse (c : Course) : Type 0 where
   -- a guest that is ready agreed on features that its device offers
   pub agreed : (i : ℕ) (g : Guest) → guest_after c i ≡ Some g → g.status ≡ READY_STATUS
-      → AreAgreed g.features
+      → IsTrue (contains OFFERED_FEATURES g.features) × IsTrue (version_1 g.features)
   -- a used page keeps its frame
   pub keeps_frame : (i page frame : ℕ) (g g' : Guest) → guest_after c i ≡ Some g
       → guest_after c (i + 1) ≡ Some g' → IsAt g page Used → IsAt g' page Used
@@ -41,19 +34,28 @@ pub record IsSafeCourse (c : Course) : Type 0 where
   -- a page that isn't reserved holds what it did, but for the guest's own writes to it and the loss
   -- of its frame
   pub keeps_contents : (i page : ℕ) (g g' : Guest) → guest_after c i ≡ Some g
-      → guest_after c (i + 1) ≡ Some g' → ¬ IsAt g page Reserved → ¬ IsWriteTo c page i
-      → StaysOrLoses page g g'
-  -- a read of a page that was used since state i gives, byte by byte, what the last write since
-  -- then put there, else the byte of the page in state i
-  pub reads : (page i k offset len : ℕ) (bytes : List ℕ) (g : Guest) → StaysHeld c page i k
-      → guest_after c i ≡ Some g → IsCall c (i + k) (Read page offset len) (ReadBytes bytes)
-      → (length bytes ≡ len)
-      × ((j : ℕ) → j < len → slice_index_or bytes j 0
-      ≡ last_put c page (offset + j) i k (byte_of g page (offset + j)))
+      → guest_after c (i + 1) ≡ Some g' → ¬ IsAt g page Reserved
+      → ¬ ((offset : ℕ) × (bytes : List ℕ) × IsCall c i (Write page offset bytes) Done)
+      → (contents_of g' page ≡ contents_of g page)
+      ⊎ (IsSome (frame_of g.frames page) × (frame_of g'.frames page ≡ None))
+  -- a write to a page that is done lies in it, and puts its bytes there
+  pub writes : (i page offset : ℕ) (bytes : List ℕ) (g g' : Guest) → guest_after c i ≡ Some g
+      → guest_after c (i + 1) ≡ Some g' → IsCall c i (Write page offset bytes) Done
+      → (offset + length bytes ≤ length (contents_of g page))
+      × (contents_of g' page ≡ overwritten offset bytes (contents_of g page))
+  -- a read of a page gives just as many of its bytes as it asks for
+  pub reads : (i page offset len : ℕ) (bytes : List ℕ) (g : Guest) → guest_after c i ≡ Some g
+      → IsCall c i (Read page offset len) (ReadBytes bytes)
+      → (length bytes ≡ len) × (bytes ≡ take len (drop offset (contents_of g page)))
   -- a page that was offered is handed out again only after it was asked back
   pub told_first : (page i k : ℕ) → i < k → BringsTo c page Giving i → BringsTo c page Used k
       → WasAskedBack c page i k
-  pub both_agree : (i : ℕ) (g : Guest) → guest_after c i ≡ Some g → BothAgree g
+  -- what the device calls ballooned, the driver calls lent, but for requests on their way
+  pub both_agree : (i : ℕ) (g : Guest) → guest_after c i ≡ Some g → (page : ℕ)
+      → IsTrue (is_ballooned g.ballooned page)
+      ↔ (IsTrue (is_place Lent (place_of g.places page))
+      ⊎ (IsNamed page g.inflate.done
+      ⊎ (IsNamed page g.deflate.posted ⊎ IsNamed page g.deflate.taken)))
   pub actual : (i : ℕ) (g : Guest) → guest_after c i ≡ Some g
       → g.actual ≡ given_away g.places g.deflate
   pub not_broken : (i fault : ℕ) (call : Call) (reply : Reply) → IsCall c i call reply
@@ -71,3 +73,12 @@ pub record IsSafeHistory (config : Config) (target : ℕ) (entries : List Entry)
     entries = all_entries entries;
     after = after;
   })
+
+-- ---- for laws and proofs
+
+abbrev pub BothAgree : Guest → Type 0
+BothAgree g = (page : ℕ) →
+    IsTrue (is_ballooned g.ballooned page)
+    ↔ (IsTrue (is_place Lent (place_of g.places page))
+    ⊎ (IsNamed page g.inflate.done
+    ⊎ (IsNamed page g.deflate.posted ⊎ IsNamed page g.deflate.taken)))

@@ -1,11 +1,12 @@
 -- What an event of the host does, its guests' calls among them (profile).
--- The headline of a host needs all of it.
+-- The headline of a host needs all of it but the last part.
 use Rattle.std.specs.Prelude.{option_map}
 use Rattle.std.specs.Prelude.{◌≡◌, ℕ, ◌-◌, Bool}
 use Rattle.std.specs.Prelude.{List, [], ◌∷◌, Option, Some, None}
 use Rattle.std.specs.Prelude.{MatchOption, ◌⊎◌, filter_map, ⊤}
 use Rattle.vb_model.specs.declared.calls.Call.{Call}
 use Rattle.vb_model.specs.declared.calls.Event.{Event}
+use Rattle.vb_model.specs.declared.calls.GuestSize.{GuestSize}
 use Rattle.vb_model.specs.declared.calls.Event.TheVariants.{Plug, Unplug, Restart, Guest as OnGuest}
 use Rattle.vb_model.specs.declared.calls.Event.TheVariants.{Query as OnQuery, Balance}
 use Rattle.vb_model.specs.declared.calls.Event.TheVariants.{Frames as CountFrames}
@@ -18,30 +19,27 @@ use Rattle.vb_model.specs.Guest.{Guest, Config, fresh}
 use Rattle.vb_model.specs.FirstRefusal.{first_refusal}
 use Rattle.vb_model.specs.declared.calls.Claim.{Claim}
 use Rattle.vb_model.specs.Rogue.{GuestStep}
-use Rattle.vb_model.specs.Balance.{Need, need, IsAnswer}
+use Rattle.vb_model.specs.Balance.{Need, spare, IsAnswer}
 use Rattle.vb_model.specs.HostFrames.{IsOut, Gives, used_frames}
 use Rattle.vb_model.specs.HostRefusals.{world_causes}
 use Rattle.vb_model.specs.Queries.{Answers}
 use Rattle.vb_model.specs.World.{World, guest_at, put_guest}
 
--- the first spare becomes the new guest's device; the number is the one last given up, or any that
--- no guest has
-abbrev pub Plugs : Config → List Bool → World → Reply → World → Type 0
-Plugs config rest w reply new =
-    (n : ℕ)
-    × (guest_at w.guests n ≡ None)
-    × MatchOption w.vacated ⊤ (λ last. n ≡ last)
-    × (reply ≡ Plugged n)
-    × (new ≡ record (put_guest n (Some (fresh config 0)) w) { spares = rest; vacated = None })
-
--- or there is no memory for it, and nothing is changed
-abbrev pub PlugsIn : ℕ → ℕ → ℕ → List Bool → World → Reply → World → Type 0
-PlugsIn pages queue_size processors [] w reply new = ⊥
-PlugsIn pages queue_size processors (paced ∷ rest) w reply new =
+-- the first spare becomes the new guest's device; the number is the one last vacated, or any that
+-- no guest has; or there is no memory for it, and nothing is changed
+abbrev pub PlugsIn : GuestSize → List Bool → World → Reply → World → Type 0
+PlugsIn size [] w reply new = ⊥
+PlugsIn size (paced ∷ rest) w reply new =
+    let config : Config = record {
+      pages = size.pages;
+      queue_size = size.queue_size;
+      processors = size.processors;
+      paced = paced;
+    } in
     ((reply ≡ Refused NoMemory) × (new ≡ w))
-    ⊎ Plugs
-    (record { pages = pages; queue_size = queue_size; processors = processors; paced = paced })
-    rest w reply new
+    ⊎ ((n : ℕ) × (guest_at w.guests n ≡ None) × MatchOption w.vacated ⊤ (λ last. n ≡ last)
+    × (reply ≡ Plugged n)
+    × (new ≡ record (put_guest n (Some (fresh config 0)) w) { spares = rest; vacated = None }))
 
 -- a guest's own step; what its claims get is the host's
 abbrev pub Calls : ℕ → Guest → World → Call → Reply → World → Type 0
@@ -59,7 +57,8 @@ with_targets [] (Some g ∷ xs) = Some g ∷ with_targets [] xs
 with_targets (t ∷ ts) (Some g ∷ xs) = Some (record g { target = t }) ∷ with_targets ts xs
 
 abbrev pub needs : ℕ → World → List Need
-needs floor w = filter_map (option_map (need floor)) w.guests
+needs floor w =
+    filter_map (option_map (λ g. record { pages = g.config.pages; spare = spare floor g })) w.guests
 
 -- the targets of a balance's answer, where it has any, are the guests'
 abbrev pub after_balance : Reply → World → World
@@ -69,8 +68,7 @@ after_balance answer w = w
 -- an event that isn't refused; one of a guest gets that guest, and a restart leaves it as it was
 -- plugged in, with the target kept
 abbrev pub Happens : Event → World → Reply → World → Type 0
-Happens (Plug size) w reply new =
-    PlugsIn size.pages size.queue_size size.processors w.spares w reply new
+Happens (Plug size) w reply new = PlugsIn size w.spares w reply new
 Happens (Unplug n) w reply new =
     (reply ≡ Done) × (new ≡ record (put_guest n None w) { vacated = Some n })
 Happens (Restart n) w reply new =
@@ -90,3 +88,12 @@ WorldStep w event reply new =
     MatchOption (first_refusal (world_causes w event))
     (Happens event w reply new)
     (λ refusal. (reply ≡ Refused refusal) × (new ≡ w))
+
+-- for laws and proofs: the first spare becomes the device of a new guest
+abbrev pub Plugs : Config → List Bool → World → Reply → World → Type 0
+Plugs config rest w reply new =
+    (n : ℕ)
+    × (guest_at w.guests n ≡ None)
+    × MatchOption w.vacated ⊤ (λ last. n ≡ last)
+    × (reply ≡ Plugged n)
+    × (new ≡ record (put_guest n (Some (fresh config 0)) w) { spares = rest; vacated = None })

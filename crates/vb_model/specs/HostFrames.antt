@@ -2,8 +2,8 @@
 -- The headline of a host needs all of it.
 use Rattle.std.specs.Prelude.{◌≡◌, ℕ, ◌<◌}
 use Rattle.std.specs.Prelude.{List, [], ◌∷◌, Some}
-use Rattle.std.specs.Prelude.{◌⊎◌, sum_by, filter_map, ⊤}
-use Rattle.vb_model.specs.Guest.{Guest, frame_of, backed_count}
+use Rattle.std.specs.Prelude.{◌⊎◌, sum_by, count_by, is_some, filter_map, ⊤}
+use Rattle.vb_model.specs.Guest.{Guest, frame_of}
 use Rattle.vb_model.specs.declared.calls.Claim.{Claim}
 use Rattle.vb_model.specs.declared.calls.Claim.TheVariants.{Gave, GaveNoFrame, GaveNoMemory}
 use Rattle.vb_model.specs.World.{World, guest_at}
@@ -29,4 +29,5 @@ Gives frames Out (GaveNoFrame ∷ claims) = ((x : ℕ) → x < frames → Out x)
 Gives frames Out (GaveNoMemory ∷ claims) = (x : ℕ) × (x < frames) × (¬ Out x) × (claims ≡ [])
 
 abbrev pub used_frames : World → ℕ
-used_frames w = sum_by backed_count (filter_map (λ guest. guest) w.guests)
+used_frames w =
+    sum_by (λ g. count_by (λ frame. is_some frame) g.frames) (filter_map (λ guest. guest) w.guests)

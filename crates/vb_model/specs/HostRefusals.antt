@@ -5,8 +5,7 @@ use Rattle.std.specs.Prelude.{List, [], ◌∷◌, is_none, is_some}
 use Rattle.std.specs.Prelude.{count_by}
 use Rattle.vb_model.specs.declared.calls.Event.{Event}
 use Rattle.vb_model.specs.declared.calls.Event.TheVariants.{Plug, Unplug, Restart, Guest as OnGuest}
-use Rattle.vb_model.specs.declared.calls.Event.TheVariants.{Query as OnQuery, Balance}
-use Rattle.vb_model.specs.declared.calls.Event.TheVariants.{Frames as CountFrames}
+use Rattle.vb_model.specs.declared.calls.Event.TheVariants.{Query as OnQuery}
 use Rattle.vb_model.specs.declared.replies.Refusal.TheVariants.{NoGuest, BadConfig, TooMany}
 use Rattle.vb_model.specs.declared.replies.Refusal.TheVariants.{NoDevice}
 use Rattle.vb_model.specs.Limits.{is_config}
@@ -30,5 +29,4 @@ world_causes w (Unplug n) = (lacks_guest w n ⇒ NoGuest) ∷ []
 world_causes w (Restart n) = (lacks_guest w n ⇒ NoGuest) ∷ []
 world_causes w (OnGuest n call) = (lacks_guest w n ⇒ NoGuest) ∷ []
 world_causes w (OnQuery n query) = (lacks_guest w n ⇒ NoGuest) ∷ []
-world_causes w (Balance floor) = []
-world_causes w CountFrames = []
+world_causes w _ = []

@@ -1,6 +1,5 @@
 -- What else holds of an honest guest: its requests are in order, its pages and blocks lie where
 -- they may, its status is one of three, and it is ready with features that it has agreed on.
--- The headline needs `AreAgreed` alone.
 use Rattle.std.specs.Prelude.{◌≡◌, ℕ, ◌+◌, ◌<◌, ◌≤◌, List, [], ◌∷◌, length}
 use Rattle.std.specs.Prelude.{nat_lt, min, ⊤, ◌⊎◌, IsTrue}
 use Rattle.vb_model.specs.declared.negotiation.TheConstants.{FAILED_STATUS, OFFERED_FEATURES}

@@ -13,12 +13,13 @@ use Rattle.vb_model.specs.World.{World, guest_at}
 use Rattle.vb_model.specs.HostEvents.{WorldStep}
 use Rattle.vb_model.specs.Run.{History, states}
 use Rattle.vb_model.specs.GuestRun.{InOneLife, Alone}
-use Rattle.vb_model.specs.Courses.{Course, guest_after, IsAt, IsWriteTo}
+use Rattle.vb_model.specs.Courses.{Course, guest_after, IsAt, IsWriteTo, ReadsGiveLastWrites}
 use Rattle.vb_model.specs.Histories.{BothAgree, IsSafeCourse}
 use Rattle.vb_model.specs.Safe.{IsHonest, part}
 
 -- From state i, where guest n is g, the next k events are of one life, at whose end it is honest:
--- then what these events were to it is not only safe, but leads it from state to state by itself.
+-- then what these events were to it is not only safe, but leads it from state to state by itself,
+-- and a read of a page that an allocation holds gives what was last written there.
 -- Other guests matter to it only by which frames its claims are given, and by the targets that
 -- balances set.
 abbrev pub LivesAreAlone : History → Type 0
@@ -26,6 +27,7 @@ LivesAreAlone h = (n i k : ℕ) (w : World) (g new : Guest) → slice_get (state
     → guest_at w.guests n ≡ Some g → IsHonest h n (i + k) new → InOneLife n (part i k h.events)
     → (own : Alone n w (part i k h.events) (part i k h.replies) (part i k h.after) g)
     × IsSafeCourse (record { first = g; entries = own.entries; after = own.guests })
+    × ReadsGiveLastWrites (record { first = g; entries = own.entries; after = own.guests })
 
 -- with no inflate or deflate request the device calls ballooned just what the driver calls lent
 abbrev pub QuietAgree : Type 0

@@ -1,11 +1,11 @@
 -- How many pages the driver's calls move, and what each call is refused for, in the order in which
 -- it is tested (profile).
 -- Both stand here once, over plain values; a guest, a driver and a device each put in their own.
--- The headline needs all of it but `has_fault`.
+-- The headline needs all of it but the last part.
 use Rattle.std.specs.Prelude.{◌++◌}
 use Rattle.std.specs.Prelude.{ℕ, ◌+◌, ◌-◌, Bool, false, not, ◌==◌, ◌&&◌, ◌||◌, nat_lt, nat_le, List}
-use Rattle.std.specs.Prelude.{[], ◌∷◌, length, if◌then◌else◌, Option, Some, None, is_some, is_none}
-use Rattle.std.specs.Prelude.{min, max, count_by}
+use Rattle.std.specs.Prelude.{[], ◌∷◌, if◌then◌else◌, Option, is_some, is_none}
+use Rattle.std.specs.Prelude.{min, max, count_by, unwrap_or, option_map}
 use Rattle.std.specs.List.{list_any, range_with_len}
 use Rattle.vb_model.specs.declared.layout.TheConstants.{DEFLATE_QUEUE, STATISTICS_QUEUE}
 use Rattle.vb_model.specs.declared.layout.TheConstants.{REPORT_QUEUE}
@@ -19,10 +19,22 @@ use Rattle.vb_model.specs.declared.replies.Refusal.TheVariants.{NotTaken, NotWor
 use Rattle.vb_model.specs.declared.limits.TheConstants.{MAX_ORDER}
 use Rattle.vb_model.specs.declared.limits.TheConstants.{MAX_OUTSTANDING, MAX_REQUEST_PAGES}
 use Rattle.vb_model.specs.Pages.{Block, block_at, is_place, is_wholly_free, is_same_block}
-use Rattle.vb_model.specs.Requests.{Request, kind_of_queue}
+use Rattle.vb_model.specs.Requests.{Request, is_unvisited, kind_of_queue}
 use Rattle.vb_model.specs.Guest.{must_tell_host, stats_vq, reporting}
 use Rattle.vb_model.specs.FirstRefusal.{Cause, ◌⇒◌}
 use Rattle.vb_model.specs.Status.{contains, driver_ok, needs_reset, failed}
+
+-- what a device and its driver have come to
+pub record Negotiated : Type 0 where
+  pub status : ℕ
+  pub features : ℕ
+
+-- a request that a call would post: how many of its kind are outstanding, how many there may be,
+-- and how many pages or blocks it would name
+pub record NewRequest : Type 0 where
+  pub outstanding : ℕ
+  pub most : ℕ
+  pub count : ℕ
 
 -- ---- the numbers of pages that the driver's calls move, at most `n` and at most those of a
 -- request
@@ -63,26 +75,11 @@ is_not_ready status = not (contains status driver_ok) || contains status failed
 
 -- ---- queues
 
-abbrev pub is_queue_of_requests : ℕ → Bool
-is_queue_of_requests q = is_some (kind_of_queue q)
-
--- a chain can be taken from a queue of this number
-abbrev pub has_chains : ℕ → Bool
-has_chains q = is_queue_of_requests q || (q == STATISTICS_QUEUE)
-
 -- the queue stands or falls with a feature that wasn't negotiated
 abbrev pub lacks_feature : (features q : ℕ) → Bool
 lacks_feature features q =
-    (q == STATISTICS_QUEUE) && not (stats_vq features) || (q == REPORT_QUEUE)
-    && not (reporting features)
-
--- of a queue so many chains may be taken at a time
-abbrev pub most_taken : ℕ → ℕ
-most_taken q = if q == STATISTICS_QUEUE then 1 else MAX_OUTSTANDING
-
-abbrev pub has_unvisited : Option Request → Bool
-has_unvisited None = false
-has_unvisited (Some r) = nat_lt r.visited (length r.pages)
+    (q == STATISTICS_QUEUE) && not (stats_vq features)
+    || (q == REPORT_QUEUE) && not (reporting features)
 
 -- ---- pages of the guest's own (Gorman, chapter 6)
 
@@ -96,9 +93,9 @@ abbrev pub is_not_held : (held : List Block) (b : Block) → Bool
 is_not_held held b = not (list_any (λ h. is_same_block h b) held)
 
 -- of a block that a processor asks for, and of one that it gives back
-abbrev pub block_causes : (order processors cpu : ℕ) (last : Cause) → List Cause
-block_causes order processors cpu last =
-    (nat_lt MAX_ORDER order ⇒ BadOrder) ∷ (nat_le processors cpu ⇒ BadCpu) ∷ last ∷ []
+abbrev pub block_causes : (order : ℕ) (is_no_cpu : Bool) (last : Cause) → List Cause
+block_causes order is_no_cpu last =
+    (nat_lt MAX_ORDER order ⇒ BadOrder) ∷ (is_no_cpu ⇒ BadCpu) ∷ last ∷ []
 
 -- ---- the driver's calls
 
@@ -106,29 +103,29 @@ block_causes order processors cpu last =
 abbrev pub driver_causes : (status : ℕ) (lacks : Bool) → List Cause
 driver_causes status lacks = (not (is_up status) ⇒ NotReady) ∷ (lacks ⇒ NoFeature) ∷ []
 
--- deflate, which needs no feature, oom and report: how many requests are outstanding, how many may
--- be, and how many pages or blocks a new one would name
-abbrev pub request_causes : (status : ℕ) (lacks : Bool) (outstanding most count : ℕ) → List Cause
-request_causes status lacks outstanding most count =
+-- deflate, which needs no feature, oom and report
+abbrev pub request_causes : (status : ℕ) (lacks : Bool) → NewRequest → List Cause
+request_causes status lacks new =
     driver_causes status lacks
-    ++ (nat_le most outstanding ⇒ QueueFull)
-    ∷ ((count == 0) ⇒ Nothing)
+    ++ (nat_le new.most new.outstanding ⇒ QueueFull)
+    ∷ ((new.count == 0) ⇒ Nothing)
     ∷ []
 
 -- inflate: where the guest doesn't tell the host first, pages to offer may be among those that a
 -- pending deflate names, which would take them out of the balloon later
-abbrev pub inflate_causes : (status features pending outstanding most count : ℕ) → List Cause
-inflate_causes status features pending outstanding most count =
-    (not (is_up status) ⇒ NotReady)
-    ∷ (nat_le most outstanding ⇒ QueueFull)
-    ∷ ((not (must_tell_host features) && nat_lt 0 pending) ⇒ DeflatePending)
-    ∷ ((count == 0) ⇒ Nothing)
+abbrev pub inflate_causes : Negotiated → (pending : ℕ) → NewRequest → List Cause
+inflate_causes now pending new =
+    (not (is_up now.status) ⇒ NotReady)
+    ∷ (nat_le new.most new.outstanding ⇒ QueueFull)
+    ∷ ((not (must_tell_host now.features) && nat_lt 0 pending) ⇒ DeflatePending)
+    ∷ ((new.count == 0) ⇒ Nothing)
     ∷ []
 
 -- of a reap, before the used ring is read
-abbrev pub reap_causes : (q status features : ℕ) → List Cause
-reap_causes q status features =
-    (not (is_queue_of_requests q) ⇒ NoQueue) ∷ driver_causes status (lacks_feature features q)
+abbrev pub reap_causes : (q : ℕ) → Negotiated → List Cause
+reap_causes q now =
+    (not (is_some (kind_of_queue q)) ⇒ NoQueue)
+    ∷ driver_causes now.status (lacks_feature now.features q)
 
 -- ---- the device's calls
 
@@ -138,38 +135,53 @@ work_causes status =
     (is_not_ready status ⇒ NotReady) ∷ (contains status needs_reset ⇒ NeedsReset) ∷ []
 
 -- of a take, before guest memory is read, where so many chains of the queue are taken
-abbrev pub take_causes : (q status features taken : ℕ) → List Cause
-take_causes q status features taken =
-    (not (has_chains q) ⇒ NoQueue)
-    ∷ work_causes status
-    ++ (lacks_feature features q ⇒ NoQueue)
-    ∷ (nat_le (most_taken q) taken ⇒ Busy)
+abbrev pub take_causes : (q : ℕ) → Negotiated → (taken : ℕ) → List Cause
+take_causes q now taken =
+    (not (is_some (kind_of_queue q) || (q == STATISTICS_QUEUE)) ⇒ NoQueue)
+    ∷ work_causes now.status
+    ++ (lacks_feature now.features q ⇒ NoQueue)
+    ∷ (nat_le (if q == STATISTICS_QUEUE then 1 else MAX_OUTSTANDING) taken ⇒ Busy)
     ∷ []
 
 -- of a finish of this taken request, if there is one
-abbrev pub finish_causes : (q status : ℕ) (paced : Bool) (taken : Option Request) → List Cause
-finish_causes q status paced taken =
-    (not (is_queue_of_requests q) ⇒ NoQueue)
-    ∷ work_causes status
+abbrev pub finish_causes : (q : ℕ) → Negotiated → (paced : Bool) (taken : Option Request)
+    → List Cause
+finish_causes q now paced taken =
+    (not (is_some (kind_of_queue q)) ⇒ NoQueue)
+    ∷ work_causes now.status
     ++ (is_none taken ⇒ NotTaken)
-    ∷ ((paced && not (q == DEFLATE_QUEUE) && has_unvisited taken) ⇒ NotWorked)
+    ∷ ((paced && not (q == DEFLATE_QUEUE) && unwrap_or (option_map is_unvisited taken) false)
+    ⇒ NotWorked)
     ∷ []
 
 -- of a sweep: without MUST_TELL_HOST a guest may use a ballooned page that it has asked back
-abbrev pub sweep_causes : (status features : ℕ) (ballooned : Bool) → List Cause
-sweep_causes status features ballooned =
-    work_causes status
-    ++ (not (must_tell_host features) ⇒ NoFeature)
+abbrev pub sweep_causes : Negotiated → (ballooned : Bool) → List Cause
+sweep_causes now ballooned =
+    work_causes now.status
+    ++ (not (must_tell_host now.features) ⇒ NoFeature)
     ∷ (not ballooned ⇒ NotBallooned)
     ∷ []
 
 -- of the return of the statistics buffer, which is taken or isn't
 abbrev pub ask_causes : (status : ℕ) (taken : Bool) → List Cause
-ask_causes status taken =
-    work_causes status
-    ++ (not taken ⇒ NotTaken)
-    ∷ []
+ask_causes status taken = work_causes status ++ (not taken ⇒ NotTaken) ∷ []
 
--- for devices: a broken rule was met
+-- ---- for laws and proofs
+
+abbrev pub is_queue_of_requests : ℕ → Bool
+is_queue_of_requests q = is_some (kind_of_queue q)
+
+-- a chain can be taken from a queue of this number
+abbrev pub has_chains : ℕ → Bool
+has_chains q = is_queue_of_requests q || (q == STATISTICS_QUEUE)
+
+-- of a queue so many chains may be taken at a time
+abbrev pub most_taken : ℕ → ℕ
+most_taken q = if q == STATISTICS_QUEUE then 1 else MAX_OUTSTANDING
+
+abbrev pub has_unvisited : Option Request → Bool
+has_unvisited taken = unwrap_or (option_map is_unvisited taken) false
+
+-- a broken rule was met
 abbrev pub has_fault : ℕ → Bool
 has_fault status = contains status needs_reset

@@ -1,8 +1,8 @@
 //! Laws about the definitions. Each is the contract of a function that does nothing.
 
-ghost use Rattle.std.specs.Prelude.{ℕ, ◌≤◌, Bool, List, [], ◌∷◌, ◌≡◌, Some, false};
+ghost use Rattle.std.specs.Prelude.{ℕ, ◌≤◌, Bool, List, [], ◌∷◌, ◌≡◌, Option, Some, false};
 ghost use Rattle.vb_model.specs.Run.{History, Run, Steps, last_world, guest_in};
-ghost use Rattle.vb_model.specs.Safe.{Safe, IsHonest, IsSafeRun};
+ghost use Rattle.vb_model.specs.Safe.{IsSafeOf, IsHonest, IsSafeRun};
 ghost use Rattle.vb_model.specs.Consistent.{IsConsistent};
 ghost use Rattle.vb_model.specs.Orderly.{IsOrderly};
 ghost use Rattle.vb_model.specs.Blank.{IsBlank};
@@ -19,8 +19,9 @@ ghost use Rattle.vb_model.specs.SafeLaws.{LivesAreAlone};
 ghost use Rattle.vb_model.specs.SafeLaws.{QuietAgree, UsedPagesStay, HonestMeetNoFault};
 ghost use Rattle.vb_model.specs.HonestRuns.{HonestStay, HonestAreIdleUnlessReady};
 ghost use Rattle.vb_model.specs.Histories.{IsSafeHistory};
+ghost use Rattle.vb_model.specs.Courses.{ReadsGiveLastWrites};
 ghost use Rattle.vb_model.specs.Determined.{HonestStepsAgree};
-ghost use Rattle.vb_model.specs.GuestRun.{Alone, Entry, InOneLife, IsHistory};
+ghost use Rattle.vb_model.specs.GuestRun.{Alone, Entry, InOneLife, IsHistory, Leads};
 ghost use Rattle.vb_model.specs.HostLaws.{HostStepsAgree, CallsLeaveTheHost};
 ghost use Rattle.vb_model.specs.Telling.{ToldStepsAgree};
 ghost use Rattle.vb_model.specs.Sizes.{HasSmallShape, SmallConfigsAreConfigs};
@@ -29,13 +30,14 @@ ghost use Rattle.vb_model.specs.declared.replies.Reply.{Reply};
 ghost use Rattle.vb_model.specs.declared.replies.Reply.TheVariants.{Plugged, Ready, Page, Done};
 ghost use Rattle.vb_model.specs.declared.replies.Reply.TheVariants.{Posted, Taken, Finished};
 ghost use Rattle.vb_model.specs.declared.replies.Reply.TheVariants.{ReadBytes, Reaped};
-ghost use Rattle.vb_model.specs.Guest.{Config, Guest};
+ghost use Rattle.vb_model.specs.Guest.{Config, Guest, fresh};
 ghost use Rattle.vb_model.specs.World.{World, guest_at};
 
 /// Every run is safe, whatever events come in whatever order; and in each life of an honest guest
 /// its own entries lead it from state to state, whatever others do.
 pub fn every_run_is_safe()
-    ensures safe { (frames : ℕ) (spares : List Bool) (h : History) → Run frames spares h → Safe h }
+    ensures safe { (frames : ℕ) (spares : List Bool) (h : History) → Run frames spares h
+        → IsSafeOf h }
     ensures alone { (frames : ℕ) (spares : List Bool) (h : History) → Run frames spares h
         → LivesAreAlone h }
 {}
@@ -232,4 +234,8 @@ pub fn small_guests_are_as_ever()
 pub fn every_history_is_safe()
     ensures safe { (config : Config) (target : ℕ) (entries : List Entry) (last : Guest)
         → IsHistory config target entries last → IsSafeHistory config target entries last }
+    ensures reads { (config : Config) (target : ℕ) (entries : List (Option Entry))
+        (after : List Guest) → Leads (fresh config target) entries after
+        → ReadsGiveLastWrites
+        (record { first = fresh config target; entries = entries; after = after }) }
 {}

@@ -18,12 +18,13 @@ use Rattle.vb_model.{specs.GuestRun.{Called, EntryStep, is_scribbled}, specs.Rog
 use Rattle.vb_model.{proofs.OrderlySteps.{honest_order, fresh_order}, specs.Consistent.IsConsistent}
 use Rattle.vb_model.{specs.declared.calls.Actor.TheVariants.Starter, specs.declared.calls.Call.Call}
 use Rattle.vb_model.{proofs.Unchanged.{step_keeps, IsScribble}, specs.declared.replies.Reply.Reply}
-use Rattle.vb_model.{proofs.AttentiveSteps.honest_attentive, specs.Refusals.{refusal_of, taken_at}}
+use Rattle.vb_model.{proofs.AttentiveSteps.honest_attentive, specs.Refusals.{refusal_of, taken_of}}
 use Rattle.vb_model.{specs.Guest.{Guest, Config, fresh}, proofs.GuestSteps.fresh_consistent}
-use Rattle.vb_model.{specs.Step.{Performs, HonestStep}, specs.declared.calls.Actor.Actor}
+use Rattle.vb_model.{specs.Step.HonestStep, specs.declared.calls.Actor.Actor}
 use Rattle.vb_model.{specs.declared.calls.Claim.Claim, specs.FirstRefusal.first_refusal}
 use Rattle.vb_run.specs.Plans.{may_stand, is_actor_call}
 use Rattle.vb_run.specs.Services.{services, found_nothing, IsQuiet, IsTended, IsServed, is_waiting}
+use Rattle.vb_model.{specs.Tables.Negotiated, proofs.Performed.{Performed, honest_case}}
 
 -- ---- which calls these are
 
@@ -67,7 +68,7 @@ is_service Ask = true
 is_service _ = false
 
 performs_quiet : (call : Call) (g : Guest) (claims : List Claim) (reply : Reply) (new : Guest)
-    → is_service call ≡ true → Performs call g claims reply new → found_nothing reply ≡ true
+    → is_service call ≡ true → Performed call g claims reply new → found_nothing reply ≡ true
     → new ≡ g
 performs_quiet call g claims reply new v s t = grind (arith, match_cases, takes_quiet)
 
@@ -75,8 +76,9 @@ pub quiet_step : (g : Guest) (n : ℕ) (call : Call) (claims : List Claim) (repl
     (new : Guest) → slice_get services n ≡ Some call → HonestStep g call claims reply new
     → found_nothing reply ≡ true → new ≡ g
 quiet_step g n call claims reply new e s t =
-    elim (match_cases (refusal_of g call) (Performs call g claims reply new)
-    (λ refusal. (claims ≡ []) × (reply ≡ Refused refusal) × (new ≡ g)) s) [
+    elim (match_cases (refusal_of g call) (Performed call g claims reply new)
+    (λ refusal. (claims ≡ []) × (reply ≡ Refused refusal) × (new ≡ g))
+    (honest_case g call claims reply new s)) [
       | inl p ↦ performs_quiet call g claims reply new
           (each_passes is_service services refl n call e) p.1 t
       | inr r ↦ r.2.2
@@ -111,13 +113,14 @@ takes_steady : (kind : Kind) (posted : List Request) (g : Guest) (reply : Reply)
 takes_steady kind posted g reply new s = grind arith
 
 performs_steady : (call : Call) (g : Guest) (claims : List Claim) (reply : Reply) (new : Guest)
-    → is_actor_call call ≡ true → Performs call g claims reply new → Steady g new
+    → is_actor_call call ≡ true → Performed call g claims reply new → Steady g new
 performs_steady call g claims reply new p s =
     grind (arith, steady, asks_steady, match_cases, reaps_steady, takes_steady)
 
 honest_steady : (g : Guest) (call : Call) (claims : List Claim) (reply : Reply) (new : Guest)
     → is_actor_call call ≡ true → HonestStep g call claims reply new → Steady g new
-honest_steady g call claims reply new p s = grind (arith, match_cases, performs_steady)
+honest_steady g call claims reply new p s =
+    grind (arith, match_cases, performs_steady, honest_case g call claims reply new s)
 
 -- ---- a tended guest stays tended
 
@@ -185,8 +188,8 @@ started config claims reply new c s =
 
 -- a call that finds nothing and isn't refused was performed
 performed : (g : Guest) (call : Call) (q : IsQuiet g call) → refusal_of g call ≡ None
-    → Performs call g q.claims q.reply g
-performed g call q e = grind arith
+    → Performed call g q.claims q.reply g
+performed g call q e = grind (arith, honest_case g call q.claims q.reply g q.step)
 
 -- no page of these waits to be visited, where the device is paced
 abbrev NoWork : Bool → List Request → Type 0
@@ -200,14 +203,18 @@ works_none a b g reply new s t = grind arith
 
 -- ---- calls on a ready guest that aren't refused
 
+-- what a driver and its device have come to
+abbrev come_to : ℕ → ℕ → Negotiated
+come_to status features = record { status = status; features = features }
+
 open_take : (q status features taken : ℕ) → status ≡ 15 → features ≡ OFFERED_FEATURES → taken ≡ 0
-    → first_refusal (take_causes q 15 OFFERED_FEATURES 0) ≡ None
-    → first_refusal (take_causes q status features taken) ≡ None
+    → first_refusal (take_causes q (come_to 15 OFFERED_FEATURES) 0) ≡ None
+    → first_refusal (take_causes q (come_to status features) taken) ≡ None
 open_take q status features taken up f none h = grind arith
 
 open_finish : (q status : ℕ) (paced : Bool) (taken : Option Request) (r : Request) → status ≡ 15
-    → taken ≡ Some r → first_refusal (finish_causes q 15 paced (Some r)) ≡ None
-    → first_refusal (finish_causes q status paced taken) ≡ None
+    → taken ≡ Some r → first_refusal (finish_causes q (come_to 15 0) paced (Some r)) ≡ None
+    → first_refusal (finish_causes q (come_to status 0) paced taken) ≡ None
 open_finish q status paced taken r up e h = grind arith
 
 open_work : (status : ℕ) → status ≡ 15 → first_refusal (work_causes status) ≡ None
@@ -230,15 +237,15 @@ all_visited r rest w = step (is_unvisited r) refl w
 
 -- so a finish of it isn't refused
 inflate_open : (paced : Bool) (r : Request) (rest : List Request) → NoWork paced (r ∷ rest)
-    → first_refusal (finish_causes 0 15 paced (Some r)) ≡ None
+    → first_refusal (finish_causes 0 (come_to 15 0) paced (Some r)) ≡ None
 inflate_open paced r rest w = grind (arith, all_visited)
 
 report_open : (paced : Bool) (r : Request) (rest : List Request) → NoWork paced (r ∷ rest)
-    → first_refusal (finish_causes 4 15 paced (Some r)) ≡ None
+    → first_refusal (finish_causes 4 (come_to 15 0) paced (Some r)) ≡ None
 report_open paced r rest w = grind (arith, all_visited)
 
 deflate_open : (paced : Bool) (r : Request)
-    → first_refusal (finish_causes 1 15 paced (Some r)) ≡ None
+    → first_refusal (finish_causes 1 (come_to 15 0) paced (Some r)) ≡ None
 deflate_open true r = refl
 deflate_open false r = refl
 
@@ -249,14 +256,14 @@ unfinished g q quiet e = grind arith
 
 -- so no request is taken whose finish wouldn't be refused
 none_taken : (q : ℕ) (g : Guest) (rs : List Request) → g.status ≡ 15 → IsQuiet g (Finish q 0)
-    → taken_at g q 0 ≡ slice_get rs 0
+    → slice_get (taken_of g q) 0 ≡ slice_get rs 0
     → ((r : Request) (rest : List Request) → rs ≡ r ∷ rest
-    → first_refusal (finish_causes q 15 g.config.paced (Some r)) ≡ None)
+    → first_refusal (finish_causes q (come_to 15 0) g.config.paced (Some r)) ≡ None)
     → rs ≡ []
 none_taken q g [] up quiet e free = refl
 none_taken q g (r ∷ rest) up quiet e free =
     unfinished g q quiet
-    (open_finish q g.status g.config.paced (taken_at g q 0) r up e (free r rest refl))
+    (open_finish q g.status g.config.paced (slice_get (taken_of g q) 0) r up e (free r rest refl))
 
 -- ---- posted requests
 

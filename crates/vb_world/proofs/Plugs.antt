@@ -14,6 +14,7 @@ use Rattle.vb_model.{specs.declared.replies.Refusal.TheVariants.NoDevice, specs.
 use Rattle.vb_model.{specs.Guest.{Config, fresh}, specs.World.{World, guest_at, with_guest, made}}
 use Rattle.vb_model.{specs.HostEvents.{Plugs, PlugsIn, WorldStep}, specs.HostRefusals.plugged_count}
 use Rattle.vb_model.proofs.Changes.{with_guest-same, with_guest-other}
+use Rattle.vb_model.specs.declared.calls.GuestSize.{GuestSize}
 use Rattle.vb_frames.specs.Out.{is_out}
 use Rattle.vb_ram.{specs.Pages.Pages, specs.Part.Part}
 use Rattle.vb_slot.{specs.Spare.IsSpare, proofs.Fresh.backs_none}
@@ -53,6 +54,11 @@ host_made Stand P paced slots out devices frames empty room none all = record {
 }
 
 -- ---- a plug
+
+-- the size that a plug asks for
+abbrev pub sized : ℕ → ℕ → ℕ → GuestSize
+sized pages queue_size processors =
+    record { pages = pages; queue_size = queue_size; processors = processors }
 
 module _ {S D : Type 0} (Stand : S → Guest → Type 0) (Spare : D → Bool → Type 0) (slots : Slab S)
     (out : List Bool) (devices : List D) (w : World) where
@@ -104,7 +110,7 @@ module _ {S D : Type 0} (Stand : S → Guest → Type 0) (Spare : D → Bool →
       → Stand s (fresh (record
       { pages = pages; queue_size = queue_size; processors = processors; paced = pace }) 0)
       → (new : World) × IsHost Stand Spare slots' out rest new
-      × PlugsIn pages queue_size processors w.spares w (Plugged n) new
+      × PlugsIn (sized pages queue_size processors) w.spares w (Plugged n) new
   plugged n s slots' d rest pages queue_size processors host e few key vacant new len capacity
       pace is_pace stands =
       let has = spare_of d rest host e in
@@ -152,7 +158,7 @@ module _ {S D : Type 0} (Stand : S → Guest → Type 0) (Spare : D → Bool →
       (n, none, given host key, refl, refl) in (
         after,
         stood,
-        subst (λ (ps : List Bool). PlugsIn pages queue_size processors ps w (Plugged n)
+        subst (λ (ps : List Bool). PlugsIn (sized pages queue_size processors) ps w (Plugged n)
             after) (sym has.there) (inr plug),
       )
     where
@@ -167,11 +173,11 @@ module _ {S D : Type 0} (Stand : S → Guest → Type 0) (Spare : D → Bool →
 
   -- there was no memory for it
   pub not_plugged : (pages queue_size processors : ℕ) → IsHost Stand Spare slots out devices w
-      → 0 < length devices → PlugsIn pages queue_size processors w.spares w (Refused NoMemory) w
+      → 0 < length devices → PlugsIn (sized pages queue_size processors) w.spares w (Refused NoMemory) w
   not_plugged pages queue_size processors host some = of devices w.spares host.spares some
     where
       of : (ds : List D) (ps : List Bool) → AreSpares Spare ds ps → 0 < length ds
-          → PlugsIn pages queue_size processors ps w (Refused NoMemory) w
+          → PlugsIn (sized pages queue_size processors) ps w (Refused NoMemory) w
       of [] ps h l = absurd (omega (arith, l))
       of (d ∷ ds) [] h l = absurd h
       of (d ∷ ds) (p ∷ ps) h l = inl (refl, refl)
@@ -251,7 +257,7 @@ module _ {S D : Type 0} (Stand : S → Guest → Type 0) (Spare : D → Bool →
   pub plug_happens : (reply : Reply) (new : World) → IsHost Stand Spare slots out devices w
       → is_config pages queue_size processors ≡ true → slab_len slots < max_guests
       → 0 < length devices
-      → PlugsIn pages queue_size processors w.spares w reply new
+      → PlugsIn (sized pages queue_size processors) w.spares w reply new
       → WorldStep w (plug pages queue_size processors) reply new
   plug_happens reply new host e few some happens =
       rw (

@@ -153,7 +153,11 @@ impl World {
         requires some { 0 < vec_len self.old.spares }
         ensures { (w : Model) → IsWorld mem part self.old w →
             (new : Model) × IsWorld mem part self.new new ×
-            PlugsIn config.pages config.queue_size config.processors w.spares w result new }
+            PlugsIn (record {
+              pages = config.pages;
+              queue_size = config.queue_size;
+              processors = config.processors;
+            }) w.spares w result new }
     {
         let device = self.spares.remove(0);
         match Slot::new(alloc, device, config) {
