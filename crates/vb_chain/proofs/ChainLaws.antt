@@ -48,8 +48,7 @@ flags_indirect more writable piece n = grind arith
 -- no rule is broken where each of them is kept
 pub no_fault : (q end : ℕ) (writing : Bool) (k : ℕ) (x : Descriptor) → flag x 4 ≡ false
     → x.addr + x.len ≤ end → (writing ≡ true → is_writable x ≡ true)
-    → (has_next x ≡ true → (x.next < q) × (k + 1 < q))
-    → first_fault q end writing k x ≡ None
+    → (has_next x ≡ true → (x.next < q) × (k + 1 < q)) → first_fault q end writing k x ≡ None
 no_fault q end writing k x direct fits way next = grind (arith, common_steps)
 
 -- a test that some element meets, where one does
@@ -64,8 +63,7 @@ any_at p (x ∷ xs) h = first (p x) refl (any_at p xs)
     first true e more = (0, omega arith, e)
     first false e more =
         let rest : list_any p xs ≡ true = ap (λ b. b || list_any p xs) (sym e) ∙ h in
-        let found = more rest in
-        (suc found.0, omega (arith, found.1), found.2)
+        let found = more rest in (suc found.0, omega (arith, found.1), found.2)
 
 -- what was written along a route is a chain of these pieces
 pub written_chain : (d : ℕ → Descriptor) (q end : ℕ) (path : List ℕ) (pieces : List Piece)
@@ -93,25 +91,20 @@ written_chain d q end path pieces route pair short sound put =
           linked = λ k h. ap (λ y. y.next) (put k (omega arith));
         };
         short = short;
-        sound = λ k h.
-            no_fault q end (list_any (λ i. is_writable (d i)) (take k path)) k
-            (d (slice_index path k))
-            (ap (λ y. flag y 4) (put k h)
+        sound = λ k h. no_fault q end (list_any (λ i. is_writable (d i)) (take k path)) k
+            (d (slice_index path k)) (ap (λ y. flag y 4) (put k h)
             ∙ flags_indirect (nat_lt (k + 1) (length path))
             (slice_index_or pieces k empty).writable (slice_index_or pieces k empty)
-            (slice_index path (k + 1)))
-            (omega (
+            (slice_index path (k + 1))) (omega (
               arith,
               sound.fit k (omega arith),
               ap (λ y. y.addr) (put k h),
               ap (λ y. y.len) (put k h),
-            ))
-            (λ e. let before = any_at (λ i. is_writable (d i)) (take k path) e in
+            )) (λ e. let before = any_at (λ i. is_writable (d i)) (take k path) e in
             let cut : length (take k path) ≡ k = length-take-le k path (omega arith) in
             let j : before.0 < k = omega (arith, before.1, cut) in
             let there = ap (λ n. is_writable (d n)) (sym (get_or-take k path before.0 0 j))
-            ∙ before.2 in
-            writes k h ∙ sound.ordered before.0 k j (omega arith)
+            ∙ before.2 in writes k h ∙ sound.ordered before.0 k j (omega arith)
             (sym (writes before.0 (omega (arith, j))) ∙ there))
             (λ e. let on = ltb-true (k + 1) (length path) (sym (goes k h) ∙ e) in
             let to = route.inside (k + 1) on in

@@ -17,8 +17,7 @@ sizes_are = refl
 
 -- whether a descriptor of these flags goes on, is writable, and is a table of descriptors
 abbrev says : ℕ → List Bool
-says flags =
-    let d : Descriptor = record { addr = 0; len = 0; flags = flags; next = 0 } in
+says flags = let d : Descriptor = record { addr = 0; len = 0; flags = flags; next = 0 } in
     has_next d ∷ is_writable d ∷ is_indirect d ∷ []
 
 next_goes_on : says 1 ≡ true ∷ false ∷ false ∷ []

@@ -21,8 +21,7 @@ little_field (suc n) mem p o i bytes read =
     let more : little_from (suc i) n bytes ≡ field n mem p (o + 1) =
     little_field n mem p (o + 1) (suc i) bytes (λ k l.
     ap (slice_index bytes) (omega arith) ∙ read (k + 1) (omega (arith, l))
-    ∙ ap (byte_at mem p) (omega arith)) in
-    omega (arith, first, more)
+    ∙ ap (byte_at mem p) (omega arith)) in omega (arith, first, more)
 
 -- the first n of 16 bytes
 pub field_first : (n : ℕ) (mem : Pages) (p at : ℕ) (bytes : List ℕ)
@@ -41,13 +40,11 @@ field_after n mem p at skip rest bytes read fits within =
 pub descriptor_written : (old new : Pages) (p i : ℕ) (d : Descriptor) → FitsBytes d
     → Wrote old new p (16 * i) (bytes_of d) → descriptor_at new p i ≡ d
 unfolding descriptor_at
-descriptor_written old new p i d fits wrote =
-    let bytes : List ℕ = bytes_of d in
+descriptor_written old new p i d fits wrote = let bytes : List ℕ = bytes_of d in
     let read : (k : ℕ) → k < 16 → slice_index bytes k ≡ byte_at new p (16 * i + k) =
     λ k l. sym (wrote.written k l) in
     let last : List ℕ = little_bytes 2 d.next in
-    let behind : List ℕ = little_bytes 2 d.flags ++ last in
-    same_parts _ _
+    let behind : List ℕ = little_bytes 2 d.flags ++ last in same_parts _ _
     (sym (field_first 8 new p (16 * i) bytes read (omega arith))
     ∙ little_number-reads_back 8 d.addr (little_bytes 4 d.len ++ behind) fits.addr)
     (sym (field_after 4 new p (16 * i) 8 8 bytes read (omega arith) (omega arith))

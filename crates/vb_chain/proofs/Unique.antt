@@ -26,8 +26,7 @@ faults_agree d q end head p s a b k h l =
     get_or-take k p i 0 below ∙ paths_agree d head p s a b i (omega arith) (omega arith)
     ∙ sym (get_or-take k s i 0 below)) in
     ap (λ xs. first_fault q end (list_any (λ i. is_writable (d i)) xs) k (d (slice_index p k)))
-    front
-    ∙ ap (λ n. first_fault q end (list_any (λ i. is_writable (d i)) (take k s)) k (d n))
+    front ∙ ap (λ n. first_fault q end (list_any (λ i. is_writable (d i)) (take k s)) k (d n))
     (paths_agree d head p s a b k h l)
 
 -- no path goes on where a chain ends
@@ -40,15 +39,13 @@ chain_longest d q end head p s c b = elim (cases_lt (length p) (length s)) [
       let agree = paths_agree d head p s c.is_path b (length p - 1) (omega arith) (omega arith) in
       let off = c.ends (length p - 1) at in
       let on = b.onward (length p - 1) (omega arith) in
-      let both : false ≡ true = sym off ∙ ap (λ n. has_next (d n)) agree ∙ on in
-      cc
+      let both : false ≡ true = sym off ∙ ap (λ n. has_next (d n)) agree ∙ on in cc
   | inr fits ↦ fits
 ]
 
 chains_same : (d : ℕ → Descriptor) (q end head : ℕ) (p s : List ℕ) → IsChain d q end head p
     → IsChain d q end head s → p ≡ s
-chains_same d q end head p s a b =
-    let low = chain_longest d q end head p s a b.is_path in
+chains_same d q end head p s a b = let low = chain_longest d q end head p s a b.is_path in
     let high = chain_longest d q end head s p b a.is_path in
     let len : length p ≡ length s = omega arith in
     same_number_lists p s len (λ k h. paths_agree d head p s a.is_path b.is_path k h (omega arith))
@@ -56,16 +53,14 @@ chains_same d q end head p s a b =
 -- a chain and a fault exclude each other
 not_both : (d : ℕ → Descriptor) (q end head : ℕ) (p s : List ℕ) (f : ChainFault)
     → IsChain d q end head p → BreaksAt d q end head s f → ⊥
-not_both d q end head p s f c b =
-    let low = chain_longest d q end head p s c b.is_path in
+not_both d q end head p s f c b = let low = chain_longest d q end head p s c b.is_path in
     let some = b.is_path.some in
     let at : length s - 1 + 1 ≡ length s = omega arith in
     let fine = c.sound (length s - 1) (omega arith) in
     let bad = b.breaks (length s - 1) at in
     let agree = faults_agree d q end head p s c.is_path b.is_path (length s - 1) (omega arith)
     (omega arith) in
-    let both : None ≡ Some f = sym fine ∙ agree ∙ bad in
-    cc
+    let both : None ≡ Some f = sym fine ∙ agree ∙ bad in cc
 
 -- the longer of two broken paths was sound where the shorter broke
 not_longer : (d : ℕ → Descriptor) (q end head : ℕ) (p s : List ℕ) (f g : ChainFault)
@@ -78,15 +73,13 @@ not_longer d q end head p s f g a b = elim (cases_lt (length p) (length s)) [
       let fine = b.sound (length p - 1) (omega arith) in
       let agree = faults_agree d q end head p s a.is_path b.is_path (length p - 1) (omega arith)
       (omega arith) in
-      let both : Some f ≡ None = sym bad ∙ agree ∙ fine in
-      cc
+      let both : Some f ≡ None = sym bad ∙ agree ∙ fine in cc
   | inr fits ↦ fits
 ]
 
 breaks_same : (d : ℕ → Descriptor) (q end head : ℕ) (p s : List ℕ) (f g : ChainFault)
     → BreaksAt d q end head p f → BreaksAt d q end head s g → f ≡ g
-breaks_same d q end head p s f g a b =
-    let low = not_longer d q end head p s f g a b in
+breaks_same d q end head p s f g a b = let low = not_longer d q end head p s f g a b in
     let high = not_longer d q end head s p g f b a in
     let len : length p ≡ length s = omega arith in
     let some = a.is_path.some in
@@ -95,8 +88,7 @@ breaks_same d q end head p s f g a b =
     (omega arith) in
     let first = a.breaks (length p - 1) at in
     let second = b.breaks (length p - 1) (omega arith) in
-    let both : Some f ≡ Some g = sym first ∙ agree ∙ second in
-    cc
+    let both : Some f ≡ Some g = sym first ∙ agree ∙ second in cc
 
 pub chain_is_one : (d : ℕ → Descriptor) (q end head : ℕ) (xs ys : List Piece)
     → ChainGives d q end head xs → ChainGives d q end head ys → xs ≡ ys

@@ -82,16 +82,13 @@ pub walked_more : (d : ℕ → Descriptor) (q end head : ℕ) (path : List ℕ) 
     → first_fault q end writing i (d index) ≡ None → has_next (d index) ≡ true
     → Walked d q end head (path ++ (d index).next ∷ []) (i + 1) (d index).next
     (writing || is_writable (d index)) (pieces ++ piece_of (d index) ∷ [])
-walked_more d q end head path i index writing pieces w e more =
-    let j = (d index).next in
+walked_more d q end head path i index writing pieces w e more = let j = (d index).next in
     let size : length (path ++ j ∷ []) ≡ length path + 1 = length_push path j in
-    let here : (k : ℕ) → k < length path
-    → slice_index (path ++ j ∷ []) k ≡ slice_index path k =
+    let here : (k : ℕ) → k < length path → slice_index (path ++ j ∷ []) k ≡ slice_index path k =
     λ k h. get_or_append_left path (j ∷ []) 0 k h in
     let last : slice_index (path ++ j ∷ []) (i + 1) ≡ j = get_or_push path j 0 (i + 1) w.count in
     let cut : take (i + 1) (path ++ j ∷ []) ≡ path = take_at path (j ∷ []) (i + 1) w.count in
-    let all : take (i + 1) path ≡ path = take_all (i + 1) path (omega (arith, w.count)) in
-    record {
+    let all : take (i + 1) path ≡ path = take_all (i + 1) path (omega (arith, w.count)) in record {
       inside = w.inside;
       is_path = record {
         some = omega (arith, size);

@@ -1,5 +1,5 @@
 -- What the allocator answers, as the driver sees it.
-use Rattle.std.proofs.Common.{◌≡◌, ◌∙◌, sym, ap, subst, arith, refl, ℕ, suc, ◌+◌, ◌<◌, ◌≤◌, Bool}
+use Rattle.std.proofs.Common.{◌≡◌, ◌∙◌, ap, subst, arith, refl, ℕ, suc, ◌+◌, ◌<◌, ◌≤◌, Bool}
 use Rattle.std.proofs.Common.{true, false, eqb, not, ◌||◌, ◌&&◌, ◌⊎◌, ◌↔◌, List, [], ◌∷◌, length}
 use Rattle.std.proofs.Common.{get_or, set, map, inl, inr, IsTrue, Option, Result, Ok, Err, IfOk}
 use Rattle.std.proofs.lemmas.Bool.{cases_lt, and_parts, and_from, false_from_ne_true, ne_eqb}
@@ -82,8 +82,7 @@ not_whole s start order small none =
     false_from_ne_true (is_free_block (flags_of s.free) (block_at start order)) (λ t.
     let parts = and_parts (is_aligned (block_at start order))
     (list_all (is_free_at (flags_of s.free)) (pages_of (block_at start order))) t in
-    none (small, parts.0)
-    (λ p covered. flag_free s p
+    none (small, parts.0) (λ p covered. flag_free s p
     (list_all-at (is_free_at (flags_of s.free)) (pages_of (block_at start order)) p parts.1
     (covered_in p start order covered))))
 
@@ -127,32 +126,14 @@ there_cpu : (s new : PageState) (cpu order : ℕ) (r : Result ℕ PageFault)
 there_cpu s new cpu order r served small not_it = grind arith
 
 pub alloc_refusal : (s new : PageState) (cpu order : ℕ) (r : Result ℕ PageFault)
-    → IsServed s new cpu order r
-    → refusal_in (answered r)
+    → IsServed s new cpu order r → refusal_in (answered r)
     ≡ first_of (nat_lt 9 order) (nat_le (cpu_count s) cpu) (has_block s order)
 alloc_refusal s new cpu order (Ok start) served =
-    let small : order ≤ 9 = small_order s new cpu order (Ok start) served (λ e. cc) in
-    let cpu_there : cpu < cpu_count s =
-    there_cpu s new cpu order (Ok start) served small (λ e. cc) in
-    let a : nat_lt 9 order ≡ false = le-ltb 9 order small in
-    let b : nat_le (cpu_count s) cpu ≡ false = lt-leb (cpu_count s) cpu cpu_there in
-    let d : has_block s order ≡ true =
-    some_block s start order served.apart served.was_free.0 served.was_free.1 in
-    sym (ap (λ (v : Bool). first_of v (nat_le (cpu_count s) cpu) (has_block s order)) a
-    ∙ (ap (λ (v : Bool). first_of false v (has_block s order)) b
-    ∙ ap (λ (v : Bool). first_of false false v) d))
+    grind (arith, small_order, there_cpu, nat_lt, le-ltb, nat_le, lt-leb, some_block)
 alloc_refusal s new cpu order (Err OrderTooLarge) served = grind arith
 alloc_refusal s new cpu order (Err NoSuchCpu) served = grind arith
 alloc_refusal s new cpu order (Err NoFreeBlock) served =
-    let small : order ≤ 9 = small_order s new cpu order (Err NoFreeBlock) served (λ e. cc) in
-    let cpu_there : cpu < cpu_count s =
-    there_cpu s new cpu order (Err NoFreeBlock) served small (λ e. cc) in
-    let a : nat_lt 9 order ≡ false = le-ltb 9 order small in
-    let b : nat_le (cpu_count s) cpu ≡ false = lt-leb (cpu_count s) cpu cpu_there in
-    let d : has_block s order ≡ false = no_block s order small (served.none refl) in
-    sym (ap (λ (v : Bool). first_of v (nat_le (cpu_count s) cpu) (has_block s order)) a
-    ∙ (ap (λ (v : Bool). first_of false v (has_block s order)) b
-    ∙ ap (λ (v : Bool). first_of false false v) d))
+    grind (arith, small_order, there_cpu, nat_lt, le-ltb, nat_le, lt-leb, no_block)
 alloc_refusal s new cpu order (Err NoSuchBlock) served = absurd (served.never refl)
 
 pub alloc_refused : (s new : PageState) (cpu order : ℕ) (r : Result ℕ PageFault)
@@ -170,8 +151,7 @@ pub alloc_free : (s new : PageState) (cpu order : ℕ) (r : Result ℕ PageFault
 alloc_free s new cpu order r served = grind (arith, whole_block)
 
 pub alloc_state : (s new : PageState) (cpu order : ℕ) (r : Result ℕ PageFault)
-    → IsServed s new cpu order r
-    → IfOk (answered r) (λ start. Becomes s new
+    → IsServed s new cpu order r → IfOk (answered r) (λ start. Becomes s new
     (marked (pages_of (block_at start order)) false (flags_of s.free))
     (with_block (block_at start order) s.held))
 alloc_state s new cpu order (Ok start) served =
@@ -181,8 +161,7 @@ alloc_state s new cpu order (Ok start) served =
     let got = served.allocates small cpu_there in
     let pages : page_count new ≡ page_count s =
     ap page_count got.2 ∙ serves_length s.free got.0 cpu order start got.1 in
-    let b = block_at start order in
-    record {
+    let b = block_at start order in record {
       free = flags_moved s new (pages_of b) false pages
           (λ p. served.left p ∙ left_by p b (is_free_page s p));
       held = served.held;
@@ -194,16 +173,13 @@ alloc_state s new cpu order (Err fault) served = tt
 -- ---- free
 
 pub free_state : (s new : PageState) (cpu start order : ℕ) (r : Result Unit PageFault)
-    → OnOk r (new ≡ freed cpu (block_at start order) s)
-    → OnOk r ((page : ℕ) → is_free_page new page
+    → OnOk r (new ≡ freed cpu (block_at start order) s) → OnOk r ((page : ℕ) → is_free_page new page
     ≡ (is_free_page s page || covers page (block_at start order)))
     → OnOk (answered r) (Becomes s new
     (marked (pages_of (block_at start order)) true (flags_of s.free))
     (without_block (block_at start order) s.held))
-free_state s new cpu start order (Ok x) is gained =
-    let b = block_at start order in
-    let sizes = given_sizes s.free cpu start order in
-    record {
+free_state s new cpu start order (Ok x) is gained = let b = block_at start order in
+    let sizes = given_sizes s.free cpu start order in record {
       free = flags_moved s new (pages_of b) true (ap page_count is ∙ sizes.pages)
           (λ p. gained p ∙ gained_by p b (is_free_page s p));
       held = ap (λ (v : PageState). v.held) is;
@@ -220,36 +196,30 @@ areas_apart s apart = record { apart = λ p covered. held_unfree s p apart cover
 count_step : (k : ℕ) (xs : List ℕ)
     → times k xs + count_by (λ p. nat_le (suc k) p) xs ≡ count_by (λ p. nat_le k p) xs
 count_step k [] = refl
-count_step k (x ∷ xs) =
-    omega (
-      arith,
-      count_step k xs,
-      at (cases_lt k x) (cases_lt x k),
-      count_by-cons (λ p. eqb p k) x xs,
-      count_by-cons (λ p. nat_le (suc k) p) x xs,
-      count_by-cons (λ p. nat_le k p) x xs,
-    )
+count_step k (x ∷ xs) = omega (
+  arith,
+  count_step k xs,
+  at (cases_lt k x) (cases_lt x k),
+  count_by-cons (λ p. eqb p k) x xs,
+  count_by-cons (λ p. nat_le (suc k) p) x xs,
+  count_by-cons (λ p. nat_le k p) x xs,
+)
   where
     at : ((k < x) ⊎ (x ≤ k)) → ((x < k) ⊎ (k ≤ x))
         → one_if (eqb x k) + one_if (nat_le (suc k) x) ≡ one_if (nat_le k x)
     at (inl over) b =
         let e : one_if (eqb x k) ≡ 0 = ap one_if (ne_eqb x k (λ q. absurd (omega arith))) in
         let f : one_if (nat_le (suc k) x) ≡ 1 = ap one_if (le-leb (suc k) x (omega arith)) in
-        let g : one_if (nat_le k x) ≡ 1 = ap one_if (le-leb k x (omega arith)) in
-        omega arith
+        let g : one_if (nat_le k x) ≡ 1 = ap one_if (le-leb k x (omega arith)) in omega arith
     at (inr le) (inl under) =
         let e : one_if (eqb x k) ≡ 0 = ap one_if (ne_eqb x k (λ q. absurd (omega arith))) in
         let f : one_if (nat_le (suc k) x) ≡ 0 = ap one_if (lt-leb (suc k) x (omega arith)) in
-        let g : one_if (nat_le k x) ≡ 0 = ap one_if (lt-leb k x under) in
-        omega arith
-    at (inr le) (inr ge) =
-        let e : one_if (eqb x k) ≡ 1 = ap one_if (eq-eqb x k (omega arith)) in
+        let g : one_if (nat_le k x) ≡ 0 = ap one_if (lt-leb k x under) in omega arith
+    at (inr le) (inr ge) = let e : one_if (eqb x k) ≡ 1 = ap one_if (eq-eqb x k (omega arith)) in
         let f : one_if (nat_le (suc k) x) ≡ 0 = ap one_if (lt-leb (suc k) x (omega arith)) in
-        let g : one_if (nat_le k x) ≡ 1 = ap one_if (le-leb k x ge) in
-        omega arith
+        let g : one_if (nat_le k x) ≡ 1 = ap one_if (le-leb k x ge) in omega arith
 
-flags_sum : (k : ℕ) (set : List Bool) (xs : List ℕ) (test : ℕ → Bool)
-    → ((i : ℕ) → i < length set
+flags_sum : (k : ℕ) (set : List Bool) (xs : List ℕ) (test : ℕ → Bool) → ((i : ℕ) → i < length set
     → one_if (test (k + i)) ≤ one_if (get_or set i false) + times (k + i) xs)
     → count_by (λ f. f) (map test (range_with_len k (length set))) ≤ count_by (λ f. f) set +
     count_by (λ p. nat_le k p) xs
@@ -264,8 +234,7 @@ flags_sum k (x ∷ set) xs test most =
     (most (suc i) (omega arith))) in
     let next : count_by (λ f. f) (map test (range_with_len (k + 1) (length set)))
     ≡ count_by (λ f. f) (map test (range_with_len (suc k) (length set))) =
-    ap (λ (n : ℕ). count_by (λ f. f) (map test (range_with_len n (length set))))
-    (omega arith) in
+    ap (λ (n : ℕ). count_by (λ f. f) (map test (range_with_len n (length set)))) (omega arith) in
     omega (
       arith,
       count_step k xs,
@@ -295,30 +264,18 @@ count_flags s =
 pub taken_state : (s new : PageState) (pages : List ℕ) → TakesFree s pages new
     → ((p : ℕ) → one_if (is_free_page new p) + times p pages ≡ one_if (is_free_page s p))
     → Becomes s new (marked pages false (flags_of s.free)) s.held
-taken_state s new pages takes left =
-    let sizes = drained_sizes s.free in
-    record {
-      free = flags_moved s new pages false
-          (length-takes_pages (drained s.free).areas new.free.areas pages takes.0 ∙ sizes.pages)
-          (λ p. taken_by p pages (is_free_page new p) (is_free_page s p) (left p));
-      held = takes.2;
-      same = record {
-        processors = ap length takes.1 ∙ sizes.same.processors;
-        reserved = takes.3;
-      };
-    }
+taken_state s new pages takes left = let sizes = drained_sizes s.free in record {
+  free = flags_moved s new pages false
+      (length-takes_pages (drained s.free).areas new.free.areas pages takes.0 ∙ sizes.pages)
+      (λ p. taken_by p pages (is_free_page new p) (is_free_page s p) (left p));
+  held = takes.2;
+  same = record { processors = ap length takes.1 ∙ sizes.same.processors; reserved = takes.3 };
+}
 
 pub taken_free : (s new : PageState) (pages : List ℕ) → IsApart s
     → ((p : ℕ) → one_if (is_free_page new p) + times p pages ≡ one_if (is_free_page s p))
     → list_all (is_free_at (flags_of s.free)) pages ≡ true
-taken_free s new pages apart left =
-    list_all-from (is_free_at (flags_of s.free)) pages
-    (λ p h. free_flag s p apart
-    (at (is_free_page s p) (omega (arith, left p, times_in p pages h))))
-  where
-    at : (b : Bool) → 1 ≤ one_if b → b ≡ true
-    at true h = refl
-    at false h = absurd (omega arith)
+taken_free s new pages apart left = grind (arith, list_all-from, free_flag, times_in)
 
 pub taken_once : (new old : Bool) (n : ℕ) → one_if new + n ≡ one_if old → n ≤ 1
 taken_once new true n h = omega arith
@@ -332,13 +289,11 @@ given_room s page unreserved inside taken uncovered = grind (arith, length_flags
 pub given_state : (s new : PageState) (page : ℕ) → new ≡ with_free_block (block_at page 0) s
     → ((p : ℕ) → is_free_page new p ≡ (is_free_page s p || covers p (block_at page 0)))
     → page < length (flags_of s.free) → Becomes s new (set (flags_of s.free) page true) s.held
-given_state s new page is gained there =
-    let b = block_at page 0 in
-    record {
-      free = flags_moved s new (pages_of b) true
-          (ap page_count is ∙ length-with_pages (pages_of b) s.free.areas)
-          (λ p. gained p ∙ gained_by p b (is_free_page s p))
-          ∙ marked_one page true (flags_of s.free) there;
-      held = ap (λ (v : PageState). v.held) is;
-      same = record { processors = ap cpu_count is; reserved = ap reserved_count is };
-    }
+given_state s new page is gained there = let b = block_at page 0 in record {
+  free = flags_moved s new (pages_of b) true
+      (ap page_count is ∙ length-with_pages (pages_of b) s.free.areas)
+      (λ p. gained p ∙ gained_by p b (is_free_page s p))
+      ∙ marked_one page true (flags_of s.free) there;
+  held = ap (λ (v : PageState). v.held) is;
+  same = record { processors = ap cpu_count is; reserved = ap reserved_count is };
+}

@@ -19,21 +19,17 @@ wrote_same old new p off bs w same =
       | inr high ↦ elim (cases_lt o (off + length bs)) [
         | inl inside ↦
             let at : off + (o - off) ≡ o = omega arith in
-            let short : o - off < length bs = omega arith in
-            ap (byte_at new p) (sym at)
+            let short : o - off < length bs = omega arith in ap (byte_at new p) (sym at)
             ∙ (w.written (o - off) short ∙ (same (o - off) short ∙ ap (byte_at old p) at))
         | inr past ↦ w.rest.above o past
       ]
     ] in
-    let page : page_at new p ≡ page_at old p =
-    same_page_at new old p (w.rest.backing p)
+    let page : page_at new p ≡ page_at old p = same_page_at new old p (w.rest.backing p)
     (same_contents new old p (w.rest.sizes p) bytes) in
     let each : (k : ℕ) → page_at new k ≡ page_at old k = λ k. elim (cases_eq k p) [
       | inl is ↦ ap (page_at new) is ∙ (page ∙ sym (ap (page_at old) is))
       | inr ne ↦ w.rest.others k ne
-    ] in
-    same_lists new old w.rest.count
-    (λ k d lt. get_or_default new k d None lt
+    ] in same_lists new old w.rest.count (λ k d lt. get_or_default new k d None lt
     ∙ (each k ∙ get_or_default old k None d (omega (arith, w.rest.count))))
 
 pub by_result : {T E : Type 0} (r : Result T E) (P Q R : Type 0) → OnOk r P → OnErr r Q → (P → R)
@@ -49,10 +45,8 @@ at_ok (Err e) P is h = cc
 pub buffer_apart : (old new : Pages) (base h k n : ℕ) → n ≤ 1024
     → SameBut old new (buffer_page base h) (buffer_offset h) (buffer_offset h + n) → k ≢ h
     → SameIn old new (buffer_page base k) (buffer_offset k) (buffer_offset k + 1024)
-buffer_apart old new base h k n small but ne =
-    let hd = div-add-mod h 4 in
-    let kd = div-add-mod k 4 in
-    elim (cases_eq (k / 4) (h / 4)) [
+buffer_apart old new base h k n small but ne = let hd = div-add-mod h 4 in
+    let kd = div-add-mod k 4 in elim (cases_eq (k / 4) (h / 4)) [
       | inl same ↦
           let here : buffer_page base h ≡ buffer_page base k = ap (λ x. base + x) (sym same) in
           let P : ℕ → Type 0 = λ p. SameIn old new p (buffer_offset k) (buffer_offset k + 1024) in
@@ -74,8 +68,7 @@ names_kept old new p o xs hi same fits n = grind (arith, field_in)
 
 -- bytes of one page are written, and then others
 pub outside_both : (m1 m2 m3 : Pages) (p lo hi : ℕ) (es : List Extent) → SameBut m1 m2 p lo hi
-    → SameOutside m2 m3 es
-    → SameOutside m1 m3 (record { page = p; from = lo; to = hi } ∷ es)
+    → SameOutside m2 m3 es → SameOutside m1 m3 (record { page = p; from = lo; to = hi } ∷ es)
 outside_both m1 m2 m3 p lo hi es first then = record {
   bytes = λ q o out. then.bytes q o out.1 ∙ before q o out.0;
   others = λ q out. then.others q out.1 ∙ first.others q out.0;
@@ -88,12 +81,11 @@ outside_both m1 m2 m3 p lo hi es first then = record {
         → byte_at m2 q o ≡ byte_at m1 q o
     before q o out = elim (cases_eq q p) [
       | inr ne ↦ (same_page m1 m2 q o (o + 1) (first.others q ne)).bytes o (omega arith) (omega arith)
-      | inl is ↦ subst (λ (k : ℕ). byte_at m2 k o ≡ byte_at m1 k o) (sym is)
-          (elim (cases_lt o lo) [
-            | inl low ↦ first.below o low
-            | inr from ↦ elim (cases_lt o hi) [
-              | inr past ↦ first.above o past
-              | inl to ↦ absurd (out (record { page = is; from = from; to = to }))
-            ]
-          ])
+      | inl is ↦ subst (λ (k : ℕ). byte_at m2 k o ≡ byte_at m1 k o) (sym is) (elim (cases_lt o lo) [
+        | inl low ↦ first.below o low
+        | inr from ↦ elim (cases_lt o hi) [
+          | inr past ↦ first.above o past
+          | inl to ↦ absurd (out (record { page = is; from = from; to = to }))
+        ]
+      ])
     ]

@@ -1,6 +1,6 @@
 -- Counts of places, as a page moves.
 use Rattle.std.proofs.Common.{◌≡◌, ◌∙◌, sym, ap, arith, ℕ, ◌+◌, ◌-◌, ◌<◌, ◌≤◌, cond, eqb, List}
-use Rattle.std.proofs.Common.{length, get_or, set, count_by, inl, inr, eq-eqb, refl, not, [], ◌∷◌}
+use Rattle.std.proofs.Common.{length, get_or, set, count_by, eq-eqb, refl, not, [], ◌∷◌}
 use Rattle.std.proofs.Common.{Bool, true, false, zero, suc, replicate, map}
 use Rattle.std.proofs.lemmas.List.Sums.{sum_by-set, get_or-le-sum_by}
 use Rattle.std.proofs.lemmas.List.{length-replicate, get_or-set_same, get_or-set_other, length-set}
@@ -47,15 +47,13 @@ count_moves places page which new old lt = grind (arith, at_number, sum_by-set)
 -- a page's own place has a page
 pub counts_some : (places : List Place) (page : ℕ) (old : Place) → page < length places
     → 1 ≤ count_by (is_at (get_or places page old)) places
-counts_some places page old lt =
-    let here = get_or places page old in
+counts_some places page old lt = let here = get_or places page old in
     let one : hits 1 (number_of here) (number_of here) ≡ 1 =
     hits_same 1 (number_of here) (number_of here) refl in
     let low : cond (is_at here here) 1 0 ≤ count_by (is_at here) places =
     get_or-le-sum_by (λ x. cond (is_at here x) 1 0) places page old lt in
     let same_hit : hits 1 (number_of here) (number_of here) ≡ cond (is_at here here) 1 0 =
-    ap (λ v. cond v 1 0) (at_number here here) in
-    omega arith
+    ap (λ v. cond v 1 0) (at_number here here) in omega arith
 
 -- the counts after so many pages moved from one place to another
 pub counts_shifted : (counts : List ℕ) (places now : List Place) (o n m : ℕ) (new old : Place)
@@ -63,78 +61,32 @@ pub counts_shifted : (counts : List ℕ) (places now : List Place) (o n m : ℕ)
     → m ≤ count_by (is_at old) places
     → ((which : Place) → count_by (is_at which) now + hits m (number_of old) (number_of which)
     ≡ count_by (is_at which) places + hits m (number_of new) (number_of which))
-    → AreCounts counts places
-    → AreCounts (set (set counts o (get_or counts o 0 - m)) n
+    → AreCounts counts places → AreCounts (set (set counts o (get_or counts o 0 - m)) n
     (get_or (set counts o (get_or counts o 0 - m)) n 0 + m)) now
 counts_shifted counts places now o n m new old eight was is small small2 some moves all =
-    let mid = set counts o (get_or counts o 0 - m) in
-    let size : length mid ≡ length counts = length-set counts o _ in
-    let own : get_or counts o 0 ≡ count_by (is_at old) places =
-    ap (λ k. get_or counts k 0) was ∙ all.each old in
-    record {
-      each = λ which.
-          let w = number_of which in
-          let moved = moves which in
-          let before : get_or counts w 0 ≡ count_by (is_at which) places = all.each which in
-          let middle : get_or mid w 0 + hits m o w ≡ count_by (is_at which) places =
-          elim (cases_eq w o) [
-            | inl same ↦
-                let e : get_or mid w 0 ≡ get_or counts o 0 - m =
-                ap (λ k. get_or mid k 0) same ∙ get_or-set_same counts o _ 0 (omega arith) in
-                let f : get_or counts w 0 ≡ get_or counts o 0 = ap (λ k. get_or counts k 0) same in
-                let h : hits m o w ≡ m = hits_same m o w (sym same) in
-                omega arith
-            | inr ne ↦
-                let e : get_or mid w 0 ≡ get_or counts w 0 = get_or-set_other counts o w _ 0 ne in
-                let h : hits m o w ≡ 0 = hits_other m o w (λ q. ne (sym q)) in
-                omega arith
-          ] in
-          let from : hits m o w ≡ hits m (number_of old) w = ap (λ k. hits m k w) was in
-          let to : hits m n w ≡ hits m (number_of new) w = ap (λ k. hits m k w) is in
-          elim (cases_eq w n) [
-            | inl same ↦
-                let e : get_or (set mid n (get_or mid n 0 + m)) w 0 ≡ get_or mid n 0 + m =
-                ap (λ k. get_or (set mid n (get_or mid n 0 + m)) k 0) same
-                ∙ get_or-set_same mid n _ 0 (omega arith) in
-                let f : get_or mid w 0 ≡ get_or mid n 0 = ap (λ k. get_or mid k 0) same in
-                let h : hits m n w ≡ m = hits_same m n w (sym same) in
-                omega arith
-            | inr ne ↦
-                let e : get_or (set mid n (get_or mid n 0 + m)) w 0 ≡ get_or mid w 0 =
-                get_or-set_other mid n w _ 0 ne in
-                let h : hits m n w ≡ 0 = hits_other m n w (λ q. ne (sym q)) in
-                omega arith
-          ];
-    }
+    grind (arith, length-set, cases_eq, get_or-set_same, hits_same, get_or-set_other, hits_other)
 
 -- the counts after a page moved
 pub counts_moved : (counts : List ℕ) (places : List Place) (page o n : ℕ) (new was : Place)
     → length counts ≡ 8 → page < length places → was ≡ get_or places page was → o ≡ number_of was
-    → n ≡ number_of new
-    → o < 8 → n < 8 → AreCounts counts places
+    → n ≡ number_of new → o < 8 → n < 8 → AreCounts counts places
     → AreCounts (set (set counts o (get_or counts o 0 - 1)) n
     (get_or (set counts o (get_or counts o 0 - 1)) n 0 + 1)) (set places page new)
 counts_moved counts places page o n new old eight lt here was is small small2 all =
     let e : count_by (is_at old) places ≡ count_by (is_at (get_or places page old)) places =
     ap (λ v. count_by (is_at v) places) here in
     counts_shifted counts places (set places page new) o n 1 new old eight was is small small2
-    (omega (arith, counts_some places page old lt))
-    (λ which.
+    (omega (arith, counts_some places page old lt)) (λ which.
     let w = number_of which in
     let there : hits 1 (number_of (get_or places page old)) w ≡ hits 1 (number_of old) w =
     ap (λ v. hits 1 (number_of v) w) (sym here) in
-    omega (arith, count_moves places page which new old lt))
-    all
+    omega (arith, count_moves places page which new old lt)) all
 
 -- ---- a table of reserved pages
 
 count_replicate : (test : Place → Bool) (x : Place) (n : ℕ)
     → count_by test (replicate n x) ≡ cond (test x) n 0
-count_replicate test x zero = at (test x)
-  where
-    at : (b : Bool) → count_by test (replicate zero x) ≡ cond b zero zero
-    at true = refl
-    at false = refl
+count_replicate test x zero = grind arith
 count_replicate test x (suc n) =
     grind (arith, count_by-cons test x (replicate n x), count_replicate test x n)
 

@@ -35,8 +35,7 @@ after_failing s f part is lt =
     (adds s (bit_or s 128) driver_ok) (adds part.status (bit_or s 128) driver_ok)
     (passed s f lt) (ap (λ n. adds n (bit_or s 128) driver_ok) is)
   where
-    at : (o z a b : Bool) → (o && (not z && not a)) ≡ true → b ≡ a
-        → cond z (part_after_reset part)
+    at : (o z a b : Bool) → (o && (not z && not a)) ≡ true → b ≡ a → cond z (part_after_reset part)
         (cond b (record (with_new_queues part) { status = bit_or s 128 })
         (record part { status = bit_or s 128 })) ≡ record part { status = bit_or s 128 }
     at true false false false h g = refl

@@ -1,5 +1,5 @@
 -- The statistics buffer is written.
-use Rattle.std.proofs.Common.{◌≡◌, ◌∙◌, ap, subst, arith, ℕ, ◌+◌, ◌^◌, ◌<◌, List, ◌++◌, IsSome}
+use Rattle.std.proofs.Common.{◌≡◌, ◌∙◌, ap, arith, ℕ, ◌+◌, ◌^◌, ◌<◌, List, ◌++◌, IsSome}
 use Rattle.std.proofs.Common.{length, drop, slice_index, Result, IsOk, OnOk}
 use Rattle.std.{proofs.lemmas.List.get_or-drop, proofs.lemmas.Nat.from_le_bytes-to_le_bytes_8}
 use Rattle.byteorder.specs.Endian.{little_bytes}
@@ -51,10 +51,8 @@ figures_written old new free total bs answer is lt_free lt_total covers backed a
     let len : length bs ≡ 20 = ap length is in
     let whole : Covers old 12 0 (length bs) =
     record { page = covers.page; bytes = omega (arith, len) } in
-    let wrote : Wrote old new 12 0 (figure_bytes free total) =
-    subst (λ (xs : List ℕ). Wrote old new 12 0 xs) is
-    (at_ok answer _ (accepted whole backed) put) in
-    record {
+    let wrote : Wrote old new 12 0 (figure_bytes free total) = rw (← is)
+    (at_ok answer _ (accepted whole backed) put) in record {
       free_is = free_written old new free total lt_free wrote;
       total_is = total_written old new free total lt_total wrote;
     }

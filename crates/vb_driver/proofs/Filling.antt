@@ -39,14 +39,12 @@ fills_at : (m1 m2 m3 : Pages) (r r2 : DriverEnd) (n a free total : ℕ)
     → PostsBuffer m1 m3 r r2 (record { free = free; total = total })
 fills_at m1 m2 m3 r r2 n a free total s adds =
     let sized : IsSize n = subst IsSize s.queue.size s.is_end.fits.size in
-    let beside : IsBeside r.layout 12 =
-    subst (λ (l : Layout). IsBeside l 12) (sym s.queue.layout)
+    let beside : IsBeside r.layout 12 = subst (λ (l : Layout). IsBeside l 12) (sym s.queue.layout)
     (beside_buffers n 2 12 sized (omega arith) (omega arith)) in
     let one : OnePiece m1 m2 m3 r r2 0 a 20 =
     one_piece m1 m2 m3 r r2 0 a 20 s.is_end (next_is_first r n s.queue s.is_end s.none)
     (keeps_ring m1 m2 r.layout 12 0 20 beside s.wrote) adds in
-    let buffer : page_at m3 12 ≡ page_at m2 12 = one.others 12 beside.table beside.avail in
-    record {
+    let buffer : page_at m3 12 ≡ page_at m2 12 = one.others 12 beside.table beside.avail in record {
       state = adds.state;
       coded = record {
         descriptor = one.put ∙ same_parts _ _ s.addr refl refl refl;
@@ -74,8 +72,7 @@ pub fills_by : (m1 m2 m3 : Pages) (r r2 : DriverEnd) (n a g free total : ℕ)
 fills_by m1 m2 m3 r r2 n a g free total s adds =
     let pieces : List Piece = record { addr = a; len = 20; writable = false } ∷ [] in
     let same : 0 ≡ g = added_head m2 m3 r r2 0 g pieces refl
-    (next_is_first r n s.queue s.is_end s.none) adds in
-    fills_at m1 m2 m3 r r2 n a free total s
+    (next_is_first r n s.queue s.is_end s.none) adds in fills_at m1 m2 m3 r r2 n a free total s
     (subst (λ (h : ℕ). AddsBy m2 m3 r r2 pieces (Ok h)) (sym same) adds)
 
 pub filled_queue : (m2 m3 : Pages) (r r2 : DriverEnd) (n g : ℕ) (pieces : List Piece)
@@ -85,10 +82,8 @@ filled_queue m2 m3 r r2 n g pieces one queue none adds =
     let some : 0 < r.size = omega (arith, adds.is_end.fits.size.least) in
     let unused = none_used r n queue some none in
     let same : 0 ≡ g = added_head m2 m3 r r2 0 g pieces one (first_head r some unused) adds in
-    let state : r2 ≡ after_add r 1 (Ok 0) =
-    adds.state ∙ (ap (λ (k : ℕ). after_add r k (Ok g)) one
-    ∙ ap (λ (h : ℕ). after_add r 1 (Ok h)) (sym same)) in
-    subst (λ (v : DriverEnd). IsStatisticsQueue v n) (sym state)
+    let state : r2 ≡ after_add r 1 (Ok 0) = adds.state ∙ (ap (λ (k : ℕ). after_add r k (Ok g)) one
+    ∙ ap (λ (h : ℕ). after_add r 1 (Ok h)) (sym same)) in rw state
     (queue_added r n queue adds.is_end some unused)
 
 -- an add of one piece isn't refused

@@ -50,8 +50,7 @@ free_flag s p apart h = flag_at s p false (free_inside s p apart h) ∙ h
 -- a page in a held block isn't free
 pub held_unfree : (s : PageState) (p : ℕ) → IsApart s → list_any (covers p) s.held ≡ true
     → is_free_at (flags_of s.free) p ≡ false
-held_unfree s p apart covered =
-    false_from_ne_true (is_free_at (flags_of s.free) p) (λ h.
+held_unfree s p apart covered = false_from_ne_true (is_free_at (flags_of s.free) p) (λ h.
     let free : 1 ≤ times_free s.free p = some_times s p (flag_free s p h) in
     let held : 1 ≤ count_by (covers p) s.held = some_covers s.held covered in
     omega (arith, apart p, one_if_le (is_unreserved s p)))
@@ -64,13 +63,11 @@ held_unfree s p apart covered =
     some_covers : (held : List Block) → list_any (covers p) held ≡ true
         → 1 ≤ count_by (covers p) held
     some_covers [] h = cc
-    some_covers (b ∷ held) h =
-        omega (
-          arith,
-          count_by-cons (covers p) b held,
-          step (covers p b) (list_any (covers p) held) (count_by (covers p) held) h
-              (some_covers held),
-        )
+    some_covers (b ∷ held) h = omega (
+      arith,
+      count_by-cons (covers p) b held,
+      step (covers p b) (list_any (covers p) held) (count_by (covers p) held) h (some_covers held),
+    )
 
 -- ---- flags that change
 
@@ -138,15 +135,13 @@ free_first pages cpus reserved k lt = grind (arith, flat-replicate, has-unreserv
 
 pub fresh_flags : (pages cpus reserved : ℕ)
     → flags_of (new_page_state pages cpus reserved).free ≡ map is_free (all_free reserved pages)
-fresh_flags pages cpus reserved =
-    let s = new_page_state pages cpus reserved in
+fresh_flags pages cpus reserved = let s = new_page_state pages cpus reserved in
     let places = all_free reserved pages in
     let size : page_count s ≡ pages = length-unreserved pages reserved in
     let all : length places ≡ pages = length-map-range_with_len (first_place reserved) 0 pages in
     same_lists (flags_of s.free) (map is_free places)
     (length_flags s ∙ (size ∙ sym (length-map places is_free ∙ all))) (λ k d near.
-    let here : k < pages = omega (arith, length_flags s) in
-    flag_at s k d (omega arith)
+    let here : k < pages = omega (arith, length_flags s) in flag_at s k d (omega arith)
     ∙ (free_first pages cpus reserved k here
     ∙ sym (get_or-map is_free places k Reserved d (omega arith)
     ∙ ap is_free (get_or-map-range_with_len (first_place reserved) 0 pages k k Reserved here
@@ -162,14 +157,12 @@ given_more (y ∷ xs) x s = given_more xs x (with_free_block (block_at y 0) s)
 -- a page that stands once isn't among those before it
 pub not_before : (pages : List ℕ) (i : ℕ) → i < length pages → times (get_or pages i 0) pages ≤ 1
     → is_in (get_or pages i 0) (take i pages) ≡ false
-not_before pages i lt once =
-    let x = get_or pages i 0 in
+not_before pages i lt once = let x = get_or pages i 0 in
     false_from_ne_true (is_in x (take i pages)) (λ h.
     let more : times x (take (i + 1) pages) ≡ times x (take i pages ++ x ∷ []) =
     ap (times x) (take_more pages i 0 lt) in
     let one : times x (x ∷ []) ≡ 1 =
-    count_by-cons (λ q. eqb q x) x [] ∙ ap (λ v. one_if v + 0) (eq-eqb x x refl) in
-    omega (
+    count_by-cons (λ q. eqb q x) x [] ∙ ap (λ v. one_if v + 0) (eq-eqb x x refl) in omega (
       arith,
       times_in x (take i pages) h,
       count_by-append (λ q. eqb q x) (take i pages) (x ∷ []),

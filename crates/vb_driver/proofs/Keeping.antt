@@ -43,8 +43,7 @@ free_marked places pages others to flag agree =
     each_page-get (λ page old. if is_in page others then flag else old) (map is_free places) k d
     (λ far. absurd (omega (arith, length-map places is_free)))
     ∙ (ap (λ v. cond (is_in k others) flag v) (get_or-map is_free places k Reserved d inside)
-    ∙ (agree k (place_of places k) refl
-    ∙ sym (get_or-map is_free moved k Reserved d (omega arith)
+    ∙ (agree k (place_of places k) refl ∙ sym (get_or-map is_free moved k Reserved d (omega arith)
     ∙ ap is_free (marked-get pages to places k Reserved inside)))))
 
 pub free_same : (places : List Place) (pages : List ℕ) (to : Place)
@@ -78,8 +77,7 @@ pub record Changes (d : DriverState) (areas2 : FreePages) (pages : List ℕ) (to
 
 pub kept_changed : (d : DriverState) (areas2 : FreePages) (pages : List ℕ) (to : Place)
     (held2 : List Block) (i2 e2 : RequestSide) (r2 : ReportSide)
-    → Changes d areas2 pages to held2 i2 e2 r2
-    → IsDriver (record d {
+    → Changes d areas2 pages to held2 i2 e2 r2 → IsDriver (record d {
       places = placed pages to d.places;
       held = held2;
       areas = areas2;
@@ -87,35 +85,7 @@ pub kept_changed : (d : DriverState) (areas2 : FreePages) (pages : List ℕ) (to
       deflate = e2;
       report = r2;
     })
-kept_changed d areas2 pages to held2 i2 e2 r2 m =
-    let place : (p : ℕ) → place_of (placed pages to d.places) p
-    ≡ cond (is_in p pages) to (place_of d.places p) =
-    λ p. place_placed pages to d.places p (m.there p) in
-    record {
-      table = length-marked pages to d.places ∙ m.kept.table;
-      least = m.kept.least;
-      most = m.kept.most;
-      size = m.kept.size;
-      inflate = m.inflate;
-      deflate = m.deflate;
-      statistics = m.kept.statistics;
-      report = m.report;
-      giving = λ p. omega (arith, m.giving p, ap (λ (v : Place). one_if (is_giving v)) (place p));
-      taking = λ told p. omega (arith, m.taking told p, ap (λ (v : Place). one_if (is_taking v)) (place p));
-      reporting = λ p. omega
-          (arith, m.reporting p, ap (λ (v : Place). one_if (is_reporting v)) (place p));
-      free = m.free;
-      used = λ p covered. place p ∙ m.used p covered;
-      reserved = λ p low. place p ∙ reserved_at p (is_in p pages) refl (m.kept.reserved p low);
-      processors = m.same.processors ∙ m.kept.processors;
-      set_aside = m.same.reserved ∙ m.kept.set_aside;
-    }
-  where
-    reserved_at : (p : ℕ) (b : Bool) → is_in p pages ≡ b → place_of d.places p ≡ Reserved
-        → cond (is_in p pages) to (place_of d.places p) ≡ Reserved
-    reserved_at p true e is =
-        (let wrong : true ≡ false = sym (ap (is_at Reserved) is) ∙ m.unreserved p e in cc)
-    reserved_at p false e is = ap (λ v. cond v to (place_of d.places p)) e ∙ is
+kept_changed d areas2 pages to held2 i2 e2 r2 m = grind (arith, place_placed, length-marked)
 
 -- pages that are in no held block, and move
 pub record Moves (d : DriverState) (areas2 : FreePages) (pages : List ℕ) (to : Place) (i2 e2 : RequestSide)
@@ -137,29 +107,27 @@ pub record Moves (d : DriverState) (areas2 : FreePages) (pages : List ℕ) (to :
   pub same : AreFor d.areas areas2
 
 pub kept_moved : (d : DriverState) (areas2 : FreePages) (pages : List ℕ) (to : Place) (i2 e2 : RequestSide)
-    (r2 : ReportSide) → Moves d areas2 pages to i2 e2 r2
-    → IsDriver (record d {
+    (r2 : ReportSide) → Moves d areas2 pages to i2 e2 r2 → IsDriver (record d {
       places = placed pages to d.places;
       areas = areas2;
       inflate = i2;
       deflate = e2;
       report = r2;
     })
-kept_moved d areas2 pages to i2 e2 r2 m =
-    kept_changed d areas2 pages to d.held i2 e2 r2 (record {
-      kept = m.kept;
-      there = m.there;
-      unreserved = m.unreserved;
-      inflate = m.inflate;
-      deflate = m.deflate;
-      giving = m.giving;
-      taking = m.taking;
-      report = m.report;
-      reporting = m.reporting;
-      free = m.free;
-      same = m.same;
-      used = λ p covered. used_at p (is_in p pages) refl (m.kept.used p covered);
-    })
+kept_moved d areas2 pages to i2 e2 r2 m = kept_changed d areas2 pages to d.held i2 e2 r2 (record {
+  kept = m.kept;
+  there = m.there;
+  unreserved = m.unreserved;
+  inflate = m.inflate;
+  deflate = m.deflate;
+  giving = m.giving;
+  taking = m.taking;
+  report = m.report;
+  reporting = m.reporting;
+  free = m.free;
+  same = m.same;
+  used = λ p covered. used_at p (is_in p pages) refl (m.kept.used p covered);
+})
   where
     used_at : (p : ℕ) (b : Bool) → is_in p pages ≡ b → place_of d.places p ≡ Used
         → cond (is_in p pages) to (place_of d.places p) ≡ Used

@@ -38,15 +38,8 @@ first_in : (first k : ℕ) (xs : List Bool) → get_or xs k false ≡ true
     → ((m : ℕ) → m < k → get_or xs m false ≡ false) → members_from first xs
     ≡ (first + k) ∷ members_from (suc (first + k)) (drop (suc k) xs)
 first_in first k [] there low = cc
-first_in first zero (x ∷ xs) there low = at x there
-  where
-    at : (b : Bool) → b ≡ true
-        → cond b (first ∷ members_from (suc first) xs) (members_from (suc first) xs)
-        ≡ (first + zero) ∷ members_from (suc (first + zero)) xs
-    at true e = ap (λ (n : ℕ). n ∷ members_from (suc n) xs) (omega arith)
-    at false e = cc
-first_in first (suc k) (x ∷ xs) there low =
-    at x (low zero (omega arith))
+first_in first zero (x ∷ xs) there low = grind arith
+first_in first (suc k) (x ∷ xs) there low = at x (low zero (omega arith))
     (first_in (suc first) k xs there (λ m lt. low (suc m) (omega arith)))
   where
     at : (b : Bool) → b ≡ false → members_from (suc first) xs
@@ -54,19 +47,15 @@ first_in first (suc k) (x ∷ xs) there low =
         → cond b (first ∷ members_from (suc first) xs) (members_from (suc first) xs)
         ≡ (first + suc k) ∷ members_from (suc (first + suc k)) (drop (suc k) xs)
     at true e ih = cc
-    at false e ih =
-        ih ∙ ap (λ (n : ℕ). n ∷ members_from (suc n) (drop (suc k) xs)) (omega arith)
+    at false e ih = ih ∙ ap (λ (n : ℕ). n ∷ members_from (suc n) (drop (suc k) xs)) (omega arith)
 
 -- the least member from a number on, and those after it
 next_member : (flags : List Bool) (from page : ℕ) → IsLeastFrom flags from page
-    → members_from from (drop from flags)
-    ≡ page ∷ members_from (page + 1) (drop (page + 1) flags)
-next_member flags from page least =
-    let k = page - from in
+    → members_from from (drop from flags) ≡ page ∷ members_from (page + 1) (drop (page + 1) flags)
+next_member flags from page least = let k = page - from in
     let here : from + k ≡ page = omega (arith, least.from) in
     let after : suc (from + k) ≡ page + 1 = omega arith in
-    let next : from + suc k ≡ page + 1 = omega arith in
-    first_in from k (drop from flags)
+    let next : from + suc k ≡ page + 1 = omega arith in first_in from k (drop from flags)
     (get_or-drop from flags k false ∙ (ap (λ (n : ℕ). get_or flags n false) here ∙ least.member))
     (λ m lt. get_or-drop from flags m false ∙ least.least (from + m) (omega arith) (omega arith))
     ∙ (ap (λ (n : ℕ). n ∷ members_from (suc (from + k)) (drop (suc k) (drop from flags))) here

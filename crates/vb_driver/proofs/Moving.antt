@@ -1,20 +1,20 @@
 -- The pages that each call moves.
-use Rattle.std.proofs.Common.{◌≡◌, ◌∙◌, sym, ap, subst, arith, refl, ℕ, zero, suc, replicate, ◌+◌}
-use Rattle.std.proofs.Common.{◌-◌, ◌<◌, ◌≤◌, Bool, true, false, cond, eqb, ◌||◌, ◌&&◌, List, []}
-use Rattle.std.proofs.Common.{◌∷◌, ◌++◌, length, take, set, get_or, map, count_by, inl, inr}
+use Rattle.std.proofs.Common.{◌≡◌, ◌∙◌, sym, ap, arith, refl, ℕ, zero, suc, replicate, ◌+◌, ◌-◌}
+use Rattle.std.proofs.Common.{◌<◌, ◌≤◌, Bool, true, false, cond, eqb, ◌||◌, ◌&&◌, List, [], ◌∷◌}
+use Rattle.std.proofs.Common.{◌++◌, length, take, set, get_or, map, count_by, inl, inr, is_none}
 use Rattle.std.proofs.lemmas.List.{length-replicate, length-take, length-map, get_or-map}
 use Rattle.std.proofs.lemmas.Bool.{cases_lt, lt-ltb, eq-eqb, ne_eqb, false_from_ne_true, both_ways}
 use Rattle.std.proofs.lemmas.List.FromFn.{get_or-map-range_with_len, length-map-range_with_len}
 use Rattle.std.{proofs.lemmas.List.{get_or_past, get_or-replicate, same_lists}, specs.List.list_all}
-use Rattle.std.{proofs.lemmas.List.Folds.list_any-append, proofs.Common.{is_none, slice_index_or}}
+use Rattle.std.{proofs.lemmas.List.Folds.list_any-append, proofs.Common.slice_index_or}
 use Rattle.vb_model.specs.Pages.{place_of, placed, is_free, is_used, is_giving, is_lent, is_taking}
 use Rattle.vb_model.specs.declared.places.Place.TheVariants.{Reserved, Free, Used, Giving, Lent}
 use Rattle.vb_model.proofs.Tables.{pages_where-passes, is_in-take, is_in-append, list_all-at}
-use Rattle.vb_model.{specs.Tests.{is_in, one_if, pages_from, pages_where}, specs.Orderly.times}
 use Rattle.vb_model.specs.Pages.{is_stranded, is_reporting, all_free, pages_of_all}
-use Rattle.vb_model.{specs.declared.places.Place.Place, proofs.Tables.count_by-cons}
 use Rattle.vb_model.specs.declared.places.Place.TheVariants.{Taking, Stranded, Reporting}
-use Rattle.vb_model.{specs.Life.place_after_reset, specs.Layout.{reserved_pages, ring_page}}
+use Rattle.vb_model.{proofs.Tables.count_by-cons, specs.Orderly.times, specs.Life.place_after_reset}
+use Rattle.vb_model.specs.Tests.{is_in, one_if, pages_from, pages_where}
+use Rattle.vb_model.{specs.declared.places.Place.Place, specs.Layout.{reserved_pages, ring_page}}
 use Rattle.vb_model.{proofs.GuestSteps.place_of-reset, proofs.Counts.length-pages_where}
 use Rattle.vb_ram.specs.Pages.{Pages}
 use Rattle.vb_pages.{specs.FreePages.FreePages, proofs.ListsLemmas.times_in}
@@ -30,7 +30,7 @@ use Rattle.vb_driver.proofs.Keeping.{kept_moved, there_by, free_same, free_marke
 use Rattle.vb_driver.proofs.Placing.{or_true, length-marked, marked-get}
 use Rattle.vb_driver.proofs.ReportTables.{none_owned, fresh_report_queue}
 use Rattle.vb_driver.proofs.RequestTables.{requests_taken, requests_fresh}
-use Rattle.vb_ring.{specs.Layout.IsSize, specs.Entries.is_own, specs.Ends.DriverEnd}
+use Rattle.vb_ring.{specs.Layout.IsSize, specs.Ends.DriverEnd}
 
 -- ---- tests of places
 
@@ -43,11 +43,7 @@ lowest_is places n test p h =
 
 pub posted_queue : (m1 m2 : Pages) (s1 s2 : RequestSide) (base queue size head : ℕ) (pages : List ℕ)
     → IsQueue s1 queue size → Posts m1 m2 s1 s2 base pages head → IsQueue s2 queue size
-posted_queue m1 m2 s1 s2 base queue size head pages q p = record {
-  requests = p.requests;
-  layout = ap (λ (s : RequestSide). s.ring.layout) p.state ∙ q.layout;
-  size = ap (λ (s : RequestSide). s.ring.size) p.state ∙ q.size;
-}
+posted_queue m1 m2 s1 s2 base queue size head pages q p = grind arith
 
 pub reaped_queue : (s1 : RequestSide) (queue size head : ℕ) → IsQueue s1 queue size
     → IsQueue (after_reap s1 head) queue size
@@ -62,10 +58,8 @@ reaped_queue s1 queue size head q = record {
 pub asked_kept : (m1 m2 : Pages) (d : DriverState) (e2 : RequestSide) (base count head : ℕ) → IsDriver d
     → Posts m1 m2 d.deflate e2 base (lowest_lent d count) head
     → IsDriver (record d { places = placed (lowest_lent d count) Taking d.places; deflate = e2 })
-asked_kept m1 m2 d e2 base count head kept posts =
-    let pages = lowest_lent d count in
-    let lent : (p : ℕ) → is_in p pages ≡ true
-    → place_of d.places p ≡ Lent =
+asked_kept m1 m2 d e2 base count head kept posts = let pages = lowest_lent d count in
+    let lent : (p : ℕ) → is_in p pages ≡ true → place_of d.places p ≡ Lent =
     λ p here. at_is Lent (place_of d.places p) (lowest_is d.places count is_lent p here) in
     let small : head < length d.deflate.sent =
     omega (arith, posts.small, kept.deflate.requests.buffers) in
@@ -79,8 +73,7 @@ asked_kept m1 m2 d e2 base count head kept posts =
       deflate = posted_queue m1 m2 d.deflate e2 base 1 d.queue_size head pages kept.deflate posts;
       giving = λ p. naming_same p (naming p d.inflate.sent) pages is_giving Taking (place_of d.places p)
           (kept.giving p) (λ here. ap is_giving (lent p here));
-      taking = λ told p. subst (λ (l : List (List ℕ)). naming p l ≤ one_if
-          (is_taking (cond (is_in p pages) Taking (place_of d.places p)))) (sym sent)
+      taking = λ told p. rw sent
           (naming_more p head pages d.deflate.sent is_taking Taking (place_of d.places p) small
           (kept.taking told p) (λ here. ap is_taking (lent p here))
           (once_lowest p count is_lent d.places) refl);
@@ -103,18 +96,15 @@ asked_kept m1 m2 d e2 base count head kept posts =
 -- where the host isn't told first they are free at once
 pub asked_freed : (m1 m2 : Pages) (d : DriverState) (areas2 : FreePages) (e2 : RequestSide)
     (base count head : ℕ) → IsDriver d → tells_host d ≡ false
-    → flags_of areas2 ≡ marked (lowest_lent d count) true (flags_of d.areas)
-    → AreFor d.areas areas2
-    → Posts m1 m2 d.deflate e2 base (lowest_lent d count) head
-    → IsDriver (record d {
+    → flags_of areas2 ≡ marked (lowest_lent d count) true (flags_of d.areas) → AreFor d.areas areas2
+    → Posts m1 m2 d.deflate e2 base (lowest_lent d count) head → IsDriver (record d {
       places = placed (lowest_lent d count) Free d.places;
       areas = areas2;
       deflate = e2;
     })
 asked_freed m1 m2 d areas2 e2 base count head kept untold given same posts =
     let pages = lowest_lent d count in
-    let lent : (p : ℕ) → is_in p pages ≡ true
-    → place_of d.places p ≡ Lent =
+    let lent : (p : ℕ) → is_in p pages ≡ true → place_of d.places p ≡ Lent =
     λ p here. at_is Lent (place_of d.places p) (lowest_is d.places count is_lent p here) in
     kept_moved d areas2 pages Free d.inflate e2 d.report (record {
       kept = kept;
@@ -141,43 +131,31 @@ asked_freed m1 m2 d areas2 e2 base count head kept untold given same posts =
 -- a deflate whose pages stay where they are is reaped
 pub forgotten_kept : (d : DriverState) (head : ℕ) → head < 16 → IsDriver d → tells_host d ≡ false
     → IsDriver (record d { deflate = after_reap d.deflate head })
-forgotten_kept d head lt kept untold =
-    record {
-      table = kept.table;
-      least = kept.least;
-      most = kept.most;
-      size = kept.size;
-      inflate = kept.inflate;
-      deflate = reaped_queue d.deflate 1 d.queue_size head kept.deflate;
-      statistics = kept.statistics;
-      report = kept.report;
-      giving = kept.giving;
-      taking = λ told p. absurd (let wrong : true ≡ false = sym told ∙ untold in cc);
-      reporting = kept.reporting;
-      free = kept.free;
-      processors = kept.processors;
-      set_aside = kept.set_aside;
-      used = kept.used;
-      reserved = kept.reserved;
-    }
+forgotten_kept d head lt kept untold = record {
+  table = kept.table;
+  least = kept.least;
+  most = kept.most;
+  size = kept.size;
+  inflate = kept.inflate;
+  deflate = reaped_queue d.deflate 1 d.queue_size head kept.deflate;
+  statistics = kept.statistics;
+  report = kept.report;
+  giving = kept.giving;
+  taking = λ told p. absurd (let wrong : true ≡ false = sym told ∙ untold in cc);
+  reporting = kept.reporting;
+  free = kept.free;
+  processors = kept.processors;
+  set_aside = kept.set_aside;
+  used = kept.used;
+  reserved = kept.reserved;
+}
 
 -- ---- stranded and free pages are offered
 
 pub stranded_apart : (d : DriverState) (count p : ℕ) (others : List ℕ)
     → list_all (λ page. is_free (place_of d.places page)) others ≡ true
     → is_in p (stranded_first d count) ≡ true → is_in p others ≡ false
-stranded_apart d count p others free here = at (is_in p others) refl
-  where
-    at : (b : Bool) → is_in p others ≡ b → is_in p others ≡ false
-    at false e = e
-    at true e =
-        let yes_ : is_free (place_of d.places p) ≡ true =
-        list_all-at (λ page. is_free (place_of d.places page)) others p free e in
-        let no_ : is_free (place_of d.places p) ≡ false =
-        ap is_free (at_is Stranded (place_of d.places p)
-        (lowest_is d.places count is_stranded p here)) in
-        let wrong : true ≡ false = sym yes_ ∙ no_ in
-        cc
+stranded_apart d count p others free here = grind (arith, list_all-at, at_is, lowest_is)
 
 -- a page that may be offered
 pub data Idle (place : Place) : Type 0 where
@@ -193,8 +171,7 @@ pub offered_kept : (m1 m2 : Pages) (d : DriverState) (areas2 : FreePages) (i2 : 
     (base count head : ℕ) (others : List ℕ) → IsDriver d
     → list_all (λ page. is_free (place_of d.places page)) others ≡ true
     → ((p : ℕ) → times p others ≤ 1) → flags_of areas2 ≡ marked others false (flags_of d.areas)
-    → AreFor d.areas areas2
-    → Posts m1 m2 d.inflate i2 base (stranded_first d count ++ others) head
+    → AreFor d.areas areas2 → Posts m1 m2 d.inflate i2 base (stranded_first d count ++ others) head
     → IsDriver (record d {
       places = placed (stranded_first d count ++ others) Giving d.places;
       inflate = i2;
@@ -213,8 +190,7 @@ offered_kept m1 m2 d areas2 i2 base count head others kept free once taken same 
     let small : head < length d.inflate.sent =
     omega (arith, posts.small, kept.inflate.requests.buffers) in
     let sent : i2.sent ≡ set d.inflate.sent head pages = ap (λ (s : RequestSide). s.sent) posts.state in
-    let once_all : (p : ℕ)
-    → times p pages ≤ 1 =
+    let once_all : (p : ℕ) → times p pages ≤ 1 =
     λ p. once_append p first others (once_lowest p count is_stranded d.places) (once p)
     (stranded_apart d count p others free) in
     kept_moved d areas2 pages Giving i2 d.deflate d.report (record {
@@ -227,8 +203,7 @@ offered_kept m1 m2 d areas2 i2 base count head others kept free once taken same 
       unused = λ p here. idle_test (place_of d.places p) is_used false refl refl (idle p here);
       inflate = posted_queue m1 m2 d.inflate i2 base 0 d.queue_size head pages kept.inflate posts;
       deflate = kept.deflate;
-      giving = λ p. subst (λ (l : List (List ℕ)). naming p l ≤ one_if
-          (is_giving (cond (is_in p pages) Giving (place_of d.places p)))) (sym sent)
+      giving = λ p. rw sent
           (naming_more p head pages d.inflate.sent is_giving Giving (place_of d.places p) small
           (kept.giving p) (λ here. idle_test (place_of d.places p) is_giving false refl refl
           (idle p here)) (once_all p) refl);
@@ -253,34 +228,27 @@ offered_kept m1 m2 d areas2 i2 base count head others kept free once taken same 
         → is_in p others ≡ o → is_in p (stranded_first d count) ≡ f
         → cond (is_in p others) false (is_free place)
         ≡ is_free (cond (is_in p (stranded_first d count ++ others)) Giving place)
-    agree p place is true f e g =
-        ap (λ v. cond v false (is_free place)) e
+    agree p place is true f e g = ap (λ v. cond v false (is_free place)) e
         ∙ sym (ap (λ v. is_free (cond v Giving place))
         (in_pages p ∙ (ap (λ v. is_in p (stranded_first d count) || v) e
         ∙ or_true (is_in p (stranded_first d count)))))
-    agree p place is false true e g =
-        ap (λ v. cond v false (is_free place)) e
+    agree p place is false true e g = ap (λ v. cond v false (is_free place)) e
         ∙ (ap is_free (is ∙ at_is Stranded (place_of d.places p)
-        (lowest_is d.places count is_stranded p g))
-        ∙ sym (ap (λ v. is_free (cond v Giving place))
+        (lowest_is d.places count is_stranded p g)) ∙ sym (ap (λ v. is_free (cond v Giving place))
         (in_pages p ∙ ap (λ v. v || is_in p others) g)))
-    agree p place is false false e g =
-        ap (λ v. cond v false (is_free place)) e
+    agree p place is false false e g = ap (λ v. cond v false (is_free place)) e
         ∙ sym (ap (λ v. is_free (cond v Giving place))
         (in_pages p ∙ (ap (λ v. v || is_in p others) g ∙ e)))
 
 -- ---- used requests are reaped
 
-pub lent_kept : (d : DriverState) (head : ℕ) → head < 16 → IsDriver d
-    → IsDriver (record d {
-      places = placed (sent_by d.inflate head) Lent d.places;
-      inflate = after_reap d.inflate head;
-    })
-lent_kept d head lt kept =
-    let pages = sent_by d.inflate head in
+pub lent_kept : (d : DriverState) (head : ℕ) → head < 16 → IsDriver d → IsDriver (record d {
+  places = placed (sent_by d.inflate head) Lent d.places;
+  inflate = after_reap d.inflate head;
+})
+lent_kept d head lt kept = let pages = sent_by d.inflate head in
     let small : head < length d.inflate.sent = omega (arith, kept.inflate.requests.buffers) in
-    let giving : (p : ℕ) → is_in p pages ≡ true
-    → is_giving (place_of d.places p) ≡ true =
+    let giving : (p : ℕ) → is_in p pages ≡ true → is_giving (place_of d.places p) ≡ true =
     λ p here. named_place p head d.inflate.sent is_giving (place_of d.places p) small
     (kept.giving p) here in
     kept_moved d d.areas pages Lent (after_reap d.inflate head) d.deflate d.report (record {
@@ -306,8 +274,7 @@ lent_kept d head lt kept =
     })
   where
     same_free : (p : ℕ) (place : Place) → place ≡ place_of d.places p → (b : Bool)
-        → is_in p (sent_by d.inflate head) ≡ b
-        → ((q : ℕ) → is_in q (sent_by d.inflate head) ≡ true
+        → is_in p (sent_by d.inflate head) ≡ b → ((q : ℕ) → is_in q (sent_by d.inflate head) ≡ true
         → is_giving (place_of d.places q) ≡ true)
         → is_free place ≡ is_free (cond (is_in p (sent_by d.inflate head)) Lent place)
     same_free p place is true e giving =
@@ -318,17 +285,14 @@ lent_kept d head lt kept =
 pub freed_kept : (d : DriverState) (areas2 : FreePages) (head : ℕ) → head < 16 → IsDriver d
     → tells_host d ≡ true
     → flags_of areas2 ≡ marked (sent_by d.deflate head) true (flags_of d.areas)
-    → AreFor d.areas areas2
-    → IsDriver (record d {
+    → AreFor d.areas areas2 → IsDriver (record d {
       places = placed (sent_by d.deflate head) Free d.places;
       deflate = after_reap d.deflate head;
       areas = areas2;
     })
-freed_kept d areas2 head lt kept tells given same =
-    let pages = sent_by d.deflate head in
+freed_kept d areas2 head lt kept tells given same = let pages = sent_by d.deflate head in
     let small : head < length d.deflate.sent = omega (arith, kept.deflate.requests.buffers) in
-    let taking : (p : ℕ) → is_in p pages ≡ true
-    → is_taking (place_of d.places p) ≡ true =
+    let taking : (p : ℕ) → is_in p pages ≡ true → is_taking (place_of d.places p) ≡ true =
     λ p here. named_place p head d.deflate.sent is_taking (place_of d.places p) small
     (kept.taking tells p) here in
     kept_moved d areas2 pages Free d.inflate (after_reap d.deflate head) d.report (record {
@@ -362,8 +326,7 @@ freed_kept d areas2 head lt kept tells given same =
 pub count_map : (test : Place → Bool) (xs : List Place)
     → count_by (λ f. f) (map test xs) ≡ count_by test xs
 count_map test [] = refl
-count_map test (x ∷ xs) =
-    count_by-cons (λ f. f) (test x) (map test xs)
+count_map test (x ∷ xs) = count_by-cons (λ f. f) (test x) (map test xs)
     ∙ (ap (λ n. one_if (test x) + n) (count_map test xs) ∙ sym (count_by-cons test x xs))
 
 -- enough pages are free
@@ -372,11 +335,7 @@ pub others_there : (d : DriverState) (count len : ℕ) (free : List Bool)
     → count ≤ count_by is_stranded d.places + count_by is_free d.places
     → count - len ≤ count_by (λ f. f) free
 others_there d count len free is len_is there =
-    let all : count_by (λ f. f) free ≡ count_by is_free d.places =
-    ap (count_by (λ f. f)) is ∙ count_map is_free d.places in
-    let many : length (pages_where is_stranded d.places) ≡ count_by is_stranded d.places =
-    length-pages_where is_stranded d.places in
-    omega (arith, length-take count (pages_where is_stranded d.places))
+    grind (arith, count_map, length-pages_where, length-take)
 
 pub first_few : (d : DriverState) (count : ℕ) → length (stranded_first d count) ≤ count
 first_few d count = omega (arith, length-take count (pages_where is_stranded d.places))
@@ -389,18 +348,12 @@ list_all_same f h (x ∷ xs) same =
 
 pub free_is_place : (places : List Place) (free : List Bool) (p : ℕ) → free ≡ map is_free places
     → is_free_at free p ≡ is_free (place_of places p)
-free_is_place places free p is = ap (λ l. is_free_at l p) is ∙ elim (cases_lt p (length places)) [
-  | inl lt ↦ get_or-map is_free places p Reserved false lt
-  | inr past ↦ get_or_past (map is_free places) p false (omega (arith, length-map places is_free))
-      ∙ ap is_free (sym (get_or_past places p Reserved past))
-]
+free_is_place places free p is = grind (arith, cases_lt, get_or-map, get_or_past, length-map)
 
 pub others_free : (d : DriverState) (free : List Bool) (others : List ℕ)
     → free ≡ map is_free d.places → list_all (is_free_at free) others ≡ true
     → list_all (λ page. is_free (place_of d.places page)) others ≡ true
-others_free d free others is all =
-    sym (list_all_same (is_free_at free) (λ page. is_free (place_of d.places page)) others
-    (λ p. free_is_place d.places free p is)) ∙ all
+others_free d free others is all = grind (arith, list_all_same, free_is_place)
 
 pub offered_inside : (d : DriverState) (count p : ℕ) (others : List ℕ)
     → list_all (λ page. is_free (place_of d.places page)) others ≡ true
@@ -416,60 +369,51 @@ offered_inside d count p others free here =
 
 pub lent_inside : (d : DriverState) (head p : ℕ) → head < 16 → IsDriver d
     → is_in p (sent_by d.inflate head) ≡ true → p < length d.places
-lent_inside d head p lt kept here =
-    there_by d.places p is_giving refl
+lent_inside d head p lt kept here = there_by d.places p is_giving refl
     (named_place p head d.inflate.sent is_giving (place_of d.places p)
     (omega (arith, kept.inflate.requests.buffers)) (kept.giving p) here)
 
-pub freed_taking : (d : DriverState) (head p : ℕ) → head < 16 → IsDriver d
-    → tells_host d ≡ true
+pub freed_taking : (d : DriverState) (head p : ℕ) → head < 16 → IsDriver d → tells_host d ≡ true
     → is_in p (sent_by d.deflate head) ≡ true → place_of d.places p ≡ Taking
-freed_taking d head p lt kept told here =
-    at_is Taking (place_of d.places p)
+freed_taking d head p lt kept told here = at_is Taking (place_of d.places p)
     (named_place p head d.deflate.sent is_taking (place_of d.places p)
     (omega (arith, kept.deflate.requests.buffers)) (kept.taking told p) here)
 
-pub freed_once : (d : DriverState) (head p : ℕ) → head < 16 → IsDriver d
-    → tells_host d ≡ true
+pub freed_once : (d : DriverState) (head p : ℕ) → head < 16 → IsDriver d → tells_host d ≡ true
     → times p (sent_by d.deflate head) ≤ 1
-freed_once d head p lt kept told =
-    named_once p head d.deflate.sent is_taking (place_of d.places p)
+freed_once d head p lt kept told = named_once p head d.deflate.sent is_taking (place_of d.places p)
     (omega (arith, kept.deflate.requests.buffers)) (kept.taking told p)
 
--- ---- a page that isn't used, free or reserved
+-- ---- a page that isn't used, free or reserved may be given back
 
-pub place_uncovered : (d : DriverState) (p : ℕ) (place : Place) → IsDriver d → is_used place ≡ false
-    → place_of d.places p ≡ place → is_covered p d.held ≡ false
-place_uncovered d p place kept unused is =
-    false_from_ne_true (is_covered p d.held) (λ e.
-    both_ways (is_used (place_of d.places p)) (ap is_used is ∙ unused)
-    (ap is_used (kept.used p e)))
+pub record IsOut (d : DriverState) (p : ℕ) : Type 0 where
+  pub unreserved : d.areas.reserved ≤ p
+  pub inside : p < length (flags_of d.areas)
+  pub taken : is_free_at (flags_of d.areas) p ≡ false
+  pub uncovered : is_covered p d.held ≡ false
+  pub there : p < length d.places
 
-pub place_unfree : (d : DriverState) (p : ℕ) (place : Place) → IsDriver d → is_free place ≡ false
-    → place_of d.places p ≡ place → is_free_at (flags_of d.areas) p ≡ false
-place_unfree d p place kept unfree is =
-    free_is_place d.places (flags_of d.areas) p kept.free ∙ (ap is_free is ∙ unfree)
-
-pub place_inside : (d : DriverState) (p : ℕ) (place : Place) → IsDriver d
-    → is_at Reserved place ≡ false → place_of d.places p ≡ place
-    → (p < length (flags_of d.areas)) × (p < length d.places)
-place_inside d p place kept unreserved is =
-    let inside : p < length d.places = elim (cases_lt p (length d.places)) [
+pub is_out : (d : DriverState) (p : ℕ) (place : Place) → IsDriver d → is_at Reserved place ≡ false
+    → is_free place ≡ false → is_used place ≡ false → place_of d.places p ≡ place → IsOut d p
+is_out d p place kept unreserved unfree unused is =
+    let not_reserved : is_at Reserved (place_of d.places p) ≡ false =
+    ap (is_at Reserved) is ∙ unreserved in
+    let there : p < length d.places = elim (cases_lt p (length d.places)) [
       | inl lt ↦ lt
-      | inr past ↦ absurd (both_ways (is_at Reserved (place_of d.places p))
-          (ap (is_at Reserved) is ∙ unreserved)
+      | inr past ↦ absurd (both_ways (is_at Reserved (place_of d.places p)) not_reserved
           (ap (is_at Reserved) (get_or_past d.places p Reserved past)))
-    ] in
-    (omega (arith, ap length kept.free, length-map d.places is_free), inside)
-
-pub place_unreserved : (d : DriverState) (p : ℕ) (place : Place) → IsDriver d
-    → is_at Reserved place ≡ false → place_of d.places p ≡ place
-    → d.areas.reserved ≤ p
-place_unreserved d p place kept unreserved is = elim (cases_lt p (reserved_pages d.queue_size)) [
-  | inl low ↦ absurd (both_ways (is_at Reserved (place_of d.places p))
-      (ap (is_at Reserved) is ∙ unreserved) (ap (is_at Reserved) (kept.reserved p low)))
-  | inr far ↦ omega (arith, kept.set_aside)
-]
+    ] in record {
+      unreserved = elim (cases_lt p (reserved_pages d.queue_size)) [
+        | inl low ↦ absurd (both_ways (is_at Reserved (place_of d.places p)) not_reserved
+            (ap (is_at Reserved) (kept.reserved p low)))
+        | inr far ↦ omega (arith, kept.set_aside)
+      ];
+      inside = omega (arith, ap length kept.free, length-map d.places is_free);
+      taken = free_is_place d.places (flags_of d.areas) p kept.free ∙ (ap is_free is ∙ unfree);
+      uncovered = false_from_ne_true (is_covered p d.held) (λ e. both_ways
+          (is_used (place_of d.places p)) (ap is_used is ∙ unused) (ap is_used (kept.used p e)));
+      there = there;
+    }
 
 -- ---- a reset
 
@@ -494,16 +438,7 @@ in_from test n k zero (x ∷ xs) d lt is = at (test x)
     at true = ap (λ (v : Bool). v || is_in n (pages_from (suc k) test xs)) here
     at false = past
 in_from test n k (suc i) (x ∷ xs) d lt is =
-    at (test x) (in_from test n (suc k) i xs d (omega arith) (omega arith))
-  where
-    other : eqb k n ≡ false
-    other = ne_eqb k n (λ e. omega arith)
-
-    at : (b : Bool) → is_in n (pages_from (suc k) test xs) ≡ test (get_or xs i d)
-        → is_in n (cond b (k ∷ pages_from (suc k) test xs) (pages_from (suc k) test xs))
-        ≡ test (get_or xs i d)
-    at true ih = ap (λ (v : Bool). v || is_in n (pages_from (suc k) test xs)) other ∙ ih
-    at false ih = ih
+    grind (arith, ne_eqb, in_from test n (suc k) i xs d (omega arith) (omega arith))
 
 in_where : {A : Type 0} (test : A → Bool) (xs : List A) (n : ℕ) (d : A) → n < length xs
     → is_in n (pages_where test xs) ≡ test (get_or xs n d)
@@ -523,8 +458,7 @@ free_after Reporting = refl
 free_all_after : (places : List Place)
     → marked (pages_where is_reporting places) true (map is_free places)
     ≡ map is_free (map place_after_reset places)
-free_all_after places =
-    let pages = pages_where is_reporting places in
+free_all_after places = let pages = pages_where is_reporting places in
     let left = marked pages true (map is_free places) in
     let right = map is_free (map place_after_reset places) in
     let n1 : length left ≡ length places =
@@ -537,8 +471,7 @@ free_all_after places =
     ∙ (ap (λ (v : Bool). cond (is_in k pages) true v)
     (get_or-map is_free places k Reserved d inside)
     ∙ (ap (λ (v : Bool). cond v true (is_free (place_of places k)))
-    (in_where is_reporting places k Reserved inside)
-    ∙ (sym (free_after (place_of places k))
+    (in_where is_reporting places k Reserved inside) ∙ (sym (free_after (place_of places k))
     ∙ sym (get_or-map is_free (map place_after_reset places) k Reserved d
     (omega (arith, length-map places place_after_reset))
     ∙ ap is_free (get_or-map place_after_reset places k Reserved Reserved inside))))))
@@ -549,10 +482,7 @@ naming_none p (suc n) = let ih : naming p (replicate {A = List ℕ} n []) ≡ 0 
     omega (arith, ih)
 
 none_sent : (i : ℕ) → slice_index_or (replicate {A = List ℕ} 16 []) i [] ≡ []
-none_sent i = elim (cases_lt i 16) [
-  | inl lt ↦ get_or-replicate 16 i [] [] lt
-  | inr past ↦ get_or_past (replicate {A = List ℕ} 16 []) i [] past
-]
+none_sent i = grind (arith, cases_lt, get_or-replicate, get_or_past)
 
 fresh_queue : (queue size : ℕ) → IsQueue (fresh_side queue size) queue size
 fresh_queue queue size = record {
@@ -562,108 +492,74 @@ fresh_queue queue size = record {
 }
 
 pub fresh_statistics_queue : (size : ℕ) → IsStatisticsQueue (fresh_statistics size) size
-fresh_statistics_queue size = record {
-  single = λ i used. (let gone : true ≡ false = sym (ap is_none (none_owned size i)) ∙ used in cc);
-  first = λ i head. (let gone : false ≡ true = sym (ap (is_own i) (none_owned size i)) ∙ head in
-      cc);
-  layout = refl;
-  size = refl;
-}
+fresh_statistics_queue size = grind (arith, is_none, none_owned)
 
 pub reset_kept : (d : DriverState) (areas2 : FreePages) (features : ℕ) → IsDriver d
     → flags_of areas2 ≡ marked (pages_where is_reporting d.places) true (flags_of d.areas)
-    → AreFor d.areas areas2
-    → IsDriver (record d {
+    → AreFor d.areas areas2 → IsDriver (record d {
       places = map place_after_reset d.places;
       areas = areas2;
       inflate = fresh_side 0 d.queue_size;
       deflate = fresh_side 1 d.queue_size;
       statistics = fresh_statistics d.queue_size;
       report = fresh_report d.queue_size;
-      features =
-          features;
+      features = features;
       actual = 0;
     })
 reset_kept d areas2 features kept given same =
-    record {
-      table = length-map d.places place_after_reset ∙ kept.table;
-      least = kept.least;
-      most = kept.most;
-      size = kept.size;
-      inflate = fresh_queue 0 d.queue_size;
-      deflate = fresh_queue 1 d.queue_size;
-      statistics = fresh_statistics_queue d.queue_size;
-      report = fresh_report_queue d.queue_size;
-      giving = λ p. omega (arith, naming_none p 16);
-      taking = λ told p. omega (arith, naming_none p 16);
-      reporting = λ p. omega arith;
-      free = given ∙ (ap (marked (pages_where is_reporting d.places) true) kept.free
-          ∙ free_all_after d.places);
-      used = λ p covered. place_of-reset d.places p ∙ ap place_after_reset (kept.used p covered);
-      reserved = λ p low. place_of-reset d.places p ∙ ap place_after_reset (kept.reserved p low);
-      processors = same.processors ∙ kept.processors;
-      set_aside = same.reserved ∙ kept.set_aside;
-    }
+    grind (
+      arith,
+      length-map,
+      fresh_queue,
+      fresh_statistics_queue,
+      fresh_report_queue,
+      naming_none,
+      free_all_after,
+      place_of-reset,
+    )
 
 -- ---- the queues begin anew
 
 pub renewed_kept : (d : DriverState) (statistics2 : DriverEnd) → IsDriver d
-    → IsStatisticsQueue statistics2 d.queue_size
-    → IsDriver (record d {
+    → IsStatisticsQueue statistics2 d.queue_size → IsDriver (record d {
       inflate = fresh_side 0 d.queue_size;
       deflate = fresh_side 1 d.queue_size;
       statistics = statistics2;
       report = fresh_report d.queue_size;
     })
 renewed_kept d statistics2 kept statistics =
-    record {
-      table = kept.table;
-      least = kept.least;
-      most = kept.most;
-      size = kept.size;
-      inflate = fresh_queue 0 d.queue_size;
-      deflate = fresh_queue 1 d.queue_size;
-      statistics = statistics;
-      report = fresh_report_queue d.queue_size;
-      giving = λ p. omega (arith, naming_none p 16);
-      taking = λ told p. omega (arith, naming_none p 16);
-      reporting = λ p. omega arith;
-      free = kept.free;
-      used = kept.used;
-      reserved = kept.reserved;
-      processors = kept.processors;
-      set_aside = kept.set_aside;
-    }
+    grind (arith, fresh_queue, fresh_report_queue, naming_none)
 
 -- ---- a driver as it is made
 
-reserved_first : (reserved n p : ℕ) → p < reserved
-    → place_of (all_free reserved n) p ≡ Reserved
-reserved_first reserved n p low = elim (cases_lt p n) [
-  | inl lt ↦ get_or-map-range_with_len (first_place reserved) 0 n p p Reserved lt (omega arith)
-      ∙ ap (λ (b : Bool). cond b Reserved Free) (lt-ltb p reserved low)
-  | inr past ↦ get_or_past (all_free reserved n) p Reserved
-      (omega (arith, length-map-range_with_len (first_place reserved) 0 n))
-]
+reserved_first : (reserved n p : ℕ) → p < reserved → place_of (all_free reserved n) p ≡ Reserved
+reserved_first reserved n p low =
+    grind (
+      arith,
+      cases_lt,
+      get_or-map-range_with_len,
+      lt-ltb,
+      get_or_past,
+      length-map-range_with_len,
+    )
 
 pub fresh_kept : (pages size processors f : ℕ) → 64 ≤ pages → pages ≤ 65536 → IsSize size
     → IsDriver (record (fresh_driver pages size processors) { features = f })
-fresh_kept pages size processors f least most sized =
-    record {
-      table = length-map-range_with_len (first_place (reserved_pages size)) 0 pages;
-      least = least;
-      most = most;
-      size = sized;
-      inflate = fresh_queue 0 size;
-      deflate = fresh_queue 1 size;
-      giving = λ p. omega (arith, naming_none p 16);
-      taking = λ told p. omega (arith, naming_none p 16);
-      statistics = fresh_statistics_queue size;
-      report = fresh_report_queue size;
-      reporting = λ p. omega arith;
-      free = fresh_flags pages processors (reserved_pages size);
-      used = λ p covered. (let wrong : false ≡ true = covered in cc);
-      reserved = reserved_first (reserved_pages size) pages;
-      processors = length-replicate {A = List ℕ} processors [];
-      set_aside = refl;
-    }
+fresh_kept pages size processors f least most sized = record {
+  table = length-map-range_with_len (first_place (reserved_pages size)) 0 pages;
+  least = least;
+  most = most;
+  size = sized;
+  inflate = fresh_queue 0 size;
+  deflate = fresh_queue 1 size;
+  giving = λ p. omega (arith, naming_none p 16);
+  taking = λ told p. omega (arith, naming_none p 16);
+  statistics = fresh_statistics_queue size;
+  report = fresh_report_queue size;
+  reporting = λ p. omega arith;
+  free = fresh_flags pages processors (reserved_pages size);
+  used = λ p covered. (let wrong : false ≡ true = covered in cc);
+  reserved = reserved_first (reserved_pages size) pages;
+  processors = length-replicate {A = List ℕ} processors [];
+  set_aside = refl;
+}

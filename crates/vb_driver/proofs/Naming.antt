@@ -12,17 +12,14 @@ use Rattle.vb_driver.specs.State.{naming}
 -- a list in which no page stands twice
 pub once_distinct : (p : ℕ) (xs : List ℕ) → AllDistinct xs → times p xs ≤ 1
 once_distinct p [] d = omega arith
-once_distinct p (x ∷ xs) d =
-    let ih : times p xs ≤ 1 = once_distinct p xs d.1 in
+once_distinct p (x ∷ xs) d = let ih : times p xs ≤ 1 = once_distinct p xs d.1 in
     let cons : times p (x ∷ xs) ≡ one_if (eqb x p) + times p xs =
-    count_by-cons (λ q. eqb q p) x xs in
-    elim (cases_eq x p) [
+    count_by-cons (λ q. eqb q p) x xs in elim (cases_eq x p) [
       | inl same ↦
           let out : is_in p xs ≡ false =
           ap (λ (n : ℕ). is_in n xs) (sym same) ∙ opposite (is_in x xs) d.0 in
           let none : times p xs ≡ 0 = times_out p xs out in
-          let most : one_if (eqb x p) ≤ 1 = one_if_le (eqb x p) in
-          omega arith
+          let most : one_if (eqb x p) ≤ 1 = one_if_le (eqb x p) in omega arith
       | inr ne ↦ (let none : one_if (eqb x p) ≡ 0 = ap one_if (ne_eqb x p ne) in omega arith)
     ]
   where
@@ -47,8 +44,7 @@ once_from p k test (x ∷ xs) = at (test x) (once_from p (suc k) test xs)
     at true rest =
         let cons : times p (k ∷ pages_from (suc k) test xs)
         ≡ one_if (eqb k p) + times p (pages_from (suc k) test xs) =
-        count_by-cons (λ q. eqb q p) k (pages_from (suc k) test xs) in
-        elim (cases_eq k p) [
+        count_by-cons (λ q. eqb q p) k (pages_from (suc k) test xs) in elim (cases_eq k p) [
           | inl same ↦ (let none : times p (pages_from (suc k) test xs)
               ≡ 0 = later_none p (suc k) test xs (omega arith) in
               let most : one_if (eqb k p) ≤ 1 = one_if_le (eqb k p) in omega arith)
@@ -57,12 +53,11 @@ once_from p k test (x ∷ xs) = at (test x) (once_from p (suc k) test xs)
 
 pub once_lowest : {A : Type 0} (p n : ℕ) (test : A → Bool) (xs : List A)
     → times p (take n (pages_where test xs)) ≤ 1
-once_lowest p n test xs =
-    grind (
-      arith,
-      once_from p 0 test xs,
-      sum_by-take-le (λ q. cond (eqb q p) 1 0) (pages_where test xs) n,
-    )
+once_lowest p n test xs = grind (
+  arith,
+  once_from p 0 test xs,
+  sum_by-take-le (λ q. cond (eqb q p) 1 0) (pages_where test xs) n,
+)
 
 pub once_append : (p : ℕ) (xs ys : List ℕ) → times p xs ≤ 1 → times p ys ≤ 1
     → (is_in p xs ≡ true → is_in p ys ≡ false) → times p (xs ++ ys) ≤ 1

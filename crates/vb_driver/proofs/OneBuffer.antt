@@ -1,13 +1,12 @@
 -- The queue of statistics, of which one buffer is out at the most: at descriptor 0.
-use Rattle.std.proofs.Common.{◌≡◌, ◌∙◌, sym, ap, subst, arith, refl, ℕ, ◌+◌, ◌<◌, ◌%◌, Bool, true}
-use Rattle.std.proofs.Common.{false, List, [], ◌∷◌, length, inl, inr, eq-eqb, Option, Some, None}
-use Rattle.std.proofs.Common.{Result, Ok, is_none, is_some, MatchBool}
-use Rattle.std.proofs.lemmas.Bool.{cases_Bool}
+use Rattle.std.proofs.Common.{◌≡◌, ◌∙◌, sym, ap, arith, refl, ℕ, ◌+◌, ◌<◌, ◌%◌, Bool, true, false}
+use Rattle.std.proofs.Common.{List, [], ◌∷◌, length, inl, inr, eq-eqb, Option, Some, None, Result}
+use Rattle.std.{proofs.Common.{Ok, is_none, is_some, MatchBool}, proofs.lemmas.Bool.cases_Bool}
 use Rattle.vb_ram.specs.Pages.{Pages}
 use Rattle.vb_ring.specs.Ends.{DriverEnd, IsDriverEnd, is_unused, outstanding, next_head, next_path}
-use Rattle.vb_ring.{specs.declared.driver.RingBroken.RingBroken, specs.Calls.TakesUsedBy}
-use Rattle.vb_ring.{specs.Entries.{is_own, is_head, only_head}, proofs.OwnerLaws.released-at}
-use Rattle.vb_ring.specs.Ends.{after_add, claimed, released, used_answer}
+use Rattle.vb_ring.{specs.Ends.{after_add, claimed, released, used_answer}, specs.Calls.TakesUsedBy}
+use Rattle.vb_ring.{specs.declared.driver.RingBroken.RingBroken, proofs.OwnerLaws.released-at}
+use Rattle.vb_ring.specs.Entries.{is_own, is_head, only_head}
 use Rattle.vb_ring.proofs.Numbers.{numbers_first, numbers_has, numbers_none}
 use Rattle.vb_driver.{specs.State.{IsStatisticsQueue, fresh_statistics}, specs.Calls.emptied}
 use Rattle.vb_driver.proofs.ReportTables.{none_owned}
@@ -49,8 +48,7 @@ claimed_queue owner unused some i used = grind (arith, claimed_other)
 
 pub queue_added : (r : DriverEnd) (n : ℕ) → IsStatisticsQueue r n → IsDriverEnd r → 0 < r.size
     → ((i : ℕ) → is_unused r.owner i ≡ true) → IsStatisticsQueue (after_add r 1 (Ok 0)) n
-queue_added r n queue end some unused =
-    let owner = claimed (0 ∷ []) 0 r.owner in
+queue_added r n queue end some unused = let owner = claimed (0 ∷ []) 0 r.owner in
     let inside : 0 < length r.owner = omega (arith, end.table) in
     let path : next_path r 1 ≡ 0 ∷ [] = next_path_is r 0 (first_head r some unused) in
     let good : IsStatisticsQueue
@@ -65,10 +63,7 @@ queue_added r n queue end some unused =
       ];
       layout = queue.layout;
       size = queue.size;
-    } in
-    subst (λ (p : List ℕ). IsStatisticsQueue
-    (record r { published = (r.published + 1) % 65536; owner = claimed p 0 r.owner }) n) (sym path)
-    good
+    } in rw path good
 
 -- ---- and comes back
 
@@ -89,30 +84,24 @@ taken_first r n h next queue e = grind arith
 
 -- what is told of a take: whether the buffer was used
 abbrev Tells : Pages → DriverEnd → DriverEnd → ℕ → Bool → Type 0
-Tells mem r r2 n told =
-    MatchBool told
+Tells mem r r2 n told = MatchBool told
     ((used_answer mem r ≡ Ok (Some 0)) × TakesUsedBy mem r r2 (Ok (Some 0)) × (r2 ≡ emptied r)
-    × (outstanding r2 ≡ 0) × IsStatisticsQueue r2 n)
-    ((used_answer mem r ≡ Ok None) × (r2 ≡ r))
+    × (outstanding r2 ≡ 0) × IsStatisticsQueue r2 n) ((used_answer mem r ≡ Ok None) × (r2 ≡ r))
 
 pub tells_of : (mem : Pages) (r r2 now : DriverEnd) (n : ℕ) (used : Option ℕ) (told : Bool)
     → r ≡ now → IsStatisticsQueue now n → told ≡ is_some used → TakesUsedBy mem r r2 (Ok used)
     → Tells mem now r2 n told
-tells_of mem r r2 now n used told at queue is takes =
-    subst (λ (v : DriverEnd). Tells mem v r2 n told) at
-    (subst (λ (b : Bool). Tells mem r r2 n b) (sym is)
-    (by_used used (subst (λ (v : DriverEnd). IsStatisticsQueue v n) (sym at) queue) takes))
+tells_of mem r r2 now n used told at queue is takes = rw (← at) (rw is
+    (by_used used (rw at queue) takes))
   where
     by_used : (o : Option ℕ) → IsStatisticsQueue r n → TakesUsedBy mem r r2 (Ok o)
         → Tells mem r r2 n (is_some o)
     by_used None q t = (sym t.value, t.state)
-    by_used (Some h) q t =
-        let first : h ≡ 0 = taken_first r n h _ q (sym t.value) in
-        let taken : TakesUsedBy mem r r2 (Ok (Some 0)) =
-        subst (λ (k : ℕ). TakesUsedBy mem r r2 (Ok (Some k))) first t in (
+    by_used (Some h) q t = let first : h ≡ 0 = taken_first r n h _ q (sym t.value) in
+        let taken : TakesUsedBy mem r r2 (Ok (Some 0)) = rw (← first) t in (
           sym taken.value,
           taken,
           taken.state,
           ap outstanding taken.state ∙ taken_none r n q,
-          subst (λ (v : DriverEnd). IsStatisticsQueue v n) (sym taken.state) (queue_taken r n q),
+          rw taken.state (queue_taken r n q),
         )

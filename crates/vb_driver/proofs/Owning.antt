@@ -35,8 +35,7 @@ whole_is places free b is = grind (arith, free_is_place)
 pub blocks_same : (d : DriverState) (order : ℕ) → IsDriver d
     → list_any (λ start. is_free_block (flags_of d.areas) (block_at start order))
     (range_with_len 0 (length (flags_of d.areas)))
-    ≡ list_any (λ start. is_wholly_free d.places (block_at start order))
-    (range_with_len 0 d.pages)
+    ≡ list_any (λ start. is_wholly_free d.places (block_at start order)) (range_with_len 0 d.pages)
 blocks_same d order kept =
     ap (λ (n : ℕ). list_any (λ start. is_free_block (flags_of d.areas) (block_at start order))
     (range_with_len 0 n)) (ap length kept.free ∙ (length-map d.places is_free ∙ kept.table))
@@ -92,25 +91,21 @@ block_free d b p kept whole here = search (arith, at_is, free_is_place, list_all
 
 pub free_block_inside : (d : DriverState) (b : Block) → IsDriver d
     → is_free_block (flags_of d.areas) b ≡ true → b.start + 2 ^ b.order ≤ length d.places
-free_block_inside d b kept whole =
-    block_inside (length d.places) b
+free_block_inside d b kept whole = block_inside (length d.places) b
     (λ p here. there_by d.places p is_free refl (ap is_free (block_free d b p kept whole here)))
 
 pub allocated_kept : (d : DriverState) (areas2 : FreePages) (b : Block) → IsDriver d
     → is_free_block (flags_of d.areas) b ≡ true
-    → flags_of areas2 ≡ marked (pages_of b) false (flags_of d.areas)
-    → AreFor d.areas areas2
+    → flags_of areas2 ≡ marked (pages_of b) false (flags_of d.areas) → AreFor d.areas areas2
     → IsDriver (record d {
       places = placed (pages_of b) Used d.places;
       held = with_block b d.held;
       areas = areas2;
     })
-allocated_kept d areas2 b kept whole taken same =
-    let pages = pages_of b in
+allocated_kept d areas2 b kept whole taken same = let pages = pages_of b in
     let free : (p : ℕ) → is_in p pages ≡ true
     → place_of d.places p ≡ Free = λ p here. block_free d b p kept whole here in
-    kept_changed d areas2 pages Used (with_block b d.held) d.inflate d.deflate
-    d.report (record {
+    kept_changed d areas2 pages Used (with_block b d.held) d.inflate d.deflate d.report (record {
       kept = kept;
       there = λ p here. there_by d.places p is_free refl (ap is_free (free p here));
       unreserved = λ p here. ap (is_at Reserved) (free p here);
@@ -138,8 +133,7 @@ allocated_kept d areas2 b kept whole taken same =
         → (covers p b || is_covered p d.held) ≡ true
         → cond (is_in p (pages_of b)) Used (place_of d.places p) ≡ Used
     used_at p true e covered = ap (λ (v : Bool). cond v Used (place_of d.places p)) e
-    used_at p false e covered =
-        ap (λ (v : Bool). cond v Used (place_of d.places p)) e
+    used_at p false e covered = ap (λ (v : Bool). cond v Used (place_of d.places p)) e
         ∙ kept.used p (ap (λ (v : Bool). v || is_covered p d.held) (sym (covers_is p b false e))
         ∙ covered)
 
@@ -160,13 +154,11 @@ block_used d b p kept held here =
 
 pub held_block_inside : (d : DriverState) (b : Block) → IsDriver d
     → list_any (λ h. is_same_block h b) d.held ≡ true → b.start + 2 ^ b.order ≤ length d.places
-held_block_inside d b kept held =
-    block_inside (length d.places) b
+held_block_inside d b kept held = block_inside (length d.places) b
     (λ p here. there_by d.places p is_used refl (ap is_used (block_used d b p kept held here)))
 
 -- what a free that isn't refused gave back was held
-pub freed_was_held : (held : List Block) (b : Block) (processors cpu : ℕ)
-    → None ≡ first_refusal
+pub freed_was_held : (held : List Block) (b : Block) (processors cpu : ℕ) → None ≡ first_refusal
     ((nat_lt 9 b.order ⇒ BadOrder) ∷ (nat_le processors cpu ⇒ BadCpu)
     ∷ (not (list_any (λ h. is_same_block h b) held) ⇒ NotHeld) ∷ [])
     → list_any (λ h. is_same_block h b) held ≡ true
@@ -175,15 +167,13 @@ freed_was_held held b processors cpu e = grind arith
 pub block_freed_kept : (d : DriverState) (new : PageState) (b : Block) → IsDriver d
     → list_any (λ h. is_same_block h b) d.held ≡ true
     → flags_of new.free ≡ marked (pages_of b) true (flags_of d.areas)
-    → new.held ≡ without_block b d.held → AreFor d.areas new.free
-    → AreApart new
+    → new.held ≡ without_block b d.held → AreFor d.areas new.free → AreApart new
     → IsDriver (record d {
       places = placed (pages_of b) Free d.places;
       held = without_block b d.held;
       areas = new.free;
     })
-block_freed_kept d new b kept held given rest same apart =
-    let pages = pages_of b in
+block_freed_kept d new b kept held given rest same apart = let pages = pages_of b in
     let used : (p : ℕ) → is_in p pages ≡ true
     → place_of d.places p ≡ Used = λ p here. block_used d b p kept held here in
     kept_changed d new.free pages Free (without_block b d.held) d.inflate d.deflate
@@ -215,8 +205,7 @@ block_freed_kept d new b kept held given rest same apart =
         → (is_in p (pages_of b) ≡ true → place_of d.places p ≡ Used)
         → cond (is_in p (pages_of b)) Free (place_of d.places p) ≡ Used
     used_at p true e covered used =
-        let inside : p < length (flags_of d.areas) =
-        omega (
+        let inside : p < length (flags_of d.areas) = omega (
           arith,
           ap length kept.free,
           length-map d.places is_free,
@@ -229,6 +218,5 @@ block_freed_kept d new b kept held given rest same apart =
         let unfree : is_free_at (flags_of new.free) p ≡ false =
         apart.apart p (ap (is_covered p) rest ∙ covered) in
         absurd (both_ways (is_free_at (flags_of new.free) p) unfree free)
-    used_at p false e covered used =
-        ap (λ (v : Bool). cond v Free (place_of d.places p)) e
+    used_at p false e covered used = ap (λ (v : Bool). cond v Free (place_of d.places p)) e
         ∙ kept.used p (covered_without p b d.held covered)

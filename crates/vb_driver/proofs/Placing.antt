@@ -72,11 +72,9 @@ range_push start zero = ap (λ (n : ℕ). n ∷ []) (omega arith)
 range_push start (suc k) = grind (arith, range_push (start + 1) k)
 
 pub placed_next : (start page : ℕ) (place : Place) (ps : List Place) → start ≤ page
-    → page < length ps
-    → set (placed (range_with_len start (page - start)) place ps) page place
+    → page < length ps → set (placed (range_with_len start (page - start)) place ps) page place
     ≡ placed (range_with_len start (page + 1 - start)) place ps
-placed_next start page place ps from lt =
-    let k = page - start in
+placed_next start page place ps from lt = let k = page - start in
     let here : start + k ≡ page = omega arith in
     let next : suc k ≡ page + 1 - start = omega arith in
     sym (marked_more (range_with_len start k) page place ps lt)
@@ -89,25 +87,20 @@ range_append : (start a b : ℕ)
     → range_with_len start a ++ range_with_len (start + a) b ≡ range_with_len start (a + b)
 range_append start zero b = ap (λ (n : ℕ). range_with_len n b) (omega arith)
     ∙ ap (range_with_len start) (omega arith)
-range_append start (suc a) b =
-    let here : start + suc a ≡ start + 1 + a = omega arith in
-    let all : suc (a + b) ≡ suc a + b = omega arith in
-    ap (λ (l : List ℕ). start ∷ l)
+range_append start (suc a) b = let here : start + suc a ≡ start + 1 + a = omega arith in
+    let all : suc (a + b) ≡ suc a + b = omega arith in ap (λ (l : List ℕ). start ∷ l)
     (ap (λ (n : ℕ). range_with_len (start + 1) a ++ range_with_len n b) here
-    ∙ range_append (start + 1) a b)
-    ∙ ap (range_with_len start) all
+    ∙ range_append (start + 1) a b) ∙ ap (range_with_len start) all
 
 pub placed_further : (start page next : ℕ) (place : Place) (ps : List Place) → start ≤ page
-    → page ≤ next
-    → placed (range_with_len page (next - page)) place
+    → page ≤ next → placed (range_with_len page (next - page)) place
     (placed (range_with_len start (page - start)) place ps)
     ≡ placed (range_with_len start (next - start)) place ps
-placed_further start page next place ps from further =
-    grind (
-      arith,
-      marked_append (range_with_len start (page - start)) (range_with_len page (next - page)) place ps,
-      range_append start (page - start) (next - page),
-    )
+placed_further start page next place ps from further = grind (
+  arith,
+  marked_append (range_with_len start (page - start)) (range_with_len page (next - page)) place ps,
+  range_append start (page - start) (next - page),
+)
 
 -- ---- each page to a place that its own decides
 
@@ -138,13 +131,12 @@ pages_from-append first test (x ∷ xs) ys = grind (arith, pages_from-append (su
 pub pages_more : {A : Type 0} (test : A → Bool) (xs : List A) (i : ℕ) (d : A) → i < length xs
     → pages_where test (take (i + 1) xs) ≡ pages_where test (take i xs)
     ++ cond (test (get_or xs i d)) (i ∷ []) []
-pages_more test xs i d lt =
-    grind (
-      arith,
-      take_more xs i d lt,
-      pages_from-append 0 test (take i xs) (get_or xs i d ∷ []),
-      length-take i xs,
-    )
+pages_more test xs i d lt = grind (
+  arith,
+  take_more xs i d lt,
+  pages_from-append 0 test (take i xs) (get_or xs i d ∷ []),
+  length-take i xs,
+)
 
 -- there is none where their count is 0
 pub none_where : {A : Type 0} (test : A → Bool) (first : ℕ) (xs : List A) → count_by test xs ≡ 0

@@ -28,10 +28,8 @@ pub one_piece : (m1 m2 m3 : Pages) (r r2 : DriverEnd) (h a l : ℕ) → IsDriver
     → next_head r ≡ Some h → KeepsRing m1 m2 r.layout
     → AddsBy m2 m3 r r2 (record { addr = a; len = l; writable = false } ∷ []) (Ok h)
     → OnePiece m1 m2 m3 r r2 h a l
-one_piece m1 m2 m3 r r2 h a l end next keeps adds =
-    let T = r.layout.table in
-    let path : next_path r 1 ≡ h ∷ [] = next_path_is r h next in
-    record {
+one_piece m1 m2 m3 r r2 h a l end next keeps adds = let T = r.layout.table in
+    let path : next_path r 1 ≡ h ∷ [] = next_path_is r h next in record {
       put = subst (λ (p : List ℕ). descriptor_at m3 T (slice_index p 0)
           ≡ linked p (record { addr = a; len = l; writable = false } ∷ []) 0) path
           (adds.links.put 0 (omega arith));
@@ -76,8 +74,7 @@ pub posts_at : (m1 m2 m3 : Pages) (r r2 : DriverEnd) (sent : List (List ℕ)) (b
 posts_at m1 m2 m3 r r2 sent base h a l pages s adds =
     let low = head_low r h s.requests.single s.next in
     let small : h < 16 = omega (arith, low.1, s.room) in
-    let one : OnePiece m1 m2 m3 r r2 h a l =
-    one_piece m1 m2 m3 r r2 h a l s.is_end s.next
+    let one : OnePiece m1 m2 m3 r r2 h a l = one_piece m1 m2 m3 r r2 h a l s.is_end s.next
     (keeps_ring m1 m2 r.layout (buffer_page base h) _ _ (s.beside h small) s.wrote) adds in
     let kept : (k : ℕ) → k < 16
     → page_at m3 (buffer_page base k) ≡ page_at m2 (buffer_page base k) =

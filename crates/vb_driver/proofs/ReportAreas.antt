@@ -3,7 +3,7 @@ use Rattle.std.proofs.Common.{◌≡◌, ◌∙◌, sym, ap, subst, arith, refl,
 use Rattle.std.proofs.Common.{true, false, cond, eqb, not, ◌&&◌, ◌||◌, List, [], ◌∷◌, length, map}
 use Rattle.std.{proofs.Common.slice_index_or, specs.Prelude.All, proofs.lemmas.Nat.pow_pos}
 use Rattle.std.{proofs.lemmas.List.{length-map, get_or-map}, proofs.lemmas.List.Elements.All-map}
-use Rattle.vb_model.specs.Pages.{Block, pages_of, pages_of_all, is_free, place_of, reported}
+use Rattle.vb_model.specs.Pages.{pages_of_all, is_free, place_of, reported}
 use Rattle.vb_model.{specs.Tests.is_in, specs.Orderly.times, specs.Pages.maximal_free_blocks}
 use Rattle.vb_model.{specs.declared.places.Place.Place, proofs.Distinct.distinct_once}
 use Rattle.vb_pages.proofs.Sets.{in_block, length-with_pages, length-without_pages, same_sets}
@@ -19,8 +19,7 @@ use Rattle.vb_driver.{proofs.Placing.marked_none, specs.State.IsAreaBlock, specs
 use Rattle.vb_driver.specs.Areas.{is_covered as is_in_block}
 
 -- a page is free just where its flag says so
-flag_is : (s : PageState) (p : ℕ) → IsApart s
-    → is_free_page s p ≡ is_free_at (flags_of s.free) p
+flag_is : (s : PageState) (p : ℕ) → IsApart s → is_free_page s p ≡ is_free_at (flags_of s.free) p
 flag_is s p apart = grind (arith, free_flag, flag_free)
 
 -- ---- blocks are chosen
@@ -36,18 +35,14 @@ chosen_places s from room apart law places is =
 
 pub chosen_blocks : (s : PageState) (blocks : List FreeBlock) → HaveRoom s blocks
     → All IsAreaBlock (blocks_of blocks)
-chosen_blocks s blocks room =
-    All-map IsAreaBlock block_of blocks (λ k d lt.
-    let fits = room.each k d lt in
-    record { order = fits.0.0; aligned = fits.0.1 })
+chosen_blocks s blocks room = All-map IsAreaBlock block_of blocks (λ k d lt.
+    let fits = room.each k d lt in record { order = fits.0.0; aligned = fits.0.1 })
 
 pub chosen_state : (s new : PageState) (blocks : List FreeBlock) → new ≡ without_blocks blocks s
     → ((p : ℕ) → is_free_page new p ≡ (is_free_page s p && not (is_covered p blocks)))
     → Becomes s new (marked (pages_of_all (blocks_of blocks)) false (flags_of s.free)) s.held
-chosen_state s new blocks is left =
-    let pages = pages_of_all (blocks_of blocks) in
-    let sizes = drained_sizes s.free in
-    record {
+chosen_state s new blocks is left = let pages = pages_of_all (blocks_of blocks) in
+    let sizes = drained_sizes s.free in record {
       free = flags_moved s new pages false
           (ap page_count is ∙ (length-without_pages pages (drained s.free).areas ∙ sizes.pages))
           (λ p. left p ∙ (ap (λ (v : Bool). is_free_page s p && not v) (sym (in_covered p blocks))
@@ -102,8 +97,7 @@ have_room s blocks apart good unreserved inside taken uncovered once = record {
       (good k (block_of d) (omega (arith, length-map blocks block_of))) in
       let here : (p : ℕ) → b.start ≤ p → p < b.start + 2 ^ b.order
       → is_in p (pages_of_all (blocks_of blocks)) ≡ true = λ p l u.
-      in_all (blocks_of blocks) k (block_of d) p (omega (arith, length-map blocks block_of))
-      (subst (λ (v : Block). is_in p (pages_of v) ≡ true) (sym is)
+      in_all (blocks_of blocks) k (block_of d) p (omega (arith, length-map blocks block_of)) (rw is
       (in_block b.start b.order p l u)) in
       let some = pow_pos b.order in (
         (fine.order, fine.aligned),

@@ -22,8 +22,7 @@ pub reported_kept : (d : DriverState) (areas2 : FreePages) (r2 : ReportSide) →
     → ((p : ℕ) → is_in p (pages_of_all r2.blocks) ≡ true → is_free_at (flags_of d.areas) p ≡ true)
     → AllDistinct (pages_of_all r2.blocks)
     → flags_of areas2 ≡ marked (pages_of_all r2.blocks) false (flags_of d.areas)
-    → AreFor d.areas areas2 → IsReportQueue r2 d.queue_size
-    → IsDriver (record d {
+    → AreFor d.areas areas2 → IsReportQueue r2 d.queue_size → IsDriver (record d {
       places = placed (pages_of_all r2.blocks) Reporting d.places;
       areas = areas2;
       report = r2;
@@ -83,14 +82,12 @@ reported_once d p kept = at (is_reporting (place_of d.places p)) (kept.reporting
 
 pub returned_kept : (d : DriverState) (areas2 : FreePages) (r2 : ReportSide) → IsDriver d
     → flags_of areas2 ≡ marked (pages_of_all d.report.blocks) true (flags_of d.areas)
-    → AreFor d.areas areas2 → IsReportQueue r2 d.queue_size → r2.blocks ≡ []
-    → IsDriver (record d {
+    → AreFor d.areas areas2 → IsReportQueue r2 d.queue_size → r2.blocks ≡ [] → IsDriver (record d {
       places = placed (pages_of_all d.report.blocks) Free d.places;
       areas = areas2;
       report = r2;
     })
-returned_kept d areas2 r2 kept given same queue none =
-    let pages = pages_of_all d.report.blocks in
+returned_kept d areas2 r2 kept given same queue none = let pages = pages_of_all d.report.blocks in
     let was : (p : ℕ) → is_in p pages ≡ true
     → place_of d.places p ≡ Reporting = λ p here. reported_place d p kept here in
     kept_moved d areas2 pages Free d.inflate d.deflate r2 (record {
@@ -105,8 +102,7 @@ returned_kept d areas2 r2 kept given same queue none =
       taking = λ told p. naming_same p (naming p d.deflate.sent) pages is_taking Free
           (place_of d.places p) (kept.taking told p) (λ here. ap is_taking (was p here));
       report = queue;
-      reporting = λ p. omega
-          (arith, ap (λ (bs : List Block). times p (pages_of_all bs)) none);
+      reporting = λ p. omega (arith, ap (λ (bs : List Block). times p (pages_of_all bs)) none);
       free = given ∙ (ap (marked pages true) kept.free
           ∙ free_marked d.places pages pages Free true (λ p place is. agree place (is_in p pages)));
       same = same;

@@ -1,22 +1,21 @@
 -- The queue of reports, whose one chain has the first descriptors.
 use Rattle.std.proofs.Common.{◌≡◌, ◌∙◌, sym, ap, subst, arith, refl, ℕ, zero, suc, ◌+◌, ◌<◌, ◌≤◌}
-use Rattle.std.proofs.Common.{Bool, true, false, cond, eqb, List, [], ◌∷◌, ◌++◌, length, take, map}
-use Rattle.std.proofs.Common.{Option, None, Some, Ok, Err, inl, inr, replicate, is_none}
+use Rattle.std.proofs.Common.{Bool, true, false, cond, List, [], ◌∷◌, ◌++◌, length, take, map}
+use Rattle.std.proofs.Common.{Option, None, Some, Ok, inl, inr, replicate, is_none, slice_index}
 use Rattle.std.proofs.lemmas.List.{length-replicate, get_or-replicate, get_or_past, length-map}
 use Rattle.std.proofs.lemmas.List.FromFn.{take-map-range_with_len, length-range_with_len}
-use Rattle.std.proofs.Common.{slice_index, slice_index_or, nat_lt, add-one, append-nil, ◌-◌, ◌^◌}
-use Rattle.std.proofs.lemmas.Bool.{cases_lt, le-ltb, lt-ltb, both_ways, or_left, or_right}
+use Rattle.std.proofs.Common.{slice_index_or, nat_lt, add-one, append-nil, ◌-◌, ◌^◌}
 use Rattle.std.proofs.lemmas.List.{get_or-map, take_more, map-append, length-append}
 use Rattle.std.{proofs.lemmas.List.FromFn.get_or-range_with_len, specs.List.range_with_len}
+use Rattle.std.proofs.lemmas.Bool.{cases_lt, le-ltb, lt-ltb, both_ways, or_left, or_right}
 use Rattle.std.{specs.Prelude.All, proofs.lemmas.Nat.pow_pos, proofs.lemmas.Grind.flat_map-append}
 use Rattle.std.proofs.lemmas.List.Folds.{list_any-append}
 use Rattle.vb_model.{specs.Tests.is_in, specs.Pages.{Block, pages_of, pages_of_all}}
 use Rattle.vb_model.proofs.PageSteps.{is_in-range, outside-range}
 use Rattle.vb_ring.specs.Ends.{DriverEnd, IsDriverEnd, is_unused, outstanding, free_descriptors}
-use Rattle.vb_ring.{specs.declared.driver.Full.TheVariants.TooFewFree, specs.Numbers.numbers}
-use Rattle.vb_ring.{specs.Entries.{is_own, is_head}, proofs.OwnerLaws.{claimed-at, released-at}}
-use Rattle.vb_ring.specs.Ends.{next_path, add_answer, after_add, after_take, claimed}
-use Rattle.vb_ring.proofs.Numbers.{numbers_yes, numbers_zero, length_all}
+use Rattle.vb_ring.specs.Ends.{next_path, add_answer, after_add, after_take}
+use Rattle.vb_ring.{proofs.Numbers.{numbers_yes, numbers_zero, length_all}, specs.Numbers.numbers}
+use Rattle.vb_ring.{proofs.OwnerLaws.{claimed-at, released-at}, specs.Entries.{is_own, is_head}}
 use Rattle.vb_driver.specs.State.{ReportSide, IsReportQueue, IsAreaBlock, fresh_report}
 use Rattle.vb_driver.proofs.Placing.{range_push}
 use Rattle.vb_pages.{proofs.Sets.in_block, specs.declared.block.FreeBlock.FreeBlock}
@@ -44,15 +43,13 @@ no_free_block = record { start = 0; order = 0 }
 abbrev pub block_in : List FreeBlock → ℕ → Block
 block_in blocks i = block_of (slice_index_or blocks i no_free_block)
 
-pub orders_of : (blocks : List FreeBlock) → All IsAreaBlock (blocks_of blocks)
-    → All HasOrder blocks
-orders_of blocks all k d lt =
-    grind (
-      arith,
-      slice_index_or (blocks_of blocks) k (block_of d),
-      length-map blocks block_of,
-      get_or-map block_of blocks k d (block_of d) lt,
-    )
+pub orders_of : (blocks : List FreeBlock) → All IsAreaBlock (blocks_of blocks) → All HasOrder blocks
+orders_of blocks all k d lt = grind (
+  arith,
+  slice_index_or (blocks_of blocks) k (block_of d),
+  length-map blocks block_of,
+  get_or-map block_of blocks k d (block_of d) lt,
+)
 
 pub order_of : (blocks : List FreeBlock) (i : ℕ) → All IsAreaBlock (blocks_of blocks)
     → i < length blocks → (block_in blocks i).order ≤ 9
@@ -61,8 +58,7 @@ order_of blocks i all lt = orders_of blocks all i no_free_block lt
 pub pages_more_blocks : (blocks : List FreeBlock) (i : ℕ) → i < length blocks
     → pages_of_all (blocks_of (take (i + 1) blocks))
     ≡ pages_of_all (blocks_of (take i blocks)) ++ pages_of (block_in blocks i)
-pages_more_blocks blocks i lt =
-    let last = slice_index_or blocks i no_free_block in
+pages_more_blocks blocks i lt = let last = slice_index_or blocks i no_free_block in
     ap (λ (l : List FreeBlock). pages_of_all (blocks_of l)) (take_more blocks i no_free_block lt)
     ∙ (ap pages_of_all (map-append block_of (take i blocks) (last ∷ []))
     ∙ (flat_map-append pages_of (blocks_of (take i blocks)) (block_of last ∷ [])
@@ -79,25 +75,14 @@ length_more_blocks blocks i lt =
 pub in_all : (bs : List Block) (i : ℕ) (d : Block) (p : ℕ) → i < length bs
     → is_in p (pages_of (slice_index_or bs i d)) ≡ true → is_in p (pages_of_all bs) ≡ true
 in_all [] i d p lt here = absurd (omega arith)
-in_all (b ∷ bs) zero d p lt here =
-    grind (
-      arith,
-      list_any-append (λ m. eqb m p) (pages_of b) (pages_of_all bs),
-      or_left (is_in p (pages_of b)) (is_in p (pages_of_all bs)) here,
-    )
+in_all (b ∷ bs) zero d p lt here = grind (arith, list_any-append, or_left)
 in_all (b ∷ bs) (suc i) d p lt here =
-    grind (
-      arith,
-      list_any-append (λ m. eqb m p) (pages_of b) (pages_of_all bs),
-      or_right (is_in p (pages_of b)) (is_in p (pages_of_all bs)) (in_all bs i d p (omega arith) here),
-      in_all bs i d p (omega arith) here,
-    )
+    grind (arith, list_any-append, or_right, in_all bs i d p (omega arith) here)
 
 -- a block whose last page is there lies within
 pub block_inside : (n : ℕ) (b : Block) → ((p : ℕ) → is_in p (pages_of b) ≡ true → p < n)
     → b.start + 2 ^ b.order ≤ n
-block_inside n b there =
-    let some = pow_pos b.order in
+block_inside n b there = let some = pow_pos b.order in
     let last = b.start + (2 ^ b.order - 1) in
     let here : last < n = there last (in_block b.start b.order last (omega arith) (omega arith)) in
     omega arith
@@ -105,13 +90,11 @@ block_inside n b there =
 pub block_inside_all : (blocks : List FreeBlock) (i : ℕ) (d : FreeBlock) (n : ℕ) → i < length blocks
     → ((p : ℕ) → is_in p (pages_of_all (blocks_of blocks)) ≡ true → p < n)
     → (slice_index_or blocks i d).start + 2 ^ (slice_index_or blocks i d).order ≤ n
-block_inside_all blocks i d n lt there =
-    let b = block_of (slice_index_or blocks i d) in
+block_inside_all blocks i d n lt there = let b = block_of (slice_index_or blocks i d) in
     let is : slice_index_or (blocks_of blocks) i (block_of d) ≡ b =
     get_or-map block_of blocks i d (block_of d) lt in
     block_inside n b (λ p here. there p (in_all (blocks_of blocks) i (block_of d) p
-    (omega (arith, length-map blocks block_of))
-    (subst (λ (v : Block). is_in p (pages_of v) ≡ true) (sym is) here)))
+    (omega (arith, length-map blocks block_of)) (rw is here)))
 
 -- ---- nothing is out
 
@@ -123,8 +106,7 @@ none_out side size queue end none = at side.blocks refl
     at : (blocks : List Block) → side.blocks ≡ blocks → side.blocks ≡ []
     at [] e = e
     at (b ∷ blocks) e =
-        let first : slice_index_or side.ring.owner 0 None ≡ Some 0 =
-        queue.owned 0 ∙ ap head_if
+        let first : slice_index_or side.ring.owner 0 None ≡ Some 0 = queue.owned 0 ∙ ap head_if
         (lt-ltb 0 (length side.blocks) (omega (arith, ap length e))) in
         let head : is_head side.ring.owner 0 ≡ true = ap (is_own 0) first in
         let inside : 0 < length side.ring.owner = elim (cases_lt 0 (length side.ring.owner)) [
@@ -160,21 +142,22 @@ module _ (r : DriverEnd) (none : (i : ℕ) → slice_index_or r.owner i None ≡
   all_free = all_numbers (is_unused r.owner) r.size (λ i. ap is_none (none i))
 
   pub first_path : (n : ℕ) → n ≤ r.size → next_path r n ≡ range_with_len 0 n
-  first_path n room =
-      ap (take n) (all_free ∙ sym (same_map (range_with_len 0 r.size)))
+  first_path n room = ap (take n) (all_free ∙ sym (same_map (range_with_len 0 r.size)))
       ∙ (take-map-range_with_len (λ (n : ℕ). n) 0 r.size n room ∙ same_map (range_with_len 0 n))
 
   -- there is room, and the head is 0
   pub first_head : (n : ℕ) → 0 < n → n ≤ r.size → add_answer r n ≡ Ok 0
   first_head n some room =
-      let enough : nat_lt (length (free_descriptors r)) n ≡ false =
-      le-ltb (length (free_descriptors r)) n
-      (omega (arith, ap length all_free, length-range_with_len 0 r.size)) in
-      let head : slice_index (next_path r n) 0 ≡ 0 =
-      ap (λ (l : List ℕ). slice_index l 0) (first_path n room)
-      ∙ get_or-range_with_len 0 n 0 0 some in
-      ap (λ (v : Bool). cond v (Err TooFewFree) (Ok (slice_index (next_path r n) 0))) enough
-      ∙ ap (λ (h : ℕ). Ok h) head
+      grind (
+        arith,
+        nat_lt,
+        le-ltb,
+        all_free,
+        length-range_with_len,
+        slice_index,
+        first_path,
+        get_or-range_with_len,
+      )
 
 in_first : (i n : ℕ) → is_in i (range_with_len 0 n) ≡ nat_lt i n
 in_first i n = grind (arith, nat_lt, lt-ltb, is_in-range, cases_lt, outside-range, le-ltb)
@@ -190,34 +173,17 @@ pub posted_report_queue : (side : ReportSide) (size : ℕ) (r2 : DriverEnd) (blo
     → r2 ≡ after_add side.ring (length blocks) (Ok 0)
     → IsReportQueue (record { ring = r2; blocks = blocks }) size
 posted_report_queue side size r2 blocks queue end nothing few room good state =
-    subst (λ (v : DriverEnd). IsReportQueue (record { ring = v; blocks = blocks }) size) (sym state)
-    (record {
-      owned = owned;
-      few = few;
-      blocks = good;
-      layout = queue.layout;
-      size = queue.size;
-    })
-  where
-    n : ℕ
-    n = length blocks
-
-    none : (i : ℕ) → slice_index_or side.ring.owner i None ≡ None
-    none i = unowned side size queue nothing i
-
-    owned : (i : ℕ) → slice_index_or (claimed (next_path side.ring (length blocks)) 0 side.ring.owner) i None
-        ≡ head_if (nat_lt i (length blocks))
-    owned i =
-        let path : next_path side.ring (length blocks) ≡ range_with_len 0 (length blocks) =
-        first_path side.ring (λ k. unowned side size queue nothing k) (length blocks) room in
-        ap (λ (p : List ℕ). slice_index_or (claimed p 0 side.ring.owner) i None) path
-        ∙ (claimed-at (range_with_len 0 (length blocks)) 0 side.ring.owner i (λ k lt.
-        let near : k < length blocks = omega (arith, length-range_with_len 0 (length blocks)) in
-        omega (arith, get_or-range_with_len 0 (length blocks) k 0 near, end.table))
-        ∙ (ap (λ (v : Bool). cond v (Some 0) (slice_index_or side.ring.owner i None))
-        (in_first i (length blocks))
-        ∙ ap (λ (o : Option ℕ). cond (nat_lt i (length blocks)) (Some 0) o)
-        (unowned side size queue nothing i)))
+    grind (
+      arith,
+      slice_index_or,
+      unowned,
+      nat_lt,
+      first_path,
+      claimed-at,
+      length-range_with_len,
+      get_or-range_with_len,
+      in_first,
+    )
 
 pub taken_report_queue : (side : ReportSide) (size h : ℕ) (r2 : DriverEnd) → IsReportQueue side size
     → h ≡ 0 → r2 ≡ after_take side.ring (Ok (Some h))

@@ -17,13 +17,7 @@ use Rattle.vb_driver.{specs.State.{RequestSide, AreRequests}, proofs.ReportTable
 pub first_of : (xs : List ℕ) (h : ℕ) → slice_get xs 0 ≡ Some h
     → (nat_lt (length xs) 1 ≡ false) × (take 1 xs ≡ h ∷ [])
 first_of [] h e = cc
-first_of (x ∷ xs) h e =
-    let same : x ≡ h = cc in
-    let len : 1 ≤ length (x ∷ xs) = omega arith in
-    (few (length (x ∷ xs)) len, ap (λ n. n ∷ []) same)
-  where
-    few : (n : ℕ) → 1 ≤ n → nat_lt n 1 ≡ false
-    few n l = grind (arith, nat_tests)
+first_of (x ∷ xs) h e = grind (arith, nat_lt, nat_tests)
 
 pub next_path_is : (r : DriverEnd) (h : ℕ) → next_head r ≡ Some h → next_path r 1 ≡ h ∷ []
 next_path_is r h e = (first_of (free_descriptors r) h e).1
@@ -60,15 +54,13 @@ head_there r single few none =
           absurd (omega (arith, found.1)))
       | inr head ↦ head
     ] in
-    let full : r.size ≤ outstanding r = out_below r r.size (omega arith) all in
-    absurd (omega arith)
+    let full : r.size ≤ outstanding r = out_below r r.size (omega arith) all in absurd (omega arith)
 
 -- it is one of the table, unused, and at most as many are out
 pub head_low : (r : DriverEnd) (h : ℕ)
     → ((k : ℕ) → is_unused r.owner k ≡ false → is_head r.owner k ≡ true) → next_head r ≡ Some h
     → (h < r.size) × (h ≤ outstanding r)
-head_low r h single e =
-    let f = first_is (free_descriptors r) h e in
+head_low r h single e = let f = first_is (free_descriptors r) h e in
     let some : 0 < length (free_descriptors r) = f.0 in
     let passes = numbers_pass (is_unused r.owner) r.size 0 some in
     let inside : h < r.size = subst (λ (n : ℕ). n < r.size) f.1 passes.0 in
@@ -81,19 +73,16 @@ head_low r h single e =
             | inl later ↦
                 let rise : slice_index (free_descriptors r) 0 < slice_index (free_descriptors r)
                 found.0 = numbers_rise (is_unused r.owner) r.size 0 found.0 later found.1 in
-                let first : slice_index (free_descriptors r) 0 ≡ h = f.1 in
-                absurd (omega arith)
+                let first : slice_index (free_descriptors r) 0 ≡ h = f.1 in absurd (omega arith)
             | inr first ↦
                 let zero_is : found.0 ≡ 0 = omega (arith, first) in
                 let same : slice_index (free_descriptors r) found.0
                 ≡ slice_index (free_descriptors r) 0 =
                 ap (slice_index (free_descriptors r)) zero_is in
-                let is : slice_index (free_descriptors r) 0 ≡ h = f.1 in
-                absurd (omega arith)
+                let is : slice_index (free_descriptors r) 0 ≡ h = f.1 in absurd (omega arith)
           ]
       | inr head ↦ head
-    ] in
-    (inside, out_below r h (omega arith) all)
+    ] in (inside, out_below r h (omega arith) all)
 
 -- ---- what an add and a take make of the table
 
@@ -138,8 +127,7 @@ requests_fresh page size sent len none = grind (arith, none_owned)
 
 pub requests_taken_at : (r r2 : DriverEnd) (sent : List (List ℕ)) (h i : ℕ) (blank : List ℕ)
     → AreRequests (record { ring = r; sent = sent }) → r2 ≡ after_take r (Ok (Some h)) → i ≡ h
-    → blank ≡ []
-    → AreRequests (record { ring = r2; sent = set sent i blank })
+    → blank ≡ [] → AreRequests (record { ring = r2; sent = set sent i blank })
 requests_taken_at r r2 sent h i blank all state at none = grind (arith, requests_taken r sent h all)
 
 pub requests_added_at : (r r2 : DriverEnd) (sent : List (List ℕ)) (h i : ℕ) (pages : List ℕ)

@@ -27,8 +27,7 @@ pub restarted : (d v : DriverState) (at : List Place) (reserved : ℕ) (s : Page
     → v ≡ after_reset d → reserved ≡ reserved_pages v.queue_size
     → at ≡ all_free reserved (length v.places)
     → s ≡ new_page_state (page_count (page_state v)) (cpu_count (page_state v))
-    (reserved_count (page_state v))
-    → record v { places = at; held = s.held; areas = s.free }
+    (reserved_count (page_state v)) → record v { places = at; held = s.held; areas = s.free }
     ≡ fresh_driver d.pages d.queue_size d.processors
 restarted d v at reserved s kept is few free areas =
     let pages : v.pages ≡ d.pages = ap (λ (x : DriverState). x.pages) is in
@@ -46,8 +45,7 @@ restarted d v at reserved s kept is few free areas =
     ∙ ap (all_free (reserved_pages d.queue_size)) table) in
     let new : s ≡ new_page_state d.pages d.processors (reserved_pages d.queue_size) =
     areas ∙ (ap (λ n. new_page_state n (cpu_count (page_state v)) (reserved_count (page_state v)))
-    count
-    ∙ (ap (λ n. new_page_state d.pages n (reserved_count (page_state v))) lists
+    count ∙ (ap (λ n. new_page_state d.pages n (reserved_count (page_state v))) lists
     ∙ ap (new_page_state d.pages d.processors) set_aside)) in
     let fresh : DriverState = fresh_driver d.pages d.queue_size d.processors in
     ap (λ (x : DriverState). record x { places = at; held = s.held; areas = s.free }) is

@@ -59,23 +59,19 @@ no_hits : (a b : ℕ) → hits 0 a b ≡ 0
 no_hits a b = grind arith
 
 pub run_counted : (places : List Place) (start n : ℕ) (new old which : Place)
-    → AreAt places start n old
-    → count_by (is_at which) (placed (range_with_len start n) new places)
+    → AreAt places start n old → count_by (is_at which) (placed (range_with_len start n) new places)
     + hits n (number_of old) (number_of which)
     ≡ count_by (is_at which) places + hits n (number_of new) (number_of which)
 run_counted places start zero new old which are =
     grind (arith, no_hits (number_of new) (number_of which), marked_none new places)
-run_counted places start (suc n) new old which are =
-    let before = moved places start n new in
+run_counted places start (suc n) new old which are = let before = moved places start n new in
     let w = number_of which in
     let lt : start + n < length places = omega (arith, are.inside) in
-    let size : length before ≡ length places =
-    length-marked (range_with_len start n) new places in
+    let size : length before ≡ length places = length-marked (range_with_len start n) new places in
     let here : hits 1 (number_of (get_or before (start + n) old)) w ≡ hits 1 (number_of old) w =
     ap (λ (p : Place). hits 1 (number_of p) w) (next_at places start n new old old are) in
     let more = hits_more n (number_of old) w in
-    let more2 = hits_more n (number_of new) w in
-    omega (
+    let more2 = hits_more n (number_of new) w in omega (
       arith,
       ap (λ (l : List Place). count_by (is_at which) l) (moved_more places start n new lt),
       count_moves before (start + n) which new old (omega arith),
@@ -98,10 +94,8 @@ run_some places start n old are = grind (arith, run_counted places start n (othe
 pub run_unset : (test : Place → Bool) (places : List Place) (start n : ℕ) (new old : Place)
     → AreAt places start n old → test new ≡ false → test old ≡ false
     → map test (placed (range_with_len start n) new places) ≡ map test places
-run_unset test places start zero new old are is was =
-    ap (map test) (marked_none new places)
-run_unset test places start (suc n) new old are is was =
-    let before = moved places start n new in
+run_unset test places start zero new old are is was = ap (map test) (marked_none new places)
+run_unset test places start (suc n) new old are is was = let before = moved places start n new in
     ap (map test) (moved_more places start n new (omega (arith, are.inside)))
     ∙ (map-set_same test before (start + n) new old
     (is ∙ sym (ap test (next_at places start n new old old are) ∙ was))
@@ -119,8 +113,7 @@ pub run_table : (counts : List ℕ) (lent stranded : List Bool) (places : List P
     (placed (range_with_len start n) new places)
 run_table counts lent stranded places start n o k new old table are was is unlent bare unstranded kept =
     let small = number_small old in
-    let small2 = number_small new in
-    record {
+    let small2 = number_small new in record {
       kinds = length-set (set counts o _) k _ ∙ (length-set counts o _ ∙ table.kinds);
       are_counts = counts_shifted counts places (placed (range_with_len start n) new places) o k n
           new old table.kinds was is (omega arith) (omega arith) (run_some places start n old are)

@@ -1,7 +1,7 @@
 -- Where a driver's rings and buffers lie, and which pages have to have frames, whatever the size of
 -- the queues.
 use Rattle.std.proofs.Common.{◌≡◌, ◌≢◌, ◌∙◌, sym, ap, arith, refl, ℕ, zero, suc, ◌+◌, ◌<◌, ◌≤◌}
-use Rattle.std.proofs.Common.{Bool, true, false, cond, List, ◌∷◌, length, inl, inr, is_some, ◌&&◌}
+use Rattle.std.proofs.Common.{Bool, true, false, cond, List, ◌∷◌, length, inl, inr, is_some}
 use Rattle.std.{specs.Prelude.filter, specs.List.{list_all, range_with_len}}
 use Rattle.std.proofs.lemmas.Bool.{cases_eq, and_parts}
 use Rattle.vb_model.specs.Layout.{reserved_pages, ring_number, ring_page, is_start_page}
@@ -25,8 +25,7 @@ pub record IsBeside (l : Layout) (p : ℕ) : Type 0 where
   pub used : p ≢ l.used.page
 
 -- a ring's pages hold no buffers
-pub beside_buffers : (size q p : ℕ) → IsSize size → 4 ≤ p → p < 16
-    → IsBeside (ring_layout size q) p
+pub beside_buffers : (size q p : ℕ) → IsSize size → 4 ≤ p → p < 16 → IsBeside (ring_layout size q) p
 beside_buffers size q p sized low high = grind arith
 
 -- the buffers of a queue of requests begin at page 4 or 8
@@ -40,13 +39,7 @@ buffers_beside size q k sized few = grind arith
 -- and none of another ring
 pub beside_rings : (size a b p : ℕ) → IsSize size → ring_number b ≢ ring_number a → InRing size b p
     → IsBeside (ring_layout size a) p
-beside_rings size a b p sized ne at =
-    let parts = parts_in_ring size a sized in
-    record {
-      table = rings_apart size b a p _ ne at parts.table;
-      avail = rings_apart size b a p _ ne at parts.avail;
-      used = rings_apart size b a p _ ne at parts.used;
-    }
+beside_rings size a b p sized ne at = grind (arith, parts_in_ring, rings_apart)
 
 pub ring_inside : (size q : ℕ) (mem : Pages) → IsSize size → 64 ≤ length mem
     → IsInside mem (ring_layout size q)
@@ -70,20 +63,11 @@ keeps_ring old new l p lo hi beside wrote = search (arith)
 
 -- ---- the frames that a start needs
 
-all_filtered : (test f : ℕ → Bool) (k n : ℕ)
-    → ((p : ℕ) → p < k + n → f p ≡ true → test p ≡ true)
+all_filtered : (test f : ℕ → Bool) (k n : ℕ) → ((p : ℕ) → p < k + n → f p ≡ true → test p ≡ true)
     → list_all test (filter f (range_with_len k n)) ≡ true
 all_filtered test f k zero holds = refl
 all_filtered test f k (suc n) holds =
-    step (f k) refl (all_filtered test f (k + 1) n (λ p lt e. holds p (omega arith) e))
-  where
-    step : (b : Bool) → f k ≡ b → list_all test (filter f (range_with_len (k + 1) n)) ≡ true
-        → list_all test (cond b (k ∷ filter f (range_with_len (k + 1) n))
-        (filter f (range_with_len (k + 1) n))) ≡ true
-    step true e rest =
-        ap (λ (b : Bool). b && list_all test (filter f (range_with_len (k + 1) n)))
-        (holds k (omega arith) e) ∙ rest
-    step false e rest = rest
+    grind (arith, all_filtered test f (k + 1) n (λ p lt e. holds p (omega arith) e))
 
 one_filtered : (test f : ℕ → Bool) (k n p : ℕ) → k ≤ p → p < k + n → f p ≡ true
     → list_all test (filter f (range_with_len k n)) ≡ true → test p ≡ true
@@ -97,13 +81,11 @@ one_filtered test f k (suc n) p low high passes all = elim (cases_eq p k) [
     later : List ℕ
     later = filter f (range_with_len (k + 1) n)
 
-    first : (b : Bool) → b ≡ true → list_all test (cond b (k ∷ later) later) ≡ true
-        → test k ≡ true
+    first : (b : Bool) → b ≡ true → list_all test (cond b (k ∷ later) later) ≡ true → test k ≡ true
     first true e h = (and_parts (test k) (list_all test later) h).0
     first false e h = absurd cc
 
-    rest : (b : Bool) → list_all test (cond b (k ∷ later) later) ≡ true
-        → list_all test later ≡ true
+    rest : (b : Bool) → list_all test (cond b (k ∷ later) later) ≡ true → list_all test later ≡ true
     rest true h = (and_parts (test k) (list_all test later) h).1
     rest false h = h
 

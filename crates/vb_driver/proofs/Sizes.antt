@@ -1,12 +1,11 @@
 -- The sizes of a guest within the limits.
-use Rattle.std.proofs.Common.{◌≡◌, ◌∙◌, refl, arith, ℕ, ◌%◌, ◌<◌, Bool, true, false, not, ◌&&◌}
-use Rattle.std.proofs.Common.{◌||◌, eqb, eq-eqb, zero-add, get_or}
-use Rattle.std.{specs.List.{list_all, range_with_len}, proofs.lemmas.Bool.{and_parts, eqb-true}}
-use Rattle.std.proofs.lemmas.List.Folds.{list_any_at}
+use Rattle.std.proofs.Common.{◌≡◌, ◌∙◌, refl, arith, ℕ, ◌%◌, ◌<◌, Bool, true, false, not, ◌||◌, eqb}
+use Rattle.std.{proofs.Common.{eq-eqb, zero-add, get_or}, specs.List.{list_all, range_with_len}}
+use Rattle.std.{proofs.lemmas.Bool.{and_parts, eqb-true}, proofs.lemmas.List.Folds.list_any_at}
 use Rattle.std.proofs.lemmas.List.FromFn.{length-range_with_len, get_or-range_with_len}
-use Rattle.vb_model.{specs.Tests.is_in, specs.Limits.{is_config, is_between, is_power_of_two}}
+use Rattle.vb_model.{specs.Tests.is_in, specs.Limits.{is_config, is_power_of_two}}
 use Rattle.vb_model.proofs.Tables.{list_all-at}
-use Rattle.vb_ram.{specs.Limits.AreWithinLimits, proofs.Limits.config_limits}
+use Rattle.vb_ram.proofs.Limits.{config_limits}
 use Rattle.vb_ring.specs.Layout.{IsSize}
 
 abbrev passes : ℕ → Bool
@@ -27,17 +26,4 @@ second false b e h = cc
 pub size_of_config : (pages size processors : ℕ) → is_config pages size processors ≡ true
     → IsSize size
 size_of_config pages size processors h =
-    let limits : AreWithinLimits pages size processors = config_limits pages size processors h in
-    let all = and_parts (is_between 64 65536 pages && eqb (pages % 16) 0)
-    ((is_between 2 256 size && is_power_of_two size) && is_between 1 4 processors) h in
-    let rest = and_parts (is_between 2 256 size && is_power_of_two size) (is_between 1 4 processors)
-    all.1 in
-    let power = (and_parts (is_between 2 256 size) (is_power_of_two size) rest.0).1 in
-    let lt : size < 257 = omega (arith, limits.queue_most) in
-    record {
-      least = limits.queue_least;
-      most = limits.queue_most;
-      divides = eqb-true (65536 % size) 0
-          (second (is_power_of_two size) (eqb (65536 % size) 0) power
-          (list_all-at passes (range_with_len 0 257) size table (at_range size lt)));
-    }
+    grind (arith, config_limits, and_parts, eqb-true, second, list_all-at, table, at_range)

@@ -1,6 +1,6 @@
 -- A device is asked for features, and its rings begin.
-use Rattle.std.proofs.Common.{inl, inr, ◌≡◌, ◌≢◌, ◌∙◌, sym, subst, refl, arith, ℕ, ◌<◌, true, false}
-use Rattle.std.proofs.Common.{[], None, Some, Result, Ok, Err, is_err, OnOk}
+use Rattle.std.proofs.Common.{inl, inr, ◌≡◌, ◌≢◌, ◌∙◌, refl, arith, ℕ, ◌<◌, true, false}
+use Rattle.std.proofs.Common.{None, Some, Result, Ok, Err, is_err, OnOk}
 use Rattle.vb_model.{specs.declared.replies.Refusal.Refusal, specs.Status.negotiate_refusal}
 use Rattle.vb_model.{specs.Status.status_refusal, specs.Life.{feature_refusal, accepted_before}}
 use Rattle.vb_model.{specs.Layout.{is_ring_page, ring_number, ring_page}, proofs.Shapes.InRing}
@@ -32,10 +32,8 @@ AreZeros size mem = (page offset : ℕ) → is_ring_page size page ≡ true → 
 zero_ring : (mem : Pages) (size q : ℕ) → IsSize size
     → ((page o : ℕ) → InRing size q page → o < 4096 → byte_at mem page o ≡ 0)
     → IsNewRing mem (fresh_ring q size)
-zero_ring mem size q sized zeros =
-    let l = ring_layout size q in
-    let parts = parts_in_ring size q sized in
-    record {
+zero_ring mem size q sized zeros = let l = ring_layout size q in
+    let parts = parts_in_ring size q sized in record {
       shows = fresh_shows mem l size (fits_at (ring_page size q) size sized)
           (λ o lt. zeros l.avail.page o parts.avail lt) (λ o lt. zeros l.used.page o parts.used lt);
       tracks = fresh_tracks mem l size;
@@ -51,9 +49,7 @@ pub still_new : (m1 m2 m3 : Pages) (size q : ℕ) (ring : DriverEnd)
     → ring ≡ fresh_ring q size → IsSize size → ring_number q ≢ ring_number 2
     → SameButPages m1 m2 (fresh_statistics size).layout 12 → m3 ≡ m2 → AreZeros size m1
     → IsNewRing m3 ring
-still_new m1 m2 m3 size q ring fresh sized other rest told zeros =
-    subst (λ (m : Pages). IsNewRing m ring) (sym told)
-    (subst (λ (r : DriverEnd). IsNewRing m2 r) (sym fresh)
+still_new m1 m2 m3 size q ring fresh sized other rest told zeros = rw told (rw fresh
     (zero_ring m2 size q sized (λ page o at lt. (same page at).bytes o (omega arith) lt
     ∙ zeros page o (in_ring_page size q page at) lt)))
   where
@@ -66,8 +62,7 @@ still_new m1 m2 m3 size q ring fresh sized other rest told zeros =
     same : (page : ℕ) → InRing size q page → SameIn m1 m2 page 0 4096
     same page at =
         let beside : IsBeside (ring_layout size 2) page =
-        beside_rings size 2 q page sized other at in
-        same_page m1 m2 page 0 4096
+        beside_rings size 2 q page sized other at in same_page m1 m2 page 0 4096
         (rest.others page beside.table beside.avail (no_buffer page at))
 
 -- the other queues are fresh then

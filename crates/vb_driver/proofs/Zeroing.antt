@@ -1,10 +1,7 @@
 -- Zeros written to guest memory.
-use Rattle.std.proofs.Common.{◌≡◌, ◌∙◌, sym, ap, arith, ℕ, ◌+◌, ◌-◌, ◌<◌, replicate, length}
-use Rattle.std.proofs.Common.{◌≢◌, ◌&&◌, nat_lt, Bool, true, false, inl, inr}
-use Rattle.std.proofs.lemmas.Bool.{cases_eq, lt-ltb}
-use Rattle.std.proofs.lemmas.List.{length-replicate, get_or-replicate}
-use Rattle.vb_ram.specs.Pages.{Pages, byte_at, SameBut, Wrote}
-use Rattle.vb_ram.proofs.FieldLaws.{same_page, but_trans, but_wider}
+use Rattle.std.proofs.Common.{◌≡◌, ◌∙◌, sym, ap, arith, ℕ, ◌+◌, ◌-◌, ◌<◌, ◌≢◌, ◌&&◌, nat_lt, Bool}
+use Rattle.std.{proofs.Common.{true, false, inl, inr}, proofs.lemmas.Bool.{cases_eq, lt-ltb}}
+use Rattle.vb_ram.{specs.Pages.{Pages, byte_at, SameBut}, proofs.FieldLaws.same_page}
 use Rattle.vb_driver.specs.Coding.{AreZeroed}
 
 -- the pages below n that pass
@@ -42,8 +39,7 @@ pages_more m1 m2 m3 f n passes before zero rest = record {
 }
   where
     here : (p : ℕ) → p ≡ n → passed f (n + 1) p ≡ true
-    here p is =
-        ap (λ (b : Bool). b && nat_lt p (n + 1)) (ap f is ∙ passes)
+    here p is = ap (λ (b : Bool). b && nat_lt p (n + 1)) (ap f is ∙ passes)
         ∙ lt-ltb p (n + 1) (omega (arith, is))
 
 -- once all pages that may pass were visited

@@ -65,8 +65,7 @@ right_half s k a b = grind (arith, pow_pos)
 
 pub left_of : (s k : ℕ) → s % 2 ^ k ≡ 0 → (s % 2 ^ suc k ≡ 0 → ⊥)
     → (2 ^ k ≤ s) × ((s - 2 ^ k) % 2 ^ suc k ≡ 0)
-left_of s k a n =
-    let m = 2 ^ k in
+left_of s k a n = let m = 2 ^ k in
     let q = s - s % 2 ^ suc k in
     let twice : 2 ^ suc k ≡ 2 ^ k + 2 ^ k = pow_twice k in
     let pos : 0 < 2 ^ k = pow_pos k in

@@ -30,8 +30,7 @@ taken_inside set s j k chosen p l h = grind (arith, pow_mono)
 
 pub count_zero : (set : List Bool) → ((p : ℕ) → has set p ≡ false) → count_by (λ f. f) set ≡ 0
 count_zero [] h = refl
-count_zero (x ∷ xs) h =
-    count_by-cons (λ f. f) x xs
+count_zero (x ∷ xs) h = count_by-cons (λ f. f) x xs
     ∙ (let e : one_if x ≡ 0 = ap one_if (h 0) in omega (arith, e, count_zero xs (λ p. h (suc p))))
 
 pub count_none : (n : ℕ) → n ≤ MAX_PAGES → count_by (λ f. f) (set_of (replicate n None)) ≡ 0

@@ -16,7 +16,7 @@ use Rattle.vb_model.{specs.Tests.{is_in, one_if}, specs.Pages.{pages_of, covers}
 use Rattle.vb_model.proofs.PageSteps.{covers_is}
 use Rattle.vb_pages.specs.Areas.{has, with_pages, without_pages, unreserved, block_at, IsBlock}
 use Rattle.vb_pages.specs.FreePages.{FreePages, in_lists, is_free_in, times_free, list_of}
-use Rattle.vb_pages.specs.FreePages.{with_list, drained, TakesPages, Refills, Pops, TakesSingle}
+use Rattle.vb_pages.specs.FreePages.{drained, TakesPages, Refills, Pops, TakesSingle}
 use Rattle.vb_pages.proofs.Sets.{is_inside, without_parts, with_cases, with_old, with_new}
 use Rattle.vb_pages.proofs.AreasLemmas.{length-unreserved, count_without_block, count_zero}
 use Rattle.vb_pages.proofs.ListsLemmas.{times, times-append, times-one, times_out, one_if_le, Once}
@@ -39,13 +39,12 @@ pub times-set : (p : ℕ) (lists : List (List ℕ)) (i : ℕ) (l : List ℕ) →
 times-set p [] i l h = absurd (omega arith)
 times-set p (x ∷ xs) zero l h =
     omega (arith, times-append p l (flat xs), times-append p x (flat xs))
-times-set p (x ∷ xs) (suc i) l h =
-    grind (
-      arith,
-      times-append p x (flat (set xs i l)),
-      times-append p x (flat xs),
-      times-set p xs i l (omega arith),
-    )
+times-set p (x ∷ xs) (suc i) l h = grind (
+  arith,
+  times-append p x (flat (set xs i l)),
+  times-append p x (flat xs),
+  times-set p xs i l (omega arith),
+)
 
 pub times_part : (p : ℕ) (lists : List (List ℕ)) (i : ℕ)
     → times p (get_or lists i []) ≤ times p (flat lists)
@@ -80,8 +79,7 @@ pub drained_times : (f : FreePages) → IsSoundFree f → (p : ℕ)
 drained_times f sound p = grind (arith, flat-empty, with_times)
 
 pub drained_sound : (f : FreePages) → IsSoundFree f → IsSoundFree (drained f)
-drained_sound f sound =
-    sound_from f (drained f) sound (length-with_pages (in_lists f) f.areas)
+drained_sound f sound = sound_from f (drained f) sound (length-with_pages (in_lists f) f.areas)
     (length-map f.lists (λ (l : List ℕ). [])) (λ p. omega (arith, drained_times f sound p))
     (λ cpu. omega (arith, ap length (list-empty f.lists cpu)))
 
@@ -93,8 +91,7 @@ not_free f p h = grind (arith, times_out)
 pub block_times : (f : FreePages) (s k : ℕ) → IsSoundFree f → HasRoomFor f s k → (p : ℕ)
     → one_if (has (with_pages (pages_of (block_at s k)) f.areas) p)
     ≡ one_if (has f.areas p) + one_if (covers p (block_at s k))
-block_times f s k sound room p =
-    let block = pages_of (block_at s k) in
+block_times f s k sound room p = let block = pages_of (block_at s k) in
     elim (cases_Bool (is_in p block)) [
       | inl i ↦
           let b = block_bounds s k p i in
@@ -106,21 +103,18 @@ block_times f s k sound room p =
           omega (arith, c, none, h)
       | inr o ↦
           let c : one_if (covers p (block_at s k)) ≡ 0 =
-          ap one_if (covers_is p (block_at s k) false o) in
-          elim (cases_Bool (has f.areas p)) [
+          ap one_if (covers_is p (block_at s k) false o) in elim (cases_Bool (has f.areas p)) [
             | inl was ↦
                 let e : one_if (has f.areas p) ≡ 1 = ap one_if was in
                 let h : one_if (has (with_pages block f.areas) p) ≡ 1 =
-                ap one_if (with_old block f.areas p was) in
-                omega (arith, c, e, h)
+                ap one_if (with_old block f.areas p was) in omega (arith, c, e, h)
             | inr was ↦
                 let e : one_if (has f.areas p) ≡ 0 = ap one_if was in
                 let no_more : has (with_pages block f.areas) p ≡ false =
                 false_from_ne_true (has (with_pages block f.areas) p)
                 (λ w. elim (with_cases block f.areas p w) [
                   | inl old ↦ both_ways (has f.areas p) was old
-                  | inr new ↦
-                      both_ways (is_in p block) o new
+                  | inr new ↦ both_ways (is_in p block) o new
                 ]) in
                 let h : one_if (has (with_pages block f.areas) p) ≡ 0 = ap one_if no_more in
                 omega (arith, c, e, h)
@@ -140,8 +134,7 @@ block_sound f s k sound room = grind (arith, length-with_pages, block_times, roo
 
 pub takes_sound : (f : FreePages) (new : List Bool) (k s : ℕ) → IsSoundFree f
     → TakesBlock f.areas k (Some s) new → IsSoundFree (record f { areas = new })
-takes_sound f new k s sound t =
-    sound_from f (record f { areas = new }) sound
+takes_sound f new k s sound t = sound_from f (record f { areas = new }) sound
     (ap length t.1 ∙ length-without_pages (pages_of (block_at s k)) f.areas) refl
     (λ p. omega (arith, takes_times f.areas new k s t p)) sound.short
 
@@ -149,26 +142,21 @@ pub length-takes_pages : (set new : List Bool) (pages : List ℕ) → TakesPages
     → length new ≡ length set
 length-takes_pages set new [] t = ap length t
 length-takes_pages set new (x ∷ pages) t =
-    grind (
-      arith,
-      length-takes_pages t.0 new pages t.2,
-      length-without_pages (pages_of (block_at x 0)) set,
-    )
+    grind (arith, length-without_pages, length-takes_pages t.0 new pages t.2)
 
 -- ---- a single page goes out
 
 sum_by-reverse : (g : ℕ → ℕ) (xs : List ℕ) → sum_by g (reverse xs) ≡ sum_by g xs
 sum_by-reverse g [] = refl
-sum_by-reverse g (x ∷ xs) =
-    grind (
-      arith,
-      reverse (x ∷ xs),
-      reverse xs,
-      reverse-append (x ∷ []) xs,
-      sum_by-append g (reverse xs) (x ∷ []),
-      sum_by-cons g x xs,
-      sum_by-reverse g xs,
-    )
+sum_by-reverse g (x ∷ xs) = grind (
+  arith,
+  reverse (x ∷ xs),
+  reverse xs,
+  reverse-append (x ∷ []) xs,
+  sum_by-append g (reverse xs) (x ∷ []),
+  sum_by-cons g x xs,
+  sum_by-reverse g xs,
+)
 
 refill_times : (set new : List Bool) (list : List ℕ) → Refills set list new → (p : ℕ)
     → one_if (has new p) + times p list ≡ one_if (has set p)
@@ -214,10 +202,8 @@ single_areas set new (x ∷ xs) rest got h = ap length h.0
 -- where no page comes out, nothing was there
 single_none : (set new : List Bool) (list rest : List ℕ) → TakesSingle set list None new rest
     → (list ≡ []) × (rest ≡ []) × (new ≡ set) × HasNoBlock set 0
-single_none set new [] rest h =
-    let r = h.1 in
-    let zero_long : length r.taken ≡ 0 =
-    omega (
+single_none set new [] rest h = let r = h.1 in
+    let zero_long : length r.taken ≡ 0 = omega (
       arith,
       ap length h.2.0,
       ap length r.list_is,
@@ -229,8 +215,7 @@ single_none set new [] rest h =
       refl,
       h.2.1,
       same,
-      subst (λ (x : List Bool). HasNoBlock x 0) same
-          (r.all (omega (arith, zero_long))),
+      rw (← same) (r.all (omega (arith, zero_long))),
     )
 single_none set new (x ∷ xs) rest h =
     absurd (let bad : length (x ∷ xs) ≡ 0 = ap length h.1.0 in omega (arith, bad))
@@ -248,14 +233,11 @@ single_sound f cpu new rest got sound l h =
       arith,
       single_times f.areas new (list_of f cpu) rest got h p,
       times-set p f.lists cpu rest l,
-    ))
-    (λ i.
-    elim (cases_eq i cpu) [
+    )) (λ i. elim (cases_eq i cpu) [
       | inl same ↦
           let e : get_or (set f.lists cpu rest) i nothing ≡ rest =
           ap (λ (n : ℕ). get_or (set f.lists cpu rest) n nothing) same
-          ∙ get_or-set_same f.lists cpu rest nothing l in
-          omega (
+          ∙ get_or-set_same f.lists cpu rest nothing l in omega (
             arith,
             ap length e,
             single_length f.areas new (list_of f cpu) rest got h (sound.short cpu),
@@ -283,14 +265,13 @@ tries_none f new cpu order h = grind (arith, single_none, set-get_or)
 pub tries_times : (f new : FreePages) (cpu order start : ℕ) → cpu < length f.lists
     → Tries f cpu order (Some start) new → (p : ℕ)
     → times_free new p + one_if (covers p (block_at start order)) ≡ times_free f p
-tries_times f new cpu zero start l h p =
-    grind (
-      arith,
-      times p (in_lists new),
-      single_times f.areas new.areas (list_of f cpu) h.0 (Some start) h.1 p,
-      times-set p f.lists cpu h.0 l,
-      covers_one start p,
-    )
+tries_times f new cpu zero start l h p = grind (
+  arith,
+  times p (in_lists new),
+  single_times f.areas new.areas (list_of f cpu) h.0 (Some start) h.1 p,
+  times-set p f.lists cpu h.0 l,
+  covers_one start p,
+)
 tries_times f new cpu (suc order) start l h p =
     grind (arith, times p (in_lists f), takes_times f.areas new.areas (suc order) start h.0 p)
 
@@ -298,16 +279,15 @@ tries_times f new cpu (suc order) start l h p =
 pub serves_times : (f new : FreePages) (cpu order start : ℕ) → IsSoundFree f → cpu < length f.lists
     → Serves f cpu order (Some start) new → (p : ℕ)
     → times_free new p + one_if (covers p (block_at start order)) ≡ times_free f p
-serves_times f new cpu order start sound l h p =
-    elim h [
-      | inl now ↦ tries_times f new cpu order start l now p
-      | inr later ↦ omega (
-        arith,
-        drained_times f sound p,
-        tries_times (drained f) new cpu order start
-            (omega (arith, length-map f.lists (λ (x : List ℕ). nothing))) later.1 p,
-      )
-    ]
+serves_times f new cpu order start sound l h p = elim h [
+  | inl now ↦ tries_times f new cpu order start l now p
+  | inr later ↦ omega (
+    arith,
+    drained_times f sound p,
+    tries_times (drained f) new cpu order start
+        (omega (arith, length-map f.lists (λ (x : List ℕ). nothing))) later.1 p,
+  )
+]
 
 -- ---- draining, list by list
 
@@ -328,22 +308,20 @@ times_take : (p n : ℕ) (lists : List (List ℕ))
     → times p (flat (take n lists)) ≤ times p (flat lists)
 times_take p zero lists = omega arith
 times_take p (suc n) [] = omega arith
-times_take p (suc n) (x ∷ xs) =
-    grind (
-      arith,
-      times-append p x (flat (take n xs)),
-      times-append p x (flat xs),
-      times_take p n xs,
-    )
+times_take p (suc n) (x ∷ xs) = grind (
+  arith,
+  times-append p x (flat (take n xs)),
+  times-append p x (flat xs),
+  times_take p n xs,
+)
 
 flat_more : (lists : List (List ℕ)) (i : ℕ) → i < length lists
     → flat (take (i + 1) lists) ≡ flat (take i lists) ++ get_or lists i nothing
-flat_more lists i h =
-    grind (
-      arith,
-      take_more lists i nothing h,
-      flat_map_more (λ (l : List ℕ). l) nothing (take i lists) (get_or lists i nothing),
-    )
+flat_more lists i h = grind (
+  arith,
+  take_more lists i nothing h,
+  flat_map_more (λ (l : List ℕ). l) nothing (take i lists) (get_or lists i nothing),
+)
 
 module _ (areas : List Bool) (lists : List (List ℕ)) (once : Once areas (flat lists)) (i : ℕ)
     (new : List Bool) (left : List (List ℕ)) (so_far : IsDrainedSoFar areas lists i new left)
@@ -371,31 +349,17 @@ module _ (areas : List Bool) (lists : List (List ℕ)) (once : Once areas (flat 
   pub next_drained : (after : List Bool) → after ≡ with_pages (get_or left i nothing) new
       → count_by (λ f. f) after ≡ count_by (λ f. f) new + length (get_or left i nothing)
       → IsDrainedSoFar areas lists (i + 1) after (set left i nothing)
-  next_drained after e n = record {
-    set =
-        e ∙ (ap (λ (x : List Bool). with_pages (get_or left i nothing) x) so_far.set
-        ∙ (ap (λ (xs : List ℕ). with_pages xs (with_pages (flat (take i lists)) areas)) next_is
-        ∙ (with_append_turned (get_or lists i nothing) (flat (take i lists)) areas
-        ∙ ap (λ (xs : List ℕ). with_pages xs areas) (sym (flat_more lists i inside)))));
-    count = omega (
-      arith,
-      n,
-      so_far.count,
-      ap length (flat_more lists i inside),
-      length-append (flat (take i lists)) (get_or lists i nothing),
-      ap length next_is,
-    );
-    empty = λ k h.
-        elim (cases_eq k i) [
-          | inl same ↦ ap (λ (m : ℕ). get_or (set left i nothing) m nothing) same
-              ∙ get_or-set_same left i nothing nothing (omega (arith, so_far.long))
-          | inr differ ↦ get_or-set_other left i k nothing nothing differ
-              ∙ so_far.empty k (omega arith)
-        ];
-    rest = λ k h. get_or-set_other left i k nothing nothing (λ e. omega arith)
-        ∙ so_far.rest k (omega arith);
-    long = length-set left i nothing ∙ so_far.long;
-  }
+  next_drained after e n = grind (
+    arith,
+    next_is,
+    with_append_turned,
+    flat_more,
+    length-append,
+    cases_eq,
+    get_or-set_same,
+    get_or-set_other,
+    length-set,
+  )
 
 -- all lists are in the areas
 pub all_drained : (areas : List Bool) (lists : List (List ℕ)) (i : ℕ) (new : List Bool)
@@ -409,8 +373,7 @@ all_drained areas lists i new left h d =
       omega (arith, d.count, ap length all),
       same_lists left (map (λ (l : List ℕ). nothing) lists)
           (d.long ∙ sym (length-map lists (λ (l : List ℕ). nothing))) (λ k e l.
-          get_or_default left k e nothing l
-          ∙ (d.empty k (omega (arith, d.long))
+          get_or_default left k e nothing l ∙ (d.empty k (omega (arith, d.long))
           ∙ (sym (list-empty lists k)
           ∙ get_or_default (map (λ (x : List ℕ). nothing) lists) k nothing e
           (omega (arith, d.long, length-map lists (λ (x : List ℕ). nothing)))))),
@@ -426,13 +389,12 @@ pub record AreTakenSoFar (set : List Bool) (i : ℕ) (new : List Bool) (out : Li
 
 pub taken_one : (set mid new : List Bool) (i page : ℕ) (out : List ℕ) → AreTakenSoFar set i mid out
     → TakesBlock mid 0 (Some page) new → AreTakenSoFar set (i + 1) new (out ++ page ∷ [])
-taken_one set mid new i page out h t =
-    grind (
-      arith,
-      count_without_block page 0 mid (taken_inside mid page 0 t.0.0 t.0.1),
-      takes_more set mid new out page h.takes t,
-      length-append out (page ∷ []),
-    )
+taken_one set mid new i page out h t = grind (
+  arith,
+  count_without_block page 0 mid (taken_inside mid page 0 t.0.0 t.0.1),
+  takes_more set mid new out page h.takes t,
+  length-append out (page ∷ []),
+)
 
 pub taken_all : (set mid : List Bool) (i n : ℕ) (out : List ℕ) → AreTakenSoFar set i mid out
     → HasNoBlock mid 0 → i < n → n ≤ count_by (λ f. f) set → ⊥
@@ -475,40 +437,21 @@ module _ (f : FreePages) (cpu s : ℕ) (sound : IsSoundFree f) (l : cpu < length
   longer_length : length longer ≡ length (list_of f cpu) + 1
   longer_length = length-append (list_of f cpu) (s ∷ [])
 
-  longer_times : (p : ℕ)
-      → one_if (has f.areas p) + times p (flat (set f.lists cpu longer)) ≤ one_if
+  longer_times : (p : ℕ) → one_if (has f.areas p) + times p (flat (set f.lists cpu longer)) ≤ one_if
       (nat_lt p (length f.areas))
-  longer_times p =
-      omega (
-        arith,
-        room_once f s 0 sound room p,
-        times-set p f.lists cpu longer l,
-        times-append p (list_of f cpu) (s ∷ []),
-        times-one p s,
-        covers_one s p,
-      )
+  longer_times p = omega (
+    arith,
+    room_once f s 0 sound room p,
+    times-set p f.lists cpu longer l,
+    times-append p (list_of f cpu) (s ∷ []),
+    times-one p s,
+    covers_one s p,
+  )
 
   -- where the list has room
   pub pushed_sound : length longer < 16 → IsSoundFree (free_of f.areas (set f.lists cpu longer) f.reserved)
-  pushed_sound short = record {
-    once = longer_times;
-    short = λ i.
-        elim (cases_eq i cpu) [
-          | inl same ↦ omega (
-            arith,
-            ap (λ (n : ℕ). length (get_or (set f.lists cpu longer) n nothing)) same,
-            ap length (get_or-set_same f.lists cpu longer nothing l),
-            short,
-          )
-          | inr differ ↦ omega (
-            arith,
-            ap length (get_or-set_other f.lists cpu i longer nothing differ),
-            sound.short i,
-          )
-        ];
-    few = omega (arith, sound.few, length-set f.lists cpu longer);
-    small = sound.small;
-  }
+  pushed_sound short =
+      grind (arith, longer_times, cases_eq, get_or-set_same, get_or-set_other, length-set)
 
   front_times : (p : ℕ) → times p (take 8 longer) + times p (drop 8 longer) ≡ times p longer
   front_times p = omega (
@@ -530,8 +473,7 @@ module _ (f : FreePages) (cpu s : ℕ) (sound : IsSoundFree f) (l : cpu < length
     once = λ p.
         let e : one_if (nat_lt p (length (with_pages (take 8 longer) f.areas)))
         ≡ one_if (nat_lt p (length f.areas)) =
-        ap (λ (n : ℕ). one_if (nat_lt p n)) (length-with_pages (take 8 longer) f.areas) in
-        omega (
+        ap (λ (n : ℕ). one_if (nat_lt p n)) (length-with_pages (take 8 longer) f.areas) in omega (
           arith,
           e,
           with_times f.areas (take 8 longer) front_once p,
@@ -540,22 +482,21 @@ module _ (f : FreePages) (cpu s : ℕ) (sound : IsSoundFree f) (l : cpu < length
           times-set p f.lists cpu longer l,
           times-set p f.lists cpu (drop 8 longer) l,
         );
-    short = λ i.
-        elim (cases_eq i cpu) [
-          | inl same ↦ omega (
-            arith,
-            ap (λ (n : ℕ). length (get_or (set f.lists cpu (drop 8 longer)) n nothing)) same,
-            ap length (get_or-set_same f.lists cpu (drop 8 longer) nothing l),
-            length-drop 8 longer,
-            longer_length,
-            sound.short cpu,
-          )
-          | inr differ ↦ omega (
-            arith,
-            ap length (get_or-set_other f.lists cpu i (drop 8 longer) nothing differ),
-            sound.short i,
-          )
-        ];
+    short = λ i. elim (cases_eq i cpu) [
+      | inl same ↦ omega (
+        arith,
+        ap (λ (n : ℕ). length (get_or (set f.lists cpu (drop 8 longer)) n nothing)) same,
+        ap length (get_or-set_same f.lists cpu (drop 8 longer) nothing l),
+        length-drop 8 longer,
+        longer_length,
+        sound.short cpu,
+      )
+      | inr differ ↦ omega (
+        arith,
+        ap length (get_or-set_other f.lists cpu i (drop 8 longer) nothing differ),
+        sound.short i,
+      )
+    ];
     few = omega (arith, sound.few, length-set f.lists cpu (drop 8 longer));
     small = omega (arith, sound.small, length-with_pages (take 8 longer) f.areas);
   }
@@ -564,34 +505,11 @@ module _ (f : FreePages) (cpu s : ℕ) (sound : IsSoundFree f) (l : cpu < length
   pub given_full : length longer ≡ 16
       → free_of (with_pages (take 8 longer) f.areas) (set f.lists cpu (drop 8 longer)) f.reserved
       ≡ given_back cpu s 0 f
-  given_full full =
-      let same : list_of (with_list cpu longer f) cpu ≡ longer =
-      get_or-set_same f.lists cpu longer nothing l in
-      let t : (length (list_of (with_list cpu longer f) cpu) == 16) ≡ true =
-      eq-eqb (length (list_of (with_list cpu longer f) cpu)) 16 (ap length same ∙ full) in
-      sym (cond-true (length (list_of (with_list cpu longer f) cpu) == 16)
-      (spill_of (list_of (with_list cpu longer f) cpu)) (with_list cpu longer f) t
-      ∙ (ap spill_of same ∙ ap
-      (λ (xs : List (List ℕ)). free_of (with_pages (take 8 longer) f.areas) xs f.reserved)
-      (set-set f.lists cpu longer (drop 8 longer))))
-    where
-      spill_of : List ℕ → FreePages
-      spill_of list = free_of (with_pages (take 8 list) f.areas)
-          (set (set f.lists cpu longer) cpu (drop 8 list)) f.reserved
+  given_full full = grind (arith, get_or-set_same, eq-eqb, cond-true, set-set)
 
   pub given_short : (length longer ≡ 16 → ⊥)
       → free_of f.areas (set f.lists cpu longer) f.reserved ≡ given_back cpu s 0 f
-  given_short short =
-      let same : list_of (with_list cpu longer f) cpu ≡ longer =
-      get_or-set_same f.lists cpu longer nothing l in
-      let n : (length (list_of (with_list cpu longer f) cpu) == 16) ≡ false =
-      ne_eqb (length (list_of (with_list cpu longer f) cpu)) 16
-      (λ e. short (sym (ap length same) ∙ e)) in
-      sym (cond-false (length (list_of (with_list cpu longer f) cpu) == 16)
-      (free_of (with_pages (take 8 (list_of (with_list cpu longer f) cpu)) f.areas)
-      (set (set f.lists cpu longer) cpu (drop 8 (list_of (with_list cpu longer f) cpu)))
-      f.reserved)
-      (with_list cpu longer f) n)
+  given_short short = grind (arith, get_or-set_same, ne_eqb, cond-false)
 
 -- ---- a try, in its two forms
 
@@ -617,21 +535,16 @@ rows_back n ys xs e l = grind (arith, drop_all, append-nil, take_all)
 pub all_nothing : (ys xs : List (List ℕ)) → length ys ≡ length xs
     → ((k : ℕ) → k < length xs → get_or ys k nothing ≡ nothing)
     → ys ≡ map (λ (l : List ℕ). nothing) xs
-all_nothing ys xs l h =
-    same_lists ys (map (λ (x : List ℕ). nothing) xs)
-    (l ∙ sym (length-map xs (λ (x : List ℕ). nothing))) (λ k e b.
-    get_or_default ys k e nothing b
-    ∙ (h k (omega (arith, l))
-    ∙ (sym (list-empty xs k)
+all_nothing ys xs l h = same_lists ys (map (λ (x : List ℕ). nothing) xs)
+    (l ∙ sym (length-map xs (λ (x : List ℕ). nothing))) (λ k e b. get_or_default ys k e nothing b
+    ∙ (h k (omega (arith, l)) ∙ (sym (list-empty xs k)
     ∙ get_or_default (map (λ (x : List ℕ). nothing) xs) k nothing e
     (omega (arith, l, length-map xs (λ (x : List ℕ). nothing))))))
 
 pub isolated_sound : (f : FreePages) (new : List Bool) (order from : ℕ) (got : Option FreeBlock)
-    → IsSoundFree f
-    → MatchOption got
+    → IsSoundFree f → MatchOption got
     (((start larger : ℕ) → order ≤ larger → from ≤ start → IsMaximal f.areas (block_at start larger)
-    → ⊥) × (new ≡ f.areas))
-    (λ b. IsLowestFrom f.areas order from (block_at b.start b.order)
+    → ⊥) × (new ≡ f.areas)) (λ b. IsLowestFrom f.areas order from (block_at b.start b.order)
     × (new ≡ without_pages (pages_of (block_at b.start b.order)) f.areas))
     → IsSoundFree (free_of new f.lists f.reserved)
 isolated_sound f new order from got sound h = grind (arith, without_sound)
@@ -646,8 +559,7 @@ pub given_times : (f : FreePages) (cpu s k : ℕ) → IsSoundFree f → cpu < le
     → HasRoomFor f s k → (p : ℕ)
     → times_free (given_back cpu s k f) p ≡ times_free f p + one_if (covers p (block_at s k))
 given_times f cpu s (suc k) sound l room p = omega (arith, block_times f s (suc k) sound room p)
-given_times f cpu s zero sound l room p =
-    let long = longer f cpu s sound l room in
+given_times f cpu s zero sound l room p = let long = longer f cpu s sound l room in
     let more : times p long ≡ times p (list_of f cpu) + one_if (s == p) =
     times-append p (list_of f cpu) (s ∷ [])
     ∙ ap (λ (n : ℕ). times p (list_of f cpu) + n) (times-one p s) in
@@ -656,8 +568,7 @@ given_times f cpu s zero sound l room p =
           let e : times_free (given_back cpu s 0 f) p
           ≡ times_free (free_of (with_pages (take 8 long) f.areas)
           (set f.lists cpu (drop 8 long)) f.reserved) p = ap (λ (x : FreePages). times_free x p)
-          (sym (given_full f cpu s sound l room full)) in
-          omega (
+          (sym (given_full f cpu s sound l room full)) in omega (
             arith,
             e,
             with_times f.areas (take 8 long) (front_once f cpu s sound l room) p,
@@ -669,8 +580,7 @@ given_times f cpu s zero sound l room p =
       | inr short ↦
           let e : times_free (given_back cpu s 0 f) p
           ≡ times_free (free_of f.areas (set f.lists cpu long) f.reserved) p =
-          ap (λ (x : FreePages). times_free x p)
-          (sym (given_short f cpu s sound l room short)) in
+          ap (λ (x : FreePages). times_free x p) (sym (given_short f cpu s sound l room short)) in
           omega (arith, e, times-set p f.lists cpu long l, more, covers_one s p)
     ]
 

@@ -38,12 +38,7 @@ blocks_from-without : (f i k : ℕ) (t : List (Option ℕ)) → order_at t i ≡
     → blocks_from f (set t i None) ≡ without_block (block_at (f + i) k) (blocks_from f t)
 blocks_from-without f i k [] e = absurd (let bad : None ≡ Some k = e in cc)
 blocks_from-without f zero k (None ∷ t) e = absurd (let bad : None ≡ Some k = e in cc)
-blocks_from-without f zero k (Some j ∷ t) e =
-    let q : Some j ≡ Some k = e in
-    let same : j ≡ k = cc in
-    sym (cond-true (is_same_block (block_at f j) (block_at (f + 0) k)) (blocks_from (suc f) t)
-    (block_at f j ∷ without_block (block_at (f + 0) k) (blocks_from (suc f) t))
-    (same_here f j k same))
+blocks_from-without f zero k (Some j ∷ t) e = grind (arith, cond-true, same_here)
 blocks_from-without f (suc i) k (None ∷ t) e = grind (arith, blocks_from-without (suc f) i k t e)
 blocks_from-without f (suc i) k (Some j ∷ t) e = grind (arith, blocks_from-without (suc f) i k t e)
 
@@ -52,8 +47,7 @@ any_from : (test : Block → Bool) (f : ℕ) (t : List (Option ℕ))
     → list_any test (blocks_from f t) ≡ true
     → (i : ℕ) × (k : ℕ) × (order_at t i ≡ Some k) × (test (block_at (f + i) k) ≡ true)
 any_from test f [] h = absurd (both_ways false refl h)
-any_from test f (None ∷ t) h =
-    let q = any_from test (suc f) t h in
+any_from test f (None ∷ t) h = let q = any_from test (suc f) t h in
     (suc q.0, q.1, q.2, ap (λ (n : ℕ). test (block_at n q.1)) (sym (moved f q.0)) ∙ q.3)
 any_from test f (Some j ∷ t) h =
     elim (or_cases (test (block_at f j)) (list_any test (blocks_from (suc f) t)) h) [
@@ -74,12 +68,7 @@ any_to test f [] i k e h = absurd (let bad : None ≡ Some k = e in cc)
 any_to test f (None ∷ t) zero k e h = absurd (let bad : None ≡ Some k = e in cc)
 any_to test f (None ∷ t) (suc i) k e h =
     any_to test (suc f) t i k e (ap (λ (n : ℕ). test (block_at n k)) (moved f i) ∙ h)
-any_to test f (Some j ∷ t) zero k e h =
-    let q : Some j ≡ Some k = e in
-    let same : j ≡ k = cc in
-    or_left (test (block_at f j)) (list_any test (blocks_from (suc f) t))
-    (ap (λ (n : ℕ). test (block_at f n)) same
-    ∙ (ap (λ (n : ℕ). test (block_at n k)) (let z : f ≡ f + 0 = omega arith in z) ∙ h))
+any_to test f (Some j ∷ t) zero k e h = grind (arith, or_left)
 any_to test f (Some j ∷ t) (suc i) k e h =
     grind (arith, any_to test (suc f) t i k e (ap (λ (n : ℕ). test (block_at n k)) (moved f i) ∙ h))
 
@@ -134,8 +123,7 @@ covers_found p k t e = let pos : 0 < 2 ^ k = pow_pos k in
 pub covers_not_found : (p : ℕ) (t : List (Option ℕ)) → AreBlocks t
     → ((k : ℕ) → k < 10 → order_at t (p - p % 2 ^ k) ≡ Some k → ⊥)
     → list_any (covers p) (blocks_of t) ≡ false
-covers_not_found p t aligned none =
-    false_from_ne_true (list_any (covers p) (blocks_of t)) (λ h.
+covers_not_found p t aligned none = false_from_ne_true (list_any (covers p) (blocks_of t)) (λ h.
     let q = covers_at p t h in
     let k = q.1 in
     let pos : 0 < 2 ^ k = pow_pos k in

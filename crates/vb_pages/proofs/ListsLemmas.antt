@@ -1,6 +1,6 @@
 -- Pages that move between a list and the areas: how often each is there.
 use Rattle.std.proofs.Common.{◌≡◌, ℕ, ◌+◌, ◌%◌, ◌^◌, ◌<◌, ◌≤◌, inl, inr, Bool, true, false, List}
-use Rattle.std.proofs.Common.{[], ◌∷◌, ◌++◌, length, Some, refl, sym, ◌∙◌, ap, subst, arith}
+use Rattle.std.proofs.Common.{[], ◌∷◌, ◌++◌, length, Some, refl, sym, ◌∙◌, ap, arith}
 use Rattle.std.proofs.lemmas.Bool.{cases_Bool, both_ways, or_cases, or_parts, eq-eqb, ltb-true}
 use Rattle.std.{proofs.Common.length-append, specs.Prelude.{◌==◌, count_by, nat_lt}}
 use Rattle.std.{proofs.lemmas.List.Folds.list_any-append, proofs.lemmas.Bool.false_from_ne_true}
@@ -27,16 +27,14 @@ times-one p x = let e = times-cons p x [] in omega (arith, e)
 
 pub times_in : (p : ℕ) (xs : List ℕ) → is_in p xs ≡ true → 1 ≤ times p xs
 times_in p [] h = absurd (both_ways false refl h)
-times_in p (x ∷ xs) h =
-    elim (or_cases (x == p) (is_in p xs) h) [
-      | inl e ↦ let o : one_if (x == p) ≡ 1 = ap one_if e in omega (arith, o, times-cons p x xs)
-      | inr m ↦ omega (arith, times_in p xs m, times-cons p x xs)
-    ]
+times_in p (x ∷ xs) h = elim (or_cases (x == p) (is_in p xs) h) [
+  | inl e ↦ let o : one_if (x == p) ≡ 1 = ap one_if e in omega (arith, o, times-cons p x xs)
+  | inr m ↦ omega (arith, times_in p xs m, times-cons p x xs)
+]
 
 pub times_out : (p : ℕ) (xs : List ℕ) → is_in p xs ≡ false → times p xs ≡ 0
 times_out p [] h = refl
-times_out p (x ∷ xs) h =
-    let q = or_parts (x == p) (is_in p xs) h in
+times_out p (x ∷ xs) h = let q = or_parts (x == p) (is_in p xs) h in
     let o : one_if (x == p) ≡ 0 = ap one_if q.0 in
     omega (arith, o, times-cons p x xs, times_out p xs q.1)
 
@@ -78,30 +76,21 @@ module _ (set : List Bool) (list rest : List ℕ) (page : ℕ) (is : list ≡ re
   once_split p =
       let e : times p list ≡ times p rest + one_if (page == p) =
       ap (times p) is ∙ (times-append p rest (page ∷ [])
-      ∙ ap (λ (n : ℕ). times p rest + n) (times-one p page)) in
-      omega (arith, e, once p)
+      ∙ ap (λ (n : ℕ). times p rest + n) (times-one p page)) in omega (arith, e, once p)
 
   last_once : Once set (page ∷ [])
   last_once p = omega (arith, once_split p, times-one p page)
 
   pub last_inside : page < length set
-  last_inside =
-      let o : one_if (page == page) ≡ 1 = ap one_if (eq-eqb page page refl) in
+  last_inside = let o : one_if (page == page) ≡ 1 = ap one_if (eq-eqb page page refl) in
       ltb-true page (length set)
       (one_if_true (nat_lt page (length set)) (omega (arith, o, once_split page)))
 
   pub last_outside : has set page ≡ false
-  last_outside =
-      let o : one_if (page == page) ≡ 1 = ap one_if (eq-eqb page page refl) in
-      one_if_false (has set page)
-      (omega (arith, o, once_split page, one_if_le (nat_lt page (length set))))
+  last_outside = grind (arith, eq-eqb, one_if_false, once_split, one_if_le)
 
   pub rest_once : Once (with_pages (page ∷ []) set) rest
-  rest_once p =
-      let l : one_if (nat_lt p (length (with_pages (page ∷ []) set)))
-      ≡ one_if (nat_lt p (length set)) =
-      ap (λ (n : ℕ). one_if (nat_lt p n)) (length-with_pages (page ∷ []) set) in
-      omega (arith, l, with_times set (page ∷ []) last_once p, times-one p page, once_split p)
+  rest_once p = grind (arith, length-with_pages, with_times, last_once, times-one, once_split)
 
   pub rest_set : with_pages rest (with_pages (page ∷ []) set) ≡ with_pages list set
   rest_set = with_append rest (page ∷ []) set ∙ ap (λ (xs : List ℕ). with_pages xs set) (sym is)
@@ -116,8 +105,7 @@ module _ (set : List Bool) (list rest : List ℕ) (page : ℕ) (is : list ≡ re
 
 pub takes_times : (set new : List Bool) (k s : ℕ) → TakesBlock set k (Some s) new → (p : ℕ)
     → one_if (has new p) + one_if (covers p (block_at s k)) ≡ one_if (has set p)
-takes_times set new k s t p =
-    let inside = taken_inside set s k t.0.0 t.0.1 in
+takes_times set new k s t p = let inside = taken_inside set s k t.0.0 t.0.1 in
     let block = pages_of (block_at s k) in
     let e : has new p ≡ has (without_pages block set) p = ap (λ (x : List Bool). has x p) t.1 in
     elim (cases_Bool (is_in p block)) [
@@ -129,12 +117,10 @@ takes_times set new k s t p =
           let gone : has (without_pages block set) p ≡ false =
           false_from_ne_true (has (without_pages block set) p)
           (λ w. both_ways (is_in p block) (without_parts block set p w).1 i) in
-          let n : one_if (has new p) ≡ 0 = ap one_if (e ∙ gone) in
-          omega (arith, c, h, n)
+          let n : one_if (has new p) ≡ 0 = ap one_if (e ∙ gone) in omega (arith, c, h, n)
       | inr o ↦
           let c : one_if (covers p (block_at s k)) ≡ 0 =
-          ap one_if (covers_is p (block_at s k) false o) in
-          elim (cases_Bool (has set p)) [
+          ap one_if (covers_is p (block_at s k) false o) in elim (cases_Bool (has set p)) [
             | inl was ↦
                 let h : one_if (has set p) ≡ 1 = ap one_if was in
                 let n : one_if (has new p) ≡ 1 = ap one_if (e ∙ without_old block set p was o) in
@@ -144,8 +130,7 @@ takes_times set new k s t p =
                 let gone : has (without_pages block set) p ≡ false =
                 false_from_ne_true (has (without_pages block set) p)
                 (λ w. both_ways (has set p) was (without_parts block set p w).0) in
-                let n : one_if (has new p) ≡ 0 = ap one_if (e ∙ gone) in
-                omega (arith, c, h, n)
+                let n : one_if (has new p) ≡ 0 = ap one_if (e ∙ gone) in omega (arith, c, h, n)
           ]
     ]
 
@@ -160,18 +145,16 @@ pub takes_pages_times : (set new : List Bool) (pages : List ℕ) → TakesPages 
     → one_if (has new p) + times p pages ≡ one_if (has set p)
 takes_pages_times set new [] t p = let e : one_if (has new p) ≡ one_if (has set p) =
     ap (λ (x : List Bool). one_if (has x p)) t in omega (arith, e)
-takes_pages_times set new (x ∷ pages) t p =
-    grind (
-      arith,
-      takes_page_times set t.0 x t.1 p,
-      takes_pages_times t.0 new pages t.2 p,
-      times-cons p x pages,
-    )
+takes_pages_times set new (x ∷ pages) t p = grind (
+  arith,
+  takes_page_times set t.0 x t.1 p,
+  takes_pages_times t.0 new pages t.2 p,
+  times-cons p x pages,
+)
 
 pub takes_more : (set mid new : List Bool) (pages : List ℕ) (page : ℕ) → TakesPages set pages mid
     → TakesBlock mid 0 (Some page) new → TakesPages set (pages ++ page ∷ []) new
-takes_more set mid new [] page t u =
-    (new, subst (λ (x : List Bool). TakesBlock x 0 (Some page) new) t u, refl)
+takes_more set mid new [] page t u = (new, rw (← t) u, refl)
 takes_more set mid new (x ∷ pages) page t u = (t.0, t.1, takes_more t.0 mid new pages page t.2 u)
 
 pub page_block : (p : ℕ) → IsBlock (block_at p 0)

@@ -2,9 +2,9 @@
 use Rattle.std.proofs.Common.{◌≡◌, ℕ, ◌+◌, ◌-◌, ◌^◌, ◌<◌, ◌≤◌, Bool, true, false, not, cond, List}
 use Rattle.std.proofs.Common.{[], ◌∷◌, length, map, replicate, Option, Some, None, MatchOption}
 use Rattle.std.proofs.lemmas.Bool.{or_parts, and_parts, and_from, le-leb, leb-true, lt-ltb}
-use Rattle.std.{proofs.Common.{IfSome, refl, sym, ◌∙◌, ap, subst, arith}, specs.List.list_any}
-use Rattle.std.{specs.Prelude.{◌||◌, ◌&&◌, count_by, nat_lt, nat_le}, proofs.lemmas.Nat.pow_pos}
-use Rattle.std.proofs.lemmas.Bool.{ltb-true, false_from_ne_true}
+use Rattle.std.{proofs.Common.{IfSome, refl, ◌∙◌, ap, arith}, specs.List.list_any}
+use Rattle.std.{proofs.lemmas.Bool.{ltb-true, false_from_ne_true}, proofs.lemmas.Nat.pow_pos}
+use Rattle.std.specs.Prelude.{◌||◌, ◌&&◌, count_by, nat_lt, nat_le}
 use Rattle.vb_model.{specs.Tests.{is_in, one_if}, specs.Driver.{with_block, without_block}}
 use Rattle.vb_model.specs.Pages.{Block, pages_of, covers, is_same_block}
 use Rattle.vb_model.{proofs.Tables.count_by-cons, proofs.PageSteps.count-without_block}
@@ -15,13 +15,13 @@ use Rattle.vb_pages.proofs.ListsLemmas.{times, times_in, times_out, one_if_le, o
 use Rattle.vb_pages.proofs.FreeLemmas.{free_of, flat, flat-empty, nothing, drained_times}
 use Rattle.vb_pages.proofs.FreeLemmas.{serves_times, serves_length, tries_none, given_times}
 use Rattle.vb_pages.proofs.FreeLemmas.{serves_reserved, given_reserved, given_length, block_times}
+use Rattle.vb_pages.{specs.Areas.{LiesIn, IsMaximal, IsLowestFrom}, specs.Held.HeldBlocks}
 use Rattle.vb_pages.specs.FreePages.{TakesPages, Tries, Serves, given_back, IsSoundFree, HasRoomFor}
+use Rattle.vb_pages.{proofs.Sets.{without_old, in_block, not_in_block}, proofs.HeldLemmas.held_of}
+use Rattle.vb_pages.proofs.ListsLemmas.{takes_pages_times, page_block}
+use Rattle.vb_pages.{proofs.FreeLemmas.length-takes_pages, specs.declared.block.FreeBlock.FreeBlock}
 use Rattle.vb_pages.specs.PageState.{PageState, is_unreserved, IsKept, HasRoomIn}
-use Rattle.vb_pages.{proofs.AreasLemmas.{length-unreserved, has-unreserved}, specs.Held.HeldBlocks}
-use Rattle.vb_pages.{proofs.ListsLemmas.{takes_pages_times, page_block}, proofs.HeldLemmas.held_of}
-use Rattle.vb_pages.proofs.Sets.{without_old, in_block, not_in_block}
-use Rattle.vb_pages.specs.Areas.{LiesIn, IsMaximal, IsLowestFrom}
-use Rattle.vb_pages.{specs.declared.block.FreeBlock.FreeBlock, proofs.FreeLemmas.length-takes_pages}
+use Rattle.vb_pages.proofs.AreasLemmas.{length-unreserved, has-unreserved}
 
 -- ---- blocks that cover a page
 
@@ -41,21 +41,12 @@ count-with_block p b (x ∷ held) = step (nat_lt b.start x.start) (count-with_bl
 count_none : (test : Block → Bool) (bs : List Block) → count_by test bs ≤ 0
     → list_any test bs ≡ false
 count_none test [] h = refl
-count_none test (b ∷ bs) h = step (test b) refl (count_none test bs)
-  where
-    all : count_by test (b ∷ bs) ≡ one_if (test b) + count_by test bs
-    all = count_by-cons test b bs
-
-    step : (v : Bool) → test b ≡ v → (count_by test bs ≤ 0 → list_any test bs ≡ false)
-        → (v || list_any test bs) ≡ false
-    step true e ih = let o : one_if (test b) ≡ 1 = ap one_if e in absurd (omega (arith, all, o))
-    step false e ih = ih (omega (arith, all))
+count_none test (b ∷ bs) h = grind (arith, count_by-cons, count_none test bs)
 
 none_count : (test : Block → Bool) (bs : List Block) → list_any test bs ≡ false
     → count_by test bs ≡ 0
 none_count test [] h = refl
-none_count test (b ∷ bs) h =
-    let q = or_parts (test b) (list_any test bs) h in
+none_count test (b ∷ bs) h = let q = or_parts (test b) (list_any test bs) h in
     let o : one_if (test b) ≡ 0 = ap one_if q.0 in
     omega (arith, count_by-cons test b bs, o, none_count test bs q.1)
 
@@ -133,13 +124,11 @@ module _ (f g : FreePages) (h : HeldBlocks) (cpu order s : ℕ) (sound : IsSound
       free_some f p (omega (arith, o, out_times p))
 
   out_some : 1 ≤ times_free f s
-  out_some =
-      let pos : 0 < 2 ^ order = pow_pos order in
+  out_some = let pos : 0 < 2 ^ order = pow_pos order in
       some_free f s (out_free s (bounds_cover s s order (omega arith) (omega arith)))
 
   pub out_fits : s + 2 ^ order ≤ h.pages
-  out_fits =
-      let pos : 0 < 2 ^ order = pow_pos order in
+  out_fits = let pos : 0 < 2 ^ order = pow_pos order in
       let last = s + 2 ^ order - 1 in
       let some : 1 ≤ times_free f last =
       some_free f last (out_free last (bounds_cover last s order (omega arith) (omega arith))) in
@@ -147,13 +136,7 @@ module _ (f g : FreePages) (h : HeldBlocks) (cpu order s : ℕ) (sound : IsSound
       omega (arith, q.1, kept.pages)
 
   pub out_outside : list_any (covers s) h.blocks ≡ false
-  out_outside = count_none (covers s) h.blocks
-      (omega (
-        arith,
-        kept.apart s,
-        out_some,
-        one_if_le (is_unreserved (record { free = f; held = h.blocks }) s),
-      ))
+  out_outside = grind (arith, count_none, out_some, one_if_le)
 
   pub out_left : (p : ℕ) → is_free_in g p ≡ (is_free_in f p && not (covers p (block_at s order)))
   out_left p = free_left f g p (block_at s order) (times_once f h p kept) (out_times p)
@@ -177,8 +160,7 @@ module _ (f : FreePages) (h : HeldBlocks) (s k : ℕ) (kept : IsKept f h)
   held_count p = count-without_block p (block_at s k) h.blocks held
 
   pub back_room : HasRoomFor f s k
-  back_room =
-      let pos : 0 < 2 ^ k = pow_pos k in
+  back_room = let pos : 0 < 2 ^ k = pow_pos k in
       let last : covers (s + 2 ^ k - 1) (block_at s k) ≡ true =
       bounds_cover (s + 2 ^ k - 1) s k (omega arith) (omega arith) in
       let o : one_if (covers (s + 2 ^ k - 1) (block_at s k)) ≡ 1 = ap one_if last in
@@ -200,9 +182,7 @@ module _ (f : FreePages) (h : HeldBlocks) (s k : ℕ) (kept : IsKept f h)
   pub back_kept : (cpu : ℕ) → IsSoundFree f → cpu < length f.lists
       → IsKept (given_back cpu s k f) (held_of h.pages (without_block (block_at s k) h.blocks))
   back_kept cpu sound l =
-      kept_times f (given_back cpu s k f) h (without_block (block_at s k) h.blocks) kept
-      (given_length f cpu s k sound l back_room) (given_reserved f cpu s k)
-      (λ p. omega (arith, given_times f cpu s k sound l back_room p, held_count p))
+      grind (arith, kept_times, given_length, back_room, given_reserved, given_times, held_count)
 
 -- a block that was taken comes back
 pub room_for : (f : FreePages) (h : HeldBlocks) (s k : ℕ)
@@ -221,8 +201,7 @@ pub fresh_kept : (n r : ℕ) (lists : List (List ℕ)) → flat lists ≡ []
 fresh_kept n r lists none = grind (arith, is_inside, length-unreserved, has-unreserved)
 
 pub kept_at : (f g : FreePages) (h i : HeldBlocks) → f ≡ g → h ≡ i → IsKept g i → IsKept f h
-kept_at f g h i a b k =
-    subst (λ (x : FreePages). IsKept x h) (sym a) (subst (λ (y : HeldBlocks). IsKept g y) (sym b) k)
+kept_at f g h i a b k = rw a (rw b k)
 
 pub flag_times : (f : FreePages) (p : ℕ) → times_free f p ≤ 1
     → one_if (is_free_in f p) ≡ times_free f p
@@ -237,8 +216,7 @@ without_times set s k p inside =
     grind (arith, covers_bounds, without_parts, in_block, not_in_block, without_old)
 
 abbrev pub IsolatesFrom : FreePages → ℕ → ℕ → Option FreeBlock → FreePages → Type 0
-IsolatesFrom f order from got new =
-    MatchOption got
+IsolatesFrom f order from got new = MatchOption got
     (((start larger : ℕ) → order ≤ larger → from ≤ start
     → IsMaximal (drained f).areas (block_at start larger) → ⊥) × (new ≡ drained f))
     (λ b. IsLowestFrom (drained f).areas order from (block_at b.start b.order)
@@ -252,19 +230,15 @@ isolated_times f new order from b sound h p = grind (arith, without_times, drain
 
 pub isolated_kept : (f new : FreePages) (h : HeldBlocks) (order from : ℕ) (got : Option FreeBlock)
     → IsSoundFree f → IsKept f h → IsolatesFrom f order from got new → IsKept new h
-isolated_kept f new h order from None sound kept i =
-    subst (λ (x : FreePages). IsKept x h) (sym i.1) (drained_kept f h sound kept)
-isolated_kept f new h order from (Some b) sound kept i =
-    kept_less f new h kept
+isolated_kept f new h order from None sound kept i = rw i.1 (drained_kept f h sound kept)
+isolated_kept f new h order from (Some b) sound kept i = kept_less f new h kept
     (ap (λ (x : FreePages). length x.areas) i.1
     ∙ (length-without_pages (pages_of (block_at b.start b.order)) (drained f).areas
-    ∙ length-with_pages (in_lists f) f.areas))
-    (ap (λ (x : FreePages). x.reserved) i.1)
+    ∙ length-with_pages (in_lists f) f.areas)) (ap (λ (x : FreePages). x.reserved) i.1)
     (λ p. omega (arith, isolated_times f new order from b sound i p))
 
 pub isolated_left : (f new : FreePages) (h : HeldBlocks) (order from : ℕ) (got : Option FreeBlock)
-    → IsSoundFree f → IsKept f h → IsolatesFrom f order from got new
-    → IfSome got (λ b. (p : ℕ)
+    → IsSoundFree f → IsKept f h → IsolatesFrom f order from got new → IfSome got (λ b. (p : ℕ)
     → is_free_in new p ≡ (is_free_in f p && not (covers p (block_at b.start b.order))))
 isolated_left f new h order from None sound kept i = tt
 isolated_left f new h order from (Some b) sound kept i =
@@ -315,12 +289,10 @@ room_of : (f new : FreePages) (h : HeldBlocks) (s k : ℕ) → IsKept f h
     → length new.areas ≡ length f.areas → new.reserved ≡ f.reserved → IsBlock (block_at s k)
     → ((p : ℕ) → s ≤ p → p < s + 2 ^ k → times_free new p + 1 ≤ times_free f p)
     → HasRoomIn (state_of new h.blocks) (block_at s k)
-room_of f new h s k kept l r block less =
-    let pos : 0 < 2 ^ k = pow_pos k in
+room_of f new h s k kept l r block less = let pos : 0 < 2 ^ k = pow_pos k in
     let first = unreserved_below f h.blocks s
     (omega (arith, kept.apart s, less s (omega arith) (omega arith))) in
-    let last = unreserved_below f h.blocks (s + 2 ^ k - 1)
-    (omega (
+    let last = unreserved_below f h.blocks (s + 2 ^ k - 1) (omega (
       arith,
       kept.apart (s + 2 ^ k - 1),
       less (s + 2 ^ k - 1) (omega arith) (omega arith),
@@ -339,14 +311,11 @@ pub isolated_room : (f new : FreePages) (h : HeldBlocks) (order from : ℕ) (got
     → IsSoundFree f → IsKept f h → IsolatesFrom f order from got new
     → IfSome got (λ b. HasRoomIn (state_of new h.blocks) (block_at b.start b.order))
 isolated_room f new h order from None sound kept i = tt
-isolated_room f new h order from (Some b) sound kept i =
-    room_of f new h b.start b.order kept
+isolated_room f new h order from (Some b) sound kept i = room_of f new h b.start b.order kept
     (ap (λ (x : FreePages). length x.areas) i.1
     ∙ (length-without_pages (pages_of (block_at b.start b.order)) (drained f).areas
-    ∙ length-with_pages (in_lists f) f.areas))
-    (ap (λ (x : FreePages). x.reserved) i.1)
-    i.0.maximal.is_block
-    (λ p a e.
+    ∙ length-with_pages (in_lists f) f.areas)) (ap (λ (x : FreePages). x.reserved) i.1)
+    i.0.maximal.is_block (λ p a e.
     let o : one_if (covers p (block_at b.start b.order)) ≡ 1 =
     ap one_if (bounds_cover p b.start b.order a e) in
     omega (arith, o, isolated_times f new order from b sound i p))
@@ -355,8 +324,7 @@ pub singles_room : (f new : FreePages) (h : HeldBlocks) (pages : List ℕ) → I
     → IsKept f h → TakesPages (drained f).areas pages new.areas → new.lists ≡ (drained f).lists
     → new.reserved ≡ f.reserved → (p : ℕ) → is_in p pages ≡ true
     → HasRoomIn (state_of new h.blocks) (block_at p 0)
-singles_room f new h pages sound kept t l r p i =
-    room_of f new h p 0 kept
+singles_room f new h pages sound kept t l r p i = room_of f new h p 0 kept
     (length-takes_pages (drained f).areas new.areas pages t
     ∙ length-with_pages (in_lists f) f.areas) r (page_block p) (λ q a e.
     let same : q ≡ p = omega arith in

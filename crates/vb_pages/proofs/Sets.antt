@@ -22,9 +22,7 @@ is_inside set p h = grind (arith, get_or_past)
 pub same_sets : (a b : List Bool) → length a ≡ length b
     → ((p : ℕ) → has a p ≡ true → has b p ≡ true) → ((p : ℕ) → has b p ≡ true → has a p ≡ true)
     → a ≡ b
-same_sets a b l f g =
-    same_lists a b l (λ k d h.
-    get_or_default a k d false h
+same_sets a b l f g = same_lists a b l (λ k d h. get_or_default a k d false h
     ∙ (same_bool (has a k) (has b k) (f k) (g k)
     ∙ sym (get_or_default b k d false (omega (arith, l)))))
 
@@ -97,33 +95,31 @@ with_union ps qs rs set split left right =
 
 pub with_without : (ps : List ℕ) (set : List Bool)
     → ((p : ℕ) → is_in p ps ≡ true → has set p ≡ true) → with_pages ps (without_pages ps set) ≡ set
-with_without ps set inside =
-    grind (
-      arith,
-      same_sets,
-      length-with_pages,
-      length-without_pages,
-      with_cases,
-      without_parts,
-      with_new,
-      is_inside,
-      with_old,
-      without_old,
-    )
+with_without ps set inside = grind (
+  arith,
+  same_sets,
+  length-with_pages,
+  length-without_pages,
+  with_cases,
+  without_parts,
+  with_new,
+  is_inside,
+  with_old,
+  without_old,
+)
 
 pub without_with : (ps : List ℕ) (set : List Bool)
     → ((p : ℕ) → is_in p ps ≡ true → has set p ≡ false) → without_pages ps (with_pages ps set) ≡ set
-without_with ps set outside =
-    grind (
-      arith,
-      same_sets,
-      length-without_pages,
-      length-with_pages,
-      without_parts,
-      with_cases,
-      without_old,
-      with_old,
-    )
+without_with ps set outside = grind (
+  arith,
+  same_sets,
+  length-without_pages,
+  length-with_pages,
+  without_parts,
+  with_cases,
+  without_old,
+  with_old,
+)
 
 -- the two halves of a block
 pub halves : (s k : ℕ) (set : List Bool)
@@ -143,8 +139,7 @@ with_cons : (p : ℕ) (ps : List ℕ) (set : List Bool)
 with_cons p ps set = grind (arith, with_union)
 
 with_one : (p : ℕ) (set : List Bool) → p < length set → with_pages (p ∷ []) set ≡ put set p true
-with_one p set l =
-    same_lists (with_pages (p ∷ []) set) (put set p true)
+with_one p set l = same_lists (with_pages (p ∷ []) set) (put set p true)
     (length-with_pages (p ∷ []) set ∙ sym (length-set set p true)) (λ k d h.
     let k_in : k < length set = omega (arith, length-with_pages (p ∷ []) set) in
     get_or_default (with_pages (p ∷ []) set) k d false h ∙ (has-with_pages (p ∷ []) set k k_in ∙
@@ -156,8 +151,7 @@ with_one p set l =
           ∙ ap (λ (n : ℕ). get_or (put set p true) n d) (sym same))
       | inr differ ↦
           let f : (p == k) ≡ false = ne_eqb p k (λ e. differ (sym e)) in
-          ap (λ (b : Bool). has set k || (b || false)) f
-          ∙ (or_false (has set k)
+          ap (λ (b : Bool). has set k || (b || false)) f ∙ (or_false (has set k)
           ∙ (get_or_default set k false d k_in ∙ sym (get_or-set_other set p k true d differ)))
     ]))
   where
@@ -172,54 +166,49 @@ count_one p set l f = ap (count_by (λ f. f)) (with_one p set l) ∙ put_counts 
     put_counts : (xs : List Bool) (i : ℕ) → i < length xs → has xs i ≡ false
         → count_by (λ f. f) (put xs i true) ≡ count_by (λ f. f) xs + 1
     put_counts [] i h e = absurd (omega arith)
-    put_counts (x ∷ xs) zero h e =
-        count_by-cons (λ f. f) true xs
+    put_counts (x ∷ xs) zero h e = count_by-cons (λ f. f) true xs
         ∙ (let c : count_by (λ f. f) (x ∷ xs) ≡ count_by (λ f. f) xs = count_by-cons (λ f. f) x xs
         ∙ ap (λ (b : Bool). one_if b + count_by (λ f. f) xs) e ∙ omega arith in omega (arith, c))
-    put_counts (x ∷ xs) (suc i) h e =
-        omega (
-          arith,
-          count_by-cons (λ f. f) x (put xs i true),
-          count_by-cons (λ f. f) x xs,
-          put_counts xs i (omega arith) e,
-        )
+    put_counts (x ∷ xs) (suc i) h e = omega (
+      arith,
+      count_by-cons (λ f. f) x (put xs i true),
+      count_by-cons (λ f. f) x xs,
+      put_counts xs i (omega arith) e,
+    )
 
 pub count_range : (n s : ℕ) (set : List Bool) → s + n ≤ length set
     → ((p : ℕ) → s ≤ p → p < s + n → has set p ≡ false)
     → count_by (λ f. f) (with_pages (range_with_len s n) set) ≡ count_by (λ f. f) set + n
-count_range zero s set l h =
-    ap (count_by (λ f. f))
+count_range zero s set l h = ap (count_by (λ f. f))
     (same_sets (with_pages [] set) set (length-with_pages [] set)
     (λ p e. elim (with_cases [] set p e)
     [ inl old ↦ old | inr new ↦ absurd (both_ways false refl new) ]) (λ p e. with_old [] set p e))
     ∙ (let z : count_by (λ f. f) set ≡ count_by (λ f. f) set + 0 = omega arith in z)
-count_range (suc n) s set l h =
-    let one : count_by (λ f. f) (with_pages (s ∷ []) set) ≡ count_by (λ f. f) set + 1 =
-    count_one s set (omega arith) (h s (omega arith) (omega arith)) in
-    let rest : count_by (λ f. f) (with_pages (range_with_len (s + 1) n) (with_pages (s ∷ []) set))
-    ≡ count_by (λ f. f) (with_pages (s ∷ []) set) + n =
-    count_range n (s + 1) (with_pages (s ∷ []) set) (omega (arith, length-with_pages (s ∷ []) set))
-    (λ p a b.
-    has-with_pages (s ∷ []) set p (omega arith)
-    ∙ or_from (has set p) (is_in p (s ∷ [])) (h p (omega arith) (omega arith))
-    (ap (λ (v : Bool). v || false) (ne_eqb s p (λ e. omega arith)))) in
-    ap (count_by (λ f. f)) (with_cons s (range_with_len (s + 1) n) set) ∙ omega (arith, one, rest)
+count_range (suc n) s set l h = grind (
+  arith,
+  count_one,
+  length-with_pages,
+  has-with_pages,
+  or_from,
+  ne_eqb,
+  with_cons,
+  count_range n (s + 1) (with_pages (s ∷ []) set) (omega (arith, length-with_pages (s ∷ []) set))
+      (λ p a b. has-with_pages (s ∷ []) set p (omega arith) ∙ or_from (has set p) (is_in p (s ∷ []))
+      (h p (omega arith) (omega arith)) (ap (λ (v : Bool). v || false) (ne_eqb s p (λ e. omega
+      arith)))),
+)
 
 pub count_without : (s k : ℕ) (set : List Bool)
-    → ((p : ℕ) → s ≤ p → p < s + 2 ^ k → has set p ≡ true)
-    → count_by (λ f. f) set
+    → ((p : ℕ) → s ≤ p → p < s + 2 ^ k → has set p ≡ true) → count_by (λ f. f) set
     ≡ count_by (λ f. f) (without_pages (pages_of (block_at s k)) set) + 2 ^ k
-count_without s k set inside =
-    let block = pages_of (block_at s k) in
+count_without s k set inside = let block = pages_of (block_at s k) in
     let back : with_pages block (without_pages block set) ≡ set =
     with_without block set (λ p h. let b = block_bounds s k p h in inside p b.0 b.1) in
     let pos : 0 < 2 ^ k = pow_pos k in
     let last : s + 2 ^ k - 1 < length set =
     is_inside set (s + 2 ^ k - 1) (inside (s + 2 ^ k - 1) (omega arith) (omega arith)) in
-    ap (count_by (λ f. f)) (sym back)
-    ∙ count_range (2 ^ k) s (without_pages block set)
-    (omega (arith, length-without_pages block set))
-    (λ p a b. has-without_pages block set p
+    ap (count_by (λ f. f)) (sym back) ∙ count_range (2 ^ k) s (without_pages block set)
+    (omega (arith, length-without_pages block set)) (λ p a b. has-without_pages block set p
     ∙ and_right (has set p) (not (is_in p block))
     (not_from_true (is_in p block) (in_block s k p a b)))
 

@@ -77,15 +77,12 @@ listed_number t k b blocks e = grind (arith, pow_pos k, listed_member t k (b * 2
 first_is : (test : ℕ → Bool) (n more k : ℕ) → n ≤ k → k < n + more → test k ≡ true
     → ((j : ℕ) → j ≢ k → test j ≡ false) → first_of test n more ≡ Some k
 first_is test n zero k l h e other = absurd (omega arith)
-first_is test n (suc more) k l h e other =
-    elim (cases_eq n k) [
-      | inl same ↦
-          cond-true (test n) (Some n) (first_of test (suc n) more) (ap test same ∙ e)
-          ∙ ap (λ (i : ℕ). Some i) same
-      | inr differ ↦
-          cond-false (test n) (Some n) (first_of test (suc n) more) (other n differ)
-          ∙ first_is test (suc n) more k (omega arith) (omega arith) e other
-    ]
+first_is test n (suc more) k l h e other = elim (cases_eq n k) [
+  | inl same ↦ cond-true (test n) (Some n) (first_of test (suc n) more) (ap test same ∙ e)
+      ∙ ap (λ (i : ℕ). Some i) same
+  | inr differ ↦ cond-false (test n) (Some n) (first_of test (suc n) more) (other n differ)
+      ∙ first_is test (suc n) more k (omega arith) (omega arith) e other
+]
 
 first_none : (test : ℕ → Bool) (n more : ℕ) → ((j : ℕ) → test j ≡ false)
     → first_of test n more ≡ None
@@ -95,8 +92,7 @@ first_none test n (suc more) other = grind (arith, first_none test (suc n) more 
 -- a page's test is that of its entry
 tested : (t : List (Option ℕ)) (p k : ℕ) → AreBlocks t
     → is_in_sets (sets_of t) p k ≡ is_order k (order_at t p)
-tested t p k blocks =
-    same_bool (is_in_sets (sets_of t) p k) (is_order k (order_at t p)) to from
+tested t p k blocks = same_bool (is_in_sets (sets_of t) p k) (is_order k (order_at t p)) to from
   where
     to : is_in_sets (sets_of t) p k ≡ true → is_order k (order_at t p) ≡ true
     to h =
@@ -107,17 +103,14 @@ tested t p k blocks =
               ap (λ (xs : List Bool). has xs (p / 2 ^ k)) (sym (sets_at t k [] l)) ∙ parts.1 in
               ap (is_order k)
               (ap (order_at t) (sym (multiple_of p (2 ^ k) (eqb-true (p % 2 ^ k) 0 parts.0)))
-              ∙ member_listed t k (p / 2 ^ k) member)
-              ∙ is_order-self k
-          | inr past ↦
-              absurd (both_ways (has (get_or (sets_of t) k []) (p / 2 ^ k))
+              ∙ member_listed t k (p / 2 ^ k) member) ∙ is_order-self k
+          | inr past ↦ absurd (both_ways (has (get_or (sets_of t) k []) (p / 2 ^ k))
               (ap (λ (xs : List Bool). has xs (p / 2 ^ k))
               (get_or_past (sets_of t) k [] (omega (arith, length-sets_of t)))) parts.1)
         ]
 
     from : is_order k (order_at t p) ≡ true → is_in_sets (sets_of t) p k ≡ true
-    from h =
-        let e : order_at t p ≡ Some k = is_order-true k (order_at t p) h in
+    from h = let e : order_at t p ≡ Some k = is_order-true k (order_at t p) h in
         let ten : k < 10 = omega (arith, blocks.bounded p k e) in
         and_from (eqb (p % 2 ^ k) 0) (has (get_or (sets_of t) k []) (p / 2 ^ k))
         (eq-eqb (p % 2 ^ k) 0 (blocks.aligned p k e))
@@ -134,15 +127,12 @@ table_at : (t : List (Option ℕ)) → AreBlocks t → (p : ℕ) (d : Option ℕ
 unfolding table_of
 table_at t blocks p d l =
     get_or-map-range_with_len (λ page. first_of (is_in_sets (sets_of t) page) 0 10) 0 (length t) p p
-    d l (omega arith)
-    ∙ entry (order_at t p) refl
+    d l (omega arith) ∙ entry (order_at t p) refl
   where
     entry : (o : Option ℕ) → order_at t p ≡ o → first_of (is_in_sets (sets_of t) p) 0 10 ≡ o
-    entry None e =
-        first_none (is_in_sets (sets_of t) p) 0 10
+    entry None e = first_none (is_in_sets (sets_of t) p) 0 10
         (λ j. tested t p j blocks ∙ ap (is_order j) e)
-    entry (Some k) e =
-        first_is (is_in_sets (sets_of t) p) 0 10 k (omega arith)
+    entry (Some k) e = first_is (is_in_sets (sets_of t) p) 0 10 k (omega arith)
         (omega (arith, blocks.bounded p k e))
         (tested t p k blocks ∙ ap (is_order k) e ∙ is_order-self k)
         (λ j differ. tested t p j blocks ∙ ap (is_order j) e ∙ is_order-other j k differ)
@@ -174,30 +164,22 @@ ten_sets pages sets s = ap length s.same ∙ length-sets_of (table_of pages sets
 -- a set that the change leaves alone
 set-kept : (j s : ℕ) (t : List (Option ℕ)) (v : Option ℕ) → s < length t → is_order j v ≡ false
     → is_order j (order_at t s) ≡ false → set_of_order j (set t s v) ≡ set_of_order j t
-set-kept j s t v l now before =
-    ext_get_or false (set_of_order j (set t s v)) (set_of_order j t)
-    (length-set_of_order j (set t s v)
-    ∙ ap (room_of j) (length-set t s v)
-    ∙ sym (length-set_of_order j t))
-    (λ b h.
+set-kept j s t v l now before = ext_get_or false (set_of_order j (set t s v)) (set_of_order j t)
+    (length-set_of_order j (set t s v) ∙ ap (room_of j) (length-set t s v)
+    ∙ sym (length-set_of_order j t)) (λ b h.
     let inside : b < room_of j (length (set t s v)) =
     omega (arith, length-set_of_order j (set t s v)) in
-    let inside' : b < room_of j (length t) =
-    rw (length-set t s v) at inside in
+    let inside' : b < room_of j (length t) = rw (length-set t s v) at inside in
     set_at j (set t s v) b inside ∙ (at b ∙ sym (set_at j t b inside')))
   where
     at : (b : ℕ) → is_order j (order_at (set t s v) (b * 2 ^ j))
         ≡ is_order j (order_at t (b * 2 ^ j))
-    at b =
-        elim (cases_eq (b * 2 ^ j) s) [
-          | inl same ↦
-              ap (λ (n : ℕ). is_order j (order_at (set t s v) n)) same
-              ∙ ap (is_order j) (get_or-set_same t s v None l)
-              ∙ now
-              ∙ sym before
-              ∙ ap (λ (n : ℕ). is_order j (order_at t n)) (sym same)
-          | inr differ ↦ ap (is_order j) (get_or-set_other t s (b * 2 ^ j) v None differ)
-        ]
+    at b = elim (cases_eq (b * 2 ^ j) s) [
+      | inl same ↦ ap (λ (n : ℕ). is_order j (order_at (set t s v) n)) same
+          ∙ ap (is_order j) (get_or-set_same t s v None l) ∙ now ∙ sym before
+          ∙ ap (λ (n : ℕ). is_order j (order_at t n)) (sym same)
+      | inr differ ↦ ap (is_order j) (get_or-set_other t s (b * 2 ^ j) v None differ)
+    ]
 
 -- the set that it changes
 set-changed : (k s : ℕ) (t : List (Option ℕ)) (v : Option ℕ) (flag : Bool) → s < length t
@@ -205,55 +187,47 @@ set-changed : (k s : ℕ) (t : List (Option ℕ)) (v : Option ℕ) (flag : Bool)
     → set_of_order k (set t s v) ≡ set (set_of_order k t) (s / 2 ^ k) flag
 set-changed k s t v flag l aligned e =
     ext_get_or false (set_of_order k (set t s v)) (set (set_of_order k t) (s / 2 ^ k) flag)
-    (length-set_of_order k (set t s v)
-    ∙ ap (room_of k) (length-set t s v)
-    ∙ sym (length-set (set_of_order k t) (s / 2 ^ k) flag ∙ length-set_of_order k t))
-    (λ b h.
+    (length-set_of_order k (set t s v) ∙ ap (room_of k) (length-set t s v)
+    ∙ sym (length-set (set_of_order k t) (s / 2 ^ k) flag ∙ length-set_of_order k t)) (λ b h.
     let inside : b < room_of k (length (set t s v)) =
     omega (arith, length-set_of_order k (set t s v)) in
-    let inside' : b < room_of k (length t) =
-    rw (length-set t s v) at inside in
+    let inside' : b < room_of k (length t) = rw (length-set t s v) at inside in
     set_at k (set t s v) b inside ∙ at b inside')
   where
     at : (b : ℕ) → b < room_of k (length t) → is_order k (order_at (set t s v) (b * 2 ^ k))
         ≡ has (set (set_of_order k t) (s / 2 ^ k) flag) b
-    at b h =
-        elim (cases_eq b (s / 2 ^ k)) [
-          | inl same ↦
-              let start : b * 2 ^ k ≡ s =
-              ap (λ (n : ℕ). n * 2 ^ k) same ∙ multiple_of s (2 ^ k) aligned in
-              let inside : s / 2 ^ k < length (set_of_order k t) =
-              omega (arith, same, length-set_of_order k t) in
-              ap (λ (n : ℕ). is_order k (order_at (set t s v) n)) start
-              ∙ ap (is_order k) (get_or-set_same t s v None l)
-              ∙ e
-              ∙ sym (get_or-set_same (set_of_order k t) (s / 2 ^ k) flag false inside)
-              ∙ ap (λ (n : ℕ). has (set (set_of_order k t) (s / 2 ^ k) flag) n) (sym same)
-          | inr differ ↦
-              let apart : b * 2 ^ k ≢ s =
-              λ q. differ (sym (times_div b (2 ^ k) (pow_pos k))
-              ∙ ap (λ (n : ℕ). n / 2 ^ k) q) in
-              ap (is_order k) (get_or-set_other t s (b * 2 ^ k) v None apart)
-              ∙ sym (set_at k t b h)
-              ∙ sym (get_or-set_other (set_of_order k t) (s / 2 ^ k) b flag false differ)
-        ]
+    at b h = elim (cases_eq b (s / 2 ^ k)) [
+      | inl same ↦
+          let start : b * 2 ^ k ≡ s =
+          ap (λ (n : ℕ). n * 2 ^ k) same ∙ multiple_of s (2 ^ k) aligned in
+          let inside : s / 2 ^ k < length (set_of_order k t) =
+          omega (arith, same, length-set_of_order k t) in
+          ap (λ (n : ℕ). is_order k (order_at (set t s v) n)) start
+          ∙ ap (is_order k) (get_or-set_same t s v None l) ∙ e
+          ∙ sym (get_or-set_same (set_of_order k t) (s / 2 ^ k) flag false inside)
+          ∙ ap (λ (n : ℕ). has (set (set_of_order k t) (s / 2 ^ k) flag) n) (sym same)
+      | inr differ ↦
+          let apart : b * 2 ^ k ≢ s = λ q. differ (sym (times_div b (2 ^ k) (pow_pos k))
+          ∙ ap (λ (n : ℕ). n / 2 ^ k) q) in
+          ap (is_order k) (get_or-set_other t s (b * 2 ^ k) v None apart) ∙ sym (set_at k t b h)
+          ∙ sym (get_or-set_other (set_of_order k t) (s / 2 ^ k) b flag false differ)
+    ]
 
 sets-changed : (k s : ℕ) (t : List (Option ℕ)) (v : Option ℕ) (flag : Bool) → k < 10
     → s < length t → s % 2 ^ k ≡ 0 → is_order k v ≡ flag
     → ((j : ℕ) → j ≢ k → (is_order j v ≡ false) × (is_order j (order_at t s) ≡ false))
     → sets_of (set t s v) ≡ set (sets_of t) k (set (set_of_order k t) (s / 2 ^ k) flag)
-sets-changed k s t v flag ten l aligned e other =
-    grind (
-      arith,
-      same_lists,
-      length-sets_of,
-      length-set,
-      sets_at,
-      set-changed,
-      get_or-set_same,
-      set-kept,
-      get_or-set_other,
-    )
+sets-changed k s t v flag ten l aligned e other = grind (
+  arith,
+  same_lists,
+  length-sets_of,
+  length-set,
+  sets_at,
+  set-changed,
+  get_or-set_same,
+  set-kept,
+  get_or-set_other,
+)
 
 -- a block that comes to the table
 pub with_block_added : (t : List (Option ℕ)) (s k : ℕ) → AreBlocks t → k ≤ 9 → s % 2 ^ k ≡ 0
@@ -289,17 +263,13 @@ module _ (pages : ℕ) (sets : List (List Bool)) (s : AreSetsOf pages sets) wher
   set_row : (k n : ℕ) (flag : Bool) (read row : List Bool) → k < 10 → read ≡ get_or sets k read
       → row ≡ set read n flag
       → set sets k row ≡ set (sets_of table) k (set (set_of_order k table) n flag)
-  set_row k n flag read row ten r e =
-      ap (λ (x : List Bool). set sets k x)
-      (e ∙ ap (λ (x : List Bool). set x n flag) (set_now pages sets k read s ten r))
-      ∙ ap (λ (xs : List (List Bool)). set xs k (set (set_of_order k table) n flag)) s.same
+  set_row k n flag read row ten r e = grind (arith, set_now)
 
   pub added : (k start : ℕ) (read row : List Bool) → k ≤ 9 → start % 2 ^ k ≡ 0
       → start + 2 ^ k ≤ length table → order_at table start ≡ None → read ≡ get_or sets k read
       → row ≡ set read (start / 2 ^ k) true
       → StandFor pages (set sets k row) (set table start (Some k))
-  added k start read row nine aligned fits empty r e =
-      let pos : 0 < 2 ^ k = pow_pos k in
+  added k start read row nine aligned fits empty r e = let pos : 0 < 2 ^ k = pow_pos k in
       let ten : k < 10 = omega arith in
       let there : start < length table = omega arith in
       stand_for pages (set sets k row) (set table start (Some k)) s.small
@@ -318,8 +288,7 @@ module _ (pages : ℕ) (sets : List (List Bool)) (s : AreSetsOf pages sets) wher
       stand_for pages (set sets k row) (set table start None) s.small
       (sym (length-set table start None ∙ length-table_of pages sets))
       (set_row k (start / 2 ^ k) false read row ten r e
-      ∙ sym (sets-changed k start table None false ten there
-      (s.blocks.aligned start k listed) refl
+      ∙ sym (sets-changed k start table None false ten there (s.blocks.aligned start k listed) refl
       (λ j differ. (refl, ap (is_order j) listed ∙ is_order-other j k differ))))
       (with_block_removed table start there s.blocks)
 
@@ -327,13 +296,10 @@ module _ (pages : ℕ) (sets : List (List Bool)) (s : AreSetsOf pages sets) wher
 pub none : (pages : ℕ) (sets : List (List Bool)) → pages ≤ MAX_PAGES → length sets ≡ 10
     → ((k : ℕ) (d : List Bool) → k < 10 → get_or sets k d ≡ replicate (room_of k pages) false)
     → StandFor pages sets (replicate pages None)
-none pages sets small ten h =
-    stand_for pages sets t small (sym count)
-    (same_lists sets (sets_of t) (ten ∙ sym (length-sets_of t))
-    (λ k d l.
+none pages sets small ten h = stand_for pages sets t small (sym count)
+    (same_lists sets (sets_of t) (ten ∙ sym (length-sets_of t)) (λ k d l.
     let below : k < 10 = omega (arith, ten) in
-    h k d below ∙ (sym (empty k) ∙ sym (sets_at t k d below))))
-    (no_blocks pages)
+    h k d below ∙ (sym (empty k) ∙ sym (sets_at t k d below)))) (no_blocks pages)
   where
     t : List (Option ℕ)
     t = replicate pages None
@@ -342,22 +308,17 @@ none pages sets small ten h =
     count = length-replicate {A = Option ℕ} pages None
 
     empty : (k : ℕ) → set_of_order k t ≡ replicate (room_of k pages) false
-    empty k =
-        ext_get_or false (set_of_order k t) (replicate (room_of k pages) false)
-        (length-set_of_order k t
-        ∙ ap (room_of k) count
-        ∙ sym (length-replicate (room_of k pages) false))
-        (λ b l.
+    empty k = ext_get_or false (set_of_order k t) (replicate (room_of k pages) false)
+        (length-set_of_order k t ∙ ap (room_of k) count
+        ∙ sym (length-replicate (room_of k pages) false)) (λ b l.
         let inside : b < room_of k (length t) = omega (arith, length-set_of_order k t) in
-        let inside' : b < room_of k pages = rw count at inside in
-        set_at k t b inside
+        let inside' : b < room_of k pages = rw count at inside in set_at k t b inside
         ∙ (ap (is_order k) (none_at pages (b * 2 ^ k))
         ∙ sym (get_or-replicate (room_of k pages) b false false inside')))
 
 -- sets of which all members were taken out
 pub cleared : (pages : ℕ) (sets new : List (List Bool)) → AreSetsOf pages sets
-    → length new ≡ length sets
-    → ((k : ℕ) (d : List Bool) → k < 10
+    → length new ≡ length sets → ((k : ℕ) (d : List Bool) → k < 10
     → get_or new k d ≡ replicate (length (get_or sets k d)) false)
     → StandFor pages new (replicate pages None)
 cleared pages sets new s l h =
@@ -369,8 +330,7 @@ pub lowest_none : (t : List (Option ℕ)) (k n : ℕ) → AreBlocks t
     → HasNoneFrom (set_of_order k t) (n / 2 ^ k + min 1 (n % 2 ^ k)) → IsLowestStart t k n None
 lowest_none t k n blocks none = λ page from listed.
     let aligned = multiple_of page (2 ^ k) (blocks.aligned page k listed) in
-    both_ways (has (set_of_order k t) (page / 2 ^ k))
-    (none (page / 2 ^ k)
+    both_ways (has (set_of_order k t) (page / 2 ^ k)) (none (page / 2 ^ k)
     (div_ceil_le n (page / 2 ^ k) (2 ^ k) (pow_pos k) (omega (arith, from, aligned))))
     (listed_member t k page blocks listed)
 
@@ -383,12 +343,10 @@ lowest_some t k n b blocks least = (
   λ page from listed.
       let aligned = multiple_of page (2 ^ k) (blocks.aligned page k listed) in
       elim (cases_lt (page / 2 ^ k) b) [
-        | inl before ↦
-            absurd (both_ways (has (set_of_order k t) (page / 2 ^ k))
+        | inl before ↦ absurd (both_ways (has (set_of_order k t) (page / 2 ^ k))
             (least.least (page / 2 ^ k)
             (div_ceil_le n (page / 2 ^ k) (2 ^ k) (pow_pos k) (omega (arith, from, aligned)))
-            before)
-            (listed_member t k page blocks listed))
+            before) (listed_member t k page blocks listed))
         | inr after ↦
             let step : b * 2 ^ k ≤ (page / 2 ^ k) * 2 ^ k =
             mul-le b (2 ^ k) (page / 2 ^ k) (2 ^ k) after (omega arith) in

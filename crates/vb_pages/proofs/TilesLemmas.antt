@@ -38,29 +38,25 @@ pub record Covered (t : List (Option ℕ)) (p : ℕ) : Type 0 where
 pub any_range : (f : ℕ → Bool) (a n : ℕ) → list_any f (range_with_len a n) ≡ true
     → (k : ℕ) × (a ≤ k) × (k < a + n) × (f k ≡ true)
 any_range f a zero h = absurd cc
-any_range f a (suc n) h =
-    elim (or_cases (f a) (list_any f (range_with_len (a + 1) n)) h) [
-      | inl e ↦ (a, omega arith, omega arith, e)
-      | inr m ↦ let q = any_range f (a + 1) n m in
-          (q.0, omega (arith, q.1), omega (arith, q.2), q.3)
-    ]
+any_range f a (suc n) h = elim (or_cases (f a) (list_any f (range_with_len (a + 1) n)) h) [
+  | inl e ↦ (a, omega arith, omega arith, e)
+  | inr m ↦ let q = any_range f (a + 1) n m in (q.0, omega (arith, q.1), omega (arith, q.2), q.3)
+]
 
 range_any : (f : ℕ → Bool) (a n k : ℕ) → a ≤ k → k < a + n → f k ≡ true
     → list_any f (range_with_len a n) ≡ true
 range_any f a zero k l h e = absurd (omega arith)
-range_any f a (suc n) k l h e =
-    elim (cases_eq a k) [
-      | inl same ↦ or_left (f a) (list_any f (range_with_len (a + 1) n)) (ap f same ∙ e)
-      | inr differ ↦ or_right (f a) (list_any f (range_with_len (a + 1) n))
-          (range_any f (a + 1) n k (omega arith) (omega arith) e)
-    ]
+range_any f a (suc n) k l h e = elim (cases_eq a k) [
+  | inl same ↦ or_left (f a) (list_any f (range_with_len (a + 1) n)) (ap f same ∙ e)
+  | inr differ ↦ or_right (f a) (list_any f (range_with_len (a + 1) n))
+      (range_any f (a + 1) n k (omega arith) (omega arith) e)
+]
 
 covered_from : (t : List (Option ℕ)) (p : ℕ) → is_covered t p ≡ true → Covered t p
 unfolding is_covered
 covered_from t p h =
     let q = any_range (λ order. is_order order (order_at t (p - p % 2 ^ order))) 0 10 h in
-    let pos : 0 < 2 ^ q.0 = pow_pos q.0 in
-    record {
+    let pos : 0 < 2 ^ q.0 = pow_pos q.0 in record {
       start = p - p % 2 ^ q.0;
       order = q.0;
       listed = is_order-true q.0 _ q.3;
@@ -70,8 +66,7 @@ covered_from t p h =
 
 covered_to : (t : List (Option ℕ)) (p : ℕ) → IsPlaced t → Covered t p → is_covered t p ≡ true
 unfolding is_covered
-covered_to t p placed c =
-    let pos : 0 < 2 ^ c.order = pow_pos c.order in
+covered_to t p placed c = let pos : 0 < 2 ^ c.order = pow_pos c.order in
     let low : p - p % 2 ^ c.order ≤ p = omega arith in
     let high : p < (p - p % 2 ^ c.order) + 2 ^ c.order = omega arith in
     let same : p - p % 2 ^ c.order ≡ c.start =
@@ -80,8 +75,7 @@ covered_to t p placed c =
     c.low c.high in
     let ten : c.order ≤ 9 = placed.blocks.bounded c.start c.order c.listed in
     range_any (λ order. is_order order (order_at t (p - p % 2 ^ order))) 0 10 c.order (omega arith)
-    (omega arith) (ap (is_order c.order) (ap (order_at t) same ∙ c.listed)
-    ∙ is_order-self c.order)
+    (omega arith) (ap (is_order c.order) (ap (order_at t) same ∙ c.listed) ∙ is_order-self c.order)
 
 pub length-set_of : (t : List (Option ℕ)) → length (set_of t) ≡ length t
 unfolding set_of
@@ -96,24 +90,11 @@ in_set t p h = grind (arith, is_inside, length-set_of, covered_from, has-set_of)
 
 module _ (t : List (Option ℕ)) (placed : IsPlaced t) where
   pub to_set : (p : ℕ) → Covered t p → has (set_of t) p ≡ true
-  to_set p c =
-      let l : p < length t =
-      omega (arith, c.low, c.high, placed.blocks.fits c.start c.order c.listed) in
-      has-set_of t p l ∙ covered_to t p placed c
+  to_set p c = grind (arith, has-set_of, covered_to)
 
   -- just one block covers a page
   pub one_start : (p : ℕ) (a b : Covered t p) → a.start ≡ b.start
-  one_start p a b =
-      elim (cases_lt a.start b.start) [
-        | inl lt ↦ absurd (placed.apart a.start a.order b.start b.order a.listed lt
-            (omega (arith, a.high, b.low)) b.listed)
-        | inr ge ↦
-            elim (cases_lt b.start a.start) [
-              | inl lt ↦ absurd (placed.apart b.start b.order a.start a.order b.listed lt
-                  (omega (arith, b.high, a.low)) a.listed)
-              | inr le ↦ omega arith
-            ]
-      ]
+  one_start p a b = grind (arith, cases_lt)
 
   pub one_order : (s k j : ℕ) → order_at t s ≡ Some k → order_at t s ≡ Some j → k ≡ j
   one_order s k j a b = let e : Some k ≡ Some j = sym a ∙ b in cc
@@ -130,18 +111,15 @@ module _ (t : List (Option ℕ)) (placed : IsPlaced t) where
   -- an aligned block of covered pages lies within one listed block
   pub within : IsMerged t → (j a : ℕ) → j ≤ 9 → a % 2 ^ j ≡ 0
       → ((p : ℕ) → a ≤ p → p < a + 2 ^ j → Covered t p) → Within a j
-  within merged zero a n e c =
-      let x : Covered t a = c a (omega arith) (omega arith) in
-      record {
-        start = x.start;
-        order = x.order;
-        listed = x.listed;
-        low = x.low;
-        high = omega (arith, x.high);
-        large = omega arith;
-      }
-  within merged (suc j) a n e c =
-      let twice : 2 ^ suc j ≡ 2 ^ j + 2 ^ j = pow_twice j in
+  within merged zero a n e c = let x : Covered t a = c a (omega arith) (omega arith) in record {
+    start = x.start;
+    order = x.order;
+    listed = x.listed;
+    low = x.low;
+    high = omega (arith, x.high);
+    large = omega arith;
+  }
+  within merged (suc j) a n e c = let twice : 2 ^ suc j ≡ 2 ^ j + 2 ^ j = pow_twice j in
       let pos : 0 < 2 ^ j = pow_pos j in
       let e' : a % 2 ^ j ≡ 0 = aligned_down a j (suc j) (omega arith) e in
       let m' : (a + 2 ^ j) % 2 ^ j ≡ 0 = end_aligned a j j (omega arith) e' in
@@ -149,10 +127,8 @@ module _ (t : List (Option ℕ)) (placed : IsPlaced t) where
       (within merged j (a + 2 ^ j) (omega arith) m' (λ p l h. c p (omega arith) (omega arith)))
     where
       join : Within a j → Within (a + 2 ^ j) j → Within a (suc j)
-      join x y =
-          let twice : 2 ^ suc j ≡ 2 ^ j + 2 ^ j = pow_twice j in
-          let pos : 0 < 2 ^ j = pow_pos j in
-          elim (cases_lt j x.order) [
+      join x y = let twice : 2 ^ suc j ≡ 2 ^ j + 2 ^ j = pow_twice j in
+          let pos : 0 < 2 ^ j = pow_pos j in elim (cases_lt j x.order) [
             | inl lt ↦
                 let step : a + 2 ^ suc j ≤ x.start + 2 ^ x.order =
                 aligned_step a (x.start + 2 ^ x.order) (2 ^ suc j) e
@@ -166,39 +142,35 @@ module _ (t : List (Option ℕ)) (placed : IsPlaced t) where
                   high = step;
                   large = omega arith;
                 }
-            | inr xle ↦
-                elim (cases_lt j y.order) [
-                  | inl lt ↦
-                      let start_ok : y.start % 2 ^ suc j ≡ 0 =
-                      aligned_down y.start (suc j) y.order lt
-                      (placed.blocks.aligned y.start y.order y.listed) in
-                      let low : y.start ≤ a =
-                      elim (cases_lt a y.start) [
-                        | inl past ↦ absurd (omega
-                            (arith, aligned_step a y.start (2 ^ suc j) e start_ok past, y.low))
-                        | inr ok ↦ ok
-                      ] in
-                      record {
-                        start = y.start;
-                        order = y.order;
-                        listed = y.listed;
-                        low = low;
-                        high = omega (arith, y.high);
-                        large = omega arith;
-                      }
-                  | inr yle ↦
-                      let xj : x.order ≡ j = omega (arith, x.large) in
-                      let yj : y.order ≡ j = omega (arith, y.large) in
-                      let xp : 2 ^ x.order ≡ 2 ^ j = ap (λ (i : ℕ). 2 ^ i) xj in
-                      let yp : 2 ^ y.order ≡ 2 ^ j = ap (λ (i : ℕ). 2 ^ i) yj in
-                      let xs : x.start ≡ a = omega (arith, x.low, x.high) in
-                      let ys : y.start ≡ a + 2 ^ j = omega (arith, y.low, y.high) in
-                      let left : order_at t a ≡ Some j =
-                      ap (order_at t) (sym xs) ∙ (x.listed ∙ ap (λ (i : ℕ). Some i) xj) in
-                      let right : order_at t (a + 2 ^ j) ≡ Some j =
-                      ap (order_at t) (sym ys) ∙ (y.listed ∙ ap (λ (i : ℕ). Some i) yj) in
-                      absurd (merged a j left right e (omega arith))
-                ]
+            | inr xle ↦ elim (cases_lt j y.order) [
+              | inl lt ↦
+                  let start_ok : y.start % 2 ^ suc j ≡ 0 = aligned_down y.start (suc j) y.order lt
+                  (placed.blocks.aligned y.start y.order y.listed) in
+                  let low : y.start ≤ a = elim (cases_lt a y.start) [
+                    | inl past ↦ absurd (omega
+                        (arith, aligned_step a y.start (2 ^ suc j) e start_ok past, y.low))
+                    | inr ok ↦ ok
+                  ] in record {
+                    start = y.start;
+                    order = y.order;
+                    listed = y.listed;
+                    low = low;
+                    high = omega (arith, y.high);
+                    large = omega arith;
+                  }
+              | inr yle ↦
+                  let xj : x.order ≡ j = omega (arith, x.large) in
+                  let yj : y.order ≡ j = omega (arith, y.large) in
+                  let xp : 2 ^ x.order ≡ 2 ^ j = ap (λ (i : ℕ). 2 ^ i) xj in
+                  let yp : 2 ^ y.order ≡ 2 ^ j = ap (λ (i : ℕ). 2 ^ i) yj in
+                  let xs : x.start ≡ a = omega (arith, x.low, x.high) in
+                  let ys : y.start ≡ a + 2 ^ j = omega (arith, y.low, y.high) in
+                  let left : order_at t a ≡ Some j =
+                  ap (order_at t) (sym xs) ∙ (x.listed ∙ ap (λ (i : ℕ). Some i) xj) in
+                  let right : order_at t (a + 2 ^ j) ≡ Some j =
+                  ap (order_at t) (sym ys) ∙ (y.listed ∙ ap (λ (i : ℕ). Some i) yj) in
+                  absurd (merged a j left right e (omega arith))
+            ]
           ]
 
   abbrev listed_page : (s k p : ℕ) → order_at t s ≡ Some k → s ≤ p → p < s + 2 ^ k → Covered t p
@@ -213,9 +185,7 @@ module _ (t : List (Option ℕ)) (placed : IsPlaced t) where
 
   inside_within : IsMerged t → (c : Block) → IsBlock c → LiesIn (set_of t) c
       → Within c.start c.order
-  inside_within merged c b h =
-      within merged c.order c.start b.0 (eqb-true (c.start % 2 ^ c.order) 0 b.1)
-      (λ p l u. in_set t p (h p l u))
+  inside_within merged c b h = grind (arith, within, eqb-true, in_set)
 
   pub listed_maximal : IsMerged t → (s k : ℕ) → order_at t s ≡ Some k
       → IsMaximal (set_of t) (block_at s k)
@@ -224,12 +194,10 @@ module _ (t : List (Option ℕ)) (placed : IsPlaced t) where
     where
       alone : (c : Block) → IsBlock c → LiesIn (set_of t) c → LiesWithin (block_at s k) c
           → c.order ≤ k
-      alone c b h l =
-          let w = inside_within merged c b h in
+      alone c b h l = let w = inside_within merged c b h in
           let pos : 0 < 2 ^ k = pow_pos k in
           let x : Covered t s = listed_page s k s e (omega arith) (omega arith) in
-          let y : Covered t s =
-          listed_page w.start w.order s w.listed (omega (arith, w.low, l.0))
+          let y : Covered t s = listed_page w.start w.order s w.listed (omega (arith, w.low, l.0))
           (omega (arith, w.high, l.1)) in
           let same : w.start ≡ s = one_start s y x in
           let o : w.order ≡ k = one_order s w.order k (ap (order_at t) (sym same) ∙ w.listed) e in
@@ -237,8 +205,7 @@ module _ (t : List (Option ℕ)) (placed : IsPlaced t) where
 
   pub maximal_listed : IsMerged t → (b : Block) → IsMaximal (set_of t) b
       → order_at t b.start ≡ Some b.order
-  maximal_listed merged b m =
-      let w = inside_within merged b m.is_block m.inside in
+  maximal_listed merged b m = let w = inside_within merged b m.is_block m.inside in
       let le : w.order ≤ b.order =
       m.alone (block_at w.start w.order) (listed_block w.start w.order w.listed)
       (listed_inside w.start w.order w.listed) (w.low, w.high) in
@@ -250,8 +217,7 @@ module _ (t : List (Option ℕ)) (placed : IsPlaced t) where
   -- where no block of at least this order is listed, none lies in the set
   pub none_inside : IsMerged t → (order : ℕ) → ((s k : ℕ) → order ≤ k → order_at t s ≡ Some k → ⊥)
       → HasNoBlock (set_of t) order
-  none_inside merged order none s b h =
-      let w = inside_within merged (block_at s order) b h in
+  none_inside merged order none s b h = let w = inside_within merged (block_at s order) b h in
       none w.start w.order w.large w.listed
 
   pub chosen : IsMerged t → (order s k : ℕ) → order ≤ k
@@ -260,11 +226,10 @@ module _ (t : List (Option ℕ)) (placed : IsPlaced t) where
   chosen merged order s k l none low = record {
     maximal = listed_maximal merged s k low.0;
     sufficient = l;
-    smallest = λ c m o.
-        elim (cases_lt c.order k) [
-          | inl lt ↦ absurd (none c.start c.order o lt (maximal_listed merged c m))
-          | inr ge ↦ ge
-        ];
+    smallest = λ c m o. elim (cases_lt c.order k) [
+      | inl lt ↦ absurd (none c.start c.order o lt (maximal_listed merged c m))
+      | inr ge ↦ ge
+    ];
     lowest = λ c m e. low.2 c.start (omega arith)
         (maximal_listed merged c m ∙ ap (λ (i : ℕ). Some i) e);
   }
@@ -282,8 +247,7 @@ removed_merged t s l merged r j e f =
 
 pub removed_set : (t : List (Option ℕ)) (s k : ℕ) → IsPlaced t → order_at t s ≡ Some k
     → set_of (set t s None) ≡ without_pages (pages_of (block_at s k)) (set_of t)
-removed_set t s k placed e =
-    same_sets (set_of t') (without_pages block (set_of t))
+removed_set t s k placed e = same_sets (set_of t') (without_pages block (set_of t))
     (length-set_of t' ∙ (length-set t s None
     ∙ (sym (length-set_of t) ∙ sym (length-without_pages block (set_of t))))) to from
   where
@@ -297,34 +261,27 @@ removed_set t s k placed e =
     l = is_there t s k e
 
     to : (p : ℕ) → has (set_of t') p ≡ true → has (without_pages block (set_of t)) p ≡ true
-    to p h =
-        let c = in_set t' p h in
+    to p h = let c = in_set t' p h in
         let q = entry_kept t s c.start c.order l c.listed in
         let d : Covered t p =
         record { start = c.start; order = c.order; listed = q.1; low = c.low; high = c.high } in
-        without_old block (set_of t) p (to_set t placed p d)
-        (not_in_block s k p (λ a b. q.0
-        (one_start t placed p d
-        (record { start = s; order = k; listed = e; low = a; high = b }))))
+        without_old block (set_of t) p (to_set t placed p d) (not_in_block s k p (λ a b. q.0
+        (one_start t placed p d (record { start = s; order = k; listed = e; low = a; high = b }))))
 
     from : (p : ℕ) → has (without_pages block (set_of t)) p ≡ true → has (set_of t') p ≡ true
-    from p h =
-        let q = without_parts block (set_of t) p h in
+    from p h = let q = without_parts block (set_of t) p h in
         let c = in_set t p q.0 in
         let differ : c.start ≢ s = λ same.
         let o : c.order ≡ k =
         one_order t placed s c.order k (ap (order_at t) (sym same) ∙ c.listed) e in
-        let w : 2 ^ c.order ≡ 2 ^ k = ap (λ (i : ℕ). 2 ^ i) o in
-        both_ways (is_in p block) q.1
+        let w : 2 ^ c.order ≡ 2 ^ k = ap (λ (i : ℕ). 2 ^ i) o in both_ways (is_in p block) q.1
         (in_block s k p (omega (arith, c.low, same)) (omega (arith, c.high, same, w))) in
-        to_set t' (removed_placed t s l placed) p
-        (record {
+        to_set t' (removed_placed t s l placed) p (record {
           start = c.start;
           order = c.order;
           listed = get_or-set_other t s c.start None None differ ∙ c.listed;
           low = c.low;
-          high =
-              c.high;
+          high = c.high;
         })
 
 -- ---- a block comes to the table
@@ -346,95 +303,72 @@ module _ (t : List (Option ℕ)) (s k : ℕ) (placed : IsPlaced t) (room : HasRo
     where
       step : (o : Option ℕ) → order_at t s ≡ o → o ≡ None
       step None e = refl
-      step (Some j) e =
-          let pos : 0 < 2 ^ k = pow_pos k in
-          let pos' : 0 < 2 ^ j = pow_pos j in
-          absurd (outside s (omega arith) (omega arith)
+      step (Some j) e = let pos : 0 < 2 ^ k = pow_pos k in
+          let pos' : 0 < 2 ^ j = pow_pos j in absurd (outside s (omega arith) (omega arith)
           (record { start = s; order = j; listed = e; low = omega arith; high = omega arith }))
 
   -- an entry of the new table: the new block, or an old one elsewhere
   entry_cases : (r j : ℕ) → order_at (set t s (Some k)) r ≡ Some j
       → ((r ≡ s) × (j ≡ k)) ⊎ ((r ≢ s) × (order_at t r ≡ Some j))
-  entry_cases r j e =
-      elim (cases_eq r s) [
-        | inl same ↦
-            let n : order_at (set t s (Some k)) r ≡ Some k =
-            ap (order_at (set t s (Some k))) same
-            ∙ get_or-set_same t s (Some k) None room_there in
-            let q : Some j ≡ Some k = sym e ∙ n in
-            inl (same, cc)
-        | inr differ ↦ inr (differ, sym (get_or-set_other t s r (Some k) None differ) ∙ e)
-      ]
+  entry_cases r j e = grind (arith, cases_eq, get_or-set_same, room_there, get_or-set_other)
 
   pub added_placed : IsPlaced (set t s (Some k))
-  added_placed =
-      record {
-        blocks = with_block_added t s k placed.blocks room.bounded room.aligned room.fits;
-        apart = apart;
-      }
+  added_placed = record {
+    blocks = with_block_added t s k placed.blocks room.bounded room.aligned room.fits;
+    apart = apart;
+  }
     where
       apart : (r j q i : ℕ) → order_at (set t s (Some k)) r ≡ Some j → r < q → q < r + 2 ^ j
           → order_at (set t s (Some k)) q ≡ Some i → ⊥
-      apart r j q i e a b f =
-          elim (entry_cases r j e) [
-            | inl x ↦
-                elim (entry_cases q i f) [
-                  | inl y ↦ omega (arith, x.0, y.0)
-                  | inr y ↦
-                      let w : 2 ^ j ≡ 2 ^ k = ap (λ (n : ℕ). 2 ^ n) x.1 in
-                      let pos : 0 < 2 ^ i = pow_pos i in
-                      outside q (omega (arith, x.0)) (omega (arith, x.0, w))
-                      (record {
-                        start = q;
-                        order = i;
-                        listed = y.1;
-                        low = omega arith;
-                        high = omega arith;
-                      })
-                ]
-            | inr x ↦
-                elim (entry_cases q i f) [
-                  | inl y ↦
-                      let pos : 0 < 2 ^ k = pow_pos k in
-                      outside s (omega arith) (omega arith)
-                      (record {
-                        start = r;
-                        order = j;
-                        listed = x.1;
-                        low = omega (arith, y.0);
-                        high = omega (arith, y.0);
-                      })
-                  | inr y ↦ placed.apart r j q i x.1 a b y.1
-                ]
-          ]
+      apart r j q i e a b f = elim (entry_cases r j e) [
+        | inl x ↦ elim (entry_cases q i f) [
+          | inl y ↦ omega (arith, x.0, y.0)
+          | inr y ↦
+              let w : 2 ^ j ≡ 2 ^ k = ap (λ (n : ℕ). 2 ^ n) x.1 in
+              let pos : 0 < 2 ^ i = pow_pos i in
+              outside q (omega (arith, x.0)) (omega (arith, x.0, w)) (record {
+                start = q;
+                order = i;
+                listed = y.1;
+                low = omega arith;
+                high = omega arith;
+              })
+        ]
+        | inr x ↦ elim (entry_cases q i f) [
+          | inl y ↦
+              let pos : 0 < 2 ^ k = pow_pos k in outside s (omega arith) (omega arith) (record {
+                start = r;
+                order = j;
+                listed = x.1;
+                low = omega (arith, y.0);
+                high = omega (arith, y.0);
+              })
+          | inr y ↦ placed.apart r j q i x.1 a b y.1
+        ]
+      ]
 
   pub added_merged : IsMerged t → HasNoBuddy t s k → IsMerged (set t s (Some k))
-  added_merged merged alone r j e f al nine =
-      let pos : 0 < 2 ^ j = pow_pos j in
+  added_merged merged alone r j e f al nine = let pos : 0 < 2 ^ j = pow_pos j in
       elim (entry_cases r j e) [
-        | inl x ↦
-            elim (entry_cases (r + 2 ^ j) j f) [
-              | inl y ↦ omega (arith, x.0, y.0)
-              | inr y ↦
-                  let at : r + 2 ^ j ≡ s + 2 ^ k =
-                  ap (λ (n : ℕ). r + 2 ^ n) x.1 ∙ ap (λ (n : ℕ). n + 2 ^ k) x.0 in
-                  alone.right (ap (order_at t) (sym at) ∙ (y.1 ∙ ap (λ (n : ℕ). Some n) x.1))
-                  (ap (λ (n : ℕ). n % 2 ^ suc k) (sym x.0)
-                  ∙ (ap (λ (n : ℕ). r % 2 ^ suc n) (sym x.1) ∙ al)) (omega (arith, x.1))
-            ]
-        | inr x ↦
-            elim (entry_cases (r + 2 ^ j) j f) [
-              | inl y ↦
-                  alone.left r (ap (λ (n : ℕ). r + 2 ^ n) (sym y.1) ∙ y.0)
-                  (x.1 ∙ ap (λ (n : ℕ). Some n) y.1)
-                  (ap (λ (n : ℕ). r % 2 ^ suc n) (sym y.1) ∙ al) (omega (arith, y.1))
-              | inr y ↦ merged r j x.1 y.1 al nine
-            ]
+        | inl x ↦ elim (entry_cases (r + 2 ^ j) j f) [
+          | inl y ↦ omega (arith, x.0, y.0)
+          | inr y ↦
+              let at : r + 2 ^ j ≡ s + 2 ^ k =
+              ap (λ (n : ℕ). r + 2 ^ n) x.1 ∙ ap (λ (n : ℕ). n + 2 ^ k) x.0 in
+              alone.right (ap (order_at t) (sym at) ∙ (y.1 ∙ ap (λ (n : ℕ). Some n) x.1))
+              (ap (λ (n : ℕ). n % 2 ^ suc k) (sym x.0)
+              ∙ (ap (λ (n : ℕ). r % 2 ^ suc n) (sym x.1) ∙ al)) (omega (arith, x.1))
+        ]
+        | inr x ↦ elim (entry_cases (r + 2 ^ j) j f) [
+          | inl y ↦ alone.left r (ap (λ (n : ℕ). r + 2 ^ n) (sym y.1) ∙ y.0)
+              (x.1 ∙ ap (λ (n : ℕ). Some n) y.1)
+              (ap (λ (n : ℕ). r % 2 ^ suc n) (sym y.1) ∙ al) (omega (arith, y.1))
+          | inr y ↦ merged r j x.1 y.1 al nine
+        ]
       ]
 
   pub added_set : set_of (set t s (Some k)) ≡ with_pages (pages_of (block_at s k)) (set_of t)
-  added_set =
-      same_sets (set_of t') (with_pages block (set_of t))
+  added_set = same_sets (set_of t') (with_pages block (set_of t))
       (length-set_of t' ∙ (length-set t s (Some k)
       ∙ (sym (length-set_of t) ∙ sym (length-with_pages block (set_of t))))) to from
     where
@@ -445,55 +379,43 @@ module _ (t : List (Option ℕ)) (s k : ℕ) (placed : IsPlaced t) (room : HasRo
       block = pages_of (block_at s k)
 
       to : (p : ℕ) → has (set_of t') p ≡ true → has (with_pages block (set_of t)) p ≡ true
-      to p h =
-          let c = in_set t' p h in
-          elim (entry_cases c.start c.order c.listed) [
-            | inl q ↦
-                let w : 2 ^ c.order ≡ 2 ^ k = ap (λ (i : ℕ). 2 ^ i) q.1 in
-                with_new block (set_of t) p
-                (omega (arith, length-set_of t, c.high, q.0, w, room.fits))
-                (in_block s k p (omega (arith, c.low, q.0)) (omega (arith, c.high, q.0, w)))
-            | inr q ↦ with_old block (set_of t) p
-                (to_set t placed p (record
-                { start = c.start; order = c.order; listed = q.1; low = c.low; high = c.high }))
-          ]
+      to p h = let c = in_set t' p h in elim (entry_cases c.start c.order c.listed) [
+        | inl q ↦
+            let w : 2 ^ c.order ≡ 2 ^ k = ap (λ (i : ℕ). 2 ^ i) q.1 in with_new block (set_of t) p
+            (omega (arith, length-set_of t, c.high, q.0, w, room.fits))
+            (in_block s k p (omega (arith, c.low, q.0)) (omega (arith, c.high, q.0, w)))
+        | inr q ↦ with_old block (set_of t) p (to_set t placed p (record
+            { start = c.start; order = c.order; listed = q.1; low = c.low; high = c.high }))
+      ]
 
       from : (p : ℕ) → has (with_pages block (set_of t)) p ≡ true → has (set_of t') p ≡ true
-      from p h =
-          elim (with_cases block (set_of t) p h) [
-            | inl old ↦
-                let c = in_set t p old in
-                let pos : 0 < 2 ^ k = pow_pos k in
-                let pos' : 0 < 2 ^ c.order = pow_pos c.order in
-                let differ : c.start ≢ s =
-                λ same. outside s (omega arith) (omega arith)
-                (record {
-                  start = c.start;
-                  order = c.order;
-                  listed = c.listed;
-                  low = omega (arith, same);
-                  high = omega (arith, same);
-                }) in
-                to_set t' added_placed p
-                (record {
-                  start = c.start;
-                  order = c.order;
-                  listed = get_or-set_other t s c.start (Some k) None differ ∙ c.listed;
-                  low =
-                      c.low;
-                  high = c.high;
-                })
-            | inr new ↦
-                let q = block_bounds s k p new in
-                to_set t' added_placed p
-                (record {
-                  start = s;
-                  order = k;
-                  listed = get_or-set_same t s (Some k) None room_there;
-                  low = q.0;
-                  high = q.1;
-                })
-          ]
+      from p h = elim (with_cases block (set_of t) p h) [
+        | inl old ↦
+            let c = in_set t p old in
+            let pos : 0 < 2 ^ k = pow_pos k in
+            let pos' : 0 < 2 ^ c.order = pow_pos c.order in
+            let differ : c.start ≢ s = λ same. outside s (omega arith) (omega arith) (record {
+              start = c.start;
+              order = c.order;
+              listed = c.listed;
+              low = omega (arith, same);
+              high = omega (arith, same);
+            }) in to_set t' added_placed p (record {
+              start = c.start;
+              order = c.order;
+              listed = get_or-set_other t s c.start (Some k) None differ ∙ c.listed;
+              low = c.low;
+              high = c.high;
+            })
+        | inr new ↦
+            let q = block_bounds s k p new in to_set t' added_placed p (record {
+              start = s;
+              order = k;
+              listed = get_or-set_same t s (Some k) None room_there;
+              low = q.0;
+              high = q.1;
+            })
+      ]
 
 -- ---- halving and merging
 
@@ -516,13 +438,7 @@ module _ (t : List (Option ℕ)) (s k b low : ℕ) (placed : IsPlaced t) (room :
 
   left_case : (s ≡ low) × (b ≡ low + 2 ^ k) × (low % 2 ^ suc k ≡ 0)
       ⊎ ((b ≡ low) × (s ≡ low + 2 ^ k) × (low % 2 ^ suc k ≡ 0))
-  left_case =
-      elim buddy [
-        | inl q ↦ let e : low ≡ s = omega (arith, q.1) in
-            inl (sym e, omega (arith, q.1), ap (λ (n : ℕ). n % 2 ^ suc k) e ∙ q.0)
-        | inr q ↦ let e : low ≡ b = omega (arith, q.1) in
-            inr (sym e, omega (arith, q.1), ap (λ (n : ℕ). n % 2 ^ suc k) e ∙ q.2)
-      ]
+  left_case = grind arith
 
   -- all pages of the larger block
   pub merged_set : with_pages (pages_of (block_at low (suc k))) (set_of after)
@@ -534,16 +450,12 @@ module _ (t : List (Option ℕ)) (s k b low : ℕ) (placed : IsPlaced t) (room :
       (without_pages (pages_of (block_at b k)) (set_of t)) ≡ set_of t =
       with_without (pages_of (block_at b k)) (set_of t) buddy_inside in
       let rest = without_pages (pages_of (block_at b k)) (set_of t) in
-      ap (λ (x : List Bool). with_pages (pages_of (block_at low (suc k))) x) gone ∙
-      elim left_case [
-        | inl q ↦
-            sym (halves low k rest)
-            ∙ (ap (λ (n : ℕ). with_pages (pages_of (block_at low k))
+      ap (λ (x : List Bool). with_pages (pages_of (block_at low (suc k))) x) gone ∙ elim left_case [
+        | inl q ↦ sym (halves low k rest) ∙ (ap (λ (n : ℕ). with_pages (pages_of (block_at low k))
             (with_pages (pages_of (block_at n k)) rest)) (sym q.1)
             ∙ (ap (λ (x : List Bool). with_pages (pages_of (block_at low k)) x) back
             ∙ ap (λ (n : ℕ). with_pages (pages_of (block_at n k)) (set_of t)) (sym q.0)))
-        | inr q ↦
-            sym (halves_turned low k rest)
+        | inr q ↦ sym (halves_turned low k rest)
             ∙ (ap (λ (n : ℕ). with_pages (pages_of (block_at (low + 2 ^ k) k))
             (with_pages (pages_of (block_at n k)) rest)) (sym q.0)
             ∙ (ap (λ (x : List Bool). with_pages (pages_of (block_at (low + 2 ^ k) k)) x) back
@@ -551,68 +463,51 @@ module _ (t : List (Option ℕ)) (s k b low : ℕ) (placed : IsPlaced t) (room :
       ]
 
   pub merged_room : HasRoom after low (suc k)
-  merged_room =
-      let twice : 2 ^ suc k ≡ 2 ^ k + 2 ^ k = pow_twice k in
+  merged_room = let twice : 2 ^ suc k ≡ 2 ^ k + 2 ^ k = pow_twice k in
       let gone : set_of after ≡ without_pages (pages_of (block_at b k)) (set_of t) =
-      removed_set t b k placed listed in
-      record {
+      removed_set t b k placed listed in record {
         bounded = omega arith;
         aligned = elim left_case [ inl q ↦ q.2 | inr q ↦ q.2 ];
         fits = elim left_case [
           | inl q ↦ omega (arith, placed.blocks.fits b k listed, length-set t b None, q.0, q.1)
-          | inr q ↦
-              omega (arith, room.fits, length-set t b None, q.0, q.1)
+          | inr q ↦ omega (arith, room.fits, length-set t b None, q.0, q.1)
         ];
-        outside = λ p l h.
-            false_from_ne_true (has (set_of after) p) (λ e.
+        outside = λ p l h. false_from_ne_true (has (set_of after) p) (λ e.
             let parts = without_parts (pages_of (block_at b k)) (set_of t) p
             (ap (λ (x : List Bool). has x p) (sym gone) ∙ e) in
             elim (cases_Bool (is_in p (pages_of (block_at s k)))) [
               | inl i ↦ let q = block_bounds s k p i in
                   both_ways (has (set_of t) p) (room.outside p q.0 q.1) parts.0
-              | inr n ↦
-                  elim left_case [
-                    | inl q ↦
-                        elim (cases_lt p b) [
-                          | inl lt ↦ both_ways (is_in p (pages_of (block_at s k))) n
-                              (in_block s k p (omega (arith, q.0)) (omega (arith, q.0, q.1)))
-                          | inr ge ↦ both_ways (is_in p (pages_of (block_at b k))) parts.1
-                              (in_block b k p ge (omega (arith, q.0, q.1)))
-                        ]
-                    | inr q ↦
-                        elim (cases_lt p s) [
-                          | inl lt ↦ both_ways (is_in p (pages_of (block_at b k))) parts.1
-                              (in_block b k p (omega (arith, q.0)) (omega (arith, q.0, q.1)))
-                          | inr ge ↦ both_ways (is_in p (pages_of (block_at s k))) n
-                              (in_block s k p ge (omega (arith, q.0, q.1)))
-                        ]
-                  ]
+              | inr n ↦ elim left_case [
+                | inl q ↦ elim (cases_lt p b) [
+                  | inl lt ↦ both_ways (is_in p (pages_of (block_at s k))) n
+                      (in_block s k p (omega (arith, q.0)) (omega (arith, q.0, q.1)))
+                  | inr ge ↦ both_ways (is_in p (pages_of (block_at b k))) parts.1
+                      (in_block b k p ge (omega (arith, q.0, q.1)))
+                ]
+                | inr q ↦ elim (cases_lt p s) [
+                  | inl lt ↦ both_ways (is_in p (pages_of (block_at b k))) parts.1
+                      (in_block b k p (omega (arith, q.0)) (omega (arith, q.0, q.1)))
+                  | inr ge ↦ both_ways (is_in p (pages_of (block_at s k))) n
+                      (in_block s k p ge (omega (arith, q.0, q.1)))
+                ]
+              ]
             ]);
       }
 
 -- the upper half of a block goes in
 module _ (t : List (Option ℕ)) (s k : ℕ) (placed : IsPlaced t) (room : HasRoom t s (suc k)) where
   pub upper_room : HasRoom t (s + 2 ^ k) k
-  upper_room =
-      let twice : 2 ^ suc k ≡ 2 ^ k + 2 ^ k = pow_twice k in
-      record {
-        bounded = omega (arith, room.bounded);
-        aligned = end_aligned s k k (omega arith)
-            (aligned_down s k (suc k) (omega arith) room.aligned);
-        fits = omega (arith, room.fits);
-        outside = λ p l h. room.outside p (omega arith) (omega arith);
-      }
+  upper_room = grind (arith, pow_twice, end_aligned, aligned_down)
 
   pub upper_alone : HasNoBuddy t (s + 2 ^ k) k
-  upper_alone =
-      record {
-        right = λ e a nine. right_half s k room.aligned a;
-        left = λ r e f a nine.
-            let same : r ≡ s = omega arith in
-            let empty : order_at t s ≡ None = room_empty t s (suc k) placed room in
-            let bad : Some k ≡ None = sym f ∙ (ap (order_at t) same ∙ empty) in
-            cc;
-      }
+  upper_alone = record {
+    right = λ e a nine. right_half s k room.aligned a;
+    left = λ r e f a nine.
+        let same : r ≡ s = omega arith in
+        let empty : order_at t s ≡ None = room_empty t s (suc k) placed room in
+        let bad : Some k ≡ None = sym f ∙ (ap (order_at t) same ∙ empty) in cc;
+  }
 
   abbrev pub halved : List (Option ℕ)
   halved = set t (s + 2 ^ k) (Some k)
@@ -621,20 +516,17 @@ module _ (t : List (Option ℕ)) (s k : ℕ) (placed : IsPlaced t) (room : HasRo
   halved_set = added_set t (s + 2 ^ k) k placed upper_room
 
   pub lower_room : HasRoom halved s k
-  lower_room =
-      let twice : 2 ^ suc k ≡ 2 ^ k + 2 ^ k = pow_twice k in
-      record {
-        bounded = omega (arith, room.bounded);
-        aligned = aligned_down s k (suc k) (omega arith) room.aligned;
-        fits = omega (arith, room.fits, length-set t (s + 2 ^ k) (Some k));
-        outside = λ p l h.
-            false_from_ne_true (has (set_of halved) p) (λ e.
-            elim (with_cases (pages_of (block_at (s + 2 ^ k) k)) (set_of t) p
-            (ap (λ (x : List Bool). has x p) (sym halved_set) ∙ e)) [
-              | inl old ↦ both_ways (has (set_of t) p) (room.outside p l (omega arith)) old
-              | inr new ↦ let q = block_bounds (s + 2 ^ k) k p new in omega (arith, q.0)
-            ]);
-      }
+  lower_room = grind (
+    arith,
+    pow_twice,
+    aligned_down,
+    length-set,
+    false_from_ne_true,
+    with_cases,
+    halved_set,
+    both_ways,
+    block_bounds,
+  )
 
   pub lower_set : with_pages (pages_of (block_at s k)) (set_of halved)
       ≡ with_pages (pages_of (block_at s (suc k))) (set_of t)
@@ -644,17 +536,15 @@ module _ (t : List (Option ℕ)) (s k : ℕ) (placed : IsPlaced t) (room : HasRo
 -- a block that left the table has room in it
 pub removed_room : (t : List (Option ℕ)) (s k : ℕ) → IsPlaced t → order_at t s ≡ Some k
     → HasRoom (set t s None) s k
-removed_room t s k placed e =
-    record {
-      bounded = placed.blocks.bounded s k e;
-      aligned = placed.blocks.aligned s k e;
-      fits = omega (arith, placed.blocks.fits s k e, length-set t s None);
-      outside = λ p l h.
-          ap (λ (x : List Bool). has x p) (removed_set t s k placed e)
-          ∙ (has-without_pages (pages_of (block_at s k)) (set_of t) p
-          ∙ and_right (has (set_of t) p) (not (is_in p (pages_of (block_at s k))))
-          (not_from_true (is_in p (pages_of (block_at s k))) (in_block s k p l h)));
-    }
+removed_room t s k placed e = record {
+  bounded = placed.blocks.bounded s k e;
+  aligned = placed.blocks.aligned s k e;
+  fits = omega (arith, placed.blocks.fits s k e, length-set t s None);
+  outside = λ p l h. ap (λ (x : List Bool). has x p) (removed_set t s k placed e)
+      ∙ (has-without_pages (pages_of (block_at s k)) (set_of t) p
+      ∙ and_right (has (set_of t) p) (not (is_in p (pages_of (block_at s k))))
+      (not_from_true (is_in p (pages_of (block_at s k))) (in_block s k p l h)));
+}
 
 pub removed_tiled : (t : List (Option ℕ)) (s k : ℕ) → IsTiled t → order_at t s ≡ Some k
     → IsTiled (set t s None)
@@ -662,21 +552,18 @@ removed_tiled t s k tiled e = search (arith, is_there, removed_placed, removed_m
 
 pub added_tiled : (t : List (Option ℕ)) (s k : ℕ) → IsTiled t → HasRoom t s k → HasNoBuddy t s k
     → IsTiled (set t s (Some k))
-added_tiled t s k tiled room alone =
-    record {
-      placed = added_placed t s k tiled.placed room;
-      merged = added_merged t s k tiled.placed room tiled.merged alone;
-      small =
-          omega (arith, tiled.small, length-set t s (Some k));
-    }
+added_tiled t s k tiled room alone = record {
+  placed = added_placed t s k tiled.placed room;
+  merged = added_merged t s k tiled.placed room tiled.merged alone;
+  small = omega (arith, tiled.small, length-set t s (Some k));
+}
 
 -- no blocks make up no pages
 pub none_tiled : (n : ℕ) → n ≤ MAX_PAGES → IsTiled (replicate n None)
 none_tiled n h = grind (arith, none_entry, length-replicate)
 
 pub none_set : (n p : ℕ) → n ≤ MAX_PAGES → has (set_of (replicate n None)) p ≡ false
-none_set n p h =
-    false_from_ne_true (has (set_of (replicate n None)) p) (λ e.
+none_set n p h = false_from_ne_true (has (set_of (replicate n None)) p) (λ e.
     let c = in_set (replicate n None) p e in none_entry n c.start c.order c.listed)
 
 -- ---- the lowest listed block, order by order
@@ -710,8 +597,7 @@ pub part_left : (t : List (Option ℕ)) (s k j : ℕ) → IsPlaced t → order_a
     → without_pages (pages_of (block_at s j))
     (with_pages (pages_of (block_at s k)) (set_of (set t s None)))
     ≡ without_pages (pages_of (block_at s j)) (set_of t)
-part_left t s k j placed e =
-    ap (without_pages (pages_of (block_at s j)))
+part_left t s k j placed e = ap (without_pages (pages_of (block_at s j)))
     (ap (with_pages (pages_of (block_at s k))) (removed_set t s k placed e)
     ∙ with_without (pages_of (block_at s k)) (set_of t)
     (λ p h. let q = block_bounds s k p h in listed_inside t placed s k e p q.0 q.1))
@@ -729,8 +615,7 @@ module _ (t : List (Option ℕ)) (s w size : ℕ) (tiled : IsTiled t) (room : Ha
   rest_at = ap (λ (n : ℕ). s + n) (sym size_is)
 
   pub rest_upper : HasRoom t (s + size) (w - 1)
-  rest_upper = subst (λ (n : ℕ). HasRoom t n (w - 1)) rest_at
-      (upper_room t s (w - 1) tiled.placed rest_whole)
+  rest_upper = rw (← rest_at) (upper_room t s (w - 1) tiled.placed rest_whole)
 
   pub rest_empty : order_at t (s + size) ≡ None
   rest_empty = room_empty t (s + size) (w - 1) tiled.placed rest_upper
@@ -739,22 +624,16 @@ module _ (t : List (Option ℕ)) (s w size : ℕ) (tiled : IsTiled t) (room : Ha
   rest_table = ap (λ (n : ℕ). set t n (Some (w - 1))) rest_at
 
   pub rest_tiled : IsTiled (set t (s + size) (Some (w - 1)))
-  rest_tiled = subst IsTiled rest_table
-      (added_tiled t (s + 2 ^ (w - 1)) (w - 1) tiled
+  rest_tiled = subst IsTiled rest_table (added_tiled t (s + 2 ^ (w - 1)) (w - 1) tiled
       (upper_room t s (w - 1) tiled.placed rest_whole)
       (upper_alone t s (w - 1) tiled.placed rest_whole))
 
   pub rest_room : HasRoom (set t (s + size) (Some (w - 1))) s (w - 1)
-  rest_room = subst (λ (u : List (Option ℕ)). HasRoom u s (w - 1)) rest_table
-      (lower_room t s (w - 1) tiled.placed rest_whole)
+  rest_room = rw (← rest_table) (lower_room t s (w - 1) tiled.placed rest_whole)
 
   pub rest_set : with_pages (pages_of (block_at s (w - 1)))
       (set_of (set t (s + size) (Some (w - 1)))) ≡ with_pages (pages_of (block_at s w)) (set_of t)
-  rest_set =
-      ap (λ (u : List (Option ℕ)). with_pages (pages_of (block_at s (w - 1))) (set_of u))
-      (sym rest_table)
-      ∙ (lower_set t s (w - 1) tiled.placed rest_whole
-      ∙ ap (λ (n : ℕ). with_pages (pages_of (block_at s n)) (set_of t)) (sym w_is))
+  rest_set = grind (arith, rest_table, lower_set, rest_whole, w_is)
 
 -- a block and its buddy, taken out of the table, are merged
 module _ (t : List (Option ℕ)) (s k b : ℕ) (tiled : IsTiled t) (room : HasRoom t s k)
@@ -769,10 +648,7 @@ module _ (t : List (Option ℕ)) (s k b : ℕ) (tiled : IsTiled t) (room : HasRo
 
   pub joined_set : with_pages (pages_of (block_at (min s b) (k + 1))) (set_of (set t b None))
       ≡ with_pages (pages_of (block_at s k)) (set_of t)
-  joined_set =
-      ap (λ (n : ℕ). with_pages (pages_of (block_at (min s b) n)) (set_of (set t b None)))
-      (let e : k + 1 ≡ suc k = omega arith in e)
-      ∙ merged_set t s k b (min s b) tiled.placed room buddy listed nine refl
+  joined_set = grind (arith, merged_set)
 
 -- the orders below are gone over
 pub none_more : (t : List (Option ℕ)) (order k : ℕ) → IsLowestStart t k 0 None

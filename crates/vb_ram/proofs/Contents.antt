@@ -39,16 +39,14 @@ same_page_at a b p number bytes = grind arith
 -- pages of as many bytes, equal at each offset, have the same bytes
 pub same_contents : (a b : Pages) (p : ℕ) → length (contents_at a p) ≡ length (contents_at b p)
     → ((o : ℕ) → byte_at a p o ≡ byte_at b p o) → contents_at a p ≡ contents_at b p
-same_contents a b p len same =
-    ext_get_or 0 (contents_at a p) (contents_at b p) len
+same_contents a b p len same = ext_get_or 0 (contents_at a p) (contents_at b p) len
     (λ o h. sym (byte_at-contents a p o) ∙ same o ∙ byte_at-contents b p o)
 
 -- a write leaves the bytes before, its own, and the bytes behind
 pub contents_wrote : (old new : Pages) (p off : ℕ) (bs : List ℕ) → Wrote old new p off bs
     → off + length bs ≤ length (contents_at old p)
     → contents_at new p ≡ overwritten off bs (contents_at old p)
-contents_wrote old new p off bs w fits =
-    let was = contents_at old p in
+contents_wrote old new p off bs w fits = let was = contents_at old p in
     let front : length (take off was) ≡ off = length-take-le off was (omega arith) in
     let behind : length (drop (off + length bs) was) ≡ length was - (off + length bs) =
     length-drop (off + length bs) was in
@@ -59,33 +57,28 @@ contents_wrote old new p off bs w fits =
       behind,
       length-append (take off was) (bs ++ drop (off + length bs) was),
       length-append bs (drop (off + length bs) was),
-    ) in
-    ext_get_or 0 (contents_at new p) (overwritten off bs was) len (λ o h.
+    ) in ext_get_or 0 (contents_at new p) (overwritten off bs was) len (λ o h.
     sym (byte_at-contents new p o) ∙ at o (cases_lt o off) (cases_lt o (off + length bs)))
   where
     at : (o : ℕ) → (o < off) ⊎ (off ≤ o) → (o < off + length bs) ⊎ (off + length bs ≤ o)
         → byte_at new p o ≡ slice_index (overwritten off bs (contents_at old p)) o
-    at o (inl before) _ =
-        let was = contents_at old p in
+    at o (inl before) _ = let was = contents_at old p in
         let front : length (take off was) ≡ off = length-take-le off was (omega arith) in
         w.rest.below o before ∙ byte_at-contents old p o
         ∙ sym (get_or_append_left (take off was) (bs ++ drop (off + length bs) was) 0 o
         (omega (arith, front)) ∙ get_or-take off was o 0 before)
-    at o (inr past) (inl inside) =
-        let was = contents_at old p in
+    at o (inr past) (inl inside) = let was = contents_at old p in
         let front : length (take off was) ≡ off = length-take-le off was (omega arith) in
         let back : off + (o - off) ≡ o = omega arith in
         ap (byte_at new p) (sym back) ∙ w.written (o - off) (omega arith)
         ∙ sym (get_or-append_right (take off was) (bs ++ drop (off + length bs) was) off o 0 front
         past ∙ get_or_append_left bs (drop (off + length bs) was) 0 (o - off) (omega arith))
-    at o (inr past) (inr behind) =
-        let was = contents_at old p in
+    at o (inr past) (inr behind) = let was = contents_at old p in
         let front : length (take off was) ≡ off = length-take-le off was (omega arith) in
         let place : off + length bs + (o - off - length bs) ≡ o = omega arith in
         w.rest.above o behind ∙ byte_at-contents old p o ∙ sym (ap (λ n. slice_index was n) place)
         ∙ sym (get_or-append_right (take off was) (bs ++ drop (off + length bs) was) off o 0 front
-        past
-        ∙ get_or-append_right bs (drop (off + length bs) was) (length bs) (o - off) 0 refl
+        past ∙ get_or-append_right bs (drop (off + length bs) was) (length bs) (o - off) 0 refl
         (omega arith) ∙ get_or-drop (off + length bs) was (o - off - length bs) 0)
 
 -- what a read gave is that part of the page's bytes
@@ -93,11 +86,9 @@ pub contents_read : (mem : Pages) (p off : ℕ) (out : List ℕ)
     → off + length out ≤ length (contents_at mem p)
     → ((k : ℕ) → k < length out → slice_index out k ≡ byte_at mem p (off + k))
     → out ≡ take (length out) (drop off (contents_at mem p))
-contents_read mem p off out fits read =
-    let rest = drop off (contents_at mem p) in
+contents_read mem p off out fits read = let rest = drop off (contents_at mem p) in
     let left : length rest ≡ length (contents_at mem p) - off =
-    length-drop off (contents_at mem p) in
-    ext_get_or 0 out (take (length out) rest)
+    length-drop off (contents_at mem p) in ext_get_or 0 out (take (length out) rest)
     (sym (length-take-le (length out) rest (omega (arith, left)))) (λ k h.
     read k h ∙ byte_at-contents mem p (off + k)
     ∙ sym (get_or-take (length out) rest k 0 h ∙ get_or-drop off (contents_at mem p) k 0))

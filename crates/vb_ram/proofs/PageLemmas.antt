@@ -50,14 +50,12 @@ whole-bare n = record
 
 -- a page of zeros was written over a page
 pub cleared : (old new : Pages) (p : ℕ) → Wrote old new p 0 zero_page → Cleared old new p
-cleared old new p put =
-    let from_start : (k : ℕ) → 0 + k ≡ k = λ k. omega arith in
-    record {
-      zero = λ o lt. ap (byte_at new p) (sym (from_start o))
-          ∙ put.written o (omega (arith, length-zero_page)) ∙ zero_page-at o;
-      rest = subst (λ (n : ℕ). SameBut old new p 0 n)
-          (from_start (length zero_page) ∙ length-zero_page) put.rest;
-    }
+cleared old new p put = let from_start : (k : ℕ) → 0 + k ≡ k = λ k. omega arith in record {
+  zero = λ o lt. ap (byte_at new p) (sym (from_start o))
+      ∙ put.written o (omega (arith, length-zero_page)) ∙ zero_page-at o;
+  rest = subst (λ (n : ℕ). SameBut old new p 0 n)
+      (from_start (length zero_page) ∙ length-zero_page) put.rest;
+}
 
 -- the page of zeros stands where it was put
 pub put_zeros : (old : List ℕ) → length old ≡ 4096 → PutAt old zero_page 0 zero_page

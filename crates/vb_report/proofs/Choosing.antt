@@ -28,10 +28,8 @@ module _ (test : ℕ → Bool) (set : List Bool) (same : (p : ℕ) → test p �
 
   named_is : (from : ℕ) (b : Block) → b.order ≤ 9 → may_name from b ≡ true → MayName from b
   unfolding may_name
-  named_is from b small h =
-      let q = and_parts (is_maximal test b) (is_later from b) h in
-      let r = and_parts (nat_le 4 b.order) (nat_le from b.start) q.1 in
-      record {
+  named_is from b small h = let q = and_parts (is_maximal test b) (is_later from b) h in
+      let r = and_parts (nat_le 4 b.order) (nat_le from b.start) q.1 in record {
         maximal = maximal_is test set same b small q.0;
         large = leb-true 4 b.order r.0;
         after = leb-true from b.start r.1;
@@ -51,8 +49,7 @@ module _ (test : ℕ → Bool) (set : List Bool) (same : (p : ℕ) → test p �
 
   pub none_named : (from n : ℕ) → ((b : Block) → MayName from b → ⊥)
       → filter (is_later from) (maximal_blocks n test) ≡ []
-  none_named from n never =
-      listed from n ∙ flat_none (may_name from) blocks_at 0 n
+  none_named from n never = listed from n ∙ flat_none (may_name from) blocks_at 0 n
       (λ s l u. filter_none (may_name from) (block_at s) 0 10
       (λ k a e. false_from_ne_true (may_name from (block_at s k))
       (λ h. never (block_at s k) (named_is from (block_at s k) (omega arith) h))))
@@ -69,26 +66,21 @@ module _ (test : ℕ → Bool) (set : List Bool) (same : (p : ℕ) → test p �
     long = pow_pos k
 
     before : (r : ℕ) → r < s → filter (may_name from) (blocks_at r) ≡ []
-    before r l =
-        filter_none (may_name from) (block_at r) 0 10
+    before r l = filter_none (may_name from) (block_at r) 0 10
         (λ j a e. false_from_ne_true (may_name from (block_at r j)) (λ h.
         let x = named_is from (block_at r j) (omega arith) h in
-        let o : s ≤ r = low.lowest (block_at r j) x.maximal x.large x.after in
-        omega arith))
+        let o : s ≤ r = low.lowest (block_at r j) x.maximal x.large x.after in omega arith))
 
     not_after : (r : ℕ) → r ≤ s → filter (may_name end) (blocks_at r) ≡ []
     unfolding end
-    not_after r l =
-        filter_none (may_name end) (block_at r) 0 10
+    not_after r l = filter_none (may_name end) (block_at r) 0 10
         (λ j a e. false_from_ne_true (may_name end (block_at r j)) (λ h.
         let x = named_is end (block_at r j) (omega arith) h in
         let o : s + 2 ^ k ≤ r = x.after in
-        let some = long in
-        omega arith))
+        let some = long in omega arith))
 
     just_one : filter (may_name from) (blocks_at s) ≡ block_at s k ∷ []
-    just_one =
-        let fine = small in
+    just_one = let fine = small in
         filter_one (may_name from) (block_at s) k 0 10 (omega arith) (omega arith)
         (is_named from (block_at s k)
         (record { maximal = low.maximal; large = low.sufficient; after = low.after }))
@@ -97,15 +89,12 @@ module _ (test : ℕ → Bool) (set : List Bool) (same : (p : ℕ) → test p �
         let pos : 0 < 2 ^ j = pow_pos j in
         let some = long in
         let o = overlap_same set (block_at s j) (block_at s k) s x.maximal low.maximal (omega arith)
-        (omega arith) (omega arith) (omega arith) in
-        d o.1))
+        (omega arith) (omega arith) (omega arith) in d o.1))
 
     later : (r : ℕ) → s < r → filter (may_name from) (blocks_at r) ≡ filter (may_name end) (blocks_at r)
     unfolding end
-    later r l =
-        filter_same (may_name from) (may_name end) (block_at r) 0 10 (λ j a e.
-        same_bool (may_name from (block_at r j)) (may_name end (block_at r j))
-        (λ h.
+    later r l = filter_same (may_name from) (may_name end) (block_at r) 0 10 (λ j a e.
+        same_bool (may_name from (block_at r j)) (may_name end (block_at r j)) (λ h.
         let x = named_is from (block_at r j) (omega arith) h in
         is_named end (block_at r j) (record {
           maximal = x.maximal;
@@ -116,22 +105,18 @@ module _ (test : ℕ → Bool) (set : List Bool) (same : (p : ℕ) → test p �
                 let pos : 0 < 2 ^ j = pow_pos j in
                 let o = overlap_same set (block_at r j) (block_at s k) r x.maximal low.maximal
                 (omega arith) (omega arith) (omega arith) u in
-                let eq : r ≡ s = o.0 in
-                absurd (omega arith)
+                let eq : r ≡ s = o.0 in absurd (omega arith)
           ];
-        }))
-        (λ h.
+        })) (λ h.
         let x = named_is end (block_at r j) (omega arith) h in
         let after : s + 2 ^ k ≤ r = x.after in
-        let first : from ≤ s = low.after in
-        is_named from (block_at r j)
+        let first : from ≤ s = low.after in is_named from (block_at r j)
         (record { maximal = x.maximal; large = x.large; after = omega arith })))
 
     pub first_named : s < n → filter (is_later from) (maximal_blocks n test)
         ≡ block_at s k ∷ filter (is_later (s + 2 ^ k)) (maximal_blocks n test)
     unfolding end
-    first_named l =
-        listed from n
+    first_named l = listed from n
         ∙ (flat_split (may_name from) (may_name end) blocks_at s (block_at s k) 0 n (omega arith)
         (omega arith) (λ r b. before r b) (λ r b. not_after r (omega arith)) just_one
         (not_after s (omega arith)) (λ r b. later r b)

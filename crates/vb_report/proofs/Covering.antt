@@ -37,30 +37,26 @@ covered_more p (x ∷ bs) b = grind (arith, covered_more p bs b)
 pub covering : (P : FreeBlock → Type 0) (p : ℕ) (bs : List FreeBlock) → All P bs
     → is_covered p bs ≡ true → (b : FreeBlock) × P b × (covers p (block_of b) ≡ true)
 covering P p [] all h = absurd cc
-covering P p (b ∷ bs) all h =
-    elim (or_cases (covers p (block_of b)) (is_covered p bs) h) [
-      | inl here ↦ (b, All-head P b bs all, here)
-      | inr there ↦ covering P p bs (All-tail P b bs all) there
-    ]
+covering P p (b ∷ bs) all h = elim (or_cases (covers p (block_of b)) (is_covered p bs) h) [
+  | inl here ↦ (b, All-head P b bs all, here)
+  | inr there ↦ covering P p bs (All-tail P b bs all) there
+]
 
 -- of distinct pages, those of the first block and those of the others
 pub distinct_rest : (b : Block) (bs : List Block) → AllDistinct (pages_of_all (b ∷ bs))
     → AllDistinct (pages_of_all bs)
-distinct_rest b bs h =
-    distinct_once (pages_of_all bs) (λ p. omega (
-      arith,
-      distinct_list (pages_of_all (b ∷ bs)) p h,
-      times_in_blocks p (b ∷ bs),
-      times_in_blocks p bs,
-      count_by-cons (covers p) b bs,
-    ))
+distinct_rest b bs h = distinct_once (pages_of_all bs) (λ p. omega (
+  arith,
+  distinct_list (pages_of_all (b ∷ bs)) p h,
+  times_in_blocks p (b ∷ bs),
+  times_in_blocks p bs,
+  count_by-cons (covers p) b bs,
+))
 
 pub distinct_apart : (p : ℕ) (b : Block) (bs : List Block) → AllDistinct (pages_of_all (b ∷ bs))
     → covers p b ≡ true → list_any (covers p) bs ≡ false
-distinct_apart p b bs h c =
-    false_from_ne_true (list_any (covers p) bs) (λ t.
-    let one : one_if (covers p b) ≡ 1 = ap one_if c in
-    omega (
+distinct_apart p b bs h c = false_from_ne_true (list_any (covers p) bs) (λ t.
+    let one : one_if (covers p b) ≡ 1 = ap one_if c in omega (
       arith,
       times-some p (pages_of_all bs) (in_blocks p bs ∙ t),
       distinct_list (pages_of_all (b ∷ bs)) p h,

@@ -31,27 +31,23 @@ filter_same {A = A} test other f a (suc n) h =
     (filter_same test other f (a + 1) n (λ k l u. h k (omega arith) (omega arith)))
 
 pub filter_one : {A : Type 0} (test : A → Bool) (f : ℕ → A) (j a n : ℕ) → a ≤ j → j < a + n
-    → test (f j) ≡ true
-    → ((k : ℕ) → a ≤ k → k < a + n → (k ≡ j → ⊥) → test (f k) ≡ false)
+    → test (f j) ≡ true → ((k : ℕ) → a ≤ k → k < a + n → (k ≡ j → ⊥) → test (f k) ≡ false)
     → filter test (map f (range_with_len a n)) ≡ f j ∷ []
 filter_one test f j a zero l u here others = absurd (omega arith)
-filter_one {A = A} test f j a (suc n) l u here others =
-    elim (cases_eq a j) [
-      | inl e ↦
-          let t : test (f a) ≡ true = ap (λ (k : ℕ). test (f k)) e ∙ here in
-          ap (λ (v : Bool). cond v (f a ∷ filter test (map f (range_with_len (a + 1) n)))
-          (filter test (map f (range_with_len (a + 1) n)))) t
-          ∙ (ap (λ (ys : List A). f a ∷ ys)
-          (filter_none test f (a + 1) n
-          (λ k b c. others k (omega arith) (omega arith) (λ s. omega arith)))
-          ∙ ap (λ (k : ℕ). f k ∷ []) e)
-      | inr d ↦
-          ap (λ (v : Bool). cond v (f a ∷ filter test (map f (range_with_len (a + 1) n)))
-          (filter test (map f (range_with_len (a + 1) n))))
-          (others a (omega arith) (omega arith) (λ e. d e))
-          ∙ filter_one test f j (a + 1) n (omega arith) (omega arith) here
-          (λ k b c. others k (omega arith) (omega arith))
-    ]
+filter_one {A = A} test f j a (suc n) l u here others = elim (cases_eq a j) [
+  | inl e ↦
+      let t : test (f a) ≡ true = ap (λ (k : ℕ). test (f k)) e ∙ here in
+      ap (λ (v : Bool). cond v (f a ∷ filter test (map f (range_with_len (a + 1) n)))
+      (filter test (map f (range_with_len (a + 1) n)))) t ∙ (ap (λ (ys : List A). f a ∷ ys)
+      (filter_none test f (a + 1) n
+      (λ k b c. others k (omega arith) (omega arith) (λ s. omega arith)))
+      ∙ ap (λ (k : ℕ). f k ∷ []) e)
+  | inr d ↦ ap (λ (v : Bool). cond v (f a ∷ filter test (map f (range_with_len (a + 1) n)))
+      (filter test (map f (range_with_len (a + 1) n))))
+      (others a (omega arith) (omega arith) (λ e. d e))
+      ∙ filter_one test f j (a + 1) n (omega arith) (omega arith) here
+      (λ k b c. others k (omega arith) (omega arith))
+]
 
 -- ---- lists by number, one after the other
 
@@ -67,14 +63,12 @@ flat_none {A = A} test g a (suc n) h =
 
 pub flat_same : {A : Type 0} (test other : A → Bool) (g : ℕ → List A) (a n : ℕ)
     → ((k : ℕ) → a ≤ k → k < a + n → filter test (g k) ≡ filter other (g k))
-    → filter test (flat_map g (range_with_len a n))
-    ≡ filter other (flat_map g (range_with_len a n))
+    → filter test (flat_map g (range_with_len a n)) ≡ filter other (flat_map g (range_with_len a n))
 flat_same test other g a zero h = refl
 flat_same {A = A} test other g a (suc n) h =
     filter-append test (g a) (flat_map g (range_with_len (a + 1) n))
     ∙ (ap (λ (ys : List A). ys ++ filter test (flat_map g (range_with_len (a + 1) n)))
-    (h a (omega arith) (omega arith))
-    ∙ (ap (λ (ys : List A). filter other (g a) ++ ys)
+    (h a (omega arith) (omega arith)) ∙ (ap (λ (ys : List A). filter other (g a) ++ ys)
     (flat_same test other g (a + 1) n (λ k l u. h k (omega arith) (omega arith)))
     ∙ sym (filter-append other (g a) (flat_map g (range_with_len (a + 1) n)))))
 
@@ -88,23 +82,18 @@ pub flat_split : {A : Type 0} (test other : A → Bool) (g : ℕ → List A) (s 
     ≡ x ∷ filter other (flat_map g (range_with_len a n))
 flat_split test other g s x a zero l u b c here gone after = absurd (omega arith)
 flat_split {A = A} test other g s x a (suc n) l u b c here gone after =
-    let rest : List A = flat_map g (range_with_len (a + 1) n) in
-    elim (cases_eq a s) [
+    let rest : List A = flat_map g (range_with_len (a + 1) n) in elim (cases_eq a s) [
       | inl e ↦
           let one : filter test (g a) ≡ x ∷ [] = ap (λ (k : ℕ). filter test (g k)) e ∙ here in
           let none : filter other (g a) ≡ [] = ap (λ (k : ℕ). filter other (g k)) e ∙ gone in
-          filter-append test (g a) rest
-          ∙ (ap (λ (ys : List A). ys ++ filter test rest) one
+          filter-append test (g a) rest ∙ (ap (λ (ys : List A). ys ++ filter test rest) one
           ∙ (ap (λ (ys : List A). x ∷ ys)
           (flat_same test other g (a + 1) n (λ k i j. after k (omega arith)))
-          ∙ ap (λ (ys : List A). x ∷ ys)
-          (sym (filter-append other (g a) rest
+          ∙ ap (λ (ys : List A). x ∷ ys) (sym (filter-append other (g a) rest
           ∙ ap (λ (ys : List A). ys ++ filter other rest) none))))
-      | inr d ↦
-          filter-append test (g a) rest
+      | inr d ↦ filter-append test (g a) rest
           ∙ (ap (λ (ys : List A). ys ++ filter test rest) (b a (omega arith))
           ∙ (flat_split test other g s x (a + 1) n (omega arith) (omega arith) b c here gone after
-          ∙ ap (λ (ys : List A). x ∷ ys)
-          (sym (filter-append other (g a) rest
+          ∙ ap (λ (ys : List A). x ∷ ys) (sym (filter-append other (g a) rest
           ∙ ap (λ (ys : List A). ys ++ filter other rest) (c a (omega arith))))))
     ]

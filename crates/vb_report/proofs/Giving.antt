@@ -40,8 +40,7 @@ all_after : (s : PageState) (b : Block) (bs : List FreeBlock) → All (λ x. Has
     → ((p : ℕ) → covers p b ≡ true → is_covered p bs ≡ false)
     → All (λ x. HasRoomIn (with_free_block b s) (block_of x)) bs
 all_after s b [] all apart = All-nil (λ x. HasRoomIn (with_free_block b s) (block_of x))
-all_after s b (x ∷ bs) all apart =
-    All-cons (λ y. HasRoomIn (with_free_block b s) (block_of y)) x bs
+all_after s b (x ∷ bs) all apart = All-cons (λ y. HasRoomIn (with_free_block b s) (block_of y)) x bs
     (room_after s b (block_of x) (All-head (λ y. HasRoomIn s (block_of y)) x bs all)
     (λ p c. (or_parts (covers p (block_of x)) (is_covered p bs) (apart p c)).0))
     (all_after s b bs (All-tail (λ y. HasRoomIn s (block_of y)) x bs all)
@@ -51,8 +50,7 @@ all_after s b (x ∷ bs) all apart =
 pub rest_has_room : (s : PageState) (b : FreeBlock) (bs : List FreeBlock) → HaveRoom s (b ∷ bs)
     → HaveRoom (with_free_block (block_of b) s) bs
 rest_has_room s b bs room = record {
-  each = all_after s (block_of b) bs
-      (All-tail (λ x. HasRoomIn s (block_of x)) b bs room.each)
+  each = all_after s (block_of b) bs (All-tail (λ x. HasRoomIn s (block_of x)) b bs room.each)
       (λ p c. distinct_apart p (block_of b) (blocks_of bs) room.apart c);
   apart = distinct_rest (block_of b) (blocks_of bs) room.apart;
 }
@@ -88,30 +86,27 @@ free_with_blocks s bs p room =
     listed = is_in p (in_lists s.free)
 
     to : is_free_page (with_blocks bs s) p ≡ true → (is_free_page s p || is_covered p bs) ≡ true
-    to h =
-        elim (or_cases (has (with_pages pages set) p) listed h) [
-          | inl a ↦ elim (with_cases pages set p a) [
-            | inl old ↦ or_left (is_free_page s p) (is_covered p bs) (or_left (has set p) listed old)
-            | inr new ↦ or_right (is_free_page s p) (is_covered p bs)
-                (sym (in_covered p bs) ∙ new)
-          ]
-          | inr l ↦ or_left (is_free_page s p) (is_covered p bs) (or_right (has set p) listed l)
-        ]
+    to h = elim (or_cases (has (with_pages pages set) p) listed h) [
+      | inl a ↦ elim (with_cases pages set p a) [
+        | inl old ↦ or_left (is_free_page s p) (is_covered p bs) (or_left (has set p) listed old)
+        | inr new ↦ or_right (is_free_page s p) (is_covered p bs) (sym (in_covered p bs) ∙ new)
+      ]
+      | inr l ↦ or_left (is_free_page s p) (is_covered p bs) (or_right (has set p) listed l)
+    ]
 
     from : (is_free_page s p || is_covered p bs) ≡ true → is_free_page (with_blocks bs s) p ≡ true
-    from h =
-        elim (or_cases (is_free_page s p) (is_covered p bs) h) [
-          | inl f ↦ elim (or_cases (has set p) listed f) [
-            | inl a ↦ or_left (has (with_pages pages set) p) listed (with_old pages set p a)
-            | inr l ↦ or_right (has (with_pages pages set) p) listed l
-          ]
-          | inr c ↦
-              let x = covering (λ b. HasRoomIn s (block_of b)) p bs room.each c in
-              let q = covers_bounds p x.0.start x.0.order x.2 in
-              let end : x.0.start + size (block_of x.0) ≤ length set = x.1.2 in
-              or_left (has (with_pages pages set) p) listed
-              (with_new pages set p (omega (arith, q.1)) (in_covered p bs ∙ c))
-        ]
+    from h = elim (or_cases (is_free_page s p) (is_covered p bs) h) [
+      | inl f ↦ elim (or_cases (has set p) listed f) [
+        | inl a ↦ or_left (has (with_pages pages set) p) listed (with_old pages set p a)
+        | inr l ↦ or_right (has (with_pages pages set) p) listed l
+      ]
+      | inr c ↦
+          let x = covering (λ b. HasRoomIn s (block_of b)) p bs room.each c in
+          let q = covers_bounds p x.0.start x.0.order x.2 in
+          let end : x.0.start + size (block_of x.0) ≤ length set = x.1.2 in
+          or_left (has (with_pages pages set) p) listed
+          (with_new pages set p (omega (arith, q.1)) (in_covered p bs ∙ c))
+    ]
 
 -- ---- the loop
 
@@ -125,20 +120,18 @@ pub record IsGiving (old now : PageState) (all left : List FreeBlock) : Type 0 w
   pub same : with_blocks left now ≡ with_blocks all old
 
 pub giving_first : (old now : PageState) (all left : List FreeBlock) (b : FreeBlock)
-    (bs : List FreeBlock) → left ≡ b ∷ bs → IsGiving old now all left
-    → HasRoomIn now (block_of b)
+    (bs : List FreeBlock) → left ≡ b ∷ bs → IsGiving old now all left → HasRoomIn now (block_of b)
 giving_first old now all left b bs e g =
     first_has_room now b bs (subst (λ (xs : List FreeBlock). HaveRoom now xs) e g.room)
 
 pub giving_next : (old now next : PageState) (all left : List FreeBlock) (b : FreeBlock)
     (bs : List FreeBlock) → left ≡ b ∷ bs → IsGiving old now all left
     → next ≡ with_free_block (block_of b) now → IsGiving old next all bs
-giving_next old now next all left b bs e g is =
-    grind (
-      arith,
-      rest_has_room now b bs (subst (λ (xs : List FreeBlock). HaveRoom now xs) e g.room),
-      with_first now b bs,
-    )
+giving_next old now next all left b bs e g is = grind (
+  arith,
+  rest_has_room now b bs (subst (λ (xs : List FreeBlock). HaveRoom now xs) e g.room),
+  with_first now b bs,
+)
 
 pub giving_done : (old now : PageState) (all left : List FreeBlock) → left ≡ []
     → IsGiving old now all left → now ≡ with_blocks all old

@@ -14,8 +14,7 @@ use Rattle.vb_pages.proofs.TilesLemmas.{any_range}
 -- of two aligned blocks round one page, the smaller lies within the larger
 pub nested : (s j t k p : ℕ) → s % 2 ^ j ≡ 0 → t % 2 ^ k ≡ 0 → j ≤ k → s ≤ p → p < s + 2 ^ j
     → t ≤ p → p < t + 2 ^ k → (t ≤ s) × (s + 2 ^ j ≤ t + 2 ^ k)
-nested s j t k p sa ta jk a b c d =
-    let td : t % 2 ^ j ≡ 0 = aligned_down t j k jk ta in
+nested s j t k p sa ta jk a b c d = let td : t % 2 ^ j ≡ 0 = aligned_down t j k jk ta in
     let te : (t + 2 ^ k) % 2 ^ j ≡ 0 = end_aligned t j k jk ta in (
       elim (cases_lt s t)
           [ inl l ↦ absurd (omega (arith, aligned_step s t (2 ^ j) sa td l)) | inr g ↦ g ],
@@ -35,8 +34,7 @@ overlap_same set a b p x y al ah bl bh =
     elim (cases_lt b.order a.order) [
       | inl l ↦
           let w = nested b.start b.order a.start a.order p by ax (omega arith) bl bh al ah in
-          let o : a.order ≤ b.order = y.alone a x.is_block x.inside w in
-          absurd (omega arith)
+          let o : a.order ≤ b.order = y.alone a x.is_block x.inside w in absurd (omega arith)
       | inr g ↦
           let w = nested a.start a.order b.start b.order p ax by g al ah bl bh in
           let o : b.order ≤ a.order = x.alone b y.is_block y.inside w in
@@ -56,19 +54,16 @@ all_range test a (suc n) h =
 
 module _ (test : ℕ → Bool) (set : List Bool) (same : (p : ℕ) → test p ≡ has set p) where
   whole_inside : (b : Block) → is_whole test b ≡ true → LiesIn set b
-  whole_inside b h p l u =
-      sym (same p) ∙ list_all-at test (pages_of b) p
+  whole_inside b h p l u = sym (same p) ∙ list_all-at test (pages_of b) p
       (and_parts (is_aligned b) (list_all test (pages_of b)) h).1 (in_block b.start b.order p l u)
 
   inside_whole : (b : Block) → is_aligned b ≡ true → LiesIn set b → is_whole test b ≡ true
-  inside_whole b aligned inside =
-      and_from (is_aligned b) (list_all test (pages_of b)) aligned
+  inside_whole b aligned inside = and_from (is_aligned b) (list_all test (pages_of b)) aligned
       (all_range test b.start (size b) (λ p l u. same p ∙ inside p l u))
 
   larger_round : (b c : Block) → IsBlock c → LiesIn set c → LiesWithin b c
       → is_whole test (around b.start c.order) ≡ true
-  larger_round b c blk inside w =
-      let m : ℕ = 2 ^ c.order in
+  larger_round b c blk inside w = let m : ℕ = 2 ^ c.order in
       let pos : 0 < m = pow_pos c.order in
       let some : 0 < 2 ^ b.order = pow_pos b.order in
       let start : b.start - b.start % m ≡ c.start =
@@ -80,8 +75,7 @@ module _ (test : ℕ → Bool) (set : List Bool) (same : (p : ℕ) → test p �
   maximal_is b small h =
       let parts = and_parts (is_whole test b)
       (not (list_any (λ order. is_whole test (around b.start order))
-      (range_with_len (suc b.order) (9 - b.order)))) h in
-      record {
+      (range_with_len (suc b.order) (9 - b.order)))) h in record {
         is_block = (small, (and_parts (is_aligned b) (list_all test (pages_of b)) parts.0).0);
         inside = whole_inside b parts.0;
         alone = λ c blk inside w. elim (cases_lt b.order c.order) [
@@ -90,8 +84,7 @@ module _ (test : ℕ → Bool) (set : List Bool) (same : (p : ℕ) → test p �
               let nine : c.order ≤ 9 = blk.0 in
               let any = any_in_range (λ order. is_whole test (around b.start order)) c.order
               (suc b.order) (9 - b.order) (omega arith) (omega arith)
-              (larger_round b c blk inside w) in
-              absurd (both_ways _ (not-true _ parts.1) any)
+              (larger_round b c blk inside w) in absurd (both_ways _ (not-true _ parts.1) any)
         ];
       }
 

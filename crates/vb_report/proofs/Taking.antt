@@ -46,32 +46,28 @@ was_maximal set left next c t x l = record {
 }
   where
     kept : (d : Block) → IsBlock d → LiesIn set d → LiesWithin c d → LiesIn left d
-    kept d blk inside w p a e =
-        elim (cases_Bool (has left p)) [
-          | inl h ↦ h
-          | inr n ↦
-              let r = t.gone p (inside p a e) n in
-              let b : Block = r.0 in
-              let y : IsMaximal set b = r.1 in
-              let low : b.start ≤ p = r.2 in
-              let high : p < b.start + size b = r.3 in
-              let before : b.start + size b ≤ next = r.4 in
-              let some : 0 < 2 ^ c.order = pow_pos c.order in
-              let wl : d.start ≤ c.start = w.0 in
-              let wh : c.start + size c ≤ d.start + size d = w.1 in
-              elim (cases_lt b.order d.order) [
-                | inl o ↦
-                    let v = nested b.start b.order d.start d.order p
-                    (aligned_is b y.is_block.1) (aligned_is d blk.1) (omega arith) low high a e in
-                    let bad : d.order ≤ b.order = y.alone d blk inside v in
-                    absurd (omega arith)
-                | inr o ↦
-                    let v = nested d.start d.order b.start b.order p (aligned_is d blk.1)
-                    (aligned_is b y.is_block.1) o a e low high in
-                    let vh : d.start + size d ≤ b.start + size b = v.1 in
-                    absurd (omega arith)
-              ]
-        ]
+    kept d blk inside w p a e = elim (cases_Bool (has left p)) [
+      | inl h ↦ h
+      | inr n ↦
+          let r = t.gone p (inside p a e) n in
+          let b : Block = r.0 in
+          let y : IsMaximal set b = r.1 in
+          let low : b.start ≤ p = r.2 in
+          let high : p < b.start + size b = r.3 in
+          let before : b.start + size b ≤ next = r.4 in
+          let some : 0 < 2 ^ c.order = pow_pos c.order in
+          let wl : d.start ≤ c.start = w.0 in
+          let wh : c.start + size c ≤ d.start + size d = w.1 in elim (cases_lt b.order d.order) [
+            | inl o ↦
+                let v = nested b.start b.order d.start d.order p
+                (aligned_is b y.is_block.1) (aligned_is d blk.1) (omega arith) low high a e in
+                let bad : d.order ≤ b.order = y.alone d blk inside v in absurd (omega arith)
+            | inr o ↦
+                let v = nested d.start d.order b.start b.order p (aligned_is d blk.1)
+                (aligned_is b y.is_block.1) o a e low high in
+                let vh : d.start + size d ≤ b.start + size b = v.1 in absurd (omega arith)
+          ]
+    ]
 
 lowest_before : (set left : List Bool) (next : ℕ) (b : Block) → IsTakenFrom set left next
     → IsLowestFrom left 4 next b → IsLowestFrom set 4 next b
@@ -90,15 +86,13 @@ taken_from : (set : List Bool) (bs : List FreeBlock) (next : ℕ) → All (is_be
 taken_from set bs next all = record {
   less = λ p h. (without_parts (pages_of_all (blocks_of bs)) set p h).0;
   gone = λ p h n.
-      let c : is_covered p bs ≡ true =
-      elim (cases_Bool (is_covered p bs)) [
+      let c : is_covered p bs ≡ true = elim (cases_Bool (is_covered p bs)) [
         | inl t ↦ t
         | inr f ↦ absurd (both_ways (has (without_pages (pages_of_all (blocks_of bs)) set) p) n
             (without_old (pages_of_all (blocks_of bs)) set p h (in_covered p bs ∙ f)))
       ] in
       let x = covering (is_before set next) p bs all c in
-      let q = covers_bounds p x.0.start x.0.order x.2 in
-      (block_of x.0, x.1.0, q.0, q.1, x.1.1);
+      let q = covers_bounds p x.0.start x.0.order x.2 in (block_of x.0, x.1.0, q.0, q.1, x.1.1);
 }
 
 -- ---- states whose lists are empty
@@ -140,12 +134,9 @@ covers_in p b = covers_is p b (is_in p (pages_of b)) refl
 block_more : (bs : List FreeBlock) (b : FreeBlock) (set : List Bool)
     → without_pages (pages_of (block_of b)) (without_pages (pages_of_all (blocks_of bs)) set)
     ≡ without_pages (pages_of_all (blocks_of (bs ++ b ∷ []))) set
-block_more bs b set =
-    without_more (pages_of (block_of b)) (pages_of_all (blocks_of bs))
-    (pages_of_all (blocks_of (bs ++ b ∷ []))) set
-    (λ p. in_covered p (bs ++ b ∷ [])
-    ∙ (covered_more p bs b
-    ∙ (ap (λ (v : Bool). v || covers p (block_of b)) (sym (in_covered p bs))
+block_more bs b set = without_more (pages_of (block_of b)) (pages_of_all (blocks_of bs))
+    (pages_of_all (blocks_of (bs ++ b ∷ []))) set (λ p. in_covered p (bs ++ b ∷ [])
+    ∙ (covered_more p bs b ∙ (ap (λ (v : Bool). v || covers p (block_of b)) (sym (in_covered p bs))
     ∙ ap (λ (v : Bool). is_in p (pages_of_all (blocks_of bs)) || v) (covers_in p (block_of b)))))
 
 -- a block still has room where fewer pages are free
@@ -210,8 +201,7 @@ taking_more old now next from room page count bs b t l isolates fits left = reco
         (subst (λ (f : FreePages). IsLowestFrom f.areas 4 page (block_of b)) (settled old bs) got.0)
 
     is : next ≡ without_blocks (bs ++ b ∷ []) old
-    is = got.1
-        ∙ (ap (λ (f : FreePages). with_free old
+    is = got.1 ∙ (ap (λ (f : FreePages). with_free old
         (with_lists (without_pages (pages_of (block_of b)) f.areas) f.lists f.reserved)) (settled old bs)
         ∙ ap (λ (set : List Bool). with_free old (with_lists set (lists_of old) old.free.reserved))
         (block_more bs b (areas_of old)))
@@ -229,8 +219,7 @@ taking_more old now next from room page count bs b t l isolates fits left = reco
     held = ap (λ (s : PageState). s.held) is ∙ sym (ap (λ (s : PageState). s.held) t.state)
 
     there : b.start < page_count old
-    there =
-        let some : 0 < 2 ^ b.order = pow_pos b.order in
+    there = let some : 0 < 2 ^ b.order = pow_pos b.order in
         let q = is_inside (areas_of old) b.start
         (low.maximal.inside b.start (omega arith) (omega arith)) in
         omega (arith, length-with_pages (in_lists old.free) old.free.areas)
@@ -239,8 +228,7 @@ taking_more old now next from room page count bs b t l isolates fits left = reco
         → blocks_of (bs ++ b ∷ [])
         ++ reported (room - (count + 1)) (b.start + 2 ^ b.order) (maximal_blocks (page_count old) test)
         ≡ blocks_of bs ++ reported (room - count) page (maximal_blocks (page_count old) test)
-    listed test same =
-        let all : List Block = maximal_blocks (page_count old) test in
+    listed test same = let all : List Block = maximal_blocks (page_count old) test in
         let more : List Block = filter (is_later (b.start + 2 ^ b.order)) all in
         let first : filter (is_later page) all ≡ block_of b ∷ more =
         first_named test (areas_of old) same page b.start b.order (page_count old) low there in
@@ -263,8 +251,7 @@ taking_all old now next from room page count bs t isolates = (
       let all : List Block = maximal_blocks (page_count old) test in
       let gone : filter (is_later page) all ≡ [] =
       none_named test (areas_of old) same page (page_count old) (λ b x. never b x.maximal x.large x.after)
-      in
-      sym (append-nil (blocks_of bs))
+      in sym (append-nil (blocks_of bs))
       ∙ (ap (λ (xs : List Block). blocks_of bs ++ xs) (sym (take_none (room - count)))
       ∙ (ap (λ (xs : List Block). blocks_of bs ++ take (room - count) xs) (sym gone)
       ∙ t.rest test same)),
@@ -281,9 +268,7 @@ taking_all old now next from room page count bs t isolates = (
     is = got.1 ∙ ap (with_free old) (settled old bs)
 
     never : (b : Block) → IsMaximal (areas_of old) b → 4 ≤ b.order → page ≤ b.start → ⊥
-    never b x o f =
-        got.0 b
-        (subst (λ (p : FreePages). IsMaximal p.areas b) (sym (settled old bs))
+    never b x o f = got.0 b (subst (λ (p : FreePages). IsMaximal p.areas b) (sym (settled old bs))
         (still_maximal (areas_of old) (without_pages (pages_of_all (blocks_of bs)) (areas_of old))
         page b (taken_from (areas_of old) bs page t.before) x f)) o f
 
@@ -309,24 +294,22 @@ free_is_drained s p d =
 
 pub free_without_blocks : (s : PageState) (bs : List FreeBlock) (p : ℕ)
     → is_free_page (without_blocks bs s) p ≡ (has (areas_of s) p && not (is_covered p bs))
-free_without_blocks s bs p =
-    grind (
-      arith,
-      free_is_area (without_pages (pages_of_all (blocks_of bs)) (areas_of s)) s.free.lists s.free.reserved p,
-      has-without_pages (pages_of_all (blocks_of bs)) (areas_of s) p,
-      in_covered p bs,
-    )
+free_without_blocks s bs p = grind (
+  arith,
+  free_is_area (without_pages (pages_of_all (blocks_of bs)) (areas_of s)) s.free.lists s.free.reserved p,
+  has-without_pages (pages_of_all (blocks_of bs)) (areas_of s) p,
+  in_covered p bs,
+)
 
 -- each page of blocks that have room is unreserved, and there
 pub pages_inside : (s : PageState) (bs : List FreeBlock) (p : ℕ)
     → All (λ b. HasRoomIn s (block_of b)) bs → is_in p (pages_of_all (blocks_of bs)) ≡ true
     → (reserved_count s ≤ p) × (p < page_count s)
-pages_inside s bs p all h =
-    grind (
-      arith,
-      covering (λ b. HasRoomIn s (block_of b)) p bs all (sym (in_covered p bs) ∙ h),
-      in_covered p bs,
-    )
+pages_inside s bs p all h = grind (
+  arith,
+  covering (λ b. HasRoomIn s (block_of b)) p bs all (sym (in_covered p bs) ∙ h),
+  in_covered p bs,
+)
 
 pub drained_state : (s mid : PageState) → mid ≡ record s { free = drained s.free }
     → drained mid.free ≡ mid.free
@@ -360,25 +343,21 @@ chooses old mid new from room bs drains same reports takes fits = record {
       let all : List Block =
       filter (is_later from) (maximal_blocks (page_count old) (is_free_page old)) in
       let n : length (blocks_of bs) ≡ min room (length all) =
-      ap length chosen ∙ length-take room all in
-      omega (arith, length-map bs block_of, n);
+      ap length chosen ∙ length-take room all in omega (arith, length-map bs block_of, n);
   taken = taken;
-  left = λ p. ap (λ (s : PageState). is_free_page s p) taken
-      ∙ (free_without_blocks old bs p
+  left = λ p. ap (λ (s : PageState). is_free_page s p) taken ∙ (free_without_blocks old bs p
       ∙ ap (λ (v : Bool). v && not (is_covered p bs)) (sym (free p) ∙ same p));
   distinct = distinct_once (pages_of_all (blocks_of bs)) (λ p.
       let e : times p (pages_of_all (blocks_of bs))
       ≡ times p (pages_of_all (blocks_to_report old from room)) =
-      ap (λ (xs : List Block). times p (pages_of_all xs)) chosen in
-      omega (
+      ap (λ (xs : List Block). times p (pages_of_all xs)) chosen in omega (
         arith,
         e,
         reported_distinct (is_free_page old) (is_later from) (page_count old) room p,
       ));
   pages = λ p h.
       let inside = pages_inside new bs p fits h in
-      let few : page_count new ≡ page_count old =
-      ap page_count taken
+      let few : page_count new ≡ page_count old = ap page_count taken
       ∙ (length-without_pages (pages_of_all (blocks_of bs)) (areas_of old)
       ∙ length-with_pages (in_lists old.free) old.free.areas) in (
         reported_pass (is_free_page old) (page_count old) room from p
@@ -394,13 +373,10 @@ chooses old mid new from room bs drains same reports takes fits = record {
         (drained_pages old mid drains)
 
     taken : new ≡ without_blocks bs old
-    taken = takes
-        ∙ (ap (without_blocks bs) drains
-        ∙ ap (λ (f : FreePages). with_free old
+    taken = takes ∙ (ap (without_blocks bs) drains ∙ ap (λ (f : FreePages). with_free old
         (with_lists (without_pages (pages_of_all (blocks_of bs)) f.areas) f.lists f.reserved))
         (drained_twice old.free))
 
     free : (p : ℕ) → is_free_page mid p ≡ has (areas_of old) p
-    free p =
-        ap (λ (s : PageState). is_free_page s p) drains
+    free p = ap (λ (s : PageState). is_free_page s p) drains
         ∙ free_is_area (areas_of old) old.free.lists old.free.reserved p

@@ -2,7 +2,7 @@
 use Rattle.std.specs.Prelude.{◌≡◌, ℕ, ◌<◌, ◌≤◌, Bool, true, false, List, [], ◌∷◌, Some, None}
 use Rattle.std.specs.Prelude.{Result, Ok, Err, if◌then◌else◌, length, slice_get, slice_index}
 use Rattle.std.{specs.Prelude.{slice_index_or, refl, nat_lt}, proofs.lemmas.Bool.cases_eq}
-use Rattle.std.proofs.Common.{sym, ◌∙◌, ap, subst, arith, inl, inr}
+use Rattle.std.proofs.Common.{sym, ◌∙◌, ap, arith, inl, inr}
 use Rattle.std.{proofs.lemmas.List.length-take, proofs.lemmas.Option.slice_get-get_or}
 use Rattle.vb_ring.proofs.Numbers.{numbers_pass, numbers_rise, numbers_has, length_all}
 use Rattle.vb_ring.specs.Ends.{DriverEnd, is_unused, free_descriptors, next_head, next_path}
@@ -30,17 +30,7 @@ pub added_chain : (old new : Pages) (r1 r2 : DriverEnd) (pieces : List Piece) (h
     → AddsBy old new r1 r2 pieces (Ok h) → AreSound end pieces
     → ChainGives (descriptor_at new r1.layout.table) r1.size end h pieces
 added_chain old new r1 r2 pieces h end adds sound =
-    let answer = answer_ok (length (free_descriptors r1)) (length pieces) h
-    (slice_index (next_path r1 (length pieces)) 0) (Ok h) refl adds.value in
-    let len : length (next_path r1 (length pieces)) ≡ length pieces =
-    omega (arith, length-take (length pieces) (free_descriptors r1), answer.0) in
-    let short : length pieces ≤ r1.size =
-    omega (arith, answer.0, length-numbers (is_unused r1.owner) r1.size) in
-    subst (λ (n : ℕ). ChainGives (descriptor_at new r1.layout.table) r1.size end n pieces)
-    (sym answer.1)
-    (written_chain (descriptor_at new r1.layout.table) r1.size end (next_path r1 (length pieces))
-    pieces (next_route r1 (length pieces)) len (omega (arith, len, short)) sound
-    (λ k l. adds.links.put k (omega (arith, len))))
+    grind (arith, answer_ok, length-take, length-numbers, written_chain, next_route)
 
 -- A descriptor that belongs to a chain stays as it is.
 pub added_apart : (old new : Pages) (r1 r2 : DriverEnd) (pieces : List Piece) (h i j : ℕ)
@@ -72,16 +62,14 @@ next_low r h single next =
         → slice_index (free_descriptors r) 0 ≡ h → (i : ℕ) → i < h → (b : Bool)
         → is_unused r.owner i ≡ b → is_unused r.owner i ≡ false
     taken r h some first i l false e = e
-    taken r h some first i l true e =
-        let inside = numbers_pass (is_unused r.owner) r.size 0 some in
+    taken r h some first i l true e = let inside = numbers_pass (is_unused r.owner) r.size 0 some in
         let found = numbers_has (is_unused r.owner) r.size i (omega (arith, first, inside.0)) e in
         elim (cases_eq found.0 0) [
           | inl z ↦ absurd (omega (arith, first, ap (slice_index (free_descriptors r)) z, found.2))
           | inr ne ↦ absurd (omega (
             arith,
             first,
-            numbers_rise (is_unused r.owner) r.size 0 found.0 (omega (arith, ne))
-                found.1,
+            numbers_rise (is_unused r.owner) r.size 0 found.0 (omega (arith, ne)) found.1,
             found.2,
           ))
         ]

@@ -19,7 +19,6 @@ use Rattle.vb_ring.{specs.declared.driver.Full.TheVariants.TooFewFree, proofs.Fr
 use Rattle.vb_ring.{specs.declared.driver.RingBroken.RingBroken, proofs.Numbers.length-numbers}
 use Rattle.vb_ring.{specs.declared.layout.Layout.Layout, specs.Calls.AddsUsedBy}
 use Rattle.vb_ring.{proofs.Puts.publishes, specs.Ends.after_take}
-use Rattle.vb_model.specs.Tests.{is_in}
 use Rattle.vb_ram.specs.Pages.{Pages, SameBut}
 use Rattle.vb_chain.{specs.declared.pieces.Piece.Piece, specs.Table.descriptor_at}
 use Rattle.vb_chain.{proofs.TableLaws.descriptor_kept, specs.Written.{linked, IsRoute}}
@@ -37,8 +36,7 @@ pub adds_ok : (old new : Pages) (r : DriverEnd) (pieces : List Piece) (h : ℕ) 
     → AddsBy old new r (after_add r (length pieces) (Ok h)) pieces (Ok h)
 adds_ok old new r pieces h is_end some fits first links pubs = record {
   is_end = is_end;
-  value = ap Ok (sym first)
-      ∙ sym (answer_enough (length (free_descriptors r)) (length pieces)
+  value = ap Ok (sym first) ∙ sym (answer_enough (length (free_descriptors r)) (length pieces)
       (slice_index (next_path r (length pieces)) 0) fits);
   state = refl;
   full = tt;
@@ -53,8 +51,7 @@ adds_ok old new r pieces h is_end some fits first links pubs = record {
       publishes_entries old new r.layout r.size r.published h heads elems is_end.fits pubs
       tracks.published shows.entries in (
         tracks_shows new (after_add r (length pieces) (Ok h)) (heads ++ h ∷ []) elems s after.0
-            entries
-            (λ j. omega (arith, shows.among j, times-push j heads h))
+            entries (λ j. omega (arith, shows.among j, times-push j heads h))
             (omega (arith, length_push heads h, tracks.count, tracks.few, after.1)),
         after.0,
       );
@@ -63,43 +60,19 @@ adds_ok old new r pieces h is_end some fits first links pubs = record {
 -- the descriptors that were written stay through the publication
 pub links_kept : (m1 m2 m3 : Pages) (l : Layout) (q next head : ℕ) (path : List ℕ)
     (pieces : List Piece) → Fits l q → length path ≡ length pieces
-    → ((k : ℕ) → k < length path → slice_index path k < q)
-    → ((k : ℕ) → k < length path
+    → ((k : ℕ) → k < length path → slice_index path k < q) → ((k : ℕ) → k < length path
     → descriptor_at m2 l.table (slice_index path k) ≡ linked path pieces k)
     → ((i : ℕ) → ((k : ℕ) → k < length path → slice_index path k ≢ i)
     → descriptor_at m2 l.table i ≡ descriptor_at m1 l.table i)
     → PutsAvail m2 m3 l q next head → Links m1 m3 l q path pieces
 links_kept m1 m2 m3 l q next head path pieces fits len inside put others w =
-    let kept : (i : ℕ) → i < q → descriptor_at m3 l.table i ≡ descriptor_at m2 l.table i = λ i lt.
-    descriptor_kept m2 m3 l.table i
-    (outside_in m2 m3 _ l.table (16 * i) (16 * i + 16) w.rest (λ o low high. (
-      (λ e. omega (arith, e.from, fits.table_avail (sym e.page))),
-      ((λ e. omega (arith, e.from, fits.table_avail (sym e.page))), tt),
-    ))) in
-    record {
-      put = λ k lt. kept (slice_index path k) (inside k (omega (arith, len)))
-          ∙ put k (omega (arith, len));
-      others = λ i lt out. kept i lt ∙ others i (λ k h. not_in path i k out h);
-    }
+    grind (arith, descriptor_kept, outside_in, not_in)
 
 -- the next chain's descriptors are a free chain of the table
 pub next_chain : (r : DriverEnd) (n : ℕ) (path : List ℕ) → IsDriverEnd r → 0 < n
     → path ≡ next_path r n → length path ≡ n → IsFreeChain r.owner path
-next_chain r n path is_end some along count = record {
-  some = omega (arith, some, count);
-  inside = λ k l. omega (arith, same k, (next_path-free r n k (here k l)).0, is_end.table);
-  free = λ k l. ap (λ i. slice_index_or r.owner i None) (same k) ∙ (next_path-free r n k (here k l)).1;
-  rise = λ j k l h. omega (arith, same j, same k, next_path-rise r n j k l (here k h));
-  lowest = λ i free l.
-      subst (λ (xs : List ℕ). i < slice_index xs (length xs - 1) → 0 < length xs → is_in i xs ≡ true)
-      (sym along) (λ low more. next_path-lowest r n i free more low) l (omega (arith, some, count));
-}
-  where
-    same : (k : ℕ) → slice_index path k ≡ slice_index (next_path r n) k
-    same k = ap (λ (xs : List ℕ). slice_index xs k) along
-
-    here : (k : ℕ) → k < length path → k < length (next_path r n)
-    here k l = omega (arith, ap length along, l)
+next_chain r n path is_end some along count =
+    grind (arith, next_path-free, next_path-rise, next_path-lowest)
 
 -- the next chain's descriptors are a route
 pub next_route : (r : DriverEnd) (n : ℕ) → IsRoute r.size (next_path r n)
@@ -185,8 +158,7 @@ adds_used_by old new q head count is_end w = record {
 -- an add, by what was written along a path that is the next one
 pub adds_along : (m1 m2 m3 : Pages) (r : DriverEnd) (pieces : List Piece) (path : List ℕ)
     (new : List (Option ℕ)) → path ≡ next_path r (length pieces) → IsDriverEnd r → 0 < length pieces
-    → length path ≡ length pieces
-    → ((k : ℕ) → k < length path
+    → length path ≡ length pieces → ((k : ℕ) → k < length path
     → descriptor_at m2 r.layout.table (slice_index path k) ≡ linked path pieces k)
     → ((i : ℕ) → ((k : ℕ) → k < length path → slice_index path k ≢ i)
     → descriptor_at m2 r.layout.table i ≡ descriptor_at m1 r.layout.table i)
@@ -208,8 +180,7 @@ adds_along m1 m2 m3 r pieces path new along is_end some len put others table w o
     let enough : n ≤ length (free_descriptors r) =
     omega (arith, len, ap length along, length-take n (free_descriptors r)) in
     let ok : AddsBy m1 m3 r (after_add r n (Ok (slice_index path 0))) pieces
-    (Ok (slice_index path 0)) =
-    adds_ok m1 m3 r pieces (slice_index path 0) is_end some enough
+    (Ok (slice_index path 0)) = adds_ok m1 m3 r pieces (slice_index path 0) is_end some enough
     (ap (λ (xs : List ℕ). slice_index xs 0) (sym along))
     (subst (λ (xs : List ℕ). Links m1 m3 r.layout r.size xs pieces) along links) pubs in
     subst (λ (xs : List (Option ℕ)). AddsBy m1 m3 r
@@ -221,8 +192,7 @@ pub takes_after : (mem : Pages) (r : DriverEnd) (new : List (Option ℕ)) (id : 
     → IsDriverEnd r → next_id mem r.layout r.size r.seen (outstanding r) ≡ Ok (Some id)
     → is_head r.owner id ≡ true → new ≡ released id r.owner
     → TakesUsedBy mem r (record r { seen = (r.seen + 1) % 65536; owner = new }) (Ok (Some id))
-takes_after mem r new id is_end next out owner =
-    grind (
-      arith,
-      takes_by mem r (Ok (Some id)) is_end (length-numbers (is_head r.owner) r.size) (sym (ap (only_head r.owner) next ∙ only_out r.owner id out)),
-    )
+takes_after mem r new id is_end next out owner = grind (
+  arith,
+  takes_by mem r (Ok (Some id)) is_end (length-numbers (is_head r.owner) r.size) (sym (ap (only_head r.owner) next ∙ only_out r.owner id out)),
+)

@@ -41,59 +41,30 @@ used_kept old new l q elems size same shows = grind (arith, field_in)
 
 -- The entry at the next place and the index: one more head is shown.
 pub avail_grown : (old new : Pages) (l : Layout) (q next head : ℕ) (heads : List ℕ) → IsSize q
-    → length heads % 65536 ≡ next
-    → field 2 new l.avail.page (avail_place l q next) ≡ head
-    → field 2 new l.avail.page (avail_index l) ≡ (next + 1) % 65536
-    → ((k : ℕ) → k % q ≢ next % q
-    → field 2 new l.avail.page (avail_place l q k)
-    ≡ field 2 old l.avail.page (avail_place l q k))
+    → length heads % 65536 ≡ next → field 2 new l.avail.page (avail_place l q next) ≡ head
+    → field 2 new l.avail.page (avail_index l) ≡ (next + 1) % 65536 → ((k : ℕ) → k % q ≢ next % q
+    → field 2 new l.avail.page (avail_place l q k) ≡ field 2 old l.avail.page (avail_place l q k))
     → ShowsAvail old l q heads → ShowsAvail new l q (heads ++ head ∷ [])
 avail_grown old new l q next head heads size at entry index others shows =
     grind (arith, length_push, place_wraps, get_or_push, place_apart, get_or_append_left)
 
 -- The element at the next place and the index: one more used element is shown.
 pub used_grown : (old new : Pages) (l : Layout) (q next head count : ℕ) (elems : List UsedElem)
-    → IsSize q → length elems % 65536 ≡ next
-    → field 4 new l.used.page (used_place l q next) ≡ head
+    → IsSize q → length elems % 65536 ≡ next → field 4 new l.used.page (used_place l q next) ≡ head
     → field 4 new l.used.page (used_place l q next + 4) ≡ count
-    → field 2 new l.used.page (used_index l) ≡ (next + 1) % 65536
-    → ((k : ℕ) → k % q ≢ next % q
+    → field 2 new l.used.page (used_index l) ≡ (next + 1) % 65536 → ((k : ℕ) → k % q ≢ next % q
     → SameIn old new l.used.page (used_place l q k) (used_place l q k + 8))
     → ShowsUsed old l q elems → ShowsUsed new l q (elems ++ record { id = head; len = count } ∷ [])
-used_grown old new l q next head count elems size at id written index others shows =
-    let elem : UsedElem = record { id = head; len = count } in
-    let len : length (elems ++ elem ∷ []) ≡ length elems + 1 = length_push elems elem in
-    let spot : next % q ≡ length elems % q =
-    ap (λ n. n % q) (sym at) ∙ place_wraps (length elems) q size.divides in
-    let here : (k : ℕ) → k ≡ length elems
-    → used_place l q k ≡ used_place l q next =
-    λ k same. ap (λ r. l.used.offset + 4 + 8 * r) (ap (λ n. n % q) same ∙ sym spot) in
-    let far : (k : ℕ) → k < length elems → length elems < k + q
-    → k % q ≢ next % q = λ k before near e. place_apart k (length elems) q before near
-    (e ∙ spot) in
-    record {
-      index = index ∙ omega (arith, len, at);
-      ids = λ k lt near. elim (cases_eq k (length elems)) [
-        | inl same ↦ ap (field 4 new l.used.page) (here k same) ∙ id
-            ∙ sym (ap (λ e. e.id) (get_or_push elems elem no_elem k (sym same)))
-        | inr ne ↦
-            let before : k < length elems = omega (arith, ne, len) in
-            field_in 4 old new l.used.page _ _ (used_place l q k)
-            (others k (far k before (omega (arith, len)))) (omega arith) (omega arith)
-            ∙ shows.ids k before (omega (arith, len))
-            ∙ sym (ap (λ e. e.id) (get_or_append_left elems (elem ∷ []) no_elem k before))
-      ];
-      lens = λ k lt near. elim (cases_eq k (length elems)) [
-        | inl same ↦ ap (λ o. field 4 new l.used.page (o + 4)) (here k same) ∙ written
-            ∙ sym (ap (λ e. e.len) (get_or_push elems elem no_elem k (sym same)))
-        | inr ne ↦
-            let before : k < length elems = omega (arith, ne, len) in
-            field_in 4 old new l.used.page _ _ (used_place l q k + 4)
-            (others k (far k before (omega (arith, len)))) (omega arith) (omega arith)
-            ∙ shows.lens k before (omega (arith, len))
-            ∙ sym (ap (λ e. e.len) (get_or_append_left elems (elem ∷ []) no_elem k before))
-      ];
-    }
+used_grown old new l q next head count elems size at id written index others shows = grind (
+  arith,
+  length_push,
+  place_wraps,
+  place_apart,
+  cases_eq,
+  get_or_push,
+  field_in,
+  get_or_append_left,
+)
 
 -- ---- what the two writes leave
 
@@ -110,8 +81,7 @@ publishes_entries old new l q next head heads elems fits w at shows = record {
       (λ o low high. (
         (λ i. omega (arith, i.to, fits.table_avail i.page)),
         ((λ i. omega (arith, i.from, i.to, apart)), ((λ i. omega (arith, i.to)), tt)),
-      )))
-      (omega arith) (omega arith)) shows.avail;
+      ))) (omega arith) (omega arith)) shows.avail;
   used = used_kept old new l q elems fits.size
       (outside_in old new _ l.used.page (l.used.offset + 2) (l.used.offset + (6 + 8 * q)) w.rest
       (λ o low high.
@@ -173,8 +143,7 @@ entry_shown mem l q heads t taken size shows at low near =
 -- The id of the element after the first s is the next id.
 pub id_shown : (mem : Pages) (l : Layout) (q most : ℕ) (elems : List UsedElem) (s seen : ℕ)
     → IsSize q → most ≤ q → ShowsUsed mem l q elems → s % 65536 ≡ seen → s ≤ length elems
-    → length elems ≤ s + most
-    → next_id mem l q seen most ≡ Ok (slice_get (ids elems) s)
+    → length elems ≤ s + most → next_id mem l q seen most ≡ Ok (slice_get (ids elems) s)
 id_shown mem l q most elems s seen size fits shows at low near =
     let gap = ahead_by (length elems) s (field 2 mem l.used.page (used_index l)) seen shows.index at
     low (omega (arith, size.most)) in
@@ -184,12 +153,10 @@ id_shown mem l q most elems s seen size fits shows at low near =
           ∙ ap Ok (sym (slice_get_past (ids elems) s (omega (arith, len))))
       | inr ne ↦
           let lt : s < length elems = omega (arith, ne) in
-          let place : used_place l q seen ≡ used_place l q s =
-          ap (λ r. l.used.offset + 4 + 8 * r)
+          let place : used_place l q seen ≡ used_place l q s = ap (λ r. l.used.offset + 4 + 8 * r)
           (ap (λ n. n % q) (sym at) ∙ place_wraps s q size.divides) in
           next_some (used_ahead mem l seen) most _ _ (omega (arith, gap)) (omega (arith, gap))
-          ∙ ap (λ x. Ok (Some x))
-          (ap (field 4 mem l.used.page) place ∙ shows.ids s lt (omega arith)
+          ∙ ap (λ x. Ok (Some x)) (ap (field 4 mem l.used.page) place ∙ shows.ids s lt (omega arith)
           ∙ sym (get_or-map (λ e. e.id) elems s no_elem 0 lt))
           ∙ ap Ok (sym (slice_get-get_or (ids elems) s 0 (omega (arith, len))))
     ]

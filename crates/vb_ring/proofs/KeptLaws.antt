@@ -42,8 +42,7 @@ claim_keeps owner count out from last path h e kept room chain first end =
     let len : length new ≡ length owner =
     length-each_from 0 (λ i old. if is_in i path then Some h else old) owner in
     let here : slice_index (set last h e) h ≡ e =
-    get_or-set_same last h e 0 (omega (arith, begin, kept.size, kept.few, room)) in
-    record {
+    get_or-set_same last h e 0 (omega (arith, begin, kept.size, kept.few, room)) in record {
       size = len ∙ kept.size;
       few = kept.few;
       heads = omega (
@@ -86,8 +85,7 @@ claim_keeps owner count out from last path h e kept room chain first end =
         ∙ free
     taken_by i l false on true free = elim (cases_eq i e) [
       | inl same ↦
-          let there : is_in i path ≡ true =
-          ap (λ n. is_in n path) (same ∙ sym end)
+          let there : is_in i path ≡ true = ap (λ n. is_in n path) (same ∙ sym end)
           ∙ is_in-at path (length path - 1) (omega (arith, chain.some)) in
           (let wrong : true ≡ false = sym there ∙ on in cc)
       | inr ne ↦
@@ -115,12 +113,9 @@ claim_keeps owner count out from last path h e kept room chain first end =
     within_by : Claims owner (claimed path h owner) path h → slice_index (set last h e) h ≡ e
         → (i j : ℕ) → slice_index_or (claimed path h owner) i None ≡ Some j
         → (b : Bool) → is_in i path ≡ b → LiesBetween (claimed path h owner) (set last h e) i j
-    within_by claim here i j own true is =
-        let found = is_in-some path i is in
-        let head : h ≡ j =
-        some_same h j (sym (claim.mine found.0 found.1)
-        ∙ ap (λ n. slice_index_or (claimed path h owner) n None) found.2 ∙ own) in
-        record {
+    within_by claim here i j own true is = let found = is_in-some path i is in
+        let head : h ≡ j = some_same h j (sym (claim.mine found.0 found.1)
+        ∙ ap (λ n. slice_index_or (claimed path h owner) n None) found.2 ∙ own) in record {
           out = ap (is_head (claimed path h owner)) (sym head) ∙ claim.after;
           from = omega (arith, head, from_first found.0 found.1, found.2);
           to = omega (
@@ -149,8 +144,7 @@ release_keeps owner count out from to last h kept is below low =
     let new : List (Option ℕ) = released h owner in
     let release : Releases owner new h = releases owner h is in
     let len : length new ≡ length owner =
-    length-map owner (λ old. if is_own h old then None else old) in
-    record {
+    length-map owner (λ old. if is_own h old then None else old) in record {
       size = len ∙ kept.size;
       few = kept.few;
       heads = omega (
@@ -179,8 +173,7 @@ release_keeps owner count out from to last h kept is below low =
         → is_unused (released h owner) i ≡ false
     taken_by i l held true own =
         absurd (omega (arith, l, (kept.within i h (own_some h _ own)).from))
-    taken_by i l held false own =
-        ap is_none (released-at h owner i
+    taken_by i l held false own = ap is_none (released-at h owner i
         ∙ ap (λ (b : Bool). if b then None else slice_index_or owner i None) own) ∙ held
 
 -- ---- where the table is the first part of a longer one

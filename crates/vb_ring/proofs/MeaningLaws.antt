@@ -59,19 +59,17 @@ times-take j [] n = omega (arith, ap (λ (es : List UsedElem). times j (ids es))
     none zero = refl
     none (suc n) = refl
 times-take j (e ∷ es) zero = omega arith
-times-take j (e ∷ es) (suc n) =
-    grind (
-      arith,
-      count_by-cons (λ k. k == j) e.id (ids (take n es)),
-      count_by-cons (λ k. k == j) e.id (ids es),
-      times-take j es n,
-    )
+times-take j (e ∷ es) (suc n) = grind (
+  arith,
+  count_by-cons (λ k. k == j) e.id (ids (take n es)),
+  count_by-cons (λ k. k == j) e.id (ids es),
+  times-take j es n,
+)
 
 -- ---- a list whose heads are among another's
 
 -- A head that occurs stands somewhere, and without it all others occur as often.
-without : (xs : List ℕ) (h : ℕ) → 0 < times h xs
-    → (ys : List ℕ) × (length xs ≡ length ys + 1)
+without : (xs : List ℕ) (h : ℕ) → 0 < times h xs → (ys : List ℕ) × (length xs ≡ length ys + 1)
     × ((j : ℕ) → times j xs ≡ times j ys + one_if (h == j))
 without [] h some = absurd (omega arith)
 without (x ∷ xs) h some = elim (cases_eq x h) [
@@ -101,8 +99,7 @@ among-length (x ∷ xs) ys h =
     let first : 0 < times x ys =
     omega (arith, h x, count_by-cons (λ k. k == x) x xs, one_is x x refl) in
     let rest = without ys x first in
-    let less : length xs ≤ length rest.0 =
-    among-length xs rest.0
+    let less : length xs ≤ length rest.0 = among-length xs rest.0
     (λ j. omega (arith, h j, count_by-cons (λ k. k == j) x xs, rest.2 j)) in
     omega (arith, less, rest.1)
 
@@ -117,8 +114,7 @@ fewer_used mem l q heads elems shows =
 -- The first numbers of a path in one table are a path in another, as long as these good numbers
 -- have the same descriptor in both.
 path_first : (d e : ℕ → Descriptor) (q j : ℕ) (Good : ℕ → Type 0) (path : List ℕ)
-    → IsTablePath e q j path
-    → ((i : ℕ) → i < q → Good i → e i ≡ d i)
+    → IsTablePath e q j path → ((i : ℕ) → i < q → Good i → e i ≡ d i)
     → ((xs : List ℕ) → IsTablePath d q j xs → (k : ℕ) → k < length xs → Good (slice_index xs k))
     → (n : ℕ) → n < length path → IsTablePath d q j (take (n + 1) path)
 path_first d e q j Good path whole same good zero h =
@@ -129,26 +125,21 @@ path_first d e q j Good path whole same good (suc n) h =
     let len : length (take (n + 1) path) ≡ n + 1 = length-take-le (n + 1) path (omega arith) in
     let more : length (take (suc n + 1) path) ≡ n + 2 =
     length-take-le (suc n + 1) path (omega arith) ∙ omega arith in
-    let at : (k : ℕ) → k < n + 2
-    → slice_index (take (suc n + 1) path) k ≡ slice_index path k =
+    let at : (k : ℕ) → k < n + 2 → slice_index (take (suc n + 1) path) k ≡ slice_index path k =
     λ k l. get_or-take (suc n + 1) path k 0 (omega arith) in
     let kept : (k : ℕ) → k < n + 1 → e (slice_index path k) ≡ d (slice_index path k) = λ k l.
     same (slice_index path k) (whole.inside k (omega arith))
     (subst Good (get_or-take (n + 1) path k 0 l)
-    (good (take (n + 1) path) before k (omega (arith, len)))) in
-    record {
+    (good (take (n + 1) path) before k (omega (arith, len)))) in record {
       is_path = record {
         some = omega (arith, more);
         begins = at 0 (omega arith) ∙ whole.is_path.begins;
-        onward = λ k l.
-            ap (λ i. has_next (d i)) (at k (omega (arith, more)))
+        onward = λ k l. ap (λ i. has_next (d i)) (at k (omega (arith, more)))
             ∙ ap has_next (sym (kept k (omega (arith, more))))
             ∙ whole.is_path.onward k (omega (arith, more));
-        linked = λ k l.
-            ap (λ i. (d i).next) (at k (omega (arith, more)))
+        linked = λ k l. ap (λ i. (d i).next) (at k (omega (arith, more)))
             ∙ ap (λ y. y.next) (sym (kept k (omega (arith, more))))
-            ∙ whole.is_path.linked k (omega (arith, more))
-            ∙ sym (at (k + 1) (omega (arith, more)));
+            ∙ whole.is_path.linked k (omega (arith, more)) ∙ sym (at (k + 1) (omega (arith, more)));
       };
       inside = λ k l. omega
           (arith, at k (omega (arith, more)), whole.inside k (omega (arith, more)));
@@ -156,8 +147,7 @@ path_first d e q j Good path whole same good (suc n) h =
 
 -- Each number of a path in the other table is good.
 pub path_good : (d e : ℕ → Descriptor) (q j : ℕ) (Good : ℕ → Type 0) (path : List ℕ)
-    → IsTablePath e q j path
-    → ((i : ℕ) → i < q → Good i → e i ≡ d i)
+    → IsTablePath e q j path → ((i : ℕ) → i < q → Good i → e i ≡ d i)
     → ((xs : List ℕ) → IsTablePath d q j xs → (k : ℕ) → k < length xs → Good (slice_index xs k))
     → (k : ℕ) → k < length path → Good (slice_index path k)
 path_good d e q j Good path whole same good k h =
@@ -185,8 +175,7 @@ written_path d q h path pieces put first some xs whole (suc k) l =
     let goes : has_next (linked path pieces k) ≡ nat_lt (k + 1) (length path) =
     flags_next (nat_lt (k + 1) (length path)) (slice_index_or pieces k empty).writable
     (slice_index_or pieces k empty) (slice_index path (k + 1)) in
-    let on : k + 1 < length path =
-    ltb-true (k + 1) (length path)
+    let on : k + 1 < length path = ltb-true (k + 1) (length path)
     (sym goes ∙ ap has_next (sym here) ∙ whole.is_path.onward k (omega arith)) in (
       omega arith,
       ap (slice_index xs) (sym next) ∙ sym (whole.is_path.linked k (omega arith))
@@ -242,8 +231,7 @@ next_path-rise r n j k l h = grind (arith, take_inside, numbers_rise)
 pub next_path-lowest : (r : DriverEnd) (n i : ℕ) → is_unused r.owner i ≡ true
     → 0 < length (next_path r n)
     → i < slice_index (next_path r n) (length (next_path r n) - 1) → is_in i (next_path r n) ≡ true
-next_path-lowest r n i free some low =
-    let path : List ℕ = next_path r n in
+next_path-lowest r n i free some low = let path : List ℕ = next_path r n in
     let m : ℕ = length path - 1 in
     let last = take_inside (free_descriptors r) n m (omega (arith, some)) in
     let inside : i < r.size = omega (arith, low, (next_path-free r n m (omega (arith, some))).0) in
@@ -265,8 +253,7 @@ next_path-lowest r n i free some low =
 pub added_tracks : (m1 m3 : Pages) (r : DriverEnd) (pieces : List Piece) (h : ℕ) (heads : List ℕ)
     (elems : List UsedElem) (s : ℕ) → IsDriverEnd r
     → Links m1 m3 r.layout r.size (next_path r (length pieces)) pieces → 0 < length pieces
-    → length pieces ≤ length (free_descriptors r)
-    → slice_index (next_path r (length pieces)) 0 ≡ h
+    → length pieces ≤ length (free_descriptors r) → slice_index (next_path r (length pieces)) 0 ≡ h
     → Tracks m1 r heads elems s
     → (Tracks m3 (after_add r (length pieces) (Ok h)) (heads ++ h ∷ []) elems s)
     × (outstanding r + 1 ≤ r.size)
@@ -274,8 +261,7 @@ added_tracks m1 m3 r pieces h heads elems s is_end links some fits first tracks 
     let path : List ℕ = next_path r (length pieces) in
     let new : List (Option ℕ) = claimed path h r.owner in
     let len : length path ≡ length pieces = next_path-length r (length pieces) fits in
-    let free : (k : ℕ) → k < length path
-    → (slice_index path k < r.size)
+    let free : (k : ℕ) → k < length path → (slice_index path k < r.size)
     × (slice_index_or r.owner (slice_index path k) None ≡ None) =
     next_path-free r (length pieces) in
     let inside : (k : ℕ) → k < length path
@@ -313,14 +299,11 @@ added_tracks m1 m3 r pieces h heads elems s is_end links some fits first tracks 
         owns = λ j out xs whole k l. elim (cases_eq j h) [
           | inl e ↦
               let along = written_path (descriptor_at m3 r.layout.table) r.size h path pieces
-              (λ i lt. links.put i (omega (arith, len))) first begin xs
-              (subst (λ (n : ℕ). IsTablePath (descriptor_at m3 r.layout.table) r.size n xs) e whole)
-              k l in
+              (λ i lt. links.put i (omega (arith, len))) first begin xs (rw (← e) whole) k l in
               ap (λ i. slice_index_or new i None) along.1 ∙ claim.mine k along.0 ∙ ap Some (sym e)
           | inr ne ↦
               let apart : (i : ℕ) → slice_index_or r.owner i None ≡ Some j → is_in i path ≡ false =
-              λ i own. nowhere_in path i
-              (λ n lt e. none_some j _ (free n lt).1
+              λ i own. nowhere_in path i (λ n lt e. none_some j _ (free n lt).1
               (ap (λ x. slice_index_or r.owner x None) e ∙ own)) in
               let old : slice_index_or r.owner (slice_index xs k) None ≡ Some j =
               path_good (descriptor_at m1 r.layout.table) (descriptor_at m3 r.layout.table) r.size j
@@ -337,8 +320,7 @@ added_tracks m1 m3 r pieces h heads elems s is_end links some fits first tracks 
 -- The used element after those seen is of a chain that is out.
 pub next_used_out : (mem : Pages) (r : DriverEnd) (heads : List ℕ) (elems : List UsedElem) (s : ℕ)
     → Tracks mem r heads elems s → ((h : ℕ) → times h (ids elems) ≤ times h heads)
-    → s < length elems
-    → is_head r.owner (slice_index_or elems s no_elem).id ≡ true
+    → s < length elems → is_head r.owner (slice_index_or elems s no_elem).id ≡ true
 next_used_out mem r heads elems s tracks among lt = at (is_head r.owner id) refl
   where
     id : ℕ
@@ -365,8 +347,7 @@ taken_tracks mem r heads elems s id is_end tracks lt is out =
     let new : List (Option ℕ) = released id r.owner in
     let release : Releases r.owner new id = releases r.owner id out in
     let gain : outstanding r ≡ length (numbers (is_head new) r.size) + 1 =
-    release.count r.size (omega (arith, head_inside r.owner id out, is_end.table)) in
-    record {
+    release.count r.size (omega (arith, head_inside r.owner id out, is_end.table)) in record {
       published = tracks.published;
       seen = omega (arith, tracks.seen);
       few = omega arith;
@@ -409,12 +390,10 @@ used_shows m1 m2 l q heads elems e same entries out shows =
     let kept : (j : ℕ) (path : List ℕ) → IsTablePath (descriptor_at m2 l.table) q j path
     → IsTablePath (descriptor_at m1 l.table) q j path =
     λ j path whole. table_path_kept (descriptor_at m1 l.table) (descriptor_at m2 l.table) q j path
-    same whole in
-    record {
+    same whole in record {
       entries = entries;
       among = λ j. elim (cases_eq e.id j) [
-        | inl is ↦ (let here : times j (ids elems) < times j heads = subst
-            (λ (n : ℕ). times n (ids elems) < times n heads) is out in
+        | inl is ↦ (let here : times j (ids elems) < times j heads = rw (← is) out in
             omega (arith, more j, one_is e.id j is, here))
         | inr ne ↦ omega (arith, more j, one_other e.id j ne, shows.among j)
       ];
@@ -444,8 +423,7 @@ ring_apart old new l q heads elems size t a u shows =
     let kept : (j : ℕ) (path : List ℕ) → IsTablePath (descriptor_at new l.table) q j path
     → IsTablePath (descriptor_at old l.table) q j path =
     λ j path whole. table_path_kept (descriptor_at old l.table) (descriptor_at new l.table) q j path
-    (λ i lt. descriptor_apart old new l.table i t) whole in
-    record {
+    (λ i lt. descriptor_apart old new l.table i t) whole in record {
       entries = entries_apart old new l q heads elems size a u shows.entries;
       among = shows.among;
       most = shows.most;

@@ -45,20 +45,17 @@ numbers_pass p (suc n) k h = elim (either_way (p n)) [
   | inl pass ↦
       let grown : numbers p (suc n) ≡ numbers p n ++ n ∷ [] = suc_yes p n true pass refl in
       let len : length (numbers p (suc n)) ≡ length (numbers p n) + 1 =
-      ap length grown ∙ length_push (numbers p n) n in
-      elim (cases_eq k (length (numbers p n))) [
+      ap length grown ∙ length_push (numbers p n) n in elim (cases_eq k (length (numbers p n))) [
         | inl last ↦
             let here : slice_index (numbers p (suc n)) k ≡ n =
             ap (λ (xs : List ℕ). slice_index xs k) grown
-            ∙ get_or_push (numbers p n) n 0 k (sym last) in
-            (omega (arith, here), ap p here ∙ pass)
+            ∙ get_or_push (numbers p n) n 0 k (sym last) in (omega (arith, here), ap p here ∙ pass)
         | inr ne ↦
             let before : k < length (numbers p n) = omega (arith, ne, len) in
             let here : slice_index (numbers p (suc n)) k ≡ slice_index (numbers p n) k =
             ap (λ (xs : List ℕ). slice_index xs k) grown
             ∙ get_or_append_left (numbers p n) (n ∷ []) 0 k before in
-            let old = numbers_pass p n k before in
-            (omega (arith, here, old.0), ap p here ∙ old.1)
+            let old = numbers_pass p n k before in (omega (arith, here, old.0), ap p here ∙ old.1)
       ]
   | inr fail ↦
       let same : numbers p (suc n) ≡ numbers p n = suc_no p n fail in
@@ -113,8 +110,7 @@ numbers_has p (suc n) i l h = elim (either_way (p n)) [
   | inl pass ↦
       let grown : numbers p (suc n) ≡ numbers p n ++ n ∷ [] = suc_yes p n true pass refl in
       let len : length (numbers p (suc n)) ≡ length (numbers p n) + 1 =
-      ap length grown ∙ length_push (numbers p n) n in
-      elim (cases_eq i n) [
+      ap length grown ∙ length_push (numbers p n) n in elim (cases_eq i n) [
         | inl last ↦ (
           length (numbers p n),
           omega (arith, len),
@@ -147,11 +143,9 @@ numbers_has p (suc n) i l h = elim (either_way (p n)) [
 -- The first is the least that passes.
 pub numbers_first : (p : ℕ → Bool) (n i : ℕ) → i < n → p i ≡ true → ((j : ℕ) → j < i → p j ≡ false)
     → slice_get (numbers p n) 0 ≡ Some i
-numbers_first p n i l h least =
-    let found = numbers_has p n i l h in
+numbers_first p n i l h least = let found = numbers_has p n i l h in
     let some : 0 < length (numbers p n) = omega (arith, found.1) in
-    let first = numbers_pass p n 0 some in
-    slice_get-get_or (numbers p n) 0 0 some
+    let first = numbers_pass p n 0 some in slice_get-get_or (numbers p n) 0 0 some
     ∙ ap Some (elim (cases_eq found.0 0) [
       | inl e ↦ ap (slice_index (numbers p n)) (sym e) ∙ found.2
       | inr ne ↦
@@ -164,15 +158,8 @@ numbers_first p n i l h least =
 pub numbers_same : (p s : ℕ → Bool) (n : ℕ) → ((i : ℕ) → i < n → p i ≡ s i)
     → numbers p n ≡ numbers s n
 numbers_same p s zero h = numbers_zero p ∙ sym (numbers_zero s)
-numbers_same p s (suc n) h = elim (either_way (p n)) [
-  | inl pass ↦
-      suc_yes p n true pass refl
-      ∙ ap (λ (xs : List ℕ). xs ++ n ∷ []) (numbers_same p s n (λ i l. h i (omega arith)))
-      ∙ sym (suc_yes s n true (sym (h n (omega arith)) ∙ pass) refl)
-  | inr fail ↦
-      suc_no p n fail ∙ numbers_same p s n (λ i l. h i (omega arith))
-      ∙ sym (suc_no s n (sym (h n (omega arith)) ∙ fail))
-]
+numbers_same p s (suc n) h =
+    grind (arith, either_way, suc_yes, suc_no, numbers_same p s n (λ i l. h i (omega arith)))
 
 length_suc : (p : ℕ → Bool) (n : ℕ)
     → length (numbers p (suc n)) ≡ length (numbers p n) + one_if (p n)
@@ -189,8 +176,7 @@ length_gain p s zero h l fail pass same = absurd (omega arith)
 length_gain p s (suc n) h l fail pass same = elim (cases_eq h n) [
   | inl e ↦
       let below : length (numbers p n) ≡ length (numbers s n) =
-      ap length (numbers_same p s n (λ i k. same i (omega (arith, e)))) in
-      omega (
+      ap length (numbers_same p s n (λ i k. same i (omega (arith, e)))) in omega (
         arith,
         length_suc p n,
         length_suc s n,
@@ -198,14 +184,13 @@ length_gain p s (suc n) h l fail pass same = elim (cases_eq h n) [
         ap one_if (ap s (sym e) ∙ pass),
         below,
       )
-  | inr ne ↦
-      omega (
-        arith,
-        length_suc p n,
-        length_suc s n,
-        ap one_if (same n (λ e. ne (sym e))),
-        length_gain p s n h (omega (arith, ne)) fail pass same,
-      )
+  | inr ne ↦ omega (
+    arith,
+    length_suc p n,
+    length_suc s n,
+    ap one_if (same n (λ e. ne (sym e))),
+    length_gain p s n h (omega (arith, ne)) fail pass same,
+  )
 ]
 
 -- No number passes both tests: at most n numbers below n pass one of them.
@@ -235,8 +220,7 @@ pub numbers_prefix : (p : ℕ → Bool) (m n : ℕ) → m ≤ n
 numbers_prefix p m zero l =
     grind (arith, take_all (length (numbers p 0)) (numbers p 0) (omega arith))
 numbers_prefix p m (suc n) l = elim (cases_eq m (suc n)) [
-  | inl same ↦
-      ap (λ k. take (length (numbers p k)) (numbers p (suc n))) same
+  | inl same ↦ ap (λ k. take (length (numbers p k)) (numbers p (suc n))) same
       ∙ take_all (length (numbers p (suc n))) (numbers p (suc n)) (omega arith)
       ∙ ap (numbers p) (sym same)
   | inr ne ↦
@@ -244,8 +228,7 @@ numbers_prefix p m (suc n) l = elim (cases_eq m (suc n)) [
       let fits : length (numbers p m) ≤ length (numbers p n) =
       omega (arith, ap length before, length-take (length (numbers p m)) (numbers p n)) in
       elim (either_way (p n)) [
-        | inl pass ↦
-            ap (take (length (numbers p m))) (suc_yes p n true pass refl)
+        | inl pass ↦ ap (take (length (numbers p m))) (suc_yes p n true pass refl)
             ∙ take-append-le (length (numbers p m)) (numbers p n) (n ∷ []) fits ∙ before
         | inr fail ↦ ap (take (length (numbers p m))) (suc_no p n fail) ∙ before
       ]

@@ -33,8 +33,7 @@ is_in-some (x ∷ xs) n h = at (x == n) refl (is_in-some xs n)
     at true e more = (0, omega arith, eqb-true x n e)
     at false e more =
         let rest : is_in n xs ≡ true = ap (λ (b : Bool). b || is_in n xs) (sym e) ∙ h in
-        let found = more rest in
-        (suc found.0, omega (arith, found.1), found.2)
+        let found = more rest in (suc found.0, omega (arith, found.1), found.2)
 
 -- Not in a list, a number stands nowhere in it.
 pub not_in : (xs : List ℕ) (n k : ℕ) → is_in n xs ≡ false → k < length xs → slice_index xs k ≢ n
@@ -111,12 +110,10 @@ pub record Claims (owner new : List (Option ℕ)) (path : List ℕ) (h : ℕ) : 
       → length (numbers (is_head new) n) ≡ length (numbers (is_head owner) n) + 1
 
 pub claims : (owner : List (Option ℕ)) (path : List ℕ) (h : ℕ) → 0 < length path
-    → slice_index path 0 ≡ h
-    → ((k : ℕ) → k < length path → (slice_index path k < length owner)
+    → slice_index path 0 ≡ h → ((k : ℕ) → k < length path → (slice_index path k < length owner)
     × (slice_index_or owner (slice_index path k) None ≡ None))
     → Claims owner (claimed path h owner) path h
-claims owner path h begin first free =
-    let new : List (Option ℕ) = claimed path h owner in
+claims owner path h begin first free = let new : List (Option ℕ) = claimed path h owner in
     let inside : (k : ℕ) → k < length path → slice_index path k < length owner =
     λ k l. (free k l).0 in
     let mine : (k : ℕ) → k < length path → slice_index_or new (slice_index path k) None ≡ Some h =
@@ -132,8 +129,7 @@ claims owner path h begin first free =
     let after : is_head new h ≡ true =
     own_self h _ (ap (λ i. slice_index_or new i None) (sym first) ∙ mine 0 begin) in
     let same : (i : ℕ) → i ≢ h → is_head owner i ≡ is_head new i =
-    λ i ne. same_by new i ne mine rest (is_in i path) refl in
-    record {
+    λ i ne. same_by new i ne mine rest (is_in i path) refl in record {
       mine = mine;
       rest = rest;
       before = before;
@@ -146,9 +142,7 @@ claims owner path h begin first free =
         → ((k : ℕ) → k < length path → slice_index_or new (slice_index path k) None ≡ Some h)
         → ((n : ℕ) → is_in n path ≡ false → slice_index_or new n None ≡ slice_index_or owner n None)
         → (b : Bool) → is_in i path ≡ b → is_head owner i ≡ is_head new i
-    same_by new i ne mine rest true e =
-        let found = is_in-some path i e in
-        ap (is_own i)
+    same_by new i ne mine rest true e = let found = is_in-some path i e in ap (is_own i)
         (ap (λ n. slice_index_or owner n None) (sym found.2) ∙ (free found.0 found.1).1)
         ∙ sym (own_other h i _
         (ap (λ n. slice_index_or new n None) (sym found.2) ∙ mine found.0 found.1)
@@ -168,14 +162,11 @@ pub record Releases (owner new : List (Option ℕ)) (h : ℕ) : Type 0 where
 
 pub releases : (owner : List (Option ℕ)) (h : ℕ) → is_head owner h ≡ true
     → Releases owner (released h owner) h
-releases owner h out =
-    let new : List (Option ℕ) = released h owner in
-    let gone : is_head new h ≡ false =
-    ap (is_own h) (released-at h owner h
+releases owner h out = let new : List (Option ℕ) = released h owner in
+    let gone : is_head new h ≡ false = ap (is_own h) (released-at h owner h
     ∙ ap (λ (b : Bool). if b then None else slice_index_or owner h None) out) in
     let same : (i : ℕ) → i ≢ h → is_head new i ≡ is_head owner i =
-    λ i ne. same_by i ne (is_own h (slice_index_or owner i None)) refl in
-    record {
+    λ i ne. same_by i ne (is_own h (slice_index_or owner i None)) refl in record {
       gone = gone;
       kept = λ i j own ne. released-at h owner i
           ∙ ap (λ (b : Bool). if b then None else slice_index_or owner i None)

@@ -1,7 +1,7 @@
 -- The contract of a pop, put together at each of its ends.
 use Rattle.std.specs.Prelude.{◌≡◌, ℕ, ◌+◌, ◌*◌, ◌%◌, ◌≤◌, true, false, List, Option, Some, None}
+use Rattle.std.proofs.Common.{arith, sym, ◌∙◌, ap}
 use Rattle.std.specs.Prelude.{Result, Ok, Err, length, slice_get, refl}
-use Rattle.std.proofs.Common.{sym, ◌∙◌, ap, subst}
 use Rattle.vb_ram.specs.Pages.{Pages}
 use Rattle.vb_chain.{specs.declared.fault.ChainFault.ChainFault, specs.declared.pieces.Piece.Piece}
 use Rattle.vb_chain.{specs.Table.descriptor_at, specs.Chain.{ChainGives, FaultGives}}
@@ -31,37 +31,16 @@ next_shown mem q is_end heads t shows at low near =
 
 pub pops_idle : (mem : Pages) (q : DeviceEnd) → IsDeviceEnd q → q.ready ≡ false
     → PopsBy mem q q (Ok None)
-pops_idle mem q is_end idle = record {
-  is_end = is_end;
-  state = refl;
-  not_ready = λ e. refl;
-  none = λ e f. refl;
-  jump = λ f ready e. absurd (never (sym ready ∙ idle));
-  chain = λ h pieces ready e gives. absurd (never (sym ready ∙ idle));
-  fault = λ h f ready e gives. absurd (never (sym ready ∙ idle));
-  found = tt;
-  shown = next_shown mem q is_end;
-}
+pops_idle mem q is_end idle = grind (arith, never, next_shown)
 
 pub pops_none : (mem : Pages) (q : DeviceEnd) → IsDeviceEnd q
     → next_entry mem q.layout q.size q.next_avail ≡ Ok None → PopsBy mem q q (Ok None)
-pops_none mem q is_end next = record {
-  is_end = is_end;
-  state = refl;
-  not_ready = λ e. refl;
-  none = λ e f. refl;
-  jump = λ f ready e. absurd (err_ok _ f None e next);
-  chain = λ h pieces ready e gives. absurd (none_some _ h next e);
-  fault = λ h f ready e gives. absurd (none_some _ h next e);
-  found = tt;
-  shown = next_shown mem q is_end;
-}
+pops_none mem q is_end next = grind (arith, err_ok, none_some, next_shown)
 
 pub pops_chain : (mem : Pages) (q : DeviceEnd) (taken : Taken) → IsDeviceEnd q → q.ready ≡ true
     → next_entry mem q.layout q.size q.next_avail ≡ Ok (Some taken.head)
     → ChainGives (descriptor_at mem q.layout.table) q.size (4096 * length mem) taken.head
-    taken.chain
-    → ((pieces : List Piece)
+    taken.chain → ((pieces : List Piece)
     → ChainGives (descriptor_at mem q.layout.table) q.size (4096 * length mem) taken.head pieces
     → taken.chain ≡ pieces)
     → ((f : ChainFault) → FaultGives (descriptor_at mem q.layout.table) q.size (4096 * length mem)
@@ -75,15 +54,10 @@ pops_chain mem q taken is_end ready next gives each_chain each_fault = record {
   chain = λ h pieces r e others.
       let same : taken.head ≡ h = same_head _ taken.head h next e in (
         same,
-        each_chain pieces
-            (subst (λ (n : ℕ). ChainGives (descriptor_at mem q.layout.table) q.size
-            (4096 * length mem) n pieces) (sym same) others),
+        each_chain pieces (rw same others),
       );
   fault = λ h f r e others.
-      let same : taken.head ≡ h = same_head _ taken.head h next e in
-      absurd (each_fault f (subst
-      (λ (n : ℕ). FaultGives (descriptor_at mem q.layout.table) q.size (4096 * length mem) n f)
-      (sym same) others));
+      let same : taken.head ≡ h = same_head _ taken.head h next e in absurd (each_fault f (rw same others));
   found = (ready, next, gives);
   shown = next_shown mem q is_end;
 }
@@ -101,15 +75,10 @@ pops_fault mem q head fault is_end ready next each_chain each_fault = record {
   none = λ r e. absurd (none_some _ head e next);
   jump = λ f r e. absurd (err_ok _ f (Some head) e next);
   chain = λ h pieces r e others.
-      let same : head ≡ h = same_head _ head h next e in
-      absurd (each_chain pieces
-      (subst (λ (n : ℕ). ChainGives (descriptor_at mem q.layout.table) q.size
-      (4096 * length mem) n pieces) (sym same) others));
+      let same : head ≡ h = same_head _ head h next e in absurd (each_chain pieces
+      (rw same others));
   fault = λ h f r e others.
-      let same : head ≡ h = same_head _ head h next e in
-      ap Err (each_fault f (subst
-      (λ (n : ℕ). FaultGives (descriptor_at mem q.layout.table) q.size (4096 * length mem) n f)
-      (sym same) others));
+      let same : head ≡ h = same_head _ head h next e in ap Err (each_fault f (rw same others));
   found = tt;
   shown = next_shown mem q is_end;
 }

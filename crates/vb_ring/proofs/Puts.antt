@@ -42,16 +42,12 @@ puts_used m1 m2 m3 m4 l q next head count id len index = record {
       index.rest (omega arith)) (omega arith) (omega arith) ∙ len.value;
   index = index.value;
   rest = record {
-    bytes = λ p o out.
-        byte_kept m3 m4 _ _ _ p o index.rest out.1.0
-        ∙ byte_kept m2 m3 _ _ _ p o len.rest
-        (λ i. out.0 (record {
+    bytes = λ p o out. byte_kept m3 m4 _ _ _ p o index.rest out.1.0
+        ∙ byte_kept m2 m3 _ _ _ p o len.rest (λ i. out.0 (record {
           page = i.page;
           from = omega (arith, i.from);
           to = omega (arith, i.to);
-        }))
-        ∙ byte_kept m1 m2 _ _ _ p o id.rest
-        (λ i. out.0 (record {
+        })) ∙ byte_kept m1 m2 _ _ _ p o id.rest (λ i. out.0 (record {
           page = i.page;
           from = omega (arith, i.from);
           to = omega (arith, i.to);

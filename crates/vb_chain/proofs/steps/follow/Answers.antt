@@ -2,20 +2,18 @@ use Rattle.std.proofs.Common.{rules, ◌≡◌, ◌+◌, ◌*◌, ◌∷◌, ◌
 use Rattle.std.proofs.Common.{false, subst, Bool, ◌||◌}
 use Rattle.vb_chain.{specs.declared.pieces.Piece.Piece, specs.Table.descriptor_at}
 use Rattle.vb_chain.specs.Rules.{first_fault, piece_of, has_next, is_writable}
-use Rattle.vb_chain.specs.Chain.{ChainGives, FaultGives}
+use Rattle.vb_chain.specs.Chain.{FaultGives}
 use Rattle.vb_chain.proofs.Walking.{Walked, walked_init, walked_fault, walked_chain, walked_more}
 use Rattle.vb_chain.proofs.steps.follow.Goals as goal
 
 pub loop-visited-init : goal.loop-visited-init
-loop-visited-init g c =
-    let d = descriptor_at (g.G.GuestBytes.mem c.args.ram.now) c.args.table in
+loop-visited-init g c = let d = descriptor_at (g.G.GuestBytes.mem c.args.ram.now) c.args.table in
     let start = walked_init d c.args.size (4096 * c.from.result) c.args.head (omega arith) in
     record {
       more = omega arith;
       inside = omega arith;
       walked = (
-        c.args.head
-            ∷ [],
+        c.args.head ∷ [],
         subst (λ (ps : List Piece). Walked d c.args.size (4096 * c.from.result) c.args.head
             (c.args.head ∷ []) 0 c.args.head false ps) (sym c.requires.empty) start,
       );
@@ -33,23 +31,7 @@ returns-in-Some-clause-fault g c =
     (c.from.ensures ∙ c.pages.ensures) told
 
 pub returns-then-not-has_next-clause-chain : goal.returns-then-not-has_next-clause-chain
-returns-then-not-has_next-clause-chain g c =
-    let d = descriptor_at (g.G.GuestBytes.mem c.args.ram.now) c.args.table in
-    let end = 4096 * c.from.result in
-    let x = c.read_descriptor-descriptor.result in
-    let is : x ≡ d c.loop-visited.index = c.read_descriptor-descriptor.ensures in
-    let sound = ap (first_fault c.args.size end c.loop-visited.writing c.loop-visited.visited)
-    (sym is) ∙ sym c.descriptor_fault.ensures ∙ c.in_default.is in
-    let stop = ap has_next (sym is) ∙ sym c.has_next.ensures ∙ c.if-not-has_next.true in
-    let told = walked_chain d c.args.size end c.args.head c.loop-visited.invariant.walked.0 _ _ _ _
-    c.loop-visited.invariant.walked.1 (omega arith) sound stop in
-    let pieces : c.push.new.self ≡ c.loop-visited.chain ++ piece_of (d c.loop-visited.index) ∷ [] =
-    c.push.ensures ∙ ap (λ (b : Bool). c.loop-visited.chain
-    ++ record { addr = x.addr; len = x.len; writable = b } ∷ []) c.is_writable-writable.ensures
-    ∙ ap (λ y. c.loop-visited.chain ++ piece_of y ∷ []) is in
-    subst (λ (n : ℕ). ChainGives d c.args.size (4096 * n) c.args.head c.push.new.self)
-    (c.from.ensures ∙ c.pages.ensures)
-    (subst (λ (ps : List Piece). ChainGives d c.args.size end c.args.head ps) (sym pieces) told)
+returns-then-not-has_next-clause-chain g c = grind (arith, walked_chain)
 
 pub loop-visited-preserved : goal.loop-visited-preserved
 loop-visited-preserved g c =
@@ -61,16 +43,14 @@ loop-visited-preserved g c =
     (sym is) ∙ sym c.descriptor_fault.ensures ∙ c.in_default.is in
     let more = ap has_next (sym is) ∙ sym c.has_next.ensures ∙ c.if-not-has_next.false in
     let path = c.loop-visited.invariant.walked.0 in
-    let W : ℕ → Bool → List Piece
-    → Type 0 = λ n b ps. Walked d c.args.size end c.args.head
+    let W : ℕ → Bool → List Piece → Type 0 = λ n b ps. Walked d c.args.size end c.args.head
     (path ++ (d c.loop-visited.index).next ∷ []) (c.loop-visited.visited + 1) n b ps in
     let pieces : c.push.new.self ≡ c.loop-visited.chain ++ piece_of (d c.loop-visited.index) ∷ [] =
     c.push.ensures ∙ ap (λ (b : Bool). c.loop-visited.chain
     ++ record { addr = x.addr; len = x.len; writable = b } ∷ []) c.is_writable-writable.ensures
     ∙ ap (λ y. c.loop-visited.chain ++ piece_of y ∷ []) is in
     let step = walked_more d c.args.size end c.args.head path _ _ _ _
-    c.loop-visited.invariant.walked.1 sound more in
-    record {
+    c.loop-visited.invariant.walked.1 sound more in record {
       more = search rules;
       inside = search rules;
       walked = (

@@ -6,8 +6,7 @@ use Rattle.vb_chain.proofs.table.read_descriptor.Goals as goal
 
 pub returns : goal.returns
 unfolding descriptor_at
-returns g c =
-    let mem = g.G.GuestBytes.mem c.args.ram.now in
+returns g c = let mem = g.G.GuestBytes.mem c.args.ram.now in
     let page = c.args.page in
     let at = 16 * c.from.result in
     let out = c.read.new.out in
@@ -16,9 +15,7 @@ returns g c =
     at_ok c.read.result _ c.read.ensures.bytes (c.read.ensures.answers (record {
       page = c.requires.page;
       bytes = omega (arith, here, c.requires.index);
-    })) in
-    same_parts _ _
-    (c.read_u64.ensures ∙ field_first 8 mem page at out read (omega arith)
+    })) in same_parts _ _ (c.read_u64.ensures ∙ field_first 8 mem page at out read (omega arith)
     ∙ ap (field 8 mem page) here)
     (c.read_u32.ensures ∙ field_after 4 mem page at 8 8 out read (omega arith) (omega arith)
     ∙ ap (field 4 mem page) (omega (arith, here)))

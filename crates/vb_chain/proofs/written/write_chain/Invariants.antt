@@ -5,8 +5,7 @@ use Rattle.vb_chain.proofs.written.write_chain.Given as goal
 
 abbrev pub invariant-loop-k : goal.invariant-loop-k
 invariant-loop-k g l = record {
-  put : (j : ℕ) → j < l.k
-      → descriptor_at (g.G.GuestBytes.mem l.ram) l.table (slice_index l.path j)
+  put : (j : ℕ) → j < l.k → descriptor_at (g.G.GuestBytes.mem l.ram) l.table (slice_index l.path j)
       ≡ linked l.path l.pieces j;
   others : (i : ℕ) → ((j : ℕ) → j < length l.path → slice_index l.path j ≢ i)
       → descriptor_at (g.G.GuestBytes.mem l.ram) l.table i

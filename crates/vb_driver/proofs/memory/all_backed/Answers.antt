@@ -6,8 +6,7 @@ use Rattle.vb_driver.{specs.Answers.has_frames, proofs.Shapes.{all_frames, frame
 use Rattle.vb_driver.proofs.memory.all_backed.Goals as goal
 
 pub returns-then-not-has_frame-clause-value : goal.returns-then-not-has_frame-clause-value
-returns-then-not-has_frame-clause-value g c =
-    let size = c.args.shape.queue_size in
+returns-then-not-has_frame-clause-value g c = let size = c.args.shape.queue_size in
     let mem = g.G.GuestBytes.mem c.args.ram.now in
     let page = c.loop-page.page in
     let start : is_start_page size page ≡ true =
@@ -19,26 +18,20 @@ returns-then-not-has_frame-clause-value g c =
     (λ all. both_ways (is_some (frame_at mem page)) none (frames_there size mem all page start)))
 
 pub returns-clause-value : goal.returns-clause-value
-returns-clause-value g c =
-    let size = c.args.shape.queue_size in
+returns-clause-value g c = let size = c.args.shape.queue_size in
     let mem = g.G.GuestBytes.mem c.args.ram.now in
-    sym (all_frames size mem (λ page start. c.loop-page.invariant.backed page
-    (omega (
+    sym (all_frames size mem (λ page start. c.loop-page.invariant.backed page (omega (
       arith,
       start_reserved size page start,
       c.reserved_pages-page-end.ensures,
       c.loop-page-test.false,
-    ))
-    start))
+    )) start))
 
 pub returns-clause-backed : goal.returns-clause-backed
-returns-clause-backed g c told page start =
-    let size = c.args.shape.queue_size in
-    c.loop-page.invariant.backed page
-    (omega (
+returns-clause-backed g c told page start = let size = c.args.shape.queue_size in
+    c.loop-page.invariant.backed page (omega (
       arith,
       start_reserved size page start,
       c.reserved_pages-page-end.ensures,
       c.loop-page-test.false,
-    ))
-    start
+    )) start

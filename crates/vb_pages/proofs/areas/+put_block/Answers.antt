@@ -8,8 +8,7 @@ use Rattle.vb_pages.proofs.areas.+put_block.Goals.{else-order-lt-MAX_ORDER-via-e
 use Rattle.vb_pages.proofs.areas.+put_block.Goals as goal
 
 pub put_block-requires : goal.put_block-requires
-put_block-requires t c =
-    let table = c.args.table.now in
+put_block-requires t c = let table = c.args.table.now in
     let s = c.args.start in
     let k = c.args.order in
     let b = c.buddy_of-buddy.result in
@@ -36,12 +35,10 @@ pub returns-then-is_listed-clause-set : goal.returns-then-is_listed-clause-set
 returns-then-is_listed-clause-set t c = grind (arith, joined_set)
 
 pub returns-else-order-lt-MAX_ORDER-clause-tiled : goal.returns-else-order-lt-MAX_ORDER-clause-tiled
-returns-else-order-lt-MAX_ORDER-clause-tiled t c =
-    let table = c.args.table.now in
+returns-else-order-lt-MAX_ORDER-clause-tiled t c = let table = c.args.table.now in
     let s = c.args.start in
     let k = c.args.order in
-    let alone : HasNoBuddy table s k =
-    elim c.else-order-lt-MAX_ORDER.branch [
+    let alone : HasNoBuddy table s k = elim c.else-order-lt-MAX_ORDER.branch [
       | else-order-lt-MAX_ORDER-via-then-order-lt-MAX_ORDER+else-is_listed w ↦
           no_buddy table s k c.buddy_of-buddy.result c.buddy_of-buddy.ensures
           (λ e. both_ways w.is_listed.result w.if-is_listed.false (w.is_listed.ensures.1 e))

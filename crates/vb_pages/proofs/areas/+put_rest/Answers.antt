@@ -7,22 +7,20 @@ pub add-requires-clause-aligned : goal.add-requires-clause-aligned
 add-requires-clause-aligned t c = grind (arith, rest_upper)
 
 pub add-requires-clause-fits : goal.add-requires-clause-fits
-add-requires-clause-fits t c =
-    grind (
-      arith,
-      rest_upper c.args.table.now c.args.start c.args.whole c.size_of.result c.requires.tiled c.requires.room (omega arith) c.size_of.ensures.size,
-    )
+add-requires-clause-fits t c = grind (
+  arith,
+  rest_upper c.args.table.now c.args.start c.args.whole c.size_of.result c.requires.tiled c.requires.room (omega arith) c.size_of.ensures.size,
+)
 
 pub add-requires-clause-empty : goal.add-requires-clause-empty
 add-requires-clause-empty t c = grind (arith, rest_empty)
 
 pub put_rest-requires : goal.put_rest-requires
-put_rest-requires t c =
-    grind (
-      arith,
-      rest_tiled c.args.table.now c.args.start c.args.whole c.size_of.result c.requires.tiled c.requires.room (omega arith) c.size_of.ensures.size,
-      rest_room c.args.table.now c.args.start c.args.whole c.size_of.result c.requires.tiled c.requires.room (omega arith) c.size_of.ensures.size,
-    )
+put_rest-requires t c = grind (
+  arith,
+  rest_tiled c.args.table.now c.args.start c.args.whole c.size_of.result c.requires.tiled c.requires.room (omega arith) c.size_of.ensures.size,
+  rest_room c.args.table.now c.args.start c.args.whole c.size_of.result c.requires.tiled c.requires.room (omega arith) c.size_of.ensures.size,
+)
 
 pub returns-then-taken-whole-clause-set : goal.returns-then-taken-whole-clause-set
 returns-then-taken-whole-clause-set t c = grind (arith, rest_set)

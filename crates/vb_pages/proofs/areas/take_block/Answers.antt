@@ -10,30 +10,23 @@ use Rattle.vb_pages.proofs.areas.take_block.Goals as goal
 -- the start that was found, in the table as it was
 found : (c : After-remove)
     → IsLowestStart c.args.table.now c.loop-larger.larger 0 (Some c.in-Some.start)
-found c = subst (λ (u : List (Option ℕ)). IsLowestStart u c.loop-larger.larger 0
-    (Some c.in-Some.start)) c.loop-larger.invariant.0 c.in-Some.ensures
+found c = rw (← c.loop-larger.invariant.0) c.in-Some.ensures
 
 left : (c : After-remove) → set c.args.table.now c.in-Some.start None ≡ c.remove.new.self
 left c = ap (λ (u : List (Option ℕ)). set u c.in-Some.start None) (sym c.loop-larger.invariant.0)
     ∙ sym c.remove.ensures
 
 pub put_rest-requires-clause-tiled : goal.put_rest-requires-clause-tiled
-put_rest-requires-clause-tiled c =
-    let d = (goal.at.put_rest-requires-clause-tiled c).After-remove in
-    subst IsTiled (left d)
-    (removed_tiled c.args.table.now c.in-Some.start c.loop-larger.larger c.requires.tiled
-    (found d).0)
+put_rest-requires-clause-tiled c = grind (arith, left, removed_tiled, found)
 
 pub put_rest-requires-clause-room : goal.put_rest-requires-clause-room
-put_rest-requires-clause-room c =
-    let d = (goal.at.put_rest-requires-clause-room c).After-remove in
+put_rest-requires-clause-room c = let d = (goal.at.put_rest-requires-clause-room c).After-remove in
     subst (λ (u : List (Option ℕ)). HasRoom u c.in-Some.start c.loop-larger.larger) (left d)
     (removed_room c.args.table.now c.in-Some.start c.loop-larger.larger c.requires.tiled.placed
     (found d).0)
 
 pub returns-in-Some-clause-taken : goal.returns-in-Some-clause-taken
-returns-in-Some-clause-taken c =
-    let d = (goal.at.returns-in-Some-clause-taken c).After-remove in
+returns-in-Some-clause-taken c = let d = (goal.at.returns-in-Some-clause-taken c).After-remove in
     let t = c.args.table.now in
     let s = c.in-Some.start in
     let k = c.loop-larger.larger in

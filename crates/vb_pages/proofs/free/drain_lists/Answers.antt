@@ -1,6 +1,6 @@
-use Rattle.std.proofs.Common.{◌≡◌, ◌<◌, ◌+◌, ℕ, List, length, get_or, set, ap, subst, ◌∙◌, sym}
+use Rattle.std.proofs.Common.{◌≡◌, ◌<◌, ◌+◌, ℕ, List, length, get_or, ap, ◌∙◌}
 use Rattle.std.{proofs.Common.arith, specs.Prelude.count_by, proofs.lemmas.List.get_or_default}
-use Rattle.vb_pages.proofs.FreeLemmas.{IsDrainedSoFar, drained_none, next_once, next_drained}
+use Rattle.vb_pages.proofs.FreeLemmas.{drained_none, next_once, next_drained}
 use Rattle.vb_pages.{specs.Areas.with_pages, proofs.FreeLemmas.{all_drained, nothing}}
 use Rattle.vb_pages.proofs.free.drain_lists.Goals as goal
 
@@ -11,8 +11,7 @@ pub drain-requires : goal.drain-requires
 drain-requires c = grind (arith, get_or_default, nothing, next_once)
 
 pub loop-list-preserved : goal.loop-list-preserved
-loop-list-preserved c =
-    let i = c.loop-list.list-index in
+loop-list-preserved c = let i = c.loop-list.list-index in
     let inside : i < length c.loop-list.lists = omega (arith, c.loop-list.auto.lists) in
     let item : get_or c.loop-list.lists i c.list-item.result ≡ get_or c.loop-list.lists i nothing =
     get_or_default c.loop-list.lists i c.list-item.result nothing inside in
@@ -21,15 +20,12 @@ loop-list-preserved c =
     c.drain.ensures.areas ∙ ap (λ (xs : List ℕ). with_pages xs c.loop-list.areas) item in
     let count : count_by (λ f. f) c.drain.new.areas
     ≡ count_by (λ f. f) c.loop-list.areas + length (get_or c.loop-list.lists i nothing) =
-    omega (arith, c.drain.ensures.count, ap length item) in
-    subst (λ (xs : List ℕ). IsDrainedSoFar c.args.areas.now c.args.lists.now (i + 1)
-    c.drain.new.areas (set c.loop-list.lists i xs)) (sym c.drain.ensures.empty)
+    omega (arith, c.drain.ensures.count, ap length item) in rw c.drain.ensures.empty
     (next_drained c.args.areas.now c.args.lists.now c.requires i c.loop-list.areas c.loop-list.lists
     c.loop-list.invariant c.loop-list-test.true c.drain.new.areas areas count)
 
 pub returns : goal.returns
-returns c =
-    grind (
-      arith,
-      all_drained c.args.areas.now c.args.lists.now c.loop-list.list-index c.loop-list.areas c.loop-list.lists c.loop-list-test.false c.loop-list.invariant,
-    )
+returns c = grind (
+  arith,
+  all_drained c.args.areas.now c.args.lists.now c.loop-list.list-index c.loop-list.areas c.loop-list.lists c.loop-list-test.false c.loop-list.invariant,
+)

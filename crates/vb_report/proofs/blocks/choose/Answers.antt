@@ -9,19 +9,17 @@ take_blocks-requires-clause-drained c =
     drained_state c.args.pages.now c.drain.new.self c.drain.ensures.drained
 
 pub take_blocks-requires-clause-small : goal.take_blocks-requires-clause-small
-take_blocks-requires-clause-small c =
-    omega (
-      arith,
-      drained_pages c.args.pages.now c.drain.new.self c.drain.ensures.drained,
-      c.drain.ensures.small,
-    )
+take_blocks-requires-clause-small c = omega (
+  arith,
+  drained_pages c.args.pages.now c.drain.new.self c.drain.ensures.drained,
+  c.drain.ensures.small,
+)
 
 pub returns : goal.returns
 returns c =
     let f = chooses c.args.pages.now c.drain.new.self c.take_blocks.new.pages c.args.from c.args.room
     c.take_blocks.result.items c.drain.ensures.drained c.drain.ensures.same
-    c.take_blocks.ensures.chosen c.take_blocks.ensures.taken c.take_blocks.ensures.room in
-    record {
+    c.take_blocks.ensures.chosen c.take_blocks.ensures.taken c.take_blocks.ensures.room in record {
       chosen = f.chosen;
       count = f.count;
       taken = f.taken;

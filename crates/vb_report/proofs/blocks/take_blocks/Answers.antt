@@ -13,8 +13,7 @@ loop-count-init c =
     (taking_none c.args.pages.now c.args.from c.args.room c.requires.drained)
 
 pub overflow_add-next : goal.overflow_add-next
-overflow_add-next c =
-    let b : FreeBlock = c.in-Some.block in
+overflow_add-next c = let b : FreeBlock = c.in-Some.block in
     let small : 2 ^ b.order ≤ 512 = pow_small b.order c.in-Some.ensures.room.0.0 in
     let end : b.start + 2 ^ b.order ≤ page_count c.isolate.new.self = c.in-Some.ensures.room.2 in
     let more = taking_more c.args.pages.now c.loop-count.pages c.isolate.new.self c.args.from
@@ -24,12 +23,10 @@ overflow_add-next c =
     let pages : page_count c.isolate.new.self ≡ page_count c.args.pages.now =
     taking_pages c.args.pages.now c.isolate.new.self c.args.from c.args.room
     (b.start + 2 ^ b.order) (c.loop-count._count + 1) (c.loop-count.blocks.items ++ b ∷ []) more in
-    let few : page_count c.args.pages.now ≤ MAX_PAGES = c.requires.small in
-    omega arith
+    let few : page_count c.args.pages.now ≤ MAX_PAGES = c.requires.small in omega arith
 
 pub loop-count-preserved : goal.loop-count-preserved
-loop-count-preserved c =
-    let b : FreeBlock = c.in-Some.block in
+loop-count-preserved c = let b : FreeBlock = c.in-Some.block in
     let small : 2 ^ b.order ≤ 512 = pow_small b.order c.in-Some.ensures.room.0.0 in
     let end : b.start + 2 ^ b.order ≡ b.start + 1 * 2 ^ b.order % 4294967296 = omega arith in
     subst (λ (n : ℕ). IsTaking c.args.pages.now c.isolate.new.self c.args.from c.args.room n

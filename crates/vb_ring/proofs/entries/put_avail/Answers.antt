@@ -4,7 +4,6 @@ use Rattle.vb_ring.proofs.Puts.{puts_avail}
 use Rattle.vb_ring.proofs.entries.put_avail.Goals as goal
 
 pub returns-clause-puts : goal.returns-clause-puts
-returns-clause-puts g c =
-    puts_avail _ _ _ c.args.layout c.args.size c.args.next c.args.head
+returns-clause-puts g c = puts_avail _ _ _ c.args.layout c.args.size c.args.next c.args.head
     (put_at 2 _ _ _ _ _ _ _ c.write_u16.ensures.put (omega arith) refl)
     (put_at 2 _ _ _ _ _ _ _ c.write_u16-2.ensures.put (omega arith) refl)

@@ -12,16 +12,13 @@ claimed_is : (path : List ℕ) (h : ℕ) (old new : List (Option ℕ)) → lengt
     → ((k : ℕ) → k < length path → slice_index_or new (slice_index path k) None ≡ Some h)
     → ((i : ℕ) → ((k : ℕ) → k < length path → slice_index path k ≢ i)
     → slice_index_or new i None ≡ slice_index_or old i None) → new ≡ claimed path h old
-claimed_is path h old new len inside now others =
-    ext_get_or None new (claimed path h old)
-    (len ∙ sym (length-each_from 0 (λ i entry. if is_in i path then Some h else entry) old))
-    (λ i l.
+claimed_is path h old new len inside now others = ext_get_or None new (claimed path h old)
+    (len ∙ sym (length-each_from 0 (λ i entry. if is_in i path then Some h else entry) old)) (λ i l.
     at i (is_in i path) refl ∙ sym (claimed-at path h old i inside))
   where
     at : (i : ℕ) (b : Bool) → is_in i path ≡ b
         → slice_index_or new i None ≡ (if is_in i path then Some h else slice_index_or old i None)
-    at i true e =
-        let found = is_in-some path i e in
+    at i true e = let found = is_in-some path i e in
         ap (λ n. slice_index_or new n None) (sym found.2) ∙ now found.0 found.1
         ∙ ap (λ (b : Bool). if b then Some h else slice_index_or old i None) (sym e)
     at i false e = others i (λ k l. not_in path i k e l)

@@ -6,12 +6,10 @@ use Rattle.vb_ring.proofs.owners.release.Goals as goal
 
 -- a table whose entries are each freed or kept is the released one
 released_is : (h : ℕ) (old new : List (Option ℕ)) → length new ≡ length old
-    → ((k : ℕ) → k < length old
-    → slice_index_or new k None
+    → ((k : ℕ) → k < length old → slice_index_or new k None
     ≡ (if is_own h (slice_index_or old k None) then None else slice_index_or old k None))
     → new ≡ released h old
-released_is h old new len each =
-    ext_get_or None new (released h old)
+released_is h old new len each = ext_get_or None new (released h old)
     (len ∙ sym (length-map old (λ entry. if is_own h entry then None else entry))) (λ i l.
     each i (omega (arith, len)) ∙ sym (released-at h old i))
 

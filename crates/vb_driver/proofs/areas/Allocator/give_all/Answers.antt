@@ -1,36 +1,24 @@
-use Rattle.std.proofs.Common.{◌∙◌, sym, ap, arith, refl, ℕ, List, Bool, true, false, cond, length}
-use Rattle.std.{proofs.Common.{set, take, get_or}, proofs.lemmas.List.take_more}
-use Rattle.vb_model.specs.Pages.{Block}
+use Rattle.std.proofs.Common.{◌∙◌, sym, ap, arith, ℕ, List, Bool, true, false, cond, length, set}
+use Rattle.std.{proofs.Common.{take, get_or}, proofs.lemmas.List.take_more}
 use Rattle.vb_pages.{specs.Areas.block_at, specs.PageState.with_free_block}
-use Rattle.vb_driver.specs.Areas.{flags_of, is_free_at, is_covered, all_given}
-use Rattle.vb_driver.specs.Places.{marked}
+use Rattle.vb_driver.{specs.Areas.{flags_of, is_free_at, all_given}, specs.Places.marked}
 use Rattle.vb_driver.proofs.Placing.{is_in-at, length-marked, marked-get, marked_more, marked_none}
 use Rattle.vb_driver.proofs.Flags.{for_itself, for_both, not_before, given_more}
 use Rattle.vb_driver.proofs.areas.Allocator.give_all.Goals as goal
 
 pub loop-page-init : goal.loop-page-init
-loop-page-init c = (
-  record {
-    free = sym (marked_none true (flags_of c.args.self.now.free));
-    held = refl;
-    same = for_itself c.args.self.now.free;
-  },
-  refl,
-)
+loop-page-init c = grind (arith, marked_none, for_itself)
 
 pub give_free-requires-clause-unreserved : goal.give_free-requires-clause-unreserved
-give_free-requires-clause-unreserved c =
-    let i = c.loop-page.page-index in
-    omega (
-      arith,
-      c.loop-page.invariant.0.same.reserved,
-      c.requires.unreserved (get_or c.args.pages.now i 0)
-          (is_in-at c.args.pages.now i c.loop-page-test.true),
-    )
+give_free-requires-clause-unreserved c = let i = c.loop-page.page-index in omega (
+  arith,
+  c.loop-page.invariant.0.same.reserved,
+  c.requires.unreserved (get_or c.args.pages.now i 0)
+      (is_in-at c.args.pages.now i c.loop-page-test.true),
+)
 
 pub give_free-requires-clause-inside : goal.give_free-requires-clause-inside
-give_free-requires-clause-inside c =
-    let pages = c.args.pages.now in
+give_free-requires-clause-inside c = let pages = c.args.pages.now in
     let i = c.loop-page.page-index in
     let here = c.requires.inside (get_or pages i 0) (is_in-at pages i c.loop-page-test.true) in
     omega (
@@ -41,8 +29,7 @@ give_free-requires-clause-inside c =
     )
 
 pub give_free-requires-clause-taken : goal.give_free-requires-clause-taken
-give_free-requires-clause-taken c =
-    let pages = c.args.pages.now in
+give_free-requires-clause-taken c = let pages = c.args.pages.now in
     let i = c.loop-page.page-index in
     let x = get_or pages i 0 in
     let old = flags_of c.args.self.now.free in
@@ -54,16 +41,10 @@ give_free-requires-clause-taken c =
     ∙ c.requires.taken x (is_in-at pages i c.loop-page-test.true)))
 
 pub give_free-requires-clause-uncovered : goal.give_free-requires-clause-uncovered
-give_free-requires-clause-uncovered c =
-    let pages = c.args.pages.now in
-    let i = c.loop-page.page-index in
-    let x = get_or pages i 0 in
-    ap (λ (held : List Block). is_covered x held) c.loop-page.invariant.0.held
-    ∙ c.requires.uncovered x (is_in-at pages i c.loop-page-test.true)
+give_free-requires-clause-uncovered c = grind (arith, is_in-at)
 
 pub loop-page-preserved : goal.loop-page-preserved
-loop-page-preserved c =
-    let pages = c.args.pages.now in
+loop-page-preserved c = let pages = c.args.pages.now in
     let i = c.loop-page.page-index in
     let x = get_or pages i 0 in
     let old = c.args.self.now in
@@ -78,8 +59,7 @@ loop-page-preserved c =
         same = for_both old.free c.loop-page.self.free c.give_free.new.self.free
             c.loop-page.invariant.0.same c.give_free.ensures.state.same;
       },
-      c.give_free.ensures.areas
-          ∙ (ap (with_free_block (block_at x 0)) c.loop-page.invariant.1
+      c.give_free.ensures.areas ∙ (ap (with_free_block (block_at x 0)) c.loop-page.invariant.1
           ∙ (sym (given_more (take i pages) x old)
           ∙ ap (λ (l : List ℕ). all_given l old) (sym more))),
     )

@@ -1,14 +1,13 @@
-use Rattle.std.proofs.Common.{◌≡◌, ◌<◌, ◌≤◌, sym, subst, ℕ, true, false, length}
+use Rattle.std.proofs.Common.{arith, ◌≡◌, ◌<◌, ◌≤◌, sym, subst, ℕ, true, false, length}
 use Rattle.vb_model.{specs.Tests.is_in, specs.Pages.pages_of_all}
 use Rattle.vb_pages.specs.PageState.{PageState, reserved_count}
 use Rattle.vb_report.specs.Blocks.{blocks_of}
-use Rattle.vb_driver.{specs.Areas.{Becomes, flags_of, is_free_at, is_covered}, specs.Places.marked}
+use Rattle.vb_driver.specs.Areas.{flags_of, is_free_at, is_covered}
 use Rattle.vb_driver.proofs.ReportAreas.{have_room, given_blocks}
 use Rattle.vb_driver.proofs.areas.Allocator.give_blocks.Goals as goal
 
 pub give_all-requires : goal.give_all-requires
-give_all-requires c =
-    let s : PageState = c.self.inside.pages in
+give_all-requires c = let s : PageState = c.self.inside.pages in
     let blocks = c.args.blocks.now in
     let pages = pages_of_all (blocks_of blocks) in
     have_room s blocks c.pages_are_apart.ensures c.requires.blocks
@@ -19,13 +18,7 @@ give_all-requires c =
     (subst (λ (v : PageState). (page : ℕ) → is_in page pages ≡ true
     → is_free_at (flags_of v.free) page ≡ false) (sym c.self.view_is) c.requires.taken)
     (subst (λ (v : PageState). (page : ℕ) → is_in page pages ≡ true
-    → is_covered page v.held ≡ false) (sym c.self.view_is) c.requires.uncovered)
-    c.requires.once
+    → is_covered page v.held ≡ false) (sym c.self.view_is) c.requires.uncovered) c.requires.once
 
 pub returns-clause-state : goal.returns-clause-state
-returns-clause-state c =
-    let s : PageState = c.self.inside.pages in
-    let blocks = c.args.blocks.now in
-    subst (λ (v : PageState). Becomes v c.give_all.new.pages
-    (marked (pages_of_all (blocks_of blocks)) true (flags_of v.free)) v.held) c.self.view_is
-    (given_blocks s c.give_all.new.pages blocks c.give_all.ensures.given c.give_all.ensures.gained)
+returns-clause-state c = grind (arith, given_blocks)

@@ -1,9 +1,9 @@
-use Rattle.std.proofs.Common.{◌∙◌, sym, ap, subst, List, Ok, Err}
+use Rattle.std.proofs.Common.{arith, ◌∙◌, sym, ap, List, Ok}
 use Rattle.vb_model.{specs.Pages.{Block, pages_of, placed}, specs.declared.places.Place.Place}
 use Rattle.vb_model.specs.declared.places.Place.TheVariants.{Used}
 use Rattle.vb_driver.proofs.Owning.{whole_is, alloc_tests_same, free_block_inside, allocated_kept}
-use Rattle.vb_driver.{specs.Answers.block_at, specs.State.{DriverState, IsDriver}}
-use Rattle.vb_driver.{specs.Areas.flags_of, specs.Calls.AllocatesBy, proofs.Owning.unallocated_kept}
+use Rattle.vb_driver.{proofs.Owning.unallocated_kept, specs.Answers.block_at, specs.Areas.flags_of}
+use Rattle.vb_driver.{specs.State.DriverState, specs.Calls.AllocatesBy}
 use Rattle.vb_driver.specs.contracts.driver.Driver.{the_view}
 use Rattle.vb_driver.proofs.driver.Driver.alloc.Goals as goal
 
@@ -13,22 +13,15 @@ set_block-requires-clause-inside c =
     c.self.invariant c.in-Ok.ensures.free
 
 pub invariant_of-self : goal.invariant_of-self
-invariant_of-self c =
-    let d = the_view c.self.inside in
+invariant_of-self c = let d = the_view c.self.inside in
     let new = c.alloc.new.self in
     let b = block_at c.in-Ok.start c.args.order in
     let becomes = c.in-Ok.ensures.state in
     let kept = allocated_kept d new.free b c.self.invariant c.in-Ok.ensures.free becomes.free
-    becomes.same in
-    subst (λ (v : List Place). IsDriver
-    (record d { places = v; held = new.held; areas = new.free })) (sym c.set_block.ensures)
-    (subst (λ (v : List Block). IsDriver
-    (record d { places = placed (pages_of b) Used d.places; held = v; areas = new.free }))
-    (sym becomes.held) kept)
+    becomes.same in rw c.set_block.ensures (rw becomes.held kept)
 
 pub returns-in-Ok : goal.returns-in-Ok
-returns-in-Ok c =
-    let d = the_view c.self.inside in
+returns-in-Ok c = let d = the_view c.self.inside in
     let areas = c.alloc.new.self in
     let start = c.in-Ok.start in
     let order = c.args.order in
@@ -47,29 +40,10 @@ returns-in-Ok c =
           { places = placed (pages_of b) Used d.places; held = v; areas = areas.free })
           c.in-Ok.ensures.state.held;
       areas = c.in-Ok.ensures.areas;
-    } in
-    subst (λ (v : DriverState). AllocatesBy v new c.args.cpu order (Ok start)) c.self.view_is
-    allocates
+    } in rw (← c.self.view_is) allocates
 
 pub invariant_of-self-in-Err : goal.invariant_of-self-in-Err
-invariant_of-self-in-Err c =
-    unallocated_kept (the_view c.self.inside) c.alloc.new.self c.self.invariant
-    c.in-Err.ensures.refused
+invariant_of-self-in-Err c = grind (arith, unallocated_kept)
 
 pub returns-in-Err : goal.returns-in-Err
-returns-in-Err c =
-    let d = the_view c.self.inside in
-    let areas = c.alloc.new.self in
-    let new : DriverState = record d { held = areas.held; areas = areas.free } in
-    let allocates : AllocatesBy d new c.args.cpu c.args.order (Err c.in-Err.refusal) = record {
-      driver = c.self.invariant;
-      refusal = c.in-Err.ensures.refusal
-          ∙ alloc_tests_same d c.args.cpu c.args.order c.self.invariant;
-      refused = ap (λ (v : List Block). record d { held = v; areas = areas.free })
-          c.in-Err.ensures.refused.held;
-      free = tt;
-      state = tt;
-      areas = c.in-Err.ensures.areas;
-    } in
-    subst (λ (v : DriverState). AllocatesBy v new c.args.cpu c.args.order (Err c.in-Err.refusal))
-    c.self.view_is allocates
+returns-in-Err c = grind (arith, alloc_tests_same)

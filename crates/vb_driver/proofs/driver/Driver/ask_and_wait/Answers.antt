@@ -1,11 +1,9 @@
-use Rattle.std.proofs.Common.{◌≡◌, ◌∙◌, sym, ap, subst, refl, ℕ, Bool, List, true}
-use Rattle.std.specs.Prelude.{if◌then◌else◌}
+use Rattle.std.proofs.Common.{arith, ◌≡◌, sym, subst, ℕ, List, true}
 use Rattle.vb_model.{specs.declared.places.Place.TheVariants.Taking, specs.Pages.placed}
 use Rattle.vb_model.{specs.Requests.{Deflating, place_posted}, specs.declared.places.Place.Place}
-use Rattle.vb_driver.specs.State.{RequestSide, DriverState, IsDriver, page_state, tells_host}
-use Rattle.vb_driver.{specs.Areas.all_given, specs.contracts.driver.Driver.the_view}
-use Rattle.vb_driver.specs.Calls.{Posts, AsksBack, lowest_lent, areas_asked}
-use Rattle.vb_driver.proofs.Moving.{asked_kept}
+use Rattle.vb_driver.specs.State.{RequestSide, DriverState, IsDriver, tells_host}
+use Rattle.vb_driver.{specs.contracts.driver.Driver.the_view, proofs.Moving.asked_kept}
+use Rattle.vb_driver.specs.Calls.{Posts, lowest_lent, areas_asked}
 use Rattle.vb_driver.proofs.driver.Driver.ask_and_wait.Goals as goal
 
 -- where the host is told first, the pages are taking, and no area changes
@@ -16,16 +14,10 @@ waits : (d : DriverState) (e2 : RequestSide) (pages : List ℕ) → tells_host d
       areas = areas_asked pages d;
       deflate = e2;
     }
-waits d e2 pages told =
-    ap (λ (b : Bool). record d {
-      places = placed pages (place_posted b Deflating) d.places;
-      areas = if b then d.areas else (all_given pages (page_state d)).free;
-      deflate = e2;
-    }) (sym told)
+waits d e2 pages told = grind arith
 
 pub invariant_of-self : goal.invariant_of-self
-invariant_of-self g c =
-    let d = the_view c.self.inside in
+invariant_of-self g c = let d = the_view c.self.inside in
     let m1 = g.P.GuestBytes.mem c.args.port.now in
     let m2 = g.P.GuestBytes.mem c.post-head.new.ram in
     let lowest : c.take_lowest_lent.new.pages.items ≡ lowest_lent d c.args.count =
@@ -42,31 +34,4 @@ invariant_of-self g c =
     posts)
 
 pub returns : goal.returns
-returns g c =
-    let d = the_view c.self.inside in
-    let told : tells_host d ≡ true = ap tells_host c.self.view_is ∙ c.requires.told in
-    let m1 = g.P.GuestBytes.mem c.args.port.now in
-    let m2 = g.P.GuestBytes.mem c.post-head.new.ram in
-    let lowest : c.take_lowest_lent.new.pages.items ≡ lowest_lent d c.args.count =
-    c.take_lowest_lent.ensures.pages in
-    let placed_is : c.take_lowest_lent.new.self
-    ≡ placed (lowest_lent d c.args.count) Taking d.places = c.take_lowest_lent.ensures.moved in
-    let posts : Posts m1 m2 d.deflate c.post-head.new.self 8 (lowest_lent d c.args.count)
-    c.post-head.result = subst
-    (λ (l : List ℕ). Posts m1 m2 d.deflate c.post-head.new.self 8 l c.post-head.result) lowest
-    c.post-head.ensures.posts in
-    let new : DriverState =
-    record d { places = c.take_lowest_lent.new.self; deflate = c.post-head.new.self } in
-    let asks : AsksBack m1 m2 (g.P.GuestBytes.part c.args.port.now)
-    (g.P.GuestBytes.part c.post-head.new.ram) d new c.args.count
-    (record { head = c.post-head.result; pages = c.args.count }) = record {
-      posts = posts;
-      pages = refl;
-      part = c.post-head.ensures.part;
-      state = ap (λ (ps : List Place). record d { places = ps; deflate = c.post-head.new.self })
-          placed_is
-          ∙ waits d c.post-head.new.self (lowest_lent d c.args.count) told;
-    } in
-    subst (λ (v : DriverState). AsksBack m1 m2 (g.P.GuestBytes.part c.args.port.now)
-    (g.P.GuestBytes.part c.post-head.new.ram) v new c.args.count
-    (record { head = c.post-head.result; pages = c.args.count })) c.self.view_is asks
+returns g c = grind (arith, waits)

@@ -1,29 +1,18 @@
-use Rattle.std.proofs.Common.{sym, subst, List, length}
-use Rattle.vb_model.{specs.Pages.{Block, pages_of, placed}, specs.declared.places.Place.Place}
-use Rattle.vb_model.specs.declared.places.Place.TheVariants.{Free}
+use Rattle.std.proofs.Common.{length}
 use Rattle.vb_driver.{specs.Answers.block_at, specs.contracts.driver.Driver.the_view}
 use Rattle.vb_driver.proofs.Owning.{freed_was_held, held_block_inside, block_freed_kept}
-use Rattle.vb_driver.specs.State.{IsDriver}
 use Rattle.vb_driver.proofs.driver.Driver.free.Goals as goal
 
 pub set_block-requires-clause-inside : goal.set_block-requires-clause-inside
-set_block-requires-clause-inside c =
-    let d = the_view c.self.inside in
-    let b = block_at c.args.start c.args.order in
-    held_block_inside d b c.self.invariant
+set_block-requires-clause-inside c = let d = the_view c.self.inside in
+    let b = block_at c.args.start c.args.order in held_block_inside d b c.self.invariant
     (freed_was_held d.held b (length d.areas.lists) _ c.in-Ok.ensures.refusal)
 
 pub invariant_of-self : goal.invariant_of-self
-invariant_of-self c =
-    let d = the_view c.self.inside in
+invariant_of-self c = let d = the_view c.self.inside in
     let new = c.free.new.self in
     let b = block_at c.args.start c.args.order in
     let becomes = c.in-Ok.ensures.state in
     let kept = block_freed_kept d new b c.self.invariant
     (freed_was_held d.held b (length d.areas.lists) _ c.in-Ok.ensures.refusal) becomes.free
-    becomes.held becomes.same c.in-Ok.ensures.apart in
-    subst (λ (v : List Place). IsDriver
-    (record d { places = v; held = new.held; areas = new.free })) (sym c.set_block.ensures)
-    (subst (λ (v : List Block). IsDriver
-    (record d { places = placed (pages_of b) Free d.places; held = v; areas = new.free }))
-    (sym becomes.held) kept)
+    becomes.held becomes.same c.in-Ok.ensures.apart in rw c.set_block.ensures (rw becomes.held kept)

@@ -1,77 +1,41 @@
-use Rattle.std.proofs.Common.{◌≡◌, ◌≤◌, ◌∙◌, sym, ap, subst, refl, List, true}
-use Rattle.vb_model.{specs.Tests.is_in, specs.Orderly.times, specs.declared.places.Place.Place}
+use Rattle.std.proofs.Common.{◌≡◌, ◌∙◌, sym, ap, refl, rules, ℕ, List, true}
+use Rattle.vb_model.{specs.declared.places.Place.TheVariants.{Free, Reporting}, specs.Tests.is_in}
 use Rattle.vb_model.specs.Pages.{Block, pages_of_all, placed}
-use Rattle.vb_model.specs.declared.places.Place.TheVariants.{Free, Reporting}
 use Rattle.vb_report.specs.Blocks.{blocks_of}
-use Rattle.vb_driver.proofs.Moving.{place_uncovered, place_unfree, place_inside, place_unreserved}
 use Rattle.vb_driver.proofs.ReportMoves.{reported_place, reported_once, returned_kept}
-use Rattle.vb_driver.{specs.State.{ReportSide, IsReportQueue, IsDriver}, specs.Areas.flags_of}
-use Rattle.vb_driver.{specs.contracts.driver.Driver.the_view, specs.Places.marked}
+use Rattle.vb_driver.specs.State.{ReportSide, IsReportQueue, IsDriver, DriverState}
+use Rattle.vb_driver.{specs.Areas.flags_of, proofs.Moving.{IsOut, is_out}, specs.Places.marked}
+use Rattle.vb_driver.specs.contracts.driver.Driver.{the_view}
 use Rattle.vb_driver.proofs.ReportTables.{taken_report_queue}
 use Rattle.vb_driver.proofs.driver.Driver.reap_reported.Goals as goal
 
-pub give_blocks-requires-clause-unreserved : goal.give_blocks-requires-clause-unreserved
-give_blocks-requires-clause-unreserved g c p found =
-    let d = the_view c.self.inside in
-    let next = rw c.in-Ok-Some.field-0-is at c.in-Ok-Some.ensures.next in
-    let blocks : blocks_of c.deref.result.now ≡ d.report.blocks =
-    ap blocks_of c.deref.ensures.0 ∙ next.2 in
-    let here : is_in p (pages_of_all d.report.blocks) ≡ true =
-    ap (λ (l : List Block). is_in p (pages_of_all l)) (sym blocks) ∙ found in
-    place_unreserved d p Reporting c.self.invariant refl (reported_place d p c.self.invariant here)
+out_again : (d : DriverState) (p : ℕ) (blocks : List Block) → IsDriver d → blocks ≡ d.report.blocks
+    → is_in p (pages_of_all blocks) ≡ true → IsOut d p
+out_again d p blocks kept is found = is_out d p Reporting kept refl refl refl
+    (reported_place d p kept (ap (λ (l : List Block). is_in p (pages_of_all l)) (sym is) ∙ found))
 
-pub give_blocks-requires-clause-inside : goal.give_blocks-requires-clause-inside
-give_blocks-requires-clause-inside g c p found =
-    let d = the_view c.self.inside in
+pub give_blocks-requires : goal.give_blocks-requires
+give_blocks-requires g c = let d = the_view c.self.inside in
     let next = rw c.in-Ok-Some.field-0-is at c.in-Ok-Some.ensures.next in
     let blocks : blocks_of c.deref.result.now ≡ d.report.blocks =
     ap blocks_of c.deref.ensures.0 ∙ next.2 in
-    let here : is_in p (pages_of_all d.report.blocks) ≡ true =
-    ap (λ (l : List Block). is_in p (pages_of_all l)) (sym blocks) ∙ found in
-    (place_inside d p Reporting c.self.invariant refl (reported_place d p c.self.invariant here)).0
-
-pub give_blocks-requires-clause-taken : goal.give_blocks-requires-clause-taken
-give_blocks-requires-clause-taken g c p found =
-    let d = the_view c.self.inside in
-    let next = rw c.in-Ok-Some.field-0-is at c.in-Ok-Some.ensures.next in
-    let blocks : blocks_of c.deref.result.now ≡ d.report.blocks =
-    ap blocks_of c.deref.ensures.0 ∙ next.2 in
-    let here : is_in p (pages_of_all d.report.blocks) ≡ true =
-    ap (λ (l : List Block). is_in p (pages_of_all l)) (sym blocks) ∙ found in
-    place_unfree d p Reporting c.self.invariant refl (reported_place d p c.self.invariant here)
-
-pub give_blocks-requires-clause-uncovered : goal.give_blocks-requires-clause-uncovered
-give_blocks-requires-clause-uncovered g c p found =
-    let d = the_view c.self.inside in
-    let next = rw c.in-Ok-Some.field-0-is at c.in-Ok-Some.ensures.next in
-    let blocks : blocks_of c.deref.result.now ≡ d.report.blocks =
-    ap blocks_of c.deref.ensures.0 ∙ next.2 in
-    let here : is_in p (pages_of_all d.report.blocks) ≡ true =
-    ap (λ (l : List Block). is_in p (pages_of_all l)) (sym blocks) ∙ found in
-    place_uncovered d p Reporting c.self.invariant refl (reported_place d p c.self.invariant here)
-
-pub give_blocks-requires-clause-once : goal.give_blocks-requires-clause-once
-give_blocks-requires-clause-once g c p =
-    let d = the_view c.self.inside in
-    let next = rw c.in-Ok-Some.field-0-is at c.in-Ok-Some.ensures.next in
-    let blocks : blocks_of c.deref.result.now ≡ d.report.blocks =
-    ap blocks_of c.deref.ensures.0 ∙ next.2 in
-    subst (λ (l : List Block). times p (pages_of_all l) ≤ 1) (sym blocks)
-    (reported_once d p c.self.invariant)
+    let out = λ (p : ℕ). out_again d p (blocks_of c.deref.result.now) c.self.invariant blocks in record {
+      blocks = search rules;
+      unreserved = λ p found. (out p found).unreserved;
+      inside = λ p found. (out p found).inside;
+      taken = λ p found. (out p found).taken;
+      uncovered = λ p found. (out p found).uncovered;
+      once = λ p. rw blocks (reported_once d p c.self.invariant);
+    }
 
 pub set_blocks-requires-clause-inside : goal.set_blocks-requires-clause-inside
-set_blocks-requires-clause-inside g c p found =
-    let d = the_view c.self.inside in
+set_blocks-requires-clause-inside g c p found = let d = the_view c.self.inside in
     let next = rw c.in-Ok-Some.field-0-is at c.in-Ok-Some.ensures.next in
-    let blocks : blocks_of c.deref-2.result.now ≡ d.report.blocks =
-    ap blocks_of c.deref-2.ensures.0 ∙ next.2 in
-    let here : is_in p (pages_of_all d.report.blocks) ≡ true =
-    ap (λ (l : List Block). is_in p (pages_of_all l)) (sym blocks) ∙ found in
-    (place_inside d p Reporting c.self.invariant refl (reported_place d p c.self.invariant here)).1
+    (out_again d p (blocks_of c.deref-2.result.now) c.self.invariant
+    (ap blocks_of c.deref-2.ensures.0 ∙ next.2) found).there
 
 pub invariant_of-self-2 : goal.invariant_of-self-2
-invariant_of-self-2 g c =
-    let d = the_view c.self.inside in
+invariant_of-self-2 g c = let d = the_view c.self.inside in
     let areas2 = c.give_blocks.new.self in
     let r2 = c.take_report_back.new.report in
     let next = rw c.in-Ok-Some.field-0-is at c.in-Ok-Some.ensures.next in
@@ -80,24 +44,13 @@ invariant_of-self-2 g c =
     let freed : blocks_of c.deref-2.result.now ≡ d.report.blocks =
     ap blocks_of c.deref-2.ensures.0 ∙ next.2 in
     let moved : c.set_blocks.new.self ≡ placed (pages_of_all d.report.blocks) Free d.places =
-    c.set_blocks.ensures
-    ∙ ap (λ (l : List Block). placed (pages_of_all l) Free d.places) freed in
+    c.set_blocks.ensures ∙ ap (λ (l : List Block). placed (pages_of_all l) Free d.places) freed in
     let free : flags_of areas2.free
     ≡ marked (pages_of_all d.report.blocks) true (flags_of d.areas) =
     c.give_blocks.ensures.state.free
     ∙ ap (λ (l : List Block). marked (pages_of_all l) true (flags_of d.areas)) given in
-    let queue : IsReportQueue r2 d.queue_size =
-    subst (λ (v : ReportSide). IsReportQueue v d.queue_size) (sym next.3)
+    let queue : IsReportQueue r2 d.queue_size = rw next.3
     (taken_report_queue d.report d.queue_size c.in-Ok-Some.used.0 _ c.self.invariant.report next.1
-    refl) in
-    subst (λ (v : List Place). IsDriver
-    (record d { places = v; held = areas2.held; areas = areas2.free; report = r2 })) (sym moved)
-    (subst (λ (v : List Block). IsDriver
-    (record d {
-      places = placed (pages_of_all d.report.blocks) Free d.places;
-      held = v;
-      areas = areas2.free;
-      report = r2;
-    })) (sym c.give_blocks.ensures.state.held)
+    refl) in rw moved (rw c.give_blocks.ensures.state.held
     (returned_kept d areas2.free r2 c.self.invariant free c.give_blocks.ensures.state.same
     queue (ap (λ (s : ReportSide). s.blocks) next.3)))

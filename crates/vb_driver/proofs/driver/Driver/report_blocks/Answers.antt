@@ -1,45 +1,22 @@
-use Rattle.std.proofs.Common.{◌≡◌, ◌∙◌, sym, ap, subst, refl, ℕ, List, true, false}
-use Rattle.vb_model.{specs.Tests.is_in, specs.Driver.AllDistinct, specs.declared.places.Place.Place}
-use Rattle.vb_model.specs.Pages.{Block, pages_of_all, placed}
-use Rattle.vb_model.specs.declared.places.Place.TheVariants.{Reporting}
-use Rattle.vb_pages.{specs.declared.block.FreeBlock.FreeBlock, specs.FreePages.drained}
-use Rattle.vb_pages.specs.PageState.{PageState}
+use Rattle.std.proofs.Common.{arith, ◌≡◌, ◌∙◌, sym, ap, ℕ, List, true, false}
+use Rattle.vb_model.{specs.declared.places.Place.TheVariants.Reporting, specs.Driver.AllDistinct}
+use Rattle.vb_model.{specs.Pages.{Block, pages_of_all, placed}, specs.Tests.is_in}
+use Rattle.vb_pages.specs.declared.block.FreeBlock.{FreeBlock}
 use Rattle.vb_report.specs.Blocks.{blocks_of}
 use Rattle.vb_driver.{specs.Areas.{flags_of, is_free_at}, specs.Places.marked}
-use Rattle.vb_driver.specs.State.{ReportSide, DriverState, IsReportQueue, IsDriver, page_state}
-use Rattle.vb_driver.{specs.contracts.driver.Driver.the_view, proofs.Owning.unallocated_kept}
+use Rattle.vb_driver.{specs.State.{ReportSide, IsReportQueue}, proofs.Owning.unallocated_kept}
+use Rattle.vb_driver.{specs.contracts.driver.Driver.the_view, proofs.ReportMoves.reported_kept}
 use Rattle.vb_driver.proofs.ReportAreas.{no_blocks, none_chosen, only_drained}
-use Rattle.vb_driver.proofs.ReportMoves.{reported_kept}
 use Rattle.vb_driver.proofs.driver.Driver.report_blocks.Goals as goal
 
 pub invariant_of-self : goal.invariant_of-self
-invariant_of-self g c =
-    let d = the_view c.self.inside in
-    let new = c.choose-blocks.new.self in
-    let none = no_blocks c.choose-blocks.result.items
-    (sym c.is_empty.ensures ∙ c.if-is_empty.true) in
-    unallocated_kept d new c.self.invariant
-    (none_chosen (page_state d) new c.choose-blocks.result.items none c.choose-blocks.ensures.state)
+invariant_of-self g c = grind (arith, no_blocks, unallocated_kept, none_chosen)
 
 pub returns-then-is_empty-clause-refused : goal.returns-then-is_empty-clause-refused
-returns-then-is_empty-clause-refused g c =
-    let d = the_view c.self.inside in
-    let new = c.choose-blocks.new.self in
-    let none = no_blocks c.choose-blocks.result.items
-    (sym c.is_empty.ensures ∙ c.if-is_empty.true) in
-    let is : new ≡ record (page_state d) { free = drained d.areas } =
-    only_drained (page_state d) new c.choose-blocks.result.items none
-    c.choose-blocks.ensures.areas in
-    record {
-      mem = refl;
-      part = refl;
-      driver = ap (λ (s : PageState). record d { held = s.held; areas = s.free }) is
-          ∙ ap (λ (v : DriverState). record v { areas = drained v.areas }) c.self.view_is;
-    }
+returns-then-is_empty-clause-refused g c = grind (arith, no_blocks, only_drained)
 
 pub invariant_of-self-2 : goal.invariant_of-self-2
-invariant_of-self-2 g c =
-    let d = the_view c.self.inside in
+invariant_of-self-2 g c = let d = the_view c.self.inside in
     let new = c.choose-blocks.new.self in
     let r2 = c.post-head.new.self in
     let blocks = blocks_of c.choose-blocks.result.items in
@@ -48,29 +25,16 @@ invariant_of-self-2 g c =
     let moved : c.set_blocks.new.self ≡ placed (pages_of_all r2.blocks) Reporting d.places =
     c.set_blocks.ensures
     ∙ (ap (λ (l : List FreeBlock). placed (pages_of_all (blocks_of l)) Reporting d.places)
-    c.deref.ensures.0
-    ∙ ap (λ (l : List Block). placed (pages_of_all l) Reporting d.places) same) in
+    c.deref.ensures.0 ∙ ap (λ (l : List Block). placed (pages_of_all l) Reporting d.places) same) in
     let free : (p : ℕ) → is_in p (pages_of_all r2.blocks) ≡ true
-    → is_free_at (flags_of d.areas) p ≡ true =
-    subst (λ (l : List Block). (p : ℕ) → is_in p (pages_of_all l) ≡ true
-    → is_free_at (flags_of d.areas) p ≡ true) same c.choose-blocks.ensures.free in
-    let distinct : AllDistinct (pages_of_all r2.blocks) =
-    subst (λ (l : List Block). AllDistinct (pages_of_all l)) same
+    → is_free_at (flags_of d.areas) p ≡ true = rw (← same) c.choose-blocks.ensures.free in
+    let distinct : AllDistinct (pages_of_all r2.blocks) = rw (← same)
     c.choose-blocks.ensures.distinct in
     let taken : flags_of new.free ≡ marked (pages_of_all r2.blocks) false (flags_of d.areas) =
     c.choose-blocks.ensures.state.free
     ∙ ap (λ (l : List Block). marked (pages_of_all l) false (flags_of d.areas)) same in
     let queue : IsReportQueue r2 d.queue_size =
-    subst (λ (n : ℕ). IsReportQueue r2 n) c.self.invariant.report.size
-    c.post-head.ensures.queue in
-    subst (λ (v : List Place). IsDriver
-    (record d { places = v; held = new.held; areas = new.free; report = r2 })) (sym moved)
-    (subst (λ (v : List Block). IsDriver
-    (record d {
-      places = placed (pages_of_all r2.blocks) Reporting d.places;
-      held = v;
-      areas = new.free;
-      report = r2;
-    })) (sym c.choose-blocks.ensures.state.held)
+    rw (← c.self.invariant.report.size) c.post-head.ensures.queue in rw moved
+    (rw c.choose-blocks.ensures.state.held
     (reported_kept d new.free r2 c.self.invariant free distinct taken
     c.choose-blocks.ensures.state.same queue))

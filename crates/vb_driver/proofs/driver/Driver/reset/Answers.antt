@@ -1,68 +1,48 @@
 use Rattle.std.{specs.Prelude.{◌≡◌, true}, proofs.lemmas.List.length-map}
-use Rattle.std.proofs.Common.{◌∙◌, sym, ap, subst, refl, List, map, length}
+use Rattle.std.proofs.Common.{◌∙◌, sym, ap, subst, refl, ℕ, List, map, length}
 use Rattle.vb_model.{specs.Tests.pages_where, specs.Pages.{Block, place_of, is_free, is_reporting}}
 use Rattle.vb_model.{specs.Life.place_after_reset, specs.declared.places.Place.Place}
 use Rattle.vb_model.specs.declared.places.Place.TheVariants.{Reporting}
 use Rattle.vb_status.specs.Bits.{feature_bits}
-use Rattle.vb_driver.{specs.Areas.{AreFor, flags_of}, specs.Calls.with_nothing_out}
-use Rattle.vb_driver.{specs.Places.marked, specs.State.{DriverState, IsDriver}}
-use Rattle.vb_driver.{specs.contracts.driver.Driver.the_view, proofs.Counting.at_is}
-use Rattle.vb_driver.proofs.Moving.{reset_kept, place_uncovered, place_unfree, place_unreserved}
+use Rattle.vb_driver.{specs.contracts.driver.Driver.the_view, specs.State.{DriverState, IsDriver}}
+use Rattle.vb_driver.{proofs.Moving.{reset_kept, is_out}, specs.Areas.{AreFor, flags_of}}
+use Rattle.vb_driver.{specs.Calls.with_nothing_out, proofs.Counting.at_is, specs.Places.marked}
 use Rattle.vb_driver.proofs.driver.Driver.reset.Goals as goal
 
-pub give_reported-requires-clause-table : goal.give_reported-requires-clause-table
-give_reported-requires-clause-table g c =
-    let d = the_view c.self.inside in
-    sym (ap length c.self.invariant.free ∙ length-map d.places is_free)
-
-pub give_reported-requires-clause-unreserved : goal.give_reported-requires-clause-unreserved
-give_reported-requires-clause-unreserved g c p here =
-    let d = the_view c.self.inside in
-    place_unreserved d p Reporting c.self.invariant refl (at_is Reporting (place_of d.places p) here)
-
-pub give_reported-requires-clause-taken : goal.give_reported-requires-clause-taken
-give_reported-requires-clause-taken g c p here =
-    let d = the_view c.self.inside in
-    place_unfree d p Reporting c.self.invariant refl (at_is Reporting (place_of d.places p) here)
-
-pub give_reported-requires-clause-uncovered : goal.give_reported-requires-clause-uncovered
-give_reported-requires-clause-uncovered g c p here =
-    let d = the_view c.self.inside in
-    place_uncovered d p Reporting c.self.invariant refl (at_is Reporting (place_of d.places p) here)
+pub give_reported-requires : goal.give_reported-requires
+give_reported-requires g c = let d = the_view c.self.inside in
+    let out = λ (p : ℕ) (here : is_reporting (place_of d.places p) ≡ true).
+    is_out d p Reporting c.self.invariant refl refl refl (at_is Reporting _ here) in record {
+      table = sym (ap length c.self.invariant.free ∙ length-map d.places is_free);
+      unreserved = λ p here. (out p here).unreserved;
+      taken = λ p here. (out p here).taken;
+      uncovered = λ p here. (out p here).uncovered;
+    }
 
 pub invariant_of-self : goal.invariant_of-self
-invariant_of-self g c =
-    let d = the_view c.self.inside in
+invariant_of-self g c = let d = the_view c.self.inside in
     let areas2 = c.give_reported.new.self in
     let f = feature_bits c.empty-self-inside.result in
     let given = c.give_reported.ensures.state in
-    let renewed : d ≡ with_nothing_out c.args.self.now =
-    c.self.view_is ∙ c.renew.ensures.state in
-    subst (λ (v : List Place). IsDriver
-    (record d {
+    let renewed : d ≡ with_nothing_out c.args.self.now = c.self.view_is ∙ c.renew.ensures.state in
+    subst (λ (v : List Place). IsDriver (record d {
       places = v;
       held = areas2.held;
       areas = areas2.free;
       features = f;
       actual = 0;
-    })) (sym c.strand.ensures)
-    (subst (λ (v : List Block). IsDriver
-    (record d {
+    })) (sym c.strand.ensures) (subst (λ (v : List Block). IsDriver (record d {
       places = map place_after_reset d.places;
       held = v;
       areas = areas2.free;
       features = f;
       actual = 0;
-    })) (sym given.held)
-    (subst (λ (v : DriverState). IsDriver
-    (record v {
+    })) (sym given.held) (subst (λ (v : DriverState). IsDriver (record v {
       places = map place_after_reset v.places;
       areas = areas2.free;
       features = f;
       actual = 0;
-    })) (sym renewed)
-    (reset_kept c.args.self.now areas2.free f c.renew.ensures.driver
+    })) (sym renewed) (reset_kept c.args.self.now areas2.free f c.renew.ensures.driver
     (subst (λ (v : DriverState). flags_of areas2.free
     ≡ marked (pages_where is_reporting v.places) true (flags_of v.areas)) renewed given.free)
-    (subst (λ (v : DriverState). AreFor v.areas areas2.free) renewed
-    given.same))))
+    (subst (λ (v : DriverState). AreFor v.areas areas2.free) renewed given.same))))

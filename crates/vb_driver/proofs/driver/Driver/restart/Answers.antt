@@ -6,9 +6,7 @@ use Rattle.vb_driver.{proofs.Moving.fresh_kept, proofs.Restarting.restarted}
 use Rattle.vb_driver.proofs.driver.Driver.restart.Goals as goal
 
 pub invariant_of-self : goal.invariant_of-self
-invariant_of-self g c =
-    let d = c.reset.ensures.driver in
-    subst IsDriver
+invariant_of-self g c = let d = c.reset.ensures.driver in subst IsDriver
     (sym (restarted c.args.self.now (the_view c.self.inside) c.renew.new.self
     c.reserved_pages.result c.renew-2.new.self c.self.invariant
     (c.self.view_is ∙ c.reset.ensures.state)

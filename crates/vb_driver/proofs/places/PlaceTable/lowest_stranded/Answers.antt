@@ -1,12 +1,6 @@
-use Rattle.std.proofs.Common.{◌∙◌, ap, take, List}
-use Rattle.vb_model.{specs.Tests.pages_where, specs.Pages.is_stranded}
-use Rattle.vb_model.specs.declared.places.Place.{Place}
+use Rattle.std.proofs.Common.{arith}
 use Rattle.vb_driver.proofs.Marking.{pages_of_set}
 use Rattle.vb_driver.proofs.places.PlaceTable.lowest_stranded.Goals as goal
 
 pub returns : goal.returns
-returns c =
-    c.lowest_in.ensures
-    ∙ (ap (take c.args.most) (pages_of_set is_stranded c.self.inside.stranded c.self.inside.places.items
-    c.self.invariant.are_sets.of_stranded)
-    ∙ ap (λ (l : List Place). take c.args.most (pages_where is_stranded l)) c.self.view_is)
+returns c = grind (arith, pages_of_set)

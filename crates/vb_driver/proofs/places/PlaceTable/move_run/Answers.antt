@@ -1,30 +1,23 @@
-use Rattle.std.proofs.Common.{◌≡◌, ◌∙◌, ◌+◌, ◌-◌, ◌++◌, sym, ap, subst, arith, ℕ, List, length}
-use Rattle.std.{proofs.Common.{take, drop, set, count_by, get_or}, proofs.lemmas.Bool.or_parts}
+use Rattle.std.proofs.Common.{◌≡◌, ◌∙◌, ◌+◌, ◌-◌, ◌++◌, sym, ap, arith, ℕ, List, length, take, drop}
+use Rattle.std.{proofs.Common.{set, count_by, get_or}, proofs.lemmas.Bool.or_parts}
 use Rattle.std.{proofs.Math.Seq.take-append_seam, specs.List.range_with_len}
 use Rattle.vb_model.specs.declared.places.Place.{Place}
 use Rattle.vb_model.specs.Pages.{placed, place_of, is_lent, is_stranded}
-use Rattle.vb_driver.{specs.Places.{is_at, IsTable}, proofs.Placing.{marked_one, length-marked}}
+use Rattle.vb_driver.{specs.Places.is_at, proofs.Placing.{marked_one, length-marked}}
 use Rattle.vb_driver.proofs.Runs.{AreAt, run_is, run_some, run_table}
 use Rattle.vb_driver.proofs.places.PlaceTable.move_run.Goals as goal
 
 pub returns-then-is_in_set-clause-moved : goal.returns-then-is_in_set-clause-moved
-returns-then-is_in_set-clause-moved c =
-    let one : c.args.start + 1 - c.args.start ≡ 1 = omega arith in
-    c.set.ensures
-    ∙ sym (ap (λ (n : ℕ). placed (range_with_len c.args.start n) c.args.place c.args.self.now) one
-    ∙ marked_one c.args.start c.args.place c.args.self.now
-    (omega (arith, c.requires.some, c.requires.inside)))
+returns-then-is_in_set-clause-moved c = grind (arith, marked_one)
 
 pub overflow_sub-self : goal.overflow_sub-self
-overflow_sub-self c =
-    let places = c.self.inside.places.items in
+overflow_sub-self c = let places = c.self.inside.places.items in
     let old = c.index-old.result.now in
     let size : length places ≡ length c.args.self.now = ap length c.self.view_is in
     let are : AreAt places c.args.start (c.end_of_run-next.result - c.args.start) old =
     run_is places c.args.start c.end_of_run-next.result old
     (omega (arith, c.end_of_run-next.ensures.from))
-    (omega (arith, c.end_of_run-next.ensures.bound, c.requires.inside))
-    c.index-old.ensures
+    (omega (arith, c.end_of_run-next.ensures.bound, c.requires.inside)) c.index-old.ensures
     (λ page from before. ap (λ (l : List Place). place_of l page) (sym c.deref.ensures.value)
     ∙ c.end_of_run-next.ensures.same page from before) in
     let own : get_or c.self.inside.counts c.number_of.result 0 ≡ count_by (is_at old) places =
@@ -33,25 +26,21 @@ overflow_sub-self c =
     omega (arith, run_some places c.args.start (c.end_of_run-next.result - c.args.start) old are)
 
 pub invariant_of-self : goal.invariant_of-self
-invariant_of-self c =
-    let places = c.self.inside.places.items in
+invariant_of-self c = let places = c.self.inside.places.items in
     let old = c.index-old.result.now in
     let new = c.args.place in
     let start = c.args.start in
     let n = c.end_of_run-next.result - start in
     let size : length places ≡ length c.args.self.now = ap length c.self.view_is in
-    let are : AreAt places start n old =
-    run_is places start c.end_of_run-next.result old
+    let are : AreAt places start n old = run_is places start c.end_of_run-next.result old
     (omega (arith, c.end_of_run-next.ensures.from))
-    (omega (arith, c.end_of_run-next.ensures.bound, c.requires.inside))
-    c.index-old.ensures
+    (omega (arith, c.end_of_run-next.ensures.bound, c.requires.inside)) c.index-old.ensures
     (λ page from before. ap (λ (l : List Place). place_of l page) (sym c.deref.ensures.value)
     ∙ c.end_of_run-next.ensures.same page from before) in
     let from = or_parts (is_lent old) (is_stranded old) (sym c.if-is_in_set.ensures) in
     let to = or_parts (is_lent new) (is_stranded new) (sym c.if-is_in_set-2.ensures) in
     let after : List Place = placed (range_with_len start n) new places in
-    let put : c.put_all.new.places ≡ after =
-    c.put_all.ensures
+    let put : c.put_all.new.places ≡ after = c.put_all.ensures
     ∙ ap (λ (l : List Place). placed (range_with_len start n) new l) c.deref_mut.ensures.value in
     let count : length c.put_all.new.places ≡ length places =
     ap (λ (l : List Place). length l) put ∙ length-marked (range_with_len start n) new places in
@@ -62,8 +51,6 @@ invariant_of-self c =
     ap (λ (k : ℕ). take k (c.put_all.new.places ++ drop (length c.put_all.new.places) places))
     (omega (arith, count, c.self.inside.places.ok))
     ∙ (take-append_seam c.put_all.new.places (drop (length c.put_all.new.places) places) ∙ put) in
-    subst (λ (l : List Place). IsTable (set mid c.number_of-2.result
-    (get_or mid c.number_of-2.result 0 + n)) c.self.inside.lent c.self.inside.stranded l) (sym now)
-    (run_table counts c.self.inside.lent c.self.inside.stranded places start n
+    rw now (run_table counts c.self.inside.lent c.self.inside.stranded places start n
     c.number_of.result c.number_of-2.result new old c.self.invariant are
     c.number_of.ensures c.number_of-2.ensures to.0 from.0 to.1 from.1)

@@ -10,8 +10,7 @@ loop-page-init c = sym (marked_none c.args.place c.args.self.now)
 pub set-requires : goal.set-requires
 set-requires c =
     let inside = c.requires (get_or c.args.pages.now c.loop-page.page-index 0)
-    (is_in-at c.args.pages.now c.loop-page.page-index c.loop-page-test.true) in
-    omega (
+    (is_in-at c.args.pages.now c.loop-page.page-index c.loop-page-test.true) in omega (
       arith,
       inside,
       ap (λ (l : List Place). length l) c.loop-page.invariant,
@@ -19,11 +18,9 @@ set-requires c =
     )
 
 pub loop-page-preserved : goal.loop-page-preserved
-loop-page-preserved c =
-    let i = c.loop-page.page-index in
+loop-page-preserved c = let i = c.loop-page.page-index in
     let x = get_or c.args.pages.now i 0 in
-    let inside = c.requires x (is_in-at c.args.pages.now i c.loop-page-test.true) in
-    c.set.ensures
+    let inside = c.requires x (is_in-at c.args.pages.now i c.loop-page-test.true) in c.set.ensures
     ∙ (ap (λ (l : List Place). set l x c.args.place) c.loop-page.invariant
     ∙ (sym (marked_more (take i c.args.pages.now) x c.args.place c.args.self.now inside)
     ∙ ap (λ (l : List ℕ). placed l c.args.place c.args.self.now)

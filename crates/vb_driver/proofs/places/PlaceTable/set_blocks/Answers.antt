@@ -1,9 +1,8 @@
-use Rattle.std.proofs.Common.{◌∙◌, sym, ap, arith, ℕ, List, length, take}
-use Rattle.vb_model.specs.Pages.{placed, pages_of, pages_of_all}
-use Rattle.vb_model.specs.declared.places.Place.{Place}
+use Rattle.std.proofs.Common.{sym, ap, arith, List, length, take}
+use Rattle.vb_model.{specs.Pages.pages_of_all, specs.declared.places.Place.Place}
 use Rattle.vb_report.specs.Blocks.{blocks_of}
-use Rattle.vb_driver.proofs.Placing.{length-marked, marked_none, marked_append}
 use Rattle.vb_driver.proofs.ReportTables.{order_of, block_inside_all, pages_more_blocks, block_in}
+use Rattle.vb_driver.proofs.Placing.{length-marked, marked_none, marked_append}
 use Rattle.vb_driver.proofs.ReportTables.{no_free_block}
 use Rattle.vb_driver.proofs.places.PlaceTable.set_blocks.Goals as goal
 
@@ -15,12 +14,10 @@ set_block-requires-clause-order c =
     order_of c.args.blocks.now c.loop-block.block-index c.requires.orders c.loop-block-test.true
 
 pub set_block-requires-clause-inside : goal.set_block-requires-clause-inside
-set_block-requires-clause-inside c =
-    let blocks = c.args.blocks.now in
+set_block-requires-clause-inside c = let blocks = c.args.blocks.now in
     let done = pages_of_all (blocks_of (take c.loop-block.block-index blocks)) in
     let there = block_inside_all blocks c.loop-block.block-index no_free_block (length c.args.self.now)
-    c.loop-block-test.true c.requires.inside in
-    omega (
+    c.loop-block-test.true c.requires.inside in omega (
       arith,
       there,
       ap (λ (l : List Place). length l) c.loop-block.invariant,
@@ -28,13 +25,4 @@ set_block-requires-clause-inside c =
     )
 
 pub loop-block-preserved : goal.loop-block-preserved
-loop-block-preserved c =
-    let blocks = c.args.blocks.now in
-    let i = c.loop-block.block-index in
-    let done = pages_of_all (blocks_of (take i blocks)) in
-    c.set_block.ensures
-    ∙ (ap (λ (l : List Place). placed (pages_of (block_in blocks i)) c.args.place l)
-    c.loop-block.invariant
-    ∙ (marked_append done (pages_of (block_in blocks i)) c.args.place c.args.self.now
-    ∙ ap (λ (l : List ℕ). placed l c.args.place c.args.self.now)
-    (sym (pages_more_blocks blocks i c.loop-block-test.true))))
+loop-block-preserved c = grind (arith, block_in, marked_append, pages_more_blocks)

@@ -13,6 +13,5 @@ set_all-requires c p here =
     there_by c.args.self.now p is_lent refl (lowest_is c.args.self.now c.args.most is_lent p there)
 
 pub returns-clause-moved : goal.returns-clause-moved
-returns-clause-moved c =
-    c.set_all.ensures ∙ ap (λ (l : List ℕ). placed l Taking c.args.self.now)
+returns-clause-moved c = c.set_all.ensures ∙ ap (λ (l : List ℕ). placed l Taking c.args.self.now)
     (c.deref.ensures.0 ∙ c.lowest_lent.ensures)

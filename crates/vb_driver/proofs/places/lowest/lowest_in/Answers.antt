@@ -1,5 +1,5 @@
-use Rattle.std.proofs.Common.{◌+◌, sym, subst, arith, ℕ, List}
-use Rattle.vb_driver.proofs.Marking.{AreFirst, first_more, first_all}
+use Rattle.std.proofs.Common.{arith}
+use Rattle.vb_driver.proofs.Marking.{first_more, first_all}
 use Rattle.vb_driver.proofs.places.lowest.lowest_in.Goals as goal
 
 pub returns-in-None : goal.returns-in-None
@@ -8,10 +8,4 @@ returns-in-None c =
     c.args.most c.loop-found.invariant c.in-None.ensures (omega (arith, c.loop-found-test.true))
 
 pub loop-found-preserved : goal.loop-found-preserved
-loop-found-preserved c =
-    let page = c.in-Some.page in
-    subst
-    (λ (items : List ℕ). AreFirst items c.args.set.now (page + 1) (c.loop-found._found + 1))
-    (sym c.push.ensures.items)
-    (first_more c.loop-found.lowest.items c.args.set.now c.loop-found.from c.loop-found._found page
-    c.loop-found.invariant c.in-Some.ensures)
+loop-found-preserved c = grind (arith, first_more)

@@ -3,81 +3,41 @@ use Rattle.std.{proofs.Common.{Ok, List, length, is_some}, proofs.Math.Nat.div-a
 use Rattle.vb_model.specs.Layout.{buffers_page, buffer_page, buffer_offset}
 use Rattle.vb_model.proofs.Shapes.{start_of_buffer}
 use Rattle.vb_ram.specs.Pages.{SameBut}
-use Rattle.vb_ring.{specs.declared.layout.Layout.Layout, specs.Layout.{IsSize, IsBacked}}
+use Rattle.vb_ring.{specs.declared.layout.Layout.Layout, specs.Layout.IsSize}
 use Rattle.vb_ring.specs.Ends.{DriverEnd, after_add, next_head}
-use Rattle.vb_driver.{specs.State.{RequestSide, AreRequests}, specs.Calls.Posts}
-use Rattle.vb_driver.{proofs.Buffers.names_at, proofs.Posting.{Sending, added_head, posts_by}}
+use Rattle.vb_driver.{specs.State.RequestSide, specs.Calls.Posts, proofs.Buffers.names_at}
+use Rattle.vb_driver.proofs.Posting.{Sending, added_head, posts_by}
 use Rattle.vb_driver.proofs.RequestTables.{head_there, head_small, requests_added_at, room_inside}
 use Rattle.vb_driver.proofs.Shapes.{IsBeside, ring_backed, buffers_between, buffers_beside}
 use Rattle.vb_driver.proofs.queue.RequestQueue.post.Goals as goal
 
 pub unreachable-requires : goal.unreachable-requires
-unreachable-requires g c =
-    let r = c.self.inside.ring in
-    let room = room_inside r c.self.inside.sent.items c.args.self.now c.self.view_is
-    c.requires.room in
-    head_there r c.self.invariant.single (omega arith)
-    (sym c.next_head.ensures.value ∙ c.in_default.is)
+unreachable-requires g c = grind (arith, room_inside, head_there)
 
 pub write_numbers-requires-clause-covers : goal.write_numbers-requires-clause-covers
 write_numbers-requires-clause-covers g c =
-    let r = c.self.inside.ring in
-    let h = c.in-Some.head in
-    let room = room_inside r c.self.inside.sent.items c.args.self.now c.self.view_is
-    c.requires.room in
-    let small : h < 16 = head_small r h c.self.invariant.single
-    (sym c.next_head.ensures.value ∙ c.in-Some.is) room in
-    let parts = div-add-mod h 4 in
-    let base = buffers_between c.args.queue in
-    record {
-      page = omega (arith, c.requires.memory, base.1, c.buffers_page.ensures, c.from.ensures);
-      bytes = omega (arith, c.from-offset.ensures, c.deref.ensures.1);
-    }
+    grind (arith, room_inside, head_small, div-add-mod, buffers_between)
 
 pub write_numbers-requires-clause-backed : goal.write_numbers-requires-clause-backed
 write_numbers-requires-clause-backed g c =
-    let r = c.self.inside.ring in
-    let h = c.in-Some.head in
-    let room = room_inside r c.self.inside.sent.items c.args.self.now c.self.view_is
-    c.requires.room in
-    let small : h < 16 = head_small r h c.self.invariant.single
-    (sym c.next_head.ensures.value ∙ c.in-Some.is) room in
-    let parts = div-add-mod h 4 in
-    let base = buffers_between c.args.queue in
-    let page : ℕ = c.buffers_page.result + c.from.result in
-    c.requires.backed page (start_of_buffer c.args.self.now.ring.size page
-    (omega (arith, base.0, c.buffers_page.ensures))
-    (omega (arith, base.1, c.buffers_page.ensures, c.from.ensures)))
+    grind (arith, room_inside, head_small, div-add-mod, buffers_between, start_of_buffer)
 
 pub add-requires-clause-backed : goal.add-requires-clause-backed
-add-requires-clause-backed g c =
-    let r = c.self.inside.ring in
+add-requires-clause-backed g c = let r = c.self.inside.ring in
     let n = c.args.self.now.ring.size in
     let m1 = g.G.GuestBytes.mem c.args.ram.now in
     let m2 = g.G.GuestBytes.mem c.write_numbers.new.ram in
     let ring_now : r ≡ c.args.self.now.ring = ap (λ (s : RequestSide). s.ring) c.self.view_is in
-    let sized : IsSize n =
-    subst (λ (v : DriverEnd). IsSize v.size) ring_now c.next_head.ensures.is_end.fits.size in
-    subst (λ (l : Layout). IsBacked m2 l)
-    (sym (ap (λ (v : DriverEnd). v.layout) ring_now ∙ c.requires.layout))
+    let sized : IsSize n = rw (← ring_now) c.next_head.ensures.is_end.fits.size in
+    rw (ap (λ (v : DriverEnd). v.layout) ring_now ∙ c.requires.layout)
     (ring_backed n c.args.queue m2 sized (λ page start.
     ap is_some (c.write_numbers.ensures.rest.backing page) ∙ c.requires.backed page start))
 
 pub index_mut-requires : goal.index_mut-requires
-index_mut-requires g c =
-    let r = c.self.inside.ring in
-    let h = c.in-Some.head in
-    let next : next_head r ≡ Some h = sym c.next_head.ensures.value ∙ c.in-Some.is in
-    let room = room_inside r c.self.inside.sent.items c.args.self.now c.self.view_is
-    c.requires.room in
-    let small : h < 16 = head_small r h c.self.invariant.single next room in
-    let same : h ≡ c.in-Ok.head =
-    added_head _ _ r c.add.new.self h c.in-Ok.head _ refl next c.in-Ok.ensures.adds in
-    omega (arith, c.from-3.ensures, c.self.invariant.buffers)
+index_mut-requires g c = grind (arith, room_inside, head_small, added_head)
 
 pub invariant_of-self : goal.invariant_of-self
-invariant_of-self g c =
-    let r = c.self.inside.ring in
+invariant_of-self g c = let r = c.self.inside.ring in
     let sent = c.self.inside.sent.items in
     let h = c.in-Some.head in
     let next : next_head r ≡ Some h = sym c.next_head.ensures.value ∙ c.in-Some.is in
@@ -87,16 +47,14 @@ invariant_of-self g c =
     added_head _ _ r c.add.new.self h c.in-Ok.head _ refl next c.in-Ok.ensures.adds in
     let state : c.add.new.self ≡ after_add r 1 (Ok h) =
     c.in-Ok.ensures.adds.state ∙ ap (λ (n : ℕ). after_add r 1 (Ok n)) (sym same) in
-    subst (λ (l : List ℕ). AreRequests
-    (record { ring = c.add.new.self; sent = set sent c.from-3.result l })) (sym c.keep.ensures)
+    rw c.keep.ensures
     (requests_added_at r c.add.new.self sent h c.from-3.result c.args.pages.now.items
     c.self.invariant c.next_head.ensures.is_end next small
     (omega (arith, ap (λ (l : List ℕ). length l) c.deref.ensures.0, c.deref.ensures.1)) state
     (c.from-3.ensures ∙ sym same))
 
 pub returns-clause-posts : goal.returns-clause-posts
-returns-clause-posts g c =
-    let r = c.self.inside.ring in
+returns-clause-posts g c = let r = c.self.inside.ring in
     let sent = c.self.inside.sent.items in
     let h = c.in-Some.head in
     let m1 = g.G.GuestBytes.mem c.args.ram.now in
@@ -115,8 +73,7 @@ returns-clause-posts g c =
     let wrote : SameBut m1 m2 (buffer_page base h) (buffer_offset h)
     (buffer_offset h + 4 * length pages) =
     subst (λ (n : ℕ). SameBut m1 m2 (buffer_page base h) (buffer_offset h)
-    (buffer_offset h + 4 * n)) size
-    (subst (λ (n : ℕ). SameBut m1 m2 (buffer_page base h) n
+    (buffer_offset h + 4 * n)) size (subst (λ (n : ℕ). SameBut m1 m2 (buffer_page base h) n
     (n + 4 * length c.deref.result.now)) at_offset
     (subst (λ (n : ℕ). SameBut m1 m2 n (1024 * c.from-offset.result)
     (1024 * c.from-offset.result + 4 * length c.deref.result.now)) at_page
@@ -139,14 +96,12 @@ returns-clause-posts g c =
       wrote = wrote;
       addr = omega (arith, at_page, at_offset, c.from-2.ensures);
       len = omega (arith, c.len.ensures.value);
-    } in
-    subst (λ (s : RequestSide). Posts m1 m3 s
+    } in subst (λ (s : RequestSide). Posts m1 m3 s
     (record { ring = c.add.new.self; sent = set sent c.from-3.result c.keep.new.self }) base pages
     c.in-Ok.head) c.self.view_is
     (subst (λ (l : List ℕ). Posts m1 m3 (record { ring = r; sent = sent })
     (record { ring = c.add.new.self; sent = set sent c.from-3.result l }) base pages c.in-Ok.head)
-    (sym c.keep.ensures)
-    (subst (λ (n : ℕ). Posts m1 m3 (record { ring = r; sent = sent })
+    (sym c.keep.ensures) (subst (λ (n : ℕ). Posts m1 m3 (record { ring = r; sent = sent })
     (record { ring = c.add.new.self; sent = set sent n pages }) base pages c.in-Ok.head)
     (sym c.from-3.ensures)
     (posts_by m1 m2 m3 r c.add.new.self sent base h c.in-Ok.head c.from-2.result

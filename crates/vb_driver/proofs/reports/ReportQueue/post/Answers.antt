@@ -1,44 +1,23 @@
-use Rattle.std.proofs.Common.{◌≡◌, ◌∙◌, sym, ap, subst, refl, arith, List, All, Ok}
-use Rattle.std.proofs.lemmas.List.{length-map}
-use Rattle.vb_ring.{specs.declared.layout.Layout.Layout, specs.Layout.IsBacked}
+use Rattle.std.{proofs.Common.{◌≡◌, ◌∙◌, ap, subst, arith, List}, proofs.lemmas.List.length-map}
 use Rattle.vb_pages.specs.declared.block.FreeBlock.{FreeBlock}
 use Rattle.vb_report.specs.Blocks.{block_of, blocks_of, pieces_of}
 use Rattle.vb_driver.proofs.ReportPosting.{reporting, same_head, nothing, answer_is, ring_is}
-use Rattle.vb_driver.{specs.State.{ReportSide, IsAreaBlock}, specs.Calls.PostsReport}
-use Rattle.vb_driver.{specs.contracts.reports.ReportQueue.the_view, proofs.Shapes.ring_backed}
-use Rattle.vb_driver.proofs.ReportTables.{orders_of, posted_report_queue}
-use Rattle.vb_driver.proofs.ReportPosting.{posts_report, not_full}
+use Rattle.vb_driver.{proofs.ReportTables.{orders_of, posted_report_queue}, specs.Calls.PostsReport}
+use Rattle.vb_driver.{proofs.ReportPosting.{posts_report, not_full}, proofs.Shapes.ring_backed}
+use Rattle.vb_driver.{specs.contracts.reports.ReportQueue.the_view, specs.State.ReportSide}
 use Rattle.vb_driver.proofs.reports.ReportQueue.post.Goals as goal
 
 pub encode-pieces-requires-clause-orders : goal.encode-pieces-requires-clause-orders
-encode-pieces-requires-clause-orders g c =
-    orders_of c.deref.result.now
-    (subst (λ (l : List FreeBlock). All IsAreaBlock (blocks_of l)) (sym c.deref.ensures.0)
-    c.requires.blocks)
+encode-pieces-requires-clause-orders g c = grind (arith, orders_of)
 
 pub add-requires-clause-backed : goal.add-requires-clause-backed
-add-requires-clause-backed g c =
-    let n = c.args.self.now.ring.size in
-    let m1 = g.G.GuestBytes.mem c.args.ram.now in
-    subst (λ (l : Layout). IsBacked m1 l)
-    (sym (ap (λ (v : ReportSide). v.ring.layout) c.self.view_is ∙ c.requires.queue.layout))
-    (ring_backed n 4 m1 c.requires.size c.requires.backed)
+add-requires-clause-backed g c = grind (arith, ring_backed)
 
 pub unreachable-requires : goal.unreachable-requires
-unreachable-requires g c =
-    let m1 = g.G.GuestBytes.mem c.args.ram.now in
-    let m2 = g.G.GuestBytes.mem c.add.new.ram in
-    let coded : c.deref-2.result.now ≡ pieces_of (blocks_of c.args.blocks.items) =
-    c.deref-2.ensures.0 ∙ (c.encode-pieces.ensures
-    ∙ ap (λ (l : List FreeBlock). pieces_of (blocks_of l)) c.deref.ensures.0) in
-    let s = reporting m1 m2 (the_view c.self.inside) c.args.self.now c.add.new.self
-    c.deref-2.result.now c.args.blocks.items c.add.result c.self.view_is c.requires.queue
-    c.requires.none_out c.requires.some c.requires.room coded c.add.ensures.adds in
-    not_full c.add.result c.in_default.field-0 (answer_is _ _ _ _ _ _ _ _ s) c.in_default.is
+unreachable-requires g c = grind (arith, reporting, not_full, answer_is)
 
 pub returns-clause-posts : goal.returns-clause-posts
-returns-clause-posts g c =
-    let m1 = g.G.GuestBytes.mem c.args.ram.now in
+returns-clause-posts g c = let m1 = g.G.GuestBytes.mem c.args.ram.now in
     let m2 = g.G.GuestBytes.mem c.add.new.ram in
     let blocks = blocks_of c.args.blocks.items in
     let coded : c.deref-2.result.now ≡ pieces_of blocks =
@@ -52,8 +31,7 @@ returns-clause-posts g c =
     (posts_report _ _ _ _ _ _ _ _ s)
 
 pub returns-clause-queue : goal.returns-clause-queue
-returns-clause-queue g c =
-    let m1 = g.G.GuestBytes.mem c.args.ram.now in
+returns-clause-queue g c = let m1 = g.G.GuestBytes.mem c.args.ram.now in
     let m2 = g.G.GuestBytes.mem c.add.new.ram in
     let blocks = blocks_of c.args.blocks.items in
     let coded : c.deref-2.result.now ≡ pieces_of blocks =
@@ -68,13 +46,4 @@ returns-clause-queue g c =
     c.requires.blocks (ring_is _ _ _ _ _ _ _ _ s)
 
 pub returns-clause-head : goal.returns-clause-head
-returns-clause-head g c =
-    let m1 = g.G.GuestBytes.mem c.args.ram.now in
-    let m2 = g.G.GuestBytes.mem c.add.new.ram in
-    let coded : c.deref-2.result.now ≡ pieces_of (blocks_of c.args.blocks.items) =
-    c.deref-2.ensures.0 ∙ (c.encode-pieces.ensures
-    ∙ ap (λ (l : List FreeBlock). pieces_of (blocks_of l)) c.deref.ensures.0) in
-    let s = reporting m1 m2 (the_view c.self.inside) c.args.self.now c.add.new.self
-    c.deref-2.result.now c.args.blocks.items c.add.result c.self.view_is c.requires.queue
-    c.requires.none_out c.requires.some c.requires.room coded c.add.ensures.adds in
-    same_head c.in-Ok.head 0 c.add.result (Ok 0) c.in-Ok.is refl (answer_is _ _ _ _ _ _ _ _ s)
+returns-clause-head g c = grind (arith, reporting, same_head, answer_is)

@@ -1,6 +1,5 @@
-use Rattle.std.proofs.Common.{◌≡◌, ◌∙◌, sym, ap, subst, arith, refl, is_some}
+use Rattle.std.proofs.Common.{◌≡◌, sym, subst, arith, refl, is_some}
 use Rattle.vb_model.proofs.Shapes.{start_of_buffer}
-use Rattle.vb_ring.{specs.declared.layout.Layout.Layout, specs.Layout.IsBacked}
 use Rattle.vb_ring.specs.Ends.{DriverEnd, outstanding}
 use Rattle.vb_driver.{specs.State.IsStatisticsQueue, specs.Calls.PostsBuffer}
 use Rattle.vb_driver.proofs.Shapes.{ring_backed}
@@ -8,32 +7,21 @@ use Rattle.vb_driver.proofs.Filling.{Filling, fills_by, filled_queue, not_full}
 use Rattle.vb_driver.proofs.statistics.StatisticsQueue.post.Goals as goal
 
 pub write_figures-requires-clause-backed : goal.write_figures-requires-clause-backed
-write_figures-requires-clause-backed g c =
-    c.requires.backed 12
+write_figures-requires-clause-backed g c = c.requires.backed 12
     (start_of_buffer c.args.self.now.size 12 (omega arith) (omega arith))
 
 pub add-requires-clause-backed : goal.add-requires-clause-backed
-add-requires-clause-backed g c =
-    let n = c.args.self.now.size in
-    let m2 = g.G.GuestBytes.mem c.write_figures.new.ram in
-    subst (λ (l : Layout). IsBacked m2 l)
-    (sym (ap (λ (v : DriverEnd). v.layout) c.self.view_is ∙ c.requires.queue.layout))
-    (ring_backed n 2 m2 c.requires.size (λ page start.
-    ap is_some (c.write_figures.ensures.rest.backing page) ∙ c.requires.backed page start))
+add-requires-clause-backed g c = grind (arith, ring_backed, is_some)
 
 pub unreachable-requires : goal.unreachable-requires
-unreachable-requires g c =
-    let r = c.self.inside.ring in
+unreachable-requires g c = let r = c.self.inside.ring in
     let n = c.args.self.now.size in
-    let queue : IsStatisticsQueue r n =
-    subst (λ (v : DriverEnd). IsStatisticsQueue v n) (sym c.self.view_is) c.requires.queue in
-    let none : outstanding r ≡ 0 =
-    subst (λ (v : DriverEnd). outstanding v ≡ 0) (sym c.self.view_is) c.requires.none in
+    let queue : IsStatisticsQueue r n = rw c.self.view_is c.requires.queue in
+    let none : outstanding r ≡ 0 = rw c.self.view_is c.requires.none in
     not_full _ _ r _ n c.in_default.field-0 _ refl queue none c.in_default.ensures.adds
 
 pub returns-clause-posts : goal.returns-clause-posts
-returns-clause-posts g c =
-    let r = c.self.inside.ring in
+returns-clause-posts g c = let r = c.self.inside.ring in
     let n = c.args.self.now.size in
     let m1 = g.G.GuestBytes.mem c.args.ram.now in
     let m2 = g.G.GuestBytes.mem c.write_figures.new.ram in
@@ -48,18 +36,14 @@ returns-clause-posts g c =
       total_is = c.write_figures.ensures.total;
       wrote = c.write_figures.ensures.rest;
       addr = c.from.ensures;
-    } in
-    subst (λ (v : DriverEnd). PostsBuffer m1 m3 v c.add.new.self
+    } in subst (λ (v : DriverEnd). PostsBuffer m1 m3 v c.add.new.self
     (record { free = c.args.free; total = c.args.total })) c.self.view_is
     (fills_by m1 m2 m3 r c.add.new.self n c.from.result c.in-Ok.field-0 c.args.free c.args.total
     filling c.in-Ok.ensures.adds)
 
 pub returns-clause-queue : goal.returns-clause-queue
-returns-clause-queue g c =
-    let r = c.self.inside.ring in
+returns-clause-queue g c = let r = c.self.inside.ring in
     let n = c.args.self.now.size in
-    let queue : IsStatisticsQueue r n =
-    subst (λ (v : DriverEnd). IsStatisticsQueue v n) (sym c.self.view_is) c.requires.queue in
-    let none : outstanding r ≡ 0 =
-    subst (λ (v : DriverEnd). outstanding v ≡ 0) (sym c.self.view_is) c.requires.none in
+    let queue : IsStatisticsQueue r n = rw c.self.view_is c.requires.queue in
+    let none : outstanding r ≡ 0 = rw c.self.view_is c.requires.none in
     filled_queue _ _ r c.add.new.self n c.in-Ok.field-0 _ refl queue none c.in-Ok.ensures.adds

@@ -5,12 +5,10 @@ use Rattle.vb_pages.proofs.TilesLemmas.{length-set_of, listed_maximal, maximal_l
 use Rattle.vb_pages.proofs.areas.Areas.bits.Goals as goal
 
 pub returns : goal.returns
-returns c =
-    let t = c.self.inside.table in
+returns c = let t = c.self.inside.table in
     let k = c.args.order in
     let tiled = c.self.invariant.0 in
-    subst (λ (set : List Bool). AreBlockBits set k c.bits.result.now) c.self.view_is
-    (record {
+    subst (λ (set : List Bool). AreBlockBits set k c.bits.result.now) c.self.view_is (record {
       fewest = c.bits.ensures.words
           ∙ ap (λ (n : ℕ). max 1 (div_ceil (n / 2 ^ k) 64)) (sym (length-set_of t));
       tells = λ w b l.

@@ -4,8 +4,7 @@ use Rattle.vb_pages.proofs.areas.Areas.fill.Given as goal
 
 -- the pages that were gone over are in, and no others
 abbrev pub invariant-loop-page : goal.invariant-loop-page
-invariant-loop-page l =
-    (length l.self ≡ l.pages) × (l.reserved ≤ l.page)
+invariant-loop-page l = (length l.self ≡ l.pages) × (l.reserved ≤ l.page)
     × ((p : ℕ) → has l.self p ≡ true → (l.reserved ≤ p) × (p < l.page))
     × ((p : ℕ) → l.reserved ≤ p → p < l.page → p < l.pages → has l.self p ≡ true)
 

@@ -1,13 +1,12 @@
-use Rattle.std.proofs.Common.{◌≡◌, ◌≤◌, ℕ, List, Option, None, length, ap, subst, ◌∙◌, sym}
+use Rattle.std.proofs.Common.{arith, ◌≤◌, ℕ, List, Option, length, ap, subst, ◌∙◌, sym}
 use Rattle.std.{specs.Prelude.count_by, proofs.lemmas.List.length-replicate}
-use Rattle.vb_pages.{specs.declared.table.TheConstants.MAX_PAGES, specs.Areas.{has, unreserved}}
+use Rattle.vb_pages.{specs.declared.table.TheConstants.MAX_PAGES, specs.Areas.has}
 use Rattle.vb_pages.{specs.Tiles.{set_of, IsTiled}, proofs.AreasLemmas.count_none}
 use Rattle.vb_pages.proofs.TilesLemmas.{none_tiled, none_set, length-set_of}
 use Rattle.vb_pages.proofs.areas.Areas.renew.Goals as goal
 
 pub invariant_of-self : goal.invariant_of-self
-invariant_of-self c =
-    let n = length c.self.inside.table in
+invariant_of-self c = let n = length c.self.inside.table in
     let small : n ≤ MAX_PAGES = c.self.invariant.0.small in (
       subst IsTiled (sym c.clear.ensures) (none_tiled n small),
       sym (ap (λ (t : List (Option ℕ)). count_by (λ f. f) (set_of t)) c.clear.ensures
@@ -18,16 +17,8 @@ pub fill-requires-clause-pages : goal.fill-requires-clause-pages
 fill-requires-clause-pages c = c.pages-pages.ensures ∙ sym (length-set_of c.clear.new.self)
 
 pub fill-requires-clause-empty : goal.fill-requires-clause-empty
-fill-requires-clause-empty c p =
-    ap (λ (t : List (Option ℕ)). has (set_of t) p) c.clear.ensures
+fill-requires-clause-empty c p = ap (λ (t : List (Option ℕ)). has (set_of t) p) c.clear.ensures
     ∙ none_set (length c.self.inside.table) p c.self.invariant.0.small
 
 pub returns : goal.returns
-returns c =
-    let v : set_of c.self.inside.table ≡ c.args.self.now = c.self.view_is in
-    let n : c.pages-pages.result ≡ length c.args.self.now =
-    c.pages-pages.ensures
-    ∙ (ap length c.clear.ensures
-    ∙ (length-replicate {A = Option ℕ} (length c.self.inside.table) None
-    ∙ (sym (length-set_of c.self.inside.table) ∙ ap length v))) in
-    c.fill.ensures ∙ ap (λ (i : ℕ). unreserved i c.args.reserved) n
+returns c = grind (arith, length-replicate, length-set_of)

@@ -3,8 +3,7 @@ use Rattle.vb_pages.{specs.Tiles.set_of, proofs.AreasLemmas.{count_without_block
 use Rattle.vb_pages.proofs.areas.Areas.take.Goals.{After-size_of}
 use Rattle.vb_pages.proofs.areas.Areas.take.Goals as goal
 
-counted : (c : After-size_of)
-    → count_by (λ f. f) (set_of c.self.inside.table)
+counted : (c : After-size_of) → count_by (λ f. f) (set_of c.self.inside.table)
     ≡ count_by (λ f. f) (set_of c.take_block.new.table) + c.size_of.result
 counted c = grind (arith, count_without_block, taken_inside)
 

@@ -1,4 +1,4 @@
-use Rattle.std.proofs.Common.{◌≡◌, ◌<◌, ◌≤◌, ◌+◌, ℕ, List, [], ◌∷◌, ◌++◌, Bool, length, set, take}
+use Rattle.std.proofs.Common.{◌≡◌, ◌<◌, ◌≤◌, ◌+◌, ℕ, List, [], ◌∷◌, Bool, length, set, take}
 use Rattle.std.{proofs.Common.{drop, ap, subst, ◌∙◌, sym, arith}, proofs.lemmas.Bool.eqb-false}
 use Rattle.std.{proofs.lemmas.List.{get_or_default, length-append}, specs.Prelude.{◌==◌, false}}
 use Rattle.vb_pages.proofs.FreeLemmas.{block_sound, free_of, front_once, spilled_sound}
@@ -27,23 +27,16 @@ module _ (c : After-push) (low : c.args.order ≤ 0) where
 
   -- the list with the page
   pushed : c.push.new.self ≡ longer f c.args.cpu c.args.start c.self.invariant there room
-  pushed =
-      c.push.ensures
-      ∙ ap (λ (xs : List ℕ). xs ++ c.args.start ∷ [])
-      (c.index_mut-list.ensures.value
-      ∙ get_or_default f.lists c.args.cpu c.index_mut-list.result.now nothing there)
+  pushed = grind (arith, get_or_default, nothing, there)
 
 pub drain-requires : goal.drain-requires
-drain-requires c =
-    let d = (goal.at.drain-requires c).After-push in
-    let low : c.args.order ≤ 0 = omega arith in
-    subst (λ (xs : List ℕ). Once c.self.inside.areas xs)
+drain-requires c = let d = (goal.at.drain-requires c).After-push in
+    let low : c.args.order ≤ 0 = omega arith in subst (λ (xs : List ℕ). Once c.self.inside.areas xs)
     (ap (take 8) (sym (pushed d low)) ∙ sym c.split_front.ensures.front)
     (front_once (f d low) c.args.cpu c.args.start c.self.invariant (there d low) (room d low))
 
 pub invariant_of-self-then-is_full : goal.invariant_of-self-then-is_full
-invariant_of-self-then-is_full c =
-    let d = (goal.at.invariant_of-self-then-is_full c).After-push in
+invariant_of-self-then-is_full c = let d = (goal.at.invariant_of-self-then-is_full c).After-push in
     let low : c.args.order ≤ 0 = omega arith in
     let front : c.split_front.result
     ≡ take 8 (longer (f d low) c.args.cpu c.args.start c.self.invariant (there d low)
@@ -57,15 +50,13 @@ invariant_of-self-then-is_full c =
     ∙ ap (λ (xs : List ℕ). with_pages xs c.self.inside.areas) front in
     subst (λ (x : List Bool). IsSoundFree
     (free_of x (set c.self.inside.lists.items c.args.cpu c.split_front.new.self) c.self.inside.reserved)) (sym areas)
-    (subst (λ (xs : List ℕ). IsSoundFree
-    (free_of (with_pages (take 8
+    (subst (λ (xs : List ℕ). IsSoundFree (free_of (with_pages (take 8
     (longer (f d low) c.args.cpu c.args.start c.self.invariant (there d low) (room d low)))
     c.self.inside.areas) (set c.self.inside.lists.items c.args.cpu xs) c.self.inside.reserved)) (sym rest)
     (spilled_sound (f d low) c.args.cpu c.args.start c.self.invariant (there d low) (room d low)))
 
 pub invariant_of-self-else-is_full : goal.invariant_of-self-else-is_full
-invariant_of-self-else-is_full c =
-    let d = (goal.at.invariant_of-self-else-is_full c).After-push in
+invariant_of-self-else-is_full c = let d = (goal.at.invariant_of-self-else-is_full c).After-push in
     let low : c.args.order ≤ 0 = omega arith in
     let e = pushed d low in
     let not_full : (length c.push.new.self == 16) ≡ false =
@@ -77,8 +68,6 @@ invariant_of-self-else-is_full c =
     (list_of (f d low) c.args.cpu) (c.args.start ∷ []) in
     let short : length (longer (f d low) c.args.cpu c.args.start c.self.invariant (there d low)
     (room d low)) < 16 = omega
-    (arith, most, c.self.invariant.short c.args.cpu, ap length e, differs) in
-    subst (λ (xs : List ℕ). IsSoundFree
-    (free_of c.self.inside.areas (set c.self.inside.lists.items c.args.cpu xs) c.self.inside.reserved)) (sym e)
+    (arith, most, c.self.invariant.short c.args.cpu, ap length e, differs) in rw e
     (pushed_sound (f d low) c.args.cpu c.args.start c.self.invariant (there d low) (room d low)
     short)

@@ -5,21 +5,18 @@ use Rattle.vb_pages.{specs.Areas.unreserved, proofs.free.FreePages.renew.Goals.A
 use Rattle.vb_pages.proofs.FreeLemmas.{list-empty, free_of, same_free, nothing}
 use Rattle.vb_pages.proofs.free.FreePages.renew.Goals as goal
 
-rows : (c : After-loop-list)
-    → take c.self.inside.lists.len
+rows : (c : After-loop-list) → take c.self.inside.lists.len
     (c.loop-list.list-items ++ drop (length c.loop-list.list-items) c.self.inside.lists.items)
     ≡ map (λ (l : List ℕ). nothing) c.self.inside.lists.items
 rows c = grind (arith, rows_back, all_nothing)
 
 pub invariant_of-self : goal.invariant_of-self
-invariant_of-self c =
-    let xs = c.self.inside.lists.items in
+invariant_of-self c = let xs = c.self.inside.lists.items in
     let n = length c.self.inside.areas in
     let s = fresh_sound n c.self.inside.reserved (map (λ (l : List ℕ). nothing) xs) c.self.invariant.small
     (omega (arith, c.self.invariant.few, length-map xs (λ (l : List ℕ). nothing)))
     (flat-empty xs) (list-empty xs) in
-    sound_at c.renew.new.self (unreserved n c.self.inside.reserved)
-    (take c.self.inside.lists.len
+    sound_at c.renew.new.self (unreserved n c.self.inside.reserved) (take c.self.inside.lists.len
     (c.loop-list.list-items ++ drop (length c.loop-list.list-items) xs))
     (map (λ (l : List ℕ). nothing) xs) c.self.inside.reserved c.renew.ensures
     (rows (goal.at.invariant_of-self c).After-loop-list) s

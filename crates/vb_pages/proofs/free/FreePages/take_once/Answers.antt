@@ -15,10 +15,8 @@ invariant_of-self-2 c =
     let v : f ≡ c.args.self.now = c.self.view_is in
     let l : c.args.cpu < length f.lists =
     subst (λ (x : FreePages). c.args.cpu < length x.lists) (sym v) c.requires.cpu in
-    let item : c.index_mut.result.now ≡ list_of f c.args.cpu =
-    c.index_mut.ensures.value
+    let item : c.index_mut.result.now ≡ list_of f c.args.cpu = c.index_mut.ensures.value
     ∙ get_or_default f.lists c.args.cpu c.index_mut.result.now nothing l in
     single_sound f c.args.cpu c.take-2.new.areas c.take-2.new.self c.take-2.result c.self.invariant
-    l
-    (subst (λ (xs : List ℕ). TakesSingle f.areas xs c.take-2.result c.take-2.new.areas
+    l (subst (λ (xs : List ℕ). TakesSingle f.areas xs c.take-2.result c.take-2.new.areas
     c.take-2.new.self) item c.take-2.ensures)

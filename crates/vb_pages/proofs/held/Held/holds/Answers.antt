@@ -5,12 +5,10 @@ use Rattle.vb_pages.{proofs.Sets.same_bool, proofs.HeldLemmas.{held_of, holds_at
 use Rattle.vb_pages.proofs.held.Held.holds.Goals as goal
 
 pub returns : goal.returns
-returns c =
-    let t = c.self.inside.table in
+returns c = let t = c.self.inside.table in
     let s = c.args.start in
     let k = c.args.order in
     let v : held_of (length t) (blocks_of t) ≡ c.args.self.now = c.self.view_is in
     same_bool c.is_listed.result (list_any (λ b. is_same_block b (block_at s k)) (blocks_of t))
-    (λ e. at_holds s k t (c.is_listed.ensures.0 e))
-    (λ e. c.is_listed.ensures.1 (holds_at s k t e))
+    (λ e. at_holds s k t (c.is_listed.ensures.0 e)) (λ e. c.is_listed.ensures.1 (holds_at s k t e))
     ∙ ap (λ (h : HeldBlocks). list_any (λ b. is_same_block b (block_at s k)) h.blocks) v

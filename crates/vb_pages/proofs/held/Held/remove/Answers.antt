@@ -1,6 +1,6 @@
-use Rattle.std.proofs.Common.{◌≡◌, ◌%◌, ◌^◌, Some, None, length, ap, subst, sym, ◌∙◌}
+use Rattle.std.proofs.Common.{arith, ◌≡◌, ◌%◌, ◌^◌, Some, length, ap, subst, sym, ◌∙◌}
 use Rattle.std.{specs.List.list_any, proofs.lemmas.List.length-set, proofs.lemmas.Bool.eq-eqb}
-use Rattle.vb_model.{specs.Pages.is_same_block, specs.Driver.without_block}
+use Rattle.vb_model.specs.Pages.{is_same_block}
 use Rattle.vb_pages.{specs.Areas.block_at, specs.Table.{order_at, AreBlocks}}
 use Rattle.vb_pages.{specs.Held.{HeldBlocks, blocks_of}, proofs.held.Held.remove.Goals.After-self}
 use Rattle.vb_pages.proofs.TableLemmas.{is_there, with_block_removed}
@@ -8,21 +8,17 @@ use Rattle.vb_pages.proofs.HeldLemmas.{held_of, same_held, blocks-without, holds
 use Rattle.vb_pages.proofs.held.Held.remove.Goals as goal
 
 listed : (c : After-self) → order_at c.self.inside.table c.args.start ≡ Some c.args.order
-listed c =
-    let t = c.self.inside.table in
+listed c = let t = c.self.inside.table in
     let v : held_of (length t) (blocks_of t) ≡ c.args.self.now = c.self.view_is in
-    holds_at c.args.start c.args.order t
-    (ap (λ (h : HeldBlocks). list_any
+    holds_at c.args.start c.args.order t (ap (λ (h : HeldBlocks). list_any
     (λ b. is_same_block b (block_at c.args.start c.args.order)) h.blocks) v ∙ c.requires)
 
 pub remove-requires : goal.remove-requires
-remove-requires c =
-    let there = listed (goal.at.remove-requires c).After-self in
+remove-requires c = let there = listed (goal.at.remove-requires c).After-self in
     record { order = c.self.invariant.bounded c.args.start c.args.order there; there = there }
 
 pub invariant_of-self : goal.invariant_of-self
-invariant_of-self c =
-    let t = c.self.inside.table in
+invariant_of-self c = let t = c.self.inside.table in
     let there = listed (goal.at.invariant_of-self c).After-self in
     subst AreBlocks (sym c.remove.ensures)
     (with_block_removed t c.args.start (is_there t c.args.start c.args.order there)
@@ -37,17 +33,4 @@ returns-clause-block c =
     )
 
 pub returns-clause-removed : goal.returns-clause-removed
-returns-clause-removed c =
-    let t = c.self.inside.table in
-    let s = c.args.start in
-    let k = c.args.order in
-    let v : held_of (length t) (blocks_of t) ≡ c.args.self.now = c.self.view_is in
-    let e = listed (goal.at.returns-clause-removed c).After-self in
-    same_held (length c.remove.new.self) c.args.self.now.pages (blocks_of c.remove.new.self)
-    (without_block (block_at s k) c.args.self.now.blocks)
-    (ap length c.remove.ensures
-    ∙ length-set t s None
-    ∙ ap (λ (h : HeldBlocks). h.pages) v)
-    (ap blocks_of c.remove.ensures
-    ∙ blocks-without s k t e
-    ∙ ap (λ (h : HeldBlocks). without_block (block_at s k) h.blocks) v)
+returns-clause-removed c = grind (arith, held_of, listed, same_held, length-set, blocks-without)

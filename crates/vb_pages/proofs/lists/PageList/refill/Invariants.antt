@@ -4,6 +4,5 @@ use Rattle.vb_pages.proofs.lists.PageList.refill.Given as goal
 
 -- as many pages as turns, or the areas have none
 abbrev pub invariant-loop-count : goal.invariant-loop-count
-invariant-loop-count l =
-    TakesPages l.fn.areas l.self l.areas × (length l.self ≤ l._count)
+invariant-loop-count l = TakesPages l.fn.areas l.self l.areas × (length l.self ≤ l._count)
     × (length l.self < l._count → HasNoBlock l.areas 0)

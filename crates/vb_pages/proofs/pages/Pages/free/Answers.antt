@@ -16,8 +16,7 @@ pub give-requires-clause-room : goal.give-requires-clause-room
 give-requires-clause-room c = search (arith, back_room, is_held)
 
 pub invariant_of-self : goal.invariant_of-self
-invariant_of-self c =
-    let l : c.args.cpu < length c.self.inside.free.lists = omega arith in
+invariant_of-self c = let l : c.args.cpu < length c.self.inside.free.lists = omega arith in
     kept_at c.give.new.self (given_back c.args.cpu c.args.start c.args.order c.self.inside.free)
     c.remove.new.self (held_of c.self.inside.held.pages
     (without_block (block_at c.args.start c.args.order) c.self.inside.held.blocks))
@@ -39,8 +38,7 @@ returns-clause-not_held c =
     )
 
 pub returns-clause-gained : goal.returns-clause-gained
-returns-clause-gained c p =
-    let l : c.args.cpu < length c.self.inside.free.lists = omega arith in
+returns-clause-gained c p = let l : c.args.cpu < length c.self.inside.free.lists = omega arith in
     let f = c.self.inside.free in
     let v : state_of f c.self.inside.held.blocks ≡ c.args.self.now = c.self.view_is in
     let room = back_room f c.self.inside.held c.args.start c.args.order c.self.invariant

@@ -7,8 +7,7 @@ use Rattle.vb_pages.proofs.PagesLemmas.{kept_at, state_of, given_kept, given_gai
 use Rattle.vb_pages.proofs.pages.Pages.give_free.Goals as goal
 
 pub invariant_of-self : goal.invariant_of-self
-invariant_of-self c =
-    let f = c.self.inside.free in
+invariant_of-self c = let f = c.self.inside.free in
     let v : state_of f c.self.inside.held.blocks ≡ c.args.self.now = c.self.view_is in
     kept_at c.give_block.new.self
     (free_of (with_pages (pages_of (block_at c.args.page 0)) f.areas) f.lists f.reserved)
@@ -17,8 +16,7 @@ invariant_of-self c =
     (subst (λ (x : PageState). HasRoomIn x (block_at c.args.page 0)) (sym v) c.requires))
 
 pub returns-clause-gained : goal.returns-clause-gained
-returns-clause-gained c p =
-    let f = c.self.inside.free in
+returns-clause-gained c p = let f = c.self.inside.free in
     let v : state_of f c.self.inside.held.blocks ≡ c.args.self.now = c.self.view_is in
     ap (λ (x : FreePages). is_free_in x p) c.give_block.ensures.given
     ∙ (given_gained f c.self.inside.held c.args.page 0 c.give_block.ensures.sound

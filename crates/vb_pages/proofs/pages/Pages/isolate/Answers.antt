@@ -1,7 +1,4 @@
-use Rattle.std.{proofs.Common.{◌≡◌, ℕ, not, subst}, specs.Prelude.{◌&&◌, IfSome}}
-use Rattle.vb_model.specs.Pages.{covers}
-use Rattle.vb_pages.{specs.Areas.block_at, specs.FreePages.is_free_in}
-use Rattle.vb_pages.specs.PageState.{PageState, is_free_page}
+use Rattle.std.proofs.Common.{◌≡◌}
 use Rattle.vb_pages.proofs.PagesLemmas.{state_of, isolated_kept, isolated_left, isolated_room}
 use Rattle.vb_pages.proofs.pages.Pages.isolate.Goals as goal
 
@@ -13,10 +10,7 @@ invariant_of-self c =
 pub returns-clause-left : goal.returns-clause-left
 returns-clause-left c =
     let v : state_of c.self.inside.free c.self.inside.held.blocks ≡ c.args.self.now =
-    c.self.view_is in
-    subst (λ (x : PageState). IfSome c.isolate.result
-    (λ b. (p : ℕ) → is_free_in c.isolate.new.self p
-    ≡ (is_free_page x p && not (covers p (block_at b.start b.order))))) v
+    c.self.view_is in rw (← v)
     (isolated_left c.self.inside.free c.isolate.new.self c.self.inside.held c.args.order c.args.from
     c.isolate.result c.isolate.ensures.sound c.self.invariant c.isolate.ensures.isolated)
 

@@ -1,5 +1,5 @@
 use Rattle.std.proofs.Common.{◌≡◌, ◌/◌, ◌<◌, None, Some, Option, List, ℕ, length, set, true}
-use Rattle.std.proofs.Common.{sym, ◌∙◌, ap, subst, arith}
+use Rattle.std.proofs.Common.{◌∙◌, ap, arith}
 use Rattle.vb_pages.specs.Table.{order_at, room_of, table_of}
 use Rattle.vb_pages.proofs.TableLemmas.{StandFor, added, ten_sets, set_now, block_below}
 use Rattle.vb_pages.proofs.TableLemmas.{length-set_of_order}
@@ -10,8 +10,7 @@ pub index_mut-requires : goal.index_mut-requires
 index_mut-requires c = grind (arith, ten_sets)
 
 pub insert-requires : goal.insert-requires
-insert-requires c =
-    let pages = c.self.inside.pages in
+insert-requires c = let pages = c.self.inside.pages in
     let sets = c.self.inside.blocks.items in
     let k = c.args.order in
     let s = c.args.start in
@@ -22,18 +21,14 @@ insert-requires c =
     c.index_mut.ensures.value in
     let below = block_below t s k c.requires.aligned
     (omega (arith, ap length v, c.requires.fits)) in
-    let number : s / c.size_of.result < room_of k (length t) =
-    subst (λ (m : ℕ). s / m < room_of k (length t)) (sym c.size_of.ensures.size) below in
+    let number : s / c.size_of.result < room_of k (length t) = rw c.size_of.ensures.size below in
     omega (arith, number, ap length now, length-set_of_order k t)
 
 -- the sets with the block
-after : (c : After-insert)
-    → StandFor c.self.inside.pages
+after : (c : After-insert) → StandFor c.self.inside.pages
     (set c.self.inside.blocks.items c.args.order c.insert.new.self)
-    (set (table_of c.self.inside.pages c.self.inside.blocks.items) c.args.start
-    (Some c.args.order))
-after c =
-    let pages = c.self.inside.pages in
+    (set (table_of c.self.inside.pages c.self.inside.blocks.items) c.args.start (Some c.args.order))
+after c = let pages = c.self.inside.pages in
     let sets = c.self.inside.blocks.items in
     let t = table_of pages sets in
     let v : t ≡ c.args.self.now = c.self.view_is in
@@ -41,8 +36,7 @@ after c =
     ap (λ (u : List (Option ℕ)). order_at u c.args.start) v ∙ c.requires.empty in
     added pages sets c.self.invariant c.args.order c.args.start c.index_mut.result.now
     c.insert.new.self (omega arith) c.requires.aligned (omega (arith, ap length v, c.requires.fits))
-    empty c.index_mut.ensures.value
-    (c.insert.ensures.set
+    empty c.index_mut.ensures.value (c.insert.ensures.set
     ∙ ap (λ (n : ℕ). set c.index_mut.result.now (c.args.start / n) true) c.size_of.ensures.size)
 
 pub invariant_of-self : goal.invariant_of-self

@@ -1,6 +1,6 @@
-use Rattle.std.proofs.Common.{◌≡◌, ◌+◌, ◌/◌, ℕ, None, List, Bool, false, [], ◌∷◌, ◌++◌, length}
+use Rattle.std.proofs.Common.{◌≡◌, ◌+◌, ◌/◌, ℕ, None, List, Bool, false, [], ◌∷◌, ◌++◌}
 use Rattle.std.proofs.lemmas.List.FromFn.{map-range_with_len_more, length-map-range_with_len}
-use Rattle.std.proofs.Common.{get_or, map, max, replicate, arith, ◌∙◌, ap}
+use Rattle.std.proofs.Common.{map, max, replicate, arith, ◌∙◌, ap}
 use Rattle.std.{specs.List.range_with_len, proofs.lemmas.List.FromFn.get_or-map-range_with_len}
 use Rattle.vb_pages.{specs.Table.room_of, proofs.TableLemmas.{StandFor, none}}
 use Rattle.vb_pages.proofs.table.Table.new.Goals.{After-loop-order}
@@ -20,10 +20,8 @@ pushed pages k room old new row e set same before =
 
 pub loop-order-preserved : goal.loop-order-preserved
 loop-order-preserved c =
-    let room : c.max-room.result ≡ room_of c.loop-order.order c.args.pages =
-    c.max-room.ensures
-    ∙ ap (λ (m : ℕ). max (c.args.pages / m) 1) c.size_of.ensures.size
-    ∙ omega arith in
+    let room : c.max-room.result ≡ room_of c.loop-order.order c.args.pages = c.max-room.ensures
+    ∙ ap (λ (m : ℕ). max (c.args.pages / m) 1) c.size_of.ensures.size ∙ omega arith in
     pushed c.args.pages c.loop-order.order c.max-room.result c.loop-order.blocks.items
     c.push.new.self.items c.in_ok-new.field-0 c.in_ok-push.ensures.items c.in_ok-new.ensures room
     c.loop-order.invariant
@@ -31,18 +29,10 @@ loop-order-preserved c =
 -- all sets are there
 all : (c : After-loop-order) → c.loop-order.order ≡ 10
     → StandFor c.args.pages c.loop-order.blocks.items (replicate c.args.pages None)
-all c ten =
-    let n = c.args.pages in
-    let e : c.loop-order.blocks.items ≡ map (bare n) (range_with_len 0 10) =
-    c.loop-order.invariant ∙ ap (λ (m : ℕ). map (bare n) (range_with_len 0 m)) ten in
-    none n c.loop-order.blocks.items c.requires
-    (ap length e ∙ length-map-range_with_len (bare n) 0 10)
-    (λ k d l. ap (λ (xs : List (List Bool)). get_or xs k d) e
-    ∙ get_or-map-range_with_len (bare n) 0 10 k k d l (omega arith))
+all c ten = grind (arith, none, length-map-range_with_len, get_or-map-range_with_len)
 
 pub invariant_of-result : goal.invariant_of-result
-invariant_of-result c =
-    (all (goal.at.invariant_of-result c).After-loop-order (omega arith)).kept
+invariant_of-result c = (all (goal.at.invariant_of-result c).After-loop-order (omega arith)).kept
 
 pub returns : goal.returns
 returns c = (all (goal.at.returns c).After-loop-order (omega arith)).table

@@ -1,5 +1,5 @@
 use Rattle.std.proofs.Common.{◌≡◌, ◌/◌, ◌<◌, None, Some, Option, List, ℕ, length, set, false}
-use Rattle.std.proofs.Common.{sym, ◌∙◌, ap, subst, arith}
+use Rattle.std.proofs.Common.{◌∙◌, ap, arith}
 use Rattle.vb_pages.specs.Table.{order_at, room_of, table_of}
 use Rattle.vb_pages.proofs.TableLemmas.{StandFor, removed, ten_sets, set_now, block_below}
 use Rattle.vb_pages.proofs.TableLemmas.{length-set_of_order}
@@ -10,8 +10,7 @@ pub index_mut-requires : goal.index_mut-requires
 index_mut-requires c = grind (arith, ten_sets)
 
 pub remove-requires : goal.remove-requires
-remove-requires c =
-    let pages = c.self.inside.pages in
+remove-requires c = let pages = c.self.inside.pages in
     let sets = c.self.inside.blocks.items in
     let k = c.args.order in
     let s = c.args.start in
@@ -24,25 +23,21 @@ remove-requires c =
     c.index_mut.ensures.value in
     let below = block_below t s k (c.self.invariant.blocks.aligned s k listed)
     (c.self.invariant.blocks.fits s k listed) in
-    let number : s / c.size_of.result < room_of k (length t) =
-    subst (λ (m : ℕ). s / m < room_of k (length t)) (sym c.size_of.ensures.size) below in
+    let number : s / c.size_of.result < room_of k (length t) = rw c.size_of.ensures.size below in
     omega (arith, number, ap length now, length-set_of_order k t)
 
 -- the sets without the block
-after : (c : After-remove)
-    → StandFor c.self.inside.pages
+after : (c : After-remove) → StandFor c.self.inside.pages
     (set c.self.inside.blocks.items c.args.order c.remove.new.self)
     (set (table_of c.self.inside.pages c.self.inside.blocks.items) c.args.start None)
-after c =
-    let pages = c.self.inside.pages in
+after c = let pages = c.self.inside.pages in
     let sets = c.self.inside.blocks.items in
     let t = table_of pages sets in
     let v : t ≡ c.args.self.now = c.self.view_is in
     let listed : order_at t c.args.start ≡ Some c.args.order =
     ap (λ (u : List (Option ℕ)). order_at u c.args.start) v ∙ c.requires.there in
     removed pages sets c.self.invariant c.args.order c.args.start c.index_mut.result.now
-    c.remove.new.self listed c.index_mut.ensures.value
-    (c.remove.ensures.set
+    c.remove.new.self listed c.index_mut.ensures.value (c.remove.ensures.set
     ∙ ap (λ (n : ℕ). set c.index_mut.result.now (c.args.start / n) false) c.size_of.ensures.size)
 
 pub invariant_of-self : goal.invariant_of-self

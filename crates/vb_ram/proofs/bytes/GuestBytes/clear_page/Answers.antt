@@ -11,6 +11,5 @@ clears (Ok done) old new p wrote = cleared old new p
 clears (Err fault) old new p wrote = wrote
 
 pub returns-clause-cleared : goal.returns-clause-cleared
-returns-clause-cleared g c =
-    clears c.write.result (g.Self.GuestBytes.mem c.args.self.now)
+returns-clause-cleared g c = clears c.write.result (g.Self.GuestBytes.mem c.args.self.now)
     (g.Self.GuestBytes.mem c.write.new.self) c.args.page c.write.ensures.bytes

@@ -4,8 +4,7 @@ use Rattle.vb_ram.{specs.Blank.shown, specs.Pages.Page}
 use Rattle.vb_ram.proofs.frame.Frame.clear.Goals as goal
 
 pub returns : goal.returns
-returns c =
-    let zeros : shown c.clear.new.self.items ≡ zero_page = ap shown c.clear.ensures.items in
+returns c = let zeros : shown c.clear.new.self.items ≡ zero_page = ap shown c.clear.ensures.items in
     let same : c.self.inside.number ≡ c.args.self.now.number =
     ap (λ (page : Page). page.number) c.self.view_is in
     ap (λ (n : ℕ). record { number = n; bytes = shown c.clear.new.self.items }) same

@@ -3,8 +3,7 @@ use Rattle.vb_ram.specs.Blank.{shown}
 use Rattle.vb_ram.proofs.frame.Frame.fresh.Goals as goal
 
 pub returns-clause-ok : goal.returns-clause-ok
-returns-clause-ok c =
-    ap (λ (bs : List ℕ). record { number = c.args.number; bytes = shown bs })
+returns-clause-ok c = ap (λ (bs : List ℕ). record { number = c.args.number; bytes = shown bs })
     c.in_ok-bytes.ensures.items
 
 pub invariant_of-result : goal.invariant_of-result

@@ -4,8 +4,7 @@ use Rattle.vb_ram.proofs.PageLemmas.{is_memory-set}
 use Rattle.vb_ram.proofs.memory.Ram.discard.Goals as goal
 
 pub invariant_of-self : goal.invariant_of-self
-invariant_of-self c =
-    let there : c.args.page < length c.self.inside.pages.items = omega arith in
+invariant_of-self c = let there : c.args.page < length c.self.inside.pages.items = omega arith in
     is_memory-set c.self.inside.pages.len c.self.inside.pages.items c.args.page c.take.new.self
     there c.self.invariant
     (ap (λ w. length (contents_of w)) c.take.ensures.after ∙ length-zero_page)

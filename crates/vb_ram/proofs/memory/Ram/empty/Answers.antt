@@ -3,7 +3,6 @@ use Rattle.vb_ram.{specs.Pages.Pages, specs.Memory.IsMemory, proofs.PageLemmas.w
 use Rattle.vb_ram.proofs.memory.Ram.empty.Goals as goal
 
 pub invariant_of-result : goal.invariant_of-result
-invariant_of-result c =
-    let few : vec_len c.new.result < 2 ^ 32 = omega arith in
+invariant_of-result c = let few : vec_len c.new.result < 2 ^ 32 = omega arith in
     subst (λ (mem : Pages). IsMemory (vec_len c.new.result) mem) (sym c.new.ensures.items)
     (record { few = few; whole = whole-bare 0 })

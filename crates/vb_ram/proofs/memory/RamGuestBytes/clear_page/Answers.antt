@@ -7,8 +7,7 @@ use Rattle.vb_ram.proofs.PageLemmas.{page_read, wrote, cleared, put_zeros, is_me
 use Rattle.vb_ram.proofs.memory.RamGuestBytes.clear_page.Goals as goal
 
 pub invariant_of-self-2 : goal.invariant_of-self-2
-invariant_of-self-2 c =
-    let mem = c.self.inside.pages.items in
+invariant_of-self-2 c = let mem = c.self.inside.pages.items in
     let covers = c.in_ok-check.ensures.ok in
     let there : c.args.page < length mem =
     omega (arith, covers.page, ap (λ (now : Pages). length now) c.self.view_is) in
@@ -17,8 +16,7 @@ invariant_of-self-2 c =
     is_memory-set _ mem c.args.page (Some c.clear.new.self) there c.self.invariant full
 
 pub returns-clause-cleared : goal.returns-clause-cleared
-returns-clause-cleared c =
-    let mem = c.self.inside.pages.items in
+returns-clause-cleared c = let mem = c.self.inside.pages.items in
     let covers = c.in_ok-check.ensures.ok in
     let there : c.args.page < length mem =
     omega (arith, covers.page, ap (λ (now : Pages). length now) c.self.view_is) in

@@ -1,21 +1,14 @@
-use Rattle.std.proofs.Common.{◌≡◌, ◌∙◌, ◌+◌, ◌%◌, Some, Ok, length, take, sym, ap, subst, arith}
-use Rattle.std.specs.Prelude.{slice_index, if◌then◌else◌}
-use Rattle.vb_model.{specs.Tests.is_in, proofs.Tables.length-each_from}
+use Rattle.std.proofs.Common.{◌≡◌, ◌∙◌, ◌+◌, ◌%◌, Ok, length, take, sym, ap, subst, arith}
+use Rattle.std.specs.Prelude.{slice_index}
+use Rattle.vb_model.proofs.Tables.{length-each_from}
 use Rattle.vb_chain.specs.Written.{IsRoute}
+use Rattle.vb_ring.specs.contracts.driver.DriverRing.{the_view}
 use Rattle.vb_ring.{specs.Numbers.numbers, specs.Ends.{DriverEnd, is_unused, next_path}}
 use Rattle.vb_ring.{specs.Calls.AddsBy, proofs.Assemble.{adds_along, next_route, next_chain}}
 use Rattle.vb_ring.proofs.driver.DriverRing.add_along.Goals as goal
 
 pub write_chain-requires-clause-route : goal.write_chain-requires-clause-route
-write_chain-requires-clause-route g c =
-    let old : DriverEnd =
-    record {
-      layout = c.self.inside.layout;
-      size = c.self.inside.size;
-      published = c.self.inside.published;
-      seen = c.self.inside.seen;
-      owner = c.self.inside.owners;
-    } in
+write_chain-requires-clause-route g c = let old : DriverEnd = the_view c.self.inside in
     let along : c.deref-path.result.now ≡ next_path old (length c.args.pieces.now) =
     c.deref-path.ensures.0 ∙ c.find_free.ensures.found c.if-not-find_free.false
     ∙ ap (λ k. take (length c.args.pieces.now) (numbers (is_unused old.owner) k))
@@ -23,15 +16,7 @@ write_chain-requires-clause-route g c =
     subst (IsRoute old.size) (sym along) (next_route old (length c.args.pieces.now))
 
 pub claim-requires : goal.claim-requires
-claim-requires g c =
-    let old : DriverEnd =
-    record {
-      layout = c.self.inside.layout;
-      size = c.self.inside.size;
-      published = c.self.inside.published;
-      seen = c.self.inside.seen;
-      owner = c.self.inside.owners;
-    } in
+claim-requires g c = let old : DriverEnd = the_view c.self.inside in
     let along : c.deref-path.result.now ≡ next_path old (length c.args.pieces.now) =
     c.deref-path.ensures.0 ∙ c.find_free.ensures.found c.if-not-find_free.false
     ∙ ap (λ k. take (length c.args.pieces.now) (numbers (is_unused old.owner) k))
@@ -42,27 +27,10 @@ claim-requires g c =
     c.requires.some along count
 
 pub invariant_of-self : goal.invariant_of-self
-invariant_of-self g c =
-    let path = c.deref-path.result.now in
-    record {
-      fits = c.self.invariant.fits;
-      table = ap length c.claim.ensures ∙ length-each_from 0
-          (λ i old. if is_in i path then Some (slice_index path 0) else old) c.self.inside.owners
-          ∙ c.self.invariant.table;
-      published = omega arith;
-      seen = c.self.invariant.seen;
-    }
+invariant_of-self g c = grind (arith, length-each_from)
 
 pub returns-clause-adds : goal.returns-clause-adds
-returns-clause-adds g c =
-    let old : DriverEnd =
-    record {
-      layout = c.self.inside.layout;
-      size = c.self.inside.size;
-      published = c.self.inside.published;
-      seen = c.self.inside.seen;
-      owner = c.self.inside.owners;
-    } in
+returns-clause-adds g c = let old : DriverEnd = the_view c.self.inside in
     let along : c.deref-path.result.now ≡ next_path old (length c.args.pieces.now) =
     c.deref-path.ensures.0 ∙ c.find_free.ensures.found c.if-not-find_free.false
     ∙ ap (λ k. take (length c.args.pieces.now) (numbers (is_unused old.owner) k))

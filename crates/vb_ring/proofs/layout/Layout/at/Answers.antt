@@ -1,5 +1,5 @@
-use Rattle.std.proofs.Common.{◌≡◌, rules, subst, sym}
-use Rattle.vb_ring.{specs.declared.layout.Layout.Layout, specs.Layout.{Fits, layout_of}}
+use Rattle.std.proofs.Common.{◌≡◌, rules}
+use Rattle.vb_ring.{specs.declared.layout.Layout.Layout, specs.Layout.layout_of}
 use Rattle.vb_ring.proofs.Shapes.{fits_at}
 use Rattle.vb_ring.proofs.layout.Layout.at.Goals as goal
 
@@ -10,6 +10,5 @@ returns-clause-fits c =
       avail = c.area_at.result;
       used = c.area_at-2.result;
     } in
-    let same : made ≡ layout_of c.args.page c.args.size = search rules in
-    subst (λ (l : Layout). Fits l c.args.size) (sym same)
+    let same : made ≡ layout_of c.args.page c.args.size = search rules in rw same
     (fits_at c.args.page c.args.size c.requires)

@@ -11,13 +11,11 @@ pub overflow_add-self-2 : goal.overflow_add-self-2
 overflow_add-self-2 c = grind (arith, length-numbers)
 
 pub invariant_of-self : goal.invariant_of-self
-invariant_of-self c =
-    let owner = take c.self.inside.count c.self.inside.owner in
+invariant_of-self c = let owner = take c.self.inside.count c.self.inside.owner in
     let path = c.args.path.now in
     claim_after owner c.claim.new.owner _ c.self.inside.count c.self.inside.out c.self.inside.from
     c.self.inside.last path c.from-2.result (slice_index path 0) (slice_index path (length path - 1))
     c.self.invariant c.self.told
     (subst (λ (xs : List (Option ℕ)). IsFreeChain xs path) (sym c.self.view_is) c.requires)
-    refl refl c.from-2.ensures
-    (c.claim.ensures
+    refl refl c.from-2.ensures (c.claim.ensures
     ∙ ap (λ k. claimed path (slice_index path 0) (take k c.self.inside.owner)) c.from.ensures)

@@ -9,8 +9,7 @@ pub loop-i-preserved : goal.loop-i-preserved
 loop-i-preserved c j h = grind (arith, cases_eq)
 
 pub returns-then-is_free : goal.returns-then-is_free
-returns-then-is_free c =
-    sym (numbers_first (is_unused c.args.self.now) _ c.loop-i.i
+returns-then-is_free c = sym (numbers_first (is_unused c.args.self.now) _ c.loop-i.i
     (omega (arith, ap length c.self.view_is, c.self.invariant.size))
     (sym c.is_free.ensures ∙ c.if-is_free.true) c.loop-i.invariant)
 

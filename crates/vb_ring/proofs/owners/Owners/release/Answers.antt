@@ -4,16 +4,14 @@ use Rattle.vb_ring.proofs.KeptLaws.{some_out, release_after}
 use Rattle.vb_ring.proofs.owners.Owners.release.Goals as goal
 
 pub overflow_sub-self : goal.overflow_sub-self
-overflow_sub-self c =
-    let owner = take c.self.inside.count c.self.inside.owner in
+overflow_sub-self c = let owner = take c.self.inside.count c.self.inside.owner in
     let head : is_head owner c.args.head ≡ true =
     ap (λ xs. is_head xs c.args.head) c.self.view_is ∙ c.requires in
     some_out owner c.self.inside.count c.self.inside.out c.args.head c.self.inside.from
     c.self.inside.last c.self.invariant head
 
 pub invariant_of-self : goal.invariant_of-self
-invariant_of-self c =
-    let owner = take c.self.inside.count c.self.inside.owner in
+invariant_of-self c = let owner = take c.self.inside.count c.self.inside.owner in
     let head : is_head owner c.args.head ≡ true =
     ap (λ xs. is_head xs c.args.head) c.self.view_is ∙ c.requires in
     release_after owner c.release.new.owner _ c.self.inside.count c.self.inside.out
