@@ -24,7 +24,7 @@ use Rattle.vb_guest.{proofs.RingApart.ring_parts, proofs.Losing.steps_losing}
 use Rattle.vb_guest.{proofs.OwnBlocks.own_pages, proofs.Apart.SameReserved, specs.Reported.IsReport}
 use Rattle.vb_guest.specs.Steps.{StepsFreeing}
 use Rattle.vb_driver.specs.State.{DriverState}
-use Rattle.vb_model.specs.Refusals.{taken_at as guests_taken}
+use Rattle.vb_model.specs.Refusals.{taken_of}
 
 -- a refused finish of any queue
 pub finish_refused : (m1 m2 : Pages) (p1 p2 : Part) (d : DriverState) (g : Guest) (q i : ℕ)
@@ -38,8 +38,8 @@ finish_refused m1 m2 p1 p2 d g q i why result did stands by_part by_model = grin
 pub finish_by : (m1 m2 : Pages) (p1 p2 : Part) (d : DriverState) (g : Guest) (q i : ℕ)
     (result : Result ℕ Refusal)
     → is_queue_of_requests q ≡ true → FinishesBy q i m1 m2 p1 p2 result → Honest m1 p1 d g
-    → (IsRunning m1 p1 d g → taken_at q i p1 ≡ guests_taken g q i)
-    → ((r : Request) → guests_taken g q i ≡ Some r → Uses q i r m1 m2 p1 p2 result
+    → (IsRunning m1 p1 d g → taken_at q i p1 ≡ slice_get (taken_of g q) i)
+    → ((r : Request) → slice_get (taken_of g q) i ≡ Some r → Uses q i r m1 m2 p1 p2 result
     → IsRunning m1 p1 d g → refusal_of g (Finish q i) ≡ None
     → StepsFreeing (Honest m2 (handed_back p2) d) p2.loose g (Finish q i) (finished_reply result))
     → StepsFreeing (Honest m2 (handed_back p2) d) p2.loose g (Finish q i) (finished_reply result)

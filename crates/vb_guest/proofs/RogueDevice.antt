@@ -302,7 +302,11 @@ rogue_freed m1 m2 p1 p2 d g call reply r own changes ok count same loose still a
     record {
       new = rogue_after g frames (handed_back p2) d;
       stands = stands;
-      step = search (arith, rogue_step, handed_back, none_of, done_wants, no_refusal);
+      step = rogue_step m1 m2 p1 (handed_back p2) d d g frames call reply rogue stands
+          (changes.target ∙ sym still)
+          (λ page frame e. none_of (is_in page once) (frame_of g.frames page) frame
+          (sym (get page) ∙ e)) (done_wants reply answer) other none
+          (λ why e. no_refusal reply why answer e);
       freed = λ k. omega (
         arith,
         loose k,

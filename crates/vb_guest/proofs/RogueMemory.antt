@@ -3,7 +3,7 @@ use Rattle.std.specs.Prelude.{◌≡◌, ◌≢◌, ℕ, ◌<◌, Bool, true, fa
 use Rattle.std.{specs.Prelude.{Some, None, All, is_some, ◌≤◌, refl}, proofs.lemmas.Bool.cases_eq}
 use Rattle.std.proofs.Common.{sym, ◌∙◌, ap, subst, arith, inl, inr}
 use Rattle.vb_model.specs.declared.calls.Claim.TheVariants.{Gave, GaveNoFrame, GaveNoMemory}
-use Rattle.vb_model.specs.Rogue.{pages_to_back, unless_refused, with_fault, GuestStep}
+use Rattle.vb_model.specs.Rogue.{LosesFrames, pages_to_back, unless_refused, with_fault, GuestStep}
 use Rattle.vb_model.specs.Driver.{given, claim_refusal, AreClaimsFor, pages_needed}
 use Rattle.vb_model.specs.Guest.{Guest, frame_of, backed, all_backed, is_ballooned}
 use Rattle.vb_model.specs.declared.replies.Refusal.TheVariants.{OutOfRam, NotHeld}
@@ -378,6 +378,9 @@ scribble_outside keeps m1 m2 p1 p2 d g page off bs stands m p out =
     refused : refusal_of g (Scribble page off bs) ≡ Some OutOfRam
     refused = ap (λ (b : Bool). first_refusal ((b ⇒ OutOfRam) ∷ []))
         (outside (is_outside g page off (length bs)) refl)
+
+    none : pages_to_back (Scribble page off bs) g ≡ []
+    none = refused_backs (Scribble page off bs) g OutOfRam refused
 
     step : HonestStep g (Scribble page off bs) [] (Refused OutOfRam) g
     step =

@@ -94,7 +94,7 @@ take_posted m1 m2 p1 p2 d g figures result is did stands run free_part free =
     (steps_alone m1 m2 p1 p2 d d g (Take 2) (Taken 0) new stands step
     (ties_same m1 m2 after p2 d d new did.memory left refl there) refl)
 
-one_taken : (b : StatisticsBuffer) → length (taken_requests b) ≡ one_if (is_taken b)
+one_taken : (b : StatisticsBuffer) → length (taken_requests b) ≡ (if is_taken b then 1 else 0)
 one_taken b = grind arith
 
 -- a take from a queue that there is, by what it does where it isn't refused
