@@ -148,8 +148,8 @@ fn go_descriptor(
     }
 }
 
-/// A descriptor was copied that is a whole request by itself; says whether it is so. Else nothing is
-/// changed.
+/// A descriptor was copied that is a whole request by itself; says whether it is so. Else nothing
+/// is changed.
 fn go_single(
     notice: &mut VbNotice,
     balloon: &Balloon,
