@@ -1,5 +1,5 @@
 -- What the calls for features, the configuration space, reports and targets answer in C, worked out: each refusal, and what it leaves.
-use Rattle.std.proofs.Common.{refl, ap, sym, ◌∙◌, arith, ℕ, List, [], ◌∷◌, length, Result, Ok, Err}
+use Rattle.std.proofs.Common.{◌≡◌, refl, ap, sym, ◌∙◌, arith, ℕ, List, [], ◌∷◌, length, Result, Ok, Err}
 use Rattle.vb_balance.specs.declared.need.NoTargets.{NoTargets}
 use Rattle.vb_balance.specs.declared.need.NoTargets.TheVariants.{OtherLength, Short}
 use Rattle.vb_core.specs.declared.device.Denial.TheVariants.{NotReady}
@@ -87,17 +87,17 @@ poison_as_actual h = let e : Same 261 0 = ap (λ (d : Device). d.actual) (h.writ
 
 not_ready : Reports [] [] 32 [] begun begun (reported_of (Err NotReady))
 unfolding lib.Count.ones
-not_ready = (Err NotReady, (record { denied = λ why e. (cc, refl); reads = λ e. absurd cc }, refl))
+not_ready = (Err NotReady, record { denied = λ why e. (cc, refl); reads = λ e. absurd cc }, refl)
 
 not_ready_changes : (result : VbNamed) → Reports [] [] 32 [] begun (record begun { target = 1 }) result → ⊥
 unfolding lib.Count.ones
-not_ready_changes result (answer, (by, is)) =
+not_ready_changes result (answer, by, is) =
     let e : Same 1 0 = ap target_of (by.denied NotReady refl).1 in omega arith
 
 reported_although_refused : (d : Device) → Reports [] [] 32 [] begun d
     (record { code = 0; rule = 0; head = 0; runs = 0; pages = 0; skipped = 0 }) → ⊥
 unfolding lib.Count.ones
-reported_although_refused d (answer, (by, is)) =
+reported_although_refused d (answer, by, is) =
     let e : Same 0 3 = ap (λ (r : VbNamed). r.code) (is ∙ ap reported_of (by.denied NotReady refl).0) in
     omega arith
 
@@ -106,14 +106,12 @@ reported_although_refused d (answer, (by, is)) =
 other_length : SharesFor [] 5 (1 ∷ []) (1 ∷ []) (record { code = 7; missing = 0 })
 other_length = (
   Err OtherLength,
-  (
-    record {
-      other_length = λ ne. (refl, refl);
-      short = λ e. let x : Same 1 0 = e in absurd (omega arith);
-      shared = λ e. let x : Same 1 0 = e in absurd (omega arith);
-    },
-    refl,
-  ),
+  record {
+    other_length = λ ne. (refl, refl);
+    short = λ e. let x : Same 1 0 = e in absurd (omega arith);
+    shared = λ e. let x : Same 1 0 = e in absurd (omega arith);
+  },
+  refl,
 )
 
 abbrev first_of : List ℕ → ℕ
@@ -121,11 +119,11 @@ first_of [] = 0
 first_of (n ∷ ns) = n
 
 changed_although_refused : (result : VbTargets) → SharesFor [] 5 (1 ∷ []) (2 ∷ []) result → ⊥
-changed_although_refused result (answer, (by, is)) =
+changed_although_refused result (answer, by, is) =
     let e : Same 2 1 = ap first_of (by.other_length (λ e. let x : Same 1 0 = e in omega arith)).1 in omega arith
 
 shared_although_refused : (new : List ℕ) → SharesFor [] 5 (1 ∷ []) new (record { code = 0; missing = 0 }) → ⊥
-shared_although_refused new (answer, (by, is)) =
+shared_although_refused new (answer, by, is) =
     let e : Same 0 7 = ap (λ (t : VbTargets). t.code) (is ∙ ap targets_of (by.other_length (λ e. let x : Same 1 0 = e in omega arith)).0) in
     omega arith
 

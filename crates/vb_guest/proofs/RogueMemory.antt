@@ -9,7 +9,7 @@ use Rattle.vb_model.specs.Guest.{Guest, frame_of, backed, all_backed, is_balloon
 use Rattle.vb_model.specs.declared.replies.Refusal.TheVariants.{OutOfRam, NotHeld}
 use Rattle.vb_model.specs.declared.calls.Call.TheVariants.{Read, Write, Scribble}
 use Rattle.vb_model.specs.declared.replies.Reply.TheVariants.{Done, Refused}
-use Rattle.vb_model.{proofs.Wanting.{wants, not_refused_pages}, specs.declared.replies.Reply.Reply}
+use Rattle.vb_model.{proofs.Wanting.{wants, not_refused_pages, refused_backs}, specs.declared.replies.Reply.Reply}
 use Rattle.vb_model.{specs.FirstRefusal.{◌⇒◌, first_refusal}, specs.Status.{contains, driver_ok}}
 use Rattle.vb_model.{specs.Refusals.{refusal_of, is_outside}, specs.declared.calls.Claim.Claim}
 use Rattle.vb_model.{specs.declared.replies.Refusal.Refusal, specs.Pages.{place_of, is_used}}

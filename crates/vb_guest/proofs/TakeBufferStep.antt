@@ -3,7 +3,7 @@ use Rattle.std.specs.Prelude.{true, ◌≡◌, ℕ, ◌*◌, List, [], length, R
 use Rattle.std.specs.Prelude.{slice_get, refl, if◌then◌else◌}
 use Rattle.std.proofs.Common.{sym, ◌∙◌, ap, subst, arith, inr}
 use Rattle.vb_model.specs.Requests.{Request, Figures, StatisticsBuffer, NoBuffer, BufferPosted}
-use Rattle.vb_model.{specs.Requests.{BufferTaken, BufferDone}, specs.Tests.one_if}
+use Rattle.vb_model.specs.Requests.{BufferTaken, BufferDone}
 use Rattle.vb_model.{specs.declared.calls.Call.TheVariants.Take, specs.Guest.Guest}
 use Rattle.vb_model.{specs.declared.replies.Refusal.Refusal, specs.Device.TakesBuffer}
 use Rattle.vb_model.{specs.Layout.ring_page}
