@@ -21,17 +21,14 @@ any_same : (f g : ℕ → Bool) (xs : List ℕ) →
     ((j : ℕ) → j < length xs → f (get_or xs j 0) ≡ g (get_or xs j 0)) →
     list_any f xs ≡ list_any g xs
 any_same f g [] same = refl
-any_same f g (x ∷ xs) same =
-    ap (λ (b : Bool). b || list_any f xs) (same 0 (omega arith))
+any_same f g (x ∷ xs) same = ap (λ (b : Bool). b || list_any f xs) (same 0 (omega arith))
     ∙ ap (λ (b : Bool). g x || b) (any_same f g xs (λ j lt. same (suc j) (omega arith)))
 
 map_same : (f g : ℕ → Piece) (xs : List ℕ) →
     ((j : ℕ) → j < length xs → f (get_or xs j 0) ≡ g (get_or xs j 0)) → map f xs ≡ map g xs
 map_same f g [] same = refl
-map_same f g (x ∷ xs) same =
-    ap (λ (p : Piece). p ∷ map f xs) (same 0 (omega arith))
-    ∙ ap (λ (ps : List Piece). g x ∷ ps)
-    (map_same f g xs (λ j lt. same (suc j) (omega arith)))
+map_same f g (x ∷ xs) same = ap (λ (p : Piece). p ∷ map f xs) (same 0 (omega arith))
+    ∙ ap (λ (ps : List Piece). g x ∷ ps) (map_same f g xs (λ j lt. same (suc j) (omega arith)))
 
 -- ---- the numbers of a path
 
@@ -44,8 +41,7 @@ next_below : (q end : ℕ) (writing : Bool) (k : ℕ) (x : Descriptor) →
     first_fault q end writing k x ≡ None → has_next x ≡ true → x.next < q
 next_below q end writing k x e more = grind (arith, leb-false, goes_on)
 
-path_below : (d : ℕ → Descriptor) (q end head : ℕ) (path : List ℕ) → head < q →
-    IsPath d head path →
+path_below : (d : ℕ → Descriptor) (q end head : ℕ) (path : List ℕ) → head < q → IsPath d head path →
     ((k : ℕ) → k + 1 < length path → fault_at d q end path k ≡ None) →
     (k : ℕ) → k < length path → get_or path k 0 < q
 path_below d q end head path inside is sound zero lt = omega (arith, is.begins, inside)
@@ -55,8 +51,7 @@ path_below d q end head path inside is sound (suc k) lt =
     ap (λ (n : ℕ). get_or path n 0) (one k) in
     let below : (d (get_or path k 0)).next < q =
     next_below q end (list_any (λ i. is_writable (d i)) (take k path)) k (d (get_or path k 0))
-    (sound k short) (is.onward k short) in
-    omega (arith, below, is.linked k short, place)
+    (sound k short) (is.onward k short) in omega (arith, below, is.linked k short, place)
   where
     one : (n : ℕ) → suc n ≡ n + 1
     one n = omega arith
@@ -75,27 +70,22 @@ same_path d e head path same is = grind arith
 
 pub same_chain : (d e : ℕ → Descriptor) (q end h : ℕ) (pieces : List Piece) → Agree q d e →
     ChainGives d q end h pieces → ChainGives e q end h pieces
-same_chain d e q end h pieces agree gives =
-    let chain = gives.chain in
+same_chain d e q end h pieces agree gives = let chain = gives.chain in
     let path : List ℕ = gives.path in
     let below : (k : ℕ) → k < length path → get_or path k 0 < q =
     path_below d q end h path chain.inside chain.is_path
     (λ k lt. chain.sound k (omega (arith, lt))) in
     let same : (k : ℕ) → k < length path → d (get_or path k 0) ≡ e (get_or path k 0) =
-    λ k lt. agree (get_or path k 0) (below k lt) in
-    record {
+    λ k lt. agree (get_or path k 0) (below k lt) in record {
       path = path;
       chain = record {
         inside = chain.inside;
         is_path = same_path d e h path same chain.is_path;
         short = chain.short;
         sound = λ k lt. sym (same_fault d e q end path same k lt) ∙ chain.sound k lt;
-        ends = λ k last.
-            ap has_next (sym (same k (omega (arith, last)))) ∙ chain.ends k last;
+        ends = λ k last. ap has_next (sym (same k (omega (arith, last)))) ∙ chain.ends k last;
       };
-      pieces_are =
-          gives.pieces_are
-          ∙ map_same (λ i. piece_of (d i)) (λ i. piece_of (e i)) path
+      pieces_are = gives.pieces_are ∙ map_same (λ i. piece_of (d i)) (λ i. piece_of (e i)) path
           (λ j lt. ap piece_of (same j lt));
     }
 
@@ -106,8 +96,7 @@ same_break d e q end h fault agree (inr (path, breaks)) =
     let below : (k : ℕ) → k < length path → get_or path k 0 < q =
     path_below d q end h path breaks.inside breaks.is_path breaks.sound in
     let same : (k : ℕ) → k < length path → d (get_or path k 0) ≡ e (get_or path k 0) =
-    λ k lt. agree (get_or path k 0) (below k lt) in
-    inr (
+    λ k lt. agree (get_or path k 0) (below k lt) in inr (
       path,
       record {
         inside = breaks.inside;

@@ -1,6 +1,6 @@
 -- Where copies are the memory's bytes, they say what memory says.
 use Rattle.std.proofs.Common.{◌≡◌, ◌∙◌, ℕ, zero, suc, ◌+◌, ◌*◌, ◌<◌, ◌≤◌, List, [], ◌∷◌, refl}
-use Rattle.std.{proofs.Common.{length, sym, ap, arith, subst}, specs.Prelude.slice_index}
+use Rattle.std.{proofs.Common.{length, sym, ap, arith}, specs.Prelude.slice_index}
 use Rattle.vb_ram.specs.Pages.{Pages, byte_at, field, end_of}
 use Rattle.vb_chain.{specs.declared.pieces.Piece.Piece, specs.declared.fault.ChainFault.ChainFault}
 use Rattle.vb_chain.{specs.Table.descriptor_at, specs.Chain.{ChainGives, FaultGives}}
@@ -10,8 +10,7 @@ use Rattle.vb_core.specs.Copies.{padded, copies_of, copied_layout, AreCopies}
 use Rattle.vb_core.proofs.CopyLemmas.{copied_length, copied_byte, padded_at}
 use Rattle.vb_core.proofs.ChainAgreement.{Agree, agree_back, same_chain, same_break}
 
-pub copies_count : (count : ℕ) (avail table : List ℕ) →
-    length (copies_of count table avail) ≡ count
+pub copies_count : (count : ℕ) (avail table : List ℕ) → length (copies_of count table avail) ≡ count
 copies_count count avail table = copied_length count (padded table ∷ padded avail ∷ [])
 
 table_byte : (count : ℕ) (avail table : List ℕ) (o : ℕ) → 2 ≤ count → o < 4096 →
@@ -63,8 +62,7 @@ table_field n mem l q avail table o size two same few = grind (arith, same_field
 -- the entry that stands next
 pub copied_entry : (mem : Pages) (l : Layout) (q taken : ℕ) (avail table : List ℕ) → IsSize q →
     2 ≤ length mem → AreCopies mem l q avail table →
-    next_entry (copies_of (length mem) table avail) copied_layout q taken ≡
-    next_entry mem l q taken
+    next_entry (copies_of (length mem) table avail) copied_layout q taken ≡ next_entry mem l q taken
 copied_entry mem l q taken avail table size two same = grind (arith, avail_field)
 
 -- the descriptors of the table
@@ -91,10 +89,8 @@ copied_fault mem l q h avail table fault size two same gives =
     let count : length mem ≡ length (copies_of (length mem) table avail) =
     sym (copies_count (length mem) avail table) in
     let there : FaultGives (descriptor_at (copies_of (length mem) table avail) 0) q (end_of mem) h
-    fault =
-    same_break (descriptor_at mem l.table)
+    fault = same_break (descriptor_at mem l.table)
     (descriptor_at (copies_of (length mem) table avail) 0) q (end_of mem) h fault
     (agree_back q (descriptor_at (copies_of (length mem) table avail) 0)
     (descriptor_at mem l.table) (copied_agree mem l q avail table size two same)) gives in
-    subst (λ (n : ℕ). FaultGives
-    (descriptor_at (copies_of (length mem) table avail) 0) q (4096 * n) h fault) count there
+    rw (← count) there

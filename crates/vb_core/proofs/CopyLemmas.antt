@@ -1,10 +1,10 @@
 -- What a page of a memory of copies is.
 use Rattle.std.proofs.Common.{rules, Option, ◌≡◌, ℕ, ◌<◌, ◌≤◌, List, [], Some, None, length, get_or}
-use Rattle.std.proofs.Common.{refl, sym, ◌∙◌, ap, set, subst, arith, inl, inr, ◌∷◌}
+use Rattle.std.proofs.Common.{refl, sym, ◌∙◌, ap, set, arith, inl, inr, ◌∷◌}
 use Rattle.std.{specs.Prelude.slice_index, proofs.lemmas.Bool.cases_eq}
 use Rattle.std.proofs.lemmas.List.{get_or-set_same, get_or-set_other, length-set, ext_get_or}
 use Rattle.std.proofs.lemmas.List.FromFn.{get_or-map-range_with_len, length-map-range_with_len}
-use Rattle.vb_ram.specs.Pages.{Page, Pages, byte_of, number_of, byte_at, page_at, frame_at, Wrote}
+use Rattle.vb_ram.specs.Pages.{Page, byte_of, number_of, byte_at, page_at, frame_at, Wrote}
 use Rattle.vb_ram.{specs.Put.PutAt, proofs.PageLemmas.wrote}
 use Rattle.vb_ring.specs.Layout.{IsInside}
 use Rattle.vb_core.specs.Copies.{lent, copy_number, copy_at, copy_of, copied, padded, copied_layout}
@@ -58,8 +58,7 @@ only p q k e f = search rules
 pub copied_set : (count p k : ℕ) (cs : List (List ℕ)) (new : List ℕ) → p < count →
     k < length cs → copy_number p ≡ Some k →
     copied count (set cs k new) ≡ set (copied count cs) p (lent new)
-copied_set count p k cs new h l e =
-    let old = copied count cs in
+copied_set count p k cs new h l e = let old = copied count cs in
     let len : length (copied count (set cs k new)) ≡ length (set old p (lent new)) =
     copied_length count (set cs k new)
     ∙ sym (length-set old p (lent new) ∙ copied_length count cs) in
@@ -75,11 +74,9 @@ copied_set count p k cs new h l e =
           ∙ copied_here count p k (set cs k new) h e ∙ ap lent (get_or-set_same cs k new [] l)
           ∙ sym (ap (page_at (set (copied count cs) p (lent new))) same
           ∙ get_or-set_same (copied count cs) p (lent new) None there)
-      | inr ne ↦
-          copied_at count i (set cs k new) u
+      | inr ne ↦ copied_at count i (set cs k new) u
           ∙ other cs k new (copy_number i) (λ f. ne (only p i k e f))
-          ∙ sym (get_or-set_other (copied count cs) p i (lent new) None ne
-          ∙ copied_at count i cs u)
+          ∙ sym (get_or-set_other (copied count cs) p i (lent new) None ne ∙ copied_at count i cs u)
     ]
 
 pub copied_wrote : (count p k off : ℕ) (cs : List (List ℕ)) (bs new : List ℕ) → p < count →
@@ -91,17 +88,15 @@ copied_wrote count p k off cs bs new h l e len put =
     let g : Page = record { number = 0; bytes = new } in
     let there : p < length (copied count cs) = omega (arith, copied_length count cs) in
     let w = wrote (copied count cs) p off bs f g there (copied_here count p k cs h e) refl len put in
-    subst (λ (m : Pages). Wrote (copied count cs) m p off bs)
-    (sym (copied_set count p k cs new h l e)) w
+    rw (copied_set count p k cs new h l e) w
 
 pub put_wrote : (count p k off : ℕ) (old new : Kept) (bs : List ℕ) → p < count →
     copy_number p ≡ Some k → PutsInto (kept_pages old) (kept_pages new) k off bs →
     Wrote (copied count (kept_pages old)) (copied count (kept_pages new)) p off bs
-put_wrote count p k off old new bs h e puts =
-    grind (
-      arith,
-      copied_wrote count p k off (kept_pages old) bs puts.page h puts.there e puts.len puts.put,
-    )
+put_wrote count p k off old new bs h e puts = grind (
+  arith,
+  copied_wrote count p k off (kept_pages old) bs puts.page h puts.there e puts.len puts.put,
+)
 
 -- the ring's places lie there
 pub copied_inside : (count : ℕ) (cs : List (List ℕ)) → 2 ≤ count →
@@ -116,13 +111,11 @@ padded_length bytes = length-map-range_with_len (slice_index bytes) 0 4096
 
 pub padded_at : (bytes : List ℕ) (o : ℕ) → o < 4096 → get_or (padded bytes) o 0 ≡ get_or bytes o 0
 unfolding padded
-padded_at bytes o h =
-    get_or-map-range_with_len (slice_index bytes) 0 4096 o o 0 h (omega arith)
+padded_at bytes o h = get_or-map-range_with_len (slice_index bytes) 0 4096 o o 0 h (omega arith)
 
 pub is_padded : (bytes page : List ℕ) → length page ≡ 4096 →
     ((o : ℕ) → o < 4096 → get_or page o 0 ≡ get_or bytes o 0) → page ≡ padded bytes
-is_padded bytes page len at =
-    ext_get_or 0 page (padded bytes) (len ∙ sym (padded_length bytes))
+is_padded bytes page len at = ext_get_or 0 page (padded bytes) (len ∙ sym (padded_length bytes))
     (λ o u. at o (omega (arith, u, len)) ∙ sym (padded_at bytes o (omega (arith, u, len))))
 
 -- ---- copies that are lent

@@ -11,8 +11,7 @@ use lib.Count.{ones_step}
 -- ---- over numbers in a row
 
 -- one number more
-count_next : (f : ℕ → Bool) (a n : ℕ)
-    → count_by f (range_with_len a (suc n))
+count_next : (f : ℕ → Bool) (a n : ℕ) → count_by f (range_with_len a (suc n))
     ≡ one_if (f a) + count_by f (range_with_len (a + 1) n)
 count_next f a n = count_by-cons f a (range_with_len (a + 1) n)
 
@@ -29,25 +28,17 @@ pub count_none : (f : ℕ → Bool) (a n : ℕ) → ((p : ℕ) → a ≤ p → p
     → count_by f (range_with_len a n) ≡ 0
 count_none f a zero none = refl
 count_none f a (suc n) none =
-    let here : one_if (f a) ≡ 0 = ap one_if (none a (omega arith) (omega arith)) in
-    let more : count_by f (range_with_len (a + 1) n) ≡ 0 =
-    count_none f (a + 1) n (λ p from below. none p (omega arith) (omega arith)) in
-    omega (arith, here, more, count_next f a n)
+    grind (
+      arith,
+      count_next,
+      count_none f (a + 1) n (λ p from below. none p (omega arith) (omega
+          arith)),
+    )
 
-pub count_split : (f : ℕ → Bool) (a m n : ℕ)
-    → count_by f (range_with_len a (m + n))
+pub count_split : (f : ℕ → Bool) (a m n : ℕ) → count_by f (range_with_len a (m + n))
     ≡ count_by f (range_with_len a m) + count_by f (range_with_len (a + m) n)
-count_split f a zero n =
-    let same : zero + n ≡ n = omega arith in
-    let start : a + zero ≡ a = omega arith in
-    let whole : count_by f (range_with_len a (zero + n)) ≡ count_by f (range_with_len a n) =
-    ap (λ (k : ℕ). count_by f (range_with_len a k)) same in
-    let rest : count_by f (range_with_len (a + zero) n) ≡ count_by f (range_with_len a n) =
-    ap (λ (b : ℕ). count_by f (range_with_len b n)) start in
-    let none : count_by f (range_with_len a zero) ≡ 0 = refl in
-    omega (arith, whole, rest, none)
-count_split f a (suc m) n =
-    let same : suc m + n ≡ suc (m + n) = omega arith in
+count_split f a zero n = grind arith
+count_split f a (suc m) n = let same : suc m + n ≡ suc (m + n) = omega arith in
     let start : a + 1 + m ≡ a + suc m = omega arith in
     let whole : count_by f (range_with_len a (suc m + n))
     ≡ count_by f (range_with_len a (suc (m + n))) =
@@ -55,14 +46,7 @@ count_split f a (suc m) n =
     let rest : count_by f (range_with_len (a + 1 + m) n)
     ≡ count_by f (range_with_len (a + suc m) n) =
     ap (λ (b : ℕ). count_by f (range_with_len b n)) start in
-    omega (
-      arith,
-      whole,
-      rest,
-      count_next f a (m + n),
-      count_next f a m,
-      count_split f (a + 1) m n,
-    )
+    omega (arith, whole, rest, count_next f a (m + n), count_next f a m, count_split f (a + 1) m n)
 
 -- numbers that pass are below a bound, and so no more than it
 pub count_few : (f : ℕ → Bool) (n bound : ℕ) → ((p : ℕ) → bound ≤ p → f p ≡ false)
@@ -76,8 +60,7 @@ count_few f n bound none = elim (cases_lt n bound) [
       let whole : count_by f (range_with_len 0 n) ≡ count_by f (range_with_len 0 (bound + rest)) =
       ap (λ (k : ℕ). count_by f (range_with_len 0 k)) sum in
       let past : count_by f (range_with_len (0 + bound) rest) ≡ 0 =
-      count_none f (0 + bound) rest (λ p from below. none p (omega arith)) in
-      omega (
+      count_none f (0 + bound) rest (λ p from below. none p (omega arith)) in omega (
         arith,
         whole,
         past,
@@ -95,16 +78,11 @@ digit_counts d l = grind arith
 
 -- where the numbers from one on pass as the bits of a word are 1
 pub count_bits : (f : ℕ → Bool) (x a n : ℕ) → x < 2 ^ n
-    → ((i : ℕ) → i < n → f (a + i) ≡ has_bit x i)
-    → count_by f (range_with_len a n) ≡ count_ones x
+    → ((i : ℕ) → i < n → f (a + i) ≡ has_bit x i) → count_by f (range_with_len a n) ≡ count_ones x
 count_bits f x a zero fits e = grind (arith, ones_le_self x)
-count_bits f x a (suc n) fits e =
-    let first : a + 0 ≡ a = omega arith in
-    let here : one_if (f a) ≡ x % 2 =
-    ap (λ (k : ℕ). one_if (f k)) (sym first)
-    ∙ ap one_if (e 0 (omega arith))
-    ∙ digit_counts (bit_at x 0) (bit_at-lt x 0)
-    ∙ bit_at_lowest x in
+count_bits f x a (suc n) fits e = let first : a + 0 ≡ a = omega arith in
+    let here : one_if (f a) ≡ x % 2 = ap (λ (k : ℕ). one_if (f k)) (sym first)
+    ∙ ap one_if (e 0 (omega arith)) ∙ digit_counts (bit_at x 0) (bit_at-lt x 0) ∙ bit_at_lowest x in
     let power : suc n ≡ n + 1 = omega arith in
     let twice : 2 ^ suc n ≡ 2 ^ n * 2 ^ 1 = ap (λ (k : ℕ). 2 ^ k) power ∙ pow-add 2 n 1 in
     let half : x / 2 < 2 ^ n = omega (arith, twice) in
@@ -116,11 +94,9 @@ count_bits f x a (suc n) fits e =
 
 -- and none passes outside of that word
 pub count_word : (f : ℕ → Bool) (x w words : ℕ) → x < 2 ^ 64 → w < words
-    → ((i : ℕ) → i < 64 → f (64 * w + i) ≡ has_bit x i)
-    → ((p : ℕ) → p / 64 ≢ w → f p ≡ false)
+    → ((i : ℕ) → i < 64 → f (64 * w + i) ≡ has_bit x i) → ((p : ℕ) → p / 64 ≢ w → f p ≡ false)
     → count_by f (range_with_len 0 (64 * words)) ≡ count_ones x
-count_word f x w words fits within e none =
-    let rest : ℕ = 64 * words - (64 * w + 64) in
+count_word f x w words fits within e none = let rest : ℕ = 64 * words - (64 * w + 64) in
     let sum : 64 * words ≡ 64 * w + (64 + rest) = omega arith in
     let whole : count_by f (range_with_len 0 (64 * words))
     ≡ count_by f (range_with_len 0 (64 * w + (64 + rest))) =

@@ -1,12 +1,11 @@
 -- What a call that isn't refused has passed.
-use Rattle.std.proofs.Common.{◌≡◌, Bool, true, false, Option, Some, None, refl}
+use Rattle.std.proofs.Common.{arith, ◌≡◌, Bool, true, false, Option, Some, None, refl}
 use Rattle.std.specs.Prelude.{not, ◌||◌, if◌then◌else◌}
-use Rattle.vb_model.specs.Tables.{is_not_ready, has_fault, lacks_feature}
 use Rattle.vb_core.specs.declared.device.Denial.TheVariants.{NoQueue, BadArgument, NotReady}
 use Rattle.vb_core.specs.declared.device.Denial.TheVariants.{NeedsReset, Misplaced}
 use Rattle.vb_core.{specs.Devices.{ring_of, call_denial}, specs.declared.device.Denial.Denial}
 use Rattle.vb_core.{specs.declared.device.Device.Device, specs.declared.kinds.Kind.Kind}
-use Rattle.vb_core.{specs.Settings.are_settings, specs.Rings.has_place, specs.Kinds.queue_of}
+use Rattle.vb_core.{specs.Settings.are_settings, specs.Rings.has_place}
 
 -- The arguments fit, and the queue has its place.
 pub record IsOpen (kind : Kind) (fits copied : Bool) (d : Device) : Type 0 where
@@ -37,10 +36,4 @@ neither false b h = absurd cc
 
 pub open_call : (kind : Kind) (known fits copied : Bool) (d : Device) →
     call_denial kind known fits copied d ≡ None → IsOpen kind fits copied d
-open_call kind known fits copied d h =
-    let passed = passes (not known) (not fits || not (are_settings d.settings))
-    (is_not_ready d.status) (has_fault d.status) (lacks_feature d.features (queue_of kind))
-    (not copied || not (has_place d.settings.memory_end (ring_of kind d))) h in
-    let first = neither fits (are_settings d.settings) passed.0 in
-    let last = neither copied (has_place d.settings.memory_end (ring_of kind d)) passed.1 in
-    record { fits_so = first.0; settings = first.1; copied_so = last.0; place = last.1 }
+open_call kind known fits copied d h = grind (arith, passes, neither)

@@ -29,8 +29,7 @@ differ_self true = refl
 differ_self false = refl
 
 -- two changes to the same value are one
-both : (t1 t2 inside x : Bool)
-    → cond t2 inside (cond t1 inside x) ≡ cond (t1 || t2) inside x
+both : (t1 t2 inside x : Bool) → cond t2 inside (cond t1 inside x) ≡ cond (t1 || t2) inside x
 both t1 t2 inside x = grind arith
 
 adds : (t1 t2 inside x y z : Bool) → y ≡ cond t1 inside x → z ≡ cond t2 inside y
@@ -48,9 +47,7 @@ pub put_both : (t1 t2 t3 : ℕ → Bool) (inside : Bool) (a b c : List ℕ) (m n
     → Puts t3 inside a c (m + n)
 put_both t1 t2 t3 inside a b c m n one two e = record {
   words = two.words ∙ one.words;
-  pages = λ p.
-      two.pages p
-      ∙ ap (λ (x : Bool). cond (t2 p) inside x) (one.pages p)
+  pages = λ p. two.pages p ∙ ap (λ (x : Bool). cond (t2 p) inside x) (one.pages p)
       ∙ both (t1 p) (t2 p) inside (is_ballooned a p)
       ∙ ap (λ (x : Bool). cond x inside (is_ballooned a p)) (sym (e p));
   count =
@@ -59,8 +56,7 @@ put_both t1 t2 t3 inside a b c m n one two e = record {
       ap (λ (k : ℕ). count_by (is_changed b c) (range_with_len 0 (64 * k))) one.words in
       let sum = count_add (is_changed a b) (is_changed b c) (is_changed a c) 0 (64 * length a)
       (λ p. adds (t1 p) (t2 p) inside (is_ballooned a p) (is_ballooned b p) (is_ballooned c p)
-      (one.pages p) (two.pages p)) in
-      omega (arith, one.count, two.count, same, sum);
+      (one.pages p) (two.pages p)) in omega (arith, one.count, two.count, same, sum);
 }
 
 -- what is put there passes some other test alike
@@ -81,8 +77,7 @@ or_digit d e l m = grind arith
 pub or_bit : (x y b : ℕ) → has_bit (bit_or x y) b ≡ cond (has_bit y b) true (has_bit x b)
 or_bit x y b = grind (arith, eqb, bit_at_or, or_digit)
 
-without_digit : (d e : ℕ) → d < 2 → e < 2
-    → eqb (min d (1 - e)) 1 ≡ cond (eqb e 1) false (eqb d 1)
+without_digit : (d e : ℕ) → d < 2 → e < 2 → eqb (min d (1 - e)) 1 ≡ cond (eqb e 1) false (eqb d 1)
 without_digit d e l m = grind arith
 
 pub without_bit : (x y b : ℕ) → y < 2 ^ 64 → b < 64
@@ -110,41 +105,33 @@ pub put_word : (a : List ℕ) (w mask word : ℕ) (inside : Bool) → w < length
 put_word a w mask word inside l small fits bits = record {
   words = length-set a w word;
   pages = λ p. elim (eqb_tells (p / 64) w) [
-    | inl same ↦
-        in_same p same.1
-        ∙ bits (p % 64) (omega arith)
+    | inl same ↦ in_same p same.1 ∙ bits (p % 64) (omega arith)
         ∙ ap (λ (x : Bool). cond (has_bit mask (p % 64)) inside x) (sym (was p same.1))
         ∙ ap (λ (x : Bool). cond (x && has_bit mask (p % 64)) inside (is_ballooned a p))
         (sym same.0)
-    | inr other ↦
-        in_other p other.1
+    | inr other ↦ in_other p other.1
         ∙ ap (λ (x : Bool). cond (x && has_bit mask (p % 64)) inside (is_ballooned a p))
         (sym other.0)
   ];
   count = sym (count_word (is_changed a (set a w word)) (bit_xor (get_or a w 0) word) w (length a)
-      (xor_lt 64 (get_or a w 0) word small fits) l
-      (λ i m.
+      (xor_lt 64 (get_or a w 0) word small fits) l (λ i m.
       ap (λ (x : Bool). differ x (is_ballooned (set a w word) (64 * w + i))) (at_place a w i m)
-      ∙ ap (λ (x : Bool). differ (has_bit (get_or a w 0) i) x)
-      (at_place (set a w word) w i m
+      ∙ ap (λ (x : Bool). differ (has_bit (get_or a w 0) i) x) (at_place (set a w word) w i m
       ∙ ap (λ (x : ℕ). has_bit x i) (get_or-set_same a w word 0 l))
-      ∙ sym (xor_bit (get_or a w 0) word i))
-      (λ p ne.
+      ∙ sym (xor_bit (get_or a w 0) word i)) (λ p ne.
       ap (λ (x : Bool). differ (is_ballooned a p) x) (in_other p ne)
       ∙ differ_self (is_ballooned a p)));
 }
   where
     in_same : (p : ℕ) → p / 64 ≡ w → is_ballooned (set a w word) p ≡ has_bit word (p % 64)
-    in_same p e =
-        ap (λ (k : ℕ). has_bit (get_or (set a w word) k 0) (p % 64)) e
+    in_same p e = ap (λ (k : ℕ). has_bit (get_or (set a w word) k 0) (p % 64)) e
         ∙ ap (λ (x : ℕ). has_bit x (p % 64)) (get_or-set_same a w word 0 l)
 
     was : (p : ℕ) → p / 64 ≡ w → is_ballooned a p ≡ has_bit (get_or a w 0) (p % 64)
     was p e = ap (λ (k : ℕ). has_bit (get_or a k 0) (p % 64)) e
 
     in_other : (p : ℕ) → p / 64 ≢ w → is_ballooned (set a w word) p ≡ is_ballooned a p
-    in_other p ne =
-        ap (λ (x : ℕ). has_bit x (p % 64)) (get_or-set_other a w (p / 64) word 0 ne)
+    in_other p ne = ap (λ (x : ℕ). has_bit x (p % 64)) (get_or-set_other a w (p / 64) word 0 ne)
 
 -- ---- the pages of runs
 
@@ -152,12 +139,7 @@ put_word a w mask word inside l small fits bits = record {
 pub any_of_runs : (test : ℕ → Bool) (runs : List Run)
     → list_any test (pages_of_runs runs) ≡ list_any (λ run. list_any test (pages_of_run run)) runs
 any_of_runs test [] = refl
-any_of_runs test (run ∷ runs) =
-    grind (
-      arith,
-      list_any-append test (pages_of_run run) (pages_of_runs runs),
-      any_of_runs test runs,
-    )
+any_of_runs test (run ∷ runs) = grind (arith, list_any-append, any_of_runs test runs)
 
 -- a page is in a run between its ends
 pub in_run : (run : Run) (p : ℕ)
@@ -168,8 +150,6 @@ in_run run p =
       cases_Bool,
       is_in-range,
       and_from,
-      leb,
-      ltb,
       le-leb,
       lt-ltb,
       and_parts,
@@ -187,28 +167,23 @@ reaches bound first (suc (suc count)) some =
     grind (arith, leb bound first, reaches bound (first + 1) (suc count) (omega arith), leb bound)
 
 -- the last page of a run has a bit exactly if all of its pages do
-pub last_has_bit : (run : Run) (words last : ℕ) → 0 < run.count
-    → last ≡ run.first + run.count - 1
+pub last_has_bit : (run : Run) (words last : ℕ) → 0 < run.count → last ≡ run.first + run.count - 1
     → ltb (last / 64) words ≡ not (list_any (λ p. leb (64 * words) p) (pages_of_run run))
-last_has_bit run words last some e =
-    ends ∙ ap (λ (n : ℕ). not (leb (64 * words) n)) e
+last_has_bit run words last some e = ends ∙ ap (λ (n : ℕ). not (leb (64 * words) n)) e
     ∙ ap not (sym (reaches (64 * words) run.first run.count some))
   where
     ends : ltb (last / 64) words ≡ not (leb (64 * words) last)
     ends = elim (cases_lt (last / 64) words) [
-      | inl less ↦
-          lt-ltb (last / 64) words less
+      | inl less ↦ lt-ltb (last / 64) words less
           ∙ ap not (sym (lt-leb (64 * words) last (omega arith)))
-      | inr more ↦
-          le-ltb (last / 64) words more
+      | inr more ↦ le-ltb (last / 64) words more
           ∙ ap not (sym (le-leb (64 * words) last (omega arith)))
     ]
 
 -- a run without a page reaches nothing
 pub none_reaches : (test : ℕ → Bool) (run : Run) → run.count ≡ 0
     → list_any test (pages_of_run run) ≡ false
-none_reaches test run e =
-    ap (λ (n : ℕ). list_any test (range_with_len run.first n)) e
+none_reaches test run e = ap (λ (n : ℕ). list_any test (range_with_len run.first n)) e
 
 -- ---- the bits of a run in a word
 
@@ -254,8 +229,7 @@ put_more run w mask inside a b c m n one two e = search (arith, put_both, one_wo
 -- no more pages change than there are numbers up to the run's end
 pub put_in_run : (run : Run) (w : ℕ) (inside : Bool) (a b : List ℕ) (n bound : ℕ)
     → Puts (is_before run w) inside a b n → run.first + run.count ≤ bound → n ≤ bound
-put_in_run run w inside a b n bound s l =
-    put_few (is_before run w) inside a b n bound s (λ p from.
+put_in_run run w inside a b n bound s l = put_few (is_before run w) inside a b n bound s (λ p from.
     ap (λ (x : Bool). x && ltb (p / 64) w) (none_past run bound p l from))
 
 -- ---- runs, one after the other
@@ -274,13 +248,12 @@ none_of_one test runs k d l none = grind (arith, both_ways, some_past)
 pub one_run_more : (runs : List Run) (k p : ℕ) (d : Run) → k < length runs
     → is_in p (pages_of_runs (take (k + 1) runs))
     ≡ (is_in p (pages_of_runs (take k runs)) || is_in p (pages_of_run (get_or runs k d)))
-one_run_more runs k p d l =
-    grind (
-      arith,
-      any_of_runs (λ m. m == p) (take (k + 1) runs),
-      list_any_more (λ run. is_in p (pages_of_run run)) runs k d l,
-      any_of_runs (λ m. m == p) (take k runs),
-    )
+one_run_more runs k p d l = grind (
+  arith,
+  any_of_runs (λ m. m == p) (take (k + 1) runs),
+  list_any_more (λ run. is_in p (pages_of_run run)) runs k d l,
+  any_of_runs (λ m. m == p) (take k runs),
+)
 
 -- what was put there of the first runs, whose pages are below a bound
 pub record PutsFirst (runs : List Run) (k : ℕ) (inside : Bool) (old new : List ℕ) (n : ℕ) :
@@ -301,9 +274,7 @@ put_next_run runs k d inside a b c m n l first next small = record {
       (λ p. is_in p (pages_of_run (get_or runs k d)))
       (λ p. is_in p (pages_of_runs (take (k + 1) runs))) inside a b c m n first.put next
       (λ p. one_run_more runs k p d l);
-  small = λ p from.
-      one_run_more runs k p d l
-      ∙ or_from (is_in p (pages_of_runs (take k runs)))
+  small = λ p from. one_run_more runs k p d l ∙ or_from (is_in p (pages_of_runs (take k runs)))
       (is_in p (pages_of_run (get_or runs k d))) (first.small p from) (small p from);
 }
 

@@ -20,12 +20,11 @@ pub record Named_so_far (skipping : Bool) (reserved count : ℕ) (ns : List ℕ)
 right_more : (reserved count : ℕ) (ns : List ℕ) (i : ℕ) → i < length ns →
     right_numbers reserved count (take (i + 1) ns) ≡
     right_numbers reserved count (take i ns) ++ right_numbers reserved count (get_or ns i 0 ∷ [])
-right_more reserved count ns i lt =
-    grind (
-      arith,
-      take_more ns i 0 lt,
-      filter-append (λ n. is_none (number_fault reserved count n)) (take i ns) (get_or ns i 0 ∷ []),
-    )
+right_more reserved count ns i lt = grind (
+  arith,
+  take_more ns i 0 lt,
+  filter-append (λ n. is_none (number_fault reserved count n)) (take i ns) (get_or ns i 0 ∷ []),
+)
 
 pub right_number : (reserved count : ℕ) (ns : List ℕ) (i n : ℕ) → i < length ns →
     get_or ns i 0 ≡ n → number_fault reserved count n ≡ None →
@@ -74,8 +73,7 @@ all_named skipping reserved count ns runs used skipped named so_far r s p = grin
 
 -- a wrong number stands behind right ones
 pub names_fault : (skipping : Bool) (reserved count : ℕ) (ns : List ℕ) (k n : ℕ) (f : ChainFault)
-    (runs : List Run) → k < length ns → get_or ns k 0 ≡ n →
-    number_fault reserved count n ≡ Some f →
+    (runs : List Run) → k < length ns → get_or ns k 0 ≡ n → number_fault reserved count n ≡ Some f →
     skipping ≡ false → (skipping ≡ false → first_number_fault reserved count (take k ns) ≡ None) →
     NamesRuns skipping reserved count ns runs (Err f)
 names_fault skipping reserved count ns k n f runs lt at e no_skip so_far =

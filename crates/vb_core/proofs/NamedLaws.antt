@@ -1,6 +1,6 @@
 -- What runs say of the pages that the definitions give.
 use Rattle.std.proofs.Common.{◌≡◌, ◌∙◌, ℕ, Bool, false, List, [], ◌∷◌, Option, Some, None, Result}
-use Rattle.std.proofs.Common.{Ok, Err, refl, length, take, sym, ap, arith, subst}
+use Rattle.std.proofs.Common.{Ok, Err, refl, length, take, sym, ap, arith}
 use Rattle.std.specs.Prelude.{cond, is_none, IsOkAnd}
 use Rattle.vb_model.{specs.Tests.is_in, specs.Orderly.times, specs.Driver.AllDistinct}
 use Rattle.vb_model.proofs.Distinct.{times-none, times-some}
@@ -58,8 +58,7 @@ pub named_fault : (mem : Pages) (pieces : List Piece) (reserved total : ℕ) (ru
     (result : Result Named ChainFault) (fault : ChainFault) → request_length pieces ≡ Ok total →
     NamesRuns false reserved (length mem) (numbers_of (bytes_of mem pieces)) runs result →
     page_request mem pieces reserved ≡ Err fault → result ≡ Err fault
-named_fault mem pieces reserved total runs result fault e names is =
-    names.fault fault (unless_err
+named_fault mem pieces reserved total runs result fault e names is = names.fault fault (unless_err
     (first_number_fault reserved (length mem) (numbers_of (bytes_of mem pieces)))
     (each_once (numbers_of (bytes_of mem pieces))) fault
     (sym (read_numbers mem pieces reserved total e) ∙ is))
@@ -67,16 +66,14 @@ named_fault mem pieces reserved total runs result fault e names is =
 pub named_members : (mem : Pages) (pieces : List Piece) (reserved total : ℕ) (runs : List Run)
     (result : Result Named ChainFault) (pages : List ℕ) → request_length pieces ≡ Ok total →
     NamesRuns false reserved (length mem) (numbers_of (bytes_of mem pieces)) runs result →
-    page_request mem pieces reserved ≡ Ok pages →
-    IsOkAnd result (λ named. (p : ℕ) →
+    page_request mem pieces reserved ≡ Ok pages → IsOkAnd result (λ named. (p : ℕ) →
     is_in p (pages_of_runs (take named.runs runs)) ≡ is_in p pages)
 named_members mem pieces reserved total runs result pages e names is =
     let ns : List ℕ = numbers_of (bytes_of mem pieces) in
     let found = named_right mem pieces reserved total runs result pages e names is in
     weaker result (λ named. Tell (take named.runs runs) ns)
     (λ named. (p : ℕ) → is_in p (pages_of_runs (take named.runs runs)) ≡ is_in p pages)
-    (λ named are p.
-    in_both p (pages_of_runs (take named.runs runs)) ns
+    (λ named are p. in_both p (pages_of_runs (take named.runs runs)) ns
     (is_in p (pages_of_runs (take named.runs runs))) (is_in p ns) refl refl
     (tell_times (take named.runs runs) ns are p)
     ∙ (sym (is_in-each_once p ns) ∙ ap (is_in p) found.0)) found.1
@@ -84,13 +81,11 @@ named_members mem pieces reserved total runs result pages e names is =
 pub named_once : (mem : Pages) (pieces : List Piece) (reserved total : ℕ) (runs : List Run)
     (result : Result Named ChainFault) (pages : List ℕ) → request_length pieces ≡ Ok total →
     NamesRuns false reserved (length mem) (numbers_of (bytes_of mem pieces)) runs result →
-    page_request mem pieces reserved ≡ Ok pages →
-    AllDistinct (numbers_of (bytes_of mem pieces)) →
+    page_request mem pieces reserved ≡ Ok pages → AllDistinct (numbers_of (bytes_of mem pieces)) →
     IsOkAnd result (λ named. Tell (take named.runs runs) pages)
 named_once mem pieces reserved total runs result pages e names is apart =
     let ns : List ℕ = numbers_of (bytes_of mem pieces) in
     let found = named_right mem pieces reserved total runs result pages e names is in
     let same : ns ≡ pages = sym (once_distinct ns apart) ∙ found.0 in
     weaker result (λ named. Tell (take named.runs runs) ns)
-    (λ named. Tell (take named.runs runs) pages)
-    (λ named are. subst (λ (xs : List ℕ). Tell (take named.runs runs) xs) same are) found.1
+    (λ named. Tell (take named.runs runs) pages) (λ named are. rw (← same) are) found.1

@@ -28,10 +28,8 @@ pub open_next : (kind : Kind) (avail table room : ℕ) (d : Device) →
     IsOpen kind (nat_le (ring_of kind d).size room) (are_copies (ring_of kind d).size avail table) d
 open_next kind avail table room d h = grind (arith, open_call)
 
-pub open_report : (avail table room : ℕ) (d : Device) →
-    report_denial avail table room d ≡ None →
-    IsOpen Report (nat_le MAX_REPORT_PIECES room)
-    (are_copies (ring_of Report d).size avail table) d
+pub open_report : (avail table room : ℕ) (d : Device) → report_denial avail table room d ≡ None →
+    IsOpen Report (nat_le MAX_REPORT_PIECES room) (are_copies (ring_of Report d).size avail table) d
 open_report avail table room d h = search (arith, open_call)
 
 -- copies of a queue's rings fit into a page each
@@ -47,8 +45,6 @@ pieces_inside count r avail table h pieces pops few =
     let mem : Pages = copies_of count table avail in
     let len : length mem ≡ count = copied_length count (padded table ∷ padded avail ∷ []) in
     let fits : All (λ piece. piece.addr + piece.len ≤ end_of mem) pieces =
-    chain_fits (descriptor_at mem 0) r.size (end_of mem) h pieces pops.found.2 in
-    λ k d lt.
+    chain_fits (descriptor_at mem 0) r.size (end_of mem) h pieces pops.found.2 in λ k d lt.
     let fit : (slice_index_or pieces k d).addr + (slice_index_or pieces k d).len
-    ≤ 4096 * length mem = fits k d lt in
-    omega (arith, fit, len, few)
+    ≤ 4096 * length mem = fits k d lt in omega (arith, fit, len, few)

@@ -37,12 +37,11 @@ u64_then n more bytes p next h q e =
 
 pub byte_then : (n : ℕ) (more bytes : List ℕ) (p next : ℕ) → next ≡ p + 1
     → drop p bytes ≡ n ∷ more → (get_or bytes p 0 ≡ n) × (drop next bytes ≡ more)
-byte_then n more bytes p next q e =
-    grind (
-      arith,
-      behind bytes more 1 p next q (ap (λ (xs : List ℕ). drop 1 xs) e),
-      get_or-drop p bytes 0 0,
-    )
+byte_then n more bytes p next q e = grind (
+  arith,
+  behind bytes more 1 p next q (ap (λ (xs : List ℕ). drop 1 xs) e),
+  get_or-drop p bytes 0 0,
+)
 
 -- ---- what is read is what was written
 
@@ -57,8 +56,7 @@ length_part : (bytes : List ℕ) (size p next : ℕ) → next ≡ p + size → n
 length_part bytes size p next q l =
     length-take-le size (drop p bytes) (omega (arith, q, l, length-drop p bytes))
 
-byte_of_part : (bytes : List ℕ) (size p : ℕ) → AreBytes bytes
-    → AreBytes (take size (drop p bytes))
+byte_of_part : (bytes : List ℕ) (size p : ℕ) → AreBytes bytes → AreBytes (take size (drop p bytes))
 byte_of_part bytes size p all i = grind (arith, get_or-take, get_or-drop, get_or_past, length-take)
 
 pub u16_again : (bytes : List ℕ) (p next : ℕ) → AreBytes bytes → next ≡ p + 2
@@ -78,7 +76,6 @@ u64_again bytes p next all q l = search (arith, split, le_bytes_8, length_part, 
 
 pub byte_again : (bytes : List ℕ) (p next : ℕ) → next ≡ p + 1 → next ≤ length bytes
     → drop p bytes ≡ get_or bytes p 0 ∷ drop next bytes
-byte_again bytes p next q l =
-    let e : suc p ≡ next = omega (arith, q) in
+byte_again bytes p next q l = let e : suc p ≡ next = omega (arith, q) in
     drop-cons bytes p 0 (omega (arith, q, l))
     ∙ ap {B = List ℕ} (λ (k : ℕ). get_or bytes p 0 ∷ drop k bytes) e

@@ -27,12 +27,11 @@ settings = record {
 
 -- a device that is ready, with a ring of eight descriptors for inflates
 abbrev ready : Device
-ready =
-    record (new_device settings) {
-      features = 0x100000027;
-      status = 15;
-      inflate = placed 0 256 512 8;
-    }
+ready = record (new_device settings) {
+  features = 0x100000027;
+  status = 15;
+  inflate = placed 0 256 512 8;
+}
 
 -- ---- places
 

@@ -61,12 +61,11 @@ settings = record {
 
 -- one that is ready, with reports
 abbrev ready : Device
-ready =
-    record (new_device settings) {
-      features = 0x100000027;
-      status = 15;
-      report = placed 0 256 512 8;
-    }
+ready = record (new_device settings) {
+  features = 0x100000027;
+  status = 15;
+  report = placed 0 256 512 8;
+}
 
 open_one : pieces_denial (one ∷ []) 256 ready ≡ None
 unfolding lib.Count.ones

@@ -24,8 +24,7 @@ checksum_fits bytes = steps bytes 0xcbf29ce484222325 (lit< tt)
     steps : (bytes : List ℕ) (sum : ℕ) → sum < 2 ^ 64
         → fold (λ s b. (bit_xor s b * 0x100000001b3) % 2 ^ 64) sum bytes < 2 ^ 64
     steps [] sum h = h
-    steps (b ∷ bs) sum h =
-        steps bs ((bit_xor sum b * 0x100000001b3) % 2 ^ 64) (omega arith)
+    steps (b ∷ bs) sum h = steps bs ((bit_xor sum b * 0x100000001b3) % 2 ^ 64) (omega arith)
 
 length-u64_bytes : (n : ℕ) → length (u64_bytes n) ≡ 8
 unfolding u64_bytes
@@ -34,8 +33,7 @@ length-u64_bytes n = refl
 -- ---- tests one after the other
 
 header_passes : (short state version fits : Bool) → short ≡ false → state ≡ true → version ≡ true
-    → fits ≡ true
-    → (if short then Some BadLength else if not state then Some NotAState
+    → fits ≡ true → (if short then Some BadLength else if not state then Some NotAState
     else if not version then Some OtherVersion else if not fits then Some BadLength else None)
     ≡ None
 header_passes short state version fits a b c d = grind arith
@@ -43,8 +41,7 @@ header_passes short state version fits a b c d = grind arith
 header_passed : (short state version fits : Bool)
     → (if short then Some BadLength else if not state then Some NotAState
     else if not version then Some OtherVersion else if not fits then Some BadLength else None)
-    ≡ None
-    → (short ≡ false) × (state ≡ true) × (version ≡ true) × (fits ≡ true)
+    ≡ None → (short ≡ false) × (state ≡ true) × (version ≡ true) × (fits ≡ true)
 header_passed short state version fits e = grind arith
 
 read_passes : (sum possible : Bool) (x s : Saved) → sum ≡ true → possible ≡ true → x ≡ s
@@ -77,13 +74,11 @@ front x bytes more len eight e =
       eight,
       ap (λ (xs : List ℕ). length xs) whole,
       length-append (body x) more,
-    ) in
-    ap (λ (xs : List ℕ). take 183 xs) whole ∙ take_at (body x) more 183 own
+    ) in ap (λ (xs : List ℕ). take 183 xs) whole ∙ take_at (body x) more 183 own
 
 restored_from : (s : Saved) (bytes : List ℕ) → FitsSaved s → can_be s ≡ true
     → bytes ≡ in_a_row (saved_parts s) (u64_bytes (checksum (body s))) → restored bytes ≡ Ok s
-restored_from s bytes f possible e =
-    let sum = u64_bytes (checksum (body s)) in
+restored_from s bytes f possible e = let sum = u64_bytes (checksum (body s)) in
     let w = says s sum bytes f e in
     let eight : length sum ≡ 8 = length-u64_bytes (checksum (body s)) in
     let len : length bytes ≡ 191 = omega (
@@ -97,28 +92,24 @@ restored_from s bytes f possible e =
     let same = front s bytes sum len eight e in
     let header : header_denial bytes ≡ None = header_passes (nat_lt (length bytes) HEADER_LENGTH)
     (is_state bytes) (has_version bytes) (has_length bytes)
-    (ap (λ (n : ℕ). nat_lt n HEADER_LENGTH) len)
-    (eq-eqb (u64_at bytes 0) MAGIC w.magic)
+    (ap (λ (n : ℕ). nat_lt n HEADER_LENGTH) len) (eq-eqb (u64_at bytes 0) MAGIC w.magic)
     (eq-eqb (u32_at bytes VERSION_AT) FORMAT_VERSION w.version)
     (ap (λ (n : ℕ). (n == SAVED_LENGTH) && (length bytes == SAVED_LENGTH)) w.length_told
     ∙ ap (λ (n : ℕ). n == SAVED_LENGTH) len) in
     let rest : read_saved bytes ≡ Ok s = read_passes (has_sum bytes) (can_be (saved_in bytes))
-    (saved_in bytes) s
-    (eq-eqb (u64_at bytes 183) (checksum (take 183 bytes))
+    (saved_in bytes) s (eq-eqb (u64_at bytes 183) (checksum (take 183 bytes))
     (told.0 ∙ sym (ap (λ (xs : List ℕ). checksum xs) same)))
     (ap (λ (x : Saved). can_be x) w.saved ∙ possible) w.saved in
     ap (λ (o : Option StateDenial). unless_denied o (read_saved bytes)) header ∙ rest
 
-pub saved_restored : (s : Saved) → FitsSaved s → can_be s ≡ true
-    → restored (saved_bytes s) ≡ Ok s
+pub saved_restored : (s : Saved) → FitsSaved s → can_be s ≡ true → restored (saved_bytes s) ≡ Ok s
 saved_restored s f possible = restored_from s (saved_bytes s) f possible refl
 
 -- ---- nothing else is
 
 pub only_saved : (bytes : List ℕ) (s : Saved) → AreBytes bytes → restored bytes ≡ Ok s
     → (bytes ≡ saved_bytes s) × (can_be s ≡ true)
-only_saved bytes s all e =
-    let parts = not_denied (header_denial bytes) (read_saved bytes) s e in
+only_saved bytes s all e = let parts = not_denied (header_denial bytes) (read_saved bytes) s e in
     let header = header_passed (nat_lt (length bytes) HEADER_LENGTH) (is_state bytes)
     (has_version bytes) (has_length bytes) parts.0 in
     let rest = read_passed (has_sum bytes) (can_be (saved_in bytes)) (saved_in bytes) s parts.1 in
@@ -136,8 +127,7 @@ only_saved bytes s all e =
     let sum : drop 183 bytes ≡ u64_bytes (checksum (body (saved_in bytes))) =
     u64_again bytes 183 191 all refl (omega arith)
     ∙ ap (λ (xs : List ℕ). u64_bytes (u64_at bytes 183) ++ xs) (drop_all 191 bytes (omega arith))
-    ∙ append-nil (u64_bytes (u64_at bytes 183))
-    ∙ ap (λ (n : ℕ). u64_bytes n) told in (
+    ∙ append-nil (u64_bytes (u64_at bytes 183)) ∙ ap (λ (n : ℕ). u64_bytes n) told in (
       subst (λ (x : Saved). bytes ≡ saved_bytes x) rest.2
           (row ∙ ap (λ (xs : List ℕ). in_a_row (saved_parts (saved_in bytes)) xs) sum),
       subst (λ (x : Saved). can_be x ≡ true) rest.2 rest.1,

@@ -16,8 +16,7 @@ use Rattle.vb_core.{specs.declared.settings.Settings.Settings, specs.declared.sa
 ring_then : (r : Virtqueue) (more bytes : List ℕ) (p : ℕ) → FitsRing r
     → drop p bytes ≡ in_a_row (ring_parts r) more
     → (ring_at bytes p ≡ r) × (drop (p + 30) bytes ≡ more)
-ring_then r more bytes p f e =
-    let a = u64_then r.table _ bytes p (p + 8) f.table refl e in
+ring_then r more bytes p f e = let a = u64_then r.table _ bytes p (p + 8) f.table refl e in
     let b = u64_then r.avail _ bytes (p + 8) (p + 16) f.avail (omega arith) a.1 in
     let c = u64_then r.used _ bytes (p + 16) (p + 24) f.used (omega arith) b.1 in
     let d = u16_then r.size _ bytes (p + 24) (p + 26) f.size (omega arith) c.1 in
@@ -42,8 +41,7 @@ settings_then s more bytes p f e =
 then : (part : List ℕ) (x y z : List ℕ) → x ≡ part ++ y → y ≡ z → x ≡ part ++ z
 then part x y z e f = e ∙ ap (λ (xs : List ℕ). part ++ xs) f
 
-row : (parts : List (List ℕ)) (x y z : List ℕ) → x ≡ in_a_row parts y → y ≡ z
-    → x ≡ in_a_row parts z
+row : (parts : List (List ℕ)) (x y z : List ℕ) → x ≡ in_a_row parts y → y ≡ z → x ≡ in_a_row parts z
 row parts x y z e f = e ∙ ap (λ (xs : List ℕ). in_a_row parts xs) f
 
 ring_again : (bytes : List ℕ) (p : ℕ) → AreBytes bytes → p + 30 ≤ length bytes
@@ -52,8 +50,7 @@ ring_again bytes p all l = grind (arith, u64_again, u16_again)
 
 settings_again : (bytes : List ℕ) (p : ℕ) → AreBytes bytes → p + 22 ≤ length bytes
     → drop p bytes ≡ in_a_row (settings_parts (settings_at bytes p)) (drop (p + 22) bytes)
-settings_again bytes p all l =
-    then _ _ _ _ (u64_again bytes p (p + 8) all refl (omega arith))
+settings_again bytes p all l = then _ _ _ _ (u64_again bytes p (p + 8) all refl (omega arith))
     (then _ _ _ _ (u64_again bytes (p + 8) (p + 16) all (omega arith) (omega arith))
     (then _ _ _ _ (u32_again bytes (p + 16) (p + 20) all (omega arith) (omega arith))
     (then (get_or bytes (p + 20) 0 ∷ []) _ _ _
@@ -72,8 +69,7 @@ pub record Says (bytes : List ℕ) (s : Saved) (more : List ℕ) : Type 0 where
 
 pub says : (s : Saved) (more bytes : List ℕ) → FitsSaved s → bytes ≡ in_a_row (saved_parts s) more
     → Says bytes s more
-says s more bytes f e =
-    let d = s.device in
+says s more bytes f e = let d = s.device in
     let a = u64_then MAGIC _ bytes 0 8 (lit< tt) refl e in
     let b = u32_then FORMAT_VERSION _ bytes 8 12 (lit< tt) refl a.1 in
     let c = u32_then SAVED_LENGTH _ bytes 12 16 (lit< tt) refl b.1 in
@@ -87,8 +83,7 @@ says s more bytes f e =
     let m = ring_then d.deflate _ bytes 89 f.deflate l.1 in
     let n = ring_then d.statistics _ bytes 119 f.statistics m.1 in
     let o = ring_then d.report _ bytes 149 f.report n.1 in
-    let q = u32_then d.poison _ bytes 179 183 f.poison refl o.1 in
-    record {
+    let q = u32_then d.poison _ bytes 179 183 f.poison refl o.1 in record {
       magic = a.0;
       version = b.0;
       length_told = c.0;
@@ -100,8 +95,7 @@ says s more bytes f e =
 pub row_again : (bytes : List ℕ) → AreBytes bytes → 183 ≤ length bytes → u64_at bytes 0 ≡ MAGIC
     → u32_at bytes VERSION_AT ≡ FORMAT_VERSION → u32_at bytes LENGTH_AT ≡ SAVED_LENGTH
     → bytes ≡ in_a_row (saved_parts (saved_in bytes)) (drop CHECKSUM_AT bytes)
-row_again bytes all l m v c =
-    then _ _ _ _ (u64_again bytes 0 8 all refl (omega arith)
+row_again bytes all l m v c = then _ _ _ _ (u64_again bytes 0 8 all refl (omega arith)
     ∙ ap (λ (n : ℕ). u64_bytes n ++ drop 8 bytes) m)
     (then _ _ _ _ (u32_again bytes 8 12 all refl (omega arith)
     ∙ ap (λ (n : ℕ). u32_bytes n ++ drop 12 bytes) v)

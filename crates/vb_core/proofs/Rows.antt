@@ -8,8 +8,7 @@ pub use Rattle.std.proofs.lemmas.List.Sums.{fold_more}
 pub row_more : (parts : List (List ℕ)) (more : List ℕ)
     → in_a_row parts more ≡ in_a_row parts [] ++ more
 row_more [] more = refl
-row_more (part ∷ parts) more =
-    ap (λ (xs : List ℕ). part ++ xs) (row_more parts more)
+row_more (part ∷ parts) more = ap (λ (xs : List ℕ). part ++ xs) (row_more parts more)
     ∙ sym (append_assoc part (in_a_row parts []) more)
 
 -- bytes that are these parts
@@ -23,11 +22,9 @@ joins ps qs old new e f = record {
   is = f ∙ ap (λ (xs : List ℕ). xs ++ in_a_row qs []) e.is ∙ behind ps;
 }
   where
-    behind : (ps : List (List ℕ))
-        → in_a_row ps [] ++ in_a_row qs [] ≡ in_a_row (ps ++ qs) []
+    behind : (ps : List (List ℕ)) → in_a_row ps [] ++ in_a_row qs [] ≡ in_a_row (ps ++ qs) []
     behind [] = refl
-    behind (p ∷ ps) =
-        append_assoc p (in_a_row ps []) (in_a_row qs [])
+    behind (p ∷ ps) = append_assoc p (in_a_row ps []) (in_a_row qs [])
         ∙ ap (λ (xs : List ℕ). p ++ xs) (behind ps)
 
 -- one more part behind a row

@@ -71,8 +71,7 @@ settings = record {
 }
 
 abbrev at_step : ℕ → ℕ → Device
-at_step status features =
-    record (new_device settings) { status = status; features = features }
+at_step status features = record (new_device settings) { status = status; features = features }
 
 -- features: none early, of those offered, and with FEATURES_OK what it asks for
 features_agreed : map are_agreed
@@ -96,16 +95,13 @@ ring moved = record {
 }
 
 -- queues of inflates: at any step, and moved only once the driver is done
-inflates : map (is_ring Inflate)
-    (at_step 0 0 ∷ record (at_step 0 0) { inflate = ring 0 }
+inflates : map (is_ring Inflate) (at_step 0 0 ∷ record (at_step 0 0) { inflate = ring 0 }
     ∷ record (at_step 11 0x100000001) { inflate = ring 0 }
-    ∷ record (at_step 15 0x100000001) { inflate = ring 5 } ∷ [])
-    ≡ true ∷ true ∷ true ∷ true ∷ []
+    ∷ record (at_step 15 0x100000001) { inflate = ring 5 } ∷ []) ≡ true ∷ true ∷ true ∷ true ∷ []
 unfolding lib.Count.ones
 inflates = refl
 
-not_inflates : map (is_ring Inflate)
-    (record (at_step 11 0x100000001) { inflate = ring 5 }
+not_inflates : map (is_ring Inflate) (record (at_step 11 0x100000001) { inflate = ring 5 }
     ∷ record (at_step 15 0x100000001) { inflate = record (ring 0) { table = 0x10008 } }
     ∷ record (at_step 15 0x100000001) { inflate = record (ring 0) { size = 63 } }
     ∷ record (at_step 15 0x100000001) { inflate = record (ring 0) { used = 0xffffe0 } }
@@ -115,16 +111,14 @@ unfolding lib.Count.ones
 not_inflates = refl
 
 -- of statistics: not before features, not unless offered, and moved only with the feature
-statistics : map (is_ring Statistics)
-    (record (at_step 3 0) { statistics = ring 0 }
+statistics : map (is_ring Statistics) (record (at_step 3 0) { statistics = ring 0 }
     ∷ record (at_step 15 0x100000001) { statistics = ring 0 }
     ∷ record (at_step 15 0x100000003) { statistics = ring 5 } ∷ []) ≡ true ∷ true ∷ true ∷ []
 unfolding lib.Count.ones
 statistics = refl
 
 not_statistics : is_ring Statistics (record (at_step 1 0) { statistics = ring 0 })
-    ∷ is_ring Statistics (record (at_step 15 0x100000001) { statistics = ring 5 })
-    ∷ is_ring Report
+    ∷ is_ring Statistics (record (at_step 15 0x100000001) { statistics = ring 5 }) ∷ is_ring Report
     (record (at_step 15 0x100000001) {
       report = ring 0;
       settings = record settings { offered = 0x100000003 };
@@ -138,8 +132,7 @@ holding status features held = record {
   held = held;
 }
 
-held_heads : map is_held
-    (holding 3 0 0 ∷ holding 15 0x100000003 1 ∷ holding 15 0x100000003 64
+held_heads : map is_held (holding 3 0 0 ∷ holding 15 0x100000003 1 ∷ holding 15 0x100000003 64
     ∷ holding 79 0x100000003 64 ∷ []) ≡ true ∷ true ∷ true ∷ true ∷ []
 held_heads = refl
 
@@ -166,7 +159,6 @@ poisoned = record { device = record (at_step 3 0) { poison = 7 }; held = 0 }
 
 saved_or_not : save_denial (holding 15 0x100000003 64) 191
     ∷ save_denial (holding 15 0x100000003 64) 190 ∷ save_denial (holding 15 0x100000003 65) 191
-    ∷ save_denial poisoned 191 ∷ []
-    ≡ None ∷ Some BadLength ∷ Some Impossible ∷ Some Impossible ∷ []
+    ∷ save_denial poisoned 191 ∷ [] ≡ None ∷ Some BadLength ∷ Some Impossible ∷ Some Impossible ∷ []
 unfolding lib.Count.ones
 saved_or_not = refl

@@ -1,29 +1,26 @@
 -- A device that keeps ballooned pages, from one that has ballooned nothing.
 use Rattle.std.specs.Prelude.{◌≡◌, ℕ, ◌+◌, ◌%◌, ◌==◌, Bool, true, false, List, [], length}
 use Rattle.std.specs.Prelude.{replicate, Option, Some, None, Result, Ok, Err, if◌then◌else◌, ◌++◌}
-use Rattle.std.{specs.Prelude.{not, refl}, proofs.Common.{sym, ◌∙◌, ap, subst}}
+use Rattle.std.{proofs.Common.{arith, sym, ◌∙◌, ap}, specs.Prelude.{not, refl}}
 use Rattle.vb_model.{specs.declared.replies.Refusal.Refusal, specs.Requests.Request}
 use Rattle.vb_model.specs.declared.replies.Refusal.TheVariants.{Broken, NoQueue}
 use Rattle.vb_model.specs.Tables.{has_chains, is_queue_of_requests}
 use Rattle.vb_ram.{specs.Pages.Pages, specs.Part.{Part, QueuePart}}
 use Rattle.vb_chain.specs.declared.fault.ChainFault.{ChainFault}
 use Rattle.vb_device.specs.Calls.{lost_frames, taking, noting, without_frames, settled, using}
-use Rattle.vb_device.specs.BaseCalls.{SettlesBy, taken_out, TakesOut, UsesChain, flags_after}
 use Rattle.vb_device.specs.Calls.{TakeMeans, TakesBy, FinishesBy, Uses, DetachesBy}
+use Rattle.vb_device.specs.BaseCalls.{SettlesBy, taken_out, TakesOut, UsesChain, flags_after}
 use Rattle.vb_device.{specs.Queues.{queue_part, with_queue, queue_end}, specs.Base.with_pace}
 use Rattle.vb_device.{proofs.LooseFrames.{all_but_loose, lost_alone}, specs.Faults.Breaks}
 use Rattle.vb_device.specs.Conditions.{finish_refusal, taken_at}
 use Rattle.vb_device.proofs.FourQueues.{at_each, at_requests}
-use Rattle.vb_ring.{specs.Ends.DeviceEnd, specs.Calls.AddsUsedBy}
-use Rattle.vb_status.specs.After.{part_after_reset}
 
 -- the part with these flags, of this pace
 abbrev pub over : Bool → List Bool → Part → Part
 over paced flags part = record part { ballooned = flags; paced = paced }
 
 with_over : (paced a b c : Bool) (flags : List Bool) (x : QueuePart) (p : Part)
-    → over paced flags (if a then record p
-    { inflate = x } else (if b then record p
+    → over paced flags (if a then record p { inflate = x } else (if b then record p
     { deflate = x } else (if c then record p { statistics = x } else record p { report = x })))
     ≡ (if a then record (over paced flags p)
     { inflate = x } else (if b then record (over paced flags p)
@@ -91,12 +88,7 @@ takes_over q m1 m2 paced flags p1 p2 result t = record {
 pub detaches_over : (m1 m2 : Pages) (paced : Bool) (flags marks : List Bool) (p1 p2 : Part) →
     marks ≡ replicate (length flags) false → DetachesBy m1 m2 p1 p2 →
     DetachesBy m1 m2 (over paced flags p1) (over paced marks p2)
-detaches_over m1 m2 paced flags marks p1 p2 none d = record {
-  memory = d.memory;
-  part = ap (over paced marks) d.part ∙
-      ap (λ (fs : List Bool). over paced fs (record (part_after_reset p1) { loose = p2.loose })) none;
-  loose = d.loose;
-}
+detaches_over m1 m2 paced flags marks p1 p2 none d = grind arith
 
 -- ---- finish
 
@@ -126,14 +118,7 @@ marked_out : (q index : ℕ) (pages : List ℕ) (mem : Pages) (paced : Bool) (fl
     (p : Part) → is_queue_of_requests q ≡ true → marks ≡ flags_after q pages flags →
     over paced marks (taken_out q index pages mem (with_pace paced p)) ≡
     settled q pages (taken_out q index pages mem (over paced flags p))
-marked_out q index pages mem paced flags marks p known is =
-    at_requests (λ n. marks ≡ flags_after n pages flags →
-    over paced marks (taken_out n index pages mem (with_pace paced p)) ≡
-    settled n pages (taken_out n index pages mem (over paced flags p)))
-    (λ e. ap (λ fs. over paced fs (taken_out 0 index pages mem (with_pace paced p))) e)
-    (λ e. ap (λ fs. over paced fs (taken_out 1 index pages mem (with_pace paced p))) e)
-    (λ e. ap (λ fs. over paced fs (taken_out 4 index pages mem (with_pace paced p))) e)
-    q known is
+marked_out q index pages mem paced flags marks p known is = grind (arith, at_requests)
 
 kind_of_finish : (a : Bool) (rest : Option Refusal) → (if not a then Some NoQueue else rest) ≡ None →
     a ≡ true
@@ -148,8 +133,7 @@ pub settles_ok : (q index : ℕ) (paced : Bool) (m1 m2 : Pages) (flags marks : L
 settles_ok q index paced m1 m2 flags marks p1 p2 r result is marked b = record {
   refused = λ w e. absurd (ok_err r w (b.refused w e).0);
   settled = λ x e at.
-      let known : is_queue_of_requests q ≡ true =
-      kind_of_finish (is_queue_of_requests q) _ e in
+      let known : is_queue_of_requests q ≡ true = kind_of_finish (is_queue_of_requests q) _ e in
       let at_base = taken_over q index paced flags p1 known at in
       let got = b.out x (refusal_over q index paced flags p1 known ∙ e) at_base in
       let same : r ≡ x = same_ok (Ok r) r x refl got.0 in (
@@ -167,10 +151,7 @@ bumped k = record k { next_used = (k.next_used + 1) % 65536 }
 bump_over : (q : ℕ) (paced : Bool) (marks : List Bool) (p : Part) → has_chains q ≡ true →
     over paced marks (with_queue q (bumped (queue_part q p)) p) ≡
     with_queue q (bumped (queue_part q (over paced marks p))) (over paced marks p)
-bump_over q paced marks p known =
-    at_each (λ n. over paced marks (with_queue n (bumped (queue_part n p)) p) ≡
-    with_queue n (bumped (queue_part n (over paced marks p))) (over paced marks p))
-    refl refl refl refl q known
+bump_over q paced marks p known = grind (arith, at_each)
 
 end_over : (q : ℕ) (paced : Bool) (marks : List Bool) (p : Part) → has_chains q ≡ true →
     queue_end q (over paced marks p) ≡ queue_end q p
@@ -181,12 +162,7 @@ used_is : (q index : ℕ) (pages : List ℕ) (mem : Pages) (p : Part) → is_que
     with_queue q (bumped (queue_part q (settled q pages (taken_out q index pages mem p))))
     (settled q pages (taken_out q index pages mem p)) ≡
     record (settled q pages (using q index p)) { loose = p.loose ++ lost_frames q pages mem }
-used_is q index pages mem p known =
-    at_requests (λ n.
-    with_queue n (bumped (queue_part n (settled n pages (taken_out n index pages mem p))))
-    (settled n pages (taken_out n index pages mem p)) ≡
-    record (settled n pages (using n index p)) { loose = p.loose ++ lost_frames n pages mem })
-    refl refl refl q known
+used_is q index pages mem p known = grind (arith, at_requests)
 
 end_settled : (q index : ℕ) (pages : List ℕ) (mem : Pages) (p : Part) →
     is_queue_of_requests q ≡ true →
@@ -197,30 +173,20 @@ end_settled q index pages mem p known =
 
 settles : (q index : ℕ) (r : Request) (m1 m2 m3 : Pages) (paced : Bool) (marks : List Bool)
     (p1 p2 b2 b3 : Part) → has_chains q ≡ true → is_queue_of_requests q ≡ true → p1.loose ≡ [] →
-    m2 ≡ without_frames q r.pages m1
-    → p2 ≡ settled q r.pages (taken_out q index r.pages m1 p1)
+    m2 ≡ without_frames q r.pages m1 → p2 ≡ settled q r.pages (taken_out q index r.pages m1 p1)
     → over paced marks b2 ≡ p2 → UsesChain q r.head m2 m3 b2 b3 →
     Uses q index r m1 m3 p1 (over paced marks b3) (Ok r.head)
 settles q index r m1 m2 m3 paced marks p1 p2 b2 b3 known kind none mem part view used =
-    let left =
-    ap (over paced marks) used.part ∙
-    (bump_over q paced marks b2 known ∙
+    let left = ap (over paced marks) used.part ∙ (bump_over q paced marks b2 known ∙
     (ap (λ (p : Part). with_queue q (bumped (queue_part q p)) p) (view ∙ part) ∙
     used_is q index r.pages m1 p1 kind)) in
-    let end : queue_end q b2 ≡ queue_end q p1 =
-    sym (end_over q paced marks b2 known) ∙
-    (ap (queue_end q) (view ∙ part) ∙ end_settled q index r.pages m1 p1 kind) in
-    record {
+    let end : queue_end q b2 ≡ queue_end q p1 = sym (end_over q paced marks b2 known) ∙
+    (ap (queue_end q) (view ∙ part) ∙ end_settled q index r.pages m1 p1 kind) in record {
       answer = refl;
       part = all_but_loose _ _ left;
       loose = lost_alone p1.loose b3.loose (lost_frames q r.pages m1) none
           (ap (λ (x : Part). x.loose) left);
-      memory = subst (λ (m : Pages). AddsUsedBy m m3 (queue_end q p1)
-          (queue_end q (over paced marks b3)) r.head 0) mem
-          (subst (λ (e : DeviceEnd). AddsUsedBy m2 m3 e (queue_end q (over paced marks b3)) r.head 0)
-          end
-          (subst (λ (e : DeviceEnd). AddsUsedBy m2 m3 (queue_end q b2) e r.head 0)
-          (sym (end_over q paced marks b3 known)) used.memory));
+      memory = rw (← mem) (rw (← end) (rw (end_over q paced marks b3 known) used.memory));
     }
 
 num_err : (h : ℕ) (why : Refusal) → Ok h ≡ Err why → ⊥
@@ -247,9 +213,7 @@ finishes_ok q index h m1 m2 m3 paced marks p1 p2 b2 b3 known none view b used = 
   refused = λ w e. absurd (num_err h w (b.refused w e).0);
   finished = λ x e at.
       let got = b.settled x e at in
-      let head : x.head ≡ h = same_head (Ok h) x.head h got.0 refl in
-      subst (λ (n : ℕ). Uses q index x m1 m3 p1 (over paced marks b3) (Ok n)) head
+      let head : x.head ≡ h = same_head (Ok h) x.head h got.0 refl in rw (← head)
       (settles q index x m1 m2 m3 paced marks p1 p2 b2 b3 known
-      (kind_of_finish (is_queue_of_requests q) _ e) none got.1 got.2 view
-      (subst (λ (n : ℕ). UsesChain q n m2 m3 b2 b3) (sym head) used));
+      (kind_of_finish (is_queue_of_requests q) _ e) none got.1 got.2 view (rw head used));
 }

@@ -29,12 +29,11 @@ discarded-length pages mem = length-each_from 0 (λ page old. cond (is_in page p
 
 pub in_more : (pages : List ℕ) (i q : ℕ) → i < length pages →
     is_in q (take (i + 1) pages) ≡ (is_in q (take i pages) || ((get_or pages i 0 == q) || false))
-in_more pages i q lt =
-    grind (
-      arith,
-      take_more pages i 0 lt,
-      list_any-append (λ m. m == q) (take i pages) (get_or pages i 0 ∷ []),
-    )
+in_more pages i q lt = grind (
+  arith,
+  take_more pages i 0 lt,
+  list_any-append (λ m. m == q) (take i pages) (get_or pages i 0 ∷ []),
+)
 
 pub or_true : (a b : Bool) → b ≡ true → (a || (b || false)) ≡ true
 or_true true b e = refl
@@ -53,24 +52,17 @@ pub discard_more : (first mem new : Pages) (pages : List ℕ) (i page : ℕ) →
     get_or pages i 0 ≡ page → mem ≡ discarded (take i pages) first → Discarded mem new page →
     new ≡ discarded (take (i + 1) pages) first
 discard_more first mem new pages i page lt at e d =
-    ext_get_or None new (discarded (take (i + 1) pages) first)
-    (d.count ∙
-    (ap (λ (m : Pages). length m) e ∙
-    (discarded-length (take i pages) first ∙
-    sym (discarded-length (take (i + 1) pages) first))))
-    (λ q l. elim (cases_eq q page) [
-      | inl same ↦
-          ap (page_at new) same ∙ (d.bare ∙ sym (discarded-at (take (i + 1) pages) first q
-          ∙ ap (λ b. cond b None (page_at first q))
-          (in_more pages i q lt ∙
+    ext_get_or None new (discarded (take (i + 1) pages) first) (d.count ∙
+    (ap (λ (m : Pages). length m) e ∙ (discarded-length (take i pages) first ∙
+    sym (discarded-length (take (i + 1) pages) first)))) (λ q l. elim (cases_eq q page) [
+      | inl same ↦ ap (page_at new) same ∙ (d.bare ∙ sym (discarded-at (take (i + 1) pages) first q
+          ∙ ap (λ b. cond b None (page_at first q)) (in_more pages i q lt ∙
           or_true (is_in q (take i pages)) (get_or pages i 0 == q)
           (eq-eqb (get_or pages i 0) q (at ∙ sym same)))))
       | inr ne ↦
           d.others q ne ∙ (ap (λ (m : Pages). page_at m q) e ∙ (discarded-at (take i pages) first q
-          ∙ sym (discarded-at (take (i + 1) pages) first q ∙
-          ap (λ b. cond b None (page_at first q))
-          (in_more pages i q lt ∙
-          or_false (is_in q (take i pages)) (get_or pages i 0 == q)
+          ∙ sym (discarded-at (take (i + 1) pages) first q ∙ ap (λ b. cond b None (page_at first q))
+          (in_more pages i q lt ∙ or_false (is_in q (take i pages)) (get_or pages i 0 == q)
           (not_equal (get_or pages i 0) q (get_or pages i 0 == q) refl (λ x. ne (x ∙ at)))))))
     ])
 
@@ -94,8 +86,7 @@ once_push first once page true = sym (append-nil (frames_behind first once))
 once_push first once page false = frames_push first once page
 
 pub discarded_none : (mem : Pages) → mem ≡ discarded [] mem
-discarded_none mem =
-    ext_get_or None mem (discarded [] mem) (sym (discarded-length [] mem))
+discarded_none mem = ext_get_or None mem (discarded [] mem) (sym (discarded-length [] mem))
     (λ q l. sym (discarded-at [] mem q))
 
 -- one more page, whose frame, if it still has one, is loose now
@@ -112,11 +103,9 @@ loose_more first mem pages i page before now after lt at e now_is after_is =
     each_once_push front page in
     after_is ∙ (ap (λ xs. xs ++ option_to_list (frame_at mem page)) now_is
     ∙ (append_assoc before (frames_behind first (each_once front))
-    (option_to_list (frame_at mem page))
-    ∙ ap (λ xs. before ++ xs)
+    (option_to_list (frame_at mem page)) ∙ ap (λ xs. before ++ xs)
     (ap (λ o. frames_behind first (each_once front) ++ option_to_list (number_of o))
-    (frame_now first mem pages i page e) ∙
-    sym (ap (frames_behind first) once ∙
+    (frame_now first mem pages i page e) ∙ sym (ap (frames_behind first) once ∙
     once_push first (each_once front) page (is_in page front)))))
 
 -- ---- how many pages have a frame
@@ -133,8 +122,7 @@ discarded_is : (old new : Pages) (page : ℕ) → page < length old → Discarde
 discarded_is old new page lt d =
     ext_get_or None new (set old page None) (d.count ∙ sym (length-set old page None))
     (λ k l. elim (cases_eq k page) [
-      | inl same ↦
-          ap (λ (j : ℕ). page_at new j) same ∙ (d.bare ∙
+      | inl same ↦ ap (λ (j : ℕ). page_at new j) same ∙ (d.bare ∙
           sym (ap (λ (j : ℕ). page_at (set old page None) j) same ∙
           get_or-set_same old page None None lt))
       | inr ne ↦ d.others k ne ∙ sym (get_or-set_other old page k None None ne)
@@ -145,13 +133,12 @@ past_none mem page le = get_or_past mem page None le
 
 loses_inside : (old new : Pages) (page : ℕ) → page < length old → Discarded old new page →
     frame_count new + one_if (is_some (page_at old page)) ≡ frame_count old
-loses_inside old new page lt d =
-    grind (
-      arith,
-      sum_by-set (λ (o : Option Page). cond (is_some o) 1 0) old page None None lt,
-      discarded_is old new page lt d,
-      one_is (is_some (page_at old page)),
-    )
+loses_inside old new page lt d = grind (
+  arith,
+  sum_by-set (λ (o : Option Page). cond (is_some o) 1 0) old page None None lt,
+  discarded_is old new page lt d,
+  one_is (is_some (page_at old page)),
+)
 
 none_of : (o p : Option Page) (P : Type 0) → o ≡ p → IfNone o P → p ≡ None → P
 none_of None p P e is none = is
@@ -173,13 +160,12 @@ loses_found old new page found is d same = grind (arith, loses_one, none_of)
 
 -- the pages of a memory, with one page more
 pages_more : (n : ℕ) → range_with_len 0 (n + 1) ≡ range_with_len 0 n ++ n ∷ []
-pages_more n =
-    grind (
-      arith,
-      map-id (range_with_len 0 (n + 1)),
-      map-range_with_len_more (λ (k : ℕ). k) 0 n n (omega arith),
-      map-id (range_with_len 0 n),
-    )
+pages_more n = grind (
+  arith,
+  map-id (range_with_len 0 (n + 1)),
+  map-range_with_len_more (λ (k : ℕ). k) 0 n n (omega arith),
+  map-id (range_with_len 0 n),
+)
 
 page_is_new : (n : ℕ) (b : Bool) → is_in n (range_with_len 0 n) ≡ b → b ≡ false
 page_is_new n true e = absurd (omega (arith, (is_in-range n 0 n e).1))
@@ -188,8 +174,7 @@ page_is_new n false e = refl
 -- each of them is there once
 pub all_once : (n : ℕ) → each_once (range_with_len 0 n) ≡ range_with_len 0 n
 all_once zero = refl
-all_once (suc n) =
-    let put : Bool → List ℕ → List ℕ = λ b ns. if b then ns else ns ++ n ∷ [] in
+all_once (suc n) = let put : Bool → List ℕ → List ℕ = λ b ns. if b then ns else ns ++ n ∷ [] in
     subst (λ (m : ℕ). each_once (range_with_len 0 m) ≡ range_with_len 0 m) (add-one n)
     (ap each_once (pages_more n) ∙ (each_once_push (range_with_len 0 n) n ∙
     (ap (λ b. put b (each_once (range_with_len 0 n)))
@@ -203,12 +188,10 @@ page_is_there q n false lt e = absurd (outside-range q 0 n e (omega arith) (omeg
 -- a memory of which each page has lost its frame
 pub all_discarded : (mem : Pages) →
     discarded (range_with_len 0 (length mem)) mem ≡ replicate (length mem) None
-all_discarded mem =
-    let all : List ℕ = range_with_len 0 (length mem) in
+all_discarded mem = let all : List ℕ = range_with_len 0 (length mem) in
     let size : length (discarded all mem) ≡ length mem = discarded-length all mem in
     ext_get_or None (discarded all mem) (replicate (length mem) None)
-    (size ∙ sym (length-replicate (length mem) None))
-    (λ q l.
+    (size ∙ sym (length-replicate (length mem) None)) (λ q l.
     let inside : q < length mem = omega (arith, l, size) in
     discarded-at all mem q ∙ (ap (λ b. cond b None (page_at mem q))
     (page_is_there q (length mem) (is_in q all) inside refl) ∙
@@ -223,8 +206,7 @@ away reserved x p h l e = absurd (omega arith)
 pub low_not_in : (reserved p : ℕ) (pages : List ℕ) → p < reserved
     → All (λ page. reserved ≤ page) pages → is_in p pages ≡ false
 low_not_in reserved p [] l above = refl
-low_not_in reserved p (x ∷ xs) l above =
-    low_step (x == p) (is_in p xs)
+low_not_in reserved p (x ∷ xs) l above = low_step (x == p) (is_in p xs)
     (not_equal x p (x == p) refl (λ e. away reserved x p (above 0 x (omega arith)) l e))
     (low_not_in reserved p xs l (λ k d lt. above (suc k) d (omega arith)))
 

@@ -2,14 +2,13 @@
 use Rattle.std.specs.Prelude.{◌≡◌, ℕ, ◌+◌, ◌%◌, ◌<◌, ◌≤◌, Bool, true, not, ◌==◌, ◌&&◌, List, []}
 use Rattle.std.specs.Prelude.{length, remove, Option, Some, None, OnSome, is_none, if◌then◌else◌}
 use Rattle.std.{specs.Prelude.{slice_get, All, refl}, proofs.lemmas.Bool.cases_eq}
-use Rattle.std.{proofs.Common.{sym, ◌∙◌, ap, subst, arith, rules}, proofs.Math.ListN.set}
+use Rattle.std.{proofs.Common.{sym, ◌∙◌, ap, arith, rules}, proofs.Math.ListN.set}
 use Rattle.vb_model.{specs.Device.next_page, specs.declared.replies.Refusal.Refusal}
 use Rattle.vb_model.specs.declared.replies.Refusal.TheVariants.{NotTaken, NotWorked}
 use Rattle.vb_model.{specs.Requests.Request, specs.Tables.{has_chains, has_unvisited}}
 use Rattle.vb_model.specs.declared.replies.LastStatistics.{LastStatistics}
 use Rattle.vb_model.{specs.Status.{contains, driver_ok}, specs.Layout.{reserved_pages, ring_page}}
-use Rattle.vb_ram.specs.Pages.{Page, Pages, page_at, frame_at, number_of}
-use Rattle.vb_ram.specs.Part.{Part, QueuePart}
+use Rattle.vb_ram.{specs.Pages.{Page, Pages, page_at}, specs.Part.{Part, QueuePart}}
 use Rattle.vb_ring.{specs.declared.layout.Layout.Layout, specs.Layout.{layout_of, IsBacked}}
 use Rattle.vb_ring.{specs.Ends.DeviceEnd, specs.Calls.AddsUsedBy}
 use Rattle.vb_device.{specs.Conditions.finish_refusal, specs.Queues.{queue_end, with_queue}}
@@ -43,8 +42,7 @@ pub finish_left : (q index : ℕ) (paced : Bool) (s f t a n : ℕ) (qs : List Qu
     (l : LastStatistics) (loose : List Page) → queue_refusal q s ≡ None →
     finish_refusal q index (with_pace paced (base_part s f t a n qs l loose)) ≡
     taken_refusal (paced && not (q == 1)) (slice_get (queue_at q qs).taken index)
-finish_left q index paced s f t a n qs l loose ok =
-    finish_open q index s _ ok ∙
+finish_left q index paced s f t a n qs l loose ok = finish_open q index s _ ok ∙
     (ap (λ (k : QueuePart). taken_refusal_by (paced && not (q == 1)) (slice_get k.taken index))
     (part_get q s f t a n qs l loose (queue_known q s ok)) ∙
     by_and (paced && not (q == 1)) (slice_get (queue_at q qs).taken index))
@@ -85,8 +83,7 @@ pub used_at : (q h : ℕ) (m1 m2 : Pages) (s f t a n c : ℕ) (qs : List QueueSt
     (base_part s f t a n (set qs (index_of q) x2) l loose)
 used_at q h m1 m2 s f t a n c qs x2 l loose is known ok adds left =
     let x : QueueState = queue_at q qs in
-    let now : IsDeviceQueue m1 s n q x = is.each q known in
-    record {
+    let now : IsDeviceQueue m1 s n q x = is.each q known in record {
       part = part_set q s f t a n qs x2 l loose is.four known
           ∙ (ap (λ (y : QueueState). with_queue q (part_of y) (base_part s f t a n qs l loose))
           (queue_is x2 (record x.ring { next_used = (x.ring.next_used + 1) % 65536 }) x.taken
@@ -97,8 +94,7 @@ used_at q h m1 m2 s f t a n c qs x2 l loose is known ok adds left =
           (queue_end q (base_part s f t a n (set qs (index_of q) x2) l loose)) h
           (end_of_queue q m1 s f t a n qs l loose x known refl now.ring now.size (now.ready ok))
           (end_of_queue q m1 s f t a n (set qs (index_of q) x2) l loose x2 known
-          (set_here q qs x2 is.four known)
-          (ap (λ (e : DeviceEnd). e.layout) adds.state ∙ now.ring)
+          (set_here q qs x2 is.four known) (ap (λ (e : DeviceEnd). e.layout) adds.state ∙ now.ring)
           (ap (λ (e : DeviceEnd). e.size) adds.state ∙ now.size)
           (ap (λ (e : DeviceEnd). e.ready) adds.state ∙ now.ready ok)) adds;
     }
@@ -124,23 +120,20 @@ pub base_used : (q : ℕ) (m1 m2 : Pages) (s n c1 c2 : ℕ) (qs : List QueueStat
     x2.ring.ready ≡ (queue_at q qs).ring.ready → IsBase m2 s n (set qs (index_of q) x2) c2
 base_used q m1 m2 s n c1 c2 qs x2 b known len same pos layout size ready =
     let large : 64 ≤ length m1 = b.large pos in
-    let fits : length m1 ≤ c1 = b.room in
-    base_set q m1 m2 s s n c1 c2 qs x2 b known
+    let fits : length m1 ≤ c1 = b.room in base_set q m1 m2 s s n c1 c2 qs x2 b known
     (λ k x is. record {
       ring = is.ring;
       size = is.size;
       ready = is.ready;
       idle = λ z. absurd (omega (arith, len, pos, z));
       none = λ z. absurd (omega (arith, len, pos, z));
-    })
-    (λ is. record {
+    }) (λ is. record {
       ring = layout ∙ is.ring;
       size = size ∙ is.size;
       ready = λ e. ready ∙ is.ready e;
       idle = λ z. absurd (omega (arith, len, pos, z));
       none = λ z. absurd (omega (arith, len, pos, z));
-    })
-    (λ l. omega (arith, len, large)) (omega (arith, len, same, fits))
+    }) (λ l. omega (arith, len, large)) (omega (arith, len, same, fits))
 
 -- the same where no queue is changed
 pub base_same : (m1 m2 : Pages) (s n c1 c2 : ℕ) (qs : List QueueState) → IsBase m1 s n qs c1 →
@@ -153,8 +146,7 @@ pub kept_length : (q : ℕ) (pages : List ℕ) (mem : Pages) →
 kept_length q pages mem = grind (arith, discarded-length)
 
 kept_page : (reserved q p : ℕ) (pages : List ℕ) (mem : Pages) → p < reserved
-    → All (λ page. reserved ≤ page) pages
-    → page_at (without_frames q pages mem) p ≡ page_at mem p
+    → All (λ page. reserved ≤ page) pages → page_at (without_frames q pages mem) p ≡ page_at mem p
 kept_page reserved q p pages mem low above = grind (arith, reserved_still)
 
 pub can_use : (q h : ℕ) (pages : List ℕ) (m1 m2 : Pages) (s f t a n c : ℕ)
@@ -165,16 +157,7 @@ pub can_use : (q h : ℕ) (pages : List ℕ) (m1 m2 : Pages) (s f t a n c : ℕ)
     → m2 ≡ without_frames q pages m1 → IsBacked m1 (layout_of (ring_page n q) n) →
     CanUse q h m2 (base_part s f t a n (set qs (index_of q) x2) l loose)
 can_use q h pages m1 m2 s f t a n c qs x2 l loose is known ok lt above mem backed =
-    record {
-      known = known;
-      ready = status_ok s ok;
-      head = subst (λ (k : ℕ). h < k) (is.each q known).size lt;
-      backed = backed_still m1 m2 n q is.size
-          (λ p low. ap (λ (m : Pages). frame_at m p) mem ∙
-          ap (λ (o : Option Page). number_of o) (kept_page (reserved_pages n) q p pages m1 low
-          (subst (λ (k : ℕ). All (λ page. reserved_pages k ≤ page) pages) (is.each q known).size
-          above))) backed;
-    }
+    grind (arith, status_ok, backed_still, kept_page)
 
 -- a request whose next page is visited stands in memory that has pages
 pub visits_attached : (mem : Pages) (ts : List Request) (page : ℕ) →
@@ -201,8 +184,7 @@ taken_there visits (Some r) free = (r, refl)
 pub request_there : (q index : ℕ) (paced : Bool) (s f t a n : ℕ) (qs : List QueueState)
     (l : LastStatistics) (loose : List Page)
     → finish_refusal q index (with_pace paced (base_part s f t a n qs l loose)) ≡ None
-    → (r : Request) × (queue_refusal q s ≡ None)
-    × (slice_get (queue_at q qs).taken index ≡ Some r)
+    → (r : Request) × (queue_refusal q s ≡ None) × (slice_get (queue_at q qs).taken index ≡ Some r)
 request_there q index paced s f t a n qs l loose free =
     let ok : queue_refusal q s ≡ None =
     queue_open q index (with_pace paced (base_part s f t a n qs l loose)) free in

@@ -1,6 +1,6 @@
 -- The four queues of a device, of which one is changed, or all.
 use Rattle.std.specs.Prelude.{◌≡◌, ℕ, ◌<◌, ◌≤◌, Bool, true, false, List, [], ◌∷◌, length, map, refl}
-use Rattle.std.{proofs.Common.{sym, ◌∙◌, subst, arith, get_or}, proofs.lemmas.List.length-map}
+use Rattle.std.{proofs.Common.{◌∙◌, arith, get_or}, proofs.lemmas.List.length-map}
 use Rattle.std.proofs.Math.ListN.{set, length-set}
 use Rattle.vb_ram.specs.Pages.{Page, Pages}
 use Rattle.vb_model.{specs.declared.replies.LastStatistics.LastStatistics, specs.Layout.ring_page}
@@ -16,8 +16,7 @@ pub at_each : (P : ℕ → Type 0) → P 0 → P 1 → P 2 → P 4 → (q : ℕ)
 at_each P a b c d q known = grind (arith, queue_cases q)
 
 -- the same of the queues on which requests are finished
-pub at_requests : (P : ℕ → Type 0) → P 0 → P 1 → P 4 → (q : ℕ) → is_queue_of_requests q ≡ true →
-    P q
+pub at_requests : (P : ℕ → Type 0) → P 0 → P 1 → P 4 → (q : ℕ) → is_queue_of_requests q ≡ true → P q
 at_requests P a b d q known = grind (arith, queue_cases q)
 
 -- what holds of four queues holds of a list of that length
@@ -34,8 +33,7 @@ of_four P each (a ∷ b ∷ c ∷ d ∷ x ∷ xs) e = absurd (omega (arith, e))
 -- an entry, whatever stands for one that isn't there
 pub entry_is : (q : ℕ) (qs : List QueueState) (x : QueueState) → length qs ≡ 4 →
     has_chains q ≡ true → get_or qs (index_of q) x ≡ queue_at q qs
-entry_is q qs x four known =
-    of_four (λ l. get_or l (index_of q) x ≡ queue_at q l)
+entry_is q qs x four known = of_four (λ l. get_or l (index_of q) x ≡ queue_at q l)
     (λ a b c d. at_each (λ n. get_or (a ∷ b ∷ c ∷ d ∷ []) (index_of n) x ≡
     queue_at n (a ∷ b ∷ c ∷ d ∷ [])) refl refl refl refl q known) qs four
 
@@ -48,16 +46,14 @@ last_entry qs x r four =
 -- the queue that was put there
 pub set_here : (q : ℕ) (qs : List QueueState) (x : QueueState) → length qs ≡ 4 →
     has_chains q ≡ true → queue_at q (set qs (index_of q) x) ≡ x
-set_here q qs x four known =
-    of_four (λ l. queue_at q (set l (index_of q) x) ≡ x)
+set_here q qs x four known = of_four (λ l. queue_at q (set l (index_of q) x) ≡ x)
     (λ a b c d. at_each (λ n. queue_at n (set (a ∷ b ∷ c ∷ d ∷ []) (index_of n) x) ≡ x)
     refl refl refl refl q known) qs four
 
 -- a queue that is put back as it was
 pub set_same : (q : ℕ) (qs : List QueueState) → length qs ≡ 4 → has_chains q ≡ true →
     set qs (index_of q) (queue_at q qs) ≡ qs
-set_same q qs four known =
-    of_four (λ l. set l (index_of q) (queue_at q l) ≡ l)
+set_same q qs four known = of_four (λ l. set l (index_of q) (queue_at q l) ≡ l)
     (λ a b c d. at_each (λ n. set (a ∷ b ∷ c ∷ d ∷ []) (index_of n)
     (queue_at n (a ∷ b ∷ c ∷ d ∷ [])) ≡ a ∷ b ∷ c ∷ d ∷ []) refl refl refl refl q known) qs four
 
@@ -78,8 +74,7 @@ pub part_set : (q s f t a n : ℕ) (qs : List QueueState) (x : QueueState) (last
     with_queue q (part_of x) (base_part s f t a n qs last loose)
 part_set q s f t a n qs x last loose four known =
     of_four (λ l. base_part s f t a n (set l (index_of q) x) last loose ≡
-    with_queue q (part_of x) (base_part s f t a n l last loose))
-    (λ u v w z. at_each (λ k.
+    with_queue q (part_of x) (base_part s f t a n l last loose)) (λ u v w z. at_each (λ k.
     base_part s f t a n (set (u ∷ v ∷ w ∷ z ∷ []) (index_of k) x) last loose ≡
     with_queue k (part_of x) (base_part s f t a n (u ∷ v ∷ w ∷ z ∷ []) last loose))
     refl refl refl refl q known) qs four
@@ -110,8 +105,7 @@ pub base_set : (q : ℕ) (m1 m2 : Pages) (s1 s2 n c1 c2 : ℕ) (qs : List QueueS
     (x2 : QueueState) → IsBase m1 s1 n qs c1 → has_chains q ≡ true →
     ((k : ℕ) (x : QueueState) → IsDeviceQueue m1 s1 n k x → IsDeviceQueue m2 s2 n k x) →
     (IsDeviceQueue m1 s1 n q (queue_at q qs) → IsDeviceQueue m2 s2 n q x2) →
-    (0 < length m2 → 64 ≤ length m2) → length m2 ≤ c2 →
-    IsBase m2 s2 n (set qs (index_of q) x2) c2
+    (0 < length m2 → 64 ≤ length m2) → length m2 ≤ c2 → IsBase m2 s2 n (set qs (index_of q) x2) c2
 base_set q m1 m2 s1 s2 n c1 c2 qs x2 b known other one large room = record {
   four = set_four qs (index_of q) x2 b.four;
   size = b.size;
@@ -124,8 +118,7 @@ base_set q m1 m2 s1 s2 n c1 c2 qs x2 b known other one large room = record {
 -- all queues are changed alike
 map_four : (f : QueueState → QueueState) (qs : List QueueState) → length qs ≡ 4 → (q : ℕ) →
     has_chains q ≡ true → queue_at q (map f qs) ≡ f (queue_at q qs)
-map_four f qs four q known =
-    of_four (λ l. queue_at q (map f l) ≡ f (queue_at q l))
+map_four f qs four q known = of_four (λ l. queue_at q (map f l) ≡ f (queue_at q l))
     (λ a b c d. at_each (λ n. queue_at n (map f (a ∷ b ∷ c ∷ d ∷ [])) ≡
     f (queue_at n (a ∷ b ∷ c ∷ d ∷ []))) refl refl refl refl q known) qs four
 
@@ -149,16 +142,15 @@ new_is mem s n q stopped = search (arith)
 pub base_new : (mem : Pages) (s n c : ℕ) (qs : List QueueState) → qs ≡ new_queues n → IsSize n
     → (contains s driver_ok ≡ true → false ≡ true) → (0 < length mem → 64 ≤ length mem)
     → length mem ≤ c → IsBase mem s n qs c
-base_new mem s n c qs e is stopped large room =
-    subst (λ (l : List QueueState). IsBase mem s n l c) (sym e) (record {
-      four = refl;
-      size = is;
-      each = at_each (λ q. IsDeviceQueue mem s n q (queue_at q (new_queues n)))
-          (new_is mem s n 0 stopped) (new_is mem s n 1 stopped) (new_is mem s n 2 stopped)
-          (new_is mem s n 4 stopped);
-      large = large;
-      room = room;
-    })
+base_new mem s n c qs e is stopped large room = rw e (record {
+  four = refl;
+  size = is;
+  each = at_each (λ q. IsDeviceQueue mem s n q (queue_at q (new_queues n)))
+      (new_is mem s n 0 stopped) (new_is mem s n 1 stopped) (new_is mem s n 2 stopped)
+      (new_is mem s n 4 stopped);
+  large = large;
+  room = room;
+})
 
 pub base_restarted : (mem : Pages) (s1 s2 n c : ℕ) (ready : Bool) (qs new : List QueueState) →
     IsBase mem s1 n qs c → new ≡ map (restarted ready) qs →

@@ -37,8 +37,7 @@ pub idle_next : (mem : Pages) (x : QueueState) → length mem ≡ 0 → x.ring.n
 idle_next mem x e z = grind (arith, no_pages, no_entry)
 
 pub next_idle : (q : ℕ) (mem : Pages) (x : QueueState) (l : LastStatistics) →
-    is_full q x ≡ false → length mem ≡ 0 → x.ring.next_avail ≡ 0 →
-    TakesNext q mem x x l l (Ok None)
+    is_full q x ≡ false → length mem ≡ 0 → x.ring.next_avail ≡ 0 → TakesNext q mem x x l l (Ok None)
 next_idle q mem x l free e z = grind (arith, idle_next mem x e z)
 
 -- ---- what a take leaves

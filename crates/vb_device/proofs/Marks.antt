@@ -47,24 +47,19 @@ flag_more first flags pages i page flag lt at e =
     (length-set flags page flag ∙ (len ∙ sym (flagged-length (take (i + 1) pages) flag first)))
     (λ k l.
     let here : k < length flags = omega (arith, l, length-set flags page flag) in
-    let there : k < length first = omega (arith, here, len) in
-    elim (cases_eq k page) [
-      | inl same ↦
-          (let inside : page < length flags = omega (arith, here, same) in
+    let there : k < length first = omega (arith, here, len) in elim (cases_eq k page) [
+      | inl same ↦ (let inside : page < length flags = omega (arith, here, same) in
           ap (λ (j : ℕ). get_or (set flags page flag) j false) same ∙
           (get_or-set_same flags page flag false inside
           ∙ sym (flagged-at (take (i + 1) pages) flag first k there
-          ∙ ap (λ b. cond b flag (get_or first k false))
-          (in_more pages i k lt ∙
+          ∙ ap (λ b. cond b flag (get_or first k false)) (in_more pages i k lt ∙
           or_true (is_in k (take i pages)) (get_or pages i 0 == k)
           (eq-eqb (get_or pages i 0) k (at ∙ sym same))))))
-      | inr ne ↦
-          get_or-set_other flags page k flag false ne ∙
+      | inr ne ↦ get_or-set_other flags page k flag false ne ∙
           (ap (λ (xs : List Bool). get_or xs k false) e ∙
           (flagged-at (take i pages) flag first k there
           ∙ sym (flagged-at (take (i + 1) pages) flag first k there ∙
-          ap (λ b. cond b flag (get_or first k false))
-          (in_more pages i k lt ∙
+          ap (λ b. cond b flag (get_or first k false)) (in_more pages i k lt ∙
           or_false (is_in k (take i pages)) (get_or pages i 0 == k)
           (not_equal (get_or pages i 0) k (get_or pages i 0 == k) refl (λ x. ne (x ∙ at)))))))
     ])

@@ -1,20 +1,19 @@
 -- A device that keeps frames of its own, round one that keeps none.
 use Rattle.std.specs.Prelude.{◌≡◌, ℕ, ◌==◌, Bool, true, false, List, Option, Some, None, Result, Ok}
-use Rattle.std.{specs.Prelude.{Err, if◌then◌else◌, refl}, proofs.Common.{◌∙◌, ap}}
+use Rattle.std.{proofs.Common.{arith, ◌∙◌, ap}, specs.Prelude.{Err, if◌then◌else◌, refl}}
 use Rattle.vb_model.{specs.declared.replies.Refusal.Refusal, specs.Tests.flagged}
 use Rattle.vb_model.specs.declared.replies.Refusal.TheVariants.{Broken}
 use Rattle.vb_ram.{specs.Pages.Pages, specs.Part.{Part, QueuePart}}
 use Rattle.vb_device.specs.Calls.{taking, noting, using, settled, TakeMeans, TakesBy, FinishesBy}
-use Rattle.vb_device.specs.declared.worked.Worked.{Worked}
 use Rattle.vb_device.specs.Calls.{Visits, WorksBy, AsksBy, DetachesBy}
+use Rattle.vb_device.specs.declared.worked.Worked.{Worked}
 
 -- the part with these frames of its own
 abbrev pub keeping : List ℕ → Part → Part
 keeping own part = record part { keeps = true; own = own }
 
 with_keeping : (a b c : Bool) (own : List ℕ) (x : QueuePart) (p : Part)
-    → keeping own (if a then record p { inflate = x }
-    else (if b then record p { deflate = x }
+    → keeping own (if a then record p { inflate = x } else (if b then record p { deflate = x }
     else (if c then record p { statistics = x } else record p { report = x })))
     ≡ (if a then record (keeping own p) { inflate = x }
     else (if b then record (keeping own p) { deflate = x }
@@ -75,14 +74,7 @@ takes_keeping q m1 m2 own p1 p2 result t = record {
 visits_keeping : (q page : ℕ) (m1 m2 : Pages) (own : List ℕ) (p1 p2 : Part)
     (result : Result (Option Worked) Refusal) → Visits q page m1 m2 p1 p2 result
     → Visits q page m1 m2 (keeping own p1) (keeping own p2) result
-visits_keeping q page m1 m2 own p1 p2 result v = record {
-  answer = v.answer;
-  memory = v.memory;
-  part = ap (keeping own) v.part
-      ∙ ap (λ (p : Part). record p { loose = p2.loose })
-      (with_keeping (q == 0) (q == 1) (q == 2) own _ p1);
-  loose = v.loose;
-}
+visits_keeping q page m1 m2 own p1 p2 result v = grind (arith, with_keeping)
 
 pub works_keeping : (m1 m2 : Pages) (own : List ℕ) (p1 p2 : Part)
     (result : Result (Option Worked) Refusal) → WorksBy m1 m2 p1 p2 result
@@ -97,20 +89,11 @@ works_keeping m1 m2 own p1 p2 result w = record {
 pub asks_keeping : {T : Type 0} (m1 m2 : Pages) (own : List ℕ) (p1 p2 : Part)
     (result : Result T Refusal) → AsksBy m1 m2 p1 p2 result
     → AsksBy m1 m2 (keeping own p1) (keeping own p2) result
-asks_keeping m1 m2 own p1 p2 result a = record {
-  refused = λ why e. let r = a.refused why e in (r.0, ap (keeping own) r.1, r.2);
-  answers = a.answers;
-  part = λ e. ap (keeping own) (a.part e);
-  memory = a.memory;
-}
+asks_keeping m1 m2 own p1 p2 result a = grind arith
 
 pub detaches_keeping : (m1 m2 : Pages) (own : List ℕ) (p1 p2 : Part) → DetachesBy m1 m2 p1 p2
     → DetachesBy m1 m2 (keeping own p1) (keeping own p2)
-detaches_keeping m1 m2 own p1 p2 d = record {
-  memory = d.memory;
-  part = ap (keeping own) d.part;
-  loose = d.loose;
-}
+detaches_keeping m1 m2 own p1 p2 d = grind arith
 
 settled_keeping : (a b : Bool) (pages own : List ℕ) (p : Part)
     → keeping own (if a then record p { ballooned = flagged pages true p.ballooned }
@@ -125,8 +108,7 @@ settled_keeping false false pages own p = refl
 uses_keeping : (q index : ℕ) (pages own : List ℕ) (p : Part)
     → keeping own (settled q pages (using q index p))
     ≡ settled q pages (using q index (keeping own p))
-uses_keeping q index pages own p =
-    settled_keeping (q == 0) (q == 1) pages own (using q index p)
+uses_keeping q index pages own p = settled_keeping (q == 0) (q == 1) pages own (using q index p)
     ∙ ap (settled q pages) (with_keeping (q == 0) (q == 1) (q == 2) own _ p)
 
 pub finishes_keeping : (q index : ℕ) (m1 m2 : Pages) (own : List ℕ) (p1 p2 : Part)

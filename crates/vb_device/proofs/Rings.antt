@@ -1,5 +1,5 @@
 -- The pages of a queue's ring, whatever its size.
-use Rattle.std.{specs.Prelude.{◌≡◌, ℕ, ◌<◌, Option, IsSome}, proofs.Common.{sym, subst}}
+use Rattle.std.{proofs.Common.arith, specs.Prelude.{◌≡◌, ℕ, ◌<◌}}
 use Rattle.vb_model.specs.Layout.{reserved_pages, ring_page}
 use Rattle.vb_model.proofs.Shapes.{InRing, in_ring_page, ring_reserved}
 use Rattle.vb_ram.specs.Pages.{Pages, frame_at}
@@ -13,13 +13,4 @@ pub backed_still : (m1 m2 : Pages) (size q : ℕ) → IsSize size
     → ((page : ℕ) → page < reserved_pages size → frame_at m2 page ≡ frame_at m1 page)
     → IsBacked m1 (layout_of (ring_page size q) size)
     → IsBacked m2 (layout_of (ring_page size q) size)
-backed_still m1 m2 size q is same backed =
-    let parts = parts_in_ring size q is in record {
-      table = has (layout_of (ring_page size q) size).table parts.table backed.table;
-      avail = has (layout_of (ring_page size q) size).avail.page parts.avail backed.avail;
-      used = has (layout_of (ring_page size q) size).used.page parts.used backed.used;
-    }
-  where
-    has : (page : ℕ) → InRing size q page → IsSome (frame_at m1 page) → IsSome (frame_at m2 page)
-    has page at some =
-        subst (λ (o : Option ℕ). IsSome o) (sym (same page (ring_below size q page at))) some
+backed_still m1 m2 size q is same backed = grind (arith, parts_in_ring, ring_below)

@@ -14,13 +14,10 @@ all_below p (suc n) = p n && all_below p n
 
 at_below : (p : ℕ → Bool) (n k : ℕ) → all_below p n ≡ true → k < n → p k ≡ true
 at_below p zero k h lt = absurd (omega arith)
-at_below p (suc n) k h lt =
-    let parts = and_parts (p n) (all_below p n) h in
-    elim (cases_eq k n) [
-      | inl same ↦ ap p same ∙
-          parts.0
-      | inr ne ↦ at_below p n k parts.1 (omega (arith, ne))
-    ]
+at_below p (suc n) k h lt = let parts = and_parts (p n) (all_below p n) h in elim (cases_eq k n) [
+  | inl same ↦ ap p same ∙ parts.0
+  | inr ne ↦ at_below p n k parts.1 (omega (arith, ne))
+]
 
 either : (a b : Bool) → (not a || b) ≡ true → a ≡ true → b ≡ true
 either true b h e = h

@@ -44,8 +44,7 @@ pub next_none : (q : ℕ) (mem : Pages) (r1 r2 : DeviceEnd) (taken : List Reques
     (l : LastStatistics) → is_full q (at r1 taken) ≡ false → r1.ready ≡ true → PopsBy mem r1 r2 (Ok None) →
     TakesNext q mem (at r1 taken) (at r2 taken) l l (Ok None)
 next_none q mem r1 r2 taken l free ready pops =
-    let same : at r2 taken ≡ at r1 taken = ap (λ r. at r taken) pops.state in
-    record {
+    let same : at r2 taken ≡ at r1 taken = ap (λ r. at r taken) pops.state in record {
       busy = λ b. absurd (true_false (sym b ∙ free));
       empty = λ k e. (refl, same, refl);
       jump = λ f k e. absurd (ok_err None f (pops.jump f ready e));
@@ -60,14 +59,12 @@ pub next_err : (q : ℕ) (mem : Pages) (r1 r2 : DeviceEnd) (taken : List Request
     is_full q (at r1 taken) ≡ false → r1.ready ≡ true → PopsBy mem r1 r2 (Err f) →
     TakesNext q mem (at r1 taken) (at r2 taken) l l (Err (Broken (rule_of f)))
 next_err q mem r1 r2 taken l f free ready pops =
-    let same : at r2 taken ≡ at r1 taken = ap (λ r. at r taken) pops.state in
-    record {
+    let same : at r2 taken ≡ at r1 taken = ap (λ r. at r taken) pops.state in record {
       busy = λ b. absurd (true_false (sym b ∙ free));
       empty = λ k e. absurd (err_ok None f (pops.none ready e));
       jump = λ g k e. (ap broken (same_err (Err f) f g refl (pops.jump g ready e)), same, refl);
       fault = λ h g k e gives. (
-        ap broken
-            (same_err (Err f) f g refl (pops.fault h g ready e gives)),
+        ap broken (same_err (Err f) f g refl (pops.fault h g ready e gives)),
         same,
         refl,
       );
@@ -90,21 +87,18 @@ pub next_wrong : (q : ℕ) (mem : Pages) (r1 r2 r3 : DeviceEnd) (taken : List Re
     TakesNext q mem (at r1 taken) (at r3 taken) l l (Err (Broken (rule_of f)))
 next_wrong q mem r1 r2 r3 taken l t f free ready pops is undone =
     let same : at r3 taken ≡ at r1 taken =
-    ap (λ r. at r taken) (back r1 r2 r3 pops.is_end.next_avail pops.state undone) in
-    record {
+    ap (λ r. at r taken) (back r1 r2 r3 pops.is_end.next_avail pops.state undone) in record {
       busy = λ b. absurd (true_false (sym b ∙ free));
       empty = λ k e. absurd (ok_some_none t (Ok (Some t)) refl (pops.none ready e));
       jump = λ g k e. absurd (ok_err (Some t) g (pops.jump g ready e));
       fault = λ h g k e gives. absurd (ok_err (Some t) g (pops.fault h g ready e gives));
       wrong = λ h pieces g k e gives bad. (
-        ap broken
-            (same_fault (request_of q r1.size mem t.chain) f g is
+        ap broken (same_fault (request_of q r1.size mem t.chain) f g is
             (ap (request_of q r1.size mem) (pops.chain h pieces ready e gives).1 ∙ bad)),
         same,
         refl,
       );
-      takes = λ h pieces pages k e gives good. absurd
-          (err_ok pages f (sym is ∙
+      takes = λ h pieces pages k e gives good. absurd (err_ok pages f (sym is ∙
           (ap (request_of q r1.size mem) (pops.chain h pieces ready e gives).1 ∙ good)));
       means = (free, same, refl);
     }
@@ -120,14 +114,12 @@ next_right q mem r1 r2 taken l1 l2 t pages free ready pops is said =
     let after : at r2 (taken ++ record { head = t.head; pages = pages; visited = 0 } ∷ []) ≡
     with_request t.head pages (at r1 taken) =
     ap (λ r. at r (taken ++ record { head = t.head; pages = pages; visited = 0 } ∷ []))
-    pops.state in
-    record {
+    pops.state in record {
       busy = λ b. absurd (true_false (sym b ∙ free));
       empty = λ k e. absurd (ok_some_none t (Ok (Some t)) refl (pops.none ready e));
       jump = λ g k e. absurd (ok_err (Some t) g (pops.jump g ready e));
       fault = λ h g k e gives. absurd (ok_err (Some t) g (pops.fault h g ready e gives));
-      wrong = λ h pieces g k e gives bad. absurd
-          (ok_err pages g (sym is ∙
+      wrong = λ h pieces g k e gives bad. absurd (ok_err pages g (sym is ∙
           (ap (request_of q r1.size mem) (pops.chain h pieces ready e gives).1 ∙ bad)));
       takes = λ h pieces ps k e gives good.
           let chain = pops.chain h pieces ready e gives in (

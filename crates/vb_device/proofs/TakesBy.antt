@@ -1,14 +1,14 @@
 -- A take by a device, from the take of its queue.
 use Rattle.std.specs.Prelude.{◌≡◌, ℕ, Bool, true, false, not, ◌||◌, ◌*◌, ◌+◌, ◌%◌, ◌++◌, nat_le}
 use Rattle.std.specs.Prelude.{List, [], ◌∷◌, length, Option, Some, None, Result, Ok, Err}
-use Rattle.std.{specs.Prelude.{if◌then◌else◌, bit_or, refl}, proofs.Common.{sym, ◌∙◌, ap, subst}}
-use Rattle.std.proofs.Math.ListN.{set}
+use Rattle.std.{proofs.Common.{arith, sym, ◌∙◌, ap, subst}, proofs.Math.ListN.set}
+use Rattle.std.specs.Prelude.{if◌then◌else◌, bit_or, refl}
 use Rattle.vb_model.specs.declared.replies.Refusal.TheVariants.{NoQueue, NotReady, NeedsReset, Busy}
 use Rattle.vb_model.specs.Tables.{is_queue_of_requests, has_chains, lacks_feature, is_not_ready}
+use Rattle.vb_model.{specs.declared.replies.Refusal.TheVariants.Broken, specs.Layout.ring_page}
+use Rattle.vb_model.{specs.Tables.{has_fault, most_taken}, specs.declared.replies.Refusal.Refusal}
 use Rattle.vb_model.specs.Status.{contains, driver_ok, failed, needs_reset}
-use Rattle.vb_model.{specs.declared.replies.LastStatistics.LastStatistics, specs.Layout.ring_page}
-use Rattle.vb_model.specs.declared.replies.Refusal.TheVariants.{Broken}
-use Rattle.vb_model.{specs.declared.replies.Refusal.Refusal, specs.Tables.{has_fault, most_taken}}
+use Rattle.vb_model.specs.declared.replies.LastStatistics.{LastStatistics}
 use Rattle.vb_ram.{specs.Pages.{Page, Pages}, specs.Part.{Part, QueuePart}}
 use Rattle.vb_chain.{specs.declared.fault.ChainFault.ChainFault, specs.declared.pieces.Piece.Piece}
 use Rattle.vb_chain.{specs.Table.descriptor_at, specs.Chain.{ChainGives, FaultGives}}
@@ -16,11 +16,11 @@ use Rattle.vb_ring.{specs.declared.layout.Layout.Layout, specs.Layout.layout_of}
 use Rattle.vb_ring.specs.Entries.{next_entry}
 use Rattle.vb_device.specs.QueueState.{QueueState, part_of, with_request, next_of, IsChainOf}
 use Rattle.vb_device.specs.QueueState.{IsFaultOf, is_full, NextMeans, Leaves, TakesNext}
+use Rattle.vb_device.{specs.QueueState.status_after, proofs.FromNext.KeepsRing}
 use Rattle.vb_device.specs.Queues.{queue_part, with_queue, next_available}
-use Rattle.vb_device.{specs.Conditions.{take_refusal, finish_refusal}, proofs.FromNext.KeepsRing}
-use Rattle.vb_device.{specs.Faults.{Breaks, needing_reset}, specs.QueueState.status_after}
+use Rattle.vb_device.specs.Conditions.{take_refusal, finish_refusal}
+use Rattle.vb_device.{specs.Faults.{Breaks, needing_reset}, specs.BaseCalls.queue_refusal}
 use Rattle.vb_device.specs.Base.{index_of, queue_at, base_part, IsDeviceQueue, IsBase}
-use Rattle.vb_device.specs.BaseCalls.{queue_refusal}
 use Rattle.vb_device.specs.Calls.{HasChain, HasFault, taking, noting, TakeMeans, TakesBy}
 use Rattle.vb_device.proofs.FourQueues.{at_each, part_get, part_set, set_here, set_same, base_set}
 use Rattle.vb_request.specs.Refusals.{rule_of, readiness_refusal, take_refusal_by}
@@ -96,8 +96,7 @@ take_open q part e =
     (lacks_feature part.features q) _ e
 
 pub take_known : (q s f : ℕ) → take_refusal_by q s f ≡ None → has_chains q ≡ true
-take_known q s f e =
-    first_false (has_chains q) (is_not_ready s) (has_fault s) (lacks_feature f q) e
+take_known q s f e = first_false (has_chains q) (is_not_ready s) (has_fault s) (lacks_feature f q) e
 
 pub take_ready : (q s f : ℕ) → take_refusal_by q s f ≡ None → readiness_refusal s ≡ None
 take_ready q s f e =
@@ -138,8 +137,7 @@ kind_known true other rest e = refl
 kind_known false other rest e = absurd cc
 
 pub queue_known : (q s : ℕ) → queue_refusal q s ≡ None → has_chains q ≡ true
-queue_known q s e =
-    kind_known (is_queue_of_requests q) _ (readiness_refusal s) e
+queue_known q s e = kind_known (is_queue_of_requests q) _ (readiness_refusal s) e
 
 kind_rest : (a : Bool) (rest : Option Refusal) →
     (if a then Some NoQueue else rest) ≡ None → rest ≡ None
@@ -168,11 +166,9 @@ means_refused q mem part false false false true why e is =
 means_refused q mem part false false false false why e is = absurd cc
 
 pub takes_refused : (q : ℕ) (mem : Pages) (part : Part) (why : Refusal) →
-    take_refusal_by q part.status part.features ≡ Some why →
-    TakesBy q mem mem part part (Err why)
+    take_refusal_by q part.status part.features ≡ Some why → TakesBy q mem mem part part (Err why)
 takes_refused q mem part why e =
-    let is : take_refusal q part ≡ Some why = take_refused q part why e in
-    record {
+    let is : take_refusal q part ≡ Some why = take_refused q part why e in record {
       memory = refl;
       refused = λ other o. (ap Err (same_some (take_refusal q part) why other is o), refl);
       empty = λ o n. absurd (none_some (take_refusal q part) why o is);
@@ -255,12 +251,7 @@ breaks : (P : QueueState → ℕ → LastStatistics → Part) (x1 x2 : QueueStat
     needing_reset (P x1 s l1) ≡ P x1 (bit_or s needs_reset) l1 →
     Leaves x1 x2 l1 l2 result (Err (Broken (rule_of f))) →
     Breaks f (P x1 s l1) (P x2 (status_after result s) l2) result
-breaks P x1 x2 s l1 l2 f result resets left =
-    record {
-      answer = left.0;
-      part = after_is P x1 x2 s l1 l2 result (Err (Broken (rule_of f))) left.0 left.1 left.2 ∙
-          sym resets;
-    }
+breaks P x1 x2 s l1 l2 f result resets left = grind (arith, after_is)
 
 pub takes_by : (q : ℕ) (mem : Pages) (P : QueueState → ℕ → LastStatistics → Part)
     (x1 x2 : QueueState) (s : ℕ) (l1 l2 : LastStatistics) (result : Result (Option ℕ) Refusal) →
@@ -272,8 +263,7 @@ takes_by q mem P x1 x2 s l1 l2 result sits t =
     let busy : is_full q x1 ≡ true → take_refusal q (P x1 s l1) ≡ Some Busy =
     λ e. sits.refusal ∙ ap (λ b. if b then Some Busy else None) e in
     let room : take_refusal q (P x1 s l1) ≡ None → is_full q x1 ≡ false =
-    λ e. not_busy (is_full q x1) (sym sits.refusal ∙ e) in
-    record {
+    λ e. not_busy (is_full q x1) (sym sits.refusal ∙ e) in record {
       memory = refl;
       refused = λ why e.
           let full = is_busy (is_full q x1) why (sym sits.refusal ∙ e) in
@@ -281,11 +271,10 @@ takes_by q mem P x1 x2 s l1 l2 result sits t =
             got.0 ∙ ap Err full.1,
             after_is P x1 x2 s l1 l2 result (Err Busy) got.0 got.1 got.2,
           );
-      empty = λ e n. (let got = t.empty (room e)
-          (sym sits.next ∙ n) in (
-            got.0,
-            after_is P x1 x2 s l1 l2 result (Ok None) got.0 got.1 got.2,
-          ));
+      empty = λ e n. (let got = t.empty (room e) (sym sits.next ∙ n) in (
+        got.0,
+        after_is P x1 x2 s l1 l2 result (Ok None) got.0 got.1 got.2,
+      ));
       jump = λ f e n. breaks P x1 x2 s l1 l2 f result sits.resets
           (t.jump f (room e) (sym sits.next ∙ n));
       fault = λ h f e n gives. breaks P x1 x2 s l1 l2 f result sits.resets
@@ -294,10 +283,8 @@ takes_by q mem P x1 x2 s l1 l2 result sits t =
           (t.wrong h pieces f (room e) (sym sits.next ∙ n) (sits.chain h pieces gives)
           (ap (λ (k : ℕ). request_of q k mem pieces) (sym sits.size) ∙ bad));
       takes = λ h pieces pages e n gives good.
-          let got =
-          t.takes h pieces pages (room e) (sym sits.next ∙ n) (sits.chain h pieces gives)
-          (ap (λ (k : ℕ). request_of q k mem pieces) (sym sits.size) ∙ good)
-          in (
+          let got = t.takes h pieces pages (room e) (sym sits.next ∙ n) (sits.chain h pieces gives)
+          (ap (λ (k : ℕ). request_of q k mem pieces) (sym sits.size) ∙ good) in (
             got.0,
             after_is P (with_request h pages x1) x2 s (noted q mem pieces l1) l2 result
                 (Ok (Some h)) got.0 got.1 got.2 ∙ sym (sits.takes h pages pieces),
@@ -324,11 +311,7 @@ taking_two : (q h : ℕ) (pages : List ℕ) (k : QueuePart) (p : Part) → has_c
       next_avail = (k.next_avail + 1) % 65536;
       taken = k.taken ++ (record { head = h; pages = pages; visited = 0 } ∷ []);
     }) p
-taking_two q h pages k p known =
-    at_each (λ n. taking n h pages (with_queue n k p) ≡ with_queue n (record k {
-      next_avail = (k.next_avail + 1) % 65536;
-      taken = k.taken ++ (record { head = h; pages = pages; visited = 0 } ∷ []);
-    }) p) refl refl refl refl q known
+taking_two q h pages k p known = grind (arith, at_each)
 
 takes_at_part : (q : ℕ) (mem : Pages) (s f t a n : ℕ) (qs : List QueueState) (loose : List Page)
     (x : QueueState) (l : LastStatistics) (h : ℕ) (pages : List ℕ) (pieces : List Piece) →
@@ -344,13 +327,11 @@ takes_at_part q mem s f t a n qs loose x l h pages pieces four known =
 pub sits_at : (q : ℕ) (mem : Pages) (s f t a n c : ℕ) (qs : List QueueState) (loose : List Page)
     (l : LastStatistics) → IsBase mem s n qs c → take_refusal_by q s f ≡ None →
     Sits q mem (with_at q f t a n qs loose) (queue_at q qs) s l
-sits_at q mem s f t a n c qs loose l b ok =
-    let known : has_chains q ≡ true = take_known q s f ok in
+sits_at q mem s f t a n c qs loose l b ok = let known : has_chains q ≡ true = take_known q s f ok in
     let x : QueueState = queue_at q qs in
     let is : IsDeviceQueue mem s n q x = b.each q known in
     let here : queue_part q (with_at q f t a n qs loose x s l) ≡ part_of x =
-    part_here q s f t a n qs x l loose b.four known in
-    record {
+    part_here q s f t a n qs x l loose b.four known in record {
       refusal = take_open q (with_at q f t a n qs loose x s l) ok ∙
           ap (λ (p : QueuePart). if nat_le (most_taken q) (length p.taken) then Some Busy else None)
           here;
@@ -365,8 +346,7 @@ sits_at q mem s f t a n c qs loose l b ok =
           pieces) (sym is.ring) g);
       chain_back = λ h pieces g. subst
           (λ (y : Layout). ChainGives (descriptor_at mem y.table) n (4096 * length mem) h pieces)
-          is.ring
-          (subst (λ (k : ℕ). ChainGives (descriptor_at mem x.ring.layout.table) k
+          is.ring (subst (λ (k : ℕ). ChainGives (descriptor_at mem x.ring.layout.table) k
           (4096 * length mem) h pieces) is.size g);
       fault = λ h y g. subst
           (λ (k : ℕ). FaultGives (descriptor_at mem x.ring.layout.table) k (4096 * length mem) h y)
@@ -407,20 +387,17 @@ pub base_kept : (q : ℕ) (mem : Pages) (s1 s2 n c : ℕ) (qs : List QueueState)
     (x2 : QueueState) → IsBase mem s1 n qs c → has_chains q ≡ true →
     contains s1 driver_ok ≡ true → KeepsRing mem (queue_at q qs) x2 →
     IsBase mem s2 n (set qs (index_of q) x2) c
-base_kept q mem s1 s2 n c qs x2 b known driver k =
-    base_set q mem mem s1 s2 n c c qs x2 b known
+base_kept q mem s1 s2 n c qs x2 b known driver k = base_set q mem mem s1 s2 n c c qs x2 b known
     (λ i x is. record {
       ring = is.ring;
       size = is.size;
       ready = λ e. is.ready driver;
       idle = is.idle;
       none = is.none;
-    })
-    (λ is. record {
+    }) (λ is. record {
       ring = k.layout ∙ is.ring;
       size = k.size ∙ is.size;
       ready = λ e. k.ready ∙ is.ready driver;
       idle = λ z. ap (λ (x : QueueState). x.ring.next_avail) (k.idle z) ∙ is.idle z;
       none = λ z. ap (λ (x : QueueState). x.taken) (k.idle z) ∙ is.none z;
-    })
-    b.large b.room
+    }) b.large b.room

@@ -2,7 +2,7 @@
 use Rattle.std.specs.Prelude.{◌≡◌, ℕ, zero, suc, ◌+◌, ◌<◌, ◌≤◌, Bool, true, false, List, [], ◌∷◌}
 use Rattle.std.specs.Prelude.{Some, All, refl, length, if◌then◌else◌, None, Option, slice_get}
 use Rattle.std.{specs.List.{position, position_or_len}, proofs.Math.ListN.set}
-use Rattle.std.proofs.Common.{◌∙◌, sym, subst, ap, arith, get_or}
+use Rattle.std.proofs.Common.{◌∙◌, ap, arith, get_or}
 use Rattle.std.{proofs.lemmas.Grind.common_steps, proofs.lemmas.List.Quantifiers.position-Some}
 use Rattle.std.{proofs.lemmas.List.Elements.All-set, proofs.lemmas.List.Sums.fails_before_first}
 use Rattle.vb_model.{specs.Requests.Request, specs.Device.{is_unvisited, visiting, next_page}}
@@ -19,8 +19,7 @@ visits_here r rs b e = search (arith)
 
 -- the first request with a page that isn't visited is what is visited next
 first_visit : (rs : List Request) (i : ℕ) (d : Request) → i < length rs →
-    is_unvisited (get_or rs i d) ≡ true →
-    ((k : ℕ) → k < i → is_unvisited (get_or rs k d) ≡ false)
+    is_unvisited (get_or rs i d) ≡ true → ((k : ℕ) → k < i → is_unvisited (get_or rs k d) ≡ false)
     → (visiting rs ≡ set rs i (once_more (get_or rs i d))) ×
     (next_page rs ≡ slice_get (get_or rs i d).pages (get_or rs i d).visited)
 first_visit [] i d lt is before = absurd (omega arith)
@@ -43,14 +42,12 @@ pub visits_at : (rs : List Request) (i : ℕ) (d : Request) → position is_unvi
     (i < length rs) × (is_unvisited (get_or rs i d) ≡ true) ×
     (visiting rs ≡ set rs i (once_more (get_or rs i d)))
     × (next_page rs ≡ slice_get (get_or rs i d).pages (get_or rs i d).visited)
-visits_at rs i d e =
-    let at = position-Some is_unvisited rs i d e in
+visits_at rs i d e = let at = position-Some is_unvisited rs i d e in
     let first = first_visit rs i d at.0 at.1 at.2 in (at.0, at.1, first.0, first.1)
 
 pub visits_none : (rs : List Request) → position is_unvisited rs ≡ None →
     (visiting rs ≡ rs) × (next_page rs ≡ None)
-visits_none rs e =
-    let d : Request = record { head = 0; pages = []; visited = 0 } in
+visits_none rs e = let d : Request = record { head = 0; pages = []; visited = 0 } in
     let far : length rs ≤ position_or_len is_unvisited rs = grind (arith, common_steps) in
     all_visited rs d (λ k l. fails_before_first is_unvisited rs k d (omega (arith, l, far)))
 
@@ -59,13 +56,10 @@ pub visiting_still : (n : ℕ) (rs : List Request) → All (IsTaken n) rs
     → All (IsTaken n) (visiting rs)
 visiting_still n rs all = by_place (position is_unvisited rs) refl
   where
-    by_place : (place : Option ℕ) → position is_unvisited rs ≡ place
-        → All (IsTaken n) (visiting rs)
-    by_place None e = subst (λ (xs : List Request). All (IsTaken n) xs) (sym (visits_none rs e).0) all
-    by_place (Some i) e =
-        let d : Request = record { head = 0; pages = []; visited = 0 } in
+    by_place : (place : Option ℕ) → position is_unvisited rs ≡ place → All (IsTaken n) (visiting rs)
+    by_place None e = rw (visits_none rs e).0 all
+    by_place (Some i) e = let d : Request = record { head = 0; pages = []; visited = 0 } in
         let found = visits_at rs i d e in
-        let was : IsTaken n (get_or rs i d) = all i d found.0 in
-        subst (λ (xs : List Request). All (IsTaken n) xs) (sym found.2)
+        let was : IsTaken n (get_or rs i d) = all i d found.0 in rw found.2
         (All-set (IsTaken n) rs i (once_more (get_or rs i d))
         (record { head = was.head; above = was.above }) all)

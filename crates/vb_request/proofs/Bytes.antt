@@ -29,8 +29,7 @@ run_is mem addr n out len fits read =
   where
     here : (k : ℕ) → k < n →
         byte_of_address mem (addr + k) ≡ byte_at mem (addr / 4096) (addr % 4096 + k)
-    here k l =
-        let page : (addr + k) / 4096 ≡ addr / 4096 = omega (arith, fits, l) in
+    here k l = let page : (addr + k) / 4096 ≡ addr / 4096 = omega (arith, fits, l) in
         let offset : (addr + k) % 4096 ≡ addr % 4096 + k = omega (arith, fits, l) in
         ap (λ (p : ℕ). byte_at mem p ((addr + k) % 4096)) page ∙
         ap (byte_at mem (addr / 4096)) offset
@@ -38,8 +37,7 @@ run_is mem addr n out len fits read =
 -- bytes in two parts
 pub bytes_from-append : (mem : Pages) (addr a b : ℕ) →
     bytes_from mem addr a ++ bytes_from mem (addr + a) b ≡ bytes_from mem addr (a + b)
-bytes_from-append mem addr a b =
-    ext_get_or 0 (bytes_from mem addr a ++ bytes_from mem (addr + a) b)
+bytes_from-append mem addr a b = ext_get_or 0 (bytes_from mem addr a ++ bytes_from mem (addr + a) b)
     (bytes_from mem addr (a + b)) (both ∙ sym (bytes_from-length mem addr (a + b))) (λ k l.
     at k (omega (arith, l, both)) (cases_lt k a) ∙
     sym (get_or-map-range_with_len (byte_of_address mem) addr (a + b) k (addr + k) 0
@@ -56,12 +54,10 @@ bytes_from-append mem addr a b =
     at : (k : ℕ) → k < a + b → (k < a) ⊎ (a ≤ k) →
         get_or (bytes_from mem addr a ++ bytes_from mem (addr + a) b) k 0 ≡
         byte_of_address mem (addr + k)
-    at k l (inl lt) =
-        get_or_append_left (bytes_from mem addr a) (bytes_from mem (addr + a) b) 0 k
+    at k l (inl lt) = get_or_append_left (bytes_from mem addr a) (bytes_from mem (addr + a) b) 0 k
         (omega (arith, lt, bytes_from-length mem addr a))
         ∙ get_or-map-range_with_len (byte_of_address mem) addr a k (addr + k) 0 lt refl
-    at k l (inr past) =
-        let same : addr + a + (k - a) ≡ addr + k = omega arith in
+    at k l (inr past) = let same : addr + a + (k - a) ≡ addr + k = omega arith in
         get_or-append_right (bytes_from mem addr a) (bytes_from mem (addr + a) b) a k 0
         (bytes_from-length mem addr a) past
         ∙ get_or-map-range_with_len (byte_of_address mem) (addr + a) b (k - a) (addr + k) 0
@@ -73,13 +69,12 @@ pub pieces_more : (mem : Pages) (pieces : List Piece) (i : ℕ) (d : Piece) (so_
     new ≡ so_far ++ bytes_from mem (get_or pieces i d).addr (get_or pieces i d).len
     → new ≡ bytes_of mem (take (i + 1) pieces)
 unfolding bytes_of
-pieces_more mem pieces i d so_far new lt e f =
-    grind (
-      arith,
-      take_more pieces i d lt,
-      flat_map-append (λ piece. bytes_from mem piece.addr piece.len) (take i pieces) (get_or pieces i d ∷ []),
-      append-nil (bytes_from mem (get_or pieces i d).addr (get_or pieces i d).len),
-    )
+pieces_more mem pieces i d so_far new lt e f = grind (
+  arith,
+  take_more pieces i d lt,
+  flat_map-append (λ piece. bytes_from mem piece.addr piece.len) (take i pieces) (get_or pieces i d ∷ []),
+  append-nil (bytes_from mem (get_or pieces i d).addr (get_or pieces i d).len),
+)
 
 pub pieces_count : (mem : Pages) (pieces : List Piece) (i : ℕ) (d : Piece) (so_far new : List ℕ) →
     i < length pieces → length so_far ≡ total_length (take i pieces) →
@@ -107,16 +102,14 @@ unfolding page_request
 refused_request mem pieces reserved fault e = grind (arith, refused_before)
 
 pub read_numbers : (mem : Pages) (pieces : List Piece) (reserved total : ℕ)
-    → request_length pieces ≡ Ok total
-    → page_request mem pieces reserved
+    → request_length pieces ≡ Ok total → page_request mem pieces reserved
     ≡ pages_of_numbers reserved (length mem) (numbers_of (bytes_of mem pieces))
 unfolding page_request
 read_numbers mem pieces reserved total e = grind (arith, read_behind)
 
 pub by_numbers : (mem : Pages) (pieces : List Piece) (reserved : ℕ)
     → list_any (λ piece. piece.writable) pieces ≡ false
-    → is_request_length (total_length pieces) ≡ true
-    → page_request mem pieces reserved
+    → is_request_length (total_length pieces) ≡ true → page_request mem pieces reserved
     ≡ pages_of_numbers reserved (length mem) (numbers_of (bytes_of mem pieces))
 unfolding page_request
 by_numbers mem pieces reserved e f = rw (e, f) refl

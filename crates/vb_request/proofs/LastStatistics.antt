@@ -21,12 +21,11 @@ last_append tag [] ys = later_none (last_of tag ys)
     later_none : (o : Option ℕ) → o ≡ later_or o None
     later_none None = refl
     later_none (Some v) = refl
-last_append tag (x ∷ xs) ys =
-    grind (
-      arith,
-      last_append tag xs ys,
-      later_assoc (last_of tag ys) (last_of tag xs) (if x.tag == tag then Some x.value else None),
-    )
+last_append tag (x ∷ xs) ys = grind (
+  arith,
+  last_append tag xs ys,
+  later_assoc (last_of tag ys) (last_of tag xs) (if x.tag == tag then Some x.value else None),
+)
 
 pub statistics_of-length : (bytes : List ℕ) → length (statistics_of bytes) ≡ length bytes / 10
 unfolding statistics_of
@@ -54,10 +53,8 @@ pub last_more : (which tag value k : ℕ) (bytes : List ℕ) (old new : Option �
 last_more which tag value k bytes old new lt tag_is value_is so_far is =
     let here : Statistic = get_or (statistics_of bytes) k no_statistic in
     let at : here ≡ statistic_at bytes k = statistics_of-at bytes k lt in
-    let inside : k < length (statistics_of bytes) =
-    omega (arith, lt, statistics_of-length bytes) in
-    is
-    ∙ (ap (λ (t : ℕ). if t == which then Some value else old)
+    let inside : k < length (statistics_of bytes) = omega (arith, lt, statistics_of-length bytes) in
+    is ∙ (ap (λ (t : ℕ). if t == which then Some value else old)
     (tag_is ∙ sym (ap (λ (s : Statistic). s.tag) at))
     ∙ (ap (λ (v : ℕ). if here.tag == which then Some v else old)
     (value_is ∙ sym (ap (λ (s : Statistic). s.value) at))

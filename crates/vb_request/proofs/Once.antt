@@ -85,8 +85,7 @@ pub fault_here : (reserved count : ℕ) (ns : List ℕ) (k number : ℕ) (fault 
     number_fault reserved count number ≡ Some fault
     → first_number_fault reserved count ns ≡ Some fault
 fault_here reserved count ns k number fault lt at before here =
-    let rest : List ℕ = drop (k + 1) ns in
-    ap (first_number_fault reserved count) (split_at ns k lt)
+    let rest : List ℕ = drop (k + 1) ns in ap (first_number_fault reserved count) (split_at ns k lt)
     ∙ (first_fault-append reserved count (take k ns) (get_or ns k 0 ∷ rest)
     ∙ (ap (λ o. first_of_both o (first_number_fault reserved count (get_or ns k 0 ∷ rest))) before
     ∙ ap (λ o. first_of_both o (first_number_fault reserved count rest))
@@ -97,25 +96,23 @@ pub sound_more : (reserved count : ℕ) (ns : List ℕ) (k number : ℕ) → k <
     get_or ns k 0 ≡ number →
     first_number_fault reserved count (take k ns) ≡ None → number_fault reserved count number ≡ None
     → first_number_fault reserved count (take (k + 1) ns) ≡ None
-sound_more reserved count ns k number lt at before here =
-    grind (
-      arith,
-      take_more ns k 0 lt,
-      first_fault-append reserved count (take k ns) (get_or ns k 0 ∷ []),
-    )
+sound_more reserved count ns k number lt at before here = grind (
+  arith,
+  take_more ns k 0 lt,
+  first_fault-append reserved count (take k ns) (get_or ns k 0 ∷ []),
+)
 
 -- one more number, put behind the others where it is new
 pub once_more : (ns pages new : List ℕ) (k number : ℕ) → k < length ns → get_or ns k 0 ≡ number →
     pages ≡ each_once (take k ns) →
     new ≡ (if is_in number pages then pages else pages ++ number ∷ []) →
     new ≡ each_once (take (k + 1) ns)
-once_more ns pages new k number lt at so_far is =
-    grind (
-      arith,
-      is_in-each_once number (take k ns),
-      take_more ns k 0 lt,
-      each_once_push (take k ns) number,
-    )
+once_more ns pages new k number lt at so_far is = grind (
+  arith,
+  is_in-each_once number (take k ns),
+  take_more ns k 0 lt,
+  each_once_push (take k ns) number,
+)
 
 pub once_few : (pages new : List ℕ) (number : ℕ) (b : Bool) →
     new ≡ (if b then pages else pages ++ number ∷ []) → length new ≤ length pages + 1

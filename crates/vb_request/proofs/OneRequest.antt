@@ -37,8 +37,7 @@ number_is : (mem : Pages) (piece : Piece) (p o k : ℕ) (pages : List ℕ) →
     number_at (bytes_from mem piece.addr piece.len) k ≡ slice_index pages k
 number_is mem piece p o k pages r lt =
     sym (field_4 mem p (o + 4 * k) (take 4 (drop (4 * k) (bytes_from mem piece.addr piece.len)))
-    (λ j l.
-    get_or-take 4 (drop (4 * k) (bytes_from mem piece.addr piece.len)) j 0 l ∙
+    (λ j l. get_or-take 4 (drop (4 * k) (bytes_from mem piece.addr piece.len)) j 0 l ∙
     (get_or-drop (4 * k) (bytes_from mem piece.addr piece.len) j 0
     ∙ (byte_at_index mem piece p o (4 * k + j) pages r (omega (arith, l, lt)) ∙ place j))))
     ∙ r.numbers k lt
@@ -48,13 +47,11 @@ number_is mem piece p o k pages r lt =
 
 numbers_are : (mem : Pages) (piece : Piece) (p o : ℕ) (pages : List ℕ) →
     IsRequestPiece mem piece p o pages → numbers_of (bytes_of mem (piece ∷ [])) ≡ pages
-numbers_are mem piece p o pages r =
-    let bytes : List ℕ = bytes_from mem piece.addr piece.len in
+numbers_are mem piece p o pages r = let bytes : List ℕ = bytes_from mem piece.addr piece.len in
     let count : length bytes / 4 ≡ length pages =
     omega (arith, bytes_from-length mem piece.addr piece.len, r.len) in
     let len : length (numbers_of bytes) ≡ length pages = numbers_of-length bytes ∙ count in
-    ap numbers_of (bytes_are mem piece)
-    ∙ ext_get_or 0 (numbers_of bytes) pages len
+    ap numbers_of (bytes_are mem piece) ∙ ext_get_or 0 (numbers_of bytes) pages len
     (λ k l. numbers_of-at bytes k (omega (arith, l, len, count)) ∙
     number_is mem piece p o k pages r (omega (arith, l, len)))
 
@@ -94,13 +91,12 @@ without_apart n (x ∷ xs) e = apart_step x n xs (x == n) refl e (without_apart 
 
 pub once_distinct : (ns : List ℕ) → AllDistinct ns → each_once ns ≡ ns
 once_distinct [] d = refl
-once_distinct (n ∷ ns) d =
-    grind (
-      arith,
-      once_distinct ns d.1,
-      without_apart n ns (not_true (is_in n ns) d.0),
-      not_true (is_in n ns) d.0,
-    )
+once_distinct (n ∷ ns) d = grind (
+  arith,
+  once_distinct ns d.1,
+  without_apart n ns (not_true (is_in n ns) d.0),
+  not_true (is_in n ns) d.0,
+)
 
 both_true : (a b c : Bool) → a ≡ true → b ≡ true → c ≡ true → (a && (b && c)) ≡ true
 both_true a b c e f g = ap (λ v. v && (b && c)) e ∙ (ap (λ v. v && c) f ∙ g)

@@ -22,24 +22,22 @@ piece_length piece = length-range_with_len (piece.addr / 4096) (piece.len / 4096
 pages_more : (pieces : List Piece) (i : ℕ) (d : Piece) → i < length pieces →
     pages_of_pieces (take (i + 1) pieces) ≡
     pages_of_pieces (take i pieces) ++ pages_of_piece (get_or pieces i d)
-pages_more pieces i d lt =
-    grind (
-      arith,
-      take_more pieces i d lt,
-      flat_map-append pages_of_piece (take i pieces) (get_or pieces i d ∷ []),
-      append-nil (pages_of_piece (get_or pieces i d)),
-    )
+pages_more pieces i d lt = grind (
+  arith,
+  take_more pieces i d lt,
+  flat_map-append pages_of_piece (take i pieces) (get_or pieces i d ∷ []),
+  append-nil (pages_of_piece (get_or pieces i d)),
+)
 
 pub count_more : (pieces : List Piece) (i : ℕ) (d : Piece) → i < length pieces →
     length (pages_of_pieces (take (i + 1) pieces)) ≡
     length (pages_of_pieces (take i pieces)) + (get_or pieces i d).len / 4096
-count_more pieces i d lt =
-    grind (
-      arith,
-      pages_more pieces i d lt,
-      length-append (pages_of_pieces (take i pieces)) (pages_of_piece (get_or pieces i d)),
-      piece_length (get_or pieces i d),
-    )
+count_more pieces i d lt = grind (
+  arith,
+  pages_more pieces i d lt,
+  length-append (pages_of_pieces (take i pieces)) (pages_of_piece (get_or pieces i d)),
+  piece_length (get_or pieces i d),
+)
 
 split_at : (pieces : List Piece) (i : ℕ) (d : Piece) → i < length pieces →
     pieces ≡ take i pieces ++ (get_or pieces i d ∷ drop (i + 1) pieces)
@@ -50,16 +48,14 @@ split_at pieces i d lt =
 pub page_here : (pieces : List Piece) (i k rest : ℕ) (d : Piece) → i < length pieces →
     k ≡ length (pages_of_pieces (take i pieces)) + rest → rest < (get_or pieces i d).len / 4096 →
     slice_get (pages_of_pieces pieces) k ≡ Some ((get_or pieces i d).addr / 4096 + rest)
-page_here pieces i k rest d lt at inside =
-    let before : List ℕ = pages_of_pieces (take i pieces) in
+page_here pieces i k rest d lt at inside = let before : List ℕ = pages_of_pieces (take i pieces) in
     let here : List ℕ = pages_of_piece (get_or pieces i d) in
     let after : List ℕ = pages_of_pieces (drop (i + 1) pieces) in
     let all : pages_of_pieces pieces ≡ before ++ (here ++ after) =
     ap pages_of_pieces (split_at pieces i d lt) ∙
     flat_map-append pages_of_piece (take i pieces) (get_or pieces i d ∷ drop (i + 1) pieces) in
     let len : length here ≡ (get_or pieces i d).len / 4096 = piece_length (get_or pieces i d) in
-    let whole : k < length (pages_of_pieces pieces) =
-    omega (
+    let whole : k < length (pages_of_pieces pieces) = omega (
       arith,
       ap (λ (xs : List ℕ). length xs) all,
       length-append before (here ++ after),
@@ -67,8 +63,7 @@ page_here pieces i k rest d lt at inside =
       len,
       at,
       inside,
-    ) in
-    slice_get-get_or (pages_of_pieces pieces) k 0 whole
+    ) in slice_get-get_or (pages_of_pieces pieces) k 0 whole
     ∙ ap Some (ap (λ (xs : List ℕ). get_or xs k 0) all
     ∙ (get_or-append_right before (here ++ after) (length before) k 0 refl (omega (arith, at))
     ∙ (ap (λ (j : ℕ). get_or (here ++ after) j 0) (omega (arith, at))
@@ -78,8 +73,7 @@ page_here pieces i k rest d lt at inside =
 
 -- ---- faults
 
-pub first_fault-append : (reserved : ℕ) (xs ys : List Piece)
-    → first_piece_fault reserved (xs ++ ys)
+pub first_fault-append : (reserved : ℕ) (xs ys : List Piece) → first_piece_fault reserved (xs ++ ys)
     ≡ first_of_both (first_piece_fault reserved xs) (first_piece_fault reserved ys)
 first_fault-append reserved [] ys = refl
 first_fault-append reserved (x ∷ xs) ys = grind (arith, first_fault-append reserved xs ys)
@@ -89,8 +83,7 @@ pub fault_here : (reserved : ℕ) (pieces : List Piece) (i : ℕ) (d : Piece) (f
     → i < length pieces → first_piece_fault reserved (take i pieces) ≡ None
     → piece_fault reserved (get_or pieces i d) ≡ Some fault
     → first_piece_fault reserved pieces ≡ Some fault
-fault_here reserved pieces i d fault lt before here =
-    let rest : List Piece = drop (i + 1) pieces in
+fault_here reserved pieces i d fault lt before here = let rest : List Piece = drop (i + 1) pieces in
     ap (first_piece_fault reserved) (split_at pieces i d lt)
     ∙ (first_fault-append reserved (take i pieces) (get_or pieces i d ∷ rest)
     ∙ (ap (λ o. first_of_both o (first_piece_fault reserved (get_or pieces i d ∷ rest))) before
@@ -101,12 +94,11 @@ pub sound_more : (reserved : ℕ) (pieces : List Piece) (i : ℕ) (d : Piece) �
     → first_piece_fault reserved (take i pieces) ≡ None
     → piece_fault reserved (get_or pieces i d) ≡ None
     → first_piece_fault reserved (take (i + 1) pieces) ≡ None
-sound_more reserved pieces i d lt before here =
-    grind (
-      arith,
-      take_more pieces i d lt,
-      first_fault-append reserved (take i pieces) (get_or pieces i d ∷ []),
-    )
+sound_more reserved pieces i d lt before here = grind (
+  arith,
+  take_more pieces i d lt,
+  first_fault-append reserved (take i pieces) (get_or pieces i d ∷ []),
+)
 
 -- ---- the answers to a chain
 
@@ -120,13 +112,6 @@ pub wrong_length : (reserved : ℕ) (pieces : List Piece) (bad : Bool)
     → (nat_lt 32 (length pieces) || list_any has_bad_length pieces) ≡ true
     → report_request pieces reserved ≡ Err BadLength
 wrong_length reserved pieces bad e f = rw (e, f) refl
-
-pub by_pieces : (reserved : ℕ) (pieces : List Piece)
-    → list_any (λ piece. not piece.writable) pieces ≡ false
-    → (nat_lt 32 (length pieces) || list_any has_bad_length pieces) ≡ false
-    → report_request pieces reserved
-    ≡ unless_fault (first_piece_fault reserved pieces) (pages_of_pieces pieces)
-by_pieces reserved pieces e f = rw (e, f) refl
 
 -- ---- reserved pages
 
@@ -142,14 +127,12 @@ from_on : (reserved first n : ℕ) → reserved ≤ first → (k d : ℕ)
     → k < length (range_with_len first n) → reserved ≤ slice_index_or (range_with_len first n) k d
 from_on reserved first n le k d lt = grind (arith, get_or-range_with_len, length-range_with_len)
 
-pub above_reserved : (reserved : ℕ) (pieces : List Piece)
-    → first_piece_fault reserved pieces ≡ None
+pub above_reserved : (reserved : ℕ) (pieces : List Piece) → first_piece_fault reserved pieces ≡ None
     → All (λ page. reserved ≤ page) (pages_of_pieces pieces)
 above_reserved reserved [] e = λ k d lt. absurd (omega (arith, lt))
 above_reserved reserved (x ∷ xs) e =
     let both = none_of_both (piece_fault reserved x) (first_piece_fault reserved xs) e in
-    let le : reserved ≤ x.addr / 4096 =
-    ltb-false (x.addr / 4096) reserved
+    let le : reserved ≤ x.addr / 4096 = ltb-false (x.addr / 4096) reserved
     (second_no (not (x.addr % 4096 == 0)) (nat_lt (x.addr / 4096) reserved) both.0) in
     All-append (λ page. reserved ≤ page) (pages_of_piece x) (pages_of_pieces xs)
     (from_on reserved (x.addr / 4096) (x.len / 4096) le) (above_reserved reserved xs both.1)

@@ -95,20 +95,18 @@ distinct_filter p (x ∷ xs) d = distinct_step p x xs (p x) d.0 (distinct_filter
 
 pub once_distinct : (ns : List ℕ) → AllDistinct (each_once ns)
 once_distinct [] = tt
-once_distinct (n ∷ ns) =
-    grind (
-      arith,
-      out_of_but n (each_once ns),
-      distinct_filter (λ m. not (m == n)) (each_once ns) (once_distinct ns),
-      once_distinct ns,
-    )
+once_distinct (n ∷ ns) = grind (
+  arith,
+  out_of_but n (each_once ns),
+  distinct_filter (λ m. not (m == n)) (each_once ns) (once_distinct ns),
+  once_distinct ns,
+)
 
 -- What the numbers of a request are.
 pub numbers_are_pages : (reserved count : ℕ) (ns pages : List ℕ)
     → pages_of_numbers reserved count ns ≡ Ok pages → ArePages reserved count pages
 numbers_are_pages reserved count ns pages e =
-    let both = unless_ok (first_number_fault reserved count ns) (each_once ns) pages e in
-    record {
+    let both = unless_ok (first_number_fault reserved count ns) (each_once ns) pages e in record {
       above = subst (λ (xs : List ℕ). All (λ page. reserved ≤ page) xs) both.1
           (once_all (λ page. reserved ≤ page) ns
           (λ k d lt. right_above reserved count (slice_index_or ns k d)
@@ -120,8 +118,7 @@ numbers_are_pages reserved count ns pages e =
       distinct = subst AllDistinct both.1 (once_distinct ns);
     }
 
-pages_step : (reserved count : ℕ) (ns pages : List ℕ) (b c : Bool)
-    → (if b then Err WrongDirection
+pages_step : (reserved count : ℕ) (ns pages : List ℕ) (b c : Bool) → (if b then Err WrongDirection
     else (if c then Err BadLength else pages_of_numbers reserved count ns)) ≡ Ok pages
     → ArePages reserved count pages
 pages_step reserved count ns pages true c e = absurd cc

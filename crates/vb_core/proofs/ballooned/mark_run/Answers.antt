@@ -1,9 +1,9 @@
-use Rattle.std.proofs.Common.{◌≡◌, ◌<◌, ◌≤◌, ◌+◌, ◌-◌, ◌*◌, ◌/◌, ◌∙◌, ◌==◌, arith, ℕ, ap, sym}
-use Rattle.std.{proofs.Common.{subst, length, refl}, proofs.lemmas.Bool.leb-false}
+use Rattle.std.proofs.Common.{◌<◌, ◌≤◌, ◌+◌, ◌-◌, ◌*◌, ◌/◌, ◌∙◌, ◌==◌, arith, ℕ, ap, sym, length}
+use Rattle.std.proofs.lemmas.Bool.{leb-false}
 use Rattle.vb_model.specs.Tests.{is_in}
 use Rattle.vb_core.proofs.MarkLemmas.{put_none, put_as, put_more, put_in_run, none_reaches, reaches}
-use Rattle.vb_core.{specs.Runs.pages_of_run, specs.Ballooned.Puts}
 use Rattle.vb_core.proofs.MarkLemmas.{is_before, none_before, all_before, none_past}
+use Rattle.vb_core.specs.Runs.{pages_of_run}
 use Rattle.vb_core.proofs.ballooned.mark_run.Goals as goal
 
 pub returns-then-run-eq0-clause-put : goal.returns-then-run-eq0-clause-put
@@ -12,8 +12,7 @@ returns-then-run-eq0-clause-put c =
     (λ p. none_reaches (λ m. m == p) c.args.run c.if-run-eq0.true)
 
 pub returns-then-run-eq0-clause-small : goal.returns-then-run-eq0-clause-small
-returns-then-run-eq0-clause-small c =
-    λ p l. none_reaches (λ m. m == p) c.args.run c.if-run-eq0.true
+returns-then-run-eq0-clause-small c = λ p l. none_reaches (λ m. m == p) c.args.run c.if-run-eq0.true
 
 pub loop-word-init : goal.loop-word-init
 loop-word-init c =
@@ -22,13 +21,11 @@ loop-word-init c =
     ∙ none_before c.args.run p)
 
 pub mark_word-requires : goal.mark_word-requires
-mark_word-requires c =
-    let some : 0 < c.args.run.count = omega arith in
+mark_word-requires c = let some : 0 < c.args.run.count = omega arith in
     let last : c.args.run.first + c.args.run.count - 1 < 64 * length c.args.set.now =
     leb-false (64 * length c.args.set.now) (c.args.run.first + c.args.run.count - 1)
     (sym (reaches (64 * length c.args.set.now) c.args.run.first c.args.run.count some)
-    ∙ c.requires) in
-    omega (arith, last, c.loop-word.invariant.words)
+    ∙ c.requires) in omega (arith, last, c.loop-word.invariant.words)
 
 pub overflow_add-changed : goal.overflow_add-changed
 overflow_add-changed c =
@@ -37,26 +34,17 @@ overflow_add-changed c =
     (c.loop-word.changed + c.mark_word.result) 8589934592
     (put_more c.args.run c.loop-word.word c.bits_of_run-mask.result c.args.inside c.args.set.now
     c.loop-word.set c.mark_word.new.set c.loop-word.changed c.mark_word.result
-    c.loop-word.invariant c.mark_word.ensures c.bits_of_run-mask.ensures)
-    (omega arith) in
+    c.loop-word.invariant c.mark_word.ensures c.bits_of_run-mask.ensures) (omega arith) in
     omega (arith, few)
 
 pub loop-word-preserved : goal.loop-word-preserved
-loop-word-preserved c =
-    subst (λ (n : ℕ). Puts (is_before c.args.run (c.loop-word.word + 1)) c.args.inside
-    c.args.set.now c.mark_word.new.set (c.loop-word.changed + n)) (sym c.from-changed.ensures)
+loop-word-preserved c = rw c.from-changed.ensures
     (put_more c.args.run c.loop-word.word c.bits_of_run-mask.result c.args.inside c.args.set.now
     c.loop-word.set c.mark_word.new.set c.loop-word.changed c.mark_word.result
     c.loop-word.invariant c.mark_word.ensures c.bits_of_run-mask.ensures)
 
 pub returns-clause-put : goal.returns-clause-put
-returns-clause-put c =
-    let last : ℕ = c.args.run.first + c.args.run.count - 1 in
-    let end : last / 64 + 1 ≡ c.loop-word.word = omega arith in
-    put_as (is_before c.args.run c.loop-word.word) (λ p. is_in p (pages_of_run c.args.run))
-    c.args.inside c.args.set.now c.loop-word.set c.loop-word.changed c.loop-word.invariant
-    (λ p. all_before c.args.run c.loop-word.word last p end refl)
+returns-clause-put c = grind (arith, put_as, is_before, all_before)
 
 pub returns-clause-small : goal.returns-clause-small
-returns-clause-small c =
-    λ p l. none_past c.args.run 8589934592 p (omega arith) l
+returns-clause-small c = λ p l. none_past c.args.run 8589934592 p (omega arith) l

@@ -1,8 +1,4 @@
-use Rattle.std.proofs.Common.{◌≡◌, ◌≤◌, ◌+◌, ◌*◌, ◌∙◌, arith, ℕ, List, leb, ap, subst, length}
-use Rattle.std.{proofs.Common.get_or, specs.List.list_any, proofs.lemmas.List.take_all}
-use Rattle.vb_model.specs.Tests.{is_in}
-use Rattle.vb_core.{specs.declared.runs.Run.Run, specs.Runs.{pages_of_run, pages_of_runs}}
-use Rattle.vb_core.specs.Ballooned.{Puts}
+use Rattle.std.{proofs.Common.{◌≤◌, ◌+◌, arith}, proofs.lemmas.List.take_all}
 use Rattle.vb_core.proofs.MarkLemmas.{none_of_one, put_no_run, put_next_run, put_in_runs}
 use Rattle.vb_core.proofs.ballooned.mark_runs.Goals as goal
 
@@ -10,12 +6,7 @@ pub loop-run-init : goal.loop-run-init
 loop-run-init c = put_no_run c.args.runs.now c.args.inside c.args.set.now
 
 pub mark_run-changed-requires : goal.mark_run-changed-requires
-mark_run-changed-requires c =
-    let same : length c.loop-run.set ≡ length c.args.set.now = c.loop-run.invariant.put.words in
-    let run : Run = get_or c.args.runs.now c.loop-run.run-index (record { first = 0; count = 0 }) in
-    ap (λ (n : ℕ). list_any (λ p. leb (64 * n) p) (pages_of_run run)) same
-    ∙ none_of_one (λ p. leb (64 * length c.args.set.now) p) c.args.runs.now c.loop-run.run-index
-    (record { first = 0; count = 0 }) (omega arith) c.requires
+mark_run-changed-requires c = grind (arith, none_of_one)
 
 pub overflow_add-changed : goal.overflow_add-changed
 overflow_add-changed c =
@@ -25,8 +16,7 @@ overflow_add-changed c =
     (put_next_run c.args.runs.now c.loop-run.run-index (record { first = 0; count = 0 })
     c.args.inside c.args.set.now c.loop-run.set c.mark_run-changed.new.set c.loop-run.changed
     c.mark_run-changed.result (omega arith) c.loop-run.invariant c.mark_run-changed.ensures.put
-    c.mark_run-changed.ensures.small) in
-    omega (arith, few)
+    c.mark_run-changed.ensures.small) in omega (arith, few)
 
 pub loop-run-preserved : goal.loop-run-preserved
 loop-run-preserved c =
@@ -36,8 +26,4 @@ loop-run-preserved c =
     c.mark_run-changed.ensures.small
 
 pub returns : goal.returns
-returns c =
-    let last : length c.args.runs.now ≤ c.loop-run.run-index = omega arith in
-    subst (λ (runs : List Run). Puts (λ p. is_in p (pages_of_runs runs)) c.args.inside
-    c.args.set.now c.loop-run.set c.loop-run.changed)
-    (take_all c.loop-run.run-index c.args.runs.now last) c.loop-run.invariant.put
+returns c = grind (arith, take_all)

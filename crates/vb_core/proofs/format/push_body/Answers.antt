@@ -4,8 +4,7 @@ use Rattle.vb_core.proofs.Rows.{joins, adds}
 use Rattle.vb_core.proofs.format.push_body.Goals as goal
 
 pub returns-clause-items : goal.returns-clause-items
-returns-clause-items c =
-    let s = c.args.saved.now in
+returns-clause-items c = let s = c.args.saved.now in
     let d = s.device in
     let e1 = joins [] header_parts c.args.out.now.items _ (record { is = c.requires.empty })
     c.push_header.ensures.items in
@@ -19,5 +18,4 @@ returns-clause-items c =
     let e9 = joins _ (ring_parts d.deflate) _ _ e8 c.push_ring-2.ensures.items in
     let e10 = joins _ (ring_parts d.statistics) _ _ e9 c.push_ring-3.ensures.items in
     let e11 = joins _ (ring_parts d.report) _ _ e10 c.push_ring-4.ensures.items in
-    let e12 = adds _ (u32_bytes d.poison) _ _ e11 c.push_u32-4.ensures.items in
-    e12.is
+    let e12 = adds _ (u32_bytes d.poison) _ _ e11 c.push_u32-4.ensures.items in e12.is

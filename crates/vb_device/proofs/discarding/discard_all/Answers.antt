@@ -1,19 +1,12 @@
-use Rattle.std.proofs.Common.{◌≡◌, ◌<◌, ◌∙◌, ◌++◌, ℕ, List, ap, sym, refl, arith, get_or, take}
+use Rattle.std.proofs.Common.{◌≡◌, ◌<◌, ◌∙◌, arith, get_or}
 use Rattle.std.{specs.Prelude.length, proofs.lemmas.List.{append-nil, take_all}}
 use Rattle.std.proofs.lemmas.Option.{get_or_from_slice_get}
-use Rattle.vb_device.{specs.Base.numbers_of_frames, specs.Discards.{discarded, frames_behind}}
+use Rattle.vb_device.specs.Base.{numbers_of_frames}
 use Rattle.vb_device.proofs.Discards.{discard_more, loose_more, discarded_none}
-use Rattle.vb_request.specs.Request.{each_once}
 use Rattle.vb_device.proofs.discarding.discard_all.Goals as goal
 
 pub loop-k-init : goal.loop-k-init
-loop-k-init c = record {
-  mem = discarded_none c.args.ram.now;
-  loose = sym (append-nil (numbers_of_frames c.args.loose.now.items));
-  room = c.requires.room;
-  capacity = refl;
-  run = record { at = λ i lt. absurd (omega (arith, lt)); below = omega arith };
-}
+loop-k-init c = grind (arith, discarded_none, append-nil)
 
 pub page_in-requires-clause-run : goal.page_in-requires-clause-run
 page_in-requires-clause-run c = c.loop-k.invariant.run
@@ -42,16 +35,7 @@ loop-k-preserved c =
     }
 
 pub returns-clause-mem : goal.returns-clause-mem
-returns-clause-mem c =
-    let whole : take c.loop-k.k c.args.request.now.pages ≡ c.args.request.now.pages =
-    take_all c.loop-k.k c.args.request.now.pages
-    (omega (arith, c.loop-k-test.false, c.count-k-end.ensures)) in
-    c.loop-k.invariant.mem ∙ ap (λ (ps : List ℕ). discarded ps c.args.ram.now) whole
+returns-clause-mem c = grind (arith, take_all)
 
 pub returns-clause-loose : goal.returns-clause-loose
-returns-clause-loose c =
-    let whole : take c.loop-k.k c.args.request.now.pages ≡ c.args.request.now.pages =
-    take_all c.loop-k.k c.args.request.now.pages
-    (omega (arith, c.loop-k-test.false, c.count-k-end.ensures)) in
-    c.loop-k.invariant.loose ∙ ap (λ (ps : List ℕ). numbers_of_frames c.args.loose.now.items ++
-    frames_behind c.args.ram.now (each_once ps)) whole
+returns-clause-loose c = grind (arith, take_all)

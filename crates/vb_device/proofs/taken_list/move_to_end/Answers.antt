@@ -4,8 +4,7 @@ use Rattle.vb_model.specs.Requests.{Request}
 use Rattle.vb_device.proofs.taken_list.move_to_end.Goals as goal
 
 pub returns : goal.returns
-returns c r here =
-    let all : List Request = c.args.taken.now in
+returns c r here = let all : List Request = c.args.taken.now in
     put_mid-rotated c.args.index (length all - c.args.index) all c.rotate_left.new.self r
     c.requires (omega arith) c.rotate_left.ensures.after
     ∙ ap (λ (x : Request). remove all c.args.index ++ x ∷ [])

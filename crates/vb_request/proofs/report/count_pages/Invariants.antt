@@ -3,6 +3,5 @@ use Rattle.vb_request.specs.Report.{pages_of_pieces}
 use Rattle.vb_request.proofs.report.count_pages.Given as goal
 
 abbrev pub invariant-loop-piece : goal.invariant-loop-piece
-invariant-loop-piece l =
-    (l.count ≡ length (pages_of_pieces (take l.piece-index l.pieces))) ×
+invariant-loop-piece l = (l.count ≡ length (pages_of_pieces (take l.piece-index l.pieces))) ×
     (l.count ≤ l.piece-index * 1048575)

@@ -15,6 +15,5 @@ pub loop-piece-preserved : goal.loop-piece-preserved
 loop-piece-preserved c =
     let right :
     piece_fault c.args.reserved (get_or c.args.pieces.now c.loop-piece.piece-index empty) ≡ None =
-    search rules in
-    sound_more c.args.reserved c.args.pieces.now c.loop-piece.piece-index empty
+    search rules in sound_more c.args.reserved c.args.pieces.now c.loop-piece.piece-index empty
     (omega (arith, c.loop-piece-test.true)) c.loop-piece.invariant right

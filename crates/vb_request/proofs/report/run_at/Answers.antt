@@ -12,24 +12,21 @@ returns-then-rest-count c =
       refl,
       omega (arith, c.if-rest-count.true),
       record {
-        at = λ i lt.
-            page_here c.args.pieces.now c.loop-piece.piece-index (c.args.k + i)
+        at = λ i lt. page_here c.args.pieces.now c.loop-piece.piece-index (c.args.k + i)
             (c.loop-piece.rest + i) empty inside (omega (arith, c.loop-piece.invariant))
-            (omega (arith, lt, c.if-rest-count.true))
-            ∙ ap Some (omega arith);
+            (omega (arith, lt, c.if-rest-count.true)) ∙ ap Some (omega arith);
         below = omega (arith, c.requires c.loop-piece.piece-index empty inside, c.if-rest-count.true);
       },
     )
 
 pub loop-piece-preserved : goal.loop-piece-preserved
-loop-piece-preserved c =
-    omega (
-      arith,
-      count_more c.args.pieces.now c.loop-piece.piece-index empty
-          (omega (arith, c.loop-piece-test.true)),
-      c.loop-piece.invariant,
-      c.if-rest-count.false,
-    )
+loop-piece-preserved c = omega (
+  arith,
+  count_more c.args.pieces.now c.loop-piece.piece-index empty
+      (omega (arith, c.loop-piece-test.true)),
+  c.loop-piece.invariant,
+  c.if-rest-count.false,
+)
 
 pub returns : goal.returns
 returns c =

@@ -15,8 +15,7 @@ returns-in-Some-clause-fault c =
     let at : get_or (numbers_of c.args.bytes.now) c.loop-k.k 0 ≡ c.number_at-number.result =
     numbers_of-at c.args.bytes.now c.loop-k.k inside ∙ sym c.number_at-number.ensures in
     let wrong : number_fault c.args.reserved c.args.count c.number_at-number.result ≡
-    Some c.in-Some.fault =
-    sym c.in-Some.ensures in
+    Some c.in-Some.fault = sym c.in-Some.ensures in
     ap (λ (o : Option ChainFault). unless_fault o (each_once (numbers_of c.args.bytes.now)))
     (fault_here c.args.reserved c.args.count (numbers_of c.args.bytes.now) c.loop-k.k
     c.number_at-number.result c.in-Some.fault lt at c.loop-k.invariant.sound wrong)
@@ -29,8 +28,7 @@ loop-k-preserved c =
     let at : get_or (numbers_of c.args.bytes.now) c.loop-k.k 0 ≡ c.number_at-number.result =
     numbers_of-at c.args.bytes.now c.loop-k.k inside ∙ sym c.number_at-number.ensures in
     let right : number_fault c.args.reserved c.args.count c.number_at-number.result ≡ None =
-    search rules in
-    record {
+    search rules in record {
       pages = once_more (numbers_of c.args.bytes.now) c.loop-k.pages.items
           c.add_once.new.pages.items c.loop-k.k c.number_at-number.result lt at
           c.loop-k.invariant.pages c.add_once.ensures;

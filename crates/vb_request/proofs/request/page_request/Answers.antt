@@ -21,8 +21,7 @@ returns-in-Err-clause-fault g c =
     c.in-Err.fault (sym c.in-Err.ensures)
 
 pub returns-in-Ok-clause-pages : goal.returns-in-Ok-clause-pages
-returns-in-Ok-clause-pages g c =
-    subst (λ (v : Result (List ℕ) ChainFault). OnOk c.list_pages.result
+returns-in-Ok-clause-pages g c = subst (λ (v : Result (List ℕ) ChainFault). OnOk c.list_pages.result
     (v ≡ Ok c.list_pages.new.pages.items))
     (sym (as_listed (g.G.GuestBytes.mem c.args.ram.now) c.args.pieces.now c.args.reserved
     c.pages-count.result _ c.as_slice.result.now (sym c.in-Ok.ensures) c.pages-count.ensures

@@ -1,9 +1,8 @@
-use Rattle.std.proofs.Common.{◌≡◌, ◌∙◌, ℕ, List, Bool, Option, Some, None, Ok, sym, ap, subst, refl}
+use Rattle.std.proofs.Common.{◌≡◌, ◌∙◌, ℕ, List, Bool, Option, Some, None, Ok, sym, ap, refl}
 use Rattle.std.specs.Prelude.{length, IsSome}
 use Rattle.vb_model.specs.Requests.{Request}
-use Rattle.vb_device.{specs.State.DeviceState, specs.Base.with_pace, proofs.Marks.after-length}
-use Rattle.vb_device.{specs.BaseCalls.{TakesOut, SettlesBy}, proofs.Ballooning.{over, settles_ok}}
-use Rattle.vb_device.specs.Conditions.{finish_refusal, taken_at}
+use Rattle.vb_device.{specs.Base.with_pace, proofs.Marks.after-length, specs.BaseCalls.TakesOut}
+use Rattle.vb_device.{proofs.Ballooning.settles_ok, specs.Conditions.taken_at}
 use Rattle.vb_device.proofs.balloon.BalloonDevice.settle.Goals as goal
 
 -- the request that is there
@@ -23,18 +22,11 @@ pub returns-clause-by : goal.returns-clause-by
 returns-clause-by g c =
     let there = the_request (taken_at c.args.queue c.args.index c.self.inside.base.part)
     c.in_ok-head.ensures.there in
-    let free : finish_refusal c.args.queue c.args.index
-    (with_pace g.P.Pace.IS_PACED c.self.inside.base.part) ≡ None =
-    subst (λ (b : Bool). finish_refusal c.args.queue c.args.index
-    (with_pace b c.self.inside.base.part) ≡ None) c.IS_PACED.ensures
-    (sym c.in_ok-head.ensures.refused) in
+    let free = rw c.IS_PACED.ensures at (sym c.in_ok-head.ensures.refused) in
     let out : TakesOut c.args.queue c.args.index c.self.inside.base.mem c.take_out.new.self.mem
     (with_pace g.P.Pace.IS_PACED c.self.inside.base.part)
     (with_pace g.P.Pace.IS_PACED c.take_out.new.self.part) (Ok there.0) =
-    c.take_out.ensures.by g.P.Pace.IS_PACED there.0 free there.1 in
-    subst (λ (v : DeviceState). SettlesBy c.args.queue c.args.index v.mem c.take_out.new.self.mem
-    v.part (over g.P.Pace.IS_PACED c.mark_taken.new.ballooned c.take_out.new.self.part)
-    (Ok c.in_ok-head.head)) c.self.view_is
+    c.take_out.ensures.by g.P.Pace.IS_PACED there.0 free there.1 in rw (← c.self.view_is)
     (settles_ok c.args.queue c.args.index g.P.Pace.IS_PACED c.self.inside.base.mem
     c.take_out.new.self.mem c.self.inside.ballooned c.mark_taken.new.ballooned
     c.self.inside.base.part c.take_out.new.self.part there.0 (Ok c.in_ok-head.head)

@@ -1,6 +1,5 @@
-use Rattle.std.proofs.Common.{◌≡◌, ◌∙◌, ◌≤◌, None, false, ap, sym, subst, arith, rules}
-use Rattle.std.{proofs.lemmas.List.length-replicate, specs.Prelude.{length, IsTrue}}
-use Rattle.std.specs.Int.{is_power_of_two}
+use Rattle.std.{proofs.Common.{◌≡◌, ◌∙◌, None, false, ap, sym, arith, rules}, specs.Prelude.length}
+use Rattle.std.proofs.lemmas.List.{length-replicate}
 use Rattle.vb_model.specs.Status.{contains, driver_ok}
 use Rattle.vb_ram.{specs.Pages.Pages, specs.Part.Part, proofs.Limits.config_limits}
 use Rattle.vb_ram.specs.declared.shape.Shape.{Shape}
@@ -10,19 +9,13 @@ use Rattle.vb_status.specs.Bits.{status_bits}
 use Rattle.vb_device.proofs.base.DeviceBase.attach.Goals as goal
 
 pub place_queues-requires : goal.place_queues-requires
-place_queues-requires c =
-    subst (λ (s : Shape). IsTrue (is_power_of_two s.queue_size) × (2 ≤ s.queue_size)
-    × (s.queue_size ≤ 256)) (sym c.shape.ensures)
-    (size_is_power c.args.config.pages c.args.config.queue_size c.args.config.processors
-    c.requires.config)
+place_queues-requires c = grind (arith, size_is_power)
 
 pub invariant_of-self : goal.invariant_of-self
 invariant_of-self c =
     let count : length c.in-Ok.ram ≡ c.args.config.pages =
-    ap (λ (m : Pages). length m) c.in-Ok.ensures.ok ∙
-    length-replicate c.args.config.pages None in
-    let limits =
-    config_limits c.args.config.pages c.args.config.queue_size c.args.config.processors
+    ap (λ (m : Pages). length m) c.in-Ok.ensures.ok ∙ length-replicate c.args.config.pages None in
+    let limits = config_limits c.args.config.pages c.args.config.queue_size c.args.config.processors
     c.requires.config in
     let stopped : contains (status_bits c.self.inside.status) driver_ok ≡ false =
     ap (λ (v : DeviceState). contains v.part.status driver_ok) c.self.view_is ∙
@@ -30,6 +23,5 @@ invariant_of-self c =
     base_new c.in-Ok.ram _ c.args.config.queue_size _ c.place_queues.new.queues
     (c.place_queues.ensures ∙ ap (λ (s : Shape). new_queues s.queue_size) c.shape.ensures)
     (size_is c.args.config.pages c.args.config.queue_size c.args.config.processors
-    c.requires.config) (λ h. sym stopped ∙ h)
-    (λ l. omega (arith, count, limits.pages_least))
+    c.requires.config) (λ h. sym stopped ∙ h) (λ l. omega (arith, count, limits.pages_least))
     (search rules)

@@ -1,16 +1,10 @@
-use Rattle.std.{proofs.Common.{◌<◌, ◌∷◌, [], ◌∙◌, ap, arith, refl, rules}, specs.Prelude.length}
-use Rattle.vb_status.specs.Bits.{status_bits}
+use Rattle.std.proofs.Common.{◌∷◌, [], ◌∙◌, ap, arith, refl}
 use Rattle.vb_device.{specs.State.DeviceState, specs.Discards.discarded, proofs.Finishes.base_same}
 use Rattle.vb_device.proofs.Discards.{discard_more, discarded_none}
 use Rattle.vb_device.proofs.base.DeviceBase.discard.Goals as goal
 
 pub invariant_of-self : goal.invariant_of-self
-invariant_of-self c =
-    let pos : 0 < length c.self.inside.ram = search rules in
-    base_same c.self.inside.ram c.discard_page.new.ram (status_bits c.self.inside.status)
-    c.self.inside.queue_size _ _
-    c.self.inside.queues c.self.invariant
-    c.discard_page.ensures.after.count c.discard_page.ensures.capacity pos
+invariant_of-self c = grind (arith, base_same)
 
 pub returns-clause-mem : goal.returns-clause-mem
 returns-clause-mem c =

@@ -4,8 +4,7 @@ use Rattle.vb_device.proofs.Marks.{count_set, count_has}
 use Rattle.vb_device.proofs.flags.PageFlags.set.Goals as goal
 
 pub overflow_add-self : goal.overflow_add-self
-overflow_add-self c =
-    let inside : c.args.page < length c.self.inside.flags.items = search rules in
+overflow_add-self c = let inside : c.args.page < length c.self.inside.flags.items = search rules in
     omega (
       arith,
       count_set c.self.inside.flags.items c.args.page c.args.flag c.index-old.result.now inside

@@ -1,4 +1,4 @@
-use Rattle.std.{proofs.Common.{◌≡◌, ◌<◌, ◌∙◌, ℕ, List, ap, arith, get_or}, specs.Prelude.length}
+use Rattle.std.proofs.Common.{◌∙◌, ℕ, List, ap, arith}
 use Rattle.std.{proofs.lemmas.List.take_all, proofs.lemmas.Option.get_or_from_slice_get}
 use Rattle.vb_device.{specs.Discards.flagged, proofs.Marks.{flagged_none, flag_more}}
 use Rattle.vb_device.proofs.flags.PageFlags.set_all.Goals as goal
@@ -7,16 +7,9 @@ pub loop-k-init : goal.loop-k-init
 loop-k-init c = flagged_none c.args.flag c.args.self.now
 
 pub loop-k-preserved : goal.loop-k-preserved
-loop-k-preserved c =
-    let lt : c.loop-k.k < length c.args.request.now.pages =
-    omega (arith, c.loop-k-test.true, c.count-k-end.ensures) in
-    let at : get_or c.args.request.now.pages c.loop-k.k 0 ≡ c.page.result =
-    get_or_from_slice_get c.args.request.now.pages c.loop-k.k c.page.result 0 c.page.ensures in
-    c.set.ensures ∙ flag_more c.args.self.now c.loop-k.self c.args.request.now.pages c.loop-k.k
-    c.page.result c.args.flag lt at c.loop-k.invariant
+loop-k-preserved c = grind (arith, get_or_from_slice_get, flag_more)
 
 pub returns : goal.returns
-returns c =
-    c.loop-k.invariant ∙ ap (λ (ps : List ℕ). flagged ps c.args.flag c.args.self.now)
+returns c = c.loop-k.invariant ∙ ap (λ (ps : List ℕ). flagged ps c.args.flag c.args.self.now)
     (take_all c.loop-k.k c.args.request.now.pages
     (omega (arith, c.loop-k-test.false, c.count-k-end.ensures)))

@@ -1,17 +1,11 @@
-use Rattle.std.{proofs.Common.{suc, List, take, drop, sym, subst}, specs.Prelude.All}
+use Rattle.std.proofs.Common.{suc, take, drop}
 use Rattle.std.proofs.lemmas.List.Elements.{All-append, All-take, All-drop}
-use Rattle.vb_model.specs.Requests.{Request}
 use Rattle.vb_device.specs.QueueState.{IsTaken}
 use Rattle.vb_device.proofs.queue.DeviceQueue.forget.Goals as goal
 
 pub invariant_of-self : goal.invariant_of-self
-invariant_of-self c =
-    subst (λ (xs : List Request). All (IsTaken c.self.inside.queue.size) xs)
-    (sym c.forget.ensures)
-    (All-append (IsTaken c.self.inside.queue.size)
-    (take c.args.index c.self.inside.taken)
-    (drop (suc c.args.index) c.self.inside.taken)
-    (All-take (IsTaken c.self.inside.queue.size) c.args.index
-    c.self.inside.taken c.self.invariant)
+invariant_of-self c = rw c.forget.ensures (All-append (IsTaken c.self.inside.queue.size)
+    (take c.args.index c.self.inside.taken) (drop (suc c.args.index) c.self.inside.taken)
+    (All-take (IsTaken c.self.inside.queue.size) c.args.index c.self.inside.taken c.self.invariant)
     (All-drop (IsTaken c.self.inside.queue.size) (suc c.args.index)
     c.self.inside.taken c.self.invariant))

@@ -1,17 +1,14 @@
-use Rattle.std.proofs.Common.{◌≡◌, true, false, rules, ◌∙◌, ◌+◌, ◌*◌, ◌≤◌, ℕ, List, ◌∷◌, [], Option}
-use Rattle.std.proofs.Common.{Some, None, Result, Ok, Err, sym, ap, subst}
-use Rattle.std.{specs.Prelude.{All, length}, proofs.lemmas.List.Elements.All-append}
+use Rattle.std.proofs.Common.{◌≡◌, true, false, rules, ◌∙◌, ◌*◌, ℕ, List, ◌∷◌, [], Option, Result}
+use Rattle.std.{proofs.Common.{Ok, Err, sym, ap}, specs.Prelude.length}
+use Rattle.std.proofs.lemmas.List.Elements.{All-append}
 use Rattle.vb_model.{specs.Requests.Request, specs.declared.replies.LastStatistics.LastStatistics}
-use Rattle.vb_model.{specs.Layout.reserved_pages, specs.declared.replies.Refusal.Refusal}
-use Rattle.vb_model.specs.declared.replies.Refusal.TheVariants.{Broken}
 use Rattle.vb_ram.specs.Pages.{Pages}
 use Rattle.vb_chain.{specs.declared.fault.ChainFault.ChainFault, specs.declared.pieces.Piece.Piece}
 use Rattle.vb_chain.specs.Table.{descriptor_at}
-use Rattle.vb_ring.{specs.declared.device.Taken.Taken, specs.Calls.{PopsBy, popped}}
-use Rattle.vb_ring.specs.Ends.{DeviceEnd}
-use Rattle.vb_request.{specs.Asked.{request_of, noted}, specs.Refusals.rule_of}
-use Rattle.vb_request.{proofs.Chains.chain_fits, specs.declared.statistics.Statistics.Statistics}
-use Rattle.vb_device.specs.QueueState.{QueueState, IsTaken, is_full, TakesNext}
+use Rattle.vb_ring.{specs.declared.device.Taken.Taken, specs.Ends.DeviceEnd}
+use Rattle.vb_request.{specs.Asked.{request_of, noted}, proofs.Chains.chain_fits}
+use Rattle.vb_request.specs.declared.statistics.Statistics.{Statistics}
+use Rattle.vb_device.specs.QueueState.{QueueState, IsTaken, is_full}
 use Rattle.vb_device.proofs.FromNext.{next_busy, next_idle}
 use Rattle.vb_device.proofs.Takes.{next_none, next_err, next_wrong, next_right, one_all}
 use Rattle.vb_device.proofs.queue.DeviceQueue.take.Goals as goal
@@ -22,21 +19,18 @@ was last = record { free = last.free; total = last.total }
 
 last_is : (last : Statistics) (said : LastStatistics) →
     (last.free ≡ said.free) × (last.total ≡ said.total) → was last ≡ said
-last_is last said e =
-    ap (λ (f : Option ℕ). record { free = f; total = last.total }) e.0 ∙
+last_is last said e = ap (λ (f : Option ℕ). record { free = f; total = last.total }) e.0 ∙
     ap (λ (t : Option ℕ). record { free = said.free; total = t }) e.1
 
 -- the queue's size and the chain's pieces in the place of what was read
 read_so : (q n size : ℕ) (mem : Pages) (read pieces : List Piece)
     (answer : Result (List ℕ) ChainFault) → n ≡ size → read ≡ pieces
     → request_of q n mem read ≡ answer → request_of q size mem pieces ≡ answer
-read_so q n size mem read pieces answer e f h =
-    ap (λ (k : ℕ). request_of q k mem pieces) (sym e)
+read_so q n size mem read pieces answer e f h = ap (λ (k : ℕ). request_of q k mem pieces) (sym e)
     ∙ (ap (request_of q n mem) (sym f) ∙ h)
 
 pub returns-then-is_full : goal.returns-then-is_full
-returns-then-is_full g c =
-    let full : is_full c.args.queue c.args.self.now ≡ true = search rules in
+returns-then-is_full g c = let full : is_full c.args.queue c.args.self.now ≡ true = search rules in
     next_busy c.args.queue (g.G.GuestBytes.mem c.args.ram.now) c.args.self.now (was c.args.last.now) full
 
 pub returns-then-pages-eq0 : goal.returns-then-pages-eq0
@@ -51,18 +45,11 @@ returns-in-Err g c =
     let free : is_full c.args.queue (record { ring = c.self.inside.queue; taken = c.self.inside.taken }) ≡
     false = ap (is_full c.args.queue) c.self.view_is ∙ (sym c.is_full.ensures ∙ c.if-is_full.false) in
     let ready : c.self.inside.queue.ready ≡ true =
-    ap (λ (q : QueueState). q.ring.ready) c.self.view_is ∙ c.requires.ready in
-    subst (λ (q : QueueState). TakesNext c.args.queue (g.G.GuestBytes.mem c.args.ram.now) q
-    (record { ring = c.pop_descriptor_chain_into.new.self; taken = c.self.inside.taken })
-    (was c.args.last.now) (was c.args.last.now) (Err c.broken.result)) c.self.view_is
-    (subst (λ (w : Refusal). TakesNext c.args.queue (g.G.GuestBytes.mem c.args.ram.now)
-    (record { ring = c.self.inside.queue; taken = c.self.inside.taken })
-    (record { ring = c.pop_descriptor_chain_into.new.self; taken = c.self.inside.taken })
-    (was c.args.last.now) (was c.args.last.now) (Err w)) (sym c.broken.ensures)
+    ap (λ (q : QueueState). q.ring.ready) c.self.view_is ∙ c.requires.ready in rw (← c.self.view_is)
+    (rw c.broken.ensures
     (next_err c.args.queue (g.G.GuestBytes.mem c.args.ram.now) c.self.inside.queue
     c.pop_descriptor_chain_into.new.self c.self.inside.taken
-    (was c.args.last.now) c.in-Err.fault free ready
-    c.in-Err.ensures.pops))
+    (was c.args.last.now) c.in-Err.fault free ready c.in-Err.ensures.pops))
 
 pub returns-in-None : goal.returns-in-None
 returns-in-None g c =
@@ -70,14 +57,7 @@ returns-in-None g c =
     false = ap (is_full c.args.queue) c.self.view_is ∙ (sym c.is_full.ensures ∙ c.if-is_full.false) in
     let ready : c.self.inside.queue.ready ≡ true =
     ap (λ (q : QueueState). q.ring.ready) c.self.view_is ∙ c.requires.ready in
-    let pops : PopsBy (g.G.GuestBytes.mem c.args.ram.now) c.self.inside.queue
-    c.pop_descriptor_chain_into.new.self (Ok None) =
-    subst (λ (o : Option ℕ). PopsBy (g.G.GuestBytes.mem c.args.ram.now) c.self.inside.queue
-    c.pop_descriptor_chain_into.new.self (popped (Ok o) c.pop_descriptor_chain_into.new.chain))
-    c.in-None.is c.in-Ok.ensures.pops in
-    subst (λ (q : QueueState). TakesNext c.args.queue (g.G.GuestBytes.mem c.args.ram.now) q
-    (record { ring = c.pop_descriptor_chain_into.new.self; taken = c.self.inside.taken })
-    (was c.args.last.now) (was c.args.last.now) (Ok None)) c.self.view_is
+    let pops = rw c.in-None.is at c.in-Ok.ensures.pops in rw (← c.self.view_is)
     (next_none c.args.queue (g.G.GuestBytes.mem c.args.ram.now) c.self.inside.queue
     c.pop_descriptor_chain_into.new.self c.self.inside.taken (was c.args.last.now) free ready pops)
 
@@ -85,14 +65,7 @@ pub take-requires-clause-inside : goal.take-requires-clause-inside
 take-requires-clause-inside g c =
     let taken : Taken =
     record { head = c.in-Some.head; chain = c.pop_descriptor_chain_into.new.chain } in
-    let pops : PopsBy (g.G.GuestBytes.mem c.args.ram.now) c.self.inside.queue
-    c.pop_descriptor_chain_into.new.self (Ok (Some taken)) =
-    subst (λ (o : Option ℕ). PopsBy (g.G.GuestBytes.mem c.args.ram.now) c.self.inside.queue
-    c.pop_descriptor_chain_into.new.self (popped (Ok o) c.pop_descriptor_chain_into.new.chain))
-    c.in-Some.is c.in-Ok.ensures.pops in
-    subst (λ (xs : List Piece). All
-    (λ piece. piece.addr + piece.len ≤ 4096 * length (g.G.GuestBytes.mem c.args.ram.now)) xs)
-    (sym c.pieces.ensures)
+    let pops = rw c.in-Some.is at c.in-Ok.ensures.pops in rw c.pieces.ensures
     (chain_fits (descriptor_at (g.G.GuestBytes.mem c.args.ram.now) c.self.inside.queue.layout.table)
     c.self.inside.queue.size (4096 * length (g.G.GuestBytes.mem c.args.ram.now))
     taken.head taken.chain pops.found.2)
@@ -101,27 +74,15 @@ pub invariant_of-self-in-Ok-take : goal.invariant_of-self-in-Ok-take
 invariant_of-self-in-Ok-take g c =
     let taken : Taken =
     record { head = c.in-Some.head; chain = c.pop_descriptor_chain_into.new.chain } in
-    let pops : PopsBy (g.G.GuestBytes.mem c.args.ram.now) c.self.inside.queue
-    c.pop_descriptor_chain_into.new.self (Ok (Some taken)) =
-    subst (λ (o : Option ℕ). PopsBy (g.G.GuestBytes.mem c.args.ram.now) c.self.inside.queue
-    c.pop_descriptor_chain_into.new.self (popped (Ok o) c.pop_descriptor_chain_into.new.chain))
-    c.in-Some.is c.in-Ok.ensures.pops in
+    let pops = rw c.in-Some.is at c.in-Ok.ensures.pops in
     let size : c.pop_descriptor_chain_into.new.self.size ≡ c.self.inside.queue.size =
     ap (λ (q : DeviceEnd). q.size) pops.state in
     let new : Request =
-    record {
-      head = taken.head;
-      pages = c.in-Ok-take.ensures.taken.0;
-      visited = 0;
-    } in
+    record { head = taken.head; pages = c.in-Ok-take.ensures.taken.0; visited = 0 } in
     let is : IsTaken c.self.inside.queue.size new = record {
       head = pops.found.2.chain.inside;
-      above = subst (λ (n : ℕ). All (λ page. reserved_pages n ≤ page) c.in-Ok-take.ensures.taken.0)
-          c.size.ensures c.in-Ok-take.ensures.taken.2;
-    } in
-    subst (λ (n : ℕ). All (IsTaken n) c.take.new.self) (sym size)
-    (subst (λ (xs : List Request). All (IsTaken c.self.inside.queue.size) xs)
-    (sym c.in-Ok-take.ensures.taken.3)
+      above = rw (← c.size.ensures) c.in-Ok-take.ensures.taken.2;
+    } in rw size (rw c.in-Ok-take.ensures.taken.3
     (All-append (IsTaken c.self.inside.queue.size) c.self.inside.taken (new ∷ [])
     c.self.invariant (one_all (IsTaken c.self.inside.queue.size) new is)))
 
@@ -133,30 +94,19 @@ returns-in-Ok-take g c =
     ap (λ (q : QueueState). q.ring.ready) c.self.view_is ∙ c.requires.ready in
     let taken : Taken =
     record { head = c.in-Some.head; chain = c.pop_descriptor_chain_into.new.chain } in
-    let pops : PopsBy (g.G.GuestBytes.mem c.args.ram.now) c.self.inside.queue
-    c.pop_descriptor_chain_into.new.self (Ok (Some taken)) =
-    subst (λ (o : Option ℕ). PopsBy (g.G.GuestBytes.mem c.args.ram.now) c.self.inside.queue
-    c.pop_descriptor_chain_into.new.self (popped (Ok o) c.pop_descriptor_chain_into.new.chain))
-    c.in-Some.is c.in-Ok.ensures.pops in
+    let pops = rw c.in-Some.is at c.in-Ok.ensures.pops in
     let good : request_of c.args.queue c.self.inside.queue.size (g.G.GuestBytes.mem c.args.ram.now) taken.chain ≡
     Ok c.in-Ok-take.ensures.taken.0 =
     read_so c.args.queue c.size.result c.self.inside.queue.size (g.G.GuestBytes.mem c.args.ram.now)
     c.pieces.result.now taken.chain (Ok c.in-Ok-take.ensures.taken.0) c.size.ensures c.pieces.ensures
     c.in-Ok-take.ensures.taken.1 in
     let said : was c.take.new.last ≡
-    noted c.args.queue (g.G.GuestBytes.mem c.args.ram.now) taken.chain
-    (was c.args.last.now) =
+    noted c.args.queue (g.G.GuestBytes.mem c.args.ram.now) taken.chain (was c.args.last.now) =
     last_is c.take.new.last (noted c.args.queue (g.G.GuestBytes.mem c.args.ram.now)
     c.pieces.result.now (was c.args.last.now)) c.in-Ok-take.ensures.said
     ∙ ap (λ (xs : List Piece). noted c.args.queue (g.G.GuestBytes.mem c.args.ram.now) xs
-    (was c.args.last.now)) c.pieces.ensures in
-    subst (λ (q : QueueState). TakesNext c.args.queue (g.G.GuestBytes.mem c.args.ram.now) q
-    (record { ring = c.pop_descriptor_chain_into.new.self; taken = c.take.new.self })
-    (was c.args.last.now) (was c.take.new.last) (Ok (Some taken.head))) c.self.view_is
-    (subst (λ (xs : List Request). TakesNext c.args.queue (g.G.GuestBytes.mem c.args.ram.now)
-    (record { ring = c.self.inside.queue; taken = c.self.inside.taken })
-    (record { ring = c.pop_descriptor_chain_into.new.self; taken = xs })
-    (was c.args.last.now) (was c.take.new.last) (Ok (Some taken.head))) (sym c.in-Ok-take.ensures.taken.3)
+    (was c.args.last.now)) c.pieces.ensures in rw (← c.self.view_is)
+    (rw c.in-Ok-take.ensures.taken.3
     (next_right c.args.queue (g.G.GuestBytes.mem c.args.ram.now) c.self.inside.queue
     c.pop_descriptor_chain_into.new.self c.self.inside.taken
     (was c.args.last.now) (was c.take.new.last) taken c.in-Ok-take.ensures.taken.0 free ready pops good said))
@@ -169,33 +119,13 @@ returns-in-Err-take g c =
     ap (λ (q : QueueState). q.ring.ready) c.self.view_is ∙ c.requires.ready in
     let taken : Taken =
     record { head = c.in-Some.head; chain = c.pop_descriptor_chain_into.new.chain } in
-    let pops : PopsBy (g.G.GuestBytes.mem c.args.ram.now) c.self.inside.queue
-    c.pop_descriptor_chain_into.new.self (Ok (Some taken)) =
-    subst (λ (o : Option ℕ). PopsBy (g.G.GuestBytes.mem c.args.ram.now) c.self.inside.queue
-    c.pop_descriptor_chain_into.new.self (popped (Ok o) c.pop_descriptor_chain_into.new.chain))
-    c.in-Some.is c.in-Ok.ensures.pops in
+    let pops = rw c.in-Some.is at c.in-Ok.ensures.pops in
     let bad : request_of c.args.queue c.self.inside.queue.size (g.G.GuestBytes.mem c.args.ram.now) taken.chain ≡
     Err c.in-Err-take.wrong =
     read_so c.args.queue c.size.result c.self.inside.queue.size (g.G.GuestBytes.mem c.args.ram.now)
     c.pieces.result.now taken.chain (Err c.in-Err-take.wrong) c.size.ensures c.pieces.ensures
-    c.in-Err-take.ensures.fault in
-    subst (λ (q : QueueState). TakesNext c.args.queue (g.G.GuestBytes.mem c.args.ram.now) q
-    (record { ring = c.go_to_previous_position.new.self; taken = c.take.new.self })
-    (was c.args.last.now) (was c.take.new.last) (Err c.broken-in-Err-take.result)) c.self.view_is
-    (subst (λ (xs : List Request). TakesNext c.args.queue (g.G.GuestBytes.mem c.args.ram.now)
-    (record { ring = c.self.inside.queue; taken = c.self.inside.taken })
-    (record { ring = c.go_to_previous_position.new.self; taken = xs })
-    (was c.args.last.now) (was c.take.new.last) (Err c.broken-in-Err-take.result))
-    (sym c.in-Err-take.ensures.kept)
-    (subst (λ (w : Refusal). TakesNext c.args.queue (g.G.GuestBytes.mem c.args.ram.now)
-    (record { ring = c.self.inside.queue; taken = c.self.inside.taken })
-    (record { ring = c.go_to_previous_position.new.self; taken = c.self.inside.taken })
-    (was c.args.last.now) (was c.take.new.last) (Err w)) (sym c.broken-in-Err-take.ensures)
-    (subst (λ (l : Statistics). TakesNext c.args.queue (g.G.GuestBytes.mem c.args.ram.now)
-    (record { ring = c.self.inside.queue; taken = c.self.inside.taken })
-    (record { ring = c.go_to_previous_position.new.self; taken = c.self.inside.taken })
-    (was c.args.last.now) (was l) (Err (Broken (rule_of c.in-Err-take.wrong))))
-    (sym c.in-Err-take.ensures.err)
+    c.in-Err-take.ensures.fault in rw (← c.self.view_is) (rw c.in-Err-take.ensures.kept
+    (rw c.broken-in-Err-take.ensures (rw c.in-Err-take.ensures.err
     (next_wrong c.args.queue (g.G.GuestBytes.mem c.args.ram.now) c.self.inside.queue
     c.pop_descriptor_chain_into.new.self c.go_to_previous_position.new.self c.self.inside.taken
     (was c.args.last.now) taken c.in-Err-take.wrong free ready pops bad

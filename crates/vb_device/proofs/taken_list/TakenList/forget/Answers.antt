@@ -6,8 +6,7 @@ use Rattle.vb_model.specs.Requests.{Request}
 use Rattle.vb_device.proofs.taken_list.TakenList.forget.Goals as goal
 
 pub returns : goal.returns
-returns c =
-    let rs : List Request = c.self.inside.requests in
+returns c = let rs : List Request = c.self.inside.requests in
     let len : ℕ = c.self.inside.len in
     let taken : List Request = take len rs in
     let index : ℕ = c.args.index in

@@ -12,14 +12,10 @@ returns-in_err-oldest-clause-page c =
     c.from_residual.ensures ∙ sym (visits_none c.args.self.now none).1
 
 pub returns-in_err-oldest-clause-taken : goal.returns-in_err-oldest-clause-taken
-returns-in_err-oldest-clause-taken c =
-    let none : position is_unvisited c.args.self.now ≡ None =
-    ap (position is_unvisited) (sym c.as_slice.ensures.requests) ∙ sym c.in_err-oldest.ensures in
-    sym (visits_none c.args.self.now none).0
+returns-in_err-oldest-clause-taken c = grind (arith, visits_none)
 
 pub visit-requires : goal.visit-requires
-visit-requires c =
-    let rs : List Request = c.self.inside.requests in
+visit-requires c = let rs : List Request = c.self.inside.requests in
     let len : ℕ = c.self.inside.len in
     let oldest : ℕ = c.in_ok-oldest.oldest in
     let d : Request = c.index-self-oldest.result in
@@ -32,8 +28,7 @@ visit-requires c =
     ap is_unvisited (sym same) ∙ found.1
 
 pub returns-clause-page : goal.returns-clause-page
-returns-clause-page c =
-    let rs : List Request = c.self.inside.requests in
+returns-clause-page c = let rs : List Request = c.self.inside.requests in
     let len : ℕ = c.self.inside.len in
     let oldest : ℕ = c.in_ok-oldest.oldest in
     let d : Request = c.index-self-oldest.result in
@@ -43,13 +38,11 @@ returns-clause-page c =
     let found = visits_at (take len rs) oldest d at in
     let lt : oldest < len = omega (arith, found.0, length-take len rs) in
     let same : get_or (take len rs) oldest d ≡ get_or rs oldest d = get_or-take len rs oldest d lt in
-    sym c.visit.ensures.page
-    ∙ (ap (λ (r : Request). slice_get r.pages r.visited) (sym same)
+    sym c.visit.ensures.page ∙ (ap (λ (r : Request). slice_get r.pages r.visited) (sym same)
     ∙ (sym found.3 ∙ ap next_page c.self.view_is))
 
 pub returns-clause-taken : goal.returns-clause-taken
-returns-clause-taken c =
-    let rs : List Request = c.self.inside.requests in
+returns-clause-taken c = let rs : List Request = c.self.inside.requests in
     let len : ℕ = c.self.inside.len in
     let oldest : ℕ = c.in_ok-oldest.oldest in
     let d : Request = c.index-self-oldest.result in

@@ -6,8 +6,7 @@ use Rattle.vb_request.proofs.buffer.ChainBytes.append.Goals as goal
 
 pub append_run-requires-2-clause-room : goal.append_run-requires-2-clause-room
 append_run-requires-2-clause-room g c =
-    let least : c.min-first.result ≤ c.args.len = search rules in
-    omega (
+    let least : c.min-first.result ≤ c.args.len = search rules in omega (
       arith,
       ap (λ (bs : List ℕ). length bs) c.append_run.ensures,
       length-append c.args.self.now
@@ -18,16 +17,13 @@ append_run-requires-2-clause-room g c =
     )
 
 pub returns : goal.returns
-returns g c =
-    let least : c.min-first.result ≤ c.args.len = search rules in
+returns g c = let least : c.min-first.result ≤ c.args.len = search rules in
     let whole : c.min-first.result + (c.args.len - c.min-first.result) ≡ c.args.len =
     omega (arith, least) in
-    let rest : ℕ = c.args.len - c.min-first.result in
-    c.append_run-2.ensures
+    let rest : ℕ = c.args.len - c.min-first.result in c.append_run-2.ensures
     ∙ (ap (λ (bs : List ℕ). bs ++
     bytes_from (g.G.GuestBytes.mem c.args.ram.now) (c.args.addr + c.from.result) rest)
-    c.append_run.ensures
-    ∙ (append_assoc c.args.self.now
+    c.append_run.ensures ∙ (append_assoc c.args.self.now
     (bytes_from (g.G.GuestBytes.mem c.args.ram.now) c.args.addr c.min-first.result)
     (bytes_from (g.G.GuestBytes.mem c.args.ram.now) (c.args.addr + c.from.result) rest)
     ∙ ap (λ (bs : List ℕ). c.args.self.now ++ bs)
