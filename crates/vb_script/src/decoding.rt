@@ -1,6 +1,7 @@
 //! Bytes from hexadecimal digits, in a loop that may do without a branch on what a digit is.
 
-ghost use Rattle.std.specs.Prelude.{◌≡◌, ◌+◌, ◌-◌, ◌*◌, ◌<◌, ◌≤◌, true, Some, None, Ok, IfSome, length};
+ghost use Rattle.std.specs.Prelude.{◌≡◌, ◌+◌, ◌-◌, ◌*◌, ◌<◌, ◌≤◌, true, Some, None, Ok, length};
+ghost use Rattle.std.specs.Prelude.{IfSome};
 ghost use Rattle.hex.specs.Hex.{decode_of, hex_digit_value};
 
 use std::alloc::Global;
