@@ -7,7 +7,6 @@
 //! events are answered with. Who answers them is no matter here.
 #![tactic(auto)]
 
-mod decoding;
 mod events;
 mod lines;
 mod names;

@@ -7,7 +7,6 @@ ghost use Rattle.vb_script.specs.Numbers.{IsByteWord, IsDecimal, IsDigit, ShowsB
 ghost use Rattle.vb_script.specs.Values.{bytes_of, features_of, positive_of};
 ghost use Rattle.vb_script.specs.Words.{number_of};
 
-use crate::decoding::decoded;
 use crate::lines::LineFault;
 use std::alloc::Global;
 use vb_model::Bytes;
@@ -74,9 +73,6 @@ pub fn bytes(alloc: Global, word: &[u8]) -> Result<Bytes, LineFault>
 {
     if word.is_empty() || word.len() > 2 * PAGE_SIZE as usize {
         return Err(LineFault::Bad);
-    }
-    if let Some(shown) = decoded(alloc, word) {
-        return Ok(Bytes::new(shown));
     }
     match hex::decode(alloc, word) {
         Ok(shown) => Ok(Bytes::new(shown)),

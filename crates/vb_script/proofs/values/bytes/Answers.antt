@@ -19,16 +19,3 @@ returns-in-Ok-clause-value c =
     let few : length c.args.word.now ≤ 2 * 4096 = omega arith in
     let read = bytes_read c.args.word.now _ some few c.in-Ok.ensures.ok in
     search rules
-
-pub returns-in-Some-clause-ok : goal.returns-in-Some-clause-ok
-returns-in-Some-clause-ok c =
-    let some : 0 < length c.args.word.now = search rules in
-    let few : length c.args.word.now ≤ 2 * 4096 = omega arith in
-    (IsByteWord-decodes c.args.word.now _ some few c.in-Some.ensures, search rules)
-
-pub returns-in-Some-clause-value : goal.returns-in-Some-clause-value
-returns-in-Some-clause-value c =
-    let some : 0 < length c.args.word.now = search rules in
-    let few : length c.args.word.now ≤ 2 * 4096 = omega arith in
-    let read = bytes_read c.args.word.now _ some few c.in-Some.ensures in
-    search rules
