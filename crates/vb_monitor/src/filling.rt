@@ -16,7 +16,7 @@ use crate::sole::{Sole, sole_of};
 use crate::{Cut, Region};
 use vb_core::Run;
 
-/// For fewer runs than so many it isn't worth while to look at all regions first.
+/// With fewer runs than this it isn't worth while to look at all regions first.
 const FEW: usize = 4;
 
 /// Parts that were put into a list.
@@ -49,7 +49,7 @@ fn sole_at(regions: &[Region], runs: &[Run], part: &NextCut) -> Option<Sole>
     }
 }
 
-/// Puts the parts of the runs behind the first one into the list, behind the first part, as long as
+/// Puts the parts of the runs after the first one into the list, after the first part, as long as
 /// they lie between these pages, and the list has room; says how many parts there are then.
 #[tactic(auto, using(crate::proofs::SoleLemmas::fill_steps))]
 fn fill_sole(sole: &Sole, runs: &[Run], cuts: &mut [Cut; MAX_CUTS]) -> usize
@@ -73,7 +73,7 @@ fn fill_sole(sole: &Sole, runs: &[Run], cuts: &mut [Cut; MAX_CUTS]) -> usize
     MAX_CUTS
 }
 
-/// Puts what is left behind the first parts of the list, so many, as far as it has room.
+/// Puts what is left after the list's first `count` parts, as far as it has room.
 #[inline(never)]
 #[tactic(auto, using(crate::proofs::OrderLemmas::one_more))]
 fn fill_on(
@@ -110,7 +110,7 @@ fn fill_on(
     }
 }
 
-/// Puts a part and those behind it to the front of the list, as many as have room.
+/// Puts a part and those after it to the front of the list, as many as have room.
 pub(crate) fn fill(
     regions: &[Region],
     runs: &[Run],

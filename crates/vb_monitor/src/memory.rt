@@ -34,8 +34,9 @@ pub trait LiveMemory {
     fn full(&mut self)
         ensures { log self.new ≡ log self.old ++ Full ∷ [] };
 
-    /// These pages were given up (inflates), are asked back (deflates), or are free (reports): the
-    /// runs have so many pages together, and so many numbers of the request were skipped.
+    /// These pages were given up (inflates), are asked back (deflates), or are free (reports).
+    /// `named` says how many pages the runs have together, and how many of the request's numbers
+    /// were skipped.
     fn tell_pages(&mut self, kind: Kind, runs: &[Run], named: Named)
         ensures { log self.new ≡ log self.old ++ TellPages kind runs.now named ∷ [] };
 
