@@ -1,6 +1,7 @@
 -- Worked facts of what a guest's worker does, and of when nothing waits for it.
 use Rattle.std.proofs.Common.{◌≡◌, ℕ, [], ◌∷◌, true, false, map, refl, ap, sym, ◌∙◌, arith}
 use Rattle.std.specs.Prelude.{length}
+use Rattle.vb_model.proofs.Performed.{performed}
 use Rattle.vb_model.specs.declared.replies.Reply.TheVariants.{Done, Taken, Empty, Worked, Idle}
 use Rattle.vb_model.specs.Requests.{Request, Requests, no_requests, NoBuffer, BufferPosted}
 use Rattle.vb_model.specs.declared.negotiation.TheConstants.{OFFERED_FEATURES}
@@ -104,10 +105,16 @@ nothing_to_work_on = grind arith
 
 -- not one that is done, though the target is as it was
 target_set_again : IsQuiet ready (SetTarget 0) → ⊥
-target_set_again q = let e : true ≡ false = sym q.nothing ∙ ap found_nothing q.step.1.0 in cc
+target_set_again q =
+    let did = performed (SetTarget 0) ready q.claims q.reply ready q.step in
+    let e : true ≡ false = sym q.nothing ∙ ap found_nothing did.1.0 in
+    cc
 
 another_target_set : IsQuiet ready (SetTarget 3) → ⊥
-another_target_set q = let e : Same 0 3 = ap (λ (g : Guest). g.target) q.step.1.1 in omega arith
+another_target_set q =
+    let did = performed (SetTarget 3) ready q.claims q.reply ready q.step in
+    let e : Same 0 3 = ap (λ (g : Guest). g.target) did.1.1 in
+    omega arith
 
 -- ---- a tended guest is honest, and a ready one has its buffer and all of a driver's own features
 
