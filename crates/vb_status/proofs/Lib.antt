@@ -1,3 +1,4 @@
 pub mod BitLemmas
 pub mod Accepted
 pub mod Ways
+mod StatusFacts
