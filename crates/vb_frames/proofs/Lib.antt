@@ -1,3 +1,4 @@
 pub mod Free
 pub mod Least
 pub mod Returns
+mod OutFacts

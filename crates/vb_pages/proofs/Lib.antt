@@ -8,3 +8,4 @@ pub mod FreeLemmas
 pub mod HeldLemmas
 pub mod PagesLemmas
 mod NumberFacts
+mod AreaFacts

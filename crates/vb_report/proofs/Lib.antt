@@ -4,3 +4,4 @@ pub mod Maximal
 pub mod Filtering
 pub mod Choosing
 pub mod Taking
+mod BlockFacts
