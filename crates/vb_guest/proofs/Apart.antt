@@ -46,7 +46,7 @@ pub line_apart : (old new : Pages) (q n : ℕ) (side : RequestSide) (part : Queu
     → SameLine old new side.ring.size q → Line old q n side part rs → Line new q n side part rs
 line_apart old new q n side part rs same line = record {
   ring = requests_apart old new q side.ring part rs same.ring line.ring;
-  buffers = line.buffers;
+  keeps = line.keeps;
   posted = line.posted;
   taken = line.taken;
   done = line.done;

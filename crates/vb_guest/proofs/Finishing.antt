@@ -1,18 +1,18 @@
 -- The device uses a taken request.
-use Rattle.std.specs.Prelude.{◌≡◌, ◌≢◌, ℕ, ◌+◌, ◌%◌, true, List, [], ◌∷◌, ◌++◌, remove, Some}
-use Rattle.std.{specs.Prelude.{slice_get, slice_index_or}, proofs.Common.{sym, ◌∙◌, ap, subst}}
-use Rattle.std.proofs.lemmas.List.Elements.{All-push}
-use Rattle.std.proofs.lemmas.Option.{get_or_from_slice_get, slice_get_within}
+use Rattle.std.specs.Prelude.{◌≡◌, ◌≢◌, ℕ, ◌+◌, ◌%◌, ◌<◌, true, List, [], ◌∷◌, ◌++◌, remove, Some}
+use Rattle.std.{specs.Prelude.{slice_get, slice_index_or}, proofs.lemmas.List.Elements.All-push}
+use Rattle.std.proofs.Common.{sym, ◌∙◌, ap, subst, arith}
 use Rattle.vb_model.specs.Layout.{ring_page, buffers_page, buffer_page}
 use Rattle.vb_model.specs.Requests.{Request, Requests}
-use Rattle.vb_ram.{specs.Pages.Pages, specs.Part.QueuePart}
+use Rattle.vb_ram.specs.{Part.QueuePart, Pages.Pages}
 use Rattle.vb_chain.specs.Table.{descriptor_at}
-use Rattle.vb_ring.{specs.Ends.{DriverEnd, DeviceEnd}, specs.Calls.AddsUsedBy}
-use Rattle.vb_driver.specs.State.{RequestSide}
-use Rattle.vb_guest.{specs.Line.{Line, IsRequest, RingOf, heads_of}, specs.Ring.RingStands}
-use Rattle.vb_guest.proofs.Heads.{heads-push, heads-remove, heads-get, all_remove}
-use Rattle.vb_guest.{proofs.RingUsed.ring_used, proofs.RingApart.ring_parts}
-use Rattle.vb_guest.proofs.Apart.{buffer_apart_page, coded_kept}
+use Rattle.vb_ring.specs.{declared.layout.Layout.Layout, Ends.{DriverEnd, DeviceEnd}}
+use Rattle.vb_ring.specs.{Layout.{IsSize, layout_of}, Calls.AddsUsedBy}
+use Rattle.vb_driver.specs.{State.{RequestSide, ReportSide}, Coding.{IsCoded, AreReported}}
+use Rattle.vb_guest.proofs.Heads.{heads-push, heads-remove, heads-get, all_remove, one_of}
+use Rattle.vb_guest.{specs.Line.{QueueLine, IsRequest, RingOf, heads_of}, proofs.RingUsed.ring_used}
+use Rattle.vb_guest.proofs.{Apart.{buffer_apart_page, coded_kept}, RingApart.ring_parts}
+use Rattle.vb_guest.specs.{Reported.IsReport, Ring.RingStands}
 
 -- the device's end of a queue
 abbrev pub end_of : DriverEnd → QueuePart → DeviceEnd
@@ -41,37 +41,51 @@ requests_used m1 m2 q ring part rs i r after stands is adds =
     (heads_of rs.taken) (heads_of rs.done) i r.head after stands (heads-get rs.taken i r is)
     adds))
 
-pub line_finished : (m1 m2 : Pages) (q n : ℕ) (side : RequestSide) (part : QueuePart) (rs : Requests)
-    (i : ℕ) (r : Request) (after : DeviceEnd)
-    → Line m1 q n side part rs → slice_get rs.taken i ≡ Some r
-    → AddsUsedBy m1 m2 (end_of side.ring part) after r.head 0
-    → Line m2 q n side (record part
+pub line_used : (m1 m2 : Pages) (q : ℕ) (ring : DriverEnd) (part : QueuePart) (rs : Requests) (i : ℕ)
+    (r : Request) (after : DeviceEnd) (K : Type 0) (P C D : Request → Type 0)
+    → QueueLine m1 q ring part rs K P C → slice_get rs.taken i ≡ Some r
+    → AddsUsedBy m1 m2 (end_of ring part) after r.head 0 → ((x : Request) → P x → C x → D x)
+    → QueueLine m2 q ring (record part
     { next_used = (part.next_used + 1) % 65536; taken = remove part.taken i })
-    (record rs { taken = remove rs.taken i; done = rs.done ++ (r ∷ []) })
-line_finished m1 m2 q n side part rs i r after line is adds =
+    (record rs { taken = remove rs.taken i; done = rs.done ++ (r ∷ []) }) K P D
+line_used m1 m2 q ring part rs i r after K P C D line is adds stays = record {
+  ring = requests_used m1 m2 q ring part rs i r after line.ring is adds;
+  keeps = line.keeps;
+  posted = line.posted;
+  taken = all_remove P rs.taken i line.taken;
+  done = All-push P rs.done r line.done (one_of P rs.taken i r line.taken is);
+  coded = λ k d lt. stays (slice_index_or rs.posted k d) (line.posted k d lt) (line.coded k d lt);
+  remembers = ap (λ (x : List Request). remove x i) line.remembers;
+}
+
+-- the bytes of posted requests are as before
+pub coded_stays : (m1 m2 : Pages) (q n : ℕ) (side : RequestSide) (part : QueuePart) (r : Request)
+    (head : ℕ) (after : DeviceEnd) → IsSize side.ring.size
+    → side.ring.layout ≡ layout_of (ring_page side.ring.size q) side.ring.size
+    → AddsUsedBy m1 m2 (end_of side.ring part) after head 0 → IsRequest side.ring.size n side.sent r
+    → IsCoded m1 (ring_page side.ring.size q) (buffers_page q) r.head r.pages
+    → IsCoded m2 (ring_page side.ring.size q) (buffers_page q) r.head r.pages
+coded_stays m1 m2 q n side part r head after sized layout adds is code =
     let l = side.ring.layout in
-    let P : Request → Type 0 = IsRequest side.ring.size n side.sent in
-    let request : P r = subst P (get_or_from_slice_get rs.taken i r r is)
-    (line.taken i r (slice_get_within rs.taken i r is)) in
     let size = side.ring.size in
-    let table : l.table ≡ ring_page size q = ap (λ x. x.table) line.ring.layout in
-    let used = (ring_parts q side.ring line.ring.sized line.ring.layout).used in
-    record {
-      ring = requests_used m1 m2 q side.ring part rs i r after line.ring is adds;
-      buffers = line.buffers;
-      posted = line.posted;
-      taken = all_remove P rs.taken i line.taken;
-      done = All-push P rs.done r line.done request;
-      coded = λ k d lt.
-          let x = slice_index_or rs.posted k d in
-          let known = line.posted k d lt in
-          let same = adds.descriptors x.head known.inside in
-          let apart : buffer_page (buffers_page q) x.head ≢ l.used.page =
-          buffer_apart_page size q q l.used.page x.head known.few used in
-          coded_kept m1 m2 q n side.ring.size side.sent x known
-          (ap (λ (p : ℕ). descriptor_at m2 p x.head) (sym table) ∙ same
-          ∙ ap (λ (p : ℕ). descriptor_at m1 p x.head) table)
-          (adds.puts.rest.others _ (apart, (apart, tt)))
-          (line.coded k d lt);
-      remembers = ap (λ (x : List Request). remove x i) line.remembers;
-    }
+    let table : l.table ≡ ring_page size q = ap (λ (x : Layout). x.table) layout in
+    let apart : buffer_page (buffers_page q) r.head ≢ l.used.page =
+    buffer_apart_page size q q l.used.page r.head is.few (ring_parts q side.ring sized layout).used in
+    coded_kept m1 m2 q n size side.sent r is
+    (ap (λ (p : ℕ). descriptor_at m2 p r.head) (sym table) ∙ adds.descriptors r.head is.inside
+    ∙ ap (λ (p : ℕ). descriptor_at m1 p r.head) table)
+    (adds.puts.rest.others _ (apart, (apart, tt))) code
+
+pub report_stays : (m1 m2 : Pages) (n : ℕ) (side : ReportSide) (part : QueuePart) (r : Request)
+    (head : ℕ) (after : DeviceEnd)
+    → side.ring.layout ≡ layout_of (ring_page side.ring.size 4) side.ring.size
+    → AddsUsedBy m1 m2 (end_of side.ring part) after head 0
+    → IsReport side.ring.size n side.blocks r
+    → AreReported m1 (ring_page side.ring.size 4) side.blocks
+    → AreReported m2 (ring_page side.ring.size 4) side.blocks
+report_stays m1 m2 n side part r head after layout adds is code =
+    let A : ℕ → Type 0 = λ t. (k : ℕ) → k < side.ring.size
+    → descriptor_at m2 t k ≡ descriptor_at m1 t k in
+    let same : A (ring_page side.ring.size 4) =
+    subst A (ap (λ (l : Layout). l.table) layout) adds.descriptors in
+    record { chain = λ j below. same j (omega (arith, below, is.inside)) ∙ code.chain j below }

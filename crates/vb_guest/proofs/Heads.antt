@@ -1,7 +1,8 @@
 -- The heads of requests.
 use Rattle.std.specs.Prelude.{◌≡◌, ℕ, zero, suc, ◌+◌, ◌==◌, Bool, true, false, cond, List, [], ◌∷◌}
 use Rattle.std.specs.Prelude.{◌++◌, length, All, Some, slice_get, remove, option_map, refl}
-use Rattle.std.{proofs.Common.{◌∙◌, ap, arith, take, drop}, proofs.lemmas.Option.slice_get-map}
+use Rattle.std.proofs.Common.{◌∙◌, ap, subst, arith, take, drop}
+use Rattle.std.proofs.lemmas.Option.{slice_get-map, get_or_from_slice_get, slice_get_within}
 use Rattle.std.proofs.lemmas.List.{length-map, map_push}
 use Rattle.std.proofs.lemmas.List.Elements.{All-append, All-take, All-drop, All-cons, All-tail}
 use Rattle.vb_model.{specs.Tests.{one_if, times}, specs.Device.{is_unvisited, visiting}}
@@ -51,16 +52,25 @@ pub all_remove : {A : Type 0} (P : A → Type 0) (xs : List A) (i : ℕ) → All
 all_remove P xs i all =
     All-append P (take i xs) (drop (suc i) xs) (All-take P i xs all) (All-drop P (suc i) xs all)
 
+-- what holds of all elements holds of one
+pub one_of : {A : Type 0} (P : A → Type 0) (xs : List A) (i : ℕ) (x : A) → All P xs
+    → slice_get xs i ≡ Some x → P x
+one_of P xs i x all is =
+    subst P (get_or_from_slice_get xs i x x is) (all i x (slice_get_within xs i x is))
+
 -- ---- visits
+
+-- P doesn't ask how many pages of a request are visited
+abbrev pub IgnoresVisits : (Request → Type 0) → Type 0
+IgnoresVisits P = (r : Request) (k : ℕ) → P r → P (record r { visited = k })
 
 -- a visit changes a request's count alone
 pub heads-visiting : (rs : List Request) → heads_of (visiting rs) ≡ heads_of rs
 heads-visiting [] = refl
 heads-visiting (r ∷ rs) = grind (arith, heads-visiting rs)
 
-pub all-visiting : (P : Request → Type 0)
-    → ((r : Request) → P r → P (record r { visited = r.visited + 1 })) → (rs : List Request)
-    → All P rs → All P (visiting rs)
+pub all-visiting : (P : Request → Type 0) → IgnoresVisits P → (rs : List Request) → All P rs
+    → All P (visiting rs)
 all-visiting P keeps [] all = all
 all-visiting P keeps (r ∷ rs) all =
     step (is_unvisited r) (all-visiting P keeps rs (All-tail P r rs all))
@@ -68,6 +78,6 @@ all-visiting P keeps (r ∷ rs) all =
     step : (v : Bool) → All P (visiting rs)
         → All P (cond v (record r { visited = r.visited + 1 } ∷ rs) (r ∷ visiting rs))
     step true later =
-        All-cons P (record r { visited = r.visited + 1 }) rs (keeps r (all 0 r (omega arith)))
+        All-cons P (record r { visited = r.visited + 1 }) rs (keeps r (r.visited + 1) (all 0 r (omega arith)))
         (All-tail P r rs all)
     step false later = All-cons P r (visiting rs) (all 0 r (omega arith)) later

@@ -14,6 +14,7 @@ pub mod Reaping
 pub mod Closing
 pub mod Refusing
 pub mod Chains
+pub mod KindLines
 pub mod TakeStep
 pub mod Discarding
 pub mod PagesKept
@@ -56,11 +57,7 @@ mod Running
 mod Losing
 pub mod AskStep
 pub mod TakeBufferStep
-pub mod TakeReportStep
-pub mod FinishReportStep
-pub mod WorkReportStep
 pub mod ReapRefusing
-pub mod ReapReportStep
 pub mod StatsStep
 pub mod ReportStep
 pub mod Fresh

@@ -115,6 +115,6 @@ line_named mem q n side part rs line out =
     kept : (xs : List Request) → All (IsRequest side.ring.size n side.sent) xs
         → All (IsKept side.sent) xs
     kept xs all k d lt = record {
-      few = omega (arith, (all k d lt).few, line.buffers);
+      few = omega (arith, (all k d lt).few, line.keeps);
       remembered = (all k d lt).remembered;
     }

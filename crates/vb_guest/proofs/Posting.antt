@@ -155,12 +155,12 @@ line_posted m1 m2 q n side after part rs head pages single fine line did =
         (least_head m1 q side part rs head line.ring single did.lowest).new in
         let parts = headed-all head rs in
         let table : l.table ≡ ring_page side.ring.size q = ap (λ x. x.table) line.ring.layout in
-        let now : P r = assumption (get_or-set_same side.sent head pages [] (omega (arith, did.small, line.buffers))) in
+        let now : P r = assumption (get_or-set_same side.sent head pages [] (omega (arith, did.small, line.keeps))) in
         let C : ℕ → Type 0 = λ p. IsCoded m2 p (buffers_page q) head pages in
         record {
           ring = requests_posted m1 m2 q side.ring (after_add side.ring 1 (Ok head)) part rs 1 head
               pages line.ring refl did.announces;
-          buffers = length-set side.sent head pages ∙ line.buffers;
+          keeps = length-set side.sent head pages ∙ line.keeps;
           posted = All-push P rs.posted r (still_out side.ring.size n side.sent head pages rs.posted
               (omega arith) line.posted) now;
           taken = still_out side.ring.size n side.sent head pages rs.taken (omega arith) line.taken;

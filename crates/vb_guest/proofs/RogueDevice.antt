@@ -2,54 +2,52 @@
 use Rattle.std.specs.Prelude.{◌≡◌, ℕ, ◌+◌, ◌<◌, ◌≤◌, ◌==◌, Bool, true, false, not, ◌&&◌, ◌||◌, List}
 use Rattle.std.specs.Prelude.{[], ◌∷◌, ◌++◌, length, All, Option, Some, None, Result, ◌%◌, ◌*◌, Ok}
 use Rattle.std.specs.Prelude.{Err, refl, if◌then◌else◌, remove, is_some, is_none, IsOk, bit_or}
-use Rattle.std.proofs.lemmas.Option.{get_or_from_slice_get, slice_get_within}
-use Rattle.std.proofs.lemmas.List.Elements.{All-push, All-cons, All-nil}
+use Rattle.std.proofs.lemmas.{Option.{get_or_from_slice_get, slice_get_within}, List.get_or_past}
 use Rattle.std.proofs.Common.{sym, ◌∙◌, ap, subst, arith, inl, inr}
-use Rattle.std.{proofs.lemmas.Bool.{cases_eq, ne_eqb}, proofs.lemmas.List.get_or_past}
-use Rattle.vb_model.specs.declared.calls.Call.TheVariants.{Take, Work, Finish, Sweep, Ask}
-use Rattle.vb_model.specs.declared.layout.TheConstants.{INFLATE_QUEUE, DEFLATE_QUEUE}
-use Rattle.vb_model.specs.declared.replies.Refusal.TheVariants.{NoQueue, NotReady, NeedsReset}
-use Rattle.vb_model.specs.declared.replies.Refusal.TheVariants.{Broken, Busy, NotTaken, NotWorked}
+use Rattle.std.proofs.lemmas.{List.Elements.{All-push, All-nil}, Bool.{cases_eq, ne_eqb}}
 use Rattle.vb_model.specs.Tables.{is_not_ready, has_fault, has_chains, lacks_feature}
 use Rattle.vb_model.specs.Tables.{is_queue_of_requests, has_unvisited, take_causes, work_causes}
-use Rattle.vb_model.specs.declared.replies.Refusal.TheVariants.{NoFeature, NotBallooned}
+use Rattle.vb_model.specs.{Tables.{sweep_causes, finish_causes, ask_causes}, Tests.{flagged, is_in}}
+use Rattle.vb_model.specs.declared.replies.Refusal.TheVariants.{NoQueue, NotReady, NeedsReset}
+use Rattle.vb_model.specs.declared.replies.Refusal.TheVariants.{Broken, Busy, NotTaken, NotWorked}
+use Rattle.vb_model.specs.declared.replies.Refusal.{TheVariants.{NoFeature, NotBallooned}, Refusal}
+use Rattle.vb_model.specs.declared.layout.TheConstants.{INFLATE_QUEUE, DEFLATE_QUEUE}
 use Rattle.vb_model.specs.declared.layout.TheConstants.{STATISTICS_QUEUE, REPORT_QUEUE}
-use Rattle.vb_model.specs.Guest.{Guest, is_ballooned, frame_of, must_tell_host}
-use Rattle.vb_model.{specs.declared.replies.Reply.TheVariants.{Refused, Done}, specs.Orderly.times}
-use Rattle.vb_model.{specs.Status.{contains, driver_ok, failed, needs_reset}, specs.Step.bare_pages}
-use Rattle.vb_model.{specs.Tables.{sweep_causes, finish_causes, ask_causes}, specs.Limits.page_size}
+use Rattle.vb_model.specs.declared.calls.Call.{TheVariants.{Take, Work, Finish, Sweep, Ask}, Call}
 use Rattle.vb_model.{specs.declared.calls.Call.TheVariants.SetTarget, proofs.Shapes.start_reserved}
+use Rattle.vb_model.specs.{Guest.{Guest, is_ballooned, frame_of, must_tell_host}, Limits.page_size}
+use Rattle.vb_model.specs.{declared.replies.Reply.TheVariants.{Refused, Done}, Rogue.target_after}
+use Rattle.vb_model.specs.{Status.{contains, driver_ok, failed, needs_reset}, Requests.Request}
 use Rattle.vb_model.{proofs.Wanting.{wants, refused_otherwise}, specs.declared.replies.Reply.Reply}
-use Rattle.vb_model.{specs.Layout.{reserved_pages, ring_page}, specs.Device.{next_page, visiting}}
-use Rattle.vb_model.{specs.FirstRefusal.{◌⇒◌, first_refusal}, specs.declared.calls.Call.Call}
-use Rattle.vb_model.{specs.declared.replies.Refusal.Refusal, specs.Tests.{flagged, is_in}}
-use Rattle.vb_model.{proofs.Refusing.is_refused, specs.Rogue.target_after, specs.Requests.Request}
-use Rattle.vb_ram.{specs.Pages.{Pages, frame_at, page_at, number_of}, specs.Part.{Part, QueuePart}}
+use Rattle.vb_model.specs.{Layout.{reserved_pages, ring_page}, FirstRefusal.{◌⇒◌, first_refusal}}
+use Rattle.vb_model.{proofs.Refusing.is_refused, specs.{Device.visiting, Step.bare_pages}}
+use Rattle.vb_model.specs.Orderly.{times}
+use Rattle.vb_ram.specs.{Pages.{Pages, frame_at, page_at, number_of}, Part.{Part, QueuePart}}
 use Rattle.vb_chain.specs.declared.fault.ChainFault.TheVariants.{WrongDirection, BadLength}
 use Rattle.vb_chain.specs.Table.{descriptor_at}
-use Rattle.vb_request.{specs.Request.{page_request, each_once}, specs.Report.report_request}
-use Rattle.vb_request.{proofs.Reports.report_pages, specs.Statistics.statistics_request}
 use Rattle.vb_request.proofs.RequestPages.{request_pages, once_distinct, once_all}
-use Rattle.vb_request.{proofs.Once.is_in-each_once, proofs.Chains.chain_fits}
-use Rattle.vb_device.specs.Conditions.{take_refusal, work_refusal, finish_refusal, sweep_refusal}
+use Rattle.vb_request.specs.{Request.{page_request, each_once}, Statistics.statistics_request}
+use Rattle.vb_request.proofs.{Once.is_in-each_once, Reports.report_pages, Chains.chain_fits}
+use Rattle.vb_request.specs.Report.{report_request}
 use Rattle.vb_device.specs.Calls.{TakesBy, TakeMeans, IsNextRequest, noting, WorksBy, Visits}
 use Rattle.vb_device.specs.Calls.{next_visit, FinishesBy, Uses, using, settled, without_frames}
-use Rattle.vb_device.specs.Conditions.{ask_refusal, taken_at, negotiated}
 use Rattle.vb_device.specs.Calls.{lost_frames, SweepsBy, AsksBy, SameFrames}
-use Rattle.vb_device.{specs.declared.worked.Worked.Worked, specs.Queues.{queue_part, with_queue}}
-use Rattle.vb_device.specs.Discards.{discarded, frames_behind}
+use Rattle.vb_device.specs.Conditions.{take_refusal, work_refusal, finish_refusal, sweep_refusal}
+use Rattle.vb_device.specs.Conditions.{ask_refusal, taken_at, negotiated}
+use Rattle.vb_device.specs.{Discards.{discarded, frames_behind}, Queues.{queue_part, with_queue}}
+use Rattle.vb_device.specs.declared.worked.Worked.{Worked}
 use Rattle.vb_driver.specs.State.{DriverState}
-use Rattle.vb_guest.specs.Replies.{taken_reply, worked_reply, finished_reply, swept_reply}
-use Rattle.vb_guest.proofs.Discarding.{with_entry, length-with_entry, with_entry-get, with_none-get}
 use Rattle.vb_guest.proofs.Rogues.{DeviceSame, Keeps, driver_same, device_alike, rogue_alone}
 use Rattle.vb_guest.proofs.Rogues.{kept_of_rogue, rogue_after, rogue_stands, rogue_step, IsOther}
 use Rattle.vb_guest.proofs.Rogues.{keeps_part, up_kept, rogue_same, said, IsLeft, left_by}
+use Rattle.vb_guest.{proofs.{Rogues.no_refusal, Discarding.frames_freed}, specs.Replies.asked_reply}
+use Rattle.vb_guest.proofs.Discarding.{with_entry, length-with_entry, with_entry-get, with_none-get}
+use Rattle.vb_guest.specs.Replies.{taken_reply, worked_reply, finished_reply, swept_reply}
 use Rattle.vb_guest.proofs.Handing.{handed_back, loose_none, not_among, behind_same}
-use Rattle.vb_guest.proofs.PagesKept.{number_if, page_discarded, length-discarded}
-use Rattle.vb_guest.{proofs.RogueDriver.{left_same, unchanged_alone}, specs.Replies.asked_reply}
+use Rattle.vb_guest.proofs.{PagesKept.{number_if, page_discarded, length-discarded}, Kept.there_is}
+use Rattle.vb_guest.proofs.{RogueDriver.{left_same, unchanged_alone}, WorkStep.next_own}
 use Rattle.vb_guest.{proofs.Heads.{all_remove, all-visiting}, specs.Stands.{IsOwnRequest, Rogue}}
-use Rattle.vb_guest.{specs.Steps.{StepsAlone, StepsFreeing}, proofs.WorkReportStep.next_taken}
-use Rattle.vb_guest.{proofs.Discarding.frames_freed, proofs.Rogues.no_refusal, proofs.Kept.there_is}
+use Rattle.vb_guest.specs.Steps.{StepsAlone, StepsFreeing}
 
 -- ---- a queue of the device changes
 
@@ -342,20 +340,6 @@ works_up : (a b : Bool) → first_refusal ((a ⇒ NotReady) ∷ (b ⇒ NeedsRese
 works_up true b e = absurd cc
 works_up false b e = refl
 
--- the next page to visit is one of a taken request
-next_own : {size : ℕ} (n : ℕ) (paced : Bool) (taken : List Request) (page : ℕ)
-    → All (IsOwnRequest size n) taken
-    → (if paced then next_page taken else None) ≡ Some page
-    → IsOwnRequest size n (record { head = 0; pages = page ∷ []; visited = 0 })
-next_own {size} n true taken page all e = record {
-  above = All-cons (λ p. reserved_pages size ≤ p) page []
-      (next_taken (λ p. reserved_pages size ≤ p) taken page (λ k x lt. (all k x lt).above) e)
-      (All-nil (λ p. reserved_pages size ≤ p));
-  below = All-cons (λ p. p < n) page []
-      (next_taken (λ p. p < n) taken page (λ k x lt. (all k x lt).below) e) (All-nil (λ p. p < n));
-}
-next_own n false taken page all e = absurd cc
-
 visits_rogue : (m1 m2 : Pages) (p1 p2 : Part) (d : DriverState) (g : Guest) (q page : ℕ)
     (result : Result (Option Worked) Refusal) → Visits q page m1 m2 p1 p2 result
     → IsOwnRequest g.config.queue_size (length m1)
@@ -371,7 +355,7 @@ visits_rogue m1 m2 p1 p2 d g q page result did own ok rogue =
     (rogue_freed m1 m2 p1 p2 d g Work _ one own
     (changes_back (length m1) p1 (with_queue q x p1) p2
     (changes_with (length m1) q x p1 (λ all. all-visiting (IsOwnRequest g.config.queue_size (length m1))
-    (λ r own. record { above = own.above; below = own.below }) (queue_part q p1).taken all))
+    (λ r k own. record { above = own.above; below = own.below }) (queue_part q p1).taken all))
     did.part) ok (ap (λ (m : Pages). length m) did.memory ∙ length-discarded (page ∷ []) m1)
     (λ p. ap (λ (m : Pages). frame_at m p) did.memory) did.loose refl refl
     (λ page offset bytes e. cc) refl rogue)

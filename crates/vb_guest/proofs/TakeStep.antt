@@ -1,154 +1,127 @@
 -- A guest's take is a step of the definitions.
-use Rattle.std.specs.Prelude.{◌≡◌, ℕ, ◌*◌, ◌≤◌, List, [], ◌∷◌, ◌++◌, length, Result, Ok, Option}
-use Rattle.std.{specs.Prelude.{Some, None, refl}, proofs.Common.{sym, ◌∙◌, ap, subst, arith, inr}}
-use Rattle.vb_model.{specs.Requests.{Request, Requests, Inflating, Deflating}, specs.Guest.Guest}
-use Rattle.vb_model.specs.declared.replies.Reply.TheVariants.{Taken, Empty}
-use Rattle.vb_model.specs.Layout.{reserved_pages, ring_page, buffers_page}
-use Rattle.vb_model.{specs.declared.replies.Refusal.TheVariants.NoQueue, specs.Device.TakesRequest}
-use Rattle.vb_model.{specs.declared.calls.Call.TheVariants.Take, specs.Refusals.refusal_of}
-use Rattle.vb_model.specs.declared.replies.Refusal.{Refusal}
-use Rattle.vb_ram.{specs.Pages.Pages, specs.Part.Part, proofs.Limits.config_limits}
-use Rattle.vb_chain.{specs.Table.descriptor_at, specs.declared.pieces.Piece.Piece}
-use Rattle.vb_chain.{specs.Rules.piece_of, specs.Chain.ChainGives}
-use Rattle.vb_driver.{specs.Coding.buffer_of, specs.State.{RequestSide, DriverState}}
-use Rattle.vb_device.{specs.Conditions.take_refusal, specs.Queues.queue_part}
-use Rattle.vb_device.specs.Calls.{TakesBy, taking, request_of, noting}
-use Rattle.vb_request.specs.Request.{page_request}
+use Rattle.std.specs.Prelude.{◌≡◌, ℕ, ◌*◌, ◌≤◌, List, [], ◌∷◌, ◌++◌, length, slice_get, Result, Ok}
+use Rattle.std.{specs.Prelude.{Option, None, All, refl}, proofs.Common.{sym, ◌∙◌, ap, subst, arith}}
+use Rattle.vb_model.specs.Requests.{Request, Requests, Kind, Inflating, Deflating, Reporting_free}
+use Rattle.vb_model.specs.{Requests.queue_of, declared.replies.Reply.TheVariants.{Taken, Empty}}
+use Rattle.vb_model.specs.declared.replies.{Refusal.TheVariants.NoQueue, Reply.Reply}
+use Rattle.vb_model.specs.{Guest.{Guest, requests, with_requests}, declared.replies.Refusal.Refusal}
+use Rattle.vb_model.specs.{declared.calls.Call.TheVariants.Take, Device.TakesRequest, Step.Performs}
+use Rattle.vb_model.specs.{Refusals.refusal_of, Layout.ring_page}
+use Rattle.vb_ram.{proofs.Limits.config_limits, specs.{Pages.Pages, Part.Part}}
+use Rattle.vb_chain.specs.{declared.pieces.Piece.Piece, Table.descriptor_at, Chain.ChainGives}
+use Rattle.vb_driver.specs.{State.DriverState, Calls.ring_of}
+use Rattle.vb_device.specs.{Calls.{TakesBy, taking, request_of, noting}, Conditions.take_refusal}
+use Rattle.vb_device.specs.Queues.{queue_part, next_available}
+use Rattle.vb_guest.proofs.KindLines.{Knows, Codes, LineOf, line_of, size_of, ignores, ties_with}
+use Rattle.vb_guest.proofs.{KindLines.same_frames, Refusing.{by_queue, take_no_queue}}
+use Rattle.vb_guest.proofs.{ReportChain.{pieces_of, report_chain, report_pages}, Handing.same_entry}
 use Rattle.vb_guest.proofs.TakeBufferStep.{take_refused, take_by, take_buffer}
-use Rattle.vb_guest.proofs.Closing.{steps_alone, honest_performed, ties_same}
-use Rattle.vb_guest.{proofs.Chains.{coded_chain, coded_pages}, proofs.TakeReportStep.take_report}
-use Rattle.vb_guest.{specs.Stands.{Honest, Ties, IsRunning}, proofs.Taking.{next_shown, line_taken}}
-use Rattle.vb_guest.{proofs.Refusing.{by_queue, take_no_queue}, specs.Line.{Line, IsRequest}}
-use Rattle.vb_guest.{specs.Replies.taken_reply, proofs.Handing.same_entry, specs.Steps.StepsAlone}
+use Rattle.vb_guest.{proofs.Closing.{steps_alone, honest_performed, ties_same}, specs.Line.heads_of}
+use Rattle.vb_guest.proofs.{Chains.{coded_chain, coded_pages}, Taking.{next_shown, line_taken}}
+use Rattle.vb_guest.specs.{Stands.{Honest, IsRunning}, Replies.taken_reply, Steps.StepsAlone}
 
--- what the device says of a queue with no posted request, and of one with some
-pub take_empty : (q n : ℕ) (m1 m2 : Pages) (p1 p2 : Part) (side : RequestSide) (taken done : List Request)
-    (result : Result (Option ℕ) Refusal)
-    → TakesBy q m1 m2 p1 p2 result → take_refusal q p1 ≡ None → p1.queue_size ≡ side.ring.size
-    → Line m1 q n side (queue_part q p1) (record { posted = []; taken = taken; done = done })
-    → (result ≡ Ok None) × (p2 ≡ p1)
-take_empty q n m1 m2 p1 p2 side taken done result did free size line =
-    let rs : Requests = record { posted = []; taken = taken; done = done } in
-    let next = same_entry m1 q p1.queue_size (queue_part q p1).next_avail side.ring line.ring.layout
-    size ∙ next_shown m1 q side.ring (queue_part q p1) rs line.ring in
-    did.empty free next
+-- what the device finds of a posted request, in memory whose queues have this size
+record IsFound (q size : ℕ) (m : Pages) (r : Request) : Type 0 where
+  pieces : List Piece
+  chain : ChainGives (descriptor_at m (ring_page size q)) size (4096 * length m) r.head pieces
+  request : request_of q size m pieces ≡ Ok r.pages
+  quiet : (p : Part) → noting q m pieces p ≡ p
 
--- a chain of these pieces is one of page numbers, and says nothing of statistics
-pub record IsPlain (q : ℕ) (mem : Pages) (part : Part) (pieces : List Piece) : Type 0 where
-  pub request : request_of q part.queue_size mem pieces
-      ≡ page_request mem pieces (reserved_pages part.queue_size)
-  pub quiet : noting q mem pieces part ≡ part
+found : (kind : Kind) (m : Pages) (d : DriverState) (n : ℕ) (r : Request) → 64 ≤ n → length m ≡ n
+    → Knows kind d n r → Codes kind m d r
+    → IsFound (queue_of kind) (ring_of (queue_of kind) d).size m r
+found Inflating m d n r large len is code =
+    let size = d.inflate.ring.size in
+    record {
+      pieces = _;
+      chain = coded_chain m 0 size n d.inflate.sent r (omega arith) large len is code;
+      request = coded_pages m 0 size n d.inflate.sent r len is code;
+      quiet = λ p. refl;
+    }
+found Deflating m d n r large len is code =
+    let size = d.deflate.ring.size in
+    record {
+      pieces = _;
+      chain = coded_chain m 1 size n d.deflate.sent r (omega arith) large len is code;
+      request = coded_pages m 1 size n d.deflate.sent r len is code;
+      quiet = λ p. refl;
+    }
+found Reporting_free m d n r large len is code =
+    let size = d.report.ring.size in
+    let blocks = d.report.blocks in
+    let C : ℕ → Type 0 = λ h. ChainGives (descriptor_at m (ring_page size 4)) size
+    (4096 * length m) h (pieces_of blocks) in
+    record {
+      pieces = pieces_of blocks;
+      chain = subst C (sym is.head) (report_chain m (ring_page size 4) size n blocks len is.some
+          is.inside is.blocks_are code);
+      request = report_pages size n blocks is.few is.blocks_are
+          ∙ ap (λ (l : List ℕ). Ok l) (sym is.names);
+      quiet = λ p. refl;
+    }
 
-pub take_next : (q n : ℕ) (m1 m2 : Pages) (p1 p2 : Part) (side : RequestSide) (r : Request)
-    (rest taken done : List Request) (result : Result (Option ℕ) Refusal)
-    → buffers_page q ≤ 8 → 64 ≤ n → length m1 ≡ n
-    → IsPlain q m1 p1 (piece_of (buffer_of (buffers_page q) r.head (length r.pages)) ∷ [])
-    → TakesBy q m1 m2 p1 p2 result → take_refusal q p1 ≡ None → p1.queue_size ≡ side.ring.size
-    → Line m1 q n side (queue_part q p1)
-    (record { posted = r ∷ rest; taken = taken; done = done })
-    → (result ≡ Ok (Some r.head)) × (p2 ≡ taking q r.head r.pages p1)
-take_next q n m1 m2 p1 p2 side r rest taken done result low large len plain did free size line =
-    let rs : Requests = record { posted = r ∷ rest; taken = taken; done = done } in
-    let next = same_entry m1 q p1.queue_size (queue_part q p1).next_avail side.ring line.ring.layout
-    size ∙ next_shown m1 q side.ring (queue_part q p1) rs line.ring in
-    let is : IsRequest side.ring.size n side.sent r = line.posted 0 r (omega arith) in
-    let code = line.coded 0 r (omega arith) in
-    let chain = coded_chain m1 q side.ring.size n side.sent r low large len is code in
-    let pieces = piece_of (buffer_of (buffers_page q) r.head (length r.pages)) ∷ [] in
-    let C : ℕ → Type 0 = λ s. ChainGives (descriptor_at m1 (ring_page s q)) s (4096 * length m1)
-    r.head pieces in
-    let (answer, part) = did.takes r.head pieces r.pages free next (subst C (sym size) chain)
-    (plain.request ∙ ap (λ (s : ℕ). page_request m1 pieces (reserved_pages s)) size
-    ∙ coded_pages m1 q side.ring.size n side.sent r len is code) in
-    (answer, part ∙ ap (taking q r.head r.pages) plain.quiet)
+-- what the queue's ring says next
+next_is : (kind : Kind) (m : Pages) (p : Part) (d : DriverState) (g : Guest)
+    → p.queue_size ≡ (ring_of (queue_of kind) d).size → LineOf kind m p d g
+    → next_available (queue_of kind) m p ≡ Ok (slice_get (heads_of (requests kind g).posted) 0)
+next_is kind m p d g size line =
+    let q = queue_of kind in
+    same_entry m q p.queue_size (queue_part q p).next_avail (ring_of q d) line.ring.layout size
+    ∙ next_shown m q (ring_of q d) (queue_part q p) (requests kind g) line.ring
 
--- ---- queue 0
+takes : (kind : Kind) (g : Guest) (reply : Reply) (new : Guest)
+    → TakesRequest kind (requests kind g).posted g reply new
+    → Performs (Take (queue_of kind)) g [] reply new
+takes Inflating g reply new does = (refl, does)
+takes Deflating g reply new does = (refl, does)
+takes Reporting_free g reply new does = (refl, does)
 
-inflate_posted : (m1 m2 : Pages) (p1 p2 : Part) (d : DriverState) (g : Guest)
+request_taken : (kind : Kind) (m1 m2 : Pages) (p1 p2 : Part) (d : DriverState) (g : Guest)
     (posted : List Request) (result : Result (Option ℕ) Refusal)
-    → g.inflate.posted ≡ posted → TakesBy 0 m1 m2 p1 p2 result → Honest m1 p1 d g
-    → IsRunning m1 p1 d g → take_refusal 0 p1 ≡ None → refusal_of g (Take 0) ≡ None
-    → StepsAlone (Honest m2 p2 d) g (Take 0) (taken_reply result)
-inflate_posted m1 m2 p1 p2 d g [] result is did stands run free_part free =
-    let L : List Request → Type 0 =
-    λ l. Line m1 0 g.config.pages d.inflate p1.inflate (record g.inflate { posted = l }) in
-    let (answer, part) = take_empty 0 g.config.pages m1 m2 p1 p2 d.inflate g.inflate.taken
-    g.inflate.done result did free_part (stands.ties.parts.device.size ∙ sym run.inflate_size)
-    (subst L is run.inflate) in
-    let T : List Request → Type 0 = λ l. TakesRequest Inflating l g Empty g in
-    let step = honest_performed g (Take 0) [] Empty g free (refl, subst T (sym is) (refl, refl)) in
-    subst (λ r. StepsAlone (Honest m2 p2 d) g (Take 0) (taken_reply r)) (sym answer)
-    (steps_alone m1 m2 p1 p2 d d g (Take 0) Empty g stands step
+    → (requests kind g).posted ≡ posted → TakesBy (queue_of kind) m1 m2 p1 p2 result
+    → Honest m1 p1 d g → IsRunning m1 p1 d g → take_refusal (queue_of kind) p1 ≡ None
+    → refusal_of g (Take (queue_of kind)) ≡ None
+    → StepsAlone (Honest m2 p2 d) g (Take (queue_of kind)) (taken_reply result)
+request_taken kind m1 m2 p1 p2 d g [] result is did stands run free_part free =
+    let q = queue_of kind in
+    let size = stands.ties.parts.device.size ∙ sym (size_of kind m1 p1 d g run) in
+    let next = next_is kind m1 p1 d g size (line_of kind m1 p1 d g run)
+    ∙ ap (λ (l : List Request). Ok (slice_get (heads_of l) 0)) is in
+    let (answer, part) = did.empty free_part next in
+    let T : List Request → Type 0 = λ l. TakesRequest kind l g Empty g in
+    let step = honest_performed g (Take q) [] Empty g free
+    (takes kind g Empty g (subst T (sym is) (refl, refl))) in
+    subst (λ r. StepsAlone (Honest m2 p2 d) g (Take q) (taken_reply r)) (sym answer)
+    (steps_alone m1 m2 p1 p2 d d g (Take q) Empty g stands step
     (ties_same m1 m2 p1 p2 d d g did.memory part refl stands.ties) refl)
-inflate_posted m1 m2 p1 p2 d g (r ∷ rest) result is did stands run free_part free =
-    let L : List Request → Type 0 =
-    λ l. Line m1 0 g.config.pages d.inflate p1.inflate (record g.inflate { posted = l }) in
-    let line : L (r ∷ rest) = subst L is run.inflate in
-    let limits = config_limits g.config.pages g.config.queue_size g.config.processors
-    stands.ties.parts.guest.config in
-    let (answer, part) = take_next 0 g.config.pages m1 m2 p1 p2 d.inflate r rest g.inflate.taken
-    g.inflate.done result (omega arith) limits.pages_least stands.ties.pages.length_is
-    (record { request = refl; quiet = refl }) did
-    free_part (stands.ties.parts.device.size ∙ sym run.inflate_size) line in
-    let new : Guest = record g {
-      inflate = record g.inflate
-          { posted = rest; taken = g.inflate.taken ++ (record r { visited = 0 } ∷ []) };
-    } in
-    let T : List Request → Type 0 = λ l. TakesRequest Inflating l g (Taken r.head) new in
-    let step = honest_performed g (Take 0) [] (Taken r.head) new free
-    (refl, subst T (sym is) (refl, refl)) in
-    let after : Part = taking 0 r.head r.pages p1 in
-    let taken = line_taken m1 0 g.config.pages d.inflate p1.inflate r rest g.inflate.taken
-    g.inflate.done line in
-    let ties : Ties m1 after d new =
-    record { parts = stands.ties.parts; pages = stands.ties.pages; queues = inr (assumption taken) } in
-    subst (λ x. StepsAlone (Honest m2 p2 d) g (Take 0) (taken_reply x)) (sym answer)
-    (steps_alone m1 m2 p1 p2 d d g (Take 0) (Taken r.head) new stands step
-    (ties_same m1 m2 after p2 d d new did.memory part refl ties) refl)
-
--- ---- queue 1
-
-deflate_posted : (m1 m2 : Pages) (p1 p2 : Part) (d : DriverState) (g : Guest)
-    (posted : List Request) (result : Result (Option ℕ) Refusal)
-    → g.deflate.posted ≡ posted → TakesBy 1 m1 m2 p1 p2 result → Honest m1 p1 d g
-    → IsRunning m1 p1 d g → take_refusal 1 p1 ≡ None → refusal_of g (Take 1) ≡ None
-    → StepsAlone (Honest m2 p2 d) g (Take 1) (taken_reply result)
-deflate_posted m1 m2 p1 p2 d g [] result is did stands run free_part free =
-    let L : List Request → Type 0 =
-    λ l. Line m1 1 g.config.pages d.deflate p1.deflate (record g.deflate { posted = l }) in
-    let (answer, part) = take_empty 1 g.config.pages m1 m2 p1 p2 d.deflate g.deflate.taken
-    g.deflate.done result did free_part (stands.ties.parts.device.size ∙ sym run.deflate_size)
-    (subst L is run.deflate) in
-    let T : List Request → Type 0 = λ l. TakesRequest Deflating l g Empty g in
-    let step = honest_performed g (Take 1) [] Empty g free (refl, subst T (sym is) (refl, refl)) in
-    subst (λ r. StepsAlone (Honest m2 p2 d) g (Take 1) (taken_reply r)) (sym answer)
-    (steps_alone m1 m2 p1 p2 d d g (Take 1) Empty g stands step
-    (ties_same m1 m2 p1 p2 d d g did.memory part refl stands.ties) refl)
-deflate_posted m1 m2 p1 p2 d g (r ∷ rest) result is did stands run free_part free =
-    let L : List Request → Type 0 =
-    λ l. Line m1 1 g.config.pages d.deflate p1.deflate (record g.deflate { posted = l }) in
-    let line : L (r ∷ rest) = subst L is run.deflate in
-    let limits = config_limits g.config.pages g.config.queue_size g.config.processors
-    stands.ties.parts.guest.config in
-    let (answer, part) = take_next 1 g.config.pages m1 m2 p1 p2 d.deflate r rest g.deflate.taken
-    g.deflate.done result (omega arith) limits.pages_least stands.ties.pages.length_is
-    (record { request = refl; quiet = refl }) did
-    free_part (stands.ties.parts.device.size ∙ sym run.deflate_size) line in
-    let new : Guest = record g {
-      deflate = record g.deflate
-          { posted = rest; taken = g.deflate.taken ++ (record r { visited = 0 } ∷ []) };
-    } in
-    let T : List Request → Type 0 = λ l. TakesRequest Deflating l g (Taken r.head) new in
-    let step = honest_performed g (Take 1) [] (Taken r.head) new free
-    (refl, subst T (sym is) (refl, refl)) in
-    let after : Part = taking 1 r.head r.pages p1 in
-    let taken = line_taken m1 1 g.config.pages d.deflate p1.deflate r rest g.deflate.taken
-    g.deflate.done line in
-    let ties : Ties m1 after d new =
-    record { parts = stands.ties.parts; pages = stands.ties.pages; queues = inr (assumption taken) } in
-    subst (λ x. StepsAlone (Honest m2 p2 d) g (Take 1) (taken_reply x)) (sym answer)
-    (steps_alone m1 m2 p1 p2 d d g (Take 1) (Taken r.head) new stands step
-    (ties_same m1 m2 after p2 d d new did.memory part refl ties) refl)
+request_taken kind m1 m2 p1 p2 d g (r ∷ rest) result is did stands run free_part free =
+    let q = queue_of kind in
+    let n = g.config.pages in
+    let ties = stands.ties in
+    let line = line_of kind m1 p1 d g run in
+    let size = ties.parts.device.size ∙ sym (size_of kind m1 p1 d g run) in
+    let next = next_is kind m1 p1 d g size line
+    ∙ ap (λ (l : List Request). Ok (slice_get (heads_of l) 0)) is in
+    let limits = config_limits n g.config.queue_size g.config.processors ties.parts.guest.config in
+    let known = subst (All (Knows kind d n)) is line.posted in
+    let coded = subst (All (Codes kind m1 d)) is line.coded in
+    let here = subst (λ s. IsFound q s m1 r) (sym size)
+    (found kind m1 d n r limits.pages_least ties.pages.length_is (known 0 r (omega arith))
+    (coded 0 r (omega arith))) in
+    let (answer, part) = did.takes r.head here.pieces r.pages free_part next here.chain here.request
+    in
+    let rs : Requests = record (requests kind g)
+    { posted = rest; taken = (requests kind g).taken ++ (record r { visited = 0 } ∷ []) } in
+    let new : Guest = with_requests kind rs g in
+    let T : List Request → Type 0 = λ l. TakesRequest kind l g (Taken r.head) new in
+    let step = honest_performed g (Take q) [] (Taken r.head) new free
+    (takes kind g (Taken r.head) new (subst T (sym is) (refl, refl))) in
+    let there = ties_with kind m1 p1 d g _ rs ties run (line_taken m1 q (ring_of q d)
+    (queue_part q p1) (requests kind g) r rest _ _ _ (ignores kind d n) is line) in
+    subst (λ x. StepsAlone (Honest m2 p2 d) g (Take q) (taken_reply x)) (sym answer)
+    (steps_alone m1 m2 p1 p2 d d g (Take q) (Taken r.head) new stands step
+    (ties_same m1 m2 (taking q r.head r.pages p1) p2 d d new did.memory
+    (part ∙ ap (taking q r.head r.pages) (here.quiet p1)) refl there) (same_frames kind rs g))
 
 pub take_step : (m1 m2 : Pages) (p1 p2 : Part) (d : DriverState) (g : Guest) (q : ℕ)
     (result : Result (Option ℕ) Refusal)
@@ -159,11 +132,13 @@ take_step m1 m2 p1 p2 d g q result did stands =
     → StepsAlone (Honest m2 p2 d) g (Take k) (taken_reply result)) q
     (λ at. take_by m1 m2 p1 p2 d g 0 result refl at stands
     (λ run. ap (λ (l : List Request). length l) run.inflate.remembers)
-    (λ run. inflate_posted m1 m2 p1 p2 d g g.inflate.posted result refl at stands run))
+    (λ run. request_taken Inflating m1 m2 p1 p2 d g g.inflate.posted result refl at stands run))
     (λ at. take_by m1 m2 p1 p2 d g 1 result refl at stands
     (λ run. ap (λ (l : List Request). length l) run.deflate.remembers)
-    (λ run. deflate_posted m1 m2 p1 p2 d g g.deflate.posted result refl at stands run))
+    (λ run. request_taken Deflating m1 m2 p1 p2 d g g.deflate.posted result refl at stands run))
     (λ at. take_buffer m1 m2 p1 p2 d g result at stands)
-    (λ at. take_report m1 m2 p1 p2 d g result at stands)
+    (λ at. take_by m1 m2 p1 p2 d g 4 result refl at stands
+    (λ run. ap (λ (l : List Request). length l) run.report.remembers)
+    (λ run. request_taken Reporting_free m1 m2 p1 p2 d g g.report.posted result refl at stands run))
     (λ none at. let no = take_no_queue q g p1 none in
     take_refused m1 m2 p1 p2 d g q NoQueue result at stands no.0 no.1) did

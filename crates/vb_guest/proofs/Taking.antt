@@ -1,11 +1,11 @@
--- The device takes the next posted request.
-use Rattle.std.specs.Prelude.{◌≡◌, ℕ, ◌+◌, ◌%◌, List, [], ◌∷◌, ◌++◌, Ok, slice_get}
-use Rattle.std.{proofs.Common.{ap, arith}, proofs.lemmas.List.Elements.{All-push, All-tail}}
-use Rattle.vb_model.{specs.Layout.{ring_page, buffers_page}, specs.Requests.{Request, Requests}}
+-- The device takes the next posted request, and visits pages of the taken ones.
+use Rattle.std.specs.Prelude.{◌≡◌, ℕ, ◌+◌, ◌%◌, List, [], ◌∷◌, ◌++◌, All, Ok, slice_get}
+use Rattle.std.{proofs.Common.{sym, ap, subst, arith}, proofs.lemmas.List.Elements.{All-push, All-tail}}
+use Rattle.vb_model.{specs.Requests.{Request, Requests}, specs.Device.visiting}
 use Rattle.vb_ram.{specs.Pages.Pages, specs.Part.QueuePart}
 use Rattle.vb_ring.{specs.Entries.next_entry, specs.Ends.DriverEnd}
-use Rattle.vb_driver.{specs.Coding.IsCoded, specs.State.RequestSide}
-use Rattle.vb_guest.{specs.Line.{Line, IsRequest, RingOf, heads_of}, proofs.Heads.heads-push}
+use Rattle.vb_guest.{specs.Line.{QueueLine, RingOf, heads_of}, specs.Ring.RingStands}
+use Rattle.vb_guest.proofs.Heads.{IgnoresVisits, heads-push, heads-visiting, all-visiting}
 use Rattle.vb_guest.proofs.RingTaken.{ring_next, ring_taken}
 
 -- the device's next entry is the head of the first posted request
@@ -28,29 +28,34 @@ pub requests_taken : (mem : Pages) (q : ℕ) (ring : DriverEnd) (part : QueuePar
 requests_taken mem q ring part r rest taken done last stands = grind (arith, heads-push, ring_taken)
 
 -- the taken request goes from the posted to the taken ones
-pub line_taken : (mem : Pages) (q n : ℕ) (side : RequestSide) (part : QueuePart) (r : Request)
-    (rest taken done : List Request)
-    → Line mem q n side part (record { posted = r ∷ rest; taken = taken; done = done })
-    → Line mem q n side (record part {
+pub line_taken : (mem : Pages) (q : ℕ) (ring : DriverEnd) (part : QueuePart) (rs : Requests)
+    (r : Request) (rest : List Request) (K : Type 0) (P C : Request → Type 0) → IgnoresVisits P
+    → rs.posted ≡ r ∷ rest → QueueLine mem q ring part rs K P C
+    → QueueLine mem q ring (record part {
       next_avail = (part.next_avail + 1) % 65536;
-      taken = part.taken
-          ++ (record { head = r.head; pages = r.pages; visited = 0 } ∷ []);
-    })
-    (record { posted = rest; taken = taken ++ (record r { visited = 0 } ∷ []); done = done })
-line_taken mem q n side part r rest taken done line =
+      taken = part.taken ++ (record { head = r.head; pages = r.pages; visited = 0 } ∷ []);
+    }) (record rs { posted = rest; taken = rs.taken ++ (record r { visited = 0 } ∷ []) }) K P C
+line_taken mem q ring part rs r rest K P C ignores is line =
     let r' : Request = record r { visited = 0 } in
-    let P : Request → Type 0 = IsRequest side.ring.size n side.sent in
-    let first : P r = line.posted 0 r (omega arith) in
-    let now : P r' = assumption in
+    let R : List Request → Type 0 = λ l. RingOf mem q ring part (record rs { posted = l }) in
+    let all : All P (r ∷ rest) = subst (All P) is line.posted in
     record {
-      ring = requests_taken mem q side.ring part r rest taken done (part.taken ++ (r' ∷ []))
-          line.ring;
-      buffers = line.buffers;
-      posted = All-tail P r rest line.posted;
-      taken = All-push P taken r' line.taken now;
+      ring = requests_taken mem q ring part r rest rs.taken rs.done (part.taken ++ (r' ∷ []))
+          (subst R is line.ring);
+      keeps = line.keeps;
+      posted = All-tail P r rest all;
+      taken = All-push P rs.taken r' line.taken (ignores r 0 (all 0 r (omega arith)));
       done = line.done;
-      coded = All-tail (λ (x : Request). IsCoded mem (ring_page side.ring.size q) (buffers_page q)
-          x.head x.pages)
-          r rest line.coded;
+      coded = All-tail C r rest (subst (All C) is line.coded);
       remembers = ap (λ (l : List Request). l ++ (r' ∷ [])) line.remembers;
     }
+
+-- a visit changes a request's count alone
+pub line_visited : (mem : Pages) (q : ℕ) (ring : DriverEnd) (part : QueuePart) (rs : Requests)
+    (K : Type 0) (P C : Request → Type 0) → IgnoresVisits P → QueueLine mem q ring part rs K P C
+    → QueueLine mem q ring (record part { taken = visiting part.taken })
+    (record rs { taken = visiting rs.taken }) K P C
+line_visited mem q ring part rs K P C ignores line =
+    let S : List ℕ → Type 0 = λ l. RingStands mem q ring part.next_avail part.next_used
+    (heads_of rs.posted) l (heads_of rs.done) in
+    assumption (subst S (sym (heads-visiting rs.taken)) line.ring, all-visiting P ignores rs.taken line.taken, ap visiting line.remembers)

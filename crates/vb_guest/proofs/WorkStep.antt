@@ -1,27 +1,40 @@
 -- The device's work is a step of the definitions.
-use Rattle.std.specs.Prelude.{◌≡◌, ℕ, ◌<◌, ◌≤◌, Bool, true, false, List, [], ◌∷◌, All, Result}
-use Rattle.std.{specs.Prelude.{Option, Some, None, is_some, refl}, proofs.Common.{sym, ◌∙◌, ap}}
-use Rattle.std.{proofs.Common.{subst, arith, inr}, proofs.lemmas.List.Elements.{All-nil, All-cons}}
-use Rattle.vb_model.{specs.declared.calls.Call.TheVariants.Work, specs.declared.replies.Reply.Reply}
-use Rattle.vb_model.{specs.declared.replies.Refusal.Refusal, specs.Guest.Guest}
-use Rattle.vb_model.{specs.declared.replies.Reply.TheVariants.Worked, specs.Refusals.refusal_of}
-use Rattle.vb_model.{specs.Requests.{Request, Requests, Inflating}, specs.Layout.reserved_pages}
-use Rattle.vb_model.specs.Device.{visiting, visited}
-use Rattle.vb_ram.{specs.Pages.{Pages, frame_at}, specs.Part.{Part, QueuePart}}
-use Rattle.vb_guest.{proofs.SameRefusals.{by_state, works_same, works_idle}, proofs.Running.runs_on}
-use Rattle.vb_guest.{proofs.Losing.steps_losing, proofs.Closing.{honest_performed, ties_same}}
-use Rattle.vb_guest.proofs.WorkReportStep.{visit_of, WorksOn, next_taken, work_report}
-use Rattle.vb_guest.{proofs.PagesKept.{pages_discarded, page_undiscarded}, specs.Steps.StepsFreeing}
-use Rattle.vb_guest.{proofs.Handing.{handed_back, not_among}, specs.Ring.RingStands}
-use Rattle.vb_guest.{proofs.Heads.{heads-visiting, all-visiting}, proofs.Apart.SameReserved}
-use Rattle.vb_guest.{specs.Line.{Line, IsRequest, heads_of}, specs.Stands.{Honest, Ties, IsRunning}}
-use Rattle.vb_guest.specs.Replies.{worked_reply}
-use Rattle.vb_driver.specs.State.{RequestSide, DriverState}
-use Rattle.vb_device.{specs.Conditions.work_refusal, specs.Discards.discarded}
-use Rattle.vb_device.specs.Calls.{next_visit, Visits, WorksBy}
+use Rattle.std.specs.Prelude.{◌≡◌, ℕ, ◌<◌, ◌≤◌, Bool, true, false, cond, if◌then◌else◌, List, []}
+use Rattle.std.specs.Prelude.{◌∷◌, All, Result, Option, Some, None, MatchOption, is_some, slice_get}
+use Rattle.std.{specs.Prelude.refl, proofs.lemmas.List.Elements.{All-nil, All-cons, All-tail}}
+use Rattle.std.proofs.Common.{sym, ◌∙◌, ap, subst, arith, inr}
+use Rattle.vb_model.specs.Requests.{Request, Kind, Inflating, Deflating, Reporting_free, queue_of}
+use Rattle.vb_model.specs.{Device.{is_unvisited, visiting, next_page, visited}, Refusals.refusal_of}
+use Rattle.vb_model.specs.declared.{replies.Reply.TheVariants.Worked, calls.Call.TheVariants.Work}
+use Rattle.vb_model.specs.{Guest.{Guest, requests, unbacked}, declared.replies.Refusal.Refusal}
+use Rattle.vb_model.specs.{declared.replies.Reply.Reply, Layout.reserved_pages, Step.Performs}
+use Rattle.vb_model.proofs.CallSteps.{Idles}
+use Rattle.vb_ram.specs.{Pages.{Pages, frame_at}, Part.{Part, QueuePart}}
+use Rattle.vb_driver.specs.{State.DriverState, Calls.ring_of}
+use Rattle.vb_device.specs.{Calls.{next_visit, Visits, WorksBy}, Queues.{queue_part, with_queue}}
+use Rattle.vb_device.specs.{Conditions.work_refusal, Discards.discarded}
+use Rattle.vb_guest.specs.Stands.{Honest, Ties, IsRunning, HasPages, HasParts, IsOwnRequest}
+use Rattle.vb_guest.specs.Stands.{beside_queues, beside_sides, beside_requests}
+use Rattle.vb_guest.proofs.KindLines.{LineWith, line_of, size_of, own_pages_of, ignores}
+use Rattle.vb_guest.proofs.{KindLines.same_frames, SameRefusals.{by_state, works_same, works_idle}}
+use Rattle.vb_guest.proofs.{PagesKept.{pages_discarded, page_undiscarded}, Discarding.with_entry}
+use Rattle.vb_guest.proofs.{Closing.{honest_performed, ties_same}, Handing.{handed_back, not_among}}
+use Rattle.vb_guest.{proofs.{Losing.steps_losing, Taking.line_visited}, specs.Replies.worked_reply}
+use Rattle.vb_guest.{specs.Steps.StepsFreeing, proofs.{Running.runs_on, Heads.one_of}}
 use Rattle.vb_device.specs.declared.worked.Worked.{Worked as WorkedPage}
+use Rattle.vb_model.proofs.CallSteps.{Visits as VisitsOf}
 
--- ---- refusals
+-- the next page of a device of this pace
+abbrev visit_of : Bool → List Request → Option ℕ
+visit_of paced taken = if paced then next_page taken else None
+
+-- what a device does that would visit this page of an inflate, and this one of a report
+abbrev WorksOn : Option ℕ → Option ℕ → Guest → Reply → Guest → Type 0
+WorksOn a b g reply new =
+    MatchOption a (MatchOption b (Idles g reply new) (VisitsOf Reporting_free g reply new))
+    (VisitsOf Inflating g reply new)
+
+-- ---- refusals, and nothing to visit
 
 work_refused : (m1 m2 : Pages) (p1 p2 : Part) (d : DriverState) (g : Guest) (why : Refusal)
     (result : Result (Option WorkedPage) Refusal)
@@ -29,8 +42,6 @@ work_refused : (m1 m2 : Pages) (p1 p2 : Part) (d : DriverState) (g : Guest) (why
     → refusal_of g Work ≡ Some why
     → StepsFreeing (Honest m2 (handed_back p2) d) p2.loose g Work (worked_reply result)
 work_refused m1 m2 p1 p2 d g why result did stands by_part by_model = grind arith
-
--- ---- nothing to visit
 
 work_idle : (m1 m2 : Pages) (p1 p2 : Part) (d : DriverState) (g : Guest)
     (result : Result (Option WorkedPage) Refusal)
@@ -43,65 +54,80 @@ work_idle m1 m2 p1 p2 d g result did stands by_part by_model here later there af
 
 -- ---- a visit
 
--- a visit changes a request's count alone
-line_visited : (mem : Pages) (q n : ℕ) (side : RequestSide) (part : QueuePart) (rs : Requests)
-    → Line mem q n side part rs
-    → Line mem q n side (record part { taken = visiting part.taken })
-    (record rs { taken = visiting rs.taken })
-line_visited mem q n side part rs line =
-    let S : List ℕ → Type 0 = λ l. RingStands mem q side.ring part.next_avail part.next_used
-    (heads_of rs.posted) l (heads_of rs.done) in
-    (assumption (subst S (sym (heads-visiting rs.taken)) line.ring, all-visiting (IsRequest side.ring.size n side.sent) (λ r is. assumption) rs.taken line.taken, ap visiting line.remembers))
+-- what holds of each page of each taken request holds of the next one
+next_taken : (P : ℕ → Type 0) (rs : List Request) (page : ℕ) → All (λ r. All P r.pages) rs
+    → next_page rs ≡ Some page → P page
+next_taken P [] page all e = absurd cc
+next_taken P (r ∷ rs) page all e =
+    step (is_unvisited r) e
+    (next_taken P rs page (All-tail (λ (x : Request). All P x.pages) r rs all))
+  where
+    step : (v : Bool) → cond v (slice_get r.pages r.visited) (next_page rs) ≡ Some page
+        → (next_page rs ≡ Some page → P page) → P page
+    step true is later = one_of P r.pages r.visited page (all 0 r (omega arith)) is
+    step false is later = later is
 
-work_visits : (m1 m2 : Pages) (p1 p2 : Part) (d : DriverState) (g : Guest) (page : ℕ)
-    (result : Result (Option WorkedPage) Refusal)
-    → Visits 0 page m1 m2 p1 p2 result → Honest m1 p1 d g → IsRunning m1 p1 d g
-    → refusal_of g Work ≡ None → visit_of g.config.paced g.inflate.taken ≡ Some page
-    → (reserved_pages g.config.queue_size ≤ page) × (page < g.config.pages)
+-- the next page to visit is one of a taken request
+pub next_own : {size : ℕ} (n : ℕ) (paced : Bool) (taken : List Request) (page : ℕ)
+    → All (IsOwnRequest size n) taken → visit_of paced taken ≡ Some page
+    → IsOwnRequest size n (record { head = 0; pages = page ∷ []; visited = 0 })
+next_own {size} n true taken page all e =
+    let H : ℕ → Type 0 = λ p. reserved_pages size ≤ p in
+    let L : ℕ → Type 0 = λ p. p < n in
+    record {
+      above = All-cons H page [] (next_taken H taken page (λ k x lt. (all k x lt).above) e)
+          (All-nil H);
+      below = All-cons L page [] (next_taken L taken page (λ k x lt. (all k x lt).below) e)
+          (All-nil L);
+    }
+next_own n false taken page all e = absurd cc
+
+ties_visited : (kind : Kind) (m : Pages) (p : Part) (d : DriverState) (g : Guest) (page : ℕ)
+    (part : QueuePart) → HasParts (beside_queues p) (beside_sides d) (beside_requests g)
+    → HasPages m g.config.queue_size g.config.pages (unbacked (page ∷ []) g).frames
+    (unbacked (page ∷ []) g).contents
+    → IsRunning m p d g → LineWith kind m d g.config.pages part
+    (record (requests kind g) { taken = visiting (requests kind g).taken })
+    → Ties m (handed_back (with_queue (queue_of kind) part p)) d (visited kind page g)
+ties_visited Inflating m p d g page part parts pages run line =
+    record { parts = assumption; pages = pages; queues = inr assumption }
+ties_visited Deflating m p d g page part parts pages run line =
+    record { parts = assumption; pages = pages; queues = inr assumption }
+ties_visited Reporting_free m p d g page part parts pages run line =
+    record { parts = assumption; pages = pages; queues = inr assumption }
+
+request_visited : (kind : Kind) (m1 m2 : Pages) (p1 p2 : Part) (d : DriverState) (g : Guest)
+    (page : ℕ) (result : Result (Option WorkedPage) Refusal)
+    → Visits (queue_of kind) page m1 m2 p1 p2 result → Honest m1 p1 d g → IsRunning m1 p1 d g
+    → refusal_of g Work ≡ None → visit_of g.config.paced (requests kind g).taken ≡ Some page
+    → ((reply : Reply) (new : Guest) → VisitsOf kind g reply new page → Performs Work g [] reply new)
     → StepsFreeing (Honest m2 (handed_back p2) d) p2.loose g Work (worked_reply result)
-work_visits m1 m2 p1 p2 d g page result did stands run by_model there high =
+request_visited kind m1 m2 p1 p2 d g page result did stands run free there performs =
+    let q = queue_of kind in
     let ties = stands.ties in
     let n = g.config.pages in
-    let one : List ℕ = page ∷ [] in
-    let bare = discarded one m1 in
     let size = g.config.queue_size in
-    let least = reserved_pages size in
-    let above : All (λ p. least ≤ p) one =
-    All-cons (λ p. least ≤ p) page [] high.0 (All-nil (λ p. least ≤ p)) in
-    let low : SameReserved m1 bare size =
-    λ p lt. page_undiscarded one m1 p (not_among least one p above lt) in
-    let rests = runs_on m1 bare p1 d g run low in
-    let new : Guest = visited Inflating page g in
+    let one : Request = record { head = 0; pages = page ∷ []; visited = 0 } in
+    let bare = discarded one.pages m1 in
+    let line = line_of kind m1 p1 d g run in
+    let own = subst (λ s. IsOwnRequest s n one) (size_of kind m1 p1 d g run)
+    (next_own n g.config.paced (requests kind g).taken page
+    (λ k x lt. own_pages_of kind d n _ (line.taken k x lt)) there) in
+    let rests = runs_on m1 bare p1 d g run (λ p lt. page_undiscarded one.pages m1 p
+    (not_among (reserved_pages size) one.pages p own.above lt)) in
+    let new : Guest = visited kind page g in
     let reply : Reply = Worked page (is_some (frame_at m1 page)) in
-    let W : Option ℕ → Type 0 =
-    λ a. WorksOn a (visit_of g.config.paced g.report.taken) g reply new in
-    let step = honest_performed g Work [] reply new by_model (
-      refl,
-      subst W (sym there)
-          (ap (λ (o : Option ℕ). Worked page (is_some o)) (ties.pages.behind page), refl),
-    ) in
-    let after : Part = handed_back
-    (record p1 { inflate = record p1.inflate { taken = visiting p1.inflate.taken } }) in
-    let fresh : Ties bare after d new = record {
-      parts = assumption;
-      pages = pages_discarded m1 size n g.frames g.contents one ties.pages;
-      queues = inr (assumption (line_visited bare 0 n d.inflate p1.inflate g.inflate rests.inflate));
-    } in
-    let F : ℕ → Type 0 = λ p. p < n in
+    let step = honest_performed g Work [] reply new free (performs reply new
+    (ap (λ (o : Option ℕ). Worked page (is_some o)) (ties.pages.behind page), refl)) in
+    let part : QueuePart = record (queue_part q p1) { taken = visiting (queue_part q p1).taken } in
+    let fresh = ties_visited kind bare p1 d g page part ties.parts
+    (pages_discarded m1 size n g.frames g.contents one.pages ties.pages) rests
+    (line_visited bare q (ring_of q d) (queue_part q p1) (requests kind g) _ _ _ (ignores kind d n)
+    (line_of kind bare p1 d g rests)) in
     subst (λ x. StepsFreeing (Honest m2 (handed_back p2) d) p2.loose g Work (worked_reply x))
-    (sym did.answer) (steps_losing m1 m2 p1 p2 d g new Work reply one stands step
-    (ties_same bare m2 after (handed_back p2) d d new did.memory (ap handed_back did.part) refl fresh)
-    refl did.loose (refl, tt) (All-cons F page [] high.1 (All-nil F)))
-
--- a paced device's next page is one of a taken inflate's
-next_high : (paced : Bool) (size n : ℕ) (sent : List (List ℕ)) (taken : List Request) (page : ℕ)
-    → All (IsRequest size n sent) taken → visit_of paced taken ≡ Some page
-    → (reserved_pages size ≤ page) × (page < n)
-next_high true size n sent taken page all e = (
-  next_taken (λ p. reserved_pages size ≤ p) taken page (λ k d lt. (all k d lt).pages.above) e,
-  next_taken (λ p. p < n) taken page (λ k d lt. (all k d lt).pages.below) e,
-)
-next_high false size n sent taken page all e = absurd cc
+    (sym did.answer) (steps_losing m1 m2 p1 p2 d g new Work reply one.pages stands step
+    (ties_same bare m2 (handed_back (with_queue q part p1)) (handed_back p2) d d new did.memory
+    (ap handed_back did.part) refl fresh) (ap (with_entry one.pages None) (same_frames kind _ g)) did.loose (refl, tt) own.below)
 
 pub work_step : (m1 m2 : Pages) (p1 p2 : Part) (d : DriverState) (g : Guest)
     (result : Result (Option WorkedPage) Refusal)
@@ -131,11 +157,15 @@ work_step m1 m2 p1 p2 d g result did stands =
     by_next None None run free model is none first second =
         work_idle m1 m2 p1 p2 d g result did stands free model (first ∙ is) (second ∙ none) is none
     by_next None (Some page) run free model is some first second =
-        work_report m1 m2 p1 p2 d g page result (did.report page free (first ∙ is) (second ∙ some))
-        stands run model is some
+        request_visited Reporting_free m1 m2 p1 p2 d g page result
+        (did.report page free (first ∙ is) (second ∙ some)) stands run model some (λ reply new does.
+        let R : Option ℕ → Type 0 = λ b. WorksOn None b g reply new in
+        let W : Option ℕ → Type 0 =
+        λ a. WorksOn a (visit_of g.config.paced g.report.taken) g reply new in
+        (refl, subst W (sym is) (subst R (sym some) does)))
     by_next (Some page) later run free model is what first second =
-        work_visits m1 m2 p1 p2 d g page result (did.inflate page free (first ∙ is)) stands run
-        model is
-        (subst (λ (k : ℕ). (reserved_pages k ≤ page) × (page < g.config.pages)) run.inflate_size
-        (next_high g.config.paced d.inflate.ring.size g.config.pages d.inflate.sent g.inflate.taken
-        page run.inflate.taken is))
+        request_visited Inflating m1 m2 p1 p2 d g page result
+        (did.inflate page free (first ∙ is)) stands run model is (λ reply new does.
+        let W : Option ℕ → Type 0 =
+        λ a. WorksOn a (visit_of g.config.paced g.report.taken) g reply new in
+        (refl, subst W (sym is) does))

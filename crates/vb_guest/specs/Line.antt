@@ -36,13 +36,23 @@ pub record IsRequest (size count : ℕ) (sent : List (List ℕ)) (r : Request) :
   pub remembered : slice_index_or sent r.head [] ≡ r.pages
   pub pages : AreRequested size count r.pages
 
-pub record Line (mem : Pages) (queue count : ℕ) (side : RequestSide) (part : QueuePart)
-    (rs : Requests) : Type 0 where
-  pub ring : RingOf mem queue side.ring part rs
-  pub buffers : length side.sent ≡ max_outstanding
-  pub posted : All (IsRequest side.ring.size count side.sent) rs.posted
-  pub taken : All (IsRequest side.ring.size count side.sent) rs.taken
-  pub done : All (IsRequest side.ring.size count side.sent) rs.done
-  pub coded : All (λ r. IsCoded mem (ring_page side.ring.size queue) (buffers_page queue) r.head
-      r.pages) rs.posted
+-- What the driver, the device and guest memory say together of any queue of requests: its ring has
+-- their heads; the driver knows each of them, and keeps what it needs beside the ring; memory has
+-- the posted ones coded, and the device remembers the taken ones.
+pub record QueueLine (mem : Pages) (queue : ℕ) (driver : DriverEnd) (part : QueuePart)
+    (rs : Requests) (Keeps : Type 0) (Knows Codes : Request → Type 0) : Type 0 where
+  pub ring : RingOf mem queue driver part rs
+  pub keeps : Keeps
+  pub posted : All Knows rs.posted
+  pub taken : All Knows rs.taken
+  pub done : All Knows rs.done
+  pub coded : All Codes rs.posted
   pub remembers : part.taken ≡ rs.taken
+
+-- Queues 0 and 1: the driver remembers the pages of each request, and a posted one's buffer has
+-- their numbers.
+abbrev pub Line : Pages → ℕ → ℕ → RequestSide → QueuePart → Requests → Type 0
+Line mem queue count side part rs =
+    QueueLine mem queue side.ring part rs (length side.sent ≡ max_outstanding)
+    (IsRequest side.ring.size count side.sent)
+    (λ r. IsCoded mem (ring_page side.ring.size queue) (buffers_page queue) r.head r.pages)

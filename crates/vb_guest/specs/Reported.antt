@@ -1,5 +1,5 @@
 -- What the driver, the device and guest memory say together of the queue of reports (profile).
-use Rattle.std.specs.Prelude.{◌≡◌, ℕ, ◌+◌, ◌<◌, ◌≤◌, List, All, length}
+use Rattle.std.specs.Prelude.{◌≡◌, ℕ, ⊤, ◌+◌, ◌<◌, ◌≤◌, List, All, length}
 use Rattle.vb_model.specs.declared.layout.TheConstants.{REPORT_QUEUE}
 use Rattle.vb_model.specs.Limits.{max_outstanding, max_order}
 use Rattle.vb_model.specs.Layout.{reserved_pages, ring_page}
@@ -9,7 +9,7 @@ use Rattle.vb_ram.specs.Pages.{Pages}
 use Rattle.vb_ram.specs.Part.{QueuePart}
 use Rattle.vb_driver.specs.Coding.{AreReported}
 use Rattle.vb_driver.specs.State.{ReportSide}
-use Rattle.vb_guest.specs.Line.{RingOf}
+use Rattle.vb_guest.specs.Line.{QueueLine}
 
 -- A block of a guest of so many pages, whose queues have this size, above the reserved ones.
 pub record IsOwnBlock (queue_size count : ℕ) (b : Block) : Type 0 where
@@ -28,12 +28,7 @@ pub record IsReport (descriptors count : ℕ) (blocks : List Block) (r : Request
 
 -- The report that is out, if one is, is that of the blocks which the driver remembers; while it is
 -- posted, the queue's table has its chain.
-pub record ReportLine (mem : Pages) (count : ℕ) (side : ReportSide) (part : QueuePart)
-    (rs : Requests) : Type 0 where
-  pub ring : RingOf mem REPORT_QUEUE side.ring part rs
-  pub posted : All (IsReport side.ring.size count side.blocks) rs.posted
-  pub taken : All (IsReport side.ring.size count side.blocks) rs.taken
-  pub done : All (IsReport side.ring.size count side.blocks) rs.done
-  pub coded : All (λ r. AreReported mem (ring_page side.ring.size REPORT_QUEUE) side.blocks)
-      rs.posted
-  pub remembers : part.taken ≡ rs.taken
+abbrev pub ReportLine : Pages → ℕ → ReportSide → QueuePart → Requests → Type 0
+ReportLine mem count side part rs =
+    QueueLine mem REPORT_QUEUE side.ring part rs ⊤ (IsReport side.ring.size count side.blocks)
+    (λ r. AreReported mem (ring_page side.ring.size REPORT_QUEUE) side.blocks)
