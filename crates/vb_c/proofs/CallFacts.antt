@@ -3,12 +3,11 @@ use Rattle.std.proofs.Common.{refl, ap, arith, ℕ, List, [], ◌∷◌, length,
 use Rattle.vb_core.{specs.declared.kinds.Kind.TheVariants.Inflate, specs.Rings.used_entry}
 use Rattle.vb_core.specs.declared.device.Denial.TheVariants.{NoQueue, BadArgument, Misplaced}
 use Rattle.vb_core.{specs.declared.device.Device.Device, specs.Devices.{new_device, placed}}
-use Rattle.vb_c.{specs.declared.answers.VbChain.VbChain, specs.declared.answers.VbNamed.VbNamed}
-use Rattle.vb_c.{specs.declared.answers.VbUsed.VbUsed, specs.declared.marks.VbMarked.VbMarked}
-use Rattle.vb_c.{specs.Answers.{figures_of, used_of}, specs.Marks.MarksFor}
-use Rattle.vb_c.specs.Chains.{NextFor, NamesFor, SaysFigures, Uses, UsesFor}
-use Rattle.vb_c.specs.Registers.{Starts, WritesStatus, Places, PlacesFor}
-use Rattle.vb_c.proofs.Samples.{Same, settings, no_settings, begun, ready}
+use Rattle.vb_c.specs.declared.answers.{VbChain.VbChain, VbNamed.VbNamed, VbUsed.VbUsed}
+use Rattle.vb_c.specs.{declared.marks.VbMarked.VbMarked, Answers.{figures_of, used_of}}
+use Rattle.vb_c.specs.{Marks.MarksFor, Chains.{NextFor, NamesFor, SaysFigures, Uses, UsesFor}}
+use Rattle.vb_c.{specs.Registers.{Starts, WritesStatus, Places, PlacesFor}, proofs.Samples.Same}
+use Rattle.vb_c.proofs.Samples.{settings, no_settings, begun, ready}
 
 abbrev target_of : Device → ℕ
 target_of d = d.target

@@ -12,19 +12,16 @@ use Rattle.vb_core.specs.declared.device.Denial.{Denial}
 use Rattle.vb_core.specs.declared.device.Denial.TheVariants.{NoQueue, BadArgument, NotReady, NeedsReset, Misplaced, Broken}
 use Rattle.vb_core.specs.declared.saved.StateDenial.TheVariants.{BadLength as WrongLength, NotAState, OtherVersion, BadSum, Impossible}
 use Rattle.vb_monitor.specs.declared.placing.RestoreDenial.TheVariants.{State, Elsewhere}
-use Rattle.vb_c.specs.Codes.{code_of, rule_in, kind_of_code, code_of_kind, code_in, number_in, fault_of, why_of}
-use Rattle.vb_c.specs.Answers.{chain_of, named_of, reported_of, figures_of, used_of}
-use Rattle.vb_c.specs.Marks.{marked_of}
-use Rattle.vb_c.specs.Sharing.{targets_of}
-use Rattle.vb_c.specs.Saving.{code_of_state}
-use Rattle.vb_c.specs.Places.{code_of_restore}
+use Rattle.vb_c.specs.Codes.{code_of, rule_in, kind_of_code, code_of_kind, code_in, number_in}
+use Rattle.vb_c.specs.{Codes.{fault_of, why_of}, Answers.{chain_of, named_of, reported_of}}
+use Rattle.vb_c.specs.{Answers.{figures_of, used_of}, Marks.marked_of, Sharing.targets_of}
+use Rattle.vb_c.specs.{Saving.code_of_state, Places.code_of_restore}
 
 -- ---- denials
 
 abbrev faults : List ChainFault
-faults =
-    BadHead ∷ BadNext ∷ TooLong ∷ Indirect ∷ WrongDirection ∷ OutOfRam ∷ IndexJump ∷ BadLength ∷ BadPage
-    ∷ ReservedPage ∷ []
+faults = BadHead ∷ BadNext ∷ TooLong
+    ∷ Indirect ∷ WrongDirection ∷ OutOfRam ∷ IndexJump ∷ BadLength ∷ BadPage ∷ ReservedPage ∷ []
 
 abbrev denials : List Denial
 denials = Broken TooLong ∷ NotReady ∷ NeedsReset ∷ NoQueue ∷ Misplaced ∷ BadArgument ∷ []

@@ -1,19 +1,17 @@
 -- Which notices are handed over to C, and which aren't.
 use Rattle.std.proofs.Common.{◌≡◌, ◌∙◌, refl, ap, sym, arith, ℕ, ◌+◌, true, false, [], Option, Some, None}
 use Rattle.vb_core.specs.declared.kinds.Kind.TheVariants.{Inflate}
-use Rattle.vb_monitor.{specs.declared.regions.Spot.Spot, specs.declared.orders.Orders.Orders}
-use Rattle.vb_monitor.specs.declared.orders.Told.TheVariants.{Nothing}
-use Rattle.vb_monitor.{specs.declared.orders.Asked.Asked, specs.declared.notice.Notice.Notice}
-use Rattle.vb_monitor.specs.declared.step.Phase.TheVariants.{AwaitsIndex, AwaitsEntry}
-use Rattle.vb_monitor.specs.declared.step.Phase.TheVariants.{AwaitsDescriptor, AwaitsPart, TellsPages}
-use Rattle.vb_monitor.specs.declared.step.Phase.TheVariants.{TellsFigures, Discards, GivesBack}
-use Rattle.vb_monitor.specs.declared.step.Phase.TheVariants.{AwaitsFlags, Ended}
-use Rattle.vb_monitor.specs.declared.step.Phase.{Phase}
-use Rattle.vb_monitor.{specs.declared.balloon.Balloon.Balloon, specs.Machine.{stage, waits, is_ended}}
+use Rattle.vb_monitor.specs.declared.{regions.Spot.Spot, orders.Orders.Orders}
+use Rattle.vb_monitor.specs.declared.orders.{Told.TheVariants.Nothing, Asked.Asked}
+use Rattle.vb_monitor.specs.declared.{notice.Notice.Notice, step.Phase.TheVariants.AwaitsIndex}
+use Rattle.vb_monitor.specs.declared.step.Phase.TheVariants.{AwaitsEntry, AwaitsDescriptor}
+use Rattle.vb_monitor.specs.declared.step.Phase.TheVariants.{AwaitsPart, TellsPages, TellsFigures}
+use Rattle.vb_monitor.specs.declared.step.Phase.TheVariants.{Discards, GivesBack, AwaitsFlags}
+use Rattle.vb_monitor.specs.declared.step.Phase.{TheVariants.Ended, Phase}
+use Rattle.vb_monitor.specs.{declared.balloon.Balloon.Balloon, Machine.{stage, waits, is_ended}}
 use Rattle.vb_c.specs.declared.notice.{VbNotice.VbNotice, VbRoom.VbRoom}
-use Rattle.vb_c.specs.Notices.{tally_of, notice_of, asked_bits, what_of}
-use Rattle.vb_c.specs.Serving.{held_then, Refuses, HandsOver}
-use Rattle.vb_c.proofs.Samples.{Same, two, balloon}
+use Rattle.vb_c.specs.{Notices.{tally_of, asked_bits, what_of}, Serving.{held_then, Refuses}}
+use Rattle.vb_c.{specs.Serving.HandsOver, proofs.Samples.{Same, two, balloon}}
 
 abbrev spot : Spot
 spot = record { region = 0; offset = 0x102 }

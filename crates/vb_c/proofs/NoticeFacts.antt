@@ -1,6 +1,6 @@
 -- What a notice says by its bits, worked out, and what it doesn't.
-use Rattle.std.proofs.Common.{◌≡◌, refl, arith, ℕ, ◌+◌, true, false, None}
-use Rattle.vb_monitor.{specs.declared.regions.Spot.Spot, specs.declared.orders.Asked.Asked}
+use Rattle.std.proofs.Common.{◌≡◌, refl, arith, ◌+◌, true, false, None}
+use Rattle.vb_monitor.specs.declared.regions.Spot.{Spot}
 use Rattle.vb_monitor.specs.declared.orders.Told.TheVariants.{Nothing, Pages, Figures}
 use Rattle.vb_monitor.specs.declared.step.Phase.TheVariants.{AwaitsIndex, AwaitsEntry, AwaitsFlags}
 use Rattle.vb_c.specs.Notices.{what_of}

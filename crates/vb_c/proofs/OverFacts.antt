@@ -1,8 +1,7 @@
 -- What the calls of a balloon over regions answer in C, worked out: each refusal, and what it leaves.
 use Rattle.std.proofs.Common.{◌≡◌, refl, ap, arith, inl, inr, ℕ, ◌∙◌, true, false, List, [], ◌∷◌}
 use Rattle.std.proofs.Common.{Option, Some, None, Result, Err}
-use Rattle.vb_status.specs.declared.bits.StatusFault.{StatusFault}
-use Rattle.vb_status.specs.declared.bits.StatusFault.TheVariants.{ClearsBit}
+use Rattle.vb_status.specs.declared.bits.StatusFault.{StatusFault, TheVariants.ClearsBit}
 use Rattle.vb_core.specs.declared.kinds.Kind.TheVariants.{Inflate}
 use Rattle.vb_core.{specs.declared.device.Denial.Denial, specs.Devices.{new_device, placed}}
 use Rattle.vb_core.specs.declared.device.Denial.TheVariants.{Misplaced}

@@ -3,18 +3,16 @@ use Rattle.std.proofs.Common.{◌≡◌, refl, ap, arith, ℕ, Bool, true, false
 use Rattle.vb_chain.specs.declared.fault.ChainFault.TheVariants.{TooLong}
 use Rattle.vb_core.specs.declared.kinds.Kind.TheVariants.{Inflate, Statistics}
 use Rattle.vb_core.specs.declared.device.Denial.TheVariants.{NoQueue, BadArgument, NotReady, NeedsReset, Misplaced, Broken}
-use Rattle.vb_monitor.specs.declared.regions.Spot.{Spot}
-use Rattle.vb_monitor.specs.declared.outcome.Tally.{Tally}
-use Rattle.vb_monitor.specs.declared.outcome.Outcome.{Outcome}
-use Rattle.vb_monitor.specs.declared.orders.Orders.{Orders}
+use Rattle.vb_monitor.specs.declared.{regions.Spot.Spot, outcome.Tally.Tally}
+use Rattle.vb_monitor.specs.declared.{outcome.Outcome.Outcome, orders.Orders.Orders}
 use Rattle.vb_monitor.specs.declared.orders.Told.TheVariants.{Nothing, Pages}
-use Rattle.vb_monitor.specs.declared.notice.Notice.{Notice}
-use Rattle.vb_monitor.specs.declared.step.Phase.{Phase}
-use Rattle.vb_monitor.specs.declared.step.Phase.TheVariants.{AwaitsIndex, AwaitsEntry, AwaitsDescriptor, AwaitsPart, Discards, AwaitsFlags, Ended}
-use Rattle.vb_c.specs.declared.notice.VbNotice.{VbNotice}
-use Rattle.vb_c.specs.Codes.{code_of_kind}
-use Rattle.vb_c.specs.Notices.{tally_of, phase_of, notice_of, end_code, end_rule, breaks, SaysEnd, Says, IsNotice, HasEnded}
-use Rattle.vb_c.specs.Serving.{held_by, held_then}
+use Rattle.vb_monitor.specs.declared.{notice.Notice.Notice, step.Phase.Phase}
+use Rattle.vb_monitor.specs.declared.step.Phase.TheVariants.{AwaitsIndex, AwaitsEntry}
+use Rattle.vb_monitor.specs.declared.step.Phase.TheVariants.{AwaitsDescriptor, AwaitsPart, Discards}
+use Rattle.vb_monitor.specs.declared.step.Phase.TheVariants.{AwaitsFlags, Ended}
+use Rattle.vb_c.specs.{declared.notice.VbNotice.VbNotice, Codes.code_of_kind, Notices.tally_of}
+use Rattle.vb_c.specs.Notices.{phase_of, notice_of, end_code, end_rule, breaks, SaysEnd, Says}
+use Rattle.vb_c.specs.{Notices.{IsNotice, HasEnded}, Serving.{held_by, held_then}}
 use Rattle.vb_c.proofs.Samples.{Same, balloon}
 
 abbrev spot : Spot
@@ -93,10 +91,8 @@ none_taken : tally_of (record notice { taken = 0; given = 1 }) ≡
 none_taken = refl
 
 abbrev at_index : Notice
-at_index = record {
-  kind = Inflate;
-  step = record { tally = tally_of notice; phase = AwaitsIndex spot };
-}
+at_index =
+    record { kind = Inflate; step = record { tally = tally_of notice; phase = AwaitsIndex spot } }
 
 a_notice : notice_of notice ≡ Some at_index
 a_notice = refl

@@ -1,10 +1,8 @@
 -- What the calls for features, the configuration space, reports and targets answer in C, worked out: each refusal, and what it leaves.
-use Rattle.std.proofs.Common.{◌≡◌, refl, ap, sym, ◌∙◌, arith, ℕ, List, [], ◌∷◌, length, Result, Ok, Err}
-use Rattle.vb_balance.specs.declared.need.NoTargets.{NoTargets}
+use Rattle.std.proofs.Common.{◌≡◌, refl, ap, ◌∙◌, arith, ℕ, List, [], ◌∷◌, Err}
 use Rattle.vb_balance.specs.declared.need.NoTargets.TheVariants.{OtherLength, Short}
-use Rattle.vb_core.specs.declared.device.Denial.TheVariants.{NotReady}
-use Rattle.vb_core.{specs.declared.device.Device.Device, specs.Devices.new_device}
-use Rattle.vb_core.specs.declared.settings.Settings.{Settings}
+use Rattle.vb_core.specs.declared.device.{Denial.TheVariants.NotReady, Device.Device}
+use Rattle.vb_core.specs.Devices.{new_device}
 use Rattle.vb_c.{specs.Answers.reported_of, specs.Registers.{Negotiates, WritesConfig}}
 use Rattle.vb_c.{specs.Chains.Reports, specs.Sharing.{SharesFor, targets_of}}
 use Rattle.vb_c.{specs.declared.answers.VbNamed.VbNamed, specs.declared.sharing.VbTargets.VbTargets}

@@ -29,9 +29,8 @@ ready = record begun { status = 15; inflate = placed 0 0x100 0x200 8; statistics
 
 -- pages 0 to 20, and, one page on, pages 22 to 31
 abbrev pub two : List Region
-two =
-    record { guest = 0; length = 0x15000; in_file = 0 } ∷ record { guest = 0x16000; length = 0xa000; in_file = 0x100000 }
-    ∷ []
+two = record { guest = 0; length = 0x15000; in_file = 0 }
+    ∷ record { guest = 0x16000; length = 0xa000; in_file = 0x100000 } ∷ []
 
 -- no region is half a page
 abbrev pub half : List Region

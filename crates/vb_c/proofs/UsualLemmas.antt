@@ -1,40 +1,32 @@
 -- Notices that go on as they mostly do.
 use Rattle.std.proofs.Common.{◌≡◌, ◌∙◌, ap, sym, subst, refl, arith, ℕ, ◌+◌, ◌≤◌, Bool, true, false}
-use Rattle.std.proofs.Common.{List, [], ◌++◌, map, take, Option, Some, None}
+use Rattle.std.proofs.Common.{List, ◌++◌, map, take, Option, Some, None}
 use Rattle.std.{specs.Prelude.{◌==◌, nat_le, if◌then◌else◌}, proofs.lemmas.Bool.Decides.nat_tests}
 use Rattle.vb_monitor.specs.declared.step.Phase.TheVariants.{AwaitsIndex, AwaitsEntry}
 use Rattle.vb_monitor.specs.declared.step.Phase.TheVariants.{AwaitsDescriptor, AwaitsPart, Discards}
-use Rattle.vb_monitor.specs.Machine.{Fits, stage, AheadAt, Awaited, whole, room_of}
-use Rattle.vb_monitor.specs.Machine.{outcome_at}
-use Rattle.vb_monitor.specs.declared.step.Phase.TheVariants.{AwaitsFlags, Ended}
-use Rattle.vb_monitor.specs.declared.orders.Told.TheVariants.{Nothing}
-use Rattle.vb_monitor.{specs.declared.orders.TheConstants.MAX_CUTS, specs.declared.step.Phase.Phase}
-use Rattle.vb_monitor.{specs.declared.room.TheConstants.MAX_BYTES, specs.Accesses.{Access, Discard}}
-use Rattle.vb_monitor.{specs.declared.balloon.Balloon.Balloon, specs.declared.regions.Region.Region}
-use Rattle.vb_monitor.{specs.declared.outcome.Outcome.Outcome, specs.declared.notice.Notice.Notice}
-use Rattle.vb_monitor.{specs.declared.outcome.Tally.Tally, specs.declared.orders.Asked.Asked}
-use Rattle.vb_core.{specs.declared.kinds.Kind.Kind, specs.declared.device.Device.Device}
+use Rattle.vb_monitor.specs.{declared.step.Phase.TheVariants.{AwaitsFlags, Ended}, Machine.Fits}
+use Rattle.vb_monitor.specs.Machine.{stage, AheadAt, Awaited, whole, room_of, outcome_at, Room}
+use Rattle.vb_monitor.specs.declared.orders.{Told.TheVariants.Nothing, TheConstants.MAX_CUTS}
+use Rattle.vb_monitor.specs.declared.{step.Phase.Phase, room.TheConstants.MAX_BYTES}
+use Rattle.vb_monitor.specs.{Accesses.{Access, Discard}, declared.balloon.Balloon.Balloon}
+use Rattle.vb_monitor.specs.declared.{regions.Region.Region, outcome.Outcome.Outcome}
+use Rattle.vb_monitor.specs.declared.{notice.Notice.Notice, outcome.Tally.Tally, orders.Asked.Asked}
+use Rattle.vb_monitor.{specs.declared.cuts.Cut.Cut, proofs.OrderLemmas.stage_waits}
+use Rattle.vb_core.specs.declared.{kinds.Kind.Kind, device.Device.Device, runs.Run.Run}
 use Rattle.vb_c.specs.Notices.{says_yes, tally_of, walk_of, place_of, part_of, discarding_of}
 use Rattle.vb_c.specs.Notices.{cut_of_notice, phase_of, notice_by, notice_of, Says, answer_bits}
 use Rattle.vb_c.{specs.declared.notice.VbNotice.VbNotice, specs.declared.notice.VbRoom.VbRoom}
 use Rattle.vb_c.{specs.Codes.{kind_of_code, why_of}, specs.Notices.what_of}
 use Rattle.vb_c.specs.Serving.{held_by, room_in, HandsOver, Begins, GoesOnBy}
-use Rattle.vb_core.specs.declared.runs.Run.{Run}
-use Rattle.vb_monitor.{specs.declared.cuts.Cut.Cut, specs.Machine.Room}
-use Rattle.vb_monitor.proofs.OrderLemmas.{stage_waits}
 
 -- the phase of this number
 abbrev phase_at : ℕ → VbNotice → Option Phase
 phase_at n c =
-    if n == 0
-    then Some (Ended (why_of c.code c.rule) (says_yes c.interrupt) (says_yes c.more))
-    else if n == 1 then Some (AwaitsIndex c.at)
-    else if n == 2 then Some (AwaitsEntry c.at)
-    else if n == 3 then Some (AwaitsDescriptor c.at (walk_of c))
-    else if n == 4 then part_of c
+    if n == 0 then Some (Ended (why_of c.code c.rule) (says_yes c.interrupt) (says_yes c.more))
+    else if n == 1 then Some (AwaitsIndex c.at) else if n == 2 then Some (AwaitsEntry c.at)
+    else if n == 3 then Some (AwaitsDescriptor c.at (walk_of c)) else if n == 4 then part_of c
     else if n == 5 then Some (AwaitsFlags c.at (why_of c.code c.rule) (says_yes c.more))
-    else if n == 6 then Some (Discards (cut_of_notice c) (discarding_of c))
-    else None
+    else if n == 6 then Some (Discards (cut_of_notice c) (discarding_of c)) else None
 
 pub awaits_index : (c : VbNotice) → c.phase ≡ 1 → phase_of c ≡ Some (AwaitsIndex c.at)
 awaits_index c e = ap (λ (n : ℕ). phase_at n c) e
@@ -48,8 +40,7 @@ awaits_descriptor c e = ap (λ (n : ℕ). phase_at n c) e
 
 pub awaits_flags : (c : VbNotice) → c.phase ≡ 5 → c.code ≡ 0 →
     phase_of c ≡ Some (AwaitsFlags c.at None (says_yes c.more))
-awaits_flags c e f =
-    ap (λ (n : ℕ). phase_at n c) e
+awaits_flags c e f = ap (λ (n : ℕ). phase_at n c) e
     ∙ ap (λ (n : ℕ). Some (AwaitsFlags c.at (why_of n c.rule) (says_yes c.more))) f
 
 part_fits : (c : VbNotice) → c.into + c.length ≤ MAX_BYTES →
@@ -58,15 +49,13 @@ part_fits c h = grind (arith, nat_tests)
 
 pub awaits_part : (c : VbNotice) → c.phase ≡ 4 → c.into + c.length ≤ MAX_BYTES →
     phase_of c ≡ Some (AwaitsPart c.at (place_of c))
-awaits_part c e h =
-    ap (λ (n : ℕ). phase_at n c) e
+awaits_part c e h = ap (λ (n : ℕ). phase_at n c) e
     ∙ ap (λ (b : Bool). if b then Some (AwaitsPart c.at (place_of c)) else None) (part_fits c h)
 
 pub says_notice : (kind : Kind) (p : Phase) (t : Tally) (c : VbNotice) →
     kind_of_code c.kind ≡ Some kind → phase_of c ≡ Some p → tally_of c ≡ t →
     notice_of c ≡ Some (record { kind = kind; step = record { tally = t; phase = p } })
-says_notice kind p t c k e f =
-    ap (λ (x : Option Kind). notice_by x (phase_of c) (tally_of c)) k
+says_notice kind p t c k e f = ap (λ (x : Option Kind). notice_by x (phase_of c) (tally_of c)) k
     ∙ (ap (λ (x : Option Phase). notice_by (Some kind) x (tally_of c)) e
     ∙ ap (λ (x : Tally). notice_by (Some kind) (Some p) x) f)
 
@@ -84,12 +73,10 @@ no_part_left q e f = let x : 3 ≡ 1 = sym e ∙ f in omega (arith, x)
 
 -- what hands a notice over that does nothing before it waits
 hands_nothing : (kind : Kind) (q : Phase) (t : Tally) (regions : List Region) (runs : List Run)
-    (cuts : List Cut) (b : Balloon) (c : VbNotice) →
-    kind_of_code c.kind ≡ Some kind → phase_of c ≡ Some q → tally_of c ≡ t → Says c t q →
-    c.what ≡ answer_bits q → c.orders.cuts ≡ 0 → stage q ≡ 3 → Fits q →
-    held_by (outcome_at q t) kind b ≡ b.held →
-    HandsOver (record { kind = kind; step = record { tally = t; phase = q } }) regions runs b b
-    cuts c
+    (cuts : List Cut) (b : Balloon) (c : VbNotice) → kind_of_code c.kind ≡ Some kind
+    → phase_of c ≡ Some q → tally_of c ≡ t → Says c t q → c.what ≡ answer_bits q → c.orders.cuts ≡ 0
+    → stage q ≡ 3 → Fits q → held_by (outcome_at q t) kind b ≡ b.held → HandsOver
+    (record { kind = kind; step = record { tally = t; phase = q } }) regions runs b b cuts c
 hands_nothing kind q t regions runs cuts b c k e f says what none late fits over = record {
   asked = nothing;
   notice = record { kind = kind; step = record { tally = t; phase = q } };
@@ -111,17 +98,16 @@ hands_nothing kind q t regions runs cuts b c k e f says what none late fits over
 
 -- where nothing is done before the notice waits, and nothing changes but what it says, and the room
 pub goes_usual : (kind : Kind) (p q : Phase) (s t : Tally) (regions : List Region) (answer : ℕ)
-    (b : Balloon) (r1 r2 : VbRoom) (c1 c2 : VbNotice) →
-    kind_of_code c1.kind ≡ Some kind → phase_of c1 ≡ Some p → tally_of c1 ≡ s →
-    kind_of_code c2.kind ≡ Some kind → phase_of c2 ≡ Some q → tally_of c2 ≡ t →
-    Says c2 t q → c2.what ≡ answer_bits q → c2.orders.cuts ≡ 0 → stage q ≡ 3 → Fits q →
-    held_by (outcome_at q t) kind b ≡ b.held →
-    ((after : Device) (outcome : Outcome) (before : List ℕ) (done rest : List Access) →
+    (b : Balloon) (r1 r2 : VbRoom) (c1 c2 : VbNotice) → kind_of_code c1.kind ≡ Some kind
+    → phase_of c1 ≡ Some p → tally_of c1 ≡ s → kind_of_code c2.kind ≡ Some kind
+    → phase_of c2 ≡ Some q → tally_of c2 ≡ t → Says c2 t q → c2.what ≡ answer_bits q
+    → c2.orders.cuts ≡ 0 → stage q ≡ 3 → Fits q → held_by (outcome_at q t) kind b ≡ b.held
+    → ((after : Device) (outcome : Outcome) (before : List ℕ) (done rest : List Access) →
     Awaited p kind answer before (room_in r1) done →
     AheadAt q (whole regions kind after outcome) t b.device (room_in r2) rest →
     AheadAt p (whole regions kind after outcome) s b.device
-    (room_of r1.pieces before r1.runs r1.figures) (done ++ rest)) →
-    GoesOnBy (notice_of c1) regions answer b b r1 r2 c2
+    (room_of r1.pieces before r1.runs r1.figures) (done ++ rest))
+    → GoesOnBy (notice_of c1) regions answer b b r1 r2 c2
 goes_usual kind p q s t regions answer b r1 r2 c1 c2 k1 e1 f1 k2 e2 f2 says what none late fits
     over step =
     let n : Notice = record { kind = kind; step = record { tally = s; phase = p } } in
@@ -138,13 +124,12 @@ goes_usual kind p q s t regions answer b r1 r2 c1 c2 k1 e1 f1 k2 e2 f2 says what
 
 -- a notice that begins so
 pub begins_usual : (from : Device → Outcome → List Access → Type 0) (kind : Kind) (q : Phase)
-    (t : Tally) (regions : List Region) (b : Balloon) (r : VbRoom) (c : VbNotice) →
-    kind_of_code c.kind ≡ Some kind → phase_of c ≡ Some q → tally_of c ≡ t → Says c t q →
-    c.what ≡ answer_bits q → c.orders.cuts ≡ 0 → stage q ≡ 3 → Fits q →
-    held_by (outcome_at q t) kind b ≡ b.held →
-    ((after : Device) (outcome : Outcome) (room : Room) (log : List Access) →
-    AheadAt q (whole regions kind after outcome) t b.device room log → from after outcome log) →
-    Begins from regions kind b b r r c
+    (t : Tally) (regions : List Region) (b : Balloon) (r : VbRoom) (c : VbNotice)
+    → kind_of_code c.kind ≡ Some kind → phase_of c ≡ Some q → tally_of c ≡ t → Says c t q → c.what
+    ≡ answer_bits q → c.orders.cuts ≡ 0 → stage q ≡ 3 → Fits q → held_by (outcome_at q t) kind b
+    ≡ b.held → ((after : Device) (outcome : Outcome) (room : Room) (log : List Access) →
+    AheadAt q (whole regions kind after outcome) t b.device room log → from after outcome log)
+    → Begins from regions kind b b r r c
 begins_usual from kind q t regions b r c k e f says what none late fits over step = record {
   first = record { kind = kind; step = record { tally = t; phase = q } };
   device = b.device;

@@ -1,11 +1,10 @@
 -- What is done to ask for new statistics, worked out, and what isn't.
 use Rattle.std.proofs.Common.{◌≡◌, ◌⊎◌, refl, ap, arith, inl, inr, ℕ, List, [], ◌∷◌, ◌++◌, Option, Some, None}
 use Rattle.vb_core.specs.Rings.{used_entry}
-use Rattle.vb_monitor.specs.declared.regions.Spot.{Spot}
-use Rattle.vb_monitor.specs.Accesses.{Access, ReadWord, Full, Release, WriteNumber, WriteWord}
-use Rattle.vb_monitor.specs.Giving.{used_accesses}
-use Rattle.vb_monitor.specs.Asking.{AsksForFlags, GivesHeldAlone}
-use Rattle.vb_monitor.proofs.Samples.{Same, two, at, ready, index, descriptor, id, used_length, used_index, flags}
+use Rattle.vb_monitor.specs.{declared.regions.Spot.Spot, Accesses.{Access, ReadWord, Full, Release}}
+use Rattle.vb_monitor.specs.{Accesses.{WriteNumber, WriteWord}, Giving.used_accesses}
+use Rattle.vb_monitor.{specs.Asking.{AsksForFlags, GivesHeldAlone}, proofs.Samples.{Same, two, at}}
+use Rattle.vb_monitor.proofs.Samples.{ready, index, descriptor, id, used_length, used_index, flags}
 
 -- the buffer of head 3 is given back, and then the driver asked whether it wants an interrupt
 flags_read : AsksForFlags two ready (Full ∷ flags ∷ [])
@@ -103,14 +102,13 @@ fifth xs = None
 
 given_twice : GivesHeldAlone two 3 ready (id ∷ used_length ∷ Release ∷ used_index ∷ id ∷ []) → ⊥
 given_twice (inl e) = absurd cc
-given_twice (inr h) = behind h.rest h.asks h.then_flags
-  where
-    behind : (rest : List Access) → id ∷ used_length ∷ Release ∷ used_index ∷ id ∷ [] ≡
-        used_accesses h.spots (used_entry ready.statistics 3) ++ rest →
-        (rest ≡ []) ⊎ AsksForFlags two ready rest → ⊥
-    behind [] e f = absurd cc
-    behind (x ∷ xs) e (inl f) = absurd cc
-    behind (x ∷ xs) e (inr f) =
-        let same : Some id ≡ Some x = ap fifth e in
-        let asks = f.asks in
-        absurd cc
+given_twice (inr h) = behind h.rest h.asks h.then_flags where
+  behind : (rest : List Access) → id ∷ used_length ∷ Release ∷ used_index ∷ id ∷ [] ≡
+      used_accesses h.spots (used_entry ready.statistics 3) ++ rest →
+      (rest ≡ []) ⊎ AsksForFlags two ready rest → ⊥
+  behind [] e f = absurd cc
+  behind (x ∷ xs) e (inl f) = absurd cc
+  behind (x ∷ xs) e (inr f) =
+      let same : Some id ≡ Some x = ap fifth e in
+      let asks = f.asks in
+      absurd cc

@@ -1,17 +1,14 @@
 -- What is done to ask for new statistics.
-use Rattle.std.proofs.Common.{◌≡◌, ◌∙◌, ◌⊎◌, inl, inr, sym, subst, refl, arith, ℕ, ◌+◌, ◌≤◌, Bool}
-use Rattle.std.proofs.Common.{true, false, List, [], ◌∷◌, ◌++◌, length, Option, Some, None}
-use Rattle.vb_core.{specs.declared.kinds.Kind.TheVariants.Statistics, specs.Rings.used_entry}
-use Rattle.vb_core.{specs.declared.ring.UsedEntry.UsedEntry, specs.declared.device.Denial.Denial}
-use Rattle.vb_core.{specs.declared.device.Device.Device, specs.Using.use_denial}
-use Rattle.vb_monitor.specs.Giving.{Then, used_spots, used_accesses, UsedAt, GivesBackBy}
-use Rattle.vb_monitor.{specs.Asking.{AsksForFlags, GivesHeld, GivesHeldAlone}, specs.Regions.spot}
-use Rattle.vb_monitor.{specs.declared.giving.UsedSpots.UsedSpots, specs.declared.regions.Spot.Spot}
-use Rattle.vb_monitor.{specs.Ends.{Whole, Stops, Ends, FlagsAt}, specs.declared.outcome.Tally.Tally}
-use Rattle.vb_monitor.specs.Accesses.{Access, ReadWord, Full}
-use Rattle.vb_monitor.specs.Notices.{AsksStatistics, AfterGiven, fresh}
-use Rattle.vb_monitor.{specs.declared.outcome.Outcome.Outcome, specs.declared.regions.Region.Region}
-use Rattle.vb_monitor.{specs.declared.outcome.Budget.Budget, specs.Giving.{with_given, after_use}}
+use Rattle.std.proofs.Common.{◌≡◌, ◌⊎◌, inl, inr, sym, subst, refl, arith, ℕ, ◌≤◌}
+use Rattle.std.proofs.Common.{false, List, [], ◌∷◌, length, Option, Some, None}
+use Rattle.vb_core.specs.{Rings.used_entry, Using.use_denial, declared.device.Denial.Denial}
+use Rattle.vb_core.specs.declared.{device.Device.Device, kinds.Kind.TheVariants.Statistics}
+use Rattle.vb_monitor.specs.{Accesses.{Access, ReadWord, Full}, Asking.AsksForFlags}
+use Rattle.vb_monitor.specs.{Asking.GivesHeldAlone, Ends.{Whole, Stops, FlagsAt}, Giving.Then}
+use Rattle.vb_monitor.specs.Giving.{used_spots, UsedAt, GivesBackBy, with_given, after_use}
+use Rattle.vb_monitor.specs.{Notices.{AsksStatistics, AfterGiven, fresh}, Regions.spot}
+use Rattle.vb_monitor.specs.declared.{giving.UsedSpots.UsedSpots, outcome.Outcome.Outcome}
+use Rattle.vb_monitor.specs.declared.{outcome.Tally.Tally, regions.Region.Region, regions.Spot.Spot}
 
 -- what is asked of statistics
 abbrev whole : List Region → Device → Outcome → Whole
@@ -29,32 +26,29 @@ flags : (regions : List Region) (d1 d2 : Device) (outcome : Outcome) (t : Tally)
     FlagsAt (whole regions d2 outcome) (after_use Statistics d1) t None false o log →
     (log ≡ []) ⊎ AsksForFlags regions d1 log
 flags regions d1 d2 outcome t None log e h = inl h.nothing
-flags regions d1 d2 outcome t (Some at) log e h =
-    inr (record {
-      at = at;
-      flags = h.flags;
-      place = e;
-      asks = subst (λ (l : List Access). log ≡ Full ∷ ReadWord at h.flags ∷ l) h.then_stops.nothing
-          h.asks;
-    })
+flags regions d1 d2 outcome t (Some at) log e h = inr (record {
+  at = at;
+  flags = h.flags;
+  place = e;
+  asks = subst (λ (l : List Access). log ≡ Full ∷ ReadWord at h.flags ∷ l) h.then_stops.nothing
+      h.asks;
+})
 
 used : (regions : List Region) (head : ℕ) (d1 d2 : Device) (outcome : Outcome)
-    (o : Option UsedSpots) (log : List Access) →
-    used_spots regions (used_entry d1.statistics head) ≡ o →
-    UsedAt (whole regions d2 outcome)
+    (o : Option UsedSpots) (log : List Access)
+    → used_spots regions (used_entry d1.statistics head) ≡ o → UsedAt (whole regions d2 outcome)
     (then_ends (whole regions d2 outcome) (after_use Statistics d1) (with_given none_yet))
-    (after_use Statistics d1) none_yet (used_entry d1.statistics head) o log →
-    GivesHeldAlone regions head d1 log
+    (after_use Statistics d1) none_yet (used_entry d1.statistics head) o log
+    → GivesHeldAlone regions head d1 log
 used regions head d1 d2 outcome None log e h = inl h.nothing
-used regions head d1 d2 outcome (Some spots) log e h =
-    inr (record {
-      spots = spots;
-      rest = h.rest;
-      place = e;
-      asks = h.asks;
-      then_flags = flags regions d1 d2 outcome (with_given none_yet)
-          (spot regions d1.statistics.avail 2) h.rest refl h.goes_on;
-    })
+used regions head d1 d2 outcome (Some spots) log e h = inr (record {
+  spots = spots;
+  rest = h.rest;
+  place = e;
+  asks = h.asks;
+  then_flags = flags regions d1 d2 outcome (with_given none_yet)
+      (spot regions d1.statistics.avail 2) h.rest refl h.goes_on;
+})
 
 gives : (regions : List Region) (head : ℕ) (d1 d2 : Device) (outcome : Outcome)
     (denial : Option Denial) (log : List Access) →

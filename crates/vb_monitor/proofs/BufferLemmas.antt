@@ -1,16 +1,14 @@
 -- Lists of buffers, and of the pieces that they say.
 use Rattle.std.proofs.Common.{◌≡◌, ◌∙◌, ap, sym, subst, refl, ℕ, ◌+◌, ◌<◌, ◌≤◌, Bool, false, true}
 use Rattle.std.proofs.Common.{List, [], ◌∷◌, ◌++◌, length, map, take, drop, get_or, slice_set}
-use Rattle.std.specs.Prelude.{◌||◌, not, ◌==◌, sum_by, fold}
-use Rattle.std.specs.List.{list_any}
+use Rattle.std.specs.{Prelude.{◌||◌, not, ◌==◌, sum_by, fold}, List.list_any}
 use Rattle.std.proofs.lemmas.List.{length-map, get_or-map, map-append, take_more, take_more_set}
 use Rattle.vb_core.specs.declared.next.ChainPiece.{ChainPiece}
 use Rattle.vb_chain.specs.declared.pieces.Piece.{Piece}
 use Rattle.vb_request.specs.Request.{total_length}
 use Rattle.vb_monitor.specs.Pieces.{piece_in, pieces_in, first_part, second_part, all_parts}
-use Rattle.vb_monitor.specs.Machine.{behind_part}
-use Rattle.vb_monitor.proofs.PartLemmas.{part_here, part_on, part_end, second_here, second_none}
-use Rattle.vb_monitor.proofs.PartLemmas.{behind_end}
+use Rattle.vb_monitor.{specs.Machine.behind_part, proofs.PartLemmas.{part_here, part_on, part_end}}
+use Rattle.vb_monitor.proofs.PartLemmas.{second_here, second_none, behind_end}
 
 -- ---- all of them
 
@@ -27,9 +25,8 @@ pub join_in : (bs : List ChainPiece) (b : ChainPiece) →
 unfolding pieces_in
 join_in bs b = map-append piece_in bs (b ∷ [])
 
-pub any_in : (bs : List ChainPiece) →
-    list_any (λ (p : Piece). p.writable) (pieces_in bs) ≡
-    list_any (λ (b : ChainPiece). not (b.writable == 0)) bs
+pub any_in : (bs : List ChainPiece) → list_any (λ (p : Piece). p.writable) (pieces_in bs)
+    ≡ list_any (λ (b : ChainPiece). not (b.writable == 0)) bs
 unfolding pieces_in
 any_in [] = refl
 any_in (b ∷ bs) = ap (λ (x : Bool). not (b.writable == 0) || x) (any_in bs)
@@ -61,15 +58,13 @@ more_in bs n le = subst (λ (m : ℕ). m ≤ n) (sym (length_in bs)) le
 pub here_in : (bs : List ChainPiece) (n : ℕ) (d : ChainPiece) → n < length bs → 0 < (get_or bs n d).length →
     all_parts (drop n (pieces_in bs)) ≡
     first_part (piece_in (get_or bs n d)) ∷ behind_part false n (pieces_in bs)
-here_in bs n d lt =
-    subst (λ (p : Piece). 0 < p.len → all_parts (drop n (pieces_in bs)) ≡
+here_in bs n d lt = subst (λ (p : Piece). 0 < p.len → all_parts (drop n (pieces_in bs)) ≡
     first_part p ∷ behind_part false n (pieces_in bs)) (get_in bs n d lt)
     (part_here (pieces_in bs) n (piece_in d) (less_in bs n lt))
 
 pub on_in : (bs : List ChainPiece) (n : ℕ) (d : ChainPiece) → n < length bs → (get_or bs n d).length ≡ 0 →
     all_parts (drop n (pieces_in bs)) ≡ all_parts (drop (n + 1) (pieces_in bs))
-on_in bs n d lt =
-    subst (λ (p : Piece). p.len ≡ 0 → all_parts (drop n (pieces_in bs)) ≡
+on_in bs n d lt = subst (λ (p : Piece). p.len ≡ 0 → all_parts (drop n (pieces_in bs)) ≡
     all_parts (drop (n + 1) (pieces_in bs))) (get_in bs n d lt)
     (part_on (pieces_in bs) n (piece_in d) (less_in bs n lt))
 
@@ -78,10 +73,9 @@ end_in bs n le = part_end (pieces_in bs) n (more_in bs n le)
 
 -- ---- the second part of a piece
 
-pub second_in : (bs : List ChainPiece) (n : ℕ) (d : ChainPiece) → n < length bs →
-    0 < (second_part (piece_in (get_or bs n d))).length →
-    behind_part false n (pieces_in bs) ≡
-    second_part (piece_in (get_or bs n d)) ∷ behind_part true n (pieces_in bs)
+pub second_in : (bs : List ChainPiece) (n : ℕ) (d : ChainPiece) → n < length bs
+    → 0 < (second_part (piece_in (get_or bs n d))).length → behind_part false n (pieces_in bs)
+    ≡ second_part (piece_in (get_or bs n d)) ∷ behind_part true n (pieces_in bs)
 second_in bs n d lt =
     subst (λ (p : Piece). 0 < (second_part p).length → behind_part false n (pieces_in bs) ≡
     second_part p ∷ behind_part true n (pieces_in bs)) (get_in bs n d lt)
@@ -105,15 +99,13 @@ pub ruleset part_steps = (here_in, on_in, end_in)
 
 pub join_at : (bs : List ChainPiece) (k : ℕ) (b : ChainPiece) (p : Piece) → k < length bs → piece_in b ≡ p →
     pieces_in (take (k + 1) (slice_set bs k b)) ≡ pieces_in (take k bs) ++ p ∷ []
-join_at bs k b p lt e =
-    ap (λ (l : List ChainPiece). pieces_in l) (take_more_set bs k b lt)
+join_at bs k b p lt e = ap (λ (l : List ChainPiece). pieces_in l) (take_more_set bs k b lt)
     ∙ (join_in (take k bs) b ∙ ap (λ (q : Piece). pieces_in (take k bs) ++ q ∷ []) e)
 
 pub push_in : (bs : List ChainPiece) (k : ℕ) (d : ChainPiece) (items more : List Piece) (p : Piece) →
     k < length bs → items ≡ pieces_in (take k bs) → p ≡ piece_in (get_or bs k d) →
     more ≡ items ++ p ∷ [] → more ≡ pieces_in (take (k + 1) bs)
-push_in bs k d items more p lt e f g =
-    g ∙ (ap (λ (l : List Piece). l ++ p ∷ []) e
+push_in bs k d items more p lt e f g = g ∙ (ap (λ (l : List Piece). l ++ p ∷ []) e
     ∙ (ap (λ (q : Piece). pieces_in (take k bs) ++ q ∷ []) f
     ∙ (sym (join_in (take k bs) (get_or bs k d))
     ∙ ap (λ (l : List ChainPiece). pieces_in l) (sym (take_more bs k d lt)))))

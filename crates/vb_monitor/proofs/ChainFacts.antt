@@ -4,8 +4,7 @@ use Rattle.vb_chain.specs.declared.descriptor.Descriptor.{Descriptor}
 use Rattle.vb_chain.specs.declared.pieces.Piece.{Piece}
 use Rattle.vb_chain.specs.declared.fault.ChainFault.TheVariants.{BadNext, TooLong, Indirect, WrongDirection, OutOfRam, BadLength}
 use Rattle.vb_core.specs.declared.kinds.Kind.TheVariants.{Inflate, Deflate}
-use Rattle.vb_core.specs.declared.device.Denial.TheVariants.{Broken}
-use Rattle.vb_core.specs.declared.device.Device.{Device}
+use Rattle.vb_core.specs.declared.device.{Denial.TheVariants.Broken, Device.Device}
 use Rattle.vb_monitor.specs.declared.parts.Part.{Part}
 use Rattle.vb_monitor.specs.declared.outcome.Outcome.{Outcome}
 use Rattle.vb_monitor.specs.Accesses.{Access, ReadWord, CopyBytes, Full}
@@ -243,9 +242,7 @@ copied_bytes xs = 0
 
 in_one_copy : CopiesParts (whole ready (ends_so false false)) Four ready tally over_an_end []
     (CopyBytes (at 4095) (9 ∷ 8 ∷ 7 ∷ []) ∷ []) → ⊥
-in_one_copy h =
-    let e : Same 3 (length h.bytes) = ap copied_bytes h.asks in
-    omega (arith, e, h.long)
+in_one_copy h = let e : Same 3 (length h.bytes) = ap copied_bytes h.asks in omega (arith, e, h.long)
 
 -- a part in a hole breaks the rule of memory's end
 in_the_hole : CopiesParts (whole (record ready { status = 79 })

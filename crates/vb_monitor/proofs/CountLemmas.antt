@@ -1,34 +1,30 @@
 -- How many accesses a notice makes beside its discards.
-use Rattle.std.proofs.Common.{◌≡◌, ◌∙◌, ap, sym, subst, refl, arith, ℕ, zero, suc, ◌+◌, ◌*◌, ◌≤◌}
-use Rattle.std.proofs.Common.{Bool, true, false, List, [], ◌∷◌, ◌++◌, length, map, Option, Some}
-use Rattle.std.proofs.Common.{None, Result, Ok, Err}
-use Rattle.std.specs.Prelude.{◌==◌, nat_lt, if◌then◌else◌, min}
-use Rattle.vb_chain.{specs.declared.pieces.Piece.Piece, specs.declared.fault.ChainFault.ChainFault}
-use Rattle.vb_chain.specs.declared.descriptor.Descriptor.{Descriptor}
-use Rattle.vb_chain.specs.Rules.{has_next, is_writable, piece_of}
+use Rattle.std.proofs.Common.{◌≡◌, ap, sym, subst, refl, arith, ℕ, zero, suc, ◌+◌, ◌*◌, ◌≤◌, Bool}
+use Rattle.std.proofs.Common.{true, false, List, [], ◌∷◌, ◌++◌, length, map, Option, Some, None}
+use Rattle.std.{proofs.Common.{Result, Ok, Err}, specs.Prelude.{◌==◌, nat_lt, if◌then◌else◌}}
+use Rattle.vb_chain.specs.declared.{pieces.Piece.Piece, fault.ChainFault.ChainFault}
+use Rattle.vb_chain.specs.{declared.descriptor.Descriptor.Descriptor, Rules.{has_next, piece_of}}
 use Rattle.vb_request.{specs.Request.request_length, specs.Statistics.statistics_length}
-use Rattle.vb_core.{specs.declared.kinds.Kind.Kind, specs.declared.runs.Run.Run}
+use Rattle.vb_core.specs.{Config.keeps_reports, Devices.{ring_of, queue_denial}, Rings.used_entry}
+use Rattle.vb_core.specs.{Statistics.statistics_denial, Using.use_denial}
+use Rattle.vb_core.specs.declared.{device.Denial.Denial, device.Device.Device, kinds.Kind.Kind}
 use Rattle.vb_core.specs.declared.kinds.Kind.TheVariants.{Inflate, Deflate, Statistics, Report}
-use Rattle.vb_core.{specs.declared.name.Named.Named, specs.declared.ring.Virtqueue.Virtqueue}
-use Rattle.vb_core.{specs.declared.ring.UsedEntry.UsedEntry, specs.declared.device.Denial.Denial}
-use Rattle.vb_core.{specs.declared.device.Device.Device, specs.Rings.used_entry}
-use Rattle.vb_core.{specs.Devices.{ring_of, queue_denial}, specs.Using.use_denial}
-use Rattle.vb_core.{specs.Config.keeps_reports, specs.Statistics.statistics_denial}
-use Rattle.vb_monitor.specs.Giving.{Then, three_spots, UsedAt, GivesBack, GivesBackBy, with_given}
-use Rattle.vb_monitor.specs.Pieces.{first_part, second_part, unless_empty, parts_of, PartAt, PartBy}
-use Rattle.vb_monitor.specs.Chains.{FiguresBy, AfterBytes, CopiesBy, ServesPieces, GoesOn}
-use Rattle.vb_monitor.specs.Chains.{DescriptorBy, DescriptorAt, Follows, table_fault, descriptor_of}
-use Rattle.vb_monitor.specs.Notices.{HeadBy, EntryAt, entry_offset, stands, AfterIndex, IndexAt}
-use Rattle.vb_monitor.specs.Notices.{LooksBy, AfterGiven, TakesUnlessSpent, TakesNext, Looks}
-use Rattle.vb_monitor.specs.Giving.{after_use, cuts_for, TellsThen, AfterName}
-use Rattle.vb_monitor.{specs.Regions.{spot, meets, cut_of, cuts_from, cuts_of}, specs.Counts.others}
-use Rattle.vb_monitor.specs.Pieces.{fits_behind, CopiesParts, all_parts}
-use Rattle.vb_monitor.{specs.declared.room.TheConstants.MAX_FIGURES, specs.declared.parts.Part.Part}
-use Rattle.vb_monitor.{specs.Ends.{Whole, Ends, EndsWhere, FlagsAt}, specs.declared.cuts.Cut.Cut}
-use Rattle.vb_monitor.{specs.Notices.{with_chains, Serves, fresh}, specs.declared.regions.Spot.Spot}
-use Rattle.vb_monitor.{specs.declared.outcome.Outcome.Outcome, specs.declared.regions.Region.Region}
-use Rattle.vb_monitor.{specs.Chains.{descriptors, memory_end}, specs.declared.outcome.Budget.Budget}
-use Rattle.vb_monitor.{specs.declared.outcome.Tally.Tally, specs.Accesses.{Access, Discard}}
+use Rattle.vb_core.specs.declared.{name.Named.Named, ring.UsedEntry.UsedEntry}
+use Rattle.vb_core.specs.declared.{ring.Virtqueue.Virtqueue, runs.Run.Run}
+use Rattle.vb_monitor.specs.{Accesses.{Access, Discard}, Chains.{FiguresBy, AfterBytes, CopiesBy}}
+use Rattle.vb_monitor.specs.Chains.{ServesPieces, GoesOn, DescriptorBy, DescriptorAt, Follows}
+use Rattle.vb_monitor.specs.Chains.{table_fault, descriptor_of, descriptors, memory_end}
+use Rattle.vb_monitor.specs.{Counts.others, Ends.{Whole, Ends, EndsWhere, FlagsAt}, Giving.Then}
+use Rattle.vb_monitor.specs.Giving.{three_spots, UsedAt, GivesBack, GivesBackBy, with_given}
+use Rattle.vb_monitor.specs.{Giving.{after_use, cuts_for, TellsThen, AfterName}, Notices.HeadBy}
+use Rattle.vb_monitor.specs.Notices.{EntryAt, entry_offset, stands, AfterIndex, IndexAt, LooksBy}
+use Rattle.vb_monitor.specs.Notices.{AfterGiven, TakesUnlessSpent, TakesNext, with_chains, Serves}
+use Rattle.vb_monitor.specs.{Notices.fresh, Pieces.{first_part, second_part, unless_empty}}
+use Rattle.vb_monitor.specs.Pieces.{parts_of, PartAt, PartBy, fits_behind, CopiesParts, all_parts}
+use Rattle.vb_monitor.specs.Regions.{spot, meets, cut_of, cuts_from, cuts_of}
+use Rattle.vb_monitor.specs.declared.{cuts.Cut.Cut, outcome.Budget.Budget, outcome.Outcome.Outcome}
+use Rattle.vb_monitor.specs.declared.{outcome.Tally.Tally, parts.Part.Part, regions.Region.Region}
+use Rattle.vb_monitor.specs.declared.{regions.Spot.Spot, room.TheConstants.MAX_FIGURES}
 
 abbrev Few : ℕ → List Access → Type 0
 Few m log = others log ≤ m
@@ -66,8 +62,7 @@ used_at : (m : ℕ) (w : Whole) (next : List Access → Type 0)
     (on : (rest : List Access) → next rest → Few m rest) (d : Device) (t : Tally) (e : UsedEntry)
     (id len index : Option Spot) (log : List Access) →
     UsedAt w next d t e (three_spots id len index) log → Few (4 + m) log
-used_at m w next on d t e None len index log h =
-    ends (4 + m) w _ t _ false log (omega arith) h
+used_at m w next on d t e None len index log h = ends (4 + m) w _ t _ false log (omega arith) h
 used_at m w next on d t e (Some id) None index log h =
     ends (4 + m) w _ t _ false log (omega arith) h
 used_at m w next on d t e (Some id) (Some len) None log h =
@@ -80,8 +75,7 @@ gives_by : (m : ℕ) (w : Whole) (next : Then) (on : After m next) (d : Device) 
     (head : ℕ) (denial : Option Denial) (log : List Access) →
     GivesBackBy denial w next d t head log → Few (4 + m) log
 gives_by m w next on d t head (Some why) log h = ends (4 + m) w d t _ false log (omega arith) h
-gives_by m w next on d t head None log h =
-    used_at m w (next (after_use w.kind d) (with_given t))
+gives_by m w next on d t head None log h = used_at m w (next (after_use w.kind d) (with_given t))
     (λ rest more. on (after_use w.kind d) (with_given t) rest more) (after_use w.kind d) t
     (used_entry (ring_of w.kind d) head) _ _ _ log h
 
@@ -92,8 +86,7 @@ gives m w next on d t head log h = gives_by m w next on d t head (use_denial w.k
 cuts_few : (m : ℕ) (cuts : List Cut) (rest : List Access) → Few m rest →
     Few m (map Discard cuts ++ rest)
 cuts_few m [] rest h = h
-cuts_few m (cut ∷ cuts) rest h =
-    let few = cuts_few m cuts rest h in omega (arith, few)
+cuts_few m (cut ∷ cuts) rest h = let few = cuts_few m cuts rest h in omega (arith, few)
 
 tells : (m : ℕ) (w : Whole) (next : Then) (on : After m next) (d : Device) (t : Tally) (head : ℕ)
     (runs : List Run) (named : Named) (log : List Access) →
@@ -155,8 +148,7 @@ part_by m w go on d t part so_far false log le h =
 copies : (m : ℕ) (w : Whole) (served : List ℕ → List Access → Type 0) (on : Served m served)
     (d : Device) (t : Tally) (parts : List Part) (so_far : List ℕ) (log : List Access) → 2 ≤ m →
     CopiesParts w served d t parts so_far log → Few (length parts + m) log
-copies m w served on d t [] so_far log le h =
-    let few = on so_far log h in omega (arith, few)
+copies m w served on d t [] so_far log le h = let few = on so_far log h in omega (arith, few)
 copies m w served on d t (part ∷ parts) so_far log le h =
     let few = part_by (length parts + m) w (CopiesParts w served d t parts)
     (λ bytes rest more. copies m w served on d t parts bytes rest le more) d t part so_far
@@ -207,8 +199,7 @@ pieces_few m w Deflate next on d t head pieces log h =
     copies_by m w next on d t head pieces (request_length pieces) log h
 pieces_few m w Statistics next on d t head pieces log h =
     copies_by m w next on d t head pieces (statistics_length pieces) log h
-pieces_few m w Report next on d t head pieces log h =
-    more_room (5 + m) (2 * length pieces) log
+pieces_few m w Report next on d t head pieces log h = more_room (5 + m) (2 * length pieces) log
     (names m w next on h.device t head h.runs h.answer log h.goes_on)
 
 -- ---- the walk
@@ -222,9 +213,8 @@ Last m done =
     (ps : List Piece) (rest : List Access) → done ps rest → Few (2 * length ps + (5 + m)) rest
 
 abbrev More : ℕ → ℕ → (ℕ → Bool → List Piece → List Access → Type 0) → Type 0
-More n m on =
-    (number : ℕ) (writing : Bool) (ps : List Piece) (rest : List Access) →
-    on number writing ps rest → Few (walk_room n (length ps) m) rest
+More n m on = (number : ℕ) (writing : Bool) (ps : List Piece) (rest : List Access)
+    → on number writing ps rest → Few (walk_room n (length ps) m) rest
 
 one_more : (ps : List Piece) (p : Piece) → length (ps ++ p ∷ []) ≡ suc (length ps)
 one_more [] p = refl
@@ -272,10 +262,9 @@ follows : (n m : ℕ) (w : Whole) (d : Device) (t : Tally) (done : List Piece �
     Follows n w d t done number writing pieces log → Few (walk_room n (length pieces) m) log
 follows zero m w d t done last number writing pieces log h =
     ends (walk_room zero (length pieces) m) w _ t _ false log (omega arith) h
-follows (suc n) m w d t done last number writing pieces log h =
-    descriptor_at n m w d t (Follows n w d t done) done
-    (λ k wr ps rest go. follows n m w d t done last k wr ps rest go) last writing pieces
-    (spot w.regions ((ring_of w.kind d).table + 16 * number) 16) log h
+follows (suc n) m w d t done last number writing pieces log h = descriptor_at n m w d t
+    (Follows n w d t done) done (λ k wr ps rest go. follows n m w d t done last k wr ps rest go)
+    last writing pieces (spot w.regions ((ring_of w.kind d).table + 16 * number) 16) log h
 
 -- ---- a look
 
@@ -284,8 +273,7 @@ a_table : (r : Virtqueue) → descriptors r ≤ 256
 a_table r = grind arith
 
 head_few : (m : ℕ) (w : Whole) (next : Then) (on : After m next) (d : Device) (t : Tally)
-    (head : ℕ) (is : Bool) (log : List Access) → HeadBy is w next d t head log →
-    Few (773 + m) log
+    (head : ℕ) (is : Bool) (log : List Access) → HeadBy is w next d t head log → Few (773 + m) log
 head_few m w next on d t head false log h = ends (773 + m) w _ t _ false log (omega arith) h
 head_few m w next on d t head true log h =
     let few = follows (descriptors (ring_of w.kind d)) m w d t
@@ -304,11 +292,9 @@ entry_few m w next on d t (Some at) log h =
     asked (775 + m) log _ h.asks (omega (arith, few))
 
 unless_spent : (m : ℕ) (w : Whole) (next : Then) (on : After m next) (d : Device) (t : Tally)
-    (spent : Bool) (log : List Access) → TakesUnlessSpent spent w next d t log →
-    Few (775 + m) log
+    (spent : Bool) (log : List Access) → TakesUnlessSpent spent w next d t log → Few (775 + m) log
 unless_spent m w next on d t true log h = ends (775 + m) w d t _ true log (omega arith) h
-unless_spent m w next on d t false log h =
-    entry_few m w next on d t
+unless_spent m w next on d t false log h = entry_few m w next on d t
     (spot w.regions ((ring_of w.kind d).avail + entry_offset (ring_of w.kind d)) 2) log h
 
 abbrev Taken : ℕ → (List Access → Type 0) → Type 0
@@ -324,8 +310,7 @@ index_by m w takes on d t (Ok true) log le h = on log h
 index_at : (m : ℕ) (w : Whole) (takes : List Access → Type 0) (on : Taken m takes) (d : Device)
     (t : Tally) (o : Option Spot) (log : List Access) → 2 ≤ m → IndexAt w takes d t o log →
     Few (1 + m) log
-index_at m w takes on d t None log le h =
-    ends (1 + m) w _ t _ false log (omega (arith, le)) h
+index_at m w takes on d t None log le h = ends (1 + m) w _ t _ false log (omega (arith, le)) h
 index_at m w takes on d t (Some at) log le h =
     let few = index_by m w takes on d t (stands (ring_of w.kind d) h.index) h.rest le h.goes_on in
     asked (1 + m) log _ h.asks (omega (arith, few))
@@ -333,8 +318,7 @@ index_at m w takes on d t (Some at) log le h =
 looks_by : (m : ℕ) (w : Whole) (takes : List Access → Type 0) (on : Taken m takes) (d : Device)
     (t : Tally) (denial : Option Denial) (log : List Access) → 2 ≤ m →
     LooksBy denial w takes d t log → Few (1 + m) log
-looks_by m w takes on d t (Some why) log le h =
-    ends (1 + m) w d t _ false log (omega (arith, le)) h
+looks_by m w takes on d t (Some why) log le h = ends (1 + m) w d t _ false log (omega (arith, le)) h
 looks_by m w takes on d t None log le h =
     index_at m w takes on d t (spot w.regions ((ring_of w.kind d).avail + 2) 2) log le h
 
@@ -350,8 +334,7 @@ takes zero w d t log h = ends (2 + 776 * zero) w d t _ true log (omega arith) h
 takes (suc n) w d t log h =
     let few = unless_spent (1 + (2 + 776 * n)) w
     (AfterGiven w.kind w (λ d2 t2 rest. LooksBy (queue_denial w.kind d2) w (TakesNext n w d2 t2)
-    d2 t2 rest))
-    (given (1 + (2 + 776 * n)) w w.kind
+    d2 t2 rest)) (given (1 + (2 + 776 * n)) w w.kind
     (λ d2 t2 rest. LooksBy (queue_denial w.kind d2) w (TakesNext n w d2 t2) d2 t2 rest)
     (λ d2 t2 rest more. looks_by (2 + 776 * n) w (TakesNext n w d2 t2)
     (λ rest2 go. takes n w d2 t2 rest2 go) d2 t2 (queue_denial w.kind d2) rest (omega arith)
@@ -381,9 +364,8 @@ part_of_run r n run cuts k false h = omega (arith, h)
 
 parts_of_run : (rs : List Region) (n : ℕ) (run : Run) → length (cuts_from n rs run) ≤ length rs
 parts_of_run [] n run = omega arith
-parts_of_run (r ∷ rs) n run =
-    part_of_run r n run (cuts_from (n + 1) rs run) (length rs) (meets r run)
-    (parts_of_run rs (n + 1) run)
+parts_of_run (r ∷ rs) n run = part_of_run r n run
+    (cuts_from (n + 1) rs run) (length rs) (meets r run) (parts_of_run rs (n + 1) run)
 
 one_run_more : (r k a b : ℕ) → a ≤ r → b ≤ k * r → a + b ≤ suc k * r
 one_run_more r k a b h i = grind (arith)

@@ -1,13 +1,11 @@
 -- What comes behind what, at the end of a chain: told, discarded, given back, or refused.
-use Rattle.std.proofs.Common.{◌≡◌, sym, subst, refl, ℕ, ◌+◌, ◌*◌, Bool, true, false, List, [], ◌∷◌}
-use Rattle.std.proofs.Common.{◌++◌, length, map, Option, Some, None, Result, Ok, Err}
-use Rattle.std.specs.Prelude.{◌==◌}
-use Rattle.vb_core.{specs.declared.kinds.Kind.Kind, specs.declared.runs.Run.Run}
+use Rattle.std.proofs.Common.{◌≡◌, sym, subst, refl, ℕ, ◌+◌, Bool, true, false, List, [], ◌∷◌, ◌++◌}
+use Rattle.std.proofs.Common.{length, map, Option, Some, None, Result, Ok, Err}
+use Rattle.vb_core.specs.{Config.keeps_reports, Devices.ring_of, Rings.used_entry, Using.use_denial}
+use Rattle.vb_core.specs.declared.{device.Denial.Denial, device.Device.Device, kinds.Kind.Kind}
 use Rattle.vb_core.specs.declared.kinds.Kind.TheVariants.{Inflate, Deflate, Statistics, Report}
-use Rattle.vb_core.{specs.declared.name.Named.Named, specs.declared.ring.UsedEntry.UsedEntry}
-use Rattle.vb_core.{specs.declared.statistics.Statistic.Statistic, specs.Devices.ring_of}
-use Rattle.vb_core.{specs.declared.device.Denial.Denial, specs.declared.device.Device.Device}
-use Rattle.vb_core.{specs.Rings.used_entry, specs.Using.use_denial, specs.Config.keeps_reports}
+use Rattle.vb_core.specs.declared.{name.Named.Named, ring.UsedEntry.UsedEntry, runs.Run.Run}
+use Rattle.vb_core.specs.declared.statistics.Statistic.{Statistic}
 use Rattle.vb_monitor.specs.Accesses.{Access, ReadWord, CopyBytes, Acquire, Release, Full}
 use Rattle.vb_monitor.specs.Giving.{Then, three_spots, UsedAt, GivesBack, GivesBackBy, with_given}
 use Rattle.vb_monitor.{specs.declared.regions.Spot.Spot, specs.declared.cuts.Cut.Cut}
@@ -58,9 +56,8 @@ flags_row w may allows a (Some at) d t why more b log e h =
 ends_where : (w : Whole) (may : Option Access → Access → Type 0) (allows : Allows w may) (given : Bool) (d : Device) (t : Tally) (why : Option Denial) (more : Bool)
     (b : Option Access) (log : List Access) → EndsWhere given w d t why more log → Row may b log
 ends_where w may allows false d t why more b log h = none_left may b log h.nothing
-ends_where w may allows true d t why more b log h =
-    flags_row w may allows (ring_of w.kind d).avail (spot w.regions (ring_of w.kind d).avail 2) d t
-    why more b log refl h
+ends_where w may allows true d t why more b log h = flags_row w may allows
+    (ring_of w.kind d).avail (spot w.regions (ring_of w.kind d).avail 2) d t why more b log refl h
 
 pub ends_row : (w : Whole) (may : Option Access → Access → Type 0) (allows : Allows w may) (d : Device) (t : Tally) (why : Option Denial) (more : Bool)
     (b : Option Access) (log : List Access) → Ends w d t why more log → Row may b log

@@ -1,10 +1,8 @@
 -- How a chain is given back, and what comes before, worked out, and what isn't done.
 use Rattle.std.proofs.Common.{◌≡◌, refl, ap, arith, ℕ, true, false, List, [], ◌∷◌, map, Some, None, Ok, Err}
-use Rattle.vb_core.specs.declared.kinds.Kind.{Kind}
-use Rattle.vb_core.specs.declared.name.Named.{Named}
+use Rattle.vb_core.specs.declared.{kinds.Kind.Kind, name.Named.Named}
 use Rattle.vb_core.specs.declared.kinds.Kind.TheVariants.{Inflate, Deflate, Statistics, Report}
-use Rattle.vb_core.specs.declared.device.Denial.TheVariants.{BadArgument}
-use Rattle.vb_core.specs.Rings.{used_entry}
+use Rattle.vb_core.specs.{declared.device.Denial.TheVariants.BadArgument, Rings.used_entry}
 use Rattle.vb_core.specs.Devices.{ring_of}
 use Rattle.vb_monitor.specs.declared.cuts.Cut.{Cut}
 use Rattle.vb_monitor.specs.declared.giving.UsedSpots.{UsedSpots}

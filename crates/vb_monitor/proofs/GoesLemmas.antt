@@ -14,11 +14,8 @@ use Rattle.vb_monitor.specs.Machine.{Goes, Room, Ahead, AheadAt, whole, outcome_
 
 pub goes_none : (log : List Access) (at : Device → Outcome → List Access → Type 0) →
     Goes log log at at
-goes_none log at = record {
-  added = [];
-  whole = sym (append-nil log);
-  is = λ after outcome rest h. h;
-}
+goes_none log at =
+    record { added = []; whole = sym (append-nil log); is = λ after outcome rest h. h }
 
 pub goes_more : (l0 l1 l2 : List Access) (f0 f1 f2 : Device → Outcome → List Access → Type 0) →
     Goes l0 l1 f0 f1 → Goes l1 l2 f1 f2 → Goes l0 l2 f0 f2
@@ -26,8 +23,7 @@ goes_more l0 l1 l2 f0 f1 f2 first second = record {
   added = first.added ++ second.added;
   whole = second.whole ∙ (ap (λ (l : List Access). l ++ second.added) first.whole
       ∙ append_assoc l0 first.added second.added);
-  is = λ after outcome rest h.
-      subst (λ (l : List Access). f0 after outcome l)
+  is = λ after outcome rest h. subst (λ (l : List Access). f0 after outcome l)
       (sym (append_assoc first.added second.added rest))
       (first.is after outcome (second.added ++ rest) (second.is after outcome rest h));
 }
@@ -64,8 +60,7 @@ pub all_served : (o : Option Outcome) (l0 l1 : List Access) (regions : List Regi
     Goes l0 l1 f0 (λ after outcome log. Ahead (whole regions kind after outcome) step d room log) →
     IfSome o (λ out. Adds l0 l1 (f0 d out))
 all_served None l0 l1 regions kind f0 step d room e goes = tt
-all_served (Some out) l0 l1 regions kind f0 step d room e goes =
-    goes_all l0 l1 f0
+all_served (Some out) l0 l1 regions kind f0 step d room e goes = goes_all l0 l1 f0
     (λ after outcome log. Ahead (whole regions kind after outcome) step d room log) d out goes
     (over_at step.phase step.tally regions kind d out room e)
 

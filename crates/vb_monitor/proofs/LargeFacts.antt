@@ -2,8 +2,7 @@
 use Rattle.std.proofs.Common.{◌≡◌, ◌⊎◌, refl, sym, subst, arith, ℕ, ◌+◌, ◌<◌, ◌≤◌, Bool, true}
 use Rattle.std.{proofs.Common.{false, List, [], ◌∷◌, map, inl, inr}, specs.Prelude.◌||◌}
 use Rattle.std.proofs.lemmas.Bool.{cases_order}
-use Rattle.vb_core.{specs.declared.device.Device.Device, specs.Devices.new_device}
-use Rattle.vb_core.specs.Ballooned.{is_ballooned}
+use Rattle.vb_core.specs.{declared.device.Device.Device, Devices.new_device, Ballooned.is_ballooned}
 use Rattle.vb_monitor.specs.Large.{is_page_size, is_made_of, is_part_of, is_of_large, is_of}
 use Rattle.vb_monitor.specs.Large.{outside, counted, Goes, all_wait, LargeBy}
 use Rattle.vb_monitor.{specs.declared.large.TheConstants.LARGEST_PAGE, specs.declared.cuts.Cut.Cut}
@@ -35,9 +34,8 @@ made_of = refl
 
 -- it isn't one page of 128 KiB; nor is one of whole pages that begins, ends or stands elsewhere
 not_made_of : is_made_of 0x20000 region ∷ is_made_of 0x4000 (record region { guest = 0x12000 })
-    ∷ is_made_of 0x4000 (record region { length = 0xf000 })
-    ∷ is_made_of 0x4000 (record region { in_file = 0x21000 }) ∷ []
-    ≡ false ∷ false ∷ false ∷ false ∷ []
+    ∷ is_made_of 0x4000 (record region { length = 0xf000 }) ∷ is_made_of 0x4000
+    (record region { in_file = 0x21000 }) ∷ [] ≡ false ∷ false ∷ false ∷ false ∷ []
 not_made_of = refl
 
 abbrev part : ℕ → ℕ → Cut
@@ -84,10 +82,8 @@ counts_not = refl
 
 -- ---- all of a part waits
 
-waits : all_wait (part 0x5000 0x2000) ≡ record {
-  cut = record { region = 3; offset = 0; in_file = 0; length = 0 };
-  waiting = 2;
-}
+waits : all_wait (part 0x5000 0x2000)
+    ≡ record { cut = record { region = 3; offset = 0; in_file = 0; length = 0 }; waiting = 2 }
 waits = refl
 
 -- ---- what goes: pages 20 and 21 are given up, and 22 and 23 are in the balloon, or aren't
@@ -113,16 +109,13 @@ four : (f : ℕ → Bool) → f 20 ≡ true → f 21 ≡ true → f 22 ≡ true 
     20 ≤ p → p < 24 → f p ≡ true
 four f a b c d p from to = elim (cases_order p 20) [
   | inl e ↦ subst (λ (k : ℕ). f k ≡ true) (sym e) a
-  | inr x ↦
-      elim (cases_order p 21) [
-        | inl e ↦ subst (λ (k : ℕ). f k ≡ true) (sym e) b
-        | inr y ↦
-            elim (cases_order p 22) [
-              | inl e ↦ subst (λ (k : ℕ). f k ≡ true) (sym e) c
-              | inr z ↦
-                  let e : p ≡ 23 = last p from to x y z in subst (λ (k : ℕ). f k ≡ true) (sym e) d
-            ]
-      ]
+  | inr x ↦ elim (cases_order p 21) [
+    | inl e ↦ subst (λ (k : ℕ). f k ≡ true) (sym e) b
+    | inr y ↦ elim (cases_order p 22) [
+      | inl e ↦ subst (λ (k : ℕ). f k ≡ true) (sym e) c
+      | inr z ↦ let e : p ≡ 23 = last p from to x y z in subst (λ (k : ℕ). f k ≡ true) (sym e) d
+    ]
+  ]
 ]
 
 it_goes : Goes 0x4000 region half both 5

@@ -29,17 +29,14 @@ none_whole size r part = record {
 -- ---- of a row
 
 -- its first page, and the one behind its last
-row_first : (size : ℕ) (r : Region) (part : Cut) (set : List ℕ) (answer : Large) →
-    Fits size r part → (g : GoesBack size r part set answer) →
-    first_of r answer.cut ≡ small_pages size * g.low
+row_first : (size : ℕ) (r : Region) (part : Cut) (set : List ℕ) (answer : Large) → Fits size r part
+    → (g : GoesBack size r part set answer) → first_of r answer.cut ≡ small_pages size * g.low
 row_first size r part set answer f g =
     let is = scale size g.low f.whole in omega (arith, is, g.begins)
 
-row_end : (size : ℕ) (r : Region) (part : Cut) (set : List ℕ) (answer : Large) →
-    Fits size r part → (g : GoesBack size r part set answer) →
-    end_of_part r answer.cut ≡ small_pages size * g.high
-row_end size r part set answer f g =
-    let is = scale size g.high f.whole in omega (arith, is, g.ends)
+row_end : (size : ℕ) (r : Region) (part : Cut) (set : List ℕ) (answer : Large) → Fits size r part
+    → (g : GoesBack size r part set answer) → end_of_part r answer.cut ≡ small_pages size * g.high
+row_end size r part set answer f g = let is = scale size g.high f.whole in omega (arith, is, g.ends)
 
 small_positive : (size : ℕ) (r : Region) (part : Cut) → Fits size r part → 0 < small_pages size
 small_positive size r part f = omega (arith, f.least)
@@ -60,10 +57,9 @@ row_given size r part set answer f g p e =
     (omega (arith, says.1, end)) le in
     (g.row.go n low high).given p (between_is (small * n) (small * (n + 1)) p le lt)
 
-row_largest : (size : ℕ) (r : Region) (part : Cut) (set : List ℕ) (answer : Large) →
-    Fits size r part → (g : GoesBack size r part set answer) → (n : ℕ) →
-    Goes size r part set n → (p : ℕ) → is_of_large (small_pages size) n p ≡ true →
-    is_of r answer.cut p ≡ true
+row_largest : (size : ℕ) (r : Region) (part : Cut) (set : List ℕ) (answer : Large)
+    → Fits size r part → (g : GoesBack size r part set answer) → (n : ℕ) → Goes size r part set n
+    → (p : ℕ) → is_of_large (small_pages size) n p ≡ true → is_of r answer.cut p ≡ true
 row_largest size r part set answer f g n goes p there =
     let small = small_pages size in
     let says = between_says (small * n) (small * (n + 1)) p there in
@@ -97,15 +93,13 @@ row_whole size r part set answer may f g =
     let t_is : size * (r.in_file / size) ≡ r.in_file =
     let told = div-add-mod' r.in_file size in omega (arith, told, f.file) in
     let positive : 0 < size = omega (arith, f.least) in
-    let q_low : q ≤ g.low =
-    le_of_mul-le-mul_left {m = q} {n = g.low} {k = size} (omega (arith, q_is, lie.starts)) positive in
-    let offset : answer.cut.offset ≡ size * (g.low - q) =
-    by_sum size q (g.low - q) g.low answer.cut.offset (omega (arith, q_low))
-    (omega (arith, q_is, g.begins)) in
+    let q_low : q ≤ g.low = le_of_mul-le-mul_left {m = q} {n = g.low} {k = size}
+    (omega (arith, q_is, lie.starts)) positive in
+    let offset : answer.cut.offset ≡ size * (g.low - q) = by_sum size q
+    (g.low - q) g.low answer.cut.offset (omega (arith, q_low)) (omega (arith, q_is, g.begins)) in
     let some = g.row.some in
-    let long : answer.cut.length ≡ size * (g.high - g.low) =
-    by_sum size g.low (g.high - g.low) g.high answer.cut.length (omega (arith, some))
-    (omega (arith, g.begins, g.ends)) in
+    let long : answer.cut.length ≡ size * (g.high - g.low) = by_sum size g.low (g.high - g.low)
+    g.high answer.cut.length (omega (arith, some)) (omega (arith, g.begins, g.ends)) in
     let sum = split_up size (r.in_file / size) (g.low - q) in
     record {
       offset = times size (g.low - q) answer.cut.offset offset;
@@ -157,9 +151,8 @@ largest_by_test true size r part set answer may sure (inl g) n goes p there =
 largest_by_test true size r part set answer may sure (inr waits) n goes p there =
     absurd (waits.none n goes)
 
-pub largest : (size : ℕ) (r : Region) (part : Cut) (set : List ℕ) (answer : Large) →
-    LargeBy size r part set answer → may_go size r part ≡ true → (n : ℕ) →
-    Goes size r part set n → (p : ℕ) → is_of_large (small_pages size) n p ≡ true →
-    is_of r answer.cut p ≡ true
+pub largest : (size : ℕ) (r : Region) (part : Cut) (set : List ℕ) (answer : Large)
+    → LargeBy size r part set answer → may_go size r part ≡ true → (n : ℕ) → Goes size r part set n
+    → (p : ℕ) → is_of_large (small_pages size) n p ≡ true → is_of r answer.cut p ≡ true
 largest size r part set answer is may n goes p there =
     largest_by_test (may_go size r part) size r part set answer refl may is n goes p there

@@ -4,10 +4,8 @@ use Rattle.std.specs.Prelude.{not, ◌&&◌, ◌||◌, nat_le, nat_lt, count_by}
 use Rattle.std.specs.List.{range_with_len}
 use Rattle.std.proofs.Math.Nat.{mul-le-mul_left, mul-div-le, lt-mul-div-succ}
 use Rattle.std.proofs.lemmas.Bool.{cases_lt, and_parts, and_from, or_left, or_right, or_cases, le-leb, lt-ltb, leb-true, ltb-true, lt-leb, le-ltb}
-use Rattle.vb_model.specs.Tests.{one_if}
-use Rattle.vb_model.proofs.Tables.{count_by-cons}
+use Rattle.vb_model.{specs.Tests.one_if, proofs.Tables.count_by-cons, specs.Limits.page_size}
 use Rattle.vb_core.specs.Ballooned.{is_ballooned}
-use Rattle.vb_model.specs.Limits.{page_size}
 use Rattle.vb_monitor.specs.declared.regions.Region.{Region}
 use Rattle.vb_monitor.specs.declared.cuts.Cut.{Cut}
 use Rattle.vb_monitor.specs.Large.{is_between, is_of_large, AllGiven, GoesWith, Begins, Here, After, Stops, Behind, Before, RowGoes, NoneGoes, outside, may_go, small_pages, first_of, end_of_part, all_wait, LargeIf, LargeBy}
@@ -48,30 +46,23 @@ InSet set from end = (p : ℕ) → from ≤ p → p < end → is_ballooned set p
 pub all_given : (small first end n : ℕ) (set : List ℕ) → InSet set (small * n) first →
     InSet set end (small * (n + 1)) → AllGiven small first end set n
 all_given small first end n set before behind p there =
-    let says = between_says (small * n) (small * (n + 1)) p there in
-    elim (cases_lt p first) [
-      | inl l ↦
-          or_right (is_between first end p) (is_ballooned set p) (before p says.0 l)
-      | inr l ↦
-          elim (cases_lt p end) [
-            | inl m ↦
-                or_left (is_between first end p) (is_ballooned set p) (between_is first end p l m)
-            | inr m ↦
-                or_right (is_between first end p) (is_ballooned set p) (behind p m says.1)
-          ]
+    let says = between_says (small * n) (small * (n + 1)) p there in elim (cases_lt p first) [
+      | inl l ↦ or_right (is_between first end p) (is_ballooned set p) (before p says.0 l)
+      | inr l ↦ elim (cases_lt p end) [
+        | inl m ↦ or_left (is_between first end p) (is_ballooned set p) (between_is first end p l m)
+        | inr m ↦ or_right (is_between first end p) (is_ballooned set p) (behind p m says.1)
+      ]
     ]
 
 pub given_before : (small first end n : ℕ) (set : List ℕ) → first ≤ small * (n + 1) →
     AllGiven small first end set n → InSet set (small * n) first
-given_before small first end n set starts given p l m =
-    before_part first end p (is_ballooned set p) m
-    (given p (between_is (small * n) (small * (n + 1)) p l (omega (arith, m, starts))))
+given_before small first end n set starts given p l m = before_part first end p (is_ballooned set p)
+    m (given p (between_is (small * n) (small * (n + 1)) p l (omega (arith, m, starts))))
 
 pub given_behind : (small first end n : ℕ) (set : List ℕ) → small * n ≤ end →
     AllGiven small first end set n → InSet set end (small * (n + 1))
-given_behind small first end n set stops given p l m =
-    behind_part first end p (is_ballooned set p) l
-    (given p (between_is (small * n) (small * (n + 1)) p (omega (arith, l, stops)) m))
+given_behind small first end n set stops given p l m = behind_part first end p (is_ballooned set p)
+    l (given p (between_is (small * n) (small * (n + 1)) p (omega (arith, l, stops)) m))
 
 pub ruleset given_steps = (all_given, given_before, given_behind)
 
@@ -159,11 +150,10 @@ given_at : (small first end low last n : ℕ) (set : List ℕ) → Ends small fi
     low ≤ n → n ≤ last → (n ≡ low → AllGiven small first end set n) →
     (n ≡ last → AllGiven small first end set n) → AllGiven small first end set n
 given_at small first end low last n set is from to at_low at_last = elim (cases_lt low n) [
-  | inl l ↦
-      elim (cases_lt n last) [
-        | inl m ↦ middle small first end low last n set is l m
-        | inr m ↦ at_last (omega (arith, m, to))
-      ]
+  | inl l ↦ elim (cases_lt n last) [
+    | inl m ↦ middle small first end low last n set is l m
+    | inr m ↦ at_last (omega (arith, m, to))
+  ]
   | inr l ↦ at_low (omega (arith, l, from))
 ]
 
@@ -171,8 +161,7 @@ goes : (small first end low last n : ℕ) (set : List ℕ) → Ends small first 
     low ≤ n → n ≤ last → (n ≡ low → AllGiven small first end set n) →
     (n ≡ last → AllGiven small first end set n) → GoesWith small first end set n
 goes small first end low last n set is from to at_low at_last =
-    let found = page_of small first end low last n is from to in
-    record {
+    let found = page_of small first end low last n is from to in record {
       page = found.0;
       there = found.1.0;
       of_part = found.1.1;
@@ -268,13 +257,11 @@ out_by : (a b f : ℕ) → (f < a) ⊎ (b ≤ f) → is_between a b f ≡ false
 out_by a b f (inl l) = ap (λ (x : Bool). x && nat_lt f b) (lt-leb a f l)
 out_by a b f (inr l) = elim (cases_lt f a) [
   | inl m ↦ ap (λ (x : Bool). x && nat_lt f b) (lt-leb a f m)
-  | inr m ↦
-      ap (λ (x : Bool). x && nat_lt f b) (le-leb a f m) ∙ le-ltb f b l
+  | inr m ↦ ap (λ (x : Bool). x && nat_lt f b) (le-leb a f m) ∙ le-ltb f b l
 ]
 
-count_outside : (a b f c : ℕ) → a ≤ b →
-    count_by (λ p. not (is_between a b p)) (range_with_len f c) ≡
-    (min a (f + c) - f) + ((f + c) - max b f)
+count_outside : (a b f c : ℕ) → a ≤ b → count_by (λ p. not (is_between a b p)) (range_with_len f c)
+    ≡ (min a (f + c) - f) + ((f + c) - max b f)
 count_outside a b f zero l = omega arith
 count_outside a b f (suc c) l =
     let more = count_outside a b (f + 1) c l in
@@ -283,15 +270,14 @@ count_outside a b f (suc c) l =
       | inl m ↦
           let here = ap (λ (x : Bool). one_if (not x)) (out_by a b f (inl m)) in
           omega (arith, more, step, here, m, l)
-      | inr m ↦
-          elim (cases_lt f b) [
-            | inl k ↦
-                let here = ap (λ (x : Bool). one_if (not x)) (between_is a b f m k) in
-                omega (arith, more, step, here, m, k, l)
-            | inr k ↦
-                let here = ap (λ (x : Bool). one_if (not x)) (out_by a b f (inr k)) in
-                omega (arith, more, step, here, m, k, l)
-          ]
+      | inr m ↦ elim (cases_lt f b) [
+        | inl k ↦
+            let here = ap (λ (x : Bool). one_if (not x)) (between_is a b f m k) in
+            omega (arith, more, step, here, m, k, l)
+        | inr k ↦
+            let here = ap (λ (x : Bool). one_if (not x)) (out_by a b f (inr k)) in
+            omega (arith, more, step, here, m, k, l)
+      ]
     ]
 
 pub outside_is : (first end from behind : ℕ) → first ≤ end → from ≤ behind → from ≤ end →
@@ -393,10 +379,9 @@ lies_by size r part set low high q t f begins ends row =
       meets_first = omega (arith, last_page.1, last_part.0, top);
     }
 
-pub lies : (size : ℕ) (r : Region) (part : Cut) (set : List ℕ) (low high : ℕ) →
-    may_go size r part ≡ true →
-    RowGoes (small_pages size) (first_of r part) (end_of_part r part) set low high →
-    LiesIn size r (first_of r part) (end_of_part r part) low high
+pub lies : (size : ℕ) (r : Region) (part : Cut) (set : List ℕ) (low high : ℕ) → may_go size r part
+    ≡ true → RowGoes (small_pages size) (first_of r part) (end_of_part r part) set low high
+    → LiesIn size r (first_of r part) (end_of_part r part) low high
 lies size r part set low high e row =
     let f = fits size r part e in
     let q = div-add-mod' r.guest size in

@@ -3,8 +3,7 @@ use Rattle.std.proofs.Common.{◌≡◌, refl, ap, Bool, true, false, List, [], 
 use Rattle.std.proofs.Common.{Ok, Err}
 use Rattle.vb_chain.specs.declared.fault.ChainFault.TheVariants.{IndexJump, BadHead}
 use Rattle.vb_core.specs.declared.kinds.Kind.TheVariants.{Inflate, Deflate, Statistics, Report}
-use Rattle.vb_core.{specs.declared.device.Denial.Denial, specs.declared.device.Device.Device}
-use Rattle.vb_core.specs.declared.device.Denial.TheVariants.{Broken}
+use Rattle.vb_core.specs.declared.device.{Denial.Denial, Device.Device, Denial.TheVariants.Broken}
 use Rattle.vb_monitor.specs.Notices.{entry_offset, stands, AfterIndex, AfterGiven, TakesNext}
 use Rattle.vb_monitor.{proofs.Samples.{two, ring, ready, tally, index, pages}, specs.Giving.Then}
 use Rattle.vb_monitor.{specs.Notices.{with_chains, fresh, HeadBy}, specs.Accesses.{Access, Acquire}}

@@ -1,10 +1,8 @@
 -- What each phase of a notice does, comes to, and leaves, worked out.
 use Rattle.std.proofs.Common.{◌≡◌, refl, ap, arith, ℕ, ◌≤◌, true, false, List, [], ◌∷◌, map, length, Option, Some, None}
 use Rattle.vb_chain.specs.declared.pieces.Piece.{Piece}
-use Rattle.vb_core.specs.declared.kinds.Kind.TheVariants.{Inflate, Deflate}
-use Rattle.vb_core.specs.declared.runs.Run.{Run}
-use Rattle.vb_core.specs.declared.name.Named.{Named}
-use Rattle.vb_core.specs.declared.device.Denial.TheVariants.{NotReady}
+use Rattle.vb_core.specs.declared.{kinds.Kind.TheVariants.{Inflate, Deflate}, runs.Run.Run}
+use Rattle.vb_core.specs.declared.{name.Named.Named, device.Denial.TheVariants.NotReady}
 use Rattle.vb_core.specs.Rings.{used_entry}
 use Rattle.vb_monitor.specs.declared.parts.Part.{Part}
 use Rattle.vb_monitor.specs.declared.giving.UsedSpots.{UsedSpots}
@@ -58,8 +56,7 @@ waiting = refl
 abbrev outcome_of : Phase → Option Outcome
 outcome_of phase = outcome_at phase tally
 
-outcomes : map outcome_of phases ≡
-    None ∷ None ∷ None ∷ None ∷ None ∷ None ∷ None ∷ None ∷ None
+outcomes : map outcome_of phases ≡ None ∷ None ∷ None ∷ None ∷ None ∷ None ∷ None ∷ None ∷ None
     ∷ Some (record { tally = tally; why = None; interrupt = true; more = false }) ∷ []
 outcomes = refl
 

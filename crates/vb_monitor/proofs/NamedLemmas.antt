@@ -1,17 +1,15 @@
 -- What is told of pages and figures, where something is told.
-use Rattle.std.proofs.Common.{◌≡◌, ◌∙◌, ap, sym, subst, refl, ℕ, Bool, true, false, List, [], ◌∷◌}
+use Rattle.std.proofs.Common.{◌≡◌, ◌∙◌, ap, subst, refl, ℕ, List}
 use Rattle.std.proofs.Common.{◌+◌, length, map, take, Option, Some, None, Result, Ok, Err}
 use Rattle.vb_chain.{specs.declared.pieces.Piece.Piece, specs.declared.fault.ChainFault.ChainFault}
 use Rattle.vb_request.{specs.Request.numbers_of, specs.Report.report_request}
-use Rattle.vb_core.specs.declared.kinds.Kind.TheVariants.{Inflate, Deflate, Statistics, Report}
-use Rattle.vb_core.specs.Report.{NamesPiecesBy, pieces_denial, named_by, report_named, run_of}
-use Rattle.vb_core.specs.Name.{NamesBy, NamesRuns, fault_in, name_denial, after_request}
-use Rattle.vb_core.{specs.Devices.{ring_of, with_one_taken, needing_reset}, specs.Next.told}
-use Rattle.vb_core.specs.declared.device.Denial.TheVariants.{NoQueue}
-use Rattle.vb_core.specs.declared.ring.Virtqueue.{Virtqueue}
-use Rattle.vb_core.{specs.Settings.{memory_pages, skips}, specs.declared.device.Denial.Denial}
-use Rattle.vb_core.{specs.declared.device.Device.Device, specs.declared.name.Named.Named}
-use Rattle.vb_core.{specs.declared.kinds.Kind.Kind, specs.declared.runs.Run.Run}
+use Rattle.vb_core.specs.{Devices.{ring_of, with_one_taken}, Name.{NamesBy, NamesRuns, fault_in}}
+use Rattle.vb_core.specs.{Name.{name_denial, after_request}, Next.told, Report.NamesPiecesBy}
+use Rattle.vb_core.specs.Report.{pieces_denial, named_by, report_named, run_of}
+use Rattle.vb_core.specs.{Settings.{memory_pages, skips}, declared.device.Denial.Denial}
+use Rattle.vb_core.specs.declared.device.{Denial.TheVariants.NoQueue, Device.Device}
+use Rattle.vb_core.specs.declared.{kinds.Kind.Kind, kinds.Kind.TheVariants.Report, name.Named.Named}
+use Rattle.vb_core.specs.declared.{ring.Virtqueue.Virtqueue, runs.Run.Run}
 use Rattle.vb_monitor.specs.Turns.{TellNumbers, TellPieces}
 use Rattle.vb_monitor.proofs.TurnLemmas.{same_ring, taken_ring}
 
@@ -19,11 +17,9 @@ use Rattle.vb_monitor.proofs.TurnLemmas.{same_ring, taken_ring}
 
 answered_avail : (kind : Kind) (d d2 : Device) (answer : Result Named ChainFault) →
     d2 ≡ after_request kind answer d → (ring_of kind d2).avail ≡ (ring_of kind d).avail
-answered_avail kind d d2 (Ok named) e =
-    ap (λ (x : Device). (ring_of kind x).avail) e
+answered_avail kind d d2 (Ok named) e = ap (λ (x : Device). (ring_of kind x).avail) e
     ∙ ap (λ (r : Virtqueue). r.avail) (taken_ring kind d)
-answered_avail kind d d2 (Err fault) e =
-    ap (λ (x : Device). (ring_of kind x).avail) e
+answered_avail kind d d2 (Err fault) e = ap (λ (x : Device). (ring_of kind x).avail) e
     ∙ ap (λ (r : Virtqueue). r.avail) (same_ring kind d)
 
 avail_by : (kind : Kind) (bytes : List ℕ) (room : ℕ) (runs : List Run) (d d2 : Device)
@@ -69,14 +65,12 @@ sound_by : (bytes : List ℕ) (runs : List Run) (d : Device) (named : Named)
     NamesRuns (skips d.settings) d.settings.reserved_pages (memory_pages d.settings)
     (numbers_of bytes) runs (Ok named) → TellNumbers d.settings bytes (take named.runs runs) named
 sound_by bytes runs d named (Some fault) e h = let x = h.fault fault e in absurd cc
-sound_by bytes runs d named None e h =
-    let are = h.named e in
-    record {
-      sound = e;
-      tell = are.told_so;
-      pages = are.count;
-      skipped = ap (λ (n : ℕ). named.skipped + n) are.count ∙ are.others;
-    }
+sound_by bytes runs d named None e h = let are = h.named e in record {
+  sound = e;
+  tell = are.told_so;
+  pages = are.count;
+  skipped = ap (λ (n : ℕ). named.skipped + n) are.count ∙ are.others;
+}
 
 answered : (kind : Kind) (bytes : List ℕ) (runs : List Run) (d d2 : Device) (named : Named)
     (answer : Result Named ChainFault) →
@@ -84,18 +78,16 @@ answered : (kind : Kind) (bytes : List ℕ) (runs : List Run) (d d2 : Device) (n
     (numbers_of bytes) runs answer → Ok named ≡ told answer → d2 ≡ after_request kind answer d →
     Numbers kind bytes runs d d2 named
 answered kind bytes runs d d2 named (Err fault) h e after = absurd cc
-answered kind bytes runs d d2 named (Ok other) h e after =
-    let same : other ≡ named = cc in (
-      subst (λ (n : Named). TellNumbers d.settings bytes (take n.runs runs) n) same
-          (sound_by bytes runs d other _ refl h),
-      after,
-    )
+answered kind bytes runs d d2 named (Ok other) h e after = let same : other ≡ named = cc in (
+  subst (λ (n : Named). TellNumbers d.settings bytes (take n.runs runs) n) same
+      (sound_by bytes runs d other _ refl h),
+  after,
+)
 
 named_so : (kind : Kind) (bytes : List ℕ) (room : ℕ) (runs : List Run) (d d2 : Device)
     (named : Named) (denial : Option Denial) → name_denial kind (length bytes) room d ≡ denial →
     NamesBy kind bytes room runs d d2 (Ok named) → Numbers kind bytes runs d d2 named
-named_so kind bytes room runs d d2 named (Some why) e h =
-    let x = (h.denied why e).0 in absurd cc
+named_so kind bytes room runs d d2 named (Some why) e h = let x = (h.denied why e).0 in absurd cc
 named_so kind bytes room runs d d2 named None e h =
     let x = h.names e in answered kind bytes runs d d2 named x.0 x.1 x.2 x.3
 
@@ -116,12 +108,11 @@ abbrev pub Pieces : List Piece → List Run → Device → Device → Named → 
 Pieces pieces runs d d2 named =
     TellPieces d.settings pieces (take named.runs runs) named × (d2 ≡ with_one_taken Report d)
 
-pieces_answered : (pieces : List Piece) (room : ℕ) (runs : List Run) (d d2 : Device)
-    (named : Named) (request : Result (List ℕ) ChainFault) →
-    report_request pieces d.settings.reserved_pages ≡ request →
-    Ok named ≡ told (named_by (length pieces) request) →
-    d2 ≡ after_request Report (named_by (length pieces) request) d →
-    take (length pieces) runs ≡ map run_of pieces → Pieces pieces runs d d2 named
+pieces_answered : (pieces : List Piece) (room : ℕ) (runs : List Run) (d d2 : Device) (named : Named)
+    (request : Result (List ℕ) ChainFault) → report_request pieces d.settings.reserved_pages
+    ≡ request → Ok named ≡ told (named_by (length pieces) request)
+    → d2 ≡ after_request Report (named_by (length pieces) request) d
+    → take (length pieces) runs ≡ map run_of pieces → Pieces pieces runs d d2 named
 pieces_answered pieces room runs d d2 named (Err fault) is e after are = absurd cc
 pieces_answered pieces room runs d d2 named (Ok pages) is e after are =
     let so_many : named.runs ≡ length pieces = cc in (
@@ -139,13 +130,11 @@ pieces_so : (pieces : List Piece) (room : ℕ) (runs : List Run) (d d2 : Device)
     (denial : Option Denial) → pieces_denial pieces room d ≡ denial →
     NamesPiecesBy pieces room runs d d2 (Ok named) → Pieces pieces runs d d2 named
 pieces_so pieces room runs d d2 named (Some why) e h = let x = (h.denied why e).0 in absurd cc
-pieces_so pieces room runs d d2 named None e h =
-    pieces_answered pieces room runs d d2 named
+pieces_so pieces room runs d d2 named None e h = pieces_answered pieces room runs d d2 named
     (report_request pieces d.settings.reserved_pages) refl (h.answer e) (h.device e)
     (h.runs_are refl)
 
 pub named_pieces : (pieces : List Piece) (room : ℕ) (runs : List Run) (d d2 : Device)
-    (named : Named) → NamesPiecesBy pieces room runs d d2 (Ok named) →
-    Pieces pieces runs d d2 named
+    (named : Named) → NamesPiecesBy pieces room runs d d2 (Ok named) → Pieces pieces runs d d2 named
 named_pieces pieces room runs d d2 named h =
     pieces_so pieces room runs d d2 named (pieces_denial pieces room d) refl h

@@ -1,16 +1,13 @@
 -- What is still to come, where a number counts down or a list gets shorter.
-use Rattle.std.proofs.Common.{◌≡◌, ◌∙◌, ap, sym, subst, refl, arith, ℕ, zero, suc, ◌+◌, ◌-◌, ◌<◌}
-use Rattle.std.proofs.Common.{◌≤◌, ◌*◌, Bool, true, false, List, [], ◌∷◌, ◌++◌, Option, None}
-use Rattle.std.specs.Prelude.{◌==◌}
-use Rattle.vb_chain.specs.declared.pieces.Piece.{Piece}
-use Rattle.vb_chain.specs.declared.fault.ChainFault.TheVariants.{TooLong}
-use Rattle.vb_core.{specs.declared.device.Device.Device, specs.Devices.{ring_of, queue_denial}}
+use Rattle.std.proofs.Common.{◌≡◌, sym, subst, arith, ℕ, zero, suc, ◌+◌, ◌-◌, ◌<◌, ◌≤◌, ◌*◌, Bool}
+use Rattle.std.{proofs.Common.{true, false, List, [], ◌∷◌, None}, specs.Prelude.◌==◌}
+use Rattle.vb_chain.specs.declared.{pieces.Piece.Piece, fault.ChainFault.TheVariants.TooLong}
+use Rattle.vb_core.specs.{declared.device.Device.Device, Devices.ring_of}
 use Rattle.vb_monitor.specs.Notices.{TakesChain, TakesNext, TakesUnlessSpent, AfterGiven, Looks}
-use Rattle.vb_monitor.specs.Notices.{LooksBy}
-use Rattle.vb_monitor.{specs.declared.outcome.Tally.Tally, specs.declared.parts.Part.Part}
-use Rattle.vb_monitor.{specs.Accesses.Access, specs.Regions.spot, specs.Ends.{Whole, Ends, Breaks}}
-use Rattle.vb_monitor.{specs.Pieces.{PartBy, fits_behind, CopiesParts}, specs.Notices.with_chains}
-use Rattle.vb_monitor.{specs.Chains.{DescriptorAt, Follows}, specs.Machine.next_chain}
+use Rattle.vb_monitor.specs.{Notices.with_chains, declared.outcome.Tally.Tally}
+use Rattle.vb_monitor.specs.{declared.parts.Part.Part, Accesses.Access, Regions.spot, Ends.Whole}
+use Rattle.vb_monitor.specs.{Ends.{Ends, Breaks}, Pieces.{PartBy, fits_behind, CopiesParts}}
+use Rattle.vb_monitor.specs.{Chains.{DescriptorAt, Follows}, Machine.next_chain}
 use Rattle.vb_monitor.proofs.BufferLemmas.{second_in, no_second_in, behind_in}
 
 -- the budget, one chain less
@@ -30,9 +27,8 @@ takes_next n w d t log some e h =
     let is : suc (n - 1) ≡ n = omega (arith, some) in
     subst (λ (k : ℕ). TakesNext k w d t log) is (takes_by (n - 1) w d t log false e h)
 
-pub takes_spent : (n : ℕ) (w : Whole) (d : Device) (t : Tally) (log : List Access) → 0 < n →
-    (t.pages == 0) ≡ true → Ends w d (with_chains (n - 1) t) None true log →
-    TakesNext n w d t log
+pub takes_spent : (n : ℕ) (w : Whole) (d : Device) (t : Tally) (log : List Access) → 0 < n
+    → (t.pages == 0) ≡ true → Ends w d (with_chains (n - 1) t) None true log → TakesNext n w d t log
 takes_spent n w d t log some e h =
     let is : suc (n - 1) ≡ n = omega (arith, some) in
     subst (λ (k : ℕ). TakesNext k w d t log) is (takes_by (n - 1) w d t log true e h)
@@ -64,10 +60,9 @@ copies_none w served d t parts so_far log e h =
     subst (λ (ps : List Part). CopiesParts w served d t ps so_far log) (sym e) h
 
 pub copies_more : (w : Whole) (served : List ℕ → List Access → Type 0) (d : Device) (t : Tally)
-    (parts rest : List Part) (part : Part) (so_far : List ℕ) (log : List Access) →
-    parts ≡ part ∷ rest →
-    PartBy (fits_behind so_far part) w (CopiesParts w served d t rest) d t part so_far log →
-    CopiesParts w served d t parts so_far log
+    (parts rest : List Part) (part : Part) (so_far : List ℕ) (log : List Access) → parts ≡ part
+    ∷ rest → PartBy (fits_behind so_far part) w (CopiesParts w served d t rest) d t part so_far log
+    → CopiesParts w served d t parts so_far log
 copies_more w served d t parts rest part so_far log e h =
     subst (λ (ps : List Part). CopiesParts w served d t ps so_far log) (sym e) h
 

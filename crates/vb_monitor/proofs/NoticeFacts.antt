@@ -1,19 +1,15 @@
 -- What a notice makes of answers, worked out, and lists of accesses that it doesn't make.
-use Rattle.std.proofs.Common.{◌≡◌, refl, ap, sym, ◌∙◌, ℕ, true, false, List, [], ◌∷◌, ◌++◌, Option}
-use Rattle.std.proofs.Common.{Some, None, Ok, Err}
-use Rattle.vb_chain.specs.declared.descriptor.Descriptor.{Descriptor}
+use Rattle.std.proofs.Common.{◌≡◌, refl, ℕ, true, false, List, [], ◌∷◌, Option, Some, None, Ok, Err}
 use Rattle.vb_chain.specs.declared.fault.ChainFault.TheVariants.{IndexJump, TooLong, OutOfRam}
 use Rattle.vb_core.specs.declared.kinds.Kind.TheVariants.{Inflate, Statistics}
-use Rattle.vb_core.specs.declared.ring.Virtqueue.{Virtqueue}
-use Rattle.vb_core.specs.declared.ring.UsedEntry.{UsedEntry}
-use Rattle.vb_core.{specs.declared.device.Denial.Denial, specs.declared.device.Device.Device}
+use Rattle.vb_core.specs.declared.ring.{Virtqueue.Virtqueue, UsedEntry.UsedEntry}
+use Rattle.vb_core.specs.declared.device.{Denial.Denial, Device.Device}
 use Rattle.vb_core.specs.Devices.{new_device, placed}
-use Rattle.vb_monitor.{specs.declared.regions.Spot.Spot, specs.declared.giving.UsedSpots.UsedSpots}
-use Rattle.vb_monitor.{specs.declared.outcome.Tally.Tally, specs.declared.balloon.Balloon.Balloon}
-use Rattle.vb_monitor.specs.Accesses.{Access, ReadWord, CopyBytes, Acquire, Release, Full}
-use Rattle.vb_monitor.{specs.Accesses.{WriteNumber, WriteWord}, specs.Ends.{Whole, wants_interrupt}}
-use Rattle.vb_monitor.{specs.Ends.AsksFlags, specs.Giving.{Then, WritesUsed, spent}}
-use Rattle.vb_monitor.specs.Chains.{descriptor_of, table_fault, descriptors, AsksDescriptor}
+use Rattle.vb_monitor.specs.declared.{regions.Spot.Spot, giving.UsedSpots.UsedSpots}
+use Rattle.vb_monitor.specs.declared.{outcome.Tally.Tally, balloon.Balloon.Balloon}
+use Rattle.vb_monitor.specs.Accesses.{Access, ReadWord, Release, WriteNumber, WriteWord}
+use Rattle.vb_monitor.specs.{Ends.{Whole, wants_interrupt, AsksFlags}, Giving.{Then, WritesUsed}}
+use Rattle.vb_monitor.specs.{Giving.spent, Chains.{descriptor_of, table_fault, descriptors}}
 use Rattle.vb_monitor.specs.Notices.{entry_offset, stands, AsksEntry, AsksIndex}
 use Rattle.vb_monitor.specs.Balloons.{may_look, after_status, becomes_ready}
 

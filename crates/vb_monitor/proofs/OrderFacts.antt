@@ -1,14 +1,13 @@
 -- What is done at once, worked out, and what isn't.
-use Rattle.std.proofs.Common.{◌≡◌, ◌≤◌, refl, arith, ℕ, true, false, List, [], ◌∷◌, Some, None}
+use Rattle.std.proofs.Common.{◌≡◌, ◌≤◌, refl, arith, ℕ, true, false, List, [], ◌∷◌}
 use Rattle.vb_core.specs.declared.kinds.Kind.TheVariants.{Inflate, Statistics}
 use Rattle.vb_core.{specs.declared.runs.Run.Run, specs.declared.statistics.Statistic.Statistic}
 use Rattle.vb_monitor.specs.Accesses.{Access, ReadWord, TellPages, TellFigures, Discard}
-use Rattle.vb_monitor.{specs.declared.regions.Spot.Spot, specs.declared.cuts.Cut.Cut}
-use Rattle.vb_monitor.specs.declared.orders.Told.TheVariants.{Nothing, Pages, Figures}
-use Rattle.vb_monitor.{specs.declared.orders.Asked.Asked, specs.declared.orders.Orders.Orders}
-use Rattle.vb_monitor.{specs.declared.step.Phase.Phase, specs.Machine.{Awaited, Room, stage, waits}}
+use Rattle.vb_monitor.specs.{Accesses.{WriteNumber, WriteWord, Release}, declared.regions.Spot.Spot}
+use Rattle.vb_monitor.specs.declared.{cuts.Cut.Cut, orders.Told.TheVariants.{Nothing, Pages}}
+use Rattle.vb_monitor.specs.declared.orders.{Told.TheVariants.Figures, Asked.Asked, Orders.Orders}
+use Rattle.vb_monitor.specs.{declared.step.Phase.Phase, Machine.{Awaited, Room, waits}}
 use Rattle.vb_monitor.specs.declared.step.Phase.TheVariants.{AwaitsIndex, Discards}
-use Rattle.vb_monitor.specs.Accesses.{WriteNumber, WriteWord, Release}
 use Rattle.vb_monitor.specs.Orders.{at_once, HasRoom, FillsList}
 
 abbrev spot : ℕ → Spot
@@ -65,9 +64,8 @@ not_one_less : at_once (record { told = Nothing; gives = false }) Inflate orders
 not_one_less e = grind arith
 
 not_the_other_way : at_once (record { told = Nothing; gives = true }) Inflate
-    (record orders { cuts = 1 }) cuts runs figures [] ≡
-    WriteNumber (spot 8) 5 ∷ WriteNumber (spot 12) 0 ∷ Release ∷ WriteWord (spot 2) 7
-    ∷ Discard (cut 4096) ∷ [] → ⊥
+    (record orders { cuts = 1 }) cuts runs figures [] ≡ WriteNumber (spot 8) 5
+    ∷ WriteNumber (spot 12) 0 ∷ Release ∷ WriteWord (spot 2) 7 ∷ Discard (cut 4096) ∷ [] → ⊥
 not_the_other_way e = grind arith
 
 -- ---- what a notice waits for

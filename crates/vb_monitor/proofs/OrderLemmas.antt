@@ -3,14 +3,13 @@ use Rattle.std.proofs.Common.{◌≡◌, ◌∙◌, ap, sym, refl, arith, ℕ, �
 use Rattle.std.proofs.Common.{◌++◌, length, map, take, slice_set, Option, Some, None}
 use Rattle.std.proofs.lemmas.List.{append_assoc, map-append, take_more_set}
 use Rattle.vb_core.{specs.declared.device.Device.Device, specs.declared.runs.Run.Run}
+use Rattle.vb_monitor.specs.{Accesses.{Access, Discard}, Ends.Whole, Machine.{stage, waits}}
+use Rattle.vb_monitor.specs.{Orders.cuts_left, declared.cuts.Cut.Cut, declared.cuts.NextCut.NextCut}
+use Rattle.vb_monitor.specs.declared.{outcome.Tally.Tally, regions.Region.Region, step.Phase.Phase}
 use Rattle.vb_monitor.specs.declared.step.Phase.TheVariants.{AwaitsIndex, AwaitsEntry}
 use Rattle.vb_monitor.specs.declared.step.Phase.TheVariants.{AwaitsDescriptor, AwaitsPart}
 use Rattle.vb_monitor.specs.declared.step.Phase.TheVariants.{TellsPages, TellsFigures, Discards}
-use Rattle.vb_monitor.{specs.declared.cuts.Cut.Cut, specs.declared.cuts.NextCut.NextCut}
-use Rattle.vb_monitor.{specs.declared.regions.Region.Region, specs.declared.outcome.Tally.Tally}
-use Rattle.vb_monitor.{specs.declared.step.Phase.Phase, specs.Accesses.{Access, Discard}}
 use Rattle.vb_monitor.specs.declared.step.Phase.TheVariants.{GivesBack, AwaitsFlags, Ended}
-use Rattle.vb_monitor.{specs.Ends.Whole, specs.Machine.{stage, waits}, specs.Orders.cuts_left}
 use Rattle.vb_monitor.specs.Giving.{Then, DiscardsThen, GivesBack as GivesChainBack}
 
 pub stage_waits : (p : Phase) → stage p ≡ 3 → waits p ≡ true
@@ -39,8 +38,7 @@ one_more all cuts behind more count cut lt e f =
 
 asked : (all first left : List Cut) (log rest : List Access) → all ≡ first ++ left →
     log ≡ map Discard left ++ rest → map Discard first ++ log ≡ map Discard all ++ rest
-asked all first left log rest e f =
-    ap (λ (l : List Access). map Discard first ++ l) f
+asked all first left log rest e f = ap (λ (l : List Access). map Discard first ++ l) f
     ∙ (sym (append_assoc (map Discard first) (map Discard left) rest)
     ∙ (ap (λ (l : List Access). l ++ rest) (sym (map-append Discard first left))
     ∙ ap (λ (l : List Cut). map Discard l ++ rest) (sym e)))
@@ -48,8 +46,7 @@ asked all first left log rest e f =
 pub discards_all : (regions : List Region) (runs : List Run) (o : Option NextCut)
     (all first : List Cut) (w : Whole) (next : Then) (d : Device) (t : Tally) (head : ℕ)
     (log : List Access) → all ≡ first ++ cuts_left regions runs o → o ≡ None →
-    GivesChainBack w next d t head log →
-    DiscardsThen w next d t head all (map Discard first ++ log)
+    GivesChainBack w next d t head log → DiscardsThen w next d t head all (map Discard first ++ log)
 discards_all regions runs o all first w next d t head log e f h = record {
   rest = log;
   asks = asked all first [] log log

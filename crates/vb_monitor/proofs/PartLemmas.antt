@@ -1,11 +1,11 @@
 -- Parts of pieces, one piece after the other.
-use Rattle.std.proofs.Common.{◌≡◌, ◌∙◌, ap, sym, subst, refl, arith, ℕ, ◌+◌, ◌-◌, ◌<◌, ◌≤◌, ◌%◌}
+use Rattle.std.proofs.Common.{◌≡◌, ◌∙◌, ap, sym, arith, ℕ, ◌+◌, ◌-◌, ◌<◌, ◌≤◌}
 use Rattle.std.proofs.Common.{Bool, true, false, List, [], ◌∷◌, ◌++◌, length, drop, get_or}
 use Rattle.std.{specs.Prelude.{if◌then◌else◌, ◌==◌}, proofs.lemmas.List.{drop_more, drop_all}}
 use Rattle.std.proofs.lemmas.Bool.Decides.{nat_tests}
 use Rattle.vb_chain.specs.declared.pieces.Piece.{Piece}
-use Rattle.vb_monitor.{specs.declared.parts.Part.Part, specs.Machine.{seconds, behind_part}}
-use Rattle.vb_monitor.specs.Pieces.{first_part, second_part, unless_empty, parts_of, all_parts}
+use Rattle.vb_monitor.specs.Machine.{seconds, behind_part}
+use Rattle.vb_monitor.specs.Pieces.{first_part, second_part, unless_empty, all_parts}
 
 some_first : (p : Piece) → 0 < p.len → ((first_part p).length == 0) ≡ false
 some_first p h = grind (arith, nat_tests)
@@ -57,8 +57,7 @@ second_here ps n d lt h =
     (is_some (second_part p).length h)
 
 pub second_none : (ps : List Piece) (n : ℕ) (d : Piece) → n < length ps →
-    (second_part (get_or ps n d)).length ≡ 0 →
-    behind_part false n ps ≡ all_parts (drop (n + 1) ps)
+    (second_part (get_or ps n d)).length ≡ 0 → behind_part false n ps ≡ all_parts (drop (n + 1) ps)
 second_none ps n d lt h =
     let p = get_or ps n d in
     ap (λ (l : List Piece). seconds l ++ all_parts (drop (n + 1) ps)) (drop_more ps n d lt)
@@ -67,6 +66,5 @@ second_none ps n d lt h =
 
 pub behind_end : (b : Bool) (ps : List Piece) (n : ℕ) → length ps ≤ n → behind_part b n ps ≡ []
 behind_end true ps n le = part_end ps (n + 1) (omega (arith, le))
-behind_end false ps n le =
-    ap (λ (l : List Piece). seconds l ++ all_parts (drop (n + 1) ps)) (drop_all n ps le)
-    ∙ part_end ps (n + 1) (omega (arith, le))
+behind_end false ps n le = ap (λ (l : List Piece). seconds l ++ all_parts (drop (n + 1) ps))
+    (drop_all n ps le) ∙ part_end ps (n + 1) (omega (arith, le))

@@ -1,12 +1,11 @@
 -- The parts of runs are pages of these runs.
-use Rattle.std.proofs.Common.{◌≡◌, ◌∙◌, ◌⊎◌, inl, inr, sym, subst, refl, arith, ℕ, suc, ◌+◌, ◌*◌, ◌-◌, ◌/◌, ◌≤◌, ◌<◌, Bool, true, false, List, [], ◌∷◌, ◌++◌, Option, Some, None}
+use Rattle.std.proofs.Common.{◌≡◌, inl, inr, subst, refl, arith, ℕ, suc, ◌+◌, ◌*◌, ◌-◌, ◌≤◌, Bool, true, false, List, [], ◌∷◌, ◌++◌, Some}
 use Rattle.std.specs.Prelude.{slice_get, if◌then◌else◌}
 use Rattle.std.proofs.lemmas.Bool.Decides.{nat_tests}
 use Rattle.vb_core.specs.declared.runs.Run.{Run}
-use Rattle.vb_monitor.specs.declared.regions.Region.{Region}
-use Rattle.vb_monitor.specs.declared.cuts.Cut.{Cut}
-use Rattle.vb_monitor.specs.Regions.{is_region, meets, cut_of, cuts_from, cuts_of, first_both, end_both}
-use Rattle.vb_monitor.specs.PartsOfRuns.{IsPartOf, IsPartOfOne, ArePartsOf}
+use Rattle.vb_monitor.specs.{declared.regions.Region.Region, declared.cuts.Cut.Cut, Regions.meets}
+use Rattle.vb_monitor.specs.Regions.{cut_of, cuts_from, cuts_of, first_both, end_both}
+use Rattle.vb_monitor.specs.PartsOfRuns.{IsPartOf, ArePartsOf}
 
 begins_there : (r : Region) (run : Run) (n : ℕ) → meets r run ≡ true →
     r.guest + (cut_of n r run).offset ≡ 4096 * first_both r run
@@ -34,9 +33,8 @@ is_part all r run n h there = record {
 }
 
 parts_by : (all : List Region) (r : Region) (rs : List Region) (n : ℕ) (run : Run)
-    (runs : List Run) (b : Bool) → meets r run ≡ b → slice_get all n ≡ Some r →
-    ArePartsOf all (run ∷ runs) (cuts_from (n + 1) rs run) →
-    ArePartsOf all (run ∷ runs)
+    (runs : List Run) (b : Bool) → meets r run ≡ b → slice_get all n ≡ Some r
+    → ArePartsOf all (run ∷ runs) (cuts_from (n + 1) rs run) → ArePartsOf all (run ∷ runs)
     (if b then cut_of n r run ∷ cuts_from (n + 1) rs run else cuts_from (n + 1) rs run)
 parts_by all r rs n run runs true e there rest = (inl (is_part all r run n e there), rest)
 parts_by all r rs n run runs false e there rest = rest
@@ -63,11 +61,9 @@ both_parts : (all : List Region) (runs : List Run) (xs ys : List Cut) → ArePar
 both_parts all runs [] ys a b = b
 both_parts all runs (x ∷ xs) ys a b = (a.0, both_parts all runs xs ys a.1 b)
 
-pub parts_of_runs : (all : List Region) (runs : List Run) →
-    ArePartsOf all runs (cuts_of all runs)
+pub parts_of_runs : (all : List Region) (runs : List Run) → ArePartsOf all runs (cuts_of all runs)
 parts_of_runs all [] = tt
-parts_of_runs all (run ∷ runs) =
-    both_parts all (run ∷ runs) (cuts_from 0 all run) (cuts_of all runs)
-    (parts_from all all 0 run runs (λ k r e.
+parts_of_runs all (run ∷ runs) = both_parts all
+    (run ∷ runs) (cuts_from 0 all run) (cuts_of all runs) (parts_from all all 0 run runs (λ k r e.
     let on : k ≡ 0 + k = omega arith in subst (λ (j : ℕ). slice_get all j ≡ Some r) on e))
     (of_more all run runs (cuts_of all runs) (parts_of_runs all runs))

@@ -1,15 +1,12 @@
 -- Where memory of regions ends, what of it is memory, and which queues lie in it, worked out.
-use Rattle.std.proofs.Common.{◌≡◌, refl, arith, ℕ, true, false, [], ◌∷◌, Some, None}
-use Rattle.vb_core.specs.declared.ring.Virtqueue.{Virtqueue}
-use Rattle.vb_core.specs.declared.settings.Settings.{Settings}
-use Rattle.vb_core.{specs.declared.device.Device.Device, specs.Devices.{new_device, placed}}
+use Rattle.std.proofs.Common.{◌≡◌, refl, arith, true, false, [], ◌∷◌, Some, None}
+use Rattle.vb_core.specs.{declared.settings.Settings.Settings, Devices.{new_device, placed}}
 use Rattle.vb_core.specs.declared.kinds.Kind.TheVariants.{Inflate, Statistics}
-use Rattle.vb_monitor.specs.Places.{memory_end_of, is_memory, AreMemory, HasMemory, Lies}
-use Rattle.vb_monitor.{specs.Balloons.{held_head, held_after, may_tell}, specs.Counts.others}
-use Rattle.vb_monitor.{specs.Places.{balloon_over, may_be_memory}, specs.declared.cuts.Cut.Cut}
-use Rattle.vb_monitor.specs.Accesses.{Full, Release, Discard}
-use Rattle.vb_monitor.{specs.declared.outcome.Outcome.Outcome, specs.declared.regions.Region.Region}
-use Rattle.vb_monitor.specs.declared.balloon.Balloon.{Balloon}
+use Rattle.vb_monitor.specs.Places.{memory_end_of, is_memory, AreMemory, HasMemory, balloon_over}
+use Rattle.vb_monitor.specs.{Places.may_be_memory, Balloons.{held_head, held_after, may_tell}}
+use Rattle.vb_monitor.specs.{Counts.others, declared.cuts.Cut.Cut, Accesses.{Full, Release}}
+use Rattle.vb_monitor.specs.{Accesses.Discard, declared.outcome.Outcome.Outcome}
+use Rattle.vb_monitor.specs.declared.{regions.Region.Region, balloon.Balloon.Balloon}
 
 -- pages 0 to 20, and, one page on, pages 22 to 31
 abbrev low : Region
@@ -58,8 +55,7 @@ settings = record {
 }
 
 abbrev balloon : Balloon
-balloon =
-    record { device = new_device (record settings { memory_end = 0x20000 }); held = 0 }
+balloon = record { device = new_device (record settings { memory_end = 0x20000 }); held = 0 }
 
 ends_with_them : balloon_over settings (low ∷ high ∷ []) ≡ Some balloon
 ends_with_them = refl
@@ -96,9 +92,8 @@ given_back = refl
 other_queues_keep_it : held_after Inflate outcome (record balloon { held = 4 }) ≡ 4
 other_queues_keep_it = refl
 
-taken : held_after Statistics (record outcome {
-  tally = record (outcome.tally) { given = false; held = Some 6 };
-}) balloon ≡ 7
+taken : held_after Statistics
+    (record outcome { tally = record (outcome.tally) { given = false; held = Some 6 } }) balloon ≡ 7
 taken = refl
 
 nothing_told_before : may_tell balloon.device ≡ false

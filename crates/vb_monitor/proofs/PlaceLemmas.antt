@@ -1,13 +1,11 @@
 -- Bytes of regions, and where the last region ends.
-use Rattle.std.proofs.Common.{◌≡◌, ◌∙◌, ap, sym, subst, refl, arith, ℕ, ◌+◌, ◌-◌, ◌*◌, ◌/◌, ◌<◌, ◌≤◌, Bool, true, false, List, [], ◌∷◌, length, drop, get_or, Option, Some, None}
-use Rattle.std.specs.Prelude.{if◌then◌else◌, nat_le, ◌&&◌, ◌||◌, is_some, max}
+use Rattle.std.proofs.Common.{◌≡◌, ◌∙◌, ap, refl, arith, ℕ, ◌+◌, ◌-◌, ◌/◌, ◌<◌, ◌≤◌, Bool, true, false, List, [], ◌∷◌, length, drop, get_or, Some}
+use Rattle.std.specs.Prelude.{if◌then◌else◌, ◌&&◌, ◌||◌, is_some, max}
 use Rattle.std.proofs.lemmas.List.{drop_more, drop_all}
 use Rattle.std.proofs.lemmas.Bool.Decides.{nat_tests}
 use Rattle.vb_core.specs.declared.settings.TheConstants.{MEMORY_LIMIT}
-use Rattle.vb_monitor.specs.declared.regions.Region.{Region}
-use Rattle.vb_monitor.specs.declared.regions.Spot.{Spot}
-use Rattle.vb_monitor.specs.Regions.{is_region, holds, spot, spot_from}
-use Rattle.vb_monitor.specs.Places.{is_memory, are_regions, end_of}
+use Rattle.vb_monitor.specs.{declared.regions.Region.Region, Regions.{is_region, holds, spot}}
+use Rattle.vb_monitor.specs.{Regions.spot_from, Places.{is_memory, are_regions, end_of}}
 
 -- ---- bytes
 
@@ -18,8 +16,7 @@ there_by : (n : ℕ) (r : Region) (rs : List Region) (b : ℕ) (h : Bool) →
 there_by n r rs b true e = refl
 there_by n r rs b false e = e
 
-there_from : (n : ℕ) (rs : List Region) (b : ℕ) →
-    is_some (spot_from n rs b 1) ≡ is_memory rs b
+there_from : (n : ℕ) (rs : List Region) (b : ℕ) → is_some (spot_from n rs b 1) ≡ is_memory rs b
 there_from n [] b = refl
 there_from n (r ∷ rs) b = there_by n r rs b (holds r b 1) (there_from (n + 1) rs b)
 
@@ -32,8 +29,7 @@ holds_page r b c h = grind (arith, nat_tests)
 
 pub same_page : (rs : List Region) (b c : ℕ) → b / 4096 ≡ c / 4096 → is_memory rs b ≡ is_memory rs c
 same_page [] b c h = refl
-same_page (r ∷ rs) b c h =
-    ap (λ (x : Bool). x || is_memory rs b) (holds_page r b c h)
+same_page (r ∷ rs) b c h = ap (λ (x : Bool). x || is_memory rs b) (holds_page r b c h)
     ∙ ap (λ (x : Bool). holds r c 1 || x) (same_page rs b c h)
 
 holds_far : (r : Region) (b : ℕ) → MEMORY_LIMIT ≤ b → holds r b 1 ≡ false
@@ -50,9 +46,8 @@ pub regions_here : (rs : List Region) (n : ℕ) (d : Region) → n < length rs �
     are_regions (drop n rs) ≡ (is_region (get_or rs n d) && are_regions (drop (n + 1) rs))
 regions_here rs n d lt = ap (λ (l : List Region). are_regions l) (drop_more rs n d lt)
 
-pub end_here : (rs : List Region) (n : ℕ) (d : Region) → n < length rs →
-    end_of (drop n rs) ≡
-    max ((get_or rs n d).guest + (get_or rs n d).length) (end_of (drop (n + 1) rs))
+pub end_here : (rs : List Region) (n : ℕ) (d : Region) → n < length rs → end_of (drop n rs)
+    ≡ max ((get_or rs n d).guest + (get_or rs n d).length) (end_of (drop (n + 1) rs))
 end_here rs n d lt = ap (λ (l : List Region). end_of l) (drop_more rs n d lt)
 
 pub regions_end : (rs : List Region) (n : ℕ) → length rs ≤ n → are_regions (drop n rs) ≡ true

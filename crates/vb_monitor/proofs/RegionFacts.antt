@@ -1,12 +1,8 @@
 -- Places, parts of runs and parts of pieces, worked out.
 use Rattle.std.proofs.Common.{◌≡◌, refl, true, false, List, [], ◌∷◌, Some, None}
-use Rattle.vb_chain.specs.declared.pieces.Piece.{Piece}
 use Rattle.vb_core.specs.declared.kinds.Kind.TheVariants.{Inflate, Deflate, Report}
-use Rattle.vb_core.specs.declared.runs.Run.{Run}
-use Rattle.vb_monitor.{specs.declared.regions.Region.Region, specs.declared.regions.Spot.Spot}
-use Rattle.vb_monitor.{specs.declared.cuts.Cut.Cut, specs.declared.parts.Part.Part}
-use Rattle.vb_monitor.{specs.Regions.{is_region, spot, cuts_of}, specs.Giving.cuts_for}
-use Rattle.vb_monitor.specs.Pieces.{parts_of, all_parts}
+use Rattle.vb_monitor.specs.{declared.regions.Region.Region, Regions.{is_region, spot, cuts_of}}
+use Rattle.vb_monitor.specs.{Giving.cuts_for, Pieces.{parts_of, all_parts}}
 
 -- pages 0 to 20, and, one page on, pages 22 to 31
 abbrev low : Region
@@ -57,11 +53,10 @@ one_page_further = refl
 -- ---- parts of runs
 
 -- pages 20 to 23 lie in both regions, with a hole between; page 5 in the first; 21 in none
-over_the_hole : cuts_of two (record { first = 20; count = 4 } ∷ record { first = 5; count = 1 } ∷ []) ≡
-    record { region = 0; offset = 0x14000; in_file = 0x14000; length = 0x1000 }
+over_the_hole : cuts_of two (record { first = 20; count = 4 } ∷ record { first = 5; count = 1 }
+    ∷ []) ≡ record { region = 0; offset = 0x14000; in_file = 0x14000; length = 0x1000 }
     ∷ record { region = 1; offset = 0; in_file = 0x100000; length = 0x2000 }
-    ∷ record { region = 0; offset = 0x5000; in_file = 0x5000; length = 0x1000 }
-    ∷ []
+    ∷ record { region = 0; offset = 0x5000; in_file = 0x5000; length = 0x1000 } ∷ []
 over_the_hole = refl
 
 within_the_second : cuts_of two (record { first = 24; count = 2 } ∷ []) ≡

@@ -1,17 +1,16 @@
 -- As many runs as are told have room.
-use Rattle.std.proofs.Common.{◌≡◌, ◌∙◌, sym, subst, ap, arith, ℕ, ◌+◌, ◌≤◌, ◌/◌, Bool, true, false}
-use Rattle.std.proofs.Common.{List, length, take, Option, Some, None, Result, Ok, Err, refl}
+use Rattle.std.proofs.Common.{◌≡◌, sym, subst, ap, arith, ℕ, ◌≤◌, ◌/◌, Bool, true, false}
+use Rattle.std.proofs.Common.{List, length, Option, Some, None, Result, Ok, Err, refl}
 use Rattle.std.{specs.Prelude.{nat_le, ◌&&◌}, proofs.lemmas.Bool.Decides.nat_tests}
 use Rattle.vb_chain.{specs.declared.fault.ChainFault.ChainFault, specs.declared.pieces.Piece.Piece}
 use Rattle.vb_request.{specs.Request.{numbers_of, is_request_length}, proofs.Once.numbers_of-length}
 use Rattle.vb_request.specs.Report.{report_request}
 use Rattle.vb_core.specs.Name.{NamesBy, NamesRuns, AreNamed, fault_in, right_numbers, name_denial}
-use Rattle.vb_core.{specs.declared.kinds.Kind.Kind, specs.declared.runs.Run.Run, specs.Next.told}
-use Rattle.vb_core.{specs.declared.name.Named.Named, specs.declared.device.Denial.Denial}
-use Rattle.vb_core.{specs.declared.device.Device.Device, specs.Settings.{memory_pages, skips}}
-use Rattle.vb_core.{specs.Devices.call_denial, specs.declared.next.ChainPiece.ChainPiece}
-use Rattle.vb_core.specs.Report.{NamesPiecesBy, pieces_denial, named_by, report_named}
-use Rattle.vb_core.specs.Name.{is_request, after_request}
+use Rattle.vb_core.specs.{Name.is_request, declared.kinds.Kind.Kind, declared.runs.Run.Run}
+use Rattle.vb_core.specs.{Next.told, declared.name.Named.Named, declared.device.Denial.Denial}
+use Rattle.vb_core.specs.{declared.device.Device.Device, Settings.{memory_pages, skips}}
+use Rattle.vb_core.specs.{Devices.call_denial, declared.next.ChainPiece.ChainPiece}
+use Rattle.vb_core.specs.Report.{NamesPiecesBy, pieces_denial, named_by}
 use Rattle.vb_model.specs.declared.limits.TheConstants.{MAX_QUEUE_SIZE}
 use Rattle.vb_monitor.{specs.declared.room.TheConstants.MAX_RUNS, specs.Pieces.pieces_in}
 use Rattle.vb_monitor.proofs.BufferLemmas.{length_in}
@@ -61,9 +60,8 @@ few_by (Some why) kind bytes room runs d1 d2 named e n =
     let wrong : Ok named ≡ Err why = (n.denied why e).0 in cc
 few_by None kind bytes room runs d1 d2 named e n =
     let (answer, are, is, after) = n.names e in
-    let few : named.runs ≤ length (numbers_of bytes) =
-    few_told answer (skips d1.settings) d1.settings.reserved_pages (memory_pages d1.settings)
-    (numbers_of bytes) runs named is are in
+    let few : named.runs ≤ length (numbers_of bytes) = few_told answer (skips d1.settings)
+    d1.settings.reserved_pages (memory_pages d1.settings) (numbers_of bytes) runs named is are in
     let long : length (numbers_of bytes) ≡ length bytes / 4 = numbers_of-length bytes in
     let fits : length bytes / 4 ≤ room = has_room kind (length bytes) room d1 e in
     omega (arith, few, long, fits)
@@ -87,17 +85,15 @@ few_by_pieces : (o : Option Denial) (pieces : List Piece) (room : ℕ) (runs : L
     NamesPiecesBy pieces room runs d1 d2 (Ok named) → named.runs ≡ length pieces
 few_by_pieces (Some why) pieces room runs d1 d2 named e n =
     let wrong : Ok named ≡ Err why = (n.denied why e).0 in cc
-few_by_pieces None pieces room runs d1 d2 named e n =
-    runs_of_report (report_request pieces d1.settings.reserved_pages) (length pieces) named
-    (n.answer e)
+few_by_pieces None pieces room runs d1 d2 named e n = runs_of_report
+    (report_request pieces d1.settings.reserved_pages) (length pieces) named (n.answer e)
 
 -- a report's pieces are copied buffers
 pub few_reported : (buffers : List ChainPiece) (room : ℕ) (runs : List Run) (d1 d2 : Device)
     (named : Named) → length buffers ≤ MAX_QUEUE_SIZE →
     NamesPiecesBy (pieces_in buffers) room runs d1 d2 (Ok named) → named.runs ≤ MAX_RUNS
 few_reported buffers room runs d1 d2 named short n =
-    let is : named.runs ≡ length (pieces_in buffers) =
-    few_by_pieces (pieces_denial (pieces_in buffers) room d1) (pieces_in buffers) room runs d1 d2
-    named refl n in
+    let is : named.runs ≡ length (pieces_in buffers) = few_by_pieces
+    (pieces_denial (pieces_in buffers) room d1) (pieces_in buffers) room runs d1 d2 named refl n in
     let long : length (pieces_in buffers) ≡ length buffers = length_in buffers in
     omega (arith, is, long, short)

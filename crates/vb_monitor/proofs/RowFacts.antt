@@ -9,9 +9,8 @@ use Rattle.vb_monitor.proofs.Samples.{cut_5, cut_20, index, entry, descriptor, p
 -- nothing, a word, bytes, an acquire, a release and a full fence, pages, figures, a discard, a
 -- number, a written word
 abbrev each : List (Option Access)
-each =
-    None ∷ Some index ∷ Some part ∷ Some Acquire ∷ Some Release ∷ Some Full ∷ Some pages ∷ Some figures
-    ∷ Some discard ∷ Some id ∷ Some used_index ∷ []
+each = None ∷ Some index ∷ Some part ∷ Some Acquire ∷ Some Release
+    ∷ Some Full ∷ Some pages ∷ Some figures ∷ Some discard ∷ Some id ∷ Some used_index ∷ []
 
 words : map is_word each ≡ false ∷ true ∷ false ∷ false ∷ false ∷ false ∷ false ∷ false ∷ false ∷ false ∷ false ∷ []
 words = refl
@@ -35,9 +34,8 @@ numbers = refl
 
 -- page 5 is inflated, and the driver asked whether it wants an interrupt
 abbrev inflated : List Access
-inflated =
-    index ∷ Acquire ∷ entry ∷ descriptor ∷ part ∷ pages ∷ discard ∷ id ∷ used_length ∷ Release ∷ used_index
-    ∷ index ∷ Full ∷ flags ∷ []
+inflated = index ∷ Acquire ∷ entry ∷ descriptor
+    ∷ part ∷ pages ∷ discard ∷ id ∷ used_length ∷ Release ∷ used_index ∷ index ∷ Full ∷ flags ∷ []
 
 in_order : Row MayFollow None inflated
 in_order = (tt, (refl, (tt, (refl, (refl, (refl, (refl, (refl, (refl, (refl, (refl, (tt, (tt, (tt, tt))))))))))))))

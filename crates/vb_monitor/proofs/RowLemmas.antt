@@ -5,10 +5,9 @@ use Rattle.std.specs.Prelude.{◌==◌, nat_lt}
 use Rattle.vb_chain.{specs.declared.pieces.Piece.Piece, specs.declared.fault.ChainFault.ChainFault}
 use Rattle.vb_chain.{specs.declared.descriptor.Descriptor.Descriptor, specs.Rules.has_next}
 use Rattle.vb_request.{specs.Request.request_length, specs.Statistics.statistics_length}
-use Rattle.vb_core.{specs.declared.kinds.Kind.Kind, specs.declared.device.Denial.Denial}
+use Rattle.vb_core.specs.{Devices.{ring_of, queue_denial}, Statistics.statistics_denial}
+use Rattle.vb_core.specs.declared.{device.Denial.Denial, device.Device.Device, kinds.Kind.Kind}
 use Rattle.vb_core.specs.declared.kinds.Kind.TheVariants.{Inflate, Deflate, Statistics, Report}
-use Rattle.vb_core.{specs.declared.device.Device.Device, specs.Devices.{ring_of, queue_denial}}
-use Rattle.vb_core.specs.Statistics.{statistics_denial}
 use Rattle.vb_monitor.specs.Accesses.{Access, ReadWord, CopyBytes, Acquire, Release, Full}
 use Rattle.vb_monitor.specs.Chains.{FiguresBy, AfterBytes, CopiesBy, ServesPieces, GoesOn}
 use Rattle.vb_monitor.specs.Chains.{DescriptorBy, DescriptorAt, Follows, table_fault, descriptor_of}
@@ -40,9 +39,8 @@ bytes_row w may allows Inflate next on d t head bytes b log copied h =
     name_row w may allows next on h.device t head h.runs h.answer b log copied h.goes_on
 bytes_row w may allows Deflate next on d t head bytes b log copied h =
     name_row w may allows next on h.device t head h.runs h.answer b log copied h.goes_on
-bytes_row w may allows Statistics next on d t head bytes b log copied h =
-    figures_row w may allows d t head bytes (statistics_denial (length bytes) MAX_FIGURES d) b log
-    copied h
+bytes_row w may allows Statistics next on d t head bytes b log copied h = figures_row
+    w may allows d t head bytes (statistics_denial (length bytes) MAX_FIGURES d) b log copied h
 bytes_row w may allows Report next on d t head bytes b log copied h =
     name_row w may allows next on h.device t head h.runs h.answer b log copied h.goes_on
 
@@ -61,9 +59,8 @@ is_read_so (Some (WriteNumber at n)) h = absurd cc
 is_read_so (Some (WriteWord at n)) h = absurd cc
 
 abbrev Copied : (Option Access → Access → Type 0) → (List ℕ → List Access → Type 0) → Type 0
-Copied may go =
-    (bytes : List ℕ) (b : Option Access) (rest : List Access) → is_copied b ≡ true →
-    go bytes rest → Row may b rest
+Copied may go = (bytes : List ℕ) (b : Option Access) (rest : List Access)
+    → is_copied b ≡ true → go bytes rest → Row may b rest
 
 part_at : (w : Whole) (may : Option Access → Access → Type 0) (allows : Allows w may) (go : List ℕ → List Access → Type 0) (on : Copied may go) (d : Device) (t : Tally)
     (part : Part) (so_far : List ℕ) (o : Option Spot) (b : Option Access) (log : List Access) →
@@ -120,14 +117,12 @@ pieces_row w may allows Report next on d t head pieces b log copied h =
 
 abbrev More : (Option Access → Access → Type 0) → (ℕ → Bool → List Piece → List Access → Type 0) →
     Type 0
-More may on =
-    (n : ℕ) (writing : Bool) (ps : List Piece) (b : Option Access) (rest : List Access) →
-    is_copied b ≡ true → on n writing ps rest → Row may b rest
+More may on = (n : ℕ) (writing : Bool) (ps : List Piece) (b : Option Access) (rest : List Access)
+    → is_copied b ≡ true → on n writing ps rest → Row may b rest
 
 abbrev Last : (Option Access → Access → Type 0) → (List Piece → List Access → Type 0) → Type 0
-Last may done =
-    (ps : List Piece) (b : Option Access) (rest : List Access) → is_copied b ≡ true →
-    done ps rest → Row may b rest
+Last may done = (ps : List Piece) (b : Option Access) (rest : List Access)
+    → is_copied b ≡ true → done ps rest → Row may b rest
 
 goes_on : (w : Whole) (may : Option Access → Access → Type 0) (allows : Allows w may) (on : ℕ → Bool → List Piece → List Access → Type 0)
     (done : List Piece → List Access → Type 0) (more : More may on) (last : Last may done)
@@ -136,8 +131,7 @@ goes_on : (w : Whole) (may : Option Access → Access → Type 0) (allows : Allo
     Row may b log
 goes_on w may allows on done more last true writing x pieces b log copied h =
     more _ _ _ b log copied h
-goes_on w may allows on done more last false writing x pieces b log copied h =
-    last _ b log copied h
+goes_on w may allows on done more last false writing x pieces b log copied h = last _ b log copied h
 
 descriptor_by : (w : Whole) (may : Option Access → Access → Type 0) (allows : Allows w may) (d : Device) (t : Tally) (on : ℕ → Bool → List Piece → List Access → Type 0)
     (done : List Piece → List Access → Type 0) (more : More may on) (last : Last may done)
@@ -185,8 +179,7 @@ head_row : (w : Whole) (may : Option Access → Access → Type 0) (allows : All
 head_row w may allows next on d t head false b log was h = ends_row w may allows _ t _ false b log h
 head_row w may allows next on d t head true b log was h =
     follows_row (descriptors (ring_of w.kind d)) w may allows d t
-    (λ pieces rest. ServesPieces w.kind w next d t head pieces rest)
-    (λ pieces b2 rest copied more.
+    (λ pieces rest. ServesPieces w.kind w next d t head pieces rest) (λ pieces b2 rest copied more.
     pieces_row w may allows w.kind next on d t head pieces b2 rest copied more) head false [] b log
     was h
 
@@ -207,9 +200,8 @@ entry_row w may allows a next on d t (Some at) at0 answer log e h =
 
 -- what is taken comes behind the index
 abbrev Taken : (Option Access → Access → Type 0) → (List Access → Type 0) → Type 0
-Taken may takes =
-    (at : Spot) (answer : ℕ) (rest : List Access) → takes rest →
-    Row may (Some (ReadWord at answer)) rest
+Taken may takes = (at : Spot) (answer : ℕ) (rest : List Access)
+    → takes rest → Row may (Some (ReadWord at answer)) rest
 
 unless_spent : (w : Whole) (may : Option Access → Access → Type 0) (allows : Allows w may) (next : Then) (on : After may next) (d : Device) (t : Tally) (spent : Bool)
     (at : Spot) (answer : ℕ) (log : List Access) → TakesUnlessSpent spent w next d t log →
@@ -258,20 +250,16 @@ given_row w may allows Report looks on d t b rest h = on d t b rest h
 
 takes_row : (n : ℕ) (w : Whole) (may : Option Access → Access → Type 0) (allows : Allows w may) (d : Device) (t : Tally) → Taken may (TakesNext n w d t)
 takes_row zero w may allows d t at answer log h = ends_row w may allows d t _ true _ log h
-takes_row (suc n) w may allows d t at answer log h =
-    unless_spent w may allows
+takes_row (suc n) w may allows d t at answer log h = unless_spent w may allows
     (AfterGiven w.kind w (λ d2 t2 rest. LooksBy (queue_denial w.kind d2) w (TakesNext n w d2 t2) d2
-    t2 rest))
-    (given_row w may allows w.kind
+    t2 rest)) (given_row w may allows w.kind
     (λ d2 t2 rest. LooksBy (queue_denial w.kind d2) w (TakesNext n w d2 t2) d2 t2 rest)
     (λ d2 t2 b2 rest more. looks_by w may allows (TakesNext n w d2 t2)
     (λ at2 answer2 rest2 go. takes_row n w may allows d2 t2 at2 answer2 rest2 go) d2 t2
-    (queue_denial w.kind d2) b2 rest more))
-    d (with_chains n t) (t.pages == 0) at answer log h
+    (queue_denial w.kind d2) b2 rest more)) d (with_chains n t) (t.pages == 0) at answer log h
 
 pub looks_row : (n : ℕ) (w : Whole) (may : Option Access → Access → Type 0) (allows : Allows w may) (d : Device) (t : Tally) (b : Option Access) (log : List Access) →
     Looks n w d t log → Row may b log
-looks_row n w may allows d t b log h =
-    looks_by w may allows (TakesNext n w d t)
+looks_row n w may allows d t b log h = looks_by w may allows (TakesNext n w d t)
     (λ at answer rest go. takes_row n w may allows d t at answer rest go) d t
     (queue_denial w.kind d) b log h

@@ -6,9 +6,8 @@ use Rattle.vb_core.{specs.declared.ring.Virtqueue.Virtqueue, specs.declared.name
 use Rattle.vb_core.{specs.declared.settings.Settings.Settings}
 use Rattle.vb_core.{specs.declared.device.Device.Device, specs.Devices.{new_device, placed}}
 use Rattle.vb_monitor.specs.Accesses.{Access, ReadWord, CopyBytes, TellPages, TellFigures, Discard}
-use Rattle.vb_monitor.{specs.declared.regions.Region.Region, specs.declared.regions.Spot.Spot}
-use Rattle.vb_monitor.{specs.declared.cuts.Cut.Cut, specs.declared.outcome.Tally.Tally}
-use Rattle.vb_monitor.specs.Accesses.{WriteNumber, WriteWord}
+use Rattle.vb_monitor.specs.{Accesses.{WriteNumber, WriteWord}, declared.regions.Region.Region}
+use Rattle.vb_monitor.specs.declared.{regions.Spot.Spot, cuts.Cut.Cut, outcome.Tally.Tally}
 
 abbrev pub Same : ℕ → ℕ → Type 0
 Same a b = a ≡ b
@@ -61,15 +60,14 @@ ring = placed 0 0x100 0x200 8
 
 -- one that is ready, with this ring for each queue
 abbrev pub ready : Device
-ready =
-    record (new_device settings) {
-      features = 0x100000027;
-      status = 15;
-      inflate = ring;
-      deflate = ring;
-      statistics = ring;
-      report = ring;
-    }
+ready = record (new_device settings) {
+  features = 0x100000027;
+  status = 15;
+  inflate = ring;
+  deflate = ring;
+  statistics = ring;
+  report = ring;
+}
 
 abbrev pub tally : Tally
 tally = record { chains = 8; pages = 3; given = false; held = None }

@@ -41,10 +41,9 @@ of_the_first : known Inflate (CopyBytes (record { region = 0; offset = 0x30 }) f
     Walks 3 5 (piece ∷ [])
 of_the_first = refl
 
-of_both : known Inflate
-    (CopyBytes (record { region = 0; offset = 0x50 }) last_descriptor
-    ∷ CopyBytes (record { region = 0; offset = 0x30 }) first_descriptor ∷ taken) ≡
-    Has 3 (piece ∷ piece ∷ []) (of_piece ∷ of_piece ∷ []) []
+of_both : known Inflate (CopyBytes (record { region = 0; offset = 0x50 }) last_descriptor
+    ∷ CopyBytes (record { region = 0; offset = 0x30 }) first_descriptor ∷ taken)
+    ≡ Has 3 (piece ∷ piece ∷ []) (of_piece ∷ of_piece ∷ []) []
 of_both = refl
 
 -- the last one ends the chain: its bytes are to be read, but a report's
@@ -113,15 +112,13 @@ abbrev used_behind : Access → ℕ
 used_behind x = (ring_after ring (x ∷ [])).next_used
 
 -- an entry is taken where pages or figures are told
-one_taken : map taken_behind
-    (index ∷ part ∷ Acquire ∷ Release ∷ Full ∷ pages ∷ figures ∷ discard ∷ id ∷ used_index ∷ []) ≡
-    0 ∷ 0 ∷ 0 ∷ 0 ∷ 0 ∷ 1 ∷ 1 ∷ 0 ∷ 0 ∷ 0 ∷ []
+one_taken : map taken_behind (index ∷ part ∷ Acquire ∷ Release ∷ Full
+    ∷ pages ∷ figures ∷ discard ∷ id ∷ used_index ∷ []) ≡ 0 ∷ 0 ∷ 0 ∷ 0 ∷ 0 ∷ 1 ∷ 1 ∷ 0 ∷ 0 ∷ 0 ∷ []
 one_taken = refl
 
 -- an element is used where an index is written
-one_used : map used_behind
-    (index ∷ part ∷ Acquire ∷ Release ∷ Full ∷ pages ∷ figures ∷ discard ∷ id ∷ used_index ∷ []) ≡
-    0 ∷ 0 ∷ 0 ∷ 0 ∷ 0 ∷ 0 ∷ 0 ∷ 0 ∷ 0 ∷ 1 ∷ []
+one_used : map used_behind (index ∷ part ∷ Acquire ∷ Release ∷ Full
+    ∷ pages ∷ figures ∷ discard ∷ id ∷ used_index ∷ []) ≡ 0 ∷ 0 ∷ 0 ∷ 0 ∷ 0 ∷ 0 ∷ 0 ∷ 0 ∷ 0 ∷ 1 ∷ []
 one_used = refl
 
 twice : ring_after ring (used_index ∷ pages ∷ index ∷ used_index ∷ pages ∷ index ∷ []) ≡

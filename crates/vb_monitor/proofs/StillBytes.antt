@@ -1,9 +1,7 @@
 -- What copies of a ring's bytes show, where memory stays as it is.
-use Rattle.std.proofs.Common.{◌≡◌, ◌∙◌, ap, sym, refl, arith, ℕ, ◌+◌, ◌*◌, ◌%◌, ◌<◌, ◌≤◌, List, take}
-use Rattle.std.proofs.Common.{drop, [], ◌∷◌, length}
-use Rattle.std.{specs.Prelude.slice_index, specs.Int.{w16, w32, w64, from_le_bytes}}
-use Rattle.std.proofs.lemmas.List.FromFn.{get_or-map-range_with_len}
-use Rattle.std.proofs.lemmas.List.{get_or-take, get_or-drop}
+use Rattle.std.proofs.Common.{◌≡◌, ◌∙◌, ap, sym, refl, arith, ℕ, ◌+◌, ◌*◌, ◌<◌, ◌≤◌, take, drop, []}
+use Rattle.std.{proofs.Common.◌∷◌, specs.Prelude.slice_index, specs.Int.{w16, from_le_bytes}}
+use Rattle.std.proofs.lemmas.List.{FromFn.get_or-map-range_with_len, get_or-take, get_or-drop}
 use Rattle.vb_ram.{specs.Pages.{Pages, byte_at, field}, proofs.FieldLaws.{field_2, field_4, field_8}}
 use Rattle.vb_chain.{specs.declared.descriptor.Descriptor.Descriptor, specs.Table.descriptor_at}
 use Rattle.vb_core.{specs.declared.ring.Virtqueue.Virtqueue, specs.Copies.{padded, copies_of}}
@@ -24,8 +22,7 @@ table_byte byte r count o two few lt =
     let table = table_copy byte r in
     let avail = avail_copy byte r in
     copied_byte count 0 0 o (padded table ∷ padded avail ∷ []) (omega (arith, two)) refl
-    ∙ (padded_at table o (omega (arith, few, lt))
-    ∙ byte_in byte r.table (16 * r.size) o lt)
+    ∙ (padded_at table o (omega (arith, few, lt)) ∙ byte_in byte r.table (16 * r.size) o lt)
 
 avail_byte : (byte : ℕ → ℕ) (r : Virtqueue) (count o : ℕ) → 2 ≤ count → r.size ≤ 256 →
     o < 4 + 2 * r.size → byte_at (shown byte r count) 1 o ≡ byte (r.avail + o)
@@ -33,8 +30,7 @@ avail_byte byte r count o two few lt =
     let table = table_copy byte r in
     let avail = avail_copy byte r in
     copied_byte count 1 1 o (padded table ∷ padded avail ∷ []) (omega (arith, two)) refl
-    ∙ (padded_at avail o (omega (arith, few, lt))
-    ∙ byte_in byte r.avail (4 + 2 * r.size) o lt)
+    ∙ (padded_at avail o (omega (arith, few, lt)) ∙ byte_in byte r.avail (4 + 2 * r.size) o lt)
 
 -- a word of the available ring
 pub word_shown : (byte : ℕ → ℕ) (r : Virtqueue) (count o : ℕ) → 2 ≤ count → r.size ≤ 256 →
@@ -54,10 +50,8 @@ table_part : (byte : ℕ → ℕ) (r : Virtqueue) (count i from len k : ℕ) →
 table_part byte r count i from len k two few lt fits below =
     let bytes = bytes_from byte (r.table + 16 * i) 16 in
     let same : r.table + 16 * i + (from + k) ≡ r.table + (16 * i + from + k) = omega arith in
-    get_or-take len (drop from bytes) k 0 below
-    ∙ (get_or-drop from bytes k 0
-    ∙ (byte_in byte (r.table + 16 * i) 16 (from + k) (omega (arith, fits, below))
-    ∙ (ap byte same
+    get_or-take len (drop from bytes) k 0 below ∙ (get_or-drop from bytes k 0
+    ∙ (byte_in byte (r.table + 16 * i) 16 (from + k) (omega (arith, fits, below)) ∙ (ap byte same
     ∙ sym (table_byte byte r count (16 * i + from + k) two few (omega (arith, lt, fits, below))))))
 
 descriptor_same : (a b : Descriptor) → a.addr ≡ b.addr → a.len ≡ b.len → a.flags ≡ b.flags →
@@ -69,10 +63,9 @@ descriptor_same a b e f g h =
     ∙ ap (λ (n : ℕ). record { addr = b.addr; len = b.len; flags = b.flags; next = n }) h))
 
 -- a descriptor of the table
-pub descriptor_shown : (byte : ℕ → ℕ) (r : Virtqueue) (count i : ℕ) → 2 ≤ count → r.size ≤ 256 →
-    i < r.size →
-    descriptor_at (shown byte r count) 0 i ≡
-    descriptor_of (bytes_from byte (r.table + 16 * i) 16)
+pub descriptor_shown : (byte : ℕ → ℕ) (r : Virtqueue) (count i : ℕ)
+    → 2 ≤ count → r.size ≤ 256 → i < r.size
+    → descriptor_at (shown byte r count) 0 i ≡ descriptor_of (bytes_from byte (r.table + 16 * i) 16)
 unfolding descriptor_at
 descriptor_shown byte r count i two few lt =
     let mem = shown byte r count in

@@ -1,15 +1,10 @@
 -- Memory that stays as it is, its copies, and what is done as is answered to them, worked out.
 use Rattle.std.proofs.Common.{◌≡◌, refl, ap, arith, ℕ, false, true, List, [], ◌∷◌, ◌++◌, Option, Some, None, Ok, Err}
-use Rattle.vb_chain.specs.declared.pieces.Piece.{Piece}
-use Rattle.vb_core.specs.declared.device.Denial.{Denial}
-use Rattle.vb_core.specs.declared.device.Denial.TheVariants.{NotReady, NeedsReset}
-use Rattle.vb_core.{specs.declared.device.Device.Device, specs.declared.ring.Virtqueue.Virtqueue}
-use Rattle.vb_core.specs.declared.kinds.Kind.TheVariants.{Inflate}
-use Rattle.vb_monitor.{specs.declared.parts.Part.Part, specs.declared.outcome.Outcome.Outcome}
-use Rattle.vb_monitor.specs.Accesses.{Access, ReadWord, CopyBytes, Acquire}
-use Rattle.vb_monitor.{specs.Ends.Whole, specs.Machine.whole}
-use Rattle.vb_monitor.specs.Still.{bytes_from, Holds, Stays, IsMapped, avail_copy, table_copy, Behind}
-use Rattle.vb_monitor.specs.Still.{DoesAs, bytes_of, ArePartsMapped}
+use Rattle.vb_core.specs.declared.device.Denial.{Denial, TheVariants.{NotReady, NeedsReset}}
+use Rattle.vb_core.specs.declared.{device.Device.Device, kinds.Kind.TheVariants.Inflate}
+use Rattle.vb_monitor.specs.{Accesses.{Access, ReadWord, CopyBytes, Acquire}, Ends.Whole}
+use Rattle.vb_monitor.specs.{Machine.whole, Still.{bytes_from, Holds, Stays, IsMapped, avail_copy}}
+use Rattle.vb_monitor.specs.Still.{table_copy, Behind, DoesAs, bytes_of, ArePartsMapped}
 use Rattle.vb_monitor.proofs.Samples.{Same, two, at, ring, ready, tally, index, discard}
 
 -- each byte is the lowest of its address; all are 0
@@ -36,9 +31,8 @@ descriptors : table_copy own (record ring { table = 20; size = 1 }) ≡
     20 ∷ 21 ∷ 22 ∷ 23 ∷ 24 ∷ 25 ∷ 26 ∷ 27 ∷ 28 ∷ 29 ∷ 30 ∷ 31 ∷ 32 ∷ 33 ∷ 34 ∷ 35 ∷ []
 descriptors = refl
 
-one_behind_the_other : bytes_of own
-    (record { addr = 5; len = 2; writable = false } ∷ record { addr = 9; len = 1; writable = true } ∷ []) ≡
-    5 ∷ 6 ∷ 9 ∷ []
+one_behind_the_other : bytes_of own (record { addr = 5; len = 2; writable = false }
+    ∷ record { addr = 9; len = 1; writable = true } ∷ []) ≡ 5 ∷ 6 ∷ 9 ∷ []
 one_behind_the_other = refl
 
 -- ---- what is read

@@ -1,46 +1,39 @@
 -- A notice over memory that stays as it is does what the device answers to copies of it.
-use Rattle.std.proofs.Common.{◌≡◌, ◌≢◌, ◌∙◌, ap, sym, subst, refl, arith, inl, inr, ℕ, zero, suc, ◌+◌}
-use Rattle.std.proofs.Common.{◌*◌, ◌/◌, ◌%◌, ◌<◌, ◌≤◌, Bool, true, false, List, [], ◌∷◌, ◌++◌, length, map}
-use Rattle.std.proofs.Common.{take, Option, Some, None, Result, Ok, Err}
-use Rattle.std.specs.Prelude.{◌&&◌, ◌==◌, nat_lt, nat_le, min, not, if◌then◌else◌, IsOk, IsOkAnd}
-use Rattle.std.specs.Prelude.{IsSomeAnd}
-use Rattle.std.{specs.Int.{w16, from_le_bytes}, proofs.lemmas.Bool.Decides.nat_tests}
-use Rattle.std.proofs.lemmas.List.FromFn.{length-map-range_with_len}
+use Rattle.std.proofs.Common.{◌≡◌, ◌≢◌, ◌∙◌, ap, sym, subst, refl, arith, inl, inr, ℕ, suc, ◌+◌}
+use Rattle.std.proofs.Common.{◌*◌, ◌%◌, ◌<◌, ◌≤◌, Bool, true, false, List, [], ◌∷◌, length, map}
+use Rattle.std.{proofs.Common.{take, Option, Some, None, Result, Ok, Err}, specs.Prelude.◌&&◌}
+use Rattle.std.specs.Prelude.{◌==◌, nat_lt, nat_le, not, if◌then◌else◌, IsOk, IsOkAnd, IsSomeAnd}
+use Rattle.std.proofs.lemmas.{Bool.Decides.nat_tests, List.FromFn.length-map-range_with_len}
 use Rattle.vb_model.specs.Tests.{one_if}
 use Rattle.vb_ram.specs.Pages.{Pages, field, end_of}
 use Rattle.vb_chain.{specs.declared.pieces.Piece.Piece, specs.declared.fault.ChainFault.ChainFault}
 use Rattle.vb_chain.specs.declared.fault.ChainFault.TheVariants.{BadHead, IndexJump}
 use Rattle.vb_chain.{specs.Chain.{ChainGives, FaultGives}, specs.Table.descriptor_at}
 use Rattle.vb_chain.proofs.Walking.{walked_init}
-use Rattle.vb_ring.{specs.declared.device.Taken.Taken, specs.Entries.{ahead, next_by, next_entry}}
-use Rattle.vb_ring.{specs.Calls.PopsBy, specs.Layout.IsSize}
-use Rattle.vb_core.specs.Next.{NextBy, ReadsNext, PopsCopies, is_read, length_of, next_denial, told}
-use Rattle.vb_core.specs.Next.{are_copies, buffer_of, answer_of, answer_to, after_fault, device_end}
-use Rattle.vb_core.{specs.declared.kinds.Kind.Kind, specs.declared.ring.Virtqueue.Virtqueue}
+use Rattle.vb_ring.specs.{declared.device.Taken.Taken, Entries.{ahead, next_by, next_entry}}
+use Rattle.vb_ring.specs.Layout.{IsSize}
+use Rattle.vb_core.specs.Next.{NextBy, PopsCopies, is_read, length_of, next_denial, told}
+use Rattle.vb_core.specs.Next.{are_copies, buffer_of, answer_of, answer_to, after_fault}
+use Rattle.vb_core.specs.declared.{kinds.Kind.Kind, ring.Virtqueue.Virtqueue}
 use Rattle.vb_core.specs.declared.kinds.Kind.TheVariants.{Inflate, Deflate, Statistics, Report}
-use Rattle.vb_core.{specs.declared.next.NextChain.NextChain, specs.declared.next.ChainPiece.ChainPiece}
-use Rattle.vb_core.{specs.declared.device.Denial.Denial, specs.declared.device.Device.Device}
-use Rattle.vb_core.specs.declared.device.Denial.TheVariants.{Broken}
+use Rattle.vb_core.specs.declared.next.{NextChain.NextChain, ChainPiece.ChainPiece}
+use Rattle.vb_core.specs.declared.device.{Denial.Denial, Device.Device, Denial.TheVariants.Broken}
 use Rattle.vb_core.specs.Devices.{ring_of, needing_reset, queue_denial, call_denial}
-use Rattle.vb_core.{specs.declared.settings.Settings.Settings, specs.Copies.copied_layout}
-use Rattle.vb_core.specs.Settings.{memory_pages, are_settings}
-use Rattle.vb_core.proofs.{ChainAgreement.{Agree, same_chain, same_break}, CopyLaws.copies_count}
-use Rattle.vb_core.proofs.{DenialLemmas.{IsOpen, open_call}, RingLemmas.placed_size}
-use Rattle.vb_monitor.{specs.declared.regions.Region.Region, specs.declared.regions.Spot.Spot}
-use Rattle.vb_monitor.{specs.declared.outcome.Tally.Tally, specs.declared.outcome.Budget.Budget}
-use Rattle.vb_monitor.{specs.declared.outcome.Outcome.Outcome, specs.Regions.spot}
-use Rattle.vb_monitor.specs.Accesses.{Access, ReadWord, Acquire}
-use Rattle.vb_monitor.specs.Ends.{Whole, EndsWhere, Ends, Breaks}
-use Rattle.vb_monitor.specs.Chains.{descriptors, memory_end, Follows, CopiesBy, ServesPieces}
-use Rattle.vb_monitor.specs.Giving.{Then}
-use Rattle.vb_monitor.specs.Notices.{entry_offset, stands, HeadBy, EntryAt, TakesChain, AfterIndex}
-use Rattle.vb_monitor.specs.Notices.{IndexAt, LooksBy, TakesUnlessSpent, TakesNext, with_chains}
-use Rattle.vb_monitor.specs.Notices.{fresh, Serves}
+use Rattle.vb_core.specs.{declared.settings.Settings.Settings, Copies.copied_layout}
+use Rattle.vb_core.{specs.Settings.{memory_pages, are_settings}, proofs.ChainAgreement.Agree}
+use Rattle.vb_core.proofs.{ChainAgreement.{same_chain, same_break}, CopyLaws.copies_count}
+use Rattle.vb_core.proofs.{DenialLemmas.open_call, RingLemmas.placed_size}
+use Rattle.vb_monitor.specs.declared.{regions.Region.Region, regions.Spot.Spot, outcome.Tally.Tally}
+use Rattle.vb_monitor.specs.declared.outcome.{Budget.Budget, Outcome.Outcome}
+use Rattle.vb_monitor.specs.{Regions.spot, Accesses.{Access, ReadWord, Acquire}, Ends.Whole}
+use Rattle.vb_monitor.specs.{Ends.EndsWhere, Chains.{descriptors, memory_end, Follows, CopiesBy}}
+use Rattle.vb_monitor.specs.{Chains.ServesPieces, Giving.Then, Notices.{entry_offset, stands}}
+use Rattle.vb_monitor.specs.Notices.{HeadBy, EntryAt, TakesChain, AfterIndex, IndexAt, LooksBy}
+use Rattle.vb_monitor.specs.Notices.{TakesUnlessSpent, TakesNext, with_chains, fresh, Serves}
 use Rattle.vb_monitor.specs.{Machine.{whole, next_chain, serves}, Pieces.{piece_in, pieces_in}}
-use Rattle.vb_monitor.specs.Still.{bytes_from, Holds, Stays, IsMapped, avail_copy, table_copy}
-use Rattle.vb_monitor.specs.Still.{Behind, DoesAs}
-use Rattle.vb_monitor.proofs.StillBytes.{shown, word_shown, descriptor_shown}
-use Rattle.vb_monitor.proofs.StillWalk.{in_memory, IsWhole, IsBroken, Walk, walks}
+use Rattle.vb_monitor.specs.Still.{Stays, IsMapped, avail_copy, table_copy, Behind, DoesAs}
+use Rattle.vb_monitor.proofs.{StillBytes.{shown, word_shown, descriptor_shown}, StillWalk.in_memory}
+use Rattle.vb_monitor.proofs.StillWalk.{Walk, walks}
 
 -- ---- what a notice does by what is found
 
@@ -54,8 +47,7 @@ one_behind does x rest log e h = record {
 }
 
 abbrev ByFound : Result (Option Taken) ChainFault → Whole → Device → Tally → List Access → Type 0
-ByFound (Err f) w d t log =
-    (w.outcome.why ≡ Some (Broken f)) × (w.device ≡ needing_reset d)
+ByFound (Err f) w d t log = (w.outcome.why ≡ Some (Broken f)) × (w.device ≡ needing_reset d)
 ByFound (Ok None) w d t log = (w.outcome.why ≡ None) × (w.device ≡ d)
 ByFound (Ok (Some taken)) w d t log = Behind (serves w t d taken.head taken.chain) log
 
@@ -121,15 +113,13 @@ abbrev memory : (ℕ → ℕ) → Whole → Device → Pages
 memory byte w d = shown byte (ring_of w.kind d) (memory_pages d.settings)
 
 agree : (byte : ℕ → ℕ) (w : Whole) (d : Device) (found : Result (Option Taken) ChainFault) →
-    IsShown byte w d found →
-    Agree (ring_of w.kind d).size (in_memory byte (ring_of w.kind d).table)
+    IsShown byte w d found → Agree (ring_of w.kind d).size (in_memory byte (ring_of w.kind d).table)
     (descriptor_at (memory byte w d) 0)
 agree byte w d found is i lt =
     sym (descriptor_shown byte (ring_of w.kind d) (memory_pages d.settings) i is.two is.size.most lt)
 
 same_end : (byte : ℕ → ℕ) (w : Whole) (d : Device) → memory_end d ≡ end_of (memory byte w d)
-same_end byte w d =
-    ap (λ (n : ℕ). 4096 * n) (sym (copies_count (memory_pages d.settings)
+same_end byte w d = ap (λ (n : ℕ). 4096 * n) (sym (copies_count (memory_pages d.settings)
     (avail_copy byte (ring_of w.kind d)) (table_copy byte (ring_of w.kind d))))
 
 size_so : (r : Virtqueue) → IsSize r.size → r.size ≡ descriptors r
@@ -143,8 +133,7 @@ fault_found : (byte : ℕ → ℕ) (w : Whole) (d : Device) (found : Result (Opt
     (head : ℕ) (f : ChainFault) → IsShown byte w d found → Next byte w d ≡ Ok (Some head) →
     FaultGives (in_memory byte (ring_of w.kind d).table) (ring_of w.kind d).size (memory_end d) head
     f → found ≡ Err f
-fault_found byte w d found head f is e gives =
-    is.pops.fault head f refl e
+fault_found byte w d found head f is e gives = is.pops.fault head f refl e
     (subst (λ (n : ℕ). FaultGives (descriptor_at (memory byte w d) 0) (ring_of w.kind d).size n
     head f) (same_end byte w d)
     (same_break (in_memory byte (ring_of w.kind d).table) (descriptor_at (memory byte w d) 0)
@@ -155,8 +144,7 @@ pieces_found : (byte : ℕ → ℕ) (w : Whole) (d : Device) (found : Result (Op
     ChainGives (in_memory byte (ring_of w.kind d).table) (ring_of w.kind d).size (memory_end d) head
     pieces → found ≡ Ok (Some (record { head = head; chain = pieces }))
 pieces_found byte w d found head pieces is e gives =
-    chain_found found head pieces
-    (is.pops.chain head pieces refl e
+    chain_found found head pieces (is.pops.chain head pieces refl e
     (subst (λ (n : ℕ). ChainGives (descriptor_at (memory byte w d) 0) (ring_of w.kind d).size n
     head pieces) (same_end byte w d)
     (same_chain (in_memory byte (ring_of w.kind d).table) (descriptor_at (memory byte w d) 0)
@@ -232,9 +220,8 @@ by_entry byte w d t found (Some at) log is none next e mapped stays h =
     (next h.head head) refl all.1.1 h.goes_on))
 
 next_is : (byte : ℕ → ℕ) (w : Whole) (d : Device) (found : Result (Option Taken) ChainFault)
-    (index : ℕ) → IsShown byte w d found → index ≡ field 2 (memory byte w d) 1 2 →
-    Next byte w d ≡
-    found_by (stands (ring_of w.kind d) index)
+    (index : ℕ) → IsShown byte w d found → index ≡ field 2 (memory byte w d) 1 2
+    → Next byte w d ≡ found_by (stands (ring_of w.kind d) index)
     (field 2 (memory byte w d) 1 (entry_offset (ring_of w.kind d)))
 next_is byte w d found index is e =
     let r = ring_of w.kind d in
@@ -249,15 +236,12 @@ next_is byte w d found index is e =
 
 by_index : (byte : ℕ → ℕ) (w : Whole) (d : Device) (t0 t : Tally)
     (takes : List Access → Type 0) (found : Result (Option Taken) ChainFault)
-    (o : Result Bool ChainFault) (log : List Access) → IsShown byte w d found →
-    t0.given ≡ false → t.given ≡ false →
-    ((l : List Access) → takes l → TakesChain w (next_chain w t) d t l) →
-    Next byte w d ≡
-    found_by o (field 2 (memory byte w d) 1 (entry_offset (ring_of w.kind d))) →
-    Stays byte w.regions log → AfterIndex o w takes d t0 log → ByFound found w d t log
-by_index byte w d t0 t takes found (Err f) log is none0 none into e stays h =
-    subst (λ (x : Result (Option Taken) ChainFault). ByFound x w d t log)
-    (sym (is.pops.jump f refl e))
+    (o : Result Bool ChainFault) (log : List Access) → IsShown byte w d found → t0.given ≡ false
+    → t.given ≡ false → ((l : List Access) → takes l → TakesChain w (next_chain w t) d t l)
+    → Next byte w d ≡ found_by o (field 2 (memory byte w d) 1 (entry_offset (ring_of w.kind d)))
+    → Stays byte w.regions log → AfterIndex o w takes d t0 log → ByFound found w d t log
+by_index byte w d t0 t takes found (Err f) log is none0 none into e stays h = subst
+    (λ (x : Result (Option Taken) ChainFault). ByFound x w d t log) (sym (is.pops.jump f refl e))
     (ends_so t0.given w (needing_reset d) t0 (Some (Broken f)) false log none0 h)
 by_index byte w d t0 t takes found (Ok false) log is none0 none into e stays h =
     subst (λ (x : Result (Option Taken) ChainFault). ByFound x w d t log)
@@ -279,8 +263,7 @@ by_place byte w d t0 t takes found (Some at) log is none0 none into e mapped sta
     let r = ring_of w.kind d in
     let all : Stays byte w.regions (ReadWord at h.index ∷ h.rest) =
     subst (λ (l : List Access). Stays byte w.regions l) h.asks stays in
-    let index : h.index ≡ field 2 (memory byte w d) 1 2 =
-    all.0 (r.avail + 2) e
+    let index : h.index ≡ field 2 (memory byte w d) 1 2 = all.0 (r.avail + 2) e
     ∙ sym (word_shown byte r (memory_pages d.settings) 2 is.two is.size.most (omega arith)) in
     one_more found w d t (ReadWord at h.index) h.rest log h.asks
     (by_index byte w d t0 t takes found (stands r h.index) h.rest is none0 none into
@@ -314,17 +297,15 @@ piece_back p =
 buffers_back : (ps : List Piece) → pieces_in (map buffer_of ps) ≡ ps
 unfolding pieces_in
 buffers_back [] = refl
-buffers_back (p ∷ ps) =
-    ap (λ (q : Piece). q ∷ map piece_in (map buffer_of ps)) (piece_back p)
+buffers_back (p ∷ ps) = ap (λ (q : Piece). q ∷ map piece_in (map buffer_of ps)) (piece_back p)
     ∙ ap (λ (qs : List Piece). p ∷ qs) (buffers_back ps)
 
 by_length : (w : Whole) (d : Device) (t : Tally) (taken : Taken) (buffers : List ChainPiece)
-    (o : Result ℕ ChainFault) (log : List Access) → is_read w.kind ≡ true → t.given ≡ false →
-    length_of w.kind taken.chain ≡ o →
-    (IsOk (answer_of taken o) →
-    take (length taken.chain) buffers ≡ map buffer_of taken.chain) →
-    Behind (serves w t d taken.head taken.chain) log →
-    DoesAs (told (answer_of taken o)) buffers w t (after_fault (answer_of taken o) d) log
+    (o : Result ℕ ChainFault) (log : List Access)
+    → is_read w.kind ≡ true → t.given ≡ false → length_of w.kind taken.chain ≡ o
+    → (IsOk (answer_of taken o) → take (length taken.chain) buffers ≡ map buffer_of taken.chain)
+    → Behind (serves w t d taken.head taken.chain) log
+    → DoesAs (told (answer_of taken o)) buffers w t (after_fault (answer_of taken o) d) log
 by_length w d t taken buffers (Err f) log read none e are h =
     served_broken w.kind w (next_chain w t) d t taken.head taken.chain f h.rest read none e h.is
 by_length w d t taken buffers (Ok bytes) log read none e are h =
@@ -344,11 +325,10 @@ by_found w d t (Ok (Some taken)) buffers log read none are h =
 
 as_answered : (w : Whole) (d d3 : Device) (t : Tally) (found : Result (Option Taken) ChainFault)
     (answer : Result (Option NextChain) ChainFault) (result : Result (Option NextChain) Denial)
-    (buffers : List ChainPiece) (log : List Access) → is_read w.kind ≡ true → t.given ≡ false →
-    answer ≡ answer_to w.kind found →
-    ((taken : Taken) → found ≡ Ok (Some taken) → IsOk answer →
-    take (length taken.chain) buffers ≡ map buffer_of taken.chain) → result ≡ told answer →
-    d3 ≡ after_fault answer d → ByFound found w d t log → DoesAs result buffers w t d3 log
+    (buffers : List ChainPiece) (log : List Access) → is_read w.kind ≡ true → t.given ≡ false
+    → answer ≡ answer_to w.kind found → ((taken : Taken) → found ≡ Ok (Some taken) → IsOk answer →
+    take (length taken.chain) buffers ≡ map buffer_of taken.chain) → result ≡ told answer
+    → d3 ≡ after_fault answer d → ByFound found w d t log → DoesAs result buffers w t d3 log
 as_answered w d d3 t found answer result buffers log read none e are is after h =
     subst (λ (o : Result (Option NextChain) Denial). DoesAs o buffers w t d3 log)
     (sym (is ∙ ap (λ (o : Result (Option NextChain) ChainFault). told o) e))
@@ -426,12 +406,10 @@ looks_as byte w d d3 t0 t room takes buffers result None log read mapped fits no
     (by_place byte w d t0 t takes reads.found (spot w.regions (r.avail + 2) 2) log shown_so none0
     none into refl mapped.index stays h)
 
-unspent : (w : Whole) (d : Device) (budget : Budget) (n : ℕ) (log : List Access) →
-    budget.chains ≡ suc n → (budget.pages == 0) ≡ false →
-    TakesNext budget.chains w d (fresh budget) log →
+unspent : (w : Whole) (d : Device) (budget : Budget) (n : ℕ) (log : List Access) → budget.chains
+    ≡ suc n → (budget.pages == 0) ≡ false → TakesNext budget.chains w d (fresh budget) log →
     TakesChain w (next_chain w (with_chains n (fresh budget))) d (with_chains n (fresh budget)) log
-unspent w d budget n log e f h =
-    subst (λ (b : Bool). TakesUnlessSpent b w
+unspent w d budget n log e f h = subst (λ (b : Bool). TakesUnlessSpent b w
     (next_chain w (with_chains n (fresh budget))) d (with_chains n (fresh budget)) log) f
     (subst (λ (m : ℕ). TakesNext m w d (fresh budget) log) e h)
 

@@ -1,26 +1,21 @@
 -- The bytes of a chain's pieces, where memory stays as it is.
-use Rattle.std.proofs.Common.{◌≡◌, ◌≢◌, ◌∙◌, ap, sym, subst, refl, arith, ℕ, zero, suc, ◌+◌, ◌-◌, ◌%◌}
-use Rattle.std.proofs.Common.{◌≤◌, Bool, true, false, List, [], ◌∷◌, ◌++◌, length, map, Option, Some}
-use Rattle.std.proofs.Common.{None, Result, Ok, Err}
-use Rattle.std.{specs.Prelude.{◌==◌, nat_le, min, if◌then◌else◌}, specs.List.{flat_map, range_with_len}}
-use Rattle.std.specs.List.{AllByRecursion}
-use Rattle.std.proofs.lemmas.List.{append_assoc, append-nil, length-append}
-use Rattle.std.{proofs.lemmas.List.Concat.flat_map-append, proofs.lemmas.Bool.Decides.nat_tests}
+use Rattle.std.proofs.Common.{◌≡◌, ◌≢◌, ◌∙◌, ap, sym, subst, refl, arith, ℕ, zero, suc, ◌+◌, ◌-◌}
+use Rattle.std.proofs.Common.{◌≤◌, Bool, true, false, List, [], ◌∷◌, ◌++◌, length, Option, Some}
+use Rattle.std.{proofs.Common.{None, Result, Ok}, specs.Prelude.{◌==◌, if◌then◌else◌}}
+use Rattle.std.{specs.List.flat_map, proofs.lemmas.List.{append_assoc, append-nil, length-append}}
+use Rattle.std.proofs.lemmas.{List.Concat.flat_map-append, Bool.Decides.nat_tests}
 use Rattle.std.proofs.lemmas.List.FromFn.{length-map-range_with_len}
 use Rattle.vb_chain.{specs.declared.pieces.Piece.Piece, specs.declared.fault.ChainFault.ChainFault}
 use Rattle.vb_core.specs.declared.kinds.Kind.TheVariants.{Inflate, Deflate, Statistics, Report}
 use Rattle.vb_core.{specs.declared.kinds.Kind.Kind, specs.declared.device.Device.Device}
 use Rattle.vb_core.specs.Next.{is_read, length_of}
-use Rattle.vb_monitor.{specs.declared.parts.Part.Part, specs.declared.regions.Spot.Spot}
-use Rattle.vb_monitor.{specs.declared.regions.Region.Region, specs.declared.outcome.Tally.Tally}
-use Rattle.vb_monitor.{specs.declared.room.TheConstants.MAX_BYTES, specs.Regions.spot}
-use Rattle.vb_monitor.{specs.Accesses.{Access, CopyBytes}, specs.Ends.Whole}
-use Rattle.vb_monitor.specs.Pieces.{first_part, second_part, unless_empty, parts_of, all_parts}
-use Rattle.vb_monitor.specs.Pieces.{fits_behind, PartAt, PartBy, CopiesParts}
-use Rattle.vb_monitor.{specs.Chains.{AfterBytes, ServesPieces, CopiesBy}, specs.Giving.Then}
-use Rattle.vb_monitor.specs.Machine.{next_chain, serves, served}
-use Rattle.vb_monitor.specs.Still.{bytes_from, bytes_of, ArePartsMapped, Holds, Stays}
-use Rattle.vb_monitor.specs.Still.{Behind}
+use Rattle.vb_monitor.specs.declared.{parts.Part.Part, regions.Spot.Spot, outcome.Tally.Tally}
+use Rattle.vb_monitor.specs.{declared.room.TheConstants.MAX_BYTES, Regions.spot, Accesses.Access}
+use Rattle.vb_monitor.specs.{Accesses.CopyBytes, Ends.Whole, Pieces.{first_part, second_part}}
+use Rattle.vb_monitor.specs.Pieces.{unless_empty, parts_of, all_parts, fits_behind, PartAt, PartBy}
+use Rattle.vb_monitor.specs.{Pieces.CopiesParts, Chains.{AfterBytes, ServesPieces, CopiesBy}}
+use Rattle.vb_monitor.specs.{Giving.Then, Machine.{next_chain, serves, served}, Still.bytes_from}
+use Rattle.vb_monitor.specs.Still.{bytes_of, ArePartsMapped, Holds, Stays, Behind}
 use Rattle.vb_monitor.proofs.StillWalk.{copied_as}
 
 -- ---- bytes in a row
@@ -77,8 +72,7 @@ piece_bytes byte p =
 
 all_bytes : (byte : ℕ → ℕ) (ps : List Piece) → parts_bytes byte (all_parts ps) ≡ bytes_of byte ps
 all_bytes byte [] = refl
-all_bytes byte (p ∷ ps) =
-    flat_map-append (part_bytes byte) (parts_of p) (all_parts ps)
+all_bytes byte (p ∷ ps) = flat_map-append (part_bytes byte) (parts_of p) (all_parts ps)
     ∙ (ap (λ (l : List ℕ). l ++ parts_bytes byte (all_parts ps)) (piece_bytes byte p)
     ∙ ap (λ (l : List ℕ). bytes_from byte p.addr p.len ++ l) (all_bytes byte ps))
 
@@ -97,12 +91,11 @@ copied : (byte : ℕ → ℕ) (w : Whole) (does : List ℕ → List Access → T
     (part : Part) (parts : List Part) (so_far : List ℕ) (o : Option Spot) (log : List Access)
     (on : (now : List ℕ) (l : List Access) → length (now ++ parts_bytes byte parts) ≤ MAX_BYTES →
     Stays byte w.regions l → CopiesParts w does d t parts now l →
-    Behind (does (now ++ parts_bytes byte parts)) l) →
-    spot w.regions (part.address + part.plus) part.length ≡ o → o ≢ None →
-    length (so_far ++ (part_bytes byte part ++ parts_bytes byte parts)) ≤ MAX_BYTES →
-    Stays byte w.regions log →
-    PartAt w (CopiesParts w does d t parts) d t part so_far o log →
-    Behind (does (so_far ++ (part_bytes byte part ++ parts_bytes byte parts))) log
+    Behind (does (now ++ parts_bytes byte parts)) l)
+    → spot w.regions (part.address + part.plus) part.length ≡ o
+    → o ≢ None → length (so_far ++ (part_bytes byte part ++ parts_bytes byte parts)) ≤ MAX_BYTES
+    → Stays byte w.regions log → PartAt w (CopiesParts w does d t parts) d t part so_far o log
+    → Behind (does (so_far ++ (part_bytes byte part ++ parts_bytes byte parts))) log
 copied byte w does d t part parts so_far None log on e mapped room stays h = absurd (mapped refl)
 copied byte w does d t part parts so_far (Some at) log on e mapped room stays h =
     let all : Holds byte w.regions (CopyBytes at h.bytes) × Stays byte w.regions h.rest =
@@ -123,10 +116,9 @@ copied byte w does d t part parts so_far (Some at) log on e mapped room stays h 
     }
 
 copies : (byte : ℕ → ℕ) (w : Whole) (does : List ℕ → List Access → Type 0) (d : Device) (t : Tally)
-    (parts : List Part) (so_far : List ℕ) (log : List Access) → ArePartsMapped w.regions parts →
-    length (so_far ++ parts_bytes byte parts) ≤ MAX_BYTES → Stays byte w.regions log →
-    CopiesParts w does d t parts so_far log →
-    Behind (does (so_far ++ parts_bytes byte parts)) log
+    (parts : List Part) (so_far : List ℕ) (log : List Access) → ArePartsMapped w.regions parts
+    → length (so_far ++ parts_bytes byte parts) ≤ MAX_BYTES → Stays byte w.regions log
+    → CopiesParts w does d t parts so_far log → Behind (does (so_far ++ parts_bytes byte parts)) log
 copies byte w does d t [] so_far log mapped room stays h = record {
   read = [];
   rest = log;
@@ -138,9 +130,8 @@ copies byte w does d t (part ∷ parts) so_far log mapped room stays h =
     length-map-range_with_len byte (part.address + part.plus) part.length in
     let room_so : fits_behind so_far part ≡ true =
     fits so_far (part_bytes byte part) (parts_bytes byte parts) part long room in
-    copied byte w does d t part parts so_far
-    (spot w.regions (part.address + part.plus) part.length) log
-    (λ now l room2 stays2 h2. copies byte w does d t parts now l mapped.1 room2 stays2 h2) refl
+    copied byte w does d t part parts so_far (spot w.regions (part.address + part.plus) part.length)
+    log (λ now l room2 stays2 h2. copies byte w does d t parts now l mapped.1 room2 stays2 h2) refl
     mapped.0 room stays
     (subst (λ (b : Bool). PartBy b w (CopiesParts w does d t parts) d t part so_far log) room_so h)
 
@@ -158,22 +149,18 @@ read_whole byte w does d t pieces log mapped room stays h =
     (subst (λ (l : List ℕ). length l ≤ MAX_BYTES) (sym same) room) stays h)
 
 by_kind : (byte : ℕ → ℕ) (kind : Kind) (w : Whole) (next : Then) (d : Device) (t : Tally) (head : ℕ)
-    (pieces : List Piece) (n : ℕ) (log : List Access) → is_read kind ≡ true →
-    length_of kind pieces ≡ Ok n → ArePartsMapped w.regions (all_parts pieces) →
-    length (bytes_of byte pieces) ≤ MAX_BYTES → Stays byte w.regions log →
-    ServesPieces kind w next d t head pieces log →
-    Behind (λ rest. AfterBytes w.kind w next d t head (bytes_of byte pieces) rest) log
-by_kind byte Inflate w next d t head pieces n log read e mapped room stays h =
-    read_whole byte w (λ bytes rest. AfterBytes w.kind w next d t head bytes rest) d t pieces log
-    mapped room stays
+    (pieces : List Piece) (n : ℕ) (log : List Access) → is_read kind ≡ true → length_of kind pieces
+    ≡ Ok n → ArePartsMapped w.regions (all_parts pieces) → length (bytes_of byte pieces) ≤ MAX_BYTES
+    → Stays byte w.regions log → ServesPieces kind w next d t head pieces log
+    → Behind (λ rest. AfterBytes w.kind w next d t head (bytes_of byte pieces) rest) log
+by_kind byte Inflate w next d t head pieces n log read e mapped room stays h = read_whole byte w
+    (λ bytes rest. AfterBytes w.kind w next d t head bytes rest) d t pieces log mapped room stays
     (subst (λ (o : Result ℕ ChainFault). CopiesBy o w next d t head pieces log) e h)
-by_kind byte Deflate w next d t head pieces n log read e mapped room stays h =
-    read_whole byte w (λ bytes rest. AfterBytes w.kind w next d t head bytes rest) d t pieces log
-    mapped room stays
+by_kind byte Deflate w next d t head pieces n log read e mapped room stays h = read_whole byte w
+    (λ bytes rest. AfterBytes w.kind w next d t head bytes rest) d t pieces log mapped room stays
     (subst (λ (o : Result ℕ ChainFault). CopiesBy o w next d t head pieces log) e h)
-by_kind byte Statistics w next d t head pieces n log read e mapped room stays h =
-    read_whole byte w (λ bytes rest. AfterBytes w.kind w next d t head bytes rest) d t pieces log
-    mapped room stays
+by_kind byte Statistics w next d t head pieces n log read e mapped room stays h = read_whole byte w
+    (λ bytes rest. AfterBytes w.kind w next d t head bytes rest) d t pieces log mapped room stays
     (subst (λ (o : Result ℕ ChainFault). CopiesBy o w next d t head pieces log) e h)
 by_kind byte Report w next d t head pieces n log read e mapped room stays h = absurd cc
 

@@ -1,23 +1,18 @@
 -- The walk along a chain, where memory stays as it is.
-use Rattle.std.proofs.Common.{◌≡◌, ◌≢◌, ◌⊎◌, ◌∙◌, ap, sym, subst, refl, arith, inl, inr, ℕ, zero, suc}
-use Rattle.std.proofs.Common.{◌+◌, ◌*◌, ◌<◌, ◌≤◌, Bool, true, false, List, [], ◌∷◌, ◌++◌, length, map}
-use Rattle.std.proofs.Common.{take, Option, Some, None}
-use Rattle.std.{specs.Prelude.{◌||◌, ◌&&◌, nat_lt, nat_le, if◌then◌else◌}, specs.List.list_any}
-use Rattle.std.proofs.lemmas.Bool.Decides.{nat_tests}
-use Rattle.std.proofs.lemmas.List.{length-map, length-take-le}
-use Rattle.vb_chain.{specs.declared.descriptor.Descriptor.Descriptor, proofs.Walking.Walked}
-use Rattle.vb_chain.{specs.declared.pieces.Piece.Piece, specs.declared.fault.ChainFault.ChainFault}
-use Rattle.vb_chain.specs.declared.fault.ChainFault.TheVariants.{TooLong}
-use Rattle.vb_chain.specs.Rules.{has_next, is_writable, piece_of, first_fault}
-use Rattle.vb_chain.{specs.Chain.{ChainGives, FaultGives}, proofs.Walking.{walked_fault, walked_more}}
-use Rattle.vb_chain.proofs.Walking.{walked_chain}
+use Rattle.std.proofs.Common.{◌≡◌, ◌≢◌, ◌⊎◌, ◌∙◌, ap, sym, subst, refl, arith, inl, inr, ℕ, zero}
+use Rattle.std.proofs.Common.{suc, ◌+◌, ◌*◌, ◌<◌, Bool, true, false, List, [], ◌∷◌, ◌++◌, length}
+use Rattle.std.{proofs.Common.{take, Option, Some, None}, specs.Prelude.{◌||◌, ◌&&◌}}
+use Rattle.std.proofs.lemmas.{Bool.Decides.nat_tests, List.{length-map, length-take-le}}
+use Rattle.vb_chain.proofs.Walking.{Walked, walked_fault, walked_more, walked_chain}
+use Rattle.vb_chain.specs.{Chain.{ChainGives, FaultGives}, Rules.{has_next, is_writable, piece_of}}
+use Rattle.vb_chain.specs.{Rules.first_fault, declared.descriptor.Descriptor.Descriptor}
+use Rattle.vb_chain.specs.declared.{fault.ChainFault.ChainFault, pieces.Piece.Piece}
 use Rattle.vb_core.{specs.declared.device.Device.Device, specs.Devices.ring_of}
-use Rattle.vb_monitor.{specs.declared.regions.Region.Region, specs.declared.regions.Spot.Spot}
-use Rattle.vb_monitor.{specs.declared.outcome.Tally.Tally, specs.Accesses.{Access, CopyBytes}}
-use Rattle.vb_monitor.{specs.Ends.{Whole, Breaks}, specs.Regions.spot}
+use Rattle.vb_monitor.specs.declared.{regions.Region.Region, regions.Spot.Spot, outcome.Tally.Tally}
+use Rattle.vb_monitor.specs.{Accesses.{Access, CopyBytes}, Ends.{Whole, Breaks}, Regions.spot}
 use Rattle.vb_monitor.specs.Chains.{descriptor_of, descriptors, memory_end, table_fault, Follows}
-use Rattle.vb_monitor.specs.Chains.{DescriptorBy, DescriptorAt, GoesOn}
-use Rattle.vb_monitor.specs.Still.{bytes_from, Holds, Stays}
+use Rattle.vb_monitor.specs.{Chains.{DescriptorBy, DescriptorAt, GoesOn}, Still.{bytes_from, Holds}}
+use Rattle.vb_monitor.specs.Still.{Stays}
 
 -- the descriptors that memory has from an address on
 abbrev pub in_memory : (ℕ → ℕ) → ℕ → ℕ → Descriptor
@@ -43,8 +38,7 @@ pub record IsBroken (w : Whole) (d : Device) (t : Tally) (ds : ℕ → Descripto
 
 abbrev pub Walk : Whole → Device → Tally → (List Piece → List Access → Type 0) →
     (ℕ → Descriptor) → ℕ → ℕ → ℕ → List Access → Type 0
-Walk w d t whole ds q end head log =
-    IsWhole whole ds q end head log ⊎ IsBroken w d t ds q end head
+Walk w d t whole ds q end head log = IsWhole whole ds q end head log ⊎ IsBroken w d t ds q end head
 
 -- behind one more access
 further : (w : Whole) (d : Device) (t : Tally) (whole : List Piece → List Access → Type 0)
@@ -77,8 +71,7 @@ first_alone q end writing k x lt = grind (arith, nat_tests)
 
 visited : (ds : ℕ → Descriptor) (q end head : ℕ) (path : List ℕ) (i index : ℕ) (writing : Bool)
     (pieces : List Piece) → Walked ds q end head path i index writing pieces → length pieces ≡ i
-visited ds q end head path i index writing pieces w =
-    ap (λ (ps : List Piece). length ps) w.read
+visited ds q end head path i index writing pieces w = ap (λ (ps : List Piece). length ps) w.read
     ∙ (length-map (take i path) (λ (j : ℕ). piece_of (ds j))
     ∙ length-take-le i path (omega (arith, w.count)))
 
@@ -87,8 +80,7 @@ pub copied_as : (byte : ℕ → ℕ) (regions : List Region) (a len : ℕ) (at :
     Holds byte regions (CopyBytes at bytes) → spot regions a len ≡ Some at → length bytes ≡ len →
     bytes ≡ bytes_from byte a len
 copied_as byte regions a len at bytes holds e long =
-    holds a (ap (λ (n : ℕ). spot regions a n) long ∙ e)
-    ∙ ap (λ (n : ℕ). bytes_from byte a n) long
+    holds a (ap (λ (n : ℕ). spot regions a n) long ∙ e) ∙ ap (λ (n : ℕ). bytes_from byte a n) long
 
 -- ---- the walk
 
@@ -96,20 +88,18 @@ copied_as byte regions a len at bytes holds e long =
 abbrev Onward : (ℕ → ℕ) → Whole → Device → Tally → (List Piece → List Access → Type 0) →
     (ℕ → Bool → List Piece → List Access → Type 0) → (ℕ → Descriptor) → ℕ → ℕ → ℕ → ℕ → Type 0
 Onward byte w d t whole follows ds q end head i =
-    (path : List ℕ) (index : ℕ) (writing : Bool) (pieces : List Piece) (log : List Access) →
-    i < q → index < q → Walked ds q end head path i index writing pieces →
-    Stays byte w.regions log → follows index writing pieces log →
-    Walk w d t whole ds q end head log
+    (path : List ℕ) (index : ℕ) (writing : Bool) (pieces : List Piece) (log : List Access) → i < q
+    → index < q → Walked ds q end head path i index writing pieces → Stays byte w.regions log
+    → follows index writing pieces log → Walk w d t whole ds q end head log
 
 goes : (byte : ℕ → ℕ) (w : Whole) (d : Device) (t : Tally)
     (whole : List Piece → List Access → Type 0)
-    (follows : ℕ → Bool → List Piece → List Access → Type 0) (ds : ℕ → Descriptor)
-    (q end head : ℕ) (path : List ℕ) (i index : ℕ) (writing : Bool) (pieces : List Piece)
-    (log : List Access) (on : Onward byte w d t whole follows ds q end head (i + 1)) (more : Bool) →
-    i < q → Walked ds q end head path i index writing pieces →
-    first_fault q end writing i (ds index) ≡ None → has_next (ds index) ≡ more →
-    Stays byte w.regions log → GoesOn more follows whole writing (ds index) pieces log →
-    Walk w d t whole ds q end head log
+    (follows : ℕ → Bool → List Piece → List Access → Type 0) (ds : ℕ → Descriptor) (q end head : ℕ)
+    (path : List ℕ) (i index : ℕ) (writing : Bool) (pieces : List Piece) (log : List Access)
+    (on : Onward byte w d t whole follows ds q end head (i + 1)) (more : Bool) → i < q
+    → Walked ds q end head path i index writing pieces → first_fault q end writing i (ds index)
+    ≡ None → has_next (ds index) ≡ more → Stays byte w.regions log
+    → GoesOn more follows whole writing (ds index) pieces log → Walk w d t whole ds q end head log
 goes byte w d t whole follows ds q end head path i index writing pieces log on true lt walked e f
     stays h =
     let below = next_below q end writing i (ds index) e f in
@@ -128,14 +118,12 @@ goes byte w d t whole follows ds q end head path i index writing pieces log on f
 
 by_fault : (byte : ℕ → ℕ) (w : Whole) (d : Device) (t : Tally)
     (whole : List Piece → List Access → Type 0)
-    (follows : ℕ → Bool → List Piece → List Access → Type 0) (ds : ℕ → Descriptor)
-    (q end head : ℕ) (path : List ℕ) (i index : ℕ) (writing : Bool) (pieces : List Piece)
-    (log : List Access) (on : Onward byte w d t whole follows ds q end head (i + 1))
-    (o : Option ChainFault) →
-    i < q → Walked ds q end head path i index writing pieces →
-    first_fault q end writing i (ds index) ≡ o → Stays byte w.regions log →
-    DescriptorBy o w d t follows whole writing (ds index) pieces log →
-    Walk w d t whole ds q end head log
+    (follows : ℕ → Bool → List Piece → List Access → Type 0) (ds : ℕ → Descriptor) (q end head : ℕ)
+    (path : List ℕ) (i index : ℕ) (writing : Bool) (pieces : List Piece) (log : List Access)
+    (on : Onward byte w d t whole follows ds q end head (i + 1)) (o : Option ChainFault) → i < q
+    → Walked ds q end head path i index writing pieces → first_fault q end writing i (ds index) ≡ o
+    → Stays byte w.regions log → DescriptorBy o w d t follows whole writing (ds index) pieces log
+    → Walk w d t whole ds q end head log
 by_fault byte w d t whole follows ds q end head path i index writing pieces log on (Some f) lt
     walked e stays h = inr (record {
       fault = f;
@@ -144,8 +132,7 @@ by_fault byte w d t whole follows ds q end head path i index writing pieces log 
       breaks = h;
     })
 by_fault byte w d t whole follows ds q end head path i index writing pieces log on None lt walked e
-    stays h =
-    goes byte w d t whole follows ds q end head path i index writing pieces log on
+    stays h = goes byte w d t whole follows ds q end head path i index writing pieces log on
     (has_next (ds index)) lt walked e refl stays h
 
 -- a descriptor is copied, which is the one that memory has
@@ -161,17 +148,16 @@ descriptor : (byte : ℕ → ℕ) (w : Whole) (d : Device) (t : Tally)
     Walk w d t whole (in_memory byte (ring_of w.kind d).table) q (memory_end d) head log
 descriptor byte w d t whole follows q head path i index writing pieces log on None is e mapped lt
     walked stays h = absurd (mapped refl)
-descriptor byte w d t whole follows q head path i index writing pieces log on (Some at) is e mapped
-    lt walked stays h =
+descriptor byte w d t whole follows q head path i index writing pieces log on
+    (Some at) is e mapped lt walked stays h =
     let table = (ring_of w.kind d).table in
     let ds = in_memory byte table in
     let end = memory_end d in
     let both : Holds byte w.regions (CopyBytes at h.bytes) × Stays byte w.regions h.rest =
     subst (λ (l : List Access). Stays byte w.regions l) h.asks stays in
-    let same : descriptor_of h.bytes ≡ ds index =
-    ap descriptor_of (copied_as byte w.regions (table + 16 * index) 16 at h.bytes both.0 e h.long) in
-    let k : length pieces ≡ i =
-    visited ds q end head path i index writing pieces walked in
+    let same : descriptor_of h.bytes ≡ ds index = ap descriptor_of
+    (copied_as byte w.regions (table + 16 * index) 16 at h.bytes both.0 e h.long) in
+    let k : length pieces ≡ i = visited ds q end head path i index writing pieces walked in
     let fault : table_fault (descriptors (ring_of w.kind d)) end writing (length pieces)
     (descriptor_of h.bytes) ≡ first_fault q end writing i (ds index) =
     ap (λ (n : ℕ). table_fault n end writing (length pieces) (descriptor_of h.bytes)) (sym is)
@@ -189,20 +175,18 @@ descriptor byte w d t whole follows q head path i index writing pieces log on (S
 -- where so many more descriptors fit the table, i were visited, and this one is next
 pub walks : (n : ℕ) (byte : ℕ → ℕ) (w : Whole) (d : Device) (t : Tally)
     (whole : List Piece → List Access → Type 0) (q head : ℕ) (path : List ℕ) (i index : ℕ)
-    (writing : Bool) (pieces : List Piece) (log : List Access) →
-    q ≡ descriptors (ring_of w.kind d) →
-    ((k : ℕ) → k < q → spot w.regions ((ring_of w.kind d).table + 16 * k) 16 ≢ None) →
-    n + i ≡ q → i < q → index < q →
-    Walked (in_memory byte (ring_of w.kind d).table) q (memory_end d) head path i index writing
-    pieces → Stays byte w.regions log → Follows n w d t whole index writing pieces log →
-    Walk w d t whole (in_memory byte (ring_of w.kind d).table) q (memory_end d) head log
+    (writing : Bool) (pieces : List Piece) (log : List Access) → q ≡ descriptors (ring_of w.kind d)
+    → ((k : ℕ) → k < q → spot w.regions ((ring_of w.kind d).table + 16 * k) 16 ≢ None)
+    → n + i ≡ q → i < q → index < q
+    → Walked (in_memory byte (ring_of w.kind d).table) q (memory_end d) head path i index writing
+    pieces → Stays byte w.regions log → Follows n w d t whole index writing pieces log
+    → Walk w d t whole (in_memory byte (ring_of w.kind d).table) q (memory_end d) head log
 walks zero byte w d t whole q head path i index writing pieces log is mapped sum lt below walked
     stays h = absurd (omega (arith, sum, lt))
 walks (suc n) byte w d t whole q head path i index writing pieces log is mapped sum lt below walked
-    stays h =
-    descriptor byte w d t whole (Follows n w d t whole) q head path i index writing pieces log
-    (λ path2 index2 writing2 pieces2 log2 lt2 below2 walked2 stays2 h2.
+    stays h = descriptor byte w d t whole (Follows n w d t whole) q head path
+    i index writing pieces log (λ path2 index2 writing2 pieces2 log2 lt2 below2 walked2 stays2 h2.
     walks n byte w d t whole q head path2 (i + 1) index2 writing2 pieces2 log2 is mapped
     (omega (arith, sum)) lt2 below2 walked2 stays2 h2)
-    (spot w.regions ((ring_of w.kind d).table + 16 * index) 16) is refl (mapped index below) lt
-    walked stays h
+    (spot w.regions ((ring_of w.kind d).table + 16 * index) 16) is refl
+    (mapped index below) lt walked stays h

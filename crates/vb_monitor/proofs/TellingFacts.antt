@@ -1,17 +1,11 @@
 -- What is told, discarded and written in its turn, worked out. Of a list the last access stands first.
 use Rattle.std.proofs.Common.{◌≡◌, ◌∙◌, ◌<◌, refl, ap, arith, ℕ, zero, suc, Bool, true, false, List, [], ◌∷◌, map, length, take, Option, Some, None, Result, Ok, Err, sym}
 use Rattle.std.specs.Prelude.{slice_index_or}
-use Rattle.vb_chain.specs.declared.pieces.Piece.{Piece}
-use Rattle.vb_chain.specs.declared.fault.ChainFault.{ChainFault}
-use Rattle.vb_request.specs.Request.{numbers_of}
-use Rattle.vb_request.specs.Report.{report_request}
+use Rattle.vb_chain.specs.declared.{pieces.Piece.Piece, fault.ChainFault.ChainFault}
+use Rattle.vb_request.specs.{Request.numbers_of, Report.report_request}
 use Rattle.vb_core.specs.declared.kinds.Kind.TheVariants.{Inflate, Deflate, Statistics, Report}
-use Rattle.vb_core.specs.declared.runs.Run.{Run}
-use Rattle.vb_core.specs.declared.name.Named.{Named}
-use Rattle.vb_core.specs.declared.settings.Settings.{Settings}
-use Rattle.vb_core.specs.declared.statistics.Statistic.{Statistic}
-use Rattle.vb_core.specs.Runs.{Tell}
-use Rattle.vb_core.specs.Statistics.{figure_at}
+use Rattle.vb_core.specs.declared.{runs.Run.Run, name.Named.Named, settings.Settings.Settings}
+use Rattle.vb_core.specs.{declared.statistics.Statistic.Statistic, Runs.Tell, Statistics.figure_at}
 use Rattle.vb_core.proofs.OneTelling.{told_once}
 use Rattle.vb_monitor.specs.declared.regions.Spot.{Spot}
 use Rattle.vb_monitor.specs.declared.cuts.Cut.{Cut}

@@ -1,11 +1,10 @@
 -- Which bytes accesses touch, and how many accesses a list has, worked out.
 use Rattle.std.proofs.Common.{◌≡◌, ◌∙◌, refl, ap, arith, ℕ, Bool, true, false, [], ◌∷◌, map, Option, Some, None}
-use Rattle.vb_monitor.specs.declared.regions.Region.{Region}
-use Rattle.vb_monitor.specs.Accesses.{ReadWord, CopyBytes, Acquire, Release, Full, Discard, WriteNumber, WriteWord}
-use Rattle.vb_monitor.specs.Regions.{is_region}
-use Rattle.vb_monitor.specs.Touched.{IsWithin, Touches}
-use Rattle.vb_monitor.specs.Counts.{no_discard, others}
-use Rattle.vb_monitor.proofs.Samples.{Same, low, high, two, at, index, part, pages, figures, discard, id, used_index}
+use Rattle.vb_monitor.specs.{declared.regions.Region.Region, Accesses.{ReadWord, CopyBytes}}
+use Rattle.vb_monitor.specs.Accesses.{Acquire, Release, Full, Discard, WriteNumber, WriteWord}
+use Rattle.vb_monitor.specs.{Regions.is_region, Touched.{IsWithin, Touches}, Counts.no_discard}
+use Rattle.vb_monitor.{specs.Counts.others, proofs.Samples.{Same, low, high, two, at, index, part}}
+use Rattle.vb_monitor.proofs.Samples.{pages, figures, discard, id, used_index}
 
 -- ---- within a region
 

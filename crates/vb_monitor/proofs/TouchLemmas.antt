@@ -1,16 +1,14 @@
 -- What is found lies within a region.
-use Rattle.std.proofs.Common.{◌≡◌, ◌∙◌, sym, subst, refl, arith, ℕ, suc, ◌+◌, ◌*◌, ◌-◌, ◌≤◌, ◌<◌}
+use Rattle.std.proofs.Common.{◌≡◌, sym, subst, refl, arith, ℕ, suc, ◌+◌, ◌-◌, ◌≤◌}
 use Rattle.std.proofs.Common.{Bool, true, false, List, [], ◌∷◌, ◌++◌, Option, Some, None}
 use Rattle.std.{specs.Prelude.{slice_get, if◌then◌else◌}, proofs.lemmas.Bool.Decides.nat_tests}
-use Rattle.vb_core.{specs.declared.kinds.Kind.Kind, specs.declared.runs.Run.Run}
-use Rattle.vb_core.specs.declared.device.Device.{Device}
+use Rattle.vb_core.specs.declared.{kinds.Kind.Kind, runs.Run.Run, device.Device.Device}
+use Rattle.vb_monitor.{proofs.GivenLemmas.Allows, proofs.RowLemmas.looks_row, specs.Accesses.Access}
+use Rattle.vb_monitor.specs.{Ends.Whole, Notices.{Serves, fresh}, Order.{Row, Cuts, MayFollow}}
 use Rattle.vb_monitor.specs.Regions.{is_region, holds, spot_from, spot, meets, cut_of, cuts_from}
-use Rattle.vb_monitor.{specs.declared.regions.Region.Region, specs.declared.regions.Spot.Spot}
-use Rattle.vb_monitor.{specs.declared.cuts.Cut.Cut, specs.declared.outcome.Budget.Budget}
-use Rattle.vb_monitor.{specs.declared.outcome.Outcome.Outcome, specs.Accesses.Access}
-use Rattle.vb_monitor.{specs.Regions.cuts_of, specs.Ends.Whole, specs.Notices.{Serves, fresh}}
-use Rattle.vb_monitor.{specs.Touched.{IsWithin, Touches}, specs.Order.{Row, Cuts, MayFollow}}
-use Rattle.vb_monitor.{proofs.GivenLemmas.Allows, proofs.RowLemmas.looks_row}
+use Rattle.vb_monitor.specs.{Regions.cuts_of, Touched.{IsWithin, Touches}, declared.cuts.Cut.Cut}
+use Rattle.vb_monitor.specs.declared.outcome.{Budget.Budget, Outcome.Outcome}
+use Rattle.vb_monitor.specs.declared.regions.{Region.Region, Spot.Spot}
 
 -- the bytes lie in the region that is so many behind the first one
 pub record IsIn (rs : List Region) (k offset len : ℕ) : Type 0 where
@@ -36,19 +34,18 @@ found_by r rs n a len at behind true e h =
     let held = is_held r a len e in
     subst (λ (s : Spot). Found (r ∷ rs) n len s) is
     (0, (omega arith, record { region = r; there = refl; possible = held.0; inside = held.1 }))
-found_by r rs n a len at behind false e h =
-    let x = behind h in (
-      suc x.0,
-      (
-        omega (arith, x.1.0),
-        record {
-          region = x.1.1.region;
-          there = x.1.1.there;
-          possible = x.1.1.possible;
-          inside = x.1.1.inside;
-        },
-      ),
-    )
+found_by r rs n a len at behind false e h = let x = behind h in (
+  suc x.0,
+  (
+    omega (arith, x.1.0),
+    record {
+      region = x.1.1.region;
+      there = x.1.1.there;
+      possible = x.1.1.possible;
+      inside = x.1.1.inside;
+    },
+  ),
+)
 
 found : (rs : List Region) (n a len : ℕ) (at : Spot) → spot_from n rs a len ≡ Some at →
     Found rs n len at
@@ -106,8 +103,7 @@ append_cuts may (x ∷ xs) ys a b = (a.0, append_cuts may xs ys a.1 b)
 
 runs_within : (all : List Region) (runs : List Run) → Cuts (Any all) (cuts_of all runs)
 runs_within all [] = tt
-runs_within all (run ∷ runs) =
-    append_cuts (Any all) (cuts_from 0 all run) (cuts_of all runs)
+runs_within all (run ∷ runs) = append_cuts (Any all) (cuts_from 0 all run) (cuts_of all runs)
     (cuts_within all all 0 run (λ k r e.
     let on : k ≡ 0 + k = omega arith in subst (λ (j : ℕ). slice_get all j ≡ Some r) on e))
     (runs_within all runs)
@@ -117,9 +113,8 @@ runs_within all (run ∷ runs) =
 allowed : (w : Whole) → Allows w (Any w.regions)
 allowed w = record {
   word = λ b a at answer e. within w.regions a 2 at e;
-  copy = λ b a len at bytes was e long.
-      subst (λ (n : ℕ). IsWithin w.regions at.region at.offset n) (sym long)
-      (within w.regions a len at e);
+  copy = λ b a len at bytes was e long. subst (λ (n : ℕ). IsWithin w.regions at.region at.offset n)
+      (sym long) (within w.regions a len at e);
   acquire = λ at answer. tt;
   release = λ at n. tt;
   full = λ b. tt;

@@ -1,40 +1,36 @@
 -- What each access of a notice is, by those before it: the walk along a chain, looks, and the laws.
-use Rattle.std.proofs.Common.{◌≡◌, ◌∙◌, ap, sym, subst, refl, ℕ, zero, suc, ◌+◌, ◌*◌, Bool, true}
+use Rattle.std.proofs.Common.{◌≡◌, ap, sym, subst, refl, ℕ, zero, suc, ◌+◌, ◌*◌, Bool, true}
 use Rattle.std.proofs.Common.{false, List, [], ◌∷◌, ◌++◌, length, Option, Some, None, Result, Ok}
 use Rattle.std.{proofs.Common.Err, specs.Prelude.{◌==◌, nat_lt}}
-use Rattle.vb_chain.{specs.declared.pieces.Piece.Piece, specs.declared.fault.ChainFault.ChainFault}
-use Rattle.vb_chain.specs.declared.descriptor.Descriptor.{Descriptor}
-use Rattle.vb_chain.specs.Rules.{has_next, piece_of}
+use Rattle.vb_chain.specs.declared.{pieces.Piece.Piece, fault.ChainFault.ChainFault}
+use Rattle.vb_chain.specs.{declared.descriptor.Descriptor.Descriptor, Rules.{has_next, piece_of}}
 use Rattle.vb_core.{specs.declared.kinds.Kind.Kind, specs.declared.ring.Virtqueue.Virtqueue}
 use Rattle.vb_core.specs.declared.kinds.Kind.TheVariants.{Inflate, Deflate, Statistics, Report}
 use Rattle.vb_core.{specs.declared.device.Denial.Denial, specs.declared.device.Device.Device}
 use Rattle.vb_core.specs.Devices.{ring_of, queue_denial}
-use Rattle.vb_monitor.specs.Chains.{ServesPieces, GoesOn, DescriptorBy, DescriptorAt, Follows}
-use Rattle.vb_monitor.specs.Notices.{HeadBy, EntryAt, entry_offset, stands, AfterIndex, IndexAt}
-use Rattle.vb_monitor.specs.Notices.{LooksBy, AfterGiven, TakesUnlessSpent, TakesNext, Looks}
-use Rattle.vb_monitor.specs.SoFar.{Each, Known, Unknown, Walks, Has, known, ring_after, is_fenced}
-use Rattle.vb_monitor.specs.Turns.{is_over, ends_in_full, ReadsWord, CopiesNext, ReadsInTurn}
 use Rattle.vb_monitor.proofs.TurnLemmas.{Comes, Agrees, flags_of, ends_each, breaks_each, After}
-use Rattle.vb_monitor.specs.Chains.{table_fault, descriptor_of, descriptors, memory_end}
-use Rattle.vb_monitor.specs.Accesses.{Access, ReadWord, CopyBytes, Acquire, WriteWord}
-use Rattle.vb_monitor.{specs.SoFar.{with_word, with_descriptor, with_copied}, specs.Regions.spot}
-use Rattle.vb_monitor.{specs.Notices.{with_chains, Serves, fresh}, specs.declared.regions.Spot.Spot}
-use Rattle.vb_monitor.{specs.Turns.{TellsInTurn, WritesUsedAlone}, specs.Giving.Then}
-use Rattle.vb_monitor.{specs.declared.outcome.Outcome.Outcome, specs.declared.regions.Region.Region}
-use Rattle.vb_monitor.{specs.declared.outcome.Budget.Budget, proofs.TurnRows.{Begun, pieces_each}}
-use Rattle.vb_monitor.{specs.declared.outcome.Tally.Tally, specs.Ends.Whole}
+use Rattle.vb_monitor.{proofs.TurnRows.{Begun, pieces_each}, specs.Accesses.{Access, ReadWord}}
+use Rattle.vb_monitor.specs.{Accesses.{CopyBytes, Acquire, WriteWord}, Chains.ServesPieces}
+use Rattle.vb_monitor.specs.Chains.{GoesOn, DescriptorBy, DescriptorAt, Follows, table_fault}
+use Rattle.vb_monitor.specs.{Chains.{descriptor_of, descriptors, memory_end}, Ends.Whole}
+use Rattle.vb_monitor.specs.{Giving.Then, Notices.{HeadBy, EntryAt, entry_offset, stands}}
+use Rattle.vb_monitor.specs.Notices.{AfterIndex, IndexAt, LooksBy, AfterGiven, TakesUnlessSpent}
+use Rattle.vb_monitor.specs.{Notices.{TakesNext, with_chains, Serves, fresh}, Regions.spot}
+use Rattle.vb_monitor.specs.SoFar.{Each, Known, Unknown, Walks, known, ring_after, is_fenced}
+use Rattle.vb_monitor.specs.{SoFar.{with_word, with_descriptor, with_copied}, Turns.ends_in_full}
+use Rattle.vb_monitor.specs.Turns.{ReadsWord, CopiesNext, ReadsInTurn, TellsInTurn, WritesUsedAlone}
+use Rattle.vb_monitor.specs.declared.outcome.{Budget.Budget, Outcome.Outcome, Tally.Tally}
+use Rattle.vb_monitor.specs.declared.regions.{Region.Region, Spot.Spot}
 
 -- ---- the walk
 
 abbrev On : Whole → Device → Device → ℕ → (ℕ → Bool → List Piece → List Access → Type 0) → Type 0
-On w d0 d head on =
-    (n : ℕ) (writing : Bool) (ps : List Piece) (b rest : List Access) → Agrees w d0 b d →
-    known w.kind b ≡ Walks head n ps → on n writing ps rest → Each (Comes w d0) b rest
+On w d0 d head on = (n : ℕ) (writing : Bool) (ps : List Piece) (b rest : List Access) → Agrees
+    w d0 b d → known w.kind b ≡ Walks head n ps → on n writing ps rest → Each (Comes w d0) b rest
 
 abbrev Last : Whole → Device → Device → ℕ → (List Piece → List Access → Type 0) → Type 0
-Last w d0 d head done =
-    (ps : List Piece) (b rest : List Access) → Agrees w d0 b d → Begun w head ps b →
-    done ps rest → Each (Comes w d0) b rest
+Last w d0 d head done = (ps : List Piece) (b rest : List Access)
+    → Agrees w d0 b d → Begun w head ps b → done ps rest → Each (Comes w d0) b rest
 
 goes_on : (w : Whole) (d0 d : Device) (head : ℕ)
     (on : ℕ → Bool → List Piece → List Access → Type 0) (done : List Piece → List Access → Type 0)
@@ -50,10 +46,9 @@ goes_on w d0 d head on done more last false writing x pieces b log is read h =
 descriptor_by : (w : Whole) (d0 d : Device) (t : Tally) (head : ℕ)
     (on : ℕ → Bool → List Piece → List Access → Type 0) (done : List Piece → List Access → Type 0)
     (more : On w d0 d head on) (last : Last w d0 d head done) (fault : Option ChainFault)
-    (writing : Bool) (x : Descriptor) (pieces : List Piece) (b log : List Access) →
-    Agrees w d0 b d →
-    known w.kind b ≡ with_descriptor (has_next x) w.kind head (pieces ++ piece_of x ∷ []) x.next →
-    DescriptorBy fault w d t on done writing x pieces log → Each (Comes w d0) b log
+    (writing : Bool) (x : Descriptor) (pieces : List Piece) (b log : List Access) → Agrees w d0 b d
+    → known w.kind b ≡ with_descriptor (has_next x) w.kind head (pieces ++ piece_of x ∷ []) x.next
+    → DescriptorBy fault w d t on done writing x pieces log → Each (Comes w d0) b log
 descriptor_by w d0 d t head on done more last (Some fault) writing x pieces b log is read h =
     breaks_each w d0 d t _ b log is h
 descriptor_by w d0 d t head on done more last None writing x pieces b log is read h =
@@ -62,15 +57,14 @@ descriptor_by w d0 d t head on done more last None writing x pieces b log is rea
 descriptor_at : (w : Whole) (d0 d : Device) (t : Tally) (head number : ℕ)
     (on : ℕ → Bool → List Piece → List Access → Type 0) (done : List Piece → List Access → Type 0)
     (more : On w d0 d head on) (last : Last w d0 d head done) (writing : Bool)
-    (pieces : List Piece) (o : Option Spot) (b log : List Access) → Agrees w d0 b d →
-    known w.kind b ≡ Walks head number pieces →
-    spot w.regions ((ring_of w.kind d).table + 16 * number) 16 ≡ o →
-    DescriptorAt w d t on done writing pieces o log → Each (Comes w d0) b log
+    (pieces : List Piece) (o : Option Spot) (b log : List Access) → Agrees w d0 b d → known w.kind b
+    ≡ Walks head number pieces → spot w.regions ((ring_of w.kind d).table + 16 * number) 16 ≡ o
+    → DescriptorAt w d t on done writing pieces o log → Each (Comes w d0) b log
 descriptor_at w d0 d t head number on done more last writing pieces None b log is read e h =
     breaks_each w d0 d t _ b log is h
 descriptor_at w d0 d t head number on done more last writing pieces (Some at) b log is read e h =
-    let there : spot w.regions ((ring_after (ring_of w.kind d0) b).table + 16 * number) 16 ≡ Some at =
-    subst (λ (r : Virtqueue). spot w.regions (r.table + 16 * number) 16 ≡ Some at) is.ring e in
+    let there : spot w.regions ((ring_after (ring_of w.kind d0) b).table + 16 * number) 16 ≡ Some
+    at = subst (λ (r : Virtqueue). spot w.regions (r.table + 16 * number) 16 ≡ Some at) is.ring e in
     subst (λ (l : List Access). Each (Comes w d0) b l) (sym h.asks) (
       (
         subst (λ (k : Known). CopiesNext w.regions (ring_after (ring_of w.kind d0) b).table k at
@@ -79,9 +73,8 @@ descriptor_at w d0 d t head number on done more last writing pieces (Some at) b 
       ),
       descriptor_by w d0 d t head on done more last
           (table_fault (descriptors (ring_of w.kind d)) (memory_end d) writing (length pieces)
-          (descriptor_of h.bytes)) writing (descriptor_of h.bytes) pieces
-          (CopyBytes at h.bytes ∷ b) h.rest
-          (record { ring = is.ring; settings = is.settings; keeps = is.keeps; lasts = refl })
+          (descriptor_of h.bytes)) writing (descriptor_of h.bytes) pieces (CopyBytes at h.bytes ∷ b)
+          h.rest (record { ring = is.ring; settings = is.settings; keeps = is.keeps; lasts = refl })
           (ap (λ (k : Known). with_copied w.kind h.bytes k) read) h.goes_on,
     )
 
@@ -93,21 +86,18 @@ follows_each : (n : ℕ) (w : Whole) (d0 d : Device) (t : Tally) (head : ℕ)
 follows_each zero w d0 d t head done last number writing pieces b log is read h =
     breaks_each w d0 d t _ b log is h
 follows_each (suc n) w d0 d t head done last number writing pieces b log is read h =
-    descriptor_at w d0 d t head number (Follows n w d t done) done
-    (λ m wr ps b2 rest is2 read2 go.
+    descriptor_at w d0 d t head number (Follows n w d t done) done (λ m wr ps b2 rest is2 read2 go.
     follows_each n w d0 d t head done last m wr ps b2 rest is2 read2 go) last writing pieces
     (spot w.regions ((ring_of w.kind d).table + 16 * number) 16) b log is read refl h
 
 -- ---- a look
 
 head_each : (w : Whole) (d0 : Device) (next : Then) (on : After w d0 next) (d : Device) (t : Tally)
-    (head : ℕ) (there : Bool) (b log : List Access) → Agrees w d0 b d →
-    known w.kind b ≡ Walks head head [] → HeadBy there w next d t head log →
-    Each (Comes w d0) b log
+    (head : ℕ) (there : Bool) (b log : List Access) → Agrees w d0 b d → known w.kind b
+    ≡ Walks head head [] → HeadBy there w next d t head log → Each (Comes w d0) b log
 head_each w d0 next on d t head false b log is read h = breaks_each w d0 d t _ b log is h
-head_each w d0 next on d t head true b log is read h =
-    follows_each (descriptors (ring_of w.kind d)) w d0 d t head
-    (λ pieces rest. ServesPieces w.kind w next d t head pieces rest)
+head_each w d0 next on d t head true b log is read h = follows_each (descriptors (ring_of w.kind d))
+    w d0 d t head (λ pieces rest. ServesPieces w.kind w next d t head pieces rest)
     (λ pieces b2 rest is2 begun more.
     pieces_each w d0 w.kind refl next on d t head pieces b2 rest is2 begun more) head false [] b log
     is read h
@@ -136,15 +126,13 @@ unless_spent : (w : Whole) (d0 : Device) (next : Then) (on : After w d0 next) (d
     known w.kind b ≡ Unknown → TakesUnlessSpent spent w next d t log → Each (Comes w d0) b log
 unless_spent w d0 next on d t true b log is new h =
     ends_each w d0 d t _ true b log (flags_of w d0 b d is) h
-unless_spent w d0 next on d t false b log is new h =
-    entry_each w d0 next on d t
-    (spot w.regions ((ring_of w.kind d).avail + entry_offset (ring_of w.kind d)) 2) b log is new refl
-    h
+unless_spent w d0 next on d t false b log is new h = entry_each w d0 next on d t
+    (spot w.regions ((ring_of w.kind d).avail + entry_offset (ring_of w.kind d)) 2)
+    b log is new refl h
 
 abbrev Taken : Whole → Device → Device → (List Access → Type 0) → Type 0
-Taken w d0 d takes =
-    (b rest : List Access) → Agrees w d0 b d → known w.kind b ≡ Unknown → takes rest →
-    Each (Comes w d0) b rest
+Taken w d0 d takes = (b rest : List Access)
+    → Agrees w d0 b d → known w.kind b ≡ Unknown → takes rest → Each (Comes w d0) b rest
 
 index_by : (w : Whole) (d0 d : Device) (t : Tally) (takes : List Access → Type 0)
     (on : Taken w d0 d takes) (there : Result Bool ChainFault) (b log : List Access) →
@@ -183,27 +171,22 @@ looks_by : (w : Whole) (d0 d : Device) (t : Tally) (takes : List Access → Type
     Looked b → LooksBy denial w takes d t log → Each (Comes w d0) b log
 looks_by w d0 d t takes on (Some why) b log is looked h =
     ends_each w d0 d t _ false b log (flags_of w d0 b d is) h
-looks_by w d0 d t takes on None b log is looked h =
-    index_at w d0 d t takes on (spot w.regions ((ring_of w.kind d).avail + 2) 2) b log is looked
-    refl h
+looks_by w d0 d t takes on None b log is looked h = index_at w d0 d t takes on
+    (spot w.regions ((ring_of w.kind d).avail + 2) 2) b log is looked refl h
 
 given_each : (w : Whole) (d0 : Device) (kind : Kind) (looks : Then) (on : After w d0 looks) →
     After w d0 (AfterGiven kind w looks)
 given_each w d0 Inflate looks on d t at n b rest is h = on d t at n b rest is h
 given_each w d0 Deflate looks on d t at n b rest is h = on d t at n b rest is h
 given_each w d0 Statistics looks on d t at n b rest is h =
-    ends_each w d0 d t _ false (WriteWord at n ∷ b) rest
-    (flags_of w d0 (WriteWord at n ∷ b) d is) h
+    ends_each w d0 d t _ false (WriteWord at n ∷ b) rest (flags_of w d0 (WriteWord at n ∷ b) d is) h
 given_each w d0 Report looks on d t at n b rest is h = on d t at n b rest is h
 
 takes_each : (n : ℕ) (w : Whole) (d0 d : Device) (t : Tally) → Taken w d0 d (TakesNext n w d t)
-takes_each zero w d0 d t b log is new h =
-    ends_each w d0 d t _ true b log (flags_of w d0 b d is) h
-takes_each (suc n) w d0 d t b log is new h =
-    unless_spent w d0
+takes_each zero w d0 d t b log is new h = ends_each w d0 d t _ true b log (flags_of w d0 b d is) h
+takes_each (suc n) w d0 d t b log is new h = unless_spent w d0
     (AfterGiven w.kind w (λ d2 t2 rest. LooksBy (queue_denial w.kind d2) w (TakesNext n w d2 t2) d2
-    t2 rest))
-    (given_each w d0 w.kind
+    t2 rest)) (given_each w d0 w.kind
     (λ d2 t2 rest. LooksBy (queue_denial w.kind d2) w (TakesNext n w d2 t2) d2 t2 rest)
     (λ d2 t2 at n2 b2 rest is2 more. looks_by w d0 d2 t2 (TakesNext n w d2 t2)
     (λ b3 rest3 is3 new3 go. takes_each n w d0 d2 t2 b3 rest3 is3 new3 go) (queue_denial w.kind d2)

@@ -1,33 +1,26 @@
 -- What each access of a notice is, by those before it: the end of a chain.
-use Rattle.std.proofs.Common.{◌≡◌, ◌∙◌, ap, sym, subst, refl, ℕ, zero, suc, ◌+◌, ◌*◌, ◌/◌, Bool}
-use Rattle.std.proofs.Common.{true, false, List, [], ◌∷◌, ◌++◌, length, map, take, Option, Some}
-use Rattle.std.{proofs.Common.{None, Result, Ok, Err}, specs.Prelude.{◌==◌, nat_lt, if◌then◌else◌}}
-use Rattle.vb_model.specs.declared.layout.TheConstants.{STATISTIC_SIZE}
+use Rattle.std.proofs.Common.{◌≡◌, ◌∙◌, ap, sym, subst, refl, ℕ, ◌+◌, Bool, true, false, List, []}
+use Rattle.std.proofs.Common.{◌∷◌, ◌++◌, length, map, Option, Some, None}
 use Rattle.vb_chain.{specs.declared.pieces.Piece.Piece, specs.declared.fault.ChainFault.ChainFault}
-use Rattle.vb_core.{specs.declared.kinds.Kind.Kind, specs.declared.runs.Run.Run}
-use Rattle.vb_core.specs.declared.kinds.Kind.TheVariants.{Inflate, Deflate, Statistics, Report}
-use Rattle.vb_core.{specs.declared.name.Named.Named, specs.declared.ring.Virtqueue.Virtqueue}
-use Rattle.vb_core.{specs.declared.ring.UsedEntry.UsedEntry, specs.declared.device.Denial.Denial}
-use Rattle.vb_core.{specs.declared.settings.Settings.Settings, specs.declared.device.Device.Device}
-use Rattle.vb_core.{specs.declared.statistics.Statistic.Statistic, specs.Using.use_denial}
-use Rattle.vb_core.specs.Devices.{ring_of, with_ring, with_one_taken, needing_reset}
-use Rattle.vb_core.{specs.Rings.{used_entry, with_taken, with_used}, specs.Config.keeps_reports}
-use Rattle.vb_monitor.specs.Accesses.{Access, ReadWord, CopyBytes, Acquire, Release, Full}
-use Rattle.vb_monitor.specs.Giving.{Then, three_spots, UsedAt, GivesBack, GivesBackBy, with_given}
-use Rattle.vb_monitor.specs.SoFar.{Each, Known, Unknown, Walks, Has, known, ring_after, left}
-use Rattle.vb_monitor.specs.Turns.{is_over, ReadsInTurn, TellsOf, TellNamed, TellsInTurn, IsNext}
-use Rattle.vb_monitor.specs.Accesses.{TellPages, TellFigures, Discard, WriteNumber, WriteWord}
-use Rattle.vb_monitor.specs.Turns.{ends_in_number, NumberFor, IndexFor, WritesUsedAlone}
-use Rattle.vb_monitor.{specs.Giving.{after_use, cuts_for, TellsThen, AfterName}, specs.Regions.spot}
-use Rattle.vb_monitor.specs.Ends.{Whole, Ends, EndsWhere, FlagsAt, Breaks}
-use Rattle.vb_monitor.{specs.declared.regions.Region.Region, specs.declared.outcome.Tally.Tally}
-use Rattle.vb_monitor.{specs.declared.regions.Spot.Spot, specs.declared.parts.Part.Part}
-use Rattle.vb_monitor.{specs.declared.cuts.Cut.Cut, specs.SoFar.without_first}
+use Rattle.vb_core.specs.declared.{kinds.Kind.Kind, runs.Run.Run, kinds.Kind.TheVariants.Inflate}
+use Rattle.vb_core.specs.declared.kinds.Kind.TheVariants.{Deflate, Statistics, Report}
+use Rattle.vb_core.specs.declared.{name.Named.Named, ring.Virtqueue.Virtqueue, device.Denial.Denial}
+use Rattle.vb_core.specs.declared.{settings.Settings.Settings, device.Device.Device}
+use Rattle.vb_core.specs.{Using.use_denial, Devices.{ring_of, with_one_taken, needing_reset}}
+use Rattle.vb_core.specs.{Rings.{used_entry, with_taken, with_used}, Config.keeps_reports}
+use Rattle.vb_monitor.specs.Accesses.{Access, ReadWord, Release, Full, TellPages, Discard}
+use Rattle.vb_monitor.specs.{Accesses.{WriteNumber, WriteWord}, Giving.{Then, three_spots, UsedAt}}
+use Rattle.vb_monitor.specs.Giving.{GivesBack, GivesBackBy, with_given, after_use, cuts_for}
+use Rattle.vb_monitor.specs.{Giving.TellsThen, SoFar.{Each, Known, Has, known, ring_after, left}}
+use Rattle.vb_monitor.specs.{SoFar.without_first, Turns.{is_over, ReadsInTurn, TellsOf, TellNamed}}
+use Rattle.vb_monitor.specs.Turns.{TellsInTurn, IsNext, ends_in_number, NumberFor, IndexFor}
+use Rattle.vb_monitor.specs.{Turns.WritesUsedAlone, Regions.spot, Ends.{Whole, Ends, EndsWhere}}
+use Rattle.vb_monitor.specs.{Ends.{FlagsAt, Breaks}, declared.outcome.Tally.Tally}
+use Rattle.vb_monitor.specs.declared.{regions.Spot.Spot, cuts.Cut.Cut}
 
 -- the access comes in its turn
 abbrev pub Comes : Whole → Device → List Access → Access → Type 0
-Comes w d0 before x =
-    ReadsInTurn w.regions w.kind d0 before x
+Comes w d0 before x = ReadsInTurn w.regions w.kind d0 before x
     × (TellsInTurn w.regions w.kind d0 before x × WritesUsedAlone w.regions w.kind d0 before x)
 
 -- the device is as far in its ring as the accesses before say
@@ -121,8 +114,7 @@ flags_of w d0 b d is = (ap (λ (r : Virtqueue). r.avail) is.ring, is.lasts)
 
 pub broken : (w : Whole) (d0 : Device) (b : List Access) (d : Device) → Agrees w d0 b d →
     Flags w d0 b (needing_reset d)
-broken w d0 b d is =
-    (ap (λ (r : Virtqueue). r.avail) (same_ring w.kind d ∙ is.ring), is.lasts)
+broken w d0 b d is = (ap (λ (r : Virtqueue). r.avail) (same_ring w.kind d ∙ is.ring), is.lasts)
 
 broken_use : (w : Whole) (d0 : Device) (b : List Access) (d : Device) → Agrees w d0 b d →
     Flags w d0 b (needing_reset (after_use w.kind d))
@@ -167,10 +159,8 @@ breaks_each w d0 d t fault b log is h =
 
 -- what comes once a chain is given back comes in its turn, behind an index that was written
 abbrev pub After : Whole → Device → Then → Type 0
-After w d0 next =
-    (d : Device) (t : Tally) (at : Spot) (n : ℕ) (b rest : List Access) →
-    Agrees w d0 (WriteWord at n ∷ b) d → next d t rest →
-    Each (Comes w d0) (WriteWord at n ∷ b) rest
+After w d0 next = (d : Device) (t : Tally) (at : Spot) (n : ℕ) (b rest : List Access) → Agrees w d0
+    (WriteWord at n ∷ b) d → next d t rest → Each (Comes w d0) (WriteWord at n ∷ b) rest
 
 -- a chain of which all was read
 abbrev pub Read : Whole → ℕ → List Piece → List ℕ → List Access → Type 0
@@ -178,9 +168,8 @@ Read w head pieces bytes b = known w.kind b ≡ Has head pieces [] bytes
 
 number_for : (w : Whole) (d0 d : Device) (head : ℕ) (pieces : List Piece) (bytes : List ℕ)
     (second : Bool) (b : List Access) (at : Spot) (n : ℕ) → Read w head pieces bytes b →
-    Agrees w d0 b d →
-    NumberFor (Has head pieces [] bytes) second w.regions (ring_of w.kind d) at n →
-    NumberFor (known w.kind b) second w.regions (ring_after (ring_of w.kind d0) b) at n
+    Agrees w d0 b d → NumberFor (Has head pieces [] bytes) second w.regions (ring_of w.kind d) at n
+    → NumberFor (known w.kind b) second w.regions (ring_after (ring_of w.kind d0) b) at n
 number_for w d0 d head pieces bytes second b at n read is h =
     subst (λ (k : Known). NumberFor k second w.regions (ring_after (ring_of w.kind d0) b) at n)
     (sym read)
@@ -202,21 +191,21 @@ no_used_place w d0 d t fault b log is h =
 
 used_each : (w : Whole) (d0 : Device) (next : Then) (on : After w d0 next) (d : Device)
     (t : Tally) (head : ℕ) (pieces : List Piece) (bytes : List ℕ) (id len index : Option Spot)
-    (b : List Access) (log : List Access) → Agrees w d0 b d → Read w head pieces bytes b →
-    left (keeps_reports d0) w.regions b ≡ [] → ends_in_number b ≡ false →
-    spot w.regions (used_entry (ring_of w.kind d) head).element_at 4 ≡ id →
-    spot w.regions ((used_entry (ring_of w.kind d) head).element_at + 4) 4 ≡ len →
-    spot w.regions (used_entry (ring_of w.kind d) head).index_at 2 ≡ index →
-    UsedAt w (next (after_use w.kind d) (with_given t)) (after_use w.kind d) t
-    (used_entry (ring_of w.kind d) head) (three_spots id len index) log →
-    Each (Comes w d0) b log
+    (b : List Access) (log : List Access) → Agrees w d0 b d → Read w head pieces bytes b
+    → left (keeps_reports d0) w.regions b ≡ [] → ends_in_number b ≡ false
+    → spot w.regions (used_entry (ring_of w.kind d) head).element_at 4 ≡ id
+    → spot w.regions ((used_entry (ring_of w.kind d) head).element_at + 4) 4 ≡ len
+    → spot w.regions (used_entry (ring_of w.kind d) head).index_at 2 ≡ index
+    → UsedAt w (next (after_use w.kind d) (with_given t)) (after_use w.kind d) t
+    (used_entry (ring_of w.kind d) head) (three_spots id len index) log → Each (Comes w d0) b log
 used_each w d0 next on d t head pieces bytes None len index b log is read done first x y z h =
     no_used_place w d0 d t _ b log is h
 used_each w d0 next on d t head pieces bytes (Some id) None index b log is read done first x y z h =
     no_used_place w d0 d t _ b log is h
 used_each w d0 next on d t head pieces bytes (Some id) (Some len) None b log is read done first x y z h =
     no_used_place w d0 d t _ b log is h
-used_each w d0 next on d t head pieces bytes (Some id) (Some len) (Some index) b log is read done first x y z h =
+used_each w d0 next on d t head pieces bytes
+    (Some id) (Some len) (Some index) b log is read done first x y z h =
     let e = used_entry (ring_of w.kind d) head in
     let b1 = WriteNumber id e.id ∷ b in
     let b2 = WriteNumber len e.length ∷ b1 in
@@ -231,17 +220,11 @@ used_each w d0 next on d t head pieces bytes (Some id) (Some len) (Some index) b
         ),
       ),
       (
-        (
-          tt,
-          (done, number_for w d0 d head pieces bytes true b len e.length read is (y, refl)),
-        ),
+        (tt, (done, number_for w d0 d head pieces bytes true b len e.length read is (y, refl))),
         (
           (tt, (tt, tt)),
           (
-            (
-              tt,
-              (tt, index_for w d0 d head pieces bytes b index e.index read is (z, refl)),
-            ),
+            (tt, (tt, index_for w d0 d head pieces bytes b index e.index read is (z, refl))),
             on (after_use w.kind d) (with_given t) index e.index (Release ∷ b2) h.rest
                 (one_used w d0 b (WriteWord index e.index ∷ Release ∷ b2) d is refl refl) h.goes_on,
           ),
@@ -262,9 +245,8 @@ pub gives_each : (w : Whole) (d0 : Device) (next : Then) (on : After w d0 next) 
     (t : Tally) (head : ℕ) (pieces : List Piece) (bytes : List ℕ) (b : List Access)
     (log : List Access) → Agrees w d0 b d → Read w head pieces bytes b → left (keeps_reports d0) w.regions b ≡ [] →
     ends_in_number b ≡ false → GivesBack w next d t head log → Each (Comes w d0) b log
-gives_each w d0 next on d t head pieces bytes b log is read done first h =
-    gives_by w d0 next on d t head pieces bytes (use_denial w.kind head d) b log is read done first
-    h
+gives_each w d0 next on d t head pieces bytes b log is read done first h = gives_by
+    w d0 next on d t head pieces bytes (use_denial w.kind head d) b log is read done first h
 
 -- ---- what is discarded
 

@@ -1,45 +1,34 @@
 -- What each access of a notice is, by those before it: from a look to what its bytes come to.
-use Rattle.std.proofs.Common.{◌≡◌, ◌∙◌, ap, sym, subst, refl, ℕ, zero, suc, ◌+◌, ◌*◌, ◌/◌, Bool}
-use Rattle.std.proofs.Common.{true, false, List, [], ◌∷◌, ◌++◌, length, take, Option, Some, None}
-use Rattle.std.{proofs.Common.{Result, Ok, Err}, specs.Prelude.{◌==◌, nat_lt}}
+use Rattle.std.proofs.Common.{◌≡◌, ◌∙◌, ap, sym, subst, refl, ℕ, ◌+◌, ◌/◌, Bool, true, false, List}
+use Rattle.std.proofs.Common.{[], ◌∷◌, ◌++◌, length, take, Option, Some, None, Result, Ok, Err}
 use Rattle.vb_model.specs.declared.layout.TheConstants.{STATISTIC_SIZE}
 use Rattle.vb_model.specs.declared.limits.TheConstants.{MAX_REQUEST_PAGES}
-use Rattle.vb_chain.{specs.declared.pieces.Piece.Piece, specs.declared.fault.ChainFault.ChainFault}
-use Rattle.vb_chain.specs.declared.descriptor.Descriptor.{Descriptor}
-use Rattle.vb_chain.specs.Rules.{has_next, piece_of}
+use Rattle.vb_chain.specs.declared.{pieces.Piece.Piece, fault.ChainFault.ChainFault}
 use Rattle.vb_request.{specs.Request.request_length, specs.Statistics.statistics_length}
 use Rattle.vb_core.specs.declared.kinds.Kind.TheVariants.{Inflate, Deflate, Statistics, Report}
-use Rattle.vb_core.{specs.Devices.{ring_of, with_one_taken, queue_denial}, specs.Rings.with_taken}
-use Rattle.vb_core.{specs.declared.device.Denial.Denial, specs.declared.device.Device.Device}
-use Rattle.vb_core.{specs.Statistics.statistics_denial, specs.declared.name.Named.Named}
-use Rattle.vb_core.{specs.declared.kinds.Kind.Kind, specs.declared.ring.Virtqueue.Virtqueue}
-use Rattle.vb_core.{specs.declared.runs.Run.Run, specs.Report.NamesPiecesBy, specs.Name.NamesBy}
+use Rattle.vb_core.specs.{Devices.{ring_of, with_one_taken}, declared.device.Denial.Denial}
+use Rattle.vb_core.specs.{declared.device.Device.Device, Statistics.statistics_denial}
+use Rattle.vb_core.specs.declared.{name.Named.Named, kinds.Kind.Kind, runs.Run.Run}
+use Rattle.vb_core.specs.{Report.NamesPiecesBy, Name.NamesBy}
 use Rattle.vb_monitor.specs.Chains.{FiguresBy, AfterBytes, NamesBytes, CopiesBy, ServesPieces}
-use Rattle.vb_monitor.specs.Chains.{GoesOn, DescriptorBy, DescriptorAt, Follows, table_fault}
-use Rattle.vb_monitor.specs.Notices.{HeadBy, EntryAt, entry_offset, stands, AfterIndex, IndexAt}
-use Rattle.vb_monitor.specs.Notices.{LooksBy, AfterGiven, TakesUnlessSpent, TakesNext, Looks}
-use Rattle.vb_monitor.specs.SoFar.{Each, Known, Unknown, Walks, Has, known, ring_after, parts_read}
+use Rattle.vb_monitor.specs.SoFar.{Each, Known, Has, known, ring_after, parts_read, with_copied}
 use Rattle.vb_monitor.proofs.TurnLemmas.{Comes, Agrees, Flags, flags_of, ends_each, breaks_each}
-use Rattle.vb_monitor.proofs.NamedLemmas.{names_avail, pieces_avail, named_numbers, no_report}
-use Rattle.vb_monitor.specs.Accesses.{Access, ReadWord, CopyBytes, Acquire, TellFigures, WriteWord}
-use Rattle.vb_monitor.specs.Pieces.{PartAt, PartBy, fits_behind, CopiesParts, all_parts}
-use Rattle.vb_monitor.specs.Turns.{CopiesNext, TellNamed, TellNumbers, FiguresOf}
-use Rattle.vb_monitor.{specs.Chains.{descriptor_of, descriptors, memory_end}, specs.Regions.spot}
-use Rattle.vb_monitor.{specs.Giving.{Then, AfterName, TellsThen, spent}, specs.Notices.with_chains}
-use Rattle.vb_monitor.{specs.declared.room.TheConstants.MAX_FIGURES, specs.declared.parts.Part.Part}
-use Rattle.vb_monitor.{proofs.TurnLemmas.{After, Read, tells_each}, proofs.NamedLemmas.named_pieces}
-use Rattle.vb_monitor.{specs.SoFar.{with_descriptor, with_copied}, specs.declared.regions.Spot.Spot}
-use Rattle.vb_monitor.{specs.declared.outcome.Tally.Tally, specs.Ends.Whole}
+use Rattle.vb_monitor.proofs.{TurnLemmas.{After, Read, tells_each}, NamedLemmas.names_avail}
+use Rattle.vb_monitor.proofs.NamedLemmas.{pieces_avail, named_numbers, no_report, named_pieces}
+use Rattle.vb_monitor.specs.{Accesses.{Access, CopyBytes, TellFigures}, Pieces.{PartAt, PartBy}}
+use Rattle.vb_monitor.specs.{Pieces.{fits_behind, CopiesParts, all_parts}, Turns.CopiesNext}
+use Rattle.vb_monitor.specs.{Turns.{TellNamed, TellNumbers, FiguresOf}, Regions.spot, Giving.Then}
+use Rattle.vb_monitor.specs.Giving.{AfterName, TellsThen, spent}
+use Rattle.vb_monitor.specs.declared.{room.TheConstants.MAX_FIGURES, parts.Part.Part}
+use Rattle.vb_monitor.specs.{declared.regions.Spot.Spot, declared.outcome.Tally.Tally, Ends.Whole}
 
 -- ---- what is named
 
 -- what is told of a chain may be
 abbrev Right : Whole → Device → Device → List Piece → List ℕ → List Run → Result Named Denial →
     Type 0
-Right w d d2 pieces bytes runs answer =
-    (named : Named) → answer ≡ Ok named →
-    TellNamed w.kind d.settings pieces bytes (take named.runs runs) named
-    × (d2 ≡ with_one_taken w.kind d)
+Right w d d2 pieces bytes runs answer = (named : Named) → answer ≡ Ok named → TellNamed
+    w.kind d.settings pieces bytes (take named.runs runs) named × (d2 ≡ with_one_taken w.kind d)
 
 names_each : (w : Whole) (d0 : Device) (next : Then) (on : After w d0 next) (d d2 : Device)
     (t : Tally) (head : ℕ) (pieces : List Piece) (bytes : List ℕ) (runs : List Run)
@@ -50,11 +39,10 @@ names_each w d0 next on d d2 t head pieces bytes runs (Err why) b log is read fl
     ends_each w d0 d2 t _ false b log flags h
 names_each w d0 next on d d2 t head pieces bytes runs (Ok named) b log is read flags right h =
     let x = right named refl in
-    tells_each w d0 next on d (spent named.pages t) head pieces bytes (take named.runs runs) named b
-    log is read x.0
+    tells_each w d0 next on d
+    (spent named.pages t) head pieces bytes (take named.runs runs) named b log is read x.0
     (subst (λ (y : Device). TellsThen w next y (spent named.pages t) head (take named.runs runs)
-    named log)
-    x.1 h)
+    named log) x.1 h)
 
 -- figures that are told
 statistics_avail : (kind : Kind) (d : Device) →
@@ -119,9 +107,8 @@ bytes_named : (w : Whole) (d0 : Device) (kind : Kind) (e : w.kind ≡ kind) (nex
     ((named : Named) → TellNumbers d.settings bytes (take named.runs h.runs) named →
     h.answer ≡ Ok named → TellNamed kind d.settings pieces bytes (take named.runs h.runs) named) →
     Each (Comes w d0) b log
-bytes_named w d0 kind e next on d t head pieces bytes b log is read h so =
-    names_each w d0 next on d h.device t head pieces bytes h.runs h.answer b log is read
-    (names_flags w d0 b d h.device is
+bytes_named w d0 kind e next on d t head pieces bytes b log is read h so = names_each w d0 next on
+    d h.device t head pieces bytes h.runs h.answer b log is read (names_flags w d0 b d h.device is
     (names_avail w.kind bytes _ h.runs d h.device h.answer h.names))
     (numbers_right w kind d h.device pieces bytes _ h.runs h.answer e h.names so) h.goes_on
 
@@ -133,9 +120,8 @@ bytes_each w d0 Inflate e next on d t head pieces bytes b log is read h =
     bytes_named w d0 Inflate e next on d t head pieces bytes b log is read h (λ named x ok. x)
 bytes_each w d0 Deflate e next on d t head pieces bytes b log is read h =
     bytes_named w d0 Deflate e next on d t head pieces bytes b log is read h (λ named x ok. x)
-bytes_each w d0 Statistics e next on d t head pieces bytes b log is read h =
-    figures_each w d0 d t head pieces bytes (statistics_denial (length bytes) MAX_FIGURES d) b log e
-    is read h
+bytes_each w d0 Statistics e next on d t head pieces bytes b log is read h = figures_each
+    w d0 d t head pieces bytes (statistics_denial (length bytes) MAX_FIGURES d) b log e is read h
 bytes_each w d0 Report e next on d t head pieces bytes b log is read h =
     bytes_named w d0 Report e next on d t head pieces bytes b log is read h (λ named x ok.
     let names : NamesBy Report bytes MAX_REQUEST_PAGES h.runs d h.device (Ok named) =
@@ -146,23 +132,19 @@ bytes_each w d0 Report e next on d t head pieces bytes b log is read h =
 -- ---- parts
 
 abbrev Served : Whole → Device → Device → ℕ → List Piece → (List ℕ → List Access → Type 0) → Type 0
-Served w d0 d head pieces go =
-    (bytes : List ℕ) (b rest : List Access) → Agrees w d0 b d → Read w head pieces bytes b →
-    go bytes rest → Each (Comes w d0) b rest
+Served w d0 d head pieces go = (bytes : List ℕ) (b rest : List Access)
+    → Agrees w d0 b d → Read w head pieces bytes b → go bytes rest → Each (Comes w d0) b rest
 
 abbrev More : Whole → Device → Device → ℕ → List Piece → List Part →
     (List ℕ → List Access → Type 0) → Type 0
-More w d0 d head pieces parts go =
-    (bytes : List ℕ) (b rest : List Access) → Agrees w d0 b d →
-    known w.kind b ≡ Has head pieces parts bytes → go bytes rest → Each (Comes w d0) b rest
+More w d0 d head pieces parts go = (bytes : List ℕ) (b rest : List Access) → Agrees w d0 b d
+    → known w.kind b ≡ Has head pieces parts bytes → go bytes rest → Each (Comes w d0) b rest
 
 part_at : (w : Whole) (d0 d : Device) (t : Tally) (head : ℕ) (pieces : List Piece) (part : Part)
-    (parts : List Part) (go : List ℕ → List Access → Type 0)
-    (on : More w d0 d head pieces parts go) (so_far : List ℕ) (o : Option Spot)
-    (b log : List Access) → Agrees w d0 b d →
-    known w.kind b ≡ Has head pieces (part ∷ parts) so_far →
-    spot w.regions (part.address + part.plus) part.length ≡ o →
-    PartAt w go d t part so_far o log → Each (Comes w d0) b log
+    (parts : List Part) (go : List ℕ → List Access → Type 0) (on : More w d0 d head pieces parts go)
+    (so_far : List ℕ) (o : Option Spot) (b log : List Access) → Agrees w d0 b d → known w.kind b
+    ≡ Has head pieces (part ∷ parts) so_far → spot w.regions (part.address + part.plus) part.length
+    ≡ o → PartAt w go d t part so_far o log → Each (Comes w d0) b log
 part_at w d0 d t head pieces part parts go on so_far None b log is read e h =
     breaks_each w d0 d t _ b log is h
 part_at w d0 d t head pieces part parts go on so_far (Some at) b log is read e h =
@@ -180,9 +162,8 @@ part_at w d0 d t head pieces part parts go on so_far (Some at) b log is read e h
 part_by : (w : Whole) (d0 d : Device) (t : Tally) (head : ℕ) (pieces : List Piece) (part : Part)
     (parts : List Part) (go : List ℕ → List Access → Type 0)
     (on : More w d0 d head pieces parts go) (so_far : List ℕ) (fits : Bool)
-    (b log : List Access) → Agrees w d0 b d →
-    known w.kind b ≡ Has head pieces (part ∷ parts) so_far →
-    PartBy fits w go d t part so_far log → Each (Comes w d0) b log
+    (b log : List Access) → Agrees w d0 b d → known w.kind b ≡ Has head pieces (part ∷ parts) so_far
+    → PartBy fits w go d t part so_far log → Each (Comes w d0) b log
 part_by w d0 d t head pieces part parts go on so_far true b log is read h =
     part_at w d0 d t head pieces part parts go on so_far _ b log is read refl h
 part_by w d0 d t head pieces part parts go on so_far false b log is read h =
@@ -194,9 +175,8 @@ copies_each : (w : Whole) (d0 d : Device) (t : Tally) (head : ℕ) (pieces : Lis
     known w.kind b ≡ Has head pieces parts so_far → CopiesParts w served d t parts so_far log →
     Each (Comes w d0) b log
 copies_each w d0 d t head pieces served on [] so_far b log is read h = on so_far b log is read h
-copies_each w d0 d t head pieces served on (part ∷ parts) so_far b log is read h =
-    part_by w d0 d t head pieces part parts (CopiesParts w served d t parts)
-    (λ bytes b2 rest is2 read2 more.
+copies_each w d0 d t head pieces served on (part ∷ parts) so_far b log is read h = part_by w
+    d0 d t head pieces part parts (CopiesParts w served d t parts) (λ bytes b2 rest is2 read2 more.
     copies_each w d0 d t head pieces served on parts bytes b2 rest is2 read2 more) so_far
     (fits_behind so_far part) b log is read h
 
@@ -206,22 +186,19 @@ copies_each w d0 d t head pieces served on (part ∷ parts) so_far b log is read
 abbrev pub Begun : Whole → ℕ → List Piece → List Access → Type 0
 Begun w head pieces b = known w.kind b ≡ Has head pieces (parts_read w.kind pieces) []
 
-begun_of : (w : Whole) (kind : Kind) (head : ℕ) (pieces : List Piece) (b : List Access) →
-    w.kind ≡ kind → Begun w head pieces b →
-    known w.kind b ≡ Has head pieces (parts_read kind pieces) []
+begun_of : (w : Whole) (kind : Kind) (head : ℕ) (pieces : List Piece) (b : List Access) → w.kind
+    ≡ kind → Begun w head pieces b → known w.kind b ≡ Has head pieces (parts_read kind pieces) []
 begun_of w kind head pieces b e begun =
     begun ∙ ap (λ (k : Kind). Has head pieces (parts_read k pieces) []) e
 
 copies_by : (w : Whole) (d0 : Device) (next : Then) (on : After w d0 next) (d : Device)
     (t : Tally) (head : ℕ) (pieces : List Piece) (len : Result ℕ ChainFault)
-    (b log : List Access) → Agrees w d0 b d →
-    known w.kind b ≡ Has head pieces (all_parts pieces) [] →
-    CopiesBy len w next d t head pieces log → Each (Comes w d0) b log
+    (b log : List Access) → Agrees w d0 b d → known w.kind b ≡ Has head pieces (all_parts pieces) []
+    → CopiesBy len w next d t head pieces log → Each (Comes w d0) b log
 copies_by w d0 next on d t head pieces (Err fault) b log is read h =
     breaks_each w d0 d t _ b log is h
-copies_by w d0 next on d t head pieces (Ok n) b log is read h =
-    copies_each w d0 d t head pieces (λ bytes rest. AfterBytes w.kind w next d t head bytes rest)
-    (λ bytes b2 rest is2 read2 more.
+copies_by w d0 next on d t head pieces (Ok n) b log is read h = copies_each w d0 d t head pieces
+    (λ bytes rest. AfterBytes w.kind w next d t head bytes rest) (λ bytes b2 rest is2 read2 more.
     bytes_each w d0 w.kind refl next on d t head pieces bytes b2 rest is2 read2 more)
     (all_parts pieces) [] b log is read h
 
@@ -234,28 +211,22 @@ pieces_right w d d2 pieces room runs answer e h named is =
     right_of w d pieces [] runs d2 Report named e x.0
     (subst (λ (k : Kind). d2 ≡ with_one_taken k d) (sym e) x.1)
 
-report_avail : (w : Whole) (d d2 : Device) → w.kind ≡ Report →
-    (ring_of Report d2).avail ≡ (ring_of Report d).avail →
-    (ring_of w.kind d2).avail ≡ (ring_of w.kind d).avail
-report_avail w d d2 e h =
-    subst (λ (k : Kind). (ring_of k d2).avail ≡ (ring_of k d).avail) (sym e) h
+report_avail : (w : Whole) (d d2 : Device) → w.kind ≡ Report → (ring_of Report d2).avail
+    ≡ (ring_of Report d).avail → (ring_of w.kind d2).avail ≡ (ring_of w.kind d).avail
+report_avail w d d2 e h = subst (λ (k : Kind). (ring_of k d2).avail ≡ (ring_of k d).avail) (sym e) h
 
 pub pieces_each : (w : Whole) (d0 : Device) (kind : Kind) (e : w.kind ≡ kind) (next : Then)
     (on : After w d0 next) (d : Device) (t : Tally) (head : ℕ) (pieces : List Piece)
     (b log : List Access) → Agrees w d0 b d → Begun w head pieces b →
     ServesPieces kind w next d t head pieces log → Each (Comes w d0) b log
-pieces_each w d0 Inflate e next on d t head pieces b log is begun h =
-    copies_by w d0 next on d t head pieces (request_length pieces) b log is
-    (begun_of w Inflate head pieces b e begun) h
-pieces_each w d0 Deflate e next on d t head pieces b log is begun h =
-    copies_by w d0 next on d t head pieces (request_length pieces) b log is
-    (begun_of w Deflate head pieces b e begun) h
-pieces_each w d0 Statistics e next on d t head pieces b log is begun h =
-    copies_by w d0 next on d t head pieces (statistics_length pieces) b log is
-    (begun_of w Statistics head pieces b e begun) h
+pieces_each w d0 Inflate e next on d t head pieces b log is begun h = copies_by w d0 next
+    on d t head pieces (request_length pieces) b log is (begun_of w Inflate head pieces b e begun) h
+pieces_each w d0 Deflate e next on d t head pieces b log is begun h = copies_by w d0 next
+    on d t head pieces (request_length pieces) b log is (begun_of w Deflate head pieces b e begun) h
+pieces_each w d0 Statistics e next on d t head pieces b log is begun h = copies_by w d0 next on d t
+    head pieces (statistics_length pieces) b log is (begun_of w Statistics head pieces b e begun) h
 pieces_each w d0 Report e next on d t head pieces b log is begun h =
     names_each w d0 next on d h.device t head pieces [] h.runs h.answer b log is
-    (begun_of w Report head pieces b e begun)
-    (names_flags w d0 b d h.device is
+    (begun_of w Report head pieces b e begun) (names_flags w d0 b d h.device is
     (report_avail w d h.device e (pieces_avail pieces _ h.runs d h.device h.answer h.names)))
     (pieces_right w d h.device pieces _ h.runs h.answer e h.names) h.goes_on

@@ -4,12 +4,11 @@ use Rattle.std.{proofs.Common.{List, [], Option, Some}, specs.Prelude.nat_lt}
 use Rattle.std.proofs.lemmas.Bool.Decides.{nat_tests}
 use Rattle.vb_chain.specs.declared.pieces.Piece.{Piece}
 use Rattle.vb_core.{specs.declared.device.Device.Device, specs.Devices.ring_of}
-use Rattle.vb_monitor.{specs.declared.regions.Spot.Spot, specs.declared.outcome.Tally.Tally}
-use Rattle.vb_monitor.{specs.Accesses.Access, specs.Regions.spot, specs.Ends.Whole}
-use Rattle.vb_monitor.{specs.Pieces.pieces_in, specs.Notices.{HeadBy, AfterEntry}}
-use Rattle.vb_monitor.specs.Chains.{descriptors, AsksDescriptor, DescriptorAt, Follows}
-use Rattle.vb_monitor.{specs.Machine.{next_chain, serves}, proofs.BufferLemmas.{none_in, length_in}}
-use Rattle.vb_monitor.proofs.NextLemmas.{follows_next}
+use Rattle.vb_monitor.specs.declared.{regions.Spot.Spot, outcome.Tally.Tally}
+use Rattle.vb_monitor.specs.{Accesses.Access, Regions.spot, Ends.Whole, Pieces.pieces_in}
+use Rattle.vb_monitor.specs.{Notices.{HeadBy, AfterEntry}, Chains.{descriptors, AsksDescriptor}}
+use Rattle.vb_monitor.specs.{Chains.{DescriptorAt, Follows}, Machine.{next_chain, serves}}
+use Rattle.vb_monitor.proofs.{BufferLemmas.{none_in, length_in}, NextLemmas.follows_next}
 
 is_less : (n m : ℕ) → n < m → nat_lt n m ≡ true
 is_less n m lt = grind (arith, nat_tests)
@@ -27,12 +26,11 @@ first_goes q w d t whole number log lt h =
     let is : suc (q - 1) ≡ q = omega (arith, lt) in
     subst (λ (n : ℕ). Follows n w d t whole number false [] log) is h
 
-pub head_goes : (w : Whole) (d : Device) (t : Tally) (head : ℕ) (at : Spot) (log : List Access) →
-    head < descriptors (ring_of w.kind d) →
-    spot w.regions ((ring_of w.kind d).table + 16 * head) 16 ≡ Some at →
-    AsksDescriptor w d t (Follows (descriptors (ring_of w.kind d) - 1) w d t (serves w t d head))
-    (serves w t d head) false (pieces_in []) at log →
-    AfterEntry w (next_chain w t) d t head log
+pub head_goes : (w : Whole) (d : Device) (t : Tally) (head : ℕ) (at : Spot) (log : List Access)
+    → head < descriptors (ring_of w.kind d)
+    → spot w.regions ((ring_of w.kind d).table + 16 * head) 16 ≡ Some at
+    → AsksDescriptor w d t (Follows (descriptors (ring_of w.kind d) - 1) w d t (serves w t d head))
+    (serves w t d head) false (pieces_in []) at log → AfterEntry w (next_chain w t) d t head log
 head_goes w d t head at log lt place h =
     subst (λ (b : Bool). HeadBy b w (next_chain w t) d t head log)
     (sym (is_less head (descriptors (ring_of w.kind d)) lt))
@@ -40,8 +38,7 @@ head_goes w d t head at log lt place h =
     (some_less head (descriptors (ring_of w.kind d)) lt)
     (subst (λ (o : Option Spot). DescriptorAt w d t
     (Follows (descriptors (ring_of w.kind d) - 1) w d t (serves w t d head)) (serves w t d head)
-    false [] o log) (sym place)
-    (subst (λ (ps : List Piece). AsksDescriptor w d t
+    false [] o log) (sym place) (subst (λ (ps : List Piece). AsksDescriptor w d t
     (Follows (descriptors (ring_of w.kind d) - 1) w d t (serves w t d head)) (serves w t d head)
     false ps at log) none_in h)))
 

@@ -33,9 +33,8 @@ outcome = record {
 -- ---- what it does
 
 abbrev log : List Access
-log =
-    index ∷ Acquire ∷ entry ∷ descriptor ∷ part ∷ pages ∷ discard ∷ id ∷ used_length ∷ Release ∷ used_index
-    ∷ index ∷ Full ∷ flags ∷ []
+log = index ∷ Acquire ∷ entry ∷ descriptor
+    ∷ part ∷ pages ∷ discard ∷ id ∷ used_length ∷ Release ∷ used_index ∷ index ∷ Full ∷ flags ∷ []
 
 abbrev named : Named
 named = record { runs = 1; pages = 1; skipped = 0 }

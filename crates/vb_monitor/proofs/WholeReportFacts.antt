@@ -1,9 +1,8 @@
 -- A whole notice of a report, worked out: page 5 is free. It is told and discarded, or told and kept.
 use Rattle.std.proofs.Common.{refl, ℕ, true, false, List, [], ◌∷◌, None, Ok}
 use Rattle.vb_chain.specs.declared.pieces.Piece.{Piece}
-use Rattle.vb_core.specs.declared.kinds.Kind.TheVariants.{Report}
-use Rattle.vb_core.{specs.declared.device.Device.Device, specs.Devices.with_one_taken}
-use Rattle.vb_core.specs.Report.{NamesPiecesBy}
+use Rattle.vb_core.specs.declared.{kinds.Kind.TheVariants.Report, device.Device.Device}
+use Rattle.vb_core.specs.{Devices.with_one_taken, Report.NamesPiecesBy}
 use Rattle.vb_monitor.proofs.Samples.{two, at, settings, ready, page_5, one_page, index, entry, part, discard}
 use Rattle.vb_monitor.specs.Accesses.{Access, CopyBytes, Acquire, Release, Full, TellPages}
 use Rattle.vb_monitor.{proofs.Samples.{id, used_length, used_index, flags}, specs.Giving.after_use}

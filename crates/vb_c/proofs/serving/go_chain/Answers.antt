@@ -28,14 +28,12 @@ returns-clause-goes c =
     (sym (says_notice c.args.kind (AwaitsDescriptor old.at x) s old c.requires.kind
     (awaits_descriptor old c.requires.phase
     ∙ ap (λ (w : Walk). Some (AwaitsDescriptor old.at w)) (sym c.walk.ensures))
-    (sym c.tally.ensures)))
-    (record {
+    (sym c.tally.ensures))) (record {
       next = record { kind = c.args.kind; step = c.after_descriptor-step.result };
       device = c.after_descriptor-step.new.device;
       kind_is = refl;
       step = λ after outcome before done rest does h.
-          let w = whole c.args.regions.now c.args.kind after outcome in
-          record {
+          let w = whole c.args.regions.now c.args.kind after outcome in record {
             bytes = does.bytes;
             rest = rest;
             asks = ap (λ (l : List Access). l ++ rest) does.asks;

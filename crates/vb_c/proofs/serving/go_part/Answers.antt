@@ -24,15 +24,13 @@ returns-clause-goes c =
     c.hand_over.new.balloon r1 r2 c.hand_over.new.shown)
     (sym (says_notice c.args.kind (AwaitsPart old.at x) s old c.requires.kind
     (awaits_part old c.requires.phase c.requires.fits
-    ∙ ap (λ (p : Place). Some (AwaitsPart old.at p)) (sym c.place.ensures))
-    (sym c.tally.ensures)))
+    ∙ ap (λ (p : Place). Some (AwaitsPart old.at p)) (sym c.place.ensures)) (sym c.tally.ensures)))
     (record {
       next = record { kind = c.args.kind; step = c.after_part-step.result };
       device = c.after_part-step.new.device;
       kind_is = refl;
       step = λ after outcome before done rest does h.
-          let w = whole c.args.regions.now c.args.kind after outcome in
-          record {
+          let w = whole c.args.regions.now c.args.kind after outcome in record {
             bytes = does.bytes;
             rest = rest;
             asks = ap (λ (l : List Access). l ++ rest) does.asks;

@@ -13,10 +13,8 @@ returns-in-Some-clause-began c e =
     let is = c.show_read.ensures in
     begins_usual (λ after outcome log. Serves regions c.args.kind c.args.budget b.device after
     outcome log) c.args.kind (AwaitsIndex c.in-Some.at) _ regions b c.args.room.now
-    c.show_read.new.self
-    (ap (λ (x : VbNotice). kind_of_code x.kind) is
-    ∙ (ap (λ (k : ℕ). kind_of_code k) t.kind ∙ c.requires))
-    (ap (λ (x : VbNotice). phase_of x) is) (ap (λ (x : VbNotice). tally_of x) is ∙ t.tally)
-    tt (ap (λ (x : VbNotice). x.what) is)
+    c.show_read.new.self (ap (λ (x : VbNotice). kind_of_code x.kind) is
+    ∙ (ap (λ (k : ℕ). kind_of_code k) t.kind ∙ c.requires)) (ap (λ (x : VbNotice). phase_of x) is)
+    (ap (λ (x : VbNotice). tally_of x) is ∙ t.tally) tt (ap (λ (x : VbNotice). x.what) is)
     (ap (λ (x : VbNotice). x.orders.cuts) is ∙ ap (λ (o : Orders). o.cuts) t.orders) refl tt refl
     (c.in-Some.ensures _)

@@ -21,11 +21,10 @@ returns-in-Some-clause-went c e =
     let (tally, kind, orders) = shown.kept in
     goes_usual c.args.kind (AwaitsDescriptor old.at x) (AwaitsDescriptor next.at next.walk) s s
     c.args.regions.now c.args.answer c.args.balloon.now r1 r2 old c.show_descriptor.new.self
-    c.requires.kind
-    (awaits_descriptor old c.requires.phase
+    c.requires.kind (awaits_descriptor old c.requires.phase
     ∙ ap (λ (w : Walk). Some (AwaitsDescriptor old.at w)) (sym c.walk.ensures)) refl
-    (ap (λ (k : ℕ). kind_of_code k) kind ∙ c.requires.kind) shown.phase tally (shown.says s)
-    shown.what (ap (λ (o : Orders). o.cuts) orders) refl tt refl
+    (ap (λ (k : ℕ). kind_of_code k) kind ∙ c.requires.kind) shown.phase tally
+    (shown.says s) shown.what (ap (λ (o : Orders). o.cuts) orders) refl tt refl
     (λ after outcome before done rest does h.
     let w = whole c.args.regions.now c.args.kind after outcome in
     record {

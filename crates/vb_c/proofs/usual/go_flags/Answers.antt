@@ -1,7 +1,6 @@
 use Rattle.std.proofs.Common.{rules, ◌≡◌, ◌∙◌, ap, sym, refl, ℕ, List, ◌++◌, None}
-use Rattle.vb_monitor.{specs.declared.orders.Orders.Orders, specs.Accesses.Access}
+use Rattle.vb_monitor.specs.{Accesses.Access, Ends.wants_interrupt, declared.orders.Orders.Orders}
 use Rattle.vb_monitor.specs.declared.step.Phase.TheVariants.{AwaitsFlags, Ended}
-use Rattle.vb_monitor.specs.Ends.{wants_interrupt}
 use Rattle.vb_c.{specs.Codes.kind_of_code, specs.Notices.says_yes}
 use Rattle.vb_c.proofs.UsualLemmas.{awaits_flags, goes_usual}
 use Rattle.vb_c.proofs.usual.go_flags.Goals as goal
@@ -20,10 +19,9 @@ returns-clause-went c e =
     goes_usual c.args.kind (AwaitsFlags old.at None more) (Ended None wants more) s s
     c.args.regions.now c.args.flags c.args.balloon.now c.args.room.now c.args.room.now old
     c.show_end.new.self c.requires.kind (awaits_flags old c.requires.phase none)
-    (sym c.tally-tally.ensures) (ap (λ (k : ℕ). kind_of_code k) kind ∙ c.requires.kind)
-    shown.phase (tally ∙ sym c.tally-tally.ensures) shown.says shown.what
-    (ap (λ (o : Orders). o.cuts) orders) refl tt over
-    (λ after outcome before done rest does h. record {
+    (sym c.tally-tally.ensures) (ap (λ (k : ℕ). kind_of_code k) kind ∙ c.requires.kind) shown.phase
+    (tally ∙ sym c.tally-tally.ensures) shown.says shown.what (ap (λ (o : Orders). o.cuts) orders)
+    refl tt over (λ after outcome before done rest does h. record {
       flags = c.args.flags;
       rest = rest;
       asks = ap (λ (l : List Access). l ++ rest) does;

@@ -17,8 +17,7 @@ returns-in-Some-clause-went c e =
     c.args.room.now c.args.room.now old c.show_read.new.self c.requires.kind
     (awaits_index old c.requires.phase) (sym c.tally-tally.ensures)
     (ap (λ (x : VbNotice). kind_of_code x.kind) is ∙ c.requires.kind)
-    (ap (λ (x : VbNotice). phase_of x) is)
-    (ap (λ (x : VbNotice). tally_of x) is
+    (ap (λ (x : VbNotice). phase_of x) is) (ap (λ (x : VbNotice). tally_of x) is
     ∙ (ap (λ (n : ℕ). with_chains n (tally_of old)) c.saturating_sub-notice.ensures
     ∙ ap (λ (t : Tally). with_chains (t.chains - 1) t) (sym c.tally-tally.ensures)))
     tt (ap (λ (x : VbNotice). x.what) is) (ap (λ (x : VbNotice). x.orders.cuts) is) refl tt refl
@@ -35,14 +34,12 @@ returns-in-Some-flags_after-clause-went c e =
     let s = c.tally-tally.result in
     let shown = c.show_flags.ensures in
     let (tally, kind, orders) = shown.kept in
-    goes_usual c.args.kind (AwaitsIndex old.at) (AwaitsFlags c.in-Some-flags_after.at None false) s s
-    c.args.regions.now c.args.index c.args.balloon.now
-    c.args.room.now c.args.room.now old c.show_flags.new.self c.requires.kind
-    (awaits_index old c.requires.phase) (sym c.tally-tally.ensures)
-    (ap (λ (k : ℕ). kind_of_code k) kind ∙ c.requires.kind) shown.phase
-    (tally ∙ sym c.tally-tally.ensures) tt
-    shown.what (ap (λ (o : Orders). o.cuts) orders) refl tt refl
-    (λ after outcome before done rest does h. record {
+    goes_usual c.args.kind (AwaitsIndex old.at) (AwaitsFlags c.in-Some-flags_after.at None false)
+    s s c.args.regions.now c.args.index c.args.balloon.now c.args.room.now
+    c.args.room.now old c.show_flags.new.self c.requires.kind (awaits_index old c.requires.phase)
+    (sym c.tally-tally.ensures) (ap (λ (k : ℕ). kind_of_code k) kind ∙ c.requires.kind) shown.phase
+    (tally ∙ sym c.tally-tally.ensures) tt shown.what (ap (λ (o : Orders). o.cuts) orders)
+    refl tt refl (λ after outcome before done rest does h. record {
       index = c.args.index;
       rest = rest;
       asks = ap (λ (l : List Access). l ++ rest) does;

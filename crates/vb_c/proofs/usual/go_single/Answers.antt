@@ -21,8 +21,7 @@ returns-in-Some-clause-went c e =
     let (tally, kind, orders) = shown.kept in
     goes_usual c.args.kind (AwaitsDescriptor old.at x) (AwaitsPart first.at first.place) s s
     c.args.regions.now c.args.answer c.args.balloon.now r1 r2 old c.show_part.new.self
-    c.requires.kind
-    (awaits_descriptor old c.requires.phase
+    c.requires.kind (awaits_descriptor old c.requires.phase
     ∙ ap (λ (w : Walk). Some (AwaitsDescriptor old.at w)) (sym c.walk.ensures)) refl
     (ap (λ (k : ℕ). kind_of_code k) kind ∙ c.requires.kind) shown.phase tally tt
     shown.what (ap (λ (o : Orders). o.cuts) orders) refl c.in-Some.ensures.fits refl

@@ -6,11 +6,9 @@ use Rattle.vb_monitor.proofs.SoleLemmas.{first_put, left_is}
 use Rattle.vb_monitor.proofs.filling.fill.Goals as goal
 
 pub returns-in-None-clause-parts : goal.returns-in-None-clause-parts
-returns-in-None-clause-parts c =
-    first_put c.args.cuts.now c.args.first.now.cut _ _ (search rules)
+returns-in-None-clause-parts c = first_put c.args.cuts.now c.args.first.now.cut _ _ (search rules)
     (left_is c.cut_behind-left.result c.args.regions.now c.args.runs.now _
-    c.cut_behind-left.ensures)
-    ∙ c.fill_on.ensures.parts
+    c.cut_behind-left.ensures) ∙ c.fill_on.ensures.parts
 
 pub returns-in-Some-clause-parts : goal.returns-in-Some-clause-parts
 returns-in-Some-clause-parts c =
@@ -24,9 +22,7 @@ returns-in-Some-clause-parts c =
     take_all (length runs - run) (drop run runs) (omega (arith, length-drop run runs)) in
     first_put c.args.cuts.now c.args.first.now.cut _ _ (search rules)
     (h.2 ∙ ap (λ (l : List Run). cuts_of regions l) (sym (drop-drop 1 run runs)
-    ∙ ap (λ (l : List Run). drop 1 l) (sym behind)))
-    ∙ (c.fill_sole-count.ensures.parts regions h.0
+    ∙ ap (λ (l : List Run). drop 1 l) (sym behind))) ∙ (c.fill_sole-count.ensures.parts regions h.0
     ∙ (ap (λ (l : List Cut). take count c.fill_sole-count.new.cuts ++ l)
     (ap (λ (l : List Run). cuts_of regions l) (ap (λ (l : List Run). drop count l) behind
-    ∙ drop-drop count run runs) ∙ left)
-    ∙ c.fill_on-in-Some.ensures.parts))
+    ∙ drop-drop count run runs) ∙ left) ∙ c.fill_on-in-Some.ensures.parts))

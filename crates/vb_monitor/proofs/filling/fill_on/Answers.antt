@@ -1,6 +1,6 @@
-use Rattle.std.proofs.Common.{◌≡◌, ◌∙◌, ◌++◌, ap, sym, subst, rules, arith, ℕ, List, take, Option}
-use Rattle.vb_monitor.{specs.declared.orders.TheConstants.MAX_CUTS, specs.Orders.cuts_left}
-use Rattle.vb_monitor.{specs.declared.cuts.Cut.Cut, specs.declared.cuts.NextCut.NextCut}
+use Rattle.std.proofs.Common.{◌≡◌, ◌∙◌, ◌++◌, ap, subst, rules, arith, ℕ, take, Option}
+use Rattle.vb_monitor.specs.{declared.orders.TheConstants.MAX_CUTS, Orders.cuts_left}
+use Rattle.vb_monitor.specs.declared.cuts.NextCut.{NextCut}
 use Rattle.vb_monitor.proofs.{OrderLemmas.one_more, SoleLemmas.left_is}
 use Rattle.vb_monitor.proofs.filling.fill_on.Goals as goal
 
@@ -15,8 +15,7 @@ returns-clause-parts c =
 
 pub loop-number-preserved : goal.loop-number-preserved
 loop-number-preserved c = record {
-  parts =
-      one_more _ c.loop-number.cuts _ _ c.loop-number.number c.in-Some.found.cut (search rules)
+  parts = one_more _ c.loop-number.cuts _ _ c.loop-number.number c.in-Some.found.cut (search rules)
       (c.loop-number.invariant.parts ∙ ap (λ (o : Option NextCut). take c.loop-number.number
       c.loop-number.cuts ++ cuts_left c.args.regions.now c.args.runs.now o) c.in-Some.is)
       (left_is c.cut_behind-left.result c.args.regions.now c.args.runs.now _

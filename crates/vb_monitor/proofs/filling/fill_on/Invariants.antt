@@ -4,8 +4,7 @@ use Rattle.vb_monitor.proofs.filling.fill_on.Given as goal
 
 abbrev pub invariant-loop-number : goal.invariant-loop-number
 invariant-loop-number l = record {
-  parts :
-      take l.fn.count l.fn.cuts ++ cuts_left l.regions l.runs l.fn.first ≡
-      take l.number l.cuts ++ cuts_left l.regions l.runs l.left;
+  parts : take l.fn.count l.fn.cuts ++ cuts_left l.regions l.runs l.fn.first ≡ take l.number l.cuts
+      ++ cuts_left l.regions l.runs l.left;
   long : length l.cuts ≡ MAX_CUTS;
 }

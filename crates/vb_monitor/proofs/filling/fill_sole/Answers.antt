@@ -1,4 +1,4 @@
-use Rattle.std.proofs.Common.{◌≡◌, ◌++◌, List, ℕ, subst, take, drop, arith}
+use Rattle.std.proofs.Common.{◌≡◌, ◌++◌, ℕ, subst, take, drop, arith}
 use Rattle.vb_monitor.{specs.declared.orders.TheConstants.MAX_CUTS, specs.Regions.cuts_of}
 use Rattle.vb_monitor.proofs.filling.fill_sole.Goals as goal
 

@@ -5,9 +5,7 @@ use Rattle.vb_monitor.proofs.filling.fill_sole.Given as goal
 
 abbrev pub invariant-loop-count : goal.invariant-loop-count
 invariant-loop-count l = record {
-  parts :
-      (regions : List Region) → IsSole l.sole regions →
-      take 1 l.fn.cuts ++ cuts_of regions (drop 1 l.runs) ≡
-      take l.count l.cuts ++ cuts_of regions (drop l.count l.runs);
+  parts : (regions : List Region) → IsSole l.sole regions → take 1 l.fn.cuts ++ cuts_of regions
+      (drop 1 l.runs) ≡ take l.count l.cuts ++ cuts_of regions (drop l.count l.runs);
   long : length l.cuts ≡ MAX_CUTS;
 }

@@ -17,12 +17,10 @@ returns g c =
     c.outcome.ensures (record {
       added = goes.added;
       whole = goes.whole;
-      is = λ after outcome rest h.
-          c.begin-notice.ensures.step after outcome before (goes.added ++ rest)
-          (subst (λ (k : Kind). Ahead (whole c.args.regions.now k after outcome)
+      is = λ after outcome rest h. c.begin-notice.ensures.step after outcome before (goes.added
+          ++ rest) (subst (λ (k : Kind). Ahead (whole c.args.regions.now k after outcome)
           c.begin-notice.result.step c.begin-notice.new.device before (goes.added ++ rest))
-          c.begin-notice.ensures.kind
-          (goes.is after outcome rest
+          c.begin-notice.ensures.kind (goes.is after outcome rest
           (subst (λ (k : Kind). Ahead (whole c.args.regions.now k after outcome)
           c.serve_steps.new.self.step c.serve_steps.new.device behind rest)
           (sym c.begin-notice.ensures.kind) h)));

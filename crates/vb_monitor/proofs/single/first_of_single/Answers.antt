@@ -2,10 +2,9 @@ use Rattle.std.proofs.Common.{rules, ◌≡◌, ◌+◌, ◌∙◌, sym, ap, ari
 use Rattle.vb_chain.{specs.declared.descriptor.TheConstants.DESCRIPTOR_SIZE, specs.Rules.piece_of}
 use Rattle.vb_chain.specs.declared.pieces.Piece.{Piece}
 use Rattle.vb_core.{specs.declared.next.ChainPiece.ChainPiece}
-use Rattle.vb_monitor.specs.Pieces.{pieces_in, first_part}
-use Rattle.vb_monitor.{specs.Regions.spot, specs.Machine.whole}
-use Rattle.vb_monitor.specs.Chains.{descriptor_of}
-use Rattle.vb_monitor.proofs.{BufferLemmas.{none_in, length_in}, SingleLemmas.single_goes}
+use Rattle.vb_monitor.specs.{Pieces.{pieces_in, first_part}, Regions.spot, Machine.whole}
+use Rattle.vb_monitor.{specs.Chains.descriptor_of, proofs.BufferLemmas.{none_in, length_in}}
+use Rattle.vb_monitor.proofs.SingleLemmas.{single_goes}
 use Rattle.vb_monitor.proofs.single.first_of_single.Goals as goal
 
 none_taken : (bs : List ChainPiece) (n : ℕ) → n ≡ 0 → pieces_in (take n bs) ≡ []

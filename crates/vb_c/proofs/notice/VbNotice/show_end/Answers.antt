@@ -10,8 +10,7 @@ returns-clause-phase c =
     let rule = c.end_rule-self.result in
     let interrupt : says_yes c.from-self.result ≡ c.args.interrupt = search rules in
     let more : says_yes c.from-self-3.result ≡ c.args.more = search rules in
-    let why : why_of code rule ≡ c.args.why =
-    ap (λ (n : ℕ). why_of n rule) c.end_code-self.ensures
+    let why : why_of code rule ≡ c.args.why = ap (λ (n : ℕ). why_of n rule) c.end_code-self.ensures
     ∙ (ap (λ (n : ℕ). why_of (end_code c.args.why c.args.tally) n) c.end_rule-self.ensures
     ∙ end_back c.args.why c.args.tally) in
     ap (λ (x : Option Denial). Some (Ended x (says_yes c.from-self.result)

@@ -1,11 +1,9 @@
 use Rattle.vb_monitor.proofs.notice.Notice.serve_step.Goals as goal
 
 pub returns-clause-step : goal.returns-clause-step
-returns-clause-step g c =
-    let done = c.perform-answer.ensures c.args.pieces.now in
-    record {
-      added = done.added;
-      whole = done.whole;
-      is = λ after outcome rest h.
-          c.next.ensures.step after outcome c.args.bytes.now done.added rest done.is h;
-    }
+returns-clause-step g c = let done = c.perform-answer.ensures c.args.pieces.now in record {
+  added = done.added;
+  whole = done.whole;
+  is = λ after outcome rest h.
+      c.next.ensures.step after outcome c.args.bytes.now done.added rest done.is h;
+}
