@@ -6,5 +6,6 @@ pub mod Numbered
 pub mod Ranged
 pub mod Speaking
 pub mod ThreadsFacts
+mod EventFacts
 pub mod WordLemmas
 pub mod ByLength

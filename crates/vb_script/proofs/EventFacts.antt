@@ -1,0 +1,78 @@
+-- What each line of a script says, and which lines are bad, worked out.
+use Rattle.std.proofs.Common.{◌≡◌, ℕ, List, [], ◌∷◌, Some, None, Ok, Err, codes, refl, map}
+use Rattle.std.specs.Prelude.{Option}
+use Rattle.hex.specs.Hex.{decode_pairs}
+use Rattle.vb_model.specs.declared.calls.Call.TheVariants.{Init, Reset, Alloc, Free, Read, Write, Scribble}
+use Rattle.vb_model.specs.declared.calls.Call.TheVariants.{Inflate, Deflate, Oom, Report, Stats, Reap}
+use Rattle.vb_model.specs.declared.calls.Call.TheVariants.{Take, Work, Finish, Sweep, Ask, SetTarget}
+use Rattle.vb_model.specs.declared.calls.Query.TheVariants.{Places, PagesAt, PagesBallooned, Balloon}
+use Rattle.vb_model.specs.declared.calls.Query.TheVariants.{Memory, Backing}
+use Rattle.vb_model.specs.declared.calls.Event.{Event}
+use Rattle.vb_model.specs.declared.calls.Event.TheVariants.{Plug, Unplug, Restart, Guest, Query, Balance}
+use Rattle.vb_model.specs.declared.calls.Event.TheVariants.{Frames}
+use Rattle.vb_model.specs.declared.places.Place.TheVariants.{Stranded}
+use Rattle.vb_script.specs.declared.lines.{LineFault.TheVariants.Bad, Pace.TheVariants.{Immediate, Paced}}
+use Rattle.vb_script.specs.{Events.event_of, Lines.{host_of, spare_of}, Names.{form_of, pages_query_of}}
+use Rattle.vb_script.specs.{Names.pace_of, Values.{features_of, bytes_of, positive_of}}
+use Rattle.vb_script.specs.Words.{number_of, words_of}
+
+abbrev says : List ℕ → Option Event
+says line = event_of (words_of line)
+
+host_and_processors : says (codes "plug 64 8 1") ∷ says (codes "unplug 3") ∷ says (codes "restart 3")
+    ∷ says (codes "balance 16") ∷ says (codes "frames") ∷ says (codes "alloc 3 1 2")
+    ∷ says (codes "free 3 1 20 2") ∷ says (codes "read 3 20 5 1") ∷ says (codes "write 3 20 5 aB")
+    ∷ says (codes "scribble 3 20 5 0f10") ∷ []
+    ≡ Some (Plug (record { pages = 64; queue_size = 8; processors = 1 })) ∷ Some (Unplug 3)
+    ∷ Some (Restart 3) ∷ Some (Balance 16) ∷ Some Frames ∷ Some (Guest 3 (Alloc 1 2))
+    ∷ Some (Guest 3 (Free 1 20 2)) ∷ Some (Guest 3 (Read 20 5 1)) ∷ Some (Guest 3 (Write 20 5 (171 ∷ [])))
+    ∷ Some (Guest 3 (Scribble 20 5 (15 ∷ 16 ∷ []))) ∷ []
+unfolding form_of number_of positive_of bytes_of decode_pairs
+host_and_processors = refl
+
+drivers : says (codes "init 3") ∷ says (codes "init 3 0000000100000001") ∷ says (codes "reset 3")
+    ∷ says (codes "inflate 3 7") ∷ says (codes "deflate 3 7") ∷ says (codes "oom 3 7")
+    ∷ says (codes "report 3 16") ∷ says (codes "stats 3") ∷ says (codes "reap 3 1") ∷ []
+    ≡ Some (Guest 3 (Init 4294967335)) ∷ Some (Guest 3 (Init 4294967297)) ∷ Some (Guest 3 Reset)
+    ∷ Some (Guest 3 (Inflate 7)) ∷ Some (Guest 3 (Deflate 7)) ∷ Some (Guest 3 (Oom 7))
+    ∷ Some (Guest 3 (Report 16)) ∷ Some (Guest 3 Stats) ∷ Some (Guest 3 (Reap 1)) ∷ []
+unfolding form_of number_of features_of decode_pairs
+drivers = refl
+
+devices_and_questions : says (codes "take 3 4") ∷ says (codes "work 3") ∷ says (codes "finish 3 1 2")
+    ∷ says (codes "sweep 3 20") ∷ says (codes "ask 3") ∷ says (codes "target 3 5") ∷ says (codes "places 3")
+    ∷ says (codes "pages 3 stranded") ∷ says (codes "pages 3 ballooned") ∷ says (codes "balloon 3")
+    ∷ says (codes "memory 3") ∷ says (codes "backing 3 20") ∷ []
+    ≡ Some (Guest 3 (Take 4)) ∷ Some (Guest 3 Work) ∷ Some (Guest 3 (Finish 1 2))
+    ∷ Some (Guest 3 (Sweep 20)) ∷ Some (Guest 3 Ask) ∷ Some (Guest 3 (SetTarget 5)) ∷ Some (Query 3 Places)
+    ∷ Some (Query 3 (PagesAt Stranded)) ∷ Some (Query 3 PagesBallooned) ∷ Some (Query 3 Balloon)
+    ∷ Some (Query 3 Memory) ∷ Some (Query 3 (Backing 20)) ∷ []
+unfolding form_of number_of pages_query_of
+devices_and_questions = refl
+
+-- an unknown word, one in another case, a word too many or too few, two spaces, a tab, a sign, a number
+-- past 32 bits, no byte, half a byte, nothing read, 15 digits of features, a place that isn't asked for
+bad : map says (codes "peek 3" ∷ codes "Unplug 3" ∷ codes "unplug 3 1" ∷ codes "unplug" ∷ codes "unplug  3"
+    ∷ codes "unplug 3 " ∷ codes "unplug +3" ∷ codes "unplug 4294967296" ∷ codes "write 3 20 5 "
+    ∷ codes "write 3 20 5 abc" ∷ codes "read 3 20 5 0" ∷ codes "init 3 000000010000001"
+    ∷ codes "pages 3 reserved" ∷ [])
+    ≡ None ∷ None ∷ None ∷ None ∷ None ∷ None ∷ None ∷ None ∷ None ∷ None ∷ None ∷ None ∷ None ∷ []
+unfolding form_of number_of positive_of bytes_of features_of pages_query_of decode_pairs
+bad = refl
+
+numbers : map number_of (codes "0" ∷ codes "007" ∷ codes "4294967295" ∷ codes "" ∷ codes "1e3" ∷ [])
+    ≡ Some 0 ∷ Some 7 ∷ Some 4294967295 ∷ None ∷ None ∷ []
+unfolding number_of
+numbers = refl
+
+hosts : map (λ line. host_of (words_of line)) (codes "host 1" ∷ codes "host 65536" ∷ codes "host 0"
+    ∷ codes "host 65537" ∷ codes "host 8 8" ∷ codes "frames" ∷ [])
+    ≡ Some 1 ∷ Some 65536 ∷ None ∷ None ∷ None ∷ None ∷ []
+unfolding number_of
+hosts = refl
+
+spares : map (λ line. spare_of (words_of line)) (codes "spare immediate" ∷ codes "spare paced"
+    ∷ codes "frames" ∷ codes "spare slow" ∷ codes "spare" ∷ [])
+    ≡ Ok (Some Immediate) ∷ Ok (Some Paced) ∷ Ok None ∷ Err Bad ∷ Err Bad ∷ []
+unfolding pace_of
+spares = refl
