@@ -53,8 +53,7 @@ not_too_few : Serve (27 ∷ 0 ∷ []) → ⊥
 not_too_few s = let e : 28 ≤ 27 = s.enough in absurd (omega arith)
 
 not_beyond_what_one_can_spare : Serve (0 ∷ 31 ∷ []) → ⊥
-not_beyond_what_one_can_spare s =
-    let l : 31 ≤ 30 = s.within 1 (omega arith) in absurd (omega arith)
+not_beyond_what_one_can_spare s = let l : 31 ≤ 30 = s.within 1 (omega arith) in absurd (omega arith)
 
 not_of_fewer_guests : Serve (28 ∷ []) → ⊥
 not_of_fewer_guests s = let e = s.one_each in absurd (omega (arith, e))

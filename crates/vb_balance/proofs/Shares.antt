@@ -33,9 +33,8 @@ reads needs i targets target n listed own k l = grind (arith, get_or-set_same, g
 
 -- one more guest has its target
 pub one_more : (needs : List Need) (level rest i : ℕ) (targets : List ℕ)
-    (left target after : ℕ) (n : Need)
-    → AreGiven needs level rest i targets left → i < length needs → n ≡ get_or needs i n
-    → Gives n.spare level left target after
+    (left target after : ℕ) (n : Need) → AreGiven needs level rest i targets left
+    → i < length needs → n ≡ get_or needs i n → Gives n.spare level left target after
     → AreGiven needs level rest (i + 1) (set targets i target) after
 one_more needs level rest i targets left target after n s here e g =
     let listed : i < length targets = omega (arith, here, s.one_each) in
@@ -55,8 +54,7 @@ one_more needs level rest i targets left target after n s here e g =
         | inr old ↦ omega (arith, old.1, s.within k old.0 same)
       ];
       in_turn = λ k j l before e1 e2 more. elim (reads needs i targets target n listed own k l) [
-        | inl last ↦
-            search (arith, get_or-set_other)
+        | inl last ↦ search (arith, get_or-set_other)
         | inr old ↦
             let less : j < i = omega (arith, before, old.0) in
             get_or-set_other targets i j target 0 (λ same. omega (arith, less, same))
@@ -88,10 +86,9 @@ all_before : (needs : List Need) (level rest : ℕ) (targets : List ℕ) (left i
 all_before needs level rest targets left i j s l m more reached h12 = grind arith
 
 -- targets by the level of what is missing
-pub by_level : (needs : List Need) (frames level lack rest : ℕ) (targets : List ℕ) (left : ℕ)
-    → lack ≡ missing needs frames → rest ≡ lack - spared_from needs (level + 1)
-    → IsLevel needs lack level → AreGiven needs level rest (length needs) targets left
-    → AreTargets needs frames targets
+pub by_level : (needs : List Need) (frames level lack rest : ℕ) (targets : List ℕ) (left : ℕ) → lack
+    ≡ missing needs frames → rest ≡ lack - spared_from needs (level + 1) → IsLevel needs lack level
+    → AreGiven needs level rest (length needs) targets left → AreTargets needs frames targets
 by_level needs frames level lack rest targets left e r is s = record {
   one_each = s.one_each;
   within = search (arith, cases_order);

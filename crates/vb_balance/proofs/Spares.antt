@@ -1,6 +1,6 @@
 -- What guests can spare together from a level on.
 use Rattle.std.proofs.Common.{◌≡◌, ℕ, zero, suc, ◌+◌, ◌<◌, ◌≤◌, List, [], ◌∷◌, length, get_or, map}
-use Rattle.std.{proofs.Common.{sum_by, refl, ap, sym, arith}, proofs.lemmas.Bool.Decides.nat_tests}
+use Rattle.std.proofs.{Common.{refl, ap, sym, arith}, lemmas.Bool.Decides.nat_tests}
 use Rattle.std.proofs.lemmas.List.Sums.{sum_by-cons}
 use Rattle.vb_model.specs.Balance.{Need, spare_at}
 use Rattle.vb_balance.specs.Levels.{spare_from, spared_from}
@@ -22,14 +22,12 @@ falls_short level n h = grind (arith, nat_tests)
 pub none_above : (needs : List Need) (most : ℕ)
     → ((i : ℕ) → i < length needs → spare_at needs i ≤ most) → spared_from needs (most + 1) ≡ 0
 none_above [] most h = refl
-none_above (n ∷ ns) most h =
-    let first : n.spare ≤ most = h 0 (omega arith) in
-    omega (
-      arith,
-      falls_short (most + 1) n (omega arith),
-      sum_by-cons (spare_from (most + 1)) n ns,
-      none_above ns most (λ i l. h (suc i) (omega arith)),
-    )
+none_above (n ∷ ns) most h = let first : n.spare ≤ most = h 0 (omega arith) in omega (
+  arith,
+  falls_short (most + 1) n (omega arith),
+  sum_by-cons (spare_from (most + 1)) n ns,
+  none_above ns most (λ i l. h (suc i) (omega arith)),
+)
 
 -- a number that is at least the spare of a guest from the level on is at least what it counts for
 pub counts_at_most : (level : ℕ) (needs : List Need) (i t : ℕ) → i < length needs

@@ -1,11 +1,10 @@
 -- A bit as a digit and as a test; the bits of a word from one on.
 use Rattle.std.proofs.Common.{◌≡◌, ℕ, ◌-◌, ◌*◌, ◌/◌, ◌%◌, ◌^◌, ◌<◌, ◌≤◌, true, false, eqb, ltb}
-use Rattle.std.proofs.lemmas.Nat.Bits.{bit_at_and, bit_at_mask_inside, bit_at_mask_below}
-use Rattle.std.proofs.lemmas.Nat.Bits.{bit_at-trailing_zeros, bit_at-zero, ones_shl, ones_shr}
-use Rattle.std.proofs.Common.{bit_and, ap, sym, ◌∙◌, inl, inr, arith, min}
-use Rattle.std.{specs.Int.{bit_at, trailing_zeros, w64}, proofs.lemmas.Bool.cases_lt}
-use Rattle.std.{proofs.lemmas.Bool.Decides.nat_tests, proofs.lemmas.Nat.and_le_l}
-use Rattle.std.proofs.lemmas.Nat.Bits.{bit_at_ones, bit_at_ones_above}
+use Rattle.std.proofs.{Common.{bit_and, ap, sym, ◌∙◌, inl, inr, arith, min}, lemmas.Bool.cases_lt}
+use Rattle.std.proofs.lemmas.{Bool.Decides.nat_tests, Nat.and_le_l, Nat.Bits.bit_at_and}
+use Rattle.std.proofs.lemmas.Nat.Bits.{bit_at_mask_inside, bit_at_mask_below, bit_at-trailing_zeros}
+use Rattle.std.proofs.lemmas.Nat.Bits.{bit_at-zero, ones_shl, ones_shr, bit_at_ones}
+use Rattle.std.{proofs.lemmas.Nat.Bits.bit_at_ones_above, specs.Int.{bit_at, trailing_zeros, w64}}
 use Rattle.vb_model.specs.Tests.{has_bit}
 use Rattle.vb_bits.specs.Words.{IsLowestFrom}
 
@@ -68,8 +67,7 @@ pub low_bits : (count k : ℕ) → count ≤ 64
 low_bits count k few =
     let same : 64 - (64 - count) ≡ count = omega arith in
     ap (λ (n : ℕ). has_bit n k) (ones_shr 64 (64 - count) (omega arith)
-    ∙ ap (λ (n : ℕ). 2 ^ n - 1) same)
-    ∙ elim (cases_lt k count) [
+    ∙ ap (λ (n : ℕ). 2 ^ n - 1) same) ∙ elim (cases_lt k count) [
       | inl below ↦ one_bit (2 ^ count - 1) k (bit_at_ones count k below) ∙ grind (arith, nat_tests)
       | inr above ↦ no_bit (2 ^ count - 1) k (bit_at_ones_above count k above)
           ∙ grind (arith, nat_tests)

@@ -86,16 +86,14 @@ put_summary level summary n one any s l told = record {
         let now : has (set summary (n / 64) any) w ≡ any =
         ap (λ (k : ℕ). has (set summary (n / 64) any) k) same.1
         ∙ get_or-set_same summary (n / 64) any false there in (
-          λ e. subst (λ (k : ℕ). HasNoneIn (set level n one) k) (sym same.1)
-              (told.0 (sym now ∙ e)),
+          λ e. subst (λ (k : ℕ). HasNoneIn (set level n one) k) (sym same.1) (told.0 (sym now ∙ e)),
           λ none. now ∙ told.1 (subst (λ (k : ℕ). HasNoneIn (set level n one) k) same.1 none),
         )
-    | inr other ↦
-        let was = get_or-set_other summary (n / 64) w any false other.1 in (
-          λ e m row. elsewhere level n w one other.1 m row ∙ (s.tells w).0 (sym was ∙ e) m row,
-          λ none. was ∙ (s.tells w).1
-              (λ m row. sym (elsewhere level n w one other.1 m row) ∙ none m row),
-        )
+    | inr other ↦ let was = get_or-set_other summary (n / 64) w any false other.1 in (
+      λ e m row. elsewhere level n w one other.1 m row ∙ (s.tells w).0 (sym was ∙ e) m row,
+      λ none. was ∙ (s.tells w).1
+          (λ m row. sym (elsewhere level n w one other.1 m row) ∙ none m row),
+    )
   ];
 }
 

@@ -43,8 +43,7 @@ at_place words w b l = grind arith
 
 pub bit_is_flag : (bound : ℕ) (words : List ℕ) → AreWordsOf bound words → (w b : ℕ) → b < 64
     → has_bit (get_or words w 0) b ≡ has (flags_of bound words) (64 * w + b)
-bit_is_flag bound words s w b l =
-    sym (has_flag bound words s (64 * w + b) ∙ at_place words w b l)
+bit_is_flag bound words s w b l = sym (has_flag bound words s (64 * w + b) ∙ at_place words w b l)
 
 -- ---- all bits 0
 
@@ -83,29 +82,24 @@ other_word : (bound len last n : ℕ) → 64 * last < bound → bound ≤ 64 * l
 other_word bound len last n from to e ne = elim (cases_lt (n / 64) len) [
   | inl l ↦
       let inside : n < bound = omega arith in
-      ap (λ (w : ℕ). has_bit w (n % 64)) (get_or-replicate len (n / 64) (2 ^ 64 - 1) 0 l)
-      ∙ one_bit (2 ^ 64 - 1) (n % 64) (bit_at_ones 64 (n % 64) (omega arith))
-      ∙ grind (arith, nat_tests)
+      ap (λ (w : ℕ). has_bit w (n % 64)) (get_or-replicate len (n / 64) (2 ^ 64 - 1) 0 l) ∙ one_bit
+      (2 ^ 64 - 1) (n % 64) (bit_at_ones 64 (n % 64) (omega arith)) ∙ grind (arith, nat_tests)
   | inr l ↦
       let outside : bound ≤ n = omega arith in
       ap (λ (w : ℕ). has_bit w (n % 64)) (get_or_past (all_ones len) (n / 64) 0
       (omega (arith, l, length-replicate {A = ℕ} len (2 ^ 64 - 1))))
-      ∙ zero_bit (n % 64)
-      ∙ grind (arith, nat_tests)
+      ∙ zero_bit (n % 64) ∙ grind (arith, nat_tests)
 ]
 
 filled_at : (bound len last low n : ℕ) → 64 * last < bound → bound ≤ 64 * last + 64
     → len ≡ last + 1 → ((k : ℕ) → k < 64 → has_bit low k ≡ ltb k (bound - last * 64))
     → in_words (set (all_ones len) last low) n ≡ ltb n bound
 filled_at bound len last low n from to e h = elim (eqb_tells (n / 64) last) [
-  | inl same ↦
-      ap (λ (k : ℕ). has_bit (get_or (set (all_ones len) last low) k 0) (n % 64)) same.1
+  | inl same ↦ ap (λ (k : ℕ). has_bit (get_or (set (all_ones len) last low) k 0) (n % 64)) same.1
       ∙ ap (λ (w : ℕ). has_bit w (n % 64)) (get_or-set_same (all_ones len) last low 0
       (omega (arith, length-replicate {A = ℕ} len (2 ^ 64 - 1))))
-      ∙ h (n % 64) (omega arith)
-      ∙ low_test bound last n from to same.1
-  | inr other ↦
-      ap (λ (w : ℕ). has_bit w (n % 64))
+      ∙ h (n % 64) (omega arith) ∙ low_test bound last n from to same.1
+  | inr other ↦ ap (λ (w : ℕ). has_bit w (n % 64))
       (get_or-set_other (all_ones len) last (n / 64) low 0 other.1)
       ∙ other_word bound len last n from to e other.1
 ]
@@ -131,9 +125,8 @@ filled bound len last low from to e h =
 pub filled_flags : (bound len last low : ℕ) → 64 * last < bound → bound ≤ 64 * last + 64
     → len ≡ last + 1 → ((k : ℕ) → k < 64 → has_bit low k ≡ ltb k (bound - last * 64))
     → flags_of bound (set (all_ones len) last low) ≡ replicate bound true
-filled_flags bound len last low from to e h =
-    flags_are bound (set (all_ones len) last low) (replicate bound true)
-    (filled bound len last low from to e h) (length-replicate bound true)
+filled_flags bound len last low from to e h = flags_are bound (set (all_ones len) last low)
+    (replicate bound true) (filled bound len last low from to e h) (length-replicate bound true)
     (λ n l. filled_at bound len last low n from to e h ∙ below_test n bound l
     ∙ sym (get_or-replicate bound n true false l))
 
@@ -143,8 +136,7 @@ filled_flags bound len last low from to e h =
 pub record IsWritten (words : List ℕ) (n : ℕ) (one : Bool) (word : ℕ) : Type 0 where
   pub within : n / 64 < length words
   pub same : has_bit word (n % 64) ≡ one
-  pub others : (k : ℕ) → k < 64 → k ≢ n % 64
-      → has_bit word k ≡ has_bit (get_or words (n / 64) 0) k
+  pub others : (k : ℕ) → k < 64 → k ≢ n % 64 → has_bit word k ≡ has_bit (get_or words (n / 64) 0) k
 
 put_same : (words : List ℕ) (n : ℕ) (one : Bool) (word : ℕ) → IsWritten words n one word
     → in_words (set words (n / 64) word) n ≡ one
@@ -162,28 +154,22 @@ put bound words n one word s l w = grind (arith, length-set, put_other)
 pub put_flags : (bound : ℕ) (words : List ℕ) (n : ℕ) (one : Bool) (word : ℕ)
     → AreWordsOf bound words → n < bound → IsWritten words n one word
     → flags_of bound (set words (n / 64) word) ≡ set (flags_of bound words) n one
-put_flags bound words n one word s l w =
-    flags_are bound (set words (n / 64) word) (set (flags_of bound words) n one)
-    (put bound words n one word s l w)
+put_flags bound words n one word s l w = flags_are bound
+    (set words (n / 64) word) (set (flags_of bound words) n one) (put bound words n one word s l w)
     (length-set (flags_of bound words) n one ∙ length-flags bound words)
     (λ m _. elim (eqb_tells m n) [
-      | inl same ↦
-          ap (λ (k : ℕ). in_words (set words (n / 64) word) k) same.1
-          ∙ put_same words n one word w
-          ∙ sym (get_or-set_same (flags_of bound words) n one false
+      | inl same ↦ ap (λ (k : ℕ). in_words (set words (n / 64) word) k) same.1
+          ∙ put_same words n one word w ∙ sym (get_or-set_same (flags_of bound words) n one false
           (omega (arith, l, length-flags bound words)))
           ∙ ap (λ (k : ℕ). has (set (flags_of bound words) n one) k) (sym same.1)
-      | inr other ↦
-          put_other words n one word m w other.1
-          ∙ sym (has_flag bound words s m)
+      | inr other ↦ put_other words n one word m w other.1 ∙ sym (has_flag bound words s m)
           ∙ sym (get_or-set_other (flags_of bound words) n m one false other.1)
     ])
 
 -- ---- words with no bit
 
 bare : (word : ℕ) → word < 2 ^ 64 → ((k : ℕ) → k < 64 → has_bit word k ≡ false) → word ≡ 0
-bare word fits none =
-    same_from_bits_below 64 word 0 fits (omega arith)
+bare word fits none = same_from_bits_below 64 word 0 fits (omega arith)
     (λ k l. no_digit (bit_at word k) (bit_at-lt word k) (none k l) ∙ sym (bit_at-zero k))
   where
     no_digit : (digit : ℕ) → digit < 2 → eqb digit 1 ≡ false → digit ≡ 0
@@ -194,17 +180,13 @@ pub word_is_zero : (bound : ℕ) (words : List ℕ) (w word : ℕ) → AreWordsO
     → word < 2 ^ 64 → get_or words w 0 ≡ word
     → (not (eqb word 0) ≡ false) ↔ HasNoneIn (flags_of bound words) w
 word_is_zero bound words w word s fits e = (
-  λ zero n row.
-      has_flag bound words s n
-      ∙ ap (λ (k : ℕ). has_bit (get_or words k 0) (n % 64)) row
+  λ zero n row. has_flag bound words s n ∙ ap (λ (k : ℕ). has_bit (get_or words k 0) (n % 64)) row
       ∙ ap (λ (k : ℕ). has_bit k (n % 64)) (e ∙ eqb-true word 0 (not-false (eqb word 0) zero))
       ∙ zero_bit (n % 64),
   λ none.
       let row = λ (k : ℕ) (l : k < 64). at_row w k l in
-      ap not (eq-eqb word 0 (bare word fits (λ k l.
-      ap (λ (n : ℕ). has_bit n k) (sym e)
-      ∙ bit_is_flag bound words s w k l
-      ∙ none (64 * w + k) (row k l)))),
+      ap not (eq-eqb word 0 (bare word fits (λ k l. ap (λ (n : ℕ). has_bit n k) (sym e)
+      ∙ bit_is_flag bound words s w k l ∙ none (64 * w + k) (row k l)))),
 )
   where
     at_row : (w k : ℕ) → k < 64 → (64 * w + k) / 64 ≡ w
@@ -227,7 +209,6 @@ next set word n bit h s =
         least = λ m from before.
             let place : 64 * (n / 64) + m % 64 ≡ m = omega arith in
             ap (λ (k : ℕ). has set k) (sym place)
-            ∙ sym (h (m % 64) (omega arith))
-            ∙ s.lowest (m % 64) (omega arith) (omega arith);
+            ∙ sym (h (m % 64) (omega arith)) ∙ s.lowest (m % 64) (omega arith) (omega arith);
       },
     )

@@ -55,15 +55,14 @@ no_fault q end writing k x direct fits way next = grind (arith, common_steps)
 any_at : (p : ℕ → Bool) (xs : List ℕ) → list_any p xs ≡ true
     → (k : ℕ) × (k < length xs) × (p (slice_index xs k) ≡ true)
 any_at p [] h = cc
-any_at p (x ∷ xs) h = first (p x) refl (any_at p xs)
-  where
-    first : (b : Bool) → p x ≡ b
-        → (list_any p xs ≡ true → (k : ℕ) × (k < length xs) × (p (slice_index xs k) ≡ true))
-        → (k : ℕ) × (k < length (x ∷ xs)) × (p (slice_index (x ∷ xs) k) ≡ true)
-    first true e more = (0, omega arith, e)
-    first false e more =
-        let rest : list_any p xs ≡ true = ap (λ b. b || list_any p xs) (sym e) ∙ h in
-        let found = more rest in (suc found.0, omega (arith, found.1), found.2)
+any_at p (x ∷ xs) h = first (p x) refl (any_at p xs) where
+  first : (b : Bool) → p x ≡ b
+      → (list_any p xs ≡ true → (k : ℕ) × (k < length xs) × (p (slice_index xs k) ≡ true))
+      → (k : ℕ) × (k < length (x ∷ xs)) × (p (slice_index (x ∷ xs) k) ≡ true)
+  first true e more = (0, omega arith, e)
+  first false e more =
+      let rest : list_any p xs ≡ true = ap (λ b. b || list_any p xs) (sym e) ∙ h in
+      let found = more rest in (suc found.0, omega (arith, found.1), found.2)
 
 -- what was written along a route is a chain of these pieces
 pub written_chain : (d : ℕ → Descriptor) (q end : ℕ) (path : List ℕ) (pieces : List Piece)
@@ -72,13 +71,11 @@ pub written_chain : (d : ℕ → Descriptor) (q end : ℕ) (path : List ℕ) (pi
     → ChainGives d q end (slice_index path 0) pieces
 written_chain d q end path pieces route pair short sound put =
     let goes : (k : ℕ) → k < length path
-    → has_next (d (slice_index path k)) ≡ nat_lt (k + 1) (length path) =
-    λ k h. ap has_next (put k h)
-    ∙ flags_next (nat_lt (k + 1) (length path)) (slice_index_or pieces k empty).writable
+    → has_next (d (slice_index path k)) ≡ nat_lt (k + 1) (length path) = λ k h. ap has_next
+    (put k h) ∙ flags_next (nat_lt (k + 1) (length path)) (slice_index_or pieces k empty).writable
     (slice_index_or pieces k empty) (slice_index path (k + 1)) in
-    let writes : (k : ℕ) → k < length path
-    → is_writable (d (slice_index path k)) ≡ (slice_index_or pieces k empty).writable =
-    λ k h. ap is_writable (put k h)
+    let writes : (k : ℕ) → k < length path → is_writable (d (slice_index path k))
+    ≡ (slice_index_or pieces k empty).writable = λ k h. ap is_writable (put k h)
     ∙ flags_writable (nat_lt (k + 1) (length path)) (slice_index_or pieces k empty).writable
     (slice_index_or pieces k empty) (slice_index path (k + 1)) in record {
       path = path;

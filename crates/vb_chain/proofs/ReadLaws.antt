@@ -15,12 +15,10 @@ little_field : (n : ℕ) (mem : Pages) (p o i : ℕ) (bytes : List ℕ)
 unfolding field
 little_field zero mem p o i bytes read = refl
 little_field (suc n) mem p o i bytes read =
-    let first : slice_index bytes i ≡ byte_at mem p o =
-    ap (slice_index bytes) (omega arith) ∙ read 0 (omega arith)
-    ∙ ap (byte_at mem p) (omega arith) in
-    let more : little_from (suc i) n bytes ≡ field n mem p (o + 1) =
-    little_field n mem p (o + 1) (suc i) bytes (λ k l.
-    ap (slice_index bytes) (omega arith) ∙ read (k + 1) (omega (arith, l))
+    let first : slice_index bytes i ≡ byte_at mem p o = ap (slice_index bytes) (omega arith)
+    ∙ read 0 (omega arith) ∙ ap (byte_at mem p) (omega arith) in
+    let more : little_from (suc i) n bytes ≡ field n mem p (o + 1) = little_field n mem p (o + 1)
+    (suc i) bytes (λ k l. ap (slice_index bytes) (omega arith) ∙ read (k + 1) (omega (arith, l))
     ∙ ap (byte_at mem p) (omega arith)) in omega (arith, first, more)
 
 -- the first n of 16 bytes

@@ -1,10 +1,9 @@
 -- How far a walk has come, and what it says at its end.
 use Rattle.std.proofs.Common.{◌≡◌, ℕ, ◌+◌, ◌<◌, List, [], ◌∷◌, ◌++◌, Bool, true, false, ◌||◌, Some}
-use Rattle.std.proofs.lemmas.List.{length_push, get_or_append_left, get_or_push, take-append-le}
 use Rattle.std.proofs.Common.{None, length, map, take, sym, ◌∙◌, ap, inl, inr, arith}
-use Rattle.std.{specs.Prelude.slice_index, specs.List.list_any, proofs.lemmas.Bool.cases_eq}
-use Rattle.std.proofs.lemmas.List.{take_at, take_all, map_more}
-use Rattle.std.proofs.lemmas.List.Folds.{list_any_more}
+use Rattle.std.proofs.lemmas.{Bool.cases_eq, List.{length_push, get_or_append_left, get_or_push}}
+use Rattle.std.proofs.lemmas.List.{take-append-le, take_at, take_all, map_more, Folds.list_any_more}
+use Rattle.std.specs.{List.list_any, Prelude.slice_index}
 use Rattle.vb_chain.specs.declared.descriptor.Descriptor.{Descriptor}
 use Rattle.vb_chain.{specs.declared.pieces.Piece.Piece, specs.declared.fault.ChainFault.ChainFault}
 use Rattle.vb_chain.specs.Rules.{has_next, is_writable, piece_of, first_fault}
@@ -113,9 +112,8 @@ walked_more d q end head path i index writing pieces w e more = let j = (d index
             ∙ fault_last d q end head path i index writing pieces w ∙ e
         | inr ne ↦ w.sound k (omega (arith, ne))
       ];
-      writes = ap (λ b. b || is_writable (d index)) w.writes
-          ∙ ap (λ n. list_any (λ j. is_writable (d j)) (take i path) || is_writable (d n))
-          (sym w.last)
+      writes = ap (λ b. b || is_writable (d index)) w.writes ∙ ap
+          (λ n. list_any (λ j. is_writable (d j)) (take i path) || is_writable (d n)) (sym w.last)
           ∙ sym (list_any_more (λ j. is_writable (d j)) path i 0 (omega (arith, w.count)))
           ∙ ap (list_any (λ j. is_writable (d j))) (all ∙ sym cut);
       read = ap (λ xs. xs ++ piece_of (d index) ∷ []) w.read

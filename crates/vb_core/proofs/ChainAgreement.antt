@@ -72,9 +72,8 @@ pub same_chain : (d e : ℕ → Descriptor) (q end h : ℕ) (pieces : List Piece
     ChainGives d q end h pieces → ChainGives e q end h pieces
 same_chain d e q end h pieces agree gives = let chain = gives.chain in
     let path : List ℕ = gives.path in
-    let below : (k : ℕ) → k < length path → get_or path k 0 < q =
-    path_below d q end h path chain.inside chain.is_path
-    (λ k lt. chain.sound k (omega (arith, lt))) in
+    let below : (k : ℕ) → k < length path → get_or path k 0 < q = path_below
+    d q end h path chain.inside chain.is_path (λ k lt. chain.sound k (omega (arith, lt))) in
     let same : (k : ℕ) → k < length path → d (get_or path k 0) ≡ e (get_or path k 0) =
     λ k lt. agree (get_or path k 0) (below k lt) in record {
       path = path;

@@ -38,9 +38,8 @@ written : config_denies 4 4 poisons ∷ config_denies 12 4 poisons ∷ config_de
     ≡ false ∷ false ∷ false ∷ []
 written = refl
 
-denied_elsewhere : map (λ at. config_denies at 4 poisons)
-    (0 ∷ 1 ∷ 3 ∷ 5 ∷ 8 ∷ 11 ∷ 13 ∷ 16 ∷ 4294967295 ∷ [])
-    ≡ true ∷ true ∷ true ∷ true ∷ true ∷ true ∷ true ∷ true ∷ true ∷ []
+denied_elsewhere : map (λ at. config_denies at 4 poisons) (0 ∷ 1 ∷ 3 ∷ 5 ∷ 8 ∷ 11
+    ∷ 13 ∷ 16 ∷ 4294967295 ∷ []) ≡ true ∷ true ∷ true ∷ true ∷ true ∷ true ∷ true ∷ true ∷ true ∷ []
 denied_elsewhere = refl
 
 other_lengths_denied : map (λ len. config_denies 12 len poisons) (0 ∷ 1 ∷ 2 ∷ 3 ∷ 5 ∷ 8 ∷ [])
@@ -70,9 +69,8 @@ tested : map page_poison (16 ∷ 0x100000037 ∷ 0 ∷ 15 ∷ 32 ∷ 0x100000027
     ≡ true ∷ true ∷ false ∷ false ∷ false ∷ false ∷ []
 tested = refl
 
-may_be_offered : map (λ offered. are_settings (offering offered).settings)
-    (0x100000010 ∷ 0x100000037 ∷ 16 ∷ 0x100000008 ∷ 0x100000040 ∷ [])
-    ≡ true ∷ true ∷ false ∷ false ∷ false ∷ []
+may_be_offered : map (λ offered. are_settings (offering offered).settings) (0x100000010
+    ∷ 0x100000037 ∷ 16 ∷ 0x100000008 ∷ 0x100000040 ∷ []) ≡ true ∷ true ∷ false ∷ false ∷ false ∷ []
 may_be_offered = refl
 
 abbrev negotiating : Device → Device

@@ -4,8 +4,7 @@ use Rattle.std.{proofs.Common.{length, sym, ap, arith}, specs.Prelude.slice_inde
 use Rattle.vb_ram.specs.Pages.{Pages, byte_at, field, end_of}
 use Rattle.vb_chain.{specs.declared.pieces.Piece.Piece, specs.declared.fault.ChainFault.ChainFault}
 use Rattle.vb_chain.{specs.Table.descriptor_at, specs.Chain.{ChainGives, FaultGives}}
-use Rattle.vb_ring.{specs.declared.layout.Layout.Layout, specs.Layout.IsSize}
-use Rattle.vb_ring.specs.Entries.{next_entry}
+use Rattle.vb_ring.specs.{declared.layout.Layout.Layout, Layout.IsSize, Entries.next_entry}
 use Rattle.vb_core.specs.Copies.{padded, copies_of, copied_layout, AreCopies}
 use Rattle.vb_core.proofs.CopyLemmas.{copied_length, copied_byte, padded_at}
 use Rattle.vb_core.proofs.ChainAgreement.{Agree, agree_back, same_chain, same_break}
@@ -15,15 +14,13 @@ copies_count count avail table = copied_length count (padded table ∷ padded av
 
 table_byte : (count : ℕ) (avail table : List ℕ) (o : ℕ) → 2 ≤ count → o < 4096 →
     byte_at (copies_of count table avail) 0 o ≡ slice_index table o
-table_byte count avail table o two lt =
-    copied_byte count 0 0 o (padded table ∷ padded avail ∷ []) (omega arith) refl
-    ∙ padded_at table o lt
+table_byte count avail table o two lt = copied_byte count 0 0 o
+    (padded table ∷ padded avail ∷ []) (omega arith) refl ∙ padded_at table o lt
 
 avail_byte : (count : ℕ) (avail table : List ℕ) (o : ℕ) → 2 ≤ count → o < 4096 →
     byte_at (copies_of count table avail) 1 o ≡ slice_index avail o
-avail_byte count avail table o two lt =
-    copied_byte count 1 1 o (padded table ∷ padded avail ∷ []) (omega arith) refl
-    ∙ padded_at avail o lt
+avail_byte count avail table o two lt = copied_byte count 1 1 o
+    (padded table ∷ padded avail ∷ []) (omega arith) refl ∙ padded_at avail o lt
 
 -- equal bytes make equal fields, wherever they stand
 same_field : (n : ℕ) (m1 m2 : Pages) (p1 p2 o1 o2 : ℕ) →
@@ -34,9 +31,8 @@ same_field zero m1 m2 p1 p2 o1 o2 same = refl
 same_field (suc n) m1 m2 p1 p2 o1 o2 same =
     let first : byte_at m1 p1 o1 ≡ byte_at m2 p2 o2 =
     ap (byte_at m1 p1) (here o1) ∙ (same 0 (omega arith) ∙ ap (byte_at m2 p2) (sym (here o2))) in
-    let rest : field n m1 p1 (o1 + 1) ≡ field n m2 p2 (o2 + 1) =
-    same_field n m1 m2 p1 p2 (o1 + 1) (o2 + 1) (λ k lt.
-    ap (byte_at m1 p1) (past o1 k) ∙ (same (suc k) (omega (arith, lt))
+    let rest : field n m1 p1 (o1 + 1) ≡ field n m2 p2 (o2 + 1) = same_field n m1 m2 p1 p2
+    (o1 + 1) (o2 + 1) (λ k lt. ap (byte_at m1 p1) (past o1 k) ∙ (same (suc k) (omega (arith, lt))
     ∙ ap (byte_at m2 p2) (sym (past o2 k)))) in
     ap (λ (b : ℕ). b + 256 * field n m1 p1 (o1 + 1)) first
     ∙ ap (λ (f : ℕ). byte_at m2 p2 o2 + 256 * f) rest

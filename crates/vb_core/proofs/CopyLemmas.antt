@@ -55,13 +55,11 @@ other cs k new (Some j) ne = ap lent (get_or-set_other cs k j new [] (λ e. ne (
 only : (p q k : ℕ) → copy_number p ≡ Some k → copy_number q ≡ Some k → q ≡ p
 only p q k e f = search rules
 
-pub copied_set : (count p k : ℕ) (cs : List (List ℕ)) (new : List ℕ) → p < count →
-    k < length cs → copy_number p ≡ Some k →
-    copied count (set cs k new) ≡ set (copied count cs) p (lent new)
+pub copied_set : (count p k : ℕ) (cs : List (List ℕ)) (new : List ℕ) → p < count → k < length cs
+    → copy_number p ≡ Some k → copied count (set cs k new) ≡ set (copied count cs) p (lent new)
 copied_set count p k cs new h l e = let old = copied count cs in
-    let len : length (copied count (set cs k new)) ≡ length (set old p (lent new)) =
-    copied_length count (set cs k new)
-    ∙ sym (length-set old p (lent new) ∙ copied_length count cs) in
+    let len : length (copied count (set cs k new)) ≡ length (set old p (lent new)) = copied_length
+    count (set cs k new) ∙ sym (length-set old p (lent new) ∙ copied_length count cs) in
     ext_get_or None (copied count (set cs k new)) (set old p (lent new)) len
     (λ i u. at i (omega (arith, u, copied_length count (set cs k new))))
   where
@@ -120,12 +118,10 @@ is_padded bytes page len at = ext_get_or 0 page (padded bytes) (len ∙ sym (pad
 
 -- ---- copies that are lent
 
-pub lent_table : (table avail : List ℕ) (cs : List (List ℕ)) (p : ℕ) →
-    cs ≡ padded table ∷ padded avail ∷ [] → p ≡ 0 →
-    (o : ℕ) → o < 4096 → get_or table o 0 ≡ byte_of (copy_of p cs) o
+pub lent_table : (table avail : List ℕ) (cs : List (List ℕ)) (p : ℕ) → cs ≡ padded table
+    ∷ padded avail ∷ [] → p ≡ 0 → (o : ℕ) → o < 4096 → get_or table o 0 ≡ byte_of (copy_of p cs) o
 lent_table table avail cs p e first o h = grind (arith, padded_at)
 
-pub lent_avail : (table avail : List ℕ) (cs : List (List ℕ)) (p : ℕ) →
-    cs ≡ padded table ∷ padded avail ∷ [] → p ≡ 1 →
-    (o : ℕ) → o < 4096 → get_or avail o 0 ≡ byte_of (copy_of p cs) o
+pub lent_avail : (table avail : List ℕ) (cs : List (List ℕ)) (p : ℕ) → cs ≡ padded table
+    ∷ padded avail ∷ [] → p ≡ 1 → (o : ℕ) → o < 4096 → get_or avail o 0 ≡ byte_of (copy_of p cs) o
 lent_avail table avail cs p e second o h = grind (arith, padded_at)

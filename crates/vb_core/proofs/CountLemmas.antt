@@ -27,25 +27,21 @@ count_add f g h a (suc n) e =
 pub count_none : (f : ℕ → Bool) (a n : ℕ) → ((p : ℕ) → a ≤ p → p < a + n → f p ≡ false)
     → count_by f (range_with_len a n) ≡ 0
 count_none f a zero none = refl
-count_none f a (suc n) none =
-    grind (
-      arith,
-      count_next,
-      count_none f (a + 1) n (λ p from below. none p (omega arith) (omega
-          arith)),
-    )
+count_none f a (suc n) none = grind (
+  arith,
+  count_next,
+  count_none f (a + 1) n (λ p from below. none p (omega arith) (omega arith)),
+)
 
 pub count_split : (f : ℕ → Bool) (a m n : ℕ) → count_by f (range_with_len a (m + n))
     ≡ count_by f (range_with_len a m) + count_by f (range_with_len (a + m) n)
 count_split f a zero n = grind arith
 count_split f a (suc m) n = let same : suc m + n ≡ suc (m + n) = omega arith in
     let start : a + 1 + m ≡ a + suc m = omega arith in
-    let whole : count_by f (range_with_len a (suc m + n))
-    ≡ count_by f (range_with_len a (suc (m + n))) =
-    ap (λ (k : ℕ). count_by f (range_with_len a k)) same in
-    let rest : count_by f (range_with_len (a + 1 + m) n)
-    ≡ count_by f (range_with_len (a + suc m) n) =
-    ap (λ (b : ℕ). count_by f (range_with_len b n)) start in
+    let whole : count_by f (range_with_len a (suc m + n)) ≡ count_by f
+    (range_with_len a (suc (m + n))) = ap (λ (k : ℕ). count_by f (range_with_len a k)) same in
+    let rest : count_by f (range_with_len (a + 1 + m) n) ≡ count_by f
+    (range_with_len (a + suc m) n) = ap (λ (b : ℕ). count_by f (range_with_len b n)) start in
     omega (arith, whole, rest, count_next f a (m + n), count_next f a m, count_split f (a + 1) m n)
 
 -- numbers that pass are below a bound, and so no more than it

@@ -1,11 +1,10 @@
 -- What a call that isn't refused has passed.
 use Rattle.std.proofs.Common.{arith, ◌≡◌, Bool, true, false, Option, Some, None, refl}
 use Rattle.std.specs.Prelude.{not, ◌||◌, if◌then◌else◌}
-use Rattle.vb_core.specs.declared.device.Denial.TheVariants.{NoQueue, BadArgument, NotReady}
-use Rattle.vb_core.specs.declared.device.Denial.TheVariants.{NeedsReset, Misplaced}
-use Rattle.vb_core.{specs.Devices.{ring_of, call_denial}, specs.declared.device.Denial.Denial}
-use Rattle.vb_core.{specs.declared.device.Device.Device, specs.declared.kinds.Kind.Kind}
-use Rattle.vb_core.{specs.Settings.are_settings, specs.Rings.has_place}
+use Rattle.vb_core.specs.{Devices.{ring_of, call_denial}, Rings.has_place, Settings.are_settings}
+use Rattle.vb_core.specs.declared.device.Denial.{Denial, TheVariants.{NoQueue, BadArgument}}
+use Rattle.vb_core.specs.declared.device.Denial.TheVariants.{NotReady, NeedsReset, Misplaced}
+use Rattle.vb_core.specs.declared.{device.Device.Device, kinds.Kind.Kind}
 
 -- The arguments fit, and the queue has its place.
 pub record IsOpen (kind : Kind) (fits copied : Bool) (d : Device) : Type 0 where

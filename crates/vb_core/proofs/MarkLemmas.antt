@@ -3,13 +3,12 @@ use Rattle.std.proofs.Common.{◌≡◌, ◌≢◌, ℕ, zero, suc, ◌+◌, ◌
 use Rattle.std.proofs.Common.{true, false, cond, not, ◌&&◌, ◌||◌, List, [], ◌∷◌, length, get_or}
 use Rattle.std.proofs.Common.{set, refl, sym, ap, ◌∙◌, inl, inr, arith, eqb, ltb, leb, min, max}
 use Rattle.std.proofs.Common.{bit_and, bit_or, bit_xor, count_by, count_ones, if◌then◌else◌, take}
-use Rattle.std.proofs.lemmas.Bool.{cases_lt, cases_Bool, le-leb, lt-leb, and_from, and_parts}
-use Rattle.std.proofs.lemmas.Bool.{leb-true, ltb-true, lt-ltb, le-ltb, eq-eqb, ne_eqb, or_from}
-use Rattle.std.{proofs.Common.◌==◌, specs.List.{range_with_len, list_any}, specs.Int.{bit_not, w64}}
-use Rattle.std.{proofs.lemmas.Bool.both_ways, proofs.lemmas.Bool.Decides.eqb_tells}
+use Rattle.std.proofs.{Common.◌==◌, lemmas.Bool.{cases_lt, cases_Bool, le-leb, lt-leb, and_from}}
+use Rattle.std.proofs.lemmas.Bool.{and_parts, leb-true, ltb-true, lt-ltb, le-ltb, eq-eqb, ne_eqb}
+use Rattle.std.{proofs.lemmas.Bool.{or_from, both_ways}, specs.List.{range_with_len, list_any}}
+use Rattle.std.{specs.Int.{bit_not, w64}, proofs.lemmas.Bool.Decides.eqb_tells}
 use Rattle.std.proofs.lemmas.List.{get_or-set_same, get_or-set_other, length-set}
-use Rattle.std.proofs.lemmas.List.Folds.{list_any-append, list_any_more, list_any_at}
-use Rattle.std.proofs.lemmas.Nat.{xor_lt}
+use Rattle.std.proofs.lemmas.{List.Folds.{list_any-append, list_any_more, list_any_at}, Nat.xor_lt}
 use Rattle.std.proofs.lemmas.Nat.Bits.{bit_at_and, bit_at_or, bit_at_xor, bit_at_not, bit_at-lt}
 use Rattle.vb_model.specs.Tests.{has_bit, is_in, one_if}
 use Rattle.vb_model.proofs.PageSteps.{is_in-range, outside-range}
@@ -106,12 +105,10 @@ put_word a w mask word inside l small fits bits = record {
   words = length-set a w word;
   pages = λ p. elim (eqb_tells (p / 64) w) [
     | inl same ↦ in_same p same.1 ∙ bits (p % 64) (omega arith)
-        ∙ ap (λ (x : Bool). cond (has_bit mask (p % 64)) inside x) (sym (was p same.1))
-        ∙ ap (λ (x : Bool). cond (x && has_bit mask (p % 64)) inside (is_ballooned a p))
-        (sym same.0)
-    | inr other ↦ in_other p other.1
-        ∙ ap (λ (x : Bool). cond (x && has_bit mask (p % 64)) inside (is_ballooned a p))
-        (sym other.0)
+        ∙ ap (λ (x : Bool). cond (has_bit mask (p % 64)) inside x) (sym (was p same.1)) ∙ ap
+        (λ (x : Bool). cond (x && has_bit mask (p % 64)) inside (is_ballooned a p)) (sym same.0)
+    | inr other ↦ in_other p other.1 ∙ ap
+        (λ (x : Bool). cond (x && has_bit mask (p % 64)) inside (is_ballooned a p)) (sym other.0)
   ];
   count = sym (count_word (is_changed a (set a w word)) (bit_xor (get_or a w 0) word) w (length a)
       (xor_lt 64 (get_or a w 0) word small fits) l (λ i m.
@@ -144,19 +141,18 @@ any_of_runs test (run ∷ runs) = grind (arith, list_any-append, any_of_runs tes
 -- a page is in a run between its ends
 pub in_run : (run : Run) (p : ℕ)
     → is_in p (pages_of_run run) ≡ (leb run.first p && ltb p (run.first + run.count))
-in_run run p =
-    grind (
-      arith,
-      cases_Bool,
-      is_in-range,
-      and_from,
-      le-leb,
-      lt-ltb,
-      and_parts,
-      outside-range,
-      leb-true,
-      ltb-true,
-    )
+in_run run p = grind (
+  arith,
+  cases_Bool,
+  is_in-range,
+  and_from,
+  le-leb,
+  lt-ltb,
+  and_parts,
+  outside-range,
+  leb-true,
+  ltb-true,
+)
 
 -- some page from a bound on is in the run where its last one is
 pub reaches : (bound first count : ℕ) → 0 < count

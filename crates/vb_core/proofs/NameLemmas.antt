@@ -26,10 +26,9 @@ right_more reserved count ns i lt = grind (
   filter-append (λ n. is_none (number_fault reserved count n)) (take i ns) (get_or ns i 0 ∷ []),
 )
 
-pub right_number : (reserved count : ℕ) (ns : List ℕ) (i n : ℕ) → i < length ns →
-    get_or ns i 0 ≡ n → number_fault reserved count n ≡ None →
-    right_numbers reserved count (take (i + 1) ns) ≡
-    right_numbers reserved count (take i ns) ++ n ∷ []
+pub right_number : (reserved count : ℕ) (ns : List ℕ) (i n : ℕ) → i < length ns → get_or ns i 0 ≡ n
+    → number_fault reserved count n ≡ None → right_numbers reserved count (take (i + 1) ns)
+    ≡ right_numbers reserved count (take i ns) ++ n ∷ []
 right_number reserved count ns i n lt at e = grind (arith, right_more)
 
 pub wrong_number : (reserved count : ℕ) (ns : List ℕ) (i n : ℕ) (f : ChainFault) →

@@ -86,10 +86,9 @@ broken_first = refl
 not_ready_first : queue_denial Report (record ready { status = 75 }) ≡ Some NotReady
 not_ready_first = refl
 
-settings_first : queue_denial Inflate (record ready {
-  settings = record settings { memory_end = 4096 };
-  status = 0;
-}) ≡ Some BadArgument
+settings_first : queue_denial Inflate
+    (record ready { settings = record settings { memory_end = 4096 }; status = 0 })
+    ≡ Some BadArgument
 settings_first = refl
 
 kind_first : call_denial Report false false false (new_device settings) ≡ Some NoQueue
@@ -108,13 +107,8 @@ wraps : with_taken (record (placed 0 256 512 8) { next_avail = 65535 }) ≡ plac
 wraps = refl
 
 -- the tenth element of eight, in the second place
-tenth : used_entry (record (placed 0 256 512 8) { next_used = 9 }) 5 ≡ record {
-  element_at = 524;
-  index_at = 514;
-  id = 5;
-  length = 0;
-  index = 10;
-}
+tenth : used_entry (record (placed 0 256 512 8) { next_used = 9 }) 5
+    ≡ record { element_at = 524; index_at = 514; id = 5; length = 0; index = 10 }
 tenth = refl
 
 last_index : (used_entry (record (placed 0 256 512 8) { next_used = 65535 }) 5).index ≡ 0

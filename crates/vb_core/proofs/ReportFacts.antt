@@ -2,14 +2,12 @@
 use Rattle.std.proofs.Common.{◌≡◌, refl, ap, arith, ℕ, true, false, List, [], ◌∷◌, length, Some}
 use Rattle.std.proofs.Common.{None, Result, Ok, Err}
 use Rattle.vb_chain.specs.declared.fault.ChainFault.TheVariants.{WrongDirection, BadLength, BadPage}
-use Rattle.vb_chain.specs.declared.pieces.Piece.{Piece}
-use Rattle.vb_chain.specs.declared.fault.ChainFault.TheVariants.{ReservedPage}
+use Rattle.vb_chain.specs.declared.{fault.ChainFault.TheVariants.ReservedPage, pieces.Piece.Piece}
 use Rattle.vb_core.specs.Report.{run_of, report_named, report_of, after_report, pieces_denial}
-use Rattle.vb_core.{specs.declared.runs.Run.Run, specs.declared.name.Named.Named}
-use Rattle.vb_core.{specs.declared.settings.Settings.Settings, specs.declared.device.Denial.Denial}
-use Rattle.vb_core.specs.declared.device.Denial.TheVariants.{BadArgument, NotReady}
-use Rattle.vb_core.{specs.declared.device.Device.Device, specs.Devices.{new_device, placed}}
-use Rattle.vb_core.specs.Report.{NamesPiecesBy}
+use Rattle.vb_core.specs.{Report.NamesPiecesBy, declared.runs.Run.Run, declared.name.Named.Named}
+use Rattle.vb_core.specs.declared.{settings.Settings.Settings, device.Denial.Denial}
+use Rattle.vb_core.specs.declared.device.{Denial.TheVariants.{BadArgument, NotReady}, Device.Device}
+use Rattle.vb_core.specs.Devices.{new_device, placed}
 
 abbrev Same : ℕ → ℕ → Type 0
 Same a b = a ≡ b
@@ -101,13 +99,11 @@ other_runs d n =
 
 no_runs : (d : Device) → NamesPiecesBy (one ∷ []) 256 [] ready d
     (Ok (record { runs = 1; pages = 1; skipped = 0 })) → ⊥
-no_runs d n =
-    let e : Same 0 1 = ap (λ (rs : List Run). length rs) (n.runs_are refl) in omega arith
+no_runs d n = let e : Same 0 1 = ap (λ (rs : List Run). length rs) (n.runs_are refl) in omega arith
 
 another_count : (runs : List Run) (d : Device) → NamesPiecesBy (one ∷ []) 256 runs ready d
     (Ok (record { runs = 1; pages = 7; skipped = 0 })) → ⊥
-another_count runs d n =
-    let e : Same 7 1 = ap pages_or_none (n.answer open_one) in omega arith
+another_count runs d n = let e : Same 7 1 = ap pages_or_none (n.answer open_one) in omega arith
 
 not_taken : (runs : List Run) (result : Result Named Denial) →
     NamesPiecesBy (one ∷ []) 256 runs ready ready result → ⊥

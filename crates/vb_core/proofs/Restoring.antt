@@ -3,8 +3,7 @@ use Rattle.std.proofs.Common.{◌≡◌, ℕ, ◌*◌, ◌%◌, ◌^◌, ◌<◌
 use Rattle.std.proofs.Common.{◌++◌, length, take, drop, refl, sym, ◌∙◌, ap, arith, lit<, subst}
 use Rattle.std.proofs.Common.{append-nil, length-append, if◌then◌else◌, ◌==◌, ◌&&◌, nat_lt, bit_xor}
 use Rattle.std.{proofs.Common.fold, specs.Prelude.{Option, Some, None, Result, Ok, Err}}
-use Rattle.std.proofs.lemmas.Bool.{eqb-true, eq-eqb}
-use Rattle.std.proofs.lemmas.List.{length-drop, take_at, drop_all}
+use Rattle.std.proofs.lemmas.{Bool.{eqb-true, eq-eqb}, List.{length-drop, take_at, drop_all}}
 use Rattle.vb_core.{specs.declared.saved.Saved.Saved, specs.declared.saved.StateDenial.StateDenial}
 use Rattle.vb_core.specs.declared.saved.StateDenial.TheVariants.{BadLength, NotAState}
 use Rattle.vb_core.specs.declared.saved.StateDenial.TheVariants.{OtherVersion, BadSum, Impossible}
@@ -19,12 +18,11 @@ use Rattle.vb_core.{proofs.Numbers.{u64_then, u64_again}, proofs.RoundTrip.{says
 -- a checksum fits its field
 checksum_fits : (bytes : List ℕ) → checksum bytes < 2 ^ 64
 unfolding checksum
-checksum_fits bytes = steps bytes 0xcbf29ce484222325 (lit< tt)
-  where
-    steps : (bytes : List ℕ) (sum : ℕ) → sum < 2 ^ 64
-        → fold (λ s b. (bit_xor s b * 0x100000001b3) % 2 ^ 64) sum bytes < 2 ^ 64
-    steps [] sum h = h
-    steps (b ∷ bs) sum h = steps bs ((bit_xor sum b * 0x100000001b3) % 2 ^ 64) (omega arith)
+checksum_fits bytes = steps bytes 0xcbf29ce484222325 (lit< tt) where
+  steps : (bytes : List ℕ) (sum : ℕ) → sum < 2 ^ 64
+      → fold (λ s b. (bit_xor s b * 0x100000001b3) % 2 ^ 64) sum bytes < 2 ^ 64
+  steps [] sum h = h
+  steps (b ∷ bs) sum h = steps bs ((bit_xor sum b * 0x100000001b3) % 2 ^ 64) (omega arith)
 
 length-u64_bytes : (n : ℕ) → length (u64_bytes n) ≡ 8
 unfolding u64_bytes
@@ -68,25 +66,17 @@ front : (x : Saved) (bytes more : List ℕ) → length bytes ≡ 191 → length 
     → bytes ≡ in_a_row (saved_parts x) more → take 183 bytes ≡ body x
 front x bytes more len eight e =
     let whole : bytes ≡ body x ++ more = e ∙ row_more (saved_parts x) more in
-    let own : length (body x) ≡ 183 = omega (
-      arith,
-      len,
-      eight,
-      ap (λ (xs : List ℕ). length xs) whole,
-      length-append (body x) more,
-    ) in ap (λ (xs : List ℕ). take 183 xs) whole ∙ take_at (body x) more 183 own
+    let own : length (body x) ≡ 183 =
+    omega (arith, len, eight, ap (λ (xs : List ℕ). length xs) whole, length-append (body x) more) in
+    ap (λ (xs : List ℕ). take 183 xs) whole ∙ take_at (body x) more 183 own
 
 restored_from : (s : Saved) (bytes : List ℕ) → FitsSaved s → can_be s ≡ true
     → bytes ≡ in_a_row (saved_parts s) (u64_bytes (checksum (body s))) → restored bytes ≡ Ok s
 restored_from s bytes f possible e = let sum = u64_bytes (checksum (body s)) in
     let w = says s sum bytes f e in
     let eight : length sum ≡ 8 = length-u64_bytes (checksum (body s)) in
-    let len : length bytes ≡ 191 = omega (
-      arith,
-      eight,
-      ap (λ (xs : List ℕ). length xs) w.behind,
-      length-drop 183 bytes,
-    ) in
+    let len : length bytes ≡ 191 =
+    omega (arith, eight, ap (λ (xs : List ℕ). length xs) w.behind, length-drop 183 bytes) in
     let told = u64_then (checksum (body s)) [] bytes 183 191 (checksum_fits (body s)) refl
     (w.behind ∙ sym (append-nil sum)) in
     let same = front s bytes sum len eight e in
@@ -113,17 +103,16 @@ only_saved bytes s all e = let parts = not_denied (header_denial bytes) (read_sa
     let header = header_passed (nat_lt (length bytes) HEADER_LENGTH) (is_state bytes)
     (has_version bytes) (has_length bytes) parts.0 in
     let rest = read_passed (has_sum bytes) (can_be (saved_in bytes)) (saved_in bytes) s parts.1 in
-    let lengths = both (u32_at bytes LENGTH_AT == SAVED_LENGTH) (length bytes == SAVED_LENGTH)
-    header.3 in
+    let lengths =
+    both (u32_at bytes LENGTH_AT == SAVED_LENGTH) (length bytes == SAVED_LENGTH) header.3 in
     let len : length bytes ≡ 191 = eqb-true (length bytes) SAVED_LENGTH lengths.1 in
     let row = row_again bytes all (omega arith) (eqb-true (u64_at bytes 0) MAGIC header.1)
     (eqb-true (u32_at bytes VERSION_AT) FORMAT_VERSION header.2)
     (eqb-true (u32_at bytes LENGTH_AT) SAVED_LENGTH lengths.0) in
     let eight : length (drop 183 bytes) ≡ 8 = omega (arith, len, length-drop 183 bytes) in
     let same = front (saved_in bytes) bytes (drop 183 bytes) len eight row in
-    let told : u64_at bytes 183 ≡ checksum (body (saved_in bytes)) =
-    eqb-true (u64_at bytes 183) (checksum (take 183 bytes)) rest.0
-    ∙ ap (λ (xs : List ℕ). checksum xs) same in
+    let told : u64_at bytes 183 ≡ checksum (body (saved_in bytes)) = eqb-true (u64_at bytes 183)
+    (checksum (take 183 bytes)) rest.0 ∙ ap (λ (xs : List ℕ). checksum xs) same in
     let sum : drop 183 bytes ≡ u64_bytes (checksum (body (saved_in bytes))) =
     u64_again bytes 183 191 all refl (omega arith)
     ∙ ap (λ (xs : List ℕ). u64_bytes (u64_at bytes 183) ++ xs) (drop_all 191 bytes (omega arith))

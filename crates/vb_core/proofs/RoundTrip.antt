@@ -2,20 +2,18 @@
 use Rattle.std.proofs.Common.{◌≡◌, ℕ, ◌+◌, ◌≤◌, List, [], ◌∷◌, ◌++◌, length, get_or, drop, refl}
 use Rattle.std.proofs.Common.{◌∙◌, ap, arith, lit<}
 use Rattle.vb_core.specs.declared.format.TheConstants.{MAGIC, FORMAT_VERSION, SAVED_LENGTH}
+use Rattle.vb_core.specs.declared.format.TheConstants.{VERSION_AT, LENGTH_AT, CHECKSUM_AT}
 use Rattle.vb_core.specs.Format.{u32_bytes, u64_bytes, u32_at, u64_at, in_a_row, settings_parts}
 use Rattle.vb_core.specs.Format.{ring_parts, saved_parts, settings_at, ring_at, saved_in}
-use Rattle.vb_core.proofs.Numbers.{AreBytes, u16_then, u32_then, u64_then, byte_then, u16_again}
-use Rattle.vb_core.specs.declared.format.TheConstants.{VERSION_AT, LENGTH_AT, CHECKSUM_AT}
-use Rattle.vb_core.proofs.Numbers.{u32_again, u64_again, byte_again}
-use Rattle.vb_core.specs.Format.{FitsSettings, FitsRing, FitsSaved}
-use Rattle.vb_core.specs.declared.ring.Virtqueue.{Virtqueue}
-use Rattle.vb_core.{specs.declared.settings.Settings.Settings, specs.declared.saved.Saved.Saved}
+use Rattle.vb_core.{specs.Format.{FitsSettings, FitsRing, FitsSaved}, proofs.Numbers.AreBytes}
+use Rattle.vb_core.proofs.Numbers.{u16_then, u32_then, u64_then, byte_then, u16_again, u32_again}
+use Rattle.vb_core.{proofs.Numbers.{u64_again, byte_again}, specs.declared.ring.Virtqueue.Virtqueue}
+use Rattle.vb_core.specs.declared.{settings.Settings.Settings, saved.Saved.Saved}
 
 -- ---- what was written is read
 
-ring_then : (r : Virtqueue) (more bytes : List ℕ) (p : ℕ) → FitsRing r
-    → drop p bytes ≡ in_a_row (ring_parts r) more
-    → (ring_at bytes p ≡ r) × (drop (p + 30) bytes ≡ more)
+ring_then : (r : Virtqueue) (more bytes : List ℕ) (p : ℕ) → FitsRing r → drop p bytes
+    ≡ in_a_row (ring_parts r) more → (ring_at bytes p ≡ r) × (drop (p + 30) bytes ≡ more)
 ring_then r more bytes p f e = let a = u64_then r.table _ bytes p (p + 8) f.table refl e in
     let b = u64_then r.avail _ bytes (p + 8) (p + 16) f.avail (omega arith) a.1 in
     let c = u64_then r.used _ bytes (p + 16) (p + 24) f.used (omega arith) b.1 in
@@ -24,9 +22,8 @@ ring_then r more bytes p f e = let a = u64_then r.table _ bytes p (p + 8) f.tabl
     let h = u16_then r.next_used _ bytes (p + 28) (p + 30) f.next_used (omega arith) g.1 in
     (rw (a.0, b.0, c.0, d.0, g.0, h.0), h.1)
 
-settings_then : (s : Settings) (more bytes : List ℕ) (p : ℕ) → FitsSettings s
-    → drop p bytes ≡ in_a_row (settings_parts s) more
-    → (settings_at bytes p ≡ s) × (drop (p + 22) bytes ≡ more)
+settings_then : (s : Settings) (more bytes : List ℕ) (p : ℕ) → FitsSettings s → drop p bytes
+    ≡ in_a_row (settings_parts s) more → (settings_at bytes p ≡ s) × (drop (p + 22) bytes ≡ more)
 settings_then s more bytes p f e =
     let a = u64_then s.memory_end _ bytes p (p + 8) f.memory_end refl e in
     let b = u64_then s.offered _ bytes (p + 8) (p + 16) f.offered (omega arith) a.1 in

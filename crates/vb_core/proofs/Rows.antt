@@ -18,9 +18,8 @@ pub record IsRow (parts : List (List ℕ)) (bytes : List ℕ) : Type 0 where
 -- a row behind another one
 pub joins : (ps qs : List (List ℕ)) (old new : List ℕ) → IsRow ps old
     → new ≡ old ++ in_a_row qs [] → IsRow (ps ++ qs) new
-joins ps qs old new e f = record {
-  is = f ∙ ap (λ (xs : List ℕ). xs ++ in_a_row qs []) e.is ∙ behind ps;
-}
+joins ps qs old new e f =
+    record { is = f ∙ ap (λ (xs : List ℕ). xs ++ in_a_row qs []) e.is ∙ behind ps }
   where
     behind : (ps : List (List ℕ)) → in_a_row ps [] ++ in_a_row qs [] ≡ in_a_row (ps ++ qs) []
     behind [] = refl

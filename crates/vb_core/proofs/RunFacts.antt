@@ -1,7 +1,6 @@
 -- Which numbers a run takes in, worked out.
 use Rattle.std.{proofs.Common.{◌≡◌, ◌+◌, refl, arith, []}, specs.Prelude.{Some, None}}
-use Rattle.vb_core.{specs.declared.runs.Run.Run, specs.Runs.joined}
-use Rattle.vb_core.specs.RunEnds.{AreEndsOf, AreEnds}
+use Rattle.vb_core.specs.{declared.runs.Run.Run, Runs.joined, RunEnds.{AreEndsOf, AreEnds}}
 
 -- pages 5 and 6
 abbrev two : Run
@@ -27,24 +26,18 @@ further_down = refl
 -- ---- the pages that join a run
 
 ends_of_two : AreEndsOf (record { behind = 7; before = 4 }) two
-ends_of_two = record {
-  behind = refl;
-  before = λ page lt. (λ e. omega (arith, e), λ e. omega (arith, e));
-}
+ends_of_two =
+    record { behind = refl; before = λ page lt. (λ e. omega (arith, e), λ e. omega (arith, e)) }
 
 not_further_on : AreEndsOf (record { behind = 8; before = 4 }) two → ⊥
 not_further_on h = absurd (omega (arith, h.behind))
 
 not_its_own : AreEndsOf (record { behind = 7; before = 5 }) two → ⊥
-not_its_own h =
-    let e : 5 + 1 ≡ 5 = (h.before 5 (omega arith)).0 refl in
-    absurd (omega (arith, e))
+not_its_own h = let e : 5 + 1 ≡ 5 = (h.before 5 (omega arith)).0 refl in absurd (omega (arith, e))
 
 -- no page joins no run
 joins_none : AreEnds (record { behind = 0xffffffffffffffff; before = 0x100000000 }) 0 []
 joins_none = record { none = λ e. (omega arith, omega arith); some = λ d lt. absurd (omega (arith, lt)) }
 
 joins_what_is_not : AreEnds (record { behind = 7; before = 0x100000000 }) 0 [] → ⊥
-joins_what_is_not h =
-    let past = (h.none refl).0 in
-    absurd (omega (arith, past))
+joins_what_is_not h = let past = (h.none refl).0 in absurd (omega (arith, past))

@@ -3,16 +3,14 @@ use Rattle.std.proofs.Common.{◌≡◌, ◌∙◌, ℕ, zero, suc, ◌+◌, ◌
 use Rattle.std.proofs.Common.{length, get_or, set, take, sym, ap, arith, subst, append_assoc, ◌≤◌}
 use Rattle.std.{proofs.Common.length-append, specs.Prelude.{◌==◌, Some, map, ◌≢◌, ◌^◌, ◌%◌, ◌↔◌}}
 use Rattle.std.{proofs.lemmas.Bool.{eqb-true, eq-eqb}, specs.List.range_with_len}
-use Rattle.std.{proofs.lemmas.Grind.take-set_at, proofs.lemmas.List.{append-nil, take_more}}
+use Rattle.std.proofs.lemmas.{Grind.{take-set_at, get_or-set_at}, List.{append-nil, take_more}}
 use Rattle.vb_model.{specs.Tests.one_if, specs.Orderly.times}
 use Rattle.vb_model.proofs.Distinct.{times-append, times-cons}
 use Rattle.vb_chain.specs.declared.pieces.Piece.{Piece}
 use Rattle.vb_request.specs.Report.{pages_of_piece, pages_of_pieces}
 use Rattle.vb_core.specs.Runs.{pages_of_run, pages_of_runs, IsApartFrom, IsApart, joined, Grows}
-use Rattle.vb_core.{specs.Report.run_of, specs.declared.runs.Run.Run}
-use Rattle.vb_core.{specs.declared.runs.Ends.Ends, specs.Runs.{one_page, IsPart, Tell}}
-use Rattle.vb_core.specs.RunEnds.{AreEndsOf, AreEnds}
-use Rattle.std.proofs.lemmas.Grind.{get_or-set_at}
+use Rattle.vb_core.specs.{Runs.{one_page, IsPart, Tell}, Report.run_of, declared.runs.Run.Run}
+use Rattle.vb_core.specs.{declared.runs.Ends.Ends, RunEnds.{AreEndsOf, AreEnds}}
 
 pub times-one : (p x : ℕ) → times p (x ∷ []) ≡ one_if (x == p)
 times-one p x = let e = times-cons p x [] in omega (arith, e)
@@ -21,22 +19,20 @@ times-one p x = let e = times-cons p x [] in omega (arith, e)
 times_up : (p first count : ℕ) → times p (range_with_len first (suc count)) ≡
     times p (range_with_len first count) + one_if ((first + count) == p)
 times_up p first zero = grind arith
-times_up p first (suc count) =
-    grind (
-      arith,
-      times_up p (first + 1) count,
-      times-cons p first (range_with_len (first + 1) (suc count)),
-      times-cons p first (range_with_len (first + 1) count),
-    )
+times_up p first (suc count) = grind (
+  arith,
+  times_up p (first + 1) count,
+  times-cons p first (range_with_len (first + 1) (suc count)),
+  times-cons p first (range_with_len (first + 1) count),
+)
 
 pub joined_up : (p page : ℕ) (run new : Run) → run.first + run.count ≡ page →
     new.first ≡ run.first → new.count ≡ run.count + 1 →
     times p (pages_of_run new) ≡ times p (pages_of_run run) + one_if (page == p)
 joined_up p page run new e f g = grind (arith, times_up)
 
-pub joined_down : (p page : ℕ) (run new : Run) → page + 1 ≡ run.first →
-    new.first ≡ page → new.count ≡ run.count + 1 →
-    times p (pages_of_run new) ≡ times p (pages_of_run run) + one_if (page == p)
+pub joined_down : (p page : ℕ) (run new : Run) → page + 1 ≡ run.first → new.first ≡ page → new.count
+    ≡ run.count + 1 → times p (pages_of_run new) ≡ times p (pages_of_run run) + one_if (page == p)
 joined_down p page run new e f g =
     grind (arith, times-cons p page (range_with_len (page + 1) run.count))
 
@@ -49,12 +45,10 @@ longer run = record { first = run.first; count = run.count + 1 }
 abbrev pub longer_from : ℕ → Run → Run
 longer_from n run = record { first = n; count = run.count + 1 }
 
-pub joins_up : (run : Run) (n : ℕ) → run.first + run.count ≡ n →
-    joined run n ≡ Some (longer run)
+pub joins_up : (run : Run) (n : ℕ) → run.first + run.count ≡ n → joined run n ≡ Some (longer run)
 joins_up run n e = grind arith
 
-pub joins_down : (run : Run) (n : ℕ) → n + 1 ≡ run.first →
-    joined run n ≡ Some (longer_from n run)
+pub joins_down : (run : Run) (n : ℕ) → n + 1 ≡ run.first → joined run n ≡ Some (longer_from n run)
 joins_down run n e = grind (arith, eq-eqb)
 
 -- it has one page more, and that is the number
@@ -75,8 +69,7 @@ grown_times p old new [] g =
 grown_times p old new (n ∷ ns) g =
     grind (arith, one_more old g.0 n g.1.0, grown_times p g.0 new ns g.1.1, times-cons p n ns)
 
-grown_count : (old new : Run) (ns : List ℕ) → Grows old ns new →
-    new.count ≡ old.count + length ns
+grown_count : (old new : Run) (ns : List ℕ) → Grows old ns new → new.count ≡ old.count + length ns
 grown_count old new [] g =
     let same : new.count ≡ old.count = ap (λ (r : Run). r.count) g in
     omega (arith, same)
@@ -85,10 +78,8 @@ grown_count old new (n ∷ ns) g = grind (arith, grown_count g.0 new ns g.1.1)
 -- and takes one more in
 grown_more : (old mid new : Run) (ns : List ℕ) (n : ℕ) → Grows old ns mid →
     joined mid n ≡ Some new → Grows old (ns ++ n ∷ []) new
-grown_more old mid new [] n g e =
-    (new, (subst (λ (r : Run). joined r n ≡ Some new) g e, refl))
-grown_more old mid new (m ∷ ns) n g e =
-    (g.0, (g.1.0, grown_more g.0 mid new ns n g.1.1 e))
+grown_more old mid new [] n g e = (new, (subst (λ (r : Run). joined r n ≡ Some new) g e, refl))
+grown_more old mid new (m ∷ ns) n g e = (g.0, (g.1.0, grown_more g.0 mid new ns n g.1.1 e))
 
 -- a part has the pages of its run, in some order
 part_pages : (run : Run) (ns part rest : List ℕ) (p : ℕ) → IsPart run ns part rest →
@@ -105,8 +96,7 @@ part_pages run ns part rest p is =
       grown_times p (one_page n) run more is.grows.1.1.1,
     )
 
-part_size : (run : Run) (ns part rest : List ℕ) → IsPart run ns part rest →
-    length part ≡ run.count
+part_size : (run : Run) (ns part rest : List ℕ) → IsPart run ns part rest → length part ≡ run.count
 part_size run ns part rest is = grind (arith, grown_count)
 
 part_some : (run : Run) (ns part rest : List ℕ) → IsPart run ns part rest → 0 < run.count
@@ -170,16 +160,14 @@ part_more : (run : Run) (ns part rest : List ℕ) (n : ℕ) → IsPart run ns pa
 part_more run ns part rest n is = grind (arith, append_assoc)
 
 -- the last run takes one more number in
-tell_last : (first : List Run) (old new : Run) (ns : List ℕ) (n : ℕ) →
-    joined old n ≡ Some new →
-    Tell (first ++ old ∷ []) ns → Tell (first ++ new ∷ []) (ns ++ n ∷ [])
+tell_last : (first : List Run) (old new : Run) (ns : List ℕ) (n : ℕ) → joined old n ≡ Some new
+    → Tell (first ++ old ∷ []) ns → Tell (first ++ new ∷ []) (ns ++ n ∷ [])
 tell_last [] old new ns n more t =
     let part : List ℕ = t.0 in
     let rest : List ℕ = t.1.0 in
     let is : IsPart old ns part rest = t.1.1.0 in
     let none : rest ≡ [] = t.1.1.1.1 in
-    let whole : ns ++ n ∷ [] ≡ (part ++ n ∷ []) ++ [] =
-    ap (λ (xs : List ℕ). xs ++ n ∷ [])
+    let whole : ns ++ n ∷ [] ≡ (part ++ n ∷ []) ++ [] = ap (λ (xs : List ℕ). xs ++ n ∷ [])
     (is.whole ∙ (ap (λ (xs : List ℕ). part ++ xs) none ∙ append-nil part))
     ∙ sym (append-nil (part ++ n ∷ [])) in
     let last : IsPart new (ns ++ n ∷ []) (part ++ n ∷ []) [] = record {
@@ -206,34 +194,27 @@ tell_last (run ∷ first) old new ns n more t =
       part,
       (
         rest ++ n ∷ [],
-        (
-          part_more run ns part rest n is,
-          (away, tell_last first old new rest n more behind),
-        ),
+        (part_more run ns part rest n is, (away, tell_last first old new rest n more behind)),
       ),
     )
 
 -- a run of one number tells it
 alone_tells : (n : ℕ) → Tell (one_page n ∷ []) (n ∷ [])
 alone_tells n =
-    let is : IsPart (one_page n) (n ∷ []) (n ∷ []) [] = record {
-      whole = refl;
-      grows = (n, ([], (refl, refl)));
-    } in
+    let is : IsPart (one_page n) (n ∷ []) (n ∷ []) [] =
+    record { whole = refl; grows = (n, ([], (refl, refl))) } in
     (n ∷ [], ([], (is, (tt, refl))))
 
 -- one more run, of one number that doesn't join the last one
-tell_new : (first : List Run) (last : Run) (ns : List ℕ) (n : ℕ) → IsApartFrom last n →
-    Tell (first ++ last ∷ []) ns →
-    Tell ((first ++ last ∷ []) ++ one_page n ∷ []) (ns ++ n ∷ [])
+tell_new : (first : List Run) (last : Run) (ns : List ℕ) (n : ℕ) → IsApartFrom last n
+    → Tell (first ++ last ∷ []) ns → Tell ((first ++ last ∷ []) ++ one_page n ∷ []) (ns ++ n ∷ [])
 tell_new [] last ns n away t =
     let part : List ℕ = t.0 in
     let rest : List ℕ = t.1.0 in
     let is : IsPart last ns part rest = t.1.1.0 in
     let none : rest ≡ [] = t.1.1.1.1 in
     let here : IsPart last (ns ++ n ∷ []) part (n ∷ []) = record {
-      whole =
-          ap (λ (xs : List ℕ). xs ++ n ∷ [])
+      whole = ap (λ (xs : List ℕ). xs ++ n ∷ [])
           (is.whole ∙ (ap (λ (xs : List ℕ). part ++ xs) none ∙ append-nil part));
       grows = is.grows;
     } in
@@ -248,10 +229,7 @@ tell_new (run ∷ first) last ns n away t =
       part,
       (
         rest ++ n ∷ [],
-        (
-          part_more run ns part rest n is,
-          (apart, tell_new first last rest n away behind),
-        ),
+        (part_more run ns part rest n is, (apart, tell_new first last rest n away behind)),
       ),
     )
 
@@ -262,10 +240,9 @@ first_are : (used : ℕ) (runs : List Run) (d : Run) → 0 < used → used ≤ l
 first_are used runs d some few = grind (arith, take_more)
 
 -- the last of them takes a page in
-pub last_joined : (page used : ℕ) (runs : List Run) (d new : Run) → 0 < used →
-    used ≤ length runs → joined (get_or runs (used - 1) d) page ≡ Some new →
-    (ns : List ℕ) → Tell (take used runs) ns →
-    Tell (take used (set runs (used - 1) new)) (ns ++ page ∷ [])
+pub last_joined : (page used : ℕ) (runs : List Run) (d new : Run) → 0 < used
+    → used ≤ length runs → joined (get_or runs (used - 1) d) page ≡ Some new → (ns : List ℕ)
+    → Tell (take used runs) ns → Tell (take used (set runs (used - 1) new)) (ns ++ page ∷ [])
 last_joined page used runs d new some few joined ns t =
     grind (arith, take-set_at, tell_last, first_are)
 
@@ -279,9 +256,8 @@ last_apart page used runs d some few apart ns t =
     (tell_new (take (used - 1) runs) (get_or runs (used - 1) d) ns page apart
     (subst (λ (rs : List Run). Tell rs ns) is t))
 
-none_apart : (page used : ℕ) (runs : List Run) → used ≡ 0 →
-    (ns : List ℕ) → Tell (take used runs) ns →
-    Tell (take used runs ++ one_page page ∷ []) (ns ++ page ∷ [])
+none_apart : (page used : ℕ) (runs : List Run) → used ≡ 0 → (ns : List ℕ)
+    → Tell (take used runs) ns → Tell (take used runs ++ one_page page ∷ []) (ns ++ page ∷ [])
 none_apart page used runs e ns t = grind (arith, alone_tells)
 
 -- a run of one page is put behind them
@@ -301,26 +277,23 @@ runs_of_pieces (piece ∷ pieces) =
 
 last_count : (used : ℕ) (runs : List Run) (d : Run) (ns : List ℕ) → 0 < used →
     used ≤ length runs → Tell (take used runs) ns → (get_or runs (used - 1) d).count ≤ length ns
-last_count used runs d ns some few t =
-    last_few (take (used - 1) runs) (get_or runs (used - 1) d) ns
+last_count used runs d ns some few t = last_few (take (used - 1) runs) (get_or runs (used - 1) d) ns
     (subst (λ (rs : List Run). Tell rs ns) (first_are used runs d some few) t)
 
 ends_of_last : (ends : Ends) (used : ℕ) (runs : List Run) (new : Run) → 0 < used →
     used ≤ length runs → AreEndsOf ends new → AreEnds ends used (set runs (used - 1) new)
 ends_of_last ends used runs new some few are = record {
   none = λ e. absurd (omega (arith, some, e));
-  some = λ d lt.
-      subst (λ (r : Run). AreEndsOf ends r)
+  some = λ d lt. subst (λ (r : Run). AreEndsOf ends r)
       (sym (get_or-set_at runs (used - 1) (used - 1) new d refl (omega (arith, some, few)))) are;
 }
 
 -- it takes one of them in
-pub last_longer : (page used : ℕ) (runs : List Run) (d new : Run) (now : Ends) → 0 < used →
-    used ≤ length runs →
-    ((get_or runs (used - 1) d).count < 4294967295 →
-    (joined (get_or runs (used - 1) d) page ≡ Some new) × AreEndsOf now new) →
-    (ns : List ℕ) → length ns < 4294967295 → Tell (take used runs) ns →
-    Tell (take used (set runs (used - 1) new)) (ns ++ page ∷ [])
+pub last_longer : (page used : ℕ) (runs : List Run) (d new : Run) (now : Ends)
+    → 0 < used → used ≤ length runs → ((get_or runs (used - 1) d).count < 4294967295
+    → (joined (get_or runs (used - 1) d) page ≡ Some new) × AreEndsOf now new)
+    → (ns : List ℕ) → length ns < 4294967295
+    → Tell (take used runs) ns → Tell (take used (set runs (used - 1) new)) (ns ++ page ∷ [])
     × AreEnds now used (set runs (used - 1) new)
 last_longer page used runs d new now some few joins ns short t =
     let count = last_count used runs d ns some few t in
@@ -365,17 +338,15 @@ joins_before r page number ends same fits e are short =
       joins_down r page first,
       record {
         behind = omega (arith, are.behind, first);
-        before = λ n lt.
-            subst (λ (m : ℕ). ((m + 18446744073709551615) % 18446744073709551616 ≡ n) ↔
+        before = λ n lt. subst (λ (m : ℕ). ((m + 18446744073709551615) % 18446744073709551616 ≡ n) ↔
             (n + 1 ≡ page)) (sym same) (page_before page n fits lt);
       },
     )
 
 -- one that is none of them doesn't
 pub no_end : (page used : ℕ) (runs : List Run) (d : Run) (ends : Ends) → AreEnds ends used runs →
-    used ≤ length runs → page < 4294967296 → ends.behind ≢ page → ends.before ≢ page →
-    (ns : List ℕ) → Tell (take used runs) ns →
-    Tell (take used runs ++ one_page page ∷ []) (ns ++ page ∷ [])
+    used ≤ length runs → page < 4294967296 → ends.behind ≢ page → ends.before ≢ page → (ns : List ℕ)
+    → Tell (take used runs) ns → Tell (take used runs ++ one_page page ∷ []) (ns ++ page ∷ [])
 no_end page zero runs d ends are few fits behind before ns t = none_apart page zero runs refl ns t
 no_end page (suc n) runs d ends are few fits behind before ns t =
     let of = are.some d (omega arith) in
@@ -400,14 +371,12 @@ pub ends_of_new : (ends : Ends) (used : ℕ) (runs : List Run) (new : Run) → u
     AreEndsOf ends new → AreEnds ends (used + 1) (set runs used new)
 ends_of_new ends used runs new room are = record {
   none = λ e. absurd (omega (arith, e));
-  some = λ d lt.
-      subst (λ (r : Run). AreEndsOf ends r)
+  some = λ d lt. subst (λ (r : Run). AreEndsOf ends r)
       (sym (get_or-set_at runs used (used + 1 - 1) new d (omega arith) room)) are;
 }
 
 pub same_ends : (ends now : Ends) (used others : ℕ) (runs new : List Run) → ends ≡ now →
     used ≡ others → runs ≡ new → AreEnds now others new → AreEnds ends used runs
 same_ends ends now used others runs new e f g are =
-    subst (λ (x : Ends). AreEnds x used runs) (sym e)
-    (subst (λ (n : ℕ). AreEnds now n runs) (sym f)
+    subst (λ (x : Ends). AreEnds x used runs) (sym e) (subst (λ (n : ℕ). AreEnds now n runs) (sym f)
     (subst (λ (rs : List Run). AreEnds now others rs) (sym g) are))

@@ -2,16 +2,15 @@
 use Rattle.std.proofs.Common.{◌≡◌, ℕ, true, false, [], ◌∷◌, map, refl, count_by}
 use Rattle.std.{specs.Prelude.{Some, None, Err}, specs.List.range_with_len}
 use Rattle.vb_core.specs.declared.saved.StateDenial.TheVariants.{BadLength, NotAState, Impossible}
+use Rattle.vb_core.specs.declared.saved.StateDenial.TheVariants.{OtherVersion}
 use Rattle.vb_core.specs.declared.format.TheConstants.{SAVED_LENGTH, CHECKSUM_AT, HEADER_LENGTH}
-use Rattle.vb_core.specs.Saved.{is_status, are_agreed, is_ring, is_held, is_poison, save_denial}
-use Rattle.vb_core.specs.declared.kinds.Kind.TheVariants.{Inflate, Statistics, Report}
-use Rattle.vb_core.specs.declared.settings.Settings.{Settings}
-use Rattle.vb_core.specs.declared.ring.Virtqueue.{Virtqueue}
-use Rattle.vb_core.{specs.declared.device.Device.Device, specs.declared.saved.Saved.Saved}
-use Rattle.vb_core.{specs.declared.saved.StateDenial.TheVariants.OtherVersion, specs.Saved.restored}
 use Rattle.vb_core.specs.declared.format.TheConstants.{FORMAT_VERSION, VERSION_AT, LENGTH_AT, MAGIC}
-use Rattle.vb_core.specs.Devices.{new_device}
-use Rattle.vb_core.specs.Format.{u16_bytes, u64_bytes, u32_at, u64_at, checksum}
+use Rattle.vb_core.specs.Saved.{is_status, are_agreed, is_ring, is_held, is_poison, save_denial}
+use Rattle.vb_core.specs.{Saved.restored, declared.kinds.Kind.TheVariants.{Inflate, Statistics}}
+use Rattle.vb_core.specs.declared.{kinds.Kind.TheVariants.Report, settings.Settings.Settings}
+use Rattle.vb_core.specs.declared.{ring.Virtqueue.Virtqueue, device.Device.Device}
+use Rattle.vb_core.specs.{declared.saved.Saved.Saved, Devices.new_device, Format.u16_bytes}
+use Rattle.vb_core.specs.Format.{u64_bytes, u32_at, u64_at, checksum}
 use lib.Count
 
 -- ---- bytes
@@ -44,9 +43,8 @@ unfolding u64_at
 of_something_else = refl
 
 -- the first version had 187 bytes, and no poison_val
-of_the_first_version :
-    restored (86 ∷ 66 ∷ 83 ∷ 84 ∷ 65 ∷ 84 ∷ 69 ∷ 0 ∷ 1 ∷ 0 ∷ 0 ∷ 0 ∷ 187 ∷ 0 ∷ 0 ∷ 0 ∷ [])
-    ≡ Err OtherVersion
+of_the_first_version : restored (86
+    ∷ 66 ∷ 83 ∷ 84 ∷ 65 ∷ 84 ∷ 69 ∷ 0 ∷ 1 ∷ 0 ∷ 0 ∷ 0 ∷ 187 ∷ 0 ∷ 0 ∷ 0 ∷ []) ≡ Err OtherVersion
 unfolding u32_at u64_at
 of_the_first_version = refl
 
@@ -127,18 +125,15 @@ unfolding lib.Count.ones
 not_statistics = refl
 
 abbrev holding : ℕ → ℕ → ℕ → Saved
-holding status features held = record {
-  device = record (at_step status features) { statistics = ring 0 };
-  held = held;
-}
+holding status features held =
+    record { device = record (at_step status features) { statistics = ring 0 }; held = held }
 
 held_heads : map is_held (holding 3 0 0 ∷ holding 15 0x100000003 1 ∷ holding 15 0x100000003 64
     ∷ holding 79 0x100000003 64 ∷ []) ≡ true ∷ true ∷ true ∷ true ∷ []
 held_heads = refl
 
-not_held : map is_held
-    (holding 11 0x100000003 1 ∷ holding 15 0x100000001 1 ∷ holding 15 0x100000003 65 ∷ [])
-    ≡ false ∷ false ∷ false ∷ []
+not_held : map is_held (holding 11 0x100000003 1
+    ∷ holding 15 0x100000001 1 ∷ holding 15 0x100000003 65 ∷ []) ≡ false ∷ false ∷ false ∷ []
 not_held = refl
 
 -- ---- poison_val

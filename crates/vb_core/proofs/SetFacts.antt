@@ -1,9 +1,8 @@
 -- Pages that are put into a set and taken out, worked out, and changes that aren't admitted.
 use Rattle.std.proofs.Common.{◌≡◌, refl, ap, arith, ℕ, true, false, List, [], ◌∷◌, Some, None}
 use Rattle.std.proofs.Common.{Result, Ok, Err}
-use Rattle.vb_core.specs.declared.kinds.Kind.TheVariants.{Inflate, Deflate, Report}
-use Rattle.vb_core.{specs.declared.runs.Run.Run, specs.declared.device.Denial.Denial}
-use Rattle.vb_core.specs.declared.device.Denial.TheVariants.{NoQueue, BadArgument}
+use Rattle.vb_core.specs.declared.{kinds.Kind.TheVariants.{Inflate, Deflate, Report}, runs.Run.Run}
+use Rattle.vb_core.specs.declared.device.Denial.{Denial, TheVariants.{NoQueue, BadArgument}}
 use Rattle.vb_core.specs.Ballooned.{is_ballooned, ballooned_count, is_changed, mark_denial, MarksBy}
 
 abbrev Same : ℕ → ℕ → Type 0

@@ -2,9 +2,8 @@
 use Rattle.std.specs.Prelude.{◌≡◌, ℕ, ◌+◌, ◌%◌, ◌==◌, Bool, true, false, List, [], length}
 use Rattle.std.specs.Prelude.{replicate, Option, Some, None, Result, Ok, Err, if◌then◌else◌, ◌++◌}
 use Rattle.std.{proofs.Common.{arith, sym, ◌∙◌, ap}, specs.Prelude.{not, refl}}
-use Rattle.vb_model.{specs.declared.replies.Refusal.Refusal, specs.Requests.Request}
-use Rattle.vb_model.specs.declared.replies.Refusal.TheVariants.{Broken, NoQueue}
-use Rattle.vb_model.specs.Tables.{has_chains, is_queue_of_requests}
+use Rattle.vb_model.specs.{Requests.Request, Tables.{has_chains, is_queue_of_requests}}
+use Rattle.vb_model.specs.declared.replies.Refusal.{Refusal, TheVariants.{Broken, NoQueue}}
 use Rattle.vb_ram.{specs.Pages.Pages, specs.Part.{Part, QueuePart}}
 use Rattle.vb_chain.specs.declared.fault.ChainFault.{ChainFault}
 use Rattle.vb_device.specs.Calls.{lost_frames, taking, noting, without_frames, settled, using}
@@ -55,8 +54,7 @@ means_over q mem paced flags p1 p2 (Ok (Some h)) m = (
       chain = m.1.1.chain;
       request = m.1.1.request;
     },
-    ap (over paced flags) m.1.2 ∙
-        taking_over q h m.1.0 paced flags (noting q mem m.1.1.pieces p1),
+    ap (over paced flags) m.1.2 ∙ taking_over q h m.1.0 paced flags (noting q mem m.1.1.pieces p1),
   ),
 )
 means_over q mem paced flags p1 p2 (Err (Broken rule)) m = (m.0, ap (over paced flags) m.1)
@@ -164,9 +162,8 @@ used_is : (q index : ℕ) (pages : List ℕ) (mem : Pages) (p : Part) → is_que
     record (settled q pages (using q index p)) { loose = p.loose ++ lost_frames q pages mem }
 used_is q index pages mem p known = grind (arith, at_requests)
 
-end_settled : (q index : ℕ) (pages : List ℕ) (mem : Pages) (p : Part) →
-    is_queue_of_requests q ≡ true →
-    queue_end q (settled q pages (taken_out q index pages mem p)) ≡ queue_end q p
+end_settled : (q index : ℕ) (pages : List ℕ) (mem : Pages) (p : Part) → is_queue_of_requests q
+    ≡ true → queue_end q (settled q pages (taken_out q index pages mem p)) ≡ queue_end q p
 end_settled q index pages mem p known =
     at_requests (λ n. queue_end n (settled n pages (taken_out n index pages mem p)) ≡ queue_end n p)
     refl refl refl q known

@@ -67,15 +67,13 @@ discard_more first mem new pages i page lt at e d =
     ])
 
 -- the frame behind a page that may have lost it
-frame_now : (first mem : Pages) (pages : List ℕ) (i page : ℕ) →
-    mem ≡ discarded (take i pages) first →
-    page_at mem page ≡ cond (is_in page (take i pages)) None (page_at first page)
+frame_now : (first mem : Pages) (pages : List ℕ) (i page : ℕ) → mem ≡ discarded (take i pages) first
+    → page_at mem page ≡ cond (is_in page (take i pages)) None (page_at first page)
 frame_now first mem pages i page e =
     ap (λ (m : Pages). page_at m page) e ∙ discarded-at (take i pages) first page
 
-frames_push : (first : Pages) (pages : List ℕ) (page : ℕ) →
-    frames_behind first (pages ++ page ∷ []) ≡
-    frames_behind first pages ++ option_to_list (frame_at first page)
+frames_push : (first : Pages) (pages : List ℕ) (page : ℕ) → frames_behind first (pages ++ page ∷ [])
+    ≡ frames_behind first pages ++ option_to_list (frame_at first page)
 frames_push first pages page = grind (arith, flat_map-append, append-nil)
 
 -- the frames behind pages of which each counts once, with one page more
@@ -97,10 +95,9 @@ pub loose_more : (first mem : Pages) (pages : List ℕ) (i page : ℕ) (before n
     after ≡ before ++ frames_behind first (each_once (take (i + 1) pages))
 loose_more first mem pages i page before now after lt at e now_is after_is =
     let front : List ℕ = take i pages in
-    let once : each_once (take (i + 1) pages) ≡
-    (if is_in page front then each_once front else each_once front ++ page ∷ []) =
-    ap each_once (take_more pages i 0 lt ∙ ap (λ n. front ++ n ∷ []) at) ∙
-    each_once_push front page in
+    let once : each_once (take (i + 1) pages)
+    ≡ (if is_in page front then each_once front else each_once front ++ page ∷ []) = ap each_once
+    (take_more pages i 0 lt ∙ ap (λ n. front ++ n ∷ []) at) ∙ each_once_push front page in
     after_is ∙ (ap (λ xs. xs ++ option_to_list (frame_at mem page)) now_is
     ∙ (append_assoc before (frames_behind first (each_once front))
     (option_to_list (frame_at mem page)) ∙ ap (λ xs. before ++ xs)
@@ -119,9 +116,8 @@ one_is false = refl
 
 discarded_is : (old new : Pages) (page : ℕ) → page < length old → Discarded old new page →
     new ≡ set old page None
-discarded_is old new page lt d =
-    ext_get_or None new (set old page None) (d.count ∙ sym (length-set old page None))
-    (λ k l. elim (cases_eq k page) [
+discarded_is old new page lt d = ext_get_or None new
+    (set old page None) (d.count ∙ sym (length-set old page None)) (λ k l. elim (cases_eq k page) [
       | inl same ↦ ap (λ (j : ℕ). page_at new j) same ∙ (d.bare ∙
           sym (ap (λ (j : ℕ). page_at (set old page None) j) same ∙
           get_or-set_same old page None None lt))
@@ -145,9 +141,8 @@ none_of None p P e is none = is
 none_of (Some x) p P e is none = absurd cc
 
 -- each frame that is loose came from behind a page
-loses_one : (old new : Pages) (page : ℕ) → Discarded old new page →
-    (page_at old page ≡ None → new ≡ old) →
-    frame_count new + one_if (is_some (page_at old page)) ≡ frame_count old
+loses_one : (old new : Pages) (page : ℕ) → Discarded old new page → (page_at old page ≡ None
+    → new ≡ old) → frame_count new + one_if (is_some (page_at old page)) ≡ frame_count old
 loses_one old new page d same = grind (arith, cases_lt, loses_inside, past_none)
 
 -- the same, by what was found behind the page

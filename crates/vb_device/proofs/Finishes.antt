@@ -3,22 +3,20 @@ use Rattle.std.specs.Prelude.{◌≡◌, ℕ, ◌+◌, ◌%◌, ◌<◌, ◌≤�
 use Rattle.std.specs.Prelude.{length, remove, Option, Some, None, OnSome, is_none, if◌then◌else◌}
 use Rattle.std.{specs.Prelude.{slice_get, All, refl}, proofs.lemmas.Bool.cases_eq}
 use Rattle.std.{proofs.Common.{sym, ◌∙◌, ap, arith, rules}, proofs.Math.ListN.set}
-use Rattle.vb_model.{specs.Device.next_page, specs.declared.replies.Refusal.Refusal}
+use Rattle.vb_model.specs.{Device.next_page, Layout.{reserved_pages, ring_page}, Requests.Request}
+use Rattle.vb_model.specs.{Status.{contains, driver_ok}, Tables.{has_chains, has_unvisited}}
+use Rattle.vb_model.specs.declared.replies.{LastStatistics.LastStatistics, Refusal.Refusal}
 use Rattle.vb_model.specs.declared.replies.Refusal.TheVariants.{NotTaken, NotWorked}
-use Rattle.vb_model.{specs.Requests.Request, specs.Tables.{has_chains, has_unvisited}}
-use Rattle.vb_model.specs.declared.replies.LastStatistics.{LastStatistics}
-use Rattle.vb_model.{specs.Status.{contains, driver_ok}, specs.Layout.{reserved_pages, ring_page}}
 use Rattle.vb_ram.{specs.Pages.{Page, Pages, page_at}, specs.Part.{Part, QueuePart}}
 use Rattle.vb_ring.{specs.declared.layout.Layout.Layout, specs.Layout.{layout_of, IsBacked}}
 use Rattle.vb_ring.{specs.Ends.DeviceEnd, specs.Calls.AddsUsedBy}
-use Rattle.vb_device.{specs.Conditions.finish_refusal, specs.Queues.{queue_end, with_queue}}
-use Rattle.vb_device.specs.QueueState.{QueueState, part_of, taken_refusal}
-use Rattle.vb_device.specs.Base.{index_of, queue_at, base_part, IsDeviceQueue, IsBase, with_pace}
+use Rattle.vb_device.specs.{Conditions.finish_refusal, Queues.{queue_end, with_queue}}
+use Rattle.vb_device.specs.{QueueState.{QueueState, part_of, taken_refusal}, Base.index_of}
+use Rattle.vb_device.specs.Base.{queue_at, base_part, IsDeviceQueue, IsBase, with_pace}
 use Rattle.vb_device.{specs.BaseCalls.{queue_refusal, UsesChain, CanUse}, proofs.Rings.backed_still}
-use Rattle.vb_device.specs.Calls.{without_frames}
-use Rattle.vb_device.proofs.FourQueues.{part_get, part_set, set_here, base_set}
-use Rattle.vb_device.proofs.TakesBy.{finish_open, queue_finish, queue_known, status_ok}
-use Rattle.vb_device.proofs.Discards.{discarded-length, reserved_still}
+use Rattle.vb_device.{specs.Calls.without_frames, proofs.FourQueues.{part_get, part_set, set_here}}
+use Rattle.vb_device.proofs.{FourQueues.base_set, TakesBy.{finish_open, queue_finish, queue_known}}
+use Rattle.vb_device.proofs.{TakesBy.status_ok, Discards.{discarded-length, reserved_still}}
 use Rattle.vb_request.specs.Refusals.{readiness_refusal}
 
 none_some : (o : Option Refusal) (x : Refusal) → o ≡ None → o ≡ Some x → ⊥
@@ -26,9 +24,8 @@ none_some o x a b = cc
 
 -- the tests of a taken request, as those of a finish end
 abbrev taken_refusal_by : Bool → Option Request → Option Refusal
-taken_refusal_by visits taken =
-    if is_none taken then Some NotTaken else (if visits && has_unvisited taken then Some NotWorked
-    else None)
+taken_refusal_by visits taken = if is_none taken
+    then Some NotTaken else (if visits && has_unvisited taken then Some NotWorked else None)
 
 by_and : (visits : Bool) (taken : Option Request) →
     taken_refusal_by visits taken ≡ taken_refusal visits taken
@@ -76,10 +73,9 @@ end_of_queue q mem s f t a n qs l loose x known at ring size ready =
 
 -- a chain of one queue is used
 pub used_at : (q h : ℕ) (m1 m2 : Pages) (s f t a n c : ℕ) (qs : List QueueState)
-    (x2 : QueueState) (l : LastStatistics) (loose : List Page) → IsBase m1 s n qs c →
-    has_chains q ≡ true → contains s driver_ok ≡ true
-    → AddsUsedBy m1 m2 (queue_at q qs).ring x2.ring h 0 → x2.taken ≡ (queue_at q qs).taken →
-    UsesChain q h m1 m2 (base_part s f t a n qs l loose)
+    (x2 : QueueState) (l : LastStatistics) (loose : List Page) → IsBase m1 s n qs c → has_chains q
+    ≡ true → contains s driver_ok ≡ true → AddsUsedBy m1 m2 (queue_at q qs).ring x2.ring h 0
+    → x2.taken ≡ (queue_at q qs).taken → UsesChain q h m1 m2 (base_part s f t a n qs l loose)
     (base_part s f t a n (set qs (index_of q) x2) l loose)
 used_at q h m1 m2 s f t a n c qs x2 l loose is known ok adds left =
     let x : QueueState = queue_at q qs in
@@ -149,13 +145,12 @@ kept_page : (reserved q p : ℕ) (pages : List ℕ) (mem : Pages) → p < reserv
     → All (λ page. reserved ≤ page) pages → page_at (without_frames q pages mem) p ≡ page_at mem p
 kept_page reserved q p pages mem low above = grind (arith, reserved_still)
 
-pub can_use : (q h : ℕ) (pages : List ℕ) (m1 m2 : Pages) (s f t a n c : ℕ)
-    (qs : List QueueState) (x2 : QueueState) (l : LastStatistics) (loose : List Page) →
-    IsBase m1 s n qs c → has_chains q ≡ true → readiness_refusal s ≡ None →
-    h < (queue_at q qs).ring.size
+pub can_use : (q h : ℕ) (pages : List ℕ) (m1 m2 : Pages) (s f t a n c : ℕ) (qs : List QueueState)
+    (x2 : QueueState) (l : LastStatistics) (loose : List Page) → IsBase m1 s n qs c
+    → has_chains q ≡ true → readiness_refusal s ≡ None → h < (queue_at q qs).ring.size
     → All (λ page. reserved_pages (queue_at q qs).ring.size ≤ page) pages
-    → m2 ≡ without_frames q pages m1 → IsBacked m1 (layout_of (ring_page n q) n) →
-    CanUse q h m2 (base_part s f t a n (set qs (index_of q) x2) l loose)
+    → m2 ≡ without_frames q pages m1 → IsBacked m1 (layout_of (ring_page n q) n)
+    → CanUse q h m2 (base_part s f t a n (set qs (index_of q) x2) l loose)
 can_use q h pages m1 m2 s f t a n c qs x2 l loose is known ok lt above mem backed =
     grind (arith, status_ok, backed_still, kept_page)
 

@@ -20,9 +20,8 @@ pub at_requests : (P : ℕ → Type 0) → P 0 → P 1 → P 4 → (q : ℕ) →
 at_requests P a b d q known = grind (arith, queue_cases q)
 
 -- what holds of four queues holds of a list of that length
-of_four : (P : List QueueState → Type 0) →
-    ((a b c d : QueueState) → P (a ∷ b ∷ c ∷ d ∷ [])) → (qs : List QueueState) →
-    length qs ≡ 4 → P qs
+of_four : (P : List QueueState → Type 0) → ((a b c d : QueueState) → P (a ∷ b ∷ c ∷ d ∷ []))
+    → (qs : List QueueState) → length qs ≡ 4 → P qs
 of_four P each [] e = absurd (omega (arith, e))
 of_four P each (a ∷ []) e = absurd (omega (arith, e))
 of_four P each (a ∷ b ∷ []) e = absurd (omega (arith, e))
@@ -82,10 +81,9 @@ part_set q s f t a n qs x last loose four known =
 -- ---- what is always true of a device
 
 -- what holds of the changed queue, and of each one still, holds of all
-each_set : (P : ℕ → QueueState → Type 0) (q : ℕ) (qs : List QueueState) (x : QueueState) →
-    length qs ≡ 4 → has_chains q ≡ true → P q x →
-    ((n : ℕ) → has_chains n ≡ true → P n (queue_at n qs)) →
-    (n : ℕ) → has_chains n ≡ true → P n (queue_at n (set qs (index_of q) x))
+each_set : (P : ℕ → QueueState → Type 0) (q : ℕ) (qs : List QueueState) (x : QueueState) → length qs
+    ≡ 4 → has_chains q ≡ true → P q x → ((n : ℕ) → has_chains n ≡ true → P n (queue_at n qs))
+    → (n : ℕ) → has_chains n ≡ true → P n (queue_at n (set qs (index_of q) x))
 each_set P q qs x four known here each =
     of_four (λ l. ((n : ℕ) → has_chains n ≡ true → P n (queue_at n l)) →
     (n : ℕ) → has_chains n ≡ true → P n (queue_at n (set l (index_of q) x)))

@@ -1,8 +1,7 @@
 -- A take from a queue, from what its next chain gives; and what it leaves of the ring.
 use Rattle.std.specs.Prelude.{◌≡◌, ℕ, true, false, [], ◌∷◌, length, Option, Some, None, Result, Ok}
 use Rattle.std.{specs.Prelude.{Err, refl}, proofs.Common.arith}
-use Rattle.vb_model.specs.declared.replies.Refusal.{Refusal}
-use Rattle.vb_model.specs.declared.replies.Refusal.TheVariants.{Busy}
+use Rattle.vb_model.specs.declared.replies.Refusal.{Refusal, TheVariants.Busy}
 use Rattle.vb_model.specs.declared.replies.LastStatistics.{LastStatistics}
 use Rattle.vb_ram.{specs.Pages.{Pages, byte_at}, proofs.FieldLaws.field_zero}
 use Rattle.vb_chain.specs.declared.fault.ChainFault.{ChainFault}

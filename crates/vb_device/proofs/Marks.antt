@@ -32,9 +32,8 @@ flagged-at : (pages : List ℕ) (flag : Bool) (flags : List Bool) (k : ℕ) → 
 flagged-at pages flag flags k lt = grind (arith, each_page-get)
 
 pub flagged_none : (flag : Bool) (flags : List Bool) → flags ≡ flagged [] flag flags
-flagged_none flag flags =
-    ext_get_or false flags (flagged [] flag flags) (sym (flagged-length [] flag flags))
-    (λ k lt. sym (flagged-at [] flag flags k lt))
+flagged_none flag flags = ext_get_or false flags (flagged [] flag flags)
+    (sym (flagged-length [] flag flags)) (λ k lt. sym (flagged-at [] flag flags k lt))
 
 -- one more page's flag
 pub flag_more : (first flags : List Bool) (pages : List ℕ) (i page : ℕ) (flag : Bool) →

@@ -39,9 +39,8 @@ unfolding test
 power n e h =
     either (is_power_of_two n) (int.is_power_of_two n) (at_below test 257 n tested (omega arith)) e
 
-pub size_is_power : (pages queue_size processors : ℕ) →
-    is_config pages queue_size processors ≡ true →
-    IsTrue (int.is_power_of_two queue_size) × (2 ≤ queue_size) × (queue_size ≤ 256)
+pub size_is_power : (pages queue_size processors : ℕ) → is_config pages queue_size processors ≡ true
+    → IsTrue (int.is_power_of_two queue_size) × (2 ≤ queue_size) × (queue_size ≤ 256)
 size_is_power pages queue_size processors h =
     grind (arith, config_limits, and_parts, is_true, power)
 

@@ -3,9 +3,8 @@
 use Rattle.std.specs.Prelude.{◌≡◌, ℕ, ◌+◌, ◌%◌, ◌<◌, true, false, List, [], ◌∷◌, ◌++◌, Option, Some}
 use Rattle.std.specs.Prelude.{None, Result, Ok, Err, refl}
 use Rattle.std.proofs.Common.{sym, ◌∙◌, ap, arith, zero, suc, get_or, length}
-use Rattle.vb_model.{specs.declared.replies.Refusal.Refusal, specs.Requests.Request}
-use Rattle.vb_model.specs.declared.replies.Refusal.TheVariants.{Broken}
-use Rattle.vb_model.specs.declared.replies.LastStatistics.{LastStatistics}
+use Rattle.vb_model.specs.{Requests.Request, declared.replies.LastStatistics.LastStatistics}
+use Rattle.vb_model.specs.declared.replies.Refusal.{Refusal, TheVariants.Broken}
 use Rattle.vb_ram.specs.Pages.{Pages}
 use Rattle.vb_chain.specs.declared.fault.ChainFault.{ChainFault}
 use Rattle.vb_ring.{specs.declared.device.Taken.Taken, specs.Ends.DeviceEnd, specs.Calls.PopsBy}
@@ -54,20 +53,16 @@ next_none q mem r1 r2 taken l free ready pops =
       means = (free, same, refl);
     }
 
-pub next_err : (q : ℕ) (mem : Pages) (r1 r2 : DeviceEnd) (taken : List Request)
-    (l : LastStatistics) (f : ChainFault) →
-    is_full q (at r1 taken) ≡ false → r1.ready ≡ true → PopsBy mem r1 r2 (Err f) →
-    TakesNext q mem (at r1 taken) (at r2 taken) l l (Err (Broken (rule_of f)))
+pub next_err : (q : ℕ) (mem : Pages) (r1 r2 : DeviceEnd) (taken : List Request) (l : LastStatistics)
+    (f : ChainFault) → is_full q (at r1 taken) ≡ false → r1.ready ≡ true → PopsBy mem r1 r2 (Err f)
+    → TakesNext q mem (at r1 taken) (at r2 taken) l l (Err (Broken (rule_of f)))
 next_err q mem r1 r2 taken l f free ready pops =
     let same : at r2 taken ≡ at r1 taken = ap (λ r. at r taken) pops.state in record {
       busy = λ b. absurd (true_false (sym b ∙ free));
       empty = λ k e. absurd (err_ok None f (pops.none ready e));
       jump = λ g k e. (ap broken (same_err (Err f) f g refl (pops.jump g ready e)), same, refl);
-      fault = λ h g k e gives. (
-        ap broken (same_err (Err f) f g refl (pops.fault h g ready e gives)),
-        same,
-        refl,
-      );
+      fault = λ h g k e gives.
+          (ap broken (same_err (Err f) f g refl (pops.fault h g ready e gives)), same, refl);
       wrong = λ h pieces g k e gives bad. absurd (pops.chain h pieces ready e gives);
       takes = λ h pieces pages k e gives good. absurd (pops.chain h pieces ready e gives);
       means = (free, same, refl);
@@ -80,11 +75,10 @@ back : (r1 r2 r3 : DeviceEnd) → r1.next_avail < 65536 →
 back r1 r2 r3 small e f = search (arith)
 
 pub next_wrong : (q : ℕ) (mem : Pages) (r1 r2 r3 : DeviceEnd) (taken : List Request)
-    (l : LastStatistics) (t : Taken)
-    (f : ChainFault) → is_full q (at r1 taken) ≡ false → r1.ready ≡ true →
-    PopsBy mem r1 r2 (Ok (Some t)) → request_of q r1.size mem t.chain ≡ Err f
-    → r3 ≡ record r2 { next_avail = (r2.next_avail + 65535) % 65536 } →
-    TakesNext q mem (at r1 taken) (at r3 taken) l l (Err (Broken (rule_of f)))
+    (l : LastStatistics) (t : Taken) (f : ChainFault) → is_full q (at r1 taken) ≡ false
+    → r1.ready ≡ true → PopsBy mem r1 r2 (Ok (Some t)) → request_of q r1.size mem t.chain ≡ Err f
+    → r3 ≡ record r2 { next_avail = (r2.next_avail + 65535) % 65536 }
+    → TakesNext q mem (at r1 taken) (at r3 taken) l l (Err (Broken (rule_of f)))
 next_wrong q mem r1 r2 r3 taken l t f free ready pops is undone =
     let same : at r3 taken ≡ at r1 taken =
     ap (λ r. at r taken) (back r1 r2 r3 pops.is_end.next_avail pops.state undone) in record {
@@ -104,9 +98,8 @@ next_wrong q mem r1 r2 r3 taken l t f free ready pops is undone =
     }
 
 pub next_right : (q : ℕ) (mem : Pages) (r1 r2 : DeviceEnd) (taken : List Request)
-    (l1 l2 : LastStatistics) (t : Taken)
-    (pages : List ℕ) → is_full q (at r1 taken) ≡ false → r1.ready ≡ true →
-    PopsBy mem r1 r2 (Ok (Some t)) → request_of q r1.size mem t.chain ≡ Ok pages
+    (l1 l2 : LastStatistics) (t : Taken) (pages : List ℕ) → is_full q (at r1 taken) ≡ false
+    → r1.ready ≡ true → PopsBy mem r1 r2 (Ok (Some t)) → request_of q r1.size mem t.chain ≡ Ok pages
     → l2 ≡ noted q mem t.chain l1 → TakesNext q mem (at r1 taken)
     (at r2 (taken ++ record { head = t.head; pages = pages; visited = 0 } ∷ [])) l1 l2
     (Ok (Some t.head))
@@ -121,15 +114,14 @@ next_right q mem r1 r2 taken l1 l2 t pages free ready pops is said =
       fault = λ h g k e gives. absurd (ok_err (Some t) g (pops.fault h g ready e gives));
       wrong = λ h pieces g k e gives bad. absurd (ok_err pages g (sym is ∙
           (ap (request_of q r1.size mem) (pops.chain h pieces ready e gives).1 ∙ bad)));
-      takes = λ h pieces ps k e gives good.
-          let chain = pops.chain h pieces ready e gives in (
-            ap (λ n. Ok (Some n)) chain.0,
-            after ∙ (ap (λ n. with_request n pages (at r1 taken)) chain.0 ∙
-                ap (λ xs. with_request h xs (at r1 taken))
-                (same_pages (request_of q r1.size mem t.chain) pages ps is
-                (ap (request_of q r1.size mem) chain.1 ∙ good))),
-            said ∙ ap (λ xs. noted q mem xs l1) chain.1,
-          );
+      takes = λ h pieces ps k e gives good. let chain = pops.chain h pieces ready e gives in (
+        ap (λ n. Ok (Some n)) chain.0,
+        after ∙ (ap (λ n. with_request n pages (at r1 taken)) chain.0 ∙
+            ap (λ xs. with_request h xs (at r1 taken))
+            (same_pages (request_of q r1.size mem t.chain) pages ps is
+            (ap (request_of q r1.size mem) chain.1 ∙ good))),
+        said ∙ ap (λ xs. noted q mem xs l1) chain.1,
+      );
       means = (free, (pages, t.chain, pops.found.1, pops.found.2, is, after, said));
     }
 

@@ -12,8 +12,7 @@ use Rattle.vb_model.specs.declared.replies.LastStatistics.{LastStatistics}
 use Rattle.vb_ram.{specs.Pages.{Page, Pages}, specs.Part.{Part, QueuePart}}
 use Rattle.vb_chain.{specs.declared.fault.ChainFault.ChainFault, specs.declared.pieces.Piece.Piece}
 use Rattle.vb_chain.{specs.Table.descriptor_at, specs.Chain.{ChainGives, FaultGives}}
-use Rattle.vb_ring.{specs.declared.layout.Layout.Layout, specs.Layout.layout_of}
-use Rattle.vb_ring.specs.Entries.{next_entry}
+use Rattle.vb_ring.specs.{declared.layout.Layout.Layout, Layout.layout_of, Entries.next_entry}
 use Rattle.vb_device.specs.QueueState.{QueueState, part_of, with_request, next_of, IsChainOf}
 use Rattle.vb_device.specs.QueueState.{IsFaultOf, is_full, NextMeans, Leaves, TakesNext}
 use Rattle.vb_device.{specs.QueueState.status_after, proofs.FromNext.KeepsRing}
@@ -84,16 +83,14 @@ status_false false false false d e = refl
 
 pub take_refused : (q : ℕ) (part : Part) (why : Refusal) →
     take_refusal_by q part.status part.features ≡ Some why → take_refusal q part ≡ Some why
-take_refused q part why e =
-    by_four (not (has_chains q)) (is_not_ready part.status) (has_fault part.status)
-    (lacks_feature part.features q) _ why e
+take_refused q part why e = by_four (not (has_chains q))
+    (is_not_ready part.status) (has_fault part.status) (lacks_feature part.features q) _ why e
 
 pub take_open : (q : ℕ) (part : Part) → take_refusal_by q part.status part.features ≡ None →
     take_refusal q part ≡
     (if nat_le (most_taken q) (length (queue_part q part).taken) then Some Busy else None)
-take_open q part e =
-    after_four (not (has_chains q)) (is_not_ready part.status) (has_fault part.status)
-    (lacks_feature part.features q) _ e
+take_open q part e = after_four (not (has_chains q))
+    (is_not_ready part.status) (has_fault part.status) (lacks_feature part.features q) _ e
 
 pub take_known : (q s f : ℕ) → take_refusal_by q s f ≡ None → has_chains q ≡ true
 take_known q s f e = first_false (has_chains q) (is_not_ready s) (has_fault s) (lacks_feature f q) e
@@ -212,12 +209,11 @@ same_part : (P : QueueState → ℕ → LastStatistics → Part) (x1 x2 : QueueS
     (l1 l2 : LastStatistics) → x2 ≡ x1 → l2 ≡ l1 → P x2 s l2 ≡ P x1 s l1
 same_part P x1 x2 s l1 l2 e f = ap (λ x. P x s l2) e ∙ ap (λ l. P x1 s l) f
 
-means_of : (q : ℕ) (mem : Pages) (P : QueueState → ℕ → LastStatistics → Part)
-    (x1 x2 : QueueState) (s : ℕ) (l1 l2 : LastStatistics) (result : Result (Option ℕ) Refusal) →
-    Sits q mem P x1 s l1 → (is_full q x1 ≡ false → take_refusal q (P x1 s l1) ≡ None)
-    → (is_full q x1 ≡ true → take_refusal q (P x1 s l1) ≡ Some Busy) →
-    NextMeans q mem x1 x2 l1 l2 result →
-    TakeMeans q mem (P x1 s l1) (P x2 (status_after result s) l2) result
+means_of : (q : ℕ) (mem : Pages) (P : QueueState → ℕ → LastStatistics → Part) (x1 x2 : QueueState)
+    (s : ℕ) (l1 l2 : LastStatistics) (result : Result (Option ℕ) Refusal) → Sits q mem P x1 s l1
+    → (is_full q x1 ≡ false → take_refusal q (P x1 s l1) ≡ None) → (is_full q x1 ≡ true
+    → take_refusal q (P x1 s l1) ≡ Some Busy) → NextMeans q mem x1 x2 l1 l2 result
+    → TakeMeans q mem (P x1 s l1) (P x2 (status_after result s) l2) result
 means_of q mem P x1 x2 s l1 l2 (Ok None) sits free busy m =
     (free m.0, same_part P x1 x2 s l1 l2 m.1 m.2)
 means_of q mem P x1 x2 s l1 l2 (Ok (Some h)) sits free busy m = (
@@ -267,10 +263,8 @@ takes_by q mem P x1 x2 s l1 l2 result sits t =
       memory = refl;
       refused = λ why e.
           let full = is_busy (is_full q x1) why (sym sits.refusal ∙ e) in
-          let got = t.busy full.0 in (
-            got.0 ∙ ap Err full.1,
-            after_is P x1 x2 s l1 l2 result (Err Busy) got.0 got.1 got.2,
-          );
+          let got = t.busy full.0 in
+          (got.0 ∙ ap Err full.1, after_is P x1 x2 s l1 l2 result (Err Busy) got.0 got.1 got.2);
       empty = λ e n. (let got = t.empty (room e) (sym sits.next ∙ n) in (
         got.0,
         after_is P x1 x2 s l1 l2 result (Ok None) got.0 got.1 got.2,
@@ -302,9 +296,8 @@ with_at q f t a n qs loose x s l = base_part s f t a n (set qs (index_of q) x) l
 pub part_here : (q s f t a n : ℕ) (qs : List QueueState) (x : QueueState) (l : LastStatistics)
     (loose : List Page) → length qs ≡ 4 → has_chains q ≡ true →
     queue_part q (base_part s f t a n (set qs (index_of q) x) l loose) ≡ part_of x
-part_here q s f t a n qs x l loose four known =
-    part_get q s f t a n (set qs (index_of q) x) l loose known ∙
-    ap part_of (set_here q qs x four known)
+part_here q s f t a n qs x l loose four known = part_get q s f t a n
+    (set qs (index_of q) x) l loose known ∙ ap part_of (set_here q qs x four known)
 
 taking_two : (q h : ℕ) (pages : List ℕ) (k : QueuePart) (p : Part) → has_chains q ≡ true →
     taking q h pages (with_queue q k p) ≡ with_queue q (record k {
@@ -384,9 +377,8 @@ pub status_ok : (s : ℕ) → readiness_refusal s ≡ None → contains s driver
 status_ok s e = ok_of (contains s driver_ok) (contains s failed) (has_fault s) e
 
 pub base_kept : (q : ℕ) (mem : Pages) (s1 s2 n c : ℕ) (qs : List QueueState)
-    (x2 : QueueState) → IsBase mem s1 n qs c → has_chains q ≡ true →
-    contains s1 driver_ok ≡ true → KeepsRing mem (queue_at q qs) x2 →
-    IsBase mem s2 n (set qs (index_of q) x2) c
+    (x2 : QueueState) → IsBase mem s1 n qs c → has_chains q ≡ true → contains s1 driver_ok ≡ true
+    → KeepsRing mem (queue_at q qs) x2 → IsBase mem s2 n (set qs (index_of q) x2) c
 base_kept q mem s1 s2 n c qs x2 b known driver k = base_set q mem mem s1 s2 n c c qs x2 b known
     (λ i x is. record {
       ring = is.ring;

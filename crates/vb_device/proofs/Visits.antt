@@ -1,10 +1,9 @@
 -- The oldest page of the taken requests that isn't visited yet.
+use Rattle.std.proofs.{Common.{◌∙◌, ap, arith, get_or}, Math.ListN.set, lemmas.Grind.common_steps}
+use Rattle.std.proofs.lemmas.List.{Elements.All-set, Quantifiers.position-Some}
+use Rattle.std.{proofs.lemmas.List.Sums.fails_before_first, specs.List.{position, position_or_len}}
 use Rattle.std.specs.Prelude.{◌≡◌, ℕ, zero, suc, ◌+◌, ◌<◌, ◌≤◌, Bool, true, false, List, [], ◌∷◌}
 use Rattle.std.specs.Prelude.{Some, All, refl, length, if◌then◌else◌, None, Option, slice_get}
-use Rattle.std.{specs.List.{position, position_or_len}, proofs.Math.ListN.set}
-use Rattle.std.proofs.Common.{◌∙◌, ap, arith, get_or}
-use Rattle.std.{proofs.lemmas.Grind.common_steps, proofs.lemmas.List.Quantifiers.position-Some}
-use Rattle.std.{proofs.lemmas.List.Elements.All-set, proofs.lemmas.List.Sums.fails_before_first}
 use Rattle.vb_model.{specs.Requests.Request, specs.Device.{is_unvisited, visiting, next_page}}
 use Rattle.vb_device.specs.QueueState.{IsTaken}
 
@@ -54,12 +53,11 @@ visits_none rs e = let d : Request = record { head = 0; pages = []; visited = 0 
 -- a chain is one of the queue's still, once one more of its pages is visited
 pub visiting_still : (n : ℕ) (rs : List Request) → All (IsTaken n) rs
     → All (IsTaken n) (visiting rs)
-visiting_still n rs all = by_place (position is_unvisited rs) refl
-  where
-    by_place : (place : Option ℕ) → position is_unvisited rs ≡ place → All (IsTaken n) (visiting rs)
-    by_place None e = rw (visits_none rs e).0 all
-    by_place (Some i) e = let d : Request = record { head = 0; pages = []; visited = 0 } in
-        let found = visits_at rs i d e in
-        let was : IsTaken n (get_or rs i d) = all i d found.0 in rw found.2
-        (All-set (IsTaken n) rs i (once_more (get_or rs i d))
-        (record { head = was.head; above = was.above }) all)
+visiting_still n rs all = by_place (position is_unvisited rs) refl where
+  by_place : (place : Option ℕ) → position is_unvisited rs ≡ place → All (IsTaken n) (visiting rs)
+  by_place None e = rw (visits_none rs e).0 all
+  by_place (Some i) e = let d : Request = record { head = 0; pages = []; visited = 0 } in
+      let found = visits_at rs i d e in
+      let was : IsTaken n (get_or rs i d) = all i d found.0 in rw found.2
+      (All-set (IsTaken n) rs i (once_more (get_or rs i d))
+      (record { head = was.head; above = was.above }) all)

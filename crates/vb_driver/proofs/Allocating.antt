@@ -112,9 +112,8 @@ pub record IsServed (s new : PageState) (cpu order : ℕ) (r : Result ℕ PageFa
       → is_free_page new page ≡ (is_free_page s page && not (covers page (block_at start order))))
   pub none : r ≡ Err NoFreeBlock → (start : ℕ) → IsBlock (block_at start order)
       → IsWhollyFree s (block_at start order) → ⊥
-  pub same : r ≡ Err NoFreeBlock
-      → ((page : ℕ) → is_free_page new page ≡ is_free_page s page) × (new.held ≡ s.held)
-      × (new.free.lists ≡ map (λ (list : List ℕ). []) s.free.lists)
+  pub same : r ≡ Err NoFreeBlock → ((page : ℕ) → is_free_page new page ≡ is_free_page s page)
+      × (new.held ≡ s.held) × (new.free.lists ≡ map (λ (list : List ℕ). []) s.free.lists)
 
 small_order : (s new : PageState) (cpu order : ℕ) (r : Result ℕ PageFault)
     → IsServed s new cpu order r → (r ≡ Err OrderTooLarge → ⊥) → order ≤ 9
@@ -225,9 +224,8 @@ flags_sum : (k : ℕ) (set : List Bool) (xs : List ℕ) (test : ℕ → Bool) �
     count_by (λ p. nat_le k p) xs
 flags_sum k [] xs test most = omega arith
 flags_sum k (x ∷ set) xs test most =
-    let first : one_if (test k) ≤ one_if x + times k xs =
-    subst (λ (n : ℕ). one_if (test n) ≤ one_if x + times n xs) (omega arith)
-    (most 0 (omega arith)) in
+    let first : one_if (test k) ≤ one_if x + times k xs = subst
+    (λ (n : ℕ). one_if (test n) ≤ one_if x + times n xs) (omega arith) (most 0 (omega arith)) in
     let rest : count_by (λ f. f) (map test (range_with_len (suc k) (length set))) ≤ count_by
     (λ f. f) set + count_by (λ p. nat_le (suc k) p) xs = flags_sum (suc k) set xs test (λ i lt.
     subst (λ (n : ℕ). one_if (test n) ≤ one_if (get_or set i false) + times n xs) (omega arith)

@@ -1,14 +1,12 @@
 -- Counts of places, as a page moves.
 use Rattle.std.proofs.Common.{◌≡◌, ◌∙◌, sym, ap, arith, ℕ, ◌+◌, ◌-◌, ◌<◌, ◌≤◌, cond, eqb, List}
-use Rattle.std.proofs.Common.{length, get_or, set, count_by, eq-eqb, refl, not, [], ◌∷◌}
-use Rattle.std.proofs.Common.{Bool, true, false, zero, suc, replicate, map}
-use Rattle.std.proofs.lemmas.List.Sums.{sum_by-set, get_or-le-sum_by}
-use Rattle.std.proofs.lemmas.List.{length-replicate, get_or-set_same, get_or-set_other, length-set}
-use Rattle.std.proofs.lemmas.Bool.{cases_eq, ne_eqb}
-use Rattle.vb_model.specs.declared.places.Place.TheVariants.{Reserved, Free, Used, Giving, Lent}
-use Rattle.vb_model.{specs.Pages.{is_lent, is_stranded}, specs.declared.places.Place.Place}
-use Rattle.vb_model.specs.declared.places.Place.TheVariants.{Taking, Stranded, Reporting}
-use Rattle.vb_model.proofs.Tables.{count_by-cons}
+use Rattle.std.proofs.Common.{length, get_or, set, count_by, eq-eqb, refl, not, [], ◌∷◌, Bool, true}
+use Rattle.std.proofs.{Common.{false, zero, suc, replicate, map}, lemmas.List.Sums.sum_by-set}
+use Rattle.std.proofs.lemmas.List.{Sums.get_or-le-sum_by, length-replicate, get_or-set_same}
+use Rattle.std.proofs.lemmas.{List.{get_or-set_other, length-set}, Bool.{cases_eq, ne_eqb}}
+use Rattle.vb_model.{proofs.Tables.count_by-cons, specs.Pages.{is_lent, is_stranded}}
+use Rattle.vb_model.specs.declared.places.Place.{Place, TheVariants.{Reserved, Free, Used, Giving}}
+use Rattle.vb_model.specs.declared.places.Place.TheVariants.{Lent, Taking, Stranded, Reporting}
 use Rattle.vb_driver.{specs.Places.{number_of, is_at, AreCounts, IsTable}, proofs.Marking.none_of}
 
 pub number_small : (place : Place) → number_of place < 8
@@ -97,9 +95,8 @@ pub reserved_table : (counts : List ℕ) (lent stranded : List Bool) (places : L
 reserved_table counts lent stranded places pages counted lents strandeds is most = record {
   kinds = ap (λ (l : List ℕ). length l) counted;
   are_counts = record {
-    each = λ place. ap (λ (l : List ℕ). get_or l (number_of place) 0) counted
-        ∙ (at place ∙ sym (ap (count_by (is_at place)) is
-        ∙ count_replicate (is_at place) Reserved pages));
+    each = λ place. ap (λ (l : List ℕ). get_or l (number_of place) 0) counted ∙ (at place
+        ∙ sym (ap (count_by (is_at place)) is ∙ count_replicate (is_at place) Reserved pages));
   };
   are_sets = record {
     of_lent = lents ∙ (none_of is_lent Reserved pages refl ∙ ap (map is_lent) (sym is));

@@ -7,11 +7,10 @@ use Rattle.vb_chain.{specs.declared.pieces.Piece.Piece, proofs.TableLaws.same_pa
 use Rattle.vb_ring.{specs.declared.driver.Full.Full, specs.declared.layout.Layout.Layout}
 use Rattle.vb_ring.{specs.Layout.IsSize, specs.Calls.AddsBy}
 use Rattle.vb_ring.specs.Ends.{DriverEnd, IsDriverEnd, outstanding, next_head, after_add}
-use Rattle.vb_driver.{specs.Coding.IsStatistic, specs.State.IsStatisticsQueue}
-use Rattle.vb_driver.{specs.Calls.{PostsBuffer, written_of}, proofs.Buffers.outside_both}
-use Rattle.vb_driver.proofs.Posting.{OnePiece, one_piece, added_head}
-use Rattle.vb_driver.proofs.Shapes.{IsBeside, beside_buffers, keeps_ring}
-use Rattle.vb_driver.proofs.OneBuffer.{none_used, first_head, queue_added}
+use Rattle.vb_driver.specs.{Coding.IsStatistic, State.IsStatisticsQueue, Calls.PostsBuffer}
+use Rattle.vb_driver.{specs.Calls.written_of, proofs.Buffers.outside_both, proofs.Posting.OnePiece}
+use Rattle.vb_driver.proofs.{Posting.{one_piece, added_head}, Shapes.{IsBeside, beside_buffers}}
+use Rattle.vb_driver.proofs.{Shapes.keeps_ring, OneBuffer.{none_used, first_head, queue_added}}
 
 -- what was written and added, by plain names
 pub record Filling (m1 m2 m3 : Pages) (r r2 : DriverEnd) (n a free total : ℕ) : Type 0 where
@@ -33,9 +32,8 @@ pub next_is_first : (r : DriverEnd) (n : ℕ) → IsStatisticsQueue r n → IsDr
     → outstanding r ≡ 0 → next_head r ≡ Some 0
 next_is_first r n queue end none = grind (arith, first_head, none_used)
 
-fills_at : (m1 m2 m3 : Pages) (r r2 : DriverEnd) (n a free total : ℕ)
-    → Filling m1 m2 m3 r r2 n a free total
-    → AddsBy m2 m3 r r2 (record { addr = a; len = 20; writable = false } ∷ []) (Ok 0)
+fills_at : (m1 m2 m3 : Pages) (r r2 : DriverEnd) (n a free total : ℕ) → Filling m1 m2 m3 r r2
+    n a free total → AddsBy m2 m3 r r2 (record { addr = a; len = 20; writable = false } ∷ []) (Ok 0)
     → PostsBuffer m1 m3 r r2 (record { free = free; total = total })
 fills_at m1 m2 m3 r r2 n a free total s adds =
     let sized : IsSize n = subst IsSize s.queue.size s.is_end.fits.size in
@@ -65,9 +63,8 @@ fills_at m1 m2 m3 r r2 n a free total s adds =
     }
 
 -- whatever head the add tells, it is 0
-pub fills_by : (m1 m2 m3 : Pages) (r r2 : DriverEnd) (n a g free total : ℕ)
-    → Filling m1 m2 m3 r r2 n a free total
-    → AddsBy m2 m3 r r2 (record { addr = a; len = 20; writable = false } ∷ []) (Ok g)
+pub fills_by : (m1 m2 m3 : Pages) (r r2 : DriverEnd) (n a g free total : ℕ) → Filling m1 m2 m3 r r2
+    n a free total → AddsBy m2 m3 r r2 (record { addr = a; len = 20; writable = false } ∷ []) (Ok g)
     → PostsBuffer m1 m3 r r2 (record { free = free; total = total })
 fills_by m1 m2 m3 r r2 n a g free total s adds =
     let pieces : List Piece = record { addr = a; len = 20; writable = false } ∷ [] in

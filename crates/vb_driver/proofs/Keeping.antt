@@ -2,11 +2,10 @@
 use Rattle.std.proofs.Common.{◌≡◌, ◌∙◌, sym, ap, arith, refl, ℕ, ◌<◌, ◌≤◌, Bool, true, false, cond}
 use Rattle.std.proofs.Common.{List, [], length, get_or, map, if◌then◌else◌}
 use Rattle.std.proofs.lemmas.List.{same_lists, length-map, get_or-map, get_or_past}
+use Rattle.vb_model.{proofs.Tables.{each_page-get, length-each_from}, specs.Orderly.times}
 use Rattle.vb_model.specs.Pages.{place_of, placed, is_free, is_used, is_giving, is_taking}
-use Rattle.vb_model.{specs.Tests.{is_in, one_if}, specs.Pages.{is_reporting, Block, pages_of_all}}
-use Rattle.vb_model.{specs.Orderly.times, specs.declared.places.Place.Place}
-use Rattle.vb_model.specs.declared.places.Place.TheVariants.{Reserved, Used}
-use Rattle.vb_model.proofs.Tables.{each_page-get, length-each_from}
+use Rattle.vb_model.specs.{Pages.{is_reporting, Block, pages_of_all}, Tests.{is_in, one_if}}
+use Rattle.vb_model.specs.declared.places.Place.{Place, TheVariants.{Reserved, Used}}
 use Rattle.vb_pages.specs.FreePages.{FreePages}
 use Rattle.vb_driver.specs.State.{RequestSide, ReportSide, DriverState, IsQueue, IsReportQueue}
 use Rattle.vb_driver.{specs.Places.{is_at, marked}, specs.State.{naming, tells_host, IsDriver}}

@@ -27,12 +27,11 @@ pages_of_set test flags places are =
 none_in : (first : ℕ) (xs : List Bool) → ((k : ℕ) → get_or xs k false ≡ false)
     → members_from first xs ≡ []
 none_in first [] none = refl
-none_in first (x ∷ xs) none = at x (none zero) (none_in (suc first) xs (λ k. none (suc k)))
-  where
-    at : (b : Bool) → b ≡ false → members_from (suc first) xs ≡ []
-        → cond b (first ∷ members_from (suc first) xs) (members_from (suc first) xs) ≡ []
-    at true e ih = cc
-    at false e ih = ih
+none_in first (x ∷ xs) none = at x (none zero) (none_in (suc first) xs (λ k. none (suc k))) where
+  at : (b : Bool) → b ≡ false → members_from (suc first) xs ≡ []
+      → cond b (first ∷ members_from (suc first) xs) (members_from (suc first) xs) ≡ []
+  at true e ih = cc
+  at false e ih = ih
 
 first_in : (first k : ℕ) (xs : List Bool) → get_or xs k false ≡ true
     → ((m : ℕ) → m < k → get_or xs m false ≡ false) → members_from first xs

@@ -18,18 +18,17 @@ use Rattle.vb_model.{specs.declared.places.Place.Place, specs.Layout.{reserved_p
 use Rattle.vb_model.{proofs.GuestSteps.place_of-reset, proofs.Counts.length-pages_where}
 use Rattle.vb_ram.specs.Pages.{Pages}
 use Rattle.vb_pages.{specs.FreePages.FreePages, proofs.ListsLemmas.times_in}
-use Rattle.vb_driver.{specs.Places.{is_at, marked, first_place}, proofs.Counting.at_is}
+use Rattle.vb_driver.proofs.{Counting.at_is, Flags.{fresh_flags, for_itself}, Keeping.kept_moved}
+use Rattle.vb_driver.proofs.{Keeping.{there_by, free_same, free_marked}, Naming.naming_more}
+use Rattle.vb_driver.proofs.Naming.{naming_same, naming_less, named_place, named_once, once_lowest}
+use Rattle.vb_driver.proofs.{Naming.{once_append, later_none}, Placing.{or_true, length-marked}}
+use Rattle.vb_driver.proofs.{Placing.marked-get, ReportTables.{none_owned, fresh_report_queue}}
+use Rattle.vb_driver.{proofs.RequestTables.{requests_taken, requests_fresh}, specs.Areas.AreFor}
+use Rattle.vb_driver.specs.{Areas.{flags_of, is_free_at, is_covered}, Calls.{Posts, lowest_lent}}
+use Rattle.vb_driver.specs.{Calls.{stranded_first, after_reap}, Places.{is_at, marked, first_place}}
 use Rattle.vb_driver.specs.State.{RequestSide, DriverState, IsQueue, naming, sent_by, fresh_side}
 use Rattle.vb_driver.specs.State.{fresh_driver, IsDriver, IsStatisticsQueue, fresh_statistics}
-use Rattle.vb_driver.{specs.State.{fresh_report, tells_host}, specs.Areas.{AreFor, flags_of}}
-use Rattle.vb_driver.{specs.Areas.{is_free_at, is_covered}, proofs.Flags.{fresh_flags, for_itself}}
-use Rattle.vb_driver.specs.Calls.{Posts, lowest_lent, stranded_first, after_reap}
-use Rattle.vb_driver.proofs.Naming.{naming_more, naming_same, naming_less, named_place}
-use Rattle.vb_driver.proofs.Naming.{named_once, once_lowest, once_append, later_none}
-use Rattle.vb_driver.proofs.Keeping.{kept_moved, there_by, free_same, free_marked}
-use Rattle.vb_driver.proofs.Placing.{or_true, length-marked, marked-get}
-use Rattle.vb_driver.proofs.ReportTables.{none_owned, fresh_report_queue}
-use Rattle.vb_driver.proofs.RequestTables.{requests_taken, requests_fresh}
+use Rattle.vb_driver.specs.State.{fresh_report, tells_host}
 use Rattle.vb_ring.{specs.Layout.IsSize, specs.Ends.DriverEnd}
 
 -- ---- tests of places
@@ -97,11 +96,8 @@ asked_kept m1 m2 d e2 base count head kept posts = let pages = lowest_lent d cou
 pub asked_freed : (m1 m2 : Pages) (d : DriverState) (areas2 : FreePages) (e2 : RequestSide)
     (base count head : ℕ) → IsDriver d → tells_host d ≡ false
     → flags_of areas2 ≡ marked (lowest_lent d count) true (flags_of d.areas) → AreFor d.areas areas2
-    → Posts m1 m2 d.deflate e2 base (lowest_lent d count) head → IsDriver (record d {
-      places = placed (lowest_lent d count) Free d.places;
-      areas = areas2;
-      deflate = e2;
-    })
+    → Posts m1 m2 d.deflate e2 base (lowest_lent d count) head → IsDriver
+    (record d { places = placed (lowest_lent d count) Free d.places; areas = areas2; deflate = e2 })
 asked_freed m1 m2 d areas2 e2 base count head kept untold given same posts =
     let pages = lowest_lent d count in
     let lent : (p : ℕ) → is_in p pages ≡ true → place_of d.places p ≡ Lent =
@@ -224,9 +220,8 @@ offered_kept m1 m2 d areas2 i2 base count head others kept free once taken same 
         ≡ (is_in p (stranded_first d count) || is_in p others)
     in_pages p = list_any-append (λ m. eqb m p) (stranded_first d count) others
 
-    agree : (p : ℕ) (place : Place) → place ≡ place_of d.places p → (o f : Bool)
-        → is_in p others ≡ o → is_in p (stranded_first d count) ≡ f
-        → cond (is_in p others) false (is_free place)
+    agree : (p : ℕ) (place : Place) → place ≡ place_of d.places p → (o f : Bool) → is_in p others
+        ≡ o → is_in p (stranded_first d count) ≡ f → cond (is_in p others) false (is_free place)
         ≡ is_free (cond (is_in p (stranded_first d count ++ others)) Giving place)
     agree p place is true f e g = ap (λ v. cond v false (is_free place)) e
         ∙ sym (ap (λ v. is_free (cond v Giving place))
@@ -248,9 +243,8 @@ pub lent_kept : (d : DriverState) (head : ℕ) → head < 16 → IsDriver d → 
 })
 lent_kept d head lt kept = let pages = sent_by d.inflate head in
     let small : head < length d.inflate.sent = omega (arith, kept.inflate.requests.buffers) in
-    let giving : (p : ℕ) → is_in p pages ≡ true → is_giving (place_of d.places p) ≡ true =
-    λ p here. named_place p head d.inflate.sent is_giving (place_of d.places p) small
-    (kept.giving p) here in
+    let giving : (p : ℕ) → is_in p pages ≡ true → is_giving (place_of d.places p) ≡ true = λ p here.
+    named_place p head d.inflate.sent is_giving (place_of d.places p) small (kept.giving p) here in
     kept_moved d d.areas pages Lent (after_reap d.inflate head) d.deflate d.report (record {
       kept = kept;
       there = λ p here. there_by d.places p is_giving refl (giving p here);
@@ -261,13 +255,13 @@ lent_kept d head lt kept = let pages = sent_by d.inflate head in
       deflate = kept.deflate;
       giving = λ p. naming_less p head d.inflate.sent is_giving Lent (place_of d.places p) small
           (kept.giving p);
-      taking = λ told p. naming_same p (naming p d.deflate.sent) pages is_taking Lent (place_of d.places p)
-          (kept.taking told p) (λ here. ap is_taking
-          (at_is Giving (place_of d.places p) (giving p here)));
+      taking = λ told p. naming_same p
+          (naming p d.deflate.sent) pages is_taking Lent (place_of d.places p) (kept.taking told p)
+          (λ here. ap is_taking (at_is Giving (place_of d.places p) (giving p here)));
       report = kept.report;
-      reporting = λ p. naming_same p (times p (pages_of_all d.report.blocks)) pages is_reporting Lent
-          (place_of d.places p) (kept.reporting p) (λ here. ap is_reporting
-          (at_is Giving (place_of d.places p) (giving p here)));
+      reporting = λ p. naming_same p (times p (pages_of_all d.report.blocks))
+          pages is_reporting Lent (place_of d.places p) (kept.reporting p)
+          (λ here. ap is_reporting (at_is Giving (place_of d.places p) (giving p here)));
       free = kept.free ∙ free_same d.places pages Lent
           (λ p place is. same_free p place is (is_in p pages) refl giving);
       same = for_itself d.areas;
@@ -421,22 +415,21 @@ is_out d p place kept unreserved unfree unused is =
 in_from : {A : Type 0} (test : A → Bool) (n k i : ℕ) (xs : List A) (d : A) → i < length xs
     → n ≡ k + i → is_in n (pages_from k test xs) ≡ test (get_or xs i d)
 in_from test n k i [] d lt is = absurd (omega arith)
-in_from test n k zero (x ∷ xs) d lt is = at (test x)
-  where
-    here : eqb k n ≡ true
-    here = eq-eqb k n (omega arith)
+in_from test n k zero (x ∷ xs) d lt is = at (test x) where
+  here : eqb k n ≡ true
+  here = eq-eqb k n (omega arith)
 
-    past : is_in n (pages_from (suc k) test xs) ≡ false
-    past = false_from_ne_true (is_in n (pages_from (suc k) test xs)) (λ h. omega (
-      arith,
-      later_none n (suc k) test xs (omega arith),
-      times_in n (pages_from (suc k) test xs) h,
-    ))
+  past : is_in n (pages_from (suc k) test xs) ≡ false
+  past = false_from_ne_true (is_in n (pages_from (suc k) test xs)) (λ h. omega (
+    arith,
+    later_none n (suc k) test xs (omega arith),
+    times_in n (pages_from (suc k) test xs) h,
+  ))
 
-    at : (b : Bool)
-        → is_in n (cond b (k ∷ pages_from (suc k) test xs) (pages_from (suc k) test xs)) ≡ b
-    at true = ap (λ (v : Bool). v || is_in n (pages_from (suc k) test xs)) here
-    at false = past
+  at : (b : Bool)
+      → is_in n (cond b (k ∷ pages_from (suc k) test xs) (pages_from (suc k) test xs)) ≡ b
+  at true = ap (λ (v : Bool). v || is_in n (pages_from (suc k) test xs)) here
+  at false = past
 in_from test n k (suc i) (x ∷ xs) d lt is =
     grind (arith, ne_eqb, in_from test n (suc k) i xs d (omega arith) (omega arith))
 
@@ -506,17 +499,16 @@ pub reset_kept : (d : DriverState) (areas2 : FreePages) (features : ℕ) → IsD
       features = features;
       actual = 0;
     })
-reset_kept d areas2 features kept given same =
-    grind (
-      arith,
-      length-map,
-      fresh_queue,
-      fresh_statistics_queue,
-      fresh_report_queue,
-      naming_none,
-      free_all_after,
-      place_of-reset,
-    )
+reset_kept d areas2 features kept given same = grind (
+  arith,
+  length-map,
+  fresh_queue,
+  fresh_statistics_queue,
+  fresh_report_queue,
+  naming_none,
+  free_all_after,
+  place_of-reset,
+)
 
 -- ---- the queues begin anew
 
@@ -533,15 +525,14 @@ renewed_kept d statistics2 kept statistics =
 -- ---- a driver as it is made
 
 reserved_first : (reserved n p : ℕ) → p < reserved → place_of (all_free reserved n) p ≡ Reserved
-reserved_first reserved n p low =
-    grind (
-      arith,
-      cases_lt,
-      get_or-map-range_with_len,
-      lt-ltb,
-      get_or_past,
-      length-map-range_with_len,
-    )
+reserved_first reserved n p low = grind (
+  arith,
+  cases_lt,
+  get_or-map-range_with_len,
+  lt-ltb,
+  get_or_past,
+  length-map-range_with_len,
+)
 
 pub fresh_kept : (pages size processors f : ℕ) → 64 ≤ pages → pages ≤ 65536 → IsSize size
     → IsDriver (record (fresh_driver pages size processors) { features = f })

@@ -36,20 +36,19 @@ later_none p k test (x ∷ xs) lt = grind (arith, later_none p (suc k) test xs (
 once_from : {A : Type 0} (p k : ℕ) (test : A → Bool) (xs : List A)
     → times p (pages_from k test xs) ≤ 1
 once_from p k test [] = omega arith
-once_from p k test (x ∷ xs) = at (test x) (once_from p (suc k) test xs)
-  where
-    at : (b : Bool) → times p (pages_from (suc k) test xs) ≤ 1
-        → times p (cond b (k ∷ pages_from (suc k) test xs) (pages_from (suc k) test xs)) ≤ 1
-    at false rest = rest
-    at true rest =
-        let cons : times p (k ∷ pages_from (suc k) test xs)
-        ≡ one_if (eqb k p) + times p (pages_from (suc k) test xs) =
-        count_by-cons (λ q. eqb q p) k (pages_from (suc k) test xs) in elim (cases_eq k p) [
-          | inl same ↦ (let none : times p (pages_from (suc k) test xs)
-              ≡ 0 = later_none p (suc k) test xs (omega arith) in
-              let most : one_if (eqb k p) ≤ 1 = one_if_le (eqb k p) in omega arith)
-          | inr ne ↦ (let none : one_if (eqb k p) ≡ 0 = ap one_if (ne_eqb k p ne) in omega arith)
-        ]
+once_from p k test (x ∷ xs) = at (test x) (once_from p (suc k) test xs) where
+  at : (b : Bool) → times p (pages_from (suc k) test xs) ≤ 1
+      → times p (cond b (k ∷ pages_from (suc k) test xs) (pages_from (suc k) test xs)) ≤ 1
+  at false rest = rest
+  at true rest =
+      let cons : times p (k ∷ pages_from (suc k) test xs)
+      ≡ one_if (eqb k p) + times p (pages_from (suc k) test xs) =
+      count_by-cons (λ q. eqb q p) k (pages_from (suc k) test xs) in elim (cases_eq k p) [
+        | inl same ↦ (let none : times p (pages_from (suc k) test xs)
+            ≡ 0 = later_none p (suc k) test xs (omega arith) in
+            let most : one_if (eqb k p) ≤ 1 = one_if_le (eqb k p) in omega arith)
+        | inr ne ↦ (let none : one_if (eqb k p) ≡ 0 = ap one_if (ne_eqb k p ne) in omega arith)
+      ]
 
 pub once_lowest : {A : Type 0} (p n : ℕ) (test : A → Bool) (xs : List A)
     → times p (take n (pages_where test xs)) ≤ 1

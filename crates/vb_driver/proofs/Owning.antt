@@ -4,21 +4,19 @@ use Rattle.std.proofs.Common.{false, cond, eqb, not, ◌||◌, List, [], ◌∷�
 use Rattle.std.{proofs.Common.{None, nat_le, nat_lt}, specs.List.{list_any, range_with_len}}
 use Rattle.std.proofs.lemmas.Bool.{and_parts, or_cases, or_left, or_right, both_ways, eqb-true}
 use Rattle.std.proofs.lemmas.List.{length-map}
-use Rattle.vb_model.specs.Pages.{Block, covers, pages_of, is_same_block, is_wholly_free, place_of}
-use Rattle.vb_model.specs.Pages.{placed, is_free, is_used, is_giving, is_taking, is_reporting}
-use Rattle.vb_model.{specs.Tests.is_in, specs.Pages.pages_of_all, specs.Orderly.times}
-use Rattle.vb_model.{specs.Driver.{with_block, without_block}, specs.Refusals.{first_refusal, ◌⇒◌}}
-use Rattle.vb_model.{specs.declared.places.Place.Place, proofs.Tables.list_all-at}
+use Rattle.vb_model.{proofs.PageSteps.covers_is, proofs.Tables.list_all-at, specs.Driver.with_block}
+use Rattle.vb_model.specs.{Driver.without_block, Orderly.times, Pages.{Block, covers, pages_of}}
+use Rattle.vb_model.specs.Pages.{is_same_block, is_wholly_free, place_of, placed, is_free, is_used}
+use Rattle.vb_model.specs.Pages.{is_giving, is_taking, is_reporting, pages_of_all}
+use Rattle.vb_model.specs.{Refusals.{first_refusal, ◌⇒◌}, Tests.is_in, declared.places.Place.Place}
 use Rattle.vb_model.specs.declared.places.Place.TheVariants.{Reserved, Free, Used}
 use Rattle.vb_model.specs.declared.replies.Refusal.TheVariants.{BadOrder, BadCpu, NoPages, NotHeld}
-use Rattle.vb_model.proofs.PageSteps.{covers_is}
 use Rattle.vb_pages.{specs.FreePages.FreePages, specs.PageState.PageState}
 use Rattle.vb_driver.specs.Areas.{flags_of, AreApart, AreFor, Becomes, is_free_at, is_covered}
-use Rattle.vb_driver.{specs.Places.{is_at, marked}, specs.Answers.{block_at, alloc_causes}}
-use Rattle.vb_driver.specs.State.{DriverState, page_state, naming, IsDriver}
-use Rattle.vb_driver.{specs.Areas.is_free_block, proofs.Naming.naming_same, proofs.Counting.at_is}
-use Rattle.vb_driver.proofs.Keeping.{kept_changed, there_by, free_marked}
-use Rattle.vb_driver.{proofs.Placing.marked-get, proofs.Moving.free_is_place}
+use Rattle.vb_driver.specs.{Areas.is_free_block, Places.{is_at, marked}, Answers.block_at}
+use Rattle.vb_driver.specs.{Answers.alloc_causes, State.{DriverState, page_state, naming, IsDriver}}
+use Rattle.vb_driver.proofs.{Naming.naming_same, Counting.at_is, Keeping.{kept_changed, there_by}}
+use Rattle.vb_driver.proofs.{Keeping.free_marked, Placing.marked-get, Moving.free_is_place}
 use Rattle.vb_driver.proofs.ReportTables.{block_inside}
 
 -- ---- free blocks
@@ -84,9 +82,8 @@ covered_held p b (x ∷ held) found covered =
 -- ---- a block is allocated
 
 -- each page of a free block is free
-block_free : (d : DriverState) (b : Block) (p : ℕ) → IsDriver d
-    → is_free_block (flags_of d.areas) b ≡ true → is_in p (pages_of b) ≡ true
-    → place_of d.places p ≡ Free
+block_free : (d : DriverState) (b : Block) (p : ℕ) → IsDriver d → is_free_block (flags_of d.areas) b
+    ≡ true → is_in p (pages_of b) ≡ true → place_of d.places p ≡ Free
 block_free d b p kept whole here = search (arith, at_is, free_is_place, list_all-at)
 
 pub free_block_inside : (d : DriverState) (b : Block) → IsDriver d
@@ -95,9 +92,8 @@ free_block_inside d b kept whole = block_inside (length d.places) b
     (λ p here. there_by d.places p is_free refl (ap is_free (block_free d b p kept whole here)))
 
 pub allocated_kept : (d : DriverState) (areas2 : FreePages) (b : Block) → IsDriver d
-    → is_free_block (flags_of d.areas) b ≡ true
-    → flags_of areas2 ≡ marked (pages_of b) false (flags_of d.areas) → AreFor d.areas areas2
-    → IsDriver (record d {
+    → is_free_block (flags_of d.areas) b ≡ true → flags_of areas2
+    ≡ marked (pages_of b) false (flags_of d.areas) → AreFor d.areas areas2 → IsDriver (record d {
       places = placed (pages_of b) Used d.places;
       held = with_block b d.held;
       areas = areas2;
@@ -129,18 +125,15 @@ allocated_kept d areas2 b kept whole taken same = let pages = pages_of b in
     agree place true = refl
     agree place false = refl
 
-    used_at : (p : ℕ) (v : Bool) → is_in p (pages_of b) ≡ v
-        → (covers p b || is_covered p d.held) ≡ true
-        → cond (is_in p (pages_of b)) Used (place_of d.places p) ≡ Used
+    used_at : (p : ℕ) (v : Bool) → is_in p (pages_of b) ≡ v → (covers p b || is_covered p d.held)
+        ≡ true → cond (is_in p (pages_of b)) Used (place_of d.places p) ≡ Used
     used_at p true e covered = ap (λ (v : Bool). cond v Used (place_of d.places p)) e
-    used_at p false e covered = ap (λ (v : Bool). cond v Used (place_of d.places p)) e
-        ∙ kept.used p (ap (λ (v : Bool). v || is_covered p d.held) (sym (covers_is p b false e))
-        ∙ covered)
+    used_at p false e covered = ap (λ (v : Bool). cond v Used (place_of d.places p)) e ∙ kept.used p
+        (ap (λ (v : Bool). v || is_covered p d.held) (sym (covers_is p b false e)) ∙ covered)
 
 -- a block is refused, though lists may be drained
-pub unallocated_kept : (d : DriverState) (new : PageState) → IsDriver d
-    → Becomes (page_state d) new (flags_of d.areas) d.held
-    → IsDriver (record d { held = new.held; areas = new.free })
+pub unallocated_kept : (d : DriverState) (new : PageState) → IsDriver d → Becomes (page_state d) new
+    (flags_of d.areas) d.held → IsDriver (record d { held = new.held; areas = new.free })
 unallocated_kept d new kept becomes = search (arith)
 
 -- ---- a block is freed
@@ -166,9 +159,8 @@ freed_was_held held b processors cpu e = grind arith
 
 pub block_freed_kept : (d : DriverState) (new : PageState) (b : Block) → IsDriver d
     → list_any (λ h. is_same_block h b) d.held ≡ true
-    → flags_of new.free ≡ marked (pages_of b) true (flags_of d.areas)
-    → new.held ≡ without_block b d.held → AreFor d.areas new.free → AreApart new
-    → IsDriver (record d {
+    → flags_of new.free ≡ marked (pages_of b) true (flags_of d.areas) → new.held
+    ≡ without_block b d.held → AreFor d.areas new.free → AreApart new → IsDriver (record d {
       places = placed (pages_of b) Free d.places;
       held = without_block b d.held;
       areas = new.free;
@@ -200,20 +192,17 @@ block_freed_kept d new b kept held given rest same apart = let pages = pages_of 
     agree place true = refl
     agree place false = refl
 
-    used_at : (p : ℕ) (v : Bool) → is_in p (pages_of b) ≡ v
-        → is_covered p (without_block b d.held) ≡ true
-        → (is_in p (pages_of b) ≡ true → place_of d.places p ≡ Used)
+    used_at : (p : ℕ) (v : Bool) → is_in p (pages_of b) ≡ v → is_covered p (without_block b d.held)
+        ≡ true → (is_in p (pages_of b) ≡ true → place_of d.places p ≡ Used)
         → cond (is_in p (pages_of b)) Free (place_of d.places p) ≡ Used
-    used_at p true e covered used =
-        let inside : p < length (flags_of d.areas) = omega (
-          arith,
-          ap length kept.free,
-          length-map d.places is_free,
-          there_by d.places p is_used refl (ap is_used (used e)),
-        ) in
-        let free : is_free_at (flags_of new.free) p ≡ true =
-        ap (λ (l : List Bool). is_free_at l p) given
-        ∙ (marked-get (pages_of b) true (flags_of d.areas) p false inside
+    used_at p true e covered used = let inside : p < length (flags_of d.areas) = omega (
+      arith,
+      ap length kept.free,
+      length-map d.places is_free,
+      there_by d.places p is_used refl (ap is_used (used e)),
+    ) in
+        let free : is_free_at (flags_of new.free) p ≡ true = ap (λ (l : List Bool). is_free_at l p)
+        given ∙ (marked-get (pages_of b) true (flags_of d.areas) p false inside
         ∙ ap (λ (v : Bool). cond v true (is_free_at (flags_of d.areas) p)) e) in
         let unfree : is_free_at (flags_of new.free) p ≡ false =
         apart.apart p (ap (is_covered p) rest ∙ covered) in

@@ -1,11 +1,10 @@
 -- Tables of places, as pages move one by one.
 use Rattle.std.proofs.Common.{◌≡◌, ◌∙◌, sym, ap, arith, refl, ℕ, zero, suc, ◌+◌, ◌-◌, ◌<◌, ◌≤◌}
 use Rattle.std.proofs.Common.{Bool, true, false, cond, eqb, ◌||◌, List, [], ◌∷◌, ◌++◌, length, take}
-use Rattle.std.proofs.lemmas.List.{same_lists, get_or-set_same, get_or-set_other, length-set}
 use Rattle.std.proofs.Common.{get_or, set, map, eq-eqb, count_by, if◌then◌else◌}
-use Rattle.std.proofs.lemmas.List.{get_or-map, length-map, take_more, length-take}
-use Rattle.std.{proofs.lemmas.List.Folds.{list_any-append, list_any_at}, proofs.lemmas.Bool.ne_eqb}
-use Rattle.std.specs.List.{range_with_len}
+use Rattle.std.proofs.lemmas.{Bool.ne_eqb, List.{same_lists, get_or-set_same, get_or-set_other}}
+use Rattle.std.proofs.lemmas.List.{length-set, get_or-map, length-map, take_more, length-take}
+use Rattle.std.{proofs.lemmas.List.Folds.{list_any-append, list_any_at}, specs.List.range_with_len}
 use Rattle.vb_model.{specs.declared.places.Place.Place, specs.Pages.placed}
 use Rattle.vb_model.specs.Tests.{is_in, one_if, pages_from, pages_where}
 use Rattle.vb_model.proofs.Tables.{count_by-cons, length-each_from, each_page-get}
@@ -38,17 +37,16 @@ or_true false = refl
 -- one page more
 pub marked_more : {A : Type 0} (xs : List ℕ) (x : ℕ) (value : A) (table : List A) → x < length table
     → marked (xs ++ x ∷ []) value table ≡ set (marked xs value table) x value
-marked_more xs x value table lt =
-    grind (
-      arith,
-      length-marked,
-      same_lists,
-      length-set,
-      marked-get,
-      is_in-push,
-      get_or-set_same,
-      get_or-set_other,
-    )
+marked_more xs x value table lt = grind (
+  arith,
+  length-marked,
+  same_lists,
+  length-set,
+  marked-get,
+  is_in-push,
+  get_or-set_same,
+  get_or-set_other,
+)
 
 pub marked_none : {A : Type 0} (value : A) (table : List A) → marked [] value table ≡ table
 marked_none value table = grind (arith, same_lists, length-marked, marked-get)
@@ -77,9 +75,8 @@ pub placed_next : (start page : ℕ) (place : Place) (ps : List Place) → start
 placed_next start page place ps from lt = let k = page - start in
     let here : start + k ≡ page = omega arith in
     let next : suc k ≡ page + 1 - start = omega arith in
-    sym (marked_more (range_with_len start k) page place ps lt)
-    ∙ ap (λ (l : List ℕ). placed l place ps)
-    (ap (λ (n : ℕ). range_with_len start k ++ n ∷ []) (sym here)
+    sym (marked_more (range_with_len start k) page place ps lt) ∙ ap
+    (λ (l : List ℕ). placed l place ps) (ap (λ (n : ℕ). range_with_len start k ++ n ∷ []) (sym here)
     ∙ (sym (range_push start k) ∙ ap (λ (n : ℕ). range_with_len start n) next))
 
 -- a run of pages, and then the pages behind it
@@ -159,14 +156,12 @@ is_in-at xs i lt = list_any_at (λ m. eqb m (get_or xs i 0)) xs i 0 lt
 -- a page isn't among those below it
 pub not_in_first : {A : Type 0} (test : A → Bool) (xs : List A) (n : ℕ)
     → is_in n (pages_where test (take n xs)) ≡ false
-not_in_first test xs n = below 0 (take n xs) (omega (arith, length-take n xs))
-  where
-    below : (k : ℕ) (ys : List _) → k + length ys ≤ n → is_in n (pages_from k test ys) ≡ false
-    below k [] le = refl
-    below k (y ∷ ys) le = at (test y) (below (suc k) ys (omega arith))
-      where
-        at : (b : Bool) → is_in n (pages_from (suc k) test ys) ≡ false
-            → is_in n (cond b (k ∷ pages_from (suc k) test ys) (pages_from (suc k) test ys)) ≡ false
-        at true ih = ap (λ (v : Bool). v || is_in n (pages_from (suc k) test ys))
-            (ne_eqb k n (λ e. omega arith)) ∙ ih
-        at false ih = ih
+not_in_first test xs n = below 0 (take n xs) (omega (arith, length-take n xs)) where
+  below : (k : ℕ) (ys : List _) → k + length ys ≤ n → is_in n (pages_from k test ys) ≡ false
+  below k [] le = refl
+  below k (y ∷ ys) le = at (test y) (below (suc k) ys (omega arith)) where
+    at : (b : Bool) → is_in n (pages_from (suc k) test ys) ≡ false
+        → is_in n (cond b (k ∷ pages_from (suc k) test ys) (pages_from (suc k) test ys)) ≡ false
+    at true ih = ap (λ (v : Bool). v || is_in n (pages_from (suc k) test ys))
+        (ne_eqb k n (λ e. omega arith)) ∙ ih
+    at false ih = ih

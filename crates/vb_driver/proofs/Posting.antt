@@ -16,18 +16,15 @@ use Rattle.vb_driver.{specs.Calls.{Posts, Announces, written_of}, proofs.Placing
 
 -- a chain of one readable piece that was published after a write to other pages
 pub record OnePiece (m1 m2 m3 : Pages) (r r2 : DriverEnd) (h a l : ℕ) : Type 0 where
-  pub put : descriptor_at m3 r.layout.table h
-      ≡ record { addr = a; len = l; flags = 0; next = 0 }
+  pub put : descriptor_at m3 r.layout.table h ≡ record { addr = a; len = l; flags = 0; next = 0 }
   pub descriptors : (i : ℕ) → i < r.size → i ≢ h
       → descriptor_at m3 r.layout.table i ≡ descriptor_at m1 r.layout.table i
-  pub others : (p : ℕ) → p ≢ r.layout.table → p ≢ r.layout.avail.page
-      → page_at m3 p ≡ page_at m2 p
+  pub others : (p : ℕ) → p ≢ r.layout.table → p ≢ r.layout.avail.page → page_at m3 p ≡ page_at m2 p
   pub announces : Announces m1 m3 r r2 h
 
 pub one_piece : (m1 m2 m3 : Pages) (r r2 : DriverEnd) (h a l : ℕ) → IsDriverEnd r
-    → next_head r ≡ Some h → KeepsRing m1 m2 r.layout
-    → AddsBy m2 m3 r r2 (record { addr = a; len = l; writable = false } ∷ []) (Ok h)
-    → OnePiece m1 m2 m3 r r2 h a l
+    → next_head r ≡ Some h → KeepsRing m1 m2 r.layout → AddsBy m2 m3 r r2
+    (record { addr = a; len = l; writable = false } ∷ []) (Ok h) → OnePiece m1 m2 m3 r r2 h a l
 one_piece m1 m2 m3 r r2 h a l end next keeps adds = let T = r.layout.table in
     let path : next_path r 1 ≡ h ∷ [] = next_path_is r h next in record {
       put = subst (λ (p : List ℕ). descriptor_at m3 T (slice_index p 0)
@@ -68,9 +65,8 @@ pub record Sending (m1 m2 m3 : Pages) (r r2 : DriverEnd) (sent : List (List ℕ)
 
 pub posts_at : (m1 m2 m3 : Pages) (r r2 : DriverEnd) (sent : List (List ℕ)) (base h a l : ℕ)
     (pages : List ℕ) → Sending m1 m2 m3 r r2 sent base h a l pages
-    → AddsBy m2 m3 r r2 (record { addr = a; len = l; writable = false } ∷ []) (Ok h)
-    → Posts m1 m3 (record { ring = r; sent = sent }) (record { ring = r2; sent = set sent h pages })
-    base pages h
+    → AddsBy m2 m3 r r2 (record { addr = a; len = l; writable = false } ∷ []) (Ok h) → Posts m1 m3
+    (record { ring = r; sent = sent }) (record { ring = r2; sent = set sent h pages }) base pages h
 posts_at m1 m2 m3 r r2 sent base h a l pages s adds =
     let low = head_low r h s.requests.single s.next in
     let small : h < 16 = omega (arith, low.1, s.room) in
@@ -115,9 +111,8 @@ added_head m2 m3 r r2 h g pieces one e adds = grind arith
 
 pub posts_by : (m1 m2 m3 : Pages) (r r2 : DriverEnd) (sent : List (List ℕ)) (base h g a l : ℕ)
     (pages : List ℕ) → Sending m1 m2 m3 r r2 sent base h a l pages
-    → AddsBy m2 m3 r r2 (record { addr = a; len = l; writable = false } ∷ []) (Ok g)
-    → Posts m1 m3 (record { ring = r; sent = sent }) (record { ring = r2; sent = set sent g pages })
-    base pages g
+    → AddsBy m2 m3 r r2 (record { addr = a; len = l; writable = false } ∷ []) (Ok g) → Posts m1 m3
+    (record { ring = r; sent = sent }) (record { ring = r2; sent = set sent g pages }) base pages g
 posts_by m1 m2 m3 r r2 sent base h g a l pages s adds =
     let pieces : List Piece = record { addr = a; len = l; writable = false } ∷ [] in
     let same : h ≡ g = added_head m2 m3 r r2 h g pieces refl s.next adds in

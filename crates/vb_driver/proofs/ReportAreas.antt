@@ -95,10 +95,9 @@ have_room s blocks apart good unreserved inside taken uncovered once = record {
       get_or-map block_of blocks k d (block_of d) lt in
       let fine : IsAreaBlock b = subst IsAreaBlock is
       (good k (block_of d) (omega (arith, length-map blocks block_of))) in
-      let here : (p : ℕ) → b.start ≤ p → p < b.start + 2 ^ b.order
-      → is_in p (pages_of_all (blocks_of blocks)) ≡ true = λ p l u.
-      in_all (blocks_of blocks) k (block_of d) p (omega (arith, length-map blocks block_of)) (rw is
-      (in_block b.start b.order p l u)) in
+      let here : (p : ℕ) → b.start ≤ p → p < b.start + 2 ^ b.order → is_in p
+      (pages_of_all (blocks_of blocks)) ≡ true = λ p l u. in_all (blocks_of blocks) k (block_of d) p
+      (omega (arith, length-map blocks block_of)) (rw is (in_block b.start b.order p l u)) in
       let some = pow_pos b.order in (
         (fine.order, fine.aligned),
         unreserved b.start (here b.start (omega arith) (omega arith)),

@@ -1,10 +1,9 @@
 -- The driver as a report goes out, and as it comes back.
 use Rattle.std.proofs.Common.{◌≡◌, ◌∙◌, ap, arith, refl, ℕ, ◌≤◌, Bool, true, false, cond, List, []}
+use Rattle.vb_model.{proofs.Distinct.distinct_list, specs.Driver.AllDistinct, specs.Orderly.times}
 use Rattle.vb_model.specs.Pages.{Block, pages_of_all, place_of, placed, is_free, is_used, is_giving}
-use Rattle.vb_model.{specs.Tests.{is_in, one_if}, specs.Orderly.times, specs.Driver.AllDistinct}
-use Rattle.vb_model.{specs.Pages.{is_taking, is_reporting}, specs.declared.places.Place.Place}
-use Rattle.vb_model.specs.declared.places.Place.TheVariants.{Reserved, Free, Reporting}
-use Rattle.vb_model.proofs.Distinct.{distinct_list}
+use Rattle.vb_model.specs.{Pages.{is_taking, is_reporting}, Tests.{is_in, one_if}}
+use Rattle.vb_model.specs.declared.places.Place.{Place, TheVariants.{Reserved, Free, Reporting}}
 use Rattle.vb_pages.{specs.FreePages.FreePages, proofs.ListsLemmas.{times_in, times_out}}
 use Rattle.vb_driver.{specs.Places.{is_at, marked}, specs.Areas.{AreFor, flags_of, is_free_at}}
 use Rattle.vb_driver.specs.State.{ReportSide, DriverState, IsReportQueue, IsDriver, naming}
@@ -73,12 +72,11 @@ reported_place d p kept here = grind (arith, times_in)
 
 pub reported_once : (d : DriverState) (p : ℕ) → IsDriver d
     → times p (pages_of_all d.report.blocks) ≤ 1
-reported_once d p kept = at (is_reporting (place_of d.places p)) (kept.reporting p)
-  where
-    at : (b : Bool) → times p (pages_of_all d.report.blocks) ≤ one_if b
-        → times p (pages_of_all d.report.blocks) ≤ 1
-    at true le = le
-    at false le = omega arith
+reported_once d p kept = at (is_reporting (place_of d.places p)) (kept.reporting p) where
+  at : (b : Bool) → times p (pages_of_all d.report.blocks) ≤ one_if b
+      → times p (pages_of_all d.report.blocks) ≤ 1
+  at true le = le
+  at false le = omega arith
 
 pub returned_kept : (d : DriverState) (areas2 : FreePages) (r2 : ReportSide) → IsDriver d
     → flags_of areas2 ≡ marked (pages_of_all d.report.blocks) true (flags_of d.areas)

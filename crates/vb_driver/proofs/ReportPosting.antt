@@ -4,8 +4,7 @@ use Rattle.std.{proofs.Common.{slice_index, Result, Ok, Err}, specs.List.range_w
 use Rattle.std.{proofs.lemmas.List.length-map, proofs.lemmas.List.FromFn.get_or-range_with_len}
 use Rattle.vb_model.{specs.Tests.is_in, specs.Pages.Block}
 use Rattle.vb_ram.specs.Pages.{Pages}
-use Rattle.vb_chain.{specs.Table.descriptor_at, specs.declared.pieces.Piece.Piece}
-use Rattle.vb_chain.specs.Written.{linked}
+use Rattle.vb_chain.specs.{Table.descriptor_at, declared.pieces.Piece.Piece, Written.linked}
 use Rattle.vb_ring.{specs.declared.driver.Full.Full, specs.Calls.AddsBy}
 use Rattle.vb_ring.specs.Ends.{DriverEnd, outstanding, next_path, add_answer, after_add}
 use Rattle.vb_pages.specs.declared.block.FreeBlock.{FreeBlock}

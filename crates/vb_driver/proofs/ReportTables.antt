@@ -101,24 +101,23 @@ block_inside_all blocks i d n lt there = let b = block_of (slice_index_or blocks
 -- where no chain is out, there is no report
 pub none_out : (side : ReportSide) (size : ℕ) → IsReportQueue side size → IsDriverEnd side.ring
     → outstanding side.ring ≡ 0 → side.blocks ≡ []
-none_out side size queue end none = at side.blocks refl
-  where
-    at : (blocks : List Block) → side.blocks ≡ blocks → side.blocks ≡ []
-    at [] e = e
-    at (b ∷ blocks) e =
-        let first : slice_index_or side.ring.owner 0 None ≡ Some 0 = queue.owned 0 ∙ ap head_if
-        (lt-ltb 0 (length side.blocks) (omega (arith, ap length e))) in
-        let head : is_head side.ring.owner 0 ≡ true = ap (is_own 0) first in
-        let inside : 0 < length side.ring.owner = elim (cases_lt 0 (length side.ring.owner)) [
-          | inl l ↦ l
-          | inr past ↦ (let wrong : true ≡ false = ap is_none
-              (sym (get_or_past side.ring.owner 0 None past) ∙ first) in
-              absurd (both_ways false refl (sym wrong)))
-        ] in
-        let some : 1 ≤ outstanding side.ring =
-        length_all (is_head side.ring.owner) side.ring.size 1 (omega (arith, end.table))
-        (λ i lt. subst (λ (n : ℕ). is_head side.ring.owner n ≡ true) (omega arith) head) in
-        absurd (omega arith)
+none_out side size queue end none = at side.blocks refl where
+  at : (blocks : List Block) → side.blocks ≡ blocks → side.blocks ≡ []
+  at [] e = e
+  at (b ∷ blocks) e =
+      let first : slice_index_or side.ring.owner 0 None ≡ Some 0 = queue.owned 0 ∙ ap head_if
+      (lt-ltb 0 (length side.blocks) (omega (arith, ap length e))) in
+      let head : is_head side.ring.owner 0 ≡ true = ap (is_own 0) first in
+      let inside : 0 < length side.ring.owner = elim (cases_lt 0 (length side.ring.owner)) [
+        | inl l ↦ l
+        | inr past ↦ (let wrong : true ≡ false = ap is_none
+            (sym (get_or_past side.ring.owner 0 None past) ∙ first) in
+            absurd (both_ways false refl (sym wrong)))
+      ] in
+      let some : 1 ≤ outstanding side.ring =
+      length_all (is_head side.ring.owner) side.ring.size 1 (omega (arith, end.table))
+      (λ i lt. subst (λ (n : ℕ). is_head side.ring.owner n ≡ true) (omega arith) head) in
+      absurd (omega arith)
 
 -- and then no descriptor is in use
 pub unowned : (side : ReportSide) (size : ℕ) → IsReportQueue side size → side.blocks ≡ [] → (i : ℕ)
@@ -147,17 +146,16 @@ module _ (r : DriverEnd) (none : (i : ℕ) → slice_index_or r.owner i None ≡
 
   -- there is room, and the head is 0
   pub first_head : (n : ℕ) → 0 < n → n ≤ r.size → add_answer r n ≡ Ok 0
-  first_head n some room =
-      grind (
-        arith,
-        nat_lt,
-        le-ltb,
-        all_free,
-        length-range_with_len,
-        slice_index,
-        first_path,
-        get_or-range_with_len,
-      )
+  first_head n some room = grind (
+    arith,
+    nat_lt,
+    le-ltb,
+    all_free,
+    length-range_with_len,
+    slice_index,
+    first_path,
+    get_or-range_with_len,
+  )
 
 in_first : (i n : ℕ) → is_in i (range_with_len 0 n) ≡ nat_lt i n
 in_first i n = grind (arith, nat_lt, lt-ltb, is_in-range, cases_lt, outside-range, le-ltb)
@@ -169,21 +167,19 @@ not_first i n past = in_first i n ∙ le-ltb i n past
 
 pub posted_report_queue : (side : ReportSide) (size : ℕ) (r2 : DriverEnd) (blocks : List Block)
     → IsReportQueue side size → IsDriverEnd side.ring → side.blocks ≡ [] → length blocks ≤ 16
-    → length blocks ≤ side.ring.size → All IsAreaBlock blocks
-    → r2 ≡ after_add side.ring (length blocks) (Ok 0)
-    → IsReportQueue (record { ring = r2; blocks = blocks }) size
-posted_report_queue side size r2 blocks queue end nothing few room good state =
-    grind (
-      arith,
-      slice_index_or,
-      unowned,
-      nat_lt,
-      first_path,
-      claimed-at,
-      length-range_with_len,
-      get_or-range_with_len,
-      in_first,
-    )
+    → length blocks ≤ side.ring.size → All IsAreaBlock blocks → r2 ≡ after_add side.ring
+    (length blocks) (Ok 0) → IsReportQueue (record { ring = r2; blocks = blocks }) size
+posted_report_queue side size r2 blocks queue end nothing few room good state = grind (
+  arith,
+  slice_index_or,
+  unowned,
+  nat_lt,
+  first_path,
+  claimed-at,
+  length-range_with_len,
+  get_or-range_with_len,
+  in_first,
+)
 
 pub taken_report_queue : (side : ReportSide) (size h : ℕ) (r2 : DriverEnd) → IsReportQueue side size
     → h ≡ 0 → r2 ≡ after_take side.ring (Ok (Some h))

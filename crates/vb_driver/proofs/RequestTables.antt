@@ -2,9 +2,8 @@
 use Rattle.std.proofs.Common.{◌≡◌, ◌≢◌, sym, ap, subst, arith, refl, ℕ, ◌<◌, ◌≤◌, true, false, List}
 use Rattle.std.proofs.Common.{[], ◌∷◌, length, take, slice_get, slice_index, slice_index_or, inl}
 use Rattle.std.proofs.Common.{inr, ◌⊎◌, Option, Some, None, Ok, nat_lt, set, min}
-use Rattle.std.{proofs.lemmas.Bool.cases_lt, proofs.lemmas.Bool.Decides.nat_tests}
-use Rattle.std.proofs.lemmas.List.{length-set, get_or-set_other, get_or_past}
-use Rattle.std.proofs.lemmas.Grind.{get_or-set_at}
+use Rattle.std.proofs.lemmas.{Bool.cases_lt, Bool.Decides.nat_tests, List.length-set}
+use Rattle.std.proofs.lemmas.{List.{get_or-set_other, get_or_past}, Grind.get_or-set_at}
 use Rattle.vb_ring.specs.Ends.{DriverEnd, IsDriverEnd, is_unused, free_descriptors, outstanding}
 use Rattle.vb_ring.{specs.Layout.layout_of, specs.Entries.is_head}
 use Rattle.vb_ring.proofs.Numbers.{numbers_pass, numbers_rise, numbers_has, length_all}
@@ -76,9 +75,8 @@ head_low r h single e = let f = first_is (free_descriptors r) h e in
                 let first : slice_index (free_descriptors r) 0 ≡ h = f.1 in absurd (omega arith)
             | inr first ↦
                 let zero_is : found.0 ≡ 0 = omega (arith, first) in
-                let same : slice_index (free_descriptors r) found.0
-                ≡ slice_index (free_descriptors r) 0 =
-                ap (slice_index (free_descriptors r)) zero_is in
+                let same : slice_index (free_descriptors r) found.0 ≡ slice_index
+                (free_descriptors r) 0 = ap (slice_index (free_descriptors r)) zero_is in
                 let is : slice_index (free_descriptors r) 0 ≡ h = f.1 in absurd (omega arith)
           ]
       | inr head ↦ head
@@ -108,10 +106,9 @@ set_short sent h i pages few short = grind (arith, get_or-set_at, get_or_past, l
 set_none : (sent : List (List ℕ)) (h i : ℕ) → i ≡ h → slice_index_or (set sent h []) i [] ≡ []
 set_none sent h i same = grind (arith, get_or-set_at, get_or_past, length-set)
 
-pub requests_added : (r : DriverEnd) (sent : List (List ℕ)) (h : ℕ) (pages : List ℕ)
-    → AreRequests (record { ring = r; sent = sent }) → IsDriverEnd r → next_head r ≡ Some h → h < 16
-    → length pages ≤ 256
-    → AreRequests (record { ring = after_add r 1 (Ok h); sent = set sent h pages })
+pub requests_added : (r : DriverEnd) (sent : List (List ℕ)) (h : ℕ) (pages : List ℕ) → AreRequests
+    (record { ring = r; sent = sent }) → IsDriverEnd r → next_head r ≡ Some h → h < 16 → length
+    pages ≤ 256 → AreRequests (record { ring = after_add r 1 (Ok h); sent = set sent h pages })
 requests_added r sent h pages all end e small few_pages =
     search (arith, head_low, claimed_same, claimed_other, length-set, set_at, set_short)
 

@@ -1,9 +1,7 @@
 -- A driver that begins a new life is as a new one.
-use Rattle.std.proofs.Common.{◌≡◌, ◌∙◌, sym, ap, ℕ, List, length, map}
-use Rattle.std.proofs.lemmas.List.{length-map}
-use Rattle.vb_model.{specs.declared.places.Place.Place, specs.Life.place_after_reset}
-use Rattle.vb_model.{specs.Pages.{all_free, is_free, is_reporting}, specs.Tests.pages_where}
-use Rattle.vb_model.specs.Layout.{reserved_pages}
+use Rattle.std.proofs.{Common.{◌≡◌, ◌∙◌, sym, ap, ℕ, List, length, map}, lemmas.List.length-map}
+use Rattle.vb_model.specs.{declared.places.Place.Place, Life.place_after_reset, Pages.all_free}
+use Rattle.vb_model.specs.{Pages.{is_free, is_reporting}, Tests.pages_where, Layout.reserved_pages}
 use Rattle.vb_pages.specs.PageState.{PageState, page_count, cpu_count, reserved_count}
 use Rattle.vb_pages.specs.PageState.{new_page_state}
 use Rattle.vb_driver.specs.State.{DriverState, IsDriver, page_state, fresh_driver, fresh_side}
@@ -24,9 +22,8 @@ after_reset d = record d {
 
 -- all pages are free after a reset
 pub restarted : (d v : DriverState) (at : List Place) (reserved : ℕ) (s : PageState) → IsDriver v
-    → v ≡ after_reset d → reserved ≡ reserved_pages v.queue_size
-    → at ≡ all_free reserved (length v.places)
-    → s ≡ new_page_state (page_count (page_state v)) (cpu_count (page_state v))
+    → v ≡ after_reset d → reserved ≡ reserved_pages v.queue_size → at ≡ all_free reserved
+    (length v.places) → s ≡ new_page_state (page_count (page_state v)) (cpu_count (page_state v))
     (reserved_count (page_state v)) → record v { places = at; held = s.held; areas = s.free }
     ≡ fresh_driver d.pages d.queue_size d.processors
 restarted d v at reserved s kept is few free areas =

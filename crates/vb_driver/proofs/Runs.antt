@@ -4,10 +4,9 @@ use Rattle.std.proofs.Common.{true, false, List, length, get_or, set, map, count
 use Rattle.std.proofs.lemmas.List.{get_or_default, length-map, length-set, same_lists}
 use Rattle.std.proofs.lemmas.List.FromFn.{get_or-map-range_with_len, length-range_with_len}
 use Rattle.std.{proofs.Math.Seq.map-set_same, specs.List.range_with_len}
-use Rattle.vb_model.{specs.declared.places.Place.Place, specs.Tests.is_in}
-use Rattle.vb_model.specs.declared.places.Place.TheVariants.{Reserved, Free}
-use Rattle.vb_model.specs.Pages.{all_free, placed, place_of, is_lent, is_stranded}
-use Rattle.vb_model.proofs.PageSteps.{is_in-range, outside-range}
+use Rattle.vb_model.{proofs.PageSteps.{is_in-range, outside-range}, specs.Pages.{all_free, placed}}
+use Rattle.vb_model.specs.{Pages.{place_of, is_lent, is_stranded}, Tests.is_in}
+use Rattle.vb_model.specs.declared.places.Place.{Place, TheVariants.{Reserved, Free}}
 use Rattle.vb_driver.proofs.Placing.{length-marked, marked-get, marked_none, marked_more}
 use Rattle.vb_driver.{specs.Places.{number_of, is_at, IsTable}, proofs.Placing.range_push}
 use Rattle.vb_driver.proofs.Counting.{hits, count_moves, counts_shifted, number_small}
@@ -133,15 +132,14 @@ run_table counts lent stranded places start n o k new old table are was is unlen
 pub first_table : (places : List Place) (count reserved : ℕ) → reserved ≡ min count (length places)
     → placed (range_with_len reserved (length places - reserved)) Free
     (placed (range_with_len 0 reserved) Reserved places) ≡ all_free count (length places)
-first_table places count reserved is =
-    grind (
-      arith,
-      length-marked,
-      same_lists,
-      length-map,
-      length-range_with_len,
-      marked-get,
-      get_or-map-range_with_len,
-      not_in_range,
-      in_range,
-    )
+first_table places count reserved is = grind (
+  arith,
+  length-marked,
+  same_lists,
+  length-map,
+  length-range_with_len,
+  marked-get,
+  get_or-map-range_with_len,
+  not_in_range,
+  in_range,
+)

@@ -21,8 +21,7 @@ all_out free none n l =
 
 pub least_free : (free : List Bool) (n : ℕ) → IsLeastFrom free 0 n
     → IsFree (map not free) n × ((m : ℕ) → m < n → is_out (map not free) m ≡ true)
-least_free free n s =
-    let within = free_within free n s.member in search (arith, length-map, out_is)
+least_free free n s = let within = free_within free n s.member in search (arith, length-map, out_is)
 
 pub none_out : (n : ℕ) → map not (replicate n true) ≡ replicate n false
 none_out zero = refl

@@ -1,19 +1,16 @@
 -- A guest's allocation is a step of the definitions.
 use Rattle.std.{specs.Prelude.{ℕ, [], Result, Ok, Err, refl}, proofs.Common.{sym, subst, inl, inr}}
-use Rattle.vb_model.{specs.declared.calls.Call.TheVariants.Alloc, specs.Pages.{pages_of, placed}}
-use Rattle.vb_model.{specs.declared.places.Place.TheVariants.Used, specs.Guest.Guest}
-use Rattle.vb_model.{specs.declared.replies.Refusal.Refusal, specs.Driver.with_block}
-use Rattle.vb_model.specs.declared.replies.Reply.TheVariants.{Page, Refused}
+use Rattle.vb_model.specs.{Driver.with_block, Guest.Guest, Pages.{pages_of, placed}}
+use Rattle.vb_model.specs.declared.{calls.Call.TheVariants.Alloc, places.Place.TheVariants.Used}
+use Rattle.vb_model.specs.declared.replies.{Refusal.Refusal, Reply.TheVariants.{Page, Refused}}
 use Rattle.vb_ram.{specs.Pages.Pages, specs.Part.Part}
-use Rattle.vb_driver.{specs.State.{FreePages, DriverState}, specs.Answers.block_at}
-use Rattle.vb_driver.specs.Calls.{AllocatesBy}
+use Rattle.vb_driver.specs.{State.{FreePages, DriverState}, Answers.block_at, Calls.AllocatesBy}
 use Rattle.vb_guest.{specs.Stands.{Honest, Ties}, specs.Steps.StepsAlone, specs.Replies.page_reply}
 use Rattle.vb_guest.proofs.Closing.{honest_performed, honest_refused, steps_alone, ties_areas}
 use Rattle.vb_guest.proofs.DriverWords.{Sides, sides_of, driver_of, driver_is}
 
 by_result : (m : Pages) (p : Part) (g : Guest) (areas : FreePages) (sides : Sides)
-    (d2 : DriverState)
-    (cpu order : ℕ) (result : Result ℕ Refusal)
+    (d2 : DriverState) (cpu order : ℕ) (result : Result ℕ Refusal)
     → AllocatesBy (driver_of g areas sides) d2 cpu order result
     → Honest m p (driver_of g areas sides) g
     → StepsAlone (Honest m p d2) g (Alloc cpu order) (page_reply result)
@@ -36,20 +33,15 @@ by_result m p g areas sides d2 cpu order (Ok start) did stands =
     let there : Ties m p after new = record {
       parts = assumption;
       pages = ties.pages;
-      queues = elim ties.queues [
-        | inl idle ↦ inl assumption
-        | inr run ↦ inr assumption
-      ];
+      queues = elim ties.queues [ inl idle ↦ inl assumption | inr run ↦ inr assumption ];
     } in
     steps_alone m m p p (driver_of g areas sides) d2 g (Alloc cpu order) (Page start) new stands
     step (subst (λ d. Ties m p d new) (sym did.state) there) refl
 
 pub alloc_step : (m : Pages) (p : Part) (d1 d2 : DriverState) (g : Guest) (cpu order : ℕ)
-    (result : Result ℕ Refusal)
-    → AllocatesBy d1 d2 cpu order result → Honest m p d1 g
+    (result : Result ℕ Refusal) → AllocatesBy d1 d2 cpu order result → Honest m p d1 g
     → StepsAlone (Honest m p d2) g (Alloc cpu order) (page_reply result)
 alloc_step m p d1 d2 g cpu order result did stands =
     let is = driver_is p d1 g stands.ties.parts in
     by_result m p g d1.areas (sides_of d1) d2 cpu order result
-    (subst (λ d. AllocatesBy d d2 cpu order result) is did)
-    (subst (λ d. Honest m p d g) is stands)
+    (subst (λ d. AllocatesBy d d2 cpu order result) is did) (subst (λ d. Honest m p d g) is stands)

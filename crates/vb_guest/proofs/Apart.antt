@@ -33,9 +33,8 @@ coded_kept old new q n size sent r is descriptor page code = record {
 }
 
 -- the ring of a queue whose pages are as before
-pub requests_apart : (old new : Pages) (q : ℕ) (ring : DriverEnd) (part : QueuePart)
-    (rs : Requests) → SameRing old new ring.size q
-    → RingOf old q ring part rs → RingOf new q ring part rs
+pub requests_apart : (old new : Pages) (q : ℕ) (ring : DriverEnd) (part : QueuePart) (rs : Requests)
+    → SameRing old new ring.size q → RingOf old q ring part rs → RingOf new q ring part rs
 requests_apart old new q ring part rs same stands =
     grind (
       arith,
@@ -75,11 +74,10 @@ SameBut old new ring = (p : ℕ) → p ≢ ring → page_at new p ≡ page_at ol
 pub other_ring : (old new : Pages) (size k q other ring : ℕ) → k ≡ size
     → ring_number other ≢ ring_number q → InRing size q ring → SameBut old new ring
     → SameRing old new k other
-other_ring old new size k q other ring same ne at rest page there =
-    grind (
-      arith,
-      rings_apart size other q page ring ne (subst (λ (s : ℕ). InRing s other page) same there) at,
-    )
+other_ring old new size k q other ring same ne at rest page there = grind (
+  arith,
+  rings_apart size other q page ring ne (subst (λ (s : ℕ). InRing s other page) same there) at,
+)
 
 pub other_line : (old new : Pages) (size k q other ring : ℕ) → k ≡ size
     → ring_number other ≢ ring_number q → InRing size q ring → SameBut old new ring

@@ -20,8 +20,7 @@ use Rattle.vb_device.{specs.Conditions.{ask_refusal, taken_at}, specs.Calls.{Ask
 ask_refused : {T : Type 0} (m1 m2 : Pages) (p1 p2 : Part) (d : DriverState) (g : Guest)
     (why : Refusal) (result : Result T Refusal)
     → AsksBy m1 m2 p1 p2 result → Honest m1 p1 d g → ask_refusal p1 ≡ Some why
-    → refusal_of g Ask ≡ Some why
-    → StepsAlone (Honest m2 p2 d) g Ask (asked_reply result)
+    → refusal_of g Ask ≡ Some why → StepsAlone (Honest m2 p2 d) g Ask (asked_reply result)
 ask_refused m1 m2 p1 p2 d g why result did stands by_part by_model = grind arith
 
 asked_ok : {T : Type 0} (result : Result T Refusal) → IsOk result → asked_reply result ≡ Asked
@@ -30,10 +29,9 @@ asked_ok (Err why) ok = absurd cc
 
 -- the taken buffer is used
 ask_done : {T : Type 0} (m1 m2 : Pages) (p1 p2 : Part) (d : DriverState) (g : Guest)
-    (figures : Figures) (result : Result T Refusal)
-    → g.buffer ≡ BufferTaken figures → AsksBy m1 m2 p1 p2 result → Honest m1 p1 d g
-    → IsRunning m1 p1 d g → ask_refusal p1 ≡ None → refusal_of g Ask ≡ None
-    → StepsAlone (Honest m2 p2 d) g Ask (asked_reply result)
+    (figures : Figures) (result : Result T Refusal) → g.buffer ≡ BufferTaken figures
+    → AsksBy m1 m2 p1 p2 result → Honest m1 p1 d g → IsRunning m1 p1 d g → ask_refusal p1 ≡ None
+    → refusal_of g Ask ≡ None → StepsAlone (Honest m2 p2 d) g Ask (asked_reply result)
 ask_done m1 m2 p1 p2 d g figures result is did stands run free_part free =
     let ties = stands.ties in
     let n = g.config.pages in
@@ -49,9 +47,8 @@ ask_done m1 m2 p1 p2 d g figures result is did stands run free_part free =
     let used_page = d.statistics.layout.used.page in
     let at = (ring_parts 2 d.statistics line.stands.sized line.stands.layout).used in
     let same : SamePages (reserved_pages size) m1 m2 = used_same (reserved_pages size) m1 m2
-    (end_by d.statistics.layout d.statistics.size p1.statistics.next_avail
-    p1.statistics.next_used) _ 0 0
-    (ring_low size d.statistics.size 2 used_page run.statistics_size at) adds in
+    (end_by d.statistics.layout d.statistics.size p1.statistics.next_avail p1.statistics.next_used)
+    _ 0 0 (ring_low size d.statistics.size 2 used_page run.statistics_size at) adds in
     let still = others_run m1 m2 p1 d g 2 run
     (others_same m1 m2 d size 2 used_page (sizes_of m1 p1 d g run)
     (ring_as size d.statistics.size 2 used_page run.statistics_size at)
@@ -66,8 +63,7 @@ ask_done m1 m2 p1 p2 d g figures result is did stands run free_part free =
       pages = pages_same m1 m2 g.config.queue_size n _ _ same ties.pages;
       queues = inr (assumption (still.inflate refl, still.deflate refl, still.report refl));
     } in
-    subst (StepsAlone (Honest m2 p2 d) g Ask)
-    (sym (asked_ok result (did.answers free_part)))
+    subst (StepsAlone (Honest m2 p2 d) g Ask) (sym (asked_ok result (did.answers free_part)))
     (steps_alone m1 m2 p1 p2 d d g Ask Asked new stands step
     (ties_same m2 m2 after p2 d d new refl (did.part free_part) refl there) refl)
 
@@ -88,8 +84,7 @@ ask_step m1 m2 p1 p2 d g result did stands =
     (λ run. ask_same p1 g device.status
     (ap (λ (l : List Request). is_some (slice_get l 0)) run.statistics.remembers
     ∙ taken_is g.buffer))
-    (λ why. ask_refused m1 m2 p1 p2 d g why result did stands)
-    (λ run. by_buffer g.buffer refl run)
+    (λ why. ask_refused m1 m2 p1 p2 d g why result did stands) (λ run. by_buffer g.buffer refl run)
   where
     by_buffer : (b : StatisticsBuffer) → g.buffer ≡ b → IsRunning m1 p1 d g → ask_refusal p1 ≡ None
         → refusal_of g Ask ≡ None → StepsAlone (Honest m2 p2 d) g Ask (asked_reply result)

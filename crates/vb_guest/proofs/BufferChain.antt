@@ -22,8 +22,7 @@ pub buffer_chain : (mem : Pages) (table descriptors : ℕ) (figures : Figures) �
     → ChainGives (descriptor_at mem table) descriptors (4096 * length mem) 0 buffer_pieces
 buffer_chain mem table descriptors figures large some code =
     single_chain (descriptor_at mem table) descriptors (4096 * length mem) 0 statistics_buffer some
-    code.descriptor refl
-    (no_fault descriptors (4096 * length mem) false 0 statistics_buffer refl
+    code.descriptor refl (no_fault descriptors (4096 * length mem) false 0 statistics_buffer refl
     (omega (arith, large)) (λ e. cc) (λ e. cc))
 
 -- it is a buffer of statistics, and names no pages
@@ -65,8 +64,7 @@ statistic_is mem k tag value lt is =
     ap (λ (v : ℕ). stated v (statistic_at (buffer_bytes mem) k).value) (sym word ∙ is.tagged)
     ∙ ap (stated tag) (sym long ∙ is.valued)
 
-two_statistics : (mem : Pages)
-    → statistics_of (buffer_bytes mem)
+two_statistics : (mem : Pages) → statistics_of (buffer_bytes mem)
     ≡ statistic_at (buffer_bytes mem) 0 ∷ statistic_at (buffer_bytes mem) 1 ∷ []
 unfolding statistics_of
 two_statistics mem = grind arith
@@ -75,11 +73,10 @@ two_statistics mem = grind arith
 pub buffer_says : (mem : Pages) (table : ℕ) (figures : Figures) → AreFigures mem table figures
     → statistics_in mem buffer_pieces
     ≡ record { free = Some figures.free; total = Some figures.total }
-buffer_says mem table figures code =
-    grind (
-      arith,
-      statistic_is mem 0 4 figures.free (omega arith) code.free,
-      statistic_is mem 1 5 figures.total (omega arith) code.total,
-      bytes_are mem,
-      two_statistics mem,
-    )
+buffer_says mem table figures code = grind (
+  arith,
+  statistic_is mem 0 4 figures.free (omega arith) code.free,
+  statistic_is mem 1 5 figures.total (omega arith) code.total,
+  bytes_are mem,
+  two_statistics mem,
+)

@@ -45,8 +45,7 @@ buffer_apart old new ring part buffer same_ring same_buffer line = record {
 
 -- the device takes it
 pub buffer_taken : (mem : Pages) (ring : DriverEnd) (part : QueuePart) (figures : Figures)
-    → BufferLine mem ring part (BufferPosted figures)
-    → BufferLine mem ring (record part {
+    → BufferLine mem ring part (BufferPosted figures) → BufferLine mem ring (record part {
       next_avail = (part.next_avail + 1) % 65536;
       taken = part.taken ++ (record { head = 0; pages = []; visited = 0 } ∷ []);
     }) (BufferTaken figures)
@@ -55,19 +54,15 @@ buffer_taken mem ring part figures line =
 
 -- the device uses it
 pub buffer_used : (m1 m2 : Pages) (ring : DriverEnd) (part : QueuePart) (figures : Figures)
-    (after : DeviceEnd)
-    → BufferLine m1 ring part (BufferTaken figures)
-    → AddsUsedBy m1 m2 (record {
+    (after : DeviceEnd) → BufferLine m1 ring part (BufferTaken figures) → AddsUsedBy m1 m2 (record {
       layout = ring.layout;
       size = ring.size;
       ready = true;
       next_avail = part.next_avail;
       next_used = part.next_used;
-    }) after 0 0
-    → BufferLine m2 ring (record part {
-      next_used = (part.next_used + 1) % 65536;
-      taken = remove part.taken 0;
-    }) (BufferDone figures)
+    }) after 0 0 → BufferLine m2 ring
+    (record part { next_used = (part.next_used + 1) % 65536; taken = remove part.taken 0 })
+    (BufferDone figures)
 buffer_used m1 m2 ring part figures after line adds = record {
   stands = ring_used m1 m2 2 ring part.next_avail part.next_used [] (0 ∷ []) [] 0 0 after
       line.stands refl adds;
@@ -90,8 +85,7 @@ pub buffer_emptied : (mem : Pages) (ring : DriverEnd) (part : QueuePart) (figure
     → BufferLine mem ring part (BufferDone figures)
     → TakesUsedBy mem ring (emptied ring) (Ok (Some 0))
     → BufferLine mem (emptied ring) part NoBuffer
-buffer_emptied mem ring part figures line takes =
-    grind (
-      arith,
-      ring_reaped mem 2 ring (emptied ring) part.next_avail part.next_used [] [] 0 [] line.stands takes,
-    )
+buffer_emptied mem ring part figures line takes = grind (
+  arith,
+  ring_reaped mem 2 ring (emptied ring) part.next_avail part.next_used [] [] 0 [] line.stands takes,
+)

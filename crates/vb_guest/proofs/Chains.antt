@@ -26,8 +26,7 @@ coded_chain mem q size n sent r low large len is code =
 
 -- it is a request for the pages that it names
 pub coded_pages : (mem : Pages) (q size n : ℕ) (sent : List (List ℕ)) (r : Request) → length mem ≡ n
-    → IsRequest size n sent r
-    → IsCoded mem (ring_page size q) (buffers_page q) r.head r.pages
+    → IsRequest size n sent r → IsCoded mem (ring_page size q) (buffers_page q) r.head r.pages
     → page_request mem (piece_of (buffer_of (buffers_page q) r.head (length r.pages)) ∷ [])
     (reserved_pages size) ≡ Ok r.pages
 coded_pages mem q size n sent r len is code =
@@ -41,10 +40,8 @@ coded_pages mem q size n sent r len is code =
       numbers = code.names.each;
       some = is.pages.some;
       few = is.pages.few;
-    })
-    (record {
+    }) (record {
       above = is.pages.above;
       below = subst (λ k. All (λ page. page < k) r.pages) (sym len) is.pages.below;
-      distinct =
-          is.pages.distinct;
+      distinct = is.pages.distinct;
     })

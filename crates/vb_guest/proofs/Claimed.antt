@@ -16,5 +16,4 @@ claim_answered Answers s1 s2 result value e answer =
 pub noted_alone : (l1 l2 : List Claim) (result value : Result Page Refused) → result ≡ value
     → l1 ≡ [] → l2 ≡ l1 ++ (claim_in result ∷ []) → l2 ≡ claim_in value ∷ []
 noted_alone l1 l2 result value e none noted =
-    noted ∙ ap (λ (l : List Claim). l ++ (claim_in result ∷ [])) none
-    ∙ ap (λ r. claim_in r ∷ []) e
+    noted ∙ ap (λ (l : List Claim). l ++ (claim_in result ∷ [])) none ∙ ap (λ r. claim_in r ∷ []) e

@@ -26,8 +26,7 @@ pub bare_skips : (size : ℕ) (mem : Pages) (page : ℕ) → page < reserved_pag
 bare_skips size mem page lt passed = grind (arith, bare_first)
 
 pub bare_takes : (size : ℕ) (mem : Pages) (page : ℕ) → page < reserved_pages size
-    → is_bare size mem page ≡ true
-    → bare_from size mem page ≡ page ∷ bare_from size mem (page + 1)
+    → is_bare size mem page ≡ true → bare_from size mem page ≡ page ∷ bare_from size mem (page + 1)
 bare_takes size mem page lt bare = grind (arith, bare_first)
 
 -- after the rest got frames, the page is still there and has none
@@ -81,10 +80,9 @@ noted_first l1 l2 l3 claims claim first rest =
 -- the page's claim was answered, and then the rest got frames, and the page the claimed one
 pub supplies_all : (Answers : List Bool → Claim → Type 0) (size : ℕ) (s1 s2 s3 : Supply)
     (l1 l2 l3 : List Claim) (m1 m2 m3 m4 : Pages) (page n : ℕ) → page < reserved_pages size
-    → is_bare size m1 page ≡ true
-    → IsClaimed Answers s1 s2 (Gave n) → l2 ≡ l1 ++ (Gave n ∷ []) → m2 ≡ m1
-    → SuppliesBy {T = Unit {0}} Answers s2 s3 l2 l3 (bare_from size m2 (page + 1)) m2 m3 (Ok tt)
-    → frame_at m3 page ≡ None → Supplied m3 m4 page n
+    → is_bare size m1 page ≡ true → IsClaimed Answers s1 s2 (Gave n)
+    → l2 ≡ l1 ++ (Gave n ∷ []) → m2 ≡ m1 → SuppliesBy {T = Unit {0}} Answers s2 s3 l2 l3
+    (bare_from size m2 (page + 1)) m2 m3 (Ok tt) → frame_at m3 page ≡ None → Supplied m3 m4 page n
     → SuppliesBy {T = Unit {0}} Answers s1 s3 l1 l3 (bare_from size m1 page) m1 m4 (Ok tt)
 supplies_all Answers size s1 s2 s3 l1 l2 l3 m1 m2 m3 m4 page n lt none answer noted same rest bare did =
     let here : SuppliesBy {T = Unit {0}} Answers s2 s3 l2 l3 (bare_from size m1 (page + 1)) m1 m3 (Ok tt)

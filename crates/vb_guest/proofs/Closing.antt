@@ -1,12 +1,11 @@
 -- From what a call ties and the model's step to what the guest's clauses say.
 use Rattle.std.specs.Prelude.{◌≡◌, Bool, true, false, List, [], ◌∷◌, Some, None, if◌then◌else◌, ◌⊎◌}
 use Rattle.std.proofs.Common.{ap, arith}
-use Rattle.vb_model.{specs.declared.calls.Call.Call, specs.declared.calls.Claim.Claim}
-use Rattle.vb_model.{specs.declared.replies.Refusal.Refusal, specs.declared.replies.Reply.Reply}
-use Rattle.vb_model.{specs.declared.replies.Reply.TheVariants.Refused, specs.Requests.no_requests}
-use Rattle.vb_model.{specs.Guest.Guest, specs.Refusals.{Cause, ◌⇒◌, first_refusal, refusal_of}}
-use Rattle.vb_model.{specs.Rogue.GuestStep, specs.Step.{Performs, HonestStep}}
-use Rattle.vb_model.{proofs.CallSteps.honest_keeps, proofs.OrderlySteps.honest_order}
+use Rattle.vb_model.specs.declared.{calls.Call.Call, calls.Claim.Claim, replies.Refusal.Refusal}
+use Rattle.vb_model.specs.declared.replies.Reply.{Reply, TheVariants.Refused}
+use Rattle.vb_model.specs.{Requests.no_requests, Guest.Guest, Refusals.{Cause, ◌⇒◌, first_refusal}}
+use Rattle.vb_model.specs.{Refusals.refusal_of, Rogue.GuestStep, Step.{Performs, HonestStep}}
+use Rattle.vb_model.proofs.{CallSteps.honest_keeps, OrderlySteps.honest_order}
 use Rattle.vb_ram.{specs.Pages.Pages, specs.Part.Part}
 use Rattle.vb_driver.specs.State.{FreePages, DriverState}
 use Rattle.vb_guest.{specs.Stands.{Honest, Ties, IsIdle, IsRunning}, specs.Steps.StepsAlone}
@@ -34,9 +33,8 @@ nothing_asked : (mem : Pages) (part : Part) (d : DriverState) (g : Guest)
 nothing_asked mem part d g h4 down = grind arith
 
 pub still_stands : (m1 m2 : Pages) (p1 p2 : Part) (d1 d2 : DriverState) (g : Guest) (call : Call)
-    (claims : List Claim) (reply : Reply) (new : Guest)
-    → Honest m1 p1 d1 g → HonestStep g call claims reply new → Ties m2 p2 d2 new
-    → Honest m2 p2 d2 new
+    (claims : List Claim) (reply : Reply) (new : Guest) → Honest m1 p1 d1 g
+    → HonestStep g call claims reply new → Ties m2 p2 d2 new → Honest m2 p2 d2 new
 still_stands m1 m2 p1 p2 d1 d2 g call claims reply new stands step ties =
     grind (
       arith,
@@ -45,15 +43,13 @@ still_stands m1 m2 p1 p2 d1 d2 g call claims reply new stands step ties =
     )
 
 pub steps_alone : (m1 m2 : Pages) (p1 p2 : Part) (d1 d2 : DriverState) (g : Guest) (call : Call)
-    (reply : Reply) (new : Guest)
-    → Honest m1 p1 d1 g → HonestStep g call [] reply new → Ties m2 p2 d2 new → new.frames ≡ g.frames
-    → StepsAlone (Honest m2 p2 d2) g call reply
-steps_alone m1 m2 p1 p2 d1 d2 g call reply new stands step ties frames =
-    grind (
-      arith,
-      still_stands m1 m2 p1 p2 d1 d2 g call [] reply new stands step ties,
-      guest_step g call [] reply new stands.ties.parts.guest.honest step,
-    )
+    (reply : Reply) (new : Guest) → Honest m1 p1 d1 g → HonestStep g call [] reply new
+    → Ties m2 p2 d2 new → new.frames ≡ g.frames → StepsAlone (Honest m2 p2 d2) g call reply
+steps_alone m1 m2 p1 p2 d1 d2 g call reply new stands step ties frames = grind (
+  arith,
+  still_stands m1 m2 p1 p2 d1 d2 g call [] reply new stands step ties,
+  guest_step g call [] reply new stands.ties.parts.guest.honest step,
+)
 
 -- nothing is changed
 pub ties_same : (m1 m2 : Pages) (p1 p2 : Part) (d1 d2 : DriverState) (g : Guest) → m2 ≡ m1 → p2 ≡ p1
@@ -71,7 +67,6 @@ honest_own m1 m2 p1 p2 d g m p honest = grind arith
 
 -- a refused call
 pub refused_alone : (m1 m2 : Pages) (p1 p2 : Part) (d1 d2 : DriverState) (g : Guest) (call : Call)
-    (why : Refusal)
-    → Honest m1 p1 d1 g → refusal_of g call ≡ Some why → m2 ≡ m1 → p2 ≡ p1 → d2 ≡ d1
+    (why : Refusal) → Honest m1 p1 d1 g → refusal_of g call ≡ Some why → m2 ≡ m1 → p2 ≡ p1 → d2 ≡ d1
     → StepsAlone (Honest m2 p2 d2) g call (Refused why)
 refused_alone m1 m2 p1 p2 d1 d2 g call why stands e m p d = grind arith

@@ -16,9 +16,8 @@ count_at place g = count_by (is_place place) g.places
 counts_are : (counts : PlaceCounts) (g : Guest) → AreCountsOf counts g.places
     → counts ≡ place_counts g
 counts_are counts g are =
-    let whole : ℕ → ℕ → ℕ → ℕ → ℕ → ℕ → ℕ
-    → PlaceCounts = λ a b c d e f h. record
-    { free = a; used = b; giving = c; lent = d; taking = e; stranded = f; reporting = h } in
+    let whole : ℕ → ℕ → ℕ → ℕ → ℕ → ℕ → ℕ → PlaceCounts = λ a b c d e f h.
+    record { free = a; used = b; giving = c; lent = d; taking = e; stranded = f; reporting = h } in
     ap (λ x. whole x counts.used counts.giving counts.lent counts.taking counts.stranded
     counts.reporting) are.free
     ∙ ap (λ x. whole (count_at Free g) x counts.giving counts.lent counts.taking counts.stranded

@@ -2,24 +2,22 @@
 use Rattle.std.specs.Prelude.{◌≡◌, ℕ, zero, suc, ◌<◌, ◌≤◌, Bool, List, [], ◌∷◌, length, take}
 use Rattle.std.specs.Prelude.{Result, Ok, Err, OnErr, IfOk, Some, None, count_by, refl, ◌⊎◌}
 use Rattle.std.proofs.Common.{sym, ◌∙◌, ap, subst, arith, inr}
-use Rattle.vb_model.{specs.declared.replies.Refusal.TheVariants.NotReady, specs.Tests.pages_from}
-use Rattle.vb_model.{specs.declared.calls.Call.Call, specs.declared.replies.Refusal.Refusal}
-use Rattle.vb_model.{specs.declared.calls.Call.TheVariants.{Deflate, Oom}, specs.Step.Performs}
-use Rattle.vb_model.{specs.declared.replies.Reply.Reply, specs.Requests.{outstanding, Deflating}}
-use Rattle.vb_model.{specs.declared.replies.Reply.TheVariants.Posted, proofs.Tables.count_by-cons}
-use Rattle.vb_model.{specs.Guest.{Guest, lent_count}, specs.Layout.buffer_page}
-use Rattle.vb_model.specs.Driver.{Deflates, lowest_lent, after_posting}
-use Rattle.vb_model.{proofs.OrderlySteps.honest_order, proofs.Shapes.reserved_least}
-use Rattle.vb_model.specs.Refusals.{first_refusal, refusal_of, deflate_count, oom_count}
+use Rattle.vb_model.proofs.{OrderlySteps.honest_order, Shapes.reserved_least, Tables.count_by-cons}
+use Rattle.vb_model.specs.{Driver.{Deflates, lowest_lent, after_posting}, Guest.{Guest, lent_count}}
+use Rattle.vb_model.specs.{Layout.buffer_page, Refusals.{first_refusal, refusal_of, deflate_count}}
+use Rattle.vb_model.specs.{Refusals.oom_count, Requests.{outstanding, Deflating}, Step.Performs}
+use Rattle.vb_model.specs.{Tests.pages_from, declared.calls.Call.Call}
+use Rattle.vb_model.specs.declared.{calls.Call.TheVariants.{Deflate, Oom}, replies.Refusal.Refusal}
+use Rattle.vb_model.specs.declared.replies.{Refusal.TheVariants.NotReady, Reply.Reply}
+use Rattle.vb_model.specs.declared.replies.Reply.TheVariants.{Posted}
 use Rattle.vb_ram.{specs.Pages.Pages, specs.Part.Part}
 use Rattle.vb_guest.proofs.SameRefusals.{IsIdleStatus, refused_alike, runs_where}
-use Rattle.vb_guest.{proofs.Running.others_posted, proofs.Closing.{honest_performed, steps_alone}}
+use Rattle.vb_guest.proofs.{Running.others_posted, Closing.{honest_performed, steps_alone}}
 use Rattle.vb_guest.proofs.RunApart.{sizes_of, ring_of, buffer_clear, post_leaves, post_same}
 use Rattle.vb_guest.proofs.DriverWords.{Sides, sides_of, driver_of, driver_is}
-use Rattle.vb_guest.proofs.Posting.{line_posted, least_head, outstanding_are}
-use Rattle.vb_guest.proofs.Offered.{asked_as, last_sound, deflate_requested}
-use Rattle.vb_guest.{proofs.PagesKept.pages_same, specs.Stands.{Honest, Ties, IsRunning}}
-use Rattle.vb_guest.{specs.Replies.posted_reply, specs.Steps.StepsAlone}
+use Rattle.vb_guest.proofs.{Posting.{line_posted, least_head, outstanding_are}, Offered.asked_as}
+use Rattle.vb_guest.proofs.{Offered.{last_sound, deflate_requested}, PagesKept.pages_same}
+use Rattle.vb_guest.specs.{Stands.{Honest, Ties, IsRunning}, Replies.posted_reply, Steps.StepsAlone}
 use Rattle.vb_driver.specs.State.{FreePages, RequestSide, DriverState, IsDriver}
 use Rattle.vb_driver.specs.Answers.{refusal_in, deflate_causes, oom_causes}
 use Rattle.vb_driver.specs.Calls.{Unchanged, AsksBack, DeflatesBy, DeflatesOnOomBy, areas_asked}
@@ -104,16 +102,14 @@ asked_back m1 m2 p1 p2 g areas sides d2 call count posted asks driver did stands
           ties.pages;
       queues = inr (assumption (still.inflate refl, still.statistics refl, still.report refl));
     } in
-    steps_alone m1 m2 p1 p2 (driver_of g areas sides) d2 g call (Posted posted.head posted.pages)
-    new stands step
-    (subst (λ d. Ties m2 p2 d new) (sym did.state)
+    steps_alone m1 m2 p1 p2 (driver_of g areas sides) d2 g call
+    (Posted posted.head posted.pages) new stands step (subst (λ d. Ties m2 p2 d new) (sym did.state)
     (subst (λ p. Ties m2 p after new) (sym did.part) there)) refl
 
 by_result : (m1 m2 : Pages) (p1 p2 : Part) (g : Guest) (areas : FreePages) (sides : Sides)
     (d2 : DriverState) (call : Call) (count : ℕ) (result : Result PostedRequest Refusal)
-    → IsAsking g call count → IsDriver (driver_of g areas sides)
-    → refusal_in result ≡ refusal_of g call
-    → OnErr result (Unchanged m1 m2 p1 p2 (driver_of g areas sides) d2)
+    → IsAsking g call count → IsDriver (driver_of g areas sides) → refusal_in result
+    ≡ refusal_of g call → OnErr result (Unchanged m1 m2 p1 p2 (driver_of g areas sides) d2)
     → IfOk result (AsksBack m1 m2 p1 p2 (driver_of g areas sides) d2 count)
     → Honest m1 p1 (driver_of g areas sides) g
     → StepsAlone (Honest m2 p2 d2) g call (posted_reply result)
@@ -129,14 +125,12 @@ by_result m1 m2 p1 p2 g areas sides d2 call count (Ok posted) asks driver refusa
 -- ---- as far as the target allows
 
 deflate_idle : (d : DriverState) (p : Part) (g : Guest) (n : ℕ) → p.status ≡ g.status
-    → IsIdleStatus g.status
-    → (first_refusal (deflate_causes d p n) ≡ Some NotReady)
+    → IsIdleStatus g.status → (first_refusal (deflate_causes d p n) ≡ Some NotReady)
     × (refusal_of g (Deflate n) ≡ Some NotReady)
 deflate_idle d p g n same down = grind arith
 
-deflate_same : (g : Guest) (areas : FreePages) (sides : Sides) (p : Part) (n : ℕ)
-    → p.status ≡ g.status → p.target ≡ g.target
-    → outstanding_in sides.deflate.ring ≡ outstanding g.deflate
+deflate_same : (g : Guest) (areas : FreePages) (sides : Sides) (p : Part) (n : ℕ) → p.status
+    ≡ g.status → p.target ≡ g.target → outstanding_in sides.deflate.ring ≡ outstanding g.deflate
     → first_refusal (deflate_causes (driver_of g areas sides) p n) ≡ refusal_of g (Deflate n)
 deflate_same g areas sides p n status target out = grind arith
 
@@ -144,9 +138,8 @@ deflate_asks : (g : Guest) (n : ℕ) → IsAsking g (Deflate n) (deflate_count g
 deflate_asks g n = grind arith
 
 pub deflate_step : (m1 m2 : Pages) (p1 p2 : Part) (d1 d2 : DriverState) (g : Guest) (n : ℕ)
-    (result : Result PostedRequest Refusal)
-    → DeflatesBy m1 m2 p1 p2 d1 d2 n result → Honest m1 p1 d1 g
-    → StepsAlone (Honest m2 p2 d2) g (Deflate n) (posted_reply result)
+    (result : Result PostedRequest Refusal) → DeflatesBy m1 m2 p1 p2 d1 d2 n result
+    → Honest m1 p1 d1 g → StepsAlone (Honest m2 p2 d2) g (Deflate n) (posted_reply result)
 deflate_step m1 m2 p1 p2 d1 d2 g n result did stands =
     let is = driver_is p1 d1 g stands.ties.parts in
     let areas = d1.areas in
@@ -159,12 +152,10 @@ deflate_step m1 m2 p1 p2 d1 d2 g n result did stands =
     (deflate_idle (driver_of g areas sides) p1 g n device.status)
     (λ run. deflate_same g areas sides p1 n device.status device.target
     (outstanding_are m1 1 sides.deflate.ring p1.deflate g.deflate run.deflate.ring)) in
-    let A : ℕ → Type 0 = λ t. IfOk result
-    (AsksBack m1 m2 p1 p2 (driver_of g areas sides) d2
+    let A : ℕ → Type 0 = λ t. IfOk result (AsksBack m1 m2 p1 p2 (driver_of g areas sides) d2
     (driver_count (driver_of g areas sides) t n)) in
     by_result m1 m2 p1 p2 g areas sides d2 (Deflate n) (deflate_count g n) result (deflate_asks g n)
-    at.driver (at.refusal ∙ same) at.refused (subst A here.ties.parts.device.target at.asks)
-    here
+    at.driver (at.refusal ∙ same) at.refused (subst A here.ties.parts.device.target at.asks) here
 
 -- ---- whatever the target
 
@@ -182,9 +173,8 @@ oom_asks : (g : Guest) (n : ℕ) → IsAsking g (Oom n) (oom_count g n)
 oom_asks g n = grind arith
 
 pub oom_step : (m1 m2 : Pages) (p1 p2 : Part) (d1 d2 : DriverState) (g : Guest) (n : ℕ)
-    (result : Result PostedRequest Refusal)
-    → DeflatesOnOomBy m1 m2 p1 p2 d1 d2 n result → Honest m1 p1 d1 g
-    → StepsAlone (Honest m2 p2 d2) g (Oom n) (posted_reply result)
+    (result : Result PostedRequest Refusal) → DeflatesOnOomBy m1 m2 p1 p2 d1 d2 n result
+    → Honest m1 p1 d1 g → StepsAlone (Honest m2 p2 d2) g (Oom n) (posted_reply result)
 oom_step m1 m2 p1 p2 d1 d2 g n result did stands =
     let is = driver_is p1 d1 g stands.ties.parts in
     let areas = d1.areas in

@@ -2,11 +2,10 @@
 use Rattle.std.specs.Prelude.{◌≡◌, ◌≢◌, ℕ, ◌+◌, ◌<◌, ◌==◌, ◌||◌, Bool, true, false, not, cond}
 use Rattle.std.specs.Prelude.{if◌then◌else◌, List, [], ◌∷◌, ◌++◌, All, length, Option, Some, None}
 use Rattle.std.specs.Prelude.{IsTrue, slice_set, slice_index_or, count_by, refl}
-use Rattle.std.{specs.Option.option_to_list, specs.List.{flat_map, list_any}}
-use Rattle.std.proofs.Common.{sym, ◌∙◌, ap, arith, inl, inr, eq-eqb}
-use Rattle.std.proofs.lemmas.Bool.{cases_eq, eqb-true, cases_Bool}
-use Rattle.std.proofs.lemmas.List.{ext_get_or, length-set, get_or-set_same, get_or-set_other}
-use Rattle.std.{proofs.lemmas.List.Sums.sum_by-set, proofs.lemmas.List.Elements.All-tail}
+use Rattle.std.{specs.Option.option_to_list, specs.List.{flat_map, list_any}, proofs.Common.sym}
+use Rattle.std.proofs.{Common.{◌∙◌, ap, arith, inl, inr, eq-eqb}, lemmas.Bool.{cases_eq, eqb-true}}
+use Rattle.std.proofs.lemmas.{Bool.cases_Bool, List.{ext_get_or, length-set, get_or-set_same}}
+use Rattle.std.proofs.lemmas.List.{get_or-set_other, Sums.sum_by-set, Elements.All-tail}
 use Rattle.vb_model.{specs.Tests.{one_if, is_in, each_page}, specs.Guest.frame_of}
 use Rattle.vb_model.{specs.Driver.AllDistinct, specs.Orderly.times}
 use Rattle.vb_model.proofs.Tables.{length-each_from, each_page-get, count_by-cons, count_by-append}
@@ -44,20 +43,16 @@ in_rest p i ps ne = ap (λ (b : Bool). b || list_any (λ m. m == i) ps) (other_n
 -- one page after the others
 entry_first : {A : Type 0} (p : ℕ) (ps : List ℕ) (x d : A) (xs : List A) → p < length xs
     → with_entry (p ∷ ps) x xs ≡ slice_set (with_entry ps x xs) p x
-entry_first p ps x d xs lt =
-    ext_get_or d (with_entry (p ∷ ps) x xs) (slice_set (with_entry ps x xs) p x)
-    (length-with_entry (p ∷ ps) x xs
+entry_first p ps x d xs lt = ext_get_or d
+    (with_entry (p ∷ ps) x xs) (slice_set (with_entry ps x xs) p x) (length-with_entry (p ∷ ps) x xs
     ∙ sym (length-set (with_entry ps x xs) p x ∙ length-with_entry ps x xs)) (λ i h.
     let inside : i < length xs = omega (arith, length-with_entry (p ∷ ps) x xs) in
     with_entry-get (p ∷ ps) x xs i d inside ∙ elim (cases_eq p i) [
-      | inl same ↦
-          ap (λ (b : Bool). if b then x else slice_index_or xs i d)
+      | inl same ↦ ap (λ (b : Bool). if b then x else slice_index_or xs i d)
           (ap (λ (k : ℕ). is_in k (p ∷ ps)) (sym same) ∙ in_first p ps)
           ∙ sym (ap (λ (k : ℕ). slice_index_or (slice_set (with_entry ps x xs) p x) k d) (sym same)
-          ∙ get_or-set_same (with_entry ps x xs) p x d
-          (omega (arith, length-with_entry ps x xs)))
-      | inr ne ↦
-          ap (λ (b : Bool). if b then x else slice_index_or xs i d) (in_rest p i ps ne)
+          ∙ get_or-set_same (with_entry ps x xs) p x d (omega (arith, length-with_entry ps x xs)))
+      | inr ne ↦ ap (λ (b : Bool). if b then x else slice_index_or xs i d) (in_rest p i ps ne)
           ∙ sym (get_or-set_other (with_entry ps x xs) p i x d (λ e. ne (sym e))
           ∙ with_entry-get ps x xs i d inside)
     ])
@@ -87,18 +82,15 @@ frames_freed n (p ∷ ps) frames distinct below =
     (All-tail (λ page. page < length frames) p ps below) in
     let behind : Option ℕ = frame_of frames p in
     let others = flat_map (λ page. option_to_list (frame_of frames page)) ps in
-    let split : times n (option_to_list behind ++ others)
-    ≡ times n (option_to_list behind) + times n others =
-    count_by-append (λ (m : ℕ). m == n) (option_to_list behind) others in
+    let split : times n (option_to_list behind ++ others) ≡ times n (option_to_list behind)
+    + times n others = count_by-append (λ (m : ℕ). m == n) (option_to_list behind) others in
     let f : Option ℕ → ℕ = λ o. cond (is_frame n o) 1 0 in
-    let there : slice_index_or (with_entry ps None frames) p None ≡ behind =
-    with_none-get ps None frames p
-    ∙ ap (λ (b : Bool). if b then None else behind) (not_in (is_in p ps) distinct.0) in
+    let there : slice_index_or (with_entry ps None frames) p None ≡ behind = with_none-get ps None
+    frames p ∙ ap (λ (b : Bool). if b then None else behind) (not_in (is_in p ps) distinct.0) in
     let set_one : count_by (is_frame n) (slice_set (with_entry ps None frames) p None) + f
     (slice_index_or (with_entry ps None frames) p None)
-    ≡ count_by (is_frame n) (with_entry ps None frames) + f None =
-    sum_by-set f (with_entry ps None frames) p None None
-    (omega (arith, length-with_entry ps None frames)) in
+    ≡ count_by (is_frame n) (with_entry ps None frames) + f None = sum_by-set f
+    (with_entry ps None frames) p None None (omega (arith, length-with_entry ps None frames)) in
     let none : f None ≡ 0 = refl in
     let same : f (slice_index_or (with_entry ps None frames) p None) ≡ one_if (is_frame n behind) =
     ap f there ∙ cond_one (is_frame n behind) in

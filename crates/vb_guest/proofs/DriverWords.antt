@@ -14,65 +14,55 @@ pub record Sides : Type 0 where
   pub report : ReportSide
 
 abbrev pub sides_of : DriverState → Sides
-sides_of d =
-    record {
-      inflate = d.inflate;
-      deflate = d.deflate;
-      statistics = d.statistics;
-      report = d.report;
-    }
+sides_of d = record {
+  inflate = d.inflate;
+  deflate = d.deflate;
+  statistics = d.statistics;
+  report = d.report;
+}
 
 -- the guest's driver, with these page areas and queues
 abbrev pub driver_of : Guest → FreePages → Sides → DriverState
-driver_of g areas sides =
-    record {
-      pages = g.config.pages;
-      queue_size = g.config.queue_size;
-      processors = g.config.processors;
-      places = g.places;
-      held = g.held;
-      areas = areas;
-      inflate = sides.inflate;
-      deflate = sides.deflate;
-      statistics = sides.statistics;
-      report = sides.report;
-      features = g.features;
-      actual = g.actual;
-    }
+driver_of g areas sides = record {
+  pages = g.config.pages;
+  queue_size = g.config.queue_size;
+  processors = g.config.processors;
+  places = g.places;
+  held = g.held;
+  areas = areas;
+  inflate = sides.inflate;
+  deflate = sides.deflate;
+  statistics = sides.statistics;
+  report = sides.report;
+  features = g.features;
+  actual = g.actual;
+}
 
 pub driver_is : (p : Part) (d : DriverState) (g : Guest)
     → HasParts (beside_queues p) (beside_sides d) (beside_requests g)
     → d ≡ driver_of g d.areas (sides_of d)
-driver_is p d g has =
-    ap (λ x. record d { pages = x }) has.driver.pages
-    ∙ ap (λ x. record d { pages = g.config.pages; queue_size = x }) has.driver.queue_size
-    ∙ ap (λ x. record d {
-      pages = g.config.pages;
-      queue_size = g.config.queue_size;
-      processors = x;
-    }) has.driver.processors
-    ∙ ap (λ x. record d {
+driver_is p d g has = ap (λ x. record d { pages = x }) has.driver.pages
+    ∙ ap (λ x. record d { pages = g.config.pages; queue_size = x }) has.driver.queue_size ∙ ap
+    (λ x. record d { pages = g.config.pages; queue_size = g.config.queue_size; processors = x })
+    has.driver.processors ∙ ap (λ x. record d {
       pages = g.config.pages;
       queue_size = g.config.queue_size;
       processors = g.config.processors;
       places = x;
-    }) has.driver.places
-    ∙ ap (λ x. record d {
+    }) has.driver.places ∙ ap (λ x. record d {
       pages = g.config.pages;
       queue_size = g.config.queue_size;
       processors = g.config.processors;
       places = g.places;
       held = x;
-    }) has.driver.held
-    ∙ ap (λ x. record d {
+    }) has.driver.held ∙ ap (λ x. record d {
       pages = g.config.pages;
       queue_size = g.config.queue_size;
       processors = g.config.processors;
       places = g.places;
       held = g.held;
       features = x;
-    }) has.driver.accepted
-    ∙ ap (λ x. record d {
+    }) has.driver.accepted ∙ ap (λ x. record d {
       pages = g.config.pages;
       queue_size = g.config.queue_size;
       processors = g.config.processors;
@@ -80,5 +70,4 @@ driver_is p d g has =
       held = g.held;
       features = g.features;
       actual = x;
-    })
-    has.driver.told
+    }) has.driver.told

@@ -36,9 +36,8 @@ bare_written keeps Answers out1 out2 m1 m2 p1 p2 d g claims page off bs r used s
         → FillsBy c m1 m2 page off bs x
         → StepsOver (Stands keeps m2 p2 d) Answers (supply_of p1 out1) (supply_of p2 out2)
         (c ∷ []) g (Write page off bs) (done_reply x)
-    by (Gave n) (Ok u) claimed did =
-        over_stands keeps m1 m2 p1 p2 d d g Answers out1 out2 (Gave n ∷ []) (Write page off bs) Done
-        stands
+    by (Gave n) (Ok u) claimed did = over_stands keeps m1 m2 p1 p2 d d g Answers out1 out2
+        (Gave n ∷ []) (Write page off bs) Done stands
         (λ honest. write_supplied Answers out1 out2 m1 m1 did.1.0 m2 p1 p2 p2 p2 d g page off n bs
         claimed used honest covers some bare refl did.1.1 did.1.2 fills.part refl refl)
         (λ rogue. write_supplied_rogue Answers out1 out2 m1 m1 did.1.0 m2 p1 p2 p2 p2 d g page off n
@@ -74,8 +73,7 @@ pub bare_scribbled : (keeps : Bool) (Answers : List Bool → Claim → Type 0) (
     → StepsOver (Stands keeps m2 p2 d) Answers (supply_of p1 out1) (supply_of p2 out2) claims g
     (Scribble page off bs) (done_reply r)
 bare_scribbled keeps Answers out1 out2 m1 m2 p1 p2 d g claims page off bs r stands covers some bare
-    fills =
-    subst (λ (l : List Claim). StepsOver (Stands keeps m2 p2 d) Answers (supply_of p1 out1)
+    fills = subst (λ (l : List Claim). StepsOver (Stands keeps m2 p2 d) Answers (supply_of p1 out1)
     (supply_of p2 out2) l g (Scribble page off bs) (done_reply r)) (sym fills.noted)
     (by fills.claim r fills.claimed fills.fills)
   where

@@ -207,12 +207,9 @@ request_finished kind m1 m2 p1 p2 d g i r result is did stands run free =
     })
 
 pub finish_step : (m1 m2 : Pages) (p1 p2 : Part) (d : DriverState) (g : Guest) (q i : ℕ)
-    (result : Result ℕ Refusal)
-    → FinishesBy q i m1 m2 p1 p2 result → Honest m1 p1 d g
-    → StepsFreeing (Honest m2 (handed_back p2) d) p2.loose g (Finish q i)
-    (finished_reply result)
-finish_step m1 m2 p1 p2 d g q i result did stands =
-    by_queue (λ k. FinishesBy k i m1 m2 p1 p2 result
+    (result : Result ℕ Refusal) → FinishesBy q i m1 m2 p1 p2 result → Honest m1 p1 d g
+    → StepsFreeing (Honest m2 (handed_back p2) d) p2.loose g (Finish q i) (finished_reply result)
+finish_step m1 m2 p1 p2 d g q i result did stands = by_queue (λ k. FinishesBy k i m1 m2 p1 p2 result
     → StepsFreeing (Honest m2 (handed_back p2) d) p2.loose g (Finish k i) (finished_reply result)) q
     (λ at. finish_by m1 m2 p1 p2 d g 0 i result refl at stands
     (λ run. ap (λ (l : List Request). slice_get l i) run.inflate.remembers)

@@ -12,8 +12,7 @@ use Rattle.vb_guest.proofs.DriverWords.{Sides, sides_of, driver_of, driver_is}
 use Rattle.vb_model.specs.declared.places.Place.TheVariants.{Free as FreePlace}
 
 by_result : (m : Pages) (p : Part) (g : Guest) (areas : FreePages) (sides : Sides)
-    (d2 : DriverState)
-    (cpu start order : ℕ) (result : Result (Unit {0}) Refusal)
+    (d2 : DriverState) (cpu start order : ℕ) (result : Result (Unit {0}) Refusal)
     → FreesBy (driver_of g areas sides) d2 cpu start order result
     → Honest m p (driver_of g areas sides) g
     → StepsAlone (Honest m p d2) g (Free cpu start order) (done_reply result)
@@ -33,17 +32,13 @@ by_result m p g areas sides d2 cpu start order (Ok done) did stands =
     let there : Ties m p after new = record {
       parts = assumption;
       pages = ties.pages;
-      queues = elim ties.queues [
-        | inl idle ↦ inl assumption
-        | inr run ↦ inr assumption
-      ];
+      queues = elim ties.queues [ inl idle ↦ inl assumption | inr run ↦ inr assumption ];
     } in
     steps_alone m m p p (driver_of g areas sides) d2 g (Free cpu start order) Done new stands step
     (subst (λ d. Ties m p d new) (sym did.state) there) refl
 
 pub free_step : (m : Pages) (p : Part) (d1 d2 : DriverState) (g : Guest) (cpu start order : ℕ)
-    (result : Result (Unit {0}) Refusal)
-    → FreesBy d1 d2 cpu start order result → Honest m p d1 g
+    (result : Result (Unit {0}) Refusal) → FreesBy d1 d2 cpu start order result → Honest m p d1 g
     → StepsAlone (Honest m p d2) g (Free cpu start order) (done_reply result)
 free_step m p d1 d2 g cpu start order result did stands =
     let is = driver_is p d1 g stands.ties.parts in

@@ -55,8 +55,7 @@ pub same_end : (m1 m2 : Pages) (q size next_avail next_used : ℕ) (ring : Drive
     (after : DeviceEnd) (head : ℕ) → ring.layout ≡ layout_of (ring_page ring.size q) ring.size
     → size ≡ ring.size
     → AddsUsedBy m1 m2 (end_by (layout_of (ring_page size q) size) size next_avail next_used) after
-    head 0
-    → AddsUsedBy m1 m2 (end_by ring.layout ring.size next_avail next_used) after head 0
+    head 0 → AddsUsedBy m1 m2 (end_by ring.layout ring.size next_avail next_used) after head 0
 same_end m1 m2 q size next_avail next_used ring after head layout same adds = grind arith
 
 -- the next entry of the queue is that of the ring which the driver keeps

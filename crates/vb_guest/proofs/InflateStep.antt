@@ -1,22 +1,20 @@
 -- A guest's inflate is a step of the definitions.
 use Rattle.std.specs.Prelude.{◌≡◌, ℕ, ◌<◌, [], ◌++◌, length, Result, Ok, Err, Some, None, refl}
 use Rattle.std.{proofs.Common.{sym, ◌∙◌, ap, subst, arith, inr}, proofs.lemmas.List.length-append}
-use Rattle.vb_model.{specs.declared.replies.Refusal.TheVariants.NotReady, specs.Layout.buffer_page}
-use Rattle.vb_model.{specs.declared.calls.Call.TheVariants.Inflate, specs.Guest.Guest}
-use Rattle.vb_model.{specs.declared.replies.Refusal.Refusal, proofs.Shapes.reserved_least}
-use Rattle.vb_model.specs.declared.replies.Reply.TheVariants.{Posted}
-use Rattle.vb_model.{specs.Requests.{outstanding, Inflating}, proofs.OrderlySteps.honest_order}
-use Rattle.vb_model.specs.Driver.{stranded_first, after_posting}
+use Rattle.vb_model.proofs.{OrderlySteps.honest_order, Shapes.reserved_least}
+use Rattle.vb_model.specs.{Driver.{stranded_first, after_posting}, Guest.Guest, Layout.buffer_page}
 use Rattle.vb_model.specs.Refusals.{first_refusal, refusal_of, inflate_count, room}
+use Rattle.vb_model.specs.Requests.{outstanding, Inflating}
+use Rattle.vb_model.specs.declared.{calls.Call.TheVariants.Inflate, replies.Refusal.Refusal}
+use Rattle.vb_model.specs.declared.replies.{Refusal.TheVariants.NotReady, Reply.TheVariants.Posted}
 use Rattle.vb_ram.{specs.Pages.Pages, specs.Part.Part}
+use Rattle.vb_guest.proofs.{Closing.{honest_performed, steps_alone}, DriverWords.{Sides, sides_of}}
+use Rattle.vb_guest.proofs.{DriverWords.{driver_of, driver_is}, Offered.{asked_as, last_sound}}
+use Rattle.vb_guest.proofs.{Offered.inflate_requested, PagesKept.pages_same, Posting.line_posted}
+use Rattle.vb_guest.proofs.{Posting.{least_head, outstanding_are}, RunApart.{sizes_of, ring_of}}
+use Rattle.vb_guest.proofs.{RunApart.{buffer_clear, post_leaves, post_same}, Running.others_posted}
 use Rattle.vb_guest.proofs.SameRefusals.{IsIdleStatus, refused_alike, runs_where}
-use Rattle.vb_guest.{proofs.Running.others_posted, specs.Stands.{Honest, Ties, IsRunning}}
-use Rattle.vb_guest.{specs.Steps.StepsAlone, specs.Replies.posted_reply}
-use Rattle.vb_guest.proofs.RunApart.{sizes_of, ring_of, buffer_clear, post_leaves, post_same}
-use Rattle.vb_guest.proofs.Offered.{asked_as, last_sound, inflate_requested}
-use Rattle.vb_guest.proofs.Posting.{line_posted, least_head, outstanding_are}
-use Rattle.vb_guest.{proofs.PagesKept.pages_same, proofs.Closing.{honest_performed, steps_alone}}
-use Rattle.vb_guest.proofs.DriverWords.{Sides, sides_of, driver_of, driver_is}
+use Rattle.vb_guest.specs.{Replies.posted_reply, Stands.{Honest, Ties, IsRunning}, Steps.StepsAlone}
 use Rattle.vb_driver.specs.State.{FreePages, RequestSide, DriverState, IsDriver}
 use Rattle.vb_driver.{specs.Calls.{Offers, InflatesBy}, specs.Answers.inflate_causes}
 use Rattle.vb_ring.specs.Ends.{outstanding as outstanding_in}
@@ -25,21 +23,18 @@ use Rattle.vb_driver.specs.Answers.{inflate_count as driver_count}
 
 -- driver and definitions refuse alike
 inflate_idle : (d : DriverState) (p : Part) (g : Guest) (n : ℕ) → p.status ≡ g.status
-    → IsIdleStatus g.status
-    → (first_refusal (inflate_causes d p n) ≡ Some NotReady)
+    → IsIdleStatus g.status → (first_refusal (inflate_causes d p n) ≡ Some NotReady)
     × (refusal_of g (Inflate n) ≡ Some NotReady)
 inflate_idle d p g n same down = grind arith
 
 inflate_same : (g : Guest) (areas : FreePages) (sides : Sides) (p : Part) (n : ℕ)
-    → p.status ≡ g.status → p.target ≡ g.target
-    → outstanding_in sides.inflate.ring ≡ outstanding g.inflate
-    → outstanding_in sides.deflate.ring ≡ outstanding g.deflate
+    → p.status ≡ g.status → p.target ≡ g.target → outstanding_in sides.inflate.ring
+    ≡ outstanding g.inflate → outstanding_in sides.deflate.ring ≡ outstanding g.deflate
     → first_refusal (inflate_causes (driver_of g areas sides) p n) ≡ refusal_of g (Inflate n)
 inflate_same g areas sides p n status target inflates deflates = grind arith
 
 inflate_offered : (m1 m2 : Pages) (p1 p2 : Part) (g : Guest) (areas : FreePages) (sides : Sides)
-    (d2 : DriverState) (n : ℕ) (posted : PostedRequest)
-    → IsDriver (driver_of g areas sides)
+    (d2 : DriverState) (n : ℕ) (posted : PostedRequest) → IsDriver (driver_of g areas sides)
     → Offers m1 m2 p1 p2 (driver_of g areas sides) d2 (inflate_count g n) posted
     → Honest m1 p1 (driver_of g areas sides) g → IsRunning m1 p1 (driver_of g areas sides) g
     → refusal_of g (Inflate n) ≡ None → 0 < inflate_count g n → outstanding g.inflate < room g
@@ -89,8 +84,7 @@ inflate_offered m1 m2 p1 p2 g areas sides d2 n posted driver did stands run free
       queues = inr (assumption (still.deflate refl, still.statistics refl, still.report refl));
     } in
     steps_alone m1 m2 p1 p2 (driver_of g areas sides) d2 g (Inflate n)
-    (Posted posted.head posted.pages) new stands step
-    (subst (λ d. Ties m2 p2 d new) (sym did.state)
+    (Posted posted.head posted.pages) new stands step (subst (λ d. Ties m2 p2 d new) (sym did.state)
     (subst (λ p. Ties m2 p after new) (sym did.part) there)) refl
 
 -- an inflate that isn't refused has room, and pages
@@ -116,9 +110,8 @@ by_result m1 m2 p1 p2 g areas sides d2 n (Ok posted) did stands same =
     (subst O stands.ties.parts.device.target did.offers) stands run free left.1 left.0
 
 pub inflate_step : (m1 m2 : Pages) (p1 p2 : Part) (d1 d2 : DriverState) (g : Guest) (n : ℕ)
-    (result : Result PostedRequest Refusal)
-    → InflatesBy m1 m2 p1 p2 d1 d2 n result → Honest m1 p1 d1 g
-    → StepsAlone (Honest m2 p2 d2) g (Inflate n) (posted_reply result)
+    (result : Result PostedRequest Refusal) → InflatesBy m1 m2 p1 p2 d1 d2 n result
+    → Honest m1 p1 d1 g → StepsAlone (Honest m2 p2 d2) g (Inflate n) (posted_reply result)
 inflate_step m1 m2 p1 p2 d1 d2 g n result did stands =
     let is = driver_is p1 d1 g stands.ties.parts in
     let areas = d1.areas in

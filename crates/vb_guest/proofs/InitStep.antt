@@ -4,17 +4,15 @@ use Rattle.std.specs.Prelude.{[], ◌∷◌, length, Option, Some, None, IsSome,
 use Rattle.std.specs.Prelude.{MatchOption, Result, Ok, Err, filter, count_by, refl}
 use Rattle.std.{specs.List.{range_with_len, list_all}, proofs.lemmas.Bool.cases_Bool}
 use Rattle.std.proofs.Common.{sym, ◌∙◌, ap, subst, arith, inl, inr}
-use Rattle.vb_model.{specs.declared.calls.Call.TheVariants.Init, specs.declared.calls.Claim.Claim}
-use Rattle.vb_model.{specs.declared.replies.Refusal.Refusal, specs.declared.replies.Reply.Reply}
-use Rattle.vb_model.{specs.declared.replies.Refusal.TheVariants.AlreadyUp, specs.Tests.is_in}
-use Rattle.vb_model.{specs.declared.replies.Reply.TheVariants.{Ready, Refused}, specs.Orderly.times}
-use Rattle.vb_model.specs.Layout.{reserved_pages, is_start_page, start_pages}
-use Rattle.vb_model.specs.Guest.{Guest, frame_of, all_backed, stats_vq}
-use Rattle.vb_model.{specs.Refusals.{◌⇒◌, first_refusal, refusal_of}, specs.Driver.{given, figures}}
-use Rattle.vb_model.specs.Life.{lacking, feature_refusal, accepted_before, Negotiates}
-use Rattle.vb_model.{proofs.Shapes.{reserved_most, start_reserved}, proofs.Performed.Supplying}
-use Rattle.vb_ram.{specs.Pages.{Pages, frame_at, number_of}, specs.Part.Part}
-use Rattle.vb_ram.specs.declared.shape.Shape.{Shape}
+use Rattle.vb_model.proofs.{Performed.Supplying, Shapes.{reserved_most, start_reserved}}
+use Rattle.vb_model.specs.{Driver.{given, figures}, Guest.{Guest, frame_of, all_backed, stats_vq}}
+use Rattle.vb_model.specs.{Layout.{reserved_pages, is_start_page, start_pages}, Life.lacking}
+use Rattle.vb_model.specs.{Life.{feature_refusal, accepted_before, Negotiates}, Orderly.times}
+use Rattle.vb_model.specs.{Refusals.{◌⇒◌, first_refusal, refusal_of}, Tests.is_in}
+use Rattle.vb_model.specs.declared.calls.{Call.TheVariants.Init, Claim.Claim}
+use Rattle.vb_model.specs.declared.replies.Refusal.{Refusal, TheVariants.AlreadyUp}
+use Rattle.vb_model.specs.declared.replies.Reply.{Reply, TheVariants.{Ready, Refused}}
+use Rattle.vb_ram.specs.{Pages.{Pages, frame_at, number_of}, Part.Part, declared.shape.Shape.Shape}
 use Rattle.vb_driver.{specs.State.DriverState, specs.Answers.{has_frames, init_causes}}
 use Rattle.vb_driver.specs.Calls.{InitsBy, InitRefused, GivesUp}
 use Rattle.vb_guest.specs.Stands.{Honest, Ties, HasParts, HasPages, IsIdle, beside_queues}
@@ -45,8 +43,7 @@ new_is_idle m p d g e stands = grind arith
 
 -- ---- the pages that lack frames
 
-filter_both : (f h : ℕ → Bool) (xs : List ℕ)
-    → filter f (filter h xs) ≡ filter (λ x. h x && f x) xs
+filter_both : (f h : ℕ → Bool) (xs : List ℕ) → filter f (filter h xs) ≡ filter (λ x. h x && f x) xs
 filter_both f h [] = refl
 filter_both f h (x ∷ xs) = grind (arith, filter_both f h xs)
 
@@ -132,12 +129,11 @@ first_noted Answers s1 s2 l1 l2 pages m1 m2 result none did =
 
 pub init_unsupplied : (Answers : List Bool → Claim → Type 0) (out1 out2 : List Bool)
     (l : List Claim) (m1 m2 : Pages) (p1 p2 : Part) (d : DriverState) (g : Guest) (wanted : ℕ)
-    (why : WhyRefused) (refusal : Refusal)
-    → why_unsupplied {T = Unit {0}} (Err why) ≡ Some refusal → p1.status ≡ 0
-    → SuppliesBy {T = Unit {0}} Answers (supply_of p1 out1) (supply_of p2 out2) [] l
-    (bare_from d.queue_size m1 0) m1 m2 (Err why) → p2 ≡ record p1 { own = p2.own } → Honest m1 p1 d g
-    → StepsOver (Honest m2 p2 d) Answers (supply_of p1 out1) (supply_of p2 out2) l g (Init wanted)
-    (Refused refusal)
+    (why : WhyRefused) (refusal : Refusal) → why_unsupplied {T = Unit {0}} (Err why) ≡ Some refusal
+    → p1.status ≡ 0 → SuppliesBy {T = Unit {0}} Answers (supply_of p1 out1) (supply_of p2 out2) [] l
+    (bare_from d.queue_size m1 0) m1 m2 (Err why)
+    → p2 ≡ record p1 { own = p2.own } → Honest m1 p1 d g → StepsOver (Honest m2 p2 d) Answers
+    (supply_of p1 out1) (supply_of p2 out2) l g (Init wanted) (Refused refusal)
 init_unsupplied Answers out1 out2 l m1 m2 p1 p2 d g wanted why refusal is new did part stands =
     search (arith, bare_is)
 
@@ -168,17 +164,14 @@ initialised : (m2 m3 : Pages) (p1 p3 : Part) (d1 d2 : DriverState) (g : Guest)
     (frames : List (Option ℕ)) (wanted : ℕ) (result : Result (Unit {0}) Refusal)
     → HasPages m2 g.config.queue_size g.config.pages frames g.contents
     → ((p : ℕ) → is_start_page g.config.queue_size p ≡ true → IsSome (frame_at m2 p))
-    → p1.status ≡ 0 → IsIdle g
-    → HasParts (beside_queues p1) (beside_sides d1) (beside_requests g)
+    → p1.status ≡ 0 → IsIdle g → HasParts (beside_queues p1) (beside_sides d1) (beside_requests g)
     → InitsBy m2 m3 p1 p3 d1 d2 wanted result
     → Leaves m3 p1 p3 d2 g frames wanted (ready_reply result)
 initialised m2 m3 p1 p3 d1 d2 g frames wanted (Ok x) has backed new idle parts did =
     let fine : None ≡ feature_refusal wanted =
     did.refusal ∙ driver_causes d1.queue_size m2 p1 wanted new (has_all d1.queue_size m2
-    (λ p start. backed p
-    (subst (λ k. is_start_page k p ≡ true) parts.driver.queue_size start))) in
-    let after : Guest =
-    record g {
+    (λ p start. backed p (subst (λ k. is_start_page k p ≡ true) parts.driver.queue_size start))) in
+    let after : Guest = record g {
       frames = frames;
       status = 15;
       features = wanted;
@@ -198,8 +191,7 @@ initialised m2 m3 p1 p3 d1 d2 g frames wanted (Ok x) has backed new idle parts d
 initialised m2 m3 p1 p3 d1 d2 g frames wanted (Err why) has backed new idle parts did =
     let wrong : Some why ≡ feature_refusal wanted =
     did.refusal ∙ driver_causes d1.queue_size m2 p1 wanted new (has_all d1.queue_size m2
-    (λ p start. backed p
-    (subst (λ k. is_start_page k p ≡ true) parts.driver.queue_size start))) in
+    (λ p start. backed p (subst (λ k. is_start_page k p ≡ true) parts.driver.queue_size start))) in
     let accepted = accepted_before why wanted in
     let after : Guest = record g { frames = frames; status = 131; features = accepted } in
     let given : GivesUp m2 m3 p1 p3 d1 d2 accepted =
@@ -219,13 +211,10 @@ initialised m2 m3 p1 p3 d1 d2 g frames wanted (Err why) has backed new idle part
 pub init_supplied : (Answers : List Bool → Claim → Type 0) (out1 out2 : List Bool) (l : List Claim)
     (m1 m2 m3 : Pages) (p1 p2 p3 : Part) (d1 d2 : DriverState) (g : Guest) (wanted features : ℕ)
     (result : Result (Unit {0}) Refusal) → features ≡ wanted
-    → p1.status ≡ 0
-    → SuppliesBy {T = Unit {0}} Answers (supply_of p1 out1) (supply_of p2 out2) [] l
-    (bare_from d1.queue_size m1 0)
-    m1 m2 (Ok tt)
-    → p2 ≡ record p1 { own = p2.own } → InitsBy m2 m3 p2 p3 d1 d2 features result → Honest m1 p1 d1 g
-    → StepsOver (Honest m3 p3 d2) Answers (supply_of p1 out1) (supply_of p3 out2) l g (Init wanted)
-    (ready_reply result)
+    → p1.status ≡ 0 → SuppliesBy {T = Unit {0}} Answers (supply_of p1 out1) (supply_of p2 out2) [] l
+    (bare_from d1.queue_size m1 0) m1 m2 (Ok tt) → p2 ≡ record p1 { own = p2.own }
+    → InitsBy m2 m3 p2 p3 d1 d2 features result → Honest m1 p1 d1 g → StepsOver (Honest m3 p3 d2)
+    Answers (supply_of p1 out1) (supply_of p3 out2) l g (Init wanted) (ready_reply result)
 init_supplied Answers out1 out2 l m1 m2 m3 p1 p2 p3 d1 d2 g wanted features result named status did
     part inits stands =
     let ties = stands.ties in
@@ -295,9 +284,8 @@ pub still_large : (Answers : List Bool → Claim → Type 0) (s1 s2 : Supply) (l
     (m1 m2 : Pages) (p : Part) (d : DriverState) (g : Guest) → Honest m1 p d g
     → SuppliesBy {T = Unit {0}} Answers s1 s2 l1 l2 (bare_from d.queue_size m1 0) m1 m2 (Ok tt)
     → 64 ≤ length m2
-still_large Answers s1 s2 l1 l2 m1 m2 p d g stands did =
-    grind (
-      arith,
-      large m1 p d g stands,
-      supplied_count (bare_from d.queue_size m1 0) (given did.claims) m1 m2 did.supplied.0,
-    )
+still_large Answers s1 s2 l1 l2 m1 m2 p d g stands did = grind (
+  arith,
+  large m1 p d g stands,
+  supplied_count (bare_from d.queue_size m1 0) (given did.claims) m1 m2 did.supplied.0,
+)

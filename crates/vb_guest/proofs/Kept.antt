@@ -60,33 +60,28 @@ reap_kept m1 m2 p1 p2 d1 d2 q (Ok None) did = as_it_was p1 p2 did.reaps.0
 reap_kept m1 m2 p1 p2 d1 d2 q (Ok (Some reaped)) did =
     let part = did.reaps.part in
     record { flag = ap (λ (p : Part). p.keeps) part; numbers = ap (λ (p : Part). p.own) part }
-reap_kept m1 m2 p1 p2 d1 d2 q (Err why) did =
-    same_then p1 (after_refusal why p1) p2 (after_kept why p1)
-    (as_it_was (after_refusal why p1) p2 did.failed)
+reap_kept m1 m2 p1 p2 d1 d2 q (Err why) did = same_then p1
+    (after_refusal why p1) p2 (after_kept why p1) (as_it_was (after_refusal why p1) p2 did.failed)
 
 -- ---- the device's calls
 
 queue_kept : (q : ℕ) (queue : QueuePart) (p : Part) → SameOwn p (with_queue q queue p)
-queue_kept q queue p = by (q == INFLATE_QUEUE) (q == DEFLATE_QUEUE) (q == STATISTICS_QUEUE)
-  where
-    by : (a b c : Bool) → SameOwn p
-        (if a then record p { inflate = queue }
-        else (if b then record p { deflate = queue }
-        else (if c then record p { statistics = queue } else record p { report = queue })))
-    by true b c = record { flag = refl; numbers = refl }
-    by false true c = record { flag = refl; numbers = refl }
-    by false false true = record { flag = refl; numbers = refl }
-    by false false false = record { flag = refl; numbers = refl }
+queue_kept q queue p = by (q == INFLATE_QUEUE) (q == DEFLATE_QUEUE) (q == STATISTICS_QUEUE) where
+  by : (a b c : Bool) → SameOwn p
+      (if a then record p { inflate = queue } else (if b then record p { deflate = queue }
+      else (if c then record p { statistics = queue } else record p { report = queue })))
+  by true b c = record { flag = refl; numbers = refl }
+  by false true c = record { flag = refl; numbers = refl }
+  by false false true = record { flag = refl; numbers = refl }
+  by false false false = record { flag = refl; numbers = refl }
 
 settled_kept : (q : ℕ) (pages : List ℕ) (p : Part) → SameOwn p (settled q pages p)
-settled_kept q pages p = by (q == INFLATE_QUEUE) (q == DEFLATE_QUEUE)
-  where
-    by : (a b : Bool) → SameOwn p
-        (if a then record p { ballooned = flagged pages true p.ballooned }
-        else (if b then record p { ballooned = flagged pages false p.ballooned } else p))
-    by true b = record { flag = refl; numbers = refl }
-    by false true = record { flag = refl; numbers = refl }
-    by false false = record { flag = refl; numbers = refl }
+settled_kept q pages p = by (q == INFLATE_QUEUE) (q == DEFLATE_QUEUE) where
+  by : (a b : Bool) → SameOwn p (if a then record p { ballooned = flagged pages true p.ballooned }
+      else (if b then record p { ballooned = flagged pages false p.ballooned } else p))
+  by true b = record { flag = refl; numbers = refl }
+  by false true = record { flag = refl; numbers = refl }
+  by false false = record { flag = refl; numbers = refl }
 
 -- the loose frames are none of the device's own
 loose_kept : (p1 p2 : Part) → p2 ≡ record p1 { loose = p2.loose } → SameOwn p1 p2
@@ -95,22 +90,20 @@ loose_kept p1 p2 e =
 
 pub take_kept : (q : ℕ) (m1 m2 : Pages) (p1 p2 : Part) (result : Result (Option ℕ) Refusal)
     → TakesBy q m1 m2 p1 p2 result → SameOwn p1 p2
-take_kept q m1 m2 p1 p2 result did = by result did.means
-  where
-    by : (r : Result (Option ℕ) Refusal) → TakeMeans q m1 p1 p2 r → SameOwn p1 p2
-    by (Ok None) means = as_it_was p1 p2 means.1
-    by (Ok (Some h)) means =
-        let noted = noting q m1 means.1.1.pieces p1 in
-        let after = taking q h means.1.0 noted in
-        same_then p1 after p2
-        (same_then p1 noted after (record { flag = refl; numbers = refl }) (queue_kept q _ noted))
-        (as_it_was after p2 means.1.2)
-    by (Err (Broken rule)) means =
-        record {
-          flag = ap (λ (p : Part). p.keeps) means.1;
-          numbers = ap (λ (p : Part). p.own) means.1;
-        }
-    by (Err why) means = as_it_was p1 p2 means.1
+take_kept q m1 m2 p1 p2 result did = by result did.means where
+  by : (r : Result (Option ℕ) Refusal) → TakeMeans q m1 p1 p2 r → SameOwn p1 p2
+  by (Ok None) means = as_it_was p1 p2 means.1
+  by (Ok (Some h)) means =
+      let noted = noting q m1 means.1.1.pieces p1 in
+      let after = taking q h means.1.0 noted in
+      same_then p1 after p2
+      (same_then p1 noted after (record { flag = refl; numbers = refl }) (queue_kept q _ noted))
+      (as_it_was after p2 means.1.2)
+  by (Err (Broken rule)) means = record {
+    flag = ap (λ (p : Part). p.keeps) means.1;
+    numbers = ap (λ (p : Part). p.own) means.1;
+  }
+  by (Err why) means = as_it_was p1 p2 means.1
 
 -- a finish that isn't refused is one of a taken request
 pub there_is : (a b c d : Bool) (o : Option Request)
@@ -124,28 +117,24 @@ there_is false false false d (Some r) e = (r, refl)
 
 pub finish_kept : (q i : ℕ) (m1 m2 : Pages) (p1 p2 : Part) (result : Result ℕ Refusal)
     → FinishesBy q i m1 m2 p1 p2 result → SameOwn p1 p2
-finish_kept q i m1 m2 p1 p2 result did = by (finish_refusal q i p1) refl
-  where
-    by : (o : Option Refusal) → finish_refusal q i p1 ≡ o → SameOwn p1 p2
-    by (Some why) e = as_it_was p1 p2 (did.refused why e).1
-    by None e =
-        let (r, at) = there_is (not (is_queue_of_requests q)) (is_not_ready p1.status)
-        (has_fault p1.status)
-        (p1.paced && not (q == DEFLATE_QUEUE) && has_unvisited (taken_at q i p1))
-        (taken_at q i p1) e in
-        let after = settled q r.pages (using q i p1) in
-        same_then p1 after p2
-        (same_then p1 (using q i p1) after (queue_kept q _ p1)
-        (settled_kept q r.pages (using q i p1)))
-        (loose_kept after p2 (did.finished r e at).part)
+finish_kept q i m1 m2 p1 p2 result did = by (finish_refusal q i p1) refl where
+  by : (o : Option Refusal) → finish_refusal q i p1 ≡ o → SameOwn p1 p2
+  by (Some why) e = as_it_was p1 p2 (did.refused why e).1
+  by None e =
+      let (r, at) = there_is (not (is_queue_of_requests q)) (is_not_ready p1.status)
+      (has_fault p1.status)
+      (p1.paced && not (q == DEFLATE_QUEUE) && has_unvisited (taken_at q i p1))
+      (taken_at q i p1) e in
+      let after = settled q r.pages (using q i p1) in
+      same_then p1 after p2 (same_then p1 (using q i p1) after (queue_kept q _ p1)
+      (settled_kept q r.pages (using q i p1))) (loose_kept after p2 (did.finished r e at).part)
 
 pub sweep_kept : (page : ℕ) (m1 m2 : Pages) (p1 p2 : Part) (result : Result Bool Refusal)
     → SweepsBy page m1 m2 p1 p2 result → SameOwn p1 p2
-sweep_kept page m1 m2 p1 p2 result did = by (sweep_refusal page p1) refl
-  where
-    by : (o : Option Refusal) → sweep_refusal page p1 ≡ o → SameOwn p1 p2
-    by (Some why) e = as_it_was p1 p2 (did.refused why e).1
-    by None e = loose_kept p1 p2 (did.part e)
+sweep_kept page m1 m2 p1 p2 result did = by (sweep_refusal page p1) refl where
+  by : (o : Option Refusal) → sweep_refusal page p1 ≡ o → SameOwn p1 p2
+  by (Some why) e = as_it_was p1 p2 (did.refused why e).1
+  by None e = loose_kept p1 p2 (did.part e)
 
 visit_kept : (q page : ℕ) (m1 m2 : Pages) (p1 p2 : Part) (result : Result (Option Worked) Refusal)
     → Visits q page m1 m2 p1 p2 result → SameOwn p1 p2
@@ -160,8 +149,7 @@ work_kept m1 m2 p1 p2 result did =
     by (work_refusal p1) (next_visit INFLATE_QUEUE p1) (next_visit REPORT_QUEUE p1) refl refl refl
   where
     by : (o : Option Refusal) (first second : Option ℕ) → work_refusal p1 ≡ o
-        → next_visit INFLATE_QUEUE p1 ≡ first → next_visit REPORT_QUEUE p1 ≡ second
-        → SameOwn p1 p2
+        → next_visit INFLATE_QUEUE p1 ≡ first → next_visit REPORT_QUEUE p1 ≡ second → SameOwn p1 p2
     by (Some why) first second e is other = as_it_was p1 p2 (did.refused why e).1
     by None None None e is other = as_it_was p1 p2 (did.idle e is other).1
     by None (Some page) second e is other =
@@ -180,16 +168,14 @@ pub stats_kept : (m1 m2 : Pages) (p1 p2 : Part) (d1 d2 : DriverState) (result : 
     → FillsBy m1 m2 p1 p2 d1 d2 result → SameOwn p1 p2
 stats_kept m1 m2 p1 p2 d1 d2 (Ok true) did = as_it_was p1 p2 did.fills.part
 stats_kept m1 m2 p1 p2 d1 d2 (Ok false) did = as_it_was p1 p2 did.fills.unchanged.part
-stats_kept m1 m2 p1 p2 d1 d2 (Err why) did =
-    same_then p1 (after_refusal why p1) p2 (after_kept why p1)
-    (as_it_was (after_refusal why p1) p2 did.refused.part)
+stats_kept m1 m2 p1 p2 d1 d2 (Err why) did = same_then p1 (after_refusal why p1) p2
+    (after_kept why p1) (as_it_was (after_refusal why p1) p2 did.refused.part)
 
 pub ask_kept : {T : Type 0} (m1 m2 : Pages) (p1 p2 : Part) (result : Result T Refusal)
     → AsksBy m1 m2 p1 p2 result → SameOwn p1 p2
-ask_kept m1 m2 p1 p2 result did = by (ask_refusal p1) refl
-  where
-    by : (o : Option Refusal) → ask_refusal p1 ≡ o → SameOwn p1 p2
-    by (Some why) e = as_it_was p1 p2 (did.refused why e).1
-    by None e =
-        let after = using STATISTICS_QUEUE 0 p1 in
-        same_then p1 after p2 (queue_kept STATISTICS_QUEUE _ p1) (as_it_was after p2 (did.part e))
+ask_kept m1 m2 p1 p2 result did = by (ask_refusal p1) refl where
+  by : (o : Option Refusal) → ask_refusal p1 ≡ o → SameOwn p1 p2
+  by (Some why) e = as_it_was p1 p2 (did.refused why e).1
+  by None e =
+      let after = using STATISTICS_QUEUE 0 p1 in
+      same_then p1 after p2 (queue_kept STATISTICS_QUEUE _ p1) (as_it_was after p2 (did.part e))

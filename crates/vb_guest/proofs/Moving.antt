@@ -54,8 +54,7 @@ has_less n k own is = grind (arith, has_gone, has_other)
 
 pub own_back : (p1 p2 : Part) (out1 out2 : List Bool) (n : ℕ) → p1.keeps ≡ true
     → has p1.own n ≡ true → SameSet p2.own (without p1.own n) → p2 ≡ record p1 { own = p2.own }
-    → out2 ≡ out1
-    → Moves (supply_of p1 out1) (supply_of p2 out2) nothing (λ k. times k (n ∷ []))
+    → out2 ≡ out1 → Moves (supply_of p1 out1) (supply_of p2 out2) nothing (λ k. times k (n ∷ []))
 own_back p1 p2 out1 out2 n keeps is now same kept = grind (arith, has_less)
 
 -- ---- loose frames

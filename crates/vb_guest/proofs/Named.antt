@@ -41,15 +41,11 @@ headed_some : (k : ℕ) (rs : List Request) (d : Request) → k < length rs
 headed_some zero [] d lt none = absurd (omega arith)
 headed_some zero (r ∷ rs) d lt none = grind (arith, headed-cons r.head r rs)
 headed_some (suc k) [] d lt none = absurd (omega arith)
-headed_some (suc k) (r ∷ rs) d lt none =
-    grind (
-      arith,
-      headed_some k rs d (omega arith) (omega (
-        arith,
-        none,
-        headed-cons (slice_index_or rs k d).head r rs,
-      )),
-    )
+headed_some (suc k) (r ∷ rs) d lt none = grind (
+  arith,
+  headed_some k rs d
+      (omega arith) (omega (arith, none, headed-cons (slice_index_or rs k d).head r rs)),
+)
 
 named_sent : (sent : List (List ℕ)) (rs : List Request) → ((h : ℕ) → headed h rs ≤ 1)
     → ((h : ℕ) → headed h rs ≡ 0 → get_or sent h [] ≡ []) → All (IsKept sent) rs
@@ -58,16 +54,13 @@ named_sent sent [] once none kept = nothing_sent sent (λ h. none h refl)
 named_sent sent (r ∷ rest) once none kept =
     let first : IsKept sent r = kept 0 r (omega arith) in
     let fewer = named_sent (slice_set sent r.head []) rest
-    (λ h. omega (arith, once h, headed-cons h r rest))
-    (λ h out. elim (cases_eq h r.head) [
+    (λ h. omega (arith, once h, headed-cons h r rest)) (λ h out. elim (cases_eq h r.head) [
       | inl same ↦ ap (λ (k : ℕ). get_or (slice_set sent r.head []) k []) same
           ∙ get_or-set_same sent r.head [] [] first.few
-      | inr other ↦ get_or-set_other sent r.head h [] [] other
-          ∙ none h (let no : one_if (r.head == h) ≡ 0 =
-          ap one_if (ne_eqb r.head h (λ e. other (sym e))) in
+      | inr other ↦ get_or-set_other sent r.head h [] [] other ∙ none h
+          (let no : one_if (r.head == h) ≡ 0 = ap one_if (ne_eqb r.head h (λ e. other (sym e))) in
           omega (arith, no, out, headed-cons h r rest))
-    ])
-    (λ k d lt. still_kept k d lt (kept (suc k) d (omega (arith, lt)))) in
+    ]) (λ k d lt. still_kept k d lt (kept (suc k) d (omega (arith, lt)))) in
     omega (
       arith,
       fewer,
@@ -75,14 +68,12 @@ named_sent sent (r ∷ rest) once none kept =
       ap (λ (l : List ℕ). length l) first.remembered,
     )
   where
-    still_kept : (k : ℕ) (d : Request) → k < length rest
-        → IsKept sent (slice_index_or rest k d)
+    still_kept : (k : ℕ) (d : Request) → k < length rest → IsKept sent (slice_index_or rest k d)
         → IsKept (slice_set sent r.head []) (slice_index_or rest k d)
     still_kept k d lt one = record {
       few = omega (arith, one.few, length-set sent r.head []);
-      remembered = get_or-set_other sent r.head (slice_index_or rest k d).head [] [] (λ e.
-          headed_some k rest d lt
-          (not_again (slice_index_or rest k d).head r rest
+      remembered = get_or-set_other sent r.head (slice_index_or rest k d).head [] []
+          (λ e. headed_some k rest d lt (not_again (slice_index_or rest k d).head r rest
           (once (slice_index_or rest k d).head) (sym e))) ∙ one.remembered;
     }
 
@@ -97,16 +88,12 @@ out_as_often true e = absurd (omega arith)
 out_as_often false e = refl
 
 pub line_named : (mem : Pages) (q n : ℕ) (side : RequestSide) (part : QueuePart) (rs : Requests)
-    → Line mem q n side part rs → AreRequests side
-    → pages_sent side ≡ pages_named (all_requests rs)
-line_named mem q n side part rs line out =
-    named_sent side.sent (all_requests rs)
-    (λ h. omega (
-      arith,
-      headed_once mem q side.ring part rs h line.ring,
-      at_most_one (is_head side.ring.owner h),
-    ))
-    (λ h none. out.unsent h (out_as_often (is_head side.ring.owner h)
+    → Line mem q n side part rs → AreRequests side → pages_sent side ≡ pages_named (all_requests rs)
+line_named mem q n side part rs line out = named_sent side.sent (all_requests rs) (λ h. omega (
+  arith,
+  headed_once mem q side.ring part rs h line.ring,
+  at_most_one (is_head side.ring.owner h),
+)) (λ h none. out.unsent h (out_as_often (is_head side.ring.owner h)
     (sym (headed_once mem q side.ring part rs h line.ring) ∙ none)))
     (all_both (IsKept side.sent) rs.posted (rs.taken ++ rs.done) (kept rs.posted line.posted)
     (all_both (IsKept side.sent) rs.taken rs.done (kept rs.taken line.taken)

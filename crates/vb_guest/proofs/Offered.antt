@@ -30,9 +30,8 @@ high_pages g pages orderly out = (
     at_in : (xs : List ℕ) (k d : ℕ) → k < length xs → is_in (slice_index_or xs k d) xs ≡ true
     at_in [] k d lt = absurd (omega arith)
     at_in (x ∷ xs) zero d lt = ap (λ (b : Bool). b || list_any (λ m. m == x) xs) (eq-eqb x x refl)
-    at_in (x ∷ xs) (suc k) d lt =
-        ap (λ (b : Bool). (x == slice_index_or xs k d) || b) (at_in xs k d (omega arith))
-        ∙ either_true (x == slice_index_or xs k d)
+    at_in (x ∷ xs) (suc k) d lt = ap (λ (b : Bool). (x == slice_index_or xs k d) || b)
+        (at_in xs k d (omega arith)) ∙ either_true (x == slice_index_or xs k d)
       where
         either_true : (b : Bool) → (b || true) ≡ true
         either_true true = refl

@@ -1,12 +1,11 @@
 -- The blocks of a report, and the pages in them.
-use Rattle.std.specs.Prelude.{◌≡◌, ℕ, ◌+◌, ◌-◌, ◌<◌, ◌≤◌, Bool, true, false, List, [], ◌∷◌, ◌++◌}
-use Rattle.std.proofs.lemmas.List.Elements.{All-nil, All-cons, All-append, All-tail, All-take}
+use Rattle.std.proofs.{Common.{ap, arith}, lemmas.List.length-take, lemmas.List.Elements.All-nil}
+use Rattle.std.proofs.lemmas.List.Elements.{All-cons, All-append, All-tail, All-take, All-filter}
 use Rattle.std.proofs.lemmas.List.FromFn.{length-range_with_len, get_or-range_with_len}
-use Rattle.std.specs.Prelude.{All, length, filter, nat_le, ◌&&◌, slice_index_or}
-use Rattle.std.{proofs.lemmas.List.Elements.All-filter, specs.List.{flat_map, range_with_len}}
 use Rattle.std.proofs.lemmas.List.FromFn.{length-map-range_with_len, get_or-map-range_with_len}
-use Rattle.std.{proofs.Common.{ap, arith}, proofs.lemmas.List.length-take}
-use Rattle.std.proofs.lemmas.Nat.{pow_pos}
+use Rattle.std.{proofs.lemmas.Nat.pow_pos, specs.List.{flat_map, range_with_len}, specs.Prelude.◌≡◌}
+use Rattle.std.specs.Prelude.{ℕ, ◌+◌, ◌-◌, ◌<◌, ◌≤◌, Bool, true, false, List, [], ◌∷◌, ◌++◌, All}
+use Rattle.std.specs.Prelude.{length, filter, nat_le, ◌&&◌, slice_index_or}
 use Rattle.vb_model.specs.Pages.{Block, block_at, size, pages_of, pages_of_all, is_free, place_of}
 use Rattle.vb_model.specs.Pages.{is_maximal, blocks_at, blocks_below, maximal_blocks, reported}
 use Rattle.vb_model.{specs.Pages.is_reserved, specs.declared.places.Place.Place, specs.Tests.is_in}
@@ -53,8 +52,7 @@ IsSmall b = b.order ≤ 9
 -- blocks all of whose pages are unreserved ones of the guest
 pages_own : (descriptors n : ℕ) (blocks : List Block) → All IsSmall blocks
     → ((page : ℕ) → is_in page (pages_of_all blocks) ≡ true
-    → (reserved_pages descriptors ≤ page) × (page < n))
-    → All (IsOwnBlock descriptors n) blocks
+    → (reserved_pages descriptors ≤ page) × (page < n)) → All (IsOwnBlock descriptors n) blocks
 pages_own descriptors n [] small high = All-nil (IsOwnBlock descriptors n)
 pages_own descriptors n (b ∷ bs) small high =
     let some : 0 < size b = pow_pos b.order in
@@ -67,8 +65,7 @@ pages_own descriptors n (b ∷ bs) small high =
       order = small 0 b (omega arith);
       above = first.0;
       below = omega (arith, end.1, some);
-    })
-    (pages_own descriptors n bs (All-tail IsSmall b bs small)
+    }) (pages_own descriptors n bs (All-tail IsSmall b bs small)
     (λ page e. high page (in_back page (pages_of b) (pages_of_all bs) e)))
 
 all_flat : (P : Block → Type 0) (f : ℕ → List Block) (ns : List ℕ) → ((n : ℕ) → All P (f n))
@@ -100,14 +97,12 @@ free_high place e = grind arith
 -- they are the guest's own
 pub reported_own : (g : Guest) (from : ℕ) → IsOrderly g
     → All (IsOwnBlock g.config.queue_size g.config.pages) (reported_blocks g from)
-reported_own g from orderly =
-    pages_own g.config.queue_size g.config.pages (reported_blocks g from)
+reported_own g from orderly = pages_own g.config.queue_size g.config.pages (reported_blocks g from)
     (small_reported (length g.places) (room g) from (λ page. is_free (place_of g.places page)))
     (λ page e. high_page g page orderly
     (free_high (place_of g.places page) (reported_pages g from page e)))
 
 -- no more than the queue has descriptors, and no more than 16
-pub reported_few : (g : Guest) (from : ℕ)
-    → (length (reported_blocks g from) ≤ 16)
+pub reported_few : (g : Guest) (from : ℕ) → (length (reported_blocks g from) ≤ 16)
     × (length (reported_blocks g from) ≤ g.config.queue_size)
 reported_few g from = grind (arith, length-take)

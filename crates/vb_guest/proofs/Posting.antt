@@ -23,8 +23,7 @@ use Rattle.vb_ring.specs.Ends.{outstanding as outstanding_in}
 
 -- the requests that have a head are one exactly where the driver's table has the head
 pub headed_once : (mem : Pages) (q : ℕ) (ring : DriverEnd) (part : QueuePart) (rs : Requests)
-    (h : ℕ) → RingOf mem q ring part rs
-    → headed h (all_requests rs) ≡ one_if (is_head ring.owner h)
+    (h : ℕ) → RingOf mem q ring part rs → headed h (all_requests rs) ≡ one_if (is_head ring.owner h)
 headed_once mem q ring part rs h stands =
     grind (
       arith,
@@ -76,8 +75,7 @@ lowest_is r h is =
                   ∙ found.2 in absurd (omega (arith, same, first)))
               | inr ne ↦ absurd (omega (
                 arith,
-                numbers_rise (is_unused r.owner) r.size 0 found.0 (omega (arith, ne))
-                    found.1,
+                numbers_rise (is_unused r.owner) r.size 0 found.0 (omega (arith, ne)) found.1,
                 first,
                 found.2,
               ))
@@ -89,17 +87,14 @@ lowest_is r h is =
 pub least_head : (mem : Pages) (q : ℕ) (side : RequestSide) (part : QueuePart) (rs : Requests) (h : ℕ)
     → RingOf mem q side.ring part rs → AreRequests side → next_head side.ring ≡ Some h
     → IsLeastHead rs h
-least_head mem q side part rs h stands single is =
-    let lowest = lowest_is side.ring h is in
-    record {
-      new = headed_once mem q side.ring part rs h stands
-          ∙ ap one_if (none_own h (slice_index_or side.ring.owner h None) lowest.free);
-      least = λ k lt.
-          let one : headed k (all_requests rs) ≡ 1 =
-          headed_once mem q side.ring part rs k stands
-          ∙ ap one_if (single.single k (lowest.below k lt)) in
-          omega (arith, one);
-    }
+least_head mem q side part rs h stands single is = let lowest = lowest_is side.ring h is in record {
+  new = headed_once mem q side.ring part rs h stands
+      ∙ ap one_if (none_own h (slice_index_or side.ring.owner h None) lowest.free);
+  least = λ k lt.
+      let one : headed k (all_requests rs) ≡ 1 = headed_once mem q side.ring part rs k stands
+      ∙ ap one_if (single.single k (lowest.below k lt)) in
+      omega (arith, one);
+}
 
 is_same : (h k : ℕ) → h ≡ k → cond {A = ℕ} (h == k) 1 0 ≡ 1
 is_same h k e = grind (arith, nat_tests)
@@ -135,14 +130,12 @@ pub line_posted : (m1 m2 : Pages) (q n : ℕ) (side after : RequestSide) (part :
     → Line m2 q n after part (posting head pages rs)
 line_posted m1 m2 q n side after part rs head pages single fine line did =
     let L : RequestSide → Type 0 = λ s. Line m2 q n s part (posting head pages rs) in
-    subst L (sym did.state)
-    (line_posted_at m1 m2 q n side part rs head pages single fine line
+    subst L (sym did.state) (line_posted_at m1 m2 q n side part rs head pages single fine line
     (subst (λ s. Posts m1 m2 side s (buffers_page q) pages head) did.state did))
   where
-    line_posted_at : (m1 m2 : Pages) (q n : ℕ) (side : RequestSide) (part : QueuePart) (rs : Requests)
-        (head : ℕ) (pages : List ℕ)
-        → AreRequests side → AreRequested side.ring.size n pages
-        → Line m1 q n side part rs
+    line_posted_at : (m1 m2 : Pages) (q n : ℕ)
+        (side : RequestSide) (part : QueuePart) (rs : Requests) (head : ℕ) (pages : List ℕ)
+        → AreRequests side → AreRequested side.ring.size n pages → Line m1 q n side part rs
         → Posts m1 m2 side (posted_side side head pages) (buffers_page q) pages head
         → Line m2 q n (posted_side side head pages) part (posting head pages rs)
     line_posted_at m1 m2 q n side part rs head pages single fine line did =

@@ -56,22 +56,20 @@ IsBehind m g = (page : ℕ) → frame_at m page ≡ frame_of g.frames page
 none_freed : (New : Guest → Type 0) (m1 m2 : Pages) (loose : List ℕ) (g : Guest) (call : Call)
     (reply : Reply) → IsBehind m1 g → ((x : Guest) → New x → IsBehind m2 x) → KeepsFrames m1 m2
     → StepsFreeing New loose g call reply → loose ≡ []
-none_freed New m1 m2 loose g call reply before after same step =
-    no_frames loose (λ n. omega (
-      arith,
-      step.freed n,
-      as_often n step.new.frames g.frames
-          (λ page. sym (after step.new step.stands page) ∙ same page ∙ before page),
-    ))
+none_freed New m1 m2 loose g call reply before after same step = no_frames loose (λ n. omega (
+  arith,
+  step.freed n,
+  as_often n step.new.frames g.frames
+      (λ page. sym (after step.new step.stands page) ∙ same page ∙ before page),
+))
 
 pub freeing_quiet : (keeps : Bool) (m1 m2 m3 : Pages) (p1 p2 : Part) (d : DriverState) (g : Guest)
     (call : Call) (reply : Reply) → Stands keeps m1 p1 d g → m3 ≡ m2 → KeepsFrames m1 m3
     → (Honest m1 p1 d g → StepsFreeing (Honest m2 (handed_back p2) d) p2.loose g call reply)
     → (Rogue m1 p1 d g → StepsFreeing (Rogue m2 (handed_back p2) d) p2.loose g call reply)
     → p2.loose ≡ []
-freeing_quiet keeps m1 m2 m3 p1 p2 d g call reply stands memory same honest rogue =
-    by_guest keeps m1 p1 d g stands
-    (λ h. none_freed (Honest m2 (handed_back p2) d) m1 m2 p2.loose g call reply
+freeing_quiet keeps m1 m2 m3 p1 p2 d g call reply stands memory same honest rogue = by_guest keeps
+    m1 p1 d g stands (λ h. none_freed (Honest m2 (handed_back p2) d) m1 m2 p2.loose g call reply
     h.ties.pages.behind (λ x n. n.ties.pages.behind) kept (honest h))
     (λ r. none_freed (Rogue m2 (handed_back p2) d) m1 m2 p2.loose g call reply
     r.behind (λ x n. n.behind) kept (rogue r))

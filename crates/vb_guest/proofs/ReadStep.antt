@@ -29,8 +29,7 @@ read_free m p d g page off len used stands covers = grind (arith, inside_is)
 
 pub read_done : (m : Pages) (p : Part) (d : DriverState) (g : Guest) (page off len : ℕ)
     (bytes : List ℕ) → is_used (place_of d.places page) ≡ true → Honest m p d g
-    → Covers m page off len
-    → bytes ≡ take len (drop off (contents_at m page))
+    → Covers m page off len → bytes ≡ take len (drop off (contents_at m page))
     → StepsAlone (Honest m p d) g (Read page off len) (ReadBytes bytes)
 read_done m p d g page off len bytes used stands covers is =
     let held : is_used (place_of g.places page) ≡ true =

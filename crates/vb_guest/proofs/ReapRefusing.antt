@@ -26,10 +26,9 @@ reap_same : (m : Pages) (p : Part) (d : DriverState) (g : Guest) (q : ℕ) (ring
 reap_same m p d g q ring o status features answer =
     let whole : is_ring_broken m ring ≡ false =
     ap (λ (r : Result (Option ℕ) Broken). is_err r) answer in
-    last_cause (causes_of_reap q (negotiated d p)) (is_ring_broken m ring) RingBroken whole
-    ∙ ap (λ (s : ℕ). first_refusal
-    (causes_of_reap q (record { status = s; features = d.features }))) status
-    ∙ ap (λ (f : ℕ). first_refusal
+    last_cause (causes_of_reap q (negotiated d p)) (is_ring_broken m ring) RingBroken whole ∙ ap
+    (λ (s : ℕ). first_refusal (causes_of_reap q (record { status = s; features = d.features })))
+    status ∙ ap (λ (f : ℕ). first_refusal
     (causes_of_reap q (record { status = g.status; features = f }))) features
 
 -- a queue of requests before an initialisation
@@ -45,9 +44,8 @@ reap_idle : (m : Pages) (p : Part) (d : DriverState) (g : Guest) (q : ℕ) (ring
     → (first_refusal (reap_causes m p d ring q) ≡ Some NotReady)
     × (refusal_of g (Reap q) ≡ Some NotReady)
 reap_idle m p d g q ring there same down = (
-  not_up (is_queue_of_requests q) p.status
-      ((lacks_feature d.features q ⇒ NoFeature) ∷ (is_ring_broken m ring ⇒ RingBroken) ∷ []) there
-      (subst IsIdleStatus (sym same) down),
+  not_up (is_queue_of_requests q) p.status ((lacks_feature d.features q ⇒ NoFeature)
+      ∷ (is_ring_broken m ring ⇒ RingBroken) ∷ []) there (subst IsIdleStatus (sym same) down),
   not_up (is_queue_of_requests q) g.status ((lacks_feature g.features q ⇒ NoFeature) ∷ []) there
       down,
 )
@@ -65,8 +63,7 @@ unfailed RingBroken p other = absurd (other refl)
 unfailed _ p other = refl
 
 reap_refused : (m1 m2 : Pages) (p1 p2 : Part) (d1 d2 : DriverState) (g : Guest) (q : ℕ)
-    (why : Refusal)
-    → ReapsBy m1 m2 p1 p2 d1 d2 q (Err why) → Honest m1 p1 d1 g
+    (why : Refusal) → ReapsBy m1 m2 p1 p2 d1 d2 q (Err why) → Honest m1 p1 d1 g
     → first_refusal (reap_causes m1 p1 d1 (ring_of q d1) q) ≡ refusal_of g (Reap q)
     → StepsAlone (Honest m2 p2 d2) g (Reap q) (reaped_reply (Err why))
 reap_refused m1 m2 p1 p2 d1 d2 g q why did stands same =
@@ -79,9 +76,8 @@ reap_refused m1 m2 p1 p2 d1 d2 g q why did stands same =
 refused_by_both : (m1 m2 : Pages) (p1 p2 : Part) (d1 d2 : DriverState) (g : Guest) (q : ℕ)
     (why : Refusal) (result : Result (Option ReapedRequest) Refusal)
     → ReapsBy m1 m2 p1 p2 d1 d2 q result → Honest m1 p1 d1 g
-    → first_refusal (reap_causes m1 p1 d1 (ring_of q d1) q) ≡ Some why
-    → refusal_of g (Reap q) ≡ Some why
-    → StepsAlone (Honest m2 p2 d2) g (Reap q) (reaped_reply result)
+    → first_refusal (reap_causes m1 p1 d1 (ring_of q d1) q) ≡ Some why → refusal_of g (Reap q)
+    ≡ Some why → StepsAlone (Honest m2 p2 d2) g (Reap q) (reaped_reply result)
 refused_by_both m1 m2 p1 p2 d1 d2 g q why (Ok got) did stands by_driver by_model =
     absurd (let wrong = did.refusal ∙ by_driver in cc)
 refused_by_both m1 m2 p1 p2 d1 d2 g q why (Err said) did stands by_driver by_model =
@@ -92,9 +88,8 @@ pub reap_no_queue : (m1 m2 : Pages) (p1 p2 : Part) (d1 d2 : DriverState) (g : Gu
     (result : Result (Option ReapedRequest) Refusal)
     → is_queue_of_requests q ≡ false → ReapsBy m1 m2 p1 p2 d1 d2 q result → Honest m1 p1 d1 g
     → StepsAlone (Honest m2 p2 d2) g (Reap q) (reaped_reply result)
-reap_no_queue m1 m2 p1 p2 d1 d2 g q result none did stands =
-    refused_by_both m1 m2 p1 p2 d1 d2 g q NoQueue result did stands
-    (first_holds (not (is_queue_of_requests q)) NoQueue
+reap_no_queue m1 m2 p1 p2 d1 d2 g q result none did stands = refused_by_both m1
+    m2 p1 p2 d1 d2 g q NoQueue result did stands (first_holds (not (is_queue_of_requests q)) NoQueue
     (drop 1 (reap_causes m1 p1 d1 (ring_of q d1) q)) (ap not none))
     (first_holds (not (is_queue_of_requests q)) NoQueue (drop 1 (causes g (Reap q))) (ap not none))
 

@@ -2,8 +2,7 @@
 use Rattle.std.specs.Prelude.{◌≡◌, ℕ, ◌*◌, ◌<◌, ◌≤◌, ◌||◌, Bool, true, false, not, List, [], ◌∷◌}
 use Rattle.std.specs.Prelude.{All, length, map, Option, None, Ok, slice_index, slice_index_or, refl}
 use Rattle.std.{specs.List.{list_any, range_with_len}, proofs.Common.{sym, ◌∙◌, ap, subst, arith}}
-use Rattle.std.{proofs.lemmas.Nat.pow_pos, proofs.lemmas.List.{length-map, get_or-map}}
-use Rattle.std.proofs.lemmas.List.Elements.{All-tail}
+use Rattle.std.proofs.lemmas.{Nat.pow_pos, List.{length-map, get_or-map}, List.Elements.All-tail}
 use Rattle.std.proofs.lemmas.List.FromFn.{length-range_with_len, get_or-range_with_len}
 use Rattle.vb_model.{specs.Layout.reserved_pages, specs.Pages.{Block, size, pages_of_all}}
 use Rattle.vb_ram.specs.Pages.{Pages}
@@ -41,16 +40,14 @@ report_sound descriptors n mem blocks len some own = record {
       let is : IsOwnBlock descriptors n b = own k no_block at in
       let here = piece_at blocks k no_block at in
       omega (arith, ap (λ (p : Piece). p.addr) here, ap (λ (p : Piece). p.len) here, is.below, len);
-  ordered = λ j k before lt e.
-      ap (λ (p : Piece). p.writable)
+  ordered = λ j k before lt e. ap (λ (p : Piece). p.writable)
       (piece_at blocks k no_block (omega (arith, length-map blocks piece_of)));
 }
 
 -- its chain has the first descriptors, and a piece for each block
 pub report_chain : (mem : Pages) (table descriptors n : ℕ) (blocks : List Block) → length mem ≡ n
     → 0 < length blocks → length blocks ≤ descriptors
-    → All (IsOwnBlock descriptors n) blocks
-    → AreReported mem table blocks
+    → All (IsOwnBlock descriptors n) blocks → AreReported mem table blocks
     → ChainGives (descriptor_at mem table) descriptors (4096 * length mem) 0 (pieces_of blocks)
 report_chain mem table descriptors n blocks len some inside own reported =
     let count : ℕ = length blocks in
@@ -63,9 +60,8 @@ report_chain mem table descriptors n blocks len some inside own reported =
       apart = λ j k before lt.
           omega (arith, at j (omega (arith, long)), at k (omega (arith, long)));
     } in
-    let put : (k : ℕ) → k < length path
-    → descriptor_at mem table (slice_index path k) ≡ linked path (pieces_of blocks) k =
-    λ k lt. let below : k < count = omega (arith, long) in
+    let put : (k : ℕ) → k < length path → descriptor_at mem table (slice_index path k)
+    ≡ linked path (pieces_of blocks) k = λ k lt. let below : k < count = omega (arith, long) in
     ap (descriptor_at mem table) (at k below) ∙ reported.chain k below in
     let G : ℕ → Type 0 = λ h. ChainGives (descriptor_at mem table) descriptors
     (4096 * length mem) h (pieces_of blocks) in
@@ -111,12 +107,11 @@ pages_named (b ∷ bs) = grind (arith, pages_named bs)
 pub report_pages : (size n : ℕ) (blocks : List Block) → length blocks ≤ 16
     → All (IsOwnBlock size n) blocks
     → report_request (pieces_of blocks) (reserved_pages size) ≡ Ok (pages_of_all blocks)
-report_pages size n blocks few own =
-    grind (
-      arith,
-      length-map blocks piece_of,
-      all_writable blocks,
-      all_whole blocks,
-      all_right size n blocks own,
-      pages_named blocks,
-    )
+report_pages size n blocks few own = grind (
+  arith,
+  length-map blocks piece_of,
+  all_writable blocks,
+  all_whole blocks,
+  all_right size n blocks own,
+  pages_named blocks,
+)

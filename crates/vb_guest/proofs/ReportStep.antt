@@ -2,21 +2,19 @@
 use Rattle.std.specs.Prelude.{◌≡◌, ℕ, ◌<◌, ◌==◌, Bool, not, nat_le, List, [], ◌∷◌, length, Result}
 use Rattle.std.{specs.Prelude.{Ok, Err, Some, None, refl, All}, proofs.lemmas.List.length-map}
 use Rattle.std.proofs.Common.{sym, ◌∙◌, ap, subst, arith, inr}
-use Rattle.vb_model.{specs.declared.calls.Call.TheVariants.Report, specs.Guest.{Guest, reporting}}
-use Rattle.vb_model.{specs.declared.places.Place.TheVariants.Reporting, specs.Driver.after_posting}
-use Rattle.vb_model.{specs.declared.replies.Refusal.Refusal, specs.Tables.{is_up, most_requests}}
-use Rattle.vb_model.specs.declared.replies.Refusal.TheVariants.{NotReady, NoFeature, QueueFull}
-use Rattle.vb_model.specs.declared.replies.Refusal.TheVariants.{Nothing}
-use Rattle.vb_model.{specs.declared.replies.Reply.TheVariants.{Posted, Refused}, specs.Pages.Block}
-use Rattle.vb_model.specs.Pages.{placed, pages_of_all, reported, maximal_free_blocks}
-use Rattle.vb_model.{specs.declared.places.Place.Place, specs.FirstRefusal.{◌⇒◌, first_refusal}}
+use Rattle.vb_model.specs.{Driver.after_posting, FirstRefusal.{◌⇒◌, first_refusal}, Guest.Guest}
+use Rattle.vb_model.specs.{Guest.reporting, Pages.{Block, placed, pages_of_all, reported}}
+use Rattle.vb_model.specs.{Pages.maximal_free_blocks, Refusals.{refusal_of, reported_blocks}}
 use Rattle.vb_model.specs.Requests.{Request, Requests, no_requests, outstanding, posting}
-use Rattle.vb_model.{specs.Requests.{IsLeastHead, Reporting_free}, specs.Refusals.refusal_of}
-use Rattle.vb_model.specs.Refusals.{reported_blocks}
+use Rattle.vb_model.specs.{Requests.{IsLeastHead, Reporting_free}, Tables.{is_up, most_requests}}
+use Rattle.vb_model.specs.declared.{calls.Call.TheVariants.Report, places.Place.Place}
+use Rattle.vb_model.specs.declared.{places.Place.TheVariants.Reporting, replies.Refusal.Refusal}
+use Rattle.vb_model.specs.declared.replies.Refusal.TheVariants.{NotReady, NoFeature, QueueFull}
+use Rattle.vb_model.specs.declared.replies.{Refusal.TheVariants.Nothing, Reply.TheVariants.Posted}
+use Rattle.vb_model.specs.declared.replies.Reply.TheVariants.{Refused}
 use Rattle.vb_ram.{specs.Pages.Pages, specs.Part.Part}
-use Rattle.vb_driver.{specs.State.{DriverState, ReportSide}, specs.Areas.areas_without}
-use Rattle.vb_driver.specs.Answers.{report_causes, blocks_to_report}
-use Rattle.vb_driver.specs.Calls.{Reports, ReportsBy, unreported}
+use Rattle.vb_driver.specs.{Answers.{report_causes, blocks_to_report}, Areas.areas_without}
+use Rattle.vb_driver.specs.{Calls.{Reports, ReportsBy, unreported}, State.{DriverState, ReportSide}}
 use Rattle.vb_guest.proofs.RunApart.{sizes_of, ring_of, ring_low, table_clear, post_leaves}
 use Rattle.vb_guest.proofs.Closing.{honest_performed, honest_refused, steps_alone, ties_same}
 use Rattle.vb_guest.proofs.SameRefusals.{refused_alike, runs_where, IsIdleStatus}
@@ -37,15 +35,13 @@ blocks_same d g from size places =
     λ queue_size ps. reported (most_requests queue_size) from (maximal_free_blocks ps) in
     ap (λ (n : ℕ). B n d.places) size ∙ ap (λ (ps : List Place). B g.config.queue_size ps) places
 
-report_same : (p : Part) (d : DriverState) (g : Guest) (from : ℕ) → p.status ≡ g.status
-    → d.features ≡ g.features → outstanding_in d.report.ring ≡ outstanding g.report
-    → blocks_to_report d from ≡ reported_blocks g from
-    → first_refusal (report_causes d p from) ≡ refusal_of g (Report from)
+report_same : (p : Part) (d : DriverState) (g : Guest) (from : ℕ) → p.status ≡ g.status → d.features
+    ≡ g.features → outstanding_in d.report.ring ≡ outstanding g.report → blocks_to_report d from
+    ≡ reported_blocks g from → first_refusal (report_causes d p from) ≡ refusal_of g (Report from)
 report_same p d g from status features out blocks = grind arith
 
 report_idle : (p : Part) (d : DriverState) (g : Guest) (from : ℕ) → p.status ≡ g.status
-    → IsIdleStatus g.status
-    → (first_refusal (report_causes d p from) ≡ Some NotReady)
+    → IsIdleStatus g.status → (first_refusal (report_causes d p from) ≡ Some NotReady)
     × (refusal_of g (Report from) ≡ Some NotReady)
 report_idle p d g from same down = grind arith
 
@@ -55,50 +51,40 @@ unreported_ties : (why : Refusal) (m1 m2 : Pages) (p1 p2 : Part) (d1 d2 : Driver
 unreported_ties why m1 m2 p1 p2 d1 d2 g m p d ties = search arith
 
 report_refused : (m1 m2 : Pages) (p1 p2 : Part) (d1 d2 : DriverState) (g : Guest) (from : ℕ)
-    (why : Refusal)
-    → ReportsBy m1 m2 p1 p2 d1 d2 from (Err why) → Honest m1 p1 d1 g
+    (why : Refusal) → ReportsBy m1 m2 p1 p2 d1 d2 from (Err why) → Honest m1 p1 d1 g
     → first_refusal (report_causes d1 p1 from) ≡ refusal_of g (Report from)
     → StepsAlone (Honest m2 p2 d2) g (Report from) (posted_reply (Err why))
 report_refused m1 m2 p1 p2 d1 d2 g from why did stands same =
     steps_alone m1 m2 p1 p2 d1 d2 g (Report from)
-    (Refused why) g stands
-    (honest_refused g (Report from) why (sym (did.refusal ∙ same)))
+    (Refused why) g stands (honest_refused g (Report from) why (sym (did.refusal ∙ same)))
     (unreported_ties why m1 m2 p1 p2 d1 d2 g did.refused.mem did.refused.part did.refused.driver
     stands.ties) refl
 
 -- ---- a new report
 
 -- none is out, and there is a block
-none_out : (a b : Bool) (out count : ℕ)
-    → first_refusal ((a ⇒ NotReady) ∷ (b ⇒ NoFeature) ∷ (nat_le 1 out ⇒ QueueFull)
-    ∷ ((count == 0) ⇒ Nothing) ∷ []) ≡ None
-    → (out ≡ 0) × (0 < count)
+none_out : (a b : Bool) (out count : ℕ) → first_refusal ((a ⇒ NotReady) ∷ (b ⇒ NoFeature)
+    ∷ (nat_le 1 out ⇒ QueueFull) ∷ ((count == 0) ⇒ Nothing) ∷ []) ≡ None → (out ≡ 0) × (0 < count)
 none_out a b out count e = grind arith
 
 all_gone : (rs : Requests) → outstanding rs ≡ 0 → rs ≡ no_requests
-all_gone rs e = by rs.posted rs.taken rs.done refl refl refl e
-  where
-    by : (posted taken done : List Request) → rs.posted ≡ posted → rs.taken ≡ taken → rs.done ≡ done
-        → outstanding rs ≡ 0 → rs ≡ no_requests
-    by [] [] [] a b c e =
-        ap (λ (l : List Request). record rs { posted = l }) a
-        ∙ ap (λ (l : List Request). record rs { posted = []; taken = l }) b
-        ∙ ap (λ (l : List Request). record rs { posted = []; taken = []; done = l }) c
-    by (x ∷ xs) taken done a b c e =
-        absurd (omega (arith, ap (λ (l : List Request). length l) a, e))
-    by [] (x ∷ xs) done a b c e =
-        absurd (omega (arith, ap (λ (l : List Request). length l) b, e))
-    by [] [] (x ∷ xs) a b c e =
-        absurd (omega (arith, ap (λ (l : List Request). length l) c, e))
+all_gone rs e = by rs.posted rs.taken rs.done refl refl refl e where
+  by : (posted taken done : List Request) → rs.posted ≡ posted → rs.taken ≡ taken → rs.done ≡ done
+      → outstanding rs ≡ 0 → rs ≡ no_requests
+  by [] [] [] a b c e = ap (λ (l : List Request). record rs { posted = l }) a
+      ∙ ap (λ (l : List Request). record rs { posted = []; taken = l }) b
+      ∙ ap (λ (l : List Request). record rs { posted = []; taken = []; done = l }) c
+  by (x ∷ xs) taken done a b c e = absurd (omega (arith, ap (λ (l : List Request). length l) a, e))
+  by [] (x ∷ xs) done a b c e = absurd (omega (arith, ap (λ (l : List Request). length l) b, e))
+  by [] [] (x ∷ xs) a b c e = absurd (omega (arith, ap (λ (l : List Request). length l) c, e))
 
 first_head : (rs : Requests) → rs ≡ no_requests → IsLeastHead rs 0
 first_head rs e = grind arith
 
 report_out : (m1 m2 : Pages) (p1 p2 : Part) (d1 d2 : DriverState) (g : Guest) (from : ℕ)
-    (posted : PostedRequest)
-    → Reports m1 m2 p1 p2 d1 d2 (reported_blocks g from) posted → Honest m1 p1 d1 g
-    → IsRunning m1 p1 d1 g → refusal_of g (Report from) ≡ None → outstanding g.report ≡ 0
-    → 0 < length (reported_blocks g from)
+    (posted : PostedRequest) → Reports m1 m2 p1 p2 d1 d2 (reported_blocks g from) posted
+    → Honest m1 p1 d1 g → IsRunning m1 p1 d1 g → refusal_of g (Report from) ≡ None
+    → outstanding g.report ≡ 0 → 0 < length (reported_blocks g from)
     → StepsAlone (Honest m2 p2 d2) g (Report from) (Posted posted.head posted.pages)
 report_out m1 m2 p1 p2 d1 d2 g from posted did stands run free none some =
     let ties = stands.ties in
@@ -156,29 +142,25 @@ report_out m1 m2 p1 p2 d1 d2 g from posted did stands run free none some =
     (ties_same m2 m2 p1 p2 after d2 new refl did.part did.state there) refl
 
 pub report_step : (m1 m2 : Pages) (p1 p2 : Part) (d1 d2 : DriverState) (g : Guest) (from : ℕ)
-    (result : Result PostedRequest Refusal)
-    → ReportsBy m1 m2 p1 p2 d1 d2 from result → Honest m1 p1 d1 g
-    → StepsAlone (Honest m2 p2 d2) g (Report from) (posted_reply result)
+    (result : Result PostedRequest Refusal) → ReportsBy m1 m2 p1 p2 d1 d2 from result
+    → Honest m1 p1 d1 g → StepsAlone (Honest m2 p2 d2) g (Report from) (posted_reply result)
 report_step m1 m2 p1 p2 d1 d2 g from result did stands =
     let device = stands.ties.parts.device in
     let driver = stands.ties.parts.driver in
-    by result did
-    (refused_alike m1 p1 d1 g (Report from) _ stands.ties.queues
+    by result did (refused_alike m1 p1 d1 g (Report from) _ stands.ties.queues
     (report_idle p1 d1 g from device.status)
     (λ run. report_same p1 d1 g from device.status driver.accepted (out_same run)
     (blocks_same d1 g from driver.queue_size driver.places)))
   where
     out_same : IsRunning m1 p1 d1 g → outstanding_in d1.report.ring ≡ outstanding g.report
-    out_same run =
-        let rs = g.report in
-        omega (
-          arith,
-          ring_count m1 4 d1.report.ring p1.report.next_avail p1.report.next_used
-              (heads_of rs.posted) (heads_of rs.taken) (heads_of rs.done) run.report.ring,
-          length-map rs.posted (λ (r : Request). r.head),
-          length-map rs.taken (λ (r : Request). r.head),
-          length-map rs.done (λ (r : Request). r.head),
-        )
+    out_same run = let rs = g.report in omega (
+      arith,
+      ring_count m1 4 d1.report.ring p1.report.next_avail p1.report.next_used
+          (heads_of rs.posted) (heads_of rs.taken) (heads_of rs.done) run.report.ring,
+      length-map rs.posted (λ (r : Request). r.head),
+      length-map rs.taken (λ (r : Request). r.head),
+      length-map rs.done (λ (r : Request). r.head),
+    )
 
     by : (result : Result PostedRequest Refusal) → ReportsBy m1 m2 p1 p2 d1 d2 from result
         → first_refusal (report_causes d1 p1 from) ≡ refusal_of g (Report from)

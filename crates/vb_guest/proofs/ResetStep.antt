@@ -1,10 +1,9 @@
 -- A guest's reset is a step of the definitions.
 use Rattle.std.specs.Prelude.{◌≡◌, ℕ, Bool, false, List, [], length, map, replicate, refl}
 use Rattle.std.proofs.Common.{◌∙◌, ap, inl}
-use Rattle.vb_model.{specs.declared.calls.Call.TheVariants.Reset, specs.declared.places.Place.Place}
-use Rattle.vb_model.{specs.declared.replies.Reply.TheVariants.Done, specs.Tests.pages_where}
-use Rattle.vb_model.{specs.Pages.is_reporting, specs.Guest.Guest}
-use Rattle.vb_model.specs.Life.{place_after_reset, after_reset}
+use Rattle.vb_model.specs.declared.{calls.Call.TheVariants.Reset, places.Place.Place}
+use Rattle.vb_model.specs.{declared.replies.Reply.TheVariants.Done, Tests.pages_where}
+use Rattle.vb_model.specs.{Pages.is_reporting, Guest.Guest, Life.{place_after_reset, after_reset}}
 use Rattle.vb_ram.{specs.Pages.Pages, specs.Part.Part}
 use Rattle.vb_driver.specs.State.{DriverState, fresh_side, fresh_statistics, fresh_report}
 use Rattle.vb_driver.{specs.Areas.areas_with, specs.Calls.ResetsBy}

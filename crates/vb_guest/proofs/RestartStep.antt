@@ -3,19 +3,17 @@ use Rattle.std.specs.Prelude.{◌≡◌, ℕ, ◌+◌, ◌<◌, ◌==◌, Bool, 
 use Rattle.std.specs.Prelude.{Option, None, count_by, replicate, slice_index_or, refl}
 use Rattle.std.{specs.Option.option_to_list, specs.List.range_with_len}
 use Rattle.std.{proofs.Common.{sym, ◌∙◌, ap, subst, arith}, proofs.lemmas.List.length-replicate}
-use Rattle.vb_model.{specs.Limits.is_config, specs.Guest.{Guest, no_statistics}}
-use Rattle.vb_model.{specs.Life.after_restart, specs.Orderly.times}
-use Rattle.vb_model.proofs.Tables.{count_by-cons, count_by-append}
+use Rattle.vb_model.specs.{Limits.is_config, Guest.{Guest, no_statistics}, Life.after_restart}
+use Rattle.vb_model.{specs.Orderly.times, proofs.Tables.{count_by-cons, count_by-append}}
 use Rattle.vb_ram.{specs.Pages.{Pages, frame_at, number_of}, specs.Part.Part}
 use Rattle.vb_status.specs.After.{part_after_reset}
 use Rattle.vb_driver.specs.State.{DriverState, fresh_driver}
 use Rattle.vb_device.specs.Discards.{frames_behind}
-use Rattle.vb_guest.{specs.Stands.{Honest, DeviceKeeps, Stands}, specs.Exact.KeepsFrames}
-use Rattle.vb_guest.specs.Steps.{is_frame, backing_count, AreOut, AllReturn, IsBare, Restarts}
+use Rattle.vb_guest.proofs.{Discarding.one_frame, Fresh.{everywhere, backs_none, fresh_honest}}
+use Rattle.vb_guest.proofs.{Moving.moves_as, Standing.{stands_of, own_moved}, Writing.HasFrames}
+use Rattle.vb_guest.specs.{Exact.KeepsFrames, Stands.{Honest, DeviceKeeps, Stands}, Steps.is_frame}
+use Rattle.vb_guest.specs.Steps.{backing_count, AreOut, AllReturn, IsBare, Restarts}
 use Rattle.vb_guest.specs.Supply.{Supply, supply_of, Moves, nothing, AreLoose}
-use Rattle.vb_guest.{proofs.Discarding.one_frame, proofs.Moving.moves_as, proofs.Writing.HasFrames}
-use Rattle.vb_guest.proofs.Fresh.{everywhere, backs_none, fresh_honest}
-use Rattle.vb_guest.proofs.Standing.{stands_of, own_moved}
 
 -- ---- the frames behind all pages
 
@@ -26,10 +24,9 @@ all_behind : (n first : ℕ) (mem : Pages) (frames : List (Option ℕ))
     ≡ count_by (is_frame n) frames
 all_behind n first mem [] same = refl
 all_behind n first mem (x ∷ xs) same =
-    let here : frame_at mem first ≡ x =
-    ap (frame_at mem) (omega arith) ∙ same 0 (omega arith) in
-    let rest = all_behind n (first + 1) mem xs (λ i lt.
-    ap (frame_at mem) (omega arith) ∙ same (suc i) (omega (arith, lt))) in
+    let here : frame_at mem first ≡ x = ap (frame_at mem) (omega arith) ∙ same 0 (omega arith) in
+    let rest = all_behind n (first + 1) mem xs
+    (λ i lt. ap (frame_at mem) (omega arith) ∙ same (suc i) (omega (arith, lt))) in
     let others = frames_behind mem (range_with_len (first + 1) (length xs)) in
     omega (
       arith,
@@ -98,9 +95,8 @@ none_had m1 m2 n none kept page =
 -- ---- the new life
 
 -- what the device keeps
-part_restarted : (m1 : Pages) (p1 p2 : Part) (d1 : DriverState) (g : Guest) (own : List ℕ)
-    → Rooted m1 p1 d1 g
-    → p2 ≡ record (part_after_reset (part_after_reset p1)) { loose = []; own = own }
+part_restarted : (m1 : Pages) (p1 p2 : Part) (d1 : DriverState) (g : Guest) (own : List ℕ) → Rooted
+    m1 p1 d1 g → p2 ≡ record (part_after_reset (part_after_reset p1)) { loose = []; own = own }
     → DeviceKeeps p2 g.config 0 0 g.target 0 (replicate g.config.pages false) no_statistics
 part_restarted m1 p1 p2 d1 g own root is = grind (arith, length-replicate)
 
@@ -108,18 +104,15 @@ honest_restarted : (m1 m2 : Pages) (p1 p2 : Part) (d1 d2 : DriverState) (g : Gue
     → Rooted m1 p1 d1 g → m2 ≡ replicate (length m1) None
     → p2 ≡ record (part_after_reset (part_after_reset p1)) { loose = []; own = p2.own }
     → d2 ≡ fresh_driver d1.pages d1.queue_size d1.processors → Honest m2 p2 d2 (after_restart g)
-honest_restarted m1 m2 p1 p2 d1 d2 g root m p d =
-    grind (
-      arith,
-      fresh_honest g.config g.target p2 root.config (part_restarted m1 p1 p2 d1 g p2.own root p),
-    )
+honest_restarted m1 m2 p1 p2 d1 d2 g root m p d = grind (
+  arith,
+  fresh_honest g.config g.target p2 root.config (part_restarted m1 p1 p2 d1 g p2.own root p),
+)
 
-pub restart_step : (keeps : Bool) (m1 between m2 : Pages) (p1 reset p2 : Part)
-    (d1 d2 : DriverState) (g : Guest) (out1 out2 : List Bool) → Stands keeps m1 p1 d1 g
-    → between ≡ m1 → reset ≡ part_after_reset p1
-    → d2 ≡ fresh_driver d1.pages d1.queue_size d1.processors
-    → m2 ≡ replicate (length between) None
-    → p2 ≡ record (part_after_reset reset) { loose = []; own = p2.own }
+pub restart_step : (keeps : Bool) (m1 between m2 : Pages) (p1 reset p2 : Part) (d1 d2 : DriverState)
+    (g : Guest) (out1 out2 : List Bool) → Stands keeps m1 p1 d1 g → between ≡ m1 → reset
+    ≡ part_after_reset p1 → d2 ≡ fresh_driver d1.pages d1.queue_size d1.processors → m2 ≡ replicate
+    (length between) None → p2 ≡ record (part_after_reset reset) { loose = []; own = p2.own }
     → Moves (supply_of reset out1) (supply_of p2 out2) nothing (λ n. times n (all_frames between))
     → Restarts (Stands keeps m2 p2 d2) (supply_of p1 out1) (supply_of p2 out2) g
 restart_step keeps m1 between m2 p1 reset p2 d1 d2 g out1 out2 stands same was d m p moved =
@@ -127,17 +120,14 @@ restart_step keeps m1 between m2 p1 reset p2 d1 d2 g out1 out2 stands same was d
     let back : AllReturn (supply_of p1 out1) (supply_of p2 out2) g =
     all_returned keeps m1 p1 d1 g (supply_of p1 out1) (supply_of p2 out2) stands
     (subst (λ (x : Pages). Moves (supply_of p1 out1) (supply_of p2 out2) nothing
-    (λ n. times n (all_frames x))) same
-    (subst (λ (x : Supply). Moves x (supply_of p2 out2) nothing
+    (λ n. times n (all_frames x))) same (subst (λ (x : Supply). Moves x (supply_of p2 out2) nothing
     (λ n. times n (all_frames between))) (ap (λ (x : Part). supply_of x out1) was) moved)) in
     let fresh_frames : Moves (supply_of p1 out1) (supply_of p2 out2)
-    (λ n. backing_count n (after_restart g)) (λ n. backing_count n g) =
-    moves_as (supply_of p1 out1) (supply_of p2 out2) nothing (λ n. backing_count n g)
-    (λ n. backing_count n (after_restart g)) (λ n. backing_count n g) back
-    (λ n. omega (arith, backs_none n g.config.pages)) in
+    (λ n. backing_count n (after_restart g)) (λ n. backing_count n g) = moves_as (supply_of p1 out1)
+    (supply_of p2 out2) nothing (λ n. backing_count n g) (λ n. backing_count n (after_restart g))
+    (λ n. backing_count n g) back (λ n. omega (arith, backs_none n g.config.pages)) in
     record {
-      stands = stands_of keeps m2 p2 d2 (after_restart g)
-          (honest_restarted m1 m2 p1 p2 d1 d2 g root
+      stands = stands_of keeps m2 p2 d2 (after_restart g) (honest_restarted m1 m2 p1 p2 d1 d2 g root
           (m ∙ ap (λ (x : Pages). replicate (length x) None) same)
           (p ∙ ap (λ (x : Part). record (part_after_reset x) { loose = []; own = p2.own }) was) d)
           (own_moved keeps p1 p2 out1 out2 g (after_restart g) fresh_frames stands.own);

@@ -14,15 +14,13 @@ SameRing old new size q = (page : ℕ) → InRing size q page → page_at new pa
 
 -- the parts of a ring lie in its queue's pages
 pub ring_parts : (q : ℕ) (ring : DriverEnd) → IsSize ring.size
-    → ring.layout ≡ layout_of (ring_page ring.size q) ring.size
-    → AreInRing ring.size q ring.layout
+    → ring.layout ≡ layout_of (ring_page ring.size q) ring.size → AreInRing ring.size q ring.layout
 ring_parts q ring sized layout =
     subst (AreInRing ring.size q) (sym layout) (parts_in_ring ring.size q sized)
 
 pub ring_apart : (old new : Pages) (q : ℕ) (ring : DriverEnd) (next_avail next_used : ℕ)
     (posted taken done : List ℕ)
-    → SameRing old new ring.size q
-    → RingStands old q ring next_avail next_used posted taken done
+    → SameRing old new ring.size q → RingStands old q ring next_avail next_used posted taken done
     → RingStands new q ring next_avail next_used posted taken done
 ring_apart old new q ring next_avail next_used posted taken done same stands =
     let l = ring.layout in

@@ -83,17 +83,10 @@ ring_once mem q ring next_avail next_used posted taken done h stands =
     let front : times h (ids (take (length stands.gone) (stands.gone ++ used_of done)))
     ≡ times h (ids stands.gone) =
     ap (λ (l : List UsedElem). times h (ids l)) (take_front stands.gone (used_of done)) in
-    omega (
-      arith,
-      stands.tracks.out h,
-      front,
-      times-append h stands.before posted,
-      stands.balance h,
-    )
+    omega (arith, stands.tracks.out h, front, times-append h stands.before posted, stands.balance h)
 
 -- as many chains are out as there are posted, taken and used heads
 pub ring_count : (mem : Pages) (q : ℕ) (ring : DriverEnd) (next_avail next_used : ℕ)
-    (posted taken done : List ℕ)
-    → RingStands mem q ring next_avail next_used posted taken done
+    (posted taken done : List ℕ) → RingStands mem q ring next_avail next_used posted taken done
     → outstanding ring ≡ length posted + (length taken + length done)
 ring_count mem q ring next_avail next_used posted taken done stands = grind (arith, length-append)

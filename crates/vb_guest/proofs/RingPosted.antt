@@ -14,8 +14,7 @@ pub ring_posted : (m1 m2 : Pages) (q : ℕ) (ring after : DriverEnd) (next_avail
 ring_posted m1 m2 q ring after next_avail next_used posted taken done n head stands state did =
     let R : DriverEnd → Type 0 =
     λ r. RingStands m2 q r next_avail next_used (posted ++ head ∷ []) taken done in
-    subst R (sym state)
-    (posted_at m1 m2 q ring next_avail next_used posted taken done n head stands
+    subst R (sym state) (posted_at m1 m2 q ring next_avail next_used posted taken done n head stands
     (subst (λ (r : DriverEnd). Announces m1 m2 ring r head) state did))
   where
     posted_at : (m1 m2 : Pages) (q : ℕ) (ring : DriverEnd) (next_avail next_used : ℕ)

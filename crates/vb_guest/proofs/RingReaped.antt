@@ -1,24 +1,21 @@
 -- The driver sees a used head.
 use Rattle.std.specs.Prelude.{◌≡◌, ℕ, ◌+◌, ◌%◌, Bool, true, if◌then◌else◌, List, [], ◌∷◌, ◌++◌}
 use Rattle.std.specs.Prelude.{length, Result, Ok, Err, Option, Some, slice_get, refl}
-use Rattle.std.proofs.Common.{sym, ◌∙◌, ap, subst, arith, append_assoc}
-use Rattle.std.proofs.lemmas.List.{length_push}
+use Rattle.std.proofs.{Common.{sym, ◌∙◌, ap, subst, arith, append_assoc}, lemmas.List.length_push}
 use Rattle.vb_model.proofs.Distinct.{times-cons}
 use Rattle.vb_ram.specs.Pages.{Pages}
-use Rattle.vb_ring.{specs.declared.driver.RingBroken.RingBroken, specs.Entries.{is_head, only_head}}
-use Rattle.vb_ring.specs.declared.driver.RingBroken.TheVariants.{NotOutstanding}
-use Rattle.vb_ring.specs.Ends.{DriverEnd, after_take, used_answer, outstanding}
-use Rattle.vb_ring.{specs.Meaning.{UsedElem, ids, times, Shows, Tracks}, specs.Calls.TakesUsedBy}
-use Rattle.vb_ring.{proofs.EntryLaws.id_shown, proofs.MeaningLaws.{times-push, ids-push}}
-use Rattle.vb_ring.proofs.Numbers.{length-numbers}
+use Rattle.vb_ring.proofs.{EntryLaws.id_shown, MeaningLaws.{times-push, ids-push}}
+use Rattle.vb_ring.{proofs.Numbers.length-numbers, specs.Calls.TakesUsedBy, specs.Ends.DriverEnd}
+use Rattle.vb_ring.specs.{Ends.{after_take, used_answer, outstanding}, Entries.{is_head, only_head}}
+use Rattle.vb_ring.specs.Meaning.{UsedElem, ids, times, Shows, Tracks}
+use Rattle.vb_ring.specs.declared.driver.RingBroken.{RingBroken, TheVariants.NotOutstanding}
 use Rattle.vb_guest.proofs.RingHeads.{one_is, is_one, length-used, length-ids, ids-split, get_after}
 use Rattle.vb_guest.proofs.RingHeads.{none_after, ring_once, ring_count}
 use Rattle.vb_guest.specs.Ring.{RingStands, used_of}
 
 -- the driver's next used head is the first that it hasn't seen
 pub ring_answer : (mem : Pages) (q : ℕ) (ring : DriverEnd) (next_avail next_used : ℕ)
-    (posted taken done : List ℕ)
-    → RingStands mem q ring next_avail next_used posted taken done
+    (posted taken done : List ℕ) → RingStands mem q ring next_avail next_used posted taken done
     → used_answer mem ring ≡ Ok (slice_get done 0)
 ring_answer mem q ring next_avail next_used posted taken done stands =
     let out = ring_count mem q ring next_avail next_used posted taken done stands in
@@ -34,14 +31,12 @@ ring_answer mem q ring next_avail next_used posted taken done stands =
     by_done : (d : List ℕ) → done ≡ d
         → only_head ring.owner (Ok (slice_get (ids stands.gone ++ done) (length (ids stands.gone))))
         ≡ Ok (slice_get done 0)
-    by_done [] is =
-        ap (λ (d : List ℕ). only_head ring.owner
+    by_done [] is = ap (λ (d : List ℕ). only_head ring.owner
         (Ok (slice_get (ids stands.gone ++ d) (length (ids stands.gone))))) is
         ∙ ap (λ (o : Option ℕ). only_head ring.owner (Ok o)) (none_after (ids stands.gone))
         ∙ ap (λ (d : List ℕ). Ok (slice_get d 0)) (sym is)
     by_done (h ∷ rest) is =
-        let owns : is_head ring.owner h ≡ true =
-        is_one (is_head ring.owner h) (omega (
+        let owns : is_head ring.owner h ≡ true = is_one (is_head ring.owner h) (omega (
           arith,
           ring_once mem q ring next_avail next_used posted taken done h stands,
           ap (times h) is ∙ times-cons h h rest,
@@ -62,8 +57,7 @@ pub ring_reaped : (mem : Pages) (q : ℕ) (ring after : DriverEnd) (next_avail n
     → RingStands mem q after next_avail next_used posted taken rest
 ring_reaped mem q ring after next_avail next_used posted taken h rest stands did =
     let R : DriverEnd → Type 0 = λ r. RingStands mem q r next_avail next_used posted taken rest in
-    subst R (sym did.state)
-    (reaped_at mem q ring next_avail next_used posted taken h rest stands
+    subst R (sym did.state) (reaped_at mem q ring next_avail next_used posted taken h rest stands
     (subst (λ (r : DriverEnd). TakesUsedBy mem ring r (Ok (Some h))) did.state did))
   where
     reaped_at : (mem : Pages) (q : ℕ) (ring : DriverEnd) (next_avail next_used : ℕ)

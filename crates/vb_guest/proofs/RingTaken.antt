@@ -1,7 +1,6 @@
 -- The device takes a posted head.
 use Rattle.std.specs.Prelude.{◌≡◌, ℕ, ◌+◌, ◌%◌, List, [], ◌∷◌, ◌++◌, length, Ok, slice_get}
-use Rattle.std.proofs.Common.{sym, ◌∙◌, ap, subst, arith, append_assoc}
-use Rattle.std.proofs.lemmas.List.{length_push}
+use Rattle.std.proofs.{Common.{sym, ◌∙◌, ap, subst, arith, append_assoc}, lemmas.List.length_push}
 use Rattle.vb_ram.specs.Pages.{Pages}
 use Rattle.vb_ring.{specs.Entries.next_entry, specs.Ends.DriverEnd, specs.Meaning.{Shows, Tracks}}
 use Rattle.vb_ring.{proofs.EntryLaws.entry_shown, proofs.MeaningLaws.times-push}
@@ -10,16 +9,14 @@ use Rattle.vb_guest.proofs.RingHeads.{length-used, get_after, none_after}
 
 -- the device's next entry is the first posted head
 pub ring_next : (mem : Pages) (q : ℕ) (ring : DriverEnd) (next_avail next_used : ℕ)
-    (posted taken done : List ℕ)
-    → RingStands mem q ring next_avail next_used posted taken done
+    (posted taken done : List ℕ) → RingStands mem q ring next_avail next_used posted taken done
     → next_entry mem ring.layout ring.size next_avail ≡ Ok (slice_get posted 0)
 ring_next mem q ring next_avail next_used posted taken done stands =
     let used = length-used stands.gone done in
-    entry_shown mem ring.layout ring.size (stands.before ++ posted) (length stands.before)
-    next_avail stands.sized stands.shows.entries.avail stands.avail
+    entry_shown mem ring.layout ring.size (stands.before ++ posted)
+    (length stands.before) next_avail stands.sized stands.shows.entries.avail stands.avail
     (omega (arith, Rattle.std.proofs.Common.length-append stands.before posted))
-    (omega (arith, stands.shows.most, stands.counted, used))
-    ∙ ap Ok (first stands.before posted)
+    (omega (arith, stands.shows.most, stands.counted, used)) ∙ ap Ok (first stands.before posted)
   where
     first : (before posted : List ℕ)
         → slice_get (before ++ posted) (length before) ≡ slice_get posted 0
@@ -27,8 +24,7 @@ ring_next mem q ring next_avail next_used posted taken done stands =
     first before (h ∷ rest) = get_after before h rest
 
 pub ring_taken : (mem : Pages) (q : ℕ) (ring : DriverEnd) (next_avail next_used : ℕ) (h : ℕ)
-    (rest taken done : List ℕ)
-    → RingStands mem q ring next_avail next_used (h ∷ rest) taken done
+    (rest taken done : List ℕ) → RingStands mem q ring next_avail next_used (h ∷ rest) taken done
     → RingStands mem q ring ((next_avail + 1) % 65536) next_used rest (taken ++ h ∷ []) done
 ring_taken mem q ring next_avail next_used h rest taken done stands =
     let elems = stands.gone ++ used_of done in
@@ -46,10 +42,6 @@ ring_taken mem q ring next_avail next_used h rest taken done stands =
       avail = omega (arith, length_push stands.before h, stands.avail);
       used = stands.used;
       counted = omega (arith, length_push stands.before h, length_push taken h, stands.counted);
-      balance = λ k. omega (
-        arith,
-        times-push k stands.before h,
-        times-push k taken h,
-        stands.balance k,
-      );
+      balance =
+          λ k. omega (arith, times-push k stands.before h, times-push k taken h, stands.balance k);
     }

@@ -19,19 +19,16 @@ pub ring_used : (m1 m2 : Pages) (q : ℕ) (ring : DriverEnd) (next_avail next_us
       ready = true;
       next_avail = next_avail;
       next_used = next_used;
-    }) after h 0
-    → RingStands m2 q ring next_avail ((next_used + 1) % 65536) posted (remove taken i)
+    }) after h 0 → RingStands m2 q ring next_avail ((next_used + 1) % 65536) posted (remove taken i)
     (done ++ h ∷ [])
 ring_used m1 m2 q ring next_avail next_used posted taken done i h after stands is adds =
     let heads = stands.before ++ posted in
     let elems = stands.gone ++ used_of done in
     let e : UsedElem = record { id = h; len = 0 } in
     let grown : elems ++ e ∷ [] ≡ stands.gone ++ used_of (done ++ h ∷ []) =
-    append_assoc stands.gone (used_of done) (e ∷ [])
-    ∙ ap (λ (x : List UsedElem). stands.gone ++ x)
+    append_assoc stands.gone (used_of done) (e ∷ []) ∙ ap (λ (x : List UsedElem). stands.gone ++ x)
     (sym (map_push (λ (k : ℕ). (let y : UsedElem = record { id = k; len = 0 } in y)) done h)) in
-    let out : times h (ids elems) < times h heads =
-    omega (
+    let out : times h (ids elems) < times h heads = omega (
       arith,
       times-used h stands.gone done,
       times-append h stands.before posted,
@@ -59,10 +56,6 @@ ring_used m1 m2 q ring next_avail next_used posted taken done i h after stands i
         length-remove taken i (slice_get_within taken i h is),
         length_push done h,
       );
-      balance = λ k. omega (
-        arith,
-        stands.balance k,
-        times-remove k taken i h is,
-        times-push k done h,
-      );
+      balance =
+          λ k. omega (arith, stands.balance k, times-remove k taken i h is, times-push k done h);
     }

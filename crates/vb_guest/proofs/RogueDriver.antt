@@ -60,9 +60,8 @@ pub left_same : (m : Pages) (p1 p2 : Part) (d1 d2 : DriverState) (g : Guest) (ca
     → d2.actual ≡ d1.actual → p2 ≡ p1 → Some why ≡ first_refusal causes → list_all (λ t. keeps_status t.refusal) causes ≡ true
     → after_refused call why [] g ≡ with_fault why g
     → IsLeft call (Refused why) [] g (rogue_after g g.frames p2 d2)
-left_same m p1 p2 d1 d2 g call why causes rogue places told part is keep plain =
-    left_by call why [] g (rogue_after g g.frames p2 d2)
-    (rogue_unchanged m p1 p2 d1 d2 g rogue places told part
+left_same m p1 p2 d1 d2 g call why causes rogue places told part is keep plain = left_by call
+    why [] g (rogue_after g g.frames p2 d2) (rogue_unchanged m p1 p2 d1 d2 g rogue places told part
     ∙ sym (plain ∙ without_fault why g (refused_passes keeps_status causes why keep (sym is))))
 
 -- one that changes nothing
@@ -72,19 +71,17 @@ pub unchanged_alone : (m1 m2 : Pages) (p1 p2 : Part) (d1 d2 : DriverState) (g : 
     → none_wants causes ≡ true → list_all (λ t. keeps_status t.refusal) causes ≡ true
     → after_refused call why [] g ≡ with_fault why g → bare_pages call g ≡ [] → IsOther call
     → Rogue m1 p1 d1 g → StepsAlone (Rogue m2 p2 d2) g call (Refused why)
-unchanged_alone m1 m2 p1 p2 d1 d2 g call why causes same still is wanted keep plain none other rogue =
-    part_alone m1 m2 p1 p2 d1 d2 g call (Refused why) (driver_same d1 d2 same.driver) same.part
-    (ap (λ (m : Pages). length m) same.mem)
+unchanged_alone m1 m2 p1 p2 d1 d2 g call why
+    causes same still is wanted keep plain none other rogue = part_alone m1 m2 p1 p2 d1 d2 g call
+    (Refused why) (driver_same d1 d2 same.driver) same.part (ap (λ (m : Pages). length m) same.mem)
     (λ page. ap (λ (m : Pages). frame_at m page) same.mem) still
-    (not_for_want why causes is wanted) other none
-    (left_same m1 p1 p2 d1 d2 g call why causes rogue
+    (not_for_want why causes is wanted) other none (left_same m1 p1 p2 d1 d2 g call why causes rogue
     (ap (λ (d : DriverState). d.places) same.driver)
     (ap (λ (d : DriverState). d.actual) same.driver) same.part is keep plain) rogue
 
 -- pages have changed their places
-moved : (d1 d2 : DriverState) (pages : List ℕ) (place : Place)
-    → shape_of d2 ≡ shape_of (record d1 { places = placed pages place d1.places })
-    → DriverSame d1 d2
+moved : (d1 d2 : DriverState) (pages : List ℕ) (place : Place) → shape_of d2
+    ≡ shape_of (record d1 { places = placed pages place d1.places }) → DriverSame d1 d2
 moved d1 d2 pages place e = shaped d1 d2 (e
     ∙ ap (λ (n : ℕ). (d1.pages, d1.queue_size, d1.processors, n))
     (length-marked pages place d1.places))
@@ -92,13 +89,11 @@ moved d1 d2 pages place e = shaped d1 d2 (e
 pub alloc_rogue : (m : Pages) (p : Part) (d1 d2 : DriverState) (g : Guest) (cpu order : ℕ)
     (result : Result ℕ Refusal) → AllocatesBy d1 d2 cpu order result → Rogue m p d1 g
     → StepsAlone (Rogue m p d2) g (Alloc cpu order) (page_reply result)
-alloc_rogue m p d1 d2 g cpu order (Ok start) did rogue =
-    part_alone m m p p d1 d2 g (Alloc cpu order) _
-    (moved d1 d2 _ _ (ap shape_of did.state)) refl refl (λ page. refl) refl refl
+alloc_rogue m p d1 d2 g cpu order (Ok start) did rogue = part_alone m m p p d1 d2 g
+    (Alloc cpu order) _ (moved d1 d2 _ _ (ap shape_of did.state)) refl refl (λ page. refl) refl refl
     (λ page offset bytes e. cc) refl (λ why e. no_refusal _ why refl e) rogue
-alloc_rogue m p d1 d2 g cpu order (Err why) did rogue =
-    part_alone m m p p d1 d2 g (Alloc cpu order) (Refused why)
-    (shaped d1 d2 (ap shape_of did.refused)) refl refl (λ page. refl) refl
+alloc_rogue m p d1 d2 g cpu order (Err why) did rogue = part_alone m m p p d1 d2 g (Alloc cpu order)
+    (Refused why) (shaped d1 d2 (ap shape_of did.refused)) refl refl (λ page. refl) refl
     (not_for_want why (alloc_causes d1 cpu order) did.refusal refl) (λ page offset bytes e. cc) refl
     (left_same m p p d1 d2 g (Alloc cpu order) why (alloc_causes d1 cpu order) rogue
     (ap (λ (d : DriverState). d.places) did.refused)
@@ -107,16 +102,14 @@ alloc_rogue m p d1 d2 g cpu order (Err why) did rogue =
 pub free_rogue : {T : Type 0} (m : Pages) (p : Part) (d1 d2 : DriverState) (g : Guest)
     (cpu start order : ℕ) (result : Result T Refusal) → FreesBy d1 d2 cpu start order result
     → Rogue m p d1 g → StepsAlone (Rogue m p d2) g (Free cpu start order) (done_reply result)
-free_rogue m p d1 d2 g cpu start order (Ok x) did rogue =
-    part_alone m m p p d1 d2 g (Free cpu start order) _
-    (moved d1 d2 _ _ (ap shape_of did.state)) refl refl (λ page. refl) refl refl
-    (λ page offset bytes e. cc) refl (λ why e. no_refusal _ why refl e) rogue
+free_rogue m p d1 d2 g cpu start order (Ok x) did rogue = part_alone m m p p d1 d2 g
+    (Free cpu start order) _ (moved d1 d2 _ _ (ap shape_of did.state)) refl refl (λ page. refl)
+    refl refl (λ page offset bytes e. cc) refl (λ why e. no_refusal _ why refl e) rogue
 free_rogue m p d1 d2 g cpu start order (Err why) did rogue =
     part_alone m m p p d1 d2 g (Free cpu start order) (Refused why)
     (driver_same d1 d2 did.refused) refl refl (λ page. refl) refl
-    (not_for_want why (free_causes d1 cpu start order) did.refusal refl)
-    (λ page offset bytes e. cc) refl
-    (left_same m p p d1 d2 g (Free cpu start order) why (free_causes d1 cpu start order) rogue
+    (not_for_want why (free_causes d1 cpu start order) did.refusal refl) (λ page offset bytes e. cc)
+    refl (left_same m p p d1 d2 g (Free cpu start order) why (free_causes d1 cpu start order) rogue
     (ap (λ (d : DriverState). d.places) did.refused)
     (ap (λ (d : DriverState). d.actual) did.refused) refl did.refusal refl refl) rogue
 
@@ -127,10 +120,9 @@ pub inflate_rogue : (m1 m2 : Pages) (p1 p2 : Part) (d1 d2 : DriverState) (g : Gu
     → StepsAlone (Rogue m2 p2 d2) g (Inflate n) (posted_reply result)
 inflate_rogue m1 m2 p1 p2 d1 d2 g n (Ok posted) did rogue =
     let offers = did.offers in
-    part_alone m1 m2 p1 p2 d1 d2 g (Inflate n) _
-    (moved d1 d2 _ _ (ap shape_of offers.state)) offers.part offers.posts.rest.count
-    offers.posts.rest.backing refl refl (λ page offset bytes e. cc)
-    refl (λ why e. no_refusal _ why refl e) rogue
+    part_alone m1 m2 p1 p2 d1 d2 g (Inflate n) _ (moved d1 d2 _ _ (ap shape_of offers.state))
+    offers.part offers.posts.rest.count offers.posts.rest.backing refl refl
+    (λ page offset bytes e. cc) refl (λ why e. no_refusal _ why refl e) rogue
 inflate_rogue m1 m2 p1 p2 d1 d2 g n (Err why) did rogue =
     unchanged_alone m1 m2 p1 p2 d1 d2 g (Inflate n) why (inflate_causes d1 p1 n) did.refused refl
     did.refusal refl refl refl refl (λ page offset bytes e. cc) rogue
@@ -139,17 +131,15 @@ asks_rogue : (m1 m2 : Pages) (p1 p2 : Part) (d1 d2 : DriverState) (g : Guest) (c
     (count : ℕ) (posted : Posted) → AsksBack m1 m2 p1 p2 d1 d2 count posted
     → target_after call p1.target ≡ p1.target → IsOther call → bare_pages call g ≡ []
     → Rogue m1 p1 d1 g → StepsAlone (Rogue m2 p2 d2) g call (posted_reply (Ok posted))
-asks_rogue m1 m2 p1 p2 d1 d2 g call count posted asks still other none rogue =
-    part_alone m1 m2 p1 p2 d1 d2 g call _
-    (moved d1 d2 _ _ (ap shape_of asks.state)) asks.part asks.posts.rest.count
+asks_rogue m1 m2 p1 p2 d1 d2 g call count posted asks still other none rogue = part_alone m1 m2
+    p1 p2 d1 d2 g call _ (moved d1 d2 _ _ (ap shape_of asks.state)) asks.part asks.posts.rest.count
     asks.posts.rest.backing still refl other none (λ why e. no_refusal _ why refl e) rogue
 
 pub deflate_rogue : (m1 m2 : Pages) (p1 p2 : Part) (d1 d2 : DriverState) (g : Guest) (n : ℕ)
     (result : Result Posted Refusal) → DeflatesBy m1 m2 p1 p2 d1 d2 n result → Rogue m1 p1 d1 g
     → StepsAlone (Rogue m2 p2 d2) g (Deflate n) (posted_reply result)
-deflate_rogue m1 m2 p1 p2 d1 d2 g n (Ok posted) did rogue =
-    asks_rogue m1 m2 p1 p2 d1 d2 g (Deflate n) _ posted did.asks refl
-    (λ page offset bytes e. cc) refl rogue
+deflate_rogue m1 m2 p1 p2 d1 d2 g n (Ok posted) did rogue = asks_rogue m1 m2 p1 p2 d1 d2 g
+    (Deflate n) _ posted did.asks refl (λ page offset bytes e. cc) refl rogue
 deflate_rogue m1 m2 p1 p2 d1 d2 g n (Err why) did rogue =
     unchanged_alone m1 m2 p1 p2 d1 d2 g (Deflate n) why (deflate_causes d1 p1 n) did.refused refl
     did.refusal refl refl refl refl (λ page offset bytes e. cc) rogue
@@ -157,9 +147,8 @@ deflate_rogue m1 m2 p1 p2 d1 d2 g n (Err why) did rogue =
 pub oom_rogue : (m1 m2 : Pages) (p1 p2 : Part) (d1 d2 : DriverState) (g : Guest) (n : ℕ)
     (result : Result Posted Refusal) → DeflatesOnOomBy m1 m2 p1 p2 d1 d2 n result
     → Rogue m1 p1 d1 g → StepsAlone (Rogue m2 p2 d2) g (Oom n) (posted_reply result)
-oom_rogue m1 m2 p1 p2 d1 d2 g n (Ok posted) did rogue =
-    asks_rogue m1 m2 p1 p2 d1 d2 g (Oom n) _ posted did.asks refl (λ page offset bytes e. cc)
-    refl rogue
+oom_rogue m1 m2 p1 p2 d1 d2 g n (Ok posted) did rogue = asks_rogue m1 m2 p1 p2 d1 d2 g
+    (Oom n) _ posted did.asks refl (λ page offset bytes e. cc) refl rogue
 oom_rogue m1 m2 p1 p2 d1 d2 g n (Err why) did rogue =
     unchanged_alone m1 m2 p1 p2 d1 d2 g (Oom n) why (oom_causes d1 p1 n) did.refused refl
     did.refusal refl refl refl refl (λ page offset bytes e. cc) rogue
@@ -185,10 +174,9 @@ pub report_rogue : (m1 m2 : Pages) (p1 p2 : Part) (d1 d2 : DriverState) (g : Gue
     → Rogue m1 p1 d1 g → StepsAlone (Rogue m2 p2 d2) g (Report from) (posted_reply result)
 report_rogue m1 m2 p1 p2 d1 d2 g from (Ok posted) did rogue =
     let reports = did.reports in
-    part_alone m1 m2 p1 p2 d1 d2 g (Report from) _
-    (moved d1 d2 _ _ (ap shape_of reports.state)) reports.part reports.posts.rest.count
-    reports.posts.rest.backing refl refl (λ page offset bytes e. cc)
-    refl (λ why e. no_refusal _ why refl e) rogue
+    part_alone m1 m2 p1 p2 d1 d2 g (Report from) _ (moved d1 d2 _ _ (ap shape_of reports.state))
+    reports.part reports.posts.rest.count reports.posts.rest.backing refl refl
+    (λ page offset bytes e. cc) refl (λ why e. no_refusal _ why refl e) rogue
 report_rogue m1 m2 p1 p2 d1 d2 g from (Err why) did rogue =
     let same = did.refused in
     part_alone m1 m2 p1 p2 d1 d2 g (Report from) (Refused why)
@@ -206,14 +194,12 @@ report_rogue m1 m2 p1 p2 d1 d2 g from (Err why) did rogue =
 -- the driver gives up on a broken ring of a device that is up
 failed_keeps : {size : ℕ} (why : Refusal) (m : Pages) (p1 p2 : Part) (d : DriverState)
     → p2 ≡ after_refusal why p1
-    → (why ≡ RingBroken → contains p1.status driver_ok ≡ true)
-    → Keeps size m m p1 p2 d d
+    → (why ≡ RingBroken → contains p1.status driver_ok ≡ true) → Keeps size m m p1 p2 d d
 failed_keeps RingBroken m p1 p2 d is up = record {
   driver = driver_same d d refl;
   device = device_alike p1 p2 (ap kept_of_rogue is);
-  up = λ was ok. up_kept m m p1 p2 refl (λ page low. refl)
-      (ap (λ (p : Part). p.inflate.taken) is) (ap (λ (p : Part). p.report.taken) is)
-      (was (up refl));
+  up = λ was ok. up_kept m m p1 p2 refl (λ page low. refl) (ap (λ (p : Part). p.inflate.taken) is)
+      (ap (λ (p : Part). p.report.taken) is) (was (up refl));
 }
 failed_keeps _ m p1 p2 d is up =
     keeps_part m m p1 p2 d d (driver_same d d refl) is refl (λ page. refl)
@@ -227,9 +213,8 @@ failed_left : (why : Refusal) (m : Pages) (p1 p2 : Part) (d : DriverState) (g : 
     → Rogue m p1 d g → p2 ≡ after_refusal why p1 → is_of_driver why ≡ true
     → rogue_after g g.frames p2 d ≡ with_fault why g
 failed_left (Broken fault) m p1 p2 d g rogue is told = absurd cc
-failed_left RingBroken m p1 p2 d g rogue is told =
-    rogue_same m p1 p2 d d g g.frames rogue refl refl (ap said is)
-    ∙ ap (λ (n : ℕ). record g { status = n })
+failed_left RingBroken m p1 p2 d g rogue is told = rogue_same m p1 p2 d d g g.frames rogue refl refl
+    (ap said is) ∙ ap (λ (n : ℕ). record g { status = n })
     (ap (λ (p : Part). p.status) is ∙ ap (λ (n : ℕ). bit_or n failed) rogue.status)
 failed_left _ m p1 p2 d g rogue is told = rogue_unchanged m p1 p2 d d g rogue refl refl is
 
@@ -265,17 +250,14 @@ stats_up true sound accepted broken why e is = refl
 stats_up false sound accepted broken why e is = absurd cc
 
 without_same : (q head : ℕ) (d : DriverState) → DriverSame d (without_request q head d)
-without_same q head d = by (q == INFLATE_QUEUE) (q == DEFLATE_QUEUE)
-  where
-    by : (a b : Bool) → DriverSame d
-        (if a then record d { inflate = after_reap d.inflate head }
-        else (if b then record d { deflate = after_reap d.deflate head }
-        else record d {
-          report = record { ring = after_take d.report.ring (Ok (Some head)); blocks = [] };
-        }))
-    by true b = record { pages = refl; queue_size = refl; processors = refl; table = refl }
-    by false true = record { pages = refl; queue_size = refl; processors = refl; table = refl }
-    by false false = record { pages = refl; queue_size = refl; processors = refl; table = refl }
+without_same q head d = by (q == INFLATE_QUEUE) (q == DEFLATE_QUEUE) where
+  by : (a b : Bool) → DriverSame d (if a then record d { inflate = after_reap d.inflate head }
+      else (if b then record d { deflate = after_reap d.deflate head } else record d {
+        report = record { ring = after_take d.report.ring (Ok (Some head)); blocks = [] };
+      }))
+  by true b = record { pages = refl; queue_size = refl; processors = refl; table = refl }
+  by false true = record { pages = refl; queue_size = refl; processors = refl; table = refl }
+  by false false = record { pages = refl; queue_size = refl; processors = refl; table = refl }
 
 reaped_same : (q head : ℕ) (pages : List ℕ) (d1 d2 : DriverState)
     → d2 ≡ with_actual (without_request q head (moved_on q pages d1)) → DriverSame d1 d2
@@ -304,8 +286,7 @@ reap_rogue m1 m2 p1 p2 d1 d2 g q (Ok (Some reaped)) did rogue =
     let same : (page : ℕ) → frame_at m2 page ≡ frame_at m1 page =
     λ page. ap (λ (m : Pages). frame_at m page) did.mem in
     let count : length m2 ≡ length m1 = ap (λ (m : Pages). length m) did.mem in
-    rogue_alone m1 m2 p1 p2 d1 d2 g (Reap q) _ rogue
-    (record {
+    rogue_alone m1 m2 p1 p2 d1 d2 g (Reap q) _ rogue (record {
       driver = reaped_same q reaped.head _ d1 d2 did.reaps.state;
       device = device_alike p1 p2 (ap kept_of_rogue part);
       up = λ was ok. up_kept m1 m2 p1 p2 count (λ page low. same page)
@@ -318,8 +299,7 @@ reap_rogue m1 m2 p1 p2 d1 d2 g q (Err why) did rogue =
     (record { mem = did.mem; part = did.failed; driver = did.refused })
     (reap_up (is_queue_of_requests q) (contains p1.status driver_ok) (not (is_broken p1.status))
     (lacks_feature d1.features q) (is_ring_broken m1 (ring_of q d1)) why did.refusal) refl
-    did.refusal refl refl refl refl
-    (λ page offset bytes e. cc) rogue
+    did.refusal refl refl refl refl (λ page offset bytes e. cc) rogue
 
 pub stats_rogue : (m1 m2 : Pages) (p1 p2 : Part) (d1 d2 : DriverState) (g : Guest)
     (result : Result Bool Refusal) → FillsBy m1 m2 p1 p2 d1 d2 result → Rogue m1 p1 d1 g
@@ -332,9 +312,8 @@ stats_rogue m1 m2 p1 p2 d1 d2 g (Ok true) did rogue =
 stats_rogue m1 m2 p1 p2 d1 d2 g (Ok false) did rogue =
     let same = did.fills.unchanged in
     part_alone m1 m2 p1 p2 d1 d2 g Stats _ (driver_same d1 d2 same.driver) same.part
-    (ap (λ (m : Pages). length m) same.mem)
-    (λ page. ap (λ (m : Pages). frame_at m page) same.mem) refl refl
-    (λ page offset bytes e. cc) refl (λ why e. no_refusal _ why refl e) rogue
+    (ap (λ (m : Pages). length m) same.mem) (λ page. ap (λ (m : Pages). frame_at m page) same.mem)
+    refl refl (λ page offset bytes e. cc) refl (λ why e. no_refusal _ why refl e) rogue
 stats_rogue m1 m2 p1 p2 d1 d2 g (Err why) did rogue =
     failed_alone m1 m2 p1 p2 d1 d2 g Stats why (stats_causes m1 p1 d1) did.refused
     (stats_up (contains p1.status driver_ok) (not (is_broken p1.status)) (stats_vq d1.features)
@@ -347,8 +326,7 @@ pub reset_rogue : (m1 m2 : Pages) (p1 p2 : Part) (d1 d2 : DriverState) (g : Gues
     → ResetsBy m1 m2 p1 p2 d1 d2 → Rogue m1 p1 d1 g → StepsAlone (Rogue m2 p2 d2) g Reset Done
 reset_rogue m1 m2 p1 p2 d1 d2 g did rogue =
     let part = did.part in
-    rogue_alone m1 m2 p1 p2 d1 d2 g Reset Done rogue
-    (record {
+    rogue_alone m1 m2 p1 p2 d1 d2 g Reset Done rogue (record {
       driver = record {
         pages = ap (λ (d : DriverState). d.pages) did.state;
         queue_size = ap (λ (d : DriverState). d.queue_size) did.state;
@@ -365,8 +343,7 @@ reset_rogue m1 m2 p1 p2 d1 d2 g did rogue =
         unreserved = λ page low none. ap (λ (p : Part). is_ballooned p.ballooned page) part
             ∙ everywhere (length p1.ballooned) false page;
       };
-      up = λ was ok. absurd
-          (let down : contains 0 driver_ok ≡ true =
+      up = λ was ok. absurd (let down : contains 0 driver_ok ≡ true =
           ap (λ (p : Part). contains p.status driver_ok) (sym part) ∙ ok in
           let wrong : false ≡ true = down in
           cc);

@@ -3,18 +3,16 @@ use Rattle.std.specs.Prelude.{◌≡◌, ℕ, ◌-◌, ◌<◌, Bool, true, fals
 use Rattle.std.specs.Prelude.{Result, Ok, Err, IsSome, MatchOption, refl, ◌≤◌, ◌≢◌, not, ◌==◌, ◌∷◌}
 use Rattle.std.{specs.Prelude.None, proofs.lemmas.Bool.ne_eqb, proofs.lemmas.List.length-replicate}
 use Rattle.std.{proofs.Common.{sym, ◌∙◌, ap, subst, arith}, proofs.lemmas.List.Elements.All-nil}
-use Rattle.vb_model.{specs.Layout.{reserved_pages, is_start_page}, proofs.Shapes.reserved_most}
-use Rattle.vb_model.{specs.declared.calls.Call.TheVariants.Init, specs.declared.calls.Claim.Claim}
-use Rattle.vb_model.{specs.declared.replies.Refusal.Refusal, specs.Refusals.refusal_of}
-use Rattle.vb_model.specs.declared.replies.Refusal.TheVariants.{AlreadyUp, NoFrame, NoMemory}
-use Rattle.vb_model.{specs.declared.replies.Reply.TheVariants.Refused, specs.Orderly.times}
+use Rattle.vb_model.proofs.{Shapes.reserved_most, Wanting.{wants, no_want, refused_otherwise}}
 use Rattle.vb_model.specs.Driver.{AllDistinct, given, AreClaimsFor, claim_refusal}
-use Rattle.vb_model.{specs.FirstRefusal.{◌⇒◌, first_refusal}, specs.Tests.is_in}
-use Rattle.vb_model.specs.declared.replies.LastStatistics.{LastStatistics}
-use Rattle.vb_model.specs.Guest.{Guest, all_backed, stats_vq}
-use Rattle.vb_model.specs.Life.{lacking, feature_causes, feature_refusal, accepted_before}
-use Rattle.vb_model.specs.Rogue.{LosesFrames, pages_to_back, unless_refused, after_refused}
-use Rattle.vb_model.proofs.Wanting.{wants, no_want, refused_otherwise}
+use Rattle.vb_model.specs.{FirstRefusal.{◌⇒◌, first_refusal}, Guest.{Guest, all_backed, stats_vq}}
+use Rattle.vb_model.specs.{Layout.{reserved_pages, is_start_page}, Life.{lacking, feature_causes}}
+use Rattle.vb_model.specs.{Life.{feature_refusal, accepted_before}, Orderly.times}
+use Rattle.vb_model.specs.{Refusals.refusal_of, Rogue.{LosesFrames, pages_to_back, unless_refused}}
+use Rattle.vb_model.specs.{Rogue.after_refused, Tests.is_in, declared.calls.Call.TheVariants.Init}
+use Rattle.vb_model.specs.declared.{calls.Claim.Claim, replies.LastStatistics.LastStatistics}
+use Rattle.vb_model.specs.declared.replies.Refusal.{Refusal, TheVariants.{AlreadyUp, NoFrame}}
+use Rattle.vb_model.specs.declared.replies.{Refusal.TheVariants.NoMemory, Reply.TheVariants.Refused}
 use Rattle.vb_ram.{specs.Pages.{Pages, frame_at}, specs.Part.Part, proofs.Limits.config_limits}
 use Rattle.vb_status.specs.After.{part_after_reset}
 use Rattle.vb_driver.{specs.State.DriverState, specs.Calls.{InitsBy, Starts, FirstBuffer, GivesUp}}
@@ -31,8 +29,7 @@ use Rattle.vb_frames.specs.declared.keeper.Refused.{Refused as WhyRefused}
 use Rattle.vb_guest.proofs.InitStep.{given_up as stopped}
 
 pub init_up_rogue : (m : Pages) (p : Part) (d : DriverState) (g : Guest) (wanted : ℕ)
-    → p.status ≢ 0 → Rogue m p d g
-    → StepsAlone (Rogue m p d) g (Init wanted) (Refused AlreadyUp)
+    → p.status ≢ 0 → Rogue m p d g → StepsAlone (Rogue m p d) g (Init wanted) (Refused AlreadyUp)
 init_up_rogue m p d g wanted up rogue = grind (arith, ne_eqb)
 
 -- a device that isn't started
@@ -43,12 +40,11 @@ none_refuses p m d g wanted new rogue =
 
 pub init_unsupplied_rogue : (Answers : List Bool → Claim → Type 0) (out1 out2 : List Bool)
     (l : List Claim) (m1 m2 : Pages) (p1 p2 : Part) (d : DriverState) (g : Guest) (wanted : ℕ)
-    (why : WhyRefused) (refusal : Refusal)
-    → why_unsupplied {T = Unit {0}} (Err why) ≡ Some refusal → p1.status ≡ 0
-    → SuppliesBy {T = Unit {0}} Answers (supply_of p1 out1) (supply_of p2 out2) [] l
-    (bare_from d.queue_size m1 0) m1 m2 (Err why) → p2 ≡ record p1 { own = p2.own } → Rogue m1 p1 d g
-    → StepsOver (Rogue m2 p2 d) Answers (supply_of p1 out1) (supply_of p2 out2) l g (Init wanted)
-    (Refused refusal)
+    (why : WhyRefused) (refusal : Refusal) → why_unsupplied {T = Unit {0}} (Err why) ≡ Some refusal
+    → p1.status ≡ 0 → SuppliesBy {T = Unit {0}} Answers (supply_of p1 out1) (supply_of p2 out2) [] l
+    (bare_from d.queue_size m1 0) m1 m2 (Err why)
+    → p2 ≡ record p1 { own = p2.own } → Rogue m1 p1 d g → StepsOver (Rogue m2 p2 d) Answers
+    (supply_of p1 out1) (supply_of p2 out2) l g (Init wanted) (Refused refusal)
 init_unsupplied_rogue Answers out1 out2 l m1 m2 p1 p2 d g wanted why refusal is new did part rogue =
     search (arith, bare_is)
 
@@ -73,14 +69,12 @@ record Said : Type 0 where
 
 -- the driver gave up
 abbrev GaveUp : Part → Part → DriverState → DriverState → ℕ → Refusal → Type 0
-GaveUp p2 p3 d1 d2 wanted why =
-    (d2.places ≡ d1.places) × (d2.actual ≡ 0)
+GaveUp p2 p3 d1 d2 wanted why = (d2.places ≡ d1.places) × (d2.actual ≡ 0)
     × (p3 ≡ record (part_after_reset p2) { status = 131; features = accepted_before why wanted })
 
 -- the part after a reset, with another status
-reset_device : {size : ℕ} (p p2 : Part) (state features : ℕ)
-    → p2 ≡ record (part_after_reset p) { status = state; features = features }
-    → DeviceSame size p p2
+reset_device : {size : ℕ} (p p2 : Part) (state features : ℕ) → p2
+    ≡ record (part_after_reset p) { status = state; features = features } → DeviceSame size p p2
 reset_device p p2 state features is = grind (arith, length-replicate, everywhere)
 
 first_buffer_frames : (stats : Bool) (m1 m2 : Pages) (d1 d2 : DriverState)
@@ -90,8 +84,7 @@ first_buffer_frames stats m1 m2 d1 d2 first = grind arith
 
 started_leaves : (size : ℕ) (m2 m3 : Pages) (p2 p3 : Part) (d1 d2 : DriverState) (wanted : ℕ)
     → ((page : ℕ) → is_start_page size page ≡ true → IsSome (frame_at m2 page))
-    → Starts m2 m3 p2 p3 d1 d2 wanted
-    → Leaves size m2 m3 p2 p3 d1 d2
+    → Starts m2 m3 p2 p3 d1 d2 wanted → Leaves size m2 m3 p2 p3 d1 d2
 started_leaves size m2 m3 p2 p3 d1 d2 wanted backed starts =
     let first = first_buffer_frames (stats_vq wanted) starts.zeroed m3 d1 d2 starts.buffer in
     let same : (page : ℕ) → frame_at m3 page ≡ frame_at m2 page =
@@ -145,8 +138,7 @@ inits_leave size m2 m3 p2 p3 d1 d2 wanted (Err why) same new backed did =
 -- what a refusal of the features leaves
 gives_up : (m : Pages) (p1 p2 p3 : Part) (d1 d2 : DriverState) (g : Guest) (wanted : ℕ)
     (claims : List Claim) (why : Refusal) → Rogue m p1 d1 g → p1.status ≡ 0
-    → claim_refusal claims ≡ None → p2 ≡ record p1 { own = p2.own }
-    → GaveUp p2 p3 d1 d2 wanted why
+    → claim_refusal claims ≡ None → p2 ≡ record p1 { own = p2.own } → GaveUp p2 p3 d1 d2 wanted why
     → rogue_after g (all_backed (lacking g) (given claims) g.frames) p3 d2
     ≡ after_refused (Init wanted) why claims g
 gives_up m p1 p2 p3 d1 d2 g wanted claims why rogue status all part gave = grind arith
@@ -154,27 +146,24 @@ gives_up m p1 p2 p3 d1 d2 g wanted claims why rogue status all part gave = grind
 pub init_supplied_rogue : (Answers : List Bool → Claim → Type 0) (out1 out2 : List Bool)
     (l : List Claim) (m1 m2 m3 : Pages) (p1 p2 p3 : Part) (d1 d2 : DriverState) (g : Guest)
     (wanted features : ℕ) (result : Result (Unit {0}) Refusal) → features ≡ wanted
-    → p1.status ≡ 0
-    → SuppliesBy {T = Unit {0}} Answers (supply_of p1 out1) (supply_of p2 out2) [] l
-    (bare_from d1.queue_size m1 0) m1 m2 (Ok tt)
-    → p2 ≡ record p1 { own = p2.own } → InitsBy m2 m3 p2 p3 d1 d2 features result → Rogue m1 p1 d1 g
-    → StepsOver (Rogue m3 p3 d2) Answers (supply_of p1 out1) (supply_of p3 out2) l g (Init wanted)
-    (ready_reply result)
+    → p1.status ≡ 0 → SuppliesBy {T = Unit {0}} Answers (supply_of p1 out1) (supply_of p2 out2) [] l
+    (bare_from d1.queue_size m1 0) m1 m2 (Ok tt) → p2 ≡ record p1 { own = p2.own }
+    → InitsBy m2 m3 p2 p3 d1 d2 features result → Rogue m1 p1 d1 g → StepsOver (Rogue m3 p3 d2)
+    Answers (supply_of p1 out1) (supply_of p3 out2) l g (Init wanted) (ready_reply result)
 init_supplied_rogue Answers out1 out2 l m1 m2 m3 p1 p2 p3 d1 d2 g wanted features result named
     status did part inits rogue =
     let n = g.config.pages in
     let pages = lacking g in
     let claims = did.claims in
     let size = d1.queue_size in
-    let bare : bare_from size m1 0 ≡ lacking g =
-    bare_is size m1 g rogue.queue_size rogue.behind in
+    let bare : bare_from size m1 0 ≡ lacking g = bare_is size m1 g rogue.queue_size rogue.behind in
     let made : AreClaimsFor pages claims =
     subst (λ (x : List ℕ). AreClaimsFor x claims) bare did.made in
     let supplied : AllSupplied pages (given claims) m1 m2 =
     subst (λ (x : List ℕ). AllSupplied x (given claims) m1 m2) bare did.supplied.0 in
     let frames : List (Option ℕ) = all_backed pages (given claims) g.frames in
-    let distinct = subst AllDistinct bare (all_distinct (is_bare size m1) 0
-    (reserved_pages size - 0)) in
+    let distinct =
+    subst AllDistinct bare (all_distinct (is_bare size m1) 0 (reserved_pages size - 0)) in
     let below : (p : ℕ) → is_in p pages ≡ true → p < n =
     search (arith, bounded, reserved_most, config_limits) in
     let before : HasFrames m1 n g.frames =
@@ -191,18 +180,16 @@ init_supplied_rogue Answers out1 out2 l m1 m2 m3 p1 p2 p3 d1 d2 g wanted feature
     let none_before = none_refuses p1 m1 d1 g wanted status rogue in
     let needs : pages_to_back (Init wanted) g ≡ pages =
     ap (λ (o : Option Refusal). unless_refused o pages) none_before in
-    let given_frames : Rogue m2 p2 d1 (rogue_after g frames p2 d1) =
-    rogue_stands m1 m2 p1 p2 d1 d1 g frames rogue
-    (search (arith, driver_same, device_alike, kept_of_rogue)) (has.length_is ∙ sym rogue.length_is) (has.framed ∙ sym rogue.framed) has.behind in
+    let given_frames : Rogue m2 p2 d1 (rogue_after g frames p2 d1) = rogue_stands
+    m1 m2 p1 p2 d1 d1 g frames rogue (search (arith, driver_same, device_alike, kept_of_rogue))
+    (has.length_is ∙ sym rogue.length_is) (has.framed ∙ sym rogue.framed) has.behind in
     let after : Guest = rogue_after g frames p3 d2 in
-    let stands : Rogue m3 p3 d2 after =
-    rogue_stands m2 m3 p2 p3 d1 d2 (rogue_after g frames p2 d1) frames given_frames left.keeps
-    left.count refl (λ page. left.same page ∙ has.behind page) in
-    let P : Option Refusal → Type 0 =
-    λ o. MatchOption o (LosesFrames frames frames)
+    let stands : Rogue m3 p3 d2 after = rogue_stands m2 m3 p2 p3 d1 d2 (rogue_after g frames p2 d1)
+    frames given_frames left.keeps left.count refl (λ page. left.same page ∙ has.behind page) in
+    let P : Option Refusal → Type 0 = λ o. MatchOption o (LosesFrames frames frames)
     (λ refusal. (ready_reply result ≡ Refused refusal) × (frames ≡ g.frames)) in
-    let step = rogue_steps m1 m3 p1 p3 d1 d2 g after (Init wanted) claims (ready_reply result)
-    rogue stands refl (left.target ∙ ap (λ (p : Part). p.target) part)
+    let step = rogue_steps m1 m3 p1 p3 d1 d2 g after (Init wanted) claims
+    (ready_reply result) rogue stands refl (left.target ∙ ap (λ (p : Part). p.target) part)
     (subst (λ (l : List ℕ). AreClaimsFor l claims) (sym needs) made)
     (subst (λ (l : List ℕ). MatchOption (claim_refusal claims)
     (LosesFrames (all_backed l (given claims) g.frames) frames)
@@ -223,8 +210,7 @@ init_supplied_rogue Answers out1 out2 l m1 m2 m3 p1 p2 p3 d1 d2 g wanted feature
       moves = subst (λ (s : Supply). Moves (supply_of p1 out1) s (λ n. backing_count n after)
           (λ n. backing_count n g)) (sym same_supply)
           (moves_as (supply_of p1 out1) (supply_of p2 out2) (λ x. times x (given claims)) nothing
-          (λ n. backing_count n after) (λ n. backing_count n g) did.supplied.1
-          (λ x. omega (
+          (λ n. backing_count n after) (λ n. backing_count n g) did.supplied.1 (λ x. omega (
             arith,
             frames_filled x n pages claims m1 m2 g.frames did.answer made distinct below supplied
                 before,

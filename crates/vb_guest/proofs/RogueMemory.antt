@@ -2,20 +2,18 @@
 use Rattle.std.specs.Prelude.{◌≡◌, ◌≢◌, ℕ, ◌<◌, Bool, true, false, List, [], ◌∷◌, length, Option}
 use Rattle.std.{specs.Prelude.{Some, None, All, is_some, ◌≤◌, refl}, proofs.lemmas.Bool.cases_eq}
 use Rattle.std.proofs.Common.{sym, ◌∙◌, ap, subst, arith, inl, inr}
+use Rattle.vb_model.{proofs.Wanting.{wants, not_refused_pages, refused_backs}, specs.Driver.given}
+use Rattle.vb_model.specs.{Driver.{claim_refusal, AreClaimsFor, pages_needed}, FirstRefusal.◌⇒◌}
+use Rattle.vb_model.specs.{FirstRefusal.first_refusal, Guest.{Guest, frame_of, backed, all_backed}}
+use Rattle.vb_model.specs.{Guest.is_ballooned, Layout.reserved_pages, Pages.{place_of, is_used}}
+use Rattle.vb_model.specs.{Refusals.{refusal_of, is_outside}, Requests.Request, Rogue.LosesFrames}
+use Rattle.vb_model.specs.Rogue.{pages_to_back, unless_refused, with_fault, GuestStep}
+use Rattle.vb_model.specs.{Status.{contains, driver_ok}, Step.HonestStep}
+use Rattle.vb_model.specs.declared.calls.{Call.TheVariants.{Read, Write, Scribble}, Claim.Claim}
 use Rattle.vb_model.specs.declared.calls.Claim.TheVariants.{Gave, GaveNoFrame, GaveNoMemory}
-use Rattle.vb_model.specs.Rogue.{LosesFrames, pages_to_back, unless_refused, with_fault, GuestStep}
-use Rattle.vb_model.specs.Driver.{given, claim_refusal, AreClaimsFor, pages_needed}
-use Rattle.vb_model.specs.Guest.{Guest, frame_of, backed, all_backed, is_ballooned}
-use Rattle.vb_model.specs.declared.replies.Refusal.TheVariants.{OutOfRam, NotHeld}
-use Rattle.vb_model.specs.declared.calls.Call.TheVariants.{Read, Write, Scribble}
-use Rattle.vb_model.specs.declared.replies.Reply.TheVariants.{Done, Refused}
-use Rattle.vb_model.{proofs.Wanting.{wants, not_refused_pages, refused_backs}, specs.declared.replies.Reply.Reply}
-use Rattle.vb_model.{specs.FirstRefusal.{◌⇒◌, first_refusal}, specs.Status.{contains, driver_ok}}
-use Rattle.vb_model.{specs.Refusals.{refusal_of, is_outside}, specs.declared.calls.Claim.Claim}
-use Rattle.vb_model.{specs.declared.replies.Refusal.Refusal, specs.Pages.{place_of, is_used}}
-use Rattle.vb_model.{specs.Layout.reserved_pages, specs.Requests.Request, specs.Step.HonestStep}
-use Rattle.vb_ram.specs.Pages.{Pages, frame_at, number_of, Covers, Wrote, Supplied}
-use Rattle.vb_ram.specs.Part.{Part}
+use Rattle.vb_model.specs.declared.replies.Refusal.{Refusal, TheVariants.{OutOfRam, NotHeld}}
+use Rattle.vb_model.specs.declared.replies.Reply.{Reply, TheVariants.{Done, Refused}}
+use Rattle.vb_ram.specs.{Pages.{Pages, frame_at, number_of, Covers, Wrote, Supplied}, Part.Part}
 use Rattle.vb_frames.specs.declared.keeper.Refused.TheVariants.{NoFrame, Memory}
 use Rattle.vb_driver.specs.State.{DriverState}
 use Rattle.vb_guest.proofs.Rogues.{driver_same, device_alike, keeps_part, rogue_after}
@@ -40,16 +38,15 @@ use Rattle.vb_frames.specs.declared.keeper.Refused.{Refused as KeeperRefused}
 up_honest : (m : Pages) (p : Part) (d : DriverState) (g : Guest) → Honest m p d g
     → contains p.status driver_ok ≡ true → IsRogueUp g.config.queue_size m p
 up_honest m p d g honest ok = elim honest.ties.queues [
-  | inl idle ↦
-      (let P : ℕ → Type 0 = λ s. contains s driver_ok ≡ true in
+  | inl idle ↦ (let P : ℕ → Type 0 = λ s. contains s driver_ok ≡ true in
       absurd (down_not_ok g.status idle.state (subst P honest.ties.parts.device.status ok)))
   | inr run ↦
       let n = g.config.pages in
       let size = g.config.queue_size in
       let sized : (k : ℕ) (rs : List Request) → k ≡ size → All (IsOwnRequest k n) rs
       → All (IsOwnRequest size (length m)) rs =
-      λ k rs same all. subst (λ (c : ℕ). All (IsOwnRequest size c) rs) (sym honest.ties.pages.length_is)
-      (subst (λ (s : ℕ). All (IsOwnRequest s n) rs) same all) in
+      λ k rs same all. subst (λ (c : ℕ). All (IsOwnRequest size c) rs)
+      (sym honest.ties.pages.length_is) (subst (λ (s : ℕ). All (IsOwnRequest s n) rs) same all) in
       record {
         backed = run.backed;
         inflates = sized d.inflate.ring.size p.inflate.taken run.inflate_size
@@ -67,8 +64,7 @@ up_honest m p d g honest ok = elim honest.ties.queues [
 -- and no reserved page is ballooned
 low_honest : (g : Guest) (page : ℕ) (flag : Bool) → is_ballooned g.ballooned page ≡ flag
     → ((e : is_ballooned g.ballooned page ≡ true) → reserved_pages g.config.queue_size ≤ page)
-    → page < reserved_pages g.config.queue_size
-    → is_ballooned g.ballooned page ≡ false
+    → page < reserved_pages g.config.queue_size → is_ballooned g.ballooned page ≡ false
 low_honest g page true is high low = absurd (omega (arith, high is, low))
 low_honest g page false is high low = is
 
@@ -77,14 +73,12 @@ marked g = record g { rogue = true }
 
 pub as_rogue : (keeps : Bool) (m : Pages) (p : Part) (d : DriverState) (g : Guest)
     → Stands keeps m p d g → Rogue m p d (marked g)
-as_rogue keeps m p d g stands = by_guest keeps m p d g stands
-    (λ honest.
+as_rogue keeps m p d g stands = by_guest keeps m p d g stands (λ honest.
     let low : (page : ℕ) → page < reserved_pages g.config.queue_size
     → is_ballooned g.ballooned page ≡ false =
     λ page lt. low_honest g page (is_ballooned g.ballooned page) refl
     (λ e. (high_page g page honest.orderly (ballooned_free g page honest.consistent e)).0) lt in
-    assumption (low, up_honest m p d g honest))
-    (λ rogue. assumption)
+    assumption (low, up_honest m p d g honest)) (λ rogue. assumption)
 
 -- ---- a rogue guest reads and writes
 
@@ -107,8 +101,7 @@ pub read_rogue : (m : Pages) (p : Part) (d : DriverState) (g : Guest) (page off 
     (reply : Reply) → reply ≢ Refused NoFrameLeft → keeps_reply reply ≡ true → Rogue m p d g
     → StepsAlone (Rogue m p d) g (Read page off len) reply
 read_rogue m p d g page off len reply answer plain rogue =
-    let none = nothing_backed (Read page off len) g refl in
-    record {
+    let none = nothing_backed (Read page off len) g refl in record {
       new = g;
       stands = rogue;
       step = rogue_steps m m p p d d g g (Read page off len) [] reply rogue rogue refl refl
@@ -163,10 +156,9 @@ write_fits m p d g page off bs rogue used covers = grind (arith, inside_is)
 
 -- what the guest is then
 pub supplied_rogue : (m1 m2 m3 m4 : Pages) (p1 p2 p3 p4 : Part) (d : DriverState) (g : Guest)
-    (page off frame : ℕ) (bs : List ℕ) → Covers m1 page off (length bs) → m2 ≡ m1
-    → Supplied m2 m3 page frame → Wrote m3 m4 page off bs → p2 ≡ record p1 { own = p2.own }
-    → p3 ≡ p2 → p4 ≡ p3 → Rogue m1 p1 d g
-    → Rogue m4 p4 d (rogue_after g (backed page frame g.frames) p4 d)
+    (page off frame : ℕ) (bs : List ℕ) → Covers m1 page off (length bs) → m2 ≡ m1 → Supplied
+    m2 m3 page frame → Wrote m3 m4 page off bs → p2 ≡ record p1 { own = p2.own } → p3 ≡ p2
+    → p4 ≡ p3 → Rogue m1 p1 d g → Rogue m4 p4 d (rogue_after g (backed page frame g.frames) p4 d)
 supplied_rogue m1 m2 m3 m4 p1 p2 p3 p4 d g page off frame bs covers same now wrote pa pb pc rogue =
     let supplied : Supplied m1 m3 page frame = subst (λ m. Supplied m m3 page frame) same now in
     let lt : page < g.config.pages = omega (arith, covers.page, rogue.length_is) in
@@ -183,13 +175,11 @@ supplied_rogue m1 m2 m3 m4 p1 p2 p3 p4 d g page off frame bs covers same now wro
       | inl at ↦ ap (λ (k : ℕ). is_some (frame_at m3 k)) at ∙ ap is_some supplied.backed
       | inr ne ↦ ap (λ o. is_some (number_of o)) (supplied.others q ne) ∙ there
     ] in
-    rogue_stands m1 m4 p1 p4 d d g (backed page frame g.frames) rogue
-    (record {
+    rogue_stands m1 m4 p1 p4 d d g (backed page frame g.frames) rogue (record {
       driver = driver_same d d refl;
       device = device_alike p1 p4 (ap kept_of_rogue part);
       up = λ was ok.
-          let up = was (ap (λ (p : Part). contains p.status driver_ok) (sym part) ∙ ok) in
-          record {
+          let up = was (ap (λ (p : Part). contains p.status driver_ok) (sym part) ∙ ok) in record {
             backed = λ q low. still q (up.backed q low);
             inflates = subst (λ (n : ℕ). All (IsOwnRequest size n) p4.inflate.taken) (sym count)
                 (subst (All (IsOwnRequest size (length m1)))
@@ -212,16 +202,12 @@ supplied_moves Answers out1 out2 m1 p1 p2 p4 g new page frame answer part lt bar
     grind (arith, count_backed, times_one)
 
 pub write_supplied_rogue : (Answers : List Bool → Claim → Type 0) (out1 out2 : List Bool)
-    (m1 m2 m3 m4 : Pages) (p1 p2 p3 p4 : Part) (d : DriverState) (g : Guest)
-    (page off frame : ℕ) (bs : List ℕ)
-    → IsClaimed Answers (supply_of p1 out1) (supply_of p2 out2) (Gave frame)
-    → is_used (place_of d.places page) ≡ true
-    → Rogue m1 p1 d g → Covers m1 page off (length bs) → 0 < length bs
-    → frame_at m1 page ≡ None → m2 ≡ m1
-    → Supplied m2 m3 page frame → Wrote m3 m4 page off bs → p2 ≡ record p1 { own = p2.own }
-    → p3 ≡ p2 → p4 ≡ p3
-    → StepsOver (Rogue m4 p4 d) Answers (supply_of p1 out1) (supply_of p4 out2) (Gave frame ∷ []) g
-    (Write page off bs) Done
+    (m1 m2 m3 m4 : Pages) (p1 p2 p3 p4 : Part) (d : DriverState) (g : Guest) (page off frame : ℕ)
+    (bs : List ℕ) → IsClaimed Answers (supply_of p1 out1) (supply_of p2 out2) (Gave frame)
+    → is_used (place_of d.places page) ≡ true → Rogue m1 p1 d g → Covers m1 page off (length bs)
+    → 0 < length bs → frame_at m1 page ≡ None → m2 ≡ m1 → Supplied m2 m3 page frame → Wrote m3
+    m4 page off bs → p2 ≡ record p1 { own = p2.own } → p3 ≡ p2 → p4 ≡ p3 → StepsOver (Rogue m4 p4 d)
+    Answers (supply_of p1 out1) (supply_of p4 out2) (Gave frame ∷ []) g (Write page off bs) Done
 write_supplied_rogue Answers out1 out2 m1 m2 m3 m4 p1 p2 p3 p4 d g page off frame bs answer used
     rogue covers some bare same now wrote pa pb pc =
     let bare_too : frame_of g.frames page ≡ None = sym (rogue.behind page) ∙ bare in
@@ -250,8 +236,7 @@ abbrev pub claim_of : KeeperRefused → Claim
 claim_of NoFrame = GaveNoFrame
 claim_of Memory = GaveNoMemory
 
-refused_for : (why : KeeperRefused) (page : ℕ)
-    → AreClaimsFor (page ∷ []) (claim_of why ∷ [])
+refused_for : (why : KeeperRefused) (page : ℕ) → AreClaimsFor (page ∷ []) (claim_of why ∷ [])
     × (claim_refusal (claim_of why ∷ []) ≡ Some (refusal_of_claim why))
 refused_for NoFrame page = (refl, refl)
 refused_for Memory page = (refl, refl)
@@ -262,8 +247,7 @@ claim_fault NoFrame g = refl
 claim_fault Memory g = refl
 
 refused_claimed : (Answers : List Bool → Claim → Type 0) (out1 out2 : List Bool) (p1 p2 : Part)
-    (why : KeeperRefused)
-    → IsClaimed Answers (supply_of p1 out1) (supply_of p2 out2) (claim_of why)
+    (why : KeeperRefused) → IsClaimed Answers (supply_of p1 out1) (supply_of p2 out2) (claim_of why)
     → AreClaimed Answers (supply_of p1 out1) (claim_of why ∷ [])
     × Moves (supply_of p1 out1) (supply_of p2 out2) nothing nothing
 refused_claimed Answers out1 out2 p1 p2 NoFrame a = ((supply_of p2 out2, a, refl), a.moves)
@@ -271,8 +255,7 @@ refused_claimed Answers out1 out2 p1 p2 Memory a = ((supply_of p2 out2, a, refl)
 
 pub write_unsupplied_rogue : (Answers : List Bool → Claim → Type 0) (out1 out2 : List Bool)
     (m1 m2 : Pages) (p1 p2 : Part) (d : DriverState) (g : Guest) (page off : ℕ) (bs : List ℕ)
-    (why : KeeperRefused)
-    → IsClaimed Answers (supply_of p1 out1) (supply_of p2 out2) (claim_of why)
+    (why : KeeperRefused) → IsClaimed Answers (supply_of p1 out1) (supply_of p2 out2) (claim_of why)
     → is_used (place_of d.places page) ≡ true → Rogue m1 p1 d g → Covers m1 page off (length bs)
     → 0 < length bs → frame_at m1 page ≡ None → m2 ≡ m1 → p2 ≡ record p1 { own = p2.own }
     → StepsOver (Rogue m2 p2 d) Answers (supply_of p1 out1) (supply_of p2 out2)
@@ -283,9 +266,8 @@ write_unsupplied_rogue Answers out1 out2 m1 m2 p1 p2 d g page off bs why answer 
 -- ---- a scribble
 
 -- bytes that lie in a page aren't refused for it
-scribble_fits : (m : Pages) (g : Guest) (page off : ℕ) (bs : List ℕ)
-    → length m ≡ g.config.pages → Covers m page off (length bs)
-    → refusal_of g (Scribble page off bs) ≡ None
+scribble_fits : (m : Pages) (g : Guest) (page off : ℕ) (bs : List ℕ) → length m ≡ g.config.pages
+    → Covers m page off (length bs) → refusal_of g (Scribble page off bs) ≡ None
 scribble_fits m g page off bs size covers = grind arith
 
 -- two scribbles of the same bytes
@@ -295,16 +277,13 @@ same_scribble : (page off : ℕ) (bs : List ℕ) (q o : ℕ) (b : List ℕ) (g :
 same_scribble page off bs q o b g claims reply new e step = grind arith
 
 -- the step is one of an honest guest, and of a rogue one as well
-scribble_step : (m1 m2 : Pages) (p1 p2 : Part) (d : DriverState) (g new : Guest)
-    (page off : ℕ) (bs : List ℕ) (claims : List Claim) (keeps : Bool)
-    → Stands keeps m1 p1 d g → Rogue m2 p2 d new → AreClaimsFor (pages_needed page bs g) claims
-    → claim_refusal claims ≡ None
-    → new ≡ record g {
+scribble_step : (m1 m2 : Pages) (p1 p2 : Part) (d : DriverState) (g new : Guest) (page off : ℕ)
+    (bs : List ℕ) (claims : List Claim) (keeps : Bool) → Stands keeps m1 p1 d g → Rogue m2 p2 d new
+    → AreClaimsFor (pages_needed page bs g) claims → claim_refusal claims ≡ None → new ≡ record g {
       frames = all_backed (pages_needed page bs g) (given claims) g.frames;
       contents = new.contents;
       rogue = true;
-    }
-    → refusal_of g (Scribble page off bs) ≡ None
+    } → refusal_of g (Scribble page off bs) ≡ None
     → GuestStep g (Scribble page off bs) claims Done new
 scribble_step m1 m2 p1 p2 d g new page off bs claims keeps stands rogue made all left free =
     grind arith
@@ -350,9 +329,7 @@ scribble_outside keeps m1 m2 p1 p2 d g page off bs stands m p out =
     alone_stands keeps m1 m2 p1 p2 d d g (Scribble page off bs) (Refused OutOfRam) stands
     (ap (λ (x : Part). x.keeps) p) (ap (λ (x : Part). x.own) p)
     (λ honest. refused_alone m1 m2 p1 p2 d d g (Scribble page off bs) OutOfRam honest refused m p
-    refl)
-    (λ rogue. (let same : Rogue m2 p2 d g =
-    subst (λ (x : Pages). Rogue x p2 d g) (sym m)
+    refl) (λ rogue. (let same : Rogue m2 p2 d g = subst (λ (x : Pages). Rogue x p2 d g) (sym m)
     (subst (λ (x : Part). Rogue m1 x d g) (sym p) rogue) in
     record {
       new = g;
@@ -383,23 +360,19 @@ scribble_outside keeps m1 m2 p1 p2 d g page off bs stands m p out =
     none = refused_backs (Scribble page off bs) g OutOfRam refused
 
     step : HonestStep g (Scribble page off bs) [] (Refused OutOfRam) g
-    step =
-        search arith
+    step = search arith
 
 -- a claim was refused
 pub scribble_unsupplied : (keeps : Bool) (Answers : List Bool → Claim → Type 0)
     (out1 out2 : List Bool) (m1 m2 : Pages) (p1 p2 : Part) (d : DriverState) (g : Guest)
-    (page off : ℕ) (bs : List ℕ) (why : KeeperRefused)
-    → IsClaimed Answers (supply_of p1 out1) (supply_of p2 out2) (claim_of why)
-    → Stands keeps m1 p1 d g → Covers m1 page off (length bs) → 0 < length bs
-    → frame_at m1 page ≡ None → m2 ≡ m1 → p2 ≡ record p1 { own = p2.own }
+    (page off : ℕ) (bs : List ℕ) (why : KeeperRefused) → IsClaimed Answers (supply_of p1 out1)
+    (supply_of p2 out2) (claim_of why) → Stands keeps m1 p1 d g → Covers m1 page off (length bs)
+    → 0 < length bs → frame_at m1 page ≡ None → m2 ≡ m1 → p2 ≡ record p1 { own = p2.own }
     → StepsOver (Stands keeps m2 p2 d) Answers (supply_of p1 out1) (supply_of p2 out2)
     (claim_of why ∷ []) g (Scribble page off bs) (Refused (refusal_of_claim why))
 scribble_unsupplied keeps Answers out1 out2 m1 m2 p1 p2 d g page off bs why answer stands covers
-    some bare m p =
-    over_stands keeps m1 m2 p1 p2 d d g Answers out1 out2 (claim_of why ∷ []) (Scribble page off bs)
-    (Refused (refusal_of_claim why)) stands
-    (λ honest. record {
+    some bare m p = over_stands keeps m1 m2 p1 p2 d d g Answers out1 out2 (claim_of why ∷ [])
+    (Scribble page off bs) (Refused (refusal_of_claim why)) stands (λ honest. record {
       new = g;
       stands = honest_own m1 m2 p1 p2 d g m p honest;
       step = guest_step g (Scribble page off bs) (claim_of why ∷ [])
@@ -420,14 +393,11 @@ scribble_unsupplied keeps Answers out1 out2 m1 m2 p1 p2 d g page off bs why answ
 -- a page got a frame, and then was written
 pub scribble_supplied : (keeps : Bool) (Answers : List Bool → Claim → Type 0)
     (out1 out2 : List Bool) (m1 m2 m3 m4 : Pages) (p1 p2 p3 p4 : Part) (d : DriverState) (g : Guest)
-    (page off frame : ℕ) (bs : List ℕ)
-    → IsClaimed Answers (supply_of p1 out1) (supply_of p2 out2) (Gave frame)
-    → Stands keeps m1 p1 d g → Covers m1 page off (length bs) → 0 < length bs
-    → frame_at m1 page ≡ None → m2 ≡ m1
-    → Supplied m2 m3 page frame → Wrote m3 m4 page off bs → p2 ≡ record p1 { own = p2.own }
-    → p3 ≡ p2 → p4 ≡ p3
-    → StepsOver (Stands keeps m4 p4 d) Answers (supply_of p1 out1) (supply_of p4 out2)
-    (Gave frame ∷ []) g (Scribble page off bs) Done
+    (page off frame : ℕ) (bs : List ℕ) → IsClaimed Answers (supply_of p1 out1) (supply_of p2 out2)
+    (Gave frame) → Stands keeps m1 p1 d g → Covers m1 page off (length bs) → 0 < length bs
+    → frame_at m1 page ≡ None → m2 ≡ m1 → Supplied m2 m3 page frame → Wrote m3 m4 page off bs
+    → p2 ≡ record p1 { own = p2.own } → p3 ≡ p2 → p4 ≡ p3 → StepsOver (Stands keeps m4 p4 d) Answers
+    (supply_of p1 out1) (supply_of p4 out2) (Gave frame ∷ []) g (Scribble page off bs) Done
 scribble_supplied keeps Answers out1 out2 m1 m2 m3 m4 p1 p2 p3 p4 d g page off frame bs answer
     stands covers some bare same now wrote pa pb pc =
     let old = as_rogue keeps m1 p1 d g stands in

@@ -2,18 +2,16 @@
 use Rattle.std.specs.Prelude.{◌≡◌, ◌≢◌, ℕ, ◌<◌, Bool, true, false, List, [], length, All, Option}
 use Rattle.std.specs.Prelude.{Some, refl, is_some, is_none, ◌⊎◌, MatchOption, MatchBool}
 use Rattle.std.{specs.Prelude.if◌then◌else◌, proofs.Common.{sym, ◌∙◌, ap, subst, arith, inl, inr}}
-use Rattle.vb_model.specs.declared.replies.Refusal.TheVariants.{NoFrame, NoMemory, Broken}
-use Rattle.vb_model.specs.Rogue.{LosesFrames, pages_to_back, is_read, target_after, after_refused}
-use Rattle.vb_model.specs.Guest.{Guest, frame_of, is_ballooned, all_backed}
-use Rattle.vb_model.specs.declared.calls.Call.TheVariants.{Read, Scribble}
-use Rattle.vb_model.specs.declared.replies.Refusal.TheVariants.{RingBroken}
-use Rattle.vb_model.{specs.Driver.{given, claim_refusal, AreClaimsFor}, specs.Layout.reserved_pages}
-use Rattle.vb_model.{specs.declared.replies.Reply.TheVariants.Refused, proofs.Shapes.start_reserved}
-use Rattle.vb_model.{specs.Rogue.{with_fault, GuestStep, RogueStep}, specs.declared.calls.Call.Call}
-use Rattle.vb_model.{specs.declared.replies.Refusal.Refusal, proofs.Refusing.{is_refused, not_this}}
-use Rattle.vb_model.{specs.Step.{HonestStep, bare_pages}, specs.declared.replies.Reply.Reply}
-use Rattle.vb_model.{specs.Status.{contains, driver_ok}, specs.declared.calls.Claim.Claim}
-use Rattle.vb_model.{proofs.Wanting.{wants, no_want}, specs.Refusals.refusal_of}
+use Rattle.vb_model.proofs.{Refusing.{is_refused, not_this}, Shapes.start_reserved, Wanting.wants}
+use Rattle.vb_model.{proofs.Wanting.no_want, specs.Driver.{given, claim_refusal, AreClaimsFor}}
+use Rattle.vb_model.specs.{Guest.{Guest, frame_of, is_ballooned, all_backed}, Layout.reserved_pages}
+use Rattle.vb_model.specs.{Refusals.refusal_of, Rogue.{LosesFrames, pages_to_back, is_read}}
+use Rattle.vb_model.specs.Rogue.{target_after, after_refused, with_fault, GuestStep, RogueStep}
+use Rattle.vb_model.specs.{Status.{contains, driver_ok}, Step.{HonestStep, bare_pages}}
+use Rattle.vb_model.specs.declared.calls.{Call.Call, Call.TheVariants.{Read, Scribble}, Claim.Claim}
+use Rattle.vb_model.specs.declared.replies.Refusal.{Refusal, TheVariants.{NoFrame, NoMemory}}
+use Rattle.vb_model.specs.declared.replies.{Refusal.TheVariants.{Broken, RingBroken}, Reply.Reply}
+use Rattle.vb_model.specs.declared.replies.Reply.TheVariants.{Refused}
 use Rattle.vb_ram.{specs.Pages.{Pages, frame_at}, specs.Part.{Part, no_part}}
 use Rattle.vb_driver.specs.State.{DriverState}
 use Rattle.vb_guest.{specs.Stands.{IsOwnRequest, IsRogueUp, Rogue}, proofs.Moving.moves_as}
@@ -38,8 +36,7 @@ pub record DeviceSame (size : ℕ) (p1 p2 : Part) : Type 0 where
   pub unreserved : (page : ℕ) → page < reserved_pages size → is_ballooned p1.ballooned page ≡ false
       → is_ballooned p2.ballooned page ≡ false
 
-pub record Keeps (size : ℕ) (m1 m2 : Pages) (p1 p2 : Part) (d1 d2 : DriverState) :
-    Type 0 where
+pub record Keeps (size : ℕ) (m1 m2 : Pages) (p1 p2 : Part) (d1 d2 : DriverState) : Type 0 where
   pub driver : DriverSame d1 d2
   pub device : DeviceSame size p1 p2
   pub up : (contains p1.status driver_ok ≡ true → IsRogueUp size m1 p1)
@@ -62,13 +59,12 @@ driver_same d1 d2 e = grind arith
 
 -- what of a device is known where its guest is rogue, but what it answers to queries
 abbrev pub kept_of_rogue : Part → Part
-kept_of_rogue p =
-    record no_part {
-      queue_size = p.queue_size;
-      paced = p.paced;
-      loose = p.loose;
-      ballooned = p.ballooned;
-    }
+kept_of_rogue p = record no_part {
+  queue_size = p.queue_size;
+  paced = p.paced;
+  loose = p.loose;
+  ballooned = p.ballooned;
+}
 
 pub device_alike : {size : ℕ} (p1 p2 : Part) → kept_of_rogue p2 ≡ kept_of_rogue p1
     → DeviceSame size p1 p2
@@ -78,21 +74,19 @@ device_alike p1 p2 e = grind arith
 
 -- what its driver and its device say of it then
 abbrev pub rogue_after : Guest → List (Option ℕ) → Part → DriverState → Guest
-rogue_after g frames part d =
-    record g {
-      places = d.places;
-      actual = d.actual;
-      status = part.status;
-      features = part.features;
-      target = part.target;
-      last = part.last;
-      ballooned = part.ballooned;
-      frames = frames;
-    }
+rogue_after g frames part d = record g {
+  places = d.places;
+  actual = d.actual;
+  status = part.status;
+  features = part.features;
+  target = part.target;
+  last = part.last;
+  ballooned = part.ballooned;
+  frames = frames;
+}
 
 pub rogue_stands : (m1 m2 : Pages) (p1 p2 : Part) (d1 d2 : DriverState) (g : Guest)
-    (frames : List (Option ℕ)) → Rogue m1 p1 d1 g
-    → Keeps g.config.queue_size m1 m2 p1 p2 d1 d2
+    (frames : List (Option ℕ)) → Rogue m1 p1 d1 g → Keeps g.config.queue_size m1 m2 p1 p2 d1 d2
     → length m2 ≡ length m1 → length frames ≡ length g.frames
     → ((page : ℕ) → frame_at m2 page ≡ frame_of frames page)
     → Rogue m2 p2 d2 (rogue_after g frames p2 d2)
@@ -100,13 +94,12 @@ rogue_stands m1 m2 p1 p2 d1 d2 g frames rogue keeps count framed behind = grind 
 
 -- what a device says of its guest where that is rogue, but its status
 abbrev pub said : Part → Part
-said p =
-    record no_part {
-      features = p.features;
-      target = p.target;
-      last = p.last;
-      ballooned = p.ballooned;
-    }
+said p = record no_part {
+  features = p.features;
+  target = p.target;
+  last = p.last;
+  ballooned = p.ballooned;
+}
 
 -- where driver and device say what they said, the guest has other frames and another status at most
 pub rogue_same : (m : Pages) (p1 p2 : Part) (d1 d2 : DriverState) (g : Guest)
@@ -116,9 +109,8 @@ pub rogue_same : (m : Pages) (p1 p2 : Part) (d1 d2 : DriverState) (g : Guest)
 rogue_same m p1 p2 d1 d2 g frames rogue places told same = grind arith
 
 -- the device is as it was
-pub rogue_unchanged : (m : Pages) (p1 p2 : Part) (d1 d2 : DriverState) (g : Guest)
-    → Rogue m p1 d1 g → d2.places ≡ d1.places → d2.actual ≡ d1.actual → p2 ≡ p1
-    → rogue_after g g.frames p2 d2 ≡ g
+pub rogue_unchanged : (m : Pages) (p1 p2 : Part) (d1 d2 : DriverState) (g : Guest) → Rogue m p1 d1 g
+    → d2.places ≡ d1.places → d2.actual ≡ d1.actual → p2 ≡ p1 → rogue_after g g.frames p2 d2 ≡ g
 rogue_unchanged m p1 p2 d1 d2 g rogue places told part = grind arith
 
 -- ---- its step
@@ -157,11 +149,10 @@ without_fault why g e = grind arith
 
 -- a call that needs no frame claims none
 pub nothing_backed : (call : Call) (g : Guest) → bare_pages call g ≡ [] → pages_to_back call g ≡ []
-nothing_backed call g none = by (is_none (refusal_of g call))
-  where
-    by : (b : Bool) → (if b then bare_pages call g else []) ≡ []
-    by true = none
-    by false = refl
+nothing_backed call g none = by (is_none (refusal_of g call)) where
+  by : (b : Bool) → (if b then bare_pages call g else []) ≡ []
+  by true = none
+  by false = refl
 
 -- the read that it is
 read_call : (call : Call) → is_read call ≡ true
@@ -173,13 +164,11 @@ read_call _ e = absurd cc
 pub rogue_steps : (m1 m2 : Pages) (p1 p2 : Part) (d1 d2 : DriverState) (g new : Guest)
     (call : Call) (claims : List Claim) (reply : Reply) → Rogue m1 p1 d1 g
     → Rogue m2 p2 d2 new → new.config ≡ g.config → p2.target ≡ target_after call p1.target
-    → AreClaimsFor (pages_to_back call g) claims
-    → MatchOption (claim_refusal claims)
+    → AreClaimsFor (pages_to_back call g) claims → MatchOption (claim_refusal claims)
     (LosesFrames (all_backed (pages_to_back call g) (given claims) g.frames) new.frames)
     (λ refusal. (reply ≡ Refused refusal) × (new.frames ≡ g.frames))
     → (reply ≡ Refused NoFrame → claim_refusal claims ≡ Some NoFrame)
-    → (reply ≡ Refused NoMemory
-    → (claim_refusal claims ≡ Some NoMemory) ⊎ (is_read call ≡ true))
+    → (reply ≡ Refused NoMemory → (claim_refusal claims ≡ Some NoMemory) ⊎ (is_read call ≡ true))
     → IsLeft call reply claims g new
     → ((page offset : ℕ) (bytes : List ℕ) → call ≡ Scribble page offset bytes
     → HonestStep g (Scribble page offset bytes) claims reply new)
@@ -231,9 +220,8 @@ rogue_step m1 m2 p1 p2 d1 d2 g frames call reply old new target loses answer oth
 
 -- and no page changes its frame
 pub rogue_alone : (m1 m2 : Pages) (p1 p2 : Part) (d1 d2 : DriverState) (g : Guest) (call : Call)
-    (reply : Reply) → Rogue m1 p1 d1 g
-    → Keeps g.config.queue_size m1 m2 p1 p2 d1 d2 → length m2 ≡ length m1
-    → ((page : ℕ) → frame_at m2 page ≡ frame_at m1 page)
+    (reply : Reply) → Rogue m1 p1 d1 g → Keeps g.config.queue_size m1 m2 p1 p2 d1 d2
+    → length m2 ≡ length m1 → ((page : ℕ) → frame_at m2 page ≡ frame_at m1 page)
     → p2.target ≡ target_after call p1.target → wants reply ≡ false → IsOther call
     → bare_pages call g ≡ [] → IsLeft call reply [] g (rogue_after g g.frames p2 d2)
     → StepsAlone (Rogue m2 p2 d2) g call reply
@@ -296,14 +284,12 @@ pub rogue_unclaimed : (Answers : List Bool → Claim → Type 0) (out1 out2 : Li
     (m1 m2 : Pages) (p1 p2 : Part) (d : DriverState) (g : Guest) (call : Call)
     (claims : List Claim) (why : Refusal) → Rogue m1 p1 d g → m2 ≡ m1
     → p2 ≡ record p1 { own = p2.own } → AreClaimsFor (pages_to_back call g) claims
-    → claim_refusal claims ≡ Some why → target_after call p1.target ≡ p1.target
-    → after_refused call why claims g ≡ g
-    → ((page offset : ℕ) (bytes : List ℕ) → call ≡ Scribble page offset bytes
+    → claim_refusal claims ≡ Some why → target_after call p1.target ≡ p1.target → after_refused
+    call why claims g ≡ g → ((page offset : ℕ) (bytes : List ℕ) → call ≡ Scribble page offset bytes
     → HonestStep g (Scribble page offset bytes) claims (Refused why) g)
     → AreClaimed Answers (supply_of p1 out1) claims
-    → Moves (supply_of p1 out1) (supply_of p2 out2) nothing nothing
-    → StepsOver (Rogue m2 p2 d) Answers (supply_of p1 out1) (supply_of p2 out2) claims g call
-    (Refused why)
+    → Moves (supply_of p1 out1) (supply_of p2 out2) nothing nothing → StepsOver
+    (Rogue m2 p2 d) Answers (supply_of p1 out1) (supply_of p2 out2) claims g call (Refused why)
 rogue_unclaimed Answers out1 out2 m1 m2 p1 p2 d g call claims why rogue memory part made refused still left scribble answered moves =
     let stands = rogue_own m1 m2 p1 p2 d g memory part rogue in
     let F : Option Refusal → Type 0 = λ o. MatchOption o

@@ -4,8 +4,7 @@ use Rattle.std.proofs.Common.{sym, subst, arith}
 use Rattle.vb_model.specs.Layout.{reserved_pages, ring_number, ring_page, buffers_page}
 use Rattle.vb_model.{specs.Guest.Guest, proofs.Shapes.{InRing, rings_apart}}
 use Rattle.vb_ram.{specs.Pages.{Pages, page_at, frame_at}, specs.Part.Part}
-use Rattle.vb_ring.{specs.declared.layout.Layout.Layout, specs.Layout.{IsSize, layout_of}}
-use Rattle.vb_ring.specs.Ends.{DriverEnd}
+use Rattle.vb_ring.specs.{declared.layout.Layout.Layout, Layout.{IsSize, layout_of}, Ends.DriverEnd}
 use Rattle.vb_driver.{specs.State.DriverState, proofs.Shapes.buffers_between}
 use Rattle.vb_guest.proofs.Apart.{SameLine, SameReserved, SameBut, no_buffer, other_ring}
 use Rattle.vb_guest.{proofs.Apart.other_line, specs.Stands.IsRunning, proofs.RingApart.SameRing}
@@ -73,9 +72,8 @@ pub record IsRingOf (size q : ℕ) (l : Layout) : Type 0 where
   pub table : InRing size q l.table
   pub avail : InRing size q l.avail.page
 
-pub ring_of : (size q : ℕ) (ring : DriverEnd) → IsSize ring.size
-    → ring.layout ≡ layout_of (ring_page ring.size q) ring.size → ring.size ≡ size
-    → IsRingOf size q ring.layout
+pub ring_of : (size q : ℕ) (ring : DriverEnd) → IsSize ring.size → ring.layout
+    ≡ layout_of (ring_page ring.size q) ring.size → ring.size ≡ size → IsRingOf size q ring.layout
 ring_of size q ring sized layout same = grind arith
 
 -- no other page has changed

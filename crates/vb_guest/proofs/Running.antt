@@ -19,8 +19,7 @@ runs_on m1 m2 p d g run low =
     let same = queues_same m1 m2 d size (sizes_of m1 p d g run) low in
     record {
       state = run.state;
-      backed = λ page start.
-          ap is_some (ap number_of (low page (start_reserved size page start)))
+      backed = λ page start. ap is_some (ap number_of (low page (start_reserved size page start)))
           ∙ run.backed page start;
       inflate_size = run.inflate_size;
       deflate_size = run.deflate_size;
@@ -38,8 +37,7 @@ apart_of k n other e = absurd (let yes = eq-eqb n k (sym e) in cc)
 
 -- all queues of a running guest but one
 pub record OthersRun (m : Pages) (p : Part) (d : DriverState) (g : Guest) (q : ℕ) : Type 0 where
-  pub backed : (page : ℕ) → is_start_page g.config.queue_size page ≡ true
-      → IsSome (frame_at m page)
+  pub backed : (page : ℕ) → is_start_page g.config.queue_size page ≡ true → IsSome (frame_at m page)
   pub inflate : (ring_number q == 0) ≡ false → Line m 0 g.config.pages d.inflate p.inflate g.inflate
   pub deflate : (ring_number q == 1) ≡ false → Line m 1 g.config.pages d.deflate p.deflate g.deflate
   pub statistics : (ring_number q == 2) ≡ false → BufferLine m d.statistics p.statistics g.buffer
@@ -65,11 +63,9 @@ others_run m1 m2 p d g q run same behind =
 -- a driver has written to that one's ring and to a page of buffers
 pub others_posted : (m1 m2 : Pages) (p : Part) (d : DriverState) (g : Guest) (q written : ℕ)
     → IsRunning m1 p d g → PostLeaves m1 m2 d q written
-    → ((page : ℕ) → frame_at m2 page ≡ frame_at m1 page)
-    → (2 ≢ ring_number q → 12 ≢ written)
-    → (0 ≢ ring_number q → (page : ℕ) → 4 ≤ page → page < 8 → page ≢ written)
-    → (1 ≢ ring_number q → (page : ℕ) → 8 ≤ page → page < 12 → page ≢ written)
-    → OthersRun m2 p d g q
+    → ((page : ℕ) → frame_at m2 page ≡ frame_at m1 page) → (2 ≢ ring_number q → 12 ≢ written)
+    → (0 ≢ ring_number q → (page : ℕ) → 4 ≤ page → page < 8 → page ≢ written) → (1 ≢ ring_number q
+    → (page : ℕ) → 8 ≤ page → page < 12 → page ≢ written) → OthersRun m2 p d g q
 others_posted m1 m2 p d g q written run leaves behind buffer inflates deflates =
     others_run m1 m2 p d g q run (record {
       inflate = λ ne. leaves.inflate ne (inflates ne);

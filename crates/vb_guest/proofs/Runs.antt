@@ -65,15 +65,13 @@ same_entry (r ∷ rs) (suc i) d e lt = same_entry rs i d e (omega (arith, lt))
 -- what a page does to the runs of those below it
 pub page_joined : (rs : List PageRun) (page i : ℕ) (d e : PageRun) (pages : List ℕ)
     → suc i ≡ length rs → d ≡ slice_index_or rs i d → e ≡ slice_index_or rs i e → e.last + 1 ≡ page
-    → rs ≡ runs pages
-    → slice_set rs i (ends_at d page) ≡ runs (pages ++ page ∷ [])
+    → rs ≡ runs pages → slice_set rs i (ends_at d page) ≡ runs (pages ++ page ∷ [])
 page_joined rs page i d e pages last at_d at_e next is =
     grind (arith, same_entry, last_set, runs_pushed)
 
 pub page_alone : (rs new : List PageRun) (page i : ℕ) (e : PageRun) (pages : List ℕ)
     → suc i ≡ length rs → e ≡ slice_index_or rs i e → (e.last + 1 ≡ page → ⊥)
-    → new ≡ rs ++ single page ∷ [] → rs ≡ runs pages
-    → new ≡ runs (pages ++ page ∷ [])
+    → new ≡ rs ++ single page ∷ [] → rs ≡ runs pages → new ≡ runs (pages ++ page ∷ [])
 page_alone rs new page i e pages last at_e apart pushed is =
     let other : (suc (slice_index_or rs i e).last == page) ≡ false =
     other_not (suc (slice_index_or rs i e).last) page
@@ -89,8 +87,7 @@ page_first rs new page pages none pushed is = grind (arith, first_pushed, runs_p
 
 -- the pages below the next index that pass
 pages_take : {A : Type 0} (test : A → Bool) (xs : List A) (first i n : ℕ) (d : A) → i < length xs
-    → n ≡ first + i
-    → pages_from first test (take (suc i) xs) ≡ pages_from first test (take i xs)
+    → n ≡ first + i → pages_from first test (take (suc i) xs) ≡ pages_from first test (take i xs)
     ++ (if test (slice_index_or xs i d) then n ∷ [] else [])
 pages_take test [] first i n d lt e = absurd (omega arith)
 pages_take test (x ∷ xs) first zero n d lt e = grind arith
@@ -116,8 +113,7 @@ none_more (x ∷ xs) = ap (λ (l : List ℕ). x ∷ l) (none_more xs)
 
 pub runs_same : {A : Type 0} (test : A → Bool) (xs : List A) (i : ℕ) (d : A) (old : List PageRun)
     → i < length xs → old ≡ runs (pages_where test (take i xs))
-    → test (slice_index_or xs i d) ≡ false
-    → old ≡ runs (pages_where test (take (i + 1) xs))
+    → test (slice_index_or xs i d) ≡ false → old ≡ runs (pages_where test (take (i + 1) xs))
 runs_same test xs i d old lt is fails =
     let next : i + 1 ≡ suc i = omega arith in
     is ∙ ap runs (sym (ap (λ (k : ℕ). pages_where test (take k xs)) next

@@ -2,13 +2,12 @@
 use Rattle.std.specs.Prelude.{◌≡◌, ℕ, Bool, true, false, List, [], ◌∷◌, ◌++◌, length, Option, Some}
 use Rattle.std.specs.Prelude.{None, is_some, not, if◌then◌else◌, refl, ◌⊎◌, slice_get}
 use Rattle.std.proofs.Common.{sym, ◌∙◌, ap, subst, arith, inl, inr}
-use Rattle.vb_model.specs.Tables.{has_chains, is_queue_of_requests, take_causes, finish_causes}
-use Rattle.vb_model.{specs.Tables.{ask_causes, work_causes}, specs.Requests.Request}
-use Rattle.vb_model.specs.declared.calls.Call.TheVariants.{Take, Finish, Ask, Sweep, Work}
-use Rattle.vb_model.specs.declared.replies.Refusal.TheVariants.{NotReady, NoQueue}
+use Rattle.vb_model.specs.{FirstRefusal.{Cause, ◌⇒◌, first_refusal}, Guest.Guest}
 use Rattle.vb_model.specs.Refusals.{refusal_of, taken_count, is_taken, negotiated, taken_of}
-use Rattle.vb_model.{specs.Guest.Guest, specs.FirstRefusal.{Cause, ◌⇒◌, first_refusal}}
-use Rattle.vb_model.{specs.declared.calls.Call.Call, specs.declared.replies.Refusal.Refusal}
+use Rattle.vb_model.specs.{Requests.Request, Tables.{has_chains, is_queue_of_requests, take_causes}}
+use Rattle.vb_model.specs.Tables.{finish_causes, ask_causes, work_causes}
+use Rattle.vb_model.specs.declared.calls.Call.{Call, TheVariants.{Take, Finish, Ask, Sweep, Work}}
+use Rattle.vb_model.specs.declared.replies.Refusal.{Refusal, TheVariants.{NotReady, NoQueue}}
 use Rattle.vb_ram.{specs.Part.Part, specs.Pages.Pages}
 use Rattle.vb_driver.specs.State.{DriverState}
 use Rattle.vb_device.specs.Conditions.{sweep_refusal, work_refusal, take_refusal, finish_refusal}
@@ -27,13 +26,12 @@ at_both P status (inr e) a b = subst P (sym e) b
 pub last_cause : (causes : List Cause) (b : Bool) (why : Refusal) → b ≡ false
     → first_refusal (causes ++ (b ⇒ why) ∷ []) ≡ first_refusal causes
 last_cause [] b why e = ap (λ (v : Bool). first_refusal ((v ⇒ why) ∷ [])) e
-last_cause (cause ∷ causes) b why e = by cause.holds (last_cause causes b why e)
-  where
-    by : (v : Bool) → first_refusal (causes ++ (b ⇒ why) ∷ []) ≡ first_refusal causes
-        → (if v then Some cause.refusal else first_refusal (causes ++ (b ⇒ why) ∷ []))
-        ≡ (if v then Some cause.refusal else first_refusal causes)
-    by true same = refl
-    by false same = same
+last_cause (cause ∷ causes) b why e = by cause.holds (last_cause causes b why e) where
+  by : (v : Bool) → first_refusal (causes ++ (b ⇒ why) ∷ []) ≡ first_refusal causes
+      → (if v then Some cause.refusal else first_refusal (causes ++ (b ⇒ why) ∷ []))
+      ≡ (if v then Some cause.refusal else first_refusal causes)
+  by true same = refl
+  by false same = same
 
 -- ---- take
 
@@ -43,10 +41,9 @@ pub take_same : (q : ℕ) (part : Part) (g : Guest) → part.status ≡ g.status
 take_same q part g status features taken =
     let count : ℕ = length (queue_part q part).taken in
     ap (λ (s : ℕ). first_refusal
-    (take_causes q (record { status = s; features = part.features }) count)) status
-    ∙ ap (λ (f : ℕ). first_refusal
-    (take_causes q (record { status = g.status; features = f }) count)) features
-    ∙ ap (λ (n : ℕ). first_refusal (take_causes q (negotiated g) n)) taken
+    (take_causes q (record { status = s; features = part.features }) count)) status ∙ ap
+    (λ (f : ℕ). first_refusal (take_causes q (record { status = g.status; features = f }) count))
+    features ∙ ap (λ (n : ℕ). first_refusal (take_causes q (negotiated g) n)) taken
 
 -- a queue that there is, where the device isn't initialised
 pub take_idle : (q : ℕ) (part : Part) (g : Guest) → has_chains q ≡ true → part.status ≡ g.status
@@ -67,10 +64,9 @@ pub finish_same : (q i : ℕ) (part : Part) (g : Guest) → part.status ≡ g.st
     → finish_refusal q i part ≡ refusal_of g (Finish q i)
 finish_same q i part g status paced taken =
     ap (λ (s : ℕ). first_refusal (finish_causes q (record { status = s; features = g.features })
-    part.paced (taken_at q i part))) status
-    ∙ ap (λ (b : Bool). first_refusal (finish_causes q (negotiated g) b (taken_at q i part))) paced
-    ∙ ap (λ (o : Option Request). first_refusal (finish_causes q (negotiated g) g.config.paced o))
-    taken
+    part.paced (taken_at q i part))) status ∙ ap
+    (λ (b : Bool). first_refusal (finish_causes q (negotiated g) b (taken_at q i part))) paced ∙ ap
+    (λ (o : Option Request). first_refusal (finish_causes q (negotiated g) g.config.paced o)) taken
 
 pub finish_idle : (q i : ℕ) (part : Part) (g : Guest) → is_queue_of_requests q ≡ true
     → part.status ≡ g.status → IsIdleStatus g.status
@@ -132,11 +128,10 @@ pub by_state : {S : Type 0} (m : Pages) (p : Part) (d : DriverState) (g : Guest)
 by_state m p d g call refused (inl idle) down same stops goes =
     let both = down idle.state in
     stops NotReady both.0 both.1
-by_state {S} m p d g call refused (inr run) down same stops goes = by (refusal_of g call) refl
-  where
-    by : (o : Option Refusal) → refusal_of g call ≡ o → S
-    by (Some why) is = stops why (same run ∙ is) is
-    by None is = goes run (same run ∙ is) is
+by_state {S} m p d g call refused (inr run) down same stops goes = by (refusal_of g call) refl where
+  by : (o : Option Refusal) → refusal_of g call ≡ o → S
+  by (Some why) is = stops why (same run ∙ is) is
+  by None is = goes run (same run ∙ is) is
 
 -- ---- a call on a driver
 

@@ -2,9 +2,8 @@
 -- over its supply.
 use Rattle.std.specs.Prelude.{◌≡◌, ℕ, ◌+◌, Bool, false, List, []}
 use Rattle.std.proofs.Common.{sym, ◌∙◌, ap, subst, arith}
-use Rattle.vb_model.{specs.declared.calls.Call.Call, specs.declared.calls.Claim.Claim}
-use Rattle.vb_model.{specs.declared.replies.Reply.Reply, specs.Tests.one_if, specs.Guest.Guest}
-use Rattle.vb_model.specs.Orderly.{times}
+use Rattle.vb_model.specs.declared.{calls.Call.Call, calls.Claim.Claim, replies.Reply.Reply}
+use Rattle.vb_model.specs.{Tests.one_if, Guest.Guest, Orderly.times}
 use Rattle.vb_ram.{specs.Pages.Pages, specs.Part.Part}
 use Rattle.vb_driver.specs.State.{DriverState}
 use Rattle.vb_device.specs.Own.{has}
@@ -64,12 +63,10 @@ stands_with keeps m1 m2 p1 p2 d1 d2 g new stands flag numbers frames guest = gri
 -- an honest guest's step, or a rogue one's
 pub alone_stands : (keeps : Bool) (m1 m2 : Pages) (p1 p2 : Part) (d1 d2 : DriverState) (g : Guest)
     (call : Call) (reply : Reply) → Stands keeps m1 p1 d1 g → p2.keeps ≡ p1.keeps → p2.own ≡ p1.own
-    → (Honest m1 p1 d1 g → StepsAlone (Honest m2 p2 d2) g call reply)
-    → (Rogue m1 p1 d1 g → StepsAlone (Rogue m2 p2 d2) g call reply)
-    → StepsAlone (Stands keeps m2 p2 d2) g call reply
+    → (Honest m1 p1 d1 g → StepsAlone (Honest m2 p2 d2) g call reply) → (Rogue m1 p1 d1 g
+    → StepsAlone (Rogue m2 p2 d2) g call reply) → StepsAlone (Stands keeps m2 p2 d2) g call reply
 alone_stands keeps m1 m2 p1 p2 d1 d2 g call reply stands flag numbers honest rogue =
-    by_guest keeps m1 p1 d1 g stands
-    (λ h. either (Honest m2 p2 d2) (honest_is m2 p2 d2) (honest h))
+    by_guest keeps m1 p1 d1 g stands (λ h. either (Honest m2 p2 d2) (honest_is m2 p2 d2) (honest h))
     (λ r. either (Rogue m2 p2 d2) (rogue_is m2 p2 d2) (rogue r))
   where
     either : (New : Guest → Type 0) → ((new : Guest) → New new → IsGuest m2 p2 d2 new)
@@ -86,8 +83,7 @@ pub over_stands : (keeps : Bool) (m1 m2 : Pages) (p1 p2 : Part) (d1 d2 : DriverS
     → StepsOver (Stands keeps m2 p2 d2) Answers (supply_of p1 out1) (supply_of p2 out2) claims g
     call reply
 over_stands keeps m1 m2 p1 p2 d1 d2 g Answers out1 out2 claims call reply stands honest rogue =
-    by_guest keeps m1 p1 d1 g stands
-    (λ h. either (Honest m2 p2 d2) (honest_is m2 p2 d2) (honest h))
+    by_guest keeps m1 p1 d1 g stands (λ h. either (Honest m2 p2 d2) (honest_is m2 p2 d2) (honest h))
     (λ r. either (Rogue m2 p2 d2) (rogue_is m2 p2 d2) (rogue r))
   where
     either : (New : Guest → Type 0) → ((new : Guest) → New new → IsGuest m2 p2 d2 new)
@@ -112,22 +108,18 @@ AreLost g lost = (new : Guest) × ((n : ℕ) → lost n + backing_count n new �
 -- they are out
 pub freed_loose : (keeps : Bool) (m1 : Pages) (p1 p2 : Part) (d : DriverState) (g : Guest)
     (out : List Bool) → Stands keeps m1 p1 d g → (keeps ≡ false → AreOut g out)
-    → p2.keeps ≡ p1.keeps → p2.own ≡ p1.own
-    → (Honest m1 p1 d g → AreLost g (λ n. times n p2.loose))
-    → (Rogue m1 p1 d g → AreLost g (λ n. times n p2.loose))
-    → AreLoose p2.loose (supply_of p2 out)
+    → p2.keeps ≡ p1.keeps → p2.own ≡ p1.own → (Honest m1 p1 d g → AreLost g (λ n. times n p2.loose))
+    → (Rogue m1 p1 d g → AreLost g (λ n. times n p2.loose)) → AreLoose p2.loose (supply_of p2 out)
 freed_loose keeps m1 p1 p2 d g out stands held flag numbers honest rogue n =
     let lost = by_guest keeps m1 p1 d g stands honest rogue in
-    by_keeps (supply_of p2 out)
-    (λ e. (let k = sym stands.own.flag ∙ sym flag ∙ e in
+    by_keeps (supply_of p2 out) (λ e. (let k = sym stands.own.flag ∙ sym flag ∙ e in
     omega (
       arith,
       lost.1 n,
       stands.own.each k n,
       ap one_if (used_own (supply_of p2 out) n e),
       ap (λ (l : List ℕ). one_if (has l n)) numbers,
-    )))
-    (λ e. (let k = sym stands.own.flag ∙ sym flag ∙ e in
+    ))) (λ e. (let k = sym stands.own.flag ∙ sym flag ∙ e in
     omega (arith, lost.1 n, held k n, ap one_if (used_out (supply_of p2 out) n e))))
 
 pub lost_by : (New : Guest → Type 0) (loose : List ℕ) (g : Guest) (call : Call) (reply : Reply)
@@ -144,8 +136,7 @@ pub steps_freed : (keeps : Bool) (m1 m3 : Pages) (p1 p2 p3 : Part) (d : DriverSt
     → StepsOver (Stands keeps m3 p3 d) Answers (supply_of p1 out1) (supply_of p3 out2) [] g call
     reply
 steps_freed keeps m1 m3 p1 p2 p3 d g Answers out1 out2 call reply stands flag numbers honest rogue
-    moves =
-    over_stands keeps m1 m3 p1 p3 d d g Answers out1 out2 [] call reply stands
+    moves = over_stands keeps m1 m3 p1 p3 d d g Answers out1 out2 [] call reply stands
     (λ h. over (Honest m3 p3 d) (honest h)) (λ r. over (Rogue m3 p3 d) (rogue r))
   where
     first : Moves (supply_of p1 out1) (supply_of p3 out2) nothing (λ n. times n p2.loose)

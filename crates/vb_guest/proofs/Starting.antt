@@ -36,9 +36,8 @@ abbrev pub first_buffer : Bool → Figures → StatisticsBuffer
 first_buffer b f = if b then BufferPosted f else NoBuffer
 
 first_line : (b : Bool) (zeroed m : Pages) (d1 d2 : DriverState) (f : Figures)
-    → IsSize d1.queue_size → figures_of d1 ≡ f
-    → IsNewRing zeroed (fresh_statistics d1.queue_size) → FirstBuffer b zeroed m d1 d2
-    → BufferLine m d2.statistics no_queue (first_buffer b f)
+    → IsSize d1.queue_size → figures_of d1 ≡ f → IsNewRing zeroed (fresh_statistics d1.queue_size)
+    → FirstBuffer b zeroed m d1 d2 → BufferLine m d2.statistics no_queue (first_buffer b f)
 first_line true zeroed m d1 d2 f sized is new did =
     subst (λ (x : Figures). BufferLine m d2.statistics no_queue (BufferPosted x)) is (record {
       stands = ring_posted zeroed m 2 (fresh_statistics d1.queue_size) d2.statistics 0 0 [] [] []
@@ -50,8 +49,7 @@ first_line true zeroed m d1 d2 f sized is new did =
     })
 first_line false zeroed m d1 d2 f sized is new did =
     let L : Pages → DriverEnd → Type 0 = λ x r. BufferLine x r no_queue NoBuffer in
-    subst (λ (x : Pages). L x d2.statistics) (sym did.0)
-    (subst (L zeroed) (sym did.1) (record {
+    subst (λ (x : Pages). L x d2.statistics) (sym did.0) (subst (L zeroed) (sym did.1) (record {
       stands = ring_new zeroed 2 (fresh_statistics d1.queue_size) sized refl new;
       figures = tt;
       remembers = refl;
@@ -95,16 +93,14 @@ pub started : (m2 m3 : Pages) (p1 p3 : Part) (d1 d2 : DriverState) (g : Guest)
       buffer = first_buffer (stats_vq wanted) (figures g);
     })
 started m2 m3 p1 p3 d1 d2 g frames wanted has backed idle driver parts did =
-    let new : Guest =
-    record g {
+    let new : Guest = record g {
       frames = frames;
       status = 15;
       features = wanted;
       buffer = first_buffer (stats_vq wanted) (figures g);
     } in
     let part : Part = record (part_after_reset p1) { status = 15; features = wanted } in
-    let state : DriverState =
-    record d1 {
+    let state : DriverState = record d1 {
       inflate = fresh_side 0 d1.queue_size;
       deflate = fresh_side 1 d1.queue_size;
       statistics = d2.statistics;
@@ -122,14 +118,14 @@ started m2 m3 p1 p3 d1 d2 g frames wanted has backed idle driver parts did =
     let keeps = start_keeps (stats_vq wanted) m2 did.zeroed m3 d1 d2 driver.size did.rings
     did.buffer in
     let there : Ties m3 part state new = record {
-      parts = assumption (sym idle.actual, sym idle.actual, no_flags p1 g parts.device.ballooned idle, sym idle.last);
-      pages = pages_same m2 m3 g.config.queue_size n frames g.contents
-          (record {
-            count = keeps.count;
-            behind = keeps.backing;
-            holds = λ p high. ap contents_of (keeps.high p
-                (subst (λ (k : ℕ). reserved_pages k ≤ p) (sym parts.driver.queue_size) high));
-          }) has;
+      parts =
+          assumption (sym idle.actual, sym idle.actual, no_flags p1 g parts.device.ballooned idle, sym idle.last);
+      pages = pages_same m2 m3 g.config.queue_size n frames g.contents (record {
+        count = keeps.count;
+        behind = keeps.backing;
+        holds = λ p high. ap contents_of (keeps.high p
+            (subst (λ (k : ℕ). reserved_pages k ≤ p) (sym parts.driver.queue_size) high));
+      }) has;
       queues = inr (record {
         state = refl;
         backed = λ p lt. ap is_some (keeps.backing p) ∙ backed p lt;

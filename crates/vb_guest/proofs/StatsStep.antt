@@ -1,26 +1,23 @@
 -- A guest's new fill of the statistics buffer is a step of the definitions.
-use Rattle.std.specs.Prelude.{◌≡◌, ℕ, Bool, true, false, not, [], Result, Ok, Err, Option, Some}
-use Rattle.std.specs.Prelude.{None, slice_get, refl}
-use Rattle.std.proofs.Common.{sym, ◌∙◌, ap, subst, arith, inr}
+use Rattle.std.{proofs.Common.{sym, ◌∙◌, ap, subst, arith, inr}, specs.Prelude.{◌≡◌, ℕ, Bool, true}}
+use Rattle.std.specs.Prelude.{false, not, [], Result, Ok, Err, Option, Some, None, slice_get, refl}
+use Rattle.vb_model.{proofs.Shapes.reserved_least, specs.Driver.{figures, Fills}}
+use Rattle.vb_model.specs.{FirstRefusal.first_refusal, Guest.{Guest, stats_vq}, Refusals.refusal_of}
 use Rattle.vb_model.specs.Requests.{Figures, StatisticsBuffer, NoBuffer, BufferPosted, BufferTaken}
-use Rattle.vb_model.{specs.Requests.BufferDone, specs.declared.calls.Call.TheVariants.Stats}
-use Rattle.vb_model.{specs.declared.replies.Refusal.Refusal, specs.Guest.{Guest, stats_vq}}
-use Rattle.vb_model.{specs.declared.replies.Refusal.TheVariants.NotReady, specs.Tables.is_up}
+use Rattle.vb_model.specs.{Requests.BufferDone, Tables.is_up, declared.calls.Call.TheVariants.Stats}
+use Rattle.vb_model.specs.declared.replies.Refusal.{Refusal, TheVariants.NotReady}
 use Rattle.vb_model.specs.declared.replies.Reply.TheVariants.{Filled, NotUsed}
-use Rattle.vb_model.{specs.Driver.{figures, Fills}, specs.FirstRefusal.first_refusal}
-use Rattle.vb_model.{specs.Refusals.refusal_of, proofs.Shapes.reserved_least}
 use Rattle.vb_ram.{specs.Pages.Pages, specs.Part.Part}
 use Rattle.vb_ring.specs.Ends.{DriverEnd, used_answer}
 use Rattle.vb_driver.{specs.State.{DriverState, figures_of}, specs.Answers.stats_causes}
 use Rattle.vb_driver.specs.Calls.{FillsBy, Refills, emptied}
-use Rattle.vb_guest.proofs.SameRefusals.{refused_alike, runs_where, IsIdleStatus}
-use Rattle.vb_guest.{proofs.Running.others_posted, specs.Replies.filled_reply}
+use Rattle.vb_guest.proofs.{BufferLines.{buffer_emptied, buffer_posted}, Closing.honest_performed}
+use Rattle.vb_guest.proofs.{Closing.{steps_alone, refused_alone, ties_same}, PagesKept.pages_same}
+use Rattle.vb_guest.proofs.{ReapRefusing.{unfailed, never_broken}, RingReaped.ring_answer}
 use Rattle.vb_guest.proofs.RunApart.{sizes_of, ring_of, buffer_clear, post_leaves, post_same}
-use Rattle.vb_guest.proofs.Closing.{honest_performed, steps_alone, refused_alone, ties_same}
-use Rattle.vb_guest.{proofs.BufferLines.{buffer_emptied, buffer_posted}, specs.Steps.StepsAlone}
-use Rattle.vb_guest.{proofs.ReapRefusing.{unfailed, never_broken}, proofs.RingReaped.ring_answer}
-use Rattle.vb_guest.{specs.Stands.{Honest, Ties, IsRunning}, specs.Buffer.{BufferLine, used_heads}}
-use Rattle.vb_guest.proofs.PagesKept.{pages_same}
+use Rattle.vb_guest.proofs.{Running.others_posted, SameRefusals.{refused_alike, runs_where}}
+use Rattle.vb_guest.{proofs.SameRefusals.IsIdleStatus, specs.Buffer.{BufferLine, used_heads}}
+use Rattle.vb_guest.specs.{Replies.filled_reply, Stands.{Honest, Ties, IsRunning}, Steps.StepsAlone}
 
 -- ---- refusals
 
@@ -41,17 +38,14 @@ stats_refused : (m1 m2 : Pages) (p1 p2 : Part) (d1 d2 : DriverState) (g : Guest)
     → StepsAlone (Honest m2 p2 d2) g Stats (filled_reply (Err why))
 stats_refused m1 m2 p1 p2 d1 d2 g why did stands same =
     let by_model : refusal_of g Stats ≡ Some why = sym (did.refusal ∙ same) in
-    refused_alone m1 m2 p1 p2 d1 d2 g Stats why stands by_model did.refused.mem
-    (did.refused.part ∙ unfailed why p1
-    (λ e. never_broken false (not (is_up g.status)) (not (stats_vq g.features))
-    (by_model ∙ ap Some e)))
-    did.refused.driver
+    refused_alone m1 m2 p1 p2 d1 d2 g Stats why stands by_model did.refused.mem (did.refused.part
+    ∙ unfailed why p1 (λ e. never_broken false (not (is_up g.status)) (not (stats_vq g.features))
+    (by_model ∙ ap Some e))) did.refused.driver
 
 -- ---- the buffer wasn't used
 
 not_used : (m1 m2 : Pages) (p1 p2 : Part) (d1 d2 : DriverState) (g : Guest) (b : StatisticsBuffer)
-    (filled : Bool)
-    → g.buffer ≡ b → used_answer m1 d1.statistics ≡ Ok None → Fills b g NotUsed g
+    (filled : Bool) → g.buffer ≡ b → used_answer m1 d1.statistics ≡ Ok None → Fills b g NotUsed g
     → FillsBy m1 m2 p1 p2 d1 d2 (Ok filled) → Honest m1 p1 d1 g → refusal_of g Stats ≡ None
     → StepsAlone (Honest m2 p2 d2) g Stats (filled_reply (Ok filled))
 not_used m1 m2 p1 p2 d1 d2 g b filled is answer none did stands free = search arith
@@ -64,8 +58,7 @@ figures_same d g places pages = grind arith
 
 refilled : (m1 m2 : Pages) (p1 p2 : Part) (d1 d2 : DriverState) (g : Guest) (old : Figures)
     → g.buffer ≡ BufferDone old → Refills m1 m2 p1 p2 d1 d2 → Honest m1 p1 d1 g
-    → IsRunning m1 p1 d1 g → refusal_of g Stats ≡ None
-    → StepsAlone (Honest m2 p2 d2) g Stats Filled
+    → IsRunning m1 p1 d1 g → refusal_of g Stats ≡ None → StepsAlone (Honest m2 p2 d2) g Stats Filled
 refilled m1 m2 p1 p2 d1 d2 g old is did stands run free =
     let ties = stands.ties in
     let n = g.config.pages in
@@ -117,9 +110,8 @@ stats_step m1 m2 p1 p2 d1 d2 g result did stands =
         _ _ (used_heads g.buffer) run.statistics.stands
 
     by_buffer : (b : StatisticsBuffer) (filled : Bool) → g.buffer ≡ b
-        → FillsBy m1 m2 p1 p2 d1 d2 (Ok filled)
-        → IsRunning m1 p1 d1 g → used_answer m1 d1.statistics ≡ Ok (slice_get (used_heads b) 0)
-        → refusal_of g Stats ≡ None
+        → FillsBy m1 m2 p1 p2 d1 d2 (Ok filled) → IsRunning m1 p1 d1 g
+        → used_answer m1 d1.statistics ≡ Ok (slice_get (used_heads b) 0) → refusal_of g Stats ≡ None
         → StepsAlone (Honest m2 p2 d2) g Stats (filled_reply (Ok filled))
     by_buffer (BufferDone old) true is did run answer free =
         refilled m1 m2 p1 p2 d1 d2 g old is did.fills stands run free
@@ -127,12 +119,10 @@ stats_step m1 m2 p1 p2 d1 d2 g result did stands =
         absurd (let wrong = sym answer ∙ did.fills.unused in cc)
     by_buffer NoBuffer filled is did run answer free =
         not_used m1 m2 p1 p2 d1 d2 g NoBuffer filled is answer (refl, refl) did stands free
-    by_buffer (BufferPosted figures) filled is did run answer free =
-        not_used m1 m2 p1 p2 d1 d2 g (BufferPosted figures) filled is answer (refl, refl) did stands
-        free
-    by_buffer (BufferTaken figures) filled is did run answer free =
-        not_used m1 m2 p1 p2 d1 d2 g (BufferTaken figures) filled is answer (refl, refl) did stands
-        free
+    by_buffer (BufferPosted figures) filled is did run answer free = not_used m1 m2 p1 p2 d1 d2 g
+        (BufferPosted figures) filled is answer (refl, refl) did stands free
+    by_buffer (BufferTaken figures) filled is did run answer free = not_used m1 m2 p1 p2 d1 d2 g
+        (BufferTaken figures) filled is answer (refl, refl) did stands free
 
     by : (result : Result Bool Refusal) → FillsBy m1 m2 p1 p2 d1 d2 result
         → first_refusal (stats_causes m1 p1 d1) ≡ refusal_of g Stats

@@ -103,8 +103,7 @@ filled_by : (Has : Pages → List (Option ℕ) → Type 0) (n : ℕ) (pages numb
     → frame_at old page ≡ None → Has old before → Supplied old new page frame
     → Has new (backed page frame before))
     → AllDistinct pages → ((p : ℕ) → is_in p pages ≡ true → p < n)
-    → AllSupplied pages numbers m1 m2 → Has m1 frames
-    → Has m2 (all_backed pages numbers frames)
+    → AllSupplied pages numbers m1 m2 → Has m1 frames → Has m2 (all_backed pages numbers frames)
 filled_by Has n [] numbers m1 m2 frames one distinct below e has =
     subst (λ m. Has m frames) (sym e) has
 filled_by Has n (p ∷ ps) [] m1 m2 frames one distinct below none has = absurd none
@@ -130,9 +129,8 @@ pages_filled size n pages numbers m1 m2 frames contents distinct below supplied 
     pages_supplied old new size n page frame before contents lt bare all did) distinct below supplied has
 
 pub frames_given : (n : ℕ) (pages numbers : List ℕ) (m1 m2 : Pages) (frames : List (Option ℕ))
-    → AllDistinct pages → ((p : ℕ) → is_in p pages ≡ true → p < n)
-    → AllSupplied pages numbers m1 m2 → HasFrames m1 n frames
-    → HasFrames m2 n (all_backed pages numbers frames)
+    → AllDistinct pages → ((p : ℕ) → is_in p pages ≡ true → p < n) → AllSupplied pages numbers m1 m2
+    → HasFrames m1 n frames → HasFrames m2 n (all_backed pages numbers frames)
 frames_given n pages numbers m1 m2 frames distinct below supplied has =
     filled_by (λ m l. HasFrames m n l) n pages numbers m1 m2 frames
     (λ old new page frame before lt bare all did.
@@ -140,8 +138,7 @@ frames_given n pages numbers m1 m2 frames distinct below supplied has =
 
 -- each frame that was given is behind a page more
 pub frames_filled : (x n : ℕ) (pages : List ℕ) (claims : List Claim) (m1 m2 : Pages)
-    (frames : List (Option ℕ))
-    → claim_refusal claims ≡ None → AreClaimsFor pages claims
+    (frames : List (Option ℕ)) → claim_refusal claims ≡ None → AreClaimsFor pages claims
     → AllDistinct pages → ((p : ℕ) → is_in p pages ≡ true → p < n)
     → AllSupplied pages (given claims) m1 m2 → HasFrames m1 n frames
     → count_by (is_frame x) (all_backed pages (given claims) frames)
@@ -149,8 +146,7 @@ pub frames_filled : (x n : ℕ) (pages : List ℕ) (claims : List Claim) (m1 m2 
 frames_filled x n [] [] m1 m2 frames all made distinct below supplied has = omega arith
 frames_filled x n [] (c ∷ cs) m1 m2 frames all made distinct below supplied has =
     absurd (let none : c ∷ cs ≡ [] = made in cc)
-frames_filled x n (p ∷ ps) [] m1 m2 frames all made distinct below supplied has =
-    absurd made
+frames_filled x n (p ∷ ps) [] m1 m2 frames all made distinct below supplied has = absurd made
 frames_filled x n (p ∷ ps) (GaveNoFrame ∷ cs) m1 m2 frames all made distinct below supplied
     has = absurd cc
 frames_filled x n (p ∷ ps) (GaveNoMemory ∷ cs) m1 m2 frames all made distinct below
@@ -160,10 +156,8 @@ frames_filled x n (p ∷ ps) (Gave f ∷ cs) m1 m2 frames all made distinct belo
     let below_too : (q : ℕ) → is_in q ps ≡ true
     → q < n = λ q m. below q (later (p == q) (is_in q ps) m) in
     let lt : p < n = below p (ap (λ (b : Bool). b || is_in p ps) (eq-eqb p p refl)) in
-    let there = frames_given n ps (given cs) m1 mid frames distinct.1 below_too before
-    has in
-    let rest = frames_filled x n ps cs m1 mid frames all made distinct.1 below_too before
-    has in
+    let there = frames_given n ps (given cs) m1 mid frames distinct.1 below_too before has in
+    let rest = frames_filled x n ps cs m1 mid frames all made distinct.1 below_too before has in
     let more = count_backed x p f (all_backed ps (given cs) frames) (omega (arith, there.framed))
     (sym (there.behind p) ∙ bare) in
     let swap : count_by (is_frame x) (backed p f (all_backed ps (given cs) frames))

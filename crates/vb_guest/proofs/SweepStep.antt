@@ -15,8 +15,7 @@ use Rattle.vb_guest.{proofs.Offered.high_page, proofs.PagesKept.{pages_discarded
 use Rattle.vb_guest.proofs.Closing.{honest_performed, ties_same}
 use Rattle.vb_guest.proofs.Handing.{handed_back, loose_none, not_among}
 use Rattle.vb_driver.specs.State.{DriverState}
-use Rattle.vb_device.{specs.Conditions.sweep_refusal, specs.Discards.discarded}
-use Rattle.vb_device.specs.Calls.{SweepsBy}
+use Rattle.vb_device.specs.{Conditions.sweep_refusal, Discards.discarded, Calls.SweepsBy}
 
 all_one : (P : ℕ → Type 0) (x : ℕ) → P x → All P (x ∷ [])
 all_one P x h zero d lt = h
@@ -25,9 +24,8 @@ all_one P x h (suc k) d lt = absurd (omega arith)
 -- ---- refusals
 
 sweep_refused : (m1 m2 : Pages) (p1 p2 : Part) (d : DriverState) (g : Guest) (page : ℕ)
-    (why : Refusal) (result : Result Bool Refusal)
-    → SweepsBy page m1 m2 p1 p2 result → Honest m1 p1 d g → sweep_refusal page p1 ≡ Some why
-    → refusal_of g (Sweep page) ≡ Some why
+    (why : Refusal) (result : Result Bool Refusal) → SweepsBy page m1 m2 p1 p2 result
+    → Honest m1 p1 d g → sweep_refusal page p1 ≡ Some why → refusal_of g (Sweep page) ≡ Some why
     → StepsFreeing (Honest m2 (handed_back p2) d) p2.loose g (Sweep page) (swept_reply result)
 sweep_refused m1 m2 p1 p2 d g page why result did stands by_part by_model = grind arith
 
@@ -40,9 +38,8 @@ ballooned_free g page sound flag =
     grind (arith, naming-all page g.inflate, naming-all page g.deflate)
 
 sweep_done : (m1 m2 : Pages) (p1 p2 : Part) (d : DriverState) (g : Guest) (page : ℕ)
-    (result : Result Bool Refusal)
-    → SweepsBy page m1 m2 p1 p2 result → Honest m1 p1 d g → IsRunning m1 p1 d g
-    → sweep_refusal page p1 ≡ None → refusal_of g (Sweep page) ≡ None
+    (result : Result Bool Refusal) → SweepsBy page m1 m2 p1 p2 result → Honest m1 p1 d g
+    → IsRunning m1 p1 d g → sweep_refusal page p1 ≡ None → refusal_of g (Sweep page) ≡ None
     → is_ballooned g.ballooned page ≡ true
     → StepsFreeing (Honest m2 (handed_back p2) d) p2.loose g (Sweep page) (swept_reply result)
 sweep_done m1 m2 p1 p2 d g page result did stands run by_part by_model flag =
@@ -78,8 +75,7 @@ flag_of : (g : Guest) (page : ℕ) → refusal_of g (Sweep page) ≡ None
 flag_of g page free = grind arith
 
 pub sweep_step : (m1 m2 : Pages) (p1 p2 : Part) (d : DriverState) (g : Guest) (page : ℕ)
-    (result : Result Bool Refusal)
-    → SweepsBy page m1 m2 p1 p2 result → Honest m1 p1 d g
+    (result : Result Bool Refusal) → SweepsBy page m1 m2 p1 p2 result → Honest m1 p1 d g
     → StepsFreeing (Honest m2 (handed_back p2) d) p2.loose g (Sweep page) (swept_reply result)
 sweep_step m1 m2 p1 p2 d g page result did stands =
     let device = stands.ties.parts.device in

@@ -3,32 +3,27 @@ use Rattle.std.specs.Prelude.{true, ◌≡◌, ℕ, ◌*◌, List, [], length, R
 use Rattle.std.specs.Prelude.{slice_get, refl, if◌then◌else◌}
 use Rattle.std.proofs.Common.{sym, ◌∙◌, ap, subst, arith, inr}
 use Rattle.vb_model.specs.Requests.{Request, Figures, StatisticsBuffer, NoBuffer, BufferPosted}
-use Rattle.vb_model.specs.Requests.{BufferTaken, BufferDone}
-use Rattle.vb_model.{specs.declared.calls.Call.TheVariants.Take, specs.Guest.Guest}
-use Rattle.vb_model.{specs.declared.replies.Refusal.Refusal, specs.Device.TakesBuffer}
-use Rattle.vb_model.{specs.Layout.ring_page}
-use Rattle.vb_model.specs.declared.replies.Reply.TheVariants.{Taken, Empty}
-use Rattle.vb_model.{specs.declared.replies.LastStatistics.LastStatistics, specs.Tables.has_chains}
+use Rattle.vb_model.specs.{Requests.{BufferTaken, BufferDone}, declared.calls.Call.TheVariants.Take}
+use Rattle.vb_model.specs.{Guest.Guest, declared.replies.Refusal.Refusal, Device.TakesBuffer}
+use Rattle.vb_model.specs.{Layout.ring_page, declared.replies.Reply.TheVariants.{Taken, Empty}}
+use Rattle.vb_model.specs.{declared.replies.LastStatistics.LastStatistics, Tables.has_chains}
 use Rattle.vb_model.specs.Refusals.{refusal_of, is_taken, taken_count}
 use Rattle.vb_ram.{specs.Pages.Pages, specs.Part.Part, proofs.Limits.config_limits}
 use Rattle.vb_chain.{specs.Table.descriptor_at, specs.Chain.ChainGives}
 use Rattle.vb_driver.{specs.State.DriverState, specs.Coding.AreFigures}
-use Rattle.vb_device.{specs.Conditions.take_refusal, specs.Calls.{TakesBy, taking}}
-use Rattle.vb_device.specs.Queues.{queue_part}
+use Rattle.vb_device.specs.{Conditions.take_refusal, Calls.{TakesBy, taking}, Queues.queue_part}
 use Rattle.vb_guest.proofs.BufferChain.{buffer_pieces, buffer_chain, buffer_names, buffer_says}
-use Rattle.vb_guest.proofs.Closing.{honest_performed, steps_alone, ties_same}
-use Rattle.vb_guest.specs.Buffer.{BufferLine, posted_heads, taken_requests}
-use Rattle.vb_guest.{proofs.SameRefusals.{by_state, take_same, take_idle}, specs.Steps.StepsAlone}
-use Rattle.vb_guest.{proofs.BufferLines.buffer_taken, specs.Stands.{Honest, Ties, IsRunning}}
-use Rattle.vb_guest.{proofs.RingTaken.ring_next, specs.Replies.taken_reply}
-use Rattle.vb_guest.proofs.Handing.{same_entry}
+use Rattle.vb_guest.proofs.{BufferLines.buffer_taken, Closing.{honest_performed, steps_alone}}
+use Rattle.vb_guest.proofs.{Closing.ties_same, Handing.same_entry, RingTaken.ring_next}
+use Rattle.vb_guest.{proofs.SameRefusals.{by_state, take_same, take_idle}, specs.Buffer.BufferLine}
+use Rattle.vb_guest.specs.{Buffer.{posted_heads, taken_requests}, Replies.taken_reply}
+use Rattle.vb_guest.specs.{Stands.{Honest, Ties, IsRunning}, Steps.StepsAlone}
 
 -- a refused take of any queue
 pub take_refused : (m1 m2 : Pages) (p1 p2 : Part) (d : DriverState) (g : Guest) (q : ℕ)
     (why : Refusal) (result : Result (Option ℕ) Refusal)
     → TakesBy q m1 m2 p1 p2 result → Honest m1 p1 d g → take_refusal q p1 ≡ Some why
-    → refusal_of g (Take q) ≡ Some why
-    → StepsAlone (Honest m2 p2 d) g (Take q) (taken_reply result)
+    → refusal_of g (Take q) ≡ Some why → StepsAlone (Honest m2 p2 d) g (Take q) (taken_reply result)
 take_refused m1 m2 p1 p2 d g q why result did stands by_part by_model = search arith
 
 -- no buffer is posted
@@ -36,8 +31,7 @@ take_none : (m1 m2 : Pages) (p1 p2 : Part) (d : DriverState) (g : Guest) (b : St
     (result : Result (Option ℕ) Refusal)
     → g.buffer ≡ b → posted_heads b ≡ [] → TakesBuffer b g Empty g → TakesBy 2 m1 m2 p1 p2 result
     → Honest m1 p1 d g → IsRunning m1 p1 d g → take_refusal 2 p1 ≡ None
-    → refusal_of g (Take 2) ≡ None
-    → StepsAlone (Honest m2 p2 d) g (Take 2) (taken_reply result)
+    → refusal_of g (Take 2) ≡ None → StepsAlone (Honest m2 p2 d) g (Take 2) (taken_reply result)
 take_none m1 m2 p1 p2 d g b result is none empty did stands run free_part free =
     let line = run.statistics in
     let next = same_entry m1 2 p1.queue_size p1.statistics.next_avail d.statistics
@@ -56,25 +50,21 @@ take_posted : (m1 m2 : Pages) (p1 p2 : Part) (d : DriverState) (g : Guest) (figu
     (result : Result (Option ℕ) Refusal)
     → g.buffer ≡ BufferPosted figures → TakesBy 2 m1 m2 p1 p2 result
     → Honest m1 p1 d g → IsRunning m1 p1 d g → take_refusal 2 p1 ≡ None
-    → refusal_of g (Take 2) ≡ None
-    → StepsAlone (Honest m2 p2 d) g (Take 2) (taken_reply result)
+    → refusal_of g (Take 2) ≡ None → StepsAlone (Honest m2 p2 d) g (Take 2) (taken_reply result)
 take_posted m1 m2 p1 p2 d g figures result is did stands run free_part free =
     let ties = stands.ties in
-    let said : LastStatistics =
-    record { free = Some figures.free; total = Some figures.total } in
+    let said : LastStatistics = record { free = Some figures.free; total = Some figures.total } in
     let L : StatisticsBuffer → Type 0 = λ b. BufferLine m1 d.statistics p1.statistics b in
     let line : L (BufferPosted figures) = subst L is run.statistics in
     let size = ties.parts.device.size ∙ sym run.statistics_size in
     let next = same_entry m1 2 p1.queue_size p1.statistics.next_avail d.statistics
-    line.stands.layout size
-    ∙ ring_next m1 2 d.statistics p1.statistics.next_avail p1.statistics.next_used _ _ _
-    line.stands in
-    let limits = config_limits g.config.pages g.config.queue_size g.config.processors
-    ties.parts.guest.config in
+    line.stands.layout size ∙ ring_next
+    m1 2 d.statistics p1.statistics.next_avail p1.statistics.next_used _ _ _ line.stands in
+    let limits =
+    config_limits g.config.pages g.config.queue_size g.config.processors ties.parts.guest.config in
     let table : ℕ = ring_page p1.queue_size 2 in
-    let chain : ChainGives (descriptor_at m1 table) p1.queue_size (4096 * length m1) 0
-    buffer_pieces =
-    buffer_chain m1 table p1.queue_size figures
+    let chain : ChainGives (descriptor_at m1 table) p1.queue_size
+    (4096 * length m1) 0 buffer_pieces = buffer_chain m1 table p1.queue_size figures
     (omega (arith, limits.pages_least, ties.pages.length_is))
     (omega (arith, limits.queue_least, ties.parts.device.size))
     (subst (λ (s : ℕ). AreFigures m1 (ring_page s 2) figures) (sym size) line.figures) in
@@ -99,9 +89,8 @@ one_taken b = grind arith
 
 -- a take from a queue that there is, by what it does where it isn't refused
 pub take_by : (m1 m2 : Pages) (p1 p2 : Part) (d : DriverState) (g : Guest) (q : ℕ)
-    (result : Result (Option ℕ) Refusal)
-    → has_chains q ≡ true → TakesBy q m1 m2 p1 p2 result → Honest m1 p1 d g
-    → (IsRunning m1 p1 d g → length (queue_part q p1).taken ≡ taken_count g q)
+    (result : Result (Option ℕ) Refusal) → has_chains q ≡ true → TakesBy q m1 m2 p1 p2 result
+    → Honest m1 p1 d g → (IsRunning m1 p1 d g → length (queue_part q p1).taken ≡ taken_count g q)
     → (IsRunning m1 p1 d g → take_refusal q p1 ≡ None → refusal_of g (Take q) ≡ None
     → StepsAlone (Honest m2 p2 d) g (Take q) (taken_reply result))
     → StepsAlone (Honest m2 p2 d) g (Take q) (taken_reply result)
@@ -113,11 +102,9 @@ take_by m1 m2 p1 p2 d g q result has did stands counts goes =
     (λ why. take_refused m1 m2 p1 p2 d g q why result did stands) goes
 
 pub take_buffer : (m1 m2 : Pages) (p1 p2 : Part) (d : DriverState) (g : Guest)
-    (result : Result (Option ℕ) Refusal)
-    → TakesBy 2 m1 m2 p1 p2 result → Honest m1 p1 d g
+    (result : Result (Option ℕ) Refusal) → TakesBy 2 m1 m2 p1 p2 result → Honest m1 p1 d g
     → StepsAlone (Honest m2 p2 d) g (Take 2) (taken_reply result)
-take_buffer m1 m2 p1 p2 d g result did stands =
-    take_by m1 m2 p1 p2 d g 2 result refl did stands
+take_buffer m1 m2 p1 p2 d g result did stands = take_by m1 m2 p1 p2 d g 2 result refl did stands
     (λ run. ap (λ (l : List Request). length l) run.statistics.remembers ∙ one_taken g.buffer)
     (λ run. by_buffer g.buffer refl run)
   where

@@ -21,10 +21,7 @@ target_stands m1 m2 p1 p2 d g n memory part stands =
     let there : Ties m1 after d new = record {
       parts = assumption;
       pages = ties.pages;
-      queues = elim ties.queues [
-        | inl idle ↦ inl assumption
-        | inr run ↦ inr assumption
-      ];
+      queues = elim ties.queues [ inl idle ↦ inl assumption | inr run ↦ inr assumption ];
     } in
     still_stands m1 m2 p1 p2 d d g (SetTarget n) [] Done new stands (target_set g n)
     (ties_same m1 m2 after p2 d d new memory part refl there)

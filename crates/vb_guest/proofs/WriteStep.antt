@@ -3,20 +3,17 @@ use Rattle.std.specs.Prelude.{◌≡◌, ℕ, ◌<◌, ◌≤◌, Bool, true, fa
 use Rattle.std.specs.Prelude.{length, Option, Some, None, IsSome, is_none, Result, Err, IsOk, refl}
 use Rattle.std.{specs.Prelude.◌⊎◌, proofs.Common.{sym, ◌∙◌, ap, subst, arith, inl, inr}}
 use Rattle.std.{proofs.lemmas.Bool.cases_lt, proofs.lemmas.Bool.Decides.nat_tests}
-use Rattle.vb_model.{specs.Layout.reserved_pages, specs.declared.calls.Call.TheVariants.Write}
-use Rattle.vb_model.{specs.declared.calls.Claim.Claim, specs.declared.calls.Claim.TheVariants.Gave}
-use Rattle.vb_model.{specs.declared.replies.Refusal.Refusal, specs.Pages.{place_of, is_used}}
+use Rattle.vb_model.{proofs.Performed.Supplying, specs.Driver.{overwritten, pages_needed, Written}}
+use Rattle.vb_model.specs.{Guest.{Guest, frame_of, backed}, Layout.reserved_pages, Pages.place_of}
+use Rattle.vb_model.specs.{Pages.is_used, Refusals.{◌⇒◌, first_refusal, refusal_of, is_outside}}
+use Rattle.vb_model.specs.declared.calls.{Call.TheVariants.Write, Claim.Claim}
+use Rattle.vb_model.specs.declared.{calls.Claim.TheVariants.Gave, replies.Refusal.Refusal}
 use Rattle.vb_model.specs.declared.replies.Refusal.TheVariants.{NotHeld, OutOfRam, NoMemory}
 use Rattle.vb_model.specs.declared.replies.Reply.TheVariants.{Done, Refused}
-use Rattle.vb_model.{specs.Guest.{Guest, frame_of, backed}, proofs.Performed.Supplying}
-use Rattle.vb_model.specs.Refusals.{◌⇒◌, first_refusal, refusal_of, is_outside}
-use Rattle.vb_model.specs.Driver.{overwritten, pages_needed, Written}
-use Rattle.vb_ram.{specs.declared.fault.RamFault.RamFault, specs.Part.Part}
-use Rattle.vb_ram.specs.Pages.{Pages, frame_at, Covers, Wrote, Supplied}
-use Rattle.vb_ram.specs.declared.fault.RamFault.TheVariants.{NeedsFrame}
+use Rattle.vb_ram.specs.{Pages.{Pages, frame_at, Covers, Wrote, Supplied}, Part.Part}
+use Rattle.vb_ram.specs.declared.fault.RamFault.{RamFault, TheVariants.NeedsFrame}
 use Rattle.vb_driver.specs.State.{DriverState}
-use Rattle.vb_frames.specs.declared.keeper.Refused.TheVariants.{NoFrame, Memory}
-use Rattle.vb_frames.specs.Out.{claim_in}
+use Rattle.vb_frames.specs.{declared.keeper.Refused.TheVariants.{NoFrame, Memory}, Out.claim_in}
 use Rattle.vb_guest.proofs.Closing.{honest_performed, guest_step, still_stands, steps_alone}
 use Rattle.vb_guest.{proofs.Closing.honest_own, specs.Supply.{supply_of, IsClaimed}}
 use Rattle.vb_guest.proofs.Writing.{at_page, used_high, pages_wrote, pages_supplied, count_backed}
@@ -97,21 +94,18 @@ written_ties m1 m2 p1 p2 d g page off bs high covers ties wrote part =
 pub write_backed : (m1 m2 : Pages) (p1 p2 : Part) (d : DriverState) (g : Guest) (page off : ℕ)
     (bs : List ℕ) → is_used (place_of d.places page) ≡ true → Honest m1 p1 d g
     → Covers m1 page off (length bs) → (0 < length bs → frame_at m1 page ≡ None → ⊥)
-    → Wrote m1 m2 page off bs → p2 ≡ p1
-    → StepsAlone (Honest m2 p2 d) g (Write page off bs) Done
+    → Wrote m1 m2 page off bs → p2 ≡ p1 → StepsAlone (Honest m2 p2 d) g (Write page off bs) Done
 write_backed m1 m2 p1 p2 d g page off bs used stands covers never wrote part =
     let held : is_used (place_of g.places page) ≡ true =
     ap (λ l. is_used (place_of l page)) (sym stands.ties.parts.driver.places) ∙ used in
     let high = used_high g page stands.orderly held
     (omega (arith, covers.page, stands.ties.pages.length_is)) in
     let new : Guest = record g { contents = at_page page (overwritten off bs) g.contents } in
-    let free : refusal_of g (Write page off bs) ≡ None =
-    write_causes g page off bs held
+    let free : refusal_of g (Write page off bs) ≡ None = write_causes g page off bs held
     ∙ ap (λ (b : Bool). first_refusal ((b ⇒ OutOfRam) ∷ []))
     (inside_is g m1 page off (length bs) stands.ties.pages.length_is covers) in
-    let needs : pages_needed page bs g ≡ [] =
-    need (frame_of g.frames page) refl (stands.ties.pages.behind page) never
-    (cases_lt 0 (length bs)) in
+    let needs : pages_needed page bs g ≡ [] = need
+    (frame_of g.frames page) refl (stands.ties.pages.behind page) never (cases_lt 0 (length bs)) in
     let W : List ℕ → Type 0 =
     λ l. Supplying l g [] Done new (λ supplied. Written page off bs supplied Done new) in
     let step = honest_performed g (Write page off bs) [] Done new free
@@ -139,16 +133,12 @@ write_unsupplied Answers out1 out2 m1 m2 p1 p2 d g page off bs why answer used s
 
 -- a page that got a frame, and then was written
 pub write_supplied : (Answers : List Bool → Claim → Type 0) (out1 out2 : List Bool)
-    (m1 m2 m3 m4 : Pages) (p1 p2 p3 p4 : Part) (d : DriverState) (g : Guest)
-    (page off frame : ℕ) (bs : List ℕ)
-    → IsClaimed Answers (supply_of p1 out1) (supply_of p2 out2) (Gave frame)
-    → is_used (place_of d.places page) ≡ true
-    → Honest m1 p1 d g → Covers m1 page off (length bs) → 0 < length bs
-    → frame_at m1 page ≡ None → m2 ≡ m1
-    → Supplied m2 m3 page frame → Wrote m3 m4 page off bs → p2 ≡ record p1 { own = p2.own }
-    → p3 ≡ p2 → p4 ≡ p3
-    → StepsOver (Honest m4 p4 d) Answers (supply_of p1 out1) (supply_of p4 out2) (Gave frame ∷ []) g
-    (Write page off bs) Done
+    (m1 m2 m3 m4 : Pages) (p1 p2 p3 p4 : Part) (d : DriverState) (g : Guest) (page off frame : ℕ)
+    (bs : List ℕ) → IsClaimed Answers (supply_of p1 out1) (supply_of p2 out2) (Gave frame)
+    → is_used (place_of d.places page) ≡ true → Honest m1 p1 d g → Covers m1 page off (length bs)
+    → 0 < length bs → frame_at m1 page ≡ None → m2 ≡ m1 → Supplied m2 m3 page frame → Wrote m3 m4
+    page off bs → p2 ≡ record p1 { own = p2.own } → p3 ≡ p2 → p4 ≡ p3 → StepsOver (Honest m4 p4 d)
+    Answers (supply_of p1 out1) (supply_of p4 out2) (Gave frame ∷ []) g (Write page off bs) Done
 write_supplied Answers out1 out2 m1 m2 m3 m4 p1 p2 p3 p4 d g page off frame bs answer used stands
     covers some bare same now wrote pa pb pc =
     let supplied : Supplied m1 m3 page frame = subst (λ m. Supplied m m3 page frame) same now in
@@ -156,8 +146,7 @@ write_supplied Answers out1 out2 m1 m2 m3 m4 p1 p2 p3 p4 d g page off frame bs a
     ap (λ l. is_used (place_of l page)) (sym stands.ties.parts.driver.places) ∙ used in
     let lt : page < g.config.pages = omega (arith, covers.page, stands.ties.pages.length_is) in
     let high = used_high g page stands.orderly held lt in
-    let free : refusal_of g (Write page off bs) ≡ None =
-    write_causes g page off bs held
+    let free : refusal_of g (Write page off bs) ≡ None = write_causes g page off bs held
     ∙ ap (λ (b : Bool). first_refusal ((b ⇒ OutOfRam) ∷ []))
     (inside_is g m1 page off (length bs) stands.ties.pages.length_is covers) in
     let bare_too : frame_of g.frames page ≡ None = sym (stands.ties.pages.behind page) ∙ bare in
@@ -166,23 +155,22 @@ write_supplied Answers out1 out2 m1 m2 m3 m4 p1 p2 p3 p4 d g page off frame bs a
     let new : Guest = record after { contents = at_page page (overwritten off bs) g.contents } in
     let mid : Ties m3 p1 d after = record {
       parts = stands.ties.parts;
-      pages = pages_supplied m1 m3 g.config.queue_size g.config.pages page frame g.frames g.contents lt bare
-          stands.ties.pages supplied;
+      pages = pages_supplied m1 m3 g.config.queue_size
+          g.config.pages page frame g.frames g.contents lt bare stands.ties.pages supplied;
       queues = elim stands.ties.queues [
         | inl idle ↦ inl assumption
         | inr run ↦ (let still = runs_on m1 m3 p1 d g run
             (λ p low. supplied.others p (omega arith)) in inr assumption)
       ];
     } in
-    let W : List ℕ → Type 0 =
-    λ l. Supplying l g (Gave frame ∷ []) Done new
+    let W : List ℕ → Type 0 = λ l. Supplying l g (Gave frame ∷ []) Done new
     (λ supplied. Written page off bs supplied Done new) in
     let step = honest_performed g (Write page off bs) (Gave frame ∷ []) Done new free
     (subst W (sym needs) (refl, (refl, refl))) in
     let covers2 : Covers m3 page off (length bs) =
     record { page = omega (arith, covers.page, supplied.count); bytes = covers.bytes } in
-    let written = still_stands m1 m4 p1 p1 d d g (Write page off bs) (Gave frame ∷ []) Done new stands
-    step (written_ties m3 m4 p1 p1 d after page off bs high covers2 mid wrote refl) in
+    let written = still_stands m1 m4 p1 p1 d d g (Write page off bs) (Gave frame ∷ []) Done
+    new stands step (written_ties m3 m4 p1 p1 d after page off bs high covers2 mid wrote refl) in
     let part = pc ∙ pb in
     let own = ap (λ (p : Part). p.own) part in
     record {

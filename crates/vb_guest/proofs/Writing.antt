@@ -4,10 +4,9 @@ use Rattle.std.specs.Prelude.{Option, Some, None, slice_set, slice_index_or, cou
 use Rattle.std.{proofs.Common.{sym, ◌∙◌, ap, arith, inl, inr}, proofs.lemmas.List.Sums.sum_by-set}
 use Rattle.std.proofs.lemmas.Bool.{cases_eq, cases_lt}
 use Rattle.std.proofs.lemmas.List.{ext_get_or, length-set, get_or-set_same, get_or-set_other}
-use Rattle.vb_model.{specs.Tests.{one_if, each_page}, specs.Layout.reserved_pages}
-use Rattle.vb_model.{specs.Pages.{place_of, is_used}, specs.Guest.{Guest, frame_of, backed}}
-use Rattle.vb_model.{specs.Driver.overwritten, specs.Orderly.IsOrderly}
-use Rattle.vb_model.proofs.Tables.{length-each_from, each_page-get}
+use Rattle.vb_model.specs.{Tests.{one_if, each_page}, Layout.reserved_pages, Pages.place_of}
+use Rattle.vb_model.specs.{Pages.is_used, Guest.{Guest, frame_of, backed}, Driver.overwritten}
+use Rattle.vb_model.{specs.Orderly.IsOrderly, proofs.Tables.{length-each_from, each_page-get}}
 use Rattle.vb_ram.specs.Pages.{Pages, frame_at, number_of, Wrote, Supplied}
 use Rattle.vb_ram.proofs.Contents.{contents_wrote}
 use Rattle.vb_guest.{specs.Stands.HasPages, specs.Steps.is_frame}
@@ -44,15 +43,13 @@ at_page-other page f xs i d lt ne = grind (arith, at_page-get)
 -- a frame that backs a page is one entry
 pub backed-set : (page frame : ℕ) (frames : List (Option ℕ)) → page < length frames
     → backed page frame frames ≡ slice_set frames page (Some frame)
-backed-set page frame frames lt =
-    ext_get_or None (backed page frame frames) (slice_set frames page (Some frame))
-    (length-at_page page (λ old. Some frame) frames ∙ sym (length-set frames page (Some frame)))
-    (λ i h.
+backed-set page frame frames lt = ext_get_or None (backed page frame frames)
+    (slice_set frames page (Some frame)) (length-at_page page (λ old. Some frame) frames
+    ∙ sym (length-set frames page (Some frame))) (λ i h.
     let inside : i < length frames =
     omega (arith, length-at_page page (λ (old : Option ℕ). Some frame) frames) in
     elim (cases_eq i page) [
-      | inl same ↦
-          at_page-same page (λ old. Some frame) frames i None inside same
+      | inl same ↦ at_page-same page (λ old. Some frame) frames i None inside same
           ∙ sym (ap (λ (k : ℕ). slice_index_or (slice_set frames page (Some frame)) k None) same
           ∙ get_or-set_same frames page (Some frame) None lt)
       | inr ne ↦ at_page-other page (λ old. Some frame) frames i None inside ne
@@ -61,8 +58,7 @@ backed-set page frame frames lt =
 
 -- a frame enters a page that has none
 pub count_backed : (n page frame : ℕ) (frames : List (Option ℕ)) → page < length frames
-    → frame_of frames page ≡ None
-    → count_by (is_frame n) (backed page frame frames)
+    → frame_of frames page ≡ None → count_by (is_frame n) (backed page frame frames)
     ≡ count_by (is_frame n) frames + one_if (frame == n)
 count_backed n page frame frames lt bare = grind (arith, sum_by-set, backed-set)
 
@@ -81,22 +77,19 @@ pub record HasFrames (mem : Pages) (count : ℕ) (frames : List (Option ℕ)) : 
   pub framed : length frames ≡ count
   pub behind : (page : ℕ) → frame_at mem page ≡ frame_of frames page
 
-pub frames_of : (mem : Pages) (size count : ℕ) (frames : List (Option ℕ))
-    (contents : List (List ℕ)) → HasPages mem size count frames contents
-    → HasFrames mem count frames
+pub frames_of : (mem : Pages) (size count : ℕ) (frames : List (Option ℕ)) (contents : List (List ℕ))
+    → HasPages mem size count frames contents → HasFrames mem count frames
 frames_of mem size count frames contents has =
     record { length_is = has.length_is; framed = has.framed; behind = has.behind }
 
 -- a page has a frame more
 pub frames_supplied : (m1 m2 : Pages) (n page frame : ℕ) (frames : List (Option ℕ)) → page < n
-    → HasFrames m1 n frames → Supplied m1 m2 page frame
-    → HasFrames m2 n (backed page frame frames)
+    → HasFrames m1 n frames → Supplied m1 m2 page frame → HasFrames m2 n (backed page frame frames)
 frames_supplied m1 m2 n page frame frames lt has did = record {
   length_is = did.count ∙ has.length_is;
   framed = length-at_page page (λ (old : Option ℕ). Some frame) frames ∙ has.framed;
   behind = λ p. elim (cases_eq p page) [
-    | inl same ↦
-        ap (λ (k : ℕ). frame_at m2 k) same ∙ did.backed
+    | inl same ↦ ap (λ (k : ℕ). frame_at m2 k) same ∙ did.backed
         ∙ sym (ap (λ (k : ℕ). frame_of (backed page frame frames) k) same
         ∙ at_page-same page (λ (old : Option ℕ). Some frame) frames page None
         (omega (arith, has.framed)) refl)
@@ -109,9 +102,8 @@ frames_supplied m1 m2 n page frame frames lt has did = record {
         → frame_of (backed page frame frames) p ≡ frame_of frames p
     past_or p ne (inl inside) =
         at_page-other page (λ (old : Option ℕ). Some frame) frames p None inside ne
-    past_or p ne (inr past) =
-        Rattle.std.proofs.lemmas.List.get_or_past (backed page frame frames) p None
-        (omega (arith, length-at_page page (λ (old : Option ℕ). Some frame) frames))
+    past_or p ne (inr past) = Rattle.std.proofs.lemmas.List.get_or_past (backed page frame frames)
+        p None (omega (arith, length-at_page page (λ (old : Option ℕ). Some frame) frames))
         ∙ sym (Rattle.std.proofs.lemmas.List.get_or_past frames p None past)
 
 -- a page with no frame holds zeros, and so it does with a new one
@@ -119,8 +111,7 @@ pub pages_supplied : (m1 m2 : Pages) (size n page frame : ℕ) (frames : List (O
     (contents : List (List ℕ)) → page < n → frame_at m1 page ≡ None
     → HasPages m1 size n frames contents → Supplied m1 m2 page frame
     → HasPages m2 size n (backed page frame frames) contents
-pages_supplied m1 m2 size n page frame frames contents lt bare has did =
-    grind (
-      arith,
-      frames_supplied m1 m2 n page frame frames lt (frames_of m1 size n frames contents has) did,
-    )
+pages_supplied m1 m2 size n page frame frames contents lt bare has did = grind (
+  arith,
+  frames_supplied m1 m2 n page frame frames lt (frames_of m1 size n frames contents has) did,
+)

@@ -2,25 +2,22 @@
 use Rattle.std.proofs.Common.{◌≡◌, ℕ, ◌<◌, List, [], ◌∷◌, ◌++◌, sym, ap, ◌∙◌, inl, inr, arith}
 use Rattle.std.specs.Prelude.{Option, Some, None, MatchOption, if◌then◌else◌}
 use Rattle.std.proofs.lemmas.Bool.{cases_lt}
-use Rattle.vb_model.specs.declared.calls.Call.TheVariants.{Init, Reset, Alloc, Free, Read, Write}
-use Rattle.vb_model.specs.declared.calls.Call.TheVariants.{Scribble, Inflate, Deflate, Oom, Report}
-use Rattle.vb_model.specs.declared.calls.Call.TheVariants.{Stats, Reap, Take, Work, Finish, Sweep}
-use Rattle.vb_model.specs.Requests.{Request, Requests, all_requests, headed, IsLeastHead, Kind}
-use Rattle.vb_model.specs.Requests.{Inflating, kind_of_queue, StatisticsBuffer, NoBuffer}
-use Rattle.vb_model.specs.Requests.{BufferPosted}
-use Rattle.vb_model.specs.Driver.{claim_refusal, after_posting, stranded_first, Deflates}
-use Rattle.vb_model.{specs.declared.calls.Call.Call, specs.declared.replies.Refusal.Refusal}
-use Rattle.vb_model.{specs.declared.calls.Call.TheVariants.{Ask, SetTarget}, specs.Rogue.Scribbled}
-use Rattle.vb_model.{specs.declared.replies.Reply.Reply, specs.Requests.{BufferTaken, BufferDone}}
-use Rattle.vb_model.specs.declared.replies.Reply.TheVariants.{Done, Posted, Refused}
-use Rattle.vb_model.{specs.Guest.{Guest, requests}, specs.declared.calls.Claim.Claim}
-use Rattle.vb_model.specs.Refusals.{refusal_of, inflate_count, deflate_count, oom_count}
-use Rattle.vb_model.specs.Driver.{Reports, Reaps, Fills, Written, pages_needed}
-use Rattle.vb_model.specs.Device.{TakesRequest, TakesBuffer, Works, Finishes, ReturnsBuffer}
-use Rattle.vb_model.specs.Device.{next_page}
-use Rattle.vb_model.{specs.Life.{feature_refusal, Negotiates, lacking}, specs.Determined.Agree}
-use Rattle.vb_model.{specs.Step.HonestStep, proofs.CallSteps.supplied}
-use Rattle.vb_model.proofs.Performed.{Performed, Supplying, honest_case}
+use Rattle.vb_model.proofs.{CallSteps.supplied, Performed.{Performed, Supplying, honest_case}}
+use Rattle.vb_model.specs.{Determined.Agree, Device.{TakesRequest, TakesBuffer, Works, Finishes}}
+use Rattle.vb_model.specs.{Device.{ReturnsBuffer, next_page}, Driver.{claim_refusal, after_posting}}
+use Rattle.vb_model.specs.Driver.{stranded_first, Deflates, Reports, Reaps, Fills, Written}
+use Rattle.vb_model.specs.{Driver.pages_needed, Guest.{Guest, requests}, Life.feature_refusal}
+use Rattle.vb_model.specs.{Life.{Negotiates, lacking}, Refusals.{refusal_of, inflate_count}}
+use Rattle.vb_model.specs.{Refusals.{deflate_count, oom_count}, Requests.{Request, Requests}}
+use Rattle.vb_model.specs.Requests.{all_requests, headed, IsLeastHead, Kind, Inflating}
+use Rattle.vb_model.specs.Requests.{kind_of_queue, StatisticsBuffer, NoBuffer, BufferPosted}
+use Rattle.vb_model.specs.{Requests.{BufferTaken, BufferDone}, Rogue.Scribbled, Step.HonestStep}
+use Rattle.vb_model.specs.declared.calls.Call.{Call, TheVariants.{Init, Reset, Alloc, Free, Read}}
+use Rattle.vb_model.specs.declared.calls.Call.TheVariants.{Write, Scribble, Inflate, Deflate, Oom}
+use Rattle.vb_model.specs.declared.calls.Call.TheVariants.{Report, Stats, Reap, Take, Work, Finish}
+use Rattle.vb_model.specs.declared.calls.{Call.TheVariants.{Sweep, Ask, SetTarget}, Claim.Claim}
+use Rattle.vb_model.specs.declared.replies.{Refusal.Refusal, Reply.Reply, Reply.TheVariants.Done}
+use Rattle.vb_model.specs.declared.replies.Reply.TheVariants.{Posted, Refused}
 
 -- ---- two choices of one case
 
@@ -40,16 +37,15 @@ same_case (Some x) P P' Q Q' R s t none some = some x s t
 -- ---- heads and pages of a new request
 
 least_same : (rs : Requests) (a b : ℕ) → IsLeastHead rs a → IsLeastHead rs b → a ≡ b
-least_same rs a b p q =
-    elim (cases_lt a b) [
-      | inl l ↦ let some : 0 < headed a (all_requests rs) = q.least a l in
-          let none : headed a (all_requests rs) ≡ 0 = p.new in absurd (omega arith)
-      | inr ge ↦ elim (cases_lt b a) [
-        | inl l ↦ let some : 0 < headed b (all_requests rs) = p.least b l in
-            let none : headed b (all_requests rs) ≡ 0 = q.new in absurd (omega arith)
-        | inr le ↦ omega arith
-      ]
-    ]
+least_same rs a b p q = elim (cases_lt a b) [
+  | inl l ↦ let some : 0 < headed a (all_requests rs) = q.least a l in
+      let none : headed a (all_requests rs) ≡ 0 = p.new in absurd (omega arith)
+  | inr ge ↦ elim (cases_lt b a) [
+    | inl l ↦ let some : 0 < headed b (all_requests rs) = p.least b l in
+        let none : headed b (all_requests rs) ≡ 0 = q.new in absurd (omega arith)
+    | inr le ↦ omega arith
+  ]
+]
 
 same_last : (rs : List Request) (a b : Request) → rs ++ (a ∷ []) ≡ rs ++ (b ∷ []) → a ≡ b
 same_last [] a b e = cc
@@ -107,12 +103,10 @@ reports_same from g r new r' new' s t = grind (arith, least_same g.report s.0 t.
 
 works_same : (g : Guest) (r : Reply) (new : Guest) (r' : Reply) (new' : Guest) → Works g r new
     → Works g r' new' → Same r new r' new'
-works_same g r new r' new' s t =
-    same_case (if g.config.paced then next_page g.inflate.taken else None) _ _ _ _
-    (Same r new r' new') s t
+works_same g r new r' new' s t = same_case
+    (if g.config.paced then next_page g.inflate.taken else None) _ _ _ _ (Same r new r' new') s t
     (λ s t. same_case (if g.config.paced then next_page g.report.taken else None) _ _ _ _
-    (Same r new r' new') s t
-    (λ s t. both r r' _ new new' _ s.0 s.1 t.0 t.1)
+    (Same r new r' new') s t (λ s t. both r r' _ new new' _ s.0 s.1 t.0 t.1)
     (λ page s t. both r r' _ new new' _ s.0 s.1 t.0 t.1))
     (λ page s t. both r r' _ new new' _ s.0 s.1 t.0 t.1)
 
@@ -127,11 +121,10 @@ supplies_same : (pages : List ℕ) (g : Guest) (claims : List Claim) (r : Reply)
     (r' : Reply) (new' : Guest) (Rest Rest' : Guest → Type 0) → Supplying pages g claims r new Rest
     → Supplying pages g claims r' new' Rest' → ((m : Guest) → Rest m → Rest' m → Same r new r' new')
     → Same r new r' new'
-supplies_same pages g claims r new r' new' Rest Rest' s t rest =
-    same_case (claim_refusal claims) (Rest (supplied pages claims g))
-    (Rest' (supplied pages claims g)) (λ refusal. (r ≡ Refused refusal) × (new ≡ g))
-    (λ refusal. (r' ≡ Refused refusal) × (new' ≡ g)) (Same r new r' new') s.1 t.1
-    (λ s t. rest (supplied pages claims g) s t)
+supplies_same pages g claims r new r' new' Rest Rest' s t rest = same_case
+    (claim_refusal claims) (Rest (supplied pages claims g)) (Rest' (supplied pages claims g))
+    (λ refusal. (r ≡ Refused refusal) × (new ≡ g)) (λ refusal. (r' ≡ Refused refusal) × (new' ≡ g))
+    (Same r new r' new') s.1 t.1 (λ s t. rest (supplied pages claims g) s t)
     (λ refusal s t. both r r' _ new new' _ s.0 s.1 t.0 t.1)
 
 -- ---- one call
@@ -168,30 +161,23 @@ performs_agree (Take q) g claims r new r' new' s t =
     (λ s t. takes_buffer_same g.buffer g r new r' new' s t)
     (λ kind s t. takes_same kind (requests kind g).posted g r new r' new' s t)
 performs_agree Work g claims r new r' new' s t = works_same g r new r' new' s.1 t.1
-performs_agree (Finish q i) g claims r new r' new' s t =
-    same_case (kind_of_queue q) ⊥ ⊥ (λ kind. Finishes kind i g r new)
-    (λ kind. Finishes kind i g r' new') (Same r new r' new') s.1 t.1
-    (λ s t. absurd s)
-    (λ kind s t. finishes_same kind i g r new r' new' s t)
-performs_agree (Init wanted) g claims r new r' new' s t =
-    supplies_same (lacking g) g claims r new r' new'
-    (λ m. Negotiates (feature_refusal wanted) wanted m r new)
+performs_agree (Finish q i) g claims r new r' new' s t = same_case (kind_of_queue q) ⊥ ⊥
+    (λ kind. Finishes kind i g r new) (λ kind. Finishes kind i g r' new') (Same r new r' new')
+    s.1 t.1 (λ s t. absurd s) (λ kind s t. finishes_same kind i g r new r' new' s t)
+performs_agree (Init wanted) g claims r new r' new' s t = supplies_same
+    (lacking g) g claims r new r' new' (λ m. Negotiates (feature_refusal wanted) wanted m r new)
     (λ m. Negotiates (feature_refusal wanted) wanted m r' new') s t
     (λ m s t. negotiates_same (feature_refusal wanted) wanted m r new r' new' s t)
-performs_agree (Write page offset bytes) g claims r new r' new' s t =
-    supplies_same (pages_needed page bytes g) g claims r new r' new'
-    (λ m. Written page offset bytes m r new) (λ m. Written page offset bytes m r' new') s t
-    (λ m s t. both r r' _ new new' _ s.0 s.1 t.0 t.1)
+performs_agree (Write page offset bytes) g claims r new r' new' s t = supplies_same
+    (pages_needed page bytes g) g claims r new r' new' (λ m. Written page offset bytes m r new)
+    (λ m. Written page offset bytes m r' new') s t (λ m s t. both r r' _ new new' _ s.0 s.1 t.0 t.1)
 performs_agree (Scribble page offset bytes) g claims r new r' new' s t =
     same_case (claim_refusal claims) (Scribbled m r new) (Scribbled m r' new')
-    (λ refusal. (r ≡ Refused refusal) × (new ≡ g))
-    (λ refusal. (r' ≡ Refused refusal) × (new' ≡ g))
-    (Agree (Scribble page offset bytes) r new r' new') s.1 t.1
-    (λ s t. (
+    (λ refusal. (r ≡ Refused refusal) × (new ≡ g)) (λ refusal. (r' ≡ Refused refusal) × (new' ≡ g))
+    (Agree (Scribble page offset bytes) r new r' new') s.1 t.1 (λ s t. (
       s.answered ∙ sym t.answered,
       λ refusal e. absurd (let told : Done ≡ Refused refusal = sym s.answered ∙ e in cc),
-    ))
-    (λ refusal s t. (s.0 ∙ sym t.0, λ refusal e. s.1 ∙ sym t.1))
+    )) (λ refusal s t. (s.0 ∙ sym t.0, λ refusal e. s.1 ∙ sym t.1))
   where
     m : Guest
     m = supplied (pages_needed page bytes g) claims g

@@ -4,31 +4,29 @@ use Rattle.std.proofs.Common.{replicate, refl, sym, ap, subst, ◌∙◌, inl, i
 use Rattle.std.specs.Prelude.{Bool, Option, Some, None, slice_get, length, IsTrue}
 use Rattle.std.proofs.lemmas.Bool.{cases_lt}
 use Rattle.vb_model.specs.declared.calls.Call.TheVariants.{Alloc, Inflate, Deflate, Oom, Report}
+use Rattle.vb_model.specs.declared.calls.Call.TheVariants.{Reap, Reset, Work, Finish}
 use Rattle.vb_model.specs.declared.replies.Reply.TheVariants.{Done, Page, Posted, Reaped, Idle}
+use Rattle.vb_model.specs.declared.replies.Reply.TheVariants.{Finished, NotUsed, Refused}
 use Rattle.vb_model.specs.Requests.{Request, Requests, no_requests, Inflating, Deflating}
-use Rattle.vb_model.specs.Courses.{Course, guest_after, ReapedAt, DeflatePostedAt, WasAskedBack}
-use Rattle.vb_model.{specs.declared.places.Place.Place, specs.declared.calls.Call.Call}
+use Rattle.vb_model.specs.{Requests.{Reporting_free, queue_of}, Courses.{Course, guest_after}}
+use Rattle.vb_model.specs.Courses.{ReapedAt, DeflatePostedAt, WasAskedBack, posts_deflate}
+use Rattle.vb_model.specs.declared.{places.Place.Place, calls.Call.Call}
 use Rattle.vb_model.specs.declared.places.Place.TheVariants.{Giving, Lent, Taking}
 use Rattle.vb_model.specs.declared.calls.Actor.TheVariants.{Processor, Worker}
-use Rattle.vb_model.specs.declared.calls.Call.TheVariants.{Reap, Reset, Work, Finish}
-use Rattle.vb_model.{specs.declared.replies.Refusal.TheVariants.QueueFull, specs.Life.after_reset}
-use Rattle.vb_model.specs.declared.replies.Reply.TheVariants.{Finished, NotUsed, Refused}
-use Rattle.vb_model.{specs.Requests.{Reporting_free, queue_of}, specs.Guest.{Guest, tells_host}}
-use Rattle.vb_model.{specs.GuestRun.{Entry, Called}, specs.Courses.posts_deflate}
-use Rattle.vb_model.specs.Histories.{IsSafeCourse}
-use Rattle.vb_model.proofs.Samples.{ready, down, untold, page_16_at, request}
-use Rattle.vb_model.proofs.SafeFacts.{made, goes, request_16, posted, used}
+use Rattle.vb_model.specs.{declared.replies.Refusal.TheVariants.QueueFull, Life.after_reset}
+use Rattle.vb_model.specs.{Guest.{Guest, tells_host}, GuestRun.{Entry, Called}}
+use Rattle.vb_model.{specs.Histories.IsSafeCourse, proofs.Samples.{ready, down, untold, page_16_at}}
+use Rattle.vb_model.proofs.{Samples.request, SafeFacts.{made, goes, request_16, posted, used}}
 use Rattle.vb_model.specs.declared.places.Place.TheVariants.{Free as FreePlace, Used, Stranded}
 
 -- page 16 is offered by entry 0, and then come these entries; the guest is the same but for the page
 -- and the requests
 abbrev offering : Guest → List (Option Entry) → List Guest → Course
-offering g entries guests =
-    record {
-      first = page_16_at FreePlace g;
-      entries = made (Inflate 1) (Posted 0 1) ∷ entries;
-      after = guests;
-    }
+offering g entries guests = record {
+  first = page_16_at FreePlace g;
+  entries = made (Inflate 1) (Posted 0 1) ∷ entries;
+  after = guests;
+}
 
 -- it is offered, and the request is used already; it is lent; it is asked back, and then that
 -- request is used; it can be handed out; it is handed out
@@ -52,12 +50,10 @@ handed_out g = page_16_at Used g
 
 -- where the guest tells the host: lent, asked back, reaped, handed out
 abbrev told_and_back : Course
-told_and_back = offering ready
-    (made (Reap 0) (Reaped 0 1) ∷ made (Deflate 1) (Posted 0 1)
+told_and_back = offering ready (made (Reap 0) (Reaped 0 1) ∷ made (Deflate 1) (Posted 0 1)
     ∷ Some (Called (Worker 0) (Finish 1 0) [] (Finished 0)) ∷ made (Reap 1) (Reaped 0 1)
-    ∷ made (Alloc 0 0) (Page 16) ∷ [])
-    (giving ready ∷ lent ready ∷ asked Taking ready ∷ coming_back Taking ready ∷ back ready
-    ∷ handed_out ready ∷ [])
+    ∷ made (Alloc 0 0) (Page 16) ∷ []) (giving ready ∷ lent ready
+    ∷ asked Taking ready ∷ coming_back Taking ready ∷ back ready ∷ handed_out ready ∷ [])
 
 abbrev some_own : Option Entry → Option (Option Entry)
 some_own own = Some own
@@ -65,33 +61,31 @@ some_own own = Some own
 -- the reap of the inflate as entry 1, and the post of the deflate as entry 2
 abbrev lends : (c : Course) (g : Guest) → slice_get c.entries 1 ≡ some_own (made (Reap 0) (Reaped 0 1))
     → guest_after c 1 ≡ Some (giving g) → ReapedAt Inflating c 16 1
-lends c g entry is_there =
-    record {
-      guest = giving g;
-      request = request_16;
-      others = [];
-      called = (Processor 0 0, [], entry);
-      is_there = is_there;
-      done = refl;
-      named = refl;
-    }
+lends c g entry is_there = record {
+  guest = giving g;
+  request = request_16;
+  others = [];
+  called = (Processor 0 0, [], entry);
+  is_there = is_there;
+  done = refl;
+  named = refl;
+}
 
 abbrev asks : (c : Course) (g : Guest) (place : Place) (call : Call) → IsTrue (posts_deflate call)
     → slice_get c.entries 2 ≡ some_own (made call (Posted 0 1)) → guest_after c 2 ≡ Some (lent g)
     → guest_after c 3 ≡ Some (asked place g) → g.deflate ≡ no_requests → DeflatePostedAt c 16 2
-asks c g place call is_asking entry is_there follows none =
-    record {
-      before = lent g;
-      after = asked place g;
-      call = call;
-      request = request_16;
-      called = (Processor 0 0, [], entry);
-      asks = is_asking;
-      is_there = is_there;
-      follows = follows;
-      posted = ap (λ (rs : Requests). rs.posted ++ (request_16 ∷ [])) (sym none);
-      named = refl;
-    }
+asks c g place call is_asking entry is_there follows none = record {
+  before = lent g;
+  after = asked place g;
+  call = call;
+  request = request_16;
+  called = (Processor 0 0, [], entry);
+  asks = is_asking;
+  is_there = is_there;
+  follows = follows;
+  posted = ap (λ (rs : Requests). rs.posted ++ (request_16 ∷ [])) (sym none);
+  named = refl;
+}
 
 told_and_asked_back : WasAskedBack told_and_back 16 0 5
 told_and_asked_back = record {
@@ -123,26 +117,23 @@ told_and_asked_back = record {
 -- where it doesn't: lent, asked back, handed out while that request is posted; by a call for want
 -- of memory too
 abbrev at_once : Guest → Place → Call → Course
-at_once g place call =
-    offering g
-    (made (Reap 0) (Reaped 0 1) ∷ made call (Posted 0 1) ∷ made Work Idle
-    ∷ made (Alloc 0 0) (Page 16) ∷ [])
+at_once g place call = offering g (made (Reap 0) (Reaped 0 1)
+    ∷ made call (Posted 0 1) ∷ made Work Idle ∷ made (Alloc 0 0) (Page 16) ∷ [])
     (giving g ∷ lent g ∷ asked place g ∷ asked place g ∷ handed_out g ∷ [])
 
 untold_and_asked_back : (call : Call) → IsTrue (posts_deflate call)
     → WasAskedBack (at_once untold FreePlace call) 16 0 4
-untold_and_asked_back call is_asking =
-    record {
-      lent = 1;
-      asked = 2;
-      since = omega arith;
-      later = omega arith;
-      before = omega arith;
-      inflate = lends (at_once untold FreePlace call) untold refl refl;
-      deflate = asks (at_once untold FreePlace call) untold FreePlace call is_asking refl refl refl
-          refl;
-      told = λ tells. absurd (let e : false ≡ true = tells in cc);
-    }
+untold_and_asked_back call is_asking = record {
+  lent = 1;
+  asked = 2;
+  since = omega arith;
+  later = omega arith;
+  before = omega arith;
+  inflate = lends (at_once untold FreePlace call) untold refl refl;
+  deflate = asks (at_once untold FreePlace call) untold FreePlace call is_asking refl refl refl
+      refl;
+  told = λ tells. absurd (let e : false ≡ true = tells in cc);
+}
 
 by_two_calls : IsTrue (posts_deflate (Deflate 1)) × IsTrue (posts_deflate (Oom 1))
 by_two_calls = (refl, refl)
@@ -155,8 +146,7 @@ by_no_other_call = refl
 
 -- what an asked-back page's guest owes where it tells the host
 abbrev Told : (c : Course) (k asked : ℕ) → DeflatePostedAt c 16 asked → Type 0
-Told c k asked p =
-    IsTrue (tells_host p.before)
+Told c k asked p = IsTrue (tells_host p.before)
     → (j : ℕ) × (asked < j) × (j < k) × (reap : ReapedAt Deflating c 16 j)
     × (reap.request.head ≡ p.request.head) × (reap.request.pages ≡ p.request.pages)
 
@@ -175,31 +165,25 @@ not_by c i k a lent asked is_lent is_asked refused =
 -- with two entries in between just the first may be the reap; with three there are three choices
 not_by_two : (c : Course) (i : ℕ) → NotBy c (i + 3) (i + 1) (i + 2) → WasAskedBack c 16 i (i + 3)
     → ⊥
-not_by_two c i refused a =
-    grind (
-      arith,
-      not_by c i (i + 3) a (i + 1) (i + 2) (omega (
-        arith,
-        a.since,
-        a.later,
-        a.before,
-      )) (omega (arith, a.since, a.later, a.before)) refused,
-    )
+not_by_two c i refused a = grind (
+  arith,
+  not_by c i (i + 3) a (i + 1) (i + 2) (omega (arith, a.since, a.later, a.before))
+      (omega (arith, a.since, a.later, a.before)) refused,
+)
 
 not_by_three : (c : Course) (i : ℕ) → NotBy c (i + 4) (i + 1) (i + 2)
     → NotBy c (i + 4) (i + 1) (i + 3) → NotBy c (i + 4) (i + 2) (i + 3)
     → WasAskedBack c 16 i (i + 4) → ⊥
-not_by_three c i first_two outer last_two a =
-    elim (cases_lt a.asked (i + 3)) [
-      | inl l ↦ not_by c i (i + 4) a (i + 1) (i + 2) (omega (arith, a.since, a.later, l))
-          (omega (arith, a.since, a.later, l)) first_two
-      | inr l ↦ elim (cases_lt a.lent (i + 2)) [
-        | inl m ↦ not_by c i (i + 4) a (i + 1) (i + 3) (omega (arith, a.since, m))
-            (omega (arith, a.before, l)) outer
-        | inr m ↦ not_by c i (i + 4) a (i + 2) (i + 3) (omega (arith, a.later, a.before, m))
-            (omega (arith, a.before, l)) last_two
-      ]
-    ]
+not_by_three c i first_two outer last_two a = elim (cases_lt a.asked (i + 3)) [
+  | inl l ↦ not_by c i (i + 4) a (i + 1) (i + 2) (omega (arith, a.since, a.later, l))
+      (omega (arith, a.since, a.later, l)) first_two
+  | inr l ↦ elim (cases_lt a.lent (i + 2)) [
+    | inl m ↦ not_by c i (i + 4) a (i + 1) (i + 3) (omega (arith, a.since, m))
+        (omega (arith, a.before, l)) outer
+    | inr m ↦ not_by c i (i + 4) a (i + 2) (i + 3) (omega (arith, a.later, a.before, m))
+        (omega (arith, a.before, l)) last_two
+  ]
+]
 
 -- the entry is a call that asks pages back
 abbrev is_asking : Option (Option Entry) → Bool
@@ -241,8 +225,7 @@ tells (Some g) = tells_host g
 
 -- with one entry between the post and the end, the reap is that entry
 abbrev ReapsIt : (c : Course) (asked : ℕ) → DeflatePostedAt c 16 asked → ℕ → Type 0
-ReapsIt c asked p j =
-    (reap : ReapedAt Deflating c 16 j)
+ReapsIt c asked p j = (reap : ReapedAt Deflating c 16 j)
     × (reap.request.head ≡ p.request.head) × (reap.request.pages ≡ p.request.pages)
 
 the_reap : (c : Course) (asked : ℕ) (p : DeflatePostedAt c 16 asked) → Told c (asked + 2) asked p
@@ -255,8 +238,7 @@ the_reap c asked p told e =
 -- with none between there is no reap
 no_reap : (c : Course) (asked : ℕ) (p : DeflatePostedAt c 16 asked) → Told c (asked + 1) asked p
     → tells (guest_after c asked) ≡ true → ⊥
-no_reap c asked p told e =
-    let r = told (ap tells (sym p.is_there) ∙ e) in omega (arith, r.1, r.2)
+no_reap c asked p told e = let r = told (ap tells (sym p.is_there) ∙ e) in omega (arith, r.1, r.2)
 
 first_is : (a : Request) (rest : List Request) (b : Request) (more : List Request)
     → a ∷ rest ≡ b ∷ more → a ≡ b
@@ -280,16 +262,13 @@ told_and_handed_out_next = not_by_two (not_reaped (Deflate 1)) 0
     (λ r p told. no_reap (not_reaped (Deflate 1)) 2 p told refl)
 
 posted_by_an_inflate : DeflatePostedAt (not_reaped (Inflate 1)) 16 2 → ⊥
-posted_by_an_inflate p =
-    let e : false ≡ true = ap is_asking p.called.2 ∙ p.asks in cc
+posted_by_an_inflate p = let e : false ≡ true = ap is_asking p.called.2 ∙ p.asks in cc
 
 -- or reaps it behind that
 abbrev reaped_behind : Course
-reaped_behind = offering ready
-    (made (Reap 0) (Reaped 0 1) ∷ made (Deflate 1) (Posted 0 1) ∷ made (Alloc 0 0) (Page 16)
-    ∷ made (Reap 1) (Reaped 0 1) ∷ [])
-    (giving ready ∷ lent ready ∷ coming_back Taking ready ∷ coming_back Used ready
-    ∷ handed_out ready ∷ [])
+reaped_behind = offering ready (made (Reap 0) (Reaped 0 1) ∷ made (Deflate 1) (Posted 0 1)
+    ∷ made (Alloc 0 0) (Page 16) ∷ made (Reap 1) (Reaped 0 1) ∷ []) (giving ready
+    ∷ lent ready ∷ coming_back Taking ready ∷ coming_back Used ready ∷ handed_out ready ∷ [])
 
 told_too_late : WasAskedBack reaped_behind 16 0 3 → ⊥
 told_too_late = not_by_two reaped_behind 0 (λ r p told. no_reap reaped_behind 2 p told refl)
@@ -310,13 +289,10 @@ Same a b = a ≡ b
 
 -- what was posted, and what was reaped there
 posted_there : (r : Request) (p : DeflatePostedAt (reaps_another r) 16 2) → request_16 ≡ p.request
-posted_there r p =
-    first_is request_16 [] p.request [] (posted_is (reaps_another r) 2 p)
+posted_there r p = first_is request_16 [] p.request [] (posted_is (reaps_another r) 2 p)
 
-reaped_there : (r : Request) (reap : ReapedAt Deflating (reaps_another r) 16 3)
-    → r ≡ reap.request
-reaped_there r reap =
-    first_is r [] reap.request reap.others (reaped_is (reaps_another r) 3 reap)
+reaped_there : (r : Request) (reap : ReapedAt Deflating (reaps_another r) 16 3) → r ≡ reap.request
+reaped_there r reap = first_is r [] reap.request reap.others (reaped_is (reaps_another r) 3 reap)
 
 abbrev head_1 : Request
 head_1 = request 1 (16 ∷ []) 0
@@ -333,21 +309,17 @@ other_pages = grind arith
 -- ---- and these not in a guest that doesn't tell either: no page is asked back
 
 abbrev never_asked : Guest → Course
-never_asked g =
-    offering g (made (Reap 0) (Reaped 0 1) ∷ made Work Idle ∷ made (Alloc 0 0) (Page 16) ∷ [])
-    (giving g ∷ lent g ∷ back g ∷ handed_out g ∷ [])
+never_asked g = offering g (made (Reap 0) (Reaped 0 1) ∷ made Work Idle
+    ∷ made (Alloc 0 0) (Page 16) ∷ []) (giving g ∷ lent g ∷ back g ∷ handed_out g ∷ [])
 
 no_deflate_posted : (g : Guest) → WasAskedBack (never_asked g) 16 0 3 → ⊥
 no_deflate_posted g = not_by_two (never_asked g) 0 (not_asking (never_asked g) 3 1 2 refl)
 
 -- it is before the inflate comes back
 abbrev asked_too_early : Guest → Course
-asked_too_early g =
-    offering g
-    (made (Deflate 1) (Posted 0 1) ∷ made (Reap 0) (Reaped 0 1) ∷ made Work Idle
-    ∷ made (Alloc 0 0) (Page 16) ∷ [])
-    (giving g ∷ record (giving g) { deflate = posted request_16 } ∷ lent g ∷ back g ∷ handed_out g
-    ∷ [])
+asked_too_early g = offering g (made (Deflate 1) (Posted 0 1)
+    ∷ made (Reap 0) (Reaped 0 1) ∷ made Work Idle ∷ made (Alloc 0 0) (Page 16) ∷ []) (giving g
+    ∷ record (giving g) { deflate = posted request_16 } ∷ lent g ∷ back g ∷ handed_out g ∷ [])
 
 posted_before_the_reap : (g : Guest) → WasAskedBack (asked_too_early g) 16 0 4 → ⊥
 posted_before_the_reap g = grind arith
@@ -355,19 +327,16 @@ posted_before_the_reap g = grind arith
 -- or by these two entries, each a bit off: an inflate of some pages comes back, and then a deflate
 -- is posted
 abbrev by : Option Entry → List ℕ → Option Entry → Requests → Requests → Course
-by reap pages post before after =
-    offering untold (reap ∷ post ∷ made (Alloc 0 0) (Page 16) ∷ [])
+by reap pages post before after = offering untold (reap ∷ post ∷ made (Alloc 0 0) (Page 16) ∷ [])
     (record (giving untold) { inflate = used (request 0 pages 0) }
     ∷ record (lent untold) { deflate = before } ∷ record (back untold) { deflate = after }
     ∷ handed_out untold ∷ [])
 
 abbrev by_reap : Option Entry → List ℕ → Course
-by_reap reap pages =
-    by reap pages (made (Deflate 1) (Posted 0 1)) no_requests (posted request_16)
+by_reap reap pages = by reap pages (made (Deflate 1) (Posted 0 1)) no_requests (posted request_16)
 
 abbrev by_post : Option Entry → Requests → Requests → Course
-by_post post before after =
-    by (made (Reap 0) (Reaped 0 1)) (16 ∷ []) post before after
+by_post post before after = by (made (Reap 0) (Reaped 0 1)) (16 ∷ []) post before after
 
 abbrev just_these : Course
 just_these = by_reap (made (Reap 0) (Reaped 0 1)) (16 ∷ [])
@@ -426,8 +395,7 @@ NotByPost post before after = WasAskedBack (by_post post before after) 16 0 3 �
 
 not_posted : (post : Option Entry) (before after : Requests)
     → (DeflatePostedAt (by_post post before after) 16 2 → ⊥) → NotByPost post before after
-not_posted post before after none =
-    not_by_two (by_post post before after) 0 (λ r p told. none p)
+not_posted post before after none = not_by_two (by_post post before after) 0 (λ r p told. none p)
 
 anothers_deflate : NotByPost None no_requests (posted request_16)
 anothers_deflate = not_posted _ _ _
@@ -443,15 +411,13 @@ is_posted (Some (Some (Called actor call claims (Posted head count)))) = true
 is_posted _ = false
 
 deflate_refused : NotByPost (made (Deflate 1) (Refused QueueFull)) no_requests (posted request_16)
-deflate_refused = not_posted _ _ _
-    (λ p. let e : false ≡ true = ap is_posted p.called.2 in cc)
+deflate_refused = not_posted _ _ _ (λ p. let e : false ≡ true = ap is_posted p.called.2 in cc)
 
 deflate_of_page_17 : NotByPost (made (Deflate 1) (Posted 0 1)) no_requests (posted request_17)
 deflate_of_page_17 = grind arith
 
 abbrev behind_an_older : Requests
-behind_an_older =
-    record { posted = request_16 ∷ request 1 (17 ∷ []) 0 ∷ []; taken = []; done = [] }
+behind_an_older = record { posted = request_16 ∷ request 1 (17 ∷ []) 0 ∷ []; taken = []; done = [] }
 
 older_deflate : NotByPost (made (Deflate 1) (Posted 1 1)) (posted request_16) behind_an_older
 older_deflate = grind arith
@@ -460,20 +426,17 @@ older_deflate = grind arith
 
 handed_out_too_early : IsSafeCourse (never_asked untold) → ⊥
 handed_out_too_early s = no_deflate_posted untold
-    (s.told_first 16 0 3 (omega arith)
-    (back untold, giving untold, refl, refl, (λ e. cc), refl)
+    (s.told_first 16 0 3 (omega arith) (back untold, giving untold, refl, refl, (λ e. cc), refl)
     (back untold, handed_out untold, refl, refl, (λ e. cc), refl))
 
 handed_out_untold : IsSafeCourse too_early → ⊥
 handed_out_untold s = told_but_not_reaped
-    (s.told_first 16 0 4 (omega arith)
-    (back ready, giving ready, refl, refl, (λ e. cc), refl)
+    (s.told_first 16 0 4 (omega arith) (back ready, giving ready, refl, refl, (λ e. cc), refl)
     (asked Taking ready, handed_out ready, refl, refl, (λ e. cc), refl))
 
 -- nor is it by the very next entry
 abbrev handed_out_at_once : Guest → Course
-handed_out_at_once g =
-    offering g (made (Alloc 0 0) (Page 16) ∷ []) (giving g ∷ handed_out g ∷ [])
+handed_out_at_once g = offering g (made (Alloc 0 0) (Page 16) ∷ []) (giving g ∷ handed_out g ∷ [])
 
 at_once_if_it_tells : IsSafeCourse (handed_out_at_once ready) → ⊥
 at_once_if_it_tells s =
@@ -500,30 +463,26 @@ stranded : after_reset (lent untold) ≡ page_16_at Stranded down
 stranded = refl
 
 handed_out_behind_a_reset : IsSafeCourse over_a_reset → ⊥
-handed_out_behind_a_reset s =
-    not_by_two over_a_reset 0 (not_asking over_a_reset 3 1 2 refl)
-    (s.told_first 16 0 3 (omega arith)
-    (back untold, giving untold, refl, refl, (λ e. cc), refl)
+handed_out_behind_a_reset s = not_by_two over_a_reset 0 (not_asking over_a_reset 3 1 2 refl)
+    (s.told_first 16 0 3 (omega arith) (back untold, giving untold, refl, refl, (λ e. cc), refl)
     (page_16_at Stranded down, handed_out down, refl, refl, (λ e. cc), refl))
 
 -- ---- something that it would have to be asked back by came before it was offered, and not after
 
 -- page 16 is offered by entry 1, and behind it comes another's event
 abbrev offering_later : Option Entry → List (Option Entry) → Guest → List Guest → Course
-offering_later earlier entries first guests =
-    record {
-      first = first;
-      entries = earlier ∷ made (Inflate 1) (Posted 0 1) ∷ None ∷ entries;
-      after = guests;
-    }
+offering_later earlier entries first guests = record {
+  first = first;
+  entries = earlier ∷ made (Inflate 1) (Posted 0 1) ∷ None ∷ entries;
+  after = guests;
+}
 
 -- a deflate that names it came back before, and the one that is posted later doesn't
 abbrev reaped_early : Course
 reaped_early = offering_later (made (Reap 1) (Reaped 0 1))
     (made (Reap 0) (Reaped 0 1) ∷ made (Deflate 1) (Posted 0 1) ∷ made (Alloc 0 0) (Page 16) ∷ [])
-    (coming_back Taking ready)
-    (back ready ∷ giving ready ∷ giving ready ∷ lent ready ∷ asked Taking ready ∷ handed_out ready
-    ∷ [])
+    (coming_back Taking ready) (back ready
+    ∷ giving ready ∷ giving ready ∷ lent ready ∷ asked Taking ready ∷ handed_out ready ∷ [])
 
 reaped_before : ReapedAt Deflating reaped_early 16 0
 reaped_before = record {
@@ -537,19 +496,16 @@ reaped_before = record {
 }
 
 reaped_too_early : IsSafeCourse reaped_early → ⊥
-reaped_too_early s =
-    not_by_three reaped_early 1 (not_lending reaped_early 5 2 3 refl)
+reaped_too_early s = not_by_three reaped_early 1 (not_lending reaped_early 5 2 3 refl)
     (not_lending reaped_early 5 2 4 refl) (λ r p told. no_reap reaped_early 4 p told refl)
-    (s.told_first 16 1 5 (omega arith)
-    (back ready, giving ready, refl, refl, (λ e. cc), refl)
+    (s.told_first 16 1 5 (omega arith) (back ready, giving ready, refl, refl, (λ e. cc), refl)
     (asked Taking ready, handed_out ready, refl, refl, (λ e. cc), refl))
 
 -- a guest that doesn't tell the host asked it back before, and it was free when it was offered
 abbrev posted_early : Course
-posted_early = offering_later (made (Deflate 1) (Posted 0 1))
-    (made (Reap 0) (Reaped 0 1) ∷ made Work Idle ∷ made (Alloc 0 0) (Page 16) ∷ []) (lent untold)
-    (asked FreePlace untold ∷ giving untold ∷ giving untold ∷ lent untold ∷ back untold
-    ∷ handed_out untold ∷ [])
+posted_early = offering_later (made (Deflate 1) (Posted 0 1)) (made (Reap 0) (Reaped 0 1)
+    ∷ made Work Idle ∷ made (Alloc 0 0) (Page 16) ∷ []) (lent untold) (asked FreePlace untold
+    ∷ giving untold ∷ giving untold ∷ lent untold ∷ back untold ∷ handed_out untold ∷ [])
 
 posted_before : DeflatePostedAt posted_early 16 0
 posted_before = record {
@@ -566,8 +522,7 @@ posted_before = record {
 }
 
 posted_too_early : IsSafeCourse posted_early → ⊥
-posted_too_early s =
-    not_by_three posted_early 1 (not_lending posted_early 5 2 3 refl)
+posted_too_early s = not_by_three posted_early 1 (not_lending posted_early 5 2 3 refl)
     (not_lending posted_early 5 2 4 refl) (not_asking posted_early 5 3 4 refl)
     (s.told_first 16 1 5 (omega arith)
     (asked FreePlace untold, giving untold, refl, refl, (λ e. cc), refl)
@@ -610,12 +565,11 @@ reaps_page_16 = record {
 }
 
 -- whoever made it, and whatever its claims were given
-reaped_by_the_worker : ReapedAt Deflating
-    (record {
-      first = coming_back Taking ready;
-      entries = Some (Called (Worker 0) (Reap 1) [] (Reaped 0 1)) ∷ [];
-      after = back ready ∷ [];
-    }) 16 0
+reaped_by_the_worker : ReapedAt Deflating (record {
+  first = coming_back Taking ready;
+  entries = Some (Called (Worker 0) (Reap 1) [] (Reaped 0 1)) ∷ [];
+  after = back ready ∷ [];
+}) 16 0
 reaped_by_the_worker = record {
   guest = coming_back Taking ready;
   request = request_16;
@@ -636,13 +590,11 @@ is_reap_of_1 (Some (Some (Called actor (Reap q) claims reply))) = q == 1
 is_reap_of_1 _ = false
 
 abbrev NotReaped : Option Entry → Type 0
-NotReaped own =
-    ReapedAt Deflating
-    (record {
-      first = coming_back Taking ready;
-      entries = own ∷ [];
-      after = coming_back Taking ready ∷ [];
-    }) 16 0 → ⊥
+NotReaped own = ReapedAt Deflating (record {
+  first = coming_back Taking ready;
+  entries = own ∷ [];
+  after = coming_back Taking ready ∷ [];
+}) 16 0 → ⊥
 
 anothers_reap : NotReaped None
 anothers_reap r = let e : false ≡ true = ap is_reap_of_1 r.called.2 in cc

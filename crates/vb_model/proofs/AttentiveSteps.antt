@@ -4,16 +4,14 @@ use Rattle.std.{proofs.Common.arith, specs.Prelude.{not, None}}
 use Rattle.vb_model.specs.declared.calls.Call.TheVariants.{Init, Reset, Alloc, Free, Read, Write}
 use Rattle.vb_model.specs.declared.calls.Call.TheVariants.{Scribble, Inflate, Deflate, Oom, Report}
 use Rattle.vb_model.specs.declared.calls.Call.TheVariants.{Stats, Reap, Take, Work, Finish, Sweep}
-use Rattle.vb_model.{specs.declared.calls.Call.TheVariants.{Ask, SetTarget}, specs.Driver.Fills}
+use Rattle.vb_model.specs.{declared.calls.Call.TheVariants.{Ask, SetTarget}, Driver.Fills}
 use Rattle.vb_model.specs.Requests.{Request, Kind, kind_of_queue, StatisticsBuffer}
-use Rattle.vb_model.specs.Orderly.{IsOrderly}
-use Rattle.vb_model.{proofs.CallSteps.{match_cases, not_refused}, specs.Step.HonestStep}
-use Rattle.vb_model.{specs.HonestRuns.{has_buffer, IsAttentive}, specs.declared.replies.Reply.Reply}
-use Rattle.vb_model.specs.Device.{TakesRequest, TakesBuffer, ReturnsBuffer}
-use Rattle.vb_model.specs.Tables.{is_up, is_not_ready}
-use Rattle.vb_model.{specs.Refusals.{refusal_of, causes}, specs.declared.calls.Claim.Claim}
-use Rattle.vb_model.{specs.declared.calls.Call.Call, specs.Guest.{Guest, requests}}
-use Rattle.vb_model.proofs.Performed.{Performed, honest_case}
+use Rattle.vb_model.{specs.Orderly.IsOrderly, proofs.CallSteps.{match_cases, not_refused}}
+use Rattle.vb_model.specs.{Step.HonestStep, HonestRuns.{has_buffer, IsAttentive}}
+use Rattle.vb_model.specs.{declared.replies.Reply.Reply, Device.{TakesRequest, TakesBuffer}}
+use Rattle.vb_model.specs.{Device.ReturnsBuffer, Tables.{is_up, is_not_ready}, Refusals.refusal_of}
+use Rattle.vb_model.specs.{Refusals.causes, declared.calls.Claim.Claim, declared.calls.Call.Call}
+use Rattle.vb_model.{specs.Guest.{Guest, requests}, proofs.Performed.{Performed, honest_case}}
 
 -- ---- a ready guest
 
@@ -59,8 +57,7 @@ takes_ready kind posted g reply new is h s = grind arith
 performs_attentive : (call : Call) (g : Guest) (claims : List Claim) (reply : Reply) (new : Guest)
     → IsOrderly g → IsAttentive g → refusal_of g call ≡ None → Performed call g claims reply new
     → new.rogue ≡ false → IsAttentive new
-performs_attentive (SetTarget n) g claims reply new o h e s honest =
-    subst IsAttentive (sym s.1.1) h
+performs_attentive (SetTarget n) g claims reply new o h e s honest = subst IsAttentive (sym s.1.1) h
 performs_attentive Reset g claims reply new o h e s honest = grind (arith, h)
 performs_attentive (Read page offset len) g claims reply new o h e s honest =
     subst IsAttentive (sym s.1.1) h

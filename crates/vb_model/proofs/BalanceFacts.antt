@@ -11,11 +11,10 @@ use Rattle.vb_model.{specs.HostEvents.{WorldStep, needs}, proofs.Samples.{config
 
 -- so many pages are ballooned, and so many bytes were free
 abbrev known : ℕ → Option ℕ → Guest
-known ballooned free =
-    record ready {
-      ballooned = replicate ballooned true;
-      last = record { free = free; total = Some 262144 };
-    }
+known ballooned free = record ready {
+  ballooned = replicate ballooned true;
+  last = record { free = free; total = Some 262144 };
+}
 
 floors : map (λ floor. spare floor (known 0 (Some 196608))) (0 ∷ 16 ∷ 40 ∷ 47 ∷ 48 ∷ 49 ∷ 1000 ∷ [])
     ≡ 48 ∷ 32 ∷ 8 ∷ 1 ∷ 0 ∷ 0 ∷ 0 ∷ []
@@ -128,13 +127,8 @@ not_the_higher_number t = grind arith
 -- ---- a balance of two guests of 64 pages, of which each has 48 free, with 100 frames
 
 abbrev world : Option Guest → Option Guest → World
-world a b = record {
-  frames = 100;
-  guests = None ∷ a ∷ None ∷ b ∷ [];
-  spares = true
-      ∷ [];
-  vacated = Some 2;
-}
+world a b =
+    record { frames = 100; guests = None ∷ a ∷ None ∷ b ∷ []; spares = true ∷ []; vacated = Some 2 }
 
 abbrev aiming : ℕ → Guest
 aiming target = record (known 0 (Some 196608)) { target = target }
@@ -144,15 +138,12 @@ needs_of_both : needs 16 (world (Some (aiming 3)) (Some (known 5 (Some 180224)))
     ≡ record { pages = 64; spare = 32 } ∷ record { pages = 64; spare = 33 } ∷ []
 needs_of_both = refl
 
-needs_from_0_on : needs 16
-    (record {
-      frames = 100;
-      guests = Some (known 1 None) ∷ Some (known 2 None)
-          ∷ [];
-      spares = [];
-      vacated = None;
-    }) ≡ record { pages = 64; spare = 1 }
-    ∷ record { pages = 64; spare = 2 } ∷ []
+needs_from_0_on : needs 16 (record {
+  frames = 100;
+  guests = Some (known 1 None) ∷ Some (known 2 None) ∷ [];
+  spares = [];
+  vacated = None;
+}) ≡ record { pages = 64; spare = 1 } ∷ record { pages = 64; spare = 2 } ∷ []
 needs_from_0_on = refl
 
 -- above a floor of 16 pages the first gives 28; nothing but the targets changes

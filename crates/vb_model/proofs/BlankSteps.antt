@@ -3,23 +3,21 @@ use Rattle.std.proofs.Common.{◌≡◌, ℕ, ◌+◌, ◌<◌, ◌≤◌, true,
 use Rattle.std.proofs.Common.{sym, subst, ◌∙◌, ◌⊎◌, inl, inr, arith, length-append, length-take}
 use Rattle.std.{proofs.Common.length-drop, specs.Prelude.{◌==◌, Option, Some, None, if◌then◌else◌}}
 use Rattle.std.proofs.lemmas.List.{take-append-drop, get_or-replicate, length-replicate}
-use Rattle.vb_model.specs.declared.calls.Call.TheVariants.{Init, Reset, Alloc, Free, Read, Write}
-use Rattle.vb_model.specs.declared.calls.Call.TheVariants.{Scribble, Inflate, Deflate, Oom, Report}
-use Rattle.vb_model.specs.declared.calls.Call.TheVariants.{Stats, Reap, Take, Work, Finish, Sweep}
-use Rattle.vb_model.specs.Requests.{Request, Kind, Inflating, Deflating, Reporting_free}
-use Rattle.vb_model.specs.Guest.{Guest, Config, fresh, requests, unbacked, frame_of, backed}
-use Rattle.vb_model.specs.Driver.{given, claim_refusal, AreClaimsFor, Reaps, Written}
 use Rattle.vb_model.proofs.CallSteps.{match_cases, supplying_cases, works_cases, Idles, Visits}
-use Rattle.vb_model.{specs.declared.calls.Call.Call, specs.declared.calls.Claim.Claim}
-use Rattle.vb_model.{specs.declared.calls.Call.TheVariants.{Ask, SetTarget}, specs.Limits.page_size}
-use Rattle.vb_model.{specs.declared.replies.Reply.Reply, specs.Tests.each_page, specs.Blank.IsBlank}
-use Rattle.vb_model.{specs.declared.replies.Reply.TheVariants.Refused, specs.Requests.kind_of_queue}
-use Rattle.vb_model.{specs.Guest.{all_backed, zero_page}, specs.Refusals.refusal_of}
-use Rattle.vb_model.{specs.Driver.{pages_needed, overwritten}, specs.Step.HonestStep}
+use Rattle.vb_model.proofs.{CallSteps.supplied, Performed.{Performed, honest_case}}
+use Rattle.vb_model.{proofs.Tables.{length-each_from, each_page-get}, specs.Blank.IsBlank}
 use Rattle.vb_model.specs.Device.{TakesRequest, TakesBuffer, Finishes, settled, used, next_page}
-use Rattle.vb_model.{specs.Life.{feature_refusal, Negotiates, lacking}, proofs.CallSteps.supplied}
-use Rattle.vb_model.proofs.Tables.{length-each_from, each_page-get}
-use Rattle.vb_model.proofs.Performed.{Performed, honest_case}
+use Rattle.vb_model.specs.Driver.{given, claim_refusal, AreClaimsFor, Written, pages_needed}
+use Rattle.vb_model.specs.{Driver.overwritten, Guest.{Guest, Config, fresh, requests, unbacked}}
+use Rattle.vb_model.specs.{Guest.{frame_of, backed, all_backed, zero_page}, Life.feature_refusal}
+use Rattle.vb_model.specs.{Life.{Negotiates, lacking}, Limits.page_size, Refusals.refusal_of}
+use Rattle.vb_model.specs.Requests.{Request, Kind, Inflating, Deflating, Reporting_free}
+use Rattle.vb_model.specs.{Requests.kind_of_queue, Step.HonestStep, Tests.each_page}
+use Rattle.vb_model.specs.declared.calls.Call.{Call, TheVariants.{Init, Reset, Alloc, Free, Read}}
+use Rattle.vb_model.specs.declared.calls.Call.TheVariants.{Write, Scribble, Inflate, Deflate, Oom}
+use Rattle.vb_model.specs.declared.calls.Call.TheVariants.{Report, Stats, Reap, Take, Work, Finish}
+use Rattle.vb_model.specs.declared.calls.{Call.TheVariants.{Sweep, Ask, SetTarget}, Claim.Claim}
+use Rattle.vb_model.specs.declared.replies.Reply.{Reply, TheVariants.Refused}
 
 pub length-zero_page : length zero_page ≡ page_size
 unfolding zero_page
@@ -56,8 +54,7 @@ all_bare : (pages new : List ℕ) (frames : List (Option ℕ)) (page : ℕ) → 
     → frame_of (all_backed pages new frames) page ≡ None → frame_of frames page ≡ None
 all_bare [] new frames page l none = none
 all_bare (p ∷ ps) [] frames page l none = none
-all_bare (p ∷ ps) (f ∷ new) frames page l none =
-    (was_bare p f frames page l
+all_bare (p ∷ ps) (f ∷ new) frames page l none = (was_bare p f frames page l
     (all_bare ps new (backed p f frames) page (let e = length-backed p f frames in omega arith)
     none)).0
 
@@ -75,10 +72,8 @@ length-overwritten offset bytes old size e l =
 -- the contents of another page stay, and a write of nothing changes none
 writes : (p offset : ℕ) (bytes : List ℕ) (g : Guest) → IsBlank g → offset + length bytes ≤ page_size
     → ((page : ℕ) → frame_of g.frames page ≡ None → (page == p) ≡ true → page < g.config.pages
-    → bytes ≡ []) → IsBlank
-    (record g {
-      contents = each_page (λ q old. cond (q == p) (overwritten offset bytes old) old)
-          g.contents;
+    → bytes ≡ []) → IsBlank (record g {
+      contents = each_page (λ q old. cond (q == p) (overwritten offset bytes old) old) g.contents;
     })
 writes p offset bytes g h fits bare =
     grind (arith, length-each_from, each_page-get, length-overwritten, take-append-drop)
@@ -142,8 +137,7 @@ performs_blank (Take q) g claims reply new h r s honest =
       arith,
       match_cases (kind_of_queue q) (TakesBuffer g.buffer g reply new) (λ kind. TakesRequest kind (requests kind g).posted g reply new) s.1,
     )
-performs_blank Work g claims reply new h r s honest =
-    works_blank g reply new h
+performs_blank Work g claims reply new h r s honest = works_blank g reply new h
     (works_cases (if g.config.paced then next_page g.inflate.taken else None)
     (if g.config.paced then next_page g.report.taken else None) g reply new s.1)
 performs_blank (Finish q i) g claims reply new h r s honest =
@@ -162,8 +156,7 @@ performs_blank (Write page offset bytes) g claims reply new h r s honest =
     (Written page offset bytes (supplied (pages_needed page bytes g) claims g) reply new)
     (λ refusal. (reply ≡ Refused refusal) × (new ≡ g)) s.1) [
       | inr r ↦ subst IsBlank (sym r.2.1) h
-      | inl m ↦
-          subst IsBlank (sym m.1.1)
+      | inl m ↦ subst IsBlank (sym m.1.1)
           (writes page offset bytes (supplied (pages_needed page bytes g) claims g)
           (gains (pages_needed page bytes g) (given claims) g h) (in_page g page offset bytes r)
           (λ p none same l. written_backed page bytes g claims h s.0 m.0 p none same l))

@@ -3,9 +3,9 @@ use Rattle.std.proofs.Common.{◌≡◌, ℕ, zero, suc, ◌+◌, ◌-◌, ◌*�
 use Rattle.std.proofs.Common.{List, [], ◌∷◌, take, refl, sym, ap, subst, ◌∙◌, inl, inr, arith, ◌⊎◌}
 use Rattle.std.proofs.Math.Nat.{lt_of_mul-lt-mul_left, mul-lt-mul_of_pos_left, mul_assoc, mul_comm}
 use Rattle.std.proofs.lemmas.Bool.{eq-eqb, ne_eqb, le-leb, lt-ltb, and_parts, and_from, cases_lt}
-use Rattle.std.{proofs.Common.◌≢◌, specs.List.{list_all, list_any, range_with_len, flat_map}}
-use Rattle.std.specs.Prelude.{◌==◌, ◌&&◌, ◌%◌, not, count_by, nat_lt, nat_le, filter, map}
-use Rattle.std.{proofs.lemmas.Nat.{pow_pos, mod-mul-add, pow-add}, proofs.Math.Nat.mul-add}
+use Rattle.std.{proofs.Common.◌≢◌, specs.List.{list_any, range_with_len, flat_map}}
+use Rattle.std.specs.Prelude.{◌==◌, ◌&&◌, ◌%◌, count_by, nat_lt, nat_le, filter, map}
+use Rattle.std.proofs.{lemmas.Nat.{pow_pos, mod-mul-add, pow-add}, Math.Nat.mul-add}
 use Rattle.std.proofs.lemmas.Bool.{cases_eq, leb-true, ltb-true, false_from_ne_true}
 use Rattle.vb_model.specs.Pages.{Block, size, pages_of, pages_of_all, covers, is_whole, is_maximal}
 use Rattle.vb_model.{specs.Limits.max_order, specs.Tests.one_if, specs.Orderly.times}
@@ -77,34 +77,30 @@ record IsRound (test : ℕ → Bool) (page : ℕ) (b : Block) : Type 0 where
   widest : list_any (λ order. is_whole test (around b.start order))
       (range_with_len (suc b.order) (max_order - b.order)) ≡ false
 
-is_round : (test : ℕ → Bool) (page : ℕ) (b : Block) → holds test page b ≡ true
-    → IsRound test page b
+is_round : (test : ℕ → Bool) (page : ℕ) (b : Block) → holds test page b ≡ true → IsRound test page b
 is_round test page b h = grind (arith, h, h)
 
 pub any_in_range : (test : ℕ → Bool) (k first count : ℕ) → first ≤ k → k < first + count → test k ≡ true
     → list_any test (range_with_len first count) ≡ true
 any_in_range test k first zero a b h = absurd (omega arith)
-any_in_range test k first (suc count) a b h =
-    step (cases_eq first k)
+any_in_range test k first (suc count) a b h = step (cases_eq first k)
     (λ d. any_in_range test k (first + 1) count (omega arith) (omega arith) h)
   where
     step : (first ≡ k) ⊎ (first ≢ k)
         → (first ≢ k → list_any test (range_with_len (first + 1) count) ≡ true)
         → list_any test (range_with_len first (suc count)) ≡ true
-    step (inl e) ih = here (test first) (subst (λ (n : ℕ). test n ≡ true) (sym e) h)
-      where
-        here : (v : Bool) → v ≡ true
-            → Rattle.std.specs.Prelude.◌||◌ v (list_any test (range_with_len (first + 1) count))
-            ≡ true
-        here true e = refl
-        here false e = absurd cc
-    step (inr d) ih = there (test first) (ih d)
-      where
-        there : (v : Bool) → list_any test (range_with_len (first + 1) count) ≡ true
-            → Rattle.std.specs.Prelude.◌||◌ v (list_any test (range_with_len (first + 1) count))
-            ≡ true
-        there true e = refl
-        there false e = e
+    step (inl e) ih = here (test first) (subst (λ (n : ℕ). test n ≡ true) (sym e) h) where
+      here : (v : Bool) → v ≡ true
+          → Rattle.std.specs.Prelude.◌||◌ v (list_any test (range_with_len (first + 1) count))
+          ≡ true
+      here true e = refl
+      here false e = absurd cc
+    step (inr d) ih = there (test first) (ih d) where
+      there : (v : Bool) → list_any test (range_with_len (first + 1) count) ≡ true
+          → Rattle.std.specs.Prelude.◌||◌ v (list_any test (range_with_len (first + 1) count))
+          ≡ true
+      there true e = refl
+      there false e = e
 
 no_larger : (test : ℕ → Bool) (page : ℕ) (b c : Block) → c.order ≤ max_order
     → IsRound test page b → IsRound test page c → b.order < c.order → ⊥
@@ -112,8 +108,7 @@ no_larger test page b c small x y l =
     let start : (around b.start c.order).start ≡ c.start =
     larger page b c l x.aligned x.cover y.aligned y.cover in
     let there : is_whole test (around b.start c.order) ≡ true =
-    ap (λ (s : ℕ). is_whole test (record { start = s; order = c.order })) start
-    ∙ y.free in
+    ap (λ (s : ℕ). is_whole test (record { start = s; order = c.order })) start ∙ y.free in
     let any : list_any (λ order. is_whole test (around b.start order))
     (range_with_len (suc b.order) (max_order - b.order)) ≡ true =
     any_in_range (λ order. is_whole test (around b.start order)) c.order (suc b.order)
@@ -140,8 +135,7 @@ same_start page b c e ab cb ac cc' =
     x.first ∙ (ap (λ (k : ℕ). m * k) begins ∙ sym start)
 
 -- the pages of a block, each once
-times_in_range : (page first count : ℕ)
-    → times page (range_with_len first count)
+times_in_range : (page first count : ℕ) → times page (range_with_len first count)
     ≡ one_if (nat_le first page && nat_lt page (first + count))
 times_in_range page first count = cases (nat_le first page && nat_lt page (first + count)) refl
   where
@@ -192,30 +186,26 @@ times_in_range page first count = cases (nat_le first page && nat_lt page (first
     cases true e =
         let parts = and_parts (nat_le first page) (nat_lt page (first + count)) e in
         inside first count (leb-true first page parts.0) (ltb-true page (first + count) parts.1)
-    cases false e =
-        elim (cases_lt page first) [
-          | inl l ↦ below first count l
-          | inr l ↦
-              elim (cases_lt page (first + count)) [
-                | inl k ↦ (let bad : true
-                    ≡ false = sym (and_from _ _ (le-leb first page l)
-                    (lt-ltb page (first + count) k)) ∙ e in absurd cc)
-                | inr k ↦ above first count k
-              ]
-        ]
+    cases false e = elim (cases_lt page first) [
+      | inl l ↦ below first count l
+      | inr l ↦ elim (cases_lt page (first + count)) [
+        | inl k ↦ (let bad : true ≡ false = sym (and_from _ _ (le-leb first page l)
+            (lt-ltb page (first + count) k)) ∙ e in absurd cc)
+        | inr k ↦ above first count k
+      ]
+    ]
 
 -- how often a page stands in the pages of blocks
 pub times_in_blocks : (page : ℕ) (bs : List Block)
     → times page (pages_of_all bs) ≡ count_by (covers page) bs
 times_in_blocks page [] = refl
-times_in_blocks page (b ∷ bs) =
-    grind (
-      arith,
-      times-append page (pages_of b) (pages_of_all bs),
-      times_in_range page b.start (size b),
-      times_in_blocks page bs,
-      count_by-cons (covers page) b bs,
-    )
+times_in_blocks page (b ∷ bs) = grind (
+  arith,
+  times-append page (pages_of b) (pages_of_all bs),
+  times_in_range page b.start (size b),
+  times_in_blocks page bs,
+  count_by-cons (covers page) b bs,
+)
 
 count-take : {A : Type 0} (test : A → Bool) (n : ℕ) (xs : List A)
     → count_by test (take n xs) ≤ count_by test xs
@@ -227,25 +217,23 @@ count-take test (suc n) (x ∷ xs) =
 count-filter : {A : Type 0} (test keep : A → Bool) (xs : List A)
     → count_by test (filter keep xs) ≤ count_by (λ x. keep x && test x) xs
 count-filter test keep [] = omega arith
-count-filter test keep (x ∷ xs) =
-    grind (
-      arith,
-      count-filter test keep xs,
-      count_by-cons test x (filter keep xs),
-      count_by-cons (λ y. keep y && test y) x xs,
-    )
+count-filter test keep (x ∷ xs) = grind (
+  arith,
+  count-filter test keep xs,
+  count_by-cons test x (filter keep xs),
+  count_by-cons (λ y. keep y && test y) x xs,
+)
 
 count-weaker : {A : Type 0} (keep test : A → Bool) (xs : List A)
     → count_by (λ x. keep x && test x) xs ≤ count_by test xs
 count-weaker keep test [] = omega arith
-count-weaker keep test (x ∷ xs) =
-    omega (
-      arith,
-      less (keep x) (test x),
-      count_by-cons (λ y. keep y && test y) x xs,
-      count_by-cons test x xs,
-      count-weaker keep test xs,
-    )
+count-weaker keep test (x ∷ xs) = omega (
+  arith,
+  less (keep x) (test x),
+  count_by-cons (λ y. keep y && test y) x xs,
+  count_by-cons test x xs,
+  count-weaker keep test xs,
+)
   where
     less : (a b : Bool) → one_if (a && b) ≤ one_if b
     less true b = omega arith
@@ -257,8 +245,7 @@ passes-none : (test : ℕ → Bool) (first count : ℕ)
     → count_by test (range_with_len first count) ≡ 0
 passes-none test first zero h = refl
 passes-none test first (suc count) h =
-    let z : one_if (test first) ≡ 0 = ap one_if (h first (omega arith) (omega arith)) in
-    omega (
+    let z : one_if (test first) ≡ 0 = ap one_if (h first (omega arith) (omega arith)) in omega (
       arith,
       count_by-cons test first (range_with_len (first + 1) count),
       passes-none test (first + 1) count (λ k a b. h k (omega arith) (omega arith)),
@@ -268,8 +255,7 @@ passes-one : (test : ℕ → Bool) (first count : ℕ)
     → ((a b : ℕ) → a < first + count → b < first + count → test a ≡ true → test b ≡ true → a ≡ b)
     → count_by test (range_with_len first count) ≤ 1
 passes-one test first zero one = omega arith
-passes-one test first (suc count) one =
-    step (test first) refl
+passes-one test first (suc count) one = step (test first) refl
     (passes-one test (first + 1) count (λ a b la lb. one a b (omega arith) (omega arith)))
   where
     step : (v : Bool) → test first ≡ v → count_by test (range_with_len (first + 1) count) ≤ 1
@@ -279,8 +265,7 @@ passes-one test first (suc count) one =
     step true e ih =
         let o : one_if (test first) ≡ 1 = ap one_if e in
         let rest : count_by test (range_with_len (first + 1) count) ≡ 0 =
-        passes-none test (first + 1) count
-        (λ k a b. false_from_ne_true (test k)
+        passes-none test (first + 1) count (λ k a b. false_from_ne_true (test k)
         (λ t. let same : first ≡ k = one first k (omega arith) (omega arith) e t in
         absurd (omega arith))) in
         omega (arith, count_by-cons test first (range_with_len (first + 1) count))
@@ -293,25 +278,23 @@ passes-some test first (suc count) h = grind (arith, passes-some test (first + 1
 count-map : {A B : Type 0} (test : B → Bool) (f : A → B) (xs : List A)
     → count_by test (map f xs) ≡ count_by (λ x. test (f x)) xs
 count-map test f [] = refl
-count-map test f (x ∷ xs) =
-    grind (
-      arith,
-      count_by-cons test (f x) (map f xs),
-      count_by-cons (λ y. test (f y)) x xs,
-      count-map test f xs,
-    )
+count-map test f (x ∷ xs) = grind (
+  arith,
+  count_by-cons test (f x) (map f xs),
+  count_by-cons (λ y. test (f y)) x xs,
+  count-map test f xs,
+)
 
 flat-none : (test : Block → Bool) (f : ℕ → List Block) (first count : ℕ)
     → ((k : ℕ) → first ≤ k → k < first + count → count_by test (f k) ≡ 0)
     → count_by test (flat_map f (range_with_len first count)) ≡ 0
 flat-none test f first zero h = refl
-flat-none test f first (suc count) h =
-    omega (
-      arith,
-      h first (omega arith) (omega arith),
-      count_by-append test (f first) (flat_map f (range_with_len (first + 1) count)),
-      flat-none test f (first + 1) count (λ k a b. h k (omega arith) (omega arith)),
-    )
+flat-none test f first (suc count) h = omega (
+  arith,
+  h first (omega arith) (omega arith),
+  count_by-append test (f first) (flat_map f (range_with_len (first + 1) count)),
+  flat-none test f (first + 1) count (λ k a b. h k (omega arith) (omega arith)),
+)
 
 flat-one : (test : Block → Bool) (f : ℕ → List Block) (first count : ℕ)
     → ((k : ℕ) → count_by test (f k) ≤ 1)
@@ -355,30 +338,28 @@ one_block test page s t j k lj lk hj hk =
     (same_start page b c same x.aligned x.cover y.aligned y.cover, same)
 
 at_most_one : (test : ℕ → Bool) (page n : ℕ) → count_by (holds test page) (blocks_below n) ≤ 1
-at_most_one test page n = flat-one (holds test page) blocks_at 0 n each_start starts
-  where
-    test_at : ℕ → ℕ → Bool
-    test_at start order = holds test page (record { start = start; order = order })
+at_most_one test page n = flat-one (holds test page) blocks_at 0 n each_start starts where
+  test_at : ℕ → ℕ → Bool
+  test_at start order = holds test page (record { start = start; order = order })
 
-    counted : (s : ℕ) → count_by (holds test page) (blocks_at s)
-        ≡ count_by (test_at s) (range_with_len 0 (suc max_order))
-    counted s = count-map (holds test page) (λ order. record { start = s; order = order })
-        (range_with_len 0 (suc max_order))
+  counted : (s : ℕ) → count_by (holds test page) (blocks_at s)
+      ≡ count_by (test_at s) (range_with_len 0 (suc max_order))
+  counted s = count-map (holds test page) (λ order. record { start = s; order = order })
+      (range_with_len 0 (suc max_order))
 
-    each_start : (s : ℕ) → count_by (holds test page) (blocks_at s) ≤ 1
-    each_start s =
-        let one = passes-one (test_at s) 0 (suc max_order)
-        (λ a b la lb ha hb. (one_block test page s s a b (omega arith) (omega arith) ha
-        hb).1) in
-        omega (arith, counted s, one)
+  each_start : (s : ℕ) → count_by (holds test page) (blocks_at s) ≤ 1
+  each_start s =
+      let one = passes-one (test_at s) 0 (suc max_order)
+      (λ a b la lb ha hb. (one_block test page s s a b (omega arith) (omega arith) ha hb).1) in
+      omega (arith, counted s, one)
 
-    starts : (s t : ℕ) → 0 < count_by (holds test page) (blocks_at s)
-        → 0 < count_by (holds test page) (blocks_at t) → s ≡ t
-    starts s t hs ht =
-        let a = passes-some (test_at s) 0 (suc max_order) (omega (arith, counted s)) in
-        let b = passes-some (test_at t) 0 (suc max_order) (omega (arith, counted t)) in
-        (one_block test page s t a.0 b.0 (let l : a.0 < 0 + suc max_order = a.1 in omega arith)
-        (let l : b.0 < 0 + suc max_order = b.1 in omega arith) a.2 b.2).0
+  starts : (s t : ℕ) → 0 < count_by (holds test page) (blocks_at s)
+      → 0 < count_by (holds test page) (blocks_at t) → s ≡ t
+  starts s t hs ht =
+      let a = passes-some (test_at s) 0 (suc max_order) (omega (arith, counted s)) in
+      let b = passes-some (test_at t) 0 (suc max_order) (omega (arith, counted t)) in
+      (one_block test page s t a.0 b.0 (let l : a.0 < 0 + suc max_order = a.1 in omega arith)
+      (let l : b.0 < 0 + suc max_order = b.1 in omega arith) a.2 b.2).0
 
 -- the pages of some maximal blocks are distinct
 pub reported_distinct : (test : ℕ → Bool) (keep : Block → Bool) (count n page : ℕ)

@@ -4,16 +4,15 @@
 use Rattle.std.proofs.Common.{◌≡◌, ℕ, zero, suc, ◌<◌, true, false, List, [], ◌∷◌, ◌++◌, replicate}
 use Rattle.std.proofs.Common.{refl, ◌⊎◌, inl, inr, arith}
 use Rattle.std.specs.Prelude.{Option, Some, None, IsTrue}
-use Rattle.vb_model.{specs.declared.calls.Actor.TheVariants.Processor, specs.Requests.Requests}
-use Rattle.vb_model.specs.declared.calls.Call.TheVariants.{Alloc, Inflate, Read, Reap, Sweep}
-use Rattle.vb_model.{specs.declared.calls.Call.TheVariants.{Take, Work}, specs.Guest.{Guest, fresh}}
+use Rattle.vb_model.proofs.{AskedFacts.{giving, back, handed_out}, SafeFacts.{SameFrame, made}}
+use Rattle.vb_model.{proofs.SafeFacts.{stands, goes}, proofs.Samples.request, specs.Courses.Course}
+use Rattle.vb_model.specs.{Courses.{StaysHeld, StaysOrLoses, ReadsGiveLastWrites}, Guest.Guest}
+use Rattle.vb_model.specs.{Guest.fresh, Histories.{IsSafeCourse, BothAgree}, Requests.Requests}
+use Rattle.vb_model.specs.declared.calls.{Actor.TheVariants.Processor, Call.TheVariants.Alloc}
+use Rattle.vb_model.specs.declared.calls.Call.TheVariants.{Inflate, Read, Reap, Sweep, Take, Work}
 use Rattle.vb_model.specs.declared.replies.Refusal.TheVariants.{Broken, RingBroken}
 use Rattle.vb_model.specs.declared.replies.Reply.TheVariants.{Idle, Page, Posted, ReadBytes}
 use Rattle.vb_model.specs.declared.replies.Reply.TheVariants.{Refused, Swept}
-use Rattle.vb_model.specs.Courses.{Course, StaysHeld, StaysOrLoses, ReadsGiveLastWrites}
-use Rattle.vb_model.proofs.Samples.{request}
-use Rattle.vb_model.{specs.Histories.{IsSafeCourse, BothAgree}, proofs.SafeFacts.{SameFrame, made}}
-use Rattle.vb_model.{proofs.SafeFacts.{stands, goes}, proofs.AskedFacts.{giving, back, handed_out}}
 use Rattle.vb_model.specs.declared.places.Place.TheVariants.{Reserved, Free as FreePlace, Used}
 
 abbrev Same : ℕ → ℕ → Type 0
@@ -51,26 +50,22 @@ with_page frame bytes g = record g
 -- ---- features
 
 without_version : IsSafeCourse (stands (busy 15 0x27)) → ⊥
-without_version s =
-    let e : false ≡ true = (s.agreed 0 (busy 15 0x27) refl refl).1 in cc
+without_version s = let e : false ≡ true = (s.agreed 0 (busy 15 0x27) refl refl).1 in cc
 
 without_version_untold : IsSafeCourse (stands (busy 15 0x26)) → ⊥
-without_version_untold s =
-    let e : false ≡ true = (s.agreed 0 (busy 15 0x26) refl refl).1 in cc
+without_version_untold s = let e : false ≡ true = (s.agreed 0 (busy 15 0x26) refl refl).1 in cc
 
 -- ---- frames and bytes
 
 frame_lost : (status features : ℕ)
-    → IsSafeCourse
-    (goes (with_page (Some 5) [] (busy status features)) (Sweep 32) (Swept true)
+    → IsSafeCourse (goes (with_page (Some 5) [] (busy status features)) (Sweep 32) (Swept true)
     (with_page None [] (busy status features))) → ⊥
 frame_lost status features s = let e : SameFrame None (Some 5) =
     s.keeps_frame 0 32 5 (with_page (Some 5) [] (busy status features))
     (with_page None [] (busy status features)) refl refl refl refl refl in cc
 
 bytes_changed : (status features : ℕ)
-    → IsSafeCourse
-    (goes (with_page (Some 5) (1 ∷ []) (busy status features)) Work Idle
+    → IsSafeCourse (goes (with_page (Some 5) (1 ∷ []) (busy status features)) Work Idle
     (with_page (Some 5) (2 ∷ []) (busy status features))) → ⊥
 bytes_changed status features s = by
     (s.keeps_contents 0 32 (with_page (Some 5) (1 ∷ []) (busy status features))
@@ -83,9 +78,8 @@ bytes_changed status features s = by
 
 -- a read gives another byte than the page has
 abbrev misread : ℕ → ℕ → Course
-misread status features =
-    goes (with_page (Some 5) (1 ∷ []) (busy status features)) (Read 32 0 1) (ReadBytes (2 ∷ []))
-    (with_page (Some 5) (1 ∷ []) (busy status features))
+misread status features = goes (with_page (Some 5) (1 ∷ []) (busy status features))
+    (Read 32 0 1) (ReadBytes (2 ∷ [])) (with_page (Some 5) (1 ∷ []) (busy status features))
 
 another_byte : (status features : ℕ) → IsSafeCourse (misread status features) → ⊥
 another_byte status features s =
@@ -156,14 +150,12 @@ not_counted status features s =
 
 -- ---- faults
 
-broken_chain : (status features : ℕ)
-    → IsSafeCourse
+broken_chain : (status features : ℕ) → IsSafeCourse
     (goes (busy status features) (Take 0) (Refused (Broken 3)) (busy status features)) → ⊥
 broken_chain status features s =
     (s.not_broken 0 3 (Take 0) (Refused (Broken 3)) (Processor 0 0, [], refl)).0 refl
 
-broken_ring : (status features : ℕ)
-    → IsSafeCourse
+broken_ring : (status features : ℕ) → IsSafeCourse
     (goes (busy status features) (Reap 4) (Refused RingBroken) (busy status features)) → ⊥
 broken_ring status features s =
     (s.not_broken 0 0 (Reap 4) (Refused RingBroken) (Processor 0 0, [], refl)).1 refl
@@ -179,7 +171,6 @@ at_once g = record {
 
 handed_out_at_once : (g : Guest) → IsSafeCourse (at_once g) → ⊥
 handed_out_at_once g s =
-    let a = s.told_first 16 0 1 (omega arith)
-    (back g, giving g, refl, refl, (λ e. cc), refl)
+    let a = s.told_first 16 0 1 (omega arith) (back g, giving g, refl, refl, (λ e. cc), refl)
     (giving g, handed_out g, refl, refl, (λ e. cc), refl) in
     omega (arith, a.since, a.later, a.before)

@@ -53,8 +53,7 @@ pub inside-all : (n : ℕ) (pages : List ℕ) → AllDistinct pages
 inside-all n [] distinct below = inside-none n 0
 inside-all n (x ∷ xs) distinct below =
     let out : is_in x xs ≡ false = not-true (is_in x xs) distinct.0 in
-    let first : is_in x (x ∷ xs) ≡ true =
-    ap (λ (b : Bool). b || is_in x xs) (eq-eqb x x refl) in
+    let first : is_in x (x ∷ xs) ≡ true = ap (λ (b : Bool). b || is_in x xs) (eq-eqb x x refl) in
     let others : inside 0 n xs ≡ length xs =
     inside-all n xs distinct.1 (λ page k. below page (later page k (x == page))) in
     omega (
@@ -71,30 +70,26 @@ inside-all n (x ∷ xs) distinct below =
 -- ---- pages that pass a test go to a place that doesn't
 
 count-moved : (test : Place → Bool) (pages : List ℕ) (place : Place) (first : ℕ) (xs : List Place)
-    → test place ≡ false
-    → ((i : ℕ) → i < length xs → is_in (first + i) pages ≡ true
+    → test place ≡ false → ((i : ℕ) → i < length xs → is_in (first + i) pages ≡ true
     → test (get_or xs i Reserved) ≡ true)
     → count_by test (each_from first (λ p old. cond (is_in p pages) place old) xs) +
     inside first (length xs) pages ≡ count_by test xs
 count-moved test pages place first [] out ok = refl
-count-moved test pages place first (x ∷ xs) out ok =
-    omega (
-      arith,
-      here (is_in first pages) refl,
-      count_by-cons test (cond (is_in first pages) place x)
-          (each_from (suc first) (λ p old. cond (is_in p pages) place old) xs),
-      count_by-cons test x xs,
-      count-moved test pages place (suc first) xs out (λ i l k.
-          ok (suc i) (omega arith) (same i k)),
-    )
+count-moved test pages place first (x ∷ xs) out ok = omega (
+  arith,
+  here (is_in first pages) refl,
+  count_by-cons test (cond (is_in first pages) place x)
+      (each_from (suc first) (λ p old. cond (is_in p pages) place old) xs),
+  count_by-cons test x xs,
+  count-moved test pages place (suc first) xs out (λ i l k. ok (suc i) (omega arith) (same i k)),
+)
   where
     same : (i : ℕ) → is_in (suc first + i) pages ≡ true → is_in (first + suc i) pages ≡ true
     same i k = let e : first + suc i ≡ suc first + i = omega arith in
         ap (λ (p : ℕ). is_in p pages) e ∙ k
 
     first_is : is_in first pages ≡ true → is_in (first + 0) pages ≡ true
-    first_is k = let e : first + 0 ≡ first = omega arith in
-        ap (λ (p : ℕ). is_in p pages) e ∙ k
+    first_is k = let e : first + 0 ≡ first = omega arith in ap (λ (p : ℕ). is_in p pages) e ∙ k
 
     here : (v : Bool) → is_in first pages ≡ v
         → one_if (test (cond (is_in first pages) place x)) + one_if (is_in first pages)
@@ -112,18 +107,16 @@ pub moved_out : (test : Place → Bool) (pages : List ℕ) (place : Place) (plac
     → ((page : ℕ) → is_in page pages ≡ true → page < length places)
     → ((page : ℕ) → is_in page pages ≡ true → test (place_of places page) ≡ true)
     → count_by test (placed pages place places) + length pages ≡ count_by test places
-moved_out test pages place places out distinct below ok =
-    omega (
-      arith,
-      count-moved test pages place 0 places out (λ i l k.
-          ok i (let e : i ≡ 0 + i = omega arith in ap (λ (p : ℕ). is_in p pages) e ∙ k)),
-      inside-all (length places) pages distinct below,
-    )
+moved_out test pages place places out distinct below ok = omega (
+  arith,
+  count-moved test pages place 0 places out (λ i l k.
+      ok i (let e : i ≡ 0 + i = omega arith in ap (λ (p : ℕ). is_in p pages) e ∙ k)),
+  inside-all (length places) pages distinct below,
+)
 
 -- ---- requests
 
-pub named-append : (xs ys : List Request)
-    → pages_named (xs ++ ys) ≡ pages_named xs + pages_named ys
+pub named-append : (xs ys : List Request) → pages_named (xs ++ ys) ≡ pages_named xs + pages_named ys
 named-append [] ys = omega arith
 named-append (x ∷ xs) ys = omega (arith, named-append xs ys)
 
@@ -143,24 +136,20 @@ named-take r rest rs e = grind (arith, named-append)
 
 named-visiting : (rs : List Request) → pages_named (visiting rs) ≡ pages_named rs
 named-visiting [] = refl
-named-visiting (r ∷ rs) = step (is_unvisited r) (named-visiting rs)
-  where
-    step : (v : Bool) → pages_named (visiting rs) ≡ pages_named rs
-        → pages_named (cond v (record r { visited = r.visited + 1 } ∷ rs) (r ∷ visiting rs))
-        ≡ pages_named (r ∷ rs)
-    step true ih = refl
-    step false ih = ap (λ (n : ℕ). length r.pages + n) ih
+named-visiting (r ∷ rs) = step (is_unvisited r) (named-visiting rs) where
+  step : (v : Bool) → pages_named (visiting rs) ≡ pages_named rs → pages_named
+      (cond v (record r { visited = r.visited + 1 } ∷ rs) (r ∷ visiting rs)) ≡ pages_named (r ∷ rs)
+  step true ih = refl
+  step false ih = ap (λ (n : ℕ). length r.pages + n) ih
 
-pub named-work : (rs : Requests)
-    → pages_named (all_requests (record rs { taken = visiting rs.taken }))
-    ≡ pages_named (all_requests rs)
-named-work rs =
-    grind (
-      arith,
-      named-all rs,
-      named-all (record rs { taken = visiting rs.taken }),
-      named-visiting rs.taken,
-    )
+pub named-work : (rs : Requests) → pages_named
+    (all_requests (record rs { taken = visiting rs.taken })) ≡ pages_named (all_requests rs)
+named-work rs = grind (
+  arith,
+  named-all rs,
+  named-all (record rs { taken = visiting rs.taken }),
+  named-visiting rs.taken,
+)
 
 named-remove : (rs : List Request) (i : ℕ) (r : Request) → slice_get rs i ≡ Some r
     → pages_named (remove rs i) + length r.pages ≡ pages_named rs
@@ -175,15 +164,13 @@ named-finish i r rs e = grind (arith, named-remove, named-append)
 -- where there is no request, none names the page
 pub named_by_none : (page : ℕ) (rs : Requests) → outstanding rs ≤ 0
     → naming page (all_requests rs) ≡ 0
-named_by_none page rs few = none rs.posted rs.taken rs.done few
-  where
-    none : (posted taken done : List Request)
-        → length posted + (length taken + length done) ≤ 0
-        → naming page (posted ++ (taken ++ done)) ≡ 0
-    none [] [] [] l = refl
-    none [] [] (r ∷ rs) l = absurd (omega arith)
-    none [] (r ∷ rs) done l = absurd (omega arith)
-    none (r ∷ rs) taken done l = absurd (omega arith)
+named_by_none page rs few = none rs.posted rs.taken rs.done few where
+  none : (posted taken done : List Request) → length posted + (length taken + length done) ≤ 0
+      → naming page (posted ++ (taken ++ done)) ≡ 0
+  none [] [] [] l = refl
+  none [] [] (r ∷ rs) l = absurd (omega arith)
+  none [] (r ∷ rs) done l = absurd (omega arith)
+  none (r ∷ rs) taken done l = absurd (omega arith)
 
 -- ---- the pages that pass a test
 

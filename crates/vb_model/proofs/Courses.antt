@@ -1,15 +1,14 @@
 -- What holds in each state of a guest's course, and between two of them.
 use Rattle.std.proofs.Common.{◌≡◌, ℕ, zero, suc, ◌+◌, false, List, [], ◌∷◌, sym, subst, arith}
 use Rattle.std.specs.Prelude.{Option, Some, None, slice_get}
-use Rattle.vb_model.{specs.declared.calls.Call.Call, specs.declared.calls.Claim.Claim}
-use Rattle.vb_model.{specs.declared.replies.Reply.Reply, specs.Guest.{Guest, Config, fresh}}
-use Rattle.vb_model.{specs.Step.HonestStep, specs.Rogue.GuestStep, specs.Consistent.IsConsistent}
-use Rattle.vb_model.{specs.Orderly.IsOrderly, specs.Blank.IsBlank, specs.HonestRuns.IsAttentive}
-use Rattle.vb_model.specs.GuestRun.{Entry, Called, Looked, EntryStep, OwnStep, Leads, is_scribbled}
-use Rattle.vb_model.{specs.Courses.{Course, guest_after}, proofs.CallSteps.honest_keeps}
-use Rattle.vb_model.{proofs.GuestSteps.fresh_consistent, proofs.AttentiveSteps.honest_attentive}
-use Rattle.vb_model.{proofs.OrderlySteps.{honest_order, fresh_order}, proofs.Changes.same_some}
-use Rattle.vb_model.proofs.BlankSteps.{honest_blank, fresh_blank}
+use Rattle.vb_model.proofs.{AttentiveSteps.honest_attentive, BlankSteps.{honest_blank, fresh_blank}}
+use Rattle.vb_model.proofs.{CallSteps.honest_keeps, Changes.same_some, GuestSteps.fresh_consistent}
+use Rattle.vb_model.{proofs.OrderlySteps.{honest_order, fresh_order}, specs.Blank.IsBlank}
+use Rattle.vb_model.specs.{Consistent.IsConsistent, Courses.{Course, guest_after}, Guest.Guest}
+use Rattle.vb_model.specs.{Guest.{Config, fresh}, GuestRun.{Entry, Called, Looked, EntryStep}}
+use Rattle.vb_model.specs.{GuestRun.{OwnStep, Leads, is_scribbled}, HonestRuns.IsAttentive}
+use Rattle.vb_model.specs.{Orderly.IsOrderly, Rogue.GuestStep, Step.HonestStep}
+use Rattle.vb_model.specs.declared.{calls.Call.Call, calls.Claim.Claim, replies.Reply.Reply}
 
 -- ---- a step of an honest guest that isn't a scribble
 
@@ -31,13 +30,12 @@ pub record IsFit (g : Guest) : Type 0 where
   pub attentive : IsAttentive g
 
 pub fresh_fit : (config : Config) (target : ℕ) → IsFit (fresh config target)
-fresh_fit config target =
-    grind (
-      arith,
-      fresh_consistent config target,
-      fresh_order config target,
-      fresh_blank config target,
-    )
+fresh_fit config target = grind (
+  arith,
+  fresh_consistent config target,
+  fresh_order config target,
+  fresh_blank config target,
+)
 
 pub call_fit : (g : Guest) (call : Call) (claims : List Claim) (reply : Reply) (new : Guest)
     → IsFit g → HonestStep g call claims reply new → new.rogue ≡ false → IsFit new
@@ -74,8 +72,7 @@ every_step : (g : Guest) (entries : List (Option Entry)) (after : List Guest)
     → Leads g entries after → (i : ℕ) (a b : Guest) → slice_get (g ∷ after) i ≡ Some a
     → slice_get after i ≡ Some b → EntryAt entries i a b
 every_step g [] [] s i a b ha hb = absurd cc
-every_step g (own ∷ entries) (new ∷ after) s zero a b ha hb =
-    grind (arith)
+every_step g (own ∷ entries) (new ∷ after) s zero a b ha hb = grind (arith)
 every_step g (own ∷ entries) (new ∷ after) s (suc i) a b ha hb =
     grind (arith, every_step new entries after s.1 i a b ha hb)
 every_step g [] (new ∷ after) s i a b ha hb = absurd s
@@ -107,15 +104,14 @@ pub record Positions (c : Course) : Type 0 where
       → MadeIn c.first c.after i entry
 
 pub positions : (c : Course) → IsFit c.first → Leads c.first c.entries c.after → Positions c
-positions c f s =
-    record {
-      fit = λ i g at. every_fit c.first c.entries c.after f s i g at;
-      step = λ i a b ha hb.
-          let e : i + 1 ≡ suc i = omega arith in
-          every_step c.first c.entries c.after s i a b ha
-          (subst (λ (k : ℕ). guest_after c k ≡ Some b) e hb);
-      made = λ i entry at. every_entry c.first c.entries c.after s i entry at;
-    }
+positions c f s = record {
+  fit = λ i g at. every_fit c.first c.entries c.after f s i g at;
+  step = λ i a b ha hb.
+      let e : i + 1 ≡ suc i = omega arith in
+      every_step c.first c.entries c.after s i a b ha
+      (subst (λ (k : ℕ). guest_after c k ≡ Some b) e hb);
+  made = λ i entry at. every_entry c.first c.entries c.after s i entry at;
+}
 
 abbrev pub some_own : Option Entry → Option (Option Entry)
 some_own x = Some x

@@ -1,10 +1,7 @@
 -- The pages that a new request names are distinct.
 use Rattle.std.proofs.Common.{◌≡◌, ℕ, zero, suc, ◌+◌, ◌<◌, ◌≤◌, Bool, true, false, cond, List, []}
-use Rattle.std.proofs.lemmas.Bool.{eqb-true, eqb-false, eq-eqb, ne_eqb, false_from_ne_true}
-use Rattle.std.proofs.Common.{◌∷◌, ◌++◌, take, refl, ap, subst, arith}
-use Rattle.std.specs.Prelude.{◌==◌, ◌&&◌, ◌%◌, not, count_by, nat_lt, nat_le, filter, map}
-use Rattle.std.specs.List.{list_all, list_any, range_with_len, flat_map}
-use Rattle.std.proofs.lemmas.Bool.{and_parts, cases_eq, not_from_false}
+use Rattle.std.proofs.{Common.{◌∷◌, ◌++◌, take, refl, ap, subst, arith}, lemmas.Bool.eqb-true}
+use Rattle.std.{proofs.lemmas.Bool.{eq-eqb, false_from_ne_true, not_from_false}, specs.Prelude.◌==◌}
 use Rattle.vb_model.proofs.Tables.{count_by-append, count_by-cons, is_in-take, list_all-at}
 use Rattle.vb_model.{specs.declared.places.Place.Place, specs.Guest.Guest, specs.Orderly.times}
 use Rattle.vb_model.{specs.declared.places.Place.TheVariants.Reserved, specs.Refusals.inflate_count}
@@ -46,27 +43,26 @@ times_below test (x ∷ xs) first page l =
 times_rising : {A : Type 0} (test : A → Bool) (xs : List A) (first page : ℕ)
     → times page (pages_from first test xs) ≤ 1
 times_rising test [] first page = omega arith
-times_rising test (x ∷ xs) first page = step (test x) (times_rising test xs (suc first) page)
-  where
-    here : (v : Bool) → (first == page) ≡ v → times page (pages_from (suc first) test xs) ≤ 1
-        → times page (first ∷ pages_from (suc first) test xs) ≤ 1
-    here true e ih =
-        let same : first ≡ page = eqb-true first page e in
-        let one : one_if (first == page) ≡ 1 = ap one_if e in
-        omega (
-          arith,
-          times-cons page first (pages_from (suc first) test xs),
-          times_below test xs (suc first) page (omega arith),
-        )
-    here false e ih =
-        let one : one_if (first == page) ≡ 0 = ap one_if e in
-        omega (arith, times-cons page first (pages_from (suc first) test xs))
+times_rising test (x ∷ xs) first page = step (test x) (times_rising test xs (suc first) page) where
+  here : (v : Bool) → (first == page) ≡ v → times page (pages_from (suc first) test xs) ≤ 1
+      → times page (first ∷ pages_from (suc first) test xs) ≤ 1
+  here true e ih =
+      let same : first ≡ page = eqb-true first page e in
+      let one : one_if (first == page) ≡ 1 = ap one_if e in
+      omega (
+        arith,
+        times-cons page first (pages_from (suc first) test xs),
+        times_below test xs (suc first) page (omega arith),
+      )
+  here false e ih =
+      let one : one_if (first == page) ≡ 0 = ap one_if e in
+      omega (arith, times-cons page first (pages_from (suc first) test xs))
 
-    step : (v : Bool) → times page (pages_from (suc first) test xs) ≤ 1
-        → times page (cond v (first ∷ pages_from (suc first) test xs)
-        (pages_from (suc first) test xs)) ≤ 1
-    step false ih = ih
-    step true ih = here (first == page) refl ih
+  step : (v : Bool) → times page (pages_from (suc first) test xs) ≤ 1
+      → times page (cond v (first ∷ pages_from (suc first) test xs)
+      (pages_from (suc first) test xs)) ≤ 1
+  step false ih = ih
+  step true ih = here (first == page) refl ih
 
 pub distinct_where : {A : Type 0} (test : A → Bool) (xs : List A) (n page : ℕ)
     → times page (take n (pages_where test xs)) ≤ 1
@@ -75,29 +71,26 @@ distinct_where test xs n page =
 
 pub distinct_list : (xs : List ℕ) (page : ℕ) → AllDistinct xs → times page xs ≤ 1
 distinct_list [] page h = omega arith
-distinct_list (x ∷ xs) page h = step (x == page) refl (distinct_list xs page h.1)
-  where
-    step : (v : Bool) → (x == page) ≡ v → times page xs ≤ 1 → times page (x ∷ xs) ≤ 1
-    step true e ih =
-        let same : x ≡ page = eqb-true x page e in
-        let one : one_if (x == page) ≡ 1 = ap one_if e in
-        let out : is_in page xs ≡ false =
-        subst (λ (p : ℕ). is_in p xs ≡ false) same
-        (Rattle.std.proofs.lemmas.Bool.not-true (is_in x xs) h.0) in
-        omega (arith, times-cons page x xs, times-none page xs out)
-    step false e ih = let one : one_if (x == page) ≡ 0 = ap one_if e in
-        omega (arith, times-cons page x xs, ih)
+distinct_list (x ∷ xs) page h = step (x == page) refl (distinct_list xs page h.1) where
+  step : (v : Bool) → (x == page) ≡ v → times page xs ≤ 1 → times page (x ∷ xs) ≤ 1
+  step true e ih =
+      let same : x ≡ page = eqb-true x page e in
+      let one : one_if (x == page) ≡ 1 = ap one_if e in
+      let out : is_in page xs ≡ false = subst (λ (p : ℕ). is_in p xs ≡ false) same
+      (Rattle.std.proofs.lemmas.Bool.not-true (is_in x xs) h.0) in
+      omega (arith, times-cons page x xs, times-none page xs out)
+  step false e ih = let one : one_if (x == page) ≡ 0 = ap one_if e in
+      omega (arith, times-cons page x xs, ih)
 
 pub times-some : (page : ℕ) (xs : List ℕ) → is_in page xs ≡ true → 0 < times page xs
 times-some page [] h = absurd cc
-times-some page (x ∷ xs) h = step (x == page) refl h (times-some page xs)
-  where
-    step : (v : Bool) → (x == page) ≡ v → Rattle.std.specs.Prelude.◌||◌ v (is_in page xs) ≡ true
-        → (is_in page xs ≡ true → 0 < times page xs) → 0 < times page (x ∷ xs)
-    step true e h ih = let z : one_if (x == page) ≡ 1 = ap one_if e in
-        omega (arith, times-cons page x xs)
-    step false e h ih = let z : one_if (x == page) ≡ 0 = ap one_if e in
-        omega (arith, times-cons page x xs, ih h)
+times-some page (x ∷ xs) h = step (x == page) refl h (times-some page xs) where
+  step : (v : Bool) → (x == page) ≡ v → Rattle.std.specs.Prelude.◌||◌ v (is_in page xs) ≡ true
+      → (is_in page xs ≡ true → 0 < times page xs) → 0 < times page (x ∷ xs)
+  step true e h ih = let z : one_if (x == page) ≡ 1 = ap one_if e in
+      omega (arith, times-cons page x xs)
+  step false e h ih = let z : one_if (x == page) ≡ 0 = ap one_if e in
+      omega (arith, times-cons page x xs, ih h)
 
 -- a list that names no page more than once
 pub distinct_once : (xs : List ℕ) → ((page : ℕ) → times page xs ≤ 1) → AllDistinct xs
@@ -112,29 +105,27 @@ distinct_once (x ∷ xs) once = (
 -- stranded pages and then free ones
 pub inflated_distinct : (g : Guest) (n : ℕ) (others : List ℕ) (page : ℕ) → AllFreePages g others
     → AllDistinct others → times page (stranded_first g n ++ others) ≤ 1
-inflated_distinct g n others page free distinct = step (is_in page others) refl
-  where
-    apart : (place : Place) → is_free place ≡ true → is_stranded place ≡ true → ⊥
-    apart Rattle.vb_model.specs.declared.places.Place.TheVariants.Free a b = cc
-    apart _ a b = cc
+inflated_distinct g n others page free distinct = step (is_in page others) refl where
+  apart : (place : Place) → is_free place ≡ true → is_stranded place ≡ true → ⊥
+  apart Rattle.vb_model.specs.declared.places.Place.TheVariants.Free a b = cc
+  apart _ a b = cc
 
-    step : (v : Bool) → is_in page others ≡ v → times page (stranded_first g n ++ others) ≤ 1
-    step false e = omega (
-      arith,
-      times-append page (stranded_first g n) others,
-      times-none page others e,
-      distinct_where is_stranded g.places (inflate_count g n) page,
-    )
-    step true e =
-        let f : is_free (place_of g.places page) ≡ true =
-        list_all-at (λ p. is_free (place_of g.places p)) others page free e in
-        let out : is_in page (stranded_first g n) ≡ false =
-        false_from_ne_true _ (λ k. apart (place_of g.places page) f
-        (pages_where-passes is_stranded g.places page Reserved
-        (is_in-take page (inflate_count g n) (pages_where is_stranded g.places) k))) in
-        omega (
-          arith,
-          times-append page (stranded_first g n) others,
-          times-none page (stranded_first g n) out,
-          distinct_list others page distinct,
-        )
+  step : (v : Bool) → is_in page others ≡ v → times page (stranded_first g n ++ others) ≤ 1
+  step false e = omega (
+    arith,
+    times-append page (stranded_first g n) others,
+    times-none page others e,
+    distinct_where is_stranded g.places (inflate_count g n) page,
+  )
+  step true e =
+      let f : is_free (place_of g.places page) ≡ true =
+      list_all-at (λ p. is_free (place_of g.places p)) others page free e in
+      let out : is_in page (stranded_first g n) ≡ false = false_from_ne_true _
+      (λ k. apart (place_of g.places page) f (pages_where-passes is_stranded g.places page Reserved
+      (is_in-take page (inflate_count g n) (pages_where is_stranded g.places) k))) in
+      omega (
+        arith,
+        times-append page (stranded_first g n) others,
+        times-none page (stranded_first g n) out,
+        distinct_list others page distinct,
+      )

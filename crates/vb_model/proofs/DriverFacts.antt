@@ -1,26 +1,23 @@
 -- Worked facts of the driver's inflates, deflates and reaps.
 use Rattle.std.proofs.Common.{◌≡◌, ℕ, ◌+◌, true, false, List, [], ◌∷◌, ◌++◌, map, replicate, length}
 use Rattle.std.{proofs.Common.{refl, ap, subst, arith}, specs.Prelude.{Some, None}}
-use Rattle.vb_model.specs.declared.places.Place.TheVariants.{Reserved, Free, Giving, Lent, Taking}
-use Rattle.vb_model.specs.declared.replies.Refusal.TheVariants.{NotReady, QueueFull, Nothing}
-use Rattle.vb_model.{specs.declared.places.Place.Place, specs.Guest.Guest, specs.Step.HonestStep}
-use Rattle.vb_model.specs.declared.places.Place.TheVariants.{Stranded, Reporting}
+use Rattle.vb_model.proofs.Samples.{config, ready, down, without_oom, request}
+use Rattle.vb_model.specs.{Driver.AllFreePages, Guest.Guest, Refusals.{refusal_of, inflate_count}}
+use Rattle.vb_model.specs.{Refusals.{deflate_count, oom_count, room}, Requests.{Request, Requests}}
+use Rattle.vb_model.specs.{Requests.{no_requests, IsLeastHead}, Step.HonestStep}
 use Rattle.vb_model.specs.declared.calls.Call.TheVariants.{Inflate, Deflate, Oom, Reap}
+use Rattle.vb_model.specs.declared.places.Place.{Place, TheVariants.{Reserved, Free, Giving, Lent}}
+use Rattle.vb_model.specs.declared.places.Place.TheVariants.{Taking, Stranded, Reporting}
+use Rattle.vb_model.specs.declared.replies.Refusal.TheVariants.{NotReady, QueueFull, Nothing}
 use Rattle.vb_model.specs.declared.replies.Refusal.TheVariants.{NoFeature, NoQueue}
 use Rattle.vb_model.specs.declared.replies.Reply.TheVariants.{Posted, Reaped, NotUsed}
-use Rattle.vb_model.specs.Requests.{Request, Requests, no_requests, IsLeastHead}
-use Rattle.vb_model.specs.Refusals.{refusal_of, inflate_count, deflate_count, oom_count, room}
-use Rattle.vb_model.specs.Driver.{AllFreePages}
-use Rattle.vb_model.proofs.Samples.{config, ready, down, without_oom, request}
 
 -- ---- how many pages are moved
 
 -- so many lent, giving, stranded and free pages, and a target
 abbrev counts : ℕ → ℕ → ℕ → ℕ → ℕ → Guest
 counts lent giving stranded free target = record ready {
-  places = replicate 16 Reserved
-      ++ (replicate lent Lent
-      ++ (replicate giving Giving
+  places = replicate 16 Reserved ++ (replicate lent Lent ++ (replicate giving Giving
       ++ (replicate stranded Stranded ++ (replicate free Free ++ (Taking ∷ Reporting ∷ [])))));
   target = target;
 }
@@ -72,12 +69,8 @@ no_head_out : IsLeastHead no_requests 0
 no_head_out = record { new = refl; least = λ h l. absurd (omega arith) }
 
 abbrev heads : ℕ → ℕ → ℕ → Requests
-heads a b c = record {
-  posted = request a [] 0 ∷ [];
-  taken = request b [] 0
-      ∷ [];
-  done = request c [] 0 ∷ [];
-}
+heads a b c =
+    record { posted = request a [] 0 ∷ []; taken = request b [] 0 ∷ []; done = request c [] 0 ∷ [] }
 
 third_head : IsLeastHead (heads 0 2 1) 3
 third_head = grind arith
@@ -231,31 +224,26 @@ rooms = refl
 -- that deflates name
 
 abbrev two_used : List ℕ → List ℕ → Requests
-two_used first second =
-    record {
-      posted = request 3 (24 ∷ []) 0 ∷ [];
-      taken = request 4 (25 ∷ []) 0
-          ∷ [];
-      done = request 2 first 1 ∷ request 0 second 0 ∷ [];
-    }
+two_used first second = record {
+  posted = request 3 (24 ∷ []) 0 ∷ [];
+  taken = request 4 (25 ∷ []) 0 ∷ [];
+  done = request 2 first 1 ∷ request 0 second 0 ∷ [];
+}
 
 abbrev one_used : List ℕ → Requests
 one_used second = record {
   posted = request 3 (24 ∷ []) 0 ∷ [];
-  taken = request 4 (25 ∷ []) 0
-      ∷ [];
+  taken = request 4 (25 ∷ []) 0 ∷ [];
   done = request 0 second 0 ∷ [];
 }
 
 -- eight pages, pages 24 and 25 at one place, and then free ones
 abbrev reaping : List Place → Place → ℕ → Guest
-reaping places next_two actual =
-    record ready {
-      places = replicate 16 Reserved
-          ++ (places ++ (next_two ∷ next_two ∷ replicate 38 Free));
-      target = 4;
-      actual = actual;
-    }
+reaping places next_two actual = record ready {
+  places = replicate 16 Reserved ++ (places ++ (next_two ∷ next_two ∷ replicate 38 Free));
+  target = 4;
+  actual = actual;
+}
 
 -- deflates name pages 20 and 21, which are taking
 abbrev deflates : Requests
@@ -283,25 +271,15 @@ reaped_deflate : HonestStep
 reaped_deflate = (refl, (refl, refl))
 
 -- nothing is used: nothing changes
-not_used : HonestStep
-    (record (reaping (Taking ∷ Taking ∷ Lent ∷ replicate 5 Free) Free 7) {
-      inflate = heads 0 2 1;
-      deflate = record {
-        posted = request 0 (16 ∷ []) 0 ∷ [];
-        taken = request 1 (17 ∷ []) 0
-            ∷ [];
-        done = [];
-      };
-    }) (Reap 1) [] NotUsed
-    (record (reaping (Taking ∷ Taking ∷ Lent ∷ replicate 5 Free) Free 7) {
-      inflate = heads 0 2 1;
-      deflate = record {
-        posted = request 0 (16 ∷ []) 0 ∷ [];
-        taken = request 1 (17 ∷ []) 0
-            ∷ [];
-        done = [];
-      };
-    })
+not_used : HonestStep (record (reaping (Taking ∷ Taking ∷ Lent ∷ replicate 5 Free) Free 7) {
+  inflate = heads 0 2 1;
+  deflate =
+      record { posted = request 0 (16 ∷ []) 0 ∷ []; taken = request 1 (17 ∷ []) 0 ∷ []; done = [] };
+}) (Reap 1) [] NotUsed (record (reaping (Taking ∷ Taking ∷ Lent ∷ replicate 5 Free) Free 7) {
+  inflate = heads 0 2 1;
+  deflate =
+      record { posted = request 0 (16 ∷ []) 0 ∷ []; taken = request 1 (17 ∷ []) 0 ∷ []; done = [] };
+})
 not_used = (refl, (refl, refl))
 
 reap_refusals : map (λ queue. refusal_of down (Reap queue)) (0 ∷ 1 ∷ 2 ∷ 3 ∷ 5 ∷ []) ≡ Some NotReady

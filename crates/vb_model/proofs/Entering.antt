@@ -3,24 +3,23 @@ use Rattle.std.proofs.Common.{◌≡◌, ℕ, suc, ◌<◌, ◌≤◌, Bool, tru
 use Rattle.std.proofs.Common.{refl, sym, ap, subst, ◌∙◌, ◌⊎◌, inl, inr, arith}
 use Rattle.std.specs.Prelude.{◌==◌, ◌||◌, Option, Some, None, MatchBool, slice_get}
 use Rattle.std.proofs.lemmas.Bool.{eqb-true}
+use Rattle.vb_model.proofs.{CallSteps.match_cases, Frames.{backed_cases, FramesMove, honest_move}}
+use Rattle.vb_model.proofs.{Frames.negotiates_frames, Performed.{Performed, Supplying, honest_case}}
+use Rattle.vb_model.{proofs.Wanting.{claims_needed, refused_claims}, specs.Driver.given}
+use Rattle.vb_model.specs.{Driver.{claim_refusal, AreClaimsFor, Written, pages_needed}, Guest.Guest}
+use Rattle.vb_model.specs.{Guest.{frame_of, backed, all_backed}, HostFrames.{Gives, IsOut}}
+use Rattle.vb_model.specs.{Life.{feature_refusal, Negotiates, lacking}, Refusals.refusal_of}
+use Rattle.vb_model.specs.Rogue.{LosesFrames, RogueStep, Scribbled, unless_refused, pages_to_back}
+use Rattle.vb_model.specs.{Rogue.GuestStep, Step.HonestStep, StepLaws.IsGiven}
+use Rattle.vb_model.specs.StepLaws.{FramesEnterByClaims, WantOfFrames, WantIsAnswered}
+use Rattle.vb_model.specs.{Tests.is_in, World.World, declared.calls.Call.Call}
 use Rattle.vb_model.specs.declared.calls.Call.TheVariants.{Init, Reset, Alloc, Free, Read, Write}
 use Rattle.vb_model.specs.declared.calls.Call.TheVariants.{Scribble, Inflate, Deflate, Oom, Report}
 use Rattle.vb_model.specs.declared.calls.Call.TheVariants.{Stats, Reap, Take, Work, Finish, Sweep}
-use Rattle.vb_model.specs.Driver.{given, claim_refusal, AreClaimsFor, Written}
-use Rattle.vb_model.specs.Rogue.{LosesFrames, RogueStep, Scribbled, unless_refused, pages_to_back}
-use Rattle.vb_model.specs.StepLaws.{IsGiven, FramesEnterByClaims, WantOfFrames, WantIsAnswered}
+use Rattle.vb_model.specs.declared.calls.{Call.TheVariants.{Ask, SetTarget}, Claim.Claim}
 use Rattle.vb_model.specs.declared.calls.Claim.TheVariants.{Gave, GaveNoFrame, GaveNoMemory}
-use Rattle.vb_model.proofs.Frames.{backed_cases, FramesMove, honest_move, negotiates_frames}
-use Rattle.vb_model.specs.declared.replies.Refusal.TheVariants.{NoFrame, NoMemory}
-use Rattle.vb_model.{specs.declared.calls.Call.TheVariants.{Ask, SetTarget}, specs.Rogue.GuestStep}
-use Rattle.vb_model.{specs.Guest.{Guest, frame_of, backed, all_backed}, specs.Refusals.refusal_of}
-use Rattle.vb_model.{specs.Life.{feature_refusal, Negotiates, lacking}, specs.Driver.pages_needed}
-use Rattle.vb_model.{specs.declared.replies.Reply.TheVariants.Refused, proofs.CallSteps.match_cases}
-use Rattle.vb_model.{proofs.Wanting.{claims_needed, refused_claims}, specs.declared.calls.Call.Call}
-use Rattle.vb_model.{specs.declared.replies.Refusal.Refusal, specs.declared.replies.Reply.Reply}
-use Rattle.vb_model.{specs.Step.HonestStep, specs.declared.calls.Claim.Claim}
-use Rattle.vb_model.{specs.HostFrames.{Gives, IsOut}, specs.Tests.is_in, specs.World.World}
-use Rattle.vb_model.proofs.Performed.{Performed, Supplying, honest_case}
+use Rattle.vb_model.specs.declared.replies.Refusal.{Refusal, TheVariants.{NoFrame, NoMemory}}
+use Rattle.vb_model.specs.declared.replies.Reply.{Reply, TheVariants.Refused}
 
 -- ---- frames enter by claims
 
@@ -30,19 +29,17 @@ Entered g pages claims page frame =
     (frame_of g.frames page ≡ Some frame) ⊎ IsGiven pages claims page frame
 
 backed_at : (pages new : List ℕ) (frames : List (Option ℕ)) (page x : ℕ)
-    → frame_of (all_backed pages new frames) page ≡ Some x
-    → (frame_of frames page ≡ Some x)
+    → frame_of (all_backed pages new frames) page ≡ Some x → (frame_of frames page ≡ Some x)
     ⊎ ((i : ℕ) × (slice_get pages i ≡ Some page) × (slice_get new i ≡ Some x))
 backed_at [] new frames page x h = inl h
 backed_at (p ∷ pages) [] frames page x h = inl h
 backed_at (p ∷ pages) (f ∷ new) frames page x h =
     elim (backed_at pages new (backed p f frames) page x h) [
       | inr k ↦ inr (suc k.0, k.1, k.2)
-      | inl k ↦
-          elim (backed_cases p f frames page x k) [
-            | inl e ↦ inr (0, ap some (sym e.0), ap some (sym e.1))
-            | inr old ↦ inl old
-          ]
+      | inl k ↦ elim (backed_cases p f frames page x k) [
+        | inl e ↦ inr (0, ap some (sym e.0), ap some (sym e.1))
+        | inr old ↦ inl old
+      ]
     ]
   where
     some : ℕ → Option ℕ
@@ -56,9 +53,8 @@ enters pages claims g new page frame moved h =
     backed_at pages (given claims) g.frames page frame (moved page frame h)
 
 -- they are as they were
-kept : (pages : List ℕ) (claims : List Claim) (g new : Guest) (page frame : ℕ)
-    → new.frames ≡ g.frames → frame_of new.frames page ≡ Some frame
-    → Entered g pages claims page frame
+kept : (pages : List ℕ) (claims : List Claim) (g new : Guest) (page frame : ℕ) → new.frames
+    ≡ g.frames → frame_of new.frames page ≡ Some frame → Entered g pages claims page frame
 kept pages claims g new page frame same h =
     inl (subst (λ (frames : List (Option ℕ)). frame_of frames page ≡ Some frame) same h)
 
@@ -132,24 +128,22 @@ performs Ask g claims reply new page frame step e s h =
     none Ask g claims reply new page frame step s.0 h (pages_to_back Ask g)
 
 pub frames_enter : FramesEnterByClaims
-frames_enter g call claims reply new s page frame h = cases g.rogue s
-  where
-    cases : (b : Bool) → MatchBool b (RogueStep g call claims reply new)
-        (HonestStep g call claims reply new) → Entered g (pages_to_back call g) claims page frame
-    cases true r =
-        elim (match_cases (claim_refusal claims)
-        (LosesFrames (all_backed (pages_to_back call g) (given claims) g.frames) new.frames)
-        (λ refusal. (reply ≡ Refused refusal) × (new.frames ≡ g.frames)) r.frames) [
-          | inl m ↦ enters (pages_to_back call g) claims g new page frame m.1 h
-          | inr m ↦ kept (pages_to_back call g) claims g new page frame m.2.1 h
-        ]
-    cases false p =
-        elim (match_cases (refusal_of g call) (Performed call g claims reply new)
-        (λ refusal. (claims ≡ []) × (reply ≡ Refused refusal) × (new ≡ g)) (honest_case g call claims reply new p)) [
-          | inl d ↦ performs call g claims reply new page frame p d.0 d.1 h
-          | inr r ↦ kept (pages_to_back call g) claims g new page frame
-              (ap (λ (x : Guest). x.frames) r.2.2) h
-        ]
+frames_enter g call claims reply new s page frame h = cases g.rogue s where
+  cases : (b : Bool) → MatchBool b (RogueStep g call claims reply new)
+      (HonestStep g call claims reply new) → Entered g (pages_to_back call g) claims page frame
+  cases true r = elim (match_cases (claim_refusal claims)
+      (LosesFrames (all_backed (pages_to_back call g) (given claims) g.frames) new.frames)
+      (λ refusal. (reply ≡ Refused refusal) × (new.frames ≡ g.frames)) r.frames) [
+        | inl m ↦ enters (pages_to_back call g) claims g new page frame m.1 h
+        | inr m ↦ kept (pages_to_back call g) claims g new page frame m.2.1 h
+      ]
+  cases false p =
+      elim (match_cases (refusal_of g call) (Performed call g claims reply new)
+      (λ refusal. (claims ≡ []) × (reply ≡ Refused refusal) × (new ≡ g)) (honest_case g call claims reply new p)) [
+        | inl d ↦ performs call g claims reply new page frame p d.0 d.1 h
+        | inr r ↦ kept (pages_to_back call g) claims g new page frame
+            (ap (λ (x : Guest). x.frames) r.2.2) h
+      ]
 
 -- ---- where too few frames are left, the call is refused
 
@@ -160,36 +154,31 @@ without f (x ∷ xs) = cond (x == f) (without f xs) (x ∷ without f xs)
 
 at_most : (f : ℕ) (xs : List ℕ) → length (without f xs) ≤ length xs
 at_most f [] = omega arith
-at_most f (x ∷ xs) = step (x == f) (at_most f xs)
-  where
-    step : (b : Bool) → length (without f xs) ≤ length xs
-        → length (cond b (without f xs) (x ∷ without f xs)) ≤ suc (length xs)
-    step true l = omega (arith, l)
-    step false l = omega (arith, l)
+at_most f (x ∷ xs) = step (x == f) (at_most f xs) where
+  step : (b : Bool) → length (without f xs) ≤ length xs
+      → length (cond b (without f xs) (x ∷ without f xs)) ≤ suc (length xs)
+  step true l = omega (arith, l)
+  step false l = omega (arith, l)
 
 fewer : (f : ℕ) (xs : List ℕ) → is_in f xs ≡ true → length (without f xs) < length xs
 fewer f [] e = absurd cc
-fewer f (x ∷ xs) e = step (x == f) (λ k. fewer f xs k) e
-  where
-    step : (b : Bool) → (is_in f xs ≡ true → length (without f xs) < length xs)
-        → (b || is_in f xs) ≡ true
-        → length (cond b (without f xs) (x ∷ without f xs)) < suc (length xs)
-    step true less k = omega (arith, at_most f xs)
-    step false less k = omega (arith, less k)
+fewer f (x ∷ xs) e = step (x == f) (λ k. fewer f xs k) e where
+  step : (b : Bool) → (is_in f xs ≡ true → length (without f xs) < length xs) → (b || is_in f xs)
+      ≡ true → length (cond b (without f xs) (x ∷ without f xs)) < suc (length xs)
+  step true less k = omega (arith, at_most f xs)
+  step false less k = omega (arith, less k)
 
 -- it is the one that is left out, or among the others
 left : (f y : ℕ) (xs : List ℕ) → is_in y xs ≡ true → (y ≡ f) ⊎ (is_in y (without f xs) ≡ true)
 left f y [] e = absurd cc
-left f y (x ∷ xs) e = step (x == f) (x == y) refl refl (λ k. left f y xs k) e
-  where
-    step : (a b : Bool) → (x == f) ≡ a → (x == y) ≡ b
-        → (is_in y xs ≡ true → (y ≡ f) ⊎ (is_in y (without f xs) ≡ true))
-        → (b || is_in y xs) ≡ true
-        → (y ≡ f) ⊎ (is_in y (cond a (without f xs) (x ∷ without f xs)) ≡ true)
-    step true true p q later k = inl (sym (eqb-true x y q) ∙ eqb-true x f p)
-    step true false p q later k = later k
-    step false true p q later k = inr (ap (λ (b : Bool). b || is_in y (without f xs)) q)
-    step false false p q later k = grind arith
+left f y (x ∷ xs) e = step (x == f) (x == y) refl refl (λ k. left f y xs k) e where
+  step : (a b : Bool) → (x == f) ≡ a → (x == y) ≡ b
+      → (is_in y xs ≡ true → (y ≡ f) ⊎ (is_in y (without f xs) ≡ true)) → (b || is_in y xs) ≡ true
+      → (y ≡ f) ⊎ (is_in y (cond a (without f xs) (x ∷ without f xs)) ≡ true)
+  step true true p q later k = inl (sym (eqb-true x y q) ∙ eqb-true x f p)
+  step true false p q later k = later k
+  step false true p q later k = inr (ap (λ (b : Bool). b || is_in y (without f xs)) q)
+  step false false p q later k = grind arith
 
 -- all claims were given frames, none of which was out: so they are no more than those that weren't
 all_given : (frames : ℕ) (Out : ℕ → Type 0) (pages : List ℕ) (claims : List Claim) (got : List ℕ)
@@ -201,23 +190,15 @@ all_given frames Out (page ∷ pages) (GaveNoFrame ∷ claims) got gives a r all
 all_given frames Out (page ∷ pages) (GaveNoMemory ∷ claims) got gives a r all = absurd cc
 all_given frames Out (page ∷ pages) (Gave f ∷ claims) got gives a r all =
     let there : is_in f got ≡ true =
-    elim (all f gives.0) [
-      | inl out ↦ absurd (gives.1 out)
-      | inr k ↦ k
-    ] in
-    let others : length pages ≤ length (without f got) =
-    all_given frames (λ x. Out x ⊎ (x ≡ f)) pages claims (without f got) gives.3 a r
-    (λ x l. later x (all x l)) in
+    elim (all f gives.0) [ inl out ↦ absurd (gives.1 out) | inr k ↦ k ] in
+    let others : length pages ≤ length (without f got) = all_given frames
+    (λ x. Out x ⊎ (x ≡ f)) pages claims (without f got) gives.3 a r (λ x l. later x (all x l)) in
     omega (arith, others, fewer f got there)
   where
     later : (x : ℕ) → Out x ⊎ (is_in x got ≡ true)
         → (Out x ⊎ (x ≡ f)) ⊎ (is_in x (without f got) ≡ true)
     later x (inl out) = inl (inl out)
-    later x (inr k) =
-        elim (left f x got k) [
-          | inl e ↦ inl (inr e)
-          | inr m ↦ inr m
-        ]
+    later x (inr k) = elim (left f x got k) [ inl e ↦ inl (inr e) | inr m ↦ inr m ]
 
 -- a claim is refused for want of a frame or of memory
 claim_refusals : (claims : List Claim) (refusal : Refusal) → claim_refusal claims ≡ Some refusal
@@ -229,23 +210,21 @@ claim_refusals (GaveNoMemory ∷ claims) refusal e = inr cc
 
 step_wants : (w : World) (g : Guest) (call : Call) (claims : List Claim) (reply : Reply)
     (new : Guest) → Gives w.frames (IsOut w) claims → GuestStep g call claims reply new
-    → WantOfFrames w (pages_to_back call g)
-    → (reply ≡ Refused NoFrame) ⊎ (reply ≡ Refused NoMemory)
-step_wants w g call claims reply new gives s want = by (claim_refusal claims) refl
-  where
-    by : (o : Option Refusal) → claim_refusal claims ≡ o
-        → (reply ≡ Refused NoFrame) ⊎ (reply ≡ Refused NoMemory)
-    by None e =
-        let least : length (pages_to_back call g) ≤ length want.claimed =
-        all_given w.frames (IsOut w) (pages_to_back call g) claims want.claimed gives
-        (claims_needed g call claims reply new s) e want.all_out in
-        absurd (omega (arith, least, want.fewer))
-    by (Some refusal) e =
-        let told = refused_claims g call claims reply new refusal s e in
-        elim (claim_refusals claims refusal e) [
-          | inl is ↦ inl (told.0 ∙ ap Refused is)
-          | inr is ↦ inr (told.0 ∙ ap Refused is)
-        ]
+    → WantOfFrames w (pages_to_back call g) → (reply ≡ Refused NoFrame) ⊎ (reply ≡ Refused NoMemory)
+step_wants w g call claims reply new gives s want = by (claim_refusal claims) refl where
+  by : (o : Option Refusal) → claim_refusal claims ≡ o
+      → (reply ≡ Refused NoFrame) ⊎ (reply ≡ Refused NoMemory)
+  by None e =
+      let least : length (pages_to_back call g) ≤ length want.claimed =
+      all_given w.frames (IsOut w) (pages_to_back call g) claims want.claimed gives
+      (claims_needed g call claims reply new s) e want.all_out in
+      absurd (omega (arith, least, want.fewer))
+  by (Some refusal) e =
+      let told = refused_claims g call claims reply new refusal s e in
+      elim (claim_refusals claims refusal e) [
+        | inl is ↦ inl (told.0 ∙ ap Refused is)
+        | inr is ↦ inr (told.0 ∙ ap Refused is)
+      ]
 
 pub want_answered : WantIsAnswered
 want_answered w v n call reply g here s want = grind (arith, step_wants)

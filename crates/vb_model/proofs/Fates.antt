@@ -2,24 +2,23 @@
 use Rattle.std.proofs.Common.{◌≡◌, ◌≢◌, ℕ, Bool, true, false, List, refl, sym, ap, subst, ◌∙◌, ◌⊎◌}
 use Rattle.std.{proofs.Common.{inl, inr}, specs.Prelude.{Option, Some, None, MatchBool}}
 use Rattle.std.proofs.lemmas.Bool.{cases_eq}
+use Rattle.vb_model.proofs.Alone.{Own, Nothing_happens, Own_call, New_target, next, scribbled_rogue}
+use Rattle.vb_model.proofs.{CallSteps.match_cases, Changes.{with_guest-same, same_some, no_frames}}
+use Rattle.vb_model.{proofs.Unchanged.{IsScribble, MayBeRogue, step_keeps}, specs.Guest.Guest}
+use Rattle.vb_model.specs.{Guest.frame_of, HostEvents.{WorldStep, Happens}}
+use Rattle.vb_model.specs.{HostRefusals.world_causes, Life.after_restart, Refusals.first_refusal}
+use Rattle.vb_model.specs.Rogue.{IsRogueAfter, RogueStep, target_after, GuestStep}
+use Rattle.vb_model.specs.{Step.HonestStep, StepLaws.{OthersAreUntouched, TargetsAreKept}}
+use Rattle.vb_model.specs.StepLaws.{TargetsAreSet, ConfigurationsAreKept, FramesGoBack}
+use Rattle.vb_model.specs.StepLaws.{RestartedAreHonest, RoguesAreMade, RoguesStay}
+use Rattle.vb_model.specs.{StepLaws.ScribblesMakeRogues, World.{World, guest_at, with_guest}}
+use Rattle.vb_model.specs.{World.put_guest, declared.calls.Call.Call}
 use Rattle.vb_model.specs.declared.calls.Call.TheVariants.{Init, Reset, Alloc, Free, Read, Write}
 use Rattle.vb_model.specs.declared.calls.Call.TheVariants.{Scribble, Inflate, Deflate, Oom, Report}
 use Rattle.vb_model.specs.declared.calls.Call.TheVariants.{Stats, Reap, Take, Work, Finish, Sweep}
-use Rattle.vb_model.specs.StepLaws.{OthersAreUntouched, TargetsAreKept, TargetsAreSet}
-use Rattle.vb_model.specs.StepLaws.{ConfigurationsAreKept, FramesGoBack, RestartedAreHonest}
-use Rattle.vb_model.proofs.Alone.{Own, Nothing_happens, Own_call, New_target, next, scribbled_rogue}
-use Rattle.vb_model.specs.StepLaws.{RoguesAreMade, RoguesStay, ScribblesMakeRogues}
-use Rattle.vb_model.specs.Rogue.{IsRogueAfter, RogueStep, target_after, GuestStep}
+use Rattle.vb_model.specs.declared.calls.{Call.TheVariants.{Ask, SetTarget}, Claim.Claim}
+use Rattle.vb_model.specs.declared.{calls.Event.Event, replies.Refusal.Refusal, replies.Reply.Reply}
 use Rattle.vb_model.specs.declared.replies.Reply.TheVariants.{Done, Refused}
-use Rattle.vb_model.{specs.declared.calls.Call.TheVariants.{Ask, SetTarget}, specs.Step.HonestStep}
-use Rattle.vb_model.proofs.Changes.{with_guest-same, same_some, no_frames}
-use Rattle.vb_model.proofs.Unchanged.{IsScribble, MayBeRogue, step_keeps}
-use Rattle.vb_model.{specs.World.{World, guest_at, with_guest, put_guest}, specs.Life.after_restart}
-use Rattle.vb_model.{specs.declared.replies.Refusal.Refusal, specs.HostEvents.{WorldStep, Happens}}
-use Rattle.vb_model.{specs.declared.replies.Reply.Reply, specs.declared.calls.Claim.Claim}
-use Rattle.vb_model.{specs.declared.calls.Event.Event, specs.declared.calls.Call.Call}
-use Rattle.vb_model.{specs.HostRefusals.world_causes, specs.Guest.{Guest, frame_of}}
-use Rattle.vb_model.{specs.Refusals.first_refusal, proofs.CallSteps.match_cases}
 use Rattle.vb_model.specs.declared.calls.Event.TheVariants.{Plug, Unplug, Restart, Guest as OnGuest}
 use Rattle.vb_model.specs.declared.calls.Event.TheVariants.{Query as OnQuery, Balance}
 use Rattle.vb_model.specs.declared.calls.Event.TheVariants.{Frames as CountFrames}
@@ -52,8 +51,7 @@ restarted w m n reply v g here e s =
     elim (match_cases (first_refusal (world_causes w (Restart m))) (Happens (Restart m) w reply v)
     (λ refusal. (reply ≡ Refused refusal) × (v ≡ w)) s) [
       | inr r ↦ absurd (not_missing w n m g r.0 here e r.1)
-      | inl p ↦
-          elim (match_cases (guest_at w.guests m) ⊥
+      | inl p ↦ elim (match_cases (guest_at w.guests m) ⊥
           (λ g. (reply ≡ Done) × (v ≡ put_guest m (Some (after_restart g)) w)) p.1) [
             | inl none ↦ absurd none.1
             | inr k ↦
@@ -69,9 +67,8 @@ restarted w m n reply v g here e s =
     renewed : Guest → Option Guest
     renewed x = Some (after_restart x)
 
-unplugged : (w : World) (m n : ℕ) (reply : Reply) (v : World) (g : Guest)
-    → guest_at w.guests n ≡ Some g → m ≡ n → WorldStep w (Unplug m) reply v
-    → guest_at v.guests n ≡ None
+unplugged : (w : World) (m n : ℕ) (reply : Reply) (v : World) (g : Guest) → guest_at w.guests n
+    ≡ Some g → m ≡ n → WorldStep w (Unplug m) reply v → guest_at v.guests n ≡ None
 unplugged w m n reply v g here e s =
     elim (match_cases (first_refusal (world_causes w (Unplug m))) (Happens (Unplug m) w reply v)
     (λ refusal. (reply ≡ Refused refusal) × (v ≡ w)) s) [
@@ -82,18 +79,16 @@ unplugged w m n reply v g here e s =
 
 fate : (event : Event) (w : World) (reply : Reply) (v : World) (n : ℕ) (g : Guest)
     → guest_at w.guests n ≡ Some g → WorldStep w event reply v → Fate w event reply v n g
-fate (Restart m) w reply v n g here s =
-    elim (cases_eq m n) [
-      | inl e ↦ Begins_anew (ap Restart e) (restarted w m n reply v g here e s)
-      | inr d ↦ goes_on w (Restart m) reply v n g here
-          (λ e. d (let q : Restart m ≡ Restart n = e in cc)) (λ e. cc) s
-    ]
-fate (Unplug m) w reply v n g here s =
-    elim (cases_eq m n) [
-      | inl e ↦ Is_gone (ap Unplug e) (unplugged w m n reply v g here e s)
-      | inr d ↦ goes_on w (Unplug m) reply v n g here (λ e. cc)
-          (λ e. d (let q : Unplug m ≡ Unplug n = e in cc)) s
-    ]
+fate (Restart m) w reply v n g here s = elim (cases_eq m n) [
+  | inl e ↦ Begins_anew (ap Restart e) (restarted w m n reply v g here e s)
+  | inr d ↦ goes_on w (Restart m) reply v n g here
+      (λ e. d (let q : Restart m ≡ Restart n = e in cc)) (λ e. cc) s
+]
+fate (Unplug m) w reply v n g here s = elim (cases_eq m n) [
+  | inl e ↦ Is_gone (ap Unplug e) (unplugged w m n reply v g here e s)
+  | inr d ↦ goes_on w (Unplug m) reply v n g here (λ e. cc)
+      (λ e. d (let q : Unplug m ≡ Unplug n = e in cc)) s
+]
 fate (Plug size) w reply v n g here s = goes_on w _ reply v n g here (λ e. cc) (λ e. cc) s
 fate (OnGuest m call) w reply v n g here s = goes_on w _ reply v n g here (λ e. cc) (λ e. cc) s
 fate (OnQuery m query) w reply v n g here s = goes_on w _ reply v n g here (λ e. cc) (λ e. cc) s
@@ -103,31 +98,28 @@ fate CountFrames w reply v n g here s = goes_on w _ reply v n g here (λ e. cc) 
 -- ---- others, targets, configurations
 
 pub others_untouched : OthersAreUntouched
-others_untouched w event reply v n g s here others = cases (fate event w reply v n g here s)
-  where
-    own : (new : Guest) → guest_at v.guests n ≡ Some new → Own n w event reply g new
-        → (guest_at v.guests n ≡ Some g)
-        ⊎ ((floor target : ℕ) × (event ≡ Balance floor)
-        × (guest_at v.guests n ≡ Some (record g { target = target })))
-    own new there (Nothing_happens other_event unset e) =
-        inl (there ∙ ap (λ (x : Guest). some_guest x) e)
-      where
-        some_guest : Guest → Option Guest
-        some_guest x = Some x
-    own new there (Own_call call claims e gave step) = absurd (others.no_call call e)
-    own new there (New_target floor targets e answered q) =
-        inr (floor, new.target, e, there ∙ ap (λ (x : Guest). some_guest x) q)
-      where
-        some_guest : Guest → Option Guest
-        some_guest x = Some x
+others_untouched w event reply v n g s here others = cases (fate event w reply v n g here s) where
+  own : (new : Guest) → guest_at v.guests n ≡ Some new → Own n w event reply g new
+      → (guest_at v.guests n ≡ Some g) ⊎ ((floor target : ℕ) × (event ≡ Balance floor)
+      × (guest_at v.guests n ≡ Some (record g { target = target })))
+  own new there (Nothing_happens other_event unset e) =
+      inl (there ∙ ap (λ (x : Guest). some_guest x) e)
+    where
+      some_guest : Guest → Option Guest
+      some_guest x = Some x
+  own new there (Own_call call claims e gave step) = absurd (others.no_call call e)
+  own new there (New_target floor targets e answered q) =
+      inr (floor, new.target, e, there ∙ ap (λ (x : Guest). some_guest x) q)
+    where
+      some_guest : Guest → Option Guest
+      some_guest x = Some x
 
-    cases : Fate w event reply v n g
-        → (guest_at v.guests n ≡ Some g)
-        ⊎ ((floor target : ℕ) × (event ≡ Balance floor)
-        × (guest_at v.guests n ≡ Some (record g { target = target })))
-    cases (Goes_on new there o) = own new there o
-    cases (Begins_anew e there) = absurd (others.no_restart e)
-    cases (Is_gone e there) = absurd (others.no_unplug e)
+  cases : Fate w event reply v n g
+      → (guest_at v.guests n ≡ Some g) ⊎ ((floor target : ℕ) × (event ≡ Balance floor)
+      × (guest_at v.guests n ≡ Some (record g { target = target })))
+  cases (Goes_on new there o) = own new there o
+  cases (Begins_anew e there) = absurd (others.no_restart e)
+  cases (Is_gone e there) = absurd (others.no_unplug e)
 
 target_stays : (call : Call) (target : ℕ) → ((t : ℕ) → call ≢ SetTarget t)
     → target_after call target ≡ target
@@ -160,8 +152,7 @@ targets_kept w event reply v n old new f not_set no_balance =
 
     own : (x : Guest) → Own n w event reply old x → x.target ≡ old.target
     own x (Nothing_happens other_event unset e) = ap (λ (y : Guest). y.target) e
-    own x (Own_call call claims e gave step) =
-        (step_keeps old call claims reply x step).aimed
+    own x (Own_call call claims e gave step) = (step_keeps old call claims reply x step).aimed
         ∙ target_stays call old.target (λ t q. not_set t (e ∙ ap (OnGuest n) q))
     own x (New_target floor targets e answered q) = absurd (no_balance floor e)
 
@@ -216,8 +207,7 @@ absent w event reply v n s (inl e) none =
     elim (match_cases (first_refusal (world_causes w (Restart n))) (Happens (Restart n) w reply v)
     (λ refusal. (reply ≡ Refused refusal) × (v ≡ w)) q) [
       | inr r ↦ ap (λ (u : World). guest_at u.guests n) r.2.1 ∙ none
-      | inl p ↦
-          elim (match_cases (guest_at w.guests n) ⊥
+      | inl p ↦ elim (match_cases (guest_at w.guests n) ⊥
           (λ g. (reply ≡ Done) × (v ≡ put_guest n (Some (after_restart g)) w)) p.1) [
             | inl k ↦ absurd k.1
             | inr k ↦ absurd (let z : None ≡ Some k.0 = sym none ∙ k.1 in cc)
@@ -236,33 +226,30 @@ by_event : (w : World) (event other : Event) (reply : Reply) (v : World) → eve
 by_event w event other reply v e s = subst (λ (x : Event). WorldStep w x reply v) e s
 
 pub no_frames_left : FramesGoBack
-no_frames_left w event reply v n s ends page frame b = was_there (guest_at w.guests n) refl
-  where
-    gone : guest_at v.guests n ≡ None → ⊥
-    gone none = let q : None ≡ Some b.guest = sym none ∙ b.is_there in cc
+no_frames_left w event reply v n s ends page frame b = was_there (guest_at w.guests n) refl where
+  gone : guest_at v.guests n ≡ None → ⊥
+  gone none = let q : None ≡ Some b.guest = sym none ∙ b.is_there in cc
 
-    renewed : (g : Guest) → guest_at v.guests n ≡ Some (after_restart g) → ⊥
-    renewed g there =
-        let same : b.guest ≡ after_restart g =
-        same_some b.guest (after_restart g) (sym b.is_there ∙ there) in
-        no_frames g.config.pages page frame
-        (subst (λ (x : Guest). frame_of x.frames page ≡ Some frame) same b.has)
+  renewed : (g : Guest) → guest_at v.guests n ≡ Some (after_restart g) → ⊥
+  renewed g there =
+      let same : b.guest ≡ after_restart g =
+      same_some b.guest (after_restart g) (sym b.is_there ∙ there) in
+      no_frames g.config.pages page frame
+      (subst (λ (x : Guest). frame_of x.frames page ≡ Some frame) same b.has)
 
-    ended : (g : Guest) → guest_at w.guests n ≡ Some g → (event ≡ Restart n) ⊎ (event ≡ Unplug n)
-        → ⊥
-    ended g here (inl e) =
-        renewed g (restarted w n n reply v g here refl (by_event w event (Restart n) reply v e s))
-    ended g here (inr e) =
-        gone (unplugged w n n reply v g here refl (by_event w event (Unplug n) reply v e s))
+  ended : (g : Guest) → guest_at w.guests n ≡ Some g → (event ≡ Restart n) ⊎ (event ≡ Unplug n) → ⊥
+  ended g here (inl e) =
+      renewed g (restarted w n n reply v g here refl (by_event w event (Restart n) reply v e s))
+  ended g here (inr e) =
+      gone (unplugged w n n reply v g here refl (by_event w event (Unplug n) reply v e s))
 
-    was_there : (o : Option Guest) → guest_at w.guests n ≡ o → ⊥
-    was_there None e = gone (absent w event reply v n s ends e)
-    was_there (Some g) e = ended g e ends
+  was_there : (o : Option Guest) → guest_at w.guests n ≡ o → ⊥
+  was_there None e = gone (absent w event reply v n s ends e)
+  was_there (Some g) e = ended g e ends
 
 pub restarted_honest : RestartedAreHonest
 restarted_honest w reply v n old new f =
-    ap (λ (y : Guest). y.rogue)
-    (same_some new (after_restart old)
+    ap (λ (y : Guest). y.rogue) (same_some new (after_restart old)
     (sym f.after ∙ restarted w n n reply v old f.before refl f.step))
 
 -- ---- rogue guests
@@ -295,13 +282,12 @@ rogues_made w event reply v n old new f no_scribble honest =
 
 stays_rogue : (g : Guest) (call : Call) (claims : List Claim) (reply : Reply) (new : Guest)
     → g.rogue ≡ true → GuestStep g call claims reply new → new.rogue ≡ true
-stays_rogue g call claims reply new rogue s = cases g.rogue rogue s
-  where
-    cases : (b : Bool) → b ≡ true
-        → MatchBool b (RogueStep g call claims reply new) (HonestStep g call claims reply new)
-        → new.rogue ≡ true
-    cases true e r = r.stays.still
-    cases false e p = absurd cc
+stays_rogue g call claims reply new rogue s = cases g.rogue rogue s where
+  cases : (b : Bool) → b ≡ true
+      → MatchBool b (RogueStep g call claims reply new) (HonestStep g call claims reply new)
+      → new.rogue ≡ true
+  cases true e r = r.stays.still
+  cases false e p = absurd cc
 
 pub rogues_stay : RoguesStay
 rogues_stay w event reply v n old new f no_restart rogue =

@@ -1,16 +1,15 @@
 -- Worked facts of features and of the status.
 use Rattle.std.proofs.Common.{◌≡◌, ℕ, true, false, List, [], ◌∷◌, map, refl}
 use Rattle.std.specs.Prelude.{Bool, Some, None, not, ◌++◌, ◌+◌}
-use Rattle.vb_model.specs.declared.negotiation.TheConstants.{OFFERED_FEATURES, READY_STATUS}
-use Rattle.vb_model.specs.declared.replies.Refusal.TheVariants.{ClearsBit, OutOfOrder}
+use Rattle.vb_model.{proofs.Samples.ready, specs.FirstRefusal.{◌⇒◌, first_refusal}}
 use Rattle.vb_model.specs.Guest.{must_tell_host, stats_vq, deflate_on_oom, reporting, version_1}
-use Rattle.vb_model.specs.Status.{negotiate_refusal, status_refusal, negotiate_causes}
-use Rattle.vb_model.specs.Status.{status_causes}
-use Rattle.vb_model.specs.Status.{needed_causes, contains, acknowledge, driver, driver_ok}
+use Rattle.vb_model.specs.{Guest.is_ready, Life.feature_refusal, Status.negotiate_refusal}
+use Rattle.vb_model.specs.Status.{status_refusal, negotiate_causes, status_causes, needed_causes}
+use Rattle.vb_model.specs.Status.{contains, acknowledge, driver, driver_ok, features_ok, failed}
+use Rattle.vb_model.specs.{Tests.has_bit, declared.negotiation.TheConstants.OFFERED_FEATURES}
+use Rattle.vb_model.specs.declared.negotiation.TheConstants.{READY_STATUS, FAILED_STATUS}
+use Rattle.vb_model.specs.declared.replies.Refusal.TheVariants.{ClearsBit, OutOfOrder}
 use Rattle.vb_model.specs.declared.replies.Refusal.TheVariants.{FeatureNotOffered, VersionMissing}
-use Rattle.vb_model.{specs.declared.negotiation.TheConstants.FAILED_STATUS, specs.Guest.is_ready}
-use Rattle.vb_model.{specs.FirstRefusal.{◌⇒◌, first_refusal}, specs.Status.{features_ok, failed}}
-use Rattle.vb_model.{specs.Life.feature_refusal, proofs.Samples.ready, specs.Tests.has_bit}
 
 -- ---- MUST_TELL_HOST, STATS_VQ, DEFLATE_ON_OOM, REPORTING and VERSION_1 are bits 0, 1, 2, 5 and 32
 
@@ -94,13 +93,12 @@ version_with_others = refl
 -- FEATURES_OK then
 as_written : (wanted : ℕ)
     → feature_refusal wanted ≡ first_refusal (negotiate_causes 3 wanted ++ status_causes 3 wanted 11)
-as_written wanted = cases (contains OFFERED_FEATURES wanted)
-  where
-    cases : (offered : Bool)
-        → first_refusal ((not offered ⇒ FeatureNotOffered) ∷ needed_causes wanted)
-        ≡ first_refusal ((not offered ⇒ FeatureNotOffered) ∷ status_causes 3 wanted 11)
-    cases true = refl
-    cases false = refl
+as_written wanted = cases (contains OFFERED_FEATURES wanted) where
+  cases : (offered : Bool)
+      → first_refusal ((not offered ⇒ FeatureNotOffered) ∷ needed_causes wanted)
+      ≡ first_refusal ((not offered ⇒ FeatureNotOffered) ∷ status_causes 3 wanted 11)
+  cases true = refl
+  cases false = refl
 
 -- ---- writes of the status, where no features are negotiated
 
@@ -121,9 +119,8 @@ failed_with_a_step = refl
 
 -- no step after 64 or 128
 no_step_after_a_fault : status_refusal 65 0 67 ∷ status_refusal 67 0x100000027 75
-    ∷ status_refusal 75 0x100000027 79 ∷ status_refusal 129 0 131 ∷ status_refusal 139 0 143
-    ∷ [] ≡ Some OutOfOrder ∷ Some OutOfOrder ∷ Some OutOfOrder ∷ Some OutOfOrder ∷ Some OutOfOrder
-    ∷ []
+    ∷ status_refusal 75 0x100000027 79 ∷ status_refusal 129 0 131 ∷ status_refusal 139 0 143 ∷ []
+    ≡ Some OutOfOrder ∷ Some OutOfOrder ∷ Some OutOfOrder ∷ Some OutOfOrder ∷ Some OutOfOrder ∷ []
 no_step_after_a_fault = refl
 
 -- one step at a time, each after its forerunner

@@ -4,25 +4,23 @@ use Rattle.std.proofs.Common.{sym, ap, subst, ◌∙◌, inl, arith, ◌≢◌, 
 use Rattle.std.specs.Prelude.{◌≤◌, Option, Some, None, slice_get, ◌==◌, IsTrue, ◌↔◌}
 use Rattle.std.proofs.lemmas.Bool.{eq-eqb}
 use Rattle.std.proofs.lemmas.List.{get_or-take, get_or-drop, length-take-le, length-drop}
-use Rattle.vb_model.specs.Courses.{Course, guest_after, IsCall, IsAt, IsWriteTo, StaysOrLoses}
+use Rattle.vb_model.proofs.{Asked.told_first, Changes.same_some, Contents.honest_same}
 use Rattle.vb_model.proofs.Courses.{IsFit, fresh_fit, EntryAt, Positions, positions, as_guest}
-use Rattle.vb_model.{specs.declared.places.Place.TheVariants.{Used, Lent}, specs.Driver.{contents_of, overwritten}}
-use Rattle.vb_model.{specs.declared.calls.Actor.Actor, specs.declared.calls.Call.Call}
-use Rattle.vb_model.{specs.declared.calls.Call.TheVariants.{Read, Write}, specs.Step.HonestStep}
-use Rattle.vb_model.{specs.declared.calls.Claim.Claim, specs.declared.replies.Reply.Reply}
-use Rattle.vb_model.specs.declared.replies.Refusal.TheVariants.{RingBroken, Broken}
-use Rattle.vb_model.specs.declared.replies.Reply.TheVariants.{Done, ReadBytes, Refused}
-use Rattle.vb_model.{specs.Requests.all_requests, specs.Consistent.IsConsistent}
-use Rattle.vb_model.{specs.Guest.{Guest, Config, frame_of, is_ballooned}, proofs.Changes.same_some}
-use Rattle.vb_model.specs.GuestRun.{Entry, Called, Looked, EntryStep, OwnStep, Leads, IsHistory}
+use Rattle.vb_model.proofs.{Courses.some_own, Faults.{honest_no_fault, is_fault}}
+use Rattle.vb_model.proofs.{Kept.{honest_keeps_frame, used_page}, LastWrites.write_step}
+use Rattle.vb_model.proofs.{LastWrites.{read_step, overwritten_byte}, PageSteps.naming-all}
+use Rattle.vb_model.{proofs.Unchanged.step_keeps, specs.Consistent.IsConsistent}
+use Rattle.vb_model.specs.Courses.{Course, guest_after, IsCall, IsAt, IsWriteTo, StaysOrLoses}
 use Rattle.vb_model.specs.Courses.{byte_of, byte_written, byte_after, last_put, StaysHeld}
-use Rattle.vb_model.specs.Courses.{ReadsGiveLastWrites}
+use Rattle.vb_model.specs.{Courses.ReadsGiveLastWrites, Driver.{contents_of, overwritten}}
+use Rattle.vb_model.specs.{Guest.{Guest, Config, frame_of, is_ballooned}, GuestRun.{Entry, Called}}
+use Rattle.vb_model.specs.GuestRun.{Looked, EntryStep, OwnStep, Leads, IsHistory}
 use Rattle.vb_model.specs.Histories.{BothAgree, IsSafeCourse, IsSafeHistory}
-use Rattle.vb_model.{specs.SafeLaws.UsedPagesStay, proofs.PageSteps.naming-all}
-use Rattle.vb_model.{proofs.Unchanged.step_keeps, proofs.Kept.{honest_keeps_frame, used_page}}
-use Rattle.vb_model.{proofs.Contents.honest_same, proofs.Faults.{honest_no_fault, is_fault}}
-use Rattle.vb_model.proofs.LastWrites.{write_step, read_step, overwritten_byte}
-use Rattle.vb_model.{proofs.Courses.some_own, proofs.Asked.told_first}
+use Rattle.vb_model.specs.{Requests.all_requests, SafeLaws.UsedPagesStay, Step.HonestStep}
+use Rattle.vb_model.specs.declared.calls.{Actor.Actor, Call.Call, Call.TheVariants.{Read, Write}}
+use Rattle.vb_model.specs.declared.{calls.Claim.Claim, places.Place.TheVariants.{Used, Lent}}
+use Rattle.vb_model.specs.declared.replies.{Refusal.TheVariants.{RingBroken, Broken}, Reply.Reply}
+use Rattle.vb_model.specs.declared.replies.Reply.TheVariants.{Done, ReadBytes, Refused}
 
 -- ---- driver and device
 
@@ -30,27 +28,24 @@ pub both_agree : (g : Guest) → IsConsistent g → BothAgree g
 both_agree g c page = search arith
 
 -- without requests they agree on all pages
-pub quiet_agree : (g : Guest) → BothAgree g → all_requests g.inflate ≡ []
-    → all_requests g.deflate ≡ [] → (page : ℕ)
-    → IsTrue (is_ballooned g.ballooned page) ↔ IsAt g page Lent
+pub quiet_agree : (g : Guest) → BothAgree g → all_requests g.inflate ≡ [] → all_requests g.deflate
+    ≡ [] → (page : ℕ) → IsTrue (is_ballooned g.ballooned page) ↔ IsAt g page Lent
 quiet_agree g both a b page = grind (arith, naming-all page g.inflate, naming-all page g.deflate)
 
 -- ---- frames, contents, faults
 
-keeps_frame : (c : Course) → Positions c → (i page frame : ℕ) (g new : Guest)
-    → guest_after c i ≡ Some g → guest_after c (i + 1) ≡ Some new → IsAt g page Used
-    → IsAt new page Used → frame_of g.frames page ≡ Some frame
-    → frame_of new.frames page ≡ Some frame
+keeps_frame : (c : Course) → Positions c → (i page frame : ℕ) (g new : Guest) → guest_after c i
+    ≡ Some g → guest_after c (i + 1) ≡ Some new → IsAt g page Used → IsAt new page Used
+    → frame_of g.frames page ≡ Some frame → frame_of new.frames page ≡ Some frame
 keeps_frame c p i page frame g new here next used used' has =
     let s = p.step i g new here next in by s.own s.step
   where
     by : (own : Option Entry) → OwnStep g own new → frame_of new.frames page ≡ Some frame
     by None s = ap (λ (x : Guest). frame_of x.frames page) s ∙ has
     by (Some (Looked floor answer)) s = ap (λ (x : Guest). frame_of x.frames page) s.1 ∙ has
-    by (Some (Called actor call claims reply)) s =
-        honest_keeps_frame call page frame g claims reply new
-        (used_page g page (p.fit i g here).consistent used) s.1 (p.fit (i + 1) new next).honest has
-        used'
+    by (Some (Called actor call claims reply)) s = honest_keeps_frame
+        call page frame g claims reply new (used_page g page (p.fit i g here).consistent used) s.1
+        (p.fit (i + 1) new next).honest has used'
 
 not_broken : (c : Course) → Positions c → (i fault : ℕ) (call : Call) (reply : Reply)
     → IsCall c i call reply → (reply ≢ Refused (Broken fault)) × (reply ≢ Refused RingBroken)
@@ -61,9 +56,8 @@ not_broken c p i fault call reply (actor, claims, at) =
       λ e. let t : is_fault reply ≡ true = ap is_fault e in cc,
     )
 
-keeps_contents : (c : Course) → Positions c → (i page : ℕ) (g new : Guest)
-    → guest_after c i ≡ Some g → guest_after c (i + 1) ≡ Some new → ¬ IsWriteTo c page i
-    → StaysOrLoses page g new
+keeps_contents : (c : Course) → Positions c → (i page : ℕ) (g new : Guest) → guest_after c i
+    ≡ Some g → guest_after c (i + 1) ≡ Some new → ¬ IsWriteTo c page i → StaysOrLoses page g new
 keeps_contents c p i page g new here next none =
     let s = p.step i g new here next in by s.own s.own_is s.step
   where
@@ -148,8 +142,7 @@ index_is (x ∷ entries) (suc i) own at = index_is entries i own at
 byte_step : (c : Course) → Positions c → (page at i : ℕ) (g new : Guest) → guest_after c i ≡ Some g
     → guest_after c (i + 1) ≡ Some new → IsAt g page Used → IsAt new page Used
     → byte_of new page at ≡ byte_after page at (get_or c.entries i None) (byte_of g page at)
-byte_step c p page at i g new here next used used' =
-    by s.own s.own_is s.step
+byte_step c p page at i g new here next used used' = by s.own s.own_is s.step
     ∙ sym (ap (λ (e : Option Entry). byte_after page at e (byte_of g page at))
     (index_is c.entries i s.own s.own_is))
   where
@@ -176,8 +169,7 @@ byte_step c p page at i g new here next used used' =
     called : (actor : Actor) (call : Call) (claims : List Claim) (reply : Reply) (v : Bool)
         → is_write page call reply ≡ v
         → slice_get c.entries i ≡ Some (Some (Called actor call claims reply))
-        → EntryStep g (Called actor call claims reply) new
-        → byte_of new page at
+        → EntryStep g (Called actor call claims reply) new → byte_of new page at
         ≡ byte_after page at (Some (Called actor call claims reply)) (byte_of g page at)
     called actor call claims reply false e entry s =
         ap (λ (l : List ℕ). get_or l at 0)
@@ -262,8 +254,7 @@ last_writes c p page i k offset len bytes g holds here (actor, claims, entry) =
     (subst (λ (x : Guest). HonestStep x (Read page offset len) claims (ReadBytes bytes) m.next) same
     m.step.1) in
     let whole = (p.fit (i + k) last.0 last.1).blank.whole page did.there in (
-      ap length did.bytes_are
-          ∙ length-take-le len (drop offset (contents_of last.0 page))
+      ap length did.bytes_are ∙ length-take-le len (drop offset (contents_of last.0 page))
           (omega (arith, did.inside, whole, length-drop offset (contents_of last.0 page))),
       λ j lt. ap (λ (l : List ℕ). get_or l j 0) did.bytes_are
           ∙ get_or-take len (drop offset (contents_of last.0 page)) j 0 lt
@@ -278,20 +269,17 @@ course_reads c f s = last_writes c (positions c f s)
 -- ---- a history
 
 pub course_is_safe : (c : Course) → IsFit c.first → Leads c.first c.entries c.after → IsSafeCourse c
-course_is_safe c f s =
-    let p = positions c f s in
-    record {
-      agreed = λ i g at ready.
-          let a = (p.fit i g at).orderly.agreed ready in (a.offered, a.version);
-      keeps_frame = keeps_frame c p;
-      keeps_contents = λ i page g new here next unreserved. keeps_contents c p i page g new here next;
-      writes = writes c p;
-      reads = reads c p;
-      told_first = told_first c p;
-      both_agree = λ i g at. both_agree g (p.fit i g at).consistent;
-      actual = λ i g at. (p.fit i g at).consistent.counted;
-      not_broken = not_broken c p;
-    }
+course_is_safe c f s = let p = positions c f s in record {
+  agreed = λ i g at ready. let a = (p.fit i g at).orderly.agreed ready in (a.offered, a.version);
+  keeps_frame = keeps_frame c p;
+  keeps_contents = λ i page g new here next unreserved. keeps_contents c p i page g new here next;
+  writes = writes c p;
+  reads = reads c p;
+  told_first = told_first c p;
+  both_agree = λ i g at. both_agree g (p.fit i g at).consistent;
+  actual = λ i g at. (p.fit i g at).consistent.counted;
+  not_broken = not_broken c p;
+}
 
 pub history_is_safe : (config : Config) (target : ℕ) (entries : List Entry) (last : Guest)
     → IsHistory config target entries last → IsSafeHistory config target entries last

@@ -31,9 +31,8 @@ an_end_elsewhere (step, end) =
     let e : Same 0 3 = ap (λ (g : Guest). g.target) step.1.1.1 in omega arith
 
 -- each goes on where the one before it ended
-a_start_elsewhere : (floor spare : ℕ) (new : Guest)
-    → Leads ready (aims ∷ Some (Looked floor spare) ∷ []) (record ready { target = 3 } ∷ new ∷ [])
-    → new.target ≡ 3
+a_start_elsewhere : (floor spare : ℕ) (new : Guest) → Leads ready (aims
+    ∷ Some (Looked floor spare) ∷ []) (record ready { target = 3 } ∷ new ∷ []) → new.target ≡ 3
 a_start_elsewhere floor spare new (step, (look, end)) = ap (λ (g : Guest). g.target) look.1
 
 -- another's event leaves the guest as it was

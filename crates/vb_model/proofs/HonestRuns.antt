@@ -14,8 +14,7 @@ still_honest h p n i (suc k) g new there none honest last =
     let was = still_honest h p n i k g old (λ j le. there j (omega (arith, le)))
     (λ j page offset bytes lt. none j page offset bytes (omega (arith, lt))) honest here in
     let ga = guest_there h n (i + k) old here in
-    let gb = guest_there h n (i + k + 1) new
-    (subst (λ (m : ℕ). guest_in h n m ≡ Some new)
+    let gb = guest_there h n (i + k + 1) new (subst (λ (m : ℕ). guest_in h n m ≡ Some new)
     (let e : i + suc k ≡ i + k + 1 = omega arith in e) last) in
     let s = p.step (i + k) ga.world gb.world ga.state gb.state in
     rogues_made ga.world s.event s.reply gb.world n old new

@@ -1,17 +1,16 @@
 -- The host's events are determined, but for the number of a new guest and want of memory.
 use Rattle.std.proofs.Common.{◌≡◌, ◌≢◌, ℕ, Bool, true, false, List, [], ◌∷◌, sym, ap, ◌∙◌, inl, inr}
 use Rattle.std.specs.Prelude.{Option, Some, None, MatchOption, MatchBool, ◌==◌, ⊤}
-use Rattle.vb_model.specs.declared.replies.Reply.TheVariants.{Plugged, Done, Targets, Refused}
+use Rattle.vb_model.{proofs.Unique.unique, specs.Balance.{AreTargets, shortage}}
+use Rattle.vb_model.specs.{FirstRefusal.first_refusal, Guest.{Guest, Config, fresh}}
 use Rattle.vb_model.specs.HostEvents.{Happens, Plugs, PlugsIn, Calls, after_balance, needs}
-use Rattle.vb_model.specs.declared.calls.Event.TheVariants.{Plug, Unplug, Restart}
-use Rattle.vb_model.specs.declared.replies.Refusal.TheVariants.{NoMemory, Short}
-use Rattle.vb_model.{specs.World.{World, guest_at, with_guest, put_guest}, specs.Life.after_restart}
-use Rattle.vb_model.{specs.HostLaws.{HostStepsAgree, CallsLeaveTheHost}, specs.Queries.Answers}
-use Rattle.vb_model.{specs.declared.replies.Refusal.Refusal, specs.Balance.{AreTargets, shortage}}
-use Rattle.vb_model.{specs.declared.replies.Reply.Reply, specs.Guest.{Guest, Config, fresh}}
-use Rattle.vb_model.{specs.declared.calls.Query.Query, specs.FirstRefusal.first_refusal}
-use Rattle.vb_model.{specs.HostRefusals.world_causes, proofs.Unique.unique}
-use Rattle.vb_model.specs.declared.calls.GuestSize.{GuestSize}
+use Rattle.vb_model.specs.{HostLaws.{HostStepsAgree, CallsLeaveTheHost}, HostRefusals.world_causes}
+use Rattle.vb_model.specs.{Life.after_restart, Queries.Answers, World.{World, guest_at, with_guest}}
+use Rattle.vb_model.specs.{World.put_guest, declared.calls.Event.TheVariants.{Plug, Unplug}}
+use Rattle.vb_model.specs.declared.calls.{Event.TheVariants.Restart, GuestSize.GuestSize}
+use Rattle.vb_model.specs.declared.{calls.Query.Query, replies.Refusal.Refusal}
+use Rattle.vb_model.specs.declared.replies.{Refusal.TheVariants.{NoMemory, Short}, Reply.Reply}
+use Rattle.vb_model.specs.declared.replies.Reply.TheVariants.{Plugged, Done, Targets, Refused}
 use Rattle.vb_model.specs.declared.calls.Event.TheVariants.{Guest as OnGuest, Query as OnQuery}
 use Rattle.vb_model.specs.declared.calls.Event.TheVariants.{Balance, Frames as CountFrames}
 use Rattle.vb_model.specs.declared.calls.Query.TheVariants.{Places as QueryPlaces, PagesAt}
@@ -29,26 +28,24 @@ abbrev SameHost : World → World → Type 0
 SameHost w new = (new.frames ≡ w.frames) × (new.spares ≡ w.spares) × (new.vacated ≡ w.vacated)
 
 pub call_leaves_host : CallsLeaveTheHost
-call_leaves_host w n call reply new s =
-    by (first_refusal (world_causes w (OnGuest n call))) s
-  where
-    performed : (g : Option Guest)
-        → MatchOption g ⊥ (λ h. Calls n h w call reply new) → SameHost w new
-    performed None c = absurd c
-    performed (Some g) c = (
-      ap (λ (v : World). v.frames) c.4,
-      ap (λ (v : World). v.spares) c.4,
-      ap (λ (v : World). v.vacated) c.4,
-    )
+call_leaves_host w n call reply new s = by (first_refusal (world_causes w (OnGuest n call))) s where
+  performed : (g : Option Guest)
+      → MatchOption g ⊥ (λ h. Calls n h w call reply new) → SameHost w new
+  performed None c = absurd c
+  performed (Some g) c = (
+    ap (λ (v : World). v.frames) c.4,
+    ap (λ (v : World). v.spares) c.4,
+    ap (λ (v : World). v.vacated) c.4,
+  )
 
-    by : (r : Option Refusal) → Either r w reply new (Happens (OnGuest n call) w reply new)
-        → SameHost w new
-    by None c = performed (guest_at w.guests n) c
-    by (Some refusal) c = (
-      ap (λ (v : World). v.frames) c.1,
-      ap (λ (v : World). v.spares) c.1,
-      ap (λ (v : World). v.vacated) c.1,
-    )
+  by : (r : Option Refusal) → Either r w reply new (Happens (OnGuest n call) w reply new)
+      → SameHost w new
+  by None c = performed (guest_at w.guests n) c
+  by (Some refusal) c = (
+    ap (λ (v : World). v.frames) c.1,
+    ap (λ (v : World). v.spares) c.1,
+    ap (λ (v : World). v.vacated) c.1,
+  )
 
 -- ---- two answers to one event
 
@@ -84,8 +81,7 @@ answers_agree PagesBallooned g reply reply' (inr a) b x y = absurd (x a)
 answers_agree PagesBallooned g reply reply' (inl a) (inr b) x y = absurd (y b)
 
 queries_agree : (query : Query) (w : World) (g : Option Guest) (reply : Reply) (new : World)
-    (reply' : Reply) (new' : World)
-    → MatchOption g ⊥ (λ h. Answers query h reply) × (new ≡ w)
+    (reply' : Reply) (new' : World) → MatchOption g ⊥ (λ h. Answers query h reply) × (new ≡ w)
     → MatchOption g ⊥ (λ h. Answers query h reply') × (new' ≡ w)
     → reply ≢ Refused NoMemory → reply' ≢ Refused NoMemory → Same reply new reply' new'
 queries_agree query w None reply new reply' new' a b x y = absurd a.0
@@ -116,13 +112,12 @@ balances_agree floor w reply new reply' new' a b =
 -- ---- the plug: of two answers with one number, or with the number given up
 
 abbrev plugged_in : Config → List Bool → World → ℕ → World
-plugged_in config rest w n =
-    record {
-      frames = w.frames;
-      guests = with_guest n (Some (fresh config 0)) w.guests;
-      spares = rest;
-      vacated = None;
-    }
+plugged_in config rest w n = record {
+  frames = w.frames;
+  guests = with_guest n (Some (fresh config 0)) w.guests;
+  spares = rest;
+  vacated = None;
+}
 
 one_number : (config : Config) (rest : List Bool) (w : World) (reply : Reply) (new : World)
     (reply' : Reply) (new' : World) (p : Plugs config rest w reply new)
@@ -136,8 +131,7 @@ last_number None last n e m = absurd cc
 last_number (Some number) last n e m = let same : number ≡ last = cc in m ∙ same
 
 abbrev AgreeOnPlug : World → Reply → World → Reply → World → Type 0
-AgreeOnPlug w reply new reply' new' =
-    (reply ≡ reply' → new ≡ new')
+AgreeOnPlug w reply new reply' new' = (reply ≡ reply' → new ≡ new')
     × ((last : ℕ) → w.vacated ≡ Some last → reply ≡ reply')
     × ((refusal : Refusal) → reply ≡ Refused refusal → reply ≡ reply')
 
@@ -160,17 +154,12 @@ plugs_agree config rest w reply new reply' new' p q = (
 
 plugs_in_agree : (size : GuestSize) (spares : List Bool) (w : World) (reply : Reply)
     (new : World) (reply' : Reply) (new' : World)
-    → PlugsIn size spares w reply new
-    → PlugsIn size spares w reply' new' → reply ≢ Refused NoMemory
+    → PlugsIn size spares w reply new → PlugsIn size spares w reply' new' → reply ≢ Refused NoMemory
     → reply' ≢ Refused NoMemory → AgreeOnPlug w reply new reply' new'
 plugs_in_agree size [] w reply new reply' new' a b x y = absurd a
-plugs_in_agree size (paced ∷ rest) w reply new reply' new' (inl a) b x y =
-    absurd (x a.0)
-plugs_in_agree size (paced ∷ rest) w reply new reply' new' (inr p) (inl b) x
-    y =
-    absurd (y b.0)
-plugs_in_agree size (paced ∷ rest) w reply new reply' new' (inr p) (inr q) x
-    y =
+plugs_in_agree size (paced ∷ rest) w reply new reply' new' (inl a) b x y = absurd (x a.0)
+plugs_in_agree size (paced ∷ rest) w reply new reply' new' (inr p) (inl b) x y = absurd (y b.0)
+plugs_in_agree size (paced ∷ rest) w reply new reply' new' (inr p) (inr q) x y =
     plugs_agree _ rest w reply new reply' new' p q
 
 -- ---- all events
@@ -179,12 +168,10 @@ pub hosts_agree : HostStepsAgree
 hosts_agree w (Plug size) reply new reply' new' s t x y =
     by (first_refusal (world_causes w (Plug size))) s t
   where
-    by : (r : Option Refusal)
-        → Either r w reply new (PlugsIn size w.spares w reply new)
+    by : (r : Option Refusal) → Either r w reply new (PlugsIn size w.spares w reply new)
         → Either r w reply' new' (PlugsIn size w.spares w reply' new')
         → AgreeOnPlug w reply new reply' new'
-    by None a b =
-        plugs_in_agree size w.spares w reply new reply' new' a b x y
+    by None a b = plugs_in_agree size w.spares w reply new reply' new' a b x y
     by (Some refusal) a b =
         ((λ e. a.1 ∙ sym b.1), (λ last e. a.0 ∙ sym b.0), (λ other e. a.0 ∙ sym b.0))
 hosts_agree w (Unplug n) reply new reply' new' s t x y =

@@ -76,65 +76,56 @@ all_sound-at (y ∷ xs) (suc i) x e h = all_sound-at xs i x e h.1
 
 all_sound-visiting : (xs : List Request) → AllRequestsSound xs → AllRequestsSound (visiting xs)
 all_sound-visiting [] h = h
-all_sound-visiting (x ∷ xs) h = step (is_unvisited x) refl (all_sound-visiting xs h.1)
-  where
-    step : (v : Bool) → is_unvisited x ≡ v → AllRequestsSound (visiting xs)
-        → AllRequestsSound (cond v (record x { visited = x.visited + 1 } ∷ xs) (x ∷ visiting xs))
-    step true e ih = grind arith
-    step false e ih = (h.0, ih)
+all_sound-visiting (x ∷ xs) h = step (is_unvisited x) refl (all_sound-visiting xs h.1) where
+  step : (v : Bool) → is_unvisited x ≡ v → AllRequestsSound (visiting xs)
+      → AllRequestsSound (cond v (record x { visited = x.visited + 1 } ∷ xs) (x ∷ visiting xs))
+  step true e ih = grind arith
+  step false e ih = (h.0, ih)
 
 -- ---- the steps
 
 pub orderly_posting : (most : ℕ) (rs : Requests) (head : ℕ) (pages : List ℕ) → AreOrderly most rs
     → IsLeastHead rs head → outstanding rs < most → ((page : ℕ) → times page pages ≤ 1)
     → AreOrderly most (posting head pages rs)
-orderly_posting most rs head pages h least room distinct =
-    record {
-      heads = λ k. one k (head == k) refl;
-      few = omega (
-        arith,
-        length-append rs.posted
-            (record { head = head; pages = pages; visited = 0 } ∷ []),
-      );
-      posted = all_sound-push rs.posted _ h.posted
-          (record { distinct = distinct; visits = omega arith });
-      taken = h.taken;
-      done = h.done;
-    }
+orderly_posting most rs head pages h least room distinct = record {
+  heads = λ k. one k (head == k) refl;
+  few = omega (
+    arith,
+    length-append rs.posted (record { head = head; pages = pages; visited = 0 } ∷ []),
+  );
+  posted = all_sound-push rs.posted _ h.posted
+      (record { distinct = distinct; visits = omega arith });
+  taken = h.taken;
+  done = h.done;
+}
   where
     one : (k : ℕ) (v : Bool) → (head == k) ≡ v → headed k (all_requests (posting head pages rs)) ≤ 1
-    one k true e =
-        grind (
-          arith,
-          headed-all k (posting head pages rs),
-          headed-all k rs,
-          headed-push k rs.posted (record { head = head; pages = pages; visited = 0 }),
-        )
-    one k false e =
-        let added : one_if (head == k) ≡ 0 = ap one_if e in
-        omega (
-          arith,
-          h.heads k,
-          headed-all k (posting head pages rs),
-          headed-all k rs,
-          headed-push k rs.posted (record { head = head; pages = pages; visited = 0 }),
-        )
+    one k true e = grind (
+      arith,
+      headed-all k (posting head pages rs),
+      headed-all k rs,
+      headed-push k rs.posted (record { head = head; pages = pages; visited = 0 }),
+    )
+    one k false e = let added : one_if (head == k) ≡ 0 = ap one_if e in omega (
+      arith,
+      h.heads k,
+      headed-all k (posting head pages rs),
+      headed-all k rs,
+      headed-push k rs.posted (record { head = head; pages = pages; visited = 0 }),
+    )
 
 pub orderly_take : (most : ℕ) (r : Request) (rest : List Request) (rs : Requests)
     → rs.posted ≡ r ∷ rest → AreOrderly most rs → AreOrderly most (after_take r rest rs)
 orderly_take most r rest rs e h =
-    let sound : AllRequestsSound (r ∷ rest) = subst AllRequestsSound e h.posted in
-    record {
-      heads = λ k.
-          let was : headed k rs.posted ≡ headed k (r ∷ rest) = ap (headed k) e in
-          omega (
-            arith,
-            h.heads k,
-            headed-all k rs,
-            headed-all k (after_take r rest rs),
-            headed-cons k r rest,
-            headed-push k rs.taken (record r { visited = 0 }),
-          );
+    let sound : AllRequestsSound (r ∷ rest) = subst AllRequestsSound e h.posted in record {
+      heads = λ k. let was : headed k rs.posted ≡ headed k (r ∷ rest) = ap (headed k) e in omega (
+        arith,
+        h.heads k,
+        headed-all k rs,
+        headed-all k (after_take r rest rs),
+        headed-cons k r rest,
+        headed-push k rs.taken (record r { visited = 0 }),
+      );
       few = let was : length rs.posted ≡ length rest + 1 = ap length e ∙ (omega arith) in
           omega (arith, h.few, length-append rs.taken (record r { visited = 0 } ∷ []));
       posted = sound.1;
@@ -145,47 +136,41 @@ orderly_take most r rest rs e h =
 
 pub headed-visiting : (k : ℕ) (rs : List Request) → headed k (visiting rs) ≡ headed k rs
 headed-visiting k [] = refl
-headed-visiting k (r ∷ rs) = step (is_unvisited r) (headed-visiting k rs)
-  where
-    step : (v : Bool) → headed k (visiting rs) ≡ headed k rs
-        → headed k (cond v (record r { visited = r.visited + 1 } ∷ rs) (r ∷ visiting rs))
-        ≡ headed k (r ∷ rs)
-    step true ih =
-        grind (arith, headed-cons k r rs, headed-cons k (record r { visited = r.visited + 1 }) rs)
-    step false ih = omega (arith, headed-cons k r rs, headed-cons k r (visiting rs))
+headed-visiting k (r ∷ rs) = step (is_unvisited r) (headed-visiting k rs) where
+  step : (v : Bool) → headed k (visiting rs) ≡ headed k rs → headed k
+      (cond v (record r { visited = r.visited + 1 } ∷ rs) (r ∷ visiting rs)) ≡ headed k (r ∷ rs)
+  step true ih =
+      grind (arith, headed-cons k r rs, headed-cons k (record r { visited = r.visited + 1 }) rs)
+  step false ih = omega (arith, headed-cons k r rs, headed-cons k r (visiting rs))
 
 pub length-visiting : (rs : List Request) → length (visiting rs) ≡ length rs
 length-visiting [] = refl
-length-visiting (r ∷ rs) = step (is_unvisited r) (length-visiting rs)
-  where
-    step : (v : Bool) → length (visiting rs) ≡ length rs
-        → length (cond v (record r { visited = r.visited + 1 } ∷ rs) (r ∷ visiting rs))
-        ≡ length (r ∷ rs)
-    step true ih = refl
-    step false ih = ap suc ih
+length-visiting (r ∷ rs) = step (is_unvisited r) (length-visiting rs) where
+  step : (v : Bool) → length (visiting rs) ≡ length rs → length
+      (cond v (record r { visited = r.visited + 1 } ∷ rs) (r ∷ visiting rs)) ≡ length (r ∷ rs)
+  step true ih = refl
+  step false ih = ap suc ih
 
 pub orderly_work : (most : ℕ) (rs : Requests) → AreOrderly most rs
     → AreOrderly most (record rs { taken = visiting rs.taken })
-orderly_work most rs h =
-    record {
-      heads = λ k. omega (
-        arith,
-        h.heads k,
-        headed-all k rs,
-        headed-all k (record rs { taken = visiting rs.taken }),
-        headed-visiting k rs.taken,
-      );
-      few = omega (arith, h.few, length-visiting rs.taken);
-      posted = h.posted;
-      taken = all_sound-visiting rs.taken h.taken;
-      done = h.done;
-    }
+orderly_work most rs h = record {
+  heads = λ k. omega (
+    arith,
+    h.heads k,
+    headed-all k rs,
+    headed-all k (record rs { taken = visiting rs.taken }),
+    headed-visiting k rs.taken,
+  );
+  few = omega (arith, h.few, length-visiting rs.taken);
+  posted = h.posted;
+  taken = all_sound-visiting rs.taken h.taken;
+  done = h.done;
+}
 
 pub orderly_finish : (most i : ℕ) (r : Request) (rs : Requests) → slice_get rs.taken i ≡ Some r
     → AreOrderly most rs → AreOrderly most (after_finish i r rs)
 orderly_finish most i r rs e h =
-    let within : i < length rs.taken = slice_get_within rs.taken i r e in
-    record {
+    let within : i < length rs.taken = slice_get_within rs.taken i r e in record {
       heads = λ k. omega (
         arith,
         h.heads k,
@@ -203,17 +188,14 @@ orderly_finish most i r rs e h =
 pub orderly_reap : (most : ℕ) (r : Request) (rest : List Request) (rs : Requests)
     → rs.done ≡ r ∷ rest → AreOrderly most rs → AreOrderly most (after_reap rest rs)
 orderly_reap most r rest rs e h =
-    let sound : AllRequestsSound (r ∷ rest) = subst AllRequestsSound e h.done in
-    record {
-      heads = λ k.
-          let was : headed k rs.done ≡ headed k (r ∷ rest) = ap (headed k) e in
-          omega (
-            arith,
-            h.heads k,
-            headed-all k rs,
-            headed-all k (after_reap rest rs),
-            headed-cons k r rest,
-          );
+    let sound : AllRequestsSound (r ∷ rest) = subst AllRequestsSound e h.done in record {
+      heads = λ k. let was : headed k rs.done ≡ headed k (r ∷ rest) = ap (headed k) e in omega (
+        arith,
+        h.heads k,
+        headed-all k rs,
+        headed-all k (after_reap rest rs),
+        headed-cons k r rest,
+      );
       few = let was : length rs.done ≡ length rest + 1 = ap length e ∙ (omega arith) in
           omega (arith, h.few);
       posted = h.posted;

@@ -2,11 +2,10 @@
 use Rattle.std.proofs.lemmas.List.{get_or-take, get_or-drop, get_or_append_left, length-take-le}
 use Rattle.std.proofs.Common.{◌≡◌, ℕ, ◌+◌, ◌<◌, ◌≤◌, List, length, get_or, take, drop, arith}
 use Rattle.std.{proofs.lemmas.List.get_or-append_right, proofs.lemmas.Bool.eq-eqb}
-use Rattle.vb_model.{specs.declared.calls.Call.TheVariants.{Read, Write}, specs.Limits.page_size}
-use Rattle.vb_model.{specs.declared.calls.Claim.Claim, specs.Guest.Guest, specs.Step.HonestStep}
-use Rattle.vb_model.specs.declared.replies.Reply.TheVariants.{Done, ReadBytes}
-use Rattle.vb_model.{specs.Driver.{contents_of, overwritten}, specs.Blank.IsBlank}
-use Rattle.vb_model.{specs.Courses.byte_written, proofs.Tables.each_page-get}
+use Rattle.vb_model.{proofs.Tables.each_page-get, specs.Blank.IsBlank, specs.Courses.byte_written}
+use Rattle.vb_model.specs.{Driver.{contents_of, overwritten}, Guest.Guest, Limits.page_size}
+use Rattle.vb_model.specs.{Step.HonestStep, declared.calls.Call.TheVariants.{Read, Write}}
+use Rattle.vb_model.specs.declared.{calls.Claim.Claim, replies.Reply.TheVariants.{Done, ReadBytes}}
 
 -- ---- a write that was done
 

@@ -55,16 +55,14 @@ abbrev empty : World
 empty = record { frames = 6; guests = []; spares = []; vacated = None }
 
 frame_0_is_free : WantOfFrames empty (17 ∷ []) → ⊥
-frame_0_is_free want = by want.claimed want.fewer want.all_out
-  where
-    by : (claimed : List ℕ) → length claimed < 1
-        → ((frame : ℕ) → frame < 6 → IsOut empty frame ⊎ IsTrue (is_in frame claimed)) → ⊥
-    by (f ∷ claimed) fewer all_out = absurd (omega (arith, fewer))
-    by [] fewer all_out =
-        elim (all_out 0 (omega arith)) [
-          | inl out ↦ (let e : None ≡ Some out.2.guest = out.2.is_there in cc)
-          | inr given ↦ cc
-        ]
+frame_0_is_free want = by want.claimed want.fewer want.all_out where
+  by : (claimed : List ℕ) → length claimed < 1
+      → ((frame : ℕ) → frame < 6 → IsOut empty frame ⊎ IsTrue (is_in frame claimed)) → ⊥
+  by (f ∷ claimed) fewer all_out = absurd (omega (arith, fewer))
+  by [] fewer all_out = elim (all_out 0 (omega arith)) [
+    | inl out ↦ (let e : None ≡ Some out.2.guest = out.2.is_there in cc)
+    | inr given ↦ cc
+  ]
 
 no_page_wants_one : WantOfFrames world [] → ⊥
 no_page_wants_one want = let l : length want.claimed < 0 = want.fewer in absurd (omega (arith, l))
@@ -75,8 +73,7 @@ other_world : world ≡ empty → ⊥
 other_world e = let guests : Same 2 0 = ap (λ (w : World). length w.guests) e in omega arith
 
 abbrev AreDetermined : Event → Type 0
-AreDetermined event =
-    (WorldsAgree event world Done world (Frames 0 6) world → ⊥)
+AreDetermined event = (WorldsAgree event world Done world (Frames 0 6) world → ⊥)
     × (WorldsAgree event world Done world Done empty → ⊥)
 
 determined_events : AreDetermined (Unplug 1) × AreDetermined (Restart 1)
@@ -135,8 +132,7 @@ abbrev failed : Guest
 failed = record before_refused {
   status = 131;
   features = 0x26;
-  frames =
-      map some (range_with_len 20 13) ++ (replicate 3 None ++ (Some 5 ∷ replicate 47 None));
+  frames = map some (range_with_len 20 13) ++ (replicate 3 None ++ (Some 5 ∷ replicate 47 None));
 }
 
 abbrev status_of : Guest → ℕ
@@ -164,9 +160,8 @@ just_failed new h1 up = grind arith
 
 -- ---- which events may want memory: a plug, what needs a frame, a read, and lists of pages
 
-wants_of_events : map (may_want_memory world)
-    (plug 64 8 1 ∷ Unplug 1 ∷ Restart 1 ∷ Balance 0 ∷ CountFrames ∷ []) ≡ true ∷ false ∷ false
-    ∷ false ∷ false ∷ []
+wants_of_events : map (may_want_memory world) (plug 64 8 1 ∷ Unplug 1
+    ∷ Restart 1 ∷ Balance 0 ∷ CountFrames ∷ []) ≡ true ∷ false ∷ false ∷ false ∷ false ∷ []
 wants_of_events = refl
 
 wants_of_questions : map (λ query. may_want_memory world (OnQuery 1 query))
@@ -175,11 +170,10 @@ wants_of_questions : map (λ query. may_want_memory world (OnQuery 1 query))
 wants_of_questions = refl
 
 -- page 17 isn't used, and the guest is up
-wants_of_calls : map (λ call. may_want_memory world (OnGuest 1 call))
-    (Read 16 0 1 ∷ Write 16 0 (1 ∷ []) ∷ Write 17 0 (1 ∷ []) ∷ Write 17 0 []
-    ∷ Scribble 17 0 (1 ∷ []) ∷ Scribble 17 4096 (1 ∷ []) ∷ Init 0 ∷ Reset ∷ Inflate 1 ∷ Take 0
-    ∷ Work ∷ []) ≡ true ∷ false ∷ false ∷ false ∷ true ∷ false ∷ false ∷ false ∷ false ∷ false
-    ∷ false ∷ []
+wants_of_calls : map (λ call. may_want_memory world (OnGuest 1 call)) (Read 16 0 1
+    ∷ Write 16 0 (1 ∷ []) ∷ Write 17 0 (1 ∷ []) ∷ Write 17 0 [] ∷ Scribble 17 0 (1 ∷ [])
+    ∷ Scribble 17 4096 (1 ∷ []) ∷ Init 0 ∷ Reset ∷ Inflate 1 ∷ Take 0 ∷ Work ∷ []) ≡ true
+    ∷ false ∷ false ∷ false ∷ true ∷ false ∷ false ∷ false ∷ false ∷ false ∷ false ∷ []
 wants_of_calls = refl
 
 -- here it is used, and the guest is down

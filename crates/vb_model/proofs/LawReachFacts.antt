@@ -58,8 +58,7 @@ by_a_scribble_of_nothing law w v old new f = law w v 1 0 0 [] old new f
 
 over_a_start : RoguesStay → (w v : World) (reply : Reply) (old new : Guest)
     → Follows w (OnGuest 1 (Init 1)) reply v 1 old new → old.rogue ≡ true → new.rogue ≡ true
-over_a_start law w v reply old new f =
-    law w (OnGuest 1 (Init 1)) reply v 1 old new f (λ e. cc)
+over_a_start law w v reply old new f = law w (OnGuest 1 (Init 1)) reply v 1 old new f (λ e. cc)
 
 -- a rogue guest gives its frames back, and is honest in its next life
 frames_of_any_guest : FramesGoBack → (w v : World) (reply : Reply)
@@ -86,10 +85,8 @@ anothers_claim : IsGiven (16 ∷ 17 ∷ []) (Gave 3 ∷ Gave 4 ∷ []) 17 3 → 
 anothers_claim given = grind arith
 
 any_frame : FramesEnterByClaims → (g : Guest) (claims : List Claim) (reply : Reply) (new : Guest)
-    (page frame : ℕ) → GuestStep g (Init 1) claims reply new
-    → frame_of new.frames page ≡ Some frame
-    → (frame_of g.frames page ≡ Some frame)
-    ⊎ IsGiven (pages_to_back (Init 1) g) claims page frame
+    (page frame : ℕ) → GuestStep g (Init 1) claims reply new → frame_of new.frames page ≡ Some frame
+    → (frame_of g.frames page ≡ Some frame) ⊎ IsGiven (pages_to_back (Init 1) g) claims page frame
 any_frame law g claims reply new page frame s h = law g (Init 1) claims reply new s page frame h
 
 any_refused_claim : RefusedClaimsAreAnswered → (g : Guest) (claims : List Claim) (reply : Reply)
@@ -103,9 +100,8 @@ any_want : NoFrameIsExact → (w v : World) (g : Guest) → guest_at w.guests 1 
     → WantOfFrames w (pages_to_back (Init 1) g)
 any_want law w v g here s = law w v 1 (Init 1) g here s
 
-any_answer : WantIsAnswered → (w v : World) (reply : Reply) (g : Guest)
-    → guest_at w.guests 1 ≡ Some g → WorldStep w (OnGuest 1 (Init 1)) reply v
-    → WantOfFrames w (pages_to_back (Init 1) g)
+any_answer : WantIsAnswered → (w v : World) (reply : Reply) (g : Guest) → guest_at w.guests 1
+    ≡ Some g → WorldStep w (OnGuest 1 (Init 1)) reply v → WantOfFrames w (pages_to_back (Init 1) g)
     → (reply ≡ Refused NoFrame) ⊎ (reply ≡ Refused NoMemory)
 any_answer law w v reply g here s want = law w v 1 (Init 1) reply g here s want
 

@@ -60,8 +60,7 @@ full = record {
 -- stay
 reset : HonestStep full Reset [] Done (record {
   config = config;
-  places = replicate 16 Reserved
-      ++ (replicate 21 FreePlace
+  places = replicate 16 Reserved ++ (replicate 21 FreePlace
       ++ (replicate 2 Used ++ (replicate 18 Stranded ++ replicate 7 FreePlace)));
   held = record { start = 37; order = 0 } ∷ record { start = 38; order = 0 } ∷ [];
   inflate = no_requests;
@@ -109,14 +108,12 @@ renewed = record {
 }
 
 abbrev three_guests : Option Guest → World
-three_guests middle =
-    record {
-      frames = 200;
-      guests = Some ready ∷ middle ∷ Some down ∷ [];
-      spares = true ∷ false
-          ∷ [];
-      vacated = Some 3;
-    }
+three_guests middle = record {
+  frames = 200;
+  guests = Some ready ∷ middle ∷ Some down ∷ [];
+  spares = true ∷ false ∷ [];
+  vacated = Some 3;
+}
 
 -- of three guests just the one is renewed; the host stays as it was
 restart : WorldStep (three_guests (Some full)) (Restart 1) Done (three_guests (Some renewed))
@@ -229,7 +226,6 @@ frames_before_features = (refl, (refl, refl))
 -- a guest that is up, or has given up, has to be reset first
 up_already : refusal_of ready (Init 0)
     ∷ refusal_of (record down { status = 131 }) (Init 0x100000027)
-    ∷ refusal_of (after_reset full) (Init 0x100000027)
-    ∷ refusal_of (after_restart full) (Init 0x100000027) ∷ [] ≡ Some AlreadyUp ∷ Some AlreadyUp
-    ∷ None ∷ None ∷ []
+    ∷ refusal_of (after_reset full) (Init 0x100000027) ∷ refusal_of (after_restart full)
+    (Init 0x100000027) ∷ [] ≡ Some AlreadyUp ∷ Some AlreadyUp ∷ None ∷ None ∷ []
 up_already = refl

@@ -20,14 +20,11 @@ contents of_17 of_18 =
     replicate 16 zero_page ++ ((60 ∷ 61 ∷ []) ∷ of_17 ∷ of_18 ∷ replicate 45 zero_page)
 
 abbrev holding : List ℕ → Option ℕ → List ℕ → Guest
-holding of_17 frame_of_18 of_18 =
-    record ready {
-      places = replicate 16 Reserved
-          ++ (replicate 3 Used ++ replicate 45 FreePlace);
-      frames = frames frame_of_18;
-      contents =
-          contents of_17 of_18;
-    }
+holding of_17 frame_of_18 of_18 = record ready {
+  places = replicate 16 Reserved ++ (replicate 3 Used ++ replicate 45 FreePlace);
+  frames = frames frame_of_18;
+  contents = contents of_17 of_18;
+}
 
 abbrev five_bytes : List ℕ
 five_bytes = 1 ∷ 2 ∷ 3 ∷ 4 ∷ 5 ∷ []

@@ -2,18 +2,17 @@
 use Rattle.std.proofs.Common.{sym, ◌≡◌, ℕ, zero, suc, Bool, true, false, List, [], ◌∷◌, refl, ap}
 use Rattle.std.{proofs.Common.{◌∙◌, ◌⊎◌, inl, inr}, specs.Prelude.{◌||◌, not, Option, Some}}
 use Rattle.vb_model.specs.StepLaws.{WantsChangeNothing, may_want_memory, call_may_want, is_none_of}
-use Rattle.vb_model.proofs.Wanting.{wants, none_wants, refused_otherwise, claims_needed, no_want}
-use Rattle.vb_model.{specs.declared.calls.Call.Call, specs.declared.calls.Claim.Claim}
-use Rattle.vb_model.{specs.declared.calls.Event.Event, specs.declared.calls.Query.Query}
-use Rattle.vb_model.{specs.declared.replies.Refusal.TheVariants.NoMemory, specs.Guest.Guest}
-use Rattle.vb_model.{specs.declared.replies.Reply.Reply, specs.FirstRefusal.first_refusal}
-use Rattle.vb_model.specs.declared.replies.Reply.TheVariants.{Done, Refused}
-use Rattle.vb_model.{specs.Driver.{AreClaimsFor, claim_refusal}, specs.Life.after_restart}
-use Rattle.vb_model.{specs.Rogue.{pages_to_back, is_read}, specs.Queries.Answers}
-use Rattle.vb_model.proofs.Changes.{Balanced, Sets, Comes_up_short, balance_cases}
-use Rattle.vb_model.{specs.World.{World, guest_at, with_guest, put_guest}, specs.StepLaws.is_list}
-use Rattle.vb_model.{specs.HostEvents.{Happens, Calls, PlugsIn}, specs.HostRefusals.world_causes}
-use Rattle.vb_model.{proofs.CallSteps.match_cases, proofs.Wanting.no_memory_exact}
+use Rattle.vb_model.{specs.StepLaws.is_list, proofs.Wanting.{wants, none_wants, refused_otherwise}}
+use Rattle.vb_model.proofs.Wanting.{claims_needed, no_want, no_memory_exact}
+use Rattle.vb_model.specs.declared.calls.{Call.Call, Claim.Claim, Event.Event, Query.Query}
+use Rattle.vb_model.specs.{declared.replies.Refusal.TheVariants.NoMemory, Guest.Guest}
+use Rattle.vb_model.specs.{declared.replies.Reply.Reply, FirstRefusal.first_refusal}
+use Rattle.vb_model.specs.{declared.replies.Reply.TheVariants.{Done, Refused}, Driver.AreClaimsFor}
+use Rattle.vb_model.specs.{Driver.claim_refusal, Life.after_restart, Rogue.{pages_to_back, is_read}}
+use Rattle.vb_model.{specs.Queries.Answers, proofs.Changes.{Balanced, Sets, Comes_up_short}}
+use Rattle.vb_model.{proofs.Changes.balance_cases, specs.World.{World, guest_at, with_guest}}
+use Rattle.vb_model.specs.{World.put_guest, HostEvents.{Happens, Calls, PlugsIn}}
+use Rattle.vb_model.{specs.HostRefusals.world_causes, proofs.CallSteps.match_cases}
 use Rattle.vb_model.specs.declared.calls.Event.TheVariants.{Plug, Unplug, Restart, Guest as OnGuest}
 use Rattle.vb_model.specs.declared.calls.Event.TheVariants.{Query as OnQuery, Balance}
 use Rattle.vb_model.specs.declared.calls.Event.TheVariants.{Frames as CountFrames}
@@ -53,13 +52,11 @@ or_first false b e = absurd cc
 calls_want : (n : ℕ) (call : Call) (g : Guest) (w v : World) → guest_at w.guests n ≡ Some g
     → Calls n g w call (Refused NoMemory) v
     → (call_may_want (guest_at w.guests n) call ≡ true) × (v ≡ w)
-calls_want n call g w v here s =
-    let exact = no_memory_exact g call s.0 s.1 s.3 in (
-      ap (λ (o : Option Guest). call_may_want o call) here ∙ may exact.0,
-      s.4 ∙ ap (λ (x : Guest). put_guest n (Some x) w) exact.1
-          ∙ ap (λ (xs : List (Option Guest)). record w { guests = xs })
-          (with_guest-again n g w.guests here),
-    )
+calls_want n call g w v here s = let exact = no_memory_exact g call s.0 s.1 s.3 in (
+  ap (λ (o : Option Guest). call_may_want o call) here ∙ may exact.0,
+  s.4 ∙ ap (λ (x : Guest). put_guest n (Some x) w) exact.1 ∙ ap
+      (λ (xs : List (Option Guest)). record w { guests = xs }) (with_guest-again n g w.guests here),
+)
   where
     may : (claim_refusal s.0 ≡ Some NoMemory) ⊎ (is_read call ≡ true)
         → (is_read call || not (is_none_of (pages_to_back call g))) ≡ true
@@ -83,24 +80,20 @@ answers_want (QueryBacking page) g e = not_wanted _ e refl
 
 happens_want : (event : Event) (w v : World) → Happens event w (Refused NoMemory) v
     → (may_want_memory w event ≡ true) × (v ≡ w)
-happens_want (Plug size) w v s = plugs w.spares s
-  where
-    plugs : (spares : List Bool)
-        → PlugsIn size spares w (Refused NoMemory) v
-        → (may_want_memory w (Plug size) ≡ true) × (v ≡ w)
-    plugs [] s = absurd s
-    plugs (paced ∷ rest) (inl none) = (refl, none.1)
-    plugs (paced ∷ rest) (inr p) = not_wanted _ p.3 refl
+happens_want (Plug size) w v s = plugs w.spares s where
+  plugs : (spares : List Bool) → PlugsIn size spares w (Refused NoMemory) v
+      → (may_want_memory w (Plug size) ≡ true) × (v ≡ w)
+  plugs [] s = absurd s
+  plugs (paced ∷ rest) (inl none) = (refl, none.1)
+  plugs (paced ∷ rest) (inr p) = not_wanted _ p.3 refl
 happens_want (Unplug n) w v s = not_wanted _ s.0 refl
-happens_want (Restart n) w v s =
-    elim (match_cases (guest_at w.guests n) ⊥
+happens_want (Restart n) w v s = elim (match_cases (guest_at w.guests n) ⊥
     (λ g. (Refused NoMemory ≡ Done) × (v ≡ put_guest n (Some (after_restart g)) w)) s) [
       | inl none ↦ absurd none.1
       | inr g ↦ not_wanted _ g.2.0 refl
     ]
 happens_want (OnGuest n call) w v s =
-    elim (match_cases (guest_at w.guests n) ⊥
-    (λ g. Calls n g w call (Refused NoMemory) v) s) [
+    elim (match_cases (guest_at w.guests n) ⊥ (λ g. Calls n g w call (Refused NoMemory) v) s) [
       | inl none ↦ absurd none.1
       | inr g ↦ calls_want n call g.0 w v g.1 g.2
     ]
@@ -109,12 +102,10 @@ happens_want (OnQuery n query) w v s =
       | inl none ↦ absurd none.1
       | inr g ↦ (answers_want query g.0 g.2, s.1)
     ]
-happens_want (Balance floor) w v s = by (balance_cases floor w (Refused NoMemory) v s)
-  where
-    by : Balanced floor w (Refused NoMemory) v
-        → (may_want_memory w (Balance floor) ≡ true) × (v ≡ w)
-    by (Comes_up_short said is) = not_wanted _ said refl
-    by (Sets targets are said is) = not_wanted _ said refl
+happens_want (Balance floor) w v s = by (balance_cases floor w (Refused NoMemory) v s) where
+  by : Balanced floor w (Refused NoMemory) v → (may_want_memory w (Balance floor) ≡ true) × (v ≡ w)
+  by (Comes_up_short said is) = not_wanted _ said refl
+  by (Sets targets are said is) = not_wanted _ said refl
 happens_want CountFrames w v s = not_wanted _ s.0 refl
 
 causes_of_others : (w : World) (event : Event) → none_wants (world_causes w event) ≡ true

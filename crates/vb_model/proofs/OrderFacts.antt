@@ -32,11 +32,8 @@ posted rs = record { posted = rs; taken = []; done = [] }
 
 -- one head at two stages
 abbrev twice : Requests
-twice = record {
-  posted = request 3 (16 ∷ []) 0 ∷ [];
-  taken = [];
-  done = request 3 (17 ∷ []) 0 ∷ [];
-}
+twice =
+    record { posted = request 3 (16 ∷ []) 0 ∷ []; taken = []; done = request 3 (17 ∷ []) 0 ∷ [] }
 
 head_twice : IsOrderly (record ready { inflate = twice }) → ⊥
 head_twice o = let l : 2 ≤ 1 = o.inflating.heads 3 in omega (arith, l)
@@ -115,8 +112,7 @@ other_guest e = let status : Same 15 0 = ap (λ (g : Guest). g.status) e in omeg
 
 -- of these calls reply and guest are determined
 abbrev Determined : Call → Type 0
-Determined call =
-    (Agree call Done ready Idle ready → ⊥) × (Agree call Done ready Done down → ⊥)
+Determined call = (Agree call Done ready Idle ready → ⊥) × (Agree call Done ready Done down → ⊥)
 
 determined_before : Determined (Init 0) × Determined Reset × Determined (Free 0 16 0)
     × Determined (Write 16 0 []) × Determined (Deflate 1) × Determined (Oom 1)

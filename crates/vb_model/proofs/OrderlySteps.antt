@@ -6,42 +6,37 @@ use Rattle.std.specs.Prelude.{◌&&◌, nat_lt, nat_le, Option, Some, None, slic
 use Rattle.std.{proofs.lemmas.List.{length-map, get_or_past}, proofs.lemmas.Bool.true_from_ne_false}
 use Rattle.std.proofs.lemmas.List.FromFn.{length-range_with_len, get_or-map-range_with_len}
 use Rattle.std.proofs.lemmas.Nat.{pow_pos}
+use Rattle.vb_model.proofs.{Blocks.reported_distinct, CallSteps.{match_cases, supplying_cases}}
+use Rattle.vb_model.proofs.CallSteps.{works_cases, not_refused, supplied, inflated_pages}
+use Rattle.vb_model.proofs.CallSteps.{lent_pages, wholly_free_pages, reported_pages}
+use Rattle.vb_model.proofs.{Distinct.{distinct_where, inflated_distinct}, GuestSteps.placed-get}
+use Rattle.vb_model.proofs.GuestSteps.{not_reserved, held_used, inflate_giving, deflate_there}
+use Rattle.vb_model.proofs.GuestSteps.{length-reaped, report_reporting, place_of-reset}
+use Rattle.vb_model.proofs.InOrder.{orderly_posting, orderly_take, orderly_work, orderly_finish}
+use Rattle.vb_model.proofs.{InOrder.orderly_reap, PageSteps.{can_be_given, after_take, after_reap}}
+use Rattle.vb_model.proofs.{PageSteps.outside-range, Performed.{Performed, honest_case}}
+use Rattle.vb_model.{proofs.Tables.length-each_from, specs.Consistent.IsConsistent}
+use Rattle.vb_model.specs.Device.{TakesRequest, TakesBuffer, Finishes, ReturnsBuffer, settled, used}
+use Rattle.vb_model.specs.{Device.visited, Driver.{Reaps, Fills, stranded_first, lowest_lent}}
+use Rattle.vb_model.specs.{Driver.{reaped, with_block, without_block}, Guest.{Guest, Config, fresh}}
+use Rattle.vb_model.specs.{Guest.{requests, with_requests, tells_host}, Layout.reserved_pages}
+use Rattle.vb_model.specs.Life.{feature_refusal, Negotiates, lacking, after_reset}
+use Rattle.vb_model.specs.{Limits.{min_reported_order, max_order}, Orderly.{AreOrderly, IsOrderly}}
+use Rattle.vb_model.specs.{Orderly.{IsBlock, AreBlocks}, Pages.{Block, pages_of, pages_of_all}}
+use Rattle.vb_model.specs.Pages.{is_free, is_used, is_giving, is_lent, is_reporting, is_reserved}
+use Rattle.vb_model.specs.Pages.{place_of, placed, size, is_aligned, is_wholly_free, is_same_block}
+use Rattle.vb_model.specs.Refusals.{refusal_of, causes, room, deflate_count, oom_count}
+use Rattle.vb_model.specs.{Refusals.reported_blocks, Requests.{Request, Requests, outstanding}}
+use Rattle.vb_model.specs.Requests.{Kind, Inflating, Deflating, Reporting_free, kind_of_queue}
+use Rattle.vb_model.specs.Requests.{place_posted, places_reaped, StatisticsBuffer}
+use Rattle.vb_model.specs.{Step.HonestStep, Tests.is_in, declared.calls.Call.Call}
 use Rattle.vb_model.specs.declared.calls.Call.TheVariants.{Init, Reset, Alloc, Free, Read, Write}
 use Rattle.vb_model.specs.declared.calls.Call.TheVariants.{Scribble, Inflate, Deflate, Oom, Report}
 use Rattle.vb_model.specs.declared.calls.Call.TheVariants.{Stats, Reap, Take, Work, Finish, Sweep}
-use Rattle.vb_model.specs.Pages.{Block, pages_of, pages_of_all, is_free, is_used, is_giving}
-use Rattle.vb_model.specs.Pages.{is_lent, is_reporting, is_reserved, place_of, placed, size}
-use Rattle.vb_model.specs.Requests.{Request, Requests, no_requests, outstanding, Kind, Inflating}
-use Rattle.vb_model.specs.Requests.{Deflating, Reporting_free, kind_of_queue, place_posted}
-use Rattle.vb_model.specs.Requests.{places_reaped, StatisticsBuffer, NoBuffer, BufferPosted}
-use Rattle.vb_model.specs.Requests.{BufferTaken}
-use Rattle.vb_model.specs.Refusals.{refusal_of, causes, room, deflate_count, oom_count}
-use Rattle.vb_model.specs.Driver.{Reaps, Fills, Written, pages_needed, stranded_first, lowest_lent}
-use Rattle.vb_model.proofs.GuestSteps.{placed-get, not_reserved, held_used, inflate_giving}
-use Rattle.vb_model.proofs.GuestSteps.{deflate_there, length-reaped, report_reporting}
-use Rattle.vb_model.proofs.CallSteps.{match_cases, supplying_cases, works_cases, not_refused}
-use Rattle.vb_model.proofs.CallSteps.{supplied, inflated_pages, lent_pages, wholly_free_pages}
-use Rattle.vb_model.proofs.InOrder.{orderly_posting, orderly_take, orderly_work, orderly_finish}
-use Rattle.vb_model.specs.Device.{TakesRequest, TakesBuffer, Finishes, ReturnsBuffer, settled, used}
-use Rattle.vb_model.specs.Device.{visited}
-use Rattle.vb_model.specs.Guest.{Guest, Config, fresh, requests, with_requests, tells_host}
-use Rattle.vb_model.proofs.PageSteps.{can_be_given, after_take, after_reap, outside-range}
-use Rattle.vb_model.specs.declared.places.Place.TheVariants.{Giving, Lent, Reporting}
-use Rattle.vb_model.specs.Life.{feature_refusal, Negotiates, lacking, after_reset}
-use Rattle.vb_model.{specs.Orderly.{AreOrderly, IsOrderly, IsBlock, AreBlocks}, specs.Tests.is_in}
-use Rattle.vb_model.specs.Pages.{is_aligned, is_wholly_free, is_same_block}
-use Rattle.vb_model.specs.declared.calls.Call.TheVariants.{Ask, SetTarget}
-use Rattle.vb_model.{proofs.Distinct.{distinct_where, inflated_distinct}, specs.Requests.BufferDone}
-use Rattle.vb_model.{specs.Driver.{reaped, with_block, without_block}, specs.Layout.reserved_pages}
-use Rattle.vb_model.{specs.Limits.{min_reported_order, max_order}, specs.declared.calls.Claim.Claim}
-use Rattle.vb_model.{specs.declared.replies.Refusal.Refusal, specs.declared.replies.Reply.Reply}
-use Rattle.vb_model.{specs.declared.places.Place.Place, specs.Step.HonestStep}
-use Rattle.vb_model.{proofs.GuestSteps.place_of-reset, proofs.CallSteps.reported_pages}
-use Rattle.vb_model.{proofs.Blocks.reported_distinct, specs.declared.calls.Call.Call}
-use Rattle.vb_model.{specs.Refusals.reported_blocks, proofs.Tables.length-each_from}
-use Rattle.vb_model.{specs.Consistent.IsConsistent, proofs.InOrder.orderly_reap}
+use Rattle.vb_model.specs.declared.calls.{Call.TheVariants.{Ask, SetTarget}, Claim.Claim}
+use Rattle.vb_model.specs.declared.places.Place.{Place, TheVariants.{Giving, Lent, Reporting}}
+use Rattle.vb_model.specs.declared.replies.{Refusal.Refusal, Reply.Reply}
 use Rattle.vb_model.specs.declared.places.Place.TheVariants.{Reserved, Free as FreePlace, Used}
-use Rattle.vb_model.proofs.Performed.{Performed, honest_case}
 
 -- ---- places
 
@@ -51,8 +46,7 @@ Unreserved size pages places = (page : ℕ) → page < pages
 
 -- pages that aren't reserved went to a place that isn't
 moved : (size n : ℕ) (pages : List ℕ) (place : Place) (places : List Place)
-    → Unreserved size n places
-    → is_reserved place ≡ false
+    → Unreserved size n places → is_reserved place ≡ false
     → ((page : ℕ) → is_in page pages ≡ true → place_of places page ≢ Reserved)
     → Unreserved size n (placed pages place places)
 moved size n pages place places h free ok page l = grind (arith, placed-get)
@@ -78,12 +72,11 @@ length-placed pages place places = length-each_from 0 _ places
 -- a block whose pages are all free
 free_block : (pages : ℕ) (places : List Place) (b : Block) → length places ≡ pages
     → b.order ≤ max_order → is_wholly_free places b ≡ true → IsBlock pages b
-free_block pages places b sized small whole =
-    record {
-      order = small;
-      aligned = (and_parts (is_aligned b) _ whole).0;
-      inside = inside (cases_lt pages (b.start + size b));
-    }
+free_block pages places b sized small whole = record {
+  order = small;
+  aligned = (and_parts (is_aligned b) _ whole).0;
+  inside = inside (cases_lt pages (b.start + size b));
+}
   where
     positive : 0 < size b
     positive = pow_pos b.order
@@ -116,8 +109,7 @@ blocks_with pages b (x ∷ held) is are =
 blocks_without : (pages : ℕ) (b : Block) (held : List Block) → AreBlocks pages held
     → AreBlocks pages (without_block b held)
 blocks_without pages b [] are = tt
-blocks_without pages b (x ∷ held) are =
-    step (is_same_block x b) (blocks_without pages b held are.1)
+blocks_without pages b (x ∷ held) are = step (is_same_block x b) (blocks_without pages b held are.1)
   where
     step : (v : Bool) → AreBlocks pages (without_block b held)
         → AreBlocks pages (cond v held (x ∷ without_block b held))
@@ -129,20 +121,17 @@ blocks_without pages b (x ∷ held) are =
 with_inflate : (g : Guest) (rs : Requests) (places : List Place) → IsOrderly g
     → AreOrderly (room g) rs → length places ≡ g.config.pages → Unreserved g.config.queue_size g.config.pages places
     → IsOrderly (record g { inflate = rs; places = places })
-with_inflate g rs places h o l u =
-    grind (arith, h)
+with_inflate g rs places h o l u = grind (arith, h)
 
 with_deflate : (g : Guest) (rs : Requests) (places : List Place) → IsOrderly g
     → AreOrderly (room g) rs → length places ≡ g.config.pages → Unreserved g.config.queue_size g.config.pages places
     → IsOrderly (record g { deflate = rs; places = places })
-with_deflate g rs places h o l u =
-    grind (arith, h)
+with_deflate g rs places h o l u = grind (arith, h)
 
 with_report : (g : Guest) (rs : Requests) (places : List Place) → IsOrderly g → AreOrderly 1 rs
     → length places ≡ g.config.pages → Unreserved g.config.queue_size g.config.pages places
     → IsOrderly (record g { report = rs; places = places })
-with_report g rs places h o l u =
-    grind (arith, h)
+with_report g rs places h o l u = grind (arith, h)
 
 has_room : (most now : ℕ) → nat_le most now ≡ false → now < most
 has_room most now h = leb-false most now h
@@ -157,13 +146,12 @@ kept_take Deflating g r rest h e = grind (arith, orderly_take _ r rest g.deflate
 kept_take Reporting_free g r rest h e = grind (arith, orderly_take _ r rest g.report e h.reporting)
 
 kept_work : (kind : Kind) (page : ℕ) (g : Guest) → IsOrderly g → IsOrderly (visited kind page g)
-kept_work kind page g h =
-    grind (
-      arith,
-      orderly_work _ g.inflate h.inflating,
-      orderly_work _ g.deflate h.deflating,
-      orderly_work _ g.report h.reporting,
-    )
+kept_work kind page g h = grind (
+  arith,
+  orderly_work _ g.inflate h.inflating,
+  orderly_work _ g.deflate h.deflating,
+  orderly_work _ g.report h.reporting,
+)
 
 kept_finish : (kind : Kind) (i : ℕ) (r : Request) (g : Guest) → IsOrderly g
     → slice_get (requests kind g).taken i ≡ Some r
@@ -176,20 +164,17 @@ pub kept_reap : (kind : Kind) (g : Guest) (r : Request) (rest : List Request) �
     → IsOrderly g → (requests kind g).done ≡ r ∷ rest → IsOrderly (reaped kind r rest g)
 kept_reap Inflating g r rest c h e =
     with_inflate g (after_reap rest g.inflate) (placed r.pages Lent g.places) h
-    (orderly_reap _ r rest g.inflate e h.inflating)
-    (length-placed r.pages Lent g.places ∙ h.tabled)
+    (orderly_reap _ r rest g.inflate e h.inflating) (length-placed r.pages Lent g.places ∙ h.tabled)
     (moved g.config.queue_size g.config.pages r.pages Lent g.places h.unreserved refl
     (λ page k. not_reserved _ is_giving refl (inflate_giving g page r rest c e k)))
-kept_reap Deflating g r rest c h e =
-    with_deflate g (after_reap rest g.deflate)
+kept_reap Deflating g r rest c h e = with_deflate g (after_reap rest g.deflate)
     (places_reaped (tells_host g) Deflating r.pages g.places) h
     (orderly_reap _ r rest g.deflate e h.deflating)
     (length-reaped (tells_host g) Deflating r.pages g.places ∙ h.tabled)
     (moved_back (tells_host g) g.config.queue_size g.config.pages r.pages g.places h.unreserved
     (λ page k. deflate_there g page r rest c e k))
-kept_reap Reporting_free g r rest c h e =
-    with_report g (after_reap rest g.report) (placed r.pages FreePlace g.places) h
-    (orderly_reap _ r rest g.report e h.reporting)
+kept_reap Reporting_free g r rest c h e = with_report g (after_reap rest g.report)
+    (placed r.pages FreePlace g.places) h (orderly_reap _ r rest g.report e h.reporting)
     (length-placed r.pages FreePlace g.places ∙ h.tabled)
     (moved g.config.queue_size g.config.pages r.pages FreePlace g.places h.unreserved refl
     (λ page k. not_reserved _ is_reporting refl (report_reporting g page r rest c e k)))
@@ -253,18 +238,15 @@ performs_order (Read page offset len) g claims reply new c h e s honest =
     subst IsOrderly (sym s.1.1) h
 performs_order (Sweep page) g claims reply new c h e s honest = subst IsOrderly (sym s.1.1) h
 performs_order (Alloc cpu order) g claims reply new c h e s honest =
-    let b : Block = record { start = s.1.0; order = order } in
-    subst IsOrderly (sym s.1.3)
-    (record {
+    let b : Block = record { start = s.1.0; order = order } in subst IsOrderly (sym s.1.3) (record {
       inflating = h.inflating;
       deflating = h.deflating;
       reporting = h.reporting;
       state = h.state;
       tabled = length-placed (pages_of b) Used g.places ∙ h.tabled;
-      unreserved = moved g.config.queue_size g.config.pages (pages_of b) Used g.places h.unreserved refl
-          (λ page k. not_reserved _ is_free refl (wholly_free_pages g.places b page s.1.1 k));
-      blocks = blocks_with g.config.pages b g.held
-          (free_block g.config.pages g.places b h.tabled
+      unreserved = moved g.config.queue_size g.config.pages (pages_of b) Used g.places h.unreserved
+          refl (λ page k. not_reserved _ is_free refl (wholly_free_pages g.places b page s.1.1 k));
+      blocks = blocks_with g.config.pages b g.held (free_block g.config.pages g.places b h.tabled
           (ltb-false _ _ (not_refused (causes g (Alloc cpu order)) e).0) s.1.1) h.blocks;
       agreed = h.agreed;
     })
@@ -286,8 +268,7 @@ performs_order (Free cpu start order) g claims reply new c h e s honest =
 performs_order (Inflate n) g claims reply new c h e s honest =
     let t = not_refused (causes g (Inflate n)) e in
     let pages : List ℕ = stranded_first g n ++ s.1.0 in
-    subst IsOrderly (sym s.1.4.3)
-    (with_inflate g _ (placed pages Giving g.places) h
+    subst IsOrderly (sym s.1.4.3) (with_inflate g _ (placed pages Giving g.places) h
     (orderly_posting (room g) g.inflate s.1.4.0 pages h.inflating s.1.4.1
     (has_room (room g) (outstanding g.inflate) t.1.0)
     (λ page. inflated_distinct g n s.1.0 page s.1.1 s.1.2))
@@ -296,25 +277,21 @@ performs_order (Inflate n) g claims reply new c h e s honest =
     (λ page k. not_reserved _ can_be_given refl (inflated_pages g n s.1.0 page s.1.1 k))))
 performs_order (Deflate n) g claims reply new c h e s honest =
     let t = not_refused (causes g (Deflate n)) e in
-    subst IsOrderly (sym s.1.3)
-    (deflates_order g (deflate_count g n) s.1.0 h s.1.1
+    subst IsOrderly (sym s.1.3) (deflates_order g (deflate_count g n) s.1.0 h s.1.1
     (has_room (room g) (outstanding g.deflate) t.1.1.0))
 performs_order (Oom n) g claims reply new c h e s honest =
     let t = not_refused (causes g (Oom n)) e in
-    subst IsOrderly (sym s.1.3)
-    (deflates_order g (oom_count g n) s.1.0 h s.1.1
+    subst IsOrderly (sym s.1.3) (deflates_order g (oom_count g n) s.1.0 h s.1.1
     (has_room (room g) (outstanding g.deflate) t.1.1.0))
 performs_order (Report from) g claims reply new c h e s honest =
     let t = not_refused (causes g (Report from)) e in
     let pages : List ℕ = pages_of_all (reported_blocks g from) in
-    subst IsOrderly (sym s.1.3)
-    (with_report g _ (placed pages Reporting g.places) h
+    subst IsOrderly (sym s.1.3) (with_report g _ (placed pages Reporting g.places) h
     (orderly_posting 1 g.report s.1.0 pages h.reporting s.1.1
     (has_room 1 (outstanding g.report) t.1.1.0)
     (λ page. reported_distinct (λ p. is_free (place_of g.places p))
     (λ b. nat_le min_reported_order b.order && nat_le from b.start) (length g.places) (room g)
-    page))
-    (length-placed pages Reporting g.places ∙ h.tabled)
+    page)) (length-placed pages Reporting g.places ∙ h.tabled)
     (moved g.config.queue_size g.config.pages pages Reporting g.places h.unreserved refl
     (λ page k. not_reserved _ is_free refl (reported_pages g from page k))))
 performs_order Stats g claims reply new c h e s honest = fills_order g.buffer g reply new h s.1

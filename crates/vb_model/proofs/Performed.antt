@@ -1,38 +1,28 @@
 -- What a call does that isn't refused, call by call: three claim frames, and the others none.
 use Rattle.std.proofs.Common.{◌≡◌, ℕ, refl, List, [], ◌∷◌}
 use Rattle.std.specs.Prelude.{Option, None, Some, MatchOption}
-use Rattle.vb_model.specs.declared.calls.Call.{Call}
-use Rattle.vb_model.specs.declared.calls.Call.TheVariants.{Init, Reset, Alloc, Free, Read, Write}
-use Rattle.vb_model.specs.declared.calls.Call.TheVariants.{Scribble, Inflate, Deflate, Oom, Report}
-use Rattle.vb_model.specs.declared.calls.Call.TheVariants.{Stats, Reap, Take, Work, Finish, Sweep}
-use Rattle.vb_model.specs.declared.calls.Call.TheVariants.{Ask, SetTarget}
-use Rattle.vb_model.specs.declared.calls.Claim.{Claim}
-use Rattle.vb_model.specs.declared.replies.Refusal.{Refusal}
-use Rattle.vb_model.specs.declared.replies.Reply.{Reply}
-use Rattle.vb_model.specs.declared.replies.Reply.TheVariants.{Refused}
-use Rattle.vb_model.specs.Guest.{Guest, all_backed}
-use Rattle.vb_model.specs.FirstRefusal.{first_refusal}
-use Rattle.vb_model.specs.Driver.{given, claim_refusal, AreClaimsFor, pages_needed, Written, Scribbled}
-use Rattle.vb_model.specs.Life.{lacking, feature_causes, Negotiates}
-use Rattle.vb_model.specs.Refusals.{refusal_of}
+use Rattle.vb_model.specs.declared.calls.Call.{Call, TheVariants.{Init, Reset, Alloc, Free, Read}}
+use Rattle.vb_model.specs.declared.calls.Call.TheVariants.{Write, Scribble, Inflate, Deflate, Oom}
+use Rattle.vb_model.specs.declared.calls.Call.TheVariants.{Report, Stats, Reap, Take, Work, Finish}
+use Rattle.vb_model.specs.declared.calls.{Call.TheVariants.{Sweep, Ask, SetTarget}, Claim.Claim}
+use Rattle.vb_model.specs.declared.replies.{Refusal.Refusal, Reply.Reply, Reply.TheVariants.Refused}
+use Rattle.vb_model.specs.{Guest.{Guest, all_backed}, FirstRefusal.first_refusal, Driver.given}
+use Rattle.vb_model.specs.Driver.{claim_refusal, AreClaimsFor, pages_needed, Written, Scribbled}
+use Rattle.vb_model.specs.{Life.{lacking, feature_causes, Negotiates}, Refusals.refusal_of}
 use Rattle.vb_model.specs.Step.{Does, Performs, HonestStep}
 
 -- these pages' claims were given and the rest was done, or one is the reply and nothing is changed
 abbrev pub Supplying : (pages : List ℕ) (g : Guest) (claims : List Claim) (reply : Reply)
     (new : Guest) (Rest : Guest → Type 0) → Type 0
-Supplying pages g claims reply new Rest =
-    AreClaimsFor pages claims
-    × MatchOption (claim_refusal claims)
-    (Rest (record g { frames = all_backed pages (given claims) g.frames }))
+Supplying pages g claims reply new Rest = AreClaimsFor pages claims × MatchOption
+    (claim_refusal claims) (Rest (record g { frames = all_backed pages (given claims) g.frames }))
     (λ refusal. (reply ≡ Refused refusal) × (new ≡ g))
 
 abbrev pub Performed : Call → Guest → List Claim → Reply → Guest → Type 0
-Performed (Init wanted) g claims reply new =
-    Supplying (lacking g) g claims reply new
+Performed (Init wanted) g claims reply new = Supplying (lacking g) g claims reply new
     (λ m. Negotiates (first_refusal (feature_causes wanted)) wanted m reply new)
-Performed (Write page offset bytes) g claims reply new =
-    Supplying (pages_needed page bytes g) g claims reply new
-    (λ m. Written page offset bytes m reply new)
+Performed (Write page offset bytes) g claims reply new = Supplying
+    (pages_needed page bytes g) g claims reply new (λ m. Written page offset bytes m reply new)
 Performed (Scribble page offset bytes) g claims reply new =
     Supplying (pages_needed page bytes g) g claims reply new (λ m. Scribbled m reply new)
 Performed call g claims reply new = (claims ≡ []) × Does call g reply new

@@ -26,13 +26,12 @@ at g = record { frames = 64; guests = Some ready ∷ g ∷ []; spares = []; vaca
 
 -- guest 1 in three states, with two events between
 abbrev three : Option Guest → Event → Option Guest → Event → Option Guest → History
-three before first between second after =
-    record {
-      first = at before;
-      events = first ∷ second ∷ [];
-      replies = Done ∷ Done ∷ [];
-      after = at between ∷ at after ∷ [];
-    }
+three before first between second after = record {
+  first = at before;
+  events = first ∷ second ∷ [];
+  replies = Done ∷ Done ∷ [];
+  after = at between ∷ at after ∷ [];
+}
 
 abbrev holding : Guest → Option Guest
 holding g = Some (page_16_at Used g)
@@ -44,11 +43,8 @@ rogue = Some (record (page_16_at Used down) { rogue = true })
 
 -- three states of a guest, with two events between
 abbrev three_states : Guest → Guest → Guest → Course
-three_states before between after = record {
-  first = before;
-  entries = None ∷ None ∷ [];
-  after = between ∷ after ∷ [];
-}
+three_states before between after =
+    record { first = before; entries = None ∷ None ∷ []; after = between ∷ after ∷ [] }
 
 -- over a reset and while the guest is down, to the last state
 abbrev reset_while_held : Course

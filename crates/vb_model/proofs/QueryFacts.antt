@@ -21,16 +21,15 @@ run first last = record { first = first; last = last }
 -- ---- places
 
 -- seven different counts, each in its own field
-seven_counts : Answers QueryPlaces mixed
-    (Places (record {
-      free = 21;
-      used = 2;
-      giving = 3;
-      lent = 4;
-      taking = 5;
-      stranded = 6;
-      reporting = 7;
-    }))
+seven_counts : Answers QueryPlaces mixed (Places (record {
+  free = 21;
+  used = 2;
+  giving = 3;
+  lent = 4;
+  taking = 5;
+  stranded = 6;
+  reporting = 7;
+}))
 seven_counts = refl
 
 -- the pages of each place
@@ -130,16 +129,8 @@ not_for_backing e = cc
 
 -- ---- and no other answer is one
 
-no_other_counts : (reply : Reply) → Answers QueryPlaces mixed reply
-    → reply ≡ Places (record {
-      free = 21;
-      used = 2;
-      giving = 3;
-      lent = 4;
-      taking = 5;
-      stranded = 6;
-      reporting = 7;
-    })
+no_other_counts : (reply : Reply) → Answers QueryPlaces mixed reply → reply ≡ Places
+    (record { free = 21; used = 2; giving = 3; lent = 4; taking = 5; stranded = 6; reporting = 7 })
 no_other_counts reply a = a
 
 no_other_numbers : (reply : Reply)
@@ -147,9 +138,8 @@ no_other_numbers : (reply : Reply)
     → reply ≡ Balloon (record { ballooned = 3; actual = 9; target = 11; status = 131 })
 no_other_numbers reply a = a
 
-no_other_statistics : (reply : Reply)
-    → Answers QueryMemory (record ready { last = record { free = Some 196608; total = Some 262144 } })
-    reply
+no_other_statistics : (reply : Reply) → Answers QueryMemory
+    (record ready { last = record { free = Some 196608; total = Some 262144 } }) reply
     → reply ≡ Statistics (record { free = Some 196608; total = Some 262144 })
 no_other_statistics reply a = a
 
@@ -172,8 +162,7 @@ no_other_ballooned_pages reply a = a
 abbrev world : World
 world = record {
   frames = 64;
-  guests = Some ready ∷ Some (record backed { rogue = true })
-      ∷ [];
+  guests = Some ready ∷ Some (record backed { rogue = true }) ∷ [];
   spares = true ∷ [];
   vacated = Some 7;
 }

@@ -30,8 +30,7 @@ queue_cases q = elim (cases_eq q 0) [
 
 -- the kind of a queue, by whether it is queue 0, 1 or 4
 abbrev kind_by : Bool → Bool → Bool → Option Kind
-kind_by a b c =
-    if a then Some Inflating
+kind_by a b c = if a then Some Inflating
     else (if b then Some Deflating else (if c then Some Reporting_free else None))
 
 pub no_requests_at : (q : ℕ) → IsNoQueue q → is_queue_of_requests q ≡ false

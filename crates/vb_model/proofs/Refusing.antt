@@ -1,28 +1,26 @@
 -- A refusal changes nothing, but for an initialisation whose features are refused.
 use Rattle.std.proofs.Common.{◌≡◌, ℕ, Bool, true, false, cond, List, [], ◌∷◌, refl, ap, ◌∙◌, inl}
 use Rattle.std.{proofs.Common.inr, specs.Prelude.{Option, Some, None}}
-use Rattle.vb_model.specs.declared.calls.Call.TheVariants.{Init, Reset, Alloc, Free, Read, Write}
-use Rattle.vb_model.specs.declared.calls.Call.TheVariants.{Scribble, Inflate, Deflate, Oom, Report}
-use Rattle.vb_model.specs.declared.calls.Call.TheVariants.{Stats, Reap, Take, Work, Finish, Sweep}
-use Rattle.vb_model.specs.Requests.{Request, Kind, kind_of_queue, StatisticsBuffer, NoBuffer}
-use Rattle.vb_model.specs.Requests.{BufferPosted}
-use Rattle.vb_model.specs.StepLaws.{IsUnchanged, with_features_refused, RefusalsChangeNothing}
-use Rattle.vb_model.{specs.declared.calls.Call.Call, specs.declared.calls.Claim.Claim}
-use Rattle.vb_model.{specs.declared.calls.Call.TheVariants.{Ask, SetTarget}, specs.Rogue.Scribbled}
-use Rattle.vb_model.{specs.declared.calls.Event.Event, specs.declared.replies.Refusal.Refusal}
-use Rattle.vb_model.{specs.declared.replies.Reply.Reply, specs.Requests.{BufferTaken, BufferDone}}
-use Rattle.vb_model.{specs.declared.replies.Reply.TheVariants.{Done, Refused}}
-use Rattle.vb_model.{specs.Guest.{Guest, requests}, specs.Refusals.{refusal_of, first_refusal}}
-use Rattle.vb_model.specs.Driver.{Reaps, Fills, Written, pages_needed}
-use Rattle.vb_model.specs.Device.{TakesRequest, TakesBuffer, Finishes, ReturnsBuffer, next_page}
-use Rattle.vb_model.specs.Life.{feature_refusal, Negotiates, lacking, after_restart}
-use Rattle.vb_model.{specs.World.{World, put_guest, guest_at}, specs.HostEvents.{Happens, PlugsIn}}
-use Rattle.vb_model.{specs.HostRefusals.world_causes, specs.StepLaws.RefusedEventsChangeNothing}
 use Rattle.vb_model.proofs.CallSteps.{match_cases, supplying_cases, works_cases, supplied}
+use Rattle.vb_model.{proofs.Performed.{Performed, honest_case}, specs.Device.TakesRequest}
+use Rattle.vb_model.specs.{Device.{TakesBuffer, Finishes, ReturnsBuffer, next_page}, Driver.Reaps}
+use Rattle.vb_model.specs.{Driver.{Fills, Written, pages_needed}, Guest.{Guest, requests}}
+use Rattle.vb_model.specs.{HostEvents.{Happens, PlugsIn}, HostRefusals.world_causes}
+use Rattle.vb_model.specs.Life.{feature_refusal, Negotiates, lacking, after_restart}
+use Rattle.vb_model.specs.{Refusals.{refusal_of, first_refusal}, Requests.{Request, Kind}}
+use Rattle.vb_model.specs.Requests.{kind_of_queue, StatisticsBuffer, NoBuffer, BufferPosted}
+use Rattle.vb_model.specs.{Requests.{BufferTaken, BufferDone}, Rogue.Scribbled}
+use Rattle.vb_model.specs.StepLaws.{IsUnchanged, with_features_refused, RefusalsChangeNothing}
+use Rattle.vb_model.specs.{StepLaws.RefusedEventsChangeNothing, World.{World, put_guest, guest_at}}
+use Rattle.vb_model.specs.declared.calls.Call.{Call, TheVariants.{Init, Reset, Alloc, Free, Read}}
+use Rattle.vb_model.specs.declared.calls.Call.TheVariants.{Write, Scribble, Inflate, Deflate, Oom}
+use Rattle.vb_model.specs.declared.calls.Call.TheVariants.{Report, Stats, Reap, Take, Work, Finish}
+use Rattle.vb_model.specs.declared.calls.{Call.TheVariants.{Sweep, Ask, SetTarget}, Claim.Claim}
+use Rattle.vb_model.specs.declared.{calls.Event.Event, replies.Refusal.Refusal, replies.Reply.Reply}
+use Rattle.vb_model.specs.declared.replies.Reply.TheVariants.{Done, Refused}
 use Rattle.vb_model.specs.declared.calls.Event.TheVariants.{Plug, Unplug, Restart, Guest as OnGuest}
 use Rattle.vb_model.specs.declared.calls.Event.TheVariants.{Query as OnQuery, Balance}
 use Rattle.vb_model.specs.declared.calls.Event.TheVariants.{Frames as CountFrames}
-use Rattle.vb_model.proofs.Performed.{Performed, honest_case}
 
 -- a reply that is no refusal
 abbrev pub is_refused : Reply → Bool
@@ -74,8 +72,7 @@ negotiates_refuse : (wanted : ℕ) (o : Option Refusal) (g : Guest) (claims : Li
     → IsUnchanged (Init wanted) refusal claims g new
 negotiates_refuse wanted None g claims refusal new e s = not_this refusal _ s.0 refl
 negotiates_refuse wanted (Some r) g claims refusal new e s =
-    let same : r ≡ refusal = same_refusal refusal r s.0 in
-    inr (
+    let same : r ≡ refusal = same_refusal refusal r s.0 in inr (
       wanted,
       refl,
       e ∙ ap (λ (x : Refusal). some_refusal x) same,
@@ -99,8 +96,7 @@ performs_refuses (Report from) g claims refusal new s = not_this refusal _ s.1.2
 performs_refuses Stats g claims refusal new s = fills_refuse g.buffer g refusal new s.1
 performs_refuses Ask g claims refusal new s = asks_refuse g.buffer g refusal new s.1
 performs_refuses (Sweep page) g claims refusal new s = not_this refusal _ s.1.0 refl
-performs_refuses (Reap q) g claims refusal new s =
-    elim (match_cases (kind_of_queue q) ⊥
+performs_refuses (Reap q) g claims refusal new s = elim (match_cases (kind_of_queue q) ⊥
     (λ kind. Reaps kind (requests kind g).done g (Refused refusal) new) s.1) [
       | inl n ↦ absurd n.1
       | inr k ↦ reaps_refuse k.0 (requests k.0 g).done g refusal new k.2
@@ -144,26 +140,20 @@ performs_refuses (Scribble page offset bytes) g claims refusal new s =
 pub refusals_change_nothing : RefusalsChangeNothing
 refusals_change_nothing g call claims refusal new s =
     elim (match_cases (refusal_of g call) (Performed call g claims (Refused refusal) new)
-    (λ r. (claims ≡ []) × (Refused refusal ≡ Refused r) × (new ≡ g)) (honest_case g call claims (Refused refusal) new s)) [
-      | inl p ↦ performs_refuses call g claims refusal new p.1
-      | inr r ↦ inl r.2.2
-    ]
+    (λ r. (claims ≡ []) × (Refused refusal ≡ Refused r) × (new ≡ g)) (honest_case g call claims (Refused refusal) new s)) [ inl p ↦ performs_refuses call g claims refusal new p.1 | inr r ↦ inl r.2.2 ]
 
 -- ---- events of the world
 
 happens_refuses : (event : Event) (w : World) (refusal : Refusal) (v : World)
     → ((n : ℕ) (call : Call) → event ≡ OnGuest n call → ⊥) → Happens event w (Refused refusal) v
     → v ≡ w
-happens_refuses (Plug size) w refusal v other s = plugs w.spares s
-  where
-    plugs : (spares : List Bool) → PlugsIn size spares w (Refused refusal) v
-        → v ≡ w
-    plugs [] s = absurd s
-    plugs (paced ∷ rest) (inl none) = none.1
-    plugs (paced ∷ rest) (inr p) = not_this refusal _ p.3 refl
+happens_refuses (Plug size) w refusal v other s = plugs w.spares s where
+  plugs : (spares : List Bool) → PlugsIn size spares w (Refused refusal) v → v ≡ w
+  plugs [] s = absurd s
+  plugs (paced ∷ rest) (inl none) = none.1
+  plugs (paced ∷ rest) (inr p) = not_this refusal _ p.3 refl
 happens_refuses (Unplug n) w refusal v other s = not_this refusal _ s.0 refl
-happens_refuses (Restart n) w refusal v other s =
-    elim (match_cases (guest_at w.guests n) ⊥
+happens_refuses (Restart n) w refusal v other s = elim (match_cases (guest_at w.guests n) ⊥
     (λ g. (Refused refusal ≡ Done) × (v ≡ put_guest n (Some (after_restart g)) w)) s) [
       | inl none ↦ absurd none.1
       | inr g ↦ not_this refusal _ g.2.0 refl

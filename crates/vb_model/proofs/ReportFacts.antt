@@ -44,9 +44,8 @@ no_block_of_four : maximal_free_blocks askew ≡ block 18 1 ∷ block 20 1 ∷ [
 no_block_of_four = refl
 
 -- a page at any other place is in no free block
-no_other_place : maximal_free_blocks
-    (Reserved ∷ Used ∷ Giving ∷ Lent ∷ Taking ∷ Stranded ∷ Reporting ∷ FreePlace ∷ []) ≡ block 7 0
-    ∷ []
+no_other_place : maximal_free_blocks (Reserved
+    ∷ Used ∷ Giving ∷ Lent ∷ Taking ∷ Stranded ∷ Reporting ∷ FreePlace ∷ []) ≡ block 7 0 ∷ []
 no_other_place = refl
 
 nothing_free : maximal_free_blocks (replicate 32 Lent) ≡ []
@@ -83,17 +82,14 @@ past_the_last_page = refl
 
 -- any wholly free block of the order is held from then on, among the others by rising start
 abbrev holding : List Block → List Place → Guest
-holding held places =
-    record ready {
-      held = held;
-      places = replicate 16 Reserved
-          ++ (places ++ replicate 40 FreePlace);
-    }
+holding held places = record ready {
+  held = held;
+  places = replicate 16 Reserved ++ (places ++ replicate 40 FreePlace);
+}
 
 allocated : HonestStep
     (holding (block 16 0 ∷ block 22 1 ∷ []) (Used ∷ replicate 5 FreePlace ++ (Used ∷ Used ∷ [])))
-    (Alloc 0 1) [] (Page 18)
-    (holding (block 16 0 ∷ block 18 1 ∷ block 22 1 ∷ [])
+    (Alloc 0 1) [] (Page 18) (holding (block 16 0 ∷ block 18 1 ∷ block 22 1 ∷ [])
     (Used ∷ FreePlace ∷ Used ∷ Used ∷ FreePlace ∷ FreePlace ∷ Used ∷ Used ∷ []))
 allocated = (refl, (18, refl, refl, refl))
 
@@ -144,8 +140,7 @@ none_from_65_on = refl
 -- a hole at page 37 leaves blocks of orders 4, 3, 2, 0, 1 and 4: just those of order 4 are offered
 abbrev holed : Guest
 holed = record ready {
-  places = replicate 16 Reserved
-      ++ (replicate 21 FreePlace ++ (Used ∷ replicate 26 FreePlace));
+  places = replicate 16 Reserved ++ (replicate 21 FreePlace ++ (Used ∷ replicate 26 FreePlace));
 }
 
 no_small_blocks : reported_blocks holed 0 ≡ block 16 4 ∷ block 48 4 ∷ []
@@ -170,10 +165,8 @@ forty_eight = request 0 (range_with_len 16 48) 0
 
 abbrev reporting : Guest
 reporting = record ready {
-  places = replicate 16 Reserved
-      ++ replicate 48 Reporting;
-  report =
-      record { posted = forty_eight ∷ []; taken = []; done = [] };
+  places = replicate 16 Reserved ++ replicate 48 Reporting;
+  report = record { posted = forty_eight ∷ []; taken = []; done = [] };
 }
 
 abbrev two_out : Requests
@@ -185,13 +178,10 @@ no_head_out = record { new = refl; least = λ h l. absurd (omega arith) }
 reported : HonestStep ready (Report 0) [] (Posted 0 48) reporting
 reported = (refl, (0, no_head_out, refl, refl))
 
-reported_from_17 : HonestStep ready (Report 17) [] (Posted 0 32)
-    (record ready {
-      places = replicate 16 Reserved
-          ++ (replicate 16 FreePlace ++ replicate 32 Reporting);
-      report =
-          record { posted = request 0 (range_with_len 32 32) 0 ∷ []; taken = []; done = [] };
-    })
+reported_from_17 : HonestStep ready (Report 17) [] (Posted 0 32) (record ready {
+  places = replicate 16 Reserved ++ (replicate 16 FreePlace ++ replicate 32 Reporting);
+  report = record { posted = request 0 (range_with_len 32 32) 0 ∷ []; taken = []; done = [] };
+})
 reported_from_17 = (refl, (0, no_head_out, refl, refl))
 
 -- heads of other kinds are no matter

@@ -56,9 +56,8 @@ no_flag page l = get_or-replicate 64 page false false (omega (arith, l))
 scribbled : HonestStep before (Scribble 17 0 (1 ∷ [])) (Gave 20 ∷ []) Done marked
 scribbled = search (arith, no_flag)
 
-all_that_is_said : (reply : Reply) (new : Guest)
-    → HonestStep before (Scribble 17 0 (1 ∷ [])) (Gave 20 ∷ []) reply new
-    → (reply ≡ Done) × (new ≡ record marked { contents = new.contents })
+all_that_is_said : (reply : Reply) (new : Guest) → HonestStep before (Scribble 17 0 (1 ∷ []))
+    (Gave 20 ∷ []) reply new → (reply ≡ Done) × (new ≡ record marked { contents = new.contents })
 all_that_is_said reply new s = (s.1.answered, s.1.memory)
 
 -- any bytes may be left, in any page
@@ -83,8 +82,7 @@ after = record (backed (Some 13 ∷ Some 20 ∷ [])) {
   rogue = true;
   status = 143;
   places = replicate 64 Lent;
-  ballooned = replicate 16 false
-      ++ (true ∷ replicate 47 false);
+  ballooned = replicate 16 false ++ (true ∷ replicate 47 false);
 }
 
 no_reserved_flag : (page : ℕ) → page < 16 → is_ballooned after.ballooned page ≡ false
@@ -103,10 +101,9 @@ frames_of_an_initialisation : pages_to_back (Init 0x100000027) (record after { s
     ≡ range_with_len 0 13
 frames_of_an_initialisation = refl
 
-no_other_call_claims : map (λ call. pages_to_back call after)
-    (Reset ∷ Alloc 0 0 ∷ Free 0 18 0 ∷ Read 18 0 1 ∷ Inflate 1 ∷ Deflate 1 ∷ Oom 1 ∷ Report 0
-    ∷ Stats ∷ Reap 0 ∷ Take 0 ∷ Work ∷ Finish 0 0 ∷ Sweep 18 ∷ Ask ∷ SetTarget 1 ∷ [])
-    ≡ replicate 16 []
+no_other_call_claims : map (λ call. pages_to_back call after) (Reset
+    ∷ Alloc 0 0 ∷ Free 0 18 0 ∷ Read 18 0 1 ∷ Inflate 1 ∷ Deflate 1 ∷ Oom 1 ∷ Report 0 ∷ Stats
+    ∷ Reap 0 ∷ Take 0 ∷ Work ∷ Finish 0 0 ∷ Sweep 18 ∷ Ask ∷ SetTarget 1 ∷ []) ≡ replicate 16 []
 no_other_call_claims = refl
 
 abbrev Same : ℕ → ℕ → Type 0
@@ -226,8 +223,7 @@ abbrev holding : Guest
 holding = record after { places = replicate 64 Used }
 
 abbrev with_frames : List (Option ℕ) → Guest
-with_frames frames =
-    record holding { frames = replicate 16 None ++ (Some 13 ∷ Some 20 ∷ frames) }
+with_frames frames = record holding { frames = replicate 16 None ++ (Some 13 ∷ Some 20 ∷ frames) }
 
 frame_of_another_page : (reply : Reply) → RogueStep holding (Write 18 0 (1 ∷ [])) (Gave 3 ∷ []) reply
     (with_frames (None ∷ Some 3 ∷ replicate 44 None)) → ⊥

@@ -19,9 +19,8 @@ rogue = record ready {
 }
 
 -- a write on a full host is refused, and changes nothing
-full_host : (reply : Reply) (new : Guest)
-    → RogueStep rogue (Write 18 0 (1 ∷ [])) (GaveNoFrame ∷ []) reply new
-    → (reply ≡ Refused NoFrame) × (new ≡ rogue)
+full_host : (reply : Reply) (new : Guest) → RogueStep rogue (Write 18 0 (1 ∷ [])) (GaveNoFrame
+    ∷ []) reply new → (reply ≡ Refused NoFrame) × (new ≡ rogue)
 full_host reply new s = (s.frames.0, s.refused NoFrame s.frames.0)
 
 -- it isn't done without a frame, and one that is refused before claims none
@@ -51,14 +50,12 @@ failed_alone : (new : Guest) → RogueStep rogue (Reap 1) [] (Refused RingBroken
 failed_alone new s = s.refused RingBroken refl
 
 -- once more, and nothing else is set
-needs_reset_still : (new : Guest)
-    → RogueStep (record rogue { status = 79 }) (Take 0) [] (Refused (Broken 9)) new
-    → new ≡ record rogue { status = 79 }
+needs_reset_still : (new : Guest) → RogueStep (record rogue { status = 79 })
+    (Take 0) [] (Refused (Broken 9)) new → new ≡ record rogue { status = 79 }
 needs_reset_still new s = s.refused (Broken 9) refl
 
-failed_still : (new : Guest)
-    → RogueStep (record rogue { status = 143 }) (Reap 1) [] (Refused RingBroken) new
-    → new ≡ record rogue { status = 143 }
+failed_still : (new : Guest) → RogueStep (record rogue { status = 143 })
+    (Reap 1) [] (Refused RingBroken) new → new ≡ record rogue { status = 143 }
 failed_still new s = s.refused RingBroken refl
 
 -- others leave all as it was
@@ -76,9 +73,8 @@ thirteen = Gave 0 ∷ Gave 1 ∷ Gave 2 ∷ Gave 3 ∷ Gave 4 ∷ Gave 5 ∷ Gav
     ∷ Gave 10 ∷ Gave 11 ∷ Gave 12 ∷ []
 
 abbrev first_thirteen : List (Option ℕ)
-first_thirteen =
-    Some 0 ∷ Some 1 ∷ Some 2 ∷ Some 3 ∷ Some 4 ∷ Some 5 ∷ Some 6 ∷ Some 7 ∷ Some 8 ∷ Some 9
-    ∷ Some 10 ∷ Some 11 ∷ Some 12 ∷ replicate 51 None
+first_thirteen = Some 0 ∷ Some 1 ∷ Some 2 ∷ Some 3 ∷ Some 4
+    ∷ Some 5 ∷ Some 6 ∷ Some 7 ∷ Some 8 ∷ Some 9 ∷ Some 10 ∷ Some 11 ∷ Some 12 ∷ replicate 51 None
 
 abbrev told_much : Guest
 told_much = record rogue {
@@ -91,8 +87,7 @@ told_much = record rogue {
 }
 
 features_refused : (new : Guest)
-    → RogueStep told_much (Init 1) thirteen (Refused VersionMissing) new
-    → new ≡ record told_much {
+    → RogueStep told_much (Init 1) thirteen (Refused VersionMissing) new → new ≡ record told_much {
       status = 131;
       features = 1;
       ballooned = replicate 64 false;
@@ -116,12 +111,10 @@ feature_not_offered : (new : Guest)
 feature_not_offered new s = s.refused FeatureNotOffered refl
 
 -- for want of a frame or of memory nothing is changed
-no_frame_to_start : (new : Guest)
-    → RogueStep told_much (Init 0x100000027) (Gave 0 ∷ GaveNoFrame ∷ []) (Refused NoFrame) new
-    → new ≡ told_much
+no_frame_to_start : (new : Guest) → RogueStep told_much (Init 0x100000027) (Gave 0
+    ∷ GaveNoFrame ∷ []) (Refused NoFrame) new → new ≡ told_much
 no_frame_to_start new s = s.refused NoFrame refl
 
-no_memory_to_start : (new : Guest)
-    → RogueStep told_much (Init 0x100000027) (Gave 0 ∷ GaveNoMemory ∷ []) (Refused NoMemory) new
-    → new ≡ told_much
+no_memory_to_start : (new : Guest) → RogueStep told_much (Init 0x100000027) (Gave 0
+    ∷ GaveNoMemory ∷ []) (Refused NoMemory) new → new ≡ told_much
 no_memory_to_start new s = s.refused NoMemory refl

@@ -15,19 +15,17 @@ reserved_is Reserved e = refl
 reserved_is _ e = absurd cc
 
 pub honest_unreserved : (g : Guest) → IsConsistent g → IsOrderly g → HasNoReservedBallooned g
-honest_unreserved g c o page l = at_reserved place
-  where
-    place : place_of g.places page ≡ Reserved
-    place =
-        elim (cases_lt page g.config.pages) [
-          | inl there ↦ reserved_is (place_of g.places page)
-              (o.unreserved page there ∙ lt-ltb page (reserved_pages g.config.queue_size) l)
-          | inr past ↦ get_or_past g.places page Reserved
-              (let e : length g.places ≡ g.config.pages = o.tabled in omega arith)
-        ]
+honest_unreserved g c o page l = at_reserved place where
+  place : place_of g.places page ≡ Reserved
+  place = elim (cases_lt page g.config.pages) [
+    | inl there ↦ reserved_is (place_of g.places page)
+        (o.unreserved page there ∙ lt-ltb page (reserved_pages g.config.queue_size) l)
+    | inr past ↦ get_or_past g.places page Reserved
+        (let e : length g.places ≡ g.config.pages = o.tabled in omega arith)
+  ]
 
-    at_reserved : place_of g.places page ≡ Reserved → is_ballooned g.ballooned page ≡ false
-    at_reserved e = grind (arith, naming-all page g.inflate, naming-all page g.deflate)
+  at_reserved : place_of g.places page ≡ Reserved → is_ballooned g.ballooned page ≡ false
+  at_reserved e = grind (arith, naming-all page g.inflate, naming-all page g.deflate)
 
 -- of the rogue guests
 abbrev pub AllUnreserved : World → Type 0

@@ -2,15 +2,14 @@
 use Rattle.std.proofs.Common.{◌≡◌, ℕ, List, [], ◌∷◌, true, false, refl, ap, arith, length}
 use Rattle.std.specs.Prelude.{Option, Some, None, unwrap_or}
 use Rattle.vb_model.specs.declared.calls.Call.TheVariants.{Ask, Init, Reset, Work, SetTarget, Write}
-use Rattle.vb_model.specs.GuestRun.{Entry, Called, Looked, EntryStep, IsOwnEntry, AreOwn, InOneLife}
-use Rattle.vb_model.specs.declared.calls.Actor.TheVariants.{Balancer, Processor}
-use Rattle.vb_model.{specs.declared.calls.Call.TheVariants.Scribble, specs.Guest.Guest}
-use Rattle.vb_model.{specs.declared.calls.Claim.Claim, specs.declared.calls.Claim.TheVariants.Gave}
-use Rattle.vb_model.{specs.declared.replies.Reply.Reply, specs.World.{World, made}}
+use Rattle.vb_model.specs.{declared.calls.Call.TheVariants.Scribble, GuestRun.{Entry, Called}}
+use Rattle.vb_model.specs.GuestRun.{Looked, EntryStep, IsOwnEntry, AreOwn, InOneLife, Alone}
+use Rattle.vb_model.specs.{declared.calls.Actor.TheVariants.{Balancer, Processor}, Guest.Guest}
+use Rattle.vb_model.specs.declared.calls.Claim.{Claim, TheVariants.Gave}
+use Rattle.vb_model.specs.{declared.replies.Reply.Reply, World.{World, made}}
 use Rattle.vb_model.specs.declared.replies.Reply.TheVariants.{Done, Idle, Frames, Targets, Refused}
-use Rattle.vb_model.specs.declared.replies.Refusal.TheVariants.{OutOfRam, Short}
-use Rattle.vb_model.{specs.Run.{History, Run, Steps, guest_in, last_world}, specs.GuestRun.Alone}
-use Rattle.vb_model.proofs.Samples.{ready, down}
+use Rattle.vb_model.specs.{declared.replies.Refusal.TheVariants.{OutOfRam, Short}, Run.History}
+use Rattle.vb_model.{specs.Run.{Run, Steps, guest_in, last_world}, proofs.Samples.{ready, down}}
 use Rattle.vb_model.specs.declared.calls.Event.TheVariants.{Unplug, Restart, Guest as OnGuest}
 use Rattle.vb_model.specs.declared.calls.Event.TheVariants.{Balance, Frames as CountFrames}
 
@@ -28,14 +27,12 @@ counted frames = Frames 0 frames
 nothing_happens : Run 64 [] (record { first = world 64; events = []; replies = []; after = [] })
 nothing_happens = (refl, tt)
 
-one_event : Run 64 []
-    (record {
-      first = world 64;
-      events = CountFrames ∷ [];
-      replies = counted 64
-          ∷ [];
-      after = world 64 ∷ [];
-    })
+one_event : Run 64 [] (record {
+  first = world 64;
+  events = CountFrames ∷ [];
+  replies = counted 64 ∷ [];
+  after = world 64 ∷ [];
+})
 one_event = (refl, ((refl, refl), tt))
 
 from_another_world : Run 64 [] (record { first = world 63; events = []; replies = []; after = [] })
@@ -67,8 +64,7 @@ at g = record { frames = 64; guests = None ∷ Some g ∷ []; spares = []; vacat
 abbrev two_events : History
 two_events = record {
   first = world 64;
-  events = CountFrames ∷ CountFrames
-      ∷ [];
+  events = CountFrames ∷ CountFrames ∷ [];
   replies = [];
   after = at down ∷ at ready ∷ [];
 }
@@ -158,8 +154,7 @@ scribble_refused = (Processor 1 0, [], tt, refl)
 abbrev aimed : World
 aimed = record {
   frames = 64;
-  guests = Some (record ready { target = 28 })
-      ∷ Some (record ready { target = 5 }) ∷ [];
+  guests = Some (record ready { target = 28 }) ∷ Some (record ready { target = 5 }) ∷ [];
   spares = [];
   vacated = None;
 }
@@ -229,8 +224,7 @@ unplugged l = l.1 refl
 -- a life goes on over an initialisation, a reset and a scribble, and over balances
 a_start_in_a_life : InOneLife 1 (OnGuest 1 (Init 0) ∷ OnGuest 1 Reset
     ∷ OnGuest 1 (Scribble 0 0 []) ∷ [])
-a_start_in_a_life =
-    ((λ e. cc), (λ e. cc), ((λ e. cc), (λ e. cc), ((λ e. cc), (λ e. cc), tt)))
+a_start_in_a_life = ((λ e. cc), (λ e. cc), ((λ e. cc), (λ e. cc), ((λ e. cc), (λ e. cc), tt)))
 
 a_balance_in_a_life : InOneLife 1 (Balance 0 ∷ [])
 a_balance_in_a_life = ((λ e. cc), (λ e. cc), tt)

@@ -2,17 +2,16 @@
 -- its frames, what its pages hold and what reads give, of driver and device, and of faults.
 use Rattle.std.proofs.Common.{◌≡◌, ℕ, zero, suc, true, false, List, [], ◌∷◌, ◌++◌, replicate, refl}
 use Rattle.std.{proofs.Common.{inl, inr, arith}, specs.Prelude.{Option, Some, None}}
-use Rattle.vb_model.specs.declared.calls.Call.TheVariants.{Read, Reap, Reset, Stats, Sweep, Take}
-use Rattle.vb_model.{specs.declared.places.Place.Place, specs.declared.calls.Call.Call}
-use Rattle.vb_model.specs.declared.places.Place.TheVariants.{Giving, Lent, Taking}
-use Rattle.vb_model.{specs.declared.calls.Actor.TheVariants.Processor, specs.Guest.{Guest, fresh}}
-use Rattle.vb_model.specs.declared.calls.Call.TheVariants.{Work, Write}
-use Rattle.vb_model.specs.declared.replies.Refusal.TheVariants.{RingBroken, Broken, NoFrame}
-use Rattle.vb_model.{specs.declared.replies.Reply.Reply, specs.Requests.{Request, Requests}}
-use Rattle.vb_model.specs.declared.replies.Reply.TheVariants.{Done, Idle, ReadBytes, Swept, Refused}
-use Rattle.vb_model.{specs.GuestRun.{Entry, Called}, specs.Histories.IsSafeCourse}
-use Rattle.vb_model.specs.Courses.{Course, StaysHeld, StaysOrLoses, ReadsGiveLastWrites}
 use Rattle.vb_model.proofs.Samples.{ready, down, untold, page_16_at, request}
+use Rattle.vb_model.specs.Courses.{Course, StaysHeld, StaysOrLoses, ReadsGiveLastWrites}
+use Rattle.vb_model.specs.{Guest.{Guest, fresh}, GuestRun.{Entry, Called}, Histories.IsSafeCourse}
+use Rattle.vb_model.specs.{Requests.{Request, Requests}, declared.calls.Actor.TheVariants.Processor}
+use Rattle.vb_model.specs.declared.calls.Call.{Call, TheVariants.{Read, Reap, Reset, Stats, Sweep}}
+use Rattle.vb_model.specs.declared.{calls.Call.TheVariants.{Take, Work, Write}, places.Place.Place}
+use Rattle.vb_model.specs.declared.places.Place.TheVariants.{Giving, Lent, Taking}
+use Rattle.vb_model.specs.declared.replies.Refusal.TheVariants.{RingBroken, Broken, NoFrame}
+use Rattle.vb_model.specs.declared.replies.Reply.{Reply, TheVariants.{Done, Idle, ReadBytes, Swept}}
+use Rattle.vb_model.specs.declared.replies.Reply.TheVariants.{Refused}
 use Rattle.vb_model.specs.declared.places.Place.TheVariants.{Free as FreePlace, Used, Reserved}
 
 -- the guest's own call
@@ -28,8 +27,7 @@ abbrev pub stands : Guest → Course
 stands g = record { first = g; entries = []; after = [] }
 
 abbrev pub goes : Guest → Call → Reply → Guest → Course
-goes g call reply new =
-    record { first = g; entries = made call reply ∷ []; after = new ∷ [] }
+goes g call reply new = record { first = g; entries = made call reply ∷ []; after = new ∷ [] }
 
 -- another's event, and then a call
 abbrev later : Guest → Call → Reply → Guest → Course
@@ -85,45 +83,38 @@ SameFrame a b = a ≡ b
 
 frame_lost : IsSafeCourse
     (goes (used_with (Some 5) [] ready) (Sweep 16) (Swept true) (used_with None [] ready)) → ⊥
-frame_lost s = let e : SameFrame None (Some 5) =
-    s.keeps_frame 0 16 5 (used_with (Some 5) [] ready) (used_with None [] ready) refl refl refl refl
-    refl in cc
+frame_lost s = let e : SameFrame None (Some 5) = s.keeps_frame 0 16 5
+    (used_with (Some 5) [] ready) (used_with None [] ready) refl refl refl refl refl in cc
 
 other_frame : IsSafeCourse (goes (used_with (Some 5) [] ready) (Write 16 0 (1 ∷ [])) Done
     (used_with (Some 6) [] ready)) → ⊥
-other_frame s = let e : SameFrame (Some 6) (Some 5) =
-    s.keeps_frame 0 16 5 (used_with (Some 5) [] ready) (used_with (Some 6) [] ready) refl refl refl
-    refl refl in cc
+other_frame s = let e : SameFrame (Some 6) (Some 5) = s.keeps_frame 0 16 5
+    (used_with (Some 5) [] ready) (used_with (Some 6) [] ready) refl refl refl refl refl in cc
 
 -- by another's event
-frame_taken : IsSafeCourse
-    (record {
-      first = used_with (Some 5) [] ready;
-      entries = None ∷ [];
-      after = used_with None [] ready ∷ [];
-    }) → ⊥
-frame_taken s = let e : SameFrame None (Some 5) =
-    s.keeps_frame 0 16 5 (used_with (Some 5) [] ready) (used_with None [] ready) refl refl refl refl
-    refl in cc
+frame_taken : IsSafeCourse (record {
+  first = used_with (Some 5) [] ready;
+  entries = None ∷ [];
+  after = used_with None [] ready ∷ [];
+}) → ⊥
+frame_taken s = let e : SameFrame None (Some 5) = s.keeps_frame 0 16 5
+    (used_with (Some 5) [] ready) (used_with None [] ready) refl refl refl refl refl in cc
 
 -- of a guest that is down, at once and later; over a reset
 frame_lost_while_down : IsSafeCourse
     (goes (used_with (Some 5) [] down) (Sweep 16) (Swept true) (used_with None [] down)) → ⊥
-frame_lost_while_down s = let e : SameFrame None (Some 5) =
-    s.keeps_frame 0 16 5 (used_with (Some 5) [] down) (used_with None [] down) refl refl refl refl
-    refl in cc
+frame_lost_while_down s = let e : SameFrame None (Some 5) = s.keeps_frame 0 16 5
+    (used_with (Some 5) [] down) (used_with None [] down) refl refl refl refl refl in cc
 
 frame_lost_later : IsSafeCourse
     (later (used_with (Some 5) [] down) (Sweep 16) (Swept true) (used_with None [] down)) → ⊥
-frame_lost_later s = let e : SameFrame None (Some 5) =
-    s.keeps_frame 1 16 5 (used_with (Some 5) [] down) (used_with None [] down) refl refl refl refl
-    refl in cc
+frame_lost_later s = let e : SameFrame None (Some 5) = s.keeps_frame 1 16 5
+    (used_with (Some 5) [] down) (used_with None [] down) refl refl refl refl refl in cc
 
 frame_lost_by_a_reset : IsSafeCourse
     (goes (used_with (Some 5) [] ready) Reset Done (used_with None [] down)) → ⊥
-frame_lost_by_a_reset s = let e : SameFrame None (Some 5) =
-    s.keeps_frame 0 16 5 (used_with (Some 5) [] ready) (used_with None [] down) refl refl refl refl
-    refl in cc
+frame_lost_by_a_reset s = let e : SameFrame None (Some 5) = s.keeps_frame 0 16 5
+    (used_with (Some 5) [] ready) (used_with None [] down) refl refl refl refl refl in cc
 
 -- of a guest with queues of 256
 abbrev large : Guest
@@ -181,16 +172,14 @@ bytes_changed_by_refused s = not_that_byte Used
     ≡ Some (Some (Called own.2.0 (Write 16 own.0 own.1) own.2.1 Done)) = own.2.2 in cc))
 
 -- nor is another guest's write to a page of the same number, behind one of the guest's own
-bytes_changed_by_another : IsSafeCourse
-    (record {
-      first = with_byte Used (Some 5) 1;
-      entries = made (Write 16 0 (1 ∷ [])) Done ∷ None ∷ [];
-      after = with_byte Used (Some 5) 1 ∷ with_byte Used (Some 5) 2 ∷ [];
-    }) → ⊥
+bytes_changed_by_another : IsSafeCourse (record {
+  first = with_byte Used (Some 5) 1;
+  entries = made (Write 16 0 (1 ∷ [])) Done ∷ None ∷ [];
+  after = with_byte Used (Some 5) 1 ∷ with_byte Used (Some 5) 2 ∷ [];
+}) → ⊥
 bytes_changed_by_another s = nor_framed Used
     (s.keeps_contents 1 16 (with_byte Used (Some 5) 1) (with_byte Used (Some 5) 2) refl refl
-    (λ e. cc)
-    (λ own. let q : Some anothers
+    (λ e. cc) (λ own. let q : Some anothers
     ≡ Some (Some (Called own.2.0 (Write 16 own.0 own.1) own.2.1 Done)) = own.2.2 in cc))
 
 -- nor a reset
@@ -198,8 +187,7 @@ bytes_changed_by_a_reset : IsSafeCourse
     (goes (with_byte Used (Some 5) 1) Reset Done (with_byte Used (Some 5) 2)) → ⊥
 bytes_changed_by_a_reset s = nor_framed Used
     (s.keeps_contents 0 16 (with_byte Used (Some 5) 1) (with_byte Used (Some 5) 2) refl refl
-    (λ e. cc)
-    (λ own. let q : Some (made Reset Done)
+    (λ e. cc) (λ own. let q : Some (made Reset Done)
     ≡ Some (Some (Called own.2.0 (Write 16 own.0 own.1) own.2.1 Done)) = own.2.2 in cc))
 
 -- a free page holds what it did, too
@@ -207,8 +195,7 @@ bytes_of_a_free_page_changed : IsSafeCourse
     (goes (with_byte FreePlace (Some 5) 1) Work Idle (with_byte FreePlace (Some 5) 2)) → ⊥
 bytes_of_a_free_page_changed s = nor_framed FreePlace
     (s.keeps_contents 0 16 (with_byte FreePlace (Some 5) 1) (with_byte FreePlace (Some 5) 2) refl
-    refl (λ e. cc)
-    (λ own. let q : Some (made Work Idle)
+    refl (λ e. cc) (λ own. let q : Some (made Work Idle)
     ≡ Some (Some (Called own.2.0 (Write 16 own.0 own.1) own.2.1 Done)) = own.2.2 in cc))
 
 -- ---- what reads give
@@ -283,8 +270,7 @@ held_then byte zero le = (used_with (Some 5) (1 ∷ 2 ∷ []) down, refl, refl)
 held_then byte (suc zero) le = (used_with (Some 5) (1 ∷ 2 ∷ []) down, refl, refl)
 held_then byte (suc (suc zero)) le = (used_with (Some 5) (1 ∷ 2 ∷ []) down, refl, refl)
 held_then byte (suc (suc (suc zero))) le = (used_with (Some 5) (1 ∷ 2 ∷ []) down, refl, refl)
-held_then byte (suc (suc (suc (suc zero)))) le =
-    (used_with (Some 5) (1 ∷ 2 ∷ []) down, refl, refl)
+held_then byte (suc (suc (suc (suc zero)))) le = (used_with (Some 5) (1 ∷ 2 ∷ []) down, refl, refl)
 held_then byte (suc (suc (suc (suc (suc j))))) le = absurd (omega arith)
 
 last_by_law : (byte : ℕ) → ReadsGiveLastWrites (written_unseen byte) → byte ≡ 8
@@ -304,8 +290,7 @@ written_as bytes = goes (used_with (Some 5) (1 ∷ 2 ∷ []) down) (Write 16 0 (
     (used_with (Some 5) bytes down)
 
 writes_first_byte : (bytes : List ℕ) → IsSafeCourse (written_as bytes) → bytes ≡ 7 ∷ 2 ∷ []
-writes_first_byte bytes s =
-    (s.writes 0 16 0 (7 ∷ []) (used_with (Some 5) (1 ∷ 2 ∷ []) down)
+writes_first_byte bytes s = (s.writes 0 16 0 (7 ∷ []) (used_with (Some 5) (1 ∷ 2 ∷ []) down)
     (used_with (Some 5) bytes down) refl refl (Processor 0 0, [], refl)).1
 
 write_without_effect : IsSafeCourse (written_as (1 ∷ 2 ∷ [])) → ⊥
@@ -331,32 +316,25 @@ abbrev flagged : Guest → Guest
 flagged g = record g { ballooned = replicate 16 false ++ (true ∷ []); actual = 1 }
 
 ballooned_but_free : IsSafeCourse (stands (flagged (place_16 FreePlace))) → ⊥
-ballooned_but_free s =
-    elim ((s.both_agree 0 (flagged (place_16 FreePlace)) refl 16).0 refl) [
-      | inl e ↦ cc
-      | inr (inl l) ↦ omega arith
-      | inr (inr (inl l)) ↦ omega arith
-      | inr (inr (inr l)) ↦
-          omega arith
-    ]
+ballooned_but_free s = elim ((s.both_agree 0 (flagged (place_16 FreePlace)) refl 16).0 refl) [
+  | inl e ↦ cc
+  | inr (inl l) ↦ omega arith
+  | inr (inr (inl l)) ↦ omega arith
+  | inr (inr (inr l)) ↦ omega arith
+]
 
 abbrev giving_twice : Guest
 giving_twice = record (flagged (place_16 Giving)) {
-  inflate = record {
-    posted = request_16 ∷ [];
-    taken = request 1 (16 ∷ []) 0 ∷ [];
-    done = [];
-  };
+  inflate = record { posted = request_16 ∷ []; taken = request 1 (16 ∷ []) 0 ∷ []; done = [] };
 }
 
 ballooned_while_giving : IsSafeCourse (stands giving_twice) → ⊥
-ballooned_while_giving s =
-    elim ((s.both_agree 0 giving_twice refl 16).0 refl) [
-      | inl e ↦ cc
-      | inr (inl l) ↦ omega arith
-      | inr (inr (inl l)) ↦ omega arith
-      | inr (inr (inr l)) ↦ omega arith
-    ]
+ballooned_while_giving s = elim ((s.both_agree 0 giving_twice refl 16).0 refl) [
+  | inl e ↦ cc
+  | inr (inl l) ↦ omega arith
+  | inr (inr (inl l)) ↦ omega arith
+  | inr (inr (inr l)) ↦ omega arith
+]
 
 lent_but_not_ballooned : IsSafeCourse (stands (place_16 Lent)) → ⊥
 lent_but_not_ballooned s = let e : false ≡ true =
@@ -456,12 +434,10 @@ actual_too_high_later s = let e : Same 1 0 = s.actual 1 counted refl in omega ar
 -- ---- an honest guest meets a broken chain, or a broken ring
 
 broken_chain : IsSafeCourse (goes ready (Take 0) (Refused (Broken 3)) ready) → ⊥
-broken_chain s =
-    (s.not_broken 0 3 (Take 0) (Refused (Broken 3)) (Processor 0 0, [], refl)).0 refl
+broken_chain s = (s.not_broken 0 3 (Take 0) (Refused (Broken 3)) (Processor 0 0, [], refl)).0 refl
 
 broken_ring : IsSafeCourse (goes ready (Reap 0) (Refused RingBroken) ready) → ⊥
-broken_ring s =
-    (s.not_broken 0 0 (Reap 0) (Refused RingBroken) (Processor 0 0, [], refl)).1 refl
+broken_ring s = (s.not_broken 0 0 (Reap 0) (Refused RingBroken) (Processor 0 0, [], refl)).1 refl
 
 -- no call is answered so, of no queue, in no later state
 broken_chain_later : IsSafeCourse (later down (Take 4) (Refused (Broken 9)) down) → ⊥
@@ -469,5 +445,4 @@ broken_chain_later s =
     (s.not_broken 1 9 (Take 4) (Refused (Broken 9)) (Processor 0 0, [], refl)).0 refl
 
 broken_ring_later : IsSafeCourse (later down Stats (Refused RingBroken) down) → ⊥
-broken_ring_later s =
-    (s.not_broken 1 0 Stats (Refused RingBroken) (Processor 0 0, [], refl)).1 refl
+broken_ring_later s = (s.not_broken 1 0 Stats (Refused RingBroken) (Processor 0 0, [], refl)).1 refl

@@ -2,20 +2,19 @@
 use Rattle.std.proofs.Common.{◌≡◌, ℕ, true, false, List, [], ◌∷◌, ◌++◌, replicate, refl, sym, ap}
 use Rattle.std.{proofs.Common.{subst, arith, ◌≢◌, ◌∙◌, inl}, specs.Prelude.{Option, Some, None}}
 use Rattle.vb_model.specs.declared.replies.Reply.TheVariants.{Done, Frames, Idle, Page, Posted}
-use Rattle.vb_model.{specs.declared.places.Place.TheVariants.{Used, Lent}, specs.Run.History}
-use Rattle.vb_model.specs.declared.calls.Call.TheVariants.{Alloc, Inflate, Init, Reset, Sweep, Work}
-use Rattle.vb_model.{specs.declared.calls.Event.Event, specs.declared.replies.Reply.Reply}
 use Rattle.vb_model.specs.declared.replies.Reply.TheVariants.{Refused, Swept}
+use Rattle.vb_model.specs.{declared.places.Place.TheVariants.{Used, Lent}, Run.History}
+use Rattle.vb_model.specs.declared.calls.Call.TheVariants.{Alloc, Inflate, Init, Reset, Sweep, Work}
+use Rattle.vb_model.specs.declared.{calls.Event.Event, replies.Reply.Reply}
 use Rattle.vb_model.{specs.declared.replies.Refusal.TheVariants.NotReady, proofs.Changes.same_some}
-use Rattle.vb_model.{specs.Guest.{Guest, unbacked}, specs.World.{World, made, guest_at}}
-use Rattle.vb_model.{specs.HostEvents.WorldStep, specs.Histories.IsSafeCourse}
-use Rattle.vb_model.specs.GuestRun.{Entry, OwnStep, Leads, IsOwnEntry, AreOwn, InOneLife, Alone}
-use Rattle.vb_model.{specs.SafeLaws.LivesAreAlone, specs.Safe.{Safe, IsSafeOf, IsSafeRun, NoFrameTwice, part}}
-use Rattle.vb_model.proofs.Samples.{ready, down, untold, page_16_at, request}
-use Rattle.vb_model.proofs.AskedFacts.{back, giving, handed_out}
+use Rattle.vb_model.specs.{Guest.{Guest, unbacked}, World.{World, made, guest_at}}
+use Rattle.vb_model.specs.{HostEvents.WorldStep, Histories.IsSafeCourse, GuestRun.{Entry, OwnStep}}
+use Rattle.vb_model.specs.GuestRun.{Leads, IsOwnEntry, AreOwn, InOneLife, Alone}
+use Rattle.vb_model.specs.{SafeLaws.LivesAreAlone, Safe.{Safe, IsSafeOf, IsSafeRun, NoFrameTwice}}
+use Rattle.vb_model.{specs.Safe.part, proofs.Samples.{ready, down, untold, page_16_at, request}}
+use Rattle.vb_model.proofs.{AskedFacts.{back, giving, handed_out}, Performed.performed}
 use Rattle.vb_model.specs.declared.calls.Event.TheVariants.{Guest as OnGuest, Restart, Unplug}
 use Rattle.vb_model.specs.declared.calls.Event.TheVariants.{Frames as CountFrames}
-use Rattle.vb_model.proofs.Performed.{performed}
 
 -- ---- a run of no events ends where it began
 
@@ -63,16 +62,13 @@ stands g = record { first = at g; events = []; replies = []; after = [] }
 abbrev frame_5 : ℕ → Guest
 frame_5 page = record ready { frames = replicate page None ++ (Some 5 ∷ []) }
 
-two_guests : NoFrameTwice
-    (record {
-      frames = 64;
-      guests = Some (frame_5 16) ∷ None ∷ Some (frame_5 16)
-          ∷ [];
-      spares = [];
-      vacated = None;
-    }) → ⊥
-two_guests s = let e =
-    s 5 0 16 2 16 (record { guest = frame_5 16; is_there = refl; has = refl })
+two_guests : NoFrameTwice (record {
+  frames = 64;
+  guests = Some (frame_5 16) ∷ None ∷ Some (frame_5 16) ∷ [];
+  spares = [];
+  vacated = None;
+}) → ⊥
+two_guests s = let e = s 5 0 16 2 16 (record { guest = frame_5 16; is_there = refl; has = refl })
     (record { guest = frame_5 16; is_there = refl; has = refl }) in omega (arith, e.0)
 
 abbrev twice : Guest → Guest
@@ -88,13 +84,12 @@ one_guest s =
 abbrev rogue : Guest
 rogue = record (twice down) { rogue = true }
 
-frame_twice_later : IsSafeOf
-    (record {
-      first = at down;
-      events = CountFrames ∷ [];
-      replies = Frames 0 64 ∷ [];
-      after = at rogue ∷ [];
-    }) → ⊥
+frame_twice_later : IsSafeOf (record {
+  first = at down;
+  events = CountFrames ∷ [];
+  replies = Frames 0 64 ∷ [];
+  after = at rogue ∷ [];
+}) → ⊥
 frame_twice_later s =
     let e = s.no_frame_twice 1 (at rogue) refl 5 0 0 0 2
     (record { guest = rogue; is_there = refl; has = refl })
@@ -113,22 +108,16 @@ record IsOneStep (n : ℕ) (w : World) (event : Event) (reply : Reply) (v : Worl
 one_step : (n : ℕ) (w : World) (event : Event) (reply : Reply) (v : World) (g new : Guest)
     → guest_at v.guests n ≡ Some new
     → Alone n w (event ∷ []) (reply ∷ []) (v ∷ []) g → IsOneStep n w event reply v g new
-one_step n w event reply v g new at own = by own.entries own.guests own.are own.leads
-  where
-    by : (entries : List (Option Entry)) (guests : List Guest)
-        → AreOwn n w (event ∷ []) (reply ∷ []) (v ∷ []) entries guests → Leads g entries guests
-        → IsOneStep n w event reply v g new
-    by [] guests are leads = absurd are
-    by (o ∷ entries) [] are leads = absurd are
-    by (o ∷ p ∷ entries) (x ∷ guests) are leads = absurd are.2
-    by (o ∷ []) (x ∷ y ∷ guests) are leads = absurd are.2
-    by (o ∷ []) (x ∷ []) are leads =
-        let same : x ≡ new = same_some x new (sym are.1 ∙ at) in
-        record {
-          own = o;
-          is = are.0;
-          step = subst (λ (y : Guest). OwnStep g o y) same leads.0;
-        }
+one_step n w event reply v g new at own = by own.entries own.guests own.are own.leads where
+  by : (entries : List (Option Entry)) (guests : List Guest) → AreOwn n w (event ∷ []) (reply
+      ∷ []) (v ∷ []) entries guests → Leads g entries guests → IsOneStep n w event reply v g new
+  by [] guests are leads = absurd are
+  by (o ∷ entries) [] are leads = absurd are
+  by (o ∷ p ∷ entries) (x ∷ guests) are leads = absurd are.2
+  by (o ∷ []) (x ∷ y ∷ guests) are leads = absurd are.2
+  by (o ∷ []) (x ∷ []) are leads =
+      let same : x ≡ new = same_some x new (sym are.1 ∙ at) in
+      record { own = o; is = are.0; step = subst (λ (y : Guest). OwnStep g o y) same leads.0 }
 
 -- the run of one event of guest 0
 abbrev goes : Guest → Event → Reply → Guest → History
@@ -138,8 +127,7 @@ goes g event reply new =
 of_one : (g : Guest) (event : Event) (reply : Reply) (new : Guest) → event ≢ Restart 0
     → event ≢ Unplug 0 → new.rogue ≡ false → LivesAreAlone (goes g event reply new)
     → IsOneStep 0 (at g) event reply (at new) g new
-of_one g event reply new on still honest s =
-    one_step 0 (at g) event reply (at new) g new refl
+of_one g event reply new on still honest s = one_step 0 (at g) event reply (at new) g new refl
     (s 0 0 1 (at g) g new refl refl (refl, honest) (on, still, tt)).0
 
 -- a state is safe by itself
@@ -152,17 +140,16 @@ lent_but_not_ballooned s =
 
 -- a call is answered as no run of the guest's own has it, in a later life too
 not_its_own : LivesAreAlone (goes ready (OnGuest 0 Work) Done ready) → ⊥
-not_its_own s = by o.own o.is o.step
-  where
-    o : IsOneStep 0 (at ready) (OnGuest 0 Work) Done (at ready) ready ready
-    o = of_one ready (OnGuest 0 Work) Done ready (λ e. cc) (λ e. cc) refl s
+not_its_own s = by o.own o.is o.step where
+  o : IsOneStep 0 (at ready) (OnGuest 0 Work) Done (at ready) ready ready
+  o = of_one ready (OnGuest 0 Work) Done ready (λ e. cc) (λ e. cc) refl s
 
-    by : (own : Option Entry) → IsOwnEntry 0 (at ready) (OnGuest 0 Work) Done (at ready) own
-        → OwnStep ready own ready → ⊥
-    by own is step =
-        let made = subst (λ (x : Option Entry). OwnStep ready x ready) is.3 step in
-        let wrong : Done ≡ Idle = (performed Work ready is.1 Done ready made.1).1.0 in
-        cc
+  by : (own : Option Entry) → IsOwnEntry 0 (at ready) (OnGuest 0 Work) Done (at ready) own
+      → OwnStep ready own ready → ⊥
+  by own is step =
+      let made = subst (λ (x : Option Entry). OwnStep ready x ready) is.3 step in
+      let wrong : Done ≡ Idle = (performed Work ready is.1 Done ready made.1).1.0 in
+      cc
 
 abbrev restarted : History
 restarted = record {
@@ -173,46 +160,43 @@ restarted = record {
 }
 
 not_its_own_later : LivesAreAlone restarted → ⊥
-not_its_own_later s = by o.own o.is o.step
-  where
-    o : IsOneStep 0 (at down) (OnGuest 0 Work) Done (at down) down down
-    o = one_step 0 (at down) (OnGuest 0 Work) Done (at down) down down refl
-        (s 0 1 1 (at down) down down refl refl (refl, refl) ((λ e. cc), (λ e. cc), tt)).0
+not_its_own_later s = by o.own o.is o.step where
+  o : IsOneStep 0 (at down) (OnGuest 0 Work) Done (at down) down down
+  o = one_step 0 (at down) (OnGuest 0 Work) Done (at down) down down refl
+      (s 0 1 1 (at down) down down refl refl (refl, refl) ((λ e. cc), (λ e. cc), tt)).0
 
-    by : (own : Option Entry) → IsOwnEntry 0 (at down) (OnGuest 0 Work) Done (at down) own
-        → OwnStep down own down → ⊥
-    by own is step =
-        let made = subst (λ (x : Option Entry). OwnStep down x down) is.3 step in
-        let wrong : Done ≡ Refused NotReady = made.1.1 in
-        cc
+  by : (own : Option Entry) → IsOwnEntry 0 (at down) (OnGuest 0 Work) Done (at down) own
+      → OwnStep down own down → ⊥
+  by own is step =
+      let made = subst (λ (x : Option Entry). OwnStep down x down) is.3 step in
+      let wrong : Done ≡ Refused NotReady = made.1.1 in
+      cc
 
 -- another's event changes the guest
 changed_by_another : LivesAreAlone (goes ready CountFrames (Frames 0 64) down) → ⊥
-changed_by_another s = by o.own o.is o.step
-  where
-    o : IsOneStep 0 (at ready) CountFrames (Frames 0 64) (at down) ready down
-    o = of_one ready CountFrames (Frames 0 64) down (λ e. cc) (λ e. cc) refl s
+changed_by_another s = by o.own o.is o.step where
+  o : IsOneStep 0 (at ready) CountFrames (Frames 0 64) (at down) ready down
+  o = of_one ready CountFrames (Frames 0 64) down (λ e. cc) (λ e. cc) refl s
 
-    by : (own : Option Entry) → own ≡ None → OwnStep ready own down → ⊥
-    by own is step =
-        let same : down ≡ ready = subst (λ (x : Option Entry). OwnStep ready x down) is step in
-        let e : Same 0 15 = ap (λ (g : Guest). g.status) same in
-        omega arith
+  by : (own : Option Entry) → own ≡ None → OwnStep ready own down → ⊥
+  by own is step =
+      let same : down ≡ ready = subst (λ (x : Option Entry). OwnStep ready x down) is step in
+      let e : Same 0 15 = ap (λ (g : Guest). g.status) same in
+      omega arith
 
 -- a reset that is done leaves the guest ready
 reset_but_ready : LivesAreAlone (goes ready (OnGuest 0 Reset) Done ready) → ⊥
-reset_but_ready s = by o.own o.is o.step
-  where
-    o : IsOneStep 0 (at ready) (OnGuest 0 Reset) Done (at ready) ready ready
-    o = of_one ready (OnGuest 0 Reset) Done ready (λ e. cc) (λ e. cc) refl s
+reset_but_ready s = by o.own o.is o.step where
+  o : IsOneStep 0 (at ready) (OnGuest 0 Reset) Done (at ready) ready ready
+  o = of_one ready (OnGuest 0 Reset) Done ready (λ e. cc) (λ e. cc) refl s
 
-    by : (own : Option Entry) → IsOwnEntry 0 (at ready) (OnGuest 0 Reset) Done (at ready) own
-        → OwnStep ready own ready → ⊥
-    by own is step =
-        let made = subst (λ (x : Option Entry). OwnStep ready x ready) is.3 step in
-        let status : Same 15 0 =
-        ap (λ (g : Guest). g.status) (performed Reset ready is.1 Done ready made.1).1.1 in
-        omega arith
+  by : (own : Option Entry) → IsOwnEntry 0 (at ready) (OnGuest 0 Reset) Done (at ready) own
+      → OwnStep ready own ready → ⊥
+  by own is step =
+      let made = subst (λ (x : Option Entry). OwnStep ready x ready) is.3 step in
+      let status : Same 15 0 =
+      ap (λ (g : Guest). g.status) (performed Reset ready is.1 Done ready made.1).1.1 in
+      omega arith
 
 -- a reset ends no life, and what comes behind it goes on from what it left
 a_reset_is_no_end : InOneLife 1 (OnGuest 1 Reset ∷ OnGuest 1 (Init 0) ∷ [])
@@ -229,8 +213,7 @@ named = record (page_16_at Used down) {
   frames = replicate 16 None ++ (Some 5 ∷ []);
 }
 
-is_a_step : WorldStep (at named) (OnGuest 0 (Sweep 16)) (Swept true)
-    (at (unbacked (16 ∷ []) named))
+is_a_step : WorldStep (at named) (OnGuest 0 (Sweep 16)) (Swept true) (at (unbacked (16 ∷ []) named))
 is_a_step = ([], unbacked (16 ∷ []) named, tt, (refl, (refl, refl)), refl)
 
 abbrev SameFrame : Option ℕ → Option ℕ → Type 0
@@ -245,10 +228,9 @@ isnt_safe s =
     (unbacked (16 ∷ []) named) refl refl refl refl refl ((λ e. cc), (λ e. cc), tt) in
     by life.0 life.1 life.2 life.3
   where
-    by : (entries : List (Option Entry)) (guests : List Guest)
-        → AreOwn 0 (at named) (OnGuest 0 (Sweep 16) ∷ []) (Swept true ∷ [])
-        (at (unbacked (16 ∷ []) named) ∷ []) entries guests
-        → IsSafeCourse (record { first = named; entries = entries; after = guests }) → ⊥
+    by : (entries : List (Option Entry)) (guests : List Guest) → AreOwn 0 (at named)
+        (OnGuest 0 (Sweep 16) ∷ []) (Swept true ∷ []) (at (unbacked (16 ∷ []) named) ∷ []) entries
+        guests → IsSafeCourse (record { first = named; entries = entries; after = guests }) → ⊥
     by [] guests are course = absurd are
     by (o ∷ entries) [] are course = absurd are
     by (o ∷ entries) (x ∷ guests) are course =
@@ -271,28 +253,27 @@ at_once = record {
 }
 
 handed_out_at_once : IsSafeOf at_once → ⊥
-handed_out_at_once s = by own.0 own.1 own.2 own.3
-  where
-    own : (entries : List (Option Entry)) × (guests : List Guest)
-        × AreOwn 1 (beside (back untold)) at_once.events at_once.replies at_once.after entries guests
-        × IsSafeCourse (record { first = back untold; entries = entries; after = guests })
-    own = s.lives 1 0 3 (beside (back untold)) (beside (handed_out untold)) (back untold)
-        (handed_out untold) refl refl refl refl refl ((λ e. cc), (λ e. cc), ((λ e. cc), (λ e. cc), ((λ e. cc), (λ e. cc), tt)))
+handed_out_at_once s = by own.0 own.1 own.2 own.3 where
+  own : (entries : List (Option Entry)) × (guests : List Guest)
+      × AreOwn 1 (beside (back untold)) at_once.events at_once.replies at_once.after entries guests
+      × IsSafeCourse (record { first = back untold; entries = entries; after = guests })
+  own = s.lives 1 0 3 (beside (back untold)) (beside (handed_out untold)) (back untold)
+      (handed_out untold) refl refl refl refl refl ((λ e. cc), (λ e. cc), ((λ e. cc), (λ e. cc), ((λ e. cc), (λ e. cc), tt)))
 
-    by : (entries : List (Option Entry)) (guests : List Guest)
-        → AreOwn 1 (beside (back untold)) at_once.events at_once.replies at_once.after entries guests
-        → IsSafeCourse (record { first = back untold; entries = entries; after = guests }) → ⊥
-    by [] guests are safe = absurd are
-    by (o ∷ entries) [] are safe = absurd are
-    by (o ∷ []) (x ∷ guests) are safe = absurd are.2
-    by (o ∷ p ∷ entries) (x ∷ []) are safe = absurd are.2
-    by (o ∷ p ∷ []) (x ∷ y ∷ guests) are safe = absurd are.2.2
-    by (o ∷ p ∷ q ∷ entries) (x ∷ y ∷ []) are safe = absurd are.2.2
-    by (o ∷ p ∷ q ∷ entries) (x ∷ y ∷ z ∷ guests) are safe =
-        let a = safe.told_first 16 1 2 (omega arith)
-        (back untold, giving untold, sym are.1, sym are.2.1, (λ e. cc), refl)
-        (giving untold, handed_out untold, sym are.2.1, sym are.2.2.1, (λ e. cc), refl) in
-        omega (arith, a.since, a.later, a.before)
+  by : (entries : List (Option Entry)) (guests : List Guest)
+      → AreOwn 1 (beside (back untold)) at_once.events at_once.replies at_once.after entries guests
+      → IsSafeCourse (record { first = back untold; entries = entries; after = guests }) → ⊥
+  by [] guests are safe = absurd are
+  by (o ∷ entries) [] are safe = absurd are
+  by (o ∷ []) (x ∷ guests) are safe = absurd are.2
+  by (o ∷ p ∷ entries) (x ∷ []) are safe = absurd are.2
+  by (o ∷ p ∷ []) (x ∷ y ∷ guests) are safe = absurd are.2.2
+  by (o ∷ p ∷ q ∷ entries) (x ∷ y ∷ []) are safe = absurd are.2.2
+  by (o ∷ p ∷ q ∷ entries) (x ∷ y ∷ z ∷ guests) are safe =
+      let a = safe.told_first 16 1 2 (omega arith)
+      (back untold, giving untold, sym are.1, sym are.2.1, (λ e. cc), refl)
+      (giving untold, handed_out untold, sym are.2.1, sym are.2.2.1, (λ e. cc), refl) in
+      omega (arith, a.since, a.later, a.before)
 
 -- so many entries of a list, from one on
 part_of_five : part {A = ℕ} 1 3 (5 ∷ 6 ∷ 7 ∷ 8 ∷ 9 ∷ []) ∷ part {A = ℕ} 3 4 (5 ∷ 6 ∷ 7 ∷ 8 ∷ 9 ∷ [])

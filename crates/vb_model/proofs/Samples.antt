@@ -35,21 +35,16 @@ without_oom = record ready { features = 0x100000023 }
 -- each place has another number of pages: 21 free, 2 used, 3 giving, 4 lent, 5 taking, 6 stranded,
 -- 7 reporting
 abbrev pub mixed_places : List Place
-mixed_places =
-    replicate 16 Reserved
-    ++ (replicate 21 Free
-    ++ (replicate 2 Used ++
-    (replicate 3 Giving ++
-    (replicate 4 Lent ++ (replicate 5 Taking
-    ++ (replicate 6 Stranded ++ replicate 7 Reporting))))))
+mixed_places = replicate 16 Reserved
+    ++ (replicate 21 Free ++ (replicate 2 Used ++ (replicate 3 Giving ++
+    (replicate 4 Lent ++ (replicate 5 Taking ++ (replicate 6 Stranded ++ replicate 7 Reporting))))))
 
 abbrev pub mixed : Guest
 mixed = record ready { places = mixed_places }
 
 -- the guest with page 16 at this place, and no other but reserved and free ones
 abbrev pub page_16_at : Place → Guest → Guest
-page_16_at place g =
-    record g { places = replicate 16 Reserved ++ (place ∷ replicate 47 Free) }
+page_16_at place g = record g { places = replicate 16 Reserved ++ (place ∷ replicate 47 Free) }
 
 -- a request for these pages, of which so many are visited
 abbrev pub request : ℕ → List ℕ → ℕ → Request

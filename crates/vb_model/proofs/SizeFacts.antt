@@ -1,14 +1,13 @@
 -- Worked facts of a guest of 80 pages whose queues have 256 descriptors, and so rings of two pages.
 use Rattle.std.proofs.Common.{◌≡◌, ℕ, true, false, List, [], ◌∷◌, ◌++◌, map, replicate, refl, arith}
 use Rattle.std.{specs.Prelude.{Option, Some, None, ◌+◌}, specs.List.range_with_len}
-use Rattle.vb_model.{specs.declared.calls.Call.TheVariants.Init, specs.declared.calls.Claim.Claim}
-use Rattle.vb_model.{specs.declared.calls.Claim.TheVariants.{Gave, GaveNoFrame}, specs.Life.lacking}
-use Rattle.vb_model.{specs.declared.replies.Refusal.TheVariants.NoFrame, specs.Driver.AreClaimsFor}
-use Rattle.vb_model.{specs.declared.replies.Reply.TheVariants.{Ready, Refused}, specs.Balance.spare}
+use Rattle.vb_model.specs.declared.calls.{Call.TheVariants.Init, Claim.Claim}
+use Rattle.vb_model.specs.{declared.calls.Claim.TheVariants.{Gave, GaveNoFrame}, Life.lacking}
+use Rattle.vb_model.specs.{declared.replies.Refusal.TheVariants.NoFrame, Driver.AreClaimsFor}
+use Rattle.vb_model.specs.{declared.replies.Reply.TheVariants.{Ready, Refused}, Balance.spare}
 use Rattle.vb_model.specs.Pages.{all_free, maximal_free_blocks, is_wholly_free}
-use Rattle.vb_model.{specs.Requests.BufferPosted, specs.Guest.{Guest, Config, fresh}}
-use Rattle.vb_model.{specs.Step.HonestStep, specs.Orderly.IsOrderly, specs.Rogue.IsRogueAfter}
-use Rattle.vb_model.specs.StepLaws.{HasNoReservedBallooned}
+use Rattle.vb_model.specs.{Requests.BufferPosted, Guest.{Guest, Config, fresh}, Step.HonestStep}
+use Rattle.vb_model.specs.{Orderly.IsOrderly, Rogue.IsRogueAfter, StepLaws.HasNoReservedBallooned}
 use Rattle.vb_model.specs.declared.places.Place.TheVariants.{Reserved, Free as FreePlace}
 
 abbrev large : Config
@@ -97,8 +96,7 @@ page_31_ballooned : HasNoReservedBallooned
     (record down { ballooned = replicate 31 false ++ (true ∷ replicate 48 false) }) → ⊥
 page_31_ballooned h = let e : true ≡ false = h 31 (omega arith) in cc
 
-rogue_with_page_31 : IsRogueAfter down (record down {
-  ballooned = replicate 31 false ++ (true ∷ replicate 48 false);
-  rogue = true;
-}) → ⊥
+rogue_with_page_31 : IsRogueAfter down
+    (record down { ballooned = replicate 31 false ++ (true ∷ replicate 48 false); rogue = true })
+    → ⊥
 rogue_with_page_31 s = let e : true ≡ false = s.unreserved 31 (omega arith) in cc

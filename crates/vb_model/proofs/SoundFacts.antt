@@ -105,11 +105,8 @@ reserved_and_named : Neither Reserved no_requests naming_16 false
 reserved_and_named = grind arith
 
 abbrev twice : Requests
-twice = record {
-  posted = request 1 (16 ∷ []) 0 ∷ [];
-  taken = [];
-  done = request 0 (16 ∷ []) 0 ∷ [];
-}
+twice =
+    record { posted = request 1 (16 ∷ []) 0 ∷ []; taken = []; done = request 0 (16 ∷ []) 0 ∷ [] }
 
 asked_back_twice : (Named true Taking no_requests twice true → ⊥)
     × (Named false Free no_requests twice true → ⊥)
@@ -120,14 +117,10 @@ asked_back_twice = grind arith
 held_twice : IsConsistent (record (only Used) { held = block 16 0 ∷ block 16 1 ∷ [] }) → ⊥
 held_twice c = let e : Same 2 1 = (c.pages 16).holding in omega arith
 
-named_twice : IsConsistent
-    (record (only Giving) {
-      inflate = record {
-        posted = request 0 (16 ∷ []) 0 ∷ [];
-        taken = request 1 (16 ∷ []) 0 ∷ [];
-        done = [];
-      };
-    }) → ⊥
+named_twice : IsConsistent (record (only Giving) {
+  inflate =
+      record { posted = request 0 (16 ∷ []) 0 ∷ []; taken = request 1 (16 ∷ []) 0 ∷ []; done = [] };
+}) → ⊥
 named_twice c = let e : Same 2 1 = (c.pages 16).inflating in omega arith
 
 -- ---- `actual`, and the sizes of the tables
@@ -158,8 +151,7 @@ page_of_one_byte : IsBlank
 page_of_one_byte b = let e : Same 1 4096 = b.whole 63 (omega arith) in omega arith
 
 bytes_without_a_frame : IsBlank
-    (record ready { contents = replicate 16 zero_page ++ ((1 ∷ []) ∷ replicate 47 zero_page) })
-    → ⊥
+    (record ready { contents = replicate 16 zero_page ++ ((1 ∷ []) ∷ replicate 47 zero_page) }) → ⊥
 bytes_without_a_frame b =
     let e : Same 1 4096 =
     ap (λ (bytes : List ℕ). length bytes) (b.blank 16 (omega arith) refl) ∙ length-zero_page in

@@ -32,12 +32,11 @@ abbrev last_is : ℕ → ℕ → LastStatistics
 last_is free total = record { free = Some free; total = Some total }
 
 -- an initialisation with STATS_VQ fills the first buffer; it isn't read yet
-buffer_at_init : Negotiates None 0x100000027 down Ready
-    (record down {
-      status = 15;
-      features = 0x100000027;
-      buffer = BufferPosted (record { free = 196608; total = 262144 });
-    })
+buffer_at_init : Negotiates None 0x100000027 down Ready (record down {
+  status = 15;
+  features = 0x100000027;
+  buffer = BufferPosted (record { free = 196608; total = 262144 });
+})
 buffer_at_init = (refl, refl)
 
 no_buffer_without_stats_vq : Negotiates None 0x100000025 down Ready

@@ -44,14 +44,13 @@ pub somewhere_more : (xs ys : List ℕ) → length xs ≡ length ys
     → ((i : ℕ) × (i < length xs) × (get_or ys i 0 < get_or xs i 0)) ⊎ NowhereMore xs ys
 somewhere_more [] ys l = inr (λ i q. absurd (omega arith))
 somewhere_more (x ∷ xs) [] l = absurd (omega arith)
-somewhere_more (x ∷ xs) (y ∷ ys) l =
-    elim (cases_lt y x) [
-      | inl more ↦ inl (0, omega arith, more)
-      | inr le ↦ elim (somewhere_more xs ys (omega arith)) [
-        | inl there ↦ inl (suc there.0, omega (arith, there.1), there.2)
-        | inr nowhere ↦ inr (each le nowhere)
-      ]
-    ]
+somewhere_more (x ∷ xs) (y ∷ ys) l = elim (cases_lt y x) [
+  | inl more ↦ inl (0, omega arith, more)
+  | inr le ↦ elim (somewhere_more xs ys (omega arith)) [
+    | inl there ↦ inl (suc there.0, omega (arith, there.1), there.2)
+    | inr nowhere ↦ inr (each le nowhere)
+  ]
+]
   where
     each : x ≤ y → NowhereMore xs ys → NowhereMore (x ∷ xs) (y ∷ ys)
     each le nowhere zero q = le

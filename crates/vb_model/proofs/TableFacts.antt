@@ -2,16 +2,14 @@
 -- test goes first.
 -- 79 is a ready device that needs a reset, 143 one whose driver gave up, 207 both.
 use Rattle.std.{proofs.Common.{◌≡◌, true, false, [], ◌∷◌, map, refl}, specs.Prelude.{Some, None}}
+use Rattle.vb_model.{proofs.Samples.{at, new_request}, specs.FirstRefusal.first_refusal}
+use Rattle.vb_model.specs.{Requests.Request, Tables.{is_up, is_not_ready, has_fault, most_requests}}
+use Rattle.vb_model.specs.Tables.{inflate_causes, request_causes, driver_causes, reap_causes}
+use Rattle.vb_model.specs.Tables.{take_causes, work_causes, finish_causes, sweep_causes, ask_causes}
 use Rattle.vb_model.specs.declared.replies.Refusal.TheVariants.{NotReady, NeedsReset, QueueFull}
 use Rattle.vb_model.specs.declared.replies.Refusal.TheVariants.{DeflatePending, Nothing, NoFeature}
 use Rattle.vb_model.specs.declared.replies.Refusal.TheVariants.{NoQueue, Busy, NotTaken, NotWorked}
-use Rattle.vb_model.specs.Tables.{is_up, is_not_ready, has_fault, most_requests, inflate_causes}
-use Rattle.vb_model.specs.Tables.{request_causes, driver_causes, reap_causes, take_causes}
-use Rattle.vb_model.specs.Tables.{work_causes}
 use Rattle.vb_model.specs.declared.replies.Refusal.TheVariants.{NotBallooned}
-use Rattle.vb_model.{specs.Requests.Request, specs.FirstRefusal.first_refusal}
-use Rattle.vb_model.specs.Tables.{finish_causes, sweep_causes, ask_causes}
-use Rattle.vb_model.proofs.Samples.{at, new_request}
 
 -- ---- the status
 
@@ -135,9 +133,8 @@ finishes_half_visited : first_refusal (finish_causes 0 (at 15 0) true (Some half
     ∷ Some NeedsReset ∷ []
 finishes_half_visited = refl
 
-sweeps : map (λ status. first_refusal (sweep_causes (at status 1) false))
-    (11 ∷ 15 ∷ 79 ∷ 143 ∷ 207 ∷ []) ≡ Some NotReady ∷ Some NotBallooned ∷ Some NeedsReset
-    ∷ Some NotReady ∷ Some NotReady ∷ []
+sweeps : map (λ status. first_refusal (sweep_causes (at status 1) false)) (11 ∷ 15 ∷ 79 ∷ 143 ∷ 207
+    ∷ []) ≡ Some NotReady ∷ Some NotBallooned ∷ Some NeedsReset ∷ Some NotReady ∷ Some NotReady ∷ []
 sweeps = refl
 
 sweeps_a_ballooned_page : map (λ status. first_refusal (sweep_causes (at status 1) true))

@@ -2,41 +2,38 @@
 use Rattle.std.proofs.Common.{◌≡◌, ℕ, suc, ◌+◌, ◌<◌, true, List, [], ◌∷◌, ◌++◌, length, get_or}
 use Rattle.std.{proofs.Common.{refl, sym, ap, ◌∙◌, arith}, specs.Prelude.{count_by, ◌↔◌}}
 use Rattle.vb_model.specs.Requests.{Request, all_requests, names, naming, pages_named, Kind}
-use Rattle.vb_model.specs.Telling.{told_reaped, ToldReaps, ToldPerforms, ToldStep}
-use Rattle.vb_model.{specs.declared.places.Place.Place, specs.declared.calls.Call.Call}
-use Rattle.vb_model.{specs.declared.places.Place.TheVariants.Reserved, specs.Tests.one_if}
-use Rattle.vb_model.{specs.declared.calls.Claim.Claim, specs.declared.replies.Reply.Reply}
-use Rattle.vb_model.{specs.Pages.{is_lent, is_taking, place_of}, specs.Driver.{reaped, Reaps}}
 use Rattle.vb_model.specs.Requests.{Inflating, Deflating, Reporting_free, given_away}
-use Rattle.vb_model.specs.Guest.{Guest, requests, with_requests, is_ballooned, tells_host}
-use Rattle.vb_model.{specs.Step.HonestStep, specs.Consistent.IsConsistent}
-use Rattle.vb_model.{specs.Orderly.{IsOrderly, AllRequestsSound}, specs.Telling.is_lent_or_taking}
-use Rattle.vb_model.{proofs.Tables.count_by-cons, proofs.PageSteps.{naming-cons, taking_named}}
-use Rattle.vb_model.{proofs.GuestSteps.{below_end, kept_by_reap}, proofs.OrderlySteps.kept_reap}
-use Rattle.vb_model.{proofs.Distinct.distinct_once, proofs.Counts.{inside, inside-all}}
+use Rattle.vb_model.specs.Telling.{told_reaped, ToldReaps, ToldPerforms, ToldStep}
+use Rattle.vb_model.specs.{Telling.{is_lent_or_taking, told_causes}, declared.places.Place.Place}
+use Rattle.vb_model.specs.declared.{calls.Call.Call, places.Place.TheVariants.Reserved}
+use Rattle.vb_model.specs.{Tests.one_if, declared.calls.Claim.Claim, declared.replies.Reply.Reply}
+use Rattle.vb_model.specs.{Pages.{is_lent, is_taking, place_of}, Driver.{reaped, Reaps}}
+use Rattle.vb_model.specs.{Guest.{Guest, requests, is_ballooned, tells_host}, Step.HonestStep}
+use Rattle.vb_model.specs.{Consistent.IsConsistent, Orderly.{IsOrderly, AllRequestsSound}}
+use Rattle.vb_model.proofs.{Tables.count_by-cons, PageSteps.{naming-cons, taking_named}}
+use Rattle.vb_model.proofs.{GuestSteps.{below_end, kept_by_reap}, OrderlySteps.kept_reap}
+use Rattle.vb_model.proofs.{Distinct.distinct_once, Counts.{inside, inside-all}}
+use Rattle.vb_model.specs.declared.{replies.Refusal.Refusal, calls.Call.TheVariants.{Init, Reset}}
+use Rattle.vb_model.specs.declared.calls.Call.TheVariants.{Alloc, Free, Read, Write, Scribble}
+use Rattle.vb_model.specs.declared.calls.Call.TheVariants.{Inflate, Deflate, Oom, Report, Stats}
+use Rattle.vb_model.specs.declared.calls.Call.TheVariants.{Reap, Take, Work, Finish, Sweep, Ask}
+use Rattle.vb_model.specs.{declared.calls.Call.TheVariants.SetTarget, FirstRefusal.first_refusal}
+use Rattle.vb_model.{specs.Refusals.refusal_of, proofs.Performed.{Performed, HonestCase, performed}}
+use Rattle.vb_model.proofs.Performed.{performs, honest_case, honest_step}
 use Rattle.std.specs.Prelude.{Option, MatchOption}
-use Rattle.vb_model.specs.declared.replies.Refusal.{Refusal}
-use Rattle.vb_model.specs.declared.calls.Call.TheVariants.{Init, Reset, Alloc, Free, Read, Write}
-use Rattle.vb_model.specs.declared.calls.Call.TheVariants.{Scribble, Inflate, Deflate, Oom, Report}
-use Rattle.vb_model.specs.declared.calls.Call.TheVariants.{Stats, Reap, Take, Work, Finish, Sweep}
-use Rattle.vb_model.specs.declared.calls.Call.TheVariants.{Ask, SetTarget}
-use Rattle.vb_model.specs.{FirstRefusal.first_refusal, Refusals.refusal_of, Telling.told_causes}
-use Rattle.vb_model.proofs.Performed.{Performed, HonestCase, performed, performs, honest_case}
-use Rattle.vb_model.proofs.Performed.{honest_step}
 
 -- ---- as many pages are taking as deflate requests name
 
 both_counts : (xs : List Place)
     → count_by is_lent_or_taking xs ≡ count_by is_lent xs + count_by is_taking xs
 both_counts [] = refl
-both_counts (x ∷ xs) =
-    grind (
-      arith,
-      both_counts xs,
-      count_by-cons is_lent_or_taking x xs,
-      count_by-cons is_lent x xs,
-      count_by-cons is_taking x xs,
-    )
+both_counts (x ∷ xs) = grind (
+  arith,
+  both_counts xs,
+  count_by-cons is_lent_or_taking x xs,
+  count_by-cons is_lent x xs,
+  count_by-cons is_taking x xs,
+)
 
 -- of n pages from the first one on, how many these requests name
 abbrev within : ℕ → ℕ → List Request → ℕ
@@ -50,12 +47,10 @@ within-none first (r ∷ rs) = omega (arith, within-none first rs)
 within-more : (first n : ℕ) (rs : List Request)
     → within first (suc n) rs ≡ naming first rs + within (suc first) n rs
 within-more first n [] = omega arith
-within-more first n (r ∷ rs) =
-    omega (arith, within-more first n rs, naming-cons first r rs)
+within-more first n (r ∷ rs) = omega (arith, within-more first n rs, naming-cons first r rs)
 
 taking_within : (first : ℕ) (xs : List Place) (rs : List Request)
-    → ((i : ℕ) → i < length xs
-    → one_if (is_taking (get_or xs i Reserved)) ≡ naming (first + i) rs)
+    → ((i : ℕ) → i < length xs → one_if (is_taking (get_or xs i Reserved)) ≡ naming (first + i) rs)
     → count_by is_taking xs ≡ within first (length xs) rs
 taking_within first [] rs same = sym (within-none first rs)
 taking_within first (x ∷ xs) rs same =
@@ -73,14 +68,13 @@ taking_within first (x ∷ xs) rs same =
 within_all : (n : ℕ) (rs : List Request) → AllRequestsSound rs
     → ((page : ℕ) → 0 < naming page rs → page < n) → within 0 n rs ≡ pages_named rs
 within_all n [] sound below = refl
-within_all n (r ∷ rs) sound below =
-    omega (
-      arith,
-      inside-all n r.pages (distinct_once r.pages sound.0.distinct)
-          (λ page k. below page (let one : one_if (names page r) ≡ 1 = ap one_if k in
-          omega (arith, one, naming-cons page r rs))),
-      within_all n rs sound.1 (λ page k. below page (omega (arith, k, naming-cons page r rs))),
-    )
+within_all n (r ∷ rs) sound below = omega (
+  arith,
+  inside-all n r.pages (distinct_once r.pages sound.0.distinct)
+      (λ page k. below page (let one : one_if (names page r) ≡ 1 = ap one_if k in
+      omega (arith, one, naming-cons page r rs))),
+  within_all n rs sound.1 (λ page k. below page (omega (arith, k, naming-cons page r rs))),
+)
 
 all_sound : (xs ys : List Request) → AllRequestsSound xs → AllRequestsSound ys
     → AllRequestsSound (xs ++ ys)
@@ -103,8 +97,7 @@ told_count g c o told =
     omega (
       arith,
       both_counts g.places,
-      taking_within 0 g.places rs (λ i l. sym (same i)
-          ∙ ap (λ (p : ℕ). naming p rs) (omega arith)),
+      taking_within 0 g.places rs (λ i l. sym (same i) ∙ ap (λ (p : ℕ). naming p rs) (omega arith)),
       within_all (length g.places) rs sound (λ page some. below_end g.places page
           (taking_is_unreserved (place_of g.places page) (omega (arith, some, same page)))),
     )

@@ -2,24 +2,20 @@
 -- rogue, but for a scribble.
 use Rattle.std.proofs.Common.{◌≡◌, Bool, true, false, cond, List, [], ◌∷◌, refl, ap, ◌∙◌, ◌⊎◌, inl}
 use Rattle.std.{proofs.Common.{inr, ℕ}, specs.Prelude.{Option, Some, None, MatchBool}}
-use Rattle.vb_model.specs.declared.calls.Call.TheVariants.{Init, Reset, Alloc, Free, Read, Write}
-use Rattle.vb_model.specs.declared.calls.Call.TheVariants.{Scribble, Inflate, Deflate, Oom, Report}
-use Rattle.vb_model.specs.declared.calls.Call.TheVariants.{Stats, Reap, Take, Work, Finish, Sweep}
-use Rattle.vb_model.specs.Requests.{Request, Kind, Inflating, Deflating, Reporting_free}
-use Rattle.vb_model.specs.Requests.{kind_of_queue, StatisticsBuffer, NoBuffer, BufferPosted}
-use Rattle.vb_model.specs.Requests.{BufferTaken}
-use Rattle.vb_model.specs.Device.{TakesRequest, TakesBuffer, Finishes, ReturnsBuffer, next_page}
-use Rattle.vb_model.specs.Device.{settled, used}
 use Rattle.vb_model.proofs.CallSteps.{match_cases, supplying_cases, works_cases, Idles, Visits}
-use Rattle.vb_model.specs.Rogue.{IsRogueAfter, RogueStep, Scribbled, target_after, GuestStep}
-use Rattle.vb_model.specs.Driver.{Reaps, Fills, Written, pages_needed}
-use Rattle.vb_model.specs.declared.calls.Call.TheVariants.{Ask, SetTarget}
-use Rattle.vb_model.{specs.Life.{feature_refusal, Negotiates, lacking}, specs.Requests.BufferDone}
-use Rattle.vb_model.{specs.declared.replies.Reply.TheVariants.Refused, specs.Refusals.refusal_of}
-use Rattle.vb_model.{specs.declared.replies.Refusal.Refusal, specs.declared.replies.Reply.Reply}
-use Rattle.vb_model.{specs.Step.HonestStep, specs.declared.calls.Claim.Claim}
-use Rattle.vb_model.{specs.declared.calls.Call.Call, specs.Guest.{Guest, requests}}
 use Rattle.vb_model.proofs.Performed.{Performed, Supplying, honest_case}
+use Rattle.vb_model.specs.Device.{TakesRequest, TakesBuffer, Finishes, ReturnsBuffer, next_page}
+use Rattle.vb_model.specs.{Device.{settled, used}, Driver.{Reaps, Fills, Written, pages_needed}}
+use Rattle.vb_model.specs.{Guest.{Guest, requests}, Life.{feature_refusal, Negotiates, lacking}}
+use Rattle.vb_model.specs.{Refusals.refusal_of, Requests.{Request, Kind, Inflating, Deflating}}
+use Rattle.vb_model.specs.Requests.{Reporting_free, kind_of_queue, StatisticsBuffer, NoBuffer}
+use Rattle.vb_model.specs.{Requests.{BufferPosted, BufferTaken, BufferDone}, Rogue.IsRogueAfter}
+use Rattle.vb_model.specs.{Rogue.{RogueStep, Scribbled, target_after, GuestStep}, Step.HonestStep}
+use Rattle.vb_model.specs.declared.calls.Call.{Call, TheVariants.{Init, Reset, Alloc, Free, Read}}
+use Rattle.vb_model.specs.declared.calls.Call.TheVariants.{Write, Scribble, Inflate, Deflate, Oom}
+use Rattle.vb_model.specs.declared.calls.Call.TheVariants.{Report, Stats, Reap, Take, Work, Finish}
+use Rattle.vb_model.specs.declared.calls.{Call.TheVariants.{Sweep, Ask, SetTarget}, Claim.Claim}
+use Rattle.vb_model.specs.declared.replies.{Refusal.Refusal, Reply.Reply, Reply.TheVariants.Refused}
 
 -- a guest with another target, with the same configuration, that is as honest as before, or rogue
 -- for this reason
@@ -34,12 +30,11 @@ IsScribble call = (page offset : ℕ) × (bytes : List ℕ) × (call ≡ Scribbl
 -- where these three are those of a guest that is the new one
 same_three : {Reason : Type 0} (g new changed : Guest) → new ≡ changed → changed.target ≡ g.target
     → changed.config ≡ g.config → changed.rogue ≡ g.rogue → Keeps Reason g.target g new
-same_three g new changed e t c r =
-    record {
-      aimed = ap (λ (x : Guest). x.target) e ∙ t;
-      config = ap (λ (x : Guest). x.config) e ∙ c;
-      rogue = inl (ap (λ (x : Guest). x.rogue) e ∙ r);
-    }
+same_three g new changed e t c r = record {
+  aimed = ap (λ (x : Guest). x.target) e ∙ t;
+  config = ap (λ (x : Guest). x.config) e ∙ c;
+  rogue = inl (ap (λ (x : Guest). x.rogue) e ∙ r);
+}
 
 fills_keep : {Reason : Type 0} (buffer : StatisticsBuffer) (g : Guest) (reply : Reply) (new : Guest)
     → Fills buffer g reply new → Keeps Reason g.target g new
@@ -76,9 +71,8 @@ takes_keep Inflating (r ∷ rest) g reply new s = same_three g new _ s.1 refl re
 takes_keep Deflating (r ∷ rest) g reply new s = same_three g new _ s.1 refl refl refl
 takes_keep Reporting_free (r ∷ rest) g reply new s = same_three g new _ s.1 refl refl refl
 
-works_keep : {Reason : Type 0} (g : Guest) (reply : Reply) (new : Guest)
-    → Idles g reply new ⊎ ((kind : Kind) × (page : ℕ) × Visits kind g reply new page)
-    → Keeps Reason g.target g new
+works_keep : {Reason : Type 0} (g : Guest) (reply : Reply) (new : Guest) → Idles g reply new
+    ⊎ ((kind : Kind) × (page : ℕ) × Visits kind g reply new page) → Keeps Reason g.target g new
 works_keep g reply new (inl i) = same_three g new _ i.1 refl refl refl
 works_keep g reply new (inr (Inflating, page, v)) = same_three g new _ v.1 refl refl refl
 works_keep g reply new (inr (Deflating, page, v)) = same_three g new _ v.1 refl refl refl
@@ -104,16 +98,10 @@ keeps_supplied {Reason} g new frames k =
     same : (new.rogue ≡ g.rogue) ⊎ (Reason × IsRogueAfter (record g { frames = frames }) new)
         → (new.rogue ≡ g.rogue) ⊎ (Reason × IsRogueAfter g new)
     same (inl e) = inl e
-    same (inr (why, r)) =
-        inr (
-          why,
-          record {
-            still = r.still;
-            config = r.config;
-            unreserved = r.unreserved;
-            sizes = r.sizes;
-          },
-        )
+    same (inr (why, r)) = inr (
+      why,
+      record { still = r.still; config = r.config; unreserved = r.unreserved; sizes = r.sizes },
+    )
 
 supplies_keep : {Reason : Type 0} (pages : List ℕ) (g : Guest) (claims : List Claim) (reply : Reply)
     (new : Guest) (Rest : Guest → Type 0) → Supplying pages g claims reply new Rest
@@ -126,12 +114,11 @@ supplies_keep pages g claims reply new Rest s rest =
 
 performs_keep : (call : Call) (g : Guest) (claims : List Claim) (reply : Reply) (new : Guest)
     → Performed call g claims reply new → Keeps (IsScribble call) (target_after call g.target) g new
-performs_keep (SetTarget n) g claims reply new s =
-    record {
-      aimed = ap (λ (x : Guest). x.target) s.1.1;
-      config = ap (λ (x : Guest). x.config) s.1.1;
-      rogue = inl (ap (λ (x : Guest). x.rogue) s.1.1);
-    }
+performs_keep (SetTarget n) g claims reply new s = record {
+  aimed = ap (λ (x : Guest). x.target) s.1.1;
+  config = ap (λ (x : Guest). x.config) s.1.1;
+  rogue = inl (ap (λ (x : Guest). x.rogue) s.1.1);
+}
 performs_keep Reset g claims reply new s = same_three g new _ s.1.1 refl refl refl
 performs_keep (Read page offset len) g claims reply new s = same_three g new _ s.1.1 refl refl refl
 performs_keep (Sweep page) g claims reply new s = same_three g new _ s.1.1 refl refl refl
@@ -145,10 +132,7 @@ performs_keep Stats g claims reply new s = fills_keep g.buffer g reply new s.1
 performs_keep Ask g claims reply new s = asks_keep g.buffer g reply new s.1
 performs_keep (Reap q) g claims reply new s =
     elim (match_cases (kind_of_queue q) ⊥ (λ kind. Reaps kind (requests kind g).done g reply new)
-    s.1) [
-      | inl n ↦ absurd n.1
-      | inr k ↦ reaps_keep k.0 (requests k.0 g).done g reply new k.2
-    ]
+    s.1) [ inl n ↦ absurd n.1 | inr k ↦ reaps_keep k.0 (requests k.0 g).done g reply new k.2 ]
 performs_keep (Take q) g claims reply new s =
     elim (match_cases (kind_of_queue q) (TakesBuffer g.buffer g reply new)
     (λ kind. TakesRequest kind (requests kind g).posted g reply new) s.1) [
@@ -156,24 +140,21 @@ performs_keep (Take q) g claims reply new s =
       | inr k ↦ takes_keep k.0 (requests k.0 g).posted g reply new k.2
     ]
 performs_keep Work g claims reply new s =
-    works_keep g reply new
-    (works_cases (cond g.config.paced (next_page g.inflate.taken) None)
+    works_keep g reply new (works_cases (cond g.config.paced (next_page g.inflate.taken) None)
     (cond g.config.paced (next_page g.report.taken) None) g reply new s.1)
 performs_keep (Finish q i) g claims reply new s =
     elim (match_cases (kind_of_queue q) ⊥ (λ kind. Finishes kind i g reply new) s.1) [
       | inl n ↦ absurd n.1
       | inr k ↦ finishes_keep k.0 i k.2.0 g new k.2.3
     ]
-performs_keep (Init wanted) g claims reply new s =
-    supplies_keep (lacking g) g claims reply new
+performs_keep (Init wanted) g claims reply new s = supplies_keep (lacking g) g claims reply new
     (λ m. Negotiates (feature_refusal wanted) wanted m reply new) s
     (λ m r. negotiates_keep (feature_refusal wanted) wanted m reply new r)
 performs_keep (Write page offset bytes) g claims reply new s =
     supplies_keep (pages_needed page bytes g) g claims reply new
     (λ m. Written page offset bytes m reply new) s (λ m r. same_three m new _ r.1 refl refl refl)
-performs_keep (Scribble page offset bytes) g claims reply new s =
-    supplies_keep (pages_needed page bytes g) g claims reply new (λ m. Scribbled m reply new) s
-    (λ m r. record {
+performs_keep (Scribble page offset bytes) g claims reply new s = supplies_keep
+    (pages_needed page bytes g) g claims reply new (λ m. Scribbled m reply new) s (λ m r. record {
       aimed = ap (λ (x : Guest). x.target) r.memory;
       config = r.state.config;
       rogue = inr ((page, offset, bytes, refl), r.state);
@@ -187,47 +168,45 @@ MayBeRogue g call = (g.rogue ≡ true) ⊎ IsScribble call
 pub step_keeps : (g : Guest) (call : Call) (claims : List Claim) (reply : Reply) (new : Guest)
     → GuestStep g call claims reply new
     → Keeps (MayBeRogue g call) (target_after call g.target) g new
-step_keeps g call claims reply new s = cases g.rogue refl s
-  where
-    widen : Keeps (IsScribble call) (target_after call g.target) g new
-        → Keeps (MayBeRogue g call) (target_after call g.target) g new
-    widen k = record { aimed = k.aimed; config = k.config; rogue = wider k.rogue }
-      where
-        wider : (new.rogue ≡ g.rogue) ⊎ (IsScribble call × IsRogueAfter g new)
-            → (new.rogue ≡ g.rogue) ⊎ (MayBeRogue g call × IsRogueAfter g new)
-        wider (inl e) = inl e
-        wider (inr (why, r)) = inr (inr why, r)
+step_keeps g call claims reply new s = cases g.rogue refl s where
+  widen : Keeps (IsScribble call) (target_after call g.target) g new
+      → Keeps (MayBeRogue g call) (target_after call g.target) g new
+  widen k = record { aimed = k.aimed; config = k.config; rogue = wider k.rogue } where
+    wider : (new.rogue ≡ g.rogue) ⊎ (IsScribble call × IsRogueAfter g new)
+        → (new.rogue ≡ g.rogue) ⊎ (MayBeRogue g call × IsRogueAfter g new)
+    wider (inl e) = inl e
+    wider (inr (why, r)) = inr (inr why, r)
 
-    refused : (c : Call) (refusal : Refusal) → refusal_of g c ≡ Some refusal → new ≡ g
-        → Keeps (MayBeRogue g c) (target_after c g.target) g new
-    refused (SetTarget n) refusal e k = absurd cc
-    refused (Init wanted) refusal e k = same_three g new _ k refl refl refl
-    refused Reset refusal e k = same_three g new _ k refl refl refl
-    refused (Alloc cpu order) refusal e k = same_three g new _ k refl refl refl
-    refused (Free cpu start order) refusal e k = same_three g new _ k refl refl refl
-    refused (Read page offset len) refusal e k = same_three g new _ k refl refl refl
-    refused (Write page offset bytes) refusal e k = same_three g new _ k refl refl refl
-    refused (Scribble page offset bytes) refusal e k = same_three g new _ k refl refl refl
-    refused (Inflate n) refusal e k = same_three g new _ k refl refl refl
-    refused (Deflate n) refusal e k = same_three g new _ k refl refl refl
-    refused (Oom n) refusal e k = same_three g new _ k refl refl refl
-    refused (Report from) refusal e k = same_three g new _ k refl refl refl
-    refused Stats refusal e k = same_three g new _ k refl refl refl
-    refused (Reap q) refusal e k = same_three g new _ k refl refl refl
-    refused (Take q) refusal e k = same_three g new _ k refl refl refl
-    refused Work refusal e k = same_three g new _ k refl refl refl
-    refused (Finish q i) refusal e k = same_three g new _ k refl refl refl
-    refused (Sweep page) refusal e k = same_three g new _ k refl refl refl
-    refused Ask refusal e k = same_three g new _ k refl refl refl
+  refused : (c : Call) (refusal : Refusal) → refusal_of g c ≡ Some refusal → new ≡ g
+      → Keeps (MayBeRogue g c) (target_after c g.target) g new
+  refused (SetTarget n) refusal e k = absurd cc
+  refused (Init wanted) refusal e k = same_three g new _ k refl refl refl
+  refused Reset refusal e k = same_three g new _ k refl refl refl
+  refused (Alloc cpu order) refusal e k = same_three g new _ k refl refl refl
+  refused (Free cpu start order) refusal e k = same_three g new _ k refl refl refl
+  refused (Read page offset len) refusal e k = same_three g new _ k refl refl refl
+  refused (Write page offset bytes) refusal e k = same_three g new _ k refl refl refl
+  refused (Scribble page offset bytes) refusal e k = same_three g new _ k refl refl refl
+  refused (Inflate n) refusal e k = same_three g new _ k refl refl refl
+  refused (Deflate n) refusal e k = same_three g new _ k refl refl refl
+  refused (Oom n) refusal e k = same_three g new _ k refl refl refl
+  refused (Report from) refusal e k = same_three g new _ k refl refl refl
+  refused Stats refusal e k = same_three g new _ k refl refl refl
+  refused (Reap q) refusal e k = same_three g new _ k refl refl refl
+  refused (Take q) refusal e k = same_three g new _ k refl refl refl
+  refused Work refusal e k = same_three g new _ k refl refl refl
+  refused (Finish q i) refusal e k = same_three g new _ k refl refl refl
+  refused (Sweep page) refusal e k = same_three g new _ k refl refl refl
+  refused Ask refusal e k = same_three g new _ k refl refl refl
 
-    cases : (b : Bool) → g.rogue ≡ b
-        → MatchBool b (RogueStep g call claims reply new) (HonestStep g call claims reply new)
-        → Keeps (MayBeRogue g call) (target_after call g.target) g new
-    cases true e r = record
-        { aimed = r.target; config = r.stays.config; rogue = inr (inl e, r.stays) }
-    cases false e p =
-        elim (match_cases (refusal_of g call) (Performed call g claims reply new)
-        (λ refusal. (claims ≡ []) × (reply ≡ Refused refusal) × (new ≡ g)) (honest_case g call claims reply new p)) [
-          | inl d ↦ widen (performs_keep call g claims reply new d.1)
-          | inr r ↦ refused call r.0 r.1 r.2.2
-        ]
+  cases : (b : Bool) → g.rogue ≡ b
+      → MatchBool b (RogueStep g call claims reply new) (HonestStep g call claims reply new)
+      → Keeps (MayBeRogue g call) (target_after call g.target) g new
+  cases true e r = record
+      { aimed = r.target; config = r.stays.config; rogue = inr (inl e, r.stays) }
+  cases false e p =
+      elim (match_cases (refusal_of g call) (Performed call g claims reply new)
+      (λ refusal. (claims ≡ []) × (reply ≡ Refused refusal) × (new ≡ g)) (honest_case g call claims reply new p)) [
+        | inl d ↦ widen (performs_keep call g claims reply new d.1)
+        | inr r ↦ refused call r.0 r.1 r.2.2
+      ]

@@ -2,29 +2,27 @@
 use Rattle.std.proofs.Common.{◌≡◌, ℕ, true, false, List, [], ◌∷◌, ◌++◌, map, replicate, refl, sym}
 use Rattle.std.{proofs.Common.{ap, ◌∙◌, arith}, specs.Prelude.{Bool, Option, Some, None, drop}}
 use Rattle.std.specs.List.{range_with_len}
-use Rattle.vb_model.specs.declared.places.Place.TheVariants.{Giving, Lent, Taking, Stranded}
+use Rattle.vb_model.proofs.Samples.{config, ready, untold, down, mixed_places, request, at}
+use Rattle.vb_model.{proofs.Samples.new_request, specs.Driver.contents_of, specs.FirstRefusal.◌⇒◌}
+use Rattle.vb_model.specs.Guest.{Guest, zero_page, is_ready, tells_host, frame_of, is_ballooned}
+use Rattle.vb_model.specs.{GuestRun.{Called, Leads}, Life.{feature_refusal, after_reset}}
+use Rattle.vb_model.specs.{Pages.{block_at, place_of}, Refusals.refusal_of, Requests.Request}
+use Rattle.vb_model.specs.Requests.{Requests, no_requests, IsLeastHead, given_away, BufferPosted}
+use Rattle.vb_model.specs.{Status.status_refusal, Step.{Performs, HonestStep}}
+use Rattle.vb_model.specs.Tables.{inflate_causes, request_causes, sweep_causes}
+use Rattle.vb_model.specs.declared.calls.{Actor.TheVariants.{Processor, Worker}, Call.Call}
 use Rattle.vb_model.specs.declared.calls.Call.TheVariants.{Init, Reset, Alloc, Write, Inflate}
 use Rattle.vb_model.specs.declared.calls.Call.TheVariants.{Deflate, Oom, Report, Reap, Take, Work}
+use Rattle.vb_model.specs.declared.calls.{Call.TheVariants.{Finish, Sweep}, Claim.TheVariants.Gave}
+use Rattle.vb_model.specs.declared.places.Place.{Place, TheVariants.{Giving, Lent, Taking}}
+use Rattle.vb_model.specs.declared.places.Place.TheVariants.{Stranded, Reporting}
 use Rattle.vb_model.specs.declared.replies.Refusal.TheVariants.{NotReady, NeedsReset, QueueFull}
 use Rattle.vb_model.specs.declared.replies.Refusal.TheVariants.{DeflatePending, Nothing, NoPages}
 use Rattle.vb_model.specs.declared.replies.Refusal.TheVariants.{NoFeature, NotBallooned}
-use Rattle.vb_model.specs.declared.replies.Reply.TheVariants.{Done, Ready, Page, Posted, Reaped}
-use Rattle.vb_model.specs.Requests.{Request, Requests, no_requests, IsLeastHead, given_away}
-use Rattle.vb_model.{specs.declared.places.Place.Place, specs.declared.calls.Call.Call}
-use Rattle.vb_model.{specs.declared.places.Place.TheVariants.Reporting, specs.Requests.BufferPosted}
-use Rattle.vb_model.specs.declared.calls.Actor.TheVariants.{Processor, Worker}
-use Rattle.vb_model.{specs.declared.calls.Call.TheVariants.{Finish, Sweep}, specs.FirstRefusal.◌⇒◌}
-use Rattle.vb_model.{specs.declared.calls.Claim.TheVariants.Gave, specs.Pages.{block_at, place_of}}
 use Rattle.vb_model.specs.declared.replies.Refusal.TheVariants.{VersionMissing}
+use Rattle.vb_model.specs.declared.replies.Reply.TheVariants.{Done, Ready, Page, Posted, Reaped}
 use Rattle.vb_model.specs.declared.replies.Reply.TheVariants.{Taken, Finished, Swept, Refused}
-use Rattle.vb_model.specs.Guest.{Guest, zero_page, is_ready, tells_host, frame_of, is_ballooned}
-use Rattle.vb_model.{specs.Status.status_refusal, specs.Refusals.refusal_of}
-use Rattle.vb_model.specs.Tables.{inflate_causes, request_causes, sweep_causes}
-use Rattle.vb_model.{specs.Driver.contents_of, specs.Life.{feature_refusal, after_reset}}
-use Rattle.vb_model.{specs.Step.{Performs, HonestStep}, specs.GuestRun.{Called, Leads}}
-use Rattle.vb_model.proofs.Samples.{config, ready, untold, down, mixed_places, request}
 use Rattle.vb_model.specs.declared.places.Place.TheVariants.{Reserved, Free as FreePlace, Used}
-use Rattle.vb_model.proofs.Samples.{at, new_request}
 
 abbrev Same : ℕ → ℕ → Type 0
 Same a b = a ≡ b
@@ -72,8 +70,7 @@ told_by_bit_0 = refl
 -- ---- pages are asked back: pages 16 to 18 are lent, and 16 and 17 are above the target
 
 abbrev places : Place → Place → Place → List Place
-places of_16 of_17 of_18 =
-    replicate 16 Reserved ++ (of_16 ∷ of_17 ∷ of_18 ∷ replicate 45 FreePlace)
+places of_16 of_17 of_18 = replicate 16 Reserved ++ (of_16 ∷ of_17 ∷ of_18 ∷ replicate 45 FreePlace)
 
 abbrev flags : Bool → Bool → List Bool
 flags of_16_and_17 of_18 =
@@ -81,8 +78,7 @@ flags of_16_and_17 of_18 =
 
 abbrev three_lent : Guest → Guest
 three_lent g =
-    record g
-    { places = places Lent Lent Lent; ballooned = flags true true; actual = 3; target = 1 }
+    record g { places = places Lent Lent Lent; ballooned = flags true true; actual = 3; target = 1 }
 
 abbrev both : Request
 both = request 0 (16 ∷ 17 ∷ []) 0
@@ -97,8 +93,7 @@ abbrev done : Request → Requests
 done r = record { posted = []; taken = []; done = r ∷ [] }
 
 abbrev asked : Place → Guest → Guest
-asked place g = record (three_lent g)
-    { places = places place place Lent; deflate = posted both }
+asked place g = record (three_lent g) { places = places place place Lent; deflate = posted both }
 
 no_head_out : IsLeastHead no_requests 0
 no_head_out = record { new = refl; least = λ h l. absurd (omega arith) }
@@ -123,8 +118,7 @@ taking_when_short = (refl, (0, no_head_out, refl, refl))
 
 -- they are at no other place after either call, and not free where the guest tells the host
 abbrev NotAt : Guest → Place → Call → Type 0
-NotAt g place call =
-    (new : Guest) → HonestStep (three_lent g) call [] (Posted 0 2) new
+NotAt g place call = (new : Guest) → HonestStep (three_lent g) call [] (Posted 0 2) new
     → place_of new.places 16 ≡ place → ⊥
 
 not_taking : NotAt untold Taking (Deflate 2) × NotAt untold Taking (Oom 2)
@@ -189,8 +183,7 @@ not_handed_out_yet new s = grind arith
 -- where no other page is free
 abbrev just_these : Place → Guest → Guest
 just_these place g =
-    record (asked place g)
-    { places = replicate 16 Reserved ++ (place ∷ place ∷ replicate 46 Used) }
+    record (asked place g) { places = replicate 16 Reserved ++ (place ∷ place ∷ replicate 46 Used) }
 
 first_pages : refusal_of (just_these FreePlace untold) (Alloc 0 0)
     ∷ refusal_of (just_these Taking ready) (Alloc 0 0)
@@ -266,9 +259,8 @@ other_kinds : refusal_of (record (pending untold no_requests)
 other_kinds = refl
 
 -- nor is any other call refused for it
-just_inflates : map (refusal_of (record (asked FreePlace untold) { target = 0 }))
-    (Deflate 1 ∷ Oom 1 ∷ Report 0 ∷ Reap 0 ∷ Reap 1 ∷ Take 0 ∷ Take 1 ∷ Work ∷ Alloc 0 0 ∷ [])
-    ≡ replicate 9 None
+just_inflates : map (refusal_of (record (asked FreePlace untold) { target = 0 })) (Deflate 1 ∷ Oom 1
+    ∷ Report 0 ∷ Reap 0 ∷ Reap 1 ∷ Take 0 ∷ Take 1 ∷ Work ∷ Alloc 0 0 ∷ []) ≡ replicate 9 None
 just_inflates = refl
 
 inflate_changes_nothing : HonestStep (pending untold (posted both)) (Inflate 1) []
@@ -281,11 +273,9 @@ offered_too_early new s = let e : Posted 0 1 ≡ Refused DeflatePending = s.1 in
 
 -- where it tells, free pages are offered beside those that it takes
 offered_where_it_tells : HonestStep (record (asked Taking ready) { target = 9 }) (Inflate 1) []
-    (Posted 0 1)
-    (record (asked Taking ready) {
+    (Posted 0 1) (record (asked Taking ready) {
       target = 9;
-      places = replicate 16 Reserved
-          ++ (Taking ∷ Taking ∷ Lent ∷ Giving ∷ replicate 44 FreePlace);
+      places = replicate 16 Reserved ++ (Taking ∷ Taking ∷ Lent ∷ Giving ∷ replicate 44 FreePlace);
       inflate = posted (request 0 (19 ∷ []) 0);
     })
 offered_where_it_tells = (refl, (19 ∷ [], refl, (refl, tt), refl, (0, no_head_out, refl, refl)))
@@ -322,24 +312,18 @@ free_once_reaped : HonestStep
     { ballooned = flags false true; deflate = no_requests; actual = 1 })
 free_once_reaped = (refl, (refl, refl))
 
-taking_still : (new : Guest)
-    → HonestStep (record (asked Taking ready) { deflate = done both }) (Reap 1) [] (Reaped 0 2) new
-    → place_of new.places 16 ≡ Taking → ⊥
+taking_still : (new : Guest) → HonestStep (record (asked Taking ready) { deflate = done both })
+    (Reap 1) [] (Reaped 0 2) new → place_of new.places 16 ≡ Taking → ⊥
 taking_still new s e =
     let q : Taking ≡ FreePlace = sym e ∙ ap (λ (g : Guest). place_of g.places 16) s.1.1 in cc
 
 -- a reaped inflate's pages are lent as ever, and a reaped report's are free
-lent_once_reaped : HonestStep
-    (record untold {
-      places = places Giving Giving Used;
-      ballooned = flags true false;
-      inflate = done both;
-    }) (Reap 0) [] (Reaped 0 2)
-    (record untold {
-      places = places Lent Lent Used;
-      ballooned = flags true false;
-      actual = 2;
-    })
+lent_once_reaped : HonestStep (record untold {
+  places = places Giving Giving Used;
+  ballooned = flags true false;
+  inflate = done both;
+}) (Reap 0) [] (Reaped 0 2)
+    (record untold { places = places Lent Lent Used; ballooned = flags true false; actual = 2 })
 lent_once_reaped = (refl, (refl, refl))
 
 reported_once_reaped : Performs (Reap 4)
@@ -384,8 +368,7 @@ ballooned_still : (new : Guest) → FinishedSo new → is_ballooned new.balloone
 ballooned_still new s e = grind arith
 
 -- all the way: asked back, handed out, taken, used, reaped
-all_the_way : Leads (three_lent untold)
-    (Some (Called (Processor 0 0) (Deflate 2) [] (Posted 0 2))
+all_the_way : Leads (three_lent untold) (Some (Called (Processor 0 0) (Deflate 2) [] (Posted 0 2))
     ∷ Some (Called (Processor 0 0) (Alloc 0 0) [] (Page 16))
     ∷ Some (Called (Worker 0) (Take 1) [] (Taken 0))
     ∷ Some (Called (Worker 0) (Finish 1 0) [] (Finished 0))
@@ -436,8 +419,7 @@ swept_in_use new s = let e : Swept true ≡ Refused NoFeature = s.1 in cc
 
 abbrev before_a_reset : Requests → Guest
 before_a_reset rs = record (framed true rs) {
-  places = replicate 16 Reserved
-      ++ (Used ∷ FreePlace ∷ Lent ∷ Giving ∷ replicate 44 FreePlace);
+  places = replicate 16 Reserved ++ (Used ∷ FreePlace ∷ Lent ∷ Giving ∷ replicate 44 FreePlace);
   inflate = posted (request 0 (19 ∷ []) 0);
 }
 
@@ -458,9 +440,8 @@ reset_in_each_stage : map (λ rs. after_reset (before_a_reset rs)) each_stage �
 reset_in_each_stage = refl
 
 abbrev NotAfterReset : ℕ → Place → Type 0
-NotAfterReset page place =
-    (new : Guest) → HonestStep (before_a_reset (posted both)) Reset [] Done new
-    → place_of new.places page ≡ place → ⊥
+NotAfterReset page place = (new : Guest) → HonestStep
+    (before_a_reset (posted both)) Reset [] Done new → place_of new.places page ≡ place → ⊥
 
 used_page_stranded : NotAfterReset 16 Stranded
 used_page_stranded new s e =

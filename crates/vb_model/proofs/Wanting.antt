@@ -6,21 +6,19 @@ use Rattle.std.proofs.lemmas.Bool.{eq-eqb, not-true}
 use Rattle.vb_model.specs.declared.calls.Call.TheVariants.{Init, Reset, Alloc, Free, Read, Write}
 use Rattle.vb_model.specs.declared.calls.Call.TheVariants.{Scribble, Inflate, Deflate, Oom, Report}
 use Rattle.vb_model.specs.declared.calls.Call.TheVariants.{Stats, Reap, Take, Work, Finish, Sweep}
-use Rattle.vb_model.specs.Rogue.{RogueStep, unless_refused, pages_to_back, is_read, after_refused}
+use Rattle.vb_model.specs.{declared.calls.Call.TheVariants.{Ask, SetTarget}, Rogue.RogueStep}
+use Rattle.vb_model.specs.Rogue.{unless_refused, pages_to_back, is_read, after_refused, GuestStep}
 use Rattle.vb_model.specs.StepLaws.{ClaimsAreNeeded, RefusedClaimsAreAnswered, NeededPagesAreBare}
+use Rattle.vb_model.specs.StepLaws.{NoFrameIsExact, NoMemoryIsExact}
 use Rattle.vb_model.specs.declared.calls.Claim.TheVariants.{Gave, GaveNoFrame, GaveNoMemory}
 use Rattle.vb_model.specs.declared.replies.Refusal.TheVariants.{NoFrame, NoMemory}
-use Rattle.vb_model.{specs.Driver.{claim_refusal, AreClaimsFor, pages_needed}, specs.Life.lacking}
-use Rattle.vb_model.specs.Refusals.{Cause, refusal_of, causes, first_refusal}
-use Rattle.vb_model.specs.Rogue.{GuestStep}
-use Rattle.vb_model.{specs.declared.calls.Call.TheVariants.{Ask, SetTarget}, specs.HostFrames.Gives}
+use Rattle.vb_model.specs.{Driver.{claim_refusal, AreClaimsFor, pages_needed}, Life.lacking}
+use Rattle.vb_model.specs.{Refusals.{Cause, refusal_of, causes, first_refusal}, HostFrames.Gives}
 use Rattle.vb_model.{specs.declared.replies.Reply.TheVariants.Refused, proofs.Tables.list_all-at}
-use Rattle.vb_model.{specs.StepLaws.{NoFrameIsExact, NoMemoryIsExact}, specs.Layout.start_pages}
-use Rattle.vb_model.{proofs.CallSteps.{match_cases, all_filtered}, specs.declared.calls.Claim.Claim}
-use Rattle.vb_model.{specs.declared.replies.Refusal.Refusal, specs.declared.replies.Reply.Reply}
-use Rattle.vb_model.{specs.Step.HonestStep, specs.declared.calls.Call.Call}
-use Rattle.vb_model.{specs.Guest.{Guest, frame_of}, specs.Tests.is_in}
-use Rattle.vb_model.proofs.Performed.{Performed, honest_case}
+use Rattle.vb_model.{specs.Layout.start_pages, proofs.CallSteps.{match_cases, all_filtered}}
+use Rattle.vb_model.specs.declared.{calls.Claim.Claim, replies.Refusal.Refusal, replies.Reply.Reply}
+use Rattle.vb_model.specs.{Step.HonestStep, declared.calls.Call.Call, Guest.{Guest, frame_of}}
+use Rattle.vb_model.{specs.Tests.is_in, proofs.Performed.{Performed, honest_case}}
 
 or_first : (v b : Bool) → v ≡ true → (v || b) ≡ true
 or_first true b e = refl
@@ -86,21 +84,20 @@ performs_refused (Sweep page) g claims reply new refusal s r =
 performs_refused Ask g claims reply new refusal s r = absurd (none_refused claims refusal s.0 r)
 
 pub refused_claims : RefusedClaimsAreAnswered
-refused_claims g call claims reply new refusal s r = cases g.rogue s
-  where
-    answered : (x : Refusal) → x ≡ refusal → (reply ≡ Refused x) × (new.frames ≡ g.frames)
-        → (reply ≡ Refused refusal) × (new.frames ≡ g.frames)
-    answered x e k = (k.0 ∙ ap Refused e, k.1)
+refused_claims g call claims reply new refusal s r = cases g.rogue s where
+  answered : (x : Refusal) → x ≡ refusal → (reply ≡ Refused x) × (new.frames ≡ g.frames)
+      → (reply ≡ Refused refusal) × (new.frames ≡ g.frames)
+  answered x e k = (k.0 ∙ ap Refused e, k.1)
 
-    cases : (b : Bool) → MatchBool b (RogueStep g call claims reply new)
-        (HonestStep g call claims reply new) → (reply ≡ Refused refusal) × (new.frames ≡ g.frames)
-    cases true k = grind arith
-    cases false p =
-        elim (match_cases (refusal_of g call) (Performed call g claims reply new)
-        (λ refusal. (claims ≡ []) × (reply ≡ Refused refusal) × (new ≡ g)) (honest_case g call claims reply new p)) [
-          | inl d ↦ performs_refused call g claims reply new refusal d.1 r
-          | inr k ↦ absurd (none_refused claims refusal k.2.0 r)
-        ]
+  cases : (b : Bool) → MatchBool b (RogueStep g call claims reply new)
+      (HonestStep g call claims reply new) → (reply ≡ Refused refusal) × (new.frames ≡ g.frames)
+  cases true k = grind arith
+  cases false p =
+      elim (match_cases (refusal_of g call) (Performed call g claims reply new)
+      (λ refusal. (claims ≡ []) × (reply ≡ Refused refusal) × (new ≡ g)) (honest_case g call claims reply new p)) [
+        | inl d ↦ performs_refused call g claims reply new refusal d.1 r
+        | inr k ↦ absurd (none_refused claims refusal k.2.0 r)
+      ]
 
 -- ---- the pages that get frames had none
 
@@ -110,8 +107,7 @@ bare_page (Some x) e = absurd cc
 
 lacking_bare : (g : Guest) (page : ℕ) → is_in page (lacking g) ≡ true
     → frame_of g.frames page ≡ None
-lacking_bare g page k =
-    bare_page (frame_of g.frames page)
+lacking_bare g page k = bare_page (frame_of g.frames page)
     (list_all-at (λ p. is_none (frame_of g.frames p)) (lacking g) page
     (all_filtered (λ p. is_none (frame_of g.frames p)) (start_pages g.config.queue_size)) k)
 
@@ -173,8 +169,7 @@ refused_passes passes (t ∷ ts) refusal h e = grind (arith, refused_passes pass
 
 pub refused_otherwise : (ts : List Cause) (refusal : Refusal) → none_wants ts ≡ true
     → first_refusal ts ≡ Some refusal → is_want refusal ≡ false
-refused_otherwise ts refusal h e =
-    not-true _ (refused_passes (λ r. not (is_want r)) ts refusal h e)
+refused_otherwise ts refusal h e = not-true _ (refused_passes (λ r. not (is_want r)) ts refusal h e)
 
 causes_otherwise : (g : Guest) (call : Call) → none_wants (causes g call) ≡ true
 causes_otherwise g call = grind arith
@@ -185,8 +180,7 @@ Lacks why g claims new = (claim_refusal claims ≡ Some why) × (new ≡ g)
 
 -- or the bytes of its answer found no memory
 abbrev Fails : Refusal → Call → Guest → List Claim → Guest → Type 0
-Fails why call g claims new =
-    Lacks why g claims new
+Fails why call g claims new = Lacks why g claims new
     ⊎ ((is_read call ≡ true) × (why ≡ NoMemory) × (new ≡ g))
 
 -- a reply that is no such refusal isn't this one
@@ -202,24 +196,22 @@ performs_lack call g claims reply new why s w e = search arith
 -- the call's claims ended without a frame
 step_lacks : (g : Guest) (call : Call) (claims : List Claim) (new : Guest)
     → GuestStep g call claims (Refused NoFrame) new → claim_refusal claims ≡ Some NoFrame
-step_lacks g call claims new s = cases g.rogue s
-  where
-    cases : (b : Bool) → MatchBool b (RogueStep g call claims (Refused NoFrame) new)
-        (HonestStep g call claims (Refused NoFrame) new) → claim_refusal claims ≡ Some NoFrame
-    cases true r = r.no_frame refl
-    cases false p =
-        elim (match_cases (refusal_of g call) (Performed call g claims (Refused NoFrame) new)
-        (λ refusal. (claims ≡ []) × (Refused NoFrame ≡ Refused refusal) × (new ≡ g)) (honest_case g call claims (Refused NoFrame) new p)) [
-          | inl d ↦
-              elim (performs_lack call g claims (Refused NoFrame) new NoFrame d.1 refl refl) [
-                | inl lacks ↦ lacks.0
-                | inr read ↦ absurd (let e : NoFrame ≡ NoMemory = read.1 in cc)
-              ]
-          | inr r ↦ absurd (let told : Refused NoFrame ≡ Refused r.0 = r.2.1 in
-              let f : is_want r.0 ≡ false =
-              refused_otherwise (causes g call) r.0 (causes_otherwise g call) r.1 in
-              let t : wants (Refused NoFrame) ≡ false = ap wants told ∙ f in cc)
+step_lacks g call claims new s = cases g.rogue s where
+  cases : (b : Bool) → MatchBool b (RogueStep g call claims (Refused NoFrame) new)
+      (HonestStep g call claims (Refused NoFrame) new) → claim_refusal claims ≡ Some NoFrame
+  cases true r = r.no_frame refl
+  cases false p =
+      elim (match_cases (refusal_of g call) (Performed call g claims (Refused NoFrame) new)
+      (λ refusal. (claims ≡ []) × (Refused NoFrame ≡ Refused refusal) × (new ≡ g)) (honest_case g call claims (Refused NoFrame) new p)) [
+        | inl d ↦ elim (performs_lack call g claims (Refused NoFrame) new NoFrame d.1 refl refl) [
+          | inl lacks ↦ lacks.0
+          | inr read ↦ absurd (let e : NoFrame ≡ NoMemory = read.1 in cc)
         ]
+        | inr r ↦ absurd (let told : Refused NoFrame ≡ Refused r.0 = r.2.1 in
+            let f : is_want r.0 ≡ false =
+            refused_otherwise (causes g call) r.0 (causes_otherwise g call) r.1 in
+            let t : wants (Refused NoFrame) ≡ false = ap wants told ∙ f in cc)
+      ]
 
 pub no_frame_exact : NoFrameIsExact
 no_frame_exact w v n call g here s = grind (arith, step_lacks, claims_needed, want)
@@ -231,54 +223,51 @@ pub unsupplied : (idle : Bool) (o : Option Refusal) (why : Refusal) (old new : G
 unsupplied idle o why old new e = grind arith
 
 pub no_memory_exact : NoMemoryIsExact
-no_memory_exact g call claims new s = cases g.rogue s
-  where
-    left : (c : Call) → (claim_refusal claims ≡ Some NoMemory) ⊎ (is_read c ≡ true)
-        → after_refused c NoMemory claims g ≡ g
-    left (Init wanted) (inl e) =
-        unsupplied (g.status == 0) (claim_refusal claims) NoMemory g _ e
-    left (Init wanted) (inr e) = absurd cc
-    left (Write page offset bytes) e = refl
-    left (Scribble page offset bytes) e = refl
-    left (SetTarget n) e = refl
-    left Reset e = refl
-    left (Alloc cpu order) e = refl
-    left (Free cpu start order) e = refl
-    left (Read page offset len) e = refl
-    left (Inflate n) e = refl
-    left (Deflate n) e = refl
-    left (Oom n) e = refl
-    left (Report from) e = refl
-    left Stats e = refl
-    left (Reap q) e = refl
-    left (Take q) e = refl
-    left Work e = refl
-    left (Finish q i) e = refl
-    left (Sweep page) e = refl
-    left Ask e = refl
+no_memory_exact g call claims new s = cases g.rogue s where
+  left : (c : Call) → (claim_refusal claims ≡ Some NoMemory) ⊎ (is_read c ≡ true)
+      → after_refused c NoMemory claims g ≡ g
+  left (Init wanted) (inl e) = unsupplied (g.status == 0) (claim_refusal claims) NoMemory g _ e
+  left (Init wanted) (inr e) = absurd cc
+  left (Write page offset bytes) e = refl
+  left (Scribble page offset bytes) e = refl
+  left (SetTarget n) e = refl
+  left Reset e = refl
+  left (Alloc cpu order) e = refl
+  left (Free cpu start order) e = refl
+  left (Read page offset len) e = refl
+  left (Inflate n) e = refl
+  left (Deflate n) e = refl
+  left (Oom n) e = refl
+  left (Report from) e = refl
+  left Stats e = refl
+  left (Reap q) e = refl
+  left (Take q) e = refl
+  left Work e = refl
+  left (Finish q i) e = refl
+  left (Sweep page) e = refl
+  left Ask e = refl
 
-    caused : (claim_refusal claims ≡ Some NoMemory)
-        ⊎ ((page : ℕ) × (offset : ℕ) × (len : ℕ) × (call ≡ Read page offset len))
-        → (claim_refusal claims ≡ Some NoMemory) ⊎ (is_read call ≡ true)
-    caused (inl e) = inl e
-    caused (inr (page, offset, len, is)) = inr (ap is_read is)
+  caused : (claim_refusal claims ≡ Some NoMemory)
+      ⊎ ((page : ℕ) × (offset : ℕ) × (len : ℕ) × (call ≡ Read page offset len))
+      → (claim_refusal claims ≡ Some NoMemory) ⊎ (is_read call ≡ true)
+  caused (inl e) = inl e
+  caused (inr (page, offset, len, is)) = inr (ap is_read is)
 
-    cases : (b : Bool) → MatchBool b (RogueStep g call claims (Refused NoMemory) new)
-        (HonestStep g call claims (Refused NoMemory) new)
-        → ((claim_refusal claims ≡ Some NoMemory) ⊎ (is_read call ≡ true)) × (new ≡ g)
-    cases true r =
-        let by_cause = caused (r.no_memory refl) in
-        (by_cause, r.refused NoMemory refl ∙ left call by_cause)
-    cases false p =
-        elim (match_cases (refusal_of g call) (Performed call g claims (Refused NoMemory) new)
-        (λ refusal. (claims ≡ []) × (Refused NoMemory ≡ Refused refusal) × (new ≡ g)) (honest_case g call claims (Refused NoMemory) new p)) [
-          | inl d ↦
-              elim (performs_lack call g claims (Refused NoMemory) new NoMemory d.1 refl refl) [
-                | inl lacks ↦ (inl lacks.0, lacks.1)
-                | inr read ↦ (inr read.0, read.2)
-              ]
-          | inr r ↦ absurd (let told : Refused NoMemory ≡ Refused r.0 = r.2.1 in
-              let f : is_want r.0 ≡ false =
-              refused_otherwise (causes g call) r.0 (causes_otherwise g call) r.1 in
-              let t : wants (Refused NoMemory) ≡ false = ap wants told ∙ f in cc)
+  cases : (b : Bool) → MatchBool b (RogueStep g call claims (Refused NoMemory) new)
+      (HonestStep g call claims (Refused NoMemory) new)
+      → ((claim_refusal claims ≡ Some NoMemory) ⊎ (is_read call ≡ true)) × (new ≡ g)
+  cases true r =
+      let by_cause = caused (r.no_memory refl) in
+      (by_cause, r.refused NoMemory refl ∙ left call by_cause)
+  cases false p =
+      elim (match_cases (refusal_of g call) (Performed call g claims (Refused NoMemory) new)
+      (λ refusal. (claims ≡ []) × (Refused NoMemory ≡ Refused refusal) × (new ≡ g)) (honest_case g call claims (Refused NoMemory) new p)) [
+        | inl d ↦ elim (performs_lack call g claims (Refused NoMemory) new NoMemory d.1 refl refl) [
+          | inl lacks ↦ (inl lacks.0, lacks.1)
+          | inr read ↦ (inr read.0, read.2)
         ]
+        | inr r ↦ absurd (let told : Refused NoMemory ≡ Refused r.0 = r.2.1 in
+            let f : is_want r.0 ≡ false =
+            refused_otherwise (causes g call) r.0 (causes_otherwise g call) r.1 in
+            let t : wants (Refused NoMemory) ≡ false = ap wants told ∙ f in cc)
+      ]

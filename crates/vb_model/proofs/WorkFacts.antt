@@ -1,15 +1,14 @@
 -- Worked facts of the device's calls on requests: take, work, finish and sweep.
 use Rattle.std.proofs.Common.{◌≡◌, ℕ, ◌+◌, true, false, List, [], ◌∷◌, ◌++◌, map, replicate, refl}
 use Rattle.std.{specs.Prelude.{Bool, Option, Some, None, drop}, specs.List.range_with_len}
-use Rattle.vb_model.specs.declared.replies.Refusal.TheVariants.{NotReady, NoQueue, Busy, NotTaken}
-use Rattle.vb_model.specs.declared.replies.Reply.TheVariants.{Taken, Empty, Worked, Idle, Finished}
-use Rattle.vb_model.{specs.declared.calls.Call.Call, specs.declared.replies.Refusal.Refusal}
-use Rattle.vb_model.specs.declared.calls.Call.TheVariants.{Take, Work, Finish, Sweep}
-use Rattle.vb_model.specs.declared.replies.Refusal.TheVariants.{NotWorked, NotBallooned}
-use Rattle.vb_model.{specs.declared.replies.Reply.TheVariants.Swept, specs.Guest.{Guest, zero_page}}
-use Rattle.vb_model.{specs.Requests.{Request, Requests}, specs.Step.{Performs, HonestStep}}
-use Rattle.vb_model.specs.Refusals.{refusal_of, first_refusal, causes}
 use Rattle.vb_model.proofs.Samples.{config, ready, down, without_reporting, request}
+use Rattle.vb_model.specs.{Guest.{Guest, zero_page}, Refusals.{refusal_of, first_refusal, causes}}
+use Rattle.vb_model.specs.{Requests.{Request, Requests}, Step.{Performs, HonestStep}}
+use Rattle.vb_model.specs.declared.calls.Call.{Call, TheVariants.{Take, Work, Finish, Sweep}}
+use Rattle.vb_model.specs.declared.replies.Refusal.{Refusal, TheVariants.{NotReady, NoQueue, Busy}}
+use Rattle.vb_model.specs.declared.replies.Refusal.TheVariants.{NotTaken, NotWorked, NotBallooned}
+use Rattle.vb_model.specs.declared.replies.Reply.TheVariants.{Taken, Empty, Worked, Idle, Finished}
+use Rattle.vb_model.specs.declared.replies.Reply.TheVariants.{Swept}
 
 -- ---- a guest with taken requests of all kinds
 
@@ -26,8 +25,7 @@ used_inflate = request 0 (24 ∷ []) 1
 abbrev inflates : ℕ → Requests
 inflates visited = record {
   posted = request 2 (25 ∷ []) 0 ∷ [];
-  taken = first_inflate ∷ second_inflate visited
-      ∷ [];
+  taken = first_inflate ∷ second_inflate visited ∷ [];
   done = used_inflate ∷ [];
 }
 
@@ -119,33 +117,27 @@ all_visited = (refl, (refl, refl))
 
 -- of two inflates the oldest goes on, and the other one waits
 abbrev two_waiting : ℕ → Guest
-two_waiting visited =
-    record ready {
-      inflate = record {
-        posted = [];
-        taken = request 0 (16 ∷ 17 ∷ 18 ∷ []) visited ∷ request 1 (19 ∷ 20 ∷ []) 0
-            ∷ [];
-        done = [];
-      };
-    }
+two_waiting visited = record ready {
+  inflate = record {
+    posted = [];
+    taken = request 0 (16 ∷ 17 ∷ 18 ∷ []) visited ∷ request 1 (19 ∷ 20 ∷ []) 0 ∷ [];
+    done = [];
+  };
+}
 
 the_oldest_goes_on : HonestStep (two_waiting 1) Work [] (Worked 17 false) (two_waiting 2)
 the_oldest_goes_on = (refl, (refl, refl))
 
 -- posted and used requests aren't visited
-only_taken_ones : HonestStep
-    (record ready {
-      inflate = record
-          { posted = request 0 (16 ∷ []) 0 ∷ []; taken = []; done = request 1 (17 ∷ []) 0 ∷ [] };
-      report =
-          record { posted = request 0 (18 ∷ []) 0 ∷ []; taken = []; done = [] };
-    }) Work [] Idle
-    (record ready {
-      inflate = record
-          { posted = request 0 (16 ∷ []) 0 ∷ []; taken = []; done = request 1 (17 ∷ []) 0 ∷ [] };
-      report =
-          record { posted = request 0 (18 ∷ []) 0 ∷ []; taken = []; done = [] };
-    })
+only_taken_ones : HonestStep (record ready {
+  inflate =
+      record { posted = request 0 (16 ∷ []) 0 ∷ []; taken = []; done = request 1 (17 ∷ []) 0 ∷ [] };
+  report = record { posted = request 0 (18 ∷ []) 0 ∷ []; taken = []; done = [] };
+}) Work [] Idle (record ready {
+  inflate =
+      record { posted = request 0 (16 ∷ []) 0 ∷ []; taken = []; done = request 1 (17 ∷ []) 0 ∷ [] };
+  report = record { posted = request 0 (18 ∷ []) 0 ∷ []; taken = []; done = [] };
+})
 only_taken_ones = (refl, (refl, refl))
 
 -- an immediate device finds nothing to do
@@ -162,8 +154,7 @@ work_not_ready = refl
 finished_inflate : HonestStep busy (Finish 0 0) [] (Finished 1) (record busy {
   inflate = record {
     posted = request 2 (25 ∷ []) 0 ∷ [];
-    taken = second_inflate 1
-        ∷ [];
+    taken = second_inflate 1 ∷ [];
     done = used_inflate ∷ first_inflate ∷ [];
   };
   frames = frames (None ∷ None ∷ None ∷ Some 13 ∷ Some 14 ∷ None ∷ Some 15 ∷ Some 16 ∷ []);
@@ -196,8 +187,7 @@ second_by_its_number : HonestStep (at_once busy) (Finish 0 1) [] (Finished 3)
     (record (at_once busy) {
       inflate = record {
         posted = request 2 (25 ∷ []) 0 ∷ [];
-        taken = first_inflate
-            ∷ [];
+        taken = first_inflate ∷ [];
         done = used_inflate ∷ second_inflate 1 ∷ [];
       };
       frames = frames (Some 17 ∷ None ∷ None ∷ None ∷ Some 14 ∷ None ∷ Some 15 ∷ Some 16 ∷ []);
@@ -253,8 +243,7 @@ finish_not_ready = refl
 -- the first posted request is the last taken one, and none of its pages is visited
 abbrev two_posted : Requests
 two_posted = record {
-  posted = request 4 (16 ∷ []) 1 ∷ request 0 (17 ∷ []) 0
-      ∷ [];
+  posted = request 4 (16 ∷ []) 1 ∷ request 0 (17 ∷ []) 0 ∷ [];
   taken = request 2 (18 ∷ []) 1 ∷ [];
   done = request 1 (19 ∷ []) 1 ∷ [];
 }
@@ -262,8 +251,7 @@ two_posted = record {
 abbrev one_posted : Requests
 one_posted = record {
   posted = request 0 (17 ∷ []) 0 ∷ [];
-  taken = request 2 (18 ∷ []) 1
-      ∷ request 4 (16 ∷ []) 0 ∷ [];
+  taken = request 2 (18 ∷ []) 1 ∷ request 4 (16 ∷ []) 0 ∷ [];
   done = request 1 (19 ∷ []) 1 ∷ [];
 }
 

@@ -94,11 +94,9 @@ bad_processors = (refl, refl)
 -- ---- numbers without a guest
 
 abbrev NoGuestAt : ℕ → Type 0
-NoGuestAt n =
-    WorldStep gap (Unplug n) (Refused NoGuest) gap
-    × WorldStep gap (Restart n) (Refused NoGuest) gap
-    × WorldStep gap (OnGuest n (SetTarget 1)) (Refused NoGuest) gap
-    × WorldStep gap (OnQuery n Places) (Refused NoGuest) gap
+NoGuestAt n = WorldStep gap (Unplug n) (Refused NoGuest) gap
+    × WorldStep gap (Restart n) (Refused NoGuest) gap × WorldStep gap (OnGuest n (SetTarget 1))
+    (Refused NoGuest) gap × WorldStep gap (OnQuery n Places) (Refused NoGuest) gap
 
 number_given_up_has_no_guest : NoGuestAt 1
 number_given_up_has_no_guest = ((refl, refl), (refl, refl), (refl, refl), (refl, refl))
@@ -114,10 +112,9 @@ no_frame_claimed : WorldStep (world (Some ready ∷ None ∷ Some down ∷ Some 
 no_frame_claimed = ([], record down { target = 7 }, tt, (refl, (refl, refl)), refl)
 
 -- targets go to the guests in rising number, past the numbers that have none
-targets_past_gaps : with_targets (5 ∷ 7 ∷ 9 ∷ [])
-    (None ∷ Some ready ∷ None ∷ None ∷ Some down ∷ Some ready ∷ []) ≡ None
-    ∷ Some (record ready { target = 5 }) ∷ None ∷ None ∷ Some (record down { target = 7 })
-    ∷ Some (record ready { target = 9 }) ∷ []
+targets_past_gaps : with_targets (5 ∷ 7 ∷ 9 ∷ []) (None ∷ Some ready
+    ∷ None ∷ None ∷ Some down ∷ Some ready ∷ []) ≡ None ∷ Some (record ready { target = 5 })
+    ∷ None ∷ None ∷ Some (record down { target = 7 }) ∷ Some (record ready { target = 9 }) ∷ []
 targets_past_gaps = refl
 
 -- ---- frames in use, and those that are not

@@ -2,16 +2,15 @@
 use Rattle.std.proofs.Common.{◌≡◌, ℕ, zero, suc, ◌+◌, ◌<◌, ◌≤◌, inl, inr, Bool, true, false, List}
 use Rattle.std.proofs.Common.{[], ◌∷◌, ◌++◌, length, get_or, set, take, drop, map, reverse}
 use Rattle.std.proofs.Common.{replicate, Option, Some, None, refl, sym, ◌∙◌, ap, subst, arith}
-use Rattle.std.proofs.lemmas.List.{get_or-set_same, get_or-set_other, set-set, set-get_or}
-use Rattle.std.proofs.lemmas.List.{length-set, length-map, take-append-drop, length-drop}
-use Rattle.std.proofs.lemmas.List.{length-reverse, reverse-append, nil_from_length, take_more}
-use Rattle.std.proofs.lemmas.List.{flat_map_more, take_all, same_lists, get_or_default, drop_all}
-use Rattle.std.proofs.lemmas.Bool.{cases_eq, cases_Bool, both_ways, eq-eqb, eqb-true, ne_eqb}
-use Rattle.std.{proofs.Common.length-append, specs.List.flat_map, proofs.lemmas.List.append-nil}
-use Rattle.std.specs.Prelude.{◌==◌, count_by, nat_lt, MatchOption, sum_by}
-use Rattle.std.proofs.lemmas.Bool.{cond-true, cond-false, lt-ltb, false_from_ne_true}
-use Rattle.std.proofs.lemmas.List.Sorted.{sum_by-IsPermutation, length_permutation}
-use Rattle.std.proofs.lemmas.List.Sums.{sum_by-append, sum_by-cons}
+use Rattle.std.proofs.{Common.length-append, lemmas.Bool.{cases_eq, cases_Bool, both_ways, eq-eqb}}
+use Rattle.std.proofs.lemmas.Bool.{eqb-true, ne_eqb, cond-true, cond-false, lt-ltb}
+use Rattle.std.proofs.lemmas.{Bool.false_from_ne_true, List.{get_or-set_same, get_or-set_other}}
+use Rattle.std.proofs.lemmas.List.{set-set, set-get_or, length-set, length-map, take-append-drop}
+use Rattle.std.proofs.lemmas.List.{length-drop, length-reverse, reverse-append, nil_from_length}
+use Rattle.std.proofs.lemmas.List.{take_more, flat_map_more, take_all, same_lists, get_or_default}
+use Rattle.std.proofs.lemmas.List.{drop_all, append-nil, Sorted.sum_by-IsPermutation}
+use Rattle.std.proofs.lemmas.List.{Sorted.length_permutation, Sums.{sum_by-append, sum_by-cons}}
+use Rattle.std.specs.{List.flat_map, Prelude.{◌==◌, count_by, nat_lt, MatchOption, sum_by}}
 use Rattle.vb_model.{specs.Tests.{is_in, one_if}, specs.Pages.{pages_of, covers}}
 use Rattle.vb_model.proofs.PageSteps.{covers_is}
 use Rattle.vb_pages.specs.Areas.{has, with_pages, without_pages, unreserved, block_at, IsBlock}
@@ -110,9 +109,8 @@ block_times f s k sound room p = let block = pages_of (block_at s k) in
                 ap one_if (with_old block f.areas p was) in omega (arith, c, e, h)
             | inr was ↦
                 let e : one_if (has f.areas p) ≡ 0 = ap one_if was in
-                let no_more : has (with_pages block f.areas) p ≡ false =
-                false_from_ne_true (has (with_pages block f.areas) p)
-                (λ w. elim (with_cases block f.areas p w) [
+                let no_more : has (with_pages block f.areas) p ≡ false = false_from_ne_true
+                (has (with_pages block f.areas) p) (λ w. elim (with_cases block f.areas p w) [
                   | inl old ↦ both_ways (has f.areas p) was old
                   | inr new ↦ both_ways (is_in p block) o new
                 ]) in
@@ -211,12 +209,8 @@ single_none set new [] rest h = let r = h.1 in
       length_permutation r.taken r.rising r.same,
     ) in
     let empty : r.taken ≡ [] = nil_from_length r.taken zero_long in
-    let same : new ≡ set = subst (λ (xs : List ℕ). TakesPages set xs new) empty r.takes in (
-      refl,
-      h.2.1,
-      same,
-      rw (← same) (r.all (omega (arith, zero_long))),
-    )
+    let same : new ≡ set = subst (λ (xs : List ℕ). TakesPages set xs new) empty r.takes in
+    (refl, h.2.1, same, rw (← same) (r.all (omega (arith, zero_long))))
 single_none set new (x ∷ xs) rest h =
     absurd (let bad : length (x ∷ xs) ≡ 0 = ap length h.1.0 in omega (arith, bad))
 
@@ -334,9 +328,8 @@ module _ (areas : List Bool) (lists : List (List ℕ)) (once : Once areas (flat 
 
   pub next_once : Once new (get_or left i nothing)
   next_once p =
-      let more : times p (flat (take (i + 1) lists))
-      ≡ times p (flat (take i lists)) + times p (get_or lists i nothing) =
-      ap (times p) (flat_more lists i inside)
+      let more : times p (flat (take (i + 1) lists)) ≡ times p (flat (take i lists))
+      + times p (get_or lists i nothing) = ap (times p) (flat_more lists i inside)
       ∙ times-append p (flat (take i lists)) (get_or lists i nothing) in
       let h : one_if (has new p) ≡ one_if (has areas p) + times p (flat (take i lists)) =
       ap (λ (x : List Bool). one_if (has x p)) so_far.set
@@ -560,9 +553,8 @@ pub given_times : (f : FreePages) (cpu s k : ℕ) → IsSoundFree f → cpu < le
     → times_free (given_back cpu s k f) p ≡ times_free f p + one_if (covers p (block_at s k))
 given_times f cpu s (suc k) sound l room p = omega (arith, block_times f s (suc k) sound room p)
 given_times f cpu s zero sound l room p = let long = longer f cpu s sound l room in
-    let more : times p long ≡ times p (list_of f cpu) + one_if (s == p) =
-    times-append p (list_of f cpu) (s ∷ [])
-    ∙ ap (λ (n : ℕ). times p (list_of f cpu) + n) (times-one p s) in
+    let more : times p long ≡ times p (list_of f cpu) + one_if (s == p) = times-append p
+    (list_of f cpu) (s ∷ []) ∙ ap (λ (n : ℕ). times p (list_of f cpu) + n) (times-one p s) in
     elim (cases_eq (length long) 16) [
       | inl full ↦
           let e : times_free (given_back cpu s 0 f) p

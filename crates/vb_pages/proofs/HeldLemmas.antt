@@ -4,11 +4,9 @@ use Rattle.std.proofs.Common.{false, List, [], ◌∷◌, length, set, replicate
 use Rattle.std.proofs.lemmas.Bool.{both_ways, or_cases, or_left, and_from, eq-eqb, cond-true}
 use Rattle.std.{proofs.Common.{refl, sym, ◌∙◌, ap, arith}, specs.Prelude.◌==◌, specs.List.list_any}
 use Rattle.std.{proofs.lemmas.Bool.false_from_ne_true, proofs.lemmas.Nat.pow_pos}
-use Rattle.vb_model.specs.Pages.{Block, covers, is_same_block}
-use Rattle.vb_model.specs.Driver.{with_block, without_block}
-use Rattle.vb_pages.{specs.Table.{order_at, AreBlocks}, specs.Areas.block_at}
-use Rattle.vb_pages.specs.Held.{HeldBlocks, blocks_from, blocks_of}
-use Rattle.vb_pages.proofs.Aligned.{aligned_same, floor_aligned}
+use Rattle.vb_model.specs.{Pages.{Block, covers, is_same_block}, Driver.{with_block, without_block}}
+use Rattle.vb_pages.{proofs.Aligned.{aligned_same, floor_aligned}, specs.Areas.block_at}
+use Rattle.vb_pages.specs.{Held.{HeldBlocks, blocks_from, blocks_of}, Table.{order_at, AreBlocks}}
 
 moved : (f i : ℕ) → suc f + i ≡ f + suc i
 moved f i = omega arith
@@ -43,9 +41,8 @@ blocks_from-without f (suc i) k (None ∷ t) e = grind (arith, blocks_from-witho
 blocks_from-without f (suc i) k (Some j ∷ t) e = grind (arith, blocks_from-without (suc f) i k t e)
 
 -- a test that a block of the table passes
-any_from : (test : Block → Bool) (f : ℕ) (t : List (Option ℕ))
-    → list_any test (blocks_from f t) ≡ true
-    → (i : ℕ) × (k : ℕ) × (order_at t i ≡ Some k) × (test (block_at (f + i) k) ≡ true)
+any_from : (test : Block → Bool) (f : ℕ) (t : List (Option ℕ)) → list_any test (blocks_from f t)
+    ≡ true → (i : ℕ) × (k : ℕ) × (order_at t i ≡ Some k) × (test (block_at (f + i) k) ≡ true)
 any_from test f [] h = absurd (both_ways false refl h)
 any_from test f (None ∷ t) h = let q = any_from test (suc f) t h in
     (suc q.0, q.1, q.2, ap (λ (n : ℕ). test (block_at n q.1)) (sym (moved f q.0)) ∙ q.3)
@@ -107,13 +104,12 @@ at_covers p s k t e l h = grind (arith, any_to)
 -- no block covers the page, so none starts there
 pub uncovered_empty : (s : ℕ) (t : List (Option ℕ)) → list_any (covers s) (blocks_of t) ≡ false
     → order_at t s ≡ None
-uncovered_empty s t h = step (order_at t s) refl
-  where
-    step : (o : Option ℕ) → order_at t s ≡ o → o ≡ None
-    step None e = refl
-    step (Some k) e = let pos : 0 < 2 ^ k = pow_pos k in
-        absurd (both_ways (list_any (covers s) (blocks_of t)) h
-        (at_covers s s k t e (omega arith) (omega arith)))
+uncovered_empty s t h = step (order_at t s) refl where
+  step : (o : Option ℕ) → order_at t s ≡ o → o ≡ None
+  step None e = refl
+  step (Some k) e = let pos : 0 < 2 ^ k = pow_pos k in
+      absurd (both_ways (list_any (covers s) (blocks_of t)) h
+      (at_covers s s k t e (omega arith) (omega arith)))
 
 pub covers_found : (p k : ℕ) (t : List (Option ℕ)) → order_at t (p - p % 2 ^ k) ≡ Some k
     → list_any (covers p) (blocks_of t) ≡ true

@@ -28,15 +28,14 @@ use Rattle.vb_pages.proofs.AreasLemmas.{length-unreserved, has-unreserved}
 count-with_block : (p : ℕ) (b : Block) (held : List Block)
     → count_by (covers p) (with_block b held) ≡ one_if (covers p b) + count_by (covers p) held
 count-with_block p b [] = count_by-cons (covers p) b []
-count-with_block p b (x ∷ held) = step (nat_lt b.start x.start) (count-with_block p b held)
-  where
-    step : (v : Bool) → count_by (covers p) (with_block b held)
-        ≡ one_if (covers p b) + count_by (covers p) held
-        → count_by (covers p) (cond v (b ∷ x ∷ held) (x ∷ with_block b held))
-        ≡ one_if (covers p b) + count_by (covers p) (x ∷ held)
-    step true ih = count_by-cons (covers p) b (x ∷ held)
-    step false ih = omega
-        (arith, count_by-cons (covers p) x (with_block b held), count_by-cons (covers p) x held, ih)
+count-with_block p b (x ∷ held) = step (nat_lt b.start x.start) (count-with_block p b held) where
+  step : (v : Bool) → count_by (covers p) (with_block b held)
+      ≡ one_if (covers p b) + count_by (covers p) held
+      → count_by (covers p) (cond v (b ∷ x ∷ held) (x ∷ with_block b held))
+      ≡ one_if (covers p b) + count_by (covers p) (x ∷ held)
+  step true ih = count_by-cons (covers p) b (x ∷ held)
+  step false ih = omega
+      (arith, count_by-cons (covers p) x (with_block b held), count_by-cons (covers p) x held, ih)
 
 count_none : (test : Block → Bool) (bs : List Block) → count_by test bs ≤ 0
     → list_any test bs ≡ false
@@ -78,16 +77,14 @@ pub free_left : (f g : FreePages) (p : ℕ) (b : Block) → times_free f p ≤ 1
     → is_free_in g p ≡ (is_free_in f p && not (covers p b))
 free_left f g p b most e = grind (arith, free_none, free_same)
 
-pub free_gained : (f g : FreePages) (p : ℕ) (b : Block)
-    → times_free g p ≡ times_free f p + one_if (covers p b)
-    → is_free_in g p ≡ (is_free_in f p || covers p b)
+pub free_gained : (f g : FreePages) (p : ℕ) (b : Block) → times_free g p
+    ≡ times_free f p + one_if (covers p b) → is_free_in g p ≡ (is_free_in f p || covers p b)
 free_gained f g p b e = grind (arith, free_some, free_same)
 
 -- ---- the two parts are kept
 
-unreserved_below : (f : FreePages) (bs : List Block) (p : ℕ)
-    → 1 ≤ one_if (is_unreserved (record { free = f; held = bs }) p)
-    → (f.reserved ≤ p) × (p < length f.areas)
+unreserved_below : (f : FreePages) (bs : List Block) (p : ℕ) → 1 ≤ one_if
+    (is_unreserved (record { free = f; held = bs }) p) → (f.reserved ≤ p) × (p < length f.areas)
 unreserved_below f bs p h = grind arith
 
 pub kept_times : (f g : FreePages) (h : HeldBlocks) (blocks : List Block) → IsKept f h
@@ -241,9 +238,8 @@ pub isolated_left : (f new : FreePages) (h : HeldBlocks) (order from : ℕ) (got
     → IsSoundFree f → IsKept f h → IsolatesFrom f order from got new → IfSome got (λ b. (p : ℕ)
     → is_free_in new p ≡ (is_free_in f p && not (covers p (block_at b.start b.order))))
 isolated_left f new h order from None sound kept i = tt
-isolated_left f new h order from (Some b) sound kept i =
-    λ p. free_left f new p (block_at b.start b.order) (times_once f h p kept)
-    (isolated_times f new order from b sound i p)
+isolated_left f new h order from (Some b) sound kept i = λ p. free_left f new p
+    (block_at b.start b.order) (times_once f h p kept) (isolated_times f new order from b sound i p)
 
 -- ---- single pages that leave
 
@@ -300,11 +296,10 @@ room_of f new h s k kept l r block less = let pos : 0 < 2 ^ k = pow_pos k in
       block,
       omega (arith, first.0, r),
       omega (arith, last.1, l),
-      λ p a e.
-          let most = one_if_le (is_unreserved (record { free = f; held = h.blocks }) p) in (
-            free_none new p (omega (arith, kept.apart p, less p a e, most)),
-            count_none (covers p) h.blocks (omega (arith, kept.apart p, less p a e, most)),
-          ),
+      λ p a e. let most = one_if_le (is_unreserved (record { free = f; held = h.blocks }) p) in (
+        free_none new p (omega (arith, kept.apart p, less p a e, most)),
+        count_none (covers p) h.blocks (omega (arith, kept.apart p, less p a e, most)),
+      ),
     )
 
 pub isolated_room : (f new : FreePages) (h : HeldBlocks) (order from : ℕ) (got : Option FreeBlock)

@@ -161,20 +161,19 @@ with_one p set l = same_lists (with_pages (p ∷ []) set) (put set p true)
 
 pub count_one : (p : ℕ) (set : List Bool) → p < length set → has set p ≡ false
     → count_by (λ f. f) (with_pages (p ∷ []) set) ≡ count_by (λ f. f) set + 1
-count_one p set l f = ap (count_by (λ f. f)) (with_one p set l) ∙ put_counts set p l f
-  where
-    put_counts : (xs : List Bool) (i : ℕ) → i < length xs → has xs i ≡ false
-        → count_by (λ f. f) (put xs i true) ≡ count_by (λ f. f) xs + 1
-    put_counts [] i h e = absurd (omega arith)
-    put_counts (x ∷ xs) zero h e = count_by-cons (λ f. f) true xs
-        ∙ (let c : count_by (λ f. f) (x ∷ xs) ≡ count_by (λ f. f) xs = count_by-cons (λ f. f) x xs
-        ∙ ap (λ (b : Bool). one_if b + count_by (λ f. f) xs) e ∙ omega arith in omega (arith, c))
-    put_counts (x ∷ xs) (suc i) h e = omega (
-      arith,
-      count_by-cons (λ f. f) x (put xs i true),
-      count_by-cons (λ f. f) x xs,
-      put_counts xs i (omega arith) e,
-    )
+count_one p set l f = ap (count_by (λ f. f)) (with_one p set l) ∙ put_counts set p l f where
+  put_counts : (xs : List Bool) (i : ℕ) → i < length xs → has xs i ≡ false
+      → count_by (λ f. f) (put xs i true) ≡ count_by (λ f. f) xs + 1
+  put_counts [] i h e = absurd (omega arith)
+  put_counts (x ∷ xs) zero h e = count_by-cons (λ f. f) true xs
+      ∙ (let c : count_by (λ f. f) (x ∷ xs) ≡ count_by (λ f. f) xs = count_by-cons (λ f. f) x xs
+      ∙ ap (λ (b : Bool). one_if b + count_by (λ f. f) xs) e ∙ omega arith in omega (arith, c))
+  put_counts (x ∷ xs) (suc i) h e = omega (
+    arith,
+    count_by-cons (λ f. f) x (put xs i true),
+    count_by-cons (λ f. f) x xs,
+    put_counts xs i (omega arith) e,
+  )
 
 pub count_range : (n s : ℕ) (set : List Bool) → s + n ≤ length set
     → ((p : ℕ) → s ≤ p → p < s + n → has set p ≡ false)

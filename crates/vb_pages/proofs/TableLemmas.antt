@@ -266,9 +266,8 @@ module _ (pages : ℕ) (sets : List (List Bool)) (s : AreSetsOf pages sets) wher
   set_row k n flag read row ten r e = grind (arith, set_now)
 
   pub added : (k start : ℕ) (read row : List Bool) → k ≤ 9 → start % 2 ^ k ≡ 0
-      → start + 2 ^ k ≤ length table → order_at table start ≡ None → read ≡ get_or sets k read
-      → row ≡ set read (start / 2 ^ k) true
-      → StandFor pages (set sets k row) (set table start (Some k))
+      → start + 2 ^ k ≤ length table → order_at table start ≡ None → read ≡ get_or sets k read → row
+      ≡ set read (start / 2 ^ k) true → StandFor pages (set sets k row) (set table start (Some k))
   added k start read row nine aligned fits empty r e = let pos : 0 < 2 ^ k = pow_pos k in
       let ten : k < 10 = omega arith in
       let there : start < length table = omega arith in

@@ -2,28 +2,26 @@
 -- one does to it.
 use Rattle.std.proofs.Common.{◌≡◌, ◌≢◌, ℕ, zero, suc, ◌+◌, ◌-◌, ◌%◌, ◌^◌, ◌<◌, ◌≤◌, min, ◌⊎◌, inl}
 use Rattle.std.proofs.Common.{inr, Bool, true, false, not, List, length, set, replicate, Option}
-use Rattle.std.proofs.lemmas.Bool.{cases_lt, cases_eq, cases_Bool, both_ways, or_cases, or_left}
-use Rattle.std.proofs.lemmas.Bool.{or_right, eq-eqb, eqb-true, false_from_ne_true, and_right}
-use Rattle.std.proofs.Common.{Some, None, refl, sym, ◌∙◌, ap, subst, arith}
+use Rattle.std.proofs.{Common.{Some, None, refl, sym, ◌∙◌, ap, subst, arith}, lemmas.Bool.cases_lt}
+use Rattle.std.proofs.lemmas.Bool.{cases_eq, cases_Bool, both_ways, or_cases, or_left, or_right}
+use Rattle.std.proofs.lemmas.Bool.{eq-eqb, eqb-true, false_from_ne_true, and_right, not_from_true}
 use Rattle.std.{specs.List.{list_any, range_with_len}, proofs.lemmas.Nat.pow_pos}
 use Rattle.std.proofs.lemmas.List.{get_or-set_same, get_or-set_other, length-set, length-replicate}
 use Rattle.std.proofs.lemmas.List.FromFn.{get_or-map-range_with_len, length-map-range_with_len}
-use Rattle.std.proofs.lemmas.Bool.{not_from_true}
 use Rattle.vb_model.{specs.Pages.{Block, pages_of}, specs.Tests.is_in}
 use Rattle.vb_pages.specs.Tiles.{is_covered, set_of, IsPlaced, IsMerged, IsBuddy, HasRoom, IsTiled}
-use Rattle.vb_pages.specs.Areas.{has, with_pages, without_pages, block_at, IsBlock, LiesIn}
+use Rattle.vb_pages.specs.{Tiles.IsLowestListed, Areas.{has, with_pages, without_pages, block_at}}
+use Rattle.vb_pages.specs.Areas.{IsBlock, LiesIn, LiesWithin, IsMaximal, HasNoBlock, IsChosen}
 use Rattle.vb_pages.proofs.Aligned.{aligned_step, aligned_same, right_half, aligned_down}
+use Rattle.vb_pages.proofs.Aligned.{end_aligned, pow_twice, floor_aligned}
 use Rattle.vb_pages.proofs.TableLemmas.{is_order-true, is_order-self, is_there, entry_kept}
+use Rattle.vb_pages.proofs.TableLemmas.{with_block_added, with_block_removed, none_entry}
 use Rattle.vb_pages.proofs.Sets.{same_sets, is_inside, length-with_pages, length-without_pages}
 use Rattle.vb_pages.proofs.Sets.{with_old, with_new, with_cases, without_parts, without_old}
 use Rattle.vb_pages.proofs.Sets.{in_block, block_bounds, not_in_block, has-without_pages}
-use Rattle.vb_pages.{specs.declared.table.TheConstants.MAX_PAGES, specs.Tiles.IsLowestListed}
-use Rattle.vb_pages.specs.declared.block.FreeBlock.{FreeBlock}
-use Rattle.vb_pages.specs.Table.{order_at, is_order, IsLowestStart}
-use Rattle.vb_pages.specs.Areas.{LiesWithin, IsMaximal, HasNoBlock, IsChosen}
-use Rattle.vb_pages.proofs.Aligned.{end_aligned, pow_twice, floor_aligned}
-use Rattle.vb_pages.proofs.TableLemmas.{with_block_added, with_block_removed, none_entry}
 use Rattle.vb_pages.proofs.Sets.{with_without, without_with, halves, halves_turned}
+use Rattle.vb_pages.specs.declared.{table.TheConstants.MAX_PAGES, block.FreeBlock.FreeBlock}
+use Rattle.vb_pages.specs.Table.{order_at, is_order, IsLowestStart}
 
 -- a block of the table that covers the page
 pub record Covered (t : List (Option ℕ)) (p : ℕ) : Type 0 where
@@ -70,9 +68,8 @@ covered_to t p placed c = let pos : 0 < 2 ^ c.order = pow_pos c.order in
     let low : p - p % 2 ^ c.order ≤ p = omega arith in
     let high : p < (p - p % 2 ^ c.order) + 2 ^ c.order = omega arith in
     let same : p - p % 2 ^ c.order ≡ c.start =
-    aligned_same (p - p % 2 ^ c.order) c.start (2 ^ c.order) p
-    (floor_aligned p (2 ^ c.order) pos) (placed.blocks.aligned c.start c.order c.listed) low high
-    c.low c.high in
+    aligned_same (p - p % 2 ^ c.order) c.start (2 ^ c.order) p (floor_aligned p (2 ^ c.order) pos)
+    (placed.blocks.aligned c.start c.order c.listed) low high c.low c.high in
     let ten : c.order ≤ 9 = placed.blocks.bounded c.start c.order c.listed in
     range_any (λ order. is_order order (order_at t (p - p % 2 ^ order))) 0 10 c.order (omega arith)
     (omega arith) (ap (is_order c.order) (ap (order_at t) same ∙ c.listed) ∙ is_order-self c.order)
@@ -130,9 +127,8 @@ module _ (t : List (Option ℕ)) (placed : IsPlaced t) where
       join x y = let twice : 2 ^ suc j ≡ 2 ^ j + 2 ^ j = pow_twice j in
           let pos : 0 < 2 ^ j = pow_pos j in elim (cases_lt j x.order) [
             | inl lt ↦
-                let step : a + 2 ^ suc j ≤ x.start + 2 ^ x.order =
-                aligned_step a (x.start + 2 ^ x.order) (2 ^ suc j) e
-                (end_aligned x.start (suc j) x.order lt
+                let step : a + 2 ^ suc j ≤ x.start + 2 ^ x.order = aligned_step a
+                (x.start + 2 ^ x.order) (2 ^ suc j) e (end_aligned x.start (suc j) x.order lt
                 (placed.blocks.aligned x.start x.order x.listed)) (omega (arith, x.high)) in
                 record {
                   start = x.start;
@@ -147,8 +143,8 @@ module _ (t : List (Option ℕ)) (placed : IsPlaced t) where
                   let start_ok : y.start % 2 ^ suc j ≡ 0 = aligned_down y.start (suc j) y.order lt
                   (placed.blocks.aligned y.start y.order y.listed) in
                   let low : y.start ≤ a = elim (cases_lt a y.start) [
-                    | inl past ↦ absurd (omega
-                        (arith, aligned_step a y.start (2 ^ suc j) e start_ok past, y.low))
+                    | inl past ↦ absurd
+                        (omega (arith, aligned_step a y.start (2 ^ suc j) e start_ok past, y.low))
                     | inr ok ↦ ok
                   ] in record {
                     start = y.start;
@@ -299,13 +295,12 @@ module _ (t : List (Option ℕ)) (s k : ℕ) (placed : IsPlaced t) (room : HasRo
   room_there = let pos : 0 < 2 ^ k = pow_pos k in omega (arith, room.fits)
 
   pub room_empty : order_at t s ≡ None
-  room_empty = step (order_at t s) refl
-    where
-      step : (o : Option ℕ) → order_at t s ≡ o → o ≡ None
-      step None e = refl
-      step (Some j) e = let pos : 0 < 2 ^ k = pow_pos k in
-          let pos' : 0 < 2 ^ j = pow_pos j in absurd (outside s (omega arith) (omega arith)
-          (record { start = s; order = j; listed = e; low = omega arith; high = omega arith }))
+  room_empty = step (order_at t s) refl where
+    step : (o : Option ℕ) → order_at t s ≡ o → o ≡ None
+    step None e = refl
+    step (Some j) e = let pos : 0 < 2 ^ k = pow_pos k in
+        let pos' : 0 < 2 ^ j = pow_pos j in absurd (outside s (omega arith) (omega arith)
+        (record { start = s; order = j; listed = e; low = omega arith; high = omega arith }))
 
   -- an entry of the new table: the new block, or an old one elsewhere
   entry_cases : (r j : ℕ) → order_at (set t s (Some k)) r ≡ Some j
@@ -326,13 +321,8 @@ module _ (t : List (Option ℕ)) (s k : ℕ) (placed : IsPlaced t) (room : HasRo
           | inr y ↦
               let w : 2 ^ j ≡ 2 ^ k = ap (λ (n : ℕ). 2 ^ n) x.1 in
               let pos : 0 < 2 ^ i = pow_pos i in
-              outside q (omega (arith, x.0)) (omega (arith, x.0, w)) (record {
-                start = q;
-                order = i;
-                listed = y.1;
-                low = omega arith;
-                high = omega arith;
-              })
+              outside q (omega (arith, x.0)) (omega (arith, x.0, w))
+              (record { start = q; order = i; listed = y.1; low = omega arith; high = omega arith })
         ]
         | inr x ↦ elim (entry_cases q i f) [
           | inl y ↦
@@ -407,14 +397,13 @@ module _ (t : List (Option ℕ)) (s k : ℕ) (placed : IsPlaced t) (room : HasRo
               low = c.low;
               high = c.high;
             })
-        | inr new ↦
-            let q = block_bounds s k p new in to_set t' added_placed p (record {
-              start = s;
-              order = k;
-              listed = get_or-set_same t s (Some k) None room_there;
-              low = q.0;
-              high = q.1;
-            })
+        | inr new ↦ let q = block_bounds s k p new in to_set t' added_placed p (record {
+          start = s;
+          order = k;
+          listed = get_or-set_same t s (Some k) None room_there;
+          low = q.0;
+          high = q.1;
+        })
       ]
 
 -- ---- halving and merging
@@ -587,9 +576,8 @@ pub room_pages : (t : List (Option ℕ)) (s k : ℕ) → HasRoom t s k → (p : 
 room_pages t s k room p h = let q = block_bounds s k p h in room.outside p q.0 q.1
 
 -- all of a block was taken
-pub none_left : (t : List (Option ℕ)) (s k j : ℕ) → HasRoom t s k → j ≡ k
-    → set_of t ≡ without_pages (pages_of (block_at s j))
-    (with_pages (pages_of (block_at s k)) (set_of t))
+pub none_left : (t : List (Option ℕ)) (s k j : ℕ) → HasRoom t s k → j ≡ k → set_of t
+    ≡ without_pages (pages_of (block_at s j)) (with_pages (pages_of (block_at s k)) (set_of t))
 none_left t s k j room e = grind (arith, without_with, room_pages)
 
 -- a block that left comes back but for its lower part

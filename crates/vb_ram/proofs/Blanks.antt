@@ -10,21 +10,18 @@ use Rattle.vb_ram.proofs.Contents.{zero_page-at, length-zero_page, zeros-at}
 
 -- a whole page is shown
 pub length-shown : (bytes : List ℕ) → length bytes ≤ 4096 → length (shown bytes) ≡ 4096
-length-shown bytes few =
-    length-append bytes (drop (length bytes) zero_page)
+length-shown bytes few = length-append bytes (drop (length bytes) zero_page)
     ∙ omega (arith, length-drop (length bytes) zero_page, length-zero_page, few)
 
 -- zeros behind the bytes change none of them, and each place past them has a zero
 pub zeros_behind : (bytes zeros : List ℕ) → ((o : ℕ) → slice_index zeros o ≡ 0) → (o : ℕ)
     → slice_index (bytes ++ zeros) o ≡ slice_index bytes o
-zeros_behind bytes zeros are o = at (cases_lt o (length bytes))
-  where
-    at : (o < length bytes) ⊎ (length bytes ≤ o)
-        → slice_index (bytes ++ zeros) o ≡ slice_index bytes o
-    at (inl inside) = get_or_append_left bytes zeros 0 o inside
-    at (inr behind) =
-        get_or-append_right bytes zeros (length bytes) o 0 refl behind ∙ are (o - length bytes)
-        ∙ sym (get_or_past bytes o 0 behind)
+zeros_behind bytes zeros are o = at (cases_lt o (length bytes)) where
+  at : (o < length bytes) ⊎ (length bytes ≤ o)
+      → slice_index (bytes ++ zeros) o ≡ slice_index bytes o
+  at (inl inside) = get_or_append_left bytes zeros 0 o inside
+  at (inr behind) = get_or-append_right bytes zeros (length bytes) o 0 refl behind
+      ∙ are (o - length bytes) ∙ sym (get_or_past bytes o 0 behind)
 
 -- what is left of zeros is zeros
 pub zeros_left : (m n o : ℕ) → slice_index (drop m (replicate n 0)) o ≡ 0
@@ -38,15 +35,13 @@ shown-at bytes = zeros_behind bytes (drop (length bytes) zero_page)
 -- the same is shown where the same stands at each place
 pub same_shown : (a b : List ℕ) → length a ≤ 4096 → length b ≤ 4096
     → ((o : ℕ) → slice_index a o ≡ slice_index b o) → shown a ≡ shown b
-same_shown a b few_a few_b same =
-    ext_get_or 0 (shown a) (shown b) (length-shown a few_a ∙ sym (length-shown b few_b))
-    (λ o _. shown-at a o ∙ same o ∙ sym (shown-at b o))
+same_shown a b few_a few_b same = ext_get_or 0 (shown a) (shown b) (length-shown a few_a
+    ∙ sym (length-shown b few_b)) (λ o _. shown-at a o ∙ same o ∙ sym (shown-at b o))
 
 -- more zeros show the same
 pub shown-more : (bytes : List ℕ) (n : ℕ) → length bytes + n ≤ 4096
     → shown (bytes ++ replicate n 0) ≡ shown bytes
-shown-more bytes n few =
-    same_shown (bytes ++ replicate n 0) bytes
+shown-more bytes n few = same_shown (bytes ++ replicate n 0) bytes
     (omega (arith, length-append bytes (replicate n 0), length-replicate {A = ℕ} n 0, few))
     (omega (arith, few)) (zeros_behind bytes (replicate n 0) (zeros-at n))
 

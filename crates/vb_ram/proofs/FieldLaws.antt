@@ -1,9 +1,8 @@
 -- Laws of fields, for the crates above.
-use Rattle.std.specs.Prelude.{◌≡◌, ◌≢◌, ℕ, zero, suc, ◌+◌, ◌^◌, ◌<◌, ◌≤◌, List, slice_index, refl}
-use Rattle.std.proofs.Common.{subst, sym, ◌∙◌, ap, arith}
-use Rattle.std.specs.Int.{w16, w32, w64, from_le_bytes, to_le_bytes}
-use Rattle.std.proofs.lemmas.Nat.{from_le_bytes-to_le_bytes_2, from_le_bytes-to_le_bytes_4}
-use Rattle.std.proofs.lemmas.Nat.{from_le_bytes-to_le_bytes_8}
+use Rattle.std.proofs.{Common.{subst, sym, ◌∙◌, ap, arith}, lemmas.Nat.from_le_bytes-to_le_bytes_2}
+use Rattle.std.proofs.lemmas.Nat.{from_le_bytes-to_le_bytes_4, from_le_bytes-to_le_bytes_8}
+use Rattle.std.specs.{Int.{w16, w32, w64, from_le_bytes, to_le_bytes}, Prelude.{◌≡◌, ◌≢◌, ℕ, zero}}
+use Rattle.std.specs.Prelude.{suc, ◌+◌, ◌^◌, ◌<◌, ◌≤◌, List, slice_index, refl}
 use Rattle.vb_ram.specs.Pages.{Pages, byte_of, byte_at, page_at, field, SameBut, SameIn, Wrote}
 use Rattle.vb_ram.specs.Pages.{PutField}
 

@@ -16,8 +16,7 @@ pub written_behind : (a b c : Option (List ℕ)) (held kept text : List ℕ)
 written_behind None b c held kept text p e q = tt
 written_behind (Some xs) None c held kept text p e q = absurd p
 written_behind (Some xs) (Some ys) None held kept text p e q = absurd q
-written_behind (Some xs) (Some ys) (Some zs) held kept text p e q =
-    rw (e, append-nil, q, p) refl
+written_behind (Some xs) (Some ys) (Some zs) held kept text p e q = rw (e, append-nil, q, p) refl
 
 -- a writer for which nothing is held at either end has just what was put
 pub put_in_all : (a b c : Option (List ℕ)) (held kept text : List ℕ)
@@ -47,14 +46,12 @@ pub encoded_behind : (first rest : List ℕ)
     → encode_lower (first ++ rest) ≡ encode_lower first ++ encode_lower rest
 unfolding encode_with
 encoded_behind [] rest = refl
-encoded_behind (byte ∷ first) rest =
-    ap (λ (digits : List ℕ). slice_index lower_digits (byte / 16)
+encoded_behind (byte ∷ first) rest = ap (λ (digits : List ℕ). slice_index lower_digits (byte / 16)
     ∷ slice_index lower_digits (byte % 16) ∷ digits) (encoded_behind first rest)
 
 -- digits of bytes in two parts
 pub encoded_parts : (n : ℕ) (bytes first rest : List ℕ) → first ≡ take n bytes → rest ≡ drop n bytes
     → encode_lower bytes ≡ encode_lower first ++ encode_lower rest
 encoded_parts n bytes first rest is_first is_rest =
-    rw (is_first, is_rest)
-    (ap (λ (all : List ℕ). encode_lower all) (sym (take-append-drop n bytes))
+    rw (is_first, is_rest) (ap (λ (all : List ℕ). encode_lower all) (sym (take-append-drop n bytes))
     ∙ encoded_behind (take n bytes) (drop n bytes))

@@ -1,9 +1,8 @@
 -- Which blocks a report takes, one after the other.
 use Rattle.std.proofs.Common.{◌≡◌, ℕ, ◌+◌, ◌^◌, ◌<◌, ◌≤◌, Bool, true, List, [], ◌∷◌, inl, inr, sym}
-use Rattle.std.proofs.lemmas.Bool.{cases_lt, and_parts, and_from, le-leb, leb-true}
-use Rattle.std.{proofs.Common.{◌∙◌, ap, arith}, specs.Prelude.{◌&&◌, nat_le, filter}}
-use Rattle.std.{specs.List.{range_with_len, flat_map}, proofs.lemmas.Bool.false_from_ne_true}
-use Rattle.std.proofs.lemmas.Nat.{pow_pos}
+use Rattle.std.proofs.{Common.{◌∙◌, ap, arith}, lemmas.Bool.{cases_lt, and_parts, and_from, le-leb}}
+use Rattle.std.proofs.lemmas.{Bool.{leb-true, false_from_ne_true}, Nat.pow_pos}
+use Rattle.std.specs.{List.{range_with_len, flat_map}, Prelude.{◌&&◌, nat_le, filter}}
 use Rattle.vb_model.specs.Pages.{Block, is_maximal, blocks_at, blocks_below, maximal_blocks}
 use Rattle.vb_pages.{specs.Areas.{has, block_at, IsMaximal, IsLowestFrom}, proofs.Sets.same_bool}
 use Rattle.vb_report.proofs.Filtering.{filter_twice, filter_none, filter_same, filter_one}

@@ -1,8 +1,8 @@
 -- Which pages some blocks have.
 use Rattle.std.proofs.Common.{◌≡◌, ℕ, Bool, true, false, List, [], ◌∷◌, ◌++◌, inl, inr, refl, sym}
-use Rattle.std.{proofs.lemmas.Bool.{or_cases, false_from_ne_true}, proofs.Common.{◌∙◌, ap, arith}}
+use Rattle.std.proofs.{lemmas.Bool.{or_cases, false_from_ne_true}, Common.{◌∙◌, ap, arith}}
 use Rattle.std.{proofs.lemmas.List.Elements.{All-head, All-tail}, specs.List.list_any}
-use Rattle.std.{proofs.lemmas.List.Folds.list_any-append, specs.Prelude.{◌||◌, count_by, All}}
+use Rattle.std.{proofs.lemmas.List.Folds.list_any-append, specs.Prelude.{◌||◌, All}}
 use Rattle.vb_model.proofs.Distinct.{distinct_list, distinct_once, times-some}
 use Rattle.vb_model.{specs.Pages.{Block, covers, pages_of, pages_of_all}, specs.Driver.AllDistinct}
 use Rattle.vb_model.{proofs.Blocks.times_in_blocks, specs.Tests.{is_in, one_if}}
@@ -12,9 +12,8 @@ use Rattle.vb_report.specs.Blocks.{block_of, blocks_of, is_covered}
 
 in_blocks : (p : ℕ) (bs : List Block) → is_in p (pages_of_all bs) ≡ list_any (covers p) bs
 in_blocks p [] = refl
-in_blocks p (b ∷ bs) =
-    list_any-append (λ (m : ℕ). Rattle.std.specs.Prelude.◌==◌ m p) (pages_of b) (pages_of_all bs)
-    ∙ (ap (λ (v : Bool). v || is_in p (pages_of_all bs))
+in_blocks p (b ∷ bs) = list_any-append (λ (m : ℕ). Rattle.std.specs.Prelude.◌==◌ m p)
+    (pages_of b) (pages_of_all bs) ∙ (ap (λ (v : Bool). v || is_in p (pages_of_all bs))
     (sym (covers_is p b (is_in p (pages_of b)) refl))
     ∙ ap (λ (v : Bool). covers p b || v) (in_blocks p bs))
 
@@ -26,11 +25,10 @@ in_covered p bs = in_blocks p (blocks_of bs)
 -- one more block
 pub covered_more : (p : ℕ) (bs : List FreeBlock) (b : FreeBlock)
     → is_covered p (bs ++ b ∷ []) ≡ (is_covered p bs || covers p (block_of b))
-covered_more p [] b = ends (covers p (block_of b))
-  where
-    ends : (v : Bool) → (v || false) ≡ v
-    ends true = refl
-    ends false = refl
+covered_more p [] b = ends (covers p (block_of b)) where
+  ends : (v : Bool) → (v || false) ≡ v
+  ends true = refl
+  ends false = refl
 covered_more p (x ∷ bs) b = grind (arith, covered_more p bs b)
 
 -- a block that covers the page, and what is known of it

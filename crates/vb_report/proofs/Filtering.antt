@@ -44,9 +44,8 @@ filter_one {A = A} test f j a (suc n) l u here others = elim (cases_eq a j) [
       ∙ ap (λ (k : ℕ). f k ∷ []) e)
   | inr d ↦ ap (λ (v : Bool). cond v (f a ∷ filter test (map f (range_with_len (a + 1) n)))
       (filter test (map f (range_with_len (a + 1) n))))
-      (others a (omega arith) (omega arith) (λ e. d e))
-      ∙ filter_one test f j (a + 1) n (omega arith) (omega arith) here
-      (λ k b c. others k (omega arith) (omega arith))
+      (others a (omega arith) (omega arith) (λ e. d e)) ∙ filter_one test f j
+      (a + 1) n (omega arith) (omega arith) here (λ k b c. others k (omega arith) (omega arith))
 ]
 
 -- ---- lists by number, one after the other
@@ -74,10 +73,9 @@ flat_same {A = A} test other g a (suc n) h =
 
 -- one element at s passes the first test; what stands after it passes both or none
 pub flat_split : {A : Type 0} (test other : A → Bool) (g : ℕ → List A) (s : ℕ) (x : A) (a n : ℕ)
-    → a ≤ s → s < a + n
-    → ((k : ℕ) → k < s → filter test (g k) ≡ []) → ((k : ℕ) → k < s → filter other (g k) ≡ [])
-    → filter test (g s) ≡ x ∷ [] → filter other (g s) ≡ []
-    → ((k : ℕ) → s < k → filter test (g k) ≡ filter other (g k))
+    → a ≤ s → s < a + n → ((k : ℕ) → k < s → filter test (g k) ≡ [])
+    → ((k : ℕ) → k < s → filter other (g k) ≡ []) → filter test (g s) ≡ x
+    ∷ [] → filter other (g s) ≡ [] → ((k : ℕ) → s < k → filter test (g k) ≡ filter other (g k))
     → filter test (flat_map g (range_with_len a n))
     ≡ x ∷ filter other (flat_map g (range_with_len a n))
 flat_split test other g s x a zero l u b c here gone after = absurd (omega arith)

@@ -7,9 +7,8 @@ use Rattle.std.proofs.lemmas.Bool.{not_from_false, false_from_ne_true, both_ways
 use Rattle.vb_model.specs.Pages.{Block, size, pages_of, is_aligned, around, is_whole, is_maximal}
 use Rattle.vb_model.{proofs.Tables.list_all-at, proofs.Blocks.any_in_range}
 use Rattle.vb_pages.proofs.Aligned.{aligned_step, aligned_same, aligned_down, end_aligned}
+use Rattle.vb_pages.proofs.{Aligned.floor_aligned, Sets.in_block, TilesLemmas.any_range}
 use Rattle.vb_pages.specs.Areas.{has, block_at, IsBlock, LiesIn, LiesWithin, IsMaximal}
-use Rattle.vb_pages.{proofs.Aligned.floor_aligned, proofs.Sets.in_block}
-use Rattle.vb_pages.proofs.TilesLemmas.{any_range}
 
 -- of two aligned blocks round one page, the smaller lies within the larger
 pub nested : (s j t k p : ℕ) → s % 2 ^ j ≡ 0 → t % 2 ^ k ≡ 0 → j ≤ k → s ≤ p → p < s + 2 ^ j

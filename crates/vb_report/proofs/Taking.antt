@@ -27,9 +27,8 @@ use Rattle.vb_report.proofs.Choosing.{is_later, none_named, first_named}
 
 record IsTakenFrom (set left : List Bool) (next : ℕ) : Type 0 where
   less : (p : ℕ) → has left p ≡ true → has set p ≡ true
-  gone : (p : ℕ) → has set p ≡ true → has left p ≡ false
-      → (b : Block) × IsMaximal set b × (b.start ≤ p) × (p < b.start + size b)
-      × (b.start + size b ≤ next)
+  gone : (p : ℕ) → has set p ≡ true → has left p ≡ false → (b : Block)
+      × IsMaximal set b × (b.start ≤ p) × (p < b.start + size b) × (b.start + size b ≤ next)
 
 -- a maximal block from that page on is still one
 still_maximal : (set left : List Bool) (next : ℕ) (c : Block) → IsTakenFrom set left next
@@ -85,12 +84,11 @@ taken_from : (set : List Bool) (bs : List FreeBlock) (next : ℕ) → All (is_be
     → IsTakenFrom set (without_pages (pages_of_all (blocks_of bs)) set) next
 taken_from set bs next all = record {
   less = λ p h. (without_parts (pages_of_all (blocks_of bs)) set p h).0;
-  gone = λ p h n.
-      let c : is_covered p bs ≡ true = elim (cases_Bool (is_covered p bs)) [
-        | inl t ↦ t
-        | inr f ↦ absurd (both_ways (has (without_pages (pages_of_all (blocks_of bs)) set) p) n
-            (without_old (pages_of_all (blocks_of bs)) set p h (in_covered p bs ∙ f)))
-      ] in
+  gone = λ p h n. let c : is_covered p bs ≡ true = elim (cases_Bool (is_covered p bs)) [
+    | inl t ↦ t
+    | inr f ↦ absurd (both_ways (has (without_pages (pages_of_all (blocks_of bs)) set) p) n
+        (without_old (pages_of_all (blocks_of bs)) set p h (in_covered p bs ∙ f)))
+  ] in
       let x = covering (is_before set next) p bs all c in
       let q = covers_bounds p x.0.start x.0.order x.2 in (block_of x.0, x.1.0, q.0, q.1, x.1.1);
 }
@@ -249,9 +247,8 @@ taking_all old now next from room page count bs t isolates = (
   subst (λ (s : PageState). IsTaking old s from room page count bs) (t.state ∙ sym is) t,
   λ test same.
       let all : List Block = maximal_blocks (page_count old) test in
-      let gone : filter (is_later page) all ≡ [] =
-      none_named test (areas_of old) same page (page_count old) (λ b x. never b x.maximal x.large x.after)
-      in sym (append-nil (blocks_of bs))
+      let gone : filter (is_later page) all ≡ [] = none_named test (areas_of old) same page
+      (page_count old) (λ b x. never b x.maximal x.large x.after) in sym (append-nil (blocks_of bs))
       ∙ (ap (λ (xs : List Block). blocks_of bs ++ xs) (sym (take_none (room - count)))
       ∙ (ap (λ (xs : List Block). blocks_of bs ++ take (room - count) xs) (sym gone)
       ∙ t.rest test same)),
@@ -330,9 +327,8 @@ pub record Chooses (old new : PageState) (from room : ℕ) (bs : List FreeBlock)
   pub pages : (p : ℕ) → is_in p (pages_of_all (blocks_of bs)) ≡ true
       → (is_free_page old p ≡ true) × (reserved_count old ≤ p) × (p < page_count old)
 
-pub chooses : (old mid new : PageState) (from room : ℕ) (bs : List FreeBlock)
-    → mid ≡ record old { free = drained old.free }
-    → ((p : ℕ) → is_free_page mid p ≡ is_free_page old p)
+pub chooses : (old mid new : PageState) (from room : ℕ) (bs : List FreeBlock) → mid
+    ≡ record old { free = drained old.free } → ((p : ℕ) → is_free_page mid p ≡ is_free_page old p)
     → ((test : ℕ → Bool) → ((p : ℕ) → test p ≡ is_free_page mid p)
     → blocks_of bs ≡ reported room from (maximal_blocks (page_count mid) test))
     → new ≡ without_blocks bs mid → All (λ b. HasRoomIn new (block_of b)) bs

@@ -1,12 +1,11 @@
 -- Bytes of guest memory in a row.
-use Rattle.std.specs.Prelude.{◌≡◌, ℕ, ◌+◌, ◌-◌, ◌/◌, ◌%◌, ◌<◌, ◌≤◌, ◌⊎◌, true, false, List, [], ◌∷◌}
-use Rattle.std.proofs.lemmas.List.{append-nil, take_more, ext_get_or, get_or_append_left}
-use Rattle.std.specs.Prelude.{◌++◌, length, slice_index, Result, Ok, Err, refl, Bool, if◌then◌else◌}
-use Rattle.std.{specs.List.list_any, proofs.lemmas.Bool.cases_lt}
 use Rattle.std.proofs.Common.{sym, ◌∙◌, ap, arith, get_or, take, inl, inr, length-append}
-use Rattle.std.{proofs.lemmas.Grind.flat_map-append, proofs.lemmas.List.get_or-append_right}
+use Rattle.std.proofs.lemmas.{Bool.cases_lt, Grind.flat_map-append, List.{append-nil, take_more}}
+use Rattle.std.proofs.lemmas.List.{ext_get_or, get_or_append_left, get_or-append_right}
 use Rattle.std.proofs.lemmas.List.FromFn.{get_or-map-range_with_len, length-map-range_with_len}
-use Rattle.std.proofs.lemmas.List.Sums.{sum_by_more}
+use Rattle.std.{proofs.lemmas.List.Sums.sum_by_more, specs.List.list_any, specs.Prelude.{◌≡◌, ℕ}}
+use Rattle.std.specs.Prelude.{◌+◌, ◌-◌, ◌/◌, ◌%◌, ◌<◌, ◌≤◌, ◌⊎◌, true, false, List, [], ◌∷◌, ◌++◌}
+use Rattle.std.specs.Prelude.{length, slice_index, Result, Ok, Err, refl, Bool, if◌then◌else◌}
 use Rattle.vb_ram.specs.Pages.{Pages, byte_at}
 use Rattle.vb_chain.{specs.declared.pieces.Piece.Piece, specs.declared.fault.ChainFault.ChainFault}
 use Rattle.vb_chain.specs.declared.fault.ChainFault.TheVariants.{WrongDirection, BadLength}
@@ -21,9 +20,8 @@ bytes_from-length mem addr len = length-map-range_with_len (byte_of_address mem)
 pub run_is : (mem : Pages) (addr n : ℕ) (out : List ℕ) → length out ≡ n → addr % 4096 + n ≤ 4096 →
     ((k : ℕ) → k < n → slice_index out k ≡ byte_at mem (addr / 4096) (addr % 4096 + k))
     → out ≡ bytes_from mem addr n
-run_is mem addr n out len fits read =
-    ext_get_or 0 out (bytes_from mem addr n) (len ∙ sym (bytes_from-length mem addr n)) (λ k l.
-    read k (omega (arith, l, len)) ∙
+run_is mem addr n out len fits read = ext_get_or 0 out (bytes_from mem addr n)
+    (len ∙ sym (bytes_from-length mem addr n)) (λ k l. read k (omega (arith, l, len)) ∙
     sym (get_or-map-range_with_len (byte_of_address mem) addr n k (addr + k) 0
     (omega (arith, l, len)) refl ∙ here k (omega (arith, l, len))))
   where
@@ -51,17 +49,15 @@ bytes_from-append mem addr a b = ext_get_or 0 (bytes_from mem addr a ++ bytes_fr
       bytes_from-length mem (addr + a) b,
     )
 
-    at : (k : ℕ) → k < a + b → (k < a) ⊎ (a ≤ k) →
-        get_or (bytes_from mem addr a ++ bytes_from mem (addr + a) b) k 0 ≡
-        byte_of_address mem (addr + k)
+    at : (k : ℕ) → k < a + b → (k < a) ⊎ (a ≤ k) → get_or (bytes_from mem addr a
+        ++ bytes_from mem (addr + a) b) k 0 ≡ byte_of_address mem (addr + k)
     at k l (inl lt) = get_or_append_left (bytes_from mem addr a) (bytes_from mem (addr + a) b) 0 k
         (omega (arith, lt, bytes_from-length mem addr a))
         ∙ get_or-map-range_with_len (byte_of_address mem) addr a k (addr + k) 0 lt refl
     at k l (inr past) = let same : addr + a + (k - a) ≡ addr + k = omega arith in
         get_or-append_right (bytes_from mem addr a) (bytes_from mem (addr + a) b) a k 0
-        (bytes_from-length mem addr a) past
-        ∙ get_or-map-range_with_len (byte_of_address mem) (addr + a) b (k - a) (addr + k) 0
-        (omega (arith, l, past)) same
+        (bytes_from-length mem addr a) past ∙ get_or-map-range_with_len
+        (byte_of_address mem) (addr + a) b (k - a) (addr + k) 0 (omega (arith, l, past)) same
 
 -- one more piece
 pub pieces_more : (mem : Pages) (pieces : List Piece) (i : ℕ) (d : Piece) (so_far new : List ℕ) →

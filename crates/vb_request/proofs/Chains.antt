@@ -1,12 +1,11 @@
 -- The pieces of a chain lie in memory, as `read_chain_into` wants them.
-use Rattle.std.specs.Prelude.{◌≡◌, ℕ, ◌+◌, ◌<◌, ◌≤◌, Bool, false, List, ◌∷◌, [], All, length, map}
+use Rattle.std.specs.Prelude.{◌≡◌, ℕ, ◌+◌, ◌<◌, ◌≤◌, Bool, false, List, ◌∷◌, All, length, map}
 use Rattle.std.{proofs.lemmas.List.{get_or-map, length-map}, specs.Prelude.{slice_index, None}}
-use Rattle.std.{proofs.lemmas.List.Elements.All-from_get_or, proofs.lemmas.Bool.ltb-false}
+use Rattle.std.proofs.lemmas.{List.Elements.All-from_get_or, Bool.ltb-false}
 use Rattle.std.{proofs.Common.{sym, subst, arith, take}, specs.List.list_any}
-use Rattle.vb_chain.{specs.declared.descriptor.Descriptor.Descriptor, specs.Chain.ChainGives}
-use Rattle.vb_chain.{specs.declared.pieces.Piece.Piece, specs.declared.fault.ChainFault.ChainFault}
-use Rattle.vb_chain.specs.Rules.{piece_of, first_broken, first_fault, is_writable}
-use Rattle.vb_chain.specs.Written.{empty}
+use Rattle.vb_chain.specs.{declared.descriptor.Descriptor.Descriptor, Chain.ChainGives}
+use Rattle.vb_chain.specs.declared.{pieces.Piece.Piece, fault.ChainFault.ChainFault}
+use Rattle.vb_chain.specs.{Rules.{piece_of, first_broken, first_fault, is_writable}, Written.empty}
 
 second_holds : (b c : Bool) (f h : ChainFault) (rest : List (Bool × ChainFault)) →
     first_broken ((b, f) ∷ (c, h) ∷ rest) ≡ None → c ≡ false
@@ -18,9 +17,8 @@ fits_of q end writing k x e = grind (arith, ltb-false, second_holds)
 
 pub chain_fits : (d : ℕ → Descriptor) (q end h : ℕ) (pieces : List Piece) →
     ChainGives d q end h pieces → All (λ piece. piece.addr + piece.len ≤ end) pieces
-chain_fits d q end h pieces gives =
-    subst (λ (xs : List Piece). All (λ piece. piece.addr + piece.len ≤ end) xs)
-    (sym gives.pieces_are)
+chain_fits d q end h pieces gives = subst
+    (λ (xs : List Piece). All (λ piece. piece.addr + piece.len ≤ end) xs) (sym gives.pieces_are)
     (All-from_get_or (λ piece. piece.addr + piece.len ≤ end) (map (λ i. piece_of (d i)) gives.path)
     empty (λ k lt.
     let inside : k < length gives.path =

@@ -1,8 +1,7 @@
 -- Statistics one after another.
 use Rattle.std.specs.Prelude.{◌≡◌, ℕ, ◌+◌, ◌/◌, ◌<◌, Bool, true, false, ◌==◌, List, [], ◌∷◌, ◌++◌}
-use Rattle.std.specs.Prelude.{length, if◌then◌else◌, Option, Some, None, Err, refl}
-use Rattle.std.{specs.List.list_any, proofs.Common.{sym, ◌∙◌, ap, arith, get_or, take}}
-use Rattle.std.proofs.lemmas.List.{take_more}
+use Rattle.std.specs.{Prelude.{length, if◌then◌else◌, Option, Some, None, Err, refl}, List.list_any}
+use Rattle.std.proofs.{Common.{sym, ◌∙◌, ap, arith, get_or, take}, lemmas.List.take_more}
 use Rattle.std.proofs.lemmas.List.FromFn.{length-map-range_with_len, get_or-map-range_with_len}
 use Rattle.vb_chain.specs.declared.pieces.Piece.{Piece}
 use Rattle.vb_chain.specs.declared.fault.ChainFault.TheVariants.{WrongDirection, BadLength}
@@ -16,11 +15,10 @@ later_assoc (Some v) b c = refl
 
 last_append : (tag : ℕ) (xs ys : List Statistic) →
     last_of tag (xs ++ ys) ≡ later_or (last_of tag ys) (last_of tag xs)
-last_append tag [] ys = later_none (last_of tag ys)
-  where
-    later_none : (o : Option ℕ) → o ≡ later_or o None
-    later_none None = refl
-    later_none (Some v) = refl
+last_append tag [] ys = later_none (last_of tag ys) where
+  later_none : (o : Option ℕ) → o ≡ later_or o None
+  later_none None = refl
+  later_none (Some v) = refl
 last_append tag (x ∷ xs) ys = grind (
   arith,
   last_append tag xs ys,

@@ -1,9 +1,8 @@
 -- Numbers, each once.
 use Rattle.std.specs.Prelude.{◌≡◌, ℕ, ◌+◌, ◌<◌, ◌≤◌, Bool, true, false, not, ◌==◌, ◌||◌, List, []}
-use Rattle.std.proofs.Common.{sym, ◌∙◌, eq-eqb, ap, arith, ◌/◌, get_or, take, drop, drop-cons}
 use Rattle.std.specs.Prelude.{◌∷◌, ◌++◌, length, filter, if◌then◌else◌, Some, None, refl, cond}
-use Rattle.std.{proofs.Common.add-one, proofs.lemmas.Bool.eqb-true}
-use Rattle.std.proofs.lemmas.List.Elements.{filter-append}
+use Rattle.std.proofs.Common.{sym, ◌∙◌, eq-eqb, ap, arith, ◌/◌, get_or, take, drop, drop-cons}
+use Rattle.std.proofs.{Common.add-one, lemmas.Bool.eqb-true, lemmas.List.Elements.filter-append}
 use Rattle.std.proofs.lemmas.List.{append-nil, take_more, take-append-drop, length_push}
 use Rattle.std.proofs.lemmas.List.FromFn.{length-map-range_with_len, get_or-map-range_with_len}
 use Rattle.vb_model.specs.Tests.{is_in}
@@ -28,9 +27,8 @@ is_in-but : (n m : ℕ) (ns : List ℕ) → (m == n) ≡ false → is_in n (but 
 is_in-but n m [] ne = refl
 is_in-but n m (x ∷ xs) ne = but_step n m x xs (x == m) refl ne (is_in-but n m xs ne)
 
-once_step : (n x : ℕ) (xs : List ℕ) (b : Bool) → (x == n) ≡ b →
-    is_in n (each_once xs) ≡ is_in n xs →
-    ((x == n) || is_in n (but x (each_once xs))) ≡ ((x == n) || is_in n xs)
+once_step : (n x : ℕ) (xs : List ℕ) (b : Bool) → (x == n) ≡ b → is_in n (each_once xs) ≡ is_in n xs
+    → ((x == n) || is_in n (but x (each_once xs))) ≡ ((x == n) || is_in n xs)
 once_step n x xs b e ih = grind (arith, is_in-but)
 
 -- a list's numbers are those of the list with each once
@@ -51,10 +49,9 @@ but_other m n f = ap (λ v. cond (not v) (n ∷ []) []) (not_eq_sym m n (n == m)
 put_last : List ℕ → ℕ → Bool → List ℕ
 put_last xs n b = if b then xs else xs ++ n ∷ []
 
-push_step : (m n : ℕ) (ms : List ℕ) (b c : Bool) → is_in n ms ≡ b → (m == n) ≡ c →
-    each_once (ms ++ n ∷ []) ≡ put_last (each_once ms) n (is_in n ms)
-    → (m ∷ but m (each_once (ms ++ n ∷ []))) ≡
-    put_last (m ∷ but m (each_once ms)) n ((m == n) || is_in n ms)
+push_step : (m n : ℕ) (ms : List ℕ) (b c : Bool) → is_in n ms ≡ b → (m == n) ≡ c → each_once (ms
+    ++ n ∷ []) ≡ put_last (each_once ms) n (is_in n ms) → (m ∷ but m (each_once (ms ++ n ∷ [])))
+    ≡ put_last (m ∷ but m (each_once ms)) n ((m == n) || is_in n ms)
 unfolding put_last
 push_step m n ms b c e f ih =
     grind (arith, put_last, filter-append, eqb-true, but_self, append-nil, but_other)
@@ -103,10 +100,9 @@ sound_more reserved count ns k number lt at before here = grind (
 )
 
 -- one more number, put behind the others where it is new
-pub once_more : (ns pages new : List ℕ) (k number : ℕ) → k < length ns → get_or ns k 0 ≡ number →
-    pages ≡ each_once (take k ns) →
-    new ≡ (if is_in number pages then pages else pages ++ number ∷ []) →
-    new ≡ each_once (take (k + 1) ns)
+pub once_more : (ns pages new : List ℕ) (k number : ℕ) → k < length ns → get_or ns k 0 ≡ number
+    → pages ≡ each_once (take k ns) → new ≡ (if is_in number pages then pages else pages
+    ++ number ∷ []) → new ≡ each_once (take (k + 1) ns)
 once_more ns pages new k number lt at so_far is = grind (
   arith,
   is_in-each_once number (take k ns),

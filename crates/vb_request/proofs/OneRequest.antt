@@ -3,9 +3,8 @@ use Rattle.std.specs.Prelude.{◌≡◌, ℕ, suc, ◌+◌, ◌*◌, ◌/◌, �
 use Rattle.std.specs.Prelude.{◌||◌, ◌==◌, nat_le, nat_lt, IsTrue, List, [], ◌∷◌, All, length}
 use Rattle.std.specs.Prelude.{filter, if◌then◌else◌, Option, Some, None, Ok, slice_index, refl}
 use Rattle.std.{specs.Prelude.cond, proofs.Common.{sym, ◌∙◌, ap, arith, take, drop, eq-eqb, rules}}
-use Rattle.std.proofs.lemmas.Bool.{lt-ltb, le-leb, lt-leb, le-ltb}
-use Rattle.std.proofs.lemmas.List.{ext_get_or, get_or-take, get_or-drop, append-nil}
-use Rattle.std.proofs.lemmas.List.FromFn.{get_or-map-range_with_len}
+use Rattle.std.proofs.lemmas.{Bool.{lt-ltb, le-leb, lt-leb, le-ltb}, List.{ext_get_or, get_or-take}}
+use Rattle.std.proofs.lemmas.List.{get_or-drop, append-nil, FromFn.get_or-map-range_with_len}
 use Rattle.vb_model.{specs.Tests.is_in, specs.Driver.AllDistinct}
 use Rattle.vb_ram.{specs.Pages.{Pages, byte_at}, proofs.FieldLaws.field_4}
 use Rattle.vb_chain.{specs.declared.pieces.Piece.Piece, specs.declared.fault.ChainFault.ChainFault}

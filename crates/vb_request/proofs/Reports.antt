@@ -91,9 +91,8 @@ fault_here reserved pieces i d fault lt before here = let rest : List Piece = dr
 
 -- one more piece that is right
 pub sound_more : (reserved : ℕ) (pieces : List Piece) (i : ℕ) (d : Piece) → i < length pieces
-    → first_piece_fault reserved (take i pieces) ≡ None
-    → piece_fault reserved (get_or pieces i d) ≡ None
-    → first_piece_fault reserved (take (i + 1) pieces) ≡ None
+    → first_piece_fault reserved (take i pieces) ≡ None → piece_fault reserved (get_or pieces i d)
+    ≡ None → first_piece_fault reserved (take (i + 1) pieces) ≡ None
 sound_more reserved pieces i d lt before here = grind (
   arith,
   take_more pieces i d lt,
@@ -102,9 +101,8 @@ sound_more reserved pieces i d lt before here = grind (
 
 -- ---- the answers to a chain
 
-pub wrong_way : (reserved : ℕ) (pieces : List Piece)
-    → list_any (λ piece. not piece.writable) pieces ≡ true
-    → report_request pieces reserved ≡ Err WrongDirection
+pub wrong_way : (reserved : ℕ) (pieces : List Piece) → list_any (λ piece. not piece.writable) pieces
+    ≡ true → report_request pieces reserved ≡ Err WrongDirection
 wrong_way reserved pieces e = rw e refl
 
 pub wrong_length : (reserved : ℕ) (pieces : List Piece) (bad : Bool)
@@ -166,8 +164,7 @@ by_causes reserved pieces a b pages e = grind (arith, ok_of)
 
 -- What a report names.
 pub report_pages : (count : ℕ) (pieces : List Piece) (reserved : ℕ) (pages : List ℕ)
-    → All (λ piece. piece.addr + piece.len ≤ 4096 * count) pieces
-    → report_request pieces reserved ≡ Ok pages
-    → All (λ page. reserved ≤ page) pages × All (λ page. page < count) pages
+    → All (λ piece. piece.addr + piece.len ≤ 4096 * count) pieces → report_request pieces reserved
+    ≡ Ok pages → All (λ page. reserved ≤ page) pages × All (λ page. page < count) pages
 report_pages count pieces reserved pages inside e =
     grind (arith, by_causes, above_reserved, pages_below)

@@ -22,9 +22,8 @@ none_of_both : (a b : Option ChainFault) → first_of_both a b ≡ None → (a �
 none_of_both None b e = (refl, e)
 none_of_both (Some f) b e = absurd cc
 
-neither : (b c : Bool) →
-    (if b then Some BadPage else (if c then Some ReservedPage else None)) ≡ None →
-    (b ≡ false) × (c ≡ false)
+neither : (b c : Bool) → (if b then Some BadPage else (if c then Some ReservedPage else None))
+    ≡ None → (b ≡ false) × (c ≡ false)
 neither b c e = search (arith)
 
 all_cons : (P : ℕ → Type 0) (x : ℕ) (xs : List ℕ) → P x → All P xs → (k d : ℕ) →
@@ -51,9 +50,8 @@ each_right reserved count (n ∷ ns) e =
 
 pub once_all : (P : ℕ → Type 0) (ns : List ℕ) → All P ns → All P (each_once ns)
 once_all P [] all = λ k d lt. absurd (omega arith)
-once_all P (n ∷ ns) all =
-    all_cons P n (filter (λ m. not (m == n)) (each_once ns)) (all 0 n (omega arith))
-    (All-filter (λ m. not (m == n)) P (each_once ns)
+once_all P (n ∷ ns) all = all_cons P n (filter (λ m. not (m == n)) (each_once ns))
+    (all 0 n (omega arith)) (All-filter (λ m. not (m == n)) P (each_once ns)
     (once_all P ns (λ k d lt. all (suc k) d (omega arith))))
 
 true_false : true ≡ false → ⊥

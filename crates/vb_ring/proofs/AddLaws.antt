@@ -11,9 +11,8 @@ use Rattle.vb_ring.{specs.declared.driver.Full.Full, proofs.Numbers.length-numbe
 use Rattle.vb_ring.{specs.Ends.{outstanding, AreSingle}, proofs.OwnerLaws.nowhere_in}
 use Rattle.vb_ring.{proofs.MeaningLaws.{next_path-free, next_path-rise}, specs.Calls.AddsBy}
 use Rattle.vb_ram.specs.Pages.{Pages}
-use Rattle.vb_chain.{specs.declared.pieces.Piece.Piece, specs.Table.descriptor_at}
-use Rattle.vb_chain.{specs.Written.{IsRoute, AreSound}, specs.Chain.ChainGives}
-use Rattle.vb_chain.proofs.ChainLaws.{written_chain}
+use Rattle.vb_chain.specs.{declared.pieces.Piece.Piece, Table.descriptor_at, Written.IsRoute}
+use Rattle.vb_chain.{specs.Written.AreSound, specs.Chain.ChainGives, proofs.ChainLaws.written_chain}
 
 -- ---- what was added is a chain of these pieces
 

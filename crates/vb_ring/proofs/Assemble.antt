@@ -162,9 +162,8 @@ pub adds_along : (m1 m2 m3 : Pages) (r : DriverEnd) (pieces : List Piece) (path 
     → descriptor_at m2 r.layout.table (slice_index path k) ≡ linked path pieces k)
     → ((i : ℕ) → ((k : ℕ) → k < length path → slice_index path k ≢ i)
     → descriptor_at m2 r.layout.table i ≡ descriptor_at m1 r.layout.table i)
-    → SameBut m1 m2 r.layout.table 0 (16 * r.size)
-    → PutsAvail m2 m3 r.layout r.size r.published (slice_index path 0)
-    → new ≡ claimed path (slice_index path 0) r.owner
+    → SameBut m1 m2 r.layout.table 0 (16 * r.size) → PutsAvail m2 m3 r.layout r.size r.published
+    (slice_index path 0) → new ≡ claimed path (slice_index path 0) r.owner
     → AddsBy m1 m3 r (record r { published = (r.published + 1) % 65536; owner = new }) pieces
     (Ok (slice_index path 0))
 adds_along m1 m2 m3 r pieces path new along is_end some len put others table w owner =
@@ -172,9 +171,8 @@ adds_along m1 m2 m3 r pieces path new along is_end some len put others table w o
     let inside : (k : ℕ) → k < length path → slice_index path k < r.size =
     subst (λ (xs : List ℕ). (k : ℕ) → k < length xs → slice_index xs k < r.size) (sym along)
     (λ k h. (next_path-free r n k h).0) in
-    let links : Links m1 m3 r.layout r.size path pieces =
-    links_kept m1 m2 m3 r.layout r.size r.published (slice_index path 0) path pieces is_end.fits
-    len inside put others w in
+    let links : Links m1 m3 r.layout r.size path pieces = links_kept m1 m2 m3 r.layout
+    r.size r.published (slice_index path 0) path pieces is_end.fits len inside put others w in
     let pubs : Publishes m1 m3 r.layout r.size r.published (slice_index path 0) =
     publishes m1 m2 m3 r.layout r.size r.published (slice_index path 0) table w in
     let enough : n ≤ length (free_descriptors r) =

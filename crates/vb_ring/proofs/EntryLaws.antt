@@ -1,11 +1,10 @@
 -- What a write does to the lists that the rings show, and what stands next in them.
 use Rattle.std.specs.Prelude.{◌≡◌, ◌≢◌, ℕ, ◌+◌, ◌-◌, ◌*◌, ◌%◌, ◌<◌, ◌≤◌, List, ◌∷◌, [], ◌++◌}
-use Rattle.std.proofs.lemmas.List.{length_push, get_or_append_left, get_or_push, length-map}
-use Rattle.std.{specs.Prelude.{length, slice_get, Some, None, Ok}, proofs.lemmas.List.get_or-map}
-use Rattle.std.{proofs.Common.{sym, ◌∙◌, ap, arith, inl, inr}, proofs.lemmas.Grind.common_steps}
-use Rattle.std.proofs.lemmas.Option.{slice_get-get_or, slice_get_past}
-use Rattle.std.{proofs.lemmas.Nat.mod_below, proofs.lemmas.Bool.cases_eq}
-use Rattle.std.proofs.Math.Nat.{mod-mod_of_dvd, dvd_of_mod-eq-zero}
+use Rattle.std.{specs.Prelude.{length, slice_get, Some, None, Ok}, proofs.lemmas.List.length_push}
+use Rattle.std.proofs.lemmas.List.{get_or_append_left, get_or_push, length-map, get_or-map}
+use Rattle.std.proofs.{Common.{sym, ◌∙◌, ap, arith, inl, inr}, lemmas.Grind.common_steps}
+use Rattle.std.proofs.lemmas.{Option.{slice_get-get_or, slice_get_past}, Nat.mod_below}
+use Rattle.std.proofs.{lemmas.Bool.cases_eq, Math.Nat.{mod-mod_of_dvd, dvd_of_mod-eq-zero}}
 use Rattle.vb_ram.specs.Pages.{byte_at, page_at, Pages, field, SameIn}
 use Rattle.vb_ram.proofs.FieldLaws.{same_page, field_in}
 use Rattle.vb_chain.{specs.Table.descriptor_at, proofs.TableLaws.descriptor_kept}
@@ -70,9 +69,8 @@ used_grown old new l q next head count elems size at id written index others sho
 
 -- What a publication writes shows one head more, and the same used elements.
 pub publishes_entries : (old new : Pages) (l : Layout) (q next head : ℕ) (heads : List ℕ)
-    (elems : List UsedElem) → Fits l q → Publishes old new l q next head
-    → length heads % 65536 ≡ next → ShowsEntries old l q heads elems
-    → ShowsEntries new l q (heads ++ head ∷ []) elems
+    (elems : List UsedElem) → Fits l q → Publishes old new l q next head → length heads % 65536
+    ≡ next → ShowsEntries old l q heads elems → ShowsEntries new l q (heads ++ head ∷ []) elems
 publishes_entries old new l q next head heads elems fits w at shows = record {
   avail = avail_grown old new l q next head heads fits.size at w.entry w.index (λ k apart.
       let mine = mod_below k q (omega (arith, fits.size.least)) in
@@ -171,8 +169,7 @@ index_zero mem p o a b = omega (arith, a, b)
 
 -- Where the rings' pages are as before, they show what they showed.
 pub entries_apart : (old new : Pages) (l : Layout) (q : ℕ) (heads : List ℕ) (elems : List UsedElem)
-    → IsSize q → page_at new l.avail.page ≡ page_at old l.avail.page
-    → page_at new l.used.page ≡ page_at old l.used.page
-    → ShowsEntries old l q heads elems → ShowsEntries new l q heads elems
+    → IsSize q → page_at new l.avail.page ≡ page_at old l.avail.page → page_at new l.used.page
+    ≡ page_at old l.used.page → ShowsEntries old l q heads elems → ShowsEntries new l q heads elems
 entries_apart old new l q heads elems size a u shows =
     search (arith, avail_kept, same_page, used_kept)

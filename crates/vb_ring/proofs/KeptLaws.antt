@@ -1,10 +1,9 @@
 -- What the driver's table keeps, after each change of the owners.
 use Rattle.std.specs.Prelude.{◌≡◌, ◌≢◌, ℕ, ◌+◌, ◌-◌, ◌<◌, ◌≤◌, Bool, true, false, List, Option}
 use Rattle.std.specs.Prelude.{Some, None, ◌++◌, if◌then◌else◌, replicate, take, length, slice_index}
-use Rattle.std.proofs.lemmas.List.{length-map, get_or-set_same, get_or-set_other, take_at}
-use Rattle.std.{specs.Prelude.{slice_index_or, refl, is_none}, proofs.lemmas.Bool.cases_eq}
-use Rattle.std.proofs.Common.{sym, ◌∙◌, ap, subst, arith, inl, inr, set}
-use Rattle.std.proofs.lemmas.List.{length-replicate}
+use Rattle.std.{specs.Prelude.{slice_index_or, refl, is_none}, proofs.lemmas.List.length-map}
+use Rattle.std.proofs.lemmas.List.{get_or-set_same, get_or-set_other, take_at, length-replicate}
+use Rattle.std.proofs.{lemmas.Bool.cases_eq, Common.{sym, ◌∙◌, ap, subst, arith, inl, inr, set}}
 use Rattle.vb_model.{specs.Tests.is_in, proofs.Tables.length-each_from}
 use Rattle.vb_ring.proofs.OwnerLaws.{Claims, claims, Releases, releases, is_in-some, some_same}
 use Rattle.vb_ring.proofs.OwnerLaws.{is_in-at, own_some, head_inside, fresh_free, claimed-at}
@@ -61,11 +60,8 @@ claim_keeps owner count out from last path h e kept room chain first end =
           chain.inside (length path - 1) (omega arith),
           kept.size,
         )
-        | inr ne ↦ omega (
-          arith,
-          get_or-set_other last h j e 0 ne,
-          kept.ends j (claim.same j ne ∙ is),
-        )
+        | inr ne ↦
+            omega (arith, get_or-set_other last h j e 0 ne, kept.ends j (claim.same j ne ∙ is))
       ];
       begin = omega (arith, end, chain.inside (length path - 1) (omega arith), kept.size);
       taken = λ i l. taken_by i l (is_in i path) refl (is_unused owner i) refl;
@@ -80,9 +76,8 @@ claim_keeps owner count out from last path h e kept room chain first end =
         → (f : Bool) → is_unused owner i ≡ f → is_unused (claimed path h owner) i ≡ false
     taken_by i l true on f free =
         ap is_none (at_path i ∙ ap (λ (b : Bool). if b then Some h else slice_index_or owner i None) on)
-    taken_by i l false on false free =
-        ap is_none (at_path i ∙ ap (λ (b : Bool). if b then Some h else slice_index_or owner i None) on)
-        ∙ free
+    taken_by i l false on false free = ap is_none
+        (at_path i ∙ ap (λ (b : Bool). if b then Some h else slice_index_or owner i None) on) ∙ free
     taken_by i l false on true free = elim (cases_eq i e) [
       | inl same ↦
           let there : is_in i path ≡ true = ap (λ n. is_in n path) (same ∙ sym end)
@@ -168,9 +163,8 @@ release_keeps owner count out from to last h kept is below low =
     }
   where
     -- what is taken below the head belongs to another chain
-    taken_by : (i : ℕ) → i < h → is_unused owner i ≡ false
-        → (b : Bool) → is_own h (slice_index_or owner i None) ≡ b
-        → is_unused (released h owner) i ≡ false
+    taken_by : (i : ℕ) → i < h → is_unused owner i ≡ false → (b : Bool)
+        → is_own h (slice_index_or owner i None) ≡ b → is_unused (released h owner) i ≡ false
     taken_by i l held true own =
         absurd (omega (arith, l, (kept.within i h (own_some h _ own)).from))
     taken_by i l held false own = ap is_none (released-at h owner i

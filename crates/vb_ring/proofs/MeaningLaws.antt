@@ -53,11 +53,10 @@ times-next j elems n h = grind (arith, take_next, ids-push, times-push)
 -- The first n have a head at most as often as all.
 pub times-take : (j : ℕ) (elems : List UsedElem) (n : ℕ)
     → times j (ids (take n elems)) ≤ times j (ids elems)
-times-take j [] n = omega (arith, ap (λ (es : List UsedElem). times j (ids es)) (none n))
-  where
-    none : (n : ℕ) → take {A = UsedElem} n [] ≡ []
-    none zero = refl
-    none (suc n) = refl
+times-take j [] n = omega (arith, ap (λ (es : List UsedElem). times j (ids es)) (none n)) where
+  none : (n : ℕ) → take {A = UsedElem} n [] ≡ []
+  none zero = refl
+  none (suc n) = refl
 times-take j (e ∷ es) zero = omega arith
 times-take j (e ∷ es) (suc n) = grind (
   arith,
@@ -127,22 +126,20 @@ path_first d e q j Good path whole same good (suc n) h =
     length-take-le (suc n + 1) path (omega arith) ∙ omega arith in
     let at : (k : ℕ) → k < n + 2 → slice_index (take (suc n + 1) path) k ≡ slice_index path k =
     λ k l. get_or-take (suc n + 1) path k 0 (omega arith) in
-    let kept : (k : ℕ) → k < n + 1 → e (slice_index path k) ≡ d (slice_index path k) = λ k l.
-    same (slice_index path k) (whole.inside k (omega arith))
-    (subst Good (get_or-take (n + 1) path k 0 l)
+    let kept : (k : ℕ) → k < n + 1 → e (slice_index path k) ≡ d (slice_index path k) = λ k l. same
+    (slice_index path k) (whole.inside k (omega arith)) (subst Good (get_or-take (n + 1) path k 0 l)
     (good (take (n + 1) path) before k (omega (arith, len)))) in record {
       is_path = record {
         some = omega (arith, more);
         begins = at 0 (omega arith) ∙ whole.is_path.begins;
-        onward = λ k l. ap (λ i. has_next (d i)) (at k (omega (arith, more)))
-            ∙ ap has_next (sym (kept k (omega (arith, more))))
-            ∙ whole.is_path.onward k (omega (arith, more));
+        onward = λ k l. ap (λ i. has_next (d i)) (at k (omega (arith, more))) ∙ ap has_next
+            (sym (kept k (omega (arith, more)))) ∙ whole.is_path.onward k (omega (arith, more));
         linked = λ k l. ap (λ i. (d i).next) (at k (omega (arith, more)))
             ∙ ap (λ y. y.next) (sym (kept k (omega (arith, more))))
             ∙ whole.is_path.linked k (omega (arith, more)) ∙ sym (at (k + 1) (omega (arith, more)));
       };
-      inside = λ k l. omega
-          (arith, at k (omega (arith, more)), whole.inside k (omega (arith, more)));
+      inside =
+          λ k l. omega (arith, at k (omega (arith, more)), whole.inside k (omega (arith, more)));
     }
 
 -- Each number of a path in the other table is good.
@@ -321,22 +318,21 @@ added_tracks m1 m3 r pieces h heads elems s is_end links some fits first tracks 
 pub next_used_out : (mem : Pages) (r : DriverEnd) (heads : List ℕ) (elems : List UsedElem) (s : ℕ)
     → Tracks mem r heads elems s → ((h : ℕ) → times h (ids elems) ≤ times h heads)
     → s < length elems → is_head r.owner (slice_index_or elems s no_elem).id ≡ true
-next_used_out mem r heads elems s tracks among lt = at (is_head r.owner id) refl
-  where
-    id : ℕ
-    id = (slice_index_or elems s no_elem).id
+next_used_out mem r heads elems s tracks among lt = at (is_head r.owner id) refl where
+  id : ℕ
+  id = (slice_index_or elems s no_elem).id
 
-    at : (b : Bool) → is_head r.owner id ≡ b → is_head r.owner id ≡ true
-    at true e = e
-    at false e = absurd (omega (
-      arith,
-      tracks.out id,
-      ap one_if e,
-      times-next id elems s lt,
-      one_is id id refl,
-      times-take id elems (s + 1),
-      among id,
-    ))
+  at : (b : Bool) → is_head r.owner id ≡ b → is_head r.owner id ≡ true
+  at true e = e
+  at false e = absurd (omega (
+    arith,
+    tracks.out id,
+    ap one_if e,
+    times-next id elems s lt,
+    one_is id id refl,
+    times-take id elems (s + 1),
+    among id,
+  ))
 
 -- The driver's end after a take tracks the ring with one used element more seen.
 pub taken_tracks : (mem : Pages) (r : DriverEnd) (heads : List ℕ) (elems : List UsedElem) (s id : ℕ)
@@ -384,13 +380,11 @@ pub used_shows : (m1 m2 : Pages) (l : Layout) (q : ℕ) (heads : List ℕ) (elem
     → ShowsEntries m2 l q heads (elems ++ e ∷ []) → times e.id (ids elems) < times e.id heads
     → Shows m1 l q heads elems → Shows m2 l q heads (elems ++ e ∷ [])
 used_shows m1 m2 l q heads elems e same entries out shows =
-    let more : (j : ℕ) → times j (ids (elems ++ e ∷ []))
-    ≡ times j (ids elems) + one_if (e.id == j) =
-    λ j. ap (times j) (ids-push elems e) ∙ times-push j (ids elems) e.id in
+    let more : (j : ℕ) → times j (ids (elems ++ e ∷ [])) ≡ times j (ids elems)
+    + one_if (e.id == j) = λ j. ap (times j) (ids-push elems e) ∙ times-push j (ids elems) e.id in
     let kept : (j : ℕ) (path : List ℕ) → IsTablePath (descriptor_at m2 l.table) q j path
-    → IsTablePath (descriptor_at m1 l.table) q j path =
-    λ j path whole. table_path_kept (descriptor_at m1 l.table) (descriptor_at m2 l.table) q j path
-    same whole in record {
+    → IsTablePath (descriptor_at m1 l.table) q j path = λ j path whole. table_path_kept
+    (descriptor_at m1 l.table) (descriptor_at m2 l.table) q j path same whole in record {
       entries = entries;
       among = λ j. elim (cases_eq e.id j) [
         | inl is ↦ (let here : times j (ids elems) < times j heads = rw (← is) out in
@@ -416,9 +410,8 @@ used_tracks m1 m2 r heads elems e s same tracks = grind (arith, length_push, tak
 -- Where the ring's pages are as before, it shows what it showed.
 pub ring_apart : (old new : Pages) (l : Layout) (q : ℕ) (heads : List ℕ) (elems : List UsedElem)
     → IsSize q → page_at new l.table ≡ page_at old l.table
-    → page_at new l.avail.page ≡ page_at old l.avail.page
-    → page_at new l.used.page ≡ page_at old l.used.page → Shows old l q heads elems
-    → Shows new l q heads elems
+    → page_at new l.avail.page ≡ page_at old l.avail.page → page_at new l.used.page
+    ≡ page_at old l.used.page → Shows old l q heads elems → Shows new l q heads elems
 ring_apart old new l q heads elems size t a u shows =
     let kept : (j : ℕ) (path : List ℕ) → IsTablePath (descriptor_at new l.table) q j path
     → IsTablePath (descriptor_at old l.table) q j path =

@@ -117,26 +117,23 @@ numbers_has p (suc n) i l h = elim (either_way (p n)) [
           ap (λ (xs : List ℕ). slice_index xs (length (numbers p n))) grown
               ∙ get_or_push (numbers p n) n 0 (length (numbers p n)) refl ∙ sym last,
         )
-        | inr ne ↦
-            let old = numbers_has p n i (omega (arith, ne)) h in (
-              old.0,
-              omega (arith, len, old.1),
-              ap (λ (xs : List ℕ). slice_index xs old.0) grown
-                  ∙ get_or_append_left (numbers p n) (n ∷ []) 0 old.0 old.1 ∙ old.2,
-            )
+        | inr ne ↦ let old = numbers_has p n i (omega (arith, ne)) h in (
+          old.0,
+          omega (arith, len, old.1),
+          ap (λ (xs : List ℕ). slice_index xs old.0) grown
+              ∙ get_or_append_left (numbers p n) (n ∷ []) 0 old.0 old.1 ∙ old.2,
+        )
       ]
   | inr fail ↦
       let same : numbers p (suc n) ≡ numbers p n = suc_no p n fail in
       let len : length (numbers p (suc n)) ≡ length (numbers p n) = ap length same in
       elim (cases_eq i n) [
         | inl last ↦ (let wrong : true ≡ false = sym h ∙ ap p last ∙ fail in cc)
-        | inr ne ↦
-            let old = numbers_has p n i (omega (arith, ne)) h in (
-              old.0,
-              omega (arith, len, old.1),
-              ap (λ (xs : List ℕ). slice_index xs old.0) same
-                  ∙ old.2,
-            )
+        | inr ne ↦ let old = numbers_has p n i (omega (arith, ne)) h in (
+          old.0,
+          omega (arith, len, old.1),
+          ap (λ (xs : List ℕ). slice_index xs old.0) same ∙ old.2,
+        )
       ]
 ]
 
@@ -220,9 +217,8 @@ pub numbers_prefix : (p : ℕ → Bool) (m n : ℕ) → m ≤ n
 numbers_prefix p m zero l =
     grind (arith, take_all (length (numbers p 0)) (numbers p 0) (omega arith))
 numbers_prefix p m (suc n) l = elim (cases_eq m (suc n)) [
-  | inl same ↦ ap (λ k. take (length (numbers p k)) (numbers p (suc n))) same
-      ∙ take_all (length (numbers p (suc n))) (numbers p (suc n)) (omega arith)
-      ∙ ap (numbers p) (sym same)
+  | inl same ↦ ap (λ k. take (length (numbers p k)) (numbers p (suc n))) same ∙ take_all
+      (length (numbers p (suc n))) (numbers p (suc n)) (omega arith) ∙ ap (numbers p) (sym same)
   | inr ne ↦
       let before = numbers_prefix p m n (omega (arith, l, ne)) in
       let fits : length (numbers p m) ≤ length (numbers p n) =

@@ -25,15 +25,13 @@ is_in-at (x ∷ xs) (suc k) h = grind (arith, is_in-at xs k (omega arith))
 pub is_in-some : (xs : List ℕ) (n : ℕ) → is_in n xs ≡ true
     → (k : ℕ) × (k < length xs) × (slice_index xs k ≡ n)
 is_in-some [] n h = cc
-is_in-some (x ∷ xs) n h = at (x == n) refl (is_in-some xs n)
-  where
-    at : (b : Bool) → (x == n) ≡ b
-        → (is_in n xs ≡ true → (k : ℕ) × (k < length xs) × (slice_index xs k ≡ n))
-        → (k : ℕ) × (k < length (x ∷ xs)) × (slice_index (x ∷ xs) k ≡ n)
-    at true e more = (0, omega arith, eqb-true x n e)
-    at false e more =
-        let rest : is_in n xs ≡ true = ap (λ (b : Bool). b || is_in n xs) (sym e) ∙ h in
-        let found = more rest in (suc found.0, omega (arith, found.1), found.2)
+is_in-some (x ∷ xs) n h = at (x == n) refl (is_in-some xs n) where
+  at : (b : Bool) → (x == n) ≡ b → (is_in n xs ≡ true → (k : ℕ) × (k < length xs)
+      × (slice_index xs k ≡ n)) → (k : ℕ) × (k < length (x ∷ xs)) × (slice_index (x ∷ xs) k ≡ n)
+  at true e more = (0, omega arith, eqb-true x n e)
+  at false e more =
+      let rest : is_in n xs ≡ true = ap (λ (b : Bool). b || is_in n xs) (sym e) ∙ h in
+      let found = more rest in (suc found.0, omega (arith, found.1), found.2)
 
 -- Not in a list, a number stands nowhere in it.
 pub not_in : (xs : List ℕ) (n k : ℕ) → is_in n xs ≡ false → k < length xs → slice_index xs k ≢ n
@@ -120,9 +118,8 @@ claims owner path h begin first free = let new : List (Option ℕ) = claimed pat
     λ k l. claimed-at path h owner (slice_index path k) inside
     ∙ ap (λ (b : Bool). if b then Some h else slice_index_or owner (slice_index path k) None)
     (is_in-at path k l) in
-    let rest : (i : ℕ) → is_in i path ≡ false
-    → slice_index_or new i None ≡ slice_index_or owner i None =
-    λ i e. claimed-at path h owner i inside
+    let rest : (i : ℕ) → is_in i path ≡ false → slice_index_or new i None
+    ≡ slice_index_or owner i None = λ i e. claimed-at path h owner i inside
     ∙ ap (λ (b : Bool). if b then Some h else slice_index_or owner i None) e in
     let before : is_head owner h ≡ false =
     ap (is_own h) (ap (λ i. slice_index_or owner i None) (sym first) ∙ (free 0 begin).1) in
@@ -143,9 +140,8 @@ claims owner path h begin first free = let new : List (Option ℕ) = claimed pat
         → ((n : ℕ) → is_in n path ≡ false → slice_index_or new n None ≡ slice_index_or owner n None)
         → (b : Bool) → is_in i path ≡ b → is_head owner i ≡ is_head new i
     same_by new i ne mine rest true e = let found = is_in-some path i e in ap (is_own i)
-        (ap (λ n. slice_index_or owner n None) (sym found.2) ∙ (free found.0 found.1).1)
-        ∙ sym (own_other h i _
-        (ap (λ n. slice_index_or new n None) (sym found.2) ∙ mine found.0 found.1)
+        (ap (λ n. slice_index_or owner n None) (sym found.2) ∙ (free found.0 found.1).1) ∙ sym
+        (own_other h i _ (ap (λ n. slice_index_or new n None) (sym found.2) ∙ mine found.0 found.1)
         (λ x. ne (sym x)))
     same_by new i ne mine rest false e = ap (is_own i) (sym (rest i e))
 
@@ -187,10 +183,8 @@ releases owner h out = let new : List (Option ℕ) = released h owner in
         → (slice_index_or owner i None ≡ Some j) × (j ≢ h)
     was_by i j own true e = absurd (none_some j _ (freed_by i true e) own)
     was_by i j own false e =
-        let here : slice_index_or owner i None ≡ Some j = sym (freed_by i false e) ∙ own in (
-          here,
-          λ is. (let wrong : true ≡ false = sym (own_self h _ (here ∙ ap Some is)) ∙ e in cc),
-        )
+        let here : slice_index_or owner i None ≡ Some j = sym (freed_by i false e) ∙ own in
+        (here, λ is. (let wrong : true ≡ false = sym (own_self h _ (here ∙ ap Some is)) ∙ e in cc))
 
     same_by : (i : ℕ) → i ≢ h → (b : Bool) → is_own h (slice_index_or owner i None) ≡ b
         → is_head (released h owner) i ≡ is_head owner i

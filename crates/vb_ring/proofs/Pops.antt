@@ -52,12 +52,11 @@ pops_chain mem q taken is_end ready next gives each_chain each_fault = record {
   none = λ r e. absurd (none_some _ taken.head e next);
   jump = λ f r e. absurd (err_ok _ f (Some taken.head) e next);
   chain = λ h pieces r e others.
-      let same : taken.head ≡ h = same_head _ taken.head h next e in (
-        same,
-        each_chain pieces (rw same others),
-      );
+      let same : taken.head ≡ h = same_head _ taken.head h next e in
+      (same, each_chain pieces (rw same others));
   fault = λ h f r e others.
-      let same : taken.head ≡ h = same_head _ taken.head h next e in absurd (each_fault f (rw same others));
+      let same : taken.head ≡ h = same_head _ taken.head h next e in
+      absurd (each_fault f (rw same others));
   found = (ready, next, gives);
   shown = next_shown mem q is_end;
 }

@@ -1,9 +1,8 @@
 -- From what the locks kept to the report.
 use Rattle.std.proofs.Common.{◌≡◌, refl, sym, ◌∙◌, ap, subst, ℕ, zero, suc, ◌<◌, Bool, false, List}
-use Rattle.std.{specs.Prelude.{not, ◌==◌, ◌&&◌}, specs.declared.vec.Vec.Vec}
 use Rattle.std.proofs.Common.{[], ◌∷◌, length, Some, None, slice_get, arith, All, map}
-use Rattle.std.{specs.declared.alloc.Global.Global, proofs.lemmas.Option.slice_get_within}
-use Rattle.std.proofs.lemmas.List.{length-map}
+use Rattle.std.specs.{Prelude.{not, ◌==◌, ◌&&◌}, declared.vec.Vec.Vec, declared.alloc.Global.Global}
+use Rattle.std.proofs.lemmas.{Option.slice_get_within, List.length-map}
 use Rattle.vb_model.specs.declared.calls.Actor.TheVariants.{Processor, Balancer}
 use Rattle.vb_model.{specs.declared.calls.Call.Call, specs.declared.replies.Reply.Reply}
 use Rattle.vb_model.{specs.Guest.Guest, specs.GuestRun.IsHistory, proofs.Histories.history_is_safe}
@@ -17,10 +16,8 @@ use Rattle.vb_run.specs.Reports.{IsGuestReport, IsReport, IsRound, AreApart, fra
 use Rattle.vb_ram.specs.declared.config.Config.{Config as Sizes}
 
 -- configurations that aren't told apart are the same
-pub same_config : (a b : Sizes)
-    → not ((a.pages == b.pages) && ((a.queue_size == b.queue_size)
-    && (a.processors == b.processors))) ≡ false
-    → a ≡ b
+pub same_config : (a b : Sizes) → not ((a.pages == b.pages) && ((a.queue_size == b.queue_size)
+    && (a.processors == b.processors))) ≡ false → a ≡ b
 same_config a b e = grind arith
 
 none_some : {Y : Type 0} (y : Y) → None ≡ Some y → ⊥
@@ -42,8 +39,7 @@ pub closes : (Is : Guest → Type 0) (own : List ℕ) (p : Past) (floor guest : 
     → p.guest ≡ guest → p.sizes ≡ plan.config → p.paced ≡ paced → AreHushed p.quiet
     → AreScripts p.scripts plan.scripts.items → AllEnded p.scripts
     → entries_by Balancer p.history ≡ round_entries floor guest rounds
-    → report.history.items ≡ p.history
-    → length report.replies.items ≡ length plan.scripts.items
+    → report.history.items ≡ p.history → length report.replies.items ≡ length plan.scripts.items
     → ((cpu : ℕ) (replies : Vec Reply Global) → slice_get report.replies.items cpu ≡ Some replies
     → replies.items ≡ replies_by (Processor guest cpu) p.history)
     → ((g : Guest) → Is g → report.frames.items ≡ frames_behind g)
@@ -62,8 +58,7 @@ closes Is own p floor guest plan paced rounds report k is sizes pace quiet scrip
           let s = there p.scripts plan.scripts.items cpu calls scripts.0 here in (
             ap (calls_by (Processor guest cpu)) history
                 ∙ ap (λ (g : ℕ). calls_by (Processor g cpu) p.history) (sym is)
-                ∙ k.follows cpu s.0 s.1
-                ∙ take_whole s.0.calls s.0.place (ended cpu s.0 s.1)
+                ∙ k.follows cpu s.0 s.1 ∙ take_whole s.0.calls s.0.place (ended cpu s.0 s.1)
                 ∙ scripts.1 cpu s.0 calls s.1 here,
             ap (replies_by (Processor guest cpu)) history ∙ sym (replies cpu got answers),
           );

@@ -46,9 +46,8 @@ look = refl
 -- ---- entries of several actors
 
 abbrev history : List Entry
-history =
-    Called Starter (Init 0x100000027) (Gave 5 ∷ []) Ready ∷ Called (Processor 1 0) Stats [] Filled
-    ∷ Looked 16 32 ∷ Called (Worker 1) Work [] Idle ∷ Called Balancer (SetTarget 3) [] Done
+history = Called Starter (Init 0x100000027) (Gave 5 ∷ []) Ready ∷ Called (Processor 1 0) Stats []
+    Filled ∷ Looked 16 32 ∷ Called (Worker 1) Work [] Idle ∷ Called Balancer (SetTarget 3) [] Done
     ∷ Called (Processor 1 1) Work [] Done ∷ Called (Processor 1 0) (Alloc 0 0) [] (Page 20) ∷ []
 
 -- looks are the balancer's
@@ -57,9 +56,8 @@ actors_of_entries : map actor_of history
 actors_of_entries = refl
 
 -- a look is no call
-calls_of_entries : map call_of history
-    ≡ Some (Init 0x100000027) ∷ Some Stats ∷ None ∷ Some Work ∷ Some (SetTarget 3) ∷ Some Work
-    ∷ Some (Alloc 0 0) ∷ []
+calls_of_entries : map call_of history ≡ Some (Init 0x100000027)
+    ∷ Some Stats ∷ None ∷ Some Work ∷ Some (SetTarget 3) ∷ Some Work ∷ Some (Alloc 0 0) ∷ []
 calls_of_entries = refl
 
 replies_of_entries : map reply_of history
@@ -70,8 +68,7 @@ entries_of_the_balancer : entries_by Balancer history
     ≡ Looked 16 32 ∷ Called Balancer (SetTarget 3) [] Done ∷ []
 entries_of_the_balancer = refl
 
-entries_of_a_processor : entries_by (Processor 1 0) history
-    ≡ Called (Processor 1 0) Stats [] Filled
+entries_of_a_processor : entries_by (Processor 1 0) history ≡ Called (Processor 1 0) Stats [] Filled
     ∷ Called (Processor 1 0) (Alloc 0 0) [] (Page 20) ∷ []
 entries_of_a_processor = refl
 

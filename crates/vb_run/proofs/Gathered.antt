@@ -5,9 +5,8 @@ use Rattle.std.{proofs.Common.{suc, arith, ◌≤◌, slice_get}, specs.List.lis
 use Rattle.std.{proofs.lemmas.List.Folds.list_all-append, specs.Prelude.{filter_map, Option}}
 use Rattle.std.proofs.lemmas.List.{append-nil, append_assoc, take-append-drop}
 use Rattle.std.proofs.lemmas.List.Elements.{filter_map-append, filter-append}
-use Rattle.vb_model.{specs.declared.calls.Actor.Actor, specs.declared.replies.Reply.Reply}
-use Rattle.vb_model.{specs.declared.calls.Actor.TheVariants.Balancer, specs.Guest.frame_of}
-use Rattle.vb_model.specs.GuestRun.{Entry}
+use Rattle.vb_model.specs.{Guest.frame_of, GuestRun.Entry, declared.calls.Actor.Actor}
+use Rattle.vb_model.specs.declared.{calls.Actor.TheVariants.Balancer, replies.Reply.Reply}
 use Rattle.vb_run.specs.Entries.{is_same, actor_of, reply_to, replies_by, entries_by}
 use Rattle.vb_run.specs.Rounds.{Rounded, entries_of_round, is_of_round, round_entries}
 use Rattle.vb_run.proofs.Lists.{passes_at, take_next}
@@ -15,41 +14,36 @@ use Rattle.vb_run.proofs.Lists.{passes_at, take_next}
 pub replies_some : (a : Actor) (h : List Entry) (n : ℕ) (d : Entry) (r : Reply) → n < length h
     → reply_to a (get_or h n d) ≡ Some r
     → replies_by a (take (n + 1) h) ≡ replies_by a (take n h) ++ r ∷ []
-replies_some a h n d r within is =
-    grind (
-      arith,
-      add-one n,
-      take-suc h n d within,
-      filter_map-append (reply_to a) (take n h) (get_or h n d ∷ []),
-    )
+replies_some a h n d r within is = grind (
+  arith,
+  add-one n,
+  take-suc h n d within,
+  filter_map-append (reply_to a) (take n h) (get_or h n d ∷ []),
+)
 
 pub replies_none : (a : Actor) (h : List Entry) (n : ℕ) (d : Entry) → n < length h
-    → reply_to a (get_or h n d) ≡ None
-    → replies_by a (take (n + 1) h) ≡ replies_by a (take n h)
-replies_none a h n d within is =
-    grind (
-      arith,
-      add-one n,
-      take-suc h n d within,
-      filter_map-append (reply_to a) (take n h) (get_or h n d ∷ []),
-      append-nil (replies_by a (take n h)),
-    )
+    → reply_to a (get_or h n d) ≡ None → replies_by a (take (n + 1) h) ≡ replies_by a (take n h)
+replies_none a h n d within is = grind (
+  arith,
+  add-one n,
+  take-suc h n d within,
+  filter_map-append (reply_to a) (take n h) (get_or h n d ∷ []),
+  append-nil (replies_by a (take n h)),
+)
 
 pub entries_none : (a : Actor) (h : List Entry) (n : ℕ) (d : Entry) → n < length h
     → is_same a (actor_of (get_or h n d)) ≡ false
     → entries_by a (take (n + 1) h) ≡ entries_by a (take n h)
-entries_none a h n d within is =
-    grind (
-      arith,
-      add-one n,
-      take-suc h n d within,
-      filter-append (λ e. is_same a (actor_of e)) (take n h) (get_or h n d ∷ []),
-      append-nil (entries_by a (take n h)),
-    )
+entries_none a h n d within is = grind (
+  arith,
+  add-one n,
+  take-suc h n d within,
+  filter-append (λ e. is_same a (actor_of e)) (take n h) (get_or h n d ∷ []),
+  append-nil (entries_by a (take n h)),
+)
 
-round_push : (floor guest : ℕ) (rs : List Rounded) (r : Rounded)
-    → round_entries floor guest (rs ++ r ∷ [])
-    ≡ round_entries floor guest rs ++ entries_of_round floor guest r
+round_push : (floor guest : ℕ) (rs : List Rounded) (r : Rounded) → round_entries floor guest (rs
+    ++ r ∷ []) ≡ round_entries floor guest rs ++ entries_of_round floor guest r
 round_push floor guest [] r = append-nil (entries_of_round floor guest r)
 round_push floor guest (x ∷ rs) r = grind (arith, round_push floor guest rs r)
 
@@ -62,23 +56,20 @@ rounds_next floor guest rs n d h =
 pub frames_some : (frames : List (Option ℕ)) (n : ℕ) (frame : ℕ) → n < length frames
     → frame_of frames n ≡ Some frame
     → filter_map (λ f. f) (take (n + 1) frames) ≡ filter_map (λ f. f) (take n frames) ++ frame ∷ []
-frames_some frames n frame within is =
-    grind (
-      arith,
-      take-suc frames n None within,
-      filter_map-append (λ f. f) (take n frames) (frame_of frames n ∷ []),
-    )
+frames_some frames n frame within is = grind (
+  arith,
+  take-suc frames n None within,
+  filter_map-append (λ f. f) (take n frames) (frame_of frames n ∷ []),
+)
 
-pub frames_none : (frames : List (Option ℕ)) (n : ℕ) → n < length frames
-    → frame_of frames n ≡ None
+pub frames_none : (frames : List (Option ℕ)) (n : ℕ) → n < length frames → frame_of frames n ≡ None
     → filter_map (λ f. f) (take (n + 1) frames) ≡ filter_map (λ f. f) (take n frames)
-frames_none frames n within is =
-    grind (
-      arith,
-      take-suc frames n None within,
-      filter_map-append (λ f. f) (take n frames) (frame_of frames n ∷ []),
-      append-nil (filter_map (λ f. f) (take n frames)),
-    )
+frames_none frames n within is = grind (
+  arith,
+  take-suc frames n None within,
+  filter_map-append (λ f. f) (take n frames) (frame_of frames n ∷ []),
+  append-nil (filter_map (λ f. f) (take n frames)),
+)
 
 -- ---- the balancer's entries, and those that the rounds make
 
@@ -95,24 +86,21 @@ at_cut (x ∷ xs) (suc k) e more le is =
 entries_on : (a : Actor) (h : List Entry) (n : ℕ) (e : Entry) → slice_get h n ≡ Some e
     → is_same a (actor_of e) ≡ true
     → entries_by a h ≡ entries_by a (take n h) ++ e ∷ entries_by a (drop (suc n) h)
-entries_on a h n e at is =
-    grind (
-      arith,
-      take-append-drop (suc n) h,
-      filter-append (λ x. is_same a (actor_of x)) (take n h ++ e ∷ []) (drop (suc n) h),
-      filter-append (λ x. is_same a (actor_of x)) (take n h) (e ∷ []),
-      append_assoc (entries_by a (take n h)) (e ∷ []) (entries_by a (drop (suc n) h)),
-      add-one n,
-      take_next h n e,
-    )
+entries_on a h n e at is = grind (
+  arith,
+  take-append-drop (suc n) h,
+  filter-append (λ x. is_same a (actor_of x)) (take n h ++ e ∷ []) (drop (suc n) h),
+  filter-append (λ x. is_same a (actor_of x)) (take n h) (e ∷ []),
+  append_assoc (entries_by a (take n h)) (e ∷ []) (entries_by a (drop (suc n) h)),
+  add-one n,
+  take_next h n e,
+)
 
 -- an entry of the balancer that is the next of those that are expected
 pub made_next : (h expected : List Entry) (n place : ℕ) (e : Entry) → slice_get h n ≡ Some e
-    → is_same Balancer (actor_of e) ≡ true
-    → entries_by Balancer (take n h) ≡ take place expected
-    → list_all is_of_round (take place expected) ≡ true
-    → (slice_get expected place ≡ Some e) × (is_of_round e ≡ true)
-    → (entries_by Balancer (take (n + 1) h) ≡ take (place + 1) expected)
+    → is_same Balancer (actor_of e) ≡ true → entries_by Balancer (take n h) ≡ take place expected
+    → list_all is_of_round (take place expected) ≡ true → (slice_get expected place ≡ Some e)
+    × (is_of_round e ≡ true) → (entries_by Balancer (take (n + 1) h) ≡ take (place + 1) expected)
     × (list_all is_of_round (take (place + 1) expected) ≡ true)
 made_next h expected n place e at own so_far all (here, of_round) =
     let next = take_next expected place e here in (
@@ -120,15 +108,13 @@ made_next h expected n place e at own so_far all (here, of_round) =
           ∙ filter-append (λ x. is_same Balancer (actor_of x)) (take n h) (e ∷ [])
           ∙ rw own (ap (λ l. l ++ e ∷ []) so_far) ∙ sym next,
       ap (list_all is_of_round) next
-          ∙ list_all-append is_of_round (take place expected) (e ∷ [])
-          ∙ rw (all, of_round) refl,
+          ∙ list_all-append is_of_round (take place expected) (e ∷ []) ∙ rw (all, of_round) refl,
     )
 
 -- an entry of the balancer that isn't
 pub not_made : (h expected : List Entry) (n place : ℕ) (e : Entry) → slice_get h n ≡ Some e
-    → is_same Balancer (actor_of e) ≡ true
-    → entries_by Balancer (take n h) ≡ take place expected → place ≤ length expected
-    → ((slice_get expected place ≡ Some e) × (is_of_round e ≡ true) → ⊥)
+    → is_same Balancer (actor_of e) ≡ true → entries_by Balancer (take n h) ≡ take place expected
+    → place ≤ length expected → ((slice_get expected place ≡ Some e) × (is_of_round e ≡ true) → ⊥)
     → (entries_by Balancer h ≡ expected) × (list_all is_of_round expected ≡ true) → ⊥
 not_made h expected n place e at own so_far le other (same, all) =
     let more = entries_by Balancer (drop (suc n) h) in

@@ -2,14 +2,12 @@
 use Rattle.std.proofs.Common.{◌≡◌, refl, sym, ◌∙◌, ap, subst, ℕ, ◌+◌, Bool, true, false, List, []}
 use Rattle.std.proofs.Common.{◌∷◌, ◌++◌, length, take, Some, slice_get, slice_set, arith, ◌≢◌}
 use Rattle.std.{proofs.Common.⊎_elim, specs.Prelude.{slice_index_or, filter_map}}
-use Rattle.std.{proofs.lemmas.Option.slice_get_within, proofs.lemmas.Bool.Decides.nat_tests}
-use Rattle.std.proofs.lemmas.List.{append-nil}
+use Rattle.std.proofs.lemmas.{Option.slice_get_within, Bool.Decides.nat_tests, List.append-nil}
 use Rattle.std.proofs.lemmas.List.Elements.{All-push, filter-append, filter_map-append}
 use Rattle.vb_model.specs.GuestRun.{Entry, Called, EntryStep, Leads, last_guest, all_entries}
-use Rattle.vb_model.{specs.declared.calls.Actor.Actor, specs.declared.calls.Call.Call}
-use Rattle.vb_model.{specs.declared.calls.Actor.TheVariants.Processor, specs.GuestRun.IsHistory}
-use Rattle.vb_model.{specs.declared.calls.Claim.Claim, specs.declared.replies.Reply.Reply}
-use Rattle.vb_model.specs.Guest.{Guest, Config, fresh}
+use Rattle.vb_model.specs.{GuestRun.IsHistory, declared.calls.Actor.Actor, declared.calls.Call.Call}
+use Rattle.vb_model.specs.declared.calls.{Actor.TheVariants.Processor, Claim.Claim}
+use Rattle.vb_model.specs.{declared.replies.Reply.Reply, Guest.{Guest, Config, fresh}}
 use Rattle.vb_slot.specs.Alone.{AreBehind}
 use Rattle.vb_run.specs.Entries.{is_same, actor_of, call_of, entries_by, calls_by}
 use Rattle.vb_run.{specs.Plans.config_of, specs.Services.{IsTended, IsQuiet, services}}
@@ -43,8 +41,7 @@ pub entries_other : (a : Actor) (entries : List Entry) (e : Entry)
     → is_same a (actor_of e) ≡ false → entries_by a (entries ++ e ∷ []) ≡ entries_by a entries
 entries_other a entries e h = grind (arith, filter-append, append-nil)
 
-pub entries_own : (a : Actor) (entries : List Entry) (e : Entry)
-    → is_same a (actor_of e) ≡ true
+pub entries_own : (a : Actor) (entries : List Entry) (e : Entry) → is_same a (actor_of e) ≡ true
     → entries_by a (entries ++ e ∷ []) ≡ entries_by a entries ++ e ∷ []
 entries_own a entries e h =
     filter-append (λ x. is_same a (actor_of x)) entries (e ∷ []) ∙ (rw h refl)
@@ -75,9 +72,8 @@ aside_other a guest cpu h = grind arith
 -- an entry of none of the processors
 pub kept_aside : (Is Is' : Guest → Type 0) (own own' : List ℕ) (p : Past) (e : Entry) (new : Guest)
     (quiet : List Bool) (k : IsKept Is own p) → IsAside (actor_of e)
-    → IsMade p.guest (length p.scripts) e → Is' new → AreBehind own' new
-    → EntryStep k.now e new → IsTended new
-    → ((n : ℕ) (call : Call) → slice_index_or quiet n false ≡ true
+    → IsMade p.guest (length p.scripts) e → Is' new → AreBehind own' new → EntryStep k.now e new
+    → IsTended new → ((n : ℕ) (call : Call) → slice_index_or quiet n false ≡ true
     → slice_get services n ≡ Some call → IsQuiet new call)
     → IsKept Is' own' (record p { history = p.history ++ e ∷ []; quiet = quiet })
 kept_aside Is Is' own own' p e new quiet k aside mine stands behind step tended hushed = record {
@@ -87,9 +83,8 @@ kept_aside Is Is' own own' p e new quiet k aside mine stands behind step tended 
   tended = tended;
   behind = behind;
   made = made_push p.guest (length p.scripts) p.history e k.made mine;
-  follows = λ cpu s at.
-      calls_other (Processor p.guest cpu) p.history e (aside_other (actor_of e) p.guest cpu aside)
-      ∙ k.follows cpu s at;
+  follows = λ cpu s at. calls_other (Processor p.guest cpu) p.history e
+      (aside_other (actor_of e) p.guest cpu aside) ∙ k.follows cpu s at;
   hushed = hushed;
   scripted = k.scripted;
 }
@@ -107,8 +102,7 @@ pub kept_next : (Is Is' : Guest → Type 0) (own own' : List ℕ) (p : Past) (cp
     → slice_get s.calls s.place ≡ Some call → Is' new → AreBehind own' new
     → EntryStep k.now (Called (Processor p.guest cpu) call claims reply) new → IsTended new
     → ((n : ℕ) (call : Call) → slice_index_or quiet n false ≡ true
-    → slice_get services n ≡ Some call → IsQuiet new call)
-    → IsKept Is' own' (record p {
+    → slice_get services n ≡ Some call → IsQuiet new call) → IsKept Is' own' (record p {
       history = p.history ++ Called (Processor p.guest cpu) call claims reply ∷ [];
       scripts = slice_set p.scripts cpu (record s { place = s.place + 1 });
       quiet = quiet;
@@ -124,15 +118,12 @@ kept_next Is Is' own own' p cpu s call claims reply new quiet k here next stands
           (sym (length_set p.scripts cpu after))
           (made_push p.guest (length p.scripts) p.history e k.made
           (refl, slice_get_within p.scripts cpu s here));
-      follows = λ cpu' s' at. ⊎_elim (λ same. own_follows cpu' s' same.0 same.1)
-          (λ other.
+      follows = λ cpu' s' at. ⊎_elim (λ same. own_follows cpu' s' same.0 same.1) (λ other.
           calls_other (Processor p.guest cpu') p.history e (is_not p.guest cpu' cpu other.0)
-          ∙ k.follows cpu' s' other.1)
-          (get_set p.scripts cpu cpu' after s' at);
+          ∙ k.follows cpu' s' other.1) (get_set p.scripts cpu cpu' after s' at);
       hushed = hushed;
       scripted = λ cpu' s' at. ⊎_elim (λ same. own_scripted cpu' s' same.0 same.1)
-          (λ other. k.scripted cpu' s' other.1)
-          (get_set p.scripts cpu cpu' after s' at);
+          (λ other. k.scripted cpu' s' other.1) (get_set p.scripts cpu cpu' after s' at);
     }
   where
     e : Entry
@@ -146,10 +137,8 @@ kept_next Is Is' own own' p cpu s call claims reply new quiet k here next stands
     own_follows cpu' s' same is =
         ap (λ (c : ℕ). calls_by (Processor p.guest c) (p.history ++ e ∷ [])) same
         ∙ calls_own (Processor p.guest cpu) p.history call claims reply (Processor p.guest cpu)
-        (is_own p.guest cpu)
-        ∙ ap (λ l. l ++ call ∷ []) (k.follows cpu s here)
-        ∙ sym (take_next s.calls s.place call next)
-        ∙ ap (λ (t : Progress). take t.place t.calls) (sym is)
+        (is_own p.guest cpu) ∙ ap (λ l. l ++ call ∷ []) (k.follows cpu s here) ∙ sym
+        (take_next s.calls s.place call next) ∙ ap (λ (t : Progress). take t.place t.calls) (sym is)
 
     own_scripted : (cpu' : ℕ) (s' : Progress) → cpu' ≡ cpu → s' ≡ after → IsScript cpu' s'.calls
     own_scripted cpu' s' same is = rw (same, is) (k.scripted cpu s here)

@@ -4,12 +4,11 @@ use Rattle.std.proofs.Common.{List, [], ◌∷◌, ◌++◌, length, Some, slice
 use Rattle.std.specs.Prelude.{slice_index_or, Result, Ok, Err, IfOk, IsOkAnd, MatchBool}
 use Rattle.std.{proofs.Common.{inl, inr, take}, specs.Prelude.{MatchResult, MatchOption, Option}}
 use Rattle.std.{specs.declared.alloc.AllocError.AllocError, proofs.lemmas.List.Elements.All-nil}
-use Rattle.vb_model.{specs.declared.negotiation.TheConstants.OFFERED_FEATURES, specs.Balance.spare}
-use Rattle.vb_model.{specs.declared.calls.Actor.Actor, specs.declared.calls.Call.Call}
-use Rattle.vb_model.specs.declared.calls.Actor.TheVariants.{Processor, Balancer}
-use Rattle.vb_model.{specs.declared.calls.Call.TheVariants.Init, specs.declared.calls.Claim.Claim}
-use Rattle.vb_model.{specs.declared.replies.Reply.Reply, specs.Limits.is_config}
-use Rattle.vb_model.{specs.Guest.{Guest, fresh}, specs.GuestRun.{Called, Looked}}
+use Rattle.vb_model.specs.{declared.negotiation.TheConstants.OFFERED_FEATURES, Balance.spare}
+use Rattle.vb_model.specs.declared.calls.{Actor.Actor, Call.Call, Actor.TheVariants.Processor}
+use Rattle.vb_model.specs.declared.calls.{Actor.TheVariants.Balancer, Call.TheVariants.Init}
+use Rattle.vb_model.specs.declared.{calls.Claim.Claim, replies.Reply.Reply}
+use Rattle.vb_model.specs.{Limits.is_config, Guest.{Guest, fresh}, GuestRun.{Called, Looked}}
 use Rattle.vb_slot.specs.Alone.{AreBehind, StepsTo}
 use Rattle.vb_run.{specs.Plans.{config_of, is_actor_call, may_stand}, specs.Made.IsMade}
 use Rattle.vb_run.specs.Services.{IsQuiet, services, found_nothing}
@@ -33,11 +32,8 @@ not_known (suc (suc (suc (suc (suc (suc (suc (suc (suc n))))))))) h = cc
 pub call_aside : (Is Is' : Guest → Type 0) (own own' : List ℕ) (p : Past) (actor : Actor)
     (call : Call) (claims : List Claim) (reply : Reply) (k : IsKept Is own p) → IsAside actor
     → IsMade p.guest (length p.scripts) (Called actor call claims reply) → is_actor_call call ≡ true
-    → StepsTo Is' claims k.now call reply → ((g : Guest) → Is' g → AreBehind own' g)
-    → IsKept Is' own' (record p {
-      history = p.history ++ Called actor call claims reply ∷ [];
-      quiet = unknown;
-    })
+    → StepsTo Is' claims k.now call reply → ((g : Guest) → Is' g → AreBehind own' g) → IsKept Is'
+    own' (record p { history = p.history ++ Called actor call claims reply ∷ []; quiet = unknown })
 call_aside Is Is' own own' p actor call claims reply k aside mine plain s behind =
     let (step, tended, honest) = plain_entry k.now actor call claims reply s.new k.tended plain s.step in
     kept_aside Is Is' own own' p (Called actor call claims reply) s.new unknown k aside mine
@@ -63,9 +59,8 @@ call_next Is Is' own own' p cpu t call claims reply k here next s behind =
 pub look_aside : (Is : Guest → Type 0) (own : List ℕ) (p : Past) (floor seen : ℕ)
     (k : IsKept Is own p) → seen ≡ spare floor k.now
     → IsKept Is own (record p { history = p.history ++ Looked floor seen ∷ [] })
-look_aside Is own p floor seen k is =
-    kept_aside Is Is own own p (Looked floor seen) k.now p.quiet k tt tt k.stands k.behind
-    (is, refl) k.tended k.hushed
+look_aside Is own p floor seen k is = kept_aside Is Is own own p
+    (Looked floor seen) k.now p.quiet k tt tt k.stands k.behind (is, refl) k.tended k.hushed
 
 set_at : (xs : List Bool) (i j : ℕ) → slice_index_or (slice_set xs i true) j false ≡ true
     → (j ≡ i) ⊎ (slice_index_or xs j false ≡ true)
@@ -73,8 +68,7 @@ set_at [] i j h = inr h
 set_at (x ∷ xs) zero zero h = inl refl
 set_at (x ∷ xs) zero (suc j) h = inr h
 set_at (x ∷ xs) (suc i) zero h = inr h
-set_at (x ∷ xs) (suc i) (suc j) h =
-    ⊎_elim (λ e. inl (ap suc e)) (λ e. inr e) (set_at xs i j h)
+set_at (x ∷ xs) (suc i) (suc j) h = ⊎_elim (λ e. inl (ap suc e)) (λ e. inr e) (set_at xs i j h)
 
 -- a call of the worker that found nothing to do
 pub served_quiet : (Is Is' : Guest → Type 0) (own own' : List ℕ) (p : Past) (n : ℕ)
@@ -95,8 +89,7 @@ served_quiet Is Is' own own' p n call claims reply k at nothing s behind =
       behind = behind k.now stands;
       made = k.made;
       follows = k.follows;
-      hushed = λ m c known there. ⊎_elim
-          (λ e. subst (IsQuiet k.now)
+      hushed = λ m c known there. ⊎_elim (λ e. subst (IsQuiet k.now)
           (some_same call c (sym at ∙ ap (slice_get services) (sym e) ∙ there)) quiet)
           (λ was. k.hushed m c was there) (set_at p.quiet n m known);
       scripted = k.scripted;
@@ -129,8 +122,7 @@ pub kept_start : (Is' : Guest → Type 0) (own' : List ℕ) (guest : ℕ) (sizes
     → ((g : Guest) → Is' g → AreBehind own' g)
     → IsKept Is' own' (just_started guest sizes paced scripts claims reply)
 kept_start Is' own' guest sizes paced scripts claims reply fits begun s behind =
-    let (step, tended) = started (config_of sizes paced) claims reply s.new fits s.step in
-    record {
+    let (step, tended) = started (config_of sizes paced) claims reply s.new fits s.step in record {
       now = s.new;
       stands = s.stands;
       run = (s.new ∷ [], (step, tt), refl);

@@ -9,8 +9,7 @@ pub use Rattle.std.proofs.lemmas.List.Folds.{list_all_more, list_all_at}
 
 -- what stands at a place of a list that one element was pushed to
 pub get_push : {X : Type 0} (xs : List X) (y : X) (i : ℕ) (z : X)
-    → slice_get (xs ++ y ∷ []) i ≡ Some z
-    → (slice_get xs i ≡ Some z) ⊎ ((i ≡ length xs) × (z ≡ y))
+    → slice_get (xs ++ y ∷ []) i ≡ Some z → (slice_get xs i ≡ Some z) ⊎ ((i ≡ length xs) × (z ≡ y))
 get_push [] y zero z h = inr (refl, cc)
 get_push [] y (suc i) z h = cc
 get_push (x ∷ xs) y zero z h = inl h
@@ -26,29 +25,26 @@ each_push P xs y all here i x h =
 
 pub take_next : {X : Type 0} (xs : List X) (n : ℕ) (x : X) → slice_get xs n ≡ Some x
     → take (n + 1) xs ≡ take n xs ++ x ∷ []
-take_next xs n x h =
-    grind (
-      arith,
-      add-one n,
-      take-suc xs n x (slice_get_within xs n x h),
-      get_or_from_slice_get xs n x x h,
-    )
+take_next xs n x h = grind (
+  arith,
+  add-one n,
+  take-suc xs n x (slice_get_within xs n x h),
+  get_or_from_slice_get xs n x x h,
+)
 
 pub take_whole : {X : Type 0} (xs : List X) (n : ℕ) → n ≡ length xs → take n xs ≡ xs
 take_whole xs n h = ap (λ k. take k xs) h ∙ take-length xs
 
 -- what stands at a place of a list that was changed at one
-pub get_set : {X : Type 0} (xs : List X) (i j : ℕ) (y z : X)
-    → slice_get (slice_set xs i y) j ≡ Some z
-    → ((j ≡ i) × (z ≡ y)) ⊎ ((j ≢ i) × (slice_get xs j ≡ Some z))
+pub get_set : {X : Type 0} (xs : List X) (i j : ℕ) (y z : X) → slice_get (slice_set xs i y) j
+    ≡ Some z → ((j ≡ i) × (z ≡ y)) ⊎ ((j ≢ i) × (slice_get xs j ≡ Some z))
 get_set [] i j y z h = cc
 get_set (x ∷ xs) zero zero y z h = inl (refl, cc)
 get_set (x ∷ xs) zero (suc j) y z h = inr (λ e. omega (arith, e), h)
 get_set (x ∷ xs) (suc i) zero y z h = inr (λ e. omega (arith, e), h)
 get_set (x ∷ xs) (suc i) (suc j) y z h = grind (arith, get_set xs i j y z h)
 
-pub length_set : {X : Type 0} (xs : List X) (i : ℕ) (y : X)
-    → length (slice_set xs i y) ≡ length xs
+pub length_set : {X : Type 0} (xs : List X) (i : ℕ) (y : X) → length (slice_set xs i y) ≡ length xs
 length_set [] i y = refl
 length_set (x ∷ xs) zero y = refl
 length_set (x ∷ xs) (suc i) y = ap suc (length_set xs i y)

@@ -5,8 +5,7 @@ use Rattle.std.specs.declared.alloc.Global.{Global}
 use Rattle.vb_model.specs.declared.calls.Call.TheVariants.{Init, Reset, Alloc, Free, Read, Write}
 use Rattle.vb_model.specs.declared.calls.Call.TheVariants.{Scribble, Inflate, Deflate, Oom, Report}
 use Rattle.vb_model.specs.declared.calls.Call.TheVariants.{Stats, Reap, Take, Work, Finish, Sweep}
-use Rattle.vb_model.specs.declared.calls.Call.{Call}
-use Rattle.vb_model.specs.declared.calls.Call.TheVariants.{Ask, SetTarget}
+use Rattle.vb_model.specs.declared.calls.Call.{TheVariants.{Ask, SetTarget}, Call}
 use Rattle.vb_run.{specs.declared.plan.GuestPlan.GuestPlan, specs.declared.plan.Plan.Plan}
 use Rattle.vb_run.specs.declared.plan.TheConstants.{MAX_SCRIPT_CALLS}
 use Rattle.vb_run.specs.Plans.{config_of, may_stand, is_script, are_scripts, is_guest_plan, is_plan}
@@ -14,12 +13,11 @@ use Rattle.vb_run.specs.Plans.{config_of, may_stand, is_script, are_scripts, is_
 -- ---- which calls may stand in the script of processor 1: its own, and none of a starter, a
 -- worker, a balancer or a host
 
-who_may_stand : map (may_stand 1)
-    (Alloc 1 0 ∷ Alloc 0 0 ∷ Free 1 16 0 ∷ Free 0 16 0 ∷ Read 16 0 1 ∷ Write 16 0 [] ∷ Inflate 1
-    ∷ Deflate 1 ∷ Oom 1 ∷ Report 0 ∷ Stats ∷ Reap 0 ∷ Init 0 ∷ Reset ∷ Scribble 16 0 [] ∷ Take 0
-    ∷ Work ∷ Finish 0 0 ∷ Sweep 16 ∷ Ask ∷ SetTarget 1 ∷ []) ≡ true ∷ false ∷ true ∷ false ∷ true
-    ∷ true ∷ true ∷ true ∷ true ∷ true ∷ true ∷ true ∷ false ∷ false ∷ false ∷ false ∷ false
-    ∷ false ∷ false ∷ false ∷ false ∷ []
+who_may_stand : map (may_stand 1) (Alloc 1 0 ∷ Alloc 0 0 ∷ Free 1 16 0 ∷ Free 0 16 0 ∷ Read 16 0 1
+    ∷ Write 16 0 [] ∷ Inflate 1 ∷ Deflate 1 ∷ Oom 1 ∷ Report 0 ∷ Stats ∷ Reap 0 ∷ Init 0 ∷ Reset
+    ∷ Scribble 16 0 [] ∷ Take 0 ∷ Work ∷ Finish 0 0 ∷ Sweep 16 ∷ Ask ∷ SetTarget 1 ∷ []) ≡ true
+    ∷ false ∷ true ∷ false ∷ true ∷ true ∷ true ∷ true ∷ true ∷ true
+    ∷ true ∷ true ∷ false ∷ false ∷ false ∷ false ∷ false ∷ false ∷ false ∷ false ∷ false ∷ []
 who_may_stand = refl
 
 -- ---- scripts: up to 100,000 calls, each of which may stand there
@@ -27,9 +25,8 @@ who_may_stand = refl
 most_calls : MAX_SCRIPT_CALLS ∷ [] ≡ 100000 ∷ []
 most_calls = refl
 
-scripts_by_calls : map (is_script 1)
-    ([] ∷ (Stats ∷ []) ∷ (Stats ∷ Alloc 1 0 ∷ []) ∷ (Stats ∷ Alloc 0 0 ∷ []) ∷ (Work ∷ Stats ∷ [])
-    ∷ []) ≡ true ∷ true ∷ true ∷ false ∷ false ∷ []
+scripts_by_calls : map (is_script 1) ([] ∷ (Stats ∷ []) ∷ (Stats ∷ Alloc 1 0 ∷ [])
+    ∷ (Stats ∷ Alloc 0 0 ∷ []) ∷ (Work ∷ Stats ∷ []) ∷ []) ≡ true ∷ true ∷ true ∷ false ∷ false ∷ []
 scripts_by_calls = refl
 
 whole_script : (cpu : ℕ) (calls : List Call) → length calls ≡ 100000
@@ -42,8 +39,7 @@ one_call_too_many cpu calls many = rw many refl
 
 -- the scripts of two processors, the first that of processor 0
 abbrev AreDecided : List Call → List Call → Bool → Type 0
-AreDecided a b answer =
-    (first second : Vec Call Global) → first.items ≡ a → second.items ≡ b
+AreDecided a b answer = (first second : Vec Call Global) → first.items ≡ a → second.items ≡ b
     → are_scripts 0 (first ∷ second ∷ []) ≡ answer
 
 each_its_own : AreDecided (Alloc 0 0 ∷ []) (Alloc 1 0 ∷ []) true
@@ -58,15 +54,13 @@ second_not_its_own first second a b = rw (a, b) refl
 -- ---- a guest as large as its plan says
 
 config_of_sizes : map (config_of (record { pages = 64; queue_size = 8; processors = 2 }))
-    (true ∷ false ∷ [])
-    ≡ record { pages = 64; queue_size = 8; processors = 2; paced = true }
+    (true ∷ false ∷ []) ≡ record { pages = 64; queue_size = 8; processors = 2; paced = true }
     ∷ record { pages = 64; queue_size = 8; processors = 2; paced = false } ∷ []
 config_of_sizes = refl
 
 -- a guest of this plan, with so many scripts of no call
 abbrev IsDecided : (pages queue_size processors scripts : ℕ) → Bool → Type 0
-IsDecided pages queue_size processors scripts answer =
-    (p : GuestPlan) (script : Vec Call Global)
+IsDecided pages queue_size processors scripts answer = (p : GuestPlan) (script : Vec Call Global)
     → p.config ≡ record { pages = pages; queue_size = queue_size; processors = processors }
     → p.scripts.items ≡ replicate scripts script → script.items ≡ [] → is_guest_plan p ≡ answer
 
@@ -121,8 +115,7 @@ anothers_call p script sizes scripts calls = rw (sizes, scripts, calls) refl
 
 -- so many guests that can be run
 abbrev Accepts : (guests ports : ℕ) → Bool → Type 0
-Accepts guests ports answer =
-    (plan : Plan) (g : GuestPlan) → plan.guests.items ≡ replicate guests g
+Accepts guests ports answer = (plan : Plan) (g : GuestPlan) → plan.guests.items ≡ replicate guests g
     → is_guest_plan g ≡ true → is_plan plan ports ≡ answer
 
 one_guest : Accepts 1 1 true

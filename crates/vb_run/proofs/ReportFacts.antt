@@ -3,16 +3,15 @@ use Rattle.std.proofs.Common.{◌≡◌, ℕ, ◌+◌, ◌≤◌, List, [], ◌�
 use Rattle.std.{proofs.Common.{subst, ◌∙◌, arith, length}, specs.declared.vec.Vec.Vec}
 use Rattle.std.specs.Prelude.{Option, Some, None, slice_get, ◌-◌, filter_map}
 use Rattle.std.specs.declared.alloc.Global.{Global}
-use Rattle.vb_model.specs.declared.replies.Reply.TheVariants.{Done, Page, Filled, Idle, NotUsed}
-use Rattle.vb_model.{specs.declared.calls.Actor.Actor, specs.declared.calls.Call.Call}
+use Rattle.vb_model.{proofs.Unchanged.step_keeps, specs.Balance.{Need, spare}, specs.Guest.Guest}
+use Rattle.vb_model.specs.{Guest.{Config, fresh}, GuestRun.{Entry, Called, Looked, IsHistory}}
+use Rattle.vb_model.specs.{GuestRun.{Leads, all_entries}, Layout.reserved_pages, Requests.Request}
+use Rattle.vb_model.specs.{Tests.times, declared.calls.Actor.Actor}
 use Rattle.vb_model.specs.declared.calls.Actor.TheVariants.{Processor, Worker, Balancer}
-use Rattle.vb_model.specs.declared.calls.Call.TheVariants.{Alloc, Stats, Work, SetTarget}
-use Rattle.vb_model.{specs.declared.calls.Claim.Claim, specs.declared.replies.Reply.Reply}
-use Rattle.vb_model.{specs.declared.replies.Refusal.TheVariants.Short, specs.Requests.Request}
-use Rattle.vb_model.{specs.declared.replies.Reply.TheVariants.{Targets, Refused}, specs.Tests.times}
-use Rattle.vb_model.{specs.Guest.{Guest, Config, fresh}, specs.Balance.{Need, spare}}
-use Rattle.vb_model.{specs.Layout.reserved_pages, proofs.Unchanged.step_keeps}
-use Rattle.vb_model.specs.GuestRun.{Entry, Called, Looked, IsHistory, Leads, all_entries}
+use Rattle.vb_model.specs.declared.calls.Call.{Call, TheVariants.{Alloc, Stats, Work, SetTarget}}
+use Rattle.vb_model.specs.declared.{calls.Claim.Claim, replies.Refusal.TheVariants.Short}
+use Rattle.vb_model.specs.declared.replies.Reply.{Reply, TheVariants.{Done, Page, Filled, Idle}}
+use Rattle.vb_model.specs.declared.replies.Reply.TheVariants.{NotUsed, Targets, Refused}
 use Rattle.vb_run.{specs.declared.plan.GuestPlan.GuestPlan, specs.declared.plan.Plan.Plan}
 use Rattle.vb_run.{specs.declared.report.GuestReport.GuestReport, specs.Plans.config_of}
 use Rattle.vb_run.{specs.declared.report.Report.Report, specs.Rounds.{Rounded, round_entries}}
@@ -39,8 +38,7 @@ ready = record down { status = 15; features = 0x100000027 }
 -- ---- frames behind a guest's pages, by rising page
 
 frames_by_page : frames_behind
-    (record ready { frames = None ∷ Some 5 ∷ None ∷ Some 3 ∷ Some 9 ∷ None ∷ [] })
-    ≡ 5 ∷ 3 ∷ 9 ∷ []
+    (record ready { frames = None ∷ Some 5 ∷ None ∷ Some 3 ∷ Some 9 ∷ None ∷ [] }) ≡ 5 ∷ 3 ∷ 9 ∷ []
 frames_by_page = refl
 
 no_frames : frames_behind down ≡ []
@@ -66,17 +64,15 @@ made cpu call reply = Called (Processor 1 cpu) call [] reply
 abbrev Accepts : List Call → List Entry → List Reply → Type 0
 Accepts script entries replied =
     (plan : GuestPlan) (report : GuestReport) (calls : Vec Call Global) (replies : Vec Reply Global)
-    → plan.scripts.items ≡ calls ∷ [] → calls.items ≡ script
-    → report.replies.items ≡ replies ∷ [] → replies.items ≡ replied
-    → report.history.items ≡ entries → Plays 1 plan report
+    → plan.scripts.items ≡ calls ∷ [] → calls.items ≡ script → report.replies.items ≡ replies
+    ∷ [] → replies.items ≡ replied → report.history.items ≡ entries → Plays 1 plan report
 
 -- whatever the other processors do
 abbrev Refuses : ℕ → List Call → List Entry → List Reply → Type 0
-Refuses cpu script entries replied =
-    (plan : GuestPlan) (report : GuestReport) (calls : Vec Call Global) (replies : Vec Reply Global)
-    → slice_get plan.scripts.items cpu ≡ Some calls → calls.items ≡ script
-    → slice_get report.replies.items cpu ≡ Some replies → replies.items ≡ replied
-    → report.history.items ≡ entries → Plays 1 plan report → ⊥
+Refuses cpu script entries replied = (plan : GuestPlan) (report : GuestReport)
+    (calls : Vec Call Global) (replies : Vec Reply Global) → slice_get plan.scripts.items cpu
+    ≡ Some calls → calls.items ≡ script → slice_get report.replies.items cpu ≡ Some replies
+    → replies.items ≡ replied → report.history.items ≡ entries → Plays 1 plan report → ⊥
 
 by_calls : (cpu : ℕ) (script : List Call) (entries : List Entry) (replied : List Reply)
     → (calls_by (Processor 1 cpu) entries ≡ script → ⊥) → Refuses cpu script entries replied
@@ -89,9 +85,8 @@ by_replies cpu script entries replied wrong plan report calls replies at of_call
     grind arith
 
 -- between the entries of others
-whole_script : Accepts (Stats ∷ Alloc 0 0 ∷ [])
-    (Looked 16 32 ∷ made 0 Stats Filled ∷ Called (Worker 1) Work [] Idle
-    ∷ made 0 (Alloc 0 0) (Page 20) ∷ []) (Filled ∷ Page 20 ∷ [])
+whole_script : Accepts (Stats ∷ Alloc 0 0 ∷ []) (Looked 16 32 ∷ made 0 Stats Filled
+    ∷ Called (Worker 1) Work [] Idle ∷ made 0 (Alloc 0 0) (Page 20) ∷ []) (Filled ∷ Page 20 ∷ [])
 whole_script plan report calls replies scripts of_calls all of_replies history = grind arith
 
 call_left_out : Refuses 0 (Stats ∷ Alloc 0 0 ∷ []) (made 0 Stats Filled ∷ []) (Filled ∷ [])
@@ -119,8 +114,7 @@ reply_left_out = by_replies 1 (Stats ∷ []) (made 1 Stats Filled ∷ []) [] (λ
 
 -- the frames of two guests
 abbrev OfTwo : List ℕ → List ℕ → Type 0 → Type 0
-OfTwo a b answer =
-    (first second : GuestReport) → first.frames.items ≡ a → second.frames.items ≡ b
+OfTwo a b answer = (first second : GuestReport) → first.frames.items ≡ a → second.frames.items ≡ b
     → AreApart (first ∷ second ∷ []) → answer
 
 -- how often the frame stands among those of both
@@ -156,9 +150,8 @@ round = record { frames = 40; needs = needs; answer = Refused (Short 18) }
 
 -- a plan of two guests with so many frames
 abbrev OfPlan : (pages more frames : ℕ) → (Plan → Type 0) → Type 0
-OfPlan pages more frames Holds =
-    (plan : Plan) (g h : GuestPlan) → plan.guests.items ≡ g ∷ h ∷ [] → g.config.pages ≡ pages
-    → h.config.pages ≡ more → plan.frames ≡ frames → Holds plan
+OfPlan pages more frames Holds = (plan : Plan) (g h : GuestPlan) → plan.guests.items ≡ g
+    ∷ h ∷ [] → g.config.pages ≡ pages → h.config.pages ≡ more → plan.frames ≡ frames → Holds plan
 
 round_of_the_plan : OfPlan 64 64 40 (λ plan. IsRound plan round)
 round_of_the_plan plan g h guests pages more frames = grind arith
@@ -230,17 +223,15 @@ paced_for_immediate plan rounds report actor call claims reply is history paced 
 immediate_for_paced : (plan : GuestPlan) (rounds : List Rounded) (report : GuestReport)
     (actor : Actor) (call : Call) (claims : List Claim) (reply : Reply)
     (is : IsGuestReport 16 1 plan true rounds report)
-    → report.history.items ≡ Called actor call claims reply ∷ [] → is.last.config.paced ≡ false
-    → ⊥
+    → report.history.items ≡ Called actor call claims reply ∷ [] → is.last.config.paced ≡ false → ⊥
 immediate_for_paced plan rounds report actor call claims reply is history immediate = grind arith
 
 -- A guest of 64 pages, of which 16 are reserved, can't spare 49: whatever its first call, no look
 -- sees that.
 look_that_saw_too_much : (plan : GuestPlan) (rounds : List Rounded) (report : GuestReport)
     (actor : Actor) (call : Call) (claims : List Claim) (reply : Reply) (rest : List Entry)
-    → plan.config ≡ record { pages = 64; queue_size = 8; processors = 2 }
-    → report.history.items ≡ Called actor call claims reply ∷ Looked 16 49 ∷ rest
-    → NoReport plan rounds report
+    → plan.config ≡ record { pages = 64; queue_size = 8; processors = 2 } → report.history.items
+    ≡ Called actor call claims reply ∷ Looked 16 49 ∷ rest → NoReport plan rounds report
 look_that_saw_too_much plan rounds report actor call claims reply rest sizes history paced is =
     by is.safe.after
     (subst (λ (l : List Entry). Leads (fresh (config_of plan.config paced) 0) (all_entries l)
@@ -252,8 +243,7 @@ look_that_saw_too_much plan rounds report actor call claims reply rest sizes his
     by (mid ∷ []) leads = absurd leads.1
     by (mid ∷ next ∷ after) (step, (look, later)) =
         let kept : mid.config ≡ config_of plan.config paced =
-        (step_keeps (fresh (config_of plan.config paced) 0) call claims reply mid step.1).config
-        in
+        (step_keeps (fresh (config_of plan.config paced) 0) call claims reply mid step.1).config in
         let unreserved : mid.config.pages - reserved_pages mid.config.queue_size ≡ 48 =
         ap (λ (c : Config). c.pages - reserved_pages c.queue_size) kept
         ∙ ap (λ (s : Sizes). s.pages - reserved_pages s.queue_size) sizes in
@@ -262,9 +252,8 @@ look_that_saw_too_much plan rounds report actor call claims reply rest sizes his
 
 -- The balancer's entries are those of the rounds.
 abbrev Unbalanced : List Rounded → List Entry → Type 0
-Unbalanced rounds entries =
-    (plan : GuestPlan) (report : GuestReport) → report.history.items ≡ entries
-    → NoReport plan rounds report
+Unbalanced rounds entries = (plan : GuestPlan) (report : GuestReport)
+    → report.history.items ≡ entries → NoReport plan rounds report
 
 by_entries : (rounds : List Rounded) (entries : List Entry)
     → (entries_by Balancer entries ≡ round_entries 16 1 rounds → ⊥) → Unbalanced rounds entries
@@ -282,12 +271,10 @@ look_left_out : Unbalanced (shared ∷ []) (made 0 Stats Filled ∷ aimed 0 ∷ 
 look_left_out = by_entries (shared ∷ []) (made 0 Stats Filled ∷ aimed 0 ∷ []) (λ e. cc)
 
 target_left_out : Unbalanced (shared ∷ []) (made 0 Stats Filled ∷ Looked 16 30 ∷ [])
-target_left_out =
-    by_entries (shared ∷ []) (made 0 Stats Filled ∷ Looked 16 30 ∷ []) (λ e. cc)
+target_left_out = by_entries (shared ∷ []) (made 0 Stats Filled ∷ Looked 16 30 ∷ []) (λ e. cc)
 
 target_of_the_other_guest : Unbalanced (shared ∷ []) (Looked 16 30 ∷ aimed 28 ∷ [])
-target_of_the_other_guest =
-    by_entries (shared ∷ []) (Looked 16 30 ∷ aimed 28 ∷ []) (λ e. cc)
+target_of_the_other_guest = by_entries (shared ∷ []) (Looked 16 30 ∷ aimed 28 ∷ []) (λ e. cc)
 
 look_of_another_floor : Unbalanced (shared ∷ []) (Looked 15 30 ∷ aimed 0 ∷ [])
 look_of_another_floor = by_entries (shared ∷ []) (Looked 15 30 ∷ aimed 0 ∷ []) (λ e. cc)
@@ -310,9 +297,8 @@ request_at_the_end plan paced rounds report is r posted =
 
 -- Its frames are those behind the guest's pages.
 abbrev Frames : List (Option ℕ) → List ℕ → Type 0 → Type 0
-Frames behind reported answer =
-    (plan : GuestPlan) (paced : Bool) (rounds : List Rounded) (report : GuestReport)
-    (is : IsGuestReport 16 1 plan paced rounds report)
+Frames behind reported answer = (plan : GuestPlan) (paced : Bool) (rounds : List Rounded)
+    (report : GuestReport) (is : IsGuestReport 16 1 plan paced rounds report)
     → is.last.frames ≡ behind → report.frames.items ≡ reported → answer
 
 frames_are : (behind : List (Option ℕ)) (reported : List ℕ)
@@ -345,14 +331,12 @@ report_of_no_guest plan report r guests reports paces is = grind arith
 -- each is the report of its guest: by its number, by the plan's floor and for these rounds
 -- and on a device of the pace of its port
 second_is_none : (plan : Plan) (report : Report) (g h : GuestPlan) (first second : GuestReport)
-    (pace own : Bool)
-    → plan.guests.items ≡ g ∷ h ∷ [] → report.guests.items ≡ first ∷ second ∷ []
+    (pace own : Bool) → plan.guests.items ≡ g ∷ h ∷ [] → report.guests.items ≡ first ∷ second ∷ []
     → (IsGuestReport plan.floor 1 h own report.rounds.items second → ⊥)
     → IsReport plan (pace ∷ own ∷ []) report → ⊥
 second_is_none plan report g h first second pace own guests reports none_of_it is = grind arith
 
-second_of_its_pace : (plan : Plan) (report : Report) (g h : GuestPlan)
-    (first second : GuestReport)
+second_of_its_pace : (plan : Plan) (report : Report) (g h : GuestPlan) (first second : GuestReport)
     → plan.guests.items ≡ g ∷ h ∷ [] → report.guests.items ≡ first ∷ second ∷ []
     → IsReport plan (true ∷ false ∷ []) report
     → IsGuestReport plan.floor 1 h false report.rounds.items second
@@ -371,11 +355,10 @@ port_of_no_guest plan report g guests is =
 one_frame_of_two : (plan : Plan) (report : Report) (first second : GuestReport)
     → report.guests.items ≡ first ∷ second ∷ [] → first.frames.items ≡ 5 ∷ 3 ∷ []
     → second.frames.items ≡ 7 ∷ 3 ∷ [] → NotOf plan report
-one_frame_of_two plan report first second reports a b paces is =
-    grind (
-      arith,
-      frame_of_both first second a b (subst (λ (l : List GuestReport). AreApart l) reports is.apart),
-    )
+one_frame_of_two plan report first second reports a b paces is = grind (
+  arith,
+  frame_of_both first second a b (subst (λ (l : List GuestReport). AreApart l) reports is.apart),
+)
 
 round_too_few : (plan : Plan) (report : Report) (r : Rounded) → plan.rounds ≡ 2
     → report.rounds.items ≡ r ∷ [] → NotOf plan report

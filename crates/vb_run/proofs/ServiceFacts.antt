@@ -1,16 +1,15 @@
 -- Worked facts of what a guest's worker does, and of when nothing waits for it.
 use Rattle.std.proofs.Common.{◌≡◌, ℕ, [], ◌∷◌, true, false, map, refl, ap, sym, ◌∙◌, arith}
 use Rattle.std.specs.Prelude.{length}
-use Rattle.vb_model.proofs.Performed.{performed}
-use Rattle.vb_model.specs.declared.replies.Reply.TheVariants.{Done, Taken, Empty, Worked, Idle}
+use Rattle.vb_model.proofs.{GuestSteps.fresh_consistent, OrderlySteps.fresh_order}
+use Rattle.vb_model.{proofs.Performed.performed, specs.Guest.{Guest, Config, fresh}}
 use Rattle.vb_model.specs.Requests.{Request, Requests, no_requests, NoBuffer, BufferPosted}
-use Rattle.vb_model.specs.declared.negotiation.TheConstants.{OFFERED_FEATURES}
-use Rattle.vb_model.specs.declared.calls.Call.TheVariants.{Take, Work, Finish, Ask, SetTarget}
-use Rattle.vb_model.specs.declared.replies.Refusal.TheVariants.{NotReady, NotTaken}
-use Rattle.vb_model.specs.declared.replies.Reply.TheVariants.{Finished, Asked, Refused}
 use Rattle.vb_model.specs.Requests.{BufferTaken, BufferDone, Figures}
-use Rattle.vb_model.{specs.Guest.{Guest, Config, fresh}, proofs.GuestSteps.fresh_consistent}
-use Rattle.vb_model.proofs.OrderlySteps.{fresh_order}
+use Rattle.vb_model.specs.declared.calls.Call.TheVariants.{Take, Work, Finish, Ask, SetTarget}
+use Rattle.vb_model.specs.declared.negotiation.TheConstants.{OFFERED_FEATURES}
+use Rattle.vb_model.specs.declared.replies.Refusal.TheVariants.{NotReady, NotTaken}
+use Rattle.vb_model.specs.declared.replies.Reply.TheVariants.{Done, Taken, Empty, Worked, Idle}
+use Rattle.vb_model.specs.declared.replies.Reply.TheVariants.{Finished, Asked, Refused}
 use Rattle.vb_run.specs.Services.{services, found_nothing, IsServed, is_waiting, IsTended, IsQuiet}
 
 abbrev Same : ℕ → ℕ → Type 0
@@ -33,9 +32,8 @@ calls_of_a_worker : services
     ≡ Take 0 ∷ Take 1 ∷ Take 2 ∷ Take 4 ∷ Work ∷ Finish 0 0 ∷ Finish 1 0 ∷ Finish 4 0 ∷ Ask ∷ []
 calls_of_a_worker = refl
 
-replies_to_a_worker : map found_nothing
-    (Empty ∷ Idle ∷ Refused NotReady ∷ Refused NotTaken ∷ Taken 0 ∷ Worked 16 true
-    ∷ Worked 16 false ∷ Finished 0 ∷ Asked ∷ Done ∷ [])
+replies_to_a_worker : map found_nothing (Empty ∷ Idle ∷ Refused NotReady ∷ Refused NotTaken
+    ∷ Taken 0 ∷ Worked 16 true ∷ Worked 16 false ∷ Finished 0 ∷ Asked ∷ Done ∷ [])
     ≡ true ∷ true ∷ true ∷ true ∷ false ∷ false ∷ false ∷ false ∷ false ∷ false ∷ []
 replies_to_a_worker = refl
 
@@ -56,9 +54,8 @@ done = record no_requests { done = request ∷ [] }
 abbrev figures : Figures
 figures = record { free = 196608; total = 262144 }
 
-buffers_that_wait : map is_waiting
-    (NoBuffer ∷ BufferPosted figures ∷ BufferTaken figures ∷ BufferDone figures ∷ [])
-    ≡ false ∷ true ∷ true ∷ false ∷ []
+buffers_that_wait : map is_waiting (NoBuffer ∷ BufferPosted figures
+    ∷ BufferTaken figures ∷ BufferDone figures ∷ []) ≡ false ∷ true ∷ true ∷ false ∷ []
 buffers_that_wait = refl
 
 nothing_waits : IsServed ready
@@ -66,12 +63,7 @@ nothing_waits = grind arith
 
 -- what the device has used waits for the driver
 all_is_used : IsServed
-    (record ready {
-      inflate = done;
-      deflate = done;
-      report = done;
-      buffer = BufferDone figures;
-    })
+    (record ready { inflate = done; deflate = done; report = done; buffer = BufferDone figures })
 all_is_used = grind arith
 
 posted_inflate : IsServed (record ready { inflate = posted }) → ⊥

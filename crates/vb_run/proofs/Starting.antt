@@ -1,8 +1,7 @@
 -- From a plan and its slots to guests that are started.
 use Rattle.std.proofs.Common.{◌≡◌, refl, subst, ℕ, zero, suc, ◌+◌, Bool, true, List, [], ◌∷◌, ◌++◌}
-use Rattle.std.proofs.Common.{length, Some, slice_get, arith, drop, map}
-use Rattle.std.{specs.declared.vec.Vec.Vec, specs.declared.alloc.Global.Global}
-use Rattle.std.proofs.lemmas.Bool.{and_parts}
+use Rattle.std.proofs.{Common.{length, Some, slice_get, arith, drop, map}, lemmas.Bool.and_parts}
+use Rattle.std.specs.declared.{alloc.Global.Global, vec.Vec.Vec}
 use Rattle.vb_model.{specs.declared.calls.Call.Call, specs.Limits.is_config}
 use Rattle.vb_run.{specs.declared.plan.GuestPlan.GuestPlan, specs.Rounds.Rounded}
 use Rattle.vb_run.{specs.Plans.{are_scripts, is_script, is_guest_plan}, specs.Reports.IsGuestReport}
@@ -22,16 +21,13 @@ scripts_at first (s ∷ ss) (suc cpu) calls h at =
     )
 
 pub script_at : (scripts : List (Vec Call Global)) (cpu : ℕ) (calls : Vec Call Global)
-    → are_scripts 0 scripts ≡ true → slice_get scripts cpu ≡ Some calls
-    → IsScript cpu calls.items
+    → are_scripts 0 scripts ≡ true → slice_get scripts cpu ≡ Some calls → IsScript cpu calls.items
 script_at scripts cpu calls h at = grind (arith, scripts_at 0 scripts cpu calls h at)
 
-pub begun_push : (scripts : List Progress) (calls : List Call) → AreBegun scripts
-    → IsScript (length scripts) calls
-    → AreBegun (scripts ++ record { calls = calls; place = 0 } ∷ [])
-begun_push scripts calls begun own =
-    each_push (λ cpu s. (s.place ≡ 0) × IsScript cpu s.calls) scripts
-    (record { calls = calls; place = 0 }) begun (refl, own)
+pub begun_push : (scripts : List Progress) (calls : List Call) → AreBegun scripts → IsScript
+    (length scripts) calls → AreBegun (scripts ++ record { calls = calls; place = 0 } ∷ [])
+begun_push scripts calls begun own = each_push (λ cpu s. (s.place ≡ 0) × IsScript cpu s.calls)
+    scripts (record { calls = calls; place = 0 }) begun (refl, own)
 
 -- what is left of a list from a place on begins with what stands there
 pub drop_head : {X : Type 0} (xs : List X) (n : ℕ) (x : X) (rest : List X)
@@ -54,10 +50,9 @@ pub swapped : {S : Type 0} (seat : S → Bool) (floor : ℕ) (plans : List Guest
     → IsGuestReport floor g p (seat s) rounds r)
     → ((p : GuestPlan) (s : S) → slice_get plans (length reports) ≡ Some p
     → slice_get seats (length reports) ≡ Some s
-    → IsGuestReport floor (length reports) p (seat s) rounds report)
-    → (g : ℕ) (r : GuestReport) (p : GuestPlan) (s : S) → slice_get (reports ++ report ∷ []) g ≡ Some r
-    → slice_get plans g ≡ Some p → slice_get seats g ≡ Some s
-    → IsGuestReport floor g p (seat s) rounds r
+    → IsGuestReport floor (length reports) p (seat s) rounds report) → (g : ℕ) (r : GuestReport)
+    (p : GuestPlan) (s : S) → slice_get (reports ++ report ∷ []) g ≡ Some r → slice_get plans g
+    ≡ Some p → slice_get seats g ≡ Some s → IsGuestReport floor g p (seat s) rounds r
 swapped {S} seat floor plans seats rounds reports report each here g r p s at planned seated =
     each_push (λ n x. (q : GuestPlan) (t : S) → slice_get plans n ≡ Some q
     → slice_get seats n ≡ Some t → IsGuestReport floor n q (seat t) rounds x) reports report

@@ -4,27 +4,24 @@ use Rattle.std.proofs.Common.{◌≡◌, ◌≢◌, ℕ, zero, suc, Bool, true, 
 use Rattle.std.{proofs.Common.{sym, ap, subst, ◌∙◌, ◌⊎◌, inl, inr, arith}, specs.List.list_all}
 use Rattle.std.specs.Prelude.{◌==◌, ◌<◌, Option, Some, None, MatchOption, length, slice_get}
 use Rattle.std.{proofs.lemmas.Bool.{ltb-true, and_parts}, proofs.lemmas.Option.slice_get-get_or}
+use Rattle.vb_model.proofs.{AttentiveSteps.honest_attentive, CallSteps.{match_cases, honest_keeps}}
+use Rattle.vb_model.proofs.{CallSteps.{Idles, Visits}, GuestSteps.fresh_consistent}
+use Rattle.vb_model.proofs.{OrderlySteps.{honest_order, fresh_order}, Performed.Performed}
+use Rattle.vb_model.proofs.{Performed.honest_case, Unchanged.{step_keeps, IsScribble}}
+use Rattle.vb_model.specs.{Consistent.IsConsistent, Device.{TakesRequest, ReturnsBuffer, next_page}}
+use Rattle.vb_model.specs.{Device.is_unvisited, Driver.Reaps, FirstRefusal.first_refusal}
+use Rattle.vb_model.specs.{Guest.{Guest, Config, fresh}, GuestRun.{Called, EntryStep, is_scribbled}}
+use Rattle.vb_model.specs.{HonestRuns.IsAttentive, Limits.is_config, Orderly.IsOrderly}
+use Rattle.vb_model.specs.{Refusals.{refusal_of, taken_of}, Requests.{Request, Kind, Inflating}}
+use Rattle.vb_model.specs.{Requests.{Deflating, Reporting_free, StatisticsBuffer}, Rogue.GuestStep}
+use Rattle.vb_model.specs.{Step.HonestStep, Tables.{take_causes, finish_causes, work_causes}}
+use Rattle.vb_model.specs.{Tables.Negotiated, declared.calls.Actor.Actor}
+use Rattle.vb_model.specs.declared.calls.{Actor.TheVariants.Starter, Call.Call}
 use Rattle.vb_model.specs.declared.calls.Call.TheVariants.{Init, Scribble, Take, Work, Finish, Ask}
-use Rattle.vb_model.specs.Requests.{Request, Kind, Inflating, Deflating, Reporting_free}
-use Rattle.vb_model.specs.Requests.{StatisticsBuffer}
-use Rattle.vb_model.proofs.CallSteps.{match_cases, honest_keeps, Idles, Visits}
-use Rattle.vb_model.{specs.declared.negotiation.TheConstants.OFFERED_FEATURES, specs.Driver.Reaps}
-use Rattle.vb_model.specs.Tables.{take_causes, finish_causes, work_causes}
-use Rattle.vb_model.specs.Orderly.{IsOrderly}
-use Rattle.vb_model.specs.Device.{TakesRequest, ReturnsBuffer, next_page, is_unvisited}
-use Rattle.vb_model.specs.Limits.{is_config}
-use Rattle.vb_model.{specs.declared.replies.Reply.TheVariants.Refused, specs.HonestRuns.IsAttentive}
-use Rattle.vb_model.{specs.GuestRun.{Called, EntryStep, is_scribbled}, specs.Rogue.GuestStep}
-use Rattle.vb_model.{proofs.OrderlySteps.{honest_order, fresh_order}, specs.Consistent.IsConsistent}
-use Rattle.vb_model.{specs.declared.calls.Actor.TheVariants.Starter, specs.declared.calls.Call.Call}
-use Rattle.vb_model.{proofs.Unchanged.{step_keeps, IsScribble}, specs.declared.replies.Reply.Reply}
-use Rattle.vb_model.{proofs.AttentiveSteps.honest_attentive, specs.Refusals.{refusal_of, taken_of}}
-use Rattle.vb_model.{specs.Guest.{Guest, Config, fresh}, proofs.GuestSteps.fresh_consistent}
-use Rattle.vb_model.{specs.Step.HonestStep, specs.declared.calls.Actor.Actor}
-use Rattle.vb_model.{specs.declared.calls.Claim.Claim, specs.FirstRefusal.first_refusal}
+use Rattle.vb_model.specs.declared.{calls.Claim.Claim, negotiation.TheConstants.OFFERED_FEATURES}
+use Rattle.vb_model.specs.declared.replies.Reply.{Reply, TheVariants.Refused}
 use Rattle.vb_run.specs.Plans.{may_stand, is_actor_call}
 use Rattle.vb_run.specs.Services.{services, found_nothing, IsQuiet, IsTended, IsServed, is_waiting}
-use Rattle.vb_model.{specs.Tables.Negotiated, proofs.Performed.{Performed, honest_case}}
 
 -- ---- which calls these are
 
@@ -167,9 +164,8 @@ pub started : (config : Config) (claims : List Claim) (reply : Reply) (new : Gue
 started config claims reply new c s =
     let first : Guest = fresh config 0 in
     let step : HonestStep first (Init OFFERED_FEATURES) claims reply new = s in
-    let honest : new.rogue ≡ false =
-    honest_after first (Init OFFERED_FEATURES) claims reply new refl
-    (init_scribble OFFERED_FEATURES) s in (
+    let honest : new.rogue ≡ false = honest_after first
+    (Init OFFERED_FEATURES) claims reply new refl (init_scribble OFFERED_FEATURES) s in (
       (refl, step),
       tended_after first (Init OFFERED_FEATURES) claims reply new (fresh_consistent config 0)
           (fresh_order config 0) idle step honest
@@ -197,8 +193,7 @@ NoWork paced taken = cond paced (next_page taken) None ≡ None
 
 works_none : (a b : Option ℕ) (g : Guest) (reply : Reply) (new : Guest)
     → MatchOption a (MatchOption b (Idles g reply new) (Visits Reporting_free g reply new))
-    (Visits Inflating g reply new)
-    → found_nothing reply ≡ true → (a ≡ None) × (b ≡ None)
+    (Visits Inflating g reply new) → found_nothing reply ≡ true → (a ≡ None) × (b ≡ None)
 works_none a b g reply new s t = grind arith
 
 -- ---- calls on a ready guest that aren't refused
@@ -223,17 +218,15 @@ open_work status up = subst (λ (s : ℕ). first_refusal (work_causes s) ≡ Non
 -- ---- taken requests
 
 -- the first request has no unvisited page where no page waits
-all_visited : (r : Request) (rest : List Request) → NoWork true (r ∷ rest)
-    → is_unvisited r ≡ false
-all_visited r rest w = step (is_unvisited r) refl w
-  where
-    step : (v : Bool) → is_unvisited r ≡ v
-        → cond v (slice_get r.pages r.visited) (next_page rest) ≡ None → is_unvisited r ≡ false
-    step false e k = e
-    step true e k =
-        let lt : r.visited < length r.pages = ltb-true r.visited (length r.pages) e in
-        let at = slice_get-get_or r.pages r.visited 0 lt in
-        absurd cc
+all_visited : (r : Request) (rest : List Request) → NoWork true (r ∷ rest) → is_unvisited r ≡ false
+all_visited r rest w = step (is_unvisited r) refl w where
+  step : (v : Bool) → is_unvisited r ≡ v
+      → cond v (slice_get r.pages r.visited) (next_page rest) ≡ None → is_unvisited r ≡ false
+  step false e k = e
+  step true e k =
+      let lt : r.visited < length r.pages = ltb-true r.visited (length r.pages) e in
+      let at = slice_get-get_or r.pages r.visited 0 lt in
+      absurd cc
 
 -- so a finish of it isn't refused
 inflate_open : (paced : Bool) (r : Request) (rest : List Request) → NoWork paced (r ∷ rest)
@@ -258,11 +251,9 @@ unfinished g q quiet e = grind arith
 none_taken : (q : ℕ) (g : Guest) (rs : List Request) → g.status ≡ 15 → IsQuiet g (Finish q 0)
     → slice_get (taken_of g q) 0 ≡ slice_get rs 0
     → ((r : Request) (rest : List Request) → rs ≡ r ∷ rest
-    → first_refusal (finish_causes q (come_to 15 0) g.config.paced (Some r)) ≡ None)
-    → rs ≡ []
+    → first_refusal (finish_causes q (come_to 15 0) g.config.paced (Some r)) ≡ None) → rs ≡ []
 none_taken q g [] up quiet e free = refl
-none_taken q g (r ∷ rest) up quiet e free =
-    unfinished g q quiet
+none_taken q g (r ∷ rest) up quiet e free = unfinished g q quiet
     (open_finish q g.status g.config.paced (slice_get (taken_of g q) 0) r up e (free r rest refl))
 
 -- ---- posted requests
@@ -275,8 +266,7 @@ takes_none kind (r ∷ rest) g reply new s t = found reply _ s.0 refl t
 -- ---- the statistics buffer
 
 buffer_served : (g : Guest) (buffer : StatisticsBuffer) → g.buffer ≡ buffer → g.status ≡ 15
-    → g.features ≡ OFFERED_FEATURES → IsQuiet g Ask → IsQuiet g (Take 2)
-    → is_waiting buffer ≡ false
+    → g.features ≡ OFFERED_FEATURES → IsQuiet g Ask → IsQuiet g (Take 2) → is_waiting buffer ≡ false
 buffer_served g buffer e up f ask take = grind arith
 
 -- ---- all of it
@@ -285,8 +275,7 @@ buffer_served g buffer e up f ask take = grind arith
 abbrev AllQuiet : Guest → Type 0
 AllQuiet g = (n : ℕ) (call : Call) → slice_get services n ≡ Some call → IsQuiet g call
 
-served_ready : (g : Guest) → g.status ≡ 15 → g.features ≡ OFFERED_FEATURES → AllQuiet g
-    → IsServed g
+served_ready : (g : Guest) → g.status ≡ 15 → g.features ≡ OFFERED_FEATURES → AllQuiet g → IsServed g
 served_ready g up f quiet =
     let work : IsQuiet g Work = quiet 4 Work refl in
     let idle : NoWork g.config.paced g.inflate.taken × NoWork g.config.paced g.report.taken =
@@ -295,36 +284,29 @@ served_ready g up f quiet =
     (performed g Work work (open_work g.status up)).1 work.nothing in
     let inflates : g.inflate.taken ≡ [] =
     none_taken 0 g g.inflate.taken up (quiet 5 (Finish 0 0) refl) refl
-    (λ r rest e. inflate_open g.config.paced r rest
-    (subst (NoWork g.config.paced) e idle.0)) in
-    let deflates : g.deflate.taken ≡ [] =
-    none_taken 1 g g.deflate.taken up (quiet 6 (Finish 1 0) refl) refl
-    (λ r rest e. deflate_open g.config.paced r) in
-    let reports : g.report.taken ≡ [] =
-    none_taken 4 g g.report.taken up (quiet 7 (Finish 4 0) refl) refl
-    (λ r rest e. report_open g.config.paced r rest
-    (subst (NoWork g.config.paced) e idle.1)) in
+    (λ r rest e. inflate_open g.config.paced r rest (subst (NoWork g.config.paced) e idle.0)) in
+    let deflates : g.deflate.taken ≡ [] = none_taken 1 g g.deflate.taken up
+    (quiet 6 (Finish 1 0) refl) refl (λ r rest e. deflate_open g.config.paced r) in
+    let reports : g.report.taken ≡ [] = none_taken 4 g g.report.taken up (quiet 7 (Finish 4 0) refl)
+    refl (λ r rest e. report_open g.config.paced r rest (subst (NoWork g.config.paced) e idle.1)) in
     let take_0 : IsQuiet g (Take 0) = quiet 0 (Take 0) refl in
     let take_1 : IsQuiet g (Take 1) = quiet 1 (Take 1) refl in
     let take_4 : IsQuiet g (Take 4) = quiet 3 (Take 4) refl in
     record {
       inflate = (
-        takes_none Inflating g.inflate.posted g take_0.reply g
-            (performed g (Take 0) take_0
+        takes_none Inflating g.inflate.posted g take_0.reply g (performed g (Take 0) take_0
             (open_take 0 g.status g.features (length g.inflate.taken) up f (ap length inflates)
             refl)).1 take_0.nothing,
         inflates,
       );
       deflate = (
-        takes_none Deflating g.deflate.posted g take_1.reply g
-            (performed g (Take 1) take_1
+        takes_none Deflating g.deflate.posted g take_1.reply g (performed g (Take 1) take_1
             (open_take 1 g.status g.features (length g.deflate.taken) up f (ap length deflates)
             refl)).1 take_1.nothing,
         deflates,
       );
       report = (
-        takes_none Reporting_free g.report.posted g take_4.reply g
-            (performed g (Take 4) take_4
+        takes_none Reporting_free g.report.posted g take_4.reply g (performed g (Take 4) take_4
             (open_take 4 g.status g.features (length g.report.taken) up f (ap length reports)
             refl)).1 take_4.nothing,
         reports,
@@ -337,14 +319,12 @@ served_idle g a other test = grind arith
 
 pub served : (g : Guest) → IsTended g
     → ((n : ℕ) (call : Call) → slice_get services n ≡ Some call → IsQuiet g call) → IsServed g
-served g t quiet = step t.orderly.state
-  where
-    at : (n : ℕ) → g.status ≡ n → n ≢ 15 → (n == 15) ≡ false → IsServed g
-    at n e other test =
-        served_idle g t.attentive (λ up. other (sym e ∙ up))
-        (ap (λ (m : ℕ). m == 15) e ∙ test)
+served g t quiet = step t.orderly.state where
+  at : (n : ℕ) → g.status ≡ n → n ≢ 15 → (n == 15) ≡ false → IsServed g
+  at n e other test =
+      served_idle g t.attentive (λ up. other (sym e ∙ up)) (ap (λ (m : ℕ). m == 15) e ∙ test)
 
-    step : (g.status ≡ 0) ⊎ (g.status ≡ 15) ⊎ (g.status ≡ 131) → IsServed g
-    step (inl e) = at 0 e (λ w. absurd (omega (arith, w))) refl
-    step (inr (inl up)) = served_ready g up (t.features up) quiet
-    step (inr (inr e)) = at 131 e (λ w. absurd (omega (arith, w))) refl
+  step : (g.status ≡ 0) ⊎ (g.status ≡ 15) ⊎ (g.status ≡ 131) → IsServed g
+  step (inl e) = at 0 e (λ w. absurd (omega (arith, w))) refl
+  step (inr (inl up)) = served_ready g up (t.features up) quiet
+  step (inr (inr e)) = at 131 e (λ w. absurd (omega (arith, w))) refl

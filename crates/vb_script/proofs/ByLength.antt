@@ -21,13 +21,11 @@ by_length [] word n e = refl
 by_length ((name, meaning) ∷ table) word n e =
     at (nat_eq (length name) n) refl (by_length table word n e)
   where
-    at : (b : Bool) → nat_eq (length name) n ≡ b
-        → meaning_of table word ≡ meaning_of (of_length n table) word
-        → meaning_of ((name, meaning) ∷ table) word
+    at : (b : Bool) → nat_eq (length name) n ≡ b → meaning_of table word
+        ≡ meaning_of (of_length n table) word → meaning_of ((name, meaning) ∷ table) word
         ≡ meaning_of (cond b ((name, meaning) ∷ of_length n table) (of_length n table)) word
     at true t rest = ap (λ o. cond (bytes_eq name word) (Some meaning) o) rest
-    at false t rest =
-        ap (λ (b : Bool). cond b (Some meaning) (meaning_of table word))
+    at false t rest = ap (λ (b : Bool). cond b (Some meaning) (meaning_of table word))
         (other_word name word (grind (arith, nat_tests, t, e))) ∙ rest
 
 -- whether all words have three to eight letters
@@ -37,21 +35,17 @@ are_short (entry ∷ table) =
     cond (nat_le 3 (length entry.0) && nat_le (length entry.0) 8) (are_short table) false
 
 -- then a word of another length means nothing
-pub none_of_length : {T : Type 0} (table : List (List ℕ × T)) (word : List ℕ)
-    → are_short table ≡ true → ((n : ℕ) → 3 ≤ n → n ≤ 8 → n ≢ length word)
-    → meaning_of table word ≡ None
+pub none_of_length : {T : Type 0} (table : List (List ℕ × T)) (word : List ℕ) → are_short table
+    ≡ true → ((n : ℕ) → 3 ≤ n → n ≤ 8 → n ≢ length word) → meaning_of table word ≡ None
 none_of_length [] word short differ = refl
 none_of_length ((name, meaning) ∷ table) word short differ =
     at (nat_le 3 (length name) && nat_le (length name) 8) refl short
     (λ s. none_of_length table word s differ)
   where
     at : (b : Bool) → (nat_le 3 (length name) && nat_le (length name) 8) ≡ b
-        → cond b (are_short table) false ≡ true
-        → (are_short table ≡ true → meaning_of table word ≡ None)
-        → meaning_of ((name, meaning) ∷ table) word ≡ None
+        → cond b (are_short table) false ≡ true → (are_short table ≡ true
+        → meaning_of table word ≡ None) → meaning_of ((name, meaning) ∷ table) word ≡ None
     at false t s rest = cc
     at true t s rest =
-        ap (λ (b : Bool). cond b (Some meaning) (meaning_of table word))
-        (other_word name word
-        (differ (length name) (grind (arith, nat_tests, t)) (grind (arith, nat_tests, t))))
-        ∙ rest s
+        ap (λ (b : Bool). cond b (Some meaning) (meaning_of table word)) (other_word name word
+        (differ (length name) (grind (arith, nat_tests, t)) (grind (arith, nat_tests, t)))) ∙ rest s

@@ -32,8 +32,7 @@ not_cut byte text none =
 
 -- what `position` answers of a test for a byte
 abbrev Position : ℕ → List ℕ → Option ℕ → Type 0
-Position byte text found = found
-    ≡ cond (ltb (position_or_len (λ x. x == byte) text) (length text))
+Position byte text found = found ≡ cond (ltb (position_or_len (λ x. x == byte) text) (length text))
     (Some (position_or_len (λ x. x == byte) text)) None
 
 -- the first place among a text's first bytes is its first place

@@ -21,14 +21,12 @@ sized_whole : (word : List ℕ) (n : ℕ) → n ≡ length word / 2 → decode_s
 sized_whole word n e = grind arith
 
 abbrev pub Decoded : List ℕ → List ℕ → Result Unit FromHexError → Type 0
-Decoded word bytes result =
-    MatchResult (decode_of word) (λ found. (result ≡ Ok tt) × (bytes ≡ found))
-    (λ fault. result ≡ Err fault)
+Decoded word bytes result = MatchResult
+    (decode_of word) (λ found. (result ≡ Ok tt) × (bytes ≡ found)) (λ fault. result ≡ Err fault)
 
 pub decoded : (word bytes : List ℕ) (n : ℕ) (r : Result Unit FromHexError)
     → MatchResult (decode_sized word n) (λ found. (r ≡ Ok tt) × (bytes ≡ found))
-    (λ fault. r ≡ Err fault)
-    → n ≡ length word / 2 → Decoded word bytes r
+    (λ fault. r ≡ Err fault) → n ≡ length word / 2 → Decoded word bytes r
 decoded word bytes n r is e = rw (← sized_whole word n e) is
 
 pub decoded_ok : (word bytes : List ℕ) (r : Result Unit FromHexError) → Decoded word bytes r

@@ -1,9 +1,8 @@
 -- A script for guests on threads has its parts in order: plugs, then rounds at most once, then
 -- processors and calls.
 use Rattle.std.{proofs.Common.{◌||◌, Bool, true, false, cond, List, [], ◌∷◌}, specs.List.list_all}
-use Rattle.vb_script.specs.declared.threads.ThreadsLine.{ThreadsLine}
+use Rattle.vb_script.specs.{Threads.{are_plugs, is_plug}, declared.threads.ThreadsLine.ThreadsLine}
 use Rattle.vb_script.specs.declared.threads.ThreadsLine.TheVariants.{Plug, Rounds, Cpu, Call}
-use Rattle.vb_script.specs.Threads.{are_plugs, is_plug}
 
 -- a line of a processor: a choice of one, or a call
 abbrev pub is_later : ThreadsLine → Bool

@@ -57,39 +57,26 @@ no_reset = refl
 -- Two guests: the first spare device is the first one's, and one is left over. Calls are those of
 -- the processor that was chosen last.
 abbrev two_guests : List ThreadsLine
-two_guests =
-    Plug 64 8 2
-    ∷ Plug 128 2 1
-    ∷ Rounds 16 3
-    ∷ Call 0 Stats
-    ∷ Cpu 1
-    ∷ Call 0 (Reap 0)
-    ∷ Cpu 0
-    ∷ Call 1 (Inflate 4)
-    ∷ Call 0 (Alloc 1 5)
-    ∷ Cpu 9
-    ∷ []
+two_guests = Plug 64 8 2 ∷ Plug 128 2 1 ∷ Rounds 16 3 ∷ Call 0 Stats
+    ∷ Cpu 1 ∷ Call 0 (Reap 0) ∷ Cpu 0 ∷ Call 1 (Inflate 4) ∷ Call 0 (Alloc 1 5) ∷ Cpu 9 ∷ []
 
 a_plan :
     plan_of (record { frames = 64; spares = Immediate ∷ Paced ∷ Paced ∷ []; events = two_guests })
     ≡ Some (record {
       frames = 64;
-      guests =
-          record {
-            pace = Immediate;
-            pages = 64;
-            queue_size = 8;
-            processors = 2;
-            scripts = (Stats ∷ Alloc 1 5 ∷ []) ∷ (Reap 0 ∷ []) ∷ [];
-          }
-          ∷ record {
-            pace = Paced;
-            pages = 128;
-            queue_size = 2;
-            processors = 1;
-            scripts = (Inflate 4 ∷ []) ∷ [];
-          }
-          ∷ [];
+      guests = record {
+        pace = Immediate;
+        pages = 64;
+        queue_size = 8;
+        processors = 2;
+        scripts = (Stats ∷ Alloc 1 5 ∷ []) ∷ (Reap 0 ∷ []) ∷ [];
+      } ∷ record {
+        pace = Paced;
+        pages = 128;
+        queue_size = 2;
+        processors = 1;
+        scripts = (Inflate 4 ∷ []) ∷ [];
+      } ∷ [];
       floor = 16;
       rounds = 3;
     })
@@ -97,8 +84,7 @@ unfolding plan_of
 a_plan = refl
 
 -- without a line there are no rounds
-no_rounds :
-    plan_of (record { frames = 64; spares = Paced ∷ []; events = Plug 64 8 1 ∷ [] })
+no_rounds : plan_of (record { frames = 64; spares = Paced ∷ []; events = Plug 64 8 1 ∷ [] })
     ≡ Some (record {
       frames = 64;
       guests =
@@ -125,22 +111,13 @@ unfolding plan_of
 five_processors = refl
 
 -- a call on a guest that isn't there, and one by a processor that isn't
-other_guest :
-    plan_of (record {
-      frames = 64;
-      spares = Paced ∷ [];
-      events = Plug 64 8 1 ∷ Call 1 Stats ∷ [];
-    })
-    ≡ None
+other_guest : plan_of
+    (record { frames = 64; spares = Paced ∷ []; events = Plug 64 8 1 ∷ Call 1 Stats ∷ [] }) ≡ None
 unfolding plan_of
 other_guest = refl
 
-other_processor :
-    plan_of (record {
-      frames = 64;
-      spares = Paced ∷ [];
-      events = Plug 64 8 1 ∷ Cpu 1 ∷ Call 0 Stats ∷ [];
-    })
+other_processor : plan_of
+    (record { frames = 64; spares = Paced ∷ []; events = Plug 64 8 1 ∷ Cpu 1 ∷ Call 0 Stats ∷ [] })
     ≡ None
 unfolding plan_of
 other_processor = refl

@@ -28,9 +28,8 @@ Decides-decimal : (word : List ℕ)
     (IsDecimal word × (decimal_value word < 2 ^ 32))
 Decides-decimal word = search (arith, Decides-digits)
 
-pub number_shown : (word : List ℕ) (r : Option ℕ)
-    → SomeIff r (IsDecimal word × (decimal_value word < 2 ^ 32)) (decimal_value word)
-    → r ≡ number_of word
+pub number_shown : (word : List ℕ) (r : Option ℕ) → SomeIff r (IsDecimal word
+    × (decimal_value word < 2 ^ 32)) (decimal_value word) → r ≡ number_of word
 unfolding number_of
 number_shown word r is = some_where r _ (decimal_value word) is (Decides-decimal word)
 

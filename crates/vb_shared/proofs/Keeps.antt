@@ -11,11 +11,10 @@ use lib.ListN.{get_elem?}
 use Rattle.atomic_table.{specs.Table.{Me, Allows, step}, proofs.Lists.{at_set, set_again}}
 use Rattle.vb_model.specs.Tests.{one_if}
 use Rattle.vb_device.specs.Own.{has, without}
-use Rattle.vb_shared.specs.Rule.{pass, count, count_all, AllTied, IsKept, Kept, StepKind, TryClaim}
-use Rattle.vb_shared.{specs.Rule.{PutBack, word_after, held_after}, specs.declared.rule.View.View}
-use Rattle.vb_shared.{specs.declared.rule.Holding.Holding, specs.declared.rule.Size.Size}
-use Rattle.vb_shared.specs.Steps.{claimed, returned}
-use Rattle.vb_shared.proofs.Lists.{has_without, has_not_without, without_none}
+use Rattle.vb_shared.{proofs.Lists.{has_without, has_not_without, without_none}, specs.Rule.pass}
+use Rattle.vb_shared.specs.Rule.{count, count_all, AllTied, IsKept, Kept, StepKind, TryClaim}
+use Rattle.vb_shared.specs.{Rule.{PutBack, word_after, held_after}, Steps.{claimed, returned}}
+use Rattle.vb_shared.specs.declared.rule.{Holding.Holding, Size.Size, View.View}
 
 -- ---- tags
 
@@ -42,8 +41,7 @@ pub count_set : (tag : ℕ) (views : List View) (i : ℕ) (v w : View) → get_e
     → count_all tag (set views i w) + count tag v.holdings
     ≡ count_all tag views + count tag w.holdings
 count_set tag [] i v w e = absurd (some-ne-none v (sym e))
-count_set tag (x ∷ xs) zero v w e =
-    search arith
+count_set tag (x ∷ xs) zero v w e = search arith
 count_set tag (x ∷ xs) (suc i) v w e = let h = count_set tag xs i v w e in omega arith
 
 pub one_tag : (tag : ℕ) → one_if (eqb tag tag) ≡ 1
@@ -64,8 +62,7 @@ word_same : (words : List ℕ) (f x tag t j : ℕ) → Moves words f x tag → t
 word_same words f x tag t j m ne = dite (ℕ_discrete j f)
     (λ e. ap (λ k. eqb (slice_index (set words f x) k) (t + 1)) e
     ∙ ap (λ n. eqb n (t + 1)) (get_or-set_same words f x 0 m.inside)
-    ∙ ne_eqb x (t + 1) (m.after t ne)
-    ∙ sym (ap (λ k. eqb (slice_index words k) (t + 1)) e
+    ∙ ne_eqb x (t + 1) (m.after t ne) ∙ sym (ap (λ k. eqb (slice_index words k) (t + 1)) e
     ∙ ne_eqb (slice_index words f) (t + 1) (m.before t ne)))
     (λ n. ap (λ k. eqb k (t + 1)) (get_or-set_other words f j x 0 n))
 
@@ -75,8 +72,7 @@ tied_after guests words f x tag [] m absent tied = tt
 tied_after guests words f x tag (p ∷ ps) m absent tied = (
   (
     tied.0.0,
-    λ j. word_same words f x tag p.tag j m (not_tag p.tag tag (count tag ps) absent)
-        ∙ tied.0.1 j,
+    λ j. word_same words f x tag p.tag j m (not_tag p.tag tag (count tag ps) absent) ∙ tied.0.1 j,
   ),
   tied_after guests words f x tag ps m (omega arith) tied.1,
 )
@@ -89,9 +85,7 @@ kept_after : (size : Size) (words : List ℕ) (views : List View) (id tag f x : 
 kept_after size words views id tag f x held held' r at m low new = record {
   wide = length-set words f x ∙ r.wide;
   small = search (arith, get_or-set_same, get_or-set_other);
-  tied = λ i v e. ⊎_elim
-      (search arith)
-      (λ (t : (i ≢ id) × (get_elem? views i ≡ some v)).
+  tied = λ i v e. ⊎_elim (search arith) (λ (t : (i ≢ id) × (get_elem? views i ≡ some v)).
       let two = count_two tag views i id v (pass tag held) t.0 t.1 at in
       let most = r.apart tag in
       let one = one_tag tag in
@@ -152,27 +146,24 @@ return_kept size words views id tag f held low r at false is =
 
 -- where the word isn't its own, the pass doesn't hold the frame
 without_is : (size : Size) (words : List ℕ) (views : List View) (id tag f : ℕ) (held : List ℕ)
-    → IsKept size words views → get_elem? views id ≡ some (pass tag held)
-    → (b : Bool) → eqb (slice_index words f) (tag + 1) ≡ b
-    → cond b (without held f) held ≡ without held f
+    → IsKept size words views → get_elem? views id ≡ some (pass tag held) → (b : Bool)
+    → eqb (slice_index words f) (tag + 1) ≡ b → cond b (without held f) held ≡ without held f
 without_is size words views id tag f held r at b is = grind (arith, without_none)
 
 -- ---- all three
 
 pub stepped : (kind : StepKind) (size : Size) (words : List ℕ) (views : List View) (i tag f : ℕ)
-    (held : List ℕ) → f < size.frames → IsKept size words views
-    → get_elem? views i ≡ some (pass tag held)
-    → IsKept size (set words f (word_after kind tag (slice_index words f)))
+    (held : List ℕ) → f < size.frames → IsKept size words views → get_elem? views i
+    ≡ some (pass tag held) → IsKept size (set words f (word_after kind tag (slice_index words f)))
     (set views i (pass tag (held_after kind tag (slice_index words f) f held)))
-stepped kind size words views i tag f held low r at =
-    grind (
-      arith,
-      try_kept size words views i tag f held low r,
-      eqb (slice_index words f) 0,
-      return_kept size words views i tag f held low r,
-      eqb (slice_index words f) (tag + 1),
-      still size words views i f (pass tag held) r,
-    )
+stepped kind size words views i tag f held low r at = grind (
+  arith,
+  try_kept size words views i tag f held low r,
+  eqb (slice_index words f) 0,
+  return_kept size words views i tag f held low r,
+  eqb (slice_index words f) (tag + 1),
+  still size words views i f (pass tag held) r,
+)
 
 -- ---- what a seat owes for a step
 
@@ -180,12 +171,11 @@ claims_at : (size : Size) (slots id f tag : ℕ) (held : List ℕ) (c : List (�
     → f < size.frames
     → Allows (Kept size) slots id (pass tag held, c) f (λ n. either (eqb n 0) (tag + 1) n)
     (claimed (step slots f 0 (tag + 1) none) (pass tag held, c))
-claims_at size slots id f tag held c low s r h10 at h12 =
-    grind (
-      arith,
-      stepped TryClaim size s.words s.views id tag f held low r at,
-      not_held size s.words s.views id tag f held r at,
-    )
+claims_at size slots id f tag held c low s r h10 at h12 = grind (
+  arith,
+  stepped TryClaim size s.words s.views id tag f held low r at,
+  not_held size s.words s.views id tag f held r at,
+)
 
 pub claims : (size : Size) (slots id f tag : ℕ) (held : List ℕ) (me : Me (Unit {0}) View)
     → f < size.frames → me.0 ≡ pass tag held
@@ -198,12 +188,11 @@ gives_at : (size : Size) (slots id f tag : ℕ) (held : List ℕ) (c : List (ℕ
     → f < size.frames
     → Allows (Kept size) slots id (pass tag held, c) f (λ n. either (eqb n (tag + 1)) 0 n)
     (returned (step slots f (tag + 1) 0 none) (pass tag held, c))
-gives_at size slots id f tag held c low s r h10 at h12 =
-    grind (
-      arith,
-      stepped PutBack size s.words s.views id tag f held low r at,
-      without_is size s.words s.views id tag f held r,
-    )
+gives_at size slots id f tag held c low s r h10 at h12 = grind (
+  arith,
+  stepped PutBack size s.words s.views id tag f held low r at,
+  without_is size s.words s.views id tag f held r,
+)
 
 pub gives : (size : Size) (slots id f tag : ℕ) (held : List ℕ) (me : Me (Unit {0}) View)
     → f < size.frames → me.0 ≡ pass tag held

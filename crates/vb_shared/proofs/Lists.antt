@@ -11,8 +11,7 @@ use Rattle.vb_shared.specs.Passes.{Within, Pass, new_passes}
 
 -- the others stay
 pub has_without : (ns : List ℕ) (f j : ℕ) → j ≢ f → has (without ns f) j ≡ has ns j
-has_without ns f j ne =
-    any-filter_same (λ n. n == j) (λ n. not (n == f)) true
+has_without ns f j ne = any-filter_same (λ n. n == j) (λ n. not (n == f)) true
     (λ n is. ap not (ne_eqb n f (λ e. ne (sym (eqb-true n j is) ∙ e)))) ns
 
 pub has_not_without : (ns : List ℕ) (f : ℕ) → has (without ns f) f ≡ false

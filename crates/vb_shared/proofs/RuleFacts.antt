@@ -75,8 +75,7 @@ rule_of_a_tag_twice : FrameRule sizes (0 ∷ 0 ∷ 0 ∷ []) (pass 0 [] ∷ pass
 rule_of_a_tag_twice is = is.tags 0 1 0 0 [] [] (λ e. omega (arith, e)) refl refl refl
 
 rule_of_a_frame_not_held : FrameRule sizes words (pass 0 [] ∷ []) → ⊥
-rule_of_a_frame_not_held is =
-    let wrong : false ≡ true = (is.holder 0 0 1 [] refl).0 refl in cc
+rule_of_a_frame_not_held is = let wrong : false ≡ true = (is.holder 0 0 1 [] refl).0 refl in cc
 
 rule_of_a_frame_not_its_own : FrameRule sizes words (pass 0 (0 ∷ 1 ∷ []) ∷ []) → ⊥
 rule_of_a_frame_not_its_own is =

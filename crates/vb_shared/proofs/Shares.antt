@@ -41,8 +41,7 @@ splits size id v left right counts ties s r at =
     grind (arith, at_set, at_snoc, count_snoc, count_set)
 
 pub all_goes : (size : Size) (id : ℕ) (v : View) → Splits (Kept size) id v no_view v
-all_goes size id v =
-    splits size id v [] v.holdings (λ tag. omega arith) (λ words tied. (tt, tied))
+all_goes size id v = splits size id v [] v.holdings (λ tag. omega arith) (λ words tied. (tt, tied))
 
 first_rest : (tag : ℕ) (ps : List Holding)
     → count tag (first_of ps) + count tag (rest_of ps) ≡ count tag ps
@@ -60,8 +59,7 @@ rest_goes size id v = search (arith, splits, first_rest, tied_first_rest)
 
 pub first_goes : (size : Size) (id : ℕ) (v : View)
     → Splits (Kept size) id v (view_of (rest_of v.holdings)) (view_of (first_of v.holdings))
-first_goes size id v =
-    splits size id v (rest_of v.holdings) (first_of v.holdings)
+first_goes size id v = splits size id v (rest_of v.holdings) (first_of v.holdings)
     (λ tag. let sum = first_rest tag v.holdings in omega arith)
     (λ words tied. let both = tied_first_rest size.guests words v.holdings tied in (both.1, both.0))
 
@@ -123,18 +121,16 @@ new_tied guests words tag (suc n) low free =
 
 new_none : (tag first n : ℕ) → tag < first → count tag (new_holdings first n) ≡ 0
 new_none tag first zero low = refl
-new_none tag first (suc n) low =
-    grind (
-      arith,
-      new_none tag (suc first) n (omega arith),
-      eqb first tag,
-      ne_eqb first tag (λ e. omega arith),
-    )
+new_none tag first (suc n) low = grind (
+  arith,
+  new_none tag (suc first) n (omega arith),
+  eqb first tag,
+  ne_eqb first tag (λ e. omega arith),
+)
 
 new_once : (tag first n : ℕ) → count tag (new_holdings first n) ≤ 1
 new_once tag first zero = omega arith
-new_once tag first (suc n) = dite (ℕ_discrete first tag)
-    (search (arith, eq-eqb, new_none))
+new_once tag first (suc n) = dite (ℕ_discrete first tag) (search (arith, eq-eqb, new_none))
     (λ ne. let other : one_if (eqb first tag) ≡ 0 = ap one_if (ne_eqb first tag ne) in
     let rest = new_once tag (suc first) n in
     omega arith)
@@ -153,9 +149,8 @@ begins size words is = record {
 
     only : (i : ℕ) (v : View) → get_elem? (opening_view size.guests ∷ []) i ≡ some v
         → AllTied size.guests words v.holdings
-    only zero v e =
-        subst (λ (y : View). AllTied size.guests words y.holdings) (some-injective _ _ e)
-        (new_tied size.guests words 0 size.guests (omega arith)
+    only zero v e = subst (λ (y : View). AllTied size.guests words y.holdings)
+        (some-injective _ _ e) (new_tied size.guests words 0 size.guests (omega arith)
         (λ f. ap (λ ws. slice_index ws f) is ∙ zeros size.frames f))
     only (suc i) v e = absurd (some-ne-none v (sym e))
 

@@ -94,8 +94,7 @@ a_look_changes_nothing did =
 cut : first_of (holding 4 [] ∷ holding 5 [] ∷ holding 6 [] ∷ []) ≡ holding 4 [] ∷ []
 cut = refl
 
-left : rest_of (holding 4 [] ∷ holding 5 [] ∷ holding 6 [] ∷ [])
-    ≡ holding 5 [] ∷ holding 6 [] ∷ []
+left : rest_of (holding 4 [] ∷ holding 5 [] ∷ holding 6 [] ∷ []) ≡ holding 5 [] ∷ holding 6 [] ∷ []
 left = refl
 
 next_tags : new_holdings 4 2 ≡ holding 4 [] ∷ holding 5 [] ∷ []
@@ -131,8 +130,7 @@ seat_of_another is =
     let wrong : Same 0 1 = ap (λ (m : Seat). count 4 m.0.holdings) (sym is.0) in omega arith
 
 seat_of_two : IsPass 8 4 (view_of (holding 4 [] ∷ holding 5 [] ∷ []), []) → ⊥
-seat_of_two is =
-    let wrong : Same 2 1 = ap (λ (m : Seat). length m.0.holdings) is.0 in omega arith
+seat_of_two is = let wrong : Same 2 1 = ap (λ (m : Seat). length m.0.holdings) is.0 in omega arith
 
 frame_past_the_table : IsPass 7 4 (seat (7 ∷ [])) → ⊥
 frame_past_the_table is = let low : 7 < 7 = is.1.1 in omega arith

@@ -5,15 +5,13 @@ use Rattle.std.specs.Prelude.{if◌then◌else◌, cond, MatchOption, ⊤, Optio
 use Rattle.std.{specs.Prelude.Result, proofs.lemmas.List.Sums.count_by-le-length}
 use Rattle.std.proofs.Common.{sym, ◌∙◌, ap, subst, arith, get_or, take, eq-eqb}
 use Rattle.std.proofs.lemmas.List.{append-nil, length-replicate, take_more, length-take}
-use Rattle.vb_ram.{specs.declared.config.Config.Config, specs.Pages.Pages}
-use Rattle.vb_ram.specs.Part.{Part, QueuePart}
+use Rattle.vb_ram.specs.{declared.config.Config.Config, Pages.Pages, Part.{Part, QueuePart}}
 use Rattle.vb_model.specs.declared.replies.Refusal.TheVariants.{NoQueue, NotReady, NeedsReset}
-use Rattle.vb_model.{specs.Requests.Request, specs.FirstRefusal.{◌⇒◌, first_refusal}}
+use Rattle.vb_model.specs.declared.replies.Refusal.TheVariants.{NotTaken, NotWorked}
+use Rattle.vb_model.specs.{Requests.Request, FirstRefusal.{◌⇒◌, first_refusal}}
 use Rattle.vb_model.specs.Tables.{is_queue_of_requests, has_unvisited, is_not_ready, has_fault}
 use Rattle.vb_model.specs.declared.layout.TheConstants.{INFLATE_QUEUE, DEFLATE_QUEUE, REPORT_QUEUE}
-use Rattle.vb_model.specs.declared.replies.Refusal.TheVariants.{NotTaken, NotWorked}
-use Rattle.vb_model.specs.declared.replies.Refusal.{Refusal}
-use Rattle.vb_model.specs.Tests.{is_in, pages_from, pages_where}
+use Rattle.vb_model.specs.{declared.replies.Refusal.Refusal, Tests.{is_in, pages_from, pages_where}}
 use Rattle.vb_model.proofs.Tables.{pages_where-passes, count_by-cons}
 use Rattle.vb_device.specs.Calls.{attached, using, next_visit, WorksBy, SweepsBy, FinishesBy, Uses}
 use Rattle.vb_device.specs.Conditions.{work_refusal, sweep_refusal, finish_refusal, ask_refusal}
@@ -28,11 +26,9 @@ pages_from-append first test (x ∷ xs) ys =
     let ih : pages_from (suc first) test (xs ++ ys) ≡ pages_from (suc first) test xs
     ++ pages_from (suc first + length xs) test ys = pages_from-append (suc first) test xs ys in
     let at : pages_from (suc first + length xs) test ys
-    ≡ pages_from (first + suc (length xs)) test ys =
-    ap (λ n. pages_from n test ys) (omega arith) in
-    let tail : pages_from (suc first) test (xs ++ ys) ≡ pages_from (suc first) test xs
-    ++ pages_from (first + suc (length xs)) test ys =
-    ih ∙ ap (λ l. pages_from (suc first) test xs ++ l) at in
+    ≡ pages_from (first + suc (length xs)) test ys = ap (λ n. pages_from n test ys) (omega arith) in
+    let tail : pages_from (suc first) test (xs ++ ys) ≡ pages_from (suc first) test xs ++ pages_from
+    (first + suc (length xs)) test ys = ih ∙ ap (λ l. pages_from (suc first) test xs ++ l) at in
     step (test x) (pages_from (suc first) test (xs ++ ys)) (pages_from (suc first) test xs)
     (pages_from (first + suc (length xs)) test ys) tail
   where
@@ -45,8 +41,7 @@ pages_from-append first test (x ∷ xs) ys =
 pages_more : {A : Type 0} (test : A → Bool) (xs : List A) (i : ℕ) (d : A) → i < length xs
     → pages_where test (take (i + 1) xs) ≡ pages_where test (take i xs)
     ++ cond (test (get_or xs i d)) (i ∷ []) []
-pages_more test xs i d lt =
-    ap (pages_from 0 test) (take_more xs i d lt)
+pages_more test xs i d lt = ap (pages_from 0 test) (take_more xs i d lt)
     ∙ (pages_from-append 0 test (take i xs) (get_or xs i d ∷ [])
     ∙ ap (λ n. pages_where test (take i xs) ++ cond (test (get_or xs i d)) (n ∷ []) [])
     (omega (arith, length-take i xs)))
@@ -81,8 +76,7 @@ same_truth false false f g = refl
 -- a page is in the list exactly where its flag is set
 pub listed_is : (flags : List Bool) (page : ℕ)
     → is_in page (pages_where (λ flag. flag) flags) ≡ get_or flags page false
-listed_is flags page =
-    same_truth _ _ (λ e. pages_where-passes (λ flag. flag) flags page false e)
+listed_is flags page = same_truth _ _ (λ e. pages_where-passes (λ flag. flag) flags page false e)
     (λ e. subst (λ n. is_in n (pages_where (λ flag. flag) flags) ≡ true) (omega arith)
     (flag_in 0 flags page e))
 
@@ -113,28 +107,24 @@ told P o x e h = subst (λ v. MatchOption v ⊤ P) e h
 -- one page more
 pub listed_more : (flags : List Bool) (i : ℕ) (flag : Bool) (old new : List ℕ) → i < length flags
     → flag ≡ get_or flags i false → old ≡ pages_where (λ f. f) (take i flags)
-    → new ≡ (if flag then old ++ i ∷ [] else old)
-    → new ≡ pages_where (λ f. f) (take (i + 1) flags)
+    → new ≡ (if flag then old ++ i ∷ [] else old) → new ≡ pages_where (λ f. f) (take (i + 1) flags)
 listed_more flags i true old new lt f o n =
-    n ∙ (ap (λ (xs : List ℕ). xs ++ i ∷ []) o
-    ∙ sym (pages_more (λ f. f) flags i false lt
+    n ∙ (ap (λ (xs : List ℕ). xs ++ i ∷ []) o ∙ sym (pages_more (λ f. f) flags i false lt
     ∙ ap (λ (b : Bool). pages_where (λ f. f) (take i flags) ++ cond b (i ∷ []) []) (sym f)))
-listed_more flags i false old new lt f o n =
-    n ∙ (o ∙ sym (pages_more (λ f. f) flags i false lt
+listed_more flags i false old new lt f o n = n ∙ (o ∙ sym (pages_more (λ f. f) flags i false lt
     ∙ (ap (λ (b : Bool). pages_where (λ f. f) (take i flags) ++ cond b (i ∷ []) []) (sym f)
     ∙ append-nil (pages_where (λ f. f) (take i flags)))))
 
 -- no more flags are in the list than there are
 pub listed_fits : (flags : List Bool) (items : List ℕ) (pages : ℕ) → length flags ≡ pages
     → items ≡ pages_where (λ f. f) flags → length items ≤ pages
-listed_fits flags items pages size e =
-    omega (
-      arith,
-      size,
-      count_by-le-length (λ (f : Bool). f) flags,
-      ap (λ (xs : List ℕ). length xs) e,
-      listed_count flags,
-    )
+listed_fits flags items pages size e = omega (
+  arith,
+  size,
+  count_by-le-length (λ (f : Bool). f) flags,
+  ap (λ (xs : List ℕ). length xs) e,
+  listed_count flags,
+)
 
 -- a device that is attached has no flag set
 pub attached_list : (p1 p2 : Part) (config : Config) (pages room : ℕ) (items : List ℕ)
@@ -151,11 +141,10 @@ attached_list p1 p2 config pages room items e size none fits =
 -- a sweep leaves the flags
 pub sweep_keeps : (page : ℕ) (m1 m2 : Pages) (p1 p2 : Part) (result : Result Bool Refusal)
     → SweepsBy page m1 m2 p1 p2 result → p2.ballooned ≡ p1.ballooned
-sweep_keeps page m1 m2 p1 p2 result s = step (sweep_refusal page p1) refl
-  where
-    step : (o : Option Refusal) → sweep_refusal page p1 ≡ o → p2.ballooned ≡ p1.ballooned
-    step None e = ap (λ (p : Part). p.ballooned) (s.part e)
-    step (Some why) e = ap (λ (p : Part). p.ballooned) (s.refused why e).1
+sweep_keeps page m1 m2 p1 p2 result s = step (sweep_refusal page p1) refl where
+  step : (o : Option Refusal) → sweep_refusal page p1 ≡ o → p2.ballooned ≡ p1.ballooned
+  step None e = ap (λ (p : Part). p.ballooned) (s.part e)
+  step (Some why) e = ap (λ (p : Part). p.ballooned) (s.refused why e).1
 
 -- work leaves the flags
 pub work_keeps : (m1 m2 : Pages) (p1 p2 : Part) (result : Result (Option Worked) Refusal)
@@ -167,46 +156,38 @@ work_keeps m1 m2 p1 p2 result w =
         → next_visit INFLATE_QUEUE p1 ≡ next → (other : Option ℕ)
         → next_visit REPORT_QUEUE p1 ≡ other → p2.ballooned ≡ p1.ballooned
     step (Some why) e next at other is = ap (λ (p : Part). p.ballooned) (w.refused why e).1
-    step None e (Some page) at other is =
-        ap (λ (p : Part). p.ballooned) (w.inflate page e at).part
-    step None e None at (Some page) is =
-        ap (λ (p : Part). p.ballooned) (w.report page e at is).part
+    step None e (Some page) at other is = ap (λ (p : Part). p.ballooned) (w.inflate page e at).part
+    step None e None at (Some page) is = ap (λ (p : Part). p.ballooned) (w.report page e at is).part
     step None e None at None is = ap (λ (p : Part). p.ballooned) (w.idle e at is).1
 
 -- a question for statistics leaves the flags
 pub ask_keeps : {T : Type 0} (m1 m2 : Pages) (p1 p2 : Part) (result : Result T Refusal)
     → AsksBy m1 m2 p1 p2 result → p2.ballooned ≡ p1.ballooned
-ask_keeps m1 m2 p1 p2 result a = step (ask_refusal p1) refl
-  where
-    step : (o : Option Refusal) → ask_refusal p1 ≡ o → p2.ballooned ≡ p1.ballooned
-    step None e = ap (λ (p : Part). p.ballooned) (a.part e)
-    step (Some why) e = ap (λ (p : Part). p.ballooned) (a.refused why e).1
+ask_keeps m1 m2 p1 p2 result a = step (ask_refusal p1) refl where
+  step : (o : Option Refusal) → ask_refusal p1 ≡ o → p2.ballooned ≡ p1.ballooned
+  step None e = ap (λ (p : Part). p.ballooned) (a.part e)
+  step (Some why) e = ap (λ (p : Part). p.ballooned) (a.refused why e).1
 
 -- ---- a finish leaves the number of flags
 
 passed : (a b c d e : Bool) (v w x y z : Refusal)
     → first_refusal ((a ⇒ v) ∷ (b ⇒ w) ∷ (c ⇒ x) ∷ (d ⇒ y) ∷ (e ⇒ z) ∷ []) ≡ None → d ≡ false
-passed true b c d e v w x y z h = absurd (some_none v h)
-  where
-    some_none : (why : Refusal) → Some why ≡ None → ⊥
-    some_none why e = cc
-passed false true c d e v w x y z h = absurd (some_none w h)
-  where
-    some_none : (why : Refusal) → Some why ≡ None → ⊥
-    some_none why e = cc
-passed false false true d e v w x y z h = absurd (some_none x h)
-  where
-    some_none : (why : Refusal) → Some why ≡ None → ⊥
-    some_none why e = cc
-passed false false false true e v w x y z h = absurd (some_none y h)
-  where
-    some_none : (why : Refusal) → Some why ≡ None → ⊥
-    some_none why e = cc
+passed true b c d e v w x y z h = absurd (some_none v h) where
+  some_none : (why : Refusal) → Some why ≡ None → ⊥
+  some_none why e = cc
+passed false true c d e v w x y z h = absurd (some_none w h) where
+  some_none : (why : Refusal) → Some why ≡ None → ⊥
+  some_none why e = cc
+passed false false true d e v w x y z h = absurd (some_none x h) where
+  some_none : (why : Refusal) → Some why ≡ None → ⊥
+  some_none why e = cc
+passed false false false true e v w x y z h = absurd (some_none y h) where
+  some_none : (why : Refusal) → Some why ≡ None → ⊥
+  some_none why e = cc
 passed false false false false e v w x y z h = refl
 
 queue_keeps : (a b c : Bool) (x : QueuePart) (p : Part)
-    → (if a then record p { inflate = x }
-    else (if b then record p { deflate = x }
+    → (if a then record p { inflate = x } else (if b then record p { deflate = x }
     else (if c then record p { statistics = x } else record p { report = x }))).ballooned
     ≡ p.ballooned
 queue_keeps true b c x p = refl
@@ -224,18 +205,16 @@ settled_size false false pages p = refl
 
 used_size : (q index : ℕ) (r : Request) (m1 m2 : Pages) (p1 p2 : Part) (result : Result ℕ Refusal)
     → Uses q index r m1 m2 p1 p2 result → length p2.ballooned ≡ length p1.ballooned
-used_size q index r m1 m2 p1 p2 result u =
-    ap (λ (p : Part). length p.ballooned) u.part
+used_size q index r m1 m2 p1 p2 result u = ap (λ (p : Part). length p.ballooned) u.part
     ∙ (settled_size (q == 0) (q == 1) r.pages (using q index p1)
     ∙ ap (λ (fs : List Bool). length fs) (queue_keeps (q == 0) (q == 1) (q == 2) _ p1))
 
 used_some : (q index : ℕ) (m1 m2 : Pages) (p1 p2 : Part) (result : Result ℕ Refusal)
     (o : Option Request) → FinishesBy q index m1 m2 p1 p2 result → finish_refusal q index p1 ≡ None
     → taken_at q index p1 ≡ o → is_none o ≡ false → length p2.ballooned ≡ length p1.ballooned
-used_some q index m1 m2 p1 p2 result None s e at h = absurd (true_false h)
-  where
-    true_false : true ≡ false → ⊥
-    true_false e = cc
+used_some q index m1 m2 p1 p2 result None s e at h = absurd (true_false h) where
+  true_false : true ≡ false → ⊥
+  true_false e = cc
 used_some q index m1 m2 p1 p2 result (Some r) s e at h =
     used_size q index r m1 m2 p1 p2 result (s.finished r e at)
 

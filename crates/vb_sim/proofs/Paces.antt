@@ -17,8 +17,7 @@ pub one_more : {D : Type 0} (is_paced_device : D → Bool) (olds news : List D) 
 one_more f olds news device paces i default pace grown same lt is alike =
     let first : map f news ≡ map f olds ++ f device ∷ [] = rw grown (map_push f olds device) in
     let second : map is_paced (take (i + 1) paces) ≡ map is_paced (take i paces)
-    ++ is_paced (get_or paces i default) ∷ []
-    = rw (take_more paces i default lt)
+    ++ is_paced (get_or paces i default) ∷ [] = rw (take_more paces i default lt)
     (map_push is_paced (take i paces) (get_or paces i default)) in
     let last : is_paced (get_or paces i default) ≡ is_paced pace = rw is refl in
     cc

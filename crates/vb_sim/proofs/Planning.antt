@@ -11,10 +11,9 @@ use Rattle.vb_run.{specs.declared.plan.Bells.Bells, specs.declared.plan.GuestPla
 use Rattle.vb_run.{specs.declared.plan.Plan.Plan, specs.declared.report.Report.Report}
 use Rattle.vb_script.{specs.declared.script.ThreadsGuest.ThreadsGuest, specs.Lines.is_paced}
 use Rattle.vb_sim.specs.Plans.{IsPlanOf, Part, can_run, is_part, may_be_scripts, part_of}
-use Rattle.vb_sim.specs.declared.fault.ProgramFault.TheVariants.{BadLine, BadPlan, Memory, Audit}
-use Rattle.vb_sim.{specs.Plans.planned_part, specs.declared.fault.ProgramFault.ProgramFault}
-use Rattle.vb_sim.specs.Threads.{IsPlanFault, IsRunOfText, IsThreadsFault}
-use Rattle.vb_sim.specs.declared.fault.ProgramFault.TheVariants.{Stream}
+use Rattle.vb_sim.specs.{Plans.planned_part, Threads.{IsPlanFault, IsRunOfText, IsThreadsFault}}
+use Rattle.vb_sim.specs.declared.fault.ProgramFault.{ProgramFault, TheVariants.{BadLine, BadPlan}}
+use Rattle.vb_sim.specs.declared.fault.ProgramFault.TheVariants.{Memory, Audit, Stream}
 use Rattle.vb_script.specs.Plans.{Plan as Planned, guest_plan}
 
 pub config_none : {A : Type 0} (b : Bool) (x : A) (o : Option A)
@@ -42,8 +41,7 @@ guest_alike guest =
 guests_alike : (guests : List GuestPlan)
     → list_all is_guest_plan guests ≡ list_all is_part (map part_of guests)
 guests_alike [] = refl
-guests_alike (guest ∷ guests) =
-    λ i. guest_alike guest i && guests_alike guests i
+guests_alike (guest ∷ guests) = λ i. guest_alike guest i && guests_alike guests i
 
 same_number : (n : ℕ) → (n == n) ≡ true
 same_number n = grind (arith, nat_tests)
@@ -53,15 +51,13 @@ pub plans_alike : (planned : Planned) (bells : Bells) (plan : Plan) → IsPlanOf
     → is_plan plan (length plan.guests.items) ≡ can_run planned
 plans_alike planned bells plan is =
     let guests = plan.guests.items in
-    let count : length guests ≡ length planned.guests =
-    sym (length-map guests part_of) ∙ ap (λ (l : List _). length l) is.guests
-    ∙ length-map planned.guests planned_part in
+    let count : length guests ≡ length planned.guests = sym (length-map guests part_of)
+    ∙ ap (λ (l : List _). length l) is.guests ∙ length-map planned.guests planned_part in
     let whole : list_all is_guest_plan guests ≡ list_all is_part (map planned_part planned.guests) =
     guests_alike guests ∙ ap (list_all is_part) is.guests in
     let n = length guests in
     ap (λ (b : Bool). not (n == 0) && (nat_le n max_guests && (b && list_all is_guest_plan guests)))
-    (same_number n)
-    ∙ ap (λ (b : Bool). not (n == 0) && (nat_le n max_guests && b)) whole
+    (same_number n) ∙ ap (λ (b : Bool). not (n == 0) && (nat_le n max_guests && b)) whole
     ∙ ap (λ (m : ℕ). not (m == 0) && (nat_le m max_guests
     && list_all is_part (map planned_part planned.guests))) count
 
@@ -73,22 +69,19 @@ and_false false b e = refl
 
 pub part_fails : (part : Part) → is_config part.pages part.queue_size part.processors ≡ false
     → is_part part ≡ false
-part_fails part e =
-    ap (λ (b : Bool). b && ((length part.scripts == part.processors)
+part_fails part e = ap (λ (b : Bool). b && ((length part.scripts == part.processors)
     && may_be_scripts 0 part.scripts)) e
 
 pub parts_fail : (parts : List Part) (part : Part) (rest all : List Part)
     → parts ++ part ∷ rest ≡ all → is_part part ≡ false → list_all is_part all ≡ false
-parts_fail parts part rest all whole e =
-    subst (λ (l : List Part). list_all is_part l ≡ false) whole
+parts_fail parts part rest all whole e = subst (λ (l : List Part). list_all is_part l ≡ false) whole
     (list_all-append is_part parts (part ∷ rest)
     ∙ and_false _ _ (ap (λ (b : Bool). b && list_all is_part rest) e))
 
 -- ---- what a run's ends say of its script
 
-pub fault_of_plan : (planned : Planned) (bells : Bells) (plan : Plan)
-    → IsPlanOf planned bells plan → (fault : ProgramFault)
-    → IsPlanFault (is_plan plan (length plan.guests.items)) fault
+pub fault_of_plan : (planned : Planned) (bells : Bells) (plan : Plan) → IsPlanOf planned bells plan
+    → (fault : ProgramFault) → IsPlanFault (is_plan plan (length plan.guests.items)) fault
     → IsThreadsFault (Ok (Some planned)) fault
 fault_of_plan planned bells plan is (BadLine number) bad = absurd bad
 fault_of_plan planned bells plan is BadPlan bad =
@@ -103,15 +96,13 @@ pub guests_run : (script : Result (Option Planned) ℕ) (bells : Bells) (plan : 
 guests_run script bells plan report run =
     let n = length plan.guests.items in
     let guests = list_all is_guest_plan plan.guests.items in
-    let runs : is_plan plan n ≡ true =
-    plans_alike run.0 bells plan run.2.plan_is ∙ run.2.runs in
+    let runs : is_plan plan n ≡ true = plans_alike run.0 bells plan run.2.plan_is ∙ run.2.runs in
     let some = and_parts (not (n == 0)) (nat_le n max_guests && ((n == n) && guests)) runs in
     let few = and_parts (nat_le n max_guests) ((n == n) && guests) some.1 in
     (and_parts (n == n) guests few.1).1
 
 -- the paces of a script's guests are those of the plan that it makes
-pub paces_planned : (guests : List ThreadsGuest)
-    → map is_paced (map (λ guest. guest.pace) guests)
+pub paces_planned : (guests : List ThreadsGuest) → map is_paced (map (λ guest. guest.pace) guests)
     ≡ map (λ guest. is_paced guest.pace) (map guest_plan guests)
 paces_planned [] = refl
 paces_planned (guest ∷ guests) = ap (λ (l : List Bool). is_paced guest.pace ∷ l) (paces_planned guests)

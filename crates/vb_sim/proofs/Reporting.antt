@@ -1,17 +1,16 @@
 -- The lines of a run of guests on threads, and how many calls its scripts have.
-use Rattle.std.proofs.Common.{◌≡◌, refl, sym, ap, ◌∙◌, subst, ℕ, suc, zero, ◌+◌, ◌*◌, ◌<◌, ◌≤◌}
+use Rattle.std.proofs.Common.{◌≡◌, sym, ap, ◌∙◌, subst, ℕ, suc, zero, ◌+◌, ◌*◌, ◌<◌, ◌≤◌}
 use Rattle.std.proofs.Common.{Bool, true, List, [], ◌∷◌, ◌++◌, length, get_or, take, arith, sum_by}
 use Rattle.std.{proofs.Common.{add-one, drop}, specs.Prelude.{◌==◌, ◌&&◌, nat_le}}
-use Rattle.std.{specs.List.list_all, specs.declared.vec.Vec.Vec, specs.declared.alloc.Global.Global}
-use Rattle.std.{proofs.lemmas.Bool.and_parts, proofs.lemmas.Bool.Decides.nat_tests}
+use Rattle.std.specs.{List.list_all, declared.vec.Vec.Vec, declared.alloc.Global.Global}
+use Rattle.std.proofs.lemmas.Bool.{and_parts, Decides.nat_tests}
 use Rattle.std.proofs.lemmas.List.{append_assoc, append-nil, take-append-drop}
 use Rattle.std.proofs.lemmas.List.Folds.{list_all-append, list_all_more}
 use Rattle.std.proofs.lemmas.List.Sums.{sum_by-cons, sum_by-take-le, sum_by_more}
 use Rattle.vb_model.{specs.declared.calls.Call.Call, specs.Limits.is_config}
 use Rattle.vb_ram.proofs.Limits.{config_limits}
 use Rattle.vb_run.specs.Plans.{are_scripts, is_guest_plan, is_script, may_stand}
-use Rattle.vb_run.specs.declared.plan.GuestPlan.{GuestPlan}
-use Rattle.vb_run.specs.declared.plan.TheConstants.{MAX_SCRIPT_CALLS}
+use Rattle.vb_run.specs.declared.plan.{GuestPlan.GuestPlan, TheConstants.MAX_SCRIPT_CALLS}
 use Rattle.vb_run.specs.declared.report.GuestReport.{GuestReport}
 use Rattle.vb_sim.specs.Threads.{calls_of, guest_line, guest_lines}
 
@@ -47,9 +46,8 @@ calls_bounded plan h =
     omega (arith, four, count, all)
 
 -- so are those of one script more
-pub one_more_script : (plan : GuestPlan) (i : ℕ) (script : Vec Call Global)
-    → is_guest_plan plan ≡ true → i < length plan.scripts.items
-    → get_or plan.scripts.items i script ≡ script
+pub one_more_script : (plan : GuestPlan) (i : ℕ) (script : Vec Call Global) → is_guest_plan plan
+    ≡ true → i < length plan.scripts.items → get_or plan.scripts.items i script ≡ script
     → sum_by (λ s. length s.items) (take i plan.scripts.items) + length script.items ≤ 400_000
 one_more_script plan i script h lt is =
     let f = λ (s : Vec Call Global). length s.items in
@@ -89,9 +87,8 @@ pub one_more_line : (i : ℕ) (plans : List GuestPlan) (reports : List GuestRepo
     ++ guest_line i (calls_of plan) (length report.frames.items)
 one_more_line i plans reports plan report lt same is report_is =
     let at : 0 + i ≡ i = omega arith in
-    ap (λ n. guest_lines 0 (take n plans) (take n reports)) (add-one i)
-    ∙ lines_next 0 i plans reports plan report lt same
-    ∙ ap (λ n. guest_lines 0 (take i plans) (take i reports)
+    ap (λ n. guest_lines 0 (take n plans) (take n reports)) (add-one i) ∙ lines_next
+    0 i plans reports plan report lt same ∙ ap (λ n. guest_lines 0 (take i plans) (take i reports)
     ++ guest_line n (calls_of (get_or plans i plan))
     (length (get_or reports i report).frames.items)) at
     ∙ ap (λ (p : GuestPlan). guest_lines 0 (take i plans) (take i reports)
@@ -107,6 +104,5 @@ one_passes test xs i x lt is all =
     (and_parts (list_all test (take (i + 1) xs)) (list_all test (drop (i + 1) xs))
     (sym (list_all-append test (take (i + 1) xs) (drop (i + 1) xs))
     ∙ ap (list_all test) (take-append-drop (i + 1) xs) ∙ all)).0 in
-    ap test is
-    ∙ (and_parts (list_all test (take i xs)) (test (get_or xs i x))
+    ap test is ∙ (and_parts (list_all test (take i xs)) (test (get_or xs i x))
     (sym (list_all_more test xs i x lt) ∙ front)).1

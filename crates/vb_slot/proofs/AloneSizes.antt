@@ -8,8 +8,7 @@ use Rattle.vb_guest.specs.Stands.{Stands, StandsBy}
 -- each of its pages has a frame or none
 pub each_page_framed : (keeps : Bool) (mem : Pages) (part : Part) (d : DriverState) (g : Guest)
     → Stands keeps mem part d g → length g.frames ≡ g.config.pages
-each_page_framed keeps mem part d g s = by g.rogue s.guest
-  where
-    by : (rogue : Bool) → StandsBy rogue mem part d g → length g.frames ≡ g.config.pages
-    by false honest = honest.ties.pages.framed
-    by true r = r.framed
+each_page_framed keeps mem part d g s = by g.rogue s.guest where
+  by : (rogue : Bool) → StandsBy rogue mem part d g → length g.frames ≡ g.config.pages
+  by false honest = honest.ties.pages.framed
+  by true r = r.framed

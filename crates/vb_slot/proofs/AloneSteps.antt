@@ -32,8 +32,7 @@ fresh_alone false mem p d config s =
     (false, s, λ n. backs_none n config.pages ∙ sym (none_out p n (s.own.none refl)))
 
 -- of one frame that was out, no more is out afterwards
-no_more_out : (left : Bool) (n : ℕ)
-    → one_if (is_out (left ∷ []) n) ≤ one_if (is_out (true ∷ []) n)
+no_more_out : (left : Bool) (n : ℕ) → one_if (is_out (left ∷ []) n) ≤ one_if (is_out (true ∷ []) n)
 no_more_out true zero = omega arith
 no_more_out false zero = omega arith
 no_more_out left (suc n) = omega arith
@@ -48,8 +47,7 @@ stays_behind : (keeps : Bool) (Answers : List Bool → Claim → Type 0) (m1 m2 
     (d1 d2 : DriverState) (was left : Bool) (claims : List Claim) (g : Guest) (call : Call)
     (reply : Reply) → was ≡ true → Stands keeps m1 p1 d1 g → AreBehind p1.own g
     → (over : StepsOver (Stands keeps m2 p2 d2) Answers (supply_of p1 (was ∷ []))
-    (supply_of p2 (left ∷ [])) claims g call reply)
-    → AreBehind p2.own over.new
+    (supply_of p2 (left ∷ [])) claims g call reply) → AreBehind p2.own over.new
 stays_behind true Answers m1 m2 p1 p2 d1 d2 was left claims g call reply out s behind over =
     over.stands.own.each refl
 stays_behind false Answers m1 m2 p1 p2 d1 d2 was left claims g call reply out s behind over = λ n.
@@ -71,8 +69,7 @@ pub alone_steps : (keeps : Bool) (Answers : List Bool → Claim → Type 0) (m1 
     (p1 p2 : Part) (d1 d2 : DriverState) (was left : Bool) (claims : List Claim) (g : Guest)
     (call : Call) (reply : Reply) → was ≡ true → Stands keeps m1 p1 d1 g → AreBehind p1.own g
     → StepsOver (Stands keeps m2 p2 d2) Answers (supply_of p1 (was ∷ []))
-    (supply_of p2 (left ∷ [])) claims g call reply
-    → StepsTo (IsAlone m2 p2 d2) claims g call reply
+    (supply_of p2 (left ∷ [])) claims g call reply → StepsTo (IsAlone m2 p2 d2) claims g call reply
 alone_steps keeps Answers m1 m2 p1 p2 d1 d2 was left claims g call reply out s behind over =
     record {
       new = over.new;

@@ -8,8 +8,7 @@ use Rattle.vb_device.specs.Own.{has, without, SameSet}
 use Rattle.vb_guest.proofs.Moving.{times_first, times_one}
 
 pub last : (k n : ℕ) (xs : List ℕ) → times k (xs ++ n ∷ []) ≡ times k xs + one_if (n == k)
-last k n xs =
-    omega (arith, count_by-append (λ (m : ℕ). m == k) xs (n ∷ []), times_one k n)
+last k n xs = omega (arith, count_by-append (λ (m : ℕ). m == k) xs (n ∷ []), times_one k n)
 
 -- a number that stands in no place isn't in the list
 pub absent : (n : ℕ) (xs : List ℕ) → times n xs ≡ 0 → has xs n ≡ false
@@ -41,8 +40,7 @@ either_way false false = refl
 
 -- behind the others as well as before them
 pub with_last : (n : ℕ) (xs : List ℕ) → SameSet (xs ++ n ∷ []) (n ∷ xs)
-with_last n xs k =
-    list_any-append (λ (m : ℕ). m == k) xs (n ∷ []) ∙ either_way (has xs k) (n == k)
+with_last n xs k = list_any-append (λ (m : ℕ). m == k) xs (n ∷ []) ∙ either_way (has xs k) (n == k)
 
 -- ---- one goes from one list to the other
 
@@ -50,39 +48,34 @@ with_last n xs k =
 
 pub without_it : (n : ℕ) (xs : List ℕ) → times n (without xs n) ≡ 0
 without_it n [] = refl
-without_it n (x ∷ xs) = step (x == n) refl (without_it n xs)
-  where
-    step : (b : Bool) → (x == n) ≡ b → times n (without xs n) ≡ 0
-        → times n (cond (not b) (x ∷ without xs n) (without xs n)) ≡ 0
-    step true e ih = ih
-    step false e ih = omega (arith, ih, times_first n x (without xs n), ap one_if e)
+without_it n (x ∷ xs) = step (x == n) refl (without_it n xs) where
+  step : (b : Bool) → (x == n) ≡ b → times n (without xs n) ≡ 0
+      → times n (cond (not b) (x ∷ without xs n) (without xs n)) ≡ 0
+  step true e ih = ih
+  step false e ih = omega (arith, ih, times_first n x (without xs n), ap one_if e)
 
 pub without_others : (k n : ℕ) (xs : List ℕ) → n ≢ k → times k (without xs n) ≡ times k xs
 without_others k n [] ne = refl
 without_others k n (x ∷ xs) ne = elim (cases_eq x n) [
-  | inl e ↦
-      ap (λ (b : Bool). times k (cond (not b) (x ∷ without xs n) (without xs n))) (eq-eqb x n e)
-      ∙ omega (
+  | inl e ↦ ap (λ (b : Bool). times k (cond (not b) (x ∷ without xs n) (without xs n)))
+      (eq-eqb x n e) ∙ omega (
         arith,
         without_others k n xs ne,
         times_first k x xs,
         ap one_if (ne_eqb x k (λ s. ne (sym e ∙ s))),
       )
   | inr other ↦
-      ap (λ (b : Bool). times k (cond (not b) (x ∷ without xs n) (without xs n)))
-      (ne_eqb x n other)
+      ap (λ (b : Bool). times k (cond (not b) (x ∷ without xs n) (without xs n))) (ne_eqb x n other)
       ∙ omega (arith, without_others k n xs ne, times_first k x xs, times_first k x (without xs n))
 ]
 
 pub without_length : (n : ℕ) (xs : List ℕ) → length (without xs n) + times n xs ≡ length xs
 without_length n [] = refl
-without_length n (x ∷ xs) = step (x == n) refl (without_length n xs)
-  where
-    step : (b : Bool) → (x == n) ≡ b → length (without xs n) + times n xs ≡ length xs
-        → length (cond (not b) (x ∷ without xs n) (without xs n)) + times n (x ∷ xs)
-        ≡ length (x ∷ xs)
-    step true e ih = omega (arith, ih, times_first n x xs, ap one_if e)
-    step false e ih = omega (arith, ih, times_first n x xs, ap one_if e)
+without_length n (x ∷ xs) = step (x == n) refl (without_length n xs) where
+  step : (b : Bool) → (x == n) ≡ b → length (without xs n) + times n xs ≡ length xs
+      → length (cond (not b) (x ∷ without xs n) (without xs n)) + times n (x ∷ xs) ≡ length (x ∷ xs)
+  step true e ih = omega (arith, ih, times_first n x xs, ap one_if e)
+  step false e ih = omega (arith, ih, times_first n x xs, ap one_if e)
 
 -- one that stands in one place goes behind the numbers of the other list
 pub goes_over : (k n : ℕ) (xs ys : List ℕ) → times n xs ≡ 1
@@ -93,36 +86,32 @@ goes_over k n xs ys one = elim (cases_eq n k) [
       ap (λ (j : ℕ). times j (without xs n)) (sym e) ∙ without_it n xs in
       let was : times k xs ≡ 1 = ap (λ (j : ℕ). times j xs) (sym e) ∙ one in
       omega (arith, gone, was, last k n ys, ap one_if (eq-eqb n k e))
-  | inr ne ↦
-      omega (arith, without_others k n xs ne, last k n ys, ap one_if (ne_eqb n k ne))
+  | inr ne ↦ omega (arith, without_others k n xs ne, last k n ys, ap one_if (ne_eqb n k ne))
 ]
 
 -- ---- a number that was in no list
 
 pub below_next : (k n : ℕ) → one_if (nat_lt k n) + one_if (n == k) ≡ one_if (nat_lt k (n + 1))
 below_next k n = elim (cases_lt k n) [
-  | inl lt ↦
-      omega (
-        arith,
-        ap one_if (lt-ltb k n lt),
-        ap one_if (ne_eqb n k (λ e. omega (arith, e, lt))),
-        ap one_if (lt-ltb k (n + 1) (omega (arith, lt))),
-      )
+  | inl lt ↦ omega (
+    arith,
+    ap one_if (lt-ltb k n lt),
+    ap one_if (ne_eqb n k (λ e. omega (arith, e, lt))),
+    ap one_if (lt-ltb k (n + 1) (omega (arith, lt))),
+  )
   | inr past ↦ elim (cases_eq n k) [
-    | inl e ↦
-        omega (
-          arith,
-          ap one_if (le-ltb k n past),
-          ap one_if (eq-eqb n k e),
-          ap one_if (lt-ltb k (n + 1) (omega (arith, e))),
-        )
-    | inr ne ↦
-        omega (
-          arith,
-          ap one_if (le-ltb k n past),
-          ap one_if (ne_eqb n k ne),
-          ap one_if (le-ltb k (n + 1) (omega (arith, past, ne))),
-        )
+    | inl e ↦ omega (
+      arith,
+      ap one_if (le-ltb k n past),
+      ap one_if (eq-eqb n k e),
+      ap one_if (lt-ltb k (n + 1) (omega (arith, e))),
+    )
+    | inr ne ↦ omega (
+      arith,
+      ap one_if (le-ltb k n past),
+      ap one_if (ne_eqb n k ne),
+      ap one_if (le-ltb k (n + 1) (omega (arith, past, ne))),
+    )
   ]
 ]
 

@@ -15,9 +15,8 @@ abbrev pub HasFeatures : Agreement → Type 0
 HasFeatures a = contains a.status features_ok ≡ true → IsTrue (version_1 a.features)
 
 -- a write whose tests all fail
-accepted : (clears out_of_order adding version : Bool)
-    → first_refusal ((clears ⇒ ClearsBit) ∷ (out_of_order ⇒ OutOfOrder)
-    ∷ (cond adding ((not version ⇒ VersionMissing) ∷ []) [])) ≡ None
+accepted : (clears out_of_order adding version : Bool) → first_refusal ((clears ⇒ ClearsBit)
+    ∷ (out_of_order ⇒ OutOfOrder) ∷ (cond adding ((not version ⇒ VersionMissing) ∷ []) [])) ≡ None
     → (clears ≡ false) × (out_of_order ≡ false) × (adding ≡ true → version ≡ true)
 accepted true o a v h = absurd (cc h)
 accepted false true a v h = absurd (cc h)
@@ -32,9 +31,8 @@ pub accepted_write : (status negotiated write : ℕ)
 accepted_write s f w h =
     accepted (not (contains w s)) (is_out_of_order s w) (adds s w features_ok) (version_1 f) h
 
-accepted_negotiation : (at_place offered : Bool)
-    → first_refusal ((not at_place ⇒ OutOfOrder) ∷ (not offered ⇒ FeatureNotOffered) ∷ []) ≡ None
-    → at_place ≡ true
+accepted_negotiation : (at_place offered : Bool) → first_refusal ((not at_place ⇒ OutOfOrder)
+    ∷ (not offered ⇒ FeatureNotOffered) ∷ []) ≡ None → at_place ≡ true
 accepted_negotiation false o h = absurd (cc h)
 accepted_negotiation true o h = refl
 
@@ -56,9 +54,8 @@ request_keeps : (a : Agreement) (request : StatusRequest) → refusal_of_request
     → HasFeatures a → HasFeatures (after_request a request)
 request_keeps a (Write w) h s = write_keeps a w (eqb w 0) h s
 request_keeps a (Negotiate wanted) h s =
-    let at_three : a.status ≡ 3 =
-    eqb-true a.status 3 (accepted_negotiation (eqb a.status 3)
-    (contains OFFERED_FEATURES wanted) h) in
+    let at_three : a.status ≡ 3 = eqb-true a.status 3
+    (accepted_negotiation (eqb a.status 3) (contains OFFERED_FEATURES wanted) h) in
     λ e. absurd (false≢true (subst (λ (n : ℕ). contains n features_ok ≡ true) at_three e))
 
 pub requests_keep : (requests : List StatusRequest) (a last : Agreement) → Leads a requests last

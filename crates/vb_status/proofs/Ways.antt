@@ -1,8 +1,7 @@
 -- Which statuses follow which.
 use Rattle.std.proofs.Common.{◌≡◌, ◌≢◌, ℕ, zero, suc, ◌+◌, ◌<◌, Bool, true, false, not, eqb, ◌&&◌}
 use Rattle.std.proofs.Common.{◌||◌, List, [], ◌∷◌, None, cond, refl, sym, subst, ap, ◌∙◌, ◌⊎◌, inl}
-use Rattle.std.proofs.Common.{inr, below_more, arith}
-use Rattle.std.proofs.lemmas.Bool.{false≢true, eqb-true, eq-eqb}
+use Rattle.std.proofs.{Common.{inr, below_more, arith}, lemmas.Bool.{false≢true, eqb-true, eq-eqb}}
 use Rattle.vb_model.specs.Refusals.{first_refusal}
 use Rattle.vb_model.specs.Status.{contains, is_out_of_order, status_causes}
 use Rattle.vb_status.specs.Agreement.{StatusRequest, Write, Negotiate, Agreement}
@@ -54,8 +53,7 @@ may_follow status write = contains write status && not (is_out_of_order status w
 
 -- whatever may follow is the same again, the next, or FAILED added
 abbrev follows_rightly : Stage → ℕ → Bool
-follows_rightly p w =
-    not (may_follow (number p) w)
+follows_rightly p w = not (may_follow (number p) w)
     || (eqb w (number p) || (eqb w (number (next p)) || eqb w (number p + 128)))
 
 -- whatever may follow FAILED is the same again
@@ -102,8 +100,7 @@ follows p w h e =
 
 fails : (p : Stage) (w : ℕ) → w < 256 → w ≢ 0 → may_follow (number p + 128) w ≡ true
     → w ≡ number p + 128
-fails p w h ne e =
-    eqb-true w (number p + 128)
+fails p w h ne e = eqb-true w (number p + 128)
     (failing (eqb w 0) (may_follow (number p + 128) w) (eqb w (number p + 128))
     (λ z. ne (eqb-true w 0 z)) e (below 256 (fails_rightly p) (all_fail p) w h))
 
@@ -135,8 +132,7 @@ may_write a w s at ne h =
 -- FAILED stays
 never_ready : (p : Stage) (requests : List StatusRequest) (a last : Agreement)
     → a.status ≡ number p + 128 → Leads a requests last → AreSteps requests → last.status ≡ 15 → ⊥
-never_ready p [] a last at h steps e =
-    search arith
+never_ready p [] a last at h steps e = search arith
 never_ready p (Write w ∷ requests) a last at h steps e =
     let same = fails p w steps.1 steps.0 (may_write a w (number p + 128) at steps.0 h.0) in
     never_ready p requests (after_request a (Write w)) last
@@ -152,9 +148,8 @@ at_the_end Agreed e = absurd (omega arith)
 at_the_end Ready e = refl
 
 -- a write of the next status, and what the changes after it are
-one_on : (p : Stage) (requests : List StatusRequest)
-    → changes (number (next p)) requests ≡ rest (next p)
-    → cond (eqb (number (next p)) (number p)) (changes (number p) requests)
+one_on : (p : Stage) (requests : List StatusRequest) → changes (number (next p)) requests
+    ≡ rest (next p) → cond (eqb (number (next p)) (number p)) (changes (number p) requests)
     (number (next p) ∷ changes (number (next p)) requests) ≡ rest p
 one_on Reset requests e = ap (λ (xs : List ℕ). 1 ∷ xs) e
 one_on Acknowledged requests e = ap (λ (xs : List ℕ). 3 ∷ xs) e

@@ -4,8 +4,7 @@ use Rattle.std.{specs.Option.option_to_list, specs.Prelude.slice_index}
 use Rattle.std.proofs.Common.{sym, ap, ◌∙◌, arith, Option, Some, None, is_some, count_by}
 use Rattle.std.proofs.lemmas.List.{append-nil, append_assoc}
 use Rattle.vb_model.{specs.Balance.{Need, need}, specs.Guest.Guest, proofs.Tables.count_by-cons}
-use Rattle.vb_model.specs.World.{World, guest_at, with_guest}
-use Rattle.vb_model.specs.HostEvents.{with_targets, needs}
+use Rattle.vb_model.specs.{World.{World, guest_at, with_guest}, HostEvents.{with_targets, needs}}
 
 plus_one : (n : ℕ) → n + 1 ≡ suc n
 plus_one n = omega arith
@@ -24,9 +23,8 @@ first_step : {A : Type 0} (n : ℕ) (f : ℕ → Option A)
     → first_of (suc n) f ≡ first_of n f ++ option_to_list (f n)
 first_step zero f = append-nil (option_to_list (f 0))
 first_step (suc n) f =
-    ap (λ (l : List _). option_to_list (f 0) ++ l) (first_step n (λ k. f (suc k)))
-    ∙ sym (append_assoc (option_to_list (f 0)) (first_of n (λ k. f (suc k)))
-    (option_to_list (f (suc n))))
+    ap (λ (l : List _). option_to_list (f 0) ++ l) (first_step n (λ k. f (suc k))) ∙ sym
+    (append_assoc (option_to_list (f 0)) (first_of n (λ k. f (suc k))) (option_to_list (f (suc n))))
 
 pub first_more : {A : Type 0} (n : ℕ) (f : ℕ → Option A)
     → first_of (n + 1) f ≡ first_of n f ++ option_to_list (f n)
@@ -63,8 +61,7 @@ all_needs floor w (None ∷ gs) zero none =
 all_needs floor w (Some g ∷ gs) zero none = absurd (let e = none 0 (omega arith) in cc)
 all_needs floor w (None ∷ gs) (suc n) none =
     all_needs floor w gs n (λ k l. none (suc k) (omega (arith, l)))
-all_needs floor w (Some g ∷ gs) (suc n) none =
-    ap (λ (l : List Need). need floor g ∷ l)
+all_needs floor w (Some g ∷ gs) (suc n) none = ap (λ (l : List Need). need floor g ∷ l)
     (all_needs floor w gs n (λ k l. none (suc k) (omega (arith, l))))
 
 -- ---- their targets
@@ -84,8 +81,7 @@ rank_step zero (Some h ∷ gs) g e = refl
 rank_step (suc n) (None ∷ gs) g e = rank_step n gs g e
 rank_step (suc n) (Some h ∷ gs) g e = ap suc (rank_step n gs g e)
 
-rank_still : (n : ℕ) (gs : List (Option Guest)) → guest_at gs n ≡ None
-    → rank (suc n) gs ≡ rank n gs
+rank_still : (n : ℕ) (gs : List (Option Guest)) → guest_at gs n ≡ None → rank (suc n) gs ≡ rank n gs
 rank_still zero [] e = refl
 rank_still (suc n) [] e = refl
 rank_still zero (None ∷ gs) e = refl
@@ -130,8 +126,7 @@ aimed_at (suc n) [] (Some g ∷ gs) = aimed_at n [] gs
 aimed_at (suc n) (t ∷ ts) (Some g ∷ gs) = aimed_at n ts gs
 
 aimed_step : (n : ℕ) (ts : List ℕ) (gs : List (Option Guest)) (g : Guest)
-    → guest_at gs n ≡ Some g → rank n gs < length ts
-    → aimed (suc n) ts gs
+    → guest_at gs n ≡ Some g → rank n gs < length ts → aimed (suc n) ts gs
     ≡ with_guest n (Some (record g { target = slice_index ts (rank n gs) })) (aimed n ts gs)
 aimed_step n ts [] g e l = absurd cc
 aimed_step zero ts (None ∷ gs) g e l = absurd cc
@@ -164,11 +159,9 @@ aimed_still (suc n) (t ∷ ts) (Some h ∷ gs) e =
     ap (λ (x : List (Option Guest)). Some (record h { target = t }) ∷ x) (aimed_still n ts gs e)
 
 pub aimed_more : (n : ℕ) (ts : List ℕ) (gs : List (Option Guest)) (g : Guest)
-    → guest_at gs n ≡ Some g → rank n gs < length ts
-    → aimed (n + 1) ts gs
+    → guest_at gs n ≡ Some g → rank n gs < length ts → aimed (n + 1) ts gs
     ≡ with_guest n (Some (record g { target = slice_index ts (rank n gs) })) (aimed n ts gs)
-aimed_more n ts gs g e l =
-    ap (λ (k : ℕ). aimed k ts gs) (plus_one n) ∙ aimed_step n ts gs g e l
+aimed_more n ts gs g e l = ap (λ (k : ℕ). aimed k ts gs) (plus_one n) ∙ aimed_step n ts gs g e l
 
 pub aimed_same : (n : ℕ) (ts : List ℕ) (gs : List (Option Guest)) → guest_at gs n ≡ None
     → aimed (n + 1) ts gs ≡ aimed n ts gs
@@ -179,15 +172,12 @@ pub all_aimed : (n : ℕ) (ts : List ℕ) (gs : List (Option Guest))
     → ((k : ℕ) → n ≤ k → guest_at gs k ≡ None) → aimed n ts gs ≡ with_targets ts gs
 all_aimed zero ts [] none = refl
 all_aimed (suc n) ts [] none = refl
-all_aimed zero ts (None ∷ gs) none =
-    ap (λ (x : List (Option Guest)). None ∷ x)
+all_aimed zero ts (None ∷ gs) none = ap (λ (x : List (Option Guest)). None ∷ x)
     (all_aimed zero ts gs (λ k l. none (suc k) (omega arith)))
 all_aimed zero ts (Some g ∷ gs) none = absurd (let e = none 0 (omega arith) in cc)
-all_aimed (suc n) ts (None ∷ gs) none =
-    ap (λ (x : List (Option Guest)). None ∷ x)
+all_aimed (suc n) ts (None ∷ gs) none = ap (λ (x : List (Option Guest)). None ∷ x)
     (all_aimed n ts gs (λ k l. none (suc k) (omega (arith, l))))
-all_aimed (suc n) [] (Some g ∷ gs) none =
-    ap (λ (x : List (Option Guest)). Some g ∷ x)
+all_aimed (suc n) [] (Some g ∷ gs) none = ap (λ (x : List (Option Guest)). Some g ∷ x)
     (all_aimed n [] gs (λ k l. none (suc k) (omega (arith, l))))
 all_aimed (suc n) (t ∷ ts) (Some g ∷ gs) none =
     ap (λ (x : List (Option Guest)). Some (record g { target = t }) ∷ x)

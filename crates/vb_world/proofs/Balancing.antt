@@ -27,8 +27,7 @@ module _ {S D : Type 0} (Stand : S → Guest → Type 0) (Spare : D → Bool →
   -- a guest more
   pub need_found : (w : World) (floor n : ℕ) (s : S) (found : List Need) (new : Need)
       → IsHost Stand Spare slots out devices w → get slots n ≡ Some s
-      → found ≡ first_of n (need_at floor w.guests)
-      → ((g : Guest) → Stand s g → new ≡ need floor g)
+      → found ≡ first_of n (need_at floor w.guests) → ((g : Guest) → Stand s g → new ≡ need floor g)
       → found ++ new ∷ [] ≡ first_of (n + 1) (need_at floor w.guests)
   need_found w floor n s found new host e before is =
       let has = guest_of Stand Spare slots out devices w n s host e in
@@ -40,15 +39,13 @@ module _ {S D : Type 0} (Stand : S → Guest → Type 0) (Spare : D → Bool →
 
   -- or none
   pub need_missing : (w : World) (floor n : ℕ) (found : List Need)
-      → IsHost Stand Spare slots out devices w → get slots n ≡ None
-      → found ≡ first_of n (need_at floor w.guests)
-      → found ≡ first_of (n + 1) (need_at floor w.guests)
+      → IsHost Stand Spare slots out devices w → get slots n ≡ None → found
+      ≡ first_of n (need_at floor w.guests) → found ≡ first_of (n + 1) (need_at floor w.guests)
   need_missing w floor n found host e before =
       let none = no_guest Stand Spare slots out devices w n host e in
       before ∙ sym (first_more n (need_at floor w.guests)
       ∙ (ap (λ (o : Option Guest). first_of n (need_at floor w.guests)
-      ++ option_to_list (need_of floor o)) none
-      ∙ append-nil (first_of n (need_at floor w.guests))))
+      ++ option_to_list (need_of floor o)) none ∙ append-nil (first_of n (need_at floor w.guests))))
 
   -- there is room for one more
   pub need_room : (w : World) (floor n : ℕ) (s : S) (found : List Need)
@@ -73,8 +70,7 @@ module _ {S D : Type 0} (Stand : S → Guest → Type 0) (Spare : D → Bool →
   -- past the slots there is no guest
   none_past : (w : World) (n : ℕ) → IsHost Stand Spare slots out devices w
       → length slots.slots ≤ n → (k : ℕ) → n ≤ k → guest_at w.guests k ≡ None
-  none_past w n host past k l =
-      no_guest Stand Spare slots out devices w k host
+  none_past w n host past k l = no_guest Stand Spare slots out devices w k host
       (get_or_past slots.slots k None (omega (arith, past, l)))
 
   pub needs_found : (w : World) (floor n : ℕ) (found : List Need)
@@ -86,8 +82,7 @@ module _ {S D : Type 0} (Stand : S → Guest → Type 0) (Spare : D → Bool →
   -- ---- their targets
 
   -- there is one for the next guest
-  pub target_there : (w : World) (ts : List ℕ) (n next : ℕ) (s : S)
-      → length ts ≡ plugged_count w
+  pub target_there : (w : World) (ts : List ℕ) (n next : ℕ) (s : S) → length ts ≡ plugged_count w
       → IsHost Stand Spare slots out devices (record w { guests = aimed n ts w.guests })
       → get slots n ≡ Some s → next ≡ rank n w.guests → next < length ts
   target_there w ts n next s each host e is =
@@ -102,22 +97,19 @@ module _ {S D : Type 0} (Stand : S → Guest → Type 0) (Spare : D → Bool →
 
   -- a guest more has its target
   pub target_set : (w : World) (ts : List ℕ) (n next : ℕ) (s s' : S) (t : ℕ)
-      → length ts ≡ plugged_count w
-      → IsHost Stand Spare slots out devices (record w { guests = aimed n ts w.guests })
-      → get slots n ≡ Some s → next ≡ rank n w.guests → t ≡ slice_index ts next
-      → ((g : Guest) → Stand s g → Stand s' (record g { target = t }))
+      → length ts ≡ plugged_count w → IsHost Stand Spare slots out devices
+      (record w { guests = aimed n ts w.guests }) → get slots n ≡ Some s → next ≡ rank n w.guests
+      → t ≡ slice_index ts next → ((g : Guest) → Stand s g → Stand s' (record g { target = t }))
       → IsHost Stand Spare (with_value slots n s') out devices
       (record w { guests = aimed (n + 1) ts w.guests }) × (next + 1 ≡ rank (n + 1) w.guests)
   target_set w ts n next s s' t each host e is at aims =
       let v : World = record w { guests = aimed n ts w.guests } in
       let has = guest_of Stand Spare slots out devices v n s host e in
-      let there : guest_at w.guests n ≡ Some has.guest =
-      sym (aimed_at n ts w.guests) ∙ has.there in
+      let there : guest_at w.guests n ≡ Some has.guest = sym (aimed_at n ts w.guests) ∙ has.there in
       let new : Guest = record has.guest { target = t } in
       let changed = host_with Stand Spare slots out devices v n s s' has.guest new out host e
       has.there (aims has.guest has.stands) (none_moves out _ _ (λ f. refl)) in
-      let named : t ≡ slice_index ts (rank n w.guests) =
-      at ∙ ap (λ (k : ℕ). slice_index ts k) is in
+      let named : t ≡ slice_index ts (rank n w.guests) = at ∙ ap (λ (k : ℕ). slice_index ts k) is in
       let same = aimed_more n ts w.guests has.guest there
       (omega (arith, each, rank_below n w.guests has.guest there)) in (
         subst (λ (gs : List (Option Guest)). IsHost Stand Spare (with_value slots n s') out devices
@@ -130,9 +122,8 @@ module _ {S D : Type 0} (Stand : S → Guest → Type 0) (Spare : D → Bool →
   -- or there is none
   pub target_missing : (w : World) (ts : List ℕ) (n next : ℕ)
       → IsHost Stand Spare slots out devices (record w { guests = aimed n ts w.guests })
-      → get slots n ≡ None → next ≡ rank n w.guests
-      → IsHost Stand Spare slots out devices (record w { guests = aimed (n + 1) ts w.guests })
-      × (next ≡ rank (n + 1) w.guests)
+      → get slots n ≡ None → next ≡ rank n w.guests → IsHost Stand Spare slots out devices
+      (record w { guests = aimed (n + 1) ts w.guests }) × (next ≡ rank (n + 1) w.guests)
   target_missing w ts n next host e is =
       let v : World = record w { guests = aimed n ts w.guests } in
       let none : guest_at w.guests n ≡ None =
@@ -149,13 +140,12 @@ module _ {S D : Type 0} (Stand : S → Guest → Type 0) (Spare : D → Bool →
 
 -- each guest has one need
 pub as_many_needs : (floor : ℕ) (w : World) → length (needs floor w) ≡ plugged_count w
-as_many_needs floor w = of w.guests
-  where
-    of : (gs : List (Option Guest)) → length (needs floor (record w { guests = gs }))
-        ≡ count_by is_some gs
-    of [] = refl
-    of (None ∷ gs) = omega (arith, of gs, count_by-cons is_some nobody gs)
-    of (Some g ∷ gs) = omega (arith, of gs, count_by-cons is_some (Some g) gs)
+as_many_needs floor w = of w.guests where
+  of : (gs : List (Option Guest)) → length (needs floor (record w { guests = gs }))
+      ≡ count_by is_some gs
+  of [] = refl
+  of (None ∷ gs) = omega (arith, of gs, count_by-cons is_some nobody gs)
+  of (Some g ∷ gs) = omega (arith, of gs, count_by-cons is_some (Some g) gs)
 
 -- ---- which of the answers it is
 
@@ -163,10 +153,8 @@ zero_is : (n : ℕ) → n ≡ 0 → (n == 0) ≡ true
 zero_is n e = elim (eqb_tells n 0) [ inl same ↦ same.0 | inr other ↦ absurd (other.1 e) ]
 
 some_is : (n : ℕ) → 0 < n → (n == 0) ≡ false
-some_is n l = elim (eqb_tells n 0) [
-  | inl same ↦ absurd (omega (arith, l, same.1))
-  | inr other ↦ other.0
-]
+some_is n l =
+    elim (eqb_tells n 0) [ inl same ↦ absurd (omega (arith, l, same.1)) | inr other ↦ other.0 ]
 
 pub balanced : (w : World) (floor frames : ℕ) (ns : List Need) (ts : List ℕ) → ns ≡ needs floor w
     → frames ≡ w.frames → shortage ns frames ≡ 0 → AreTargets ns frames ts
@@ -194,9 +182,8 @@ short w floor frames left ns is same some missing =
     let P : Bool → Type 0 = λ b. MatchBool b ((targets : List ℕ)
     × AreTargets (needs floor w) w.frames targets × (Refused (Short left) ≡ Targets targets))
     (Refused (Short left) ≡ Refused (Short (shortage (needs floor w) w.frames))) in
-    let lacks : shortage ns frames ≡ shortage (needs floor w) w.frames =
-    ap (λ (l : List Need). shortage l frames) is
-    ∙ ap (λ (n : ℕ). shortage (needs floor w) n) same in (
+    let lacks : shortage ns frames ≡ shortage (needs floor w) w.frames = ap
+    (λ (l : List Need). shortage l frames) is ∙ ap (λ (n : ℕ). shortage (needs floor w) n) same in (
       subst P (sym (some_is (shortage (needs floor w) w.frames) (omega (arith, some, lacks))))
           (ap (λ (n : ℕ). Refused (Short n)) (missing ∙ lacks)),
       refl,

@@ -5,13 +5,12 @@ use Rattle.std.proofs.Common.{subst, ◌∙◌, inl, inr, arith, Option, Some, N
 use Rattle.std.proofs.lemmas.List.{get_or-set_same, get_or-set_other, get_or_past}
 use Rattle.std.{proofs.lemmas.Bool.cases_lt, proofs.lemmas.Bool.Decides.eqb_tells}
 use Rattle.slab.specs.Slab.{Slab, get, slab_len, with_value, Updates}
-use Rattle.vb_model.{specs.declared.calls.Call.Call, specs.declared.calls.Query.Query}
-use Rattle.vb_model.{specs.declared.replies.Reply.Reply, specs.Guest.Guest, specs.Queries.Answers}
-use Rattle.vb_model.specs.declared.replies.Reply.TheVariants.{Frames, Refused}
-use Rattle.vb_model.{specs.declared.replies.Refusal.TheVariants.NoGuest, specs.HostEvents.WorldStep}
-use Rattle.vb_model.{specs.World.{World, guest_at, with_guest, put_guest}, specs.Limits.max_guests}
-use Rattle.vb_model.{specs.HostFrames.{used_frames, Gives, IsOut}, specs.HostRefusals.plugged_count}
-use Rattle.vb_model.proofs.Changes.{with_guest-same, with_guest-other}
+use Rattle.vb_model.{proofs.Changes.{with_guest-same, with_guest-other}, specs.Guest.Guest}
+use Rattle.vb_model.specs.{HostEvents.WorldStep, HostFrames.{used_frames, Gives, IsOut}}
+use Rattle.vb_model.specs.{HostRefusals.plugged_count, Limits.max_guests, Queries.Answers}
+use Rattle.vb_model.specs.{World.{World, guest_at, with_guest, put_guest}, declared.calls.Call.Call}
+use Rattle.vb_model.specs.declared.{calls.Query.Query, replies.Refusal.TheVariants.NoGuest}
+use Rattle.vb_model.specs.declared.replies.Reply.{Reply, TheVariants.{Frames, Refused}}
 use Rattle.vb_frames.{specs.Out.{is_out, TableAnswers}, proofs.Returns.same_gives}
 use Rattle.vb_frames.proofs.Least.{table_gives}
 use Rattle.vb_slot.specs.Steps.{StepsWithKeeper, AreOut, backing_count}
@@ -52,8 +51,7 @@ module _ {S D : Type 0} (Stand : S → Guest → Type 0) (Spare : D → Bool →
 
   pub guest_of : (n : ℕ) (s : S) → IsHost Stand Spare slots out devices w → get slots n ≡ Some s
       → HasGuest n s
-  guest_of n s host e =
-      of (guest_at w.guests n) refl
+  guest_of n s host e = of (guest_at w.guests n) refl
       (subst (λ (o : Option S). StandsAt Stand o (guest_at w.guests n)) e (host.guests n))
     where
       of : (o : Option Guest) → guest_at w.guests n ≡ o → StandsAt Stand (Some s) o → HasGuest n s
@@ -97,21 +95,17 @@ module _ {S D : Type 0} (Stand : S → Guest → Type 0) (Spare : D → Bool →
     | inl same ↦
         subst (λ (k : ℕ). StandsAt Stand (get slots' k) (guest_at (with_guest n x w.guests) k))
         (sym same.1) (rw (new.changed, with_guest-same n x w.guests) stands)
-    | inr other ↦ rw (
-      new.others m other.1,
-      with_guest-other n m x w.guests (λ h. other.1 (sym h)),
-    ) (host.guests m)
+    | inr other ↦ rw (new.others m other.1, with_guest-other n m x w.guests (λ h. other.1 (sym h)))
+        (host.guests m)
   ]
 
   -- Where the frames of the guest that was there have come back, and those of the one that is there
   -- now are out.
   pub host_updated : (n : ℕ) (slots' : Slab S) (o : Option S) (x : Option Guest)
       (out' : List Bool) (given : Option ℕ) → IsHost Stand Spare slots out devices w
-      → Updates slots slots' n o → StandsAt Stand o x
-      → slab_len slots' ≡ plugged_count (put_guest n x w)
-      → plugged_count (put_guest n x w) ≤ max_guests
-      → slots'.capacity ≡ slots.capacity
-      → MatchOption given ⊤ (λ last. last ≡ slots'.vacant_key)
+      → Updates slots slots' n o → StandsAt Stand o x → slab_len slots'
+      ≡ plugged_count (put_guest n x w) → plugged_count (put_guest n x w) ≤ max_guests
+      → slots'.capacity ≡ slots.capacity → MatchOption given ⊤ (λ last. last ≡ slots'.vacant_key)
       → KeeperMoves out out' (λ f. backing_at f x) (λ f. backing_at f (guest_at w.guests n))
       → IsHost Stand Spare slots' out' devices (record (put_guest n x w) { vacated = given })
   host_updated n slots' o x out' given host new stands count few capacity next moves = record {
@@ -121,8 +115,7 @@ module _ {S D : Type 0} (Stand : S → Guest → Type 0) (Spare : D → Bool →
     room = omega (arith, host.room, capacity);
     next = next;
     frames = moves.count ∙ host.frames;
-    backed = λ f.
-        omega (arith, host.backed f, moves.balance f, backing-with f n x w.guests);
+    backed = λ f. omega (arith, host.backed f, moves.balance f, backing-with f n x w.guests);
     spares = host.spares;
   }
 
@@ -159,11 +152,8 @@ module _ {S D : Type 0} (Stand : S → Guest → Type 0) (Spare : D → Bool →
       let same = plugged_with n new (Some g) there refl in
       host_updated n (with_value slots n s') (Some s') (Some new) out' w.vacated host
       (value_updates n s s' e) stands (count_with n s s' e ∙ (host.count ∙ sym same))
-      (omega (arith, same, host.few)) refl host.next
-      (record {
-        balance = λ f.
-            let was = ap (backing_at f) there in
-            omega (arith, moves.balance f, was);
+      (omega (arith, same, host.few)) refl host.next (record {
+        balance = λ f. let was = ap (backing_at f) there in omega (arith, moves.balance f, was);
         count = moves.count;
       })
 

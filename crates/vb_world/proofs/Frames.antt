@@ -2,8 +2,7 @@
 use Rattle.std.proofs.Common.{◌≡◌, ◌≢◌, ℕ, zero, suc, ◌+◌, ◌<◌, Bool, true, List, [], ◌∷◌, length}
 use Rattle.std.proofs.Common.{refl, sym, ap, ◌∙◌, inl, inr, arith, sum_by, Option, Some, None}
 use Rattle.std.{proofs.Common.{is_some, count_by, filter_map}, specs.Prelude.{◌==◌, slice_index_or}}
-use Rattle.std.{proofs.lemmas.List.Sums.sum_by-cons, proofs.lemmas.Bool.false≢true}
-use Rattle.std.proofs.lemmas.Bool.Decides.{eqb_tells}
+use Rattle.std.proofs.lemmas.{List.Sums.sum_by-cons, Bool.false≢true, Bool.Decides.eqb_tells}
 use Rattle.vb_model.{specs.Guest.{Guest, backed_count}, specs.World.{World, guest_at}}
 use Rattle.vb_model.{specs.HostFrames.used_frames, proofs.Tables.count_by-cons, specs.Tests.one_if}
 use Rattle.vb_slot.specs.Steps.{is_frame}
@@ -17,12 +16,11 @@ sum_below (suc n) h = h 0 + sum_below n (λ k. h (suc k))
 
 below_same : (n : ℕ) (a b : ℕ → ℕ) → ((k : ℕ) → k < n → a k ≡ b k) → sum_below n a ≡ sum_below n b
 below_same zero a b e = refl
-below_same (suc n) a b e =
-    omega (
-      arith,
-      e 0 (omega arith),
-      below_same n (λ k. a (suc k)) (λ k. b (suc k)) (λ k l. e (suc k) (omega (arith, l))),
-    )
+below_same (suc n) a b e = omega (
+  arith,
+  e 0 (omega arith),
+  below_same n (λ k. a (suc k)) (λ k. b (suc k)) (λ k l. e (suc k) (omega (arith, l))),
+)
 
 below_sum : (n : ℕ) (a b : ℕ → ℕ) → sum_below n (λ k. a k + b k) ≡ sum_below n a + sum_below n b
 below_sum zero a b = omega arith
@@ -33,19 +31,15 @@ below_none zero = refl
 below_none (suc n) = omega (arith, below_none n)
 
 differ : (j k : ℕ) → j ≢ k → one_if (j == k) ≡ 0
-differ j k ne = elim (eqb_tells j k) [
-  | inl same ↦ absurd (ne same.1)
-  | inr other ↦ ap one_if other.0
-]
+differ j k ne =
+    elim (eqb_tells j k) [ inl same ↦ absurd (ne same.1) | inr other ↦ ap one_if other.0 ]
 
 zero_other : (k : ℕ) → one_if (0 == suc k) ≡ 0
 zero_other k = differ 0 (suc k) (λ e. omega (arith, e))
 
 same_suc : (j : ℕ) → one_if (j == j) ≡ 1
-same_suc j = elim (eqb_tells j j) [
-  | inl same ↦ ap one_if same.0
-  | inr other ↦ absurd (other.1 refl)
-]
+same_suc j =
+    elim (eqb_tells j j) [ inl same ↦ ap one_if same.0 | inr other ↦ absurd (other.1 refl) ]
 
 suc_same : (j k : ℕ) → one_if (suc j == suc k) ≡ one_if (j == k)
 suc_same j k = elim (eqb_tells j k) [
@@ -56,19 +50,17 @@ suc_same j k = elim (eqb_tells j k) [
 
 below_one : (n k : ℕ) → k < n → sum_below n (λ f. one_if (k == f)) ≡ 1
 below_one zero k l = absurd (omega arith)
-below_one (suc n) zero l =
-    omega (
-      arith,
-      below_none n,
-      below_same n (λ f. one_if (0 == suc f)) (λ f. 0) (λ f m. zero_other f),
-    )
-below_one (suc n) (suc k) l =
-    omega (
-      arith,
-      below_one n k (omega (arith, l)),
-      below_same n (λ f. one_if (suc k == suc f)) (λ f. one_if (k == f)) (λ f m. suc_same k f),
-      differ (suc k) 0 (λ e. omega (arith, e)),
-    )
+below_one (suc n) zero l = omega (
+  arith,
+  below_none n,
+  below_same n (λ f. one_if (0 == suc f)) (λ f. 0) (λ f m. zero_other f),
+)
+below_one (suc n) (suc k) l = omega (
+  arith,
+  below_one n k (omega (arith, l)),
+  below_same n (λ f. one_if (suc k == suc f)) (λ f. one_if (k == f)) (λ f m. suc_same k f),
+  differ (suc k) 0 (λ e. omega (arith, e)),
+)
 
 below_flags : (out : List Bool)
     → sum_below (length out) (λ f. one_if (is_out out f)) ≡ count_by (λ b. b) out
@@ -114,12 +106,11 @@ below_guests n (x ∷ xs) h =
         → sum_below n (λ f. backing_at f x) + sum_by backed_count (there_are xs)
         ≡ sum_by backed_count (there_are (x ∷ xs))
     here None h = omega (arith, below_none n)
-    here (Some g) h =
-        omega (
-          arith,
-          below_frames n g.frames (λ p f e. h p f g refl e),
-          sum_by-cons backed_count g (there_are xs),
-        )
+    here (Some g) h = omega (
+      arith,
+      below_frames n g.frames (λ p f e. h p f g refl e),
+      sum_by-cons backed_count g (there_are xs),
+    )
 
 out_within : (out : List Bool) (f : ℕ) → is_out out f ≡ true → f < length out
 out_within [] f e = absurd (false≢true e)
@@ -130,8 +121,7 @@ pub used_are_out : (w : World) (out : List Bool)
     → ((f : ℕ) → backing_of f w.guests ≡ one_if (is_out out f))
     → used_frames w ≡ count_by (λ b. b) out
 used_are_out w out backed =
-    let guests = below_guests (length out) w.guests
-    (λ i p f g there has. out_within out f
+    let guests = below_guests (length out) w.guests (λ i p f g there has. out_within out f
     (backs_out w out backed f (i, p, record { guest = g; is_there = there; has = has }))) in
     sym guests ∙ (below_same (length out) (λ f. backing_of f w.guests) (λ f. one_if (is_out out f))
     (λ f l. backed f) ∙ below_flags out)

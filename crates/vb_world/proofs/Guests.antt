@@ -2,8 +2,7 @@
 use Rattle.std.proofs.Common.{◌≡◌, ℕ, zero, suc, ◌+◌, ◌≤◌, Bool, true, false, cond, List, [], ◌∷◌}
 use Rattle.std.proofs.Common.{refl, ap, ◌∙◌, inl, inr, arith, sum_by, Option, Some, None, is_some}
 use Rattle.std.{proofs.Common.count_by, specs.Prelude.{◌==◌, slice_index_or}}
-use Rattle.std.{proofs.lemmas.List.Sums.sum_by-cons, proofs.lemmas.Bool.cases_lt}
-use Rattle.std.proofs.lemmas.Bool.Decides.{eqb_tells}
+use Rattle.std.proofs.lemmas.{List.Sums.sum_by-cons, Bool.cases_lt, Bool.Decides.eqb_tells}
 use Rattle.vb_model.{specs.Tests.one_if, specs.Guest.Guest, specs.HostFrames.IsOut}
 use Rattle.vb_model.{specs.World.{World, guest_at, with_guest}, proofs.Tables.count_by-cons}
 use Rattle.vb_slot.specs.Steps.{is_frame, backing_count}
@@ -60,8 +59,7 @@ pub page_of : (f : ℕ) (frames : List (Option ℕ)) → 1 ≤ count_by (is_fram
     → (p : ℕ) × (slice_index_or frames p None ≡ Some f)
 page_of f [] h = absurd (omega arith)
 page_of f (None ∷ xs) h =
-    let (p, e) = page_of f xs (omega (arith, count_by-cons (is_frame f) None xs)) in
-    (suc p, e)
+    let (p, e) = page_of f xs (omega (arith, count_by-cons (is_frame f) None xs)) in (suc p, e)
 page_of f (Some k ∷ xs) h = elim (eqb_tells k f) [
   | inl same ↦ (0, ap (λ (n : ℕ). Some n) same.1)
   | inr other ↦
@@ -108,11 +106,9 @@ out_backs w out backed f e =
 pub backs_out : (w : World) (out : List Bool)
     → ((f : ℕ) → backing_of f w.guests ≡ one_if (is_out out f)) → (f : ℕ) → IsOut w f
     → is_out out f ≡ true
-backs_out w out backed f (n, p, b) =
-    one_is (is_out out f)
-    (omega (
-      arith,
-      backed f,
-      backing-part f n w.guests b.guest b.is_there,
-      framed f p b.guest.frames b.has,
-    ))
+backs_out w out backed f (n, p, b) = one_is (is_out out f) (omega (
+  arith,
+  backed f,
+  backing-part f n w.guests b.guest b.is_there,
+  framed f p b.guest.frames b.has,
+))

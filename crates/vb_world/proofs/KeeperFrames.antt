@@ -29,8 +29,7 @@ used_out s n e = ap (λ (b : Bool). if b then has s.own n else is_out s.out n) e
 
 -- Of the keeper's frames, so many of each number went out, and so many came back.
 pub record KeeperMoves (old_out new_out : List Bool) (gained lost : ℕ → ℕ) : Type 0 where
-  pub balance : (n : ℕ)
-      → one_if (is_out new_out n) + lost n ≡ one_if (is_out old_out n) + gained n
+  pub balance : (n : ℕ) → one_if (is_out new_out n) + lost n ≡ one_if (is_out old_out n) + gained n
   pub count : length new_out ≡ length old_out
 
 pub moves_asked : (s1 s2 : Supply) (gained lost : ℕ → ℕ) → s1.keeps ≡ false

@@ -29,9 +29,8 @@ fresh_moves out out' g moves = record {
 
 module _ {S D : Type 0} (Stand : S → Guest → Type 0) (Spare : D → Bool → Type 0) (slots : Slab S)
     (out : List Bool) (devices : List D) (w : World) where
-  pub restarted : (n : ℕ) (s s' : S) (out' : List Bool)
-      → IsHost Stand Spare slots out devices w → get slots n ≡ Some s
-      → ((g : Guest) → Stand s g → Stand s' (after_restart g)
+  pub restarted : (n : ℕ) (s s' : S) (out' : List Bool) → IsHost Stand Spare slots out devices w
+      → get slots n ≡ Some s → ((g : Guest) → Stand s g → Stand s' (after_restart g)
       × KeeperMoves out out' nothing (λ f. backing_count f g))
       → (new : World) × IsHost Stand Spare (with_value slots n s') out' devices new
       × WorldStep w (Restart n) Done new
@@ -46,8 +45,7 @@ module _ {S D : Type 0} (Stand : S → Guest → Type 0) (Spare : D → Bool →
 
   pub not_restarted : (n : ℕ) → IsHost Stand Spare slots out devices w → get slots n ≡ None
       → WorldStep w (Restart n) (Refused NoGuest) w
-  not_restarted n host e =
-      rw (no_guest Stand Spare slots out devices w n host e) (refl, refl)
+  not_restarted n host e = rw (no_guest Stand Spare slots out devices w n host e) (refl, refl)
 
   one_less : (n : ℕ) (g : Guest) → guest_at w.guests n ≡ Some g
       → plugged_count (put_guest n None w) + 1 ≡ plugged_count w
@@ -60,8 +58,7 @@ module _ {S D : Type 0} (Stand : S → Guest → Type 0) (Spare : D → Bool →
       → Updates slots slots' n None → slab_len slots' + 1 ≡ slab_len slots
       → slots'.vacant_key ≡ n → slots'.capacity ≡ slots.capacity
       → ((g : Guest) → Stand s g → KeeperMoves out out' nothing (λ f. backing_count f g))
-      → (new : World) × IsHost Stand Spare slots' out' devices new
-      × WorldStep w (Unplug n) Done new
+      → (new : World) × IsHost Stand Spare slots' out' devices new × WorldStep w (Unplug n) Done new
   unplugged n s slots' out' host e new len key capacity back =
       let has = guest_of Stand Spare slots out devices w n s host e in
       let moves = back has.guest has.stands in
@@ -80,5 +77,4 @@ module _ {S D : Type 0} (Stand : S → Guest → Type 0) (Spare : D → Bool →
 
   pub not_unplugged : (n : ℕ) → IsHost Stand Spare slots out devices w → get slots n ≡ None
       → WorldStep w (Unplug n) (Refused NoGuest) w
-  not_unplugged n host e =
-      rw (no_guest Stand Spare slots out devices w n host e) (refl, refl)
+  not_unplugged n host e = rw (no_guest Stand Spare slots out devices w n host e) (refl, refl)

@@ -6,15 +6,14 @@ use Rattle.std.specs.Prelude.{◌==◌, MatchOption, replicate, ⊤, nat_le, if�
 use Rattle.std.proofs.lemmas.List.{get_or_past, get_or-replicate, length-replicate}
 use Rattle.std.{proofs.lemmas.Bool.cases_lt, proofs.lemmas.Bool.Decides.{eqb_tells, nat_tests}}
 use Rattle.slab.specs.Slab.{Slab, get, slab_len, Updates}
-use Rattle.vb_model.{specs.declared.calls.Event.Event, specs.declared.calls.Event.TheVariants.Plug}
-use Rattle.vb_model.{specs.declared.replies.Reply.Reply, specs.Limits.{max_guests, is_config}}
-use Rattle.vb_model.specs.declared.replies.Reply.TheVariants.{Plugged, Refused}
+use Rattle.vb_model.{proofs.Changes.{with_guest-same, with_guest-other}, specs.Guest.Guest}
+use Rattle.vb_model.specs.{Guest.{Config, fresh}, HostEvents.{Plugs, PlugsIn, WorldStep}}
+use Rattle.vb_model.specs.{HostRefusals.plugged_count, Limits.{max_guests, is_config}, World.World}
+use Rattle.vb_model.specs.{World.{guest_at, with_guest, made}, declared.calls.Event.Event}
+use Rattle.vb_model.specs.declared.calls.{Event.TheVariants.Plug, GuestSize.GuestSize}
 use Rattle.vb_model.specs.declared.replies.Refusal.TheVariants.{NoMemory, BadConfig, TooMany}
-use Rattle.vb_model.{specs.declared.replies.Refusal.TheVariants.NoDevice, specs.Guest.Guest}
-use Rattle.vb_model.{specs.Guest.{Config, fresh}, specs.World.{World, guest_at, with_guest, made}}
-use Rattle.vb_model.{specs.HostEvents.{Plugs, PlugsIn, WorldStep}, specs.HostRefusals.plugged_count}
-use Rattle.vb_model.proofs.Changes.{with_guest-same, with_guest-other}
-use Rattle.vb_model.specs.declared.calls.GuestSize.{GuestSize}
+use Rattle.vb_model.specs.declared.replies.{Refusal.TheVariants.NoDevice, Reply.Reply}
+use Rattle.vb_model.specs.declared.replies.Reply.TheVariants.{Plugged, Refused}
 use Rattle.vb_frames.specs.Out.{is_out}
 use Rattle.vb_ram.{specs.Pages.Pages, specs.Part.Part}
 use Rattle.vb_slot.{specs.Spare.IsSpare, proofs.Fresh.backs_none}
@@ -84,14 +83,12 @@ module _ {S D : Type 0} (Stand : S → Guest → Type 0) (Spare : D → Bool →
       → get slots n ≡ None → Updates slots slots' n (Some s) → Stand s g
       → (m : ℕ) → StandsAt Stand (get slots' m) (guest_at (with_guest n (Some g) w.guests) m)
   plugs n s slots' g host e new stands m = elim (eqb_tells m n) [
-    | inl same ↦
-        subst (λ (k : ℕ). StandsAt Stand (get slots' k)
-        (guest_at (with_guest n (Some g) w.guests) k)) (sym same.1)
-        (rw (new.changed, with_guest-same n (Some g) w.guests) stands)
-    | inr other ↦ rw (
-      new.others m other.1,
-      with_guest-other n m (Some g) w.guests (λ h. other.1 (sym h)),
-    ) (host.guests m)
+    | inl same ↦ subst
+        (λ (k : ℕ). StandsAt Stand (get slots' k) (guest_at (with_guest n (Some g) w.guests) k))
+        (sym same.1) (rw (new.changed, with_guest-same n (Some g) w.guests) stands)
+    | inr other ↦
+        rw (new.others m other.1, with_guest-other n m (Some g) w.guests (λ h. other.1 (sym h)))
+        (host.guests m)
   ]
 
   one_more : (n : ℕ) (g : Guest) → guest_at w.guests n ≡ None
@@ -114,8 +111,7 @@ module _ {S D : Type 0} (Stand : S → Guest → Type 0) (Spare : D → Bool →
   plugged n s slots' d rest pages queue_size processors host e few key vacant new len capacity
       pace is_pace stands =
       let has = spare_of d rest host e in
-      let config : Config =
-      record {
+      let config : Config = record {
         pages = pages;
         queue_size = queue_size;
         processors = processors;
@@ -128,16 +124,13 @@ module _ {S D : Type 0} (Stand : S → Guest → Type 0) (Spare : D → Bool →
         guests = with_guest n (Some g) w.guests;
         spares = has.others;
         vacated = None;
-      } in
-      let stood : IsHost Stand Spare slots' out rest after = record {
-        guests = plugs n s slots' g host vacant new
-            (subst (λ (b : Bool). Stand s
-            (fresh (record {
-              pages = pages;
-              queue_size = queue_size;
-              processors = processors;
-              paced = b;
-            }) 0)) (is_pace has.paced has.spare) stands);
+      } in let stood : IsHost Stand Spare slots' out rest after = record {
+        guests = plugs n s slots' g host vacant new (subst (λ (b : Bool). Stand s (fresh (record {
+          pages = pages;
+          queue_size = queue_size;
+          processors = processors;
+          paced = b;
+        }) 0)) (is_pace has.paced has.spare) stands);
         count = len ∙ (ap (λ (k : ℕ). k + 1) host.count ∙ sym (one_more n g none));
         few = omega (arith, few, host.count, one_more n g none);
         room = omega (arith, host.room, capacity);
@@ -145,13 +138,7 @@ module _ {S D : Type 0} (Stand : S → Guest → Type 0) (Spare : D → Bool →
         frames = host.frames;
         backed = λ f.
             let a = ap (backing_at f) none in
-            omega (
-              arith,
-              host.backed f,
-              backing-with f n (Some g) w.guests,
-              a,
-              backs_none f pages,
-            );
+            omega (arith, host.backed f, backing-with f n (Some g) w.guests, a, backs_none f pages);
         spares = has.spares;
       } in
       let plug : Plugs config has.others w (Plugged n) after =
@@ -164,40 +151,36 @@ module _ {S D : Type 0} (Stand : S → Guest → Type 0) (Spare : D → Bool →
     where
       given : IsHost Stand Spare slots out devices w → n ≡ slots.vacant_key
           → MatchOption w.vacated ⊤ (λ last. n ≡ last)
-      given host key = of w.vacated host.next
-        where
-          of : (o : Option ℕ) → MatchOption o ⊤ (λ last. last ≡ slots.vacant_key)
-              → MatchOption o ⊤ (λ last. n ≡ last)
-          of None h = tt
-          of (Some last) h = key ∙ sym h
+      given host key = of w.vacated host.next where
+        of : (o : Option ℕ) → MatchOption o ⊤ (λ last. last ≡ slots.vacant_key)
+            → MatchOption o ⊤ (λ last. n ≡ last)
+        of None h = tt
+        of (Some last) h = key ∙ sym h
 
   -- there was no memory for it
   pub not_plugged : (pages queue_size processors : ℕ) → IsHost Stand Spare slots out devices w
       → 0 < length devices → PlugsIn (sized pages queue_size processors) w.spares w (Refused NoMemory) w
-  not_plugged pages queue_size processors host some = of devices w.spares host.spares some
-    where
-      of : (ds : List D) (ps : List Bool) → AreSpares Spare ds ps → 0 < length ds
-          → PlugsIn (sized pages queue_size processors) ps w (Refused NoMemory) w
-      of [] ps h l = absurd (omega (arith, l))
-      of (d ∷ ds) [] h l = absurd h
-      of (d ∷ ds) (p ∷ ps) h l = inl (refl, refl)
+  not_plugged pages queue_size processors host some = of devices w.spares host.spares some where
+    of : (ds : List D) (ps : List Bool) → AreSpares Spare ds ps → 0 < length ds
+        → PlugsIn (sized pages queue_size processors) ps w (Refused NoMemory) w
+    of [] ps h l = absurd (omega (arith, l))
+    of (d ∷ ds) [] h l = absurd h
+    of (d ∷ ds) (p ∷ ps) h l = inl (refl, refl)
 
   -- the device stands where it stood
   pub device_back : (d d' : D) (rest : List D) → IsHost Stand Spare slots out devices w
       → devices ≡ d ∷ rest → ((p : Bool) → Spare d p → Spare d' p)
       → IsHost Stand Spare slots out (d' ∷ rest) w
-  device_back d d' rest host e same =
-      let has = spare_of d rest host e in
-      record {
-        guests = host.guests;
-        count = host.count;
-        few = host.few;
-        room = host.room;
-        next = host.next;
-        frames = host.frames;
-        backed = host.backed;
-        spares = rw has.there (same has.paced has.spare, has.spares);
-      }
+  device_back d d' rest host e same = let has = spare_of d rest host e in record {
+    guests = host.guests;
+    count = host.count;
+    few = host.few;
+    room = host.room;
+    next = host.next;
+    frames = host.frames;
+    backed = host.backed;
+    spares = rw has.there (same has.paced has.spare, has.spares);
+  }
 
 -- ---- which of a plug's answers it is
 
@@ -242,12 +225,11 @@ module _ {S D : Type 0} (Stand : S → Guest → Type 0) (Spare : D → Bool →
   pub no_device : IsHost Stand Spare slots out devices w
       → is_config pages queue_size processors ≡ true → slab_len slots < max_guests
       → length devices ≡ 0 → WorldStep w (plug pages queue_size processors) (Refused NoDevice) w
-  no_device host e few none =
-      rw (
-        e,
-        above max_guests (plugged_count w) (omega (arith, few, host.count)),
-        none_left devices w.spares host.spares none,
-      ) (refl, refl)
+  no_device host e few none = rw (
+    e,
+    above max_guests (plugged_count w) (omega (arith, few, host.count)),
+    none_left devices w.spares host.spares none,
+  ) (refl, refl)
     where
       none_left : (ds : List D) (ps : List Bool) → AreSpares Spare ds ps → length ds ≡ 0 → ps ≡ []
       none_left [] [] h e = refl
@@ -256,15 +238,13 @@ module _ {S D : Type 0} (Stand : S → Guest → Type 0) (Spare : D → Bool →
 
   pub plug_happens : (reply : Reply) (new : World) → IsHost Stand Spare slots out devices w
       → is_config pages queue_size processors ≡ true → slab_len slots < max_guests
-      → 0 < length devices
-      → PlugsIn (sized pages queue_size processors) w.spares w reply new
+      → 0 < length devices → PlugsIn (sized pages queue_size processors) w.spares w reply new
       → WorldStep w (plug pages queue_size processors) reply new
-  plug_happens reply new host e few some happens =
-      rw (
-        e,
-        above max_guests (plugged_count w) (omega (arith, few, host.count)),
-        some_left devices w.spares host.spares some,
-      ) happens
+  plug_happens reply new host e few some happens = rw (
+    e,
+    above max_guests (plugged_count w) (omega (arith, few, host.count)),
+    some_left devices w.spares host.spares some,
+  ) happens
     where
       some_left : (ds : List D) (ps : List Bool) → AreSpares Spare ds ps → 0 < length ds
           → (length ps == 0) ≡ false
@@ -276,10 +256,8 @@ module _ {S D : Type 0} (Stand : S → Guest → Type 0) (Spare : D → Bool →
       ]
 
 pub none_there : {n : ℕ} → true ≡ (n == 0) → n ≡ 0
-none_there {n = n} e = elim (eqb_tells n 0) [
-  | inl same ↦ same.1
-  | inr other ↦ absurd (cc (e ∙ other.0))
-]
+none_there {n = n} e =
+    elim (eqb_tells n 0) [ inl same ↦ same.1 | inr other ↦ absurd (cc (e ∙ other.0)) ]
 
 pub some_there : {n : ℕ} → false ≡ (n == 0) → 0 < n
 some_there {n = n} e = elim (eqb_tells n 0) [

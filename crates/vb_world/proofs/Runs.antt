@@ -21,8 +21,7 @@ pub ran_on : {Holds New : World → Type 0} (w : World) (events : List Event) (r
     → ((v : World) → Holds v → (new : World) × New new × WorldStep v event reply new)
     → Ran New w (events ++ event ∷ []) (replies ++ reply ∷ [])
 ran_on {New = New} w events replies event reply ran step =
-    let (new, holds, happens) = step (last_world w ran.after) ran.holds in
-    record {
+    let (new, holds, happens) = step (last_world w ran.after) ran.holds in record {
       after = ran.after ++ new ∷ [];
       steps = steps-push w events replies ran.after event reply new ran.steps happens;
       holds = subst New (sym (last_world-push w ran.after new)) holds;
@@ -38,13 +37,12 @@ safe_run frames spares events replies ran = (
     after = ran.after;
     steps = ran.steps;
     ends = refl;
-    safe = run_is_safe frames spares
-        (record {
-          first = made frames spares;
-          events = events;
-          replies = replies;
-          after = ran.after;
-        }) (refl, ran.steps);
+    safe = run_is_safe frames spares (record {
+      first = made frames spares;
+      events = events;
+      replies = replies;
+      after = ran.after;
+    }) (refl, ran.steps);
   },
 )
 

@@ -13,15 +13,12 @@ loop-i-preserved c =
     let same : c.need.inside.spare ≡ n.spare = ap (λ (m : Need). m.spare) c.need.view_is in
     let asked = c.asked-pages.ensures in
     one_more c.args.needs.now c.args.level c.args.rest c.loop-i.i c.loop-i.targets left target after
-    n c.loop-i.invariant c.loop-i-test.true c.index-needs-i.is
-    (elim c.if-need-level.branch [
+    n c.loop-i.invariant c.loop-i-test.true c.index-needs-i.is (elim c.if-need-level.branch [
       | then-need-level w ↦ gives_at_it n.spare c.args.level left target after
           (omega (arith, same, w.if-need-level.true))
-          (asked.at_it w.if-need-level.true)
-          (omega (arith, w.left-is, w.from-left.ensures))
+          (asked.at_it w.if-need-level.true) (omega (arith, w.left-is, w.from-left.ensures))
       | else-need-level w ↦ gives_elsewhere n.spare c.args.level left target after
           (λ e. w.if-need-level.false (omega (arith, same, e)))
           (λ more. omega (arith, same, asked.above (omega (arith, same, more))))
-          (λ less. omega (arith, asked.below (omega (arith, same, less))))
-          w.left-is
+          (λ less. omega (arith, asked.below (omega (arith, same, less)))) w.left-is
     ])

@@ -14,6 +14,5 @@ returns-in-Some c = λ summary start s first.
     c.next_in_word.ensures
 
 pub returns-in-None : goal.returns-in-None
-returns-in-None c = λ summary start s first.
-    none_in c.args.level.now summary start s
+returns-in-None c = λ summary start s first. none_in c.args.level.now summary start s
     (subst (λ (o : Option ℕ). IsFirstFrom summary start o) c.in-None.is first)

@@ -9,6 +9,4 @@ returns c = λ k l.
     let count : ℕ = min c.args.count 64 in
     let shift : c.saturating_sub.result ≡ 64 - count = omega arith in
     let same : ltb k count ≡ ltb k c.args.count = grind (arith, nat_tests, l) in
-    ap (λ (n : ℕ). has_bit ((2 ^ 64 - 1) / 2 ^ n) k) shift
-    ∙ low_bits count k (omega arith)
-    ∙ same
+    ap (λ (n : ℕ). has_bit ((2 ^ 64 - 1) / 2 ^ n) k) shift ∙ low_bits count k (omega arith) ∙ same

@@ -1,8 +1,7 @@
 use Rattle.std.proofs.Common.{rules, ◌≡◌, ◌+◌, ◌*◌, ◌∷◌, ◌++◌, [], List, ℕ, ap, sym, ◌∙◌, arith}
 use Rattle.std.proofs.Common.{false, subst, Bool, ◌||◌}
-use Rattle.vb_chain.{specs.declared.pieces.Piece.Piece, specs.Table.descriptor_at}
-use Rattle.vb_chain.specs.Rules.{first_fault, piece_of, has_next, is_writable}
-use Rattle.vb_chain.specs.Chain.{FaultGives}
+use Rattle.vb_chain.specs.{declared.pieces.Piece.Piece, Table.descriptor_at, Rules.first_fault}
+use Rattle.vb_chain.specs.{Rules.{piece_of, has_next, is_writable}, Chain.FaultGives}
 use Rattle.vb_chain.proofs.Walking.{Walked, walked_init, walked_fault, walked_chain, walked_more}
 use Rattle.vb_chain.proofs.steps.follow.Goals as goal
 

@@ -7,10 +7,8 @@ pub returns-in-Ok-clause-short : goal.returns-in-Ok-clause-short
 returns-in-Ok-clause-short g c = chain_size _ _ _ _ _ c.in-Ok.ensures.chain
 
 pub returns-in-Ok-clause-each_chain : goal.returns-in-Ok-clause-each_chain
-returns-in-Ok-clause-each_chain g c pieces gives = (
-  refl,
-  chain_is_one _ _ _ _ _ _ c.in-Ok.ensures.chain gives,
-)
+returns-in-Ok-clause-each_chain g c pieces gives =
+    (refl, chain_is_one _ _ _ _ _ _ c.in-Ok.ensures.chain gives)
 
 pub returns-in-Ok-clause-each_fault : goal.returns-in-Ok-clause-each_fault
 returns-in-Ok-clause-each_fault g c fault gives =

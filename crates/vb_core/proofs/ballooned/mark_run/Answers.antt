@@ -7,17 +7,15 @@ use Rattle.vb_core.specs.Runs.{pages_of_run}
 use Rattle.vb_core.proofs.ballooned.mark_run.Goals as goal
 
 pub returns-then-run-eq0-clause-put : goal.returns-then-run-eq0-clause-put
-returns-then-run-eq0-clause-put c =
-    put_none (λ p. is_in p (pages_of_run c.args.run)) c.args.inside c.args.set.now
-    (λ p. none_reaches (λ m. m == p) c.args.run c.if-run-eq0.true)
+returns-then-run-eq0-clause-put c = put_none (λ p. is_in p (pages_of_run c.args.run))
+    c.args.inside c.args.set.now (λ p. none_reaches (λ m. m == p) c.args.run c.if-run-eq0.true)
 
 pub returns-then-run-eq0-clause-small : goal.returns-then-run-eq0-clause-small
 returns-then-run-eq0-clause-small c = λ p l. none_reaches (λ m. m == p) c.args.run c.if-run-eq0.true
 
 pub loop-word-init : goal.loop-word-init
-loop-word-init c =
-    put_none (is_before c.args.run (c.from-first.result / 64)) c.args.inside c.args.set.now
-    (λ p. ap (λ (n : ℕ). is_before c.args.run (n / 64) p) c.from-first.ensures
+loop-word-init c = put_none (is_before c.args.run (c.from-first.result / 64)) c.args.inside
+    c.args.set.now (λ p. ap (λ (n : ℕ). is_before c.args.run (n / 64) p) c.from-first.ensures
     ∙ none_before c.args.run p)
 
 pub mark_word-requires : goal.mark_word-requires

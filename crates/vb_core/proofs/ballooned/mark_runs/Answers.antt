@@ -19,11 +19,10 @@ overflow_add-changed c =
     c.mark_run-changed.ensures.small) in omega (arith, few)
 
 pub loop-run-preserved : goal.loop-run-preserved
-loop-run-preserved c =
-    put_next_run c.args.runs.now c.loop-run.run-index (record { first = 0; count = 0 })
-    c.args.inside c.args.set.now c.loop-run.set c.mark_run-changed.new.set c.loop-run.changed
-    c.mark_run-changed.result (omega arith) c.loop-run.invariant c.mark_run-changed.ensures.put
-    c.mark_run-changed.ensures.small
+loop-run-preserved c = put_next_run c.args.runs.now c.loop-run.run-index
+    (record { first = 0; count = 0 }) c.args.inside c.args.set.now c.loop-run.set
+    c.mark_run-changed.new.set c.loop-run.changed c.mark_run-changed.result (omega arith)
+    c.loop-run.invariant c.mark_run-changed.ensures.put c.mark_run-changed.ensures.small
 
 pub returns : goal.returns
 returns c = grind (arith, take_all)

@@ -38,8 +38,7 @@ loop-k-preserved c =
           let told = w.add_page-used.ensures.told in
           let before = c.loop-k.invariant.named in
           record {
-            named =
-                same_named c.args.limits.skips c.args.limits.reserved c.args.limits.count
+            named = same_named c.args.limits.skips c.args.limits.reserved c.args.limits.count
                 (take (c.loop-k.k + 1) (numbers_of c.args.bytes.now)) (c.loop-k.k + 1)
                 c.match-number_fault.runs w.add_page-used.new.runs c.match-number_fault.used
                 w.add_page-used.result c.match-number_fault.skipped c.loop-k.skipped
@@ -48,8 +47,7 @@ loop-k-preserved c =
                 (numbers_of c.args.bytes.now) c.loop-k.k c.number_at-number.result c.loop-k.runs
                 w.add_page-used.new.runs c.loop-k.used w.add_page-used.result c.loop-k.skipped lt
                 at right w.add_page-used.ensures.few (λ ms few t. (told ms few t).0) short before);
-            ends =
-                same_ends c.match-number_fault.ends w.add_page-used.new.ends
+            ends = same_ends c.match-number_fault.ends w.add_page-used.new.ends
                 c.match-number_fault.used w.add_page-used.result c.match-number_fault.runs
                 w.add_page-used.new.runs w.ends-is w.used-is w.runs-is
                 (told (right_numbers c.args.limits.reserved c.args.limits.count
@@ -61,18 +59,15 @@ loop-k-preserved c =
           c.number_at-number.result ≡ Some w.in-Some.fault = sym w.in-Some.ensures in
           let skips : c.args.limits.skips ≡ true = search rules in
           record {
-            named =
-                same_named c.args.limits.skips c.args.limits.reserved c.args.limits.count
+            named = same_named c.args.limits.skips c.args.limits.reserved c.args.limits.count
                 (take (c.loop-k.k + 1) (numbers_of c.args.bytes.now)) (c.loop-k.k + 1)
-                c.match-number_fault.runs c.loop-k.runs c.match-number_fault.used
-                c.loop-k.used c.match-number_fault.skipped (c.loop-k.skipped + 1)
-                w.runs-is w.used-is w.skipped-is
+                c.match-number_fault.runs c.loop-k.runs c.match-number_fault.used c.loop-k.used
+                c.match-number_fault.skipped (c.loop-k.skipped + 1) w.runs-is w.used-is w.skipped-is
                 (more_skipped c.args.limits.skips c.args.limits.reserved c.args.limits.count
                 (numbers_of c.args.bytes.now) c.loop-k.k c.number_at-number.result
                 w.in-Some.fault c.loop-k.runs c.loop-k.used c.loop-k.skipped lt at wrong skips
                 c.loop-k.invariant.named);
-            ends =
-                same_ends c.match-number_fault.ends c.loop-k.ends c.match-number_fault.used
+            ends = same_ends c.match-number_fault.ends c.loop-k.ends c.match-number_fault.used
                 c.loop-k.used c.match-number_fault.runs c.loop-k.runs w.ends-is w.used-is
                 w.runs-is c.loop-k.invariant.ends;
           }
@@ -87,8 +82,8 @@ returns c =
     let whole : take c.loop-k.k (numbers_of c.args.bytes.now) ≡ numbers_of c.args.bytes.now =
     take_all c.loop-k.k (numbers_of c.args.bytes.now) (omega (arith, last)) in
     let all : Named_so_far c.args.limits.skips c.args.limits.reserved c.args.limits.count
-    (numbers_of c.args.bytes.now) (length (numbers_of c.args.bytes.now)) c.loop-k.runs
-    c.loop-k.used c.loop-k.skipped =
+    (numbers_of c.args.bytes.now)
+    (length (numbers_of c.args.bytes.now)) c.loop-k.runs c.loop-k.used c.loop-k.skipped =
     subst (λ (ns : List ℕ). Named_so_far c.args.limits.skips c.args.limits.reserved
     c.args.limits.count ns (length (numbers_of c.args.bytes.now)) c.loop-k.runs c.loop-k.used
     c.loop-k.skipped) whole
@@ -96,8 +91,7 @@ returns c =
     c.args.limits.count (take c.loop-k.k (numbers_of c.args.bytes.now)) n c.loop-k.runs
     c.loop-k.used c.loop-k.skipped) last c.loop-k.invariant.named) in
     all_named c.args.limits.skips c.args.limits.reserved c.args.limits.count
-    (numbers_of c.args.bytes.now) c.loop-k.runs c.loop-k.used c.loop-k.skipped
-    (record {
+    (numbers_of c.args.bytes.now) c.loop-k.runs c.loop-k.used c.loop-k.skipped (record {
       runs = c.loop-k.used;
       pages = length c.args.bytes.now / 4 - c.loop-k.skipped;
       skipped = c.loop-k.skipped;

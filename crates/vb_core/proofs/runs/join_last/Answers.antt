@@ -28,6 +28,5 @@ returns-then-ends-number-2-clause-joined c _ =
 pub returns-clause-apart : goal.returns-clause-apart
 returns-clause-apart c _ =
     no_end c.args.page c.args.used c.args.runs.now none c.args.ends.now c.requires.ends
-    c.requires.room c.ranges.page.fits
-    (λ e. c.if-ends-number.false (e ∙ sym c.from-number.ensures))
+    c.requires.room c.ranges.page.fits (λ e. c.if-ends-number.false (e ∙ sym c.from-number.ensures))
     (λ e. c.if-ends-number-2.false (e ∙ sym c.from-number.ensures))

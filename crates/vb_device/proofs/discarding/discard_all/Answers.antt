@@ -1,6 +1,5 @@
-use Rattle.std.proofs.Common.{◌≡◌, ◌<◌, ◌∙◌, arith, get_or}
-use Rattle.std.{specs.Prelude.length, proofs.lemmas.List.{append-nil, take_all}}
-use Rattle.std.proofs.lemmas.Option.{get_or_from_slice_get}
+use Rattle.std.{proofs.Common.{◌≡◌, ◌<◌, ◌∙◌, arith, get_or}, specs.Prelude.length}
+use Rattle.std.proofs.lemmas.{List.{append-nil, take_all}, Option.get_or_from_slice_get}
 use Rattle.vb_device.specs.Base.{numbers_of_frames}
 use Rattle.vb_device.proofs.Discards.{discard_more, loose_more, discarded_none}
 use Rattle.vb_device.proofs.discarding.discard_all.Goals as goal
@@ -18,12 +17,11 @@ pub loop-k-preserved : goal.loop-k-preserved
 loop-k-preserved c =
     let lt : c.loop-k.k < length c.args.request.now.pages =
     omega (arith, c.loop-k-test.true, c.count-k-end.ensures) in
-    let at : get_or c.args.request.now.pages c.loop-k.k 0 ≡ c.page_in.result =
-    get_or_from_slice_get c.args.request.now.pages c.loop-k.k c.page_in.result 0 c.page_in.ensures.page in
+    let at : get_or c.args.request.now.pages c.loop-k.k 0 ≡ c.page_in.result = get_or_from_slice_get
+    c.args.request.now.pages c.loop-k.k c.page_in.result 0 c.page_in.ensures.page in
     record {
-      mem = discard_more c.args.ram.now c.loop-k.ram c.discard_page.new.ram
-          c.args.request.now.pages c.loop-k.k c.page_in.result lt at
-          c.loop-k.invariant.mem c.discard_page.ensures.after;
+      mem = discard_more c.args.ram.now c.loop-k.ram c.discard_page.new.ram c.args.request.now.pages
+          c.loop-k.k c.page_in.result lt at c.loop-k.invariant.mem c.discard_page.ensures.after;
       loose = loose_more c.args.ram.now c.loop-k.ram c.args.request.now.pages c.loop-k.k
           c.page_in.result (numbers_of_frames c.args.loose.now.items)
           (numbers_of_frames c.loop-k.loose.items)

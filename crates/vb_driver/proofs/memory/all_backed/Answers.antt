@@ -11,9 +11,8 @@ returns-then-not-has_frame-clause-value g c = let size = c.args.shape.queue_size
     let page = c.loop-page.page in
     let start : is_start_page size page ≡ true =
     sym c.is_start_page.ensures ∙ c.if-is_start_page.true in
-    let none : is_some (frame_at mem page) ≡ false =
-    ap (λ (m : Pages). is_some (frame_at m page)) (sym c.loop-page.invariant.mem)
-    ∙ (sym c.has_frame.ensures.value ∙ c.if-not-has_frame.true) in
+    let none : is_some (frame_at mem page) ≡ false = ap (λ (m : Pages). is_some (frame_at m page))
+    (sym c.loop-page.invariant.mem) ∙ (sym c.has_frame.ensures.value ∙ c.if-not-has_frame.true) in
     sym (false_from_ne_true (has_frames size mem)
     (λ all. both_ways (is_some (frame_at mem page)) none (frames_there size mem all page start)))
 

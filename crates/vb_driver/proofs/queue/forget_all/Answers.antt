@@ -1,5 +1,4 @@
-use Rattle.std.proofs.Common.{arith}
-use Rattle.std.proofs.lemmas.List.{same_lists, length-replicate, get_or-replicate}
+use Rattle.std.proofs.{Common.arith, lemmas.List.{same_lists, length-replicate, get_or-replicate}}
 use Rattle.vb_driver.proofs.queue.forget_all.Goals as goal
 
 pub returns : goal.returns

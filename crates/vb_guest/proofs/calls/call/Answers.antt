@@ -38,14 +38,13 @@ returns-in-Free g c =
     }
 
 pub returns-in-Read : goal.returns-in-Read
-returns-in-Read g c =
-    record {
-      step = λ keeps guest stands. rw (c.clear.ensures, c.in-Read.is, c.bytes_reply.ensures)
-          (steps_quiet keeps _ _ _ _ _ _ guest g.K.FrameKeeper.answers _ _ _ stands
-          (c.read.ensures.step keeps guest stands));
-      exact = rw (c.in-Read.is) (c.read.result, c.bytes_reply.ensures, c.read.ensures.exact, refl);
-      quiet = left_alone;
-    }
+returns-in-Read g c = record {
+  step = λ keeps guest stands. rw (c.clear.ensures, c.in-Read.is, c.bytes_reply.ensures)
+      (steps_quiet keeps _ _ _ _ _ _ guest g.K.FrameKeeper.answers _ _ _ stands
+      (c.read.ensures.step keeps guest stands));
+  exact = rw (c.in-Read.is) (c.read.result, c.bytes_reply.ensures, c.read.ensures.exact, refl);
+  quiet = left_alone;
+}
 
 pub returns-in-Write : goal.returns-in-Write
 returns-in-Write g c =
@@ -57,14 +56,13 @@ returns-in-Write g c =
     }
 
 pub returns-in-Inflate : goal.returns-in-Inflate
-returns-in-Inflate g c =
-    record {
-      step = λ keeps guest stands. rw (c.clear.ensures, c.in-Inflate.is, c.posted_reply.ensures)
-          (steps_quiet keeps _ _ _ _ _ _ guest g.K.FrameKeeper.answers _ _ _ stands
-          (c.inflate.ensures.step keeps guest stands));
-      exact = rw (c.in-Inflate.is) (c.inflate.result, c.posted_reply.ensures, c.inflate.ensures.exact);
-      quiet = left_alone;
-    }
+returns-in-Inflate g c = record {
+  step = λ keeps guest stands. rw (c.clear.ensures, c.in-Inflate.is, c.posted_reply.ensures)
+      (steps_quiet keeps _ _ _ _ _ _ guest g.K.FrameKeeper.answers _ _ _ stands
+      (c.inflate.ensures.step keeps guest stands));
+  exact = rw (c.in-Inflate.is) (c.inflate.result, c.posted_reply.ensures, c.inflate.ensures.exact);
+  quiet = left_alone;
+}
 
 pub returns-in-Deflate : goal.returns-in-Deflate
 returns-in-Deflate g c =
@@ -87,24 +85,22 @@ returns-in-Oom g c = record {
 }
 
 pub returns-in-Reap : goal.returns-in-Reap
-returns-in-Reap g c =
-    record {
-      step = λ keeps guest stands. rw (c.clear.ensures, c.in-Reap.is, c.reaped_reply.ensures)
-          (steps_quiet keeps _ _ _ _ _ _ guest g.K.FrameKeeper.answers _ _ _ stands
-          (c.reap.ensures.step keeps guest stands));
-      exact = rw (c.in-Reap.is) (c.reap.result, c.reaped_reply.ensures, c.reap.ensures.exact);
-      quiet = left_alone;
-    }
+returns-in-Reap g c = record {
+  step = λ keeps guest stands. rw (c.clear.ensures, c.in-Reap.is, c.reaped_reply.ensures)
+      (steps_quiet keeps _ _ _ _ _ _ guest g.K.FrameKeeper.answers _ _ _ stands
+      (c.reap.ensures.step keeps guest stands));
+  exact = rw (c.in-Reap.is) (c.reap.result, c.reaped_reply.ensures, c.reap.ensures.exact);
+  quiet = left_alone;
+}
 
 pub returns-in-Take : goal.returns-in-Take
-returns-in-Take g c =
-    record {
-      step = λ keeps guest stands. rw (c.clear.ensures, c.in-Take.is, c.taken_reply.ensures)
-          (steps_quiet keeps _ _ _ _ _ _ guest g.K.FrameKeeper.answers _ _ _ stands
-          (c.take.ensures.step _ keeps guest stands));
-      exact = rw (c.in-Take.is) (c.take.result, c.taken_reply.ensures, c.take.ensures.exact, refl);
-      quiet = left_alone;
-    }
+returns-in-Take g c = record {
+  step = λ keeps guest stands. rw (c.clear.ensures, c.in-Take.is, c.taken_reply.ensures)
+      (steps_quiet keeps _ _ _ _ _ _ guest g.K.FrameKeeper.answers _ _ _ stands
+      (c.take.ensures.step _ keeps guest stands));
+  exact = rw (c.in-Take.is) (c.take.result, c.taken_reply.ensures, c.take.ensures.exact, refl);
+  quiet = left_alone;
+}
 
 pub returns-in-Work : goal.returns-in-Work
 returns-in-Work g c =
@@ -134,24 +130,22 @@ returns-in-Sweep g c =
     }
 
 pub returns-in-SetTarget : goal.returns-in-SetTarget
-returns-in-SetTarget g c =
-    record {
-      step = λ keeps guest stands. rw (c.clear.ensures, c.in-SetTarget.is)
-          (steps_quiet keeps _ _ _ _ _ _ guest g.K.FrameKeeper.answers _ _ _ stands
-          (c.set_target.ensures.step _ keeps guest stands));
-      exact = rw (c.in-SetTarget.is) (refl, c.set_target.ensures.mem, c.set_target.ensures.part, refl);
-      quiet = left_alone;
-    }
+returns-in-SetTarget g c = record {
+  step = λ keeps guest stands. rw (c.clear.ensures, c.in-SetTarget.is)
+      (steps_quiet keeps _ _ _ _ _ _ guest g.K.FrameKeeper.answers _ _ _ stands
+      (c.set_target.ensures.step _ keeps guest stands));
+  exact = rw (c.in-SetTarget.is) (refl, c.set_target.ensures.mem, c.set_target.ensures.part, refl);
+  quiet = left_alone;
+}
 
 pub returns-in-Reset : goal.returns-in-Reset
-returns-in-Reset g c =
-    record {
-      step = λ keeps guest stands. rw (c.clear.ensures, c.in-Reset.is)
-          (steps_quiet keeps _ _ _ _ _ _ guest g.K.FrameKeeper.answers _ _ _ stands
-          (c.reset.ensures.step keeps guest stands));
-      exact = rw (c.in-Reset.is) (refl, c.reset.ensures.exact);
-      quiet = left_alone;
-    }
+returns-in-Reset g c = record {
+  step = λ keeps guest stands. rw (c.clear.ensures, c.in-Reset.is)
+      (steps_quiet keeps _ _ _ _ _ _ guest g.K.FrameKeeper.answers _ _ _ stands
+      (c.reset.ensures.step keeps guest stands));
+  exact = rw (c.in-Reset.is) (refl, c.reset.ensures.exact);
+  quiet = left_alone;
+}
 
 pub returns-in-Report : goal.returns-in-Report
 returns-in-Report g c =
@@ -165,21 +159,19 @@ returns-in-Report g c =
     }
 
 pub returns-in-Stats : goal.returns-in-Stats
-returns-in-Stats g c =
-    record {
-      step = λ keeps guest stands. rw (c.clear.ensures, c.in-Stats.is, c.filled_reply.ensures)
-          (steps_quiet keeps _ _ _ _ _ _ guest g.K.FrameKeeper.answers _ _ _ stands
-          (c.stats.ensures.step keeps guest stands));
-      exact = rw (c.in-Stats.is) (c.stats.result, c.filled_reply.ensures, c.stats.ensures.exact);
-      quiet = left_alone;
-    }
+returns-in-Stats g c = record {
+  step = λ keeps guest stands. rw (c.clear.ensures, c.in-Stats.is, c.filled_reply.ensures)
+      (steps_quiet keeps _ _ _ _ _ _ guest g.K.FrameKeeper.answers _ _ _ stands
+      (c.stats.ensures.step keeps guest stands));
+  exact = rw (c.in-Stats.is) (c.stats.result, c.filled_reply.ensures, c.stats.ensures.exact);
+  quiet = left_alone;
+}
 
 pub returns-in-Ask : goal.returns-in-Ask
-returns-in-Ask g c =
-    record {
-      step = λ keeps guest stands. rw (c.clear.ensures, c.in-Ask.is, c.asked_reply.ensures)
-          (steps_quiet keeps _ _ _ _ _ _ guest g.K.FrameKeeper.answers _ _ _ stands
-          (c.ask.ensures.step _ keeps guest stands));
-      exact = rw (c.in-Ask.is) (c.ask.result, c.asked_reply.ensures, c.ask.ensures.exact, refl);
-      quiet = left_alone;
-    }
+returns-in-Ask g c = record {
+  step = λ keeps guest stands. rw (c.clear.ensures, c.in-Ask.is, c.asked_reply.ensures)
+      (steps_quiet keeps _ _ _ _ _ _ guest g.K.FrameKeeper.answers _ _ _ stands
+      (c.ask.ensures.step _ keeps guest stands));
+  exact = rw (c.in-Ask.is) (c.ask.result, c.asked_reply.ensures, c.ask.ensures.exact, refl);
+  quiet = left_alone;
+}

@@ -1,17 +1,14 @@
 use Rattle.std.proofs.Common.{◌∙◌, sym}
-use Rattle.vb_guest.{proofs.FinishStep.finish_step, proofs.RogueDevice.finish_rogue}
-use Rattle.vb_guest.{proofs.Freed.{freed_as, freed_rogue}, proofs.Kept.finish_kept}
-use Rattle.vb_guest.{proofs.Asked.has_ring, proofs.Quiet.freeing_quiet}
+use Rattle.vb_guest.proofs.{Asked.has_ring, FinishStep.finish_step, Freed.{freed_as, freed_rogue}}
+use Rattle.vb_guest.proofs.{Kept.finish_kept, Quiet.freeing_quiet, RogueDevice.finish_rogue}
 use Rattle.vb_guest.proofs.Standing.{none_loose, freed_loose, lost_by, steps_freed}
 use Rattle.vb_guest.proofs.device.finish.Goals as goal
 
 pub finish-answer-requires : goal.finish-answer-requires
-finish-answer-requires g c =
-    let (d, (keeps, guest, stands, held)) = c.requires in
-    record {
-      backed = has_ring keeps _ _ d guest c.args.queue stands;
-      none = none_loose keeps _ _ d guest stands;
-    }
+finish-answer-requires g c = let (d, (keeps, guest, stands, held)) = c.requires in record {
+  backed = has_ring keeps _ _ d guest c.args.queue stands;
+  none = none_loose keeps _ _ d guest stands;
+}
 
 pub return_loose-requires : goal.return_loose-requires
 return_loose-requires g c =
@@ -32,8 +29,7 @@ returns-clause-step g c = λ d keeps guest stands.
     let same = finish_kept _ _ _ _ _ _ _ did in
     let back = c.return_loose.ensures in
     steps_freed keeps _ _ _ (g.D.GuestBytes.part c.finish-answer.new.self) _ d guest _ _ _ _ _
-    stands same.flag same.numbers
-    (λ honest. freed_as _ _ _ _ d guest _ _ back.mem back.part
+    stands same.flag same.numbers (λ honest. freed_as _ _ _ _ d guest _ _ back.mem back.part
     (finish_step _ _ _ _ d guest _ _ _ did honest))
     (λ rogue. freed_rogue _ _ _ _ d guest _ _ back.mem back.part
     (finish_rogue _ _ _ _ d guest _ _ _ did rogue)) back.moves

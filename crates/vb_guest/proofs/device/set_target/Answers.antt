@@ -12,13 +12,11 @@ returns g c =
     let flag = ap (λ (p : Part). p.keeps) part in
     let numbers = ap (λ (p : Part). p.own) part in
     record {
-      aims = λ keeps d guest stands.
-          stands_with keeps _ _ _ _ d d guest _ stands flag numbers refl
+      aims = λ keeps d guest stands. stands_with keeps _ _ _ _ d d guest _ stands flag numbers refl
           (by_guest keeps _ _ d guest stands
           (λ honest. honest_is _ _ d _ (target_stands _ _ _ _ d guest _ memory part honest))
           (λ rogue. rogue_is _ _ d _ (rogue_changed _ _ _ _ d guest _ _ memory part rogue)));
-      step = λ d keeps guest stands.
-          alone_stands keeps _ _ _ _ d d guest _ _ stands flag numbers
+      step = λ d keeps guest stands. alone_stands keeps _ _ _ _ d d guest _ _ stands flag numbers
           (λ honest. target_step _ _ _ _ d guest _ memory part honest)
           (λ rogue. target_rogue _ _ _ _ d guest _ memory part rogue);
       part = part;

@@ -1,7 +1,6 @@
 use Rattle.std.proofs.Common.{◌∙◌, sym}
-use Rattle.vb_guest.{proofs.SweepStep.sweep_step, proofs.RogueDevice.sweep_rogue}
-use Rattle.vb_guest.{proofs.Freed.{freed_as, freed_rogue}, proofs.Kept.sweep_kept}
-use Rattle.vb_guest.proofs.Quiet.{freeing_quiet}
+use Rattle.vb_guest.proofs.{SweepStep.sweep_step, RogueDevice.sweep_rogue, Freed.freed_as}
+use Rattle.vb_guest.proofs.{Freed.freed_rogue, Kept.sweep_kept, Quiet.freeing_quiet}
 use Rattle.vb_guest.proofs.Standing.{none_loose, freed_loose, lost_by, steps_freed}
 use Rattle.vb_guest.proofs.device.sweep.Goals as goal
 
@@ -29,8 +28,7 @@ returns-clause-step g c = λ d keeps guest stands.
     let same = sweep_kept _ _ _ _ _ _ did in
     let back = c.return_loose.ensures in
     steps_freed keeps _ _ _ (g.D.GuestBytes.part c.sweep-answer.new.self) _ d guest _ _ _ _ _
-    stands same.flag same.numbers
-    (λ honest. freed_as _ _ _ _ d guest _ _ back.mem back.part
+    stands same.flag same.numbers (λ honest. freed_as _ _ _ _ d guest _ _ back.mem back.part
     (sweep_step _ _ _ _ d guest _ _ did honest))
     (λ rogue. freed_rogue _ _ _ _ d guest _ _ back.mem back.part
     (sweep_rogue _ _ _ _ d guest _ _ did rogue)) back.moves

@@ -28,8 +28,7 @@ returns-clause-step g c = λ d keeps guest stands.
     let same = work_kept _ _ _ _ _ did in
     let back = c.return_loose.ensures in
     steps_freed keeps _ _ _ (g.D.GuestBytes.part c.work-answer.new.self) _ d guest _ _ _ _ _
-    stands same.flag same.numbers
-    (λ honest. freed_as _ _ _ _ d guest _ _ back.mem back.part
+    stands same.flag same.numbers (λ honest. freed_as _ _ _ _ d guest _ _ back.mem back.part
     (work_step _ _ _ _ d guest _ did honest))
     (λ rogue. freed_rogue _ _ _ _ d guest _ _ back.mem back.part
     (work_rogue _ _ _ _ d guest _ did rogue)) back.moves

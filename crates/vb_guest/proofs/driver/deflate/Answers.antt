@@ -1,14 +1,12 @@
-use Rattle.vb_guest.{proofs.DeflateStep.deflate_step, proofs.Asked.{is_large, is_backed}}
-use Rattle.vb_guest.{proofs.Kept.deflate_kept, proofs.RogueDriver.deflate_rogue}
-use Rattle.vb_guest.proofs.Standing.{alone_stands}
+use Rattle.vb_guest.proofs.{DeflateStep.deflate_step, Asked.{is_large, is_backed}}
+use Rattle.vb_guest.proofs.{Kept.deflate_kept, RogueDriver.deflate_rogue, Standing.alone_stands}
 use Rattle.vb_guest.proofs.driver.deflate.Goals as goal
 
 pub deflate-requires : goal.deflate-requires
-deflate-requires g c = let (keeps, guest, stands) = c.requires in
-    record {
-      memory = is_large keeps _ _ _ guest stands;
-      backed = is_backed keeps _ _ _ guest stands;
-    }
+deflate-requires g c = let (keeps, guest, stands) = c.requires in record {
+  memory = is_large keeps _ _ _ guest stands;
+  backed = is_backed keeps _ _ _ guest stands;
+}
 
 pub returns-clause-step : goal.returns-clause-step
 returns-clause-step g c = λ keeps guest stands.

@@ -1,14 +1,12 @@
-use Rattle.vb_guest.{proofs.InflateStep.inflate_step, proofs.Asked.{is_large, is_backed}}
-use Rattle.vb_guest.{proofs.Kept.inflate_kept, proofs.RogueDriver.inflate_rogue}
-use Rattle.vb_guest.proofs.Standing.{alone_stands}
+use Rattle.vb_guest.proofs.{InflateStep.inflate_step, Asked.{is_large, is_backed}}
+use Rattle.vb_guest.proofs.{Kept.inflate_kept, RogueDriver.inflate_rogue, Standing.alone_stands}
 use Rattle.vb_guest.proofs.driver.inflate.Goals as goal
 
 pub inflate-requires : goal.inflate-requires
-inflate-requires g c = let (keeps, guest, stands) = c.requires in
-    record {
-      memory = is_large keeps _ _ _ guest stands;
-      backed = is_backed keeps _ _ _ guest stands;
-    }
+inflate-requires g c = let (keeps, guest, stands) = c.requires in record {
+  memory = is_large keeps _ _ _ guest stands;
+  backed = is_backed keeps _ _ _ guest stands;
+}
 
 pub returns-clause-step : goal.returns-clause-step
 returns-clause-step g c = λ keeps guest stands.

@@ -3,8 +3,7 @@ use Rattle.vb_guest.{proofs.RogueDriver.reap_rogue, proofs.Standing.alone_stands
 use Rattle.vb_guest.proofs.driver.reap.Goals as goal
 
 pub reap-requires : goal.reap-requires
-reap-requires g c = let (keeps, guest, stands) = c.requires in
-    is_large keeps _ _ _ guest stands
+reap-requires g c = let (keeps, guest, stands) = c.requires in is_large keeps _ _ _ guest stands
 
 pub returns-clause-step : goal.returns-clause-step
 returns-clause-step g c = λ keeps guest stands.

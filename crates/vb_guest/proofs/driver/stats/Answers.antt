@@ -1,14 +1,12 @@
-use Rattle.vb_guest.{proofs.StatsStep.stats_step, proofs.Asked.{is_large, is_backed}}
-use Rattle.vb_guest.{proofs.Kept.stats_kept, proofs.RogueDriver.stats_rogue}
-use Rattle.vb_guest.proofs.Standing.{alone_stands}
+use Rattle.vb_guest.proofs.{StatsStep.stats_step, Asked.{is_large, is_backed}, Kept.stats_kept}
+use Rattle.vb_guest.proofs.{RogueDriver.stats_rogue, Standing.alone_stands}
 use Rattle.vb_guest.proofs.driver.stats.Goals as goal
 
 pub stats-requires : goal.stats-requires
-stats-requires g c = let (keeps, guest, stands) = c.requires in
-    record {
-      memory = is_large keeps _ _ _ guest stands;
-      backed = is_backed keeps _ _ _ guest stands;
-    }
+stats-requires g c = let (keeps, guest, stands) = c.requires in record {
+  memory = is_large keeps _ _ _ guest stands;
+  backed = is_backed keeps _ _ _ guest stands;
+}
 
 pub returns-clause-step : goal.returns-clause-step
 returns-clause-step g c = λ keeps guest stands.

@@ -8,6 +8,5 @@ return_frame-requires-clause-used g c =
     let given = c.in-Some.ensures.frame in
     let out = g.K.FrameKeeper.out c.loop-frame.keeper in
     ap (λ (p : Part). is_used (supply_of p out) c.in-Some.frame.number) given.2
-    ∙ loose_is_used c.in-Some.frame.number
-    (g.D.GuestBytes.part c.loop-frame.device).loose
+    ∙ loose_is_used c.in-Some.frame.number (g.D.GuestBytes.part c.loop-frame.device).loose
     (g.D.GuestBytes.part c.hand_back.new.self).loose _ given.0 c.loop-frame.invariant.loose

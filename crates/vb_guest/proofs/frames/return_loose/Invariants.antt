@@ -6,13 +6,11 @@ use Rattle.vb_guest.proofs.frames.return_loose.Given as goal
 abbrev pub invariant-loop-frame : goal.invariant-loop-frame
 invariant-loop-frame g l = record {
   mem : g.D.GuestBytes.mem l.device ≡ g.D.GuestBytes.mem l.fn.device;
-  part : g.D.GuestBytes.part l.device
-      ≡ record (g.D.GuestBytes.part l.fn.device) {
-        loose = (g.D.GuestBytes.part l.device).loose;
-        own = (g.D.GuestBytes.part l.device).own;
-      };
-  moves : Moves
-      (supply_of (g.D.GuestBytes.part l.fn.device) (g.K.FrameKeeper.out l.fn.keeper))
+  part : g.D.GuestBytes.part l.device ≡ record (g.D.GuestBytes.part l.fn.device) {
+    loose = (g.D.GuestBytes.part l.device).loose;
+    own = (g.D.GuestBytes.part l.device).own;
+  };
+  moves : Moves (supply_of (g.D.GuestBytes.part l.fn.device) (g.K.FrameKeeper.out l.fn.keeper))
       (supply_of (g.D.GuestBytes.part l.device) (g.K.FrameKeeper.out l.keeper))
       (λ n. times n (g.D.GuestBytes.part l.device).loose)
       (λ n. times n (g.D.GuestBytes.part l.fn.device).loose);

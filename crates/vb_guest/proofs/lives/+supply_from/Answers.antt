@@ -4,9 +4,8 @@ use Rattle.vb_model.{specs.Layout.reserved_pages, specs.declared.calls.Claim.The
 use Rattle.vb_ram.specs.Pages.{Pages}
 use Rattle.vb_guest.proofs.Claiming.{bare_skips, bare_takes, err_is, still_inside, still_bare}
 use Rattle.vb_guest.proofs.Claiming.{still_used, supplies_none, supplies_rest, supplies_refused}
-use Rattle.vb_guest.{specs.Lives.{is_bare, bare_from, SuppliesBy}, specs.Supply.supply_of}
-use Rattle.vb_guest.proofs.Claiming.{supplies_all, supplies_back}
-use Rattle.vb_guest.proofs.Quiet.{noted_one, noted_more}
+use Rattle.vb_guest.proofs.{Claiming.{supplies_all, supplies_back}, Quiet.{noted_one, noted_more}}
+use Rattle.vb_guest.specs.{Lives.{is_bare, bare_from, SuppliesBy}, Supply.supply_of}
 use Rattle.vb_guest.proofs.lives.+supply_from.Goals as goal
 
 pub returns-then-page-reserved_pages-clause-supplies :
@@ -21,20 +20,15 @@ supply_from-requires g t c κs within =
     let mem : Pages = g.D.GuestBytes.mem c.args.device.now in
     let lt : c.args.page < reserved_pages size =
     omega (arith, c.if-page-reserved_pages.false, c.reserved_pages.ensures) in
-    let skips = bare_skips size mem c.args.page lt (sym c.is_bare.ensures ∙ c.if-not-is_bare.true) in
+    let skips =
+    bare_skips size mem c.args.page lt (sym c.is_bare.ensures ∙ c.if-not-is_bare.true) in
     let same = ap (λ (l : List ℕ). length l) skips in (
       search rules,
       (
         search rules,
         (
           search rules,
-          (
-            c.requires.none,
-            (
-              c.requires.memory,
-              omega (arith, c.requires.room, same),
-            ),
-          ),
+          (c.requires.none, (c.requires.memory, omega (arith, c.requires.room, same))),
         ),
       ),
     )
@@ -110,9 +104,8 @@ supply-requires-clause-inside g t c =
     c.in_ok-frame.ensures.mem c.in-Ok.ensures.supplies
 
 pub supply-requires-clause-bare : goal.supply-requires-clause-bare
-supply-requires-clause-bare g t c =
-    still_bare g.K.FrameKeeper.answers c.args.shape.queue_size _ _ _ _ _ _ _ c.args.page
-    (sym c.is_bare.ensures ∙ c.if-not-is_bare.false) c.in_ok-frame.ensures.mem
+supply-requires-clause-bare g t c = still_bare g.K.FrameKeeper.answers c.args.shape.queue_size _ _
+    _ _ _ _ _ c.args.page (sym c.is_bare.ensures ∙ c.if-not-is_bare.false) c.in_ok-frame.ensures.mem
     c.in-Ok.ensures.supplies
 
 pub returns-in-Ok-clause-supplies : goal.returns-in-Ok-clause-supplies
@@ -129,9 +122,8 @@ returns-in-Ok-clause-supplies g t c =
     c.in-Ok.ensures.supplies bare c.supply.ensures.supplied)
 
 pub return_frame-requires-clause-used : goal.return_frame-requires-clause-used
-return_frame-requires-clause-used g t c =
-    still_used g.K.FrameKeeper.answers _ _ _ _ _ _ _ _ _ c.in-Err.refused
-    c.in_ok-frame.ensures.claimed c.in-Err.ensures.supplies
+return_frame-requires-clause-used g t c = still_used g.K.FrameKeeper.answers
+    _ _ _ _ _ _ _ _ _ c.in-Err.refused c.in_ok-frame.ensures.claimed c.in-Err.ensures.supplies
 
 pub returns-in-Err-clause-supplies : goal.returns-in-Err-clause-supplies
 returns-in-Err-clause-supplies g t c =

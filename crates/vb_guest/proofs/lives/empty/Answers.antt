@@ -9,8 +9,7 @@ take_all_back-requires-clause-out g c =
     all_loose keeps _ _ d guest _ stands held
 
 pub returns-clause-bare : goal.returns-clause-bare
-returns-clause-bare g c =
-    is_bare _ _ _ c.take_all_back.ensures.mem
+returns-clause-bare g c = is_bare _ _ _ c.take_all_back.ensures.mem
     (ap (λ (p : Part). p.loose) c.take_all_back.ensures.part)
 
 pub returns-clause-returned : goal.returns-clause-returned

@@ -2,10 +2,9 @@ use Rattle.std.proofs.Common.{◌≡◌, ◌∙◌, List, length, arith, sym, ap
 use Rattle.vb_frames.specs.declared.keeper.Refused.TheVariants.{NoFrame, Memory}
 use Rattle.vb_model.specs.declared.calls.Claim.{Claim}
 use Rattle.vb_guest.proofs.InitStep.{init_up, known_answer, init_unsupplied, still_large}
-use Rattle.vb_guest.proofs.RogueLives.{init_up_rogue, init_unsupplied_rogue, init_supplied_rogue}
 use Rattle.vb_guest.proofs.InitStep.{init_supplied, first_noted, by_size, few_bare}
-use Rattle.vb_guest.{proofs.Exactly.begins, proofs.Asked.is_large}
-use Rattle.vb_guest.proofs.RogueLives.{still_large_rogue}
+use Rattle.vb_guest.proofs.RogueLives.{init_up_rogue, init_unsupplied_rogue, init_supplied_rogue}
+use Rattle.vb_guest.proofs.{RogueLives.still_large_rogue, Exactly.begins, Asked.is_large}
 use Rattle.vb_guest.proofs.Standing.{by_guest, alone_stands, over_stands, steps_quiet}
 use Rattle.vb_model.specs.declared.replies.Refusal.TheVariants.{NoFrame as NoFrameLeft, NoMemory}
 use Rattle.vb_guest.proofs.lives.init.Goals as goal
@@ -17,8 +16,7 @@ returns-then-bits-ne0 g c = record {
     new = λ e. absurd (c.if-bits-ne0.true (c.bits.ensures tt ∙ c.status.ensures ∙ e));
   };
   step = λ keeps guest stands.
-      rw (c.clear.ensures)
-      (steps_quiet keeps _ _ _ _ _ _ guest g.K.FrameKeeper.answers _ _ _ stands
+      rw (c.clear.ensures) (steps_quiet keeps _ _ _ _ _ _ guest g.K.FrameKeeper.answers _ _ _ stands
       (alone_stands keeps _ _ _ _ _ _ guest _ _ stands refl refl
       (λ honest. init_up _ _ _ guest c.args.wanted
       (λ e. c.if-bits-ne0.true (c.bits.ensures tt ∙ c.status.ensures ∙ e)) honest)
@@ -29,16 +27,15 @@ returns-then-bits-ne0 g c = record {
 }
 
 pub supply_from-requires : goal.supply_from-requires
-supply_from-requires g c = let (keeps, guest, stands) = c.requires in
-    record {
-      none = λ e. stands.own.none (sym stands.own.flag ∙ e);
-      memory = is_large keeps _ _ _ guest stands;
-      room = omega (
-        arith,
-        ap (λ (l : List Claim). length l) c.clear.ensures,
-        few_bare c.shape.result.queue_size (g.D.GuestBytes.mem c.args.device.now),
-      );
-    }
+supply_from-requires g c = let (keeps, guest, stands) = c.requires in record {
+  none = λ e. stands.own.none (sym stands.own.flag ∙ e);
+  memory = is_large keeps _ _ _ guest stands;
+  room = omega (
+    arith,
+    ap (λ (l : List Claim). length l) c.clear.ensures,
+    few_bare c.shape.result.queue_size (g.D.GuestBytes.mem c.args.device.now),
+  );
+}
 
 pub init-requires : goal.init-requires
 init-requires g c = let (keeps, guest, stands) = c.requires in

@@ -9,8 +9,7 @@ use Rattle.vb_guest.proofs.lives.take_all_back.Goals as goal
 
 pub return_loose-requires-clause-loose : goal.return_loose-requires-clause-loose
 return_loose-requires-clause-loose g c n =
-    let out : List Bool = g.K.FrameKeeper.out c.args.keeper.now in
-    omega (
+    let out : List Bool = g.K.FrameKeeper.out c.args.keeper.now in omega (
       arith,
       c.detach.ensures.loose n,
       c.requires.out n,
@@ -35,5 +34,4 @@ returns-clause-quiet g c = λ kept.
     let mem : Pages = g.D.GuestBytes.mem c.args.device.now in
     let none = none_behind mem (range_with_len 0 (length mem))
     (none_had mem _ _ (c.return_loose.ensures.mem ∙ c.detach.ensures.memory) kept) in
-    c.return_loose.ensures.quiet (no_frames _
-    (λ n. c.detach.ensures.loose n ∙ ap (times n) none))
+    c.return_loose.ensures.quiet (no_frames _ (λ n. c.detach.ensures.loose n ∙ ap (times n) none))

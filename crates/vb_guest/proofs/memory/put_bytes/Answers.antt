@@ -19,8 +19,7 @@ returns-in-Ok g c =
           (alone_stands keeps _ _ _ _ d d guest _ _ stands same.flag same.numbers
           (λ honest. write_backed _ _ _ _ d guest _ _ _ used honest did.covers
           (λ some bare. (let wrong = did.needs_frame did.covers some bare in cc)) did.bytes
-          did.part)
-          (λ rogue. write_done_rogue _ _ _ _ d guest _ _ _
+          did.part) (λ rogue. write_done_rogue _ _ _ _ d guest _ _ _
           (λ some bare. (let wrong = did.needs_frame did.covers some bare in cc)) did.bytes did.part
           rogue)));
       scribbles = λ d keeps guest stands. rw (c.requires.none, ← c.as_slice.ensures)

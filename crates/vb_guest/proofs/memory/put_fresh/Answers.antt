@@ -1,6 +1,5 @@
 use Rattle.std.proofs.Common.{◌∙◌, List, length, arith, ap, refl, Ok, Err}
-use Rattle.vb_model.specs.declared.calls.Claim.{Claim}
-use Rattle.vb_model.specs.declared.calls.Claim.TheVariants.{GaveNoFrame, GaveNoMemory}
+use Rattle.vb_model.specs.declared.calls.Claim.{Claim, TheVariants.{GaveNoFrame, GaveNoMemory}}
 use Rattle.vb_guest.{proofs.Claimed.{claim_answered, noted_alone}, proofs.Exactly.fills_given}
 use Rattle.vb_guest.proofs.memory.put_fresh.Goals as goal
 
@@ -40,13 +39,10 @@ returns-in-Err-Memory g c =
     }
 
 pub returns : goal.returns
-returns g c =
-    let did = c.claim_frame.ensures in
-    record {
-      exact = fills_given g.K.FrameKeeper.answers _ _ _ _ _ _ _ _ _ _ _ _ _ _ _ (Ok tt) refl
-          (claim_answered g.K.FrameKeeper.answers _ _ _ _ c.in-Ok.is did.claimed)
-          (noted_alone _ _ _ _ c.in-Ok.is c.requires.none did.noted) did.mem
-          c.supply.ensures.supplied c.overwrite.ensures.wrote did.part c.supply.ensures.part
-          c.overwrite.ensures.part;
-      unasked = did.unasked;
-    }
+returns g c = let did = c.claim_frame.ensures in record {
+  exact = fills_given g.K.FrameKeeper.answers _ _ _ _ _ _ _ _ _ _ _ _ _ _ _ (Ok tt) refl
+      (claim_answered g.K.FrameKeeper.answers _ _ _ _ c.in-Ok.is did.claimed)
+      (noted_alone _ _ _ _ c.in-Ok.is c.requires.none did.noted) did.mem c.supply.ensures.supplied
+      c.overwrite.ensures.wrote did.part c.supply.ensures.part c.overwrite.ensures.part;
+  unasked = did.unasked;
+}

@@ -10,8 +10,7 @@ returns-then-not-held g c = record {
     outside = λ used. (let unused = sym c.if-not-held.ensures in cc);
     bytes = λ used. (let unused = sym c.if-not-held.ensures in cc);
   };
-  step = λ keeps guest stands.
-      alone_stands keeps _ _ _ _ _ _ guest _ _ stands refl refl
+  step = λ keeps guest stands. alone_stands keeps _ _ _ _ _ _ guest _ _ stands refl refl
       (λ honest. read_not_held _ _ _ guest _ _ _ (sym c.if-not-held.ensures) honest)
       (λ rogue. read_rogue _ _ _ guest _ _ _ _ (λ e. cc) refl rogue);
 }
@@ -23,8 +22,7 @@ returns-then-not-covers g c = record {
     outside = λ _ _. refl;
     bytes = λ _ inside. absurd (c.if-not-covers.ensures.outside refl inside);
   };
-  step = λ keeps guest stands.
-      alone_stands keeps _ _ _ _ _ _ guest _ _ stands refl refl
+  step = λ keeps guest stands. alone_stands keeps _ _ _ _ _ _ guest _ _ stands refl refl
       (λ honest. read_outside _ _ _ guest _ _ _ (sym c.if-not-held.ensures) honest
       (c.if-not-covers.ensures.outside refl))
       (λ rogue. read_rogue _ _ _ guest _ _ _ _ (λ e. cc) refl rogue);
@@ -40,8 +38,7 @@ returns-in-Ok g c = record {
     outside = λ _ past. absurd (past (c.if-not-covers.ensures.inside refl));
     bytes = λ _ _. inl (ap Ok c.in-Ok.ensures);
   };
-  step = λ keeps guest stands.
-      alone_stands keeps _ _ _ _ _ _ guest _ _ stands refl refl
+  step = λ keeps guest stands. alone_stands keeps _ _ _ _ _ _ guest _ _ stands refl refl
       (λ honest. read_done _ _ _ guest _ _ _ _ (sym c.if-not-held.ensures) honest
       (c.if-not-covers.ensures.inside refl) c.in-Ok.ensures)
       (λ rogue. read_rogue _ _ _ guest _ _ _ _ (λ e. cc) refl rogue);
@@ -54,8 +51,7 @@ returns-in-Err g c = record {
     outside = λ _ past. absurd (past (c.if-not-covers.ensures.inside refl));
     bytes = λ _ _. inr refl;
   };
-  step = λ keeps guest stands.
-      alone_stands keeps _ _ _ _ _ _ guest _ _ stands refl refl
+  step = λ keeps guest stands. alone_stands keeps _ _ _ _ _ _ guest _ _ stands refl refl
       (λ honest. read_no_memory _ _ _ guest _ _ _ (sym c.if-not-held.ensures) honest
       (c.if-not-covers.ensures.inside refl))
       (λ rogue. read_rogue _ _ _ guest _ _ _ _ (λ e. cc) refl rogue);

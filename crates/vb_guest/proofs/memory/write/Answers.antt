@@ -17,8 +17,7 @@ returns-then-not-held g c = record {
 }
 
 pub put_bytes-requires-clause-stands : goal.put_bytes-requires-clause-stands
-put_bytes-requires-clause-stands g c =
-    (_, c.requires)
+put_bytes-requires-clause-stands g c = (_, c.requires)
 
 pub returns : goal.returns
 returns g c = record {

@@ -15,12 +15,10 @@ pub returns-in-Ok : goal.returns-in-Ok
 returns-in-Ok c = λ pages is. elim c.else-count-gt0.branch [
   | else-count-gt0-via-then-count-gt0+else-from w ↦
       page_alone c.args.found.now.items _ c.args.page _ w.index.result.now pages
-      (omega (arith, w.if-count-gt0.true, c.len-count.ensures, c.args.found.now.ok))
-      w.index.ensures
+      (omega (arith, w.if-count-gt0.true, c.len-count.ensures, c.args.found.now.ok)) w.index.ensures
       (λ e. w.if-from.false (omega (arith, e, w.from.ensures, w.from-then-count-gt0.ensures)))
       c.in-Ok.ensures.items is
-  | else-count-gt0-via-else-count-gt0 w ↦
-      page_first c.args.found.now.items _ c.args.page pages
+  | else-count-gt0-via-else-count-gt0 w ↦ page_first c.args.found.now.items _ c.args.page pages
       (omega (arith, w.if-count-gt0.false, c.len-count.ensures, c.args.found.now.ok))
       c.in-Ok.ensures.items is
 ]

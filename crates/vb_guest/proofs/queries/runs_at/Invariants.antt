@@ -3,5 +3,4 @@ use Rattle.vb_model.{specs.Tests.pages_where, specs.Queries.{is_place, runs}}
 use Rattle.vb_guest.proofs.queries.runs_at.Given as goal
 
 abbrev pub invariant-loop-page : goal.invariant-loop-page
-invariant-loop-page l =
-    l.found.items ≡ runs (pages_where (is_place l.place) (take l.page l.places))
+invariant-loop-page l = l.found.items ≡ runs (pages_where (is_place l.place) (take l.page l.places))

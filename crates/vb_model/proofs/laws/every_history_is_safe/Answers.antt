@@ -1,5 +1,4 @@
-use Rattle.vb_model.proofs.Courses.{fresh_fit}
-use Rattle.vb_model.proofs.Histories.{history_is_safe, course_reads}
+use Rattle.vb_model.proofs.{Courses.fresh_fit, Histories.{history_is_safe, course_reads}}
 use Rattle.vb_model.proofs.laws.every_history_is_safe.Goals as goal
 
 pub returns : goal.returns

@@ -3,10 +3,9 @@ use Rattle.vb_pages.proofs.FreeLemmas.{AreTakenSoFar, taken_one, taken_all}
 use Rattle.vb_pages.proofs.free.take_singles.Goals as goal
 
 pub unreachable-requires : goal.unreachable-requires
-unreachable-requires c =
-    taken_all c.args.areas.now c.loop-count.areas c.loop-count._count c.args.count
-    c.loop-count.out.items c.loop-count.invariant c.in-None.ensures.0 c.loop-count-test.true
-    c.requires.enough
+unreachable-requires c = taken_all
+    c.args.areas.now c.loop-count.areas c.loop-count._count c.args.count c.loop-count.out.items
+    c.loop-count.invariant c.in-None.ensures.0 c.loop-count-test.true c.requires.enough
 
 pub loop-count-preserved : goal.loop-count-preserved
 loop-count-preserved c =

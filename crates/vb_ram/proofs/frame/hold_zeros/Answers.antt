@@ -8,7 +8,6 @@ returns-clause-shown c =
     let held = c.args.held.now.items in
     let more = c.min.result - vec_len c.args.held.now in
     ap shown c.in-Ok.ensures.items
-    ∙ ap (λ (front : List ℕ). shown (front ++ replicate more 0))
-    (take_all c.min.result held
+    ∙ ap (λ (front : List ℕ). shown (front ++ replicate more 0)) (take_all c.min.result held
     (omega (arith, c.requires.more, c.requires.holds.few, c.min.ensures)))
     ∙ shown-more held more (omega (arith, c.requires.more, c.requires.holds.few, c.min.ensures))

@@ -10,6 +10,5 @@ returns-clause-read c k =
     let zeros : List ℕ = replicate (length c.args.out.now) 0 in
     ap (λ (front : List ℕ). slice_index (front ++ rest) k) c.copy_from_slice.ensures.after
     ∙ ap (λ (all : List ℕ). slice_index (held ++ drop (length held) all) k)
-    (c.fill.ensures.after (λ y e. e))
-    ∙ zeros_behind held (drop (length held) zeros)
+    (c.fill.ensures.after (λ y e. e)) ∙ zeros_behind held (drop (length held) zeros)
     (zeros_left (length held) (length c.args.out.now)) k

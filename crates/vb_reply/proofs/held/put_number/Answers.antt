@@ -2,5 +2,4 @@ use Rattle.std.proofs.lemmas.Fmt.{decimal_digit}
 use Rattle.vb_reply.proofs.held.put_number.Goals as goal
 
 pub returns-then-number-lt10 : goal.returns-then-number-lt10
-returns-then-number-lt10 g c =
-    rw (decimal_digit c.args.number c.if-number-lt10.true) c.put.ensures
+returns-then-number-lt10 g c = rw (decimal_digit c.args.number c.if-number-lt10.true) c.put.ensures

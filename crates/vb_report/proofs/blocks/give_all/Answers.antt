@@ -1,7 +1,5 @@
-use Rattle.std.proofs.Common.{◌+◌, drop, get_or, ap, ◌∙◌, refl, arith}
-use Rattle.std.proofs.lemmas.List.{drop_all}
-use Rattle.vb_pages.specs.declared.block.FreeBlock.{FreeBlock}
-use Rattle.vb_pages.specs.PageState.{PageState, is_free_page}
+use Rattle.std.proofs.{Common.{◌+◌, drop, get_or, ap, ◌∙◌, refl, arith}, lemmas.List.drop_all}
+use Rattle.vb_pages.specs.{declared.block.FreeBlock.FreeBlock, PageState.{PageState, is_free_page}}
 use Rattle.vb_report.proofs.Giving.{split_at, giving_first, giving_next, giving_done}
 use Rattle.vb_report.proofs.Giving.{free_with_blocks}
 use Rattle.vb_report.proofs.blocks.give_all.Goals as goal

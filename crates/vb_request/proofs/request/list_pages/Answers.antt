@@ -36,9 +36,8 @@ loop-k-preserved c =
           c.number_at-number.result lt at c.loop-k.invariant.sound right;
       few = omega (
         arith,
-        once_few c.loop-k.pages.items c.add_once.new.pages.items
-            c.number_at-number.result (is_in c.number_at-number.result c.loop-k.pages.items)
-            c.add_once.ensures,
+        once_few c.loop-k.pages.items c.add_once.new.pages.items c.number_at-number.result
+            (is_in c.number_at-number.result c.loop-k.pages.items) c.add_once.ensures,
         c.loop-k.invariant.few,
       );
     }

@@ -16,9 +16,8 @@ as_listed mem pieces reserved count len bytes right all read =
     ∙ ap (λ (bs : List ℕ). pages_of_numbers reserved count (numbers_of bs)) (sym read))
 
 pub returns-in-Err-clause-fault : goal.returns-in-Err-clause-fault
-returns-in-Err-clause-fault g c =
-    refused_request (g.G.GuestBytes.mem c.args.ram.now) c.args.pieces.now c.args.reserved
-    c.in-Err.fault (sym c.in-Err.ensures)
+returns-in-Err-clause-fault g c = refused_request (g.G.GuestBytes.mem c.args.ram.now)
+    c.args.pieces.now c.args.reserved c.in-Err.fault (sym c.in-Err.ensures)
 
 pub returns-in-Ok-clause-pages : goal.returns-in-Ok-clause-pages
 returns-in-Ok-clause-pages g c = subst (λ (v : Result (List ℕ) ChainFault). OnOk c.list_pages.result

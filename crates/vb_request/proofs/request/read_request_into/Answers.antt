@@ -12,6 +12,5 @@ all_above (Ok done) mem pieces reserved pages is = (request_pages mem pieces res
 all_above (Err fault) mem pieces reserved pages is = is
 
 pub returns-clause-above : goal.returns-clause-above
-returns-clause-above g c =
-    all_above c.list_request.result (g.G.GuestBytes.mem c.args.ram.now) c.args.pieces.now
-    c.args.reserved c.list_request.new.self c.list_request.ensures.pages
+returns-clause-above g c = all_above c.list_request.result (g.G.GuestBytes.mem c.args.ram.now)
+    c.args.pieces.now c.args.reserved c.list_request.new.self c.list_request.ensures.pages

@@ -9,8 +9,7 @@ loop-round-preserved c =
 
 pub returns : goal.returns
 returns c = (
-  λ t.
-      all_whole (IsRound c.args.plan.now) c.args.rounds.now c.loop-round.round-index
+  λ t. all_whole (IsRound c.args.plan.now) c.args.rounds.now c.loop-round.round-index
       (search rules) c.loop-round.invariant,
   λ all. refl,
 )

@@ -8,9 +8,8 @@ returns-then-need-guests c = (
   λ same.
       let alike : c.need.inside.pages
       ≡ (get_or c.args.guests.now c.loop-place.place c.index-guests-place.result).config.pages =
-      ap (λ n. n.pages) (c.need.view_is ∙ c.index-needs-place.is)
-      ∙ mapped_alike (λ n. n.pages) (λ g. g.config.pages) c.args.needs.now c.args.guests.now
-      c.loop-place.place c.index-needs-place.result c.index-guests-place.result (search rules)
-      (search rules) same in
+      ap (λ n. n.pages) (c.need.view_is ∙ c.index-needs-place.is) ∙ mapped_alike
+      (λ n. n.pages) (λ g. g.config.pages) c.args.needs.now c.args.guests.now c.loop-place.place
+      c.index-needs-place.result c.index-guests-place.result (search rules) (search rules) same in
       absurd (c.if-need-guests.true alike),
 )

@@ -10,8 +10,7 @@ returns-then-not-is_at c = (
   λ both.
       let at : slice_get c.args.history.now c.loop-entry.entry-index ≡ Some c.entry-item.result =
       slice_get-get_or c.args.history.now c.loop-entry.entry-index c.entry-item.result
-      (search rules)
-      ∙ ap Some (search rules) in
+      (search rules) ∙ ap Some (search rules) in
       let own : is_same Balancer (actor_of c.entry-item.result) ≡ true = search rules in
       absurd (not_made c.args.history.now c.args.expected.now c.loop-entry.entry-index
       c.loop-entry.place c.entry-item.result at own c.loop-entry.invariant.made

@@ -7,9 +7,8 @@ pub loop-guest-preserved : goal.loop-guest-preserved
 loop-guest-preserved g c =
     let made : c.push.new.self.items ≡ c.loop-guest.reports.items ++ c.in_ok-report.report ∷ [] =
     search rules in
-    let head : drop c.loop-guest.guest c.args.seats.items
-    ≡ c.in-Some.seat ∷ c.next.new.self.rest.items =
-    sym c.loop-guest.invariant.rest ∙ (search rules) in
+    let head : drop c.loop-guest.guest c.args.seats.items ≡ c.in-Some.seat
+    ∷ c.next.new.self.rest.items = sym c.loop-guest.invariant.rest ∙ (search rules) in
     let left = drop_head c.args.seats.items c.loop-guest.guest c.in-Some.seat
     c.next.new.self.rest.items head in
     let number : c.in-Ok.number ≡ c.loop-guest.guest = search rules in

@@ -3,9 +3,8 @@ use Rattle.vb_run.proofs.Closing.{reported}
 use Rattle.vb_run.proofs.run.run_plan.Goals as goal
 
 pub returns : goal.returns
-returns g c =
-    reported (λ s. s.paced) g.P.GuestPort.pace c.args.plan.now _ _ c.args.ports.items _ _ _
-    (search rules) (search rules) (search rules) c.in_ok-guests.ensures.len c.requires.count
+returns g c = reported (λ s. s.paced) g.P.GuestPort.pace c.args.plan.now _ _ c.args.ports.items
+    _ _ _ (search rules) (search rules) (search rules) c.in_ok-guests.ensures.len c.requires.count
     c.in_ok-seats.ensures c.in_ok-guests.ensures.each
-    (rw (sym c.as_slice-6.ensures.value) (c.in_ok-are_apart.ensures.0 (search rules))) (search rules)
-    (c.are_rounds.ensures.0 (search rules))
+    (rw (sym c.as_slice-6.ensures.value) (c.in_ok-are_apart.ensures.0 (search rules)))
+    (search rules) (c.are_rounds.ensures.0 (search rules))

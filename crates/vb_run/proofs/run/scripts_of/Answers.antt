@@ -12,8 +12,7 @@ loop-own-preserved c =
     let own : IsScript (length c.loop-own.scripts.items) c.own-item.result.items =
     rw c.loop-own.invariant.made
     (script_at c.args.calls.now c.loop-own.own-index c.own-item.result c.requires at) in
-    let made : c.push.new.self.items
-    ≡ c.loop-own.scripts.items
+    let made : c.push.new.self.items ≡ c.loop-own.scripts.items
     ++ record { calls = c.own-item.result.items; place = 0 } ∷ [] = search rules in
     record {
       made = search rules;
@@ -29,7 +28,4 @@ loop-own-preserved c =
     }
 
 pub returns-clause-calls : goal.returns-clause-calls
-returns-clause-calls c = (
-  c.loop-own.invariant.made ∙ (search rules),
-  c.loop-own.invariant.calls,
-)
+returns-clause-calls c = (c.loop-own.invariant.made ∙ (search rules), c.loop-own.invariant.calls)

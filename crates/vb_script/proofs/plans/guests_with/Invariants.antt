@@ -4,8 +4,7 @@ use Rattle.vb_script.proofs.plans.guests_with.Given as goal
 
 abbrev pub invariant-loop-index : goal.invariant-loop-index
 invariant-loop-index l = record {
-  guests : guests_with 0 l.spares l.plugs (calls_in l.lines)
-      ≡ map guest_plan l.guests.items
+  guests : guests_with 0 l.spares l.plugs (calls_in l.lines) ≡ map guest_plan l.guests.items
       ++ guests_with l.index (drop l.index l.spares) (drop l.index l.plugs) (calls_in l.lines);
   count : vec_len l.guests ≡ l.index;
 }

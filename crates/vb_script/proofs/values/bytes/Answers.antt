@@ -1,6 +1,5 @@
 use Rattle.std.proofs.Common.{◌*◌, ◌<◌, ◌≤◌, length, rules, tests, arith}
-use Rattle.vb_script.proofs.Hex.{IsByteWord-decodes}
-use Rattle.vb_script.proofs.WordLemmas.{bytes_read, bytes_out_of_range}
+use Rattle.vb_script.proofs.{Hex.IsByteWord-decodes, WordLemmas.{bytes_read, bytes_out_of_range}}
 use Rattle.vb_script.proofs.values.bytes.Goals as goal
 
 pub returns-then-is_empty-clause-none : goal.returns-then-is_empty-clause-none

@@ -1,6 +1,5 @@
 use Rattle.std.proofs.Common.{◌==◌, rules, tests, sym, ◌∙◌, arith, take}
-use Rattle.std.proofs.lemmas.Iterator.{YieldsList-from_slice}
-use Rattle.std.proofs.lemmas.Iterator.Search.{position_from_yields_List}
+use Rattle.std.proofs.lemmas.Iterator.{YieldsList-from_slice, Search.position_from_yields_List}
 use Rattle.vb_script.proofs.Cuts.{found_near}
 use Rattle.vb_script.proofs.words.first_place.Goals as goal
 

@@ -11,19 +11,15 @@ loop-tag-preserved c =
     let less : c.args.guests - tag - 1 ≡ c.args.guests - (tag + 1) = omega arith in (
       e.tables.0 ∙ i.0,
       e.opener ∙ ap (λ (n : ℕ). (view_of (new_holdings (c.loop-tag.tag + 1) n), [])) less,
-      c.in_ok-push.ensures.items
-          ∙ ap (λ (passes : List Pass).
-          passes ++ record {
-            table = c.new_place-place.result.table_id;
-            tag = c.loop-tag.tag;
-            held = held_of c.new_place-place.result.me.0;
-            found = None;
-          } ∷ []) i.2
-          ∙ (λ k. new_passes c.args.opener.table_id 0 c.loop-tag.tag ++ record {
-            table = (e.tables.1 ∙ i.0) k;
-            tag = c.loop-tag.tag;
-            held = held_of (e.pass k).0;
-            found = None;
-          } ∷ [])
-          ∙ sym (new_passes_next c.args.opener.table_id c.loop-tag.tag),
+      c.in_ok-push.ensures.items ∙ ap (λ (passes : List Pass). passes ++ record {
+        table = c.new_place-place.result.table_id;
+        tag = c.loop-tag.tag;
+        held = held_of c.new_place-place.result.me.0;
+        found = None;
+      } ∷ []) i.2 ∙ (λ k. new_passes c.args.opener.table_id 0 c.loop-tag.tag ++ record {
+        table = (e.tables.1 ∙ i.0) k;
+        tag = c.loop-tag.tag;
+        held = held_of (e.pass k).0;
+        found = None;
+      } ∷ []) ∙ sym (new_passes_next c.args.opener.table_id c.loop-tag.tag),
     )

@@ -1,7 +1,6 @@
 use Rattle.std.proofs.Common.{◌≡◌, ◌≤◌, refl, List, Bool, map, length, ap, ◌∙◌}
 use Rattle.std.proofs.lemmas.List.{take_all}
-use Rattle.vb_script.specs.declared.lines.Pace.TheVariants.{Immediate, Paced}
-use Rattle.vb_script.specs.Lines.{is_paced}
+use Rattle.vb_script.specs.{declared.lines.Pace.TheVariants.{Immediate, Paced}, Lines.is_paced}
 use Rattle.vb_sim.proofs.host.play_events.Goals.{in-Immediate+in_ok-device-in-Immediate+in_ok-add_spare-in-Immediate}
 use Rattle.vb_sim.{proofs.Paces.one_more, proofs.host.play_events.OwnLists.{own-1, at-1-1, at-1-2}}
 use Rattle.vb_sim.proofs.host.play_events.Goals.{in-Paced+in_ok-device-in-Paced+in_ok-add_spare-in-Paced}
@@ -14,8 +13,7 @@ loop-pace-preserved g c = elim c.match-pace.branch [
       let device = w.in_ok-device-in-Immediate.device.value in
       let box = w.into_dyn_box in
       let boxed : ((own-1.entry box.result.vtable).1.GuestBytes.part box.result.value).paced
-      ≡ device.part.paced
-      = read_made own-1 (own-1.entry at-1-1) at-1-1 refl Bool
+      ≡ device.part.paced = read_made own-1 (own-1.entry at-1-1) at-1-1 refl Bool
       (λ entry made. (entry.1.GuestBytes.part made).paced) box.result.vtable box.result.value device
       box.ensures.1 in
       let made : device.part.paced ≡ is_paced Immediate =
@@ -31,8 +29,7 @@ loop-pace-preserved g c = elim c.match-pace.branch [
       let device = w.in_ok-device-in-Paced.device.value in
       let box = w.into_dyn_box-in-Paced in
       let boxed : ((own-1.entry box.result.vtable).1.GuestBytes.part box.result.value).paced
-      ≡ device.part.paced
-      = read_made own-1 (own-1.entry at-1-2) at-1-2 refl Bool
+      ≡ device.part.paced = read_made own-1 (own-1.entry at-1-2) at-1-2 refl Bool
       (λ entry made. (entry.1.GuestBytes.part made).paced) box.result.vtable box.result.value device
       box.ensures.1 in
       let made : device.part.paced ≡ is_paced Paced =
@@ -40,16 +37,14 @@ loop-pace-preserved g c = elim c.match-pace.branch [
       rw w.spares-is (record {
         spares = w.add_spare-in-Paced.ensures.spares;
         paces = one_more _ c.loop-pace.spares.items w.add_spare-in-Paced.new.spares.items box.result
-            c.args.paces.now c.loop-pace.pace-index _ Paced
-            w.in_ok-add_spare-in-Paced.ensures.added c.loop-pace.invariant.paces
-            c.loop-pace-test.true w.in-Paced.is (boxed ∙ made);
+            c.args.paces.now c.loop-pace.pace-index _ Paced w.in_ok-add_spare-in-Paced.ensures.added
+            c.loop-pace.invariant.paces c.loop-pace-test.true w.in-Paced.is (boxed ∙ made);
       })
 ]
 
 pub returns-clause-ok : goal.returns-clause-ok
 returns-clause-ok g c =
     let whole : length c.args.paces.now ≤ c.loop-pace.pace-index = c.loop-pace-test.false in
-    let paces = c.loop-pace.invariant.paces
-    ∙ ap (λ (ps : List _). map is_paced ps)
+    let paces = c.loop-pace.invariant.paces ∙ ap (λ (ps : List _). map is_paced ps)
     (take_all c.loop-pace.pace-index c.args.paces.now whole) in
     rw (← paces) c.run_on.ensures.ok

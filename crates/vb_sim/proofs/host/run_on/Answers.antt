@@ -19,21 +19,17 @@ step-reply-requires g c =
     record { world = (last_world _ ran.after, ran.holds) }
 
 pub loop-event-preserved : goal.loop-event-preserved
-loop-event-preserved g c =
-    let (replies, ran, puts) = c.loop-event.invariant in
-    rw (
-      take_more c.args.events.now c.loop-event.event-index c.event-item.result
-          c.loop-event-test.true,
-      ← c.event-item.is,
-    ) (
-      replies ++ c.step-reply.result ∷ [],
-      ran_on _ (take c.loop-event.event-index c.args.events.now) replies c.event-item.result
-          c.step-reply.result ran c.step-reply.ensures,
-      lines_on (g.W.Write.contents c.args.out.now) (g.W.Write.contents c.loop-event.out)
-          (g.W.Write.contents c.put_reply.new.out) [] c.loop-event.held.text.items
-          c.put_reply.new.held.text.items replies c.step-reply.result puts
-          c.in_ok-put_reply.ensures,
-    )
+loop-event-preserved g c = let (replies, ran, puts) = c.loop-event.invariant in rw (
+  take_more c.args.events.now c.loop-event.event-index c.event-item.result c.loop-event-test.true,
+  ← c.event-item.is,
+) (
+  replies ++ c.step-reply.result ∷ [],
+  ran_on _ (take c.loop-event.event-index c.args.events.now) replies c.event-item.result
+      c.step-reply.result ran c.step-reply.ensures,
+  lines_on (g.W.Write.contents c.args.out.now) (g.W.Write.contents c.loop-event.out)
+      (g.W.Write.contents c.put_reply.new.out) [] c.loop-event.held.text.items
+      c.put_reply.new.held.text.items replies c.step-reply.result puts c.in_ok-put_reply.ensures,
+)
 
 pub returns-clause-ok : goal.returns-clause-ok
 returns-clause-ok g c =

@@ -1,13 +1,12 @@
-use Rattle.std.proofs.Common.{rules, arith, sym}
+use Rattle.std.proofs.Common.{rules, arith}
 use Rattle.vb_sim.proofs.Reporting.{one_more_script}
 use Rattle.vb_sim.proofs.lines.count_calls.Goals as goal
 
 pub overflow_add-calls : goal.overflow_add-calls
-overflow_add-calls c =
-    omega (
-      arith,
-      c.loop-script.invariant,
-      c.len.ensures,
-      one_more_script c.args.plan.now c.loop-script.script-index c.script-item.result c.requires
-          (search rules) (search rules),
-    )
+overflow_add-calls c = omega (
+  arith,
+  c.loop-script.invariant,
+  c.len.ensures,
+  one_more_script c.args.plan.now c.loop-script.script-index c.script-item.result c.requires
+      (search rules) (search rules),
+)

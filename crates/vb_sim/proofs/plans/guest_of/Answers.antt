@@ -8,6 +8,4 @@ returns-in_err-config c =
     rw c.from_residual.ensures (config_none _ _ _ c.new.ensures c.in_err-config.was)
 
 pub returns : goal.returns
-returns c =
-    let config = config_some _ _ _ _ c.new.ensures c.in_ok-config.was in
-    rw config.same refl
+returns c = let config = config_some _ _ _ _ c.new.ensures c.in_ok-config.was in rw config.same refl

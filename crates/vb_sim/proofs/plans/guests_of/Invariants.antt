@@ -4,9 +4,7 @@ use Rattle.vb_sim.specs.Plans.{part_of, planned_part}
 use Rattle.vb_sim.proofs.plans.guests_of.Given as goal
 
 abbrev pub invariant-loop-guest : goal.invariant-loop-guest
-invariant-loop-guest l =
-    (goal.iterator-loop-guest).can_next l.guest-iterator
+invariant-loop-guest l = (goal.iterator-loop-guest).can_next l.guest-iterator
     × (goal.iterator-loop-guest).is_finite l.guest-iterator
-    × (map part_of l.plans.items
-    ++ map planned_part (map guest_plan l.guest-iterator.rest.items)
+    × (map part_of l.plans.items ++ map planned_part (map guest_plan l.guest-iterator.rest.items)
     ≡ map planned_part (map guest_plan l.fn.guests.items))

@@ -11,8 +11,7 @@ loop-report-preserved c =
 
 pub returns : goal.returns
 returns c = (
-  λ t.
-      all_whole (λ (r : GuestReport). All (λ f. f < c.args.frames) r.frames.items) c.args.reports.now
-      c.loop-report.report-index (search rules) c.loop-report.invariant,
+  λ t. all_whole (λ (r : GuestReport). All (λ f. f < c.args.frames) r.frames.items)
+      c.args.reports.now c.loop-report.report-index (search rules) c.loop-report.invariant,
   λ all. refl,
 )

@@ -13,6 +13,5 @@ returns-clause-ok g c =
     (λ printed. (c.in_ok-text.ensures.few, printed)) c.play_into.ensures.ok)
 
 pub returns-clause-bad : goal.returns-clause-bad
-returns-clause-bad g c =
-    bad_of_whole (g.R.Read.remaining c.args.input) c.in_ok-text.text.items c.play_into.result
-    c.in_ok-text.ensures.ok c.in_ok-text.ensures.few c.play_into.ensures.bad
+returns-clause-bad g c = bad_of_whole (g.R.Read.remaining c.args.input) c.in_ok-text.text.items
+    c.play_into.result c.in_ok-text.ensures.ok c.in_ok-text.ensures.few c.play_into.ensures.bad

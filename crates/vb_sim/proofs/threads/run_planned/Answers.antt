@@ -1,5 +1,4 @@
-use Rattle.std.proofs.Common.{rules, ◌≡◌, Err, ◌∙◌, sym, Result, MatchResult, subst, ap, map, List}
-use Rattle.std.proofs.Common.{Bool}
+use Rattle.std.proofs.Common.{rules, ◌≡◌, Err, ◌∙◌, sym, subst, ap, map, List, Bool}
 use Rattle.vb_run.specs.Reports.{IsReport}
 use Rattle.vb_script.{specs.declared.script.ThreadsGuest.ThreadsGuest, specs.Lines.is_paced}
 use Rattle.vb_script.specs.Plans.{planned_by}
@@ -17,18 +16,14 @@ returns-in_err-report g c =
     rw passed fault
 
 pub returns : goal.returns
-returns g c =
-    let is = rw c.in-Some.is at c.in_ok-plan.ensures in
-    record {
-      runs = sym (plans_alike (planned_by c.args.script) c.args.bells c.in-Some.plan is)
-          ∙ c.in_ok-report.ensures.0;
-      plan_is = is;
-      report_is = subst (λ (paces : List Bool). IsReport c.in-Some.plan paces c.in_ok-report.report)
-          (ap (map is_paced) c.as_slice-2.ensures.value
-          ∙ ap (map is_paced) c.in_ok-paces.ensures
-          ∙ ap (λ (l : List ThreadsGuest). map is_paced (map (λ guest. guest.pace) l))
-          c.as_slice.ensures.value
-          ∙ paces_planned c.args.script.guests.items) c.in_ok-report.ensures.1;
-      within = subst (λ n. AreWithin n c.in_ok-report.report.guests.items) is.frames
-          c.in_ok-report.ensures.2;
-    }
+returns g c = let is = rw c.in-Some.is at c.in_ok-plan.ensures in record {
+  runs = sym (plans_alike (planned_by c.args.script) c.args.bells c.in-Some.plan is)
+      ∙ c.in_ok-report.ensures.0;
+  plan_is = is;
+  report_is = subst (λ (paces : List Bool). IsReport c.in-Some.plan paces c.in_ok-report.report)
+      (ap (map is_paced) c.as_slice-2.ensures.value ∙ ap (map is_paced) c.in_ok-paces.ensures
+      ∙ ap (λ (l : List ThreadsGuest). map is_paced (map (λ guest. guest.pace) l))
+      c.as_slice.ensures.value ∙ paces_planned c.args.script.guests.items) c.in_ok-report.ensures.1;
+  within = subst (λ n. AreWithin n c.in_ok-report.report.guests.items) is.frames
+      c.in_ok-report.ensures.2;
+}

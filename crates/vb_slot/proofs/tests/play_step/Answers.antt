@@ -14,9 +14,7 @@ returns-in-Read g c =
     let s = c.read.ensures.step true c.requires.0 c.requires.1 in (s.new, s.stands)
 
 pub returns-in-Do : goal.returns-in-Do
-returns-in-Do g c =
-    let s = c.call.ensures.step true c.requires.0 c.requires.1 in (s.new, s.stands)
+returns-in-Do g c = let s = c.call.ensures.step true c.requires.0 c.requires.1 in (s.new, s.stands)
 
 pub returns-in-Restart : goal.returns-in-Restart
-returns-in-Restart g c =
-    (_, (c.restart.ensures.life true c.requires.0 c.requires.1).stands)
+returns-in-Restart g c = (_, (c.restart.ensures.life true c.requires.0 c.requires.1).stands)

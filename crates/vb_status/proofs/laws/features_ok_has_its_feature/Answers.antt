@@ -3,6 +3,5 @@ use Rattle.vb_status.proofs.laws.features_ok_has_its_feature.Goals as goal
 
 pub returns : goal.returns
 returns c = record {
-  version = λ requests last leads e. requests_keep requests unplugged last leads
-      at_first e;
+  version = λ requests last leads e. requests_keep requests unplugged last leads at_first e;
 }

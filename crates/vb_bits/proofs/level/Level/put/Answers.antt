@@ -7,8 +7,7 @@ use Rattle.vb_bits.proofs.level.Level.put.Goals as goal
 -- the bit of the number, in the word that was read
 written : (words : List ℕ) (n old word : ℕ) (one : Bool) → n / 64 < length words
     → old ≡ get_or words (n / 64) 0 → has_bit word (n % 64) ≡ one
-    → ((k : ℕ) → k < 64 → k ≢ n % 64 → has_bit word k ≡ has_bit old k)
-    → IsWritten words n one word
+    → ((k : ℕ) → k < 64 → k ≢ n % 64 → has_bit word k ≡ has_bit old k) → IsWritten words n one word
 written words n old word one l e same others = record {
   within = l;
   same = same;
@@ -31,11 +30,7 @@ index_mut-requires c =
 below : (c : goal.After-self-1) → c.args.n < c.self.inside.bound
 below c =
     let words = c.self.inside.words.items in
-    omega (
-      arith,
-      c.requires,
-      bound_is c.self.inside.bound words c.args.self.now c.self.view_is,
-    )
+    omega (arith, c.requires, bound_is c.self.inside.bound words c.args.self.now c.self.view_is)
 
 -- what the write leaves
 wrote : (c : goal.After-self-1)
@@ -48,14 +43,12 @@ wrote c =
     c.with_bit-word.ensures.same c.with_bit-word.ensures.others
 
 pub invariant_of-self : goal.invariant_of-self
-invariant_of-self c =
-    put c.self.inside.bound c.self.inside.words.items c.args.n c.args.member
+invariant_of-self c = put c.self.inside.bound c.self.inside.words.items c.args.n c.args.member
     c.with_bit-word.result c.self.invariant (below c) (wrote c)
 
 pub returns-clause-put : goal.returns-clause-put
-returns-clause-put c =
-    put_flags c.self.inside.bound c.self.inside.words.items c.args.n c.args.member
-    c.with_bit-word.result c.self.invariant (below c) (wrote c)
+returns-clause-put c = put_flags c.self.inside.bound c.self.inside.words.items
+    c.args.n c.args.member c.with_bit-word.result c.self.invariant (below c) (wrote c)
     ∙ ap (λ (flags : List Bool). set flags c.args.n c.args.member) c.self.view_is
 
 pub returns-clause-any : goal.returns-clause-any

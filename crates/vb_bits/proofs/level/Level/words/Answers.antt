@@ -18,7 +18,6 @@ returns-clause-fewest c =
     omega (arith, bound, c.self.invariant.fewest)
 
 pub returns-clause-bits : goal.returns-clause-bits
-returns-clause-bits c = λ w b l.
-    ap (λ (ws : List ℕ). has_bit (get_or ws w 0) b) c.deref.ensures.value
-    ∙ bit_is_flag c.self.inside.bound c.self.inside.words.items c.self.invariant w b l
-    ∙ ap (λ (flags : List Bool). has flags (64 * w + b)) c.self.view_is
+returns-clause-bits c = λ w b l. ap (λ (ws : List ℕ). has_bit (get_or ws w 0) b)
+    c.deref.ensures.value ∙ bit_is_flag c.self.inside.bound c.self.inside.words.items
+    c.self.invariant w b l ∙ ap (λ (flags : List Bool). has flags (64 * w + b)) c.self.view_is

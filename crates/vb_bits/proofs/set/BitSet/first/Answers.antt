@@ -10,8 +10,7 @@ first_word : (members words groups : List Bool) (len : ℕ) (group word : Option
     → IsFirstFrom summary start group → IsFirstFrom words (64 * start) word)
     → IsFirstFrom words 0 word
 first_word members words groups len group word s found within =
-    let single : length groups ≤ 64 =
-    omega (arith, s.few, s.first.fewest, s.second.fewest) in
+    let single : length groups ≤ 64 = omega (arith, s.few, s.first.fewest, s.second.fewest) in
     within groups 0 s.second (single_word groups 0 group single found)
 
 pub first_in-requires : goal.first_in-requires

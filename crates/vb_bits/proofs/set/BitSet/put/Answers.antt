@@ -29,9 +29,7 @@ invariant_of-self c =
         counted,
         put_count members n one below,
         c.from.ensures ∙ weight_is one,
-        c.from-2.ensures
-            ∙ weight_is c.contains-was.result
-            ∙ ap weight c.contains-was.ensures,
+        c.from-2.ensures ∙ weight_is c.contains-was.result ∙ ap weight c.contains-was.ensures,
         c.self.invariant.count,
       );
     }

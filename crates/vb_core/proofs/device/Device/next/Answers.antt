@@ -1,8 +1,7 @@
 use Rattle.std.proofs.Common.{◌≡◌, None, length, sym, subst, rules}
 use Rattle.vb_ring.specs.Layout.{IsSize}
-use Rattle.vb_core.{specs.declared.ring.Virtqueue.Virtqueue, specs.Devices.ring_of}
-use Rattle.vb_core.specs.Next.{next_denial}
-use Rattle.vb_core.{proofs.RingLemmas.placed_size, proofs.NextLemmas.{open_next, copies_fit}}
+use Rattle.vb_core.specs.{declared.ring.Virtqueue.Virtqueue, Devices.ring_of, Next.next_denial}
+use Rattle.vb_core.proofs.{RingLemmas.placed_size, NextLemmas.{open_next, copies_fit}}
 use Rattle.vb_core.proofs.device.Device.next.Goals as goal
 
 pub next_chain-requires-clause-size : goal.next_chain-requires-clause-size

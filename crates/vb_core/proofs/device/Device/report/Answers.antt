@@ -1,9 +1,8 @@
 use Rattle.std.proofs.Common.{◌≡◌, None, length, sym, subst, rules}
 use Rattle.vb_ring.specs.Layout.{IsSize}
-use Rattle.vb_core.specs.declared.ring.Virtqueue.{Virtqueue}
-use Rattle.vb_core.specs.declared.kinds.Kind.TheVariants.{Report}
-use Rattle.vb_core.{specs.Devices.ring_of, specs.Report.report_denial}
-use Rattle.vb_core.{proofs.RingLemmas.placed_size, proofs.NextLemmas.{open_report, copies_fit}}
+use Rattle.vb_core.specs.declared.{ring.Virtqueue.Virtqueue, kinds.Kind.TheVariants.Report}
+use Rattle.vb_core.specs.{Devices.ring_of, Report.report_denial}
+use Rattle.vb_core.proofs.{RingLemmas.placed_size, NextLemmas.{open_report, copies_fit}}
 use Rattle.vb_core.proofs.device.Device.report.Goals as goal
 
 pub next_report-requires-clause-size : goal.next_report-requires-clause-size
@@ -13,8 +12,7 @@ next_report-requires-clause-size c =
     let passed = open_report (length c.args.avail.now) (length c.args.table.now)
     (length c.args.runs.now) c.args.self.now none in
     subst (λ (r : Virtqueue). IsSize r.size) (sym c.ring-ring.ensures)
-    (placed_size c.args.self.now.settings.memory_end (ring_of Report c.args.self.now)
-    passed.place)
+    (placed_size c.args.self.now.settings.memory_end (ring_of Report c.args.self.now) passed.place)
 
 pub next_report-requires-clause-avail : goal.next_report-requires-clause-avail
 next_report-requires-clause-avail c =

@@ -1,6 +1,5 @@
 use Rattle.std.{proofs.Common.{◌≡◌, None, true, sym, subst, rules}, specs.Prelude.nat_lt}
-use Rattle.vb_core.{specs.declared.ring.Virtqueue.Virtqueue, specs.Rings.has_place}
-use Rattle.vb_core.specs.Devices.{ring_of}
+use Rattle.vb_core.specs.{declared.ring.Virtqueue.Virtqueue, Rings.has_place, Devices.ring_of}
 use Rattle.vb_core.{specs.Using.use_denial, proofs.DenialLemmas.open_call}
 use Rattle.vb_core.proofs.device.Device.use_chain.Goals as goal
 

@@ -2,8 +2,7 @@ use Rattle.std.{proofs.Common.{arith, ℕ, ◌≡◌, true, None, sym, subst}, s
 use Rattle.std.proofs.Math.ListN.{set}
 use Rattle.vb_model.{specs.declared.replies.LastStatistics.LastStatistics, specs.Tables.has_chains}
 use Rattle.vb_status.specs.Bits.{status_bits, feature_bits}
-use Rattle.vb_request.specs.declared.statistics.Statistics.{Statistics}
-use Rattle.vb_request.specs.Refusals.{take_refusal_by}
+use Rattle.vb_request.specs.{declared.statistics.Statistics.Statistics, Refusals.take_refusal_by}
 use Rattle.vb_device.proofs.TakesBy.{takes_refused, takes_at, base_kept, take_known, take_ready}
 use Rattle.vb_device.{proofs.TakesBy.status_ok, specs.Base.{queue_at, index_of, base_part, IsBase}}
 use Rattle.vb_device.{specs.QueueState.TakesNext, proofs.FourQueues.entry_is, specs.Calls.TakesBy}
@@ -15,9 +14,8 @@ abbrev was : Statistics → LastStatistics
 was last = record { free = last.free; total = last.total }
 
 pub returns-in-Some : goal.returns-in-Some
-returns-in-Some c =
-    takes_refused c.args.queue c.args.self.now.mem c.args.self.now.part c.in-Some.why
-    (sym c.in-Some.ensures)
+returns-in-Some c = takes_refused
+    c.args.queue c.args.self.now.mem c.args.self.now.part c.in-Some.why (sym c.in-Some.ensures)
 
 -- the call isn't refused, and what its queue says next is taken
 takes_next : (c : After-take-taken)

@@ -36,9 +36,8 @@ found_in c = let s : ℕ = status_bits c.self.inside.status in
     (ap (λ (v : DeviceState). finish_refusal c.args.queue c.args.index
     (with_pace c.requires.allowed.0 v.part)) c.self.view_is ∙ c.requires.allowed.1) in
     let known : has_chains c.args.queue ≡ true = queue_known c.args.queue s open_causes.1 in
-    let was : get_or qs c.index_of-place.result c.index-self-place.result
-    ≡ queue_at c.args.queue qs =
-    ap (λ (i : ℕ). get_or qs i c.index-self-place.result) c.index_of-place.ensures.place
+    let was : get_or qs c.index_of-place.result c.index-self-place.result ≡ queue_at c.args.queue
+    qs = ap (λ (i : ℕ). get_or qs i c.index-self-place.result) c.index_of-place.ensures.place
     ∙ entry_is c.args.queue qs c.index-self-place.result c.self.invariant.four known in record {
       request = open_causes.0;
       ready = open_causes.1;

@@ -8,12 +8,11 @@ use Rattle.vb_device.proofs.base.DeviceBase.use_chain.Goals as goal
 
 pub returns : goal.returns
 returns c =
-    let was : get_or c.self.inside.queues c.index_of-place.result c.index-self-place.result ≡
-    queue_at c.args.queue c.self.inside.queues =
+    let was : get_or c.self.inside.queues c.index_of-place.result c.index-self-place.result
+    ≡ queue_at c.args.queue c.self.inside.queues =
     ap (λ (i : ℕ). get_or c.self.inside.queues i c.index-self-place.result)
-    c.index_of-place.ensures.place ∙
-    entry_is c.args.queue c.self.inside.queues c.index-self-place.result c.self.invariant.four
-    c.requires.known in
+    c.index_of-place.ensures.place ∙ entry_is c.args.queue
+    c.self.inside.queues c.index-self-place.result c.self.invariant.four c.requires.known in
     let adds = rw was at c.add_used.ensures.adds in
     let driver : contains (status_bits c.self.inside.status) driver_ok ≡ true =
     ap (λ (v : DeviceState). contains v.part.status driver_ok) c.self.view_is ∙ c.requires.ready in

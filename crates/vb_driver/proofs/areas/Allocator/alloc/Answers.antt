@@ -13,8 +13,7 @@ returns c = let s : PageState = c.self.inside.pages in
     let is : c.match-alloc.result ≡ answered c.alloc.result = elim c.match-alloc.branch [
       | in-Ok w ↦ w.result-is ∙ sym (ap answered w.in-Ok.is)
       | in-Err w ↦ w.result-is ∙ (ap Err w.refusal_of.ensures ∙ sym (ap answered w.in-Err.is))
-    ] in
-    let served : IsServed s new cpu n c.alloc.result = record {
+    ] in let served : IsServed s new cpu n c.alloc.result = record {
       apart = c.pages_are_apart.ensures;
       bad_order = c.alloc.ensures.bad_order;
       bad_cpu = c.alloc.ensures.bad_cpu;

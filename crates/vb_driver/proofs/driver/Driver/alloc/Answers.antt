@@ -3,14 +3,12 @@ use Rattle.vb_model.{specs.Pages.{Block, pages_of, placed}, specs.declared.place
 use Rattle.vb_model.specs.declared.places.Place.TheVariants.{Used}
 use Rattle.vb_driver.proofs.Owning.{whole_is, alloc_tests_same, free_block_inside, allocated_kept}
 use Rattle.vb_driver.{proofs.Owning.unallocated_kept, specs.Answers.block_at, specs.Areas.flags_of}
-use Rattle.vb_driver.{specs.State.DriverState, specs.Calls.AllocatesBy}
-use Rattle.vb_driver.specs.contracts.driver.Driver.{the_view}
+use Rattle.vb_driver.specs.{State.DriverState, Calls.AllocatesBy, contracts.driver.Driver.the_view}
 use Rattle.vb_driver.proofs.driver.Driver.alloc.Goals as goal
 
 pub set_block-requires-clause-inside : goal.set_block-requires-clause-inside
-set_block-requires-clause-inside c =
-    free_block_inside (the_view c.self.inside) (block_at c.in-Ok.start c.args.order)
-    c.self.invariant c.in-Ok.ensures.free
+set_block-requires-clause-inside c = free_block_inside (the_view c.self.inside)
+    (block_at c.in-Ok.start c.args.order) c.self.invariant c.in-Ok.ensures.free
 
 pub invariant_of-self : goal.invariant_of-self
 invariant_of-self c = let d = the_view c.self.inside in

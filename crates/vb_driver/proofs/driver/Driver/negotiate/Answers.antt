@@ -3,8 +3,7 @@ use Rattle.vb_model.{specs.declared.replies.Refusal.Refusal, specs.Life.accepted
 use Rattle.vb_model.specs.Status.{negotiate_refusal, status_refusal}
 use Rattle.vb_ram.specs.Part.{Part}
 use Rattle.vb_status.{specs.After.part_after_reset, specs.Answers.refusal_of_fault}
-use Rattle.vb_driver.{specs.State.DriverState, specs.Calls.GivesUp}
-use Rattle.vb_driver.specs.contracts.driver.Driver.{the_view}
+use Rattle.vb_driver.specs.{State.DriverState, Calls.GivesUp, contracts.driver.Driver.the_view}
 use Rattle.vb_driver.proofs.Starting.{offered_then, accepted_then, none_ok, at_ok}
 use Rattle.vb_driver.proofs.driver.Driver.negotiate.Goals as goal
 

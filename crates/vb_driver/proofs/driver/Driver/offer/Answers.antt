@@ -24,15 +24,14 @@ invariant_of-self g c = let d = the_view c.self.inside in
     c.append.ensures ∙ (ap (λ (l : List ℕ). l ++ c.deref.result.now) first
     ∙ ap (λ (l : List ℕ). stranded_first d c.args.count ++ l) c.deref.ensures.0) in
     let placed_is : c.set_all.new.self
-    ≡ placed (stranded_first d c.args.count ++ others) Giving d.places =
-    c.set_all.ensures ∙ ap (λ (l : List ℕ). placed l Giving d.places)
-    (c.deref-2.ensures.0 ∙ items) in
+    ≡ placed (stranded_first d c.args.count ++ others) Giving d.places = c.set_all.ensures
+    ∙ ap (λ (l : List ℕ). placed l Giving d.places) (c.deref-2.ensures.0 ∙ items) in
     let posts : Posts m1 m2 d.inflate c.post-head.new.self 4
     (stranded_first d c.args.count ++ others) c.post-head.result =
     subst (λ (l : List ℕ). Posts m1 m2 d.inflate c.post-head.new.self 4 l c.post-head.result)
     items c.post-head.ensures.posts in
-    let free = others_free d (flags_of c.self.inside.areas.free) others c.self.invariant.free
-    c.take_free.ensures.free in
+    let free = others_free d
+    (flags_of c.self.inside.areas.free) others c.self.invariant.free c.take_free.ensures.free in
     let kept = offered_kept m1 m2 d c.take_free.new.self.free c.post-head.new.self 4
     c.args.count c.post-head.result others c.self.invariant free
     (λ p. once_distinct p others c.take_free.ensures.distinct)

@@ -2,11 +2,10 @@ use Rattle.std.proofs.Common.{◌≡◌, ◌∙◌, sym, ap, refl, rules, ℕ, L
 use Rattle.vb_model.{specs.declared.places.Place.TheVariants.{Free, Reporting}, specs.Tests.is_in}
 use Rattle.vb_model.specs.Pages.{Block, pages_of_all, placed}
 use Rattle.vb_report.specs.Blocks.{blocks_of}
-use Rattle.vb_driver.proofs.ReportMoves.{reported_place, reported_once, returned_kept}
-use Rattle.vb_driver.specs.State.{ReportSide, IsReportQueue, IsDriver, DriverState}
-use Rattle.vb_driver.{specs.Areas.flags_of, proofs.Moving.{IsOut, is_out}, specs.Places.marked}
-use Rattle.vb_driver.specs.contracts.driver.Driver.{the_view}
-use Rattle.vb_driver.proofs.ReportTables.{taken_report_queue}
+use Rattle.vb_driver.proofs.{Moving.{IsOut, is_out}, ReportMoves.{reported_place, reported_once}}
+use Rattle.vb_driver.proofs.{ReportMoves.returned_kept, ReportTables.taken_report_queue}
+use Rattle.vb_driver.specs.{Areas.flags_of, Places.marked, State.{ReportSide, IsReportQueue}}
+use Rattle.vb_driver.specs.{State.{IsDriver, DriverState}, contracts.driver.Driver.the_view}
 use Rattle.vb_driver.proofs.driver.Driver.reap_reported.Goals as goal
 
 out_again : (d : DriverState) (p : ℕ) (blocks : List Block) → IsDriver d → blocks ≡ d.report.blocks
@@ -45,9 +44,8 @@ invariant_of-self-2 g c = let d = the_view c.self.inside in
     ap blocks_of c.deref-2.ensures.0 ∙ next.2 in
     let moved : c.set_blocks.new.self ≡ placed (pages_of_all d.report.blocks) Free d.places =
     c.set_blocks.ensures ∙ ap (λ (l : List Block). placed (pages_of_all l) Free d.places) freed in
-    let free : flags_of areas2.free
-    ≡ marked (pages_of_all d.report.blocks) true (flags_of d.areas) =
-    c.give_blocks.ensures.state.free
+    let free : flags_of areas2.free ≡ marked
+    (pages_of_all d.report.blocks) true (flags_of d.areas) = c.give_blocks.ensures.state.free
     ∙ ap (λ (l : List Block). marked (pages_of_all l) true (flags_of d.areas)) given in
     let queue : IsReportQueue r2 d.queue_size = rw next.3
     (taken_report_queue d.report d.queue_size c.in-Ok-Some.used.0 _ c.self.invariant.report next.1

@@ -28,13 +28,12 @@ invariant_of-self-2 g c = let d = the_view c.self.inside in
     c.deref.ensures.0 ∙ ap (λ (l : List Block). placed (pages_of_all l) Reporting d.places) same) in
     let free : (p : ℕ) → is_in p (pages_of_all r2.blocks) ≡ true
     → is_free_at (flags_of d.areas) p ≡ true = rw (← same) c.choose-blocks.ensures.free in
-    let distinct : AllDistinct (pages_of_all r2.blocks) = rw (← same)
-    c.choose-blocks.ensures.distinct in
+    let distinct : AllDistinct (pages_of_all r2.blocks) =
+    rw (← same) c.choose-blocks.ensures.distinct in
     let taken : flags_of new.free ≡ marked (pages_of_all r2.blocks) false (flags_of d.areas) =
     c.choose-blocks.ensures.state.free
     ∙ ap (λ (l : List Block). marked (pages_of_all l) false (flags_of d.areas)) same in
-    let queue : IsReportQueue r2 d.queue_size =
-    rw (← c.self.invariant.report.size) c.post-head.ensures.queue in rw moved
-    (rw c.choose-blocks.ensures.state.held
+    let queue : IsReportQueue r2 d.queue_size = rw (← c.self.invariant.report.size)
+    c.post-head.ensures.queue in rw moved (rw c.choose-blocks.ensures.state.held
     (reported_kept d new.free r2 c.self.invariant free distinct taken
     c.choose-blocks.ensures.state.same queue))

@@ -27,6 +27,5 @@ returns-clause-report g c =
     c.write_status.ensures.mem c.requires.zeros
 
 pub returns-clause-statistics : goal.returns-clause-statistics
-returns-clause-statistics g c =
-    new_ring (g.P.GuestBytes.mem c.args.port.now) c.args.self.now.queue_size 2
-    c.fill_first.ensures.driver.size c.requires.zeros
+returns-clause-statistics g c = new_ring (g.P.GuestBytes.mem c.args.port.now)
+    c.args.self.now.queue_size 2 c.fill_first.ensures.driver.size c.requires.zeros

@@ -14,9 +14,8 @@ pub overflow_sub-self : goal.overflow_sub-self
 overflow_sub-self c = let places = c.self.inside.places.items in
     let old = c.index-old.result.now in
     let size : length places ≡ length c.args.self.now = ap length c.self.view_is in
-    let are : AreAt places c.args.start (c.end_of_run-next.result - c.args.start) old =
-    run_is places c.args.start c.end_of_run-next.result old
-    (omega (arith, c.end_of_run-next.ensures.from))
+    let are : AreAt places c.args.start (c.end_of_run-next.result - c.args.start) old = run_is
+    places c.args.start c.end_of_run-next.result old (omega (arith, c.end_of_run-next.ensures.from))
     (omega (arith, c.end_of_run-next.ensures.bound, c.requires.inside)) c.index-old.ensures
     (λ page from before. ap (λ (l : List Place). place_of l page) (sym c.deref.ensures.value)
     ∙ c.end_of_run-next.ensures.same page from before) in

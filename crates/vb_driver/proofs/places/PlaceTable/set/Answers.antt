@@ -12,9 +12,8 @@ overflow_sub-self c = let counts = c.self.inside.counts in
     let size : length places ≡ length c.args.self.now = ap length c.self.view_is in
     let own : get_or counts c.number_of.result 0 ≡ count_by (is_at old) places =
     ap (λ (k : ℕ). get_or counts k 0) c.number_of.ensures ∙ c.self.invariant.are_counts.each old in
-    let here : count_by (is_at old) places
-    ≡ count_by (is_at (get_or places c.args.page old)) places =
-    ap (λ (p : Place). count_by (is_at p) places) c.index.ensures in
+    let here : count_by (is_at old) places ≡ count_by (is_at (get_or places c.args.page old))
+    places = ap (λ (p : Place). count_by (is_at p) places) c.index.ensures in
     let small = number_small old in omega (arith, counts_some places c.args.page old (omega arith))
 
 pub invariant_of-self : goal.invariant_of-self

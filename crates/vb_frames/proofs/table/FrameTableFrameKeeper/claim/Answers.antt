@@ -15,17 +15,15 @@ number_is : (c : goal.After-remove) → c.in-Some.number ≡ c.in-Ok.frame.numbe
 number_is c = sym (ap (λ (frame : Page). frame.number) c.in-Ok.ensures.ok)
 
 pub returns-in_default-clause-answer : goal.returns-in_default-clause-answer
-returns-in_default-clause-answer c =
-    subst (λ (out : List Bool). AllOut out) c.self.view_is
+returns-in_default-clause-answer c = subst (λ (out : List Bool). AllOut out) c.self.view_is
     (all_out c.self.inside.free c.in_default.ensures)
 
 pub returns-clause-given : goal.returns-clause-given
 returns-clause-given c = (
   subst (λ (n : ℕ). IsFree c.args.self.now n) (number_is c) (given c).0,
-  ap (λ (free : List Bool). map not free) c.remove.ensures.set
-      ∙ map-set not c.self.inside.free c.in-Some.number false
-      ∙ ap (λ (out : List Bool). set out c.in-Some.number true) c.self.view_is
-      ∙ ap (λ (n : ℕ). set c.args.self.now n true) (number_is c),
+  ap (λ (free : List Bool). map not free) c.remove.ensures.set ∙ map-set not c.self.inside.free
+      c.in-Some.number false ∙ ap (λ (out : List Bool). set out c.in-Some.number true)
+      c.self.view_is ∙ ap (λ (n : ℕ). set c.args.self.now n true) (number_is c),
 )
 
 pub returns-clause-answer : goal.returns-clause-answer

@@ -11,11 +11,9 @@ returns c = let t = c.self.inside.table in
     subst (λ (set : List Bool). AreBlockBits set k c.bits.result.now) c.self.view_is (record {
       fewest = c.bits.ensures.words
           ∙ ap (λ (n : ℕ). max 1 (div_ceil (n / 2 ^ k) 64)) (sym (length-set_of t));
-      tells = λ w b l.
-          let start = (64 * w + b) * 2 ^ k in (
-            λ h. listed_maximal t tiled.placed tiled.merged start k
-                ((c.bits.ensures.bits w b l).0 h),
-            λ m. (c.bits.ensures.bits w b l).1
-                (maximal_listed t tiled.placed tiled.merged (block_at start k) m),
-          );
+      tells = λ w b l. let start = (64 * w + b) * 2 ^ k in (
+        λ h. listed_maximal t tiled.placed tiled.merged start k ((c.bits.ensures.bits w b l).0 h),
+        λ m. (c.bits.ensures.bits w b l).1
+            (maximal_listed t tiled.placed tiled.merged (block_at start k) m),
+      );
     })

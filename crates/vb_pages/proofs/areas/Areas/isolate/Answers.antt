@@ -38,7 +38,6 @@ returns c = let b = c.in_ok-block.block in
     let low = lowest_is t c.args.order c.args.from b c.self.invariant.0 c.in_ok-block.ensures in (
       subst (λ (x : List Bool). IsLowestFrom x c.args.order c.args.from (block_at b.start b.order))
           v low,
-      ap set_of c.remove.ensures
-          ∙ (removed_set t b.start b.order c.self.invariant.0.placed listed
+      ap set_of c.remove.ensures ∙ (removed_set t b.start b.order c.self.invariant.0.placed listed
           ∙ ap (without_pages (pages_of (block_at b.start b.order))) v),
     )

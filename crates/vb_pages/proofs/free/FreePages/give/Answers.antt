@@ -2,10 +2,9 @@ use Rattle.std.proofs.Common.{◌≡◌, ◌<◌, ◌≤◌, ◌+◌, ℕ, List,
 use Rattle.std.{proofs.Common.{drop, ap, subst, ◌∙◌, sym, arith}, proofs.lemmas.Bool.eqb-false}
 use Rattle.std.{proofs.lemmas.List.{get_or_default, length-append}, specs.Prelude.{◌==◌, false}}
 use Rattle.vb_pages.proofs.FreeLemmas.{block_sound, free_of, front_once, spilled_sound}
-use Rattle.vb_pages.{specs.Areas.with_pages, proofs.ListsLemmas.Once}
+use Rattle.vb_pages.proofs.{FreeLemmas.{pushed_sound, longer, room_zero, nothing}, ListsLemmas.Once}
+use Rattle.vb_pages.{proofs.free.FreePages.give.Goals.After-push, specs.Areas.with_pages}
 use Rattle.vb_pages.specs.FreePages.{FreePages, IsSoundFree, HasRoomFor, list_of}
-use Rattle.vb_pages.proofs.FreeLemmas.{pushed_sound, longer, room_zero, nothing}
-use Rattle.vb_pages.proofs.free.FreePages.give.Goals.{After-push}
 use Rattle.vb_pages.proofs.free.FreePages.give.Goals as goal
 
 pub invariant_of-self : goal.invariant_of-self

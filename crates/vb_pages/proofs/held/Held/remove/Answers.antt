@@ -25,12 +25,10 @@ invariant_of-self c = let t = c.self.inside.table in
     c.self.invariant)
 
 pub returns-clause-block : goal.returns-clause-block
-returns-clause-block c =
-    let e = listed (goal.at.returns-clause-block c).After-self in (
-      c.self.invariant.bounded c.args.start c.args.order e,
-      eq-eqb (c.args.start % 2 ^ c.args.order) 0
-          (c.self.invariant.aligned c.args.start c.args.order e),
-    )
+returns-clause-block c = let e = listed (goal.at.returns-clause-block c).After-self in (
+  c.self.invariant.bounded c.args.start c.args.order e,
+  eq-eqb (c.args.start % 2 ^ c.args.order) 0 (c.self.invariant.aligned c.args.start c.args.order e),
+)
 
 pub returns-clause-removed : goal.returns-clause-removed
 returns-clause-removed c = grind (arith, held_of, listed, same_held, length-set, blocks-without)

@@ -15,9 +15,8 @@ invariant_of-self c = let f = c.self.inside.free in
 pub returns : goal.returns
 returns c = let f = c.self.inside.free in
     let v : state_of f c.self.inside.held.blocks ≡ c.args.self.now = c.self.view_is in
-    let free : c.renew.new.self
-    ≡ free_of (unreserved (length f.areas) f.reserved) (replicate (length f.lists) nothing)
-    f.reserved = c.renew.ensures
+    let free : c.renew.new.self ≡ free_of (unreserved (length f.areas) f.reserved)
+    (replicate (length f.lists) nothing) f.reserved = c.renew.ensures
     ∙ ap (λ (xs : List (List ℕ)). free_of (unreserved (length f.areas) f.reserved) xs f.reserved)
     (map_nothing f.lists) in same_state c.renew.new.self
     (free_of (unreserved (length c.args.self.now.free.areas) c.args.self.now.free.reserved)

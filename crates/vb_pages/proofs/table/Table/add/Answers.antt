@@ -1,10 +1,9 @@
 use Rattle.std.proofs.Common.{◌≡◌, ◌/◌, ◌<◌, None, Some, Option, List, ℕ, length, set, true}
 use Rattle.std.proofs.Common.{◌∙◌, ap, arith}
-use Rattle.vb_pages.specs.Table.{order_at, room_of, table_of}
-use Rattle.vb_pages.proofs.TableLemmas.{StandFor, added, ten_sets, set_now, block_below}
-use Rattle.vb_pages.proofs.TableLemmas.{length-set_of_order}
-use Rattle.vb_pages.proofs.table.Table.add.Goals as goal
+use Rattle.vb_pages.{specs.Table.{order_at, room_of, table_of}, proofs.TableLemmas.StandFor}
+use Rattle.vb_pages.proofs.TableLemmas.{added, ten_sets, set_now, block_below, length-set_of_order}
 use Rattle.vb_pages.proofs.table.Table.add.Goals.{After-insert}
+use Rattle.vb_pages.proofs.table.Table.add.Goals as goal
 
 pub index_mut-requires : goal.index_mut-requires
 index_mut-requires c = grind (arith, ten_sets)

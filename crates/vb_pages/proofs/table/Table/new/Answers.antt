@@ -12,9 +12,8 @@ bare pages k = replicate (room_of k pages) false
 
 -- one set more
 pushed : (pages k room : ℕ) (old new : List (List Bool)) (row : List Bool)
-    → new ≡ old ++ row ∷ [] → row ≡ replicate room false → room ≡ room_of k pages
-    → old ≡ map (bare pages) (range_with_len 0 k)
-    → new ≡ map (bare pages) (range_with_len 0 (k + 1))
+    → new ≡ old ++ row ∷ [] → row ≡ replicate room false → room ≡ room_of k pages → old
+    ≡ map (bare pages) (range_with_len 0 k) → new ≡ map (bare pages) (range_with_len 0 (k + 1))
 pushed pages k room old new row e set same before =
     grind (arith, map-range_with_len_more (bare pages) 0 k k (omega arith))
 

@@ -1,10 +1,9 @@
 use Rattle.std.proofs.Common.{◌≡◌, ◌/◌, ◌<◌, None, Some, Option, List, ℕ, length, set, false}
 use Rattle.std.proofs.Common.{◌∙◌, ap, arith}
-use Rattle.vb_pages.specs.Table.{order_at, room_of, table_of}
-use Rattle.vb_pages.proofs.TableLemmas.{StandFor, removed, ten_sets, set_now, block_below}
-use Rattle.vb_pages.proofs.TableLemmas.{length-set_of_order}
+use Rattle.vb_pages.{specs.Table.{order_at, room_of, table_of}, proofs.TableLemmas.StandFor}
+use Rattle.vb_pages.proofs.TableLemmas.{removed, ten_sets, set_now, block_below}
+use Rattle.vb_pages.proofs.{TableLemmas.length-set_of_order, table.Table.remove.Goals.After-remove}
 use Rattle.vb_pages.proofs.table.Table.remove.Goals as goal
-use Rattle.vb_pages.proofs.table.Table.remove.Goals.{After-remove}
 
 pub index_mut-requires : goal.index_mut-requires
 index_mut-requires c = grind (arith, ten_sets)

@@ -1,5 +1,4 @@
-use Rattle.std.proofs.Common.{List, ℕ, ◌++◌, arith, length, take, drop}
-use Rattle.std.proofs.lemmas.List.{length-take}
+use Rattle.std.proofs.{Common.{List, ℕ, ◌++◌, arith, length, take, drop}, lemmas.List.length-take}
 use Rattle.vb_ram.proofs.Blanks.{length-shown}
 use Rattle.vb_ram.proofs.frame.Frame.put.Goals as goal
 

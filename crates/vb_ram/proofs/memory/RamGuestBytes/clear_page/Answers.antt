@@ -1,9 +1,8 @@
 use Rattle.std.proofs.Common.{◌≡◌, ◌<◌, length, set, List, ℕ, Option, Some, ◌∙◌, sym, ap, arith, subst}
 use Rattle.vb_model.specs.Guest.{zero_page}
-use Rattle.vb_ram.specs.Pages.{Page, Pages, Cleared, contents_of, page_at}
-use Rattle.vb_ram.specs.Put.{PutAt}
-use Rattle.vb_ram.proofs.Contents.{length-zero_page}
-use Rattle.vb_ram.proofs.PageLemmas.{page_read, wrote, cleared, put_zeros, is_memory-set}
+use Rattle.vb_ram.specs.{Pages.{Page, Pages, Cleared, contents_of, page_at}, Put.PutAt}
+use Rattle.vb_ram.proofs.{Contents.length-zero_page, PageLemmas.{page_read, wrote, cleared}}
+use Rattle.vb_ram.proofs.PageLemmas.{put_zeros, is_memory-set}
 use Rattle.vb_ram.proofs.memory.RamGuestBytes.clear_page.Goals as goal
 
 pub invariant_of-self-2 : goal.invariant_of-self-2
@@ -26,9 +25,8 @@ returns-clause-cleared c = let mem = c.self.inside.pages.items in
     let new : Page = c.clear.new.self in
     let number : new.number ≡ old.number = ap (λ (frame : Page). frame.number) c.clear.ensures in
     let zeros : new.bytes ≡ zero_page = ap (λ (frame : Page). frame.bytes) c.clear.ensures in
-    let whole : length old.bytes ≡ 4096 =
-    ap (λ (page : Option Page). length (contents_of page)) (sym was)
-    ∙ c.self.invariant.whole.sizes c.args.page in
+    let whole : length old.bytes ≡ 4096 = ap (λ (page : Option Page). length (contents_of page))
+    (sym was) ∙ c.self.invariant.whole.sizes c.args.page in
     let put : PutAt old.bytes new.bytes 0 zero_page =
     subst (λ (bytes : List ℕ). PutAt old.bytes bytes 0 zero_page) (sym zeros)
     (put_zeros old.bytes whole) in

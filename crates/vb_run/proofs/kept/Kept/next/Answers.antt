@@ -12,10 +12,8 @@ invariant_of-self-2 g c =
     let here : slice_get c.self.inside.scripts.items c.args.cpu ≡ Some c.in-Some.script.now =
     search (there, rules) in
     let call : slice_get c.in-Some.script.now.calls c.in-Some.script.now.place
-    ≡ Some c.in_ok-call.call =
-    c.in-Some-next.ensures.some.1 ∙ ap Some (sym c.in_ok-call.ensures) in
-    let same : c.index_mut.result.now ≡ c.in-Some.script.now =
-    c.index_mut.ensures.value
+    ≡ Some c.in_ok-call.call = c.in-Some-next.ensures.some.1 ∙ ap Some (sym c.in_ok-call.ensures) in
+    let same : c.index_mut.result.now ≡ c.in-Some.script.now = c.index_mut.ensures.value
     ∙ get_or_from_slice_get c.self.inside.scripts.items c.args.cpu c.in-Some.script.now
     c.index_mut.result.now here in
     let after : c.advance.new.self
@@ -27,8 +25,7 @@ invariant_of-self-2 g c =
       c.in_ok-reserve.ensures.items,
       c.new.ensures,
       c.claims_in-claims.ensures,
-    )
-    (call_next _ _ _ _ _ c.args.cpu c.in-Some.script.now c.in_ok-call.call _ c.call-reply.result
+    ) (call_next _ _ _ _ _ c.args.cpu c.in-Some.script.now c.in_ok-call.call _ c.call-reply.result
     c.self.invariant here call
     (c.call-reply.ensures.step c.self.invariant.now c.self.invariant.stands)
     c.call-reply.ensures.frames)
@@ -42,17 +39,14 @@ returns g c =
     let here : slice_get c.self.inside.scripts.items c.args.cpu ≡ Some c.in-Some.script.now =
     search (there, rules) in
     let call : slice_get c.in-Some.script.now.calls c.in-Some.script.now.place
-    ≡ Some c.in_ok-call.call =
-    c.in-Some-next.ensures.some.1 ∙ ap Some (sym c.in_ok-call.ensures) in
-    let same : c.index_mut.result.now ≡ c.in-Some.script.now =
-    c.index_mut.ensures.value
+    ≡ Some c.in_ok-call.call = c.in-Some-next.ensures.some.1 ∙ ap Some (sym c.in_ok-call.ensures) in
+    let same : c.index_mut.result.now ≡ c.in-Some.script.now = c.index_mut.ensures.value
     ∙ get_or_from_slice_get c.self.inside.scripts.items c.args.cpu c.in-Some.script.now
     c.index_mut.result.now here in
     let after : c.advance.new.self
     ≡ record (c.in-Some.script.now) { place = c.in-Some.script.now.place + 1 } =
     rw (sym same) c.advance.ensures in
-    let new : Past =
-    record {
+    let new : Past = record {
       guest = c.self.inside.guest;
       sizes = c.self.inside.sizes;
       paced = c.self.inside.paced;

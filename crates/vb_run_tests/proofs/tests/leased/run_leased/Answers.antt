@@ -11,15 +11,13 @@ new-port-requires g c =
     let device = c.in_ok-device-in-Immediate.device.value in
     let box = c.into_dyn_box in
     let part : (own-1.entry box.result.vtable).1.GuestBytes.part box.result.value
-    ≡ (own-1.entry at-1-1).1.GuestBytes.part device
-    = read_made own-1 (own-1.entry at-1-1) at-1-1 refl Part
-    (λ entry made. entry.1.GuestBytes.part made) box.result.vtable box.result.value device
-    box.ensures.1 in
+    ≡ (own-1.entry at-1-1).1.GuestBytes.part device = read_made own-1
+    (own-1.entry at-1-1) at-1-1 refl Part (λ entry made. entry.1.GuestBytes.part made)
+    box.result.vtable box.result.value device box.ensures.1 in
     let mem : (own-1.entry box.result.vtable).1.GuestBytes.mem box.result.value
-    ≡ (own-1.entry at-1-1).1.GuestBytes.mem device
-    = read_made own-1 (own-1.entry at-1-1) at-1-1 refl Pages
-    (λ entry made. entry.1.GuestBytes.mem made) box.result.vtable box.result.value device
-    box.ensures.1 in
+    ≡ (own-1.entry at-1-1).1.GuestBytes.mem device = read_made own-1
+    (own-1.entry at-1-1) at-1-1 refl Pages (λ entry made. entry.1.GuestBytes.mem made)
+    box.result.vtable box.result.value device box.ensures.1 in
     rw (part, mem, c.in_ok-device-in-Immediate.ensures.ok, c.new-device.ensures.mem, c.new-device.ensures.part) (
       record {
         no_memory = c.new.ensures.unused.no_memory;
@@ -34,15 +32,13 @@ new-port-requires-in-Paced g c =
     let device = c.in_ok-device-in-Paced.device.value in
     let box = c.into_dyn_box-in-Paced in
     let part : (own-1.entry box.result.vtable).1.GuestBytes.part box.result.value
-    ≡ (own-1.entry at-1-2).1.GuestBytes.part device
-    = read_made own-1 (own-1.entry at-1-2) at-1-2 refl Part
-    (λ entry made. entry.1.GuestBytes.part made) box.result.vtable box.result.value device
-    box.ensures.1 in
+    ≡ (own-1.entry at-1-2).1.GuestBytes.part device = read_made own-1
+    (own-1.entry at-1-2) at-1-2 refl Part (λ entry made. entry.1.GuestBytes.part made)
+    box.result.vtable box.result.value device box.ensures.1 in
     let mem : (own-1.entry box.result.vtable).1.GuestBytes.mem box.result.value
-    ≡ (own-1.entry at-1-2).1.GuestBytes.mem device
-    = read_made own-1 (own-1.entry at-1-2) at-1-2 refl Pages
-    (λ entry made. entry.1.GuestBytes.mem made) box.result.vtable box.result.value device
-    box.ensures.1 in
+    ≡ (own-1.entry at-1-2).1.GuestBytes.mem device = read_made own-1
+    (own-1.entry at-1-2) at-1-2 refl Pages (λ entry made. entry.1.GuestBytes.mem made)
+    box.result.vtable box.result.value device box.ensures.1 in
     rw (part, mem, c.in_ok-device-in-Paced.ensures.ok, c.new-device-in-Paced.ensures.mem, c.new-device-in-Paced.ensures.part) (
       record {
         no_memory = c.new-in-Paced.ensures.unused.no_memory;

@@ -3,5 +3,4 @@ use Rattle.vb_shared.proofs.leased.LeasedDevice.take.Goals as goal
 
 pub returns : goal.returns
 returns g c =
-    takes_keeping c.args.queue _ _ c.args.self.now.pass.held _ _
-    c.take.result c.take.ensures
+    takes_keeping c.args.queue _ _ c.args.self.now.pass.held _ _ c.take.result c.take.ensures

@@ -16,6 +16,5 @@ call-requires g c =
     }
 
 pub returns-clause-step : goal.returns-clause-step
-returns-clause-step g c = λ guest alone.
-    alone_steps alone.0 _ _ _ _ _ _ _ _ _ _ guest _ _ c.new.ensures alone.1 alone.2
-    (c.call.ensures.step alone.0 guest alone.1)
+returns-clause-step g c = λ guest alone. alone_steps alone.0 _ _ _ _
+    _ _ _ _ _ _ guest _ _ c.new.ensures alone.1 alone.2 (c.call.ensures.step alone.0 guest alone.1)

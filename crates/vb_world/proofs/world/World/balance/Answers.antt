@@ -12,14 +12,13 @@ set_targets-requires-clause-one_each g c =
     ∙ as_many_needs c.args.floor w ∙ sym host.count
 
 pub returns-in-Ok : goal.returns-in-Ok
-returns-in-Ok g c = λ w host.
-    let (none, are) = c.in-Ok.ensures.answer in (
-      record w { guests = with_targets c.as_slice-in-Ok.result.now w.guests },
-      c.set_targets.ensures w host,
-      rw (c.into_numbers.ensures, c.as_slice-in-Ok.ensures)
-          (balanced w c.args.floor c.frames.result c.as_slice.result.now c.in-Ok.targets
-          (c.as_slice.ensures.value ∙ c.needs-needs.ensures w host) (c.frames.ensures ∙ host.frames) none are),
-    )
+returns-in-Ok g c = λ w host. let (none, are) = c.in-Ok.ensures.answer in (
+  record w { guests = with_targets c.as_slice-in-Ok.result.now w.guests },
+  c.set_targets.ensures w host,
+  rw (c.into_numbers.ensures, c.as_slice-in-Ok.ensures)
+      (balanced w c.args.floor c.frames.result c.as_slice.result.now c.in-Ok.targets
+      (c.as_slice.ensures.value ∙ c.needs-needs.ensures w host) (c.frames.ensures ∙ host.frames) none are),
+)
 
 pub returns-in-Err : goal.returns-in-Err
 returns-in-Err g c = λ w host.

@@ -20,8 +20,7 @@ call-requires g c =
 pub returns-in-Some : goal.returns-in-Some
 returns-in-Some g c =
     λ w host. guest_step _ _ _ _ _ w c.args.guest c.in-Some.slot.now c.call.new.self _ _ _ host
-    (sym c.in-Some.ensures.value)
-    (λ guest stands. steps_asked _ _ _ _ _ guest _ _ stands.own.flag
+    (sym c.in-Some.ensures.value) (λ guest stands. steps_asked _ _ _ _ _ guest _ _ stands.own.flag
     (c.call.ensures.step false guest stands))
 
 pub returns-in-None : goal.returns-in-None

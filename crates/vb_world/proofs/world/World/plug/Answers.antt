@@ -4,22 +4,20 @@ use Rattle.vb_world.proofs.Plugs.{plug_happens, none_there, some_there}
 use Rattle.vb_world.proofs.world.World.plug.Goals as goal
 
 pub returns-in_default : goal.returns-in_default
-returns-in_default g c =
-    λ w host. (
-      w,
-      host,
-      bad_config w c.args.size.pages c.args.size.queue_size c.args.size.processors
-          (config_none _ _ _ c.new.ensures c.in_default.is),
-    )
+returns-in_default g c = λ w host. (
+  w,
+  host,
+  bad_config w c.args.size.pages c.args.size.queue_size c.args.size.processors
+      (config_none _ _ _ c.new.ensures c.in_default.is),
+)
 
 pub returns-then-len : goal.returns-then-len
-returns-then-len g c = λ w host.
-    let config = config_some _ _ _ _ c.new.ensures c.in-Some.is in (
-      w,
-      host,
-      too_many _ _ _ _ _ w c.args.size.pages c.args.size.queue_size c.args.size.processors host config.fits
-          (omega (arith, c.if-len.true, c.len.ensures)),
-    )
+returns-then-len g c = λ w host. let config = config_some _ _ _ _ c.new.ensures c.in-Some.is in (
+  w,
+  host,
+  too_many _ _ _ _ _ w c.args.size.pages c.args.size.queue_size
+      c.args.size.processors host config.fits (omega (arith, c.if-len.true, c.len.ensures)),
+)
 
 pub returns-then-is_empty : goal.returns-then-is_empty
 returns-then-is_empty g c = λ w host.
@@ -33,8 +31,7 @@ returns-then-is_empty g c = λ w host.
 
 pub plug_first_spare-requires-clause-config : goal.plug_first_spare-requires-clause-config
 plug_first_spare-requires-clause-config g c =
-    let config = config_some _ _ _ _ c.new.ensures c.in-Some.is in
-    rw config.same config.fits
+    let config = config_some _ _ _ _ c.new.ensures c.in-Some.is in rw config.same config.fits
 
 pub returns : goal.returns
 returns g c = λ w host.

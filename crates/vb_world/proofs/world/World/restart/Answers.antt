@@ -15,10 +15,8 @@ restart-requires g c =
     )
 
 pub returns-in-Some : goal.returns-in-Some
-returns-in-Some g c = λ w host.
-    restarted _ _ _ _ _ w c.args.guest c.in-Some.slot.now c.restart.new.self c.restart.new.keeper
-    host (sym c.in-Some.ensures.value)
-    (λ guest stands.
+returns-in-Some g c = λ w host. restarted _ _ _ _ _ w c.args.guest c.in-Some.slot.now
+    c.restart.new.self c.restart.new.keeper host (sym c.in-Some.ensures.value) (λ guest stands.
     let life = c.restart.ensures.life false guest stands in
     (life.stands, returned _ _ guest stands.own.flag life.moves))
 

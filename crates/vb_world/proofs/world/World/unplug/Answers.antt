@@ -18,8 +18,7 @@ pub returns-in-Some : goal.returns-in-Some
 returns-in-Some g c = λ w host.
     let gone = c.in-Some.ensures in
     unplugged _ _ _ _ _ w c.args.guest c.in-Some.slot c.try_remove.new.self c.empty.new.keeper
-    host (sym gone.value) gone.updates gone.len gone.key_is_next gone.capacity
-    (λ guest stands.
+    host (sym gone.value) gone.updates gone.len gone.key_is_next gone.capacity (λ guest stands.
     returned _ _ guest stands.own.flag (c.empty.ensures.returned false guest stands))
 
 pub returns-in-None : goal.returns-in-None

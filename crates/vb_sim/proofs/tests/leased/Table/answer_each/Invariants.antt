@@ -5,7 +5,6 @@ use Rattle.vb_sim.proofs.tests.leased.Table.answer_each.Given as goal
 
 abbrev pub invariant-loop-event : goal.invariant-loop-event
 invariant-loop-event g l = record {
-  guest : MatchOption l.self.guest ⊤
-      (λ slot. (guest : Guest) × (ghosts g.dyn-1).stands slot guest);
+  guest : MatchOption l.self.guest ⊤ (λ slot. (guest : Guest) × (ghosts g.dyn-1).stands slot guest);
   count : vec_len l.replies ≡ l.event-index;
 }

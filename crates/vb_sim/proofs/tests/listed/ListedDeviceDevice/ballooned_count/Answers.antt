@@ -21,7 +21,6 @@ returns-in-Some c =
     × (list.pages ≤ vec_capacity list.numbers)
     × (list.numbers.items ≡ pages_where (λ flag. flag) c.self.inside.inner.part.ballooned))
     c.self.inside.listed c.in-Some.list c.in-Some.is c.self.invariant in
-    c.count.ensures ∙ (ap (λ (xs : List ℕ). length xs) facts.2
-    ∙ (listed_count c.self.inside.inner.part.ballooned
-    ∙ ap (λ (v : DeviceState). count_by (λ (flag : Bool). flag) v.part.ballooned)
-    c.self.view_is))
+    c.count.ensures
+    ∙ (ap (λ (xs : List ℕ). length xs) facts.2 ∙ (listed_count c.self.inside.inner.part.ballooned
+    ∙ ap (λ (v : DeviceState). count_by (λ (flag : Bool). flag) v.part.ballooned) c.self.view_is))

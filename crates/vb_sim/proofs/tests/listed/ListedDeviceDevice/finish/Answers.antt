@@ -5,9 +5,8 @@ use Rattle.vb_sim.proofs.Listing.{finish_keeps, still_fits}
 use Rattle.vb_sim.proofs.tests.listed.ListedDeviceDevice.finish.Goals as goal
 
 pub make_anew-requires : goal.make_anew-requires
-make_anew-requires c =
-    still_fits (λ (list : PageList). list.pages) (λ (list : PageList). vec_capacity list.numbers)
-    (λ (list : PageList). list.numbers.items
+make_anew-requires c = still_fits (λ (list : PageList). list.pages)
+    (λ (list : PageList). vec_capacity list.numbers) (λ (list : PageList). list.numbers.items
     ≡ pages_where (λ flag. flag) c.self.inside.inner.part.ballooned) c.self.inside.listed
     (length c.self.inside.inner.part.ballooned) (length c.finish-answer.new.self.part.ballooned)
     (finish_keeps c.args.queue c.args.index _ _ c.self.inside.inner.part

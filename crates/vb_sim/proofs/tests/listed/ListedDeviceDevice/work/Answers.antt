@@ -5,8 +5,7 @@ use Rattle.vb_sim.{specs.declared.tests.listed.PageList.PageList, proofs.Listing
 use Rattle.vb_sim.proofs.tests.listed.ListedDeviceDevice.work.Goals as goal
 
 pub invariant_of-self : goal.invariant_of-self
-invariant_of-self c =
-    subst (λ (flags : List Bool). MatchOption c.self.inside.listed ⊤
+invariant_of-self c = subst (λ (flags : List Bool). MatchOption c.self.inside.listed ⊤
     (λ (list : PageList). (length flags ≡ list.pages) × (list.pages ≤ vec_capacity list.numbers)
     × (list.numbers.items ≡ pages_where (λ flag. flag) flags)))
     (sym (work_keeps _ _ _ _ _ c.work.ensures)) c.self.invariant

@@ -1,4 +1,4 @@
-use Rattle.std.{proofs.Common.{◌≡◌, arith}, proofs.lemmas.Result.IfOk-weaker}
+use Rattle.std.proofs.{Common.arith, lemmas.Result.IfOk-weaker}
 use Rattle.vb_world.proofs.Runs.{as_many}
 use Rattle.vb_sim.proofs.tests.other_devices.Listing.answer_all.Goals as goal
 

@@ -3,6 +3,5 @@ use Rattle.vb_slot.proofs.tests.keeping.KeepingDeviceDevice.ask_stats.Goals as g
 
 pub returns : goal.returns
 returns c =
-    asks_keeping c.args.self.now.inner.mem c.ask_stats.new.self.mem
-    c.args.self.now.pool.out.items c.args.self.now.inner.part c.ask_stats.new.self.part
-    c.ask_stats.result c.ask_stats.ensures
+    asks_keeping c.args.self.now.inner.mem c.ask_stats.new.self.mem c.args.self.now.pool.out.items
+    c.args.self.now.inner.part c.ask_stats.new.self.part c.ask_stats.result c.ask_stats.ensures

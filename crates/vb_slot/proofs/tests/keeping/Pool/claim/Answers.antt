@@ -13,20 +13,13 @@ returns-in-Ok c =
     let is : c.in-Ok.frame.number ≡ n = ap (λ (f : Page). f.number) c.in-Ok.ensures.ok in
     let was : old.free.items ≡ c.pop.new.self.items ++ n ∷ [] = c.in-Some.ensures.items in
     let some : 1 ≤ times n old.free.items =
-    omega (
-      arith,
-      ap (times n) was,
-      last n n c.pop.new.self.items,
-      ap one_if (eq-eqb n n refl),
-    ) in
+    omega (arith, ap (times n) was, last n n c.pop.new.self.items, ap one_if (eq-eqb n n refl)) in
     λ p. (
       refl,
       ap (λ (f : Page). f.bytes) c.in-Ok.ensures.ok,
-      ap (has old.out.items) is
-          ∙ absent n old.out.items
+      ap (has old.out.items) is ∙ absent n old.out.items
           (not_both n old.next old.out.items old.free.items (old.once n) some),
       λ k. ap (λ (xs : List ℕ). has xs k) c.put_last.ensures.items
-          ∙ (with_last n old.out.items k
-          ∙ ap (λ (m : ℕ). has (m ∷ old.out.items) k) (sym is)),
+          ∙ (with_last n old.out.items k ∙ ap (λ (m : ℕ). has (m ∷ old.out.items) k) (sym is)),
       refl,
     )

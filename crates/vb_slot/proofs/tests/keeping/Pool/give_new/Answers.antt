@@ -7,32 +7,29 @@ use Rattle.vb_slot.proofs.Numbers.{last, with_last, below_next, next_absent}
 use Rattle.vb_slot.proofs.tests.keeping.Pool.give_new.Goals as goal
 
 pub invariant_of-self : goal.invariant_of-self
-invariant_of-self c =
-    let old = c.args.self.now in
-    record {
-      once = λ n. omega (
-        arith,
-        old.once n,
-        below_next n old.next,
-        last n old.next old.out.items,
-        ap (times n) c.put_last.ensures.items,
-      );
-      count = omega (
-        arith,
-        old.count,
-        ap (λ (xs : List ℕ). length xs) c.put_last.ensures.items,
-        length-append old.out.items (old.next ∷ []),
-      );
-      few = omega (arith, c.if-self.false);
-      room_out = omega (arith, old.room_out, c.put_last.ensures.capacity);
-      room_free = old.room_free;
-    }
+invariant_of-self c = let old = c.args.self.now in record {
+  once = λ n. omega (
+    arith,
+    old.once n,
+    below_next n old.next,
+    last n old.next old.out.items,
+    ap (times n) c.put_last.ensures.items,
+  );
+  count = omega (
+    arith,
+    old.count,
+    ap (λ (xs : List ℕ). length xs) c.put_last.ensures.items,
+    length-append old.out.items (old.next ∷ []),
+  );
+  few = omega (arith, c.if-self.false);
+  room_out = omega (arith, old.room_out, c.put_last.ensures.capacity);
+  room_free = old.room_free;
+}
 
 pub returns-in-Ok : goal.returns-in-Ok
 returns-in-Ok c =
     let old = c.args.self.now in
-    let is : c.in-Ok.frame.number ≡ old.next =
-    ap (λ (f : Page). f.number) c.in-Ok.ensures.ok in
+    let is : c.in-Ok.frame.number ≡ old.next = ap (λ (f : Page). f.number) c.in-Ok.ensures.ok in
     λ p. (
       refl,
       ap (λ (f : Page). f.bytes) c.in-Ok.ensures.ok,

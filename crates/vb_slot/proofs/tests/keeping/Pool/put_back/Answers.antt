@@ -9,8 +9,7 @@ pub invariant_of-self : goal.invariant_of-self
 invariant_of-self c =
     let old = c.args.self.now in
     let n = c.number-number.result in
-    let is : has old.out.items n ≡ true =
-    ap (λ (xs : List ℕ). has xs n) (sym c.deref.ensures.value)
+    let is : has old.out.items n ≡ true = ap (λ (xs : List ℕ). has xs n) (sym c.deref.ensures.value)
     ∙ sym c.if-not-contains.ensures.value in
     let one : times n old.out.items ≡ 1 =
     one_place n old.next old.out.items old.free.items (old.once n) (present n old.out.items is) in
