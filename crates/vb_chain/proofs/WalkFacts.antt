@@ -2,12 +2,11 @@
 use Rattle.std.proofs.Common.{◌≡◌, ℕ, zero, suc, ◌+◌, ◌<◌, ◌==◌, true, false, [], ◌∷◌, map}
 use Rattle.std.proofs.Common.{refl, arith, inl, inr}
 use Rattle.std.specs.Prelude.{Bool, Option, Some, None, if◌then◌else◌, slice_index}
-use Rattle.vb_chain.specs.declared.descriptor.Descriptor.{Descriptor}
-use Rattle.vb_chain.specs.declared.fault.ChainFault.{ChainFault}
+use Rattle.vb_chain.specs.declared.{descriptor.Descriptor.Descriptor, fault.ChainFault.ChainFault}
 use Rattle.vb_chain.specs.declared.fault.ChainFault.TheVariants.{BadHead, BadNext, TooLong}
 use Rattle.vb_chain.specs.declared.fault.ChainFault.TheVariants.{Indirect, WrongDirection, OutOfRam}
-use Rattle.vb_chain.specs.{Rules.{has_next, first_fault}, Written.{linked}}
-use Rattle.vb_chain.specs.Chain.{IsPath, IsChain, BreaksAt, ChainGives, FaultGives, fault_at}
+use Rattle.vb_chain.specs.{Rules.{has_next, first_fault}, Written.linked, Chain.{IsPath, IsChain}}
+use Rattle.vb_chain.specs.Chain.{BreaksAt, ChainGives, FaultGives, fault_at}
 
 abbrev one : ℕ → ℕ → ℕ → ℕ → Descriptor
 one addr len flags next = record { addr = addr; len = len; flags = flags; next = next }
@@ -40,16 +39,15 @@ abbrev table : ℕ → Descriptor
 table i = if i == 0 then one 64 16 1 2 else one 128 4 2 0
 
 two_is_a_path : IsPath table 0 (0 ∷ 2 ∷ [])
-two_is_a_path = record { some = omega arith; begins = refl; onward = onward; linked = links }
-  where
-    onward : (k : ℕ) → k + 1 < 2 → has_next (table (slice_index (0 ∷ 2 ∷ []) k)) ≡ true
-    onward zero lt = refl
-    onward (suc k) lt = absurd (omega (arith, lt))
+two_is_a_path = record { some = omega arith; begins = refl; onward = onward; linked = links } where
+  onward : (k : ℕ) → k + 1 < 2 → has_next (table (slice_index (0 ∷ 2 ∷ []) k)) ≡ true
+  onward zero lt = refl
+  onward (suc k) lt = absurd (omega (arith, lt))
 
-    links : (k : ℕ) → k + 1 < 2
-        → (table (slice_index (0 ∷ 2 ∷ []) k)).next ≡ slice_index (0 ∷ 2 ∷ []) (k + 1)
-    links zero lt = refl
-    links (suc k) lt = absurd (omega (arith, lt))
+  links : (k : ℕ) → k + 1 < 2
+      → (table (slice_index (0 ∷ 2 ∷ []) k)).next ≡ slice_index (0 ∷ 2 ∷ []) (k + 1)
+  links zero lt = refl
+  links (suc k) lt = absurd (omega (arith, lt))
 
 two_is_a_chain : ChainGives table 8 4096 0 (record { addr = 64; len = 16; writable = false }
     ∷ record { addr = 128; len = 4; writable = true } ∷ [])
@@ -107,12 +105,8 @@ outside_of_two = record {
     at_last (suc k) e = absurd (omega (arith, e))
 
 past_memory : BreaksAt table 8 131 0 (0 ∷ 2 ∷ []) OutOfRam
-past_memory = record {
-  inside = omega arith;
-  is_path = two_is_a_path;
-  sound = before;
-  breaks = at_last;
-}
+past_memory =
+    record { inside = omega arith; is_path = two_is_a_path; sound = before; breaks = at_last }
   where
     before : (k : ℕ) → k + 1 < 2 → fault_at table 8 131 (0 ∷ 2 ∷ []) k ≡ None
     before zero lt = refl

@@ -35,17 +35,15 @@ use Rattle.vb_device.specs.Calls.{settled as settles}
 -- ---- a finish that is refused, or isn't
 
 finish_refused : (m1 m2 : Pages) (p1 p2 : Part) (d : DriverState) (g : Guest) (q i : ℕ)
-    (why : Refusal) (result : Result ℕ Refusal)
-    → FinishesBy q i m1 m2 p1 p2 result → Honest m1 p1 d g → finish_refusal q i p1 ≡ Some why
-    → refusal_of g (Finish q i) ≡ Some why
+    (why : Refusal) (result : Result ℕ Refusal) → FinishesBy q i m1 m2 p1 p2 result
+    → Honest m1 p1 d g → finish_refusal q i p1 ≡ Some why → refusal_of g (Finish q i) ≡ Some why
     → StepsFreeing (Honest m2 (handed_back p2) d) p2.loose g (Finish q i) (finished_reply result)
 finish_refused m1 m2 p1 p2 d g q i why result did stands by_part by_model = grind arith
 
 -- on a queue that there is, by what it does where it isn't refused
 finish_by : (m1 m2 : Pages) (p1 p2 : Part) (d : DriverState) (g : Guest) (q i : ℕ)
-    (result : Result ℕ Refusal)
-    → is_queue_of_requests q ≡ true → FinishesBy q i m1 m2 p1 p2 result → Honest m1 p1 d g
-    → (IsRunning m1 p1 d g → taken_at q i p1 ≡ slice_get (taken_of g q) i)
+    (result : Result ℕ Refusal) → is_queue_of_requests q ≡ true → FinishesBy q i m1 m2 p1 p2 result
+    → Honest m1 p1 d g → (IsRunning m1 p1 d g → taken_at q i p1 ≡ slice_get (taken_of g q) i)
     → ((r : Request) → slice_get (taken_of g q) i ≡ Some r → Uses q i r m1 m2 p1 p2 result
     → IsRunning m1 p1 d g → refusal_of g (Finish q i) ≡ None
     → StepsFreeing (Honest m2 (handed_back p2) d) p2.loose g (Finish q i) (finished_reply result))
@@ -55,8 +53,7 @@ finish_by m1 m2 p1 p2 d g q i result has did stands remembers goes =
     by_state m1 p1 d g (Finish q i) (finish_refusal q i p1) stands.ties.queues
     (finish_idle q i p1 g has device.status)
     (λ run. finish_same q i p1 g device.status device.paced (remembers run))
-    (λ why. finish_refused m1 m2 p1 p2 d g q i why result did stands)
-    (λ run free_part free.
+    (λ why. finish_refused m1 m2 p1 p2 d g q i why result did stands) (λ run free_part free.
     let (r, at) = there_is (not (is_queue_of_requests q)) (is_not_ready p1.status)
     (has_fault p1.status) (p1.paced && not (q == DEFLATE_QUEUE) && has_unvisited (taken_at q i p1))
     (taken_at q i p1) free_part in
@@ -107,17 +104,15 @@ pages_settled Reporting_free m size n g pages has =
 frames_settled : (kind : Kind) (m : Pages) (loose : List ℕ) (g : Guest) (i : ℕ) (r : Request)
     → HasPages m g.config.queue_size g.config.pages g.frames g.contents
     → SameFrames loose (lost_frames (queue_of kind) r.pages m) → AllDistinct r.pages
-    → All (λ page. page < g.config.pages) r.pages
-    → (k : ℕ) → times k loose + backing_count k (settled kind r.pages (used kind i r g))
-    ≡ backing_count k g
+    → All (λ page. page < g.config.pages) r.pages → (k : ℕ)
+    → times k loose + backing_count k (settled kind r.pages (used kind i r g)) ≡ backing_count k g
 frames_settled Inflating m loose g i r has lost distinct below k =
     frames_lost m loose g (settled Inflating r.pages (used Inflating i r g)) r.pages has refl
     (subst (λ l. SameFrames loose (frames_behind m l)) (distinct_each_once r.pages distinct) lost)
     distinct below k
 frames_settled Deflating m loose g i r has lost distinct below k = omega (arith, lost k)
-frames_settled Reporting_free m loose g i r has lost distinct below k =
-    frames_lost m loose g (settled Reporting_free r.pages (used Reporting_free i r g)) r.pages has
-    refl
+frames_settled Reporting_free m loose g i r has lost distinct below k = frames_lost m loose g
+    (settled Reporting_free r.pages (used Reporting_free i r g)) r.pages has refl
     (subst (λ l. SameFrames loose (frames_behind m l)) (distinct_each_once r.pages distinct) lost)
     distinct below k
 
@@ -217,8 +212,7 @@ finish_step m1 m2 p1 p2 d g q i result did stands = by_queue (λ k. FinishesBy k
     (λ at. finish_by m1 m2 p1 p2 d g 1 i result refl at stands
     (λ run. ap (λ (l : List Request). slice_get l i) run.deflate.remembers)
     (λ r is did run. request_finished Deflating m1 m2 p1 p2 d g i r result is did stands run))
-    (λ at. none refl at)
-    (λ at. finish_by m1 m2 p1 p2 d g 4 i result refl at stands
+    (λ at. none refl at) (λ at. finish_by m1 m2 p1 p2 d g 4 i result refl at stands
     (λ run. ap (λ (l : List Request). slice_get l i) run.report.remembers)
     (λ r is did run. request_finished Reporting_free m1 m2 p1 p2 d g i r result is did stands run))
     (λ out at. none (no_requests_at q out) at) did

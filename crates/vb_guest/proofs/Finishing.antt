@@ -26,11 +26,9 @@ end_of ring part = record {
 
 -- the head of the taken request goes to the used ones
 pub requests_used : (m1 m2 : Pages) (q : ℕ) (ring : DriverEnd) (part : QueuePart) (rs : Requests)
-    (i : ℕ) (r : Request) (after : DeviceEnd)
-    → RingOf m1 q ring part rs → slice_get rs.taken i ≡ Some r
-    → AddsUsedBy m1 m2 (end_of ring part) after r.head 0
-    → RingOf m2 q ring (record part
-    { next_used = (part.next_used + 1) % 65536; taken = remove part.taken i })
+    (i : ℕ) (r : Request) (after : DeviceEnd) → RingOf m1 q ring part rs
+    → slice_get rs.taken i ≡ Some r → AddsUsedBy m1 m2 (end_of ring part) after r.head 0 → RingOf m2
+    q ring (record part { next_used = (part.next_used + 1) % 65536; taken = remove part.taken i })
     (record rs { taken = remove rs.taken i; done = rs.done ++ (r ∷ []) })
 requests_used m1 m2 q ring part rs i r after stands is adds =
     let R : List ℕ → List ℕ → Type 0 = λ taken done. RingStands m2 q ring part.next_avail
@@ -38,15 +36,13 @@ requests_used m1 m2 q ring part rs i r after stands is adds =
     subst (λ l. R l (heads_of (rs.done ++ r ∷ []))) (sym (heads-remove rs.taken i))
     (subst (λ l. R (remove (heads_of rs.taken) i) l) (sym (heads-push rs.done r))
     (ring_used m1 m2 q ring part.next_avail part.next_used (heads_of rs.posted)
-    (heads_of rs.taken) (heads_of rs.done) i r.head after stands (heads-get rs.taken i r is)
-    adds))
+    (heads_of rs.taken) (heads_of rs.done) i r.head after stands (heads-get rs.taken i r is) adds))
 
-pub line_used : (m1 m2 : Pages) (q : ℕ) (ring : DriverEnd) (part : QueuePart) (rs : Requests) (i : ℕ)
-    (r : Request) (after : DeviceEnd) (K : Type 0) (P C D : Request → Type 0)
-    → QueueLine m1 q ring part rs K P C → slice_get rs.taken i ≡ Some r
-    → AddsUsedBy m1 m2 (end_of ring part) after r.head 0 → ((x : Request) → P x → C x → D x)
-    → QueueLine m2 q ring (record part
-    { next_used = (part.next_used + 1) % 65536; taken = remove part.taken i })
+pub line_used : (m1 m2 : Pages) (q : ℕ) (ring : DriverEnd) (part : QueuePart) (rs : Requests)
+    (i : ℕ) (r : Request) (after : DeviceEnd) (K : Type 0) (P C D : Request → Type 0)
+    → QueueLine m1 q ring part rs K P C → slice_get rs.taken i ≡ Some r → AddsUsedBy m1 m2
+    (end_of ring part) after r.head 0 → ((x : Request) → P x → C x → D x) → QueueLine m2 q ring
+    (record part { next_used = (part.next_used + 1) % 65536; taken = remove part.taken i })
     (record rs { taken = remove rs.taken i; done = rs.done ++ (r ∷ []) }) K P D
 line_used m1 m2 q ring part rs i r after K P C D line is adds stays = record {
   ring = requests_used m1 m2 q ring part rs i r after line.ring is adds;

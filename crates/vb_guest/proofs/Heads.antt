@@ -12,13 +12,12 @@ use Rattle.vb_guest.specs.Line.{heads_of}
 
 pub times-heads : (h : ℕ) (rs : List Request) → times h (heads_of rs) ≡ headed h rs
 times-heads h [] = refl
-times-heads h (r ∷ rs) =
-    grind (
-      arith,
-      count_by-cons (λ k. k == h) r.head (heads_of rs),
-      count_by-cons (λ (x : Request). x.head == h) r rs,
-      times-heads h rs,
-    )
+times-heads h (r ∷ rs) = grind (
+  arith,
+  count_by-cons (λ k. k == h) r.head (heads_of rs),
+  count_by-cons (λ (x : Request). x.head == h) r rs,
+  times-heads h rs,
+)
 
 pub length-heads : (rs : List Request) → length (heads_of rs) ≡ length rs
 length-heads rs = length-map rs (λ r. r.head)
@@ -27,8 +26,7 @@ pub heads-push : (rs : List Request) (r : Request)
     → heads_of (rs ++ r ∷ []) ≡ heads_of rs ++ r.head ∷ []
 heads-push rs r = map_push (λ (x : Request). x.head) rs r
 
-pub heads-remove : (rs : List Request) (i : ℕ)
-    → heads_of (remove rs i) ≡ remove (heads_of rs) i
+pub heads-remove : (rs : List Request) (i : ℕ) → heads_of (remove rs i) ≡ remove (heads_of rs) i
 heads-remove [] zero = refl
 heads-remove [] (suc i) = refl
 heads-remove (r ∷ rs) zero = refl
@@ -77,7 +75,6 @@ all-visiting P keeps (r ∷ rs) all =
   where
     step : (v : Bool) → All P (visiting rs)
         → All P (cond v (record r { visited = r.visited + 1 } ∷ rs) (r ∷ visiting rs))
-    step true later =
-        All-cons P (record r { visited = r.visited + 1 }) rs (keeps r (r.visited + 1) (all 0 r (omega arith)))
-        (All-tail P r rs all)
+    step true later = All-cons P (record r { visited = r.visited + 1 }) rs
+        (keeps r (r.visited + 1) (all 0 r (omega arith))) (All-tail P r rs all)
     step false later = All-cons P r (visiting rs) (all 0 r (omega arith)) later

@@ -30,9 +30,8 @@ Codes Reporting_free m d = λ r. AreReported m (ring_page d.report.ring.size 4) 
 
 -- with another part of the queue, and other requests
 abbrev pub LineWith : Kind → Pages → DriverState → ℕ → QueuePart → Requests → Type 0
-LineWith kind m d n part rs =
-    QueueLine m (queue_of kind) (ring_of (queue_of kind) d) part rs (Keeps kind d) (Knows kind d n)
-    (Codes kind m d)
+LineWith kind m d n part rs = QueueLine m (queue_of kind)
+    (ring_of (queue_of kind) d) part rs (Keeps kind d) (Knows kind d n) (Codes kind m d)
 
 abbrev pub LineOf : Kind → Pages → Part → DriverState → Guest → Type 0
 LineOf kind m p d g =

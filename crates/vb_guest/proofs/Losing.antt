@@ -18,8 +18,7 @@ pub frames_lost : (m : Pages) (loose : List ℕ) (g new : Guest) (pages : List �
     → AllDistinct pages → All (λ page. page < g.config.pages) pages
     → (k : ℕ) → times k loose + backing_count k new ≡ backing_count k g
 frames_lost m loose g new pages has lost same distinct below k =
-    let F : ℕ → Type 0 = λ k. All (λ page. page < k) pages in
-    omega (
+    let F : ℕ → Type 0 = λ k. All (λ page. page < k) pages in omega (
       arith,
       same k,
       ap (times k) (behind_same m g.frames pages has.behind),

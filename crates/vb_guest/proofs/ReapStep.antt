@@ -35,25 +35,21 @@ sent_is Reporting_free d n r is = sym is.names
 
 line_left : (kind : Kind) (m : Pages) (p : Part) (d : DriverState) (g : Guest) (r : Request)
     (rest : List Request) → (requests kind g).done ≡ r ∷ rest → outstanding g.report ≤ 1
-    → LineOf kind m p d g
-    → TakesUsedBy m (ring_of (queue_of kind) d) (ring_of (queue_of kind) (left kind r d))
-    (Ok (Some r.head))
-    → LineWith kind m (left kind r d) g.config.pages (queue_part (queue_of kind) p)
-    (record (requests kind g) { done = rest })
+    → LineOf kind m p d g → TakesUsedBy m (ring_of (queue_of kind) d)
+    (ring_of (queue_of kind) (left kind r d)) (Ok (Some r.head)) → LineWith kind m (left kind r d)
+    g.config.pages (queue_part (queue_of kind) p) (record (requests kind g) { done = rest })
 line_left Inflating m p d g r rest is few line =
     line_reaped m 0 g.config.pages d.inflate p.inflate g.inflate r rest is line
 line_left Deflating m p d g r rest is few line =
     line_reaped m 1 g.config.pages d.deflate p.deflate g.deflate r rest is line
-line_left Reporting_free m p d g r rest is few line =
-    report_reaped m g.config.pages d.report (left Reporting_free r d).report.ring p.report g.report
-    r rest is few line
+line_left Reporting_free m p d g r rest is few line = report_reaped m g.config.pages d.report
+    (left Reporting_free r d).report.ring p.report g.report r rest is few line
 
 -- what the driver tells as given away is what the definitions count
 told : (kind : Kind) (m : Pages) (p : Part) (g : Guest) (areas : FreePages) (sides : Sides)
-    (r : Request) (rest : List Request) → IsDriver (driver_of g areas sides)
-    → IsRunning m p (driver_of g areas sides) g
-    → LineWith kind m (left kind r (driver_of g areas sides)) g.config.pages
-    (queue_part (queue_of kind) p) (record (requests kind g) { done = rest })
+    (r : Request) (rest : List Request) → IsDriver (driver_of g areas sides) → IsRunning m p
+    (driver_of g areas sides) g → LineWith kind m (left kind r (driver_of g areas sides))
+    g.config.pages (queue_part (queue_of kind) p) (record (requests kind g) { done = rest })
     → (left kind r (driver_of g areas sides)).actual ≡ (reaped kind r rest g).actual
 told Inflating m p g areas sides r rest driver run line =
     ap (λ (k : ℕ). count_by is_lent (reaped Inflating r rest g).places + k)
@@ -70,10 +66,9 @@ told Reporting_free m p g areas sides r rest driver run line =
     driver.deflate.requests)
 
 ties_left : (kind : Kind) (m : Pages) (p : Part) (g : Guest) (areas : FreePages) (sides : Sides)
-    (r : Request) (rest : List Request) → Ties m p (driver_of g areas sides) g
-    → IsRunning m p (driver_of g areas sides) g
-    → LineWith kind m (left kind r (driver_of g areas sides)) g.config.pages
-    (queue_part (queue_of kind) p) (record (requests kind g) { done = rest })
+    (r : Request) (rest : List Request) → Ties m p (driver_of g areas sides) g → IsRunning m p
+    (driver_of g areas sides) g → LineWith kind m (left kind r (driver_of g areas sides))
+    g.config.pages (queue_part (queue_of kind) p) (record (requests kind g) { done = rest })
     → (left kind r (driver_of g areas sides)).actual ≡ (reaped kind r rest g).actual
     → Ties m (record p { actual = (reaped kind r rest g).actual })
     (left kind r (driver_of g areas sides)) (reaped kind r rest g)
@@ -100,9 +95,8 @@ request_reaped : (kind : Kind) (m1 m2 : Pages) (p1 p2 : Part) (g : Guest) (areas
     → StepsAlone (Honest m2 p2 d2) g (Reap (queue_of kind)) (reaped_reply (Ok got))
 request_reaped kind m1 m2 p1 p2 g areas sides d2 [] (Some x) is next did answer stands run free =
     absurd cc
-request_reaped kind m1 m2 p1 p2 g areas sides d2 (r ∷ rest) None is next did answer stands run free
-    =
-    absurd cc
+request_reaped kind m1 m2 p1 p2 g areas sides d2
+    (r ∷ rest) None is next did answer stands run free = absurd cc
 request_reaped kind m1 m2 p1 p2 g areas sides d2 [] None is next did answer stands run free =
     let q = queue_of kind in
     let T : List Request → Type 0 = λ l. Reaps kind l g NotUsed g in
@@ -145,9 +139,8 @@ request_reaped kind m1 m2 p1 p2 g areas sides d2 (r ∷ rest) (Some x) is next d
     (ties_left kind m1 p1 g areas sides r rest stands.ties run reap said)) (same_frames kind _ g)
 
 pub reap_step : (m1 m2 : Pages) (p1 p2 : Part) (d1 d2 : DriverState) (g : Guest) (q : ℕ)
-    (result : Result (Option ReapedRequest) Refusal)
-    → ReapsBy m1 m2 p1 p2 d1 d2 q result → Honest m1 p1 d1 g
-    → StepsAlone (Honest m2 p2 d2) g (Reap q) (reaped_reply result)
+    (result : Result (Option ReapedRequest) Refusal) → ReapsBy m1 m2 p1 p2 d1 d2 q result
+    → Honest m1 p1 d1 g → StepsAlone (Honest m2 p2 d2) g (Reap q) (reaped_reply result)
 reap_step m1 m2 p1 p2 d1 d2 g q result did stands =
     let is = driver_is p1 d1 g stands.ties.parts in
     let areas = d1.areas in

@@ -12,9 +12,8 @@ use Rattle.vb_guest.proofs.{RingPosted.ring_posted, RingReaped.ring_reaped}
 
 -- ---- memory changes elsewhere
 
-reported_kept : (old new : Pages) (table : ℕ) (blocks : List Block)
-    → page_at new table ≡ page_at old table
-    → AreReported old table blocks → AreReported new table blocks
+reported_kept : (old new : Pages) (table : ℕ) (blocks : List Block) → page_at new table
+    ≡ page_at old table → AreReported old table blocks → AreReported new table blocks
 reported_kept old new table blocks same are = grind (arith, descriptor_apart)
 
 -- the ring's pages are as before
@@ -37,39 +36,34 @@ report_apart old new n side part rs same line = record {
 
 -- the driver posts it
 pub report_posted : (m1 m2 : Pages) (n : ℕ) (s1 s2 : ReportSide) (part : QueuePart)
-    (blocks : List Block) (pages : List ℕ)
-    → ReportLine m1 n s1 part no_requests → PostsReport m1 m2 s1 s2 blocks
-    → IsReport s1.ring.size n blocks (record { head = 0; pages = pages; visited = 0 })
+    (blocks : List Block) (pages : List ℕ) → ReportLine m1 n s1 part no_requests → PostsReport m1 m2
+    s1 s2 blocks → IsReport s1.ring.size n blocks (record { head = 0; pages = pages; visited = 0 })
     → ReportLine m2 n s2 part (posting 0 pages no_requests)
 report_posted m1 m2 n s1 s2 part blocks pages line posts is = grind (arith, ring_posted)
 
 -- the driver sees that it was used; no other is out
-pub report_reaped : (mem : Pages) (n : ℕ) (side : ReportSide) (after : DriverEnd)
-    (part : QueuePart) (rs : Requests) (r : Request) (rest : List Request) → rs.done ≡ r ∷ rest
-    → outstanding rs ≤ 1 → ReportLine mem n side part rs
-    → TakesUsedBy mem side.ring after (Ok (Some r.head))
+pub report_reaped : (mem : Pages) (n : ℕ) (side : ReportSide) (after : DriverEnd) (part : QueuePart)
+    (rs : Requests) (r : Request) (rest : List Request) → rs.done ≡ r ∷ rest → outstanding rs ≤ 1
+    → ReportLine mem n side part rs → TakesUsedBy mem side.ring after (Ok (Some r.head))
     → ReportLine mem n (record { ring = after; blocks = [] }) part (record rs { done = rest })
 report_reaped mem n side after part rs r rest is few line takes =
-    by rs.posted rs.taken rest
-    (omega (arith, few, ap (λ (l : List Request). length l) is))
+    by rs.posted rs.taken rest (omega (arith, few, ap (λ (l : List Request). length l) is))
     (subst (λ l. ReportLine mem n side part (record rs { done = l })) is line)
   where
     by : (posted taken rest : List Request) → length posted + (length taken + length (r ∷ rest)) ≤ 1
         → ReportLine mem n side part (record { posted = posted; taken = taken; done = r ∷ rest })
         → ReportLine mem n (record { ring = after; blocks = [] }) part
         (record { posted = posted; taken = taken; done = rest })
-    by [] [] [] few line =
-        let P : Request → Type 0 = IsReport after.size n [] in
-        record {
-          ring = ring_reaped mem 4 side.ring after part.next_avail part.next_used [] [] r.head []
-              line.ring takes;
-          keeps = tt;
-          posted = All-nil P;
-          taken = All-nil P;
-          done = All-nil P;
-          coded = All-nil (λ (x : Request). AreReported mem (ring_page after.size 4) []);
-          remembers = line.remembers;
-        }
+    by [] [] [] few line = let P : Request → Type 0 = IsReport after.size n [] in record {
+      ring = ring_reaped mem 4 side.ring after part.next_avail part.next_used [] [] r.head []
+          line.ring takes;
+      keeps = tt;
+      posted = All-nil P;
+      taken = All-nil P;
+      done = All-nil P;
+      coded = All-nil (λ (x : Request). AreReported mem (ring_page after.size 4) []);
+      remembers = line.remembers;
+    }
     by [] [] (x ∷ rest) few line = absurd (omega (arith, few))
     by [] (x ∷ taken) rest few line = absurd (omega (arith, few))
     by (x ∷ posted) taken rest few line = absurd (omega (arith, few))

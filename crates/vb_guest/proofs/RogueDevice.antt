@@ -52,8 +52,7 @@ use Rattle.vb_guest.specs.Steps.{StepsAlone, StepsFreeing}
 -- ---- a queue of the device changes
 
 -- which of the queues it is
-pub with_same : {size : ℕ} (q : ℕ) (x : QueuePart) (p : Part)
-    → DeviceSame size p (with_queue q x p)
+pub with_same : {size : ℕ} (q : ℕ) (x : QueuePart) (p : Part) → DeviceSame size p (with_queue q x p)
 with_same {size} q x p = grind arith
 
 pub with_state : (q : ℕ) (x : QueuePart) (p : Part) → ((with_queue q x p).status ≡ p.status)
@@ -92,8 +91,7 @@ statistics_pages a b pages e = grind arith
 request_own : (q : ℕ) (mem : Pages) (part : Part) (h : ℕ) (pages : List ℕ)
     → IsNextRequest q mem part h pages
     → IsOwnRequest part.queue_size (length mem) (record { head = h; pages = pages; visited = 0 })
-request_own q mem part h pages next =
-    by (q == STATISTICS_QUEUE) (q == REPORT_QUEUE) next.request
+request_own q mem part h pages next = by (q == STATISTICS_QUEUE) (q == REPORT_QUEUE) next.request
   where
     reserved : ℕ
     reserved = reserved_pages part.queue_size
@@ -102,8 +100,7 @@ request_own q mem part h pages next =
         else (if b then report_request next.pieces reserved
         else page_request mem next.pieces reserved)) ≡ Ok pages
         → IsOwnRequest part.queue_size (length mem) (record { head = h; pages = pages; visited = 0 })
-    by true b e =
-        search (arith, statistics_pages)
+    by true b e = search (arith, statistics_pages)
     by false true e =
         let fits = chain_fits (descriptor_at mem (ring_page part.queue_size q)) part.queue_size
         (page_size * length mem) h next.pieces next.chain in
@@ -152,8 +149,7 @@ take_rogue m1 m2 p1 p2 d g q result did rogue =
         } in
         let same = with_same q x noted in
         let state = with_state q x noted in
-        rogue_alone m1 m1 p1 p2 d d g (Take q) _ rogue
-        (record {
+        rogue_alone m1 m1 p1 p2 d d g (Take q) _ rogue (record {
           driver = driver_same d d refl;
           device = subst (DeviceSame g.config.queue_size p1) (sym part) (record {
             sized = same.sized;
@@ -177,16 +173,14 @@ take_rogue m1 m2 p1 p2 d g q result did rogue =
         (λ page offset bytes e. cc) refl (λ why e. no_refusal _ why refl e)
     by (Err (Broken rule)) means =
         let part = means.1 in
-        rogue_alone m1 m1 p1 p2 d d g (Take q) _ rogue
-        (record {
+        rogue_alone m1 m1 p1 p2 d d g (Take q) _ rogue (record {
           driver = driver_same d d refl;
           device = device_alike p1 p2 (ap kept_of_rogue part);
           up = λ was ok. up_kept m1 m1 p1 p2 refl (λ page low. refl)
               (ap (λ (p : Part). p.inflate.taken) part)
               (ap (λ (p : Part). p.report.taken) part) (was (ready means.0));
-        }) refl (λ page. refl) (ap (λ (p : Part). p.target) part) refl
-        (λ page offset bytes e. cc) refl
-        (left_by (Take q) (Broken rule) [] g (rogue_after g g.frames p2 d)
+        }) refl (λ page. refl) (ap (λ (p : Part). p.target) part) refl (λ page offset bytes e. cc)
+        refl (left_by (Take q) (Broken rule) [] g (rogue_after g g.frames p2 d)
         (rogue_same m1 p1 p2 d d g g.frames rogue refl refl (ap said part)
         ∙ ap (λ (n : ℕ). record g { status = n })
         (ap (λ (p : Part). p.status) part ∙ ap (λ (n : ℕ). bit_or n needs_reset) rogue.status)))
@@ -247,33 +241,29 @@ done_wants _ e = refl
 -- pages that aren't reserved lose their frames, which are loose then
 pub rogue_freed : (m1 m2 : Pages) (p1 p2 : Part) (d : DriverState) (g : Guest) (call : Call)
     (reply : Reply) (r : Request) → IsOwnRequest g.config.queue_size (length m1) r
-    → PartChanges g.config.queue_size (length m1) p1 (handed_back p2) → contains p1.status driver_ok ≡ true
-    → length m2 ≡ length m1
-    → ((page : ℕ) → frame_at m2 page ≡ frame_at (discarded r.pages m1) page)
-    → SameFrames p2.loose (frames_behind m1 (each_once r.pages))
-    → target_after call p1.target ≡ p1.target → is_refused reply ≡ false → IsOther call
-    → bare_pages call g ≡ [] → Rogue m1 p1 d g
+    → PartChanges g.config.queue_size (length m1) p1 (handed_back p2)
+    → contains p1.status driver_ok ≡ true
+    → length m2 ≡ length m1 → ((page : ℕ) → frame_at m2 page ≡ frame_at (discarded r.pages m1) page)
+    → SameFrames p2.loose (frames_behind m1 (each_once r.pages)) → target_after call p1.target
+    ≡ p1.target → is_refused reply ≡ false → IsOther call → bare_pages call g ≡ [] → Rogue m1 p1 d g
     → StepsFreeing (Rogue m2 (handed_back p2) d) p2.loose g call reply
 rogue_freed m1 m2 p1 p2 d g call reply r own changes ok count same loose still answer other none
     rogue =
     let once = each_once r.pages in
     let frames = with_entry once None g.frames in
     let at : (page : ℕ) → frame_at (discarded r.pages m1) page
-    ≡ (if is_in page r.pages then None else frame_at m1 page) =
-    λ page. ap number_of (page_discarded r.pages m1 page)
-    ∙ number_if (is_in page r.pages) (page_at m1 page) in
-    let get : (page : ℕ) → frame_of frames page
-    ≡ (if is_in page once then None else frame_of g.frames page) =
+    ≡ (if is_in page r.pages then None else frame_at m1 page) = λ page. ap number_of
+    (page_discarded r.pages m1 page) ∙ number_if (is_in page r.pages) (page_at m1 page) in
+    let get : (page : ℕ)
+    → frame_of frames page ≡ (if is_in page once then None else frame_of g.frames page) =
     λ page. with_none-get once None g.frames page in
-    let behind : (page : ℕ) → frame_at m2 page ≡ frame_of frames page =
-    λ page. same page ∙ at page
+    let behind : (page : ℕ) → frame_at m2 page ≡ frame_of frames page = λ page. same page ∙ at page
     ∙ ap (λ (b : Bool). if b then None else frame_at m1 page) (sym (is_in-each_once page r.pages))
     ∙ ap (λ (o : Option ℕ). if is_in page once then None else o) (rogue.behind page)
     ∙ sym (get page) in
     let size = g.config.queue_size in
     let low : (page : ℕ) → page < reserved_pages size → frame_at m2 page ≡ frame_at m1 page =
-    λ page lt. same page ∙ at page
-    ∙ ap (λ (b : Bool). if b then None else frame_at m1 page)
+    λ page lt. same page ∙ at page ∙ ap (λ (b : Bool). if b then None else frame_at m1 page)
     (not_among (reserved_pages size) r.pages page own.above lt) in
     let keeps : Keeps size m1 m2 p1 (handed_back p2) d d = record {
       driver = driver_same d d refl;
@@ -341,9 +331,8 @@ works_up true b e = absurd cc
 works_up false b e = refl
 
 visits_rogue : (m1 m2 : Pages) (p1 p2 : Part) (d : DriverState) (g : Guest) (q page : ℕ)
-    (result : Result (Option Worked) Refusal) → Visits q page m1 m2 p1 p2 result
-    → IsOwnRequest g.config.queue_size (length m1)
-    (record { head = 0; pages = page ∷ []; visited = 0 })
+    (result : Result (Option Worked) Refusal) → Visits q page m1 m2 p1 p2 result → IsOwnRequest
+    g.config.queue_size (length m1) (record { head = 0; pages = page ∷ []; visited = 0 })
     → contains p1.status driver_ok ≡ true → Rogue m1 p1 d g
     → StepsFreeing (Rogue m2 (handed_back p2) d) p2.loose g Work (worked_reply result)
 visits_rogue m1 m2 p1 p2 d g q page result did own ok rogue =
@@ -363,89 +352,82 @@ visits_rogue m1 m2 p1 p2 d g q page result did own ok rogue =
 pub work_rogue : (m1 m2 : Pages) (p1 p2 : Part) (d : DriverState) (g : Guest)
     (result : Result (Option Worked) Refusal) → WorksBy m1 m2 p1 p2 result → Rogue m1 p1 d g
     → StepsFreeing (Rogue m2 (handed_back p2) d) p2.loose g Work (worked_reply result)
-work_rogue m1 m2 p1 p2 d g result did rogue = by (work_refusal p1) refl
-  where
-    Done : Result (Option Worked) Refusal → Type 0
-    Done r = StepsFreeing (Rogue m2 (handed_back p2) d) p2.loose g Work (worked_reply r)
+work_rogue m1 m2 p1 p2 d g result did rogue = by (work_refusal p1) refl where
+  Done : Result (Option Worked) Refusal → Type 0
+  Done r = StepsFreeing (Rogue m2 (handed_back p2) d) p2.loose g Work (worked_reply r)
 
-    ready : work_refusal p1 ≡ None → contains p1.status driver_ok ≡ true
-    ready e = ok_of (contains p1.status driver_ok) (contains p1.status failed)
-        (works_up (is_not_ready p1.status) (has_fault p1.status) e)
+  ready : work_refusal p1 ≡ None → contains p1.status driver_ok ≡ true
+  ready e = ok_of (contains p1.status driver_ok) (contains p1.status failed)
+      (works_up (is_not_ready p1.status) (has_fault p1.status) e)
 
-    later : work_refusal p1 ≡ None → next_visit INFLATE_QUEUE p1 ≡ None → (o : Option ℕ)
-        → next_visit REPORT_QUEUE p1 ≡ o → Done result
-    later e first None second =
-        let (answer, part, memory) = did.idle e first second in
-        subst Done (sym answer) (none_freed m1 m2 p1 p2 d g Work _ memory part refl refl
-        (λ page offset bytes x. cc) refl (λ why e. no_refusal _ why refl e) rogue)
-    later e first (Some page) second =
-        visits_rogue m1 m2 p1 p2 d g REPORT_QUEUE page result (did.report page e first second)
-        (next_own (length m1) p1.paced p1.report.taken page (rogue.up (ready e)).reports second)
-        (ready e) rogue
+  later : work_refusal p1 ≡ None → next_visit INFLATE_QUEUE p1 ≡ None → (o : Option ℕ)
+      → next_visit REPORT_QUEUE p1 ≡ o → Done result
+  later e first None second =
+      let (answer, part, memory) = did.idle e first second in
+      subst Done (sym answer) (none_freed m1 m2 p1 p2 d g Work _ memory part refl refl
+      (λ page offset bytes x. cc) refl (λ why e. no_refusal _ why refl e) rogue)
+  later e first (Some page) second =
+      visits_rogue m1 m2 p1 p2 d g REPORT_QUEUE page result (did.report page e first second)
+      (next_own (length m1) p1.paced p1.report.taken page (rogue.up (ready e)).reports second)
+      (ready e) rogue
 
-    visits : work_refusal p1 ≡ None → (o : Option ℕ) → next_visit INFLATE_QUEUE p1 ≡ o
-        → Done result
-    visits e None first = later e first (next_visit REPORT_QUEUE p1) refl
-    visits e (Some page) first =
-        visits_rogue m1 m2 p1 p2 d g INFLATE_QUEUE page result (did.inflate page e first)
-        (next_own (length m1) p1.paced p1.inflate.taken page (rogue.up (ready e)).inflates first)
-        (ready e) rogue
+  visits : work_refusal p1 ≡ None → (o : Option ℕ) → next_visit INFLATE_QUEUE p1 ≡ o → Done result
+  visits e None first = later e first (next_visit REPORT_QUEUE p1) refl
+  visits e (Some page) first =
+      visits_rogue m1 m2 p1 p2 d g INFLATE_QUEUE page result (did.inflate page e first)
+      (next_own (length m1) p1.paced p1.inflate.taken page (rogue.up (ready e)).inflates first)
+      (ready e) rogue
 
-    by : (o : Option Refusal) → work_refusal p1 ≡ o → Done result
-    by (Some why) e =
-        let (answer, part, memory) = did.refused why e in
-        subst Done (sym answer) (none_freed m1 m2 p1 p2 d g Work _ memory part refl
-        (refused_otherwise (work_causes p1.status) why refl e)
-        (λ page offset bytes x. cc) refl
-        (left_same m1 p1 p2 d d g Work why (work_causes p1.status) rogue refl refl part (sym e) refl refl)
-        rogue)
-    by None e = visits e (next_visit INFLATE_QUEUE p1) refl
+  by : (o : Option Refusal) → work_refusal p1 ≡ o → Done result
+  by (Some why) e =
+      let (answer, part, memory) = did.refused why e in
+      subst Done (sym answer) (none_freed m1 m2 p1 p2 d g Work _ memory part refl
+      (refused_otherwise (work_causes p1.status) why refl e)
+      (λ page offset bytes x. cc) refl
+      (left_same m1 p1 p2 d d g Work why (work_causes p1.status) rogue refl refl part (sym e) refl refl)
+      rogue)
+  by None e = visits e (next_visit INFLATE_QUEUE p1) refl
 
 -- ---- sweep
 
-sweeps_up : (a b told c : Bool)
-    → first_refusal ((a ⇒ NotReady) ∷ (b ⇒ NeedsReset) ∷ (not told ⇒ NoFeature)
-    ∷ (not c ⇒ NotBallooned) ∷ []) ≡ None
-    → (a ≡ false) × (c ≡ true)
+sweeps_up : (a b told c : Bool) → first_refusal ((a ⇒ NotReady) ∷ (b ⇒ NeedsReset)
+    ∷ (not told ⇒ NoFeature) ∷ (not c ⇒ NotBallooned) ∷ []) ≡ None → (a ≡ false) × (c ≡ true)
 sweeps_up a b told c e = grind arith
 
 -- a ballooned page is one of the guest's, and not reserved
 ballooned_own : (m : Pages) (p : Part) (d : DriverState) (g : Guest) (page : ℕ) → Rogue m p d g
-    → is_ballooned p.ballooned page ≡ true
-    → IsOwnRequest g.config.queue_size (length m)
+    → is_ballooned p.ballooned page ≡ true → IsOwnRequest g.config.queue_size (length m)
     (record { head = 0; pages = page ∷ []; visited = 0 })
 ballooned_own m p d g page rogue flag = grind (arith, get_or_past)
 
 pub sweep_rogue : (m1 m2 : Pages) (p1 p2 : Part) (d : DriverState) (g : Guest) (page : ℕ)
     (result : Result Bool Refusal) → SweepsBy page m1 m2 p1 p2 result → Rogue m1 p1 d g
     → StepsFreeing (Rogue m2 (handed_back p2) d) p2.loose g (Sweep page) (swept_reply result)
-sweep_rogue m1 m2 p1 p2 d g page result did rogue = by (sweep_refusal page p1) refl
-  where
-    Done : Result Bool Refusal → Type 0
-    Done r = StepsFreeing (Rogue m2 (handed_back p2) d) p2.loose g (Sweep page) (swept_reply r)
+sweep_rogue m1 m2 p1 p2 d g page result did rogue = by (sweep_refusal page p1) refl where
+  Done : Result Bool Refusal → Type 0
+  Done r = StepsFreeing (Rogue m2 (handed_back p2) d) p2.loose g (Sweep page) (swept_reply r)
 
-    by : (o : Option Refusal) → sweep_refusal page p1 ≡ o → Done result
-    by (Some why) e =
-        let (answer, part, memory) = did.refused why e in
-        subst Done (sym answer) (none_freed m1 m2 p1 p2 d g (Sweep page) _ memory part refl
-        (refused_otherwise (sweep_causes (negotiated p1) (is_ballooned p1.ballooned page)) why refl e)
-        (λ page offset bytes x. cc) refl
-        (left_same m1 p1 p2 d d g (Sweep page) why
-        (sweep_causes (negotiated p1) (is_ballooned p1.ballooned page)) rogue refl refl part (sym e) refl refl)
-        rogue)
-    by None e =
-        let (up, flag) = sweeps_up (is_not_ready p1.status) (has_fault p1.status)
-        (must_tell_host p1.features) (is_ballooned p1.ballooned page) e in
-        let one : Request = record { head = 0; pages = page ∷ []; visited = 0 } in
-        let same : PartChanges g.config.queue_size (length m1) p1 p1 = search (arith, device_alike) in
-        subst Done (sym (did.answer e))
-        (rogue_freed m1 m2 p1 p2 d g (Sweep page) _ one
-        (ballooned_own m1 p1 d g page rogue flag)
-        (changes_back (length m1) p1 p1 p2 same (did.part e))
-        (ok_of (contains p1.status driver_ok) (contains p1.status failed) up)
-        (ap (λ (m : Pages). length m) (did.memory e) ∙ length-discarded (page ∷ []) m1)
-        (λ p. ap (λ (m : Pages). frame_at m p) (did.memory e)) (did.loose e) refl refl
-        (λ page offset bytes x. cc) refl rogue)
+  by : (o : Option Refusal) → sweep_refusal page p1 ≡ o → Done result
+  by (Some why) e =
+      let (answer, part, memory) = did.refused why e in
+      subst Done (sym answer) (none_freed m1 m2 p1 p2 d g (Sweep page) _ memory part refl
+      (refused_otherwise (sweep_causes (negotiated p1) (is_ballooned p1.ballooned page)) why refl e)
+      (λ page offset bytes x. cc) refl
+      (left_same m1 p1 p2 d d g (Sweep page) why
+      (sweep_causes (negotiated p1) (is_ballooned p1.ballooned page)) rogue refl refl part (sym e) refl refl)
+      rogue)
+  by None e =
+      let (up, flag) = sweeps_up (is_not_ready p1.status) (has_fault p1.status)
+      (must_tell_host p1.features) (is_ballooned p1.ballooned page) e in
+      let one : Request = record { head = 0; pages = page ∷ []; visited = 0 } in
+      let same : PartChanges g.config.queue_size (length m1) p1 p1 = search (arith, device_alike) in
+      subst Done (sym (did.answer e))
+      (rogue_freed m1 m2 p1 p2 d g (Sweep page) _ one (ballooned_own m1 p1 d g page rogue flag)
+      (changes_back (length m1) p1 p1 p2 same (did.part e))
+      (ok_of (contains p1.status driver_ok) (contains p1.status failed) up)
+      (ap (λ (m : Pages). length m) (did.memory e) ∙ length-discarded (page ∷ []) m1)
+      (λ p. ap (λ (m : Pages). frame_at m p) (did.memory e)) (did.loose e) refl refl
+      (λ page offset bytes x. cc) refl rogue)
 
 -- ---- finish
 
@@ -461,24 +443,20 @@ unflagged_same : (pages : List ℕ) (flags : List Bool) (page : ℕ)
     → is_ballooned flags page ≡ false → is_ballooned (flagged pages false flags) page ≡ false
 unflagged_same pages flags page none = grind (arith, with_none-get)
 
-settled_changes : {size : ℕ} (n q : ℕ) (pages : List ℕ) (p : Part)
-    → ((q == INFLATE_QUEUE) ≡ true → All (λ p. reserved_pages size ≤ p) pages)
-    → PartChanges size n p (settled q pages p)
-settled_changes {size} n q pages p above = by (q == INFLATE_QUEUE) (q == DEFLATE_QUEUE) above
-  where
-    by : (a b : Bool) → (a ≡ true → All (λ p. reserved_pages size ≤ p) pages)
-        → PartChanges size n p
-        (if a then record p { ballooned = flagged pages true p.ballooned }
-        else (if b then record p { ballooned = flagged pages false p.ballooned } else p))
-    by true b high =
-        search (arith, flagged_same, length-with_entry)
-    by false true high =
-        let low : (page : ℕ) → page < reserved_pages size → is_ballooned p.ballooned page ≡ false
-        → is_ballooned (flagged pages false p.ballooned) page ≡ false =
-        λ page lt none. unflagged_same pages p.ballooned page none in
-        assumption (length-with_entry pages false p.ballooned, low)
-    by false false high =
-        record { device = device_alike p p refl; status = refl; target = refl; own = λ own. own }
+settled_changes : {size : ℕ} (n q : ℕ) (pages : List ℕ) (p : Part) → ((q == INFLATE_QUEUE) ≡ true
+    → All (λ p. reserved_pages size ≤ p) pages) → PartChanges size n p (settled q pages p)
+settled_changes {size} n q pages p above = by (q == INFLATE_QUEUE) (q == DEFLATE_QUEUE) above where
+  by : (a b : Bool) → (a ≡ true → All (λ p. reserved_pages size ≤ p) pages)
+      → PartChanges size n p (if a then record p { ballooned = flagged pages true p.ballooned }
+      else (if b then record p { ballooned = flagged pages false p.ballooned } else p))
+  by true b high = search (arith, flagged_same, length-with_entry)
+  by false true high =
+      let low : (page : ℕ) → page < reserved_pages size → is_ballooned p.ballooned page ≡ false
+      → is_ballooned (flagged pages false p.ballooned) page ≡ false =
+      λ page lt none. unflagged_same pages p.ballooned page none in
+      assumption (length-with_entry pages false p.ballooned, low)
+  by false false high =
+      record { device = device_alike p p refl; status = refl; target = refl; own = λ own. own }
 
 finishes_up : (a b c d f : Bool) → first_refusal ((not a ⇒ NoQueue) ∷ (b ⇒ NotReady)
     ∷ (c ⇒ NeedsReset) ∷ (d ⇒ NotTaken) ∷ (f ⇒ NotWorked) ∷ []) ≡ None → (a ≡ true) × (b ≡ false)
@@ -489,8 +467,7 @@ own_taken : {size : ℕ} (n q : ℕ) (p : Part) → is_queue_of_requests q ≡ t
     → AreOwn size n p → All (IsOwnRequest size n) (queue_part q p).taken
 own_taken {size} n q p is other own = elim (cases_eq q 2) [
   | inl e ↦ absurd
-      (let wrong : false ≡ true =
-      subst (λ (k : ℕ). is_queue_of_requests k ≡ true) e is in
+      (let wrong : false ≡ true = subst (λ (k : ℕ). is_queue_of_requests k ≡ true) e is in
       cc)
   | inr ne ↦ by (q == INFLATE_QUEUE) (q == DEFLATE_QUEUE) (q == STATISTICS_QUEUE) other
       (ne_eqb q 2 ne)
@@ -517,88 +494,82 @@ names_nothing {size} n =
 pub finish_rogue : (m1 m2 : Pages) (p1 p2 : Part) (d : DriverState) (g : Guest) (q i : ℕ)
     (result : Result ℕ Refusal) → FinishesBy q i m1 m2 p1 p2 result → Rogue m1 p1 d g
     → StepsFreeing (Rogue m2 (handed_back p2) d) p2.loose g (Finish q i) (finished_reply result)
-finish_rogue m1 m2 p1 p2 d g q i result did rogue = by (finish_refusal q i p1) refl
-  where
-    Done : Result ℕ Refusal → Type 0
-    Done r = StepsFreeing (Rogue m2 (handed_back p2) d) p2.loose g (Finish q i) (finished_reply r)
+finish_rogue m1 m2 p1 p2 d g q i result did rogue = by (finish_refusal q i p1) refl where
+  Done : Result ℕ Refusal → Type 0
+  Done r = StepsFreeing (Rogue m2 (handed_back p2) d) p2.loose g (Finish q i) (finished_reply r)
 
-    size : ℕ
-    size = g.config.queue_size
+  size : ℕ
+  size = g.config.queue_size
 
-    unworked : Bool
-    unworked = p1.paced && not (q == DEFLATE_QUEUE) && has_unvisited (taken_at q i p1)
+  unworked : Bool
+  unworked = p1.paced && not (q == DEFLATE_QUEUE) && has_unvisited (taken_at q i p1)
 
-    -- the request's pages, or none, lose their frames
-    settles : (r lost : Request) → Uses q i r m1 m2 p1 p2 result
-        → contains p1.status driver_ok ≡ true → IsOwnRequest size (length m1) lost
-        → ((q == INFLATE_QUEUE) ≡ true → All (λ p. reserved_pages size ≤ p) r.pages)
-        → ((page : ℕ) → frame_at (without_frames q r.pages m1) page
-        ≡ frame_at (discarded lost.pages m1) page)
-        → length (without_frames q r.pages m1) ≡ length m1
-        → lost_frames q r.pages m1 ≡ frames_behind m1 (each_once lost.pages) → Done result
-    settles r lost uses ok own high same count loose =
-        let x : QueuePart = record (queue_part q p1) {
-          next_used = ((queue_part q p1).next_used + 1) % 65536;
-          taken = remove (queue_part q p1).taken i;
-        } in
-        let n = length m1 in
-        let after : Part = settled q r.pages (using q i p1) in
-        subst Done (sym uses.answer)
-        (rogue_freed m1 m2 p1 p2 d g (Finish q i) _ lost own
-        (changes_back n p1 after p2
-        (changes_then n p1 (using q i p1) after
-        (changes_with n q x p1 (λ all. all_remove (IsOwnRequest size n) (queue_part q p1).taken i all))
-        (settled_changes n q r.pages (using q i p1) high)) uses.part) ok
-        (uses.memory.puts.rest.count ∙ count)
-        (λ page. uses.memory.puts.rest.backing page ∙ same page)
-        (λ k. uses.loose k ∙ ap (times k) loose) refl refl (λ page offset bytes x. cc) refl rogue)
+  -- the request's pages, or none, lose their frames
+  settles : (r lost : Request) → Uses q i r m1 m2 p1 p2 result
+      → contains p1.status driver_ok ≡ true → IsOwnRequest size (length m1) lost
+      → ((q == INFLATE_QUEUE) ≡ true → All (λ p. reserved_pages size ≤ p) r.pages)
+      → ((page : ℕ) → frame_at (without_frames q r.pages m1) page
+      ≡ frame_at (discarded lost.pages m1) page) → length (without_frames q r.pages m1) ≡ length m1
+      → lost_frames q r.pages m1 ≡ frames_behind m1 (each_once lost.pages) → Done result
+  settles r lost uses ok own high same count loose = let x : QueuePart = record (queue_part q p1) {
+    next_used = ((queue_part q p1).next_used + 1) % 65536;
+    taken = remove (queue_part q p1).taken i;
+  } in
+      let n = length m1 in
+      let after : Part = settled q r.pages (using q i p1) in
+      subst Done (sym uses.answer)
+      (rogue_freed m1 m2 p1 p2 d g (Finish q i) _ lost own
+      (changes_back n p1 after p2
+      (changes_then n p1 (using q i p1) after
+      (changes_with n q x p1 (λ all. all_remove (IsOwnRequest size n) (queue_part q p1).taken i all))
+      (settled_changes n q r.pages (using q i p1) high)) uses.part) ok
+      (uses.memory.puts.rest.count ∙ count)
+      (λ page. uses.memory.puts.rest.backing page ∙ same page)
+      (λ k. uses.loose k ∙ ap (times k) loose) refl refl (λ page offset bytes x. cc) refl rogue)
 
-    uses_request : (r : Request) → finish_refusal q i p1 ≡ None → taken_at q i p1 ≡ Some r
-        → (b : Bool) → (q == DEFLATE_QUEUE) ≡ b → Uses q i r m1 m2 p1 p2 result → Done result
-    uses_request r e at true deflates uses =
-        let ready = finishes_up (is_queue_of_requests q) (is_not_ready p1.status)
-        (has_fault p1.status) (is_none (taken_at q i p1)) unworked e in
-        let whole : without_frames q r.pages m1 ≡ m1 =
-        ap (λ (b : Bool). if b then m1 else discarded r.pages m1) deflates in
-        let other : (q == INFLATE_QUEUE) ≡ true → All (λ p. reserved_pages size ≤ p) r.pages =
-        λ inflates. absurd (not_both q deflates inflates) in
-        settles r nothing_named uses
-        (ok_of (contains p1.status driver_ok) (contains p1.status failed) ready.1)
-        (names_nothing (length m1)) other
-        (λ page. ap (λ (m : Pages). frame_at m page) whole
-        ∙ sym (ap number_of (page_discarded [] m1 page)))
-        (ap (λ (m : Pages). length m) whole)
-        (ap (λ (b : Bool). if b then [] else frames_behind m1 (each_once r.pages)) deflates)
-    uses_request r e at false other uses =
-        let ready = finishes_up (is_queue_of_requests q) (is_not_ready p1.status)
-        (has_fault p1.status) (is_none (taken_at q i p1)) unworked e in
-        let ok = ok_of (contains p1.status driver_ok) (contains p1.status failed) ready.1 in
-        let up = rogue.up ok in
-        let all = own_taken (length m1) q p1 ready.0 other
-        (record { inflates = up.inflates; reports = up.reports }) in
-        let taken = (queue_part q p1).taken in
-        let own : IsOwnRequest size (length m1) r =
-        subst (IsOwnRequest size (length m1)) (get_or_from_slice_get taken i r r at)
-        (all i r (slice_get_within taken i r at)) in
-        let bare : without_frames q r.pages m1 ≡ discarded r.pages m1 =
-        ap (λ (b : Bool). if b then m1 else discarded r.pages m1) other in
-        settles r r uses ok own (λ e. own.above) (λ page. ap (λ (m : Pages). frame_at m page) bare)
-        (ap (λ (m : Pages). length m) bare ∙ length-discarded r.pages m1)
-        (ap (λ (b : Bool). if b then [] else frames_behind m1 (each_once r.pages)) other)
+  uses_request : (r : Request) → finish_refusal q i p1 ≡ None → taken_at q i p1 ≡ Some r
+      → (b : Bool) → (q == DEFLATE_QUEUE) ≡ b → Uses q i r m1 m2 p1 p2 result → Done result
+  uses_request r e at true deflates uses =
+      let ready = finishes_up (is_queue_of_requests q) (is_not_ready p1.status)
+      (has_fault p1.status) (is_none (taken_at q i p1)) unworked e in
+      let whole : without_frames q r.pages m1 ≡ m1 =
+      ap (λ (b : Bool). if b then m1 else discarded r.pages m1) deflates in
+      let other : (q == INFLATE_QUEUE) ≡ true → All (λ p. reserved_pages size ≤ p) r.pages =
+      λ inflates. absurd (not_both q deflates inflates) in
+      settles r nothing_named uses
+      (ok_of (contains p1.status driver_ok) (contains p1.status failed) ready.1)
+      (names_nothing (length m1)) other (λ page. ap (λ (m : Pages). frame_at m page) whole
+      ∙ sym (ap number_of (page_discarded [] m1 page))) (ap (λ (m : Pages). length m) whole)
+      (ap (λ (b : Bool). if b then [] else frames_behind m1 (each_once r.pages)) deflates)
+  uses_request r e at false other uses =
+      let ready = finishes_up (is_queue_of_requests q) (is_not_ready p1.status)
+      (has_fault p1.status) (is_none (taken_at q i p1)) unworked e in
+      let ok = ok_of (contains p1.status driver_ok) (contains p1.status failed) ready.1 in
+      let up = rogue.up ok in
+      let all = own_taken (length m1) q p1 ready.0 other
+      (record { inflates = up.inflates; reports = up.reports }) in
+      let taken = (queue_part q p1).taken in
+      let own : IsOwnRequest size (length m1) r = subst (IsOwnRequest size (length m1))
+      (get_or_from_slice_get taken i r r at) (all i r (slice_get_within taken i r at)) in
+      let bare : without_frames q r.pages m1 ≡ discarded r.pages m1 =
+      ap (λ (b : Bool). if b then m1 else discarded r.pages m1) other in
+      settles r r uses ok own (λ e. own.above) (λ page. ap (λ (m : Pages). frame_at m page) bare)
+      (ap (λ (m : Pages). length m) bare ∙ length-discarded r.pages m1)
+      (ap (λ (b : Bool). if b then [] else frames_behind m1 (each_once r.pages)) other)
 
-    by : (o : Option Refusal) → finish_refusal q i p1 ≡ o → Done result
-    by (Some why) e =
-        let (answer, part, memory) = did.refused why e in
-        subst Done (sym answer) (none_freed m1 m2 p1 p2 d g (Finish q i) _ memory part refl
-        (refused_otherwise (finish_causes q (negotiated p1) p1.paced (taken_at q i p1)) why refl e)
-        (λ page offset bytes x. cc) refl
-        (left_same m1 p1 p2 d d g (Finish q i) why
-        (finish_causes q (negotiated p1) p1.paced (taken_at q i p1)) rogue refl refl part (sym e) refl refl)
-        rogue)
-    by None e =
-        let (r, at) = there_is (not (is_queue_of_requests q)) (is_not_ready p1.status)
-        (has_fault p1.status) unworked (taken_at q i p1) e in
-        uses_request r e at (q == DEFLATE_QUEUE) refl (did.finished r e at)
+  by : (o : Option Refusal) → finish_refusal q i p1 ≡ o → Done result
+  by (Some why) e =
+      let (answer, part, memory) = did.refused why e in
+      subst Done (sym answer) (none_freed m1 m2 p1 p2 d g (Finish q i) _ memory part refl
+      (refused_otherwise (finish_causes q (negotiated p1) p1.paced (taken_at q i p1)) why refl e)
+      (λ page offset bytes x. cc) refl
+      (left_same m1 p1 p2 d d g (Finish q i) why
+      (finish_causes q (negotiated p1) p1.paced (taken_at q i p1)) rogue refl refl part (sym e) refl refl)
+      rogue)
+  by None e =
+      let (r, at) = there_is (not (is_queue_of_requests q)) (is_not_ready p1.status)
+      (has_fault p1.status) unworked (taken_at q i p1) e in
+      uses_request r e at (q == DEFLATE_QUEUE) refl (did.finished r e at)
 
 -- ---- ask and target
 
@@ -618,37 +589,33 @@ asked_not (Err why) ok = absurd cc
 pub ask_rogue : {T : Type 0} (m1 m2 : Pages) (p1 p2 : Part) (d : DriverState) (g : Guest)
     (result : Result T Refusal) → AsksBy m1 m2 p1 p2 result → Rogue m1 p1 d g
     → StepsAlone (Rogue m2 p2 d) g Ask (asked_reply result)
-ask_rogue m1 m2 p1 p2 d g result did rogue = by (ask_refusal p1) refl
-  where
-    by : (o : Option Refusal) → ask_refusal p1 ≡ o
-        → StepsAlone (Rogue m2 p2 d) g Ask (asked_reply result)
-    by (Some why) e =
-        let (answer, part, memory) = did.refused why e in
-        subst (λ (r : Result _ Refusal). StepsAlone (Rogue m2 p2 d) g Ask (asked_reply r))
-        (sym answer)
-        (unchanged_alone m1 m2 p1 p2 d d g Ask why
-        (ask_causes p1.status (is_some (taken_at STATISTICS_QUEUE 0 p1)))
-        (record { mem = memory; part = part; driver = refl }) refl (sym e) refl refl refl refl
-        (λ page offset bytes x. cc) rogue)
-    by None e =
-        let part = did.part e in
-        let ready = ok_of (contains p1.status driver_ok) (contains p1.status failed)
-        (asks_up (is_not_ready p1.status) (has_fault p1.status)
-        (not (is_some (taken_at STATISTICS_QUEUE 0 p1))) e) in
-        let at = taken_buffer (is_not_ready p1.status) (has_fault p1.status)
-        (taken_at STATISTICS_QUEUE 0 p1) e in
-        let adds = did.memory at.0 e at.1 in
-        rogue_alone m1 m2 p1 p2 d d g Ask _ rogue
-        (record {
-          driver = driver_same d d refl;
-          device = device_alike p1 p2 (ap kept_of_rogue part);
-          up = λ was ok. up_kept m1 m2 p1 p2 adds.puts.rest.count
-              (λ page low. adds.puts.rest.backing page)
-              (ap (λ (p : Part). p.inflate.taken) part)
-              (ap (λ (p : Part). p.report.taken) part) (was ready);
-        }) adds.puts.rest.count adds.puts.rest.backing (ap (λ (p : Part). p.target) part)
-        (done_wants _ (asked_not result (did.answers e))) (λ page offset bytes x. cc) refl
-        (λ why x. no_refusal _ why (asked_not result (did.answers e)) x)
+ask_rogue m1 m2 p1 p2 d g result did rogue = by (ask_refusal p1) refl where
+  by : (o : Option Refusal) → ask_refusal p1 ≡ o
+      → StepsAlone (Rogue m2 p2 d) g Ask (asked_reply result)
+  by (Some why) e =
+      let (answer, part, memory) = did.refused why e in
+      subst (λ (r : Result _ Refusal). StepsAlone (Rogue m2 p2 d) g Ask (asked_reply r))
+      (sym answer) (unchanged_alone m1 m2 p1 p2 d d g Ask why
+      (ask_causes p1.status (is_some (taken_at STATISTICS_QUEUE 0 p1)))
+      (record { mem = memory; part = part; driver = refl }) refl (sym e) refl refl refl refl
+      (λ page offset bytes x. cc) rogue)
+  by None e =
+      let part = did.part e in
+      let ready = ok_of (contains p1.status driver_ok) (contains p1.status failed)
+      (asks_up (is_not_ready p1.status) (has_fault p1.status)
+      (not (is_some (taken_at STATISTICS_QUEUE 0 p1))) e) in
+      let at = taken_buffer (is_not_ready p1.status) (has_fault p1.status)
+      (taken_at STATISTICS_QUEUE 0 p1) e in
+      let adds = did.memory at.0 e at.1 in
+      rogue_alone m1 m2 p1 p2 d d g Ask _ rogue (record {
+        driver = driver_same d d refl;
+        device = device_alike p1 p2 (ap kept_of_rogue part);
+        up = λ was ok. up_kept m1 m2 p1 p2 adds.puts.rest.count
+            (λ page low. adds.puts.rest.backing page) (ap (λ (p : Part). p.inflate.taken) part)
+            (ap (λ (p : Part). p.report.taken) part) (was ready);
+      }) adds.puts.rest.count adds.puts.rest.backing (ap (λ (p : Part). p.target) part)
+      (done_wants _ (asked_not result (did.answers e))) (λ page offset bytes x. cc) refl
+      (λ why x. no_refusal _ why (asked_not result (did.answers e)) x)
 
 pub target_rogue : (m1 m2 : Pages) (p1 p2 : Part) (d : DriverState) (g : Guest) (n : ℕ)
     → m2 ≡ m1 → p2 ≡ record p1 { target = n } → Rogue m1 p1 d g
@@ -657,8 +624,7 @@ target_rogue m1 m2 p1 p2 d g n memory part rogue =
     let same : (page : ℕ) → frame_at m2 page ≡ frame_at m1 page =
     λ page. ap (λ (m : Pages). frame_at m page) memory in
     let count : length m2 ≡ length m1 = ap (λ (m : Pages). length m) memory in
-    rogue_alone m1 m2 p1 p2 d d g (SetTarget n) Done rogue
-    (record {
+    rogue_alone m1 m2 p1 p2 d d g (SetTarget n) Done rogue (record {
       driver = driver_same d d refl;
       device = device_alike p1 p2 (ap kept_of_rogue part);
       up = λ was ok. up_kept m1 m2 p1 p2 count (λ page low. same page)

@@ -30,22 +30,18 @@ record IsFound (q size : ℕ) (m : Pages) (r : Request) : Type 0 where
 found : (kind : Kind) (m : Pages) (d : DriverState) (n : ℕ) (r : Request) → 64 ≤ n → length m ≡ n
     → Knows kind d n r → Codes kind m d r
     → IsFound (queue_of kind) (ring_of (queue_of kind) d).size m r
-found Inflating m d n r large len is code =
-    let size = d.inflate.ring.size in
-    record {
-      pieces = _;
-      chain = coded_chain m 0 size n d.inflate.sent r (omega arith) large len is code;
-      request = coded_pages m 0 size n d.inflate.sent r len is code;
-      quiet = λ p. refl;
-    }
-found Deflating m d n r large len is code =
-    let size = d.deflate.ring.size in
-    record {
-      pieces = _;
-      chain = coded_chain m 1 size n d.deflate.sent r (omega arith) large len is code;
-      request = coded_pages m 1 size n d.deflate.sent r len is code;
-      quiet = λ p. refl;
-    }
+found Inflating m d n r large len is code = let size = d.inflate.ring.size in record {
+  pieces = _;
+  chain = coded_chain m 0 size n d.inflate.sent r (omega arith) large len is code;
+  request = coded_pages m 0 size n d.inflate.sent r len is code;
+  quiet = λ p. refl;
+}
+found Deflating m d n r large len is code = let size = d.deflate.ring.size in record {
+  pieces = _;
+  chain = coded_chain m 1 size n d.deflate.sent r (omega arith) large len is code;
+  request = coded_pages m 1 size n d.deflate.sent r len is code;
+  quiet = λ p. refl;
+}
 found Reporting_free m d n r large len is code =
     let size = d.report.ring.size in
     let blocks = d.report.blocks in
@@ -77,10 +73,9 @@ takes Deflating g reply new does = (refl, does)
 takes Reporting_free g reply new does = (refl, does)
 
 request_taken : (kind : Kind) (m1 m2 : Pages) (p1 p2 : Part) (d : DriverState) (g : Guest)
-    (posted : List Request) (result : Result (Option ℕ) Refusal)
-    → (requests kind g).posted ≡ posted → TakesBy (queue_of kind) m1 m2 p1 p2 result
-    → Honest m1 p1 d g → IsRunning m1 p1 d g → take_refusal (queue_of kind) p1 ≡ None
-    → refusal_of g (Take (queue_of kind)) ≡ None
+    (posted : List Request) (result : Result (Option ℕ) Refusal) → (requests kind g).posted ≡ posted
+    → TakesBy (queue_of kind) m1 m2 p1 p2 result → Honest m1 p1 d g → IsRunning m1 p1 d g
+    → take_refusal (queue_of kind) p1 ≡ None → refusal_of g (Take (queue_of kind)) ≡ None
     → StepsAlone (Honest m2 p2 d) g (Take (queue_of kind)) (taken_reply result)
 request_taken kind m1 m2 p1 p2 d g [] result is did stands run free_part free =
     let q = queue_of kind in
@@ -124,11 +119,9 @@ request_taken kind m1 m2 p1 p2 d g (r ∷ rest) result is did stands run free_pa
     (part ∙ ap (taking q r.head r.pages) (here.quiet p1)) refl there) (same_frames kind rs g))
 
 pub take_step : (m1 m2 : Pages) (p1 p2 : Part) (d : DriverState) (g : Guest) (q : ℕ)
-    (result : Result (Option ℕ) Refusal)
-    → TakesBy q m1 m2 p1 p2 result → Honest m1 p1 d g
+    (result : Result (Option ℕ) Refusal) → TakesBy q m1 m2 p1 p2 result → Honest m1 p1 d g
     → StepsAlone (Honest m2 p2 d) g (Take q) (taken_reply result)
-take_step m1 m2 p1 p2 d g q result did stands =
-    by_queue (λ k. TakesBy k m1 m2 p1 p2 result
+take_step m1 m2 p1 p2 d g q result did stands = by_queue (λ k. TakesBy k m1 m2 p1 p2 result
     → StepsAlone (Honest m2 p2 d) g (Take k) (taken_reply result)) q
     (λ at. take_by m1 m2 p1 p2 d g 0 result refl at stands
     (λ run. ap (λ (l : List Request). length l) run.inflate.remembers)

@@ -11,8 +11,7 @@ use Rattle.vb_guest.proofs.RingTaken.{ring_next, ring_taken}
 -- the device's next entry is the head of the first posted request
 pub next_shown : (mem : Pages) (q : ℕ) (ring : DriverEnd) (part : QueuePart) (rs : Requests)
     → RingOf mem q ring part rs
-    → next_entry mem ring.layout ring.size part.next_avail
-    ≡ Ok (slice_get (heads_of rs.posted) 0)
+    → next_entry mem ring.layout ring.size part.next_avail ≡ Ok (slice_get (heads_of rs.posted) 0)
 next_shown mem q ring part rs stands =
     grind (
       arith,

@@ -37,19 +37,16 @@ WorksOn a b g reply new =
 -- ---- refusals, and nothing to visit
 
 work_refused : (m1 m2 : Pages) (p1 p2 : Part) (d : DriverState) (g : Guest) (why : Refusal)
-    (result : Result (Option WorkedPage) Refusal)
-    → WorksBy m1 m2 p1 p2 result → Honest m1 p1 d g → work_refusal p1 ≡ Some why
-    → refusal_of g Work ≡ Some why
+    (result : Result (Option WorkedPage) Refusal) → WorksBy m1 m2 p1 p2 result
+    → Honest m1 p1 d g → work_refusal p1 ≡ Some why → refusal_of g Work ≡ Some why
     → StepsFreeing (Honest m2 (handed_back p2) d) p2.loose g Work (worked_reply result)
 work_refused m1 m2 p1 p2 d g why result did stands by_part by_model = grind arith
 
 work_idle : (m1 m2 : Pages) (p1 p2 : Part) (d : DriverState) (g : Guest)
-    (result : Result (Option WorkedPage) Refusal)
-    → WorksBy m1 m2 p1 p2 result → Honest m1 p1 d g → work_refusal p1 ≡ None
-    → refusal_of g Work ≡ None → next_visit 0 p1 ≡ None
-    → next_visit 4 p1 ≡ None → visit_of g.config.paced g.inflate.taken ≡ None
-    → visit_of g.config.paced g.report.taken ≡ None
-    → StepsFreeing (Honest m2 (handed_back p2) d) p2.loose g Work (worked_reply result)
+    (result : Result (Option WorkedPage) Refusal) → WorksBy m1 m2 p1 p2 result → Honest m1 p1 d g
+    → work_refusal p1 ≡ None → refusal_of g Work ≡ None → next_visit 0 p1 ≡ None → next_visit 4 p1
+    ≡ None → visit_of g.config.paced g.inflate.taken ≡ None → visit_of g.config.paced g.report.taken
+    ≡ None → StepsFreeing (Honest m2 (handed_back p2) d) p2.loose g Work (worked_reply result)
 work_idle m1 m2 p1 p2 d g result did stands by_part by_model here later there after = grind arith
 
 -- ---- a visit
@@ -58,8 +55,7 @@ work_idle m1 m2 p1 p2 d g result did stands by_part by_model here later there af
 next_taken : (P : ℕ → Type 0) (rs : List Request) (page : ℕ) → All (λ r. All P r.pages) rs
     → next_page rs ≡ Some page → P page
 next_taken P [] page all e = absurd cc
-next_taken P (r ∷ rs) page all e =
-    step (is_unvisited r) e
+next_taken P (r ∷ rs) page all e = step (is_unvisited r) e
     (next_taken P rs page (All-tail (λ (x : Request). All P x.pages) r rs all))
   where
     step : (v : Bool) → cond v (slice_get r.pages r.visited) (next_page rs) ≡ Some page
@@ -85,8 +81,7 @@ next_own n false taken page all e = absurd cc
 ties_visited : (kind : Kind) (m : Pages) (p : Part) (d : DriverState) (g : Guest) (page : ℕ)
     (part : QueuePart) → HasParts (beside_queues p) (beside_sides d) (beside_requests g)
     → HasPages m g.config.queue_size g.config.pages (unbacked (page ∷ []) g).frames
-    (unbacked (page ∷ []) g).contents
-    → IsRunning m p d g → LineWith kind m d g.config.pages part
+    (unbacked (page ∷ []) g).contents → IsRunning m p d g → LineWith kind m d g.config.pages part
     (record (requests kind g) { taken = visiting (requests kind g).taken })
     → Ties m (handed_back (with_queue (queue_of kind) part p)) d (visited kind page g)
 ties_visited Inflating m p d g page part parts pages run line =
@@ -130,15 +125,13 @@ request_visited kind m1 m2 p1 p2 d g page result did stands run free there perfo
     (ap handed_back did.part) refl fresh) (ap (with_entry one.pages None) (same_frames kind _ g)) did.loose (refl, tt) own.below)
 
 pub work_step : (m1 m2 : Pages) (p1 p2 : Part) (d : DriverState) (g : Guest)
-    (result : Result (Option WorkedPage) Refusal)
-    → WorksBy m1 m2 p1 p2 result → Honest m1 p1 d g
+    (result : Result (Option WorkedPage) Refusal) → WorksBy m1 m2 p1 p2 result → Honest m1 p1 d g
     → StepsFreeing (Honest m2 (handed_back p2) d) p2.loose g Work (worked_reply result)
 work_step m1 m2 p1 p2 d g result did stands =
     let device = stands.ties.parts.device in
     by_state m1 p1 d g Work (work_refusal p1) stands.ties.queues (works_idle p1 g device.status)
     (λ run. works_same p1 g device.status)
-    (λ why. work_refused m1 m2 p1 p2 d g why result did stands)
-    (λ run by_part by_model.
+    (λ why. work_refused m1 m2 p1 p2 d g why result did stands) (λ run by_part by_model.
     let first : next_visit 0 p1 ≡ visit_of g.config.paced g.inflate.taken =
     ap (λ (b : Bool). visit_of b p1.inflate.taken) device.paced
     ∙ ap (λ (rs : List Request). visit_of g.config.paced rs) run.inflate.remembers in

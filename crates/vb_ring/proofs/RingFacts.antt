@@ -1,19 +1,16 @@
 -- Words of rings, ends and what stands next, worked out.
-use Rattle.std.proofs.Common.{◌≡◌, ℕ, true, false, List, [], ◌∷◌, map}
-use Rattle.std.proofs.Common.{refl, arith}
+use Rattle.std.proofs.Common.{◌≡◌, ℕ, true, false, List, [], ◌∷◌, map, refl, arith}
 use Rattle.std.specs.Prelude.{Option, Some, None, Ok, Err}
 use Rattle.vb_chain.specs.declared.fault.ChainFault.TheVariants.{IndexJump}
 use Rattle.vb_ring.specs.declared.driver.Full.TheVariants.{TooFewFree}
 use Rattle.vb_ring.specs.declared.driver.RingBroken.TheVariants.{IndexAhead, NotOutstanding}
-use Rattle.vb_ring.specs.{Layout.{layout_of, Fits, IsSize}, Numbers.numbers}
-use Rattle.vb_ring.specs.Entries.{avail_index, avail_place, used_index, used_place, ahead, next_by}
-use Rattle.vb_ring.specs.Entries.{is_head, only_head}
-use Rattle.vb_ring.specs.Ends.{DriverEnd, DeviceEnd, is_unused, free_descriptors, heads_out, outstanding}
-use Rattle.vb_ring.specs.Ends.{next_head, next_path, AreSingle, fresh_end, add_answer}
-use Rattle.vb_ring.specs.Ends.{after_add, after_take}
+use Rattle.vb_ring.specs.{Layout.{layout_of, Fits, IsSize}, Numbers.numbers, Entries.avail_index}
+use Rattle.vb_ring.specs.Entries.{avail_place, used_index, used_place, ahead, next_by, is_head}
+use Rattle.vb_ring.specs.{Entries.only_head, Ends.{DriverEnd, DeviceEnd, is_unused}}
+use Rattle.vb_ring.specs.Ends.{free_descriptors, heads_out, outstanding, next_head, next_path}
+use Rattle.vb_ring.specs.Ends.{AreSingle, fresh_end, add_answer, after_add, after_take}
 use Rattle.vb_ring.specs.Calls.{table_extent, avail_entry, avail_counter, used_entry, used_counter}
-use Rattle.vb_ring.specs.Calls.{after_pop, popped}
-use Rattle.vb_ring.specs.Frame.{IsIn, IsOutside}
+use Rattle.vb_ring.specs.{Calls.{after_pop, popped}, Frame.{IsIn, IsOutside}}
 
 -- ---- places: VIRTIO 1.1, 2.6, of a ring of 256 descriptors from page 3 on
 
@@ -101,9 +98,8 @@ unused = refl
 
 -- an id that isn't the head of a chain that is out is none
 ids : map (only_head owners) (Ok None ∷ Ok (Some 0) ∷ Ok (Some 2) ∷ Ok (Some 1) ∷ Ok (Some 8)
-    ∷ Err IndexAhead ∷ [])
-    ≡ Ok None ∷ Ok (Some 0) ∷ Err NotOutstanding ∷ Err NotOutstanding ∷ Err NotOutstanding
-    ∷ Err IndexAhead ∷ []
+    ∷ Err IndexAhead ∷ []) ≡ Ok None ∷ Ok (Some 0)
+    ∷ Err NotOutstanding ∷ Err NotOutstanding ∷ Err NotOutstanding ∷ Err IndexAhead ∷ []
 ids = refl
 
 free : free_descriptors busy ∷ heads_out busy ∷ next_path busy 2 ∷ []
@@ -147,13 +143,8 @@ nothing_taken_back = refl
 -- ---- a device's end
 
 abbrev device : DeviceEnd
-device = record {
-  layout = layout_of 3 8;
-  size = 8;
-  ready = true;
-  next_avail = 65535;
-  next_used = 4;
-}
+device =
+    record { layout = layout_of 3 8; size = 8; ready = true; next_avail = 65535; next_used = 4 }
 
 pops : map (after_pop device) (Ok (Some (record { head = 1; chain = [] })) ∷ Ok None ∷ Err IndexJump ∷ [])
     ≡ record device { next_avail = 0 } ∷ device ∷ device ∷ []
