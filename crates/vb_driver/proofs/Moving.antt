@@ -8,14 +8,14 @@ use Rattle.std.proofs.lemmas.List.FromFn.{get_or-map-range_with_len, length-map-
 use Rattle.std.{proofs.lemmas.List.{get_or_past, get_or-replicate, same_lists}, specs.List.list_all}
 use Rattle.std.{proofs.lemmas.List.Folds.list_any-append, proofs.Common.slice_index_or}
 use Rattle.vb_model.specs.Pages.{place_of, placed, is_free, is_used, is_giving, is_lent, is_taking}
-use Rattle.vb_model.specs.declared.places.Place.TheVariants.{Reserved, Free, Used, Giving, Lent}
+use Rattle.vb_model.specs.declared.places.Place.TheVariants.{Reserved, Free, Giving, Lent}
 use Rattle.vb_model.proofs.Tables.{pages_where-passes, is_in-take, is_in-append, list_all-at}
 use Rattle.vb_model.specs.Pages.{is_stranded, is_reporting, all_free, pages_of_all}
-use Rattle.vb_model.specs.declared.places.Place.TheVariants.{Taking, Stranded, Reporting}
+use Rattle.vb_model.specs.declared.places.Place.TheVariants.{Taking, Stranded}
 use Rattle.vb_model.{proofs.Tables.count_by-cons, specs.Orderly.times, specs.Life.place_after_reset}
 use Rattle.vb_model.specs.Tests.{is_in, one_if, pages_from, pages_where}
-use Rattle.vb_model.{specs.declared.places.Place.Place, specs.Layout.{reserved_pages, ring_page}}
-use Rattle.vb_model.{proofs.GuestSteps.place_of-reset, proofs.Counts.length-pages_where}
+use Rattle.vb_model.specs.{declared.places.Place.Place, Layout.{reserved_pages, ring_page}}
+use Rattle.vb_model.proofs.{GuestSteps.place_of-reset, Counts.length-pages_where}
 use Rattle.vb_ram.specs.Pages.{Pages}
 use Rattle.vb_pages.{specs.FreePages.FreePages, proofs.ListsLemmas.times_in}
 use Rattle.vb_driver.proofs.{Counting.at_is, Flags.{fresh_flags, for_itself}, Keeping.kept_moved}
@@ -440,13 +440,7 @@ in_where test xs n d lt = in_from test n 0 n xs d lt (omega arith)
 -- just the reported pages are free besides
 free_after : (x : Place) → is_free (place_after_reset x) ≡ cond (is_reporting x) true (is_free x)
 free_after Reserved = refl
-free_after Free = refl
-free_after Used = refl
-free_after Giving = refl
-free_after Lent = refl
-free_after Taking = refl
-free_after Stranded = refl
-free_after Reporting = refl
+free_after x = refl
 
 free_all_after : (places : List Place)
     → marked (pages_where is_reporting places) true (map is_free places)

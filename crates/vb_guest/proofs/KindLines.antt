@@ -89,7 +89,5 @@ pub ties_with : (kind : Kind) (m : Pages) (p : Part) (d : DriverState) (g : Gues
     → Ties m (with_queue (queue_of kind) part p) d (with_requests kind rs g)
 ties_with Inflating m p d g part rs ties run line =
     record { parts = ties.parts; pages = ties.pages; queues = inr assumption }
-ties_with Deflating m p d g part rs ties run line =
-    record { parts = ties.parts; pages = ties.pages; queues = inr assumption }
-ties_with Reporting_free m p d g part rs ties run line =
+ties_with kind m p d g part rs ties run line =
     record { parts = ties.parts; pages = ties.pages; queues = inr assumption }

@@ -74,9 +74,7 @@ ties_left : (kind : Kind) (m : Pages) (p : Part) (g : Guest) (areas : FreePages)
     (left kind r (driver_of g areas sides)) (reaped kind r rest g)
 ties_left Inflating m p g areas sides r rest ties run line said =
     record { parts = assumption; pages = ties.pages; queues = inr assumption }
-ties_left Deflating m p g areas sides r rest ties run line said =
-    record { parts = assumption; pages = ties.pages; queues = inr assumption }
-ties_left Reporting_free m p g areas sides r rest ties run line said =
+ties_left kind m p g areas sides r rest ties run line said =
     record { parts = assumption; pages = ties.pages; queues = inr assumption }
 
 reaps : (kind : Kind) (g : Guest) (reply : Reply) (new : Guest)

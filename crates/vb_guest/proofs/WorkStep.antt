@@ -3,12 +3,11 @@ use Rattle.std.specs.Prelude.{◌≡◌, ℕ, ◌<◌, ◌≤◌, Bool, true, fa
 use Rattle.std.specs.Prelude.{◌∷◌, All, Result, Option, Some, None, MatchOption, is_some, slice_get}
 use Rattle.std.{specs.Prelude.refl, proofs.lemmas.List.Elements.{All-nil, All-cons, All-tail}}
 use Rattle.std.proofs.Common.{sym, ◌∙◌, ap, subst, arith, inr}
-use Rattle.vb_model.specs.Requests.{Request, Kind, Inflating, Deflating, Reporting_free, queue_of}
-use Rattle.vb_model.specs.{Device.{is_unvisited, visiting, next_page, visited}, Refusals.refusal_of}
-use Rattle.vb_model.specs.declared.{replies.Reply.TheVariants.Worked, calls.Call.TheVariants.Work}
-use Rattle.vb_model.specs.{Guest.{Guest, requests, unbacked}, declared.replies.Refusal.Refusal}
-use Rattle.vb_model.specs.{declared.replies.Reply.Reply, Layout.reserved_pages, Step.Performs}
-use Rattle.vb_model.proofs.CallSteps.{Idles}
+use Rattle.vb_model.{proofs.CallSteps.Idles, specs.Device.{is_unvisited, visiting, next_page}}
+use Rattle.vb_model.specs.{Device.visited, Guest.{Guest, requests, unbacked}, Layout.reserved_pages}
+use Rattle.vb_model.specs.{Refusals.refusal_of, Requests.{Request, Kind, Inflating, Reporting_free}}
+use Rattle.vb_model.specs.{Requests.queue_of, Step.Performs, declared.calls.Call.TheVariants.Work}
+use Rattle.vb_model.specs.declared.replies.{Refusal.Refusal, Reply.Reply, Reply.TheVariants.Worked}
 use Rattle.vb_ram.specs.{Pages.{Pages, frame_at}, Part.{Part, QueuePart}}
 use Rattle.vb_driver.specs.{State.DriverState, Calls.ring_of}
 use Rattle.vb_device.specs.{Calls.{next_visit, Visits, WorksBy}, Queues.{queue_part, with_queue}}
@@ -86,9 +85,7 @@ ties_visited : (kind : Kind) (m : Pages) (p : Part) (d : DriverState) (g : Guest
     → Ties m (handed_back (with_queue (queue_of kind) part p)) d (visited kind page g)
 ties_visited Inflating m p d g page part parts pages run line =
     record { parts = assumption; pages = pages; queues = inr assumption }
-ties_visited Deflating m p d g page part parts pages run line =
-    record { parts = assumption; pages = pages; queues = inr assumption }
-ties_visited Reporting_free m p d g page part parts pages run line =
+ties_visited kind m p d g page part parts pages run line =
     record { parts = assumption; pages = pages; queues = inr assumption }
 
 request_visited : (kind : Kind) (m1 m2 : Pages) (p1 p2 : Part) (d : DriverState) (g : Guest)

@@ -10,8 +10,8 @@ use Rattle.vb_model.specs.{Driver.pages_needed, Guest.{Guest, requests}, Life.fe
 use Rattle.vb_model.specs.{Life.{Negotiates, lacking}, Refusals.{refusal_of, inflate_count}}
 use Rattle.vb_model.specs.{Refusals.{deflate_count, oom_count}, Requests.{Request, Requests}}
 use Rattle.vb_model.specs.Requests.{all_requests, headed, IsLeastHead, Kind, Inflating}
-use Rattle.vb_model.specs.Requests.{kind_of_queue, StatisticsBuffer, NoBuffer, BufferPosted}
-use Rattle.vb_model.specs.{Requests.{BufferTaken, BufferDone}, Rogue.Scribbled, Step.HonestStep}
+use Rattle.vb_model.specs.Requests.{kind_of_queue, StatisticsBuffer, NoBuffer}
+use Rattle.vb_model.specs.{Requests.BufferTaken, Rogue.Scribbled, Step.HonestStep}
 use Rattle.vb_model.specs.declared.calls.Call.{Call, TheVariants.{Init, Reset, Alloc, Free, Read}}
 use Rattle.vb_model.specs.declared.calls.Call.TheVariants.{Write, Scribble, Inflate, Deflate, Oom}
 use Rattle.vb_model.specs.declared.calls.Call.TheVariants.{Report, Stats, Reap, Take, Work, Finish}
@@ -60,23 +60,17 @@ same_named head a b g new new' e e' same = grind (arith, same_last)
 fills_same : (buffer : StatisticsBuffer) (g : Guest) (r : Reply) (new : Guest) (r' : Reply) (new' : Guest)
     → Fills buffer g r new → Fills buffer g r' new' → Same r new r' new'
 fills_same NoBuffer g r new r' new' s t = both r r' _ new new' _ s.0 s.1 t.0 t.1
-fills_same (BufferPosted f) g r new r' new' s t = both r r' _ new new' _ s.0 s.1 t.0 t.1
-fills_same (BufferTaken f) g r new r' new' s t = both r r' _ new new' _ s.0 s.1 t.0 t.1
-fills_same (BufferDone f) g r new r' new' s t = both r r' _ new new' _ s.0 s.1 t.0 t.1
+fills_same buffer g r new r' new' s t = both r r' _ new new' _ s.0 s.1 t.0 t.1
 
 takes_buffer_same : (buffer : StatisticsBuffer) (g : Guest) (r : Reply) (new : Guest) (r' : Reply)
     (new' : Guest) → TakesBuffer buffer g r new → TakesBuffer buffer g r' new' → Same r new r' new'
 takes_buffer_same NoBuffer g r new r' new' s t = both r r' _ new new' _ s.0 s.1 t.0 t.1
-takes_buffer_same (BufferPosted f) g r new r' new' s t = both r r' _ new new' _ s.0 s.1 t.0 t.1
-takes_buffer_same (BufferTaken f) g r new r' new' s t = both r r' _ new new' _ s.0 s.1 t.0 t.1
-takes_buffer_same (BufferDone f) g r new r' new' s t = both r r' _ new new' _ s.0 s.1 t.0 t.1
+takes_buffer_same buffer g r new r' new' s t = both r r' _ new new' _ s.0 s.1 t.0 t.1
 
 asks_same : (buffer : StatisticsBuffer) (g : Guest) (r : Reply) (new : Guest) (r' : Reply) (new' : Guest)
     → ReturnsBuffer buffer g r new → ReturnsBuffer buffer g r' new' → Same r new r' new'
-asks_same NoBuffer g r new r' new' s t = absurd s
-asks_same (BufferPosted f) g r new r' new' s t = absurd s
 asks_same (BufferTaken f) g r new r' new' s t = both r r' _ new new' _ s.0 s.1 t.0 t.1
-asks_same (BufferDone f) g r new r' new' s t = absurd s
+asks_same buffer g r new r' new' s t = absurd s
 
 reaps_same : (kind : Kind) (done : List Request) (g : Guest) (r : Reply) (new : Guest) (r' : Reply)
     (new' : Guest) → Reaps kind done g r new → Reaps kind done g r' new' → Same r new r' new'

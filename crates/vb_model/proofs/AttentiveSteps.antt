@@ -1,10 +1,9 @@
 -- Nothing is outstanding of a guest that isn't ready.
 use Rattle.std.proofs.Common.{◌≡◌, ◌≢◌, ℕ, Bool, true, false, List, refl, sym, subst, ◌⊎◌, inl, inr}
 use Rattle.std.{proofs.Common.arith, specs.Prelude.{not, None}}
-use Rattle.vb_model.specs.declared.calls.Call.TheVariants.{Init, Reset, Alloc, Free, Read, Write}
-use Rattle.vb_model.specs.declared.calls.Call.TheVariants.{Scribble, Inflate, Deflate, Oom, Report}
-use Rattle.vb_model.specs.declared.calls.Call.TheVariants.{Stats, Reap, Take, Work, Finish, Sweep}
-use Rattle.vb_model.specs.{declared.calls.Call.TheVariants.{Ask, SetTarget}, Driver.Fills}
+use Rattle.vb_model.specs.declared.calls.Call.TheVariants.{Alloc, Free, Read, Inflate, Deflate, Oom}
+use Rattle.vb_model.specs.declared.calls.Call.TheVariants.{Report, Stats, Take, Sweep, Ask}
+use Rattle.vb_model.specs.{declared.calls.Call.TheVariants.SetTarget, Driver.Fills}
 use Rattle.vb_model.specs.Requests.{Request, Kind, kind_of_queue, StatisticsBuffer}
 use Rattle.vb_model.{specs.Orderly.IsOrderly, proofs.CallSteps.{match_cases, not_refused}}
 use Rattle.vb_model.specs.{Step.HonestStep, HonestRuns.{has_buffer, IsAttentive}}
@@ -58,7 +57,6 @@ performs_attentive : (call : Call) (g : Guest) (claims : List Claim) (reply : Re
     → IsOrderly g → IsAttentive g → refusal_of g call ≡ None → Performed call g claims reply new
     → new.rogue ≡ false → IsAttentive new
 performs_attentive (SetTarget n) g claims reply new o h e s honest = subst IsAttentive (sym s.1.1) h
-performs_attentive Reset g claims reply new o h e s honest = grind (arith, h)
 performs_attentive (Read page offset len) g claims reply new o h e s honest =
     subst IsAttentive (sym s.1.1) h
 performs_attentive (Alloc cpu order) g claims reply new o h e s honest =
@@ -79,18 +77,13 @@ performs_attentive Stats g claims reply new o h e s honest =
     fills_ready g.buffer g reply new refl (up g o (not_refused (causes g Stats) e).0) h s.1
 performs_attentive Ask g claims reply new o h e s honest =
     asks_ready g.buffer g reply new refl (open_to g o (not_refused (causes g Ask) e).0) h s.1
-performs_attentive (Reap q) g claims reply new o h e s honest = grind (arith, h)
 performs_attentive (Take q) g claims reply new o h e s honest =
     elim (match_cases (kind_of_queue q) (TakesBuffer g.buffer g reply new)
     (λ kind. TakesRequest kind (requests kind g).posted g reply new) s.1) [
       | inl n ↦ takes_buffer_ready g.buffer g reply new refl (open_to g o (not_refused (causes g (Take q)) e).1.0) h n.1
       | inr k ↦ takes_ready k.0 (requests k.0 g).posted g reply new (open_to g o (not_refused (causes g (Take q)) e).1.0) h k.2
     ]
-performs_attentive Work g claims reply new o h e s honest = grind (arith, h)
-performs_attentive (Finish q i) g claims reply new o h e s honest = grind (arith, h)
-performs_attentive (Init wanted) g claims reply new o h e s honest = grind (arith, h)
-performs_attentive (Write page offset bytes) g claims reply new o h e s honest = grind (arith, h)
-performs_attentive (Scribble page offset bytes) g claims reply new o h e s honest = grind (arith, h)
+performs_attentive call g claims reply new o h e s honest = grind (arith, h)
 
 pub honest_attentive : (g : Guest) (call : Call) (claims : List Claim) (reply : Reply) (new : Guest)
     → IsOrderly g → IsAttentive g → HonestStep g call claims reply new → new.rogue ≡ false

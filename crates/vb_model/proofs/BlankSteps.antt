@@ -13,10 +13,10 @@ use Rattle.vb_model.specs.{Guest.{frame_of, backed, all_backed, zero_page}, Life
 use Rattle.vb_model.specs.{Life.{Negotiates, lacking}, Limits.page_size, Refusals.refusal_of}
 use Rattle.vb_model.specs.Requests.{Request, Kind, Inflating, Deflating, Reporting_free}
 use Rattle.vb_model.specs.{Requests.kind_of_queue, Step.HonestStep, Tests.each_page}
-use Rattle.vb_model.specs.declared.calls.Call.{Call, TheVariants.{Init, Reset, Alloc, Free, Read}}
+use Rattle.vb_model.specs.declared.calls.Call.{Call, TheVariants.{Init, Alloc}}
 use Rattle.vb_model.specs.declared.calls.Call.TheVariants.{Write, Scribble, Inflate, Deflate, Oom}
 use Rattle.vb_model.specs.declared.calls.Call.TheVariants.{Report, Stats, Reap, Take, Work, Finish}
-use Rattle.vb_model.specs.declared.calls.{Call.TheVariants.{Sweep, Ask, SetTarget}, Claim.Claim}
+use Rattle.vb_model.specs.declared.calls.{Call.TheVariants.{Sweep, Ask}, Claim.Claim}
 use Rattle.vb_model.specs.declared.replies.Reply.{Reply, TheVariants.Refused}
 
 pub length-zero_page : length zero_page ≡ page_size
@@ -118,13 +118,9 @@ in_page g page offset bytes e = grind arith
 performs_blank : (call : Call) (g : Guest) (claims : List Claim) (reply : Reply) (new : Guest)
     → IsBlank g → refusal_of g call ≡ None → Performed call g claims reply new → new.rogue ≡ false
     → IsBlank new
-performs_blank (SetTarget n) g claims reply new h r s honest = subst IsBlank (sym s.1.1) h
-performs_blank Reset g claims reply new h r s honest = subst IsBlank (sym s.1.1) h
-performs_blank (Read page offset len) g claims reply new h r s honest = subst IsBlank (sym s.1.1) h
 performs_blank (Sweep page) g claims reply new h r s honest =
     keeps g new _ s.1.1 (loses (page ∷ []) g h)
 performs_blank (Alloc cpu order) g claims reply new h r s honest = subst IsBlank (sym s.1.3) h
-performs_blank (Free cpu start order) g claims reply new h r s honest = subst IsBlank (sym s.1.1) h
 performs_blank (Inflate n) g claims reply new h r s honest = subst IsBlank (sym s.1.4.3) h
 performs_blank (Deflate n) g claims reply new h r s honest = subst IsBlank (sym s.1.3) h
 performs_blank (Oom n) g claims reply new h r s honest = subst IsBlank (sym s.1.3) h
@@ -162,6 +158,7 @@ performs_blank (Write page offset bytes) g claims reply new h r s honest =
           (λ p none same l. written_backed page bytes g claims h s.0 m.0 p none same l))
     ]
 performs_blank (Scribble page offset bytes) g claims reply new h r s honest = grind (arith, h)
+performs_blank call g claims reply new h r s honest = subst IsBlank (sym s.1.1) h
 
 pub honest_blank : (g : Guest) (call : Call) (claims : List Claim) (reply : Reply) (new : Guest)
     → IsBlank g → HonestStep g call claims reply new → new.rogue ≡ false → IsBlank new

@@ -13,10 +13,7 @@ use Rattle.vb_model.specs.StepLaws.{TargetsAreSet, ConfigurationsAreKept, Frames
 use Rattle.vb_model.specs.StepLaws.{RestartedAreHonest, RoguesAreMade, RoguesStay}
 use Rattle.vb_model.specs.{StepLaws.ScribblesMakeRogues, World.{World, guest_at, with_guest}}
 use Rattle.vb_model.specs.{World.put_guest, declared.calls.Call.Call}
-use Rattle.vb_model.specs.declared.calls.Call.TheVariants.{Init, Reset, Alloc, Free, Read, Write}
-use Rattle.vb_model.specs.declared.calls.Call.TheVariants.{Scribble, Inflate, Deflate, Oom, Report}
-use Rattle.vb_model.specs.declared.calls.Call.TheVariants.{Stats, Reap, Take, Work, Finish, Sweep}
-use Rattle.vb_model.specs.declared.calls.{Call.TheVariants.{Ask, SetTarget}, Claim.Claim}
+use Rattle.vb_model.specs.declared.calls.{Call.TheVariants.{Scribble, SetTarget}, Claim.Claim}
 use Rattle.vb_model.specs.declared.{calls.Event.Event, replies.Refusal.Refusal, replies.Reply.Reply}
 use Rattle.vb_model.specs.declared.replies.Reply.TheVariants.{Done, Refused}
 use Rattle.vb_model.specs.declared.calls.Event.TheVariants.{Plug, Unplug, Restart, Guest as OnGuest}
@@ -89,11 +86,7 @@ fate (Unplug m) w reply v n g here s = elim (cases_eq m n) [
   | inr d ↦ goes_on w (Unplug m) reply v n g here (λ e. cc)
       (λ e. d (let q : Unplug m ≡ Unplug n = e in cc)) s
 ]
-fate (Plug size) w reply v n g here s = goes_on w _ reply v n g here (λ e. cc) (λ e. cc) s
-fate (OnGuest m call) w reply v n g here s = goes_on w _ reply v n g here (λ e. cc) (λ e. cc) s
-fate (OnQuery m query) w reply v n g here s = goes_on w _ reply v n g here (λ e. cc) (λ e. cc) s
-fate (Balance floor) w reply v n g here s = goes_on w _ reply v n g here (λ e. cc) (λ e. cc) s
-fate CountFrames w reply v n g here s = goes_on w _ reply v n g here (λ e. cc) (λ e. cc) s
+fate event w reply v n g here s = goes_on w _ reply v n g here (λ e. cc) (λ e. cc) s
 
 -- ---- others, targets, configurations
 
@@ -124,24 +117,7 @@ others_untouched w event reply v n g s here others = cases (fate event w reply v
 target_stays : (call : Call) (target : ℕ) → ((t : ℕ) → call ≢ SetTarget t)
     → target_after call target ≡ target
 target_stays (SetTarget t) target h = absurd (h t refl)
-target_stays (Init wanted) target h = refl
-target_stays Reset target h = refl
-target_stays (Alloc cpu order) target h = refl
-target_stays (Free cpu start order) target h = refl
-target_stays (Read page offset len) target h = refl
-target_stays (Write page offset bytes) target h = refl
-target_stays (Scribble page offset bytes) target h = refl
-target_stays (Inflate n) target h = refl
-target_stays (Deflate n) target h = refl
-target_stays (Oom n) target h = refl
-target_stays (Report from) target h = refl
-target_stays Stats target h = refl
-target_stays (Reap q) target h = refl
-target_stays (Take q) target h = refl
-target_stays Work target h = refl
-target_stays (Finish q i) target h = refl
-target_stays (Sweep page) target h = refl
-target_stays Ask target h = refl
+target_stays call target h = refl
 
 pub targets_kept : TargetsAreKept
 targets_kept w event reply v n old new f not_set no_balance =

@@ -69,16 +69,13 @@ restarts_agree w n (Some g) reply new reply' new' a b = (a.0 ∙ sym b.0, a.1 �
 
 answers_agree : (query : Query) (g : Guest) (reply reply' : Reply) → Answers query g reply
     → Answers query g reply' → reply ≢ Refused NoMemory → reply' ≢ Refused NoMemory → reply ≡ reply'
-answers_agree QueryPlaces g reply reply' a b x y = a ∙ sym b
-answers_agree QueryBalloon g reply reply' a b x y = a ∙ sym b
-answers_agree QueryMemory g reply reply' a b x y = a ∙ sym b
-answers_agree (QueryBacking page) g reply reply' a b x y = a ∙ sym b
 answers_agree (PagesAt place) g reply reply' (inl a) (inl b) x y = a ∙ sym b
 answers_agree (PagesAt place) g reply reply' (inr a) b x y = absurd (x a)
 answers_agree (PagesAt place) g reply reply' (inl a) (inr b) x y = absurd (y b)
 answers_agree PagesBallooned g reply reply' (inl a) (inl b) x y = a ∙ sym b
 answers_agree PagesBallooned g reply reply' (inr a) b x y = absurd (x a)
 answers_agree PagesBallooned g reply reply' (inl a) (inr b) x y = absurd (y b)
+answers_agree query g reply reply' a b x y = a ∙ sym b
 
 queries_agree : (query : Query) (w : World) (g : Option Guest) (reply : Reply) (new : World)
     (reply' : Reply) (new' : World) → MatchOption g ⊥ (λ h. Answers query h reply) × (new ≡ w)

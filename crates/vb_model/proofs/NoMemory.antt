@@ -69,12 +69,9 @@ calls_want n call g w v here s = let exact = no_memory_exact g call s.0 s.1 s.3 
 
 answers_want : (query : Query) (g : Guest) → Answers query g (Refused NoMemory)
     → is_list query ≡ true
-answers_want QueryPlaces g e = not_wanted _ e refl
 answers_want (PagesAt place) g e = refl
 answers_want PagesBallooned g e = refl
-answers_want QueryBalloon g e = not_wanted _ e refl
-answers_want QueryMemory g e = not_wanted _ e refl
-answers_want (QueryBacking page) g e = not_wanted _ e refl
+answers_want query g e = not_wanted _ e refl
 
 -- ---- an event
 
@@ -110,12 +107,7 @@ happens_want CountFrames w v s = not_wanted _ s.0 refl
 
 causes_of_others : (w : World) (event : Event) → none_wants (world_causes w event) ≡ true
 causes_of_others w (Plug size) = refl
-causes_of_others w (Unplug n) = refl
-causes_of_others w (Restart n) = refl
-causes_of_others w (OnGuest n call) = refl
-causes_of_others w (OnQuery n query) = refl
-causes_of_others w (Balance floor) = refl
-causes_of_others w CountFrames = refl
+causes_of_others w event = refl
 
 pub wants_change_nothing : WantsChangeNothing
 wants_change_nothing w event v s =

@@ -30,10 +30,10 @@ use Rattle.vb_model.specs.{Refusals.reported_blocks, Requests.{Request, Requests
 use Rattle.vb_model.specs.Requests.{Kind, Inflating, Deflating, Reporting_free, kind_of_queue}
 use Rattle.vb_model.specs.Requests.{place_posted, places_reaped, StatisticsBuffer}
 use Rattle.vb_model.specs.{Step.HonestStep, Tests.is_in, declared.calls.Call.Call}
-use Rattle.vb_model.specs.declared.calls.Call.TheVariants.{Init, Reset, Alloc, Free, Read, Write}
+use Rattle.vb_model.specs.declared.calls.Call.TheVariants.{Init, Reset, Alloc, Free, Write}
 use Rattle.vb_model.specs.declared.calls.Call.TheVariants.{Scribble, Inflate, Deflate, Oom, Report}
-use Rattle.vb_model.specs.declared.calls.Call.TheVariants.{Stats, Reap, Take, Work, Finish, Sweep}
-use Rattle.vb_model.specs.declared.calls.{Call.TheVariants.{Ask, SetTarget}, Claim.Claim}
+use Rattle.vb_model.specs.declared.calls.Call.TheVariants.{Stats, Reap, Take, Work, Finish}
+use Rattle.vb_model.specs.declared.calls.{Call.TheVariants.Ask, Claim.Claim}
 use Rattle.vb_model.specs.declared.places.Place.{Place, TheVariants.{Giving, Lent, Reporting}}
 use Rattle.vb_model.specs.declared.replies.{Refusal.Refusal, Reply.Reply}
 use Rattle.vb_model.specs.declared.places.Place.TheVariants.{Reserved, Free as FreePlace, Used}
@@ -232,11 +232,7 @@ deflates_order g count head h least now =
 performs_order : (call : Call) (g : Guest) (claims : List Claim) (reply : Reply) (new : Guest)
     → IsConsistent g → IsOrderly g → refusal_of g call ≡ None → Performed call g claims reply new
     → new.rogue ≡ false → IsOrderly new
-performs_order (SetTarget n) g claims reply new c h e s honest = subst IsOrderly (sym s.1.1) h
 performs_order Reset g claims reply new c h e s honest = subst IsOrderly (sym s.1.1) (kept_reset g h)
-performs_order (Read page offset len) g claims reply new c h e s honest =
-    subst IsOrderly (sym s.1.1) h
-performs_order (Sweep page) g claims reply new c h e s honest = subst IsOrderly (sym s.1.1) h
 performs_order (Alloc cpu order) g claims reply new c h e s honest =
     let b : Block = record { start = s.1.0; order = order } in subst IsOrderly (sym s.1.3) (record {
       inflating = h.inflating;
@@ -329,6 +325,7 @@ performs_order (Init wanted) g claims reply new c h e s honest =
     ]
 performs_order (Write page offset bytes) g claims reply new c h e s honest = grind (arith, h)
 performs_order (Scribble page offset bytes) g claims reply new c h e s honest = grind (arith, h)
+performs_order call g claims reply new c h e s honest = subst IsOrderly (sym s.1.1) h
 
 pub honest_order : (g : Guest) (call : Call) (claims : List Claim) (reply : Reply) (new : Guest)
     → IsConsistent g → IsOrderly g → HonestStep g call claims reply new → new.rogue ≡ false

@@ -1,15 +1,12 @@
 -- What a call does that isn't refused, call by call: three claim frames, and the others none.
 use Rattle.std.proofs.Common.{◌≡◌, ℕ, refl, List, [], ◌∷◌}
 use Rattle.std.specs.Prelude.{Option, None, Some, MatchOption}
-use Rattle.vb_model.specs.declared.calls.Call.{Call, TheVariants.{Init, Reset, Alloc, Free, Read}}
-use Rattle.vb_model.specs.declared.calls.Call.TheVariants.{Write, Scribble, Inflate, Deflate, Oom}
-use Rattle.vb_model.specs.declared.calls.Call.TheVariants.{Report, Stats, Reap, Take, Work, Finish}
-use Rattle.vb_model.specs.declared.calls.{Call.TheVariants.{Sweep, Ask, SetTarget}, Claim.Claim}
-use Rattle.vb_model.specs.declared.replies.{Refusal.Refusal, Reply.Reply, Reply.TheVariants.Refused}
-use Rattle.vb_model.specs.{Guest.{Guest, all_backed}, FirstRefusal.first_refusal, Driver.given}
-use Rattle.vb_model.specs.Driver.{claim_refusal, AreClaimsFor, pages_needed, Written, Scribbled}
+use Rattle.vb_model.specs.Driver.{given, claim_refusal, AreClaimsFor, pages_needed, Written}
+use Rattle.vb_model.specs.{Driver.Scribbled, FirstRefusal.first_refusal, Guest.{Guest, all_backed}}
 use Rattle.vb_model.specs.{Life.{lacking, feature_causes, Negotiates}, Refusals.refusal_of}
-use Rattle.vb_model.specs.Step.{Does, Performs, HonestStep}
+use Rattle.vb_model.specs.{Step.{Does, Performs, HonestStep}, declared.calls.Call.Call}
+use Rattle.vb_model.specs.declared.calls.{Call.TheVariants.{Init, Write, Scribble}, Claim.Claim}
+use Rattle.vb_model.specs.declared.replies.{Refusal.Refusal, Reply.Reply, Reply.TheVariants.Refused}
 
 -- these pages' claims were given and the rest was done, or one is the reply and nothing is changed
 abbrev pub Supplying : (pages : List ℕ) (g : Guest) (claims : List Claim) (reply : Reply)
@@ -37,22 +34,7 @@ pub performed : (call : Call) (g : Guest) (claims : List Claim) (reply : Reply) 
 performed (Init wanted) g claims reply new s = s
 performed (Write page offset bytes) g claims reply new s = s
 performed (Scribble page offset bytes) g claims reply new s = s
-performed (SetTarget n) g claims reply new s = unclaimed _ _ claims s
-performed Reset g claims reply new s = unclaimed _ _ claims s
-performed (Alloc cpu order) g claims reply new s = unclaimed _ _ claims s
-performed (Free cpu start order) g claims reply new s = unclaimed _ _ claims s
-performed (Read page offset len) g claims reply new s = unclaimed _ _ claims s
-performed (Inflate n) g claims reply new s = unclaimed _ _ claims s
-performed (Deflate n) g claims reply new s = unclaimed _ _ claims s
-performed (Oom n) g claims reply new s = unclaimed _ _ claims s
-performed (Report from) g claims reply new s = unclaimed _ _ claims s
-performed Stats g claims reply new s = unclaimed _ _ claims s
-performed (Reap q) g claims reply new s = unclaimed _ _ claims s
-performed (Take q) g claims reply new s = unclaimed _ _ claims s
-performed Work g claims reply new s = unclaimed _ _ claims s
-performed (Finish q i) g claims reply new s = unclaimed _ _ claims s
-performed (Sweep page) g claims reply new s = unclaimed _ _ claims s
-performed Ask g claims reply new s = unclaimed _ _ claims s
+performed call g claims reply new s = unclaimed _ _ claims s
 
 claimed_none : (P : Type 0) (Q : Refusal → Type 0) (claims : List Claim)
     → (claims ≡ []) × P → (claims ≡ []) × MatchOption (claim_refusal claims) P Q
@@ -64,22 +46,7 @@ pub performs : (call : Call) (g : Guest) (claims : List Claim) (reply : Reply) (
 performs (Init wanted) g claims reply new s = s
 performs (Write page offset bytes) g claims reply new s = s
 performs (Scribble page offset bytes) g claims reply new s = s
-performs (SetTarget n) g claims reply new s = claimed_none _ _ claims s
-performs Reset g claims reply new s = claimed_none _ _ claims s
-performs (Alloc cpu order) g claims reply new s = claimed_none _ _ claims s
-performs (Free cpu start order) g claims reply new s = claimed_none _ _ claims s
-performs (Read page offset len) g claims reply new s = claimed_none _ _ claims s
-performs (Inflate n) g claims reply new s = claimed_none _ _ claims s
-performs (Deflate n) g claims reply new s = claimed_none _ _ claims s
-performs (Oom n) g claims reply new s = claimed_none _ _ claims s
-performs (Report from) g claims reply new s = claimed_none _ _ claims s
-performs Stats g claims reply new s = claimed_none _ _ claims s
-performs (Reap q) g claims reply new s = claimed_none _ _ claims s
-performs (Take q) g claims reply new s = claimed_none _ _ claims s
-performs Work g claims reply new s = claimed_none _ _ claims s
-performs (Finish q i) g claims reply new s = claimed_none _ _ claims s
-performs (Sweep page) g claims reply new s = claimed_none _ _ claims s
-performs Ask g claims reply new s = claimed_none _ _ claims s
+performs call g claims reply new s = claimed_none _ _ claims s
 
 -- ---- a step
 

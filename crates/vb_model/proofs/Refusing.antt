@@ -8,16 +8,15 @@ use Rattle.vb_model.specs.{Driver.{Fills, Written, pages_needed}, Guest.{Guest, 
 use Rattle.vb_model.specs.{HostEvents.{Happens, PlugsIn}, HostRefusals.world_causes}
 use Rattle.vb_model.specs.Life.{feature_refusal, Negotiates, lacking, after_restart}
 use Rattle.vb_model.specs.{Refusals.{refusal_of, first_refusal}, Requests.{Request, Kind}}
-use Rattle.vb_model.specs.Requests.{kind_of_queue, StatisticsBuffer, NoBuffer, BufferPosted}
-use Rattle.vb_model.specs.{Requests.{BufferTaken, BufferDone}, Rogue.Scribbled}
-use Rattle.vb_model.specs.StepLaws.{IsUnchanged, with_features_refused, RefusalsChangeNothing}
-use Rattle.vb_model.specs.{StepLaws.RefusedEventsChangeNothing, World.{World, put_guest, guest_at}}
-use Rattle.vb_model.specs.declared.calls.Call.{Call, TheVariants.{Init, Reset, Alloc, Free, Read}}
-use Rattle.vb_model.specs.declared.calls.Call.TheVariants.{Write, Scribble, Inflate, Deflate, Oom}
-use Rattle.vb_model.specs.declared.calls.Call.TheVariants.{Report, Stats, Reap, Take, Work, Finish}
-use Rattle.vb_model.specs.declared.calls.{Call.TheVariants.{Sweep, Ask, SetTarget}, Claim.Claim}
-use Rattle.vb_model.specs.declared.{calls.Event.Event, replies.Refusal.Refusal, replies.Reply.Reply}
-use Rattle.vb_model.specs.declared.replies.Reply.TheVariants.{Done, Refused}
+use Rattle.vb_model.specs.Requests.{kind_of_queue, StatisticsBuffer, NoBuffer, BufferTaken}
+use Rattle.vb_model.specs.{Rogue.Scribbled, StepLaws.{IsUnchanged, with_features_refused}}
+use Rattle.vb_model.specs.StepLaws.{RefusalsChangeNothing, RefusedEventsChangeNothing}
+use Rattle.vb_model.specs.{World.{World, put_guest, guest_at}, declared.calls.Call.Call}
+use Rattle.vb_model.specs.declared.calls.Call.TheVariants.{Init, Alloc, Read, Write, Scribble}
+use Rattle.vb_model.specs.declared.calls.Call.TheVariants.{Inflate, Deflate, Oom, Report, Stats}
+use Rattle.vb_model.specs.declared.calls.Call.TheVariants.{Reap, Take, Work, Finish, Ask}
+use Rattle.vb_model.specs.declared.{calls.Claim.Claim, calls.Event.Event, replies.Refusal.Refusal}
+use Rattle.vb_model.specs.declared.replies.Reply.{Reply, TheVariants.{Done, Refused}}
 use Rattle.vb_model.specs.declared.calls.Event.TheVariants.{Plug, Unplug, Restart, Guest as OnGuest}
 use Rattle.vb_model.specs.declared.calls.Event.TheVariants.{Query as OnQuery, Balance}
 use Rattle.vb_model.specs.declared.calls.Event.TheVariants.{Frames as CountFrames}
@@ -35,23 +34,17 @@ not_this refusal reply e f =
 fills_refuse : {A : Type 0} (buffer : StatisticsBuffer) (g : Guest) (refusal : Refusal) (new : Guest)
     → Fills buffer g (Refused refusal) new → A
 fills_refuse NoBuffer g refusal new s = not_this refusal _ s.0 refl
-fills_refuse (BufferPosted f) g refusal new s = not_this refusal _ s.0 refl
-fills_refuse (BufferTaken f) g refusal new s = not_this refusal _ s.0 refl
-fills_refuse (BufferDone f) g refusal new s = not_this refusal _ s.0 refl
+fills_refuse buffer g refusal new s = not_this refusal _ s.0 refl
 
 takes_buffer_refuse : {A : Type 0} (buffer : StatisticsBuffer) (g : Guest) (refusal : Refusal) (new : Guest)
     → TakesBuffer buffer g (Refused refusal) new → A
 takes_buffer_refuse NoBuffer g refusal new s = not_this refusal _ s.0 refl
-takes_buffer_refuse (BufferPosted f) g refusal new s = not_this refusal _ s.0 refl
-takes_buffer_refuse (BufferTaken f) g refusal new s = not_this refusal _ s.0 refl
-takes_buffer_refuse (BufferDone f) g refusal new s = not_this refusal _ s.0 refl
+takes_buffer_refuse buffer g refusal new s = not_this refusal _ s.0 refl
 
 asks_refuse : {A : Type 0} (buffer : StatisticsBuffer) (g : Guest) (refusal : Refusal) (new : Guest)
     → ReturnsBuffer buffer g (Refused refusal) new → A
-asks_refuse NoBuffer g refusal new s = absurd s
-asks_refuse (BufferPosted f) g refusal new s = absurd s
 asks_refuse (BufferTaken f) g refusal new s = not_this refusal _ s.0 refl
-asks_refuse (BufferDone f) g refusal new s = absurd s
+asks_refuse buffer g refusal new s = absurd s
 
 reaps_refuse : {A : Type 0} (kind : Kind) (done : List Request) (g : Guest) (refusal : Refusal)
     (new : Guest) → Reaps kind done g (Refused refusal) new → A
@@ -84,10 +77,7 @@ negotiates_refuse wanted (Some r) g claims refusal new e s =
 
 performs_refuses : (call : Call) (g : Guest) (claims : List Claim) (refusal : Refusal) (new : Guest)
     → Performed call g claims (Refused refusal) new → IsUnchanged call refusal claims g new
-performs_refuses (SetTarget n) g claims refusal new s = not_this refusal _ s.1.0 refl
-performs_refuses Reset g claims refusal new s = not_this refusal _ s.1.0 refl
 performs_refuses (Alloc cpu order) g claims refusal new s = not_this refusal _ s.1.2 refl
-performs_refuses (Free cpu start order) g claims refusal new s = not_this refusal _ s.1.0 refl
 performs_refuses (Read page offset len) g claims refusal new s = inl s.1.1
 performs_refuses (Inflate n) g claims refusal new s = not_this refusal _ s.1.4.2 refl
 performs_refuses (Deflate n) g claims refusal new s = not_this refusal _ s.1.2 refl
@@ -95,7 +85,6 @@ performs_refuses (Oom n) g claims refusal new s = not_this refusal _ s.1.2 refl
 performs_refuses (Report from) g claims refusal new s = not_this refusal _ s.1.2 refl
 performs_refuses Stats g claims refusal new s = fills_refuse g.buffer g refusal new s.1
 performs_refuses Ask g claims refusal new s = asks_refuse g.buffer g refusal new s.1
-performs_refuses (Sweep page) g claims refusal new s = not_this refusal _ s.1.0 refl
 performs_refuses (Reap q) g claims refusal new s = elim (match_cases (kind_of_queue q) ⊥
     (λ kind. Reaps kind (requests kind g).done g (Refused refusal) new) s.1) [
       | inl n ↦ absurd n.1
@@ -136,6 +125,7 @@ performs_refuses (Scribble page offset bytes) g claims refusal new s =
       | inl m ↦ not_this refusal _ m.answered refl
       | inr r ↦ inl r.2
     ]
+performs_refuses call g claims refusal new s = not_this refusal _ s.1.0 refl
 
 pub refusals_change_nothing : RefusalsChangeNothing
 refusals_change_nothing g call claims refusal new s =

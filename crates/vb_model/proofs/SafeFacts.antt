@@ -266,12 +266,8 @@ written_unseen byte = record (written_and_read byte)
     { after = replicate 5 (used_with (Some 5) (1 ∷ 2 ∷ []) down) }
 
 held_then : (byte : ℕ) → StaysHeld (written_unseen byte) 16 0 4
-held_then byte zero le = (used_with (Some 5) (1 ∷ 2 ∷ []) down, refl, refl)
-held_then byte (suc zero) le = (used_with (Some 5) (1 ∷ 2 ∷ []) down, refl, refl)
-held_then byte (suc (suc zero)) le = (used_with (Some 5) (1 ∷ 2 ∷ []) down, refl, refl)
-held_then byte (suc (suc (suc zero))) le = (used_with (Some 5) (1 ∷ 2 ∷ []) down, refl, refl)
-held_then byte (suc (suc (suc (suc zero)))) le = (used_with (Some 5) (1 ∷ 2 ∷ []) down, refl, refl)
 held_then byte (suc (suc (suc (suc (suc j))))) le = absurd (omega arith)
+held_then byte other le = (used_with (Some 5) (1 ∷ 2 ∷ []) down, refl, refl)
 
 last_by_law : (byte : ℕ) → ReadsGiveLastWrites (written_unseen byte) → byte ≡ 8
 last_by_law byte s =

@@ -13,11 +13,8 @@ use Rattle.vb_model.specs.{Consistent.IsConsistent, Orderly.{IsOrderly, AllReque
 use Rattle.vb_model.proofs.{Tables.count_by-cons, PageSteps.{naming-cons, taking_named}}
 use Rattle.vb_model.proofs.{GuestSteps.{below_end, kept_by_reap}, OrderlySteps.kept_reap}
 use Rattle.vb_model.proofs.{Distinct.distinct_once, Counts.{inside, inside-all}}
-use Rattle.vb_model.specs.declared.{replies.Refusal.Refusal, calls.Call.TheVariants.{Init, Reset}}
-use Rattle.vb_model.specs.declared.calls.Call.TheVariants.{Alloc, Free, Read, Write, Scribble}
-use Rattle.vb_model.specs.declared.calls.Call.TheVariants.{Inflate, Deflate, Oom, Report, Stats}
-use Rattle.vb_model.specs.declared.calls.Call.TheVariants.{Reap, Take, Work, Finish, Sweep, Ask}
-use Rattle.vb_model.specs.{declared.calls.Call.TheVariants.SetTarget, FirstRefusal.first_refusal}
+use Rattle.vb_model.specs.declared.{replies.Refusal.Refusal, calls.Call.TheVariants.Inflate}
+use Rattle.vb_model.specs.{declared.calls.Call.TheVariants.Sweep, FirstRefusal.first_refusal}
 use Rattle.vb_model.{specs.Refusals.refusal_of, proofs.Performed.{Performed, HonestCase, performed}}
 use Rattle.vb_model.proofs.Performed.{performs, honest_case, honest_step}
 use Rattle.std.specs.Prelude.{Option, MatchOption}
@@ -139,23 +136,7 @@ same_refusals : (g : Guest) (call : Call) → tells_host g ≡ true
     → refusal_of g call ≡ first_refusal (told_causes g call)
 same_refusals g (Inflate n) told = grind arith
 same_refusals g (Sweep page) told = grind arith
-same_refusals g (SetTarget n) told = refl
-same_refusals g Reset told = refl
-same_refusals g (Alloc cpu order) told = refl
-same_refusals g (Free cpu start order) told = refl
-same_refusals g (Read page offset len) told = refl
-same_refusals g (Write page offset bytes) told = refl
-same_refusals g (Scribble page offset bytes) told = refl
-same_refusals g (Deflate n) told = refl
-same_refusals g (Oom n) told = refl
-same_refusals g (Report from) told = refl
-same_refusals g Stats told = refl
-same_refusals g (Reap q) told = refl
-same_refusals g (Take q) told = refl
-same_refusals g Work told = refl
-same_refusals g (Finish q i) told = refl
-same_refusals g Ask told = refl
-same_refusals g (Init wanted) told = refl
+same_refusals g call told = refl
 
 ways : (o p : Option Refusal) (P Q : Type 0) (R : Refusal → Type 0) → o ≡ p → P ↔ Q
     → MatchOption o P R ↔ MatchOption p Q R

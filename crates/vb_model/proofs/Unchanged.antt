@@ -9,12 +9,12 @@ use Rattle.vb_model.specs.{Device.{settled, used}, Driver.{Reaps, Fills, Written
 use Rattle.vb_model.specs.{Guest.{Guest, requests}, Life.{feature_refusal, Negotiates, lacking}}
 use Rattle.vb_model.specs.{Refusals.refusal_of, Requests.{Request, Kind, Inflating, Deflating}}
 use Rattle.vb_model.specs.Requests.{Reporting_free, kind_of_queue, StatisticsBuffer, NoBuffer}
-use Rattle.vb_model.specs.{Requests.{BufferPosted, BufferTaken, BufferDone}, Rogue.IsRogueAfter}
+use Rattle.vb_model.specs.{Requests.BufferTaken, Rogue.IsRogueAfter}
 use Rattle.vb_model.specs.{Rogue.{RogueStep, Scribbled, target_after, GuestStep}, Step.HonestStep}
-use Rattle.vb_model.specs.declared.calls.Call.{Call, TheVariants.{Init, Reset, Alloc, Free, Read}}
+use Rattle.vb_model.specs.declared.calls.Call.{Call, TheVariants.{Init, Alloc}}
 use Rattle.vb_model.specs.declared.calls.Call.TheVariants.{Write, Scribble, Inflate, Deflate, Oom}
 use Rattle.vb_model.specs.declared.calls.Call.TheVariants.{Report, Stats, Reap, Take, Work, Finish}
-use Rattle.vb_model.specs.declared.calls.{Call.TheVariants.{Sweep, Ask, SetTarget}, Claim.Claim}
+use Rattle.vb_model.specs.declared.calls.{Call.TheVariants.{Ask, SetTarget}, Claim.Claim}
 use Rattle.vb_model.specs.declared.replies.{Refusal.Refusal, Reply.Reply, Reply.TheVariants.Refused}
 
 -- a guest with another target, with the same configuration, that is as honest as before, or rogue
@@ -39,23 +39,17 @@ same_three g new changed e t c r = record {
 fills_keep : {Reason : Type 0} (buffer : StatisticsBuffer) (g : Guest) (reply : Reply) (new : Guest)
     → Fills buffer g reply new → Keeps Reason g.target g new
 fills_keep NoBuffer g reply new s = same_three g new _ s.1 refl refl refl
-fills_keep (BufferPosted f) g reply new s = same_three g new _ s.1 refl refl refl
-fills_keep (BufferTaken f) g reply new s = same_three g new _ s.1 refl refl refl
-fills_keep (BufferDone f) g reply new s = same_three g new _ s.1 refl refl refl
+fills_keep buffer g reply new s = same_three g new _ s.1 refl refl refl
 
 takes_buffer_keep : {Reason : Type 0} (buffer : StatisticsBuffer) (g : Guest) (reply : Reply) (new : Guest)
     → TakesBuffer buffer g reply new → Keeps Reason g.target g new
 takes_buffer_keep NoBuffer g reply new s = same_three g new _ s.1 refl refl refl
-takes_buffer_keep (BufferPosted f) g reply new s = same_three g new _ s.1 refl refl refl
-takes_buffer_keep (BufferTaken f) g reply new s = same_three g new _ s.1 refl refl refl
-takes_buffer_keep (BufferDone f) g reply new s = same_three g new _ s.1 refl refl refl
+takes_buffer_keep buffer g reply new s = same_three g new _ s.1 refl refl refl
 
 asks_keep : {Reason : Type 0} (buffer : StatisticsBuffer) (g : Guest) (reply : Reply) (new : Guest)
     → ReturnsBuffer buffer g reply new → Keeps Reason g.target g new
-asks_keep NoBuffer g reply new s = absurd s
-asks_keep (BufferPosted f) g reply new s = absurd s
 asks_keep (BufferTaken f) g reply new s = same_three g new _ s.1 refl refl refl
-asks_keep (BufferDone f) g reply new s = absurd s
+asks_keep buffer g reply new s = absurd s
 
 reaps_keep : {Reason : Type 0} (kind : Kind) (done : List Request) (g : Guest) (reply : Reply)
     (new : Guest) → Reaps kind done g reply new → Keeps Reason g.target g new
@@ -119,11 +113,7 @@ performs_keep (SetTarget n) g claims reply new s = record {
   config = ap (λ (x : Guest). x.config) s.1.1;
   rogue = inl (ap (λ (x : Guest). x.rogue) s.1.1);
 }
-performs_keep Reset g claims reply new s = same_three g new _ s.1.1 refl refl refl
-performs_keep (Read page offset len) g claims reply new s = same_three g new _ s.1.1 refl refl refl
-performs_keep (Sweep page) g claims reply new s = same_three g new _ s.1.1 refl refl refl
 performs_keep (Alloc cpu order) g claims reply new s = same_three g new _ s.1.3 refl refl refl
-performs_keep (Free cpu start order) g claims reply new s = same_three g new _ s.1.1 refl refl refl
 performs_keep (Inflate n) g claims reply new s = same_three g new _ s.1.4.3 refl refl refl
 performs_keep (Deflate n) g claims reply new s = same_three g new _ s.1.3 refl refl refl
 performs_keep (Oom n) g claims reply new s = same_three g new _ s.1.3 refl refl refl
@@ -159,6 +149,7 @@ performs_keep (Scribble page offset bytes) g claims reply new s = supplies_keep
       config = r.state.config;
       rogue = inr ((page, offset, bytes, refl), r.state);
     })
+performs_keep call g claims reply new s = same_three g new _ s.1.1 refl refl refl
 
 -- why a guest may be rogue after a call
 abbrev pub MayBeRogue : Guest → Call → Type 0
@@ -180,24 +171,7 @@ step_keeps g call claims reply new s = cases g.rogue refl s where
   refused : (c : Call) (refusal : Refusal) → refusal_of g c ≡ Some refusal → new ≡ g
       → Keeps (MayBeRogue g c) (target_after c g.target) g new
   refused (SetTarget n) refusal e k = absurd cc
-  refused (Init wanted) refusal e k = same_three g new _ k refl refl refl
-  refused Reset refusal e k = same_three g new _ k refl refl refl
-  refused (Alloc cpu order) refusal e k = same_three g new _ k refl refl refl
-  refused (Free cpu start order) refusal e k = same_three g new _ k refl refl refl
-  refused (Read page offset len) refusal e k = same_three g new _ k refl refl refl
-  refused (Write page offset bytes) refusal e k = same_three g new _ k refl refl refl
-  refused (Scribble page offset bytes) refusal e k = same_three g new _ k refl refl refl
-  refused (Inflate n) refusal e k = same_three g new _ k refl refl refl
-  refused (Deflate n) refusal e k = same_three g new _ k refl refl refl
-  refused (Oom n) refusal e k = same_three g new _ k refl refl refl
-  refused (Report from) refusal e k = same_three g new _ k refl refl refl
-  refused Stats refusal e k = same_three g new _ k refl refl refl
-  refused (Reap q) refusal e k = same_three g new _ k refl refl refl
-  refused (Take q) refusal e k = same_three g new _ k refl refl refl
-  refused Work refusal e k = same_three g new _ k refl refl refl
-  refused (Finish q i) refusal e k = same_three g new _ k refl refl refl
-  refused (Sweep page) refusal e k = same_three g new _ k refl refl refl
-  refused Ask refusal e k = same_three g new _ k refl refl refl
+  refused c refusal e k = same_three g new _ k refl refl refl
 
   cases : (b : Bool) → g.rogue ≡ b
       → MatchBool b (RogueStep g call claims reply new) (HonestStep g call claims reply new)

@@ -55,33 +55,7 @@ performs_refused : (call : Call) (g : Guest) (claims : List Claim) (reply : Repl
 performs_refused (Init wanted) g claims reply new refusal s r = grind arith
 performs_refused (Write page offset bytes) g claims reply new refusal s r = grind arith
 performs_refused (Scribble page offset bytes) g claims reply new refusal s r = grind arith
-performs_refused (SetTarget n) g claims reply new refusal s r =
-    absurd (none_refused claims refusal s.0 r)
-performs_refused Reset g claims reply new refusal s r = absurd (none_refused claims refusal s.0 r)
-performs_refused (Alloc cpu order) g claims reply new refusal s r =
-    absurd (none_refused claims refusal s.0 r)
-performs_refused (Free cpu start order) g claims reply new refusal s r =
-    absurd (none_refused claims refusal s.0 r)
-performs_refused (Read page offset len) g claims reply new refusal s r =
-    absurd (none_refused claims refusal s.0 r)
-performs_refused (Inflate n) g claims reply new refusal s r =
-    absurd (none_refused claims refusal s.0 r)
-performs_refused (Deflate n) g claims reply new refusal s r =
-    absurd (none_refused claims refusal s.0 r)
-performs_refused (Oom n) g claims reply new refusal s r = absurd (none_refused claims refusal s.0 r)
-performs_refused (Report from) g claims reply new refusal s r =
-    absurd (none_refused claims refusal s.0 r)
-performs_refused Stats g claims reply new refusal s r = absurd (none_refused claims refusal s.0 r)
-performs_refused (Reap q) g claims reply new refusal s r =
-    absurd (none_refused claims refusal s.0 r)
-performs_refused (Take q) g claims reply new refusal s r =
-    absurd (none_refused claims refusal s.0 r)
-performs_refused Work g claims reply new refusal s r = absurd (none_refused claims refusal s.0 r)
-performs_refused (Finish q i) g claims reply new refusal s r =
-    absurd (none_refused claims refusal s.0 r)
-performs_refused (Sweep page) g claims reply new refusal s r =
-    absurd (none_refused claims refusal s.0 r)
-performs_refused Ask g claims reply new refusal s r = absurd (none_refused claims refusal s.0 r)
+performs_refused call g claims reply new refusal s r = absurd (none_refused claims refusal s.0 r)
 
 pub refused_claims : RefusedClaimsAreAnswered
 refused_claims g call claims reply new refusal s r = cases g.rogue s where

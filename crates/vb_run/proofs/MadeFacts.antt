@@ -29,17 +29,9 @@ is_service _ = false
 
 is_among : (call : Call) (k : ℕ) → k < length services → slice_index_or services k call ≡ call
     → is_service call ≡ true
-is_among call zero less e = ap is_service (sym e)
-is_among call (suc zero) less e = ap is_service (sym e)
-is_among call (suc (suc zero)) less e = ap is_service (sym e)
-is_among call (suc (suc (suc zero))) less e = ap is_service (sym e)
-is_among call (suc (suc (suc (suc zero)))) less e = ap is_service (sym e)
-is_among call (suc (suc (suc (suc (suc zero))))) less e = ap is_service (sym e)
-is_among call (suc (suc (suc (suc (suc (suc zero)))))) less e = ap is_service (sym e)
-is_among call (suc (suc (suc (suc (suc (suc (suc zero))))))) less e = ap is_service (sym e)
-is_among call (suc (suc (suc (suc (suc (suc (suc (suc zero)))))))) less e = ap is_service (sym e)
 is_among call (suc (suc (suc (suc (suc (suc (suc (suc (suc k))))))))) less e =
     let no : ⊥ = omega (arith, less) in absurd no
+is_among call k less e = ap is_service (sym e)
 
 only_services : (call : Call) → Contains services call → is_service call ≡ true
 only_services call (k, less, e) = is_among call k less e

@@ -38,11 +38,9 @@ said_of_whole P known text (Err fault) is ok = tt
 
 -- what holds anyway holds of a fault that shows that the text was read
 if_read : {P : Type 0} (fault : ProgramFault) → P → IfRead fault P
-if_read (BadLine number) p = p
-if_read BadPlan p = p
 if_read Memory p = tt
-if_read Audit p = p
 if_read Stream p = tt
+if_read fault p = p
 
 -- a fault of the text that was read is one of the whole input
 pub fault_of_whole : {T : Type 0} (known : Option (List ℕ)) (text : List ℕ)
@@ -60,11 +58,9 @@ pub bad_of_whole : {T : Type 0} (known : Option (List ℕ)) (text : List ℕ)
     → IfErr r (λ fault. IfBadLine fault (λ number. script_of text ≡ Err number))
     → IfErr r (λ fault. IfBadLine fault (λ number. IfSome known (λ whole. IsWithinBound whole
     × (script_of whole ≡ Err number))))
-bad_of_whole known text (Ok x) is few bad = tt
 bad_of_whole None text (Err (BadLine number)) is few bad = tt
 bad_of_whole (Some whole) text (Err (BadLine number)) is few bad =
     subst (λ t. IsWithinBound t × (script_of t ≡ Err number)) is (few, bad)
 bad_of_whole known text (Err BadPlan) is few bad = bad
-bad_of_whole known text (Err Memory) is few bad = tt
 bad_of_whole known text (Err Audit) is few bad = bad
-bad_of_whole known text (Err Stream) is few bad = tt
+bad_of_whole known text r is few bad = tt

@@ -62,17 +62,11 @@ fails_rightly p w = (eqb w 0 || not (may_follow (number p + 128) w)) || eqb w (n
 
 all_follow : (p : Stage) → holds_below 256 (follows_rightly p) ≡ true
 all_follow Reset = refl
-all_follow Acknowledged = refl
-all_follow Driven = refl
-all_follow Agreed = refl
-all_follow Ready = refl
+all_follow p = refl
 
 all_fail : (p : Stage) → holds_below 256 (fails_rightly p) ≡ true
 all_fail Reset = refl
-all_fail Acknowledged = refl
-all_fail Driven = refl
-all_fail Agreed = refl
-all_fail Ready = refl
+all_fail p = refl
 
 one_of : (a b c : Bool) → (a || (b || c)) ≡ true → (a ≡ true) ⊎ ((b ≡ true) ⊎ (c ≡ true))
 one_of true b c e = inl refl
@@ -141,11 +135,8 @@ never_ready p (Negotiate wanted ∷ requests) a last at h steps e =
     never_ready p requests (record a { features = wanted }) last at h.1 steps e
 
 at_the_end : (p : Stage) → number p ≡ 15 → [] ≡ rest p
-at_the_end Reset e = absurd (omega arith)
-at_the_end Acknowledged e = absurd (omega arith)
-at_the_end Driven e = absurd (omega arith)
-at_the_end Agreed e = absurd (omega arith)
 at_the_end Ready e = refl
+at_the_end p e = absurd (omega arith)
 
 -- a write of the next status, and what the changes after it are
 one_on : (p : Stage) (requests : List StatusRequest) → changes (number (next p)) requests
