@@ -19,7 +19,15 @@ use Rattle.vb_ram.specs.declared.config.Config.{Config as Sizes}
 
 not_known : (n : ℕ) → slice_index_or unknown n false ≡ true → ⊥
 not_known zero h = cc
-not_known n h = cc
+not_known (suc zero) h = cc
+not_known (suc (suc zero)) h = cc
+not_known (suc (suc (suc zero))) h = cc
+not_known (suc (suc (suc (suc zero)))) h = cc
+not_known (suc (suc (suc (suc (suc zero))))) h = cc
+not_known (suc (suc (suc (suc (suc (suc zero)))))) h = cc
+not_known (suc (suc (suc (suc (suc (suc (suc zero))))))) h = cc
+not_known (suc (suc (suc (suc (suc (suc (suc (suc zero)))))))) h = cc
+not_known (suc (suc (suc (suc (suc (suc (suc (suc (suc n))))))))) h = cc
 
 pub call_aside : (Is Is' : Guest → Type 0) (own own' : List ℕ) (p : Past) (actor : Actor)
     (call : Call) (claims : List Claim) (reply : Reply) (k : IsKept Is own p) → IsAside actor
