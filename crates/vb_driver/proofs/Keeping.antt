@@ -2,15 +2,16 @@
 use Rattle.std.proofs.Common.{◌≡◌, ◌∙◌, sym, ap, arith, refl, ℕ, ◌<◌, ◌≤◌, Bool, true, false, cond}
 use Rattle.std.proofs.Common.{List, [], length, get_or, map, if◌then◌else◌}
 use Rattle.std.proofs.lemmas.List.{same_lists, length-map, get_or-map, get_or_past}
-use Rattle.vb_model.{proofs.Tables.{each_page-get, length-each_from}, specs.Orderly.times}
-use Rattle.vb_model.specs.Pages.{place_of, placed, is_free, is_used, is_giving, is_taking}
-use Rattle.vb_model.specs.{Pages.{is_reporting, Block, pages_of_all}, Tests.{is_in, one_if}}
-use Rattle.vb_model.specs.declared.places.Place.{Place, TheVariants.{Reserved, Used}}
+use Rattle.std.proofs.lemmas.Bool.{false_from_ne_true, both_ways}
+use Rattle.vb_model.specs.Pages.{place_of, placed, is_free, is_giving, is_taking, is_reporting}
+use Rattle.vb_model.specs.{Pages.{Block, pages_of_all}, Orderly.times}
+use Rattle.vb_model.specs.declared.places.Place.{TheVariants.{Reserved, Free, Used}, Place}
+use Rattle.vb_model.{proofs.Tables.{each_page-get, length-each_from}, specs.Tests.{is_in, one_if}}
 use Rattle.vb_pages.specs.FreePages.{FreePages}
 use Rattle.vb_driver.specs.State.{RequestSide, ReportSide, DriverState, IsQueue, IsReportQueue}
-use Rattle.vb_driver.{specs.Places.{is_at, marked}, specs.State.{naming, tells_host, IsDriver}}
-use Rattle.vb_driver.specs.Areas.{AreFor, flags_of, is_covered}
-use Rattle.vb_driver.proofs.Placing.{length-marked, marked-get, marked_none}
+use Rattle.vb_driver.specs.{State.{naming, tells_host, IsDriver}, Places.{is_at, marked}}
+use Rattle.vb_driver.proofs.{Placing.{length-marked, marked-get, marked_none}, Naming.naming_same}
+use Rattle.vb_driver.{specs.Areas.{AreFor, flags_of, is_covered}, proofs.Counting.at_is}
 
 -- ---- a page's place
 
@@ -52,14 +53,71 @@ pub free_same : (places : List Place) (pages : List ℕ) (to : Place)
 free_same places pages to agree =
     sym (marked_none false (map is_free places)) ∙ free_marked places pages [] to false agree
 
+-- ---- pages that leave
+
+-- these pages leave places of which a test holds, none of them reserved
+pub record Leaves (d : DriverState) (pages : List ℕ) (from : Place → Bool) : Type 0 where
+  pub kept : IsDriver d
+  pub at : (p : ℕ) → is_in p pages ≡ true → from (place_of d.places p) ≡ true
+  pub high : from Reserved ≡ false
+
+-- a place of which it holds is none of which it doesn't
+pub not_left : (from : Place → Bool) (other place : Place) → from other ≡ false
+    → from place ≡ true → is_at other place ≡ false
+not_left from other place fails holds = false_from_ne_true (is_at other place)
+    (λ e. both_ways (from place) (ap from (at_is other place e) ∙ fails) holds)
+
+-- what is named of other places is there still
+pub stays : {d : DriverState} {pages : List ℕ} {from : Place → Bool} {n : ℕ → ℕ}
+    → Leaves d pages from → (to other : Place) → from other ≡ false
+    → ((p : ℕ) → n p ≤ one_if (is_at other (place_of d.places p))) → (p : ℕ)
+    → n p ≤ one_if (is_at other (cond (is_in p pages) to (place_of d.places p)))
+stays {d} {pages} {from} {n} leaves to other fails few p =
+    naming_same p (n p) pages (is_at other) to (place_of d.places p) (few p)
+    (λ here. not_left from other (place_of d.places p) fails (leaves.at p here))
+
+-- and so are held blocks
+pub stays_held : {d : DriverState} {pages : List ℕ} {from : Place → Bool} → Leaves d pages from
+    → (to : Place) → from Used ≡ false → (p : ℕ) → is_covered p d.held ≡ true
+    → cond (is_in p pages) to (place_of d.places p) ≡ Used
+stays_held {d} {pages} {from} leaves to fails p covered = by (is_in p pages) refl
+  where
+    by : (b : Bool) → is_in p pages ≡ b → cond (is_in p pages) to (place_of d.places p) ≡ Used
+    by true e = absurd (both_ways (from Used) fails
+        (ap from (sym (leaves.kept.used p covered)) ∙ leaves.at p e))
+    by false e = ap (λ v. cond v to (place_of d.places p)) e ∙ leaves.kept.used p covered
+
+-- the areas' flags, where the pages become free or cease to be
+pub free_set : (d : DriverState) (areas2 : FreePages) (pages : List ℕ) (to : Place) (b : Bool)
+    → IsDriver d → is_free to ≡ b → flags_of areas2 ≡ marked pages b (flags_of d.areas)
+    → flags_of areas2 ≡ map is_free (placed pages to d.places)
+free_set d areas2 pages to b kept is set = set ∙ (ap (marked pages b) kept.free
+    ∙ free_marked d.places pages pages to b (λ p place e. agree place (is_in p pages)))
+  where
+    agree : (place : Place) (v : Bool) → cond v b (is_free place) ≡ is_free (cond v to place)
+    agree place true = sym is
+    agree place false = refl
+
+-- and where they are free neither before nor then
+pub free_stays : {d : DriverState} {pages : List ℕ} {from : Place → Bool} → Leaves d pages from
+    → (to : Place) → from Free ≡ false → is_free to ≡ false
+    → flags_of d.areas ≡ map is_free (placed pages to d.places)
+free_stays {d} {pages} {from} leaves to fails is = leaves.kept.free
+    ∙ free_same d.places pages to (λ p place e. by p place e (is_in p pages) refl)
+  where
+    by : (p : ℕ) (place : Place) → place ≡ place_of d.places p → (b : Bool) → is_in p pages ≡ b
+        → is_free place ≡ is_free (cond (is_in p pages) to place)
+    by p place e true here = ap is_free e
+        ∙ (not_left from Free (place_of d.places p) fails (leaves.at p here)
+        ∙ sym (ap (λ v. is_free (cond v to place)) here ∙ is))
+    by p place e false here = sym (ap (λ v. is_free (cond v to place)) here)
+
 -- ---- the whole
 
 -- pages that move to a place, as blocks come to be held, or no more
-pub record Changes (d : DriverState) (areas2 : FreePages) (pages : List ℕ) (to : Place)
-    (held2 : List Block) (i2 e2 : RequestSide) (r2 : ReportSide) : Type 0 where
-  pub kept : IsDriver d
-  pub there : (p : ℕ) → is_in p pages ≡ true → p < length d.places
-  pub unreserved : (p : ℕ) → is_in p pages ≡ true → is_at Reserved (place_of d.places p) ≡ false
+pub record Changes (d : DriverState) (areas2 : FreePages) (pages : List ℕ) (from : Place → Bool)
+    (to : Place) (held2 : List Block) (i2 e2 : RequestSide) (r2 : ReportSide) : Type 0 where
+  pub leaves : Leaves d pages from
   pub inflate : IsQueue i2 0 d.queue_size
   pub deflate : IsQueue e2 1 d.queue_size
   pub giving : (p : ℕ) → naming p i2.sent ≤ one_if
@@ -74,9 +132,9 @@ pub record Changes (d : DriverState) (areas2 : FreePages) (pages : List ℕ) (to
   pub used : (p : ℕ) → is_covered p held2 ≡ true
       → cond (is_in p pages) to (place_of d.places p) ≡ Used
 
-pub kept_changed : (d : DriverState) (areas2 : FreePages) (pages : List ℕ) (to : Place)
-    (held2 : List Block) (i2 e2 : RequestSide) (r2 : ReportSide)
-    → Changes d areas2 pages to held2 i2 e2 r2 → IsDriver (record d {
+pub kept_changed : (d : DriverState) (areas2 : FreePages) (pages : List ℕ) (from : Place → Bool)
+    (to : Place) (held2 : List Block) (i2 e2 : RequestSide) (r2 : ReportSide)
+    → Changes d areas2 pages from to held2 i2 e2 r2 → IsDriver (record d {
       places = placed pages to d.places;
       held = held2;
       areas = areas2;
@@ -84,51 +142,10 @@ pub kept_changed : (d : DriverState) (areas2 : FreePages) (pages : List ℕ) (to
       deflate = e2;
       report = r2;
     })
-kept_changed d areas2 pages to held2 i2 e2 r2 m = grind (arith, place_placed, length-marked)
-
--- pages that are in no held block, and move
-pub record Moves (d : DriverState) (areas2 : FreePages) (pages : List ℕ) (to : Place) (i2 e2 : RequestSide)
-    (r2 : ReportSide) : Type 0 where
-  pub kept : IsDriver d
-  pub there : (p : ℕ) → is_in p pages ≡ true → p < length d.places
-  pub unreserved : (p : ℕ) → is_in p pages ≡ true → is_at Reserved (place_of d.places p) ≡ false
-  pub unused : (p : ℕ) → is_in p pages ≡ true → is_used (place_of d.places p) ≡ false
-  pub inflate : IsQueue i2 0 d.queue_size
-  pub deflate : IsQueue e2 1 d.queue_size
-  pub giving : (p : ℕ) → naming p i2.sent ≤ one_if
-      (is_giving (cond (is_in p pages) to (place_of d.places p)))
-  pub taking : tells_host d ≡ true → (p : ℕ) → naming p e2.sent ≤ one_if
-      (is_taking (cond (is_in p pages) to (place_of d.places p)))
-  pub report : IsReportQueue r2 d.queue_size
-  pub reporting : (p : ℕ) → times p (pages_of_all r2.blocks) ≤ one_if
-      (is_reporting (cond (is_in p pages) to (place_of d.places p)))
-  pub free : flags_of areas2 ≡ map is_free (placed pages to d.places)
-  pub same : AreFor d.areas areas2
-
-pub kept_moved : (d : DriverState) (areas2 : FreePages) (pages : List ℕ) (to : Place) (i2 e2 : RequestSide)
-    (r2 : ReportSide) → Moves d areas2 pages to i2 e2 r2 → IsDriver (record d {
-      places = placed pages to d.places;
-      areas = areas2;
-      inflate = i2;
-      deflate = e2;
-      report = r2;
-    })
-kept_moved d areas2 pages to i2 e2 r2 m = kept_changed d areas2 pages to d.held i2 e2 r2 (record {
-  kept = m.kept;
-  there = m.there;
-  unreserved = m.unreserved;
-  inflate = m.inflate;
-  deflate = m.deflate;
-  giving = m.giving;
-  taking = m.taking;
-  report = m.report;
-  reporting = m.reporting;
-  free = m.free;
-  same = m.same;
-  used = λ p covered. used_at p (is_in p pages) refl (m.kept.used p covered);
-})
-  where
-    used_at : (p : ℕ) (b : Bool) → is_in p pages ≡ b → place_of d.places p ≡ Used
-        → cond (is_in p pages) to (place_of d.places p) ≡ Used
-    used_at p true e is = (let wrong : true ≡ false = sym (ap is_used is) ∙ m.unused p e in cc)
-    used_at p false e is = ap (λ v. cond v to (place_of d.places p)) e ∙ is
+kept_changed d areas2 pages from to held2 i2 e2 r2 m =
+    let kept : IsDriver d = m.leaves.kept in
+    let there : (p : ℕ) → is_in p pages ≡ true → p < length d.places =
+    λ p here. there_by d.places p from m.leaves.high (m.leaves.at p here) in
+    let unreserved : (p : ℕ) → is_in p pages ≡ true → is_at Reserved (place_of d.places p) ≡ false =
+    λ p here. not_left from Reserved (place_of d.places p) m.leaves.high (m.leaves.at p here) in
+    grind (arith, place_placed, length-marked, there, unreserved)

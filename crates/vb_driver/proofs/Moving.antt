@@ -2,34 +2,34 @@
 use Rattle.std.proofs.Common.{◌≡◌, ◌∙◌, sym, ap, arith, refl, ℕ, zero, suc, replicate, ◌+◌, ◌-◌}
 use Rattle.std.proofs.Common.{◌<◌, ◌≤◌, Bool, true, false, cond, eqb, ◌||◌, ◌&&◌, List, [], ◌∷◌}
 use Rattle.std.proofs.Common.{◌++◌, length, take, set, get_or, map, count_by, inl, inr, is_none}
+use Rattle.std.{proofs.Common.slice_index_or, specs.List.list_all}
 use Rattle.std.proofs.lemmas.List.{length-replicate, length-take, length-map, get_or-map}
+use Rattle.std.proofs.lemmas.List.{get_or_past, get_or-replicate, same_lists, Folds.list_any-append}
 use Rattle.std.proofs.lemmas.Bool.{cases_lt, lt-ltb, eq-eqb, ne_eqb, false_from_ne_true, both_ways}
 use Rattle.std.proofs.lemmas.List.FromFn.{get_or-map-range_with_len, length-map-range_with_len}
-use Rattle.std.{proofs.lemmas.List.{get_or_past, get_or-replicate, same_lists}, specs.List.list_all}
-use Rattle.std.{proofs.lemmas.List.Folds.list_any-append, proofs.Common.slice_index_or}
 use Rattle.vb_model.specs.Pages.{place_of, placed, is_free, is_used, is_giving, is_lent, is_taking}
-use Rattle.vb_model.specs.declared.places.Place.TheVariants.{Reserved, Free, Giving, Lent}
+use Rattle.vb_model.{specs.Pages.{is_stranded, is_reporting, all_free}, proofs.Tables.count_by-cons}
+use Rattle.vb_model.specs.declared.places.Place.TheVariants.{Reserved, Free, Giving, Lent, Taking}
+use Rattle.vb_model.specs.{declared.places.Place.TheVariants.{Stranded, Reporting}, Orderly.times}
 use Rattle.vb_model.proofs.Tables.{pages_where-passes, is_in-take, is_in-append, list_all-at}
-use Rattle.vb_model.specs.Pages.{is_stranded, is_reporting, all_free, pages_of_all}
-use Rattle.vb_model.specs.declared.places.Place.TheVariants.{Taking, Stranded}
-use Rattle.vb_model.{proofs.Tables.count_by-cons, specs.Orderly.times, specs.Life.place_after_reset}
-use Rattle.vb_model.specs.Tests.{is_in, one_if, pages_from, pages_where}
-use Rattle.vb_model.specs.{declared.places.Place.Place, Layout.{reserved_pages, ring_page}}
-use Rattle.vb_model.proofs.{GuestSteps.place_of-reset, Counts.length-pages_where}
+use Rattle.vb_model.specs.{Tests.{is_in, one_if, pages_from, pages_where}, Life.place_after_reset}
+use Rattle.vb_model.specs.{Layout.{reserved_pages, ring_page}, declared.places.Place.Place}
+use Rattle.vb_model.proofs.{Counts.length-pages_where, GuestSteps.place_of-reset}
 use Rattle.vb_ram.specs.Pages.{Pages}
-use Rattle.vb_pages.{specs.FreePages.FreePages, proofs.ListsLemmas.times_in}
-use Rattle.vb_driver.proofs.{Counting.at_is, Flags.{fresh_flags, for_itself}, Keeping.kept_moved}
-use Rattle.vb_driver.proofs.{Keeping.{there_by, free_same, free_marked}, Naming.naming_more}
-use Rattle.vb_driver.proofs.Naming.{naming_same, naming_less, named_place, named_once, once_lowest}
-use Rattle.vb_driver.proofs.{Naming.{once_append, later_none}, Placing.{or_true, length-marked}}
-use Rattle.vb_driver.proofs.{Placing.marked-get, ReportTables.{none_owned, fresh_report_queue}}
-use Rattle.vb_driver.{proofs.RequestTables.{requests_taken, requests_fresh}, specs.Areas.AreFor}
-use Rattle.vb_driver.specs.{Areas.{flags_of, is_free_at, is_covered}, Calls.{Posts, lowest_lent}}
-use Rattle.vb_driver.specs.{Calls.{stranded_first, after_reap}, Places.{is_at, marked, first_place}}
+use Rattle.vb_pages.{proofs.ListsLemmas.times_in, specs.FreePages.FreePages}
 use Rattle.vb_driver.specs.State.{RequestSide, DriverState, IsQueue, naming, sent_by, fresh_side}
 use Rattle.vb_driver.specs.State.{fresh_driver, IsDriver, IsStatisticsQueue, fresh_statistics}
-use Rattle.vb_driver.specs.State.{fresh_report, tells_host}
-use Rattle.vb_ring.{specs.Layout.IsSize, specs.Ends.DriverEnd}
+use Rattle.vb_driver.specs.{State.{fresh_report, tells_host}, Places.{is_at, marked, first_place}}
+use Rattle.vb_driver.proofs.Keeping.{kept_changed, Leaves, not_left, stays, stays_held, there_by}
+use Rattle.vb_driver.proofs.Keeping.{free_marked, free_set, free_stays}
+use Rattle.vb_driver.proofs.Naming.{naming_more, naming_less, named_place, named_once, once_lowest}
+use Rattle.vb_driver.proofs.{Naming.{once_append, later_none}, Flags.{fresh_flags, for_itself}}
+use Rattle.vb_driver.specs.Calls.{Posts, lowest_lent, stranded_first, after_reap}
+use Rattle.vb_driver.{specs.Areas.{AreFor, flags_of, is_free_at, is_covered}, proofs.Counting.at_is}
+use Rattle.vb_driver.proofs.RequestTables.{requests_taken, requests_fresh}
+use Rattle.vb_driver.proofs.ReportTables.{none_owned, fresh_report_queue}
+use Rattle.vb_driver.proofs.Placing.{or_true, length-marked, marked-get}
+use Rattle.vb_ring.specs.{Ends.DriverEnd, Layout.IsSize}
 
 -- ---- tests of places
 
@@ -54,43 +54,35 @@ reaped_queue s1 queue size head q = record {
 
 -- ---- lent pages are asked back
 
+lent_leave : (d : DriverState) (count : ℕ) → IsDriver d → Leaves d (lowest_lent d count) is_lent
+lent_leave d count kept =
+    record { kept = kept; at = λ p here. lowest_is d.places count is_lent p here; high = refl }
+
 pub asked_kept : (m1 m2 : Pages) (d : DriverState) (e2 : RequestSide) (base count head : ℕ) → IsDriver d
     → Posts m1 m2 d.deflate e2 base (lowest_lent d count) head
     → IsDriver (record d { places = placed (lowest_lent d count) Taking d.places; deflate = e2 })
-asked_kept m1 m2 d e2 base count head kept posts = let pages = lowest_lent d count in
-    let lent : (p : ℕ) → is_in p pages ≡ true → place_of d.places p ≡ Lent =
-    λ p here. at_is Lent (place_of d.places p) (lowest_is d.places count is_lent p here) in
+asked_kept m1 m2 d e2 base count head kept posts =
+    let pages = lowest_lent d count in
+    let leaves = lent_leave d count kept in
     let small : head < length d.deflate.sent =
     omega (arith, posts.small, kept.deflate.requests.buffers) in
     let sent : e2.sent ≡ set d.deflate.sent head pages = ap (λ (s : RequestSide). s.sent) posts.state in
-    kept_moved d d.areas pages Taking d.inflate e2 d.report (record {
-      kept = kept;
-      there = λ p here. there_by d.places p is_lent refl (lowest_is d.places count is_lent p here);
-      unreserved = λ p here. ap (is_at Reserved) (lent p here);
-      unused = λ p here. ap is_used (lent p here);
+    kept_changed d d.areas pages is_lent Taking d.held d.inflate e2 d.report (record {
+      leaves = leaves;
       inflate = kept.inflate;
       deflate = posted_queue m1 m2 d.deflate e2 base 1 d.queue_size head pages kept.deflate posts;
-      giving = λ p. naming_same p (naming p d.inflate.sent) pages is_giving Taking (place_of d.places p)
-          (kept.giving p) (λ here. ap is_giving (lent p here));
+      giving = stays leaves Taking Giving refl kept.giving;
       taking = λ told p. rw sent
           (naming_more p head pages d.deflate.sent is_taking Taking (place_of d.places p) small
-          (kept.taking told p) (λ here. ap is_taking (lent p here))
+          (kept.taking told p)
+          (λ here. not_left is_lent Taking (place_of d.places p) refl (leaves.at p here))
           (once_lowest p count is_lent d.places) refl);
       report = kept.report;
-      reporting = λ p. naming_same p (times p (pages_of_all d.report.blocks)) pages is_reporting Taking
-          (place_of d.places p) (kept.reporting p) (λ here. ap is_reporting (lent p here));
-      free = kept.free ∙ free_same d.places pages Taking
-          (λ p place is. same_free p place is (is_in p pages) refl lent);
+      reporting = stays leaves Taking Reporting refl kept.reporting;
+      free = free_stays leaves Taking refl refl;
       same = for_itself d.areas;
+      used = stays_held leaves Taking refl;
     })
-  where
-    same_free : (p : ℕ) (place : Place) → place ≡ place_of d.places p → (b : Bool)
-        → is_in p (lowest_lent d count) ≡ b
-        → ((q : ℕ) → is_in q (lowest_lent d count) ≡ true → place_of d.places q ≡ Lent)
-        → is_free place ≡ is_free (cond (is_in p (lowest_lent d count)) Taking place)
-    same_free p place is true e lent =
-        ap is_free (is ∙ lent p e) ∙ sym (ap (λ v. is_free (cond v Taking place)) e)
-    same_free p place is false e lent = sym (ap (λ v. is_free (cond v Taking place)) e)
 
 -- where the host isn't told first they are free at once
 pub asked_freed : (m1 m2 : Pages) (d : DriverState) (areas2 : FreePages) (e2 : RequestSide)
@@ -100,29 +92,19 @@ pub asked_freed : (m1 m2 : Pages) (d : DriverState) (areas2 : FreePages) (e2 : R
     (record d { places = placed (lowest_lent d count) Free d.places; areas = areas2; deflate = e2 })
 asked_freed m1 m2 d areas2 e2 base count head kept untold given same posts =
     let pages = lowest_lent d count in
-    let lent : (p : ℕ) → is_in p pages ≡ true → place_of d.places p ≡ Lent =
-    λ p here. at_is Lent (place_of d.places p) (lowest_is d.places count is_lent p here) in
-    kept_moved d areas2 pages Free d.inflate e2 d.report (record {
-      kept = kept;
-      there = λ p here. there_by d.places p is_lent refl (lowest_is d.places count is_lent p here);
-      unreserved = λ p here. ap (is_at Reserved) (lent p here);
-      unused = λ p here. ap is_used (lent p here);
+    let leaves = lent_leave d count kept in
+    kept_changed d areas2 pages is_lent Free d.held d.inflate e2 d.report (record {
+      leaves = leaves;
       inflate = kept.inflate;
       deflate = posted_queue m1 m2 d.deflate e2 base 1 d.queue_size head pages kept.deflate posts;
-      giving = λ p. naming_same p (naming p d.inflate.sent) pages is_giving Free (place_of d.places p)
-          (kept.giving p) (λ here. ap is_giving (lent p here));
+      giving = stays leaves Free Giving refl kept.giving;
       taking = λ told p. absurd (let wrong : true ≡ false = sym told ∙ untold in cc);
       report = kept.report;
-      reporting = λ p. naming_same p (times p (pages_of_all d.report.blocks)) pages is_reporting Free
-          (place_of d.places p) (kept.reporting p) (λ here. ap is_reporting (lent p here));
-      free = given ∙ (ap (marked pages true) kept.free
-          ∙ free_marked d.places pages pages Free true (λ p place is. agree place (is_in p pages)));
+      reporting = stays leaves Free Reporting refl kept.reporting;
+      free = free_set d areas2 pages Free true kept refl given;
       same = same;
+      used = stays_held leaves Free refl;
     })
-  where
-    agree : (place : Place) (b : Bool) → cond b true (is_free place) ≡ is_free (cond b Free place)
-    agree place true = refl
-    agree place false = refl
 
 -- a deflate whose pages stay where they are is reaped
 pub forgotten_kept : (d : DriverState) (head : ℕ) → head < 16 → IsDriver d → tells_host d ≡ false
@@ -153,16 +135,6 @@ pub stranded_apart : (d : DriverState) (count p : ℕ) (others : List ℕ)
     → is_in p (stranded_first d count) ≡ true → is_in p others ≡ false
 stranded_apart d count p others free here = grind (arith, list_all-at, at_is, lowest_is)
 
--- a page that may be offered
-pub data Idle (place : Place) : Type 0 where
-  idle_stranded : place ≡ Stranded → Idle place
-  idle_free : place ≡ Free → Idle place
-
-idle_test : (place : Place) (test : Place → Bool) (b : Bool) → test Stranded ≡ b → test Free ≡ b
-    → Idle place → test place ≡ b
-idle_test place test b s f (idle_stranded e) = ap test e ∙ s
-idle_test place test b s f (idle_free e) = ap test e ∙ f
-
 pub offered_kept : (m1 m2 : Pages) (d : DriverState) (areas2 : FreePages) (i2 : RequestSide)
     (base count head : ℕ) (others : List ℕ) → IsDriver d
     → list_all (λ page. is_free (place_of d.places page)) others ≡ true
@@ -176,44 +148,41 @@ pub offered_kept : (m1 m2 : Pages) (d : DriverState) (areas2 : FreePages) (i2 : 
 offered_kept m1 m2 d areas2 i2 base count head others kept free once taken same posts =
     let first = stranded_first d count in
     let pages = first ++ others in
-    let idle : (p : ℕ) → is_in p pages ≡ true
-    → Idle (place_of d.places p) = λ p here. elim (is_in-append p first others here) [
-      | inl f ↦ idle_stranded
-          (at_is Stranded (place_of d.places p) (lowest_is d.places count is_stranded p f))
-      | inr o ↦ idle_free (at_is Free (place_of d.places p)
-          (list_all-at (λ page. is_free (place_of d.places page)) others p free o))
-    ] in
+    let offered : Place → Bool = λ v. is_stranded v || is_free v in
+    let leaves : Leaves d pages offered = record {
+      kept = kept;
+      at = λ p here. elim (is_in-append p first others here) [
+        | inl f ↦ ap (λ v. v || is_free (place_of d.places p))
+            (lowest_is d.places count is_stranded p f)
+        | inr o ↦ ap (λ v. is_stranded (place_of d.places p) || v)
+            (list_all-at (λ page. is_free (place_of d.places page)) others p free o)
+            ∙ or_true (is_stranded (place_of d.places p))
+      ];
+      high = refl;
+    } in
     let small : head < length d.inflate.sent =
     omega (arith, posts.small, kept.inflate.requests.buffers) in
     let sent : i2.sent ≡ set d.inflate.sent head pages = ap (λ (s : RequestSide). s.sent) posts.state in
     let once_all : (p : ℕ) → times p pages ≤ 1 =
     λ p. once_append p first others (once_lowest p count is_stranded d.places) (once p)
     (stranded_apart d count p others free) in
-    kept_moved d areas2 pages Giving i2 d.deflate d.report (record {
-      kept = kept;
-      there = λ p here. there_by d.places p (λ v. is_stranded v || is_free v) refl
-          (idle_test (place_of d.places p) (λ v. is_stranded v || is_free v) true refl refl
-          (idle p here));
-      unreserved = λ p here. idle_test (place_of d.places p) (is_at Reserved) false refl refl
-          (idle p here);
-      unused = λ p here. idle_test (place_of d.places p) is_used false refl refl (idle p here);
+    kept_changed d areas2 pages offered Giving d.held i2 d.deflate d.report (record {
+      leaves = leaves;
       inflate = posted_queue m1 m2 d.inflate i2 base 0 d.queue_size head pages kept.inflate posts;
       deflate = kept.deflate;
       giving = λ p. rw sent
           (naming_more p head pages d.inflate.sent is_giving Giving (place_of d.places p) small
-          (kept.giving p) (λ here. idle_test (place_of d.places p) is_giving false refl refl
-          (idle p here)) (once_all p) refl);
-      taking = λ told p. naming_same p (naming p d.deflate.sent) pages is_taking Giving (place_of d.places p)
-          (kept.taking told p) (λ here. idle_test (place_of d.places p) is_taking false refl refl
-          (idle p here));
+          (kept.giving p)
+          (λ here. not_left offered Giving (place_of d.places p) refl (leaves.at p here))
+          (once_all p) refl);
+      taking = λ told. stays leaves Giving Taking refl (kept.taking told);
       report = kept.report;
-      reporting = λ p. naming_same p (times p (pages_of_all d.report.blocks)) pages is_reporting Giving
-          (place_of d.places p) (kept.reporting p) (λ here. idle_test (place_of d.places p) is_reporting false refl refl
-          (idle p here));
+      reporting = stays leaves Giving Reporting refl kept.reporting;
       free = taken ∙ (ap (marked others false) kept.free
           ∙ free_marked d.places pages others Giving false
           (λ p place is. agree p place is (is_in p others) (is_in p first) refl refl));
       same = same;
+      used = stays_held leaves Giving refl;
     })
   where
     in_pages : (p : ℕ) → is_in p (stranded_first d count ++ others)
@@ -243,38 +212,26 @@ pub lent_kept : (d : DriverState) (head : ℕ) → head < 16 → IsDriver d → 
 })
 lent_kept d head lt kept = let pages = sent_by d.inflate head in
     let small : head < length d.inflate.sent = omega (arith, kept.inflate.requests.buffers) in
-    let giving : (p : ℕ) → is_in p pages ≡ true → is_giving (place_of d.places p) ≡ true = λ p here.
-    named_place p head d.inflate.sent is_giving (place_of d.places p) small (kept.giving p) here in
-    kept_moved d d.areas pages Lent (after_reap d.inflate head) d.deflate d.report (record {
+    let leaves : Leaves d pages is_giving = record {
       kept = kept;
-      there = λ p here. there_by d.places p is_giving refl (giving p here);
-      unreserved = λ p here. ap (is_at Reserved)
-          (at_is Giving (place_of d.places p) (giving p here));
-      unused = λ p here. ap is_used (at_is Giving (place_of d.places p) (giving p here));
+      at = λ p here. named_place p head d.inflate.sent is_giving (place_of d.places p) small
+          (kept.giving p) here;
+      high = refl;
+    } in
+    kept_changed d d.areas pages is_giving Lent d.held (after_reap d.inflate head) d.deflate d.report
+    (record {
+      leaves = leaves;
       inflate = reaped_queue d.inflate 0 d.queue_size head kept.inflate;
       deflate = kept.deflate;
       giving = λ p. naming_less p head d.inflate.sent is_giving Lent (place_of d.places p) small
           (kept.giving p);
-      taking = λ told p. naming_same p
-          (naming p d.deflate.sent) pages is_taking Lent (place_of d.places p) (kept.taking told p)
-          (λ here. ap is_taking (at_is Giving (place_of d.places p) (giving p here)));
+      taking = λ told. stays leaves Lent Taking refl (kept.taking told);
       report = kept.report;
-      reporting = λ p. naming_same p (times p (pages_of_all d.report.blocks))
-          pages is_reporting Lent (place_of d.places p) (kept.reporting p)
-          (λ here. ap is_reporting (at_is Giving (place_of d.places p) (giving p here)));
-      free = kept.free ∙ free_same d.places pages Lent
-          (λ p place is. same_free p place is (is_in p pages) refl giving);
+      reporting = stays leaves Lent Reporting refl kept.reporting;
+      free = free_stays leaves Lent refl refl;
       same = for_itself d.areas;
+      used = stays_held leaves Lent refl;
     })
-  where
-    same_free : (p : ℕ) (place : Place) → place ≡ place_of d.places p → (b : Bool)
-        → is_in p (sent_by d.inflate head) ≡ b → ((q : ℕ) → is_in q (sent_by d.inflate head) ≡ true
-        → is_giving (place_of d.places q) ≡ true)
-        → is_free place ≡ is_free (cond (is_in p (sent_by d.inflate head)) Lent place)
-    same_free p place is true e giving =
-        ap is_free (is ∙ at_is Giving (place_of d.places p) (giving p e))
-        ∙ sym (ap (λ v. is_free (cond v Lent place)) e)
-    same_free p place is false e giving = sym (ap (λ v. is_free (cond v Lent place)) e)
 
 pub freed_kept : (d : DriverState) (areas2 : FreePages) (head : ℕ) → head < 16 → IsDriver d
     → tells_host d ≡ true
@@ -286,34 +243,26 @@ pub freed_kept : (d : DriverState) (areas2 : FreePages) (head : ℕ) → head < 
     })
 freed_kept d areas2 head lt kept tells given same = let pages = sent_by d.deflate head in
     let small : head < length d.deflate.sent = omega (arith, kept.deflate.requests.buffers) in
-    let taking : (p : ℕ) → is_in p pages ≡ true → is_taking (place_of d.places p) ≡ true =
-    λ p here. named_place p head d.deflate.sent is_taking (place_of d.places p) small
-    (kept.taking tells p) here in
-    kept_moved d areas2 pages Free d.inflate (after_reap d.deflate head) d.report (record {
+    let leaves : Leaves d pages is_taking = record {
       kept = kept;
-      there = λ p here. there_by d.places p is_taking refl (taking p here);
-      unreserved = λ p here. ap (is_at Reserved)
-          (at_is Taking (place_of d.places p) (taking p here));
-      unused = λ p here. ap is_used (at_is Taking (place_of d.places p) (taking p here));
+      at = λ p here. named_place p head d.deflate.sent is_taking (place_of d.places p) small
+          (kept.taking tells p) here;
+      high = refl;
+    } in
+    kept_changed d areas2 pages is_taking Free d.held d.inflate (after_reap d.deflate head) d.report
+    (record {
+      leaves = leaves;
       inflate = kept.inflate;
       deflate = reaped_queue d.deflate 1 d.queue_size head kept.deflate;
-      giving = λ p. naming_same p (naming p d.inflate.sent) pages is_giving Free (place_of d.places p)
-          (kept.giving p) (λ here. ap is_giving
-          (at_is Taking (place_of d.places p) (taking p here)));
+      giving = stays leaves Free Giving refl kept.giving;
       taking = λ told p. naming_less p head d.deflate.sent is_taking Free (place_of d.places p) small
           (kept.taking told p);
       report = kept.report;
-      reporting = λ p. naming_same p (times p (pages_of_all d.report.blocks)) pages is_reporting Free
-          (place_of d.places p) (kept.reporting p) (λ here. ap is_reporting
-          (at_is Taking (place_of d.places p) (taking p here)));
-      free = given ∙ (ap (marked pages true) kept.free
-          ∙ free_marked d.places pages pages Free true (λ p place is. agree place (is_in p pages)));
+      reporting = stays leaves Free Reporting refl kept.reporting;
+      free = free_set d areas2 pages Free true kept refl given;
       same = same;
+      used = stays_held leaves Free refl;
     })
-  where
-    agree : (place : Place) (b : Bool) → cond b true (is_free place) ≡ is_free (cond b Free place)
-    agree place true = refl
-    agree place false = refl
 
 -- ---- counts of what is moved
 

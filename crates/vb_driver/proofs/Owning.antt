@@ -4,20 +4,19 @@ use Rattle.std.proofs.Common.{false, cond, eqb, not, ◌||◌, List, [], ◌∷�
 use Rattle.std.{proofs.Common.{None, nat_le, nat_lt}, specs.List.{list_any, range_with_len}}
 use Rattle.std.proofs.lemmas.Bool.{and_parts, or_cases, or_left, or_right, both_ways, eqb-true}
 use Rattle.std.proofs.lemmas.List.{length-map}
-use Rattle.vb_model.{proofs.PageSteps.covers_is, proofs.Tables.list_all-at, specs.Driver.with_block}
-use Rattle.vb_model.specs.{Driver.without_block, Orderly.times, Pages.{Block, covers, pages_of}}
-use Rattle.vb_model.specs.Pages.{is_same_block, is_wholly_free, place_of, placed, is_free, is_used}
-use Rattle.vb_model.specs.Pages.{is_giving, is_taking, is_reporting, pages_of_all}
-use Rattle.vb_model.specs.{Refusals.{first_refusal, ◌⇒◌}, Tests.is_in, declared.places.Place.Place}
-use Rattle.vb_model.specs.declared.places.Place.TheVariants.{Reserved, Free, Used}
+use Rattle.vb_model.specs.Pages.{Block, covers, pages_of, is_same_block, is_wholly_free, place_of}
+use Rattle.vb_model.specs.{Pages.{placed, is_free, is_used}, Driver.{with_block, without_block}}
+use Rattle.vb_model.specs.declared.places.Place.TheVariants.{Free, Used, Giving, Taking, Reporting}
 use Rattle.vb_model.specs.declared.replies.Refusal.TheVariants.{BadOrder, BadCpu, NoPages, NotHeld}
-use Rattle.vb_pages.{specs.FreePages.FreePages, specs.PageState.PageState}
+use Rattle.vb_model.specs.{Refusals.{first_refusal, ◌⇒◌}, declared.places.Place.Place, Tests.is_in}
+use Rattle.vb_model.proofs.{PageSteps.covers_is, Tables.list_all-at}
+use Rattle.vb_pages.specs.{FreePages.FreePages, PageState.PageState}
 use Rattle.vb_driver.specs.Areas.{flags_of, AreApart, AreFor, Becomes, is_free_at, is_covered}
-use Rattle.vb_driver.specs.{Areas.is_free_block, Places.{is_at, marked}, Answers.block_at}
-use Rattle.vb_driver.specs.{Answers.alloc_causes, State.{DriverState, page_state, naming, IsDriver}}
-use Rattle.vb_driver.proofs.{Naming.naming_same, Counting.at_is, Keeping.{kept_changed, there_by}}
-use Rattle.vb_driver.proofs.{Keeping.free_marked, Placing.marked-get, Moving.free_is_place}
-use Rattle.vb_driver.proofs.ReportTables.{block_inside}
+use Rattle.vb_driver.specs.{Areas.is_free_block, State.{DriverState, page_state, IsDriver}}
+use Rattle.vb_driver.proofs.Keeping.{kept_changed, there_by, Leaves, stays, free_set}
+use Rattle.vb_driver.{specs.Answers.{block_at, alloc_causes}, proofs.ReportTables.block_inside}
+use Rattle.vb_driver.proofs.{Moving.free_is_place, Placing.marked-get, Counting.at_is}
+use Rattle.vb_driver.specs.Places.{marked}
 
 -- ---- free blocks
 
@@ -98,33 +97,27 @@ pub allocated_kept : (d : DriverState) (areas2 : FreePages) (b : Block) → IsDr
       held = with_block b d.held;
       areas = areas2;
     })
-allocated_kept d areas2 b kept whole taken same = let pages = pages_of b in
-    let free : (p : ℕ) → is_in p pages ≡ true
-    → place_of d.places p ≡ Free = λ p here. block_free d b p kept whole here in
-    kept_changed d areas2 pages Used (with_block b d.held) d.inflate d.deflate d.report (record {
+allocated_kept d areas2 b kept whole taken same =
+    let pages = pages_of b in
+    let leaves : Leaves d pages is_free = record {
       kept = kept;
-      there = λ p here. there_by d.places p is_free refl (ap is_free (free p here));
-      unreserved = λ p here. ap (is_at Reserved) (free p here);
+      at = λ p here. ap is_free (block_free d b p kept whole here);
+      high = refl;
+    } in
+    kept_changed d areas2 pages is_free Used (with_block b d.held) d.inflate d.deflate d.report
+    (record {
+      leaves = leaves;
       inflate = kept.inflate;
       deflate = kept.deflate;
-      giving = λ p. naming_same p (naming p d.inflate.sent) pages is_giving Used (place_of d.places p)
-          (kept.giving p) (λ here. ap is_giving (free p here));
-      taking = λ told p. naming_same p (naming p d.deflate.sent) pages is_taking Used (place_of d.places p)
-          (kept.taking told p) (λ here. ap is_taking (free p here));
+      giving = stays leaves Used Giving refl kept.giving;
+      taking = λ told. stays leaves Used Taking refl (kept.taking told);
       report = kept.report;
-      reporting = λ p. naming_same p (times p (pages_of_all d.report.blocks)) pages is_reporting Used
-          (place_of d.places p) (kept.reporting p) (λ here. ap is_reporting (free p here));
-      free = taken ∙ (ap (marked pages false) kept.free
-          ∙ free_marked d.places pages pages Used false
-          (λ p place is. agree place (is_in p pages)));
+      reporting = stays leaves Used Reporting refl kept.reporting;
+      free = free_set d areas2 pages Used false kept refl taken;
       same = same;
       used = λ p covered. used_at p (is_in p pages) refl (sym (covered_with p b d.held) ∙ covered);
     })
   where
-    agree : (place : Place) (v : Bool) → cond v false (is_free place) ≡ is_free (cond v Used place)
-    agree place true = refl
-    agree place false = refl
-
     used_at : (p : ℕ) (v : Bool) → is_in p (pages_of b) ≡ v → (covers p b || is_covered p d.held)
         ≡ true → cond (is_in p (pages_of b)) Used (place_of d.places p) ≡ Used
     used_at p true e covered = ap (λ (v : Bool). cond v Used (place_of d.places p)) e
@@ -165,33 +158,26 @@ pub block_freed_kept : (d : DriverState) (new : PageState) (b : Block) → IsDri
       held = without_block b d.held;
       areas = new.free;
     })
-block_freed_kept d new b kept held given rest same apart = let pages = pages_of b in
+block_freed_kept d new b kept held given rest same apart =
+    let pages = pages_of b in
     let used : (p : ℕ) → is_in p pages ≡ true
     → place_of d.places p ≡ Used = λ p here. block_used d b p kept held here in
-    kept_changed d new.free pages Free (without_block b d.held) d.inflate d.deflate
-    d.report (record {
-      kept = kept;
-      there = λ p here. there_by d.places p is_used refl (ap is_used (used p here));
-      unreserved = λ p here. ap (is_at Reserved) (used p here);
+    let leaves : Leaves d pages is_used =
+    record { kept = kept; at = λ p here. ap is_used (used p here); high = refl } in
+    kept_changed d new.free pages is_used Free (without_block b d.held) d.inflate d.deflate d.report
+    (record {
+      leaves = leaves;
       inflate = kept.inflate;
       deflate = kept.deflate;
-      giving = λ p. naming_same p (naming p d.inflate.sent) pages is_giving Free (place_of d.places p)
-          (kept.giving p) (λ here. ap is_giving (used p here));
-      taking = λ told p. naming_same p (naming p d.deflate.sent) pages is_taking Free (place_of d.places p)
-          (kept.taking told p) (λ here. ap is_taking (used p here));
+      giving = stays leaves Free Giving refl kept.giving;
+      taking = λ told. stays leaves Free Taking refl (kept.taking told);
       report = kept.report;
-      reporting = λ p. naming_same p (times p (pages_of_all d.report.blocks)) pages is_reporting Free
-          (place_of d.places p) (kept.reporting p) (λ here. ap is_reporting (used p here));
-      free = given ∙ (ap (marked pages true) kept.free
-          ∙ free_marked d.places pages pages Free true (λ p place is. agree place (is_in p pages)));
+      reporting = stays leaves Free Reporting refl kept.reporting;
+      free = free_set d new.free pages Free true kept refl given;
       same = same;
       used = λ p covered. used_at p (is_in p pages) refl covered (used p);
     })
   where
-    agree : (place : Place) (v : Bool) → cond v true (is_free place) ≡ is_free (cond v Free place)
-    agree place true = refl
-    agree place false = refl
-
     used_at : (p : ℕ) (v : Bool) → is_in p (pages_of b) ≡ v → is_covered p (without_block b d.held)
         ≡ true → (is_in p (pages_of b) ≡ true → place_of d.places p ≡ Used)
         → cond (is_in p (pages_of b)) Free (place_of d.places p) ≡ Used

@@ -1,14 +1,14 @@
 -- The driver as a report goes out, and as it comes back.
-use Rattle.std.proofs.Common.{◌≡◌, ◌∙◌, ap, arith, refl, ℕ, ◌≤◌, Bool, true, false, cond, List, []}
+use Rattle.std.proofs.Common.{◌≡◌, ap, arith, refl, ℕ, ◌≤◌, Bool, true, false, cond, List, []}
 use Rattle.vb_model.{proofs.Distinct.distinct_list, specs.Driver.AllDistinct, specs.Orderly.times}
-use Rattle.vb_model.specs.Pages.{Block, pages_of_all, place_of, placed, is_free, is_used, is_giving}
-use Rattle.vb_model.specs.{Pages.{is_taking, is_reporting}, Tests.{is_in, one_if}}
-use Rattle.vb_model.specs.declared.places.Place.{Place, TheVariants.{Reserved, Free, Reporting}}
+use Rattle.vb_model.specs.Pages.{Block, pages_of_all, place_of, placed, is_free}
+use Rattle.vb_model.specs.{Pages.{is_reporting}, Tests.{is_in, one_if}}
+use Rattle.vb_model.specs.declared.places.Place.{TheVariants.{Free, Giving, Taking, Reporting}}
 use Rattle.vb_pages.{specs.FreePages.FreePages, proofs.ListsLemmas.{times_in, times_out}}
-use Rattle.vb_driver.{specs.Places.{is_at, marked}, specs.Areas.{AreFor, flags_of, is_free_at}}
-use Rattle.vb_driver.specs.State.{ReportSide, DriverState, IsReportQueue, IsDriver, naming}
-use Rattle.vb_driver.{proofs.Counting.at_is, proofs.Naming.naming_same, proofs.Moving.free_is_place}
-use Rattle.vb_driver.proofs.Keeping.{kept_moved, there_by, free_marked}
+use Rattle.vb_driver.{specs.Places.{marked}, specs.Areas.{AreFor, flags_of, is_free_at}}
+use Rattle.vb_driver.specs.State.{ReportSide, DriverState, IsReportQueue, IsDriver}
+use Rattle.vb_driver.{proofs.Counting.at_is, proofs.Moving.free_is_place}
+use Rattle.vb_driver.proofs.Keeping.{Leaves, stays, stays_held, free_set, kept_changed}
 
 -- ---- a report goes out
 
@@ -28,32 +28,24 @@ pub reported_kept : (d : DriverState) (areas2 : FreePages) (r2 : ReportSide) →
     })
 reported_kept d areas2 r2 kept chosen distinct taken same queue =
     let pages = pages_of_all r2.blocks in
-    let free : (p : ℕ) → is_in p pages ≡ true
-    → place_of d.places p ≡ Free = λ p here. free_place d p kept (chosen p here) in
-    kept_moved d areas2 pages Reporting d.inflate d.deflate r2 (record {
+    let leaves : Leaves d pages is_free = record {
       kept = kept;
-      there = λ p here. there_by d.places p is_free refl (ap is_free (free p here));
-      unreserved = λ p here. ap (is_at Reserved) (free p here);
-      unused = λ p here. ap is_used (free p here);
+      at = λ p here. ap is_free (free_place d p kept (chosen p here));
+      high = refl;
+    } in
+    kept_changed d areas2 pages is_free Reporting d.held d.inflate d.deflate r2 (record {
+      leaves = leaves;
       inflate = kept.inflate;
       deflate = kept.deflate;
-      giving = λ p. naming_same p (naming p d.inflate.sent) pages is_giving Reporting
-          (place_of d.places p) (kept.giving p) (λ here. ap is_giving (free p here));
-      taking = λ told p. naming_same p (naming p d.deflate.sent) pages is_taking Reporting
-          (place_of d.places p) (kept.taking told p) (λ here. ap is_taking (free p here));
+      giving = stays leaves Reporting Giving refl kept.giving;
+      taking = λ told. stays leaves Reporting Taking refl (kept.taking told);
       report = queue;
       reporting = λ p. named p (is_in p pages) refl;
-      free = taken ∙ (ap (marked pages false) kept.free
-          ∙ free_marked d.places pages pages Reporting false
-          (λ p place is. agree place (is_in p pages)));
+      free = free_set d areas2 pages Reporting false kept refl taken;
       same = same;
+      used = stays_held leaves Reporting refl;
     })
   where
-    agree : (place : Place) (b : Bool)
-        → cond b false (is_free place) ≡ is_free (cond b Reporting place)
-    agree place true = refl
-    agree place false = refl
-
     named : (p : ℕ) (b : Bool) → is_in p (pages_of_all r2.blocks) ≡ b
         → times p (pages_of_all r2.blocks) ≤ one_if
         (is_reporting (cond (is_in p (pages_of_all r2.blocks)) Reporting (place_of d.places p)))
@@ -85,27 +77,22 @@ pub returned_kept : (d : DriverState) (areas2 : FreePages) (r2 : ReportSide) →
       areas = areas2;
       report = r2;
     })
-returned_kept d areas2 r2 kept given same queue none = let pages = pages_of_all d.report.blocks in
-    let was : (p : ℕ) → is_in p pages ≡ true
-    → place_of d.places p ≡ Reporting = λ p here. reported_place d p kept here in
-    kept_moved d areas2 pages Free d.inflate d.deflate r2 (record {
+returned_kept d areas2 r2 kept given same queue none =
+    let pages = pages_of_all d.report.blocks in
+    let leaves : Leaves d pages is_reporting = record {
       kept = kept;
-      there = λ p here. there_by d.places p is_reporting refl (ap is_reporting (was p here));
-      unreserved = λ p here. ap (is_at Reserved) (was p here);
-      unused = λ p here. ap is_used (was p here);
+      at = λ p here. ap is_reporting (reported_place d p kept here);
+      high = refl;
+    } in
+    kept_changed d areas2 pages is_reporting Free d.held d.inflate d.deflate r2 (record {
+      leaves = leaves;
       inflate = kept.inflate;
       deflate = kept.deflate;
-      giving = λ p. naming_same p (naming p d.inflate.sent) pages is_giving Free
-          (place_of d.places p) (kept.giving p) (λ here. ap is_giving (was p here));
-      taking = λ told p. naming_same p (naming p d.deflate.sent) pages is_taking Free
-          (place_of d.places p) (kept.taking told p) (λ here. ap is_taking (was p here));
+      giving = stays leaves Free Giving refl kept.giving;
+      taking = λ told. stays leaves Free Taking refl (kept.taking told);
       report = queue;
       reporting = λ p. omega (arith, ap (λ (bs : List Block). times p (pages_of_all bs)) none);
-      free = given ∙ (ap (marked pages true) kept.free
-          ∙ free_marked d.places pages pages Free true (λ p place is. agree place (is_in p pages)));
+      free = free_set d areas2 pages Free true kept refl given;
       same = same;
+      used = stays_held leaves Free refl;
     })
-  where
-    agree : (place : Place) (b : Bool) → cond b true (is_free place) ≡ is_free (cond b Free place)
-    agree place true = refl
-    agree place false = refl

@@ -1,5 +1,5 @@
 -- Zeros written to guest memory.
-use Rattle.std.proofs.Common.{◌≡◌, ◌∙◌, sym, ap, arith, ℕ, ◌+◌, ◌-◌, ◌<◌, ◌≢◌, ◌&&◌, nat_lt, Bool}
+use Rattle.std.proofs.Common.{◌≡◌, ◌∙◌, sym, ap, arith, ℕ, ◌+◌, ◌<◌, ◌≢◌, ◌&&◌, nat_lt, Bool}
 use Rattle.std.{proofs.Common.{true, false, inl, inr}, proofs.lemmas.Bool.{cases_eq, lt-ltb}}
 use Rattle.vb_ram.{specs.Pages.{Pages, byte_at, SameBut}, proofs.FieldLaws.same_page}
 use Rattle.vb_driver.specs.Coding.{AreZeroed}

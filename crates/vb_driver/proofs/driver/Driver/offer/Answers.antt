@@ -1,4 +1,4 @@
-use Rattle.std.proofs.Common.{◌≡◌, ◌∙◌, ◌+◌, ◌++◌, sym, ap, subst, arith, ℕ, List}
+use Rattle.std.proofs.Common.{◌≡◌, ◌∙◌, ◌++◌, sym, ap, subst, arith, ℕ, List}
 use Rattle.vb_model.{specs.declared.places.Place.TheVariants.Giving, specs.Pages.placed}
 use Rattle.vb_model.specs.declared.places.Place.{Place}
 use Rattle.vb_driver.proofs.Moving.{offered_kept, others_there, others_free, offered_inside}

@@ -1,4 +1,4 @@
-use Rattle.std.proofs.Common.{◌≡◌, ◌∙◌, ◌+◌, ◌-◌, ◌++◌, sym, ap, arith, ℕ, List, length, take, drop}
+use Rattle.std.proofs.Common.{◌≡◌, ◌∙◌, ◌-◌, ◌++◌, sym, ap, arith, ℕ, List, length, take, drop}
 use Rattle.std.{proofs.Common.{set, count_by, get_or}, proofs.lemmas.Bool.or_parts}
 use Rattle.std.{proofs.Math.Seq.take-append_seam, specs.List.range_with_len}
 use Rattle.vb_model.specs.declared.places.Place.{Place}

@@ -1,4 +1,4 @@
-use Rattle.std.proofs.Common.{◌-◌, arith}
+use Rattle.std.proofs.Common.{arith}
 use Rattle.vb_driver.proofs.Placing.{marked_none, placed_further, length-marked}
 use Rattle.vb_driver.proofs.places.PlaceTable.set_range.Goals as goal
 

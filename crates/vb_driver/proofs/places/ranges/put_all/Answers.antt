@@ -1,4 +1,4 @@
-use Rattle.std.proofs.Common.{◌-◌, arith}
+use Rattle.std.proofs.Common.{arith}
 use Rattle.vb_driver.proofs.Placing.{marked_none, placed_next}
 use Rattle.vb_driver.proofs.places.ranges.put_all.Goals as goal
 
