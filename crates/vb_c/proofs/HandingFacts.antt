@@ -13,10 +13,10 @@ use Rattle.vb_c.specs.declared.notice.{VbNotice.VbNotice, VbRoom.VbRoom}
 use Rattle.vb_c.specs.{Notices.{tally_of, asked_bits, what_of}, Serving.{held_then, Refuses}}
 use Rattle.vb_c.{specs.Serving.HandsOver, proofs.Samples.{Same, two, balloon}}
 
-abbrev spot : Spot
+abbrev pub spot : Spot
 spot = record { region = 0; offset = 0x102 }
 
-abbrev none_asked : Orders
+abbrev pub none_asked : Orders
 none_asked = record {
   named = record { runs = 0; pages = 0; skipped = 0 };
   figures = 0;
@@ -25,7 +25,7 @@ none_asked = record {
 }
 
 -- the index is awaited
-abbrev shown : VbNotice
+abbrev pub shown : VbNotice
 shown = record {
   what = 64;
   kind = 0;
@@ -53,13 +53,13 @@ shown = record {
   phase = 1;
 }
 
-abbrev nothing : Asked
+abbrev pub nothing : Asked
 nothing = record { told = Nothing; gives = false }
 
-abbrev at_index : Notice
+abbrev pub at_index : Notice
 at_index = record { kind = Inflate; step = record { tally = tally_of shown; phase = AwaitsIndex spot } }
 
-handed : HandsOver at_index two [] balloon balloon [] shown
+pub handed : HandsOver at_index two [] balloon balloon [] shown
 handed = record {
   asked = nothing;
   notice = at_index;

@@ -10,3 +10,4 @@ mod PhaseFacts
 mod RefusalFacts
 mod RegisterFacts
 mod HandingFacts
+mod BeginFacts

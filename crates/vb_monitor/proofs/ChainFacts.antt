@@ -9,7 +9,7 @@ use Rattle.vb_monitor.specs.declared.parts.Part.{Part}
 use Rattle.vb_monitor.specs.declared.outcome.Outcome.{Outcome}
 use Rattle.vb_monitor.specs.Accesses.{Access, ReadWord, CopyBytes, Full}
 use Rattle.vb_monitor.specs.Ends.{Whole, wants_interrupt, Ends, Breaks}
-use Rattle.vb_monitor.specs.Pieces.{pieces_in, parts_of, all_parts, CopiesParts, fits_behind}
+use Rattle.vb_monitor.specs.Pieces.{pieces_in, parts_of, all_parts, CopiesParts, PartBy, fits_behind}
 use Rattle.vb_monitor.specs.Giving.{Then}
 use Rattle.vb_monitor.specs.Chains.{descriptor_of, memory_end, descriptors, table_fault, GoesOn, Follows, ServesPieces, with_held}
 use Rattle.vb_monitor.proofs.Samples.{Same, two, at, ring, ready, tally, piece, first_descriptor, last_descriptor, number, descriptor, part, discard, flags}
@@ -249,6 +249,39 @@ in_the_hole : CopiesParts (whole (record ready { status = 79 })
     (record { tally = tally; why = Some (Broken OutOfRam); interrupt = false; more = false })) Four ready tally
     (all_parts (of_address 0x15000 4 ∷ [])) [] []
 in_the_hole = record { nothing = refl; device = refl; outcome = refl }
+
+-- one part alone, behind what was copied, so many bytes behind its piece's begin
+abbrev second_part : Part
+second_part = record { address = 4095; plus = 1; length = 2 }
+
+its_bytes : PartBy true (whole ready (ends_so false false)) Four ready tally second_part (9 ∷ [])
+    (CopyBytes (at 4096) (8 ∷ 7 ∷ []) ∷ [])
+its_bytes = record { bytes = 8 ∷ 7 ∷ []; rest = []; asks = refl; long = refl; goes_on = (refl, refl) }
+
+those_of_the_first : PartBy true (whole ready (ends_so false false)) Four ready tally second_part (9 ∷ [])
+    (CopyBytes (at 4095) (8 ∷ 7 ∷ []) ∷ []) → ⊥
+those_of_the_first h = let e : Same 4095 4096 = ap copied_at h.asks in omega arith
+
+one_byte_more : PartBy true (whole ready (ends_so false false)) Four ready tally second_part (9 ∷ [])
+    (CopyBytes (at 4096) (8 ∷ 7 ∷ 6 ∷ []) ∷ []) → ⊥
+one_byte_more h =
+    let e : Same 3 (length h.bytes) = ap copied_bytes h.asks in
+    omega (arith, e, h.long)
+
+-- without room nothing is copied, and a rule is broken: the chain is too long, though it is memory
+no_room : PartBy false (whole (record ready { status = 79 })
+    (record { tally = tally; why = Some (Broken BadLength); interrupt = false; more = false })) Four ready tally
+    second_part (9 ∷ []) []
+no_room = record { nothing = refl; device = refl; outcome = refl }
+
+no_memory : PartBy false (whole (record ready { status = 79 })
+    (record { tally = tally; why = Some (Broken OutOfRam); interrupt = false; more = false })) Four ready tally
+    second_part (9 ∷ []) [] → ⊥
+no_memory h = let e = ap (λ (o : Outcome). o.why) h.outcome in absurd cc
+
+copied_without_room : (d : Device) (o : Outcome) (rest : List Access) →
+    PartBy false (whole d o) Four ready tally second_part (9 ∷ []) (CopyBytes (at 4096) (8 ∷ 7 ∷ []) ∷ rest) → ⊥
+copied_without_room d o rest h = let e = h.nothing in absurd cc
 
 -- ---- what is copied of which kind
 

@@ -13,10 +13,12 @@ pub mod TouchLemmas
 pub mod CountLemmas
 mod RegionFacts
 mod SoleFacts
+mod SingleFacts
 mod NoticeFacts
 mod OrderFacts
 pub mod PlaceLemmas
 mod PlaceFacts
+mod RestoreFacts
 pub mod TurnLemmas
 pub mod NamedLemmas
 pub mod TurnRows
@@ -46,4 +48,5 @@ pub mod StillBytes
 pub mod StillWalk
 pub mod StillParts
 pub mod StillLaws
+pub mod StillReports
 mod StillFacts

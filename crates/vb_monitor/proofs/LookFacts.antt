@@ -1,12 +1,14 @@
 -- How a queue is looked at, and a whole notice, worked out: which accesses it makes, and which it doesn't.
-use Rattle.std.proofs.Common.{◌≡◌, refl, ap, Bool, true, false, List, [], ◌∷◌, Option, Some, None}
-use Rattle.std.proofs.Common.{Ok, Err}
-use Rattle.vb_chain.specs.declared.fault.ChainFault.TheVariants.{IndexJump, BadHead}
+use Rattle.std.proofs.Common.{◌≡◌, refl, ap, arith, ℕ, Bool, true, false, List, [], ◌∷◌, Option}
+use Rattle.std.proofs.Common.{Some, None, Ok, Err}
+use Rattle.vb_chain.specs.declared.fault.ChainFault.TheVariants.{IndexJump, BadHead, OutOfRam}
 use Rattle.vb_core.specs.declared.kinds.Kind.TheVariants.{Inflate, Deflate, Statistics, Report}
-use Rattle.vb_core.specs.declared.device.{Denial.Denial, Device.Device, Denial.TheVariants.Broken}
+use Rattle.vb_core.{specs.declared.device.Denial.Denial, specs.declared.device.Device.Device}
+use Rattle.vb_core.specs.declared.device.Denial.TheVariants.{Broken, NotReady, NeedsReset}
 use Rattle.vb_monitor.specs.Notices.{entry_offset, stands, AfterIndex, AfterGiven, TakesNext}
-use Rattle.vb_monitor.{proofs.Samples.{two, ring, ready, tally, index, pages}, specs.Giving.Then}
-use Rattle.vb_monitor.{specs.Notices.{with_chains, fresh, HeadBy}, specs.Accesses.{Access, Acquire}}
+use Rattle.vb_monitor.specs.Notices.{LooksBy, IndexAt, TakesUnlessSpent}
+use Rattle.vb_monitor.{proofs.Samples.{Same, two, at, ring, ready, tally, index}, specs.Giving.Then}
+use Rattle.vb_monitor.{specs.Notices.{with_chains, fresh, HeadBy}, specs.Accesses.{Access, ReadWord, Acquire}}
 use Rattle.vb_monitor.{specs.declared.outcome.Outcome.Outcome, specs.Ends.Whole}
 
 -- ---- the index and the entry
@@ -62,7 +64,98 @@ taken_although_jumped : (d : Device) (o : Outcome) →
     AfterIndex (Err IndexJump) (whole d o) (λ log. Unit {0}) ready tally (Acquire ∷ []) → ⊥
 taken_although_jumped d o h = let e = h.nothing in absurd cc
 
+-- ---- the look itself
+
+-- no chain stands there
+looked : LooksBy None (whole ready (end None false)) (λ log. ⊥) ready tally (ReadWord (at 0x102) 0 ∷ [])
+looked = record { index = 0; rest = []; asks = refl; goes_on = record { nothing = refl; device = refl; outcome = refl } }
+
+not_looked : LooksBy (Some NotReady) (whole ready (end (Some NotReady) false)) (λ log. ⊥) ready tally []
+not_looked = record { nothing = refl; device = refl; outcome = refl }
+
+looked_although_refused : (d : Device) (o : Outcome) →
+    LooksBy (Some NotReady) (whole d o) (λ log. Unit {0}) ready tally (index ∷ []) → ⊥
+looked_although_refused d o h = let e = h.nothing in absurd cc
+
+for_another_reason : LooksBy (Some NotReady) (whole ready (end (Some NeedsReset) false)) (λ log. ⊥) ready tally [] → ⊥
+for_another_reason h = let e = ap (λ (o : Outcome). o.why) h.outcome in absurd cc
+
+refused_with_more : LooksBy (Some NotReady) (whole ready (end (Some NotReady) true)) (λ log. ⊥) ready tally [] → ⊥
+refused_with_more h = let e = ap (λ (o : Outcome). o.more) h.outcome in absurd cc
+
+refused_and_broken : LooksBy (Some NotReady) (whole (record ready { status = 79 }) (end (Some NotReady) false))
+    (λ log. ⊥) ready tally [] → ⊥
+refused_and_broken h = let e : Same 79 15 = ap (λ (d : Device). d.status) h.device in omega arith
+
+abbrev read_at : List Access → ℕ
+read_at (ReadWord at answer ∷ xs) = at.offset
+read_at xs = 0
+
+flags_in_its_place : (d : Device) (o : Outcome) →
+    LooksBy None (whole d o) (λ log. Unit {0}) ready tally (ReadWord (at 0x100) 0 ∷ []) → ⊥
+flags_in_its_place d o h = let e : Same 0x100 0x102 = ap read_at h.asks in omega arith
+
+-- of a queue whose index lies in a hole nothing is read: the guest broke a rule
+in_the_hole : LooksBy None (whole (record ready { inflate = record ring { avail = 0x14ffe }; status = 79 })
+    (end (Some (Broken OutOfRam)) false)) (λ log. ⊥) (record ready { inflate = record ring { avail = 0x14ffe } }) tally []
+in_the_hole = record { nothing = refl; device = refl; outcome = refl }
+
+nowhere : IndexAt (whole (record ready { status = 79 }) (end (Some (Broken OutOfRam)) false)) (λ log. ⊥) ready tally
+    None []
+nowhere = record { nothing = refl; device = refl; outcome = refl }
+
+of_another_rule : IndexAt (whole (record ready { status = 79 }) (end (Some (Broken IndexJump)) false)) (λ log. ⊥)
+    ready tally None [] → ⊥
+of_another_rule h = let e = ap (λ (o : Outcome). o.why) h.outcome in absurd cc
+
+unbroken : (o : Outcome) → IndexAt (whole ready o) (λ log. ⊥) ready tally None [] → ⊥
+unbroken o h = let e : Same 15 79 = ap (λ (d : Device). d.status) h.device in omega arith
+
+somewhere : IndexAt (whole ready (end None false)) (λ log. log ≡ []) ready tally (Some (at 6)) (ReadWord (at 6) 1 ∷ [])
+somewhere = record { index = 1; rest = []; asks = refl; goes_on = refl }
+
+elsewhere : (d : Device) (o : Outcome) →
+    IndexAt (whole d o) (λ log. Unit {0}) ready tally (Some (at 6)) (ReadWord (at 8) 1 ∷ []) → ⊥
+elsewhere d o h = let e : Same 8 6 = ap read_at h.asks in omega arith
+
+unread : (d : Device) (o : Outcome) → IndexAt (whole d o) (λ log. Unit {0}) ready tally (Some (at 6)) [] → ⊥
+unread d o h = let e = h.asks in absurd cc
+
 -- ---- budgets
+
+all_spent : TakesUnlessSpent true (whole ready (end None true)) (λ d t log. ⊥) ready tally []
+all_spent = record { nothing = refl; device = refl; outcome = refl }
+
+spent_in_silence : TakesUnlessSpent true (whole ready (end None false)) (λ d t log. ⊥) ready tally [] → ⊥
+spent_in_silence h = let e = ap (λ (o : Outcome). o.more) h.outcome in absurd cc
+
+spent_and_refused : TakesUnlessSpent true (whole ready (end (Some NotReady) true)) (λ d t log. ⊥) ready tally [] → ⊥
+spent_and_refused h = let e = ap (λ (o : Outcome). o.why) h.outcome in absurd cc
+
+taken_although_spent : (d : Device) (o : Outcome) (rest : List Access) →
+    TakesUnlessSpent true (whole d o) (λ d t log. Unit {0}) ready tally (Acquire ∷ rest) → ⊥
+taken_although_spent d o rest h = let e = h.nothing in absurd cc
+
+-- an entry that names no descriptor of the queue
+entry_read : TakesUnlessSpent false (whole (record ready { status = 79 }) (end (Some (Broken BadHead)) false))
+    (λ d t log. ⊥) ready tally (Acquire ∷ ReadWord (at 0x104) 8 ∷ [])
+entry_read = record {
+  head = 8;
+  rest = [];
+  asks = refl;
+  goes_on = record { nothing = refl; device = refl; outcome = refl };
+}
+
+entry_unread : (d : Device) (o : Outcome) → TakesUnlessSpent false (whole d o) (λ d t log. Unit {0}) ready tally [] → ⊥
+entry_unread d o h = let e = h.asks in absurd cc
+
+abbrev entry_at : List Access → ℕ
+entry_at (Acquire ∷ ReadWord at answer ∷ xs) = at.offset
+entry_at xs = 0
+
+another_entry : (d : Device) (o : Outcome) →
+    TakesUnlessSpent false (whole d o) (λ d t log. Unit {0}) ready tally (Acquire ∷ ReadWord (at 0x106) 8 ∷ []) → ⊥
+another_entry d o h = let e : Same 0x106 0x104 = ap entry_at h.asks in omega arith
 
 -- a budget that is spent ends the notice, and says that more stands there
 no_chain_left : TakesNext 0 (whole ready (end None true)) ready tally []

@@ -1,8 +1,10 @@
 -- Pages that one region alone has, worked out.
-use Rattle.std.proofs.Common.{◌≡◌, refl, arith, length, List, [], ◌∷◌, ap}
+use Rattle.std.proofs.Common.{◌≡◌, refl, arith, length, true, false, List, [], ◌∷◌, ap, Some, None}
 use Rattle.vb_core.specs.declared.runs.Run.{Run}
-use Rattle.vb_monitor.specs.declared.{regions.Region.Region, sole.Sole.Sole, cuts.Cut.Cut}
-use Rattle.vb_monitor.specs.{Regions.cuts_of, Sole.{LiesIn, sole_cut, HasPages, IsSole}}
+use Rattle.vb_monitor.{specs.declared.regions.Region.Region, specs.declared.sole.Sole.Sole}
+use Rattle.vb_monitor.{specs.declared.cuts.Cut.Cut, specs.Regions.cuts_of}
+use Rattle.vb_monitor.specs.Sole.{LiesIn, has_page, all_but, sole_of, sole_cut, HasPages, IsSole}
+use Rattle.vb_monitor.proofs.Samples.{low}
 
 -- pages 22 to 31, which stand from 0x100000 on in a file
 abbrev high : Region
@@ -45,3 +47,51 @@ shared h =
 -- a region's pages begin where it does
 begins_elsewhere : HasPages (record of_high { first = 21 }) → ⊥
 begins_elsewhere h = absurd (omega (arith, h.guest))
+
+-- ---- which region has pages alone
+
+-- the last two of them, and those on either side; a region of none, or that isn't possible, has none
+has_its_last : has_page 31 33 high ≡ true
+has_its_last = refl
+
+has_its_first : has_page 20 23 high ≡ true
+has_its_first = refl
+
+not_behind_it : has_page 32 34 high ≡ false
+not_behind_it = refl
+
+not_before_it : has_page 20 22 high ≡ false
+not_before_it = refl
+
+of_no_pages : has_page 20 34 (record high { length = 0 }) ≡ false
+of_no_pages = refl
+
+of_half_a_page : has_page 20 34 (record high { length = 0xa800 }) ≡ false
+of_half_a_page = refl
+
+the_others : all_but 1 (low ∷ high ∷ low ∷ []) ≡ low ∷ low ∷ []
+the_others = refl
+
+is_high : sole_of (low ∷ high ∷ []) 1 ≡ Some (record of_high { region = 1 })
+is_high = refl
+
+is_low : sole_of (low ∷ high ∷ []) 0 ≡
+    Some (record { region = 0; guest = 0; in_file = 0; first = 0; end = 21 })
+is_low = refl
+
+no_such_region : sole_of (low ∷ high ∷ []) 2 ≡ None
+no_such_region = refl
+
+not_possible : sole_of (low ∷ record high { guest = 0x16800 } ∷ []) 1 ≡ None
+not_possible = refl
+
+-- another one has its last page, before it in the list, or behind it
+shared_behind : sole_of (high ∷ record low { guest = 0x1f000 } ∷ []) 0 ≡ None
+shared_behind = refl
+
+shared_before : sole_of (record low { guest = 0x1f000 } ∷ high ∷ []) 1 ≡ None
+shared_before = refl
+
+-- and one that begins where it ends has none
+next_to_it : sole_of (high ∷ record low { guest = 0x20000 } ∷ []) 0 ≡ Some of_high
+next_to_it = refl

@@ -1,14 +1,21 @@
 -- Runs between pages that one region alone has.
-use Rattle.std.proofs.Common.{◌≡◌, ◌∙◌, ap, sym, subst, refl, arith, ℕ, ◌+◌, ◌-◌, ◌*◌, ◌/◌, ◌<◌}
-use Rattle.std.proofs.Common.{◌≤◌, true, false, List, [], ◌∷◌, ◌++◌, length, drop, get_or, take}
-use Rattle.std.proofs.{Common.{slice_set, Option, Some, None}, lemmas.Bool.Decides.nat_tests}
-use Rattle.std.{proofs.lemmas.List.{drop_more, take_more_set}, specs.Prelude.MatchOption}
+use Rattle.std.proofs.Common.{◌≡◌, ◌∙◌, ap, sym, refl, arith, ℕ, zero, suc, ◌+◌, ◌-◌, ◌*◌, ◌/◌}
+use Rattle.std.proofs.Common.{◌<◌, ◌≤◌, Bool, true, false, List, [], ◌∷◌, ◌++◌, length, drop}
+use Rattle.std.proofs.Common.{get_or, take, slice_set, Option, Some, None}
+use Rattle.std.{proofs.lemmas.List.{drop_more, take_more_set}, proofs.lemmas.Bool.Decides.nat_tests}
+use Rattle.std.specs.Prelude.{MatchOption, ◌&&◌, ◌||◌, not}
+use Rattle.std.specs.Prelude.{if◌then◌else◌, option_and_then}
+use Rattle.std.specs.List.{list_any}
+use Rattle.std.{proofs.lemmas.List.Folds.list_any-append, proofs.lemmas.Option.{slice_get-get_or, slice_get_past}}
+use Rattle.std.{proofs.Common.{length-drop, subst}, proofs.lemmas.List.{drop_all, take_all}}
 use Rattle.vb_monitor.specs.Regions.{is_region, meets, cut_of, cuts_from, cuts_of, first_both}
-use Rattle.vb_monitor.specs.{Regions.end_both, declared.cuts.NextCut.NextCut, Machine.cuts_behind}
-use Rattle.vb_monitor.specs.{Orders.cuts_left, declared.regions.TheConstants.FILE_LIMIT}
-use Rattle.vb_monitor.specs.declared.{regions.Region.Region, cuts.Cut.Cut, sole.Sole.Sole}
-use Rattle.vb_monitor.specs.Sole.{LiesIn, PassesBy, sole_cut, IsSole}
-use Rattle.vb_monitor.proofs.{RegionLemmas.{cut_here, cut_on, cut_end}, OrderLemmas.one_more}
+use Rattle.vb_monitor.{specs.declared.cuts.NextCut.NextCut, specs.Machine.cuts_behind}
+use Rattle.vb_monitor.{specs.Orders.cuts_left, specs.declared.regions.TheConstants.FILE_LIMIT}
+use Rattle.vb_monitor.{specs.declared.regions.Region.Region, specs.declared.cuts.Cut.Cut}
+use Rattle.vb_monitor.{specs.declared.sole.Sole.Sole, specs.Regions.end_both}
+use Rattle.vb_monitor.specs.Sole.{LiesIn, has_page, pages_of, is_shared, sole_if, sole_of}
+use Rattle.vb_monitor.specs.Sole.{sole_cut, IsSole}
+use Rattle.vb_monitor.{proofs.RegionLemmas.{cut_here}, proofs.OrderLemmas.one_more}
 use Rattle.vb_model.specs.Limits.{page_size}
 use Rattle.vb_core.{specs.declared.settings.TheConstants.MEMORY_LIMIT, specs.declared.runs.Run.Run}
 
@@ -53,46 +60,97 @@ has_pages : (r : Region) → is_region r ≡ true → (r.guest ≤ page_size * (
 has_pages r is =
     (grind (arith, nat_tests, is), (grind (arith, nat_tests, is), grind (arith, nat_tests, is)))
 
-pub sole_here : (rs : List Region) (n : ℕ) (d : Region) → n < length rs
-    → is_region (get_or rs n d) ≡ true → PassesBy rs 0 n ((get_or rs n d).guest / page_size)
-    (((get_or rs n d).guest + (get_or rs n d).length) / page_size)
-    → PassesBy rs (n + 1) (length rs) ((get_or rs n d).guest / page_size)
-    (((get_or rs n d).guest + (get_or rs n d).length) / page_size) → IsSole (record {
-      region = n;
-      guest = (get_or rs n d).guest;
-      in_file = (get_or rs n d).in_file;
-      first = (get_or rs n d).guest / page_size;
-      end = ((get_or rs n d).guest + (get_or rs n d).length) / page_size;
-    }) rs
-sole_here rs n d lt is before behind =
+neither : (a b : Bool) → (a || b) ≡ false → (a ≡ false) × (b ≡ false)
+neither true b h = absurd cc
+neither false b h = (refl, h)
+
+not_met : (r : Region) (first end : ℕ) (run : Run) → has_page first end r ≡ false →
+    LiesIn first end run → meets r run ≡ false
+not_met r first end run e h = grind (arith, nat_tests, e, h.some, h.from, h.to)
+
+-- regions that have none of some pages have no part of a run between them
+none_met : (rs : List Region) (k first end : ℕ) (run : Run) →
+    list_any (has_page first end) rs ≡ false → LiesIn first end run → cuts_from k rs run ≡ []
+none_met [] k first end run e h = refl
+none_met (r ∷ rs) k first end run e h =
+    let (here, on) = neither (has_page first end r) (list_any (has_page first end) rs) e in
+    ap (λ (b : Bool). if b then cut_of k r run ∷ cuts_from (k + 1) rs run
+    else cuts_from (k + 1) rs run) (not_met r first end run here h)
+    ∙ none_met rs (k + 1) first end run on h
+
+-- nor have those before one
+passed : (rs : List Region) (n k m first end : ℕ) (run : Run) → k + n ≡ m →
+    list_any (has_page first end) (take n rs) ≡ false → LiesIn first end run →
+    cuts_from k rs run ≡ cuts_from m (drop n rs) run
+passed [] n k m first end run sum e h =
+    sym (ap (λ (l : List Region). cuts_from m l run) (drop_all n [] (omega arith)))
+passed (r ∷ rs) zero k m first end run sum e h =
+    ap (λ (j : ℕ). cuts_from j (r ∷ rs) run) (omega (arith, sum))
+passed (r ∷ rs) (suc n) k m first end run sum e h =
+    let (here, on) =
+    neither (has_page first end r) (list_any (has_page first end) (take n rs)) e in
+    ap (λ (b : Bool). if b then cut_of k r run ∷ cuts_from (k + 1) rs run
+    else cuts_from (k + 1) rs run) (not_met r first end run here h)
+    ∙ passed rs n (k + 1) m first end run (omega (arith, sum)) on h
+
+sole_here : (rs : List Region) (n : ℕ) (d : Region) → n < length rs →
+    is_region (get_or rs n d) ≡ true → is_shared (pages_of n (get_or rs n d)) rs ≡ false →
+    IsSole (pages_of n (get_or rs n d)) rs
+sole_here rs n d lt is alone =
     let r : Region = get_or rs n d in
+    let s = pages_of n r in
     let bounds = has_pages r is in
-    let no_more : (run : Run) → LiesIn (r.guest / page_size) ((r.guest + r.length) / page_size) run
-    → cuts_from (n + 1) (drop (n + 1) rs) run ≡ [] =
-    λ run h. behind run h ∙ cut_end rs (length rs) run (omega arith) in
+    let (before, behind) = neither (list_any (has_page s.first s.end) (take n rs))
+    (list_any (has_page s.first s.end) (drop (n + 1) rs))
+    (sym (list_any-append (has_page s.first s.end) (take n rs) (drop (n + 1) rs)) ∙ alone) in
     record {
       pages = record { guest = bounds.0; file = bounds.1.0; below = bounds.1.1 };
       is_one = lt;
-      parts = λ run h. before run h ∙ (cut_here rs n run d lt (is_between r run is h)
-          ∙ (ap (λ (l : List Cut). cut_of n r run ∷ l) (no_more run h)
+      parts = λ run h.
+          passed rs n 0 n s.first s.end run (omega arith) before h
+          ∙ (cut_here rs n run d lt (is_between r run is h)
+          ∙ (ap (λ (l : List Cut). cut_of n r run ∷ l)
+          (none_met (drop (n + 1) rs) (n + 1) s.first s.end run behind h)
           ∙ ap (λ (c : Cut). c ∷ []) (cut_is n r run h)));
-      no_more = no_more;
+      no_more = λ run h. none_met (drop (n + 1) rs) (n + 1) s.first s.end run behind h;
     }
 
--- ---- a loop over regions
+pub sole_so : (rs : List Region) (n : ℕ) (d : Region) (s : Sole) → n < length rs →
+    is_region (get_or rs n d) ≡ true → s ≡ pages_of n (get_or rs n d) → is_shared s rs ≡ false →
+    (s.region ≡ n) × IsSole s rs
+sole_so rs n d s lt is e alone = (
+  ap (λ (x : Sole). x.region) e,
+  subst (λ (x : Sole). IsSole x rs) (sym e) (sole_here rs n d lt is
+      (subst (λ (x : Sole). is_shared x rs ≡ false) e alone)),
+)
 
-pub passed_one : (rs : List Region) (from n first end : ℕ) (d : Region) → n < length rs →
-    PassesBy rs from n first end →
-    ((run : Run) → LiesIn first end run → meets (get_or rs n d) run ≡ false) →
-    PassesBy rs from (n + 1) first end
-passed_one rs from n first end d lt so_far none run h =
-    so_far run h ∙ cut_on rs n run d lt (none run h)
+-- what stands at a number in the list
+pub sole_by : (rs : List Region) (n : ℕ) (d : Region) (possible shared : Bool) → n < length rs →
+    is_region (get_or rs n d) ≡ possible → is_shared (pages_of n (get_or rs n d)) rs ≡ shared →
+    sole_of rs n ≡ (if possible && not shared then Some (pages_of n (get_or rs n d)) else None)
+sole_by rs n d possible shared lt is e =
+    let r : Region = get_or rs n d in
+    ap (λ (o : Option Region). option_and_then (sole_if n rs) o) (slice_get-get_or rs n d lt)
+    ∙ (ap (λ (b : Bool). if b && not (is_shared (pages_of n r) rs) then Some (pages_of n r) else None) is
+    ∙ ap (λ (b : Bool). if possible && not b then Some (pages_of n r) else None) e)
 
-pub passed_all : (rs : List Region) (from n to first end : ℕ) → n ≡ to →
-    PassesBy rs from n first end → PassesBy rs from to first end
-passed_all rs from n to first end e h = subst (λ (k : ℕ). PassesBy rs from k first end) e h
+pub none_past : (rs : List Region) (n : ℕ) → length rs ≤ n → None ≡ sole_of rs n
+none_past rs n le =
+    ap (λ (o : Option Region). option_and_then (sole_if n rs) o) (sym (slice_get_past rs n le))
 
-pub ruleset passed_steps = (passed_one, passed_all)
+-- the regions before one, and those behind it
+pub shared_by : (s : Sole) (rs : List Region) (before behind : Bool) →
+    list_any (has_page s.first s.end) (take s.region rs) ≡ before →
+    list_any (has_page s.first s.end) (take (length rs - (s.region + 1)) (drop (s.region + 1) rs)) ≡
+    behind → is_shared s rs ≡ (before || behind)
+shared_by s rs before behind e f =
+    let all : take (length rs - (s.region + 1)) (drop (s.region + 1) rs) ≡ drop (s.region + 1) rs =
+    take_all (length rs - (s.region + 1)) (drop (s.region + 1) rs)
+    (omega (arith, length-drop (s.region + 1) rs)) in
+    list_any-append (has_page s.first s.end) (take s.region rs) (drop (s.region + 1) rs)
+    ∙ (ap (λ (b : Bool). b || list_any (has_page s.first s.end) (drop (s.region + 1) rs)) e
+    ∙ ap (λ (b : Bool). before || b)
+    (ap (λ (l : List Region). list_any (has_page s.first s.end) l) (sym all) ∙ f))
 
 -- ---- a list of parts
 

@@ -1,39 +1,45 @@
 -- A notice over memory that stays as it is does what the device answers to copies of it.
 use Rattle.std.proofs.Common.{◌≡◌, ◌≢◌, ◌∙◌, ap, sym, subst, refl, arith, inl, inr, ℕ, suc, ◌+◌}
 use Rattle.std.proofs.Common.{◌*◌, ◌%◌, ◌<◌, ◌≤◌, Bool, true, false, List, [], ◌∷◌, length, map}
-use Rattle.std.{proofs.Common.{take, Option, Some, None, Result, Ok, Err}, specs.Prelude.◌&&◌}
-use Rattle.std.specs.Prelude.{◌==◌, nat_lt, nat_le, not, if◌then◌else◌, IsOk, IsOkAnd, IsSomeAnd}
-use Rattle.std.proofs.lemmas.{Bool.Decides.nat_tests, List.FromFn.length-map-range_with_len}
+use Rattle.std.proofs.Common.{take, Option, Some, None, Result, Ok, Err}
+use Rattle.std.specs.Prelude.{◌&&◌, ◌==◌, nat_lt, nat_le, not, if◌then◌else◌, IsOk, IsOkAnd}
+use Rattle.std.specs.Prelude.{IsSomeAnd}
+use Rattle.std.{proofs.lemmas.Bool.Decides.nat_tests}
+use Rattle.std.proofs.lemmas.List.FromFn.{length-map-range_with_len}
 use Rattle.vb_model.specs.Tests.{one_if}
 use Rattle.vb_ram.specs.Pages.{Pages, field, end_of}
 use Rattle.vb_chain.{specs.declared.pieces.Piece.Piece, specs.declared.fault.ChainFault.ChainFault}
 use Rattle.vb_chain.specs.declared.fault.ChainFault.TheVariants.{BadHead, IndexJump}
 use Rattle.vb_chain.{specs.Chain.{ChainGives, FaultGives}, specs.Table.descriptor_at}
 use Rattle.vb_chain.proofs.Walking.{walked_init}
-use Rattle.vb_ring.specs.{declared.device.Taken.Taken, Entries.{ahead, next_by, next_entry}}
-use Rattle.vb_ring.specs.Layout.{IsSize}
+use Rattle.vb_ring.{specs.declared.device.Taken.Taken, specs.Entries.{ahead, next_by, next_entry}}
+use Rattle.vb_ring.{specs.Layout.IsSize}
 use Rattle.vb_core.specs.Next.{NextBy, PopsCopies, is_read, length_of, next_denial, told}
 use Rattle.vb_core.specs.Next.{are_copies, buffer_of, answer_of, answer_to, after_fault}
-use Rattle.vb_core.specs.declared.{kinds.Kind.Kind, ring.Virtqueue.Virtqueue}
+use Rattle.vb_core.{specs.declared.kinds.Kind.Kind, specs.declared.ring.Virtqueue.Virtqueue}
 use Rattle.vb_core.specs.declared.kinds.Kind.TheVariants.{Inflate, Deflate, Statistics, Report}
 use Rattle.vb_core.specs.declared.next.{NextChain.NextChain, ChainPiece.ChainPiece}
 use Rattle.vb_core.specs.declared.device.{Denial.Denial, Device.Device, Denial.TheVariants.Broken}
 use Rattle.vb_core.specs.Devices.{ring_of, needing_reset, queue_denial, call_denial}
-use Rattle.vb_core.specs.{declared.settings.Settings.Settings, Copies.copied_layout}
-use Rattle.vb_core.{specs.Settings.{memory_pages, are_settings}, proofs.ChainAgreement.Agree}
-use Rattle.vb_core.proofs.{ChainAgreement.{same_chain, same_break}, CopyLaws.copies_count}
-use Rattle.vb_core.proofs.{DenialLemmas.open_call, RingLemmas.placed_size}
-use Rattle.vb_monitor.specs.declared.{regions.Region.Region, regions.Spot.Spot, outcome.Tally.Tally}
-use Rattle.vb_monitor.specs.declared.outcome.{Budget.Budget, Outcome.Outcome}
-use Rattle.vb_monitor.specs.{Regions.spot, Accesses.{Access, ReadWord, Acquire}, Ends.Whole}
-use Rattle.vb_monitor.specs.{Ends.EndsWhere, Chains.{descriptors, memory_end, Follows, CopiesBy}}
-use Rattle.vb_monitor.specs.{Chains.ServesPieces, Giving.Then, Notices.{entry_offset, stands}}
-use Rattle.vb_monitor.specs.Notices.{HeadBy, EntryAt, TakesChain, AfterIndex, IndexAt, LooksBy}
-use Rattle.vb_monitor.specs.Notices.{TakesUnlessSpent, TakesNext, with_chains, fresh, Serves}
+use Rattle.vb_core.{specs.declared.settings.Settings.Settings, specs.Copies.copied_layout}
+use Rattle.vb_core.specs.Settings.{memory_pages, are_settings}
+use Rattle.vb_core.proofs.{ChainAgreement.{Agree, same_chain, same_break}, CopyLaws.copies_count}
+use Rattle.vb_core.proofs.{DenialLemmas.{open_call}, RingLemmas.placed_size}
+use Rattle.vb_monitor.{specs.declared.regions.Region.Region, specs.declared.regions.Spot.Spot}
+use Rattle.vb_monitor.{specs.declared.outcome.Tally.Tally, specs.declared.outcome.Budget.Budget}
+use Rattle.vb_monitor.{specs.declared.outcome.Outcome.Outcome, specs.Regions.spot}
+use Rattle.vb_monitor.specs.Accesses.{Access, ReadWord, Acquire}
+use Rattle.vb_monitor.specs.Ends.{Whole, EndsWhere}
+use Rattle.vb_monitor.specs.Chains.{descriptors, memory_end, Follows, CopiesBy, ServesPieces}
+use Rattle.vb_monitor.specs.Giving.{Then}
+use Rattle.vb_monitor.specs.Notices.{entry_offset, stands, HeadBy, EntryAt, TakesChain, AfterIndex}
+use Rattle.vb_monitor.specs.Notices.{IndexAt, LooksBy, TakesUnlessSpent, TakesNext, with_chains}
+use Rattle.vb_monitor.specs.Notices.{fresh, Serves}
 use Rattle.vb_monitor.specs.{Machine.{whole, next_chain, serves}, Pieces.{piece_in, pieces_in}}
-use Rattle.vb_monitor.specs.Still.{Stays, IsMapped, avail_copy, table_copy, Behind, DoesAs}
-use Rattle.vb_monitor.proofs.{StillBytes.{shown, word_shown, descriptor_shown}, StillWalk.in_memory}
-use Rattle.vb_monitor.proofs.StillWalk.{Walk, walks}
+use Rattle.vb_monitor.specs.Still.{Stays, IsMapped, avail_copy, table_copy}
+use Rattle.vb_monitor.specs.Still.{Behind, DoesAs}
+use Rattle.vb_monitor.proofs.StillBytes.{shown, word_shown, descriptor_shown}
+use Rattle.vb_monitor.proofs.StillWalk.{in_memory, Walk, walks}
 
 -- ---- what a notice does by what is found
 
@@ -46,8 +52,9 @@ one_behind does x rest log e h = record {
   is = h.is;
 }
 
-abbrev ByFound : Result (Option Taken) ChainFault → Whole → Device → Tally → List Access → Type 0
-ByFound (Err f) w d t log = (w.outcome.why ≡ Some (Broken f)) × (w.device ≡ needing_reset d)
+abbrev pub ByFound : Result (Option Taken) ChainFault → Whole → Device → Tally → List Access → Type 0
+ByFound (Err f) w d t log =
+    (w.outcome.why ≡ Some (Broken f)) × (w.device ≡ needing_reset d)
 ByFound (Ok None) w d t log = (w.outcome.why ≡ None) × (w.device ≡ d)
 ByFound (Ok (Some taken)) w d t log = Behind (serves w t d taken.head taken.chain) log
 
@@ -60,7 +67,7 @@ one_more (Ok (Some taken)) w d t x rest log e h =
     one_behind (serves w t d taken.head taken.chain) x rest log e h
 
 -- nothing was given back before
-ends_so : (given : Bool) (w : Whole) (d : Device) (t : Tally) (why : Option Denial) (more : Bool)
+pub ends_so : (given : Bool) (w : Whole) (d : Device) (t : Tally) (why : Option Denial) (more : Bool)
     (log : List Access) → given ≡ false → EndsWhere given w d t why more log →
     (w.outcome.why ≡ why) × (w.device ≡ d)
 ends_so true w d t why more log e h = absurd cc
@@ -101,15 +108,15 @@ chain_found (Ok (Some taken)) h pieces x =
 -- ---- what is found in copies
 
 -- the queue is one, and its copies are those of memory
-record IsShown (byte : ℕ → ℕ) (w : Whole) (d : Device) (found : Result (Option Taken) ChainFault) :
+pub record IsShown (byte : ℕ → ℕ) (w : Whole) (d : Device) (found : Result (Option Taken) ChainFault) :
     Type 0 where
-  size : IsSize (ring_of w.kind d).size
-  two : 2 ≤ memory_pages d.settings
-  mapped : IsMapped w.regions (ring_of w.kind d)
-  pops : PopsCopies (memory_pages d.settings) (ring_of w.kind d)
+  pub size : IsSize (ring_of w.kind d).size
+  pub two : 2 ≤ memory_pages d.settings
+  pub mapped : IsMapped w.regions (ring_of w.kind d)
+  pub pops : PopsCopies (memory_pages d.settings) (ring_of w.kind d)
       (avail_copy byte (ring_of w.kind d)) (table_copy byte (ring_of w.kind d)) found
 
-abbrev memory : (ℕ → ℕ) → Whole → Device → Pages
+abbrev pub memory : (ℕ → ℕ) → Whole → Device → Pages
 memory byte w d = shown byte (ring_of w.kind d) (memory_pages d.settings)
 
 agree : (byte : ℕ → ℕ) (w : Whole) (d : Device) (found : Result (Option Taken) ChainFault) →
@@ -118,8 +125,9 @@ agree : (byte : ℕ → ℕ) (w : Whole) (d : Device) (found : Result (Option Ta
 agree byte w d found is i lt =
     sym (descriptor_shown byte (ring_of w.kind d) (memory_pages d.settings) i is.two is.size.most lt)
 
-same_end : (byte : ℕ → ℕ) (w : Whole) (d : Device) → memory_end d ≡ end_of (memory byte w d)
-same_end byte w d = ap (λ (n : ℕ). 4096 * n) (sym (copies_count (memory_pages d.settings)
+pub same_end : (byte : ℕ → ℕ) (w : Whole) (d : Device) → memory_end d ≡ end_of (memory byte w d)
+same_end byte w d =
+    ap (λ (n : ℕ). 4096 * n) (sym (copies_count (memory_pages d.settings)
     (avail_copy byte (ring_of w.kind d)) (table_copy byte (ring_of w.kind d))))
 
 size_so : (r : Virtqueue) → IsSize r.size → r.size ≡ descriptors r
@@ -251,7 +259,7 @@ by_index byte w d t0 t takes found (Ok true) log is none0 none into e stays h =
     by_entry byte w d t found (spot w.regions (r.avail + entry_offset r) 2) log is none
     (λ head same. e ∙ ap (λ (n : ℕ). Ok (Some n)) (sym same)) refl is.mapped.entry stays (into log h)
 
-by_place : (byte : ℕ → ℕ) (w : Whole) (d : Device) (t0 t : Tally)
+pub by_place : (byte : ℕ → ℕ) (w : Whole) (d : Device) (t0 t : Tally)
     (takes : List Access → Type 0) (found : Result (Option Taken) ChainFault) (o : Option Spot)
     (log : List Access) → IsShown byte w d found → t0.given ≡ false → t.given ≡ false →
     ((l : List Access) → takes l → TakesChain w (next_chain w t) d t l) →
@@ -341,10 +349,10 @@ as_answered w d d3 t found answer result buffers log read none e are is after h 
 
 -- ---- what is refused
 
-le_so : (a b : ℕ) → a ≤ b → nat_le a b ≡ true
+pub le_so : (a b : ℕ) → a ≤ b → nat_le a b ≡ true
 le_so a b h = grind (arith, nat_tests)
 
-copies_so : (size a t : ℕ) → a ≡ 4 + 2 * size → t ≡ 16 * size → are_copies size a t ≡ true
+pub copies_so : (size a t : ℕ) → a ≡ 4 + 2 * size → t ≡ 16 * size → are_copies size a t ≡ true
 copies_so size a t e f = grind (arith, nat_tests)
 
 refused_alike : (kind : Kind) (a t room : ℕ) (d : Device) → is_read kind ≡ true →
@@ -356,14 +364,14 @@ refused_alike kind a t room d read fits e f =
     ∙ (ap (λ (b : Bool). call_denial kind true b (are_copies size a t) d) (le_so size room fits)
     ∙ ap (λ (b : Bool). call_denial kind true true b d) (copies_so size a t e f))
 
-first_of : (a b : Bool) → (a && b) ≡ true → a ≡ true
+pub first_of : (a b : Bool) → (a && b) ≡ true → a ≡ true
 first_of true b e = refl
 first_of false b e = absurd cc
 
 le_true : (a b : ℕ) → nat_le a b ≡ true → a ≤ b
 le_true a b e = grind (arith, nat_tests)
 
-two_pages : (s : Settings) → are_settings s ≡ true → 2 ≤ memory_pages s
+pub two_pages : (s : Settings) → are_settings s ≡ true → 2 ≤ memory_pages s
 two_pages s e =
     let least : 8192 ≤ s.memory_end = le_true 8192 s.memory_end (grind (arith, first_of)) in
     omega (arith, least)
@@ -406,8 +414,9 @@ looks_as byte w d d3 t0 t room takes buffers result None log read mapped fits no
     (by_place byte w d t0 t takes reads.found (spot w.regions (r.avail + 2) 2) log shown_so none0
     none into refl mapped.index stays h)
 
-unspent : (w : Whole) (d : Device) (budget : Budget) (n : ℕ) (log : List Access) → budget.chains
-    ≡ suc n → (budget.pages == 0) ≡ false → TakesNext budget.chains w d (fresh budget) log →
+pub unspent : (w : Whole) (d : Device) (budget : Budget) (n : ℕ) (log : List Access) →
+    budget.chains ≡ suc n → (budget.pages == 0) ≡ false →
+    TakesNext budget.chains w d (fresh budget) log →
     TakesChain w (next_chain w (with_chains n (fresh budget))) d (with_chains n (fresh budget)) log
 unspent w d budget n log e f h = subst (λ (b : Bool). TakesUnlessSpent b w
     (next_chain w (with_chains n (fresh budget))) d (with_chains n (fresh budget)) log) f

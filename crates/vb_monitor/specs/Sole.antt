@@ -1,5 +1,8 @@
 -- Regions that have pages of which no other region has one.
-use Rattle.std.specs.Prelude.{◌≡◌, ℕ, ◌+◌, ◌-◌, ◌*◌, ◌/◌, ◌<◌, ◌≤◌, List, [], ◌∷◌, length, drop}
+use Rattle.std.specs.Prelude.{◌≡◌, ℕ, ◌+◌, ◌-◌, ◌*◌, ◌/◌, ◌<◌, ◌≤◌, Bool, ◌&&◌, not, nat_lt, min}
+use Rattle.std.specs.Prelude.{max, List, [], ◌∷◌, ◌++◌, length, take, drop, if◌then◌else◌, Option}
+use Rattle.std.specs.Prelude.{Some, None, option_and_then}
+use Rattle.std.specs.List.{list_any, slice_get}
 use Rattle.vb_model.specs.Limits.{page_size}
 use Rattle.vb_core.specs.declared.settings.TheConstants.{MEMORY_LIMIT}
 use Rattle.vb_core.specs.declared.runs.Run.{Run}
@@ -7,7 +10,7 @@ use Rattle.vb_monitor.specs.declared.regions.TheConstants.{FILE_LIMIT}
 use Rattle.vb_monitor.specs.declared.regions.Region.{Region}
 use Rattle.vb_monitor.specs.declared.cuts.Cut.{Cut}
 use Rattle.vb_monitor.specs.declared.sole.Sole.{Sole}
-use Rattle.vb_monitor.specs.Regions.{cuts_from}
+use Rattle.vb_monitor.specs.Regions.{is_region, cuts_from}
 
 -- A run has pages, all of which stand from one page on and before another.
 pub record LiesIn (first end : ℕ) (run : Run) : Type 0 where
@@ -15,11 +18,39 @@ pub record LiesIn (first end : ℕ) (run : Run) : Type 0 where
   pub from : first ≤ run.first
   pub to : run.first + run.count ≤ end
 
--- A run between two pages has no part in the regions from one number on and before another.
-abbrev pub PassesBy : List Region → ℕ → ℕ → ℕ → ℕ → Type 0
-PassesBy regions from to first end =
-    (run : Run) → LiesIn first end run →
-    cuts_from from (drop from regions) run ≡ cuts_from to (drop to regions) run
+-- A region has one of the pages from the first on that stand before the end.
+abbrev pub has_page : ℕ → ℕ → Region → Bool
+has_page first end r =
+    is_region r
+    && nat_lt (max (r.guest / page_size) first) (min ((r.guest + r.length) / page_size) end)
+
+-- All pages of a region, which has this number.
+abbrev pub pages_of : ℕ → Region → Sole
+pages_of number r = record {
+  region = number;
+  guest = r.guest;
+  in_file = r.in_file;
+  first = r.guest / page_size;
+  end = (r.guest + r.length) / page_size;
+}
+
+-- The regions but the one of this number.
+abbrev pub all_but : ℕ → List Region → List Region
+all_but number regions = take number regions ++ drop (number + 1) regions
+
+-- Another region has one of these pages.
+abbrev pub is_shared : Sole → List Region → Bool
+is_shared s regions = list_any (has_page s.first s.end) (all_but s.region regions)
+
+-- All pages of a region, if it is possible and no other has one of them.
+abbrev pub sole_if : ℕ → List Region → Region → Option Sole
+sole_if number regions r =
+    if is_region r && not (is_shared (pages_of number r) regions) then Some (pages_of number r)
+    else None
+
+-- The same of the region of this number, if there is one.
+abbrev pub sole_of : List Region → ℕ → Option Sole
+sole_of regions number = option_and_then (sole_if number regions) (slice_get regions number)
 
 -- All bytes of a run, in the region that has them.
 abbrev pub sole_cut : Sole → Run → Cut

@@ -7,6 +7,8 @@ use Rattle.vb_chain.specs.declared.pieces.Piece.{Piece}
 use Rattle.vb_core.specs.declared.ring.Virtqueue.{Virtqueue}
 use Rattle.vb_core.specs.declared.next.ChainPiece.{ChainPiece}
 use Rattle.vb_core.specs.declared.next.NextChain.{NextChain}
+use Rattle.vb_core.specs.declared.report.Reported.{Reported}
+use Rattle.vb_core.specs.declared.runs.Run.{Run}
 use Rattle.vb_core.specs.declared.device.Denial.{Denial}
 use Rattle.vb_core.specs.declared.device.Device.{Device}
 use Rattle.vb_monitor.specs.declared.regions.Region.{Region}
@@ -18,7 +20,8 @@ use Rattle.vb_monitor.specs.Regions.{spot}
 use Rattle.vb_monitor.specs.Ends.{Whole}
 use Rattle.vb_monitor.specs.Notices.{entry_offset}
 use Rattle.vb_monitor.specs.Pieces.{pieces_in}
-use Rattle.vb_monitor.specs.Machine.{serves}
+use Rattle.vb_monitor.specs.Machine.{next_chain, serves}
+use Rattle.vb_monitor.specs.Giving.{TellsThen, spent}
 
 -- So many bytes of memory from an address on.
 abbrev pub bytes_from : (ℕ → ℕ) → ℕ → ℕ → List ℕ
@@ -74,6 +77,17 @@ DoesAs (Err why) buffers w tally d log = (w.outcome.why ≡ Some why) × (w.devi
 DoesAs (Ok None) buffers w tally d log = (w.outcome.why ≡ None) × (w.device ≡ d)
 DoesAs (Ok (Some chain)) buffers w tally d log =
     Behind (serves w tally d chain.head (pieces_in (take chain.pieces buffers))) log
+
+-- A notice of reports does what is answered: it ends as above; or the pages of the report that is
+-- answered are told, as the runs at the front of these, and then discarded, if they may be.
+abbrev pub ReportsAs : Result (Option Reported) Denial → List Run → Whole → Tally → Device →
+    List Access → Type 0
+ReportsAs (Err why) runs w tally d log = (w.outcome.why ≡ Some why) × (w.device ≡ d)
+ReportsAs (Ok None) runs w tally d log = (w.outcome.why ≡ None) × (w.device ≡ d)
+ReportsAs (Ok (Some found)) runs w tally d log =
+    Behind (TellsThen w (next_chain w tally) d (spent found.pages tally) found.head
+    (take found.runs runs)
+    (record { runs = found.runs; pages = found.pages; skipped = 0 })) log
 
 -- ---- the bytes of its pieces
 

@@ -3,6 +3,10 @@
 ghost use Rattle.std.specs.Prelude.{◌≡◌, ℕ, suc, ◌+◌, ◌*◌, ◌==◌, ◌≤◌, ◌||◌, true, false, List, []};
 ghost use Rattle.std.specs.Prelude.{None, length, Option, Result, Ok};
 ghost use Rattle.vb_core.specs.declared.kinds.Kind.{Kind};
+ghost use Rattle.vb_core.specs.declared.kinds.Kind.TheVariants.{Report};
+ghost use Rattle.vb_core.specs.declared.report.Reported.{Reported};
+ghost use Rattle.vb_core.specs.Report.{ReportsBy};
+ghost use Rattle.vb_model.specs.declared.limits.TheConstants.{MAX_REPORT_PIECES};
 ghost use Rattle.vb_core.specs.declared.device.Device.{Device};
 ghost use Rattle.vb_monitor.specs.declared.regions.Region.{Region};
 ghost use Rattle.vb_monitor.specs.declared.outcome.Budget.{Budget};
@@ -36,7 +40,7 @@ ghost use Rattle.vb_monitor.specs.Pieces.{all_parts};
 ghost use Rattle.vb_monitor.specs.Notices.{fresh, with_chains};
 ghost use Rattle.vb_monitor.specs.Machine.{whole, serves, served};
 ghost use Rattle.vb_monitor.specs.Still.{Stays, IsMapped, avail_copy, table_copy, DoesAs};
-ghost use Rattle.vb_monitor.specs.Still.{Behind, bytes_of, ArePartsMapped};
+ghost use Rattle.vb_monitor.specs.Still.{Behind, ReportsAs, bytes_of, ArePartsMapped};
 
 /// A notice touches no byte outside its regions: each word and each copy that it reads, each number
 /// that it writes, and all that it discards lies within one of them.
@@ -163,6 +167,22 @@ pub fn a_notice_does_what_is_answered_to_copies()
         NextBy kind (avail_copy byte (ring_of kind d1)) (table_copy byte (ring_of kind d1)) room
         buffers d1 d3 answer → Serves regions kind budget d1 d2 outcome log →
         DoesAs answer buffers (whole regions kind d2 outcome) (with_chains n (fresh budget)) d3
+        log }
+{}
+
+/// Where memory stays as it is, a notice of reports does what `vb_core`'s `report` answers to
+/// private copies of its queue: it refuses what that refuses, ends where nothing stands there, and
+/// breaks the rule that the copies break, so that the device needs a reset; or it tells just those
+/// pages, as those runs, with the same device.
+pub fn a_notice_reports_what_is_answered_to_copies()
+    ensures { (byte : ℕ → ℕ) (regions : List Region) (budget : Budget) (n room : ℕ)
+        (d1 d2 d3 : Device) (outcome : Outcome) (log : List Access) (runs : List Run)
+        (answer : Result (Option Reported) Denial) → budget.chains ≡ suc n →
+        (budget.pages == 0) ≡ false → IsMapped regions (ring_of Report d1) →
+        MAX_REPORT_PIECES ≤ room → Stays byte regions log →
+        ReportsBy (avail_copy byte (ring_of Report d1)) (table_copy byte (ring_of Report d1)) room
+        runs d1 d3 answer → Serves regions Report budget d1 d2 outcome log →
+        ReportsAs answer runs (whole regions Report d2 outcome) (with_chains n (fresh budget)) d3
         log }
 {}
 

@@ -1,20 +1,21 @@
 //! Requests of one piece, as drivers mostly send them: where the next bytes are, which is all that
 //! is new.
 
-ghost use Rattle.std.specs.Prelude.{◌≡◌, ◌+◌, ◌-◌, true, List, None, IfSome, take};
+ghost use Rattle.std.specs.Prelude.{◌≡◌, ◌+◌, ◌-◌, List, None, IfSome, take};
 ghost use Rattle.vb_chain.specs.declared.descriptor.TheConstants.{DESCRIPTOR_SIZE};
 ghost use Rattle.vb_core.specs.declared.device.Device.{Device};
 ghost use Rattle.vb_core.specs.declared.runs.Run.{Run};
 ghost use Rattle.vb_core.specs.declared.statistics.Statistic.{Statistic};
-ghost use Rattle.vb_core.specs.Devices.{ring_of};
+ghost use Rattle.vb_core.specs.Devices.{queue_denial, ring_of};
 ghost use Rattle.vb_monitor.specs.declared.outcome.Tally.{Tally};
 ghost use Rattle.vb_monitor.specs.declared.outcome.Outcome.{Outcome};
 ghost use Rattle.vb_monitor.specs.declared.step.Phase.TheVariants.{AwaitsIndex, AwaitsPart};
 ghost use Rattle.vb_monitor.specs.Accesses.{Access};
-ghost use Rattle.vb_monitor.specs.Chains.{AfterDescriptor, Follows, descriptors};
+ghost use Rattle.vb_monitor.specs.Chains.{AfterDescriptor, Follows, descriptors, descriptor_of};
+ghost use Rattle.vb_monitor.specs.Chains.{memory_end};
 ghost use Rattle.vb_monitor.specs.Notices.{Looks};
 ghost use Rattle.vb_monitor.specs.Pieces.{pieces_in};
-ghost use Rattle.vb_monitor.specs.Single.{IsSingle};
+ghost use Rattle.vb_monitor.specs.Single.{index_place, is_single, single_place, single_of};
 ghost use Rattle.vb_monitor.specs.Machine.{Room, Fits, AheadAt, whole, room_of, serves};
 
 use crate::copying::first_bytes;
@@ -31,7 +32,9 @@ use vb_request::is_request_length;
 /// Where the index is read when a queue is looked at: the queue is served, and its index is guest
 /// memory.
 pub fn index_to_look(device: &Device, regions: &[Region], kind: Kind) -> Option<Spot>
-    ensures { IfSome result (λ at. (tally : Tally) (after : Device) (outcome : Outcome)
+    ensures place { result ≡ index_place regions.now (queue_denial kind device.now)
+        (ring_of kind device.now) }
+    ensures goes { IfSome result (λ at. (tally : Tally) (after : Device) (outcome : Outcome)
         (room : Room) (log : List Access) →
         AheadAt (AwaitsIndex at) (whole regions.now kind after outcome) tally device.now room log →
         Looks tally.chains (whole regions.now kind after outcome) device.now tally log) }
@@ -44,7 +47,7 @@ pub fn index_to_look(device: &Device, regions: &[Region], kind: Kind) -> Option<
 
 /// Whether a descriptor is a whole request by itself.
 fn is_single(kind: Kind, descriptor: &Descriptor) -> bool
-    ensures { result ≡ true → IsSingle kind descriptor.now }
+    ensures { result ≡ is_single kind descriptor.now }
 {
     kind.is_request()
         && !descriptor.has_next()
@@ -70,6 +73,9 @@ pub fn first_of_single(
     pieces: &mut [ChainPiece; MAX_PIECES],
     bytes: &[u8; MAX_BYTES],
 ) -> Option<FirstPart>
+    ensures place { result ≡ single_of walk (descriptor_of (take DESCRIPTOR_SIZE bytes.now))
+        (single_place regions.now kind walk (descriptor_of (take DESCRIPTOR_SIZE bytes.now))
+        (memory_end device.now) (ring_of kind device.now)) }
     ensures goes { IfSome result (λ x. (tally : Tally) (after : Device) (outcome : Outcome)
         (runs : List Run) (figures : List Statistic) (log : List Access) →
         AheadAt (AwaitsPart x.at x.place) (whole regions.now kind after outcome) tally

@@ -1,9 +1,10 @@
 //! Pages that lie in one region alone: a run of them has one part, which is told by a sum.
 
-ghost use Rattle.std.specs.Prelude.{◌≡◌, ◌≤◌, true, false, length, IfSome};
-ghost use Rattle.vb_core.specs.declared.runs.Run.{Run};
-ghost use Rattle.vb_monitor.specs.Regions.{meets};
-ghost use Rattle.vb_monitor.specs.Sole.{LiesIn, PassesBy, sole_cut, HasPages, IsSole};
+ghost use Rattle.std.specs.Prelude.{◌≡◌, ◌<◌, true, length, IfSome};
+ghost use Rattle.std.specs.List.{list_any};
+ghost use Rattle.vb_monitor.specs.Regions.{is_region};
+ghost use Rattle.vb_monitor.specs.Sole.{LiesIn, has_page, pages_of, is_shared, sole_of, sole_cut};
+ghost use Rattle.vb_monitor.specs.Sole.{HasPages, IsSole};
 
 use crate::regions::PAGE_BYTES;
 use crate::{Cut, Region};
@@ -26,31 +27,50 @@ pub(crate) struct Sole {
 
 /// Whether a region has one of the pages from the first on that stand before the end.
 fn has_page(region: &Region, first: u64, end: u64) -> bool
-    ensures { result ≡ false → (run : Run) → LiesIn first end run → meets region.now run ≡ false }
+    ensures { result ≡ has_page first end region.now }
 {
     region.is_possible()
-        && region.guest / PAGE_BYTES < end
-        && first < (region.guest + region.length) / PAGE_BYTES
+        && (region.guest / PAGE_BYTES).max(first)
+            < ((region.guest + region.length) / PAGE_BYTES).min(end)
 }
 
-/// Whether no region from one number on, and before another, has one of these pages.
-#[tactic(auto, using(crate::proofs::SoleLemmas::passed_steps))]
-fn none_has(regions: &[Region], from: usize, to: usize, first: u64, end: u64) -> bool
-    requires { to ≤ length regions.now }
-    ensures { result ≡ true → from ≤ to → PassesBy regions.now from to first end }
+/// Whether one of these regions has one of them.
+fn any_has(regions: &[Region], first: u64, end: u64) -> bool
+    ensures { result ≡ list_any (has_page first end) regions.now }
 {
-    for number in from..to {
-        if has_page(&regions[number], first, end) {
-            return false;
-        }
+    regions.iter().any(|region| has_page(region, first, end))
+}
+
+/// All pages of a region, which has this number.
+fn pages_of(number: usize, region: &Region) -> Sole
+    requires { is_region region.now ≡ true }
+    ensures { result ≡ pages_of number region.now }
+{
+    Sole {
+        region: number,
+        guest: region.guest,
+        in_file: region.in_file,
+        first: region.guest / PAGE_BYTES,
+        end: (region.guest + region.length) / PAGE_BYTES,
     }
-    true
+}
+
+/// Whether another region has one of the pages of one.
+fn is_shared(regions: &[Region], sole: &Sole) -> bool
+    requires { sole.now.region < length regions.now }
+    ensures { result ≡ is_shared sole.now regions.now }
+{
+    if any_has(&regions[..sole.region], sole.first, sole.end) {
+        return true;
+    }
+    any_has(&regions[sole.region + 1..], sole.first, sole.end)
 }
 
 /// The pages of the region of this number, if there is one, and no other has one of them.
 #[inline(never)]
 pub(crate) fn sole_of(regions: &[Region], number: usize) -> Option<Sole>
-    ensures { IfSome result (λ sole. (sole.region ≡ number) × IsSole sole regions.now) }
+    ensures alone { result ≡ sole_of regions.now number }
+    ensures parts { IfSome result (λ sole. (sole.region ≡ number) × IsSole sole regions.now) }
 {
     if number >= regions.len() {
         return None;
@@ -59,17 +79,8 @@ pub(crate) fn sole_of(regions: &[Region], number: usize) -> Option<Sole>
     if !region.is_possible() {
         return None;
     }
-    let sole = Sole {
-        region: number,
-        guest: region.guest,
-        in_file: region.in_file,
-        first: region.guest / PAGE_BYTES,
-        end: (region.guest + region.length) / PAGE_BYTES,
-    };
-    if !none_has(regions, 0, number, sole.first, sole.end) {
-        return None;
-    }
-    if !none_has(regions, number + 1, regions.len(), sole.first, sole.end) {
+    let sole = pages_of(number, region);
+    if is_shared(regions, &sole) {
         return None;
     }
     Some(sole)

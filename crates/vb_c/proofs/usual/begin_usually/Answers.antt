@@ -17,4 +17,4 @@ returns-in-Some-clause-began c e =
     ∙ (ap (λ (k : ℕ). kind_of_code k) t.kind ∙ c.requires)) (ap (λ (x : VbNotice). phase_of x) is)
     (ap (λ (x : VbNotice). tally_of x) is ∙ t.tally) tt (ap (λ (x : VbNotice). x.what) is)
     (ap (λ (x : VbNotice). x.orders.cuts) is ∙ ap (λ (o : Orders). o.cuts) t.orders) refl tt refl
-    (c.in-Some.ensures _)
+    (c.in-Some.ensures.goes _)

@@ -2,9 +2,15 @@ use Rattle.std.proofs.Common.{rules, ◌≡◌, ◌+◌, ◌∙◌, sym, ap, ari
 use Rattle.vb_chain.{specs.declared.descriptor.TheConstants.DESCRIPTOR_SIZE, specs.Rules.piece_of}
 use Rattle.vb_chain.specs.declared.pieces.Piece.{Piece}
 use Rattle.vb_core.{specs.declared.next.ChainPiece.ChainPiece}
-use Rattle.vb_monitor.specs.{Pieces.{pieces_in, first_part}, Regions.spot, Machine.whole}
-use Rattle.vb_monitor.{specs.Chains.descriptor_of, proofs.BufferLemmas.{none_in, length_in}}
-use Rattle.vb_monitor.proofs.SingleLemmas.{single_goes}
+use Rattle.vb_monitor.specs.Pieces.{pieces_in, first_part}
+use Rattle.vb_monitor.{specs.Regions.spot, specs.Machine.whole}
+use Rattle.vb_monitor.specs.Chains.{descriptor_of}
+use Rattle.vb_monitor.proofs.{BufferLemmas.{none_in, length_in}, SingleLemmas.single_goes}
+use Rattle.std.proofs.Common.{refl, length, false, Option, None}
+use Rattle.vb_core.specs.Devices.{ring_of}
+use Rattle.vb_monitor.specs.Chains.{descriptors, memory_end, table_fault}
+use Rattle.vb_monitor.{specs.declared.single.FirstPart.FirstPart, specs.declared.parts.Part.Part}
+use Rattle.vb_monitor.proofs.SingleLemmas.{single_by}
 use Rattle.vb_monitor.proofs.single.first_of_single.Goals as goal
 
 none_taken : (bs : List ChainPiece) (n : ℕ) → n ≡ 0 → pieces_in (take n bs) ≡ []
@@ -29,4 +35,88 @@ returns-in-Some-find_from-clause-goes c tally after outcome runs figures log h =
     (sym (c.descriptor_of-descriptor.ensures
     ∙ ap (λ (bs : List ℕ). descriptor_of bs) c.first_bytes.ensures))
     (grind (arith, length_in, c.table_fault.ensures.fault, c.in_default.not-Some))
-    (c.is_single.ensures (search rules)) place h
+    (sym c.is_single.ensures ∙ search rules) place h
+
+pub returns-in-Some-clause-place : goal.returns-in-Some-clause-place
+returns-in-Some-clause-place c =
+    let count = c.args.walk.count in
+    let zero : count ≡ 0 = search rules in
+    let x = c.descriptor_of-descriptor.result in
+    let r = ring_of c.args.kind c.args.device.now in
+    let end = memory_end c.args.device.now in
+    let none : length (take count c.args.pieces.now) ≡ 0 =
+    ap (λ (k : ℕ). length (take k c.args.pieces.now)) zero in
+    let seen : table_fault (descriptors r) end c.args.walk.writing 0 x ≡ c.table_fault.result =
+    grind (arith, none, c.first_pieces.ensures, c.table_fault.ensures.fault) in
+    let says : descriptor_of (take DESCRIPTOR_SIZE c.args.bytes.now) ≡ x =
+    sym (c.descriptor_of-descriptor.ensures
+    ∙ ap (λ (bs : List ℕ). descriptor_of bs) c.first_bytes.ensures) in
+    sym (single_by c.args.regions.now c.args.kind c.args.walk
+    (take DESCRIPTOR_SIZE c.args.bytes.now) x end r (Some c.in-Some.field-0) _ zero
+    (sym c.is_single.ensures ∙ search rules) says (seen ∙ c.in-Some.is) refl)
+
+pub returns-in-None-clause-place : goal.returns-in-None-clause-place
+returns-in-None-clause-place c =
+    let count = c.args.walk.count in
+    let zero : count ≡ 0 = search rules in
+    let x = c.descriptor_of-descriptor.result in
+    let r = ring_of c.args.kind c.args.device.now in
+    let end = memory_end c.args.device.now in
+    let none : length (take count c.args.pieces.now) ≡ 0 =
+    ap (λ (k : ℕ). length (take k c.args.pieces.now)) zero in
+    let seen : table_fault (descriptors r) end c.args.walk.writing 0 x ≡ c.table_fault.result =
+    grind (arith, none, c.first_pieces.ensures, c.table_fault.ensures.fault) in
+    let says : descriptor_of (take DESCRIPTOR_SIZE c.args.bytes.now) ≡ x =
+    sym (c.descriptor_of-descriptor.ensures
+    ∙ ap (λ (bs : List ℕ). descriptor_of bs) c.first_bytes.ensures) in
+    let part_is : c.first_part-part.result ≡ first_part (piece_of x) =
+    c.first_part-part.ensures ∙ ap (λ (p : Piece). first_part p) c.buffer_of.ensures in
+    let place : spot c.args.regions.now x.addr (first_part (piece_of x)).length ≡ None =
+    grind (arith, part_is, c.from-plus.ensures, c.from.ensures, c.find_from.ensures, c.in-None.is) in
+    sym (single_by c.args.regions.now c.args.kind c.args.walk
+    (take DESCRIPTOR_SIZE c.args.bytes.now) x end r None None zero
+    (sym c.is_single.ensures ∙ search rules) says (seen ∙ search rules) place)
+
+pub returns-in-Some-find_from-clause-place : goal.returns-in-Some-find_from-clause-place
+returns-in-Some-find_from-clause-place c =
+    let count = c.args.walk.count in
+    let zero : count ≡ 0 = search rules in
+    let x = c.descriptor_of-descriptor.result in
+    let r = ring_of c.args.kind c.args.device.now in
+    let end = memory_end c.args.device.now in
+    let none : length (take count c.args.pieces.now) ≡ 0 =
+    ap (λ (k : ℕ). length (take k c.args.pieces.now)) zero in
+    let seen : table_fault (descriptors r) end c.args.walk.writing 0 x ≡ c.table_fault.result =
+    grind (arith, none, c.first_pieces.ensures, c.table_fault.ensures.fault) in
+    let says : descriptor_of (take DESCRIPTOR_SIZE c.args.bytes.now) ≡ x =
+    sym (c.descriptor_of-descriptor.ensures
+    ∙ ap (λ (bs : List ℕ). descriptor_of bs) c.first_bytes.ensures) in
+    let at = c.in-Some-find_from.at in
+    let part_is : c.first_part-part.result ≡ first_part (piece_of x) =
+    c.first_part-part.ensures ∙ ap (λ (p : Piece). first_part p) c.buffer_of.ensures in
+    let place : spot c.args.regions.now x.addr (first_part (piece_of x)).length ≡ Some at =
+    grind (
+      arith,
+      part_is,
+      c.from-plus.ensures,
+      c.from.ensures,
+      c.find_from.ensures,
+      c.in-Some-find_from.is,
+    ) in
+    let here : ℕ → ℕ → Option FirstPart = λ n len. Some (record {
+      at = at;
+      place = record {
+        head = c.args.walk.head;
+        count = n;
+        piece = 0;
+        is_second = false;
+        into = 0;
+        length = len;
+      };
+    }) in
+    let one : count + 1 ≡ 1 = omega (arith, zero) in
+    ap (λ (n : ℕ). here n c.first_part-part.result.length) one
+    ∙ (ap (λ (p : Part). here 1 p.length) part_is
+    ∙ sym (single_by c.args.regions.now c.args.kind c.args.walk
+    (take DESCRIPTOR_SIZE c.args.bytes.now) x end r None (Some at) zero
+    (sym c.is_single.ensures ∙ search rules) says (seen ∙ search rules) place))

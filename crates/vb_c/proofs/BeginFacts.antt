@@ -1,0 +1,180 @@
+-- Which notices begin, which go on, and which don't, worked out.
+use Rattle.std.proofs.Common.{◌≡◌, ◌∙◌, refl, ap, subst, sym, arith, ℕ, ◌++◌, true, false, List}
+use Rattle.std.proofs.Common.{[], ◌∷◌, length, Option, Some, None}
+use Rattle.std.specs.Option.{unwrap_or}
+use Rattle.vb_core.{specs.declared.kinds.Kind.Kind, specs.declared.device.Device.Device}
+use Rattle.vb_core.specs.declared.kinds.Kind.TheVariants.{Inflate, Deflate}
+use Rattle.vb_monitor.{specs.declared.outcome.Outcome.Outcome, specs.declared.notice.Notice.Notice}
+use Rattle.vb_monitor.specs.declared.step.Phase.TheVariants.{AwaitsFlags, Ended}
+use Rattle.vb_monitor.{specs.Accesses.{Access, ReadWord, Full}, specs.Ends.wants_interrupt}
+use Rattle.vb_monitor.specs.Machine.{Room, Ahead, whole}
+use Rattle.vb_monitor.specs.Orders.{at_once}
+use Rattle.vb_c.specs.declared.notice.{VbNotice.VbNotice, VbRoom.VbRoom}
+use Rattle.vb_c.{specs.Codes.code_of_kind, specs.Notices.{tally_of, notice_of}}
+use Rattle.vb_c.specs.Serving.{room_in, HandsOver, with_device, Begins, GoesOn, held_then}
+use Rattle.vb_c.proofs.HandingFacts.{spot, shown, nothing, at_index, handed}
+use Rattle.vb_c.proofs.Samples.{Same, two, begun, balloon}
+use Rattle.vb_monitor.specs.declared.balloon.Balloon.{Balloon}
+
+abbrev room : VbRoom
+room = record { pieces = []; bytes = []; runs = []; figures = []; cuts = [] }
+
+abbrev kind_code : Notice → ℕ
+kind_code n = code_of_kind (Some (n.kind))
+
+-- which notice was handed over
+handed_is : (m n : Notice) (b1 b2 : Balloon) (c : VbNotice) → notice_of c ≡ Some m →
+    (h : HandsOver n two [] b1 b2 [] c) → m ≡ h.notice
+handed_is m n b1 b2 c e h = ap (λ (o : Option Notice). unwrap_or o m) (sym e ∙ h.is.read)
+
+-- ---- a notice that begins: what may come where the index is read may come
+
+abbrev Reads : Device → Outcome → List Access → Type 0
+Reads after outcome log =
+    Ahead (whole two Inflate after outcome) at_index.step begun (room_in room) log
+
+begins : Begins Reads two Inflate balloon balloon room room shown
+begins = record {
+  first = at_index;
+  device = begun;
+  kind_is = refl;
+  step = λ after outcome room log h. h;
+  hands = handed;
+  room = refl;
+}
+
+of_another_kind : Begins Reads two Deflate balloon balloon room room shown → ⊥
+of_another_kind h =
+    let read : Same 0 (kind_code h.hands.notice) =
+    ap kind_code (handed_is at_index h.first (with_device h.device balloon) balloon shown refl h.hands) in
+    let first : Same (kind_code h.hands.notice) (kind_code h.first) =
+    ap (λ (k : Kind). code_of_kind (Some k)) h.hands.kind_is in
+    let e : Same (kind_code h.first) 1 = ap (λ (k : Kind). code_of_kind (Some k)) h.kind_is in
+    omega (arith, read, first, e)
+
+bytes_changed : Begins Reads two Inflate balloon balloon room (record room { bytes = 1 ∷ [] }) shown → ⊥
+bytes_changed h = let e : Same 1 0 = ap (λ (r : Room). length r.bytes) h.room in omega arith
+
+buffer_lost : Begins Reads two Inflate balloon (record balloon { held = 0 }) room room shown → ⊥
+buffer_lost h =
+    let noted : Same 4 (held_then h.hands.notice (with_device h.device balloon)) =
+    ap (λ (n : Notice). held_then n (with_device h.device balloon)) (handed_is at_index h.first (with_device h.device balloon)
+    (record balloon { held = 0 }) shown refl h.hands) in
+    let e : Same 0 (held_then h.hands.notice (with_device h.device balloon)) = h.hands.held in
+    omega (arith, noted, e)
+
+-- no chain stands there, and the notice ends
+abbrev nothing_came : Outcome
+nothing_came = record { tally = tally_of shown; why = None; interrupt = false; more = false }
+
+abbrev read_index : List Access
+read_index = ReadWord spot 0 ∷ []
+
+reads_it : Ahead (whole two Inflate begun nothing_came) at_index.step begun (room_in room) read_index
+reads_it = record {
+  index = 0;
+  rest = [];
+  asks = refl;
+  goes_on = record { nothing = refl; device = refl; outcome = refl };
+}
+
+-- a notice that may read the index isn't one of which nothing may come
+of_nothing : Begins (λ after outcome log. ⊥) two Inflate balloon balloon room room shown → ⊥
+of_nothing h =
+    let first = h.first in
+    let is : at_index ≡ h.hands.notice =
+    handed_is at_index first (with_device h.device balloon) balloon shown refl h.hands in
+    let read : Ahead (whole two first.kind begun nothing_came) h.hands.notice.step begun (room_in room) read_index =
+    subst (λ (n : Notice). Ahead (whole two first.kind begun nothing_came) n.step begun (room_in room) read_index) is
+    (subst (λ (k : Kind). Ahead (whole two k begun nothing_came) at_index.step begun (room_in room) read_index)
+    (sym h.kind_is) reads_it) in
+    h.step begun nothing_came (room_in room) _
+    (subst (λ (k : Kind). Ahead (whole two k begun nothing_came) first.step h.device (room_in room)
+    (at_once h.hands.asked k shown.orders [] [] [] read_index)) h.kind_is
+    (h.hands.step begun nothing_came [] [] [] read_index read))
+
+-- ---- a notice that goes on: the flags were read, and it ends
+
+abbrev at_flags : Notice
+at_flags = record at_index { step = record { tally = tally_of shown; phase = AwaitsFlags spot None false } }
+
+abbrev ended : VbNotice
+ended = record shown { what = 0; phase = 0; code = 1; interrupt = 1 }
+
+abbrev at_end : Notice
+at_end = record at_index { step = record { tally = tally_of shown; phase = Ended None true false } }
+
+handed_over : HandsOver at_end two [] balloon balloon [] ended
+handed_over = record {
+  asked = nothing;
+  notice = at_end;
+  is = record {
+    read = refl;
+    says = record { code = refl; rule = refl; interrupt_is = refl; configuration = refl; more_is = refl };
+    what = refl;
+  };
+  kind_is = refl;
+  step = λ after outcome pieces bytes figures rest h. h;
+  room = record { runs = λ e. cc; figures = λ e. cc; cuts = omega arith };
+  waits_now = refl;
+  fills = record { full = λ e. absurd (grind arith) };
+  fits = tt;
+  held = refl;
+}
+
+goes_on : GoesOn at_flags two 0 balloon balloon room room ended
+goes_on = record {
+  next = at_end;
+  device = begun;
+  kind_is = refl;
+  step = λ after outcome before done rest does h. record {
+    flags = 0;
+    rest = rest;
+    asks = ap (λ (l : List Access). l ++ rest) does;
+    then_stops = h;
+  };
+  hands = handed_over;
+}
+
+goes_on_as_another_kind : GoesOn (record at_flags { kind = Deflate }) two 0 balloon balloon room room ended → ⊥
+goes_on_as_another_kind h =
+    let read : Same 0 (kind_code h.hands.notice) =
+    ap kind_code (handed_is at_end h.next (with_device h.device balloon) balloon ended refl h.hands) in
+    let next : Same (kind_code h.hands.notice) (kind_code h.next) =
+    ap (λ (k : Kind). code_of_kind (Some k)) h.hands.kind_is in
+    let e : Same (kind_code h.next) 1 = ap (λ (k : Kind). code_of_kind (Some k)) h.kind_is in
+    omega (arith, read, next, e)
+
+lost_meanwhile : GoesOn at_flags two 0 balloon (record balloon { held = 0 }) room room ended → ⊥
+lost_meanwhile h =
+    let noted : Same 4 (held_then h.hands.notice (with_device h.device balloon)) =
+    ap (λ (n : Notice). held_then n (with_device h.device balloon)) (handed_is at_end h.next (with_device h.device balloon)
+    (record balloon { held = 0 }) ended refl h.hands) in
+    let e : Same 0 (held_then h.hands.notice (with_device h.device balloon)) = h.hands.held in
+    omega (arith, noted, e)
+
+-- by flags that want no interrupt it doesn't end with one
+abbrev interrupts : Outcome
+interrupts = record { tally = tally_of shown; why = None; interrupt = true; more = false }
+
+abbrev flags_in : List Access → ℕ
+flags_in (Full ∷ ReadWord at answer ∷ xs) = answer
+flags_in xs = 0
+
+unwanted : GoesOn at_flags two 1 balloon balloon room room ended → ⊥
+unwanted h =
+    let next = h.next in
+    let is : at_end ≡ h.hands.notice =
+    handed_is at_end next (with_device h.device balloon) balloon ended refl h.hands in
+    let stops : Ahead (whole two next.kind begun interrupts) h.hands.notice.step begun (room_in room) [] =
+    subst (λ (n : Notice). Ahead (whole two next.kind begun interrupts) n.step begun (room_in room) []) is
+    (record { nothing = refl; device = refl; outcome = refl }) in
+    let handed : Ahead (whole two Inflate begun interrupts) next.step h.device (room_in room)
+    (at_once h.hands.asked Inflate ended.orders [] [] [] []) =
+    subst (λ (k : Kind). Ahead (whole two k begun interrupts) next.step h.device (room_in room)
+    (at_once h.hands.asked k ended.orders [] [] [] [])) h.kind_is (h.hands.step begun interrupts [] [] [] [] stops) in
+    let came = h.step begun interrupts [] (Full ∷ ReadWord spot 1 ∷ []) _ refl handed in
+    let read : Same 1 came.flags = ap flags_in came.asks in
+    let says : true ≡ wants_interrupt came.flags = ap (λ (o : Outcome). o.interrupt) came.then_stops.outcome in
+    let no : wants_interrupt came.flags ≡ false = ap wants_interrupt (sym read) in
+    absurd cc

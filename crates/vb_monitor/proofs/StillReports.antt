@@ -1,0 +1,231 @@
+-- A notice of reports over memory that stays does what the device answers to copies of it.
+use Rattle.std.proofs.Common.{◌≡◌, ◌∙◌, ap, sym, subst, refl, ℕ, suc, ◌<◌, ◌≤◌, Bool, true, false, List}
+use Rattle.std.proofs.Common.{length, map, take, Option, Some, None, Result, Ok, Err}
+use Rattle.std.proofs.Common.{arith, not, [], ◌++◌, ◌*◌, ◌+◌}
+use Rattle.std.specs.Prelude.{◌&&◌, ◌==◌, nat_le, nat_lt, if◌then◌else◌, slice_index, IsOk}
+use Rattle.std.{specs.List.list_any, proofs.lemmas.Bool.Decides.nat_tests}
+use Rattle.std.proofs.lemmas.List.{get_or-map, Folds.list_any_none}
+use Rattle.vb_model.specs.declared.limits.TheConstants.{MAX_REPORT_PIECES}
+use Rattle.vb_chain.{specs.declared.pieces.Piece.Piece, specs.declared.fault.ChainFault.ChainFault}
+use Rattle.vb_chain.{specs.declared.descriptor.Descriptor.Descriptor, specs.Chain.ChainGives}
+use Rattle.vb_chain.specs.Rules.{piece_of, first_fault}
+use Rattle.vb_ring.specs.declared.device.Taken.{Taken}
+use Rattle.vb_request.specs.Report.{report_request}
+use Rattle.vb_core.{specs.declared.kinds.Kind.TheVariants.Report, specs.declared.runs.Run.Run}
+use Rattle.vb_core.{specs.declared.name.Named.Named, specs.declared.report.Reported.Reported}
+use Rattle.vb_core.{specs.declared.device.Denial.Denial, specs.declared.device.Device.Device}
+use Rattle.vb_core.{specs.declared.device.Denial.TheVariants.Broken, specs.Next.told}
+use Rattle.vb_core.specs.Report.{run_of, answer_with, report_of, report_denial, after_report}
+use Rattle.vb_core.specs.Report.{ReportsBy, is_beyond, pieces_denial, named_by}
+use Rattle.vb_core.specs.Devices.{ring_of, needing_reset, with_one_taken, queue_denial, call_denial}
+use Rattle.vb_core.specs.{Name.after_request, Next.are_copies}
+use Rattle.vb_core.specs.declared.settings.{TheConstants.MEMORY_LIMIT, Settings.Settings}
+use Rattle.vb_core.specs.Settings.{memory_pages, are_settings}
+use Rattle.vb_core.proofs.{DenialLemmas.open_call, RingLemmas.placed_size}
+use Rattle.vb_monitor.{specs.declared.regions.Region.Region, specs.declared.outcome.Tally.Tally}
+use Rattle.vb_monitor.{specs.declared.outcome.Budget.Budget, specs.declared.outcome.Outcome.Outcome}
+use Rattle.vb_monitor.{specs.Accesses.Access, specs.Ends.Whole, specs.Regions.spot}
+use Rattle.vb_monitor.specs.{Chains.NamesReport, Giving.{Then, AfterName, TellsThen, spent}}
+use Rattle.vb_monitor.specs.Notices.{LooksBy, TakesNext, TakesChain, with_chains, fresh, Serves}
+use Rattle.vb_monitor.specs.Machine.{whole, next_chain}
+use Rattle.vb_monitor.specs.Still.{Stays, IsMapped, avail_copy, table_copy, Behind, ReportsAs}
+use Rattle.vb_monitor.proofs.StillLaws.{ByFound, ends_so, IsShown, memory, same_end, by_place, le_so}
+use Rattle.vb_monitor.proofs.StillLaws.{copies_so, two_pages, first_of, unspent}
+use Rattle.std.proofs.lemmas.List.FromFn.{length-map-range_with_len}
+use Rattle.std.proofs.lemmas.List.{append_assoc, length-map}
+use Rattle.vb_ram.specs.Pages.{end_of}
+
+-- ---- pieces of a chain lie in memory
+
+second_of : (a b : Bool) (f g : ChainFault) (o : Option ChainFault) →
+    (if a then Some f else if b then Some g else o) ≡ None → b ≡ false
+second_of true b f g o e = absurd cc
+second_of false true f g o e = absurd cc
+second_of false false f g o e = refl
+
+not_past : (end a len : ℕ) → nat_lt end (a + len) ≡ false → end < MEMORY_LIMIT →
+    nat_le MEMORY_LIMIT a ≡ false
+not_past end a len e lt = grind (arith, nat_tests)
+
+lies : (q end : ℕ) (writing : Bool) (k : ℕ) (x : Descriptor) →
+    first_fault q end writing k x ≡ None → end < MEMORY_LIMIT → is_beyond (piece_of x) ≡ false
+lies q end writing k x e lt = not_past end x.addr x.len (second_of _ _ _ _ _ e) lt
+
+none_beyond : (d : ℕ → Descriptor) (q end head : ℕ) (pieces : List Piece) →
+    ChainGives d q end head pieces → end < MEMORY_LIMIT → list_any is_beyond pieces ≡ false
+none_beyond d q end head pieces gives lt =
+    let path = gives.path in
+    let piece : ℕ → Piece = λ i. piece_of (d i) in
+    ap (λ (ps : List Piece). list_any is_beyond ps) gives.pieces_are
+    ∙ list_any_none is_beyond (map piece path) (λ k x below.
+    let within : k < length path = subst (λ (n : ℕ). k < n) (length-map path piece) below in
+    subst (λ (p : Piece). is_beyond p ≡ false) (sym (get_or-map piece path k 0 x within))
+    (lies q end _ k (d (slice_index path k)) (gives.chain.sound k within) lt))
+
+end_below : (s : Settings) → are_settings s ≡ true → 4096 * memory_pages s < MEMORY_LIMIT
+end_below s e =
+    let most : s.memory_end < MEMORY_LIMIT = grind (arith, nat_tests, first_of) in
+    omega (arith, most)
+
+-- ---- what a report comes to
+
+refused_alike : (pieces : List Piece) (d : Device) → list_any is_beyond pieces ≡ false →
+    pieces_denial pieces 256 d ≡ queue_denial Report d
+refused_alike pieces d e = ap (λ (b : Bool). call_denial Report true (true && not b) true d) e
+
+served_as : (w : Whole) (next : Then) (d : Device) (t : Tally) (taken : Taken) (runs : List Run)
+    (o : Result (List ℕ) ChainFault) (log : List Access) → t.given ≡ false →
+    next ≡ next_chain w t → pieces_denial taken.chain 256 d ≡ None →
+    report_request taken.chain d.settings.reserved_pages ≡ o →
+    (IsOk (answer_with taken o) → take (length taken.chain) runs ≡ map run_of taken.chain) →
+    NamesReport w next d t taken.head taken.chain log →
+    ReportsAs (told (answer_with taken o)) runs w t (after_report (answer_with taken o) d) log
+served_as w next d t taken runs (Err f) log none same unrefused e are h =
+    let count = length taken.chain in
+    let answer : h.answer ≡ Err (Broken f) =
+    h.names.answer unrefused ∙ ap (λ (r : Result (List ℕ) ChainFault). told (named_by count r)) e in
+    let device : h.device ≡ needing_reset d =
+    h.names.device unrefused
+    ∙ ap (λ (r : Result (List ℕ) ChainFault). after_request Report (named_by count r) d) e in
+    let ends = ends_so t.given w h.device t (Some (Broken f)) false log none
+    (subst (λ (r : Result Named Denial). AfterName w next h.device t taken.head h.runs r log)
+    answer h.goes_on) in
+    (ends.0, ends.1 ∙ device)
+served_as w next d t taken runs (Ok pages) log none same unrefused e are h =
+    let count = length taken.chain in
+    let named : Named = record { runs = count; pages = length pages; skipped = 0 } in
+    let answer : h.answer ≡ Ok named =
+    h.names.answer unrefused ∙ ap (λ (r : Result (List ℕ) ChainFault). told (named_by count r)) e in
+    let device : h.device ≡ with_one_taken Report d =
+    h.names.device unrefused
+    ∙ ap (λ (r : Result (List ℕ) ChainFault). after_request Report (named_by count r) d) e in
+    let theirs : take count h.runs ≡ map run_of taken.chain =
+    h.names.runs_are (subst (λ (r : Result Named Denial). IsOk r) (sym answer) refl) in
+    record {
+      read = [];
+      rest = log;
+      all = refl;
+      is = subst (λ (x : Device). TellsThen w (next_chain w t) x (spent (length pages) t)
+          taken.head (take count runs) named log) device
+          (subst (λ (rs : List Run). TellsThen w (next_chain w t) h.device (spent (length pages) t)
+          taken.head rs named log) (theirs ∙ sym (are refl))
+          (subst (λ (n : Then). TellsThen w n h.device (spent (length pages) t)
+          taken.head (take count h.runs) named log) same
+          (subst (λ (r : Result Named Denial). AfterName w next h.device t taken.head h.runs r log)
+          answer h.goes_on)));
+    }
+
+behind_as : (result : Result (Option Reported) Denial) (runs : List Run) (w : Whole) (t : Tally)
+    (d : Device) (log : List Access) (does : List Access → Type 0) →
+    ((l : List Access) → does l → ReportsAs result runs w t d l) → Behind does log →
+    ReportsAs result runs w t d log
+behind_as (Err why) runs w t d log does comes h = comes h.rest h.is
+behind_as (Ok None) runs w t d log does comes h = comes h.rest h.is
+behind_as (Ok (Some found)) runs w t d log does comes h =
+    let x = comes h.rest h.is in
+    record {
+      read = h.read ++ x.read;
+      rest = x.rest;
+      all = h.all ∙ (ap (λ (l : List Access). h.read ++ l) x.all
+          ∙ sym (append_assoc h.read x.read x.rest));
+      is = x.is;
+    }
+
+abbrev of_reports : List Region → Device → Outcome → Whole
+of_reports regions after outcome = whole regions Report after outcome
+
+reports_of : (byte : ℕ → ℕ) (rs : List Region) (d2 : Device) (out : Outcome) (d : Device) (t : Tally) (runs : List Run)
+    (found : Result (Option Taken) ChainFault) (log : List Access) →
+    IsShown byte (of_reports rs d2 out) d found → t.given ≡ false → 4096 * memory_pages d.settings < MEMORY_LIMIT →
+    queue_denial Report d ≡ None →
+    ((taken : Taken) → found ≡ Ok (Some taken) →
+    IsOk (report_of d.settings.reserved_pages found) →
+    take (length taken.chain) runs ≡ map run_of taken.chain) → ByFound found (of_reports rs d2 out) d t log →
+    ReportsAs (told (report_of d.settings.reserved_pages found)) runs (of_reports rs d2 out) t
+    (after_report (report_of d.settings.reserved_pages found) d) log
+reports_of byte rs d2 out d t runs (Err f) log is none lt unrefused are h = h
+reports_of byte rs d2 out d t runs (Ok None) log is none lt unrefused are h = h
+reports_of byte rs d2 out d t runs (Ok (Some taken)) log is none lt unrefused are h =
+    let w = of_reports rs d2 out in
+    let gives = is.pops.found.2 in
+    let below : end_of (memory byte w d) < MEMORY_LIMIT =
+    subst (λ (n : ℕ). n < MEMORY_LIMIT) (same_end byte w d) lt in
+    let denial : pieces_denial taken.chain 256 d ≡ None =
+    refused_alike taken.chain d (none_beyond _ _ _ taken.head taken.chain gives below) ∙ unrefused in
+    let o = report_request taken.chain d.settings.reserved_pages in
+    behind_as (told (answer_with taken o)) runs w t (after_report (answer_with taken o) d) log
+    (NamesReport w (next_chain w t) d t taken.head taken.chain)
+    (λ l x. served_as w (next_chain w t) d t taken runs o l none refl denial refl (are taken refl) x)
+    h
+
+denied_alike : (a t room : ℕ) (d : Device) → MAX_REPORT_PIECES ≤ room →
+    a ≡ 4 + 2 * (ring_of Report d).size → t ≡ 16 * (ring_of Report d).size →
+    report_denial a t room d ≡ queue_denial Report d
+denied_alike a t room d fits e f =
+    let size = (ring_of Report d).size in
+    ap (λ (b : Bool). call_denial Report true b (are_copies size a t) d)
+    (le_so MAX_REPORT_PIECES room fits)
+    ∙ ap (λ (b : Bool). call_denial Report true true b d) (copies_so size a t e f)
+
+looks_as : (byte : ℕ → ℕ) (rs : List Region) (d2 : Device) (out : Outcome) (d d3 : Device) (t0 t : Tally) (room : ℕ)
+    (takes : List Access → Type 0) (runs : List Run) (result : Result (Option Reported) Denial)
+    (o : Option Denial) (log : List Access) →
+    IsMapped rs (ring_of Report d) → MAX_REPORT_PIECES ≤ room → t0.given ≡ false →
+    t.given ≡ false → ((l : List Access) → takes l →
+    TakesChain (of_reports rs d2 out) (next_chain (of_reports rs d2 out) t) d t l) →
+    queue_denial Report d ≡ o → Stays byte rs log →
+    ReportsBy (avail_copy byte (ring_of Report d)) (table_copy byte (ring_of Report d)) room runs d
+    d3 result → LooksBy o (of_reports rs d2 out) takes d t0 log → ReportsAs result runs (of_reports rs d2 out) t d3 log
+looks_as byte rs d2 out d d3 t0 t room takes runs result (Some why) log mapped fits none0 none into e
+    stays n h =
+    let w = of_reports rs d2 out in
+    let r = ring_of Report d in
+    let x = n.denied why (denied_alike _ _ room d fits
+    (length-map-range_with_len byte r.avail (4 + 2 * r.size))
+    (length-map-range_with_len byte r.table (16 * r.size)) ∙ e) in
+    let y = ends_so t0.given w d t0 (Some why) false log none0 h in
+    subst (λ (o : Result (Option Reported) Denial). ReportsAs o runs w t d3 log) (sym x.0)
+    (y.0, y.1 ∙ sym x.1)
+looks_as byte rs d2 out d d3 t0 t room takes runs result None log mapped fits none0 none into e stays n
+    h =
+    let w = of_reports rs d2 out in
+    let r = ring_of Report d in
+    let (answer, reads, is, after) = n.reads (denied_alike _ _ room d fits
+    (length-map-range_with_len byte r.avail (4 + 2 * r.size))
+    (length-map-range_with_len byte r.table (16 * r.size)) ∙ e) in
+    let open_so = open_call Report true true true d e in
+    let found = reads.found in
+    let shown_so : IsShown byte (of_reports rs d2 out) d found = record {
+      size = placed_size d.settings.memory_end r open_so.place;
+      two = two_pages d.settings open_so.settings;
+      mapped = mapped;
+      pops = reads.pops;
+    } in
+    subst (λ (o : Result (Option Reported) Denial). ReportsAs o runs w t d3 log)
+    (sym (is ∙ ap (λ (o : Result (Option Reported) ChainFault). told o) reads.answer))
+    (subst (λ (x : Device). ReportsAs (told (report_of d.settings.reserved_pages found)) runs w t x
+    log) (sym (after ∙ ap (λ (o : Result (Option Reported) ChainFault). after_report o d)
+    reads.answer))
+    (reports_of byte rs d2 out d t runs found log shown_so none
+    (end_below d.settings open_so.settings) e
+    (subst (λ (o : Result (Option Reported) ChainFault). (taken : Taken) →
+    found ≡ Ok (Some taken) → IsOk o → take (length taken.chain) runs ≡ map run_of taken.chain)
+    reads.answer reads.runs_are)
+    (by_place byte w d t0 t takes found (spot rs (r.avail + 2) 2) log shown_so none0 none
+    into refl mapped.index stays h)))
+
+pub reports_as : (byte : ℕ → ℕ) (regions : List Region) (budget : Budget) (n room : ℕ)
+    (d1 d2 d3 : Device) (outcome : Outcome) (log : List Access) (runs : List Run)
+    (answer : Result (Option Reported) Denial) → budget.chains ≡ suc n →
+    (budget.pages == 0) ≡ false → IsMapped regions (ring_of Report d1) →
+    MAX_REPORT_PIECES ≤ room → Stays byte regions log →
+    ReportsBy (avail_copy byte (ring_of Report d1)) (table_copy byte (ring_of Report d1)) room runs
+    d1 d3 answer → Serves regions Report budget d1 d2 outcome log →
+    ReportsAs answer runs (whole regions Report d2 outcome) (with_chains n (fresh budget)) d3 log
+reports_as byte regions budget n room d1 d2 d3 outcome log runs answer some some_pages mapped fits
+    stays reports h =
+    looks_as byte regions d2 outcome d1 d3 (fresh budget) (with_chains n (fresh budget))
+    room (TakesNext budget.chains (whole regions Report d2 outcome) d1 (fresh budget)) runs answer
+    (queue_denial Report d1) log mapped fits refl refl
+    (λ l x. unspent (whole regions Report d2 outcome) d1 budget n l some some_pages x) refl stays
+    reports h
