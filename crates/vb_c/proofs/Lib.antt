@@ -1,5 +1,6 @@
 pub mod ShowLemmas
 pub mod UsualLemmas
+pub mod ServedLemmas
 mod NoticeFacts
 mod Samples
 mod CodeFacts

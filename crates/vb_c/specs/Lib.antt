@@ -8,3 +8,4 @@ pub mod Saving
 pub mod Notices
 pub mod Serving
 pub mod Places
+pub mod Served

@@ -9,6 +9,7 @@ mod marks;
 mod notice;
 mod places;
 mod registers;
+mod requests;
 mod saving;
 mod serving;
 mod sharing;

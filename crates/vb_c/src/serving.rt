@@ -10,16 +10,17 @@ ghost use Rattle.vb_c.specs.Serving.{HandsOver, BeginsFor, AsksFor, GoesOnBy};
 
 use crate::answers::{BAD_ARGUMENT, NO_QUEUE, NOTHING, kind_of_code};
 use crate::notice::{DESCRIPTOR, PART, VbNotice, VbRoom};
+use crate::requests::go_request;
 use crate::usual::{begin_usually, go_usually};
 use vb_core::{Kind, Run};
 use vb_monitor::{
     Balloon, Budget, Cut, MAX_BYTES, MAX_CUTS, MAX_RUNS, Notice, Region, after_descriptor,
-    after_part,
+    after_part, is_last,
 };
 
 /// Hands a notice over, with all that is to be done before it waits; what it came to is noted, once
 /// it has ended.
-fn hand_over(
+pub(crate) fn hand_over(
     shown: &mut VbNotice,
     balloon: &mut Balloon,
     regions: &[Region],
@@ -227,6 +228,32 @@ fn go_part(
     )
 }
 
+/// A part was copied: mostly the last one of a request.
+fn go_copied(
+    notice: &mut VbNotice,
+    balloon: &mut Balloon,
+    regions: &[Region],
+    room: &mut VbRoom,
+    kind: Kind,
+    answer: u16,
+) -> u32
+    requires kind { kind_of_code notice.old.kind ≡ Some kind }
+    requires phase { notice.old.phase ≡ 4 }
+    requires fits { notice.old.into + notice.old.length ≤ MAX_BYTES }
+    ensures goes { GoesOnBy (notice_of notice.old) regions.now answer balloon.old balloon.new
+        room.old room.new notice.new }
+    ensures what { result ≡ notice.new.what }
+{
+    if !kind.is_request() {
+        return go_part(notice, balloon, regions, room, kind, answer);
+    }
+    let place = notice.place();
+    if is_last(&place, &room.pieces) {
+        return go_request(notice, balloon, regions, room, kind, answer);
+    }
+    go_part(notice, balloon, regions, room, kind, answer)
+}
+
 /// What is to be done next, however a notice goes on; by less than any way where bytes were copied.
 fn go_else(
     notice: &mut VbNotice,
@@ -247,7 +274,7 @@ fn go_else(
                 if u64::from(notice.into) + u64::from(notice.length) > MAX_BYTES as u64 {
                     return go_anyhow(notice, balloon, regions, room, answer);
                 }
-                go_part(notice, balloon, regions, room, kind, answer)
+                go_copied(notice, balloon, regions, room, kind, answer)
             }
             _ => go_anyhow(notice, balloon, regions, room, answer),
         },

@@ -73,7 +73,7 @@ fn breaks(why: Option<Denial>) -> bool
 }
 
 /// The bits of what needs no answer.
-fn asked_bits(asked: Asked, cuts: u32) -> u32
+pub(crate) fn asked_bits(asked: Asked, cuts: u32) -> u32
     ensures bits { result ≡ asked_bits asked cuts }
     ensures few { result < 16 }
 {
@@ -166,7 +166,7 @@ impl VbNotice {
     }
 
     /// Shows the part that is to be discarded once there is room.
-    fn show_cut(&mut self, bits: u32, cut: Cut, discarding: Discarding)
+    pub(crate) fn show_cut(&mut self, bits: u32, cut: Cut, discarding: Discarding)
         ensures phase { phase_of self.new ≡ Some (Discards cut discarding) }
         ensures what { self.new.what ≡ bits + answer_bits (Discards cut discarding) }
         ensures kept { SameElse self.old self.new }

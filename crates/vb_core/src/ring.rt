@@ -1,7 +1,7 @@
 //! Where a queue's ring lies in guest memory, and how far the device is in it.
 
 ghost use Rattle.std.specs.Prelude.{◌≡◌, ◌+◌, ◌*◌, ◌%◌, ◌<◌, ◌≤◌, true};
-ghost use Rattle.vb_core.specs.Rings.{no_ring, is_size, is_part, has_place, used_entry, with_used};
+ghost use Rattle.vb_core.specs.Rings.{no_ring, is_size, is_part, has_place, used_entry};
 
 use vb_ring::{MAX_QUEUE_SIZE, MIN_QUEUE_SIZE};
 
@@ -79,21 +79,19 @@ impl Virtqueue {
             && is_part(end, self.used, 4, 6 + 8 * size)
     }
 
-    /// Counts one more used entry: what is to be written for a chain of this head, with length 0,
-    /// in a ring that has its place.
-    pub(crate) fn add_used(&mut self, end: u64, head: u32) -> UsedEntry
-        requires { has_place end self.old ≡ true }
-        ensures entry { result ≡ used_entry self.old head }
-        ensures ring { self.new ≡ with_used self.old }
+    /// What is to be written for a chain of this head that is used next, with length 0, in a ring
+    /// that has its place.
+    pub(crate) fn used_entry(&self, end: u64, head: u32) -> UsedEntry
+        requires { has_place end self.now ≡ true }
+        ensures { result ≡ used_entry self.now head }
     {
         let place = self.next_used % self.size;
-        self.next_used = self.next_used.wrapping_add(1);
         UsedEntry {
             element_at: self.used + 4 + 8 * u64::from(place),
             index_at: self.used + 2,
             id: head,
             length: 0,
-            index: self.next_used,
+            index: self.next_used.wrapping_add(1),
         }
     }
 }

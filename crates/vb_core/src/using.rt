@@ -1,8 +1,8 @@
 //! Chains that are used.
 
-ghost use Rattle.std.specs.Prelude.{◌≡◌, Some, None, Ok, Err};
+ghost use Rattle.std.specs.Prelude.{◌≡◌, true, Some, None, Ok, Err};
 ghost use Rattle.vb_core.specs.declared.device.Denial.{Denial};
-ghost use Rattle.vb_core.specs.Rings.{with_used, used_entry};
+ghost use Rattle.vb_core.specs.Rings.{has_place, with_used, used_entry};
 ghost use Rattle.vb_core.specs.Devices.{ring_of, with_ring, with_one_taken};
 ghost use Rattle.vb_core.specs.Using.{use_denial};
 
@@ -15,6 +15,24 @@ impl Device {
     {
         let mut ring = self.ring(kind);
         ring.next_avail = ring.next_avail.wrapping_add(1);
+        self.set_ring(kind, ring);
+    }
+
+    /// What is to be written for a chain of this head that is used next, of a queue that has its
+    /// place.
+    pub fn used_entry(&self, kind: Kind, head: u32) -> UsedEntry
+        requires { has_place self.now.settings.memory_end (ring_of kind self.now) ≡ true }
+        ensures { result ≡ used_entry (ring_of kind self.now) head }
+    {
+        self.ring(kind).used_entry(self.settings.memory_end, head)
+    }
+
+    /// Counts one more used entry of a kind's queue.
+    pub fn count_used(&mut self, kind: Kind)
+        ensures { self.new ≡ with_ring kind (with_used (ring_of kind self.old)) self.old }
+    {
+        let mut ring = self.ring(kind);
+        ring.next_used = ring.next_used.wrapping_add(1);
         self.set_ring(kind, ring);
     }
 
@@ -31,13 +49,12 @@ impl Device {
             (result ≡ Ok (used_entry (ring_of kind self.old) head)) ×
             (self.new ≡ with_ring kind (with_used (ring_of kind self.old)) self.old) }
     {
-        let mut ring = self.ring(kind);
-        let fits = head < u32::from(ring.size);
+        let fits = head < u32::from(self.ring(kind).size);
         if let Some(why) = self.call_denial(kind, true, fits, true) {
             return Err(why);
         }
-        let entry = ring.add_used(self.settings.memory_end, head);
-        self.set_ring(kind, ring);
+        let entry = self.used_entry(kind, head);
+        self.count_used(kind);
         Ok(entry)
     }
 }

@@ -43,7 +43,9 @@ pub mod LargeLaws
 mod LargeFacts
 mod WholeReportFacts
 mod UsualFacts
+mod ServedFacts
 pub mod RoomLemmas
+pub mod ServedLemmas
 pub mod StillBytes
 pub mod StillWalk
 pub mod StillParts

@@ -20,4 +20,5 @@ pub mod Asking
 pub mod PartsOfRuns
 pub mod Large
 pub mod Usual
+pub mod Served
 pub mod Still

@@ -74,13 +74,13 @@ pub(crate) fn next_cut(regions: &[Region], from: usize, run: Run) -> Option<Cut>
 
 /// A part of one of some runs.
 #[derive(Clone, Copy, Debug)]
-pub(crate) struct NextCut {
+pub struct NextCut {
     /// The number of the run.
-    pub(crate) run: usize,
+    pub run: usize,
     /// Its part in the first region that has one.
-    pub(crate) cut: Cut,
+    pub cut: Cut,
     /// The number of the region behind the one in which the part is.
-    pub(crate) from: usize,
+    pub from: usize,
 }
 
 /// The first part of the runs from this number on.

@@ -21,7 +21,7 @@ use crate::{Phase, Region, Step, Tally};
 use vb_core::{Device, Kind, Run};
 
 /// The first runs, so many.
-pub(crate) fn first_runs(runs: &[Run; MAX_RUNS], count: usize) -> &[Run]
+pub fn first_runs(runs: &[Run; MAX_RUNS], count: usize) -> &[Run]
     ensures { result.now ≡ take count runs.now }
 {
     &runs[..count.min(MAX_RUNS)]

@@ -21,11 +21,11 @@ const FEW: usize = 4;
 
 /// Parts that were put into a list.
 #[derive(Clone, Copy, Debug)]
-pub(crate) struct Filled {
+pub struct Filled {
     /// How many there are.
-    pub(crate) count: u32,
+    pub count: u32,
     /// The part for which there was no room.
-    pub(crate) left: Option<NextCut>,
+    pub left: Option<NextCut>,
 }
 
 /// The pages that one region alone has, where a part is all that is left of its run, and its run
@@ -111,12 +111,7 @@ fn fill_on(
 }
 
 /// Puts a part and those after it to the front of the list, as many as have room.
-pub(crate) fn fill(
-    regions: &[Region],
-    runs: &[Run],
-    first: &NextCut,
-    cuts: &mut [Cut; MAX_CUTS],
-) -> Filled
+pub fn fill(regions: &[Region], runs: &[Run], first: &NextCut, cuts: &mut [Cut; MAX_CUTS]) -> Filled
     ensures few { result.count ≤ MAX_CUTS }
     ensures full { (x : NextCut) → result.left ≡ Some x → result.count ≡ MAX_CUTS }
     ensures parts { first.now.cut ∷ cuts_behind first.now.from first.now.run regions.now runs.now ≡

@@ -26,7 +26,7 @@ pub struct UsedSpots {
 }
 
 /// Where a used element goes, where all of it is guest memory.
-fn used_spots(regions: &[Region], entry: &UsedEntry) -> Option<UsedSpots>
+pub(crate) fn used_spots(regions: &[Region], entry: &UsedEntry) -> Option<UsedSpots>
     ensures { result ≡ used_spots regions.now entry.now }
 {
     match find_from(regions, entry.element_at, 0, 4) {

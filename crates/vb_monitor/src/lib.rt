@@ -22,6 +22,7 @@ mod pieces;
 mod placing;
 mod regions;
 mod room;
+mod served;
 mod serving;
 mod single;
 mod sole;
@@ -31,7 +32,10 @@ mod walk;
 
 pub use balloon::{Balloon, may_tell};
 pub use copying::after_part;
-pub use cuts::Cut;
+pub use cuts::{Cut, NextCut};
+pub use discards::first_runs;
+pub use ends::end;
+pub use filling::{Filled, fill};
 pub use giving::UsedSpots;
 pub use large::{LARGEST_PAGE, Large, large_pages};
 pub use laws::{
@@ -50,6 +54,7 @@ pub use parts::Part;
 pub use placing::{RestoreDenial, are_memory, memory_end_of};
 pub use regions::{FILE_LIMIT, Region, Spot, find};
 pub use room::{MAX_BYTES, MAX_FIGURES, MAX_PIECES, MAX_RUNS};
+pub use served::{fill_named, give_and_look, is_last, name_copied};
 pub use serving::serve;
 pub use single::{FirstPart, first_of_single, index_to_look};
 pub use step::{Discarding, Phase, Place, Step, Walk};

@@ -1,0 +1,103 @@
+use Rattle.std.proofs.Common.{◌≡◌, ◌∙◌, ap, sym, subst, refl, ℕ, ◌+◌, List, ◌++◌, Option, Ok, Err, take}
+use Rattle.vb_core.specs.declared.kinds.Kind.{Kind}
+use Rattle.vb_monitor.{specs.declared.step.Phase.TheVariants.AwaitsPart, specs.Accesses.Access}
+use Rattle.vb_monitor.{specs.Machine.{whole, served, behind_part}, specs.declared.step.Place.Place}
+use Rattle.vb_monitor.{specs.Pieces.{pieces_in, CopiesParts}, specs.declared.notice.Notice.Notice}
+use Rattle.vb_monitor.{specs.Giving.spent, proofs.ServedLemmas.request_goes}
+use Rattle.vb_monitor.specs.declared.outcome.Tally.{Tally}
+use Rattle.vb_c.{specs.declared.notice.VbRoom.VbRoom, specs.Serving.{room_in, GoesOnBy, HandsOver}}
+use Rattle.vb_c.specs.{Notices.{tally_of, place_of}, Served.telling_pages}
+use Rattle.vb_c.proofs.UsualLemmas.{awaits_part, says_notice}
+use Rattle.vb_c.proofs.requests.go_request.Goals as goal
+
+pub returns-in-Ok-clause-goes : goal.returns-in-Ok-clause-goes
+returns-in-Ok-clause-goes c =
+    let old = c.args.notice.now in
+    let s = tally_of old in
+    let x = place_of old in
+    let kind = c.args.kind in
+    let regions = c.args.regions.now in
+    let b = c.args.balloon.now in
+    let d = b.device in
+    let d2 = c.name_copied.new.device in
+    let named = c.in-Ok.named in
+    let r1 = c.args.room.now in
+    let r2 : VbRoom = record {
+      pieces = r1.pieces;
+      bytes = r1.bytes;
+      runs = c.name_copied.new.runs;
+      figures = r1.figures;
+      cuts = c.serve_named.new.cuts;
+    } in
+    let next = telling_pages kind (spent named.pages s) x.head named in
+    subst (λ (o : Option Notice). GoesOnBy o regions c.args.answer b c.serve_named.new.balloon r1 r2
+    c.serve_named.new.shown)
+    (sym (says_notice kind (AwaitsPart old.at x) s old c.requires.kind
+    (awaits_part old c.requires.phase c.requires.fits) refl))
+    (record {
+      next = next;
+      device = d2;
+      kind_is = refl;
+      step = λ after outcome before done rest does h.
+          let w = whole regions kind after outcome in
+          record {
+            bytes = does.bytes;
+            rest = rest;
+            asks = ap (λ (l : List Access). l ++ rest) does.asks;
+            long = does.long;
+            goes_on = subst (λ (bs : List ℕ). CopiesParts w (served w s d x.head) d s
+                (behind_part x.is_second x.piece (pieces_in (take x.count r1.pieces))) bs rest)
+                does.behind
+                (request_goes w d d2 s x.head _ (take (x.into + x.length) r1.bytes) r2.runs
+                (Ok named) rest c.requires.request c.requires.last
+                c.in-Ok.ensures.names h);
+          };
+      hands = subst (λ (t : Tally). HandsOver (telling_pages kind t x.head named) regions r2.runs
+          (record b { device = d2 }) c.serve_named.new.balloon r2.cuts c.serve_named.new.shown)
+          (ap (λ (n : ℕ). record s { pages = n }) c.saturating_sub-notice.ensures)
+          c.serve_named.ensures.hands;
+    })
+
+pub returns-in-Err-clause-goes : goal.returns-in-Err-clause-goes
+returns-in-Err-clause-goes c =
+    let old = c.args.notice.now in
+    let s = c.tally-tally.result in
+    let x = place_of old in
+    let kind = c.args.kind in
+    let regions = c.args.regions.now in
+    let b = c.args.balloon.now in
+    let d = b.device in
+    let d2 = c.name_copied.new.device in
+    let why = c.in-Err.why in
+    let r1 = c.args.room.now in
+    let r2 : VbRoom = record {
+      pieces = r1.pieces;
+      bytes = r1.bytes;
+      runs = c.name_copied.new.runs;
+      figures = r1.figures;
+      cuts = c.hand_over.new.cuts;
+    } in
+    subst (λ (o : Option Notice). GoesOnBy o regions c.args.answer b c.hand_over.new.balloon r1 r2
+    c.hand_over.new.shown)
+    (sym (says_notice kind (AwaitsPart old.at x) s old c.requires.kind
+    (awaits_part old c.requires.phase c.requires.fits) (sym c.tally-tally.ensures)))
+    (record {
+      next = record { kind = kind; step = c.end-step.result };
+      device = d2;
+      kind_is = refl;
+      step = λ after outcome before done rest does h.
+          let w = whole regions kind after outcome in
+          record {
+            bytes = does.bytes;
+            rest = rest;
+            asks = ap (λ (l : List Access). l ++ rest) does.asks;
+            long = does.long;
+            goes_on = subst (λ (bs : List ℕ). CopiesParts w (served w s d x.head) d s
+                (behind_part x.is_second x.piece (pieces_in (take x.count r1.pieces))) bs rest)
+                does.behind
+                (request_goes w d d2 s x.head _ (take (x.into + x.length) r1.bytes) r2.runs
+                (Err why) rest c.requires.request c.requires.last c.in-Err.ensures.names
+                (c.end-step.ensures.step after outcome (room_in r2) rest h));
+          };
+      hands = c.hand_over.ensures.hands;
+    })

@@ -1,0 +1,162 @@
+//! Chains whose pages were named: what needs no answer is done at once, and what a notice says is
+//! changed where it stands.
+
+ghost use Rattle.std.specs.Prelude.{◌≡◌, ◌+◌, ◌≤◌, true, None, Some};
+ghost use Rattle.vb_core.specs.Devices.{queue_denial};
+ghost use Rattle.vb_core.specs.Name.{is_request};
+ghost use Rattle.vb_monitor.specs.declared.room.TheConstants.{MAX_BYTES, MAX_RUNS};
+ghost use Rattle.vb_monitor.specs.Served.{is_last};
+ghost use Rattle.vb_c.specs.Codes.{kind_of_code};
+ghost use Rattle.vb_c.specs.Notices.{notice_of, tally_of, place_of};
+ghost use Rattle.vb_c.specs.Served.{telling_pages};
+ghost use Rattle.vb_c.specs.Serving.{HandsOver, GoesOnBy};
+
+use crate::notice::{INDEX, READ_INDEX, VbNotice, VbRoom};
+use crate::serving::hand_over;
+use crate::showing::asked_bits;
+use vb_core::{Kind, Named, Run};
+use vb_monitor::{
+    Asked, Balloon, Cut, Discarding, MAX_CUTS, MAX_RUNS, Notice, Phase, Region, Step, Told, end,
+    fill_named, give_and_look, name_copied,
+};
+
+/// Hands over a chain whose pages were named, however it is served.
+#[inline(never)]
+fn hand_named(
+    shown: &mut VbNotice,
+    balloon: &mut Balloon,
+    regions: &[Region],
+    runs: &[Run; MAX_RUNS],
+    cuts: &mut [Cut; MAX_CUTS],
+    kind: Kind,
+    head: u16,
+    named: Named,
+) -> u32
+    requires { named.runs ≤ MAX_RUNS }
+    ensures hands { HandsOver (telling_pages kind (tally_of shown.old) head named) regions.now
+        runs.now balloon.old balloon.new cuts.new shown.new }
+    ensures what { result ≡ shown.new.what }
+{
+    let mut notice = Notice {
+        kind,
+        step: Step {
+            tally: shown.tally(),
+            phase: Phase::TellsPages { head, named },
+        },
+    };
+    hand_over(shown, balloon, regions, runs, cuts, &mut notice)
+}
+
+/// Hands over a chain whose pages were named, of a queue that is served: mostly it is given back,
+/// and the queue looked at again.
+fn serve_named(
+    shown: &mut VbNotice,
+    balloon: &mut Balloon,
+    regions: &[Region],
+    runs: &[Run; MAX_RUNS],
+    cuts: &mut [Cut; MAX_CUTS],
+    kind: Kind,
+    head: u16,
+    named: Named,
+) -> u32
+    requires kind { kind_of_code shown.old.kind ≡ Some kind }
+    requires few { named.runs ≤ MAX_RUNS }
+    requires ready { queue_denial kind balloon.old.device ≡ None }
+    ensures hands { HandsOver (telling_pages kind (tally_of shown.old) head named) regions.now
+        runs.now balloon.old balloon.new cuts.new shown.new }
+    ensures what { result ≡ shown.new.what }
+{
+    let filled = fill_named(&balloon.device, regions, kind, runs, named.runs, cuts);
+    shown.orders.named = named;
+    shown.orders.cuts = filled.count;
+    if let Some(left) = filled.left {
+        let asked = Asked {
+            told: Told::Pages,
+            gives: false,
+        };
+        let bits = asked_bits(asked, filled.count);
+        let discarding = Discarding {
+            head,
+            runs: named.runs,
+            run: left.run,
+            from: left.from,
+        };
+        shown.show_cut(bits, left.cut, discarding);
+        return shown.what;
+    }
+    match give_and_look(
+        &mut balloon.device,
+        regions,
+        kind,
+        head,
+        &mut shown.orders.used,
+    ) {
+        None => hand_named(shown, balloon, regions, runs, cuts, kind, head, named),
+        Some(at) => {
+            let asked = Asked {
+                told: Told::Pages,
+                gives: true,
+            };
+            let bits = asked_bits(asked, filled.count);
+            shown.given = 1;
+            shown.show_read(bits + READ_INDEX, INDEX, at);
+            shown.what
+        }
+    }
+}
+
+/// All bytes of a request were copied: its pages are named and served, or it breaks a rule.
+pub(crate) fn go_request(
+    notice: &mut VbNotice,
+    balloon: &mut Balloon,
+    regions: &[Region],
+    room: &mut VbRoom,
+    kind: Kind,
+    answer: u16,
+) -> u32
+    requires kind { kind_of_code notice.old.kind ≡ Some kind }
+    requires phase { notice.old.phase ≡ 4 }
+    requires fits { notice.old.into + notice.old.length ≤ MAX_BYTES }
+    requires request { is_request kind ≡ true }
+    requires last { is_last (place_of notice.old) room.old.pieces ≡ true }
+    ensures goes { GoesOnBy (notice_of notice.old) regions.now answer balloon.old balloon.new
+        room.old room.new notice.new }
+    ensures what { result ≡ notice.new.what }
+{
+    let head = notice.head;
+    let count = notice.into as usize + notice.length as usize;
+    match name_copied(
+        &mut balloon.device,
+        kind,
+        &room.bytes,
+        count,
+        &mut room.runs,
+    ) {
+        Err(why) => {
+            let tally = notice.tally();
+            let step = end(&balloon.device, regions, kind, tally, Some(why), false);
+            let mut next = Notice { kind, step };
+            hand_over(
+                notice,
+                balloon,
+                regions,
+                &room.runs,
+                &mut room.cuts,
+                &mut next,
+            )
+        }
+        Ok(named) => {
+            notice.pages_left = notice.pages_left.saturating_sub(named.pages);
+            serve_named(
+                notice,
+                balloon,
+                regions,
+                &room.runs,
+                &mut room.cuts,
+                kind,
+                head,
+                named,
+            )
+        }
+    }
+}

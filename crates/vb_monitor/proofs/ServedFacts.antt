@@ -1,0 +1,89 @@
+-- Worked facts of what is done at once of a chain whose pages were named.
+use Rattle.std.proofs.Common.{◌≡◌, refl, ℕ, Bool, true, false, List, [], ◌∷◌, map, Option, Some, None}
+use Rattle.vb_core.specs.declared.kinds.Kind.TheVariants.{Inflate, Deflate, Statistics, Report}
+use Rattle.vb_core.{specs.declared.next.ChainPiece.ChainPiece, specs.declared.ring.Virtqueue.Virtqueue}
+use Rattle.vb_core.{specs.declared.kinds.Kind.Kind, specs.declared.device.Device.Device}
+use Rattle.vb_core.specs.Devices.{with_ring}
+use Rattle.vb_monitor.{specs.declared.regions.Spot.Spot, specs.declared.step.Place.Place}
+use Rattle.vb_monitor.{specs.Pieces.pieces_in, specs.Served.{is_last, looks_again, look_place}}
+use Rattle.vb_monitor.proofs.Samples.{two, at, ring, ready}
+
+-- ---- the last part of a chain's pieces
+
+abbrev bytes : ℕ → ℕ → ChainPiece
+bytes address length = record { address = address; length = length; writable = 0 }
+
+-- a part of the piece of this number, of so many
+abbrev part : ℕ → ℕ → Bool → Place
+part count piece is_second = record {
+  head = 3;
+  count = count;
+  piece = piece;
+  is_second = is_second;
+  into = 0;
+  length = 4;
+}
+
+only_piece : is_last (part 1 0 false) (bytes 0x400 4 ∷ []) ≡ true
+unfolding pieces_in
+only_piece = refl
+
+-- four bytes stand in the next page
+over_two_pages : is_last (part 1 0 false) (bytes 0xffc 8 ∷ []) ≡ false
+unfolding pieces_in
+over_two_pages = refl
+
+second_part : is_last (part 1 0 true) (bytes 0xffc 8 ∷ []) ≡ true
+unfolding pieces_in
+second_part = refl
+
+another_piece : is_last (part 2 0 false) (bytes 0x400 4 ∷ bytes 0x500 4 ∷ []) ≡ false
+unfolding pieces_in
+another_piece = refl
+
+another_behind : is_last (part 2 0 true) (bytes 0xffc 8 ∷ bytes 0x500 4 ∷ []) ≡ false
+unfolding pieces_in
+another_behind = refl
+
+-- what stands behind the chain's pieces is none of them
+older_piece : is_last (part 1 0 false) (bytes 0x400 4 ∷ bytes 0x500 4 ∷ []) ≡ true
+unfolding pieces_in
+older_piece = refl
+
+empty_piece_behind : is_last (part 2 0 false) (bytes 0x400 4 ∷ bytes 0x500 0 ∷ []) ≡ true
+unfolding pieces_in
+empty_piece_behind = refl
+
+-- ---- where the queue is looked at again
+
+all_but_statistics : map looks_again (Inflate ∷ Deflate ∷ Statistics ∷ Report ∷ []) ≡
+    true ∷ true ∷ false ∷ true ∷ []
+all_but_statistics = refl
+
+abbrev place : Kind → ℕ → Virtqueue → Option Spot
+place kind head r = look_place two kind head (with_ring kind r ready)
+
+index_there : place Inflate 7 ring ≡ Some (at 0x102)
+index_there = refl
+
+reports_too : place Report 7 ring ≡ Some (at 0x102)
+reports_too = refl
+
+no_descriptor : place Inflate 8 ring ≡ None
+no_descriptor = refl
+
+a_held_buffer : place Statistics 7 ring ≡ None
+a_held_buffer = refl
+
+index_in_the_hole : place Inflate 7 (record ring { avail = 0x15000 }) ≡ None
+index_in_the_hole = refl
+
+used_ring_in_the_hole : place Inflate 7 (record ring { used = 0x15000 }) ≡ None
+used_ring_in_the_hole = refl
+
+-- the id is the last word of the region, and the length stands in the hole
+half_an_element : place Inflate 7 (record ring { used = 0x14ff8 }) ≡ None
+half_an_element = refl
+
+whole_element : place Inflate 7 (record ring { used = 0x14ff4 }) ≡ Some (at 0x102)
+whole_element = refl

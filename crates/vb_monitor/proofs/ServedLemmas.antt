@@ -1,0 +1,155 @@
+-- What is done at once of a chain whose pages were named.
+use Rattle.std.proofs.Common.{◌≡◌, ◌∙◌, ap, sym, subst, refl, ℕ, ◌+◌, ◌<◌, Bool, true, false, List}
+use Rattle.std.proofs.Common.{arith, [], ◌∷◌, ◌++◌, length, Option, Some, None, Result, Ok, Err}
+use Rattle.std.specs.Prelude.{nat_lt, nat_le, ◌&&◌, ◌/◌}
+use Rattle.std.proofs.lemmas.Bool.Decides.{nat_tests}
+use Rattle.vb_model.specs.declared.limits.TheConstants.{MAX_REQUEST_PAGES}
+use Rattle.vb_chain.specs.declared.fault.ChainFault.{ChainFault}
+use Rattle.vb_request.specs.Request.{is_request_length}
+use Rattle.vb_core.specs.declared.kinds.Kind.TheVariants.{Inflate, Deflate, Statistics, Report}
+use Rattle.vb_core.specs.declared.{kinds.Kind.Kind, device.Device.Device, device.Denial.Denial}
+use Rattle.vb_core.specs.{declared.runs.Run.Run, declared.name.Named.Named, Rings.used_entry}
+use Rattle.vb_core.specs.Devices.{ring_of, call_denial, queue_denial, with_one_taken}
+use Rattle.vb_core.specs.{Name.{is_request, NamesBy, name_denial, after_request}, Next.told}
+use Rattle.vb_core.specs.Using.{use_denial}
+use Rattle.vb_monitor.specs.declared.{regions.Spot.Spot, giving.UsedSpots.UsedSpots}
+use Rattle.vb_monitor.specs.declared.{parts.Part.Part, outcome.Tally.Tally, orders.Used.Used}
+use Rattle.vb_monitor.specs.{Accesses.Access, Regions.spot, Ends.Whole, Pieces.CopiesParts}
+use Rattle.vb_monitor.specs.Giving.{Then, used_spots, used_accesses, UsedAt, GivesBack, GivesBackBy}
+use Rattle.vb_monitor.specs.{Giving.{with_given, after_use, AfterName}, Orders.giving}
+use Rattle.vb_monitor.specs.{Chains.{NamesBytes, AfterBytes}, Machine.{next_chain, served}}
+use Rattle.vb_monitor.specs.Notices.{TakesNext, AsksIndex, IndexAt, Looks, LooksBy, AfterGiven}
+use Rattle.vb_monitor.specs.Served.{looks_again, none_left}
+use Rattle.vb_monitor.proofs.{NextLemmas.copies_none, RoomLemmas.few_named}
+
+-- ---- a queue that is served stays so
+
+opened : (kind : Kind) (known fits : Bool) (d : Device) →
+    call_denial kind known fits true d ≡ None → queue_denial kind d ≡ None
+opened kind true true d e = e
+opened kind false fits d e = absurd cc
+opened kind true false d e = absurd cc
+
+open_taken : (kind : Kind) (d : Device) →
+    queue_denial kind (with_one_taken kind d) ≡ queue_denial kind d
+open_taken Inflate d = refl
+open_taken Deflate d = refl
+open_taken Statistics d = refl
+open_taken Report d = refl
+
+open_used : (kind : Kind) (d : Device) →
+    queue_denial kind (after_use kind d) ≡ queue_denial kind d
+open_used Inflate d = refl
+open_used Deflate d = refl
+open_used Statistics d = refl
+open_used Report d = refl
+
+avail_used : (kind : Kind) (d : Device) →
+    (ring_of kind (after_use kind d)).avail ≡ (ring_of kind d).avail
+avail_used Inflate d = refl
+avail_used Deflate d = refl
+avail_used Statistics d = refl
+avail_used Report d = refl
+
+-- ---- a chain is given back, and the queue looked at again
+
+again : (kind : Kind) (w : Whole) (looks : Then) (d : Device) (t : Tally) (log : List Access) →
+    looks_again kind ≡ true → looks d t log → AfterGiven kind w looks d t log
+again Inflate w looks d t log e h = h
+again Deflate w looks d t log e h = h
+again Statistics w looks d t log e h = absurd (grind arith)
+again Report w looks d t log e h = h
+
+looked : (w : Whole) (d : Device) (t : Tally) (at : Spot) (log : List Access) →
+    queue_denial w.kind d ≡ None → spot w.regions ((ring_of w.kind d).avail + 2) 2 ≡ Some at →
+    AsksIndex w (TakesNext t.chains w d t) d t at log → Looks t.chains w d t log
+looked w d t at log ready place h =
+    subst (λ (o : Option Denial). LooksBy o w (TakesNext t.chains w d t) d t log) (sym ready)
+    (subst (λ (o : Option Spot). IndexAt w (TakesNext t.chains w d t) d t o log) (sym place) h)
+
+may_use : (kind : Kind) (head : ℕ) (d : Device) → head < (ring_of kind d).size →
+    queue_denial kind d ≡ None → use_denial kind head d ≡ None
+may_use kind head d lt e =
+    let fits : nat_lt head (ring_of kind d).size ≡ true = grind (arith, nat_tests) in
+    ap (λ (b : Bool). call_denial kind true b true d) fits ∙ e
+
+pub given_goes : (w : Whole) (d d2 : Device) (t : Tally) (head : ℕ) (u : Used) (s : UsedSpots)
+    (at : Spot) (log : List Access) → looks_again w.kind ≡ true →
+    head < (ring_of w.kind d).size → queue_denial w.kind d ≡ None →
+    used_spots w.regions (used_entry (ring_of w.kind d) head) ≡ Some s →
+    spot w.regions ((ring_of w.kind d).avail + 2) 2 ≡ Some at → d2 ≡ after_use w.kind d →
+    giving true u ≡ used_accesses s (used_entry (ring_of w.kind d) head) →
+    AsksIndex w (TakesNext t.chains w d2 (with_given t)) d2 (with_given t) at log →
+    GivesBack w (next_chain w t) d t head (giving true u ++ log)
+given_goes w d d2 t head u s at log looks lt ready spots place after writes h =
+    let e = used_entry (ring_of w.kind d) head in
+    let used = after_use w.kind d in
+    let next = next_chain w t in
+    let looked_at : Looks t.chains w used (with_given t) log =
+    looked w used (with_given t) at log (open_used w.kind d ∙ ready)
+    (ap (λ (a : ℕ). spot w.regions (a + 2) 2) (avail_used w.kind d) ∙ place)
+    (subst (λ (x : Device). AsksIndex w (TakesNext t.chains w x (with_given t)) x (with_given t) at
+    log) after h) in
+    subst (λ (o : Option Denial). GivesBackBy o w next d t head (giving true u ++ log))
+    (sym (may_use w.kind head d lt ready))
+    (subst (λ (o : Option UsedSpots). UsedAt w (next used (with_given t)) used t e o
+    (giving true u ++ log)) (sym spots) (record {
+      rest = log;
+      asks = ap (λ (l : List Access). l ++ log) writes;
+      goes_on = again w.kind w (Looks t.chains w) used (with_given t) log looks looked_at;
+    }))
+
+-- ---- a request whose pages were named
+
+open_after : (answer : Result Named ChainFault) (kind : Kind) (d d2 : Device) (named : Named) →
+    Ok named ≡ told answer → d2 ≡ after_request kind answer d → queue_denial kind d ≡ None →
+    queue_denial kind d2 ≡ None
+open_after (Err f) kind d d2 named is after ready = absurd cc
+open_after (Ok x) kind d d2 named is after ready =
+    ap (λ (y : Device). queue_denial kind y) after ∙ (open_taken kind d ∙ ready)
+
+open_by : (o : Option Denial) (kind : Kind) (bytes : List ℕ) (room : ℕ) (runs : List Run)
+    (d d2 : Device) (named : Named) → name_denial kind (length bytes) room d ≡ o →
+    NamesBy kind bytes room runs d d2 (Ok named) → queue_denial kind d2 ≡ None
+open_by (Some why) kind bytes room runs d d2 named e n =
+    let wrong : Ok named ≡ Err why = (n.denied why e).0 in absurd cc
+open_by None kind bytes room runs d d2 named e n =
+    let (answer, are, is, after) = n.names e in
+    open_after answer kind d d2 named is after (opened kind (is_request kind)
+    (is_request_length (length bytes) && nat_le (length bytes / 4) room) d e)
+
+pub named_open : (kind : Kind) (bytes : List ℕ) (room : ℕ) (runs : List Run) (d d2 : Device)
+    (named : Named) → NamesBy kind bytes room runs d d2 (Ok named) → queue_denial kind d2 ≡ None
+named_open kind bytes room runs d d2 named n =
+    open_by (name_denial kind (length bytes) room d) kind bytes room runs d d2 named refl n
+
+pub ruleset named_steps = (few_named, named_open)
+
+by_bytes : (kind : Kind) (w : Whole) (next : Then) (d : Device) (t : Tally) (head : ℕ)
+    (bytes : List ℕ) (log : List Access) → is_request kind ≡ true →
+    NamesBytes w next d t head bytes log → AfterBytes kind w next d t head bytes log
+by_bytes Inflate w next d t head bytes log e h = h
+by_bytes Deflate w next d t head bytes log e h = h
+by_bytes Statistics w next d t head bytes log e h = absurd (grind arith)
+by_bytes Report w next d t head bytes log e h = absurd (grind arith)
+
+none_is : (parts : List Part) → none_left parts ≡ true → parts ≡ []
+none_is [] e = refl
+none_is (p ∷ ps) e = absurd (grind arith)
+
+-- its last part was copied
+pub request_goes : (w : Whole) (d d2 : Device) (t : Tally) (head : ℕ) (parts : List Part)
+    (bytes : List ℕ) (runs : List Run) (answer : Result Named Denial) (log : List Access) →
+    is_request w.kind ≡ true → none_left parts ≡ true →
+    NamesBy w.kind bytes MAX_REQUEST_PAGES runs d d2 answer →
+    AfterName w (next_chain w t) d2 t head runs answer log →
+    CopiesParts w (served w t d head) d t parts bytes log
+request_goes w d d2 t head parts bytes runs answer log request last names h =
+    copies_none w (served w t d head) d t parts bytes log (none_is parts last)
+    (by_bytes w.kind w (next_chain w t) d t head bytes log request (record {
+      answer = answer;
+      runs = runs;
+      device = d2;
+      names = names;
+      goes_on = h;
+    }))

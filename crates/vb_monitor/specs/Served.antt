@@ -1,0 +1,41 @@
+-- What is done at once of a chain whose pages were named.
+use Rattle.std.specs.Prelude.{ℕ, ◌+◌, Bool, true, false, ◌&&◌, nat_lt, List, [], ◌∷◌, take, Option}
+use Rattle.std.specs.Prelude.{None, is_some, if◌then◌else◌}
+use Rattle.vb_core.specs.declared.kinds.Kind.{Kind}
+use Rattle.vb_core.specs.declared.kinds.Kind.TheVariants.{Inflate, Deflate, Statistics, Report}
+use Rattle.vb_core.specs.declared.next.ChainPiece.{ChainPiece}
+use Rattle.vb_core.specs.declared.device.Device.{Device}
+use Rattle.vb_core.specs.Rings.{used_entry}
+use Rattle.vb_core.specs.Devices.{ring_of}
+use Rattle.vb_monitor.specs.declared.regions.Region.{Region}
+use Rattle.vb_monitor.specs.declared.regions.Spot.{Spot}
+use Rattle.vb_monitor.specs.declared.step.Place.{Place}
+use Rattle.vb_monitor.specs.declared.parts.Part.{Part}
+use Rattle.vb_monitor.specs.Regions.{spot}
+use Rattle.vb_monitor.specs.Giving.{used_spots}
+use Rattle.vb_monitor.specs.Pieces.{pieces_in}
+use Rattle.vb_monitor.specs.Machine.{behind_part}
+
+abbrev pub none_left : List Part → Bool
+none_left [] = true
+none_left (part ∷ parts) = false
+
+-- No byte of a chain's pieces is left to be copied behind this part of them.
+abbrev pub is_last : Place → List ChainPiece → Bool
+is_last place pieces =
+    none_left (behind_part place.is_second place.piece (pieces_in (take place.count pieces)))
+
+-- The queue of this kind is looked at again once a chain was given back.
+abbrev pub looks_again : Kind → Bool
+looks_again Inflate = true
+looks_again Deflate = true
+looks_again Statistics = false
+looks_again Report = true
+
+-- Where the index is read once the chain of this head was given back, where that is a descriptor's
+-- number, and all that is written for it is guest memory.
+abbrev pub look_place : List Region → Kind → ℕ → Device → Option Spot
+look_place regions kind head d =
+    if looks_again kind && nat_lt head (ring_of kind d).size
+    && is_some (used_spots regions (used_entry (ring_of kind d) head))
+    then spot regions ((ring_of kind d).avail + 2) 2 else None

@@ -1,0 +1,192 @@
+//! What is done at once of a chain whose pages were named: parts are discarded, it is given back,
+//! and the queue is looked at again.
+
+ghost use Rattle.std.specs.Prelude.{◌≡◌, ◌+◌, ◌<◌, ◌≤◌, ◌++◌, true, false, List, [], None};
+ghost use Rattle.std.specs.Prelude.{Some, IfSome, IfOk, length, take, drop};
+ghost use Rattle.vb_model.specs.declared.limits.TheConstants.{MAX_REQUEST_PAGES};
+ghost use Rattle.vb_core.specs.declared.runs.Run.{Run};
+ghost use Rattle.vb_core.specs.Name.{NamesBy};
+ghost use Rattle.vb_monitor.specs.declared.room.TheConstants.{MAX_RUNS};
+ghost use Rattle.vb_monitor.specs.declared.regions.Region.{Region};
+ghost use Rattle.vb_monitor.specs.Regions.{cuts_of};
+ghost use Rattle.vb_core.specs.declared.device.Device.{Device};
+ghost use Rattle.vb_core.specs.Config.{keeps_reports};
+ghost use Rattle.vb_core.specs.Devices.{queue_denial};
+ghost use Rattle.vb_monitor.specs.declared.cuts.NextCut.{NextCut};
+ghost use Rattle.vb_monitor.specs.declared.orders.TheConstants.{MAX_CUTS};
+ghost use Rattle.vb_monitor.specs.declared.outcome.Tally.{Tally};
+ghost use Rattle.vb_monitor.specs.declared.outcome.Outcome.{Outcome};
+ghost use Rattle.vb_monitor.specs.declared.step.Phase.TheVariants.{AwaitsIndex};
+ghost use Rattle.vb_monitor.specs.Accesses.{Access};
+ghost use Rattle.vb_monitor.specs.Giving.{GivesBack, cuts_for, with_given};
+ghost use Rattle.vb_monitor.specs.Machine.{Room, AheadAt, whole, next_chain};
+ghost use Rattle.vb_monitor.specs.Orders.{cuts_left, giving};
+ghost use Rattle.vb_monitor.specs.Pieces.{all_parts, pieces_in};
+ghost use Rattle.vb_monitor.specs.Machine.{behind_part};
+ghost use Rattle.vb_monitor.specs.Served.{look_place, is_last, none_left, looks_again};
+
+use crate::copying::first_bytes;
+use crate::cuts::first_cut;
+use crate::discards::first_runs;
+use crate::filling::{Filled, fill};
+use crate::giving::used_spots;
+use crate::orders::MAX_CUTS;
+use crate::parts::{next_part, second_part};
+use crate::pieces::first_pieces;
+use crate::regions::find_from;
+use crate::room::{MAX_BYTES, MAX_PIECES, MAX_RUNS};
+use crate::{Cut, Place, Region, Spot, Used};
+use vb_core::{ChainPiece, Denial, Device, Kind, Named, Run};
+
+/// Whether the pieces from this number on have no byte.
+fn none_from(pieces: &[ChainPiece], from: usize) -> bool
+    ensures { result ≡ none_left (all_parts (drop from (pieces_in pieces.now))) }
+{
+    match next_part(pieces, from) {
+        None => true,
+        Some(_) => false,
+    }
+}
+
+/// Whether no byte of these pieces is left to be copied behind one of the two parts of a piece.
+fn none_behind(pieces: &[ChainPiece], piece: usize, is_second: bool) -> bool
+    requires { piece < length pieces.now }
+    ensures { result ≡ none_left (behind_part is_second piece (pieces_in pieces.now)) }
+{
+    if is_second {
+        return none_from(pieces, piece + 1);
+    }
+    if second_part(&pieces[piece]).length > 0 {
+        return false;
+    }
+    none_from(pieces, piece + 1)
+}
+
+/// Whether no byte of a chain's pieces is left to be copied behind this part of them.
+pub fn is_last(place: &Place, pieces: &[ChainPiece; MAX_PIECES]) -> bool
+    ensures { result ≡ is_last place.now pieces.now }
+{
+    let chain = first_pieces(pieces, place.count);
+    if place.piece >= chain.len() {
+        return true;
+    }
+    none_behind(chain, place.piece, place.is_second)
+}
+
+/// Whether the queue of this kind is looked at again once a chain was given back.
+fn looks_again(kind: Kind) -> bool
+    ensures { result ≡ looks_again kind }
+{
+    match kind {
+        Kind::Inflate | Kind::Deflate | Kind::Report => true,
+        Kind::Statistics => false,
+    }
+}
+
+/// Whether what a kind's chains name is discarded.
+fn discards(device: &Device, kind: Kind) -> bool
+    ensures yes { result ≡ true → (regions : List Region) (runs : List Run) →
+        cuts_for kind (keeps_reports device.now) regions runs ≡ cuts_of regions runs }
+    ensures no { result ≡ false → (regions : List Region) (runs : List Run) →
+        cuts_for kind (keeps_reports device.now) regions runs ≡ [] }
+{
+    match kind {
+        Kind::Inflate => true,
+        Kind::Report => !device.keeps_reports(),
+        Kind::Deflate | Kind::Statistics => false,
+    }
+}
+
+/// Names the pages of a request, whose bytes are the first ones, so many.
+#[tactic(auto, using(crate::proofs::ServedLemmas::named_steps))]
+pub fn name_copied(
+    device: &mut Device,
+    kind: Kind,
+    bytes: &[u8; MAX_BYTES],
+    count: usize,
+    runs: &mut [Run; MAX_RUNS],
+) -> Result<Named, Denial>
+    ensures names { NamesBy kind (take count bytes.now) MAX_REQUEST_PAGES runs.new device.old
+        device.new result }
+    ensures few { IfOk result (λ named. named.runs ≤ MAX_RUNS) }
+    ensures ready { IfOk result (λ named. queue_denial kind device.new ≡ None) }
+{
+    device.name(kind, first_bytes(bytes, count), runs)
+}
+
+/// Puts the parts of the first runs, so many, into the list, as many as have room, where they are
+/// to be discarded.
+pub fn fill_named(
+    device: &Device,
+    regions: &[Region],
+    kind: Kind,
+    runs: &[Run; MAX_RUNS],
+    count: u32,
+    cuts: &mut [Cut; MAX_CUTS],
+) -> Filled
+    ensures few { result.count ≤ MAX_CUTS }
+    ensures full { (x : NextCut) → result.left ≡ Some x → result.count ≡ MAX_CUTS }
+    ensures parts { cuts_for kind (keeps_reports device.now) regions.now (take count runs.now) ≡
+        take result.count cuts.new ++ cuts_left regions.now (take count runs.now) result.left }
+{
+    let named = first_runs(runs, count as usize);
+    if !discards(device, kind) {
+        return Filled {
+            count: 0,
+            left: None,
+        };
+    }
+    match first_cut(regions, named, 0) {
+        None => Filled {
+            count: 0,
+            left: None,
+        },
+        Some(first) => fill(regions, named, &first, cuts),
+    }
+}
+
+/// Gives the chain of this head back, of a queue that is served, and says where its index is read
+/// next; nothing is changed where a part of it is no guest memory.
+pub fn give_and_look(
+    device: &mut Device,
+    regions: &[Region],
+    kind: Kind,
+    head: u16,
+    used: &mut Used,
+) -> Option<Spot>
+    requires { queue_denial kind device.old ≡ None }
+    ensures place { result ≡ look_place regions.now kind head device.old }
+    ensures goes { IfSome result (λ at. (tally : Tally) (after : Device) (outcome : Outcome)
+        (room : Room) (rest : List Access) →
+        AheadAt (AwaitsIndex at) (whole regions.now kind after outcome) (with_given tally)
+        device.new room rest →
+        GivesBack (whole regions.now kind after outcome)
+        (next_chain (whole regions.now kind after outcome) tally) device.old tally head
+        (giving true used.new ++ rest)) }
+    ensures stays { result ≡ None → device.new ≡ device.old }
+{
+    if !looks_again(kind) {
+        return None;
+    }
+    let ring = device.ring(kind);
+    if head >= ring.size {
+        return None;
+    }
+    let entry = device.used_entry(kind, u32::from(head));
+    match used_spots(regions, &entry) {
+        None => None,
+        Some(spots) => match find_from(regions, ring.avail, 2, 2) {
+            None => None,
+            Some(at) => {
+                device.count_used(kind);
+                *used = Used {
+                    spots,
+                    id: entry.id,
+                    length: entry.length,
+                    index: entry.index,
+                };
+                Some(at)
+            }
+        },
+    }
+}
