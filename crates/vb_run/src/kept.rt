@@ -1,6 +1,6 @@
 //! What a guest's lock keeps.
 
-ghost use Rattle.std.specs.Prelude.{◌≡◌, ◌<◌, ℕ, true, false, List, [], ◌∷◌, ◌++◌};
+ghost use Rattle.std.specs.Prelude.{◌≡◌, ◌<◌, ◌≤◌, ℕ, true, false, List, [], ◌∷◌, ◌++◌};
 ghost use Rattle.std.specs.Prelude.{slice_index_or, IfOk, OnOk, Some, IfSome, IfNone};
 ghost use Rattle.std.specs.Prelude.{MatchBool, MatchOption, slice_set};
 ghost use Rattle.vb_model.specs.declared.calls.Actor.TheVariants.{Balancer};
@@ -25,6 +25,7 @@ use crate::round::Round;
 use crate::script::{Script, all_ended, are_of};
 use crate::served::{SERVICES, found_nothing, service};
 use std::alloc::{AllocError, Global};
+use std::convert::AsSlice;
 use std::marker::Model;
 use std::sync::Wait;
 use vb_balance::GuestNeed;
@@ -33,9 +34,12 @@ use vb_model::{Actor, Call, Claim, Reply};
 use vb_ram::Config;
 use vb_slot::GuestSlot;
 
+/// Entries that have room however short the scripts are.
+const FEW_ENTRIES: usize = 64;
+
 /// A guest with its history, and the scripts of its processors.
 #[derive(Drop)]
-pub(crate) struct Kept<S: GuestSlot> {
+pub(crate) struct Kept<S: GuestSlot, L: AsSlice<Call> + Drop> {
     guest: u32,
     sizes: Config,
     paced: bool,
@@ -43,14 +47,14 @@ pub(crate) struct Kept<S: GuestSlot> {
     history: Vec<Entry>,
     /// Where the claims of the next call are noted.
     room: Vec<Claim>,
-    scripts: Vec<Script>,
+    scripts: Vec<Script<L>>,
     /// The worker's calls that are known to find nothing to do.
     quiet: [bool; SERVICES],
     /// A growth was refused while threads ran.
     short: bool,
 }
 
-impl<S: GuestSlot> Model for Kept<S> {
+impl<S: GuestSlot, L: AsSlice<Call> + Drop> Model for Kept<S, L> {
     ghost use Rattle.vb_run.specs.Past.{Past, IsKept};
 
     ghost Value = { Past };
@@ -77,7 +81,7 @@ impl<S: GuestSlot> Model for Kept<S> {
 }
 
 /// How many calls the scripts have.
-fn count_calls(scripts: &[Script]) -> usize {
+fn count_calls<L: AsSlice<Call> + Drop>(scripts: &[Script<L>]) -> usize {
     let mut count: usize = 0;
     for script in scripts {
         count = count.saturating_add(script.len());
@@ -85,7 +89,16 @@ fn count_calls(scripts: &[Script]) -> usize {
     count
 }
 
-impl<S: GuestSlot> Kept<S> {
+/// How many entries have room from the start, where the scripts have so many calls: as many again
+/// for the worker and the balancer, since a history that grows is copied while its guest waits, and
+/// room that isn't used takes no memory.
+fn room_for(calls: usize) -> usize
+    ensures { 1 ≤ result }
+{
+    calls.saturating_mul(2).saturating_add(FEW_ENTRIES)
+}
+
+impl<S: GuestSlot, L: AsSlice<Call> + Drop> Kept<S, L> {
     /// Starts a guest that was just plugged in, on a device that is, or isn't, paced.
     pub fn start(
         alloc: Global,
@@ -93,8 +106,8 @@ impl<S: GuestSlot> Kept<S> {
         sizes: Config,
         paced: bool,
         slot: S,
-        scripts: Vec<Script>,
-    ) -> Result<Kept<S>, AllocError>
+        scripts: Vec<Script<L>>,
+    ) -> Result<Kept<S, L>, AllocError>
         requires config { is_config sizes.pages sizes.queue_size sizes.processors ≡ true }
         requires fresh { S.stands slot (fresh (config_of sizes paced) 0) }
         requires begun { AreBegun scripts.items }
@@ -103,7 +116,7 @@ impl<S: GuestSlot> Kept<S> {
     {
         let mut slot = slot;
         let mut history = Vec::new(alloc);
-        history.reserve(count_calls(scripts.as_slice()).saturating_add(1))?;
+        history.reserve(room_for(count_calls(scripts.as_slice())))?;
         let mut room = Vec::new(alloc);
         make_room(&mut room)?;
         let call = Call::Init {
@@ -268,6 +281,16 @@ impl<S: GuestSlot> Kept<S> {
         Ok(())
     }
 
+    /// Whether it is the guest of this number and size, on a device of this pace.
+    #[tactic(auto, using(crate::proofs::Closing::same_config))]
+    fn is_guest(&self, guest: u32, paced: bool, sizes: Config) -> bool
+        ensures guest { result ≡ true → self.now.guest ≡ guest }
+        ensures paced { result ≡ true → self.now.paced ≡ paced }
+        ensures sizes { result ≡ true → self.now.sizes ≡ sizes }
+    {
+        self.guest == guest && self.paced == paced && self.sizes == sizes
+    }
+
     /// Ends the run of a guest: its report, if what its lock kept is the plan's and the rounds'.
     pub fn close<R: Wait>(
         self,
@@ -284,7 +307,7 @@ impl<S: GuestSlot> Kept<S> {
     {
         let mut kept = self;
         kept.drain(rt, alloc)?;
-        if kept.guest != guest || kept.paced != paced || kept.sizes != plan.config {
+        if !kept.is_guest(guest, paced, plan.config) {
             return Err(Stop::Audit);
         }
         if !are_of(kept.scripts.as_slice(), plan.scripts.as_slice()) {

@@ -19,33 +19,37 @@ use crate::round::Round;
 use crate::script::Script;
 use crate::threads::{Seat, run_all};
 use std::alloc::{AllocError, Global};
+use std::convert::AsSlice;
 use std::sync::{Mutex, Wait};
 use std::thread::Threads;
 use vb_model::Call;
 use vb_slot::{GuestPort, GuestSlot};
 
-/// The scripts of a guest's processors, of which no call was made.
-fn scripts_of(alloc: Global, calls: &[Vec<Call>]) -> Result<Vec<Script>, AllocError>
+/// The scripts of a guest's processors, where they stand, of which no call was made.
+fn scripts_of<'p>(
+    alloc: Global,
+    calls: &'p [Vec<Call>],
+) -> Result<Vec<Script<&'p [Call]>>, AllocError>
     requires { are_scripts 0 calls.now ≡ true }
     ensures begun { IfOk result (λ scripts. AreBegun scripts.items) }
     ensures calls { IfOk result (λ scripts. AreScripts scripts.items calls.now) }
 {
     let mut scripts = Vec::new(alloc);
     for own in calls {
-        scripts.push(Script::new(alloc, own.as_slice())?)?;
+        scripts.push(Script::new(own.as_slice()))?;
     }
     Ok(scripts)
 }
 
 /// A guest as it was plugged in, on a device that is, or isn't, paced: started, and behind its
 /// lock.
-fn seat_of<S: GuestSlot>(
+fn seat_of<'p, S: GuestSlot>(
     alloc: Global,
     guest: u32,
-    plan: &GuestPlan,
+    plan: &'p GuestPlan,
     paced: bool,
     slot: S,
-) -> Result<Seat<S>, AllocError>
+) -> Result<Seat<S, &'p [Call]>, AllocError>
     requires plan { is_guest_plan plan.now ≡ true }
     requires fresh { S.stands slot (fresh (config_of plan.now.config paced) 0) }
     ensures guest { IfOk result (λ seat. seat.guest ≡ guest) }
@@ -65,12 +69,12 @@ fn seat_of<S: GuestSlot>(
 }
 
 /// A guest of the plan, plugged in at a port and started.
-fn seat_at<P: GuestPort>(
+fn seat_at<'p, P: GuestPort>(
     alloc: Global,
     guest: u32,
-    plan: &GuestPlan,
+    plan: &'p GuestPlan,
     port: P,
-) -> Result<Seat<P::Slot>, AllocError>
+) -> Result<Seat<P::Slot, &'p [Call]>, AllocError>
     requires plan { is_guest_plan plan.now ≡ true }
     requires waits { P.waits port }
     ensures guest { IfOk result (λ seat. seat.guest ≡ guest) }
@@ -83,11 +87,11 @@ fn seat_at<P: GuestPort>(
 }
 
 /// The guests, each plugged in at the port of its place and started.
-fn seats_of<P: GuestPort>(
+fn seats_of<'p, P: GuestPort>(
     alloc: Global,
-    plan: &[GuestPlan],
+    plan: &'p [GuestPlan],
     ports: Vec<P>,
-) -> Result<Vec<Seat<P::Slot>>, AllocError>
+) -> Result<Vec<Seat<P::Slot, &'p [Call]>>, AllocError>
     requires plan { list_all is_guest_plan plan.now ≡ true }
     requires count { length ports.items ≡ length plan.now }
     requires waits { All P.waits ports.items }
@@ -107,14 +111,14 @@ fn seats_of<P: GuestPort>(
 }
 
 /// The report of one guest, whose lock is opened for good.
-fn report_of<S: GuestSlot, R: Wait>(
+fn report_of<S: GuestSlot, L: AsSlice<Call> + Drop, R: Wait>(
     rt: &R,
     alloc: Global,
     guest: u32,
     plan: &GuestPlan,
     floor: u32,
     rounds: &[Round],
-    seat: Seat<S>,
+    seat: Seat<S, L>,
 ) -> Result<GuestReport, Stop>
     ensures { IfOk result (IsGuestReport floor guest plan.now seat.paced rounds.now) }
 {
@@ -124,13 +128,13 @@ fn report_of<S: GuestSlot, R: Wait>(
 }
 
 /// The report of each guest.
-fn reports_of<S: GuestSlot, R: Wait>(
+fn reports_of<S: GuestSlot, L: AsSlice<Call> + Drop, R: Wait>(
     rt: &R,
     alloc: Global,
     plan: &[GuestPlan],
     floor: u32,
     rounds: &[Round],
-    seats: Vec<Seat<S>>,
+    seats: Vec<Seat<S, L>>,
 ) -> Result<Vec<GuestReport>, Stop>
     ensures len { IfOk result (λ reports. length reports.items ≡ length plan.now) }
     ensures each { IfOk result (λ reports. (g : ℕ) (r : _) (p : _) (s : _)

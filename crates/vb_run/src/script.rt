@@ -1,44 +1,37 @@
 //! A processor's script, and its place in it.
 
 ghost use Rattle.std.specs.Prelude.{◌≡◌, ◌↔◌, ◌==◌, ◌+◌, ◌≤◌, ◌<◌, length, slice_get, true, Some};
-ghost use Rattle.std.specs.Prelude.{IfSome, IfNone, IfOk, All};
+ghost use Rattle.std.specs.Prelude.{IfSome, IfNone, All};
 ghost use Rattle.vb_run.specs.Past.{Progress, AllEnded, AreScripts};
 
-use std::alloc::{AllocError, Global};
+use std::convert::AsSlice;
 use std::marker::Model;
 use vb_model::Call;
 
-/// The calls of a processor, and how many of them were made.
+/// The calls of a processor, where they stand, and how many of them were made.
 #[derive(Drop)]
-pub(crate) struct Script {
-    calls: Vec<Call>,
+pub(crate) struct Script<L: AsSlice<Call> + Drop> {
+    calls: L,
     place: usize,
 }
 
-impl Model for Script {
+impl<L: AsSlice<Call> + Drop> Model for Script<L> {
     ghost use Rattle.std.specs.Prelude.{◌≤◌, length};
     ghost use Rattle.vb_run.specs.Past.{Progress};
 
     ghost Value = { Progress };
 
-    ghost view = { λ s. record { calls = s.calls.items; place = s.place } };
+    ghost view = { λ s. record { calls = L.items s.calls; place = s.place } };
 
-    ghost invariant = { λ s. s.place ≤ length s.calls.items };
+    ghost invariant = { λ s. s.place ≤ length (L.items s.calls) };
 }
 
-impl Script {
-    /// A copy of these calls, of which none was made.
-    pub fn new(alloc: Global, calls: &[Call]) -> Result<Script, AllocError>
-        ensures { IfOk result (λ s. s ≡ record { calls = calls.now; place = 0 }) }
+impl<L: AsSlice<Call> + Drop> Script<L> {
+    /// These calls, of which none was made.
+    pub fn new(calls: L) -> Script<L>
+        ensures { result ≡ record { calls = L.items calls; place = 0 } }
     {
-        let mut copied = Vec::new(alloc);
-        for call in calls {
-            copied.push(call.copy(alloc)?)?;
-        }
-        Ok(Script {
-            calls: copied,
-            place: 0,
-        })
+        Script { calls, place: 0 }
     }
 
     /// The call that is next.
@@ -47,7 +40,7 @@ impl Script {
             × (slice_get self.now.calls self.now.place ≡ Some call.now)) }
         ensures none { IfNone result (self.now.place ≡ length self.now.calls) }
     {
-        self.calls.get(self.place)
+        self.calls.as_slice().get(self.place)
     }
 
     /// The next call was made.
@@ -55,6 +48,7 @@ impl Script {
         requires { self.old.place < length self.old.calls }
         ensures { self.new ≡ record self.old { place = self.old.place + 1 } }
     {
+        let _calls = self.calls.as_slice().len();
         self.place += 1;
     }
 
@@ -69,19 +63,19 @@ impl Script {
     pub fn len(&self) -> usize
         ensures { result ≡ length self.now.calls }
     {
-        self.calls.len()
+        self.calls.as_slice().len()
     }
 
     /// Whether all calls were made.
     pub fn is_ended(&self) -> bool
         ensures { result ≡ (self.now.place == length self.now.calls) }
     {
-        self.place == self.calls.len()
+        self.place == self.calls.as_slice().len()
     }
 }
 
 /// Whether all calls of all scripts were made.
-pub(crate) fn all_ended(scripts: &[Script]) -> bool
+pub(crate) fn all_ended<L: AsSlice<Call> + Drop>(scripts: &[Script<L>]) -> bool
     ensures { (result ≡ true) ↔ AllEnded scripts.now }
 {
     for script in scripts {
@@ -93,7 +87,7 @@ pub(crate) fn all_ended(scripts: &[Script]) -> bool
 }
 
 /// Whether the calls of each script are those at its place.
-pub(crate) fn are_of(scripts: &[Script], calls: &[Vec<Call>]) -> bool
+pub(crate) fn are_of<L: AsSlice<Call> + Drop>(scripts: &[Script<L>], calls: &[Vec<Call>]) -> bool
     ensures { (result ≡ true) ↔ AreScripts scripts.now calls.now }
 {
     if scripts.len() != calls.len() {

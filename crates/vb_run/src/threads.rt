@@ -9,24 +9,25 @@ use crate::plan::{Bells, GuestPlan, Plan};
 use crate::round::Round;
 use crate::served::{SERVICES, found_nothing};
 use std::alloc::Global;
+use std::convert::AsSlice;
 use std::sync::{Mutex, Wait};
 use std::thread;
 use std::thread::Threads;
 use vb_balance::GuestNeed;
 use vb_model::limits::MAX_GUESTS;
-use vb_model::{Actor, Reply};
+use vb_model::{Actor, Call, Reply};
 use vb_slot::GuestSlot;
 
 /// A guest behind its lock, with its doorbell.
 #[derive(Drop)]
-pub(crate) struct Seat<S: GuestSlot> {
+pub(crate) struct Seat<S: GuestSlot, L: AsSlice<Call> + Drop> {
     /// The guest's number.
     pub guest: u32,
     /// Whether its device is paced.
     pub paced: bool,
     /// How many processors it has.
     pub processors: u32,
-    pub lock: Mutex<Kept<S>>,
+    pub lock: Mutex<Kept<S, L>>,
     pub bell: Bell,
 }
 
@@ -64,10 +65,10 @@ fn calls_of(plan: &Plan, guest: u32, cpu: u32) -> u64 {
 }
 
 /// The calls of one processor, in order.
-fn run_processor<S: GuestSlot, G: Gate, R: Wait>(
+fn run_processor<S: GuestSlot, L: AsSlice<Call> + Drop, G: Gate, R: Wait>(
     rt: &R,
     alloc: Global,
-    seat: &Seat<S>,
+    seat: &Seat<S, L>,
     plan: &Plan,
     gate: &G,
     cpu: u32,
@@ -97,10 +98,10 @@ fn run_processor<S: GuestSlot, G: Gate, R: Wait>(
 }
 
 /// A worker's calls until none of them finds anything to do: how many calls it has made then.
-fn make_pass<S: GuestSlot, G: Gate, R: Wait>(
+fn make_pass<S: GuestSlot, L: AsSlice<Call> + Drop, G: Gate, R: Wait>(
     rt: &R,
     alloc: Global,
-    seat: &Seat<S>,
+    seat: &Seat<S, L>,
     gate: &G,
     first: u64,
 ) -> u64 {
@@ -132,7 +133,12 @@ fn make_pass<S: GuestSlot, G: Gate, R: Wait>(
 
 /// A pass at the start, one whenever the doorbell was rung since the last was begun, however often,
 /// and one once the guest's processors have ended.
-fn run_worker<S: GuestSlot, G: Gate, R: Wait>(rt: &R, alloc: Global, seat: &Seat<S>, gate: &G) {
+fn run_worker<S: GuestSlot, L: AsSlice<Call> + Drop, G: Gate, R: Wait>(
+    rt: &R,
+    alloc: Global,
+    seat: &Seat<S, L>,
+    gate: &G,
+) {
     let mut number = make_pass(rt, alloc, seat, gate, 0);
     let mut seen = 0;
     for _ in rt.forever() {
@@ -146,10 +152,10 @@ fn run_worker<S: GuestSlot, G: Gate, R: Wait>(rt: &R, alloc: Global, seat: &Seat
 }
 
 /// What the balancer sees of each guest.
-fn looks<S: GuestSlot, R: Wait>(
+fn looks<S: GuestSlot, L: AsSlice<Call> + Drop, R: Wait>(
     rt: &R,
     alloc: Global,
-    seats: &[Seat<S>],
+    seats: &[Seat<S, L>],
     floor: u32,
 ) -> Option<Vec<GuestNeed>>
     ensures { IfSome result (λ needs. length needs.items ≡ length seats.now) }
@@ -163,10 +169,10 @@ fn looks<S: GuestSlot, R: Wait>(
 }
 
 /// Sets each guest's target.
-fn set_targets<S: GuestSlot, R: Wait>(
+fn set_targets<S: GuestSlot, L: AsSlice<Call> + Drop, R: Wait>(
     rt: &R,
     alloc: Global,
-    seats: &[Seat<S>],
+    seats: &[Seat<S, L>],
     targets: &[u32],
 ) -> Option<()> {
     for (seat, target) in seats.iter().zip(targets.iter()) {
@@ -176,10 +182,10 @@ fn set_targets<S: GuestSlot, R: Wait>(
 }
 
 /// One round; none where memory was refused.
-fn make_round<S: GuestSlot, R: Wait>(
+fn make_round<S: GuestSlot, L: AsSlice<Call> + Drop, R: Wait>(
     rt: &R,
     alloc: Global,
-    seats: &[Seat<S>],
+    seats: &[Seat<S, L>],
     plan: &Plan,
 ) -> Option<Round> {
     if seats.len() > MAX_GUESTS as usize {
@@ -194,10 +200,10 @@ fn make_round<S: GuestSlot, R: Wait>(
 }
 
 /// The plan's rounds; where memory is refused there are fewer.
-fn run_balancer<S: GuestSlot, G: Gate, R: Wait>(
+fn run_balancer<S: GuestSlot, L: AsSlice<Call> + Drop, G: Gate, R: Wait>(
     rt: &R,
     alloc: Global,
-    seats: &[Seat<S>],
+    seats: &[Seat<S, L>],
     plan: &Plan,
     gate: &G,
     rounds: &Mutex<Vec<Round>>,
@@ -225,13 +231,12 @@ pub(crate) struct Ended {
 
 /// Starts a thread for each processor, each worker and the balancer, and returns once all have
 /// ended.
-pub(crate) fn run_all<S: GuestSlot + Send, G: Gate, R: Threads + Wait + Sync>(
-    rt: &R,
-    alloc: Global,
-    seats: &[Seat<S>],
-    plan: &Plan,
-    gate: &G,
-) -> Ended {
+pub(crate) fn run_all<
+    S: GuestSlot + Send,
+    L: AsSlice<Call> + Send + Drop,
+    G: Gate,
+    R: Threads + Wait + Sync,
+>(rt: &R, alloc: Global, seats: &[Seat<S, L>], plan: &Plan, gate: &G) -> Ended {
     let rounds = Mutex::new(Vec::new(alloc));
     let noted = &rounds;
     let all_made = thread::scope(thread::scope_env(), rt, |scope| {
