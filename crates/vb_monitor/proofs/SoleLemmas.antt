@@ -124,34 +124,6 @@ sole_so rs n d s lt is e alone = (
       (subst (λ (x : Sole). is_shared x rs ≡ false) e alone)),
 )
 
--- what stands at a number in the list
-pub sole_by : (rs : List Region) (n : ℕ) (d : Region) (possible shared : Bool) → n < length rs →
-    is_region (get_or rs n d) ≡ possible → is_shared (pages_of n (get_or rs n d)) rs ≡ shared →
-    sole_of rs n ≡ (if possible && not shared then Some (pages_of n (get_or rs n d)) else None)
-sole_by rs n d possible shared lt is e =
-    let r : Region = get_or rs n d in
-    ap (λ (o : Option Region). option_and_then (sole_if n rs) o) (slice_get-get_or rs n d lt)
-    ∙ (ap (λ (b : Bool). if b && not (is_shared (pages_of n r) rs) then Some (pages_of n r) else None) is
-    ∙ ap (λ (b : Bool). if possible && not b then Some (pages_of n r) else None) e)
-
-pub none_past : (rs : List Region) (n : ℕ) → length rs ≤ n → None ≡ sole_of rs n
-none_past rs n le =
-    ap (λ (o : Option Region). option_and_then (sole_if n rs) o) (sym (slice_get_past rs n le))
-
--- the regions before one, and those behind it
-pub shared_by : (s : Sole) (rs : List Region) (before behind : Bool) →
-    list_any (has_page s.first s.end) (take s.region rs) ≡ before →
-    list_any (has_page s.first s.end) (take (length rs - (s.region + 1)) (drop (s.region + 1) rs)) ≡
-    behind → is_shared s rs ≡ (before || behind)
-shared_by s rs before behind e f =
-    let all : take (length rs - (s.region + 1)) (drop (s.region + 1) rs) ≡ drop (s.region + 1) rs =
-    take_all (length rs - (s.region + 1)) (drop (s.region + 1) rs)
-    (omega (arith, length-drop (s.region + 1) rs)) in
-    list_any-append (has_page s.first s.end) (take s.region rs) (drop (s.region + 1) rs)
-    ∙ (ap (λ (b : Bool). b || list_any (has_page s.first s.end) (drop (s.region + 1) rs)) e
-    ∙ ap (λ (b : Bool). before || b)
-    (ap (λ (l : List Region). list_any (has_page s.first s.end) l) (sym all) ∙ f))
-
 -- ---- a list of parts
 
 pub one_filled : (s : Sole) (rs : List Region) (runs : List Run) (all cuts : List Cut) (n : ℕ)
