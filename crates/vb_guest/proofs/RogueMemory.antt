@@ -1,34 +1,34 @@
 -- Bytes of a guest's pages that are written past its driver, and those that a rogue guest writes.
 use Rattle.std.specs.Prelude.{◌≡◌, ◌≢◌, ℕ, ◌<◌, Bool, true, false, List, [], ◌∷◌, length, Option}
-use Rattle.std.{specs.Prelude.{Some, None, All, is_some, ◌≤◌, refl}, proofs.lemmas.Bool.cases_eq}
-use Rattle.std.proofs.Common.{sym, ◌∙◌, ap, subst, arith, inl, inr}
-use Rattle.vb_model.{proofs.Wanting.{wants, not_refused_pages, refused_backs}, specs.Driver.given}
-use Rattle.vb_model.specs.{Driver.{claim_refusal, AreClaimsFor, pages_needed}, FirstRefusal.◌⇒◌}
-use Rattle.vb_model.specs.{FirstRefusal.first_refusal, Guest.{Guest, frame_of, backed, all_backed}}
-use Rattle.vb_model.specs.{Guest.is_ballooned, Layout.reserved_pages, Pages.{place_of, is_used}}
-use Rattle.vb_model.specs.{Refusals.{refusal_of, is_outside}, Requests.Request, Rogue.LosesFrames}
-use Rattle.vb_model.specs.Rogue.{pages_to_back, unless_refused, with_fault, GuestStep}
-use Rattle.vb_model.specs.{Status.{contains, driver_ok}, Step.HonestStep}
+use Rattle.std.specs.Prelude.{Some, None, All, is_some, ◌≤◌, refl, Err}
+use Rattle.std.proofs.{Common.{sym, ◌∙◌, ap, subst, arith, inl, inr}, lemmas.Bool.cases_eq}
+use Rattle.vb_model.specs.Rogue.{LosesFrames, pages_to_back, unless_refused, with_fault, GuestStep}
+use Rattle.vb_model.specs.Driver.{given, claim_refusal, AreClaimsFor, pages_needed}
+use Rattle.vb_model.specs.Guest.{Guest, frame_of, backed, all_backed, is_ballooned}
+use Rattle.vb_model.specs.declared.replies.{Refusal.TheVariants.{OutOfRam, NotHeld}, Reply.Reply}
 use Rattle.vb_model.specs.declared.calls.{Call.TheVariants.{Read, Write, Scribble}, Claim.Claim}
-use Rattle.vb_model.specs.declared.calls.Claim.TheVariants.{Gave, GaveNoFrame, GaveNoMemory}
-use Rattle.vb_model.specs.declared.replies.Refusal.{Refusal, TheVariants.{OutOfRam, NotHeld}}
-use Rattle.vb_model.specs.declared.replies.Reply.{Reply, TheVariants.{Done, Refused}}
+use Rattle.vb_model.proofs.Wanting.{wants, not_refused_pages, refused_backs}
+use Rattle.vb_model.specs.declared.replies.{Reply.TheVariants.{Done, Refused}, Refusal.Refusal}
+use Rattle.vb_model.specs.{declared.calls.Claim.TheVariants.Gave, FirstRefusal.{◌⇒◌, first_refusal}}
+use Rattle.vb_model.specs.{Refusals.{refusal_of, is_outside}, Status.{contains, driver_ok}}
+use Rattle.vb_model.specs.{Pages.{place_of, is_used}, Layout.reserved_pages, Requests.Request}
+use Rattle.vb_model.specs.Step.{HonestStep}
 use Rattle.vb_ram.specs.{Pages.{Pages, frame_at, number_of, Covers, Wrote, Supplied}, Part.Part}
-use Rattle.vb_frames.specs.declared.keeper.Refused.TheVariants.{NoFrame, Memory}
+use Rattle.vb_frames.specs.{declared.keeper.Refused.TheVariants.{NoFrame, Memory}, Out.claim_in}
 use Rattle.vb_driver.specs.State.{DriverState}
 use Rattle.vb_guest.proofs.Rogues.{driver_same, device_alike, keeps_part, rogue_after}
 use Rattle.vb_guest.proofs.Rogues.{kept_of_rogue, rogue_unchanged, left_by, no_refusal}
 use Rattle.vb_guest.proofs.Rogues.{keeps_status, without_fault, rogue_stands, rogue_alone}
+use Rattle.vb_guest.proofs.Rogues.{rogue_steps, rogue_unclaimed, nothing_backed}
 use Rattle.vb_guest.proofs.Standing.{by_guest, rogue_is, stands_with, stands_of, own_moved}
+use Rattle.vb_guest.proofs.{Standing.{alone_stands, over_stands}, SweepStep.ballooned_free}
 use Rattle.vb_guest.proofs.WriteStep.{inside_is, outside_is, needs_one, refusal_of_claim}
 use Rattle.vb_guest.specs.Supply.{supply_of, AreClaimed, IsClaimed, Moves, nothing}
 use Rattle.vb_guest.specs.Stands.{Honest, IsOwnRequest, IsRogueUp, Rogue, Stands}
-use Rattle.vb_guest.proofs.Rogues.{rogue_steps, rogue_unclaimed, nothing_backed}
-use Rattle.vb_guest.proofs.Closing.{guest_step, refused_alone, honest_own}
+use Rattle.vb_guest.proofs.{Closing.{guest_step, refused_alone, honest_own}, Freed.down_not_ok}
 use Rattle.vb_guest.{specs.Steps.{backing_count, StepsAlone, StepsOver}, proofs.OwnBlocks.own_pages}
-use Rattle.vb_guest.{proofs.Writing.{frames_supplied, count_backed}, proofs.Freed.down_not_ok}
-use Rattle.vb_guest.{proofs.Standing.{alone_stands, over_stands}, proofs.SweepStep.ballooned_free}
-use Rattle.vb_guest.{proofs.Moving.{moves_as, times_one}, proofs.Offered.high_page}
+use Rattle.vb_guest.proofs.{Writing.{frames_supplied, count_backed}, Moving.{moves_as, times_one}}
+use Rattle.vb_guest.proofs.Offered.{high_page}
 use Rattle.vb_model.specs.declared.replies.Refusal.TheVariants.{NoFrame as NoFrameLeft}
 use Rattle.vb_frames.specs.declared.keeper.Refused.{Refused as KeeperRefused}
 
@@ -231,13 +231,8 @@ write_supplied_rogue Answers out1 out2 m1 m2 m3 m4 p1 p2 p3 p4 d g page off fram
           (omega (arith, covers.page, rogue.length_is, rogue.framed)) bare_too refl;
     }
 
--- how a refused claim is noted
-abbrev pub claim_of : KeeperRefused → Claim
-claim_of NoFrame = GaveNoFrame
-claim_of Memory = GaveNoMemory
-
-refused_for : (why : KeeperRefused) (page : ℕ) → AreClaimsFor (page ∷ []) (claim_of why ∷ [])
-    × (claim_refusal (claim_of why ∷ []) ≡ Some (refusal_of_claim why))
+refused_for : (why : KeeperRefused) (page : ℕ) → AreClaimsFor (page ∷ []) (claim_in (Err why) ∷ [])
+    × (claim_refusal (claim_in (Err why) ∷ []) ≡ Some (refusal_of_claim why))
 refused_for NoFrame page = (refl, refl)
 refused_for Memory page = (refl, refl)
 
@@ -247,19 +242,19 @@ claim_fault NoFrame g = refl
 claim_fault Memory g = refl
 
 refused_claimed : (Answers : List Bool → Claim → Type 0) (out1 out2 : List Bool) (p1 p2 : Part)
-    (why : KeeperRefused) → IsClaimed Answers (supply_of p1 out1) (supply_of p2 out2) (claim_of why)
-    → AreClaimed Answers (supply_of p1 out1) (claim_of why ∷ [])
+    (why : KeeperRefused) → IsClaimed Answers (supply_of p1 out1) (supply_of p2 out2) (claim_in (Err why))
+    → AreClaimed Answers (supply_of p1 out1) (claim_in (Err why) ∷ [])
     × Moves (supply_of p1 out1) (supply_of p2 out2) nothing nothing
 refused_claimed Answers out1 out2 p1 p2 NoFrame a = ((supply_of p2 out2, a, refl), a.moves)
 refused_claimed Answers out1 out2 p1 p2 Memory a = ((supply_of p2 out2, a, refl), a.moves)
 
 pub write_unsupplied_rogue : (Answers : List Bool → Claim → Type 0) (out1 out2 : List Bool)
     (m1 m2 : Pages) (p1 p2 : Part) (d : DriverState) (g : Guest) (page off : ℕ) (bs : List ℕ)
-    (why : KeeperRefused) → IsClaimed Answers (supply_of p1 out1) (supply_of p2 out2) (claim_of why)
+    (why : KeeperRefused) → IsClaimed Answers (supply_of p1 out1) (supply_of p2 out2) (claim_in (Err why))
     → is_used (place_of d.places page) ≡ true → Rogue m1 p1 d g → Covers m1 page off (length bs)
     → 0 < length bs → frame_at m1 page ≡ None → m2 ≡ m1 → p2 ≡ record p1 { own = p2.own }
     → StepsOver (Rogue m2 p2 d) Answers (supply_of p1 out1) (supply_of p2 out2)
-    (claim_of why ∷ []) g (Write page off bs) (Refused (refusal_of_claim why))
+    (claim_in (Err why) ∷ []) g (Write page off bs) (Refused (refusal_of_claim why))
 write_unsupplied_rogue Answers out1 out2 m1 m2 p1 p2 d g page off bs why answer used rogue covers some bare m p =
     search (arith, write_fits, rogue_unclaimed)
 
@@ -366,16 +361,16 @@ scribble_outside keeps m1 m2 p1 p2 d g page off bs stands m p out =
 pub scribble_unsupplied : (keeps : Bool) (Answers : List Bool → Claim → Type 0)
     (out1 out2 : List Bool) (m1 m2 : Pages) (p1 p2 : Part) (d : DriverState) (g : Guest)
     (page off : ℕ) (bs : List ℕ) (why : KeeperRefused) → IsClaimed Answers (supply_of p1 out1)
-    (supply_of p2 out2) (claim_of why) → Stands keeps m1 p1 d g → Covers m1 page off (length bs)
+    (supply_of p2 out2) (claim_in (Err why)) → Stands keeps m1 p1 d g → Covers m1 page off (length bs)
     → 0 < length bs → frame_at m1 page ≡ None → m2 ≡ m1 → p2 ≡ record p1 { own = p2.own }
     → StepsOver (Stands keeps m2 p2 d) Answers (supply_of p1 out1) (supply_of p2 out2)
-    (claim_of why ∷ []) g (Scribble page off bs) (Refused (refusal_of_claim why))
+    (claim_in (Err why) ∷ []) g (Scribble page off bs) (Refused (refusal_of_claim why))
 scribble_unsupplied keeps Answers out1 out2 m1 m2 p1 p2 d g page off bs why answer stands covers
-    some bare m p = over_stands keeps m1 m2 p1 p2 d d g Answers out1 out2 (claim_of why ∷ [])
+    some bare m p = over_stands keeps m1 m2 p1 p2 d d g Answers out1 out2 (claim_in (Err why) ∷ [])
     (Scribble page off bs) (Refused (refusal_of_claim why)) stands (λ honest. record {
       new = g;
       stands = honest_own m1 m2 p1 p2 d g m p honest;
-      step = guest_step g (Scribble page off bs) (claim_of why ∷ [])
+      step = guest_step g (Scribble page off bs) (claim_in (Err why) ∷ [])
           (Refused (refusal_of_claim why)) g honest.ties.parts.guest.honest step;
       answered = claimed.0;
       moves = moves_as (supply_of p1 out1) (supply_of p2 out2) nothing nothing
@@ -383,11 +378,11 @@ scribble_unsupplied keeps Answers out1 out2 m1 m2 p1 p2 d g page off bs why answ
     })
     (λ rogue. search (arith, rogue_unclaimed, refusal_of_claim, not_refused_pages, scribble_fits, refused_for, claim_fault, same_scribble))
   where
-    claimed : AreClaimed Answers (supply_of p1 out1) (claim_of why ∷ [])
+    claimed : AreClaimed Answers (supply_of p1 out1) (claim_in (Err why) ∷ [])
         × Moves (supply_of p1 out1) (supply_of p2 out2) nothing nothing
     claimed = refused_claimed Answers out1 out2 p1 p2 why answer
 
-    step : HonestStep g (Scribble page off bs) (claim_of why ∷ []) (Refused (refusal_of_claim why)) g
+    step : HonestStep g (Scribble page off bs) (claim_in (Err why) ∷ []) (Refused (refusal_of_claim why)) g
     step = search (arith, refusal_of_claim, refused_for, scribble_fits)
 
 -- a page got a frame, and then was written

@@ -10,7 +10,8 @@ use Rattle.vb_device.specs.Own.{has}
 use Rattle.vb_guest.specs.Stands.{Honest, Rogue, OwnFrames, Stands, StandsBy}
 use Rattle.vb_guest.specs.Steps.{backing_count, AreOut, StepsAlone, StepsOver, StepsFreeing}
 use Rattle.vb_guest.specs.Supply.{supply_of, Moves, nothing, AreLoose}
-use Rattle.vb_guest.proofs.Moving.{used_own, used_out, by_keeps, moves_as}
+use Rattle.vb_guest.proofs.{Moving.{used_own, used_out, by_keeps, moves_as}, Closing.honest_own}
+use Rattle.vb_guest.proofs.{Handing.handed_back, Kept.SameOwn, Rogues.rogue_own}
 
 -- ---- the record
 
@@ -93,60 +94,66 @@ over_stands keeps m1 m2 p1 p2 d1 d2 g Answers out1 out2 claims call reply stands
     either New is step = search (arith, stands_of, own_moved)
 
 -- a step in which no frame moves
-pub steps_quiet : (keeps : Bool) (m1 m2 : Pages) (p1 p2 : Part) (d1 d2 : DriverState) (g : Guest)
-    (Answers : List Bool → Claim → Type 0) (out : List Bool) (call : Call) (reply : Reply)
+pub steps_quiet : {keeps : Bool} {m1 m2 : Pages} {p1 p2 : Part} {d1 d2 : DriverState} {g : Guest}
+    (Answers : List Bool → Claim → Type 0) {out : List Bool} {call : Call} {reply : Reply}
     → Stands keeps m1 p1 d1 g → StepsAlone (Stands keeps m2 p2 d2) g call reply
     → StepsOver (Stands keeps m2 p2 d2) Answers (supply_of p1 out) (supply_of p2 out) [] g call reply
-steps_quiet keeps m1 m2 p1 p2 d1 d2 g Answers out call reply stands step = search arith
+steps_quiet Answers stands step = search arith
 
 -- ---- frames that pages lost
 
--- how many frames of each number they are
-abbrev pub AreLost : Guest → (ℕ → ℕ) → Type 0
-AreLost g lost = (new : Guest) × ((n : ℕ) → lost n + backing_count n new ≡ backing_count n g)
-
 -- they are out
-pub freed_loose : (keeps : Bool) (m1 : Pages) (p1 p2 : Part) (d : DriverState) (g : Guest)
-    (out : List Bool) → Stands keeps m1 p1 d g → (keeps ≡ false → AreOut g out)
-    → p2.keeps ≡ p1.keeps → p2.own ≡ p1.own → (Honest m1 p1 d g → AreLost g (λ n. times n p2.loose))
-    → (Rogue m1 p1 d g → AreLost g (λ n. times n p2.loose)) → AreLoose p2.loose (supply_of p2 out)
-freed_loose keeps m1 p1 p2 d g out stands held flag numbers honest rogue n =
-    let lost = by_guest keeps m1 p1 d g stands honest rogue in
-    by_keeps (supply_of p2 out) (λ e. (let k = sym stands.own.flag ∙ sym flag ∙ e in
+pub freed_loose : {New Other : Guest → Type 0} {keeps : Bool} {m1 : Pages} {p1 : Part} (p2 : Part)
+    {d : DriverState} {g : Guest} (out : List Bool) {call : Call} {reply : Reply}
+    → Stands keeps m1 p1 d g → (keeps ≡ false → AreOut g out) → SameOwn p1 p2
+    → (Honest m1 p1 d g → StepsFreeing New p2.loose g call reply)
+    → (Rogue m1 p1 d g → StepsFreeing Other p2.loose g call reply)
+    → AreLoose p2.loose (supply_of p2 out)
+freed_loose p2 {g = g} out {call} {reply} stands held same honest rogue n =
+    let lost = by_guest _ _ _ _ g stands (λ h. sum (honest h)) (λ r. sum (rogue r)) in
+    by_keeps (supply_of p2 out)
+    (λ e. (let k = sym stands.own.flag ∙ sym same.flag ∙ e in
     omega (
       arith,
       lost.1 n,
       stands.own.each k n,
       ap one_if (used_own (supply_of p2 out) n e),
-      ap (λ (l : List ℕ). one_if (has l n)) numbers,
-    ))) (λ e. (let k = sym stands.own.flag ∙ sym flag ∙ e in
+      ap (λ (l : List ℕ). one_if (has l n)) same.numbers,
+    )))
+    (λ e. (let k = sym stands.own.flag ∙ sym same.flag ∙ e in
     omega (arith, lost.1 n, held k n, ap one_if (used_out (supply_of p2 out) n e))))
+  where
+    sum : {New : Guest → Type 0} → StepsFreeing New p2.loose g call reply
+        → (new : Guest) × ((n : ℕ) → times n p2.loose + backing_count n new ≡ backing_count n g)
+    sum step = (step.new, step.freed)
 
-pub lost_by : (New : Guest → Type 0) (loose : List ℕ) (g : Guest) (call : Call) (reply : Reply)
-    → StepsFreeing New loose g call reply → AreLost g (λ n. times n loose)
-lost_by New loose g call reply step = (step.new, step.freed)
-
--- and have gone back
-pub steps_freed : (keeps : Bool) (m1 m3 : Pages) (p1 p2 p3 : Part) (d : DriverState) (g : Guest)
-    (Answers : List Bool → Claim → Type 0) (out1 out2 : List Bool) (call : Call) (reply : Reply)
-    → Stands keeps m1 p1 d g → p2.keeps ≡ p1.keeps → p2.own ≡ p1.own
-    → (Honest m1 p1 d g → StepsFreeing (Honest m3 p3 d) p2.loose g call reply)
-    → (Rogue m1 p1 d g → StepsFreeing (Rogue m3 p3 d) p2.loose g call reply)
+-- and have gone back; the frames of the device's own may have changed by that
+pub steps_freed : {keeps : Bool} {m1 m2 m3 : Pages} {p1 : Part} (p2 : Part) {p3 : Part}
+    {d : DriverState} {g : Guest} {Answers : List Bool → Claim → Type 0} {out1 out2 : List Bool}
+    {call : Call} {reply : Reply} → Stands keeps m1 p1 d g → SameOwn p1 p2 → m3 ≡ m2
+    → p3 ≡ record p2 { loose = []; own = p3.own }
+    → (Honest m1 p1 d g → StepsFreeing (Honest m2 (handed_back p2) d) p2.loose g call reply)
+    → (Rogue m1 p1 d g → StepsFreeing (Rogue m2 (handed_back p2) d) p2.loose g call reply)
     → Moves (supply_of p2 out1) (supply_of p3 out2) nothing (λ n. times n p2.loose)
     → StepsOver (Stands keeps m3 p3 d) Answers (supply_of p1 out1) (supply_of p3 out2) [] g call
     reply
-steps_freed keeps m1 m3 p1 p2 p3 d g Answers out1 out2 call reply stands flag numbers honest rogue
-    moves = over_stands keeps m1 m3 p1 p3 d d g Answers out1 out2 [] call reply stands
-    (λ h. over (Honest m3 p3 d) (honest h)) (λ r. over (Rogue m3 p3 d) (rogue r))
+steps_freed {m1 = m1} {m2} {m3} {p1} p2 {p3} {d} {g} {Answers} {out1} {out2} {call} {reply} stands
+    same memory part honest rogue moves =
+    over_stands _ m1 m3 p1 p3 d d g Answers out1 out2 [] call reply stands
+    (λ h. over (Honest m2 (handed_back p2) d) (Honest m3 p3 d)
+    (λ x. honest_own m2 m3 (handed_back p2) p3 d x memory part) (honest h))
+    (λ r. over (Rogue m2 (handed_back p2) d) (Rogue m3 p3 d)
+    (λ x. rogue_own m2 m3 (handed_back p2) p3 d x memory part) (rogue r))
   where
     first : Moves (supply_of p1 out1) (supply_of p3 out2) nothing (λ n. times n p2.loose)
-    first = rw (← flag, ← numbers) moves
+    first = rw (← same.flag, ← same.numbers) moves
 
-    over : (New : Guest → Type 0) → StepsFreeing New p2.loose g call reply
+    over : (Old New : Guest → Type 0) → ((x : Guest) → Old x → New x)
+        → StepsFreeing Old p2.loose g call reply
         → StepsOver New Answers (supply_of p1 out1) (supply_of p3 out2) [] g call reply
-    over New step = record {
+    over Old New turn step = record {
       new = step.new;
-      stands = step.stands;
+      stands = turn step.new step.stands;
       step = step.step;
       answered = tt;
       moves = moves_as (supply_of p1 out1) (supply_of p3 out2) nothing (λ n. times n p2.loose)

@@ -1,7 +1,7 @@
 use Rattle.std.proofs.Common.{◌∙◌, sym}
-use Rattle.vb_guest.proofs.{Asked.has_ring, FinishStep.finish_step, Freed.{freed_as, freed_rogue}}
+use Rattle.vb_guest.proofs.{Asked.has_ring, FinishStep.finish_step}
 use Rattle.vb_guest.proofs.{Kept.finish_kept, Quiet.freeing_quiet, RogueDevice.finish_rogue}
-use Rattle.vb_guest.proofs.Standing.{none_loose, freed_loose, lost_by, steps_freed}
+use Rattle.vb_guest.proofs.Standing.{none_loose, freed_loose, steps_freed}
 use Rattle.vb_guest.proofs.device.finish.Goals as goal
 
 pub finish-answer-requires : goal.finish-answer-requires
@@ -17,22 +17,18 @@ return_loose-requires g c =
     let same = finish_kept _ _ _ _ _ _ _ did in
     record {
       none = λ e. same.numbers ∙ stands.own.none (sym stands.own.flag ∙ (sym same.flag ∙ e));
-      loose = freed_loose keeps _ _ (g.D.GuestBytes.part c.finish-answer.new.self) d guest _ stands
-          held same.flag same.numbers
-          (λ honest. lost_by _ _ guest _ _ (finish_step _ _ _ _ d guest _ _ _ did honest))
-          (λ rogue. lost_by _ _ guest _ _ (finish_rogue _ _ _ _ d guest _ _ _ did rogue));
+      loose = freed_loose (g.D.GuestBytes.part c.finish-answer.new.self) _ stands held same
+          (λ honest. finish_step _ _ _ _ d guest _ _ _ did honest)
+          (λ rogue. finish_rogue _ _ _ _ d guest _ _ _ did rogue);
     }
 
 pub returns-clause-step : goal.returns-clause-step
 returns-clause-step g c = λ d keeps guest stands.
     let did = c.finish-answer.ensures in
-    let same = finish_kept _ _ _ _ _ _ _ did in
     let back = c.return_loose.ensures in
-    steps_freed keeps _ _ _ (g.D.GuestBytes.part c.finish-answer.new.self) _ d guest _ _ _ _ _
-    stands same.flag same.numbers (λ honest. freed_as _ _ _ _ d guest _ _ back.mem back.part
-    (finish_step _ _ _ _ d guest _ _ _ did honest))
-    (λ rogue. freed_rogue _ _ _ _ d guest _ _ back.mem back.part
-    (finish_rogue _ _ _ _ d guest _ _ _ did rogue)) back.moves
+    steps_freed (g.D.GuestBytes.part c.finish-answer.new.self) stands (finish_kept _ _ _ _ _ _ _ did)
+    back.mem back.part (λ honest. finish_step _ _ _ _ d guest _ _ _ did honest)
+    (λ rogue. finish_rogue _ _ _ _ d guest _ _ _ did rogue) back.moves
 
 pub returns-clause-exact : goal.returns-clause-exact
 returns-clause-exact g c =

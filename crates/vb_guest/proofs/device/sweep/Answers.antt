@@ -1,7 +1,6 @@
 use Rattle.std.proofs.Common.{◌∙◌, sym}
-use Rattle.vb_guest.proofs.{SweepStep.sweep_step, RogueDevice.sweep_rogue, Freed.freed_as}
-use Rattle.vb_guest.proofs.{Freed.freed_rogue, Kept.sweep_kept, Quiet.freeing_quiet}
-use Rattle.vb_guest.proofs.Standing.{none_loose, freed_loose, lost_by, steps_freed}
+use Rattle.vb_guest.proofs.{Standing.{none_loose, freed_loose, steps_freed}, SweepStep.sweep_step}
+use Rattle.vb_guest.proofs.{RogueDevice.sweep_rogue, Quiet.freeing_quiet, Kept.sweep_kept}
 use Rattle.vb_guest.proofs.device.sweep.Goals as goal
 
 pub sweep-answer-requires : goal.sweep-answer-requires
@@ -16,22 +15,18 @@ return_loose-requires g c =
     let same = sweep_kept _ _ _ _ _ _ did in
     record {
       none = λ e. same.numbers ∙ stands.own.none (sym stands.own.flag ∙ (sym same.flag ∙ e));
-      loose = freed_loose keeps _ _ (g.D.GuestBytes.part c.sweep-answer.new.self) d guest _ stands
-          held same.flag same.numbers
-          (λ honest. lost_by _ _ guest _ _ (sweep_step _ _ _ _ d guest _ _ did honest))
-          (λ rogue. lost_by _ _ guest _ _ (sweep_rogue _ _ _ _ d guest _ _ did rogue));
+      loose = freed_loose (g.D.GuestBytes.part c.sweep-answer.new.self) _ stands held same
+          (λ honest. sweep_step _ _ _ _ d guest _ _ did honest)
+          (λ rogue. sweep_rogue _ _ _ _ d guest _ _ did rogue);
     }
 
 pub returns-clause-step : goal.returns-clause-step
 returns-clause-step g c = λ d keeps guest stands.
     let did = c.sweep-answer.ensures in
-    let same = sweep_kept _ _ _ _ _ _ did in
     let back = c.return_loose.ensures in
-    steps_freed keeps _ _ _ (g.D.GuestBytes.part c.sweep-answer.new.self) _ d guest _ _ _ _ _
-    stands same.flag same.numbers (λ honest. freed_as _ _ _ _ d guest _ _ back.mem back.part
-    (sweep_step _ _ _ _ d guest _ _ did honest))
-    (λ rogue. freed_rogue _ _ _ _ d guest _ _ back.mem back.part
-    (sweep_rogue _ _ _ _ d guest _ _ did rogue)) back.moves
+    steps_freed (g.D.GuestBytes.part c.sweep-answer.new.self) stands (sweep_kept _ _ _ _ _ _ did)
+    back.mem back.part (λ honest. sweep_step _ _ _ _ d guest _ _ did honest)
+    (λ rogue. sweep_rogue _ _ _ _ d guest _ _ did rogue) back.moves
 
 pub returns-clause-exact : goal.returns-clause-exact
 returns-clause-exact g c =

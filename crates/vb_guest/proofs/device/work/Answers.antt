@@ -1,7 +1,6 @@
 use Rattle.std.proofs.Common.{◌∙◌, sym}
-use Rattle.vb_guest.proofs.Standing.{none_loose, freed_loose, lost_by, steps_freed}
-use Rattle.vb_guest.{proofs.Freed.{freed_as, freed_rogue}, proofs.RogueDevice.work_rogue}
-use Rattle.vb_guest.{proofs.Quiet.freeing_quiet, proofs.WorkStep.work_step, proofs.Kept.work_kept}
+use Rattle.vb_guest.proofs.{Standing.{none_loose, freed_loose, steps_freed}, RogueDevice.work_rogue}
+use Rattle.vb_guest.proofs.{Quiet.freeing_quiet, WorkStep.work_step, Kept.work_kept}
 use Rattle.vb_guest.proofs.device.work.Goals as goal
 
 pub work-answer-requires : goal.work-answer-requires
@@ -16,22 +15,18 @@ return_loose-requires g c =
     let same = work_kept _ _ _ _ _ did in
     record {
       none = λ e. same.numbers ∙ stands.own.none (sym stands.own.flag ∙ (sym same.flag ∙ e));
-      loose = freed_loose keeps _ _ (g.D.GuestBytes.part c.work-answer.new.self) d guest _ stands
-          held same.flag same.numbers
-          (λ honest. lost_by _ _ guest _ _ (work_step _ _ _ _ d guest _ did honest))
-          (λ rogue. lost_by _ _ guest _ _ (work_rogue _ _ _ _ d guest _ did rogue));
+      loose = freed_loose (g.D.GuestBytes.part c.work-answer.new.self) _ stands held same
+          (λ honest. work_step _ _ _ _ d guest _ did honest)
+          (λ rogue. work_rogue _ _ _ _ d guest _ did rogue);
     }
 
 pub returns-clause-step : goal.returns-clause-step
 returns-clause-step g c = λ d keeps guest stands.
     let did = c.work-answer.ensures in
-    let same = work_kept _ _ _ _ _ did in
     let back = c.return_loose.ensures in
-    steps_freed keeps _ _ _ (g.D.GuestBytes.part c.work-answer.new.self) _ d guest _ _ _ _ _
-    stands same.flag same.numbers (λ honest. freed_as _ _ _ _ d guest _ _ back.mem back.part
-    (work_step _ _ _ _ d guest _ did honest))
-    (λ rogue. freed_rogue _ _ _ _ d guest _ _ back.mem back.part
-    (work_rogue _ _ _ _ d guest _ did rogue)) back.moves
+    steps_freed (g.D.GuestBytes.part c.work-answer.new.self) stands (work_kept _ _ _ _ _ did)
+    back.mem back.part (λ honest. work_step _ _ _ _ d guest _ did honest)
+    (λ rogue. work_rogue _ _ _ _ d guest _ did rogue) back.moves
 
 pub returns-clause-exact : goal.returns-clause-exact
 returns-clause-exact g c =

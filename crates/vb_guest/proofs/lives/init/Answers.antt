@@ -16,7 +16,7 @@ returns-then-bits-ne0 g c = record {
     new = λ e. absurd (c.if-bits-ne0.true (c.bits.ensures tt ∙ c.status.ensures ∙ e));
   };
   step = λ keeps guest stands.
-      rw (c.clear.ensures) (steps_quiet keeps _ _ _ _ _ _ guest g.K.FrameKeeper.answers _ _ _ stands
+      rw (c.clear.ensures) (steps_quiet g.K.FrameKeeper.answers stands
       (alone_stands keeps _ _ _ _ _ _ guest _ _ stands refl refl
       (λ honest. init_up _ _ _ guest c.args.wanted
       (λ e. c.if-bits-ne0.true (c.bits.ensures tt ∙ c.status.ensures ∙ e)) honest)

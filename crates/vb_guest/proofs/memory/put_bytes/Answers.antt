@@ -15,7 +15,7 @@ returns-in-Ok g c =
     let same = as_it_was _ _ did.part in
     record {
       writes = λ d used keeps guest stands. rw (c.requires.none, ← c.as_slice.ensures)
-          (steps_quiet keeps _ _ _ _ _ _ guest g.K.FrameKeeper.answers _ _ _ stands
+          (steps_quiet g.K.FrameKeeper.answers stands
           (alone_stands keeps _ _ _ _ d d guest _ _ stands same.flag same.numbers
           (λ honest. write_backed _ _ _ _ d guest _ _ _ used honest did.covers
           (λ some bare. (let wrong = did.needs_frame did.covers some bare in cc)) did.bytes
@@ -23,7 +23,7 @@ returns-in-Ok g c =
           (λ some bare. (let wrong = did.needs_frame did.covers some bare in cc)) did.bytes did.part
           rogue)));
       scribbles = λ d keeps guest stands. rw (c.requires.none, ← c.as_slice.ensures)
-          (steps_quiet keeps _ _ _ _ _ _ guest g.K.FrameKeeper.answers _ _ _ stands
+          (steps_quiet g.K.FrameKeeper.answers stands
           (scribble_alone keeps _ _ _ _ d guest _ _ _ stands did.covers
           (λ some bare. (let wrong = did.needs_frame did.covers some bare in cc)) did.bytes
           did.part));
@@ -86,13 +86,13 @@ returns-in-Err-OutOfRam g c =
     (c.in-Err-OutOfRam.is ∙ ap Err c.in-Err-OutOfRam.field-0-is) (λ e. cc) in
     record {
       writes = λ d used keeps guest stands. rw (c.requires.none, ← c.as_slice.ensures)
-          (steps_quiet keeps _ _ _ _ _ _ guest g.K.FrameKeeper.answers _ _ _ stands
+          (steps_quiet g.K.FrameKeeper.answers stands
           (alone_stands keeps _ _ _ _ d d guest _ _ stands same.flag same.numbers
           (λ honest. write_outside _ _ _ _ d guest _ _ _ used honest here.unwritten did.part outside)
           (λ rogue. write_outside_rogue _ _ _ _ d guest _ _ _ used here.unwritten did.part outside
           rogue)));
       scribbles = λ d keeps guest stands. rw (c.requires.none, ← c.as_slice.ensures)
-          (steps_quiet keeps _ _ _ _ _ _ guest g.K.FrameKeeper.answers _ _ _ stands
+          (steps_quiet g.K.FrameKeeper.answers stands
           (scribble_outside keeps _ _ _ _ d guest _ _ _ stands here.unwritten did.part outside));
       exact = rw (← c.as_slice.ensures)
           (puts_outside g.K.FrameKeeper.answers _ _ _ _ _ _ _ _ _ _ _ outside refl
