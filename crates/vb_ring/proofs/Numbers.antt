@@ -3,7 +3,7 @@ use Rattle.std.specs.Prelude.{◌≡◌, ◌≢◌, ◌⊎◌, ℕ, zero, suc, �
 use Rattle.std.specs.Prelude.{[], ◌∷◌, ◌++◌, length, slice_index, if◌then◌else◌, refl, slice_get}
 use Rattle.std.proofs.lemmas.List.{length_push, get_or_append_left, get_or_push, length-take}
 use Rattle.std.{specs.Prelude.{Some, take}, proofs.lemmas.Option.slice_get-get_or}
-use Rattle.std.{proofs.Common.{sym, ◌∙◌, ap, arith, inl, inr, add-one}, proofs.lemmas.Bool.cases_eq}
+use Rattle.std.{proofs.Common.{sym, ◌∙◌, ap, arith, inl, inr, add-one}, proofs.lemmas.Bool.{cases_eq, cases_lt}}
 use Rattle.std.proofs.lemmas.List.{take_all, take-append-le}
 use Rattle.vb_model.specs.Tests.{one_if}
 use Rattle.vb_ring.specs.Numbers.{numbers}
@@ -37,104 +37,76 @@ numbers_none p zero h = numbers_zero p
 numbers_none p (suc n) h =
     suc_no p n (h n (omega arith)) ∙ numbers_none p n (λ i l. h i (omega arith))
 
+-- What one number more makes of the list.
+record Adds (p : ℕ → Bool) (n : ℕ) : Type 0 where
+  count : length (numbers p (suc n)) ≡ length (numbers p n) + one_if (p n)
+  keeps : (k : ℕ) → k < length (numbers p n)
+      → slice_index (numbers p (suc n)) k ≡ slice_index (numbers p n) k
+  last : p n ≡ true → slice_index (numbers p (suc n)) (length (numbers p n)) ≡ n
+
+adds : (p : ℕ → Bool) (n : ℕ) → Adds p n
+adds p n = elim (either_way (p n)) [
+  | inl pass ↦
+      let grown : numbers p (suc n) ≡ numbers p n ++ n ∷ [] = suc_yes p n true pass refl in record {
+        count = ap length grown ∙ length_push (numbers p n) n
+            ∙ ap (λ (b : Bool). length (numbers p n) + one_if b) (sym pass);
+        keeps = λ k lt. ap (λ (xs : List ℕ). slice_index xs k) grown
+            ∙ get_or_append_left (numbers p n) (n ∷ []) 0 k lt;
+        last = λ e. ap (λ (xs : List ℕ). slice_index xs (length (numbers p n))) grown
+            ∙ get_or_push (numbers p n) n 0 (length (numbers p n)) refl;
+      }
+  | inr fail ↦ let same : numbers p (suc n) ≡ numbers p n = suc_no p n fail in record {
+      count = omega (arith, ap length same, ap one_if fail);
+      keeps = λ k lt. ap (λ (xs : List ℕ). slice_index xs k) same;
+      last = λ e. (let wrong : true ≡ false = sym e ∙ fail in cc);
+    }
+]
+
+passes : (b : Bool) → 0 < one_if b → b ≡ true
+passes true some = refl
+passes false some = absurd (omega arith)
+
+-- The last of them is the new one, or one of before.
+last_or : (p : ℕ → Bool) (n k : ℕ) → k < length (numbers p (suc n))
+    → (k < length (numbers p n)) ⊎ ((p n ≡ true) × (slice_index (numbers p (suc n)) k ≡ n))
+last_or p n k lt = let a = adds p n in elim (cases_lt k (length (numbers p n))) [
+  | inl before ↦ inl before
+  | inr past ↦ let pass : p n ≡ true = passes (p n) (omega (arith, a.count)) in
+      let at : k ≡ length (numbers p n) = omega (arith, a.count, ap one_if pass) in
+      inr (pass, ap (slice_index (numbers p (suc n))) at ∙ a.last pass)
+]
+
 -- Each of them passes, and is below the limit.
 pub numbers_pass : (p : ℕ → Bool) (n k : ℕ) → k < length (numbers p n)
     → (slice_index (numbers p n) k < n) × (p (slice_index (numbers p n) k) ≡ true)
 numbers_pass p zero k h = absurd (omega (arith, ap length (numbers_zero p)))
-numbers_pass p (suc n) k h = elim (either_way (p n)) [
-  | inl pass ↦
-      let grown : numbers p (suc n) ≡ numbers p n ++ n ∷ [] = suc_yes p n true pass refl in
-      let len : length (numbers p (suc n)) ≡ length (numbers p n) + 1 =
-      ap length grown ∙ length_push (numbers p n) n in elim (cases_eq k (length (numbers p n))) [
-        | inl last ↦
-            let here : slice_index (numbers p (suc n)) k ≡ n =
-            ap (λ (xs : List ℕ). slice_index xs k) grown
-            ∙ get_or_push (numbers p n) n 0 k (sym last) in (omega (arith, here), ap p here ∙ pass)
-        | inr ne ↦
-            let before : k < length (numbers p n) = omega (arith, ne, len) in
-            let here : slice_index (numbers p (suc n)) k ≡ slice_index (numbers p n) k =
-            ap (λ (xs : List ℕ). slice_index xs k) grown
-            ∙ get_or_append_left (numbers p n) (n ∷ []) 0 k before in
-            let old = numbers_pass p n k before in (omega (arith, here, old.0), ap p here ∙ old.1)
-      ]
-  | inr fail ↦
-      let same : numbers p (suc n) ≡ numbers p n = suc_no p n fail in
-      let here : slice_index (numbers p (suc n)) k ≡ slice_index (numbers p n) k =
-      ap (λ (xs : List ℕ). slice_index xs k) same in
-      let len : length (numbers p (suc n)) ≡ length (numbers p n) = ap length same in
-      let old = numbers_pass p n k (omega (arith, len)) in
+numbers_pass p (suc n) k h = elim (last_or p n k h) [
+  | inl before ↦ let here = (adds p n).keeps k before in let old = numbers_pass p n k before in
       (omega (arith, here, old.0), ap p here ∙ old.1)
+  | inr new ↦ (omega (arith, new.1), ap p new.1 ∙ new.0)
 ]
 
 -- They rise.
 pub numbers_rise : (p : ℕ → Bool) (n j k : ℕ) → j < k → k < length (numbers p n)
     → slice_index (numbers p n) j < slice_index (numbers p n) k
 numbers_rise p zero j k l h = absurd (omega (arith, ap length (numbers_zero p)))
-numbers_rise p (suc n) j k l h = elim (either_way (p n)) [
-  | inl pass ↦
-      let grown : numbers p (suc n) ≡ numbers p n ++ n ∷ [] = suc_yes p n true pass refl in
-      let len : length (numbers p (suc n)) ≡ length (numbers p n) + 1 =
-      ap length grown ∙ length_push (numbers p n) n in
-      let low : j < length (numbers p n) = omega (arith, len) in
-      let first : slice_index (numbers p (suc n)) j ≡ slice_index (numbers p n) j =
-      ap (λ (xs : List ℕ). slice_index xs j) grown
-      ∙ get_or_append_left (numbers p n) (n ∷ []) 0 j low in
-      elim (cases_eq k (length (numbers p n))) [
-        | inl last ↦
-            let here : slice_index (numbers p (suc n)) k ≡ n =
-            ap (λ (xs : List ℕ). slice_index xs k) grown
-            ∙ get_or_push (numbers p n) n 0 k (sym last) in
-            omega (arith, here, first, (numbers_pass p n j low).0)
-        | inr ne ↦
-            let before : k < length (numbers p n) = omega (arith, ne, len) in
-            let here : slice_index (numbers p (suc n)) k ≡ slice_index (numbers p n) k =
-            ap (λ (xs : List ℕ). slice_index xs k) grown
-            ∙ get_or_append_left (numbers p n) (n ∷ []) 0 k before in
-            omega (arith, here, first, numbers_rise p n j k l before)
-      ]
-  | inr fail ↦
-      let same : numbers p (suc n) ≡ numbers p n = suc_no p n fail in
-      let here : slice_index (numbers p (suc n)) k ≡ slice_index (numbers p n) k =
-      ap (λ (xs : List ℕ). slice_index xs k) same in
-      let first : slice_index (numbers p (suc n)) j ≡ slice_index (numbers p n) j =
-      ap (λ (xs : List ℕ). slice_index xs j) same in
-      let len : length (numbers p (suc n)) ≡ length (numbers p n) = ap length same in
-      omega (arith, here, first, numbers_rise p n j k l (omega (arith, len)))
+numbers_rise p (suc n) j k l h = let a = adds p n in elim (last_or p n k h) [
+  | inl before ↦
+      omega (arith, a.keeps k before, a.keeps j (omega arith), numbers_rise p n j k l before)
+  | inr new ↦
+      let low : j < length (numbers p n) = omega (arith, a.count, ap one_if new.0) in
+      omega (arith, new.1, a.keeps j low, (numbers_pass p n j low).0)
 ]
 
 -- Each number below the limit that passes is among them.
 pub numbers_has : (p : ℕ → Bool) (n i : ℕ) → i < n → p i ≡ true
     → (k : ℕ) × (k < length (numbers p n)) × (slice_index (numbers p n) k ≡ i)
 numbers_has p zero i l h = absurd (omega arith)
-numbers_has p (suc n) i l h = elim (either_way (p n)) [
-  | inl pass ↦
-      let grown : numbers p (suc n) ≡ numbers p n ++ n ∷ [] = suc_yes p n true pass refl in
-      let len : length (numbers p (suc n)) ≡ length (numbers p n) + 1 =
-      ap length grown ∙ length_push (numbers p n) n in elim (cases_eq i n) [
-        | inl last ↦ (
-          length (numbers p n),
-          omega (arith, len),
-          ap (λ (xs : List ℕ). slice_index xs (length (numbers p n))) grown
-              ∙ get_or_push (numbers p n) n 0 (length (numbers p n)) refl ∙ sym last,
-        )
-        | inr ne ↦ let old = numbers_has p n i (omega (arith, ne)) h in (
-          old.0,
-          omega (arith, len, old.1),
-          ap (λ (xs : List ℕ). slice_index xs old.0) grown
-              ∙ get_or_append_left (numbers p n) (n ∷ []) 0 old.0 old.1 ∙ old.2,
-        )
-      ]
-  | inr fail ↦
-      let same : numbers p (suc n) ≡ numbers p n = suc_no p n fail in
-      let len : length (numbers p (suc n)) ≡ length (numbers p n) = ap length same in
-      elim (cases_eq i n) [
-        | inl last ↦ (let wrong : true ≡ false = sym h ∙ ap p last ∙ fail in cc)
-        | inr ne ↦ let old = numbers_has p n i (omega (arith, ne)) h in (
-          old.0,
-          omega (arith, len, old.1),
-          ap (λ (xs : List ℕ). slice_index xs old.0) same ∙ old.2,
-        )
-      ]
+numbers_has p (suc n) i l h = let a = adds p n in elim (cases_eq i n) [
+  | inl last ↦ let pass : p n ≡ true = ap p (sym last) ∙ h in
+      (length (numbers p n), omega (arith, a.count, ap one_if pass), a.last pass ∙ sym last)
+  | inr ne ↦ let old = numbers_has p n i (omega (arith, ne)) h in
+      (old.0, omega (arith, a.count, old.1), a.keeps old.0 old.1 ∙ old.2)
 ]
 
 -- The first is the least that passes.
