@@ -75,8 +75,7 @@ all_give : (needs : List Need) (level rest : ℕ) (targets : List ℕ) (left : �
     → spared_from needs level ≤ sum targets
 all_give needs level rest targets left s more =
     let len : length (map (spare_from level) needs) ≡ length needs =
-    length-map needs (spare_from level) in
-    search (arith, sum-le, counts_at_most, get_or, sum-map)
+    length-map needs (spare_from level) in search (arith, sum-le, counts_at_most, get_or, sum-map)
 
 -- a guest gives before another one of the level or above, and so gives what it can
 all_before : (needs : List Need) (level rest : ℕ) (targets : List ℕ) (left i j : ℕ)

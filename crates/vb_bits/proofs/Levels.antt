@@ -30,8 +30,7 @@ first_within level summary start word s f w e = grind (arith, word_within)
 pub none_in : (level summary : List Bool) (start : ℕ) → HasSummary level summary
     → HasNoneFrom summary start → HasNoneFrom level (64 * start)
 none_in level summary start s none n from =
-    let after : start ≤ n / 64 = omega arith in
-    (s.tells (n / 64)).0 (none (n / 64) after) n refl
+    let after : start ≤ n / 64 = omega arith in (s.tells (n / 64)).0 (none (n / 64) after) n refl
 
 -- the least member of the first word that has one
 pub least_in : (level summary : List Bool) (start w : ℕ) (found : Option ℕ)

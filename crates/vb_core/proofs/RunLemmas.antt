@@ -64,15 +64,13 @@ grown_times : (p : ℕ) (old new : Run) (ns : List ℕ) → Grows old ns new →
     times p (pages_of_run new) ≡ times p (pages_of_run old) + times p ns
 grown_times p old new [] g =
     let same : times p (pages_of_run new) ≡ times p (pages_of_run old) =
-    ap (λ (r : Run). times p (pages_of_run r)) g in
-    omega (arith, same)
+    ap (λ (r : Run). times p (pages_of_run r)) g in omega (arith, same)
 grown_times p old new (n ∷ ns) g =
     grind (arith, one_more old g.0 n g.1.0, grown_times p g.0 new ns g.1.1, times-cons p n ns)
 
 grown_count : (old new : Run) (ns : List ℕ) → Grows old ns new → new.count ≡ old.count + length ns
 grown_count old new [] g =
-    let same : new.count ≡ old.count = ap (λ (r : Run). r.count) g in
-    omega (arith, same)
+    let same : new.count ≡ old.count = ap (λ (r : Run). r.count) g in omega (arith, same)
 grown_count old new (n ∷ ns) g = grind (arith, grown_count g.0 new ns g.1.1)
 
 -- and takes one more in
@@ -143,8 +141,7 @@ some_told (run ∷ first) last ns t =
 last_few : (first : List Run) (last : Run) (ns : List ℕ) → Tell (first ++ last ∷ []) ns →
     last.count ≤ length ns
 last_few [] last ns t =
-    let is : IsPart last ns t.0 t.1.0 = t.1.1.0 in
-    omega (arith, part_length last ns t.0 t.1.0 is)
+    let is : IsPart last ns t.0 t.1.0 = t.1.1.0 in omega (arith, part_length last ns t.0 t.1.0 is)
 last_few (run ∷ first) last ns t =
     let is : IsPart run ns t.0 t.1.0 = t.1.1.0 in
     let more : last.count ≤ length t.1.0 = last_few first last t.1.0 t.1.1.1.1 in
@@ -182,8 +179,7 @@ tell_last [] old new ns n more t =
           ),
         ),
       );
-    } in
-    (part ++ n ∷ [], ([], (last, (tt, refl))))
+    } in (part ++ n ∷ [], ([], (last, (tt, refl))))
 tell_last (run ∷ first) old new ns n more t =
     let part : List ℕ = t.0 in
     let rest : List ℕ = t.1.0 in
@@ -202,8 +198,7 @@ tell_last (run ∷ first) old new ns n more t =
 alone_tells : (n : ℕ) → Tell (one_page n ∷ []) (n ∷ [])
 alone_tells n =
     let is : IsPart (one_page n) (n ∷ []) (n ∷ []) [] =
-    record { whole = refl; grows = (n, ([], (refl, refl))) } in
-    (n ∷ [], ([], (is, (tt, refl))))
+    record { whole = refl; grows = (n, ([], (refl, refl))) } in (n ∷ [], ([], (is, (tt, refl))))
 
 -- one more run, of one number that doesn't join the last one
 tell_new : (first : List Run) (last : Run) (ns : List ℕ) (n : ℕ) → IsApartFrom last n
@@ -217,8 +212,7 @@ tell_new [] last ns n away t =
       whole = ap (λ (xs : List ℕ). xs ++ n ∷ [])
           (is.whole ∙ (ap (λ (xs : List ℕ). part ++ xs) none ∙ append-nil part));
       grows = is.grows;
-    } in
-    (part, (n ∷ [], (here, (away, alone_tells n))))
+    } in (part, (n ∷ [], (here, (away, alone_tells n))))
 tell_new (run ∷ first) last ns n away t =
     let part : List ℕ = t.0 in
     let rest : List ℕ = t.1.0 in
@@ -356,15 +350,13 @@ no_end page (suc n) runs d ends are few fits behind before ns t =
 pub some_behind : (page used : ℕ) (runs : List Run) (ends : Ends) → AreEnds ends used runs →
     page < 4294967296 → ends.behind ≡ page → 0 < used
 some_behind page zero runs ends are fits e =
-    let none = (are.none refl).0 in
-    absurd (omega (arith, none, fits, e))
+    let none = (are.none refl).0 in absurd (omega (arith, none, fits, e))
 some_behind page (suc n) runs ends are fits e = omega arith
 
 pub some_before : (page used : ℕ) (runs : List Run) (ends : Ends) → AreEnds ends used runs →
     page < 4294967296 → ends.before ≡ page → 0 < used
 some_before page zero runs ends are fits e =
-    let none = (are.none refl).1 in
-    absurd (omega (arith, none, fits, e))
+    let none = (are.none refl).1 in absurd (omega (arith, none, fits, e))
 some_before page (suc n) runs ends are fits e = omega arith
 
 pub ends_of_new : (ends : Ends) (used : ℕ) (runs : List Run) (new : Run) → used < length runs →

@@ -74,8 +74,7 @@ frames_freed n [] frames distinct below =
     let same : count_by (is_frame n) (with_entry [] None frames) ≡ count_by (is_frame n) frames =
     ap (count_by (is_frame n))
     (ext_get_or None (with_entry [] None frames) frames (length-with_entry [] None frames)
-    (λ i h. with_none-get [] None frames i)) in
-    omega (arith, same)
+    (λ i h. with_none-get [] None frames i)) in omega (arith, same)
 frames_freed n (p ∷ ps) frames distinct below =
     let lt : p < length frames = below 0 p (omega arith) in
     let rest = frames_freed n ps frames distinct.1

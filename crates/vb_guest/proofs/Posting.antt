@@ -69,8 +69,7 @@ lowest_is r h is =
         | inr not ↦ not
         | inl too ↦
             let found = numbers_has (is_unused r.owner) r.size k (omega (arith, first, pass.0))
-            too in
-            elim (cases_eq found.0 0) [
+            too in elim (cases_eq found.0 0) [
               | inl e ↦ (let same : slice_index free 0 ≡ k = ap (slice_index free) (sym e)
                   ∙ found.2 in absurd (omega (arith, same, first)))
               | inr ne ↦ absurd (omega (
@@ -92,8 +91,7 @@ least_head mem q side part rs h stands single is = let lowest = lowest_is side.r
       ∙ ap one_if (none_own h (slice_index_or side.ring.owner h None) lowest.free);
   least = λ k lt.
       let one : headed k (all_requests rs) ≡ 1 = headed_once mem q side.ring part rs k stands
-      ∙ ap one_if (single.single k (lowest.below k lt)) in
-      omega (arith, one);
+      ∙ ap one_if (single.single k (lowest.below k lt)) in omega (arith, one);
 }
 
 is_same : (h k : ℕ) → h ≡ k → cond {A = ℕ} (h == k) 1 0 ≡ 1

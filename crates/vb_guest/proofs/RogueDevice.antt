@@ -467,8 +467,7 @@ own_taken : {size : ℕ} (n q : ℕ) (p : Part) → is_queue_of_requests q ≡ t
     → AreOwn size n p → All (IsOwnRequest size n) (queue_part q p).taken
 own_taken {size} n q p is other own = elim (cases_eq q 2) [
   | inl e ↦ absurd
-      (let wrong : false ≡ true = subst (λ (k : ℕ). is_queue_of_requests k ≡ true) e is in
-      cc)
+      (let wrong : false ≡ true = subst (λ (k : ℕ). is_queue_of_requests k ≡ true) e is in cc)
   | inr ne ↦ by (q == INFLATE_QUEUE) (q == DEFLATE_QUEUE) (q == STATISTICS_QUEUE) other
       (ne_eqb q 2 ne)
 ]

@@ -345,8 +345,7 @@ reset_rogue m1 m2 p1 p2 d1 d2 g did rogue =
       };
       up = λ was ok. absurd (let down : contains 0 driver_ok ≡ true =
           ap (λ (p : Part). contains p.status driver_ok) (sym part) ∙ ok in
-          let wrong : false ≡ true = down in
-          cc);
+          let wrong : false ≡ true = down in cc);
     }) (ap (λ (m : Pages). length m) did.mem)
     (λ page. ap (λ (m : Pages). frame_at m page) did.mem) (ap (λ (p : Part). p.target) part)
     refl (λ page offset bytes e. cc) refl (λ why e. no_refusal _ why refl e)

@@ -227,8 +227,7 @@ pub rogue_alone : (m1 m2 : Pages) (p1 p2 : Part) (d1 d2 : DriverState) (g : Gues
     → StepsAlone (Rogue m2 p2 d2) g call reply
 rogue_alone m1 m2 p1 p2 d1 d2 g call reply rogue keeps count same target answer other none left =
     let stands = rogue_stands m1 m2 p1 p2 d1 d2 g g.frames rogue keeps count refl
-    (λ page. same page ∙ rogue.behind page) in
-    (search (arith, rogue_step))
+    (λ page. same page ∙ rogue.behind page) in (search (arith, rogue_step))
 
 -- ---- pages that stay backed
 

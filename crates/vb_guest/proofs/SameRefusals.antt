@@ -126,8 +126,7 @@ pub by_state : {S : Type 0} (m : Pages) (p : Part) (d : DriverState) (g : Guest)
     → ((why : Refusal) → refused ≡ Some why → refusal_of g call ≡ Some why → S)
     → (IsRunning m p d g → refused ≡ None → refusal_of g call ≡ None → S) → S
 by_state m p d g call refused (inl idle) down same stops goes =
-    let both = down idle.state in
-    stops NotReady both.0 both.1
+    let both = down idle.state in stops NotReady both.0 both.1
 by_state {S} m p d g call refused (inr run) down same stops goes = by (refusal_of g call) refl where
   by : (o : Option Refusal) → refusal_of g call ≡ o → S
   by (Some why) is = stops why (same run ∙ is) is
@@ -141,8 +140,7 @@ pub refused_alike : (m : Pages) (p : Part) (d : DriverState) (g : Guest) (call :
     → (IsIdleStatus g.status → (refused ≡ Some NotReady) × (refusal_of g call ≡ Some NotReady))
     → (IsRunning m p d g → refused ≡ refusal_of g call) → refused ≡ refusal_of g call
 refused_alike m p d g call refused (inl idle) down same =
-    let both = down idle.state in
-    both.0 ∙ sym both.1
+    let both = down idle.state in both.0 ∙ sym both.1
 refused_alike m p d g call refused (inr run) down same = same run
 
 -- where it isn't refused, the guest runs

@@ -143,8 +143,7 @@ started m2 m3 p1 p3 d1 d2 g frames wanted has backed idle driver parts did =
         report = subst (λ (rs : Requests). ReportLine m3 n (fresh_report d1.queue_size) no_queue rs)
             (sym idle.report) report;
       });
-    } in
-    ties_same m3 m3 part p3 state d2 new refl did.part did.driver there
+    } in ties_same m3 m3 part p3 state d2 new refl did.part did.driver there
 
 -- the guest whose pages have these frames, and whose driver gave up
 pub stopped : (m2 m3 : Pages) (p1 p3 : Part) (d1 d2 : DriverState) (g : Guest)

@@ -88,8 +88,7 @@ written_ties m1 m2 p1 p2 d g page off bs high covers ties wrote part =
         | inr run ↦ (let still = runs_on m1 m2 p1 d g run
             (λ p lt. wrote.rest.others p (omega (arith, lt, high))) in inr assumption)
       ];
-    } in
-    subst (λ p. Ties m2 p d new) (sym part) there
+    } in subst (λ p. Ties m2 p d new) (sym part) there
 
 pub write_backed : (m1 m2 : Pages) (p1 p2 : Part) (d : DriverState) (g : Guest) (page off : ℕ)
     (bs : List ℕ) → is_used (place_of d.places page) ≡ true → Honest m1 p1 d g

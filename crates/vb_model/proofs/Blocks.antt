@@ -113,8 +113,7 @@ no_larger test page b c small x y l =
     (range_with_len (suc b.order) (max_order - b.order)) ≡ true =
     any_in_range (λ order. is_whole test (around b.start order)) c.order (suc b.order)
     (max_order - b.order) (omega arith) (omega arith) there in
-    let bad : true ≡ false = sym any ∙ x.widest in
-    absurd cc
+    let bad : true ≡ false = sym any ∙ x.widest in absurd cc
 
 -- two blocks of one order round a page are one
 same_start : (page : ℕ) (b c : Block) → b.order ≡ c.order → is_aligned b ≡ true
@@ -334,8 +333,7 @@ one_block test page s t j k lj lk hj hk =
       | inl l ↦ absurd (no_larger test page b c lk x y l)
       | inr l ↦ elim (cases_lt k j)
           [ inl m ↦ absurd (no_larger test page c b lj y x m) | inr m ↦ omega arith ]
-    ] in
-    (same_start page b c same x.aligned x.cover y.aligned y.cover, same)
+    ] in (same_start page b c same x.aligned x.cover y.aligned y.cover, same)
 
 at_most_one : (test : ℕ → Bool) (page n : ℕ) → count_by (holds test page) (blocks_below n) ≤ 1
 at_most_one test page n = flat-one (holds test page) blocks_at 0 n each_start starts where

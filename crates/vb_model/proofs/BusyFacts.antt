@@ -84,8 +84,7 @@ misread status features = goes (with_page (Some 5) (1 ∷ []) (busy status featu
 another_byte : (status features : ℕ) → IsSafeCourse (misread status features) → ⊥
 another_byte status features s =
     let e : SameBytes (2 ∷ []) (1 ∷ []) = (s.reads 0 32 0 1 (2 ∷ [])
-    (with_page (Some 5) (1 ∷ []) (busy status features)) refl (Processor 0 0, [], refl)).1 in
-    cc
+    (with_page (Some 5) (1 ∷ []) (busy status features)) refl (Processor 0 0, [], refl)).1 in cc
 
 held : (status features : ℕ) → StaysHeld (misread status features) 32 0 0
 held status features zero le = (with_page (Some 5) (1 ∷ []) (busy status features), refl, refl)
@@ -95,8 +94,7 @@ another_byte_by_law : (status features : ℕ) → ReadsGiveLastWrites (misread s
 another_byte_by_law status features s =
     let e : Same 2 1 = (s 32 0 0 0 1 (2 ∷ [])
     (with_page (Some 5) (1 ∷ []) (busy status features)) (held status features) refl
-    (Processor 0 0, [], refl)).1 0 (omega arith) in
-    omega (arith, e)
+    (Processor 0 0, [], refl)).1 0 (omega arith) in omega (arith, e)
 
 -- ---- ballooned pages
 

@@ -98,8 +98,7 @@ count-moved test pages place first (x ∷ xs) out ok = omega (
         let a : one_if (test (cond (is_in first pages) place x)) ≡ 0 =
         ap (λ (b : Bool). one_if (test (cond b place x))) e ∙ ap one_if out in
         let c : one_if (test x) ≡ 1 = ap one_if (ok 0 (omega arith) (first_is e)) in
-        let d : one_if (is_in first pages) ≡ 1 = ap one_if e in
-        omega (arith, a, c, d)
+        let d : one_if (is_in first pages) ≡ 1 = ap one_if e in omega (arith, a, c, d)
     here false e = grind arith
 
 pub moved_out : (test : Place → Bool) (pages : List ℕ) (place : Place) (places : List Place)

@@ -68,13 +68,7 @@ supplies pages g claims reply new Rest page frame s rest h = grind (arith, backe
 none : (call : Call) (g : Guest) (claims : List Claim) (reply : Reply) (new : Guest) (page frame : ℕ)
     → HonestStep g call claims reply new → claims ≡ [] → frame_of new.frames page ≡ Some frame
     → (pages : List ℕ) → Entered g pages claims page frame
-none call g claims reply new page frame s e h pages =
-    let moved : FramesMove g claims new = honest_move g call claims reply new s in
-    elim (backed_at moved.0 (given claims) g.frames page frame (moved.1 page frame h)) [
-      | inl old ↦ inl old
-      | inr k ↦ absurd (let wrong : slice_get (given []) k.0 ≡ Some frame =
-          subst (λ (l : List Claim). slice_get (given l) k.0 ≡ Some frame) e k.2 in cc)
-    ]
+none call g claims reply new page frame s e h pages = grind (arith, honest_move, backed_at)
 
 performs : (call : Call) (g : Guest) (claims : List Claim) (reply : Reply) (new : Guest)
     (page frame : ℕ) → HonestStep g call claims reply new → refusal_of g call ≡ None

@@ -160,8 +160,7 @@ byte_step c p page at i g new here next used used' = by s.own s.own_is s.step
         let second : reply ≡ Done = cc in
         let wrong : true ≡ false =
         sym (own_write page offset bytes) ∙ sym (ap (λ (x : Call). is_write page x Done) first)
-        ∙ sym (ap (λ (x : Reply). is_write page call x) second) ∙ e in
-        cc
+        ∙ sym (ap (λ (x : Reply). is_write page call x) second) ∙ e in cc
       where
         same_entry : {x y : Entry} → some_own (Some x) ≡ some_own (Some y) → x ≡ y
         same_entry e = cc

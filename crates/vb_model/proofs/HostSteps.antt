@@ -179,8 +179,7 @@ hosts_agree w (Restart n) reply new reply' new' s t x y =
     (λ a b. restarts_agree w n (guest_at w.guests n) reply new reply' new' a b)
 hosts_agree w (OnGuest n call) reply new reply' new' s t x y =
     let a = call_leaves_host w n call reply new s in
-    let b = call_leaves_host w n call reply' new' t in
-    (a.0 ∙ sym b.0, a.1 ∙ sym b.1, a.2 ∙ sym b.2)
+    let b = call_leaves_host w n call reply' new' t in (a.0 ∙ sym b.0, a.1 ∙ sym b.1, a.2 ∙ sym b.2)
 hosts_agree w (OnQuery n query) reply new reply' new' s t x y =
     by_refusal (first_refusal (world_causes w (OnQuery n query))) w reply new reply' new' _ _ s t
     (λ a b. queries_agree query w (guest_at w.guests n) reply new reply' new' a b x y)

@@ -118,21 +118,7 @@ none_gained : LosesFrames after.frames (replicate 64 None)
 none_gained page frame h = grind arith
 
 frames_may_go : RogueStep after Work [] Idle lost
-frames_may_go = record {
-  stays = record {
-    still = refl;
-    config = refl;
-    unreserved = no_reserved_flag;
-    sizes = record { placed = refl; flagged = refl; framed = refl; filled = refl };
-  };
-  target = refl;
-  claimed = refl;
-  frames = none_gained;
-  no_frame = λ e. cc;
-  no_memory = λ e. absurd cc;
-  refused = λ refusal e. absurd cc;
-  scribble = λ page offset bytes e. cc;
-}
+frames_may_go = grind (arith, config, no_reserved_flag, none_gained)
 
 -- a page past the last is never ballooned, nor is memory ever longer or shorter
 one_page_more : RogueStep after Work [] Idle (record lost { ballooned = replicate 65 false }) → ⊥

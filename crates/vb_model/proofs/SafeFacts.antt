@@ -209,14 +209,12 @@ other_bytes : IsSafeCourse (reads 1 (9 ∷ [])) → ⊥
 other_bytes s =
     let e : SameBytes (9 ∷ []) (1 ∷ []) =
     (s.reads 0 16 0 1 (9 ∷ []) (used_with (Some 5) (1 ∷ 2 ∷ []) ready) refl
-    (Processor 0 0, [], refl)).1 in
-    cc
+    (Processor 0 0, [], refl)).1 in cc
 
 too_few_bytes : IsSafeCourse (reads 2 (1 ∷ [])) → ⊥
 too_few_bytes s =
     let e : Same 1 2 = (s.reads 0 16 0 2 (1 ∷ []) (used_with (Some 5) (1 ∷ 2 ∷ []) ready) refl
-    (Processor 0 0, [], refl)).0 in
-    omega (arith, e)
+    (Processor 0 0, [], refl)).0 in omega (arith, e)
 
 -- two writes, with another's event behind each, and then a read that gives what was there before
 -- the last one, or before both
@@ -234,8 +232,7 @@ reads_the_last : (byte : ℕ) → IsSafeCourse (written_and_read byte) → byte 
 reads_the_last byte s =
     let e : SameBytes (byte ∷ []) (8 ∷ []) =
     (s.reads 4 16 0 1 (byte ∷ []) (used_with (Some 5) (8 ∷ 2 ∷ []) down) refl
-    (Processor 0 0, [], refl)).1 in
-    cc
+    (Processor 0 0, [], refl)).1 in cc
 
 write_forgotten : IsSafeCourse (written_and_read 7) → ⊥
 write_forgotten s = let e : Same 7 8 = reads_the_last 7 s in omega (arith, e)
@@ -251,14 +248,12 @@ held len bytes (suc j) le = absurd (omega (arith, le))
 other_bytes_by_law : ReadsGiveLastWrites (reads 1 (9 ∷ [])) → ⊥
 other_bytes_by_law s =
     let e : Same 9 1 = (s 16 0 0 0 1 (9 ∷ []) (used_with (Some 5) (1 ∷ 2 ∷ []) ready)
-    (held 1 (9 ∷ [])) refl (Processor 0 0, [], refl)).1 0 (omega arith) in
-    omega (arith, e)
+    (held 1 (9 ∷ [])) refl (Processor 0 0, [], refl)).1 0 (omega arith) in omega (arith, e)
 
 too_few_bytes_by_law : ReadsGiveLastWrites (reads 2 (1 ∷ [])) → ⊥
 too_few_bytes_by_law s =
     let e : Same 1 2 = (s 16 0 0 0 2 (1 ∷ []) (used_with (Some 5) (1 ∷ 2 ∷ []) ready)
-    (held 2 (1 ∷ [])) refl (Processor 0 0, [], refl)).0 in
-    omega (arith, e)
+    (held 2 (1 ∷ [])) refl (Processor 0 0, [], refl)).0 in omega (arith, e)
 
 -- whatever the states say
 abbrev written_unseen : ℕ → Course
@@ -347,8 +342,7 @@ used_inflate_not_ballooned : IsSafeCourse
 used_inflate_not_ballooned s =
     let e : false ≡ true =
     (s.both_agree 0 (record (place_16 Giving) { inflate = used request_16 }) refl 16).1
-    (inr (inl (omega arith))) in
-    cc
+    (inr (inl (omega arith))) in cc
 
 abbrev asked_untold : Requests → Guest
 asked_untold deflate = record (page_16_at FreePlace untold) { deflate = deflate; actual = 1 }
@@ -365,8 +359,7 @@ taken = record { posted = []; taken = request_16 ∷ []; done = [] }
 taken_deflate_not_ballooned : IsSafeCourse (stands (asked_untold taken)) → ⊥
 taken_deflate_not_ballooned s =
     let e : false ≡ true =
-    (s.both_agree 0 (asked_untold taken) refl 16).1 (inr (inr (inr (omega arith)))) in
-    cc
+    (s.both_agree 0 (asked_untold taken) refl 16).1 (inr (inr (inr (omega arith)))) in cc
 
 used_deflate_ballooned_still : IsSafeCourse (stands (flagged (asked_untold (used request_16)))) → ⊥
 used_deflate_ballooned_still s =

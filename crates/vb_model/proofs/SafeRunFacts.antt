@@ -78,8 +78,7 @@ one_guest : IsSafeOf (stands (twice ready)) → ⊥
 one_guest s =
     let e = s.no_frame_twice 0 (at (twice ready)) refl 5 0 0 0 2
     (record { guest = twice ready; is_there = refl; has = refl })
-    (record { guest = twice ready; is_there = refl; has = refl }) in
-    omega (arith, e.1)
+    (record { guest = twice ready; is_there = refl; has = refl }) in omega (arith, e.1)
 
 abbrev rogue : Guest
 rogue = record (twice down) { rogue = true }
@@ -93,8 +92,7 @@ frame_twice_later : IsSafeOf (record {
 frame_twice_later s =
     let e = s.no_frame_twice 1 (at rogue) refl 5 0 0 0 2
     (record { guest = rogue; is_there = refl; has = refl })
-    (record { guest = rogue; is_there = refl; has = refl }) in
-    omega (arith, e.1)
+    (record { guest = rogue; is_there = refl; has = refl }) in omega (arith, e.1)
 
 -- ---- each life of an honest guest is a safe course
 
@@ -148,8 +146,7 @@ not_its_own s = by o.own o.is o.step where
       → OwnStep ready own ready → ⊥
   by own is step =
       let made = subst (λ (x : Option Entry). OwnStep ready x ready) is.3 step in
-      let wrong : Done ≡ Idle = (performed Work ready is.1 Done ready made.1).1.0 in
-      cc
+      let wrong : Done ≡ Idle = (performed Work ready is.1 Done ready made.1).1.0 in cc
 
 abbrev restarted : History
 restarted = record {
@@ -169,8 +166,7 @@ not_its_own_later s = by o.own o.is o.step where
       → OwnStep down own down → ⊥
   by own is step =
       let made = subst (λ (x : Option Entry). OwnStep down x down) is.3 step in
-      let wrong : Done ≡ Refused NotReady = made.1.1 in
-      cc
+      let wrong : Done ≡ Refused NotReady = made.1.1 in cc
 
 -- another's event changes the guest
 changed_by_another : LivesAreAlone (goes ready CountFrames (Frames 0 64) down) → ⊥
@@ -181,8 +177,7 @@ changed_by_another s = by o.own o.is o.step where
   by : (own : Option Entry) → own ≡ None → OwnStep ready own down → ⊥
   by own is step =
       let same : down ≡ ready = subst (λ (x : Option Entry). OwnStep ready x down) is step in
-      let e : Same 0 15 = ap (λ (g : Guest). g.status) same in
-      omega arith
+      let e : Same 0 15 = ap (λ (g : Guest). g.status) same in omega arith
 
 -- a reset that is done leaves the guest ready
 reset_but_ready : LivesAreAlone (goes ready (OnGuest 0 Reset) Done ready) → ⊥
@@ -195,8 +190,7 @@ reset_but_ready s = by o.own o.is o.step where
   by own is step =
       let made = subst (λ (x : Option Entry). OwnStep ready x ready) is.3 step in
       let status : Same 15 0 =
-      ap (λ (g : Guest). g.status) (performed Reset ready is.1 Done ready made.1).1.1 in
-      omega arith
+      ap (λ (g : Guest). g.status) (performed Reset ready is.1 Done ready made.1).1.1 in omega arith
 
 -- a reset ends no life, and what comes behind it goes on from what it left
 a_reset_is_no_end : InOneLife 1 (OnGuest 1 Reset ∷ OnGuest 1 (Init 0) ∷ [])

@@ -36,8 +36,7 @@ same_by_sum (x ∷ xs) (y ∷ ys) l h e =
     ) in
     let tails : sum xs ≡ sum ys =
     omega (arith, heads, e, sum_by-cons (λ (n : ℕ). n) x xs, sum_by-cons (λ (n : ℕ). n) y ys) in
-    let rest : xs ≡ ys = same_by_sum xs ys len more tails in
-    cc
+    let rest : xs ≡ ys = same_by_sum xs ys len more tails in cc
 
 -- somewhere it is larger, or nowhere
 pub somewhere_more : (xs ys : List ℕ) → length xs ≡ length ys

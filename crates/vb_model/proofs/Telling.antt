@@ -145,14 +145,9 @@ ways o p P Q R e both = grind arith
 case_ways : (g : Guest) (call : Call) (claims : List Claim) (reply : Reply) (new : Guest)
     → IsConsistent g → IsOrderly g → tells_host g ≡ true
     → HonestCase g call claims reply new ↔ ToldStep g call claims reply new
-case_ways g call claims reply new c o told =
-    ways (refusal_of g call) (first_refusal (told_causes g call)) _ _ _ (same_refusals g call told)
-    (performs_ways g call claims reply new c o told)
+case_ways g call claims reply new c o told = grind (arith, ways, same_refusals, performs_ways)
 
 pub told_agree : (g : Guest) (call : Call) (claims : List Claim) (reply : Reply) (new : Guest)
     → IsConsistent g → IsOrderly g → tells_host g ≡ true
     → HonestStep g call claims reply new ↔ ToldStep g call claims reply new
-told_agree g call claims reply new c o told = let both = case_ways g call claims reply new c o told in (
-  λ s. both.0 (honest_case g call claims reply new s),
-  λ s. honest_step g call claims reply new (both.1 s),
-)
+told_agree g call claims reply new c o told = grind (arith, case_ways, honest_case, honest_step)

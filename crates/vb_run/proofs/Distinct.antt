@@ -27,11 +27,9 @@ rising_once (x ∷ xs) r n = cases (x == n) refl (rising_once xs (rising_tail x 
   cases true e less =
       let same : x ≡ n = grind (arith, nat_tests, e) in
       let none : times n xs ≡ 0 = above x xs r n (omega (arith, same)) in
-      let one : one_if (x == n) ≡ 1 = ap one_if e in
-      omega (arith, split, none, one)
+      let one : one_if (x == n) ≡ 1 = ap one_if e in omega (arith, split, none, one)
   cases false e less =
-      let zero_of : one_if (x == n) ≡ 0 = ap one_if e in
-      omega (arith, split, less, zero_of)
+      let zero_of : one_if (x == n) ≡ 0 = ap one_if e in omega (arith, split, less, zero_of)
 
 times_sum : (n : ℕ) (xs : List ℕ) → times n xs ≡ sum_by (λ m. one_if (m == n)) xs
 times_sum n xs = grind arith

@@ -247,8 +247,7 @@ look_that_saw_too_much plan rounds report actor call claims reply rest sizes his
         let unreserved : mid.config.pages - reserved_pages mid.config.queue_size ≡ 48 =
         ap (λ (c : Config). c.pages - reserved_pages c.queue_size) kept
         ∙ ap (λ (s : Sizes). s.pages - reserved_pages s.queue_size) sizes in
-        let seen : 49 ≡ spare 16 mid = look.0 in
-        omega (arith, unreserved, seen)
+        let seen : 49 ≡ spare 16 mid = look.0 in omega (arith, unreserved, seen)
 
 -- The balancer's entries are those of the rounds.
 abbrev Unbalanced : List Rounded → List Entry → Type 0

@@ -67,5 +67,4 @@ map_next f h [] x ys rest y all whole is same =
 map_next f h (z ∷ xs) x ys rest y [] whole is same = absurd cc
 map_next f h (z ∷ xs) x ys rest y (a ∷ all) whole is same =
     let before : map f xs ++ map h ys ≡ all = cc in
-    let head : f z ≡ a = cc in
-    rw (map_next f h xs x ys rest y all before is same, head) refl
+    let head : f z ≡ a = cc in rw (map_next f h xs x ys rest y all before is same, head) refl

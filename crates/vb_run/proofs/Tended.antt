@@ -225,8 +225,7 @@ all_visited r rest w = step (is_unvisited r) refl w where
   step false e k = e
   step true e k =
       let lt : r.visited < length r.pages = ltb-true r.visited (length r.pages) e in
-      let at = slice_get-get_or r.pages r.visited 0 lt in
-      absurd cc
+      let at = slice_get-get_or r.pages r.visited 0 lt in absurd cc
 
 -- so a finish of it isn't refused
 inflate_open : (paced : Bool) (r : Request) (rest : List Request) → NoWork paced (r ∷ rest)

@@ -93,8 +93,7 @@ kept_after size words views id tag f x held held' r at m low new = record {
       (at_set views id i (pass tag held') v e);
   apart = λ t.
       let c = count_set t views id (pass tag held) (pass tag held') at in
-      let most = r.apart t in
-      omega arith;
+      let most = r.apart t in omega arith;
 }
 
 -- nothing changes

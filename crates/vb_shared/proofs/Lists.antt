@@ -66,8 +66,7 @@ new_pass table tag = record { table = table; tag = tag; held = []; found = None 
 new_passes_push : (table : TableId) (tag n : ℕ)
     → new_passes table tag (suc n) ≡ new_passes table tag n ++ new_pass table (tag + n) ∷ []
 new_passes_push table tag zero =
-    let e : tag ≡ tag + 0 = omega arith in
-    ap (λ (t : ℕ). new_pass table t ∷ []) e
+    let e : tag ≡ tag + 0 = omega arith in ap (λ (t : ℕ). new_pass table t ∷ []) e
 new_passes_push table tag (suc n) = grind (arith, new_passes_push table (suc tag) n)
 
 -- one more pass has the next tag

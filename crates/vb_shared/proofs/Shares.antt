@@ -80,8 +80,7 @@ joins size id v other w s r at ne there =
           let a = count_set tag s.views id v both at in
           let b = count_set tag (set s.views id both) other w no_view there in
           let c = count_append tag v.holdings w.holdings in
-          let most = r.apart tag in
-          omega arith;
+          let most = r.apart tag in omega arith;
     }
 
 -- ---- two passes of one view
@@ -132,8 +131,7 @@ new_once : (tag first n : ℕ) → count tag (new_holdings first n) ≤ 1
 new_once tag first zero = omega arith
 new_once tag first (suc n) = dite (ℕ_discrete first tag) (search (arith, eq-eqb, new_none))
     (λ ne. let other : one_if (eqb first tag) ≡ 0 = ap one_if (ne_eqb first tag ne) in
-    let rest = new_once tag (suc first) n in
-    omega arith)
+    let rest = new_once tag (suc first) n in omega arith)
 
 pub begins : (size : Size) (words : List ℕ) → words ≡ replicate size.frames 0
     → Kept size (opening words [] (opening_view size.guests))
@@ -176,5 +174,4 @@ in_words size words views r = record {
         let two = count_two t views i j (pass t held) (pass u other) ne at there in
         let most = r.apart t in
         let one = one_tag t in
-        let also : one_if (eqb u t) ≡ 1 = ap one_if (eq-eqb u t (sym same)) in
-        omega arith
+        let also : one_if (eqb u t) ≡ 1 = ap one_if (eq-eqb u t (sym same)) in omega arith

@@ -19,5 +19,4 @@ one_more f olds news device paces i default pace grown same lt is alike =
     let second : map is_paced (take (i + 1) paces) ≡ map is_paced (take i paces)
     ++ is_paced (get_or paces i default) ∷ [] = rw (take_more paces i default lt)
     (map_push is_paced (take i paces) (get_or paces i default)) in
-    let last : is_paced (get_or paces i default) ≡ is_paced pace = rw is refl in
-    cc
+    let last : is_paced (get_or paces i default) ≡ is_paced pace = rw is refl in cc

@@ -42,8 +42,7 @@ calls_bounded plan h =
     (are_scripts 0 plan.scripts.items) outer.1 in
     let four = (config_limits c.pages c.queue_size c.processors outer.0).processors_most in
     let count : length plan.scripts.items ≡ c.processors = is_equal _ _ inner.0 in
-    let all = scripts_bounded 0 plan.scripts.items inner.1 in
-    omega (arith, four, count, all)
+    let all = scripts_bounded 0 plan.scripts.items inner.1 in omega (arith, four, count, all)
 
 -- so are those of one script more
 pub one_more_script : (plan : GuestPlan) (i : ℕ) (script : Vec Call Global) → is_guest_plan plan

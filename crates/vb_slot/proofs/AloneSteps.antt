@@ -21,8 +21,7 @@ pub are_out : (keeps : Bool) (mem : Pages) (p : Part) (d : DriverState) (g : Gue
     (out : List Bool) → Stands keeps mem p d g → AreBehind p.own g → keeps ≡ false → AreOut g out
 are_out keeps mem p d g out s behind e n =
     let zero : one_if (has p.own n) ≡ 0 = none_out p n (s.own.none e) in
-    let bare : backing_count n g ≡ 0 = behind n ∙ zero in
-    omega (arith, bare)
+    let bare : backing_count n g ≡ 0 = behind n ∙ zero in omega (arith, bare)
 
 -- a guest as it is plugged in has no frames
 pub fresh_alone : (keeps : Bool) (mem : Pages) (p : Part) (d : DriverState) (config : Config)

@@ -104,8 +104,7 @@ written : (status negotiated w : ℕ) (reset : Bool) → eqb w 0 ≡ reset → w
     → may_follow status w ≡ true
 written s f w true z ne h = absurd (ne (eqb-true w 0 z))
 written s f w false z ne h =
-    let tests = accepted_write s f w h in
-    may (contains w s) (is_out_of_order s w) tests.0 tests.1
+    let tests = accepted_write s f w h in may (contains w s) (is_out_of_order s w) tests.0 tests.1
   where
     may : (c o : Bool) → not c ≡ false → o ≡ false → (c && not o) ≡ true
     may true false a b = refl

@@ -132,8 +132,7 @@ aimed_step n ts [] g e l = absurd cc
 aimed_step zero ts (None ∷ gs) g e l = absurd cc
 aimed_step zero [] (Some h ∷ gs) g e l = absurd (omega (arith, l))
 aimed_step zero (t ∷ ts) (Some h ∷ gs) g e l =
-    let P : Option Guest → Option Guest = at_target t in
-    ap (λ (o : Option Guest). P o ∷ gs) e
+    let P : Option Guest → Option Guest = at_target t in ap (λ (o : Option Guest). P o ∷ gs) e
   where
     at_target : ℕ → Option Guest → Option Guest
     at_target t None = None

@@ -70,8 +70,7 @@ module _ {S D : Type 0} (Stand : S → Guest → Type 0) (Spare : D → Bool →
       → IsHost Stand Spare slots out devices w → get slots n ≡ Some s
       → ((g : Guest) → Stand s g → Answers query g reply) → WorldStep w (OnQuery n query) reply w
   guest_query n s query reply host e answers =
-      let has = guest_of n s host e in
-      rw has.there (answers has.guest has.stands, refl)
+      let has = guest_of n s host e in rw has.there (answers has.guest has.stands, refl)
 
   -- each frame that backs a page of a guest is out
   pub guest_frames : (n : ℕ) (s : S) → IsHost Stand Spare slots out devices w → get slots n ≡ Some s
@@ -133,16 +132,14 @@ module _ {S D : Type 0} (Stand : S → Guest → Type 0) (Spare : D → Bool →
   count_with n s s' e =
       let a = sum_by-set (λ (x : Option S). cond (is_some x) 1 0) slots.slots n (Some s') None
       (within n s e) in
-      let b = ap {B = ℕ} (λ (x : Option S). cond (is_some x) 1 0) e in
-      omega (arith, a, b)
+      let b = ap {B = ℕ} (λ (x : Option S). cond (is_some x) 1 0) e in omega (arith, a, b)
 
   plugged_with : (n : ℕ) (g : Guest) → (has : Option Guest) → guest_at w.guests n ≡ has
       → is_some has ≡ true → plugged_count (put_guest n (Some g) w) ≡ plugged_count w
   plugged_with n g has there some =
       let a = count-with n (Some g) w.guests in
       let b = ap {B = ℕ} (λ (x : Option Guest). cond (is_some x) 1 0) there in
-      let c = ap {B = ℕ} (λ (x : Bool). cond x 1 0) some in
-      omega (arith, a, b, c)
+      let c = ap {B = ℕ} (λ (x : Bool). cond x 1 0) some in omega (arith, a, b, c)
 
   pub host_with : (n : ℕ) (s s' : S) (g new : Guest) (out' : List Bool)
       → IsHost Stand Spare slots out devices w → get slots n ≡ Some s → guest_at w.guests n ≡ Some g

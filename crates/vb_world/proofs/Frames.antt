@@ -98,8 +98,7 @@ below_guests n (x ∷ xs) h =
     let split = below_same n (λ f. backing_of f (x ∷ xs)) (λ f. backing_at f x + backing_of f xs)
     (λ f l. sum_by-cons (backing_at f) x xs) in
     let sum = below_sum n (λ f. backing_at f x) (λ f. backing_of f xs) in
-    let first = here x (λ p f g e. h 0 p f g e) in
-    omega (arith, more, split, sum, first)
+    let first = here x (λ p f g e. h 0 p f g e) in omega (arith, more, split, sum, first)
   where
     here : (x : Option Guest)
         → ((p f : ℕ) (g : Guest) → x ≡ Some g → slice_index_or g.frames p None ≡ Some f → f < n)

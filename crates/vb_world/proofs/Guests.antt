@@ -35,8 +35,7 @@ pub backing-part : (f n : ℕ) (gs : List (Option Guest)) (g : Guest) → guest_
 backing-part f zero [] g e = absurd (cc e)
 backing-part f (suc n) [] g e = absurd (cc e)
 backing-part f zero (y ∷ gs) g e =
-    let a = ap (backing_at f) e in
-    omega (arith, sum_by-cons (backing_at f) y gs, a)
+    let a = ap (backing_at f) e in omega (arith, sum_by-cons (backing_at f) y gs, a)
 backing-part f (suc n) (y ∷ gs) g e =
     omega (arith, sum_by-cons (backing_at f) y gs, backing-part f n gs g e)
 
@@ -51,8 +50,7 @@ framed f zero [] e = absurd (cc e)
 framed f (suc p) [] e = absurd (cc e)
 framed f zero (x ∷ xs) e =
     let a : is_frame f x ≡ true = ap (is_frame f) e ∙ same_number f in
-    let b = ap one_if a in
-    omega (arith, count_by-cons (is_frame f) x xs, b)
+    let b = ap one_if a in omega (arith, count_by-cons (is_frame f) x xs, b)
 framed f (suc p) (x ∷ xs) e = omega (arith, count_by-cons (is_frame f) x xs, framed f p xs e)
 
 pub page_of : (f : ℕ) (frames : List (Option ℕ)) → 1 ≤ count_by (is_frame f) frames

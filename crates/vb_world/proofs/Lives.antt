@@ -68,8 +68,7 @@ module _ {S D : Type 0} (Stand : S → Guest → Type 0) (Spare : D → Bool →
             (omega (arith, len, less, host.count)) (omega (arith, less, host.few)) capacity (sym key)
             (record {
               balance = λ f.
-                  let was = ap (backing_at f) has.there in
-                  omega (arith, moves.balance f, was);
+                  let was = ap (backing_at f) has.there in omega (arith, moves.balance f, was);
               count = moves.count;
             }),
         rw has.there (refl, refl),

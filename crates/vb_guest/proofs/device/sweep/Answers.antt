@@ -5,8 +5,7 @@ use Rattle.vb_guest.proofs.device.sweep.Goals as goal
 
 pub sweep-answer-requires : goal.sweep-answer-requires
 sweep-answer-requires g c =
-    let (d, (keeps, guest, stands, held)) = c.requires in
-    none_loose keeps _ _ d guest stands
+    let (d, (keeps, guest, stands, held)) = c.requires in none_loose keeps _ _ d guest stands
 
 pub return_loose-requires : goal.return_loose-requires
 return_loose-requires g c =

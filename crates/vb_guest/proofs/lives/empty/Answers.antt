@@ -5,8 +5,7 @@ use Rattle.vb_guest.proofs.lives.empty.Goals as goal
 
 pub take_all_back-requires-clause-out : goal.take_all_back-requires-clause-out
 take_all_back-requires-clause-out g c =
-    let (d, (keeps, guest, stands, held)) = c.requires in
-    all_loose keeps _ _ d guest _ stands held
+    let (d, (keeps, guest, stands, held)) = c.requires in all_loose keeps _ _ d guest _ stands held
 
 pub returns-clause-bare : goal.returns-clause-bare
 returns-clause-bare g c = is_bare _ _ _ c.take_all_back.ensures.mem

@@ -16,8 +16,7 @@ returns-then-not-is_at c = (
       c.loop-entry.place c.entry-item.result at own c.loop-entry.invariant.made
       c.loop-entry.invariant.within (λ here.
       let is : c.is_at.result ≡ true = c.is_at.ensures.1 here in
-      let other : c.is_at.result ≡ false = search rules in
-      cc) both),
+      let other : c.is_at.result ≡ false = search rules in cc) both),
 )
 
 pub loop-entry-preserved : goal.loop-entry-preserved
@@ -32,5 +31,4 @@ loop-entry-preserved c =
     c.loop-entry.place c.entry-item.result at own c.loop-entry.invariant.made
     c.loop-entry.invariant.of_rounds here in
     let within = slice_get_within c.args.expected.now c.loop-entry.place c.entry-item.result here.0
-    in
-    record { made = next.0; within = omega (arith, within); of_rounds = next.1 }
+    in record { made = next.0; within = omega (arith, within); of_rounds = next.1 }

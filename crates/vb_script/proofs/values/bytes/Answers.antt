@@ -16,5 +16,4 @@ pub returns-in-Ok-clause-value : goal.returns-in-Ok-clause-value
 returns-in-Ok-clause-value c =
     let some : 0 < length c.args.word.now = search rules in
     let few : length c.args.word.now ≤ 2 * 4096 = omega arith in
-    let read = bytes_read c.args.word.now _ some few c.in-Ok.ensures.ok in
-    search rules
+    let read = bytes_read c.args.word.now _ some few c.in-Ok.ensures.ok in search rules

@@ -46,5 +46,4 @@ pub returns-clause-ok : goal.returns-clause-ok
 returns-clause-ok g c =
     let whole : length c.args.paces.now ≤ c.loop-pace.pace-index = c.loop-pace-test.false in
     let paces = c.loop-pace.invariant.paces ∙ ap (λ (ps : List _). map is_paced ps)
-    (take_all c.loop-pace.pace-index c.args.paces.now whole) in
-    rw (← paces) c.run_on.ensures.ok
+    (take_all c.loop-pace.pace-index c.args.paces.now whole) in rw (← paces) c.run_on.ensures.ok

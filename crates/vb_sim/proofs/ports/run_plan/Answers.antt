@@ -60,8 +60,7 @@ pub loop-pace-preserved : goal.loop-pace-preserved
 loop-pace-preserved g c =
     let head : c.loop-pace.passes.rest.items ≡ c.in-Some.pass ∷ c.next.new.self.rest.items =
     search rules in
-    let left = (next_unheld _ _ _ head c.loop-pace.invariant.passes).1 in
-    elim c.match-pace.branch [
+    let left = (next_unheld _ _ _ head c.loop-pace.invariant.passes).1 in elim c.match-pace.branch [
       | in-Immediate+in-Ok+in_ok-add_port-in-Immediate w ↦
           let device = w.in-Ok.device.value in
           let box = w.into_dyn_box in

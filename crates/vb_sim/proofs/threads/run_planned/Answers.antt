@@ -12,8 +12,7 @@ returns-in_err-report g c =
     let fault = fault_of_plan (planned_by c.args.script) c.args.bells c.in-Some.plan is
     c.in_err-report.field-0.0 c.in_err-report.ensures in
     let passed : c.from_residual-in_err-report.result ≡ Err c.in_err-report.field-0.0 =
-    search rules in
-    rw passed fault
+    search rules in rw passed fault
 
 pub returns : goal.returns
 returns g c = let is = rw c.in-Some.is at c.in_ok-plan.ensures in record {

@@ -19,5 +19,4 @@ first_wrong-requires g c =
     let keeps : ((own-1.entry box.result.vtable).1.GuestBytes.part box.result.value).keeps ≡ true
     = read_made own-1 (own-1.entry at-1-1) at-1-1 refl Bool
     (λ entry made. (entry.1.GuestBytes.part made).keeps) box.result.vtable box.result.value device
-    box.ensures.1 in
-    keeps_its_own _ _ _ _ _ keeps c.in-Ok-new-2.ensures.made
+    box.ensures.1 in keeps_its_own _ _ _ _ _ keeps c.in-Ok-new-2.ensures.made

@@ -10,8 +10,7 @@ new-requires g c =
     c.remove-device.new.self.items (omega (arith, c.requires.some, c.args.self.now.spares.ok))
     c.remove-device.ensures.value c.remove-device.ensures.items in
     let spare = (spare_of _ _ _ _ _ w c.remove-device.result c.remove-device.new.self.items host
-    first).spare.0 in
-    record { unused = spare.unused; own = spare.own; config = c.requires.config }
+    first).spare.0 in record { unused = spare.unused; own = spare.own; config = c.requires.config }
 
 pub returns-in-Ok : goal.returns-in-Ok
 returns-in-Ok g c = λ w host.

@@ -53,5 +53,4 @@ pub returns : goal.returns
 returns g c = λ w host.
     let (now, at) = c.loop-key.invariant.aims w host in
     let all = targets_set _ _ _ _ _ w c.args.targets.now c.loop-key.key host
-    (omega (arith, c.loop-key-test.false, c.capacity-key-end.ensures.slots)) in
-    rw (← all) now
+    (omega (arith, c.loop-key-test.false, c.capacity-key-end.ensures.slots)) in rw (← all) now
