@@ -43,12 +43,13 @@ cut_is : (n : ℕ) (r : Region) (run : Run) →
       in_file = r.in_file + (page_size * run.first - r.guest);
       length = page_size * run.count;
     }
-cut_is n r run h = let cut : ℕ → ℕ → Cut = λ a l. record {
-  region = n;
-  offset = page_size * a - r.guest;
-  in_file = r.in_file + (page_size * a - r.guest);
-  length = page_size * l;
-} in
+cut_is n r run h =
+    let cut : ℕ → ℕ → Cut = λ a l. record {
+      region = n;
+      offset = page_size * a - r.guest;
+      in_file = r.in_file + (page_size * a - r.guest);
+      length = page_size * l;
+    } in
     ap (λ (e : ℕ). cut (first_both r run) (e - first_both r run)) (end_is r run h.to)
     ∙ (ap (λ (a : ℕ). cut a ((run.first + run.count) - a)) (first_is r run h.from)
     ∙ ap (λ (l : ℕ). cut run.first l) (taken_off run.first run.count))
