@@ -11,3 +11,4 @@ pub mod LooseFrames
 pub mod Ballooning
 pub mod Visits
 pub mod OwnFrames
+mod CallFacts

@@ -24,3 +24,4 @@ pub mod ReportAreas
 pub mod ReportPosting
 pub mod ReportMoves
 pub mod Restarting
+mod DriverFacts

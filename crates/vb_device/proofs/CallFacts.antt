@@ -1,0 +1,124 @@
+-- What calls leave of a device, worked out.
+use Rattle.std.proofs.Common.{◌≡◌, ℕ, true, false, List, [], ◌∷◌, map, refl, arith, ap}
+use Rattle.std.specs.Prelude.{Some, None, length}
+use Rattle.vb_model.specs.Requests.{Request}
+use Rattle.vb_ram.specs.{Pages.{Pages}, Part.{Part, QueuePart, no_part, no_queue}}
+use Rattle.vb_device.specs.declared.claimed.Claimed.TheVariants.{AskHost, NoFrame}
+use Rattle.vb_device.specs.Calls.{taking, settled, using, without_frames, lost_frames, next_visit}
+use Rattle.vb_device.specs.Calls.{attached, Claims, PutsBack, HandsBack}
+use Rattle.vb_device.specs.{BaseCalls.{visited_queue, page_to_visit, flags_after, GivesLast}}
+use Rattle.vb_device.specs.{Discards.{discarded, frames_behind}, Faults.needing_reset, Own.{has, without}}
+
+abbrev asked : ℕ → List ℕ → ℕ → Request
+asked head pages visited = record { head = head; pages = pages; visited = visited }
+
+abbrev queue : ℕ → List Request → QueuePart
+queue at taken = record { next_avail = at; next_used = at; taken = taken }
+
+-- of the pages 1 to 3 the second has no frame
+abbrev mem : Pages
+mem = None ∷ Some (record { number = 7; bytes = [] }) ∷ None ∷ Some (record { number = 9; bytes = [] }) ∷ []
+
+abbrev busy : Part
+busy = record no_part {
+  status = 15;
+  ballooned = false ∷ true ∷ false ∷ false ∷ [];
+  inflate = queue 65535 (asked 1 (1 ∷ []) 1 ∷ asked 0 (3 ∷ 2 ∷ []) 0 ∷ []);
+  report = queue 5 (asked 0 (1 ∷ []) 0 ∷ []);
+  paced = true;
+}
+
+-- ---- frames
+
+bare : discarded (1 ∷ 2 ∷ []) mem ≡ None ∷ None ∷ None ∷ Some (record { number = 9; bytes = [] }) ∷ []
+bare = refl
+
+behind : frames_behind mem (3 ∷ 2 ∷ 1 ∷ 4 ∷ []) ≡ 9 ∷ 7 ∷ []
+behind = refl
+
+-- a deflate's pages keep theirs; a page that stands twice loses one
+lost : lost_frames 0 (3 ∷ 2 ∷ []) mem ∷ lost_frames 1 (3 ∷ 2 ∷ []) mem ∷ lost_frames 4 (3 ∷ 3 ∷ []) mem ∷ []
+    ≡ (9 ∷ []) ∷ [] ∷ (9 ∷ []) ∷ []
+lost = refl
+
+kept : without_frames 1 (3 ∷ []) mem ≡ mem
+kept = refl
+
+handed_back : HandsBack (record busy { loose = 7 ∷ 9 ∷ [] }) (record busy { loose = 9 ∷ [] })
+    (Some (record { number = 7; bytes = [] }))
+handed_back = (λ n. refl, refl, refl)
+
+handed_back_none : HandsBack (record busy { loose = 7 ∷ [] }) (record busy { loose = 7 ∷ [] }) None → ⊥
+handed_back_none back = omega (arith, ap (λ (l : List ℕ). length l) back.0)
+
+last_first : GivesLast (record busy { loose = 7 ∷ 9 ∷ [] }) (record busy { loose = 7 ∷ [] })
+    (Some (record { number = 9; bytes = [] }))
+last_first = (refl, refl)
+
+-- ---- a queue: the index goes round, a new request is the last, and those behind a used one close up
+
+takes : taking 0 4 (2 ∷ []) busy ≡ record busy {
+  inflate = record {
+    next_avail = 0;
+    next_used = 65535;
+    taken = asked 1 (1 ∷ []) 1 ∷ asked 0 (3 ∷ 2 ∷ []) 0 ∷ asked 4 (2 ∷ []) 0 ∷ [];
+  };
+}
+takes = refl
+
+uses : using 0 0 busy ≡ record busy {
+  inflate = record {
+    next_avail = 65535;
+    next_used = 0;
+    taken = asked 0 (3 ∷ 2 ∷ []) 0 ∷ [];
+  };
+}
+uses = refl
+
+settles : map (λ q. (settled q (1 ∷ 3 ∷ []) busy).ballooned) (0 ∷ 1 ∷ 4 ∷ [])
+    ≡ (false ∷ true ∷ false ∷ true ∷ []) ∷ (false ∷ false ∷ false ∷ false ∷ [])
+    ∷ (false ∷ true ∷ false ∷ false ∷ []) ∷ []
+settles = refl
+
+flags : map (λ q. flags_after q (1 ∷ 3 ∷ []) busy.ballooned) (0 ∷ 1 ∷ 4 ∷ [])
+    ≡ map (λ q. (settled q (1 ∷ 3 ∷ []) busy).ballooned) (0 ∷ 1 ∷ 4 ∷ [])
+flags = refl
+
+-- an inflate's page is visited before a report's, and only by a device that visits
+visits : (next_visit 0 busy ≡ Some 3) × (next_visit 4 busy ≡ Some 1)
+    × (next_visit 0 (record busy { paced = false }) ≡ None)
+visits = (refl, refl, refl)
+
+next : (visited_queue busy ≡ 0) × (page_to_visit busy ≡ Some 3)
+    × (visited_queue (record busy { inflate = no_queue }) ≡ 4)
+next = (refl, refl, refl)
+
+-- ---- faults, guests and own frames
+
+needs_reset : needing_reset busy ≡ record busy { status = 79 }
+needs_reset = refl
+
+a_guest : attached (record { pages = 3; queue_size = 8; processors = 1 }) busy ≡ record no_part {
+  ballooned = false ∷ false ∷ false ∷ [];
+  queue_size = 8;
+  paced = true;
+}
+a_guest = refl
+
+own : map (has (4 ∷ 6 ∷ [])) (4 ∷ 5 ∷ 6 ∷ []) ≡ true ∷ false ∷ true ∷ []
+own = refl
+
+one_less : without (4 ∷ 6 ∷ 4 ∷ []) 4 ≡ 6 ∷ []
+one_less = refl
+
+asks_the_host : Claims busy busy AskHost
+asks_the_host = (refl, refl)
+
+gives_none_of_its_own : Claims busy busy NoFrame → ⊥
+gives_none_of_its_own claims = (let wrong : false ≡ true = claims.0 in absurd cc)
+
+comes_back : PutsBack busy busy (record { number = 7; bytes = [] }) (Some (record { number = 7; bytes = [] }))
+comes_back = (refl, refl, refl)
+
+keeps_of_another : PutsBack busy busy (record { number = 7; bytes = [] }) None → ⊥
+keeps_of_another back = (let wrong : false ≡ true = back.0 in absurd cc)
