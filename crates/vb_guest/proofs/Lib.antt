@@ -71,3 +71,4 @@ pub mod RogueMemory
 pub mod Exactly
 pub mod Filling
 pub mod Quiet
+mod SupplyFacts

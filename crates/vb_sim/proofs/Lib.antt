@@ -6,3 +6,4 @@ pub mod Playing
 pub mod Reading
 pub mod Reporting
 pub mod Speaking
+mod ArgumentFacts

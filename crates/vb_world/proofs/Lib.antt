@@ -7,3 +7,4 @@ pub mod Runs
 pub mod Lives
 pub mod Aiming
 pub mod Balancing
+mod HostFacts
