@@ -1,11 +1,9 @@
 -- Sets, words and their summaries, worked out.
 use Rattle.std.proofs.Common.{◌≡◌, ℕ, zero, suc, ◌<◌, ◌≤◌, true, false, List, [], ◌∷◌, map, refl}
-use Rattle.std.proofs.Common.{arith}
-use Rattle.std.specs.Prelude.{Bool, Some, None}
-use Rattle.vb_bits.specs.{declared.word.TheConstants.WORD_BITS, declared.set.TheConstants.MAX_BOUND}
-use Rattle.vb_bits.specs.Sets.{has, IsFirstFrom}
-use Rattle.vb_bits.specs.Words.{in_words, flags_of, AreWordsOf, IsLowestFrom}
-use Rattle.vb_bits.specs.Levels.{HasSummary}
+use Rattle.std.{proofs.Common.arith, specs.Prelude.{Bool, Some, None}}
+use Rattle.vb_bits.specs.declared.{word.TheConstants.WORD_BITS, set.TheConstants.MAX_BOUND}
+use Rattle.vb_bits.specs.{Sets.{has, IsFirstFrom}, Words.{in_words, flags_of, AreWordsOf}}
+use Rattle.vb_bits.specs.{Words.IsLowestFrom, Levels.HasSummary}
 
 numbers : WORD_BITS ∷ MAX_BOUND ∷ [] ≡ 64 ∷ 262144 ∷ []
 numbers = refl
@@ -44,13 +42,12 @@ members : map (has set) (0 ∷ 1 ∷ 3 ∷ 4 ∷ []) ≡ false ∷ true ∷ true
 members = refl
 
 first : IsFirstFrom set 2 (Some 3)
-first = record { from = omega arith; member = refl; least = below }
-  where
-    below : (m : ℕ) → 2 ≤ m → m < 3 → has set m ≡ false
-    below zero from to = refl
-    below (suc zero) from to = absurd (omega (arith, from))
-    below (suc (suc zero)) from to = refl
-    below (suc (suc (suc m))) from to = absurd (omega (arith, to))
+first = record { from = omega arith; member = refl; least = below } where
+  below : (m : ℕ) → 2 ≤ m → m < 3 → has set m ≡ false
+  below zero from to = refl
+  below (suc zero) from to = absurd (omega (arith, from))
+  below (suc (suc zero)) from to = refl
+  below (suc (suc (suc m))) from to = absurd (omega (arith, to))
 
 not_one_before : IsFirstFrom set 2 (Some 1) → ⊥
 not_one_before is = omega (arith, is.from)

@@ -1,20 +1,17 @@
 -- Which notices begin, which go on, and which don't, worked out.
-use Rattle.std.proofs.Common.{◌≡◌, ◌∙◌, refl, ap, subst, sym, arith, ℕ, ◌++◌, true, false, List}
-use Rattle.std.proofs.Common.{[], ◌∷◌, length, Option, Some, None}
-use Rattle.std.specs.Option.{unwrap_or}
+use Rattle.std.proofs.Common.{◌≡◌, ◌∙◌, refl, ap, subst, sym, arith, ℕ, ◌++◌, true, false, List, []}
+use Rattle.std.{proofs.Common.{◌∷◌, length, Option, Some, None}, specs.Option.unwrap_or}
 use Rattle.vb_core.{specs.declared.kinds.Kind.Kind, specs.declared.device.Device.Device}
 use Rattle.vb_core.specs.declared.kinds.Kind.TheVariants.{Inflate, Deflate}
-use Rattle.vb_monitor.{specs.declared.outcome.Outcome.Outcome, specs.declared.notice.Notice.Notice}
-use Rattle.vb_monitor.specs.declared.step.Phase.TheVariants.{AwaitsFlags, Ended}
-use Rattle.vb_monitor.{specs.Accesses.{Access, ReadWord, Full}, specs.Ends.wants_interrupt}
-use Rattle.vb_monitor.specs.Machine.{Room, Ahead, whole}
-use Rattle.vb_monitor.specs.Orders.{at_once}
+use Rattle.vb_monitor.specs.declared.{outcome.Outcome.Outcome, notice.Notice.Notice}
+use Rattle.vb_monitor.specs.{declared.step.Phase.TheVariants.{AwaitsFlags, Ended}, Accesses.Access}
+use Rattle.vb_monitor.specs.{Accesses.{ReadWord, Full}, Ends.wants_interrupt, Machine.{Room, Ahead}}
+use Rattle.vb_monitor.specs.{Machine.whole, Orders.at_once, declared.balloon.Balloon.Balloon}
 use Rattle.vb_c.specs.declared.notice.{VbNotice.VbNotice, VbRoom.VbRoom}
 use Rattle.vb_c.{specs.Codes.code_of_kind, specs.Notices.{tally_of, notice_of}}
 use Rattle.vb_c.specs.Serving.{room_in, HandsOver, with_device, Begins, GoesOn, held_then}
 use Rattle.vb_c.proofs.HandingFacts.{spot, shown, nothing, at_index, handed}
 use Rattle.vb_c.proofs.Samples.{Same, two, begun, balloon}
-use Rattle.vb_monitor.specs.declared.balloon.Balloon.{Balloon}
 
 abbrev room : VbRoom
 room = record { pieces = []; bytes = []; runs = []; figures = []; cuts = [] }

@@ -67,11 +67,7 @@ takes : taking 0 4 (2 ∷ []) busy ≡ record busy {
 takes = refl
 
 uses : using 0 0 busy ≡ record busy {
-  inflate = record {
-    next_avail = 65535;
-    next_used = 0;
-    taken = asked 0 (3 ∷ 2 ∷ []) 0 ∷ [];
-  };
+  inflate = record { next_avail = 65535; next_used = 0; taken = asked 0 (3 ∷ 2 ∷ []) 0 ∷ [] };
 }
 uses = refl
 
@@ -98,11 +94,8 @@ next = (refl, refl, refl)
 needs_reset : needing_reset busy ≡ record busy { status = 79 }
 needs_reset = refl
 
-a_guest : attached (record { pages = 3; queue_size = 8; processors = 1 }) busy ≡ record no_part {
-  ballooned = false ∷ false ∷ false ∷ [];
-  queue_size = 8;
-  paced = true;
-}
+a_guest : attached (record { pages = 3; queue_size = 8; processors = 1 }) busy
+    ≡ record no_part { ballooned = false ∷ false ∷ false ∷ []; queue_size = 8; paced = true }
 a_guest = refl
 
 own : map (has (4 ∷ 6 ∷ [])) (4 ∷ 5 ∷ 6 ∷ []) ≡ true ∷ false ∷ true ∷ []

@@ -11,13 +11,12 @@ use Rattle.vb_pages.specs.declared.fault.PageFault.TheVariants.{BadOrder as Orde
 use Rattle.vb_pages.specs.declared.fault.PageFault.TheVariants.{BadCpu as NoSuchCpu}
 use Rattle.vb_pages.specs.declared.fault.PageFault.TheVariants.{NoPages as NoFreeBlock}
 use Rattle.vb_pages.specs.declared.fault.PageFault.TheVariants.{NotHeld as NoSuchBlock}
-use Rattle.vb_driver.specs.Areas.{refusal_of, is_free_block, is_covered}
-use Rattle.vb_driver.specs.Coding.{buffer_of, statistics_buffer}
-use Rattle.vb_driver.specs.Places.{number_of, is_at, first_place, AreLentBits}
-use Rattle.vb_driver.specs.Reaps.{pages_sent, without_request, places_after, with_actual}
-use Rattle.vb_driver.specs.Reaps.{after_refusal, next_of}
-use Rattle.vb_driver.specs.Requests.{numbers_extent, figures_extent, stranded_first}
-use Rattle.vb_driver.specs.State.{DriverState, fresh_driver, given_away, figures_of, pages_named, room}
+use Rattle.vb_driver.specs.{Areas.{refusal_of, is_free_block, is_covered}, Coding.buffer_of}
+use Rattle.vb_driver.specs.{Coding.statistics_buffer, Places.{number_of, is_at, first_place}}
+use Rattle.vb_driver.specs.{Places.AreLentBits, Reaps.{pages_sent, without_request, places_after}}
+use Rattle.vb_driver.specs.{Reaps.{with_actual, after_refusal, next_of}, Requests.numbers_extent}
+use Rattle.vb_driver.specs.{Requests.{figures_extent, stranded_first}, State.DriverState}
+use Rattle.vb_driver.specs.State.{fresh_driver, given_away, figures_of, pages_named, room}
 
 -- ---- places
 

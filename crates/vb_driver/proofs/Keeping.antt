@@ -80,12 +80,11 @@ stays {d} {pages} {from} {n} leaves to other fails few p =
 pub stays_held : {d : DriverState} {pages : List ℕ} {from : Place → Bool} → Leaves d pages from
     → (to : Place) → from Used ≡ false → (p : ℕ) → is_covered p d.held ≡ true
     → cond (is_in p pages) to (place_of d.places p) ≡ Used
-stays_held {d} {pages} {from} leaves to fails p covered = by (is_in p pages) refl
-  where
-    by : (b : Bool) → is_in p pages ≡ b → cond (is_in p pages) to (place_of d.places p) ≡ Used
-    by true e = absurd (both_ways (from Used) fails
-        (ap from (sym (leaves.kept.used p covered)) ∙ leaves.at p e))
-    by false e = ap (λ v. cond v to (place_of d.places p)) e ∙ leaves.kept.used p covered
+stays_held {d} {pages} {from} leaves to fails p covered = by (is_in p pages) refl where
+  by : (b : Bool) → is_in p pages ≡ b → cond (is_in p pages) to (place_of d.places p) ≡ Used
+  by true e = absurd (both_ways (from Used) fails
+      (ap from (sym (leaves.kept.used p covered)) ∙ leaves.at p e))
+  by false e = ap (λ v. cond v to (place_of d.places p)) e ∙ leaves.kept.used p covered
 
 -- the areas' flags, where the pages become free or cease to be
 pub free_set : (d : DriverState) (areas2 : FreePages) (pages : List ℕ) (to : Place) (b : Bool)

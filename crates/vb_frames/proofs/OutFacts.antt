@@ -29,11 +29,10 @@ second_is_free : IsFree out 1
 second_is_free = record { within = omega arith; free = refl }
 
 least_is_given : TableAnswers out (Gave 1)
-least_is_given = (second_is_free, below)
-  where
-    below : (m : ℕ) → m < 1 → is_out out m ≡ true
-    below zero lt = refl
-    below (suc m) lt = absurd (omega (arith, lt))
+least_is_given = (second_is_free, below) where
+  below : (m : ℕ) → m < 1 → is_out out m ≡ true
+  below zero lt = refl
+  below (suc m) lt = absurd (omega (arith, lt))
 
 another_is_not : TableAnswers out (Gave 2) → ⊥
 another_is_not answer = (let wrong : false ≡ true = answer.1 1 (omega arith) in absurd cc)

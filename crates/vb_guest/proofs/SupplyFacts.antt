@@ -1,6 +1,6 @@
 -- Replies, frames that move, and requests that are out, worked out.
-use Rattle.std.proofs.Common.{◌≡◌, ℕ, zero, suc, true, false, List, [], ◌∷◌, map, refl, arith, ap}
-use Rattle.std.specs.Prelude.{Bool, Some, None, Ok, Err}
+use Rattle.std.proofs.Common.{◌≡◌, ℕ, true, false, [], ◌∷◌, map, refl, arith}
+use Rattle.std.specs.Prelude.{Some, None, Ok, Err}
 use Rattle.vb_model.specs.declared.calls.Claim.TheVariants.{Gave, GaveNoFrame, GaveNoMemory}
 use Rattle.vb_model.specs.declared.replies.Refusal.TheVariants.{NotReady, NoMemory}
 use Rattle.vb_model.specs.declared.replies.Reply.TheVariants.{Ready, Page, ReadBytes, Posted, Filled, NotUsed}

@@ -2,8 +2,7 @@
 use Rattle.std.proofs.Common.{refl, ap, arith, inl, ℕ, Result, Ok, Err}
 use Rattle.vb_core.{specs.declared.saved.Saved.Saved, specs.Devices.new_device}
 use Rattle.vb_core.specs.declared.saved.StateDenial.TheVariants.{BadSum, BadLength}
-use Rattle.vb_monitor.specs.declared.balloon.Balloon.{Balloon}
-use Rattle.vb_monitor.specs.declared.placing.RestoreDenial.{RestoreDenial}
+use Rattle.vb_monitor.specs.declared.{balloon.Balloon.Balloon, placing.RestoreDenial.RestoreDenial}
 use Rattle.vb_monitor.specs.declared.placing.RestoreDenial.TheVariants.{State, Elsewhere}
 use Rattle.vb_monitor.{specs.Places.{FitsOver, RestoresBy}, proofs.Samples.{Same, two, settings}}
 

@@ -1,9 +1,8 @@
 -- Worked facts of what is done at once of a chain whose pages were named.
-use Rattle.std.proofs.Common.{◌≡◌, refl, ℕ, Bool, true, false, List, [], ◌∷◌, map, Option, Some, None}
+use Rattle.std.proofs.Common.{◌≡◌, refl, ℕ, Bool, true, false, [], ◌∷◌, map, Option, Some, None}
 use Rattle.vb_core.specs.declared.kinds.Kind.TheVariants.{Inflate, Deflate, Statistics, Report}
-use Rattle.vb_core.{specs.declared.next.ChainPiece.ChainPiece, specs.declared.ring.Virtqueue.Virtqueue}
-use Rattle.vb_core.{specs.declared.kinds.Kind.Kind, specs.declared.device.Device.Device}
-use Rattle.vb_core.specs.Devices.{with_ring}
+use Rattle.vb_core.specs.declared.{next.ChainPiece.ChainPiece, ring.Virtqueue.Virtqueue}
+use Rattle.vb_core.specs.{declared.kinds.Kind.Kind, Devices.with_ring}
 use Rattle.vb_monitor.{specs.declared.regions.Spot.Spot, specs.declared.step.Place.Place}
 use Rattle.vb_monitor.{specs.Pieces.pieces_in, specs.Served.{is_last, looks_again, look_place}}
 use Rattle.vb_monitor.proofs.Samples.{two, at, ring, ready}
@@ -15,14 +14,8 @@ bytes address length = record { address = address; length = length; writable = 0
 
 -- a part of the piece of this number, of so many
 abbrev part : ℕ → ℕ → Bool → Place
-part count piece is_second = record {
-  head = 3;
-  count = count;
-  piece = piece;
-  is_second = is_second;
-  into = 0;
-  length = 4;
-}
+part count piece is_second =
+    record { head = 3; count = count; piece = piece; is_second = is_second; into = 0; length = 4 }
 
 only_piece : is_last (part 1 0 false) (bytes 0x400 4 ∷ []) ≡ true
 unfolding pieces_in

@@ -1,8 +1,7 @@
 -- What is done at once of a chain whose pages were named.
 use Rattle.std.proofs.Common.{◌≡◌, ◌∙◌, ap, sym, subst, refl, ℕ, ◌+◌, ◌<◌, Bool, true, false, List}
 use Rattle.std.proofs.Common.{arith, [], ◌∷◌, ◌++◌, length, Option, Some, None, Result, Ok, Err}
-use Rattle.std.specs.Prelude.{nat_lt, nat_le, ◌&&◌, ◌/◌}
-use Rattle.std.proofs.lemmas.Bool.Decides.{nat_tests}
+use Rattle.std.{specs.Prelude.{nat_lt, nat_le, ◌&&◌, ◌/◌}, proofs.lemmas.Bool.Decides.nat_tests}
 use Rattle.vb_model.specs.declared.limits.TheConstants.{MAX_REQUEST_PAGES}
 use Rattle.vb_chain.specs.declared.fault.ChainFault.{ChainFault}
 use Rattle.vb_request.specs.Request.{is_request_length}
@@ -37,8 +36,7 @@ open_taken Deflate d = refl
 open_taken Statistics d = refl
 open_taken Report d = refl
 
-open_used : (kind : Kind) (d : Device) →
-    queue_denial kind (after_use kind d) ≡ queue_denial kind d
+open_used : (kind : Kind) (d : Device) → queue_denial kind (after_use kind d) ≡ queue_denial kind d
 open_used Inflate d = refl
 open_used Deflate d = refl
 open_used Statistics d = refl
@@ -74,13 +72,12 @@ may_use kind head d lt e =
     ap (λ (b : Bool). call_denial kind true b true d) fits ∙ e
 
 pub given_goes : (w : Whole) (d d2 : Device) (t : Tally) (head : ℕ) (u : Used) (s : UsedSpots)
-    (at : Spot) (log : List Access) → looks_again w.kind ≡ true →
-    head < (ring_of w.kind d).size → queue_denial w.kind d ≡ None →
-    used_spots w.regions (used_entry (ring_of w.kind d) head) ≡ Some s →
-    spot w.regions ((ring_of w.kind d).avail + 2) 2 ≡ Some at → d2 ≡ after_use w.kind d →
-    giving true u ≡ used_accesses s (used_entry (ring_of w.kind d) head) →
-    AsksIndex w (TakesNext t.chains w d2 (with_given t)) d2 (with_given t) at log →
-    GivesBack w (next_chain w t) d t head (giving true u ++ log)
+    (at : Spot) (log : List Access) → looks_again w.kind ≡ true → head < (ring_of w.kind d).size
+    → queue_denial w.kind d ≡ None → used_spots w.regions (used_entry (ring_of w.kind d) head)
+    ≡ Some s → spot w.regions ((ring_of w.kind d).avail + 2) 2 ≡ Some at
+    → d2 ≡ after_use w.kind d → giving true u ≡ used_accesses s (used_entry (ring_of w.kind d) head)
+    → AsksIndex w (TakesNext t.chains w d2 (with_given t)) d2 (with_given t) at log
+    → GivesBack w (next_chain w t) d t head (giving true u ++ log)
 given_goes w d d2 t head u s at log looks lt ready spots place after writes h =
     let e = used_entry (ring_of w.kind d) head in
     let used = after_use w.kind d in

@@ -2,8 +2,7 @@
 use Rattle.std.proofs.Common.{◌≡◌, refl, ℕ, true, false, Option, Some, None}
 use Rattle.vb_chain.specs.declared.descriptor.Descriptor.{Descriptor}
 use Rattle.vb_core.specs.declared.kinds.Kind.TheVariants.{Inflate, Deflate, Statistics, Report}
-use Rattle.vb_core.specs.declared.device.Denial.TheVariants.{NotReady}
-use Rattle.vb_core.specs.declared.kinds.Kind.{Kind}
+use Rattle.vb_core.specs.declared.{device.Denial.TheVariants.NotReady, kinds.Kind.Kind}
 use Rattle.vb_monitor.{specs.declared.single.FirstPart.FirstPart, specs.declared.step.Walk.Walk}
 use Rattle.vb_monitor.specs.Single.{index_place, is_single, single_place, single_of}
 use Rattle.vb_monitor.proofs.Samples.{two, at, ring}
@@ -59,8 +58,7 @@ after kind w x = single_of w x (single_place two kind w x 0x20000 ring)
 abbrev part_at : ℕ → ℕ → FirstPart
 part_at offset length = record {
   at = at offset;
-  place =
-      record { head = 3; count = 1; piece = 0; is_second = false; into = 0; length = length };
+  place = record { head = 3; count = 1; piece = 0; is_second = false; into = 0; length = length };
 }
 
 all_of_it : after Inflate walk alone ≡ Some (part_at 0x400 8)

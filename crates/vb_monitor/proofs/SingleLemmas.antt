@@ -3,25 +3,21 @@ use Rattle.std.proofs.Common.{◌≡◌, ◌∙◌, ap, sym, subst, refl, arith,
 use Rattle.std.specs.Prelude.{◌&&◌, ◌==◌, not, is_none, if◌then◌else◌}
 use Rattle.std.proofs.Common.{false, List, [], ◌∷◌, ◌++◌, length, Option, Some, None, Ok, Result}
 use Rattle.std.proofs.lemmas.Bool.Decides.{nat_tests}
-use Rattle.vb_chain.specs.declared.pieces.Piece.{Piece}
-use Rattle.vb_chain.specs.declared.descriptor.Descriptor.{Descriptor}
-use Rattle.vb_chain.specs.declared.fault.ChainFault.{ChainFault}
-use Rattle.vb_chain.specs.Rules.{has_next, is_writable, piece_of}
+use Rattle.vb_chain.specs.declared.{pieces.Piece.Piece, descriptor.Descriptor.Descriptor}
+use Rattle.vb_chain.specs.{declared.fault.ChainFault.ChainFault, Rules.{has_next, is_writable}}
+use Rattle.vb_chain.specs.Rules.{piece_of}
 use Rattle.vb_request.specs.Request.{is_request_length, request_length}
-use Rattle.vb_core.{specs.declared.kinds.Kind.Kind, specs.declared.device.Device.Device}
+use Rattle.vb_core.specs.declared.{kinds.Kind.Kind, device.Device.Device}
 use Rattle.vb_core.specs.declared.kinds.Kind.TheVariants.{Inflate, Deflate, Statistics, Report}
-use Rattle.vb_core.{specs.Devices.ring_of, specs.Name.is_request}
-use Rattle.vb_monitor.{specs.declared.regions.Spot.Spot, specs.declared.outcome.Tally.Tally}
-use Rattle.vb_monitor.{specs.declared.regions.Region.Region, specs.declared.step.Walk.Walk}
-use Rattle.vb_core.specs.declared.ring.Virtqueue.{Virtqueue}
-use Rattle.vb_monitor.{specs.Accesses.Access, specs.Regions.spot, specs.Ends.Whole}
-use Rattle.vb_monitor.{specs.Giving.Then, specs.declared.parts.Part.Part}
-use Rattle.vb_monitor.specs.Pieces.{first_part, all_parts, AsksPart, PartBy, PartAt, CopiesParts}
-use Rattle.vb_monitor.specs.Pieces.{fits_behind}
+use Rattle.vb_core.specs.{Devices.ring_of, Name.is_request, declared.ring.Virtqueue.Virtqueue}
+use Rattle.vb_monitor.specs.declared.{regions.Spot.Spot, outcome.Tally.Tally, regions.Region.Region}
+use Rattle.vb_monitor.specs.{declared.step.Walk.Walk, Accesses.Access, Regions.spot, Ends.Whole}
+use Rattle.vb_monitor.specs.{Giving.Then, declared.parts.Part.Part, Pieces.{first_part, all_parts}}
+use Rattle.vb_monitor.specs.Pieces.{AsksPart, PartBy, PartAt, CopiesParts, fits_behind}
 use Rattle.vb_monitor.specs.Chains.{descriptors, memory_end, table_fault, descriptor_of, GoesOn}
 use Rattle.vb_monitor.specs.Chains.{AfterDescriptor, DescriptorBy, CopiesBy, ServesPieces}
-use Rattle.vb_monitor.specs.Machine.{serves, served, next_chain, behind_part}
-use Rattle.vb_monitor.{specs.Single.{is_single, single_place, single_of}, proofs.PartLemmas.part_here}
+use Rattle.vb_monitor.specs.{Machine.{serves, served, next_chain, behind_part}, Single.is_single}
+use Rattle.vb_monitor.{specs.Single.{single_place, single_of}, proofs.PartLemmas.part_here}
 
 all_four : (a b c d : Bool) → (a && not b && not c && d) ≡ true →
     (a ≡ true) × ((b ≡ false) × ((c ≡ false) × (d ≡ true)))
@@ -32,9 +28,8 @@ all_four true true c d e = absurd cc
 all_four false b c d e = absurd cc
 
 -- what holds of a request by itself
-single_is : (k : Kind) (x : Descriptor) → is_single k x ≡ true →
-    (is_request k ≡ true) × ((has_next x ≡ false)
-    × ((is_writable x ≡ false) × (is_request_length x.len ≡ true)))
+single_is : (k : Kind) (x : Descriptor) → is_single k x ≡ true → (is_request k ≡ true)
+    × ((has_next x ≡ false) × ((is_writable x ≡ false) × (is_request_length x.len ≡ true)))
 single_is k x = all_four (is_request k) (has_next x) (is_writable x) (is_request_length x.len)
 
 -- a kind whose chains are requests
@@ -73,12 +68,11 @@ part_asked w d t head p at log long place h =
     (subst (λ (o : Option Spot). PartAt w on d t part [] o log) (sym place) h))
 
 piece_served : (w : Whole) (d : Device) (t : Tally) (head : ℕ) (x : Descriptor) (at : Spot)
-    (log : List Access) → is_single w.kind x ≡ true →
-    spot w.regions ((first_part (piece_of x)).address + (first_part (piece_of x)).plus)
-    (first_part (piece_of x)).length ≡ Some at →
-    AsksPart (CopiesParts w (served w t d head) d t (behind_part false 0 (piece_of x ∷ [])))
-    (first_part (piece_of x)).length [] at log →
-    serves w t d head (piece_of x ∷ []) log
+    (log : List Access) → is_single w.kind x ≡ true
+    → spot w.regions ((first_part (piece_of x)).address + (first_part (piece_of x)).plus)
+    (first_part (piece_of x)).length ≡ Some at
+    → AsksPart (CopiesParts w (served w t d head) d t (behind_part false 0 (piece_of x ∷ [])))
+    (first_part (piece_of x)).length [] at log → serves w t d head (piece_of x ∷ []) log
 piece_served w d t head x at log is place h =
     let (request, (last, (readable, long))) = single_is w.kind x is in
     by_request w.kind w (next_chain w t) d t head (piece_of x ∷ []) log request
@@ -87,17 +81,16 @@ piece_served w d t head x at log is place h =
     (part_asked w d t head (piece_of x) at log long place h))
 
 -- the only descriptor of a chain
-goes : (w : Whole) (d : Device) (t : Tally)
-    (on : ℕ → Bool → List Piece → List Access → Type 0) (head : ℕ) (writing : Bool)
-    (ps qs : List Piece) (bytes : List ℕ) (x : Descriptor) (at : Spot) (log : List Access) →
-    ps ≡ [] → qs ≡ ps ++ piece_of x ∷ [] → descriptor_of bytes ≡ x →
-    table_fault (descriptors (ring_of w.kind d)) (memory_end d) writing (length ps) x ≡ None →
-    is_single w.kind x ≡ true →
-    spot w.regions ((first_part (piece_of x)).address + (first_part (piece_of x)).plus)
-    (first_part (piece_of x)).length ≡ Some at →
-    AsksPart (CopiesParts w (served w t d head) d t (behind_part false 0 qs))
-    (first_part (piece_of x)).length [] at log →
-    AfterDescriptor w d t on (serves w t d head) writing ps bytes log
+goes : (w : Whole) (d : Device) (t : Tally) (on : ℕ → Bool → List Piece → List Access → Type 0)
+    (head : ℕ) (writing : Bool) (ps qs : List Piece) (bytes : List ℕ) (x : Descriptor)
+    (at : Spot) (log : List Access) → ps ≡ [] → qs ≡ ps ++ piece_of x ∷ [] → descriptor_of bytes ≡ x
+    → table_fault (descriptors (ring_of w.kind d)) (memory_end d) writing (length ps) x ≡ None
+    → is_single w.kind x ≡ true
+    → spot w.regions ((first_part (piece_of x)).address + (first_part (piece_of x)).plus)
+    (first_part (piece_of x)).length ≡ Some at
+    → AsksPart (CopiesParts w (served w t d head) d t (behind_part false 0 qs))
+    (first_part (piece_of x)).length [] at log
+    → AfterDescriptor w d t on (serves w t d head) writing ps bytes log
 goes w d t on head writing ps qs bytes x at log none joins says no_fault is place h =
     let whole = serves w t d head in
     let one : qs ≡ piece_of x ∷ [] = joins ∙ ap (λ (l : List Piece). l ++ piece_of x ∷ []) none in
@@ -115,13 +108,12 @@ goes w d t on head writing ps qs bytes x at log none joins says no_fault is plac
 pub single_goes : (w : Whole) (d : Device) (t : Tally)
     (on : ℕ → Bool → List Piece → List Access → Type 0) (head : ℕ) (writing : Bool)
     (ps qs : List Piece) (bytes : List ℕ) (x : Descriptor) (part : Part) (at : Spot)
-    (log : List Access) → part ≡ first_part (piece_of x) → ps ≡ [] → qs ≡ ps ++ piece_of x ∷ [] →
-    descriptor_of bytes ≡ x →
-    table_fault (descriptors (ring_of w.kind d)) (memory_end d) writing (length ps) x ≡ None →
-    is_single w.kind x ≡ true → spot w.regions (part.address + part.plus) part.length ≡ Some at →
-    AsksPart (CopiesParts w (served w t d head) d t (behind_part false 0 qs)) part.length [] at
-    log →
-    AfterDescriptor w d t on (serves w t d head) writing ps bytes log
+    (log : List Access) → part ≡ first_part (piece_of x)
+    → ps ≡ [] → qs ≡ ps ++ piece_of x ∷ [] → descriptor_of bytes ≡ x
+    → table_fault (descriptors (ring_of w.kind d)) (memory_end d) writing (length ps) x ≡ None
+    → is_single w.kind x ≡ true → spot w.regions (part.address + part.plus) part.length ≡ Some at
+    → AsksPart (CopiesParts w (served w t d head) d t (behind_part false 0 qs)) part.length [] at
+    log → AfterDescriptor w d t on (serves w t d head) writing ps bytes log
 single_goes w d t on head writing ps qs bytes x part at log part_is none joins says no_fault is
     place h = goes w d t on head writing ps qs bytes x at log none joins says no_fault is
     (subst (λ (q : Part). spot w.regions (q.address + q.plus) q.length ≡ Some at) part_is place)
@@ -145,8 +137,7 @@ single_by rs kind walk bytes x end r fault place none is says broken there =
     ap (λ (y : Descriptor). single_of walk y (single_place rs kind walk y end r)) says
     ∙ (ap (λ (b : Bool). single_of walk x (if b && is_single kind x
     && is_none (table_fault (descriptors r) end walk.writing 0 x) then to x else None))
-    (is_zero walk.count none)
-    ∙ (ap (λ (b : Bool). single_of walk x (if true && b
+    (is_zero walk.count none) ∙ (ap (λ (b : Bool). single_of walk x (if true && b
     && is_none (table_fault (descriptors r) end walk.writing 0 x) then to x else None)) is
     ∙ (ap (λ (o : Option ChainFault). single_of walk x (if true && true && is_none o then to x
     else None)) broken

@@ -1,10 +1,9 @@
 -- Pages that one region alone has, worked out.
 use Rattle.std.proofs.Common.{◌≡◌, refl, arith, length, true, false, List, [], ◌∷◌, ap, Some, None}
 use Rattle.vb_core.specs.declared.runs.Run.{Run}
-use Rattle.vb_monitor.{specs.declared.regions.Region.Region, specs.declared.sole.Sole.Sole}
-use Rattle.vb_monitor.{specs.declared.cuts.Cut.Cut, specs.Regions.cuts_of}
-use Rattle.vb_monitor.specs.Sole.{LiesIn, has_page, all_but, sole_of, sole_cut, HasPages, IsSole}
-use Rattle.vb_monitor.proofs.Samples.{low}
+use Rattle.vb_monitor.specs.declared.{regions.Region.Region, sole.Sole.Sole, cuts.Cut.Cut}
+use Rattle.vb_monitor.specs.{Regions.cuts_of, Sole.{LiesIn, has_page, all_but, sole_of, sole_cut}}
+use Rattle.vb_monitor.{specs.Sole.{HasPages, IsSole}, proofs.Samples.low}
 
 -- pages 22 to 31, which stand from 0x100000 on in a file
 abbrev high : Region

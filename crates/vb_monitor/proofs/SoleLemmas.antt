@@ -1,21 +1,17 @@
 -- Runs between pages that one region alone has.
-use Rattle.std.proofs.Common.{◌≡◌, ◌∙◌, ap, sym, refl, arith, ℕ, zero, suc, ◌+◌, ◌-◌, ◌*◌, ◌/◌}
-use Rattle.std.proofs.Common.{◌<◌, ◌≤◌, Bool, true, false, List, [], ◌∷◌, ◌++◌, length, drop}
-use Rattle.std.proofs.Common.{get_or, take, slice_set, Option, Some, None}
-use Rattle.std.{proofs.lemmas.List.{drop_more, take_more_set}, proofs.lemmas.Bool.Decides.nat_tests}
-use Rattle.std.specs.Prelude.{MatchOption, ◌&&◌, ◌||◌, not}
-use Rattle.std.specs.Prelude.{if◌then◌else◌, option_and_then}
-use Rattle.std.specs.List.{list_any}
-use Rattle.std.{proofs.lemmas.List.Folds.list_any-append, proofs.lemmas.Option.{slice_get-get_or, slice_get_past}}
-use Rattle.std.{proofs.Common.{length-drop, subst}, proofs.lemmas.List.{drop_all, take_all}}
+use Rattle.std.proofs.Common.{◌≡◌, ◌∙◌, ap, sym, refl, arith, ℕ, zero, suc, ◌+◌, ◌-◌, ◌*◌, ◌/◌, ◌<◌}
+use Rattle.std.proofs.Common.{◌≤◌, Bool, true, false, List, [], ◌∷◌, ◌++◌, length, drop, get_or}
+use Rattle.std.proofs.Common.{take, slice_set, Option, Some, None, length-drop, subst}
+use Rattle.std.proofs.lemmas.List.{drop_more, take_more_set, drop_all, take_all}
+use Rattle.std.{proofs.lemmas.Bool.Decides.nat_tests, specs.Prelude.{MatchOption, ◌&&◌, ◌||◌, not}}
+use Rattle.std.specs.{Prelude.{if◌then◌else◌, option_and_then}, List.list_any}
+use Rattle.std.proofs.lemmas.{List.Folds.list_any-append, Option.{slice_get-get_or, slice_get_past}}
 use Rattle.vb_monitor.specs.Regions.{is_region, meets, cut_of, cuts_from, cuts_of, first_both}
-use Rattle.vb_monitor.{specs.declared.cuts.NextCut.NextCut, specs.Machine.cuts_behind}
-use Rattle.vb_monitor.{specs.Orders.cuts_left, specs.declared.regions.TheConstants.FILE_LIMIT}
-use Rattle.vb_monitor.{specs.declared.regions.Region.Region, specs.declared.cuts.Cut.Cut}
-use Rattle.vb_monitor.{specs.declared.sole.Sole.Sole, specs.Regions.end_both}
-use Rattle.vb_monitor.specs.Sole.{LiesIn, has_page, pages_of, is_shared, sole_if, sole_of}
-use Rattle.vb_monitor.specs.Sole.{sole_cut, IsSole}
-use Rattle.vb_monitor.{proofs.RegionLemmas.{cut_here}, proofs.OrderLemmas.one_more}
+use Rattle.vb_monitor.specs.{Regions.end_both, declared.cuts.NextCut.NextCut, Machine.cuts_behind}
+use Rattle.vb_monitor.specs.{Orders.cuts_left, declared.regions.TheConstants.FILE_LIMIT}
+use Rattle.vb_monitor.specs.declared.{regions.Region.Region, cuts.Cut.Cut, sole.Sole.Sole}
+use Rattle.vb_monitor.specs.Sole.{LiesIn, has_page, pages_of, is_shared, sole_if, sole_of, sole_cut}
+use Rattle.vb_monitor.{specs.Sole.IsSole, proofs.RegionLemmas.cut_here, proofs.OrderLemmas.one_more}
 use Rattle.vb_model.specs.Limits.{page_size}
 use Rattle.vb_core.{specs.declared.settings.TheConstants.MEMORY_LIMIT, specs.declared.runs.Run.Run}
 
@@ -43,13 +39,12 @@ cut_is : (n : ℕ) (r : Region) (run : Run) →
       in_file = r.in_file + (page_size * run.first - r.guest);
       length = page_size * run.count;
     }
-cut_is n r run h =
-    let cut : ℕ → ℕ → Cut = λ a l. record {
-      region = n;
-      offset = page_size * a - r.guest;
-      in_file = r.in_file + (page_size * a - r.guest);
-      length = page_size * l;
-    } in
+cut_is n r run h = let cut : ℕ → ℕ → Cut = λ a l. record {
+  region = n;
+  offset = page_size * a - r.guest;
+  in_file = r.in_file + (page_size * a - r.guest);
+  length = page_size * l;
+} in
     ap (λ (e : ℕ). cut (first_both r run) (e - first_both r run)) (end_is r run h.to)
     ∙ (ap (λ (a : ℕ). cut a ((run.first + run.count) - a)) (first_is r run h.from)
     ∙ ap (λ (l : ℕ). cut run.first l) (taken_off run.first run.count))
@@ -88,8 +83,7 @@ passed [] n k m first end run sum e h =
 passed (r ∷ rs) zero k m first end run sum e h =
     ap (λ (j : ℕ). cuts_from j (r ∷ rs) run) (omega (arith, sum))
 passed (r ∷ rs) (suc n) k m first end run sum e h =
-    let (here, on) =
-    neither (has_page first end r) (list_any (has_page first end) (take n rs)) e in
+    let (here, on) = neither (has_page first end r) (list_any (has_page first end) (take n rs)) e in
     ap (λ (b : Bool). if b then cut_of k r run ∷ cuts_from (k + 1) rs run
     else cuts_from (k + 1) rs run) (not_met r first end run here h)
     ∙ passed rs n (k + 1) m first end run (omega (arith, sum)) on h
@@ -107,8 +101,7 @@ sole_here rs n d lt is alone =
     record {
       pages = record { guest = bounds.0; file = bounds.1.0; below = bounds.1.1 };
       is_one = lt;
-      parts = λ run h.
-          passed rs n 0 n s.first s.end run (omega arith) before h
+      parts = λ run h. passed rs n 0 n s.first s.end run (omega arith) before h
           ∙ (cut_here rs n run d lt (is_between r run is h)
           ∙ (ap (λ (l : List Cut). cut_of n r run ∷ l)
           (none_met (drop (n + 1) rs) (n + 1) s.first s.end run behind h)

@@ -1,11 +1,9 @@
 -- A notice over memory that stays as it is does what the device answers to copies of it.
 use Rattle.std.proofs.Common.{◌≡◌, ◌≢◌, ◌∙◌, ap, sym, subst, refl, arith, inl, inr, ℕ, suc, ◌+◌}
 use Rattle.std.proofs.Common.{◌*◌, ◌%◌, ◌<◌, ◌≤◌, Bool, true, false, List, [], ◌∷◌, length, map}
-use Rattle.std.proofs.Common.{take, Option, Some, None, Result, Ok, Err}
-use Rattle.std.specs.Prelude.{◌&&◌, ◌==◌, nat_lt, nat_le, not, if◌then◌else◌, IsOk, IsOkAnd}
-use Rattle.std.specs.Prelude.{IsSomeAnd}
-use Rattle.std.{proofs.lemmas.Bool.Decides.nat_tests}
-use Rattle.std.proofs.lemmas.List.FromFn.{length-map-range_with_len}
+use Rattle.std.{proofs.Common.{take, Option, Some, None, Result, Ok, Err}, specs.Prelude.◌&&◌}
+use Rattle.std.specs.Prelude.{◌==◌, nat_lt, nat_le, not, if◌then◌else◌, IsOk, IsOkAnd, IsSomeAnd}
+use Rattle.std.proofs.lemmas.{Bool.Decides.nat_tests, List.FromFn.length-map-range_with_len}
 use Rattle.vb_model.specs.Tests.{one_if}
 use Rattle.vb_ram.specs.Pages.{Pages, field, end_of}
 use Rattle.vb_chain.{specs.declared.pieces.Piece.Piece, specs.declared.fault.ChainFault.ChainFault}
@@ -25,21 +23,17 @@ use Rattle.vb_core.{specs.declared.settings.Settings.Settings, specs.Copies.copi
 use Rattle.vb_core.specs.Settings.{memory_pages, are_settings}
 use Rattle.vb_core.proofs.{ChainAgreement.{Agree, same_chain, same_break}, CopyLaws.copies_count}
 use Rattle.vb_core.proofs.{DenialLemmas.{open_call}, RingLemmas.placed_size}
-use Rattle.vb_monitor.{specs.declared.regions.Region.Region, specs.declared.regions.Spot.Spot}
-use Rattle.vb_monitor.{specs.declared.outcome.Tally.Tally, specs.declared.outcome.Budget.Budget}
-use Rattle.vb_monitor.{specs.declared.outcome.Outcome.Outcome, specs.Regions.spot}
-use Rattle.vb_monitor.specs.Accesses.{Access, ReadWord, Acquire}
-use Rattle.vb_monitor.specs.Ends.{Whole, EndsWhere}
-use Rattle.vb_monitor.specs.Chains.{descriptors, memory_end, Follows, CopiesBy, ServesPieces}
-use Rattle.vb_monitor.specs.Giving.{Then}
-use Rattle.vb_monitor.specs.Notices.{entry_offset, stands, HeadBy, EntryAt, TakesChain, AfterIndex}
-use Rattle.vb_monitor.specs.Notices.{IndexAt, LooksBy, TakesUnlessSpent, TakesNext, with_chains}
-use Rattle.vb_monitor.specs.Notices.{fresh, Serves}
+use Rattle.vb_monitor.specs.declared.{regions.Region.Region, regions.Spot.Spot, outcome.Tally.Tally}
+use Rattle.vb_monitor.specs.declared.outcome.{Budget.Budget, Outcome.Outcome}
+use Rattle.vb_monitor.specs.{Regions.spot, Accesses.{Access, ReadWord, Acquire}, Ends.Whole}
+use Rattle.vb_monitor.specs.{Ends.EndsWhere, Chains.{descriptors, memory_end, Follows, CopiesBy}}
+use Rattle.vb_monitor.specs.{Chains.ServesPieces, Giving.Then, Notices.{entry_offset, stands}}
+use Rattle.vb_monitor.specs.Notices.{HeadBy, EntryAt, TakesChain, AfterIndex, IndexAt, LooksBy}
+use Rattle.vb_monitor.specs.Notices.{TakesUnlessSpent, TakesNext, with_chains, fresh, Serves}
 use Rattle.vb_monitor.specs.{Machine.{whole, next_chain, serves}, Pieces.{piece_in, pieces_in}}
-use Rattle.vb_monitor.specs.Still.{Stays, IsMapped, avail_copy, table_copy}
-use Rattle.vb_monitor.specs.Still.{Behind, DoesAs}
-use Rattle.vb_monitor.proofs.StillBytes.{shown, word_shown, descriptor_shown}
-use Rattle.vb_monitor.proofs.StillWalk.{in_memory, Walk, walks}
+use Rattle.vb_monitor.specs.Still.{Stays, IsMapped, avail_copy, table_copy, Behind, DoesAs}
+use Rattle.vb_monitor.proofs.{StillBytes.{shown, word_shown, descriptor_shown}, StillWalk.in_memory}
+use Rattle.vb_monitor.proofs.StillWalk.{Walk, walks}
 
 -- ---- what a notice does by what is found
 
@@ -53,8 +47,7 @@ one_behind does x rest log e h = record {
 }
 
 abbrev pub ByFound : Result (Option Taken) ChainFault → Whole → Device → Tally → List Access → Type 0
-ByFound (Err f) w d t log =
-    (w.outcome.why ≡ Some (Broken f)) × (w.device ≡ needing_reset d)
+ByFound (Err f) w d t log = (w.outcome.why ≡ Some (Broken f)) × (w.device ≡ needing_reset d)
 ByFound (Ok None) w d t log = (w.outcome.why ≡ None) × (w.device ≡ d)
 ByFound (Ok (Some taken)) w d t log = Behind (serves w t d taken.head taken.chain) log
 
@@ -126,8 +119,7 @@ agree byte w d found is i lt =
     sym (descriptor_shown byte (ring_of w.kind d) (memory_pages d.settings) i is.two is.size.most lt)
 
 pub same_end : (byte : ℕ → ℕ) (w : Whole) (d : Device) → memory_end d ≡ end_of (memory byte w d)
-same_end byte w d =
-    ap (λ (n : ℕ). 4096 * n) (sym (copies_count (memory_pages d.settings)
+same_end byte w d = ap (λ (n : ℕ). 4096 * n) (sym (copies_count (memory_pages d.settings)
     (avail_copy byte (ring_of w.kind d)) (table_copy byte (ring_of w.kind d))))
 
 size_so : (r : Virtqueue) → IsSize r.size → r.size ≡ descriptors r
@@ -414,9 +406,8 @@ looks_as byte w d d3 t0 t room takes buffers result None log read mapped fits no
     (by_place byte w d t0 t takes reads.found (spot w.regions (r.avail + 2) 2) log shown_so none0
     none into refl mapped.index stays h)
 
-pub unspent : (w : Whole) (d : Device) (budget : Budget) (n : ℕ) (log : List Access) →
-    budget.chains ≡ suc n → (budget.pages == 0) ≡ false →
-    TakesNext budget.chains w d (fresh budget) log →
+pub unspent : (w : Whole) (d : Device) (budget : Budget) (n : ℕ) (log : List Access) → budget.chains
+    ≡ suc n → (budget.pages == 0) ≡ false → TakesNext budget.chains w d (fresh budget) log →
     TakesChain w (next_chain w (with_chains n (fresh budget))) d (with_chains n (fresh budget)) log
 unspent w d budget n log e f h = subst (λ (b : Bool). TakesUnlessSpent b w
     (next_chain w (with_chains n (fresh budget))) d (with_chains n (fresh budget)) log) f

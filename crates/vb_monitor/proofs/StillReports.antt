@@ -1,27 +1,25 @@
 -- A notice of reports over memory that stays does what the device answers to copies of it.
-use Rattle.std.proofs.Common.{◌≡◌, ◌∙◌, ap, sym, subst, refl, ℕ, suc, ◌<◌, ◌≤◌, Bool, true, false, List}
-use Rattle.std.proofs.Common.{length, map, take, Option, Some, None, Result, Ok, Err}
-use Rattle.std.proofs.Common.{arith, not, [], ◌++◌, ◌*◌, ◌+◌}
-use Rattle.std.specs.Prelude.{◌&&◌, ◌==◌, nat_le, nat_lt, if◌then◌else◌, slice_index, IsOk}
-use Rattle.std.{specs.List.list_any, proofs.lemmas.Bool.Decides.nat_tests}
-use Rattle.std.proofs.lemmas.List.{get_or-map, Folds.list_any_none}
+use Rattle.std.proofs.Common.{◌≡◌, ◌∙◌, ap, sym, subst, refl, ℕ, suc, ◌<◌, ◌≤◌, Bool, true, false}
+use Rattle.std.proofs.Common.{List, length, map, take, Option, Some, None, Result, Ok, Err, arith}
+use Rattle.std.{proofs.Common.{not, [], ◌++◌, ◌*◌, ◌+◌}, specs.Prelude.{◌&&◌, ◌==◌, nat_le, nat_lt}}
+use Rattle.std.specs.{Prelude.{if◌then◌else◌, slice_index, IsOk}, List.list_any}
+use Rattle.std.proofs.lemmas.{Bool.Decides.nat_tests, List.{get_or-map, append_assoc, length-map}}
+use Rattle.std.proofs.lemmas.List.{Folds.list_any_none, FromFn.length-map-range_with_len}
 use Rattle.vb_model.specs.declared.limits.TheConstants.{MAX_REPORT_PIECES}
 use Rattle.vb_chain.{specs.declared.pieces.Piece.Piece, specs.declared.fault.ChainFault.ChainFault}
 use Rattle.vb_chain.{specs.declared.descriptor.Descriptor.Descriptor, specs.Chain.ChainGives}
 use Rattle.vb_chain.specs.Rules.{piece_of, first_fault}
 use Rattle.vb_ring.specs.declared.device.Taken.{Taken}
 use Rattle.vb_request.specs.Report.{report_request}
-use Rattle.vb_core.{specs.declared.kinds.Kind.TheVariants.Report, specs.declared.runs.Run.Run}
-use Rattle.vb_core.{specs.declared.name.Named.Named, specs.declared.report.Reported.Reported}
-use Rattle.vb_core.{specs.declared.device.Denial.Denial, specs.declared.device.Device.Device}
-use Rattle.vb_core.{specs.declared.device.Denial.TheVariants.Broken, specs.Next.told}
-use Rattle.vb_core.specs.Report.{run_of, answer_with, report_of, report_denial, after_report}
-use Rattle.vb_core.specs.Report.{ReportsBy, is_beyond, pieces_denial, named_by}
-use Rattle.vb_core.specs.Devices.{ring_of, needing_reset, with_one_taken, queue_denial, call_denial}
-use Rattle.vb_core.specs.{Name.after_request, Next.are_copies}
-use Rattle.vb_core.specs.declared.settings.{TheConstants.MEMORY_LIMIT, Settings.Settings}
-use Rattle.vb_core.specs.Settings.{memory_pages, are_settings}
 use Rattle.vb_core.proofs.{DenialLemmas.open_call, RingLemmas.placed_size}
+use Rattle.vb_core.specs.Devices.{ring_of, needing_reset, with_one_taken, queue_denial, call_denial}
+use Rattle.vb_core.specs.{Name.after_request, Next.{told, are_copies}, Report.{run_of, answer_with}}
+use Rattle.vb_core.specs.Report.{report_of, report_denial, after_report, ReportsBy, is_beyond}
+use Rattle.vb_core.specs.{Report.{pieces_denial, named_by}, Settings.{memory_pages, are_settings}}
+use Rattle.vb_core.specs.declared.device.{Denial.Denial, Denial.TheVariants.Broken, Device.Device}
+use Rattle.vb_core.specs.declared.{kinds.Kind.TheVariants.Report, name.Named.Named}
+use Rattle.vb_core.specs.declared.{report.Reported.Reported, runs.Run.Run}
+use Rattle.vb_core.specs.declared.settings.{Settings.Settings, TheConstants.MEMORY_LIMIT}
 use Rattle.vb_monitor.{specs.declared.regions.Region.Region, specs.declared.outcome.Tally.Tally}
 use Rattle.vb_monitor.{specs.declared.outcome.Budget.Budget, specs.declared.outcome.Outcome.Outcome}
 use Rattle.vb_monitor.{specs.Accesses.Access, specs.Ends.Whole, specs.Regions.spot}
@@ -31,8 +29,6 @@ use Rattle.vb_monitor.specs.Machine.{whole, next_chain}
 use Rattle.vb_monitor.specs.Still.{Stays, IsMapped, avail_copy, table_copy, Behind, ReportsAs}
 use Rattle.vb_monitor.proofs.StillLaws.{ByFound, ends_so, IsShown, memory, same_end, by_place, le_so}
 use Rattle.vb_monitor.proofs.StillLaws.{copies_so, two_pages, first_of, unspent}
-use Rattle.std.proofs.lemmas.List.FromFn.{length-map-range_with_len}
-use Rattle.std.proofs.lemmas.List.{append_assoc, length-map}
 use Rattle.vb_ram.specs.Pages.{end_of}
 
 -- ---- pieces of a chain lie in memory
@@ -74,18 +70,16 @@ refused_alike : (pieces : List Piece) (d : Device) → list_any is_beyond pieces
 refused_alike pieces d e = ap (λ (b : Bool). call_denial Report true (true && not b) true d) e
 
 served_as : (w : Whole) (next : Then) (d : Device) (t : Tally) (taken : Taken) (runs : List Run)
-    (o : Result (List ℕ) ChainFault) (log : List Access) → t.given ≡ false →
-    next ≡ next_chain w t → pieces_denial taken.chain 256 d ≡ None →
-    report_request taken.chain d.settings.reserved_pages ≡ o →
-    (IsOk (answer_with taken o) → take (length taken.chain) runs ≡ map run_of taken.chain) →
-    NamesReport w next d t taken.head taken.chain log →
-    ReportsAs (told (answer_with taken o)) runs w t (after_report (answer_with taken o) d) log
+    (o : Result (List ℕ) ChainFault) (log : List Access) → t.given ≡ false → next ≡ next_chain w t
+    → pieces_denial taken.chain 256 d ≡ None → report_request taken.chain d.settings.reserved_pages
+    ≡ o → (IsOk (answer_with taken o) → take (length taken.chain) runs ≡ map run_of taken.chain)
+    → NamesReport w next d t taken.head taken.chain log
+    → ReportsAs (told (answer_with taken o)) runs w t (after_report (answer_with taken o) d) log
 served_as w next d t taken runs (Err f) log none same unrefused e are h =
     let count = length taken.chain in
     let answer : h.answer ≡ Err (Broken f) =
     h.names.answer unrefused ∙ ap (λ (r : Result (List ℕ) ChainFault). told (named_by count r)) e in
-    let device : h.device ≡ needing_reset d =
-    h.names.device unrefused
+    let device : h.device ≡ needing_reset d = h.names.device unrefused
     ∙ ap (λ (r : Result (List ℕ) ChainFault). after_request Report (named_by count r) d) e in
     let ends = ends_so t.given w h.device t (Some (Broken f)) false log none
     (subst (λ (r : Result Named Denial). AfterName w next h.device t taken.head h.runs r log)
@@ -96,8 +90,7 @@ served_as w next d t taken runs (Ok pages) log none same unrefused e are h =
     let named : Named = record { runs = count; pages = length pages; skipped = 0 } in
     let answer : h.answer ≡ Ok named =
     h.names.answer unrefused ∙ ap (λ (r : Result (List ℕ) ChainFault). told (named_by count r)) e in
-    let device : h.device ≡ with_one_taken Report d =
-    h.names.device unrefused
+    let device : h.device ≡ with_one_taken Report d = h.names.device unrefused
     ∙ ap (λ (r : Result (List ℕ) ChainFault). after_request Report (named_by count r) d) e in
     let theirs : take count h.runs ≡ map run_of taken.chain =
     h.names.runs_are (subst (λ (r : Result Named Denial). IsOk r) (sym answer) refl) in
@@ -121,15 +114,13 @@ behind_as : (result : Result (Option Reported) Denial) (runs : List Run) (w : Wh
     ReportsAs result runs w t d log
 behind_as (Err why) runs w t d log does comes h = comes h.rest h.is
 behind_as (Ok None) runs w t d log does comes h = comes h.rest h.is
-behind_as (Ok (Some found)) runs w t d log does comes h =
-    let x = comes h.rest h.is in
-    record {
-      read = h.read ++ x.read;
-      rest = x.rest;
-      all = h.all ∙ (ap (λ (l : List Access). h.read ++ l) x.all
-          ∙ sym (append_assoc h.read x.read x.rest));
-      is = x.is;
-    }
+behind_as (Ok (Some found)) runs w t d log does comes h = let x = comes h.rest h.is in record {
+  read = h.read ++ x.read;
+  rest = x.rest;
+  all = h.all ∙ (ap (λ (l : List Access). h.read ++ l) x.all
+      ∙ sym (append_assoc h.read x.read x.rest));
+  is = x.is;
+}
 
 abbrev of_reports : List Region → Device → Outcome → Whole
 of_reports regions after outcome = whole regions Report after outcome
@@ -186,12 +177,12 @@ looks_as byte rs d2 out d d3 t0 t room takes runs result (Some why) log mapped f
     let y = ends_so t0.given w d t0 (Some why) false log none0 h in
     subst (λ (o : Result (Option Reported) Denial). ReportsAs o runs w t d3 log) (sym x.0)
     (y.0, y.1 ∙ sym x.1)
-looks_as byte rs d2 out d d3 t0 t room takes runs result None log mapped fits none0 none into e stays n
-    h =
+looks_as byte
+    rs d2 out d d3 t0 t room takes runs result None log mapped fits none0 none into e stays n h =
     let w = of_reports rs d2 out in
     let r = ring_of Report d in
-    let (answer, reads, is, after) = n.reads (denied_alike _ _ room d fits
-    (length-map-range_with_len byte r.avail (4 + 2 * r.size))
+    let (answer, reads, is, after) =
+    n.reads (denied_alike _ _ room d fits (length-map-range_with_len byte r.avail (4 + 2 * r.size))
     (length-map-range_with_len byte r.table (16 * r.size)) ∙ e) in
     let open_so = open_call Report true true true d e in
     let found = reads.found in
@@ -205,8 +196,7 @@ looks_as byte rs d2 out d d3 t0 t room takes runs result None log mapped fits no
     (sym (is ∙ ap (λ (o : Result (Option Reported) ChainFault). told o) reads.answer))
     (subst (λ (x : Device). ReportsAs (told (report_of d.settings.reserved_pages found)) runs w t x
     log) (sym (after ∙ ap (λ (o : Result (Option Reported) ChainFault). after_report o d)
-    reads.answer))
-    (reports_of byte rs d2 out d t runs found log shown_so none
+    reads.answer)) (reports_of byte rs d2 out d t runs found log shown_so none
     (end_below d.settings open_so.settings) e
     (subst (λ (o : Result (Option Reported) ChainFault). (taken : Taken) →
     found ≡ Ok (Some taken) → IsOk o → take (length taken.chain) runs ≡ map run_of taken.chain)
@@ -216,12 +206,11 @@ looks_as byte rs d2 out d d3 t0 t room takes runs result None log mapped fits no
 
 pub reports_as : (byte : ℕ → ℕ) (regions : List Region) (budget : Budget) (n room : ℕ)
     (d1 d2 d3 : Device) (outcome : Outcome) (log : List Access) (runs : List Run)
-    (answer : Result (Option Reported) Denial) → budget.chains ≡ suc n →
-    (budget.pages == 0) ≡ false → IsMapped regions (ring_of Report d1) →
-    MAX_REPORT_PIECES ≤ room → Stays byte regions log →
+    (answer : Result (Option Reported) Denial) → budget.chains ≡ suc n → (budget.pages == 0) ≡ false
+    → IsMapped regions (ring_of Report d1) → MAX_REPORT_PIECES ≤ room → Stays byte regions log →
     ReportsBy (avail_copy byte (ring_of Report d1)) (table_copy byte (ring_of Report d1)) room runs
-    d1 d3 answer → Serves regions Report budget d1 d2 outcome log →
-    ReportsAs answer runs (whole regions Report d2 outcome) (with_chains n (fresh budget)) d3 log
+    d1 d3 answer → Serves regions Report budget d1 d2 outcome log
+    → ReportsAs answer runs (whole regions Report d2 outcome) (with_chains n (fresh budget)) d3 log
 reports_as byte regions budget n room d1 d2 d3 outcome log runs answer some some_pages mapped fits
     stays reports h =
     looks_as byte regions d2 outcome d1 d3 (fresh budget) (with_chains n (fresh budget))

@@ -1,7 +1,6 @@
 -- Sets of pages, processors' lists and blocks, worked out: of eight pages the first two are reserved.
-use Rattle.std.proofs.Common.{◌≡◌, ℕ, zero, suc, true, false, List, [], ◌∷◌, ◌++◌, map, slice_index, length}
-use Rattle.std.proofs.Common.{refl, arith, ap}
-use Rattle.std.specs.Prelude.{Bool, Some, None}
+use Rattle.std.proofs.Common.{◌≡◌, ℕ, zero, suc, true, false, List, [], ◌∷◌, ◌++◌, map, slice_index}
+use Rattle.std.{proofs.Common.{length, refl, arith, ap}, specs.Prelude.{Bool, Some, None}}
 use Rattle.vb_model.specs.Pages.{Block}
 use Rattle.vb_pages.specs.Areas.{block_at, with_pages, without_pages, unreserved, IsBlock, LiesIn}
 use Rattle.vb_pages.specs.Areas.{IsMaximal, HasNoBlock, TakesBlock}
@@ -72,8 +71,7 @@ from_its_list : TakesSingle six (3 ∷ 4 ∷ []) (Some 4) six (3 ∷ [])
 from_its_list = (refl, refl)
 
 -- a page goes last into its processor's list, and a block into the areas
-page_back : given_back 1 6 0 free
-    ≡ record free { lists = (3 ∷ 4 ∷ []) ∷ (6 ∷ []) ∷ (7 ∷ []) ∷ [] }
+page_back : given_back 1 6 0 free ≡ record free { lists = (3 ∷ 4 ∷ []) ∷ (6 ∷ []) ∷ (7 ∷ []) ∷ [] }
 page_back = refl
 
 block_back : given_back 1 6 1 (record free { lists = [] })

@@ -3,14 +3,13 @@ use Rattle.std.proofs.Common.{◌≡◌, true, false, [], ◌∷◌, Some, None,
 use Rattle.vb_model.specs.declared.replies.Refusal.TheVariants.{NoGuest, BadConfig, TooMany}
 use Rattle.vb_model.specs.declared.replies.Refusal.TheVariants.{NoDevice, BadOrder, BadCpu, NoPages}
 use Rattle.vb_model.specs.declared.replies.Refusal.TheVariants.{NotHeld, NotReady, QueueFull}
-use Rattle.vb_model.specs.declared.replies.Refusal.TheVariants.{DeflatePending}
-use Rattle.vb_model.specs.declared.replies.Refusal.TheVariants.{Nothing, RingBroken, NoFeature}
-use Rattle.vb_model.specs.declared.replies.Refusal.TheVariants.{AlreadyUp, FeatureNotOffered}
-use Rattle.vb_model.specs.declared.replies.Refusal.TheVariants.{VersionMissing, Short}
-use Rattle.vb_model.specs.declared.replies.Refusal.TheVariants.{ClearsBit, OutOfOrder, NoQueue}
-use Rattle.vb_model.specs.declared.replies.Refusal.TheVariants.{NeedsReset, Busy, Broken, NotTaken}
-use Rattle.vb_model.specs.declared.replies.Refusal.TheVariants.{NotWorked, NotBallooned, OutOfRam}
-use Rattle.vb_model.specs.declared.replies.Refusal.TheVariants.{NoFrame, NoMemory}
+use Rattle.vb_model.specs.declared.replies.Refusal.TheVariants.{DeflatePending, Nothing, RingBroken}
+use Rattle.vb_model.specs.declared.replies.Refusal.TheVariants.{NoFeature, AlreadyUp}
+use Rattle.vb_model.specs.declared.replies.Refusal.TheVariants.{FeatureNotOffered, VersionMissing}
+use Rattle.vb_model.specs.declared.replies.Refusal.TheVariants.{Short, ClearsBit, OutOfOrder}
+use Rattle.vb_model.specs.declared.replies.Refusal.TheVariants.{NoQueue, NeedsReset, Busy, Broken}
+use Rattle.vb_model.specs.declared.replies.Refusal.TheVariants.{NotTaken, NotWorked, NotBallooned}
+use Rattle.vb_model.specs.declared.replies.Refusal.TheVariants.{OutOfRam, NoFrame, NoMemory}
 use Rattle.vb_model.specs.declared.replies.Reply.TheVariants.{Plugged, Done, Ready, Page, ReadBytes}
 use Rattle.vb_model.specs.declared.replies.Reply.TheVariants.{Posted, Filled, NotUsed, Reaped}
 use Rattle.vb_model.specs.declared.replies.Reply.TheVariants.{Taken, Empty, Worked, Idle, Finished}

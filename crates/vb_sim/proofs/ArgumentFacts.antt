@@ -1,6 +1,5 @@
 -- Command lines, faults and exit statuses, worked out.
-use Rattle.std.proofs.Common.{◌≡◌, ℕ, List, [], ◌∷◌, map, codes, refl}
-use Rattle.std.specs.Prelude.{Some, None}
+use Rattle.std.{proofs.Common.{◌≡◌, [], ◌∷◌, map, codes, refl}, specs.Prelude.{Some, None}}
 use Rattle.vb_run.specs.declared.plan.Bells.TheVariants.{Plain, Drop, Double, Late}
 use Rattle.vb_run.specs.declared.report.RunFault.TheVariants.{Memory as RunMemory}
 use Rattle.vb_run.specs.declared.report.RunFault.TheVariants.{BadPlan as RunBadPlan}

@@ -18,13 +18,12 @@ pub fresh_stands : (m1 m2 : Pages) (p1 p2 : Part) (d : DriverState) (sizes : Siz
       processors = sizes.processors;
       paced = p1.paced;
     }) 0)
-fresh_stands m1 m2 p1 p2 d sizes fits unused none m p new =
-    let config : Config = record {
-      pages = sizes.pages;
-      queue_size = sizes.queue_size;
-      processors = sizes.processors;
-      paced = p1.paced;
-    } in
+fresh_stands m1 m2 p1 p2 d sizes fits unused none m p new = let config : Config = record {
+  pages = sizes.pages;
+  queue_size = sizes.queue_size;
+  processors = sizes.processors;
+  paced = p1.paced;
+} in
     let g : Guest = fresh config 0 in
     let there : Honest (replicate sizes.pages None) (attached sizes p1)
     (fresh_driver sizes.pages sizes.queue_size sizes.processors) g =

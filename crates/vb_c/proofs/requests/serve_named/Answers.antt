@@ -6,10 +6,9 @@ use Rattle.vb_monitor.specs.declared.{orders.{Orders.Orders, Asked.Asked}, step.
 use Rattle.vb_core.specs.declared.device.Device.{Device}
 use Rattle.vb_monitor.{specs.Giving.with_given, specs.Machine.{Ahead, whole, room_of, next_chain}}
 use Rattle.vb_monitor.specs.Orders.{at_once, giving, HasRoom, FillsList}
-use Rattle.vb_c.specs.declared.notice.VbNotice.{VbNotice}
+use Rattle.vb_c.proofs.{ServedLemmas.{told_given, told_left}, UsualLemmas.says_notice}
 use Rattle.vb_c.specs.{Codes.kind_of_code, Notices.{phase_of, tally_of, asked_bits, answer_bits}}
-use Rattle.vb_c.specs.{Served.telling_pages, Serving.HandsOver}
-use Rattle.vb_c.proofs.{UsualLemmas.says_notice, ServedLemmas.{told_given, told_left}}
+use Rattle.vb_c.specs.{Served.telling_pages, Serving.HandsOver, declared.notice.VbNotice.VbNotice}
 use Rattle.vb_c.proofs.requests.serve_named.Goals as goal
 
 pub returns-in-Some-clause-hands : goal.returns-in-Some-clause-hands

@@ -1,9 +1,8 @@
 use Rattle.std.proofs.Common.{rules, ◌≡◌, ◌∙◌, ap, ℕ, ◌+◌, ◌<◌, true, Some}
 use Rattle.vb_core.{specs.Devices.ring_of, specs.Rings.used_entry, proofs.DenialLemmas.open_call}
-use Rattle.vb_monitor.{specs.Regions.spot, specs.Giving.used_spots, specs.Machine.whole}
-use Rattle.vb_core.specs.declared.ring.UsedEntry.{UsedEntry}
-use Rattle.vb_monitor.specs.Orders.{giving}
+use Rattle.vb_monitor.specs.{Regions.spot, Giving.used_spots, Machine.whole, Orders.giving}
 use Rattle.vb_monitor.{specs.Served.looks_again, proofs.ServedLemmas.given_goes}
+use Rattle.vb_core.specs.declared.ring.UsedEntry.{UsedEntry}
 use Rattle.vb_monitor.proofs.served.give_and_look.Goals as goal
 
 pub used_entry-entry-requires : goal.used_entry-entry-requires
@@ -20,8 +19,7 @@ returns-in-Some-find_from-clause-goes c tally after outcome room rest h =
     search rules in
     let place : spot c.args.regions.now (ring.avail + 2) 2 ≡ Some c.in-Some-find_from.at =
     search rules in
-    let writes =
-    ap (λ (e : UsedEntry). giving true (record {
+    let writes = ap (λ (e : UsedEntry). giving true (record {
       spots = c.in-Some.spots;
       id = e.id;
       length = e.length;

@@ -1,7 +1,6 @@
 use Rattle.std.proofs.Common.{rules, ◌≡◌, ◌∙◌, ap, sym, subst, ◌<◌, Bool, false, List}
-use Rattle.vb_monitor.{specs.declared.parts.Part.Part, specs.Pieces.pieces_in}
-use Rattle.vb_monitor.{specs.Machine.behind_part, specs.Served.none_left}
-use Rattle.vb_monitor.proofs.BufferLemmas.{second_in, no_second_in}
+use Rattle.vb_monitor.specs.{declared.parts.Part.Part, Pieces.pieces_in, Machine.behind_part}
+use Rattle.vb_monitor.{specs.Served.none_left, proofs.BufferLemmas.{second_in, no_second_in}}
 use Rattle.vb_monitor.proofs.served.none_behind.Goals as goal
 
 pub returns-then-second_part-gt0 : goal.returns-then-second_part-gt0

@@ -1,16 +1,13 @@
 use Rattle.std.proofs.Common.{rules, ◌≡◌, ◌+◌, ◌∙◌, sym, ap, arith, ℕ, List, [], Some, take}
 use Rattle.vb_chain.{specs.declared.descriptor.TheConstants.DESCRIPTOR_SIZE, specs.Rules.piece_of}
 use Rattle.vb_chain.specs.declared.pieces.Piece.{Piece}
-use Rattle.vb_core.{specs.declared.next.ChainPiece.ChainPiece}
-use Rattle.vb_monitor.specs.Pieces.{pieces_in, first_part}
-use Rattle.vb_monitor.{specs.Regions.spot, specs.Machine.whole}
-use Rattle.vb_monitor.specs.Chains.{descriptor_of}
+use Rattle.vb_core.specs.{declared.next.ChainPiece.ChainPiece, Devices.ring_of}
+use Rattle.vb_monitor.specs.{Pieces.{pieces_in, first_part}, Regions.spot, Machine.whole}
+use Rattle.vb_monitor.specs.Chains.{descriptor_of, descriptors, memory_end, table_fault}
 use Rattle.vb_monitor.proofs.{BufferLemmas.{none_in, length_in}, SingleLemmas.single_goes}
+use Rattle.vb_monitor.{proofs.SingleLemmas.single_by, specs.declared.single.FirstPart.FirstPart}
+use Rattle.vb_monitor.specs.declared.parts.Part.{Part}
 use Rattle.std.proofs.Common.{refl, length, false, Option, None}
-use Rattle.vb_core.specs.Devices.{ring_of}
-use Rattle.vb_monitor.specs.Chains.{descriptors, memory_end, table_fault}
-use Rattle.vb_monitor.{specs.declared.single.FirstPart.FirstPart, specs.declared.parts.Part.Part}
-use Rattle.vb_monitor.proofs.SingleLemmas.{single_by}
 use Rattle.vb_monitor.proofs.single.first_of_single.Goals as goal
 
 none_taken : (bs : List ChainPiece) (n : ℕ) → n ≡ 0 → pieces_in (take n bs) ≡ []
@@ -94,16 +91,14 @@ returns-in-Some-find_from-clause-place c =
     let at = c.in-Some-find_from.at in
     let part_is : c.first_part-part.result ≡ first_part (piece_of x) =
     c.first_part-part.ensures ∙ ap (λ (p : Piece). first_part p) c.buffer_of.ensures in
-    let place : spot c.args.regions.now x.addr (first_part (piece_of x)).length ≡ Some at =
-    grind (
+    let place : spot c.args.regions.now x.addr (first_part (piece_of x)).length ≡ Some at = grind (
       arith,
       part_is,
       c.from-plus.ensures,
       c.from.ensures,
       c.find_from.ensures,
       c.in-Some-find_from.is,
-    ) in
-    let here : ℕ → ℕ → Option FirstPart = λ n len. Some (record {
+    ) in let here : ℕ → ℕ → Option FirstPart = λ n len. Some (record {
       at = at;
       place = record {
         head = c.args.walk.head;
