@@ -7,6 +7,7 @@ mod answers;
 mod chains;
 mod marks;
 mod notice;
+mod phases;
 mod places;
 mod registers;
 mod requests;

@@ -6,16 +6,15 @@ ghost use Rattle.vb_monitor.specs.Balloons.{held_head};
 ghost use Rattle.vb_monitor.specs.Machine.{Fits};
 ghost use Rattle.vb_c.specs.Codes.{kind_of_code};
 ghost use Rattle.vb_c.specs.Notices.{HasEnded, notice_of};
-ghost use Rattle.vb_c.specs.Serving.{HandsOver, BeginsFor, AsksFor, GoesOnBy};
+ghost use Rattle.vb_monitor.specs.Notices.{Serves};
+ghost use Rattle.vb_c.specs.Serving.{HandsOver, Begins, BeginsFor, AsksFor, GoesOnBy};
 
 use crate::answers::{BAD_ARGUMENT, NO_QUEUE, NOTHING, kind_of_code};
-use crate::notice::{DESCRIPTOR, PART, VbNotice, VbRoom};
-use crate::requests::go_request;
-use crate::usual::{begin_usually, go_usually};
+use crate::notice::{VbNotice, VbRoom};
+use crate::usual::begin_usually;
 use vb_core::{Kind, Run};
 use vb_monitor::{
-    Balloon, Budget, Cut, MAX_BYTES, MAX_CUTS, MAX_RUNS, Notice, Region, after_descriptor,
-    after_part, is_last,
+    Balloon, Budget, Cut, MAX_CUTS, MAX_RUNS, Notice, Region, after_descriptor, after_part,
 };
 
 /// Hands a notice over, with all that is to be done before it waits; what it came to is noted, once
@@ -50,6 +49,32 @@ fn refuse(shown: &mut VbNotice, code: u32) -> u32
     shown.what
 }
 
+/// A queue is served, however its notice begins.
+#[inline(never)]
+fn begin_anyhow(
+    notice: &mut VbNotice,
+    balloon: &mut Balloon,
+    regions: &[Region],
+    room: &mut VbRoom,
+    kind: Kind,
+    budget: Budget,
+) -> u32
+    ensures begins { Begins (λ after outcome log. Serves regions.now kind budget
+        balloon.old.device after outcome log) regions.now kind balloon.old balloon.new room.old
+        room.new notice.new }
+    ensures what { result ≡ notice.new.what }
+{
+    let mut begun = Notice::begin(&mut balloon.device, regions, kind, budget);
+    hand_over(
+        notice,
+        balloon,
+        regions,
+        &room.runs,
+        &mut room.cuts,
+        &mut begun,
+    )
+}
+
 /// The driver kicked the queue of this kind, or may have.
 #[unsafe(no_mangle)]
 pub extern "C" fn vb_begin(
@@ -76,15 +101,7 @@ pub extern "C" fn vb_begin(
             if begin_usually(notice, balloon, regions, room, kind, queue, budget) {
                 return notice.what;
             }
-            let mut begun = Notice::begin(&mut balloon.device, regions, queue, budget);
-            hand_over(
-                notice,
-                balloon,
-                regions,
-                &room.runs,
-                &mut room.cuts,
-                &mut begun,
-            )
+            begin_anyhow(notice, balloon, regions, room, queue, budget)
         }
     }
 }
@@ -118,7 +135,8 @@ pub extern "C" fn vb_ask(
 }
 
 /// What is to be done next, however a notice goes on.
-fn go_anyhow(
+#[inline(never)]
+pub(crate) fn go_anyhow(
     notice: &mut VbNotice,
     balloon: &mut Balloon,
     regions: &[Region],
@@ -154,7 +172,7 @@ fn go_anyhow(
 }
 
 /// A descriptor was copied, which joins the others or breaks a rule.
-fn go_chain(
+pub(crate) fn go_chain(
     notice: &mut VbNotice,
     balloon: &mut Balloon,
     regions: &[Region],
@@ -191,7 +209,7 @@ fn go_chain(
 }
 
 /// A part of a piece was copied, behind others that leave room for it.
-fn go_part(
+pub(crate) fn go_part(
     notice: &mut VbNotice,
     balloon: &mut Balloon,
     regions: &[Region],
@@ -226,76 +244,4 @@ fn go_part(
         &mut room.cuts,
         &mut next,
     )
-}
-
-/// A part was copied: mostly the last one of a request.
-fn go_copied(
-    notice: &mut VbNotice,
-    balloon: &mut Balloon,
-    regions: &[Region],
-    room: &mut VbRoom,
-    kind: Kind,
-    answer: u16,
-) -> u32
-    requires kind { kind_of_code notice.old.kind ≡ Some kind }
-    requires phase { notice.old.phase ≡ 4 }
-    requires fits { notice.old.into + notice.old.length ≤ MAX_BYTES }
-    ensures goes { GoesOnBy (notice_of notice.old) regions.now answer balloon.old balloon.new
-        room.old room.new notice.new }
-    ensures what { result ≡ notice.new.what }
-{
-    if !kind.is_request() {
-        return go_part(notice, balloon, regions, room, kind, answer);
-    }
-    let place = notice.place();
-    if is_last(&place, &room.pieces) {
-        return go_request(notice, balloon, regions, room, kind, answer);
-    }
-    go_part(notice, balloon, regions, room, kind, answer)
-}
-
-/// What is to be done next, however a notice goes on; by less than any way where bytes were copied.
-fn go_else(
-    notice: &mut VbNotice,
-    balloon: &mut Balloon,
-    regions: &[Region],
-    room: &mut VbRoom,
-    answer: u16,
-) -> u32
-    ensures goes { GoesOnBy (notice_of notice.old) regions.now answer balloon.old balloon.new
-        room.old room.new notice.new }
-    ensures what { result ≡ notice.new.what }
-{
-    match kind_of_code(notice.kind) {
-        None => go_anyhow(notice, balloon, regions, room, answer),
-        Some(kind) => match notice.phase {
-            DESCRIPTOR => go_chain(notice, balloon, regions, room, kind, answer),
-            PART => {
-                if u64::from(notice.into) + u64::from(notice.length) > MAX_BYTES as u64 {
-                    return go_anyhow(notice, balloon, regions, room, answer);
-                }
-                go_copied(notice, balloon, regions, room, kind, answer)
-            }
-            _ => go_anyhow(notice, balloon, regions, room, answer),
-        },
-    }
-}
-
-/// What is to be done next, once that was done which was to be done.
-#[unsafe(no_mangle)]
-pub extern "C" fn vb_go_on(
-    notice: &mut VbNotice,
-    balloon: &mut Balloon,
-    regions: &[Region],
-    room: &mut VbRoom,
-    answer: u16,
-) -> u32
-    ensures goes { GoesOnBy (notice_of notice.old) regions.now answer balloon.old
-        balloon.new room.old room.new notice.new }
-    ensures what { result ≡ notice.new.what }
-{
-    if go_usually(notice, balloon, regions, room, answer) {
-        return notice.what;
-    }
-    go_else(notice, balloon, regions, room, answer)
 }

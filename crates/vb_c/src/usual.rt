@@ -9,8 +9,7 @@ ghost use Rattle.vb_c.specs.Notices.{notice_of};
 ghost use Rattle.vb_monitor.specs.Notices.{Serves};
 ghost use Rattle.vb_c.specs.Serving.{Begins, GoesOnBy};
 
-use crate::answers::kind_of_code;
-use crate::notice::{DESCRIPTOR, ENTRY, FLAGS, INDEX, READ_ENTRY, READ_INDEX, VbNotice, VbRoom};
+use crate::notice::{ENTRY, INDEX, READ_ENTRY, READ_INDEX, VbNotice, VbRoom};
 use vb_core::Kind;
 use vb_monitor::{
     Balloon, Budget, Region, Tally, Walk, descriptor_after, entry_after, first_of_single,
@@ -54,7 +53,7 @@ pub(crate) fn begin_usually(
 
 /// The index was read, and another chain stands there, or none any more behind one that was given
 /// back; says whether it is so. Else nothing is changed.
-fn go_index(
+pub(crate) fn go_index(
     notice: &mut VbNotice,
     balloon: &Balloon,
     regions: &[Region],
@@ -87,7 +86,7 @@ fn go_index(
 
 /// The entry was read, and its head is a descriptor of the queue; says whether it is so. Else
 /// nothing is changed.
-fn go_entry(
+pub(crate) fn go_entry(
     notice: &mut VbNotice,
     balloon: &Balloon,
     regions: &[Region],
@@ -117,7 +116,7 @@ fn go_entry(
 }
 
 /// A descriptor was copied that names another one; says whether it is so. Else nothing is changed.
-fn go_descriptor(
+pub(crate) fn go_descriptor(
     notice: &mut VbNotice,
     balloon: &Balloon,
     regions: &[Region],
@@ -150,7 +149,7 @@ fn go_descriptor(
 
 /// A descriptor was copied that is a whole request by itself; says whether it is so. Else nothing
 /// is changed.
-fn go_single(
+pub(crate) fn go_single(
     notice: &mut VbNotice,
     balloon: &Balloon,
     regions: &[Region],
@@ -193,7 +192,7 @@ fn holds_none(kind: Kind) -> bool
 }
 
 /// The flags were read, and each chain was served; says whether it is so. Else nothing is changed.
-fn go_flags(
+pub(crate) fn go_flags(
     notice: &mut VbNotice,
     balloon: &Balloon,
     regions: &[Region],
@@ -215,34 +214,4 @@ fn go_flags(
     notice.orders.cuts = 0;
     notice.show_end(0, tally, None, flags & 1 == 0, more);
     true
-}
-
-/// Goes on as a notice mostly does, where it does so; says whether it is so. Else nothing is
-/// changed.
-pub(crate) fn go_usually(
-    notice: &mut VbNotice,
-    balloon: &Balloon,
-    regions: &[Region],
-    room: &mut VbRoom,
-    answer: u16,
-) -> bool
-    ensures went { result ≡ true → GoesOnBy (notice_of notice.old) regions.now answer balloon.now
-        balloon.now room.old room.new notice.new }
-    ensures stays { result ≡ false → (notice.new ≡ notice.old) × (room.new ≡ room.old) }
-{
-    match kind_of_code(notice.kind) {
-        None => false,
-        Some(kind) => match notice.phase {
-            INDEX => go_index(notice, balloon, regions, room, kind, answer),
-            ENTRY => go_entry(notice, balloon, regions, room, kind, answer),
-            DESCRIPTOR => {
-                if go_descriptor(notice, balloon, regions, room, kind, answer) {
-                    return true;
-                }
-                go_single(notice, balloon, regions, room, kind, answer)
-            }
-            FLAGS => go_flags(notice, balloon, regions, room, kind, answer),
-            _ => false,
-        },
-    }
 }

@@ -1,13 +1,22 @@
 -- The numbers of a request, one after the other.
 use Rattle.std.proofs.Common.{◌≡◌, ℕ, ◌+◌, ◌-◌, ◌<◌, ◌≤◌, Bool, true, false, List, [], ◌∷◌, ◌++◌}
 use Rattle.std.proofs.Common.{Some, None, Ok, Err, length, get_or, take, arith, length-append}
-use Rattle.std.{specs.Prelude.is_none, proofs.lemmas.List.{append-nil, take_more}}
+use Rattle.std.specs.Prelude.{is_none, ◌%◌, ◌^◌}
+use Rattle.std.proofs.lemmas.{List.{append-nil, take_more}, Bool.Decides.nat_tests}
 use Rattle.std.proofs.lemmas.List.Elements.{filter-append}
 use Rattle.vb_chain.specs.declared.fault.ChainFault.{ChainFault}
 use Rattle.vb_request.specs.Request.{number_fault, first_number_fault}
 use Rattle.vb_request.proofs.Once.{fault_here, sound_more}
 use Rattle.vb_core.{specs.declared.runs.Run.Run, specs.declared.name.Named.Named, specs.Runs.Tell}
 use Rattle.vb_core.specs.Name.{right_numbers, NamesRuns}
+
+-- a number that is less than so many behind the reserved ones
+pub within : (reserved count n : ℕ) → reserved < 2 ^ 32 → n < 2 ^ 32 → count < 2 ^ 32 →
+    (n + (2 ^ 32 - reserved)) % 2 ^ 32 < count - reserved → number_fault reserved count n ≡ None
+within reserved count n r m c lt =
+    let lower : reserved ≤ n = omega (arith, r, m, c, lt) in
+    let upper : n < count = omega (arith, r, m, c, lt) in
+    grind (arith, nat_tests)
 
 -- What stands in the runs after the first k numbers.
 pub record Named_so_far (skipping : Bool) (reserved count : ℕ) (ns : List ℕ) (k : ℕ)

@@ -2,13 +2,13 @@
 
 ghost use Rattle.std.specs.Prelude.{◌≡◌, ◌≤◌, ◌<◌, ◌/◌, ◌^◌, length};
 ghost use Rattle.vb_model.specs.declared.layout.TheConstants.{REQUEST_BUFFER_SIZE};
-ghost use Rattle.vb_request.specs.Request.{numbers_of};
+ghost use Rattle.vb_request.specs.Request.{numbers_of, number_fault};
 ghost use Rattle.vb_core.specs.Name.{is_request, NamesRuns, NamesBy};
 
 use crate::runs::{Ends, add_page};
 use crate::{Denial, Device, Kind, Run};
 use vb_chain::ChainFault;
-use vb_request::{is_request_length, number_at, number_fault};
+use vb_request::{is_request_length, number_at, number_fault as fault_of_number};
 
 /// What a request names: so many runs of pages.
 #[repr(C)]
@@ -33,6 +33,19 @@ struct Limits {
     skips: bool,
 }
 
+/// What is wrong with a page number; whether something is takes one comparison.
+#[tactic(auto, using(crate::proofs::NameLemmas::within))]
+#[inline(always)]
+fn number_fault(limits: Limits, number: u32) -> Option<ChainFault>
+    ensures { result ≡ number_fault limits.reserved limits.count number }
+{
+    let span = limits.count.saturating_sub(limits.reserved);
+    if number.wrapping_sub(limits.reserved) < span {
+        return None;
+    }
+    fault_of_number(limits.reserved, limits.count, number)
+}
+
 /// The pages that the numbers in these bytes are, as runs in the front of a slice, or what is wrong
 /// with the first wrong number where none is skipped.
 fn name_runs(limits: Limits, bytes: &[u8], runs: &mut [Run]) -> Result<Named, ChainFault>
@@ -47,7 +60,7 @@ fn name_runs(limits: Limits, bytes: &[u8], runs: &mut [Run]) -> Result<Named, Ch
     let mut ends = Ends::NONE;
     for k in 0..total {
         let number = number_at(bytes, k);
-        match number_fault(limits.reserved, limits.count, number) {
+        match number_fault(limits, number) {
             None => used = add_page(runs, used, &mut ends, number),
             Some(fault) => {
                 if !limits.skips {

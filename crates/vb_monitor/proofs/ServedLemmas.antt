@@ -1,21 +1,24 @@
 -- What is done at once of a chain whose pages were named.
 use Rattle.std.proofs.Common.{◌≡◌, ◌∙◌, ap, sym, subst, refl, ℕ, ◌+◌, ◌<◌, Bool, true, false, List}
 use Rattle.std.proofs.Common.{arith, [], ◌∷◌, ◌++◌, length, Option, Some, None, Result, Ok, Err}
-use Rattle.std.{specs.Prelude.{nat_lt, nat_le, ◌&&◌, ◌/◌}, proofs.lemmas.Bool.Decides.nat_tests}
+use Rattle.std.specs.Prelude.{nat_lt, nat_le, ◌&&◌, ◌/◌, ◌-◌, if◌then◌else◌, drop, get_or}
+use Rattle.std.proofs.lemmas.{Bool.Decides.nat_tests, List.drop_more}
 use Rattle.vb_model.specs.declared.limits.TheConstants.{MAX_REQUEST_PAGES}
 use Rattle.vb_chain.specs.declared.fault.ChainFault.{ChainFault}
 use Rattle.vb_request.specs.Request.{is_request_length}
 use Rattle.vb_core.specs.declared.kinds.Kind.TheVariants.{Inflate, Deflate, Statistics, Report}
 use Rattle.vb_core.specs.declared.{kinds.Kind.Kind, device.Device.Device, device.Denial.Denial}
 use Rattle.vb_core.specs.{declared.runs.Run.Run, declared.name.Named.Named, Rings.used_entry}
+use Rattle.vb_core.specs.declared.ring.UsedEntry.{UsedEntry}
 use Rattle.vb_core.specs.Devices.{ring_of, call_denial, queue_denial, with_one_taken}
 use Rattle.vb_core.specs.{Name.{is_request, NamesBy, name_denial, after_request}, Next.told}
 use Rattle.vb_core.specs.Using.{use_denial}
-use Rattle.vb_monitor.specs.declared.{regions.Spot.Spot, giving.UsedSpots.UsedSpots}
+use Rattle.vb_monitor.specs.declared.{regions.{Region.Region, Spot.Spot}, giving.UsedSpots.UsedSpots}
+use Rattle.vb_monitor.specs.Regions.{holds, spot_from}
 use Rattle.vb_monitor.specs.declared.{parts.Part.Part, outcome.Tally.Tally, orders.Used.Used}
 use Rattle.vb_monitor.specs.{Accesses.Access, Regions.spot, Ends.Whole, Pieces.CopiesParts}
 use Rattle.vb_monitor.specs.Giving.{Then, used_spots, used_accesses, UsedAt, GivesBack, GivesBackBy}
-use Rattle.vb_monitor.specs.{Giving.{with_given, after_use, AfterName}, Orders.giving}
+use Rattle.vb_monitor.specs.{Giving.{with_given, after_use, AfterName, three_spots}, Orders.giving}
 use Rattle.vb_monitor.specs.{Chains.{NamesBytes, AfterBytes}, Machine.{next_chain, served}}
 use Rattle.vb_monitor.specs.Notices.{TakesNext, AsksIndex, IndexAt, Looks, LooksBy, AfterGiven}
 use Rattle.vb_monitor.specs.Served.{looks_again, none_left}
@@ -95,6 +98,38 @@ given_goes w d d2 t head u s at log looks lt ready spots place after writes h =
       asks = ap (λ (l : List Access). l ++ log) writes;
       goes_on = again w.kind w (Looks t.chains w) used (with_given t) log looks looked_at;
     }))
+
+-- ---- a used element that lies in the first region
+
+first_spot : (r : Region) (rs : List Region) (a len : ℕ) → holds r a len ≡ true →
+    spot (r ∷ rs) a len ≡ Some (record { region = 0; offset = a - r.guest })
+first_spot r rs a len h =
+    ap (λ (b : Bool). if b then Some (record { region = 0; offset = a - r.guest })
+    else spot_from 1 rs a len) h
+
+pub first_spots : (rs : List Region) (d : Region) (e : UsedEntry) (behind : ℕ) → 0 < length rs →
+    e.element_at + 4 ≡ behind → holds (get_or rs 0 d) e.element_at 4 ≡ true →
+    holds (get_or rs 0 d) behind 4 ≡ true → holds (get_or rs 0 d) e.index_at 2 ≡ true →
+    used_spots rs e ≡ Some (record {
+      id = record { region = 0; offset = e.element_at - (get_or rs 0 d).guest };
+      length = record { region = 0; offset = behind - (get_or rs 0 d).guest };
+      index = record { region = 0; offset = e.index_at - (get_or rs 0 d).guest };
+    })
+first_spots rs d e behind some is h k l =
+    let r = get_or rs 0 d in
+    let more = drop 1 rs in
+    ap (λ (regions : List Region). used_spots regions e) (drop_more rs 0 d some)
+    ∙ (ap (λ (o : Option Spot). three_spots o (spot (r ∷ more) (e.element_at + 4) 4)
+    (spot (r ∷ more) e.index_at 2)) (first_spot r more e.element_at 4 h)
+    ∙ (ap (λ (a : ℕ). three_spots (Some (record { region = 0; offset = e.element_at - r.guest }))
+    (spot (r ∷ more) a 4) (spot (r ∷ more) e.index_at 2)) is
+    ∙ (ap (λ (o : Option Spot). three_spots
+    (Some (record { region = 0; offset = e.element_at - r.guest })) o
+    (spot (r ∷ more) e.index_at 2)) (first_spot r more behind 4 k)
+    ∙ ap (λ (o : Option Spot). three_spots
+    (Some (record { region = 0; offset = e.element_at - r.guest }))
+    (Some (record { region = 0; offset = behind - r.guest })) o)
+    (first_spot r more e.index_at 2 l))))
 
 -- ---- a request whose pages were named
 

@@ -76,7 +76,7 @@ fn fill_sole(sole: &Sole, runs: &[Run], cuts: &mut [Cut; MAX_CUTS]) -> usize
 /// Puts what is left after the list's first `count` parts, as far as it has room.
 #[inline(never)]
 #[tactic(auto, using(crate::proofs::OrderLemmas::one_more))]
-fn fill_on(
+fn fill_more(
     regions: &[Region],
     runs: &[Run],
     count: usize,
@@ -107,6 +107,30 @@ fn fill_on(
     Filled {
         count: MAX_CUTS as u32,
         left,
+    }
+}
+
+/// The same; mostly nothing is left.
+#[inline(always)]
+fn fill_on(
+    regions: &[Region],
+    runs: &[Run],
+    count: usize,
+    first: Option<NextCut>,
+    cuts: &mut [Cut; MAX_CUTS],
+) -> Filled
+    requires { count ≤ MAX_CUTS }
+    ensures few { result.count ≤ MAX_CUTS }
+    ensures full { (x : NextCut) → result.left ≡ Some x → result.count ≡ MAX_CUTS }
+    ensures parts { take count cuts.old ++ cuts_left regions.now runs.now first ≡
+        take result.count cuts.new ++ cuts_left regions.now runs.now result.left }
+{
+    match first {
+        None => Filled {
+            count: count as u32,
+            left: None,
+        },
+        Some(_) => fill_more(regions, runs, count, first, cuts),
     }
 }
 

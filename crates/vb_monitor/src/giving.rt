@@ -1,6 +1,6 @@
 //! Chains that are given back.
 
-ghost use Rattle.std.specs.Prelude.{◌≡◌, ◌+◌, ◌≤◌, true, List};
+ghost use Rattle.std.specs.Prelude.{◌≡◌, ◌+◌, ◌≤◌, true, List, IfSome, Some};
 ghost use Rattle.vb_core.specs.declared.device.Device.{Device};
 ghost use Rattle.vb_monitor.specs.declared.outcome.Outcome.{Outcome};
 ghost use Rattle.vb_monitor.specs.Accesses.{Access};
@@ -26,7 +26,8 @@ pub struct UsedSpots {
 }
 
 /// Where a used element goes, where all of it is guest memory.
-pub(crate) fn used_spots(regions: &[Region], entry: &UsedEntry) -> Option<UsedSpots>
+#[inline(never)]
+fn spots_anywhere(regions: &[Region], entry: &UsedEntry) -> Option<UsedSpots>
     ensures { result ≡ used_spots regions.now entry.now }
 {
     match find_from(regions, entry.element_at, 0, 4) {
@@ -38,6 +39,59 @@ pub(crate) fn used_spots(regions: &[Region], entry: &UsedEntry) -> Option<UsedSp
                 Some(index) => Some(UsedSpots { id, length, index }),
             },
         },
+    }
+}
+
+/// Where a used element goes, where the first region has all of it.
+#[tactic(auto, using(crate::proofs::ServedLemmas::first_spots))]
+#[inline(always)]
+fn spots_in_first(regions: &[Region], entry: &UsedEntry) -> Option<UsedSpots>
+    ensures { IfSome result (λ spots. used_spots regions.now entry.now ≡ Some spots) }
+{
+    if regions.is_empty() {
+        return None;
+    }
+    let region = &regions[0];
+    let id = entry.element_at;
+    let index = entry.index_at;
+    match id.checked_add(4) {
+        None => None,
+        Some(length) => {
+            if !region.holds(id, 4) {
+                return None;
+            }
+            if !region.holds(length, 4) {
+                return None;
+            }
+            if !region.holds(index, 2) {
+                return None;
+            }
+            Some(UsedSpots {
+                id: Spot {
+                    region: 0,
+                    offset: id - region.guest,
+                },
+                length: Spot {
+                    region: 0,
+                    offset: length - region.guest,
+                },
+                index: Spot {
+                    region: 0,
+                    offset: index - region.guest,
+                },
+            })
+        }
+    }
+}
+
+/// Where a used element goes, where all of it is guest memory: mostly the first region has it.
+#[inline(always)]
+pub(crate) fn used_spots(regions: &[Region], entry: &UsedEntry) -> Option<UsedSpots>
+    ensures { result ≡ used_spots regions.now entry.now }
+{
+    match spots_in_first(regions, entry) {
+        Some(spots) => Some(spots),
+        None => spots_anywhere(regions, entry),
     }
 }
 

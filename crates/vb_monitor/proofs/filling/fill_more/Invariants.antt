@@ -1,6 +1,6 @@
 use Rattle.std.proofs.Common.{◌≡◌, ◌++◌, length, take}
 use Rattle.vb_monitor.{specs.declared.orders.TheConstants.MAX_CUTS, specs.Orders.cuts_left}
-use Rattle.vb_monitor.proofs.filling.fill_on.Given as goal
+use Rattle.vb_monitor.proofs.filling.fill_more.Given as goal
 
 abbrev pub invariant-loop-number : goal.invariant-loop-number
 invariant-loop-number l = record {

@@ -2,7 +2,7 @@ use Rattle.std.proofs.Common.{◌≡◌, ◌∙◌, ◌++◌, ap, subst, rules, 
 use Rattle.vb_monitor.specs.{declared.orders.TheConstants.MAX_CUTS, Orders.cuts_left}
 use Rattle.vb_monitor.specs.declared.cuts.NextCut.{NextCut}
 use Rattle.vb_monitor.proofs.{OrderLemmas.one_more, SoleLemmas.left_is}
-use Rattle.vb_monitor.proofs.filling.fill_on.Goals as goal
+use Rattle.vb_monitor.proofs.filling.fill_more.Goals as goal
 
 pub returns-clause-parts : goal.returns-clause-parts
 returns-clause-parts c =

@@ -1,0 +1,234 @@
+//! Notices that go on, each by what it waits for: mostly what it says is changed where it stands.
+
+ghost use Rattle.std.specs.Prelude.{◌≡◌, ◌+◌, ◌≤◌, true, false, Some};
+ghost use Rattle.vb_monitor.specs.declared.room.TheConstants.{MAX_BYTES};
+ghost use Rattle.vb_c.specs.Codes.{kind_of_code};
+ghost use Rattle.vb_c.specs.Notices.{notice_of};
+ghost use Rattle.vb_c.specs.Serving.{GoesOnBy};
+
+use crate::answers::kind_of_code;
+use crate::notice::{DESCRIPTOR, ENTRY, FLAGS, INDEX, PART, VbNotice, VbRoom};
+use crate::requests::go_request;
+use crate::serving::{go_anyhow, go_chain, go_part};
+use crate::usual::{go_descriptor, go_entry, go_flags, go_index, go_single};
+use vb_core::Kind;
+use vb_monitor::{Balloon, MAX_BYTES, Region, is_last};
+
+/// A part was copied: mostly the last one of a request.
+fn go_copied(
+    notice: &mut VbNotice,
+    balloon: &mut Balloon,
+    regions: &[Region],
+    room: &mut VbRoom,
+    kind: Kind,
+    answer: u16,
+) -> u32
+    requires kind { kind_of_code notice.old.kind ≡ Some kind }
+    requires phase { notice.old.phase ≡ 4 }
+    requires fits { notice.old.into + notice.old.length ≤ MAX_BYTES }
+    ensures goes { GoesOnBy (notice_of notice.old) regions.now answer balloon.old balloon.new
+        room.old room.new notice.new }
+    ensures what { result ≡ notice.new.what }
+{
+    if !kind.is_request() {
+        return go_part(notice, balloon, regions, room, kind, answer);
+    }
+    let place = notice.place();
+    if is_last(&place, &room.pieces) {
+        return go_request(notice, balloon, regions, room, kind, answer);
+    }
+    go_part(notice, balloon, regions, room, kind, answer)
+}
+
+/// A descriptor was copied, which joins the others or breaks a rule; or a notice goes on anyhow.
+#[inline(never)]
+fn go_on_chain(
+    notice: &mut VbNotice,
+    balloon: &mut Balloon,
+    regions: &[Region],
+    room: &mut VbRoom,
+    answer: u16,
+) -> u32
+    ensures goes { GoesOnBy (notice_of notice.old) regions.now answer balloon.old balloon.new
+        room.old room.new notice.new }
+    ensures what { result ≡ notice.new.what }
+{
+    match kind_of_code(notice.kind) {
+        None => go_anyhow(notice, balloon, regions, room, answer),
+        Some(kind) => match notice.phase {
+            DESCRIPTOR => go_chain(notice, balloon, regions, room, kind, answer),
+            _ => go_anyhow(notice, balloon, regions, room, answer),
+        },
+    }
+}
+
+/// The index was read.
+#[inline(never)]
+fn at_index(
+    notice: &mut VbNotice,
+    balloon: &mut Balloon,
+    regions: &[Region],
+    room: &mut VbRoom,
+    answer: u16,
+) -> u32
+    requires { notice.old.phase ≡ 1 }
+    ensures goes { GoesOnBy (notice_of notice.old) regions.now answer balloon.old balloon.new
+        room.old room.new notice.new }
+    ensures what { result ≡ notice.new.what }
+{
+    match kind_of_code(notice.kind) {
+        None => go_anyhow(notice, balloon, regions, room, answer),
+        Some(kind) => {
+            if go_index(notice, balloon, regions, room, kind, answer) {
+                return notice.what;
+            }
+            go_anyhow(notice, balloon, regions, room, answer)
+        }
+    }
+}
+
+/// The entry was read.
+#[inline(never)]
+fn at_entry(
+    notice: &mut VbNotice,
+    balloon: &mut Balloon,
+    regions: &[Region],
+    room: &mut VbRoom,
+    answer: u16,
+) -> u32
+    requires { notice.old.phase ≡ 2 }
+    ensures goes { GoesOnBy (notice_of notice.old) regions.now answer balloon.old balloon.new
+        room.old room.new notice.new }
+    ensures what { result ≡ notice.new.what }
+{
+    match kind_of_code(notice.kind) {
+        None => go_anyhow(notice, balloon, regions, room, answer),
+        Some(kind) => {
+            if go_entry(notice, balloon, regions, room, kind, answer) {
+                return notice.what;
+            }
+            go_anyhow(notice, balloon, regions, room, answer)
+        }
+    }
+}
+
+/// A descriptor was copied that names another one, or is a whole request; says whether it is so.
+/// Else nothing is changed.
+#[inline(always)]
+fn go_copied_descriptor(
+    notice: &mut VbNotice,
+    balloon: &Balloon,
+    regions: &[Region],
+    room: &mut VbRoom,
+    kind: Kind,
+    answer: u16,
+) -> bool
+    requires kind { kind_of_code notice.old.kind ≡ Some kind }
+    requires phase { notice.old.phase ≡ 3 }
+    ensures went { result ≡ true → GoesOnBy (notice_of notice.old) regions.now answer balloon.now
+        balloon.now room.old room.new notice.new }
+    ensures stays { result ≡ false → (notice.new ≡ notice.old) × (room.new ≡ room.old) }
+{
+    if go_descriptor(notice, balloon, regions, room, kind, answer) {
+        return true;
+    }
+    go_single(notice, balloon, regions, room, kind, answer)
+}
+
+/// A descriptor was copied.
+#[inline(never)]
+fn at_descriptor(
+    notice: &mut VbNotice,
+    balloon: &mut Balloon,
+    regions: &[Region],
+    room: &mut VbRoom,
+    answer: u16,
+) -> u32
+    requires { notice.old.phase ≡ 3 }
+    ensures goes { GoesOnBy (notice_of notice.old) regions.now answer balloon.old balloon.new
+        room.old room.new notice.new }
+    ensures what { result ≡ notice.new.what }
+{
+    match kind_of_code(notice.kind) {
+        None => go_on_chain(notice, balloon, regions, room, answer),
+        Some(kind) => {
+            if go_copied_descriptor(notice, balloon, regions, room, kind, answer) {
+                return notice.what;
+            }
+            go_on_chain(notice, balloon, regions, room, answer)
+        }
+    }
+}
+
+/// A part of a piece was copied.
+#[inline(never)]
+fn at_part(
+    notice: &mut VbNotice,
+    balloon: &mut Balloon,
+    regions: &[Region],
+    room: &mut VbRoom,
+    answer: u16,
+) -> u32
+    requires { notice.old.phase ≡ 4 }
+    ensures goes { GoesOnBy (notice_of notice.old) regions.now answer balloon.old balloon.new
+        room.old room.new notice.new }
+    ensures what { result ≡ notice.new.what }
+{
+    match kind_of_code(notice.kind) {
+        None => go_anyhow(notice, balloon, regions, room, answer),
+        Some(kind) => {
+            if u64::from(notice.into) + u64::from(notice.length) > MAX_BYTES as u64 {
+                return go_anyhow(notice, balloon, regions, room, answer);
+            }
+            go_copied(notice, balloon, regions, room, kind, answer)
+        }
+    }
+}
+
+/// The flags were read.
+#[inline(never)]
+fn at_flags(
+    notice: &mut VbNotice,
+    balloon: &mut Balloon,
+    regions: &[Region],
+    room: &mut VbRoom,
+    answer: u16,
+) -> u32
+    requires { notice.old.phase ≡ 5 }
+    ensures goes { GoesOnBy (notice_of notice.old) regions.now answer balloon.old balloon.new
+        room.old room.new notice.new }
+    ensures what { result ≡ notice.new.what }
+{
+    match kind_of_code(notice.kind) {
+        None => go_anyhow(notice, balloon, regions, room, answer),
+        Some(kind) => {
+            if go_flags(notice, balloon, regions, room, kind, answer) {
+                return notice.what;
+            }
+            go_anyhow(notice, balloon, regions, room, answer)
+        }
+    }
+}
+
+/// What is to be done next, once that was done which was to be done.
+#[unsafe(no_mangle)]
+pub extern "C" fn vb_go_on(
+    notice: &mut VbNotice,
+    balloon: &mut Balloon,
+    regions: &[Region],
+    room: &mut VbRoom,
+    answer: u16,
+) -> u32
+    ensures goes { GoesOnBy (notice_of notice.old) regions.now answer balloon.old balloon.new
+        room.old room.new notice.new }
+    ensures what { result ≡ notice.new.what }
+{
+    match notice.phase {
+        INDEX => at_index(notice, balloon, regions, room, answer),
+        ENTRY => at_entry(notice, balloon, regions, room, answer),
+        DESCRIPTOR => at_descriptor(notice, balloon, regions, room, answer),
+        PART => at_part(notice, balloon, regions, room, answer),
+        FLAGS => at_flags(notice, balloon, regions, room, answer),
+        _ => go_anyhow(notice, balloon, regions, room, answer),
+    }
+}
