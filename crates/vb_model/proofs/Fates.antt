@@ -16,9 +16,8 @@ use Rattle.vb_model.specs.{World.put_guest, declared.calls.Call.Call}
 use Rattle.vb_model.specs.declared.calls.{Call.TheVariants.{Scribble, SetTarget}, Claim.Claim}
 use Rattle.vb_model.specs.declared.{calls.Event.Event, replies.Refusal.Refusal, replies.Reply.Reply}
 use Rattle.vb_model.specs.declared.replies.Reply.TheVariants.{Done, Refused}
-use Rattle.vb_model.specs.declared.calls.Event.TheVariants.{Plug, Unplug, Restart, Guest as OnGuest}
-use Rattle.vb_model.specs.declared.calls.Event.TheVariants.{Query as OnQuery, Balance}
-use Rattle.vb_model.specs.declared.calls.Event.TheVariants.{Frames as CountFrames}
+use Rattle.vb_model.specs.declared.calls.Event.TheVariants.{Unplug, Restart, Guest as OnGuest}
+use Rattle.vb_model.specs.declared.calls.Event.TheVariants.{Balance}
 
 -- ---- what becomes of a guest
 

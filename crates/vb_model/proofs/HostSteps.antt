@@ -13,10 +13,8 @@ use Rattle.vb_model.specs.declared.replies.{Refusal.TheVariants.{NoMemory, Short
 use Rattle.vb_model.specs.declared.replies.Reply.TheVariants.{Plugged, Done, Targets, Refused}
 use Rattle.vb_model.specs.declared.calls.Event.TheVariants.{Guest as OnGuest, Query as OnQuery}
 use Rattle.vb_model.specs.declared.calls.Event.TheVariants.{Balance, Frames as CountFrames}
-use Rattle.vb_model.specs.declared.calls.Query.TheVariants.{Places as QueryPlaces, PagesAt}
-use Rattle.vb_model.specs.declared.calls.Query.TheVariants.{PagesBallooned, Balloon as QueryBalloon}
-use Rattle.vb_model.specs.declared.calls.Query.TheVariants.{Memory as QueryMemory}
-use Rattle.vb_model.specs.declared.calls.Query.TheVariants.{Backing as QueryBacking}
+use Rattle.vb_model.specs.declared.calls.Query.TheVariants.{PagesAt}
+use Rattle.vb_model.specs.declared.calls.Query.TheVariants.{PagesBallooned}
 
 -- either the event is refused for this, and nothing is changed, or this happens
 abbrev Either : Option Refusal → World → Reply → World → Type 0 → Type 0

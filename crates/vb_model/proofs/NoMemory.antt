@@ -16,10 +16,8 @@ use Rattle.vb_model.{specs.HostRefusals.world_causes, proofs.CallSteps.match_cas
 use Rattle.vb_model.specs.declared.calls.Event.TheVariants.{Plug, Unplug, Restart, Guest as OnGuest}
 use Rattle.vb_model.specs.declared.calls.Event.TheVariants.{Query as OnQuery, Balance}
 use Rattle.vb_model.specs.declared.calls.Event.TheVariants.{Frames as CountFrames}
-use Rattle.vb_model.specs.declared.calls.Query.TheVariants.{Places as QueryPlaces, PagesAt}
-use Rattle.vb_model.specs.declared.calls.Query.TheVariants.{PagesBallooned, Balloon as QueryBalloon}
-use Rattle.vb_model.specs.declared.calls.Query.TheVariants.{Memory as QueryMemory}
-use Rattle.vb_model.specs.declared.calls.Query.TheVariants.{Backing as QueryBacking}
+use Rattle.vb_model.specs.declared.calls.Query.TheVariants.{PagesAt}
+use Rattle.vb_model.specs.declared.calls.Query.TheVariants.{PagesBallooned}
 
 -- a reply that isn't want of memory
 not_wanted : {A : Type 0} (reply : Reply) → Refused NoMemory ≡ reply → wants reply ≡ false → A
