@@ -12,7 +12,6 @@ pub record HasSummary (level summary : List Bool) : Type 0 where
 
 -- the members, their summary, its summary, and how many members there are
 pub record IsSummed (members words groups : List Bool) (len : ℕ) : Type 0 where
-  pub some : 0 < length members
   pub few : length members ≤ MAX_BOUND
   pub first : HasSummary members words
   pub second : HasSummary words groups

@@ -1,6 +1,6 @@
 //! A set of numbers as the bits of words, without a summary.
 
-ghost use Rattle.std.specs.Prelude.{◌≡◌, ℕ, ◌+◌, ◌*◌, ◌/◌, ◌<◌, ◌≤◌, ◌↔◌, true, false};
+ghost use Rattle.std.specs.Prelude.{◌≡◌, ℕ, ◌+◌, ◌*◌, ◌/◌, ◌<◌, ◌≤◌, ◌↔◌, true, false, []};
 ghost use Rattle.std.specs.Prelude.{length, replicate, slice_index, slice_set, IfOk};
 ghost use Rattle.vb_model.specs.Tests.{has_bit};
 ghost use Rattle.vb_bits.specs.Sets.{has, HasNoneIn, IsNextInWord};
@@ -30,6 +30,16 @@ impl Model for Level {
 }
 
 impl Level {
+    /// No number below a bound of 0, which takes no memory.
+    pub fn empty(alloc: Global) -> Level
+        ensures { result ≡ [] }
+    {
+        Level {
+            bound: 0,
+            words: Vec::new(alloc),
+        }
+    }
+
     /// No number below the bound. Want of memory is the only refusal.
     pub fn new(alloc: Global, bound: u32) -> Result<Level, AllocError>
         ensures { IfOk result (λ level. level ≡ replicate bound false) }
@@ -95,9 +105,11 @@ impl Level {
 
     /// Puts all numbers in.
     pub fn fill(&mut self)
-        requires { 0 < length self.old }
         ensures { self.new ≡ replicate (length self.old) true }
     {
+        if self.bound == 0 {
+            return;
+        }
         let last = (self.bound - 1) / WORD_BITS;
         self.words.fill(u64::MAX);
         self.words[last as usize] = low_ones(u64::from(self.bound - last * WORD_BITS));

@@ -8,4 +8,4 @@ mod tests;
 mod word;
 
 pub use set::{BitSet, MAX_BOUND};
-pub use word::{WORD_BITS, low_ones};
+pub use word::{WORD_BITS, is_in_words, low_ones};

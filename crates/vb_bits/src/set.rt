@@ -1,6 +1,6 @@
 //! A set of numbers with a count and a summary.
 
-ghost use Rattle.std.specs.Prelude.{◌≡◌, ◌==◌, ℕ, ◌+◌, ◌*◌, ◌<◌, ◌≤◌, true, false, List, Bool};
+ghost use Rattle.std.specs.Prelude.{◌≡◌, ◌==◌, ℕ, ◌+◌, ◌*◌, ◌<◌, ◌≤◌, true, false, [], List, Bool};
 ghost use Rattle.std.specs.Prelude.{length, not, replicate, count_by, slice_index, slice_set, IfOk};
 ghost use Rattle.std.specs.Option.{ForSome};
 ghost use Rattle.vb_model.specs.Tests.{has_bit};
@@ -71,9 +71,20 @@ fn word_from(words: &Level, groups: &Level, word: u32) -> Option<u32>
 }
 
 impl BitSet {
-    /// No number below the bound, which is 1 to 262,144. Want of memory is the only refusal.
+    /// The set with bound 0, which has room for no number and takes no memory.
+    pub fn empty(alloc: Global) -> BitSet
+        ensures { result ≡ [] }
+    {
+        BitSet {
+            len: 0,
+            members: Level::empty(alloc),
+            words: Level::empty(alloc),
+            groups: Level::empty(alloc),
+        }
+    }
+
+    /// No number below the bound, which is 0 to 262,144. Want of memory is the only refusal.
     pub fn new(alloc: Global, bound: u32) -> Result<BitSet, AllocError>
-        requires some { 0 < bound }
         requires few { bound ≤ MAX_BOUND }
         ensures { IfOk result (λ set. set ≡ replicate bound false) }
     {
@@ -147,6 +158,15 @@ impl BitSet {
         self.put(n, false)
     }
 
+    /// Makes the number a member, or takes it out; a number past the bound changes nothing.
+    pub fn set(&mut self, n: u32, member: bool)
+        ensures { self.new ≡ slice_set self.old n member }
+    {
+        if n < self.bound() {
+            self.put(n, member);
+        }
+    }
+
     /// The least member.
     pub fn first(&self) -> Option<u32>
         ensures { IsFirstFrom self.now 0 result }
@@ -190,9 +210,10 @@ impl BitSet {
     }
 
     /// The members as bits: bit b of word w is 1 exactly if 64 w + b is a member. The words are the
-    /// fewest that hold the bound's numbers, at least one; bits past the bound are 0.
+    /// fewest that hold the bound's numbers, at least one where the bound isn't 0; bits past the
+    /// bound are 0.
     pub fn words(&self) -> &[u64]
-        ensures some { 0 < length result.now }
+        ensures some { 0 < length self.now → 0 < length result.now }
         ensures enough { length self.now ≤ WORD_BITS * length result.now }
         ensures fewest { WORD_BITS * length result.now < length self.now + WORD_BITS }
         ensures bits { (w b : ℕ) → b < WORD_BITS →

@@ -1,11 +1,11 @@
 //! Calls and answers at the ends of words, of their summaries and of the bound.
 
-ghost use Rattle.std.specs.Prelude.{◌<◌, ◌≤◌};
+ghost use Rattle.std.specs.Prelude.{◌≤◌};
 ghost use Rattle.vb_bits.specs.declared.set.TheConstants.{MAX_BOUND};
 
 use crate::BitSet;
 use Answer::{Count, Done, Is, NoNumber, Number, Words};
-use Step::{Clear, Contains, Fill, First, FirstFrom, Insert, IsEmpty, Len, Remove, TwoWords};
+use Step::{Clear, Contains, Fill, First, FirstFrom, Insert, IsEmpty, Len, Remove, Set, TwoWords};
 use std::alloc::{AllocError, Global};
 use std::test::Fail;
 
@@ -13,6 +13,7 @@ use std::test::Fail;
 enum Step {
     Insert(u32),
     Remove(u32),
+    Set(u32, bool),
     Contains(u32),
     First,
     FirstFrom(u32),
@@ -44,7 +45,10 @@ fn number(found: Option<u32>) -> Answer {
 
 fn two_words(set: &BitSet) -> Answer {
     let words = set.words();
-    Words(words.len(), words[0], words[words.len() - 1])
+    match (words.first(), words.last()) {
+        (Some(first), Some(last)) => Words(words.len(), *first, *last),
+        _ => NoNumber,
+    }
 }
 
 /// The answer; a number past the bound isn't put in or taken out.
@@ -52,6 +56,10 @@ fn make(set: &mut BitSet, step: &Step) -> Answer {
     match step {
         Insert(n) => Is(*n < set.bound() && set.insert(*n)),
         Remove(n) => Is(*n < set.bound() && set.remove(*n)),
+        Set(n, member) => {
+            set.set(*n, *member);
+            Done
+        }
         Contains(n) => Is(set.contains(*n)),
         First => number(set.first()),
         FirstFrom(n) => number(set.first_from(*n)),
@@ -85,8 +93,7 @@ fn first_wrong(
     bound: u32,
     lines: &[(Step, Answer)],
 ) -> Result<Option<usize>, AllocError>
-    requires some { 0 < bound }
-    requires few { bound ≤ MAX_BOUND }
+    requires { bound ≤ MAX_BOUND }
 {
     let mut set = BitSet::new(alloc, bound)?;
     Ok(first_wrong_line(&mut set, lines))
@@ -164,8 +171,25 @@ static LARGEST: [(Step, Answer); 8] = [
     (FirstFrom(262_144), NoNumber),
 ];
 
-/// The least bound.
-static LEAST: [(Step, Answer); 4] = [
+/// No bound: no number is a member.
+static NONE: [(Step, Answer); 7] = [
+    (Fill, Done),
+    (Set(0, true), Done),
+    (Len, Count(0)),
+    (First, NoNumber),
+    (TwoWords, NoNumber),
+    (Clear, Done),
+    (FirstFrom(1), NoNumber),
+];
+
+/// A bound of 1.
+static LEAST: [(Step, Answer); 10] = [
+    (Set(0, true), Done),
+    (Set(1, true), Done),
+    (Len, Count(1)),
+    (Set(0, false), Done),
+    (Set(1, false), Done),
+    (Len, Count(0)),
     (Fill, Done),
     (First, Number(0)),
     (TwoWords, Words(1, 1, 1)),
@@ -182,6 +206,9 @@ fn finds_members_at_the_ends_of_words(rt: HostRuntime) -> Result<(), Fail> {
 fn has_just_the_bits_below_the_bound(rt: HostRuntime) -> Result<(), Fail> {
     assert_eq!(rt; first_wrong(rt.alloc(), 100, &TWO_WORDS)?, None);
     assert_eq!(rt; first_wrong(rt.alloc(), 1, &LEAST)?, None);
+    assert_eq!(rt; first_wrong(rt.alloc(), 0, &NONE)?, None);
+    let mut empty = BitSet::empty(rt.alloc());
+    assert_eq!(rt; first_wrong_line(&mut empty, &NONE), None);
     Ok(())
 }
 

@@ -2,7 +2,7 @@
 
 ghost use Rattle.std.specs.Prelude.{◌≡◌, ◌≢◌, ℕ, ◌<◌, ◌≤◌, true, false, MatchOption, nat_lt};
 ghost use Rattle.vb_model.specs.Tests.{has_bit};
-ghost use Rattle.vb_bits.specs.Words.{IsLowestFrom};
+ghost use Rattle.vb_bits.specs.Words.{IsLowestFrom, in_words};
 
 /// Bits of a word, so many numbers stand in one.
 pub const WORD_BITS: u32 = 64;
@@ -13,6 +13,18 @@ pub fn is_one(word: u64, bit: u32) -> bool
     ensures { result ≡ has_bit word bit }
 {
     word >> bit & 1 == 1
+}
+
+/// Whether a number is in the set of these words, where bit b of word w stands for 64 w + b; none
+/// past the words is.
+pub fn is_in_words(words: &[u64], n: u64) -> bool
+    ensures { result ≡ in_words words.now n }
+{
+    let bits = u64::from(WORD_BITS);
+    match words.get((n / bits) as usize) {
+        Some(word) => is_one(*word, (n % bits) as u32),
+        None => false,
+    }
 }
 
 /// The word with the bit made 1.

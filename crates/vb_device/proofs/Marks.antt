@@ -8,20 +8,6 @@ use Rattle.vb_model.{specs.Tests.{is_in, one_if}, proofs.Tables.{length-each_fro
 use Rattle.vb_device.{specs.Discards.flagged, specs.BaseCalls.flags_after}
 use Rattle.vb_device.proofs.Discards.{in_more, or_true, or_false, not_equal}
 
-one_is : (b : Bool) → cond b 1 0 ≡ one_if b
-one_is true = refl
-one_is false = refl
-
--- the count after one flag is set or taken back
-pub count_set : (flags : List Bool) (i : ℕ) (flag old : Bool) → i < length flags →
-    get_or flags i old ≡ old →
-    count_by (λ b. b) (set flags i flag) + one_if old ≡ count_by (λ b. b) flags + one_if flag
-count_set flags i flag old lt at = grind (arith, sum_by-set, one_is)
-
-pub count_has : (flags : List Bool) (i : ℕ) (old : Bool) → i < length flags →
-    get_or flags i old ≡ old → one_if old ≤ count_by (λ b. b) flags
-count_has flags i old lt at = grind (arith, get_or-le-sum_by, one_is)
-
 pub flagged-length : (pages : List ℕ) (flag : Bool) (flags : List Bool) →
     length (flagged pages flag flags) ≡ length flags
 flagged-length pages flag flags =

@@ -11,12 +11,13 @@ ghost use Rattle.vb_device.specs.Conditions.{finish_refusal, taken_at};
 ghost use Rattle.vb_device.specs.Calls.{IsUnused};
 
 use crate::base::DeviceBase;
-use crate::flags::PageFlags;
+use crate::flags::note_finish;
 use crate::pace::{Immediate, Pace, Paced};
 use crate::{Claimed, Device, Statistics, Worked};
 use bitflags::Flags;
 use std::alloc::{AllocError, Global};
 use std::marker::{Model, PhantomData};
+use vb_bits::BitSet;
 use vb_model::Refusal;
 use vb_ram::{Config, Frame, GuestBytes, RamFault, SupplyRefused};
 use vb_status::{Features, Port, Status, StatusFault};
@@ -35,7 +36,7 @@ pub struct BalloonDevice<P: Pace> {
     /// All but the set of ballooned pages.
     base: DeviceBase,
     /// The pages that are ballooned.
-    ballooned: PageFlags,
+    ballooned: BitSet,
     /// Its pace.
     pace: PhantomData<P>,
 }
@@ -58,7 +59,7 @@ impl<P: Pace> Model for BalloonDevice<P> {
 /// answers its head. Refused as a finish is; then nothing is changed.
 fn mark_taken(
     base: &DeviceBase,
-    ballooned: &mut PageFlags,
+    ballooned: &mut BitSet,
     queue: u32,
     index: u32,
     paced: bool,
@@ -73,7 +74,7 @@ fn mark_taken(
     ensures kept { OnErr result (ballooned.new ≡ ballooned.old) }
 {
     let request = base.taken(queue, index, paced)?;
-    ballooned.note_finish(queue, request);
+    note_finish(ballooned, queue, request);
     Ok(request.head())
 }
 
@@ -88,7 +89,7 @@ impl<P: Pace> BalloonDevice<P> {
     {
         BalloonDevice {
             base: DeviceBase::new(alloc),
-            ballooned: PageFlags::empty(alloc),
+            ballooned: BitSet::empty(alloc),
             pace: PhantomData,
         }
     }
@@ -195,7 +196,7 @@ impl<P: Pace> Device for BalloonDevice<P> {
     ghost answers = { λ _ _. false };
 
     fn attach(&mut self, alloc: Global, config: Config) -> Result<(), AllocError> {
-        let ballooned = PageFlags::new(alloc, config.pages)?;
+        let ballooned = BitSet::new(alloc, config.pages)?;
         self.base.attach(alloc, config)?;
         self.ballooned = ballooned;
         Ok(())
@@ -258,11 +259,11 @@ impl<P: Pace> Device for BalloonDevice<P> {
     }
 
     fn ballooned(&self, page: u32) -> bool {
-        self.ballooned.get(page)
+        self.ballooned.contains(page)
     }
 
     fn ballooned_count(&self) -> u32 {
-        self.ballooned.count()
+        self.ballooned.len()
     }
 
     fn detach(&mut self) {

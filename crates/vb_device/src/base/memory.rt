@@ -11,7 +11,7 @@ ghost use Rattle.vb_device.specs.Discards.{discarded, frames_behind};
 
 use crate::base::DeviceBase;
 use crate::discarding::discard_page;
-use crate::flags::PageFlags;
+use vb_bits::BitSet;
 use vb_model::Refusal;
 use vb_ram::{Frame, GuestBytes, RamFault, SupplyRefused};
 
@@ -55,8 +55,8 @@ impl DeviceBase {
     }
 
     /// Takes the frame of a page away, if it has one, where the driver has agreed to tell the host
-    /// and these flags have the page; says whether it had.
-    pub(crate) fn sweep(&mut self, page: u32, ballooned: &PageFlags) -> Result<bool, Refusal>
+    /// and the page is in this set; says whether it had.
+    pub(crate) fn sweep(&mut self, page: u32, ballooned: &BitSet) -> Result<bool, Refusal>
         requires flags { length ballooned.now ≡ length self.old.mem }
         requires none { self.old.part.loose ≡ [] }
         ensures by { SweepsPage page self.old.mem self.new.mem
@@ -70,7 +70,7 @@ impl DeviceBase {
         if !self.features.must_tell_host() {
             return Err(Refusal::NoFeature);
         }
-        if !ballooned.get(page) {
+        if !ballooned.contains(page) {
             return Err(Refusal::NotBallooned);
         }
         Ok(self.discard(page))

@@ -9,7 +9,6 @@ invariant_of-self c =
     let same : length c.fill.new.self ≡ length members =
     ap length c.fill.ensures ∙ length-replicate (length members) true in
     record {
-      some = omega (arith, c.self.invariant.some, same);
       few = omega (arith, c.self.invariant.few, same);
       first = full_levels members c.self.inside.words c.fill.new.self c.fill-2.new.self
           c.self.invariant.first c.fill.ensures c.fill-2.ensures;

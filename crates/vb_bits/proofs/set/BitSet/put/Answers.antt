@@ -15,7 +15,6 @@ invariant_of-self c =
     let counted : count_by (λ b. b) c.put-any.new.self ≡ count_by (λ b. b) (set members n one) =
     ap (λ (xs : List Bool). count_by (λ b. b) xs) c.put-any.ensures.put in
     record {
-      some = omega (arith, below, same);
       few = omega (arith, same, c.self.invariant.few);
       first = put_levels members words c.put-any.new.self c.put-any-2.new.self n one
           c.put-any.result c.self.invariant.first below c.put-any.ensures.put
