@@ -9,7 +9,7 @@ ghost use Rattle.vb_core.specs.Runs.{pages_of_run, pages_of_runs};
 ghost use Rattle.vb_core.specs.Ballooned.{is_ballooned, ballooned_count, Puts, MarksBy};
 
 use crate::{Denial, Kind, Run};
-use vb_bits::{WORD_BITS, low_ones};
+use vb_bits::{WORD_BITS, is_in_words, low_ones};
 
 /// Pages of a word of the set.
 const PAGES: u64 = WORD_BITS as u64;
@@ -128,10 +128,7 @@ pub fn mark(kind: Kind, runs: &[Run], set: &mut [u64]) -> Result<u64, Denial>
 pub fn is_ballooned(set: &[u64], page: u32) -> bool
     ensures { result ≡ is_ballooned set.now page }
 {
-    match set.get((page / WORD_BITS) as usize) {
-        Some(word) => *word >> (page % WORD_BITS) & 1 == 1,
-        None => false,
-    }
+    is_in_words(set, u64::from(page))
 }
 
 /// How many pages are in the set, counted word by word. A number past 2^64 - 1, which no memory

@@ -1,7 +1,6 @@
 -- A table of places, and how many pages it has at each.
 use Rattle.std.specs.Prelude.{true, false, ◌≡◌, ℕ, nat_lt, if◌then◌else◌}
 use Rattle.std.specs.Prelude.{Bool, List, length, ◌+◌, ◌*◌, ◌<◌, ◌≤◌, slice_index, count_by, map}
-use Rattle.std.specs.Prelude.{max}
 use Rattle.std.specs.Int.{div_ceil}
 pub use Rattle.vb_model.specs.Tests.{marked}
 use Rattle.vb_model.specs.Pages.{is_free, is_used, is_giving, is_lent, is_taking, is_stranded}
@@ -61,8 +60,8 @@ pub record IsTable (counts : List ℕ) (lent stranded : List Bool) (places : Lis
   pub small : length places ≤ MAX_GUEST_PAGES
 
 -- the lent pages as bits: bit b of word w is 1 exactly if page 64 w + b is lent; the words are the
--- fewest that so many pages need, at least one
+-- fewest that so many pages need
 pub record AreLentBits (places : List Place) (words : List ℕ) : Type 0 where
-  pub fewest : length words ≡ max 1 (div_ceil (length places) WORD_BITS)
+  pub fewest : length words ≡ div_ceil (length places) WORD_BITS
   pub tells : (w b : ℕ) → b < WORD_BITS
       → has_bit (slice_index words w) b ≡ is_lent (place_of places (WORD_BITS * w + b))

@@ -15,7 +15,7 @@ ghost use Rattle.vb_monitor.specs.declared.regions.TheConstants.{FILE_LIMIT};
 use crate::regions::PAGE_BYTES;
 use crate::{Cut, Region};
 use bitflags::Flags;
-use vb_bits::{WORD_BITS, low_ones};
+use vb_bits::{WORD_BITS, is_in_words, low_ones};
 use vb_core::Device;
 use vb_status::Features;
 
@@ -53,16 +53,6 @@ struct Row {
     high: u64,
 }
 
-/// Whether a page is in the set; none behind the words is.
-fn is_in_set(set: &[u64], page: u64) -> bool
-    ensures { result ≡ is_ballooned set.now page }
-{
-    match set.get((page / WORD_PAGES) as usize) {
-        Some(word) => *word >> (page % WORD_PAGES) & 1 == 1,
-        None => false,
-    }
-}
-
 /// Whether a page and the next 63 are a word of the set in which each bit is 1.
 fn is_full(set: &[u64], page: u64) -> bool
     requires { page < 2 ^ 63 }
@@ -90,7 +80,7 @@ fn are_in_set(set: &[u64], from: u64, end: u64) -> bool
     while page < end {
         if page + WORD_PAGES <= end && is_full(set, page) {
             page += WORD_PAGES;
-        } else if is_in_set(set, page) {
+        } else if is_in_words(set, page) {
             page += 1;
         } else {
             return false;
