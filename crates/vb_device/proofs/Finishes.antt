@@ -12,7 +12,7 @@ use Rattle.vb_ring.{specs.declared.layout.Layout.Layout, specs.Layout.{layout_of
 use Rattle.vb_ring.{specs.Ends.DeviceEnd, specs.Calls.AddsUsedBy}
 use Rattle.vb_device.specs.{Conditions.finish_refusal, Queues.{queue_end, with_queue}}
 use Rattle.vb_device.specs.{QueueState.{QueueState, part_of, taken_refusal}, Base.index_of}
-use Rattle.vb_device.specs.Base.{queue_at, base_part, IsDeviceQueue, IsBase, with_pace}
+use Rattle.vb_device.specs.Base.{queue_at, base_part, IsDeviceQueue, IsBase}
 use Rattle.vb_device.{specs.BaseCalls.{queue_refusal, UsesChain, CanUse}, proofs.Rings.backed_still}
 use Rattle.vb_device.{specs.Calls.without_frames, proofs.FourQueues.{part_get, part_set, set_here}}
 use Rattle.vb_device.proofs.{FourQueues.base_set, TakesBy.{finish_open, queue_finish, queue_known}}
@@ -35,13 +35,13 @@ abbrev pub without_taken : QueueState → ℕ → QueueState
 without_taken x index = record x { taken = remove x.taken index }
 
 -- the tests of a finish where the queue's number and the status refuse nothing
-pub finish_left : (q index : ℕ) (paced : Bool) (s f t a n : ℕ) (qs : List QueueState)
-    (l : LastStatistics) (loose : List Page) → queue_refusal q s ≡ None →
-    finish_refusal q index (with_pace paced (base_part s f t a n qs l loose)) ≡
+pub finish_left : (q index s f t a n : ℕ) (qs : List QueueState)
+    (l : LastStatistics) (loose : List Page) (flags : List Bool) (paced : Bool) → queue_refusal q s ≡ None →
+    finish_refusal q index (base_part s f t a n qs l loose flags paced) ≡
     taken_refusal (paced && not (q == 1)) (slice_get (queue_at q qs).taken index)
-finish_left q index paced s f t a n qs l loose ok = finish_open q index s _ ok ∙
+finish_left q index s f t a n qs l loose flags paced ok = finish_open q index s _ ok ∙
     (ap (λ (k : QueuePart). taken_refusal_by (paced && not (q == 1)) (slice_get k.taken index))
-    (part_get q s f t a n qs l loose (queue_known q s ok)) ∙
+    (part_get q s f t a n qs l loose flags paced (queue_known q s ok)) ∙
     by_and (paced && not (q == 1)) (slice_get (queue_at q qs).taken index))
 
 -- an end whose queue is ready, by its parts
@@ -65,31 +65,31 @@ queue_is x ring taken e f = search (arith)
 
 -- the device's end of a queue
 end_of_queue : (q : ℕ) (mem : Pages) (s f t a n : ℕ) (qs : List QueueState) (l : LastStatistics)
-    (loose : List Page) (x : QueueState) → has_chains q ≡ true →
+    (loose : List Page) (flags : List Bool) (paced : Bool) (x : QueueState) → has_chains q ≡ true →
     queue_at q qs ≡ x → x.ring.layout ≡ layout_of (ring_page n q) n → x.ring.size ≡ n →
-    x.ring.ready ≡ true → x.ring ≡ queue_end q (base_part s f t a n qs l loose)
-end_of_queue q mem s f t a n qs l loose x known at ring size ready =
+    x.ring.ready ≡ true → x.ring ≡ queue_end q (base_part s f t a n qs l loose flags paced)
+end_of_queue q mem s f t a n qs l loose flags paced x known at ring size ready =
     search (arith, end_is, part_get)
 
 -- a chain of one queue is used
 pub used_at : (q h : ℕ) (m1 m2 : Pages) (s f t a n c : ℕ) (qs : List QueueState)
-    (x2 : QueueState) (l : LastStatistics) (loose : List Page) → IsBase m1 s n qs c → has_chains q
+    (x2 : QueueState) (l : LastStatistics) (loose : List Page) (flags : List Bool) (paced : Bool) → IsBase m1 s n qs c → has_chains q
     ≡ true → contains s driver_ok ≡ true → AddsUsedBy m1 m2 (queue_at q qs).ring x2.ring h 0
-    → x2.taken ≡ (queue_at q qs).taken → UsesChain q h m1 m2 (base_part s f t a n qs l loose)
-    (base_part s f t a n (set qs (index_of q) x2) l loose)
-used_at q h m1 m2 s f t a n c qs x2 l loose is known ok adds left =
+    → x2.taken ≡ (queue_at q qs).taken → UsesChain q h m1 m2 (base_part s f t a n qs l loose flags paced)
+    (base_part s f t a n (set qs (index_of q) x2) l loose flags paced)
+used_at q h m1 m2 s f t a n c qs x2 l loose flags paced is known ok adds left =
     let x : QueueState = queue_at q qs in
     let now : IsDeviceQueue m1 s n q x = is.each q known in record {
-      part = part_set q s f t a n qs x2 l loose is.four known
-          ∙ (ap (λ (y : QueueState). with_queue q (part_of y) (base_part s f t a n qs l loose))
+      part = part_set q s f t a n qs x2 l loose flags paced is.four known
+          ∙ (ap (λ (y : QueueState). with_queue q (part_of y) (base_part s f t a n qs l loose flags paced))
           (queue_is x2 (record x.ring { next_used = (x.ring.next_used + 1) % 65536 }) x.taken
           adds.state left)
           ∙ ap (λ (k : QueuePart). with_queue q (record k { next_used = (k.next_used + 1) % 65536 })
-          (base_part s f t a n qs l loose)) (sym (part_get q s f t a n qs l loose known)));
-      memory = ends_so m1 m2 x.ring x2.ring (queue_end q (base_part s f t a n qs l loose))
-          (queue_end q (base_part s f t a n (set qs (index_of q) x2) l loose)) h
-          (end_of_queue q m1 s f t a n qs l loose x known refl now.ring now.size (now.ready ok))
-          (end_of_queue q m1 s f t a n (set qs (index_of q) x2) l loose x2 known
+          (base_part s f t a n qs l loose flags paced)) (sym (part_get q s f t a n qs l loose flags paced known)));
+      memory = ends_so m1 m2 x.ring x2.ring (queue_end q (base_part s f t a n qs l loose flags paced))
+          (queue_end q (base_part s f t a n (set qs (index_of q) x2) l loose flags paced)) h
+          (end_of_queue q m1 s f t a n qs l loose flags paced x known refl now.ring now.size (now.ready ok))
+          (end_of_queue q m1 s f t a n (set qs (index_of q) x2) l loose flags paced x2 known
           (set_here q qs x2 is.four known) (ap (λ (e : DeviceEnd). e.layout) adds.state ∙ now.ring)
           (ap (λ (e : DeviceEnd). e.size) adds.state ∙ now.size)
           (ap (λ (e : DeviceEnd). e.ready) adds.state ∙ now.ready ok)) adds;
@@ -146,12 +146,12 @@ kept_page : (reserved q p : ℕ) (pages : List ℕ) (mem : Pages) → p < reserv
 kept_page reserved q p pages mem low above = grind (arith, reserved_still)
 
 pub can_use : (q h : ℕ) (pages : List ℕ) (m1 m2 : Pages) (s f t a n c : ℕ) (qs : List QueueState)
-    (x2 : QueueState) (l : LastStatistics) (loose : List Page) → IsBase m1 s n qs c
+    (x2 : QueueState) (l : LastStatistics) (loose : List Page) (flags : List Bool) (paced : Bool) → IsBase m1 s n qs c
     → has_chains q ≡ true → readiness_refusal s ≡ None → h < (queue_at q qs).ring.size
     → All (λ page. reserved_pages (queue_at q qs).ring.size ≤ page) pages
     → m2 ≡ without_frames q pages m1 → IsBacked m1 (layout_of (ring_page n q) n)
-    → CanUse q h m2 (base_part s f t a n (set qs (index_of q) x2) l loose)
-can_use q h pages m1 m2 s f t a n c qs x2 l loose is known ok lt above mem backed =
+    → CanUse q h m2 (base_part s f t a n (set qs (index_of q) x2) l loose flags paced)
+can_use q h pages m1 m2 s f t a n c qs x2 l loose flags paced is known ok lt above mem backed =
     grind (arith, status_ok, backed_still, kept_page)
 
 -- a request whose next page is visited stands in memory that has pages
@@ -163,25 +163,3 @@ pub visits_some : (mem : Pages) (ts : List Request) (found : Option ℕ) →
     (length mem ≡ 0 → ts ≡ []) → found ≡ next_page ts → OnSome found (0 < length mem)
 visits_some mem ts None none at = search rules
 visits_some mem ts (Some page) none at = visits_attached mem ts page none (sym at)
-
--- what may be finished is on a queue of requests, of a device that is ready
-queue_open : (q index : ℕ) (part : Part) → finish_refusal q index part ≡ None
-    → queue_refusal q part.status ≡ None
-queue_open q index part free = grind (arith, none_some, queue_finish)
-
--- and is there
-taken_there : (visits : Bool) (taken : Option Request) → taken_refusal visits taken ≡ None
-    → (r : Request) × (taken ≡ Some r)
-taken_there visits None free = absurd cc
-taken_there visits (Some r) free = (r, refl)
-
--- the request that may be finished, by the parts of a device
-pub request_there : (q index : ℕ) (paced : Bool) (s f t a n : ℕ) (qs : List QueueState)
-    (l : LastStatistics) (loose : List Page)
-    → finish_refusal q index (with_pace paced (base_part s f t a n qs l loose)) ≡ None
-    → (r : Request) × (queue_refusal q s ≡ None) × (slice_get (queue_at q qs).taken index ≡ Some r)
-request_there q index paced s f t a n qs l loose free =
-    let ok : queue_refusal q s ≡ None =
-    queue_open q index (with_pace paced (base_part s f t a n qs l loose)) free in
-    let found = taken_there (paced && not (q == 1)) (slice_get (queue_at q qs).taken index)
-    (sym (finish_left q index paced s f t a n qs l loose ok) ∙ free) in (found.0, ok, found.1)

@@ -62,20 +62,20 @@ set_four qs i x four = length-set qs i x ∙ four
 
 -- a device's part of a queue
 pub part_get : (q s f t a n : ℕ) (qs : List QueueState) (last : LastStatistics)
-    (loose : List Page) → has_chains q ≡ true →
-    queue_part q (base_part s f t a n qs last loose) ≡ part_of (queue_at q qs)
-part_get q s f t a n qs last loose known = grind (arith, at_each)
+    (loose : List Page) (flags : List Bool) (paced : Bool) → has_chains q ≡ true →
+    queue_part q (base_part s f t a n qs last loose flags paced) ≡ part_of (queue_at q qs)
+part_get q s f t a n qs last loose flags paced known = grind (arith, at_each)
 
 -- the part after one queue is changed
 pub part_set : (q s f t a n : ℕ) (qs : List QueueState) (x : QueueState) (last : LastStatistics)
-    (loose : List Page) → length qs ≡ 4 → has_chains q ≡ true →
-    base_part s f t a n (set qs (index_of q) x) last loose ≡
-    with_queue q (part_of x) (base_part s f t a n qs last loose)
-part_set q s f t a n qs x last loose four known =
-    of_four (λ l. base_part s f t a n (set l (index_of q) x) last loose ≡
-    with_queue q (part_of x) (base_part s f t a n l last loose)) (λ u v w z. at_each (λ k.
-    base_part s f t a n (set (u ∷ v ∷ w ∷ z ∷ []) (index_of k) x) last loose ≡
-    with_queue k (part_of x) (base_part s f t a n (u ∷ v ∷ w ∷ z ∷ []) last loose))
+    (loose : List Page) (flags : List Bool) (paced : Bool) → length qs ≡ 4 → has_chains q ≡ true →
+    base_part s f t a n (set qs (index_of q) x) last loose flags paced ≡
+    with_queue q (part_of x) (base_part s f t a n qs last loose flags paced)
+part_set q s f t a n qs x last loose flags paced four known =
+    of_four (λ l. base_part s f t a n (set l (index_of q) x) last loose flags paced ≡
+    with_queue q (part_of x) (base_part s f t a n l last loose flags paced)) (λ u v w z. at_each (λ k.
+    base_part s f t a n (set (u ∷ v ∷ w ∷ z ∷ []) (index_of k) x) last loose flags paced ≡
+    with_queue k (part_of x) (base_part s f t a n (u ∷ v ∷ w ∷ z ∷ []) last loose flags paced))
     refl refl refl refl q known) qs four
 
 -- ---- what is always true of a device

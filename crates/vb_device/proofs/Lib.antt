@@ -8,7 +8,7 @@ pub mod Rings
 pub mod Sizes
 pub mod Marks
 pub mod LooseFrames
-pub mod Ballooning
+pub mod Settles
 pub mod Visits
 pub mod OwnFrames
 mod CallFacts

@@ -288,16 +288,16 @@ takes_by q mem P x1 x2 s l1 l2 result sits t =
 
 -- ---- a queue of a device
 
-abbrev with_at : ℕ → ℕ → ℕ → ℕ → ℕ → List QueueState → List Page → QueueState → ℕ →
+abbrev with_at : ℕ → ℕ → ℕ → ℕ → ℕ → List QueueState → List Page → List Bool → Bool → QueueState → ℕ →
     LastStatistics → Part
-with_at q f t a n qs loose x s l = base_part s f t a n (set qs (index_of q) x) l loose
+with_at q f t a n qs loose flags paced x s l = base_part s f t a n (set qs (index_of q) x) l loose flags paced
 
 -- the part of the queue that was put there
 pub part_here : (q s f t a n : ℕ) (qs : List QueueState) (x : QueueState) (l : LastStatistics)
-    (loose : List Page) → length qs ≡ 4 → has_chains q ≡ true →
-    queue_part q (base_part s f t a n (set qs (index_of q) x) l loose) ≡ part_of x
-part_here q s f t a n qs x l loose four known = part_get q s f t a n
-    (set qs (index_of q) x) l loose known ∙ ap part_of (set_here q qs x four known)
+    (loose : List Page) (flags : List Bool) (paced : Bool) → length qs ≡ 4 → has_chains q ≡ true →
+    queue_part q (base_part s f t a n (set qs (index_of q) x) l loose flags paced) ≡ part_of x
+part_here q s f t a n qs x l loose flags paced four known = part_get q s f t a n
+    (set qs (index_of q) x) l loose flags paced known ∙ ap part_of (set_here q qs x four known)
 
 taking_two : (q h : ℕ) (pages : List ℕ) (k : QueuePart) (p : Part) → has_chains q ≡ true →
     taking q h pages (with_queue q k p) ≡ with_queue q (record k {
@@ -306,26 +306,26 @@ taking_two : (q h : ℕ) (pages : List ℕ) (k : QueuePart) (p : Part) → has_c
     }) p
 taking_two q h pages k p known = grind (arith, at_each)
 
-takes_at_part : (q : ℕ) (mem : Pages) (s f t a n : ℕ) (qs : List QueueState) (loose : List Page)
+takes_at_part : (q : ℕ) (mem : Pages) (s f t a n : ℕ) (qs : List QueueState) (loose : List Page) (flags : List Bool) (paced : Bool)
     (x : QueueState) (l : LastStatistics) (h : ℕ) (pages : List ℕ) (pieces : List Piece) →
     length qs ≡ 4 → has_chains q ≡ true →
-    taking q h pages (noting q mem pieces (with_at q f t a n qs loose x s l)) ≡
-    with_at q f t a n qs loose (with_request h pages x) s (noted q mem pieces l)
-takes_at_part q mem s f t a n qs loose x l h pages pieces four known =
+    taking q h pages (noting q mem pieces (with_at q f t a n qs loose flags paced x s l)) ≡
+    with_at q f t a n qs loose flags paced (with_request h pages x) s (noted q mem pieces l)
+takes_at_part q mem s f t a n qs loose flags paced x l h pages pieces four known =
     let said : LastStatistics = noted q mem pieces l in
-    ap (taking q h pages) (part_set q s f t a n qs x said loose four known) ∙
-    (taking_two q h pages (part_of x) (base_part s f t a n qs said loose) known ∙
-    sym (part_set q s f t a n qs (with_request h pages x) said loose four known))
+    ap (taking q h pages) (part_set q s f t a n qs x said loose flags paced four known) ∙
+    (taking_two q h pages (part_of x) (base_part s f t a n qs said loose flags paced) known ∙
+    sym (part_set q s f t a n qs (with_request h pages x) said loose flags paced four known))
 
-pub sits_at : (q : ℕ) (mem : Pages) (s f t a n c : ℕ) (qs : List QueueState) (loose : List Page)
+pub sits_at : (q : ℕ) (mem : Pages) (s f t a n c : ℕ) (qs : List QueueState) (loose : List Page) (flags : List Bool) (paced : Bool)
     (l : LastStatistics) → IsBase mem s n qs c → take_refusal_by q s f ≡ None →
-    Sits q mem (with_at q f t a n qs loose) (queue_at q qs) s l
-sits_at q mem s f t a n c qs loose l b ok = let known : has_chains q ≡ true = take_known q s f ok in
+    Sits q mem (with_at q f t a n qs loose flags paced) (queue_at q qs) s l
+sits_at q mem s f t a n c qs loose flags paced l b ok = let known : has_chains q ≡ true = take_known q s f ok in
     let x : QueueState = queue_at q qs in
     let is : IsDeviceQueue mem s n q x = b.each q known in
-    let here : queue_part q (with_at q f t a n qs loose x s l) ≡ part_of x =
-    part_here q s f t a n qs x l loose b.four known in record {
-      refusal = take_open q (with_at q f t a n qs loose x s l) ok ∙
+    let here : queue_part q (with_at q f t a n qs loose flags paced x s l) ≡ part_of x =
+    part_here q s f t a n qs x l loose flags paced b.four known in record {
+      refusal = take_open q (with_at q f t a n qs loose flags paced x s l) ok ∙
           ap (λ (p : QueuePart). if nat_le (most_taken q) (length p.taken) then Some Busy else None)
           here;
       size = sym is.size;
@@ -348,21 +348,21 @@ sits_at q mem s f t a n c qs loose l b ok = let known : has_chains q ≡ true = 
           (sym is.ring) g);
       resets = refl;
       takes = λ h pages pieces.
-          takes_at_part q mem s f t a n qs loose x l h pages pieces b.four known;
+          takes_at_part q mem s f t a n qs loose flags paced x l h pages pieces b.four known;
     }
 
 pub takes_at : (q : ℕ) (mem : Pages) (s f t a n c : ℕ) (qs : List QueueState) (x2 : QueueState)
-    (l1 l2 : LastStatistics) (loose : List Page) (result : Result (Option ℕ) Refusal) →
+    (l1 l2 : LastStatistics) (loose : List Page) (flags : List Bool) (paced : Bool) (result : Result (Option ℕ) Refusal) →
     IsBase mem s n qs c → take_refusal_by q s f ≡ None →
     TakesNext q mem (queue_at q qs) x2 l1 l2 result →
-    TakesBy q mem mem (base_part s f t a n qs l1 loose)
-    (base_part (status_after result s) f t a n (set qs (index_of q) x2) l2 loose) result
-takes_at q mem s f t a n c qs x2 l1 l2 loose result b ok takes =
-    subst (λ (ys : List QueueState). TakesBy q mem mem (base_part s f t a n ys l1 loose)
-    (base_part (status_after result s) f t a n (set qs (index_of q) x2) l2 loose) result)
+    TakesBy q mem mem (base_part s f t a n qs l1 loose flags paced)
+    (base_part (status_after result s) f t a n (set qs (index_of q) x2) l2 loose flags paced) result
+takes_at q mem s f t a n c qs x2 l1 l2 loose flags paced result b ok takes =
+    subst (λ (ys : List QueueState). TakesBy q mem mem (base_part s f t a n ys l1 loose flags paced)
+    (base_part (status_after result s) f t a n (set qs (index_of q) x2) l2 loose flags paced) result)
     (set_same q qs b.four (take_known q s f ok))
-    (takes_by q mem (with_at q f t a n qs loose) (queue_at q qs) x2 s l1 l2 result
-    (sits_at q mem s f t a n c qs loose l1 b ok) takes)
+    (takes_by q mem (with_at q f t a n qs loose flags paced) (queue_at q qs) x2 s l1 l2 result
+    (sits_at q mem s f t a n c qs loose flags paced l1 b ok) takes)
 
 -- ---- what stays true of a device
 

@@ -1,4 +1,4 @@
--- What devices of every kind keep, but for the set of ballooned pages.
+-- What devices of both paces keep.
 use Rattle.std.specs.Prelude.{◌≡◌, ℕ, ◌<◌, ◌≤◌, Bool, true, false, List, [], ◌∷◌, map, length}
 use Rattle.std.specs.Prelude.{slice_index_or, if◌then◌else◌, ◌==◌}
 use Rattle.vb_model.specs.declared.layout.TheConstants.{INFLATE_QUEUE, DEFLATE_QUEUE}
@@ -31,9 +31,10 @@ new_queues size =
 abbrev pub queue_at : ℕ → List QueueState → QueueState
 queue_at q queues = slice_index_or queues (index_of q) no_ring
 
--- The part of a device of these fields that has ballooned nothing.
-abbrev pub base_part : ℕ → ℕ → ℕ → ℕ → ℕ → List QueueState → LastStatistics → List Page → Part
-base_part status features target actual queue_size queues last loose =
+-- The part of a device of these fields.
+abbrev pub base_part : ℕ → ℕ → ℕ → ℕ → ℕ → List QueueState → LastStatistics → List Page
+    → List Bool → Bool → Part
+base_part status features target actual queue_size queues last loose ballooned paced =
     record no_part {
       status = status;
       features = features;
@@ -46,6 +47,8 @@ base_part status features target actual queue_size queues last loose =
       report = part_of (queue_at REPORT_QUEUE queues);
       last = last;
       loose = numbers_of_frames loose;
+      ballooned = ballooned;
+      paced = paced;
     }
 
 -- What is always true of one queue: its ring is in its pages, a driver that is ready finds it
@@ -74,10 +77,6 @@ pub record IsBase (mem : Pages) (status queue_size : ℕ) (queues : List QueueSt
 abbrev pub fresh_device : Bool → DeviceState
 fresh_device paced =
     record { mem = []; part = record no_part { queue_size = MAX_QUEUE_SIZE; paced = paced } }
-
--- The part of a device of this pace.
-abbrev pub with_pace : Bool → Part → Part
-with_pace paced part = record part { paced = paced }
 
 -- A device that has no frames of its own.
 pub record IsPlain (part : Part) : Type 0 where

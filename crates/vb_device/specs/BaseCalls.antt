@@ -14,12 +14,12 @@ pub use Rattle.vb_model.specs.FirstRefusal.{refusal_in}
 use Rattle.vb_model.specs.FirstRefusal.{◌⇒◌, first_refusal}
 use Rattle.vb_model.specs.Tables.{has_chains, is_queue_of_requests}
 use Rattle.vb_model.specs.Tables.{work_causes}
-use Rattle.vb_ram.specs.Pages.{Page, Pages, frame_at}
+use Rattle.vb_ram.specs.Pages.{Pages, frame_at}
 use Rattle.vb_ram.specs.Part.{Part}
 use Rattle.vb_ring.specs.Layout.{IsBacked}
 use Rattle.vb_ring.specs.Calls.{AddsUsedBy}
 use Rattle.vb_device.specs.Queues.{queue_part, with_queue, queue_layout, queue_end}
-use Rattle.vb_device.specs.Conditions.{finish_refusal, sweep_refusal, ask_refusal, taken_at}
+use Rattle.vb_device.specs.Conditions.{finish_refusal, ask_refusal, taken_at}
 use Rattle.vb_device.specs.Discards.{discarded, frames_behind, flagged}
 use Rattle.vb_device.specs.Calls.{without_frames, lost_frames, settled}
 
@@ -27,24 +27,6 @@ use Rattle.vb_device.specs.Calls.{without_frames, lost_frames, settled}
 abbrev pub queue_refusal : ℕ → ℕ → Option Refusal
 queue_refusal q status =
     first_refusal ((not (is_queue_of_requests q) ⇒ NoQueue) ∷ work_causes status)
-
--- ---- loose frames
-
--- The last loose frame is given out, if there is one.
-abbrev pub GivesLast : Part → Part → Option Page → Type 0
-GivesLast p1 p2 None = (p1.loose ≡ []) × (p2 ≡ p1)
-GivesLast p1 p2 (Some frame) =
-    (p1.loose ≡ p2.loose ++ frame.number ∷ []) × (p2 ≡ record p1 { loose = p2.loose })
-
--- A page loses its frame, if it has one, which is the last loose one.
-pub record SweepsPage (page : ℕ) (m1 m2 : Pages) (p1 p2 : Part)
-    (result : Result Bool Refusal) : Type 0 where
-  pub refused : (why : Refusal) → sweep_refusal page p1 ≡ Some why →
-      (result ≡ Err why) × (p2 ≡ p1) × (m2 ≡ m1)
-  pub answer : sweep_refusal page p1 ≡ None → result ≡ Ok (is_some (frame_at m1 page))
-  pub memory : sweep_refusal page p1 ≡ None → m2 ≡ discarded (page ∷ []) m1
-  pub part : sweep_refusal page p1 ≡ None →
-      p2 ≡ record p1 { loose = p1.loose ++ frames_behind m1 (page ∷ []) }
 
 -- ---- work
 
@@ -94,13 +76,6 @@ taken_out q index pages mem part =
     with_queue q
     (record (queue_part q part) { taken = remove (queue_part q part).taken index })
     (record part { loose = with_lost q mem pages part.loose })
-
-pub record TakesOut (q index : ℕ) (m1 m2 : Pages) (p1 p2 : Part)
-    (result : Result Request Refusal) : Type 0 where
-  pub refused : (why : Refusal) → finish_refusal q index p1 ≡ Some why →
-      (result ≡ Err why) × (p2 ≡ p1) × (m2 ≡ m1)
-  pub out : (r : Request) → finish_refusal q index p1 ≡ None → taken_at q index p1 ≡ Some r →
-      (result ≡ Ok r) × (m2 ≡ without_frames q r.pages m1) × (p2 ≡ taken_out q index r.pages m1 p1)
 
 -- All of a finish but for the used entry: the request is taken out, its pages are flagged, and
 -- nothing is written.

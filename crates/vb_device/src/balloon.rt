@@ -1,26 +1,30 @@
 //! Balloon devices of both paces (profile).
 
-ghost use Rattle.std.specs.Prelude.{◌≡◌, [], true, false, IfOk, OnOk, OnErr, IsSome, Some, length};
-ghost use Rattle.vb_model.specs.Status.{contains, driver_ok};
-ghost use Rattle.vb_ring.specs.Layout.{IsBacked};
-ghost use Rattle.vb_device.specs.Queues.{queue_layout};
-ghost use Rattle.vb_model.specs.Requests.{Request};
-ghost use Rattle.vb_device.specs.Base.{fresh_device, with_pace};
-ghost use Rattle.vb_device.specs.BaseCalls.{SettlesBy, CanUse, flags_after, refusal_in};
-ghost use Rattle.vb_device.specs.Conditions.{finish_refusal, taken_at};
+mod chains;
+mod memory;
+mod status;
+
+ghost use Rattle.std.specs.Prelude.{◌≡◌, [], true, false};
+ghost use Rattle.std.specs.Prelude.{vec_capacity};
+ghost use Rattle.vb_model.specs.declared.limits.TheConstants.{MAX_QUEUE_SIZE};
+ghost use Rattle.vb_device.specs.Base.{IsPlain, fresh_device};
 ghost use Rattle.vb_device.specs.Calls.{IsUnused};
 
-use crate::base::DeviceBase;
-use crate::flags::note_finish;
+use crate::discarding::discard_memory;
 use crate::pace::{Immediate, Pace, Paced};
+use crate::queue::DeviceQueue;
+use crate::queues::{index_of, new_queues, place_queues};
 use crate::{Claimed, Device, Statistics, Worked};
 use bitflags::Flags;
+use chains::note_fault;
 use std::alloc::{AllocError, Global};
 use std::marker::{Model, PhantomData};
 use vb_bits::BitSet;
-use vb_model::Refusal;
-use vb_ram::{Config, Frame, GuestBytes, RamFault, SupplyRefused};
-use vb_status::{Features, Port, Status, StatusFault};
+use vb_chain::Chain;
+use vb_model::layout::STATISTICS_QUEUE;
+use vb_model::{Refusal, limits};
+use vb_ram::{Config, Frame, Ram, SupplyRefused};
+use vb_status::{Features, Status};
 
 /// A device that discards an inflate's pages when it finishes the request.
 pub type ImmediateDevice = BalloonDevice<Immediate>;
@@ -33,49 +37,51 @@ pub type PacedDevice = BalloonDevice<Paced>;
 /// in `work`, and in what `finish` is refused for.
 #[derive(Drop)]
 pub struct BalloonDevice<P: Pace> {
-    /// All but the set of ballooned pages.
-    base: DeviceBase,
+    /// The memory of its guest; that of a device with no guest has no pages.
+    ram: Ram,
+    /// The status that the driver sees.
+    status: Status,
+    /// The features that the driver negotiated.
+    features: Features,
+    /// How many pages the host wants in the balloon (`num_pages`).
+    target: u32,
+    /// How many the driver says are there (`actual`).
+    actual: u32,
     /// The pages that are ballooned.
     ballooned: BitSet,
+    /// How many descriptors each queue has.
+    queue_size: u16,
+    /// The queues, those of inflates, deflates, statistics and reports.
+    queues: [DeviceQueue; 4],
+    /// What the last buffer of statistics said.
+    last: Statistics,
+    /// Frames that were taken from pages and not handed back yet.
+    loose: Vec<Frame>,
+    /// Room for the chain that is taken next.
+    chain: Chain,
     /// Its pace.
     pace: PhantomData<P>,
 }
 
 impl<P: Pace> Model for BalloonDevice<P> {
-    ghost use Rattle.std.specs.Prelude.{◌≡◌, length};
+    ghost use Rattle.std.specs.Prelude.{◌≡◌, vec_capacity, length};
+    ghost use Rattle.vb_status.specs.Bits.{status_bits, feature_bits};
     ghost use Rattle.vb_device.specs.State.{DeviceState};
+    ghost use Rattle.vb_device.specs.Base.{base_part, IsBase};
 
     ghost Value = { DeviceState };
 
     ghost view = { λ s. record {
-      mem = s.base.mem;
-      part = record s.base.part { ballooned = s.ballooned; paced = P.IS_PACED };
+      mem = s.ram;
+      part = base_part (status_bits s.status) (feature_bits s.features)
+          s.target s.actual s.queue_size s.queues
+          (record { free = s.last.free; total = s.last.total }) s.loose.items
+          s.ballooned P.IS_PACED;
     } };
 
-    ghost invariant = { λ s. length s.ballooned ≡ length s.base.mem };
-}
-
-/// Marks the pages of a taken request that may be finished as ballooned, or takes the marks back;
-/// answers its head. Refused as a finish is; then nothing is changed.
-fn mark_taken(
-    base: &DeviceBase,
-    ballooned: &mut BitSet,
-    queue: u32,
-    index: u32,
-    paced: bool,
-) -> Result<u16, Refusal>
-    ensures refused { refusal_in result ≡
-        finish_refusal queue index (with_pace paced base.now.part) }
-    ensures head { (r : Request) → taken_at queue index base.now.part ≡ Some r →
-        IfOk result (λ head. head ≡ r.head) }
-    ensures marked { (r : Request) → taken_at queue index base.now.part ≡ Some r →
-        OnOk result (ballooned.new ≡ flags_after queue r.pages ballooned.old) }
-    ensures there { OnOk result (IsSome (taken_at queue index base.now.part)) }
-    ensures kept { OnErr result (ballooned.new ≡ ballooned.old) }
-{
-    let request = base.taken(queue, index, paced)?;
-    note_finish(ballooned, queue, request);
-    Ok(request.head())
+    ghost invariant = { λ s.
+        IsBase s.ram (status_bits s.status) s.queue_size s.queues (vec_capacity s.loose)
+        × (length s.ballooned ≡ length s.ram) };
 }
 
 impl<P: Pace> BalloonDevice<P> {
@@ -88,33 +94,26 @@ impl<P: Pace> BalloonDevice<P> {
         ensures own { result.part.own ≡ [] }
     {
         BalloonDevice {
-            base: DeviceBase::new(alloc),
+            ram: Ram::empty(alloc),
+            status: Status::empty(),
+            features: Features::empty(),
+            target: 0,
+            actual: 0,
             ballooned: BitSet::empty(alloc),
+            queue_size: limits::MAX_QUEUE_SIZE as u16,
+            queues: new_queues(),
+            last: Statistics::NONE,
+            loose: Vec::new(alloc),
+            chain: Chain::new(),
             pace: PhantomData,
         }
     }
 
-    /// Whether the pages of a queue's ring have frames, as a finish wants it: for the tests.
-    #[cfg(test)]
-    pub(crate) fn has_ring(&self, queue: u32) -> bool
-        ensures { result ≡ true → IsBacked self.now.mem (queue_layout queue self.now.part) }
+    /// The device has no frames of its own.
+    fn is_plain(&self)
+        ensures { IsPlain self.now.part }
     {
-        self.base.has_ring(queue)
-    }
-
-    /// All of `finish` but for the used entry: marks the pages of the request, takes it out, and
-    /// its pages' frames away. Nothing is written.
-    pub(crate) fn settle(&mut self, queue: u32, index: u32) -> Result<u16, Refusal>
-        requires backed { contains self.old.part.status driver_ok ≡ true →
-            IsBacked self.old.mem (queue_layout queue self.old.part) }
-        requires none { self.old.part.loose ≡ [] }
-        ensures by { SettlesBy queue index self.old.mem self.new.mem
-            self.old.part self.new.part result }
-        ensures ready { IfOk result (λ head. CanUse queue head self.new.mem self.new.part) }
-    {
-        let head = mark_taken(&self.base, &mut self.ballooned, queue, index, P::IS_PACED)?;
-        self.base.take_out(queue, index);
-        Ok(head)
+        let _ = &self.status;
     }
 }
 
@@ -144,97 +143,65 @@ impl PacedDevice {
     }
 }
 
-impl<P: Pace> GuestBytes for BalloonDevice<P> {
-    ghost mem = { λ d. d.mem };
-
-    ghost part = { λ d. d.part };
-
-    fn pages(&self) -> u32 {
-        self.base.pages()
-    }
-
-    fn read(&self, page: u32, offset: usize, out: &mut [u8]) -> Result<(), RamFault> {
-        self.base.read(page, offset, out)
-    }
-
-    fn write(&mut self, page: u32, offset: usize, bytes: &[u8]) -> Result<(), RamFault> {
-        self.base.write(page, offset, bytes)
-    }
-
-    fn clear_page(&mut self, page: u32) -> Result<(), RamFault> {
-        self.base.clear_page(page)
-    }
-}
-
-impl<P: Pace> Port for BalloonDevice<P> {
-    fn status(&self) -> Status {
-        self.base.status()
-    }
-
-    fn write_status(&mut self, write: Status) -> Result<(), StatusFault> {
-        self.base.write_status(write)?;
-        if write.is_empty() {
-            self.ballooned.clear();
-        }
-        Ok(())
-    }
-
-    fn negotiate(&mut self, wanted: Features) -> Result<(), StatusFault> {
-        self.base.negotiate(wanted)
-    }
-
-    fn target(&self) -> u32 {
-        self.base.target()
-    }
-
-    fn set_actual(&mut self, pages: u32) {
-        self.base.set_actual(pages);
-    }
-}
-
 impl<P: Pace> Device for BalloonDevice<P> {
     ghost answers = { λ _ _. false };
 
     fn attach(&mut self, alloc: Global, config: Config) -> Result<(), AllocError> {
         let ballooned = BitSet::new(alloc, config.pages)?;
-        self.base.attach(alloc, config)?;
+        let Ok(ram) = Ram::new(alloc, config.pages) else {
+            return Err(AllocError);
+        };
+        let mut loose = Vec::new(alloc);
+        loose.reserve(config.pages as usize)?;
+        self.reset();
+        self.ram = ram;
         self.ballooned = ballooned;
+        self.loose = loose;
+        self.target = 0;
+        self.queue_size = config.queue_size;
+        place_queues(&mut self.queues, config.shape());
         Ok(())
     }
 
     fn supply(&mut self, page: u32, frame: Frame) -> Result<(), SupplyRefused> {
-        self.base.supply(page, frame)
+        self.ram.supply(page, frame)
     }
 
     fn backing(&self, page: u32) -> Option<u32> {
-        self.base.backing(page)
+        self.ram.backing(page)
     }
 
     fn paced(&self) -> bool {
         // Read for the proof: what the device shows is said of its fields by reading one.
-        let _ = &self.base;
+        let _ = &self.status;
         P::IS_PACED
     }
 
     fn keeps(&self) -> bool {
-        self.base.is_plain();
+        self.is_plain();
         false
     }
 
     fn set_target(&mut self, pages: u32) {
-        self.base.set_target(pages);
+        self.target = pages;
     }
 
     fn take(&mut self, queue: u32) -> Result<Option<u16>, Refusal> {
-        self.base.take(queue)
+        if let Some(why) = self.take_refusal(queue) {
+            return Err(why);
+        }
+        let place = index_of(queue);
+        let taken = self.queues[place].take(queue, &self.ram, &mut self.chain, &mut self.last);
+        note_fault(&mut self.status, &taken);
+        taken
     }
 
     fn work(&mut self) -> Result<Option<Worked>, Refusal> {
-        if let Some(why) = self.base.readiness_refusal() {
+        if let Some(why) = self.readiness_refusal() {
             return Err(why);
         }
-        if P::IS_PACED {
-            Ok(self.base.visit_next())
+        if self.paced() {
+            Ok(self.visit_next())
         } else {
             Ok(None)
         }
@@ -242,20 +209,31 @@ impl<P: Pace> Device for BalloonDevice<P> {
 
     fn finish(&mut self, queue: u32, index: u32) -> Result<u16, Refusal> {
         let head = self.settle(queue, index)?;
-        self.base.use_chain(queue, head);
+        self.use_chain(queue, head);
         Ok(head)
     }
 
     fn sweep(&mut self, page: u32) -> Result<bool, Refusal> {
-        self.base.sweep(page, &self.ballooned)
+        if let Some(why) = self.readiness_refusal() {
+            return Err(why);
+        }
+        if !self.features.must_tell_host() {
+            return Err(Refusal::NoFeature);
+        }
+        if !self.ballooned.contains(page) {
+            return Err(Refusal::NotBallooned);
+        }
+        Ok(self.discard(page))
     }
 
     fn ask_stats(&mut self) -> Result<(), Refusal> {
-        self.base.ask_stats()
+        let head = self.take_buffer()?;
+        self.use_chain(STATISTICS_QUEUE, head);
+        Ok(())
     }
 
     fn stats(&self) -> Statistics {
-        self.base.stats()
+        self.last
     }
 
     fn ballooned(&self, page: u32) -> bool {
@@ -267,21 +245,21 @@ impl<P: Pace> Device for BalloonDevice<P> {
     }
 
     fn detach(&mut self) {
-        self.base.detach();
-        self.ballooned.clear();
+        self.reset();
+        discard_memory(&mut self.ram, &mut self.loose);
     }
 
     fn hand_back(&mut self) -> Option<Frame> {
-        self.base.hand_back()
+        self.loose.pop()
     }
 
     fn claim(&mut self) -> Claimed {
-        self.base.is_plain();
+        self.is_plain();
         Claimed::AskHost
     }
 
     fn put_back(&mut self, frame: Frame) -> Option<Frame> {
-        self.base.is_plain();
+        self.is_plain();
         Some(frame)
     }
 }

@@ -3,7 +3,6 @@
 #![tactic(auto)]
 
 mod balloon;
-mod base;
 mod claimed;
 mod device;
 mod discarding;

@@ -5,7 +5,7 @@ ghost use Rattle.std.specs.Prelude.{OnErr, Some, IsTrue, true, false, nat_le, le
 ghost use Rattle.std.specs.Prelude.{remove, is_some, count_by, vec_capacity};
 ghost use Rattle.vb_model.specs.Requests.{Request};
 ghost use Rattle.vb_device.specs.Base.{numbers_of_frames};
-ghost use Rattle.vb_device.specs.BaseCalls.{with_lost};
+ghost use Rattle.vb_device.specs.BaseCalls.{with_lost, flags_after};
 ghost use Rattle.vb_device.specs.Calls.{without_frames};
 ghost use Rattle.std.specs.Int.{is_power_of_two};
 ghost use Rattle.vb_model.specs.declared.limits.TheConstants.{MIN_QUEUE_SIZE, MAX_QUEUE_SIZE};
@@ -21,9 +21,11 @@ ghost use Rattle.vb_device.specs.QueueState.{taken_refusal, IsTaken};
 
 use crate::Statistics;
 use crate::discarding::discard_request;
+use crate::flags::note_finish;
 use crate::taken::TakenRequest;
 use crate::taken_list::{MAX_TAKEN, TakenList};
 use std::marker::Model;
+use vb_bits::BitSet;
 use vb_chain::Chain;
 use vb_model::Refusal;
 use vb_model::layout::STATISTICS_QUEUE;
@@ -188,8 +190,16 @@ impl DeviceQueue {
     }
 
     /// Takes the taken request of this number out, and the frames of its pages away where it is one
-    /// of inflates or reports; those behind it close up.
-    pub(crate) fn take_out(&mut self, ram: &mut Ram, loose: &mut Vec<Frame>, queue: u32, index: u32)
+    /// of inflates or reports; those behind it close up. An inflate's pages are ballooned then, a
+    /// deflate's are ballooned no more.
+    pub(crate) fn take_out(
+        &mut self,
+        ram: &mut Ram,
+        loose: &mut Vec<Frame>,
+        ballooned: &mut BitSet,
+        queue: u32,
+        index: u32,
+    )
         requires inside { index < length self.old.taken }
         requires room { length loose.old.items + count_by is_some ram.old ≤ vec_capacity loose.old }
         ensures taken { self.new ≡ record self.old { taken = remove self.old.taken index } }
@@ -199,12 +209,15 @@ impl DeviceQueue {
             numbers_of_frames loose.new.items ≡
             with_lost queue ram.old r.pages (numbers_of_frames loose.old.items) }
         ensures capacity { vec_capacity loose.new ≡ vec_capacity loose.old }
+        ensures ballooned { (r : Request) → slice_get self.old.taken index ≡ Some r →
+            ballooned.new ≡ flags_after queue r.pages ballooned.old }
         ensures was { (r : Request) → slice_get self.old.taken index ≡ Some r →
             IsTaken self.old.ring.size r }
     {
         let Ok(request) = self.taken(index, false) else {
             unreachable!()
         };
+        note_finish(ballooned, queue, request);
         discard_request(ram, loose, queue, request);
         self.forget(index);
     }

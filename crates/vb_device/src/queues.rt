@@ -12,14 +12,26 @@ use vb_model::layout::{DEFLATE_QUEUE, INFLATE_QUEUE, REPORT_QUEUE, STATISTICS_QU
 use vb_model::limits;
 use vb_ram::Shape;
 
-/// Where the queue of this number stands among a device's four.
+/// Where the queue of inflates stands among a device's four.
+pub(crate) const INFLATES: usize = 0;
+
+/// Where that of deflates does.
+const DEFLATES: usize = 1;
+
+/// Where that of statistics does.
+pub(crate) const STATISTICS: usize = 2;
+
+/// Where that of reports does.
+pub(crate) const REPORTS: usize = 3;
+
+/// Where the queue of this number stands.
 pub(crate) fn index_of(queue: u32) -> usize
     requires { has_chains queue ≡ true }
     ensures place { result ≡ index_of queue }
     ensures small { result < 4 }
 {
     if queue == REPORT_QUEUE {
-        3
+        REPORTS
     } else {
         queue as usize
     }
@@ -47,18 +59,18 @@ pub(crate) fn place_queues(queues: &mut [DeviceQueue; 4], shape: Shape)
         (shape.queue_size ≤ MAX_QUEUE_SIZE) }
     ensures { queues.new ≡ new_queues shape.queue_size }
 {
-    queues[0].place(shape.ring_page(INFLATE_QUEUE), shape.queue_size);
-    queues[1].place(shape.ring_page(DEFLATE_QUEUE), shape.queue_size);
-    queues[2].place(shape.ring_page(STATISTICS_QUEUE), shape.queue_size);
-    queues[3].place(shape.ring_page(REPORT_QUEUE), shape.queue_size);
+    queues[INFLATES].place(shape.ring_page(INFLATE_QUEUE), shape.queue_size);
+    queues[DEFLATES].place(shape.ring_page(DEFLATE_QUEUE), shape.queue_size);
+    queues[STATISTICS].place(shape.ring_page(STATISTICS_QUEUE), shape.queue_size);
+    queues[REPORTS].place(shape.ring_page(REPORT_QUEUE), shape.queue_size);
 }
 
 /// Starts or stops each queue; nothing is taken.
 pub(crate) fn set_all_ready(queues: &mut [DeviceQueue; 4], ready: bool)
     ensures { queues.new ≡ map (restarted ready) queues.old }
 {
-    queues[0].set_ready(ready);
-    queues[1].set_ready(ready);
-    queues[2].set_ready(ready);
-    queues[3].set_ready(ready);
+    queues[INFLATES].set_ready(ready);
+    queues[DEFLATES].set_ready(ready);
+    queues[STATISTICS].set_ready(ready);
+    queues[REPORTS].set_ready(ready);
 }

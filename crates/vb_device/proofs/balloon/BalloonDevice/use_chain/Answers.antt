@@ -4,15 +4,16 @@ use Rattle.vb_model.specs.Status.{contains, driver_ok}
 use Rattle.vb_status.specs.Bits.{status_bits, feature_bits}
 use Rattle.vb_device.{specs.State.DeviceState, specs.QueueState.QueueState, proofs.Finishes.used_at}
 use Rattle.vb_device.{specs.Base.queue_at, proofs.FourQueues.entry_is}
-use Rattle.vb_device.proofs.base.DeviceBase.use_chain.Goals as goal
+use Rattle.vb_device.proofs.balloon.BalloonDevice.use_chain.Goals as goal
 
 pub returns : goal.returns
-returns c =
-    let was : get_or c.self.inside.queues c.index_of-place.result c.index-self-place.result
-    ≡ queue_at c.args.queue c.self.inside.queues =
+returns g c =
+    let was : get_or c.self.inside.queues c.index_of-place.result c.index-self-place.result ≡
+    queue_at c.args.queue c.self.inside.queues =
     ap (λ (i : ℕ). get_or c.self.inside.queues i c.index-self-place.result)
-    c.index_of-place.ensures.place ∙ entry_is c.args.queue
-    c.self.inside.queues c.index-self-place.result c.self.invariant.four c.requires.known in
+    c.index_of-place.ensures.place ∙
+    entry_is c.args.queue c.self.inside.queues c.index-self-place.result c.self.invariant.0.four
+    c.requires.known in
     let adds = rw was at c.add_used.ensures.adds in
     let driver : contains (status_bits c.self.inside.status) driver_ok ≡ true =
     ap (λ (v : DeviceState). contains v.part.status driver_ok) c.self.view_is ∙ c.requires.ready in
@@ -22,5 +23,5 @@ returns c =
     (used_at c.args.queue c.args.head c.self.inside.ram c.add_used.new.ram
     (status_bits c.self.inside.status) (feature_bits c.self.inside.features)
     c.self.inside.target c.self.inside.actual c.self.inside.queue_size _ c.self.inside.queues
-    c.add_used.new.self last c.self.inside.loose.items c.self.invariant c.requires.known driver adds
+    c.add_used.new.self last c.self.inside.loose.items c.self.inside.ballooned g.P.Pace.IS_PACED c.self.invariant.0 c.requires.known driver adds
     (c.add_used.ensures.taken ∙ ap (λ (x : QueueState). x.taken) was)))

@@ -5,14 +5,14 @@ use Rattle.vb_device.{specs.State.DeviceState, specs.Base.queue_at, proofs.Disca
 use Rattle.vb_device.{proofs.FourQueues.entry_is, proofs.TakesBy.status_ok, proofs.Finishes.can_use}
 use Rattle.vb_status.specs.Bits.{status_bits, feature_bits}
 use Rattle.vb_request.specs.Refusals.{readiness_refusal}
-use Rattle.vb_device.proofs.base.DeviceBase.take_buffer.Goals as goal
+use Rattle.vb_device.proofs.balloon.BalloonDevice.take_buffer.Goals as goal
 
 pub returns-clause-ready : goal.returns-clause-ready
-returns-clause-ready c =
+returns-clause-ready g c =
     let ok : readiness_refusal (status_bits c.self.inside.status) ≡ None = search rules in
     let was : get_or c.self.inside.queues 2 c.index-self-2.result ≡
     queue_at 2 c.self.inside.queues =
-    entry_is 2 c.self.inside.queues c.index-self-2.result c.self.invariant.four refl in
+    entry_is 2 c.self.inside.queues c.index-self-2.result c.self.invariant.0.four refl in
     let last : LastStatistics =
     record { free = c.self.inside.last.free; total = c.self.inside.last.total } in
     let driver : contains c.args.self.now.part.status driver_ok ≡ true =
@@ -23,5 +23,5 @@ returns-clause-ready c =
     (can_use 2 c.in_ok-buffer.buffer.now.head [] c.self.inside.ram c.self.inside.ram
     (status_bits c.self.inside.status) (feature_bits c.self.inside.features)
     c.self.inside.target c.self.inside.actual c.self.inside.queue_size _ c.self.inside.queues
-    c.forget.new.self last c.self.inside.loose.items c.self.invariant refl ok low
+    c.forget.new.self last c.self.inside.loose.items c.self.inside.ballooned g.P.Pace.IS_PACED c.self.invariant.0 refl ok low
     (λ k d lt. absurd (omega (arith, lt))) (discarded_none c.self.inside.ram) backed)

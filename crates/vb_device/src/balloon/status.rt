@@ -1,23 +1,23 @@
 //! What a device's status and features refuse, and the driver's registers.
 
-ghost use Rattle.std.specs.Prelude.{◌≡◌, ◌&&◌, ◌<◌, Ok};
-ghost use Rattle.std.specs.Prelude.{true, Some};
-ghost use Rattle.vb_model.specs.declared.layout.TheConstants.{DEFLATE_QUEUE};
-ghost use Rattle.vb_model.specs.Status.{contains};
+ghost use Rattle.std.specs.Prelude.{◌≡◌};
+ghost use Rattle.vb_status.specs.After.{part_after_reset};
 ghost use Rattle.vb_request.specs.Refusals.{readiness_refusal, take_refusal_by};
 ghost use Rattle.vb_device.specs.BaseCalls.{queue_refusal};
 
-use crate::base::DeviceBase;
+use crate::Statistics;
+use crate::balloon::BalloonDevice;
+use crate::pace::Pace;
 use crate::queues::set_all_ready;
 use bitflags::Flags;
 use vb_model::Refusal;
 use vb_model::layout::{DEFLATE_QUEUE, INFLATE_QUEUE, REPORT_QUEUE};
 use vb_status::{Features, Port, Status, StatusFault, negotiate, write_status};
 
-impl DeviceBase {
+impl<P: Pace> BalloonDevice<P> {
     /// `NotReady` where the driver isn't done with the initialisation or has given up, and
     /// `NeedsReset` after a fault.
-    pub(crate) fn readiness_refusal(&self) -> Option<Refusal>
+    pub(super) fn readiness_refusal(&self) -> Option<Refusal>
         ensures { result ≡ readiness_refusal self.now.part.status }
     {
         vb_request::readiness_refusal(self.status)
@@ -42,16 +42,21 @@ impl DeviceBase {
         vb_request::take_refusal(queue, self.status, self.features)
     }
 
-    /// Sets the target.
-    pub(crate) fn set_target(&mut self, pages: u32)
-        ensures part { self.new.part ≡ record self.old.part { target = pages } }
+    /// Forgets what the driver did and said; the target stays.
+    pub(super) fn reset(&mut self)
         ensures mem { self.new.mem ≡ self.old.mem }
+        ensures part { self.new.part ≡ part_after_reset self.old.part }
     {
-        self.target = pages;
+        self.status = Status::empty();
+        self.features = Features::empty();
+        self.actual = 0;
+        self.ballooned.clear();
+        self.last = Statistics::NONE;
+        set_all_ready(&mut self.queues, false);
     }
 }
 
-impl Port for DeviceBase {
+impl<P: Pace> Port for BalloonDevice<P> {
     fn status(&self) -> Status {
         self.status
     }

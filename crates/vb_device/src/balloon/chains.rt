@@ -1,0 +1,134 @@
+//! Chains of a device's queues: settled, visited and used.
+
+ghost use Rattle.std.specs.Prelude.{◌≡◌, ◌==◌, ◌&&◌, not, ◌<◌, [], true, IfNone, IfOk};
+ghost use Rattle.std.specs.Prelude.{OnSome, length};
+ghost use Rattle.vb_model.specs.declared.layout.TheConstants.{DEFLATE_QUEUE, STATISTICS_QUEUE};
+ghost use Rattle.vb_model.specs.Status.{contains, driver_ok};
+ghost use Rattle.vb_status.specs.Bits.{status_bits};
+ghost use Rattle.vb_ring.specs.Layout.{IsBacked};
+ghost use Rattle.vb_device.specs.Queues.{queue_layout};
+ghost use Rattle.vb_device.specs.BaseCalls.{SettlesBy, UsesChain, CanUse, TakesBuffer};
+ghost use Rattle.vb_device.specs.BaseCalls.{VisitsNext, visited_queue, page_to_visit, with_visit};
+ghost use Rattle.vb_device.specs.QueueState.{status_after};
+
+use crate::Worked;
+use crate::balloon::BalloonDevice;
+use crate::pace::Pace;
+use crate::queues::{INFLATES, REPORTS, STATISTICS, index_of};
+use bitflags::Flags;
+use vb_model::Refusal;
+use vb_model::layout::DEFLATE_QUEUE;
+#[cfg(test)]
+use vb_model::layout::{REPORT_QUEUE, STATISTICS_QUEUE};
+use vb_status::Status;
+
+/// Sets DEVICE_NEEDS_RESET where a take found a broken rule.
+pub(super) fn note_fault(status: &mut Status, taken: &Result<Option<u16>, Refusal>)
+    ensures { status_bits status.new ≡ status_after taken.now (status_bits status.old) }
+{
+    if let Err(Refusal::Broken { .. }) = taken {
+        status.insert(Status::DEVICE_NEEDS_RESET);
+    }
+}
+
+/// Whether a device visits the pages of this queue's requests before it finishes them.
+fn visits_first(paced: bool, queue: u32) -> bool
+    ensures { result ≡ (paced && not (queue == DEFLATE_QUEUE)) }
+{
+    paced && queue != DEFLATE_QUEUE
+}
+
+impl<P: Pace> BalloonDevice<P> {
+    /// All of `finish` but for the used entry: marks the pages of the request, takes it out, and
+    /// its pages' frames away. Nothing is written.
+    pub(crate) fn settle(&mut self, queue: u32, index: u32) -> Result<u16, Refusal>
+        requires backed { contains self.old.part.status driver_ok ≡ true →
+            IsBacked self.old.mem (queue_layout queue self.old.part) }
+        requires none { self.old.part.loose ≡ [] }
+        ensures by { SettlesBy queue index self.old.mem self.new.mem
+            self.old.part self.new.part result }
+        ensures ready { IfOk result (λ head. CanUse queue head self.new.mem self.new.part) }
+    {
+        if let Some(why) = self.queue_refusal(queue) {
+            return Err(why);
+        }
+        let place = index_of(queue);
+        let request = self.queues[place].taken(index, visits_first(P::IS_PACED, queue))?;
+        let head = request.head();
+        self.queues[place].take_out(
+            &mut self.ram,
+            &mut self.loose,
+            &mut self.ballooned,
+            queue,
+            index,
+        );
+        Ok(head)
+    }
+
+    /// Whether the pages of a queue's ring have frames, as a finish wants it: for the tests.
+    #[cfg(test)]
+    pub(crate) fn has_ring(&self, queue: u32) -> bool
+        ensures { result ≡ true → IsBacked self.now.mem (queue_layout queue self.now.part) }
+    {
+        if queue > STATISTICS_QUEUE && queue != REPORT_QUEUE {
+            return false;
+        }
+        let layout = self.queues[index_of(queue)].layout();
+        self.ram.backing(layout.table).is_some()
+            && self.ram.backing(layout.avail.page).is_some()
+            && self.ram.backing(layout.used.page).is_some()
+    }
+
+    /// Tells the driver that the chain from this head was used.
+    pub(super) fn use_chain(&mut self, queue: u32, head: u16)
+        requires { CanUse queue head self.old.mem self.old.part }
+        ensures { UsesChain queue head self.old.mem self.new.mem self.old.part self.new.part }
+    {
+        let place = index_of(queue);
+        self.queues[place].add_used(&mut self.ram, head);
+    }
+
+    /// Takes the statistics buffer out, if it is taken; answers its head.
+    pub(super) fn take_buffer(&mut self) -> Result<u16, Refusal>
+        requires backed { contains self.old.part.status driver_ok ≡ true →
+            IsBacked self.old.mem (queue_layout STATISTICS_QUEUE self.old.part) }
+        ensures by { TakesBuffer self.old.mem self.new.mem self.old.part self.new.part result }
+        ensures ready { IfOk result
+            (λ head. CanUse STATISTICS_QUEUE head self.new.mem self.new.part) }
+    {
+        if let Some(why) = self.readiness_refusal() {
+            return Err(why);
+        }
+        let buffer = self.queues[STATISTICS].taken(0, false)?;
+        let head = buffer.head();
+        self.queues[STATISTICS].forget(0);
+        Ok(head)
+    }
+
+    /// Counts the next page of the taken inflates as visited, or of the taken reports where there
+    /// is none.
+    fn count_visit(&mut self) -> Option<u32>
+        ensures page { result ≡ page_to_visit self.old.part }
+        ensures none { IfNone result (self.new ≡ self.old) }
+        ensures part { OnSome result
+            (self.new.part ≡ with_visit (visited_queue self.old.part) self.old.part) }
+        ensures mem { self.new.mem ≡ self.old.mem }
+        ensures attached { OnSome result (0 < length self.new.mem) }
+    {
+        if let Some(page) = self.queues[INFLATES].visit_next() {
+            return Some(page);
+        }
+        self.queues[REPORTS].visit_next()
+    }
+
+    /// Visits the next page of the taken inflates, or of the taken reports where there is none:
+    /// takes its frame away, if it has one. None where every page is visited.
+    pub(super) fn visit_next(&mut self) -> Option<Worked>
+        requires none { self.old.part.loose ≡ [] }
+        ensures { VisitsNext self.old.mem self.new.mem self.old.part self.new.part result }
+    {
+        let page = self.count_visit()?;
+        let freed = self.discard(page);
+        Some(Worked { page, freed })
+    }
+}
