@@ -7,7 +7,7 @@ use Rattle.vb_ram.{specs.Pages.Pages, specs.Part.Part}
 use Rattle.vb_driver.specs.{State.{FreePages, DriverState}, Answers.block_at, Calls.AllocatesBy}
 use Rattle.vb_guest.{specs.Stands.{Honest, Ties}, specs.Steps.StepsAlone, specs.Replies.page_reply}
 use Rattle.vb_guest.proofs.Closing.{honest_performed, honest_refused, steps_alone, ties_areas}
-use Rattle.vb_guest.proofs.DriverWords.{Sides, sides_of, driver_of, driver_is}
+use Rattle.vb_guest.proofs.DriverWords.{Sides, driver_of, in_words}
 
 by_result : (m : Pages) (p : Part) (g : Guest) (areas : FreePages) (sides : Sides)
     (d2 : DriverState) (cpu order : ℕ) (result : Result ℕ Refusal)
@@ -42,6 +42,5 @@ pub alloc_step : (m : Pages) (p : Part) (d1 d2 : DriverState) (g : Guest) (cpu o
     (result : Result ℕ Refusal) → AllocatesBy d1 d2 cpu order result → Honest m p d1 g
     → StepsAlone (Honest m p d2) g (Alloc cpu order) (page_reply result)
 alloc_step m p d1 d2 g cpu order result did stands =
-    let is = driver_is p d1 g stands.ties.parts in
-    by_result m p g d1.areas (sides_of d1) d2 cpu order result
-    (subst (λ d. AllocatesBy d d2 cpu order result) is did) (subst (λ d. Honest m p d g) is stands)
+    in_words (λ d. AllocatesBy d d2 cpu order result) m p d1 g stands did
+    (λ areas sides here at. by_result m p g areas sides d2 cpu order result at here)

@@ -14,7 +14,7 @@ use Rattle.vb_ram.{specs.Pages.Pages, specs.Part.Part}
 use Rattle.vb_guest.proofs.SameRefusals.{IsIdleStatus, refused_alike, runs_where}
 use Rattle.vb_guest.proofs.{Running.others_posted, Closing.{honest_performed, steps_alone}}
 use Rattle.vb_guest.proofs.RunApart.{sizes_of, ring_of, buffer_clear, post_leaves, post_same}
-use Rattle.vb_guest.proofs.DriverWords.{Sides, sides_of, driver_of, driver_is}
+use Rattle.vb_guest.proofs.DriverWords.{Sides, driver_of, in_words}
 use Rattle.vb_guest.proofs.{Posting.{line_posted, least_head, outstanding_are}, Offered.asked_as}
 use Rattle.vb_guest.proofs.{Offered.{last_sound, deflate_requested}, PagesKept.pages_same}
 use Rattle.vb_guest.specs.{Stands.{Honest, Ties, IsRunning}, Replies.posted_reply, Steps.StepsAlone}
@@ -141,12 +141,8 @@ pub deflate_step : (m1 m2 : Pages) (p1 p2 : Part) (d1 d2 : DriverState) (g : Gue
     (result : Result PostedRequest Refusal) → DeflatesBy m1 m2 p1 p2 d1 d2 n result
     → Honest m1 p1 d1 g → StepsAlone (Honest m2 p2 d2) g (Deflate n) (posted_reply result)
 deflate_step m1 m2 p1 p2 d1 d2 g n result did stands =
-    let is = driver_is p1 d1 g stands.ties.parts in
-    let areas = d1.areas in
-    let sides = sides_of d1 in
-    let here : Honest m1 p1 (driver_of g areas sides) g = subst (λ d. Honest m1 p1 d g) is stands in
-    let at : DeflatesBy m1 m2 p1 p2 (driver_of g areas sides) d2 n result =
-    subst (λ d. DeflatesBy m1 m2 p1 p2 d d2 n result) is did in
+    in_words (λ d. DeflatesBy m1 m2 p1 p2 d d2 n result) m1 p1 d1 g stands did
+    (λ areas sides here at.
     let device = here.ties.parts.device in
     let same = refused_alike m1 p1 (driver_of g areas sides) g (Deflate n) _ here.ties.queues
     (deflate_idle (driver_of g areas sides) p1 g n device.status)
@@ -155,7 +151,7 @@ deflate_step m1 m2 p1 p2 d1 d2 g n result did stands =
     let A : ℕ → Type 0 = λ t. IfOk result (AsksBack m1 m2 p1 p2 (driver_of g areas sides) d2
     (driver_count (driver_of g areas sides) t n)) in
     by_result m1 m2 p1 p2 g areas sides d2 (Deflate n) (deflate_count g n) result (deflate_asks g n)
-    at.driver (at.refusal ∙ same) at.refused (subst A here.ties.parts.device.target at.asks) here
+    at.driver (at.refusal ∙ same) at.refused (subst A here.ties.parts.device.target at.asks) here)
 
 -- ---- whatever the target
 
@@ -176,16 +172,12 @@ pub oom_step : (m1 m2 : Pages) (p1 p2 : Part) (d1 d2 : DriverState) (g : Guest) 
     (result : Result PostedRequest Refusal) → DeflatesOnOomBy m1 m2 p1 p2 d1 d2 n result
     → Honest m1 p1 d1 g → StepsAlone (Honest m2 p2 d2) g (Oom n) (posted_reply result)
 oom_step m1 m2 p1 p2 d1 d2 g n result did stands =
-    let is = driver_is p1 d1 g stands.ties.parts in
-    let areas = d1.areas in
-    let sides = sides_of d1 in
-    let here : Honest m1 p1 (driver_of g areas sides) g = subst (λ d. Honest m1 p1 d g) is stands in
-    let at : DeflatesOnOomBy m1 m2 p1 p2 (driver_of g areas sides) d2 n result =
-    subst (λ d. DeflatesOnOomBy m1 m2 p1 p2 d d2 n result) is did in
+    in_words (λ d. DeflatesOnOomBy m1 m2 p1 p2 d d2 n result) m1 p1 d1 g stands did
+    (λ areas sides here at.
     let device = here.ties.parts.device in
     let same = refused_alike m1 p1 (driver_of g areas sides) g (Oom n) _ here.ties.queues
     (oom_idle (driver_of g areas sides) p1 g n device.status)
     (λ run. oom_same g areas sides p1 n device.status
     (outstanding_are m1 1 sides.deflate.ring p1.deflate g.deflate run.deflate.ring)) in
     by_result m1 m2 p1 p2 g areas sides d2 (Oom n) (oom_count g n) result (oom_asks g n) at.driver
-    (at.refusal ∙ same) at.refused at.asks here
+    (at.refusal ∙ same) at.refused at.asks here)

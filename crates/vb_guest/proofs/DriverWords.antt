@@ -1,10 +1,10 @@
 -- The driver in the words of its guest.
-use Rattle.std.{specs.Prelude.◌≡◌, proofs.Common.{◌∙◌, ap}}
+use Rattle.std.{specs.Prelude.◌≡◌, proofs.Common.{◌∙◌, ap, subst}}
 use Rattle.vb_model.specs.Guest.{Guest}
-use Rattle.vb_ram.specs.Part.{Part}
+use Rattle.vb_ram.{specs.Pages.Pages, specs.Part.Part}
 use Rattle.vb_ring.specs.Ends.{DriverEnd}
 use Rattle.vb_driver.specs.State.{FreePages, RequestSide, ReportSide, DriverState}
-use Rattle.vb_guest.specs.Stands.{HasParts, beside_queues, beside_sides, beside_requests}
+use Rattle.vb_guest.specs.Stands.{Honest, HasParts, beside_queues, beside_sides, beside_requests}
 
 -- what a driver keeps of its four queues
 pub record Sides : Type 0 where
@@ -13,7 +13,7 @@ pub record Sides : Type 0 where
   pub statistics : DriverEnd
   pub report : ReportSide
 
-abbrev pub sides_of : DriverState → Sides
+abbrev sides_of : DriverState → Sides
 sides_of d = record {
   inflate = d.inflate;
   deflate = d.deflate;
@@ -38,7 +38,7 @@ driver_of g areas sides = record {
   actual = g.actual;
 }
 
-pub driver_is : (p : Part) (d : DriverState) (g : Guest)
+driver_is : (p : Part) (d : DriverState) (g : Guest)
     → HasParts (beside_queues p) (beside_sides d) (beside_requests g)
     → d ≡ driver_of g d.areas (sides_of d)
 driver_is p d g has = ap (λ x. record d { pages = x }) has.driver.pages
@@ -71,3 +71,12 @@ driver_is p d g has = ap (λ x. record d { pages = x }) has.driver.pages
       features = g.features;
       actual = x;
     }) has.driver.told
+
+-- what a call did to a driver, said of the guest's driver
+pub in_words : {R : Type 0} (P : DriverState → Type 0) (m : Pages) (p : Part) (d : DriverState)
+    (g : Guest) → Honest m p d g → P d
+    → ((areas : FreePages) (sides : Sides) → Honest m p (driver_of g areas sides) g
+    → P (driver_of g areas sides) → R) → R
+in_words P m p d g stands did goes =
+    let is = driver_is p d g stands.ties.parts in
+    goes d.areas (sides_of d) (subst (λ x. Honest m p x g) is stands) (subst P is did)

@@ -1,6 +1,6 @@
 -- Bytes that are written to a page with no frame, by how the claim of one was answered.
 use Rattle.std.specs.Prelude.{◌≡◌, ℕ, ◌<◌, Bool, true, List, [], ◌∷◌, length, None, Result, Ok, Err}
-use Rattle.std.{specs.Prelude.refl, proofs.Common.{sym, subst}}
+use Rattle.std.proofs.Common.{sym, subst}
 use Rattle.vb_model.{specs.declared.calls.Call.{Call, TheVariants.{Write, Scribble}}, specs.Guest.Guest}
 use Rattle.vb_model.specs.declared.calls.Claim.{Claim, TheVariants.{Gave, GaveNoFrame, GaveNoMemory}}
 use Rattle.vb_model.{specs.declared.replies.Refusal.Refusal, specs.Pages.{place_of, is_used}}
@@ -54,10 +54,10 @@ bare_written keeps Answers out1 out2 m1 m2 p1 p2 d g claims page off bs r used s
     filled r fills
     (λ n m claimed supplied wrote. over_stands keeps m1 m2 p1 p2 d d g Answers out1 out2
     (Gave n ∷ []) (Write page off bs) Done stands
-    (λ honest. write_supplied Answers out1 out2 m1 m1 m m2 p1 p2 p2 p2 d g page off n bs claimed
-    used honest covers some bare refl supplied wrote fills.part refl refl)
-    (λ rogue. write_supplied_rogue Answers out1 out2 m1 m1 m m2 p1 p2 p2 p2 d g page off n bs
-    claimed used rogue covers some bare refl supplied wrote fills.part refl refl))
+    (λ honest. write_supplied Answers out1 out2 m1 m m2 p1 p2 d g page off n bs claimed
+    used honest covers some bare supplied wrote fills.part)
+    (λ rogue. write_supplied_rogue Answers out1 out2 m1 m m2 p1 p2 d g page off n bs
+    claimed used rogue covers some bare supplied wrote fills.part))
     (λ why claimed same. over_stands keeps m1 m2 p1 p2 d d g Answers out1 out2 (claim_in (Err why) ∷ [])
     (Write page off bs) (Refused (refusal_of_claim why)) stands
     (λ honest. write_unsupplied Answers out1 out2 m1 m2 p1 p2 d g page off bs why claimed used
@@ -76,7 +76,7 @@ pub bare_scribbled : (keeps : Bool) (Answers : List Bool → Claim → Type 0) (
 bare_scribbled keeps Answers out1 out2 m1 m2 p1 p2 d g claims page off bs r stands covers some bare
     fills =
     filled r fills
-    (λ n m claimed supplied wrote. scribble_supplied keeps Answers out1 out2 m1 m1 m m2 p1 p2 p2 p2
-    d g page off n bs claimed stands covers some bare refl supplied wrote fills.part refl refl)
+    (λ n m claimed supplied wrote. scribble_supplied keeps Answers out1 out2 m1 m m2 p1 p2 d
+    g page off n bs claimed stands covers some bare supplied wrote fills.part)
     (λ why claimed same. scribble_unsupplied keeps Answers out1 out2 m1 m2 p1 p2 d g page off bs why
     claimed stands covers some bare same fills.part)

@@ -8,7 +8,7 @@ use Rattle.vb_driver.{specs.State.{FreePages, DriverState}, specs.Answers.block_
 use Rattle.vb_driver.specs.Calls.{FreesBy, after_free}
 use Rattle.vb_guest.{specs.Stands.{Honest, Ties}, specs.Steps.StepsAlone, specs.Replies.done_reply}
 use Rattle.vb_guest.proofs.Closing.{honest_performed, steps_alone, refused_alone}
-use Rattle.vb_guest.proofs.DriverWords.{Sides, sides_of, driver_of, driver_is}
+use Rattle.vb_guest.proofs.DriverWords.{Sides, driver_of, in_words}
 use Rattle.vb_model.specs.declared.places.Place.TheVariants.{Free as FreePlace}
 
 by_result : (m : Pages) (p : Part) (g : Guest) (areas : FreePages) (sides : Sides)
@@ -41,7 +41,5 @@ pub free_step : (m : Pages) (p : Part) (d1 d2 : DriverState) (g : Guest) (cpu st
     (result : Result (Unit {0}) Refusal) → FreesBy d1 d2 cpu start order result → Honest m p d1 g
     → StepsAlone (Honest m p d2) g (Free cpu start order) (done_reply result)
 free_step m p d1 d2 g cpu start order result did stands =
-    let is = driver_is p d1 g stands.ties.parts in
-    by_result m p g d1.areas (sides_of d1) d2 cpu start order result
-    (subst (λ d. FreesBy d d2 cpu start order result) is did)
-    (subst (λ d. Honest m p d g) is stands)
+    in_words (λ d. FreesBy d d2 cpu start order result) m p d1 g stands did
+    (λ areas sides here at. by_result m p g areas sides d2 cpu start order result at here)

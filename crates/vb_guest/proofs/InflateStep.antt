@@ -8,8 +8,8 @@ use Rattle.vb_model.specs.Requests.{outstanding, Inflating}
 use Rattle.vb_model.specs.declared.{calls.Call.TheVariants.Inflate, replies.Refusal.Refusal}
 use Rattle.vb_model.specs.declared.replies.{Refusal.TheVariants.NotReady, Reply.TheVariants.Posted}
 use Rattle.vb_ram.{specs.Pages.Pages, specs.Part.Part}
-use Rattle.vb_guest.proofs.{Closing.{honest_performed, steps_alone}, DriverWords.{Sides, sides_of}}
-use Rattle.vb_guest.proofs.{DriverWords.{driver_of, driver_is}, Offered.{asked_as, last_sound}}
+use Rattle.vb_guest.proofs.{Closing.{honest_performed, steps_alone}, DriverWords.Sides}
+use Rattle.vb_guest.proofs.{DriverWords.{driver_of, in_words}, Offered.{asked_as, last_sound}}
 use Rattle.vb_guest.proofs.{Offered.inflate_requested, PagesKept.pages_same, Posting.line_posted}
 use Rattle.vb_guest.proofs.{Posting.{least_head, outstanding_are}, RunApart.{sizes_of, ring_of}}
 use Rattle.vb_guest.proofs.{RunApart.{buffer_clear, post_leaves, post_same}, Running.others_posted}
@@ -113,15 +113,12 @@ pub inflate_step : (m1 m2 : Pages) (p1 p2 : Part) (d1 d2 : DriverState) (g : Gue
     (result : Result PostedRequest Refusal) → InflatesBy m1 m2 p1 p2 d1 d2 n result
     → Honest m1 p1 d1 g → StepsAlone (Honest m2 p2 d2) g (Inflate n) (posted_reply result)
 inflate_step m1 m2 p1 p2 d1 d2 g n result did stands =
-    let is = driver_is p1 d1 g stands.ties.parts in
-    let areas = d1.areas in
-    let sides = sides_of d1 in
-    let here : Honest m1 p1 (driver_of g areas sides) g = subst (λ d. Honest m1 p1 d g) is stands in
+    in_words (λ d. InflatesBy m1 m2 p1 p2 d d2 n result) m1 p1 d1 g stands did
+    (λ areas sides here at.
     let device = here.ties.parts.device in
     let same = refused_alike m1 p1 (driver_of g areas sides) g (Inflate n) _ here.ties.queues
     (inflate_idle (driver_of g areas sides) p1 g n device.status)
     (λ run. inflate_same g areas sides p1 n device.status device.target
     (outstanding_are m1 0 sides.inflate.ring p1.inflate g.inflate run.inflate.ring)
     (outstanding_are m1 1 sides.deflate.ring p1.deflate g.deflate run.deflate.ring)) in
-    by_result m1 m2 p1 p2 g areas sides d2 n result
-    (subst (λ d. InflatesBy m1 m2 p1 p2 d d2 n result) is did) here same
+    by_result m1 m2 p1 p2 g areas sides d2 n result at here same)

@@ -15,7 +15,7 @@ use Rattle.vb_driver.specs.State.{FreePages, DriverState, IsDriver}
 use Rattle.vb_driver.{specs.Calls.{ReapsBy, ring_of, next_of}, proofs.RequestTables.requests_taken}
 use Rattle.vb_device.specs.Queues.{queue_part}
 use Rattle.vb_guest.proofs.KindLines.{Knows, LineOf, LineWith, line_of, has_queue, same_frames}
-use Rattle.vb_guest.proofs.{DriverWords.{Sides, sides_of, driver_of, driver_is}, Refusing.by_queue}
+use Rattle.vb_guest.proofs.{DriverWords.{Sides, driver_of, in_words}, Refusing.by_queue}
 use Rattle.vb_guest.proofs.{Closing.{honest_performed, steps_alone, ties_same}, Named.line_named}
 use Rattle.vb_guest.proofs.{Reaping.{used_next, used_line, line_reaped}, ReportLines.report_reaped}
 use Rattle.vb_guest.{proofs.ReapRefusing.{reap_by, reap_no_queue}, specs.Replies.reaped_reply}
@@ -140,28 +140,19 @@ pub reap_step : (m1 m2 : Pages) (p1 p2 : Part) (d1 d2 : DriverState) (g : Guest)
     (result : Result (Option ReapedRequest) Refusal) → ReapsBy m1 m2 p1 p2 d1 d2 q result
     → Honest m1 p1 d1 g → StepsAlone (Honest m2 p2 d2) g (Reap q) (reaped_reply result)
 reap_step m1 m2 p1 p2 d1 d2 g q result did stands =
-    let is = driver_is p1 d1 g stands.ties.parts in
-    let areas = d1.areas in
-    let sides = sides_of d1 in
-    let here : Honest m1 p1 (driver_of g areas sides) g = subst (λ d. Honest m1 p1 d g) is stands in
-    let at : ReapsBy m1 m2 p1 p2 (driver_of g areas sides) d2 q result =
-    subst (λ d. ReapsBy m1 m2 p1 p2 d d2 q result) is did in
-    by_queue (λ k. ReapsBy m1 m2 p1 p2 (driver_of g areas sides) d2 k result
-    → StepsAlone (Honest m2 p2 d2) g (Reap k) (reaped_reply result)) q
-    (of Inflating areas sides here) (of Deflating areas sides here)
-    (λ at. reap_no_queue m1 m2 p1 p2 (driver_of g areas sides) d2 g 2 result refl at here)
-    (of Reporting_free areas sides here)
-    (λ none at. reap_no_queue m1 m2 p1 p2 (driver_of g areas sides) d2 g q result
-    (no_requests_at q none) at here) at
+    by_queue (λ k. ReapsBy m1 m2 p1 p2 d1 d2 k result
+    → StepsAlone (Honest m2 p2 d2) g (Reap k) (reaped_reply result)) q (of Inflating) (of Deflating)
+    (λ at. reap_no_queue m1 m2 p1 p2 d1 d2 g 2 result refl at stands) (of Reporting_free)
+    (λ none at. reap_no_queue m1 m2 p1 p2 d1 d2 g q result (no_requests_at q none) at stands) did
   where
-    of : (kind : Kind) (areas : FreePages) (sides : Sides) → Honest m1 p1 (driver_of g areas sides) g
-        → ReapsBy m1 m2 p1 p2 (driver_of g areas sides) d2 (queue_of kind) result
+    of : (kind : Kind) → ReapsBy m1 m2 p1 p2 d1 d2 (queue_of kind) result
         → StepsAlone (Honest m2 p2 d2) g (Reap (queue_of kind)) (reaped_reply result)
-    of kind areas sides here at =
+    of kind did = in_words (λ d. ReapsBy m1 m2 p1 p2 d d2 (queue_of kind) result) m1 p1 d1 g stands
+        did (λ areas sides here at.
         let q = queue_of kind in
         let d = driver_of g areas sides in
         reap_by m1 m2 p1 p2 d d2 g q (requests kind g).done result (has_queue kind) at here
         (λ run. used_line m1 q (ring_of q d) (queue_part q p1) (requests kind g)
         (line_of kind m1 p1 d g run).ring)
         (λ got next done answer run free. request_reaped kind m1 m2 p1 p2 g areas sides d2
-        (requests kind g).done got refl next done answer here run free)
+        (requests kind g).done got refl next done answer here run free))

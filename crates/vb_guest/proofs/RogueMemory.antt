@@ -155,36 +155,32 @@ write_fits m p d g page off bs rogue used covers = grind (arith, inside_is)
 -- ---- a page got a frame first
 
 -- what the guest is then
-pub supplied_rogue : (m1 m2 m3 m4 : Pages) (p1 p2 p3 p4 : Part) (d : DriverState) (g : Guest)
-    (page off frame : ℕ) (bs : List ℕ) → Covers m1 page off (length bs) → m2 ≡ m1 → Supplied
-    m2 m3 page frame → Wrote m3 m4 page off bs → p2 ≡ record p1 { own = p2.own } → p3 ≡ p2
-    → p4 ≡ p3 → Rogue m1 p1 d g → Rogue m4 p4 d (rogue_after g (backed page frame g.frames) p4 d)
-supplied_rogue m1 m2 m3 m4 p1 p2 p3 p4 d g page off frame bs covers same now wrote pa pb pc rogue =
-    let supplied : Supplied m1 m3 page frame = subst (λ m. Supplied m m3 page frame) same now in
+pub supplied_rogue : (m1 m2 m3 : Pages) (p1 p2 : Part) (d : DriverState) (g : Guest)
+    (page off frame : ℕ) (bs : List ℕ) → Covers m1 page off (length bs) → Supplied m1 m2 page frame
+    → Wrote m2 m3 page off bs → p2 ≡ record p1 { own = p2.own } → Rogue m1 p1 d g
+    → Rogue m3 p2 d (rogue_after g (backed page frame g.frames) p2 d)
+supplied_rogue m1 m2 m3 p1 p2 d g page off frame bs covers supplied wrote part rogue =
     let lt : page < g.config.pages = omega (arith, covers.page, rogue.length_is) in
-    let has = frames_supplied m1 m3 g.config.pages page frame g.frames lt
+    let has = frames_supplied m1 m2 g.config.pages page frame g.frames lt
     (record { length_is = rogue.length_is; framed = rogue.framed; behind = rogue.behind })
     supplied in
-    let own = ap (λ (p : Part). p.own) (pc ∙ pb) in
-    let part : p4 ≡ record p1 { own = p4.own } =
-    pc ∙ pb ∙ pa ∙ ap (λ (l : List ℕ). record p1 { own = l }) (sym own) in
-    let count : length m4 ≡ length m1 = wrote.rest.count ∙ supplied.count in
+    let count : length m3 ≡ length m1 = wrote.rest.count ∙ supplied.count in
     let size = g.config.queue_size in
-    let still : (q : ℕ) → is_some (frame_at m1 q) ≡ true → is_some (frame_at m4 q) ≡ true =
+    let still : (q : ℕ) → is_some (frame_at m1 q) ≡ true → is_some (frame_at m3 q) ≡ true =
     λ q there. ap is_some (wrote.rest.backing q) ∙ elim (cases_eq q page) [
-      | inl at ↦ ap (λ (k : ℕ). is_some (frame_at m3 k)) at ∙ ap is_some supplied.backed
+      | inl at ↦ ap (λ (k : ℕ). is_some (frame_at m2 k)) at ∙ ap is_some supplied.backed
       | inr ne ↦ ap (λ o. is_some (number_of o)) (supplied.others q ne) ∙ there
     ] in
-    rogue_stands m1 m4 p1 p4 d d g (backed page frame g.frames) rogue (record {
+    rogue_stands m1 m3 p1 p2 d d g (backed page frame g.frames) rogue (record {
       driver = driver_same d d refl;
-      device = device_alike p1 p4 (ap kept_of_rogue part);
+      device = device_alike p1 p2 (ap kept_of_rogue part);
       up = λ was ok.
           let up = was (ap (λ (p : Part). contains p.status driver_ok) (sym part) ∙ ok) in record {
             backed = λ q low. still q (up.backed q low);
-            inflates = subst (λ (n : ℕ). All (IsOwnRequest size n) p4.inflate.taken) (sym count)
+            inflates = subst (λ (n : ℕ). All (IsOwnRequest size n) p2.inflate.taken) (sym count)
                 (subst (All (IsOwnRequest size (length m1)))
                 (sym (ap (λ (p : Part). p.inflate.taken) part)) up.inflates);
-            reports = subst (λ (n : ℕ). All (IsOwnRequest size n) p4.report.taken) (sym count)
+            reports = subst (λ (n : ℕ). All (IsOwnRequest size n) p2.report.taken) (sym count)
                 (subst (All (IsOwnRequest size (length m1)))
                 (sym (ap (λ (p : Part). p.report.taken) part)) up.reports);
           };
@@ -192,42 +188,42 @@ supplied_rogue m1 m2 m3 m4 p1 p2 p3 p4 d g page off frame bs covers same now wro
 
 -- the frames that went out
 supplied_moves : (Answers : List Bool → Claim → Type 0) (out1 out2 : List Bool)
-    (m1 : Pages) (p1 p2 p4 : Part) (g new : Guest) (page frame : ℕ)
-    → IsClaimed Answers (supply_of p1 out1) (supply_of p2 out2) (Gave frame) → p4 ≡ p2
+    (p1 p2 : Part) (g new : Guest) (page frame : ℕ)
+    → IsClaimed Answers (supply_of p1 out1) (supply_of p2 out2) (Gave frame)
     → page < length g.frames → frame_of g.frames page ≡ None
     → new.frames ≡ backed page frame g.frames
-    → Moves (supply_of p1 out1) (supply_of p4 out2) (λ n. backing_count n new)
+    → Moves (supply_of p1 out1) (supply_of p2 out2) (λ n. backing_count n new)
     (λ n. backing_count n g)
-supplied_moves Answers out1 out2 m1 p1 p2 p4 g new page frame answer part lt bare frames =
+supplied_moves Answers out1 out2 p1 p2 g new page frame answer lt bare frames =
     grind (arith, count_backed, times_one)
 
 pub write_supplied_rogue : (Answers : List Bool → Claim → Type 0) (out1 out2 : List Bool)
-    (m1 m2 m3 m4 : Pages) (p1 p2 p3 p4 : Part) (d : DriverState) (g : Guest) (page off frame : ℕ)
+    (m1 m2 m3 : Pages) (p1 p2 : Part) (d : DriverState) (g : Guest) (page off frame : ℕ)
     (bs : List ℕ) → IsClaimed Answers (supply_of p1 out1) (supply_of p2 out2) (Gave frame)
     → is_used (place_of d.places page) ≡ true → Rogue m1 p1 d g → Covers m1 page off (length bs)
-    → 0 < length bs → frame_at m1 page ≡ None → m2 ≡ m1 → Supplied m2 m3 page frame → Wrote m3
-    m4 page off bs → p2 ≡ record p1 { own = p2.own } → p3 ≡ p2 → p4 ≡ p3 → StepsOver (Rogue m4 p4 d)
-    Answers (supply_of p1 out1) (supply_of p4 out2) (Gave frame ∷ []) g (Write page off bs) Done
-write_supplied_rogue Answers out1 out2 m1 m2 m3 m4 p1 p2 p3 p4 d g page off frame bs answer used
-    rogue covers some bare same now wrote pa pb pc =
+    → 0 < length bs → frame_at m1 page ≡ None → Supplied m1 m2 page frame → Wrote m2 m3 page off bs
+    → p2 ≡ record p1 { own = p2.own } → StepsOver (Rogue m3 p2 d)
+    Answers (supply_of p1 out1) (supply_of p2 out2) (Gave frame ∷ []) g (Write page off bs) Done
+write_supplied_rogue Answers out1 out2 m1 m2 m3 p1 p2 d g page off frame bs answer used rogue covers
+    some bare supplied wrote part =
     let bare_too : frame_of g.frames page ≡ None = sym (rogue.behind page) ∙ bare in
     let needs : pages_to_back (Write page off bs) g ≡ page ∷ [] =
     ap (λ (o : Option Refusal). unless_refused o (pages_needed page bs g))
     (write_fits m1 p1 d g page off bs rogue used covers) ∙ needs_one g page bs some bare_too in
-    let new : Guest = rogue_after g (backed page frame g.frames) p4 d in
-    let stands = supplied_rogue m1 m2 m3 m4 p1 p2 p3 p4 d g page off frame bs covers same now wrote
-    pa pb pc rogue in
+    let new : Guest = rogue_after g (backed page frame g.frames) p2 d in
+    let stands = supplied_rogue m1 m2 m3 p1 p2 d g page off frame bs covers supplied wrote part
+    rogue in
     record {
       new = new;
       stands = stands;
-      step = rogue_steps m1 m4 p1 p4 d d g new (Write page off bs) (Gave frame ∷ []) Done rogue
-          stands refl (ap (λ (p : Part). p.target) (pc ∙ pb ∙ pa))
+      step = rogue_steps m1 m3 p1 p2 d d g new (Write page off bs) (Gave frame ∷ []) Done rogue
+          stands refl (ap (λ (p : Part). p.target) part)
           (subst (λ (l : List ℕ). AreClaimsFor l (Gave frame ∷ [])) (sym needs) refl)
           (subst (λ (l : List ℕ). LosesFrames (all_backed l (frame ∷ []) g.frames) new.frames)
           (sym needs) (λ page frame e. e)) (λ e. absurd cc) (λ e. absurd cc)
           (λ why e. no_refusal Done why refl e) (λ page offset bytes e. absurd cc);
       answered = (supply_of p2 out2, answer, tt);
-      moves = supplied_moves Answers out1 out2 m1 p1 p2 p4 g new page frame answer (pc ∙ pb)
+      moves = supplied_moves Answers out1 out2 p1 p2 g new page frame answer
           (omega (arith, covers.page, rogue.length_is, rogue.framed)) bare_too refl;
     }
 
@@ -387,31 +383,29 @@ scribble_unsupplied keeps Answers out1 out2 m1 m2 p1 p2 d g page off bs why answ
 
 -- a page got a frame, and then was written
 pub scribble_supplied : (keeps : Bool) (Answers : List Bool → Claim → Type 0)
-    (out1 out2 : List Bool) (m1 m2 m3 m4 : Pages) (p1 p2 p3 p4 : Part) (d : DriverState) (g : Guest)
+    (out1 out2 : List Bool) (m1 m2 m3 : Pages) (p1 p2 : Part) (d : DriverState) (g : Guest)
     (page off frame : ℕ) (bs : List ℕ) → IsClaimed Answers (supply_of p1 out1) (supply_of p2 out2)
     (Gave frame) → Stands keeps m1 p1 d g → Covers m1 page off (length bs) → 0 < length bs
-    → frame_at m1 page ≡ None → m2 ≡ m1 → Supplied m2 m3 page frame → Wrote m3 m4 page off bs
-    → p2 ≡ record p1 { own = p2.own } → p3 ≡ p2 → p4 ≡ p3 → StepsOver (Stands keeps m4 p4 d) Answers
-    (supply_of p1 out1) (supply_of p4 out2) (Gave frame ∷ []) g (Scribble page off bs) Done
-scribble_supplied keeps Answers out1 out2 m1 m2 m3 m4 p1 p2 p3 p4 d g page off frame bs answer
-    stands covers some bare same now wrote pa pb pc =
+    → frame_at m1 page ≡ None → Supplied m1 m2 page frame → Wrote m2 m3 page off bs
+    → p2 ≡ record p1 { own = p2.own } → StepsOver (Stands keeps m3 p2 d) Answers
+    (supply_of p1 out1) (supply_of p2 out2) (Gave frame ∷ []) g (Scribble page off bs) Done
+scribble_supplied keeps Answers out1 out2 m1 m2 m3 p1 p2 d g page off frame bs answer stands covers
+    some bare supplied wrote part =
     let old = as_rogue keeps m1 p1 d g stands in
     let bare_too : frame_of g.frames page ≡ None = sym (old.behind page) ∙ bare in
     let needs : pages_needed page bs g ≡ page ∷ [] = needs_one g page bs some bare_too in
-    let new : Guest = rogue_after (marked g) (backed page frame g.frames) p4 d in
-    let rogue = supplied_rogue m1 m2 m3 m4 p1 p2 p3 p4 d (marked g) page off frame bs covers same
-    now wrote pa pb pc old in
-    let moves = supplied_moves Answers out1 out2 m1 p1 p2 p4 g new page frame answer (pc ∙ pb)
+    let new : Guest = rogue_after (marked g) (backed page frame g.frames) p2 d in
+    let rogue = supplied_rogue m1 m2 m3 p1 p2 d (marked g) page off frame bs covers supplied wrote
+    part old in
+    let moves = supplied_moves Answers out1 out2 p1 p2 g new page frame answer
     (omega (arith, covers.page, old.length_is, old.framed)) bare_too refl in
     record {
       new = new;
-      stands = stands_of keeps m4 p4 d new (rogue_is m4 p4 d new rogue)
-          (own_moved keeps p1 p4 out1 out2 g new moves stands.own);
-      step = scribble_step m1 m4 p1 p4 d g new page off bs (Gave frame ∷ []) keeps stands rogue
+      stands = stands_of keeps m3 p2 d new (rogue_is m3 p2 d new rogue)
+          (own_moved keeps p1 p2 out1 out2 g new moves stands.own);
+      step = scribble_step m1 m3 p1 p2 d g new page off bs (Gave frame ∷ []) keeps stands rogue
           (subst (λ (l : List ℕ). AreClaimsFor l (Gave frame ∷ [])) (sym needs) refl) refl
-          (marked_after m1 p1 p4 d g (backed page frame g.frames) old
-          (pc ∙ pb ∙ pa ∙ ap (λ (l : List ℕ). record p1 { own = l })
-          (sym (ap (λ (p : Part). p.own) (pc ∙ pb))))
+          (marked_after m1 p1 p2 d g (backed page frame g.frames) old part
           ∙ ap (λ (l : List ℕ). record g
           { frames = all_backed l (frame ∷ []) g.frames; rogue = true }) (sym needs))
           (scribble_fits m1 g page off bs old.length_is covers);

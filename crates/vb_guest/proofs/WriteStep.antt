@@ -132,15 +132,14 @@ write_unsupplied Answers out1 out2 m1 m2 p1 p2 d g page off bs why answer used s
 
 -- a page that got a frame, and then was written
 pub write_supplied : (Answers : List Bool → Claim → Type 0) (out1 out2 : List Bool)
-    (m1 m2 m3 m4 : Pages) (p1 p2 p3 p4 : Part) (d : DriverState) (g : Guest) (page off frame : ℕ)
+    (m1 m2 m3 : Pages) (p1 p2 : Part) (d : DriverState) (g : Guest) (page off frame : ℕ)
     (bs : List ℕ) → IsClaimed Answers (supply_of p1 out1) (supply_of p2 out2) (Gave frame)
     → is_used (place_of d.places page) ≡ true → Honest m1 p1 d g → Covers m1 page off (length bs)
-    → 0 < length bs → frame_at m1 page ≡ None → m2 ≡ m1 → Supplied m2 m3 page frame → Wrote m3 m4
-    page off bs → p2 ≡ record p1 { own = p2.own } → p3 ≡ p2 → p4 ≡ p3 → StepsOver (Honest m4 p4 d)
-    Answers (supply_of p1 out1) (supply_of p4 out2) (Gave frame ∷ []) g (Write page off bs) Done
-write_supplied Answers out1 out2 m1 m2 m3 m4 p1 p2 p3 p4 d g page off frame bs answer used stands
-    covers some bare same now wrote pa pb pc =
-    let supplied : Supplied m1 m3 page frame = subst (λ m. Supplied m m3 page frame) same now in
+    → 0 < length bs → frame_at m1 page ≡ None → Supplied m1 m2 page frame → Wrote m2 m3 page off bs
+    → p2 ≡ record p1 { own = p2.own } → StepsOver (Honest m3 p2 d)
+    Answers (supply_of p1 out1) (supply_of p2 out2) (Gave frame ∷ []) g (Write page off bs) Done
+write_supplied Answers out1 out2 m1 m2 m3 p1 p2 d g page off frame bs answer used stands covers some
+    bare supplied wrote part =
     let held : is_used (place_of g.places page) ≡ true =
     ap (λ l. is_used (place_of l page)) (sym stands.ties.parts.driver.places) ∙ used in
     let lt : page < g.config.pages = omega (arith, covers.page, stands.ties.pages.length_is) in
@@ -152,13 +151,13 @@ write_supplied Answers out1 out2 m1 m2 m3 m4 p1 p2 p3 p4 d g page off frame bs a
     let needs : pages_needed page bs g ≡ page ∷ [] = needs_one g page bs some bare_too in
     let after : Guest = record g { frames = backed page frame g.frames } in
     let new : Guest = record after { contents = at_page page (overwritten off bs) g.contents } in
-    let mid : Ties m3 p1 d after = record {
+    let mid : Ties m2 p1 d after = record {
       parts = stands.ties.parts;
-      pages = pages_supplied m1 m3 g.config.queue_size
+      pages = pages_supplied m1 m2 g.config.queue_size
           g.config.pages page frame g.frames g.contents lt bare stands.ties.pages supplied;
       queues = elim stands.ties.queues [
         | inl idle ↦ inl assumption
-        | inr run ↦ (let still = runs_on m1 m3 p1 d g run
+        | inr run ↦ (let still = runs_on m1 m2 p1 d g run
             (λ p low. supplied.others p (omega arith)) in inr assumption)
       ];
     } in
@@ -166,16 +165,13 @@ write_supplied Answers out1 out2 m1 m2 m3 m4 p1 p2 p3 p4 d g page off frame bs a
     (λ supplied. Written page off bs supplied Done new) in
     let step = honest_performed g (Write page off bs) (Gave frame ∷ []) Done new free
     (subst W (sym needs) (refl, (refl, refl))) in
-    let covers2 : Covers m3 page off (length bs) =
+    let covers2 : Covers m2 page off (length bs) =
     record { page = omega (arith, covers.page, supplied.count); bytes = covers.bytes } in
-    let written = still_stands m1 m4 p1 p1 d d g (Write page off bs) (Gave frame ∷ []) Done
-    new stands step (written_ties m3 m4 p1 p1 d after page off bs high covers2 mid wrote refl) in
-    let part = pc ∙ pb in
-    let own = ap (λ (p : Part). p.own) part in
+    let written = still_stands m1 m3 p1 p1 d d g (Write page off bs) (Gave frame ∷ []) Done
+    new stands step (written_ties m2 m3 p1 p1 d after page off bs high covers2 mid wrote refl) in
     record {
       new = new;
-      stands = honest_own m4 m4 p1 p4 d new refl
-          (part ∙ pa ∙ ap (λ (l : List ℕ). record p1 { own = l }) (sym own)) written;
+      stands = honest_own m3 m3 p1 p2 d new refl part written;
       step = guest_step g (Write page off bs) (Gave frame ∷ []) Done new
           stands.ties.parts.guest.honest step;
       answered = (supply_of p2 out2, answer, tt);
