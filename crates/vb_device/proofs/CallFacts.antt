@@ -6,7 +6,7 @@ use Rattle.vb_ram.specs.{Pages.{Pages}, Part.{Part, QueuePart, no_part, no_queue
 use Rattle.vb_device.specs.declared.claimed.Claimed.TheVariants.{AskHost, NoFrame}
 use Rattle.vb_device.specs.Calls.{taking, settled, using, without_frames, lost_frames, next_visit}
 use Rattle.vb_device.specs.Calls.{attached, Claims, PutsBack, HandsBack}
-use Rattle.vb_device.specs.{BaseCalls.{visited_queue, page_to_visit, flags_after, GivesLast}}
+use Rattle.vb_device.specs.{BaseCalls.{visited_queue, page_to_visit, flags_after}}
 use Rattle.vb_device.specs.{Discards.{discarded, frames_behind}, Faults.needing_reset, Own.{has, without}}
 
 abbrev asked : ℕ → List ℕ → ℕ → Request
@@ -50,10 +50,6 @@ handed_back = (λ n. refl, refl, refl)
 
 handed_back_none : HandsBack (record busy { loose = 7 ∷ [] }) (record busy { loose = 7 ∷ [] }) None → ⊥
 handed_back_none back = omega (arith, ap (λ (l : List ℕ). length l) back.0)
-
-last_first : GivesLast (record busy { loose = 7 ∷ 9 ∷ [] }) (record busy { loose = 7 ∷ [] })
-    (Some (record { number = 9; bytes = [] }))
-last_first = (refl, refl)
 
 -- ---- a queue: the index goes round, a new request is the last, and those behind a used one close up
 
