@@ -35,8 +35,11 @@ at_no_other = refl
 first : map (first_place 2) (0 ∷ 1 ∷ 2 ∷ []) ≡ Reserved ∷ Reserved ∷ Free ∷ []
 first = refl
 
-a_word_at_least : AreLentBits [] [] → ⊥
-a_word_at_least bits = omega (arith, bits.fewest)
+a_word_for_a_page : AreLentBits (Free ∷ []) [] → ⊥
+a_word_for_a_page bits = omega (arith, bits.fewest)
+
+no_word_more : AreLentBits (Free ∷ []) (0 ∷ 0 ∷ []) → ⊥
+no_word_more bits = omega (arith, bits.fewest)
 
 unlent : AreLentBits (Free ∷ []) (1 ∷ []) → ⊥
 unlent bits = (let wrong : true ≡ false = bits.tells 0 0 (omega arith) in absurd cc)
