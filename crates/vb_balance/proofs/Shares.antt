@@ -104,7 +104,6 @@ by_level needs frames level lack rest targets left e r is s = record {
     | inr none ↦ omega (arith, none, in_all, r, e, is.fits)
   ];
   in_order = search (arith, cases_lt, all_before);
-}
-  where
-    in_all : sum targets + left ≡ spared_from needs (level + 1) + rest
-    in_all = search (arith, take_all)
+} where
+  in_all : sum targets + left ≡ spared_from needs (level + 1) + rest
+  in_all = search (arith, take_all)

@@ -43,8 +43,7 @@ none_from word bit l none k from below =
 
 pub found_from : (word bit : ℕ) → bit ≤ 64 → word < 2 ^ 64 → 0 < rest word bit
     → IsLowestFrom word bit (trailing_zeros w64 (rest word bit))
-found_from word bit l fits some =
-    let found = trailing_zeros w64 (rest word bit) in
+found_from word bit l fits some = let found = trailing_zeros w64 (rest word bit) in
     let less : rest word bit < 2 ^ 64 =
     omega (arith, and_le_l word ((2 ^ 64 - 1) * 2 ^ bit % 2 ^ 64)) in
     let lowest = bit_at-trailing_zeros w64 (rest word bit) some less in
@@ -64,8 +63,7 @@ found_from word bit l fits some =
 -- `MAX >> (64 - count)` has its lowest bits 1, so many of them
 pub low_bits : (count k : ℕ) → count ≤ 64
     → has_bit ((2 ^ 64 - 1) / 2 ^ (64 - count)) k ≡ ltb k count
-low_bits count k few =
-    let same : 64 - (64 - count) ≡ count = omega arith in
+low_bits count k few = let same : 64 - (64 - count) ≡ count = omega arith in
     ap (λ (n : ℕ). has_bit n k) (ones_shr 64 (64 - count) (omega arith)
     ∙ ap (λ (n : ℕ). 2 ^ n - 1) same) ∙ elim (cases_lt k count) [
       | inl below ↦ one_bit (2 ^ count - 1) k (bit_at_ones count k below) ∙ grind (arith, nat_tests)

@@ -36,12 +36,10 @@ none_in level summary start s none n from =
 pub least_in : (level summary : List Bool) (start w : ℕ) (found : Option ℕ)
     → HasSummary level summary → IsLeastFrom summary start w → IsNextInWord level (w * 64) found
     → IsFirstFrom level (64 * start) found
-least_in level summary start w None s first none =
-    let row : w * 64 / 64 ≡ w = omega arith in
+least_in level summary start w None s first none = let row : w * 64 / 64 ≡ w = omega arith in
     let bare : HasNoneIn level w = λ n e. none n (omega arith) (e ∙ sym row) in
     absurd (false≢true (sym ((s.tells w).1 bare) ∙ first.member))
-least_in level summary start w (Some found) s first next =
-    let least = next.1 in
+least_in level summary start w (Some found) s first next = let least = next.1 in
     let after : start ≤ w = first.from in
     let from : w * 64 ≤ found = least.from in
     record {
@@ -56,9 +54,8 @@ least_in level summary start w (Some found) s first next =
     }
 
 -- with no member in what is left of a number's word, the next one is in the words after it
-pub after_word : (set : List Bool) (n : ℕ) (found : Option ℕ)
-    → ((m : ℕ) → n ≤ m → m / 64 ≡ n / 64 → has set m ≡ false)
-    → IsFirstFrom set (64 * (n / 64 + 1)) found → IsFirstFrom set n found
+pub after_word : (set : List Bool) (n : ℕ) (found : Option ℕ) → ((m : ℕ) → n ≤ m → m / 64 ≡ n / 64
+    → has set m ≡ false) → IsFirstFrom set (64 * (n / 64 + 1)) found → IsFirstFrom set n found
 after_word set n found none later = grind arith
 
 -- a set of a single word has no member but in that word
@@ -82,9 +79,8 @@ put_summary level summary n one any s l told = record {
   tells = λ w. elim (eqb_tells w (n / 64)) [
     | inl same ↦
         let there : n / 64 < length summary = omega (arith, s.enough, l) in
-        let now : has (set summary (n / 64) any) w ≡ any =
-        ap (λ (k : ℕ). has (set summary (n / 64) any) k) same.1
-        ∙ get_or-set_same summary (n / 64) any false there in (
+        let now : has (set summary (n / 64) any) w ≡ any = ap (λ (k : ℕ). has
+        (set summary (n / 64) any) k) same.1 ∙ get_or-set_same summary (n / 64) any false there in (
           λ e. subst (λ (k : ℕ). HasNoneIn (set level n one) k) (sym same.1) (told.0 (sym now ∙ e)),
           λ none. now ∙ told.1 (subst (λ (k : ℕ). HasNoneIn (set level n one) k) same.1 none),
         )
@@ -123,8 +119,7 @@ put_count level n one l = sum_by-set weight level n one false l
 
 pub full_summary : (a b : ℕ) → a ≤ 64 * b → 64 * b < a + 64
     → HasSummary (replicate a true) (replicate b true)
-full_summary a b enough fewest =
-    let low = length-replicate {A = Bool} a true in
+full_summary a b enough fewest = let low = length-replicate {A = Bool} a true in
     let high = length-replicate {A = Bool} b true in
     record {
       enough = omega (arith, low, high);

@@ -99,9 +99,8 @@ filled_at bound len last low n from to e h = elim (eqb_tells (n / 64) last) [
       ∙ ap (λ (w : ℕ). has_bit w (n % 64)) (get_or-set_same (all_ones len) last low 0
       (omega (arith, length-replicate {A = ℕ} len (2 ^ 64 - 1))))
       ∙ h (n % 64) (omega arith) ∙ low_test bound last n from to same.1
-  | inr other ↦ ap (λ (w : ℕ). has_bit w (n % 64))
-      (get_or-set_other (all_ones len) last (n / 64) low 0 other.1)
-      ∙ other_word bound len last n from to e other.1
+  | inr other ↦ ap (λ (w : ℕ). has_bit w (n % 64)) (get_or-set_other
+      (all_ones len) last (n / 64) low 0 other.1) ∙ other_word bound len last n from to e other.1
 ]
 
 past_test : (n bound : ℕ) → bound ≤ n → ltb n bound ≡ false
@@ -154,10 +153,9 @@ put bound words n one word s l w = grind (arith, length-set, put_other)
 pub put_flags : (bound : ℕ) (words : List ℕ) (n : ℕ) (one : Bool) (word : ℕ)
     → AreWordsOf bound words → n < bound → IsWritten words n one word
     → flags_of bound (set words (n / 64) word) ≡ set (flags_of bound words) n one
-put_flags bound words n one word s l w = flags_are bound
-    (set words (n / 64) word) (set (flags_of bound words) n one) (put bound words n one word s l w)
-    (length-set (flags_of bound words) n one ∙ length-flags bound words)
-    (λ m _. elim (eqb_tells m n) [
+put_flags bound words n one word s l w = flags_are bound (set words (n / 64) word)
+    (set (flags_of bound words) n one) (put bound words n one word s l w) (length-set
+    (flags_of bound words) n one ∙ length-flags bound words) (λ m _. elim (eqb_tells m n) [
       | inl same ↦ ap (λ (k : ℕ). in_words (set words (n / 64) word) k) same.1
           ∙ put_same words n one word w ∙ sym (get_or-set_same (flags_of bound words) n one false
           (omega (arith, l, length-flags bound words)))
@@ -187,19 +185,16 @@ word_is_zero bound words w word s fits e = (
       let row = λ (k : ℕ) (l : k < 64). at_row w k l in
       ap not (eq-eqb word 0 (bare word fits (λ k l. ap (λ (n : ℕ). has_bit n k) (sym e)
       ∙ bit_is_flag bound words s w k l ∙ none (64 * w + k) (row k l)))),
-)
-  where
-    at_row : (w k : ℕ) → k < 64 → (64 * w + k) / 64 ≡ w
-    at_row w k l = omega arith
+) where
+  at_row : (w k : ℕ) → k < 64 → (64 * w + k) / 64 ≡ w
+  at_row w k l = omega arith
 
 -- ---- the next number of a word
 
-pub next : (set : List Bool) (word n bit : ℕ)
-    → ((k : ℕ) → k < 64 → has_bit word k ≡ has set (64 * (n / 64) + k))
-    → IsLowestFrom word (n % 64) bit
+pub next : (set : List Bool) (word n bit : ℕ) → ((k : ℕ)
+    → k < 64 → has_bit word k ≡ has set (64 * (n / 64) + k)) → IsLowestFrom word (n % 64) bit
     → ((n / 64 * 64 + bit) / 64 ≡ n / 64) × IsLeastFrom set n (n / 64 * 64 + bit)
-next set word n bit h s =
-    let within : bit < 64 = s.within in
+next set word n bit h s = let within : bit < 64 = s.within in
     let low : n % 64 ≤ bit = s.from in
     let turned : n / 64 * 64 + bit ≡ 64 * (n / 64) + bit = omega arith in (
       omega arith,

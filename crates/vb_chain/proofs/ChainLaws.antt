@@ -60,8 +60,7 @@ any_at p (x ∷ xs) h = first (p x) refl (any_at p xs) where
       → (list_any p xs ≡ true → (k : ℕ) × (k < length xs) × (p (slice_index xs k) ≡ true))
       → (k : ℕ) × (k < length (x ∷ xs)) × (p (slice_index (x ∷ xs) k) ≡ true)
   first true e more = (0, omega arith, e)
-  first false e more =
-      let rest : list_any p xs ≡ true = ap (λ b. b || list_any p xs) (sym e) ∙ h in
+  first false e more = let rest : list_any p xs ≡ true = ap (λ b. b || list_any p xs) (sym e) ∙ h in
       let found = more rest in (suc found.0, omega (arith, found.1), found.2)
 
 -- what was written along a route is a chain of these pieces
@@ -90,9 +89,8 @@ written_chain d q end path pieces route pair short sound put =
         short = short;
         sound = λ k h. no_fault q end (list_any (λ i. is_writable (d i)) (take k path)) k
             (d (slice_index path k)) (ap (λ y. flag y 4) (put k h)
-            ∙ flags_indirect (nat_lt (k + 1) (length path))
-            (slice_index_or pieces k empty).writable (slice_index_or pieces k empty)
-            (slice_index path (k + 1))) (omega (
+            ∙ flags_indirect (nat_lt (k + 1) (length path)) (slice_index_or pieces k empty).writable
+            (slice_index_or pieces k empty) (slice_index path (k + 1))) (omega (
               arith,
               sound.fit k (omega arith),
               ap (λ y. y.addr) (put k h),

@@ -9,9 +9,8 @@ use Rattle.vb_chain.{specs.declared.descriptor.Descriptor.Descriptor, proofs.Tab
 use Rattle.vb_chain.specs.Table.{descriptor_at, bytes_of, FitsBytes}
 
 -- bytes from a place on are the number that they are in memory
-little_field : (n : ℕ) (mem : Pages) (p o i : ℕ) (bytes : List ℕ)
-    → ((k : ℕ) → k < n → slice_index bytes (i + k) ≡ byte_at mem p (o + k))
-    → little_from i n bytes ≡ field n mem p o
+little_field : (n : ℕ) (mem : Pages) (p o i : ℕ) (bytes : List ℕ) → ((k : ℕ) → k < n
+    → slice_index bytes (i + k) ≡ byte_at mem p (o + k)) → little_from i n bytes ≡ field n mem p o
 unfolding field
 little_field zero mem p o i bytes read = refl
 little_field (suc n) mem p o i bytes read =

@@ -61,17 +61,16 @@ two_is_a_chain = record {
     ends = last;
   };
   pieces_are = refl;
-}
-  where
-    no_fault : (k : ℕ) → k < 2 → fault_at table 8 4096 (0 ∷ 2 ∷ []) k ≡ None
-    no_fault zero lt = refl
-    no_fault (suc zero) lt = refl
-    no_fault (suc (suc k)) lt = absurd (omega (arith, lt))
+} where
+  no_fault : (k : ℕ) → k < 2 → fault_at table 8 4096 (0 ∷ 2 ∷ []) k ≡ None
+  no_fault zero lt = refl
+  no_fault (suc zero) lt = refl
+  no_fault (suc (suc k)) lt = absurd (omega (arith, lt))
 
-    last : (k : ℕ) → k + 1 ≡ 2 → has_next (table (slice_index (0 ∷ 2 ∷ []) k)) ≡ false
-    last zero e = absurd (omega (arith, e))
-    last (suc zero) e = refl
-    last (suc (suc k)) e = absurd (omega (arith, e))
+  last : (k : ℕ) → k + 1 ≡ 2 → has_next (table (slice_index (0 ∷ 2 ∷ []) k)) ≡ false
+  last zero e = absurd (omega (arith, e))
+  last (suc zero) e = refl
+  last (suc (suc k)) e = absurd (omega (arith, e))
 
 -- it doesn't end at its first descriptor, goes on to no other than its next, and begins at no other
 one_is_no_chain : IsChain table 8 4096 0 (0 ∷ []) → ⊥
@@ -98,11 +97,10 @@ outside_of_two = record {
   };
   sound = λ k lt. absurd (omega (arith, lt));
   breaks = at_last;
-}
-  where
-    at_last : (k : ℕ) → k + 1 ≡ 1 → fault_at table 2 4096 (0 ∷ []) k ≡ Some BadNext
-    at_last zero e = refl
-    at_last (suc k) e = absurd (omega (arith, e))
+} where
+  at_last : (k : ℕ) → k + 1 ≡ 1 → fault_at table 2 4096 (0 ∷ []) k ≡ Some BadNext
+  at_last zero e = refl
+  at_last (suc k) e = absurd (omega (arith, e))
 
 past_memory : BreaksAt table 8 131 0 (0 ∷ 2 ∷ []) OutOfRam
 past_memory =

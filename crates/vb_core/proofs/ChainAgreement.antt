@@ -17,9 +17,8 @@ agree_back q d e same i lt = sym (same i lt)
 
 -- ---- lists
 
-any_same : (f g : ℕ → Bool) (xs : List ℕ) →
-    ((j : ℕ) → j < length xs → f (get_or xs j 0) ≡ g (get_or xs j 0)) →
-    list_any f xs ≡ list_any g xs
+any_same : (f g : ℕ → Bool) (xs : List ℕ) → ((j : ℕ)
+    → j < length xs → f (get_or xs j 0) ≡ g (get_or xs j 0)) → list_any f xs ≡ list_any g xs
 any_same f g [] same = refl
 any_same f g (x ∷ xs) same = ap (λ (b : Bool). b || list_any f xs) (same 0 (omega arith))
     ∙ ap (λ (b : Bool). g x || b) (any_same f g xs (λ j lt. same (suc j) (omega arith)))
@@ -63,9 +62,8 @@ same_fault : (d e : ℕ → Descriptor) (q end : ℕ) (path : List ℕ) →
     (k : ℕ) → k < length path → fault_at d q end path k ≡ fault_at e q end path k
 same_fault d e q end path same k lt = grind (arith, any_same, length-take, get_or-take)
 
-same_path : (d e : ℕ → Descriptor) (head : ℕ) (path : List ℕ) →
-    ((k : ℕ) → k < length path → d (get_or path k 0) ≡ e (get_or path k 0)) →
-    IsPath d head path → IsPath e head path
+same_path : (d e : ℕ → Descriptor) (head : ℕ) (path : List ℕ) → ((k : ℕ) → k < length path
+    → d (get_or path k 0) ≡ e (get_or path k 0)) → IsPath d head path → IsPath e head path
 same_path d e head path same is = grind arith
 
 pub same_chain : (d e : ℕ → Descriptor) (q end h : ℕ) (pieces : List Piece) → Agree q d e →

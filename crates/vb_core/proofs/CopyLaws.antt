@@ -23,9 +23,8 @@ avail_byte count avail table o two lt = copied_byte count 1 1 o
     (padded table ∷ padded avail ∷ []) (omega arith) refl ∙ padded_at avail o lt
 
 -- equal bytes make equal fields, wherever they stand
-same_field : (n : ℕ) (m1 m2 : Pages) (p1 p2 o1 o2 : ℕ) →
-    ((k : ℕ) → k < n → byte_at m1 p1 (o1 + k) ≡ byte_at m2 p2 (o2 + k)) →
-    field n m1 p1 o1 ≡ field n m2 p2 o2
+same_field : (n : ℕ) (m1 m2 : Pages) (p1 p2 o1 o2 : ℕ) → ((k : ℕ)
+    → k < n → byte_at m1 p1 (o1 + k) ≡ byte_at m2 p2 (o2 + k)) → field n m1 p1 o1 ≡ field n m2 p2 o2
 unfolding field
 same_field zero m1 m2 p1 p2 o1 o2 same = refl
 same_field (suc n) m1 m2 p1 p2 o1 o2 same =

@@ -94,9 +94,8 @@ pub count_word : (f : ℕ → Bool) (x w words : ℕ) → x < 2 ^ 64 → w < wor
     → count_by f (range_with_len 0 (64 * words)) ≡ count_ones x
 count_word f x w words fits within e none = let rest : ℕ = 64 * words - (64 * w + 64) in
     let sum : 64 * words ≡ 64 * w + (64 + rest) = omega arith in
-    let whole : count_by f (range_with_len 0 (64 * words))
-    ≡ count_by f (range_with_len 0 (64 * w + (64 + rest))) =
-    ap (λ (k : ℕ). count_by f (range_with_len 0 k)) sum in
+    let whole : count_by f (range_with_len 0 (64 * words)) ≡ count_by f (range_with_len 0
+    (64 * w + (64 + rest))) = ap (λ (k : ℕ). count_by f (range_with_len 0 k)) sum in
     let before : count_by f (range_with_len 0 (64 * w)) ≡ 0 =
     count_none f 0 (64 * w) (λ p from below. none p (λ q. omega (arith, q, below))) in
     let start : 0 + 64 * w ≡ 64 * w = omega arith in
@@ -115,9 +114,8 @@ count_word f x w words fits within e none = let rest : ℕ = 64 * words - (64 * 
     )
 
 -- the words before one, and that one
-pub count_more : (f : ℕ → Bool) (x w : ℕ) → x < 2 ^ 64
-    → ((i : ℕ) → i < 64 → f (64 * w + i) ≡ has_bit x i)
-    → count_by f (range_with_len 0 (64 * (w + 1)))
+pub count_more : (f : ℕ → Bool) (x w : ℕ) → x < 2 ^ 64 → ((i : ℕ)
+    → i < 64 → f (64 * w + i) ≡ has_bit x i) → count_by f (range_with_len 0 (64 * (w + 1)))
     ≡ count_by f (range_with_len 0 (64 * w)) + count_ones x
 count_more f x w fits e =
     grind (arith, count_bits f x (64 * w) 64 fits e, count_split f 0 (64 * w) 64)

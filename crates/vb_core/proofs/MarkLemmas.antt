@@ -118,17 +118,16 @@ put_word a w mask word inside l small fits bits = record {
       ∙ sym (xor_bit (get_or a w 0) word i)) (λ p ne.
       ap (λ (x : Bool). differ (is_ballooned a p) x) (in_other p ne)
       ∙ differ_self (is_ballooned a p)));
-}
-  where
-    in_same : (p : ℕ) → p / 64 ≡ w → is_ballooned (set a w word) p ≡ has_bit word (p % 64)
-    in_same p e = ap (λ (k : ℕ). has_bit (get_or (set a w word) k 0) (p % 64)) e
-        ∙ ap (λ (x : ℕ). has_bit x (p % 64)) (get_or-set_same a w word 0 l)
+} where
+  in_same : (p : ℕ) → p / 64 ≡ w → is_ballooned (set a w word) p ≡ has_bit word (p % 64)
+  in_same p e = ap (λ (k : ℕ). has_bit (get_or (set a w word) k 0) (p % 64)) e
+      ∙ ap (λ (x : ℕ). has_bit x (p % 64)) (get_or-set_same a w word 0 l)
 
-    was : (p : ℕ) → p / 64 ≡ w → is_ballooned a p ≡ has_bit (get_or a w 0) (p % 64)
-    was p e = ap (λ (k : ℕ). has_bit (get_or a k 0) (p % 64)) e
+  was : (p : ℕ) → p / 64 ≡ w → is_ballooned a p ≡ has_bit (get_or a w 0) (p % 64)
+  was p e = ap (λ (k : ℕ). has_bit (get_or a k 0) (p % 64)) e
 
-    in_other : (p : ℕ) → p / 64 ≢ w → is_ballooned (set a w word) p ≡ is_ballooned a p
-    in_other p ne = ap (λ (x : ℕ). has_bit x (p % 64)) (get_or-set_other a w (p / 64) word 0 ne)
+  in_other : (p : ℕ) → p / 64 ≢ w → is_ballooned (set a w word) p ≡ is_ballooned a p
+  in_other p ne = ap (λ (x : ℕ). has_bit x (p % 64)) (get_or-set_other a w (p / 64) word 0 ne)
 
 -- ---- the pages of runs
 
@@ -262,14 +261,12 @@ put_no_run runs inside a = search (arith, put_none)
 
 pub put_next_run : (runs : List Run) (k : ℕ) (d : Run) (inside : Bool) (a b c : List ℕ) (m n : ℕ)
     → k < length runs → PutsFirst runs k inside a b m
-    → Puts (λ p. is_in p (pages_of_run (get_or runs k d))) inside b c n
-    → ((p : ℕ) → 8589934592 ≤ p → is_in p (pages_of_run (get_or runs k d)) ≡ false)
-    → PutsFirst runs (k + 1) inside a c (m + n)
+    → Puts (λ p. is_in p (pages_of_run (get_or runs k d))) inside b c n → ((p : ℕ) → 8589934592 ≤ p
+    → is_in p (pages_of_run (get_or runs k d)) ≡ false) → PutsFirst runs (k + 1) inside a c (m + n)
 put_next_run runs k d inside a b c m n l first next small = record {
-  put = put_both (λ p. is_in p (pages_of_runs (take k runs)))
-      (λ p. is_in p (pages_of_run (get_or runs k d)))
-      (λ p. is_in p (pages_of_runs (take (k + 1) runs))) inside a b c m n first.put next
-      (λ p. one_run_more runs k p d l);
+  put = put_both (λ p. is_in p (pages_of_runs (take k runs))) (λ p. is_in p
+      (pages_of_run (get_or runs k d))) (λ p. is_in p (pages_of_runs (take (k + 1) runs)))
+      inside a b c m n first.put next (λ p. one_run_more runs k p d l);
   small = λ p from. one_run_more runs k p d l ∙ or_from (is_in p (pages_of_runs (take k runs)))
       (is_in p (pages_of_run (get_or runs k d))) (first.small p from) (small p from);
 }

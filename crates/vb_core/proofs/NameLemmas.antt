@@ -1,9 +1,8 @@
 -- The numbers of a request, one after the other.
 use Rattle.std.proofs.Common.{◌≡◌, ℕ, ◌+◌, ◌-◌, ◌<◌, ◌≤◌, Bool, true, false, List, [], ◌∷◌, ◌++◌}
 use Rattle.std.proofs.Common.{Some, None, Ok, Err, length, get_or, take, arith, length-append}
-use Rattle.std.specs.Prelude.{is_none, ◌%◌, ◌^◌}
-use Rattle.std.proofs.lemmas.{List.{append-nil, take_more}, Bool.Decides.nat_tests}
-use Rattle.std.proofs.lemmas.List.Elements.{filter-append}
+use Rattle.std.{specs.Prelude.{is_none, ◌%◌, ◌^◌}, proofs.lemmas.List.{append-nil, take_more}}
+use Rattle.std.proofs.lemmas.{Bool.Decides.nat_tests, List.Elements.filter-append}
 use Rattle.vb_chain.specs.declared.fault.ChainFault.{ChainFault}
 use Rattle.vb_request.specs.Request.{number_fault, first_number_fault}
 use Rattle.vb_request.proofs.Once.{fault_here, sound_more}
@@ -13,10 +12,8 @@ use Rattle.vb_core.specs.Name.{right_numbers, NamesRuns}
 -- a number that is less than so many behind the reserved ones
 pub within : (reserved count n : ℕ) → reserved < 2 ^ 32 → n < 2 ^ 32 → count < 2 ^ 32 →
     (n + (2 ^ 32 - reserved)) % 2 ^ 32 < count - reserved → number_fault reserved count n ≡ None
-within reserved count n r m c lt =
-    let lower : reserved ≤ n = omega (arith, r, m, c, lt) in
-    let upper : n < count = omega (arith, r, m, c, lt) in
-    grind (arith, nat_tests)
+within reserved count n r m c lt = let lower : reserved ≤ n = omega (arith, r, m, c, lt) in
+    let upper : n < count = omega (arith, r, m, c, lt) in grind (arith, nat_tests)
 
 -- What stands in the runs after the first k numbers.
 pub record Named_so_far (skipping : Bool) (reserved count : ℕ) (ns : List ℕ) (k : ℕ)
@@ -47,12 +44,11 @@ wrong_number reserved count ns i n f lt at e = grind (arith, right_more, append-
 
 -- one more number was taken in
 pub more_named : (skipping : Bool) (reserved count : ℕ) (ns : List ℕ) (k n : ℕ)
-    (runs new : List Run) (used now skipped : ℕ) → k < length ns → get_or ns k 0 ≡ n →
-    number_fault reserved count n ≡ None → now ≤ used + 1 →
-    ((ms : List ℕ) → length ms < 4294967295 → Tell (take used runs) ms →
-    Tell (take now new) (ms ++ n ∷ [])) → k < 4294967295 →
-    Named_so_far skipping reserved count (take k ns) k runs used skipped →
-    Named_so_far skipping reserved count (take (k + 1) ns) (k + 1) new now skipped
+    (runs new : List Run) (used now skipped : ℕ) → k < length ns
+    → get_or ns k 0 ≡ n → number_fault reserved count n ≡ None → now ≤ used + 1 → ((ms : List ℕ)
+    → length ms < 4294967295 → Tell (take used runs) ms → Tell (take now new) (ms ++ n ∷ []))
+    → k < 4294967295 → Named_so_far skipping reserved count (take k ns) k runs used skipped
+    → Named_so_far skipping reserved count (take (k + 1) ns) (k + 1) new now skipped
 more_named skipping reserved count ns k n runs new used now skipped lt at e one added short so_far =
     grind (arith, right_number, length-append, sound_more)
 

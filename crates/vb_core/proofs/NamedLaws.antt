@@ -71,11 +71,10 @@ pub named_members : (mem : Pages) (pieces : List Piece) (reserved total : ℕ) (
 named_members mem pieces reserved total runs result pages e names is =
     let ns : List ℕ = numbers_of (bytes_of mem pieces) in
     let found = named_right mem pieces reserved total runs result pages e names is in
-    weaker result (λ named. Tell (take named.runs runs) ns)
-    (λ named. (p : ℕ) → is_in p (pages_of_runs (take named.runs runs)) ≡ is_in p pages)
-    (λ named are p. in_both p (pages_of_runs (take named.runs runs)) ns
-    (is_in p (pages_of_runs (take named.runs runs))) (is_in p ns) refl refl
-    (tell_times (take named.runs runs) ns are p)
+    weaker result (λ named. Tell (take named.runs runs) ns) (λ named. (p : ℕ)
+    → is_in p (pages_of_runs (take named.runs runs)) ≡ is_in p pages) (λ named are p. in_both p
+    (pages_of_runs (take named.runs runs)) ns (is_in p (pages_of_runs (take named.runs runs)))
+    (is_in p ns) refl refl (tell_times (take named.runs runs) ns are p)
     ∙ (sym (is_in-each_once p ns) ∙ ap (is_in p) found.0)) found.1
 
 pub named_once : (mem : Pages) (pieces : List Piece) (reserved total : ℕ) (runs : List Run)

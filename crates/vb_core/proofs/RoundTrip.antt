@@ -93,9 +93,8 @@ pub row_again : (bytes : List ℕ) → AreBytes bytes → 183 ≤ length bytes �
     → u32_at bytes VERSION_AT ≡ FORMAT_VERSION → u32_at bytes LENGTH_AT ≡ SAVED_LENGTH
     → bytes ≡ in_a_row (saved_parts (saved_in bytes)) (drop CHECKSUM_AT bytes)
 row_again bytes all l m v c = then _ _ _ _ (u64_again bytes 0 8 all refl (omega arith)
-    ∙ ap (λ (n : ℕ). u64_bytes n ++ drop 8 bytes) m)
-    (then _ _ _ _ (u32_again bytes 8 12 all refl (omega arith)
-    ∙ ap (λ (n : ℕ). u32_bytes n ++ drop 12 bytes) v)
+    ∙ ap (λ (n : ℕ). u64_bytes n ++ drop 8 bytes) m) (then _ _ _ _
+    (u32_again bytes 8 12 all refl (omega arith) ∙ ap (λ (n : ℕ). u32_bytes n ++ drop 12 bytes) v)
     (then _ _ _ _ (u32_again bytes 12 16 all refl (omega arith)
     ∙ ap (λ (n : ℕ). u32_bytes n ++ drop 16 bytes) c)
     (row (settings_parts (settings_at bytes 16)) _ _ _ (settings_again bytes 16 all (omega arith))

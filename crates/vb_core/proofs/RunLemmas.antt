@@ -82,8 +82,7 @@ grown_more old mid new (m ∷ ns) n g e = (g.0, (g.1.0, grown_more g.0 mid new n
 -- a part has the pages of its run, in some order
 part_pages : (run : Run) (ns part rest : List ℕ) (p : ℕ) → IsPart run ns part rest →
     times p part ≡ times p (pages_of_run run)
-part_pages run ns part rest p is =
-    let n : ℕ = is.grows.0 in
+part_pages run ns part rest p is = let n : ℕ = is.grows.0 in
     let more : List ℕ = is.grows.1.0 in
     let all : times p part ≡ times p (n ∷ more) = ap (times p) is.grows.1.1.0 in
     omega (
@@ -107,8 +106,7 @@ part_some run ns part rest is =
 pub tell_times : (runs : List Run) (ns : List ℕ) → Tell runs ns → (p : ℕ) →
     times p (pages_of_runs runs) ≡ times p ns
 tell_times [] ns t p = ap (times p) (sym t)
-tell_times (run ∷ runs) ns t p =
-    let part : List ℕ = t.0 in
+tell_times (run ∷ runs) ns t p = let part : List ℕ = t.0 in
     let rest : List ℕ = t.1.0 in
     let is : IsPart run ns part rest = t.1.1.0 in
     let more : times p (pages_of_runs runs) ≡ times p rest = tell_times runs rest t.1.1.1.1 p in
@@ -131,19 +129,16 @@ part_length run ns part rest is =
 -- runs tell some numbers, as many as the last of them has at least
 some_told : (first : List Run) (last : Run) (ns : List ℕ) → Tell (first ++ last ∷ []) ns →
     0 < length ns
-some_told [] last ns t =
-    let is : IsPart last ns t.0 t.1.0 = t.1.1.0 in
+some_told [] last ns t = let is : IsPart last ns t.0 t.1.0 = t.1.1.0 in
     omega (arith, part_length last ns t.0 t.1.0 is, part_some last ns t.0 t.1.0 is)
-some_told (run ∷ first) last ns t =
-    let is : IsPart run ns t.0 t.1.0 = t.1.1.0 in
+some_told (run ∷ first) last ns t = let is : IsPart run ns t.0 t.1.0 = t.1.1.0 in
     omega (arith, part_length run ns t.0 t.1.0 is, part_some run ns t.0 t.1.0 is)
 
 last_few : (first : List Run) (last : Run) (ns : List ℕ) → Tell (first ++ last ∷ []) ns →
     last.count ≤ length ns
 last_few [] last ns t =
     let is : IsPart last ns t.0 t.1.0 = t.1.1.0 in omega (arith, part_length last ns t.0 t.1.0 is)
-last_few (run ∷ first) last ns t =
-    let is : IsPart run ns t.0 t.1.0 = t.1.1.0 in
+last_few (run ∷ first) last ns t = let is : IsPart run ns t.0 t.1.0 = t.1.1.0 in
     let more : last.count ≤ length t.1.0 = last_few first last t.1.0 t.1.1.1.1 in
     omega (arith, part_length run ns t.0 t.1.0 is, more)
 
@@ -159,8 +154,7 @@ part_more run ns part rest n is = grind (arith, append_assoc)
 -- the last run takes one more number in
 tell_last : (first : List Run) (old new : Run) (ns : List ℕ) (n : ℕ) → joined old n ≡ Some new
     → Tell (first ++ old ∷ []) ns → Tell (first ++ new ∷ []) (ns ++ n ∷ [])
-tell_last [] old new ns n more t =
-    let part : List ℕ = t.0 in
+tell_last [] old new ns n more t = let part : List ℕ = t.0 in
     let rest : List ℕ = t.1.0 in
     let is : IsPart old ns part rest = t.1.1.0 in
     let none : rest ≡ [] = t.1.1.1.1 in
@@ -180,8 +174,7 @@ tell_last [] old new ns n more t =
         ),
       );
     } in (part ++ n ∷ [], ([], (last, (tt, refl))))
-tell_last (run ∷ first) old new ns n more t =
-    let part : List ℕ = t.0 in
+tell_last (run ∷ first) old new ns n more t = let part : List ℕ = t.0 in
     let rest : List ℕ = t.1.0 in
     let is : IsPart run ns part rest = t.1.1.0 in
     let behind : Tell (first ++ old ∷ []) rest = t.1.1.1.1 in
@@ -203,8 +196,7 @@ alone_tells n =
 -- one more run, of one number that doesn't join the last one
 tell_new : (first : List Run) (last : Run) (ns : List ℕ) (n : ℕ) → IsApartFrom last n
     → Tell (first ++ last ∷ []) ns → Tell ((first ++ last ∷ []) ++ one_page n ∷ []) (ns ++ n ∷ [])
-tell_new [] last ns n away t =
-    let part : List ℕ = t.0 in
+tell_new [] last ns n away t = let part : List ℕ = t.0 in
     let rest : List ℕ = t.1.0 in
     let is : IsPart last ns part rest = t.1.1.0 in
     let none : rest ≡ [] = t.1.1.1.1 in
@@ -213,8 +205,7 @@ tell_new [] last ns n away t =
           (is.whole ∙ (ap (λ (xs : List ℕ). part ++ xs) none ∙ append-nil part));
       grows = is.grows;
     } in (part, (n ∷ [], (here, (away, alone_tells n))))
-tell_new (run ∷ first) last ns n away t =
-    let part : List ℕ = t.0 in
+tell_new (run ∷ first) last ns n away t = let part : List ℕ = t.0 in
     let rest : List ℕ = t.1.0 in
     let is : IsPart run ns part rest = t.1.1.0 in
     let behind : Tell (first ++ last ∷ []) rest = t.1.1.1.1 in
@@ -244,8 +235,7 @@ last_joined page used runs d new some few joined ns t =
 last_apart : (page used : ℕ) (runs : List Run) (d : Run) → 0 < used → used ≤ length runs →
     IsApartFrom (get_or runs (used - 1) d) page → (ns : List ℕ) → Tell (take used runs) ns →
     Tell (take used runs ++ one_page page ∷ []) (ns ++ page ∷ [])
-last_apart page used runs d some few apart ns t =
-    let is = first_are used runs d some few in
+last_apart page used runs d some few apart ns t = let is = first_are used runs d some few in
     subst (λ (rs : List Run). Tell (rs ++ one_page page ∷ []) (ns ++ page ∷ [])) (sym is)
     (tell_new (take (used - 1) runs) (get_or runs (used - 1) d) ns page apart
     (subst (λ (rs : List Run). Tell rs ns) is t))
@@ -314,10 +304,9 @@ page_before : (page n : ℕ) → page < 4294967296 → n < 2 ^ 32 →
 page_before page n fits small =
     (λ e. omega (arith, e, fits, small), λ e. omega (arith, e, fits, small))
 
-pub joins_before : (r : Run) (page number : ℕ) (ends : Ends) → number ≡ page →
-    page < 4294967296 → ends.before ≡ page → AreEndsOf ends r → r.count < 4294967295 →
-    (joined r page ≡ Some (record { first = page; count = (r.count + 1) % 4294967296 }))
-    × AreEndsOf (record {
+pub joins_before : (r : Run) (page number : ℕ) (ends : Ends) → number ≡ page → page < 4294967296
+    → ends.before ≡ page → AreEndsOf ends r → r.count < 4294967295 → (joined r page ≡ Some
+    (record { first = page; count = (r.count + 1) % 4294967296 })) × AreEndsOf (record {
       behind = ends.behind;
       before = (number + 18446744073709551615) % 18446744073709551616;
     }) (record { first = page; count = (r.count + 1) % 4294967296 })

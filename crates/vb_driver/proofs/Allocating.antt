@@ -86,9 +86,8 @@ not_whole s start order small none =
     (list_all-at (is_free_at (flags_of s.free)) (pages_of (block_at start order)) p parts.1
     (covered_in p start order covered))))
 
-no_block : (s : PageState) (order : ℕ) → order ≤ 9
-    → ((start : ℕ) → IsBlock (block_at start order) → IsWhollyFree s (block_at start order) → ⊥)
-    → has_block s order ≡ false
+no_block : (s : PageState) (order : ℕ) → order ≤ 9 → ((start : ℕ) → IsBlock (block_at start order)
+    → IsWhollyFree s (block_at start order) → ⊥) → has_block s order ≡ false
 no_block s order small none = search (arith, list_any_none, not_whole)
 
 -- ---- alloc
@@ -202,21 +201,20 @@ count_step k (x ∷ xs) = omega (
   count_by-cons (λ p. eqb p k) x xs,
   count_by-cons (λ p. nat_le (suc k) p) x xs,
   count_by-cons (λ p. nat_le k p) x xs,
-)
-  where
-    at : ((k < x) ⊎ (x ≤ k)) → ((x < k) ⊎ (k ≤ x))
-        → one_if (eqb x k) + one_if (nat_le (suc k) x) ≡ one_if (nat_le k x)
-    at (inl over) b =
-        let e : one_if (eqb x k) ≡ 0 = ap one_if (ne_eqb x k (λ q. absurd (omega arith))) in
-        let f : one_if (nat_le (suc k) x) ≡ 1 = ap one_if (le-leb (suc k) x (omega arith)) in
-        let g : one_if (nat_le k x) ≡ 1 = ap one_if (le-leb k x (omega arith)) in omega arith
-    at (inr le) (inl under) =
-        let e : one_if (eqb x k) ≡ 0 = ap one_if (ne_eqb x k (λ q. absurd (omega arith))) in
-        let f : one_if (nat_le (suc k) x) ≡ 0 = ap one_if (lt-leb (suc k) x (omega arith)) in
-        let g : one_if (nat_le k x) ≡ 0 = ap one_if (lt-leb k x under) in omega arith
-    at (inr le) (inr ge) = let e : one_if (eqb x k) ≡ 1 = ap one_if (eq-eqb x k (omega arith)) in
-        let f : one_if (nat_le (suc k) x) ≡ 0 = ap one_if (lt-leb (suc k) x (omega arith)) in
-        let g : one_if (nat_le k x) ≡ 1 = ap one_if (le-leb k x ge) in omega arith
+) where
+  at : ((k < x) ⊎ (x ≤ k)) → ((x < k) ⊎ (k ≤ x))
+      → one_if (eqb x k) + one_if (nat_le (suc k) x) ≡ one_if (nat_le k x)
+  at (inl over) b =
+      let e : one_if (eqb x k) ≡ 0 = ap one_if (ne_eqb x k (λ q. absurd (omega arith))) in
+      let f : one_if (nat_le (suc k) x) ≡ 1 = ap one_if (le-leb (suc k) x (omega arith)) in
+      let g : one_if (nat_le k x) ≡ 1 = ap one_if (le-leb k x (omega arith)) in omega arith
+  at (inr le) (inl under) =
+      let e : one_if (eqb x k) ≡ 0 = ap one_if (ne_eqb x k (λ q. absurd (omega arith))) in
+      let f : one_if (nat_le (suc k) x) ≡ 0 = ap one_if (lt-leb (suc k) x (omega arith)) in
+      let g : one_if (nat_le k x) ≡ 0 = ap one_if (lt-leb k x under) in omega arith
+  at (inr le) (inr ge) = let e : one_if (eqb x k) ≡ 1 = ap one_if (eq-eqb x k (omega arith)) in
+      let f : one_if (nat_le (suc k) x) ≡ 0 = ap one_if (lt-leb (suc k) x (omega arith)) in
+      let g : one_if (nat_le k x) ≡ 1 = ap one_if (le-leb k x ge) in omega arith
 
 flags_sum : (k : ℕ) (set : List Bool) (xs : List ℕ) (test : ℕ → Bool) → ((i : ℕ) → i < length set
     → one_if (test (k + i)) ≤ one_if (get_or set i false) + times (k + i) xs)
@@ -289,9 +287,8 @@ pub given_state : (s new : PageState) (page : ℕ) → new ≡ with_free_block (
     → page < length (flags_of s.free) → Becomes s new (set (flags_of s.free) page true) s.held
 given_state s new page is gained there = let b = block_at page 0 in record {
   free = flags_moved s new (pages_of b) true
-      (ap page_count is ∙ length-with_pages (pages_of b) s.free.areas)
-      (λ p. gained p ∙ gained_by p b (is_free_page s p))
-      ∙ marked_one page true (flags_of s.free) there;
+      (ap page_count is ∙ length-with_pages (pages_of b) s.free.areas) (λ p. gained p
+      ∙ gained_by p b (is_free_page s p)) ∙ marked_one page true (flags_of s.free) there;
   held = ap (λ (v : PageState). v.held) is;
   same = record { processors = ap cpu_count is; reserved = ap reserved_count is };
 }

@@ -75,17 +75,16 @@ outside_both m1 m2 m3 p lo hi es first then = record {
   backing = λ q. then.backing q ∙ first.backing q;
   sizes = λ q. then.sizes q ∙ first.sizes q;
   count = then.count ∙ first.count;
-}
-  where
-    before : (q o : ℕ) → (IsIn (record { page = p; from = lo; to = hi }) q o → ⊥)
-        → byte_at m2 q o ≡ byte_at m1 q o
-    before q o out = elim (cases_eq q p) [
-      | inr ne ↦ (same_page m1 m2 q o (o + 1) (first.others q ne)).bytes o (omega arith) (omega arith)
-      | inl is ↦ subst (λ (k : ℕ). byte_at m2 k o ≡ byte_at m1 k o) (sym is) (elim (cases_lt o lo) [
-        | inl low ↦ first.below o low
-        | inr from ↦ elim (cases_lt o hi) [
-          | inr past ↦ first.above o past
-          | inl to ↦ absurd (out (record { page = is; from = from; to = to }))
-        ]
-      ])
-    ]
+} where
+  before : (q o : ℕ) → (IsIn (record { page = p; from = lo; to = hi }) q o → ⊥)
+      → byte_at m2 q o ≡ byte_at m1 q o
+  before q o out = elim (cases_eq q p) [
+    | inr ne ↦ (same_page m1 m2 q o (o + 1) (first.others q ne)).bytes o (omega arith) (omega arith)
+    | inl is ↦ subst (λ (k : ℕ). byte_at m2 k o ≡ byte_at m1 k o) (sym is) (elim (cases_lt o lo) [
+      | inl low ↦ first.below o low
+      | inr from ↦ elim (cases_lt o hi) [
+        | inr past ↦ first.above o past
+        | inl to ↦ absurd (out (record { page = is; from = from; to = to }))
+      ]
+    ])
+  ]

@@ -104,15 +104,14 @@ reserved_table counts lent stranded places pages counted lents strandeds is most
         ∙ (none_of is_stranded Reserved pages refl ∙ ap (map is_stranded) (sym is));
   };
   small = omega (arith, ap (λ (l : List Place). length l) is, length-replicate pages Reserved);
-}
-  where
-    at : (place : Place) → get_or (pages ∷ 0 ∷ 0 ∷ 0 ∷ 0 ∷ 0 ∷ 0 ∷ 0 ∷ []) (number_of place) 0
-        ≡ cond (is_at place Reserved) pages 0
-    at Reserved = refl
-    at Free = refl
-    at Used = refl
-    at Giving = refl
-    at Lent = refl
-    at Taking = refl
-    at Stranded = refl
-    at Reporting = refl
+} where
+  at : (place : Place) → get_or (pages ∷ 0 ∷ 0 ∷ 0 ∷ 0 ∷ 0 ∷ 0 ∷ 0 ∷ []) (number_of place) 0
+      ≡ cond (is_at place Reserved) pages 0
+  at Reserved = refl
+  at Free = refl
+  at Used = refl
+  at Giving = refl
+  at Lent = refl
+  at Taking = refl
+  at Stranded = refl
+  at Reporting = refl

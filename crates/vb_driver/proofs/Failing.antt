@@ -30,9 +30,8 @@ accepted s f lt = at (status_refusal s f (bit_or s 128))
 
 pub after_failing : (s f : ℕ) (part : Part) → part.status ≡ s → s < 256
     → after_status (bit_or s 128) part ≡ record part { status = bit_or s 128 }
-after_failing s f part is lt =
-    at (is_none (status_refusal s f (bit_or s 128))) (eqb (bit_or s 128) 0)
-    (adds s (bit_or s 128) driver_ok) (adds part.status (bit_or s 128) driver_ok)
+after_failing s f part is lt = at (is_none (status_refusal s f (bit_or s 128))) (eqb
+    (bit_or s 128) 0) (adds s (bit_or s 128) driver_ok) (adds part.status (bit_or s 128) driver_ok)
     (passed s f lt) (ap (λ n. adds n (bit_or s 128) driver_ok) is)
   where
     at : (o z a b : Bool) → (o && (not z && not a)) ≡ true → b ≡ a → cond z (part_after_reset part)

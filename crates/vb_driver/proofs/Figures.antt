@@ -22,9 +22,8 @@ free_written : (old new : Pages) (free total : ℕ) → free < 2 ^ 64
 free_written old new free total lt w = record {
   tagged = field_2 new 12 0 (figure_bytes free total)
       (λ k h. placed old new 12 0 (figure_bytes free total) k w (omega (arith, h)));
-  valued = field_8 new 12 2 (drop 2 (figure_bytes free total))
-      (λ k h. placed old new 12 2 (figure_bytes free total) k w (omega (arith, h)))
-      ∙ from_le_bytes-to_le_bytes_8 free lt;
+  valued = field_8 new 12 2 (drop 2 (figure_bytes free total)) (λ k h. placed old new 12 2
+      (figure_bytes free total) k w (omega (arith, h))) ∙ from_le_bytes-to_le_bytes_8 free lt;
 }
 
 total_written : (old new : Pages) (free total : ℕ) → total < 2 ^ 64
@@ -32,9 +31,8 @@ total_written : (old new : Pages) (free total : ℕ) → total < 2 ^ 64
 total_written old new free total lt w = record {
   tagged = field_2 new 12 10 (drop 10 (figure_bytes free total))
       (λ k h. placed old new 12 10 (figure_bytes free total) k w (omega (arith, h)));
-  valued = field_8 new 12 12 (drop 12 (figure_bytes free total))
-      (λ k h. placed old new 12 12 (figure_bytes free total) k w (omega (arith, h)))
-      ∙ from_le_bytes-to_le_bytes_8 total lt;
+  valued = field_8 new 12 12 (drop 12 (figure_bytes free total)) (λ k h. placed old new 12 12
+      (figure_bytes free total) k w (omega (arith, h))) ∙ from_le_bytes-to_le_bytes_8 total lt;
 }
 
 pub record Figured (mem : Pages) (free total : ℕ) : Type 0 where

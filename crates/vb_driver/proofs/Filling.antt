@@ -49,9 +49,8 @@ fills_at m1 m2 m3 r r2 n a free total s adds =
         free = statistic_kept m2 m3 0 4 free buffer s.free_is;
         total = statistic_kept m2 m3 10 5 total buffer s.total_is;
       };
-      beyond = same_trans m1 m2 m3 12 20 4096
-          (same_above m1 m2 12 0 20 20 4096 s.wrote (omega arith))
-          (same_page m2 m3 12 20 4096 buffer);
+      beyond = same_trans m1 m2 m3 12 20 4096 (same_above m1 m2 12 0 20 20 4096 s.wrote
+          (omega arith)) (same_page m2 m3 12 20 4096 buffer);
       descriptors = one.descriptors;
       announces = one.announces;
       rest = record {

@@ -46,9 +46,8 @@ free_marked places pages others to flag agree =
     ∙ (agree k (place_of places k) refl ∙ sym (get_or-map is_free moved k Reserved d (omega arith)
     ∙ ap is_free (marked-get pages to places k Reserved inside)))))
 
-pub free_same : (places : List Place) (pages : List ℕ) (to : Place)
-    → ((p : ℕ) (place : Place) → place ≡ place_of places p
-    → is_free place ≡ is_free (cond (is_in p pages) to place))
+pub free_same : (places : List Place) (pages : List ℕ) (to : Place) → ((p : ℕ) (place : Place)
+    → place ≡ place_of places p → is_free place ≡ is_free (cond (is_in p pages) to place))
     → map is_free places ≡ map is_free (placed pages to places)
 free_same places pages to agree =
     sym (marked_none false (map is_free places)) ∙ free_marked places pages [] to false agree
@@ -106,9 +105,8 @@ free_stays {d} {pages} {from} leaves to fails is = leaves.kept.free
   where
     by : (p : ℕ) (place : Place) → place ≡ place_of d.places p → (b : Bool) → is_in p pages ≡ b
         → is_free place ≡ is_free (cond (is_in p pages) to place)
-    by p place e true here = ap is_free e
-        ∙ (not_left from Free (place_of d.places p) fails (leaves.at p here)
-        ∙ sym (ap (λ v. is_free (cond v to place)) here ∙ is))
+    by p place e true here = ap is_free e ∙ (not_left from Free (place_of d.places p) fails
+        (leaves.at p here) ∙ sym (ap (λ v. is_free (cond v to place)) here ∙ is))
     by p place e false here = sym (ap (λ v. is_free (cond v to place)) here)
 
 -- ---- the whole
@@ -141,8 +139,7 @@ pub kept_changed : (d : DriverState) (areas2 : FreePages) (pages : List ℕ) (fr
       deflate = e2;
       report = r2;
     })
-kept_changed d areas2 pages from to held2 i2 e2 r2 m =
-    let kept : IsDriver d = m.leaves.kept in
+kept_changed d areas2 pages from to held2 i2 e2 r2 m = let kept : IsDriver d = m.leaves.kept in
     let there : (p : ℕ) → is_in p pages ≡ true → p < length d.places =
     λ p here. there_by d.places p from m.leaves.high (m.leaves.at p here) in
     let unreserved : (p : ℕ) → is_in p pages ≡ true → is_at Reserved (place_of d.places p) ≡ false =

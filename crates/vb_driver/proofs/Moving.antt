@@ -61,8 +61,7 @@ lent_leave d count kept =
 pub asked_kept : (m1 m2 : Pages) (d : DriverState) (e2 : RequestSide) (base count head : ℕ) → IsDriver d
     → Posts m1 m2 d.deflate e2 base (lowest_lent d count) head
     → IsDriver (record d { places = placed (lowest_lent d count) Taking d.places; deflate = e2 })
-asked_kept m1 m2 d e2 base count head kept posts =
-    let pages = lowest_lent d count in
+asked_kept m1 m2 d e2 base count head kept posts = let pages = lowest_lent d count in
     let leaves = lent_leave d count kept in
     let small : head < length d.deflate.sent =
     omega (arith, posts.small, kept.deflate.requests.buffers) in
@@ -162,17 +161,16 @@ offered_kept m1 m2 d areas2 i2 base count head others kept free once taken same 
     } in
     let small : head < length d.inflate.sent =
     omega (arith, posts.small, kept.inflate.requests.buffers) in
-    let sent : i2.sent ≡ set d.inflate.sent head pages = ap (λ (s : RequestSide). s.sent) posts.state in
-    let once_all : (p : ℕ) → times p pages ≤ 1 =
-    λ p. once_append p first others (once_lowest p count is_stranded d.places) (once p)
-    (stranded_apart d count p others free) in
+    let sent : i2.sent ≡ set d.inflate.sent head pages =
+    ap (λ (s : RequestSide). s.sent) posts.state in
+    let once_all : (p : ℕ) → times p pages ≤ 1 = λ p. once_append p first others
+    (once_lowest p count is_stranded d.places) (once p) (stranded_apart d count p others free) in
     kept_changed d areas2 pages offered Giving d.held i2 d.deflate d.report (record {
       leaves = leaves;
       inflate = posted_queue m1 m2 d.inflate i2 base 0 d.queue_size head pages kept.inflate posts;
       deflate = kept.deflate;
-      giving = λ p. rw sent
-          (naming_more p head pages d.inflate.sent is_giving Giving (place_of d.places p) small
-          (kept.giving p)
+      giving = λ p. rw sent (naming_more p head pages d.inflate.sent is_giving Giving
+          (place_of d.places p) small (kept.giving p)
           (λ here. not_left offered Giving (place_of d.places p) refl (leaves.at p here))
           (once_all p) refl);
       taking = λ told. stays leaves Giving Taking refl (kept.taking told);
@@ -196,13 +194,11 @@ offered_kept m1 m2 d areas2 i2 base count head others kept free once taken same 
         ∙ sym (ap (λ v. is_free (cond v Giving place))
         (in_pages p ∙ (ap (λ v. is_in p (stranded_first d count) || v) e
         ∙ or_true (is_in p (stranded_first d count)))))
-    agree p place is false true e g = ap (λ v. cond v false (is_free place)) e
-        ∙ (ap is_free (is ∙ at_is Stranded (place_of d.places p)
-        (lowest_is d.places count is_stranded p g)) ∙ sym (ap (λ v. is_free (cond v Giving place))
-        (in_pages p ∙ ap (λ v. v || is_in p others) g)))
-    agree p place is false false e g = ap (λ v. cond v false (is_free place)) e
-        ∙ sym (ap (λ v. is_free (cond v Giving place))
-        (in_pages p ∙ (ap (λ v. v || is_in p others) g ∙ e)))
+    agree p place is false true e g = ap (λ v. cond v false (is_free place)) e ∙ (ap is_free
+        (is ∙ at_is Stranded (place_of d.places p) (lowest_is d.places count is_stranded p g)) ∙ sym
+        (ap (λ v. is_free (cond v Giving place)) (in_pages p ∙ ap (λ v. v || is_in p others) g)))
+    agree p place is false false e g = ap (λ v. cond v false (is_free place)) e ∙ sym (ap
+        (λ v. is_free (cond v Giving place)) (in_pages p ∙ (ap (λ v. v || is_in p others) g ∙ e)))
 
 -- ---- used requests are reaped
 

@@ -97,8 +97,7 @@ pub allocated_kept : (d : DriverState) (areas2 : FreePages) (b : Block) → IsDr
       held = with_block b d.held;
       areas = areas2;
     })
-allocated_kept d areas2 b kept whole taken same =
-    let pages = pages_of b in
+allocated_kept d areas2 b kept whole taken same = let pages = pages_of b in
     let leaves : Leaves d pages is_free = record {
       kept = kept;
       at = λ p here. ap is_free (block_free d b p kept whole here);
@@ -158,8 +157,7 @@ pub block_freed_kept : (d : DriverState) (new : PageState) (b : Block) → IsDri
       held = without_block b d.held;
       areas = new.free;
     })
-block_freed_kept d new b kept held given rest same apart =
-    let pages = pages_of b in
+block_freed_kept d new b kept held given rest same apart = let pages = pages_of b in
     let used : (p : ℕ) → is_in p pages ≡ true
     → place_of d.places p ≡ Used = λ p here. block_used d b p kept held here in
     let leaves : Leaves d pages is_used =

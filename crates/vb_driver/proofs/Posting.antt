@@ -82,19 +82,17 @@ posts_at m1 m2 m3 r r2 sent base h a l pages s adds =
       coded = record {
         descriptor = one.put ∙ same_parts _ _ s.addr s.len refl refl;
         names = names_kept m2 m3 (buffer_page base h) (buffer_offset h) pages
-            (buffer_offset h + 1024)
-            (same_page m2 m3 (buffer_page base h) (buffer_offset h) (buffer_offset h + 1024)
-            (kept h small)) (omega (arith, s.few)) s.names;
+            (buffer_offset h + 1024) (same_page m2 m3 (buffer_page base h) (buffer_offset h)
+            (buffer_offset h + 1024) (kept h small)) (omega (arith, s.few)) s.names;
       };
       descriptors = one.descriptors;
       announces = one.announces;
       rest = record {
         others = λ p table avail buffer. one.others p table avail ∙ s.wrote.others p buffer;
         buffers = λ k few ne. same_trans m1 m2 m3 (buffer_page base k) (buffer_offset k)
-            (buffer_offset k + 1024)
-            (buffer_apart m1 m2 base h k (4 * length pages) (omega (arith, s.few)) s.wrote ne)
-            (same_page m2 m3 (buffer_page base k) (buffer_offset k) (buffer_offset k + 1024)
-            (kept k few));
+            (buffer_offset k + 1024) (buffer_apart m1 m2 base h k
+            (4 * length pages) (omega (arith, s.few)) s.wrote ne) (same_page m2 m3
+            (buffer_page base k) (buffer_offset k) (buffer_offset k + 1024) (kept k few));
         backing = λ p. adds.publishes.rest.backing p ∙ s.wrote.backing p;
         count = adds.publishes.rest.count ∙ s.wrote.count;
       };

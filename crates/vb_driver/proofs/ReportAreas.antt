@@ -82,10 +82,9 @@ only_drained s new blocks none is = grind (arith, without_none)
 
 pub have_room : (s : PageState) (blocks : List FreeBlock) → IsApart s
     → All IsAreaBlock (blocks_of blocks)
-    → ((p : ℕ) → is_in p (pages_of_all (blocks_of blocks)) ≡ true → reserved_count s ≤ p)
-    → ((p : ℕ) → is_in p (pages_of_all (blocks_of blocks)) ≡ true → p < length (flags_of s.free))
-    → ((p : ℕ) → is_in p (pages_of_all (blocks_of blocks)) ≡ true
-    → is_free_at (flags_of s.free) p ≡ false)
+    → ((p : ℕ) → is_in p (pages_of_all (blocks_of blocks)) ≡ true → reserved_count s ≤ p) → ((p : ℕ)
+    → is_in p (pages_of_all (blocks_of blocks)) ≡ true → p < length (flags_of s.free)) → ((p : ℕ)
+    → is_in p (pages_of_all (blocks_of blocks)) ≡ true → is_free_at (flags_of s.free) p ≡ false)
     → ((p : ℕ) → is_in p (pages_of_all (blocks_of blocks)) ≡ true → is_in_block p s.held ≡ false)
     → ((p : ℕ) → times p (pages_of_all (blocks_of blocks)) ≤ 1) → HaveRoom s blocks
 have_room s blocks apart good unreserved inside taken uncovered once = record {

@@ -77,8 +77,7 @@ pub returned_kept : (d : DriverState) (areas2 : FreePages) (r2 : ReportSide) →
       areas = areas2;
       report = r2;
     })
-returned_kept d areas2 r2 kept given same queue none =
-    let pages = pages_of_all d.report.blocks in
+returned_kept d areas2 r2 kept given same queue none = let pages = pages_of_all d.report.blocks in
     let leaves : Leaves d pages is_reporting = record {
       kept = kept;
       at = λ p here. ap is_reporting (reported_place d p kept here);

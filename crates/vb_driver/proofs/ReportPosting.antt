@@ -69,10 +69,9 @@ module _ (m1 m2 : Pages) (side : ReportSide) (r2 : DriverEnd) (pieces : List Pie
     coded = record {
       chain = λ k lt.
           let at : slice_index (range_with_len 0 (length blocks)) k ≡ k =
-          get_or-range_with_len 0 (length blocks) k 0 lt ∙ (let q : 0 + k ≡ k = omega arith in q)
-          in subst (λ (n : ℕ). descriptor_at m2 T n
-          ≡ linked (range_with_len 0 (length blocks)) (pieces_of blocks) k) at
-          (subst (λ (p : List ℕ). descriptor_at m2 T (slice_index p k)
+          get_or-range_with_len 0 (length blocks) k 0 lt ∙ (let q : 0 + k ≡ k = omega arith in q) in
+          subst (λ (n : ℕ). descriptor_at m2 T n ≡ linked (range_with_len 0 (length blocks))
+          (pieces_of blocks) k) at (subst (λ (p : List ℕ). descriptor_at m2 T (slice_index p k)
           ≡ linked p (pieces_of blocks) k) path_is
           (added.links.put k (omega (arith, length-map blocks piece_of))));
     };

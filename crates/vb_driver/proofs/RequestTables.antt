@@ -31,9 +31,8 @@ first_is [] h e = cc
 first_is (x ∷ xs) h e = (omega arith, let same : x ≡ h = cc in same)
 
 -- a descriptor is unused, or it is a request's
-unused_or_head : (owner : List (Option ℕ)) (i : ℕ)
-    → ((k : ℕ) → is_unused owner k ≡ false → is_head owner k ≡ true)
-    → (is_unused owner i ≡ true) ⊎ (is_head owner i ≡ true)
+unused_or_head : (owner : List (Option ℕ)) (i : ℕ) → ((k : ℕ) → is_unused owner k ≡ false
+    → is_head owner k ≡ true) → (is_unused owner i ≡ true) ⊎ (is_head owner i ≡ true)
 unused_or_head owner i single = grind arith
 
 -- where all below are requests, so many are out
@@ -42,9 +41,8 @@ pub out_below : (r : DriverEnd) (h : ℕ) → h ≤ r.size → ((i : ℕ) → i 
 out_below r h le all = length_all (is_head r.owner) r.size h le all
 
 -- with fewer requests than descriptors, there is a next head
-pub head_there : (r : DriverEnd)
-    → ((k : ℕ) → is_unused r.owner k ≡ false → is_head r.owner k ≡ true) → outstanding r < r.size
-    → next_head r ≡ None → ⊥
+pub head_there : (r : DriverEnd) → ((k : ℕ) → is_unused r.owner k ≡ false
+    → is_head r.owner k ≡ true) → outstanding r < r.size → next_head r ≡ None → ⊥
 head_there r single few none =
     let empty : length (free_descriptors r) ≡ 0 = some_first (free_descriptors r) none in
     let all : (i : ℕ) → i < r.size
@@ -56,9 +54,8 @@ head_there r single few none =
     let full : r.size ≤ outstanding r = out_below r r.size (omega arith) all in absurd (omega arith)
 
 -- it is one of the table, unused, and at most as many are out
-pub head_low : (r : DriverEnd) (h : ℕ)
-    → ((k : ℕ) → is_unused r.owner k ≡ false → is_head r.owner k ≡ true) → next_head r ≡ Some h
-    → (h < r.size) × (h ≤ outstanding r)
+pub head_low : (r : DriverEnd) (h : ℕ) → ((k : ℕ) → is_unused r.owner k ≡ false
+    → is_head r.owner k ≡ true) → next_head r ≡ Some h → (h < r.size) × (h ≤ outstanding r)
 head_low r h single e = let f = first_is (free_descriptors r) h e in
     let some : 0 < length (free_descriptors r) = f.0 in
     let passes = numbers_pass (is_unused r.owner) r.size 0 some in
@@ -141,7 +138,6 @@ pub room_inside : (r : DriverEnd) (sent : List (List ℕ)) (now : RequestSide)
 room_inside r sent now same room =
     subst (λ (s : RequestSide). outstanding s.ring < min s.ring.size 16) (sym same) room
 
-pub head_small : (r : DriverEnd) (h : ℕ)
-    → ((k : ℕ) → is_unused r.owner k ≡ false → is_head r.owner k ≡ true) → next_head r ≡ Some h
-    → outstanding r < min r.size 16 → h < 16
+pub head_small : (r : DriverEnd) (h : ℕ) → ((k : ℕ) → is_unused r.owner k ≡ false
+    → is_head r.owner k ≡ true) → next_head r ≡ Some h → outstanding r < min r.size 16 → h < 16
 head_small r h single e room = omega (arith, (head_low r h single e).1)

@@ -31,9 +31,8 @@ not_in_range page start len away = grind (arith, is_in-range)
 
 -- the pages of a run, the first of which is where it was found
 pub run_is : (places : List Place) (start next : ℕ) (old : Place) → start < next
-    → next ≤ length places → old ≡ get_or places start old
-    → ((page : ℕ) → start + 1 ≤ page → page < next → place_of places page ≡ old)
-    → AreAt places start (next - start) old
+    → next ≤ length places → old ≡ get_or places start old → ((page : ℕ) → start + 1 ≤ page
+    → page < next → place_of places page ≡ old) → AreAt places start (next - start) old
 run_is places start next old further bound here same = search (arith, get_or_default)
 
 -- one page more of the run

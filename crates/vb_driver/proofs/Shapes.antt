@@ -76,18 +76,17 @@ one_filtered test f k (suc n) p low high passes all = elim (cases_eq p k) [
   | inl same ↦ ap test same ∙ first (f k) (ap f (sym same) ∙ passes) all
   | inr ne ↦ one_filtered test f (k + 1) n p (omega (arith, ne)) (omega arith) passes
       (rest (f k) all)
-]
-  where
-    later : List ℕ
-    later = filter f (range_with_len (k + 1) n)
+] where
+  later : List ℕ
+  later = filter f (range_with_len (k + 1) n)
 
-    first : (b : Bool) → b ≡ true → list_all test (cond b (k ∷ later) later) ≡ true → test k ≡ true
-    first true e h = (and_parts (test k) (list_all test later) h).0
-    first false e h = absurd cc
+  first : (b : Bool) → b ≡ true → list_all test (cond b (k ∷ later) later) ≡ true → test k ≡ true
+  first true e h = (and_parts (test k) (list_all test later) h).0
+  first false e h = absurd cc
 
-    rest : (b : Bool) → list_all test (cond b (k ∷ later) later) ≡ true → list_all test later ≡ true
-    rest true h = (and_parts (test k) (list_all test later) h).1
-    rest false h = h
+  rest : (b : Bool) → list_all test (cond b (k ∷ later) later) ≡ true → list_all test later ≡ true
+  rest true h = (and_parts (test k) (list_all test later) h).1
+  rest false h = h
 
 -- the test finds just the memories whose pages of rings and buffers all have frames
 pub all_frames : (size : ℕ) (mem : Pages) → HaveRingFrames size mem → has_frames size mem ≡ true

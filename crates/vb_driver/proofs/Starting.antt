@@ -29,9 +29,8 @@ AreZeros size mem = (page offset : ℕ) → is_ring_page size page ≡ true → 
     → byte_at mem page offset ≡ 0
 
 -- a fresh queue's ring in pages of zeros
-zero_ring : (mem : Pages) (size q : ℕ) → IsSize size
-    → ((page o : ℕ) → InRing size q page → o < 4096 → byte_at mem page o ≡ 0)
-    → IsNewRing mem (fresh_ring q size)
+zero_ring : (mem : Pages) (size q : ℕ) → IsSize size → ((page o : ℕ)
+    → InRing size q page → o < 4096 → byte_at mem page o ≡ 0) → IsNewRing mem (fresh_ring q size)
 zero_ring mem size q sized zeros = let l = ring_layout size q in
     let parts = parts_in_ring size q sized in record {
       shows = fresh_shows mem l size (fits_at (ring_page size q) size sized)

@@ -36,11 +36,10 @@ pages_more m1 m2 m3 f n passes before zero rest = record {
   backing = λ p. rest.backing p ∙ before.backing p;
   sizes = λ p. rest.sizes p ∙ before.sizes p;
   count = rest.count ∙ before.count;
-}
-  where
-    here : (p : ℕ) → p ≡ n → passed f (n + 1) p ≡ true
-    here p is = ap (λ (b : Bool). b && nat_lt p (n + 1)) (ap f is ∙ passes)
-        ∙ lt-ltb p (n + 1) (omega (arith, is))
+} where
+  here : (p : ℕ) → p ≡ n → passed f (n + 1) p ≡ true
+  here p is = ap (λ (b : Bool). b && nat_lt p (n + 1)) (ap f is ∙ passes)
+      ∙ lt-ltb p (n + 1) (omega (arith, is))
 
 -- once all pages that may pass were visited
 pub pages_all : (m1 m2 : Pages) (f : ℕ → Bool) (n : ℕ) → ((p : ℕ) → f p ≡ true → p < n)

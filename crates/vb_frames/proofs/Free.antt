@@ -37,8 +37,7 @@ count_out (b ∷ free) = omega (
   count_by-cons (λ (f : Bool). f) (not b) (map not free),
   count_by-cons (λ (f : Bool). f) b free,
   one_of b,
-)
-  where
-    one_of : (b : Bool) → one_if (not b) + one_if b ≡ 1
-    one_of true = refl
-    one_of false = refl
+) where
+  one_of : (b : Bool) → one_if (not b) + one_if b ≡ 1
+  one_of true = refl
+  one_of false = refl

@@ -30,9 +30,8 @@ table_gives (Gave f ∷ claims) out h = (
   h.1.within,
   λ e. false≢true (sym h.1.free ∙ e),
   h.0.1,
-  same_gives (length out) (λ x. is_out (set out f true) x ≡ true)
-      (λ x. (is_out out x ≡ true) ⊎ (x ≡ f)) claims
-      (λ x l e. out_after out f x e) (λ x l e. was_out out f x h.1.within e)
+  same_gives (length out) (λ x. is_out (set out f true) x ≡ true) (λ x. (is_out out x ≡ true)
+      ⊎ (x ≡ f)) claims (λ x l e. out_after out f x e) (λ x l e. was_out out f x h.1.within e)
       (subst (λ (n : ℕ). Gives n (λ x. is_out (set out f true) x ≡ true) claims)
       (length-set out f true) (table_gives claims (set out f true) h.2)),
 )

@@ -16,9 +16,8 @@ given_back out n free = unset out n free.within free.free where
   unset (x ∷ xs) (suc n) l e = ap (λ (ys : List Bool). x ∷ ys) (unset xs n (omega arith) e)
 
 -- claims depend only on which of the frames are out
-pub same_gives : (frames : ℕ) (A B : ℕ → Type 0) (claims : List Claim)
-    → ((x : ℕ) → x < frames → A x → B x) → ((x : ℕ) → x < frames → B x → A x)
-    → Gives frames A claims → Gives frames B claims
+pub same_gives : (frames : ℕ) (A B : ℕ → Type 0) (claims : List Claim) → ((x : ℕ) → x < frames → A x
+    → B x) → ((x : ℕ) → x < frames → B x → A x) → Gives frames A claims → Gives frames B claims
 same_gives frames A B [] ab ba h = h
 same_gives frames A B (Gave f ∷ claims) ab ba h = (
   h.0,

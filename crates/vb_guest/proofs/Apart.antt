@@ -52,9 +52,8 @@ line_apart old new q n side part rs same line = record {
   coded = λ k d lt.
       let x = slice_index_or rs.posted k d in
       let is = line.posted k d lt in
-      coded_kept old new q n side.ring.size side.sent x is
-      (descriptor_apart old new (ring_page side.ring.size q) x.head
-      (same.ring (ring_page side.ring.size q) (inl refl)))
+      coded_kept old new q n side.ring.size side.sent x is (descriptor_apart old new
+      (ring_page side.ring.size q) x.head (same.ring (ring_page side.ring.size q) (inl refl)))
       (same.buffers _ (omega arith) (omega (arith, is.few))) (line.coded k d lt);
   remembers = line.remembers;
 }

@@ -32,8 +32,7 @@ ask_done : {T : Type 0} (m1 m2 : Pages) (p1 p2 : Part) (d : DriverState) (g : Gu
     (figures : Figures) (result : Result T Refusal) → g.buffer ≡ BufferTaken figures
     → AsksBy m1 m2 p1 p2 result → Honest m1 p1 d g → IsRunning m1 p1 d g → ask_refusal p1 ≡ None
     → refusal_of g Ask ≡ None → StepsAlone (Honest m2 p2 d) g Ask (asked_reply result)
-ask_done m1 m2 p1 p2 d g figures result is did stands run free_part free =
-    let ties = stands.ties in
+ask_done m1 m2 p1 p2 d g figures result is did stands run free_part free = let ties = stands.ties in
     let n = g.config.pages in
     let r : Request = record { head = 0; pages = []; visited = 0 } in
     let L : StatisticsBuffer → Type 0 = λ b. BufferLine m1 d.statistics p1.statistics b in
@@ -49,9 +48,8 @@ ask_done m1 m2 p1 p2 d g figures result is did stands run free_part free =
     let same : SamePages (reserved_pages size) m1 m2 = used_same (reserved_pages size) m1 m2
     (end_by d.statistics.layout d.statistics.size p1.statistics.next_avail p1.statistics.next_used)
     _ 0 0 (ring_low size d.statistics.size 2 used_page run.statistics_size at) adds in
-    let still = others_run m1 m2 p1 d g 2 run
-    (others_same m1 m2 d size 2 used_page (sizes_of m1 p1 d g run)
-    (ring_as size d.statistics.size 2 used_page run.statistics_size at)
+    let still = others_run m1 m2 p1 d g 2 run (others_same m1 m2 d size 2 used_page
+    (sizes_of m1 p1 d g run) (ring_as size d.statistics.size 2 used_page run.statistics_size at)
     (λ p ne. adds.puts.rest.others p (ne, (ne, tt)))) same.behind in
     let used = buffer_used m1 m2 d.statistics p1.statistics figures _ line adds in
     let new : Guest = record g { buffer = BufferDone figures } in
@@ -78,8 +76,7 @@ not_free g b is other free = grind arith
 pub ask_step : {T : Type 0} (m1 m2 : Pages) (p1 p2 : Part) (d : DriverState) (g : Guest)
     (result : Result T Refusal) → AsksBy m1 m2 p1 p2 result → Honest m1 p1 d g
     → StepsAlone (Honest m2 p2 d) g Ask (asked_reply result)
-ask_step m1 m2 p1 p2 d g result did stands =
-    let device = stands.ties.parts.device in
+ask_step m1 m2 p1 p2 d g result did stands = let device = stands.ties.parts.device in
     by_state m1 p1 d g Ask (ask_refusal p1) stands.ties.queues (ask_idle p1 g device.status)
     (λ run. ask_same p1 g device.status
     (ap (λ (l : List Request). is_some (slice_get l 0)) run.statistics.remembers

@@ -30,8 +30,7 @@ ring_backed : (m : Pages) (p : Part) (g : Guest) (q : ℕ) → p.queue_size ≡ 
     → is_config g.config.pages g.config.queue_size g.config.processors ≡ true
     → ((page : ℕ) → is_start_page g.config.queue_size page ≡ true → IsSome (frame_at m page))
     → IsBacked m (queue_layout q p)
-ring_backed m p g q same config backed =
-    let size = g.config.queue_size in
+ring_backed m p g q same config backed = let size = g.config.queue_size in
     let parts = parts_in_ring size q (size_is g.config.pages size g.config.processors config) in
     let at : (page : ℕ) → InRing size q page → IsSome (frame_at m page) =
     λ page there. backed page (start_of_ring size page (in_ring_page size q page there)) in

@@ -40,8 +40,7 @@ bytes_are mem = append-nil (buffer_bytes mem)
 
 -- byte i of the buffer
 byte_is : (mem : Pages) (i : ℕ) → i < 20 → slice_index (buffer_bytes mem) i ≡ byte_at mem 12 i
-byte_is mem i lt =
-    let page : (49152 + i) / 4096 ≡ 12 = omega (arith, lt) in
+byte_is mem i lt = let page : (49152 + i) / 4096 ≡ 12 = omega (arith, lt) in
     let offset : (49152 + i) % 4096 ≡ i = omega (arith, lt) in
     get_or-map-range_with_len (byte_of_address mem) 49152 20 i (49152 + i) 0 lt refl
     ∙ ap (λ (p : ℕ). byte_at mem p ((49152 + i) % 4096)) page ∙ ap (byte_at mem 12) offset

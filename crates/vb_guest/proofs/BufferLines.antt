@@ -31,15 +31,13 @@ buffer_apart old new ring part buffer same_ring same_buffer line = record {
   stands = ring_apart old new 2 ring part.next_avail part.next_used _ _ _ same_ring line.stands;
   figures = by buffer line.figures;
   remembers = line.remembers;
-}
-  where
-    by : (buffer : StatisticsBuffer) → HasFigures ring.size old buffer → HasFigures ring.size new buffer
-    by (BufferPosted figures) has =
-        let table : ℕ = ring_page ring.size 2 in
-        figures_kept old new table figures (same_ring table (inl refl)) same_buffer has
-    by NoBuffer has = tt
-    by (BufferTaken figures) has = tt
-    by (BufferDone figures) has = tt
+} where
+  by : (buffer : StatisticsBuffer) → HasFigures ring.size old buffer → HasFigures ring.size new buffer
+  by (BufferPosted figures) has = let table : ℕ = ring_page ring.size 2 in
+      figures_kept old new table figures (same_ring table (inl refl)) same_buffer has
+  by NoBuffer has = tt
+  by (BufferTaken figures) has = tt
+  by (BufferDone figures) has = tt
 
 -- ---- the buffer goes round
 

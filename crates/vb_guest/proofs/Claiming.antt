@@ -109,21 +109,19 @@ supplies_all Answers size s1 s2 s3 l1 l2 l3 m1 m2 m3 m4 page n lt none answer no
 
 -- the page's claim was answered, but one of the rest was refused: the frame goes back
 pub supplies_back : (Answers : List Bool → Claim → Type 0) (size : ℕ) (s1 s2 s3 s4 : Supply)
-    (l1 l2 l3 : List Claim) (m1 m2 m3 m4 : Pages) (page n : ℕ) (why : Refused) → page < reserved_pages size
-    → is_bare size m1 page ≡ true
-    → IsClaimed Answers s1 s2 (Gave n) → l2 ≡ l1 ++ (Gave n ∷ []) → m2 ≡ m1
-    → SuppliesBy {T = Unit {0}} Answers s2 s3 l2 l3 (bare_from size m2 (page + 1)) m2 m3 (Err why)
-    → m4 ≡ m3 → Moves s3 s4 nothing (λ x. times x (n ∷ []))
+    (l1 l2 l3 : List Claim) (m1 m2 m3 m4 : Pages) (page n : ℕ) (why : Refused) → page
+    < reserved_pages size → is_bare size m1 page ≡ true → IsClaimed Answers s1 s2 (Gave n) → l2 ≡ l1
+    ++ (Gave n ∷ []) → m2 ≡ m1 → SuppliesBy {T = Unit {0}} Answers s2 s3 l2 l3 (bare_from size m2
+    (page + 1)) m2 m3 (Err why) → m4 ≡ m3 → Moves s3 s4 nothing (λ x. times x (n ∷ []))
     → SuppliesBy {T = Unit {0}} Answers s1 s4 l1 l3 (bare_from size m1 page) m1 m4 (Err why)
-supplies_back Answers size s1 s2 s3 s4 l1 l2 l3 m1 m2 m3 m4 page n why lt none answer noted same rest
-    left back =
+supplies_back Answers
+    size s1 s2 s3 s4 l1 l2 l3 m1 m2 m3 m4 page n why lt none answer noted same rest left back =
     let here : SuppliesBy {T = Unit {0}} Answers s2 s3 l2 l3 (bare_from size m1 (page + 1)) m1 m3
-    (Err why)
-    = subst (λ (m : Pages). SuppliesBy {T = Unit {0}} Answers s2 s3 l2 l3 (bare_from size m (page + 1)) m
-    m3 (Err why)) same rest in
+    (Err why) = subst (λ (m : Pages). SuppliesBy {T = Unit {0}} Answers s2 s3 l2 l3
+    (bare_from size m (page + 1)) m m3 (Err why)) same rest in
     let claims = here.claims in
-    let out = moves_then s1 s2 s3 (λ x. times x (n ∷ [])) nothing nothing nothing answer.moves
-    here.refused.1 in
+    let out = moves_then s1 s2 s3
+    (λ x. times x (n ∷ [])) nothing nothing nothing answer.moves here.refused.1 in
     subst (λ (l : List ℕ). SuppliesBy {T = Unit {0}} Answers s1 s4 l1 l3 l m1 m4 (Err why))
     (sym (bare_takes size m1 page lt none)) (record {
       claims = Gave n ∷ claims;

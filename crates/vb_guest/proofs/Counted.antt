@@ -21,13 +21,11 @@ counts_are counts g are =
     ap (λ x. whole x counts.used counts.giving counts.lent counts.taking counts.stranded
     counts.reporting) are.free
     ∙ ap (λ x. whole (count_at Free g) x counts.giving counts.lent counts.taking counts.stranded
-    counts.reporting) are.used
-    ∙ ap (λ x. whole (count_at Free g) (count_at Used g) x counts.lent counts.taking counts.stranded
-    counts.reporting) are.giving
+    counts.reporting) are.used ∙ ap (λ x. whole (count_at Free g)
+    (count_at Used g) x counts.lent counts.taking counts.stranded counts.reporting) are.giving
     ∙ ap (λ x. whole (count_at Free g) (count_at Used g) (count_at Giving g) x counts.taking
-    counts.stranded counts.reporting) are.lent
-    ∙ ap (λ x. whole (count_at Free g) (count_at Used g) (count_at Giving g) (count_at Lent g) x
-    counts.stranded counts.reporting) are.taking
+    counts.stranded counts.reporting) are.lent ∙ ap (λ x. whole (count_at Free g) (count_at Used g)
+    (count_at Giving g) (count_at Lent g) x counts.stranded counts.reporting) are.taking
     ∙ ap (λ x. whole (count_at Free g) (count_at Used g) (count_at Giving g) (count_at Lent g)
     (count_at Taking g) x counts.reporting) are.stranded
     ∙ ap (λ x. whole (count_at Free g) (count_at Used g) (count_at Giving g) (count_at Lent g)

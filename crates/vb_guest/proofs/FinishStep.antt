@@ -158,8 +158,7 @@ request_finished : (kind : Kind) (m1 m2 : Pages) (p1 p2 : Part) (d : DriverState
     → Honest m1 p1 d g → IsRunning m1 p1 d g → refusal_of g (Finish (queue_of kind) i) ≡ None
     → StepsFreeing (Honest m2 (handed_back p2) d) p2.loose g (Finish (queue_of kind) i)
     (finished_reply result)
-request_finished kind m1 m2 p1 p2 d g i r result is did stands run free =
-    let q = queue_of kind in
+request_finished kind m1 m2 p1 p2 d g i r result is did stands run free = let q = queue_of kind in
     let ties = stands.ties in
     let n = g.config.pages in
     let size = g.config.queue_size in
@@ -168,8 +167,8 @@ request_finished kind m1 m2 p1 p2 d g i r result is did stands run free =
     let line = line_of kind m1 p1 d g run in
     let sized = size_of kind m1 p1 d g run in
     let bare = without_frames q r.pages m1 in
-    let own = subst (λ s. IsOwnRequest s n r) sized (own_pages_of kind d n r
-    (one_of (Knows kind d n) (requests kind g).taken i r line.taken is)) in
+    let own = subst (λ s. IsOwnRequest s n r) sized
+    (own_pages_of kind d n r (one_of (Knows kind d n) (requests kind g).taken i r line.taken is)) in
     let distinct = distinct_once r.pages
     (sound_at (requests kind g).taken i r (sound_of kind g stands.orderly) is).distinct in
     let adds = same_end bare m2 q p1.queue_size part.next_avail part.next_used ring _ r.head
@@ -188,9 +187,8 @@ request_finished kind m1 m2 p1 p2 d g i r result is did stands run free =
     let used_line = line_used bare m2 q ring part (requests kind g) i r _ (Keeps kind d)
     (Knows kind d n) (Codes kind bare d) (Codes kind m2 d) (line_of kind bare p1 d g rests) is adds
     (codes_stay kind bare m2 d n part r.head _ line.ring.sized line.ring.layout adds) in
-    let there = ties_settled kind bare m2 p1 d g i r ties.parts
-    (pages_same bare m2 size n _ _ same (pages_settled kind m1 size n g r.pages ties.pages)) rests
-    still used_line in
+    let there = ties_settled kind bare m2 p1 d g i r ties.parts (pages_same bare m2 size n _ _ same
+    (pages_settled kind m1 size n g r.pages ties.pages)) rests still used_line in
     subst (λ x. StepsFreeing (Honest m2 (handed_back p2) d) p2.loose g (Finish q i)
     (finished_reply x)) (sym did.answer) (record {
       new = new;
@@ -219,6 +217,5 @@ finish_step m1 m2 p1 p2 d g q i result did stands = by_queue (λ k. FinishesBy k
   where
     none : {k : ℕ} → is_queue_of_requests k ≡ false → FinishesBy k i m1 m2 p1 p2 result
         → StepsFreeing (Honest m2 (handed_back p2) d) p2.loose g (Finish k i) (finished_reply result)
-    none {k} out at =
-        let no = finish_no_queue k i g p1 out in
+    none {k} out at = let no = finish_no_queue k i g p1 out in
         finish_refused m1 m2 p1 p2 d g k i NoQueue result at stands no.0 no.1

@@ -61,15 +61,13 @@ pub coded_stays : (m1 m2 : Pages) (q n : ℕ) (side : RequestSide) (part : Queue
     → AddsUsedBy m1 m2 (end_of side.ring part) after head 0 → IsRequest side.ring.size n side.sent r
     → IsCoded m1 (ring_page side.ring.size q) (buffers_page q) r.head r.pages
     → IsCoded m2 (ring_page side.ring.size q) (buffers_page q) r.head r.pages
-coded_stays m1 m2 q n side part r head after sized layout adds is code =
-    let l = side.ring.layout in
+coded_stays m1 m2 q n side part r head after sized layout adds is code = let l = side.ring.layout in
     let size = side.ring.size in
     let table : l.table ≡ ring_page size q = ap (λ (x : Layout). x.table) layout in
-    let apart : buffer_page (buffers_page q) r.head ≢ l.used.page =
-    buffer_apart_page size q q l.used.page r.head is.few (ring_parts q side.ring sized layout).used in
-    coded_kept m1 m2 q n size side.sent r is
-    (ap (λ (p : ℕ). descriptor_at m2 p r.head) (sym table) ∙ adds.descriptors r.head is.inside
-    ∙ ap (λ (p : ℕ). descriptor_at m1 p r.head) table)
+    let apart : buffer_page (buffers_page q) r.head ≢ l.used.page = buffer_apart_page
+    size q q l.used.page r.head is.few (ring_parts q side.ring sized layout).used in
+    coded_kept m1 m2 q n size side.sent r is (ap (λ (p : ℕ). descriptor_at m2 p r.head) (sym table)
+    ∙ adds.descriptors r.head is.inside ∙ ap (λ (p : ℕ). descriptor_at m1 p r.head) table)
     (adds.puts.rest.others _ (apart, (apart, tt))) code
 
 pub report_stays : (m1 m2 : Pages) (n : ℕ) (side : ReportSide) (part : QueuePart) (r : Request)

@@ -58,9 +58,8 @@ pub now_backed : (size : ℕ) (m1 m2 : Pages) (numbers : List ℕ) (page : ℕ)
 now_backed size m1 m2 numbers page supplied start =
     elim (cases_Bool (is_in page (bare_from size m1 0))) [
       | inl there ↦ supplied_backed (bare_from size m1 0) numbers m1 m2 page supplied there
-      | inr out ↦ ap (λ o. is_some (number_of o))
-          (supplied_other (bare_from size m1 0) numbers m1 m2 page supplied out)
-          ∙ was (frame_at m1 page) refl out
+      | inr out ↦ ap (λ o. is_some (number_of o)) (supplied_other
+          (bare_from size m1 0) numbers m1 m2 page supplied out) ∙ was (frame_at m1 page) refl out
     ]
   where
     was : (o : Option ℕ) → frame_at m1 page ≡ o → is_in page (bare_from size m1 0) ≡ false
@@ -79,8 +78,7 @@ few_start : (size : ℕ) → length (start_pages size) ≤ 17
 few_start size = grind arith
 
 pub few_bare : (size : ℕ) (m : Pages) → length (bare_from size m 0) ≤ 17
-few_bare size m =
-    let none : ℕ → Bool = λ page. is_none (frame_at m page) in
+few_bare size m = let none : ℕ → Bool = λ page. is_none (frame_at m page) in
     let all : reserved_pages size - 0 ≡ reserved_pages size = omega arith in
     let same : bare_from size m 0 ≡ filter none (start_pages size) =
     ap (λ (k : ℕ). filter (is_bare size m) (range_with_len 0 k)) all

@@ -57,8 +57,7 @@ after_kept _ p = record { flag = refl; numbers = refl }
 pub reap_kept : (m1 m2 : Pages) (p1 p2 : Part) (d1 d2 : DriverState) (q : ℕ)
     (result : Result (Option Reaped) Refusal) → ReapsBy m1 m2 p1 p2 d1 d2 q result → SameOwn p1 p2
 reap_kept m1 m2 p1 p2 d1 d2 q (Ok None) did = as_it_was p1 p2 did.reaps.0
-reap_kept m1 m2 p1 p2 d1 d2 q (Ok (Some reaped)) did =
-    let part = did.reaps.part in
+reap_kept m1 m2 p1 p2 d1 d2 q (Ok (Some reaped)) did = let part = did.reaps.part in
     record { flag = ap (λ (p : Part). p.keeps) part; numbers = ap (λ (p : Part). p.own) part }
 reap_kept m1 m2 p1 p2 d1 d2 q (Err why) did = same_then p1
     (after_refusal why p1) p2 (after_kept why p1) (as_it_was (after_refusal why p1) p2 did.failed)
@@ -93,12 +92,10 @@ pub take_kept : (q : ℕ) (m1 m2 : Pages) (p1 p2 : Part) (result : Result (Optio
 take_kept q m1 m2 p1 p2 result did = by result did.means where
   by : (r : Result (Option ℕ) Refusal) → TakeMeans q m1 p1 p2 r → SameOwn p1 p2
   by (Ok None) means = as_it_was p1 p2 means.1
-  by (Ok (Some h)) means =
-      let noted = noting q m1 means.1.1.pieces p1 in
+  by (Ok (Some h)) means = let noted = noting q m1 means.1.1.pieces p1 in
       let after = taking q h means.1.0 noted in
-      same_then p1 after p2
-      (same_then p1 noted after (record { flag = refl; numbers = refl }) (queue_kept q _ noted))
-      (as_it_was after p2 means.1.2)
+      same_then p1 after p2 (same_then p1 noted after (record { flag = refl; numbers = refl })
+      (queue_kept q _ noted)) (as_it_was after p2 means.1.2)
   by (Err (Broken rule)) means = record {
     flag = ap (λ (p : Part). p.keeps) means.1;
     numbers = ap (λ (p : Part). p.own) means.1;
@@ -122,9 +119,8 @@ finish_kept q i m1 m2 p1 p2 result did = by (finish_refusal q i p1) refl where
   by (Some why) e = as_it_was p1 p2 (did.refused why e).1
   by None e =
       let (r, at) = there_is (not (is_queue_of_requests q)) (is_not_ready p1.status)
-      (has_fault p1.status)
-      (p1.paced && not (q == DEFLATE_QUEUE) && has_unvisited (taken_at q i p1))
-      (taken_at q i p1) e in
+      (has_fault p1.status) (p1.paced && not
+      (q == DEFLATE_QUEUE) && has_unvisited (taken_at q i p1)) (taken_at q i p1) e in
       let after = settled q r.pages (using q i p1) in
       same_then p1 after p2 (same_then p1 (using q i p1) after (queue_kept q _ p1)
       (settled_kept q r.pages (using q i p1))) (loose_kept after p2 (did.finished r e at).part)
@@ -176,6 +172,5 @@ pub ask_kept : {T : Type 0} (m1 m2 : Pages) (p1 p2 : Part) (result : Result T Re
 ask_kept m1 m2 p1 p2 result did = by (ask_refusal p1) refl where
   by : (o : Option Refusal) → ask_refusal p1 ≡ o → SameOwn p1 p2
   by (Some why) e = as_it_was p1 p2 (did.refused why e).1
-  by None e =
-      let after = using STATISTICS_QUEUE 0 p1 in
+  by None e = let after = using STATISTICS_QUEUE 0 p1 in
       same_then p1 after p2 (queue_kept STATISTICS_QUEUE _ p1) (as_it_was after p2 (did.part e))

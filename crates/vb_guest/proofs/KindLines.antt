@@ -59,8 +59,7 @@ pub own_pages_of : (kind : Kind) (d : DriverState) (n : ℕ) (r : Request) → K
     → IsOwnRequest (ring_of (queue_of kind) d).size n r
 own_pages_of Inflating d n r is = record { above = is.pages.above; below = is.pages.below }
 own_pages_of Deflating d n r is = record { above = is.pages.above; below = is.pages.below }
-own_pages_of Reporting_free d n r is =
-    let size = d.report.ring.size in
+own_pages_of Reporting_free d n r is = let size = d.report.ring.size in
     let own = own_pages size n d.report.blocks is.blocks_are in record {
       above = subst (All (λ page. reserved_pages size ≤ page)) (sym is.names) own.0;
       below = subst (All (λ page. page < n)) (sym is.names) own.1;

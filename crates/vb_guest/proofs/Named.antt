@@ -18,8 +18,7 @@ count_all sent = sum_by (λ (pages : List ℕ). length pages) sent
 
 nothing_sent : (sent : List (List ℕ)) → ((h : ℕ) → get_or sent h [] ≡ []) → count_all sent ≡ 0
 nothing_sent [] none = refl
-nothing_sent (x ∷ xs) none =
-    let first : length x ≡ 0 = ap (λ (l : List ℕ). length l) (none 0) in
+nothing_sent (x ∷ xs) none = let first : length x ≡ 0 = ap (λ (l : List ℕ). length l) (none 0) in
     omega (
       arith,
       first,
@@ -51,8 +50,7 @@ named_sent : (sent : List (List ℕ)) (rs : List Request) → ((h : ℕ) → hea
     → ((h : ℕ) → headed h rs ≡ 0 → get_or sent h [] ≡ []) → All (IsKept sent) rs
     → count_all sent ≡ pages_named rs
 named_sent sent [] once none kept = nothing_sent sent (λ h. none h refl)
-named_sent sent (r ∷ rest) once none kept =
-    let first : IsKept sent r = kept 0 r (omega arith) in
+named_sent sent (r ∷ rest) once none kept = let first : IsKept sent r = kept 0 r (omega arith) in
     let fewer = named_sent (slice_set sent r.head []) rest
     (λ h. omega (arith, once h, headed-cons h r rest)) (λ h out. elim (cases_eq h r.head) [
       | inl same ↦ ap (λ (k : ℕ). get_or (slice_set sent r.head []) k []) same

@@ -25,17 +25,16 @@ high_pages g pages orderly out = (
       (out (slice_index_or pages k d) (at_in pages k d lt))).0),
   (λ k d lt. (high_page g (slice_index_or pages k d) orderly
       (out (slice_index_or pages k d) (at_in pages k d lt))).1),
-)
-  where
-    at_in : (xs : List ℕ) (k d : ℕ) → k < length xs → is_in (slice_index_or xs k d) xs ≡ true
-    at_in [] k d lt = absurd (omega arith)
-    at_in (x ∷ xs) zero d lt = ap (λ (b : Bool). b || list_any (λ m. m == x) xs) (eq-eqb x x refl)
-    at_in (x ∷ xs) (suc k) d lt = ap (λ (b : Bool). (x == slice_index_or xs k d) || b)
-        (at_in xs k d (omega arith)) ∙ either_true (x == slice_index_or xs k d)
-      where
-        either_true : (b : Bool) → (b || true) ≡ true
-        either_true true = refl
-        either_true false = refl
+) where
+  at_in : (xs : List ℕ) (k d : ℕ) → k < length xs → is_in (slice_index_or xs k d) xs ≡ true
+  at_in [] k d lt = absurd (omega arith)
+  at_in (x ∷ xs) zero d lt = ap (λ (b : Bool). b || list_any (λ m. m == x) xs) (eq-eqb x x refl)
+  at_in (x ∷ xs) (suc k) d lt = ap (λ (b : Bool). (x == slice_index_or xs k d) || b)
+      (at_in xs k d (omega arith)) ∙ either_true (x == slice_index_or xs k d)
+    where
+      either_true : (b : Bool) → (b || true) ≡ true
+      either_true true = refl
+      either_true false = refl
 
 given_high : (place : Place) → can_be_given place ≡ true → is_reserved place ≡ false
 given_high place e = grind arith

@@ -28,8 +28,7 @@ pub own_pages : (size n : ℕ) (blocks : List Block) → All (IsOwnBlock size n)
     → All (λ page. reserved_pages size ≤ page) (pages_of_all blocks)
     × All (λ page. page < n) (pages_of_all blocks)
 own_pages size n [] own = (All-nil (λ page. reserved_pages size ≤ page), All-nil (λ page. page < n))
-own_pages size n (b ∷ bs) own =
-    let first : IsOwnBlock size n b = own 0 b (omega arith) in
+own_pages size n (b ∷ bs) own = let first : IsOwnBlock size n b = own 0 b (omega arith) in
     let rest = own_pages size n bs (All-tail (IsOwnBlock size n) b bs own) in (
       All-append (λ page. reserved_pages size ≤ page) (pages_of b) (pages_of_all bs)
           (pages_high size n b first) rest.0,
@@ -54,8 +53,7 @@ pages_own : (descriptors n : ℕ) (blocks : List Block) → All IsSmall blocks
     → ((page : ℕ) → is_in page (pages_of_all blocks) ≡ true
     → (reserved_pages descriptors ≤ page) × (page < n)) → All (IsOwnBlock descriptors n) blocks
 pages_own descriptors n [] small high = All-nil (IsOwnBlock descriptors n)
-pages_own descriptors n (b ∷ bs) small high =
-    let some : 0 < size b = pow_pos b.order in
+pages_own descriptors n (b ∷ bs) small high = let some : 0 < size b = pow_pos b.order in
     let last : ℕ = b.start + size b - 1 in
     let first = high b.start (in_front b.start (pages_of b) (pages_of_all bs)
     (in_range b.start b.start (size b) (omega arith) (omega arith))) in
@@ -85,10 +83,9 @@ is_reported from b = nat_le 4 b.order && nat_le from b.start
 
 small_reported : (count n from : ℕ) (test : ℕ → Bool)
     → All IsSmall (reported n from (maximal_blocks count test))
-small_reported count n from test =
-    All-take IsSmall n (filter (is_reported from) (maximal_blocks count test))
-    (All-filter (is_reported from) IsSmall (maximal_blocks count test)
-    (All-filter (is_maximal test) IsSmall (blocks_below count)
+small_reported count n from test = All-take IsSmall n
+    (filter (is_reported from) (maximal_blocks count test)) (All-filter (is_reported from) IsSmall
+    (maximal_blocks count test) (All-filter (is_maximal test) IsSmall (blocks_below count)
     (all_flat IsSmall blocks_at (range_with_len 0 count) small_at)))
 
 free_high : (place : Place) → is_free place ≡ true → is_reserved place ≡ false

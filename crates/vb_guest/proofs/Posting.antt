@@ -57,8 +57,7 @@ pub record IsLowest (r : DriverEnd) (h : ℕ) : Type 0 where
   pub below : (k : ℕ) → k < h → is_unused r.owner k ≡ false
 
 pub lowest_is : (r : DriverEnd) (h : ℕ) → next_head r ≡ Some h → IsLowest r h
-lowest_is r h is =
-    let free = free_descriptors r in
+lowest_is r h is = let free = free_descriptors r in
     let some : 0 < length free = slice_get_within free 0 h is in
     let first : slice_index free 0 ≡ h = get_or_from_slice_get free 0 h 0 is in
     let pass = numbers_pass (is_unused r.owner) r.size 0 some in

@@ -36,12 +36,11 @@ read_done m p d g page off len bytes used stands covers is =
     ap (λ l. is_used (place_of l page)) (sym stands.ties.parts.driver.places) ∙ used in
     let lt : page < g.config.pages = omega (arith, covers.page, stands.ties.pages.length_is) in
     let high = used_high g page stands.orderly held lt in
-    let read = is ∙ ap (λ (l : List ℕ). take len (drop off l))
-    (stands.ties.pages.holds page high lt) in
-    steps_alone m m p p d d g (Read page off len) (ReadBytes bytes) g stands
-    (honest_performed g (Read page off len) [] (ReadBytes bytes) g
-    (read_free m p d g page off len used stands covers) (refl, (inl (ap ReadBytes read), refl)))
-    stands.ties refl
+    let read = is
+    ∙ ap (λ (l : List ℕ). take len (drop off l)) (stands.ties.pages.holds page high lt) in
+    steps_alone m m p p d d g (Read page off len) (ReadBytes bytes) g stands (honest_performed g
+    (Read page off len) [] (ReadBytes bytes) g (read_free m p d g page off len used stands covers)
+    (refl, (inl (ap ReadBytes read), refl))) stands.ties refl
 
 pub read_no_memory : (m : Pages) (p : Part) (d : DriverState) (g : Guest) (page off len : ℕ)
     → is_used (place_of d.places page) ≡ true → Honest m p d g → Covers m page off len

@@ -65,9 +65,8 @@ report_chain mem table descriptors n blocks len some inside own reported =
     ap (descriptor_at mem table) (at k below) ∙ reported.chain k below in
     let G : ℕ → Type 0 = λ h. ChainGives (descriptor_at mem table) descriptors
     (4096 * length mem) h (pieces_of blocks) in
-    subst G (at 0 some)
-    (written_chain (descriptor_at mem table) descriptors (4096 * length mem) path
-    (pieces_of blocks) route (long ∙ sym (length-map blocks piece_of))
+    subst G (at 0 some) (written_chain (descriptor_at mem table) descriptors
+    (4096 * length mem) path (pieces_of blocks) route (long ∙ sym (length-map blocks piece_of))
     (omega (arith, long, inside)) (report_sound descriptors n mem blocks len some own) put)
 
 -- ---- the pages that it names
@@ -92,8 +91,7 @@ right_start reserved b above = grind arith
 all_right : (size n : ℕ) (blocks : List Block) → All (IsOwnBlock size n) blocks
     → first_piece_fault (reserved_pages size) (pieces_of blocks) ≡ None
 all_right size n [] own = refl
-all_right size n (b ∷ bs) own =
-    let reserved : ℕ = reserved_pages size in
+all_right size n (b ∷ bs) own = let reserved : ℕ = reserved_pages size in
     let first : IsOwnBlock size n b = own 0 b (omega arith) in
     ap (λ (o : Option ChainFault). first_of_both o (first_piece_fault reserved (pieces_of bs)))
     (right_start reserved b first.above)

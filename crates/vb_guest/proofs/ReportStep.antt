@@ -86,8 +86,7 @@ report_out : (m1 m2 : Pages) (p1 p2 : Part) (d1 d2 : DriverState) (g : Guest) (f
     → Honest m1 p1 d1 g → IsRunning m1 p1 d1 g → refusal_of g (Report from) ≡ None
     → outstanding g.report ≡ 0 → 0 < length (reported_blocks g from)
     → StepsAlone (Honest m2 p2 d2) g (Report from) (Posted posted.head posted.pages)
-report_out m1 m2 p1 p2 d1 d2 g from posted did stands run free none some =
-    let ties = stands.ties in
+report_out m1 m2 p1 p2 d1 d2 g from posted did stands run free none some = let ties = stands.ties in
     let n = g.config.pages in
     let blocks = reported_blocks g from in
     let pages = pages_of_all blocks in
@@ -144,8 +143,7 @@ report_out m1 m2 p1 p2 d1 d2 g from posted did stands run free none some =
 pub report_step : (m1 m2 : Pages) (p1 p2 : Part) (d1 d2 : DriverState) (g : Guest) (from : ℕ)
     (result : Result PostedRequest Refusal) → ReportsBy m1 m2 p1 p2 d1 d2 from result
     → Honest m1 p1 d1 g → StepsAlone (Honest m2 p2 d2) g (Report from) (posted_reply result)
-report_step m1 m2 p1 p2 d1 d2 g from result did stands =
-    let device = stands.ties.parts.device in
+report_step m1 m2 p1 p2 d1 d2 g from result did stands = let device = stands.ties.parts.device in
     let driver = stands.ties.parts.driver in
     by result did (refused_alike m1 p1 d1 g (Report from) _ stands.ties.queues
     (report_idle p1 d1 g from device.status)

@@ -13,8 +13,7 @@ use Rattle.vb_status.specs.After.{part_after_reset as device_after_reset}
 
 pub reset_step : (m1 m2 : Pages) (p1 p2 : Part) (d1 d2 : DriverState) (g : Guest)
     → ResetsBy m1 m2 p1 p2 d1 d2 → Honest m1 p1 d1 g → StepsAlone (Honest m2 p2 d2) g Reset Done
-reset_step m1 m2 p1 p2 d1 d2 g did stands =
-    let parts = stands.ties.parts in
+reset_step m1 m2 p1 p2 d1 d2 g did stands = let parts = stands.ties.parts in
     let new : Guest = after_reset g in
     let part : Part = device_after_reset p1 in
     let state : DriverState =

@@ -30,8 +30,7 @@ cond_one false = refl
 -- a head that is taken out of a list
 pub times-remove : (h : ℕ) (hs : List ℕ) (i k : ℕ) → slice_get hs i ≡ Some k
     → times h (remove hs i) + one_if (k == h) ≡ times h hs
-times-remove h hs i k is =
-    let f : ℕ → ℕ = λ m. cond (m == h) 1 0 in
+times-remove h hs i k is = let f : ℕ → ℕ = λ m. cond (m == h) 1 0 in
     let here : f (slice_index_or hs i k) ≡ f k = ap f (get_or_from_slice_get hs i k k is) in
     let less : times h (remove hs i) + f (slice_index_or hs i k) ≡ times h hs =
     sum_by-remove f hs i k (slice_get_within hs i k is) in

@@ -23,10 +23,9 @@ ring_answer mem q ring next_avail next_used posted taken done stands =
     (stands.gone ++ used_of done) (length stands.gone) ring.seen stands.sized
     (length-numbers (is_head ring.owner) ring.size) stands.shows.entries.used stands.tracks.seen
     stands.tracks.few (omega (arith, length-used stands.gone done, out)) in
-    ap (only_head ring.owner)
-    (next ∙ ap (λ (l : List ℕ). Ok (slice_get l (length stands.gone))) (ids-split stands.gone done)
-    ∙ ap (λ (k : ℕ). Ok (slice_get (ids stands.gone ++ done) k)) (sym (length-ids stands.gone)))
-    ∙ by_done done refl
+    ap (only_head ring.owner) (next ∙ ap (λ (l : List ℕ). Ok (slice_get l (length stands.gone)))
+    (ids-split stands.gone done) ∙ ap (λ (k : ℕ). Ok (slice_get (ids stands.gone ++ done) k))
+    (sym (length-ids stands.gone))) ∙ by_done done refl
   where
     by_done : (d : List ℕ) → done ≡ d
         → only_head ring.owner (Ok (slice_get (ids stands.gone ++ done) (length (ids stands.gone))))

@@ -44,9 +44,8 @@ ring_used m1 m2 q ring next_avail next_used posted taken done i h after stands i
       before = stands.before;
       gone = stands.gone;
       shows = subst Q grown (adds.shown heads elems stands.used out stands.shows);
-      tracks = subst T grown
-          (used_tracks m1 m2 ring heads elems e (length stands.gone) adds.descriptors
-          stands.tracks);
+      tracks = subst T grown (used_tracks m1 m2 ring heads elems e
+          (length stands.gone) adds.descriptors stands.tracks);
       avail = stands.avail;
       used = ap (λ (x : List UsedElem). length x % 65536) (sym grown)
           ∙ omega (arith, length_push elems e, stands.used);

@@ -106,8 +106,7 @@ request_own q mem part h pages next = by (q == STATISTICS_QUEUE) (q == REPORT_QU
         (page_size * length mem) h next.pieces next.chain in
         let own = report_pages (length mem) next.pieces reserved pages fits e in
         record { above = own.0; below = own.1 }
-    by false false e =
-        let own = request_pages mem next.pieces reserved pages e in
+    by false false e = let own = request_pages mem next.pieces reserved pages e in
         record { above = own.above; below = own.below }
 
 takes_up : (a b c d f : Bool) → first_refusal ((a ⇒ NoQueue) ∷ (b ⇒ NotReady) ∷ (c ⇒ NeedsReset)
@@ -122,9 +121,8 @@ ok_of false broken e = absurd cc
 pub take_rogue : (m1 m2 : Pages) (p1 p2 : Part) (d : DriverState) (g : Guest) (q : ℕ)
     (result : Result (Option ℕ) Refusal) → TakesBy q m1 m2 p1 p2 result → Rogue m1 p1 d g
     → StepsAlone (Rogue m2 p2 d) g (Take q) (taken_reply result)
-take_rogue m1 m2 p1 p2 d g q result did rogue =
-    subst (λ (m : Pages). StepsAlone (Rogue m p2 d) g (Take q) (taken_reply result))
-    (sym did.memory) (by result did.means)
+take_rogue m1 m2 p1 p2 d g q result did rogue = subst (λ (m : Pages). StepsAlone
+    (Rogue m p2 d) g (Take q) (taken_reply result)) (sym did.memory) (by result did.means)
   where
     ready : take_refusal q p1 ≡ None → contains p1.status driver_ok ≡ true
     ready e = ok_of (contains p1.status driver_ok) (contains p1.status failed)
@@ -137,8 +135,7 @@ take_rogue m1 m2 p1 p2 d g q result did rogue =
         (keeps_part m1 m1 p1 p2 d d (driver_same d d refl) means.1 refl (λ page. refl)) refl
         (λ page. refl) (ap (λ (p : Part). p.target) means.1) refl
         (λ page offset bytes e. cc) refl (λ why e. no_refusal _ why refl e)
-    by (Ok (Some h)) means =
-        let pages = means.1.0 in
+    by (Ok (Some h)) means = let pages = means.1.0 in
         let next = means.1.1 in
         let part = means.1.2 in
         let noted : Part = noting q m1 next.pieces p1 in
@@ -171,8 +168,7 @@ take_rogue m1 m2 p1 p2 d g q result did rogue =
               record { backed = up.backed; inflates = own.inflates; reports = own.reports };
         }) refl (λ page. refl) (ap (λ (p : Part). p.target) part ∙ state.1) refl
         (λ page offset bytes e. cc) refl (λ why e. no_refusal _ why refl e)
-    by (Err (Broken rule)) means =
-        let part = means.1 in
+    by (Err (Broken rule)) means = let part = means.1 in
         rogue_alone m1 m1 p1 p2 d d g (Take q) _ rogue (record {
           driver = driver_same d d refl;
           device = device_alike p1 p2 (ap kept_of_rogue part);
@@ -291,9 +287,8 @@ rogue_freed m1 m2 p1 p2 d g call reply r own changes ok count same loose still a
       new = rogue_after g frames (handed_back p2) d;
       stands = stands;
       step = rogue_step m1 m2 p1 (handed_back p2) d d g frames call reply rogue stands
-          (changes.target ∙ sym still)
-          (λ page frame e. none_of (is_in page once) (frame_of g.frames page) frame
-          (sym (get page) ∙ e)) (done_wants reply answer) other none
+          (changes.target ∙ sym still) (λ page frame e. none_of (is_in page once)
+          (frame_of g.frames page) frame (sym (get page) ∙ e)) (done_wants reply answer) other none
           (λ why e. no_refusal reply why answer e);
       freed = λ k. omega (
         arith,
@@ -362,25 +357,21 @@ work_rogue m1 m2 p1 p2 d g result did rogue = by (work_refusal p1) refl where
 
   later : work_refusal p1 ≡ None → next_visit INFLATE_QUEUE p1 ≡ None → (o : Option ℕ)
       → next_visit REPORT_QUEUE p1 ≡ o → Done result
-  later e first None second =
-      let (answer, part, memory) = did.idle e first second in
+  later e first None second = let (answer, part, memory) = did.idle e first second in
       subst Done (sym answer) (none_freed m1 m2 p1 p2 d g Work _ memory part refl refl
       (λ page offset bytes x. cc) refl (λ why e. no_refusal _ why refl e) rogue)
-  later e first (Some page) second =
-      visits_rogue m1 m2 p1 p2 d g REPORT_QUEUE page result (did.report page e first second)
-      (next_own (length m1) p1.paced p1.report.taken page (rogue.up (ready e)).reports second)
-      (ready e) rogue
+  later e first (Some page) second = visits_rogue m1 m2 p1 p2 d g REPORT_QUEUE page result
+      (did.report page e first second) (next_own
+      (length m1) p1.paced p1.report.taken page (rogue.up (ready e)).reports second) (ready e) rogue
 
   visits : work_refusal p1 ≡ None → (o : Option ℕ) → next_visit INFLATE_QUEUE p1 ≡ o → Done result
   visits e None first = later e first (next_visit REPORT_QUEUE p1) refl
-  visits e (Some page) first =
-      visits_rogue m1 m2 p1 p2 d g INFLATE_QUEUE page result (did.inflate page e first)
-      (next_own (length m1) p1.paced p1.inflate.taken page (rogue.up (ready e)).inflates first)
-      (ready e) rogue
+  visits e (Some page) first = visits_rogue m1 m2 p1 p2 d g INFLATE_QUEUE page result
+      (did.inflate page e first) (next_own (length m1) p1.paced p1.inflate.taken page
+      (rogue.up (ready e)).inflates first) (ready e) rogue
 
   by : (o : Option Refusal) → work_refusal p1 ≡ o → Done result
-  by (Some why) e =
-      let (answer, part, memory) = did.refused why e in
+  by (Some why) e = let (answer, part, memory) = did.refused why e in
       subst Done (sym answer) (none_freed m1 m2 p1 p2 d g Work _ memory part refl
       (refused_otherwise (work_causes p1.status) why refl e)
       (λ page offset bytes x. cc) refl
@@ -408,8 +399,7 @@ sweep_rogue m1 m2 p1 p2 d g page result did rogue = by (sweep_refusal page p1) r
   Done r = StepsFreeing (Rogue m2 (handed_back p2) d) p2.loose g (Sweep page) (swept_reply r)
 
   by : (o : Option Refusal) → sweep_refusal page p1 ≡ o → Done result
-  by (Some why) e =
-      let (answer, part, memory) = did.refused why e in
+  by (Some why) e = let (answer, part, memory) = did.refused why e in
       subst Done (sym answer) (none_freed m1 m2 p1 p2 d g (Sweep page) _ memory part refl
       (refused_otherwise (sweep_causes (negotiated p1) (is_ballooned p1.ballooned page)) why refl e)
       (λ page offset bytes x. cc) refl
@@ -470,14 +460,13 @@ own_taken {size} n q p is other own = elim (cases_eq q 2) [
       (let wrong : false ≡ true = subst (λ (k : ℕ). is_queue_of_requests k ≡ true) e is in cc)
   | inr ne ↦ by (q == INFLATE_QUEUE) (q == DEFLATE_QUEUE) (q == STATISTICS_QUEUE) other
       (ne_eqb q 2 ne)
-]
-  where
-    by : (a b c : Bool) → b ≡ false → c ≡ false → All (IsOwnRequest size n) (if a then p.inflate
-        else (if b then p.deflate else (if c then p.statistics else p.report))).taken
-    by true b c e f = own.inflates
-    by false true c e f = absurd cc
-    by false false true e f = absurd cc
-    by false false false e f = own.reports
+] where
+  by : (a b c : Bool) → b ≡ false → c ≡ false → All (IsOwnRequest size n) (if a then p.inflate
+      else (if b then p.deflate else (if c then p.statistics else p.report))).taken
+  by true b c e f = own.inflates
+  by false true c e f = absurd cc
+  by false false true e f = absurd cc
+  by false false false e f = own.reports
 
 -- a queue isn't two
 not_both : (q : ℕ) → (q == DEFLATE_QUEUE) ≡ true → (q == INFLATE_QUEUE) ≡ true → ⊥
@@ -557,8 +546,7 @@ finish_rogue m1 m2 p1 p2 d g q i result did rogue = by (finish_refusal q i p1) r
       (ap (λ (b : Bool). if b then [] else frames_behind m1 (each_once r.pages)) other)
 
   by : (o : Option Refusal) → finish_refusal q i p1 ≡ o → Done result
-  by (Some why) e =
-      let (answer, part, memory) = did.refused why e in
+  by (Some why) e = let (answer, part, memory) = did.refused why e in
       subst Done (sym answer) (none_freed m1 m2 p1 p2 d g (Finish q i) _ memory part refl
       (refused_otherwise (finish_causes q (negotiated p1) p1.paced (taken_at q i p1)) why refl e)
       (λ page offset bytes x. cc) refl
@@ -591,15 +579,13 @@ pub ask_rogue : {T : Type 0} (m1 m2 : Pages) (p1 p2 : Part) (d : DriverState) (g
 ask_rogue m1 m2 p1 p2 d g result did rogue = by (ask_refusal p1) refl where
   by : (o : Option Refusal) → ask_refusal p1 ≡ o
       → StepsAlone (Rogue m2 p2 d) g Ask (asked_reply result)
-  by (Some why) e =
-      let (answer, part, memory) = did.refused why e in
+  by (Some why) e = let (answer, part, memory) = did.refused why e in
       subst (λ (r : Result _ Refusal). StepsAlone (Rogue m2 p2 d) g Ask (asked_reply r))
       (sym answer) (unchanged_alone m1 m2 p1 p2 d d g Ask why
       (ask_causes p1.status (is_some (taken_at STATISTICS_QUEUE 0 p1)))
       (record { mem = memory; part = part; driver = refl }) refl (sym e) refl refl refl refl
       (λ page offset bytes x. cc) rogue)
-  by None e =
-      let part = did.part e in
+  by None e = let part = did.part e in
       let ready = ok_of (contains p1.status driver_ok) (contains p1.status failed)
       (asks_up (is_not_ready p1.status) (has_fault p1.status)
       (not (is_some (taken_at STATISTICS_QUEUE 0 p1))) e) in

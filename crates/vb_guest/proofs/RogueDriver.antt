@@ -82,9 +82,8 @@ unchanged_alone m1 m2 p1 p2 d1 d2 g call why
 -- pages have changed their places
 moved : (d1 d2 : DriverState) (pages : List ℕ) (place : Place) → shape_of d2
     ≡ shape_of (record d1 { places = placed pages place d1.places }) → DriverSame d1 d2
-moved d1 d2 pages place e = shaped d1 d2 (e
-    ∙ ap (λ (n : ℕ). (d1.pages, d1.queue_size, d1.processors, n))
-    (length-marked pages place d1.places))
+moved d1 d2 pages place e = shaped d1 d2 (e ∙ ap
+    (λ (n : ℕ). (d1.pages, d1.queue_size, d1.processors, n)) (length-marked pages place d1.places))
 
 pub alloc_rogue : (m : Pages) (p : Part) (d1 d2 : DriverState) (g : Guest) (cpu order : ℕ)
     (result : Result ℕ Refusal) → AllocatesBy d1 d2 cpu order result → Rogue m p d1 g
@@ -105,12 +104,11 @@ pub free_rogue : {T : Type 0} (m : Pages) (p : Part) (d1 d2 : DriverState) (g : 
 free_rogue m p d1 d2 g cpu start order (Ok x) did rogue = part_alone m m p p d1 d2 g
     (Free cpu start order) _ (moved d1 d2 _ _ (ap shape_of did.state)) refl refl (λ page. refl)
     refl refl (λ page offset bytes e. cc) refl (λ why e. no_refusal _ why refl e) rogue
-free_rogue m p d1 d2 g cpu start order (Err why) did rogue =
-    part_alone m m p p d1 d2 g (Free cpu start order) (Refused why)
-    (driver_same d1 d2 did.refused) refl refl (λ page. refl) refl
-    (not_for_want why (free_causes d1 cpu start order) did.refusal refl) (λ page offset bytes e. cc)
-    refl (left_same m p p d1 d2 g (Free cpu start order) why (free_causes d1 cpu start order) rogue
-    (ap (λ (d : DriverState). d.places) did.refused)
+free_rogue m p d1 d2 g cpu start order (Err why) did rogue = part_alone m m p p d1 d2 g
+    (Free cpu start order) (Refused why) (driver_same d1 d2 did.refused) refl refl
+    (λ page. refl) refl (not_for_want why (free_causes d1 cpu start order) did.refusal refl)
+    (λ page offset bytes e. cc) refl (left_same m p p d1 d2 g (Free cpu start order) why
+    (free_causes d1 cpu start order) rogue (ap (λ (d : DriverState). d.places) did.refused)
     (ap (λ (d : DriverState). d.actual) did.refused) refl did.refusal refl refl) rogue
 
 -- ---- requests
@@ -118,8 +116,7 @@ free_rogue m p d1 d2 g cpu start order (Err why) did rogue =
 pub inflate_rogue : (m1 m2 : Pages) (p1 p2 : Part) (d1 d2 : DriverState) (g : Guest) (n : ℕ)
     (result : Result Posted Refusal) → InflatesBy m1 m2 p1 p2 d1 d2 n result → Rogue m1 p1 d1 g
     → StepsAlone (Rogue m2 p2 d2) g (Inflate n) (posted_reply result)
-inflate_rogue m1 m2 p1 p2 d1 d2 g n (Ok posted) did rogue =
-    let offers = did.offers in
+inflate_rogue m1 m2 p1 p2 d1 d2 g n (Ok posted) did rogue = let offers = did.offers in
     part_alone m1 m2 p1 p2 d1 d2 g (Inflate n) _ (moved d1 d2 _ _ (ap shape_of offers.state))
     offers.part offers.posts.rest.count offers.posts.rest.backing refl refl
     (λ page offset bytes e. cc) refl (λ why e. no_refusal _ why refl e) rogue
@@ -172,22 +169,19 @@ same_driver d1 d2 d3 same e = subst (DriverSame d1) (sym e) same
 pub report_rogue : (m1 m2 : Pages) (p1 p2 : Part) (d1 d2 : DriverState) (g : Guest) (from : ℕ)
     (result : Result Posted Refusal) → ReportsBy m1 m2 p1 p2 d1 d2 from result
     → Rogue m1 p1 d1 g → StepsAlone (Rogue m2 p2 d2) g (Report from) (posted_reply result)
-report_rogue m1 m2 p1 p2 d1 d2 g from (Ok posted) did rogue =
-    let reports = did.reports in
+report_rogue m1 m2 p1 p2 d1 d2 g from (Ok posted) did rogue = let reports = did.reports in
     part_alone m1 m2 p1 p2 d1 d2 g (Report from) _ (moved d1 d2 _ _ (ap shape_of reports.state))
     reports.part reports.posts.rest.count reports.posts.rest.backing refl refl
     (λ page offset bytes e. cc) refl (λ why e. no_refusal _ why refl e) rogue
-report_rogue m1 m2 p1 p2 d1 d2 g from (Err why) did rogue =
-    let same = did.refused in
+report_rogue m1 m2 p1 p2 d1 d2 g from (Err why) did rogue = let same = did.refused in
     part_alone m1 m2 p1 p2 d1 d2 g (Report from) (Refused why)
-    (same_driver d1 (unreported why d1) d2 (unreported_same why d1) same.driver) same.part
-    (ap (λ (m : Pages). length m) same.mem)
-    (λ page. ap (λ (m : Pages). frame_at m page) same.mem) refl
+    (same_driver d1 (unreported why d1) d2 (unreported_same why d1) same.driver) same.part (ap
+    (λ (m : Pages). length m) same.mem) (λ page. ap (λ (m : Pages). frame_at m page) same.mem) refl
     (not_for_want why (report_causes d1 p1 from) did.refusal refl) (λ page offset bytes e. cc) refl
     (left_same m1 p1 p2 d1 d2 g (Report from) why (report_causes d1 p1 from) rogue
     (ap (λ (d : DriverState). d.places) same.driver ∙ unreported_places why d1)
-    (ap (λ (d : DriverState). d.actual) same.driver ∙ unreported_actual why d1) same.part did.refusal
-    refl refl) rogue
+    (ap (λ (d : DriverState). d.actual) same.driver
+    ∙ unreported_actual why d1) same.part did.refusal refl refl) rogue
 
 -- ---- used requests
 
@@ -261,8 +255,7 @@ without_same q head d = by (q == INFLATE_QUEUE) (q == DEFLATE_QUEUE) where
 
 reaped_same : (q head : ℕ) (pages : List ℕ) (d1 d2 : DriverState)
     → d2 ≡ with_actual (without_request q head (moved_on q pages d1)) → DriverSame d1 d2
-reaped_same q head pages d1 d2 is =
-    let first = without_same q head (moved_on q pages d1) in
+reaped_same q head pages d1 d2 is = let first = without_same q head (moved_on q pages d1) in
     same_driver d1 (with_actual (without_request q head (moved_on q pages d1))) d2
     (assumption (first.table ∙ length_after (q == INFLATE_QUEUE) (q == DEFLATE_QUEUE))) is
   where
@@ -281,8 +274,7 @@ reap_rogue m1 m2 p1 p2 d1 d2 g q (Ok None) did rogue =
     part_alone m1 m2 p1 p2 d1 d2 g (Reap q) _ (driver_same d1 d2 did.reaps.1) did.reaps.0
     (ap (λ (m : Pages). length m) did.mem) (λ page. ap (λ (m : Pages). frame_at m page) did.mem)
     refl refl (λ page offset bytes e. cc) refl (λ why e. no_refusal _ why refl e) rogue
-reap_rogue m1 m2 p1 p2 d1 d2 g q (Ok (Some reaped)) did rogue =
-    let part = did.reaps.part in
+reap_rogue m1 m2 p1 p2 d1 d2 g q (Ok (Some reaped)) did rogue = let part = did.reaps.part in
     let same : (page : ℕ) → frame_at m2 page ≡ frame_at m1 page =
     λ page. ap (λ (m : Pages). frame_at m page) did.mem in
     let count : length m2 ≡ length m1 = ap (λ (m : Pages). length m) did.mem in
@@ -304,13 +296,11 @@ reap_rogue m1 m2 p1 p2 d1 d2 g q (Err why) did rogue =
 pub stats_rogue : (m1 m2 : Pages) (p1 p2 : Part) (d1 d2 : DriverState) (g : Guest)
     (result : Result Bool Refusal) → FillsBy m1 m2 p1 p2 d1 d2 result → Rogue m1 p1 d1 g
     → StepsAlone (Rogue m2 p2 d2) g Stats (filled_reply result)
-stats_rogue m1 m2 p1 p2 d1 d2 g (Ok true) did rogue =
-    let fills = did.fills in
+stats_rogue m1 m2 p1 p2 d1 d2 g (Ok true) did rogue = let fills = did.fills in
     part_alone m1 m2 p1 p2 d1 d2 g Stats _
     (shaped d1 d2 (ap shape_of fills.state)) fills.part fills.posts.rest.count fills.posts.rest.backing refl refl
     (λ page offset bytes e. cc) refl (λ why e. no_refusal _ why refl e) rogue
-stats_rogue m1 m2 p1 p2 d1 d2 g (Ok false) did rogue =
-    let same = did.fills.unchanged in
+stats_rogue m1 m2 p1 p2 d1 d2 g (Ok false) did rogue = let same = did.fills.unchanged in
     part_alone m1 m2 p1 p2 d1 d2 g Stats _ (driver_same d1 d2 same.driver) same.part
     (ap (λ (m : Pages). length m) same.mem) (λ page. ap (λ (m : Pages). frame_at m page) same.mem)
     refl refl (λ page offset bytes e. cc) refl (λ why e. no_refusal _ why refl e) rogue
@@ -324,8 +314,7 @@ stats_rogue m1 m2 p1 p2 d1 d2 g (Err why) did rogue =
 
 pub reset_rogue : (m1 m2 : Pages) (p1 p2 : Part) (d1 d2 : DriverState) (g : Guest)
     → ResetsBy m1 m2 p1 p2 d1 d2 → Rogue m1 p1 d1 g → StepsAlone (Rogue m2 p2 d2) g Reset Done
-reset_rogue m1 m2 p1 p2 d1 d2 g did rogue =
-    let part = did.part in
+reset_rogue m1 m2 p1 p2 d1 d2 g did rogue = let part = did.part in
     rogue_alone m1 m2 p1 p2 d1 d2 g Reset Done rogue (record {
       driver = record {
         pages = ap (λ (d : DriverState). d.pages) did.state;

@@ -87,9 +87,8 @@ rogue_after g frames part d = record g {
 
 pub rogue_stands : (m1 m2 : Pages) (p1 p2 : Part) (d1 d2 : DriverState) (g : Guest)
     (frames : List (Option ℕ)) → Rogue m1 p1 d1 g → Keeps g.config.queue_size m1 m2 p1 p2 d1 d2
-    → length m2 ≡ length m1 → length frames ≡ length g.frames
-    → ((page : ℕ) → frame_at m2 page ≡ frame_of frames page)
-    → Rogue m2 p2 d2 (rogue_after g frames p2 d2)
+    → length m2 ≡ length m1 → length frames ≡ length g.frames → ((page : ℕ)
+    → frame_at m2 page ≡ frame_of frames page) → Rogue m2 p2 d2 (rogue_after g frames p2 d2)
 rogue_stands m1 m2 p1 p2 d1 d2 g frames rogue keeps count framed behind = grind arith
 
 -- what a device says of its guest where that is rogue, but its status
@@ -102,10 +101,9 @@ said p = record no_part {
 }
 
 -- where driver and device say what they said, the guest has other frames and another status at most
-pub rogue_same : (m : Pages) (p1 p2 : Part) (d1 d2 : DriverState) (g : Guest)
-    (frames : List (Option ℕ)) → Rogue m p1 d1 g → d2.places ≡ d1.places → d2.actual ≡ d1.actual
-    → said p2 ≡ said p1
-    → rogue_after g frames p2 d2 ≡ record g { frames = frames; status = p2.status }
+pub rogue_same : (m : Pages) (p1 p2 : Part) (d1 d2 : DriverState) (g : Guest) (frames : List
+    (Option ℕ)) → Rogue m p1 d1 g → d2.places ≡ d1.places → d2.actual ≡ d1.actual → said p2
+    ≡ said p1 → rogue_after g frames p2 d2 ≡ record g { frames = frames; status = p2.status }
 rogue_same m p1 p2 d1 d2 g frames rogue places told same = grind arith
 
 -- the device is as it was
@@ -280,14 +278,13 @@ rogue_own m1 m2 p1 p2 d g memory part rogue =
 
 -- a claim was refused: nothing is changed
 pub rogue_unclaimed : (Answers : List Bool → Claim → Type 0) (out1 out2 : List Bool)
-    (m1 m2 : Pages) (p1 p2 : Part) (d : DriverState) (g : Guest) (call : Call)
-    (claims : List Claim) (why : Refusal) → Rogue m1 p1 d g → m2 ≡ m1
-    → p2 ≡ record p1 { own = p2.own } → AreClaimsFor (pages_to_back call g) claims
-    → claim_refusal claims ≡ Some why → target_after call p1.target ≡ p1.target → after_refused
-    call why claims g ≡ g → ((page offset : ℕ) (bytes : List ℕ) → call ≡ Scribble page offset bytes
-    → HonestStep g (Scribble page offset bytes) claims (Refused why) g)
-    → AreClaimed Answers (supply_of p1 out1) claims
-    → Moves (supply_of p1 out1) (supply_of p2 out2) nothing nothing → StepsOver
+    (m1 m2 : Pages) (p1 p2 : Part) (d : DriverState) (g : Guest) (call : Call) (claims : List Claim)
+    (why : Refusal) → Rogue m1 p1 d g → m2 ≡ m1 → p2 ≡ record p1 { own = p2.own }
+    → AreClaimsFor (pages_to_back call g) claims → claim_refusal claims ≡ Some why
+    → target_after call p1.target ≡ p1.target → after_refused call why claims g ≡ g
+    → ((page offset : ℕ) (bytes : List ℕ) → call ≡ Scribble page offset bytes → HonestStep g
+    (Scribble page offset bytes) claims (Refused why) g) → AreClaimed Answers (supply_of p1 out1)
+    claims → Moves (supply_of p1 out1) (supply_of p2 out2) nothing nothing → StepsOver
     (Rogue m2 p2 d) Answers (supply_of p1 out1) (supply_of p2 out2) claims g call (Refused why)
 rogue_unclaimed Answers out1 out2 m1 m2 p1 p2 d g call claims why rogue memory part made refused still left scribble answered moves =
     let stands = rogue_own m1 m2 p1 p2 d g memory part rogue in

@@ -13,8 +13,7 @@ use Rattle.vb_guest.proofs.RunApart.{OthersSame, PostLeaves, queues_same, sizes_
 -- reserved pages are as before, and the guest runs on
 pub runs_on : (m1 m2 : Pages) (p : Part) (d : DriverState) (g : Guest) → IsRunning m1 p d g
     → SameReserved m1 m2 g.config.queue_size → IsRunning m2 p d g
-runs_on m1 m2 p d g run low =
-    let n = g.config.pages in
+runs_on m1 m2 p d g run low = let n = g.config.pages in
     let size = g.config.queue_size in
     let same = queues_same m1 m2 d size (sizes_of m1 p d g run) low in
     record {
@@ -47,8 +46,7 @@ pub record OthersRun (m : Pages) (p : Part) (d : DriverState) (g : Guest) (q : �
 pub others_run : (m1 m2 : Pages) (p : Part) (d : DriverState) (g : Guest) (q : ℕ)
     → IsRunning m1 p d g → OthersSame m1 m2 d q
     → ((page : ℕ) → frame_at m2 page ≡ frame_at m1 page) → OthersRun m2 p d g q
-others_run m1 m2 p d g q run same behind =
-    let n = g.config.pages in
+others_run m1 m2 p d g q run same behind = let n = g.config.pages in
     record {
       backed = λ page start. ap is_some (behind page) ∙ run.backed page start;
       inflate = λ other.

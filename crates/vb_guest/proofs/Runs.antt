@@ -97,14 +97,11 @@ pages_take test (x ∷ xs) first (suc i) n d lt e =
 -- one index more
 pub runs_more : {A : Type 0} (test : A → Bool) (xs : List A) (i : ℕ) (d : A)
     (old new : List PageRun) → i < length xs → old ≡ runs (pages_where test (take i xs))
-    → test (slice_index_or xs i d) ≡ true
-    → ((pages : List ℕ) → old ≡ runs pages → new ≡ runs (pages ++ i ∷ []))
-    → new ≡ runs (pages_where test (take (i + 1) xs))
-runs_more test xs i d old new lt is passes pushed =
-    let next : i + 1 ≡ suc i = omega arith in
-    pushed (pages_where test (take i xs)) is
-    ∙ ap runs (sym (ap (λ (k : ℕ). pages_where test (take k xs)) next
-    ∙ pages_take test xs 0 i i d lt (omega arith)
+    → test (slice_index_or xs i d) ≡ true → ((pages : List ℕ) → old ≡ runs pages
+    → new ≡ runs (pages ++ i ∷ [])) → new ≡ runs (pages_where test (take (i + 1) xs))
+runs_more test xs i d old new lt is passes pushed = let next : i + 1 ≡ suc i = omega arith in
+    pushed (pages_where test (take i xs)) is ∙ ap runs (sym
+    (ap (λ (k : ℕ). pages_where test (take k xs)) next ∙ pages_take test xs 0 i i d lt (omega arith)
     ∙ ap (λ (b : Bool). pages_where test (take i xs) ++ (if b then i ∷ [] else [])) passes))
 
 none_more : (xs : List ℕ) → xs ++ [] ≡ xs
@@ -114,8 +111,7 @@ none_more (x ∷ xs) = ap (λ (l : List ℕ). x ∷ l) (none_more xs)
 pub runs_same : {A : Type 0} (test : A → Bool) (xs : List A) (i : ℕ) (d : A) (old : List PageRun)
     → i < length xs → old ≡ runs (pages_where test (take i xs))
     → test (slice_index_or xs i d) ≡ false → old ≡ runs (pages_where test (take (i + 1) xs))
-runs_same test xs i d old lt is fails =
-    let next : i + 1 ≡ suc i = omega arith in
+runs_same test xs i d old lt is fails = let next : i + 1 ≡ suc i = omega arith in
     is ∙ ap runs (sym (ap (λ (k : ℕ). pages_where test (take k xs)) next
     ∙ pages_take test xs 0 i i d lt (omega arith)
     ∙ ap (λ (b : Bool). pages_where test (take i xs) ++ (if b then i ∷ [] else [])) fails

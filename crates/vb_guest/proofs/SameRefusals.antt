@@ -38,8 +38,7 @@ last_cause (cause ∷ causes) b why e = by cause.holds (last_cause causes b why 
 pub take_same : (q : ℕ) (part : Part) (g : Guest) → part.status ≡ g.status
     → part.features ≡ g.features → length (queue_part q part).taken ≡ taken_count g q
     → take_refusal q part ≡ refusal_of g (Take q)
-take_same q part g status features taken =
-    let count : ℕ = length (queue_part q part).taken in
+take_same q part g status features taken = let count : ℕ = length (queue_part q part).taken in
     ap (λ (s : ℕ). first_refusal
     (take_causes q (record { status = s; features = part.features }) count)) status ∙ ap
     (λ (f : ℕ). first_refusal (take_causes q (record { status = g.status; features = f }) count))

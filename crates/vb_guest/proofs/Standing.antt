@@ -103,24 +103,21 @@ steps_quiet Answers stands step = search arith
 -- ---- frames that pages lost
 
 -- they are out
-pub freed_loose : {New Other : Guest → Type 0} {keeps : Bool} {m1 : Pages} {p1 : Part} (p2 : Part)
-    {d : DriverState} {g : Guest} (out : List Bool) {call : Call} {reply : Reply}
+pub freed_loose : {New Other : Guest → Type 0} {keeps : Bool} {m1 : Pages} {p1 : Part}
+    (p2 : Part) {d : DriverState} {g : Guest} (out : List Bool) {call : Call} {reply : Reply}
     → Stands keeps m1 p1 d g → (keeps ≡ false → AreOut g out) → SameOwn p1 p2
-    → (Honest m1 p1 d g → StepsFreeing New p2.loose g call reply)
-    → (Rogue m1 p1 d g → StepsFreeing Other p2.loose g call reply)
-    → AreLoose p2.loose (supply_of p2 out)
+    → (Honest m1 p1 d g → StepsFreeing New p2.loose g call reply) → (Rogue m1 p1 d g
+    → StepsFreeing Other p2.loose g call reply) → AreLoose p2.loose (supply_of p2 out)
 freed_loose p2 {g = g} out {call} {reply} stands held same honest rogue n =
     let lost = by_guest _ _ _ _ g stands (λ h. sum (honest h)) (λ r. sum (rogue r)) in
-    by_keeps (supply_of p2 out)
-    (λ e. (let k = sym stands.own.flag ∙ sym same.flag ∙ e in
+    by_keeps (supply_of p2 out) (λ e. (let k = sym stands.own.flag ∙ sym same.flag ∙ e in
     omega (
       arith,
       lost.1 n,
       stands.own.each k n,
       ap one_if (used_own (supply_of p2 out) n e),
       ap (λ (l : List ℕ). one_if (has l n)) same.numbers,
-    )))
-    (λ e. (let k = sym stands.own.flag ∙ sym same.flag ∙ e in
+    ))) (λ e. (let k = sym stands.own.flag ∙ sym same.flag ∙ e in
     omega (arith, lost.1 n, held k n, ap one_if (used_out (supply_of p2 out) n e))))
   where
     sum : {New : Guest → Type 0} → StepsFreeing New p2.loose g call reply
@@ -138,9 +135,8 @@ pub steps_freed : {keeps : Bool} {m1 m2 m3 : Pages} {p1 : Part} (p2 : Part) {p3 
     → StepsOver (Stands keeps m3 p3 d) Answers (supply_of p1 out1) (supply_of p3 out2) [] g call
     reply
 steps_freed {m1 = m1} {m2} {m3} {p1} p2 {p3} {d} {g} {Answers} {out1} {out2} {call} {reply} stands
-    same memory part honest rogue moves =
-    over_stands _ m1 m3 p1 p3 d d g Answers out1 out2 [] call reply stands
-    (λ h. over (Honest m2 (handed_back p2) d) (Honest m3 p3 d)
+    same memory part honest rogue moves = over_stands _ m1 m3 p1 p3 d d g Answers
+    out1 out2 [] call reply stands (λ h. over (Honest m2 (handed_back p2) d) (Honest m3 p3 d)
     (λ x. honest_own m2 m3 (handed_back p2) p3 d x memory part) (honest h))
     (λ r. over (Rogue m2 (handed_back p2) d) (Rogue m3 p3 d)
     (λ x. rogue_own m2 m3 (handed_back p2) p3 d x memory part) (rogue r))

@@ -59,16 +59,15 @@ figures_same d g places pages = grind arith
 refilled : (m1 m2 : Pages) (p1 p2 : Part) (d1 d2 : DriverState) (g : Guest) (old : Figures)
     → g.buffer ≡ BufferDone old → Refills m1 m2 p1 p2 d1 d2 → Honest m1 p1 d1 g
     → IsRunning m1 p1 d1 g → refusal_of g Stats ≡ None → StepsAlone (Honest m2 p2 d2) g Stats Filled
-refilled m1 m2 p1 p2 d1 d2 g old is did stands run free =
-    let ties = stands.ties in
+refilled m1 m2 p1 p2 d1 d2 g old is did stands run free = let ties = stands.ties in
     let n = g.config.pages in
     let now : Figures = figures g in
     let L : StatisticsBuffer → Type 0 = λ b. BufferLine m1 d1.statistics p1.statistics b in
     let line : L (BufferDone old) = subst L is run.statistics in
     let size = g.config.queue_size in
     let rest = did.posts.rest in
-    let ring = ring_of size 2 d1.statistics line.stands.sized line.stands.layout
-    run.statistics_size in
+    let ring =
+    ring_of size 2 d1.statistics line.stands.sized line.stands.layout run.statistics_size in
     let same = post_same m1 m2 size 2 12 d1.statistics.layout ring
     (omega (arith, reserved_least size)) rest.count rest.backing rest.others in
     let leaves = post_leaves m1 m2 d1 size 2 12 d1.statistics.layout (sizes_of m1 p1 d1 g run) ring
@@ -81,10 +80,9 @@ refilled m1 m2 p1 p2 d1 d2 g old is did stands run free =
     let after : DriverState = record d1 { statistics = d2.statistics } in
     let emptied_line = buffer_emptied m1 d1.statistics p1.statistics old line did.takes in
     let B : Figures → Type 0 = λ f. BufferLine m2 d2.statistics p1.statistics (BufferPosted f) in
-    let posted : B now =
-    subst B (figures_same d1 g ties.parts.driver.places ties.parts.driver.pages)
-    (buffer_posted m1 m2 (emptied d1.statistics) d2.statistics p1.statistics (figures_of d1)
-    emptied_line did.posts) in
+    let posted : B now = subst B
+    (figures_same d1 g ties.parts.driver.places ties.parts.driver.pages) (buffer_posted m1 m2
+    (emptied d1.statistics) d2.statistics p1.statistics (figures_of d1) emptied_line did.posts) in
     let sized = ap (λ (r : DriverEnd). r.size) did.posts.state ∙ run.statistics_size in
     let there : Ties m2 p1 after new = record {
       parts = ties.parts;
@@ -97,8 +95,7 @@ refilled m1 m2 p1 p2 d1 d2 g old is did stands run free =
 pub stats_step : (m1 m2 : Pages) (p1 p2 : Part) (d1 d2 : DriverState) (g : Guest)
     (result : Result Bool Refusal) → FillsBy m1 m2 p1 p2 d1 d2 result → Honest m1 p1 d1 g
     → StepsAlone (Honest m2 p2 d2) g Stats (filled_reply result)
-stats_step m1 m2 p1 p2 d1 d2 g result did stands =
-    let device = stands.ties.parts.device in
+stats_step m1 m2 p1 p2 d1 d2 g result did stands = let device = stands.ties.parts.device in
     by result did
     (refused_alike m1 p1 d1 g Stats _ stands.ties.queues (stats_idle m1 p1 d1 g device.status)
     (λ run. stats_same m1 p1 d1 g (slice_get (used_heads g.buffer) 0) device.status
@@ -128,8 +125,7 @@ stats_step m1 m2 p1 p2 d1 d2 g result did stands =
         → first_refusal (stats_causes m1 p1 d1) ≡ refusal_of g Stats
         → StepsAlone (Honest m2 p2 d2) g Stats (filled_reply result)
     by (Err why) did same = stats_refused m1 m2 p1 p2 d1 d2 g why did stands same
-    by (Ok filled) did same =
-        let free : refusal_of g Stats ≡ None = sym (did.refusal ∙ same) in
+    by (Ok filled) did same = let free : refusal_of g Stats ≡ None = sym (did.refusal ∙ same) in
         let run = runs_where m1 p1 d1 g Stats _ stands.ties.queues
         (stats_idle m1 p1 d1 g stands.ties.parts.device.status) free in
         by_buffer g.buffer filled refl did run (answer run) free

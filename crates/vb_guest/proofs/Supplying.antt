@@ -86,8 +86,7 @@ pub backed_last : (p f : ℕ) (pages numbers : List ℕ) (frames : List (Option 
     → backed p f (all_backed pages numbers frames) ≡ all_backed pages numbers (backed p f frames)
 backed_last p f [] numbers frames out = refl
 backed_last p f (q ∷ qs) [] frames out = refl
-backed_last p f (q ∷ qs) (k ∷ ks) frames out =
-    let parts = neither (q == p) (is_in p qs) out in
+backed_last p f (q ∷ qs) (k ∷ ks) frames out = let parts = neither (q == p) (is_in p qs) out in
     backed_last p f qs ks (backed q k frames) parts.1
     ∙ ap (λ (l : List (Option ℕ)). all_backed qs ks l) (backed_swap p f q k frames parts.0)
 

@@ -77,8 +77,7 @@ flag_of g page free = grind arith
 pub sweep_step : (m1 m2 : Pages) (p1 p2 : Part) (d : DriverState) (g : Guest) (page : ℕ)
     (result : Result Bool Refusal) → SweepsBy page m1 m2 p1 p2 result → Honest m1 p1 d g
     → StepsFreeing (Honest m2 (handed_back p2) d) p2.loose g (Sweep page) (swept_reply result)
-sweep_step m1 m2 p1 p2 d g page result did stands =
-    let device = stands.ties.parts.device in
+sweep_step m1 m2 p1 p2 d g page result did stands = let device = stands.ties.parts.device in
     by_state m1 p1 d g (Sweep page) (sweep_refusal page p1) stands.ties.queues
     (sweep_idle page p1 g device.status)
     (λ run. sweep_same page p1 g device.status device.features device.ballooned)

@@ -97,9 +97,8 @@ pub take_by : (m1 m2 : Pages) (p1 p2 : Part) (d : DriverState) (g : Guest) (q : 
 take_by m1 m2 p1 p2 d g q result has did stands counts goes =
     let device = stands.ties.parts.device in
     by_state m1 p1 d g (Take q) (take_refusal q p1) stands.ties.queues
-    (take_idle q p1 g has device.status)
-    (λ run. take_same q p1 g device.status device.features (counts run))
-    (λ why. take_refused m1 m2 p1 p2 d g q why result did stands) goes
+    (take_idle q p1 g has device.status) (λ run. take_same q p1 g device.status device.features
+    (counts run)) (λ why. take_refused m1 m2 p1 p2 d g q why result did stands) goes
 
 pub take_buffer : (m1 m2 : Pages) (p1 p2 : Part) (d : DriverState) (g : Guest)
     (result : Result (Option ℕ) Refusal) → TakesBy 2 m1 m2 p1 p2 result → Honest m1 p1 d g

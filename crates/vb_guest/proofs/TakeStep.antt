@@ -42,8 +42,7 @@ found Deflating m d n r large len is code = let size = d.deflate.ring.size in re
   request = coded_pages m 1 size n d.deflate.sent r len is code;
   quiet = λ p. refl;
 }
-found Reporting_free m d n r large len is code =
-    let size = d.report.ring.size in
+found Reporting_free m d n r large len is code = let size = d.report.ring.size in
     let blocks = d.report.blocks in
     let C : ℕ → Type 0 = λ h. ChainGives (descriptor_at m (ring_page size 4)) size
     (4096 * length m) h (pieces_of blocks) in
@@ -60,8 +59,7 @@ found Reporting_free m d n r large len is code =
 next_is : (kind : Kind) (m : Pages) (p : Part) (d : DriverState) (g : Guest)
     → p.queue_size ≡ (ring_of (queue_of kind) d).size → LineOf kind m p d g
     → next_available (queue_of kind) m p ≡ Ok (slice_get (heads_of (requests kind g).posted) 0)
-next_is kind m p d g size line =
-    let q = queue_of kind in
+next_is kind m p d g size line = let q = queue_of kind in
     same_entry m q p.queue_size (queue_part q p).next_avail (ring_of q d) line.ring.layout size
     ∙ next_shown m q (ring_of q d) (queue_part q p) (requests kind g) line.ring
 

@@ -14,8 +14,7 @@ target_set g n =
 -- the guest has the new target
 pub target_stands : (m1 m2 : Pages) (p1 p2 : Part) (d : DriverState) (g : Guest) (n : ℕ) → m2 ≡ m1
     → p2 ≡ record p1 { target = n } → Honest m1 p1 d g → Honest m2 p2 d (record g { target = n })
-target_stands m1 m2 p1 p2 d g n memory part stands =
-    let ties = stands.ties in
+target_stands m1 m2 p1 p2 d g n memory part stands = let ties = stands.ties in
     let new : Guest = record g { target = n } in
     let after : Part = record p1 { target = n } in
     let there : Ties m1 after d new = record {

@@ -29,9 +29,8 @@ visit_of paced taken = if paced then next_page taken else None
 
 -- what a device does that would visit this page of an inflate, and this one of a report
 abbrev WorksOn : Option ℕ → Option ℕ → Guest → Reply → Guest → Type 0
-WorksOn a b g reply new =
-    MatchOption a (MatchOption b (Idles g reply new) (VisitsOf Reporting_free g reply new))
-    (VisitsOf Inflating g reply new)
+WorksOn a b g reply new = MatchOption a (MatchOption b
+    (Idles g reply new) (VisitsOf Reporting_free g reply new)) (VisitsOf Inflating g reply new)
 
 -- ---- refusals, and nothing to visit
 
@@ -66,8 +65,7 @@ next_taken P (r ∷ rs) page all e = step (is_unvisited r) e
 pub next_own : {size : ℕ} (n : ℕ) (paced : Bool) (taken : List Request) (page : ℕ)
     → All (IsOwnRequest size n) taken → visit_of paced taken ≡ Some page
     → IsOwnRequest size n (record { head = 0; pages = page ∷ []; visited = 0 })
-next_own {size} n true taken page all e =
-    let H : ℕ → Type 0 = λ p. reserved_pages size ≤ p in
+next_own {size} n true taken page all e = let H : ℕ → Type 0 = λ p. reserved_pages size ≤ p in
     let L : ℕ → Type 0 = λ p. p < n in
     record {
       above = All-cons H page [] (next_taken H taken page (λ k x lt. (all k x lt).above) e)
@@ -124,8 +122,7 @@ request_visited kind m1 m2 p1 p2 d g page result did stands run free there perfo
 pub work_step : (m1 m2 : Pages) (p1 p2 : Part) (d : DriverState) (g : Guest)
     (result : Result (Option WorkedPage) Refusal) → WorksBy m1 m2 p1 p2 result → Honest m1 p1 d g
     → StepsFreeing (Honest m2 (handed_back p2) d) p2.loose g Work (worked_reply result)
-work_step m1 m2 p1 p2 d g result did stands =
-    let device = stands.ties.parts.device in
+work_step m1 m2 p1 p2 d g result did stands = let device = stands.ties.parts.device in
     by_state m1 p1 d g Work (work_refusal p1) stands.ties.queues (works_idle p1 g device.status)
     (λ run. works_same p1 g device.status)
     (λ why. work_refused m1 m2 p1 p2 d g why result did stands) (λ run by_part by_model.

@@ -90,21 +90,19 @@ frames_supplied m1 m2 n page frame frames lt has did = record {
   framed = length-at_page page (λ (old : Option ℕ). Some frame) frames ∙ has.framed;
   behind = λ p. elim (cases_eq p page) [
     | inl same ↦ ap (λ (k : ℕ). frame_at m2 k) same ∙ did.backed
-        ∙ sym (ap (λ (k : ℕ). frame_of (backed page frame frames) k) same
-        ∙ at_page-same page (λ (old : Option ℕ). Some frame) frames page None
-        (omega (arith, has.framed)) refl)
+        ∙ sym (ap (λ (k : ℕ). frame_of (backed page frame frames) k) same ∙ at_page-same page
+        (λ (old : Option ℕ). Some frame) frames page None (omega (arith, has.framed)) refl)
     | inr ne ↦ ap number_of (did.others p ne) ∙ has.behind p
         ∙ sym (past_or p ne (cases_lt p (length frames)))
   ];
-}
-  where
-    past_or : (p : ℕ) → p ≢ page → (p < length frames) ⊎ (length frames ≤ p)
-        → frame_of (backed page frame frames) p ≡ frame_of frames p
-    past_or p ne (inl inside) =
-        at_page-other page (λ (old : Option ℕ). Some frame) frames p None inside ne
-    past_or p ne (inr past) = Rattle.std.proofs.lemmas.List.get_or_past (backed page frame frames)
-        p None (omega (arith, length-at_page page (λ (old : Option ℕ). Some frame) frames))
-        ∙ sym (Rattle.std.proofs.lemmas.List.get_or_past frames p None past)
+} where
+  past_or : (p : ℕ) → p ≢ page → (p < length frames) ⊎ (length frames ≤ p)
+      → frame_of (backed page frame frames) p ≡ frame_of frames p
+  past_or p ne (inl inside) =
+      at_page-other page (λ (old : Option ℕ). Some frame) frames p None inside ne
+  past_or p ne (inr past) = Rattle.std.proofs.lemmas.List.get_or_past (backed page frame frames)
+      p None (omega (arith, length-at_page page (λ (old : Option ℕ). Some frame) frames))
+      ∙ sym (Rattle.std.proofs.lemmas.List.get_or_past frames p None past)
 
 -- a page with no frame holds zeros, and so it does with a new one
 pub pages_supplied : (m1 m2 : Pages) (size n page frame : ℕ) (frames : List (Option ℕ))

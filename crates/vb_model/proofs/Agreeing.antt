@@ -148,11 +148,10 @@ performs_agree (Report from) g claims r new r' new' s t = reports_same from g r 
 performs_agree Stats g claims r new r' new' s t = fills_same g.buffer g r new r' new' s.1 t.1
 performs_agree Ask g claims r new r' new' s t = asks_same g.buffer g r new r' new' s.1 t.1
 performs_agree (Reap q) g claims r new r' new' s t = grind (arith, reaps_same)
-performs_agree (Take q) g claims r new r' new' s t =
-    same_case (kind_of_queue q) (TakesBuffer g.buffer g r new) (TakesBuffer g.buffer g r' new')
-    (λ kind. TakesRequest kind (requests kind g).posted g r new)
-    (λ kind. TakesRequest kind (requests kind g).posted g r' new') (Same r new r' new') s.1 t.1
-    (λ s t. takes_buffer_same g.buffer g r new r' new' s t)
+performs_agree (Take q) g claims r new r' new' s t = same_case (kind_of_queue q)
+    (TakesBuffer g.buffer g r new) (TakesBuffer g.buffer g r' new') (λ kind. TakesRequest kind
+    (requests kind g).posted g r new) (λ kind. TakesRequest kind (requests kind g).posted g r' new')
+    (Same r new r' new') s.1 t.1 (λ s t. takes_buffer_same g.buffer g r new r' new' s t)
     (λ kind s t. takes_same kind (requests kind g).posted g r new r' new' s t)
 performs_agree Work g claims r new r' new' s t = works_same g r new r' new' s.1 t.1
 performs_agree (Finish q i) g claims r new r' new' s t = same_case (kind_of_queue q) ⊥ ⊥
@@ -185,10 +184,9 @@ refused_agree call g refusal r new r' new' a b c d = grind arith
 pub honest_agree : (g : Guest) (call : Call) (claims : List Claim) (r : Reply) (new : Guest)
     (r' : Reply) (new' : Guest) → HonestStep g call claims r new → HonestStep g call claims r' new'
     → Agree call r new r' new'
-honest_agree g call claims r new r' new' s t =
-    same_case (refusal_of g call) (Performed call g claims r new) (Performed call g claims r' new')
-    (λ refusal. (claims ≡ []) × (r ≡ Refused refusal) × (new ≡ g))
-    (λ refusal. (claims ≡ []) × (r' ≡ Refused refusal) × (new' ≡ g)) (Agree call r new r' new')
-    (honest_case g call claims r new s) (honest_case g call claims r' new' t)
-    (λ s t. performs_agree call g claims r new r' new' s t)
+honest_agree g call claims r new r' new' s t = same_case (refusal_of g call)
+    (Performed call g claims r new) (Performed call g claims r' new') (λ refusal. (claims ≡ [])
+    × (r ≡ Refused refusal) × (new ≡ g)) (λ refusal. (claims ≡ []) × (r' ≡ Refused refusal)
+    × (new' ≡ g)) (Agree call r new r' new') (honest_case g call claims r new s)
+    (honest_case g call claims r' new' t) (λ s t. performs_agree call g claims r new r' new' s t)
     (λ refusal s t. refused_agree call g refusal r new r' new' s.1 s.2 t.1 t.2)

@@ -33,9 +33,8 @@ away_offered place e = grind arith
 
 -- what event m did to a page that was offered
 data Turn (c : Course) (page m : ℕ) (g new : Guest) : Type 0 where
-  Kept : place_of new.places page ≡ place_of g.places page
-      → ((head : ℕ) (pages : List ℕ) → Only page head pages g.deflate
-      → Only page head pages new.deflate) → Turn c page m g new
+  Kept : place_of new.places page ≡ place_of g.places page → ((head : ℕ) (pages : List ℕ)
+      → Only page head pages g.deflate → Only page head pages new.deflate) → Turn c page m g new
   Gone : is_away (place_of new.places page) ≡ true → Turn c page m g new
   Given : place_of new.places page ≡ Lent → ReapedAt Inflating c page m → Turn c page m g new
   Wanted : place_of g.places page ≡ Lent → place_of new.places page
@@ -208,8 +207,7 @@ since_step c page i m new p lt next (OnTheWay g here at lent asked a b o reaped 
 
 since_until : (c : Course) (page i k : ℕ) (last : Guest) → Positions c → guest_after c (k + 1)
     ≡ Some last → BringsTo c page Giving i → (d m : ℕ) → m ≡ i + 1 + d → m ≤ k → Since c page i m
-since_until c page i k last p end giving zero m e hi =
-    let q : i + 1 ≡ m = omega arith in
+since_until c page i k last p end giving zero m e hi = let q : i + 1 ≡ m = omega arith in
     Away giving.1 (subst (λ (x : ℕ). guest_after c x ≡ Some giving.1) q giving.3)
     (ap is_away giving.5)
 since_until c page i k last p end giving (suc d) m e hi =
@@ -230,9 +228,8 @@ told_first c p page i k lt giving used =
     cases (since_until c page i k used.1 p used.3 giving (k - (i + 1)) k (omega arith) (omega arith))
   where
     refused : (g : Guest) → guest_after c k ≡ Some g → Offered page g → WasAskedBack c page i k
-    refused g here offered =
-        absurd (never_used c page k g used.1 offered (turns c page k g used.1 p here used.3 offered)
-        used.5)
+    refused g here offered = absurd (never_used c page k g used.1 offered
+        (turns c page k g used.1 p here used.3 offered) used.5)
 
     cases : Since c page i k → WasAskedBack c page i k
     cases (CameBack b) = b

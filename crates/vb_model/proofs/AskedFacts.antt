@@ -230,8 +230,7 @@ ReapsIt c asked p j = (reap : ReapedAt Deflating c 16 j)
 
 the_reap : (c : Course) (asked : ℕ) (p : DeflatePostedAt c 16 asked) → Told c (asked + 2) asked p
     → tells (guest_after c asked) ≡ true → ReapsIt c asked p (asked + 1)
-the_reap c asked p told e =
-    let r = told (ap tells (sym p.is_there) ∙ e) in
+the_reap c asked p told e = let r = told (ap tells (sym p.is_there) ∙ e) in
     let is : r.0 ≡ asked + 1 = omega (arith, r.1, r.2) in
     subst (λ (j : ℕ). ReapsIt c asked p j) is (r.3, r.4, r.5)
 
@@ -454,9 +453,8 @@ at_once_if_it_doesnt s =
 
 -- nor behind a reset, with no deflate in between
 abbrev over_a_reset : Course
-over_a_reset = offering untold
-    (made (Reap 0) (Reaped 0 1) ∷ made Reset Done ∷ made (Alloc 0 0) (Page 16) ∷ [])
-    (giving untold ∷ lent untold ∷ page_16_at Stranded down ∷ handed_out down ∷ [])
+over_a_reset = offering untold (made (Reap 0) (Reaped 0 1) ∷ made Reset Done ∷ made (Alloc 0 0)
+    (Page 16) ∷ []) (giving untold ∷ lent untold ∷ page_16_at Stranded down ∷ handed_out down ∷ [])
 
 -- the reset is one as it should be
 stranded : after_reset (lent untold) ≡ page_16_at Stranded down
@@ -523,9 +521,8 @@ posted_before = record {
 
 posted_too_early : IsSafeCourse posted_early → ⊥
 posted_too_early s = not_by_three posted_early 1 (not_lending posted_early 5 2 3 refl)
-    (not_lending posted_early 5 2 4 refl) (not_asking posted_early 5 3 4 refl)
-    (s.told_first 16 1 5 (omega arith)
-    (asked FreePlace untold, giving untold, refl, refl, (λ e. cc), refl)
+    (not_lending posted_early 5 2 4 refl) (not_asking posted_early 5 3 4 refl) (s.told_first 16 1 5
+    (omega arith) (asked FreePlace untold, giving untold, refl, refl, (λ e. cc), refl)
     (back untold, handed_out untold, refl, refl, (λ e. cc), refl))
 
 -- an inflate that names it came back before, and no other does before the deflate is posted

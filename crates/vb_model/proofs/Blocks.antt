@@ -17,8 +17,7 @@ use Rattle.vb_model.proofs.Distinct.{times-append, times-cons}
 -- down to
 around_start : (m q s t page : ℕ) → 0 < m → m * s ≤ page → page < m * s + m → (m * q) * t ≤ page
     → page < (m * q) * t + m * q → m * s - (m * s) % (m * q) ≡ (m * q) * t
-around_start m q s t page pm a b c d =
-    let flat : (m * q) * t ≡ m * (q * t) = mul_assoc m q t in
+around_start m q s t page pm a b c d = let flat : (m * q) * t ≡ m * (q * t) = mul_assoc m q t in
     let next : m * (s + 1) ≡ m * s + m = mul-add m s 1 ∙ omega arith in
     let wide : m * (q * t + q) ≡ m * (q * t) + m * q = mul-add m (q * t) q in
     let low : q * t < s + 1 = lt_of_mul-lt-mul_left m (omega (arith, flat, next)) in
@@ -49,8 +48,7 @@ covering page b aligned c = grind arith
 -- the block of the larger order round the smaller one's start is the larger one
 larger : (page : ℕ) (b c : Block) → b.order < c.order → is_aligned b ≡ true → covers page b ≡ true
     → is_aligned c ≡ true → covers page c ≡ true → (around b.start c.order).start ≡ c.start
-larger page b c l ab cb ac cc' =
-    let x = covering page b ab cb in
+larger page b c l ab cb ac cc' = let x = covering page b ab cb in
     let y = covering page c ac cc' in
     let gap : ℕ = c.order - b.order in
     let order : c.order ≡ b.order + gap = omega arith in
@@ -109,17 +107,15 @@ no_larger test page b c small x y l =
     larger page b c l x.aligned x.cover y.aligned y.cover in
     let there : is_whole test (around b.start c.order) ≡ true =
     ap (λ (s : ℕ). is_whole test (record { start = s; order = c.order })) start ∙ y.free in
-    let any : list_any (λ order. is_whole test (around b.start order))
-    (range_with_len (suc b.order) (max_order - b.order)) ≡ true =
-    any_in_range (λ order. is_whole test (around b.start order)) c.order (suc b.order)
-    (max_order - b.order) (omega arith) (omega arith) there in
+    let any : list_any (λ order. is_whole test (around b.start order)) (range_with_len (suc b.order)
+    (max_order - b.order)) ≡ true = any_in_range (λ order. is_whole test (around b.start order))
+    c.order (suc b.order) (max_order - b.order) (omega arith) (omega arith) there in
     let bad : true ≡ false = sym any ∙ x.widest in absurd cc
 
 -- two blocks of one order round a page are one
 same_start : (page : ℕ) (b c : Block) → b.order ≡ c.order → is_aligned b ≡ true
     → covers page b ≡ true → is_aligned c ≡ true → covers page c ≡ true → b.start ≡ c.start
-same_start page b c e ab cb ac cc' =
-    let x = covering page b ab cb in
+same_start page b c e ab cb ac cc' = let x = covering page b ab cb in
     let y = covering page c ac cc' in
     let m : ℕ = 2 ^ b.order in
     let same : 2 ^ c.order ≡ m = ap (λ (k : ℕ). 2 ^ k) (sym e) in
@@ -169,21 +165,18 @@ times_in_range page first count = cases (nat_le first page && nat_lt page (first
         step : (first ≡ page) ⊎ (first ≢ page)
             → (first ≢ page → times page (range_with_len (first + 1) count) ≡ 1)
             → times page (range_with_len first (suc count)) ≡ 1
-        step (inl e) ih =
-            let o : one_if (first == page) ≡ 1 = ap one_if (eq-eqb first page e) in
+        step (inl e) ih = let o : one_if (first == page) ≡ 1 = ap one_if (eq-eqb first page e) in
             omega (
               arith,
               times-cons page first (range_with_len (first + 1) count),
               below (first + 1) count (omega arith),
             )
-        step (inr d) ih =
-            let o : one_if (first == page) ≡ 0 = ap one_if (ne_eqb first page d) in
+        step (inr d) ih = let o : one_if (first == page) ≡ 0 = ap one_if (ne_eqb first page d) in
             omega (arith, times-cons page first (range_with_len (first + 1) count), ih d)
 
     cases : (v : Bool) → (nat_le first page && nat_lt page (first + count)) ≡ v
         → times page (range_with_len first count) ≡ one_if v
-    cases true e =
-        let parts = and_parts (nat_le first page) (nat_lt page (first + count)) e in
+    cases true e = let parts = and_parts (nat_le first page) (nat_lt page (first + count)) e in
         inside first count (leb-true first page parts.0) (ltb-true page (first + count) parts.1)
     cases false e = elim (cases_lt page first) [
       | inl l ↦ below first count l
@@ -232,16 +225,14 @@ count-weaker keep test (x ∷ xs) = omega (
   count_by-cons (λ y. keep y && test y) x xs,
   count_by-cons test x xs,
   count-weaker keep test xs,
-)
-  where
-    less : (a b : Bool) → one_if (a && b) ≤ one_if b
-    less true b = omega arith
-    less false true = omega arith
-    less false false = omega arith
+) where
+  less : (a b : Bool) → one_if (a && b) ≤ one_if b
+  less true b = omega arith
+  less false true = omega arith
+  less false false = omega arith
 
-passes-none : (test : ℕ → Bool) (first count : ℕ)
-    → ((k : ℕ) → first ≤ k → k < first + count → test k ≡ false)
-    → count_by test (range_with_len first count) ≡ 0
+passes-none : (test : ℕ → Bool) (first count : ℕ) → ((k : ℕ) → first ≤ k
+    → k < first + count → test k ≡ false) → count_by test (range_with_len first count) ≡ 0
 passes-none test first zero h = refl
 passes-none test first (suc count) h =
     let z : one_if (test first) ≡ 0 = ap one_if (h first (omega arith) (omega arith)) in omega (
@@ -261,8 +252,7 @@ passes-one test first (suc count) one = step (test first) refl
         → count_by test (range_with_len first (suc count)) ≤ 1
     step false e ih = let z : one_if (test first) ≡ 0 = ap one_if e in
         omega (arith, count_by-cons test first (range_with_len (first + 1) count))
-    step true e ih =
-        let o : one_if (test first) ≡ 1 = ap one_if e in
+    step true e ih = let o : one_if (test first) ≡ 1 = ap one_if e in
         let rest : count_by test (range_with_len (first + 1) count) ≡ 0 =
         passes-none test (first + 1) count (λ k a b. false_from_ne_true (test k)
         (λ t. let same : first ≡ k = one first k (omega arith) (omega arith) e t in
@@ -296,9 +286,8 @@ flat-none test f first (suc count) h = omega (
 )
 
 flat-one : (test : Block → Bool) (f : ℕ → List Block) (first count : ℕ)
-    → ((k : ℕ) → count_by test (f k) ≤ 1)
-    → ((a b : ℕ) → 0 < count_by test (f a) → 0 < count_by test (f b) → a ≡ b)
-    → count_by test (flat_map f (range_with_len first count)) ≤ 1
+    → ((k : ℕ) → count_by test (f k) ≤ 1) → ((a b : ℕ) → 0 < count_by test (f a)
+    → 0 < count_by test (f b) → a ≡ b) → count_by test (flat_map f (range_with_len first count)) ≤ 1
 flat-one test f first zero each one = omega arith
 flat-one test f first (suc count) each one =
     step (cases_lt 0 (count_by test (f first))) (flat-one test f (first + 1) count each one)
@@ -323,8 +312,7 @@ flat-one test f first (suc count) each one =
 one_block : (test : ℕ → Bool) (page : ℕ) (s t j k : ℕ) → j ≤ max_order → k ≤ max_order
     → holds test page (record { start = s; order = j }) ≡ true
     → holds test page (record { start = t; order = k }) ≡ true → (s ≡ t) × (j ≡ k)
-one_block test page s t j k lj lk hj hk =
-    let b : Block = record { start = s; order = j } in
+one_block test page s t j k lj lk hj hk = let b : Block = record { start = s; order = j } in
     let c : Block = record { start = t; order = k } in
     let x = is_round test page b hj in
     let y = is_round test page c hk in
@@ -353,8 +341,7 @@ at_most_one test page n = flat-one (holds test page) blocks_at 0 n each_start st
 
   starts : (s t : ℕ) → 0 < count_by (holds test page) (blocks_at s)
       → 0 < count_by (holds test page) (blocks_at t) → s ≡ t
-  starts s t hs ht =
-      let a = passes-some (test_at s) 0 (suc max_order) (omega (arith, counted s)) in
+  starts s t hs ht = let a = passes-some (test_at s) 0 (suc max_order) (omega (arith, counted s)) in
       let b = passes-some (test_at t) 0 (suc max_order) (omega (arith, counted t)) in
       (one_block test page s t a.0 b.0 (let l : a.0 < 0 + suc max_order = a.1 in omega arith)
       (let l : b.0 < 0 + suc max_order = b.1 in omega arith) a.2 b.2).0
@@ -362,8 +349,7 @@ at_most_one test page n = flat-one (holds test page) blocks_at 0 n each_start st
 -- the pages of some maximal blocks are distinct
 pub reported_distinct : (test : ℕ → Bool) (keep : Block → Bool) (count n page : ℕ)
     → times page (pages_of_all (take n (filter keep (maximal_blocks count test)))) ≤ 1
-reported_distinct test keep count n page =
-    let maximal : List Block = maximal_blocks count test in
+reported_distinct test keep count n page = let maximal : List Block = maximal_blocks count test in
     let a = times_in_blocks page (take n (filter keep maximal)) in
     let b = count-take (covers page) n (filter keep maximal) in
     let c = count-filter (covers page) keep maximal in

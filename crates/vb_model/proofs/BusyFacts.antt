@@ -92,9 +92,8 @@ held status features (suc j) le = absurd (omega arith)
 
 another_byte_by_law : (status features : ℕ) → ReadsGiveLastWrites (misread status features) → ⊥
 another_byte_by_law status features s =
-    let e : Same 2 1 = (s 32 0 0 0 1 (2 ∷ [])
-    (with_page (Some 5) (1 ∷ []) (busy status features)) (held status features) refl
-    (Processor 0 0, [], refl)).1 0 (omega arith) in omega (arith, e)
+    let e : Same 2 1 = (s 32 0 0 0 1 (2 ∷ []) (with_page (Some 5) (1 ∷ []) (busy status features))
+    (held status features) refl (Processor 0 0, [], refl)).1 0 (omega arith) in omega (arith, e)
 
 -- ---- ballooned pages
 

@@ -82,24 +82,23 @@ count-moved test pages place first (x ∷ xs) out ok = omega (
       (each_from (suc first) (λ p old. cond (is_in p pages) place old) xs),
   count_by-cons test x xs,
   count-moved test pages place (suc first) xs out (λ i l k. ok (suc i) (omega arith) (same i k)),
-)
-  where
-    same : (i : ℕ) → is_in (suc first + i) pages ≡ true → is_in (first + suc i) pages ≡ true
-    same i k = let e : first + suc i ≡ suc first + i = omega arith in
-        ap (λ (p : ℕ). is_in p pages) e ∙ k
+) where
+  same : (i : ℕ) → is_in (suc first + i) pages ≡ true → is_in (first + suc i) pages ≡ true
+  same i k = let e : first + suc i ≡ suc first + i = omega arith in
+      ap (λ (p : ℕ). is_in p pages) e ∙ k
 
-    first_is : is_in first pages ≡ true → is_in (first + 0) pages ≡ true
-    first_is k = let e : first + 0 ≡ first = omega arith in ap (λ (p : ℕ). is_in p pages) e ∙ k
+  first_is : is_in first pages ≡ true → is_in (first + 0) pages ≡ true
+  first_is k = let e : first + 0 ≡ first = omega arith in ap (λ (p : ℕ). is_in p pages) e ∙ k
 
-    here : (v : Bool) → is_in first pages ≡ v
-        → one_if (test (cond (is_in first pages) place x)) + one_if (is_in first pages)
-        ≡ one_if (test x)
-    here true e =
-        let a : one_if (test (cond (is_in first pages) place x)) ≡ 0 =
-        ap (λ (b : Bool). one_if (test (cond b place x))) e ∙ ap one_if out in
-        let c : one_if (test x) ≡ 1 = ap one_if (ok 0 (omega arith) (first_is e)) in
-        let d : one_if (is_in first pages) ≡ 1 = ap one_if e in omega (arith, a, c, d)
-    here false e = grind arith
+  here : (v : Bool) → is_in first pages ≡ v
+      → one_if (test (cond (is_in first pages) place x)) + one_if (is_in first pages)
+      ≡ one_if (test x)
+  here true e =
+      let a : one_if (test (cond (is_in first pages) place x)) ≡ 0 =
+      ap (λ (b : Bool). one_if (test (cond b place x))) e ∙ ap one_if out in
+      let c : one_if (test x) ≡ 1 = ap one_if (ok 0 (omega arith) (first_is e)) in
+      let d : one_if (is_in first pages) ≡ 1 = ap one_if e in omega (arith, a, c, d)
+  here false e = grind arith
 
 pub moved_out : (test : Place → Bool) (pages : List ℕ) (place : Place) (places : List Place)
     → test place ≡ false → AllDistinct pages

@@ -46,16 +46,14 @@ times_rising test [] first page = omega arith
 times_rising test (x ∷ xs) first page = step (test x) (times_rising test xs (suc first) page) where
   here : (v : Bool) → (first == page) ≡ v → times page (pages_from (suc first) test xs) ≤ 1
       → times page (first ∷ pages_from (suc first) test xs) ≤ 1
-  here true e ih =
-      let same : first ≡ page = eqb-true first page e in
+  here true e ih = let same : first ≡ page = eqb-true first page e in
       let one : one_if (first == page) ≡ 1 = ap one_if e in
       omega (
         arith,
         times-cons page first (pages_from (suc first) test xs),
         times_below test xs (suc first) page (omega arith),
       )
-  here false e ih =
-      let one : one_if (first == page) ≡ 0 = ap one_if e in
+  here false e ih = let one : one_if (first == page) ≡ 0 = ap one_if e in
       omega (arith, times-cons page first (pages_from (suc first) test xs))
 
   step : (v : Bool) → times page (pages_from (suc first) test xs) ≤ 1
@@ -73,8 +71,7 @@ pub distinct_list : (xs : List ℕ) (page : ℕ) → AllDistinct xs → times pa
 distinct_list [] page h = omega arith
 distinct_list (x ∷ xs) page h = step (x == page) refl (distinct_list xs page h.1) where
   step : (v : Bool) → (x == page) ≡ v → times page xs ≤ 1 → times page (x ∷ xs) ≤ 1
-  step true e ih =
-      let same : x ≡ page = eqb-true x page e in
+  step true e ih = let same : x ≡ page = eqb-true x page e in
       let one : one_if (x == page) ≡ 1 = ap one_if e in
       let out : is_in page xs ≡ false = subst (λ (p : ℕ). is_in p xs ≡ false) same
       (Rattle.std.proofs.lemmas.Bool.not-true (is_in x xs) h.0) in

@@ -85,9 +85,8 @@ at_places places = record ready
     { places = replicate 16 Reserved ++ (places ++ replicate 40 Free); target = 4 }
 
 abbrev two_stranded : Guest
-two_stranded = record
-    (at_places (Free ∷ Lent ∷ Free ∷ Free ∷ Stranded ∷ Stranded ∷ Free ∷ Free ∷ []))
-    { inflate = heads 0 2 1 }
+two_stranded = record (at_places
+    (Free ∷ Lent ∷ Free ∷ Free ∷ Stranded ∷ Stranded ∷ Free ∷ Free ∷ [])) { inflate = heads 0 2 1 }
 
 abbrev first : List ℕ → ℕ
 first [] = 0

@@ -3,7 +3,7 @@ use Rattle.std.proofs.Common.{◌≡◌, ℕ, suc, ◌<◌, ◌≤◌, Bool, tru
 use Rattle.std.proofs.Common.{refl, sym, ap, subst, ◌∙◌, ◌⊎◌, inl, inr, arith}
 use Rattle.std.specs.Prelude.{◌==◌, ◌||◌, Option, Some, None, MatchBool, slice_get}
 use Rattle.std.proofs.lemmas.Bool.{eqb-true}
-use Rattle.vb_model.proofs.{CallSteps.match_cases, Frames.{backed_cases, FramesMove, honest_move}}
+use Rattle.vb_model.proofs.{CallSteps.match_cases, Frames.{backed_cases, honest_move}}
 use Rattle.vb_model.proofs.{Frames.negotiates_frames, Performed.{Performed, Supplying, honest_case}}
 use Rattle.vb_model.{proofs.Wanting.{claims_needed, refused_claims}, specs.Driver.given}
 use Rattle.vb_model.specs.{Driver.{claim_refusal, AreClaimsFor, Written, pages_needed}, Guest.Guest}
@@ -213,8 +213,7 @@ step_wants w g call claims reply new gives s want = by (claim_refusal claims) re
       all_given w.frames (IsOut w) (pages_to_back call g) claims want.claimed gives
       (claims_needed g call claims reply new s) e want.all_out in
       absurd (omega (arith, least, want.fewer))
-  by (Some refusal) e =
-      let told = refused_claims g call claims reply new refusal s e in
+  by (Some refusal) e = let told = refused_claims g call claims reply new refusal s e in
       elim (claim_refusals claims refusal e) [
         | inl is ↦ inl (told.0 ∙ ap Refused is)
         | inr is ↦ inr (told.0 ∙ ap Refused is)

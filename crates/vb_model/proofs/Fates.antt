@@ -43,9 +43,8 @@ not_missing w n m g refusal here e r = cc
 restarted : (w : World) (m n : ℕ) (reply : Reply) (v : World) (g : Guest)
     → guest_at w.guests n ≡ Some g → m ≡ n → WorldStep w (Restart m) reply v
     → guest_at v.guests n ≡ Some (after_restart g)
-restarted w m n reply v g here e s =
-    elim (match_cases (first_refusal (world_causes w (Restart m))) (Happens (Restart m) w reply v)
-    (λ refusal. (reply ≡ Refused refusal) × (v ≡ w)) s) [
+restarted w m n reply v g here e s = elim (match_cases (first_refusal (world_causes w (Restart m)))
+    (Happens (Restart m) w reply v) (λ refusal. (reply ≡ Refused refusal) × (v ≡ w)) s) [
       | inr r ↦ absurd (not_missing w n m g r.0 here e r.1)
       | inl p ↦ elim (match_cases (guest_at w.guests m) ⊥
           (λ g. (reply ≡ Done) × (v ≡ put_guest m (Some (after_restart g)) w)) p.1) [
@@ -65,9 +64,8 @@ restarted w m n reply v g here e s =
 
 unplugged : (w : World) (m n : ℕ) (reply : Reply) (v : World) (g : Guest) → guest_at w.guests n
     ≡ Some g → m ≡ n → WorldStep w (Unplug m) reply v → guest_at v.guests n ≡ None
-unplugged w m n reply v g here e s =
-    elim (match_cases (first_refusal (world_causes w (Unplug m))) (Happens (Unplug m) w reply v)
-    (λ refusal. (reply ≡ Refused refusal) × (v ≡ w)) s) [
+unplugged w m n reply v g here e s = elim (match_cases (first_refusal (world_causes w (Unplug m)))
+    (Happens (Unplug m) w reply v) (λ refusal. (reply ≡ Refused refusal) × (v ≡ w)) s) [
       | inr r ↦ absurd (not_missing w n m g r.0 here e r.1)
       | inl p ↦ ap (λ (u : World). guest_at u.guests n) p.1.1
           ∙ (ap (guest_at (with_guest m None w.guests)) (sym e) ∙ with_guest-same m None w.guests)
@@ -106,9 +104,8 @@ others_untouched w event reply v n g s here others = cases (fate event w reply v
       some_guest : Guest → Option Guest
       some_guest x = Some x
 
-  cases : Fate w event reply v n g
-      → (guest_at v.guests n ≡ Some g) ⊎ ((floor target : ℕ) × (event ≡ Balance floor)
-      × (guest_at v.guests n ≡ Some (record g { target = target })))
+  cases : Fate w event reply v n g → (guest_at v.guests n ≡ Some g) ⊎ ((floor target : ℕ)
+      × (event ≡ Balance floor) × (guest_at v.guests n ≡ Some (record g { target = target })))
   cases (Goes_on new there o) = own new there o
   cases (Begins_anew e there) = absurd (others.no_restart e)
   cases (Is_gone e there) = absurd (others.no_unplug e)
@@ -145,8 +142,7 @@ targets_set w reply v n target old new f =
 
     own : (x : Guest) → Own n w (OnGuest n (SetTarget target)) reply old x → x.target ≡ target
     own x (Nothing_happens other_event unset e) = absurd (other_event (SetTarget target) refl)
-    own x (Own_call call claims e gave step) =
-        let c : SetTarget target ≡ call = cc in
+    own x (Own_call call claims e gave step) = let c : SetTarget target ≡ call = cc in
         (step_keeps old call claims reply x step).aimed
         ∙ ap (λ (y : Call). target_after y old.target) (sym c)
     own x (New_target floor targets e answered q) = absurd cc
@@ -223,9 +219,8 @@ no_frames_left w event reply v n s ends page frame b = was_there (guest_at w.gue
   was_there (Some g) e = ended g e ends
 
 pub restarted_honest : RestartedAreHonest
-restarted_honest w reply v n old new f =
-    ap (λ (y : Guest). y.rogue) (same_some new (after_restart old)
-    (sym f.after ∙ restarted w n n reply v old f.before refl f.step))
+restarted_honest w reply v n old new f = ap (λ (y : Guest). y.rogue) (same_some new
+    (after_restart old) (sym f.after ∙ restarted w n n reply v old f.before refl f.step))
 
 -- ---- rogue guests
 
@@ -291,8 +286,7 @@ scribbles_make_rogues w v n page offset bytes old new f honest =
     own : (x : Guest) → Own n w (OnGuest n (Scribble page offset bytes)) Done old x → x.rogue ≡ true
     own x (Nothing_happens other_event unset e) =
         absurd (other_event (Scribble page offset bytes) refl)
-    own x (Own_call call claims e gave step) =
-        let c : Scribble page offset bytes ≡ call = cc in
+    own x (Own_call call claims e gave step) = let c : Scribble page offset bytes ≡ call = cc in
         scribbled_rogue old page offset bytes claims x
         (subst (λ (y : Call). GuestStep old y claims Done x) (sym c) step)
     own x (New_target floor targets e answered q) = absurd cc

@@ -72,9 +72,8 @@ keeps_contents c p i page g new here next none =
     by None at s = inl (ap (λ (x : Guest). contents_of x page) s)
     by (Some (Looked floor answer)) at s = inl (ap (λ (x : Guest). contents_of x page) s.1)
     by (Some (Called actor call claims reply)) at s =
-        honest_same call page g claims reply new f.blank h.blank
-        (step_keeps g call claims reply new (as_guest g call claims reply new f.honest s.1)).config
-        (λ offset bytes is done. none (
+        honest_same call page g claims reply new f.blank h.blank (step_keeps g call claims reply new
+        (as_guest g call claims reply new f.honest s.1)).config (λ offset bytes is done. none (
           offset,
           bytes,
           (
@@ -174,8 +173,7 @@ byte_step c p page at i g new here next used used' = by s.own s.own_is s.step
         ap (λ (l : List ℕ). get_or l at 0)
         (same_contents c p i page g new here next used used' (other actor call claims reply entry e))
         ∙ sym (no_write page at actor call claims reply (byte_of g page at) e)
-    called actor call claims reply true e entry s =
-        let w = the_write page call reply e in
+    called actor call claims reply true e entry s = let w = the_write page call reply e in
         let step : HonestStep g (Write page w.offset w.bytes) claims Done new =
         subst (λ (x : Call). HonestStep g x claims Done new) w.call_is
         (subst (λ (x : Reply). HonestStep g call claims x new) w.reply_is s.1) in
@@ -202,8 +200,7 @@ bytes_are : (c : Course) → Positions c → (page at i k : ℕ) (g new : Guest)
     → guest_after c i ≡ Some g → guest_after c (i + k) ≡ Some new
     → byte_of new page at ≡ last_put c page at i k (byte_of g page at)
 bytes_are c p page at i zero g new holds here there = grind arith
-bytes_are c p page at i (suc k) g new holds here there =
-    let old = holds k (omega arith) in
+bytes_are c p page at i (suc k) g new holds here there = let old = holds k (omega arith) in
     let now = holds (suc k) (omega arith) in
     let same : now.0 ≡ new = same_some now.0 new (sym now.1 ∙ there) in
     let next : i + suc k ≡ i + k + 1 = omega arith in
@@ -255,9 +252,8 @@ last_writes c p page i k offset len bytes g holds here (actor, claims, entry) =
     let whole = (p.fit (i + k) last.0 last.1).blank.whole page did.there in (
       ap length did.bytes_are ∙ length-take-le len (drop offset (contents_of last.0 page))
           (omega (arith, did.inside, whole, length-drop offset (contents_of last.0 page))),
-      λ j lt. ap (λ (l : List ℕ). get_or l j 0) did.bytes_are
-          ∙ get_or-take len (drop offset (contents_of last.0 page)) j 0 lt
-          ∙ get_or-drop offset (contents_of last.0 page) j 0
+      λ j lt. ap (λ (l : List ℕ). get_or l j 0) did.bytes_are ∙ get_or-take len (drop offset
+          (contents_of last.0 page)) j 0 lt ∙ get_or-drop offset (contents_of last.0 page) j 0
           ∙ bytes_are c p page (offset + j) i k g last.0 holds here last.1,
     )
 

@@ -11,10 +11,9 @@ use Rattle.vb_model.specs.declared.calls.{Event.TheVariants.Restart, GuestSize.G
 use Rattle.vb_model.specs.declared.{calls.Query.Query, replies.Refusal.Refusal}
 use Rattle.vb_model.specs.declared.replies.{Refusal.TheVariants.{NoMemory, Short}, Reply.Reply}
 use Rattle.vb_model.specs.declared.replies.Reply.TheVariants.{Plugged, Done, Targets, Refused}
+use Rattle.vb_model.specs.declared.calls.Query.TheVariants.{PagesAt, PagesBallooned}
 use Rattle.vb_model.specs.declared.calls.Event.TheVariants.{Guest as OnGuest, Query as OnQuery}
 use Rattle.vb_model.specs.declared.calls.Event.TheVariants.{Balance, Frames as CountFrames}
-use Rattle.vb_model.specs.declared.calls.Query.TheVariants.{PagesAt}
-use Rattle.vb_model.specs.declared.calls.Query.TheVariants.{PagesBallooned}
 
 -- either the event is refused for this, and nothing is changed, or this happens
 abbrev Either : Option Refusal → World → Reply → World → Type 0 → Type 0
@@ -58,10 +57,9 @@ by_refusal (Some refusal) w reply new reply' new' Else Else' a b same =
     (a.0 ∙ sym b.0, a.1 ∙ sym b.1)
 
 restarts_agree : (w : World) (n : ℕ) (g : Option Guest) (reply : Reply) (new : World)
-    (reply' : Reply) (new' : World)
-    → MatchOption g ⊥ (λ h. (reply ≡ Done) × (new ≡ put_guest n (Some (after_restart h)) w))
-    → MatchOption g ⊥ (λ h. (reply' ≡ Done) × (new' ≡ put_guest n (Some (after_restart h)) w))
-    → Same reply new reply' new'
+    (reply' : Reply) (new' : World) → MatchOption g ⊥ (λ h. (reply ≡ Done)
+    × (new ≡ put_guest n (Some (after_restart h)) w)) → MatchOption g ⊥ (λ h. (reply' ≡ Done)
+    × (new' ≡ put_guest n (Some (after_restart h)) w)) → Same reply new reply' new'
 restarts_agree w n None reply new reply' new' a b = absurd a
 restarts_agree w n (Some g) reply new reply' new' a b = (a.0 ∙ sym b.0, a.1 ∙ sym b.1)
 
@@ -91,16 +89,12 @@ balances_agree floor w reply new reply' new' a b =
     (same, a.1 ∙ (ap (λ (r : Reply). after_balance r w) same ∙ sym b.1))
   where
     by : (enough : Bool)
-        → MatchBool enough
-        ((targets : List ℕ) × AreTargets (needs floor w) w.frames targets × (reply ≡ Targets targets))
-        (reply ≡ Refused (Short (shortage (needs floor w) w.frames)))
-        → MatchBool enough
-        ((targets : List ℕ) × AreTargets (needs floor w) w.frames targets
-        × (reply' ≡ Targets targets))
-        (reply' ≡ Refused (Short (shortage (needs floor w) w.frames)))
+        → MatchBool enough ((targets : List ℕ) × AreTargets (needs floor w) w.frames targets
+        × (reply ≡ Targets targets)) (reply ≡ Refused (Short (shortage (needs floor w) w.frames)))
+        → MatchBool enough ((targets : List ℕ) × AreTargets (needs floor w) w.frames targets
+        × (reply' ≡ Targets targets)) (reply' ≡ Refused (Short (shortage (needs floor w) w.frames)))
         → reply ≡ reply'
-    by true a b =
-        let one : a.0 ≡ b.0 = unique (needs floor w) w.frames a.0 b.0 a.1 b.1 in
+    by true a b = let one : a.0 ≡ b.0 = unique (needs floor w) w.frames a.0 b.0 a.1 b.1 in
         a.2 ∙ (ap Targets one ∙ sym b.2)
     by false a b = a ∙ sym b
 
@@ -139,13 +133,12 @@ plugs_agree config rest w reply new reply' new' p q = (
   (λ last e. (one_number config rest w reply new reply' new' p q
       (last_number w.vacated last p.0 e p.2 ∙ sym (last_number w.vacated last q.0 e q.2))).0),
   (λ refusal e. absurd (none refusal (sym p.3 ∙ e))),
-)
-  where
-    number_of : (n m : ℕ) → Plugged n ≡ Plugged m → n ≡ m
-    number_of n m e = cc
+) where
+  number_of : (n m : ℕ) → Plugged n ≡ Plugged m → n ≡ m
+  number_of n m e = cc
 
-    none : (refusal : Refusal) → Plugged p.0 ≡ Refused refusal → ⊥
-    none refusal e = cc
+  none : (refusal : Refusal) → Plugged p.0 ≡ Refused refusal → ⊥
+  none refusal e = cc
 
 plugs_in_agree : (size : GuestSize) (spares : List Bool) (w : World) (reply : Reply)
     (new : World) (reply' : Reply) (new' : World)

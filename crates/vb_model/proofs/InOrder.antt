@@ -30,8 +30,7 @@ one_if_cond false = refl
 
 headed-remove : (h : ℕ) (rs : List Request) (i : ℕ) (r : Request) → slice_get rs i ≡ Some r
     → headed h (remove rs i) + one_if (r.head == h) ≡ headed h rs
-headed-remove h rs i r e =
-    let within : i < length rs = slice_get_within rs i r e in
+headed-remove h rs i r e = let within : i < length rs = slice_get_within rs i r e in
     let at : get_or rs i r ≡ r = get_or_from_slice_get rs i r r e in
     let s = sum_by-remove (λ (x : Request). cond (x.head == h) 1 0) rs i r within in
     omega (
@@ -97,22 +96,21 @@ orderly_posting most rs head pages h least room distinct = record {
       (record { distinct = distinct; visits = omega arith });
   taken = h.taken;
   done = h.done;
-}
-  where
-    one : (k : ℕ) (v : Bool) → (head == k) ≡ v → headed k (all_requests (posting head pages rs)) ≤ 1
-    one k true e = grind (
-      arith,
-      headed-all k (posting head pages rs),
-      headed-all k rs,
-      headed-push k rs.posted (record { head = head; pages = pages; visited = 0 }),
-    )
-    one k false e = let added : one_if (head == k) ≡ 0 = ap one_if e in omega (
-      arith,
-      h.heads k,
-      headed-all k (posting head pages rs),
-      headed-all k rs,
-      headed-push k rs.posted (record { head = head; pages = pages; visited = 0 }),
-    )
+} where
+  one : (k : ℕ) (v : Bool) → (head == k) ≡ v → headed k (all_requests (posting head pages rs)) ≤ 1
+  one k true e = grind (
+    arith,
+    headed-all k (posting head pages rs),
+    headed-all k rs,
+    headed-push k rs.posted (record { head = head; pages = pages; visited = 0 }),
+  )
+  one k false e = let added : one_if (head == k) ≡ 0 = ap one_if e in omega (
+    arith,
+    h.heads k,
+    headed-all k (posting head pages rs),
+    headed-all k rs,
+    headed-push k rs.posted (record { head = head; pages = pages; visited = 0 }),
+  )
 
 pub orderly_take : (most : ℕ) (r : Request) (rest : List Request) (rs : Requests)
     → rs.posted ≡ r ∷ rest → AreOrderly most rs → AreOrderly most (after_take r rest rs)

@@ -13,11 +13,10 @@ use Rattle.vb_model.{specs.Queries.Answers, proofs.Changes.{Balanced, Sets, Come
 use Rattle.vb_model.{proofs.Changes.balance_cases, specs.World.{World, guest_at, with_guest}}
 use Rattle.vb_model.specs.{World.put_guest, HostEvents.{Happens, Calls, PlugsIn}}
 use Rattle.vb_model.{specs.HostRefusals.world_causes, proofs.CallSteps.match_cases}
+use Rattle.vb_model.specs.declared.calls.Query.TheVariants.{PagesAt, PagesBallooned}
 use Rattle.vb_model.specs.declared.calls.Event.TheVariants.{Plug, Unplug, Restart, Guest as OnGuest}
 use Rattle.vb_model.specs.declared.calls.Event.TheVariants.{Query as OnQuery, Balance}
 use Rattle.vb_model.specs.declared.calls.Event.TheVariants.{Frames as CountFrames}
-use Rattle.vb_model.specs.declared.calls.Query.TheVariants.{PagesAt}
-use Rattle.vb_model.specs.declared.calls.Query.TheVariants.{PagesBallooned}
 
 -- a reply that isn't want of memory
 not_wanted : {A : Type 0} (reply : Reply) → Refused NoMemory ≡ reply → wants reply ≡ false → A
@@ -54,14 +53,12 @@ calls_want n call g w v here s = let exact = no_memory_exact g call s.0 s.1 s.3 
   ap (λ (o : Option Guest). call_may_want o call) here ∙ may exact.0,
   s.4 ∙ ap (λ (x : Guest). put_guest n (Some x) w) exact.1 ∙ ap
       (λ (xs : List (Option Guest)). record w { guests = xs }) (with_guest-again n g w.guests here),
-)
-  where
-    may : (claim_refusal s.0 ≡ Some NoMemory) ⊎ (is_read call ≡ true)
-        → (is_read call || not (is_none_of (pages_to_back call g))) ≡ true
-    may (inl e) = or_second (is_read call) (not (is_none_of (pages_to_back call g)))
-        (some_needed (pages_to_back call g) s.0
-        (claims_needed g call s.0 (Refused NoMemory) s.1 s.3) e)
-    may (inr read) = or_first (is_read call) (not (is_none_of (pages_to_back call g))) read
+) where
+  may : (claim_refusal s.0 ≡ Some NoMemory) ⊎ (is_read call ≡ true)
+      → (is_read call || not (is_none_of (pages_to_back call g))) ≡ true
+  may (inl e) = or_second (is_read call) (not (is_none_of (pages_to_back call g))) (some_needed
+      (pages_to_back call g) s.0 (claims_needed g call s.0 (Refused NoMemory) s.1 s.3) e)
+  may (inr read) = or_first (is_read call) (not (is_none_of (pages_to_back call g))) read
 
 -- ---- a question
 
@@ -108,9 +105,8 @@ causes_of_others w (Plug size) = refl
 causes_of_others w event = refl
 
 pub wants_change_nothing : WantsChangeNothing
-wants_change_nothing w event v s =
-    elim (match_cases (first_refusal (world_causes w event)) (Happens event w (Refused NoMemory) v)
-    (λ r. (Refused NoMemory ≡ Refused r) × (v ≡ w)) s) [
+wants_change_nothing w event v s = elim (match_cases (first_refusal (world_causes w event))
+    (Happens event w (Refused NoMemory) v) (λ r. (Refused NoMemory ≡ Refused r) × (v ≡ w)) s) [
       | inl p ↦ happens_want event w v p.1
       | inr r ↦ not_wanted (Refused r.0) r.2.0
           (refused_otherwise (world_causes w event) r.0 (causes_of_others w event) r.1)

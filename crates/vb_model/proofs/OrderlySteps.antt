@@ -46,9 +46,8 @@ Unreserved size pages places = (page : ℕ) → page < pages
 
 -- pages that aren't reserved went to a place that isn't
 moved : (size n : ℕ) (pages : List ℕ) (place : Place) (places : List Place)
-    → Unreserved size n places → is_reserved place ≡ false
-    → ((page : ℕ) → is_in page pages ≡ true → place_of places page ≢ Reserved)
-    → Unreserved size n (placed pages place places)
+    → Unreserved size n places → is_reserved place ≡ false → ((page : ℕ) → is_in page pages ≡ true
+    → place_of places page ≢ Reserved) → Unreserved size n (placed pages place places)
 moved size n pages place places h free ok page l = grind (arith, placed-get)
 
 -- the pages of a deflate that was reaped
@@ -76,24 +75,22 @@ free_block pages places b sized small whole = record {
   order = small;
   aligned = (and_parts (is_aligned b) _ whole).0;
   inside = inside (cases_lt pages (b.start + size b));
-}
-  where
-    positive : 0 < size b
-    positive = pow_pos b.order
+} where
+  positive : 0 < size b
+  positive = pow_pos b.order
 
-    last : ℕ
-    last = b.start + size b - 1
+  last : ℕ
+  last = b.start + size b - 1
 
-    past : pages < b.start + size b → ⊥
-    past lt = not_reserved (place_of places last) is_free refl
-        (wholly_free_pages places b last whole
-        (true_from_ne_false (is_in last (pages_of b)) (λ out. outside-range last b.start (size b) out
-        (omega (arith, positive)) (omega (arith, positive)))))
-        (get_or_past places last Reserved (omega (arith, lt, positive, sized)))
+  past : pages < b.start + size b → ⊥
+  past lt = not_reserved (place_of places last) is_free refl (wholly_free_pages places b last whole
+      (true_from_ne_false (is_in last (pages_of b)) (λ out. outside-range last b.start (size b) out
+      (omega (arith, positive)) (omega (arith, positive)))))
+      (get_or_past places last Reserved (omega (arith, lt, positive, sized)))
 
-    inside : (pages < b.start + size b) ⊎ (b.start + size b ≤ pages) → b.start + size b ≤ pages
-    inside (inl lt) = absurd (past lt)
-    inside (inr le) = le
+  inside : (pages < b.start + size b) ⊎ (b.start + size b ≤ pages) → b.start + size b ≤ pages
+  inside (inl lt) = absurd (past lt)
+  inside (inr le) = le
 
 blocks_with : (pages : ℕ) (b : Block) (held : List Block) → IsBlock pages b → AreBlocks pages held
     → AreBlocks pages (with_block b held)
@@ -167,9 +164,8 @@ kept_reap Inflating g r rest c h e =
     (orderly_reap _ r rest g.inflate e h.inflating) (length-placed r.pages Lent g.places ∙ h.tabled)
     (moved g.config.queue_size g.config.pages r.pages Lent g.places h.unreserved refl
     (λ page k. not_reserved _ is_giving refl (inflate_giving g page r rest c e k)))
-kept_reap Deflating g r rest c h e = with_deflate g (after_reap rest g.deflate)
-    (places_reaped (tells_host g) Deflating r.pages g.places) h
-    (orderly_reap _ r rest g.deflate e h.deflating)
+kept_reap Deflating g r rest c h e = with_deflate g (after_reap rest g.deflate) (places_reaped
+    (tells_host g) Deflating r.pages g.places) h (orderly_reap _ r rest g.deflate e h.deflating)
     (length-reaped (tells_host g) Deflating r.pages g.places ∙ h.tabled)
     (moved_back (tells_host g) g.config.queue_size g.config.pages r.pages g.places h.unreserved
     (λ page k. deflate_there g page r rest c e k))
@@ -267,9 +263,8 @@ performs_order (Inflate n) g claims reply new c h e s honest =
     subst IsOrderly (sym s.1.4.3) (with_inflate g _ (placed pages Giving g.places) h
     (orderly_posting (room g) g.inflate s.1.4.0 pages h.inflating s.1.4.1
     (has_room (room g) (outstanding g.inflate) t.1.0)
-    (λ page. inflated_distinct g n s.1.0 page s.1.1 s.1.2))
-    (length-placed pages Giving g.places ∙ h.tabled)
-    (moved g.config.queue_size g.config.pages pages Giving g.places h.unreserved refl
+    (λ page. inflated_distinct g n s.1.0 page s.1.1 s.1.2)) (length-placed pages Giving g.places
+    ∙ h.tabled) (moved g.config.queue_size g.config.pages pages Giving g.places h.unreserved refl
     (λ page k. not_reserved _ can_be_given refl (inflated_pages g n s.1.0 page s.1.1 k))))
 performs_order (Deflate n) g claims reply new c h e s honest =
     let t = not_refused (causes g (Deflate n)) e in
@@ -291,9 +286,8 @@ performs_order (Report from) g claims reply new c h e s honest =
     (moved g.config.queue_size g.config.pages pages Reporting g.places h.unreserved refl
     (λ page k. not_reserved _ is_free refl (reported_pages g from page k))))
 performs_order Stats g claims reply new c h e s honest = fills_order g.buffer g reply new h s.1
-performs_order (Reap q) g claims reply new c h e s honest =
-    elim (match_cases (kind_of_queue q) ⊥ (λ kind. Reaps kind (requests kind g).done g reply new)
-    s.1) [
+performs_order (Reap q) g claims reply new c h e s honest = elim (match_cases
+    (kind_of_queue q) ⊥ (λ kind. Reaps kind (requests kind g).done g reply new) s.1) [
       | inl n ↦ absurd n.1
       | inr k ↦ reaps_order k.0 (requests k.0 g).done g reply new c h refl k.2
     ]

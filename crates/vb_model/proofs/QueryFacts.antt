@@ -21,15 +21,8 @@ run first last = record { first = first; last = last }
 -- ---- places
 
 -- seven different counts, each in its own field
-seven_counts : Answers QueryPlaces mixed (Places (record {
-  free = 21;
-  used = 2;
-  giving = 3;
-  lent = 4;
-  taking = 5;
-  stranded = 6;
-  reporting = 7;
-}))
+seven_counts : Answers QueryPlaces mixed (Places
+    (record { free = 21; used = 2; giving = 3; lent = 4; taking = 5; stranded = 6; reporting = 7 }))
 seven_counts = refl
 
 -- the pages of each place

@@ -98,10 +98,8 @@ performs_refuses (Take q) g claims refusal new s =
     ]
 performs_refuses Work g claims refusal new s =
     elim (works_cases (cond g.config.paced (next_page g.inflate.taken) None)
-    (cond g.config.paced (next_page g.report.taken) None) g (Refused refusal) new s.1) [
-      | inl i ↦ inl i.1
-      | inr v ↦ not_this refusal _ v.2.0 refl
-    ]
+    (cond g.config.paced (next_page g.report.taken) None) g
+    (Refused refusal) new s.1) [ inl i ↦ inl i.1 | inr v ↦ not_this refusal _ v.2.0 refl ]
 performs_refuses (Finish q i) g claims refusal new s =
     elim (match_cases (kind_of_queue q) ⊥ (λ kind. Finishes kind i g (Refused refusal) new) s.1) [
       | inl n ↦ absurd n.1
@@ -156,7 +154,5 @@ happens_refuses CountFrames w refusal v other s = s.1
 pub refused_events_change_nothing : RefusedEventsChangeNothing
 refused_events_change_nothing w event refusal v other s =
     elim (match_cases (first_refusal (world_causes w event)) (Happens event w (Refused refusal) v)
-    (λ r. (Refused refusal ≡ Refused r) × (v ≡ w)) s) [
-      | inl p ↦ happens_refuses event w refusal v other p.1
-      | inr r ↦ r.2.1
-    ]
+    (λ r. (Refused refusal ≡ Refused r)
+    × (v ≡ w)) s) [ inl p ↦ happens_refuses event w refusal v other p.1 | inr r ↦ r.2.1 ]

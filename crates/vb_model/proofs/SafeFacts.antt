@@ -177,17 +177,15 @@ bytes_changed_by_another : IsSafeCourse (record {
   entries = made (Write 16 0 (1 ∷ [])) Done ∷ None ∷ [];
   after = with_byte Used (Some 5) 1 ∷ with_byte Used (Some 5) 2 ∷ [];
 }) → ⊥
-bytes_changed_by_another s = nor_framed Used
-    (s.keeps_contents 1 16 (with_byte Used (Some 5) 1) (with_byte Used (Some 5) 2) refl refl
-    (λ e. cc) (λ own. let q : Some anothers
+bytes_changed_by_another s = nor_framed Used (s.keeps_contents 1 16 (with_byte Used (Some 5) 1)
+    (with_byte Used (Some 5) 2) refl refl (λ e. cc) (λ own. let q : Some anothers
     ≡ Some (Some (Called own.2.0 (Write 16 own.0 own.1) own.2.1 Done)) = own.2.2 in cc))
 
 -- nor a reset
 bytes_changed_by_a_reset : IsSafeCourse
     (goes (with_byte Used (Some 5) 1) Reset Done (with_byte Used (Some 5) 2)) → ⊥
-bytes_changed_by_a_reset s = nor_framed Used
-    (s.keeps_contents 0 16 (with_byte Used (Some 5) 1) (with_byte Used (Some 5) 2) refl refl
-    (λ e. cc) (λ own. let q : Some (made Reset Done)
+bytes_changed_by_a_reset s = nor_framed Used (s.keeps_contents 0 16 (with_byte Used (Some 5) 1)
+    (with_byte Used (Some 5) 2) refl refl (λ e. cc) (λ own. let q : Some (made Reset Done)
     ≡ Some (Some (Called own.2.0 (Write 16 own.0 own.1) own.2.1 Done)) = own.2.2 in cc))
 
 -- a free page holds what it did, too
@@ -207,9 +205,8 @@ reads len bytes = goes (used_with (Some 5) (1 ∷ 2 ∷ []) ready) (Read 16 0 le
 
 other_bytes : IsSafeCourse (reads 1 (9 ∷ [])) → ⊥
 other_bytes s =
-    let e : SameBytes (9 ∷ []) (1 ∷ []) =
-    (s.reads 0 16 0 1 (9 ∷ []) (used_with (Some 5) (1 ∷ 2 ∷ []) ready) refl
-    (Processor 0 0, [], refl)).1 in cc
+    let e : SameBytes (9 ∷ []) (1 ∷ []) = (s.reads 0 16 0 1
+    (9 ∷ []) (used_with (Some 5) (1 ∷ 2 ∷ []) ready) refl (Processor 0 0, [], refl)).1 in cc
 
 too_few_bytes : IsSafeCourse (reads 2 (1 ∷ [])) → ⊥
 too_few_bytes s =
@@ -230,9 +227,8 @@ written_and_read byte = record {
 
 reads_the_last : (byte : ℕ) → IsSafeCourse (written_and_read byte) → byte ≡ 8
 reads_the_last byte s =
-    let e : SameBytes (byte ∷ []) (8 ∷ []) =
-    (s.reads 4 16 0 1 (byte ∷ []) (used_with (Some 5) (8 ∷ 2 ∷ []) down) refl
-    (Processor 0 0, [], refl)).1 in cc
+    let e : SameBytes (byte ∷ []) (8 ∷ []) = (s.reads 4 16 0 1
+    (byte ∷ []) (used_with (Some 5) (8 ∷ 2 ∷ []) down) refl (Processor 0 0, [], refl)).1 in cc
 
 write_forgotten : IsSafeCourse (written_and_read 7) → ⊥
 write_forgotten s = let e : Same 7 8 = reads_the_last 7 s in omega (arith, e)
@@ -265,9 +261,8 @@ held_then byte (suc (suc (suc (suc (suc j))))) le = absurd (omega arith)
 held_then byte other le = (used_with (Some 5) (1 ∷ 2 ∷ []) down, refl, refl)
 
 last_by_law : (byte : ℕ) → ReadsGiveLastWrites (written_unseen byte) → byte ≡ 8
-last_by_law byte s =
-    (s 16 0 4 0 1 (byte ∷ []) (used_with (Some 5) (1 ∷ 2 ∷ []) down) (held_then byte) refl
-    (Processor 0 0, [], refl)).1 0 (omega arith)
+last_by_law byte s = (s 16 0 4 0 1 (byte ∷ []) (used_with (Some 5) (1 ∷ 2 ∷ []) down)
+    (held_then byte) refl (Processor 0 0, [], refl)).1 0 (omega arith)
 
 write_forgotten_by_law : ReadsGiveLastWrites (written_unseen 7) → ⊥
 write_forgotten_by_law s = let e : Same 7 8 = last_by_law 7 s in omega (arith, e)

@@ -113,8 +113,7 @@ one_step n w event reply v g new at own = by own.entries own.guests own.are own.
   by (o ∷ entries) [] are leads = absurd are
   by (o ∷ p ∷ entries) (x ∷ guests) are leads = absurd are.2
   by (o ∷ []) (x ∷ y ∷ guests) are leads = absurd are.2
-  by (o ∷ []) (x ∷ []) are leads =
-      let same : x ≡ new = same_some x new (sym are.1 ∙ at) in
+  by (o ∷ []) (x ∷ []) are leads = let same : x ≡ new = same_some x new (sym are.1 ∙ at) in
       record { own = o; is = are.0; step = subst (λ (y : Guest). OwnStep g o y) same leads.0 }
 
 -- the run of one event of guest 0
@@ -144,8 +143,7 @@ not_its_own s = by o.own o.is o.step where
 
   by : (own : Option Entry) → IsOwnEntry 0 (at ready) (OnGuest 0 Work) Done (at ready) own
       → OwnStep ready own ready → ⊥
-  by own is step =
-      let made = subst (λ (x : Option Entry). OwnStep ready x ready) is.3 step in
+  by own is step = let made = subst (λ (x : Option Entry). OwnStep ready x ready) is.3 step in
       let wrong : Done ≡ Idle = (performed Work ready is.1 Done ready made.1).1.0 in cc
 
 abbrev restarted : History
@@ -164,8 +162,7 @@ not_its_own_later s = by o.own o.is o.step where
 
   by : (own : Option Entry) → IsOwnEntry 0 (at down) (OnGuest 0 Work) Done (at down) own
       → OwnStep down own down → ⊥
-  by own is step =
-      let made = subst (λ (x : Option Entry). OwnStep down x down) is.3 step in
+  by own is step = let made = subst (λ (x : Option Entry). OwnStep down x down) is.3 step in
       let wrong : Done ≡ Refused NotReady = made.1.1 in cc
 
 -- another's event changes the guest
@@ -187,8 +184,7 @@ reset_but_ready s = by o.own o.is o.step where
 
   by : (own : Option Entry) → IsOwnEntry 0 (at ready) (OnGuest 0 Reset) Done (at ready) own
       → OwnStep ready own ready → ⊥
-  by own is step =
-      let made = subst (λ (x : Option Entry). OwnStep ready x ready) is.3 step in
+  by own is step = let made = subst (λ (x : Option Entry). OwnStep ready x ready) is.3 step in
       let status : Same 15 0 =
       ap (λ (g : Guest). g.status) (performed Reset ready is.1 Done ready made.1).1.1 in omega arith
 

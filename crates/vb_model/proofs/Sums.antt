@@ -11,8 +11,7 @@ pub sum-le : (xs ys : List ℕ) → length xs ≡ length ys → NowhereMore xs y
 sum-le [] [] l h = omega arith
 sum-le [] (y ∷ ys) l h = absurd (omega arith)
 sum-le (x ∷ xs) [] l h = absurd (omega arith)
-sum-le (x ∷ xs) (y ∷ ys) l h =
-    let first : x ≤ y = h 0 (omega arith) in
+sum-le (x ∷ xs) (y ∷ ys) l h = let first : x ≤ y = h 0 (omega arith) in
     let others : sum xs ≤ sum ys = sum-le xs ys (omega arith) (λ i q. h (suc i) (omega arith)) in
     omega (arith, first, others, sum_by-cons (λ (n : ℕ). n) x xs, sum_by-cons (λ (n : ℕ). n) y ys)
 
@@ -21,8 +20,7 @@ pub same_by_sum : (xs ys : List ℕ) → length xs ≡ length ys → NowhereMore
 same_by_sum [] [] l h e = refl
 same_by_sum [] (y ∷ ys) l h e = absurd (omega arith)
 same_by_sum (x ∷ xs) [] l h e = absurd (omega arith)
-same_by_sum (x ∷ xs) (y ∷ ys) l h e =
-    let first : x ≤ y = h 0 (omega arith) in
+same_by_sum (x ∷ xs) (y ∷ ys) l h e = let first : x ≤ y = h 0 (omega arith) in
     let len : length xs ≡ length ys = omega arith in
     let more : NowhereMore xs ys = λ i q. h (suc i) (omega arith) in
     let others : sum xs ≤ sum ys = sum-le xs ys len more in
@@ -49,8 +47,7 @@ somewhere_more (x ∷ xs) (y ∷ ys) l = elim (cases_lt y x) [
     | inl there ↦ inl (suc there.0, omega (arith, there.1), there.2)
     | inr nowhere ↦ inr (each le nowhere)
   ]
-]
-  where
-    each : x ≤ y → NowhereMore xs ys → NowhereMore (x ∷ xs) (y ∷ ys)
-    each le nowhere zero q = le
-    each le nowhere (suc i) q = nowhere i (omega arith)
+] where
+  each : x ≤ y → NowhereMore xs ys → NowhereMore (x ∷ xs) (y ∷ ys)
+  each le nowhere zero q = le
+  each le nowhere (suc i) q = nowhere i (omega arith)

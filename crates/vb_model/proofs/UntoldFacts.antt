@@ -400,9 +400,8 @@ sweep_where_it_tells : map (λ page. refusal_of (three_lent ready) (Sweep page))
     ≡ None ∷ None ∷ Some NotBallooned ∷ []
 sweep_where_it_tells = refl
 
-sweep_by_status : map
-    (λ status. refusal_of (record (three_lent untold) { status = status }) (Sweep 16))
-    (0 ∷ 11 ∷ 15 ∷ 79 ∷ 131 ∷ 143 ∷ []) ≡ Some NotReady ∷ Some NotReady ∷ Some NoFeature
+sweep_by_status : map (λ status. refusal_of (record (three_lent untold) { status = status })
+    (Sweep 16)) (0 ∷ 11 ∷ 15 ∷ 79 ∷ 131 ∷ 143 ∷ []) ≡ Some NotReady ∷ Some NotReady ∷ Some NoFeature
     ∷ Some NeedsReset ∷ Some NotReady ∷ Some NotReady ∷ []
 sweep_by_status = refl
 

@@ -230,8 +230,7 @@ no_memory_exact g call claims new s = cases g.rogue s where
   cases : (b : Bool) → MatchBool b (RogueStep g call claims (Refused NoMemory) new)
       (HonestStep g call claims (Refused NoMemory) new)
       → ((claim_refusal claims ≡ Some NoMemory) ⊎ (is_read call ≡ true)) × (new ≡ g)
-  cases true r =
-      let by_cause = caused (r.no_memory refl) in
+  cases true r = let by_cause = caused (r.no_memory refl) in
       (by_cause, r.refused NoMemory refl ∙ left call by_cause)
   cases false p =
       elim (match_cases (refusal_of g call) (Performed call g claims (Refused NoMemory) new)

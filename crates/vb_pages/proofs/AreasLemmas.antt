@@ -68,8 +68,7 @@ unfolding unreserved
 has-unreserved n r p h =
     get_or-map-range_with_len (λ page. nat_le r page) 0 n p p false h (omega arith)
 
-pub unreserved_is : (set : List Bool) (n r : ℕ) → length set ≡ n
-    → ((p : ℕ) → has set p ≡ true → r ≤ p) → ((p : ℕ) → r ≤ p → p < n → has set p ≡ true)
-    → set ≡ unreserved n r
+pub unreserved_is : (set : List Bool) (n r : ℕ) → length set ≡ n → ((p : ℕ) → has set p ≡ true
+    → r ≤ p) → ((p : ℕ) → r ≤ p → p < n → has set p ≡ true) → set ≡ unreserved n r
 unreserved_is set n r l to from =
     grind (arith, same_sets, length-unreserved, has-unreserved, is_inside)

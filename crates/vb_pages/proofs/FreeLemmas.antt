@@ -220,10 +220,9 @@ single_none set new (x ∷ xs) rest h =
 pub single_sound : (f : FreePages) (cpu : ℕ) (new : List Bool) (rest : List ℕ) (got : Option ℕ)
     → IsSoundFree f → cpu < length f.lists → TakesSingle f.areas (list_of f cpu) got new rest
     → IsSoundFree (record f { areas = new; lists = set f.lists cpu rest })
-single_sound f cpu new rest got sound l h =
-    sound_from f (record f { areas = new; lists = set f.lists cpu rest }) sound
-    (single_areas f.areas new (list_of f cpu) rest got h) (length-set f.lists cpu rest)
-    (λ p. omega (
+single_sound f cpu new rest got sound l h = sound_from f
+    (record f { areas = new; lists = set f.lists cpu rest }) sound (single_areas f.areas new
+    (list_of f cpu) rest got h) (length-set f.lists cpu rest) (λ p. omega (
       arith,
       single_times f.areas new (list_of f cpu) rest got h p,
       times-set p f.lists cpu rest l,
@@ -364,10 +363,9 @@ all_drained areas lists i new left h d =
     let all : flat (take i lists) ≡ flat lists = ap flat (take_all i lists h) in (
       d.set ∙ ap (λ (xs : List ℕ). with_pages xs areas) all,
       omega (arith, d.count, ap length all),
-      same_lists left (map (λ (l : List ℕ). nothing) lists)
-          (d.long ∙ sym (length-map lists (λ (l : List ℕ). nothing))) (λ k e l.
-          get_or_default left k e nothing l ∙ (d.empty k (omega (arith, d.long))
-          ∙ (sym (list-empty lists k)
+      same_lists left (map (λ (l : List ℕ). nothing) lists) (d.long ∙ sym
+          (length-map lists (λ (l : List ℕ). nothing))) (λ k e l. get_or_default left k e nothing l
+          ∙ (d.empty k (omega (arith, d.long)) ∙ (sym (list-empty lists k)
           ∙ get_or_default (map (λ (x : List ℕ). nothing) lists) k nothing e
           (omega (arith, d.long, length-map lists (λ (x : List ℕ). nothing)))))),
     )
@@ -525,9 +523,8 @@ pub rows_back : (n : ℕ) (ys xs : List (List ℕ)) → n ≡ length xs → leng
     → take n (ys ++ drop (length ys) xs) ≡ ys
 rows_back n ys xs e l = grind (arith, drop_all, append-nil, take_all)
 
-pub all_nothing : (ys xs : List (List ℕ)) → length ys ≡ length xs
-    → ((k : ℕ) → k < length xs → get_or ys k nothing ≡ nothing)
-    → ys ≡ map (λ (l : List ℕ). nothing) xs
+pub all_nothing : (ys xs : List (List ℕ)) → length ys ≡ length xs → ((k : ℕ)
+    → k < length xs → get_or ys k nothing ≡ nothing) → ys ≡ map (λ (l : List ℕ). nothing) xs
 all_nothing ys xs l h = same_lists ys (map (λ (x : List ℕ). nothing) xs)
     (l ∙ sym (length-map xs (λ (x : List ℕ). nothing))) (λ k e b. get_or_default ys k e nothing b
     ∙ (h k (omega (arith, l)) ∙ (sym (list-empty xs k)

@@ -116,18 +116,16 @@ pub covers_found : (p k : ℕ) (t : List (Option ℕ)) → order_at t (p - p % 2
 covers_found p k t e = let pos : 0 < 2 ^ k = pow_pos k in
     at_covers p (p - p % 2 ^ k) k t e (omega arith) (omega arith)
 
-pub covers_not_found : (p : ℕ) (t : List (Option ℕ)) → AreBlocks t
-    → ((k : ℕ) → k < 10 → order_at t (p - p % 2 ^ k) ≡ Some k → ⊥)
-    → list_any (covers p) (blocks_of t) ≡ false
+pub covers_not_found : (p : ℕ) (t : List (Option ℕ)) → AreBlocks t → ((k : ℕ)
+    → k < 10 → order_at t (p - p % 2 ^ k) ≡ Some k → ⊥) → list_any (covers p) (blocks_of t) ≡ false
 covers_not_found p t aligned none = false_from_ne_true (list_any (covers p) (blocks_of t)) (λ h.
     let q = covers_at p t h in
     let k = q.1 in
     let pos : 0 < 2 ^ k = pow_pos k in
     let low : p - p % 2 ^ k ≤ p = omega arith in
     let high : p < (p - p % 2 ^ k) + 2 ^ k = omega arith in
-    let same : p - p % 2 ^ k ≡ q.0 =
-    aligned_same (p - p % 2 ^ k) q.0 (2 ^ k) p (floor_aligned p (2 ^ k) pos)
-    (aligned.aligned q.0 k q.2) low high q.3 q.4 in
+    let same : p - p % 2 ^ k ≡ q.0 = aligned_same (p - p % 2 ^ k) q.0
+    (2 ^ k) p (floor_aligned p (2 ^ k) pos) (aligned.aligned q.0 k q.2) low high q.3 q.4 in
     let nine : k ≤ 9 = aligned.bounded q.0 k q.2 in
     none k (omega arith) (ap (order_at t) same ∙ q.2))
 

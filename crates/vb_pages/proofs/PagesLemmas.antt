@@ -149,9 +149,8 @@ none_free f h cpu order sound kept t s b free =
     one_if_true (has (drained f).areas p) (omega (arith, some, none, drained_times f sound p)))
 
 -- a held block comes back
-module _ (f : FreePages) (h : HeldBlocks) (s k : ℕ) (kept : IsKept f h)
-    (held : list_any (λ x. is_same_block x (block_at s k)) h.blocks ≡ true)
-    (block : IsBlock (block_at s k)) where
+module _ (f : FreePages) (h : HeldBlocks) (s k : ℕ) (kept : IsKept f h) (held : list_any
+    (λ x. is_same_block x (block_at s k)) h.blocks ≡ true) (block : IsBlock (block_at s k)) where
   held_count : (p : ℕ) → one_if (covers p (block_at s k)) + count_by (covers p)
       (without_block (block_at s k) h.blocks) ≡ count_by (covers p) h.blocks
   held_count p = count-without_block p (block_at s k) h.blocks held

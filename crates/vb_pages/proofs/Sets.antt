@@ -19,9 +19,8 @@ same_bool false b f g = sym (false_from_ne_true b (λ e. both_ways false refl (g
 pub is_inside : (set : List Bool) (p : ℕ) → has set p ≡ true → p < length set
 is_inside set p h = grind (arith, get_or_past)
 
-pub same_sets : (a b : List Bool) → length a ≡ length b
-    → ((p : ℕ) → has a p ≡ true → has b p ≡ true) → ((p : ℕ) → has b p ≡ true → has a p ≡ true)
-    → a ≡ b
+pub same_sets : (a b : List Bool) → length a ≡ length b → ((p : ℕ)
+    → has a p ≡ true → has b p ≡ true) → ((p : ℕ) → has b p ≡ true → has a p ≡ true) → a ≡ b
 same_sets a b l f g = same_lists a b l (λ k d h. get_or_default a k d false h
     ∙ (same_bool (has a k) (has b k) (f k) (g k)
     ∙ sym (get_or_default b k d false (omega (arith, l)))))
@@ -87,9 +86,8 @@ not_in_block s k p h = grind (arith, block_bounds)
 
 pub with_union : (ps qs rs : List ℕ) (set : List Bool)
     → ((p : ℕ) → is_in p rs ≡ true → (is_in p ps ≡ true) ⊎ (is_in p qs ≡ true))
-    → ((p : ℕ) → is_in p ps ≡ true → is_in p rs ≡ true)
-    → ((p : ℕ) → is_in p qs ≡ true → is_in p rs ≡ true)
-    → with_pages ps (with_pages qs set) ≡ with_pages rs set
+    → ((p : ℕ) → is_in p ps ≡ true → is_in p rs ≡ true) → ((p : ℕ)
+    → is_in p qs ≡ true → is_in p rs ≡ true) → with_pages ps (with_pages qs set) ≡ with_pages rs set
 with_union ps qs rs set split left right =
     grind (arith, same_sets, length-with_pages, is_inside, with_cases, with_old, with_new)
 
@@ -146,9 +144,8 @@ with_one p set l = same_lists (with_pages (p ∷ []) set) (put set p true)
     elim (cases_eq k p) [
       | inl same ↦
           let t : (p == k) ≡ true = eq-eqb p k (sym same) in
-          or_right (has set k) ((p == k) || false) (or_left (p == k) false t)
-          ∙ (sym (get_or-set_same set p true d l)
-          ∙ ap (λ (n : ℕ). get_or (put set p true) n d) (sym same))
+          or_right (has set k) ((p == k) || false) (or_left (p == k) false t) ∙ (sym
+          (get_or-set_same set p true d l) ∙ ap (λ (n : ℕ). get_or (put set p true) n d) (sym same))
       | inr differ ↦
           let f : (p == k) ≡ false = ne_eqb p k (λ e. differ (sym e)) in
           ap (λ (b : Bool). has set k || (b || false)) f ∙ (or_false (has set k)

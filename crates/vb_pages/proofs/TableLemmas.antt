@@ -113,9 +113,8 @@ tested t p k blocks = same_bool (is_in_sets (sets_of t) p k) (is_order k (order_
     from h = let e : order_at t p ≡ Some k = is_order-true k (order_at t p) h in
         let ten : k < 10 = omega (arith, blocks.bounded p k e) in
         and_from (eqb (p % 2 ^ k) 0) (has (get_or (sets_of t) k []) (p / 2 ^ k))
-        (eq-eqb (p % 2 ^ k) 0 (blocks.aligned p k e))
-        (ap (λ (xs : List Bool). has xs (p / 2 ^ k)) (sets_at t k [] ten)
-        ∙ listed_member t k p blocks e)
+        (eq-eqb (p % 2 ^ k) 0 (blocks.aligned p k e)) (ap (λ (xs : List Bool). has xs (p / 2 ^ k))
+        (sets_at t k [] ten) ∙ listed_member t k p blocks e)
 
 pub length-table_of : (pages : ℕ) (sets : List (List Bool)) → length (table_of pages sets) ≡ pages
 unfolding table_of

@@ -311,31 +311,29 @@ module _ (t : List (Option ℕ)) (s k : ℕ) (placed : IsPlaced t) (room : HasRo
   added_placed = record {
     blocks = with_block_added t s k placed.blocks room.bounded room.aligned room.fits;
     apart = apart;
-  }
-    where
-      apart : (r j q i : ℕ) → order_at (set t s (Some k)) r ≡ Some j → r < q → q < r + 2 ^ j
-          → order_at (set t s (Some k)) q ≡ Some i → ⊥
-      apart r j q i e a b f = elim (entry_cases r j e) [
-        | inl x ↦ elim (entry_cases q i f) [
-          | inl y ↦ omega (arith, x.0, y.0)
-          | inr y ↦
-              let w : 2 ^ j ≡ 2 ^ k = ap (λ (n : ℕ). 2 ^ n) x.1 in
-              let pos : 0 < 2 ^ i = pow_pos i in
-              outside q (omega (arith, x.0)) (omega (arith, x.0, w))
-              (record { start = q; order = i; listed = y.1; low = omega arith; high = omega arith })
-        ]
-        | inr x ↦ elim (entry_cases q i f) [
-          | inl y ↦
-              let pos : 0 < 2 ^ k = pow_pos k in outside s (omega arith) (omega arith) (record {
-                start = r;
-                order = j;
-                listed = x.1;
-                low = omega (arith, y.0);
-                high = omega (arith, y.0);
-              })
-          | inr y ↦ placed.apart r j q i x.1 a b y.1
-        ]
+  } where
+    apart : (r j q i : ℕ) → order_at (set t s (Some k)) r ≡ Some j → r < q → q < r + 2 ^ j
+        → order_at (set t s (Some k)) q ≡ Some i → ⊥
+    apart r j q i e a b f = elim (entry_cases r j e) [
+      | inl x ↦ elim (entry_cases q i f) [
+        | inl y ↦ omega (arith, x.0, y.0)
+        | inr y ↦
+            let w : 2 ^ j ≡ 2 ^ k = ap (λ (n : ℕ). 2 ^ n) x.1 in
+            let pos : 0 < 2 ^ i = pow_pos i in
+            outside q (omega (arith, x.0)) (omega (arith, x.0, w))
+            (record { start = q; order = i; listed = y.1; low = omega arith; high = omega arith })
       ]
+      | inr x ↦ elim (entry_cases q i f) [
+        | inl y ↦ let pos : 0 < 2 ^ k = pow_pos k in outside s (omega arith) (omega arith) (record {
+          start = r;
+          order = j;
+          listed = x.1;
+          low = omega (arith, y.0);
+          high = omega (arith, y.0);
+        })
+        | inr y ↦ placed.apart r j q i x.1 a b y.1
+      ]
+    ]
 
   pub added_merged : IsMerged t → HasNoBuddy t s k → IsMerged (set t s (Some k))
   added_merged merged alone r j e f al nine = let pos : 0 < 2 ^ j = pow_pos j in
@@ -435,9 +433,8 @@ module _ (t : List (Option ℕ)) (s k b low : ℕ) (placed : IsPlaced t) (room :
   merged_set =
       let gone : set_of after ≡ without_pages (pages_of (block_at b k)) (set_of t) =
       removed_set t b k placed listed in
-      let back : with_pages (pages_of (block_at b k))
-      (without_pages (pages_of (block_at b k)) (set_of t)) ≡ set_of t =
-      with_without (pages_of (block_at b k)) (set_of t) buddy_inside in
+      let back : with_pages (pages_of (block_at b k)) (without_pages (pages_of (block_at b k))
+      (set_of t)) ≡ set_of t = with_without (pages_of (block_at b k)) (set_of t) buddy_inside in
       let rest = without_pages (pages_of (block_at b k)) (set_of t) in
       ap (λ (x : List Bool). with_pages (pages_of (block_at low (suc k))) x) gone ∙ elim left_case [
         | inl q ↦ sym (halves low k rest) ∙ (ap (λ (n : ℕ). with_pages (pages_of (block_at low k))
@@ -560,10 +557,9 @@ none_set n p h = false_from_ne_true (has (set_of (replicate n None)) p) (λ e.
 abbrev pub IsLowestBelow : List (Option ℕ) → ℕ → ℕ → ℕ → Option FreeBlock → Type 0
 IsLowestBelow table order from end None = (start larger : ℕ) → order ≤ larger → larger < end
     → from ≤ start → order_at table start ≡ Some larger → ⊥
-IsLowestBelow table order from end (Some b) =
-    (order_at table b.start ≡ Some b.order) × (order ≤ b.order) × (b.order ≤ 9) × (from ≤ b.start)
-    × ((start larger : ℕ) → order ≤ larger → larger < end → from ≤ start
-    → order_at table start ≡ Some larger → b.start ≤ start)
+IsLowestBelow table order from end (Some b) = (order_at table b.start ≡ Some b.order)
+    × (order ≤ b.order) × (b.order ≤ 9) × (from ≤ b.start) × ((start larger : ℕ) → order ≤ larger
+    → larger < end → from ≤ start → order_at table start ≡ Some larger → b.start ≤ start)
 
 pub lowest_all : (t : List (Option ℕ)) (order from end : ℕ) (best : Option FreeBlock) → 9 < end
     → IsLowestBelow t order from end best → IsLowestListed t order from best

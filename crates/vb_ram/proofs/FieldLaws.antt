@@ -46,21 +46,18 @@ pub but_wider : (old new : Pages) (p a b lo hi : ℕ) → SameBut old new p a b 
 but_wider old new p a b lo hi w l h = grind arith
 
 -- the fields that bytes read one by one make
-pub field_2 : (mem : Pages) (p o : ℕ) (bs : List ℕ)
-    → ((k : ℕ) → k < 2 → slice_index bs k ≡ byte_at mem p (o + k))
-    → field 2 mem p o ≡ from_le_bytes w16 bs
+pub field_2 : (mem : Pages) (p o : ℕ) (bs : List ℕ) → ((k : ℕ)
+    → k < 2 → slice_index bs k ≡ byte_at mem p (o + k)) → field 2 mem p o ≡ from_le_bytes w16 bs
 unfolding field
 field_2 mem p o bs h = grind arith
 
-pub field_4 : (mem : Pages) (p o : ℕ) (bs : List ℕ)
-    → ((k : ℕ) → k < 4 → slice_index bs k ≡ byte_at mem p (o + k))
-    → field 4 mem p o ≡ from_le_bytes w32 bs
+pub field_4 : (mem : Pages) (p o : ℕ) (bs : List ℕ) → ((k : ℕ)
+    → k < 4 → slice_index bs k ≡ byte_at mem p (o + k)) → field 4 mem p o ≡ from_le_bytes w32 bs
 unfolding field
 field_4 mem p o bs h = grind arith
 
-pub field_8 : (mem : Pages) (p o : ℕ) (bs : List ℕ)
-    → ((k : ℕ) → k < 8 → slice_index bs k ≡ byte_at mem p (o + k))
-    → field 8 mem p o ≡ from_le_bytes w64 bs
+pub field_8 : (mem : Pages) (p o : ℕ) (bs : List ℕ) → ((k : ℕ)
+    → k < 8 → slice_index bs k ≡ byte_at mem p (o + k)) → field 8 mem p o ≡ from_le_bytes w64 bs
 unfolding field
 field_8 mem p o bs h = grind arith
 

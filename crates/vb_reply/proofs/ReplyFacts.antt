@@ -44,16 +44,15 @@ calls : map reply_text (Plugged 3 ∷ Done ∷ Ready ∷ Page 16 ∷ ReadBytes (
 unfolding digits encode_with
 calls = refl
 
-questions : map reply_text (Targets (3 ∷ 0 ∷ []) ∷ Targets []
-    ∷ Places (record { free = 1; used = 2; giving = 3; lent = 4; taking = 5; stranded = 6; reporting = 7 })
+questions : map reply_text (Targets (3 ∷ 0 ∷ []) ∷ Targets [] ∷ Places
+    (record { free = 1; used = 2; giving = 3; lent = 4; taking = 5; stranded = 6; reporting = 7 })
     ∷ Pages (record { first = 16; last = 19 } ∷ record { first = 30; last = 30 } ∷ []) ∷ Pages []
     ∷ Balloon (record { ballooned = 4; actual = 5; target = 6; status = 15 })
-    ∷ Statistics (record { free = Some 4096; total = None }) ∷ Backing (Some 13) ∷ Backing None ∷ Frames 14 50
-    ∷ [])
-    ≡ codes "targets 3 0" ∷ codes "targets"
-    ∷ codes "free 1 used 2 giving 3 lent 4 taking 5 stranded 6 reporting 7"
-    ∷ codes "pages 16-19 30" ∷ codes "pages" ∷ codes "ballooned 4 actual 5 target 6 status 15"
-    ∷ codes "memory 4096 -" ∷ codes "frame 13" ∷ codes "no backing" ∷ codes "frames used 14 free 50" ∷ []
+    ∷ Statistics (record { free = Some 4096; total = None })
+    ∷ Backing (Some 13) ∷ Backing None ∷ Frames 14 50 ∷ []) ≡ codes "targets 3 0" ∷ codes "targets"
+    ∷ codes "free 1 used 2 giving 3 lent 4 taking 5 stranded 6 reporting 7" ∷ codes "pages 16-19 30"
+    ∷ codes "pages" ∷ codes "ballooned 4 actual 5 target 6 status 15" ∷ codes "memory 4096 -"
+    ∷ codes "frame 13" ∷ codes "no backing" ∷ codes "frames used 14 free 50" ∷ []
 unfolding digits
 questions = refl
 

@@ -36,10 +36,9 @@ module _ (test : ℕ → Bool) (set : List Bool) (same : (p : ℕ) → test p �
 
   is_named : (from : ℕ) (b : Block) → MayName from b → may_name from b ≡ true
   unfolding may_name
-  is_named from b x =
-      and_from (is_maximal test b) (is_later from b) (is_maximal_by test set same b x.maximal)
-      (and_from (nat_le 4 b.order) (nat_le from b.start) (le-leb 4 b.order x.large)
-      (le-leb from b.start x.after))
+  is_named from b x = and_from (is_maximal test b)
+      (is_later from b) (is_maximal_by test set same b x.maximal) (and_from (nat_le 4 b.order)
+      (nat_le from b.start) (le-leb 4 b.order x.large) (le-leb from b.start x.after))
 
   listed : (from n : ℕ) → filter (is_later from) (maximal_blocks n test)
       ≡ filter (may_name from) (flat_map blocks_at (range_with_len 0 n))
@@ -115,8 +114,7 @@ module _ (test : ℕ → Bool) (set : List Bool) (same : (p : ℕ) → test p �
     pub first_named : s < n → filter (is_later from) (maximal_blocks n test)
         ≡ block_at s k ∷ filter (is_later (s + 2 ^ k)) (maximal_blocks n test)
     unfolding end
-    first_named l = listed from n
-        ∙ (flat_split (may_name from) (may_name end) blocks_at s (block_at s k) 0 n (omega arith)
-        (omega arith) (λ r b. before r b) (λ r b. not_after r (omega arith)) just_one
-        (not_after s (omega arith)) (λ r b. later r b)
+    first_named l = listed from n ∙ (flat_split (may_name from) (may_name end) blocks_at s
+        (block_at s k) 0 n (omega arith) (omega arith) (λ r b. before r b)
+        (λ r b. not_after r (omega arith)) just_one (not_after s (omega arith)) (λ r b. later r b)
         ∙ ap (λ (bs : List Block). block_at s k ∷ bs) (sym (listed end n)))

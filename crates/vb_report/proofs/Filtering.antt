@@ -11,9 +11,8 @@ filter_twice {A = A} keep test (x ∷ xs) = grind (arith, filter_twice keep test
 
 -- ---- a list by number
 
-pub filter_none : {A : Type 0} (test : A → Bool) (f : ℕ → A) (a n : ℕ)
-    → ((k : ℕ) → a ≤ k → k < a + n → test (f k) ≡ false)
-    → filter test (map f (range_with_len a n)) ≡ []
+pub filter_none : {A : Type 0} (test : A → Bool) (f : ℕ → A) (a n : ℕ) → ((k : ℕ)
+    → a ≤ k → k < a + n → test (f k) ≡ false) → filter test (map f (range_with_len a n)) ≡ []
 filter_none test f a zero h = refl
 filter_none test f a (suc n) h =
     ap (λ (v : Bool). cond v (f a ∷ filter test (map f (range_with_len (a + 1) n)))
@@ -50,14 +49,12 @@ filter_one {A = A} test f j a (suc n) l u here others = elim (cases_eq a j) [
 
 -- ---- lists by number, one after the other
 
-pub flat_none : {A : Type 0} (test : A → Bool) (g : ℕ → List A) (a n : ℕ)
-    → ((k : ℕ) → a ≤ k → k < a + n → filter test (g k) ≡ [])
-    → filter test (flat_map g (range_with_len a n)) ≡ []
+pub flat_none : {A : Type 0} (test : A → Bool) (g : ℕ → List A) (a n : ℕ) → ((k : ℕ) → a ≤ k
+    → k < a + n → filter test (g k) ≡ []) → filter test (flat_map g (range_with_len a n)) ≡ []
 flat_none test g a zero h = refl
 flat_none {A = A} test g a (suc n) h =
-    filter-append test (g a) (flat_map g (range_with_len (a + 1) n))
-    ∙ (ap (λ (ys : List A). ys ++ filter test (flat_map g (range_with_len (a + 1) n)))
-    (h a (omega arith) (omega arith))
+    filter-append test (g a) (flat_map g (range_with_len (a + 1) n)) ∙ (ap (λ (ys : List A). ys
+    ++ filter test (flat_map g (range_with_len (a + 1) n))) (h a (omega arith) (omega arith))
     ∙ flat_none test g (a + 1) n (λ k l u. h k (omega arith) (omega arith)))
 
 pub flat_same : {A : Type 0} (test other : A → Bool) (g : ℕ → List A) (a n : ℕ)

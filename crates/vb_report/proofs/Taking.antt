@@ -42,31 +42,30 @@ was_maximal set left next c t x l = record {
   is_block = x.is_block;
   inside = λ p a e. t.less p (x.inside p a e);
   alone = λ d blk inside w. x.alone d blk (kept d blk inside w) w;
-}
-  where
-    kept : (d : Block) → IsBlock d → LiesIn set d → LiesWithin c d → LiesIn left d
-    kept d blk inside w p a e = elim (cases_Bool (has left p)) [
-      | inl h ↦ h
-      | inr n ↦
-          let r = t.gone p (inside p a e) n in
-          let b : Block = r.0 in
-          let y : IsMaximal set b = r.1 in
-          let low : b.start ≤ p = r.2 in
-          let high : p < b.start + size b = r.3 in
-          let before : b.start + size b ≤ next = r.4 in
-          let some : 0 < 2 ^ c.order = pow_pos c.order in
-          let wl : d.start ≤ c.start = w.0 in
-          let wh : c.start + size c ≤ d.start + size d = w.1 in elim (cases_lt b.order d.order) [
-            | inl o ↦
-                let v = nested b.start b.order d.start d.order p
-                (aligned_is b y.is_block.1) (aligned_is d blk.1) (omega arith) low high a e in
-                let bad : d.order ≤ b.order = y.alone d blk inside v in absurd (omega arith)
-            | inr o ↦
-                let v = nested d.start d.order b.start b.order p (aligned_is d blk.1)
-                (aligned_is b y.is_block.1) o a e low high in
-                let vh : d.start + size d ≤ b.start + size b = v.1 in absurd (omega arith)
-          ]
-    ]
+} where
+  kept : (d : Block) → IsBlock d → LiesIn set d → LiesWithin c d → LiesIn left d
+  kept d blk inside w p a e = elim (cases_Bool (has left p)) [
+    | inl h ↦ h
+    | inr n ↦
+        let r = t.gone p (inside p a e) n in
+        let b : Block = r.0 in
+        let y : IsMaximal set b = r.1 in
+        let low : b.start ≤ p = r.2 in
+        let high : p < b.start + size b = r.3 in
+        let before : b.start + size b ≤ next = r.4 in
+        let some : 0 < 2 ^ c.order = pow_pos c.order in
+        let wl : d.start ≤ c.start = w.0 in
+        let wh : c.start + size c ≤ d.start + size d = w.1 in elim (cases_lt b.order d.order) [
+          | inl o ↦
+              let v = nested b.start b.order d.start d.order p
+              (aligned_is b y.is_block.1) (aligned_is d blk.1) (omega arith) low high a e in
+              let bad : d.order ≤ b.order = y.alone d blk inside v in absurd (omega arith)
+          | inr o ↦
+              let v = nested d.start d.order b.start b.order p (aligned_is d blk.1)
+              (aligned_is b y.is_block.1) o a e low high in
+              let vh : d.start + size d ≤ b.start + size b = v.1 in absurd (omega arith)
+        ]
+  ]
 
 lowest_before : (set left : List Bool) (next : ℕ) (b : Block) → IsTakenFrom set left next
     → IsLowestFrom left 4 next b → IsLowestFrom set 4 next b
@@ -188,54 +187,51 @@ taking_more old now next from room page count bs b t l isolates fits left = reco
       (sym (left p) ∙ f)).0)) bs t.fits) fits;
   long = length-append bs (b ∷ []) ∙ omega (arith, t.long);
   rest = λ test same. listed test same ∙ t.rest test same;
-}
-  where
-    got : Isolates (without_blocks bs old) 4 page (Some b) next
-    got = subst (λ (s : PageState). Isolates s 4 page (Some b) next) t.state isolates
+} where
+  got : Isolates (without_blocks bs old) 4 page (Some b) next
+  got = subst (λ (s : PageState). Isolates s 4 page (Some b) next) t.state isolates
 
-    low : IsLowestFrom (areas_of old) 4 page (block_of b)
-    low = lowest_before (areas_of old) (without_pages (pages_of_all (blocks_of bs)) (areas_of old))
-        page (block_of b) (taken_from (areas_of old) bs page t.before)
-        (subst (λ (f : FreePages). IsLowestFrom f.areas 4 page (block_of b)) (settled old bs) got.0)
+  low : IsLowestFrom (areas_of old) 4 page (block_of b)
+  low = lowest_before (areas_of old) (without_pages (pages_of_all (blocks_of bs)) (areas_of old))
+      page (block_of b) (taken_from (areas_of old) bs page t.before)
+      (subst (λ (f : FreePages). IsLowestFrom f.areas 4 page (block_of b)) (settled old bs) got.0)
 
-    is : next ≡ without_blocks (bs ++ b ∷ []) old
-    is = got.1 ∙ (ap (λ (f : FreePages). with_free old
-        (with_lists (without_pages (pages_of (block_of b)) f.areas) f.lists f.reserved)) (settled old bs)
-        ∙ ap (λ (set : List Bool). with_free old (with_lists set (lists_of old) old.free.reserved))
-        (block_more bs b (areas_of old)))
+  is : next ≡ without_blocks (bs ++ b ∷ []) old
+  is = got.1 ∙ (ap (λ (f : FreePages). with_free old
+      (with_lists (without_pages (pages_of (block_of b)) f.areas) f.lists f.reserved)) (settled old bs)
+      ∙ ap (λ (set : List Bool). with_free old (with_lists set (lists_of old) old.free.reserved))
+      (block_more bs b (areas_of old)))
 
-    pages : page_count next ≡ page_count now
-    pages = ap page_count is
-        ∙ (length-without_pages (pages_of_all (blocks_of (bs ++ b ∷ []))) (areas_of old)
-        ∙ (sym (length-without_pages (pages_of_all (blocks_of bs)) (areas_of old))
-        ∙ sym (ap page_count t.state)))
+  pages : page_count next ≡ page_count now
+  pages = ap page_count is ∙ (length-without_pages (pages_of_all (blocks_of (bs ++ b ∷ [])))
+      (areas_of old) ∙ (sym (length-without_pages (pages_of_all (blocks_of bs)) (areas_of old))
+      ∙ sym (ap page_count t.state)))
 
-    reserved : reserved_count next ≡ reserved_count now
-    reserved = ap reserved_count is ∙ sym (ap reserved_count t.state)
+  reserved : reserved_count next ≡ reserved_count now
+  reserved = ap reserved_count is ∙ sym (ap reserved_count t.state)
 
-    held : next.held ≡ now.held
-    held = ap (λ (s : PageState). s.held) is ∙ sym (ap (λ (s : PageState). s.held) t.state)
+  held : next.held ≡ now.held
+  held = ap (λ (s : PageState). s.held) is ∙ sym (ap (λ (s : PageState). s.held) t.state)
 
-    there : b.start < page_count old
-    there = let some : 0 < 2 ^ b.order = pow_pos b.order in
-        let q = is_inside (areas_of old) b.start
-        (low.maximal.inside b.start (omega arith) (omega arith)) in
-        omega (arith, length-with_pages (in_lists old.free) old.free.areas)
+  there : b.start < page_count old
+  there = let some : 0 < 2 ^ b.order = pow_pos b.order in
+      let q = is_inside (areas_of old) b.start
+      (low.maximal.inside b.start (omega arith) (omega arith)) in
+      omega (arith, length-with_pages (in_lists old.free) old.free.areas)
 
-    listed : (test : ℕ → Bool) → ((p : ℕ) → test p ≡ has (areas_of old) p)
-        → blocks_of (bs ++ b ∷ [])
-        ++ reported (room - (count + 1)) (b.start + 2 ^ b.order) (maximal_blocks (page_count old) test)
-        ≡ blocks_of bs ++ reported (room - count) page (maximal_blocks (page_count old) test)
-    listed test same = let all : List Block = maximal_blocks (page_count old) test in
-        let more : List Block = filter (is_later (b.start + 2 ^ b.order)) all in
-        let first : filter (is_later page) all ≡ block_of b ∷ more =
-        first_named test (areas_of old) same page b.start b.order (page_count old) low there in
-        let n : room - count ≡ suc (room - (count + 1)) = omega arith in
-        ap (λ (xs : List Block). xs ++ take (room - (count + 1)) more) (map-append block_of bs (b ∷ []))
-        ∙ (append_assoc (blocks_of bs) (block_of b ∷ []) (take (room - (count + 1)) more)
-        ∙ ap (λ (xs : List Block). blocks_of bs ++ xs)
-        (ap (λ (k : ℕ). take k (block_of b ∷ more)) (sym n)
-        ∙ ap (λ (xs : List Block). take (room - count) xs) (sym first)))
+  listed : (test : ℕ → Bool) → ((p : ℕ) → test p ≡ has (areas_of old) p)
+      → blocks_of (bs ++ b ∷ [])
+      ++ reported (room - (count + 1)) (b.start + 2 ^ b.order) (maximal_blocks (page_count old) test)
+      ≡ blocks_of bs ++ reported (room - count) page (maximal_blocks (page_count old) test)
+  listed test same = let all : List Block = maximal_blocks (page_count old) test in
+      let more : List Block = filter (is_later (b.start + 2 ^ b.order)) all in
+      let first : filter (is_later page) all ≡ block_of b ∷ more =
+      first_named test (areas_of old) same page b.start b.order (page_count old) low there in
+      let n : room - count ≡ suc (room - (count + 1)) = omega arith in
+      ap (λ (xs : List Block). xs ++ take (room - (count + 1)) more) (map-append block_of bs (b
+      ∷ [])) ∙ (append_assoc (blocks_of bs) (block_of b ∷ []) (take (room - (count + 1)) more) ∙ ap
+      (λ (xs : List Block). blocks_of bs ++ xs) (ap (λ (k : ℕ). take k (block_of b ∷ more)) (sym n)
+      ∙ ap (λ (xs : List Block). take (room - count) xs) (sym first)))
 
 -- no block is left
 pub taking_all : (old now next : PageState) (from room page count : ℕ) (bs : List FreeBlock)
@@ -252,22 +248,21 @@ taking_all old now next from room page count bs t isolates = (
       ∙ (ap (λ (xs : List Block). blocks_of bs ++ xs) (sym (take_none (room - count)))
       ∙ (ap (λ (xs : List Block). blocks_of bs ++ take (room - count) xs) (sym gone)
       ∙ t.rest test same)),
-)
-  where
-    take_none : (n : ℕ) → take {A = Block} n [] ≡ []
-    take_none zero = refl
-    take_none (suc n) = refl
+) where
+  take_none : (n : ℕ) → take {A = Block} n [] ≡ []
+  take_none zero = refl
+  take_none (suc n) = refl
 
-    got : Isolates (without_blocks bs old) 4 page None next
-    got = subst (λ (s : PageState). Isolates s 4 page None next) t.state isolates
+  got : Isolates (without_blocks bs old) 4 page None next
+  got = subst (λ (s : PageState). Isolates s 4 page None next) t.state isolates
 
-    is : next ≡ without_blocks bs old
-    is = got.1 ∙ ap (with_free old) (settled old bs)
+  is : next ≡ without_blocks bs old
+  is = got.1 ∙ ap (with_free old) (settled old bs)
 
-    never : (b : Block) → IsMaximal (areas_of old) b → 4 ≤ b.order → page ≤ b.start → ⊥
-    never b x o f = got.0 b (subst (λ (p : FreePages). IsMaximal p.areas b) (sym (settled old bs))
-        (still_maximal (areas_of old) (without_pages (pages_of_all (blocks_of bs)) (areas_of old))
-        page b (taken_from (areas_of old) bs page t.before) x f)) o f
+  never : (b : Block) → IsMaximal (areas_of old) b → 4 ≤ b.order → page ≤ b.start → ⊥
+  never b x o f = got.0 b (subst (λ (p : FreePages). IsMaximal p.areas b) (sym (settled old bs))
+      (still_maximal (areas_of old) (without_pages (pages_of_all (blocks_of bs)) (areas_of old))
+      page b (taken_from (areas_of old) bs page t.before) x f)) o f
 
 -- as many as there is room for
 pub taking_full : (old now : PageState) (from room page count : ℕ) (bs : List FreeBlock)
@@ -361,18 +356,16 @@ chooses old mid new from room bs drains same reports takes fits = record {
         omega (arith, inside.0, ap reserved_count taken),
         omega (arith, few, inside.1),
       );
-}
-  where
-    chosen : blocks_of bs ≡ blocks_to_report old from room
-    chosen = reports (is_free_page old) (λ p. sym (same p))
-        ∙ ap (λ (n : ℕ). reported room from (maximal_blocks n (is_free_page old)))
-        (drained_pages old mid drains)
+} where
+  chosen : blocks_of bs ≡ blocks_to_report old from room
+  chosen = reports (is_free_page old) (λ p. sym (same p)) ∙ ap (λ (n : ℕ). reported room from
+      (maximal_blocks n (is_free_page old))) (drained_pages old mid drains)
 
-    taken : new ≡ without_blocks bs old
-    taken = takes ∙ (ap (without_blocks bs) drains ∙ ap (λ (f : FreePages). with_free old
-        (with_lists (without_pages (pages_of_all (blocks_of bs)) f.areas) f.lists f.reserved))
-        (drained_twice old.free))
+  taken : new ≡ without_blocks bs old
+  taken = takes ∙ (ap (without_blocks bs) drains ∙ ap (λ (f : FreePages). with_free old
+      (with_lists (without_pages (pages_of_all (blocks_of bs)) f.areas) f.lists f.reserved))
+      (drained_twice old.free))
 
-    free : (p : ℕ) → is_free_page mid p ≡ has (areas_of old) p
-    free p = ap (λ (s : PageState). is_free_page s p) drains
-        ∙ free_is_area (areas_of old) old.free.lists old.free.reserved p
+  free : (p : ℕ) → is_free_page mid p ≡ has (areas_of old) p
+  free p = ap (λ (s : PageState). is_free_page s p) drains
+      ∙ free_is_area (areas_of old) old.free.lists old.free.reserved p

@@ -17,10 +17,9 @@ fits_of q end writing k x e = grind (arith, ltb-false, second_holds)
 
 pub chain_fits : (d : ℕ → Descriptor) (q end h : ℕ) (pieces : List Piece) →
     ChainGives d q end h pieces → All (λ piece. piece.addr + piece.len ≤ end) pieces
-chain_fits d q end h pieces gives = subst
-    (λ (xs : List Piece). All (λ piece. piece.addr + piece.len ≤ end) xs) (sym gives.pieces_are)
-    (All-from_get_or (λ piece. piece.addr + piece.len ≤ end) (map (λ i. piece_of (d i)) gives.path)
-    empty (λ k lt.
+chain_fits d q end h pieces gives = subst (λ (xs : List Piece). All
+    (λ piece. piece.addr + piece.len ≤ end) xs) (sym gives.pieces_are) (All-from_get_or
+    (λ piece. piece.addr + piece.len ≤ end) (map (λ i. piece_of (d i)) gives.path) empty (λ k lt.
     let inside : k < length gives.path =
     omega (arith, lt, length-map gives.path (λ i. piece_of (d i))) in
     subst (λ (piece : Piece). piece.addr + piece.len ≤ end)

@@ -66,10 +66,9 @@ all_right : (reserved count : ℕ) (ns : List ℕ) → All (λ n. n < count) ns
     → All (λ n. reserved ≤ n) ns → first_number_fault reserved count ns ≡ None
 all_right reserved count [] below above = refl
 all_right reserved count (n ∷ ns) below above =
-    ap (λ o. first_of_both o (first_number_fault reserved count ns))
-    (right reserved count n (below 0 n (omega arith)) (above 0 n (omega arith)))
-    ∙ all_right reserved count ns (λ k d l. below (suc k) d (omega arith))
-    (λ k d l. above (suc k) d (omega arith))
+    ap (λ o. first_of_both o (first_number_fault reserved count ns)) (right reserved count n
+    (below 0 n (omega arith)) (above 0 n (omega arith))) ∙ all_right reserved count ns
+    (λ k d l. below (suc k) d (omega arith)) (λ k d l. above (suc k) d (omega arith))
 
 true_false : true ≡ false → ⊥
 true_false e = cc

@@ -105,13 +105,11 @@ pub numbers_are_pages : (reserved count : ℕ) (ns pages : List ℕ)
     → pages_of_numbers reserved count ns ≡ Ok pages → ArePages reserved count pages
 numbers_are_pages reserved count ns pages e =
     let both = unless_ok (first_number_fault reserved count ns) (each_once ns) pages e in record {
-      above = subst (λ (xs : List ℕ). All (λ page. reserved ≤ page) xs) both.1
-          (once_all (λ page. reserved ≤ page) ns
-          (λ k d lt. right_above reserved count (slice_index_or ns k d)
+      above = subst (λ (xs : List ℕ). All (λ page. reserved ≤ page) xs) both.1 (once_all
+          (λ page. reserved ≤ page) ns (λ k d lt. right_above reserved count (slice_index_or ns k d)
           (each_right reserved count ns both.0 k d lt)));
-      below = subst (λ (xs : List ℕ). All (λ page. page < count) xs) both.1
-          (once_all (λ page. page < count) ns
-          (λ k d lt. right_below reserved count (slice_index_or ns k d)
+      below = subst (λ (xs : List ℕ). All (λ page. page < count) xs) both.1 (once_all
+          (λ page. page < count) ns (λ k d lt. right_below reserved count (slice_index_or ns k d)
           (each_right reserved count ns both.0 k d lt)));
       distinct = subst AllDistinct both.1 (once_distinct ns);
     }

@@ -43,9 +43,8 @@ added_apart old new r1 r2 pieces h i j adds lt own = grind (arith, nowhere_in, n
 pub next_low : (r : DriverEnd) (h : ℕ) → AreSingle r → next_head r ≡ Some h → h ≤ outstanding r
 next_low r h single next =
     let some : 0 < length (free_descriptors r) = get_some (free_descriptors r) h next in
-    let first : slice_index (free_descriptors r) 0 ≡ h =
-    some_same (slice_index (free_descriptors r) 0) h
-    (sym (slice_get-get_or (free_descriptors r) 0 0 some) ∙ next) in
+    let first : slice_index (free_descriptors r) 0 ≡ h = some_same (slice_index
+    (free_descriptors r) 0) h (sym (slice_get-get_or (free_descriptors r) 0 0 some) ∙ next) in
     let inside = numbers_pass (is_unused r.owner) r.size 0 some in
     length_all (is_head r.owner) r.size h (omega (arith, first, inside.0)) (λ i l.
     single i (omega (arith, first, inside.0)) (taken r h some first i l (is_unused r.owner i) refl))

@@ -106,34 +106,31 @@ takes_by mem r result is_end most is = record {
       subst (λ (a : Result (Option ℕ) RingBroken). Tracks mem (after_take r a) heads elems (s + 1))
       (sym (shown heads elems s tracks shows ∙ ap Ok (next_elem elems s lt)))
       (taken_tracks mem r heads elems s id is_end tracks lt refl out);
-}
-  where
-    next_elem : (elems : List UsedElem) (s : ℕ) → s < length elems
-        → slice_get (ids elems) s ≡ Some (slice_index_or elems s no_elem).id
-    next_elem elems s lt =
-        slice_get-get_or (ids elems) s 0 (omega (arith, length-map elems (λ e. e.id)))
-        ∙ ap Some (get_or-map (λ e. e.id) elems s no_elem 0 lt)
+} where
+  next_elem : (elems : List UsedElem) (s : ℕ) → s < length elems
+      → slice_get (ids elems) s ≡ Some (slice_index_or elems s no_elem).id
+  next_elem elems s lt =
+      slice_get-get_or (ids elems) s 0 (omega (arith, length-map elems (λ e. e.id)))
+      ∙ ap Some (get_or-map (λ e. e.id) elems s no_elem 0 lt)
 
-    shown : (heads : List ℕ) (elems : List UsedElem) (s : ℕ) → Tracks mem r heads elems s
-        → Shows mem r.layout r.size heads elems → result ≡ Ok (slice_get (ids elems) s)
-    shown heads elems s tracks shows =
-        let fewer = fewer_used mem r.layout r.size heads elems shows in
-        let next : next_id mem r.layout r.size r.seen (outstanding r)
-        ≡ Ok (slice_get (ids elems) s) =
-        id_shown mem r.layout r.size (outstanding r) elems s r.seen is_end.fits.size most
-        shows.entries.used tracks.seen tracks.few (omega (arith, tracks.count, fewer)) in
-        is ∙ ap (only_head r.owner) next ∙ elim (cases_eq s (length elems)) [
-          | inl all ↦
-              let none : slice_get (ids elems) s ≡ None =
-              slice_get_past (ids elems) s (omega (arith, length-map elems (λ e. e.id), all)) in
-              ap (λ (o : Option ℕ). only_head r.owner (Ok o)) none ∙ ap Ok (sym none)
-          | inr ne ↦
-              let lt : s < length elems = omega (arith, ne, tracks.few) in
-              let some = next_elem elems s lt in
-              ap (λ (o : Option ℕ). only_head r.owner (Ok o)) some
-              ∙ only_out r.owner (slice_index_or elems s no_elem).id
-              (next_used_out mem r heads elems s tracks shows.among lt) ∙ ap Ok (sym some)
-        ]
+  shown : (heads : List ℕ) (elems : List UsedElem) (s : ℕ) → Tracks mem r heads elems s
+      → Shows mem r.layout r.size heads elems → result ≡ Ok (slice_get (ids elems) s)
+  shown heads elems s tracks shows = let fewer = fewer_used mem r.layout r.size heads elems shows in
+      let next : next_id mem r.layout r.size r.seen (outstanding r) ≡ Ok (slice_get (ids elems) s) =
+      id_shown mem r.layout r.size (outstanding r) elems s r.seen is_end.fits.size most
+      shows.entries.used tracks.seen tracks.few (omega (arith, tracks.count, fewer)) in
+      is ∙ ap (only_head r.owner) next ∙ elim (cases_eq s (length elems)) [
+        | inl all ↦
+            let none : slice_get (ids elems) s ≡ None =
+            slice_get_past (ids elems) s (omega (arith, length-map elems (λ e. e.id), all)) in
+            ap (λ (o : Option ℕ). only_head r.owner (Ok o)) none ∙ ap Ok (sym none)
+        | inr ne ↦
+            let lt : s < length elems = omega (arith, ne, tracks.few) in
+            let some = next_elem elems s lt in
+            ap (λ (o : Option ℕ). only_head r.owner (Ok o)) some
+            ∙ only_out r.owner (slice_index_or elems s no_elem).id
+            (next_used_out mem r heads elems s tracks shows.among lt) ∙ ap Ok (sym some)
+      ]
 
 -- ---- add_used
 

@@ -80,9 +80,8 @@ publishes_entries old new l q next head heads elems fits w at shows = record {
         (λ i. omega (arith, i.to, fits.table_avail i.page)),
         ((λ i. omega (arith, i.from, i.to, apart)), ((λ i. omega (arith, i.to)), tt)),
       ))) (omega arith) (omega arith)) shows.avail;
-  used = used_kept old new l q elems fits.size
-      (outside_in old new _ l.used.page (l.used.offset + 2) (l.used.offset + (6 + 8 * q)) w.rest
-      (λ o low high.
+  used = used_kept old new l q elems fits.size (outside_in old new _ l.used.page
+      (l.used.offset + 2) (l.used.offset + (6 + 8 * q)) w.rest (λ o low high.
       let mine = mod_below next q (omega (arith, fits.size.least)) in (
         (λ i. omega (arith, i.to, fits.table_used i.page)),
         (
@@ -98,9 +97,8 @@ pub puts_entries : (old new : Pages) (l : Layout) (q next head count : ℕ) (hea
     → length elems % 65536 ≡ next → ShowsEntries old l q heads elems
     → ShowsEntries new l q heads (elems ++ record { id = head; len = count } ∷ [])
 puts_entries old new l q next head count heads elems fits w at shows = record {
-  avail = avail_kept old new l q heads fits.size
-      (outside_in old new _ l.avail.page (l.avail.offset + 2) (l.avail.offset + (6 + 2 * q)) w.rest
-      (λ o low high. (
+  avail = avail_kept old new l q heads fits.size (outside_in old new _ l.avail.page
+      (l.avail.offset + 2) (l.avail.offset + (6 + 2 * q)) w.rest (λ o low high. (
         (λ i. omega (arith, i.from, fits.avail_used (sym i.page))),
         ((λ i. omega (arith, i.from, fits.avail_used (sym i.page))), tt),
       ))) shows.avail;

@@ -258,9 +258,8 @@ added_tracks m1 m3 r pieces h heads elems s is_end links some fits first tracks 
     let path : List ℕ = next_path r (length pieces) in
     let new : List (Option ℕ) = claimed path h r.owner in
     let len : length path ≡ length pieces = next_path-length r (length pieces) fits in
-    let free : (k : ℕ) → k < length path → (slice_index path k < r.size)
-    × (slice_index_or r.owner (slice_index path k) None ≡ None) =
-    next_path-free r (length pieces) in
+    let free : (k : ℕ) → k < length path → (slice_index path k < r.size) × (slice_index_or r.owner
+    (slice_index path k) None ≡ None) = next_path-free r (length pieces) in
     let inside : (k : ℕ) → k < length path
     → slice_index path k < length r.owner = λ k l. omega (arith, (free k l).0, is_end.table) in
     let begin : 0 < length path = omega (arith, len) in
@@ -268,9 +267,8 @@ added_tracks m1 m3 r pieces h heads elems s is_end links some fits first tracks 
     claims r.owner path h begin first (λ k l. (inside k l, (free k l).1)) in
     let gain : length (numbers (is_head new) r.size) ≡ outstanding r + 1 =
     claim.count r.size (omega (arith, (free 0 begin).0, first)) in
-    let both : length (free_descriptors r) + outstanding r ≤ r.size =
-    length_two (is_unused r.owner) (is_head r.owner) r.size
-    (λ i e. ap (is_own i) (free_none _ e)) in (
+    let both : length (free_descriptors r) + outstanding r ≤ r.size = length_two
+    (is_unused r.owner) (is_head r.owner) r.size (λ i e. ap (is_own i) (free_none _ e)) in (
       record {
         published = omega (arith, length_push heads h, tracks.published);
         seen = tracks.seen;
@@ -304,8 +302,8 @@ added_tracks m1 m3 r pieces h heads elems s is_end links some fits first tracks 
               (ap (λ x. slice_index_or r.owner x None) e ∙ own)) in
               let old : slice_index_or r.owner (slice_index xs k) None ≡ Some j =
               path_good (descriptor_at m1 r.layout.table) (descriptor_at m3 r.layout.table) r.size j
-              (λ i. slice_index_or r.owner i None ≡ Some j) xs whole
-              (λ i lt own. links.others i lt (apart i own)) (tracks.owns j (claim.same j ne ∙ out)) k l in
+              (λ i. slice_index_or r.owner i None ≡ Some j) xs whole (λ i lt own. links.others i lt
+              (apart i own)) (tracks.owns j (claim.same j ne ∙ out)) k l in
               claim.rest (slice_index xs k) (apart (slice_index xs k) old) ∙ old
         ];
       },

@@ -56,10 +56,10 @@ adds p n = elim (either_way (p n)) [
             ∙ get_or_push (numbers p n) n 0 (length (numbers p n)) refl;
       }
   | inr fail ↦ let same : numbers p (suc n) ≡ numbers p n = suc_no p n fail in record {
-      count = omega (arith, ap length same, ap one_if fail);
-      keeps = λ k lt. ap (λ (xs : List ℕ). slice_index xs k) same;
-      last = λ e. (let wrong : true ≡ false = sym e ∙ fail in cc);
-    }
+    count = omega (arith, ap length same, ap one_if fail);
+    keeps = λ k lt. ap (λ (xs : List ℕ). slice_index xs k) same;
+    last = λ e. (let wrong : true ≡ false = sym e ∙ fail in cc);
+  }
 ]
 
 passes : (b : Bool) → 0 < one_if b → b ≡ true

@@ -29,8 +29,7 @@ is_in-some (x ∷ xs) n h = at (x == n) refl (is_in-some xs n) where
   at : (b : Bool) → (x == n) ≡ b → (is_in n xs ≡ true → (k : ℕ) × (k < length xs)
       × (slice_index xs k ≡ n)) → (k : ℕ) × (k < length (x ∷ xs)) × (slice_index (x ∷ xs) k ≡ n)
   at true e more = (0, omega arith, eqb-true x n e)
-  at false e more =
-      let rest : is_in n xs ≡ true = ap (λ (b : Bool). b || is_in n xs) (sym e) ∙ h in
+  at false e more = let rest : is_in n xs ≡ true = ap (λ (b : Bool). b || is_in n xs) (sym e) ∙ h in
       let found = more rest in (suc found.0, omega (arith, found.1), found.2)
 
 -- Not in a list, a number stands nowhere in it.

@@ -33,25 +33,19 @@ pub puts_used : (m1 m2 m3 m4 : Pages) (l : Layout) (q next head count : ℕ)
 puts_used m1 m2 m3 m4 l q next head count id len index = record {
   id = field_in 4 m3 m4 l.used.page _ _ (used_place l q next)
       (same_above m3 m4 l.used.page _ _ (used_place l q next) (used_place l q next + 4) index.rest
-      (omega arith)) (omega arith) (omega arith)
-      ∙ field_in 4 m2 m3 l.used.page _ _ (used_place l q next)
-      (same_below m2 m3 l.used.page _ _ (used_place l q next) (used_place l q next + 4) len.rest
-      (omega arith)) (omega arith) (omega arith) ∙ id.value;
+      (omega arith)) (omega arith) (omega arith) ∙ field_in 4 m2 m3 l.used.page _ _
+      (used_place l q next) (same_below m2 m3 l.used.page _ _ (used_place l q next)
+      (used_place l q next + 4) len.rest (omega arith)) (omega arith) (omega arith) ∙ id.value;
   len = field_in 4 m3 m4 l.used.page _ _ (used_place l q next + 4)
       (same_above m3 m4 l.used.page _ _ (used_place l q next + 4) (used_place l q next + 8)
       index.rest (omega arith)) (omega arith) (omega arith) ∙ len.value;
   index = index.value;
   rest = record {
     bytes = λ p o out. byte_kept m3 m4 _ _ _ p o index.rest out.1.0
-        ∙ byte_kept m2 m3 _ _ _ p o len.rest (λ i. out.0 (record {
-          page = i.page;
-          from = omega (arith, i.from);
-          to = omega (arith, i.to);
-        })) ∙ byte_kept m1 m2 _ _ _ p o id.rest (λ i. out.0 (record {
-          page = i.page;
-          from = omega (arith, i.from);
-          to = omega (arith, i.to);
-        }));
+        ∙ byte_kept m2 m3 _ _ _ p o len.rest (λ i. out.0
+        (record { page = i.page; from = omega (arith, i.from); to = omega (arith, i.to) }))
+        ∙ byte_kept m1 m2 _ _ _ p o id.rest (λ i. out.0
+        (record { page = i.page; from = omega (arith, i.from); to = omega (arith, i.to) }));
     others = λ p out. index.rest.others p out.1.0 ∙ len.rest.others p out.0
         ∙ id.rest.others p out.0;
     backing = λ p. index.rest.backing p ∙ len.rest.backing p ∙ id.rest.backing p;

@@ -41,9 +41,8 @@ pub closes : (Is : Guest → Type 0) (own : List ℕ) (p : Past) (floor guest : 
     → entries_by Balancer p.history ≡ round_entries floor guest rounds
     → report.history.items ≡ p.history → length report.replies.items ≡ length plan.scripts.items
     → ((cpu : ℕ) (replies : Vec Reply Global) → slice_get report.replies.items cpu ≡ Some replies
-    → replies.items ≡ replies_by (Processor guest cpu) p.history)
-    → ((g : Guest) → Is g → report.frames.items ≡ frames_behind g)
-    → IsGuestReport floor guest plan paced rounds report
+    → replies.items ≡ replies_by (Processor guest cpu) p.history) → ((g : Guest) → Is g
+    → report.frames.items ≡ frames_behind g) → IsGuestReport floor guest plan paced rounds report
 closes Is own p floor guest plan paced rounds report k is sizes pace quiet scripts ended balanced
     history count replies frames =
     let run : IsHistory (config_of plan.config paced) 0 report.history.items k.now =
@@ -56,10 +55,9 @@ closes Is own p floor guest plan paced rounds report k is sizes pace quiet scrip
       scripts = count;
       plays = λ cpu calls got here answers.
           let s = there p.scripts plan.scripts.items cpu calls scripts.0 here in (
-            ap (calls_by (Processor guest cpu)) history
-                ∙ ap (λ (g : ℕ). calls_by (Processor g cpu) p.history) (sym is)
-                ∙ k.follows cpu s.0 s.1 ∙ take_whole s.0.calls s.0.place (ended cpu s.0 s.1)
-                ∙ scripts.1 cpu s.0 calls s.1 here,
+            ap (calls_by (Processor guest cpu)) history ∙ ap (λ (g : ℕ). calls_by
+                (Processor g cpu) p.history) (sym is) ∙ k.follows cpu s.0 s.1 ∙ take_whole
+                s.0.calls s.0.place (ended cpu s.0 s.1) ∙ scripts.1 cpu s.0 calls s.1 here,
             ap (replies_by (Processor guest cpu)) history ∙ sym (replies cpu got answers),
           );
       balanced = rw history balanced;
@@ -80,10 +78,9 @@ pub reported : {S D : Type 0} (seat : S → Bool) (port : D → Bool) (plan : Pl
     (seats : List S) (ports : List D) (gs : List GuestPlan) (rs ms : List Rounded)
     → gs ≡ plan.guests.items → rs ≡ report.rounds.items → ms ≡ report.rounds.items
     → length report.guests.items ≡ length gs → length ports ≡ length plan.guests.items
-    → map seat seats ≡ map port ports
-    → ((g : ℕ) (r : GuestReport) (p : GuestPlan) (s : S) → slice_get report.guests.items g ≡ Some r
-    → slice_get gs g ≡ Some p → slice_get seats g ≡ Some s
-    → IsGuestReport plan.floor g p (seat s) rs r)
+    → map seat seats ≡ map port ports → ((g : ℕ) (r : GuestReport) (p : GuestPlan) (s : S)
+    → slice_get report.guests.items g ≡ Some r → slice_get gs g ≡ Some p
+    → slice_get seats g ≡ Some s → IsGuestReport plan.floor g p (seat s) rs r)
     → AreApart report.guests.items → length report.rounds.items ≡ plan.rounds
     → All (IsRound plan) ms → IsReport plan (map port ports) report
 reported seat port plan report seats ports gs rs ms e f h len placed alike each apart count all =

@@ -12,8 +12,7 @@ rising_tail x xs r i within = r (suc i) (omega (arith, within))
 -- all that follow are above the first
 above : (x : ℕ) (xs : List ℕ) → IsRising (x ∷ xs) → (n : ℕ) → n ≤ x → times n xs ≡ 0
 above x [] r n le = refl
-above x (y ∷ ys) r n le =
-    let more : x < y = r 0 (omega arith) in
+above x (y ∷ ys) r n le = let more : x < y = r 0 (omega arith) in
     let other : (y == n) ≡ false = grind (arith, nat_tests, more, le) in
     rw other (above y ys (rising_tail x (y ∷ ys) r) n (omega (arith, more, le)))
 
@@ -24,8 +23,7 @@ rising_once (x ∷ xs) r n = cases (x == n) refl (rising_once xs (rising_tail x 
   split = count_by-cons (λ m. m == n) x xs
 
   cases : (b : Bool) → (x == n) ≡ b → times n xs ≤ 1 → times n (x ∷ xs) ≤ 1
-  cases true e less =
-      let same : x ≡ n = grind (arith, nat_tests, e) in
+  cases true e less = let same : x ≡ n = grind (arith, nat_tests, e) in
       let none : times n xs ≡ 0 = above x xs r n (omega (arith, same)) in
       let one : one_if (x == n) ≡ 1 = ap one_if e in omega (arith, split, none, one)
   cases false e less =
@@ -63,8 +61,7 @@ once_rising (x ∷ y ∷ ys) ordered once zero within = cases (y == x) refl wher
   own = grind (arith, nat_tests)
 
   cases : (b : Bool) → (y == x) ≡ b → x < y
-  cases true e =
-      let one : one_if (x == x) ≡ 1 = ap one_if own in
+  cases true e = let one : one_if (x == x) ≡ 1 = ap one_if own in
       let other : one_if (y == x) ≡ 1 = ap one_if e in
       absurd (omega (arith, first, second, one, other, once x))
   cases false e = grind (arith, nat_tests, e, le)

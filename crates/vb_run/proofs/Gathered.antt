@@ -104,9 +104,8 @@ pub made_next : (h expected : List Entry) (n place : ℕ) (e : Entry) → slice_
     × (list_all is_of_round (take (place + 1) expected) ≡ true)
 made_next h expected n place e at own so_far all (here, of_round) =
     let next = take_next expected place e here in (
-      ap (entries_by Balancer) (take_next h n e at)
-          ∙ filter-append (λ x. is_same Balancer (actor_of x)) (take n h) (e ∷ [])
-          ∙ rw own (ap (λ l. l ++ e ∷ []) so_far) ∙ sym next,
+      ap (entries_by Balancer) (take_next h n e at) ∙ filter-append (λ x. is_same Balancer
+          (actor_of x)) (take n h) (e ∷ []) ∙ rw own (ap (λ l. l ++ e ∷ []) so_far) ∙ sym next,
       ap (list_all is_of_round) next
           ∙ list_all-append is_of_round (take place expected) (e ∷ []) ∙ rw (all, of_round) refl,
     )

@@ -115,9 +115,8 @@ kept_next Is Is' own own' p cpu s call claims reply new quiet k here next stands
       tended = tended;
       behind = behind;
       made = subst (λ (n : ℕ). AreMade p.guest n (p.history ++ e ∷ []))
-          (sym (length_set p.scripts cpu after))
-          (made_push p.guest (length p.scripts) p.history e k.made
-          (refl, slice_get_within p.scripts cpu s here));
+          (sym (length_set p.scripts cpu after)) (made_push p.guest
+          (length p.scripts) p.history e k.made (refl, slice_get_within p.scripts cpu s here));
       follows = λ cpu' s' at. ⊎_elim (λ same. own_follows cpu' s' same.0 same.1) (λ other.
           calls_other (Processor p.guest cpu') p.history e (is_not p.guest cpu' cpu other.0)
           ∙ k.follows cpu' s' other.1) (get_set p.scripts cpu cpu' after s' at);

@@ -72,10 +72,9 @@ set_at (x ∷ xs) (suc i) (suc j) h = ⊎_elim (λ e. inl (ap suc e)) (λ e. inr
 
 -- a call of the worker that found nothing to do
 pub served_quiet : (Is Is' : Guest → Type 0) (own own' : List ℕ) (p : Past) (n : ℕ)
-    (call : Call) (claims : List Claim) (reply : Reply) (k : IsKept Is own p)
-    → slice_get services n ≡ Some call → found_nothing reply ≡ true
-    → StepsTo Is' claims k.now call reply → ((g : Guest) → Is' g → AreBehind own' g)
-    → IsKept Is' own' (record p { quiet = slice_set p.quiet n true })
+    (call : Call) (claims : List Claim) (reply : Reply) (k : IsKept Is own p) → slice_get services n
+    ≡ Some call → found_nothing reply ≡ true → StepsTo Is' claims k.now call reply → ((g : Guest)
+    → Is' g → AreBehind own' g) → IsKept Is' own' (record p { quiet = slice_set p.quiet n true })
 served_quiet Is Is' own own' p n call claims reply k at nothing s behind =
     let (step, tended, honest) = plain_entry k.now Balancer call claims reply s.new k.tended
     (service_plain n call at) s.step in

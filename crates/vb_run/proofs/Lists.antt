@@ -90,6 +90,5 @@ pub mapped_alike : {X Y Z : Type 0} (f : X → Z) (h : Y → Z) (xs : List X) (y
 mapped_alike f h [] ys i x y lt less same = absurd (omega (arith, lt))
 mapped_alike f h (a ∷ xs) [] i x y lt less same = absurd (omega (arith, less))
 mapped_alike f h (a ∷ xs) (b ∷ ys) zero x y lt less same = cc
-mapped_alike f h (a ∷ xs) (b ∷ ys) (suc i) x y lt less same =
-    let rest : map f xs ≡ map h ys = cc in
+mapped_alike f h (a ∷ xs) (b ∷ ys) (suc i) x y lt less same = let rest : map f xs ≡ map h ys = cc in
     mapped_alike f h xs ys i x y (omega (arith, lt)) (omega (arith, less)) rest

@@ -97,13 +97,11 @@ nothing_to_work_on = grind arith
 
 -- not one that is done, though the target is as it was
 target_set_again : IsQuiet ready (SetTarget 0) → ⊥
-target_set_again q =
-    let did = performed (SetTarget 0) ready q.claims q.reply ready q.step in
+target_set_again q = let did = performed (SetTarget 0) ready q.claims q.reply ready q.step in
     let e : true ≡ false = sym q.nothing ∙ ap found_nothing did.1.0 in cc
 
 another_target_set : IsQuiet ready (SetTarget 3) → ⊥
-another_target_set q =
-    let did = performed (SetTarget 3) ready q.claims q.reply ready q.step in
+another_target_set q = let did = performed (SetTarget 3) ready q.claims q.reply ready q.step in
     let e : Same 0 3 = ap (λ (g : Guest). g.target) did.1.1 in omega arith
 
 -- ---- a tended guest is honest, and a ready one has its buffer and all of a driver's own features

@@ -47,9 +47,8 @@ pub swapped : {S : Type 0} (seat : S → Bool) (floor : ℕ) (plans : List Guest
     (rounds : List Rounded) (reports : List GuestReport) (report : GuestReport)
     → ((g : ℕ) (r : GuestReport) (p : GuestPlan) (s : S) → slice_get reports g ≡ Some r
     → slice_get plans g ≡ Some p → slice_get seats g ≡ Some s
-    → IsGuestReport floor g p (seat s) rounds r)
-    → ((p : GuestPlan) (s : S) → slice_get plans (length reports) ≡ Some p
-    → slice_get seats (length reports) ≡ Some s
+    → IsGuestReport floor g p (seat s) rounds r) → ((p : GuestPlan) (s : S)
+    → slice_get plans (length reports) ≡ Some p → slice_get seats (length reports) ≡ Some s
     → IsGuestReport floor (length reports) p (seat s) rounds report) → (g : ℕ) (r : GuestReport)
     (p : GuestPlan) (s : S) → slice_get (reports ++ report ∷ []) g ≡ Some r → slice_get plans g
     ≡ Some p → slice_get seats g ≡ Some s → IsGuestReport floor g p (seat s) rounds r

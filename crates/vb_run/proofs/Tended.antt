@@ -72,10 +72,9 @@ performs_quiet call g claims reply new v s t = grind (arith, match_cases, takes_
 pub quiet_step : (g : Guest) (n : ℕ) (call : Call) (claims : List Claim) (reply : Reply)
     (new : Guest) → slice_get services n ≡ Some call → HonestStep g call claims reply new
     → found_nothing reply ≡ true → new ≡ g
-quiet_step g n call claims reply new e s t =
-    elim (match_cases (refusal_of g call) (Performed call g claims reply new)
-    (λ refusal. (claims ≡ []) × (reply ≡ Refused refusal) × (new ≡ g))
-    (honest_case g call claims reply new s)) [
+quiet_step g n call claims reply new e s t = elim (match_cases
+    (refusal_of g call) (Performed call g claims reply new) (λ refusal. (claims ≡ [])
+    × (reply ≡ Refused refusal) × (new ≡ g)) (honest_case g call claims reply new s)) [
       | inl p ↦ performs_quiet call g claims reply new
           (each_passes is_service services refl n call e) p.1 t
       | inr r ↦ r.2.2
@@ -161,8 +160,7 @@ pub started : (config : Config) (claims : List Claim) (reply : Reply) (new : Gue
     → GuestStep (fresh config 0) (Init OFFERED_FEATURES) claims reply new
     → EntryStep (fresh config 0) (Called Starter (Init OFFERED_FEATURES) claims reply) new
     × IsTended new
-started config claims reply new c s =
-    let first : Guest = fresh config 0 in
+started config claims reply new c s = let first : Guest = fresh config 0 in
     let step : HonestStep first (Init OFFERED_FEATURES) claims reply new = s in
     let honest : new.rogue ≡ false = honest_after first
     (Init OFFERED_FEATURES) claims reply new refl (init_scribble OFFERED_FEATURES) s in (
@@ -223,8 +221,7 @@ all_visited r rest w = step (is_unvisited r) refl w where
   step : (v : Bool) → is_unvisited r ≡ v
       → cond v (slice_get r.pages r.visited) (next_page rest) ≡ None → is_unvisited r ≡ false
   step false e k = e
-  step true e k =
-      let lt : r.visited < length r.pages = ltb-true r.visited (length r.pages) e in
+  step true e k = let lt : r.visited < length r.pages = ltb-true r.visited (length r.pages) e in
       let at = slice_get-get_or r.pages r.visited 0 lt in absurd cc
 
 -- so a finish of it isn't refused
@@ -275,8 +272,7 @@ abbrev AllQuiet : Guest → Type 0
 AllQuiet g = (n : ℕ) (call : Call) → slice_get services n ≡ Some call → IsQuiet g call
 
 served_ready : (g : Guest) → g.status ≡ 15 → g.features ≡ OFFERED_FEATURES → AllQuiet g → IsServed g
-served_ready g up f quiet =
-    let work : IsQuiet g Work = quiet 4 Work refl in
+served_ready g up f quiet = let work : IsQuiet g Work = quiet 4 Work refl in
     let idle : NoWork g.config.paced g.inflate.taken × NoWork g.config.paced g.report.taken =
     works_none (cond g.config.paced (next_page g.inflate.taken) None)
     (cond g.config.paced (next_page g.report.taken) None) g work.reply g

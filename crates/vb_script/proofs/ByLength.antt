@@ -38,9 +38,8 @@ are_short (entry ∷ table) =
 pub none_of_length : {T : Type 0} (table : List (List ℕ × T)) (word : List ℕ) → are_short table
     ≡ true → ((n : ℕ) → 3 ≤ n → n ≤ 8 → n ≢ length word) → meaning_of table word ≡ None
 none_of_length [] word short differ = refl
-none_of_length ((name, meaning) ∷ table) word short differ =
-    at (nat_le 3 (length name) && nat_le (length name) 8) refl short
-    (λ s. none_of_length table word s differ)
+none_of_length ((name, meaning) ∷ table) word short differ = at (nat_le 3
+    (length name) && nat_le (length name) 8) refl short (λ s. none_of_length table word s differ)
   where
     at : (b : Bool) → (nat_le 3 (length name) && nat_le (length name) 8) ≡ b
         → cond b (are_short table) false ≡ true → (are_short table ≡ true

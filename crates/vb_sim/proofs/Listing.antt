@@ -41,18 +41,16 @@ pages_from-append first test (x ∷ xs) ys =
 pages_more : {A : Type 0} (test : A → Bool) (xs : List A) (i : ℕ) (d : A) → i < length xs
     → pages_where test (take (i + 1) xs) ≡ pages_where test (take i xs)
     ++ cond (test (get_or xs i d)) (i ∷ []) []
-pages_more test xs i d lt = ap (pages_from 0 test) (take_more xs i d lt)
-    ∙ (pages_from-append 0 test (take i xs) (get_or xs i d ∷ [])
-    ∙ ap (λ n. pages_where test (take i xs) ++ cond (test (get_or xs i d)) (n ∷ []) [])
-    (omega (arith, length-take i xs)))
+pages_more test xs i d lt = ap (pages_from 0 test) (take_more xs i d lt) ∙ (pages_from-append 0 test
+    (take i xs) (get_or xs i d ∷ []) ∙ ap (λ n. pages_where test (take i xs)
+    ++ cond (test (get_or xs i d)) (n ∷ []) []) (omega (arith, length-take i xs)))
 
 flag_in : (k : ℕ) (flags : List Bool) (i : ℕ) → get_or flags i false ≡ true
     → is_in (k + i) (pages_from k (λ flag. flag) flags) ≡ true
 flag_in k [] zero e = cc
 flag_in k [] (suc i) e = cc
-flag_in k (true ∷ flags) zero e =
-    ap (λ v. v || is_in (k + 0) (pages_from (suc k) (λ flag. flag) flags))
-    (eq-eqb k (k + 0) (omega arith))
+flag_in k (true ∷ flags) zero e = ap (λ v. v || is_in
+    (k + 0) (pages_from (suc k) (λ flag. flag) flags)) (eq-eqb k (k + 0) (omega arith))
 flag_in k (false ∷ flags) zero e = cc
 flag_in k (f ∷ flags) (suc i) e =
     step f (subst (λ n. is_in n (pages_from (suc k) (λ flag. flag) flags) ≡ true) (omega arith)
@@ -221,10 +219,9 @@ used_some q index m1 m2 p1 p2 result (Some r) s e at h =
 finish_by : (q index : ℕ) (m1 m2 : Pages) (p1 p2 : Part) (result : Result ℕ Refusal)
     (o : Option Refusal) → FinishesBy q index m1 m2 p1 p2 result → finish_refusal q index p1 ≡ o
     → length p2.ballooned ≡ length p1.ballooned
-finish_by q index m1 m2 p1 p2 result None s e =
-    used_some q index m1 m2 p1 p2 result (taken_at q index p1) s e refl
-    (passed (not (is_queue_of_requests q)) (is_not_ready p1.status) (has_fault p1.status)
-    (is_none (taken_at q index p1))
+finish_by q index m1 m2 p1 p2 result None s e = used_some q index m1 m2 p1 p2 result
+    (taken_at q index p1) s e refl (passed (not (is_queue_of_requests q))
+    (is_not_ready p1.status) (has_fault p1.status) (is_none (taken_at q index p1))
     (p1.paced && not (q == DEFLATE_QUEUE) && has_unvisited (taken_at q index p1)) NoQueue NotReady
     NeedsReset NotTaken NotWorked e)
 finish_by q index m1 m2 p1 p2 result (Some why) s e =

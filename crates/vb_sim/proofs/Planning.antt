@@ -28,8 +28,7 @@ scripts_alike cpu (script ∷ scripts) =
     ap (λ (b : Bool). is_script cpu script.items && b) (scripts_alike (suc cpu) scripts)
 
 guest_alike : (guest : GuestPlan) → is_guest_plan guest ≡ is_part (part_of guest)
-guest_alike guest =
-    let scripts = guest.scripts.items in
+guest_alike guest = let scripts = guest.scripts.items in
     let count = length-map scripts (λ (script : Vec Call Global). script.items) in
     let alike = scripts_alike 0 scripts in
     ap (λ (b : Bool). is_config guest.config.pages guest.config.queue_size guest.config.processors
@@ -49,8 +48,7 @@ same_number n = grind (arith, nat_tests)
 -- the runner can run its plan just where that of the script can be run
 pub plans_alike : (planned : Planned) (bells : Bells) (plan : Plan) → IsPlanOf planned bells plan
     → is_plan plan (length plan.guests.items) ≡ can_run planned
-plans_alike planned bells plan is =
-    let guests = plan.guests.items in
+plans_alike planned bells plan is = let guests = plan.guests.items in
     let count : length guests ≡ length planned.guests = sym (length-map guests part_of)
     ∙ ap (λ (l : List _). length l) is.guests ∙ length-map planned.guests planned_part in
     let whole : list_all is_guest_plan guests ≡ list_all is_part (map planned_part planned.guests) =
@@ -93,8 +91,7 @@ fault_of_plan planned bells plan is Stream bad = tt
 pub guests_run : (script : Result (Option Planned) ℕ) (bells : Bells) (plan : Plan)
     (report : Report) → IsRunOfText script bells plan report
     → list_all is_guest_plan plan.guests.items ≡ true
-guests_run script bells plan report run =
-    let n = length plan.guests.items in
+guests_run script bells plan report run = let n = length plan.guests.items in
     let guests = list_all is_guest_plan plan.guests.items in
     let runs : is_plan plan n ≡ true = plans_alike run.0 bells plan run.2.plan_is ∙ run.2.runs in
     let some = and_parts (not (n == 0)) (nat_le n max_guests && ((n == n) && guests)) runs in

@@ -34,8 +34,7 @@ scripts_bounded cpu (script ∷ scripts) h =
 
 -- four processors at most, and 100,000 calls each
 pub calls_bounded : (plan : GuestPlan) → is_guest_plan plan ≡ true → calls_of plan ≤ 400_000
-calls_bounded plan h =
-    let c = plan.config in
+calls_bounded plan h = let c = plan.config in
     let outer = and_parts (is_config c.pages c.queue_size c.processors)
     ((length plan.scripts.items == c.processors) && are_scripts 0 plan.scripts.items) h in
     let inner = and_parts (length plan.scripts.items == c.processors)
@@ -48,8 +47,7 @@ calls_bounded plan h =
 pub one_more_script : (plan : GuestPlan) (i : ℕ) (script : Vec Call Global) → is_guest_plan plan
     ≡ true → i < length plan.scripts.items → get_or plan.scripts.items i script ≡ script
     → sum_by (λ s. length s.items) (take i plan.scripts.items) + length script.items ≤ 400_000
-one_more_script plan i script h lt is =
-    let f = λ (s : Vec Call Global). length s.items in
+one_more_script plan i script h lt is = let f = λ (s : Vec Call Global). length s.items in
     let more = sum_by_more f plan.scripts.items i script lt in
     let same : f (get_or plan.scripts.items i script) ≡ length script.items = ap f is in
     omega (arith, more, same, sum_by-take-le f plan.scripts.items (i + 1), calls_bounded plan h)
@@ -84,8 +82,7 @@ pub one_more_line : (i : ℕ) (plans : List GuestPlan) (reports : List GuestRepo
     → guest_lines 0 (take (i + 1) plans) (take (i + 1) reports)
     ≡ guest_lines 0 (take i plans) (take i reports)
     ++ guest_line i (calls_of plan) (length report.frames.items)
-one_more_line i plans reports plan report lt same is report_is =
-    let at : 0 + i ≡ i = omega arith in
+one_more_line i plans reports plan report lt same is report_is = let at : 0 + i ≡ i = omega arith in
     ap (λ n. guest_lines 0 (take n plans) (take n reports)) (add-one i) ∙ lines_next
     0 i plans reports plan report lt same ∙ ap (λ n. guest_lines 0 (take i plans) (take i reports)
     ++ guest_line n (calls_of (get_or plans i plan))

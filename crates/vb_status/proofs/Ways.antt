@@ -43,8 +43,7 @@ both_true false b e = absurd (false≢true e)
 
 below : (n : ℕ) (p : ℕ → Bool) → holds_below n p ≡ true → (k : ℕ) → k < n → p k ≡ true
 below zero p e k h = absurd (omega arith)
-below (suc n) p e k h =
-    let both = both_true (p n) (holds_below n p) e in
+below (suc n) p e k h = let both = both_true (p n) (holds_below n p) e in
     below_more (λ (m : ℕ). p m ≡ true) n (below n p both.1) both.0 k (omega arith)
 
 -- the write clears nothing and is in order

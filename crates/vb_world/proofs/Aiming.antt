@@ -52,9 +52,8 @@ first_few floor (Some g ∷ gs) (suc n) =
     omega (arith, first_few floor gs n, count_by-cons is_some (Some g) gs)
 
 -- where there is no guest from a number on, those are all
-pub all_needs : (floor : ℕ) (w : World) (gs : List (Option Guest)) (n : ℕ)
-    → ((k : ℕ) → n ≤ k → guest_at gs k ≡ None)
-    → needs floor (record w { guests = gs }) ≡ first_of n (need_at floor gs)
+pub all_needs : (floor : ℕ) (w : World) (gs : List (Option Guest)) (n : ℕ) → ((k : ℕ) → n ≤ k
+    → guest_at gs k ≡ None) → needs floor (record w { guests = gs }) ≡ first_of n (need_at floor gs)
 all_needs floor w [] n none = sym (none_first n)
 all_needs floor w (None ∷ gs) zero none =
     all_needs floor w gs zero (λ k l. none (suc k) (omega arith))
@@ -140,9 +139,8 @@ aimed_step zero (t ∷ ts) (Some h ∷ gs) g e l =
 aimed_step (suc n) ts (None ∷ gs) g e l =
     ap (λ (x : List (Option Guest)). None ∷ x) (aimed_step n ts gs g e l)
 aimed_step (suc n) [] (Some h ∷ gs) g e l = absurd (omega (arith, l))
-aimed_step (suc n) (t ∷ ts) (Some h ∷ gs) g e l =
-    ap (λ (x : List (Option Guest)). Some (record h { target = t }) ∷ x)
-    (aimed_step n ts gs g e (omega (arith, l)))
+aimed_step (suc n) (t ∷ ts) (Some h ∷ gs) g e l = ap (λ (x : List (Option Guest)). Some
+    (record h { target = t }) ∷ x) (aimed_step n ts gs g e (omega (arith, l)))
 
 aimed_still : (n : ℕ) (ts : List ℕ) (gs : List (Option Guest)) → guest_at gs n ≡ None
     → aimed (suc n) ts gs ≡ aimed n ts gs
@@ -178,6 +176,5 @@ all_aimed (suc n) ts (None ∷ gs) none = ap (λ (x : List (Option Guest)). None
     (all_aimed n ts gs (λ k l. none (suc k) (omega (arith, l))))
 all_aimed (suc n) [] (Some g ∷ gs) none = ap (λ (x : List (Option Guest)). Some g ∷ x)
     (all_aimed n [] gs (λ k l. none (suc k) (omega (arith, l))))
-all_aimed (suc n) (t ∷ ts) (Some g ∷ gs) none =
-    ap (λ (x : List (Option Guest)). Some (record g { target = t }) ∷ x)
-    (all_aimed n ts gs (λ k l. none (suc k) (omega (arith, l))))
+all_aimed (suc n) (t ∷ ts) (Some g ∷ gs) none = ap (λ (x : List (Option Guest)). Some
+    (record g { target = t }) ∷ x) (all_aimed n ts gs (λ k l. none (suc k) (omega (arith, l))))

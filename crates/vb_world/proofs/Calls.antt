@@ -136,8 +136,7 @@ module _ {S D : Type 0} (Stand : S → Guest → Type 0) (Spare : D → Bool →
 
   plugged_with : (n : ℕ) (g : Guest) → (has : Option Guest) → guest_at w.guests n ≡ has
       → is_some has ≡ true → plugged_count (put_guest n (Some g) w) ≡ plugged_count w
-  plugged_with n g has there some =
-      let a = count-with n (Some g) w.guests in
+  plugged_with n g has there some = let a = count-with n (Some g) w.guests in
       let b = ap {B = ℕ} (λ (x : Option Guest). cond (is_some x) 1 0) there in
       let c = ap {B = ℕ} (λ (x : Bool). cond x 1 0) some in omega (arith, a, b, c)
 
@@ -161,8 +160,7 @@ module _ {S D : Type 0} (Stand : S → Guest → Type 0) (Spare : D → Bool →
       → ((g : Guest) → Stand s g → StepsWithKeeper (Stand s') TableAnswers out out' g call reply)
       → (new : World) × IsHost Stand Spare (with_value slots n s') out' devices new
       × WorldStep w (OnGuest n call) reply new
-  guest_step n s s' out' call reply host e steps =
-      let has = guest_of n s host e in
+  guest_step n s s' out' call reply host e steps = let has = guest_of n s host e in
       let step = steps has.guest has.stands in
       let gives = same_gives w.frames (λ f. is_out out f ≡ true) (IsOut w) step.claims
       (λ x l h. out_backs w out host.backed x h) (λ x l h. backs_out w out host.backed x h)

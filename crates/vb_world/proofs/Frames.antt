@@ -71,11 +71,9 @@ below_frames : (n : ℕ) (frames : List (Option ℕ))
     → ((p f : ℕ) → slice_index_or frames p None ≡ Some f → f < n)
     → sum_below n (λ f. count_by (is_frame f) frames) ≡ count_by (λ frame. is_some frame) frames
 below_frames n [] h = below_none n
-below_frames n (x ∷ xs) h =
-    let more = below_frames n xs (λ p f e. h (suc p) f e) in
-    let split = below_same n (λ f. count_by (is_frame f) (x ∷ xs))
-    (λ f. one_if (is_frame f x) + count_by (is_frame f) xs)
-    (λ f l. count_by-cons (is_frame f) x xs) in
+below_frames n (x ∷ xs) h = let more = below_frames n xs (λ p f e. h (suc p) f e) in
+    let split = below_same n (λ f. count_by (is_frame f) (x ∷ xs)) (λ f. one_if
+    (is_frame f x) + count_by (is_frame f) xs) (λ f l. count_by-cons (is_frame f) x xs) in
     let sum = below_sum n (λ f. one_if (is_frame f x)) (λ f. count_by (is_frame f) xs) in
     let first = here x (h 0) in
     omega (arith, more, split, sum, first, count_by-cons (λ frame. is_some frame) x xs)
@@ -93,8 +91,7 @@ below_guests : (n : ℕ) (gs : List (Option Guest))
     → ((i p f : ℕ) (g : Guest) → guest_at gs i ≡ Some g → slice_index_or g.frames p None ≡ Some f
     → f < n) → sum_below n (λ f. backing_of f gs) ≡ sum_by backed_count (there_are gs)
 below_guests n [] h = below_none n
-below_guests n (x ∷ xs) h =
-    let more = below_guests n xs (λ i p f g e. h (suc i) p f g e) in
+below_guests n (x ∷ xs) h = let more = below_guests n xs (λ i p f g e. h (suc i) p f g e) in
     let split = below_same n (λ f. backing_of f (x ∷ xs)) (λ f. backing_at f x + backing_of f xs)
     (λ f l. sum_by-cons (backing_at f) x xs) in
     let sum = below_sum n (λ f. backing_at f x) (λ f. backing_of f xs) in
@@ -116,9 +113,8 @@ out_within [] f e = absurd (false≢true e)
 out_within (b ∷ bs) zero e = omega arith
 out_within (b ∷ bs) (suc f) e = omega (arith, out_within bs f e)
 
-pub used_are_out : (w : World) (out : List Bool)
-    → ((f : ℕ) → backing_of f w.guests ≡ one_if (is_out out f))
-    → used_frames w ≡ count_by (λ b. b) out
+pub used_are_out : (w : World) (out : List Bool) → ((f : ℕ)
+    → backing_of f w.guests ≡ one_if (is_out out f)) → used_frames w ≡ count_by (λ b. b) out
 used_are_out w out backed =
     let guests = below_guests (length out) w.guests (λ i p f g there has. out_within out f
     (backs_out w out backed f (i, p, record { guest = g; is_there = there; has = has }))) in

@@ -48,8 +48,7 @@ framed : (f p : ℕ) (frames : List (Option ℕ)) → slice_index_or frames p No
     → 1 ≤ count_by (is_frame f) frames
 framed f zero [] e = absurd (cc e)
 framed f (suc p) [] e = absurd (cc e)
-framed f zero (x ∷ xs) e =
-    let a : is_frame f x ≡ true = ap (is_frame f) e ∙ same_number f in
+framed f zero (x ∷ xs) e = let a : is_frame f x ≡ true = ap (is_frame f) e ∙ same_number f in
     let b = ap one_if a in omega (arith, count_by-cons (is_frame f) x xs, b)
 framed f (suc p) (x ∷ xs) e = omega (arith, count_by-cons (is_frame f) x xs, framed f p xs e)
 
@@ -93,17 +92,14 @@ one_is true h = refl
 one_is false h = absurd (omega arith)
 
 -- the frames that are out are those that back pages
-pub out_backs : (w : World) (out : List Bool)
-    → ((f : ℕ) → backing_of f w.guests ≡ one_if (is_out out f)) → (f : ℕ) → is_out out f ≡ true
-    → IsOut w f
-out_backs w out backed f e =
-    let a = ap one_if e in
+pub out_backs : (w : World) (out : List Bool) → ((f : ℕ)
+    → backing_of f w.guests ≡ one_if (is_out out f)) → (f : ℕ) → is_out out f ≡ true → IsOut w f
+out_backs w out backed f e = let a = ap one_if e in
     let b = behind f w.guests (omega (arith, backed f, a)) in
     (b.n, b.page, record { guest = b.guest; is_there = b.there; has = b.has })
 
-pub backs_out : (w : World) (out : List Bool)
-    → ((f : ℕ) → backing_of f w.guests ≡ one_if (is_out out f)) → (f : ℕ) → IsOut w f
-    → is_out out f ≡ true
+pub backs_out : (w : World) (out : List Bool) → ((f : ℕ)
+    → backing_of f w.guests ≡ one_if (is_out out f)) → (f : ℕ) → IsOut w f → is_out out f ≡ true
 backs_out w out backed f (n, p, b) = one_is (is_out out f) (omega (
   arith,
   backed f,

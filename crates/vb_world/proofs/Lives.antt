@@ -49,8 +49,7 @@ module _ {S D : Type 0} (Stand : S → Guest → Type 0) (Spare : D → Bool →
 
   one_less : (n : ℕ) (g : Guest) → guest_at w.guests n ≡ Some g
       → plugged_count (put_guest n None w) + 1 ≡ plugged_count w
-  one_less n g there =
-      let was = ap {B = ℕ} (λ (x : Option Guest). cond (is_some x) 1 0) there in
+  one_less n g there = let was = ap {B = ℕ} (λ (x : Option Guest). cond (is_some x) 1 0) there in
       omega (arith, count-with n None w.guests, was)
 
   pub unplugged : (n : ℕ) (s : S) (slots' : Slab S) (out' : List Bool)

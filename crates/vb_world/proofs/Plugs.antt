@@ -93,19 +93,15 @@ module _ {S D : Type 0} (Stand : S → Guest → Type 0) (Spare : D → Bool →
 
   one_more : (n : ℕ) (g : Guest) → guest_at w.guests n ≡ None
       → count_by is_some (with_guest n (Some g) w.guests) ≡ plugged_count w + 1
-  one_more n g none =
-      let b = ap {B = ℕ} (λ (x : Option Guest). cond (is_some x) 1 0) none in
+  one_more n g none = let b = ap {B = ℕ} (λ (x : Option Guest). cond (is_some x) 1 0) none in
       omega (arith, count-with n (Some g) w.guests, b)
 
   pub plugged : (n : ℕ) (s : S) (slots' : Slab S) (d : D) (rest : List D)
       (pages queue_size processors : ℕ) → IsHost Stand Spare slots out devices w
-      → devices ≡ d ∷ rest
-      → slab_len slots < max_guests
-      → n ≡ slots.vacant_key → get slots n ≡ None → Updates slots slots' n (Some s)
-      → slab_len slots' ≡ slab_len slots + 1 → slots'.capacity ≡ slots.capacity
-      → (pace : Bool) → ((p : Bool) → Spare d p → pace ≡ p)
-      → Stand s (fresh (record
-      { pages = pages; queue_size = queue_size; processors = processors; paced = pace }) 0)
+      → devices ≡ d ∷ rest → slab_len slots < max_guests → n ≡ slots.vacant_key → get slots n ≡ None
+      → Updates slots slots' n (Some s) → slab_len slots' ≡ slab_len slots + 1 → slots'.capacity
+      ≡ slots.capacity → (pace : Bool) → ((p : Bool) → Spare d p → pace ≡ p) → Stand s (fresh
+      (record { pages = pages; queue_size = queue_size; processors = processors; paced = pace }) 0)
       → (new : World) × IsHost Stand Spare slots' out rest new
       × PlugsIn (sized pages queue_size processors) w.spares w (Plugged n) new
   plugged n s slots' d rest pages queue_size processors host e few key vacant new len capacity
@@ -229,12 +225,11 @@ module _ {S D : Type 0} (Stand : S → Guest → Type 0) (Spare : D → Bool →
     e,
     above max_guests (plugged_count w) (omega (arith, few, host.count)),
     none_left devices w.spares host.spares none,
-  ) (refl, refl)
-    where
-      none_left : (ds : List D) (ps : List Bool) → AreSpares Spare ds ps → length ds ≡ 0 → ps ≡ []
-      none_left [] [] h e = refl
-      none_left [] (p ∷ ps) h e = absurd h
-      none_left (d ∷ ds) ps h e = absurd (omega (arith, e))
+  ) (refl, refl) where
+    none_left : (ds : List D) (ps : List Bool) → AreSpares Spare ds ps → length ds ≡ 0 → ps ≡ []
+    none_left [] [] h e = refl
+    none_left [] (p ∷ ps) h e = absurd h
+    none_left (d ∷ ds) ps h e = absurd (omega (arith, e))
 
   pub plug_happens : (reply : Reply) (new : World) → IsHost Stand Spare slots out devices w
       → is_config pages queue_size processors ≡ true → slab_len slots < max_guests
@@ -244,16 +239,13 @@ module _ {S D : Type 0} (Stand : S → Guest → Type 0) (Spare : D → Bool →
     e,
     above max_guests (plugged_count w) (omega (arith, few, host.count)),
     some_left devices w.spares host.spares some,
-  ) happens
-    where
-      some_left : (ds : List D) (ps : List Bool) → AreSpares Spare ds ps → 0 < length ds
-          → (length ps == 0) ≡ false
-      some_left [] ps h e = absurd (omega (arith, e))
-      some_left (d ∷ ds) [] h e = absurd h
-      some_left (d ∷ ds) (p ∷ ps) h e = elim (eqb_tells (length (p ∷ ps)) 0) [
-        | inl same ↦ absurd (omega (arith, same.1))
-        | inr other ↦ other.0
-      ]
+  ) happens where
+    some_left : (ds : List D) (ps : List Bool) → AreSpares Spare ds ps → 0 < length ds
+        → (length ps == 0) ≡ false
+    some_left [] ps h e = absurd (omega (arith, e))
+    some_left (d ∷ ds) [] h e = absurd h
+    some_left (d ∷ ds) (p ∷ ps) h e = elim (eqb_tells
+        (length (p ∷ ps)) 0) [ inl same ↦ absurd (omega (arith, same.1)) | inr other ↦ other.0 ]
 
 pub none_there : {n : ℕ} → true ≡ (n == 0) → n ≡ 0
 none_there {n = n} e =

@@ -5,8 +5,7 @@ use Rattle.vb_balance.proofs.sharing.give.Goals as goal
 use Rattle.vb_balance.proofs.sharing.give.Goals.{then-need-level, else-need-level}
 
 pub loop-i-preserved : goal.loop-i-preserved
-loop-i-preserved c =
-    let n = c.index-needs-i.result in
+loop-i-preserved c = let n = c.index-needs-i.result in
     let left = c.loop-i.left in
     let target = c.asked-pages.result in
     let after = c.if-need-level.left in

@@ -83,10 +83,9 @@ returns c =
     take_all c.loop-k.k (numbers_of c.args.bytes.now) (omega (arith, last)) in
     let all : Named_so_far c.args.limits.skips c.args.limits.reserved c.args.limits.count
     (numbers_of c.args.bytes.now)
-    (length (numbers_of c.args.bytes.now)) c.loop-k.runs c.loop-k.used c.loop-k.skipped =
-    subst (λ (ns : List ℕ). Named_so_far c.args.limits.skips c.args.limits.reserved
-    c.args.limits.count ns (length (numbers_of c.args.bytes.now)) c.loop-k.runs c.loop-k.used
-    c.loop-k.skipped) whole
+    (length (numbers_of c.args.bytes.now)) c.loop-k.runs c.loop-k.used c.loop-k.skipped = subst
+    (λ (ns : List ℕ). Named_so_far c.args.limits.skips c.args.limits.reserved c.args.limits.count ns
+    (length (numbers_of c.args.bytes.now)) c.loop-k.runs c.loop-k.used c.loop-k.skipped) whole
     (subst (λ (n : ℕ). Named_so_far c.args.limits.skips c.args.limits.reserved
     c.args.limits.count (take c.loop-k.k (numbers_of c.args.bytes.now)) n c.loop-k.runs
     c.loop-k.used c.loop-k.skipped) last c.loop-k.invariant.named) in

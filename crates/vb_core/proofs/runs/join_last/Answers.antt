@@ -26,7 +26,6 @@ returns-then-ends-number-2-clause-joined c _ =
     c.args.ends.now c.from-number.ensures c.ranges.page.fits is (c.requires.ends.some none some))
 
 pub returns-clause-apart : goal.returns-clause-apart
-returns-clause-apart c _ =
-    no_end c.args.page c.args.used c.args.runs.now none c.args.ends.now c.requires.ends
-    c.requires.room c.ranges.page.fits (λ e. c.if-ends-number.false (e ∙ sym c.from-number.ensures))
-    (λ e. c.if-ends-number-2.false (e ∙ sym c.from-number.ensures))
+returns-clause-apart c _ = no_end c.args.page c.args.used c.args.runs.now none
+    c.args.ends.now c.requires.ends c.requires.room c.ranges.page.fits (λ e. c.if-ends-number.false
+    (e ∙ sym c.from-number.ensures)) (λ e. c.if-ends-number-2.false (e ∙ sym c.from-number.ensures))

@@ -17,9 +17,8 @@ loop-page-preserved g c = let f = is_ring_page c.args.shape.queue_size in
             ∙ (w.zero_page.ensures.part ∙ c.loop-page.invariant.part);
       }
       | else-is_ring_page w ↦ record {
-        zeroed = rw w.ram-is
-            (pages_past m1 m2 f n (sym c.is_ring_page.ensures ∙ w.if-is_ring_page.false)
-            c.loop-page.invariant.zeroed);
+        zeroed = rw w.ram-is (pages_past m1 m2 f n
+            (sym c.is_ring_page.ensures ∙ w.if-is_ring_page.false) c.loop-page.invariant.zeroed);
         part = ap g.G.GuestBytes.part w.ram-is ∙ c.loop-page.invariant.part;
       }
     ]

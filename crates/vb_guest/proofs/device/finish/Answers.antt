@@ -11,8 +11,7 @@ finish-answer-requires g c = let (d, (keeps, guest, stands, held)) = c.requires 
 }
 
 pub return_loose-requires : goal.return_loose-requires
-return_loose-requires g c =
-    let (d, (keeps, guest, stands, held)) = c.requires in
+return_loose-requires g c = let (d, (keeps, guest, stands, held)) = c.requires in
     let did = c.finish-answer.ensures in
     let same = finish_kept _ _ _ _ _ _ _ did in
     record {
@@ -31,8 +30,7 @@ returns-clause-step g c = λ d keeps guest stands.
     (λ rogue. finish_rogue _ _ _ _ d guest _ _ _ did rogue) back.moves
 
 pub returns-clause-exact : goal.returns-clause-exact
-returns-clause-exact g c =
-    let back = c.return_loose.ensures in
+returns-clause-exact g c = let back = c.return_loose.ensures in
     rw (back.mem) (g.D.GuestBytes.part c.finish-answer.new.self, c.finish-answer.ensures, back.part)
 
 pub returns-clause-quiet : goal.returns-clause-quiet

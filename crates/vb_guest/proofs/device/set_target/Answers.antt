@@ -6,8 +6,7 @@ use Rattle.vb_guest.proofs.Standing.{alone_stands, by_guest, honest_is, rogue_is
 use Rattle.vb_guest.proofs.device.set_target.Goals as goal
 
 pub returns : goal.returns
-returns g c =
-    let part = c.set_target.ensures.part in
+returns g c = let part = c.set_target.ensures.part in
     let memory = c.set_target.ensures.mem in
     let flag = ap (λ (p : Part). p.keeps) part in
     let numbers = ap (λ (p : Part). p.own) part in

@@ -8,8 +8,7 @@ work-answer-requires g c =
     let (d, (keeps, guest, stands, held)) = c.requires in none_loose keeps _ _ d guest stands
 
 pub return_loose-requires : goal.return_loose-requires
-return_loose-requires g c =
-    let (d, (keeps, guest, stands, held)) = c.requires in
+return_loose-requires g c = let (d, (keeps, guest, stands, held)) = c.requires in
     let did = c.work-answer.ensures in
     let same = work_kept _ _ _ _ _ did in
     record {
@@ -28,8 +27,7 @@ returns-clause-step g c = λ d keeps guest stands.
     (λ rogue. work_rogue _ _ _ _ d guest _ did rogue) back.moves
 
 pub returns-clause-exact : goal.returns-clause-exact
-returns-clause-exact g c =
-    let back = c.return_loose.ensures in
+returns-clause-exact g c = let back = c.return_loose.ensures in
     rw (back.mem) (g.D.GuestBytes.part c.work-answer.new.self, c.work-answer.ensures, back.part)
 
 pub returns-clause-quiet : goal.returns-clause-quiet

@@ -11,9 +11,8 @@ invariant-loop-frame g l = record {
     own = (g.D.GuestBytes.part l.device).own;
   };
   moves : Moves (supply_of (g.D.GuestBytes.part l.fn.device) (g.K.FrameKeeper.out l.fn.keeper))
-      (supply_of (g.D.GuestBytes.part l.device) (g.K.FrameKeeper.out l.keeper))
-      (λ n. times n (g.D.GuestBytes.part l.device).loose)
-      (λ n. times n (g.D.GuestBytes.part l.fn.device).loose);
+      (supply_of (g.D.GuestBytes.part l.device) (g.K.FrameKeeper.out l.keeper)) (λ n. times n
+      (g.D.GuestBytes.part l.device).loose) (λ n. times n (g.D.GuestBytes.part l.fn.device).loose);
   loose : AreLoose (g.D.GuestBytes.part l.device).loose
       (supply_of (g.D.GuestBytes.part l.device) (g.K.FrameKeeper.out l.keeper));
   quiet : (g.D.GuestBytes.part l.fn.device).loose ≡ []

@@ -15,8 +15,7 @@ returns-then-page-reserved_pages-clause-supplies g t c =
     (omega (arith, c.if-page-reserved_pages.true, c.reserved_pages.ensures))
 
 pub supply_from-requires : goal.supply_from-requires
-supply_from-requires g t c κs within =
-    let size : ℕ = c.args.shape.queue_size in
+supply_from-requires g t c κs within = let size : ℕ = c.args.shape.queue_size in
     let mem : Pages = g.D.GuestBytes.mem c.args.device.now in
     let lt : c.args.page < reserved_pages size =
     omega (arith, c.if-page-reserved_pages.false, c.reserved_pages.ensures) in
@@ -34,23 +33,20 @@ supply_from-requires g t c κs within =
     )
 
 pub returns-then-not-is_bare-clause-supplies : goal.returns-then-not-is_bare-clause-supplies
-returns-then-not-is_bare-clause-supplies g t c =
-    let size : ℕ = c.args.shape.queue_size in
+returns-then-not-is_bare-clause-supplies g t c = let size : ℕ = c.args.shape.queue_size in
     supplies_rest g.K.FrameKeeper.answers size _ _ _ _ _ _ c.args.page _
     (omega (arith, c.if-page-reserved_pages.false, c.reserved_pages.ensures))
     (sym c.is_bare.ensures ∙ c.if-not-is_bare.true) c.supply_from.ensures.supplies
 
 pub claim_frame-requires : goal.claim_frame-requires
-claim_frame-requires g t c =
-    let size : ℕ = c.args.shape.queue_size in
+claim_frame-requires g t c = let size : ℕ = c.args.shape.queue_size in
     let takes = bare_takes size (g.D.GuestBytes.mem c.args.device.now) c.args.page
     (omega (arith, c.if-page-reserved_pages.false, c.reserved_pages.ensures))
     (sym c.is_bare.ensures ∙ c.if-not-is_bare.false) in
     record { room = omega (arith, c.requires.room, ap (λ (l : List ℕ). length l) takes) }
 
 pub returns-in_err-frame-clause-supplies : goal.returns-in_err-frame-clause-supplies
-returns-in_err-frame-clause-supplies g t c =
-    let size : ℕ = c.args.shape.queue_size in
+returns-in_err-frame-clause-supplies g t c = let size : ℕ = c.args.shape.queue_size in
     let bare : is_bare size (g.D.GuestBytes.mem c.args.device.now) c.args.page ≡ true =
     sym c.is_bare.ensures ∙ c.if-not-is_bare.false in
     let did = c.in_err-frame.ensures in
@@ -67,8 +63,7 @@ returns-in_err-frame-clause-supplies g t c =
     did.noted did.mem)
 
 pub supply_from-requires-2 : goal.supply_from-requires-2
-supply_from-requires-2 g t c κs within =
-    let size : ℕ = c.args.shape.queue_size in
+supply_from-requires-2 g t c κs within = let size : ℕ = c.args.shape.queue_size in
     let did = c.in_ok-frame.ensures in
     let takes = bare_takes size (g.D.GuestBytes.mem c.args.device.now) c.args.page
     (omega (arith, c.if-page-reserved_pages.false, c.reserved_pages.ensures))
@@ -109,8 +104,7 @@ supply-requires-clause-bare g t c = still_bare g.K.FrameKeeper.answers c.args.sh
     c.in-Ok.ensures.supplies
 
 pub returns-in-Ok-clause-supplies : goal.returns-in-Ok-clause-supplies
-returns-in-Ok-clause-supplies g t c =
-    let size : ℕ = c.args.shape.queue_size in
+returns-in-Ok-clause-supplies g t c = let size : ℕ = c.args.shape.queue_size in
     let none : is_bare size (g.D.GuestBytes.mem c.args.device.now) c.args.page ≡ true =
     sym c.is_bare.ensures ∙ c.if-not-is_bare.false in
     let bare = still_bare g.K.FrameKeeper.answers size _ _ _ _ _ _ _ c.args.page none
@@ -126,8 +120,7 @@ return_frame-requires-clause-used g t c = still_used g.K.FrameKeeper.answers
     _ _ _ _ _ _ _ _ _ c.in-Err.refused c.in_ok-frame.ensures.claimed c.in-Err.ensures.supplies
 
 pub returns-in-Err-clause-supplies : goal.returns-in-Err-clause-supplies
-returns-in-Err-clause-supplies g t c =
-    let size : ℕ = c.args.shape.queue_size in
+returns-in-Err-clause-supplies g t c = let size : ℕ = c.args.shape.queue_size in
     supplies_back g.K.FrameKeeper.answers size _ _ _ _ _ _ _ _ _ _ _ c.args.page _ c.in-Err.refused
     (omega (arith, c.if-page-reserved_pages.false, c.reserved_pages.ensures))
     (sym c.is_bare.ensures ∙ c.if-not-is_bare.false) c.in_ok-frame.ensures.claimed

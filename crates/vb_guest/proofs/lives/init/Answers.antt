@@ -15,8 +15,7 @@ returns-then-bits-ne0 g c = record {
     up = λ _. (refl, record { mem = refl; part = refl; driver = refl }, refl, c.clear.ensures);
     new = λ e. absurd (c.if-bits-ne0.true (c.bits.ensures tt ∙ c.status.ensures ∙ e));
   };
-  step = λ keeps guest stands.
-      rw (c.clear.ensures) (steps_quiet g.K.FrameKeeper.answers stands
+  step = λ keeps guest stands. rw (c.clear.ensures) (steps_quiet g.K.FrameKeeper.answers stands
       (alone_stands keeps _ _ _ _ _ _ guest _ _ stands refl refl
       (λ honest. init_up _ _ _ guest c.args.wanted
       (λ e. c.if-bits-ne0.true (c.bits.ensures tt ∙ c.status.ensures ∙ e)) honest)

@@ -4,8 +4,7 @@ use Rattle.vb_guest.{proofs.Exactly.reset_twice, proofs.RestartStep.{all_loose, 
 use Rattle.vb_guest.proofs.lives.restart.Goals as goal
 
 pub take_all_back-requires-clause-out : goal.take_all_back-requires-clause-out
-take_all_back-requires-clause-out g c =
-    let (keeps, guest, stands, held) = c.requires in
+take_all_back-requires-clause-out g c = let (keeps, guest, stands, held) = c.requires in
     rw (c.restart.ensures.memory, c.restart.ensures.part)
     (all_loose keeps _ _ _ guest _ stands held)
 

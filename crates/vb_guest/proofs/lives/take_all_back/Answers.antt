@@ -17,8 +17,7 @@ return_loose-requires-clause-loose g c n =
     )
 
 pub returns-clause-moves : goal.returns-clause-moves
-returns-clause-moves g c =
-    let out : List Bool = g.K.FrameKeeper.out c.args.keeper.now in
+returns-clause-moves g c = let out : List Bool = g.K.FrameKeeper.out c.args.keeper.now in
     let before : Supply = supply_of (g.D.GuestBytes.part c.args.device.now) out in
     let after : Supply = supply_of (g.D.GuestBytes.part c.return_loose.new.device)
     (g.K.FrameKeeper.out c.return_loose.new.keeper) in

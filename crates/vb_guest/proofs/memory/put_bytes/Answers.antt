@@ -10,8 +10,7 @@ use Rattle.vb_guest.proofs.WriteStep.{write_backed, write_outside, needs_frame, 
 use Rattle.vb_guest.proofs.memory.put_bytes.Goals as goal
 
 pub returns-in-Ok : goal.returns-in-Ok
-returns-in-Ok g c =
-    let did = c.in-Ok.ensures in
+returns-in-Ok g c = let did = c.in-Ok.ensures in
     let same = as_it_was _ _ did.part in
     record {
       writes = λ d used keeps guest stands. rw (c.requires.none, ← c.as_slice.ensures)
@@ -38,8 +37,7 @@ returns-in-Ok g c =
     }
 
 pub put_fresh-requires : goal.put_fresh-requires
-put_fresh-requires g c =
-    let did = c.write.ensures in
+put_fresh-requires g c = let did = c.write.ensures in
     let here = c.in-Err-NeedsFrame.ensures in
     let found = needs_frame _ _ _ _ c.write.result did.answers did.out_of_ram did.empty
     (c.in-Err-NeedsFrame.is ∙ ap Err c.in-Err-NeedsFrame.field-0-is) in
@@ -51,8 +49,7 @@ put_fresh-requires g c =
     }
 
 pub returns-in-Err-NeedsFrame : goal.returns-in-Err-NeedsFrame
-returns-in-Err-NeedsFrame g c =
-    let did = c.write.ensures in
+returns-in-Err-NeedsFrame g c = let did = c.write.ensures in
     let found = needs_frame _ _ _ _ c.write.result did.answers did.out_of_ram did.empty
     (c.in-Err-NeedsFrame.is ∙ ap Err c.in-Err-NeedsFrame.field-0-is) in
     let memory = c.in-Err-NeedsFrame.ensures.unwritten in
@@ -78,8 +75,7 @@ returns-in-Err-NeedsFrame g c =
     }
 
 pub returns-in-Err-OutOfRam : goal.returns-in-Err-OutOfRam
-returns-in-Err-OutOfRam g c =
-    let did = c.write.ensures in
+returns-in-Err-OutOfRam g c = let did = c.write.ensures in
     let same = as_it_was _ _ did.part in
     let here = c.in-Err-OutOfRam.ensures in
     let outside = not_covered _ _ _ _ c.write.result OutOfRam did.answers did.needs_frame did.empty

@@ -4,13 +4,11 @@ use Rattle.vb_guest.{proofs.Claimed.{claim_answered, noted_alone}, proofs.Exactl
 use Rattle.vb_guest.proofs.memory.put_fresh.Goals as goal
 
 pub claim_frame-requires : goal.claim_frame-requires
-claim_frame-requires g c =
-    let none = ap (λ (l : List Claim). length l) c.requires.none in
+claim_frame-requires g c = let none = ap (λ (l : List Claim). length l) c.requires.none in
     record { room = omega (arith, none) }
 
 pub returns-in-Err-NoFrame : goal.returns-in-Err-NoFrame
-returns-in-Err-NoFrame g c =
-    let did = c.claim_frame.ensures in
+returns-in-Err-NoFrame g c = let did = c.claim_frame.ensures in
     let is = c.in-Err-NoFrame.is ∙ ap Err c.in-Err-NoFrame.field-0-is in
     record {
       exact = record {
@@ -24,8 +22,7 @@ returns-in-Err-NoFrame g c =
     }
 
 pub returns-in-Err-Memory : goal.returns-in-Err-Memory
-returns-in-Err-Memory g c =
-    let did = c.claim_frame.ensures in
+returns-in-Err-Memory g c = let did = c.claim_frame.ensures in
     let is = c.in-Err-Memory.is ∙ ap Err c.in-Err-Memory.field-0-is in
     record {
       exact = record {

@@ -5,8 +5,7 @@ use Rattle.vb_guest.proofs.memory.write.Goals as goal
 
 pub returns-then-not-held : goal.returns-then-not-held
 returns-then-not-held g c = record {
-  step = λ keeps guest stands. rw (c.clear.ensures)
-      (steps_quiet g.K.FrameKeeper.answers stands
+  step = λ keeps guest stands. rw (c.clear.ensures) (steps_quiet g.K.FrameKeeper.answers stands
       (alone_stands keeps _ _ _ _ _ _ guest _ _ stands refl refl
       (λ honest. write_not_held _ _ _ guest _ _ _ (sym c.if-not-held.ensures) honest)
       (λ rogue. write_unheld_rogue _ _ _ guest _ _ _ (sym c.if-not-held.ensures) rogue)));

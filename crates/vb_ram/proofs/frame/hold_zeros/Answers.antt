@@ -4,8 +4,7 @@ use Rattle.vb_ram.{specs.Blank.shown, proofs.Blanks.shown-more}
 use Rattle.vb_ram.proofs.frame.hold_zeros.Goals as goal
 
 pub returns-clause-shown : goal.returns-clause-shown
-returns-clause-shown c =
-    let held = c.args.held.now.items in
+returns-clause-shown c = let held = c.args.held.now.items in
     let more = c.min.result - vec_len c.args.held.now in
     ap shown c.in-Ok.ensures.items
     ∙ ap (λ (front : List ℕ). shown (front ++ replicate more 0)) (take_all c.min.result held

@@ -4,8 +4,7 @@ use Rattle.vb_ram.proofs.Blanks.{zeros_behind, zeros_left}
 use Rattle.vb_ram.proofs.frame.read_last.Goals as goal
 
 pub returns-clause-read : goal.returns-clause-read
-returns-clause-read c k =
-    let held = c.args.held.now in
+returns-clause-read c k = let held = c.args.held.now in
     let rest : List ℕ = drop (length held) c.fill.new.self in
     let zeros : List ℕ = replicate (length c.args.out.now) 0 in
     ap (λ (front : List ℕ). slice_index (front ++ rest) k) c.copy_from_slice.ensures.after

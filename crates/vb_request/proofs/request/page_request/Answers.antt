@@ -10,10 +10,9 @@ use Rattle.vb_request.proofs.request.page_request.Goals as goal
 as_listed : (mem : Pages) (pieces : List Piece) (reserved count len : ℕ) (bytes : List ℕ)
     → request_length pieces ≡ Ok len → count ≡ length mem → bytes ≡ bytes_of mem pieces
     → page_request mem pieces reserved ≡ pages_of_numbers reserved count (numbers_of bytes)
-as_listed mem pieces reserved count len bytes right all read =
-    read_numbers mem pieces reserved len right
-    ∙ (ap (λ (n : ℕ). pages_of_numbers reserved n (numbers_of (bytes_of mem pieces))) (sym all)
-    ∙ ap (λ (bs : List ℕ). pages_of_numbers reserved count (numbers_of bs)) (sym read))
+as_listed mem pieces reserved count len bytes right all read = read_numbers mem pieces reserved
+    len right ∙ (ap (λ (n : ℕ). pages_of_numbers reserved n (numbers_of (bytes_of mem pieces)))
+    (sym all) ∙ ap (λ (bs : List ℕ). pages_of_numbers reserved count (numbers_of bs)) (sym read))
 
 pub returns-in-Err-clause-fault : goal.returns-in-Err-clause-fault
 returns-in-Err-clause-fault g c = refused_request (g.G.GuestBytes.mem c.args.ram.now)

@@ -10,6 +10,5 @@ or_nothing (Some rest) nothing e = refl
 
 pub returns-clause-lines : goal.returns-clause-lines
 returns-clause-lines c = first_of_lines c.args.text.now c.cut_at.result.0.now c.unwrap_or.result.now
-    c.cut_at.result.1 c.requires c.cut_at.ensures.split c.cut_at.ensures.whole
-    (ap (λ (rest : Bor (List ℕ)). rest.now) c.unwrap_or.ensures
-    ∙ or_nothing c.cut_at.result.1 _ refl)
+    c.cut_at.result.1 c.requires c.cut_at.ensures.split c.cut_at.ensures.whole (ap
+    (λ (rest : Bor (List ℕ)). rest.now) c.unwrap_or.ensures ∙ or_nothing c.cut_at.result.1 _ refl)

@@ -7,13 +7,11 @@ returns-then-is_empty-clause-none c =
     λ bad. bytes_out_of_range c.args.word.now (λ some few. absurd (search (rules, tests)))
 
 pub returns-in-Ok-clause-ok : goal.returns-in-Ok-clause-ok
-returns-in-Ok-clause-ok c =
-    let some : 0 < length c.args.word.now = search rules in
+returns-in-Ok-clause-ok c = let some : 0 < length c.args.word.now = search rules in
     let few : length c.args.word.now ≤ 2 * 4096 = omega arith in
     (IsByteWord-decodes c.args.word.now _ some few c.in-Ok.ensures.ok, search rules)
 
 pub returns-in-Ok-clause-value : goal.returns-in-Ok-clause-value
-returns-in-Ok-clause-value c =
-    let some : 0 < length c.args.word.now = search rules in
+returns-in-Ok-clause-value c = let some : 0 < length c.args.word.now = search rules in
     let few : length c.args.word.now ≤ 2 * 4096 = omega arith in
     let read = bytes_read c.args.word.now _ some few c.in-Ok.ensures.ok in search rules

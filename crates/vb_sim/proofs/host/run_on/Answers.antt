@@ -14,8 +14,7 @@ loop-event-init g c = (
 )
 
 pub step-reply-requires : goal.step-reply-requires
-step-reply-requires g c =
-    let (replies, ran, puts) = c.loop-event.invariant in
+step-reply-requires g c = let (replies, ran, puts) = c.loop-event.invariant in
     record { world = (last_world _ ran.after, ran.holds) }
 
 pub loop-event-preserved : goal.loop-event-preserved
@@ -32,8 +31,7 @@ loop-event-preserved g c = let (replies, ran, puts) = c.loop-event.invariant in 
 )
 
 pub returns-clause-ok : goal.returns-clause-ok
-returns-clause-ok g c =
-    let (replies, ran, puts) = c.loop-event.invariant in
+returns-clause-ok g c = let (replies, ran, puts) = c.loop-event.invariant in
     let whole = take_whole c.loop-event.event-index c.args.events.now c.loop-event-test.false in
     let all = rw whole at ran in
     let (last, holds, safe) = safe_run c.args.frames _ c.args.events.now replies all in (

@@ -4,10 +4,9 @@ use Rattle.vb_run.proofs.Lists.{all_next, all_whole}
 use Rattle.vb_sim.proofs.ports.are_within.Goals as goal
 
 pub loop-report-preserved : goal.loop-report-preserved
-loop-report-preserved c =
-    all_next (λ (r : GuestReport). All (λ f. f < c.args.frames) r.frames.items) c.args.reports.now
-    c.loop-report.report-index c.report-item.result (search rules) c.loop-report.invariant
-    (search rules)
+loop-report-preserved c = all_next (λ (r : GuestReport). All
+    (λ f. f < c.args.frames) r.frames.items) c.args.reports.now c.loop-report.report-index
+    c.report-item.result (search rules) c.loop-report.invariant (search rules)
 
 pub returns : goal.returns
 returns c = (

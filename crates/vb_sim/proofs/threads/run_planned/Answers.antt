@@ -7,8 +7,7 @@ use Rattle.vb_sim.proofs.Planning.{fault_of_plan, paces_planned, plans_alike}
 use Rattle.vb_sim.proofs.threads.run_planned.Goals as goal
 
 pub returns-in_err-report : goal.returns-in_err-report
-returns-in_err-report g c =
-    let is = rw c.in-Some.is at c.in_ok-plan.ensures in
+returns-in_err-report g c = let is = rw c.in-Some.is at c.in_ok-plan.ensures in
     let fault = fault_of_plan (planned_by c.args.script) c.args.bells c.in-Some.plan is
     c.in_err-report.field-0.0 c.in_err-report.ensures in
     let passed : c.from_residual-in_err-report.result ≡ Err c.in_err-report.field-0.0 =

@@ -15,28 +15,24 @@ written words n old word one l e same others = record {
 }
 
 pub index-requires : goal.index-requires
-index-requires c =
-    let words = c.self.inside.words in
+index-requires c = let words = c.self.inside.words in
     let bound = bound_is c.self.inside.bound words.items c.args.self.now c.self.view_is in
     omega (arith, bound, c.requires, c.self.invariant.enough, words.ok.0)
 
 pub index_mut-requires : goal.index_mut-requires
-index_mut-requires c =
-    let words = c.self.inside.words in
+index_mut-requires c = let words = c.self.inside.words in
     let bound = bound_is c.self.inside.bound words.items c.args.self.now c.self.view_is in
     omega (arith, bound, c.requires, c.self.invariant.enough, words.ok.0)
 
 -- the number is below the bound
 below : (c : goal.After-self-1) → c.args.n < c.self.inside.bound
-below c =
-    let words = c.self.inside.words.items in
+below c = let words = c.self.inside.words.items in
     omega (arith, c.requires, bound_is c.self.inside.bound words c.args.self.now c.self.view_is)
 
 -- what the write leaves
 wrote : (c : goal.After-self-1)
     → IsWritten c.self.inside.words.items c.args.n c.args.member c.with_bit-word.result
-wrote c =
-    let words = c.self.inside.words.items in
+wrote c = let words = c.self.inside.words.items in
     let within : c.args.n / 64 < length words = omega (arith, below c, c.self.invariant.enough) in
     written words c.args.n c.index.result.now c.with_bit-word.result c.args.member within
     (get_or_read words (c.args.n / 64) c.index.result.now within c.index.ensures 0)
@@ -52,8 +48,7 @@ returns-clause-put c = put_flags c.self.inside.bound c.self.inside.words.items
     ∙ ap (λ (flags : List Bool). set flags c.args.n c.args.member) c.self.view_is
 
 pub returns-clause-any : goal.returns-clause-any
-returns-clause-any c =
-    let words = c.self.inside.words.items in
+returns-clause-any c = let words = c.self.inside.words.items in
     let word = c.with_bit-word.result in
     word_is_zero c.self.inside.bound (set words (c.args.n / 64) word) (c.args.n / 64) word
     (put c.self.inside.bound words c.args.n c.args.member word c.self.invariant (below c) (wrote c))

@@ -4,15 +4,13 @@ use Rattle.vb_bits.{specs.Sets.has, proofs.Words.{bound_is, bit_is_flag}}
 use Rattle.vb_bits.proofs.level.Level.words.Goals as goal
 
 pub returns-clause-enough : goal.returns-clause-enough
-returns-clause-enough c =
-    let items = c.self.inside.words.items in
+returns-clause-enough c = let items = c.self.inside.words.items in
     let bound = bound_is c.self.inside.bound items c.args.self.now c.self.view_is in
     let same : length c.deref.result.now ≡ length items = ap length c.deref.ensures.value in
     omega (arith, bound, c.self.invariant.enough)
 
 pub returns-clause-fewest : goal.returns-clause-fewest
-returns-clause-fewest c =
-    let items = c.self.inside.words.items in
+returns-clause-fewest c = let items = c.self.inside.words.items in
     let bound = bound_is c.self.inside.bound items c.args.self.now c.self.view_is in
     let same : length c.deref.result.now ≡ length items = ap length c.deref.ensures.value in
     omega (arith, bound, c.self.invariant.fewest)

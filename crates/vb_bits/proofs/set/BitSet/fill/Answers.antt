@@ -4,8 +4,7 @@ use Rattle.vb_bits.proofs.Levels.{full_levels, count_full}
 use Rattle.vb_bits.proofs.set.BitSet.fill.Goals as goal
 
 pub invariant_of-self : goal.invariant_of-self
-invariant_of-self c =
-    let members = c.self.inside.members in
+invariant_of-self c = let members = c.self.inside.members in
     let same : length c.fill.new.self ≡ length members =
     ap length c.fill.ensures ∙ length-replicate (length members) true in
     record {
@@ -14,7 +13,6 @@ invariant_of-self c =
           c.self.invariant.first c.fill.ensures c.fill-2.ensures;
       second = full_levels c.self.inside.words c.self.inside.groups c.fill-2.new.self
           c.fill-3.new.self c.self.invariant.second c.fill-2.ensures c.fill-3.ensures;
-      count = c.bound-self-inside.ensures
-          ∙ sym (ap (λ (xs : List Bool). count_by (λ b. b) xs) c.fill.ensures
-          ∙ count_full (length members));
+      count = c.bound-self-inside.ensures ∙ sym (ap
+          (λ (xs : List Bool). count_by (λ b. b) xs) c.fill.ensures ∙ count_full (length members));
     }

@@ -14,8 +14,7 @@ first_word members words groups len group word s found within =
     within groups 0 s.second (single_word groups 0 group single found)
 
 pub first_in-requires : goal.first_in-requires
-first_in-requires c =
-    let fields = c.self.inside in
+first_in-requires c = let fields = c.self.inside in
     let word = c.first_in-word.result in
     record {
       few = c.self.invariant.few;
@@ -26,8 +25,7 @@ first_in-requires c =
     }
 
 pub returns : goal.returns
-returns c =
-    let fields = c.self.inside in
+returns c = let fields = c.self.inside in
     subst (λ (set : List Bool). IsFirstFrom set 0 c.first_in.result) c.self.view_is
     (c.first_in.ensures fields.words 0 c.self.invariant.first
     (first_word fields.members fields.words fields.groups fields.len c.next_in_word-group.result

@@ -4,8 +4,7 @@ use Rattle.vb_bits.proofs.Levels.{put_levels, put_count, weight, weight_is}
 use Rattle.vb_bits.proofs.set.BitSet.put.Goals as goal
 
 pub invariant_of-self : goal.invariant_of-self
-invariant_of-self c =
-    let n = c.args.n in
+invariant_of-self c = let n = c.args.n in
     let members = c.self.inside.members in
     let words = c.self.inside.words in
     let one = c.args.member in

@@ -33,9 +33,8 @@ give_free-requires-clause-taken c = let pages = c.args.pages.now in
     let i = c.loop-page.page-index in
     let x = get_or pages i 0 in
     let old = flags_of c.args.self.now.free in
-    ap (λ (l : List Bool). is_free_at l x) c.loop-page.invariant.0.free
-    ∙ (marked-get (take i pages) true old x false
-    (c.requires.inside x (is_in-at pages i c.loop-page-test.true))
+    ap (λ (l : List Bool). is_free_at l x) c.loop-page.invariant.0.free ∙ (marked-get
+    (take i pages) true old x false (c.requires.inside x (is_in-at pages i c.loop-page-test.true))
     ∙ (ap (λ (v : Bool). cond v true (is_free_at old x))
     (not_before pages i c.loop-page-test.true (c.requires.once x))
     ∙ c.requires.taken x (is_in-at pages i c.loop-page-test.true)))

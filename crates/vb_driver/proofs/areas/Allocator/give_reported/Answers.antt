@@ -49,9 +49,8 @@ loop-page-preserved c = let places = c.args.places.now in
         same = for_both old.free c.loop-page.self.free c.give_if_reported.new.self.free
             c.loop-page.invariant.0.same c.give_if_reported.ensures.state.same;
       },
-      c.give_if_reported.ensures.areas
-          ∙ (ap (λ (s : PageState). record s { free = areas_with one s.free })
-          c.loop-page.invariant.1
+      c.give_if_reported.ensures.areas ∙ (ap
+          (λ (s : PageState). record s { free = areas_with one s.free }) c.loop-page.invariant.1
           ∙ ap (λ (set : List Bool). record old { free = record old.free { areas = set } })
           (with_append_turned one before old.free.areas
           ∙ ap (λ (l : List ℕ). with_pages l old.free.areas) (sym more))),

@@ -25,13 +25,9 @@ invariant_of-self g c = let d = the_view c.self.inside in
     let f = feature_bits c.empty-self-inside.result in
     let given = c.give_reported.ensures.state in
     let renewed : d ≡ with_nothing_out c.args.self.now = c.self.view_is ∙ c.renew.ensures.state in
-    subst (λ (v : List Place). IsDriver (record d {
-      places = v;
-      held = areas2.held;
-      areas = areas2.free;
-      features = f;
-      actual = 0;
-    })) (sym c.strand.ensures) (subst (λ (v : List Block). IsDriver (record d {
+    subst (λ (v : List Place). IsDriver
+    (record d { places = v; held = areas2.held; areas = areas2.free; features = f; actual = 0 }))
+    (sym c.strand.ensures) (subst (λ (v : List Block). IsDriver (record d {
       places = map place_after_reset d.places;
       held = v;
       areas = areas2.free;

@@ -16,8 +16,7 @@ invariant_of-self g c = let d = c.reset.ensures.driver in subst IsDriver
     d.least d.most d.size)
 
 pub returns-clause-driver : goal.returns-clause-driver
-returns-clause-driver g c =
-    restarted c.args.self.now (the_view c.self.inside) c.renew.new.self c.reserved_pages.result
-    c.renew-2.new.self c.self.invariant (c.self.view_is ∙ c.reset.ensures.state)
-    (c.reserved_pages.ensures ∙ ap (λ (s : Shape). reserved_pages s.queue_size) c.shape.ensures)
-    c.renew.ensures c.renew-2.ensures
+returns-clause-driver g c = restarted c.args.self.now
+    (the_view c.self.inside) c.renew.new.self c.reserved_pages.result c.renew-2.new.self
+    c.self.invariant (c.self.view_is ∙ c.reset.ensures.state) (c.reserved_pages.ensures ∙ ap
+    (λ (s : Shape). reserved_pages s.queue_size) c.shape.ensures) c.renew.ensures c.renew-2.ensures

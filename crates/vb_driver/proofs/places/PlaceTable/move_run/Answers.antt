@@ -45,10 +45,9 @@ invariant_of-self c = let places = c.self.inside.places.items in
     ap (λ (l : List Place). length l) put ∙ length-marked (range_with_len start n) new places in
     let counts = c.self.inside.counts in
     let mid = set counts c.number_of.result (get_or counts c.number_of.result 0 - n) in
-    let now : take c.self.inside.places.len (c.put_all.new.places
-    ++ drop (length c.put_all.new.places) places) ≡ after =
-    ap (λ (k : ℕ). take k (c.put_all.new.places ++ drop (length c.put_all.new.places) places))
-    (omega (arith, count, c.self.inside.places.ok))
+    let now : take c.self.inside.places.len (c.put_all.new.places ++ drop
+    (length c.put_all.new.places) places) ≡ after = ap (λ (k : ℕ). take k (c.put_all.new.places
+    ++ drop (length c.put_all.new.places) places)) (omega (arith, count, c.self.inside.places.ok))
     ∙ (take-append_seam c.put_all.new.places (drop (length c.put_all.new.places) places) ∙ put) in
     rw now (run_table counts c.self.inside.lent c.self.inside.stranded places start n
     c.number_of.result c.number_of-2.result new old c.self.invariant are

@@ -71,10 +71,9 @@ returns-clause-posts g c = let r = c.self.inside.ring in
     let at_offset : 1024 * c.from-offset.result ≡ buffer_offset h =
     ap (λ (n : ℕ). 1024 * n) c.from-offset.ensures in
     let wrote : SameBut m1 m2 (buffer_page base h) (buffer_offset h)
-    (buffer_offset h + 4 * length pages) =
-    subst (λ (n : ℕ). SameBut m1 m2 (buffer_page base h) (buffer_offset h)
-    (buffer_offset h + 4 * n)) size (subst (λ (n : ℕ). SameBut m1 m2 (buffer_page base h) n
-    (n + 4 * length c.deref.result.now)) at_offset
+    (buffer_offset h + 4 * length pages) = subst (λ (n : ℕ). SameBut m1 m2
+    (buffer_page base h) (buffer_offset h) (buffer_offset h + 4 * n)) size (subst
+    (λ (n : ℕ). SameBut m1 m2 (buffer_page base h) n (n + 4 * length c.deref.result.now)) at_offset
     (subst (λ (n : ℕ). SameBut m1 m2 n (1024 * c.from-offset.result)
     (1024 * c.from-offset.result + 4 * length c.deref.result.now)) at_page
     c.write_numbers.ensures.rest)) in

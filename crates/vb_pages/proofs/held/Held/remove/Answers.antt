@@ -20,9 +20,8 @@ remove-requires c = let there = listed (goal.at.remove-requires c).After-self in
 pub invariant_of-self : goal.invariant_of-self
 invariant_of-self c = let t = c.self.inside.table in
     let there = listed (goal.at.invariant_of-self c).After-self in
-    subst AreBlocks (sym c.remove.ensures)
-    (with_block_removed t c.args.start (is_there t c.args.start c.args.order there)
-    c.self.invariant)
+    subst AreBlocks (sym c.remove.ensures) (with_block_removed t c.args.start
+    (is_there t c.args.start c.args.order there) c.self.invariant)
 
 pub returns-clause-block : goal.returns-clause-block
 returns-clause-block c = let e = listed (goal.at.returns-clause-block c).After-self in (

@@ -43,8 +43,7 @@ returns-clause-gained c p = let l : c.args.cpu < length c.self.inside.free.lists
     let v : state_of f c.self.inside.held.blocks ≡ c.args.self.now = c.self.view_is in
     let room = back_room f c.self.inside.held c.args.start c.args.order c.self.invariant
     (is_held (goal.at.returns-clause-gained c).After-remove) c.remove.ensures.block in
-    ap (λ (x : FreePages). is_free_in x p) c.give.ensures.given
-    ∙ (free_gained f (given_back c.args.cpu c.args.start c.args.order f) p
-    (block_at c.args.start c.args.order)
+    ap (λ (x : FreePages). is_free_in x p) c.give.ensures.given ∙ (free_gained f
+    (given_back c.args.cpu c.args.start c.args.order f) p (block_at c.args.start c.args.order)
     (given_times f c.args.cpu c.args.start c.args.order c.give.ensures.sound l room p)
     ∙ ap (λ (x : PageState). is_free_page x p || covers p (block_at c.args.start c.args.order)) v)

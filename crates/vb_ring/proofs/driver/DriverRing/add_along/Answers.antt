@@ -10,21 +10,19 @@ use Rattle.vb_ring.proofs.driver.DriverRing.add_along.Goals as goal
 pub write_chain-requires-clause-route : goal.write_chain-requires-clause-route
 write_chain-requires-clause-route g c = let old : DriverEnd = the_view c.self.inside in
     let along : c.deref-path.result.now ≡ next_path old (length c.args.pieces.now) =
-    c.deref-path.ensures.0 ∙ c.find_free.ensures.found c.if-not-find_free.false
-    ∙ ap (λ k. take (length c.args.pieces.now) (numbers (is_unused old.owner) k))
-    c.self.invariant.table in
+    c.deref-path.ensures.0 ∙ c.find_free.ensures.found c.if-not-find_free.false ∙ ap (λ k. take
+    (length c.args.pieces.now) (numbers (is_unused old.owner) k)) c.self.invariant.table in
     subst (IsRoute old.size) (sym along) (next_route old (length c.args.pieces.now))
 
 pub claim-requires : goal.claim-requires
 claim-requires g c = let old : DriverEnd = the_view c.self.inside in
     let along : c.deref-path.result.now ≡ next_path old (length c.args.pieces.now) =
-    c.deref-path.ensures.0 ∙ c.find_free.ensures.found c.if-not-find_free.false
-    ∙ ap (λ k. take (length c.args.pieces.now) (numbers (is_unused old.owner) k))
-    c.self.invariant.table in
+    c.deref-path.ensures.0 ∙ c.find_free.ensures.found c.if-not-find_free.false ∙ ap (λ k. take
+    (length c.args.pieces.now) (numbers (is_unused old.owner) k)) c.self.invariant.table in
     let count : length c.deref-path.result.now ≡ length c.args.pieces.now =
     ap length c.deref-path.ensures.0 ∙ c.find_free.ensures.count c.if-not-find_free.false in
-    next_chain old (length c.args.pieces.now) c.deref-path.result.now c.self.invariant
-    c.requires.some along count
+    next_chain old
+    (length c.args.pieces.now) c.deref-path.result.now c.self.invariant c.requires.some along count
 
 pub invariant_of-self : goal.invariant_of-self
 invariant_of-self g c = grind (arith, length-each_from)
@@ -32,9 +30,8 @@ invariant_of-self g c = grind (arith, length-each_from)
 pub returns-clause-adds : goal.returns-clause-adds
 returns-clause-adds g c = let old : DriverEnd = the_view c.self.inside in
     let along : c.deref-path.result.now ≡ next_path old (length c.args.pieces.now) =
-    c.deref-path.ensures.0 ∙ c.find_free.ensures.found c.if-not-find_free.false
-    ∙ ap (λ k. take (length c.args.pieces.now) (numbers (is_unused old.owner) k))
-    c.self.invariant.table in
+    c.deref-path.ensures.0 ∙ c.find_free.ensures.found c.if-not-find_free.false ∙ ap (λ k. take
+    (length c.args.pieces.now) (numbers (is_unused old.owner) k)) c.self.invariant.table in
     let count : length c.deref-path.result.now ≡ length c.args.pieces.now =
     ap length c.deref-path.ensures.0 ∙ c.find_free.ensures.count c.if-not-find_free.false in
     subst (λ (v : DriverEnd). AddsBy (g.G.GuestBytes.mem c.args.ram.now)

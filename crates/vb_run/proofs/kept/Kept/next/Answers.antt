@@ -4,8 +4,7 @@ use Rattle.vb_run.{specs.Past.{NotesNext, Past, unknown}, proofs.Keeping.{call_n
 use Rattle.vb_run.proofs.kept.Kept.next.Goals as goal
 
 pub invariant_of-self-2 : goal.invariant_of-self-2
-invariant_of-self-2 g c =
-    let found = c.in-Some.ensures.lookup in
+invariant_of-self-2 g c = let found = c.in-Some.ensures.lookup in
     let there : slice_get c.deref.result.now c.args.cpu ≡ Some c.in-Some.script.now =
     slice_get-get_or c.deref.result.now c.args.cpu c.in-Some.script.now found.3.0
     ∙ ap Some (sym (found.3.1 c.in-Some.script.now)) in
@@ -31,8 +30,7 @@ invariant_of-self-2 g c =
     c.call-reply.ensures.frames)
 
 pub returns : goal.returns
-returns g c =
-    let found = c.in-Some.ensures.lookup in
+returns g c = let found = c.in-Some.ensures.lookup in
     let there : slice_get c.deref.result.now c.args.cpu ≡ Some c.in-Some.script.now =
     slice_get-get_or c.deref.result.now c.args.cpu c.in-Some.script.now found.3.0
     ∙ ap Some (sym (found.3.1 c.in-Some.script.now)) in

@@ -9,6 +9,5 @@ returns-then-not-is_skipped-clause-line c =
     _ c.loop-text.self.rest.now _ c.first_line.result.1.now c.first_line.ensures.lines kept
 
 pub returns-clause-line : goal.returns-clause-line
-returns-clause-line c =
-    let none : length c.loop-text.self.rest.now ≤ 0 = search rules in
+returns-clause-line c = let none : length c.loop-text.self.rest.now ≤ 0 = search rules in
     c.loop-text.invariant.lines ∙ numbered_none _ c.loop-text.self.rest.now none

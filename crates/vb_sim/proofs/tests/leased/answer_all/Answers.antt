@@ -6,8 +6,7 @@ use Rattle.vb_sim.proofs.tests.leased.answer_all.OwnLists.{own-1, at-1-1, at-1-2
 use Rattle.vb_sim.proofs.tests.leased.answer_all.Goals as goal
 
 pub play_on-requires : goal.play_on-requires
-play_on-requires c =
-    let held = c.in_ok-frames.ensures in
+play_on-requires c = let held = c.in_ok-frames.ensures in
     let device = c.in_ok-device-in-Some-Paced.device.value in
     let box = c.into_dyn_box in
     let part : (own-1.entry box.result.vtable).1.GuestBytes.part box.result.value
@@ -25,8 +24,7 @@ play_on-requires c =
     )
 
 pub play_on-requires-in_default : goal.play_on-requires-in_default
-play_on-requires-in_default c =
-    let held = c.in_ok-frames.ensures in
+play_on-requires-in_default c = let held = c.in_ok-frames.ensures in
     let device = c.in_ok-device-in_default.device.value in
     let box = c.into_dyn_box-in_default in
     let part : (own-1.entry box.result.vtable).1.GuestBytes.part box.result.value

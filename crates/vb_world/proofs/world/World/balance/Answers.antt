@@ -4,8 +4,7 @@ use Rattle.vb_world.proofs.Balancing.{balanced, short, as_many_needs}
 use Rattle.vb_world.proofs.world.World.balance.Goals as goal
 
 pub set_targets-requires-clause-one_each : goal.set_targets-requires-clause-one_each
-set_targets-requires-clause-one_each g c =
-    let (w, host) = c.requires.world in
+set_targets-requires-clause-one_each g c = let (w, host) = c.requires.world in
     let are = c.in-Ok.ensures.answer.1 in
     ap (λ (l : List _). length l) c.as_slice-in-Ok.ensures ∙ are.one_each
     ∙ ap (λ (l : List Need). length l) (c.as_slice.ensures.value ∙ c.needs-needs.ensures w host)

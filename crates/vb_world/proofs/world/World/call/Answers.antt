@@ -4,8 +4,7 @@ use Rattle.vb_world.proofs.Calls.{guest_step, guest_frames, guest_of, no_guest_s
 use Rattle.vb_world.proofs.world.World.call.Goals as goal
 
 pub call-requires : goal.call-requires
-call-requires g c =
-    let (w, host) = c.requires.world in
+call-requires g c = let (w, host) = c.requires.world in
     let is = sym c.in-Some.ensures.value in
     let has = guest_of _ _ _ _ _ w c.args.guest c.in-Some.slot.now host is in
     record {

@@ -9,8 +9,7 @@ pub loop-key-init : goal.loop-key-init
 loop-key-init g c = record { found = λ w host. c.new-needs.ensures }
 
 pub spare-requires : goal.spare-requires
-spare-requires g c =
-    let (w, host) = c.requires.world in
+spare-requires g c = let (w, host) = c.requires.world in
     let has = guest_of _ _ _ _ _ w c.loop-key.key c.in-Some.slot.now host (sym c.in-Some.ensures) in
     (false, has.guest, has.stands)
 

@@ -4,8 +4,7 @@ use Rattle.vb_world.{proofs.Plugs.spare_like, proofs.KeeperFrames.stands_keeping
 use Rattle.vb_world.proofs.world.World.plug_first_spare.Goals as goal
 
 pub new-requires : goal.new-requires
-new-requires g c =
-    let (w, host) = c.requires.world in
+new-requires g c = let (w, host) = c.requires.world in
     let first = first_removed c.args.self.now.spares.items c.remove-device.result
     c.remove-device.new.self.items (omega (arith, c.requires.some, c.args.self.now.spares.ok))
     c.remove-device.ensures.value c.remove-device.ensures.items in

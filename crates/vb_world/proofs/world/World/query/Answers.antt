@@ -11,7 +11,6 @@ returns-in-None g c =
     λ w host. no_guest_query _ _ _ _ _ w c.args.guest _ host (sym c.in-None.ensures)
 
 pub query-requires : goal.query-requires
-query-requires g c =
-    let (w, host) = c.requires.world in
+query-requires g c = let (w, host) = c.requires.world in
     let has = guest_of _ _ _ _ _ w c.args.guest c.in-Some.slot.now host (sym c.in-Some.ensures) in
     record { stands = (false, has.guest, has.stands) }

@@ -4,8 +4,7 @@ use Rattle.vb_world.proofs.Lives.{restarted, not_restarted, returned}
 use Rattle.vb_world.proofs.world.World.restart.Goals as goal
 
 pub restart-requires : goal.restart-requires
-restart-requires g c =
-    let (w, host) = c.requires.world in
+restart-requires g c = let (w, host) = c.requires.world in
     let is = sym c.in-Some.ensures.value in
     let has = guest_of _ _ _ _ _ w c.args.guest c.in-Some.slot.now host is in (
       false,

@@ -28,8 +28,7 @@ loop-event-preserved g c = record {
 }
 
 pub step-reply-requires : goal.step-reply-requires
-step-reply-requires g c =
-    let (frames, spares, host) = c.requires.made in
+step-reply-requires g c = let (frames, spares, host) = c.requires.made in
     let ran = c.loop-event.invariant.ran (made frames spares) host in
     record { world = (last_world (made frames spares) ran.after, ran.holds) }
 

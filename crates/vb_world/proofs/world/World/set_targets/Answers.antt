@@ -7,23 +7,20 @@ pub loop-key-init : goal.loop-key-init
 loop-key-init g c = record { aims = λ w host. (host, refl) }
 
 pub offset_bounds-targets-next : goal.offset_bounds-targets-next
-offset_bounds-targets-next g c =
-    let (w, host) = c.requires.world in
+offset_bounds-targets-next g c = let (w, host) = c.requires.world in
     let (now, at) = c.loop-key.invariant.aims w host in
     let there = target_there _ _ _ _ _ w c.args.targets.now c.loop-key.key c.loop-key.next
     c.in-Some.slot.now (c.requires.one_each ∙ host.count) now (sym c.in-Some.ensures.value) at in
     omega (arith, there, c.requires.one_each, host.count, host.few)
 
 pub bounds-targets-next : goal.bounds-targets-next
-bounds-targets-next g c =
-    let (w, host) = c.requires.world in
+bounds-targets-next g c = let (w, host) = c.requires.world in
     let (now, at) = c.loop-key.invariant.aims w host in
     target_there _ _ _ _ _ w c.args.targets.now c.loop-key.key c.loop-key.next
     c.in-Some.slot.now (c.requires.one_each ∙ host.count) now (sym c.in-Some.ensures.value) at
 
 pub overflow_add-next : goal.overflow_add-next
-overflow_add-next g c =
-    let (w, host) = c.requires.world in
+overflow_add-next g c = let (w, host) = c.requires.world in
     let (now, at) = c.loop-key.invariant.aims w host in
     let there = target_there _ _ _ _ _ w c.args.targets.now c.loop-key.key c.loop-key.next
     c.in-Some.slot.now (c.requires.one_each ∙ host.count) now (sym c.in-Some.ensures.value) at in

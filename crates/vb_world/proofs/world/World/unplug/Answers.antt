@@ -4,8 +4,7 @@ use Rattle.vb_world.proofs.Lives.{unplugged, not_unplugged, returned}
 use Rattle.vb_world.proofs.world.World.unplug.Goals as goal
 
 pub empty-requires : goal.empty-requires
-empty-requires g c =
-    let (w, host) = c.requires.world in
+empty-requires g c = let (w, host) = c.requires.world in
     let is = sym c.in-Some.ensures.value in
     let has = guest_of _ _ _ _ _ w c.args.guest c.in-Some.slot host is in (
       false,
