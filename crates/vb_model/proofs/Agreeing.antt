@@ -16,7 +16,7 @@ use Rattle.vb_model.specs.declared.calls.Call.{Call, TheVariants.{Init, Reset, A
 use Rattle.vb_model.specs.declared.calls.Call.TheVariants.{Write, Scribble, Inflate, Deflate, Oom}
 use Rattle.vb_model.specs.declared.calls.Call.TheVariants.{Report, Stats, Reap, Take, Work, Finish}
 use Rattle.vb_model.specs.declared.calls.{Call.TheVariants.{Sweep, Ask, SetTarget}, Claim.Claim}
-use Rattle.vb_model.specs.declared.replies.{Refusal.Refusal, Reply.Reply, Reply.TheVariants.Done}
+use Rattle.vb_model.specs.declared.replies.{Refusal.Refusal, Reply.Reply}
 use Rattle.vb_model.specs.declared.replies.Reply.TheVariants.{Posted, Refused}
 
 -- ---- two choices of one case
@@ -38,11 +38,9 @@ same_case (Some x) P P' Q Q' R s t none some = some x s t
 
 least_same : (rs : Requests) (a b : ℕ) → IsLeastHead rs a → IsLeastHead rs b → a ≡ b
 least_same rs a b p q = elim (cases_lt a b) [
-  | inl l ↦ let some : 0 < headed a (all_requests rs) = q.least a l in
-      let none : headed a (all_requests rs) ≡ 0 = p.new in absurd (omega arith)
+  | inl l ↦ let some : 0 < headed a (all_requests rs) = q.least a l in absurd (omega arith)
   | inr ge ↦ elim (cases_lt b a) [
-    | inl l ↦ let some : 0 < headed b (all_requests rs) = p.least b l in
-        let none : headed b (all_requests rs) ≡ 0 = q.new in absurd (omega arith)
+    | inl l ↦ let some : 0 < headed b (all_requests rs) = p.least b l in absurd (omega arith)
     | inr le ↦ omega arith
   ]
 ]
@@ -167,10 +165,9 @@ performs_agree (Write page offset bytes) g claims r new r' new' s t = supplies_s
 performs_agree (Scribble page offset bytes) g claims r new r' new' s t =
     same_case (claim_refusal claims) (Scribbled m r new) (Scribbled m r' new')
     (λ refusal. (r ≡ Refused refusal) × (new ≡ g)) (λ refusal. (r' ≡ Refused refusal) × (new' ≡ g))
-    (Agree (Scribble page offset bytes) r new r' new') s.1 t.1 (λ s t. (
-      s.answered ∙ sym t.answered,
-      λ refusal e. absurd (let told : Done ≡ Refused refusal = sym s.answered ∙ e in cc),
-    )) (λ refusal s t. (s.0 ∙ sym t.0, λ refusal e. s.1 ∙ sym t.1))
+    (Agree (Scribble page offset bytes) r new r' new') s.1 t.1
+    (λ s t. (s.answered ∙ sym t.answered, λ refusal e. absurd cc))
+    (λ refusal s t. (s.0 ∙ sym t.0, λ refusal e. s.1 ∙ sym t.1))
   where
     m : Guest
     m = supplied (pages_needed page bytes g) claims g

@@ -131,10 +131,8 @@ away_turns : (c : Course) (page i m : ℕ) (g new : Guest) → i < m → guest_a
 away_turns c page i m g new lt next at (Kept e keeps) = Away new next (ap is_away e ∙ at)
 away_turns c page i m g new lt next at (Gone e) = Away new next e
 away_turns c page i m g new lt next at (Given e reaps) = AtHost new next e m lt (omega arith) reaps
-away_turns c page i m g new lt next at (Wanted was e posts q only) =
-    absurd (let bad : false ≡ true = sym (ap is_away was) ∙ at in cc)
-away_turns c page i m g new lt next at (Returned was e reaps same) =
-    absurd (let bad : false ≡ true = sym (ap is_away was) ∙ at in cc)
+away_turns c page i m g new lt next at (Wanted was e posts q only) = absurd cc
+away_turns c page i m g new lt next at (Returned was e reaps same) = absurd cc
 
 host_turns : (c : Course) (page i m : ℕ) (g new : Guest) → i < m
     → guest_after c (m + 1) ≡ Some new → place_of g.places page ≡ Lent → (lent : ℕ) → i < lent
@@ -158,11 +156,9 @@ host_turns c page i m g new lt next at lent a b reaped (Wanted was e posts q onl
       before = omega arith;
       inflate = reaped;
       deflate = posts;
-      told = λ t. absurd (let bad : true ≡ false =
-          sym t ∙ ap (λ (x : Guest). tells_host x) q ∙ u in cc);
+      told = λ t. absurd cc;
     })
-host_turns c page i m g new lt next at lent a b reaped (Returned was e reaps same) =
-    absurd (let bad : Lent ≡ Taking = sym at ∙ was in cc)
+host_turns c page i m g new lt next at lent a b reaped (Returned was e reaps same) = absurd cc
 
 way_turns : (c : Course) (page i m : ℕ) (g new : Guest) → i < m → guest_after c (m + 1) ≡ Some new
     → place_of g.places page ≡ Taking → (lent asked : ℕ) → i < lent → lent < asked

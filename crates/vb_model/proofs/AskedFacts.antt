@@ -192,8 +192,7 @@ is_asking _ = false
 
 not_asking : (c : Course) (k lent asked : ℕ) → is_asking (slice_get c.entries asked) ≡ false
     → NotBy c k lent asked
-not_asking c k lent asked e r p told =
-    let is : is_asking (slice_get c.entries asked) ≡ true = ap is_asking p.called.2 ∙ p.asks in cc
+not_asking c k lent asked e r p told = cc
 
 -- the entry is a reap of queue 0
 abbrev is_reap : Option (Option Entry) → Bool
@@ -202,8 +201,7 @@ is_reap _ = false
 
 not_lending : (c : Course) (k lent asked : ℕ) → is_reap (slice_get c.entries lent) ≡ false
     → NotBy c k lent asked
-not_lending c k lent asked e r p told =
-    let is : is_reap (slice_get c.entries lent) ≡ true = ap is_reap r.called.2 in cc
+not_lending c k lent asked e r p told = cc
 
 abbrev deflates : Option Guest → Requests
 deflates None = no_requests
@@ -397,12 +395,10 @@ not_posted : (post : Option Entry) (before after : Requests)
 not_posted post before after none = not_by_two (by_post post before after) 0 (λ r p told. none p)
 
 anothers_deflate : NotByPost None no_requests (posted request_16)
-anothers_deflate = not_posted _ _ _
-    (λ p. let e : false ≡ true = ap is_asking p.called.2 ∙ p.asks in cc)
+anothers_deflate = not_posted _ _ _ (λ p. cc)
 
 an_inflate_posted : NotByPost (made (Inflate 1) (Posted 0 1)) no_requests (posted request_16)
-an_inflate_posted = not_posted _ _ _
-    (λ p. let e : false ≡ true = ap is_asking p.called.2 ∙ p.asks in cc)
+an_inflate_posted = not_posted _ _ _ (λ p. cc)
 
 -- a call was answered with a post
 abbrev is_posted : Option (Option Entry) → Bool

@@ -75,13 +75,11 @@ fate : (event : Event) (w : World) (reply : Reply) (v : World) (n : ℕ) (g : Gu
     → guest_at w.guests n ≡ Some g → WorldStep w event reply v → Fate w event reply v n g
 fate (Restart m) w reply v n g here s = elim (cases_eq m n) [
   | inl e ↦ Begins_anew (ap Restart e) (restarted w m n reply v g here e s)
-  | inr d ↦ goes_on w (Restart m) reply v n g here
-      (λ e. d (let q : Restart m ≡ Restart n = e in cc)) (λ e. cc) s
+  | inr d ↦ goes_on w (Restart m) reply v n g here (λ e. d cc) (λ e. cc) s
 ]
 fate (Unplug m) w reply v n g here s = elim (cases_eq m n) [
   | inl e ↦ Is_gone (ap Unplug e) (unplugged w m n reply v g here e s)
-  | inr d ↦ goes_on w (Unplug m) reply v n g here (λ e. cc)
-      (λ e. d (let q : Unplug m ≡ Unplug n = e in cc)) s
+  | inr d ↦ goes_on w (Unplug m) reply v n g here (λ e. cc) (λ e. d cc) s
 ]
 fate event w reply v n g here s = goes_on w _ reply v n g here (λ e. cc) (λ e. cc) s
 
@@ -227,8 +225,7 @@ restarted_honest w reply v n old new f = ap (λ (y : Guest). y.rogue) (same_some
 not_by_others : (g new : Guest) (call : Call) → (IsScribble call → ⊥) → g.rogue ≡ false
     → (new.rogue ≡ g.rogue) ⊎ (MayBeRogue g call × IsRogueAfter g new) → new.rogue ≡ false
 not_by_others g new call other honest (inl e) = e ∙ honest
-not_by_others g new call other honest (inr (inl rogue, r)) =
-    absurd (let f : g.rogue ≡ false = honest in cc)
+not_by_others g new call other honest (inr (inl rogue, r)) = absurd cc
 not_by_others g new call other honest (inr (inr scribble, r)) = absurd (other scribble)
 
 pub rogues_made : RoguesAreMade

@@ -51,10 +51,8 @@ not_broken : (c : Course) → Positions c → (i fault : ℕ) (call : Call) (rep
     → IsCall c i call reply → (reply ≢ Refused (Broken fault)) × (reply ≢ Refused RingBroken)
 not_broken c p i fault call reply (actor, claims, at) =
     let m = p.made i (Called actor call claims reply) at in
-    let f = honest_no_fault m.before call claims reply m.next m.step.1 in (
-      λ e. let t : is_fault reply ≡ true = ap is_fault e in cc,
-      λ e. let t : is_fault reply ≡ true = ap is_fault e in cc,
-    )
+    let f = honest_no_fault m.before call claims reply m.next m.step.1 in
+    (λ e. cc, λ e. let t : is_fault reply ≡ true = ap is_fault e in cc)
 
 keeps_contents : (c : Course) → Positions c → (i page : ℕ) (g new : Guest) → guest_after c i
     ≡ Some g → guest_after c (i + 1) ≡ Some new → ¬ IsWriteTo c page i → StaysOrLoses page g new
@@ -153,8 +151,6 @@ byte_step c p page at i g new here next used used' = by s.own s.own_is s.step
         → slice_get c.entries i ≡ Some (Some (Called actor call claims reply))
         → is_write page call reply ≡ false → ¬ IsWriteTo c page i
     other actor call claims reply at e (offset, bytes, (who, what, is)) =
-        let same : Called actor call claims reply ≡ Called who (Write page offset bytes) what Done =
-        same_entry (sym at ∙ is) in
         let first : call ≡ Write page offset bytes = cc in
         let second : reply ≡ Done = cc in
         let wrong : true ≡ false =
@@ -217,9 +213,7 @@ writes : (c : Course) → Positions c → (i page offset : ℕ) (bytes : List �
     × (contents_of new page ≡ overwritten offset bytes (contents_of g page))
 writes c p i page offset bytes g new here next (actor, claims, entry) =
     let s = p.step i g new here next in
-    let same : s.own ≡ Some (Called actor (Write page offset bytes) claims Done) =
-    (let e : Some s.own ≡ Some (Some (Called actor (Write page offset bytes) claims Done)) =
-    sym s.own_is ∙ entry in cc) in
+    let same : s.own ≡ Some (Called actor (Write page offset bytes) claims Done) = cc in
     let step : OwnStep g (Some (Called actor (Write page offset bytes) claims Done)) new =
     subst (λ (own : Option Entry). OwnStep g own new) same s.step in
     let blank = (p.fit i g here).blank in

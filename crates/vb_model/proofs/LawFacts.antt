@@ -59,10 +59,7 @@ frame_0_is_free want = by want.claimed want.fewer want.all_out where
   by : (claimed : List ℕ) → length claimed < 1
       → ((frame : ℕ) → frame < 6 → IsOut empty frame ⊎ IsTrue (is_in frame claimed)) → ⊥
   by (f ∷ claimed) fewer all_out = absurd (omega (arith, fewer))
-  by [] fewer all_out = elim (all_out 0 (omega arith)) [
-    | inl out ↦ (let e : None ≡ Some out.2.guest = out.2.is_there in cc)
-    | inr given ↦ cc
-  ]
+  by [] fewer all_out = elim (all_out 0 (omega arith)) [ inl out ↦ cc | inr given ↦ cc ]
 
 no_page_wants_one : WantOfFrames world [] → ⊥
 no_page_wants_one want = let l : length want.claimed < 0 = want.fewer in absurd (omega (arith, l))

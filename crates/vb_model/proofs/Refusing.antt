@@ -28,8 +28,7 @@ is_refused _ = false
 
 pub not_this : {A : Type 0} (refusal : Refusal) (reply : Reply) → Refused refusal ≡ reply
     → is_refused reply ≡ false → A
-not_this refusal reply e f =
-    absurd (let t : is_refused (Refused refusal) ≡ false = ap is_refused e ∙ f in cc)
+not_this refusal reply e f = absurd cc
 
 fills_refuse : {A : Type 0} (buffer : StatisticsBuffer) (g : Guest) (refusal : Refusal) (new : Guest)
     → Fills buffer g (Refused refusal) new → A

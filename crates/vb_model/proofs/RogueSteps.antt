@@ -1,7 +1,6 @@
 -- No reserved page is ever ballooned, in a rogue guest neither.
-use Rattle.std.proofs.Common.{◌≡◌, ℕ, true, false, length, refl, ◌∙◌, inl, inr, arith}
-use Rattle.std.{specs.Prelude.Some, proofs.lemmas.List.get_or_past}
-use Rattle.std.proofs.lemmas.Bool.{cases_lt, lt-ltb}
+use Rattle.std.{proofs.Common.{◌≡◌, ℕ, true, false, refl, ◌∙◌, inl, inr, arith}, specs.Prelude.Some}
+use Rattle.std.proofs.lemmas.{List.get_or_past, Bool.{cases_lt, lt-ltb}}
 use Rattle.vb_model.{specs.declared.places.Place.Place, specs.declared.calls.Event.Event}
 use Rattle.vb_model.{specs.declared.places.Place.TheVariants.Reserved, specs.Layout.reserved_pages}
 use Rattle.vb_model.{specs.declared.replies.Reply.Reply, specs.Pages.{is_reserved, place_of}}
@@ -20,8 +19,7 @@ honest_unreserved g c o page l = at_reserved place where
   place = elim (cases_lt page g.config.pages) [
     | inl there ↦ reserved_is (place_of g.places page)
         (o.unreserved page there ∙ lt-ltb page (reserved_pages g.config.queue_size) l)
-    | inr past ↦ get_or_past g.places page Reserved
-        (let e : length g.places ≡ g.config.pages = o.tabled in omega arith)
+    | inr past ↦ get_or_past g.places page Reserved (omega arith)
   ]
 
   at_reserved : place_of g.places page ≡ Reserved → is_ballooned g.ballooned page ≡ false

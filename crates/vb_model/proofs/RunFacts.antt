@@ -117,8 +117,7 @@ own_call = ((Processor 1 0, [], tt, refl), refl, (refl, refl, tt))
 
 own_call_left_out : AreOwn 1 (at ready) (OnGuest 1 Work ∷ []) (Idle ∷ []) (at ready ∷ [])
     (None ∷ []) (ready ∷ []) → ⊥
-own_call_left_out (own, there, rest) =
-    let e : no_own ≡ Some (Called own.0 Work own.1 Idle) = own.3 in cc
+own_call_left_out (own, there, rest) = cc
 
 -- an entry for each event
 one_entry_too_few : AreOwn 1 (at ready) (OnGuest 1 Work ∷ []) (Idle ∷ []) (at ready ∷ []) [] [] → ⊥

@@ -157,19 +157,15 @@ nor_framed place (inr lost) = let e : SameFrame (Some 5) None = lost.1 in cc
 
 bytes_changed : IsSafeCourse
     (goes (with_byte Used None 1) (Write 17 0 (2 ∷ [])) Done (with_byte Used None 2)) → ⊥
-bytes_changed s = not_that_byte Used
-    (s.keeps_contents 0 16 (with_byte Used None 1) (with_byte Used None 2) refl refl (λ e. cc)
-    (λ own. let q : Some (made (Write 17 0 (2 ∷ [])) Done)
-    ≡ Some (Some (Called own.2.0 (Write 16 own.0 own.1) own.2.1 Done)) = own.2.2 in cc))
+bytes_changed s = not_that_byte Used (s.keeps_contents 0 16
+    (with_byte Used None 1) (with_byte Used None 2) refl refl (λ e. cc) (λ own. cc))
 
 -- a write that was refused is none
 bytes_changed_by_refused : IsSafeCourse
     (goes (with_byte Used None 1) (Write 16 0 (2 ∷ [])) (Refused NoFrame) (with_byte Used None 2))
     → ⊥
-bytes_changed_by_refused s = not_that_byte Used
-    (s.keeps_contents 0 16 (with_byte Used None 1) (with_byte Used None 2) refl refl (λ e. cc)
-    (λ own. let q : Some (made (Write 16 0 (2 ∷ [])) (Refused NoFrame))
-    ≡ Some (Some (Called own.2.0 (Write 16 own.0 own.1) own.2.1 Done)) = own.2.2 in cc))
+bytes_changed_by_refused s = not_that_byte Used (s.keeps_contents 0 16
+    (with_byte Used None 1) (with_byte Used None 2) refl refl (λ e. cc) (λ own. cc))
 
 -- nor is another guest's write to a page of the same number, behind one of the guest's own
 bytes_changed_by_another : IsSafeCourse (record {
@@ -178,23 +174,20 @@ bytes_changed_by_another : IsSafeCourse (record {
   after = with_byte Used (Some 5) 1 ∷ with_byte Used (Some 5) 2 ∷ [];
 }) → ⊥
 bytes_changed_by_another s = nor_framed Used (s.keeps_contents 1 16 (with_byte Used (Some 5) 1)
-    (with_byte Used (Some 5) 2) refl refl (λ e. cc) (λ own. let q : Some anothers
-    ≡ Some (Some (Called own.2.0 (Write 16 own.0 own.1) own.2.1 Done)) = own.2.2 in cc))
+    (with_byte Used (Some 5) 2) refl refl (λ e. cc) (λ own. cc))
 
 -- nor a reset
 bytes_changed_by_a_reset : IsSafeCourse
     (goes (with_byte Used (Some 5) 1) Reset Done (with_byte Used (Some 5) 2)) → ⊥
 bytes_changed_by_a_reset s = nor_framed Used (s.keeps_contents 0 16 (with_byte Used (Some 5) 1)
-    (with_byte Used (Some 5) 2) refl refl (λ e. cc) (λ own. let q : Some (made Reset Done)
-    ≡ Some (Some (Called own.2.0 (Write 16 own.0 own.1) own.2.1 Done)) = own.2.2 in cc))
+    (with_byte Used (Some 5) 2) refl refl (λ e. cc) (λ own. cc))
 
 -- a free page holds what it did, too
 bytes_of_a_free_page_changed : IsSafeCourse
     (goes (with_byte FreePlace (Some 5) 1) Work Idle (with_byte FreePlace (Some 5) 2)) → ⊥
 bytes_of_a_free_page_changed s = nor_framed FreePlace
     (s.keeps_contents 0 16 (with_byte FreePlace (Some 5) 1) (with_byte FreePlace (Some 5) 2) refl
-    refl (λ e. cc) (λ own. let q : Some (made Work Idle)
-    ≡ Some (Some (Called own.2.0 (Write 16 own.0 own.1) own.2.1 Done)) = own.2.2 in cc))
+    refl (λ e. cc) (λ own. cc))
 
 -- ---- what reads give
 

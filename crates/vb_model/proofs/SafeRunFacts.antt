@@ -2,14 +2,13 @@
 use Rattle.std.proofs.Common.{◌≡◌, ℕ, true, false, List, [], ◌∷◌, ◌++◌, replicate, refl, sym, ap}
 use Rattle.std.{proofs.Common.{subst, arith, ◌≢◌, ◌∙◌, inl}, specs.Prelude.{Option, Some, None}}
 use Rattle.vb_model.specs.declared.replies.Reply.TheVariants.{Done, Frames, Idle, Page, Posted}
-use Rattle.vb_model.specs.declared.replies.Reply.TheVariants.{Refused, Swept}
-use Rattle.vb_model.specs.{declared.places.Place.TheVariants.{Used, Lent}, Run.History}
+use Rattle.vb_model.specs.declared.{replies.Reply.TheVariants.Swept, places.Place.TheVariants.Used}
+use Rattle.vb_model.specs.{declared.places.Place.TheVariants.Lent, Run.History}
 use Rattle.vb_model.specs.declared.calls.Call.TheVariants.{Alloc, Inflate, Init, Reset, Sweep, Work}
 use Rattle.vb_model.specs.declared.{calls.Event.Event, replies.Reply.Reply}
-use Rattle.vb_model.{specs.declared.replies.Refusal.TheVariants.NotReady, proofs.Changes.same_some}
-use Rattle.vb_model.specs.{Guest.{Guest, unbacked}, World.{World, made, guest_at}}
-use Rattle.vb_model.specs.{HostEvents.WorldStep, Histories.IsSafeCourse, GuestRun.{Entry, OwnStep}}
-use Rattle.vb_model.specs.GuestRun.{Leads, IsOwnEntry, AreOwn, InOneLife, Alone}
+use Rattle.vb_model.{proofs.Changes.same_some, specs.Guest.{Guest, unbacked}, specs.World.World}
+use Rattle.vb_model.specs.{World.{made, guest_at}, HostEvents.WorldStep, Histories.IsSafeCourse}
+use Rattle.vb_model.specs.GuestRun.{Entry, OwnStep, Leads, IsOwnEntry, AreOwn, InOneLife, Alone}
 use Rattle.vb_model.specs.{SafeLaws.LivesAreAlone, Safe.{Safe, IsSafeOf, IsSafeRun, NoFrameTwice}}
 use Rattle.vb_model.{specs.Safe.part, proofs.Samples.{ready, down, untold, page_16_at, request}}
 use Rattle.vb_model.proofs.{AskedFacts.{back, giving, handed_out}, Performed.performed}
@@ -162,8 +161,7 @@ not_its_own_later s = by o.own o.is o.step where
 
   by : (own : Option Entry) → IsOwnEntry 0 (at down) (OnGuest 0 Work) Done (at down) own
       → OwnStep down own down → ⊥
-  by own is step = let made = subst (λ (x : Option Entry). OwnStep down x down) is.3 step in
-      let wrong : Done ≡ Refused NotReady = made.1.1 in cc
+  by own is step = let made = subst (λ (x : Option Entry). OwnStep down x down) is.3 step in cc
 
 -- another's event changes the guest
 changed_by_another : LivesAreAlone (goes ready CountFrames (Frames 0 64) down) → ⊥

@@ -137,8 +137,7 @@ not_free_where_it_tells = grind arith
 flag_cleared_too_early : (new : Guest)
     → HonestStep (three_lent untold) (Deflate 2) [] (Posted 0 2) new
     → is_ballooned new.ballooned 16 ≡ false → ⊥
-flag_cleared_too_early new s e =
-    let q : false ≡ true = sym e ∙ ap (λ (g : Guest). is_ballooned g.ballooned 16) s.1.3 in cc
+flag_cleared_too_early new s e = cc
 
 lowered_too_early : (new : Guest) → HonestStep (three_lent untold) (Deflate 2) [] (Posted 0 2) new
     → new.actual ≡ 1 → ⊥
@@ -288,8 +287,7 @@ reap_moves_nothing = (refl, (refl, refl))
 
 freed_by_a_reap : (new : Guest) → HonestStep (in_use false (done both)) (Reap 1) [] (Reaped 0 2) new
     → place_of new.places 16 ≡ FreePlace → ⊥
-freed_by_a_reap new s e =
-    let q : FreePlace ≡ Used = sym e ∙ ap (λ (g : Guest). place_of g.places 16) s.1.1 in cc
+freed_by_a_reap new s e = cc
 
 counted_too_long : (new : Guest)
     → HonestStep (in_use false (done both)) (Reap 1) [] (Reaped 0 2) new → new.actual ≡ 3 → ⊥
@@ -314,8 +312,7 @@ free_once_reaped = (refl, (refl, refl))
 
 taking_still : (new : Guest) → HonestStep (record (asked Taking ready) { deflate = done both })
     (Reap 1) [] (Reaped 0 2) new → place_of new.places 16 ≡ Taking → ⊥
-taking_still new s e =
-    let q : Taking ≡ FreePlace = sym e ∙ ap (λ (g : Guest). place_of g.places 16) s.1.1 in cc
+taking_still new s e = cc
 
 -- a reaped inflate's pages are lent as ever, and a reaped report's are free
 lent_once_reaped : HonestStep (record untold {
@@ -357,12 +354,10 @@ abbrev FinishedSo : Guest → Type 0
 FinishedSo new = HonestStep (framed true (taken both)) (Finish 1 0) [] (Finished 0) new
 
 frame_lost : (new : Guest) → FinishedSo new → frame_of new.frames 16 ≡ None → ⊥
-frame_lost new s e =
-    let q : SameFrame None (Some 5) = sym e ∙ ap (λ (g : Guest). frame_of g.frames 16) s.1.3 in cc
+frame_lost new s e = cc
 
 bytes_lost : (new : Guest) → FinishedSo new → contents_of new 16 ≡ [] → ⊥
-bytes_lost new s e =
-    let q : SameBytes [] (7 ∷ []) = sym e ∙ ap (λ (g : Guest). contents_of g 16) s.1.3 in cc
+bytes_lost new s e = cc
 
 ballooned_still : (new : Guest) → FinishedSo new → is_ballooned new.ballooned 16 ≡ true → ⊥
 ballooned_still new s e = grind arith
@@ -443,16 +438,13 @@ NotAfterReset page place = (new : Guest) → HonestStep
     (before_a_reset (posted both)) Reset [] Done new → place_of new.places page ≡ place → ⊥
 
 used_page_stranded : NotAfterReset 16 Stranded
-used_page_stranded new s e =
-    let q : Stranded ≡ Used = sym e ∙ ap (λ (g : Guest). place_of g.places 16) s.1.1 in cc
+used_page_stranded new s e = cc
 
 free_page_stranded : NotAfterReset 17 Stranded
-free_page_stranded new s e =
-    let q : Stranded ≡ FreePlace = sym e ∙ ap (λ (g : Guest). place_of g.places 17) s.1.1 in cc
+free_page_stranded new s e = cc
 
 lent_page_freed : NotAfterReset 18 FreePlace
-lent_page_freed new s e =
-    let q : FreePlace ≡ Stranded = sym e ∙ ap (λ (g : Guest). place_of g.places 18) s.1.1 in cc
+lent_page_freed new s e = cc
 
 -- where the guest tells the host its taking pages are stranded
 taking_pages_stranded : map (place_of (after_reset (asked Taking ready)).places)

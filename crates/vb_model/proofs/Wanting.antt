@@ -112,7 +112,6 @@ want frames Out (page ∷ pages) (GaveNoFrame ∷ claims) gives a r =
     ([], omega arith, λ x l. inl (gives.0 x l))
 want frames Out (page ∷ pages) (Gave f ∷ claims) gives a r =
     let more = want frames (λ x. Out x ⊎ (x ≡ f)) pages claims gives.3 a r in
-    let fewer : length more.0 < length pages = more.1 in
     (f ∷ more.0, omega arith, λ x l. later x more.0 (more.2 x l))
   where
     later : (x : ℕ) (got : List ℕ) → (Out x ⊎ (x ≡ f)) ⊎ (is_in x got ≡ true)
