@@ -7,7 +7,7 @@ use Rattle.vb_model.specs.{Device.next_page, Layout.{reserved_pages, ring_page},
 use Rattle.vb_model.specs.{Status.{contains, driver_ok}, Tables.{has_chains, has_unvisited}}
 use Rattle.vb_model.specs.declared.replies.{LastStatistics.LastStatistics, Refusal.Refusal}
 use Rattle.vb_model.specs.declared.replies.Refusal.TheVariants.{NotTaken, NotWorked}
-use Rattle.vb_ram.{specs.Pages.{Page, Pages, page_at}, specs.Part.{Part, QueuePart}}
+use Rattle.vb_ram.specs.{Pages.{Page, Pages, page_at}, Part.QueuePart}
 use Rattle.vb_ring.{specs.declared.layout.Layout.Layout, specs.Layout.{layout_of, IsBacked}}
 use Rattle.vb_ring.{specs.Ends.DeviceEnd, specs.Calls.AddsUsedBy}
 use Rattle.vb_device.specs.{Conditions.finish_refusal, Queues.{queue_end, with_queue}}
@@ -15,7 +15,7 @@ use Rattle.vb_device.specs.{QueueState.{QueueState, part_of, taken_refusal}, Bas
 use Rattle.vb_device.specs.Base.{queue_at, base_part, IsDeviceQueue, IsBase}
 use Rattle.vb_device.{specs.BaseCalls.{queue_refusal, UsesChain, CanUse}, proofs.Rings.backed_still}
 use Rattle.vb_device.{specs.Calls.without_frames, proofs.FourQueues.{part_get, part_set, set_here}}
-use Rattle.vb_device.proofs.{FourQueues.base_set, TakesBy.{finish_open, queue_finish, queue_known}}
+use Rattle.vb_device.proofs.{FourQueues.base_set, TakesBy.{finish_open, queue_known}}
 use Rattle.vb_device.proofs.{TakesBy.status_ok, Discards.{discarded-length, reserved_still}}
 use Rattle.vb_request.specs.Refusals.{readiness_refusal}
 

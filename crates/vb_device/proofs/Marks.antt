@@ -1,9 +1,8 @@
 -- Flags by page.
-use Rattle.std.specs.Prelude.{◌≡◌, ℕ, ◌+◌, ◌<◌, Bool, false, ◌==◌, List, [], length}
-use Rattle.std.{specs.Prelude.{refl, cond}, proofs.Math.ListN.{set, length-set}}
-use Rattle.std.proofs.Common.{sym, ◌∙◌, ap, arith, get_or, take, eq-eqb, inl, inr}
-use Rattle.std.{proofs.lemmas.Bool.cases_eq}
-use Rattle.std.proofs.lemmas.List.{ext_get_or, get_or-set_same, get_or-set_other}
+use Rattle.std.specs.Prelude.{◌≡◌, ℕ, ◌+◌, ◌<◌, Bool, false, ◌==◌, List, [], length, refl, cond}
+use Rattle.std.proofs.{Math.ListN.{set, length-set}, Common.{sym, ◌∙◌, ap, arith, get_or, take}}
+use Rattle.std.proofs.{Common.{eq-eqb, inl, inr}, lemmas.Bool.cases_eq, lemmas.List.ext_get_or}
+use Rattle.std.proofs.lemmas.List.{get_or-set_same, get_or-set_other}
 use Rattle.vb_model.{specs.Tests.{is_in}, proofs.Tables.{length-each_from, each_page-get}}
 use Rattle.vb_device.{specs.Discards.flagged, specs.BaseCalls.flags_after}
 use Rattle.vb_device.proofs.Discards.{in_more, or_true, or_false, not_equal}

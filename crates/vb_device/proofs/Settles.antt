@@ -1,17 +1,14 @@
 -- A finish by a device: a request is settled, and its chain is used.
-use Rattle.std.specs.Prelude.{◌≡◌, ℕ, ◌+◌, ◌%◌, ◌++◌, Bool, true, false, not, List, []}
-use Rattle.std.specs.Prelude.{Option, Some, None, Result, Ok, Err, refl}
-use Rattle.std.specs.Prelude.{if◌then◌else◌}
-use Rattle.std.{proofs.Common.{arith, ◌∙◌, ap}}
-use Rattle.vb_model.{specs.declared.replies.Refusal.Refusal, specs.Requests.Request}
-use Rattle.vb_model.specs.declared.replies.Refusal.TheVariants.{NoQueue}
-use Rattle.vb_model.specs.Tables.{is_queue_of_requests}
+use Rattle.std.specs.Prelude.{◌≡◌, ℕ, ◌+◌, ◌%◌, ◌++◌, Bool, true, false, not, List, [], Option}
+use Rattle.std.specs.Prelude.{Some, None, Result, Ok, Err, refl, if◌then◌else◌}
+use Rattle.std.proofs.Common.{arith, ◌∙◌, ap}
+use Rattle.vb_model.specs.{Requests.Request, Tables.is_queue_of_requests}
+use Rattle.vb_model.specs.declared.replies.Refusal.{Refusal, TheVariants.NoQueue}
 use Rattle.vb_ram.{specs.Pages.{Pages}, specs.Part.{Part, QueuePart}}
 use Rattle.vb_device.specs.Calls.{lost_frames, without_frames, settled, using, FinishesBy, Uses}
-use Rattle.vb_device.specs.BaseCalls.{SettlesBy, taken_out, UsesChain}
-use Rattle.vb_device.specs.Queues.{queue_part, with_queue, queue_end}
-use Rattle.vb_device.proofs.LooseFrames.{all_but_loose, lost_alone}
-use Rattle.vb_device.proofs.FourQueues.{at_requests}
+use Rattle.vb_device.specs.{BaseCalls.{SettlesBy, taken_out, UsesChain}, Queues.queue_part}
+use Rattle.vb_device.{specs.Queues.{with_queue, queue_end}, proofs.LooseFrames.all_but_loose}
+use Rattle.vb_device.proofs.{LooseFrames.lost_alone, FourQueues.at_requests}
 
 kind_of_finish : (a : Bool) (rest : Option Refusal) → (if not a then Some NoQueue else rest) ≡ None →
     a ≡ true
@@ -28,9 +25,8 @@ used_is : (q index : ℕ) (pages : List ℕ) (mem : Pages) (p : Part) → is_que
     record (settled q pages (using q index p)) { loose = p.loose ++ lost_frames q pages mem }
 used_is q index pages mem p known = grind (arith, at_requests)
 
-end_settled : (q index : ℕ) (pages : List ℕ) (mem : Pages) (p : Part) →
-    is_queue_of_requests q ≡ true →
-    queue_end q (settled q pages (taken_out q index pages mem p)) ≡ queue_end q p
+end_settled : (q index : ℕ) (pages : List ℕ) (mem : Pages) (p : Part) → is_queue_of_requests q
+    ≡ true → queue_end q (settled q pages (taken_out q index pages mem p)) ≡ queue_end q p
 end_settled q index pages mem p known =
     at_requests (λ n. queue_end n (settled n pages (taken_out n index pages mem p)) ≡ queue_end n p)
     refl refl refl q known

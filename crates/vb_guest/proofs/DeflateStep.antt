@@ -140,9 +140,8 @@ deflate_asks g n = grind arith
 pub deflate_step : (m1 m2 : Pages) (p1 p2 : Part) (d1 d2 : DriverState) (g : Guest) (n : ℕ)
     (result : Result PostedRequest Refusal) → DeflatesBy m1 m2 p1 p2 d1 d2 n result
     → Honest m1 p1 d1 g → StepsAlone (Honest m2 p2 d2) g (Deflate n) (posted_reply result)
-deflate_step m1 m2 p1 p2 d1 d2 g n result did stands =
-    in_words (λ d. DeflatesBy m1 m2 p1 p2 d d2 n result) m1 p1 d1 g stands did
-    (λ areas sides here at.
+deflate_step m1 m2 p1 p2 d1 d2 g n result did stands = in_words
+    (λ d. DeflatesBy m1 m2 p1 p2 d d2 n result) m1 p1 d1 g stands did (λ areas sides here at.
     let device = here.ties.parts.device in
     let same = refused_alike m1 p1 (driver_of g areas sides) g (Deflate n) _ here.ties.queues
     (deflate_idle (driver_of g areas sides) p1 g n device.status)
@@ -171,9 +170,8 @@ oom_asks g n = grind arith
 pub oom_step : (m1 m2 : Pages) (p1 p2 : Part) (d1 d2 : DriverState) (g : Guest) (n : ℕ)
     (result : Result PostedRequest Refusal) → DeflatesOnOomBy m1 m2 p1 p2 d1 d2 n result
     → Honest m1 p1 d1 g → StepsAlone (Honest m2 p2 d2) g (Oom n) (posted_reply result)
-oom_step m1 m2 p1 p2 d1 d2 g n result did stands =
-    in_words (λ d. DeflatesOnOomBy m1 m2 p1 p2 d d2 n result) m1 p1 d1 g stands did
-    (λ areas sides here at.
+oom_step m1 m2 p1 p2 d1 d2 g n result did stands = in_words
+    (λ d. DeflatesOnOomBy m1 m2 p1 p2 d d2 n result) m1 p1 d1 g stands did (λ areas sides here at.
     let device = here.ties.parts.device in
     let same = refused_alike m1 p1 (driver_of g areas sides) g (Oom n) _ here.ties.queues
     (oom_idle (driver_of g areas sides) p1 g n device.status)

@@ -74,8 +74,7 @@ pub bare_scribbled : (keeps : Bool) (Answers : List Bool → Claim → Type 0) (
     → StepsOver (Stands keeps m2 p2 d) Answers (supply_of p1 out1) (supply_of p2 out2) claims g
     (Scribble page off bs) (done_reply r)
 bare_scribbled keeps Answers out1 out2 m1 m2 p1 p2 d g claims page off bs r stands covers some bare
-    fills =
-    filled r fills
+    fills = filled r fills
     (λ n m claimed supplied wrote. scribble_supplied keeps Answers out1 out2 m1 m m2 p1 p2 d
     g page off n bs claimed stands covers some bare supplied wrote fills.part)
     (λ why claimed same. scribble_unsupplied keeps Answers out1 out2 m1 m2 p1 p2 d g page off bs why

@@ -112,9 +112,8 @@ by_result m1 m2 p1 p2 g areas sides d2 n (Ok posted) did stands same =
 pub inflate_step : (m1 m2 : Pages) (p1 p2 : Part) (d1 d2 : DriverState) (g : Guest) (n : ℕ)
     (result : Result PostedRequest Refusal) → InflatesBy m1 m2 p1 p2 d1 d2 n result
     → Honest m1 p1 d1 g → StepsAlone (Honest m2 p2 d2) g (Inflate n) (posted_reply result)
-inflate_step m1 m2 p1 p2 d1 d2 g n result did stands =
-    in_words (λ d. InflatesBy m1 m2 p1 p2 d d2 n result) m1 p1 d1 g stands did
-    (λ areas sides here at.
+inflate_step m1 m2 p1 p2 d1 d2 g n result did stands = in_words
+    (λ d. InflatesBy m1 m2 p1 p2 d d2 n result) m1 p1 d1 g stands did (λ areas sides here at.
     let device = here.ties.parts.device in
     let same = refused_alike m1 p1 (driver_of g areas sides) g (Inflate n) _ here.ties.queues
     (inflate_idle (driver_of g areas sides) p1 g n device.status)

@@ -1,4 +1,4 @@
-use Rattle.std.proofs.Common.{◌≡◌, ◌-◌, ◌*◌, ◌/◌, ◌<◌, ℕ, List, Bool, true, length, ltb, replicate}
+use Rattle.std.proofs.Common.{◌≡◌, ◌-◌, ◌*◌, ◌/◌, ℕ, List, Bool, true, length, ltb, replicate}
 use Rattle.std.proofs.Common.{set, subst, sym, ap, ◌∙◌, arith, refl, ◌∷◌, []}
 use Rattle.vb_bits.specs.Words.{flags_of, AreWordsOf}
 use Rattle.vb_bits.proofs.Words.{bound_is, filled, filled_flags}

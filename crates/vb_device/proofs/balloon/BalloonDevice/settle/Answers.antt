@@ -5,10 +5,9 @@ use Rattle.vb_model.{specs.Status.{contains, driver_ok}, specs.Requests.Request}
 use Rattle.vb_ram.specs.Pages.{Pages}
 use Rattle.vb_status.specs.Bits.{status_bits, feature_bits}
 use Rattle.vb_device.proofs.Finishes.{without_taken, base_used, has_pages, can_use, kept_length}
-use Rattle.vb_device.proofs.TakesBy.{queue_known, queue_status, status_ok}
-use Rattle.vb_device.{specs.BaseCalls.queue_refusal, proofs.Marks.after-length}
-use Rattle.vb_device.{specs.Base.{queue_at, IsBase}, specs.State.DeviceState}
-use Rattle.vb_device.{specs.QueueState.QueueState, proofs.FourQueues.entry_is}
+use Rattle.vb_device.proofs.{FourQueues.entry_is, Marks.after-length, TakesBy.queue_known}
+use Rattle.vb_device.{proofs.TakesBy.{queue_status, status_ok}, specs.Base.{queue_at, IsBase}}
+use Rattle.vb_device.specs.{BaseCalls.queue_refusal, QueueState.QueueState, State.DeviceState}
 use Rattle.vb_device.proofs.balloon.BalloonDevice.settle.Goals as goal
 
 pub invariant_of-self : goal.invariant_of-self
@@ -23,11 +22,10 @@ invariant_of-self g c = let q : ℕ = c.args.queue in
     let there : slice_get (queue_at q qs).taken c.args.index ≡ Some r =
     ap (λ (x : QueueState). slice_get x.taken c.args.index) (sym (at c.index-self-place.result))
     ∙ c.in_ok-request.ensures.value in
-    let here = ap (λ (x : QueueState). slice_get x.taken c.args.index) (at c.index-self-place-2.result)
-    ∙ there in
-    let count : length c.take_out.new.ram ≡ length c.self.inside.ram =
-    ap (λ (m : Pages). length m) (c.take_out.ensures.mem r here)
-    ∙ kept_length q r.pages c.self.inside.ram in
+    let here = ap
+    (λ (x : QueueState). slice_get x.taken c.args.index) (at c.index-self-place-2.result) ∙ there in
+    let count : length c.take_out.new.ram ≡ length c.self.inside.ram = ap (λ (m : Pages). length m)
+    (c.take_out.ensures.mem r here) ∙ kept_length q r.pages c.self.inside.ram in
     let left : c.take_out.new.self ≡ without_taken (queue_at q qs) c.args.index =
     c.take_out.ensures.taken
     ∙ ap (λ (x : QueueState). without_taken x c.args.index) (at c.index-self-place-2.result) in (

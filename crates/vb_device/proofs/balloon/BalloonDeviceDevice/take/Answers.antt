@@ -2,23 +2,20 @@ use Rattle.std.{proofs.Common.{arith, ℕ, ◌≡◌, true, None, sym, subst}, s
 use Rattle.std.proofs.Math.ListN.{set}
 use Rattle.vb_model.{specs.declared.replies.LastStatistics.LastStatistics, specs.Tables.has_chains}
 use Rattle.vb_status.specs.Bits.{status_bits, feature_bits}
-use Rattle.vb_request.specs.declared.statistics.Statistics.{Statistics}
-use Rattle.vb_request.specs.Refusals.{take_refusal_by}
+use Rattle.vb_request.specs.{declared.statistics.Statistics.Statistics, Refusals.take_refusal_by}
 use Rattle.vb_device.proofs.TakesBy.{takes_refused, takes_at, base_kept, take_known, take_ready}
 use Rattle.vb_device.{proofs.TakesBy.status_ok, specs.Base.{queue_at, index_of, base_part, IsBase}}
 use Rattle.vb_device.{specs.QueueState.TakesNext, proofs.FourQueues.entry_is, specs.Calls.TakesBy}
 use Rattle.vb_device.{proofs.FromNext.keeps_ring, specs.State.DeviceState}
-use Rattle.vb_device.proofs.balloon.BalloonDeviceDevice.take.Goals.{After-take-taken}
-use Rattle.vb_device.proofs.balloon.BalloonDeviceDevice.take.Given.{Over}
+use Rattle.vb_device.proofs.balloon.BalloonDeviceDevice.take.{Goals.After-take-taken, Given.Over}
 use Rattle.vb_device.proofs.balloon.BalloonDeviceDevice.take.Goals as goal
 
 abbrev was : Statistics → LastStatistics
 was last = record { free = last.free; total = last.total }
 
 pub returns-in-Some : goal.returns-in-Some
-returns-in-Some g c =
-    takes_refused c.args.queue c.args.self.now.mem c.args.self.now.part c.in-Some.why
-    (sym c.in-Some.ensures)
+returns-in-Some g c = takes_refused
+    c.args.queue c.args.self.now.mem c.args.self.now.part c.in-Some.why (sym c.in-Some.ensures)
 
 -- the call isn't refused, and what its queue says next is taken
 takes_next : (g : Over) (c : After-take-taken g)
