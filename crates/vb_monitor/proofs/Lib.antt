@@ -6,6 +6,7 @@ pub mod BufferLemmas
 pub mod NextLemmas
 pub mod UsualLemmas
 pub mod GoesLemmas
+pub mod LeftLemmas
 pub mod OrderLemmas
 pub mod GivenLemmas
 pub mod RowLemmas

@@ -1,5 +1,5 @@
 -- What each phase of a notice does, comes to, and leaves, worked out.
-use Rattle.std.proofs.Common.{◌≡◌, refl, ap, arith, ℕ, ◌≤◌, true, false, List, [], ◌∷◌, map, length, Option, Some, None}
+use Rattle.std.proofs.Common.{◌≡◌, refl, ap, arith, ℕ, ◌+◌, ◌*◌, ◌≤◌, true, false, List, [], ◌∷◌, map, length, Option, Some, None}
 use Rattle.vb_chain.specs.declared.pieces.Piece.{Piece}
 use Rattle.vb_core.specs.declared.{kinds.Kind.TheVariants.{Inflate, Deflate}, runs.Run.Run}
 use Rattle.vb_core.specs.declared.{name.Named.Named, device.Denial.TheVariants.NotReady}
@@ -15,6 +15,7 @@ use Rattle.vb_monitor.specs.declared.step.Phase.TheVariants.{AwaitsIndex, Awaits
 use Rattle.vb_monitor.specs.declared.step.Phase.TheVariants.{TellsPages, TellsFigures, Discards, GivesBack, AwaitsFlags, Ended}
 use Rattle.vb_monitor.specs.Accesses.{Access, Adds, ReadWord, CopyBytes, Acquire, Release, Full, TellPages, TellFigures}
 use Rattle.vb_monitor.specs.Machine.{Room, room_of, behind_part, cuts_behind, is_ended, stage, waits, outcome_at, Fits, Does, Goes}
+use Rattle.vb_monitor.specs.Left.{parts_left, of_chains, left_of, left}
 use Rattle.vb_monitor.proofs.Samples.{Same, two, at, tally, ring, page_5, one_page, over_the_hole, cut_5, cut_20, cut_22, last_descriptor, number, index, entry, discard, id, used_length, used_index, flags}
 
 -- ---- the phases
@@ -63,6 +64,33 @@ outcomes = refl
 as_it_ended : outcome_at (Ended (Some NotReady) false true) (record tally { pages = 2 }) ≡
     Some (record { tally = record tally { pages = 2 }; why = Some NotReady; interrupt = false; more = true })
 as_it_ended = refl
+
+-- what is left of a chain, over two regions: 516 once its pages are named, 1029 once it is whole, and
+-- 1287 before its entry is read
+left_of_each : map (left_of two) phases ≡
+    2 ∷ 1287 ∷ 1286 ∷ 1029 ∷ 516 ∷ 2 ∷ 515 ∷ 3 ∷ 1 ∷ 0 ∷ []
+unfolding parts_left
+left_of_each = refl
+
+one_piece_later : left_of two (AwaitsPart (at 0x400) (record place { piece = 1; is_second = true })) ≡ 1026
+one_piece_later = refl
+
+one_descriptor_later : left_of two (AwaitsDescriptor (at 0x30) (record walk { count = 1 })) ≡ 1285
+one_descriptor_later = refl
+
+-- of the last of 256 runs no part is left behind both regions, and of the one before it two
+of_the_last_run : parts_left 2 255 2 ≡ 0
+unfolding parts_left
+of_the_last_run = refl
+
+of_the_run_before : parts_left 2 254 2 ≡ 2
+unfolding parts_left
+of_the_run_before = refl
+
+-- each chain of the budget counts
+left_of_all : left two (record { tally = tally; phase = AwaitsIndex (at 0x102) }) ≡ 8 * 1287 + 2
+unfolding of_chains
+left_of_all = refl
 
 -- ---- what fits
 

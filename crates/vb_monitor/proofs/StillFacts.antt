@@ -1,11 +1,12 @@
 -- Memory that stays as it is, its copies, and what is done as is answered to them, worked out.
-use Rattle.std.proofs.Common.{◌≡◌, refl, ap, arith, ℕ, false, true, List, [], ◌∷◌, ◌++◌, Option, Some, None, Ok, Err}
+use Rattle.std.proofs.Common.{◌≡◌, ◌∙◌, refl, ap, arith, length, length-append, ℕ, false, true, List, [], ◌∷◌, ◌++◌, Option, Some, None, Ok, Err}
 use Rattle.vb_core.specs.declared.device.Denial.{Denial, TheVariants.{NotReady, NeedsReset}}
 use Rattle.vb_core.specs.declared.{device.Device.Device, kinds.Kind.TheVariants.Inflate}
-use Rattle.vb_monitor.specs.{Accesses.{Access, ReadWord, CopyBytes, Acquire}, Ends.Whole}
+use Rattle.vb_core.specs.declared.{report.Reported.Reported}
+use Rattle.vb_monitor.specs.{Accesses.{Access, ReadWord, CopyBytes, Acquire, TellPages}, Ends.Whole}
 use Rattle.vb_monitor.specs.{Machine.whole, Still.{bytes_from, Holds, Stays, IsMapped, avail_copy}}
-use Rattle.vb_monitor.specs.Still.{table_copy, Behind, DoesAs, bytes_of, ArePartsMapped}
-use Rattle.vb_monitor.proofs.Samples.{Same, two, at, ring, ready, tally, index, discard}
+use Rattle.vb_monitor.specs.Still.{table_copy, Behind, DoesAs, ReportsAs, bytes_of, ArePartsMapped}
+use Rattle.vb_monitor.proofs.Samples.{Same, two, at, ring, ready, tally, index, discard, page_5, one_page, pages}
 
 -- each byte is the lowest of its address; all are 0
 abbrev own : ℕ → ℕ
@@ -125,3 +126,45 @@ joined (x ∷ xs) rest e f = absurd cc
 
 behind_nothing : Behind Rest [] → ⊥
 behind_nothing h = joined h.read h.rest h.all h.is
+
+-- ---- reports
+
+abbrev reported : Reported
+reported = record { head = 3; runs = 1; pages = 1 }
+
+report_refused : ReportsAs (Err NotReady) [] (over (Some NotReady) ready) tally ready []
+report_refused = (refl, refl)
+
+none_reported : ReportsAs (Ok None) [] (over None ready) tally ready []
+none_reported = (refl, refl)
+
+refused_although_none_is_reported : ReportsAs (Ok None) [] (over (Some NotReady) ready) tally ready [] → ⊥
+refused_although_none_is_reported h = let e = h.0 in absurd cc
+
+another_device_then : ReportsAs (Ok None) [] (over None ready) tally (record ready { target = 9 }) [] → ⊥
+another_device_then h = let e : Same 0 9 = ap (λ (d : Device). d.target) h.1 in omega arith
+
+told_in : (read rest more : List Access) (x : Access) → [] ≡ read ++ rest → rest ≡ x ∷ more → ⊥
+told_in [] rest more x e f = absurd cc
+told_in (y ∷ ys) rest more x e f = absurd cc
+
+untold : (w : Whole) (d : Device) → ReportsAs (Ok (Some reported)) (page_5 ∷ []) w tally d [] → ⊥
+untold w d h = told_in h.read h.rest h.is.rest _ h.all h.is.asks
+
+-- the pages of the report, and no others
+abbrev first_told : List Access → ℕ
+first_told (TellPages kind (run ∷ more) count ∷ xs) = run.first
+first_told xs = 0
+
+abbrev page_9 : Access
+page_9 = TellPages Inflate (record { first = 9; count = 1 } ∷ []) one_page
+
+others_in : (read rest more : List Access) → page_9 ∷ [] ≡ read ++ rest → rest ≡ pages ∷ more → ⊥
+others_in [] rest more e f = let x : Same 9 5 = ap first_told (e ∙ f) in omega arith
+others_in (x ∷ read) rest more e f =
+    let all = ap (λ (l : List Access). length l) e in
+    let some = ap (λ (l : List Access). length l) f in
+    omega (arith, all, some, length-append read rest)
+
+others_told : (d : Device) → ReportsAs (Ok (Some reported)) (page_5 ∷ []) (over None ready) tally d (page_9 ∷ []) → ⊥
+others_told d h = others_in h.read h.rest h.is.rest h.all h.is.asks

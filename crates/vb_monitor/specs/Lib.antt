@@ -6,6 +6,7 @@ pub mod Pieces
 pub mod Chains
 pub mod Notices
 pub mod Machine
+pub mod Left
 pub mod Orders
 pub mod Sole
 pub mod Single

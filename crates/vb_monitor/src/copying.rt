@@ -9,6 +9,10 @@ ghost use Rattle.vb_monitor.specs.Accesses.{Access};
 ghost use Rattle.vb_monitor.specs.declared.room.TheConstants.{MAX_BYTES};
 ghost use Rattle.vb_monitor.specs.Pieces.{pieces_in, PartBy, fits_behind, CopiesParts, all_parts};
 ghost use Rattle.vb_monitor.specs.Machine.{Fits, Room, Ahead, whole, room_of, served, behind_part};
+ghost use Rattle.vb_monitor.specs.Left.{left, of_chains, once_named};
+ghost use Rattle.vb_model.specs.declared.limits.TheConstants.{MAX_QUEUE_SIZE};
+ghost use Rattle.vb_model.specs.Tests.{one_if};
+ghost use Rattle.std.specs.Prelude.{◌-◌, ◌*◌};
 
 use crate::ends::fail;
 use crate::naming::serve_bytes;
@@ -40,6 +44,10 @@ fn ask_part(
         device.old tally
         part (take place.into room.bytes) log }
     ensures fits { Fits result.phase }
+    ensures left { left regions.now result ≤
+        of_chains regions.now tally.chains
+        + (once_named regions.now + 1 + (2 * MAX_QUEUE_SIZE - (2 * place.piece + one_if
+        place.is_second))) }
 {
     let into = place.into.min(MAX_BYTES);
     if part.length as usize > MAX_BYTES - into {
@@ -95,6 +103,9 @@ pub(crate) fn copy_on(
         (all_parts (drop place.piece (pieces_in (take place.count pieces.now))))
         (take place.into bytes.now) log }
     ensures fits { Fits result.phase }
+    ensures left { left regions.now result ≤
+        of_chains regions.now tally.chains
+        + (once_named regions.now + 1 + (2 * MAX_QUEUE_SIZE - 2 * place.piece)) }
 {
     match next_part(first_pieces(pieces, place.count), place.piece) {
         None => {
@@ -136,6 +147,9 @@ fn copy_second(
         (behind_part false place.piece (pieces_in (take place.count pieces.now)))
         (take place.into bytes.now) log }
     ensures fits { Fits result.phase }
+    ensures left { left regions.now result ≤
+        of_chains regions.now tally.chains
+        + (once_named regions.now + (2 * MAX_QUEUE_SIZE - 2 * place.piece)) }
 {
     let part = second_part(&first_pieces(pieces, place.count)[place.piece]);
     if part.length > 0 {
@@ -176,6 +190,10 @@ pub fn after_part(
         (behind_part place.is_second place.piece (pieces_in (take place.count pieces.now)))
         (take (place.into + place.length) bytes.now) log }
     ensures fits { Fits result.phase }
+    ensures left { left regions.now result ≤
+        of_chains regions.now tally.chains
+        + (once_named regions.now + (2 * MAX_QUEUE_SIZE - (2 * place.piece + one_if
+        place.is_second))) }
 {
     let into = place.into + place.length as usize;
     if place.piece >= first_pieces(pieces, place.count).len() {

@@ -3,6 +3,9 @@
 ghost use Rattle.std.specs.Prelude.{◌≡◌, ◌+◌, ◌<◌, ◌∷◌, [], true, drop, length, MatchOption};
 ghost use Rattle.vb_monitor.specs.Regions.{cut_of, meets, cuts_from, cuts_of};
 ghost use Rattle.vb_monitor.specs.Machine.{cuts_behind};
+ghost use Rattle.vb_monitor.specs.Left.{parts_left};
+ghost use Rattle.vb_monitor.specs.declared.room.TheConstants.{MAX_RUNS};
+ghost use Rattle.std.specs.Prelude.{◌≤◌, IfSome, ◌-◌, ◌*◌};
 
 use crate::Region;
 use crate::regions::PAGE_BYTES;
@@ -60,7 +63,8 @@ fn cut_of(number: usize, region: &Region, run: Run) -> Cut
 #[inline(always)]
 pub(crate) fn next_cut(regions: &[Region], from: usize, run: Run) -> Option<Cut>
     ensures { MatchOption result (cuts_from from (drop from regions.now) run ≡ [])
-        (λ cut. (cut.region < length regions.now) × (cuts_from from (drop from regions.now) run ≡
+        (λ cut. (cut.region < length regions.now) × (from ≤ cut.region) ×
+        (cuts_from from (drop from regions.now) run ≡
         cut ∷ cuts_from (cut.region + 1) (drop (cut.region + 1) regions.now) run)) }
 {
     for number in from..regions.len() {
@@ -87,9 +91,11 @@ pub struct NextCut {
 #[tactic(auto, using(crate::proofs::RegionLemmas::run_steps))]
 #[inline(always)]
 pub(crate) fn first_cut(regions: &[Region], runs: &[Run], from: usize) -> Option<NextCut>
-    ensures { MatchOption result (cuts_of regions.now (drop from runs.now) ≡ [])
+    ensures parts { MatchOption result (cuts_of regions.now (drop from runs.now) ≡ [])
         (λ x. cuts_of regions.now (drop from runs.now) ≡
         x.cut ∷ cuts_behind x.from x.run regions.now runs.now) }
+    ensures within { IfSome result (λ x. (from ≤ x.run) × (x.run < length runs.now) ×
+        (1 ≤ x.from) × (x.from ≤ length regions.now)) }
 {
     for run in from..runs.len() {
         if let Some(cut) = next_cut(regions, 0, runs[run]) {
@@ -108,9 +114,11 @@ pub(crate) fn cut_behind(
     run: usize,
     from: usize,
 ) -> Option<NextCut>
-    ensures { MatchOption result (cuts_behind from run regions.now runs.now ≡ [])
+    ensures parts { MatchOption result (cuts_behind from run regions.now runs.now ≡ [])
         (λ x. cuts_behind from run regions.now runs.now ≡
         x.cut ∷ cuts_behind x.from x.run regions.now runs.now) }
+    ensures fewer { length runs.now ≤ MAX_RUNS → IfSome result (λ x.
+        parts_left (length regions.now) x.run x.from < parts_left (length regions.now) run from) }
 {
     if run >= runs.len() {
         return None;

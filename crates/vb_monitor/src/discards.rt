@@ -12,6 +12,9 @@ ghost use Rattle.vb_core.specs.Config.{keeps_reports};
 ghost use Rattle.vb_monitor.specs.Giving.{cuts_for, DiscardsThen};
 ghost use Rattle.vb_monitor.specs.Machine.{Fits, stage, Ahead, whole, room_of, next_chain};
 ghost use Rattle.vb_monitor.specs.Machine.{cuts_behind};
+ghost use Rattle.vb_monitor.specs.Left.{left, of_chains, parts_left};
+ghost use Rattle.vb_monitor.specs.declared.room.TheConstants.{MAX_RUNS};
+ghost use Rattle.std.specs.Prelude.{◌-◌, ◌*◌, ◌+◌, length};
 
 use crate::cuts::{cut_behind, first_cut};
 use crate::giving::give_back;
@@ -48,6 +51,8 @@ fn discard_on(
         (cuts_of regions.now (drop from (take count runs.now))) log }
     ensures fits { Fits result.phase }
     ensures stage { 1 ≤ stage result.phase }
+    ensures left { left regions.now result ≤
+        of_chains regions.now tally.chains + (3 + (MAX_RUNS - from) * length regions.now) }
 {
     match first_cut(regions, first_runs(runs, count as usize), from) {
         None => give_back(device, regions, kind, tally, head),
@@ -90,6 +95,8 @@ pub(crate) fn after_told(
         (cuts_for kind (keeps_reports device.old) regions.now (take count runs.now)) log }
     ensures fits { Fits result.phase }
     ensures stage { 1 ≤ stage result.phase }
+    ensures left { left regions.now result ≤
+        of_chains regions.now tally.chains + (3 + MAX_RUNS * length regions.now) }
 {
     if kind == Kind::Report && device.keeps_reports() {
         return give_back(device, regions, kind, tally, head);
@@ -120,6 +127,9 @@ pub(crate) fn after_discard(
         (cuts_behind discarding.from discarding.run regions.now
         (take discarding.runs runs.now)) log }
     ensures fits { Fits result.phase }
+    ensures left { left regions.now result ≤
+        of_chains regions.now tally.chains
+        + (3 + parts_left (length regions.now) discarding.run discarding.from) }
 {
     let Discarding {
         head,

@@ -6,6 +6,9 @@ ghost use Rattle.vb_monitor.specs.declared.outcome.Outcome.{Outcome};
 ghost use Rattle.vb_monitor.specs.Accesses.{Access};
 ghost use Rattle.vb_monitor.specs.Ends.{Whole, wants_interrupt, Ends, Breaks, Stops};
 ghost use Rattle.vb_monitor.specs.Machine.{Fits, stage, Room, Ahead, whole};
+ghost use Rattle.vb_monitor.specs.Left.{left, of_chains};
+ghost use Rattle.vb_monitor.specs.declared.regions.Region.{Region};
+ghost use Rattle.std.specs.Prelude.{◌+◌, ◌≤◌};
 
 use crate::regions::find;
 use crate::{Phase, Region, Step, Tally};
@@ -21,6 +24,8 @@ pub(crate) fn stop(tally: Tally, why: Option<Denial>, interrupt: bool, more: boo
         Ahead w result d room log → Stops w d tally why interrupt more log }
     ensures fits { Fits result.phase }
     ensures stage { stage result.phase ≡ 3 }
+    ensures left { (regions : List Region) →
+        left regions result ≤ of_chains regions tally.chains }
 {
     Step {
         tally,
@@ -48,6 +53,7 @@ pub fn end(
         Ends (whole regions.now kind after outcome) device.now tally why more log }
     ensures fits { Fits result.phase }
     ensures stage { stage result.phase ≡ 3 }
+    ensures left { left regions.now result ≤ of_chains regions.now tally.chains + 1 }
 {
     if !tally.given {
         return stop(tally, why, false, more);
@@ -75,6 +81,7 @@ pub(crate) fn fail(
         Breaks (whole regions.now kind after outcome) device.old tally fault log }
     ensures fits { Fits result.phase }
     ensures stage { stage result.phase ≡ 3 }
+    ensures left { left regions.now result ≤ of_chains regions.now tally.chains + 1 }
 {
     device.note_fault();
     end(
@@ -92,6 +99,8 @@ pub(crate) fn after_flags(tally: Tally, why: Option<Denial>, more: bool, flags: 
     ensures step { (w : Whole) (d : Device) (room : Room) (log : List Access) →
         Ahead w result d room log → Stops w d tally why (wants_interrupt flags) more log }
     ensures fits { Fits result.phase }
+    ensures left { (regions : List Region) →
+        left regions result ≤ of_chains regions tally.chains }
 {
     stop(tally, why, flags & NO_INTERRUPT == 0, more)
 }

@@ -6,6 +6,7 @@ ghost use Rattle.vb_monitor.specs.declared.outcome.Outcome.{Outcome};
 ghost use Rattle.vb_monitor.specs.Accesses.{Access};
 ghost use Rattle.vb_monitor.specs.Giving.{GivesBack, used_spots};
 ghost use Rattle.vb_monitor.specs.Machine.{Fits, stage, Room, Ahead, whole, next_chain};
+ghost use Rattle.vb_monitor.specs.Left.{left, of_chains};
 
 use crate::ends::{end, fail};
 use crate::regions::find_from;
@@ -110,6 +111,7 @@ pub(crate) fn give_back(
         (next_chain (whole regions.now kind after outcome) tally) device.old tally head log }
     ensures fits { Fits result.phase }
     ensures stage { 2 ≤ stage result.phase }
+    ensures left { left regions.now result ≤ of_chains regions.now tally.chains + 3 }
 {
     match device.use_chain(kind, u32::from(head)) {
         Err(why) => end(device, regions, kind, tally, Some(why), false),

@@ -8,6 +8,8 @@ ghost use Rattle.vb_monitor.specs.Accesses.{Access};
 ghost use Rattle.vb_monitor.specs.Notices.{entry_offset, stands, AfterEntry, AfterIndex, Looks};
 ghost use Rattle.vb_monitor.specs.Notices.{TakesChain, TakesNext, AfterGiven};
 ghost use Rattle.vb_monitor.specs.Machine.{Fits, stage, Room, Ahead, whole, next_chain};
+ghost use Rattle.vb_monitor.specs.Left.{left, of_chains, of_chain, once_copied};
+ghost use Rattle.std.specs.Prelude.{◌≤◌};
 
 use crate::ends::{end, fail};
 use crate::regions::find_from;
@@ -48,6 +50,7 @@ pub(crate) fn look(device: &mut Device, regions: &[Region], kind: Kind, tally: T
         Looks tally.chains (whole regions.now kind after outcome) device.old tally log }
     ensures fits { Fits result.phase }
     ensures stage { stage result.phase ≡ 3 }
+    ensures left { left regions.now result ≤ of_chains regions.now tally.chains + 2 }
 {
     match device.queue_denial(kind) {
         Some(why) => end(device, regions, kind, tally, Some(why), false),
@@ -68,6 +71,8 @@ fn ask_entry(device: &mut Device, regions: &[Region], kind: Kind, tally: Tally) 
         TakesChain (whole regions.now kind after outcome)
         (next_chain (whole regions.now kind after outcome) tally) device.old tally log }
     ensures fits { Fits result.phase }
+    ensures left { left regions.now result ≤
+        of_chains regions.now tally.chains + of_chain regions.now }
 {
     let ring = device.ring(kind);
     match find_from(regions, ring.avail, entry_offset(&ring), 2) {
@@ -86,6 +91,7 @@ fn take(device: &mut Device, regions: &[Region], kind: Kind, tally: Tally) -> St
         Ahead (whole regions.now kind after outcome) result device.new room log →
         TakesNext tally.chains (whole regions.now kind after outcome) device.old tally log }
     ensures fits { Fits result.phase }
+    ensures left { left regions.now result ≤ of_chains regions.now tally.chains + 1 }
 {
     if tally.chains == 0 {
         return end(device, regions, kind, tally, None, true);
@@ -114,6 +120,7 @@ pub(crate) fn after_index(
         (TakesNext tally.chains (whole regions.now kind after outcome) device.old tally)
         device.old tally log }
     ensures fits { Fits result.phase }
+    ensures left { left regions.now result ≤ of_chains regions.now tally.chains + 1 }
 {
     match stands(&device.ring(kind), index) {
         Err(fault) => fail(device, regions, kind, tally, fault),
@@ -141,6 +148,8 @@ pub(crate) fn after_entry(
         AfterEntry (whole regions.now kind after outcome)
         (next_chain (whole regions.now kind after outcome) tally) device.old tally head log }
     ensures fits { Fits result.phase }
+    ensures left { left regions.now result ≤
+        of_chains regions.now tally.chains + (once_copied regions.now 0 + 1) }
 {
     if head >= descriptors(&device.ring(kind)) {
         return fail(device, regions, kind, tally, ChainFault::BadHead);
@@ -161,6 +170,7 @@ pub(crate) fn after_given(device: &mut Device, regions: &[Region], kind: Kind, t
         (Looks tally.chains (whole regions.now kind after outcome)) device.old tally log }
     ensures fits { Fits result.phase }
     ensures stage { stage result.phase ≡ 3 }
+    ensures left { left regions.now result ≤ of_chains regions.now tally.chains + 2 }
 {
     match kind {
         Kind::Statistics => end(device, regions, kind, tally, None, false),

@@ -15,6 +15,8 @@ ghost use Rattle.vb_monitor.specs.Giving.{spent};
 ghost use Rattle.vb_monitor.specs.Pieces.{pieces_in};
 ghost use Rattle.vb_monitor.specs.Chains.{NamesBytes, NamesReport, FiguresBy, CopiesBy};
 ghost use Rattle.vb_monitor.specs.Machine.{Fits, Ahead, whole, room_of, next_chain, serves, served};
+ghost use Rattle.vb_monitor.specs.Left.{left, of_chains, once_named, once_whole};
+ghost use Rattle.std.specs.Prelude.{◌+◌};
 
 use crate::copying::copy_on;
 use crate::ends::{end, fail};
@@ -59,6 +61,8 @@ fn name_bytes(
         (next_chain (whole regions.now kind after outcome) tally)
         device.old tally head bytes.now log }
     ensures fits { Fits result.phase }
+    ensures left { left regions.now result ≤
+        of_chains regions.now tally.chains + once_named regions.now }
 {
     match device.name(kind, bytes, runs) {
         Err(why) => end(device, regions, kind, tally, Some(why), false),
@@ -86,6 +90,8 @@ fn name_report(
         (next_chain (whole regions.now kind after outcome) tally)
         device.old tally head (pieces_in chain.now) log }
     ensures fits { Fits result.phase }
+    ensures left { left regions.now result ≤
+        of_chains regions.now tally.chains + once_named regions.now }
 {
     match report_named(device, chain, runs) {
         Err(why) => end(device, regions, kind, tally, Some(why), false),
@@ -110,6 +116,7 @@ fn keep_figures(
         FiguresBy (statistics_denial (length bytes.now) MAX_FIGURES device.old)
         (whole regions.now kind after outcome) device.old tally head bytes.now log }
     ensures fits { Fits result.phase }
+    ensures left { left regions.now result ≤ of_chains regions.now tally.chains + 2 }
 {
     match device.statistics(bytes, figures) {
         Err(why) => end(device, regions, kind, tally, Some(why), false),
@@ -141,6 +148,8 @@ pub(crate) fn serve_bytes(
         (room_of pieces all runs.new figures.new) log →
         served (whole regions.now kind after outcome) tally device.old head bytes.now log }
     ensures fits { Fits result.phase }
+    ensures left { left regions.now result ≤
+        of_chains regions.now tally.chains + once_named regions.now }
 {
     match kind {
         Kind::Statistics => keep_figures(device, regions, kind, tally, head, bytes, figures),
@@ -170,6 +179,8 @@ pub(crate) fn serve_pieces(
         serves (whole regions.now kind after outcome) tally device.old head
         (pieces_in (take count pieces.now)) log }
     ensures fits { Fits result.phase }
+    ensures left { left regions.now result ≤
+        of_chains regions.now tally.chains + once_whole regions.now }
 {
     let chain = first_pieces(pieces, count);
     let place = Place {

@@ -10,6 +10,8 @@ ghost use Rattle.vb_monitor.specs.Accesses.{Access};
 ghost use Rattle.vb_monitor.specs.Notices.{Serves, AsksStatistics};
 ghost use Rattle.vb_monitor.specs.Machine.{Fits, is_ended, Room, Ahead, Does, whole};
 ghost use Rattle.vb_monitor.specs.Machine.{room_of, outcome_at, is_discarding, Awaited};
+ghost use Rattle.vb_monitor.specs.Left.{left};
+ghost use Rattle.std.specs.Prelude.{◌<◌, false};
 
 use crate::copying::after_part;
 use crate::discards::{after_discard, after_told};
@@ -51,6 +53,8 @@ fn advance(
         Ahead (whole regions.now kind after outcome) step.now device.old
         (room_of pieces.old before runs.old figures.old) (done ++ rest) }
     ensures fits { Fits result.phase }
+    ensures left { is_ended step.now.phase ≡ false →
+        left regions.now result < left regions.now step.now }
 {
     let tally = step.tally;
     match step.phase {
@@ -146,6 +150,8 @@ impl Notice {
             Ahead (whole regions.now self.old.kind after outcome) self.old.step device.old
             (room_of pieces.old before runs.old figures.old) (done ++ rest) }
         ensures fits { Fits self.new.step.phase }
+        ensures left { is_ended self.old.step.phase ≡ false →
+            left regions.now self.new.step < left regions.now self.old.step }
     {
         let kind = self.kind;
         self.step = advance(

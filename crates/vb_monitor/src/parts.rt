@@ -3,6 +3,7 @@
 ghost use Rattle.std.specs.Prelude.{◌≡◌, ◌∷◌, [], false, drop, MatchOption};
 ghost use Rattle.vb_monitor.specs.Pieces.{piece_in, pieces_in, first_part, second_part, all_parts};
 ghost use Rattle.vb_monitor.specs.Machine.{behind_part};
+ghost use Rattle.std.specs.Prelude.{◌≤◌, ◌<◌, IfSome, length};
 
 use crate::regions::PAGE_BYTES;
 use vb_core::ChainPiece;
@@ -54,9 +55,10 @@ pub(crate) struct NextPart {
 /// The first part of the pieces from this number on.
 #[tactic(auto, using(crate::proofs::BufferLemmas::part_steps))]
 pub(crate) fn next_part(pieces: &[ChainPiece], from: usize) -> Option<NextPart>
-    ensures { MatchOption result (all_parts (drop from (pieces_in pieces.now)) ≡ [])
+    ensures parts { MatchOption result (all_parts (drop from (pieces_in pieces.now)) ≡ [])
         (λ x. all_parts (drop from (pieces_in pieces.now)) ≡
         x.part ∷ behind_part false x.piece (pieces_in pieces.now)) }
+    ensures within { IfSome result (λ x. (from ≤ x.piece) × (x.piece < length pieces.now)) }
 {
     for number in from..pieces.len() {
         let piece = &pieces[number];

@@ -1,6 +1,6 @@
 //! A notice over a running guest's memory.
 
-ghost use Rattle.std.specs.Prelude.{◌≡◌, ◌+◌, ◌≤◌, ◌++◌, List, IfSome};
+ghost use Rattle.std.specs.Prelude.{◌≡◌, ◌+◌, ◌≤◌, ◌++◌, List};
 ghost use Rattle.vb_core.specs.declared.next.ChainPiece.{ChainPiece};
 ghost use Rattle.vb_monitor.specs.declared.room.TheConstants.{MAX_BYTES};
 ghost use Rattle.vb_monitor.specs.Accesses.{Adds};
@@ -8,6 +8,8 @@ ghost use Rattle.vb_monitor.specs.Notices.{Serves};
 ghost use Rattle.vb_monitor.specs.Giving.{used_accesses};
 ghost use Rattle.vb_monitor.specs.Machine.{Fits, is_ended, Ahead, Does, Goes, Copies, whole};
 ghost use Rattle.vb_monitor.specs.Machine.{room_of};
+ghost use Rattle.vb_monitor.specs.Left.{left};
+ghost use Rattle.std.specs.Prelude.{◌<◌, false};
 
 use crate::discards::first_runs;
 use crate::room::{MAX_BYTES, MAX_FIGURES, MAX_PIECES, MAX_RUNS};
@@ -111,6 +113,8 @@ impl Notice {
             (λ after outcome log. Ahead (whole regions.now self.old.kind after outcome)
             self.new.step device.new (room_of pieces.new bytes.new runs.new figures.new) log) }
         ensures fits { Fits self.new.step.phase }
+        ensures left { is_ended self.old.step.phase ≡ false →
+            left regions.now self.new.step < left regions.now self.old.step }
     {
         let Notice { kind, step } = *self;
         let answer = perform(memory, kind, step.phase, bytes, runs, figures);
@@ -147,10 +151,33 @@ impl Notice {
         }
         self.is_ended()
     }
+
+    /// The same until the notice has ended; says what it came to.
+    pub fn serve_all<M: LiveMemory>(
+        &mut self,
+        memory: &mut M,
+        device: &mut Device,
+        regions: &[Region],
+        pieces: &mut [ChainPiece; MAX_PIECES],
+        bytes: &mut [u8; MAX_BYTES],
+        runs: &mut [Run; MAX_RUNS],
+        figures: &mut [Statistic; MAX_FIGURES],
+    ) -> Outcome
+        requires { Fits self.old.step.phase }
+        ensures { Adds (M.log memory.old) (M.log memory.new) (λ log.
+            Ahead (whole regions.now self.old.kind device.new result) self.old.step device.old
+            (room_of pieces.old bytes.old runs.old figures.old) log) }
+    {
+        loop {
+            if let Some(outcome) = self.outcome() {
+                return outcome;
+            }
+            self.serve_step(memory, device, regions, pieces, bytes, runs, figures);
+        }
+    }
 }
 
-/// Serves the queue of a kind, as far as the budget has room, and says what it came to; none where
-/// it hasn't ended after 2^64 - 1 steps.
+/// Serves the queue of a kind, as far as the budget has room, and says what it came to.
 pub fn serve<M: LiveMemory>(
     memory: &mut M,
     device: &mut Device,
@@ -161,20 +188,10 @@ pub fn serve<M: LiveMemory>(
     bytes: &mut [u8; MAX_BYTES],
     runs: &mut [Run; MAX_RUNS],
     figures: &mut [Statistic; MAX_FIGURES],
-) -> Option<Outcome>
-    ensures { IfSome result (λ outcome. Adds (M.log memory.old) (M.log memory.new)
-        (Serves regions.now kind budget device.old device.new outcome)) }
+) -> Outcome
+    ensures { Adds (M.log memory.old) (M.log memory.new)
+        (Serves regions.now kind budget device.old device.new result) }
 {
     let mut notice = Notice::begin(device, regions, kind, budget);
-    notice.serve_steps(
-        memory,
-        device,
-        regions,
-        pieces,
-        bytes,
-        runs,
-        figures,
-        u64::MAX,
-    );
-    notice.outcome()
+    notice.serve_all(memory, device, regions, pieces, bytes, runs, figures)
 }

@@ -12,6 +12,7 @@ ghost use Rattle.vb_monitor.specs.Chains.{DescriptorAt, Follows, GoesOn, table_f
 ghost use Rattle.vb_monitor.specs.Pieces.{pieces_in};
 ghost use Rattle.vb_monitor.specs.Regions.{spot};
 ghost use Rattle.vb_monitor.specs.Machine.{Fits, Room, Ahead, whole, room_of, serves};
+ghost use Rattle.vb_monitor.specs.Left.{left, of_chains, once_copied};
 
 use crate::copying::first_bytes;
 use crate::ends::fail;
@@ -71,6 +72,8 @@ fn ask_descriptor(
         (pieces_in (take walk.count room.pieces))
         (spot regions.now ((ring_of kind device.old).table + 16 * number) 16) log }
     ensures fits { Fits result.phase }
+    ensures left { left regions.now result ≤
+        of_chains regions.now tally.chains + (once_copied regions.now walk.count + 1) }
 {
     let table = device.ring(kind).table;
     match find_from(regions, table, 16 * u64::from(number), 16) {
@@ -100,6 +103,8 @@ pub(crate) fn follow(
         (serves (whole regions.now kind after outcome) tally device.old walk.head) number
         walk.writing (pieces_in (take walk.count room.pieces)) log }
     ensures fits { Fits result.phase }
+    ensures left { left regions.now result ≤
+        of_chains regions.now tally.chains + (once_copied regions.now walk.count + 1) }
 {
     if walk.count >= descriptors(&device.ring(kind)) {
         return fail(device, regions, kind, tally, ChainFault::TooLong);
@@ -151,6 +156,8 @@ fn join_descriptor(
         (serves (whole regions.now kind after outcome) tally device.old walk.head) walk.writing
         descriptor.now (pieces_in (take walk.count pieces.old)) log }
     ensures fits { Fits result.phase }
+    ensures left { left regions.now result ≤
+        of_chains regions.now tally.chains + once_copied regions.now walk.count }
 {
     let count = walk.count;
     push_piece(pieces, count, descriptor);
@@ -191,6 +198,8 @@ pub fn after_descriptor(
         (serves (whole regions.now kind after outcome) tally device.old walk.head) walk.writing
         (pieces_in (take walk.count pieces.old)) (take DESCRIPTOR_SIZE bytes.now) log }
     ensures fits { Fits result.phase }
+    ensures left { left regions.now result ≤
+        of_chains regions.now tally.chains + once_copied regions.now walk.count }
 {
     let descriptor = descriptor_of(first_bytes(bytes, DESCRIPTOR_SIZE));
     let visited = first_pieces(pieces, walk.count).len() as u16;

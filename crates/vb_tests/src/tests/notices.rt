@@ -199,7 +199,7 @@ fn put_request(bytes: &mut [u8]) {
 }
 
 /// Serves that request on a queue of this kind.
-fn serve_request<R: Abort>(memory: &mut Scribbled<R>, kind: Kind, chains: u32) -> Option<Outcome> {
+fn serve_request<R: Abort>(memory: &mut Scribbled<R>, kind: Kind, chains: u32) -> Outcome {
     let mut device = Device::new(SETTINGS);
     device.features = SETTINGS.offered;
     device.status = 15;
@@ -220,12 +220,8 @@ fn serve_request<R: Abort>(memory: &mut Scribbled<R>, kind: Kind, chains: u32) -
 }
 
 /// Whether a notice ended so.
-fn is_end(outcome: Option<Outcome>, interrupt: bool, more: bool) -> bool {
-    match outcome {
-        None => false,
-        Some(Outcome { why: Some(_), .. }) => false,
-        Some(end) => end.interrupt == interrupt && end.more == more,
-    }
+fn is_end(outcome: Outcome, interrupt: bool, more: bool) -> bool {
+    outcome.why.is_none() && outcome.interrupt == interrupt && outcome.more == more
 }
 
 /// The first access that is another one, or the number of accesses where there are more or fewer.

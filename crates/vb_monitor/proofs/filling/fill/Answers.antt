@@ -8,7 +8,7 @@ use Rattle.vb_monitor.proofs.filling.fill.Goals as goal
 pub returns-in-None-clause-parts : goal.returns-in-None-clause-parts
 returns-in-None-clause-parts c = first_put c.args.cuts.now c.args.first.now.cut _ _ (search rules)
     (left_is c.cut_behind-left.result c.args.regions.now c.args.runs.now _
-    c.cut_behind-left.ensures) ∙ c.fill_on.ensures.parts
+    c.cut_behind-left.ensures.parts) ∙ c.fill_on.ensures.parts
 
 pub returns-in-Some-clause-parts : goal.returns-in-Some-clause-parts
 returns-in-Some-clause-parts c =
@@ -17,7 +17,7 @@ returns-in-Some-clause-parts c =
     let runs = c.args.runs.now in
     let regions = c.args.regions.now in
     let count = c.fill_sole-count.result in
-    let left = left_is c.first_cut-left.result regions runs _ c.first_cut-left.ensures in
+    let left = left_is c.first_cut-left.result regions runs _ c.first_cut-left.ensures.parts in
     let behind : take (length runs - run) (drop run runs) ≡ drop run runs =
     take_all (length runs - run) (drop run runs) (omega (arith, length-drop run runs)) in
     first_put c.args.cuts.now c.args.first.now.cut _ _ (search rules)

@@ -19,6 +19,6 @@ loop-number-preserved c = record {
       (c.loop-number.invariant.parts ∙ ap (λ (o : Option NextCut). take c.loop-number.number
       c.loop-number.cuts ++ cuts_left c.args.regions.now c.args.runs.now o) c.in-Some.is)
       (left_is c.cut_behind-left.result c.args.regions.now c.args.runs.now _
-      c.cut_behind-left.ensures);
+      c.cut_behind-left.ensures.parts);
   long = search rules;
 }

@@ -1,0 +1,18 @@
+use Rattle.std.proofs.Common.{◌≡◌}
+use Rattle.vb_monitor.specs.Machine.{Fits, Goes, Ahead, whole, room_of}
+use Rattle.vb_monitor.specs.Left.{left}
+use Rattle.vb_monitor.proofs.notice.Notice.serve_all.Given as goal
+
+abbrev pub invariant-loop-outcome : goal.invariant-loop-outcome
+invariant-loop-outcome g l = record {
+  kind : l.self.kind ≡ l.fn.self.kind;
+  fits : Fits l.self.step.phase;
+  goes : Goes (g.M.LiveMemory.log l.fn.memory) (g.M.LiveMemory.log l.memory)
+      (λ after outcome log. Ahead (whole l.regions l.fn.self.kind after outcome) l.fn.self.step
+      l.fn.device (room_of l.fn.pieces l.fn.bytes l.fn.runs l.fn.figures) log)
+      (λ after outcome log. Ahead (whole l.regions l.fn.self.kind after outcome) l.self.step
+      l.device (room_of l.pieces l.bytes l.runs l.figures) log);
+}
+
+abbrev pub decreases-loop-outcome : goal.decreases-loop-outcome
+decreases-loop-outcome g l = left l.regions l.self.step

@@ -1,0 +1,57 @@
+-- How much a notice does yet at most, as a number that each step makes smaller.
+use Rattle.std.specs.Prelude.{ℕ, ◌+◌, ◌-◌, ◌*◌, List, length}
+use Rattle.vb_model.specs.declared.limits.TheConstants.{MAX_QUEUE_SIZE}
+use Rattle.vb_model.specs.Tests.{one_if}
+use Rattle.vb_monitor.specs.declared.room.TheConstants.{MAX_RUNS}
+use Rattle.vb_monitor.specs.declared.regions.Region.{Region}
+use Rattle.vb_monitor.specs.declared.step.Step.{Step}
+use Rattle.vb_monitor.specs.declared.step.Phase.{Phase}
+use Rattle.vb_monitor.specs.declared.step.Phase.TheVariants.{AwaitsIndex, AwaitsEntry}
+use Rattle.vb_monitor.specs.declared.step.Phase.TheVariants.{AwaitsDescriptor, AwaitsPart}
+use Rattle.vb_monitor.specs.declared.step.Phase.TheVariants.{TellsPages, TellsFigures, Discards}
+use Rattle.vb_monitor.specs.declared.step.Phase.TheVariants.{GivesBack, AwaitsFlags, Ended}
+
+-- Parts that a chain's runs have at most, in so many regions: one for each run and region. Behind a
+-- run's part in the region before the one of this number, those of the regions from that one on are
+-- left, and all parts of the runs behind it.
+unfoldable pub parts_left : ℕ → ℕ → ℕ → ℕ
+parts_left regions run from = (regions - from) + (MAX_RUNS - (run + 1)) * regions
+
+-- Once the pages of a chain are named, they are told, and their parts are discarded; then the chain
+-- is given back, the index is read, and the flags are.
+abbrev pub once_named : List Region → ℕ
+once_named regions = 4 + MAX_RUNS * length regions
+
+-- Before that two parts of each piece are copied.
+abbrev pub once_whole : List Region → ℕ
+once_whole regions = once_named regions + 2 * MAX_QUEUE_SIZE + 1
+
+-- Before that the descriptors are, of which so many were.
+abbrev pub once_copied : List Region → ℕ → ℕ
+once_copied regions count = once_whole regions + (MAX_QUEUE_SIZE - count)
+
+-- What a chain comes to, whose entry is read first.
+abbrev pub of_chain : List Region → ℕ
+of_chain regions = once_copied regions 0 + 2
+
+-- What so many chains come to.
+unfoldable pub of_chains : List Region → ℕ → ℕ
+of_chains regions chains = chains * of_chain regions
+
+-- What is done at most from a phase on, of the chain that is being served.
+abbrev pub left_of : List Region → Phase → ℕ
+left_of regions (Ended why interrupt more) = 0
+left_of regions (AwaitsFlags at why more) = 1
+left_of regions (AwaitsIndex at) = 2
+left_of regions (TellsFigures head count) = 2
+left_of regions (GivesBack spots entry) = 3
+left_of regions (Discards cut x) = 4 + parts_left (length regions) x.run x.from
+left_of regions (TellsPages head named) = once_named regions
+left_of regions (AwaitsPart at place) =
+    once_named regions + 1 + (2 * MAX_QUEUE_SIZE - (2 * place.piece + one_if place.is_second))
+left_of regions (AwaitsDescriptor at walk) = once_copied regions walk.count + 1
+left_of regions (AwaitsEntry at) = of_chain regions
+
+-- What is done at most from a step on: what is left of its chain, and all that may be served.
+abbrev pub left : List Region → Step → ℕ
+left regions step = of_chains regions step.tally.chains + left_of regions step.phase
