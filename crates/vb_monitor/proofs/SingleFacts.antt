@@ -67,6 +67,9 @@ all_of_it = refl
 up_to_a_page : after Deflate walk (record alone { addr = 0xffc }) ≡ Some (part_at 0xffc 4)
 up_to_a_page = refl
 
+up_to_a_hole : after Inflate walk (record alone { addr = 0x14ffc }) ≡ Some (part_at 0x14ffc 4)
+up_to_a_hole = refl
+
 behind_another : after Inflate (record walk { count = 1 }) alone ≡ None
 behind_another = refl
 
