@@ -5,19 +5,20 @@ ghost use Rattle.std.specs.Prelude.{◌≡◌, ◌+◌, ◌≤◌, true, None, S
 ghost use Rattle.vb_core.specs.Devices.{queue_denial};
 ghost use Rattle.vb_core.specs.Name.{is_request};
 ghost use Rattle.vb_monitor.specs.declared.room.TheConstants.{MAX_BYTES, MAX_RUNS};
+ghost use Rattle.vb_monitor.specs.Machine.{Fits};
 ghost use Rattle.vb_monitor.specs.Served.{is_last};
 ghost use Rattle.vb_c.specs.Codes.{kind_of_code};
 ghost use Rattle.vb_c.specs.Notices.{notice_of, tally_of, place_of};
-ghost use Rattle.vb_c.specs.Served.{telling_pages};
+ghost use Rattle.vb_c.specs.Served.{telling_pages, Denies};
 ghost use Rattle.vb_c.specs.Serving.{HandsOver, GoesOnBy};
 
 use crate::notice::{INDEX, READ_INDEX, VbNotice, VbRoom};
 use crate::serving::hand_over;
 use crate::showing::asked_bits;
-use vb_core::{Kind, Named, Run};
+use vb_core::{Denial, Kind, Named, Run};
 use vb_monitor::{
-    Asked, Balloon, Cut, Discarding, MAX_CUTS, MAX_RUNS, Notice, Phase, Region, Step, Told, end,
-    fill_named, give_and_look, name_copied,
+    Asked, Balloon, Cut, Discarding, MAX_CUTS, MAX_RUNS, Notice, Phase, Region, Step, Tally, Told,
+    end, fill_named, give_and_look, name_copied,
 };
 
 /// Hands over a chain whose pages were named, however it is served.
@@ -49,6 +50,7 @@ fn hand_named(
 
 /// Hands over a chain whose pages were named, of a queue that is served: mostly it is given back,
 /// and the queue looked at again.
+#[inline(always)]
 fn serve_named(
     shown: &mut VbNotice,
     balloon: &mut Balloon,
@@ -105,6 +107,85 @@ fn serve_named(
     }
 }
 
+/// Hands over a chain whose pages were named, with this tally.
+#[inline(never)]
+fn hand_pages(
+    shown: &mut VbNotice,
+    balloon: &mut Balloon,
+    regions: &[Region],
+    runs: &[Run; MAX_RUNS],
+    cuts: &mut [Cut; MAX_CUTS],
+    kind: Kind,
+    tally: Tally,
+    head: u16,
+    named: Named,
+) -> u32
+    requires kind { kind_of_code shown.old.kind ≡ Some kind }
+    requires few { named.runs ≤ MAX_RUNS }
+    ensures hands { HandsOver (telling_pages kind tally head named) regions.now runs.now
+        balloon.old balloon.new cuts.new shown.new }
+    ensures what { result ≡ shown.new.what }
+{
+    shown.show_tally(tally);
+    match balloon.device.queue_denial(kind) {
+        Some(_) => hand_named(shown, balloon, regions, runs, cuts, kind, head, named),
+        None => serve_named(shown, balloon, regions, runs, cuts, kind, head, named),
+    }
+}
+
+/// Hands a notice over, which is mostly of a chain whose pages were named.
+pub(crate) fn hand_step(
+    shown: &mut VbNotice,
+    balloon: &mut Balloon,
+    regions: &[Region],
+    runs: &[Run; MAX_RUNS],
+    cuts: &mut [Cut; MAX_CUTS],
+    notice: &mut Notice,
+) -> u32
+    requires fits { Fits notice.old.step.phase }
+    requires kind { kind_of_code shown.old.kind ≡ Some notice.old.kind }
+    ensures hands { HandsOver notice.old regions.now runs.now balloon.old balloon.new cuts.new
+        shown.new }
+    ensures what { result ≡ shown.new.what }
+{
+    let Notice { kind, step } = *notice;
+    match step.phase {
+        Phase::TellsPages { head, named } => hand_pages(
+            shown, balloon, regions, runs, cuts, kind, step.tally, head, named,
+        ),
+        Phase::TellsFigures { .. }
+        | Phase::Discards { .. }
+        | Phase::GivesBack { .. }
+        | Phase::AwaitsIndex { .. }
+        | Phase::AwaitsEntry { .. }
+        | Phase::AwaitsDescriptor { .. }
+        | Phase::AwaitsPart { .. }
+        | Phase::AwaitsFlags { .. }
+        | Phase::Ended { .. } => hand_over(shown, balloon, regions, runs, cuts, notice),
+    }
+}
+
+/// Hands over a notice that ends by a denial.
+#[inline(never)]
+fn hand_denied(
+    shown: &mut VbNotice,
+    balloon: &mut Balloon,
+    regions: &[Region],
+    runs: &[Run; MAX_RUNS],
+    cuts: &mut [Cut; MAX_CUTS],
+    kind: Kind,
+    why: Denial,
+) -> u32
+    ensures denies { Denies why kind (tally_of shown.old) regions.now runs.now balloon.old
+        balloon.new cuts.new shown.new }
+    ensures what { result ≡ shown.new.what }
+{
+    let tally = shown.tally();
+    let step = end(&balloon.device, regions, kind, tally, Some(why), false);
+    let mut next = Notice { kind, step };
+    hand_over(shown, balloon, regions, runs, cuts, &mut next)
+}
+
 /// All bytes of a request were copied: its pages are named and served, or it breaks a rule.
 pub(crate) fn go_request(
     notice: &mut VbNotice,
@@ -132,19 +213,15 @@ pub(crate) fn go_request(
         count,
         &mut room.runs,
     ) {
-        Err(why) => {
-            let tally = notice.tally();
-            let step = end(&balloon.device, regions, kind, tally, Some(why), false);
-            let mut next = Notice { kind, step };
-            hand_over(
-                notice,
-                balloon,
-                regions,
-                &room.runs,
-                &mut room.cuts,
-                &mut next,
-            )
-        }
+        Err(why) => hand_denied(
+            notice,
+            balloon,
+            regions,
+            &room.runs,
+            &mut room.cuts,
+            kind,
+            why,
+        ),
         Ok(named) => {
             notice.pages_left = notice.pages_left.saturating_sub(named.pages);
             serve_named(

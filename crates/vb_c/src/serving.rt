@@ -11,6 +11,7 @@ ghost use Rattle.vb_c.specs.Serving.{HandsOver, Begins, BeginsFor, AsksFor, Goes
 
 use crate::answers::{BAD_ARGUMENT, NO_QUEUE, NOTHING, kind_of_code};
 use crate::notice::{VbNotice, VbRoom};
+use crate::requests::hand_step;
 use crate::usual::begin_usually;
 use vb_core::{Kind, Run};
 use vb_monitor::{
@@ -198,7 +199,7 @@ pub(crate) fn go_chain(
         &mut room.figures,
     );
     let mut next = Notice { kind, step };
-    hand_over(
+    hand_step(
         notice,
         balloon,
         regions,
@@ -236,7 +237,7 @@ pub(crate) fn go_part(
         &mut room.figures,
     );
     let mut next = Notice { kind, step };
-    hand_over(
+    hand_step(
         notice,
         balloon,
         regions,

@@ -35,7 +35,7 @@ pub use laws::{
 pub use name::Named;
 pub use next::{ChainPiece, NextChain};
 pub use report::{MAX_REPORT_RUNS, Reported};
-pub use ring::{UsedEntry, Virtqueue};
+pub use ring::{UsedEntry, Virtqueue, place_in_ring};
 pub use runs::Run;
 pub use saved::{Saved, StateDenial};
 pub use saved_laws::{only_what_was_saved_is_restored, what_was_saved_is_restored};

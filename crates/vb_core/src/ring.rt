@@ -55,6 +55,23 @@ fn is_part(end: u64, at: u64, align: u64, len: u64) -> bool
     at % align == 0 && at <= end && len <= end - at
 }
 
+/// Half of the largest size of a queue.
+const HALF_QUEUE_SIZE: u16 = MAX_QUEUE_SIZE / 2;
+
+/// Where the entry stands that comes behind so many, in a ring of so many entries. For the two
+/// largest sizes nothing is divided.
+#[inline(always)]
+pub fn place_in_ring(count: u16, size: u16) -> u16
+    requires { 0 < size }
+    ensures { result ≡ count % size }
+{
+    match size {
+        MAX_QUEUE_SIZE => count % MAX_QUEUE_SIZE,
+        HALF_QUEUE_SIZE => count % HALF_QUEUE_SIZE,
+        _ => count % size,
+    }
+}
+
 impl Virtqueue {
     /// The ring of a queue that has no place.
     pub const NONE: Virtqueue = Virtqueue {
@@ -69,6 +86,7 @@ impl Virtqueue {
     /// Whether its parts have a place in memory that ends at this address: a power of two of
     /// descriptors from 2 to 256; the table aligned to 16 bytes, the available ring to 2 and the
     /// used ring to 4 (VIRTIO 1.1, 2.6); and each part within memory.
+    #[inline(always)]
     pub fn has_place(&self, end: u64) -> bool
         ensures { result ≡ has_place end self.now }
     {
@@ -85,7 +103,7 @@ impl Virtqueue {
         requires { has_place end self.now ≡ true }
         ensures { result ≡ used_entry self.now head }
     {
-        let place = self.next_used % self.size;
+        let place = place_in_ring(self.next_used, self.size);
         UsedEntry {
             element_at: self.used + 4 + 8 * u64::from(place),
             index_at: self.used + 2,

@@ -107,29 +107,39 @@ first_spot r rs a len h =
     ap (λ (b : Bool). if b then Some (record { region = 0; offset = a - r.guest })
     else spot_from 1 rs a len) h
 
-pub first_spots : (rs : List Region) (d : Region) (e : UsedEntry) (behind : ℕ) → 0 < length rs →
-    e.element_at + 4 ≡ behind → holds (get_or rs 0 d) e.element_at 4 ≡ true →
-    holds (get_or rs 0 d) behind 4 ≡ true → holds (get_or rs 0 d) e.index_at 2 ≡ true →
+-- eight bytes are four and four
+holds_front : (r : Region) (a : ℕ) → holds r a 8 ≡ true → holds r a 4 ≡ true
+holds_front r a h = grind (arith, nat_tests)
+
+holds_behind : (r : Region) (a : ℕ) → holds r a 8 ≡ true → holds r (a + 4) 4 ≡ true
+holds_behind r a h = grind (arith, nat_tests)
+
+behind_is : (r : Region) (a : ℕ) → holds r a 8 ≡ true → (a + 4) - r.guest ≡ (a - r.guest) + 4
+behind_is r a h = grind (arith, nat_tests)
+
+pub first_spots : (rs : List Region) (d : Region) (e : UsedEntry) → 0 < length rs →
+    holds (get_or rs 0 d) e.element_at 8 ≡ true → holds (get_or rs 0 d) e.index_at 2 ≡ true →
     used_spots rs e ≡ Some (record {
       id = record { region = 0; offset = e.element_at - (get_or rs 0 d).guest };
-      length = record { region = 0; offset = behind - (get_or rs 0 d).guest };
+      length = record { region = 0; offset = (e.element_at - (get_or rs 0 d).guest) + 4 };
       index = record { region = 0; offset = e.index_at - (get_or rs 0 d).guest };
     })
-first_spots rs d e behind some is h k l =
+first_spots rs d e some h k =
     let r = get_or rs 0 d in
     let more = drop 1 rs in
     ap (λ (regions : List Region). used_spots regions e) (drop_more rs 0 d some)
     ∙ (ap (λ (o : Option Spot). three_spots o (spot (r ∷ more) (e.element_at + 4) 4)
-    (spot (r ∷ more) e.index_at 2)) (first_spot r more e.element_at 4 h)
-    ∙ (ap (λ (a : ℕ). three_spots (Some (record { region = 0; offset = e.element_at - r.guest }))
-    (spot (r ∷ more) a 4) (spot (r ∷ more) e.index_at 2)) is
+    (spot (r ∷ more) e.index_at 2))
+    (first_spot r more e.element_at 4 (holds_front r e.element_at h))
     ∙ (ap (λ (o : Option Spot). three_spots
     (Some (record { region = 0; offset = e.element_at - r.guest })) o
-    (spot (r ∷ more) e.index_at 2)) (first_spot r more behind 4 k)
+    (spot (r ∷ more) e.index_at 2))
+    (first_spot r more (e.element_at + 4) 4 (holds_behind r e.element_at h)
+    ∙ ap (λ (n : ℕ). Some (record { region = 0; offset = n })) (behind_is r e.element_at h))
     ∙ ap (λ (o : Option Spot). three_spots
     (Some (record { region = 0; offset = e.element_at - r.guest }))
-    (Some (record { region = 0; offset = behind - r.guest })) o)
-    (first_spot r more e.index_at 2 l))))
+    (Some (record { region = 0; offset = (e.element_at - r.guest) + 4 })) o)
+    (first_spot r more e.index_at 2 k)))
 
 -- ---- a request whose pages were named
 

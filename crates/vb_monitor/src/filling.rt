@@ -134,8 +134,15 @@ fn fill_on(
     }
 }
 
-/// Puts a part and those after it to the front of the list, as many as have room.
-pub fn fill(regions: &[Region], runs: &[Run], first: &NextCut, cuts: &mut [Cut; MAX_CUTS]) -> Filled
+/// Puts a part and those after it to the front of the list, as many as have room, however many
+/// there are.
+#[inline(never)]
+fn fill_many(
+    regions: &[Region],
+    runs: &[Run],
+    first: &NextCut,
+    cuts: &mut [Cut; MAX_CUTS],
+) -> Filled
     ensures few { result.count ≤ MAX_CUTS }
     ensures full { (x : NextCut) → result.left ≡ Some x → result.count ≡ MAX_CUTS }
     ensures parts { first.now.cut ∷ cuts_behind first.now.from first.now.run regions.now runs.now ≡
@@ -152,5 +159,29 @@ pub fn fill(regions: &[Region], runs: &[Run], first: &NextCut, cuts: &mut [Cut; 
             let left = first_cut(regions, runs, first.run + count);
             fill_on(regions, runs, count, left, cuts)
         }
+    }
+}
+
+/// Puts a part and those after it to the front of the list, as many as have room; mostly it is the
+/// last one of the last run.
+#[inline(always)]
+pub fn fill(regions: &[Region], runs: &[Run], first: &NextCut, cuts: &mut [Cut; MAX_CUTS]) -> Filled
+    ensures few { result.count ≤ MAX_CUTS }
+    ensures full { (x : NextCut) → result.left ≡ Some x → result.count ≡ MAX_CUTS }
+    ensures parts { first.now.cut ∷ cuts_behind first.now.from first.now.run regions.now runs.now ≡
+        take result.count cuts.new ++ cuts_left regions.now runs.now result.left }
+{
+    if first.run < runs.len().saturating_sub(1) {
+        return fill_many(regions, runs, first, cuts);
+    }
+    match cut_behind(regions, runs, first.run, first.from) {
+        None => {
+            cuts[0] = first.cut;
+            Filled {
+                count: 1,
+                left: None,
+            }
+        }
+        Some(_) => fill_many(regions, runs, first, cuts),
     }
 }

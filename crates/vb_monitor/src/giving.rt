@@ -1,6 +1,6 @@
 //! Chains that are given back.
 
-ghost use Rattle.std.specs.Prelude.{◌≡◌, ◌+◌, ◌≤◌, true, List, IfSome, Some};
+ghost use Rattle.std.specs.Prelude.{◌≡◌, ◌+◌, ◌≤◌, true, false, List, Some, None};
 ghost use Rattle.vb_core.specs.declared.device.Device.{Device};
 ghost use Rattle.vb_monitor.specs.declared.outcome.Outcome.{Outcome};
 ghost use Rattle.vb_monitor.specs.Accesses.{Access};
@@ -28,7 +28,7 @@ pub struct UsedSpots {
 
 /// Where a used element goes, where all of it is guest memory.
 #[inline(never)]
-fn spots_anywhere(regions: &[Region], entry: &UsedEntry) -> Option<UsedSpots>
+fn used_spots(regions: &[Region], entry: &UsedEntry) -> Option<UsedSpots>
     ensures { result ≡ used_spots regions.now entry.now }
 {
     match find_from(regions, entry.element_at, 0, 4) {
@@ -43,56 +43,52 @@ fn spots_anywhere(regions: &[Region], entry: &UsedEntry) -> Option<UsedSpots>
     }
 }
 
-/// Where a used element goes, where the first region has all of it.
+/// Puts down where a used element goes, where the first region has all of it; says whether it has.
 #[tactic(auto, using(crate::proofs::ServedLemmas::first_spots))]
 #[inline(always)]
-fn spots_in_first(regions: &[Region], entry: &UsedEntry) -> Option<UsedSpots>
-    ensures { IfSome result (λ spots. used_spots regions.now entry.now ≡ Some spots) }
+fn put_first(regions: &[Region], entry: &UsedEntry, spots: &mut UsedSpots) -> bool
+    ensures { result ≡ true → used_spots regions.now entry.now ≡ Some spots.new }
 {
     if regions.is_empty() {
-        return None;
+        return false;
     }
     let region = &regions[0];
-    let id = entry.element_at;
-    let index = entry.index_at;
-    match id.checked_add(4) {
-        None => None,
-        Some(length) => {
-            if !region.holds(id, 4) {
-                return None;
-            }
-            if !region.holds(length, 4) {
-                return None;
-            }
-            if !region.holds(index, 2) {
-                return None;
-            }
-            Some(UsedSpots {
-                id: Spot {
-                    region: 0,
-                    offset: id - region.guest,
-                },
-                length: Spot {
-                    region: 0,
-                    offset: length - region.guest,
-                },
-                index: Spot {
-                    region: 0,
-                    offset: index - region.guest,
-                },
-            })
-        }
+    if !region.holds(entry.element_at, 8) {
+        return false;
     }
+    if !region.holds(entry.index_at, 2) {
+        return false;
+    }
+    let offset = entry.element_at - region.guest;
+    *spots = UsedSpots {
+        id: Spot { region: 0, offset },
+        length: Spot {
+            region: 0,
+            offset: offset + 4,
+        },
+        index: Spot {
+            region: 0,
+            offset: entry.index_at - region.guest,
+        },
+    };
+    true
 }
 
-/// Where a used element goes, where all of it is guest memory: mostly the first region has it.
+/// Puts down where a used element goes, where all of it is guest memory; says whether it is.
 #[inline(always)]
-pub(crate) fn used_spots(regions: &[Region], entry: &UsedEntry) -> Option<UsedSpots>
-    ensures { result ≡ used_spots regions.now entry.now }
+pub(crate) fn put_spots(regions: &[Region], entry: &UsedEntry, spots: &mut UsedSpots) -> bool
+    ensures yes { result ≡ true → used_spots regions.now entry.now ≡ Some spots.new }
+    ensures no { result ≡ false → used_spots regions.now entry.now ≡ None }
 {
-    match spots_in_first(regions, entry) {
-        Some(spots) => Some(spots),
-        None => spots_anywhere(regions, entry),
+    if put_first(regions, entry, spots) {
+        return true;
+    }
+    match used_spots(regions, entry) {
+        None => false,
+        Some(found) => {
+            *spots = found;
+            true
+        }
     }
 }
 

@@ -16,7 +16,7 @@ use crate::regions::find_from;
 use crate::walk::{descriptors, follow};
 use crate::{Phase, Region, Step, Tally, Walk};
 use vb_chain::ChainFault;
-use vb_core::{Device, Kind, Virtqueue};
+use vb_core::{Device, Kind, Virtqueue, place_in_ring};
 
 /// Where the entry stands that is taken next, behind the available ring's begin.
 pub(crate) fn entry_offset(ring: &Virtqueue) -> u64
@@ -25,7 +25,7 @@ pub(crate) fn entry_offset(ring: &Virtqueue) -> u64
     if ring.size == 0 {
         return 4;
     }
-    4 + 2 * u64::from(ring.next_avail % ring.size)
+    4 + 2 * u64::from(place_in_ring(ring.next_avail, ring.size))
 }
 
 /// Whether a chain stands there by this index.

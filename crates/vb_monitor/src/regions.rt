@@ -36,6 +36,7 @@ pub struct Spot {
 impl Region {
     /// Whether it is whole pages, of guest memory below 2^44, from a place of a file up to 2^62 on.
     /// A region that isn't has no byte of guest memory.
+    #[inline(always)]
     pub fn is_possible(&self) -> bool
         ensures { result ≡ is_region self.now }
     {
@@ -47,6 +48,7 @@ impl Region {
     }
 
     /// Whether so many bytes from an address on lie in it.
+    #[inline(always)]
     pub fn holds(&self, address: u64, length: u64) -> bool
         ensures { result ≡ holds self.now address length }
     {

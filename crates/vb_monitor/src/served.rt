@@ -29,7 +29,7 @@ use crate::copying::first_bytes;
 use crate::cuts::first_cut;
 use crate::discards::first_runs;
 use crate::filling::{Filled, fill};
-use crate::giving::used_spots;
+use crate::giving::put_spots;
 use crate::orders::MAX_CUTS;
 use crate::parts::{next_part, second_part};
 use crate::pieces::first_pieces;
@@ -116,6 +116,7 @@ pub fn name_copied(
 
 /// Puts the parts of the first runs, so many, into the list, as many as have room, where they are
 /// to be discarded.
+#[inline(always)]
 pub fn fill_named(
     device: &Device,
     regions: &[Region],
@@ -147,6 +148,7 @@ pub fn fill_named(
 
 /// Gives the chain of this head back, of a queue that is served, and says where its index is read
 /// next; nothing is changed where a part of it is no guest memory.
+#[inline(always)]
 pub fn give_and_look(
     device: &mut Device,
     regions: &[Region],
@@ -173,20 +175,17 @@ pub fn give_and_look(
         return None;
     }
     let entry = device.used_entry(kind, u32::from(head));
-    match used_spots(regions, &entry) {
+    if !put_spots(regions, &entry, &mut used.spots) {
+        return None;
+    }
+    match find_from(regions, ring.avail, 2, 2) {
         None => None,
-        Some(spots) => match find_from(regions, ring.avail, 2, 2) {
-            None => None,
-            Some(at) => {
-                device.count_used(kind);
-                *used = Used {
-                    spots,
-                    id: entry.id,
-                    length: entry.length,
-                    index: entry.index,
-                };
-                Some(at)
-            }
-        },
+        Some(at) => {
+            device.count_used(kind);
+            used.id = entry.id;
+            used.length = entry.length;
+            used.index = entry.index;
+            Some(at)
+        }
     }
 }

@@ -24,7 +24,7 @@ use crate::looks::{entry_offset, stands};
 use crate::pieces::{first_pieces, push_piece};
 use crate::regions::{find, find_from};
 use crate::room::{MAX_BYTES, MAX_PIECES};
-use crate::walk::{descriptor_of, descriptors, table_fault};
+use crate::walk::{descriptor_of, descriptors, memory_end, ring_fault};
 use crate::{Region, Spot, Tally, Walk};
 use vb_chain::DESCRIPTOR_SIZE;
 use vb_core::{ChainPiece, Device, Kind};
@@ -150,10 +150,16 @@ pub fn next_descriptor(
     if !descriptor.has_next() {
         return None;
     }
-    if let Some(_) = table_fault(device, kind, walk.writing, visited, &descriptor) {
+    let ring = device.ring(kind);
+    if let Some(_) = ring_fault(
+        &ring,
+        memory_end(device),
+        walk.writing,
+        visited,
+        &descriptor,
+    ) {
         return None;
     }
-    let ring = device.ring(kind);
     if count + 1 >= descriptors(&ring) {
         return None;
     }

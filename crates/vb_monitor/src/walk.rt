@@ -34,7 +34,7 @@ pub(crate) fn descriptors(ring: &Virtqueue) -> u16
 }
 
 /// Where guest memory ends.
-fn memory_end(device: &Device) -> u64
+pub(crate) fn memory_end(device: &Device) -> u64
     ensures { result ≡ memory_end device.now }
 {
     PAGE_BYTES * (device.settings.memory_end / PAGE_BYTES)
@@ -112,6 +112,25 @@ pub(crate) fn follow(
     ask_descriptor(device, regions, kind, tally, walk, number)
 }
 
+/// The first rule that a descriptor of a ring's table breaks, after `visited` others.
+pub(crate) fn ring_fault(
+    ring: &Virtqueue,
+    end: u64,
+    writing: bool,
+    visited: u16,
+    descriptor: &Descriptor,
+) -> Option<ChainFault>
+    ensures fault { result ≡ table_fault (descriptors ring.now) end writing visited
+        descriptor.now }
+    ensures within { result ≡ None → visited < descriptors ring.now }
+{
+    let size = descriptors(ring);
+    if visited >= size {
+        return Some(ChainFault::TooLong);
+    }
+    descriptor_fault(size, end, writing, visited, descriptor)
+}
+
 /// The first rule that a descriptor breaks, after `visited` others.
 pub(crate) fn table_fault(
     device: &Device,
@@ -124,11 +143,8 @@ pub(crate) fn table_fault(
         (memory_end device.now) writing visited descriptor.now }
     ensures within { result ≡ None → visited < descriptors (ring_of kind device.now) }
 {
-    let size = descriptors(&device.ring(kind));
-    if visited >= size {
-        return Some(ChainFault::TooLong);
-    }
-    descriptor_fault(size, memory_end(device), writing, visited, descriptor)
+    let ring = device.ring(kind);
+    ring_fault(&ring, memory_end(device), writing, visited, descriptor)
 }
 
 /// A descriptor that breaks no rule joins the others.

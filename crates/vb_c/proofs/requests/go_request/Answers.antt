@@ -1,8 +1,10 @@
-use Rattle.std.proofs.Common.{ap, sym, subst, refl, ℕ, ◌+◌, List, ◌++◌, Option, Ok, Err, take}
-use Rattle.vb_monitor.specs.{declared.step.Phase.TheVariants.AwaitsPart, Accesses.Access}
-use Rattle.vb_monitor.specs.{Machine.{whole, served, behind_part}, Pieces.{pieces_in, CopiesParts}}
-use Rattle.vb_monitor.specs.{declared.notice.Notice.Notice, Giving.spent}
-use Rattle.vb_monitor.{proofs.ServedLemmas.request_goes, specs.declared.outcome.Tally.Tally}
+use Rattle.std.proofs.Common.{◌≡◌, ◌∙◌, ap, sym, subst, refl, ℕ, ◌+◌, List, ◌++◌, Option, Ok, Err, take}
+use Rattle.vb_core.specs.declared.kinds.Kind.{Kind}
+use Rattle.vb_monitor.{specs.declared.step.Phase.TheVariants.AwaitsPart, specs.Accesses.Access}
+use Rattle.vb_monitor.{specs.Machine.{whole, served, behind_part}, specs.declared.step.Place.Place}
+use Rattle.vb_monitor.{specs.Pieces.{pieces_in, CopiesParts}, specs.declared.notice.Notice.Notice}
+use Rattle.vb_monitor.{specs.Giving.spent, proofs.ServedLemmas.request_goes}
+use Rattle.vb_monitor.specs.declared.outcome.Tally.{Tally}
 use Rattle.vb_c.{specs.declared.notice.VbRoom.VbRoom, specs.Serving.{room_in, GoesOnBy, HandsOver}}
 use Rattle.vb_c.specs.{Notices.{tally_of, place_of}, Served.telling_pages}
 use Rattle.vb_c.proofs.UsualLemmas.{awaits_part, says_notice}
@@ -29,8 +31,10 @@ returns-in-Ok-clause-goes c =
     } in
     let next = telling_pages kind (spent named.pages s) x.head named in
     subst (λ (o : Option Notice). GoesOnBy o regions c.args.answer b c.serve_named.new.balloon r1 r2
-    c.serve_named.new.shown) (sym (says_notice kind (AwaitsPart old.at x) s old c.requires.kind
-    (awaits_part old c.requires.phase c.requires.fits) refl)) (record {
+    c.serve_named.new.shown)
+    (sym (says_notice kind (AwaitsPart old.at x) s old c.requires.kind
+    (awaits_part old c.requires.phase c.requires.fits) refl))
+    (record {
       next = next;
       device = d2;
       kind_is = refl;
@@ -45,7 +49,8 @@ returns-in-Ok-clause-goes c =
                 (behind_part x.is_second x.piece (pieces_in (take x.count r1.pieces))) bs rest)
                 does.behind
                 (request_goes w d d2 s x.head _ (take (x.into + x.length) r1.bytes) r2.runs
-                (Ok named) rest c.requires.request c.requires.last c.in-Ok.ensures.names h);
+                (Ok named) rest c.requires.request c.requires.last
+                c.in-Ok.ensures.names h);
           };
       hands = subst (λ (t : Tally). HandsOver (telling_pages kind t x.head named) regions r2.runs
           (record b { device = d2 }) c.serve_named.new.balloon r2.cuts c.serve_named.new.shown)
@@ -56,7 +61,8 @@ returns-in-Ok-clause-goes c =
 pub returns-in-Err-clause-goes : goal.returns-in-Err-clause-goes
 returns-in-Err-clause-goes c =
     let old = c.args.notice.now in
-    let s = c.tally-tally.result in
+    let s = tally_of old in
+    let denies = c.hand_denied.ensures.denies in
     let x = place_of old in
     let kind = c.args.kind in
     let regions = c.args.regions.now in
@@ -70,14 +76,16 @@ returns-in-Err-clause-goes c =
       bytes = r1.bytes;
       runs = c.name_copied.new.runs;
       figures = r1.figures;
-      cuts = c.hand_over.new.cuts;
+      cuts = c.hand_denied.new.cuts;
     } in
-    subst (λ (o : Option Notice). GoesOnBy o regions c.args.answer b c.hand_over.new.balloon r1 r2
-    c.hand_over.new.shown) (sym (says_notice kind (AwaitsPart old.at x) s old c.requires.kind
-    (awaits_part old c.requires.phase c.requires.fits) (sym c.tally-tally.ensures))) (record {
-      next = record { kind = kind; step = c.end-step.result };
+    subst (λ (o : Option Notice). GoesOnBy o regions c.args.answer b c.hand_denied.new.balloon r1 r2
+    c.hand_denied.new.shown)
+    (sym (says_notice kind (AwaitsPart old.at x) s old c.requires.kind
+    (awaits_part old c.requires.phase c.requires.fits) refl))
+    (record {
+      next = denies.next;
       device = d2;
-      kind_is = refl;
+      kind_is = denies.kind_is;
       step = λ after outcome before done rest does h.
           let w = whole regions kind after outcome in
           record {
@@ -90,7 +98,7 @@ returns-in-Err-clause-goes c =
                 does.behind
                 (request_goes w d d2 s x.head _ (take (x.into + x.length) r1.bytes) r2.runs
                 (Err why) rest c.requires.request c.requires.last c.in-Err.ensures.names
-                (c.end-step.ensures.step after outcome (room_in r2) rest h));
+                (denies.step after outcome (room_in r2) rest h));
           };
-      hands = c.hand_over.ensures.hands;
+      hands = denies.hands;
     })

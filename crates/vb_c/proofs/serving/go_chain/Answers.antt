@@ -21,10 +21,10 @@ returns-clause-goes c =
       bytes = r1.bytes;
       runs = c.after_descriptor-step.new.runs;
       figures = c.after_descriptor-step.new.figures;
-      cuts = c.hand_over.new.cuts;
+      cuts = c.hand_step.new.cuts;
     } in
     subst (λ (o : Option Notice). GoesOnBy o c.args.regions.now c.args.answer c.args.balloon.now
-    c.hand_over.new.balloon r1 r2 c.hand_over.new.shown)
+    c.hand_step.new.balloon r1 r2 c.hand_step.new.shown)
     (sym (says_notice c.args.kind (AwaitsDescriptor old.at x) s old c.requires.kind
     (awaits_descriptor old c.requires.phase
     ∙ ap (λ (w : Walk). Some (AwaitsDescriptor old.at w)) (sym c.walk.ensures))
@@ -44,5 +44,5 @@ returns-clause-goes c =
                 (pieces_in (take x.count r1.pieces)) bs rest) does.behind
                 (c.after_descriptor-step.ensures.step after outcome rest h);
           };
-      hands = c.hand_over.ensures.hands;
+      hands = c.hand_step.ensures.hands;
     })

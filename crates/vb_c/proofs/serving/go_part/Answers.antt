@@ -18,10 +18,10 @@ returns-clause-goes c =
       bytes = r1.bytes;
       runs = c.after_part-step.new.runs;
       figures = c.after_part-step.new.figures;
-      cuts = c.hand_over.new.cuts;
+      cuts = c.hand_step.new.cuts;
     } in
     subst (λ (o : Option Notice). GoesOnBy o c.args.regions.now c.args.answer c.args.balloon.now
-    c.hand_over.new.balloon r1 r2 c.hand_over.new.shown)
+    c.hand_step.new.balloon r1 r2 c.hand_step.new.shown)
     (sym (says_notice c.args.kind (AwaitsPart old.at x) s old c.requires.kind
     (awaits_part old c.requires.phase c.requires.fits
     ∙ ap (λ (p : Place). Some (AwaitsPart old.at p)) (sym c.place.ensures)) (sym c.tally.ensures)))
@@ -39,5 +39,5 @@ returns-clause-goes c =
                 (behind_part x.is_second x.piece (pieces_in (take x.count r1.pieces))) bs rest)
                 does.behind (c.after_part-step.ensures.step after outcome rest h);
           };
-      hands = c.hand_over.ensures.hands;
+      hands = c.hand_step.ensures.hands;
     })

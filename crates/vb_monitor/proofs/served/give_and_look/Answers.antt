@@ -1,30 +1,32 @@
 use Rattle.std.proofs.Common.{rules, ◌≡◌, ◌∙◌, ap, ℕ, ◌+◌, ◌<◌, true, Some}
 use Rattle.vb_core.{specs.Devices.ring_of, specs.Rings.used_entry, proofs.DenialLemmas.open_call}
-use Rattle.vb_monitor.specs.{Regions.spot, Giving.used_spots, Machine.whole, Orders.giving}
-use Rattle.vb_monitor.{specs.Served.looks_again, proofs.ServedLemmas.given_goes}
+use Rattle.vb_monitor.{specs.Regions.spot, specs.Giving.used_spots, specs.Machine.whole}
 use Rattle.vb_core.specs.declared.ring.UsedEntry.{UsedEntry}
+use Rattle.vb_monitor.specs.Orders.{giving}
+use Rattle.vb_monitor.{specs.Served.looks_again, proofs.ServedLemmas.given_goes}
 use Rattle.vb_monitor.proofs.served.give_and_look.Goals as goal
 
 pub used_entry-entry-requires : goal.used_entry-entry-requires
 used_entry-entry-requires c =
     (open_call c.args.kind true true true c.args.device.now c.requires).place
 
-pub returns-in-Some-find_from-clause-goes : goal.returns-in-Some-find_from-clause-goes
-returns-in-Some-find_from-clause-goes c tally after outcome room rest h =
+pub returns-in-Some-clause-goes : goal.returns-in-Some-clause-goes
+returns-in-Some-clause-goes c tally after outcome room rest h =
     let d = c.args.device.now in
     let ring = ring_of c.args.kind d in
     let looks : looks_again c.args.kind ≡ true = search rules in
     let lt : c.args.head < ring.size = search rules in
-    let spots : used_spots c.args.regions.now (used_entry ring c.args.head) ≡ Some c.in-Some.spots =
+    let spots : used_spots c.args.regions.now (used_entry ring c.args.head) ≡ Some c.put_spots.new.spots =
     search rules in
-    let place : spot c.args.regions.now (ring.avail + 2) 2 ≡ Some c.in-Some-find_from.at =
+    let place : spot c.args.regions.now (ring.avail + 2) 2 ≡ Some c.in-Some.at =
     search rules in
-    let writes = ap (λ (e : UsedEntry). giving true (record {
-      spots = c.in-Some.spots;
+    let writes =
+    ap (λ (e : UsedEntry). giving true (record {
+      spots = c.put_spots.new.spots;
       id = e.id;
       length = e.length;
       index = e.index;
     })) (c.used_entry-entry.ensures ∙ ap (λ (n : ℕ). used_entry ring n) c.from.ensures) in
     given_goes (whole c.args.regions.now c.args.kind after outcome) d c.count_used.new.self tally
-    c.args.head _ c.in-Some.spots c.in-Some-find_from.at rest looks lt c.requires spots place
+    c.args.head _ c.put_spots.new.spots c.in-Some.at rest looks lt c.requires spots place
     c.count_used.ensures writes h
