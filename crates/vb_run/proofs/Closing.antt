@@ -1,18 +1,21 @@
 -- From what the locks kept to the report.
 use Rattle.std.proofs.Common.{◌≡◌, refl, sym, ◌∙◌, ap, subst, ℕ, zero, suc, ◌<◌, Bool, false, List}
+use Rattle.std.{specs.Prelude.{not, ◌==◌, ◌&&◌}}
 use Rattle.std.proofs.Common.{[], ◌∷◌, length, Some, None, slice_get, arith, All, map}
-use Rattle.std.specs.{Prelude.{not, ◌==◌, ◌&&◌}, declared.vec.Vec.Vec, declared.alloc.Global.Global}
-use Rattle.std.proofs.lemmas.{Option.slice_get_within, List.length-map}
+use Rattle.std.{proofs.lemmas.Option.slice_get_within}
+use Rattle.std.proofs.lemmas.List.{length-map}
 use Rattle.vb_model.specs.declared.calls.Actor.TheVariants.{Processor, Balancer}
-use Rattle.vb_model.{specs.declared.calls.Call.Call, specs.declared.replies.Reply.Reply}
+use Rattle.vb_model.{specs.declared.calls.Call.Call}
 use Rattle.vb_model.{specs.Guest.Guest, specs.GuestRun.IsHistory, proofs.Histories.history_is_safe}
 use Rattle.vb_run.{specs.declared.plan.Plan.Plan, specs.declared.plan.GuestPlan.GuestPlan}
 use Rattle.vb_run.{specs.declared.report.GuestReport.GuestReport, specs.Plans.config_of}
 use Rattle.vb_run.{specs.declared.report.Report.Report, specs.Services.services}
-use Rattle.vb_run.{specs.Entries.{calls_by, replies_by, entries_by}, proofs.Tended.served}
-use Rattle.vb_run.specs.Past.{Past, IsKept, AreScripts, AllEnded, AreHushed}
+use Rattle.vb_run.{specs.Entries.{calls_by, entries_by}, proofs.Tended.served}
+use Rattle.vb_run.specs.Past.{Past, IsKept, AreScripts, AllEnded, AreHushed, scripts_in}
+use Rattle.vb_run.{specs.Notes.history_of, proofs.Noted.{scripts_alike, balancers, replied}}
 use Rattle.vb_run.{specs.Rounds.{Rounded, round_entries}, proofs.Lists.{take_whole, some_same}}
 use Rattle.vb_run.specs.Reports.{IsGuestReport, IsReport, IsRound, AreApart, frames_behind}
+use Rattle.vb_run.specs.Reports.{history_in}
 use Rattle.vb_ram.specs.declared.config.Config.{Config as Sizes}
 
 -- configurations that aren't told apart are the same
@@ -38,29 +41,35 @@ pub closes : (Is : Guest → Type 0) (own : List ℕ) (p : Past) (floor guest : 
     (paced : Bool) (rounds : List Rounded) (report : GuestReport) (k : IsKept Is own p)
     → p.guest ≡ guest → p.sizes ≡ plan.config → p.paced ≡ paced → AreHushed p.quiet
     → AreScripts p.scripts plan.scripts.items → AllEnded p.scripts
-    → entries_by Balancer p.history ≡ round_entries floor guest rounds
-    → report.history.items ≡ p.history → length report.replies.items ≡ length plan.scripts.items
-    → ((cpu : ℕ) (replies : Vec Reply Global) → slice_get report.replies.items cpu ≡ Some replies
-    → replies.items ≡ replies_by (Processor guest cpu) p.history) → ((g : Guest) → Is g
-    → report.frames.items ≡ frames_behind g) → IsGuestReport floor guest plan paced rounds report
+    → entries_by Balancer (history_of guest [] report.history.items)
+    ≡ round_entries floor guest rounds
+    → history_of p.guest (scripts_in p.scripts) report.history.items ≡ p.history
+    → ((g : Guest) → Is g → report.frames.items ≡ frames_behind g)
+    → IsGuestReport floor guest plan paced rounds report
 closes Is own p floor guest plan paced rounds report k is sizes pace quiet scripts ended balanced
-    history count replies frames =
-    let run : IsHistory (config_of plan.config paced) 0 report.history.items k.now =
+    noted frames =
+    let calls = map (λ v. v.items) plan.scripts.items in
+    let history : history_in guest plan report ≡ p.history =
+    ap (λ (l : List (List Call)). history_of guest l report.history.items)
+    (scripts_alike p.scripts plan.scripts.items scripts)
+    ∙ ap (λ (g : ℕ). history_of g (scripts_in p.scripts) report.history.items) (sym is) ∙ noted in
+    let run : IsHistory (config_of plan.config paced) 0 (history_in guest plan report) k.now =
     rw history (subst (λ (b : Bool). IsHistory (config_of plan.config b) 0 p.history k.now) pace
     (subst (λ (s : Sizes). IsHistory (config_of s p.paced) 0 p.history k.now) sizes k.run)) in
     record {
       last = k.now;
-      safe = history_is_safe (config_of plan.config paced) 0 report.history.items k.now run;
+      safe = history_is_safe (config_of plan.config paced) 0 (history_in guest plan report) k.now run;
       made = rw (history, sym is, sym scripts.0) k.made;
-      scripts = count;
-      plays = λ cpu calls got here answers.
-          let s = there p.scripts plan.scripts.items cpu calls scripts.0 here in (
-            ap (calls_by (Processor guest cpu)) history ∙ ap (λ (g : ℕ). calls_by
-                (Processor g cpu) p.history) (sym is) ∙ k.follows cpu s.0 s.1 ∙ take_whole
-                s.0.calls s.0.place (ended cpu s.0 s.1) ∙ scripts.1 cpu s.0 calls s.1 here,
-            ap (replies_by (Processor guest cpu)) history ∙ sym (replies cpu got answers),
+      plays = λ cpu own here.
+          let s = there p.scripts plan.scripts.items cpu own scripts.0 here in (
+            ap (calls_by (Processor guest cpu)) history
+                ∙ ap (λ (g : ℕ). calls_by (Processor g cpu) p.history) (sym is)
+                ∙ k.follows cpu s.0 s.1
+                ∙ take_whole s.0.calls s.0.place (ended cpu s.0 s.1)
+                ∙ scripts.1 cpu s.0 own s.1 here,
+            replied guest cpu calls report.history.items,
           );
-      balanced = rw history balanced;
+      balanced = balancers guest calls report.history.items ∙ balanced;
       served = served k.now k.tended
           (λ n call at. k.hushed n call (quiet n (few_services n call at)) at);
       frames = frames k.now k.stands;
@@ -78,9 +87,10 @@ pub reported : {S D : Type 0} (seat : S → Bool) (port : D → Bool) (plan : Pl
     (seats : List S) (ports : List D) (gs : List GuestPlan) (rs ms : List Rounded)
     → gs ≡ plan.guests.items → rs ≡ report.rounds.items → ms ≡ report.rounds.items
     → length report.guests.items ≡ length gs → length ports ≡ length plan.guests.items
-    → map seat seats ≡ map port ports → ((g : ℕ) (r : GuestReport) (p : GuestPlan) (s : S)
-    → slice_get report.guests.items g ≡ Some r → slice_get gs g ≡ Some p
-    → slice_get seats g ≡ Some s → IsGuestReport plan.floor g p (seat s) rs r)
+    → map seat seats ≡ map port ports
+    → ((g : ℕ) (r : GuestReport) (p : GuestPlan) (s : S) → slice_get report.guests.items g ≡ Some r
+    → slice_get gs g ≡ Some p → slice_get seats g ≡ Some s
+    → IsGuestReport plan.floor g p (seat s) rs r)
     → AreApart report.guests.items → length report.rounds.items ≡ plan.rounds
     → All (IsRound plan) ms → IsReport plan (map port ports) report
 reported seat port plan report seats ports gs rs ms e f h len placed alike each apart count all =

@@ -2,45 +2,50 @@
 use Rattle.std.proofs.Common.{◌≡◌, refl, sym, ◌∙◌, ap, ℕ, ◌+◌, ◌<◌, true, false, List, [], ◌∷◌}
 use Rattle.std.proofs.Common.{◌++◌, length, take, drop, Some, None, add-one, take-suc, get_or, zero}
 use Rattle.std.{proofs.Common.{suc, arith, ◌≤◌, slice_get}, specs.List.list_all}
-use Rattle.std.{proofs.lemmas.List.Folds.list_all-append, specs.Prelude.{filter_map, Option}}
-use Rattle.std.proofs.lemmas.List.{append-nil, append_assoc, take-append-drop}
+use Rattle.std.{proofs.lemmas.List.Folds.list_all-append, specs.Prelude.{filter_map, Option, option_map}}
+use Rattle.std.{proofs.lemmas.List.{append-nil, append_assoc, take-append-drop}, proofs.lemmas.Option.slice_get-map}
 use Rattle.std.proofs.lemmas.List.Elements.{filter_map-append, filter-append}
-use Rattle.vb_model.specs.{Guest.frame_of, GuestRun.Entry, declared.calls.Actor.Actor}
-use Rattle.vb_model.specs.declared.{calls.Actor.TheVariants.Balancer, replies.Reply.Reply}
-use Rattle.vb_run.specs.Entries.{is_same, actor_of, reply_to, replies_by, entries_by}
+use Rattle.vb_model.{specs.declared.calls.Actor.Actor, specs.declared.replies.Reply.Reply}
+use Rattle.vb_model.{specs.declared.calls.Actor.TheVariants.Balancer, specs.Guest.frame_of}
+use Rattle.vb_model.specs.GuestRun.{Entry}
+use Rattle.vb_run.specs.Entries.{is_same, actor_of, entries_by}
+use Rattle.vb_run.{specs.declared.note.Note.Note, specs.Notes.{noted_entry, history_of, reply_in}}
+use Rattle.vb_run.{specs.Notes.replies_in, proofs.Histories.entries_other}
 use Rattle.vb_run.specs.Rounds.{Rounded, entries_of_round, is_of_round, round_entries}
-use Rattle.vb_run.proofs.Lists.{passes_at, take_next}
+use Rattle.vb_run.proofs.Lists.{map_more, passes_at, take_next}
 
-pub replies_some : (a : Actor) (h : List Entry) (n : ℕ) (d : Entry) (r : Reply) → n < length h
-    → reply_to a (get_or h n d) ≡ Some r
-    → replies_by a (take (n + 1) h) ≡ replies_by a (take n h) ++ r ∷ []
-replies_some a h n d r within is = grind (
-  arith,
-  add-one n,
-  take-suc h n d within,
-  filter_map-append (reply_to a) (take n h) (get_or h n d ∷ []),
-)
+pub reply_some : (cpu : ℕ) (notes : List Note) (n : ℕ) (d : Note) (r : Reply)
+    → n < length notes → reply_in cpu (get_or notes n d) ≡ Some r
+    → replies_in cpu (take (n + 1) notes) ≡ replies_in cpu (take n notes) ++ r ∷ []
+reply_some cpu notes n d r within is =
+    grind (
+      arith,
+      add-one n,
+      take-suc notes n d within,
+      filter_map-append (reply_in cpu) (take n notes) (get_or notes n d ∷ []),
+    )
 
-pub replies_none : (a : Actor) (h : List Entry) (n : ℕ) (d : Entry) → n < length h
-    → reply_to a (get_or h n d) ≡ None → replies_by a (take (n + 1) h) ≡ replies_by a (take n h)
-replies_none a h n d within is = grind (
-  arith,
-  add-one n,
-  take-suc h n d within,
-  filter_map-append (reply_to a) (take n h) (get_or h n d ∷ []),
-  append-nil (replies_by a (take n h)),
-)
+pub reply_none : (cpu : ℕ) (notes : List Note) (n : ℕ) (d : Note) → n < length notes
+    → reply_in cpu (get_or notes n d) ≡ None
+    → replies_in cpu (take (n + 1) notes) ≡ replies_in cpu (take n notes)
+reply_none cpu notes n d within is =
+    grind (
+      arith,
+      add-one n,
+      take-suc notes n d within,
+      filter_map-append (reply_in cpu) (take n notes) (get_or notes n d ∷ []),
+      append-nil (replies_in cpu (take n notes)),
+    )
 
-pub entries_none : (a : Actor) (h : List Entry) (n : ℕ) (d : Entry) → n < length h
-    → is_same a (actor_of (get_or h n d)) ≡ false
-    → entries_by a (take (n + 1) h) ≡ entries_by a (take n h)
-entries_none a h n d within is = grind (
-  arith,
-  add-one n,
-  take-suc h n d within,
-  filter-append (λ e. is_same a (actor_of e)) (take n h) (get_or h n d ∷ []),
-  append-nil (entries_by a (take n h)),
-)
+-- a note of somebody else is none of the balancer's
+pub entries_none : (guest : ℕ) (notes : List Note) (n : ℕ) (d : Note) → n < length notes
+    → is_same Balancer (actor_of (noted_entry guest [] (get_or notes n d))) ≡ false
+    → entries_by Balancer (history_of guest [] (take (n + 1) notes))
+    ≡ entries_by Balancer (history_of guest [] (take n notes))
+entries_none guest notes n d within is =
+    ap (entries_by Balancer) (map_more (noted_entry guest []) notes n d within)
+    ∙ entries_other Balancer (history_of guest [] (take n notes))
+    (noted_entry guest [] (get_or notes n d)) is
 
 round_push : (floor guest : ℕ) (rs : List Rounded) (r : Rounded) → round_entries floor guest (rs
     ++ r ∷ []) ≡ round_entries floor guest rs ++ entries_of_round floor guest r
@@ -95,6 +100,12 @@ entries_on a h n e at is = grind (
   add-one n,
   take_next h n e,
 )
+
+-- the entry that the note at a place stands for
+pub noted_at : (guest : ℕ) (notes : List Note) (n : ℕ) (note : Note) → slice_get notes n ≡ Some note
+    → slice_get (history_of guest [] notes) n ≡ Some (noted_entry guest [] note)
+noted_at guest notes n note at =
+    slice_get-map (noted_entry guest []) notes n ∙ ap (option_map (noted_entry guest [])) at
 
 -- an entry of the balancer that is the next of those that are expected
 pub made_next : (h expected : List Entry) (n place : ℕ) (e : Entry) → slice_get h n ≡ Some e

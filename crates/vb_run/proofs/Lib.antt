@@ -2,6 +2,7 @@ pub mod Lists
 pub mod Tended
 pub mod Histories
 pub mod Keeping
+pub mod Noted
 pub mod Gathered
 pub mod Distinct
 pub mod Closing
@@ -9,6 +10,7 @@ pub mod Starting
 mod PlanFacts
 mod RoundFacts
 mod EntryFacts
+mod NoteFacts
 mod ServiceFacts
 mod ReportFacts
 mod MadeFacts

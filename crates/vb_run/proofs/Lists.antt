@@ -4,6 +4,7 @@ use Rattle.std.proofs.Common.{◌++◌, length, Some, slice_get, slice_set, ◌�
 use Rattle.std.proofs.Common.{arith, map, take, All, add-one, take-suc, take_all, get_or, ◌≢◌, true}
 use Rattle.std.{proofs.Common.Bool, specs.List.{list_all, Contains}, proofs.lemmas.Bool.and_parts}
 use Rattle.std.{proofs.Math.Seq.take-length, proofs.lemmas.List.Elements.All-push}
+use Rattle.std.proofs.lemmas.List.{map-append}
 use Rattle.std.proofs.lemmas.Option.{slice_get_within, get_or_from_slice_get}
 pub use Rattle.std.proofs.lemmas.List.Folds.{list_all_more, list_all_at}
 
@@ -92,3 +93,9 @@ mapped_alike f h (a ∷ xs) [] i x y lt less same = absurd (omega (arith, less))
 mapped_alike f h (a ∷ xs) (b ∷ ys) zero x y lt less same = cc
 mapped_alike f h (a ∷ xs) (b ∷ ys) (suc i) x y lt less same = let rest : map f xs ≡ map h ys = cc in
     mapped_alike f h xs ys i x y (omega (arith, lt)) (omega (arith, less)) rest
+
+-- one more of a list is mapped
+pub map_more : {X Y : Type 0} (f : X → Y) (xs : List X) (n : ℕ) (d : X) → n < length xs
+    → map f (take (n + 1) xs) ≡ map f (take n xs) ++ f (get_or xs n d) ∷ []
+map_more f xs n d within =
+    grind (arith, add-one n, take-suc xs n d within, map-append f (take n xs) (get_or xs n d ∷ []))

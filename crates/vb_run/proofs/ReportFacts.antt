@@ -16,7 +16,8 @@ use Rattle.vb_run.{specs.declared.plan.GuestPlan.GuestPlan, specs.declared.plan.
 use Rattle.vb_run.{specs.declared.report.GuestReport.GuestReport, specs.Plans.config_of}
 use Rattle.vb_run.{specs.declared.report.Report.Report, specs.Rounds.{Rounded, round_entries}}
 use Rattle.vb_run.specs.Entries.{calls_by, replies_by, entries_by}
-use Rattle.vb_run.specs.Reports.{frames_behind, Plays, IsGuestReport, IsRound, AreApart, IsReport}
+use Rattle.vb_run.specs.Notes.{replies_in}
+use Rattle.vb_run.specs.Reports.{frames_behind, history_in, Plays, IsGuestReport, IsRound, AreApart, IsReport}
 use Rattle.vb_ram.specs.declared.config.Config.{Config as Sizes}
 
 abbrev Same : ℕ → ℕ → Type 0
@@ -63,31 +64,34 @@ made cpu call reply = Called (Processor 1 cpu) call [] reply
 -- a guest of one processor
 abbrev Accepts : List Call → List Entry → List Reply → Type 0
 Accepts script entries replied =
-    (plan : GuestPlan) (report : GuestReport) (calls : Vec Call Global) (replies : Vec Reply Global)
-    → plan.scripts.items ≡ calls ∷ [] → calls.items ≡ script → report.replies.items ≡ replies
-    ∷ [] → replies.items ≡ replied → report.history.items ≡ entries → Plays 1 plan report
+    (plan : GuestPlan) (report : GuestReport) (calls : Vec Call Global)
+    → plan.scripts.items ≡ calls ∷ [] → calls.items ≡ script
+    → replies_in 0 report.history.items ≡ replied
+    → history_in 1 plan report ≡ entries → Plays 1 plan report
 
 -- whatever the other processors do
 abbrev Refuses : ℕ → List Call → List Entry → List Reply → Type 0
-Refuses cpu script entries replied = (plan : GuestPlan) (report : GuestReport)
-    (calls : Vec Call Global) (replies : Vec Reply Global) → slice_get plan.scripts.items cpu
-    ≡ Some calls → calls.items ≡ script → slice_get report.replies.items cpu ≡ Some replies
-    → replies.items ≡ replied → report.history.items ≡ entries → Plays 1 plan report → ⊥
+Refuses cpu script entries replied =
+    (plan : GuestPlan) (report : GuestReport) (calls : Vec Call Global)
+    → slice_get plan.scripts.items cpu ≡ Some calls → calls.items ≡ script
+    → replies_in cpu report.history.items ≡ replied
+    → history_in 1 plan report ≡ entries → Plays 1 plan report → ⊥
 
 by_calls : (cpu : ℕ) (script : List Call) (entries : List Entry) (replied : List Reply)
     → (calls_by (Processor 1 cpu) entries ≡ script → ⊥) → Refuses cpu script entries replied
-by_calls cpu script entries replied wrong plan report calls replies at of_calls at_replies of_replies history plays =
-    grind arith
+by_calls cpu script entries replied wrong plan report calls at of_calls of_replies history plays =
+    wrong (ap (calls_by (Processor 1 cpu)) (sym history) ∙ (plays cpu calls at).0 ∙ of_calls)
 
 by_replies : (cpu : ℕ) (script : List Call) (entries : List Entry) (replied : List Reply)
     → (replies_by (Processor 1 cpu) entries ≡ replied → ⊥) → Refuses cpu script entries replied
-by_replies cpu script entries replied wrong plan report calls replies at of_calls at_replies of_replies history plays =
-    grind arith
+by_replies cpu script entries replied wrong plan report calls at of_calls of_replies history plays =
+    wrong (ap (replies_by (Processor 1 cpu)) (sym history) ∙ (plays cpu calls at).1 ∙ of_replies)
 
 -- between the entries of others
-whole_script : Accepts (Stats ∷ Alloc 0 0 ∷ []) (Looked 16 32 ∷ made 0 Stats Filled
-    ∷ Called (Worker 1) Work [] Idle ∷ made 0 (Alloc 0 0) (Page 20) ∷ []) (Filled ∷ Page 20 ∷ [])
-whole_script plan report calls replies scripts of_calls all of_replies history = grind arith
+whole_script : Accepts (Stats ∷ Alloc 0 0 ∷ [])
+    (Looked 16 32 ∷ made 0 Stats Filled ∷ Called (Worker 1) Work [] Idle
+    ∷ made 0 (Alloc 0 0) (Page 20) ∷ []) (Filled ∷ Page 20 ∷ [])
+whole_script plan report calls scripts of_calls of_replies history = grind arith
 
 call_left_out : Refuses 0 (Stats ∷ Alloc 0 0 ∷ []) (made 0 Stats Filled ∷ []) (Filled ∷ [])
 call_left_out =
@@ -186,52 +190,43 @@ plays_scripts : (plan : GuestPlan) (paced : Bool) (rounds : List Rounded) (repor
     → IsGuestReport 16 1 plan paced rounds report → Plays 1 plan report
 plays_scripts plan paced rounds report is = is.plays
 
--- replies for each script
-script_without_replies : (plan : GuestPlan) (rounds : List Rounded) (report : GuestReport)
-    (calls : Vec Call Global) → plan.scripts.items ≡ calls ∷ [] → report.replies.items ≡ []
-    → NoReport plan rounds report
-script_without_replies plan rounds report calls scripts replies paced is = grind arith
-
-replies_without_a_script : (plan : GuestPlan) (rounds : List Rounded) (report : GuestReport)
-    (replies : Vec Reply Global) → plan.scripts.items ≡ [] → report.replies.items ≡ replies ∷ []
-    → NoReport plan rounds report
-replies_without_a_script plan rounds report replies scripts all paced is = grind arith
-
 -- Its history is that of a guest as it is plugged in, as large as the plan says, on a device of the
 -- given pace, with no target.
 runs_from_plug_on : (plan : GuestPlan) (paced : Bool) (rounds : List Rounded)
     (report : GuestReport) (is : IsGuestReport 16 1 plan paced rounds report)
     → plan.config ≡ record { pages = 64; queue_size = 8; processors = 2 }
-    → IsHistory (record config { paced = paced }) 0 report.history.items is.last
+    → IsHistory (record config { paced = paced }) 0 (history_in 1 plan report) is.last
 runs_from_plug_on plan paced rounds report is sizes =
-    subst (λ (s : Sizes). IsHistory (config_of s paced) 0 report.history.items is.last) sizes
+    subst (λ (s : Sizes). IsHistory (config_of s paced) 0 (history_in 1 plan report) is.last) sizes
     (is.safe.after, is.safe.leads, is.safe.ends)
 
 -- a guest that was called once is on a device of that pace still
 called_once : (plan : GuestPlan) (paced : Bool) (rounds : List Rounded) (report : GuestReport)
     (actor : Actor) (call : Call) (claims : List Claim) (reply : Reply)
     (is : IsGuestReport 16 1 plan paced rounds report)
-    → report.history.items ≡ Called actor call claims reply ∷ [] → is.last.config.paced ≡ paced
+    → history_in 1 plan report ≡ Called actor call claims reply ∷ [] → is.last.config.paced ≡ paced
 called_once plan paced rounds report actor call claims reply is history = grind arith
 
 paced_for_immediate : (plan : GuestPlan) (rounds : List Rounded) (report : GuestReport)
     (actor : Actor) (call : Call) (claims : List Claim) (reply : Reply)
     (is : IsGuestReport 16 1 plan false rounds report)
-    → report.history.items ≡ Called actor call claims reply ∷ [] → is.last.config.paced ≡ true → ⊥
+    → history_in 1 plan report ≡ Called actor call claims reply ∷ [] → is.last.config.paced ≡ true → ⊥
 paced_for_immediate plan rounds report actor call claims reply is history paced = grind arith
 
 immediate_for_paced : (plan : GuestPlan) (rounds : List Rounded) (report : GuestReport)
     (actor : Actor) (call : Call) (claims : List Claim) (reply : Reply)
     (is : IsGuestReport 16 1 plan true rounds report)
-    → report.history.items ≡ Called actor call claims reply ∷ [] → is.last.config.paced ≡ false → ⊥
+    → history_in 1 plan report ≡ Called actor call claims reply ∷ [] → is.last.config.paced ≡ false
+    → ⊥
 immediate_for_paced plan rounds report actor call claims reply is history immediate = grind arith
 
 -- A guest of 64 pages, of which 16 are reserved, can't spare 49: whatever its first call, no look
 -- sees that.
 look_that_saw_too_much : (plan : GuestPlan) (rounds : List Rounded) (report : GuestReport)
     (actor : Actor) (call : Call) (claims : List Claim) (reply : Reply) (rest : List Entry)
-    → plan.config ≡ record { pages = 64; queue_size = 8; processors = 2 } → report.history.items
-    ≡ Called actor call claims reply ∷ Looked 16 49 ∷ rest → NoReport plan rounds report
+    → plan.config ≡ record { pages = 64; queue_size = 8; processors = 2 }
+    → history_in 1 plan report ≡ Called actor call claims reply ∷ Looked 16 49 ∷ rest
+    → NoReport plan rounds report
 look_that_saw_too_much plan rounds report actor call claims reply rest sizes history paced is =
     by is.safe.after
     (subst (λ (l : List Entry). Leads (fresh (config_of plan.config paced) 0) (all_entries l)
@@ -251,8 +246,9 @@ look_that_saw_too_much plan rounds report actor call claims reply rest sizes his
 
 -- The balancer's entries are those of the rounds.
 abbrev Unbalanced : List Rounded → List Entry → Type 0
-Unbalanced rounds entries = (plan : GuestPlan) (report : GuestReport)
-    → report.history.items ≡ entries → NoReport plan rounds report
+Unbalanced rounds entries =
+    (plan : GuestPlan) (report : GuestReport) → history_in 1 plan report ≡ entries
+    → NoReport plan rounds report
 
 by_entries : (rounds : List Rounded) (entries : List Entry)
     → (entries_by Balancer entries ≡ round_entries 16 1 rounds → ⊥) → Unbalanced rounds entries

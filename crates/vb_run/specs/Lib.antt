@@ -1,6 +1,7 @@
 pub mod Entries
 pub mod Plans
 pub mod Services
+pub mod Notes
 pub mod Made
 pub mod Past
 pub mod Rounds

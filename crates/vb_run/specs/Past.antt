@@ -1,7 +1,7 @@
 -- What a guest's lock keeps.
 use Rattle.std.specs.Prelude.{◌≡◌, ℕ, ◌+◌, ◌<◌, Bool, true, false, List, [], ◌∷◌, ◌++◌, length}
-use Rattle.std.specs.Prelude.{take, Some, replicate}
-use Rattle.std.specs.Prelude.{slice_get, slice_index_or, slice_set, ⊤, All, Contains}
+use Rattle.std.specs.Prelude.{take, Some, replicate, map}
+use Rattle.std.specs.Prelude.{slice_get, slice_index_or, slice_set, ⊤}
 use Rattle.std.specs.List.{list_all}
 use Rattle.std.specs.declared.vec.Vec.{Vec}
 use Rattle.std.specs.declared.alloc.Global.{Global}
@@ -13,18 +13,22 @@ use Rattle.vb_model.specs.declared.calls.Call.TheVariants.{Init}
 use Rattle.vb_model.specs.declared.calls.Claim.{Claim}
 use Rattle.vb_model.specs.declared.replies.Reply.{Reply}
 use Rattle.vb_model.specs.Guest.{Guest}
-use Rattle.vb_model.specs.GuestRun.{Entry, Called, Looked, IsHistory}
+use Rattle.vb_model.specs.GuestRun.{Entry, Called, IsHistory}
 use Rattle.vb_slot.specs.Alone.{AreBehind}
 use Rattle.vb_run.specs.Entries.{calls_by}
 use Rattle.vb_ram.specs.declared.config.Config.{Config as Sizes}
 use Rattle.vb_run.specs.Made.{AreMade}
 use Rattle.vb_run.specs.Plans.{may_stand, config_of}
-use Rattle.vb_run.specs.Services.{IsTended, IsQuiet, services, found_nothing}
+use Rattle.vb_run.specs.Services.{IsTended, IsQuiet, services}
 
 -- a processor's script, and how many of its calls were made
 pub record Progress : Type 0 where
   pub calls : List Call
   pub place : ℕ
+
+-- the calls of all scripts
+abbrev pub scripts_in : List Progress → List (List Call)
+scripts_in scripts = map (λ s. s.calls) scripts
 
 pub record Past : Type 0 where
   -- the guest's number, how large it was plugged in, and whether its device is paced

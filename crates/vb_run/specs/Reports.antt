@@ -4,6 +4,7 @@ use Rattle.std.specs.Prelude.{slice_get, map}
 use Rattle.std.specs.Prelude.{filter_map, All, sum_by}
 use Rattle.vb_model.specs.declared.calls.Actor.TheVariants.{Processor, Balancer}
 use Rattle.vb_model.specs.Guest.{Guest}
+use Rattle.vb_model.specs.GuestRun.{Entry}
 use Rattle.vb_model.specs.Balance.{IsAnswer}
 use Rattle.vb_model.specs.Tests.{times}
 use Rattle.vb_model.specs.Histories.{IsSafeHistory}
@@ -14,6 +15,7 @@ use Rattle.vb_run.specs.declared.report.Report.{Report}
 use Rattle.vb_run.specs.Plans.{config_of}
 use Rattle.vb_run.specs.Entries.{calls_by, replies_by, entries_by}
 use Rattle.vb_run.specs.Made.{AreMade}
+use Rattle.vb_run.specs.Notes.{history_of, replies_in}
 use Rattle.vb_run.specs.Services.{IsServed}
 use Rattle.vb_run.specs.Rounds.{Rounded, round_entries}
 
@@ -21,23 +23,28 @@ use Rattle.vb_run.specs.Rounds.{Rounded, round_entries}
 abbrev pub frames_behind : Guest → List ℕ
 frames_behind g = filter_map (λ frame. frame) g.frames
 
--- a processor's entries are its script, whole and in order, with these replies
+-- the history of a guest of this number and plan
+abbrev pub history_in : ℕ → GuestPlan → GuestReport → List Entry
+history_in guest plan report =
+    history_of guest (map (λ calls. calls.items) plan.scripts.items) report.history.items
+
+-- a processor's entries are its script, whole and in order, with the replies that are reported
 abbrev pub Plays : ℕ → GuestPlan → GuestReport → Type 0
 Plays guest plan report =
-    (cpu : ℕ) (calls : _) (replies : _) → slice_get plan.scripts.items cpu ≡ Some calls
-    → slice_get report.replies.items cpu ≡ Some replies
-    → (calls_by (Processor guest cpu) report.history.items ≡ calls.items)
-    × (replies_by (Processor guest cpu) report.history.items ≡ replies.items)
+    (cpu : ℕ) (calls : _) → slice_get plan.scripts.items cpu ≡ Some calls
+    → (calls_by (Processor guest cpu) (history_in guest plan report) ≡ calls.items)
+    × (replies_by (Processor guest cpu) (history_in guest plan report)
+    ≡ replies_in cpu report.history.items)
 
 -- of the guest that was plugged in at this place, on a device that is, or isn't, paced
 pub record IsGuestReport (floor guest : ℕ) (plan : GuestPlan) (paced : Bool)
     (rounds : List Rounded) (report : GuestReport) : Type 0 where
   pub last : Guest
-  pub safe : IsSafeHistory (config_of plan.config paced) 0 report.history.items last
-  pub made : AreMade guest (length plan.scripts.items) report.history.items
-  pub scripts : length report.replies.items ≡ length plan.scripts.items
+  pub safe : IsSafeHistory (config_of plan.config paced) 0 (history_in guest plan report) last
+  pub made : AreMade guest (length plan.scripts.items) (history_in guest plan report)
   pub plays : Plays guest plan report
-  pub balanced : entries_by Balancer report.history.items ≡ round_entries floor guest rounds
+  pub balanced : entries_by Balancer (history_in guest plan report)
+      ≡ round_entries floor guest rounds
   pub served : IsServed last
   pub frames : report.frames.items ≡ frames_behind last
 

@@ -1,79 +1,32 @@
 //! What is compared and gathered once all threads of a run have ended.
 
-ghost use Rattle.std.specs.Prelude.{◌≡◌, ◌↔◌, ◌≤◌, ◌<◌, ℕ, Bool, true, length, IfOk, OnOk};
+ghost use Rattle.std.specs.Prelude.{◌≡◌, ◌↔◌, ◌≤◌, ◌<◌, true, length, IfOk, OnOk, []};
 ghost use Rattle.std.specs.Prelude.{Some, slice_get, map, All, ◌++◌};
 ghost use Rattle.std.specs.Prelude.{slice_index_or, drop};
-ghost use Rattle.vb_model.specs.declared.calls.Actor.TheVariants.{Processor, Balancer};
+ghost use Rattle.vb_model.specs.declared.calls.Actor.TheVariants.{Balancer};
 ghost use Rattle.vb_model.specs.Balance.{spare_at};
-ghost use Rattle.vb_run.specs.Entries.{entry_of, is_same, entries_by, replies_by, actor_of};
-ghost use Rattle.vb_run.specs.Entries.{reply_to};
+ghost use Rattle.vb_run.specs.Entries.{is_same, entries_by, actor_of};
+ghost use Rattle.vb_run.specs.Notes.{history_of, noted_entry};
 ghost use Rattle.vb_run.specs.Reports.{IsRound};
 ghost use Rattle.vb_run.specs.Rounds.{is_of_round, round_entries, target_entries};
 ghost use Rattle.std.specs.List.{list_all};
 
-use crate::entry::{Entry, Step, is_same};
+use crate::entry::{Entry, Step};
+use crate::note::{Caller, Note};
 use crate::plan::{GuestPlan, Plan};
 use crate::round::Round;
 use std::alloc::{AllocError, Global};
 use vb_balance::GuestNeed;
 use vb_model::{Actor, Call, Reply};
 
-/// Whether the entry is this actor's.
-fn is_by(entry: &Entry, actor: Actor) -> bool
-    ensures { result ≡ is_same actor (actor_of entry.now) }
+/// Whether the note is the balancer's.
+fn is_balancers(guest: u32, note: &Note) -> bool
+    ensures { result ≡ is_same Balancer (actor_of (noted_entry guest [] note.now)) }
 {
-    match entry.step() {
-        Step::Called { actor: own, .. } => is_same(actor, *own),
-        Step::Looked { .. } => is_same(actor, Actor::Balancer),
+    match note {
+        Note::Called { caller, .. } => matches!(caller, Caller::Balancer { .. }),
+        Note::Looked { .. } => true,
     }
-}
-
-/// A copy of the reply that the entry has, if it is a call of this actor.
-fn reply_by(alloc: Global, entry: &Entry, actor: Actor) -> Result<Option<Reply>, AllocError>
-    ensures { IfOk result (λ reply. reply ≡ reply_to actor entry.now) }
-{
-    match entry.step() {
-        Step::Called {
-            actor: own,
-            reply,
-            ..
-        } if is_same(actor, *own) => Ok(Some(reply.copy(alloc)?)),
-        _ => Ok(None),
-    }
-}
-
-/// The replies that an actor got.
-#[tactic(auto, using(crate::proofs::Gathered::replies_some, crate::proofs::Gathered::replies_none))]
-fn replies_of(alloc: Global, history: &[Entry], actor: Actor) -> Result<Vec<Reply>, AllocError>
-    ensures { IfOk result (λ replies. replies.items ≡ replies_by actor history.now) }
-{
-    let mut replies = Vec::new(alloc);
-    for entry in history {
-        if let Some(reply) = reply_by(alloc, entry, actor)? {
-            replies.push(reply)?;
-        }
-    }
-    Ok(replies)
-}
-
-/// The replies that each of a guest's processors got.
-pub(crate) fn all_replies(
-    alloc: Global,
-    history: &[Entry],
-    guest: u32,
-    processors: u32,
-) -> Result<Vec<Vec<Reply>>, AllocError>
-    ensures len { IfOk result (λ all. length all.items ≡ processors) }
-    ensures each { IfOk result (λ all. (cpu : ℕ) (replies : _)
-        → slice_get all.items cpu ≡ Some replies
-        → replies.items ≡ replies_by (Processor guest cpu) history.now) }
-{
-    let mut all = Vec::new(alloc);
-    for cpu in 0..processors {
-        let actor = Actor::Processor { guest, cpu };
-        all.push(replies_of(alloc, history, actor)?)?;
-    }
-    Ok(all)
 }
 
 /// How many pages the guest of this number could spare.
@@ -143,17 +96,16 @@ pub(crate) fn expected_of(
 }
 
 /// Whether the two are one look, or one target that was set without a claim.
-fn is_same_entry(entry: &Entry, other: &Entry) -> bool
-    ensures { (result ≡ true)
-        ↔ ((entry.now ≡ other.now) × (is_of_round entry.now ≡ true)) }
+fn is_same_entry(guest: u32, note: &Note, other: &Entry) -> bool
+    ensures { (result ≡ true) ↔ ((noted_entry guest [] note.now ≡ other.now)
+        × (is_of_round (noted_entry guest [] note.now) ≡ true)) }
 {
-    match (entry.step(), other.step()) {
-        (Step::Looked { floor: a, spare: b }, Step::Looked { floor: c, spare: d }) => a == c
+    match (note, other.step()) {
+        (Note::Looked { floor: a, spare: b }, Step::Looked { floor: c, spare: d }) => a == c
             && b == d,
         (
-            Step::Called {
-                actor: Actor::Balancer,
-                call: Call::SetTarget { pages: a },
+            Note::Called {
+                caller: Caller::Balancer { pages: a },
                 claims: b,
                 reply: Reply::Done,
             },
@@ -168,26 +120,28 @@ fn is_same_entry(entry: &Entry, other: &Entry) -> bool
     }
 }
 
-/// Whether this entry stands at a place of the expected ones, and is one of a round.
-fn is_at(expected: &[Entry], place: usize, entry: &Entry) -> bool
+/// Whether this note stands at a place of the expected entries, and is one of a round.
+fn is_at(guest: u32, expected: &[Entry], place: usize, note: &Note) -> bool
     ensures { (result ≡ true)
-        ↔ ((slice_get expected.now place ≡ Some entry.now) × (is_of_round entry.now ≡ true)) }
+        ↔ ((slice_get expected.now place ≡ Some (noted_entry guest [] note.now))
+        × (is_of_round (noted_entry guest [] note.now) ≡ true)) }
 {
-    place < expected.len() && is_same_entry(entry, &expected[place])
+    place < expected.len() && is_same_entry(guest, note, &expected[place])
 }
 
 /// Whether these are the balancer's entries, and each of them one of a round.
 #[tactic(auto, using(crate::proofs::Gathered::entries_none))]
-pub(crate) fn has_made(history: &[Entry], expected: &[Entry]) -> bool
-    ensures { (result ≡ true) ↔ ((entries_by Balancer history.now ≡ expected.now)
+pub(crate) fn has_made(guest: u32, history: &[Note], expected: &[Entry]) -> bool
+    ensures { (result ≡ true)
+        ↔ ((entries_by Balancer (history_of guest [] history.now) ≡ expected.now)
         × (list_all is_of_round expected.now ≡ true)) }
 {
     let mut place = 0;
-    for entry in history {
-        if !is_by(entry, Actor::Balancer) {
+    for note in history {
+        if !is_balancers(guest, note) {
             continue;
         }
-        if !is_at(expected, place, entry) {
+        if !is_at(guest, expected, place, note) {
             return false;
         }
         place += 1;

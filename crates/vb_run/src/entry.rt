@@ -2,7 +2,7 @@
 //! and each look of the balancer.
 
 ghost use Rattle.std.specs.Prelude.{◌≡◌};
-ghost use Rattle.vb_run.specs.Entries.{entry_of, is_same};
+ghost use Rattle.vb_run.specs.Entries.{entry_of};
 
 use std::marker::Model;
 use vb_model::{Actor, Call, Claim, Reply};
@@ -53,20 +53,5 @@ impl Entry {
         ensures { entry_of result.now ≡ self.now }
     {
         &self.step
-    }
-}
-
-/// Whether the two are one actor.
-pub(crate) fn is_same(one: Actor, other: Actor) -> bool
-    ensures { result ≡ is_same one other }
-{
-    match (one, other) {
-        (Actor::Starter, Actor::Starter) => true,
-        (Actor::Processor { guest: g, cpu: c }, Actor::Processor { guest: h, cpu: d }) => {
-            g == h && c == d
-        }
-        (Actor::Worker { guest: g }, Actor::Worker { guest: h }) => g == h,
-        (Actor::Balancer, Actor::Balancer) => true,
-        _ => false,
     }
 }

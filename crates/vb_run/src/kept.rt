@@ -16,8 +16,8 @@ ghost use Rattle.vb_run.specs.Plans.{config_of};
 ghost use Rattle.vb_run.specs.Reports.{IsGuestReport, frames_behind};
 ghost use Rattle.vb_run.specs.Services.{found_nothing};
 
-use crate::audit::{all_replies, expected_of, has_made};
-use crate::entry::{Entry, Step};
+use crate::audit::{expected_of, has_made};
+use crate::note::{Caller, Note};
 use crate::plan::GuestPlan;
 use crate::report::{GuestReport, Stop};
 use crate::room::{claims_in, make_room};
@@ -30,7 +30,7 @@ use std::marker::Model;
 use std::sync::Wait;
 use vb_balance::GuestNeed;
 use vb_model::negotiation::OFFERED_FEATURES;
-use vb_model::{Actor, Call, Claim, Reply};
+use vb_model::{Call, Claim, Reply};
 use vb_ram::Config;
 use vb_slot::GuestSlot;
 
@@ -44,7 +44,7 @@ pub(crate) struct Kept<S: GuestSlot, L: AsSlice<Call> + Drop> {
     sizes: Config,
     paced: bool,
     slot: S,
-    history: Vec<Entry>,
+    history: Vec<Note>,
     /// Where the claims of the next call are noted.
     room: Vec<Claim>,
     scripts: Vec<Script<L>>,
@@ -55,7 +55,8 @@ pub(crate) struct Kept<S: GuestSlot, L: AsSlice<Call> + Drop> {
 }
 
 impl<S: GuestSlot, L: AsSlice<Call> + Drop> Model for Kept<S, L> {
-    ghost use Rattle.vb_run.specs.Past.{Past, IsKept};
+    ghost use Rattle.vb_run.specs.Notes.{history_of};
+    ghost use Rattle.vb_run.specs.Past.{Past, IsKept, scripts_in};
 
     ghost Value = { Past };
 
@@ -63,7 +64,7 @@ impl<S: GuestSlot, L: AsSlice<Call> + Drop> Model for Kept<S, L> {
       guest = k.guest;
       sizes = k.sizes;
       paced = k.paced;
-      history = k.history.items;
+      history = history_of k.guest (scripts_in k.scripts.items) k.history.items;
       scripts = k.scripts.items;
       quiet = k.quiet;
       short = k.short;
@@ -73,7 +74,7 @@ impl<S: GuestSlot, L: AsSlice<Call> + Drop> Model for Kept<S, L> {
       guest = k.guest;
       sizes = k.sizes;
       paced = k.paced;
-      history = k.history.items;
+      history = history_of k.guest (scripts_in k.scripts.items) k.history.items;
       scripts = k.scripts.items;
       quiet = k.quiet;
       short = k.short;
@@ -124,12 +125,11 @@ impl<S: GuestSlot, L: AsSlice<Call> + Drop> Kept<S, L> {
         };
         let reply = slot.call(alloc, &call);
         let claims = claims_in(alloc, &slot, &mut room);
-        history.push_reserved(Entry::new(Step::Called {
-            actor: Actor::Starter,
-            call,
+        history.push_reserved(Note::Called {
+            caller: Caller::Starter,
             claims,
             reply,
-        }));
+        });
         Ok(Kept {
             guest,
             sizes,
@@ -164,22 +164,20 @@ impl<S: GuestSlot, L: AsSlice<Call> + Drop> Kept<S, L> {
         let Some(call) = script.next() else {
             return Ok(None);
         };
-        let call = call.copy(alloc)?;
+        let caller = Caller::Processor {
+            cpu,
+            place: script.place(),
+        };
         self.history.reserve(1)?;
         make_room(&mut self.room)?;
-        let reply = self.slot.call(alloc, &call);
+        let reply = self.slot.call(alloc, call);
         let claims = claims_in(alloc, &self.slot, &mut self.room);
         let answer = reply.copy(alloc);
-        let actor = Actor::Processor {
-            guest: self.guest,
-            cpu,
-        };
-        self.history.push_reserved(Entry::new(Step::Called {
-            actor,
-            call,
+        self.history.push_reserved(Note::Called {
+            caller,
             claims,
             reply,
-        }));
+        });
         self.quiet = [false; SERVICES];
         self.scripts[cpu as usize].advance();
         answer.map(Some)
@@ -195,13 +193,11 @@ impl<S: GuestSlot, L: AsSlice<Call> + Drop> Kept<S, L> {
         let call = Call::SetTarget { pages };
         let reply = self.slot.call(alloc, &call);
         let claims = claims_in(alloc, &self.slot, &mut self.room);
-        let actor = Actor::Balancer;
-        self.history.push_reserved(Entry::new(Step::Called {
-            actor,
-            call,
+        self.history.push_reserved(Note::Called {
+            caller: Caller::Balancer { pages },
             claims,
             reply,
-        }));
+        });
         self.quiet = [false; SERVICES];
         Ok(())
     }
@@ -215,8 +211,7 @@ impl<S: GuestSlot, L: AsSlice<Call> + Drop> Kept<S, L> {
     {
         self.history.reserve(1)?;
         let spare = self.slot.spare(floor);
-        self.history
-            .push_reserved(Entry::new(Step::Looked { floor, spare }));
+        self.history.push_reserved(Note::Looked { floor, spare });
         Ok(GuestNeed {
             pages: self.sizes.pages,
             spare,
@@ -241,13 +236,11 @@ impl<S: GuestSlot, L: AsSlice<Call> + Drop> Kept<S, L> {
         }
         let claims = claims_in(alloc, &self.slot, &mut self.room);
         let answer = reply.copy(alloc);
-        let actor = Actor::Worker { guest: self.guest };
-        self.history.push_reserved(Entry::new(Step::Called {
-            actor,
-            call,
+        self.history.push_reserved(Note::Called {
+            caller: Caller::Worker { service: number },
             claims,
             reply,
-        }));
+        });
         self.quiet = [false; SERVICES];
         answer
     }
@@ -317,20 +310,12 @@ impl<S: GuestSlot, L: AsSlice<Call> + Drop> Kept<S, L> {
             return Err(Stop::Memory);
         }
         let expected = expected_of(alloc, floor, guest, rounds)?;
-        if !has_made(kept.history.as_slice(), expected.as_slice()) {
+        if !has_made(guest, kept.history.as_slice(), expected.as_slice()) {
             return Err(Stop::Audit);
         }
-        let Ok(count) = u32::try_from(plan.scripts.len()) else {
-            return Err(Stop::Audit);
-        };
-        let replies = all_replies(alloc, kept.history.as_slice(), guest, count)?;
         let frames = frames_of(alloc, &kept.slot)?;
         let Kept { history, .. } = kept;
-        Ok(GuestReport {
-            history,
-            replies,
-            frames,
-        })
+        Ok(GuestReport { history, frames })
     }
 }
 

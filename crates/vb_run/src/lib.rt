@@ -7,6 +7,7 @@ mod bell;
 mod entry;
 mod gate;
 mod kept;
+mod note;
 mod plan;
 mod ports;
 mod report;
@@ -19,6 +20,7 @@ mod threads;
 
 pub use entry::{Entry, Step};
 pub use gate::{Gate, OpenGate};
+pub use note::{Caller, Note};
 pub use plan::{Bells, GuestPlan, MAX_SCRIPT_CALLS, Plan};
 pub use ports::add_port;
 pub use report::{GuestReport, Report, RunFault};

@@ -1,20 +1,58 @@
 //! What a run answers.
 
+ghost use Rattle.std.specs.Prelude.{◌≡◌, IfOk};
+ghost use Rattle.vb_run.specs.Notes.{replies_in};
+ghost use Rattle.vb_run.specs.Reports.{history_in};
+
 use crate::entry::Entry;
+use crate::note::{Note, entry_of, reply_by};
+use crate::plan::GuestPlan;
 use crate::round::Round;
-use std::alloc::AllocError;
+use std::alloc::{AllocError, Global};
 use thiserror::Error;
 use vb_model::Reply;
 
 /// What was done to a guest.
 #[derive(Drop)]
 pub struct GuestReport {
-    /// All entries, in the order in which they were made under the guest's lock.
-    pub history: Vec<Entry>,
-    /// The replies to each processor's script.
-    pub replies: Vec<Vec<Reply>>,
+    /// All that was done, in the order in which it was done under the guest's lock.
+    pub history: Vec<Note>,
     /// The numbers of the frames behind the guest's pages at the end, by rising page.
     pub frames: Vec<u32>,
+}
+
+impl GuestReport {
+    /// A copy of the history with its calls, of the guest of this number and plan. Refused for want
+    /// of memory alone.
+    #[tactic(auto, using(crate::proofs::Lists::map_more))]
+    pub fn entries(
+        &self,
+        alloc: Global,
+        guest: u32,
+        plan: &GuestPlan,
+    ) -> Result<Vec<Entry>, AllocError>
+        ensures { IfOk result (λ entries. entries.items ≡ history_in guest plan.now self.now) }
+    {
+        let mut entries = Vec::new(alloc);
+        for note in &self.history {
+            entries.push(entry_of(alloc, guest, plan.scripts.as_slice(), note)?)?;
+        }
+        Ok(entries)
+    }
+
+    /// A copy of the replies to a processor's script. Refused for want of memory alone.
+    #[tactic(auto, using(crate::proofs::Gathered::reply_some, crate::proofs::Gathered::reply_none))]
+    pub fn replies(&self, alloc: Global, cpu: u32) -> Result<Vec<Reply>, AllocError>
+        ensures { IfOk result (λ replies. replies.items ≡ replies_in cpu self.now.history.items) }
+    {
+        let mut replies = Vec::new(alloc);
+        for note in &self.history {
+            if let Some(reply) = reply_by(alloc, note, cpu)? {
+                replies.push(reply)?;
+            }
+        }
+        Ok(replies)
+    }
 }
 
 /// What a run did.

@@ -43,6 +43,13 @@ impl<L: AsSlice<Call> + Drop> Script<L> {
         self.calls.as_slice().get(self.place)
     }
 
+    /// How many calls were made.
+    pub fn place(&self) -> usize
+        ensures { result ≡ self.now.place }
+    {
+        self.place
+    }
+
     /// The next call was made.
     pub fn advance(&mut self)
         requires { self.old.place < length self.old.calls }

@@ -149,10 +149,13 @@ fn offers_four_pages(report: &Report) -> bool {
     let Some(guest) = report.guests.first() else {
         return false;
     };
-    let Some(replies) = guest.replies.first() else {
-        return false;
-    };
-    guest.frames.len() == 13 && are(replies, &[Reads::Posted(0, 4), Reads::Reaped(0, 4)], 1)
+    guest.frames.len() == 13
+        && are(
+            &guest.history,
+            0,
+            &[Reads::Posted(0, 4), Reads::Reaped(0, 4)],
+            1,
+        )
 }
 
 /// Runs each row and checks what it left.

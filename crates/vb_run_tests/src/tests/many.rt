@@ -1,7 +1,7 @@
 //! A run with more than a thousand frames in use.
 
 use crate::tests::leased::{Noted, Pace, Ports, Tables, run_noted};
-use crate::tests::plans::Line;
+use crate::tests::plans::{Line, reply_to};
 use std::alloc::{AllocError, Global};
 use std::sync::Wait;
 use std::test::Fail;
@@ -71,17 +71,19 @@ fn run<R: Threads + Wait + Clock + Sync>(rt: &R, alloc: Global) -> Result<Noted,
 
 /// Whether the block was handed out, each write was done, and so many frames are kept.
 fn has_written(guest: &GuestReport) -> bool {
-    let Some(replies) = guest.replies.first() else {
-        return false;
-    };
-    for (place, reply) in replies.iter().enumerate() {
+    let mut place: usize = 0;
+    for note in &guest.history {
+        let Some(reply) = reply_to(note, 0) else {
+            continue;
+        };
         match reply {
             Reply::Page { start: 512 } if place == 0 => {}
             Reply::Done if place > 0 => {}
             _ => return false,
         }
+        place = place.saturating_add(1);
     }
-    replies.len() == 513 && guest.frames.len() == KEPT
+    place == 513 && guest.frames.len() == KEPT
 }
 
 /// Whether there is a report, in which both guests have written.

@@ -127,13 +127,10 @@ impl<'a> Run<'a> {
     }
 
     /// What a guest's processor was replied.
-    fn replies(&self, guest: u32, cpu: u32) -> &'a [Reply] {
+    fn replies(&self, alloc: Global, guest: u32, cpu: u32) -> Result<Vec<Reply>, AllocError> {
         match self.report.guests.get(guest as usize) {
-            Some(own) => match own.replies.get(cpu as usize) {
-                Some(replies) => replies.as_slice(),
-                None => &[],
-            },
-            None => &[],
+            Some(own) => own.replies(alloc, cpu),
+            None => Ok(Vec::new(alloc)),
         }
     }
 
@@ -147,9 +144,10 @@ impl<'a> Run<'a> {
 
     /// Whether a processor's notes are its script and the reported replies.
     fn is_script(&self, alloc: Global, guest: u32, cpu: u32) -> Result<bool, AllocError> {
-        let (calls, replies) = (self.script(guest, cpu), self.replies(guest, cpu));
+        let calls = self.script(guest, cpu);
+        let replies = self.replies(alloc, guest, cpu)?;
         let made = lines_of(alloc, self.notes, Actor::Processor { guest, cpu })?;
-        let wanted = lines_of_script(alloc, guest, calls, replies)?;
+        let wanted = lines_of_script(alloc, guest, calls, replies.as_slice())?;
         Ok(calls.len() == replies.len() && made.as_slice() == wanted.as_slice())
     }
 

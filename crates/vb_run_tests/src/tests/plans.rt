@@ -3,7 +3,7 @@
 use std::alloc::{AllocError, Global};
 use vb_model::{Bytes, Call, Refusal, Reply};
 use vb_ram::Config;
-use vb_run::{Bells, GuestPlan, Plan};
+use vb_run::{Bells, Caller, GuestPlan, Note, Plan};
 
 /// A guest of 64 pages with one processor.
 pub(super) const SMALL: Config = Config {
@@ -103,17 +103,31 @@ fn is_at(answers: &[Answer], place: usize, reply: &Reply) -> bool {
     }
 }
 
-/// Whether these are the replies of a script whose lines are answered so in each of its rounds.
-pub(super) fn are(replies: &[Reply], answers: &[Answer], rounds: usize) -> bool {
-    if replies.len() != rounds.saturating_mul(answers.len()) {
-        return false;
+/// What the note's call was replied, if it is a call of this processor.
+pub(super) fn reply_to(note: &Note, cpu: u32) -> Option<&Reply> {
+    match note {
+        Note::Called {
+            caller: Caller::Processor { cpu: own, .. },
+            reply,
+            ..
+        } if *own == cpu => Some(reply),
+        _ => None,
     }
-    for (place, reply) in replies.iter().enumerate() {
-        if !is_at(answers, place, reply) {
-            return false;
+}
+
+/// Whether this processor's calls are those of a script whose lines are answered so in each of its
+/// rounds.
+pub(super) fn are(history: &[Note], cpu: u32, answers: &[Answer], rounds: usize) -> bool {
+    let mut place: usize = 0;
+    for note in history {
+        if let Some(reply) = reply_to(note, cpu) {
+            if !is_at(answers, place, reply) {
+                return false;
+            }
+            place = place.saturating_add(1);
         }
     }
-    true
+    place == rounds.saturating_mul(answers.len())
 }
 
 /// A script: these lines, so many times.

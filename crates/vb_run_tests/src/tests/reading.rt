@@ -1,12 +1,12 @@
 //! What the tests read in a report.
 
-use vb_model::{Call, Refusal, Reply};
-use vb_run::{Report, Step};
+use vb_model::{Refusal, Reply};
+use vb_run::{Caller, Note, Report};
 
 /// How many pages the first guest could spare when the balancer looked first.
 pub(super) fn first_look(report: &Report) -> Option<u32> {
-    for entry in &report.guests.first()?.history {
-        if let Step::Looked { spare, .. } = entry.step() {
+    for note in &report.guests.first()?.history {
+        if let Note::Looked { spare, .. } = note {
             return Some(*spare);
         }
     }
@@ -18,11 +18,11 @@ pub(super) fn sets_a_target(report: &Report) -> bool {
     let Some(guest) = report.guests.first() else {
         return false;
     };
-    for entry in &guest.history {
-        if let Step::Called {
-            call: Call::SetTarget { .. },
+    for note in &guest.history {
+        if let Note::Called {
+            caller: Caller::Balancer { .. },
             ..
-        } = entry.step()
+        } = note
         {
             return true;
         }

@@ -68,7 +68,8 @@ pub(crate) fn replays(
     report: &GuestReport,
     case: &Case<'_>,
 ) -> Result<bool, AllocError> {
-    let rows = rows_of(alloc, report.history.as_slice())?;
+    let entries = report.entries(alloc, case.guest, case.plan)?;
+    let rows = rows_of(alloc, entries.as_slice())?;
     is_replay(alloc, rows.as_slice(), report, case)
 }
 
@@ -194,14 +195,6 @@ fn script_in(plan: &GuestPlan, cpu: u32) -> &[Call] {
     }
 }
 
-/// What a processor was replied.
-fn replies_in(report: &GuestReport, cpu: u32) -> &[Reply] {
-    match report.replies.get(cpu as usize) {
-        Some(replies) => replies.as_slice(),
-        None => &[],
-    }
-}
-
 /// Whether what a processor called and was replied is its script with the reported replies.
 fn is_script_of(
     alloc: Global,
@@ -214,16 +207,17 @@ fn is_script_of(
         guest: case.guest,
         cpu,
     };
+    let replies = report.replies(alloc, cpu)?;
     is_script(
         alloc,
         rows,
         actor,
         script_in(case.plan, cpu),
-        replies_in(report, cpu),
+        replies.as_slice(),
     )
 }
 
-/// Whether it is so of each processor, and there are no other scripts and replies.
+/// Whether it is so of each processor, and there are no other scripts.
 fn are_scripts(
     alloc: Global,
     rows: &[Row<'_>],
@@ -236,8 +230,7 @@ fn are_scripts(
             return Ok(false);
         }
     }
-    let count = processors as usize;
-    Ok(case.plan.scripts.len() == count && report.replies.len() == count)
+    Ok(case.plan.scripts.len() == processors as usize)
 }
 
 /// What the rounds do at the guest: a look each, and the target that it got.

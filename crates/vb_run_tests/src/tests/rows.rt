@@ -8,8 +8,8 @@ use std::sync::Wait;
 use std::test::Fail;
 use std::thread::Threads;
 use std::time::Clock;
-use vb_model::{Actor, Call, Refusal, Reply};
-use vb_run::{Bells, GuestReport, OpenGate, Step};
+use vb_model::{Refusal, Reply};
+use vb_run::{Bells, Caller, GuestReport, Note, OpenGate};
 
 /// A run of one plan, and what it leaves at each guest.
 pub(super) struct Row {
@@ -132,14 +132,13 @@ impl Row {
     fn is_left_at(&self, guest: &GuestReport) -> bool {
         start_of(guest) == Some(self.start)
             && guest.frames.len() == self.kept
-            && guest.replies.len() == self.guests.scripts.len()
             && self.are_answered(guest)
     }
 
     /// Whether each script is answered as the row says.
     fn are_answered(&self, guest: &GuestReport) -> bool {
-        for replies in &guest.replies {
-            if !are(replies, self.answers, self.guests.rounds) {
+        for cpu in 0..self.guests.config.processors {
+            if !are(&guest.history, cpu, self.answers, self.guests.rounds) {
                 return false;
             }
         }
@@ -164,10 +163,9 @@ impl Row {
 
 /// What a guest's start was answered.
 fn start_of(guest: &GuestReport) -> Option<Start> {
-    match guest.history.first()?.step() {
-        Step::Called {
-            actor: Actor::Starter,
-            call: Call::Init { .. },
+    match guest.history.first()? {
+        Note::Called {
+            caller: Caller::Starter,
             reply,
             ..
         } => match reply {

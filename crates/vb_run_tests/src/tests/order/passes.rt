@@ -258,10 +258,12 @@ fn rings(bells: Bells, calls: u64) -> u64 {
 
 impl<'a> Run<'a> {
     /// The history of a guest.
-    fn history(&self, guest: u32) -> &'a [Entry] {
-        match self.report.guests.get(guest as usize) {
-            Some(own) => own.history.as_slice(),
-            None => &[],
+    fn history(&self, alloc: Global, guest: u32) -> Result<Vec<Entry>, AllocError> {
+        let own = self.report.guests.get(guest as usize);
+        let plan = self.plan.guests.get(guest as usize);
+        match (own, plan) {
+            (Some(own), Some(plan)) => own.entries(alloc, guest, plan),
+            _ => Ok(Vec::new(alloc)),
         }
     }
 
@@ -292,7 +294,8 @@ impl<'a> Run<'a> {
         let Some(serves) = serves_of(alloc, own_lines(lines.as_slice()))? else {
             return Ok(Some(Broken::Calls { actor }));
         };
-        if !are_entries(alloc, serves.as_slice(), self.history(guest), actor)? {
+        let history = self.history(alloc, guest)?;
+        if !are_entries(alloc, serves.as_slice(), history.as_slice(), actor)? {
             return Ok(Some(Broken::Calls { actor }));
         }
         match Passes::of(serves.as_slice()) {

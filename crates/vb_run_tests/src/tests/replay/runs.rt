@@ -66,7 +66,8 @@ fn check_changes(
     let (Some(own), Some(case)) = (own, case_of(plan, report, guest, is_paced)) else {
         return Ok(());
     };
-    let rows = rows_of(alloc, own.history.as_slice())?;
+    let entries = own.entries(alloc, guest, case.plan)?;
+    let rows = rows_of(alloc, entries.as_slice())?;
     let missed = first_missed(alloc, rows.as_slice(), &case, Some(own))?;
     assert!(rt;
         missed.is_none(),

@@ -1,6 +1,8 @@
-use Rattle.std.proofs.Common.{rules, ◌+◌, sym, ◌∙◌, ◌≡◌, slice_get, slice_set, Some, ap, refl}
-use Rattle.std.{proofs.Common.subst, proofs.lemmas.Option.{slice_get-get_or, get_or_from_slice_get}}
-use Rattle.vb_run.{specs.Past.{NotesNext, Past, unknown}, proofs.Keeping.{call_next, copied_next}}
+use Rattle.std.proofs.Common.{rules, ◌+◌, sym, ◌∙◌, ◌≡◌, slice_get, slice_set, Some}
+use Rattle.std.proofs.Common.{ap, refl, subst}
+use Rattle.std.proofs.lemmas.Option.{slice_get-get_or, get_or_from_slice_get}
+use Rattle.vb_run.{specs.Past.{NotesNext, Past, unknown, scripts_in}, specs.Notes.history_of}
+use Rattle.vb_run.{proofs.Keeping.{call_next, copied_next}, proofs.Noted.noted_next}
 use Rattle.vb_run.proofs.kept.Kept.next.Goals as goal
 
 pub invariant_of-self-2 : goal.invariant_of-self-2
@@ -11,8 +13,10 @@ invariant_of-self-2 g c = let found = c.in-Some.ensures.lookup in
     let here : slice_get c.self.inside.scripts.items c.args.cpu ≡ Some c.in-Some.script.now =
     search (there, rules) in
     let call : slice_get c.in-Some.script.now.calls c.in-Some.script.now.place
-    ≡ Some c.in_ok-call.call = c.in-Some-next.ensures.some.1 ∙ ap Some (sym c.in_ok-call.ensures) in
-    let same : c.index_mut.result.now ≡ c.in-Some.script.now = c.index_mut.ensures.value
+    ≡ Some c.in-Some-next.call.now =
+    c.in-Some-next.ensures.some.1 in
+    let same : c.index_mut.result.now ≡ c.in-Some.script.now =
+    c.index_mut.ensures.value
     ∙ get_or_from_slice_get c.self.inside.scripts.items c.args.cpu c.in-Some.script.now
     c.index_mut.result.now here in
     let after : c.advance.new.self
@@ -22,9 +26,13 @@ invariant_of-self-2 g c = let found = c.in-Some.ensures.lookup in
       after,
       c.push_reserved.ensures.items,
       c.in_ok-reserve.ensures.items,
-      c.new.ensures,
+      c.place.ensures,
+      noted_next c.self.inside.guest c.args.cpu c.self.inside.scripts.items c.in-Some.script.now
+          c.in-Some-next.call.now c.claims_in-claims.result c.call-reply.result
+          c.self.inside.history.items here call,
       c.claims_in-claims.ensures,
-    ) (call_next _ _ _ _ _ c.args.cpu c.in-Some.script.now c.in_ok-call.call _ c.call-reply.result
+    )
+    (call_next _ _ _ _ _ c.args.cpu c.in-Some.script.now c.in-Some-next.call.now _ c.call-reply.result
     c.self.invariant here call
     (c.call-reply.ensures.step c.self.invariant.now c.self.invariant.stands)
     c.call-reply.ensures.frames)
@@ -37,19 +45,23 @@ returns g c = let found = c.in-Some.ensures.lookup in
     let here : slice_get c.self.inside.scripts.items c.args.cpu ≡ Some c.in-Some.script.now =
     search (there, rules) in
     let call : slice_get c.in-Some.script.now.calls c.in-Some.script.now.place
-    ≡ Some c.in_ok-call.call = c.in-Some-next.ensures.some.1 ∙ ap Some (sym c.in_ok-call.ensures) in
-    let same : c.index_mut.result.now ≡ c.in-Some.script.now = c.index_mut.ensures.value
+    ≡ Some c.in-Some-next.call.now =
+    c.in-Some-next.ensures.some.1 in
+    let same : c.index_mut.result.now ≡ c.in-Some.script.now =
+    c.index_mut.ensures.value
     ∙ get_or_from_slice_get c.self.inside.scripts.items c.args.cpu c.in-Some.script.now
     c.index_mut.result.now here in
     let after : c.advance.new.self
     ≡ record (c.in-Some.script.now) { place = c.in-Some.script.now.place + 1 } =
     rw (sym same) c.advance.ensures in
-    let new : Past = record {
+    let scripts = slice_set c.self.inside.scripts.items c.args.cpu c.advance.new.self in
+    let new : Past =
+    record {
       guest = c.self.inside.guest;
       sizes = c.self.inside.sizes;
       paced = c.self.inside.paced;
-      history = c.push_reserved.new.self.items;
-      scripts = slice_set c.self.inside.scripts.items c.args.cpu c.advance.new.self;
+      history = history_of c.self.inside.guest (scripts_in scripts) c.push_reserved.new.self.items;
+      scripts = scripts;
       quiet = unknown;
       short = c.self.inside.short;
     } in
@@ -57,11 +69,19 @@ returns g c = let found = c.in-Some.ensures.lookup in
       noted = copied_next _ _ _ _ _ c.copy-answer.ensures c.map.ensures.cases
           (subst (λ (p : Past). NotesNext c.args.cpu c.call-reply.result p new) c.self.view_is (
             c.in-Some.script.now,
-            c.in_ok-call.call,
+            c.in-Some-next.call.now,
             c.claims_in-claims.result.items,
             here,
             call,
-            rw (after, c.push_reserved.ensures.items, c.in_ok-reserve.ensures.items, c.new.ensures)
+            rw (
+              after,
+              c.push_reserved.ensures.items,
+              c.in_ok-reserve.ensures.items,
+              c.place.ensures,
+              noted_next c.self.inside.guest c.args.cpu c.self.inside.scripts.items
+                  c.in-Some.script.now c.in-Some-next.call.now c.claims_in-claims.result
+                  c.call-reply.result c.self.inside.history.items here call,
+            )
                 refl,
           ));
     }

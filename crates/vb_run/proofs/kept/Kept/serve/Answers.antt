@@ -1,32 +1,63 @@
-use Rattle.std.proofs.Common.{rules, refl, sym, ◌∙◌}
+use Rattle.std.proofs.Common.{refl, sym, ◌∙◌, subst}
 use Rattle.vb_model.specs.declared.calls.Actor.TheVariants.{Worker}
 use Rattle.vb_run.{proofs.Keeping.{call_aside, copied_noted, served_quiet}, specs.Services.services}
 use Rattle.vb_run.{proofs.Lists.contains_at, proofs.Tended.service_plain}
+use Rattle.vb_run.{proofs.Noted.noted_service, specs.Notes.history_of}
+use Rattle.vb_run.specs.Past.{Past, NotesService, scripts_in, unknown}
 use Rattle.vb_run.proofs.kept.Kept.serve.Goals as goal
 
 pub invariant_of-self-then-found_nothing : goal.invariant_of-self-then-found_nothing
-invariant_of-self-then-found_nothing g c = rw (c.in_ok-reserve.ensures.items)
+invariant_of-self-then-found_nothing g c =
+    rw (c.in_ok-reserve.ensures.items)
     (served_quiet _ _ _ _ _ c.args.number c.service-call.result _ c.call-reply.result
     c.self.invariant c.service-call.ensures (sym c.found_nothing.ensures ∙ c.if-found_nothing.true)
     (c.call-reply.ensures.step c.self.invariant.now c.self.invariant.stands)
     c.call-reply.ensures.frames)
 
 pub invariant_of-self-2 : goal.invariant_of-self-2
-invariant_of-self-2 g c = rw (
-  c.push_reserved.ensures.items,
-  c.in_ok-reserve.ensures.items,
-  c.new.ensures,
-  c.claims_in-claims.ensures,
-) (call_aside _ _ _ _ _ (Worker c.self.inside.guest) c.service-call.result _ c.call-reply.result
+invariant_of-self-2 g c =
+    rw (
+      c.push_reserved.ensures.items,
+      c.in_ok-reserve.ensures.items,
+      noted_service c.self.inside.guest c.args.number (scripts_in c.self.inside.scripts.items)
+          c.service-call.result c.claims_in-claims.result c.call-reply.result
+          c.self.inside.history.items c.service-call.ensures,
+      c.claims_in-claims.ensures,
+    )
+    (call_aside _ _ _ _ _ (Worker c.self.inside.guest) c.service-call.result _ c.call-reply.result
     c.self.invariant tt (
       refl,
       contains_at services c.args.number c.service-call.result c.service-call.ensures,
       sym c.found_nothing.ensures ∙ c.if-found_nothing.false,
-    ) (service_plain c.args.number c.service-call.result c.service-call.ensures)
+    )
+    (service_plain c.args.number c.service-call.result c.service-call.ensures)
     (c.call-reply.ensures.step c.self.invariant.now c.self.invariant.stands)
     c.call-reply.ensures.frames)
 
 pub returns-clause-noted : goal.returns-clause-noted
-returns-clause-noted g c = copied_noted _ _ _ _ c.copy-answer.ensures
-    (sym c.found_nothing.ensures ∙ c.if-found_nothing.false)
-    (c.service-call.result, c.claims_in-claims.result.items, c.service-call.ensures, search rules)
+returns-clause-noted g c =
+    let new : Past =
+    record {
+      guest = c.self.inside.guest;
+      sizes = c.self.inside.sizes;
+      paced = c.self.inside.paced;
+      history = history_of c.self.inside.guest (scripts_in c.self.inside.scripts.items)
+          c.push_reserved.new.self.items;
+      scripts = c.self.inside.scripts.items;
+      quiet = unknown;
+      short = c.self.inside.short;
+    } in
+    copied_noted _ _ _ _ c.copy-answer.ensures (sym c.found_nothing.ensures ∙ c.if-found_nothing.false)
+    (subst (λ (p : Past). NotesService c.args.number c.call-reply.result p new) c.self.view_is (
+      c.service-call.result,
+      c.claims_in-claims.result.items,
+      c.service-call.ensures,
+      rw (
+        c.push_reserved.ensures.items,
+        c.in_ok-reserve.ensures.items,
+        noted_service c.self.inside.guest c.args.number (scripts_in c.self.inside.scripts.items)
+            c.service-call.result c.claims_in-claims.result c.call-reply.result
+            c.self.inside.history.items c.service-call.ensures,
+      )
+          refl,
+    ))
