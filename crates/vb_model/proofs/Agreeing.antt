@@ -58,17 +58,17 @@ same_named head a b g new new' e e' same = grind (arith, same_last)
 fills_same : (buffer : StatisticsBuffer) (g : Guest) (r : Reply) (new : Guest) (r' : Reply) (new' : Guest)
     → Fills buffer g r new → Fills buffer g r' new' → Same r new r' new'
 fills_same NoBuffer g r new r' new' s t = both r r' _ new new' _ s.0 s.1 t.0 t.1
-fills_same buffer g r new r' new' s t = both r r' _ new new' _ s.0 s.1 t.0 t.1
+fills_same b g r new r' new' s t = both r r' _ new new' _ s.0 s.1 t.0 t.1
 
 takes_buffer_same : (buffer : StatisticsBuffer) (g : Guest) (r : Reply) (new : Guest) (r' : Reply)
     (new' : Guest) → TakesBuffer buffer g r new → TakesBuffer buffer g r' new' → Same r new r' new'
 takes_buffer_same NoBuffer g r new r' new' s t = both r r' _ new new' _ s.0 s.1 t.0 t.1
-takes_buffer_same buffer g r new r' new' s t = both r r' _ new new' _ s.0 s.1 t.0 t.1
+takes_buffer_same b g r new r' new' s t = both r r' _ new new' _ s.0 s.1 t.0 t.1
 
 asks_same : (buffer : StatisticsBuffer) (g : Guest) (r : Reply) (new : Guest) (r' : Reply) (new' : Guest)
     → ReturnsBuffer buffer g r new → ReturnsBuffer buffer g r' new' → Same r new r' new'
 asks_same (BufferTaken f) g r new r' new' s t = both r r' _ new new' _ s.0 s.1 t.0 t.1
-asks_same buffer g r new r' new' s t = absurd s
+asks_same b g r new r' new' s t = absurd s
 
 reaps_same : (kind : Kind) (done : List Request) (g : Guest) (r : Reply) (new : Guest) (r' : Reply)
     (new' : Guest) → Reaps kind done g r new → Reaps kind done g r' new' → Same r new r' new'

@@ -33,17 +33,17 @@ not_this refusal reply e f = absurd cc
 fills_refuse : {A : Type 0} (buffer : StatisticsBuffer) (g : Guest) (refusal : Refusal) (new : Guest)
     → Fills buffer g (Refused refusal) new → A
 fills_refuse NoBuffer g refusal new s = not_this refusal _ s.0 refl
-fills_refuse buffer g refusal new s = not_this refusal _ s.0 refl
+fills_refuse b g refusal new s = not_this refusal _ s.0 refl
 
 takes_buffer_refuse : {A : Type 0} (buffer : StatisticsBuffer) (g : Guest) (refusal : Refusal) (new : Guest)
     → TakesBuffer buffer g (Refused refusal) new → A
 takes_buffer_refuse NoBuffer g refusal new s = not_this refusal _ s.0 refl
-takes_buffer_refuse buffer g refusal new s = not_this refusal _ s.0 refl
+takes_buffer_refuse b g refusal new s = not_this refusal _ s.0 refl
 
 asks_refuse : {A : Type 0} (buffer : StatisticsBuffer) (g : Guest) (refusal : Refusal) (new : Guest)
     → ReturnsBuffer buffer g (Refused refusal) new → A
 asks_refuse (BufferTaken f) g refusal new s = not_this refusal _ s.0 refl
-asks_refuse buffer g refusal new s = absurd s
+asks_refuse b g refusal new s = absurd s
 
 reaps_refuse : {A : Type 0} (kind : Kind) (done : List Request) (g : Guest) (refusal : Refusal)
     (new : Guest) → Reaps kind done g (Refused refusal) new → A

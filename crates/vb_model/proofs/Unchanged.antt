@@ -39,17 +39,17 @@ same_three g new changed e t c r = record {
 fills_keep : {Reason : Type 0} (buffer : StatisticsBuffer) (g : Guest) (reply : Reply) (new : Guest)
     → Fills buffer g reply new → Keeps Reason g.target g new
 fills_keep NoBuffer g reply new s = same_three g new _ s.1 refl refl refl
-fills_keep buffer g reply new s = same_three g new _ s.1 refl refl refl
+fills_keep b g reply new s = same_three g new _ s.1 refl refl refl
 
 takes_buffer_keep : {Reason : Type 0} (buffer : StatisticsBuffer) (g : Guest) (reply : Reply) (new : Guest)
     → TakesBuffer buffer g reply new → Keeps Reason g.target g new
 takes_buffer_keep NoBuffer g reply new s = same_three g new _ s.1 refl refl refl
-takes_buffer_keep buffer g reply new s = same_three g new _ s.1 refl refl refl
+takes_buffer_keep b g reply new s = same_three g new _ s.1 refl refl refl
 
 asks_keep : {Reason : Type 0} (buffer : StatisticsBuffer) (g : Guest) (reply : Reply) (new : Guest)
     → ReturnsBuffer buffer g reply new → Keeps Reason g.target g new
 asks_keep (BufferTaken f) g reply new s = same_three g new _ s.1 refl refl refl
-asks_keep buffer g reply new s = absurd s
+asks_keep b g reply new s = absurd s
 
 reaps_keep : {Reason : Type 0} (kind : Kind) (done : List Request) (g : Guest) (reply : Reply)
     (new : Guest) → Reaps kind done g reply new → Keeps Reason g.target g new

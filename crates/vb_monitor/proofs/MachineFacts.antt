@@ -224,7 +224,7 @@ told_of_another_kind : Does (TellsPages 3 named) Inflate 0 [] (room []) (TellPag
 told_of_another_kind h = absurd cc
 
 abbrev counted : List Access → ℕ
-counted (TellPages kind runs named ∷ xs) = named.pages
+counted (TellPages kind rs n ∷ xs) = n.pages
 counted xs = 0
 
 more_counted : Does (TellsPages 3 named) Inflate 0 [] (room [])
@@ -232,7 +232,7 @@ more_counted : Does (TellsPages 3 named) Inflate 0 [] (room [])
 more_counted h = let e : Same 2 1 = ap counted h in omega arith
 
 abbrev told : List Access → ℕ
-told (TellPages kind runs named ∷ xs) = length runs
+told (TellPages kind rs n ∷ xs) = length rs
 told xs = 0
 
 both_told : Does (TellsPages 3 named) Inflate 0 [] (room []) (TellPages Inflate (page_5 ∷ over_the_hole ∷ []) one_page ∷ []) → ⊥

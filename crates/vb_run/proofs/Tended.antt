@@ -98,7 +98,7 @@ steady g new changed e s f = grind arith
 
 asks_steady : (buffer : StatisticsBuffer) (g : Guest) (reply : Reply) (new : Guest)
     → ReturnsBuffer buffer g reply new → Steady g new
-asks_steady buffer g reply new s = grind arith
+asks_steady b g reply new s = grind arith
 
 reaps_steady : (kind : Kind) (done : List Request) (g : Guest) (reply : Reply) (new : Guest)
     → Reaps kind done g reply new → Steady g new
@@ -263,7 +263,7 @@ takes_none kind (r ∷ rest) g reply new s t = found reply _ s.0 refl t
 
 buffer_served : (g : Guest) (buffer : StatisticsBuffer) → g.buffer ≡ buffer → g.status ≡ 15
     → g.features ≡ OFFERED_FEATURES → IsQuiet g Ask → IsQuiet g (Take 2) → is_waiting buffer ≡ false
-buffer_served g buffer e up f ask take = grind arith
+buffer_served g b e up f ask take = grind arith
 
 -- ---- all of it
 
