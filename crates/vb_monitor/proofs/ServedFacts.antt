@@ -4,7 +4,7 @@ use Rattle.vb_core.specs.declared.kinds.Kind.TheVariants.{Inflate, Deflate, Stat
 use Rattle.vb_core.specs.declared.{next.ChainPiece.ChainPiece, ring.Virtqueue.Virtqueue}
 use Rattle.vb_core.specs.{declared.kinds.Kind.Kind, Devices.with_ring}
 use Rattle.vb_monitor.{specs.declared.regions.Spot.Spot, specs.declared.step.Place.Place}
-use Rattle.vb_monitor.{specs.Pieces.pieces_in, specs.Served.{is_last, looks_again, look_place}}
+use Rattle.vb_monitor.{specs.Pieces.pieces_in, specs.Served.{is_last, looks_again, look_place, first_has}}
 use Rattle.vb_monitor.proofs.Samples.{two, at, ring, ready}
 
 -- ---- the last part of a chain's pieces
@@ -80,3 +80,25 @@ half_an_element = refl
 
 whole_element : place Inflate 7 (record ring { used = 0x14ff4 }) ≡ Some (at 0x102)
 whole_element = refl
+
+-- ---- whether the first region has all that is written for a chain: 8 bytes of an element, and the index
+
+abbrev in_first : ℕ → ℕ → Bool
+in_first element index = first_has two
+    (record { element_at = element; index_at = index; id = 3; length = 0; index = 1 })
+
+all_in_first : in_first 0x14ff8 0x14ffe ≡ true
+all_in_first = refl
+
+first_has_its_start : in_first 0 2 ≡ true
+first_has_its_start = refl
+
+-- an element of which half stands behind the region, an index there, and no region at all
+half_behind : in_first 0x14ffc 2 ≡ false
+half_behind = refl
+
+index_behind : in_first 0 0x14fff ≡ false
+index_behind = refl
+
+no_region : first_has [] (record { element_at = 0; index_at = 2; id = 3; length = 0; index = 1 }) ≡ false
+no_region = refl

@@ -5,13 +5,14 @@ use Rattle.vb_core.specs.declared.kinds.Kind.{Kind}
 use Rattle.vb_core.specs.declared.kinds.Kind.TheVariants.{Inflate, Deflate, Statistics, Report}
 use Rattle.vb_core.specs.declared.next.ChainPiece.{ChainPiece}
 use Rattle.vb_core.specs.declared.device.Device.{Device}
+use Rattle.vb_core.specs.declared.ring.UsedEntry.{UsedEntry}
 use Rattle.vb_core.specs.Rings.{used_entry}
 use Rattle.vb_core.specs.Devices.{ring_of}
 use Rattle.vb_monitor.specs.declared.regions.Region.{Region}
 use Rattle.vb_monitor.specs.declared.regions.Spot.{Spot}
 use Rattle.vb_monitor.specs.declared.step.Place.{Place}
 use Rattle.vb_monitor.specs.declared.parts.Part.{Part}
-use Rattle.vb_monitor.specs.Regions.{spot}
+use Rattle.vb_monitor.specs.Regions.{holds, spot}
 use Rattle.vb_monitor.specs.Giving.{used_spots}
 use Rattle.vb_monitor.specs.Pieces.{pieces_in}
 use Rattle.vb_monitor.specs.Machine.{behind_part}
@@ -39,3 +40,8 @@ look_place regions kind head d =
     if looks_again kind && nat_lt head (ring_of kind d).size
     && is_some (used_spots regions (used_entry (ring_of kind d) head))
     then spot regions ((ring_of kind d).avail + 2) 2 else None
+
+-- The first region has all of a used element, and the index that is written after it.
+abbrev pub first_has : List Region → UsedEntry → Bool
+first_has [] e = false
+first_has (r ∷ regions) e = holds r e.element_at 8 && holds r e.index_at 2

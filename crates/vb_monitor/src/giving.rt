@@ -4,6 +4,7 @@ ghost use Rattle.std.specs.Prelude.{◌≡◌, ◌+◌, ◌≤◌, true, false, 
 ghost use Rattle.vb_core.specs.declared.device.Device.{Device};
 ghost use Rattle.vb_monitor.specs.declared.outcome.Outcome.{Outcome};
 ghost use Rattle.vb_monitor.specs.Accesses.{Access};
+ghost use Rattle.vb_monitor.specs.Served.{first_has};
 ghost use Rattle.vb_monitor.specs.Giving.{GivesBack, used_spots};
 ghost use Rattle.vb_monitor.specs.Machine.{Fits, stage, Room, Ahead, whole, next_chain};
 ghost use Rattle.vb_monitor.specs.Left.{left, of_chains};
@@ -47,7 +48,8 @@ fn used_spots(regions: &[Region], entry: &UsedEntry) -> Option<UsedSpots>
 #[tactic(auto, using(crate::proofs::ServedLemmas::first_spots))]
 #[inline(always)]
 fn put_first(regions: &[Region], entry: &UsedEntry, spots: &mut UsedSpots) -> bool
-    ensures { result ≡ true → used_spots regions.now entry.now ≡ Some spots.new }
+    ensures all { result ≡ first_has regions.now entry.now }
+    ensures spots { result ≡ true → used_spots regions.now entry.now ≡ Some spots.new }
 {
     if regions.is_empty() {
         return false;
