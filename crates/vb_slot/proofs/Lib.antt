@@ -4,3 +4,4 @@ pub mod Numbers
 pub use Rattle.vb_guest.proofs.Standing
 pub use Rattle.vb_guest.proofs.Fresh
 pub mod AloneSizes
+mod SpareFacts
