@@ -9,17 +9,17 @@ use Rattle.vb_device.specs.Calls.{attached, Claims, PutsBack, HandsBack}
 use Rattle.vb_device.specs.{BaseCalls.{visited_queue, page_to_visit, flags_after}}
 use Rattle.vb_device.specs.{Discards.{discarded, frames_behind}, Faults.needing_reset, Own.{has, without}}
 
-abbrev asked : ℕ → List ℕ → ℕ → Request
+abbrev pub asked : ℕ → List ℕ → ℕ → Request
 asked head pages visited = record { head = head; pages = pages; visited = visited }
 
-abbrev queue : ℕ → List Request → QueuePart
+abbrev pub queue : ℕ → List Request → QueuePart
 queue at taken = record { next_avail = at; next_used = at; taken = taken }
 
 -- of the pages 1 to 3 the second has no frame
-abbrev mem : Pages
+abbrev pub mem : Pages
 mem = None ∷ Some (record { number = 7; bytes = [] }) ∷ None ∷ Some (record { number = 9; bytes = [] }) ∷ []
 
-abbrev busy : Part
+abbrev pub busy : Part
 busy = record no_part {
   status = 15;
   ballooned = false ∷ true ∷ false ∷ false ∷ [];

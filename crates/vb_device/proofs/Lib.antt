@@ -12,3 +12,4 @@ pub mod Settles
 pub mod Visits
 pub mod OwnFrames
 mod CallFacts
+mod StepFacts

@@ -58,7 +58,7 @@ extents = refl
 
 -- ---- a driver with pages at all places, of which a deflate names two and an inflate one
 
-abbrev busy : DriverState
+abbrev pub busy : DriverState
 busy = record (fresh_driver 64 8 1) {
   places = Reserved ∷ Free ∷ Used ∷ Giving ∷ Lent ∷ Taking ∷ Taking ∷ Stranded ∷ Reporting ∷ [];
   areas = record { areas = false ∷ true ∷ false ∷ []; lists = [] ∷ []; reserved = 1 };

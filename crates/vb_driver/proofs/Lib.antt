@@ -25,3 +25,4 @@ pub mod ReportPosting
 pub mod ReportMoves
 pub mod Restarting
 mod DriverFacts
+mod StepFacts
