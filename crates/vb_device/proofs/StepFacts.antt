@@ -1,12 +1,15 @@
 -- What the records of a device's calls say of one state: the answer, and what is left.
-use Rattle.std.proofs.Common.{◌≡◌, ℕ, true, false, List, [], ◌∷◌, refl, arith, ap}
-use Rattle.std.specs.Prelude.{Option, Some, None, Result, Ok, Err, Bool, IsOk}
+use Rattle.std.proofs.Common.{◌≡◌, ℕ, zero, suc, ◌+◌, ◌<◌, true, false, List, [], ◌∷◌, refl, arith}
+use Rattle.std.specs.Prelude.{Option, Some, None, Result, Ok, Err, Bool, IsOk, slice_index}
 use Rattle.vb_model.specs.Tests.{marked}
 use Rattle.vb_model.specs.declared.replies.Refusal.{Refusal}
 use Rattle.vb_model.specs.declared.replies.Refusal.TheVariants.{Broken, Busy, NoFeature, NoQueue}
 use Rattle.vb_model.specs.declared.replies.Refusal.TheVariants.{NotBallooned, NotReady}
 use Rattle.vb_model.specs.declared.replies.Refusal.TheVariants.{NotTaken, NotWorked}
-use Rattle.vb_ram.specs.{Pages.{Pages}, Part.{Part, no_part, no_queue}}
+use Rattle.vb_chain.specs.declared.fault.ChainFault.TheVariants.{IndexJump, BadLength}
+use Rattle.vb_chain.specs.{Chain.{IsChain, fault_at}, Rules.has_next, Table.descriptor_at}
+use Rattle.vb_request.specs.Request.{bytes_of, page_request}
+use Rattle.vb_ram.specs.{Pages.{Pages, byte_at, field}, Part.{Part, no_part, no_queue}}
 use Rattle.vb_device.specs.declared.worked.Worked.{Worked}
 use Rattle.vb_device.specs.Calls.{SameFrames, DetachesBy, TakeMeans, TakesBy, WorksBy, SweepsBy}
 use Rattle.vb_device.specs.Calls.{FinishesBy, AsksBy}
@@ -119,7 +122,58 @@ detaches : (m2 : Pages) (p2 : Part) → DetachesBy mem m2 (record busy { target 
     × SameFrames p2.loose (7 ∷ 9 ∷ [])
 detaches m2 p2 by = (by.memory, by.part, by.loose)
 
--- ---- a take: each answer says its state, and guest memory stays
+-- ---- a take, of memory that reads as zeros: its index is 0, and descriptor 0 a chain of no bytes
+
+abbrev zeros : Pages
+zeros = None ∷ None ∷ None ∷ None ∷ []
+
+-- So many entries were taken.
+abbrev at : ℕ → Part
+at taken = record no_part { status = 15; queue_size = 8; inflate = queue taken [] }
+
+takes_nothing_more : (m2 : Pages) (p2 : Part) (result : Result (Option ℕ) Refusal)
+    → TakesBy 0 zeros m2 (at 0) p2 result → (result ≡ Ok None) × (p2 ≡ at 0) × (m2 ≡ zeros)
+unfolding byte_at field
+takes_nothing_more m2 p2 result by = (let left = by.empty refl refl in (left.0, left.1, by.memory))
+
+takes_from_an_index_that_jumped : (m2 : Pages) (p2 : Part) (result : Result (Option ℕ) Refusal)
+    → TakesBy 0 zeros m2 (at 60000) p2 result
+    → (result ≡ Err (Broken 7)) × (p2 ≡ record (at 60000) { status = 79 })
+unfolding byte_at field
+takes_from_an_index_that_jumped m2 p2 result by =
+    let left = by.jump IndexJump refl refl in (left.answer, left.part)
+
+takes_a_chain_of_no_bytes : (m2 : Pages) (p2 : Part) (result : Result (Option ℕ) Refusal)
+    → TakesBy 0 zeros m2 (at 65535) p2 result
+    → (result ≡ Err (Broken 8)) × (p2 ≡ record (at 65535) { status = 79 })
+unfolding byte_at field descriptor_at bytes_of page_request
+takes_a_chain_of_no_bytes m2 p2 result by =
+    let left = by.wrong 0 (record { addr = 0; len = 0; writable = false } ∷ []) BadLength
+        refl refl (record { path = 0 ∷ []; chain = alone; pieces_are = refl }) refl in
+    (left.answer, left.part)
+  where
+  alone : IsChain (descriptor_at zeros 0) 8 16384 0 (0 ∷ [])
+  alone = record {
+    inside = omega arith;
+    is_path = record {
+      some = omega arith;
+      begins = refl;
+      onward = (λ k lt. absurd (omega (arith, lt)));
+      linked = (λ k lt. absurd (omega (arith, lt)));
+    };
+    short = omega arith;
+    sound = sound;
+    ends = last;
+  } where
+    sound : (k : ℕ) → k < 1 → fault_at (descriptor_at zeros 0) 8 16384 (0 ∷ []) k ≡ None
+    sound zero lt = refl
+    sound (suc k) lt = absurd (omega (arith, lt))
+
+    last : (k : ℕ) → k + 1 ≡ 1 → has_next (descriptor_at zeros 0 (slice_index (0 ∷ []) k)) ≡ false
+    last zero e = refl
+    last (suc k) e = absurd (omega (arith, e))
+
+-- ---- each answer of a take says its state
 
 refuses_a_take : (m2 : Pages) (p2 : Part) (result : Result (Option ℕ) Refusal)
     → TakesBy 3 mem m2 busy p2 result → (result ≡ Err NoQueue) × (p2 ≡ busy) × (m2 ≡ mem)
