@@ -5,7 +5,8 @@ use Rattle.vb_model.specs.declared.places.Place.TheVariants.{Reserved, Free, Use
 use Rattle.vb_model.specs.declared.places.Place.TheVariants.{Taking, Stranded, Reporting}
 use Rattle.vb_model.specs.declared.replies.Refusal.{Refusal}
 use Rattle.vb_model.specs.declared.replies.Refusal.TheVariants.{AlreadyUp, BadCpu, NoFeature}
-use Rattle.vb_model.specs.declared.replies.Refusal.TheVariants.{NoPages, NoQueue, NotHeld, RingBroken}
+use Rattle.vb_model.specs.declared.replies.Refusal.TheVariants.{NoPages, NoQueue, NotHeld}
+use Rattle.vb_model.specs.declared.replies.Refusal.TheVariants.{RingBroken}
 use Rattle.vb_model.specs.{FirstRefusal.refusal_in, Pages.block_at}
 use Rattle.vb_ram.specs.{Pages.{Pages}, Part.{Part, no_part}}
 use Rattle.vb_ring.specs.Ends.{after_take, used_answer}
