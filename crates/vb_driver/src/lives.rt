@@ -107,14 +107,10 @@ impl Driver {
     }
 
     /// Whether all pages of rings and buffers have frames: `init` wants it, and of a device that is
-    /// up so do the calls that post. One byte of each such page is written in its own place, so
-    /// nothing is changed.
-    pub fn has_frames<G: GuestBytes>(&self, memory: &mut G) -> bool
-        requires { IsLargeEnough (G.mem memory.old) }
-        ensures value { result ≡ has_frames self.now.queue_size (G.mem memory.old) }
-        ensures backed { result ≡ true → HaveRingFrames self.now.queue_size (G.mem memory.old) }
-        ensures mem { G.mem memory.new ≡ G.mem memory.old }
-        ensures part { G.part memory.new ≡ G.part memory.old }
+    /// up so do the calls that post.
+    pub fn has_frames<G: GuestBytes>(&self, memory: &G) -> bool
+        ensures value { result ≡ has_frames self.now.queue_size (G.mem memory.now) }
+        ensures backed { result ≡ true → HaveRingFrames self.now.queue_size (G.mem memory.now) }
     {
         all_backed(memory, self.config.shape())
     }
