@@ -18,7 +18,6 @@ use crate::memory::{all_backed, zero_rings};
 use crate::reaping::give_up;
 use bitflags::Flags;
 use vb_model::Refusal;
-use vb_model::layout::{DEFLATE_QUEUE, INFLATE_QUEUE};
 use vb_ram::GuestBytes;
 use vb_status::{Features, Port, Status, StatusFault};
 
@@ -75,8 +74,8 @@ impl Driver {
         ensures state { self.new ≡ with_nothing_out self.old }
     {
         let shape = self.config.shape();
-        self.inflate.renew(INFLATE_QUEUE, shape);
-        self.deflate.renew(DEFLATE_QUEUE, shape);
+        self.inflate.renew(shape);
+        self.deflate.renew(shape);
         self.statistics.renew(shape);
         self.report.renew(shape);
     }

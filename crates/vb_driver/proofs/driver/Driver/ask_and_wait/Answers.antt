@@ -1,5 +1,6 @@
 use Rattle.std.proofs.Common.{arith, ◌≡◌, sym, subst, ℕ, List, true}
 use Rattle.vb_model.{specs.declared.places.Place.TheVariants.Taking, specs.Pages.placed}
+use Rattle.vb_model.specs.Layout.{buffers_page}
 use Rattle.vb_model.{specs.Requests.{Deflating, place_posted}, specs.declared.places.Place.Place}
 use Rattle.vb_driver.specs.State.{RequestSide, DriverState, IsDriver, tells_host}
 use Rattle.vb_driver.{specs.contracts.driver.Driver.the_view, proofs.Moving.asked_kept}
@@ -24,14 +25,16 @@ invariant_of-self g c = let d = the_view c.self.inside in
     c.take_lowest_lent.ensures.pages in
     let placed_is : c.take_lowest_lent.new.self
     ≡ placed (lowest_lent d c.args.count) Taking d.places = c.take_lowest_lent.ensures.moved in
-    let posts : Posts m1 m2 d.deflate c.post-head.new.self 8 (lowest_lent d c.args.count)
+    let base = buffers_page d.deflate.number in
+    let posts : Posts m1 m2 d.deflate c.post-head.new.self base (lowest_lent d c.args.count)
     c.post-head.result = subst
-    (λ (l : List ℕ). Posts m1 m2 d.deflate c.post-head.new.self 8 l c.post-head.result) lowest
+    (λ (l : List ℕ). Posts m1 m2 d.deflate c.post-head.new.self base l c.post-head.result) lowest
     c.post-head.ensures.posts in
     subst (λ (ps : List Place). IsDriver (record d { places = ps; deflate = c.post-head.new.self }))
     (sym placed_is)
-    (asked_kept m1 m2 d c.post-head.new.self 8 c.args.count c.post-head.result c.self.invariant
+    (asked_kept m1 m2 d c.post-head.new.self base c.args.count c.post-head.result c.self.invariant
     posts)
 
 pub returns : goal.returns
-returns g c = grind (arith, waits)
+returns g c = let posts = rw c.self.invariant.deflate.number at c.post-head.ensures.posts in
+    grind (arith, waits, posts)

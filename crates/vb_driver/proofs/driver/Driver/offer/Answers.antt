@@ -1,6 +1,6 @@
 use Rattle.std.proofs.Common.{◌≡◌, ◌∙◌, ◌++◌, sym, ap, subst, arith, ℕ, List}
 use Rattle.vb_model.{specs.declared.places.Place.TheVariants.Giving, specs.Pages.placed}
-use Rattle.vb_model.specs.declared.places.Place.{Place}
+use Rattle.vb_model.{specs.Layout.buffers_page, specs.declared.places.Place.Place}
 use Rattle.vb_driver.proofs.Moving.{offered_kept, others_there, others_free, offered_inside}
 use Rattle.vb_driver.{proofs.Moving.first_few, specs.State.IsDriver, specs.Areas.flags_of}
 use Rattle.vb_driver.{specs.Calls.{Posts, stranded_first}, proofs.Naming.once_distinct}
@@ -26,13 +26,14 @@ invariant_of-self g c = let d = the_view c.self.inside in
     let placed_is : c.set_all.new.self
     ≡ placed (stranded_first d c.args.count ++ others) Giving d.places = c.set_all.ensures
     ∙ ap (λ (l : List ℕ). placed l Giving d.places) (c.deref-2.ensures.0 ∙ items) in
-    let posts : Posts m1 m2 d.inflate c.post-head.new.self 4
+    let base = buffers_page d.inflate.number in
+    let posts : Posts m1 m2 d.inflate c.post-head.new.self base
     (stranded_first d c.args.count ++ others) c.post-head.result =
-    subst (λ (l : List ℕ). Posts m1 m2 d.inflate c.post-head.new.self 4 l c.post-head.result)
+    subst (λ (l : List ℕ). Posts m1 m2 d.inflate c.post-head.new.self base l c.post-head.result)
     items c.post-head.ensures.posts in
     let free = others_free d
     (flags_of c.self.inside.areas.free) others c.self.invariant.free c.take_free.ensures.free in
-    let kept = offered_kept m1 m2 d c.take_free.new.self.free c.post-head.new.self 4
+    let kept = offered_kept m1 m2 d c.take_free.new.self.free c.post-head.new.self base
     c.args.count c.post-head.result others c.self.invariant free
     (λ p. once_distinct p others c.take_free.ensures.distinct)
     c.take_free.ensures.state.free c.take_free.ensures.state.same posts in
@@ -51,4 +52,5 @@ invariant_of-self g c = let d = the_view c.self.inside in
     })) (sym held) kept)
 
 pub returns : goal.returns
-returns g c = grind (arith, others_free, first_few)
+returns g c = let posts = rw c.self.invariant.inflate.number at c.post-head.ensures.posts in
+    grind (arith, others_free, first_few, posts)
