@@ -1,8 +1,9 @@
 -- What a page of a memory of copies is.
 use Rattle.std.proofs.Common.{rules, Option, ◌≡◌, ℕ, ◌<◌, ◌≤◌, List, [], Some, None, length, get_or}
-use Rattle.std.proofs.Common.{refl, sym, ◌∙◌, ap, set, arith, inl, inr, ◌∷◌}
+use Rattle.std.proofs.Common.{refl, sym, ◌∙◌, ap, set, arith, inl, inr, ◌∷◌, false, is_some}
 use Rattle.std.{specs.Prelude.slice_index, proofs.lemmas.Bool.cases_eq}
-use Rattle.std.proofs.lemmas.List.{get_or-set_same, get_or-set_other, length-set, ext_get_or}
+use Rattle.std.proofs.lemmas.List.{get_or-set_same, get_or-set_other, get_or_past, length-set}
+use Rattle.std.proofs.lemmas.List.{ext_get_or}
 use Rattle.std.proofs.lemmas.List.FromFn.{get_or-map-range_with_len, length-map-range_with_len}
 use Rattle.vb_ram.specs.Pages.{Page, byte_of, number_of, byte_at, page_at, frame_at, Wrote}
 use Rattle.vb_ram.{specs.Put.PutAt, proofs.PageLemmas.wrote}
@@ -44,6 +45,21 @@ bare_page count p cs h e = ap number_of (copied_at count p cs h ∙ ap (copy_at 
 pub copied_frame : (count p k : ℕ) (cs : List (List ℕ)) → p < count → copy_number p ≡ Some k →
     frame_at (copied count cs) p ≡ Some 0
 copied_frame count p k cs h e = ap number_of (copied_here count p k cs h e)
+
+-- the pages that have a frame here
+pub copied_backed : (count p : ℕ) (cs : List (List ℕ)) → p < count →
+    is_some (copy_number p) ≡ is_some (frame_at (copied count cs) p)
+copied_backed count p cs h = by_number (copy_number p)
+    ∙ ap (λ w. is_some (number_of w)) (sym (copied_at count p cs h))
+  where
+    by_number : (o : Option ℕ) → is_some o ≡ is_some (number_of (copy_at cs o))
+    by_number None = refl
+    by_number (Some k) = refl
+
+pub bare_past : (count p : ℕ) (cs : List (List ℕ)) → count ≤ p →
+    is_some (frame_at (copied count cs) p) ≡ false
+bare_past count p cs h = ap (λ w. is_some (number_of w))
+    (get_or_past (copied count cs) p None (omega (arith, copied_length count cs)))
 
 -- another place's copy stays
 other : (cs : List (List ℕ)) (k : ℕ) (new : List ℕ) (o : Option ℕ) → (o ≡ Some k → ⊥) →

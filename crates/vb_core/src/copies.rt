@@ -183,6 +183,10 @@ impl GuestBytes for Copies<'_> {
         self.count
     }
 
+    fn has_frame(&self, page: u32) -> bool {
+        page < self.count && copy_number(page).is_some()
+    }
+
     #[inline(always)]
     fn read(&self, page: u32, offset: usize, out: &mut [u8]) -> Result<(), RamFault> {
         self.check(page, offset, out.len())?;

@@ -1,45 +1,12 @@
 -- Writes of the driver to guest memory.
-use Rattle.std.proofs.Common.{◌≡◌, ◌≢◌, ◌∙◌, sym, ap, subst, arith, ℕ, ◌+◌, ◌-◌, ◌*◌, ◌/◌, ◌%◌, ◌<◌}
-use Rattle.std.proofs.Common.{◌≤◌, List, length, inl, inr, None, Result, Ok, Err, slice_index, OnOk}
-use Rattle.std.{proofs.Common.{OnErr, IsOk, ◌∷◌}, proofs.lemmas.Bool.{cases_lt, cases_eq}}
-use Rattle.std.{proofs.lemmas.List.{same_lists, get_or_default}, proofs.Math.Nat.div-add-mod}
+use Rattle.std.proofs.Common.{◌≡◌, ◌≢◌, ◌∙◌, sym, ap, subst, arith, ℕ, ◌+◌, ◌*◌, ◌/◌, ◌%◌}
+use Rattle.std.proofs.Common.{◌≤◌, List, length, inl, inr, ◌∷◌}
+use Rattle.std.{proofs.lemmas.Bool.{cases_lt, cases_eq}, proofs.Math.Nat.div-add-mod}
 use Rattle.vb_model.specs.Layout.{buffer_page, buffer_offset}
-use Rattle.vb_ram.specs.Pages.{Pages, page_at, byte_at, SameBut, SameIn, Wrote}
+use Rattle.vb_ram.specs.Pages.{Pages, byte_at, SameBut, SameIn}
 use Rattle.vb_ram.proofs.FieldLaws.{field_in, same_page, same_below, same_above, same_other}
-use Rattle.vb_ram.proofs.Contents.{same_page_at, same_contents}
 use Rattle.vb_ring.specs.Frame.{Extent, IsIn, SameOutside}
 use Rattle.vb_driver.specs.Coding.{Names}
-
--- bytes that stood there already, written, change nothing
-pub wrote_same : (old new : Pages) (p off : ℕ) (bs : List ℕ) → Wrote old new p off bs
-    → ((k : ℕ) → k < length bs → slice_index bs k ≡ byte_at old p (off + k)) → new ≡ old
-wrote_same old new p off bs w same =
-    let bytes : (o : ℕ) → byte_at new p o ≡ byte_at old p o = λ o. elim (cases_lt o off) [
-      | inl low ↦ w.rest.below o low
-      | inr high ↦ elim (cases_lt o (off + length bs)) [
-        | inl inside ↦
-            let at : off + (o - off) ≡ o = omega arith in
-            let short : o - off < length bs = omega arith in ap (byte_at new p) (sym at)
-            ∙ (w.written (o - off) short ∙ (same (o - off) short ∙ ap (byte_at old p) at))
-        | inr past ↦ w.rest.above o past
-      ]
-    ] in
-    let page : page_at new p ≡ page_at old p = same_page_at new old p (w.rest.backing p)
-    (same_contents new old p (w.rest.sizes p) bytes) in
-    let each : (k : ℕ) → page_at new k ≡ page_at old k = λ k. elim (cases_eq k p) [
-      | inl is ↦ ap (page_at new) is ∙ (page ∙ sym (ap (page_at old) is))
-      | inr ne ↦ w.rest.others k ne
-    ] in same_lists new old w.rest.count (λ k d lt. get_or_default new k d None lt
-    ∙ (each k ∙ get_or_default old k None d (omega (arith, w.rest.count))))
-
-pub by_result : {T E : Type 0} (r : Result T E) (P Q R : Type 0) → OnOk r P → OnErr r Q → (P → R)
-    → (Q → R) → R
-by_result (Ok x) P Q R ok err on_ok on_err = on_ok ok
-by_result (Err e) P Q R ok err on_ok on_err = on_err err
-
-pub at_ok : {T E : Type 0} (r : Result T E) (P : Type 0) → IsOk r → OnOk r P → P
-at_ok (Ok x) P is h = h
-at_ok (Err e) P is h = cc
 
 -- what is written to one buffer leaves the others alone
 pub buffer_apart : (old new : Pages) (base h k n : ℕ) → n ≤ 1024

@@ -4,8 +4,8 @@ use Rattle.std.proofs.Common.{length, drop, slice_index, Result, IsOk, OnOk}
 use Rattle.std.{proofs.lemmas.List.get_or-drop, proofs.lemmas.Nat.from_le_bytes-to_le_bytes_8}
 use Rattle.byteorder.specs.Endian.{little_bytes}
 use Rattle.vb_ram.specs.Pages.{Pages, byte_at, frame_at, Covers, Wrote}
-use Rattle.vb_ram.proofs.FieldLaws.{field_2, field_8}
-use Rattle.vb_driver.{specs.Coding.IsStatistic, proofs.Buffers.at_ok}
+use Rattle.vb_ram.proofs.{FieldLaws.{field_2, field_8}, Outcome.at_ok}
+use Rattle.vb_driver.specs.Coding.{IsStatistic}
 
 abbrev figure_bytes : ℕ → ℕ → List ℕ
 figure_bytes free total =
@@ -50,7 +50,7 @@ figures_written old new free total bs answer is lt_free lt_total covers backed a
     let whole : Covers old 12 0 (length bs) =
     record { page = covers.page; bytes = omega (arith, len) } in
     let wrote : Wrote old new 12 0 (figure_bytes free total) = rw (← is)
-    (at_ok answer _ (accepted whole backed) put) in record {
+    (at_ok answer _ put (accepted whole backed)) in record {
       free_is = free_written old new free total lt_free wrote;
       total_is = total_written old new free total lt_total wrote;
     }

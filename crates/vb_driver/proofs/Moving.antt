@@ -13,7 +13,7 @@ use Rattle.vb_model.specs.declared.places.Place.TheVariants.{Reserved, Free, Giv
 use Rattle.vb_model.specs.{declared.places.Place.TheVariants.{Stranded, Reporting}, Orderly.times}
 use Rattle.vb_model.proofs.Tables.{pages_where-passes, is_in-take, is_in-append, list_all-at}
 use Rattle.vb_model.specs.{Tests.{is_in, one_if, pages_from, pages_where}, Life.place_after_reset}
-use Rattle.vb_model.specs.{Layout.{reserved_pages, ring_page}, declared.places.Place.Place}
+use Rattle.vb_model.specs.{Layout.reserved_pages, declared.places.Place.Place}
 use Rattle.vb_model.proofs.{Counts.length-pages_where, GuestSteps.place_of-reset}
 use Rattle.vb_ram.specs.Pages.{Pages}
 use Rattle.vb_pages.{proofs.ListsLemmas.times_in, specs.FreePages.FreePages}
@@ -47,8 +47,8 @@ posted_queue m1 m2 s1 s2 base queue size head pages q p = grind arith
 pub reaped_queue : (s1 : RequestSide) (queue size head : ℕ) → IsQueue s1 queue size
     → IsQueue (after_reap s1 head) queue size
 reaped_queue s1 queue size head q = record {
-  requests = requests_taken s1.ring s1.sent head q.requests;
-  layout = q.layout;
+  requests = requests_taken s1 head q.requests;
+  number = q.number;
   size = q.size;
 }
 
@@ -418,8 +418,8 @@ none_sent i = grind (arith, cases_lt, get_or-replicate, get_or_past)
 
 fresh_queue : (queue size : ℕ) → IsQueue (fresh_side queue size) queue size
 fresh_queue queue size = record {
-  requests = requests_fresh (ring_page size queue) size (replicate {A = List ℕ} 16 []) refl none_sent;
-  layout = refl;
+  requests = requests_fresh queue size (replicate {A = List ℕ} 16 []) refl none_sent;
+  number = refl;
   size = refl;
 }
 
@@ -441,7 +441,8 @@ pub reset_kept : (d : DriverState) (areas2 : FreePages) (features : ℕ) → IsD
 reset_kept d areas2 features kept given same = grind (
   arith,
   length-map,
-  fresh_queue,
+  fresh_queue 0 d.queue_size,
+  fresh_queue 1 d.queue_size,
   fresh_statistics_queue,
   fresh_report_queue,
   naming_none,
@@ -458,8 +459,13 @@ pub renewed_kept : (d : DriverState) (statistics2 : DriverEnd) → IsDriver d
       statistics = statistics2;
       report = fresh_report d.queue_size;
     })
-renewed_kept d statistics2 kept statistics =
-    grind (arith, fresh_queue, fresh_report_queue, naming_none)
+renewed_kept d statistics2 kept statistics = grind (
+  arith,
+  fresh_queue 0 d.queue_size,
+  fresh_queue 1 d.queue_size,
+  fresh_report_queue,
+  naming_none,
+)
 
 -- ---- a driver as it is made
 

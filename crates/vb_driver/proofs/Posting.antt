@@ -11,8 +11,8 @@ use Rattle.vb_ring.{specs.Calls.AddsBy, proofs.EntryLaws.entries_apart}
 use Rattle.vb_ring.proofs.MeaningLaws.{ring_apart, tracks_apart}
 use Rattle.vb_driver.proofs.RequestTables.{next_path_is, head_low, requests_added_at}
 use Rattle.vb_driver.{proofs.Buffers.{buffer_apart, names_kept, outside_both}, specs.Coding.Names}
-use Rattle.vb_driver.{proofs.Shapes.{IsBeside, KeepsRing, keeps_ring}, specs.State.AreRequests}
-use Rattle.vb_driver.{specs.Calls.{Posts, Announces, written_of}, proofs.Placing.or_false}
+use Rattle.vb_driver.proofs.{Shapes.{IsBeside, KeepsRing, keeps_ring}, Placing.or_false}
+use Rattle.vb_driver.specs.{State.{RequestSide, AreRequests}, Calls.{Posts, Announces, written_of}}
 
 -- a chain of one readable piece that was published after a write to other pages
 pub record OnePiece (m1 m2 m3 : Pages) (r r2 : DriverEnd) (h a l : ℕ) : Type 0 where
@@ -49,13 +49,13 @@ one_piece m1 m2 m3 r r2 h a l end next keeps adds = let T = r.layout.table in
     }
 
 -- what was written and added, by plain names
-pub record Sending (m1 m2 m3 : Pages) (r r2 : DriverEnd) (sent : List (List ℕ)) (base h a l : ℕ)
+pub record Sending (m1 m2 m3 : Pages) (side : RequestSide) (r2 : DriverEnd) (base h a l : ℕ)
     (pages : List ℕ) : Type 0 where
-  pub requests : AreRequests (record { ring = r; sent = sent })
-  pub is_end : IsDriverEnd r
-  pub next : next_head r ≡ Some h
-  pub room : outstanding r < min r.size 16
-  pub beside : (k : ℕ) → k < 16 → IsBeside r.layout (buffer_page base k)
+  pub requests : AreRequests side
+  pub is_end : IsDriverEnd side.ring
+  pub next : next_head side.ring ≡ Some h
+  pub room : outstanding side.ring < min side.ring.size 16
+  pub beside : (k : ℕ) → k < 16 → IsBeside side.ring.layout (buffer_page base k)
   pub few : length pages ≤ 256
   pub names : Names m2 (buffer_page base h) (buffer_offset h) pages
   pub wrote : SameBut m1 m2 (buffer_page base h) (buffer_offset h)
@@ -63,11 +63,12 @@ pub record Sending (m1 m2 m3 : Pages) (r r2 : DriverEnd) (sent : List (List ℕ)
   pub addr : a ≡ 4096 * buffer_page base h + buffer_offset h
   pub len : l ≡ 4 * length pages
 
-pub posts_at : (m1 m2 m3 : Pages) (r r2 : DriverEnd) (sent : List (List ℕ)) (base h a l : ℕ)
-    (pages : List ℕ) → Sending m1 m2 m3 r r2 sent base h a l pages
-    → AddsBy m2 m3 r r2 (record { addr = a; len = l; writable = false } ∷ []) (Ok h) → Posts m1 m3
-    (record { ring = r; sent = sent }) (record { ring = r2; sent = set sent h pages }) base pages h
-posts_at m1 m2 m3 r r2 sent base h a l pages s adds =
+pub posts_at : (m1 m2 m3 : Pages) (side : RequestSide) (r2 : DriverEnd) (base h a l : ℕ)
+    (pages : List ℕ) → Sending m1 m2 m3 side r2 base h a l pages
+    → AddsBy m2 m3 side.ring r2 (record { addr = a; len = l; writable = false } ∷ []) (Ok h)
+    → Posts m1 m3 side (record side { ring = r2; sent = set side.sent h pages }) base pages h
+posts_at m1 m2 m3 side r2 base h a l pages s adds =
+    let r = side.ring in
     let low = head_low r h s.requests.single s.next in
     let small : h < 16 = omega (arith, low.1, s.room) in
     let one : OnePiece m1 m2 m3 r r2 h a l = one_piece m1 m2 m3 r r2 h a l s.is_end s.next
@@ -78,7 +79,8 @@ posts_at m1 m2 m3 r r2 sent base h a l pages s adds =
     record {
       lowest = s.next;
       small = small;
-      state = ap (λ (v : DriverEnd). record { ring = v; sent = set sent h pages }) adds.state;
+      state = ap (λ (v : DriverEnd). record side { ring = v; sent = set side.sent h pages })
+          adds.state;
       coded = record {
         descriptor = one.put ∙ same_parts _ _ s.addr s.len refl refl;
         names = names_kept m2 m3 (buffer_page base h) (buffer_offset h) pages
@@ -98,7 +100,7 @@ posts_at m1 m2 m3 r r2 sent base h a l pages s adds =
       };
       outside = outside_both m1 m2 m3 (buffer_page base h) (buffer_offset h)
           (buffer_offset h + 4 * length pages) (written_of r) s.wrote adds.publishes.rest;
-      requests = requests_added_at r r2 sent h h pages s.requests s.is_end s.next small s.few
+      requests = requests_added_at side r2 h h pages s.requests s.is_end s.next small s.few
           adds.state refl;
     }
 
@@ -107,14 +109,13 @@ pub added_head : (m2 m3 : Pages) (r r2 : DriverEnd) (h g : ℕ) (pieces : List P
     → length pieces ≡ 1 → next_head r ≡ Some h → AddsBy m2 m3 r r2 pieces (Ok g) → h ≡ g
 added_head m2 m3 r r2 h g pieces one e adds = grind arith
 
-pub posts_by : (m1 m2 m3 : Pages) (r r2 : DriverEnd) (sent : List (List ℕ)) (base h g a l : ℕ)
-    (pages : List ℕ) → Sending m1 m2 m3 r r2 sent base h a l pages
-    → AddsBy m2 m3 r r2 (record { addr = a; len = l; writable = false } ∷ []) (Ok g) → Posts m1 m3
-    (record { ring = r; sent = sent }) (record { ring = r2; sent = set sent g pages }) base pages g
-posts_by m1 m2 m3 r r2 sent base h g a l pages s adds =
+pub posts_by : (m1 m2 m3 : Pages) (side : RequestSide) (r2 : DriverEnd) (base h g a l : ℕ)
+    (pages : List ℕ) → Sending m1 m2 m3 side r2 base h a l pages
+    → AddsBy m2 m3 side.ring r2 (record { addr = a; len = l; writable = false } ∷ []) (Ok g)
+    → Posts m1 m3 side (record side { ring = r2; sent = set side.sent g pages }) base pages g
+posts_by m1 m2 m3 side r2 base h g a l pages s adds =
     let pieces : List Piece = record { addr = a; len = l; writable = false } ∷ [] in
-    let same : h ≡ g = added_head m2 m3 r r2 h g pieces refl s.next adds in
-    subst (λ (n : ℕ). Posts m1 m3 (record { ring = r; sent = sent })
-    (record { ring = r2; sent = set sent n pages }) base pages n) same
-    (posts_at m1 m2 m3 r r2 sent base h a l pages s
-    (subst (λ (n : ℕ). AddsBy m2 m3 r r2 pieces (Ok n)) (sym same) adds))
+    let same : h ≡ g = added_head m2 m3 side.ring r2 h g pieces refl s.next adds in
+    subst (λ (n : ℕ). Posts m1 m3 side (record side { ring = r2; sent = set side.sent n pages })
+    base pages n) same (posts_at m1 m2 m3 side r2 base h a l pages s
+    (subst (λ (n : ℕ). AddsBy m2 m3 side.ring r2 pieces (Ok n)) (sym same) adds))

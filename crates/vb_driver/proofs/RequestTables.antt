@@ -5,11 +5,12 @@ use Rattle.std.proofs.Common.{inr, ◌⊎◌, Option, Some, None, Ok, nat_lt, se
 use Rattle.std.proofs.lemmas.{Bool.cases_lt, Bool.Decides.nat_tests, List.length-set}
 use Rattle.std.proofs.lemmas.{List.{get_or-set_other, get_or_past}, Grind.get_or-set_at}
 use Rattle.vb_ring.specs.Ends.{DriverEnd, IsDriverEnd, is_unused, free_descriptors, outstanding}
-use Rattle.vb_ring.{specs.Layout.layout_of, specs.Entries.is_head}
+use Rattle.vb_ring.specs.Entries.{is_head}
 use Rattle.vb_ring.proofs.Numbers.{numbers_pass, numbers_rise, numbers_has, length_all}
-use Rattle.vb_ring.specs.Ends.{next_head, next_path, after_add, after_take, claimed, fresh_end}
+use Rattle.vb_ring.specs.Ends.{next_head, next_path, after_add, after_take, claimed}
 use Rattle.vb_ring.proofs.OwnerLaws.{claimed-at, released-at}
-use Rattle.vb_driver.{specs.State.{RequestSide, AreRequests}, proofs.ReportTables.none_owned}
+use Rattle.vb_driver.specs.{State.{RequestSide, AreRequests, fresh_ring}, Reaps.after_reap}
+use Rattle.vb_driver.proofs.ReportTables.{none_owned}
 
 -- ---- the next head
 
@@ -103,39 +104,38 @@ set_short sent h i pages few short = grind (arith, get_or-set_at, get_or_past, l
 set_none : (sent : List (List ℕ)) (h i : ℕ) → i ≡ h → slice_index_or (set sent h []) i [] ≡ []
 set_none sent h i same = grind (arith, get_or-set_at, get_or_past, length-set)
 
-pub requests_added : (r : DriverEnd) (sent : List (List ℕ)) (h : ℕ) (pages : List ℕ) → AreRequests
-    (record { ring = r; sent = sent }) → IsDriverEnd r → next_head r ≡ Some h → h < 16 → length
-    pages ≤ 256 → AreRequests (record { ring = after_add r 1 (Ok h); sent = set sent h pages })
-requests_added r sent h pages all end e small few_pages =
+pub requests_added : (side : RequestSide) (h : ℕ) (pages : List ℕ) → AreRequests side
+    → IsDriverEnd side.ring → next_head side.ring ≡ Some h → h < 16 → length pages ≤ 256
+    → AreRequests
+    (record side { ring = after_add side.ring 1 (Ok h); sent = set side.sent h pages })
+requests_added side h pages all end e small few_pages =
     search (arith, head_low, claimed_same, claimed_other, length-set, set_at, set_short)
 
-pub requests_taken : (r : DriverEnd) (sent : List (List ℕ)) (h : ℕ)
-    → AreRequests (record { ring = r; sent = sent })
-    → AreRequests (record { ring = after_take r (Ok (Some h)); sent = set sent h [] })
-requests_taken r sent h all = grind (arith, length-set, released-at, set_none, set_at)
+pub requests_taken : (side : RequestSide) (h : ℕ) → AreRequests side
+    → AreRequests (after_reap side h)
+requests_taken side h all = grind (arith, length-set, released-at, set_none, set_at)
 
-pub requests_fresh : (page size : ℕ) (sent : List (List ℕ)) → length sent ≡ 16
+pub requests_fresh : (queue size : ℕ) (sent : List (List ℕ)) → length sent ≡ 16
     → ((i : ℕ) → slice_index_or sent i [] ≡ [])
-    → AreRequests (record { ring = fresh_end (layout_of page size) size; sent = sent })
-requests_fresh page size sent len none = grind (arith, none_owned)
+    → AreRequests (record { number = queue; ring = fresh_ring queue size; sent = sent })
+requests_fresh queue size sent len none = grind (arith, none_owned)
 
-pub requests_taken_at : (r r2 : DriverEnd) (sent : List (List ℕ)) (h i : ℕ) (blank : List ℕ)
-    → AreRequests (record { ring = r; sent = sent }) → r2 ≡ after_take r (Ok (Some h)) → i ≡ h
-    → blank ≡ [] → AreRequests (record { ring = r2; sent = set sent i blank })
-requests_taken_at r r2 sent h i blank all state at none = grind (arith, requests_taken r sent h all)
+pub requests_taken_at : (side : RequestSide) (r2 : DriverEnd) (h i : ℕ) (blank : List ℕ)
+    → AreRequests side → r2 ≡ after_take side.ring (Ok (Some h)) → i ≡ h → blank ≡ []
+    → AreRequests (record side { ring = r2; sent = set side.sent i blank })
+requests_taken_at side r2 h i blank all state at none = grind (arith, requests_taken side h all)
 
-pub requests_added_at : (r r2 : DriverEnd) (sent : List (List ℕ)) (h i : ℕ) (pages : List ℕ)
-    → AreRequests (record { ring = r; sent = sent }) → IsDriverEnd r → next_head r ≡ Some h → h < 16
-    → length pages ≤ 256 → r2 ≡ after_add r 1 (Ok h) → i ≡ h
-    → AreRequests (record { ring = r2; sent = set sent i pages })
-requests_added_at r r2 sent h i pages all end e small few state at =
-    grind (arith, requests_added r sent h pages all end e small few)
+pub requests_added_at : (side : RequestSide) (r2 : DriverEnd) (h i : ℕ) (pages : List ℕ)
+    → AreRequests side → IsDriverEnd side.ring → next_head side.ring ≡ Some h → h < 16
+    → length pages ≤ 256 → r2 ≡ after_add side.ring 1 (Ok h) → i ≡ h
+    → AreRequests (record side { ring = r2; sent = set side.sent i pages })
+requests_added_at side r2 h i pages all end e small few state at =
+    grind (arith, requests_added side h pages all end e small few)
 
 -- the facts of a queue that has room, from what is seen of it
-pub room_inside : (r : DriverEnd) (sent : List (List ℕ)) (now : RequestSide)
-    → (let side : RequestSide = record { ring = r; sent = sent } in side) ≡ now
-    → outstanding now.ring < min now.ring.size 16 → outstanding r < min r.size 16
-room_inside r sent now same room =
+pub room_inside : (side now : RequestSide) → side ≡ now
+    → outstanding now.ring < min now.ring.size 16 → outstanding side.ring < min side.ring.size 16
+room_inside side now same room =
     subst (λ (s : RequestSide). outstanding s.ring < min s.ring.size 16) (sym same) room
 
 pub head_small : (r : DriverEnd) (h : ℕ) → ((k : ℕ) → is_unused r.owner k ≡ false

@@ -38,7 +38,7 @@ pages_sent queue head d =
 -- The request is gone.
 abbrev pub after_reap : RequestSide → ℕ → RequestSide
 after_reap side head =
-    record { ring = after_take side.ring (Ok (Some head)); sent = slice_set side.sent head [] }
+    record side { ring = after_take side.ring (Ok (Some head)); sent = slice_set side.sent head [] }
 
 abbrev pub without_request : ℕ → ℕ → DriverState → DriverState
 without_request queue head d =

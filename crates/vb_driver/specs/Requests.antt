@@ -80,7 +80,7 @@ pub record Posts (m1 m2 : Pages) (s1 s2 : RequestSide) (base : ℕ) (pages : Lis
   pub lowest : next_head s1.ring ≡ Some head
   pub small : head < max_outstanding
   pub state : s2
-      ≡ record { ring = after_add s1.ring 1 (Ok head); sent = slice_set s1.sent head pages }
+      ≡ record s1 { ring = after_add s1.ring 1 (Ok head); sent = slice_set s1.sent head pages }
   pub coded : IsCoded m2 s1.ring.layout.table base head pages
   pub descriptors : (i : ℕ) → i < s1.ring.size → i ≢ head
       → descriptor_at m2 s1.ring.layout.table i ≡ descriptor_at m1 s1.ring.layout.table i

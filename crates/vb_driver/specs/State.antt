@@ -23,9 +23,10 @@ pub use Rattle.vb_pages.specs.FreePages.{FreePages}
 use Rattle.vb_pages.specs.PageState.{PageState, new_page_state}
 use Rattle.vb_driver.specs.Areas.{flags_of, is_covered}
 
--- Of a queue of requests: the driver's end of its ring, and by head the pages of each request that
--- is out, none where no request has the head.
+-- Of a queue of requests: its number, the driver's end of its ring, and by head the pages of each
+-- request that is out, none where no request has the head.
 pub record RequestSide : Type 0 where
+  pub number : ℕ
   pub ring : DriverEnd
   pub sent : List (List ℕ)
 
@@ -110,7 +111,7 @@ fresh_ring queue size = fresh_end (layout_of (ring_page size queue) size) size
 
 abbrev pub fresh_side : ℕ → ℕ → RequestSide
 fresh_side queue size =
-    record { ring = fresh_ring queue size; sent = replicate max_outstanding [] }
+    record { number = queue; ring = fresh_ring queue size; sent = replicate max_outstanding [] }
 
 abbrev pub fresh_statistics : ℕ → DriverEnd
 fresh_statistics size = fresh_ring STATISTICS_QUEUE size
@@ -138,8 +139,10 @@ fresh_driver pages queue_size processors =
 
 -- ---- what holds of each driver
 
--- Each descriptor that is in use is a request of its own, and one of the first `max_outstanding`.
+-- The ring lies in its queue's pages. Each descriptor that is in use is a request of its own, and
+-- one of the first `max_outstanding`.
 pub record AreRequests (side : RequestSide) : Type 0 where
+  pub layout : side.ring.layout ≡ layout_of (ring_page side.ring.size side.number) side.ring.size
   pub single : (i : ℕ) → is_unused side.ring.owner i ≡ false → is_head side.ring.owner i ≡ true
   pub few : (i : ℕ) → is_head side.ring.owner i ≡ true → i < max_outstanding
   pub buffers : length side.sent ≡ max_outstanding
@@ -147,10 +150,10 @@ pub record AreRequests (side : RequestSide) : Type 0 where
   pub unsent : (i : ℕ) → is_head side.ring.owner i ≡ false → sent_by side i ≡ []
   pub short : (i : ℕ) → length (sent_by side i) ≤ max_request_pages
 
--- The queue's ring lies in its pages.
+-- The queue of this number, with so many descriptors.
 pub record IsQueue (side : RequestSide) (queue descriptors : ℕ) : Type 0 where
   pub requests : AreRequests side
-  pub layout : side.ring.layout ≡ layout_of (ring_page descriptors queue) descriptors
+  pub number : side.number ≡ queue
   pub size : side.ring.size ≡ descriptors
 
 -- The one statistics buffer stands at descriptor 0, and the ring in its pages.

@@ -18,7 +18,6 @@ use crate::memory::{all_backed, zero_rings};
 use crate::reaping::give_up;
 use bitflags::Flags;
 use vb_model::Refusal;
-use vb_model::layout::{DEFLATE_QUEUE, INFLATE_QUEUE};
 use vb_ram::GuestBytes;
 use vb_status::{Features, Port, Status, StatusFault};
 
@@ -75,8 +74,8 @@ impl Driver {
         ensures state { self.new ≡ with_nothing_out self.old }
     {
         let shape = self.config.shape();
-        self.inflate.renew(INFLATE_QUEUE, shape);
-        self.deflate.renew(DEFLATE_QUEUE, shape);
+        self.inflate.renew(shape);
+        self.deflate.renew(shape);
         self.statistics.renew(shape);
         self.report.renew(shape);
     }
@@ -107,14 +106,10 @@ impl Driver {
     }
 
     /// Whether all pages of rings and buffers have frames: `init` wants it, and of a device that is
-    /// up so do the calls that post. One byte of each such page is written in its own place, so
-    /// nothing is changed.
-    pub fn has_frames<G: GuestBytes>(&self, memory: &mut G) -> bool
-        requires { IsLargeEnough (G.mem memory.old) }
-        ensures value { result ≡ has_frames self.now.queue_size (G.mem memory.old) }
-        ensures backed { result ≡ true → HaveRingFrames self.now.queue_size (G.mem memory.old) }
-        ensures mem { G.mem memory.new ≡ G.mem memory.old }
-        ensures part { G.part memory.new ≡ G.part memory.old }
+    /// up so do the calls that post.
+    pub fn has_frames<G: GuestBytes>(&self, memory: &G) -> bool
+        ensures value { result ≡ has_frames self.now.queue_size (G.mem memory.now) }
+        ensures backed { result ≡ true → HaveRingFrames self.now.queue_size (G.mem memory.now) }
     {
         all_backed(memory, self.config.shape())
     }

@@ -1,6 +1,6 @@
 //! What the driver writes into guest memory beside its rings.
 
-ghost use Rattle.std.specs.Prelude.{◌≡◌, ℕ, ◌+◌, ◌*◌, ◌<◌, IsSome, is_some, length};
+ghost use Rattle.std.specs.Prelude.{◌≡◌, ℕ, ◌+◌, ◌*◌, ◌<◌, IsSome, length};
 ghost use Rattle.std.specs.Prelude.{true};
 ghost use Rattle.vb_model.specs.Limits.{page_size};
 ghost use Rattle.vb_model.specs.Layout.{is_ring_page};
@@ -25,29 +25,13 @@ pub(crate) fn write_numbers<G: GuestBytes>(ram: &mut G, page: u32, offset: usize
     }
 }
 
-/// Whether a page has a frame. A byte is written in its own place, since no call of guest memory
-/// tells; nothing is changed.
-pub(crate) fn has_frame<G: GuestBytes>(ram: &mut G, page: u32) -> bool
-    requires { page < length (G.mem ram.old) }
-    ensures value { result ≡ is_some (frame_at (G.mem ram.old) page) }
-    ensures mem { G.mem ram.new ≡ G.mem ram.old }
-    ensures part { G.part ram.new ≡ G.part ram.old }
-{
-    let mut byte = [0];
-    let _ = ram.read(page, 0, &mut byte);
-    ram.write(page, 0, &byte).is_ok()
-}
-
-/// Whether all pages of rings and buffers have frames; nothing is changed.
-pub(crate) fn all_backed<G: GuestBytes>(ram: &mut G, shape: Shape) -> bool
-    requires { IsLargeEnough (G.mem ram.old) }
-    ensures value { result ≡ has_frames shape.queue_size (G.mem ram.old) }
-    ensures backed { result ≡ true → HaveRingFrames shape.queue_size (G.mem ram.old) }
-    ensures mem { G.mem ram.new ≡ G.mem ram.old }
-    ensures part { G.part ram.new ≡ G.part ram.old }
+/// Whether all pages of rings and buffers have frames.
+pub(crate) fn all_backed<G: GuestBytes>(ram: &G, shape: Shape) -> bool
+    ensures value { result ≡ has_frames shape.queue_size (G.mem ram.now) }
+    ensures backed { result ≡ true → HaveRingFrames shape.queue_size (G.mem ram.now) }
 {
     for page in 0..shape.reserved_pages() {
-        if shape.is_start_page(page) && !has_frame(ram, page) {
+        if shape.is_start_page(page) && !ram.has_frame(page) {
             return false;
         }
     }

@@ -4,8 +4,8 @@ ghost use Rattle.std.specs.Prelude.{◌≡◌, ◌<◌, ◌≤◌, ℕ, [], Ok, 
 ghost use Rattle.std.specs.Prelude.{MatchOption, OnErr, length, min};
 ghost use Rattle.std.specs.Prelude.{replicate, sum_by, slice_index_or, ◌*◌, ◌+◌, ◌++◌};
 ghost use Rattle.vb_model.specs.Limits.{max_outstanding, max_request_pages};
-ghost use Rattle.vb_model.specs.Layout.{buffers_page, ring_page};
-ghost use Rattle.vb_ring.specs.Layout.{IsSize, IsInside, layout_of};
+ghost use Rattle.vb_model.specs.Layout.{buffers_page};
+ghost use Rattle.vb_ring.specs.Layout.{IsSize, IsInside};
 ghost use Rattle.vb_ring.specs.Ends.{outstanding, used_answer};
 ghost use Rattle.vb_ring.specs.Calls.{TakesUsedBy};
 ghost use Rattle.vb_driver.specs.Answers.{HaveRingFrames, IsLargeEnough};
@@ -98,6 +98,8 @@ impl Sent {
 /// The driver's side of a queue of requests.
 #[derive(Drop)]
 pub(crate) struct RequestQueue {
+    /// Its number.
+    number: u32,
     /// The driver's end of the ring.
     ring: DriverRing,
     /// The pages of each request that is out, by head.
@@ -109,9 +111,10 @@ impl Model for RequestQueue {
 
     ghost Value = { RequestSide };
 
-    ghost view = { λ q. record { ring = q.ring; sent = q.sent.items } };
+    ghost view = { λ q. record { number = q.number; ring = q.ring; sent = q.sent.items } };
 
-    ghost invariant = { λ q. AreRequests (record { ring = q.ring; sent = q.sent.items }) };
+    ghost invariant = { λ q. AreRequests
+        (record { number = q.number; ring = q.ring; sent = q.sent.items }) };
 }
 
 /// How many pages these requests name.
@@ -158,17 +161,18 @@ impl RequestQueue {
             sent.push(Sent::none())?;
         }
         Ok(RequestQueue {
+            number: queue,
             ring: DriverRing::new(shape.ring_page(queue), shape.queue_size),
             sent,
         })
     }
 
-    /// Begins anew as the queue of this number, with nothing out.
-    pub(crate) fn renew(&mut self, queue: u32, shape: Shape)
+    /// Begins anew, with nothing out.
+    pub(crate) fn renew(&mut self, shape: Shape)
         requires { IsSize shape.queue_size }
-        ensures { self.new ≡ fresh_side queue shape.queue_size }
+        ensures { self.new ≡ fresh_side self.old.number shape.queue_size }
     {
-        self.ring = DriverRing::new(shape.ring_page(queue), shape.queue_size);
+        self.ring = DriverRing::new(shape.ring_page(self.number), shape.queue_size);
         forget_all(&mut self.sent);
     }
 
@@ -188,26 +192,19 @@ impl RequestQueue {
         count_named(&self.sent)
     }
 
-    /// Posts a request for these pages on the queue of this number, in a buffer of the queue's own.
-    pub(crate) fn post<G: GuestBytes>(
-        &mut self,
-        ram: &mut G,
-        queue: u32,
-        pages: &RequestPages,
-    ) -> u16
+    /// Posts a request for these pages, in a buffer of the queue's own.
+    pub(crate) fn post<G: GuestBytes>(&mut self, ram: &mut G, pages: &RequestPages) -> u16
         requires room { outstanding self.old.ring < min self.old.ring.size max_outstanding }
-        requires layout { self.old.ring.layout
-            ≡ layout_of (ring_page self.old.ring.size queue) self.old.ring.size }
         requires memory { IsLargeEnough (G.mem ram.old) }
         requires backed { HaveRingFrames self.old.ring.size (G.mem ram.old) }
         ensures posts { Posts (G.mem ram.old) (G.mem ram.new)
-            self.old self.new (buffers_page queue) pages.now.items result }
+            self.old self.new (buffers_page self.old.number) pages.now.items result }
         ensures part { G.part ram.new ≡ G.part ram.old }
     {
         let Some(head) = self.ring.next_head() else {
             unreachable!()
         };
-        let page = buffers_page(queue) + u32::from(head / 4);
+        let page = buffers_page(self.number) + u32::from(head / 4);
         let offset = REQUEST_BUFFER_SIZE * u32::from(head % 4);
         write_numbers(ram, page, offset as usize, pages);
         let piece = Piece {

@@ -18,7 +18,6 @@ ghost use Rattle.vb_driver.specs.Calls.{Offers, AsksBack, InflatesBy, DeflatesBy
 use crate::queue::{RequestQueue, append};
 use crate::{Driver, Posted};
 use bitflags::Flags;
-use vb_model::layout::{DEFLATE_QUEUE, INFLATE_QUEUE};
 use vb_model::limits::{MAX_OUTSTANDING, MAX_REQUEST_PAGES};
 use vb_model::{Place, Refusal};
 use vb_status::{Port, Status};
@@ -100,7 +99,7 @@ impl Driver {
         self.areas.take_free(missing, &mut self.others);
         append(&mut self.named, &self.others);
         self.places.set_all(&self.named, Place::Giving);
-        let head = self.inflate.post(port, INFLATE_QUEUE, &self.named);
+        let head = self.inflate.post(port, &self.named);
         Posted { head, pages: count }
     }
 
@@ -116,7 +115,7 @@ impl Driver {
             self.old self.new count result }
     {
         self.places.take_lowest_lent(count, &mut self.named);
-        let head = self.deflate.post(port, DEFLATE_QUEUE, &self.named);
+        let head = self.deflate.post(port, &self.named);
         Posted { head, pages: count }
     }
 
@@ -134,7 +133,7 @@ impl Driver {
         self.places.lowest_lent(count, &mut self.named);
         self.areas.give_all(&self.named);
         self.places.set_all(&self.named, Place::Free);
-        let head = self.deflate.post(port, DEFLATE_QUEUE, &self.named);
+        let head = self.deflate.post(port, &self.named);
         Posted { head, pages: count }
     }
 

@@ -118,7 +118,7 @@ requests_posted m1 m2 q ring after part rs n head pages stands state did =
 -- the queue's side once the request is out
 abbrev pub posted_side : RequestSide → ℕ → List ℕ → RequestSide
 posted_side s head pages =
-    record { ring = after_add s.ring 1 (Ok head); sent = slice_set s.sent head pages }
+    record s { ring = after_add s.ring 1 (Ok head); sent = slice_set s.sent head pages }
 
 pub line_posted : (m1 m2 : Pages) (q n : ℕ) (side after : RequestSide) (part : QueuePart) (rs : Requests)
     (head : ℕ) (pages : List ℕ)

@@ -59,7 +59,7 @@ told Deflating m p g areas sides r rest driver run line =
     ap (λ (k : ℕ). count_by is_lent (reaped Deflating r rest g).places + k)
     (line_named m 1 g.config.pages (after_reap sides.deflate r.head) p.deflate
     (record g.deflate { done = rest }) line
-    (requests_taken sides.deflate.ring sides.deflate.sent r.head driver.deflate.requests))
+    (requests_taken sides.deflate r.head driver.deflate.requests))
 told Reporting_free m p g areas sides r rest driver run line =
     ap (λ (k : ℕ). count_by is_lent (reaped Reporting_free r rest g).places + k)
     (line_named m 1 g.config.pages sides.deflate p.deflate g.deflate run.deflate

@@ -1,7 +1,7 @@
 //! What is seen of a guest's memory.
 
 ghost use Rattle.std.specs.Prelude.{◌≡◌, ℕ, ◌+◌, ◌<◌, ◌≤◌, None, IsSome, IsOk, OnOk};
-ghost use Rattle.std.specs.Prelude.{OnErr, length, slice_index};
+ghost use Rattle.std.specs.Prelude.{OnErr, is_some, length, slice_index};
 ghost use Rattle.vb_ram.specs.Part.{Part};
 ghost use Rattle.vb_ram.specs.Pages.{Pages, byte_at, frame_at, Covers, Wrote, Cleared};
 
@@ -19,6 +19,10 @@ pub trait GuestBytes {
     /// How many pages there are.
     fn pages(&self) -> u32
         ensures { result ≡ length (mem self.now) };
+
+    /// Whether a page has a frame; a page past the end has none.
+    fn has_frame(&self, page: u32) -> bool
+        ensures { result ≡ is_some (frame_at (mem self.now) page) };
 
     /// Reads the bytes from an offset of a page on, as many as `out` has. A page with no frame
     /// reads as zeros.

@@ -133,6 +133,10 @@ impl GuestBytes for Ram {
         self.pages.len() as u32
     }
 
+    fn has_frame(&self, page: u32) -> bool {
+        self.backing(page).is_some()
+    }
+
     fn read(&self, page: u32, offset: usize, out: &mut [u8]) -> Result<(), RamFault> {
         self.check(page, offset, out.len())?;
         match &self.pages[page as usize] {

@@ -12,6 +12,7 @@ use std::test::Fail;
 enum Step {
     Pages,
     Backing(u32),
+    HasFrame(u32),
     /// A fresh frame of a number is put behind a page.
     Supply(u32, u32),
     Discard(u32),
@@ -38,6 +39,7 @@ enum Answer {
     Nothing,
     Count(u32),
     Frame(u32),
+    Told(bool),
     Refused(RamFault),
     /// The frame of this number comes back.
     Returned(RamFault, u32),
@@ -135,6 +137,7 @@ fn answer_of(alloc: Global, ram: &mut Ram, step: &Step) -> Answer {
     match step {
         Step::Pages => Answer::Count(ram.pages()),
         Step::Backing(page) => frame_of(ram.backing(*page)),
+        Step::HasFrame(page) => Answer::Told(ram.has_frame(*page)),
         Step::Supply(page, number) => supply_fresh(alloc, ram, *page, *number),
         Step::Discard(page) => discard(ram, *page),
         Step::Move(from, to) => move_frame(ram, *from, *to),
@@ -156,12 +159,15 @@ fn expect(rt: &impl Abort, alloc: Global, lines: &[(Step, Answer)]) -> Result<()
     Ok(())
 }
 
-static FRAMES: [(Step, Answer); 16] = [
+static FRAMES: [(Step, Answer); 21] = [
     (Step::Supply(0, 7), Answer::Done),
     (Step::Pages, Answer::Count(2)),
     (Step::Backing(0), Answer::Frame(7)),
     (Step::Backing(1), Answer::Nothing),
     (Step::Backing(2), Answer::Nothing),
+    (Step::HasFrame(0), Answer::Told(true)),
+    (Step::HasFrame(1), Answer::Told(false)),
+    (Step::HasFrame(2), Answer::Told(false)),
     (
         Step::Supply(0, 9),
         Answer::Returned(RamFault::AlreadyBacked, 9),
@@ -172,6 +178,8 @@ static FRAMES: [(Step, Answer); 16] = [
     (Step::Move(0, 1), Answer::Done),
     (Step::Backing(0), Answer::Nothing),
     (Step::Backing(1), Answer::Frame(7)),
+    (Step::HasFrame(0), Answer::Told(false)),
+    (Step::HasFrame(1), Answer::Told(true)),
     (Step::Read(0, 4094), Answer::Read(None, [0, 0])),
     (Step::Read(1, 4094), Answer::Read(None, [0, 0])),
     (Step::Discard(0), Answer::Nothing),

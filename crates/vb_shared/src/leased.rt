@@ -48,6 +48,10 @@ impl<D: Device> GuestBytes for Leased<D> {
         self.device.pages()
     }
 
+    fn has_frame(&self, page: u32) -> bool {
+        self.device.has_frame(page)
+    }
+
     fn read(&self, page: u32, offset: usize, out: &mut [u8]) -> Result<(), RamFault> {
         self.device.read(page, offset, out)
     }

@@ -23,6 +23,10 @@ impl GuestBytes for BoxedDevice {
         self.device.pages()
     }
 
+    fn has_frame(&self, page: u32) -> bool {
+        self.device.has_frame(page)
+    }
+
     fn read(&self, page: u32, offset: usize, out: &mut [u8]) -> Result<(), RamFault> {
         self.device.read(page, offset, out)
     }

@@ -35,6 +35,10 @@ impl<P: Pace> GuestBytes for BalloonDevice<P> {
         self.ram.pages()
     }
 
+    fn has_frame(&self, page: u32) -> bool {
+        self.ram.has_frame(page)
+    }
+
     fn read(&self, page: u32, offset: usize, out: &mut [u8]) -> Result<(), RamFault> {
         self.ram.read(page, offset, out)
     }

@@ -157,6 +157,10 @@ impl GuestBytes for ListedDevice {
         self.inner.pages()
     }
 
+    fn has_frame(&self, page: u32) -> bool {
+        self.inner.has_frame(page)
+    }
+
     fn read(&self, page: u32, offset: usize, out: &mut [u8]) -> Result<(), RamFault> {
         self.inner.read(page, offset, out)
     }

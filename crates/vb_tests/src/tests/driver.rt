@@ -259,7 +259,7 @@ impl Guest {
     /// Posts a request for so many pages, or a report from a page on; a device that is up needs
     /// frames for its rings and buffers.
     fn post(&mut self, request: Request, pages: u32) -> Result<Answer, Refusal> {
-        if self.port.pages() < 64 || is_up(&self.port) && !self.driver.has_frames(&mut self.port) {
+        if self.port.pages() < 64 || is_up(&self.port) && !self.driver.has_frames(&self.port) {
             return Err(Refusal::OutOfRam);
         }
         let Posted { head, pages } = match request {
@@ -282,7 +282,7 @@ impl Guest {
     }
 
     fn stats(&mut self) -> Result<Answer, Refusal> {
-        if self.port.pages() < 64 || is_up(&self.port) && !self.driver.has_frames(&mut self.port) {
+        if self.port.pages() < 64 || is_up(&self.port) && !self.driver.has_frames(&self.port) {
             return Err(Refusal::OutOfRam);
         }
         Ok(Answer::Is(self.driver.stats(&mut self.port)?))

@@ -4,9 +4,5 @@ use Rattle.vb_ram.specs.Pages.{frame_at}
 use Rattle.vb_driver.proofs.memory.all_backed.Given as goal
 
 abbrev pub invariant-loop-page : goal.invariant-loop-page
-invariant-loop-page g l = record {
-  mem : g.G.GuestBytes.mem l.ram ≡ g.G.GuestBytes.mem l.initial.ram;
-  part : g.G.GuestBytes.part l.ram ≡ g.G.GuestBytes.part l.initial.ram;
-  backed : (p : ℕ) → p < l.page → is_start_page l.shape.queue_size p ≡ true
-      → is_some (frame_at (g.G.GuestBytes.mem l.initial.ram) p) ≡ true;
-}
+invariant-loop-page g l = (p : ℕ) → p < l.page → is_start_page l.shape.queue_size p ≡ true
+    → is_some (frame_at (g.G.GuestBytes.mem l.ram) p) ≡ true

@@ -90,6 +90,10 @@ impl GuestBytes for Recorder {
         self.port.pages()
     }
 
+    fn has_frame(&self, page: u32) -> bool {
+        self.port.has_frame(page)
+    }
+
     fn read(&self, page: u32, offset: usize, out: &mut [u8]) -> Result<(), RamFault> {
         self.port.read(page, offset, out)
     }

@@ -1,9 +1,9 @@
-use Rattle.std.proofs.Common.{◌≡◌, ◌∙◌, sym, ap, refl, ℕ, List, true, false}
+use Rattle.std.proofs.Common.{◌≡◌, ◌∙◌, sym, ap, arith, refl, ℕ, List, true, false}
 use Rattle.vb_model.{specs.declared.places.Place.TheVariants.{Free, Lent}, specs.Tests.is_in}
 use Rattle.vb_model.specs.Pages.{placed, is_lent}
 use Rattle.vb_driver.{proofs.Moving.{lowest_is, asked_freed, IsOut, is_out}, specs.Areas.flags_of}
 use Rattle.vb_driver.{specs.State.{DriverState, IsDriver, tells_host}, specs.Places.marked}
-use Rattle.vb_driver.{specs.Calls.{Posts, lowest_lent}, proofs.Counting.at_is}
+use Rattle.vb_driver.{specs.Calls.lowest_lent, proofs.Counting.at_is}
 use Rattle.vb_driver.{specs.contracts.driver.Driver.the_view, proofs.Naming.once_lowest}
 use Rattle.vb_driver.proofs.driver.Driver.ask_and_free.Goals as goal
 
@@ -31,8 +31,6 @@ set_all-requires g c p here = (out_again (the_view c.self.inside) c.args.count p
 
 pub invariant_of-self : goal.invariant_of-self
 invariant_of-self g c = let d = the_view c.self.inside in
-    let m1 = g.P.GuestBytes.mem c.args.port.now in
-    let m2 = g.P.GuestBytes.mem c.post-head.new.ram in
     let areas2 = c.give_all.new.self in
     let untold : tells_host d ≡ false = ap tells_host c.self.view_is ∙ c.requires.untold in
     let lowest : c.lowest_lent.new.pages.items ≡ lowest_lent d c.args.count =
@@ -43,8 +41,11 @@ invariant_of-self g c = let d = the_view c.self.inside in
     (c.deref-2.ensures.0 ∙ lowest) in
     let free : flags_of areas2.free ≡ marked (lowest_lent d c.args.count) true (flags_of d.areas) =
     c.give_all.ensures.state.free ∙ ap (λ (l : List ℕ). marked l true (flags_of d.areas)) items in
-    let posts : Posts m1 m2 d.deflate c.post-head.new.self 8 (lowest_lent d c.args.count)
-    c.post-head.result = rw (← lowest)
-    c.post-head.ensures.posts in rw placed_is (rw c.give_all.ensures.state.held
-    (asked_freed m1 m2 d areas2.free c.post-head.new.self 8 c.args.count c.post-head.result
+    let posts = rw lowest at c.post-head.ensures.posts in
+    rw placed_is (rw c.give_all.ensures.state.held
+    (asked_freed _ _ d areas2.free c.post-head.new.self _ c.args.count c.post-head.result
     c.self.invariant untold free c.give_all.ensures.state.same posts))
+
+pub returns : goal.returns
+returns g c = let posts = rw c.self.invariant.deflate.number at c.post-head.ensures.posts in
+    grind (arith, posts)

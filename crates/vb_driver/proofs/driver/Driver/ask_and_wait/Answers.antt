@@ -3,7 +3,7 @@ use Rattle.vb_model.{specs.declared.places.Place.TheVariants.Taking, specs.Pages
 use Rattle.vb_model.{specs.Requests.{Deflating, place_posted}, specs.declared.places.Place.Place}
 use Rattle.vb_driver.specs.State.{RequestSide, DriverState, IsDriver, tells_host}
 use Rattle.vb_driver.{specs.contracts.driver.Driver.the_view, proofs.Moving.asked_kept}
-use Rattle.vb_driver.specs.Calls.{Posts, lowest_lent, areas_asked}
+use Rattle.vb_driver.specs.Calls.{areas_asked}
 use Rattle.vb_driver.proofs.driver.Driver.ask_and_wait.Goals as goal
 
 -- where the host is told first, the pages are taking, and no area changes
@@ -18,20 +18,11 @@ waits d e2 pages told = grind arith
 
 pub invariant_of-self : goal.invariant_of-self
 invariant_of-self g c = let d = the_view c.self.inside in
-    let m1 = g.P.GuestBytes.mem c.args.port.now in
-    let m2 = g.P.GuestBytes.mem c.post-head.new.ram in
-    let lowest : c.take_lowest_lent.new.pages.items ≡ lowest_lent d c.args.count =
-    c.take_lowest_lent.ensures.pages in
-    let placed_is : c.take_lowest_lent.new.self
-    ≡ placed (lowest_lent d c.args.count) Taking d.places = c.take_lowest_lent.ensures.moved in
-    let posts : Posts m1 m2 d.deflate c.post-head.new.self 8 (lowest_lent d c.args.count)
-    c.post-head.result = subst
-    (λ (l : List ℕ). Posts m1 m2 d.deflate c.post-head.new.self 8 l c.post-head.result) lowest
-    c.post-head.ensures.posts in
+    let posts = rw c.take_lowest_lent.ensures.pages at c.post-head.ensures.posts in
     subst (λ (ps : List Place). IsDriver (record d { places = ps; deflate = c.post-head.new.self }))
-    (sym placed_is)
-    (asked_kept m1 m2 d c.post-head.new.self 8 c.args.count c.post-head.result c.self.invariant
-    posts)
+    (sym c.take_lowest_lent.ensures.moved)
+    (asked_kept _ _ d c.post-head.new.self _ c.args.count c.post-head.result c.self.invariant posts)
 
 pub returns : goal.returns
-returns g c = grind (arith, waits)
+returns g c = let posts = rw c.self.invariant.deflate.number at c.post-head.ensures.posts in
+    grind (arith, waits, posts)

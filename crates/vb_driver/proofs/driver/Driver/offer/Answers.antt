@@ -3,7 +3,7 @@ use Rattle.vb_model.{specs.declared.places.Place.TheVariants.Giving, specs.Pages
 use Rattle.vb_model.specs.declared.places.Place.{Place}
 use Rattle.vb_driver.proofs.Moving.{offered_kept, others_there, others_free, offered_inside}
 use Rattle.vb_driver.{proofs.Moving.first_few, specs.State.IsDriver, specs.Areas.flags_of}
-use Rattle.vb_driver.{specs.Calls.{Posts, stranded_first}, proofs.Naming.once_distinct}
+use Rattle.vb_driver.{specs.Calls.stranded_first, proofs.Naming.once_distinct}
 use Rattle.vb_driver.specs.contracts.driver.Driver.{the_view}
 use Rattle.vb_driver.proofs.driver.Driver.offer.Goals as goal
 
@@ -15,8 +15,6 @@ set_all-requires g c p here = grind (arith, others_free, offered_inside)
 
 pub invariant_of-self : goal.invariant_of-self
 invariant_of-self g c = let d = the_view c.self.inside in
-    let m1 = g.P.GuestBytes.mem c.args.port.now in
-    let m2 = g.P.GuestBytes.mem c.post-head.new.ram in
     let others = c.take_free.new.taken.items in
     let first : c.lowest_stranded.new.pages.items ≡ stranded_first d c.args.count =
     c.lowest_stranded.ensures in
@@ -26,13 +24,10 @@ invariant_of-self g c = let d = the_view c.self.inside in
     let placed_is : c.set_all.new.self
     ≡ placed (stranded_first d c.args.count ++ others) Giving d.places = c.set_all.ensures
     ∙ ap (λ (l : List ℕ). placed l Giving d.places) (c.deref-2.ensures.0 ∙ items) in
-    let posts : Posts m1 m2 d.inflate c.post-head.new.self 4
-    (stranded_first d c.args.count ++ others) c.post-head.result =
-    subst (λ (l : List ℕ). Posts m1 m2 d.inflate c.post-head.new.self 4 l c.post-head.result)
-    items c.post-head.ensures.posts in
+    let posts = rw items at c.post-head.ensures.posts in
     let free = others_free d
     (flags_of c.self.inside.areas.free) others c.self.invariant.free c.take_free.ensures.free in
-    let kept = offered_kept m1 m2 d c.take_free.new.self.free c.post-head.new.self 4
+    let kept = offered_kept _ _ d c.take_free.new.self.free c.post-head.new.self _
     c.args.count c.post-head.result others c.self.invariant free
     (λ p. once_distinct p others c.take_free.ensures.distinct)
     c.take_free.ensures.state.free c.take_free.ensures.state.same posts in
@@ -51,4 +46,5 @@ invariant_of-self g c = let d = the_view c.self.inside in
     })) (sym held) kept)
 
 pub returns : goal.returns
-returns g c = grind (arith, others_free, first_few)
+returns g c = let posts = rw c.self.invariant.inflate.number at c.post-head.ensures.posts in
+    grind (arith, others_free, first_few, posts)
