@@ -32,8 +32,8 @@ head_if b = cond b (Some 0) None
 no_block : (i : ℕ) → head_if (nat_lt i 0) ≡ None
 no_block i = ap head_if (le-ltb i 0 (omega arith))
 
-pub fresh_report_queue : (size : ℕ) → IsReportQueue (fresh_report size) size
-fresh_report_queue size = grind (arith, none_owned, no_block)
+pub fresh_report_queue : {size : ℕ} → IsReportQueue (fresh_report size) size
+fresh_report_queue = grind (arith, none_owned, no_block)
 
 -- ---- blocks, one after the other
 
@@ -99,9 +99,9 @@ block_inside_all blocks i d n lt there = let b = block_of (slice_index_or blocks
 -- ---- nothing is out
 
 -- where no chain is out, there is no report
-pub none_out : (side : ReportSide) (size : ℕ) → IsReportQueue side size → IsDriverEnd side.ring
-    → outstanding side.ring ≡ 0 → side.blocks ≡ []
-none_out side size queue end none = at side.blocks refl where
+pub none_out : {side : ReportSide} {size : ℕ}
+    → IsReportQueue side size → IsDriverEnd side.ring → outstanding side.ring ≡ 0 → side.blocks ≡ []
+none_out {side} queue end none = at side.blocks refl where
   at : (blocks : List Block) → side.blocks ≡ blocks → side.blocks ≡ []
   at [] e = e
   at (b ∷ blocks) e =
@@ -120,9 +120,9 @@ none_out side size queue end none = at side.blocks refl where
       absurd (omega arith)
 
 -- and then no descriptor is in use
-pub unowned : (side : ReportSide) (size : ℕ) → IsReportQueue side size → side.blocks ≡ [] → (i : ℕ)
-    → slice_index_or side.ring.owner i None ≡ None
-unowned side size queue none i = grind (arith, no_block i)
+pub unowned : {side : ReportSide} {size : ℕ} → IsReportQueue side size
+    → side.blocks ≡ [] → (i : ℕ) → slice_index_or side.ring.owner i None ≡ None
+unowned queue none i = grind (arith, no_block i)
 
 -- ---- the first descriptors
 
@@ -165,11 +165,11 @@ not_first i n past = in_first i n ∙ le-ltb i n past
 
 -- ---- a report goes out, and comes back
 
-pub posted_report_queue : (side : ReportSide) (size : ℕ) (r2 : DriverEnd) (blocks : List Block)
+pub posted_report_queue : {side : ReportSide} {size : ℕ} {r2 : DriverEnd} (blocks : List Block)
     → IsReportQueue side size → IsDriverEnd side.ring → side.blocks ≡ [] → length blocks ≤ 16
     → length blocks ≤ side.ring.size → All IsAreaBlock blocks → r2 ≡ after_add side.ring
     (length blocks) (Ok 0) → IsReportQueue (record { ring = r2; blocks = blocks }) size
-posted_report_queue side size r2 blocks queue end nothing few room good state = grind (
+posted_report_queue blocks queue end nothing few room good state = grind (
   arith,
   slice_index_or,
   unowned,
@@ -181,8 +181,8 @@ posted_report_queue side size r2 blocks queue end nothing few room good state = 
   in_first,
 )
 
-pub taken_report_queue : (side : ReportSide) (size h : ℕ) (r2 : DriverEnd) → IsReportQueue side size
-    → h ≡ 0 → r2 ≡ after_take side.ring (Ok (Some h))
+pub taken_report_queue : {side : ReportSide} {size h : ℕ} {r2 : DriverEnd}
+    → IsReportQueue side size → h ≡ 0 → r2 ≡ after_take side.ring (Ok (Some h))
     → IsReportQueue (record { ring = r2; blocks = [] }) size
-taken_report_queue side size h r2 queue zero_is state =
+taken_report_queue queue zero_is state =
     grind (arith, slice_index_or, released-at, nat_lt, no_block)

@@ -26,10 +26,9 @@ returns c = let s : PageState = c.self.inside.pages in
       none = c.alloc.ensures.none;
       same = c.alloc.ensures.same;
     } in record {
-      refusal = rw (← c.self.view_is)
-          (ap refusal_in is ∙ alloc_refusal s new cpu n c.alloc.result served);
-      refused = rw (← c.self.view_is) (rw is (alloc_refused s new cpu n c.alloc.result served));
-      free = rw (← c.self.view_is) (rw is (alloc_free s new cpu n c.alloc.result served));
-      state = rw (← c.self.view_is) (rw is (alloc_state s new cpu n c.alloc.result served));
-      areas = rw (← c.self.view_is) (rw is (alloc_allots s new cpu n c.alloc.result served));
+      refusal = rw (← c.self.view_is) (ap refusal_in is ∙ alloc_refusal c.alloc.result served);
+      refused = rw (← c.self.view_is) (rw is (alloc_refused served));
+      free = rw (← c.self.view_is) (rw is (alloc_free served));
+      state = rw (← c.self.view_is) (rw is (alloc_state c.alloc.result served));
+      areas = rw (← c.self.view_is) (rw is (alloc_allots served));
     }

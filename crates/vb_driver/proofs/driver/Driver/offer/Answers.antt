@@ -30,10 +30,8 @@ invariant_of-self g c = let d = the_view c.self.inside in
     (stranded_first d c.args.count ++ others) c.post-head.result =
     subst (λ (l : List ℕ). Posts m1 m2 d.inflate c.post-head.new.self 4 l c.post-head.result)
     items c.post-head.ensures.posts in
-    let free = others_free d
-    (flags_of c.self.inside.areas.free) others c.self.invariant.free c.take_free.ensures.free in
-    let kept = offered_kept m1 m2 d c.take_free.new.self.free c.post-head.new.self 4
-    c.args.count c.post-head.result others c.self.invariant free
+    let free = others_free d others c.self.invariant.free c.take_free.ensures.free in
+    let kept = offered_kept c.args.count others c.self.invariant free
     (λ p. once_distinct p others c.take_free.ensures.distinct)
     c.take_free.ensures.state.free c.take_free.ensures.state.same posts in
     let held : c.take_free.new.self.held ≡ d.held = c.take_free.ensures.state.held in

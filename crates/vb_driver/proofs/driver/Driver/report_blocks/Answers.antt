@@ -35,5 +35,4 @@ invariant_of-self-2 g c = let d = the_view c.self.inside in
     ∙ ap (λ (l : List Block). marked (pages_of_all l) false (flags_of d.areas)) same in
     let queue : IsReportQueue r2 d.queue_size = rw (← c.self.invariant.report.size)
     c.post-head.ensures.queue in rw moved (rw c.choose-blocks.ensures.state.held
-    (reported_kept d new.free r2 c.self.invariant free distinct taken
-    c.choose-blocks.ensures.state.same queue))
+    (reported_kept c.self.invariant free distinct taken c.choose-blocks.ensures.state.same queue))
