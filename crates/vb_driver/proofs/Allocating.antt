@@ -58,9 +58,7 @@ whole_block s start order apart block free =
 some_block : (s : PageState) (start order : ℕ) → IsApart s → IsBlock (block_at start order)
     → IsWhollyFree s (block_at start order) → has_block s order ≡ true
 some_block s start order apart block free =
-    let first : is_free_page s start ≡ true =
-    free start (covers_is start (block_at start order) true
-    (in_block start order start (omega arith) (omega (arith, pow_pos order)))) in
+    let first : is_free_page s start ≡ true = search (arith, covers_is, true, in_block, pow_pos) in
     let lt : start < length (flags_of s.free) =
     omega (arith, free_inside s start apart first, length_flags s) in
     let here : get_or (range_with_len 0 (length (flags_of s.free))) start 0 ≡ start =

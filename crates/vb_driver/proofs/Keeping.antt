@@ -33,9 +33,7 @@ pub free_marked : (places : List Place) (pages others : List ℕ) (to : Place) (
 free_marked places pages others to flag agree =
     let left = marked others flag (map is_free places) in
     let moved = placed pages to places in
-    let n1 : length left ≡ length places =
-    length-each_from 0 (λ page old. if is_in page others then flag else old)
-    (map is_free places) ∙ length-map places is_free in
+    let n1 : length left ≡ length places = search (arith, length-each_from, map, length-map) in
     let n2 : length moved ≡ length places = length-marked pages to places in
     same_lists left (map is_free moved) (n1 ∙ sym (length-map moved is_free ∙ n2)) (λ k d near.
     let inside : k < length places = omega arith in

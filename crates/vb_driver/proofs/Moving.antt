@@ -46,11 +46,7 @@ posted_queue q p = grind arith
 
 pub reaped_queue : {s1 : RequestSide} {queue size : ℕ} (head : ℕ)
     → IsQueue s1 queue size → IsQueue (after_reap s1 head) queue size
-reaped_queue {s1} {size} head q = record {
-  requests = requests_taken s1.ring s1.sent head q.requests;
-  layout = q.layout;
-  size = q.size;
-}
+reaped_queue {s1} {size} head q = assumption (requests_taken s1.ring s1.sent head q.requests)
 
 -- ---- lent pages are asked back
 
@@ -146,16 +142,8 @@ offered_kept {d} {i2} count {head} others kept free once taken same posts =
     let first = stranded_first d count in
     let pages = first ++ others in
     let offered : Place → Bool = λ v. is_stranded v || is_free v in
-    let leaves : Leaves d pages offered = record {
-      kept = kept;
-      at = λ p here. elim (is_in-append p first others here) [
-        | inl f ↦ ap (λ v. v || is_free (place_of d.places p))
-            (lowest_is d.places count is_stranded p f)
-        | inr o ↦ ap (λ v. is_stranded (place_of d.places p) || v) (list_all-at (λ page. is_free
-            (place_of d.places page)) others p free o) ∙ or_true (is_stranded (place_of d.places p))
-      ];
-      high = refl;
-    } in
+    let leaves : Leaves d pages offered =
+    search (arith, is_in-append, lowest_is, list_all-at, or_true) in
     let small : head < length d.inflate.sent =
     omega (arith, posts.small, kept.inflate.requests.buffers) in
     let sent : i2.sent ≡ set d.inflate.sent head pages =
@@ -328,11 +316,7 @@ pub is_out : {d : DriverState} {p : ℕ} (place : Place) → IsDriver d → is_a
 is_out {d} {p} place kept unreserved unfree unused is =
     let not_reserved : is_at Reserved (place_of d.places p) ≡ false =
     ap (is_at Reserved) is ∙ unreserved in
-    let there : p < length d.places = elim (cases_lt p (length d.places)) [
-      | inl lt ↦ lt
-      | inr past ↦ absurd (both_ways (is_at Reserved (place_of d.places p)) not_reserved
-          (ap (is_at Reserved) (get_or_past d.places p Reserved past)))
-    ] in record {
+    let there : p < length d.places = search (arith, cases_lt, length, both_ways, get_or_past) in record {
       unreserved = elim (cases_lt p (reserved_pages d.queue_size)) [
         | inl low ↦ absurd (both_ways (is_at Reserved (place_of d.places p)) not_reserved
             (ap (is_at Reserved) (kept.reserved p low)))
@@ -408,12 +392,7 @@ none_sent : (i : ℕ) → slice_index_or (replicate {A = List ℕ} 16 []) i [] �
 none_sent i = grind (arith, cases_lt, get_or-replicate, get_or_past)
 
 fresh_queue : {queue size : ℕ} → IsQueue (fresh_side queue size) queue size
-fresh_queue {queue} {size} = record {
-  requests = requests_fresh
-      (ring_page size queue) size (replicate {A = List ℕ} 16 []) refl none_sent;
-  layout = refl;
-  size = refl;
-}
+fresh_queue {queue} {size} = search (arith, requests_fresh, replicate, none_sent)
 
 pub fresh_statistics_queue : {size : ℕ} → IsStatisticsQueue (fresh_statistics size) size
 fresh_statistics_queue = grind (arith, is_none, none_owned)

@@ -108,12 +108,6 @@ none_out {side} queue end none = at side.blocks refl where
       let first : slice_index_or side.ring.owner 0 None ≡ Some 0 = queue.owned 0 ∙ ap head_if
       (lt-ltb 0 (length side.blocks) (omega (arith, ap length e))) in
       let head : is_head side.ring.owner 0 ≡ true = ap (is_own 0) first in
-      let inside : 0 < length side.ring.owner = elim (cases_lt 0 (length side.ring.owner)) [
-        | inl l ↦ l
-        | inr past ↦ (let wrong : true ≡ false = ap is_none
-            (sym (get_or_past side.ring.owner 0 None past) ∙ first) in
-            absurd (both_ways false refl (sym wrong)))
-      ] in
       let some : 1 ≤ outstanding side.ring =
       length_all (is_head side.ring.owner) side.ring.size 1 (omega (arith, end.table))
       (λ i lt. subst (λ (n : ℕ). is_head side.ring.owner n ≡ true) (omega arith) head) in

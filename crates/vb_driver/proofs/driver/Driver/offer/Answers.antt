@@ -20,9 +20,7 @@ invariant_of-self g c = let d = the_view c.self.inside in
     let others = c.take_free.new.taken.items in
     let first : c.lowest_stranded.new.pages.items ≡ stranded_first d c.args.count =
     c.lowest_stranded.ensures in
-    let items : c.append.new.pages.items ≡ stranded_first d c.args.count ++ others =
-    c.append.ensures ∙ (ap (λ (l : List ℕ). l ++ c.deref.result.now) first
-    ∙ ap (λ (l : List ℕ). stranded_first d c.args.count ++ l) c.deref.ensures.0) in
+    let items : c.append.new.pages.items ≡ stranded_first d c.args.count ++ others = search arith in
     let placed_is : c.set_all.new.self
     ≡ placed (stranded_first d c.args.count ++ others) Giving d.places = c.set_all.ensures
     ∙ ap (λ (l : List ℕ). placed l Giving d.places) (c.deref-2.ensures.0 ∙ items) in

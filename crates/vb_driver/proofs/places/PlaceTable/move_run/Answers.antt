@@ -31,13 +31,7 @@ invariant_of-self c = let places = c.self.inside.places.items in
     let start = c.args.start in
     let n = c.end_of_run-next.result - start in
     let size : length places ≡ length c.args.self.now = ap length c.self.view_is in
-    let are : AreAt places start n old = run_is c.end_of_run-next.result
-    (omega (arith, c.end_of_run-next.ensures.from)) (omega (
-      arith,
-      c.end_of_run-next.ensures.bound,
-      c.requires.inside,
-    )) c.index-old.ensures (λ page from before. ap (λ (l : List Place). place_of
-    l page) (sym c.deref.ensures.value) ∙ c.end_of_run-next.ensures.same page from before) in
+    let are : AreAt places start n old = search (arith, run_is) in
     let from = or_parts (is_lent old) (is_stranded old) (sym c.if-is_in_set.ensures) in
     let to = or_parts (is_lent new) (is_stranded new) (sym c.if-is_in_set-2.ensures) in
     let after : List Place = placed (range_with_len start n) new places in
