@@ -26,10 +26,7 @@ wrote_same {old} {new} {p} {off} {bs} w same =
     ] in
     let page : page_at new p ≡ page_at old p = same_page_at new old p (w.rest.backing p)
     (same_contents new old p (w.rest.sizes p) bytes) in
-    let each : (k : ℕ) → page_at new k ≡ page_at old k = λ k. elim (cases_eq k p) [
-      | inl is ↦ ap (page_at new) is ∙ (page ∙ sym (ap (page_at old) is))
-      | inr ne ↦ w.rest.others k ne
-    ] in same_lists new old w.rest.count (λ k d lt. get_or_default new k d None lt
+    let each : (k : ℕ) → page_at new k ≡ page_at old k = search (arith, cases_eq) in same_lists new old w.rest.count (λ k d lt. get_or_default new k d None lt
     ∙ (each k ∙ get_or_default old k None d (omega (arith, w.rest.count))))
 
 pub by_result : {T E : Type 0} (r : Result T E) (P Q R : Type 0) → OnOk r P → OnErr r Q → (P → R)

@@ -96,11 +96,7 @@ pub allocated_kept : {d : DriverState} {areas2 : FreePages} (b : Block) → IsDr
       areas = areas2;
     })
 allocated_kept {d} {areas2} b kept whole taken same = let pages = pages_of b in
-    let leaves : Leaves d pages is_free = record {
-      kept = kept;
-      at = λ p here. ap is_free (block_free b p kept whole here);
-      high = refl;
-    } in
+    let leaves : Leaves d pages is_free = search (arith, block_free) in
     kept_changed (record {
       leaves = leaves;
       inflate = kept.inflate;

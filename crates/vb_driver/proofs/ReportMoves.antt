@@ -78,11 +78,7 @@ pub returned_kept : {d : DriverState} {areas2 : FreePages} {r2 : ReportSide} →
       report = r2;
     })
 returned_kept {d} {areas2} kept given same queue none = let pages = pages_of_all d.report.blocks in
-    let leaves : Leaves d pages is_reporting = record {
-      kept = kept;
-      at = λ p here. ap is_reporting (reported_place p kept here);
-      high = refl;
-    } in
+    let leaves : Leaves d pages is_reporting = search (arith, reported_place) in
     kept_changed (record {
       leaves = leaves;
       inflate = kept.inflate;

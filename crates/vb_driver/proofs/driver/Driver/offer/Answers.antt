@@ -18,8 +18,6 @@ invariant_of-self g c = let d = the_view c.self.inside in
     let m1 = g.P.GuestBytes.mem c.args.port.now in
     let m2 = g.P.GuestBytes.mem c.post-head.new.ram in
     let others = c.take_free.new.taken.items in
-    let first : c.lowest_stranded.new.pages.items ≡ stranded_first d c.args.count =
-    c.lowest_stranded.ensures in
     let items : c.append.new.pages.items ≡ stranded_first d c.args.count ++ others = search arith in
     let placed_is : c.set_all.new.self
     ≡ placed (stranded_first d c.args.count ++ others) Giving d.places = c.set_all.ensures

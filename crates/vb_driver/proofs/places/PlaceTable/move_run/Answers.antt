@@ -14,11 +14,8 @@ pub overflow_sub-self : goal.overflow_sub-self
 overflow_sub-self c = let places = c.self.inside.places.items in
     let old = c.index-old.result.now in
     let size : length places ≡ length c.args.self.now = ap length c.self.view_is in
-    let are : AreAt places c.args.start (c.end_of_run-next.result - c.args.start)
-    old = run_is c.end_of_run-next.result (omega (arith, c.end_of_run-next.ensures.from))
-    (omega (arith, c.end_of_run-next.ensures.bound, c.requires.inside)) c.index-old.ensures
-    (λ page from before. ap (λ (l : List Place). place_of l page) (sym c.deref.ensures.value)
-    ∙ c.end_of_run-next.ensures.same page from before) in
+    let are : AreAt places c.args.start (c.end_of_run-next.result - c.args.start) old =
+    search (arith, run_is) in
     let own : get_or c.self.inside.counts c.number_of.result 0 ≡ count_by (is_at old) places =
     ap (λ (k : ℕ). get_or c.self.inside.counts k 0) c.number_of.ensures
     ∙ c.self.invariant.are_counts.each old in
