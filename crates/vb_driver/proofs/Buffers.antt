@@ -11,9 +11,9 @@ use Rattle.vb_ring.specs.Frame.{Extent, IsIn, SameOutside}
 use Rattle.vb_driver.specs.Coding.{Names}
 
 -- bytes that stood there already, written, change nothing
-pub wrote_same : (old new : Pages) (p off : ℕ) (bs : List ℕ) → Wrote old new p off bs
+pub wrote_same : {old new : Pages} {p off : ℕ} {bs : List ℕ} → Wrote old new p off bs
     → ((k : ℕ) → k < length bs → slice_index bs k ≡ byte_at old p (off + k)) → new ≡ old
-wrote_same old new p off bs w same =
+wrote_same {old} {new} {p} {off} {bs} w same =
     let bytes : (o : ℕ) → byte_at new p o ≡ byte_at old p o = λ o. elim (cases_lt o off) [
       | inl low ↦ w.rest.below o low
       | inr high ↦ elim (cases_lt o (off + length bs)) [
@@ -26,10 +26,7 @@ wrote_same old new p off bs w same =
     ] in
     let page : page_at new p ≡ page_at old p = same_page_at new old p (w.rest.backing p)
     (same_contents new old p (w.rest.sizes p) bytes) in
-    let each : (k : ℕ) → page_at new k ≡ page_at old k = λ k. elim (cases_eq k p) [
-      | inl is ↦ ap (page_at new) is ∙ (page ∙ sym (ap (page_at old) is))
-      | inr ne ↦ w.rest.others k ne
-    ] in same_lists new old w.rest.count (λ k d lt. get_or_default new k d None lt
+    let each : (k : ℕ) → page_at new k ≡ page_at old k = search (arith, cases_eq) in same_lists new old w.rest.count (λ k d lt. get_or_default new k d None lt
     ∙ (each k ∙ get_or_default old k None d (omega (arith, w.rest.count))))
 
 pub by_result : {T E : Type 0} (r : Result T E) (P Q R : Type 0) → OnOk r P → OnErr r Q → (P → R)
@@ -42,10 +39,10 @@ at_ok (Ok x) P is h = h
 at_ok (Err e) P is h = cc
 
 -- what is written to one buffer leaves the others alone
-pub buffer_apart : (old new : Pages) (base h k n : ℕ) → n ≤ 1024
-    → SameBut old new (buffer_page base h) (buffer_offset h) (buffer_offset h + n) → k ≢ h
-    → SameIn old new (buffer_page base k) (buffer_offset k) (buffer_offset k + 1024)
-buffer_apart old new base h k n small but ne = let hd = div-add-mod h 4 in
+pub buffer_apart : {old new : Pages} (base h k n : ℕ)
+    → n ≤ 1024 → SameBut old new (buffer_page base h) (buffer_offset h) (buffer_offset h + n)
+    → k ≢ h → SameIn old new (buffer_page base k) (buffer_offset k) (buffer_offset k + 1024)
+buffer_apart {old} {new} base h k n small but ne = let hd = div-add-mod h 4 in
     let kd = div-add-mod k 4 in elim (cases_eq (k / 4) (h / 4)) [
       | inl same ↦
           let here : buffer_page base h ≡ buffer_page base k = ap (λ x. base + x) (sym same) in
@@ -57,9 +54,9 @@ buffer_apart old new base h k n small but ne = let hd = div-add-mod h 4 in
       | inr apart ↦ same_other old new _ _ _ _ _ _ but (omega (arith, apart))
     ]
 
-pub names_at : (mem : Pages) (p o p' o' : ℕ) (xs ys : List ℕ) → p ≡ p' → o ≡ o' → xs ≡ ys
-    → Names mem p o xs → Names mem p' o' ys
-names_at mem p o p' o' xs ys e f s n = search (arith)
+pub names_at : {mem : Pages} {p o p' o' : ℕ} {xs ys : List ℕ}
+    → p ≡ p' → o ≡ o' → xs ≡ ys → Names mem p o xs → Names mem p' o' ys
+names_at e f s n = search (arith)
 
 -- page numbers in a page that a write to another leaves
 pub names_kept : (old new : Pages) (p o : ℕ) (xs : List ℕ) (hi : ℕ) → SameIn old new p o hi
@@ -67,9 +64,9 @@ pub names_kept : (old new : Pages) (p o : ℕ) (xs : List ℕ) (hi : ℕ) → Sa
 names_kept old new p o xs hi same fits n = grind (arith, field_in)
 
 -- bytes of one page are written, and then others
-pub outside_both : (m1 m2 m3 : Pages) (p lo hi : ℕ) (es : List Extent) → SameBut m1 m2 p lo hi
+pub outside_both : {m1 m2 m3 : Pages} {p lo hi : ℕ} {es : List Extent} → SameBut m1 m2 p lo hi
     → SameOutside m2 m3 es → SameOutside m1 m3 (record { page = p; from = lo; to = hi } ∷ es)
-outside_both m1 m2 m3 p lo hi es first then = record {
+outside_both {m1} {m2} {p} {lo} {hi} first then = record {
   bytes = λ q o out. then.bytes q o out.1 ∙ before q o out.0;
   others = λ q out. then.others q out.1 ∙ first.others q out.0;
   backing = λ q. then.backing q ∙ first.backing q;

@@ -100,13 +100,14 @@ set_short : (sent : List (List ℕ)) (h i : ℕ) (pages : List ℕ) → length p
 set_short sent h i pages few short = grind (arith, get_or-set_at, get_or_past, length-set, set_at)
 
 -- nothing is named where nothing was set
-set_none : (sent : List (List ℕ)) (h i : ℕ) → i ≡ h → slice_index_or (set sent h []) i [] ≡ []
-set_none sent h i same = grind (arith, get_or-set_at, get_or_past, length-set)
+set_none : (sent : List (List ℕ)) {h i : ℕ} → i ≡ h → slice_index_or (set sent h []) i [] ≡ []
+set_none sent same = grind (arith, get_or-set_at, get_or_past, length-set)
 
-pub requests_added : (r : DriverEnd) (sent : List (List ℕ)) (h : ℕ) (pages : List ℕ) → AreRequests
-    (record { ring = r; sent = sent }) → IsDriverEnd r → next_head r ≡ Some h → h < 16 → length
-    pages ≤ 256 → AreRequests (record { ring = after_add r 1 (Ok h); sent = set sent h pages })
-requests_added r sent h pages all end e small few_pages =
+pub requests_added : {r : DriverEnd} (sent : List (List ℕ)) (h : ℕ) (pages : List ℕ)
+    → AreRequests (record { ring = r; sent = sent })
+    → IsDriverEnd r → next_head r ≡ Some h → h < 16 → length pages ≤ 256
+    → AreRequests (record { ring = after_add r 1 (Ok h); sent = set sent h pages })
+requests_added sent h pages all end e small few_pages =
     search (arith, head_low, claimed_same, claimed_other, length-set, set_at, set_short)
 
 pub requests_taken : (r : DriverEnd) (sent : List (List ℕ)) (h : ℕ)
@@ -119,23 +120,23 @@ pub requests_fresh : (page size : ℕ) (sent : List (List ℕ)) → length sent 
     → AreRequests (record { ring = fresh_end (layout_of page size) size; sent = sent })
 requests_fresh page size sent len none = grind (arith, none_owned)
 
-pub requests_taken_at : (r r2 : DriverEnd) (sent : List (List ℕ)) (h i : ℕ) (blank : List ℕ)
-    → AreRequests (record { ring = r; sent = sent }) → r2 ≡ after_take r (Ok (Some h)) → i ≡ h
-    → blank ≡ [] → AreRequests (record { ring = r2; sent = set sent i blank })
-requests_taken_at r r2 sent h i blank all state at none = grind (arith, requests_taken r sent h all)
+pub requests_taken_at : (r : DriverEnd) {r2 : DriverEnd} (sent : List (List ℕ))
+    {h i : ℕ} {blank : List ℕ} → AreRequests (record { ring = r; sent = sent }) → r2 ≡ after_take r
+    (Ok (Some h)) → i ≡ h → blank ≡ [] → AreRequests (record { ring = r2; sent = set sent i blank })
+requests_taken_at r sent {h} all state at none = grind (arith, requests_taken r sent h all)
 
-pub requests_added_at : (r r2 : DriverEnd) (sent : List (List ℕ)) (h i : ℕ) (pages : List ℕ)
-    → AreRequests (record { ring = r; sent = sent }) → IsDriverEnd r → next_head r ≡ Some h → h < 16
-    → length pages ≤ 256 → r2 ≡ after_add r 1 (Ok h) → i ≡ h
-    → AreRequests (record { ring = r2; sent = set sent i pages })
-requests_added_at r r2 sent h i pages all end e small few state at =
-    grind (arith, requests_added r sent h pages all end e small few)
+pub requests_added_at : {r r2 : DriverEnd} (sent : List (List ℕ)) {h i : ℕ} (pages : List ℕ)
+    → AreRequests (record { ring = r; sent = sent })
+    → IsDriverEnd r → next_head r ≡ Some h → h < 16 → length pages ≤ 256 → r2 ≡ after_add r 1 (Ok h)
+    → i ≡ h → AreRequests (record { ring = r2; sent = set sent i pages })
+requests_added_at sent {h} pages all end e small few state at =
+    grind (arith, requests_added sent h pages all end e small few)
 
 -- the facts of a queue that has room, from what is seen of it
-pub room_inside : (r : DriverEnd) (sent : List (List ℕ)) (now : RequestSide)
+pub room_inside : (r : DriverEnd) (sent : List (List ℕ)) {now : RequestSide}
     → (let side : RequestSide = record { ring = r; sent = sent } in side) ≡ now
     → outstanding now.ring < min now.ring.size 16 → outstanding r < min r.size 16
-room_inside r sent now same room =
+room_inside r sent same room =
     subst (λ (s : RequestSide). outstanding s.ring < min s.ring.size 16) (sym same) room
 
 pub head_small : (r : DriverEnd) (h : ℕ) → ((k : ℕ) → is_unused r.owner k ≡ false

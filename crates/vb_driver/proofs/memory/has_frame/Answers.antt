@@ -8,5 +8,4 @@ returns-clause-mem g c = let old = g.G.GuestBytes.mem c.args.ram.now in
     let bytes = at_ok c.read.result _ (c.read.ensures.answers
     (record { page = c.requires; bytes = omega arith })) c.read.ensures.bytes in
     by_result c.write.result _ _ (new ≡ old) c.write.ensures.bytes c.write.ensures.unwritten
-    (λ w. wrote_same old new c.args.page 0 c.read.new.out w
-    (λ k lt. bytes k (omega (arith, c.read.auto.out)))) (λ e. e)
+    (λ w. wrote_same w (λ k lt. bytes k (omega (arith, c.read.auto.out)))) (λ e. e)

@@ -25,13 +25,10 @@ invariant_of-self g c = let d = the_view c.self.inside in
     let placed_is : c.take_lowest_lent.new.self
     ≡ placed (lowest_lent d c.args.count) Taking d.places = c.take_lowest_lent.ensures.moved in
     let posts : Posts m1 m2 d.deflate c.post-head.new.self 8 (lowest_lent d c.args.count)
-    c.post-head.result = subst
-    (λ (l : List ℕ). Posts m1 m2 d.deflate c.post-head.new.self 8 l c.post-head.result) lowest
-    c.post-head.ensures.posts in
+    c.post-head.result = subst (λ (l : List ℕ). Posts
+    m1 m2 d.deflate c.post-head.new.self 8 l c.post-head.result) lowest c.post-head.ensures.posts in
     subst (λ (ps : List Place). IsDriver (record d { places = ps; deflate = c.post-head.new.self }))
-    (sym placed_is)
-    (asked_kept m1 m2 d c.post-head.new.self 8 c.args.count c.post-head.result c.self.invariant
-    posts)
+    (sym placed_is) (asked_kept c.args.count c.self.invariant posts)
 
 pub returns : goal.returns
 returns g c = grind (arith, waits)

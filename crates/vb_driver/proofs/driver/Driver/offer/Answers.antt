@@ -18,11 +18,7 @@ invariant_of-self g c = let d = the_view c.self.inside in
     let m1 = g.P.GuestBytes.mem c.args.port.now in
     let m2 = g.P.GuestBytes.mem c.post-head.new.ram in
     let others = c.take_free.new.taken.items in
-    let first : c.lowest_stranded.new.pages.items ≡ stranded_first d c.args.count =
-    c.lowest_stranded.ensures in
-    let items : c.append.new.pages.items ≡ stranded_first d c.args.count ++ others =
-    c.append.ensures ∙ (ap (λ (l : List ℕ). l ++ c.deref.result.now) first
-    ∙ ap (λ (l : List ℕ). stranded_first d c.args.count ++ l) c.deref.ensures.0) in
+    let items : c.append.new.pages.items ≡ stranded_first d c.args.count ++ others = search arith in
     let placed_is : c.set_all.new.self
     ≡ placed (stranded_first d c.args.count ++ others) Giving d.places = c.set_all.ensures
     ∙ ap (λ (l : List ℕ). placed l Giving d.places) (c.deref-2.ensures.0 ∙ items) in
@@ -30,10 +26,8 @@ invariant_of-self g c = let d = the_view c.self.inside in
     (stranded_first d c.args.count ++ others) c.post-head.result =
     subst (λ (l : List ℕ). Posts m1 m2 d.inflate c.post-head.new.self 4 l c.post-head.result)
     items c.post-head.ensures.posts in
-    let free = others_free d
-    (flags_of c.self.inside.areas.free) others c.self.invariant.free c.take_free.ensures.free in
-    let kept = offered_kept m1 m2 d c.take_free.new.self.free c.post-head.new.self 4
-    c.args.count c.post-head.result others c.self.invariant free
+    let free = others_free d others c.self.invariant.free c.take_free.ensures.free in
+    let kept = offered_kept c.args.count others c.self.invariant free
     (λ p. once_distinct p others c.take_free.ensures.distinct)
     c.take_free.ensures.state.free c.take_free.ensures.state.same posts in
     let held : c.take_free.new.self.held ≡ d.held = c.take_free.ensures.state.held in

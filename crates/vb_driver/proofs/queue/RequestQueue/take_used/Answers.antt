@@ -13,5 +13,4 @@ invariant_of-self-2 g c = let r = c.self.inside.ring in
     let h = c.in-Some.head in
     let state : c.take_used.new.self ≡ after_take r (Ok (Some h)) = c.take_used.ensures.state ∙ ap
     (after_take r) (was c.take_used.result c.in_ok-head.field-0 h c.in_ok-head.was c.in-Some.is) in
-    requests_taken_at r c.take_used.new.self sent h c.from.result c.hand_over.new.self
-    c.self.invariant state c.from.ensures c.hand_over.ensures.forgotten
+    requests_taken_at r sent c.self.invariant state c.from.ensures c.hand_over.ensures.forgotten
