@@ -58,9 +58,7 @@ whole_block s start order apart block free =
 some_block : (s : PageState) (start order : ℕ) → IsApart s → IsBlock (block_at start order)
     → IsWhollyFree s (block_at start order) → has_block s order ≡ true
 some_block s start order apart block free =
-    let first : is_free_page s start ≡ true =
-    free start (covers_is start (block_at start order) true
-    (in_block start order start (omega arith) (omega (arith, pow_pos order)))) in
+    let first : is_free_page s start ≡ true = search (arith, covers_is, true, in_block, pow_pos) in
     let lt : start < length (flags_of s.free) =
     omega (arith, free_inside s start apart first, length_flags s) in
     let here : get_or (range_with_len 0 (length (flags_of s.free))) start 0 ≡ start =
@@ -114,48 +112,46 @@ pub record IsServed (s new : PageState) (cpu order : ℕ) (r : Result ℕ PageFa
   pub same : r ≡ Err NoFreeBlock → ((page : ℕ) → is_free_page new page ≡ is_free_page s page)
       × (new.held ≡ s.held) × (new.free.lists ≡ map (λ (list : List ℕ). []) s.free.lists)
 
-small_order : (s new : PageState) (cpu order : ℕ) (r : Result ℕ PageFault)
+small_order : {s new : PageState} {cpu order : ℕ} {r : Result ℕ PageFault}
     → IsServed s new cpu order r → (r ≡ Err OrderTooLarge → ⊥) → order ≤ 9
-small_order s new cpu order r served not_it =
+small_order {order} served not_it =
     elim (cases_lt 9 order) [ inl lt ↦ absurd (not_it (served.bad_order.1 lt)) | inr le ↦ le ]
 
-there_cpu : (s new : PageState) (cpu order : ℕ) (r : Result ℕ PageFault)
+there_cpu : {s new : PageState} {cpu order : ℕ} {r : Result ℕ PageFault}
     → IsServed s new cpu order r → order ≤ 9 → (r ≡ Err NoSuchCpu → ⊥) → cpu < cpu_count s
-there_cpu s new cpu order r served small not_it = grind arith
+there_cpu served small not_it = grind arith
 
-pub alloc_refusal : (s new : PageState) (cpu order : ℕ) (r : Result ℕ PageFault)
+pub alloc_refusal : {s new : PageState} {cpu order : ℕ} (r : Result ℕ PageFault)
     → IsServed s new cpu order r → refusal_in (answered r)
     ≡ first_of (nat_lt 9 order) (nat_le (cpu_count s) cpu) (has_block s order)
-alloc_refusal s new cpu order (Ok start) served =
+alloc_refusal (Ok start) served =
     grind (arith, small_order, there_cpu, nat_lt, le-ltb, nat_le, lt-leb, some_block)
-alloc_refusal s new cpu order (Err OrderTooLarge) served = grind arith
-alloc_refusal s new cpu order (Err NoSuchCpu) served = grind arith
-alloc_refusal s new cpu order (Err NoFreeBlock) served =
+alloc_refusal (Err OrderTooLarge) served = grind arith
+alloc_refusal (Err NoSuchCpu) served = grind arith
+alloc_refusal (Err NoFreeBlock) served =
     grind (arith, small_order, there_cpu, nat_lt, le-ltb, nat_le, lt-leb, no_block)
-alloc_refusal s new cpu order (Err NoSuchBlock) served = absurd (served.never refl)
+alloc_refusal (Err NoSuchBlock) served = absurd (served.never refl)
 
-pub alloc_refused : (s new : PageState) (cpu order : ℕ) (r : Result ℕ PageFault)
+pub alloc_refused : {s new : PageState} {cpu order : ℕ} {r : Result ℕ PageFault}
     → IsServed s new cpu order r → OnErr (answered r) (Becomes s new (flags_of s.free) s.held)
-alloc_refused s new cpu order r served = grind (arith, drained_sizes, flags_same)
+alloc_refused served = grind (arith, drained_sizes, flags_same)
 
 -- what an allocation does to the areas, by its refusal
-pub alloc_allots : (s new : PageState) (cpu order : ℕ) (r : Result ℕ PageFault)
+pub alloc_allots : {s new : PageState} {cpu order : ℕ} {r : Result ℕ PageFault}
     → IsServed s new cpu order r → Allots s cpu order (answered r) new
-alloc_allots s new cpu order r served = grind arith
+alloc_allots served = grind arith
 
-pub alloc_free : (s new : PageState) (cpu order : ℕ) (r : Result ℕ PageFault)
+pub alloc_free : {s new : PageState} {cpu order : ℕ} {r : Result ℕ PageFault}
     → IsServed s new cpu order r
     → IfOk (answered r) (λ start. IsTrue (is_free_block (flags_of s.free) (block_at start order)))
-alloc_free s new cpu order r served = grind (arith, whole_block)
+alloc_free served = grind (arith, whole_block)
 
-pub alloc_state : (s new : PageState) (cpu order : ℕ) (r : Result ℕ PageFault)
-    → IsServed s new cpu order r → IfOk (answered r) (λ start. Becomes s new
-    (marked (pages_of (block_at start order)) false (flags_of s.free))
-    (with_block (block_at start order) s.held))
-alloc_state s new cpu order (Ok start) served =
-    let small : order ≤ 9 = small_order s new cpu order (Ok start) served (λ e. cc) in
-    let cpu_there : cpu < cpu_count s =
-    there_cpu s new cpu order (Ok start) served small (λ e. cc) in
+pub alloc_state : {s new : PageState} {cpu order : ℕ} (r : Result ℕ PageFault)
+    → IsServed s new cpu order r → IfOk (answered r) (λ start. Becomes s new (marked (pages_of
+    (block_at start order)) false (flags_of s.free)) (with_block (block_at start order) s.held))
+alloc_state {s} {new} {cpu} {order} (Ok start) served =
+    let small : order ≤ 9 = small_order served (λ e. cc) in
+    let cpu_there : cpu < cpu_count s = there_cpu served small (λ e. cc) in
     let got = served.allocates small cpu_there in
     let pages : page_count new ≡ page_count s =
     ap page_count got.2 ∙ serves_length s.free got.0 cpu order start got.1 in
@@ -163,31 +159,28 @@ alloc_state s new cpu order (Ok start) served =
       free = flags_moved s new (pages_of b) false pages
           (λ p. served.left p ∙ left_by p b (is_free_page s p));
       held = served.held;
-      same = for_these s.free got.0 new.free (ap (λ (v : PageState). v.free) got.2)
-          (serves_for s.free got.0 cpu order start got.1);
+      same = for_these (ap (λ (v : PageState). v.free) got.2) (serves_for cpu order start got.1);
     }
-alloc_state s new cpu order (Err fault) served = tt
+alloc_state (Err fault) served = tt
 
 -- ---- free
 
 pub free_state : (s new : PageState) (cpu start order : ℕ) (r : Result Unit PageFault)
-    → OnOk r (new ≡ freed cpu (block_at start order) s) → OnOk r ((page : ℕ) → is_free_page new page
-    ≡ (is_free_page s page || covers page (block_at start order)))
-    → OnOk (answered r) (Becomes s new
-    (marked (pages_of (block_at start order)) true (flags_of s.free))
-    (without_block (block_at start order) s.held))
+    → OnOk r (new ≡ freed cpu (block_at start order) s) → OnOk r ((page : ℕ)
+    → is_free_page new page ≡ (is_free_page s page || covers page (block_at start order)))
+    → OnOk (answered r) (Becomes s new (marked (pages_of (block_at start order)) true
+    (flags_of s.free)) (without_block (block_at start order) s.held))
 free_state s new cpu start order (Ok x) is gained = let b = block_at start order in
-    let sizes = given_sizes s.free cpu start order in record {
+    let sizes = given_sizes cpu start order in record {
       free = flags_moved s new (pages_of b) true (ap page_count is ∙ sizes.pages)
           (λ p. gained p ∙ gained_by p b (is_free_page s p));
       held = ap (λ (v : PageState). v.held) is;
-      same = for_these s.free (given_back cpu start order s.free) new.free
-          (ap (λ (v : PageState). v.free) is) sizes.same;
+      same = for_these (ap (λ (v : PageState). v.free) is) sizes.same;
     }
 free_state s new cpu start order (Err fault) is gained = tt
 
-pub areas_apart : (s : PageState) → IsApart s → AreApart s
-areas_apart s apart = record { apart = λ p covered. held_unfree s p apart covered }
+pub areas_apart : {s : PageState} → IsApart s → AreApart s
+areas_apart {s} apart = record { apart = λ p covered. held_unfree s p apart covered }
 
 -- ---- single pages
 
@@ -257,13 +250,12 @@ count_flags s =
     one i = at (has s.free.areas i) (is_in i (in_lists s.free)) (times i (in_lists s.free))
         (times_in i (in_lists s.free))
 
-pub taken_state : (s new : PageState) (pages : List ℕ) → TakesFree s pages new
+pub taken_state : {s new : PageState} (pages : List ℕ) → TakesFree s pages new
     → ((p : ℕ) → one_if (is_free_page new p) + times p pages ≡ one_if (is_free_page s p))
     → Becomes s new (marked pages false (flags_of s.free)) s.held
-taken_state s new pages takes left = let sizes = drained_sizes s.free in record {
-  free = flags_moved s new pages false
-      (length-takes_pages (drained s.free).areas new.free.areas pages takes.0 ∙ sizes.pages)
-      (λ p. taken_by p pages (is_free_page new p) (is_free_page s p) (left p));
+taken_state {s} {new} pages takes left = let sizes = drained_sizes s.free in record {
+  free = flags_moved s new pages false (length-takes_pages (drained s.free).areas new.free.areas
+      pages takes.0 ∙ sizes.pages) (λ p. taken_by p pages (is_free_page s p) (left p));
   held = takes.2;
   same = record { processors = ap length takes.1 ∙ sizes.same.processors; reserved = takes.3 };
 }
@@ -282,10 +274,10 @@ pub given_room : (s : PageState) (page : ℕ) → reserved_count s ≤ page → 
     → HasRoomIn s (block_at page 0)
 given_room s page unreserved inside taken uncovered = grind (arith, length_flags, flag_at)
 
-pub given_state : (s new : PageState) (page : ℕ) → new ≡ with_free_block (block_at page 0) s
+pub given_state : {s new : PageState} (page : ℕ) → new ≡ with_free_block (block_at page 0) s
     → ((p : ℕ) → is_free_page new p ≡ (is_free_page s p || covers p (block_at page 0)))
     → page < length (flags_of s.free) → Becomes s new (set (flags_of s.free) page true) s.held
-given_state s new page is gained there = let b = block_at page 0 in record {
+given_state {s} {new} page is gained there = let b = block_at page 0 in record {
   free = flags_moved s new (pages_of b) true
       (ap page_count is ∙ length-with_pages (pages_of b) s.free.areas) (λ p. gained p
       ∙ gained_by p b (is_free_page s p)) ∙ marked_one page true (flags_of s.free) there;

@@ -9,10 +9,10 @@ use Rattle.vb_ring.specs.Frame.{Extent, IsIn, SameOutside}
 use Rattle.vb_driver.specs.Coding.{Names}
 
 -- what is written to one buffer leaves the others alone
-pub buffer_apart : (old new : Pages) (base h k n : ℕ) → n ≤ 1024
-    → SameBut old new (buffer_page base h) (buffer_offset h) (buffer_offset h + n) → k ≢ h
-    → SameIn old new (buffer_page base k) (buffer_offset k) (buffer_offset k + 1024)
-buffer_apart old new base h k n small but ne = let hd = div-add-mod h 4 in
+pub buffer_apart : {old new : Pages} (base h k n : ℕ)
+    → n ≤ 1024 → SameBut old new (buffer_page base h) (buffer_offset h) (buffer_offset h + n)
+    → k ≢ h → SameIn old new (buffer_page base k) (buffer_offset k) (buffer_offset k + 1024)
+buffer_apart {old} {new} base h k n small but ne = let hd = div-add-mod h 4 in
     let kd = div-add-mod k 4 in elim (cases_eq (k / 4) (h / 4)) [
       | inl same ↦
           let here : buffer_page base h ≡ buffer_page base k = ap (λ x. base + x) (sym same) in
@@ -24,9 +24,9 @@ buffer_apart old new base h k n small but ne = let hd = div-add-mod h 4 in
       | inr apart ↦ same_other old new _ _ _ _ _ _ but (omega (arith, apart))
     ]
 
-pub names_at : (mem : Pages) (p o p' o' : ℕ) (xs ys : List ℕ) → p ≡ p' → o ≡ o' → xs ≡ ys
-    → Names mem p o xs → Names mem p' o' ys
-names_at mem p o p' o' xs ys e f s n = search (arith)
+pub names_at : {mem : Pages} {p o p' o' : ℕ} {xs ys : List ℕ}
+    → p ≡ p' → o ≡ o' → xs ≡ ys → Names mem p o xs → Names mem p' o' ys
+names_at e f s n = search (arith)
 
 -- page numbers in a page that a write to another leaves
 pub names_kept : (old new : Pages) (p o : ℕ) (xs : List ℕ) (hi : ℕ) → SameIn old new p o hi
@@ -34,9 +34,9 @@ pub names_kept : (old new : Pages) (p o : ℕ) (xs : List ℕ) (hi : ℕ) → Sa
 names_kept old new p o xs hi same fits n = grind (arith, field_in)
 
 -- bytes of one page are written, and then others
-pub outside_both : (m1 m2 m3 : Pages) (p lo hi : ℕ) (es : List Extent) → SameBut m1 m2 p lo hi
+pub outside_both : {m1 m2 m3 : Pages} {p lo hi : ℕ} {es : List Extent} → SameBut m1 m2 p lo hi
     → SameOutside m2 m3 es → SameOutside m1 m3 (record { page = p; from = lo; to = hi } ∷ es)
-outside_both m1 m2 m3 p lo hi es first then = record {
+outside_both {m1} {m2} {p} {lo} {hi} first then = record {
   bytes = λ q o out. then.bytes q o out.1 ∙ before q o out.0;
   others = λ q out. then.others q out.1 ∙ first.others q out.0;
   backing = λ q. then.backing q ∙ first.backing q;

@@ -28,9 +28,9 @@ accepted s f lt = at (status_refusal s f (bit_or s 128))
     at None r h = refl
     at (Some x) r h = cc
 
-pub after_failing : (s f : ℕ) (part : Part) → part.status ≡ s → s < 256
-    → after_status (bit_or s 128) part ≡ record part { status = bit_or s 128 }
-after_failing s f part is lt = at (is_none (status_refusal s f (bit_or s 128))) (eqb
+pub after_failing : {s : ℕ} (f : ℕ) (part : Part) → part.status ≡ s
+    → s < 256 → after_status (bit_or s 128) part ≡ record part { status = bit_or s 128 }
+after_failing {s} f part is lt = at (is_none (status_refusal s f (bit_or s 128))) (eqb
     (bit_or s 128) 0) (adds s (bit_or s 128) driver_ok) (adds part.status (bit_or s 128) driver_ok)
     (passed s f lt) (ap (λ n. adds n (bit_or s 128) driver_ok) is)
   where

@@ -23,31 +23,31 @@ pub record Filling (m1 m2 m3 : Pages) (r r2 : DriverEnd) (n a free total : ℕ) 
   pub addr : a ≡ 49152
 
 -- a statistic in a page that a write to another leaves
-statistic_kept : (old new : Pages) (offset tag value : ℕ) → page_at new 12 ≡ page_at old 12
+statistic_kept : {old new : Pages} {offset tag value : ℕ} → page_at new 12 ≡ page_at old 12
     → IsStatistic old offset tag value → IsStatistic new offset tag value
-statistic_kept old new offset tag value same s = grind (arith, field_in, same_page)
+statistic_kept same s = grind (arith, field_in, same_page)
 
 -- the descriptor that the buffer gets is the lowest
-pub next_is_first : (r : DriverEnd) (n : ℕ) → IsStatisticsQueue r n → IsDriverEnd r
-    → outstanding r ≡ 0 → next_head r ≡ Some 0
-next_is_first r n queue end none = grind (arith, first_head, none_used)
+pub next_is_first : {r : DriverEnd} {n : ℕ}
+    → IsStatisticsQueue r n → IsDriverEnd r → outstanding r ≡ 0 → next_head r ≡ Some 0
+next_is_first queue end none = grind (arith, first_head, none_used)
 
-fills_at : (m1 m2 m3 : Pages) (r r2 : DriverEnd) (n a free total : ℕ) → Filling m1 m2 m3 r r2
-    n a free total → AddsBy m2 m3 r r2 (record { addr = a; len = 20; writable = false } ∷ []) (Ok 0)
+fills_at : {m1 m2 m3 : Pages} {r r2 : DriverEnd} {n a free total : ℕ}
+    → Filling m1 m2 m3 r r2 n a free total
+    → AddsBy m2 m3 r r2 (record { addr = a; len = 20; writable = false } ∷ []) (Ok 0)
     → PostsBuffer m1 m3 r r2 (record { free = free; total = total })
-fills_at m1 m2 m3 r r2 n a free total s adds =
+fills_at {m1} {m2} {m3} {r} {r2} {n} {a} {free} {total} s adds =
     let sized : IsSize n = subst IsSize s.queue.size s.is_end.fits.size in
     let beside : IsBeside r.layout 12 = subst (λ (l : Layout). IsBeside l 12) (sym s.queue.layout)
-    (beside_buffers n 2 12 sized (omega arith) (omega arith)) in
+    (beside_buffers 2 sized (omega arith) (omega arith)) in
     let one : OnePiece m1 m2 m3 r r2 0 a 20 =
-    one_piece m1 m2 m3 r r2 0 a 20 s.is_end (next_is_first r n s.queue s.is_end s.none)
-    (keeps_ring m1 m2 r.layout 12 0 20 beside s.wrote) adds in
+    one_piece s.is_end (next_is_first s.queue s.is_end s.none) (keeps_ring beside s.wrote) adds in
     let buffer : page_at m3 12 ≡ page_at m2 12 = one.others 12 beside.table beside.avail in record {
       state = adds.state;
       coded = record {
         descriptor = one.put ∙ same_parts _ _ s.addr refl refl refl;
-        free = statistic_kept m2 m3 0 4 free buffer s.free_is;
-        total = statistic_kept m2 m3 10 5 total buffer s.total_is;
+        free = statistic_kept buffer s.free_is;
+        total = statistic_kept buffer s.total_is;
       };
       beyond = same_trans m1 m2 m3 12 20 4096 (same_above m1 m2 12 0 20 20 4096 s.wrote
           (omega arith)) (same_page m2 m3 12 20 4096 buffer);
@@ -58,33 +58,32 @@ fills_at m1 m2 m3 r r2 n a free total s adds =
         backing = λ p. adds.publishes.rest.backing p ∙ s.wrote.backing p;
         count = adds.publishes.rest.count ∙ s.wrote.count;
       };
-      outside = outside_both m1 m2 m3 12 0 20 (written_of r) s.wrote adds.publishes.rest;
+      outside = outside_both s.wrote adds.publishes.rest;
     }
 
 -- whatever head the add tells, it is 0
-pub fills_by : (m1 m2 m3 : Pages) (r r2 : DriverEnd) (n a g free total : ℕ) → Filling m1 m2 m3 r r2
-    n a free total → AddsBy m2 m3 r r2 (record { addr = a; len = 20; writable = false } ∷ []) (Ok g)
+pub fills_by : {m1 m2 m3 : Pages} {r r2 : DriverEnd} {n a : ℕ} (g : ℕ) {free total : ℕ}
+    → Filling m1 m2 m3 r r2 n a free total
+    → AddsBy m2 m3 r r2 (record { addr = a; len = 20; writable = false } ∷ []) (Ok g)
     → PostsBuffer m1 m3 r r2 (record { free = free; total = total })
-fills_by m1 m2 m3 r r2 n a g free total s adds =
+fills_by {m2} {m3} {r} {r2} {a} g s adds =
     let pieces : List Piece = record { addr = a; len = 20; writable = false } ∷ [] in
-    let same : 0 ≡ g = added_head m2 m3 r r2 0 g pieces refl
-    (next_is_first r n s.queue s.is_end s.none) adds in fills_at m1 m2 m3 r r2 n a free total s
+    let same : 0 ≡ g = added_head refl (next_is_first s.queue s.is_end s.none) adds in fills_at s
     (subst (λ (h : ℕ). AddsBy m2 m3 r r2 pieces (Ok h)) (sym same) adds)
 
-pub filled_queue : (m2 m3 : Pages) (r r2 : DriverEnd) (n g : ℕ) (pieces : List Piece)
-    → length pieces ≡ 1 → IsStatisticsQueue r n → outstanding r ≡ 0
-    → AddsBy m2 m3 r r2 pieces (Ok g) → IsStatisticsQueue r2 n
-filled_queue m2 m3 r r2 n g pieces one queue none adds =
+pub filled_queue : {m2 m3 : Pages} {r r2 : DriverEnd} {n : ℕ} (g : ℕ) {pieces : List Piece}
+    → length pieces ≡ 1 → IsStatisticsQueue r n
+    → outstanding r ≡ 0 → AddsBy m2 m3 r r2 pieces (Ok g) → IsStatisticsQueue r2 n
+filled_queue {r} {r2} g one queue none adds =
     let some : 0 < r.size = omega (arith, adds.is_end.fits.size.least) in
-    let unused = none_used r n queue some none in
-    let same : 0 ≡ g = added_head m2 m3 r r2 0 g pieces one (first_head r some unused) adds in
+    let unused = none_used queue some none in
+    let same : 0 ≡ g = added_head one (first_head r some unused) adds in
     let state : r2 ≡ after_add r 1 (Ok 0) = adds.state ∙ (ap (λ (k : ℕ). after_add r k (Ok g)) one
     ∙ ap (λ (h : ℕ). after_add r 1 (Ok h)) (sym same)) in rw state
-    (queue_added r n queue adds.is_end some unused)
+    (queue_added queue adds.is_end some unused)
 
 -- an add of one piece isn't refused
-pub not_full : (m2 m3 : Pages) (r r2 : DriverEnd) (n : ℕ) (full : Full) (pieces : List Piece)
-    → length pieces ≡ 1 → IsStatisticsQueue r n → outstanding r ≡ 0
-    → AddsBy m2 m3 r r2 pieces (Err full) → ⊥
-not_full m2 m3 r r2 n full pieces one queue none adds =
-    grind (arith, next_is_first r n queue adds.is_end none)
+pub not_full : {m2 m3 : Pages} {r r2 : DriverEnd} {n : ℕ} (full : Full) {pieces : List Piece}
+    → length pieces ≡ 1
+    → IsStatisticsQueue r n → outstanding r ≡ 0 → AddsBy m2 m3 r r2 pieces (Err full) → ⊥
+not_full full one queue none adds = grind (arith, next_is_first queue adds.is_end none)

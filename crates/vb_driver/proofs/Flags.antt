@@ -90,42 +90,42 @@ pub gained_by : (p : ℕ) (b : Block) (old : Bool)
 gained_by p b old = grind (arith, covers_is)
 
 -- what these pages left behind, where each stands once
-pub taken_by : (p : ℕ) (pages : List ℕ) (new old : Bool) → one_if new + times p pages ≡ one_if old
-    → new ≡ cond (is_in p pages) false old
-taken_by p pages new old sum = grind (arith, times_in, times_out)
+pub taken_by : (p : ℕ) (pages : List ℕ) {new : Bool} (old : Bool)
+    → one_if new + times p pages ≡ one_if old → new ≡ cond (is_in p pages) false old
+taken_by p pages old sum = grind (arith, times_in, times_out)
 
 -- ---- as many processors, and pages, as before
 
-pub for_itself : (f : FreePages) → AreFor f f
-for_itself f = record { processors = refl; reserved = refl }
+pub for_itself : {f : FreePages} → AreFor f f
+for_itself = record { processors = refl; reserved = refl }
 
 -- the same of areas that are these
-pub for_these : (f g new : FreePages) → new ≡ g → AreFor f g → AreFor f new
-for_these f g new is same = subst (AreFor f) (sym is) same
+pub for_these : {f g new : FreePages} → new ≡ g → AreFor f g → AreFor f new
+for_these {f} is same = subst (AreFor f) (sym is) same
 
-pub for_both : (f g h : FreePages) → AreFor f g → AreFor g h → AreFor f h
-for_both f g h first next = search (arith)
+pub for_both : {f g h : FreePages} → AreFor f g → AreFor g h → AreFor f h
+for_both first next = search (arith)
 
-drained_for : (f : FreePages) → AreFor f (drained f)
-drained_for f = grind (arith, length-map)
+drained_for : {f : FreePages} → AreFor f (drained f)
+drained_for = grind (arith, length-map)
 
-tries_for : (f new : FreePages) (cpu order : ℕ) (got : Option ℕ) → Tries f cpu order got new
-    → AreFor f new
-tries_for f new cpu order got h = grind (arith, length-set)
+tries_for : {f new : FreePages} (cpu order : ℕ) (got : Option ℕ)
+    → Tries f cpu order got new → AreFor f new
+tries_for cpu order got h = grind (arith, length-set)
 
-pub serves_for : (f new : FreePages) (cpu order start : ℕ) → Serves f cpu order (Some start) new
-    → AreFor f new
-serves_for f new cpu order start h = grind (arith, tries_for, drained_for)
+pub serves_for : {f new : FreePages} (cpu order start : ℕ)
+    → Serves f cpu order (Some start) new → AreFor f new
+serves_for cpu order start h = grind (arith, tries_for, drained_for)
 
 pub record SameSizes (f new : FreePages) : Type 0 where
   pub pages : length new.areas ≡ length f.areas
   pub same : AreFor f new
 
 pub drained_sizes : (f : FreePages) → SameSizes f (drained f)
-drained_sizes f = record { pages = length-with_pages (in_lists f) f.areas; same = drained_for f }
+drained_sizes f = record { pages = length-with_pages (in_lists f) f.areas; same = drained_for }
 
-pub given_sizes : (f : FreePages) (cpu start order : ℕ) → SameSizes f (given_back cpu start order f)
-given_sizes f cpu start order = grind (arith, length-with_pages, length-set)
+pub given_sizes : {f : FreePages} (cpu start order : ℕ) → SameSizes f (given_back cpu start order f)
+given_sizes cpu start order = grind (arith, length-with_pages, length-set)
 
 -- ---- a guest as it is plugged in
 

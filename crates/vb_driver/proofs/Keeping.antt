@@ -33,9 +33,7 @@ pub free_marked : (places : List Place) (pages others : List ℕ) (to : Place) (
 free_marked places pages others to flag agree =
     let left = marked others flag (map is_free places) in
     let moved = placed pages to places in
-    let n1 : length left ≡ length places =
-    length-each_from 0 (λ page old. if is_in page others then flag else old)
-    (map is_free places) ∙ length-map places is_free in
+    let n1 : length left ≡ length places = search (arith, length-each_from, map, length-map) in
     let n2 : length moved ≡ length places = length-marked pages to places in
     same_lists left (map is_free moved) (n1 ∙ sym (length-map moved is_free ∙ n2)) (λ k d near.
     let inside : k < length places = omega arith in
@@ -50,7 +48,7 @@ pub free_same : (places : List Place) (pages : List ℕ) (to : Place) → ((p : 
     → place ≡ place_of places p → is_free place ≡ is_free (cond (is_in p pages) to place))
     → map is_free places ≡ map is_free (placed pages to places)
 free_same places pages to agree =
-    sym (marked_none false (map is_free places)) ∙ free_marked places pages [] to false agree
+    sym (marked_none false) ∙ free_marked places pages [] to false agree
 
 -- ---- pages that leave
 
@@ -61,10 +59,10 @@ pub record Leaves (d : DriverState) (pages : List ℕ) (from : Place → Bool) :
   pub high : from Reserved ≡ false
 
 -- a place of which it holds is none of which it doesn't
-pub not_left : (from : Place → Bool) (other place : Place) → from other ≡ false
-    → from place ≡ true → is_at other place ≡ false
+pub not_left : (from : Place → Bool) (other place : Place)
+    → from other ≡ false → from place ≡ true → is_at other place ≡ false
 not_left from other place fails holds = false_from_ne_true (is_at other place)
-    (λ e. both_ways (from place) (ap from (at_is other place e) ∙ fails) holds)
+    (λ e. both_ways (from place) (ap from (at_is other e) ∙ fails) holds)
 
 -- what is named of other places is there still
 pub stays : {d : DriverState} {pages : List ℕ} {from : Place → Bool} {n : ℕ → ℕ}
@@ -86,10 +84,10 @@ stays_held {d} {pages} {from} leaves to fails p covered = by (is_in p pages) ref
   by false e = ap (λ v. cond v to (place_of d.places p)) e ∙ leaves.kept.used p covered
 
 -- the areas' flags, where the pages become free or cease to be
-pub free_set : (d : DriverState) (areas2 : FreePages) (pages : List ℕ) (to : Place) (b : Bool)
+pub free_set : {d : DriverState} (areas2 : FreePages) (pages : List ℕ) (to : Place) {b : Bool}
     → IsDriver d → is_free to ≡ b → flags_of areas2 ≡ marked pages b (flags_of d.areas)
     → flags_of areas2 ≡ map is_free (placed pages to d.places)
-free_set d areas2 pages to b kept is set = set ∙ (ap (marked pages b) kept.free
+free_set {d} areas2 pages to {b} kept is set = set ∙ (ap (marked pages b) kept.free
     ∙ free_marked d.places pages pages to b (λ p place e. agree place (is_in p pages)))
   where
     agree : (place : Place) (v : Bool) → cond v b (is_free place) ≡ is_free (cond v to place)
@@ -129,8 +127,8 @@ pub record Changes (d : DriverState) (areas2 : FreePages) (pages : List ℕ) (fr
   pub used : (p : ℕ) → is_covered p held2 ≡ true
       → cond (is_in p pages) to (place_of d.places p) ≡ Used
 
-pub kept_changed : (d : DriverState) (areas2 : FreePages) (pages : List ℕ) (from : Place → Bool)
-    (to : Place) (held2 : List Block) (i2 e2 : RequestSide) (r2 : ReportSide)
+pub kept_changed : {d : DriverState} {areas2 : FreePages} {pages : List ℕ}
+    {from : Place → Bool} {to : Place} {held2 : List Block} {i2 e2 : RequestSide} {r2 : ReportSide}
     → Changes d areas2 pages from to held2 i2 e2 r2 → IsDriver (record d {
       places = placed pages to d.places;
       held = held2;
@@ -139,7 +137,7 @@ pub kept_changed : (d : DriverState) (areas2 : FreePages) (pages : List ℕ) (fr
       deflate = e2;
       report = r2;
     })
-kept_changed d areas2 pages from to held2 i2 e2 r2 m = let kept : IsDriver d = m.leaves.kept in
+kept_changed {d} {pages} {from} m = let kept : IsDriver d = m.leaves.kept in
     let there : (p : ℕ) → is_in p pages ≡ true → p < length d.places =
     λ p here. there_by d.places p from m.leaves.high (m.leaves.at p here) in
     let unreserved : (p : ℕ) → is_in p pages ≡ true → is_at Reserved (place_of d.places p) ≡ false =

@@ -19,9 +19,9 @@ pages_of_flags test first (x ∷ xs) =
     ap (λ (l : List ℕ). cond (test x) (first ∷ l) l) (pages_of_flags test (suc first) xs)
 
 -- the pages of a set are those that pass its test
-pub pages_of_set : (test : Place → Bool) (flags : List Bool) (places : List Place)
+pub pages_of_set : (test : Place → Bool) {flags : List Bool} (places : List Place)
     → flags ≡ map test places → pages_where (λ b. b) flags ≡ pages_where test places
-pages_of_set test flags places are =
+pages_of_set test places are =
     ap (λ (l : List Bool). pages_where (λ b. b) l) are ∙ pages_of_flags test 0 places
 
 none_in : (first : ℕ) (xs : List Bool) → ((k : ℕ) → get_or xs k false ≡ false)
@@ -49,9 +49,9 @@ first_in first (suc k) (x ∷ xs) there low = at x (low zero (omega arith))
     at false e ih = ih ∙ ap (λ (n : ℕ). n ∷ members_from (suc n) (drop (suc k) xs)) (omega arith)
 
 -- the least member from a number on, and those after it
-next_member : (flags : List Bool) (from page : ℕ) → IsLeastFrom flags from page
+next_member : {flags : List Bool} {from page : ℕ} → IsLeastFrom flags from page
     → members_from from (drop from flags) ≡ page ∷ members_from (page + 1) (drop (page + 1) flags)
-next_member flags from page least = let k = page - from in
+next_member {flags} {from} {page} least = let k = page - from in
     let here : from + k ≡ page = omega (arith, least.from) in
     let after : suc (from + k) ≡ page + 1 = omega arith in
     let next : from + suc k ≡ page + 1 = omega arith in first_in from k (drop from flags)
@@ -69,26 +69,24 @@ pub record AreFirst (items : List ℕ) (flags : List Bool) (from count : ℕ) : 
   pub whole : items ++ members_from from (drop from flags) ≡ pages_where (λ b. b) flags
   pub many : length items ≡ count
 
-pub first_more : (items : List ℕ) (flags : List Bool) (from count page : ℕ)
-    → AreFirst items flags from count → IsLeastFrom flags from page
-    → AreFirst (items ++ page ∷ []) flags (page + 1) (count + 1)
-first_more items flags from count page so_far least =
-    grind (arith, append_assoc, next_member, length-append)
+pub first_more : {items : List ℕ} {flags : List Bool} {from count page : ℕ}
+    → AreFirst items flags from count
+    → IsLeastFrom flags from page → AreFirst (items ++ page ∷ []) flags (page + 1) (count + 1)
+first_more so_far least = grind (arith, append_assoc, next_member, length-append)
 
 -- there is no further one
-pub first_all : (items : List ℕ) (flags : List Bool) (from count most : ℕ)
-    → AreFirst items flags from count → HasNoneFrom flags from → count ≤ most
-    → items ≡ take most (pages_where (λ b. b) flags)
-first_all items flags from count most so_far none few =
-    grind (arith, none_in, get_or-drop, append-nil, take_all)
+pub first_all : {items : List ℕ} {flags : List Bool} {from count : ℕ} (most : ℕ)
+    → AreFirst items flags from count
+    → HasNoneFrom flags from → count ≤ most → items ≡ take most (pages_where (λ b. b) flags)
+first_all most so_far none few = grind (arith, none_in, get_or-drop, append-nil, take_all)
 
 -- ---- the set of a place
 
 -- the set after a page moved
-pub set_moved : (test : Place → Bool) (flags now : List Bool) (places : List Place) (page : ℕ)
-    (place : Place) (is : Bool) → flags ≡ map test places → now ≡ set flags page is
-    → is ≡ test place → now ≡ map test (set places page place)
-set_moved test flags now places page place is are changed tested = grind (arith, map-set)
+pub set_moved : (test : Place → Bool) {flags now : List Bool}
+    (places : List Place) (page : ℕ) (place : Place) {is : Bool} → flags ≡ map test places
+    → now ≡ set flags page is → is ≡ test place → now ≡ map test (set places page place)
+set_moved test places page place are changed tested = grind (arith, map-set)
 
 -- no page is in the set of a place that the only place isn't
 pub none_of : (test : Place → Bool) (x : Place) (n : ℕ) → test x ≡ false

@@ -40,13 +40,13 @@ lowest_is places n test p h =
 
 -- ---- a queue after a post, and after a reap
 
-pub posted_queue : (m1 m2 : Pages) (s1 s2 : RequestSide) (base queue size head : ℕ) (pages : List ℕ)
+pub posted_queue : {m1 m2 : Pages} {s1 s2 : RequestSide} {base queue size head : ℕ} {pages : List ℕ}
     → IsQueue s1 queue size → Posts m1 m2 s1 s2 base pages head → IsQueue s2 queue size
-posted_queue m1 m2 s1 s2 base queue size head pages q p = grind arith
+posted_queue q p = grind arith
 
-pub reaped_queue : (s1 : RequestSide) (queue size head : ℕ) → IsQueue s1 queue size
-    → IsQueue (after_reap s1 head) queue size
-reaped_queue s1 queue size head q = record {
+pub reaped_queue : {s1 : RequestSide} {queue size : ℕ} (head : ℕ)
+    → IsQueue s1 queue size → IsQueue (after_reap s1 head) queue size
+reaped_queue {s1} head q = record {
   requests = requests_taken s1 head q.requests;
   number = q.number;
   size = q.size;
@@ -54,67 +54,65 @@ reaped_queue s1 queue size head q = record {
 
 -- ---- lent pages are asked back
 
-lent_leave : (d : DriverState) (count : ℕ) → IsDriver d → Leaves d (lowest_lent d count) is_lent
-lent_leave d count kept =
+lent_leave : {d : DriverState} (count : ℕ) → IsDriver d → Leaves d (lowest_lent d count) is_lent
+lent_leave {d} count kept =
     record { kept = kept; at = λ p here. lowest_is d.places count is_lent p here; high = refl }
 
-pub asked_kept : (m1 m2 : Pages) (d : DriverState) (e2 : RequestSide) (base count head : ℕ) → IsDriver d
-    → Posts m1 m2 d.deflate e2 base (lowest_lent d count) head
+pub asked_kept : {m1 m2 : Pages} {d : DriverState} {e2 : RequestSide} {base : ℕ}
+    (count : ℕ) {head : ℕ} → IsDriver d → Posts m1 m2 d.deflate e2 base (lowest_lent d count) head
     → IsDriver (record d { places = placed (lowest_lent d count) Taking d.places; deflate = e2 })
-asked_kept m1 m2 d e2 base count head kept posts = let pages = lowest_lent d count in
-    let leaves = lent_leave d count kept in
+asked_kept {d} {e2} count {head} kept posts = let pages = lowest_lent d count in
+    let leaves = lent_leave count kept in
     let small : head < length d.deflate.sent =
     omega (arith, posts.small, kept.deflate.requests.buffers) in
-    let sent : e2.sent ≡ set d.deflate.sent head pages = ap (λ (s : RequestSide). s.sent) posts.state in
-    kept_changed d d.areas pages is_lent Taking d.held d.inflate e2 d.report (record {
+    let sent : e2.sent
+    ≡ set d.deflate.sent head pages = ap (λ (s : RequestSide). s.sent) posts.state in
+    kept_changed (record {
       leaves = leaves;
       inflate = kept.inflate;
-      deflate = posted_queue m1 m2 d.deflate e2 base 1 d.queue_size head pages kept.deflate posts;
+      deflate = posted_queue kept.deflate posts;
       giving = stays leaves Taking Giving refl kept.giving;
-      taking = λ told p. rw sent
-          (naming_more p head pages d.deflate.sent is_taking Taking (place_of d.places p) small
-          (kept.taking told p)
-          (λ here. not_left is_lent Taking (place_of d.places p) refl (leaves.at p here))
-          (once_lowest p count is_lent d.places) refl);
+      taking = λ told p. rw sent (naming_more p head pages d.deflate.sent is_taking Taking (place_of
+          d.places p) small (kept.taking told p) (λ here. not_left is_lent Taking (place_of
+          d.places p) refl (leaves.at p here)) (once_lowest p count is_lent d.places) refl);
       report = kept.report;
       reporting = stays leaves Taking Reporting refl kept.reporting;
       free = free_stays leaves Taking refl refl;
-      same = for_itself d.areas;
+      same = for_itself;
       used = stays_held leaves Taking refl;
     })
 
 -- where the host isn't told first they are free at once
-pub asked_freed : (m1 m2 : Pages) (d : DriverState) (areas2 : FreePages) (e2 : RequestSide)
-    (base count head : ℕ) → IsDriver d → tells_host d ≡ false
-    → flags_of areas2 ≡ marked (lowest_lent d count) true (flags_of d.areas) → AreFor d.areas areas2
-    → Posts m1 m2 d.deflate e2 base (lowest_lent d count) head → IsDriver
+pub asked_freed : {m1 m2 : Pages} {d : DriverState}
+    {areas2 : FreePages} {e2 : RequestSide} {base : ℕ} (count : ℕ) {head : ℕ} → IsDriver d
+    → tells_host d ≡ false → flags_of areas2 ≡ marked (lowest_lent d count) true (flags_of d.areas)
+    → AreFor d.areas areas2 → Posts m1 m2 d.deflate e2 base (lowest_lent d count) head → IsDriver
     (record d { places = placed (lowest_lent d count) Free d.places; areas = areas2; deflate = e2 })
-asked_freed m1 m2 d areas2 e2 base count head kept untold given same posts =
-    let pages = lowest_lent d count in
-    let leaves = lent_leave d count kept in
-    kept_changed d areas2 pages is_lent Free d.held d.inflate e2 d.report (record {
+asked_freed {d} {areas2} count kept untold given same posts = let pages = lowest_lent d count in
+    let leaves = lent_leave count kept in
+    kept_changed (record {
       leaves = leaves;
       inflate = kept.inflate;
-      deflate = posted_queue m1 m2 d.deflate e2 base 1 d.queue_size head pages kept.deflate posts;
+      deflate = posted_queue kept.deflate posts;
       giving = stays leaves Free Giving refl kept.giving;
       taking = λ told p. absurd (let wrong : true ≡ false = sym told ∙ untold in cc);
       report = kept.report;
       reporting = stays leaves Free Reporting refl kept.reporting;
-      free = free_set d areas2 pages Free true kept refl given;
+      free = free_set areas2 pages Free kept refl given;
       same = same;
       used = stays_held leaves Free refl;
     })
 
 -- a deflate whose pages stay where they are is reaped
-pub forgotten_kept : (d : DriverState) (head : ℕ) → head < 16 → IsDriver d → tells_host d ≡ false
-    → IsDriver (record d { deflate = after_reap d.deflate head })
-forgotten_kept d head lt kept untold = record {
+pub forgotten_kept : {d : DriverState} (head : ℕ) → head < 16 → IsDriver d
+    → tells_host d ≡ false → IsDriver (record d { deflate = after_reap d.deflate head })
+forgotten_kept head lt kept untold = record {
   table = kept.table;
   least = kept.least;
   most = kept.most;
   size = kept.size;
   inflate = kept.inflate;
-  deflate = reaped_queue d.deflate 1 d.queue_size head kept.deflate;
+  deflate = reaped_queue head kept.deflate;
   statistics = kept.statistics;
   report = kept.report;
   giving = kept.giving;
@@ -134,8 +132,8 @@ pub stranded_apart : (d : DriverState) (count p : ℕ) (others : List ℕ)
     → is_in p (stranded_first d count) ≡ true → is_in p others ≡ false
 stranded_apart d count p others free here = grind (arith, list_all-at, at_is, lowest_is)
 
-pub offered_kept : (m1 m2 : Pages) (d : DriverState) (areas2 : FreePages) (i2 : RequestSide)
-    (base count head : ℕ) (others : List ℕ) → IsDriver d
+pub offered_kept : {m1 m2 : Pages} {d : DriverState} {areas2 : FreePages}
+    {i2 : RequestSide} {base : ℕ} (count : ℕ) {head : ℕ} (others : List ℕ) → IsDriver d
     → list_all (λ page. is_free (place_of d.places page)) others ≡ true
     → ((p : ℕ) → times p others ≤ 1) → flags_of areas2 ≡ marked others false (flags_of d.areas)
     → AreFor d.areas areas2 → Posts m1 m2 d.inflate i2 base (stranded_first d count ++ others) head
@@ -144,41 +142,30 @@ pub offered_kept : (m1 m2 : Pages) (d : DriverState) (areas2 : FreePages) (i2 : 
       inflate = i2;
       areas = areas2;
     })
-offered_kept m1 m2 d areas2 i2 base count head others kept free once taken same posts =
+offered_kept {d} {i2} count {head} others kept free once taken same posts =
     let first = stranded_first d count in
     let pages = first ++ others in
     let offered : Place → Bool = λ v. is_stranded v || is_free v in
-    let leaves : Leaves d pages offered = record {
-      kept = kept;
-      at = λ p here. elim (is_in-append p first others here) [
-        | inl f ↦ ap (λ v. v || is_free (place_of d.places p))
-            (lowest_is d.places count is_stranded p f)
-        | inr o ↦ ap (λ v. is_stranded (place_of d.places p) || v)
-            (list_all-at (λ page. is_free (place_of d.places page)) others p free o)
-            ∙ or_true (is_stranded (place_of d.places p))
-      ];
-      high = refl;
-    } in
+    let leaves : Leaves d pages offered =
+    search (arith, is_in-append, lowest_is, list_all-at, or_true) in
     let small : head < length d.inflate.sent =
     omega (arith, posts.small, kept.inflate.requests.buffers) in
     let sent : i2.sent ≡ set d.inflate.sent head pages =
     ap (λ (s : RequestSide). s.sent) posts.state in
     let once_all : (p : ℕ) → times p pages ≤ 1 = λ p. once_append p first others
     (once_lowest p count is_stranded d.places) (once p) (stranded_apart d count p others free) in
-    kept_changed d areas2 pages offered Giving d.held i2 d.deflate d.report (record {
+    kept_changed (record {
       leaves = leaves;
-      inflate = posted_queue m1 m2 d.inflate i2 base 0 d.queue_size head pages kept.inflate posts;
+      inflate = posted_queue kept.inflate posts;
       deflate = kept.deflate;
       giving = λ p. rw sent (naming_more p head pages d.inflate.sent is_giving Giving
-          (place_of d.places p) small (kept.giving p)
-          (λ here. not_left offered Giving (place_of d.places p) refl (leaves.at p here))
-          (once_all p) refl);
+          (place_of d.places p) small (kept.giving p) (λ here. not_left offered Giving
+          (place_of d.places p) refl (leaves.at p here)) (once_all p) refl);
       taking = λ told. stays leaves Giving Taking refl (kept.taking told);
       report = kept.report;
       reporting = stays leaves Giving Reporting refl kept.reporting;
-      free = taken ∙ (ap (marked others false) kept.free
-          ∙ free_marked d.places pages others Giving false
-          (λ p place is. agree p place is (is_in p others) (is_in p first) refl refl));
+      free = taken ∙ (ap (marked others false) kept.free ∙ free_marked d.places pages others
+          Giving false (λ p place is. agree p place is (is_in p others) (is_in p first) refl refl));
       same = same;
       used = stays_held leaves Giving refl;
     })
@@ -191,22 +178,21 @@ offered_kept m1 m2 d areas2 i2 base count head others kept free once taken same 
         ≡ o → is_in p (stranded_first d count) ≡ f → cond (is_in p others) false (is_free place)
         ≡ is_free (cond (is_in p (stranded_first d count ++ others)) Giving place)
     agree p place is true f e g = ap (λ v. cond v false (is_free place)) e
-        ∙ sym (ap (λ v. is_free (cond v Giving place))
-        (in_pages p ∙ (ap (λ v. is_in p (stranded_first d count) || v) e
-        ∙ or_true (is_in p (stranded_first d count)))))
+        ∙ sym (ap (λ v. is_free (cond v Giving place)) (in_pages p ∙ (ap (λ v. is_in p
+        (stranded_first d count) || v) e ∙ or_true (is_in p (stranded_first d count)))))
     agree p place is false true e g = ap (λ v. cond v false (is_free place)) e ∙ (ap is_free
-        (is ∙ at_is Stranded (place_of d.places p) (lowest_is d.places count is_stranded p g)) ∙ sym
+        (is ∙ at_is Stranded (lowest_is d.places count is_stranded p g)) ∙ sym
         (ap (λ v. is_free (cond v Giving place)) (in_pages p ∙ ap (λ v. v || is_in p others) g)))
     agree p place is false false e g = ap (λ v. cond v false (is_free place)) e ∙ sym (ap
         (λ v. is_free (cond v Giving place)) (in_pages p ∙ (ap (λ v. v || is_in p others) g ∙ e)))
 
 -- ---- used requests are reaped
 
-pub lent_kept : (d : DriverState) (head : ℕ) → head < 16 → IsDriver d → IsDriver (record d {
+pub lent_kept : {d : DriverState} (head : ℕ) → head < 16 → IsDriver d → IsDriver (record d {
   places = placed (sent_by d.inflate head) Lent d.places;
   inflate = after_reap d.inflate head;
 })
-lent_kept d head lt kept = let pages = sent_by d.inflate head in
+lent_kept {d} head lt kept = let pages = sent_by d.inflate head in
     let small : head < length d.inflate.sent = omega (arith, kept.inflate.requests.buffers) in
     let leaves : Leaves d pages is_giving = record {
       kept = kept;
@@ -214,10 +200,9 @@ lent_kept d head lt kept = let pages = sent_by d.inflate head in
           (kept.giving p) here;
       high = refl;
     } in
-    kept_changed d d.areas pages is_giving Lent d.held (after_reap d.inflate head) d.deflate d.report
-    (record {
+    kept_changed (record {
       leaves = leaves;
-      inflate = reaped_queue d.inflate 0 d.queue_size head kept.inflate;
+      inflate = reaped_queue head kept.inflate;
       deflate = kept.deflate;
       giving = λ p. naming_less p head d.inflate.sent is_giving Lent (place_of d.places p) small
           (kept.giving p);
@@ -225,11 +210,11 @@ lent_kept d head lt kept = let pages = sent_by d.inflate head in
       report = kept.report;
       reporting = stays leaves Lent Reporting refl kept.reporting;
       free = free_stays leaves Lent refl refl;
-      same = for_itself d.areas;
+      same = for_itself;
       used = stays_held leaves Lent refl;
     })
 
-pub freed_kept : (d : DriverState) (areas2 : FreePages) (head : ℕ) → head < 16 → IsDriver d
+pub freed_kept : {d : DriverState} {areas2 : FreePages} (head : ℕ) → head < 16 → IsDriver d
     → tells_host d ≡ true
     → flags_of areas2 ≡ marked (sent_by d.deflate head) true (flags_of d.areas)
     → AreFor d.areas areas2 → IsDriver (record d {
@@ -237,7 +222,7 @@ pub freed_kept : (d : DriverState) (areas2 : FreePages) (head : ℕ) → head < 
       deflate = after_reap d.deflate head;
       areas = areas2;
     })
-freed_kept d areas2 head lt kept tells given same = let pages = sent_by d.deflate head in
+freed_kept {d} {areas2} head lt kept tells given same = let pages = sent_by d.deflate head in
     let small : head < length d.deflate.sent = omega (arith, kept.deflate.requests.buffers) in
     let leaves : Leaves d pages is_taking = record {
       kept = kept;
@@ -245,17 +230,16 @@ freed_kept d areas2 head lt kept tells given same = let pages = sent_by d.deflat
           (kept.taking tells p) here;
       high = refl;
     } in
-    kept_changed d areas2 pages is_taking Free d.held d.inflate (after_reap d.deflate head) d.report
-    (record {
+    kept_changed (record {
       leaves = leaves;
       inflate = kept.inflate;
-      deflate = reaped_queue d.deflate 1 d.queue_size head kept.deflate;
+      deflate = reaped_queue head kept.deflate;
       giving = stays leaves Free Giving refl kept.giving;
-      taking = λ told p. naming_less p head d.deflate.sent is_taking Free (place_of d.places p) small
-          (kept.taking told p);
+      taking = λ told p. naming_less p head d.deflate.sent is_taking Free
+          (place_of d.places p) small (kept.taking told p);
       report = kept.report;
       reporting = stays leaves Free Reporting refl kept.reporting;
-      free = free_set d areas2 pages Free true kept refl given;
+      free = free_set areas2 pages Free kept refl given;
       same = same;
       used = stays_held leaves Free refl;
     })
@@ -269,12 +253,11 @@ count_map test (x ∷ xs) = count_by-cons (λ f. f) (test x) (map test xs)
     ∙ (ap (λ n. one_if (test x) + n) (count_map test xs) ∙ sym (count_by-cons test x xs))
 
 -- enough pages are free
-pub others_there : (d : DriverState) (count len : ℕ) (free : List Bool)
+pub others_there : (d : DriverState) (count : ℕ) {len : ℕ} {free : List Bool}
     → free ≡ map is_free d.places → len ≡ length (stranded_first d count)
     → count ≤ count_by is_stranded d.places + count_by is_free d.places
     → count - len ≤ count_by (λ f. f) free
-others_there d count len free is len_is there =
-    grind (arith, count_map, length-pages_where, length-take)
+others_there d count is len_is there = grind (arith, count_map, length-pages_where, length-take)
 
 pub first_few : (d : DriverState) (count : ℕ) → length (stranded_first d count) ≤ count
 first_few d count = omega (arith, length-take count (pages_where is_stranded d.places))
@@ -285,14 +268,14 @@ list_all_same f h [] same = refl
 list_all_same f h (x ∷ xs) same =
     ap (λ v. v && list_all f xs) (same x) ∙ ap (λ v. h x && v) (list_all_same f h xs same)
 
-pub free_is_place : (places : List Place) (free : List Bool) (p : ℕ) → free ≡ map is_free places
-    → is_free_at free p ≡ is_free (place_of places p)
-free_is_place places free p is = grind (arith, cases_lt, get_or-map, get_or_past, length-map)
+pub free_is_place : (places : List Place) {free : List Bool} (p : ℕ)
+    → free ≡ map is_free places → is_free_at free p ≡ is_free (place_of places p)
+free_is_place places p is = grind (arith, cases_lt, get_or-map, get_or_past, length-map)
 
-pub others_free : (d : DriverState) (free : List Bool) (others : List ℕ)
+pub others_free : (d : DriverState) {free : List Bool} (others : List ℕ)
     → free ≡ map is_free d.places → list_all (is_free_at free) others ≡ true
     → list_all (λ page. is_free (place_of d.places page)) others ≡ true
-others_free d free others is all = grind (arith, list_all_same, free_is_place)
+others_free d others is all = grind (arith, list_all_same, free_is_place)
 
 pub offered_inside : (d : DriverState) (count p : ℕ) (others : List ℕ)
     → list_all (λ page. is_free (place_of d.places page)) others ≡ true
@@ -306,22 +289,22 @@ offered_inside d count p others free here =
 
 -- ---- the pages of a request that is out
 
-pub lent_inside : (d : DriverState) (head p : ℕ) → head < 16 → IsDriver d
-    → is_in p (sent_by d.inflate head) ≡ true → p < length d.places
-lent_inside d head p lt kept here = there_by d.places p is_giving refl
+pub lent_inside : {d : DriverState} (head p : ℕ)
+    → head < 16 → IsDriver d → is_in p (sent_by d.inflate head) ≡ true → p < length d.places
+lent_inside {d} head p lt kept here = there_by d.places p is_giving refl
     (named_place p head d.inflate.sent is_giving (place_of d.places p)
     (omega (arith, kept.inflate.requests.buffers)) (kept.giving p) here)
 
-pub freed_taking : (d : DriverState) (head p : ℕ) → head < 16 → IsDriver d → tells_host d ≡ true
-    → is_in p (sent_by d.deflate head) ≡ true → place_of d.places p ≡ Taking
-freed_taking d head p lt kept told here = at_is Taking (place_of d.places p)
+pub freed_taking : {d : DriverState} (head p : ℕ) → head < 16 → IsDriver d
+    → tells_host d ≡ true → is_in p (sent_by d.deflate head) ≡ true → place_of d.places p ≡ Taking
+freed_taking {d} head p lt kept told here = at_is Taking
     (named_place p head d.deflate.sent is_taking (place_of d.places p)
     (omega (arith, kept.deflate.requests.buffers)) (kept.taking told p) here)
 
-pub freed_once : (d : DriverState) (head p : ℕ) → head < 16 → IsDriver d → tells_host d ≡ true
-    → times p (sent_by d.deflate head) ≤ 1
-freed_once d head p lt kept told = named_once p head d.deflate.sent is_taking (place_of d.places p)
-    (omega (arith, kept.deflate.requests.buffers)) (kept.taking told p)
+pub freed_once : {d : DriverState} (head p : ℕ)
+    → head < 16 → IsDriver d → tells_host d ≡ true → times p (sent_by d.deflate head) ≤ 1
+freed_once {d} head p lt kept told = named_once p head d.deflate.sent is_taking
+    (place_of d.places p) (omega (arith, kept.deflate.requests.buffers)) (kept.taking told p)
 
 -- ---- a page that isn't used, free or reserved may be given back
 
@@ -332,23 +315,19 @@ pub record IsOut (d : DriverState) (p : ℕ) : Type 0 where
   pub uncovered : is_covered p d.held ≡ false
   pub there : p < length d.places
 
-pub is_out : (d : DriverState) (p : ℕ) (place : Place) → IsDriver d → is_at Reserved place ≡ false
+pub is_out : {d : DriverState} {p : ℕ} (place : Place) → IsDriver d → is_at Reserved place ≡ false
     → is_free place ≡ false → is_used place ≡ false → place_of d.places p ≡ place → IsOut d p
-is_out d p place kept unreserved unfree unused is =
+is_out {d} {p} place kept unreserved unfree unused is =
     let not_reserved : is_at Reserved (place_of d.places p) ≡ false =
     ap (is_at Reserved) is ∙ unreserved in
-    let there : p < length d.places = elim (cases_lt p (length d.places)) [
-      | inl lt ↦ lt
-      | inr past ↦ absurd (both_ways (is_at Reserved (place_of d.places p)) not_reserved
-          (ap (is_at Reserved) (get_or_past d.places p Reserved past)))
-    ] in record {
+    let there : p < length d.places = search (arith, cases_lt, length, both_ways, get_or_past) in record {
       unreserved = elim (cases_lt p (reserved_pages d.queue_size)) [
         | inl low ↦ absurd (both_ways (is_at Reserved (place_of d.places p)) not_reserved
             (ap (is_at Reserved) (kept.reserved p low)))
         | inr far ↦ omega (arith, kept.set_aside)
       ];
       inside = omega (arith, ap length kept.free, length-map d.places is_free);
-      taken = free_is_place d.places (flags_of d.areas) p kept.free ∙ (ap is_free is ∙ unfree);
+      taken = free_is_place d.places p kept.free ∙ (ap is_free is ∙ unfree);
       uncovered = false_from_ne_true (is_covered p d.held) (λ e. both_ways
           (is_used (place_of d.places p)) (ap is_used is ∙ unused) (ap is_used (kept.used p e)));
       there = there;
@@ -423,10 +402,10 @@ fresh_queue queue size = record {
   size = refl;
 }
 
-pub fresh_statistics_queue : (size : ℕ) → IsStatisticsQueue (fresh_statistics size) size
-fresh_statistics_queue size = grind (arith, is_none, none_owned)
+pub fresh_statistics_queue : {size : ℕ} → IsStatisticsQueue (fresh_statistics size) size
+fresh_statistics_queue = grind (arith, is_none, none_owned)
 
-pub reset_kept : (d : DriverState) (areas2 : FreePages) (features : ℕ) → IsDriver d
+pub reset_kept : {d : DriverState} {areas2 : FreePages} (features : ℕ) → IsDriver d
     → flags_of areas2 ≡ marked (pages_where is_reporting d.places) true (flags_of d.areas)
     → AreFor d.areas areas2 → IsDriver (record d {
       places = map place_after_reset d.places;
@@ -438,7 +417,7 @@ pub reset_kept : (d : DriverState) (areas2 : FreePages) (features : ℕ) → IsD
       features = features;
       actual = 0;
     })
-reset_kept d areas2 features kept given same = grind (
+reset_kept {d} features kept given same = grind (
   arith,
   length-map,
   fresh_queue 0 d.queue_size,
@@ -452,14 +431,14 @@ reset_kept d areas2 features kept given same = grind (
 
 -- ---- the queues begin anew
 
-pub renewed_kept : (d : DriverState) (statistics2 : DriverEnd) → IsDriver d
+pub renewed_kept : {d : DriverState} {statistics2 : DriverEnd} → IsDriver d
     → IsStatisticsQueue statistics2 d.queue_size → IsDriver (record d {
       inflate = fresh_side 0 d.queue_size;
       deflate = fresh_side 1 d.queue_size;
       statistics = statistics2;
       report = fresh_report d.queue_size;
     })
-renewed_kept d statistics2 kept statistics = grind (
+renewed_kept {d} kept statistics = grind (
   arith,
   fresh_queue 0 d.queue_size,
   fresh_queue 1 d.queue_size,
@@ -479,9 +458,9 @@ reserved_first reserved n p low = grind (
   length-map-range_with_len,
 )
 
-pub fresh_kept : (pages size processors f : ℕ) → 64 ≤ pages → pages ≤ 65536 → IsSize size
-    → IsDriver (record (fresh_driver pages size processors) { features = f })
-fresh_kept pages size processors f least most sized = record {
+pub fresh_kept : (pages : ℕ) {size : ℕ} (processors f : ℕ) → 64 ≤ pages → pages ≤ 65536
+    → IsSize size → IsDriver (record (fresh_driver pages size processors) { features = f })
+fresh_kept pages {size} processors f least most sized = record {
   table = length-map-range_with_len (first_place (reserved_pages size)) 0 pages;
   least = least;
   most = most;
@@ -490,8 +469,8 @@ fresh_kept pages size processors f least most sized = record {
   deflate = fresh_queue 1 size;
   giving = λ p. omega (arith, naming_none p 16);
   taking = λ told p. omega (arith, naming_none p 16);
-  statistics = fresh_statistics_queue size;
-  report = fresh_report_queue size;
+  statistics = fresh_statistics_queue;
+  report = fresh_report_queue;
   reporting = λ p. omega arith;
   free = fresh_flags pages processors (reserved_pages size);
   used = λ p covered. (let wrong : false ≡ true = covered in cc);

@@ -15,9 +15,9 @@ use Rattle.vb_driver.proofs.RequestTables.{next_path_is, claimed_same, claimed_o
 -- ---- nothing is out
 
 -- where nothing is out, no descriptor is in use
-pub none_used : (r : DriverEnd) (n : ℕ) → IsStatisticsQueue r n → 0 < r.size → outstanding r ≡ 0
-    → (i : ℕ) → is_unused r.owner i ≡ true
-none_used r n queue some none i = grind (arith, numbers_has (is_head r.owner) r.size 0 some)
+pub none_used : {r : DriverEnd} {n : ℕ}
+    → IsStatisticsQueue r n → 0 < r.size → outstanding r ≡ 0 → (i : ℕ) → is_unused r.owner i ≡ true
+none_used {r} queue some none i = grind (arith, numbers_has (is_head r.owner) r.size 0 some)
 
 no_head : (owner : List (Option ℕ)) (i : ℕ) → is_unused owner i ≡ true → is_head owner i ≡ false
 no_head owner i unused = grind arith
@@ -46,9 +46,9 @@ claimed_queue : (owner : List (Option ℕ)) → ((i : ℕ) → is_unused owner i
     → 0 < length owner → (i : ℕ) → is_unused (claimed (0 ∷ []) 0 owner) i ≡ false → i ≡ 0
 claimed_queue owner unused some i used = grind (arith, claimed_other)
 
-pub queue_added : (r : DriverEnd) (n : ℕ) → IsStatisticsQueue r n → IsDriverEnd r → 0 < r.size
+pub queue_added : {r : DriverEnd} {n : ℕ} → IsStatisticsQueue r n → IsDriverEnd r → 0 < r.size
     → ((i : ℕ) → is_unused r.owner i ≡ true) → IsStatisticsQueue (after_add r 1 (Ok 0)) n
-queue_added r n queue end some unused = let owner = claimed (0 ∷ []) 0 r.owner in
+queue_added {r} {n} queue end some unused = let owner = claimed (0 ∷ []) 0 r.owner in
     let inside : 0 < length r.owner = omega (arith, end.table) in
     let path : next_path r 1 ≡ 0 ∷ [] = next_path_is r 0 (first_head r some unused) in
     let good : IsStatisticsQueue
@@ -67,20 +67,20 @@ queue_added r n queue end some unused = let owner = claimed (0 ∷ []) 0 r.owner
 
 -- ---- and comes back
 
-released_unused : (r : DriverEnd) (n : ℕ) → IsStatisticsQueue r n → (i : ℕ)
-    → is_unused (released 0 r.owner) i ≡ true
-released_unused r n queue i = grind (arith, released-at)
+released_unused : {r : DriverEnd} {n : ℕ}
+    → IsStatisticsQueue r n → (i : ℕ) → is_unused (released 0 r.owner) i ≡ true
+released_unused queue i = grind (arith, released-at)
 
-pub queue_taken : (r : DriverEnd) (n : ℕ) → IsStatisticsQueue r n → IsStatisticsQueue (emptied r) n
-queue_taken r n queue = grind (arith, released_unused, no_head)
+pub queue_taken : {r : DriverEnd} {n : ℕ} → IsStatisticsQueue r n → IsStatisticsQueue (emptied r) n
+queue_taken queue = grind (arith, released_unused, no_head)
 
-pub taken_none : (r : DriverEnd) (n : ℕ) → IsStatisticsQueue r n → outstanding (emptied r) ≡ 0
-taken_none r n queue = none_out (emptied r) (released_unused r n queue)
+pub taken_none : {r : DriverEnd} {n : ℕ} → IsStatisticsQueue r n → outstanding (emptied r) ≡ 0
+taken_none {r} queue = none_out (emptied r) (released_unused queue)
 
 -- a head that is taken is 0
-pub taken_first : (r : DriverEnd) (n h : ℕ) (next : Result (Option ℕ) RingBroken)
+pub taken_first : {r : DriverEnd} {n h : ℕ} (next : Result (Option ℕ) RingBroken)
     → IsStatisticsQueue r n → only_head r.owner next ≡ Ok (Some h) → h ≡ 0
-taken_first r n h next queue e = grind arith
+taken_first next queue e = grind arith
 
 -- what is told of a take: whether the buffer was used
 abbrev Tells : Pages → DriverEnd → DriverEnd → ℕ → Bool → Type 0
@@ -88,20 +88,20 @@ Tells mem r r2 n told = MatchBool told
     ((used_answer mem r ≡ Ok (Some 0)) × TakesUsedBy mem r r2 (Ok (Some 0)) × (r2 ≡ emptied r)
     × (outstanding r2 ≡ 0) × IsStatisticsQueue r2 n) ((used_answer mem r ≡ Ok None) × (r2 ≡ r))
 
-pub tells_of : (mem : Pages) (r r2 now : DriverEnd) (n : ℕ) (used : Option ℕ) (told : Bool)
-    → r ≡ now → IsStatisticsQueue now n → told ≡ is_some used → TakesUsedBy mem r r2 (Ok used)
-    → Tells mem now r2 n told
-tells_of mem r r2 now n used told at queue is takes = rw (← at) (rw is
+pub tells_of : {mem : Pages} {r r2 now : DriverEnd} {n : ℕ} (used : Option ℕ) {told : Bool}
+    → r ≡ now → IsStatisticsQueue now n
+    → told ≡ is_some used → TakesUsedBy mem r r2 (Ok used) → Tells mem now r2 n told
+tells_of {mem} {r} {r2} {n} used at queue is takes = rw (← at) (rw is
     (by_used used (rw at queue) takes))
   where
     by_used : (o : Option ℕ) → IsStatisticsQueue r n → TakesUsedBy mem r r2 (Ok o)
         → Tells mem r r2 n (is_some o)
     by_used None q t = (sym t.value, t.state)
-    by_used (Some h) q t = let first : h ≡ 0 = taken_first r n h _ q (sym t.value) in
+    by_used (Some h) q t = let first : h ≡ 0 = taken_first _ q (sym t.value) in
         let taken : TakesUsedBy mem r r2 (Ok (Some 0)) = rw (← first) t in (
           sym taken.value,
           taken,
           taken.state,
-          ap outstanding taken.state ∙ taken_none r n q,
-          rw taken.state (queue_taken r n q),
+          ap outstanding taken.state ∙ taken_none q,
+          rw taken.state (queue_taken q),
         )

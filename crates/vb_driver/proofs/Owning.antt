@@ -24,29 +24,27 @@ list_any_same : {A : Type 0} (f h : A → Bool) (xs : List A) → ((x : A) → f
     → list_any f xs ≡ list_any h xs
 list_any_same f h xs same = search (arith)
 
-pub whole_is : (places : List Place) (free : List Bool) (b : Block) → free ≡ map is_free places
-    → is_free_block free b ≡ is_wholly_free places b
-whole_is places free b is = grind (arith, free_is_place)
+pub whole_is : (places : List Place) {free : List Bool} (b : Block)
+    → free ≡ map is_free places → is_free_block free b ≡ is_wholly_free places b
+whole_is places b is = grind (arith, free_is_place)
 
 -- a block of the areas is one of the driver
-pub blocks_same : (d : DriverState) (order : ℕ) → IsDriver d
-    → list_any (λ start. is_free_block (flags_of d.areas) (block_at start order))
-    (range_with_len 0 (length (flags_of d.areas)))
+pub blocks_same : {d : DriverState} (order : ℕ) → IsDriver d → list_any (λ start. is_free_block
+    (flags_of d.areas) (block_at start order)) (range_with_len 0 (length (flags_of d.areas)))
     ≡ list_any (λ start. is_wholly_free d.places (block_at start order)) (range_with_len 0 d.pages)
-blocks_same d order kept =
+blocks_same {d} order kept =
     ap (λ (n : ℕ). list_any (λ start. is_free_block (flags_of d.areas) (block_at start order))
     (range_with_len 0 n)) (ap length kept.free ∙ (length-map d.places is_free ∙ kept.table))
     ∙ list_any_same (λ start. is_free_block (flags_of d.areas) (block_at start order))
     (λ start. is_wholly_free d.places (block_at start order)) (range_with_len 0 d.pages)
-    (λ start. whole_is d.places (flags_of d.areas) (block_at start order) kept.free)
+    (λ start. whole_is d.places (block_at start order) kept.free)
 
 -- the areas refuse an allocation as the driver does
-pub alloc_tests_same : (d : DriverState) (cpu order : ℕ) → IsDriver d
-    → first_refusal ((nat_lt 9 order ⇒ BadOrder) ∷ (nat_le (length d.areas.lists) cpu ⇒ BadCpu)
-    ∷ (not (list_any (λ start. is_free_block (flags_of d.areas) (block_at start order))
-    (range_with_len 0 (length (flags_of d.areas)))) ⇒ NoPages) ∷ [])
-    ≡ first_refusal (alloc_causes d cpu order)
-alloc_tests_same d cpu order kept = grind (arith, blocks_same)
+pub alloc_tests_same : {d : DriverState} (cpu order : ℕ) → IsDriver d → first_refusal
+    ((nat_lt 9 order ⇒ BadOrder) ∷ (nat_le (length d.areas.lists) cpu ⇒ BadCpu) ∷ (not
+    (list_any (λ start. is_free_block (flags_of d.areas) (block_at start order)) (range_with_len 0
+    (length (flags_of d.areas)))) ⇒ NoPages) ∷ []) ≡ first_refusal (alloc_causes d cpu order)
+alloc_tests_same cpu order kept = grind (arith, blocks_same)
 
 -- ---- blocks that are held
 
@@ -81,30 +79,25 @@ covered_held p b (x ∷ held) found covered =
 -- ---- a block is allocated
 
 -- each page of a free block is free
-block_free : (d : DriverState) (b : Block) (p : ℕ) → IsDriver d → is_free_block (flags_of d.areas) b
+block_free : {d : DriverState} (b : Block) (p : ℕ) → IsDriver d → is_free_block (flags_of d.areas) b
     ≡ true → is_in p (pages_of b) ≡ true → place_of d.places p ≡ Free
-block_free d b p kept whole here = search (arith, at_is, free_is_place, list_all-at)
+block_free b p kept whole here = search (arith, at_is, free_is_place, list_all-at)
 
-pub free_block_inside : (d : DriverState) (b : Block) → IsDriver d
+pub free_block_inside : {d : DriverState} (b : Block) → IsDriver d
     → is_free_block (flags_of d.areas) b ≡ true → b.start + 2 ^ b.order ≤ length d.places
-free_block_inside d b kept whole = block_inside (length d.places) b
-    (λ p here. there_by d.places p is_free refl (ap is_free (block_free d b p kept whole here)))
+free_block_inside {d} b kept whole = block_inside (length d.places) b
+    (λ p here. there_by d.places p is_free refl (ap is_free (block_free b p kept whole here)))
 
-pub allocated_kept : (d : DriverState) (areas2 : FreePages) (b : Block) → IsDriver d
+pub allocated_kept : {d : DriverState} {areas2 : FreePages} (b : Block) → IsDriver d
     → is_free_block (flags_of d.areas) b ≡ true → flags_of areas2
     ≡ marked (pages_of b) false (flags_of d.areas) → AreFor d.areas areas2 → IsDriver (record d {
       places = placed (pages_of b) Used d.places;
       held = with_block b d.held;
       areas = areas2;
     })
-allocated_kept d areas2 b kept whole taken same = let pages = pages_of b in
-    let leaves : Leaves d pages is_free = record {
-      kept = kept;
-      at = λ p here. ap is_free (block_free d b p kept whole here);
-      high = refl;
-    } in
-    kept_changed d areas2 pages is_free Used (with_block b d.held) d.inflate d.deflate d.report
-    (record {
+allocated_kept {d} {areas2} b kept whole taken same = let pages = pages_of b in
+    let leaves : Leaves d pages is_free = search (arith, block_free) in
+    kept_changed (record {
       leaves = leaves;
       inflate = kept.inflate;
       deflate = kept.deflate;
@@ -112,7 +105,7 @@ allocated_kept d areas2 b kept whole taken same = let pages = pages_of b in
       taking = λ told. stays leaves Used Taking refl (kept.taking told);
       report = kept.report;
       reporting = stays leaves Used Reporting refl kept.reporting;
-      free = free_set d areas2 pages Used false kept refl taken;
+      free = free_set areas2 pages Used kept refl taken;
       same = same;
       used = λ p covered. used_at p (is_in p pages) refl (sym (covered_with p b d.held) ∙ covered);
     })
@@ -124,23 +117,23 @@ allocated_kept d areas2 b kept whole taken same = let pages = pages_of b in
         (ap (λ (v : Bool). v || is_covered p d.held) (sym (covers_is p b false e)) ∙ covered)
 
 -- a block is refused, though lists may be drained
-pub unallocated_kept : (d : DriverState) (new : PageState) → IsDriver d → Becomes (page_state d) new
+pub unallocated_kept : {d : DriverState} {new : PageState} → IsDriver d → Becomes (page_state d) new
     (flags_of d.areas) d.held → IsDriver (record d { held = new.held; areas = new.free })
-unallocated_kept d new kept becomes = search (arith)
+unallocated_kept kept becomes = search (arith)
 
 -- ---- a block is freed
 
 -- each page of a held block is used
-block_used : (d : DriverState) (b : Block) (p : ℕ) → IsDriver d
-    → list_any (λ h. is_same_block h b) d.held ≡ true → is_in p (pages_of b) ≡ true
-    → place_of d.places p ≡ Used
-block_used d b p kept held here =
+block_used : {d : DriverState} (b : Block) (p : ℕ)
+    → IsDriver d → list_any (λ h. is_same_block h b) d.held ≡ true
+    → is_in p (pages_of b) ≡ true → place_of d.places p ≡ Used
+block_used {d} b p kept held here =
     kept.used p (covered_held p b d.held held (covers_is p b true here))
 
-pub held_block_inside : (d : DriverState) (b : Block) → IsDriver d
+pub held_block_inside : {d : DriverState} (b : Block) → IsDriver d
     → list_any (λ h. is_same_block h b) d.held ≡ true → b.start + 2 ^ b.order ≤ length d.places
-held_block_inside d b kept held = block_inside (length d.places) b
-    (λ p here. there_by d.places p is_used refl (ap is_used (block_used d b p kept held here)))
+held_block_inside {d} b kept held = block_inside (length d.places) b
+    (λ p here. there_by d.places p is_used refl (ap is_used (block_used b p kept held here)))
 
 -- what a free that isn't refused gave back was held
 pub freed_was_held : (held : List Block) (b : Block) (processors cpu : ℕ) → None ≡ first_refusal
@@ -149,7 +142,7 @@ pub freed_was_held : (held : List Block) (b : Block) (processors cpu : ℕ) → 
     → list_any (λ h. is_same_block h b) held ≡ true
 freed_was_held held b processors cpu e = grind arith
 
-pub block_freed_kept : (d : DriverState) (new : PageState) (b : Block) → IsDriver d
+pub block_freed_kept : {d : DriverState} {new : PageState} (b : Block) → IsDriver d
     → list_any (λ h. is_same_block h b) d.held ≡ true
     → flags_of new.free ≡ marked (pages_of b) true (flags_of d.areas) → new.held
     ≡ without_block b d.held → AreFor d.areas new.free → AreApart new → IsDriver (record d {
@@ -157,13 +150,12 @@ pub block_freed_kept : (d : DriverState) (new : PageState) (b : Block) → IsDri
       held = without_block b d.held;
       areas = new.free;
     })
-block_freed_kept d new b kept held given rest same apart = let pages = pages_of b in
+block_freed_kept {d} {new} b kept held given rest same apart = let pages = pages_of b in
     let used : (p : ℕ) → is_in p pages ≡ true
-    → place_of d.places p ≡ Used = λ p here. block_used d b p kept held here in
+    → place_of d.places p ≡ Used = λ p here. block_used b p kept held here in
     let leaves : Leaves d pages is_used =
     record { kept = kept; at = λ p here. ap is_used (used p here); high = refl } in
-    kept_changed d new.free pages is_used Free (without_block b d.held) d.inflate d.deflate d.report
-    (record {
+    kept_changed (record {
       leaves = leaves;
       inflate = kept.inflate;
       deflate = kept.deflate;
@@ -171,7 +163,7 @@ block_freed_kept d new b kept held given rest same apart = let pages = pages_of 
       taking = λ told. stays leaves Free Taking refl (kept.taking told);
       report = kept.report;
       reporting = stays leaves Free Reporting refl kept.reporting;
-      free = free_set d new.free pages Free true kept refl given;
+      free = free_set new.free pages Free kept refl given;
       same = same;
       used = λ p covered. used_at p (is_in p pages) refl covered (used p);
     })

@@ -48,14 +48,14 @@ marked_more xs x value table lt = grind (
   get_or-set_other,
 )
 
-pub marked_none : {A : Type 0} (value : A) (table : List A) → marked [] value table ≡ table
-marked_none value table = grind (arith, same_lists, length-marked, marked-get)
+pub marked_none : {A : Type 0} (value : A) {table : List A} → marked [] value table ≡ table
+marked_none value = grind (arith, same_lists, length-marked, marked-get)
 
 -- one page alone
-pub marked_one : {A : Type 0} (x : ℕ) (value : A) (table : List A) → x < length table
-    → marked (x ∷ []) value table ≡ set table x value
+pub marked_one : {A : Type 0} (x : ℕ) (value : A) (table : List A)
+    → x < length table → marked (x ∷ []) value table ≡ set table x value
 marked_one x value table lt =
-    marked_more [] x value table lt ∙ ap (λ (l : List _). set l x value) (marked_none value table)
+    marked_more [] x value table lt ∙ ap (λ (l : List _). set l x value) (marked_none value)
 
 -- some pages, and then others
 pub marked_append : {A : Type 0} (xs ys : List ℕ) (value : A) (table : List A)
@@ -107,14 +107,14 @@ pub record Changing (old now : List Place) (f : Place → Place) (i : ℕ) : Typ
   pub put : (k : ℕ) (d : Place) → k < i → k < length old → get_or now k d ≡ f (get_or old k d)
   pub rest : (k : ℕ) (d : Place) → i ≤ k → get_or now k d ≡ get_or old k d
 
-pub changing_more : (old now : List Place) (f : Place → Place) (i : ℕ) (y : Place)
-    → Changing old now f i → i < length old → ((d : Place) → y ≡ f (get_or old i d))
-    → Changing old (set now i y) f (i + 1)
-changing_more old now f i y c lt is = search (arith, length-set, get_or-set_same, get_or-set_other)
+pub changing_more : {old now : List Place} {f : Place → Place} {i : ℕ} (y : Place)
+    → Changing old now f i
+    → i < length old → ((d : Place) → y ≡ f (get_or old i d)) → Changing old (set now i y) f (i + 1)
+changing_more y c lt is = search (arith, length-set, get_or-set_same, get_or-set_other)
 
-pub changed_all : (old now : List Place) (f : Place → Place) (i : ℕ) → Changing old now f i
-    → length old ≤ i → now ≡ map f old
-changed_all old now f i c all = grind (arith, same_lists, length-map, get_or-map)
+pub changed_all : {old now : List Place} {f : Place → Place} {i : ℕ}
+    → Changing old now f i → length old ≤ i → now ≡ map f old
+changed_all c all = grind (arith, same_lists, length-map, get_or-map)
 
 -- ---- the pages that pass a test
 

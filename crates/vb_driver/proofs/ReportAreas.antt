@@ -33,24 +33,21 @@ pub chosen_places : (s : PageState) (from room : ℕ) → IsApart s
 chosen_places s from room apart law places is =
     grind (arith, length_flags, length-map, flag_is, free_is_place)
 
-pub chosen_blocks : (s : PageState) (blocks : List FreeBlock) → HaveRoom s blocks
-    → All IsAreaBlock (blocks_of blocks)
-chosen_blocks s blocks room = All-map IsAreaBlock block_of blocks (λ k d lt.
+pub chosen_blocks : {s : PageState} {blocks : List FreeBlock}
+    → HaveRoom s blocks → All IsAreaBlock (blocks_of blocks)
+chosen_blocks {blocks} room = All-map IsAreaBlock block_of blocks (λ k d lt.
     let fits = room.each k d lt in record { order = fits.0.0; aligned = fits.0.1 })
 
-pub chosen_state : (s new : PageState) (blocks : List FreeBlock) → new ≡ without_blocks blocks s
+pub chosen_state : {s new : PageState} (blocks : List FreeBlock) → new ≡ without_blocks blocks s
     → ((p : ℕ) → is_free_page new p ≡ (is_free_page s p && not (is_covered p blocks)))
     → Becomes s new (marked (pages_of_all (blocks_of blocks)) false (flags_of s.free)) s.held
-chosen_state s new blocks is left = let pages = pages_of_all (blocks_of blocks) in
+chosen_state {s} {new} blocks is left = let pages = pages_of_all (blocks_of blocks) in
     let sizes = drained_sizes s.free in record {
-      free = flags_moved s new pages false
-          (ap page_count is ∙ (length-without_pages pages (drained s.free).areas ∙ sizes.pages))
-          (λ p. left p ∙ (ap (λ (v : Bool). is_free_page s p && not v) (sym (in_covered p blocks))
-          ∙ gone (is_free_page s p) (is_in p pages)));
+      free = flags_moved s new pages false (ap page_count is ∙ (length-without_pages pages
+          (drained s.free).areas ∙ sizes.pages)) (λ p. left p ∙ (ap (λ (v : Bool). is_free_page
+          s p && not v) (sym (in_covered p blocks)) ∙ gone (is_free_page s p) (is_in p pages)));
       held = ap (λ (v : PageState). v.held) is;
-      same = for_these s.free
-          (record (drained s.free) { areas = without_pages pages (drained s.free).areas }) new.free
-          (ap (λ (v : PageState). v.free) is)
+      same = for_these (ap (λ (v : PageState). v.free) is)
           (record { processors = sizes.same.processors; reserved = refl });
     }
   where
@@ -66,28 +63,28 @@ pub no_blocks : (blocks : List FreeBlock) → eqb (length blocks) 0 ≡ true →
 no_blocks [] e = refl
 no_blocks (b ∷ blocks) e = grind arith
 
-pub none_chosen : (s new : PageState) (blocks : List FreeBlock) → blocks ≡ []
+pub none_chosen : {s new : PageState} {blocks : List FreeBlock} → blocks ≡ []
     → Becomes s new (marked (pages_of_all (blocks_of blocks)) false (flags_of s.free)) s.held
     → Becomes s new (flags_of s.free) s.held
-none_chosen s new blocks none becomes = grind (arith, marked_none)
+none_chosen none becomes = grind (arith, marked_none)
 
-without_none : (set : List Bool) → without_pages [] set ≡ set
-without_none set = grind (arith, same_sets, length-without_pages, without_parts, without_old)
+without_none : {set : List Bool} → without_pages [] set ≡ set
+without_none = grind (arith, same_sets, length-without_pages, without_parts, without_old)
 
-pub only_drained : (s new : PageState) (blocks : List FreeBlock) → blocks ≡ []
-    → new ≡ without_blocks blocks s → new ≡ record s { free = drained s.free }
-only_drained s new blocks none is = grind (arith, without_none)
+pub only_drained : (s : PageState) {new : PageState} {blocks : List FreeBlock}
+    → blocks ≡ [] → new ≡ without_blocks blocks s → new ≡ record s { free = drained s.free }
+only_drained s none is = grind (arith, without_none)
 
 -- ---- blocks come back
 
-pub have_room : (s : PageState) (blocks : List FreeBlock) → IsApart s
-    → All IsAreaBlock (blocks_of blocks)
+pub have_room : {s : PageState} {blocks : List FreeBlock}
+    → IsApart s → All IsAreaBlock (blocks_of blocks)
     → ((p : ℕ) → is_in p (pages_of_all (blocks_of blocks)) ≡ true → reserved_count s ≤ p) → ((p : ℕ)
     → is_in p (pages_of_all (blocks_of blocks)) ≡ true → p < length (flags_of s.free)) → ((p : ℕ)
     → is_in p (pages_of_all (blocks_of blocks)) ≡ true → is_free_at (flags_of s.free) p ≡ false)
     → ((p : ℕ) → is_in p (pages_of_all (blocks_of blocks)) ≡ true → is_in_block p s.held ≡ false)
     → ((p : ℕ) → times p (pages_of_all (blocks_of blocks)) ≤ 1) → HaveRoom s blocks
-have_room s blocks apart good unreserved inside taken uncovered once = record {
+have_room {s} {blocks} apart good unreserved inside taken uncovered once = record {
   each = λ k d lt.
       let b = block_of (slice_index_or blocks k d) in
       let is : slice_index_or (blocks_of blocks) k (block_of d) ≡ b =
@@ -107,7 +104,7 @@ have_room s blocks apart good unreserved inside taken uncovered once = record {
   apart = distinct_once (pages_of_all (blocks_of blocks)) once;
 }
 
-pub given_blocks : (s new : PageState) (blocks : List FreeBlock) → new ≡ with_blocks blocks s
+pub given_blocks : {s new : PageState} (blocks : List FreeBlock) → new ≡ with_blocks blocks s
     → ((p : ℕ) → is_free_page new p ≡ (is_free_page s p || is_covered p blocks))
     → Becomes s new (marked (pages_of_all (blocks_of blocks)) true (flags_of s.free)) s.held
-given_blocks s new blocks is gained = search (arith, flags_moved, length-with_pages, in_covered)
+given_blocks blocks is gained = search (arith, flags_moved, length-with_pages, in_covered)

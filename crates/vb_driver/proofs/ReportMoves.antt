@@ -13,11 +13,11 @@ use Rattle.vb_driver.proofs.Keeping.{Leaves, stays, stays_held, free_set, kept_c
 -- ---- a report goes out
 
 -- a page whose flag says so is free
-pub free_place : (d : DriverState) (p : ℕ) → IsDriver d → is_free_at (flags_of d.areas) p ≡ true
-    → place_of d.places p ≡ Free
-free_place d p kept h = grind (arith, at_is, free_is_place)
+pub free_place : {d : DriverState} (p : ℕ)
+    → IsDriver d → is_free_at (flags_of d.areas) p ≡ true → place_of d.places p ≡ Free
+free_place p kept h = grind (arith, at_is, free_is_place)
 
-pub reported_kept : (d : DriverState) (areas2 : FreePages) (r2 : ReportSide) → IsDriver d
+pub reported_kept : {d : DriverState} {areas2 : FreePages} {r2 : ReportSide} → IsDriver d
     → ((p : ℕ) → is_in p (pages_of_all r2.blocks) ≡ true → is_free_at (flags_of d.areas) p ≡ true)
     → AllDistinct (pages_of_all r2.blocks)
     → flags_of areas2 ≡ marked (pages_of_all r2.blocks) false (flags_of d.areas)
@@ -26,14 +26,14 @@ pub reported_kept : (d : DriverState) (areas2 : FreePages) (r2 : ReportSide) →
       areas = areas2;
       report = r2;
     })
-reported_kept d areas2 r2 kept chosen distinct taken same queue =
+reported_kept {d} {areas2} {r2} kept chosen distinct taken same queue =
     let pages = pages_of_all r2.blocks in
     let leaves : Leaves d pages is_free = record {
       kept = kept;
-      at = λ p here. ap is_free (free_place d p kept (chosen p here));
+      at = λ p here. ap is_free (free_place p kept (chosen p here));
       high = refl;
     } in
-    kept_changed d areas2 pages is_free Reporting d.held d.inflate d.deflate r2 (record {
+    kept_changed (record {
       leaves = leaves;
       inflate = kept.inflate;
       deflate = kept.deflate;
@@ -41,7 +41,7 @@ reported_kept d areas2 r2 kept chosen distinct taken same queue =
       taking = λ told. stays leaves Reporting Taking refl (kept.taking told);
       report = queue;
       reporting = λ p. named p (is_in p pages) refl;
-      free = free_set d areas2 pages Reporting false kept refl taken;
+      free = free_set areas2 pages Reporting kept refl taken;
       same = same;
       used = stays_held leaves Reporting refl;
     })
@@ -58,32 +58,28 @@ reported_kept d areas2 r2 kept chosen distinct taken same queue =
 
 -- ---- and comes back
 
-pub reported_place : (d : DriverState) (p : ℕ) → IsDriver d
-    → is_in p (pages_of_all d.report.blocks) ≡ true → place_of d.places p ≡ Reporting
-reported_place d p kept here = grind (arith, times_in)
+pub reported_place : {d : DriverState} (p : ℕ)
+    → IsDriver d → is_in p (pages_of_all d.report.blocks) ≡ true → place_of d.places p ≡ Reporting
+reported_place p kept here = grind (arith, times_in)
 
-pub reported_once : (d : DriverState) (p : ℕ) → IsDriver d
-    → times p (pages_of_all d.report.blocks) ≤ 1
-reported_once d p kept = at (is_reporting (place_of d.places p)) (kept.reporting p) where
+pub reported_once : {d : DriverState} (p : ℕ)
+    → IsDriver d → times p (pages_of_all d.report.blocks) ≤ 1
+reported_once {d} p kept = at (is_reporting (place_of d.places p)) (kept.reporting p) where
   at : (b : Bool) → times p (pages_of_all d.report.blocks) ≤ one_if b
       → times p (pages_of_all d.report.blocks) ≤ 1
   at true le = le
   at false le = omega arith
 
-pub returned_kept : (d : DriverState) (areas2 : FreePages) (r2 : ReportSide) → IsDriver d
+pub returned_kept : {d : DriverState} {areas2 : FreePages} {r2 : ReportSide} → IsDriver d
     → flags_of areas2 ≡ marked (pages_of_all d.report.blocks) true (flags_of d.areas)
     → AreFor d.areas areas2 → IsReportQueue r2 d.queue_size → r2.blocks ≡ [] → IsDriver (record d {
       places = placed (pages_of_all d.report.blocks) Free d.places;
       areas = areas2;
       report = r2;
     })
-returned_kept d areas2 r2 kept given same queue none = let pages = pages_of_all d.report.blocks in
-    let leaves : Leaves d pages is_reporting = record {
-      kept = kept;
-      at = λ p here. ap is_reporting (reported_place d p kept here);
-      high = refl;
-    } in
-    kept_changed d areas2 pages is_reporting Free d.held d.inflate d.deflate r2 (record {
+returned_kept {d} {areas2} kept given same queue none = let pages = pages_of_all d.report.blocks in
+    let leaves : Leaves d pages is_reporting = search (arith, reported_place) in
+    kept_changed (record {
       leaves = leaves;
       inflate = kept.inflate;
       deflate = kept.deflate;
@@ -91,7 +87,7 @@ returned_kept d areas2 r2 kept given same queue none = let pages = pages_of_all 
       taking = λ told. stays leaves Free Taking refl (kept.taking told);
       report = queue;
       reporting = λ p. omega (arith, ap (λ (bs : List Block). times p (pages_of_all bs)) none);
-      free = free_set d areas2 pages Free true kept refl given;
+      free = free_set areas2 pages Free kept refl given;
       same = same;
       used = stays_held leaves Free refl;
     })

@@ -12,8 +12,8 @@ use Rattle.vb_report.specs.Blocks.{blocks_of, piece_of, pieces_of}
 use Rattle.vb_driver.{specs.State.{ReportSide, IsReportQueue}, specs.Calls.PostsReport}
 use Rattle.vb_driver.proofs.ReportTables.{none_out, unowned, first_path, first_head, not_first}
 
-pub same_head : (a b : ℕ) (x y : Result ℕ Full) → x ≡ Ok a → y ≡ Ok b → x ≡ y → a ≡ b
-same_head a b x y e f q = cc
+pub same_head : {a b : ℕ} {x y : Result ℕ Full} → x ≡ Ok a → y ≡ Ok b → x ≡ y → a ≡ b
+same_head e f q = cc
 
 pub not_full : (answer : Result ℕ Full) (full : Full) → answer ≡ Ok 0 → answer ≡ Err full → ⊥
 not_full (Ok a) full e f = absurd cc
@@ -29,20 +29,19 @@ pub record Reporting (m1 m2 : Pages) (side : ReportSide) (r2 : DriverEnd) (piece
   pub coded : pieces ≡ pieces_of blocks
   pub adds : AddsBy m1 m2 side.ring r2 pieces answer
 
-pub reporting : (m1 m2 : Pages) (side now : ReportSide) (r2 : DriverEnd) (pieces : List Piece)
-    (blocks : List FreeBlock) (answer : Result ℕ Full) → side ≡ now
-    → IsReportQueue now now.ring.size → outstanding now.ring ≡ 0 → 0 < length blocks
-    → length blocks ≤ now.ring.size → pieces ≡ pieces_of (blocks_of blocks)
-    → AddsBy m1 m2 side.ring r2 pieces answer
+pub reporting : {m1 m2 : Pages} {side now : ReportSide}
+    {r2 : DriverEnd} {pieces : List Piece} (blocks : List FreeBlock) {answer : Result ℕ Full}
+    → side ≡ now → IsReportQueue now now.ring.size
+    → outstanding now.ring ≡ 0 → 0 < length blocks → length blocks ≤ now.ring.size
+    → pieces ≡ pieces_of (blocks_of blocks) → AddsBy m1 m2 side.ring r2 pieces answer
     → Reporting m1 m2 side r2 pieces (blocks_of blocks) answer now.ring.size
-reporting m1 m2 side now r2 pieces blocks answer is queue none some room coded adds =
-    grind (arith, none_out, length-map)
+reporting blocks is queue none some room coded adds = grind (arith, none_out, length-map)
 
 module _ (m1 m2 : Pages) (side : ReportSide) (r2 : DriverEnd) (pieces : List Piece)
     (blocks : List Block) (answer : Result ℕ Full) (size : ℕ)
     (s : Reporting m1 m2 side r2 pieces blocks answer size) where
   pub nothing : side.blocks ≡ []
-  nothing = none_out side size s.queue s.adds.is_end s.none_out
+  nothing = none_out s.queue s.adds.is_end s.none_out
 
   count : length pieces ≡ length blocks
   count = ap length s.coded ∙ length-map blocks piece_of
@@ -50,7 +49,7 @@ module _ (m1 m2 : Pages) (side : ReportSide) (r2 : DriverEnd) (pieces : List Pie
   -- the ring has room, and the head is 0
   pub answer_is : answer ≡ Ok 0
   answer_is = s.adds.value ∙ (ap (add_answer side.ring) count
-      ∙ first_head side.ring (unowned side size s.queue nothing) (length blocks) s.some s.room)
+      ∙ first_head side.ring (unowned s.queue nothing) (length blocks) s.some s.room)
 
   pub ring_is : r2 ≡ after_add side.ring (length blocks) (Ok 0)
   ring_is = s.adds.state ∙ (ap (λ (n : ℕ). after_add side.ring n answer) count
@@ -61,7 +60,7 @@ module _ (m1 m2 : Pages) (side : ReportSide) (r2 : DriverEnd) (pieces : List Pie
 
   path_is : next_path side.ring (length (pieces_of blocks)) ≡ range_with_len 0 (length blocks)
   path_is = ap (next_path side.ring) (length-map blocks piece_of)
-      ∙ first_path side.ring (unowned side size s.queue nothing) (length blocks) s.room
+      ∙ first_path side.ring (unowned s.queue nothing) (length blocks) s.room
 
   pub posts_report : PostsReport m1 m2 side (record { ring = r2; blocks = blocks }) blocks
   posts_report = let T = side.ring.layout.table in record {

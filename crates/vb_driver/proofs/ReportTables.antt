@@ -32,8 +32,8 @@ head_if b = cond b (Some 0) None
 no_block : (i : ℕ) → head_if (nat_lt i 0) ≡ None
 no_block i = ap head_if (le-ltb i 0 (omega arith))
 
-pub fresh_report_queue : (size : ℕ) → IsReportQueue (fresh_report size) size
-fresh_report_queue size = grind (arith, none_owned, no_block)
+pub fresh_report_queue : {size : ℕ} → IsReportQueue (fresh_report size) size
+fresh_report_queue = grind (arith, none_owned, no_block)
 
 -- ---- blocks, one after the other
 
@@ -99,30 +99,24 @@ block_inside_all blocks i d n lt there = let b = block_of (slice_index_or blocks
 -- ---- nothing is out
 
 -- where no chain is out, there is no report
-pub none_out : (side : ReportSide) (size : ℕ) → IsReportQueue side size → IsDriverEnd side.ring
-    → outstanding side.ring ≡ 0 → side.blocks ≡ []
-none_out side size queue end none = at side.blocks refl where
+pub none_out : {side : ReportSide} {size : ℕ}
+    → IsReportQueue side size → IsDriverEnd side.ring → outstanding side.ring ≡ 0 → side.blocks ≡ []
+none_out {side} queue end none = at side.blocks refl where
   at : (blocks : List Block) → side.blocks ≡ blocks → side.blocks ≡ []
   at [] e = e
   at (b ∷ blocks) e =
       let first : slice_index_or side.ring.owner 0 None ≡ Some 0 = queue.owned 0 ∙ ap head_if
       (lt-ltb 0 (length side.blocks) (omega (arith, ap length e))) in
       let head : is_head side.ring.owner 0 ≡ true = ap (is_own 0) first in
-      let inside : 0 < length side.ring.owner = elim (cases_lt 0 (length side.ring.owner)) [
-        | inl l ↦ l
-        | inr past ↦ (let wrong : true ≡ false = ap is_none
-            (sym (get_or_past side.ring.owner 0 None past) ∙ first) in
-            absurd (both_ways false refl (sym wrong)))
-      ] in
       let some : 1 ≤ outstanding side.ring =
       length_all (is_head side.ring.owner) side.ring.size 1 (omega (arith, end.table))
       (λ i lt. subst (λ (n : ℕ). is_head side.ring.owner n ≡ true) (omega arith) head) in
       absurd (omega arith)
 
 -- and then no descriptor is in use
-pub unowned : (side : ReportSide) (size : ℕ) → IsReportQueue side size → side.blocks ≡ [] → (i : ℕ)
-    → slice_index_or side.ring.owner i None ≡ None
-unowned side size queue none i = grind (arith, no_block i)
+pub unowned : {side : ReportSide} {size : ℕ} → IsReportQueue side size
+    → side.blocks ≡ [] → (i : ℕ) → slice_index_or side.ring.owner i None ≡ None
+unowned queue none i = grind (arith, no_block i)
 
 -- ---- the first descriptors
 
@@ -165,11 +159,11 @@ not_first i n past = in_first i n ∙ le-ltb i n past
 
 -- ---- a report goes out, and comes back
 
-pub posted_report_queue : (side : ReportSide) (size : ℕ) (r2 : DriverEnd) (blocks : List Block)
+pub posted_report_queue : {side : ReportSide} {size : ℕ} {r2 : DriverEnd} (blocks : List Block)
     → IsReportQueue side size → IsDriverEnd side.ring → side.blocks ≡ [] → length blocks ≤ 16
     → length blocks ≤ side.ring.size → All IsAreaBlock blocks → r2 ≡ after_add side.ring
     (length blocks) (Ok 0) → IsReportQueue (record { ring = r2; blocks = blocks }) size
-posted_report_queue side size r2 blocks queue end nothing few room good state = grind (
+posted_report_queue blocks queue end nothing few room good state = grind (
   arith,
   slice_index_or,
   unowned,
@@ -181,8 +175,8 @@ posted_report_queue side size r2 blocks queue end nothing few room good state = 
   in_first,
 )
 
-pub taken_report_queue : (side : ReportSide) (size h : ℕ) (r2 : DriverEnd) → IsReportQueue side size
-    → h ≡ 0 → r2 ≡ after_take side.ring (Ok (Some h))
+pub taken_report_queue : {side : ReportSide} {size h : ℕ} {r2 : DriverEnd}
+    → IsReportQueue side size → h ≡ 0 → r2 ≡ after_take side.ring (Ok (Some h))
     → IsReportQueue (record { ring = r2; blocks = [] }) size
-taken_report_queue side size h r2 queue zero_is state =
+taken_report_queue queue zero_is state =
     grind (arith, slice_index_or, released-at, nat_lt, no_block)

@@ -101,8 +101,8 @@ set_short : (sent : List (List ℕ)) (h i : ℕ) (pages : List ℕ) → length p
 set_short sent h i pages few short = grind (arith, get_or-set_at, get_or_past, length-set, set_at)
 
 -- nothing is named where nothing was set
-set_none : (sent : List (List ℕ)) (h i : ℕ) → i ≡ h → slice_index_or (set sent h []) i [] ≡ []
-set_none sent h i same = grind (arith, get_or-set_at, get_or_past, length-set)
+set_none : (sent : List (List ℕ)) {h i : ℕ} → i ≡ h → slice_index_or (set sent h []) i [] ≡ []
+set_none sent same = grind (arith, get_or-set_at, get_or_past, length-set)
 
 pub requests_added : (side : RequestSide) (h : ℕ) (pages : List ℕ) → AreRequests side
     → IsDriverEnd side.ring → next_head side.ring ≡ Some h → h < 16 → length pages ≤ 256

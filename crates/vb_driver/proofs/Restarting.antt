@@ -21,16 +21,18 @@ after_reset d = record d {
 }
 
 -- all pages are free after a reset
-pub restarted : (d v : DriverState) (at : List Place) (reserved : ℕ) (s : PageState) → IsDriver v
-    → v ≡ after_reset d → reserved ≡ reserved_pages v.queue_size → at ≡ all_free reserved
-    (length v.places) → s ≡ new_page_state (page_count (page_state v)) (cpu_count (page_state v))
+pub restarted : (d : DriverState) {v : DriverState} {at : List Place} {reserved : ℕ} {s : PageState}
+    → IsDriver v → v ≡ after_reset d
+    → reserved ≡ reserved_pages v.queue_size → at ≡ all_free reserved (length v.places)
+    → s ≡ new_page_state (page_count (page_state v)) (cpu_count (page_state v))
     (reserved_count (page_state v)) → record v { places = at; held = s.held; areas = s.free }
     ≡ fresh_driver d.pages d.queue_size d.processors
-restarted d v at reserved s kept is few free areas =
+restarted d {v} {at} {s} kept is few free areas =
     let pages : v.pages ≡ d.pages = ap (λ (x : DriverState). x.pages) is in
     let table : length v.places ≡ d.pages = kept.table ∙ pages in
     let count : page_count (page_state v) ≡ d.pages =
-    sym (length_flags (page_state v)) ∙ (ap length kept.free ∙ (length-map v.places is_free ∙ table)) in
+    sym (length_flags (page_state v))
+    ∙ (ap length kept.free ∙ (length-map v.places is_free ∙ table)) in
     let lists : cpu_count (page_state v) ≡ d.processors =
     kept.processors ∙ ap (λ (x : DriverState). x.processors) is in
     let size : reserved_pages v.queue_size ≡ reserved_pages d.queue_size =

@@ -25,29 +25,30 @@ pub record IsBeside (l : Layout) (p : ℕ) : Type 0 where
   pub used : p ≢ l.used.page
 
 -- a ring's pages hold no buffers
-pub beside_buffers : (size q p : ℕ) → IsSize size → 4 ≤ p → p < 16 → IsBeside (ring_layout size q) p
-beside_buffers size q p sized low high = grind arith
+pub beside_buffers : {size : ℕ} (q : ℕ) {p : ℕ}
+    → IsSize size → 4 ≤ p → p < 16 → IsBeside (ring_layout size q) p
+beside_buffers q sized low high = grind arith
 
 -- the buffers of a queue of requests begin at page 4 or 8
 pub buffers_between : (q : ℕ) → (4 ≤ buffers_page q) × (buffers_page q ≤ 8)
 buffers_between q = search (arith)
 
-pub buffers_beside : (size q k : ℕ) → IsSize size → k < 16
-    → IsBeside (ring_layout size q) (buffer_page (buffers_page q) k)
-buffers_beside size q k sized few = grind arith
+pub buffers_beside : {size : ℕ} (q k : ℕ)
+    → IsSize size → k < 16 → IsBeside (ring_layout size q) (buffer_page (buffers_page q) k)
+buffers_beside q k sized few = grind arith
 
 -- and none of another ring
-pub beside_rings : (size a b p : ℕ) → IsSize size → ring_number b ≢ ring_number a → InRing size b p
-    → IsBeside (ring_layout size a) p
-beside_rings size a b p sized ne at = grind (arith, parts_in_ring, rings_apart)
+pub beside_rings : {size : ℕ} (a b : ℕ) {p : ℕ} → IsSize size
+    → ring_number b ≢ ring_number a → InRing size b p → IsBeside (ring_layout size a) p
+beside_rings a b sized ne at = grind (arith, parts_in_ring, rings_apart)
 
-pub ring_inside : (size q : ℕ) (mem : Pages) → IsSize size → 64 ≤ length mem
-    → IsInside mem (ring_layout size q)
-ring_inside size q mem sized large = grind arith
+pub ring_inside : {size : ℕ} (q : ℕ) {mem : Pages}
+    → IsSize size → 64 ≤ length mem → IsInside mem (ring_layout size q)
+ring_inside q sized large = grind arith
 
-pub ring_backed : (size q : ℕ) (mem : Pages) → IsSize size → HaveRingFrames size mem
-    → IsBacked mem (ring_layout size q)
-ring_backed size q mem sized backed = grind (arith, in_ring_page)
+pub ring_backed : {size : ℕ} (q : ℕ) {mem : Pages}
+    → IsSize size → HaveRingFrames size mem → IsBacked mem (ring_layout size q)
+ring_backed q sized backed = grind (arith, in_ring_page)
 
 -- ---- a ring whose pages are as before
 
@@ -57,9 +58,9 @@ pub record KeepsRing (old new : Pages) (l : Layout) : Type 0 where
   pub used : page_at new l.used.page ≡ page_at old l.used.page
 
 -- where another page was written to
-pub keeps_ring : (old new : Pages) (l : Layout) (p lo hi : ℕ) → IsBeside l p
-    → SameBut old new p lo hi → KeepsRing old new l
-keeps_ring old new l p lo hi beside wrote = search (arith)
+pub keeps_ring : {old new : Pages} {l : Layout} {p lo hi : ℕ}
+    → IsBeside l p → SameBut old new p lo hi → KeepsRing old new l
+keeps_ring beside wrote = search (arith)
 
 -- ---- the frames that a start needs
 

@@ -19,11 +19,11 @@ at_range s lt = list_any_at (λ m. eqb m s) (range_with_len 0 257) s s
     (omega (arith, length-range_with_len 0 257))
     (eq-eqb (get_or (range_with_len 0 257) s s) s (get_or-range_with_len 0 257 s s lt ∙ zero-add s))
 
-second : (a b : Bool) → a ≡ true → (not a || b) ≡ true → b ≡ true
-second true b e h = h
-second false b e h = cc
+second : (a : Bool) {b : Bool} → a ≡ true → (not a || b) ≡ true → b ≡ true
+second true e h = h
+second false e h = cc
 
-pub size_of_config : (pages size processors : ℕ) → is_config pages size processors ≡ true
-    → IsSize size
-size_of_config pages size processors h =
+pub size_of_config : (pages : ℕ) {size : ℕ} (processors : ℕ)
+    → is_config pages size processors ≡ true → IsSize size
+size_of_config pages processors h =
     grind (arith, config_limits, and_parts, eqb-true, second, list_all-at, table, at_range)

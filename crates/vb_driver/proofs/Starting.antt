@@ -19,9 +19,9 @@ pub offered_then : (wanted : ℕ) → negotiate_refusal 3 wanted ≡ None
 offered_then wanted h = search (arith)
 
 -- and were accepted then
-pub accepted_then : (wanted : ℕ) (refusal : Refusal) → Some refusal ≡ status_refusal 3 wanted 11
-    → accepted_before refusal wanted ≡ wanted
-accepted_then wanted refusal e = search (arith)
+pub accepted_then : {wanted : ℕ} (refusal : Refusal)
+    → Some refusal ≡ status_refusal 3 wanted 11 → accepted_before refusal wanted ≡ wanted
+accepted_then refusal e = search (arith)
 
 -- the pages of all rings are zeros
 abbrev pub AreZeros : ℕ → Pages → Type 0
@@ -29,27 +29,26 @@ AreZeros size mem = (page offset : ℕ) → is_ring_page size page ≡ true → 
     → byte_at mem page offset ≡ 0
 
 -- a fresh queue's ring in pages of zeros
-zero_ring : (mem : Pages) (size q : ℕ) → IsSize size → ((page o : ℕ)
+zero_ring : {mem : Pages} {size : ℕ} (q : ℕ) → IsSize size → ((page o : ℕ)
     → InRing size q page → o < 4096 → byte_at mem page o ≡ 0) → IsNewRing mem (fresh_ring q size)
-zero_ring mem size q sized zeros = let l = ring_layout size q in
+zero_ring {mem} {size} q sized zeros = let l = ring_layout size q in
     let parts = parts_in_ring size q sized in record {
       shows = fresh_shows mem l size (fits_at (ring_page size q) size sized)
           (λ o lt. zeros l.avail.page o parts.avail lt) (λ o lt. zeros l.used.page o parts.used lt);
       tracks = fresh_tracks mem l size;
     }
 
-pub new_ring : (mem : Pages) (size q : ℕ) → IsSize size → AreZeros size mem
-    → IsNewRing mem (fresh_ring q size)
-new_ring mem size q sized zeros =
-    zero_ring mem size q sized (λ page o at lt. zeros page o (in_ring_page size q page at) lt)
+pub new_ring : {mem : Pages} {size : ℕ} (q : ℕ)
+    → IsSize size → AreZeros size mem → IsNewRing mem (fresh_ring q size)
+new_ring {size} q sized zeros =
+    zero_ring q sized (λ page o at lt. zeros page o (in_ring_page size q page at) lt)
 
 -- the same where the first statistics buffer went out meanwhile
-pub still_new : (m1 m2 m3 : Pages) (size q : ℕ) (ring : DriverEnd)
-    → ring ≡ fresh_ring q size → IsSize size → ring_number q ≢ ring_number 2
-    → SameButPages m1 m2 (fresh_statistics size).layout 12 → m3 ≡ m2 → AreZeros size m1
-    → IsNewRing m3 ring
-still_new m1 m2 m3 size q ring fresh sized other rest told zeros = rw told (rw fresh
-    (zero_ring m2 size q sized (λ page o at lt. (same page at).bytes o (omega arith) lt
+pub still_new : {m1 m2 m3 : Pages} {size : ℕ} (q : ℕ) {ring : DriverEnd}
+    → ring ≡ fresh_ring q size → IsSize size → ring_number q ≢ ring_number 2 → SameButPages m1 m2
+    (fresh_statistics size).layout 12 → m3 ≡ m2 → AreZeros size m1 → IsNewRing m3 ring
+still_new {m1} {m2} {size} q fresh sized other rest told zeros = rw told (rw fresh
+    (zero_ring q sized (λ page o at lt. (same page at).bytes o (omega arith) lt
     ∙ zeros page o (in_ring_page size q page at) lt)))
   where
     no_buffer : (page : ℕ) → InRing size q page → page ≢ 12
@@ -61,7 +60,7 @@ still_new m1 m2 m3 size q ring fresh sized other rest told zeros = rw told (rw f
     same : (page : ℕ) → InRing size q page → SameIn m1 m2 page 0 4096
     same page at =
         let beside : IsBeside (ring_layout size 2) page =
-        beside_rings size 2 q page sized other at in same_page m1 m2 page 0 4096
+        beside_rings 2 q sized other at in same_page m1 m2 page 0 4096
         (rest.others page beside.table beside.avail (no_buffer page at))
 
 -- the other queues are fresh then
@@ -70,9 +69,9 @@ pub record OthersFresh (d : DriverState) (size : ℕ) : Type 0 where
   pub deflate : d.deflate.ring ≡ fresh_ring 1 size
   pub report : d.report.ring ≡ fresh_ring 4 size
 
-pub others_fresh : (d1 d2 d3 : DriverState) → d2 ≡ with_nothing_out d1
+pub others_fresh : (d1 : DriverState) {d2 d3 : DriverState} → d2 ≡ with_nothing_out d1
     → d3 ≡ record d2 { statistics = d3.statistics } → OthersFresh d3 d1.queue_size
-others_fresh d1 d2 d3 e f = search (arith)
+others_fresh d1 e f = search (arith)
 
 -- ---- answers
 

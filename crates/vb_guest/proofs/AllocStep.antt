@@ -2,26 +2,22 @@
 use Rattle.std.{specs.Prelude.{ℕ, [], Result, Ok, Err, refl}, proofs.Common.{sym, subst, inl, inr}}
 use Rattle.vb_model.specs.{Driver.with_block, Guest.Guest, Pages.{pages_of, placed}}
 use Rattle.vb_model.specs.declared.{calls.Call.TheVariants.Alloc, places.Place.TheVariants.Used}
-use Rattle.vb_model.specs.declared.replies.{Refusal.Refusal, Reply.TheVariants.{Page, Refused}}
+use Rattle.vb_model.specs.declared.replies.{Refusal.Refusal, Reply.TheVariants.Page}
 use Rattle.vb_ram.{specs.Pages.Pages, specs.Part.Part}
 use Rattle.vb_driver.specs.{State.{FreePages, DriverState}, Answers.block_at, Calls.AllocatesBy}
 use Rattle.vb_guest.{specs.Stands.{Honest, Ties}, specs.Steps.StepsAlone, specs.Replies.page_reply}
 use Rattle.vb_guest.proofs.Closing.{honest_performed, honest_refused, steps_alone, ties_areas}
 use Rattle.vb_guest.proofs.DriverWords.{Sides, driver_of, in_words}
 
-by_result : (m : Pages) (p : Part) (g : Guest) (areas : FreePages) (sides : Sides)
-    (d2 : DriverState) (cpu order : ℕ) (result : Result ℕ Refusal)
-    → AllocatesBy (driver_of g areas sides) d2 cpu order result
-    → Honest m p (driver_of g areas sides) g
-    → StepsAlone (Honest m p d2) g (Alloc cpu order) (page_reply result)
-by_result m p g areas sides d2 cpu order (Err why) did stands =
-    let before = driver_of g areas sides in
+by_result : {m : Pages} {p : Part} {g : Guest} (areas : FreePages)
+    (sides : Sides) {d2 : DriverState} {cpu order : ℕ} (result : Result ℕ Refusal)
+    → AllocatesBy (driver_of g areas sides) d2 cpu order result → Honest m p
+    (driver_of g areas sides) g → StepsAlone (Honest m p d2) g (Alloc cpu order) (page_reply result)
+by_result {m} {p} {g} areas sides {d2} {cpu} {order} (Err why) did stands =
     let refusal = sym did.refusal in
-    steps_alone m m p p before d2 g (Alloc cpu order) (Refused why) g stands
-    (honest_refused g (Alloc cpu order) why refusal)
-    (subst (λ d. Ties m p d g) (sym did.refused) (ties_areas m p before g d2.areas stands.ties))
-    refl
-by_result m p g areas sides d2 cpu order (Ok start) did stands =
+    steps_alone stands (honest_refused g (Alloc cpu order) why refusal)
+    (subst (λ d. Ties m p d g) (sym did.refused) (ties_areas d2.areas stands.ties)) refl
+by_result {m} {p} {g} areas sides {d2} {cpu} {order} (Ok start) did stands =
     let ties = stands.ties in
     let new : Guest = record g {
       places = placed (pages_of (block_at start order)) Used g.places;
@@ -35,12 +31,11 @@ by_result m p g areas sides d2 cpu order (Ok start) did stands =
       pages = ties.pages;
       queues = elim ties.queues [ inl idle ↦ inl assumption | inr run ↦ inr assumption ];
     } in
-    steps_alone m m p p (driver_of g areas sides) d2 g (Alloc cpu order) (Page start) new stands
-    step (subst (λ d. Ties m p d new) (sym did.state) there) refl
+    steps_alone stands step (subst (λ d. Ties m p d new) (sym did.state) there) refl
 
-pub alloc_step : (m : Pages) (p : Part) (d1 d2 : DriverState) (g : Guest) (cpu order : ℕ)
-    (result : Result ℕ Refusal) → AllocatesBy d1 d2 cpu order result → Honest m p d1 g
-    → StepsAlone (Honest m p d2) g (Alloc cpu order) (page_reply result)
-alloc_step m p d1 d2 g cpu order result did stands =
-    in_words (λ d. AllocatesBy d d2 cpu order result) m p d1 g stands did
-    (λ areas sides here at. by_result m p g areas sides d2 cpu order result at here)
+pub alloc_step : {m : Pages} {p : Part} {d1 d2 : DriverState}
+    {g : Guest} {cpu order : ℕ} {result : Result ℕ Refusal} → AllocatesBy d1 d2 cpu order result
+    → Honest m p d1 g → StepsAlone (Honest m p d2) g (Alloc cpu order) (page_reply result)
+alloc_step {d2} {cpu} {order} {result} did stands =
+    in_words (λ d. AllocatesBy d d2 cpu order result) stands did
+    (λ areas sides here at. by_result areas sides result at here)

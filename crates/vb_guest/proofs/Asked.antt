@@ -11,26 +11,26 @@ use Rattle.vb_driver.specs.State.{DriverState}
 use Rattle.vb_guest.{specs.Stands.Stands, proofs.Freed.start_backed, proofs.Standing.by_guest}
 
 -- a guest has 64 pages at the least
-pub is_large : (keeps : Bool) (m : Pages) (p : Part) (d : DriverState) (g : Guest)
+pub is_large : {keeps : Bool} {m : Pages} {p : Part} {d : DriverState} {g : Guest}
     → Stands keeps m p d g → 64 ≤ length m
-is_large keeps m p d g stands = grind (arith, config_limits)
+is_large stands = grind (arith, config_limits)
 
 both : (ok sound : Bool) → (ok && sound) ≡ true → ok ≡ true
 both true sound e = refl
 both false sound e = absurd cc
 
 -- where the device is initialised its pages of rings and buffers have frames
-pub is_backed : (keeps : Bool) (m : Pages) (p : Part) (d : DriverState) (g : Guest)
-    → Stands keeps m p d g → is_up p.status ≡ true → (page : ℕ)
-    → is_start_page d.queue_size page ≡ true → IsSome (frame_at m page)
-is_backed keeps m p d g stands up page start = grind (arith, both)
+pub is_backed : {keeps : Bool} {m : Pages} {p : Part} {d : DriverState} {g : Guest}
+    → Stands keeps m p d g → is_up p.status ≡ true
+    → (page : ℕ) → is_start_page d.queue_size page ≡ true → IsSome (frame_at m page)
+is_backed stands up page start = grind (arith, both)
 
 -- and so have the pages of the queue's ring
-ring_backed : (m : Pages) (p : Part) (g : Guest) (q : ℕ) → p.queue_size ≡ g.config.queue_size
+ring_backed : {m : Pages} (p : Part) (g : Guest) (q : ℕ) → p.queue_size ≡ g.config.queue_size
     → is_config g.config.pages g.config.queue_size g.config.processors ≡ true
     → ((page : ℕ) → is_start_page g.config.queue_size page ≡ true → IsSome (frame_at m page))
     → IsBacked m (queue_layout q p)
-ring_backed m p g q same config backed = let size = g.config.queue_size in
+ring_backed {m} p g q same config backed = let size = g.config.queue_size in
     let parts = parts_in_ring size q (size_is g.config.pages size g.config.processors config) in
     let at : (page : ℕ) → InRing size q page → IsSome (frame_at m page) =
     λ page there. backed page (start_of_ring size page (in_ring_page size q page there)) in
@@ -40,9 +40,8 @@ ring_backed m p g q same config backed = let size = g.config.queue_size in
       used = at (layout_of (ring_page size q) size).used.page parts.used;
     })
 
-pub has_ring : (keeps : Bool) (m : Pages) (p : Part) (d : DriverState) (g : Guest) (q : ℕ)
+pub has_ring : {keeps : Bool} {m : Pages} {p : Part} {d : DriverState} {g : Guest} (q : ℕ)
     → Stands keeps m p d g → contains p.status driver_ok ≡ true → IsBacked m (queue_layout q p)
-has_ring keeps m p d g q stands ok = by_guest keeps m p d g stands
-    (λ honest. ring_backed m p g q honest.ties.parts.device.size honest.ties.parts.guest.config
-    (λ page start. start_backed m p d g page honest ok start))
-    (λ rogue. ring_backed m p g q rogue.size rogue.config (rogue.up ok).backed)
+has_ring {p} {g} q stands ok = by_guest stands (λ honest. ring_backed
+    p g q honest.ties.parts.device.size honest.ties.parts.guest.config (λ page start. start_backed
+    page honest ok start)) (λ rogue. ring_backed p g q rogue.size rogue.config (rogue.up ok).backed)

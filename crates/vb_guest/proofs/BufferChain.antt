@@ -17,10 +17,10 @@ abbrev pub buffer_pieces : List Piece
 buffer_pieces = piece_of statistics_buffer ∷ []
 
 -- its chain is one readable piece
-pub buffer_chain : (mem : Pages) (table descriptors : ℕ) (figures : Figures) → 64 ≤ length mem
-    → 0 < descriptors → AreFigures mem table figures
+pub buffer_chain : {mem : Pages} {table descriptors : ℕ} {figures : Figures}
+    → 64 ≤ length mem → 0 < descriptors → AreFigures mem table figures
     → ChainGives (descriptor_at mem table) descriptors (4096 * length mem) 0 buffer_pieces
-buffer_chain mem table descriptors figures large some code =
+buffer_chain {mem} {table} {descriptors} large some code =
     single_chain (descriptor_at mem table) descriptors (4096 * length mem) 0 statistics_buffer some
     code.descriptor refl (no_fault descriptors (4096 * length mem) false 0 statistics_buffer refl
     (omega (arith, large)) (λ e. cc) (λ e. cc))
@@ -53,9 +53,9 @@ part_is mem n o j fits lt = grind (arith, get_or-take, get_or-drop, byte_is)
 abbrev stated : ℕ → ℕ → Statistic
 stated tag value = record { tag = tag; value = value }
 
-statistic_is : (mem : Pages) (k tag value : ℕ) → k < 2 → IsStatistic mem (10 * k) tag value
-    → statistic_at (buffer_bytes mem) k ≡ stated tag value
-statistic_is mem k tag value lt is =
+statistic_is : {mem : Pages} (k : ℕ) {tag value : ℕ} → k < 2
+    → IsStatistic mem (10 * k) tag value → statistic_at (buffer_bytes mem) k ≡ stated tag value
+statistic_is {mem} k {tag} lt is =
     let word = field_2 mem 12 (10 * k) (take 2 (drop (10 * k) (buffer_bytes mem)))
     (λ j l. part_is mem 2 (10 * k) j (omega (arith, lt)) l) in
     let long = field_8 mem 12 (10 * k + 2) (take 8 (drop (10 * k + 2) (buffer_bytes mem)))
@@ -69,13 +69,13 @@ unfolding statistics_of
 two_statistics mem = grind arith
 
 -- it says the figures
-pub buffer_says : (mem : Pages) (table : ℕ) (figures : Figures) → AreFigures mem table figures
-    → statistics_in mem buffer_pieces
+pub buffer_says : {mem : Pages} {table : ℕ} {figures : Figures}
+    → AreFigures mem table figures → statistics_in mem buffer_pieces
     ≡ record { free = Some figures.free; total = Some figures.total }
-buffer_says mem table figures code = grind (
+buffer_says {mem} code = grind (
   arith,
-  statistic_is mem 0 4 figures.free (omega arith) code.free,
-  statistic_is mem 1 5 figures.total (omega arith) code.total,
+  statistic_is 0 (omega arith) code.free,
+  statistic_is 1 (omega arith) code.total,
   bytes_are mem,
   two_statistics mem,
 )

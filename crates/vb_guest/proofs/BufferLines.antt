@@ -14,27 +14,28 @@ use Rattle.vb_guest.{proofs.RingUsed.ring_used, proofs.RingReaped.ring_reaped}
 
 -- ---- memory changes elsewhere
 
-statistic_kept : (old new : Pages) (offset tag value : ℕ) → page_at new 12 ≡ page_at old 12
+statistic_kept : {old new : Pages} {offset tag value : ℕ} → page_at new 12 ≡ page_at old 12
     → IsStatistic old offset tag value → IsStatistic new offset tag value
-statistic_kept old new offset tag value same is = grind (arith, field_in, same_page)
+statistic_kept same is = grind (arith, field_in, same_page)
 
-figures_kept : (old new : Pages) (table : ℕ) (figures : Figures)
-    → page_at new table ≡ page_at old table → page_at new 12 ≡ page_at old 12
-    → AreFigures old table figures → AreFigures new table figures
-figures_kept old new table figures ring buffer are = grind (arith, descriptor_apart, statistic_kept)
+figures_kept : {old new : Pages} {table : ℕ} {figures : Figures}
+    → page_at new table ≡ page_at old table
+    → page_at new 12 ≡ page_at old 12 → AreFigures old table figures → AreFigures new table figures
+figures_kept ring buffer are = grind (arith, descriptor_apart, statistic_kept)
 
 -- the pages of the ring and of the buffer are as before
-pub buffer_apart : (old new : Pages) (ring : DriverEnd) (part : QueuePart) (buffer : StatisticsBuffer)
-    → SameRing old new ring.size 2 → page_at new 12 ≡ page_at old 12
+pub buffer_apart : {old new : Pages} {ring : DriverEnd} {part : QueuePart}
+    {buffer : StatisticsBuffer} → SameRing old new ring.size 2 → page_at new 12 ≡ page_at old 12
     → BufferLine old ring part buffer → BufferLine new ring part buffer
-buffer_apart old new ring part buffer same_ring same_buffer line = record {
-  stands = ring_apart old new 2 ring part.next_avail part.next_used _ _ _ same_ring line.stands;
+buffer_apart {old} {new} {ring} {buffer} same_ring same_buffer line = record {
+  stands = ring_apart same_ring line.stands;
   figures = by buffer line.figures;
   remembers = line.remembers;
 } where
-  by : (buffer : StatisticsBuffer) → HasFigures ring.size old buffer → HasFigures ring.size new buffer
+  by : (buffer : StatisticsBuffer)
+      → HasFigures ring.size old buffer → HasFigures ring.size new buffer
   by (BufferPosted figures) has = let table : ℕ = ring_page ring.size 2 in
-      figures_kept old new table figures (same_ring table (inl refl)) same_buffer has
+      figures_kept (same_ring table (inl refl)) same_buffer has
   by NoBuffer has = tt
   by (BufferTaken figures) has = tt
   by (BufferDone figures) has = tt
@@ -42,17 +43,16 @@ buffer_apart old new ring part buffer same_ring same_buffer line = record {
 -- ---- the buffer goes round
 
 -- the device takes it
-pub buffer_taken : (mem : Pages) (ring : DriverEnd) (part : QueuePart) (figures : Figures)
+pub buffer_taken : {mem : Pages} {ring : DriverEnd} {part : QueuePart} (figures : Figures)
     → BufferLine mem ring part (BufferPosted figures) → BufferLine mem ring (record part {
       next_avail = (part.next_avail + 1) % 65536;
       taken = part.taken ++ (record { head = 0; pages = []; visited = 0 } ∷ []);
     }) (BufferTaken figures)
-buffer_taken mem ring part figures line =
-    grind (arith, ring_taken mem 2 ring part.next_avail part.next_used 0 [] [] [] line.stands)
+buffer_taken figures line = grind (arith, ring_taken 0 line.stands)
 
 -- the device uses it
-pub buffer_used : (m1 m2 : Pages) (ring : DriverEnd) (part : QueuePart) (figures : Figures)
-    (after : DeviceEnd) → BufferLine m1 ring part (BufferTaken figures) → AddsUsedBy m1 m2 (record {
+pub buffer_used : {m1 m2 : Pages} {ring : DriverEnd} {part : QueuePart} (figures : Figures)
+    {after : DeviceEnd} → BufferLine m1 ring part (BufferTaken figures) → AddsUsedBy m1 m2 (record {
       layout = ring.layout;
       size = ring.size;
       ready = true;
@@ -61,29 +61,27 @@ pub buffer_used : (m1 m2 : Pages) (ring : DriverEnd) (part : QueuePart) (figures
     }) after 0 0 → BufferLine m2 ring
     (record part { next_used = (part.next_used + 1) % 65536; taken = remove part.taken 0 })
     (BufferDone figures)
-buffer_used m1 m2 ring part figures after line adds = record {
-  stands = ring_used m1 m2 2 ring part.next_avail part.next_used [] (0 ∷ []) [] 0 0 after
-      line.stands refl adds;
+buffer_used figures line adds = record {
+  stands = ring_used 0 line.stands refl adds;
   figures = tt;
   remembers = ap (λ (l : List Request). remove l 0) line.remembers;
 }
 
 -- the driver posts it
-pub buffer_posted : (m1 m2 : Pages) (r1 r2 : DriverEnd) (part : QueuePart) (figures : Figures)
-    → BufferLine m1 r1 part NoBuffer → PostsBuffer m1 m2 r1 r2 figures
-    → BufferLine m2 r2 part (BufferPosted figures)
-buffer_posted m1 m2 r1 r2 part figures line posts =
+pub buffer_posted : {m1 m2 : Pages} {r1 r2 : DriverEnd} {part : QueuePart} {figures : Figures}
+    → BufferLine m1 r1 part NoBuffer
+    → PostsBuffer m1 m2 r1 r2 figures → BufferLine m2 r2 part (BufferPosted figures)
+buffer_posted line posts =
     grind (
       arith,
-      ring_posted m1 m2 2 r1 r2 part.next_avail part.next_used [] [] [] 1 0 line.stands posts.state posts.announces,
+      ring_posted 1 line.stands posts.state posts.announces,
     )
 
 -- the driver sees that it was used
-pub buffer_emptied : (mem : Pages) (ring : DriverEnd) (part : QueuePart) (figures : Figures)
-    → BufferLine mem ring part (BufferDone figures)
-    → TakesUsedBy mem ring (emptied ring) (Ok (Some 0))
-    → BufferLine mem (emptied ring) part NoBuffer
-buffer_emptied mem ring part figures line takes = grind (
+pub buffer_emptied : {mem : Pages} {ring : DriverEnd} {part : QueuePart} (figures : Figures)
+    → BufferLine mem ring part (BufferDone figures) → TakesUsedBy mem ring
+    (emptied ring) (Ok (Some 0)) → BufferLine mem (emptied ring) part NoBuffer
+buffer_emptied figures line takes = grind (
   arith,
-  ring_reaped mem 2 ring (emptied ring) part.next_avail part.next_used [] [] 0 [] line.stands takes,
+  ring_reaped 0 line.stands takes,
 )

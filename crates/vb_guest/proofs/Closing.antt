@@ -10,9 +10,9 @@ use Rattle.vb_ram.{specs.Pages.Pages, specs.Part.Part}
 use Rattle.vb_driver.specs.State.{FreePages, DriverState}
 use Rattle.vb_guest.{specs.Stands.{Honest, Ties, IsIdle, IsRunning}, specs.Steps.StepsAlone}
 
-pub first_holds : (b : Bool) (why : Refusal) (rest : List Cause) → b ≡ true
-    → first_refusal ((b ⇒ why) ∷ rest) ≡ Some why
-first_holds b why rest e = ap (λ (v : Bool). if v then Some why else first_refusal rest) e
+pub first_holds : {b : Bool} (why : Refusal) (rest : List Cause)
+    → b ≡ true → first_refusal ((b ⇒ why) ∷ rest) ≡ Some why
+first_holds why rest e = ap (λ (v : Bool). if v then Some why else first_refusal rest) e
 
 pub honest_refused : (g : Guest) (call : Call) (why : Refusal) → refusal_of g call ≡ Some why
     → HonestStep g call [] (Refused why) g
@@ -28,45 +28,47 @@ pub guest_step : (g : Guest) (call : Call) (claims : List Claim) (reply : Reply)
 guest_step g call claims reply new honest step = grind arith
 
 -- a guest that isn't initialised asks nothing back
-nothing_asked : (mem : Pages) (part : Part) (d : DriverState) (g : Guest)
+nothing_asked : {mem : Pages} {part : Part} {d : DriverState} {g : Guest}
     → IsIdle g ⊎ IsRunning mem part d g → g.status ≡ 0 → g.deflate ≡ no_requests
-nothing_asked mem part d g h4 down = grind arith
+nothing_asked h4 down = grind arith
 
-pub still_stands : (m1 m2 : Pages) (p1 p2 : Part) (d1 d2 : DriverState) (g : Guest) (call : Call)
-    (claims : List Claim) (reply : Reply) (new : Guest) → Honest m1 p1 d1 g
+pub still_stands : {m1 m2 : Pages} {p1 p2 : Part} {d1 d2 : DriverState} {g : Guest}
+    (call : Call) (claims : List Claim) (reply : Reply) {new : Guest} → Honest m1 p1 d1 g
     → HonestStep g call claims reply new → Ties m2 p2 d2 new → Honest m2 p2 d2 new
-still_stands m1 m2 p1 p2 d1 d2 g call claims reply new stands step ties =
+still_stands {g} call claims reply {new} stands step ties =
     grind (
       arith,
-      honest_keeps g call claims reply new stands.consistent (λ down. nothing_asked m1 p1 d1 g stands.ties.queues down) step ties.parts.guest.honest,
-      honest_order g call claims reply new stands.consistent stands.orderly step ties.parts.guest.honest,
+      honest_keeps g call claims reply new stands.consistent
+          (λ down. nothing_asked stands.ties.queues down) step ties.parts.guest.honest,
+      honest_order
+          g call claims reply new stands.consistent stands.orderly step ties.parts.guest.honest,
     )
 
-pub steps_alone : (m1 m2 : Pages) (p1 p2 : Part) (d1 d2 : DriverState) (g : Guest) (call : Call)
-    (reply : Reply) (new : Guest) → Honest m1 p1 d1 g → HonestStep g call [] reply new
+pub steps_alone : {m1 m2 : Pages} {p1 p2 : Part} {d1 d2 : DriverState} {g : Guest}
+    {call : Call} {reply : Reply} {new : Guest} → Honest m1 p1 d1 g → HonestStep g call [] reply new
     → Ties m2 p2 d2 new → new.frames ≡ g.frames → StepsAlone (Honest m2 p2 d2) g call reply
-steps_alone m1 m2 p1 p2 d1 d2 g call reply new stands step ties frames = grind (
+steps_alone {g} {call} {reply} {new} stands step ties frames = grind (
   arith,
-  still_stands m1 m2 p1 p2 d1 d2 g call [] reply new stands step ties,
+  still_stands call [] reply stands step ties,
   guest_step g call [] reply new stands.ties.parts.guest.honest step,
 )
 
 -- nothing is changed
-pub ties_same : (m1 m2 : Pages) (p1 p2 : Part) (d1 d2 : DriverState) (g : Guest) → m2 ≡ m1 → p2 ≡ p1
-    → d2 ≡ d1 → Ties m1 p1 d1 g → Ties m2 p2 d2 g
-ties_same m1 m2 p1 p2 d1 d2 g m p d ties = grind arith
+pub ties_same : {m1 m2 : Pages} {p1 p2 : Part} {d1 d2 : DriverState} {g : Guest}
+    → m2 ≡ m1 → p2 ≡ p1 → d2 ≡ d1 → Ties m1 p1 d1 g → Ties m2 p2 d2 g
+ties_same m p d ties = grind arith
 
 -- the page areas are none of the guest's
-pub ties_areas : (m : Pages) (p : Part) (d : DriverState) (g : Guest) (areas : FreePages)
+pub ties_areas : {m : Pages} {p : Part} {d : DriverState} {g : Guest} (areas : FreePages)
     → Ties m p d g → Ties m p (record d { areas = areas }) g
-ties_areas m p d g areas ties = grind arith
+ties_areas areas ties = grind arith
 
-pub honest_own : (m1 m2 : Pages) (p1 p2 : Part) (d : DriverState) (g : Guest) → m2 ≡ m1
-    → p2 ≡ record p1 { own = p2.own } → Honest m1 p1 d g → Honest m2 p2 d g
-honest_own m1 m2 p1 p2 d g m p honest = grind arith
+pub honest_own : {m1 m2 : Pages} {p1 p2 : Part} {d : DriverState} {g : Guest}
+    → m2 ≡ m1 → p2 ≡ record p1 { own = p2.own } → Honest m1 p1 d g → Honest m2 p2 d g
+honest_own m p honest = grind arith
 
 -- a refused call
-pub refused_alone : (m1 m2 : Pages) (p1 p2 : Part) (d1 d2 : DriverState) (g : Guest) (call : Call)
-    (why : Refusal) → Honest m1 p1 d1 g → refusal_of g call ≡ Some why → m2 ≡ m1 → p2 ≡ p1 → d2 ≡ d1
-    → StepsAlone (Honest m2 p2 d2) g call (Refused why)
-refused_alone m1 m2 p1 p2 d1 d2 g call why stands e m p d = grind arith
+pub refused_alone : {m1 m2 : Pages} {p1 p2 : Part} {d1 d2 : DriverState}
+    {g : Guest} {call : Call} {why : Refusal} → Honest m1 p1 d1 g → refusal_of g call ≡ Some why
+    → m2 ≡ m1 → p2 ≡ p1 → d2 ≡ d1 → StepsAlone (Honest m2 p2 d2) g call (Refused why)
+refused_alone stands e m p d = grind arith

@@ -26,9 +26,8 @@ pub with_entry-get : {A : Type 0} (pages : List ℕ) (x : A) (xs : List A) (i : 
 with_entry-get pages x xs i d lt = grind (arith, each_page-get)
 
 -- where the entry is what is past the end, any index will do
-pub with_none-get : {A : Type 0} (pages : List ℕ) (x : A) (xs : List A) (i : ℕ)
-    → slice_index_or (with_entry pages x xs) i x
-    ≡ (if is_in i pages then x else slice_index_or xs i x)
+pub with_none-get : {A : Type 0} (pages : List ℕ) (x : A) (xs : List A) (i : ℕ) → slice_index_or
+    (with_entry pages x xs) i x ≡ (if is_in i pages then x else slice_index_or xs i x)
 with_none-get pages x xs i = grind (arith, each_page-get)
 
 pub in_first : (p : ℕ) (ps : List ℕ) → is_in p (p ∷ ps) ≡ true

@@ -38,10 +38,9 @@ driver_of g areas sides = record {
   actual = g.actual;
 }
 
-driver_is : (p : Part) (d : DriverState) (g : Guest)
-    → HasParts (beside_queues p) (beside_sides d) (beside_requests g)
-    → d ≡ driver_of g d.areas (sides_of d)
-driver_is p d g has = ap (λ x. record d { pages = x }) has.driver.pages
+driver_is : (p : Part) {d : DriverState} (g : Guest) → HasParts
+    (beside_queues p) (beside_sides d) (beside_requests g) → d ≡ driver_of g d.areas (sides_of d)
+driver_is p {d} g has = ap (λ x. record d { pages = x }) has.driver.pages
     ∙ ap (λ x. record d { pages = g.config.pages; queue_size = x }) has.driver.queue_size ∙ ap
     (λ x. record d { pages = g.config.pages; queue_size = g.config.queue_size; processors = x })
     has.driver.processors ∙ ap (λ x. record d {
@@ -73,10 +72,8 @@ driver_is p d g has = ap (λ x. record d { pages = x }) has.driver.pages
     }) has.driver.told
 
 -- what a call did to a driver, said of the guest's driver
-pub in_words : {R : Type 0} (P : DriverState → Type 0) (m : Pages) (p : Part) (d : DriverState)
-    (g : Guest) → Honest m p d g → P d
-    → ((areas : FreePages) (sides : Sides) → Honest m p (driver_of g areas sides) g
-    → P (driver_of g areas sides) → R) → R
-in_words P m p d g stands did goes =
-    let is = driver_is p d g stands.ties.parts in
+pub in_words : {R : Type 0} (P : DriverState → Type 0) {m : Pages} {p : Part}
+    {d : DriverState} {g : Guest} → Honest m p d g → P d → ((areas : FreePages) (sides : Sides)
+    → Honest m p (driver_of g areas sides) g → P (driver_of g areas sides) → R) → R
+in_words P {m} {p} {d} {g} stands did goes = let is = driver_is p g stands.ties.parts in
     goes d.areas (sides_of d) (subst (λ x. Honest m p x g) is stands) (subst P is did)

@@ -13,57 +13,55 @@ use Rattle.vb_guest.specs.{Lives.{SuppliesBy, bare_from}, Supply.{Supply, supply
 -- ---- a page with no frame
 
 -- its frame was given
-pub fills_given : (Answers : List Bool → Claim → Type 0) (s1 : Supply) (out : List Bool)
-    (m1 m2 m3 m4 : Pages) (p1 p2 p3 p4 : Part) (claims : List Claim) (page off : ℕ)
-    (bytes : List ℕ) (number : ℕ) (r : Result (Unit {0}) Refusal) → IsOk r
+pub fills_given : {Answers : List Bool → Claim → Type 0}
+    {s1 : Supply} (out : List Bool) {m1 m2 m3 m4 : Pages} {p1 p2 p3 p4 : Part} {claims : List Claim}
+    {page off : ℕ} {bytes : List ℕ} {number : ℕ} {r : Result (Unit {0}) Refusal} → IsOk r
     → IsClaimed Answers s1 (supply_of p2 out) (Gave number) → claims ≡ Gave number ∷ [] → m2 ≡ m1
     → Supplied m2 m3 page number → Wrote m3 m4 page off bytes → p2 ≡ record p1 { own = p2.own } → p3
     ≡ p2 → p4 ≡ p3 → FillsBare Answers s1 (supply_of p4 out) m1 m4 p1 p4 claims page off bytes r
-fills_given Answers s1 out m1 m2 m3 m4 p1 p2 p3 p4 claims page off bytes number r ok claimed noted same supplied wrote part supplying writing =
-    grind arith
+fills_given out ok claimed noted same supplied wrote part supplying writing = grind arith
 
 -- ---- bytes of any page
 
 -- they don't lie in a page
-pub puts_outside : (Answers : List Bool → Claim → Type 0) (s1 s2 : Supply) (m1 m2 : Pages)
-    (p1 p2 : Part) (claims : List Claim) (page off : ℕ) (bytes : List ℕ)
-    (r : Result (Unit {0}) Refusal) → (Covers m1 page off (length bytes) → ⊥) → r ≡ Err OutOfRam
+pub puts_outside : {Answers : List Bool → Claim → Type 0} {s1 s2 : Supply}
+    {m1 m2 : Pages} {p1 p2 : Part} {claims : List Claim} {page off : ℕ} {bytes : List ℕ}
+    {r : Result (Unit {0}) Refusal} → (Covers m1 page off (length bytes) → ⊥) → r ≡ Err OutOfRam
     → IsQuiet s1 s2 m1 m2 p1 p2 claims → PutsBy Answers s1 s2 m1 m2 p1 p2 claims page off bytes r
-puts_outside Answers s1 s2 m1 m2 p1 p2 claims page off bytes r past is quiet = grind arith
+puts_outside past is quiet = grind arith
 
 -- there is a frame, or no byte to be written
-pub puts_there : (Answers : List Bool → Claim → Type 0) (s1 s2 : Supply) (m1 m2 : Pages)
-    (p1 p2 : Part) (claims : List Claim) (page off : ℕ) (bytes : List ℕ)
-    (r : Result (Unit {0}) Refusal) → IsOk r → Covers m1 page off (length bytes) → (0 < length bytes
+pub puts_there : {Answers : List Bool → Claim → Type 0} {s1 s2 : Supply}
+    {m1 m2 : Pages} {p1 p2 : Part} {claims : List Claim} {page off : ℕ} {bytes : List ℕ}
+    {r : Result (Unit {0}) Refusal} → IsOk r → Covers m1 page off (length bytes) → (0 < length bytes
     → frame_at m1 page ≡ None → ⊥) → Wrote m1 m2 page off bytes → (length bytes ≡ 0 → m2 ≡ m1)
     → p2 ≡ p1 → s2 ≡ s1 → claims ≡ [] → PutsBy Answers s1 s2 m1 m2 p1 p2 claims page off bytes r
-puts_there Answers s1 s2 m1 m2 p1 p2 claims page off bytes r ok inside there wrote unwritten part supply none =
-    grind arith
+puts_there ok inside there wrote unwritten part supply none = grind arith
 
 -- a frame was wanting
-pub puts_bare : (Answers : List Bool → Claim → Type 0) (out : List Bool) (s2 : Supply)
-    (m0 m1 m2 : Pages) (p0 p1 p2 : Part) (claims : List Claim) (page off : ℕ) (bytes : List ℕ)
-    (r : Result (Unit {0}) Refusal) → Covers m0 page off (length bytes) → 0 < length bytes
-    → frame_at m0 page ≡ None → m1 ≡ m0 → p1 ≡ p0
-    → FillsBare Answers (supply_of p1 out) s2 m1 m2 p1 p2 claims page off bytes r
+pub puts_bare : {Answers : List Bool → Claim → Type 0}
+    (out : List Bool) {s2 : Supply} {m0 m1 m2 : Pages} {p0 p1 p2 : Part}
+    {claims : List Claim} {page off : ℕ} {bytes : List ℕ} {r : Result (Unit {0}) Refusal}
+    → Covers m0 page off (length bytes) → 0 < length bytes → frame_at m0 page ≡ None → m1 ≡ m0
+    → p1 ≡ p0 → FillsBare Answers (supply_of p1 out) s2 m1 m2 p1 p2 claims page off bytes r
     → PutsBy Answers (supply_of p0 out) s2 m0 m2 p0 p2 claims page off bytes r
-puts_bare Answers out s2 m0 m1 m2 p0 p1 p2 claims page off bytes r inside some none same part fills =
-    grind arith
+puts_bare out inside some none same part fills = grind arith
 
 -- ---- an initialisation
 
 -- of a device that isn't initialised
-pub begins : (Answers : List Bool → Claim → Type 0) (s1 : Supply) (out2 : List Bool)
-    (m1 mid m2 : Pages) (p1 part p2 : Part) (d1 d2 : DriverState) (claims : List Claim)
-    (wanted : ℕ) (got : Result (Unit {0}) Refused) (r : Result (Unit {0}) Refusal)
-    → p1.status ≡ 0 → part ≡ record p1 { own = part.own } → SuppliesBy {T = Unit {0}} Answers s1
-    (supply_of part out2) [] claims (bare_from d1.queue_size m1 0) m1 mid got → Continues got
-    mid m2 part p2 d1 d2 wanted r → InitialisesBy Answers s1 out2 m1 m2 p1 p2 d1 d2 claims wanted r
-begins Answers s1 out2 m1 mid m2 p1 part p2 d1 d2 claims wanted got r new own supplies continues =
-    grind arith
+pub begins : {Answers : List Bool → Claim → Type 0} {s1 : Supply} {out2 : List Bool}
+    {m1 mid m2 : Pages} {p1 part p2 : Part} {d1 d2 : DriverState} {claims : List Claim}
+    {wanted : ℕ} {got : Result (Unit {0}) Refused} {r : Result (Unit {0}) Refusal}
+    → p1.status ≡ 0 → part ≡ record p1 { own = part.own }
+    → SuppliesBy {T = Unit {0}} Answers s1 (supply_of part out2) [] claims
+    (bare_from d1.queue_size m1 0) m1 mid got → Continues got mid m2 part p2 d1 d2 wanted r
+    → InitialisesBy Answers s1 out2 m1 m2 p1 p2 d1 d2 claims wanted r
+begins new own supplies continues = grind arith
 
 -- ---- a reset
 
 -- a second one changes nothing
-pub reset_twice : (p1 p2 p3 : Part) → p2 ≡ part_after_reset p1 → IsReset p2 p3 → IsReset p1 p3
-reset_twice p1 p2 p3 first second = grind (arith, length-replicate)
+pub reset_twice : (p1 : Part) {p2 : Part} (p3 : Part)
+    → p2 ≡ part_after_reset p1 → IsReset p2 p3 → IsReset p1 p3
+reset_twice p1 p3 first second = grind (arith, length-replicate)

@@ -11,15 +11,13 @@ use Rattle.vb_guest.proofs.Closing.{honest_performed, steps_alone, refused_alone
 use Rattle.vb_guest.proofs.DriverWords.{Sides, driver_of, in_words}
 use Rattle.vb_model.specs.declared.places.Place.TheVariants.{Free as FreePlace}
 
-by_result : (m : Pages) (p : Part) (g : Guest) (areas : FreePages) (sides : Sides)
-    (d2 : DriverState) (cpu start order : ℕ) (result : Result (Unit {0}) Refusal)
-    → FreesBy (driver_of g areas sides) d2 cpu start order result
-    → Honest m p (driver_of g areas sides) g
+by_result : {m : Pages} {p : Part} {g : Guest} (areas : FreePages) (sides : Sides)
+    {d2 : DriverState} {cpu start order : ℕ} (result : Result (Unit {0}) Refusal) → FreesBy
+    (driver_of g areas sides) d2 cpu start order result → Honest m p (driver_of g areas sides) g
     → StepsAlone (Honest m p d2) g (Free cpu start order) (done_reply result)
-by_result m p g areas sides d2 cpu start order (Err why) did stands =
-    refused_alone m m p p (driver_of g areas sides) d2 g (Free cpu start order) why stands
-    (sym did.refusal) refl refl did.refused
-by_result m p g areas sides d2 cpu start order (Ok done) did stands =
+by_result areas sides (Err why) did stands =
+    refused_alone stands (sym did.refusal) refl refl did.refused
+by_result {m} {p} {g} areas sides {cpu} {start} {order} (Ok done) did stands =
     let ties = stands.ties in
     let new : Guest = record g {
       places = placed (pages_of (block_at start order)) FreePlace g.places;
@@ -34,12 +32,11 @@ by_result m p g areas sides d2 cpu start order (Ok done) did stands =
       pages = ties.pages;
       queues = elim ties.queues [ inl idle ↦ inl assumption | inr run ↦ inr assumption ];
     } in
-    steps_alone m m p p (driver_of g areas sides) d2 g (Free cpu start order) Done new stands step
-    (subst (λ d. Ties m p d new) (sym did.state) there) refl
+    steps_alone stands step (subst (λ d. Ties m p d new) (sym did.state) there) refl
 
-pub free_step : (m : Pages) (p : Part) (d1 d2 : DriverState) (g : Guest) (cpu start order : ℕ)
-    (result : Result (Unit {0}) Refusal) → FreesBy d1 d2 cpu start order result → Honest m p d1 g
-    → StepsAlone (Honest m p d2) g (Free cpu start order) (done_reply result)
-free_step m p d1 d2 g cpu start order result did stands =
-    in_words (λ d. FreesBy d d2 cpu start order result) m p d1 g stands did
-    (λ areas sides here at. by_result m p g areas sides d2 cpu start order result at here)
+pub free_step : {m : Pages} {p : Part} {d1 d2 : DriverState} {g : Guest} {cpu start order : ℕ}
+    {result : Result (Unit {0}) Refusal} → FreesBy d1 d2 cpu start order result
+    → Honest m p d1 g → StepsAlone (Honest m p d2) g (Free cpu start order) (done_reply result)
+free_step {d2} {cpu} {start} {order} {result} did stands =
+    in_words (λ d. FreesBy d d2 cpu start order result) stands did
+    (λ areas sides here at. by_result areas sides result at here)

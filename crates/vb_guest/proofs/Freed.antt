@@ -9,11 +9,11 @@ pub down_not_ok : (status : ℕ) → (status ≡ 0) ⊎ (status ≡ 131) → con
 down_not_ok status h1 ok = grind arith
 
 -- the pages of rings and buffers have frames where the device is initialised
-pub start_backed : (m : Pages) (p : Part) (d : DriverState) (g : Guest) (page : ℕ) → Honest m p d g
-    → contains p.status driver_ok ≡ true → is_start_page g.config.queue_size page ≡ true
-    → IsSome (frame_at m page)
-start_backed m p d g page stands ok start = grind arith
+pub start_backed : {m : Pages} {p : Part} {d : DriverState} {g : Guest} (page : ℕ)
+    → Honest m p d g → contains p.status driver_ok ≡ true
+    → is_start_page g.config.queue_size page ≡ true → IsSome (frame_at m page)
+start_backed page stands ok start = grind arith
 
 -- a guest has 64 pages at the least
-pub large : (m : Pages) (p : Part) (d : DriverState) (g : Guest) → Honest m p d g → 64 ≤ length m
-large m p d g stands = grind (arith, config_limits)
+pub large : {m : Pages} {p : Part} {d : DriverState} {g : Guest} → Honest m p d g → 64 ≤ length m
+large stands = grind (arith, config_limits)

@@ -27,8 +27,7 @@ backs_none f (suc n) =
 -- a fresh driver, and a device of which nothing was asked yet
 pub fresh_honest : (c : Config) (wanted : ℕ) (part : Part)
     → is_config c.pages c.queue_size c.processors ≡ true
-    → DeviceKeeps part c 0 0 wanted 0 (replicate c.pages false) no_statistics
-    → Honest (replicate c.pages None) part (fresh_driver c.pages c.queue_size c.processors)
-    (fresh c wanted)
+    → DeviceKeeps part c 0 0 wanted 0 (replicate c.pages false) no_statistics → Honest
+    (replicate c.pages None) part (fresh_driver c.pages c.queue_size c.processors) (fresh c wanted)
 fresh_honest c wanted part fits device =
     grind (arith, bare_pages c.queue_size c.pages, fresh_consistent c wanted, fresh_order c wanted)

@@ -14,8 +14,8 @@ use Rattle.vb_guest.proofs.PagesKept.{SamePages}
 abbrev pub handed_back : Part → Part
 handed_back part = record part { loose = [] }
 
-pub loose_none : (part : Part) → part.loose ≡ [] → handed_back part ≡ part
-loose_none part e = ap (λ (l : List ℕ). record part { loose = l }) (sym e)
+pub loose_none : {part : Part} → part.loose ≡ [] → handed_back part ≡ part
+loose_none {part} e = ap (λ (l : List ℕ). record part { loose = l }) (sym e)
 
 in_high : (least : ℕ) (pages : List ℕ) (p : ℕ) → All (λ page. least ≤ page) pages
     → is_in p pages ≡ true → least ≤ p
@@ -36,9 +36,9 @@ not_among least pages p above low = elim (cases_Bool (is_in p pages)) [
 ]
 
 -- what is left of memory once a device has used a chain
-pub used_same : (least : ℕ) (m1 m2 : Pages) (e1 e2 : DeviceEnd) (head len : ℕ)
+pub used_same : {least : ℕ} {m1 m2 : Pages} {e1 e2 : DeviceEnd} {head len : ℕ}
     → e1.layout.used.page < least → AddsUsedBy m1 m2 e1 e2 head len → SamePages least m1 m2
-used_same least m1 m2 e1 e2 head len low adds = grind arith
+used_same low adds = grind arith
 
 -- the device's end of a ring, as the driver keeps the ring
 abbrev pub end_by : Layout → ℕ → ℕ → ℕ → DeviceEnd
@@ -51,19 +51,18 @@ end_by layout size next_avail next_used = record {
 }
 
 -- the device's end of the queue is the one whose ring the driver keeps
-pub same_end : (m1 m2 : Pages) (q size next_avail next_used : ℕ) (ring : DriverEnd)
-    (after : DeviceEnd) (head : ℕ) → ring.layout ≡ layout_of (ring_page ring.size q) ring.size
-    → size ≡ ring.size
-    → AddsUsedBy m1 m2 (end_by (layout_of (ring_page size q) size) size next_avail next_used) after
-    head 0 → AddsUsedBy m1 m2 (end_by ring.layout ring.size next_avail next_used) after head 0
-same_end m1 m2 q size next_avail next_used ring after head layout same adds = grind arith
+pub same_end : {m1 m2 : Pages} (q : ℕ) {size : ℕ} (next_avail next_used : ℕ) (ring : DriverEnd)
+    {after : DeviceEnd} {head : ℕ} → ring.layout ≡ layout_of (ring_page ring.size q) ring.size
+    → size ≡ ring.size → AddsUsedBy m1 m2
+    (end_by (layout_of (ring_page size q) size) size next_avail next_used) after head 0
+    → AddsUsedBy m1 m2 (end_by ring.layout ring.size next_avail next_used) after head 0
+same_end q next_avail next_used ring layout same adds = grind arith
 
 -- the next entry of the queue is that of the ring which the driver keeps
-pub same_entry : (mem : Pages) (q size next : ℕ) (ring : DriverEnd)
-    → ring.layout ≡ layout_of (ring_page ring.size q) ring.size → size ≡ ring.size
-    → next_entry mem (layout_of (ring_page size q) size) size next
-    ≡ next_entry mem ring.layout ring.size next
-same_entry mem q size next ring layout same = grind arith
+pub same_entry : (mem : Pages) (q : ℕ) {size : ℕ} (next : ℕ) (ring : DriverEnd)
+    → ring.layout ≡ layout_of (ring_page ring.size q) ring.size → size ≡ ring.size → next_entry mem
+    (layout_of (ring_page size q) size) size next ≡ next_entry mem ring.layout ring.size next
+same_entry mem q next ring layout same = grind arith
 
 -- the frames behind pages are those of the guest's pages
 pub behind_same : (mem : Pages) (frames : List (Option ℕ)) (pages : List ℕ)

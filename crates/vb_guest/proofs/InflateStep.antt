@@ -33,58 +33,50 @@ inflate_same : (g : Guest) (areas : FreePages) (sides : Sides) (p : Part) (n : �
     → first_refusal (inflate_causes (driver_of g areas sides) p n) ≡ refusal_of g (Inflate n)
 inflate_same g areas sides p n status target inflates deflates = grind arith
 
-inflate_offered : (m1 m2 : Pages) (p1 p2 : Part) (g : Guest) (areas : FreePages) (sides : Sides)
-    (d2 : DriverState) (n : ℕ) (posted : PostedRequest) → IsDriver (driver_of g areas sides)
+inflate_offered : {m1 m2 : Pages} {p1 p2 : Part} {g : Guest} (areas : FreePages) (sides : Sides)
+    {d2 : DriverState} {n : ℕ} {posted : PostedRequest} → IsDriver (driver_of g areas sides)
     → Offers m1 m2 p1 p2 (driver_of g areas sides) d2 (inflate_count g n) posted
     → Honest m1 p1 (driver_of g areas sides) g → IsRunning m1 p1 (driver_of g areas sides) g
     → refusal_of g (Inflate n) ≡ None → 0 < inflate_count g n → outstanding g.inflate < room g
     → StepsAlone (Honest m2 p2 d2) g (Inflate n) (Posted posted.head posted.pages)
-inflate_offered m1 m2 p1 p2 g areas sides d2 n posted driver did stands run free some fewer =
+inflate_offered
+    {m1} {m2} {p1} {p2} {g} areas sides {d2} {n} {posted} driver did stands run free some fewer =
     let ties = stands.ties in
     let pages = stranded_first g n ++ did.others in
     let single = driver.inflate.requests in
-    let least = least_head m1 0 sides.inflate p1.inflate g.inflate posted.head run.inflate.ring
-    single did.posts.lowest in
+    let least = least_head m1 0 p1.inflate run.inflate.ring single did.posts.lowest in
     let new : Guest = after_posting Inflating posted.head pages g in
     let reply = ap (λ (k : ℕ). Posted posted.head k) did.pages in
     let step = honest_performed g (Inflate n) [] (Posted posted.head posted.pages) new free
     (refl, (did.others, did.free, did.distinct, did.enough, (posted.head, least, reply, refl))) in
     let orderly = honest_order g (Inflate n) [] (Posted posted.head posted.pages) new
     stands.consistent stands.orderly step ties.parts.guest.honest in
-    let once = (last_sound g.inflate.posted
-    (record { head = posted.head; pages = pages; visited = 0 })
-    orderly.inflating.posted).distinct in
+    let once = (last_sound g.inflate.posted orderly.inflating.posted).distinct in
     let count : length pages ≡ inflate_count g n =
     length-append (stranded_first g n) did.others ∙ did.enough in
     let asked = inflate_requested g n did.others stands.orderly did.free once
     (omega (arith, count, some)) (omega (arith, count)) in
-    let line = line_posted m1 m2 0 g.config.pages sides.inflate d2.inflate p1.inflate g.inflate
-    posted.head pages single (asked_as sides.inflate.ring.size g pages run.inflate_size asked)
+    let line = line_posted 0 p1.inflate g.inflate single (asked_as g run.inflate_size asked)
     run.inflate did.posts in
     let size = g.config.queue_size in
     let rest = did.posts.rest in
     let buffer : ℕ = buffer_page 4 posted.head in
     let small : buffer < 8 = omega (arith, did.posts.small) in
-    let ring = ring_of size 0 sides.inflate.ring run.inflate.ring.sized run.inflate.ring.layout
+    let ring = ring_of 0 sides.inflate.ring run.inflate.ring.sized run.inflate.ring.layout
     run.inflate_size in
-    let leaves = post_leaves m1 m2 (driver_of g areas sides) size 0 buffer
-    sides.inflate.ring.layout (sizes_of m1 p1 (driver_of g areas sides) g run) ring
+    let leaves = post_leaves (sizes_of run) ring
     (buffer_clear size 0 buffer (omega arith) (omega (arith, small))) rest.others in
-    let still = others_posted m1 m2 p1 (driver_of g areas sides) g 0 buffer run leaves rest.backing
-    (λ ne. omega (arith, small)) (λ ne. absurd (ne refl))
-    (λ ne page from to. omega (arith, from, small)) in
+    let still = others_posted run leaves rest.backing (λ ne. omega (arith, small))
+    (λ ne. absurd (ne refl)) (λ ne page from to. omega (arith, from, small)) in
     let after : DriverState = driver_of new d2.areas (record sides { inflate = d2.inflate }) in
     let sized = ap (λ (s : RequestSide). s.ring.size) did.posts.state ∙ run.inflate_size in
     let there : Ties m2 p1 after new = record {
       parts = assumption;
-      pages = pages_same m1 m2 g.config.queue_size g.config.pages _ _
-          (post_same m1 m2 size 0 buffer sides.inflate.ring.layout ring
-          (omega (arith, small, reserved_least size)) rest.count rest.backing rest.others)
-          ties.pages;
+      pages = pages_same (post_same buffer ring (omega
+          (arith, small, reserved_least size)) rest.count rest.backing rest.others) ties.pages;
       queues = inr (assumption (still.deflate refl, still.statistics refl, still.report refl));
     } in
-    steps_alone m1 m2 p1 p2 (driver_of g areas sides) d2 g (Inflate n)
-    (Posted posted.head posted.pages) new stands step (subst (λ d. Ties m2 p2 d new) (sym did.state)
+    steps_alone stands step (subst (λ d. Ties m2 p2 d new) (sym did.state)
     (subst (λ p. Ties m2 p after new) (sym did.part) there)) refl
 
 -- an inflate that isn't refused has room, and pages
@@ -92,32 +84,30 @@ room_left : (g : Guest) (n : ℕ) → refusal_of g (Inflate n) ≡ None
     → (outstanding g.inflate < room g) × (0 < inflate_count g n)
 room_left g n free = grind arith
 
-by_result : (m1 m2 : Pages) (p1 p2 : Part) (g : Guest) (areas : FreePages) (sides : Sides)
-    (d2 : DriverState) (n : ℕ) (result : Result PostedRequest Refusal)
-    → InflatesBy m1 m2 p1 p2 (driver_of g areas sides) d2 n result
-    → Honest m1 p1 (driver_of g areas sides) g
+by_result : {m1 m2 : Pages} {p1 p2 : Part} {g : Guest} (areas : FreePages) (sides : Sides)
+    {d2 : DriverState} {n : ℕ} (result : Result PostedRequest Refusal) → InflatesBy m1 m2 p1 p2
+    (driver_of g areas sides) d2 n result → Honest m1 p1 (driver_of g areas sides) g
     → first_refusal (inflate_causes (driver_of g areas sides) p1 n) ≡ refusal_of g (Inflate n)
     → StepsAlone (Honest m2 p2 d2) g (Inflate n) (posted_reply result)
-by_result m1 m2 p1 p2 g areas sides d2 n (Err why) did stands same = grind arith
-by_result m1 m2 p1 p2 g areas sides d2 n (Ok posted) did stands same =
+by_result areas sides (Err why) did stands same = grind arith
+by_result {m1} {m2} {p1} {p2} {g} areas sides {d2} {n} (Ok posted) did stands same =
     let free : refusal_of g (Inflate n) ≡ None = sym (did.refusal ∙ same) in
     let left = room_left g n free in
-    let run = runs_where m1 p1 (driver_of g areas sides) g (Inflate n) _ stands.ties.queues
+    let run = runs_where (Inflate n) _ stands.ties.queues
     (inflate_idle (driver_of g areas sides) p1 g n stands.ties.parts.device.status) free in
     let O : ℕ → Type 0 = λ t. Offers m1 m2 p1 p2 (driver_of g areas sides) d2
     (driver_count (driver_of g areas sides) t n) posted in
-    inflate_offered m1 m2 p1 p2 g areas sides d2 n posted did.driver
+    inflate_offered areas sides did.driver
     (subst O stands.ties.parts.device.target did.offers) stands run free left.1 left.0
 
-pub inflate_step : (m1 m2 : Pages) (p1 p2 : Part) (d1 d2 : DriverState) (g : Guest) (n : ℕ)
-    (result : Result PostedRequest Refusal) → InflatesBy m1 m2 p1 p2 d1 d2 n result
+pub inflate_step : {m1 m2 : Pages} {p1 p2 : Part} {d1 d2 : DriverState} {g : Guest}
+    {n : ℕ} {result : Result PostedRequest Refusal} → InflatesBy m1 m2 p1 p2 d1 d2 n result
     → Honest m1 p1 d1 g → StepsAlone (Honest m2 p2 d2) g (Inflate n) (posted_reply result)
-inflate_step m1 m2 p1 p2 d1 d2 g n result did stands = in_words
-    (λ d. InflatesBy m1 m2 p1 p2 d d2 n result) m1 p1 d1 g stands did (λ areas sides here at.
+inflate_step {m1} {m2} {p1} {p2} {d2} {g} {n} {result} did stands = in_words
+    (λ d. InflatesBy m1 m2 p1 p2 d d2 n result) stands did (λ areas sides here at.
     let device = here.ties.parts.device in
-    let same = refused_alike m1 p1 (driver_of g areas sides) g (Inflate n) _ here.ties.queues
-    (inflate_idle (driver_of g areas sides) p1 g n device.status)
-    (λ run. inflate_same g areas sides p1 n device.status device.target
+    let same = refused_alike (Inflate n) here.ties.queues (inflate_idle (driver_of g areas sides)
+    p1 g n device.status) (λ run. inflate_same g areas sides p1 n device.status device.target
     (outstanding_are m1 0 sides.inflate.ring p1.inflate g.inflate run.inflate.ring)
     (outstanding_are m1 1 sides.deflate.ring p1.deflate g.deflate run.deflate.ring)) in
-    by_result m1 m2 p1 p2 g areas sides d2 n result at here same)
+    by_result areas sides result at here same)

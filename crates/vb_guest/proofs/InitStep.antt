@@ -7,7 +7,7 @@ use Rattle.std.proofs.Common.{sym, ◌∙◌, ap, subst, arith, inl, inr}
 use Rattle.vb_model.proofs.{Performed.Supplying, Shapes.{reserved_most, start_reserved}}
 use Rattle.vb_model.specs.{Driver.{given, figures}, Guest.{Guest, frame_of, all_backed, stats_vq}}
 use Rattle.vb_model.specs.{Layout.{reserved_pages, is_start_page, start_pages}, Life.lacking}
-use Rattle.vb_model.specs.{Life.{feature_refusal, accepted_before, Negotiates}, Orderly.times}
+use Rattle.vb_model.specs.Life.{feature_refusal, accepted_before, Negotiates}
 use Rattle.vb_model.specs.{Refusals.{◌⇒◌, first_refusal, refusal_of}, Tests.is_in}
 use Rattle.vb_model.specs.declared.calls.{Call.TheVariants.Init, Claim.Claim}
 use Rattle.vb_model.specs.declared.replies.Refusal.{Refusal, TheVariants.AlreadyUp}
@@ -20,7 +20,7 @@ use Rattle.vb_guest.proofs.Supplying.{all_distinct, bounded, among, supplied_cou
 use Rattle.vb_guest.{specs.Stands.{beside_sides, beside_requests}, specs.Replies.ready_reply}
 use Rattle.vb_guest.proofs.Supplying.{supplied_backed, pages_filled, frames_filled}
 use Rattle.vb_guest.specs.Steps.{is_frame, backing_count, StepsAlone, StepsOver}
-use Rattle.vb_guest.{specs.Supply.{Supply, supply_of, Moves, nothing}, proofs.Freed.large}
+use Rattle.vb_guest.{specs.Supply.{Supply, supply_of, Moves}, proofs.Freed.large}
 use Rattle.vb_guest.specs.Lives.{is_bare, bare_from, AllSupplied, why_unsupplied, SuppliesBy}
 use Rattle.vb_guest.proofs.Closing.{honest_performed, guest_step, still_stands}
 use Rattle.vb_guest.{proofs.Writing.frames_of, proofs.Moving.moves_as, proofs.Kept.SameOwn}
@@ -29,17 +29,17 @@ use Rattle.vb_frames.specs.declared.keeper.Refused.{Refused as WhyRefused}
 
 -- ---- a device that isn't new
 
-pub init_up : (m : Pages) (p : Part) (d : DriverState) (g : Guest) (wanted : ℕ) → p.status ≢ 0
-    → Honest m p d g → StepsAlone (Honest m p d) g (Init wanted) (Refused AlreadyUp)
-init_up m p d g wanted up stands = grind arith
+pub init_up : {m : Pages} {p : Part} {d : DriverState} {g : Guest} {wanted : ℕ}
+    → p.status ≢ 0 → Honest m p d g → StepsAlone (Honest m p d) g (Init wanted) (Refused AlreadyUp)
+init_up up stands = grind arith
 
 new_test : (g : Guest) (wanted : ℕ) → g.status ≡ 0 → refusal_of g (Init wanted) ≡ None
 new_test g wanted e = ap (λ (s : ℕ). first_refusal ((not (s == 0) ⇒ AlreadyUp) ∷ [])) e
 
 -- a device whose status is 0 isn't initialised
-new_is_idle : (m : Pages) (p : Part) (d : DriverState) (g : Guest) → g.status ≡ 0 → Honest m p d g
-    → IsIdle g
-new_is_idle m p d g e stands = grind arith
+new_is_idle : {m : Pages} {p : Part} {d : DriverState} {g : Guest}
+    → g.status ≡ 0 → Honest m p d g → IsIdle g
+new_is_idle e stands = grind arith
 
 -- ---- the pages that lack frames
 
@@ -47,14 +47,13 @@ filter_both : (f h : ℕ → Bool) (xs : List ℕ) → filter f (filter h xs) �
 filter_both f h [] = refl
 filter_both f h (x ∷ xs) = grind (arith, filter_both f h xs)
 
-pub bare_is : (size : ℕ) (m : Pages) (g : Guest) → size ≡ g.config.queue_size
+pub bare_is : {size : ℕ} (m : Pages) (g : Guest) → size ≡ g.config.queue_size
     → ((p : ℕ) → frame_at m p ≡ frame_of g.frames p) → bare_from size m 0 ≡ lacking g
-bare_is size m g same behind = grind arith
+bare_is m g same behind = grind arith
 
 -- once they have frames, each page of rings and buffers has one
-pub now_backed : (size : ℕ) (m1 m2 : Pages) (numbers : List ℕ) (page : ℕ)
-    → AllSupplied (bare_from size m1 0) numbers m1 m2 → is_start_page size page ≡ true
-    → IsSome (frame_at m2 page)
+pub now_backed : (size : ℕ) (m1 m2 : Pages) (numbers : List ℕ) (page : ℕ) → AllSupplied
+    (bare_from size m1 0) numbers m1 m2 → is_start_page size page ≡ true → IsSome (frame_at m2 page)
 now_backed size m1 m2 numbers page supplied start =
     elim (cases_Bool (is_in page (bare_from size m1 0))) [
       | inl there ↦ supplied_backed (bare_from size m1 0) numbers m1 m2 page supplied there
@@ -103,44 +102,44 @@ has_all size m backed = all_kept (is_start_page size) (λ page. is_some (frame_a
 
 -- ---- no frames: nothing is changed
 
-pub known_answer : (Answers : List Bool → Claim → Type 0) (s1 s2 : Supply) (l1 l2 : List Claim)
-    (pages : List ℕ) (m1 m2 : Pages) (result value : Result (Unit {0}) WhyRefused) → result ≡ value
-    → SuppliesBy Answers s1 s2 l1 l2 pages m1 m2 result
+pub known_answer : {Answers : List Bool → Claim → Type 0} {s1 s2 : Supply} {l1 l2 : List Claim}
+    {pages : List ℕ} {m1 m2 : Pages} {result value : Result (Unit {0}) WhyRefused}
+    → result ≡ value → SuppliesBy Answers s1 s2 l1 l2 pages m1 m2 result
     → SuppliesBy Answers s1 s2 l1 l2 pages m1 m2 value
-known_answer Answers s1 s2 l1 l2 pages m1 m2 result value is did =
-    subst (λ (r : Result (Unit {0}) WhyRefused). SuppliesBy Answers s1 s2 l1 l2 pages m1 m2 r) is did
+known_answer {Answers} {s1} {s2} {l1} {l2} {pages} {m1} {m2} is did =
+    subst
+    (λ (r : Result (Unit {0}) WhyRefused). SuppliesBy Answers s1 s2 l1 l2 pages m1 m2 r) is did
 
 -- the pages by the driver's own shape
-pub by_size : (Answers : List Bool → Claim → Type 0) (s1 s2 : Supply) (l1 l2 : List Claim)
-    (m1 m2 : Pages) (shape : Shape) (size : ℕ) (result : Result (Unit {0}) WhyRefused)
+pub by_size : {Answers : List Bool → Claim → Type 0} {s1 s2 : Supply} {l1 l2 : List Claim}
+    {m1 m2 : Pages} {shape : Shape} (size : ℕ) {result : Result (Unit {0}) WhyRefused}
     → shape ≡ record { queue_size = size }
     → SuppliesBy Answers s1 s2 l1 l2 (bare_from shape.queue_size m1 0) m1 m2 result
     → SuppliesBy Answers s1 s2 l1 l2 (bare_from size m1 0) m1 m2 result
-by_size Answers s1 s2 l1 l2 m1 m2 shape size result same did = grind arith
+by_size size same did = grind arith
 
-pub first_noted : (Answers : List Bool → Claim → Type 0) (s1 s2 : Supply) (l1 l2 : List Claim)
-    (pages : List ℕ) (m1 m2 : Pages) (result : Result (Unit {0}) WhyRefused) → l1 ≡ []
-    → SuppliesBy Answers s1 s2 l1 l2 pages m1 m2 result
+pub first_noted : {Answers : List Bool → Claim → Type 0} {s1 s2 : Supply}
+    {l1 l2 : List Claim} {pages : List ℕ} {m1 m2 : Pages} {result : Result (Unit {0}) WhyRefused}
+    → l1 ≡ [] → SuppliesBy Answers s1 s2 l1 l2 pages m1 m2 result
     → SuppliesBy Answers s1 s2 [] l2 pages m1 m2 result
-first_noted Answers s1 s2 l1 l2 pages m1 m2 result none did =
+first_noted {Answers} {s1} {s2} {l2} {pages} {m1} {m2} {result} none did =
     subst (λ (l : List Claim). SuppliesBy Answers s1 s2 l l2 pages m1 m2 result) none did
 
-pub init_unsupplied : (Answers : List Bool → Claim → Type 0) (out1 out2 : List Bool)
-    (l : List Claim) (m1 m2 : Pages) (p1 p2 : Part) (d : DriverState) (g : Guest) (wanted : ℕ)
-    (why : WhyRefused) (refusal : Refusal) → why_unsupplied {T = Unit {0}} (Err why) ≡ Some refusal
-    → p1.status ≡ 0 → SuppliesBy {T = Unit {0}} Answers (supply_of p1 out1) (supply_of p2 out2) [] l
-    (bare_from d.queue_size m1 0) m1 m2 (Err why)
+pub init_unsupplied : {Answers : List Bool → Claim → Type 0} (out1 out2 : List Bool)
+    {l : List Claim} {m1 m2 : Pages} {p1 p2 : Part} {d : DriverState} {g : Guest} {wanted : ℕ}
+    (why : WhyRefused) {refusal : Refusal} → why_unsupplied {T = Unit {0}} (Err why) ≡ Some refusal
+    → p1.status ≡ 0 → SuppliesBy {T = Unit {0}} Answers
+    (supply_of p1 out1) (supply_of p2 out2) [] l (bare_from d.queue_size m1 0) m1 m2 (Err why)
     → p2 ≡ record p1 { own = p2.own } → Honest m1 p1 d g → StepsOver (Honest m2 p2 d) Answers
     (supply_of p1 out1) (supply_of p2 out2) l g (Init wanted) (Refused refusal)
-init_unsupplied Answers out1 out2 l m1 m2 p1 p2 d g wanted why refusal is new did part stands =
-    search (arith, bare_is)
+init_unsupplied out1 out2 why is new did part stands = search (arith, bare_is)
 
 -- ---- the driver's answer
 
-pub given_up : (m1 m2 : Pages) (p1 p2 : Part) (d1 d2 : DriverState) (wanted : ℕ) (why : Refusal)
+pub given_up : {m1 m2 : Pages} {p1 p2 : Part} {d1 d2 : DriverState} (wanted : ℕ) (why : Refusal)
     → feature_refusal wanted ≡ Some why → InitRefused why m1 m2 p1 p2 d1 d2 wanted
     → GivesUp m1 m2 p1 p2 d1 d2 (accepted_before why wanted)
-given_up m1 m2 p1 p2 d1 d2 wanted why e did = grind arith
+given_up wanted why e did = grind arith
 
 pub driver_causes : (size : ℕ) (m : Pages) (p : Part) (wanted : ℕ) → p.status ≡ 0
     → has_frames size m ≡ true
@@ -158,14 +157,14 @@ record Leaves (m : Pages) (p1 p : Part) (d : DriverState) (g : Guest) (frames : 
   does : Negotiates (feature_refusal wanted) wanted (record g { frames = frames }) reply new
   kept : new.frames ≡ frames
 
-initialised : (m2 m3 : Pages) (p1 p3 : Part) (d1 d2 : DriverState) (g : Guest)
-    (frames : List (Option ℕ)) (wanted : ℕ) (result : Result (Unit {0}) Refusal)
+initialised : {m2 m3 : Pages} {p1 p3 : Part} {d1 d2 : DriverState}
+    {g : Guest} {frames : List (Option ℕ)} {wanted : ℕ} (result : Result (Unit {0}) Refusal)
     → HasPages m2 g.config.queue_size g.config.pages frames g.contents
     → ((p : ℕ) → is_start_page g.config.queue_size p ≡ true → IsSome (frame_at m2 p))
     → p1.status ≡ 0 → IsIdle g → HasParts (beside_queues p1) (beside_sides d1) (beside_requests g)
     → InitsBy m2 m3 p1 p3 d1 d2 wanted result
     → Leaves m3 p1 p3 d2 g frames wanted (ready_reply result)
-initialised m2 m3 p1 p3 d1 d2 g frames wanted (Ok x) has backed new idle parts did =
+initialised {m2} {p1} {d1} {g} {frames} {wanted} (Ok x) has backed new idle parts did =
     let fine : None ≡ feature_refusal wanted =
     did.refusal ∙ driver_causes d1.queue_size m2 p1 wanted new (has_all d1.queue_size m2
     (λ p start. backed p (subst (λ k. is_start_page k p ≡ true) parts.driver.queue_size start))) in
@@ -181,40 +180,41 @@ initialised m2 m3 p1 p3 d1 d2 g frames wanted (Ok x) has backed new idle parts d
         flag = ap (λ (p : Part). p.keeps) did.starts.part;
         numbers = ap (λ (p : Part). p.own) did.starts.part;
       };
-      ties = started m2 m3 p1 p3 d1 d2 g frames wanted has backed idle did.driver parts did.starts;
+      ties = started has backed idle did.driver parts did.starts;
       does = subst (λ (o : Option Refusal). Negotiates o wanted (record g { frames = frames }) Ready
           after) fine (refl, refl);
       kept = refl;
     }
-initialised m2 m3 p1 p3 d1 d2 g frames wanted (Err why) has backed new idle parts did =
+initialised {m2} {m3} {p1} {p3} {d1} {d2} {g} {frames} {wanted}
+    (Err why) has backed new idle parts did =
     let wrong : Some why ≡ feature_refusal wanted =
     did.refusal ∙ driver_causes d1.queue_size m2 p1 wanted new (has_all d1.queue_size m2
     (λ p start. backed p (subst (λ k. is_start_page k p ≡ true) parts.driver.queue_size start))) in
     let accepted = accepted_before why wanted in
     let after : Guest = record g { frames = frames; status = 131; features = accepted } in
-    let given : GivesUp m2 m3 p1 p3 d1 d2 accepted =
-    given_up m2 m3 p1 p3 d1 d2 wanted why (sym wrong) did.refused in
+    let given : GivesUp m2 m3 p1 p3 d1 d2 accepted = given_up wanted why (sym wrong) did.refused in
     record {
       new = after;
       same = record {
         flag = ap (λ (p : Part). p.keeps) given.part;
         numbers = ap (λ (p : Part). p.own) given.part;
       };
-      ties = stopped m2 m3 p1 p3 d1 d2 g frames accepted has idle parts given;
+      ties = stopped has idle parts given;
       does = subst (λ (o : Option Refusal). Negotiates o wanted (record g { frames = frames })
           (Refused why) after) wrong (refl, refl);
       kept = refl;
     }
 
-pub init_supplied : (Answers : List Bool → Claim → Type 0) (out1 out2 : List Bool) (l : List Claim)
-    (m1 m2 m3 : Pages) (p1 p2 p3 : Part) (d1 d2 : DriverState) (g : Guest) (wanted features : ℕ)
-    (result : Result (Unit {0}) Refusal) → features ≡ wanted
-    → p1.status ≡ 0 → SuppliesBy {T = Unit {0}} Answers (supply_of p1 out1) (supply_of p2 out2) [] l
-    (bare_from d1.queue_size m1 0) m1 m2 (Ok tt) → p2 ≡ record p1 { own = p2.own }
-    → InitsBy m2 m3 p2 p3 d1 d2 features result → Honest m1 p1 d1 g → StepsOver (Honest m3 p3 d2)
-    Answers (supply_of p1 out1) (supply_of p3 out2) l g (Init wanted) (ready_reply result)
-init_supplied Answers out1 out2 l m1 m2 m3 p1 p2 p3 d1 d2 g wanted features result named status did
-    part inits stands =
+pub init_supplied : {Answers : List Bool → Claim → Type 0}
+    (out1 out2 : List Bool) {l : List Claim} {m1 m2 m3 : Pages} {p1 p2 p3 : Part}
+    {d1 d2 : DriverState} {g : Guest} {wanted features : ℕ} {result : Result (Unit {0}) Refusal}
+    → features ≡ wanted → p1.status ≡ 0 → SuppliesBy {T = Unit {0}} Answers
+    (supply_of p1 out1) (supply_of p2 out2) [] l (bare_from d1.queue_size m1 0) m1 m2 (Ok tt)
+    → p2 ≡ record p1 { own = p2.own } → InitsBy m2 m3 p2 p3 d1 d2 features result
+    → Honest m1 p1 d1 g → StepsOver (Honest m3 p3 d2) Answers
+    (supply_of p1 out1) (supply_of p3 out2) l g (Init wanted) (ready_reply result)
+init_supplied {Answers} out1 out2 {l} {m1} {m2} {m3}
+    {p1} {p2} {p3} {d1} {d2} {g} {wanted} {features} {result} named status did part inits stands =
     let ties = stands.ties in
     let n = g.config.pages in
     let size = d1.queue_size in
@@ -222,15 +222,14 @@ init_supplied Answers out1 out2 l m1 m2 m3 p1 p2 p3 d1 d2 g wanted features resu
     let claims = did.claims in
     let frames : List (Option ℕ) = all_backed pages (given claims) g.frames in
     let new_status : g.status ≡ 0 = sym ties.parts.device.status ∙ status in
-    let idle = new_is_idle m1 p1 d1 g new_status stands in
+    let idle = new_is_idle new_status stands in
     let distinct = all_distinct (is_bare size m1) 0 (reserved_pages size - 0) in
     let below : (p : ℕ) → is_in p pages ≡ true
     → p < n = λ p there. (
     let low = bounded (is_bare size m1) 0 (reserved_pages size - 0) p there in
-    let many = large m1 p1 d1 g stands in
+    let many = large stands in
     omega (arith, reserved_most size, ties.pages.length_is)) in
-    let has = pages_filled g.config.queue_size n pages (given claims) m1 m2 g.frames g.contents distinct below
-    did.supplied.0 ties.pages in
+    let has = pages_filled pages (given claims) distinct below did.supplied.0 ties.pages in
     let same_size : size ≡ g.config.queue_size = ties.parts.driver.queue_size in
     let backed : (p : ℕ) → is_start_page g.config.queue_size p ≡ true → IsSome (frame_at m2 p) =
     λ p start. now_backed size m1 m2 (given claims) p did.supplied.0
@@ -239,13 +238,11 @@ init_supplied Answers out1 out2 l m1 m2 m3 p1 p2 p3 d1 d2 g wanted features resu
     let same : InitsBy m2 m3 between p3 d1 d2 wanted result =
     subst (λ (f : ℕ). InitsBy m2 m3 between p3 d1 d2 f result) named
     (subst (λ (p : Part). InitsBy m2 m3 p p3 d1 d2 features result) part inits) in
-    let left = initialised m2 m3 between p3 d1 d2 g frames wanted result has backed status idle
-    ties.parts same in
+    let left = initialised result has backed status idle ties.parts same in
     let reply = ready_reply result in
     let P : Option Refusal
-    → Type 0 = λ o. MatchOption o
-    (Negotiates (feature_refusal wanted) wanted (record g { frames = frames }) reply left.new)
-    (λ r. (reply ≡ Refused r) × (left.new ≡ g)) in
+    → Type 0 = λ o. MatchOption o (Negotiates (feature_refusal wanted) wanted
+    (record g { frames = frames }) reply left.new) (λ r. (reply ≡ Refused r) × (left.new ≡ g)) in
     let does : Supplying pages g claims reply left.new
     (λ supplied. Negotiates (feature_refusal wanted) wanted supplied reply left.new) =
     (did.made, subst P (sym did.answer) left.does) in
@@ -253,7 +250,7 @@ init_supplied Answers out1 out2 l m1 m2 m3 p1 p2 p3 d1 d2 g wanted features resu
     λ l. Supplying l g claims reply left.new
     (λ supplied. Negotiates (feature_refusal wanted) wanted supplied reply left.new) in
     let step = honest_performed g (Init wanted) claims reply left.new (new_test g wanted new_status)
-    (subst S (bare_is size m1 g same_size ties.pages.behind) does) in
+    (subst S (bare_is m1 g same_size ties.pages.behind) does) in
     let after : supply_of p3 out2 ≡ supply_of p2 out2 =
     ap (λ (k : Bool). record { keeps = k; own = p3.own; out = out2 })
     (left.same.flag ∙ sym (ap (λ (p : Part). p.keeps) part))
@@ -261,29 +258,25 @@ init_supplied Answers out1 out2 l m1 m2 m3 p1 p2 p3 d1 d2 g wanted features resu
     subst (λ (c : List Claim). StepsOver (Honest m3 p3 d2) Answers (supply_of p1 out1)
     (supply_of p3 out2) c g (Init wanted) (ready_reply result)) (sym did.noted) (record {
       new = left.new;
-      stands = still_stands m1 m3 p1 p3 d1 d2 g (Init wanted) claims reply left.new stands step
-          left.ties;
+      stands = still_stands (Init wanted) claims reply stands step left.ties;
       step = guest_step g (Init wanted) claims reply left.new ties.parts.guest.honest step;
       answered = did.answered;
       moves = subst (λ (s : Supply). Moves (supply_of p1 out1) s (λ n. backing_count n left.new)
-          (λ n. backing_count n g)) (sym after)
-          (moves_as (supply_of p1 out1) (supply_of p2 out2) (λ x. times x (given claims)) nothing
-          (λ n. backing_count n left.new) (λ n. backing_count n g) did.supplied.1
-          (λ x. omega (
+          (λ n. backing_count n g)) (sym after) (moves_as did.supplied.1 (λ x. omega (
             arith,
-            frames_filled x n pages claims m1 m2 g.frames did.answer did.made distinct below
-                did.supplied.0 (frames_of m1 g.config.queue_size n g.frames g.contents ties.pages),
+            frames_filled x pages claims m2 did.answer did.made distinct below
+                did.supplied.0 (frames_of ties.pages),
             ap (λ (l : List (Option ℕ)). count_by (is_frame x) l) left.kept,
           )));
     })
 
 -- memory is as large as it was
-pub still_large : (Answers : List Bool → Claim → Type 0) (s1 s2 : Supply) (l1 l2 : List Claim)
-    (m1 m2 : Pages) (p : Part) (d : DriverState) (g : Guest) → Honest m1 p d g
+pub still_large : {Answers : List Bool → Claim → Type 0} {s1 s2 : Supply}
+    {l1 l2 : List Claim} {m1 m2 : Pages} {p : Part} {d : DriverState} {g : Guest} → Honest m1 p d g
     → SuppliesBy {T = Unit {0}} Answers s1 s2 l1 l2 (bare_from d.queue_size m1 0) m1 m2 (Ok tt)
     → 64 ≤ length m2
-still_large Answers s1 s2 l1 l2 m1 m2 p d g stands did = grind (
+still_large {m1} {m2} {d} stands did = grind (
   arith,
-  large m1 p d g stands,
+  large stands,
   supplied_count (bare_from d.queue_size m1 0) (given did.claims) m1 m2 did.supplied.0,
 )

@@ -6,7 +6,7 @@ use Rattle.vb_model.specs.declared.layout.TheConstants.{INFLATE_QUEUE, DEFLATE_Q
 use Rattle.vb_model.specs.declared.replies.Refusal.TheVariants.{NoQueue, NotReady, NeedsReset}
 use Rattle.vb_model.specs.declared.replies.Refusal.TheVariants.{NotTaken, NotWorked, Broken}
 use Rattle.vb_model.specs.declared.layout.TheConstants.{STATISTICS_QUEUE, REPORT_QUEUE}
-use Rattle.vb_model.{specs.declared.replies.Refusal.TheVariants.RingBroken, specs.Device.visiting}
+use Rattle.vb_model.specs.declared.replies.Refusal.TheVariants.{RingBroken}
 use Rattle.vb_model.{specs.declared.replies.Refusal.Refusal, specs.Requests.Request}
 use Rattle.vb_model.{specs.Refusals.{◌⇒◌, first_refusal}, specs.Tests.flagged}
 use Rattle.vb_model.specs.Tables.{is_queue_of_requests, is_not_ready, has_fault, has_unvisited}
@@ -15,8 +15,8 @@ use Rattle.vb_driver.specs.Calls.{InflatesBy, DeflatesBy, DeflatesOnOomBy, Reaps
 use Rattle.vb_driver.{specs.Calls.{ReportsBy, FillsBy}, specs.State.DriverState}
 use Rattle.vb_driver.{specs.declared.answers.Posted.Posted, specs.declared.answers.Reaped.Reaped}
 use Rattle.vb_device.specs.Conditions.{work_refusal, finish_refusal, sweep_refusal, ask_refusal}
-use Rattle.vb_device.specs.Calls.{TakesBy, TakeMeans, taking, noting, next_visit, Visits, WorksBy}
-use Rattle.vb_device.{specs.Conditions.taken_at, specs.Queues.{queue_part, with_queue}}
+use Rattle.vb_device.specs.Calls.{TakesBy, TakeMeans, noting, next_visit, Visits, WorksBy}
+use Rattle.vb_device.specs.{Conditions.taken_at, Queues.with_queue}
 use Rattle.vb_device.specs.Calls.{FinishesBy, settled, using, SweepsBy, AsksBy}
 use Rattle.vb_device.specs.declared.worked.Worked.{Worked}
 
@@ -25,42 +25,46 @@ pub record SameOwn (p1 p2 : Part) : Type 0 where
   pub flag : p2.keeps ≡ p1.keeps
   pub numbers : p2.own ≡ p1.own
 
-pub as_it_was : (p1 p2 : Part) → p2 ≡ p1 → SameOwn p1 p2
-as_it_was p1 p2 e =
-    record { flag = ap (λ (p : Part). p.keeps) e; numbers = ap (λ (p : Part). p.own) e }
+-- where it is a part that says of them what the first one says
+pub owns_as : {p1 p2 p : Part} → p2 ≡ p → p.keeps ≡ p1.keeps → p.own ≡ p1.own → SameOwn p1 p2
+owns_as e flag numbers = record {
+  flag = ap (λ (p : Part). p.keeps) e ∙ flag;
+  numbers = ap (λ (p : Part). p.own) e ∙ numbers;
+}
 
-same_then : (p1 p2 p3 : Part) → SameOwn p1 p2 → SameOwn p2 p3 → SameOwn p1 p3
-same_then p1 p2 p3 first second =
+pub as_it_was : {p1 p2 : Part} → p2 ≡ p1 → SameOwn p1 p2
+as_it_was e = owns_as e refl refl
+
+same_then : {p1 p2 p3 : Part} → SameOwn p1 p2 → SameOwn p2 p3 → SameOwn p1 p3
+same_then first second =
     record { flag = second.flag ∙ first.flag; numbers = second.numbers ∙ first.numbers }
 
 -- ---- the driver's calls
 
-pub inflate_kept : (m1 m2 : Pages) (p1 p2 : Part) (d1 d2 : DriverState) (n : ℕ)
-    (result : Result Posted Refusal) → InflatesBy m1 m2 p1 p2 d1 d2 n result → SameOwn p1 p2
-inflate_kept m1 m2 p1 p2 d1 d2 n (Ok posted) did = as_it_was p1 p2 did.offers.part
-inflate_kept m1 m2 p1 p2 d1 d2 n (Err why) did = as_it_was p1 p2 did.refused.part
+pub inflate_kept : {m1 m2 : Pages} {p1 p2 : Part} {d1 d2 : DriverState}
+    {n : ℕ} (result : Result Posted Refusal) → InflatesBy m1 m2 p1 p2 d1 d2 n result → SameOwn p1 p2
+inflate_kept (Ok posted) did = as_it_was did.offers.part
+inflate_kept (Err why) did = as_it_was did.refused.part
 
-pub deflate_kept : (m1 m2 : Pages) (p1 p2 : Part) (d1 d2 : DriverState) (n : ℕ)
-    (result : Result Posted Refusal) → DeflatesBy m1 m2 p1 p2 d1 d2 n result → SameOwn p1 p2
-deflate_kept m1 m2 p1 p2 d1 d2 n (Ok posted) did = as_it_was p1 p2 did.asks.part
-deflate_kept m1 m2 p1 p2 d1 d2 n (Err why) did = as_it_was p1 p2 did.refused.part
+pub deflate_kept : {m1 m2 : Pages} {p1 p2 : Part} {d1 d2 : DriverState}
+    {n : ℕ} (result : Result Posted Refusal) → DeflatesBy m1 m2 p1 p2 d1 d2 n result → SameOwn p1 p2
+deflate_kept (Ok posted) did = as_it_was did.asks.part
+deflate_kept (Err why) did = as_it_was did.refused.part
 
-pub oom_kept : (m1 m2 : Pages) (p1 p2 : Part) (d1 d2 : DriverState) (n : ℕ)
+pub oom_kept : {m1 m2 : Pages} {p1 p2 : Part} {d1 d2 : DriverState} {n : ℕ}
     (result : Result Posted Refusal) → DeflatesOnOomBy m1 m2 p1 p2 d1 d2 n result → SameOwn p1 p2
-oom_kept m1 m2 p1 p2 d1 d2 n (Ok posted) did = as_it_was p1 p2 did.asks.part
-oom_kept m1 m2 p1 p2 d1 d2 n (Err why) did = as_it_was p1 p2 did.refused.part
+oom_kept (Ok posted) did = as_it_was did.asks.part
+oom_kept (Err why) did = as_it_was did.refused.part
 
 after_kept : (why : Refusal) (p : Part) → SameOwn p (after_refusal why p)
 after_kept RingBroken p = record { flag = refl; numbers = refl }
 after_kept _ p = record { flag = refl; numbers = refl }
 
-pub reap_kept : (m1 m2 : Pages) (p1 p2 : Part) (d1 d2 : DriverState) (q : ℕ)
+pub reap_kept : {m1 m2 : Pages} {p1 p2 : Part} {d1 d2 : DriverState} {q : ℕ}
     (result : Result (Option Reaped) Refusal) → ReapsBy m1 m2 p1 p2 d1 d2 q result → SameOwn p1 p2
-reap_kept m1 m2 p1 p2 d1 d2 q (Ok None) did = as_it_was p1 p2 did.reaps.0
-reap_kept m1 m2 p1 p2 d1 d2 q (Ok (Some reaped)) did = let part = did.reaps.part in
-    record { flag = ap (λ (p : Part). p.keeps) part; numbers = ap (λ (p : Part). p.own) part }
-reap_kept m1 m2 p1 p2 d1 d2 q (Err why) did = same_then p1
-    (after_refusal why p1) p2 (after_kept why p1) (as_it_was (after_refusal why p1) p2 did.failed)
+reap_kept (Ok None) did = as_it_was did.reaps.0
+reap_kept (Ok (Some reaped)) did = owns_as did.reaps.part refl refl
+reap_kept {p1} (Err why) did = same_then (after_kept why p1) (as_it_was did.failed)
 
 -- ---- the device's calls
 
@@ -82,25 +86,16 @@ settled_kept q pages p = by (q == INFLATE_QUEUE) (q == DEFLATE_QUEUE) where
   by false true = record { flag = refl; numbers = refl }
   by false false = record { flag = refl; numbers = refl }
 
--- the loose frames are none of the device's own
-loose_kept : (p1 p2 : Part) → p2 ≡ record p1 { loose = p2.loose } → SameOwn p1 p2
-loose_kept p1 p2 e =
-    record { flag = ap (λ (p : Part). p.keeps) e; numbers = ap (λ (p : Part). p.own) e }
-
-pub take_kept : (q : ℕ) (m1 m2 : Pages) (p1 p2 : Part) (result : Result (Option ℕ) Refusal)
+pub take_kept : {q : ℕ} {m1 m2 : Pages} {p1 p2 : Part} {result : Result (Option ℕ) Refusal}
     → TakesBy q m1 m2 p1 p2 result → SameOwn p1 p2
-take_kept q m1 m2 p1 p2 result did = by result did.means where
+take_kept {q} {m1} {p1} {p2} {result} did = by result did.means where
   by : (r : Result (Option ℕ) Refusal) → TakeMeans q m1 p1 p2 r → SameOwn p1 p2
-  by (Ok None) means = as_it_was p1 p2 means.1
+  by (Ok None) means = as_it_was means.1
   by (Ok (Some h)) means = let noted = noting q m1 means.1.1.pieces p1 in
-      let after = taking q h means.1.0 noted in
-      same_then p1 after p2 (same_then p1 noted after (record { flag = refl; numbers = refl })
-      (queue_kept q _ noted)) (as_it_was after p2 means.1.2)
-  by (Err (Broken rule)) means = record {
-    flag = ap (λ (p : Part). p.keeps) means.1;
-    numbers = ap (λ (p : Part). p.own) means.1;
-  }
-  by (Err why) means = as_it_was p1 p2 means.1
+      same_then (same_then (record { flag = refl; numbers = refl })
+      (queue_kept q _ noted)) (as_it_was means.1.2)
+  by (Err (Broken rule)) means = owns_as means.1 refl refl
+  by (Err why) means = as_it_was means.1
 
 -- a finish that isn't refused is one of a taken request
 pub there_is : (a b c d : Bool) (o : Option Request)
@@ -112,65 +107,57 @@ there_is false false true d o e = absurd cc
 there_is false false false d None e = absurd cc
 there_is false false false d (Some r) e = (r, refl)
 
-pub finish_kept : (q i : ℕ) (m1 m2 : Pages) (p1 p2 : Part) (result : Result ℕ Refusal)
+pub finish_kept : {q i : ℕ} {m1 m2 : Pages} {p1 p2 : Part} {result : Result ℕ Refusal}
     → FinishesBy q i m1 m2 p1 p2 result → SameOwn p1 p2
-finish_kept q i m1 m2 p1 p2 result did = by (finish_refusal q i p1) refl where
+finish_kept {q} {i} {p1} {p2} did = by (finish_refusal q i p1) refl where
   by : (o : Option Refusal) → finish_refusal q i p1 ≡ o → SameOwn p1 p2
-  by (Some why) e = as_it_was p1 p2 (did.refused why e).1
+  by (Some why) e = as_it_was (did.refused why e).1
   by None e =
       let (r, at) = there_is (not (is_queue_of_requests q)) (is_not_ready p1.status)
       (has_fault p1.status) (p1.paced && not
       (q == DEFLATE_QUEUE) && has_unvisited (taken_at q i p1)) (taken_at q i p1) e in
-      let after = settled q r.pages (using q i p1) in
-      same_then p1 after p2 (same_then p1 (using q i p1) after (queue_kept q _ p1)
-      (settled_kept q r.pages (using q i p1))) (loose_kept after p2 (did.finished r e at).part)
+      same_then (same_then (queue_kept q _ p1)
+      (settled_kept q r.pages (using q i p1))) (owns_as (did.finished r e at).part refl refl)
 
-pub sweep_kept : (page : ℕ) (m1 m2 : Pages) (p1 p2 : Part) (result : Result Bool Refusal)
+pub sweep_kept : {page : ℕ} {m1 m2 : Pages} {p1 p2 : Part} {result : Result Bool Refusal}
     → SweepsBy page m1 m2 p1 p2 result → SameOwn p1 p2
-sweep_kept page m1 m2 p1 p2 result did = by (sweep_refusal page p1) refl where
+sweep_kept {page} {p1} {p2} did = by (sweep_refusal page p1) refl where
   by : (o : Option Refusal) → sweep_refusal page p1 ≡ o → SameOwn p1 p2
-  by (Some why) e = as_it_was p1 p2 (did.refused why e).1
-  by None e = loose_kept p1 p2 (did.part e)
+  by (Some why) e = as_it_was (did.refused why e).1
+  by None e = owns_as (did.part e) refl refl
 
-visit_kept : (q page : ℕ) (m1 m2 : Pages) (p1 p2 : Part) (result : Result (Option Worked) Refusal)
+visit_kept : {q page : ℕ} {m1 m2 : Pages} {p1 p2 : Part} {result : Result (Option Worked) Refusal}
     → Visits q page m1 m2 p1 p2 result → SameOwn p1 p2
-visit_kept q page m1 m2 p1 p2 result did =
-    let after = with_queue q
-    (record (queue_part q p1) { taken = visiting (queue_part q p1).taken }) p1 in
-    same_then p1 after p2 (queue_kept q _ p1) (loose_kept after p2 did.part)
+visit_kept {q} {p1} did = same_then (queue_kept q _ p1) (owns_as did.part refl refl)
 
-pub work_kept : (m1 m2 : Pages) (p1 p2 : Part) (result : Result (Option Worked) Refusal)
+pub work_kept : {m1 m2 : Pages} {p1 p2 : Part} {result : Result (Option Worked) Refusal}
     → WorksBy m1 m2 p1 p2 result → SameOwn p1 p2
-work_kept m1 m2 p1 p2 result did =
+work_kept {p1} {p2} did =
     by (work_refusal p1) (next_visit INFLATE_QUEUE p1) (next_visit REPORT_QUEUE p1) refl refl refl
   where
     by : (o : Option Refusal) (first second : Option ℕ) → work_refusal p1 ≡ o
         → next_visit INFLATE_QUEUE p1 ≡ first → next_visit REPORT_QUEUE p1 ≡ second → SameOwn p1 p2
-    by (Some why) first second e is other = as_it_was p1 p2 (did.refused why e).1
-    by None None None e is other = as_it_was p1 p2 (did.idle e is other).1
-    by None (Some page) second e is other =
-        visit_kept INFLATE_QUEUE page m1 m2 p1 p2 result (did.inflate page e is)
-    by None None (Some page) e is other =
-        visit_kept REPORT_QUEUE page m1 m2 p1 p2 result (did.report page e is other)
+    by (Some why) first second e is other = as_it_was (did.refused why e).1
+    by None None None e is other = as_it_was (did.idle e is other).1
+    by None (Some page) second e is other = visit_kept (did.inflate page e is)
+    by None None (Some page) e is other = visit_kept (did.report page e is other)
 
 -- ---- statistics and reports
 
-pub report_kept : (m1 m2 : Pages) (p1 p2 : Part) (d1 d2 : DriverState) (from : ℕ)
+pub report_kept : {m1 m2 : Pages} {p1 p2 : Part} {d1 d2 : DriverState} {from : ℕ}
     (result : Result Posted Refusal) → ReportsBy m1 m2 p1 p2 d1 d2 from result → SameOwn p1 p2
-report_kept m1 m2 p1 p2 d1 d2 from (Ok posted) did = as_it_was p1 p2 did.reports.part
-report_kept m1 m2 p1 p2 d1 d2 from (Err why) did = as_it_was p1 p2 did.refused.part
+report_kept (Ok posted) did = as_it_was did.reports.part
+report_kept (Err why) did = as_it_was did.refused.part
 
-pub stats_kept : (m1 m2 : Pages) (p1 p2 : Part) (d1 d2 : DriverState) (result : Result Bool Refusal)
+pub stats_kept : {m1 m2 : Pages} {p1 p2 : Part} {d1 d2 : DriverState} (result : Result Bool Refusal)
     → FillsBy m1 m2 p1 p2 d1 d2 result → SameOwn p1 p2
-stats_kept m1 m2 p1 p2 d1 d2 (Ok true) did = as_it_was p1 p2 did.fills.part
-stats_kept m1 m2 p1 p2 d1 d2 (Ok false) did = as_it_was p1 p2 did.fills.unchanged.part
-stats_kept m1 m2 p1 p2 d1 d2 (Err why) did = same_then p1 (after_refusal why p1) p2
-    (after_kept why p1) (as_it_was (after_refusal why p1) p2 did.refused.part)
+stats_kept (Ok true) did = as_it_was did.fills.part
+stats_kept (Ok false) did = as_it_was did.fills.unchanged.part
+stats_kept {p1} (Err why) did = same_then (after_kept why p1) (as_it_was did.refused.part)
 
-pub ask_kept : {T : Type 0} (m1 m2 : Pages) (p1 p2 : Part) (result : Result T Refusal)
+pub ask_kept : {T : Type 0} {m1 m2 : Pages} {p1 p2 : Part} {result : Result T Refusal}
     → AsksBy m1 m2 p1 p2 result → SameOwn p1 p2
-ask_kept m1 m2 p1 p2 result did = by (ask_refusal p1) refl where
+ask_kept {p1} {p2} did = by (ask_refusal p1) refl where
   by : (o : Option Refusal) → ask_refusal p1 ≡ o → SameOwn p1 p2
-  by (Some why) e = as_it_was p1 p2 (did.refused why e).1
-  by None e = let after = using STATISTICS_QUEUE 0 p1 in
-      same_then p1 after p2 (queue_kept STATISTICS_QUEUE _ p1) (as_it_was after p2 (did.part e))
+  by (Some why) e = as_it_was (did.refused why e).1
+  by None e = same_then (queue_kept STATISTICS_QUEUE _ p1) (as_it_was (did.part e))

@@ -37,17 +37,17 @@ abbrev pub LineOf : Kind → Pages → Part → DriverState → Guest → Type 0
 LineOf kind m p d g =
     LineWith kind m d g.config.pages (queue_part (queue_of kind) p) (requests kind g)
 
-pub line_of : (kind : Kind) (m : Pages) (p : Part) (d : DriverState) (g : Guest)
+pub line_of : (kind : Kind) {m : Pages} {p : Part} {d : DriverState} {g : Guest}
     → IsRunning m p d g → LineOf kind m p d g
-line_of Inflating m p d g run = run.inflate
-line_of Deflating m p d g run = run.deflate
-line_of Reporting_free m p d g run = run.report
+line_of Inflating run = run.inflate
+line_of Deflating run = run.deflate
+line_of Reporting_free run = run.report
 
-pub size_of : (kind : Kind) (m : Pages) (p : Part) (d : DriverState) (g : Guest)
+pub size_of : (kind : Kind) {m : Pages} {p : Part} {d : DriverState} {g : Guest}
     → IsRunning m p d g → (ring_of (queue_of kind) d).size ≡ g.config.queue_size
-size_of Inflating m p d g run = run.inflate_size
-size_of Deflating m p d g run = run.deflate_size
-size_of Reporting_free m p d g run = run.report_size
+size_of Inflating run = run.inflate_size
+size_of Deflating run = run.deflate_size
+size_of Reporting_free run = run.report_size
 
 pub ignores : (kind : Kind) (d : DriverState) (n : ℕ) → IgnoresVisits (Knows kind d n)
 ignores Inflating d n r k is = assumption
@@ -55,11 +55,11 @@ ignores Deflating d n r k is = assumption
 ignores Reporting_free d n r k is = assumption
 
 -- the pages of a request are the guest's, and none of them is reserved
-pub own_pages_of : (kind : Kind) (d : DriverState) (n : ℕ) (r : Request) → Knows kind d n r
-    → IsOwnRequest (ring_of (queue_of kind) d).size n r
-own_pages_of Inflating d n r is = record { above = is.pages.above; below = is.pages.below }
-own_pages_of Deflating d n r is = record { above = is.pages.above; below = is.pages.below }
-own_pages_of Reporting_free d n r is = let size = d.report.ring.size in
+pub own_pages_of : (kind : Kind) (d : DriverState) {n : ℕ} {r : Request}
+    → Knows kind d n r → IsOwnRequest (ring_of (queue_of kind) d).size n r
+own_pages_of Inflating d is = record { above = is.pages.above; below = is.pages.below }
+own_pages_of Deflating d is = record { above = is.pages.above; below = is.pages.below }
+own_pages_of Reporting_free d {n} is = let size = d.report.ring.size in
     let own = own_pages size n d.report.blocks is.blocks_are in record {
       above = subst (All (λ page. reserved_pages size ≤ page)) (sym is.names) own.0;
       below = subst (All (λ page. page < n)) (sym is.names) own.1;
@@ -82,11 +82,11 @@ same_frames Deflating rs g = refl
 same_frames Reporting_free rs g = refl
 
 -- the queue of this kind has other requests now
-pub ties_with : (kind : Kind) (m : Pages) (p : Part) (d : DriverState) (g : Guest) (part : QueuePart)
-    (rs : Requests) → Ties m p d g → IsRunning m p d g
-    → LineWith kind m d g.config.pages part rs
+pub ties_with : (kind : Kind)
+    {m : Pages} {p : Part} {d : DriverState} {g : Guest} (part : QueuePart) (rs : Requests)
+    → Ties m p d g → IsRunning m p d g → LineWith kind m d g.config.pages part rs
     → Ties m (with_queue (queue_of kind) part p) d (with_requests kind rs g)
-ties_with Inflating m p d g part rs ties run line =
+ties_with Inflating part rs ties run line =
     record { parts = ties.parts; pages = ties.pages; queues = inr assumption }
-ties_with kind m p d g part rs ties run line =
+ties_with kind part rs ties run line =
     record { parts = ties.parts; pages = ties.pages; queues = inr assumption }

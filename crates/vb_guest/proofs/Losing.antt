@@ -12,12 +12,12 @@ use Rattle.vb_guest.proofs.{Closing.{still_stands, guest_step}, Handing.{handed_
 use Rattle.vb_guest.specs.Stands.{Honest, Ties, HasPages}
 
 -- pages lose their frames, and no other
-pub frames_lost : (m : Pages) (loose : List ℕ) (g new : Guest) (pages : List ℕ)
+pub frames_lost : {m : Pages} (loose : List ℕ) (g new : Guest) (pages : List ℕ)
     → HasPages m g.config.queue_size g.config.pages g.frames g.contents
     → new.frames ≡ with_entry pages None g.frames → SameFrames loose (frames_behind m pages)
     → AllDistinct pages → All (λ page. page < g.config.pages) pages
     → (k : ℕ) → times k loose + backing_count k new ≡ backing_count k g
-frames_lost m loose g new pages has lost same distinct below k =
+frames_lost {m} loose g new pages has lost same distinct below k =
     let F : ℕ → Type 0 = λ k. All (λ page. page < k) pages in omega (
       arith,
       same k,
@@ -26,16 +26,16 @@ frames_lost m loose g new pages has lost same distinct below k =
       ap (count_by (is_frame k)) lost,
     )
 
-pub steps_losing : (m1 m2 : Pages) (p1 p2 : Part) (d : DriverState) (g new : Guest) (call : Call)
-    (reply : Reply) (pages : List ℕ) → Honest m1 p1 d g → HonestStep g call [] reply new
-    → Ties m2 (handed_back p2) d new → new.frames ≡ with_entry pages None g.frames
-    → SameFrames p2.loose (frames_behind m1 pages) → AllDistinct pages
-    → All (λ page. page < g.config.pages) pages
+pub steps_losing : {m1 m2 : Pages} {p1 : Part}
+    (p2 : Part) {d : DriverState} {g new : Guest} {call : Call} {reply : Reply} (pages : List ℕ)
+    → Honest m1 p1 d g → HonestStep g call [] reply new → Ties m2 (handed_back p2) d new
+    → new.frames ≡ with_entry pages None g.frames → SameFrames p2.loose (frames_behind m1 pages)
+    → AllDistinct pages → All (λ page. page < g.config.pages) pages
     → StepsFreeing (Honest m2 (handed_back p2) d) p2.loose g call reply
-steps_losing m1 m2 p1 p2 d g new call reply pages stands step ties lost loose distinct below =
+steps_losing p2 {g} {new} {call} {reply} pages stands step ties lost loose distinct below =
     record {
       new = new;
-      stands = still_stands m1 m2 p1 (handed_back p2) d d g call [] reply new stands step ties;
+      stands = still_stands call [] reply stands step ties;
       step = guest_step g call [] reply new stands.ties.parts.guest.honest step;
-      freed = frames_lost m1 p2.loose g new pages stands.ties.pages lost loose distinct below;
+      freed = frames_lost p2.loose g new pages stands.ties.pages lost loose distinct below;
     }

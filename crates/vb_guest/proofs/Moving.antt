@@ -27,14 +27,14 @@ times_one k n = omega (arith, times_first k n [])
 
 -- ---- moves one after the other
 
-pub moves_then : (s1 s2 s3 : Supply) (a b c d : ℕ → ℕ) → Moves s1 s2 a b → Moves s2 s3 c d
-    → Moves s1 s3 (λ n. a n + c n) (λ n. b n + d n)
-moves_then s1 s2 s3 a b c d first second = grind arith
+pub moves_then : {s1 s2 s3 : Supply} {a b c d : ℕ → ℕ}
+    → Moves s1 s2 a b → Moves s2 s3 c d → Moves s1 s3 (λ n. a n + c n) (λ n. b n + d n)
+moves_then first second = grind arith
 
 -- as much more gained as lost
-pub moves_as : (s1 s2 : Supply) (a b c d : ℕ → ℕ) → Moves s1 s2 a b
-    → ((n : ℕ) → c n + b n ≡ a n + d n) → Moves s1 s2 c d
-moves_as s1 s2 a b c d moves same = grind arith
+pub moves_as : {s1 s2 : Supply} {a b c d : ℕ → ℕ}
+    → Moves s1 s2 a b → ((n : ℕ) → c n + b n ≡ a n + d n) → Moves s1 s2 c d
+moves_as moves same = grind arith
 
 -- ---- one frame of the keeper's
 
@@ -52,10 +52,10 @@ has_less : (n k : ℕ) (own : List ℕ) → has own n ≡ true
     → one_if (has (without own n) k) + one_if (n == k) ≡ one_if (has own k)
 has_less n k own is = grind (arith, has_gone, has_other)
 
-pub own_back : (p1 p2 : Part) (out1 out2 : List Bool) (n : ℕ) → p1.keeps ≡ true
+pub own_back : (p1 : Part) {p2 : Part} {out1 out2 : List Bool} (n : ℕ) → p1.keeps ≡ true
     → has p1.own n ≡ true → SameSet p2.own (without p1.own n) → p2 ≡ record p1 { own = p2.own }
     → out2 ≡ out1 → Moves (supply_of p1 out1) (supply_of p2 out2) nothing (λ k. times k (n ∷ []))
-own_back p1 p2 out1 out2 n keeps is now same kept = grind (arith, has_less)
+own_back p1 n keeps is now same kept = grind (arith, has_less)
 
 -- ---- loose frames
 
@@ -65,13 +65,14 @@ pub loose_is_used : (n : ℕ) (loose rest : List ℕ) (s : Supply)
 loose_is_used n loose rest s same held = grind (arith, times_first n n rest)
 
 -- a frame that the device took back was one of its own
-pub kept_back : (p1 p2 : Part) (out : List Bool) (n : ℕ) → (p1.keeps ≡ false → p1.own ≡ [])
+pub kept_back : (p1 : Part) {p2 : Part} (out : List Bool) (n : ℕ) → (p1.keeps ≡ false → p1.own ≡ [])
     → has p1.own n ≡ true → SameSet p2.own (without p1.own n) → p2 ≡ record p1 { own = p2.own }
     → Moves (supply_of p1 out) (supply_of p2 out) nothing (λ k. times k (n ∷ []))
-kept_back p1 p2 out n none is now same = elim (cases_Bool p1.keeps) [
-  | inl keeps ↦ own_back p1 p2 out out n keeps is now same refl
+kept_back p1 out n none is now same = elim (cases_Bool p1.keeps) [
+  | inl keeps ↦ own_back p1 n keeps is now same refl
   | inr not_kept ↦
-      absurd (let wrong : false ≡ true = ap (λ (own : List ℕ). has own n) (sym (none not_kept)) ∙ is in
+      absurd
+      (let wrong : false ≡ true = ap (λ (own : List ℕ). has own n) (sym (none not_kept)) ∙ is in
       cc)
 ]
 

@@ -31,9 +31,9 @@ record IsKept (sent : List (List ℕ)) (r : Request) : Type 0 where
   few : r.head < length sent
   remembered : get_or sent r.head [] ≡ r.pages
 
-not_again : (h : ℕ) (r : Request) (rest : List Request) → headed h (r ∷ rest) ≤ 1 → r.head ≡ h
-    → headed h rest ≡ 0
-not_again h r rest once e = grind (arith, headed-cons h r rest)
+not_again : {h : ℕ} (r : Request) (rest : List Request)
+    → headed h (r ∷ rest) ≤ 1 → r.head ≡ h → headed h rest ≡ 0
+not_again {h} r rest once e = grind (arith, headed-cons h r rest)
 
 headed_some : (k : ℕ) (rs : List Request) (d : Request) → k < length rs
     → headed (slice_index_or rs k d).head rs ≡ 0 → ⊥
@@ -46,9 +46,9 @@ headed_some (suc k) (r ∷ rs) d lt none = grind (
       (omega arith) (omega (arith, none, headed-cons (slice_index_or rs k d).head r rs)),
 )
 
-named_sent : (sent : List (List ℕ)) (rs : List Request) → ((h : ℕ) → headed h rs ≤ 1)
-    → ((h : ℕ) → headed h rs ≡ 0 → get_or sent h [] ≡ []) → All (IsKept sent) rs
-    → count_all sent ≡ pages_named rs
+named_sent : (sent : List (List ℕ)) (rs : List Request)
+    → ((h : ℕ) → headed h rs ≤ 1) → ((h : ℕ) → headed h rs ≡ 0 → get_or sent h [] ≡ [])
+    → All (IsKept sent) rs → count_all sent ≡ pages_named rs
 named_sent sent [] once none kept = nothing_sent sent (λ h. none h refl)
 named_sent sent (r ∷ rest) once none kept = let first : IsKept sent r = kept 0 r (omega arith) in
     let fewer = named_sent (slice_set sent r.head []) rest
@@ -71,7 +71,7 @@ named_sent sent (r ∷ rest) once none kept = let first : IsKept sent r = kept 0
     still_kept k d lt one = record {
       few = omega (arith, one.few, length-set sent r.head []);
       remembered = get_or-set_other sent r.head (slice_index_or rest k d).head [] []
-          (λ e. headed_some k rest d lt (not_again (slice_index_or rest k d).head r rest
+          (λ e. headed_some k rest d lt (not_again r rest
           (once (slice_index_or rest k d).head) (sym e))) ∙ one.remembered;
     }
 
@@ -85,17 +85,16 @@ out_as_often : (b : Bool) → one_if b ≡ 0 → b ≡ false
 out_as_often true e = absurd (omega arith)
 out_as_often false e = refl
 
-pub line_named : (mem : Pages) (q n : ℕ) (side : RequestSide) (part : QueuePart) (rs : Requests)
+pub line_named : (mem : Pages) (q n : ℕ) {side : RequestSide} (part : QueuePart) (rs : Requests)
     → Line mem q n side part rs → AreRequests side → pages_sent side ≡ pages_named (all_requests rs)
-line_named mem q n side part rs line out = named_sent side.sent (all_requests rs) (λ h. omega (
+line_named mem q n {side} part rs line out = named_sent side.sent (all_requests rs) (λ h. omega (
   arith,
   headed_once mem q side.ring part rs h line.ring,
   at_most_one (is_head side.ring.owner h),
 )) (λ h none. out.unsent h (out_as_often (is_head side.ring.owner h)
-    (sym (headed_once mem q side.ring part rs h line.ring) ∙ none)))
-    (all_both (IsKept side.sent) rs.posted (rs.taken ++ rs.done) (kept rs.posted line.posted)
-    (all_both (IsKept side.sent) rs.taken rs.done (kept rs.taken line.taken)
-    (kept rs.done line.done)))
+    (sym (headed_once mem q side.ring part rs h line.ring) ∙ none))) (all_both
+    (IsKept side.sent) rs.posted (rs.taken ++ rs.done) (kept rs.posted line.posted) (all_both
+    (IsKept side.sent) rs.taken rs.done (kept rs.taken line.taken) (kept rs.done line.done)))
   where
     kept : (xs : List Request) → All (IsRequest side.ring.size n side.sent) xs
         → All (IsKept side.sent) xs

@@ -44,15 +44,15 @@ lent_high place e = grind arith
 
 -- ---- the pages of a request
 
-pub last_sound : (rs : List Request) (r : Request) → AllRequestsSound (rs ++ r ∷ [])
-    → IsRequestSound r
-last_sound [] r all = all.0
-last_sound (x ∷ rs) r all = last_sound rs r all.1
+pub last_sound : (rs : List Request) {r : Request}
+    → AllRequestsSound (rs ++ r ∷ []) → IsRequestSound r
+last_sound [] all = all.0
+last_sound (x ∷ rs) all = last_sound rs all.1
 
 -- by the size of the queue's own ring
-pub asked_as : (k : ℕ) (g : Guest) (pages : List ℕ) → k ≡ g.config.queue_size
+pub asked_as : {k : ℕ} (g : Guest) {pages : List ℕ} → k ≡ g.config.queue_size
     → AreRequested g.config.queue_size g.config.pages pages → AreRequested k g.config.pages pages
-asked_as k g pages same asked =
+asked_as g {pages} same asked =
     subst (λ (s : ℕ). AreRequested s g.config.pages pages) (sym same) asked
 
 -- the pages of an inflate, and those of a deflate

@@ -16,12 +16,13 @@ use Rattle.vb_guest.{specs.Reported.IsOwnBlock, proofs.Offered.high_page}
 
 -- ---- the pages in a guest's blocks
 
-pages_high : (descriptors n : ℕ) (b : Block) → IsOwnBlock descriptors n b
-    → All (λ page. reserved_pages descriptors ≤ page) (pages_of b)
-pages_high descriptors n b is k d lt = grind (arith, length-range_with_len, get_or-range_with_len)
+pages_high : {descriptors n : ℕ} {b : Block}
+    → IsOwnBlock descriptors n b → All (λ page. reserved_pages descriptors ≤ page) (pages_of b)
+pages_high is k d lt = grind (arith, length-range_with_len, get_or-range_with_len)
 
-pages_low : (descriptors n : ℕ) (b : Block) → IsOwnBlock descriptors n b → All (λ page. page < n) (pages_of b)
-pages_low descriptors n b is k d lt = grind (arith, length-range_with_len, get_or-range_with_len)
+pages_low : {descriptors n : ℕ} {b : Block}
+    → IsOwnBlock descriptors n b → All (λ page. page < n) (pages_of b)
+pages_low is k d lt = grind (arith, length-range_with_len, get_or-range_with_len)
 
 -- they are unreserved pages of the guest
 pub own_pages : (size n : ℕ) (blocks : List Block) → All (IsOwnBlock size n) blocks
@@ -31,8 +32,8 @@ own_pages size n [] own = (All-nil (λ page. reserved_pages size ≤ page), All-
 own_pages size n (b ∷ bs) own = let first : IsOwnBlock size n b = own 0 b (omega arith) in
     let rest = own_pages size n bs (All-tail (IsOwnBlock size n) b bs own) in (
       All-append (λ page. reserved_pages size ≤ page) (pages_of b) (pages_of_all bs)
-          (pages_high size n b first) rest.0,
-      All-append (λ page. page < n) (pages_of b) (pages_of_all bs) (pages_low size n b first) rest.1,
+          (pages_high first) rest.0,
+      All-append (λ page. page < n) (pages_of b) (pages_of_all bs) (pages_low first) rest.1,
     )
 
 -- ---- the blocks that a guest reports

@@ -14,10 +14,10 @@ pub record SamePages (least : ℕ) (old new : Pages) : Type 0 where
   pub behind : (p : ℕ) → frame_at new p ≡ frame_at old p
   pub holds : (p : ℕ) → least ≤ p → contents_at new p ≡ contents_at old p
 
-pub pages_same : (old new : Pages) (size n : ℕ) (frames : List (Option ℕ))
-    (contents : List (List ℕ)) → SamePages (reserved_pages size) old new
+pub pages_same : {old new : Pages} {size n : ℕ}
+    {frames : List (Option ℕ)} {contents : List (List ℕ)} → SamePages (reserved_pages size) old new
     → HasPages old size n frames contents → HasPages new size n frames contents
-pages_same old new size n frames contents same has = grind arith
+pages_same same has = grind arith
 
 pub number_if : (b : Bool) (x : Option Page)
     → number_of (if b then None else x) ≡ (if b then None else number_of x)
@@ -41,9 +41,9 @@ whole_if : (b : Bool) (xs : List ℕ) → length xs ≡ 4096 → length (if b th
 whole_if true xs len = length-zero_page
 whole_if false xs len = len
 
-pub pages_discarded : (old : Pages) (size n : ℕ) (frames : List (Option ℕ))
-    (contents : List (List ℕ)) (pages : List ℕ) → HasPages old size n frames contents
-    → HasPages (discarded pages old) size n (with_entry pages None frames)
-    (with_entry pages zero_page contents)
-pages_discarded old size n frames contents pages has =
+pub pages_discarded : {old : Pages}
+    {size n : ℕ} {frames : List (Option ℕ)} {contents : List (List ℕ)} (pages : List ℕ)
+    → HasPages old size n frames contents → HasPages (discarded pages old) size n
+    (with_entry pages None frames) (with_entry pages zero_page contents)
+pages_discarded pages has =
     grind (arith, length-with_entry, with_none-get, with_entry-get, whole_if)

@@ -16,7 +16,7 @@ use Rattle.vb_ring.specs.Entries.{is_own, is_head}
 use Rattle.vb_ring.specs.Ends.{DriverEnd, is_unused, free_descriptors, next_head, after_add}
 use Rattle.vb_driver.{specs.Coding.IsCoded, specs.State.{RequestSide, AreRequests}}
 use Rattle.vb_driver.{specs.Calls.{Announces, Posts}, proofs.Buffers.names_kept}
-use Rattle.vb_guest.specs.Line.{AreRequested, Line, IsRequest, RingOf, heads_of}
+use Rattle.vb_guest.specs.Line.{AreRequested, Line, IsRequest, RingOf}
 use Rattle.vb_guest.{proofs.RingHeads.{ring_once, ring_count}, proofs.RingPosted.ring_posted}
 use Rattle.vb_guest.proofs.Heads.{times-heads, length-heads, heads-push, headed-all}
 use Rattle.vb_ring.specs.Ends.{outstanding as outstanding_in}
@@ -27,7 +27,7 @@ pub headed_once : (mem : Pages) (q : ℕ) (ring : DriverEnd) (part : QueuePart) 
 headed_once mem q ring part rs h stands =
     grind (
       arith,
-      ring_once mem q ring part.next_avail part.next_used (heads_of rs.posted) (heads_of rs.taken) (heads_of rs.done) h stands,
+      ring_once h stands,
       times-heads h rs.posted,
       times-heads h rs.taken,
       times-heads h rs.done,
@@ -40,7 +40,7 @@ pub outstanding_are : (mem : Pages) (q : ℕ) (ring : DriverEnd) (part : QueuePa
 outstanding_are mem q ring part rs stands =
     grind (
       arith,
-      ring_count mem q ring part.next_avail part.next_used (heads_of rs.posted) (heads_of rs.taken) (heads_of rs.done) stands,
+      ring_count stands,
       length-heads rs.posted,
       length-heads rs.taken,
       length-heads rs.done,
@@ -56,8 +56,8 @@ pub record IsLowest (r : DriverEnd) (h : ℕ) : Type 0 where
   pub free : is_unused r.owner h ≡ true
   pub below : (k : ℕ) → k < h → is_unused r.owner k ≡ false
 
-pub lowest_is : (r : DriverEnd) (h : ℕ) → next_head r ≡ Some h → IsLowest r h
-lowest_is r h is = let free = free_descriptors r in
+pub lowest_is : (r : DriverEnd) {h : ℕ} → next_head r ≡ Some h → IsLowest r h
+lowest_is r {h} is = let free = free_descriptors r in
     let some : 0 < length free = slice_get_within free 0 h is in
     let first : slice_index free 0 ≡ h = get_or_from_slice_get free 0 h 0 is in
     let pass = numbers_pass (is_unused r.owner) r.size 0 some in
@@ -82,19 +82,20 @@ lowest_is r h is = let free = free_descriptors r in
     }
 
 -- the new head is the least that no request has
-pub least_head : (mem : Pages) (q : ℕ) (side : RequestSide) (part : QueuePart) (rs : Requests) (h : ℕ)
-    → RingOf mem q side.ring part rs → AreRequests side → next_head side.ring ≡ Some h
-    → IsLeastHead rs h
-least_head mem q side part rs h stands single is = let lowest = lowest_is side.ring h is in record {
-  new = headed_once mem q side.ring part rs h stands
-      ∙ ap one_if (none_own h (slice_index_or side.ring.owner h None) lowest.free);
-  least = λ k lt.
-      let one : headed k (all_requests rs) ≡ 1 = headed_once mem q side.ring part rs k stands
-      ∙ ap one_if (single.single k (lowest.below k lt)) in omega (arith, one);
-}
+pub least_head : (mem : Pages) (q : ℕ)
+    {side : RequestSide} (part : QueuePart) {rs : Requests} {h : ℕ} → RingOf mem q side.ring part rs
+    → AreRequests side → next_head side.ring ≡ Some h → IsLeastHead rs h
+least_head
+    mem q {side} part {rs} {h} stands single is = let lowest = lowest_is side.ring is in record {
+      new = headed_once mem q side.ring part rs h stands
+          ∙ ap one_if (none_own h (slice_index_or side.ring.owner h None) lowest.free);
+      least = λ k lt.
+          let one : headed k (all_requests rs) ≡ 1 = headed_once mem q side.ring part rs k stands
+          ∙ ap one_if (single.single k (lowest.below k lt)) in omega (arith, one);
+    }
 
-is_same : (h k : ℕ) → h ≡ k → cond {A = ℕ} (h == k) 1 0 ≡ 1
-is_same h k e = grind (arith, nat_tests)
+is_same : {h k : ℕ} → h ≡ k → cond {A = ℕ} (h == k) 1 0 ≡ 1
+is_same e = grind (arith, nat_tests)
 
 -- a head that no request has is not that of one of them
 pub not_headed : (rs : List Request) (h k : ℕ) (d : Request) → headed h rs ≡ 0 → k < length rs
@@ -108,24 +109,22 @@ pub still_out : (size n : ℕ) (sent : List (List ℕ)) (h : ℕ) (pages : List 
 still_out size n sent h pages rs none all k d lt = grind (arith, get_or-set_other, not_headed)
 
 -- the head of the new request is the last of the posted ones
-pub requests_posted : (m1 m2 : Pages) (q : ℕ) (ring after : DriverEnd) (part : QueuePart)
-    (rs : Requests) (n head : ℕ) (pages : List ℕ)
+pub requests_posted : {m1 m2 : Pages} (q : ℕ)
+    {ring after : DriverEnd} (part : QueuePart) (rs : Requests) (n : ℕ) {head : ℕ} (pages : List ℕ)
     → RingOf m1 q ring part rs → after ≡ after_add ring n (Ok head)
     → Announces m1 m2 ring after head → RingOf m2 q after part (posting head pages rs)
-requests_posted m1 m2 q ring after part rs n head pages stands state did =
-    grind (arith, heads-push, ring_posted)
+requests_posted q part rs n pages stands state did = grind (arith, heads-push, ring_posted)
 
 -- the queue's side once the request is out
 abbrev pub posted_side : RequestSide → ℕ → List ℕ → RequestSide
 posted_side s head pages =
     record s { ring = after_add s.ring 1 (Ok head); sent = slice_set s.sent head pages }
 
-pub line_posted : (m1 m2 : Pages) (q n : ℕ) (side after : RequestSide) (part : QueuePart) (rs : Requests)
-    (head : ℕ) (pages : List ℕ)
-    → AreRequests side → AreRequested side.ring.size n pages
-    → Line m1 q n side part rs → Posts m1 m2 side after (buffers_page q) pages head
-    → Line m2 q n after part (posting head pages rs)
-line_posted m1 m2 q n side after part rs head pages single fine line did =
+pub line_posted : {m1 m2 : Pages} (q : ℕ) {n : ℕ} {side after : RequestSide}
+    (part : QueuePart) (rs : Requests) {head : ℕ} {pages : List ℕ} → AreRequests side
+    → AreRequested side.ring.size n pages → Line m1 q n side part rs → Posts m1 m2 side after
+    (buffers_page q) pages head → Line m2 q n after part (posting head pages rs)
+line_posted {m1} {m2} q {n} {side} part rs {head} {pages} single fine line did =
     let L : RequestSide → Type 0 = λ s. Line m2 q n s part (posting head pages rs) in
     subst L (sym did.state) (line_posted_at m1 m2 q n side part rs head pages single fine line
     (subst (λ s. Posts m1 m2 side s (buffers_page q) pages head) did.state did))
@@ -140,23 +139,23 @@ line_posted m1 m2 q n side after part rs head pages single fine line did =
         let l = side.ring.layout in
         let sent = slice_set side.sent head pages in
         let P : Request → Type 0 = IsRequest side.ring.size n sent in
-        let lowest = lowest_is side.ring head did.lowest in
+        let lowest = lowest_is side.ring did.lowest in
         let none : headed head (all_requests rs) ≡ 0 =
-        (least_head m1 q side part rs head line.ring single did.lowest).new in
+        (least_head m1 q part line.ring single did.lowest).new in
         let parts = headed-all head rs in
         let table : l.table ≡ ring_page side.ring.size q = ap (λ x. x.table) line.ring.layout in
-        let now : P r = assumption (get_or-set_same side.sent head pages [] (omega (arith, did.small, line.keeps))) in
+        let now : P r = assumption
+        (get_or-set_same side.sent head pages [] (omega (arith, did.small, line.keeps))) in
         let C : ℕ → Type 0 = λ p. IsCoded m2 p (buffers_page q) head pages in
         record {
-          ring = requests_posted m1 m2 q side.ring (after_add side.ring 1 (Ok head)) part rs 1 head
-              pages line.ring refl did.announces;
+          ring = requests_posted q part rs 1 pages line.ring refl did.announces;
           keeps = length-set side.sent head pages ∙ line.keeps;
           posted = All-push P rs.posted r (still_out side.ring.size n side.sent head pages rs.posted
               (omega arith) line.posted) now;
           taken = still_out side.ring.size n side.sent head pages rs.taken (omega arith) line.taken;
           done = still_out side.ring.size n side.sent head pages rs.done (omega arith) line.done;
-          coded = All-push (λ (x : Request). IsCoded m2 (ring_page side.ring.size q) (buffers_page q) x.head
-              x.pages) rs.posted r (λ k d lt.
+          coded = All-push (λ (x : Request). IsCoded m2
+              (ring_page side.ring.size q) (buffers_page q) x.head x.pages) rs.posted r (λ k d lt.
               let x = slice_index_or rs.posted k d in
               let known = line.posted k d lt in
               let code = line.coded k d lt in
@@ -166,8 +165,8 @@ line_posted m1 m2 q n side after part rs head pages single fine line did =
                     ∙ did.descriptors x.head known.inside apart
                     ∙ ap (λ (p : ℕ). descriptor_at m1 p x.head) table ∙ code.descriptor;
                 names = names_kept m1 m2 (buffer_page (buffers_page q) x.head)
-                    (buffer_offset x.head) x.pages (buffer_offset x.head + 1024)
-                    (did.rest.buffers x.head known.few apart) (omega (arith, known.pages.few)) code.names;
+                    (buffer_offset x.head) x.pages (buffer_offset x.head + 1024) (did.rest.buffers
+                    x.head known.few apart) (omega (arith, known.pages.few)) code.names;
               }) (subst C table did.coded);
           remembers = line.remembers;
         }

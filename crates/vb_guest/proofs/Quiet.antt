@@ -25,9 +25,8 @@ none_behind m [] none = refl
 none_behind m (p ∷ ps) none = grind (arith, none_behind m ps none)
 
 -- two tables with the same frames have each frame as often
-as_often : (n : ℕ) (xs ys : List (Option ℕ))
-    → ((i : ℕ) → slice_index_or xs i None ≡ slice_index_or ys i None)
-    → count_by (is_frame n) xs ≡ count_by (is_frame n) ys
+as_often : (n : ℕ) (xs ys : List (Option ℕ)) → ((i : ℕ) → slice_index_or xs i None
+    ≡ slice_index_or ys i None) → count_by (is_frame n) xs ≡ count_by (is_frame n) ys
 as_often n [] [] same = refl
 as_often n [] (y ∷ ys) same = omega (
   arith,
@@ -53,26 +52,24 @@ as_often n (x ∷ xs) (y ∷ ys) same = omega (
 abbrev IsBehind : Pages → Guest → Type 0
 IsBehind m g = (page : ℕ) → frame_at m page ≡ frame_of g.frames page
 
-none_freed : (New : Guest → Type 0) (m1 m2 : Pages) (loose : List ℕ) (g : Guest) (call : Call)
-    (reply : Reply) → IsBehind m1 g → ((x : Guest) → New x → IsBehind m2 x) → KeepsFrames m1 m2
-    → StepsFreeing New loose g call reply → loose ≡ []
-none_freed New m1 m2 loose g call reply before after same step = no_frames loose (λ n. omega (
+none_freed : {New : Guest → Type 0} (m1 m2 : Pages) {loose : List ℕ} {g : Guest}
+    {call : Call} {reply : Reply} → IsBehind m1 g → ((x : Guest) → New x → IsBehind m2 x)
+    → KeepsFrames m1 m2 → StepsFreeing New loose g call reply → loose ≡ []
+none_freed m1 m2 {loose} {g} before after same step = no_frames loose (λ n. omega (
   arith,
   step.freed n,
   as_often n step.new.frames g.frames
       (λ page. sym (after step.new step.stands page) ∙ same page ∙ before page),
 ))
 
-pub freeing_quiet : (keeps : Bool) (m1 m2 m3 : Pages) (p1 p2 : Part) (d : DriverState) (g : Guest)
-    (call : Call) (reply : Reply) → Stands keeps m1 p1 d g → m3 ≡ m2 → KeepsFrames m1 m3
+pub freeing_quiet : {keeps : Bool} {m1 m2 m3 : Pages} {p1 : Part} (p2 : Part) {d : DriverState}
+    {g : Guest} (call : Call) (reply : Reply) → Stands keeps m1 p1 d g → m3 ≡ m2 → KeepsFrames m1 m3
     → (Honest m1 p1 d g → StepsFreeing (Honest m2 (handed_back p2) d) p2.loose g call reply)
     → (Rogue m1 p1 d g → StepsFreeing (Rogue m2 (handed_back p2) d) p2.loose g call reply)
     → p2.loose ≡ []
-freeing_quiet keeps m1 m2 m3 p1 p2 d g call reply stands memory same honest rogue = by_guest keeps
-    m1 p1 d g stands (λ h. none_freed (Honest m2 (handed_back p2) d) m1 m2 p2.loose g call reply
-    h.ties.pages.behind (λ x n. n.ties.pages.behind) kept (honest h))
-    (λ r. none_freed (Rogue m2 (handed_back p2) d) m1 m2 p2.loose g call reply
-    r.behind (λ x n. n.behind) kept (rogue r))
+freeing_quiet {m1} {m2} p2 call reply stands memory same honest rogue = by_guest stands
+    (λ h. none_freed m1 m2 h.ties.pages.behind (λ x n. n.ties.pages.behind) kept (honest h))
+    (λ r. none_freed m1 m2 r.behind (λ x n. n.behind) kept (rogue r))
   where
     kept : KeepsFrames m1 m2
     kept page = ap (λ (m : Pages). frame_at m page) (sym memory) ∙ same page
@@ -80,13 +77,13 @@ freeing_quiet keeps m1 m2 m3 p1 p2 d g call reply stands memory same honest rogu
 -- ---- claims that are noted
 
 -- one was made
-pub noted_one : {P : Type 0} (old new : List Claim) (claim : Claim) → new ≡ old ++ (claim ∷ [])
-    → new ≡ old → P
-noted_one old new claim noted same =
+pub noted_one : {P : Type 0} {old new : List Claim} (claim : Claim)
+    → new ≡ old ++ (claim ∷ []) → new ≡ old → P
+noted_one {old} claim noted same =
     absurd (omega (arith, ap length noted, ap length same, length-append old (claim ∷ [])))
 
 -- and then others
-pub noted_more : {P : Type 0} (old mid new more : List Claim) (claim : Claim)
+pub noted_more : {P : Type 0} {old mid new : List Claim} (more : List Claim) (claim : Claim)
     → mid ≡ old ++ (claim ∷ []) → new ≡ mid ++ more → new ≡ old → P
-noted_more old mid new more claim noted others same =
+noted_more {old} {mid} more claim noted others same =
     grind (arith, length-append old (claim ∷ []), length-append mid more)

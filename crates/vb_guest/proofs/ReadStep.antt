@@ -12,44 +12,42 @@ use Rattle.vb_guest.{specs.Stands.Honest, specs.Steps.StepsAlone, proofs.Writing
 use Rattle.vb_guest.proofs.Closing.{honest_performed, steps_alone}
 use Rattle.vb_guest.proofs.WriteStep.{outside_is, inside_is}
 
-pub read_not_held : (m : Pages) (p : Part) (d : DriverState) (g : Guest) (page off len : ℕ)
-    → is_used (place_of d.places page) ≡ false → Honest m p d g
-    → StepsAlone (Honest m p d) g (Read page off len) (Refused NotHeld)
-read_not_held m p d g page off len free stands = grind arith
+pub read_not_held : {m : Pages} {p : Part} {d : DriverState} {g : Guest} {page off len : ℕ}
+    → is_used (place_of d.places page) ≡ false
+    → Honest m p d g → StepsAlone (Honest m p d) g (Read page off len) (Refused NotHeld)
+read_not_held free stands = grind arith
 
-pub read_outside : (m : Pages) (p : Part) (d : DriverState) (g : Guest) (page off len : ℕ)
+pub read_outside : {m : Pages} {p : Part} {d : DriverState} {g : Guest} {page off len : ℕ}
     → is_used (place_of d.places page) ≡ true → Honest m p d g → (Covers m page off len → ⊥)
     → StepsAlone (Honest m p d) g (Read page off len) (Refused OutOfRam)
-read_outside m p d g page off len used stands out = search (arith, outside_is)
+read_outside used stands out = search (arith, outside_is)
 
-read_free : (m : Pages) (p : Part) (d : DriverState) (g : Guest) (page off len : ℕ)
-    → is_used (place_of d.places page) ≡ true → Honest m p d g → Covers m page off len
-    → refusal_of g (Read page off len) ≡ None
-read_free m p d g page off len used stands covers = grind (arith, inside_is)
+read_free : {m : Pages} {p : Part} {d : DriverState} {g : Guest} {page off len : ℕ}
+    → is_used (place_of d.places page) ≡ true
+    → Honest m p d g → Covers m page off len → refusal_of g (Read page off len) ≡ None
+read_free used stands covers = grind (arith, inside_is)
 
-pub read_done : (m : Pages) (p : Part) (d : DriverState) (g : Guest) (page off len : ℕ)
-    (bytes : List ℕ) → is_used (place_of d.places page) ≡ true → Honest m p d g
-    → Covers m page off len → bytes ≡ take len (drop off (contents_at m page))
+pub read_done : {m : Pages} {p : Part} {d : DriverState}
+    {g : Guest} {page off len : ℕ} {bytes : List ℕ} → is_used (place_of d.places page) ≡ true
+    → Honest m p d g → Covers m page off len → bytes ≡ take len (drop off (contents_at m page))
     → StepsAlone (Honest m p d) g (Read page off len) (ReadBytes bytes)
-read_done m p d g page off len bytes used stands covers is =
+read_done {g} {page} {off} {len} {bytes} used stands covers is =
     let held : is_used (place_of g.places page) ≡ true =
     ap (λ l. is_used (place_of l page)) (sym stands.ties.parts.driver.places) ∙ used in
     let lt : page < g.config.pages = omega (arith, covers.page, stands.ties.pages.length_is) in
     let high = used_high g page stands.orderly held lt in
     let read = is
     ∙ ap (λ (l : List ℕ). take len (drop off l)) (stands.ties.pages.holds page high lt) in
-    steps_alone m m p p d d g (Read page off len) (ReadBytes bytes) g stands (honest_performed g
-    (Read page off len) [] (ReadBytes bytes) g (read_free m p d g page off len used stands covers)
-    (refl, (inl (ap ReadBytes read), refl))) stands.ties refl
+    steps_alone stands (honest_performed g (Read page off len) [] (ReadBytes bytes) g
+    (read_free used stands covers) (refl, (inl (ap ReadBytes read), refl))) stands.ties refl
 
-pub read_no_memory : (m : Pages) (p : Part) (d : DriverState) (g : Guest) (page off len : ℕ)
-    → is_used (place_of d.places page) ≡ true → Honest m p d g → Covers m page off len
-    → StepsAlone (Honest m p d) g (Read page off len) (Refused NoMemory)
-read_no_memory m p d g page off len used stands covers =
-    grind (arith, read_free m p d g page off len used stands covers)
+pub read_no_memory : {m : Pages} {p : Part} {d : DriverState} {g : Guest} {page off len : ℕ}
+    → is_used (place_of d.places page) ≡ true → Honest m p d g
+    → Covers m page off len → StepsAlone (Honest m p d) g (Read page off len) (Refused NoMemory)
+read_no_memory used stands covers = grind (arith, read_free used stands covers)
 
-pub bytes_read : (m : Pages) (page off len : ℕ) (old out : List ℕ) → Covers m page off len
-    → length (contents_at m page) ≡ 4096 → length old ≡ len → length out ≡ length old
-    → ((k : ℕ) → k < length old → slice_index out k ≡ byte_at m page (off + k))
-    → out ≡ take len (drop off (contents_at m page))
-bytes_read m page off len old out covers whole was now read = grind (arith, contents_read)
+pub bytes_read : {m : Pages} {page off len : ℕ} (old : List ℕ) {out : List ℕ}
+    → Covers m page off len → length (contents_at m page) ≡ 4096
+    → length old ≡ len → length out ≡ length old → ((k : ℕ) → k < length old
+    → slice_index out k ≡ byte_at m page (off + k)) → out ≡ take len (drop off (contents_at m page))
+bytes_read old covers whole was now read = grind (arith, contents_read)

@@ -20,34 +20,31 @@ use Rattle.vb_ring.specs.declared.driver.RingBroken.{RingBroken as Broken}
 use Rattle.vb_driver.specs.declared.answers.Reaped.{Reaped as ReapedRequest}
 
 -- where the ring isn't broken
-reap_same : (m : Pages) (p : Part) (d : DriverState) (g : Guest) (q : ℕ) (ring : DriverEnd)
-    (o : Option ℕ) → p.status ≡ g.status → d.features ≡ g.features → used_answer m ring ≡ Ok o
-    → first_refusal (reap_causes m p d ring q) ≡ refusal_of g (Reap q)
+reap_same : (m : Pages) (p : Part) (d : DriverState) (g : Guest)
+    (q : ℕ) (ring : DriverEnd) (o : Option ℕ) → p.status ≡ g.status → d.features ≡ g.features
+    → used_answer m ring ≡ Ok o → first_refusal (reap_causes m p d ring q) ≡ refusal_of g (Reap q)
 reap_same m p d g q ring o status features answer =
     let whole : is_ring_broken m ring ≡ false =
     ap (λ (r : Result (Option ℕ) Broken). is_err r) answer in
-    last_cause (causes_of_reap q (negotiated d p)) (is_ring_broken m ring) RingBroken whole ∙ ap
-    (λ (s : ℕ). first_refusal (causes_of_reap q (record { status = s; features = d.features })))
-    status ∙ ap (λ (f : ℕ). first_refusal
-    (causes_of_reap q (record { status = g.status; features = f }))) features
+    last_cause (causes_of_reap q (negotiated d p)) RingBroken whole ∙ ap (λ (s : ℕ). first_refusal
+    (causes_of_reap q (record { status = s; features = d.features }))) status ∙ ap (λ
+    (f : ℕ). first_refusal (causes_of_reap q (record { status = g.status; features = f }))) features
 
 -- a queue of requests before an initialisation
-not_up : (b : Bool) (s : ℕ) (rest : List Cause) → b ≡ true → IsIdleStatus s
+not_up : {b : Bool} (s : ℕ) (rest : List Cause) → b ≡ true → IsIdleStatus s
     → first_refusal ((not b ⇒ NoQueue) ∷ (not (is_up s) ⇒ NotReady) ∷ rest) ≡ Some NotReady
-not_up b s rest there down =
+not_up s rest there down =
     let P : ℕ → Type 0 = λ k. first_refusal ((not (is_up k) ⇒ NotReady) ∷ rest) ≡ Some NotReady in
     ap (λ (c : Bool). first_refusal ((not c ⇒ NoQueue) ∷ (not (is_up s) ⇒ NotReady) ∷ rest)) there
     ∙ at_both P s down refl refl
 
 reap_idle : (m : Pages) (p : Part) (d : DriverState) (g : Guest) (q : ℕ) (ring : DriverEnd)
-    → is_queue_of_requests q ≡ true → p.status ≡ g.status → IsIdleStatus g.status
-    → (first_refusal (reap_causes m p d ring q) ≡ Some NotReady)
-    × (refusal_of g (Reap q) ≡ Some NotReady)
+    → is_queue_of_requests q ≡ true → p.status ≡ g.status → IsIdleStatus g.status → (first_refusal
+    (reap_causes m p d ring q) ≡ Some NotReady) × (refusal_of g (Reap q) ≡ Some NotReady)
 reap_idle m p d g q ring there same down = (
-  not_up (is_queue_of_requests q) p.status ((lacks_feature d.features q ⇒ NoFeature)
+  not_up p.status ((lacks_feature d.features q ⇒ NoFeature)
       ∷ (is_ring_broken m ring ⇒ RingBroken) ∷ []) there (subst IsIdleStatus (sym same) down),
-  not_up (is_queue_of_requests q) g.status ((lacks_feature g.features q ⇒ NoFeature) ∷ []) there
-      down,
+  not_up g.status ((lacks_feature g.features q ⇒ NoFeature) ∷ []) there down,
 )
 
 -- the model names no broken ring
@@ -58,57 +55,55 @@ never_broken false true c e = absurd cc
 never_broken false false true e = absurd cc
 never_broken false false false e = absurd cc
 
-pub unfailed : (why : Refusal) (p : Part) → (why ≡ RingBroken → ⊥) → after_refusal why p ≡ p
-unfailed RingBroken p other = absurd (other refl)
-unfailed _ p other = refl
+pub unfailed : (why : Refusal) {p : Part} → (why ≡ RingBroken → ⊥) → after_refusal why p ≡ p
+unfailed RingBroken other = absurd (other refl)
+unfailed _ other = refl
 
-reap_refused : (m1 m2 : Pages) (p1 p2 : Part) (d1 d2 : DriverState) (g : Guest) (q : ℕ)
-    (why : Refusal) → ReapsBy m1 m2 p1 p2 d1 d2 q (Err why) → Honest m1 p1 d1 g
+reap_refused : {m1 m2 : Pages} {p1 p2 : Part} {d1 d2 : DriverState}
+    {g : Guest} {q : ℕ} (why : Refusal) → ReapsBy m1 m2 p1 p2 d1 d2 q (Err why) → Honest m1 p1 d1 g
     → first_refusal (reap_causes m1 p1 d1 (ring_of q d1) q) ≡ refusal_of g (Reap q)
     → StepsAlone (Honest m2 p2 d2) g (Reap q) (reaped_reply (Err why))
-reap_refused m1 m2 p1 p2 d1 d2 g q why did stands same =
+reap_refused {g} {q} why did stands same =
     let by_model : refusal_of g (Reap q) ≡ Some why = sym (did.refusal ∙ same) in
-    refused_alone m1 m2 p1 p2 d1 d2 g (Reap q) why stands by_model did.mem
-    (did.failed ∙ unfailed why p1 (λ e. never_broken (not (is_queue_of_requests q))
+    refused_alone stands by_model did.mem
+    (did.failed ∙ unfailed why (λ e. never_broken (not (is_queue_of_requests q))
     (not (is_up g.status)) (lacks_feature g.features q) (by_model ∙ ap Some e))) did.refused
 
 -- both refuse for the same reason
-refused_by_both : (m1 m2 : Pages) (p1 p2 : Part) (d1 d2 : DriverState) (g : Guest) (q : ℕ)
-    (why : Refusal) (result : Result (Option ReapedRequest) Refusal)
+refused_by_both : {m1 m2 : Pages} {p1 p2 : Part} {d1 d2 : DriverState}
+    {g : Guest} {q : ℕ} (why : Refusal) (result : Result (Option ReapedRequest) Refusal)
     → ReapsBy m1 m2 p1 p2 d1 d2 q result → Honest m1 p1 d1 g
     → first_refusal (reap_causes m1 p1 d1 (ring_of q d1) q) ≡ Some why → refusal_of g (Reap q)
     ≡ Some why → StepsAlone (Honest m2 p2 d2) g (Reap q) (reaped_reply result)
-refused_by_both m1 m2 p1 p2 d1 d2 g q why (Ok got) did stands by_driver by_model =
+refused_by_both why (Ok got) did stands by_driver by_model =
     absurd (let wrong = did.refusal ∙ by_driver in cc)
-refused_by_both m1 m2 p1 p2 d1 d2 g q why (Err said) did stands by_driver by_model =
-    reap_refused m1 m2 p1 p2 d1 d2 g q said did stands (by_driver ∙ sym by_model)
+refused_by_both why (Err said) did stands by_driver by_model =
+    reap_refused said did stands (by_driver ∙ sym by_model)
 
 -- no such queue
-pub reap_no_queue : (m1 m2 : Pages) (p1 p2 : Part) (d1 d2 : DriverState) (g : Guest) (q : ℕ)
-    (result : Result (Option ReapedRequest) Refusal)
-    → is_queue_of_requests q ≡ false → ReapsBy m1 m2 p1 p2 d1 d2 q result → Honest m1 p1 d1 g
-    → StepsAlone (Honest m2 p2 d2) g (Reap q) (reaped_reply result)
-reap_no_queue m1 m2 p1 p2 d1 d2 g q result none did stands = refused_by_both m1
-    m2 p1 p2 d1 d2 g q NoQueue result did stands (first_holds (not (is_queue_of_requests q)) NoQueue
-    (drop 1 (reap_causes m1 p1 d1 (ring_of q d1) q)) (ap not none))
-    (first_holds (not (is_queue_of_requests q)) NoQueue (drop 1 (causes g (Reap q))) (ap not none))
+pub reap_no_queue : {m1 m2 : Pages} {p1 p2 : Part}
+    {d1 d2 : DriverState} {g : Guest} {q : ℕ} {result : Result (Option ReapedRequest) Refusal}
+    → is_queue_of_requests q ≡ false → ReapsBy m1 m2 p1 p2 d1 d2 q result
+    → Honest m1 p1 d1 g → StepsAlone (Honest m2 p2 d2) g (Reap q) (reaped_reply result)
+reap_no_queue {m1} {p1} {d1} {g} {q} {result} none did stands = refused_by_both NoQueue result
+    did stands (first_holds NoQueue (drop 1 (reap_causes m1 p1 d1 (ring_of q d1) q)) (ap not none))
+    (first_holds NoQueue (drop 1 (causes g (Reap q))) (ap not none))
 
 -- a reap of a queue of requests, of which these are used, is a step where one that isn't refused is
-pub reap_by : (m1 m2 : Pages) (p1 p2 : Part) (d1 d2 : DriverState) (g : Guest) (q : ℕ)
-    (done : List Request) (result : Result (Option ReapedRequest) Refusal)
+pub reap_by : {m1 m2 : Pages} {p1 p2 : Part} {d1 d2 : DriverState}
+    {g : Guest} {q : ℕ} (done : List Request) {result : Result (Option ReapedRequest) Refusal}
     → is_queue_of_requests q ≡ true → ReapsBy m1 m2 p1 p2 d1 d2 q result → Honest m1 p1 d1 g
     → (IsRunning m1 p1 d1 g → used_answer m1 (ring_of q d1) ≡ Ok (used_next done))
     → ((got : Option ReapedRequest) → next_of got ≡ used_next done
     → ReapsBy m1 m2 p1 p2 d1 d2 q (Ok got) → used_answer m1 (ring_of q d1) ≡ Ok (used_next done)
-    → IsRunning m1 p1 d1 g → refusal_of g (Reap q) ≡ None
-    → StepsAlone (Honest m2 p2 d2) g (Reap q) (reaped_reply (Ok got)))
-    → StepsAlone (Honest m2 p2 d2) g (Reap q) (reaped_reply result)
-reap_by m1 m2 p1 p2 d1 d2 g q done result there did stands says performed =
+    → IsRunning m1 p1 d1 g → refusal_of g (Reap q) ≡ None → StepsAlone (Honest m2 p2 d2) g (Reap q)
+    (reaped_reply (Ok got))) → StepsAlone (Honest m2 p2 d2) g (Reap q) (reaped_reply result)
+reap_by {m1} {m2} {p1} {p2} {d1} {d2} {g} {q} done {result} there did stands says performed =
     elim stands.ties.queues [
       | inl idle ↦
           let both = reap_idle m1 p1 d1 g q (ring_of q d1) there stands.ties.parts.device.status
           idle.state in
-          refused_by_both m1 m2 p1 p2 d1 d2 g q NotReady result did stands both.0 both.1
+          refused_by_both NotReady result did stands both.0 both.1
       | inr run ↦
           up result did run (says run) (reap_same m1 p1 d1 g q (ring_of q d1) (used_next done)
           stands.ties.parts.device.status stands.ties.parts.driver.accepted (says run))
@@ -118,7 +113,7 @@ reap_by m1 m2 p1 p2 d1 d2 g q done result there did stands says performed =
         → IsRunning m1 p1 d1 g → used_answer m1 (ring_of q d1) ≡ Ok (used_next done)
         → first_refusal (reap_causes m1 p1 d1 (ring_of q d1) q) ≡ refusal_of g (Reap q)
         → StepsAlone (Honest m2 p2 d2) g (Reap q) (reaped_reply result)
-    up (Err why) did run answer same = reap_refused m1 m2 p1 p2 d1 d2 g q why did stands same
+    up (Err why) did run answer same = reap_refused why did stands same
     up (Ok got) did run answer same =
         let next : next_of got ≡ used_next done = (let e = sym did.next ∙ answer in cc) in
         performed got next did answer run (sym (did.refusal ∙ same))

@@ -10,7 +10,7 @@ use Rattle.vb_model.{proofs.Queues.no_requests_at, specs.{Driver.{reaped, Reaps}
 use Rattle.vb_model.specs.Refusals.{refusal_of}
 use Rattle.vb_ram.specs.{Pages.Pages, Part.Part}
 use Rattle.vb_ring.specs.{Calls.TakesUsedBy, Ends.used_answer}
-use Rattle.vb_driver.specs.Reaps.{pages_sent, after_reap, without_request, moved_on, with_actual}
+use Rattle.vb_driver.specs.Reaps.{pages_sent, without_request, moved_on, with_actual}
 use Rattle.vb_driver.specs.State.{FreePages, DriverState, IsDriver}
 use Rattle.vb_driver.{specs.Calls.{ReapsBy, ring_of, next_of}, proofs.RequestTables.requests_taken}
 use Rattle.vb_device.specs.Queues.{queue_part}
@@ -33,48 +33,46 @@ sent_is Inflating d n r is = is.remembered
 sent_is Deflating d n r is = is.remembered
 sent_is Reporting_free d n r is = sym is.names
 
-line_left : (kind : Kind) (m : Pages) (p : Part) (d : DriverState) (g : Guest) (r : Request)
+line_left : (kind : Kind) {m : Pages} (p : Part) (d : DriverState) (g : Guest) (r : Request)
     (rest : List Request) → (requests kind g).done ≡ r ∷ rest → outstanding g.report ≤ 1
-    → LineOf kind m p d g → TakesUsedBy m (ring_of (queue_of kind) d)
-    (ring_of (queue_of kind) (left kind r d)) (Ok (Some r.head)) → LineWith kind m (left kind r d)
-    g.config.pages (queue_part (queue_of kind) p) (record (requests kind g) { done = rest })
-line_left Inflating m p d g r rest is few line =
-    line_reaped m 0 g.config.pages d.inflate p.inflate g.inflate r rest is line
-line_left Deflating m p d g r rest is few line =
-    line_reaped m 1 g.config.pages d.deflate p.deflate g.deflate r rest is line
-line_left Reporting_free m p d g r rest is few line = report_reaped m g.config.pages d.report
-    (left Reporting_free r d).report.ring p.report g.report r rest is few line
+    → LineOf kind m p d g → TakesUsedBy m (ring_of (queue_of kind) d) (ring_of (queue_of kind)
+    (left kind r d)) (Ok (Some r.head)) → LineWith kind m (left kind r d) g.config.pages
+    (queue_part (queue_of kind) p) (record (requests kind g) { done = rest })
+line_left Inflating p d g r rest is few line =
+    line_reaped 0 g.config.pages d.inflate p.inflate g.inflate r rest is line
+line_left Deflating p d g r rest is few line =
+    line_reaped 1 g.config.pages d.deflate p.deflate g.deflate r rest is line
+line_left Reporting_free p d g
+    r rest is few line = report_reaped g.config.pages d.report p.report g.report r rest is few line
 
 -- what the driver tells as given away is what the definitions count
-told : (kind : Kind) (m : Pages) (p : Part) (g : Guest) (areas : FreePages) (sides : Sides)
-    (r : Request) (rest : List Request) → IsDriver (driver_of g areas sides) → IsRunning m p
-    (driver_of g areas sides) g → LineWith kind m (left kind r (driver_of g areas sides))
-    g.config.pages (queue_part (queue_of kind) p) (record (requests kind g) { done = rest })
+told : (kind : Kind) {m : Pages}
+    {p : Part} {g : Guest} (areas : FreePages) (sides : Sides) (r : Request) (rest : List Request)
+    → IsDriver (driver_of g areas sides) → IsRunning m p (driver_of g areas sides) g
+    → LineWith kind m (left kind r (driver_of g areas sides)) g.config.pages
+    (queue_part (queue_of kind) p) (record (requests kind g) { done = rest })
     → (left kind r (driver_of g areas sides)).actual ≡ (reaped kind r rest g).actual
-told Inflating m p g areas sides r rest driver run line =
+told Inflating {m} {p} {g} areas sides r rest driver run line =
     ap (λ (k : ℕ). count_by is_lent (reaped Inflating r rest g).places + k)
-    (line_named m 1 g.config.pages sides.deflate p.deflate g.deflate run.deflate
-    driver.deflate.requests)
-told Deflating m p g areas sides r rest driver run line =
+    (line_named m 1 g.config.pages p.deflate g.deflate run.deflate driver.deflate.requests)
+told Deflating {m} {p} {g} areas sides r rest driver run line =
     ap (λ (k : ℕ). count_by is_lent (reaped Deflating r rest g).places + k)
-    (line_named m 1 g.config.pages (after_reap sides.deflate r.head) p.deflate
-    (record g.deflate { done = rest }) line
+    (line_named m 1 g.config.pages p.deflate (record g.deflate { done = rest }) line
     (requests_taken sides.deflate r.head driver.deflate.requests))
-told Reporting_free m p g areas sides r rest driver run line =
+told Reporting_free {m} {p} {g} areas sides r rest driver run line =
     ap (λ (k : ℕ). count_by is_lent (reaped Reporting_free r rest g).places + k)
-    (line_named m 1 g.config.pages sides.deflate p.deflate g.deflate run.deflate
-    driver.deflate.requests)
+    (line_named m 1 g.config.pages p.deflate g.deflate run.deflate driver.deflate.requests)
 
-ties_left : (kind : Kind) (m : Pages) (p : Part) (g : Guest) (areas : FreePages) (sides : Sides)
-    (r : Request) (rest : List Request) → Ties m p (driver_of g areas sides) g → IsRunning m p
-    (driver_of g areas sides) g → LineWith kind m (left kind r (driver_of g areas sides))
-    g.config.pages (queue_part (queue_of kind) p) (record (requests kind g) { done = rest })
-    → (left kind r (driver_of g areas sides)).actual ≡ (reaped kind r rest g).actual
-    → Ties m (record p { actual = (reaped kind r rest g).actual })
+ties_left : (kind : Kind) {m : Pages} {p : Part} {g : Guest} (areas : FreePages)
+    (sides : Sides) (r : Request) (rest : List Request) → Ties m p (driver_of g areas sides) g
+    → IsRunning m p (driver_of g areas sides) g → LineWith kind m
+    (left kind r (driver_of g areas sides)) g.config.pages (queue_part (queue_of kind) p)
+    (record (requests kind g) { done = rest }) → (left kind r (driver_of g areas sides)).actual
+    ≡ (reaped kind r rest g).actual → Ties m (record p { actual = (reaped kind r rest g).actual })
     (left kind r (driver_of g areas sides)) (reaped kind r rest g)
-ties_left Inflating m p g areas sides r rest ties run line said =
+ties_left Inflating areas sides r rest ties run line said =
     record { parts = assumption; pages = ties.pages; queues = inr assumption }
-ties_left kind m p g areas sides r rest ties run line said =
+ties_left kind areas sides r rest ties run line said =
     record { parts = assumption; pages = ties.pages; queues = inr assumption }
 
 reaps : (kind : Kind) (g : Guest) (reply : Reply) (new : Guest)
@@ -83,33 +81,26 @@ reaps Inflating g reply new does = (refl, does)
 reaps Deflating g reply new does = (refl, does)
 reaps Reporting_free g reply new does = (refl, does)
 
-request_reaped : (kind : Kind) (m1 m2 : Pages) (p1 p2 : Part) (g : Guest) (areas : FreePages)
-    (sides : Sides) (d2 : DriverState) (done : List Request) (got : Option ReapedRequest)
-    → (requests kind g).done ≡ done → next_of got ≡ used_next done
-    → ReapsBy m1 m2 p1 p2 (driver_of g areas sides) d2 (queue_of kind) (Ok got)
-    → used_answer m1 (ring_of (queue_of kind) (driver_of g areas sides)) ≡ Ok (used_next done)
-    → Honest m1 p1 (driver_of g areas sides) g → IsRunning m1 p1 (driver_of g areas sides) g
-    → refusal_of g (Reap (queue_of kind)) ≡ None
+request_reaped : (kind : Kind) {m1 m2 : Pages} {p1 p2 : Part} {g : Guest} (areas : FreePages)
+    (sides : Sides) {d2 : DriverState} (done : List Request) (got : Option ReapedRequest)
+    → (requests kind g).done ≡ done → next_of got ≡ used_next done → ReapsBy m1 m2 p1 p2
+    (driver_of g areas sides) d2 (queue_of kind) (Ok got) → used_answer m1 (ring_of (queue_of kind)
+    (driver_of g areas sides)) ≡ Ok (used_next done) → Honest m1 p1 (driver_of g areas sides) g
+    → IsRunning m1 p1 (driver_of g areas sides) g → refusal_of g (Reap (queue_of kind)) ≡ None
     → StepsAlone (Honest m2 p2 d2) g (Reap (queue_of kind)) (reaped_reply (Ok got))
-request_reaped kind m1 m2 p1 p2 g areas sides d2 [] (Some x) is next did answer stands run free =
-    absurd cc
-request_reaped kind m1 m2 p1 p2 g areas sides d2
-    (r ∷ rest) None is next did answer stands run free = absurd cc
-request_reaped kind m1 m2 p1 p2 g areas sides d2 [] None is next did answer stands run free =
+request_reaped kind areas sides [] (Some x) is next did answer stands run free = absurd cc
+request_reaped kind areas sides (r ∷ rest) None is next did answer stands run free = absurd cc
+request_reaped kind {g} areas sides [] None is next did answer stands run free =
     let q = queue_of kind in
     let T : List Request → Type 0 = λ l. Reaps kind l g NotUsed g in
-    steps_alone m1 m2 p1 p2 (driver_of g areas sides) d2 g (Reap q) NotUsed g stands
-    (honest_performed g (Reap q) [] NotUsed g free
-    (reaps kind g NotUsed g (subst T (sym is) (refl, refl))))
-    (ties_same m1 m2 p1 p2 (driver_of g areas sides) d2 g did.mem did.reaps.0 did.reaps.1
-    stands.ties) refl
-request_reaped kind m1 m2 p1 p2 g areas sides d2 (r ∷ rest) (Some x) is next did answer stands run
-    free =
-    let q = queue_of kind in
+    steps_alone stands (honest_performed g (Reap q) [] NotUsed g free (reaps kind g NotUsed g
+    (subst T (sym is) (refl, refl)))) (ties_same did.mem did.reaps.0 did.reaps.1 stands.ties) refl
+request_reaped kind {m1} {p1} {p2} {g} areas sides {d2}
+    (r ∷ rest) (Some x) is next did answer stands run free = let q = queue_of kind in
     let d1 = driver_of g areas sides in
     let n = g.config.pages in
     let same : x.head ≡ r.head = cc in
-    let line = line_of kind m1 p1 d1 g run in
+    let line = line_of kind run in
     let known = subst (All (Knows kind d1 n)) is line.done 0 r (omega arith) in
     let sent = ap (λ (h : ℕ). pages_sent q h d1) same ∙ sent_is kind d1 n r known in
     let new : Guest = reaped kind r rest g in
@@ -127,32 +118,29 @@ request_reaped kind m1 m2 p1 p2 g areas sides d2 (r ∷ rest) (Some x) is next d
     λ d. TakesUsedBy m1 (ring_of q d1) (ring_of q d) (used_answer m1 (ring_of q d1)) in
     let taken = subst (λ a. TakesUsedBy m1 (ring_of q d1) (ring_of q after) a) answer
     (subst K state did.ring) in
-    let reap = line_left kind m1 p1 d1 g r rest is stands.orderly.reporting.few line taken in
-    let said = told kind m1 p1 g areas sides r rest did.driver run reap in
+    let reap = line_left kind p1 d1 g r rest is stands.orderly.reporting.few line taken in
+    let said = told kind areas sides r rest did.driver run reap in
     let part : p2 ≡ record p1 { actual = new.actual } = did.reaps.part
     ∙ ap (λ (d : DriverState). record p1 { actual = d.actual }) state
     ∙ ap (λ (k : ℕ). record p1 { actual = k }) said in
-    steps_alone m1 m2 p1 p2 d1 d2 g (Reap q) (Reaped x.head x.pages) new stands step
-    (ties_same m1 m2 (record p1 { actual = new.actual }) p2 after d2 new did.mem part state
-    (ties_left kind m1 p1 g areas sides r rest stands.ties run reap said)) (same_frames kind _ g)
+    steps_alone stands step (ties_same did.mem part state
+    (ties_left kind areas sides r rest stands.ties run reap said)) (same_frames kind _ g)
 
-pub reap_step : (m1 m2 : Pages) (p1 p2 : Part) (d1 d2 : DriverState) (g : Guest) (q : ℕ)
-    (result : Result (Option ReapedRequest) Refusal) → ReapsBy m1 m2 p1 p2 d1 d2 q result
+pub reap_step : {m1 m2 : Pages} {p1 p2 : Part} {d1 d2 : DriverState} {g : Guest}
+    {q : ℕ} {result : Result (Option ReapedRequest) Refusal} → ReapsBy m1 m2 p1 p2 d1 d2 q result
     → Honest m1 p1 d1 g → StepsAlone (Honest m2 p2 d2) g (Reap q) (reaped_reply result)
-reap_step m1 m2 p1 p2 d1 d2 g q result did stands =
-    by_queue (λ k. ReapsBy m1 m2 p1 p2 d1 d2 k result
-    → StepsAlone (Honest m2 p2 d2) g (Reap k) (reaped_reply result)) q (of Inflating) (of Deflating)
-    (λ at. reap_no_queue m1 m2 p1 p2 d1 d2 g 2 result refl at stands) (of Reporting_free)
-    (λ none at. reap_no_queue m1 m2 p1 p2 d1 d2 g q result (no_requests_at q none) at stands) did
+reap_step {m1} {m2} {p1} {p2} {d1} {d2} {g} {q} {result} did stands =
+    by_queue (λ k. ReapsBy m1 m2 p1 p2 d1 d2 k result → StepsAlone (Honest m2 p2 d2) g (Reap k)
+    (reaped_reply result)) q (of Inflating) (of Deflating) (λ at. reap_no_queue refl at stands)
+    (of Reporting_free) (λ none at. reap_no_queue (no_requests_at q none) at stands) did
   where
     of : (kind : Kind) → ReapsBy m1 m2 p1 p2 d1 d2 (queue_of kind) result
         → StepsAlone (Honest m2 p2 d2) g (Reap (queue_of kind)) (reaped_reply result)
-    of kind did = in_words (λ d. ReapsBy m1 m2 p1 p2 d d2 (queue_of kind) result) m1 p1 d1 g stands
+    of kind did = in_words (λ d. ReapsBy m1 m2 p1 p2 d d2 (queue_of kind) result) stands
         did (λ areas sides here at.
         let q = queue_of kind in
         let d = driver_of g areas sides in
-        reap_by m1 m2 p1 p2 d d2 g q (requests kind g).done result (has_queue kind) at here
+        reap_by (requests kind g).done (has_queue kind) at here
         (λ run. used_line m1 q (ring_of q d) (queue_part q p1) (requests kind g)
-        (line_of kind m1 p1 d g run).ring)
-        (λ got next done answer run free. request_reaped kind m1 m2 p1 p2 g areas sides d2
+        (line_of kind run).ring) (λ got next done answer run free. request_reaped kind areas sides
         (requests kind g).done got refl next done answer here run free))

@@ -19,21 +19,21 @@ pub used_line : (mem : Pages) (q : ℕ) (ring : DriverEnd) (part : QueuePart) (r
 used_line mem q ring part rs stands =
     grind (
       arith,
-      ring_answer mem q ring part.next_avail part.next_used (heads_of rs.posted) (heads_of rs.taken) (heads_of rs.done) stands,
+      ring_answer stands,
     )
 
-pub requests_reaped : (mem : Pages) (q : ℕ) (ring after : DriverEnd) (part : QueuePart)
-    (posted taken : List Request) (r : Request) (rest : List Request)
+pub requests_reaped : {mem : Pages} (q : ℕ) {ring after : DriverEnd}
+    (part : QueuePart) (posted taken : List Request) (r : Request) (rest : List Request)
     → RingOf mem q ring part (record { posted = posted; taken = taken; done = r ∷ rest })
     → TakesUsedBy mem ring after (Ok (Some r.head))
     → RingOf mem q after part (record { posted = posted; taken = taken; done = rest })
-requests_reaped mem q ring after part posted taken r rest stands did = grind (arith, ring_reaped)
+requests_reaped q part posted taken r rest stands did = grind (arith, ring_reaped)
 
-pub line_reaped : (mem : Pages) (q n : ℕ) (side : RequestSide) (part : QueuePart) (rs : Requests)
+pub line_reaped : {mem : Pages} (q n : ℕ) (side : RequestSide) (part : QueuePart) (rs : Requests)
     (r : Request) (rest : List Request) → rs.done ≡ r ∷ rest → Line mem q n side part rs
     → TakesUsedBy mem side.ring (after_reap side r.head).ring (Ok (Some r.head))
     → Line mem q n (after_reap side r.head) part (record rs { done = rest })
-line_reaped mem q n side part rs r rest is line did =
+line_reaped {mem} q n side part rs r rest is line did =
     let P : Request → Type 0 = IsRequest side.ring.size n side.sent in
     let itself : one_if (r.head == r.head) ≡ 1 = one_is r.head in
     let once = headed_once mem q side.ring part rs r.head line.ring in
@@ -42,8 +42,7 @@ line_reaped mem q n side part rs r rest is line did =
     let most = at_most_one (is_head side.ring.owner r.head) in
     let R : List Request → Type 0 = λ l. RingOf mem q side.ring part (record rs { done = l }) in
     record {
-      ring = requests_reaped mem q side.ring (after_reap side r.head).ring part rs.posted rs.taken r
-          rest (subst R is line.ring) did;
+      ring = requests_reaped q part rs.posted rs.taken r rest (subst R is line.ring) did;
       keeps = length-set side.sent r.head [] ∙ line.keeps;
       posted = still_out side.ring.size n side.sent r.head [] rs.posted (omega arith) line.posted;
       taken = still_out side.ring.size n side.sent r.head [] rs.taken (omega arith) line.taken;

@@ -11,17 +11,17 @@ use Rattle.vb_device.specs.Conditions.{negotiated, take_refusal, finish_refusal,
 use Rattle.vb_device.specs.Queues.{queue_part}
 use Rattle.vb_guest.proofs.Closing.{first_holds}
 
-pub no_chains : (q : ℕ) → IsNoQueue q → not (has_chains q) ≡ true
-no_chains q h = ap not (no_chains_at q h)
+pub no_chains : {q : ℕ} → IsNoQueue q → not (has_chains q) ≡ true
+no_chains {q} h = ap not (no_chains_at q h)
 
 -- ---- take
 
-pub take_no_queue : (q : ℕ) (g : Guest) (part : Part) → IsNoQueue q
-    → (take_refusal q part ≡ Some NoQueue) × (refusal_of g (Take q) ≡ Some NoQueue)
-take_no_queue q g part h = (
-  first_holds (not (has_chains q)) NoQueue
-      (drop 1 (take_causes q (negotiated part) (length (queue_part q part).taken))) (no_chains q h),
-  first_holds (not (has_chains q)) NoQueue (drop 1 (causes g (Take q))) (no_chains q h),
+pub take_no_queue : {q : ℕ} (g : Guest) (part : Part)
+    → IsNoQueue q → (take_refusal q part ≡ Some NoQueue) × (refusal_of g (Take q) ≡ Some NoQueue)
+take_no_queue {q} g part h = (
+  first_holds NoQueue
+      (drop 1 (take_causes q (negotiated part) (length (queue_part q part).taken))) (no_chains h),
+  first_holds NoQueue (drop 1 (causes g (Take q))) (no_chains h),
 )
 
 -- ---- finish
@@ -29,9 +29,9 @@ take_no_queue q g part h = (
 pub finish_no_queue : (q i : ℕ) (g : Guest) (part : Part) → is_queue_of_requests q ≡ false
     → (finish_refusal q i part ≡ Some NoQueue) × (refusal_of g (Finish q i) ≡ Some NoQueue)
 finish_no_queue q i g part h = (
-  first_holds (not (is_queue_of_requests q)) NoQueue
+  first_holds NoQueue
       (drop 1 (finish_causes q (negotiated part) part.paced (taken_at q i part))) (ap not h),
-  first_holds (not (is_queue_of_requests q)) NoQueue (drop 1 (causes g (Finish q i))) (ap not h),
+  first_holds NoQueue (drop 1 (causes g (Finish q i))) (ap not h),
 )
 
 -- one of the four queues, or none

@@ -30,9 +30,10 @@ abbrev no_block : Block
 no_block = record { start = 0; order = 0 }
 
 -- its blocks' bytes are pieces that a chain may have
-report_sound : (descriptors n : ℕ) (mem : Pages) (blocks : List Block) → length mem ≡ n → 0 < length blocks
+report_sound : (descriptors : ℕ) {n : ℕ} (mem : Pages) (blocks : List Block)
+    → length mem ≡ n → 0 < length blocks
     → All (IsOwnBlock descriptors n) blocks → AreSound (4096 * length mem) (pieces_of blocks)
-report_sound descriptors n mem blocks len some own = record {
+report_sound descriptors {n} mem blocks len some own = record {
   some = omega (arith, some, length-map blocks piece_of);
   fit = λ k lt.
       let at : k < length blocks = omega (arith, length-map blocks piece_of) in
@@ -45,11 +46,11 @@ report_sound descriptors n mem blocks len some own = record {
 }
 
 -- its chain has the first descriptors, and a piece for each block
-pub report_chain : (mem : Pages) (table descriptors n : ℕ) (blocks : List Block) → length mem ≡ n
-    → 0 < length blocks → length blocks ≤ descriptors
+pub report_chain : {mem : Pages} {table descriptors n : ℕ} {blocks : List Block}
+    → length mem ≡ n → 0 < length blocks → length blocks ≤ descriptors
     → All (IsOwnBlock descriptors n) blocks → AreReported mem table blocks
     → ChainGives (descriptor_at mem table) descriptors (4096 * length mem) 0 (pieces_of blocks)
-report_chain mem table descriptors n blocks len some inside own reported =
+report_chain {mem} {table} {descriptors} {blocks} len some inside own reported =
     let count : ℕ = length blocks in
     let path : List ℕ = range_with_len 0 count in
     let long : length path ≡ count = length-range_with_len 0 count in
@@ -67,7 +68,7 @@ report_chain mem table descriptors n blocks len some inside own reported =
     (4096 * length mem) h (pieces_of blocks) in
     subst G (at 0 some) (written_chain (descriptor_at mem table) descriptors
     (4096 * length mem) path (pieces_of blocks) route (long ∙ sym (length-map blocks piece_of))
-    (omega (arith, long, inside)) (report_sound descriptors n mem blocks len some own) put)
+    (omega (arith, long, inside)) (report_sound descriptors mem blocks len some own) put)
 
 -- ---- the pages that it names
 

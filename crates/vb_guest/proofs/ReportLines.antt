@@ -12,41 +12,42 @@ use Rattle.vb_guest.proofs.{RingPosted.ring_posted, RingReaped.ring_reaped}
 
 -- ---- memory changes elsewhere
 
-reported_kept : (old new : Pages) (table : ℕ) (blocks : List Block) → page_at new table
+reported_kept : {old new : Pages} {table : ℕ} {blocks : List Block} → page_at new table
     ≡ page_at old table → AreReported old table blocks → AreReported new table blocks
-reported_kept old new table blocks same are = grind (arith, descriptor_apart)
+reported_kept same are = grind (arith, descriptor_apart)
 
 -- the ring's pages are as before
 pub report_apart : (old new : Pages) (n : ℕ) (side : ReportSide) (part : QueuePart) (rs : Requests)
-    → SameRing old new side.ring.size 4 → ReportLine old n side part rs
-    → ReportLine new n side part rs
+    → SameRing old new side.ring.size 4
+    → ReportLine old n side part rs → ReportLine new n side part rs
 report_apart old new n side part rs same line = record {
   keeps = tt;
-  ring = ring_apart old new 4 side.ring part.next_avail part.next_used _ _ _ same line.ring;
+  ring = ring_apart same line.ring;
   posted = line.posted;
   taken = line.taken;
   done = line.done;
   coded = λ k d lt.
       let table : ℕ = ring_page side.ring.size 4 in
-      reported_kept old new table side.blocks (same table (inl refl)) (line.coded k d lt);
+      reported_kept (same table (inl refl)) (line.coded k d lt);
   remembers = line.remembers;
 }
 
 -- ---- a report goes round
 
 -- the driver posts it
-pub report_posted : (m1 m2 : Pages) (n : ℕ) (s1 s2 : ReportSide) (part : QueuePart)
-    (blocks : List Block) (pages : List ℕ) → ReportLine m1 n s1 part no_requests → PostsReport m1 m2
-    s1 s2 blocks → IsReport s1.ring.size n blocks (record { head = 0; pages = pages; visited = 0 })
+pub report_posted : {m1 m2 : Pages}
+    {n : ℕ} {s1 s2 : ReportSide} (part : QueuePart) {blocks : List Block} (pages : List ℕ)
+    → ReportLine m1 n s1 part no_requests → PostsReport m1 m2 s1 s2 blocks
+    → IsReport s1.ring.size n blocks (record { head = 0; pages = pages; visited = 0 })
     → ReportLine m2 n s2 part (posting 0 pages no_requests)
-report_posted m1 m2 n s1 s2 part blocks pages line posts is = grind (arith, ring_posted)
+report_posted part pages line posts is = grind (arith, ring_posted)
 
 -- the driver sees that it was used; no other is out
-pub report_reaped : (mem : Pages) (n : ℕ) (side : ReportSide) (after : DriverEnd) (part : QueuePart)
+pub report_reaped : {mem : Pages} (n : ℕ) (side : ReportSide) {after : DriverEnd} (part : QueuePart)
     (rs : Requests) (r : Request) (rest : List Request) → rs.done ≡ r ∷ rest → outstanding rs ≤ 1
     → ReportLine mem n side part rs → TakesUsedBy mem side.ring after (Ok (Some r.head))
     → ReportLine mem n (record { ring = after; blocks = [] }) part (record rs { done = rest })
-report_reaped mem n side after part rs r rest is few line takes =
+report_reaped {mem} n side {after} part rs r rest is few line takes =
     by rs.posted rs.taken rest (omega (arith, few, ap (λ (l : List Request). length l) is))
     (subst (λ l. ReportLine mem n side part (record rs { done = l })) is line)
   where
@@ -55,8 +56,7 @@ report_reaped mem n side after part rs r rest is few line takes =
         → ReportLine mem n (record { ring = after; blocks = [] }) part
         (record { posted = posted; taken = taken; done = rest })
     by [] [] [] few line = let P : Request → Type 0 = IsReport after.size n [] in record {
-      ring = ring_reaped mem 4 side.ring after part.next_avail part.next_used [] [] r.head []
-          line.ring takes;
+      ring = ring_reaped r.head line.ring takes;
       keeps = tt;
       posted = All-nil P;
       taken = All-nil P;

@@ -11,7 +11,6 @@ use Rattle.vb_model.specs.declared.{calls.Call.TheVariants.Report, places.Place.
 use Rattle.vb_model.specs.declared.{places.Place.TheVariants.Reporting, replies.Refusal.Refusal}
 use Rattle.vb_model.specs.declared.replies.Refusal.TheVariants.{NotReady, NoFeature, QueueFull}
 use Rattle.vb_model.specs.declared.replies.{Refusal.TheVariants.Nothing, Reply.TheVariants.Posted}
-use Rattle.vb_model.specs.declared.replies.Reply.TheVariants.{Refused}
 use Rattle.vb_ram.{specs.Pages.Pages, specs.Part.Part}
 use Rattle.vb_driver.specs.{Answers.{report_causes, blocks_to_report}, Areas.areas_without}
 use Rattle.vb_driver.specs.{Calls.{Reports, ReportsBy, unreported}, State.{DriverState, ReportSide}}
@@ -21,7 +20,7 @@ use Rattle.vb_guest.proofs.SameRefusals.{refused_alike, runs_where, IsIdleStatus
 use Rattle.vb_guest.{specs.Reported.{IsReport, ReportLine, IsOwnBlock}, proofs.RingHeads.ring_count}
 use Rattle.vb_guest.{proofs.OwnBlocks.{reported_own, reported_few}, proofs.Running.others_posted}
 use Rattle.vb_guest.{specs.Stands.{Honest, Ties, IsRunning}, proofs.ReportLines.report_posted}
-use Rattle.vb_guest.{proofs.PagesKept.pages_same, specs.Replies.posted_reply, specs.Line.heads_of}
+use Rattle.vb_guest.{proofs.PagesKept.pages_same, specs.Replies.posted_reply}
 use Rattle.vb_guest.{proofs.RunApart.post_same, proofs.Apart.no_buffer, specs.Steps.StepsAlone}
 use Rattle.vb_ring.specs.Ends.{outstanding as outstanding_in}
 use Rattle.vb_driver.specs.declared.answers.Posted.{Posted as PostedRequest}
@@ -46,19 +45,17 @@ report_idle : (p : Part) (d : DriverState) (g : Guest) (from : ℕ) → p.status
 report_idle p d g from same down = grind arith
 
 -- the driver's areas are none of the guest's
-unreported_ties : (why : Refusal) (m1 m2 : Pages) (p1 p2 : Part) (d1 d2 : DriverState) (g : Guest)
+unreported_ties : (why : Refusal) {m1 m2 : Pages} {p1 p2 : Part} {d1 d2 : DriverState} {g : Guest}
     → m2 ≡ m1 → p2 ≡ p1 → d2 ≡ unreported why d1 → Ties m1 p1 d1 g → Ties m2 p2 d2 g
-unreported_ties why m1 m2 p1 p2 d1 d2 g m p d ties = search arith
+unreported_ties why m p d ties = search arith
 
-report_refused : (m1 m2 : Pages) (p1 p2 : Part) (d1 d2 : DriverState) (g : Guest) (from : ℕ)
-    (why : Refusal) → ReportsBy m1 m2 p1 p2 d1 d2 from (Err why) → Honest m1 p1 d1 g
-    → first_refusal (report_causes d1 p1 from) ≡ refusal_of g (Report from)
+report_refused : {m1 m2 : Pages} {p1 p2 : Part} {d1 d2 : DriverState}
+    {g : Guest} {from : ℕ} (why : Refusal) → ReportsBy m1 m2 p1 p2 d1 d2 from (Err why)
+    → Honest m1 p1 d1 g → first_refusal (report_causes d1 p1 from) ≡ refusal_of g (Report from)
     → StepsAlone (Honest m2 p2 d2) g (Report from) (posted_reply (Err why))
-report_refused m1 m2 p1 p2 d1 d2 g from why did stands same =
-    steps_alone m1 m2 p1 p2 d1 d2 g (Report from)
-    (Refused why) g stands (honest_refused g (Report from) why (sym (did.refusal ∙ same)))
-    (unreported_ties why m1 m2 p1 p2 d1 d2 g did.refused.mem did.refused.part did.refused.driver
-    stands.ties) refl
+report_refused {g} {from} why did stands same =
+    steps_alone stands (honest_refused g (Report from) why (sym (did.refusal ∙ same)))
+    (unreported_ties why did.refused.mem did.refused.part did.refused.driver stands.ties) refl
 
 -- ---- a new report
 
@@ -67,8 +64,8 @@ none_out : (a b : Bool) (out count : ℕ) → first_refusal ((a ⇒ NotReady) �
     ∷ (nat_le 1 out ⇒ QueueFull) ∷ ((count == 0) ⇒ Nothing) ∷ []) ≡ None → (out ≡ 0) × (0 < count)
 none_out a b out count e = grind arith
 
-all_gone : (rs : Requests) → outstanding rs ≡ 0 → rs ≡ no_requests
-all_gone rs e = by rs.posted rs.taken rs.done refl refl refl e where
+all_gone : {rs : Requests} → outstanding rs ≡ 0 → rs ≡ no_requests
+all_gone {rs} e = by rs.posted rs.taken rs.done refl refl refl e where
   by : (posted taken done : List Request) → rs.posted ≡ posted → rs.taken ≡ taken → rs.done ≡ done
       → outstanding rs ≡ 0 → rs ≡ no_requests
   by [] [] [] a b c e = ap (λ (l : List Request). record rs { posted = l }) a
@@ -78,32 +75,33 @@ all_gone rs e = by rs.posted rs.taken rs.done refl refl refl e where
   by [] (x ∷ xs) done a b c e = absurd (omega (arith, ap (λ (l : List Request). length l) b, e))
   by [] [] (x ∷ xs) a b c e = absurd (omega (arith, ap (λ (l : List Request). length l) c, e))
 
-first_head : (rs : Requests) → rs ≡ no_requests → IsLeastHead rs 0
-first_head rs e = grind arith
+first_head : {rs : Requests} → rs ≡ no_requests → IsLeastHead rs 0
+first_head e = grind arith
 
-report_out : (m1 m2 : Pages) (p1 p2 : Part) (d1 d2 : DriverState) (g : Guest) (from : ℕ)
-    (posted : PostedRequest) → Reports m1 m2 p1 p2 d1 d2 (reported_blocks g from) posted
+report_out : {m1 m2 : Pages} {p1 p2 : Part} {d1 d2 : DriverState} {g : Guest}
+    {from : ℕ} {posted : PostedRequest} → Reports m1 m2 p1 p2 d1 d2 (reported_blocks g from) posted
     → Honest m1 p1 d1 g → IsRunning m1 p1 d1 g → refusal_of g (Report from) ≡ None
     → outstanding g.report ≡ 0 → 0 < length (reported_blocks g from)
     → StepsAlone (Honest m2 p2 d2) g (Report from) (Posted posted.head posted.pages)
-report_out m1 m2 p1 p2 d1 d2 g from posted did stands run free none some = let ties = stands.ties in
+report_out {m1} {m2}
+    {p1} {d1} {d2} {g} {from} {posted} did stands run free none some = let ties = stands.ties in
     let n = g.config.pages in
     let blocks = reported_blocks g from in
     let pages = pages_of_all blocks in
-    let gone : g.report ≡ no_requests = all_gone g.report none in
+    let gone : g.report ≡ no_requests = all_gone none in
     let new : Guest = after_posting Reporting_free 0 pages g in
     let reply : Posted posted.head posted.pages ≡ Posted 0 (length pages) =
     ap (λ (h : ℕ). Posted h posted.pages) did.head ∙ ap (Posted 0) did.pages in
     let step = honest_performed g (Report from) [] (Posted posted.head posted.pages) new free
-    (refl, (0, first_head g.report gone, reply, refl)) in
+    (refl, (0, first_head gone, reply, refl)) in
     let size = g.config.queue_size in
     let rest = did.posts.rest in
     let l = d1.report.ring.layout in
-    let ring = ring_of size 4 d1.report.ring run.report.ring.sized run.report.ring.layout
+    let ring = ring_of 4 d1.report.ring run.report.ring.sized run.report.ring.layout
     run.report_size in
-    let same = post_same m1 m2 size 4 l.table l ring (ring_low size size 4 l.table refl ring.table)
+    let same = post_same l.table ring (ring_low 4 l.table refl ring.table)
     rest.count rest.backing rest.others in
-    let leaves = post_leaves m1 m2 d1 size 4 l.table l (sizes_of m1 p1 d1 g run) ring
+    let leaves = post_leaves (sizes_of run) ring
     (table_clear size 4 l.table ring.table) rest.others in
     let few = reported_few g from in
     let is : IsReport d1.report.ring.size n blocks
@@ -119,12 +117,11 @@ report_out m1 m2 p1 p2 d1 d2 g from posted did stands run free none some = let t
     let L : Requests → Type 0 = λ rs. ReportLine m1 n d1.report p1.report rs in
     let M : Requests → Type 0 = λ rs. ReportLine m2 n d2.report p1.report (posting 0 pages rs) in
     let line : M g.report =
-    subst M (sym gone) (report_posted m1 m2 n d1.report d2.report p1.report blocks pages
-    (subst L gone run.report) did.posts is) in
-    let still = others_posted m1 m2 p1 d1 g 4 l.table run leaves rest.backing
-    (λ ne. no_buffer size 4 l.table 12 ring.table (omega arith) (omega arith))
-    (λ ne p from to. no_buffer size 4 l.table p ring.table from (omega (arith, to)))
-    (λ ne p from to. no_buffer size 4 l.table p ring.table (omega (arith, from)) (omega (arith, to)))
+    subst M (sym gone) (report_posted p1.report pages (subst L gone run.report) did.posts is) in
+    let still = others_posted run leaves rest.backing (λ ne. no_buffer size 4 l.table 12 ring.table
+    (omega arith) (omega arith)) (λ ne p from to. no_buffer size 4 l.table p ring.table from
+    (omega (arith, to))) (λ ne p from to. no_buffer size 4 l.table p ring.table
+    (omega (arith, from)) (omega (arith, to)))
     in
     let after : DriverState = record d1 {
       places = placed pages Reporting d1.places;
@@ -134,27 +131,25 @@ report_out m1 m2 p1 p2 d1 d2 g from posted did stands run free none some = let t
     let sized = ap (λ (s : ReportSide). s.ring.size) did.posts.state ∙ run.report_size in
     let there : Ties m2 p1 after new = record {
       parts = assumption (ap (placed pages Reporting) ties.parts.driver.places);
-      pages = pages_same m1 m2 g.config.queue_size n _ _ same ties.pages;
+      pages = pages_same same ties.pages;
       queues = inr (assumption (still.inflate refl, still.deflate refl, still.statistics refl));
     } in
-    steps_alone m1 m2 p1 p2 d1 d2 g (Report from) (Posted posted.head posted.pages) new stands step
-    (ties_same m2 m2 p1 p2 after d2 new refl did.part did.state there) refl
+    steps_alone stands step (ties_same refl did.part did.state there) refl
 
-pub report_step : (m1 m2 : Pages) (p1 p2 : Part) (d1 d2 : DriverState) (g : Guest) (from : ℕ)
-    (result : Result PostedRequest Refusal) → ReportsBy m1 m2 p1 p2 d1 d2 from result
+pub report_step : {m1 m2 : Pages} {p1 p2 : Part} {d1 d2 : DriverState} {g : Guest}
+    {from : ℕ} {result : Result PostedRequest Refusal} → ReportsBy m1 m2 p1 p2 d1 d2 from result
     → Honest m1 p1 d1 g → StepsAlone (Honest m2 p2 d2) g (Report from) (posted_reply result)
-report_step m1 m2 p1 p2 d1 d2 g from result did stands = let device = stands.ties.parts.device in
+report_step {m1} {m2}
+    {p1} {p2} {d1} {d2} {g} {from} {result} did stands = let device = stands.ties.parts.device in
     let driver = stands.ties.parts.driver in
-    by result did (refused_alike m1 p1 d1 g (Report from) _ stands.ties.queues
-    (report_idle p1 d1 g from device.status)
-    (λ run. report_same p1 d1 g from device.status driver.accepted (out_same run)
-    (blocks_same d1 g from driver.queue_size driver.places)))
+    by result did (refused_alike (Report from) stands.ties.queues
+    (report_idle p1 d1 g from device.status) (λ run. report_same p1 d1 g from device.status
+    driver.accepted (out_same run) (blocks_same d1 g from driver.queue_size driver.places)))
   where
     out_same : IsRunning m1 p1 d1 g → outstanding_in d1.report.ring ≡ outstanding g.report
     out_same run = let rs = g.report in omega (
       arith,
-      ring_count m1 4 d1.report.ring p1.report.next_avail p1.report.next_used
-          (heads_of rs.posted) (heads_of rs.taken) (heads_of rs.done) run.report.ring,
+      ring_count run.report.ring,
       length-map rs.posted (λ (r : Request). r.head),
       length-map rs.taken (λ (r : Request). r.head),
       length-map rs.done (λ (r : Request). r.head),
@@ -163,14 +158,13 @@ report_step m1 m2 p1 p2 d1 d2 g from result did stands = let device = stands.tie
     by : (result : Result PostedRequest Refusal) → ReportsBy m1 m2 p1 p2 d1 d2 from result
         → first_refusal (report_causes d1 p1 from) ≡ refusal_of g (Report from)
         → StepsAlone (Honest m2 p2 d2) g (Report from) (posted_reply result)
-    by (Err why) did same = report_refused m1 m2 p1 p2 d1 d2 g from why did stands same
+    by (Err why) did same = report_refused why did stands same
     by (Ok posted) did same =
         let free : refusal_of g (Report from) ≡ None = sym (did.refusal ∙ same) in
         let fits = none_out (not (is_up g.status)) (not (reporting g.features))
         (outstanding g.report) (length (reported_blocks g from)) free in
         let R : List Block → Type 0 = λ l. Reports m1 m2 p1 p2 d1 d2 l posted in
-        report_out m1 m2 p1 p2 d1 d2 g from posted
-        (subst R (blocks_same d1 g from stands.ties.parts.driver.queue_size
-        stands.ties.parts.driver.places) did.reports) stands
-        (runs_where m1 p1 d1 g (Report from) _ stands.ties.queues
+        report_out (subst R
+        (blocks_same d1 g from stands.ties.parts.driver.queue_size stands.ties.parts.driver.places)
+        did.reports) stands (runs_where (Report from) _ stands.ties.queues
         (report_idle p1 d1 g from stands.ties.parts.device.status) free) free fits.0 fits.1

@@ -11,9 +11,9 @@ use Rattle.vb_guest.{specs.Stands.{Honest, Ties}, specs.Steps.StepsAlone}
 use Rattle.vb_guest.proofs.Closing.{honest_performed, steps_alone, ties_same}
 use Rattle.vb_status.specs.After.{part_after_reset as device_after_reset}
 
-pub reset_step : (m1 m2 : Pages) (p1 p2 : Part) (d1 d2 : DriverState) (g : Guest)
+pub reset_step : {m1 m2 : Pages} {p1 p2 : Part} {d1 d2 : DriverState} {g : Guest}
     → ResetsBy m1 m2 p1 p2 d1 d2 → Honest m1 p1 d1 g → StepsAlone (Honest m2 p2 d2) g Reset Done
-reset_step m1 m2 p1 p2 d1 d2 g did stands = let parts = stands.ties.parts in
+reset_step {m1} {p1} {d1} {g} did stands = let parts = stands.ties.parts in
     let new : Guest = after_reset g in
     let part : Part = device_after_reset p1 in
     let state : DriverState =
@@ -30,7 +30,10 @@ reset_step m1 m2 p1 p2 d1 d2 g did stands = let parts = stands.ties.parts in
     let size : length p1.ballooned ≡ g.config.pages =
     ap (λ (l : List Bool). length l) parts.device.ballooned ∙ stands.consistent.flagged in
     let there : Ties m1 part state new = record {
-      parts = assumption (ap (λ (l : List Place). map place_after_reset l) parts.driver.places, ap (λ (n : ℕ). replicate n false) size);
+      parts = assumption (
+        ap (λ (l : List Place). map place_after_reset l) parts.driver.places,
+        ap (λ (n : ℕ). replicate n false) size,
+      );
       pages = stands.ties.pages;
       queues = inl (record {
         state = inl refl;
@@ -43,6 +46,5 @@ reset_step m1 m2 p1 p2 d1 d2 g did stands = let parts = stands.ties.parts in
         last = refl;
       });
     } in
-    steps_alone m1 m2 p1 p2 d1 d2 g Reset Done new stands
-    (honest_performed g Reset [] Done new refl (refl, (refl, refl)))
-    (ties_same m1 m2 part p2 state d2 new did.mem did.part did.state there) refl
+    steps_alone stands (honest_performed g Reset [] Done new refl (refl, (refl, refl)))
+    (ties_same did.mem did.part did.state there) refl

@@ -18,10 +18,9 @@ use Rattle.vb_guest.specs.Supply.{Supply, supply_of, Moves, nothing, AreLoose}
 -- ---- the frames behind all pages
 
 -- each frame as often as it is in the table
-all_behind : (n first : ℕ) (mem : Pages) (frames : List (Option ℕ))
-    → ((i : ℕ) → i < length frames → frame_at mem (first + i) ≡ slice_index_or frames i None)
-    → times n (frames_behind mem (range_with_len first (length frames)))
-    ≡ count_by (is_frame n) frames
+all_behind : (n first : ℕ) (mem : Pages) (frames : List (Option ℕ)) → ((i : ℕ)
+    → i < length frames → frame_at mem (first + i) ≡ slice_index_or frames i None) → times n
+    (frames_behind mem (range_with_len first (length frames))) ≡ count_by (is_frame n) frames
 all_behind n first mem [] same = refl
 all_behind n first mem (x ∷ xs) same =
     let here : frame_at mem first ≡ x = ap (frame_at mem) (omega arith) ∙ same 0 (omega arith) in
@@ -51,85 +50,82 @@ record Rooted (mem : Pages) (part : Part) (d : DriverState) (g : Guest) : Type 0
   flagged : length part.ballooned ≡ g.config.pages
   frames : HasFrames mem g.config.pages g.frames
 
-rooted : (keeps : Bool) (mem : Pages) (part : Part) (d : DriverState) (g : Guest)
+rooted : {keeps : Bool} {mem : Pages} {part : Part} {d : DriverState} {g : Guest}
     → Stands keeps mem part d g → Rooted mem part d g
-rooted keeps mem part d g stands = search arith
+rooted stands = search arith
 
 -- all frames of the guest
 abbrev pub all_frames : Pages → List ℕ
 all_frames mem = frames_behind mem (range_with_len 0 (length mem))
 
-frames_of_guest : (mem : Pages) (g : Guest) → HasFrames mem g.config.pages g.frames
-    → (n : ℕ) → times n (all_frames mem) ≡ backing_count n g
-frames_of_guest mem g pages n =
+frames_of_guest : {mem : Pages} (g : Guest)
+    → HasFrames mem g.config.pages g.frames → (n : ℕ) → times n (all_frames mem) ≡ backing_count n g
+frames_of_guest {mem} g pages n =
     let size : length mem ≡ length g.frames = pages.length_is ∙ sym pages.framed in
     ap (λ (k : ℕ). times n (frames_behind mem (range_with_len 0 k))) size
     ∙ all_behind n 0 mem g.frames (λ i lt. ap (frame_at mem) (omega arith) ∙ pages.behind i)
 
 -- they are out
-pub all_loose : (keeps : Bool) (mem : Pages) (part : Part) (d : DriverState) (g : Guest)
-    (out : List Bool) → Stands keeps mem part d g → (keeps ≡ false → AreOut g out)
-    → AreLoose (all_frames mem) (supply_of part out)
-all_loose keeps mem part d g out stands held n =
-    grind (arith, frames_of_guest mem g (rooted keeps mem part d g stands).frames n)
+pub all_loose : {keeps : Bool} {mem : Pages}
+    {part : Part} {d : DriverState} {g : Guest} (out : List Bool) → Stands keeps mem part d g
+    → (keeps ≡ false → AreOut g out) → AreLoose (all_frames mem) (supply_of part out)
+all_loose {g} out stands held n = grind (arith, frames_of_guest g (rooted stands).frames n)
 
 -- and have gone back
-pub all_returned : (keeps : Bool) (mem : Pages) (part : Part) (d : DriverState) (g : Guest)
-    (s1 s2 : Supply) → Stands keeps mem part d g
+pub all_returned : {keeps : Bool} {mem : Pages}
+    {part : Part} {d : DriverState} {g : Guest} {s1 s2 : Supply} → Stands keeps mem part d g
     → Moves s1 s2 nothing (λ n. times n (all_frames mem)) → AllReturn s1 s2 g
-all_returned keeps mem part d g s1 s2 stands moves =
-    moves_as s1 s2 nothing (λ n. times n (all_frames mem)) nothing (λ n. backing_count n g) moves
-    (λ n. omega (arith, frames_of_guest mem g (rooted keeps mem part d g stands).frames n))
+all_returned {g} stands moves =
+    moves_as moves (λ n. omega (arith, frames_of_guest g (rooted stands).frames n))
 
 -- no page has one
-pub is_bare : (mem : Pages) (part : Part) (n : ℕ) → mem ≡ replicate n None → part.loose ≡ []
-    → IsBare mem part
-is_bare mem part n none loose = grind (arith, everywhere)
+pub is_bare : {mem : Pages} {part : Part} (n : ℕ)
+    → mem ≡ replicate n None → part.loose ≡ [] → IsBare mem part
+is_bare n none loose = grind (arith, everywhere)
 
 -- where each page has the frame that it had, none had one
-pub none_had : (m1 m2 : Pages) (n : ℕ) → m2 ≡ replicate n None → KeepsFrames m1 m2
-    → (page : ℕ) → frame_at m1 page ≡ None
-none_had m1 m2 n none kept page =
-    sym (kept page) ∙ ap (λ (m : Pages). frame_at m page) none ∙ ap number_of (everywhere n None page)
+pub none_had : (m1 : Pages) {m2 : Pages} (n : ℕ)
+    → m2 ≡ replicate n None → KeepsFrames m1 m2 → (page : ℕ) → frame_at m1 page ≡ None
+none_had m1 n none kept page =
+    sym (kept page)
+    ∙ ap (λ (m : Pages). frame_at m page) none ∙ ap number_of (everywhere n None page)
 
 -- ---- the new life
 
 -- what the device keeps
-part_restarted : (m1 : Pages) (p1 p2 : Part) (d1 : DriverState) (g : Guest) (own : List ℕ) → Rooted
-    m1 p1 d1 g → p2 ≡ record (part_after_reset (part_after_reset p1)) { loose = []; own = own }
+part_restarted : {m1 : Pages} {p1 p2 : Part} {d1 : DriverState} {g : Guest} (own : List ℕ)
+    → Rooted m1 p1 d1 g
+    → p2 ≡ record (part_after_reset (part_after_reset p1)) { loose = []; own = own }
     → DeviceKeeps p2 g.config 0 0 g.target 0 (replicate g.config.pages false) no_statistics
-part_restarted m1 p1 p2 d1 g own root is = grind (arith, length-replicate)
+part_restarted own root is = grind (arith, length-replicate)
 
-honest_restarted : (m1 m2 : Pages) (p1 p2 : Part) (d1 d2 : DriverState) (g : Guest)
+honest_restarted : {m1 m2 : Pages} {p1 p2 : Part} {d1 d2 : DriverState} {g : Guest}
     → Rooted m1 p1 d1 g → m2 ≡ replicate (length m1) None
     → p2 ≡ record (part_after_reset (part_after_reset p1)) { loose = []; own = p2.own }
     → d2 ≡ fresh_driver d1.pages d1.queue_size d1.processors → Honest m2 p2 d2 (after_restart g)
-honest_restarted m1 m2 p1 p2 d1 d2 g root m p d = grind (
+honest_restarted {p2} {g} root m p d = grind (
   arith,
-  fresh_honest g.config g.target p2 root.config (part_restarted m1 p1 p2 d1 g p2.own root p),
+  fresh_honest g.config g.target p2 root.config (part_restarted p2.own root p),
 )
 
-pub restart_step : (keeps : Bool) (m1 between m2 : Pages) (p1 reset p2 : Part) (d1 d2 : DriverState)
-    (g : Guest) (out1 out2 : List Bool) → Stands keeps m1 p1 d1 g → between ≡ m1 → reset
+pub restart_step : {keeps : Bool} {m1 between m2 : Pages} {p1 reset p2 : Part} {d1 d2 : DriverState}
+    {g : Guest} (out1 out2 : List Bool) → Stands keeps m1 p1 d1 g → between ≡ m1 → reset
     ≡ part_after_reset p1 → d2 ≡ fresh_driver d1.pages d1.queue_size d1.processors → m2 ≡ replicate
     (length between) None → p2 ≡ record (part_after_reset reset) { loose = []; own = p2.own }
     → Moves (supply_of reset out1) (supply_of p2 out2) nothing (λ n. times n (all_frames between))
     → Restarts (Stands keeps m2 p2 d2) (supply_of p1 out1) (supply_of p2 out2) g
-restart_step keeps m1 between m2 p1 reset p2 d1 d2 g out1 out2 stands same was d m p moved =
-    let root = rooted keeps m1 p1 d1 g stands in
+restart_step {between} {p1} {p2} {g} out1 out2 stands same was d m p moved =
+    let root = rooted stands in
     let back : AllReturn (supply_of p1 out1) (supply_of p2 out2) g =
-    all_returned keeps m1 p1 d1 g (supply_of p1 out1) (supply_of p2 out2) stands
-    (subst (λ (x : Pages). Moves (supply_of p1 out1) (supply_of p2 out2) nothing
+    all_returned stands (subst (λ (x : Pages). Moves (supply_of p1 out1) (supply_of p2 out2) nothing
     (λ n. times n (all_frames x))) same (subst (λ (x : Supply). Moves x (supply_of p2 out2) nothing
     (λ n. times n (all_frames between))) (ap (λ (x : Part). supply_of x out1) was) moved)) in
     let fresh_frames : Moves (supply_of p1 out1) (supply_of p2 out2)
-    (λ n. backing_count n (after_restart g)) (λ n. backing_count n g) = moves_as (supply_of p1 out1)
-    (supply_of p2 out2) nothing (λ n. backing_count n g) (λ n. backing_count n (after_restart g))
-    (λ n. backing_count n g) back (λ n. omega (arith, backs_none n g.config.pages)) in
+    (λ n. backing_count n (after_restart g)) (λ n. backing_count n g) = moves_as back
+    (λ n. omega (arith, backs_none n g.config.pages)) in
     record {
-      stands = stands_of keeps m2 p2 d2 (after_restart g) (honest_restarted m1 m2 p1 p2 d1 d2 g root
-          (m ∙ ap (λ (x : Pages). replicate (length x) None) same)
-          (p ∙ ap (λ (x : Part). record (part_after_reset x) { loose = []; own = p2.own }) was) d)
-          (own_moved keeps p1 p2 out1 out2 g (after_restart g) fresh_frames stands.own);
+      stands = stands_of (honest_restarted root (m ∙ ap (λ (x : Pages). replicate
+          (length x) None) same) (p ∙ ap (λ (x : Part). record (part_after_reset x)
+          { loose = []; own = p2.own }) was) d) (own_moved out1 out2 fresh_frames stands.own);
       moves = back;
     }

@@ -18,12 +18,11 @@ pub ring_parts : (q : ℕ) (ring : DriverEnd) → IsSize ring.size
 ring_parts q ring sized layout =
     subst (AreInRing ring.size q) (sym layout) (parts_in_ring ring.size q sized)
 
-pub ring_apart : (old new : Pages) (q : ℕ) (ring : DriverEnd) (next_avail next_used : ℕ)
-    (posted taken done : List ℕ)
+pub ring_apart : {old new : Pages}
+    {q : ℕ} {ring : DriverEnd} {next_avail next_used : ℕ} {posted taken done : List ℕ}
     → SameRing old new ring.size q → RingStands old q ring next_avail next_used posted taken done
     → RingStands new q ring next_avail next_used posted taken done
-ring_apart old new q ring next_avail next_used posted taken done same stands =
-    let l = ring.layout in
+ring_apart {old} {new} {q} {ring} {posted} {done} same stands = let l = ring.layout in
     let parts = ring_parts q ring stands.sized stands.layout in
     let table = same l.table parts.table in
     let avail = same l.avail.page parts.avail in
@@ -45,10 +44,9 @@ ring_apart old new q ring next_avail next_used posted taken done same stands =
 
 -- ---- nothing was published yet
 
-pub ring_new : (mem : Pages) (q : ℕ) (ring : DriverEnd) → IsSize ring.size
-    → ring.layout ≡ layout_of (ring_page ring.size q) ring.size → IsNewRing mem ring
-    → RingStands mem q ring 0 0 [] [] []
-ring_new mem q ring sized layout new = record {
+pub ring_new : {mem : Pages} {q : ℕ} {ring : DriverEnd} → IsSize ring.size → ring.layout ≡ layout_of
+    (ring_page ring.size q) ring.size → IsNewRing mem ring → RingStands mem q ring 0 0 [] [] []
+ring_new sized layout new = record {
   sized = sized;
   layout = layout;
   before = [];

@@ -74,18 +74,18 @@ none_after (x ∷ xs) = none_after xs
 -- ---- the ring
 
 -- a head is posted, taken or used once where the driver's table has it, and else not at all
-pub ring_once : (mem : Pages) (q : ℕ) (ring : DriverEnd) (next_avail next_used : ℕ)
-    (posted taken done : List ℕ) (h : ℕ)
+pub ring_once : {mem : Pages}
+    {q : ℕ} {ring : DriverEnd} {next_avail next_used : ℕ} {posted taken done : List ℕ} (h : ℕ)
     → RingStands mem q ring next_avail next_used posted taken done
     → times h posted + (times h taken + times h done) ≡ one_if (is_head ring.owner h)
-ring_once mem q ring next_avail next_used posted taken done h stands =
+ring_once {posted} {done} h stands =
     let front : times h (ids (take (length stands.gone) (stands.gone ++ used_of done)))
     ≡ times h (ids stands.gone) =
     ap (λ (l : List UsedElem). times h (ids l)) (take_front stands.gone (used_of done)) in
     omega (arith, stands.tracks.out h, front, times-append h stands.before posted, stands.balance h)
 
 -- as many chains are out as there are posted, taken and used heads
-pub ring_count : (mem : Pages) (q : ℕ) (ring : DriverEnd) (next_avail next_used : ℕ)
-    (posted taken done : List ℕ) → RingStands mem q ring next_avail next_used posted taken done
+pub ring_count : {mem : Pages} {q : ℕ} {ring : DriverEnd} {next_avail next_used : ℕ}
+    {posted taken done : List ℕ} → RingStands mem q ring next_avail next_used posted taken done
     → outstanding ring ≡ length posted + (length taken + length done)
-ring_count mem q ring next_avail next_used posted taken done stands = grind (arith, length-append)
+ring_count stands = grind (arith, length-append)

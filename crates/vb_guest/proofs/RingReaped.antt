@@ -14,11 +14,10 @@ use Rattle.vb_guest.proofs.RingHeads.{none_after, ring_once, ring_count}
 use Rattle.vb_guest.specs.Ring.{RingStands, used_of}
 
 -- the driver's next used head is the first that it hasn't seen
-pub ring_answer : (mem : Pages) (q : ℕ) (ring : DriverEnd) (next_avail next_used : ℕ)
-    (posted taken done : List ℕ) → RingStands mem q ring next_avail next_used posted taken done
+pub ring_answer : {mem : Pages} {q : ℕ} {ring : DriverEnd} {next_avail next_used : ℕ}
+    {posted taken done : List ℕ} → RingStands mem q ring next_avail next_used posted taken done
     → used_answer mem ring ≡ Ok (slice_get done 0)
-ring_answer mem q ring next_avail next_used posted taken done stands =
-    let out = ring_count mem q ring next_avail next_used posted taken done stands in
+ring_answer {mem} {ring} {done} stands = let out = ring_count stands in
     let next = id_shown mem ring.layout ring.size (outstanding ring)
     (stands.gone ++ used_of done) (length stands.gone) ring.seen stands.sized
     (length-numbers (is_head ring.owner) ring.size) stands.shows.entries.used stands.tracks.seen
@@ -27,42 +26,38 @@ ring_answer mem q ring next_avail next_used posted taken done stands =
     (ids-split stands.gone done) ∙ ap (λ (k : ℕ). Ok (slice_get (ids stands.gone ++ done) k))
     (sym (length-ids stands.gone))) ∙ by_done done refl
   where
-    by_done : (d : List ℕ) → done ≡ d
-        → only_head ring.owner (Ok (slice_get (ids stands.gone ++ done) (length (ids stands.gone))))
-        ≡ Ok (slice_get done 0)
-    by_done [] is = ap (λ (d : List ℕ). only_head ring.owner
-        (Ok (slice_get (ids stands.gone ++ d) (length (ids stands.gone))))) is
-        ∙ ap (λ (o : Option ℕ). only_head ring.owner (Ok o)) (none_after (ids stands.gone))
-        ∙ ap (λ (d : List ℕ). Ok (slice_get d 0)) (sym is)
+    by_done : (d : List ℕ) → done ≡ d → only_head ring.owner (Ok
+        (slice_get (ids stands.gone ++ done) (length (ids stands.gone)))) ≡ Ok (slice_get done 0)
+    by_done [] is = ap (λ (d : List ℕ). only_head ring.owner (Ok (slice_get (ids stands.gone ++ d)
+        (length (ids stands.gone))))) is ∙ ap (λ (o : Option ℕ). only_head ring.owner (Ok o))
+        (none_after (ids stands.gone)) ∙ ap (λ (d : List ℕ). Ok (slice_get d 0)) (sym is)
     by_done (h ∷ rest) is =
         let owns : is_head ring.owner h ≡ true = is_one (is_head ring.owner h) (omega (
           arith,
-          ring_once mem q ring next_avail next_used posted taken done h stands,
+          ring_once h stands,
           ap (times h) is ∙ times-cons h h rest,
           one_is h,
         )) in
         let found : Result (Option ℕ) RingBroken = Ok (Some h) in
         let wrong : Result (Option ℕ) RingBroken = Err NotOutstanding in
-        ap (λ (d : List ℕ). only_head ring.owner
-        (Ok (slice_get (ids stands.gone ++ d) (length (ids stands.gone))))) is
-        ∙ ap (λ (o : Option ℕ). only_head ring.owner (Ok o)) (get_after (ids stands.gone) h rest)
-        ∙ ap (λ (b : Bool). if b then found else wrong) owns
+        ap (λ (d : List ℕ). only_head ring.owner (Ok (slice_get (ids stands.gone ++ d)
+        (length (ids stands.gone))))) is ∙ ap (λ (o : Option ℕ). only_head ring.owner (Ok o))
+        (get_after (ids stands.gone) h rest) ∙ ap (λ (b : Bool). if b then found else wrong) owns
         ∙ ap (λ (d : List ℕ). Ok (slice_get d 0)) (sym is)
 
-pub ring_reaped : (mem : Pages) (q : ℕ) (ring after : DriverEnd) (next_avail next_used : ℕ)
-    (posted taken : List ℕ) (h : ℕ) (rest : List ℕ)
+pub ring_reaped : {mem : Pages} {q : ℕ} {ring after : DriverEnd}
+    {next_avail next_used : ℕ} {posted taken : List ℕ} (h : ℕ) {rest : List ℕ}
     → RingStands mem q ring next_avail next_used posted taken (h ∷ rest)
     → TakesUsedBy mem ring after (Ok (Some h))
     → RingStands mem q after next_avail next_used posted taken rest
-ring_reaped mem q ring after next_avail next_used posted taken h rest stands did =
+ring_reaped {mem} {q} {ring} {after} {next_avail} {next_used} {posted} {taken} h {rest} stands did =
     let R : DriverEnd → Type 0 = λ r. RingStands mem q r next_avail next_used posted taken rest in
     subst R (sym did.state) (reaped_at mem q ring next_avail next_used posted taken h rest stands
     (subst (λ (r : DriverEnd). TakesUsedBy mem ring r (Ok (Some h))) did.state did))
   where
     reaped_at : (mem : Pages) (q : ℕ) (ring : DriverEnd) (next_avail next_used : ℕ)
-        (posted taken : List ℕ) (h : ℕ) (rest : List ℕ)
-        → RingStands mem q ring next_avail next_used posted taken (h ∷ rest)
-        → TakesUsedBy mem ring (after_take ring (Ok (Some h))) (Ok (Some h))
+        (posted taken : List ℕ) (h : ℕ) (rest : List ℕ) → RingStands mem q ring next_avail next_used
+        posted taken (h ∷ rest) → TakesUsedBy mem ring (after_take ring (Ok (Some h))) (Ok (Some h))
         → RingStands mem q (after_take ring (Ok (Some h))) next_avail next_used posted taken rest
     reaped_at mem q ring next_avail next_used posted taken h rest stands did =
         let e : UsedElem = record { id = h; len = 0 } in

@@ -8,10 +8,10 @@ use Rattle.vb_guest.specs.Ring.{RingStands, used_of}
 use Rattle.vb_guest.proofs.RingHeads.{length-used, get_after, none_after}
 
 -- the device's next entry is the first posted head
-pub ring_next : (mem : Pages) (q : ℕ) (ring : DriverEnd) (next_avail next_used : ℕ)
-    (posted taken done : List ℕ) → RingStands mem q ring next_avail next_used posted taken done
+pub ring_next : {mem : Pages} {q : ℕ} {ring : DriverEnd} {next_avail next_used : ℕ}
+    {posted taken done : List ℕ} → RingStands mem q ring next_avail next_used posted taken done
     → next_entry mem ring.layout ring.size next_avail ≡ Ok (slice_get posted 0)
-ring_next mem q ring next_avail next_used posted taken done stands =
+ring_next {mem} {ring} {next_avail} {posted} {done} stands =
     let used = length-used stands.gone done in
     entry_shown mem ring.layout ring.size (stands.before ++ posted)
     (length stands.before) next_avail stands.sized stands.shows.entries.avail stands.avail
@@ -23,11 +23,10 @@ ring_next mem q ring next_avail next_used posted taken done stands =
     first before [] = none_after before
     first before (h ∷ rest) = get_after before h rest
 
-pub ring_taken : (mem : Pages) (q : ℕ) (ring : DriverEnd) (next_avail next_used : ℕ) (h : ℕ)
-    (rest taken done : List ℕ) → RingStands mem q ring next_avail next_used (h ∷ rest) taken done
+pub ring_taken : {mem : Pages} {q : ℕ} {ring : DriverEnd} {next_avail next_used : ℕ} (h : ℕ)
+    {rest taken done : List ℕ} → RingStands mem q ring next_avail next_used (h ∷ rest) taken done
     → RingStands mem q ring ((next_avail + 1) % 65536) next_used rest (taken ++ h ∷ []) done
-ring_taken mem q ring next_avail next_used h rest taken done stands =
-    let elems = stands.gone ++ used_of done in
+ring_taken {mem} {ring} h {rest} {taken} {done} stands = let elems = stands.gone ++ used_of done in
     let moved : (stands.before ++ h ∷ []) ++ rest ≡ stands.before ++ (h ∷ rest) =
     append_assoc stands.before (h ∷ []) rest in
     let Q : List ℕ → Type 0 = λ l. Shows mem ring.layout ring.size l elems in

@@ -10,8 +10,8 @@ use Rattle.vb_ring.{proofs.MeaningLaws.{times-push, used_tracks}, specs.Ends.{Dr
 use Rattle.vb_guest.specs.Ring.{RingStands, used_of}
 use Rattle.vb_guest.proofs.RingHeads.{one_is, times-remove, times-used}
 
-pub ring_used : (m1 m2 : Pages) (q : ℕ) (ring : DriverEnd) (next_avail next_used : ℕ)
-    (posted taken done : List ℕ) (i h : ℕ) (after : DeviceEnd)
+pub ring_used : {m1 m2 : Pages} {q : ℕ} {ring : DriverEnd}
+    {next_avail next_used : ℕ} {posted taken done : List ℕ} (i : ℕ) {h : ℕ} {after : DeviceEnd}
     → RingStands m1 q ring next_avail next_used posted taken done → slice_get taken i ≡ Some h
     → AddsUsedBy m1 m2 (record {
       layout = ring.layout;
@@ -21,7 +21,7 @@ pub ring_used : (m1 m2 : Pages) (q : ℕ) (ring : DriverEnd) (next_avail next_us
       next_used = next_used;
     }) after h 0 → RingStands m2 q ring next_avail ((next_used + 1) % 65536) posted (remove taken i)
     (done ++ h ∷ [])
-ring_used m1 m2 q ring next_avail next_used posted taken done i h after stands is adds =
+ring_used {m1} {m2} {ring} {posted} {taken} {done} i {h} stands is adds =
     let heads = stands.before ++ posted in
     let elems = stands.gone ++ used_of done in
     let e : UsedElem = record { id = h; len = 0 } in

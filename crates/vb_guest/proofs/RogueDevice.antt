@@ -30,7 +30,7 @@ use Rattle.vb_request.specs.{Request.{page_request, each_once}, Statistics.stati
 use Rattle.vb_request.proofs.{Once.is_in-each_once, Reports.report_pages, Chains.chain_fits}
 use Rattle.vb_request.specs.Report.{report_request}
 use Rattle.vb_device.specs.Calls.{TakesBy, TakeMeans, IsNextRequest, noting, WorksBy, Visits}
-use Rattle.vb_device.specs.Calls.{next_visit, FinishesBy, Uses, using, settled, without_frames}
+use Rattle.vb_device.specs.Calls.{next_visit, FinishesBy, Uses, settled, without_frames}
 use Rattle.vb_device.specs.Calls.{lost_frames, SweepsBy, AsksBy, SameFrames}
 use Rattle.vb_device.specs.Conditions.{take_refusal, work_refusal, finish_refusal, sweep_refusal}
 use Rattle.vb_device.specs.Conditions.{ask_refusal, taken_at, negotiated}
@@ -64,10 +64,10 @@ pub record AreOwn (size n : ℕ) (p : Part) : Type 0 where
   pub inflates : All (IsOwnRequest size n) p.inflate.taken
   pub reports : All (IsOwnRequest size n) p.report.taken
 
-pub with_own : {size : ℕ} (n q : ℕ) (x : QueuePart) (p : Part)
-    → (All (IsOwnRequest size n) (queue_part q p).taken → All (IsOwnRequest size n) x.taken) → AreOwn size n p
-    → AreOwn size n (with_queue q x p)
-with_own {size} n q x p keeps own =
+pub with_own : {size : ℕ} {n : ℕ} (q : ℕ) (x : QueuePart) {p : Part}
+    → (All (IsOwnRequest size n) (queue_part q p).taken → All (IsOwnRequest size n) x.taken)
+    → AreOwn size n p → AreOwn size n (with_queue q x p)
+with_own {size} {n} q x {p} keeps own =
     by (q == INFLATE_QUEUE) (q == DEFLATE_QUEUE) (q == STATISTICS_QUEUE) keeps
   where
     by : (a b c : Bool) → (All (IsOwnRequest size n) (if a then p.inflate else (if b then p.deflate
@@ -82,24 +82,24 @@ with_own {size} n q x p keeps own =
 -- ---- take
 
 -- statistics name no pages
-statistics_pages : (a b : Bool) (pages : List ℕ)
+statistics_pages : (a b : Bool) {pages : List ℕ}
     → (if a then Err WrongDirection else (if b then Err BadLength else Ok [])) ≡ Ok pages
     → pages ≡ []
-statistics_pages a b pages e = grind arith
+statistics_pages a b e = grind arith
 
 -- the request that a take remembers names the guest's own pages
-request_own : (q : ℕ) (mem : Pages) (part : Part) (h : ℕ) (pages : List ℕ)
+request_own : {q : ℕ} {mem : Pages} {part : Part} {h : ℕ} {pages : List ℕ}
     → IsNextRequest q mem part h pages
     → IsOwnRequest part.queue_size (length mem) (record { head = h; pages = pages; visited = 0 })
-request_own q mem part h pages next = by (q == STATISTICS_QUEUE) (q == REPORT_QUEUE) next.request
+request_own {q} {mem} {part} {h} {pages} next = by
+    (q == STATISTICS_QUEUE) (q == REPORT_QUEUE) next.request
   where
     reserved : ℕ
     reserved = reserved_pages part.queue_size
 
-    by : (a b : Bool) → (if a then statistics_request next.pieces
-        else (if b then report_request next.pieces reserved
-        else page_request mem next.pieces reserved)) ≡ Ok pages
-        → IsOwnRequest part.queue_size (length mem) (record { head = h; pages = pages; visited = 0 })
+    by : (a b : Bool) → (if a then statistics_request next.pieces else (if b then report_request
+        next.pieces reserved else page_request mem next.pieces reserved)) ≡ Ok pages → IsOwnRequest
+        part.queue_size (length mem) (record { head = h; pages = pages; visited = 0 })
     by true b e = search (arith, statistics_pages)
     by false true e =
         let fits = chain_fits (descriptor_at mem (ring_page part.queue_size q)) part.queue_size
@@ -109,32 +109,30 @@ request_own q mem part h pages next = by (q == STATISTICS_QUEUE) (q == REPORT_QU
     by false false e = let own = request_pages mem next.pieces reserved pages e in
         record { above = own.above; below = own.below }
 
-takes_up : (a b c d f : Bool) → first_refusal ((a ⇒ NoQueue) ∷ (b ⇒ NotReady) ∷ (c ⇒ NeedsReset)
-    ∷ (d ⇒ NoQueue) ∷ (f ⇒ Busy) ∷ []) ≡ None → b ≡ false
-takes_up a b c d f e = grind arith
+takes_up : (a : Bool) {b : Bool} (c d f : Bool) → first_refusal ((a ⇒ NoQueue)
+    ∷ (b ⇒ NotReady) ∷ (c ⇒ NeedsReset) ∷ (d ⇒ NoQueue) ∷ (f ⇒ Busy) ∷ []) ≡ None → b ≡ false
+takes_up a c d f e = grind arith
 
 -- not not ready
 ok_of : (ok broken : Bool) → (not ok || broken) ≡ false → ok ≡ true
 ok_of true broken e = refl
 ok_of false broken e = absurd cc
 
-pub take_rogue : (m1 m2 : Pages) (p1 p2 : Part) (d : DriverState) (g : Guest) (q : ℕ)
-    (result : Result (Option ℕ) Refusal) → TakesBy q m1 m2 p1 p2 result → Rogue m1 p1 d g
-    → StepsAlone (Rogue m2 p2 d) g (Take q) (taken_reply result)
-take_rogue m1 m2 p1 p2 d g q result did rogue = subst (λ (m : Pages). StepsAlone
+pub take_rogue : {m1 m2 : Pages} {p1 p2 : Part} {d : DriverState}
+    {g : Guest} {q : ℕ} {result : Result (Option ℕ) Refusal} → TakesBy q m1 m2 p1 p2 result
+    → Rogue m1 p1 d g → StepsAlone (Rogue m2 p2 d) g (Take q) (taken_reply result)
+take_rogue {m1} {p1} {p2} {d} {g} {q} {result} did rogue = subst (λ (m : Pages). StepsAlone
     (Rogue m p2 d) g (Take q) (taken_reply result)) (sym did.memory) (by result did.means)
   where
     ready : take_refusal q p1 ≡ None → contains p1.status driver_ok ≡ true
     ready e = ok_of (contains p1.status driver_ok) (contains p1.status failed)
-        (takes_up (not (has_chains q)) (is_not_ready p1.status) (has_fault p1.status)
-        (lacks_feature p1.features q) _ e)
+        (takes_up (not (has_chains q)) (has_fault p1.status) (lacks_feature p1.features q) _ e)
 
     by : (r : Result (Option ℕ) Refusal) → TakeMeans q m1 p1 p2 r
         → StepsAlone (Rogue m1 p2 d) g (Take q) (taken_reply r)
-    by (Ok None) means = rogue_alone m1 m1 p1 p2 d d g (Take q) _ rogue
-        (keeps_part m1 m1 p1 p2 d d (driver_same d d refl) means.1 refl (λ page. refl)) refl
-        (λ page. refl) (ap (λ (p : Part). p.target) means.1) refl
-        (λ page offset bytes e. cc) refl (λ why e. no_refusal _ why refl e)
+    by (Ok None) means = rogue_alone rogue (keeps_part (driver_same refl) means.1 refl
+        (λ page. refl)) refl (λ page. refl) (ap (λ (p : Part). p.target) means.1) refl
+        (λ page offset bytes e. cc) refl (λ why e. no_refusal why refl e)
     by (Ok (Some h)) means = let pages = means.1.0 in
         let next = means.1.1 in
         let part = means.1.2 in
@@ -146,8 +144,8 @@ take_rogue m1 m2 p1 p2 d g q result did rogue = subst (λ (m : Pages). StepsAlon
         } in
         let same = with_same q x noted in
         let state = with_state q x noted in
-        rogue_alone m1 m1 p1 p2 d d g (Take q) _ rogue (record {
-          driver = driver_same d d refl;
+        rogue_alone rogue (record {
+          driver = driver_same refl;
           device = subst (DeviceSame g.config.queue_size p1) (sym part) (record {
             sized = same.sized;
             paced = same.paced;
@@ -160,30 +158,26 @@ take_rogue m1 m2 p1 p2 d g q result did rogue = subst (λ (m : Pages). StepsAlon
               (sym (ap (λ (p : Part). p.status) part ∙ state.0)) ∙ ok) in
               let size = g.config.queue_size in
               let r : Request = record { head = h; pages = pages; visited = 0 } in
-              let own = subst (AreOwn size (length m1)) (sym part) (with_own (length m1) q x noted
+              let own = subst (AreOwn size (length m1)) (sym part) (with_own q x
               (λ all. All-push (IsOwnRequest size (length m1)) (queue_part q noted).taken r all
-              (subst (λ (k : ℕ). IsOwnRequest k (length m1) r) rogue.size
-              (request_own q m1 p1 h pages next)))
+              (subst (λ (k : ℕ). IsOwnRequest k (length m1) r) rogue.size (request_own next)))
               (record { inflates = up.inflates; reports = up.reports })) in
               record { backed = up.backed; inflates = own.inflates; reports = own.reports };
         }) refl (λ page. refl) (ap (λ (p : Part). p.target) part ∙ state.1) refl
-        (λ page offset bytes e. cc) refl (λ why e. no_refusal _ why refl e)
+        (λ page offset bytes e. cc) refl (λ why e. no_refusal why refl e)
     by (Err (Broken rule)) means = let part = means.1 in
-        rogue_alone m1 m1 p1 p2 d d g (Take q) _ rogue (record {
-          driver = driver_same d d refl;
-          device = device_alike p1 p2 (ap kept_of_rogue part);
-          up = λ was ok. up_kept m1 m1 p1 p2 refl (λ page low. refl)
-              (ap (λ (p : Part). p.inflate.taken) part)
+        rogue_alone rogue (record {
+          driver = driver_same refl;
+          device = device_alike (ap kept_of_rogue part);
+          up = λ was ok. up_kept refl (λ page low. refl) (ap (λ (p : Part). p.inflate.taken) part)
               (ap (λ (p : Part). p.report.taken) part) (was (ready means.0));
         }) refl (λ page. refl) (ap (λ (p : Part). p.target) part) refl (λ page offset bytes e. cc)
-        refl (left_by (Take q) (Broken rule) [] g (rogue_after g g.frames p2 d)
-        (rogue_same m1 p1 p2 d d g g.frames rogue refl refl (ap said part)
-        ∙ ap (λ (n : ℕ). record g { status = n })
+        refl (left_by (Take q) (Broken rule) [] g (rogue_same p2 d g.frames rogue refl refl
+        (ap said part) ∙ ap (λ (n : ℕ). record g { status = n })
         (ap (λ (p : Part). p.status) part ∙ ap (λ (n : ℕ). bit_or n needs_reset) rogue.status)))
-    by (Err why) means = unchanged_alone m1 m1 p1 p2 d d g (Take q) why
-        (take_causes q (negotiated p1) (length (queue_part q p1).taken))
-        (record { mem = refl; part = means.1; driver = refl }) refl (sym means.0) refl refl refl refl
-        (λ page offset bytes e. cc) rogue
+    by (Err why) means = unchanged_alone (take_causes q (negotiated p1) (length
+        (queue_part q p1).taken)) (record { mem = refl; part = means.1; driver = refl }) refl
+        (sym means.0) refl refl refl refl (λ page offset bytes e. cc) rogue
 
 -- ---- pages lose their frames
 
@@ -194,14 +188,14 @@ pub record PartChanges (size n : ℕ) (p1 p2 : Part) : Type 0 where
   pub target : p2.target ≡ p1.target
   pub own : AreOwn size n p1 → AreOwn size n p2
 
-changes_with : {size : ℕ} (n q : ℕ) (x : QueuePart) (p : Part)
+changes_with : {size : ℕ} {n : ℕ} (q : ℕ) (x : QueuePart) {p : Part}
     → (All (IsOwnRequest size n) (queue_part q p).taken → All (IsOwnRequest size n) x.taken)
     → PartChanges size n p (with_queue q x p)
-changes_with n q x p keeps = search (arith, with_state, with_same, with_own)
+changes_with q x keeps = search (arith, with_state, with_same, with_own)
 
-changes_then : {size : ℕ} (n : ℕ) (p1 p2 p3 : Part) → PartChanges size n p1 p2 → PartChanges size n p2 p3
-    → PartChanges size n p1 p3
-changes_then n p1 p2 p3 first second = record {
+changes_then : {size : ℕ} {n : ℕ} {p1 p2 p3 : Part}
+    → PartChanges size n p1 p2 → PartChanges size n p2 p3 → PartChanges size n p1 p3
+changes_then first second = record {
   device = record {
     sized = second.device.sized ∙ first.device.sized;
     paced = second.device.paced ∙ first.device.paced;
@@ -216,18 +210,18 @@ changes_then n p1 p2 p3 first second = record {
 }
 
 -- once what is loose has been handed back
-changes_back : {size : ℕ} (n : ℕ) (p1 p p2 : Part) → PartChanges size n p1 p
+changes_back : {size : ℕ} {n : ℕ} {p1 p p2 : Part} → PartChanges size n p1 p
     → p2 ≡ record p { loose = p2.loose } → PartChanges size n p1 (handed_back p2)
-changes_back {size} n p1 p p2 changes is =
+changes_back {size} {n} {p1} {p} changes is =
     let own : AreOwn size n p1 → AreOwn size n (handed_back p) =
     λ own. let after = changes.own own in
     record { inflates = after.inflates; reports = after.reports } in
     subst (PartChanges size n p1) (sym (ap handed_back is)) (assumption own)
 
-none_of : (b : Bool) (x : Option ℕ) (frame : ℕ) → (if b then None else x) ≡ Some frame
-    → x ≡ Some frame
-none_of true x frame e = absurd cc
-none_of false x frame e = e
+none_of : (b : Bool) {x : Option ℕ} (frame : ℕ)
+    → (if b then None else x) ≡ Some frame → x ≡ Some frame
+none_of true frame e = absurd cc
+none_of false frame e = e
 
 -- a reply that is no refusal is none for want of something
 done_wants : (reply : Reply) → is_refused reply ≡ false → wants reply ≡ false
@@ -235,16 +229,16 @@ done_wants (Refused why) e = absurd cc
 done_wants _ e = refl
 
 -- pages that aren't reserved lose their frames, which are loose then
-pub rogue_freed : (m1 m2 : Pages) (p1 p2 : Part) (d : DriverState) (g : Guest) (call : Call)
-    (reply : Reply) (r : Request) → IsOwnRequest g.config.queue_size (length m1) r
+pub rogue_freed : {m1 m2 : Pages} {p1 : Part} (p2 : Part) {d : DriverState} {g : Guest}
+    {call : Call} {reply : Reply} {r : Request} → IsOwnRequest g.config.queue_size (length m1) r
     → PartChanges g.config.queue_size (length m1) p1 (handed_back p2)
     → contains p1.status driver_ok ≡ true
     → length m2 ≡ length m1 → ((page : ℕ) → frame_at m2 page ≡ frame_at (discarded r.pages m1) page)
     → SameFrames p2.loose (frames_behind m1 (each_once r.pages)) → target_after call p1.target
-    ≡ p1.target → is_refused reply ≡ false → IsOther call → bare_pages call g ≡ [] → Rogue m1 p1 d g
-    → StepsFreeing (Rogue m2 (handed_back p2) d) p2.loose g call reply
-rogue_freed m1 m2 p1 p2 d g call reply r own changes ok count same loose still answer other none
-    rogue =
+    ≡ p1.target → is_refused reply ≡ false → IsOther call → bare_pages call g ≡ []
+    → Rogue m1 p1 d g → StepsFreeing (Rogue m2 (handed_back p2) d) p2.loose g call reply
+rogue_freed {m1} {m2} {p1}
+    p2 {d} {g} {call} {reply} {r} own changes ok count same loose still answer other none rogue =
     let once = each_once r.pages in
     let frames = with_entry once None g.frames in
     let at : (page : ℕ) → frame_at (discarded r.pages m1) page
@@ -262,7 +256,7 @@ rogue_freed m1 m2 p1 p2 d g call reply r own changes ok count same loose still a
     λ page lt. same page ∙ at page ∙ ap (λ (b : Bool). if b then None else frame_at m1 page)
     (not_among (reserved_pages size) r.pages page own.above lt) in
     let keeps : Keeps size m1 m2 p1 (handed_back p2) d d = record {
-      driver = driver_same d d refl;
+      driver = driver_same refl;
       device = changes.device;
       up = λ was up.
           let before = was ok in
@@ -277,7 +271,7 @@ rogue_freed m1 m2 p1 p2 d g call reply r own changes ok count same loose still a
                 after.reports;
           };
     } in
-    let stands = rogue_stands m1 m2 p1 (handed_back p2) d d g frames rogue keeps count
+    let stands = rogue_stands frames rogue keeps count
     (length-with_entry once None g.frames) behind in
     let sized : length m1 ≡ length g.frames = rogue.length_is ∙ sym rogue.framed in
     let below : All (λ page. page < length g.frames) once =
@@ -286,10 +280,9 @@ rogue_freed m1 m2 p1 p2 d g call reply r own changes ok count same loose still a
     record {
       new = rogue_after g frames (handed_back p2) d;
       stands = stands;
-      step = rogue_step m1 m2 p1 (handed_back p2) d d g frames call reply rogue stands
-          (changes.target ∙ sym still) (λ page frame e. none_of (is_in page once)
-          (frame_of g.frames page) frame (sym (get page) ∙ e)) (done_wants reply answer) other none
-          (λ why e. no_refusal reply why answer e);
+      step = rogue_step frames call reply rogue stands (changes.target ∙ sym still)
+          (λ page frame e. none_of (is_in page once) frame (sym (get page) ∙ e))
+          (done_wants reply answer) other none (λ why e. no_refusal why answer e);
       freed = λ k. omega (
         arith,
         loose k,
@@ -299,22 +292,21 @@ rogue_freed m1 m2 p1 p2 d g call reply r own changes ok count same loose still a
     }
 
 -- no page does
-pub none_freed : (m1 m2 : Pages) (p1 p2 : Part) (d : DriverState) (g : Guest) (call : Call)
-    (reply : Reply) → m2 ≡ m1 → p2 ≡ p1 → target_after call p1.target ≡ p1.target
-    → wants reply ≡ false → IsOther call → bare_pages call g ≡ []
-    → IsLeft call reply [] g (rogue_after g g.frames p2 d) → Rogue m1 p1 d g
-    → StepsFreeing (Rogue m2 (handed_back p2) d) p2.loose g call reply
-none_freed m1 m2 p1 p2 d g call reply memory part still answer other none_needed left rogue =
+pub none_freed : {m1 m2 : Pages}
+    {p1 p2 : Part} {d : DriverState} {g : Guest} {call : Call} {reply : Reply}
+    → m2 ≡ m1 → p2 ≡ p1 → target_after call p1.target ≡ p1.target → wants reply ≡ false
+    → IsOther call → bare_pages call g ≡ [] → IsLeft call reply [] g (rogue_after g g.frames p2 d)
+    → Rogue m1 p1 d g → StepsFreeing (Rogue m2 (handed_back p2) d) p2.loose g call reply
+none_freed {m1} {m2} {p2} {d} memory part still answer other none_needed left rogue =
     let same : (page : ℕ) → frame_at m2 page ≡ frame_at m1 page =
     λ page. ap (λ (m : Pages). frame_at m page) memory in
     let count : length m2 ≡ length m1 = ap (λ (m : Pages). length m) memory in
     let none : p2.loose ≡ [] = ap (λ (p : Part). p.loose) part ∙ rogue.loose in
-    let step = rogue_alone m1 m2 p1 p2 d d g call reply rogue
-    (keeps_part m1 m2 p1 p2 d d (driver_same d d refl) part count same) count same
+    let step = rogue_alone rogue (keeps_part (driver_same refl) part count same) count same
     (ap (λ (p : Part). p.target) part ∙ sym still) answer other none_needed left in
     record {
       new = step.new;
-      stands = subst (λ (p : Part). Rogue m2 p d step.new) (sym (loose_none p2 none)) step.stands;
+      stands = subst (λ (p : Part). Rogue m2 p d step.new) (sym (loose_none none)) step.stands;
       step = step.step;
       freed = search arith;
     }
@@ -325,29 +317,29 @@ works_up : (a b : Bool) → first_refusal ((a ⇒ NotReady) ∷ (b ⇒ NeedsRese
 works_up true b e = absurd cc
 works_up false b e = refl
 
-visits_rogue : (m1 m2 : Pages) (p1 p2 : Part) (d : DriverState) (g : Guest) (q page : ℕ)
-    (result : Result (Option Worked) Refusal) → Visits q page m1 m2 p1 p2 result → IsOwnRequest
-    g.config.queue_size (length m1) (record { head = 0; pages = page ∷ []; visited = 0 })
-    → contains p1.status driver_ok ≡ true → Rogue m1 p1 d g
+visits_rogue : {m1 m2 : Pages} {p1 p2 : Part} {d : DriverState} {g : Guest}
+    {q page : ℕ} {result : Result (Option Worked) Refusal} → Visits q page m1 m2 p1 p2 result
+    → IsOwnRequest g.config.queue_size (length m1) (record {
+      head = 0;
+      pages = page
+          ∷ [];
+      visited = 0;
+    }) → contains p1.status driver_ok ≡ true → Rogue m1 p1 d g
     → StepsFreeing (Rogue m2 (handed_back p2) d) p2.loose g Work (worked_reply result)
-visits_rogue m1 m2 p1 p2 d g q page result did own ok rogue =
-    let x : QueuePart =
-    record (queue_part q p1) { taken = visiting (queue_part q p1).taken } in
-    let one : Request = record { head = 0; pages = page ∷ []; visited = 0 } in
-    subst (λ (r : Result (Option Worked) Refusal).
-    StepsFreeing (Rogue m2 (handed_back p2) d) p2.loose g Work (worked_reply r)) (sym did.answer)
-    (rogue_freed m1 m2 p1 p2 d g Work _ one own
-    (changes_back (length m1) p1 (with_queue q x p1) p2
-    (changes_with (length m1) q x p1 (λ all. all-visiting (IsOwnRequest g.config.queue_size (length m1))
-    (λ r k own. record { above = own.above; below = own.below }) (queue_part q p1).taken all))
-    did.part) ok (ap (λ (m : Pages). length m) did.memory ∙ length-discarded (page ∷ []) m1)
-    (λ p. ap (λ (m : Pages). frame_at m p) did.memory) did.loose refl refl
-    (λ page offset bytes e. cc) refl rogue)
+visits_rogue {m1} {m2} {p1} {p2} {d} {g} {q} {page} did own ok rogue =
+    let x : QueuePart = record (queue_part q p1) { taken = visiting (queue_part q p1).taken } in
+    subst (λ (r : Result (Option Worked) Refusal). StepsFreeing (Rogue m2
+    (handed_back p2) d) p2.loose g Work (worked_reply r)) (sym did.answer) (rogue_freed p2 own
+    (changes_back (changes_with q x (λ all. all-visiting (IsOwnRequest g.config.queue_size
+    (length m1)) (λ r k own. record { above = own.above; below = own.below })
+    (queue_part q p1).taken all)) did.part) ok (ap (λ (m : Pages). length m) did.memory
+    ∙ length-discarded (page ∷ []) m1) (λ p. ap (λ (m : Pages). frame_at m p) did.memory)
+    did.loose refl refl (λ page offset bytes e. cc) refl rogue)
 
-pub work_rogue : (m1 m2 : Pages) (p1 p2 : Part) (d : DriverState) (g : Guest)
-    (result : Result (Option Worked) Refusal) → WorksBy m1 m2 p1 p2 result → Rogue m1 p1 d g
+pub work_rogue : {m1 m2 : Pages} {p1 p2 : Part} {d : DriverState} {g : Guest}
+    {result : Result (Option Worked) Refusal} → WorksBy m1 m2 p1 p2 result → Rogue m1 p1 d g
     → StepsFreeing (Rogue m2 (handed_back p2) d) p2.loose g Work (worked_reply result)
-work_rogue m1 m2 p1 p2 d g result did rogue = by (work_refusal p1) refl where
+work_rogue {m2} {p1} {p2} {d} {g} {result} did rogue = by (work_refusal p1) refl where
   Done : Result (Option Worked) Refusal → Type 0
   Done r = StepsFreeing (Rogue m2 (handed_back p2) d) p2.loose g Work (worked_reply r)
 
@@ -358,25 +350,21 @@ work_rogue m1 m2 p1 p2 d g result did rogue = by (work_refusal p1) refl where
   later : work_refusal p1 ≡ None → next_visit INFLATE_QUEUE p1 ≡ None → (o : Option ℕ)
       → next_visit REPORT_QUEUE p1 ≡ o → Done result
   later e first None second = let (answer, part, memory) = did.idle e first second in
-      subst Done (sym answer) (none_freed m1 m2 p1 p2 d g Work _ memory part refl refl
-      (λ page offset bytes x. cc) refl (λ why e. no_refusal _ why refl e) rogue)
-  later e first (Some page) second = visits_rogue m1 m2 p1 p2 d g REPORT_QUEUE page result
-      (did.report page e first second) (next_own
-      (length m1) p1.paced p1.report.taken page (rogue.up (ready e)).reports second) (ready e) rogue
+      subst Done (sym answer) (none_freed memory part refl refl
+      (λ page offset bytes x. cc) refl (λ why e. no_refusal why refl e) rogue)
+  later e first (Some page) second = visits_rogue (did.report page e first second)
+      (next_own p1.paced p1.report.taken page (rogue.up (ready e)).reports second) (ready e) rogue
 
   visits : work_refusal p1 ≡ None → (o : Option ℕ) → next_visit INFLATE_QUEUE p1 ≡ o → Done result
   visits e None first = later e first (next_visit REPORT_QUEUE p1) refl
-  visits e (Some page) first = visits_rogue m1 m2 p1 p2 d g INFLATE_QUEUE page result
-      (did.inflate page e first) (next_own (length m1) p1.paced p1.inflate.taken page
-      (rogue.up (ready e)).inflates first) (ready e) rogue
+  visits e (Some page) first = visits_rogue (did.inflate page e first)
+      (next_own p1.paced p1.inflate.taken page (rogue.up (ready e)).inflates first) (ready e) rogue
 
   by : (o : Option Refusal) → work_refusal p1 ≡ o → Done result
   by (Some why) e = let (answer, part, memory) = did.refused why e in
-      subst Done (sym answer) (none_freed m1 m2 p1 p2 d g Work _ memory part refl
-      (refused_otherwise (work_causes p1.status) why refl e)
-      (λ page offset bytes x. cc) refl
-      (left_same m1 p1 p2 d d g Work why (work_causes p1.status) rogue refl refl part (sym e) refl refl)
-      rogue)
+      subst Done (sym answer) (none_freed memory part refl
+      (refused_otherwise (work_causes p1.status) why refl e) (λ page offset bytes x. cc) refl
+      (left_same d Work why (work_causes p1.status) rogue refl refl part (sym e) refl refl) rogue)
   by None e = visits e (next_visit INFLATE_QUEUE p1) refl
 
 -- ---- sweep
@@ -386,38 +374,34 @@ sweeps_up : (a b told c : Bool) → first_refusal ((a ⇒ NotReady) ∷ (b ⇒ N
 sweeps_up a b told c e = grind arith
 
 -- a ballooned page is one of the guest's, and not reserved
-ballooned_own : (m : Pages) (p : Part) (d : DriverState) (g : Guest) (page : ℕ) → Rogue m p d g
-    → is_ballooned p.ballooned page ≡ true → IsOwnRequest g.config.queue_size (length m)
-    (record { head = 0; pages = page ∷ []; visited = 0 })
-ballooned_own m p d g page rogue flag = grind (arith, get_or_past)
+ballooned_own : {m : Pages} {p : Part} {d : DriverState} {g : Guest} (page : ℕ)
+    → Rogue m p d g → is_ballooned p.ballooned page ≡ true → IsOwnRequest g.config.queue_size
+    (length m) (record { head = 0; pages = page ∷ []; visited = 0 })
+ballooned_own page rogue flag = grind (arith, get_or_past)
 
-pub sweep_rogue : (m1 m2 : Pages) (p1 p2 : Part) (d : DriverState) (g : Guest) (page : ℕ)
-    (result : Result Bool Refusal) → SweepsBy page m1 m2 p1 p2 result → Rogue m1 p1 d g
+pub sweep_rogue : {m1 m2 : Pages} {p1 p2 : Part} {d : DriverState} {g : Guest}
+    {page : ℕ} {result : Result Bool Refusal} → SweepsBy page m1 m2 p1 p2 result → Rogue m1 p1 d g
     → StepsFreeing (Rogue m2 (handed_back p2) d) p2.loose g (Sweep page) (swept_reply result)
-sweep_rogue m1 m2 p1 p2 d g page result did rogue = by (sweep_refusal page p1) refl where
-  Done : Result Bool Refusal → Type 0
-  Done r = StepsFreeing (Rogue m2 (handed_back p2) d) p2.loose g (Sweep page) (swept_reply r)
+sweep_rogue {m1} {m2} {p1} {p2} {d} {g} {page} {result} did rogue = by
+    (sweep_refusal page p1) refl where
+      Done : Result Bool Refusal → Type 0
+      Done r = StepsFreeing (Rogue m2 (handed_back p2) d) p2.loose g (Sweep page) (swept_reply r)
 
-  by : (o : Option Refusal) → sweep_refusal page p1 ≡ o → Done result
-  by (Some why) e = let (answer, part, memory) = did.refused why e in
-      subst Done (sym answer) (none_freed m1 m2 p1 p2 d g (Sweep page) _ memory part refl
-      (refused_otherwise (sweep_causes (negotiated p1) (is_ballooned p1.ballooned page)) why refl e)
-      (λ page offset bytes x. cc) refl
-      (left_same m1 p1 p2 d d g (Sweep page) why
-      (sweep_causes (negotiated p1) (is_ballooned p1.ballooned page)) rogue refl refl part (sym e) refl refl)
-      rogue)
-  by None e =
-      let (up, flag) = sweeps_up (is_not_ready p1.status) (has_fault p1.status)
-      (must_tell_host p1.features) (is_ballooned p1.ballooned page) e in
-      let one : Request = record { head = 0; pages = page ∷ []; visited = 0 } in
-      let same : PartChanges g.config.queue_size (length m1) p1 p1 = search (arith, device_alike) in
-      subst Done (sym (did.answer e))
-      (rogue_freed m1 m2 p1 p2 d g (Sweep page) _ one (ballooned_own m1 p1 d g page rogue flag)
-      (changes_back (length m1) p1 p1 p2 same (did.part e))
-      (ok_of (contains p1.status driver_ok) (contains p1.status failed) up)
-      (ap (λ (m : Pages). length m) (did.memory e) ∙ length-discarded (page ∷ []) m1)
-      (λ p. ap (λ (m : Pages). frame_at m p) (did.memory e)) (did.loose e) refl refl
-      (λ page offset bytes x. cc) refl rogue)
+      by : (o : Option Refusal) → sweep_refusal page p1 ≡ o → Done result
+      by (Some why) e = let (answer, part, memory) = did.refused why e in
+          subst Done (sym answer) (none_freed memory part refl
+          (refused_otherwise (sweep_causes (negotiated p1) (is_ballooned p1.ballooned page)) why refl e)
+          (λ page offset bytes x. cc) refl (left_same d (Sweep page) why (sweep_causes (negotiated p1)
+          (is_ballooned p1.ballooned page)) rogue refl refl part (sym e) refl refl) rogue)
+      by None e =
+          let (up, flag) = sweeps_up (is_not_ready p1.status) (has_fault p1.status)
+          (must_tell_host p1.features) (is_ballooned p1.ballooned page) e in
+          let same : PartChanges g.config.queue_size (length m1) p1 p1 = search (arith, device_alike) in
+          subst Done (sym (did.answer e)) (rogue_freed p2 (ballooned_own page rogue flag)
+          (changes_back same (did.part e)) (ok_of (contains p1.status driver_ok)
+          (contains p1.status failed) up) (ap (λ (m : Pages). length m) (did.memory e)
+          ∙ length-discarded (page ∷ []) m1) (λ p. ap (λ (m : Pages). frame_at m p) (did.memory e))
+          (did.loose e) refl refl (λ page offset bytes x. cc) refl rogue)
 
 -- ---- finish
 
@@ -433,29 +417,31 @@ unflagged_same : (pages : List ℕ) (flags : List Bool) (page : ℕ)
     → is_ballooned flags page ≡ false → is_ballooned (flagged pages false flags) page ≡ false
 unflagged_same pages flags page none = grind (arith, with_none-get)
 
-settled_changes : {size : ℕ} (n q : ℕ) (pages : List ℕ) (p : Part) → ((q == INFLATE_QUEUE) ≡ true
-    → All (λ p. reserved_pages size ≤ p) pages) → PartChanges size n p (settled q pages p)
-settled_changes {size} n q pages p above = by (q == INFLATE_QUEUE) (q == DEFLATE_QUEUE) above where
-  by : (a b : Bool) → (a ≡ true → All (λ p. reserved_pages size ≤ p) pages)
-      → PartChanges size n p (if a then record p { ballooned = flagged pages true p.ballooned }
-      else (if b then record p { ballooned = flagged pages false p.ballooned } else p))
-  by true b high = search (arith, flagged_same, length-with_entry)
-  by false true high =
-      let low : (page : ℕ) → page < reserved_pages size → is_ballooned p.ballooned page ≡ false
-      → is_ballooned (flagged pages false p.ballooned) page ≡ false =
-      λ page lt none. unflagged_same pages p.ballooned page none in
-      assumption (length-with_entry pages false p.ballooned, low)
-  by false false high =
-      record { device = device_alike p p refl; status = refl; target = refl; own = λ own. own }
+settled_changes : {size : ℕ} {n : ℕ} (q : ℕ) (pages : List ℕ) {p : Part} → ((q == INFLATE_QUEUE)
+    ≡ true → All (λ p. reserved_pages size ≤ p) pages) → PartChanges size n p (settled q pages p)
+settled_changes {size} {n} q pages {p} above = by
+    (q == INFLATE_QUEUE) (q == DEFLATE_QUEUE) above where
+      by : (a b : Bool) → (a ≡ true → All (λ p. reserved_pages size ≤ p) pages)
+          → PartChanges size n p (if a then record p { ballooned = flagged pages true p.ballooned }
+          else (if b then record p { ballooned = flagged pages false p.ballooned } else p))
+      by true b high = search (arith, flagged_same, length-with_entry)
+      by false true high =
+          let low : (page : ℕ) → page < reserved_pages size → is_ballooned p.ballooned page ≡ false
+          → is_ballooned (flagged pages false p.ballooned) page ≡ false =
+          λ page lt none. unflagged_same pages p.ballooned page none in
+          assumption (length-with_entry pages false p.ballooned, low)
+      by false false high =
+          record { device = device_alike refl; status = refl; target = refl; own = λ own. own }
 
 finishes_up : (a b c d f : Bool) → first_refusal ((not a ⇒ NoQueue) ∷ (b ⇒ NotReady)
     ∷ (c ⇒ NeedsReset) ∷ (d ⇒ NotTaken) ∷ (f ⇒ NotWorked) ∷ []) ≡ None → (a ≡ true) × (b ≡ false)
 finishes_up a b c d f e = grind arith
 
 -- what was taken on a queue of inflates or reports is the guest's own
-own_taken : {size : ℕ} (n q : ℕ) (p : Part) → is_queue_of_requests q ≡ true → (q == DEFLATE_QUEUE) ≡ false
+own_taken : {size : ℕ} {n : ℕ} (q : ℕ) (p : Part)
+    → is_queue_of_requests q ≡ true → (q == DEFLATE_QUEUE) ≡ false
     → AreOwn size n p → All (IsOwnRequest size n) (queue_part q p).taken
-own_taken {size} n q p is other own = elim (cases_eq q 2) [
+own_taken {size} {n} q p is other own = elim (cases_eq q 2) [
   | inl e ↦ absurd
       (let wrong : false ≡ true = subst (λ (k : ℕ). is_queue_of_requests k ≡ true) e is in cc)
   | inr ne ↦ by (q == INFLATE_QUEUE) (q == DEFLATE_QUEUE) (q == STATISTICS_QUEUE) other
@@ -479,84 +465,76 @@ names_nothing : {size : ℕ} (n : ℕ) → IsOwnRequest size n nothing_named
 names_nothing {size} n =
     record { above = All-nil (λ p. reserved_pages size ≤ p); below = All-nil (λ p. p < n) }
 
-pub finish_rogue : (m1 m2 : Pages) (p1 p2 : Part) (d : DriverState) (g : Guest) (q i : ℕ)
-    (result : Result ℕ Refusal) → FinishesBy q i m1 m2 p1 p2 result → Rogue m1 p1 d g
+pub finish_rogue : {m1 m2 : Pages} {p1 p2 : Part} {d : DriverState} {g : Guest}
+    {q i : ℕ} {result : Result ℕ Refusal} → FinishesBy q i m1 m2 p1 p2 result → Rogue m1 p1 d g
     → StepsFreeing (Rogue m2 (handed_back p2) d) p2.loose g (Finish q i) (finished_reply result)
-finish_rogue m1 m2 p1 p2 d g q i result did rogue = by (finish_refusal q i p1) refl where
-  Done : Result ℕ Refusal → Type 0
-  Done r = StepsFreeing (Rogue m2 (handed_back p2) d) p2.loose g (Finish q i) (finished_reply r)
+finish_rogue {m1} {m2} {p1} {p2} {d} {g} {q} {i} {result} did rogue = by
+    (finish_refusal q i p1) refl where
+      Done : Result ℕ Refusal → Type 0
+      Done r = StepsFreeing (Rogue m2 (handed_back p2) d) p2.loose g (Finish q i) (finished_reply r)
 
-  size : ℕ
-  size = g.config.queue_size
+      size : ℕ
+      size = g.config.queue_size
 
-  unworked : Bool
-  unworked = p1.paced && not (q == DEFLATE_QUEUE) && has_unvisited (taken_at q i p1)
+      unworked : Bool
+      unworked = p1.paced && not (q == DEFLATE_QUEUE) && has_unvisited (taken_at q i p1)
 
-  -- the request's pages, or none, lose their frames
-  settles : (r lost : Request) → Uses q i r m1 m2 p1 p2 result
-      → contains p1.status driver_ok ≡ true → IsOwnRequest size (length m1) lost
-      → ((q == INFLATE_QUEUE) ≡ true → All (λ p. reserved_pages size ≤ p) r.pages)
-      → ((page : ℕ) → frame_at (without_frames q r.pages m1) page
-      ≡ frame_at (discarded lost.pages m1) page) → length (without_frames q r.pages m1) ≡ length m1
-      → lost_frames q r.pages m1 ≡ frames_behind m1 (each_once lost.pages) → Done result
-  settles r lost uses ok own high same count loose = let x : QueuePart = record (queue_part q p1) {
-    next_used = ((queue_part q p1).next_used + 1) % 65536;
-    taken = remove (queue_part q p1).taken i;
-  } in
-      let n = length m1 in
-      let after : Part = settled q r.pages (using q i p1) in
-      subst Done (sym uses.answer)
-      (rogue_freed m1 m2 p1 p2 d g (Finish q i) _ lost own
-      (changes_back n p1 after p2
-      (changes_then n p1 (using q i p1) after
-      (changes_with n q x p1 (λ all. all_remove (IsOwnRequest size n) (queue_part q p1).taken i all))
-      (settled_changes n q r.pages (using q i p1) high)) uses.part) ok
-      (uses.memory.puts.rest.count ∙ count)
-      (λ page. uses.memory.puts.rest.backing page ∙ same page)
-      (λ k. uses.loose k ∙ ap (times k) loose) refl refl (λ page offset bytes x. cc) refl rogue)
+      -- the request's pages, or none, lose their frames
+      settles : (r lost : Request) → Uses q i r m1 m2 p1 p2 result → contains p1.status driver_ok
+          ≡ true → IsOwnRequest size (length m1) lost → ((q == INFLATE_QUEUE) ≡ true → All
+          (λ p. reserved_pages size ≤ p) r.pages) → ((page : ℕ) → frame_at (without_frames q r.pages m1)
+          page ≡ frame_at (discarded lost.pages m1) page) → length (without_frames q r.pages m1)
+          ≡ length m1 → lost_frames q r.pages m1 ≡ frames_behind m1 (each_once lost.pages) → Done result
+      settles r lost uses ok own high same count loose = let x : QueuePart = record (queue_part q p1) {
+        next_used = ((queue_part q p1).next_used + 1) % 65536;
+        taken = remove (queue_part q p1).taken i;
+      } in
+          let n = length m1 in
+          subst Done (sym uses.answer) (rogue_freed p2 own
+          (changes_back (changes_then (changes_with q x (λ all. all_remove (IsOwnRequest size n)
+          (queue_part q p1).taken i all)) (settled_changes q r.pages high)) uses.part) ok
+          (uses.memory.puts.rest.count ∙ count) (λ page. uses.memory.puts.rest.backing page ∙ same page)
+          (λ k. uses.loose k ∙ ap (times k) loose) refl refl (λ page offset bytes x. cc) refl rogue)
 
-  uses_request : (r : Request) → finish_refusal q i p1 ≡ None → taken_at q i p1 ≡ Some r
-      → (b : Bool) → (q == DEFLATE_QUEUE) ≡ b → Uses q i r m1 m2 p1 p2 result → Done result
-  uses_request r e at true deflates uses =
-      let ready = finishes_up (is_queue_of_requests q) (is_not_ready p1.status)
-      (has_fault p1.status) (is_none (taken_at q i p1)) unworked e in
-      let whole : without_frames q r.pages m1 ≡ m1 =
-      ap (λ (b : Bool). if b then m1 else discarded r.pages m1) deflates in
-      let other : (q == INFLATE_QUEUE) ≡ true → All (λ p. reserved_pages size ≤ p) r.pages =
-      λ inflates. absurd (not_both q deflates inflates) in
-      settles r nothing_named uses
-      (ok_of (contains p1.status driver_ok) (contains p1.status failed) ready.1)
-      (names_nothing (length m1)) other (λ page. ap (λ (m : Pages). frame_at m page) whole
-      ∙ sym (ap number_of (page_discarded [] m1 page))) (ap (λ (m : Pages). length m) whole)
-      (ap (λ (b : Bool). if b then [] else frames_behind m1 (each_once r.pages)) deflates)
-  uses_request r e at false other uses =
-      let ready = finishes_up (is_queue_of_requests q) (is_not_ready p1.status)
-      (has_fault p1.status) (is_none (taken_at q i p1)) unworked e in
-      let ok = ok_of (contains p1.status driver_ok) (contains p1.status failed) ready.1 in
-      let up = rogue.up ok in
-      let all = own_taken (length m1) q p1 ready.0 other
-      (record { inflates = up.inflates; reports = up.reports }) in
-      let taken = (queue_part q p1).taken in
-      let own : IsOwnRequest size (length m1) r = subst (IsOwnRequest size (length m1))
-      (get_or_from_slice_get taken i r r at) (all i r (slice_get_within taken i r at)) in
-      let bare : without_frames q r.pages m1 ≡ discarded r.pages m1 =
-      ap (λ (b : Bool). if b then m1 else discarded r.pages m1) other in
-      settles r r uses ok own (λ e. own.above) (λ page. ap (λ (m : Pages). frame_at m page) bare)
-      (ap (λ (m : Pages). length m) bare ∙ length-discarded r.pages m1)
-      (ap (λ (b : Bool). if b then [] else frames_behind m1 (each_once r.pages)) other)
+      uses_request : (r : Request) → finish_refusal q i p1 ≡ None → taken_at q i p1 ≡ Some r
+          → (b : Bool) → (q == DEFLATE_QUEUE) ≡ b → Uses q i r m1 m2 p1 p2 result → Done result
+      uses_request r e at true deflates uses =
+          let ready = finishes_up (is_queue_of_requests q) (is_not_ready p1.status)
+          (has_fault p1.status) (is_none (taken_at q i p1)) unworked e in
+          let whole : without_frames q r.pages m1 ≡ m1 =
+          ap (λ (b : Bool). if b then m1 else discarded r.pages m1) deflates in
+          let other : (q == INFLATE_QUEUE) ≡ true → All (λ p. reserved_pages size ≤ p) r.pages =
+          λ inflates. absurd (not_both q deflates inflates) in
+          settles r nothing_named uses (ok_of (contains p1.status driver_ok) (contains p1.status failed)
+          ready.1) (names_nothing (length m1)) other (λ page. ap (λ (m : Pages). frame_at m page) whole
+          ∙ sym (ap number_of (page_discarded [] m1 page))) (ap (λ (m : Pages). length m) whole)
+          (ap (λ (b : Bool). if b then [] else frames_behind m1 (each_once r.pages)) deflates)
+      uses_request r e at false other uses =
+          let ready = finishes_up (is_queue_of_requests q) (is_not_ready p1.status)
+          (has_fault p1.status) (is_none (taken_at q i p1)) unworked e in
+          let ok = ok_of (contains p1.status driver_ok) (contains p1.status failed) ready.1 in
+          let up = rogue.up ok in
+          let all = own_taken q p1 ready.0 other
+          (record { inflates = up.inflates; reports = up.reports }) in
+          let taken = (queue_part q p1).taken in
+          let own : IsOwnRequest size (length m1) r = subst (IsOwnRequest size (length m1))
+          (get_or_from_slice_get taken i r r at) (all i r (slice_get_within taken i r at)) in
+          let bare : without_frames q r.pages m1 ≡ discarded r.pages m1 =
+          ap (λ (b : Bool). if b then m1 else discarded r.pages m1) other in
+          settles r r uses ok own (λ e. own.above) (λ page. ap (λ (m : Pages). frame_at m page) bare)
+          (ap (λ (m : Pages). length m) bare ∙ length-discarded r.pages m1)
+          (ap (λ (b : Bool). if b then [] else frames_behind m1 (each_once r.pages)) other)
 
-  by : (o : Option Refusal) → finish_refusal q i p1 ≡ o → Done result
-  by (Some why) e = let (answer, part, memory) = did.refused why e in
-      subst Done (sym answer) (none_freed m1 m2 p1 p2 d g (Finish q i) _ memory part refl
-      (refused_otherwise (finish_causes q (negotiated p1) p1.paced (taken_at q i p1)) why refl e)
-      (λ page offset bytes x. cc) refl
-      (left_same m1 p1 p2 d d g (Finish q i) why
-      (finish_causes q (negotiated p1) p1.paced (taken_at q i p1)) rogue refl refl part (sym e) refl refl)
-      rogue)
-  by None e =
-      let (r, at) = there_is (not (is_queue_of_requests q)) (is_not_ready p1.status)
-      (has_fault p1.status) unworked (taken_at q i p1) e in
-      uses_request r e at (q == DEFLATE_QUEUE) refl (did.finished r e at)
+      by : (o : Option Refusal) → finish_refusal q i p1 ≡ o → Done result
+      by (Some why) e = let (answer, part, memory) = did.refused why e in
+          subst Done (sym answer) (none_freed memory part refl
+          (refused_otherwise (finish_causes q (negotiated p1) p1.paced (taken_at q i p1)) why refl e)
+          (λ page offset bytes x. cc) refl (left_same d (Finish q i) why (finish_causes q
+          (negotiated p1) p1.paced (taken_at q i p1)) rogue refl refl part (sym e) refl refl) rogue)
+      by None e =
+          let (r, at) = there_is (not (is_queue_of_requests q)) (is_not_ready p1.status)
+          (has_fault p1.status) unworked (taken_at q i p1) e in
+          uses_request r e at (q == DEFLATE_QUEUE) refl (did.finished r e at)
 
 -- ---- ask and target
 
@@ -573,18 +551,17 @@ asked_not : {T : Type 0} (r : Result T Refusal) → IsOk r → is_refused (asked
 asked_not (Ok x) ok = refl
 asked_not (Err why) ok = absurd cc
 
-pub ask_rogue : {T : Type 0} (m1 m2 : Pages) (p1 p2 : Part) (d : DriverState) (g : Guest)
-    (result : Result T Refusal) → AsksBy m1 m2 p1 p2 result → Rogue m1 p1 d g
-    → StepsAlone (Rogue m2 p2 d) g Ask (asked_reply result)
-ask_rogue m1 m2 p1 p2 d g result did rogue = by (ask_refusal p1) refl where
+pub ask_rogue : {T : Type 0} {m1 m2 : Pages} {p1 p2 : Part}
+    {d : DriverState} {g : Guest} {result : Result T Refusal} → AsksBy m1 m2 p1 p2 result
+    → Rogue m1 p1 d g → StepsAlone (Rogue m2 p2 d) g Ask (asked_reply result)
+ask_rogue {m2} {p1} {p2} {d} {g} {result} did rogue = by (ask_refusal p1) refl where
   by : (o : Option Refusal) → ask_refusal p1 ≡ o
       → StepsAlone (Rogue m2 p2 d) g Ask (asked_reply result)
   by (Some why) e = let (answer, part, memory) = did.refused why e in
       subst (λ (r : Result _ Refusal). StepsAlone (Rogue m2 p2 d) g Ask (asked_reply r))
-      (sym answer) (unchanged_alone m1 m2 p1 p2 d d g Ask why
-      (ask_causes p1.status (is_some (taken_at STATISTICS_QUEUE 0 p1)))
-      (record { mem = memory; part = part; driver = refl }) refl (sym e) refl refl refl refl
-      (λ page offset bytes x. cc) rogue)
+      (sym answer) (unchanged_alone (ask_causes p1.status (is_some
+      (taken_at STATISTICS_QUEUE 0 p1))) (record { mem = memory; part = part; driver = refl }) refl
+      (sym e) refl refl refl refl (λ page offset bytes x. cc) rogue)
   by None e = let part = did.part e in
       let ready = ok_of (contains p1.status driver_ok) (contains p1.status failed)
       (asks_up (is_not_ready p1.status) (has_fault p1.status)
@@ -592,28 +569,27 @@ ask_rogue m1 m2 p1 p2 d g result did rogue = by (ask_refusal p1) refl where
       let at = taken_buffer (is_not_ready p1.status) (has_fault p1.status)
       (taken_at STATISTICS_QUEUE 0 p1) e in
       let adds = did.memory at.0 e at.1 in
-      rogue_alone m1 m2 p1 p2 d d g Ask _ rogue (record {
-        driver = driver_same d d refl;
-        device = device_alike p1 p2 (ap kept_of_rogue part);
-        up = λ was ok. up_kept m1 m2 p1 p2 adds.puts.rest.count
-            (λ page low. adds.puts.rest.backing page) (ap (λ (p : Part). p.inflate.taken) part)
-            (ap (λ (p : Part). p.report.taken) part) (was ready);
+      rogue_alone rogue (record {
+        driver = driver_same refl;
+        device = device_alike (ap kept_of_rogue part);
+        up = λ was ok. up_kept adds.puts.rest.count (λ page low. adds.puts.rest.backing page) (ap (λ
+            (p : Part). p.inflate.taken) part) (ap (λ (p : Part). p.report.taken) part) (was ready);
       }) adds.puts.rest.count adds.puts.rest.backing (ap (λ (p : Part). p.target) part)
       (done_wants _ (asked_not result (did.answers e))) (λ page offset bytes x. cc) refl
-      (λ why x. no_refusal _ why (asked_not result (did.answers e)) x)
+      (λ why x. no_refusal why (asked_not result (did.answers e)) x)
 
-pub target_rogue : (m1 m2 : Pages) (p1 p2 : Part) (d : DriverState) (g : Guest) (n : ℕ)
-    → m2 ≡ m1 → p2 ≡ record p1 { target = n } → Rogue m1 p1 d g
-    → StepsAlone (Rogue m2 p2 d) g (SetTarget n) Done
-target_rogue m1 m2 p1 p2 d g n memory part rogue =
+pub target_rogue : {m1 m2 : Pages} {p1 p2 : Part} {d : DriverState} {g : Guest} {n : ℕ}
+    → m2 ≡ m1 → p2 ≡ record p1 { target = n }
+    → Rogue m1 p1 d g → StepsAlone (Rogue m2 p2 d) g (SetTarget n) Done
+target_rogue {m1} {m2} memory part rogue =
     let same : (page : ℕ) → frame_at m2 page ≡ frame_at m1 page =
     λ page. ap (λ (m : Pages). frame_at m page) memory in
     let count : length m2 ≡ length m1 = ap (λ (m : Pages). length m) memory in
-    rogue_alone m1 m2 p1 p2 d d g (SetTarget n) Done rogue (record {
-      driver = driver_same d d refl;
-      device = device_alike p1 p2 (ap kept_of_rogue part);
-      up = λ was ok. up_kept m1 m2 p1 p2 count (λ page low. same page)
+    rogue_alone rogue (record {
+      driver = driver_same refl;
+      device = device_alike (ap kept_of_rogue part);
+      up = λ was ok. up_kept count (λ page low. same page)
           (ap (λ (p : Part). p.inflate.taken) part) (ap (λ (p : Part). p.report.taken) part)
           (was (ap (λ (p : Part). contains p.status driver_ok) (sym part) ∙ ok));
     }) count same (ap (λ (p : Part). p.target) part) refl (λ page offset bytes e. cc) refl
-    (λ why e. no_refusal _ why refl e)
+    (λ why e. no_refusal why refl e)

@@ -15,7 +15,7 @@ use Rattle.vb_model.specs.declared.replies.Reply.TheVariants.{Refused}
 use Rattle.vb_ram.{specs.Pages.{Pages, frame_at}, specs.Part.{Part, no_part}}
 use Rattle.vb_driver.specs.State.{DriverState}
 use Rattle.vb_guest.{specs.Stands.{IsOwnRequest, IsRogueUp, Rogue}, proofs.Moving.moves_as}
-use Rattle.vb_guest.specs.Steps.{StepsAlone, backing_count, StepsOver}
+use Rattle.vb_guest.specs.Steps.{StepsAlone, StepsOver}
 use Rattle.vb_guest.specs.Supply.{AreClaimed, supply_of, Moves, nothing}
 
 -- ---- what a call keeps
@@ -46,16 +46,16 @@ pub record Keeps (size : ℕ) (m1 m2 : Pages) (p1 p2 : Part) (d1 d2 : DriverStat
 abbrev pub shape_of : DriverState → ℕ × ℕ × ℕ × ℕ
 shape_of d = (d.pages, d.queue_size, d.processors, length d.places)
 
-pub shaped : (d1 d2 : DriverState) → shape_of d2 ≡ shape_of d1 → DriverSame d1 d2
-shaped d1 d2 e = record {
+pub shaped : {d1 d2 : DriverState} → shape_of d2 ≡ shape_of d1 → DriverSame d1 d2
+shaped e = record {
   pages = ap (λ (s : ℕ × ℕ × ℕ × ℕ). s.0) e;
   queue_size = ap (λ (s : ℕ × ℕ × ℕ × ℕ). s.1) e;
   processors = ap (λ (s : ℕ × ℕ × ℕ × ℕ). s.2) e;
   table = ap (λ (s : ℕ × ℕ × ℕ × ℕ). s.3) e;
 }
 
-pub driver_same : (d1 d2 : DriverState) → d2 ≡ d1 → DriverSame d1 d2
-driver_same d1 d2 e = grind arith
+pub driver_same : {d1 d2 : DriverState} → d2 ≡ d1 → DriverSame d1 d2
+driver_same e = grind arith
 
 -- what of a device is known where its guest is rogue, but what it answers to queries
 abbrev pub kept_of_rogue : Part → Part
@@ -66,9 +66,9 @@ kept_of_rogue p = record no_part {
   ballooned = p.ballooned;
 }
 
-pub device_alike : {size : ℕ} (p1 p2 : Part) → kept_of_rogue p2 ≡ kept_of_rogue p1
-    → DeviceSame size p1 p2
-device_alike p1 p2 e = grind arith
+pub device_alike : {size : ℕ} {p1 p2 : Part}
+    → kept_of_rogue p2 ≡ kept_of_rogue p1 → DeviceSame size p1 p2
+device_alike e = grind arith
 
 -- ---- the guest afterwards
 
@@ -85,11 +85,11 @@ rogue_after g frames part d = record g {
   frames = frames;
 }
 
-pub rogue_stands : (m1 m2 : Pages) (p1 p2 : Part) (d1 d2 : DriverState) (g : Guest)
+pub rogue_stands : {m1 m2 : Pages} {p1 p2 : Part} {d1 d2 : DriverState} {g : Guest}
     (frames : List (Option ℕ)) → Rogue m1 p1 d1 g → Keeps g.config.queue_size m1 m2 p1 p2 d1 d2
     → length m2 ≡ length m1 → length frames ≡ length g.frames → ((page : ℕ)
     → frame_at m2 page ≡ frame_of frames page) → Rogue m2 p2 d2 (rogue_after g frames p2 d2)
-rogue_stands m1 m2 p1 p2 d1 d2 g frames rogue keeps count framed behind = grind arith
+rogue_stands frames rogue keeps count framed behind = grind arith
 
 -- what a device says of its guest where that is rogue, but its status
 abbrev pub said : Part → Part
@@ -101,15 +101,17 @@ said p = record no_part {
 }
 
 -- where driver and device say what they said, the guest has other frames and another status at most
-pub rogue_same : (m : Pages) (p1 p2 : Part) (d1 d2 : DriverState) (g : Guest) (frames : List
-    (Option ℕ)) → Rogue m p1 d1 g → d2.places ≡ d1.places → d2.actual ≡ d1.actual → said p2
-    ≡ said p1 → rogue_after g frames p2 d2 ≡ record g { frames = frames; status = p2.status }
-rogue_same m p1 p2 d1 d2 g frames rogue places told same = grind arith
+pub rogue_same : {m : Pages} {p1 : Part}
+    (p2 : Part) {d1 : DriverState} (d2 : DriverState) {g : Guest} (frames : List (Option ℕ))
+    → Rogue m p1 d1 g → d2.places ≡ d1.places → d2.actual ≡ d1.actual → said p2 ≡ said p1
+    → rogue_after g frames p2 d2 ≡ record g { frames = frames; status = p2.status }
+rogue_same p2 d2 frames rogue places told same = grind arith
 
 -- the device is as it was
-pub rogue_unchanged : (m : Pages) (p1 p2 : Part) (d1 d2 : DriverState) (g : Guest) → Rogue m p1 d1 g
+pub rogue_unchanged : {m : Pages} {p1 p2 : Part} {d1 : DriverState} (d2 : DriverState) {g : Guest}
+    → Rogue m p1 d1 g
     → d2.places ≡ d1.places → d2.actual ≡ d1.actual → p2 ≡ p1 → rogue_after g g.frames p2 d2 ≡ g
-rogue_unchanged m p1 p2 d1 d2 g rogue places told part = grind arith
+rogue_unchanged d2 rogue places told part = grind arith
 
 -- ---- its step
 
@@ -123,14 +125,14 @@ IsLeft call reply claims g new = (why : Refusal) → reply ≡ Refused why
     → new ≡ after_refused call why claims g
 
 -- this refusal
-pub left_by : (call : Call) (why : Refusal) (claims : List Claim) (g new : Guest)
+pub left_by : (call : Call) (why : Refusal) (claims : List Claim) (g : Guest) {new : Guest}
     → new ≡ after_refused call why claims g → IsLeft call (Refused why) claims g new
-left_by call why claims g new left other e = grind arith
+left_by call why claims g left other e = grind arith
 
 -- none
-pub no_refusal : {A : Type 0} (reply : Reply) (why : Refusal) → is_refused reply ≡ false
-    → reply ≡ Refused why → A
-no_refusal reply why none e = not_this why reply (sym e) none
+pub no_refusal : {A : Type 0} {reply : Reply} (why : Refusal)
+    → is_refused reply ≡ false → reply ≡ Refused why → A
+no_refusal {reply} why none e = not_this why reply (sym e) none
 
 -- a refusal that leaves the status alone, and one that isn't of a broken rule
 abbrev pub keeps_status : Refusal → Bool
@@ -142,8 +144,8 @@ abbrev pub is_of_driver : Refusal → Bool
 is_of_driver (Broken fault) = false
 is_of_driver _ = true
 
-pub without_fault : (why : Refusal) (g : Guest) → keeps_status why ≡ true → with_fault why g ≡ g
-without_fault why g e = grind arith
+pub without_fault : (why : Refusal) {g : Guest} → keeps_status why ≡ true → with_fault why g ≡ g
+without_fault why e = grind arith
 
 -- a call that needs no frame claims none
 pub nothing_backed : (call : Call) (g : Guest) → bare_pages call g ≡ [] → pages_to_back call g ≡ []
@@ -159,19 +161,18 @@ read_call (Read page offset len) e = (page, offset, len, refl)
 read_call _ e = absurd cc
 
 -- the guest afterwards is bound by what the call claimed
-pub rogue_steps : (m1 m2 : Pages) (p1 p2 : Part) (d1 d2 : DriverState) (g new : Guest)
-    (call : Call) (claims : List Claim) (reply : Reply) → Rogue m1 p1 d1 g
+pub rogue_steps : {m1 m2 : Pages} {p1 p2 : Part} {d1 d2 : DriverState}
+    {g new : Guest} (call : Call) (claims : List Claim) (reply : Reply) → Rogue m1 p1 d1 g
     → Rogue m2 p2 d2 new → new.config ≡ g.config → p2.target ≡ target_after call p1.target
-    → AreClaimsFor (pages_to_back call g) claims → MatchOption (claim_refusal claims)
-    (LosesFrames (all_backed (pages_to_back call g) (given claims) g.frames) new.frames)
-    (λ refusal. (reply ≡ Refused refusal) × (new.frames ≡ g.frames))
-    → (reply ≡ Refused NoFrame → claim_refusal claims ≡ Some NoFrame)
-    → (reply ≡ Refused NoMemory → (claim_refusal claims ≡ Some NoMemory) ⊎ (is_read call ≡ true))
-    → IsLeft call reply claims g new
-    → ((page offset : ℕ) (bytes : List ℕ) → call ≡ Scribble page offset bytes
-    → HonestStep g (Scribble page offset bytes) claims reply new)
-    → GuestStep g call claims reply new
-rogue_steps m1 m2 p1 p2 d1 d2 g new call claims reply old after config target claimed frames no_frame no_memory left scribble =
+    → AreClaimsFor (pages_to_back call g) claims → MatchOption (claim_refusal claims) (LosesFrames
+    (all_backed (pages_to_back call g) (given claims) g.frames) new.frames) (λ refusal. (reply
+    ≡ Refused refusal) × (new.frames ≡ g.frames)) → (reply ≡ Refused NoFrame
+    → claim_refusal claims ≡ Some NoFrame) → (reply ≡ Refused NoMemory → (claim_refusal claims
+    ≡ Some NoMemory) ⊎ (is_read call ≡ true)) → IsLeft call reply claims g new
+    → ((page offset : ℕ) (bytes : List ℕ) → call ≡ Scribble page offset bytes → HonestStep g
+    (Scribble page offset bytes) claims reply new) → GuestStep g call claims reply new
+rogue_steps {g} {new}
+    call claims reply old after config target claimed frames no_frame no_memory left scribble =
     let S : Bool → Type 0 =
     λ b. MatchBool b (RogueStep g call claims reply new) (HonestStep g call claims reply new) in
     subst S (sym old.rogue) (record {
@@ -195,46 +196,44 @@ rogue_steps m1 m2 p1 p2 d1 d2 g new call claims reply old after config target cl
       scribble = scribble;
     })
   where
-    by_read : (claim_refusal claims ≡ Some NoMemory) ⊎ (is_read call ≡ true)
-        → (claim_refusal claims ≡ Some NoMemory)
-        ⊎ ((page : ℕ) × (offset : ℕ) × (len : ℕ) × (call ≡ Read page offset len))
+    by_read : (claim_refusal claims ≡ Some NoMemory) ⊎ (is_read call ≡ true) → (claim_refusal claims
+        ≡ Some NoMemory) ⊎ ((page : ℕ) × (offset : ℕ) × (len : ℕ) × (call ≡ Read page offset len))
     by_read (inl e) = inl e
     by_read (inr e) = inr (read_call call e)
 
 -- it claims nothing
-pub rogue_step : (m1 m2 : Pages) (p1 p2 : Part) (d1 d2 : DriverState) (g : Guest)
-    (frames : List (Option ℕ)) (call : Call) (reply : Reply) → Rogue m1 p1 d1 g
-    → Rogue m2 p2 d2 (rogue_after g frames p2 d2) → p2.target ≡ target_after call p1.target
-    → LosesFrames g.frames frames → wants reply ≡ false → IsOther call → bare_pages call g ≡ []
-    → IsLeft call reply [] g (rogue_after g frames p2 d2)
+pub rogue_step : {m1 m2 : Pages} {p1 p2 : Part}
+    {d1 d2 : DriverState} {g : Guest} (frames : List (Option ℕ)) (call : Call) (reply : Reply)
+    → Rogue m1 p1 d1 g → Rogue m2 p2 d2 (rogue_after g frames p2 d2)
+    → p2.target ≡ target_after call p1.target → LosesFrames g.frames frames → wants reply ≡ false
+    → IsOther call → bare_pages call g ≡ [] → IsLeft call reply [] g (rogue_after g frames p2 d2)
     → GuestStep g call [] reply (rogue_after g frames p2 d2)
-rogue_step m1 m2 p1 p2 d1 d2 g frames call reply old new target loses answer other none left =
-    rogue_steps m1 m2 p1 p2 d1 d2 g (rogue_after g frames p2 d2) call [] reply old new refl target
-    (subst (λ (l : List ℕ). AreClaimsFor l []) (sym (nothing_backed call g none)) refl)
-    (subst (λ (l : List ℕ). LosesFrames (all_backed l [] g.frames) frames)
-    (sym (nothing_backed call g none)) loses)
+rogue_step {g} frames call reply old new target loses answer other none left =
+    rogue_steps call [] reply old new refl target (subst (λ (l : List ℕ). AreClaimsFor l [])
+    (sym (nothing_backed call g none)) refl) (subst (λ (l : List ℕ). LosesFrames
+    (all_backed l [] g.frames) frames) (sym (nothing_backed call g none)) loses)
     (no_want reply NoFrame answer refl) (no_want reply NoMemory answer refl) left
     (λ page offset bytes e. absurd (other page offset bytes e))
 
 -- and no page changes its frame
-pub rogue_alone : (m1 m2 : Pages) (p1 p2 : Part) (d1 d2 : DriverState) (g : Guest) (call : Call)
-    (reply : Reply) → Rogue m1 p1 d1 g → Keeps g.config.queue_size m1 m2 p1 p2 d1 d2
+pub rogue_alone : {m1 m2 : Pages} {p1 p2 : Part} {d1 d2 : DriverState} {g : Guest}
+    {call : Call} {reply : Reply} → Rogue m1 p1 d1 g → Keeps g.config.queue_size m1 m2 p1 p2 d1 d2
     → length m2 ≡ length m1 → ((page : ℕ) → frame_at m2 page ≡ frame_at m1 page)
-    → p2.target ≡ target_after call p1.target → wants reply ≡ false → IsOther call
-    → bare_pages call g ≡ [] → IsLeft call reply [] g (rogue_after g g.frames p2 d2)
+    → p2.target ≡ target_after call p1.target → wants reply ≡ false
+    → IsOther call → bare_pages call g ≡ [] → IsLeft call reply [] g (rogue_after g g.frames p2 d2)
     → StepsAlone (Rogue m2 p2 d2) g call reply
-rogue_alone m1 m2 p1 p2 d1 d2 g call reply rogue keeps count same target answer other none left =
-    let stands = rogue_stands m1 m2 p1 p2 d1 d2 g g.frames rogue keeps count refl
+rogue_alone {g} rogue keeps count same target answer other none left =
+    let stands = rogue_stands g.frames rogue keeps count refl
     (λ page. same page ∙ rogue.behind page) in (search (arith, rogue_step))
 
 -- ---- pages that stay backed
 
 -- where the pages of rings and buffers keep their frames, and nothing is taken
-pub up_kept : {size : ℕ} (m1 m2 : Pages) (p1 p2 : Part) → length m2 ≡ length m1
+pub up_kept : {size : ℕ} {m1 m2 : Pages} {p1 p2 : Part} → length m2 ≡ length m1
     → ((page : ℕ) → page < reserved_pages size → frame_at m2 page ≡ frame_at m1 page)
-    → p2.inflate.taken ≡ p1.inflate.taken → p2.report.taken ≡ p1.report.taken
-    → IsRogueUp size m1 p1 → IsRogueUp size m2 p2
-up_kept {size} m1 m2 p1 p2 count same inflates reports up = record {
+    → p2.inflate.taken ≡ p1.inflate.taken
+    → p2.report.taken ≡ p1.report.taken → IsRogueUp size m1 p1 → IsRogueUp size m2 p2
+up_kept {size} {m1} {p2} count same inflates reports up = record {
   backed = λ page start.
       ap is_some (same page (start_reserved size page start)) ∙ up.backed page start;
   inflates = subst (λ (n : ℕ). All (IsOwnRequest size n) p2.inflate.taken) (sym count)
@@ -244,23 +243,23 @@ up_kept {size} m1 m2 p1 p2 count same inflates reports up = record {
 }
 
 -- the device's part is as it was
-pub keeps_part : {size : ℕ} (m1 m2 : Pages) (p1 p2 : Part) (d1 d2 : DriverState) → DriverSame d1 d2
-    → p2 ≡ p1 → length m2 ≡ length m1 → ((page : ℕ) → frame_at m2 page ≡ frame_at m1 page)
-    → Keeps size m1 m2 p1 p2 d1 d2
-keeps_part m1 m2 p1 p2 d1 d2 driver part count same = record {
+pub keeps_part : {size : ℕ} {m1 m2 : Pages} {p1 p2 : Part} {d1 d2 : DriverState}
+    → DriverSame d1 d2 → p2 ≡ p1 → length m2 ≡ length m1
+    → ((page : ℕ) → frame_at m2 page ≡ frame_at m1 page) → Keeps size m1 m2 p1 p2 d1 d2
+keeps_part driver part count same = record {
   driver = driver;
-  device = device_alike p1 p2 (ap kept_of_rogue part);
-  up = λ up ok. up_kept m1 m2 p1 p2 count (λ page low. same page)
+  device = device_alike (ap kept_of_rogue part);
+  up = λ up ok. up_kept count (λ page low. same page)
       (ap (λ (p : Part). p.inflate.taken) part) (ap (λ (p : Part). p.report.taken) part)
       (up (ap (λ (p : Part). contains p.status driver_ok) (sym part) ∙ ok));
 }
 
 -- ---- a target is set, and frames of the device's own go out or back
 
-pub rogue_changed : (m1 m2 : Pages) (p1 p2 : Part) (d : DriverState) (g : Guest) (n : ℕ)
-    (own : List ℕ) → m2 ≡ m1 → p2 ≡ record p1 { target = n; own = own } → Rogue m1 p1 d g
-    → Rogue m2 p2 d (record g { target = n })
-rogue_changed m1 m2 p1 p2 d g n own memory part rogue =
+pub rogue_changed : {m1 m2 : Pages} {p1 p2 : Part} {d : DriverState}
+    {g : Guest} (n : ℕ) (own : List ℕ) → m2 ≡ m1 → p2 ≡ record p1 { target = n; own = own }
+    → Rogue m1 p1 d g → Rogue m2 p2 d (record g { target = n })
+rogue_changed {m1} {p1} {p2} {d} {g} n own memory part rogue =
     let now : Part = record p1 { target = n; own = own } in
     let up : contains p1.status driver_ok ≡ true → IsRogueUp g.config.queue_size m1 now =
     λ ok. let up = rogue.up ok in
@@ -269,39 +268,37 @@ rogue_changed m1 m2 p1 p2 d g n own memory part rogue =
     (subst (λ (p : Part). Rogue m1 p d (record g { target = n })) (sym part) (assumption up))
 
 -- the device's own frames are none of what it keeps of a guest
-pub rogue_own : (m1 m2 : Pages) (p1 p2 : Part) (d : DriverState) (g : Guest) → m2 ≡ m1
-    → p2 ≡ record p1 { own = p2.own } → Rogue m1 p1 d g → Rogue m2 p2 d g
-rogue_own m1 m2 p1 p2 d g memory part rogue =
-    grind (arith, rogue_changed m1 m2 p1 p2 d g p1.target p2.own memory part rogue)
+pub rogue_own : {m1 m2 : Pages} {p1 p2 : Part} {d : DriverState} {g : Guest}
+    → m2 ≡ m1 → p2 ≡ record p1 { own = p2.own } → Rogue m1 p1 d g → Rogue m2 p2 d g
+rogue_own {p1} {p2} memory part rogue =
+    grind (arith, rogue_changed p1.target p2.own memory part rogue)
 
 -- ---- frames that it claims
 
 -- a claim was refused: nothing is changed
-pub rogue_unclaimed : (Answers : List Bool → Claim → Type 0) (out1 out2 : List Bool)
-    (m1 m2 : Pages) (p1 p2 : Part) (d : DriverState) (g : Guest) (call : Call) (claims : List Claim)
-    (why : Refusal) → Rogue m1 p1 d g → m2 ≡ m1 → p2 ≡ record p1 { own = p2.own }
-    → AreClaimsFor (pages_to_back call g) claims → claim_refusal claims ≡ Some why
-    → target_after call p1.target ≡ p1.target → after_refused call why claims g ≡ g
-    → ((page offset : ℕ) (bytes : List ℕ) → call ≡ Scribble page offset bytes → HonestStep g
-    (Scribble page offset bytes) claims (Refused why) g) → AreClaimed Answers (supply_of p1 out1)
-    claims → Moves (supply_of p1 out1) (supply_of p2 out2) nothing nothing → StepsOver
+pub rogue_unclaimed : {Answers : List Bool → Claim → Type 0} (out1 out2 : List Bool) {m1 m2 : Pages}
+    {p1 p2 : Part} {d : DriverState} {g : Guest} {call : Call} {claims : List Claim} {why : Refusal}
+    → Rogue m1 p1 d g → m2 ≡ m1 → p2 ≡ record p1 { own = p2.own } → AreClaimsFor
+    (pages_to_back call g) claims → claim_refusal claims ≡ Some why → target_after call p1.target
+    ≡ p1.target → after_refused call why claims g ≡ g → ((page offset : ℕ) (bytes : List ℕ) → call
+    ≡ Scribble page offset bytes → HonestStep g (Scribble page offset bytes) claims (Refused why) g)
+    → AreClaimed Answers (supply_of p1 out1) claims
+    → Moves (supply_of p1 out1) (supply_of p2 out2) nothing nothing → StepsOver
     (Rogue m2 p2 d) Answers (supply_of p1 out1) (supply_of p2 out2) claims g call (Refused why)
-rogue_unclaimed Answers out1 out2 m1 m2 p1 p2 d g call claims why rogue memory part made refused still left scribble answered moves =
-    let stands = rogue_own m1 m2 p1 p2 d g memory part rogue in
+rogue_unclaimed out1 out2
+    {g} {call} {claims} {why} rogue memory part made refused still left scribble answered moves =
+    let stands = rogue_own memory part rogue in
     let F : Option Refusal → Type 0 = λ o. MatchOption o
     (LosesFrames (all_backed (pages_to_back call g) (given claims) g.frames) g.frames)
     (λ refusal. (Refused why ≡ Refused refusal) × (g.frames ≡ g.frames)) in
     record {
       new = g;
       stands = stands;
-      step = rogue_steps m1 m2 p1 p2 d d g g call claims (Refused why) rogue stands refl
-          (ap (λ (p : Part). p.target) part ∙ sym still) made
-          (subst F (sym refused) (refl, refl))
+      step = rogue_steps call claims (Refused why) rogue stands refl
+          (ap (λ (p : Part). p.target) part ∙ sym still) made (subst F (sym refused) (refl, refl))
           (λ e. refused ∙ (let same : why ≡ NoFrame = cc in ap (λ (r : Refusal). Some r) same))
-          (λ e. inl (refused
-          ∙ (let same : why ≡ NoMemory = cc in ap (λ (r : Refusal). Some r) same)))
-          (left_by call why claims g g (sym left)) scribble;
+          (λ e. inl (refused ∙ (let same : why ≡ NoMemory = cc in ap
+          (λ (r : Refusal). Some r) same))) (left_by call why claims g (sym left)) scribble;
       answered = answered;
-      moves = moves_as (supply_of p1 out1) (supply_of p2 out2) nothing nothing
-          (λ n. backing_count n g) (λ n. backing_count n g) moves (λ n. omega arith);
+      moves = moves_as moves (λ n. omega arith);
     }

@@ -17,9 +17,9 @@ pub record AreSized (d : DriverState) (size : ℕ) : Type 0 where
   pub statistics : d.statistics.size ≡ size
   pub report : d.report.ring.size ≡ size
 
-pub sizes_of : (m : Pages) (p : Part) (d : DriverState) (g : Guest) → IsRunning m p d g
-    → AreSized d g.config.queue_size
-sizes_of m p d g run = grind arith
+pub sizes_of : {m : Pages} {p : Part} {d : DriverState} {g : Guest}
+    → IsRunning m p d g → AreSized d g.config.queue_size
+sizes_of run = grind arith
 
 -- ---- reserved pages are as before, and so are all queues
 
@@ -30,9 +30,9 @@ pub record QueuesSame (old new : Pages) (d : DriverState) : Type 0 where
   pub buffer : page_at new 12 ≡ page_at old 12
   pub report : SameRing old new d.report.ring.size 4
 
-pub queues_same : (old new : Pages) (d : DriverState) (size : ℕ) → AreSized d size
-    → SameReserved old new size → QueuesSame old new d
-queues_same old new d size sized same = grind arith
+pub queues_same : {old new : Pages} {d : DriverState} {size : ℕ}
+    → AreSized d size → SameReserved old new size → QueuesSame old new d
+queues_same sized same = grind arith
 
 -- ---- a page of one ring has changed, and no other: all other queues are as before
 
@@ -43,28 +43,28 @@ pub record OthersSame (old new : Pages) (d : DriverState) (q : ℕ) : Type 0 whe
   pub buffer : 2 ≢ ring_number q → page_at new 12 ≡ page_at old 12
   pub report : 3 ≢ ring_number q → SameRing old new d.report.ring.size 4
 
-pub others_same : (old new : Pages) (d : DriverState) (size q ring : ℕ) → AreSized d size
-    → InRing size q ring → SameBut old new ring → OthersSame old new d q
-others_same old new d size q ring sized at rest = record {
-  inflate = λ ne. other_line old new size d.inflate.ring.size q 0 ring sized.inflate ne at rest;
-  deflate = λ ne. other_line old new size d.deflate.ring.size q 1 ring sized.deflate ne at rest;
-  statistics = λ ne. other_ring old new size d.statistics.size q 2 ring sized.statistics ne at rest;
+pub others_same : {old new : Pages} {d : DriverState} {size q : ℕ} (ring : ℕ)
+    → AreSized d size → InRing size q ring → SameBut old new ring → OthersSame old new d q
+others_same {old} {new} {size} {q} ring sized at rest = record {
+  inflate = λ ne. other_line q ring sized.inflate ne at rest;
+  deflate = λ ne. other_line q ring sized.deflate ne at rest;
+  statistics = λ ne. other_ring old new q 2 ring sized.statistics ne at rest;
   buffer = λ ne. rest 12 (no_buffer size q ring 12 at (omega arith) (omega arith));
-  report = λ ne. other_ring old new size d.report.ring.size q 4 ring sized.report ne at rest;
+  report = λ ne. other_ring old new q 4 ring sized.report ne at rest;
 }
 
 -- a ring's page is reserved
-pub ring_low : (size k q page : ℕ) → k ≡ size → InRing k q page → page < reserved_pages size
-ring_low size k q page same at = grind arith
+pub ring_low : {size k : ℕ} (q page : ℕ) → k ≡ size → InRing k q page → page < reserved_pages size
+ring_low q page same at = grind arith
 
 -- and pages of a request aren't
-pub above_as : (size k : ℕ) (pages : List ℕ) → k ≡ size
+pub above_as : {size k : ℕ} (pages : List ℕ) → k ≡ size
     → All (λ page. reserved_pages k ≤ page) pages → All (λ page. reserved_pages size ≤ page) pages
-above_as size k pages same above =
+above_as pages same above =
     subst (λ (s : ℕ). All (λ page. reserved_pages s ≤ page) pages) same above
 
-pub ring_as : (size k q page : ℕ) → k ≡ size → InRing k q page → InRing size q page
-ring_as size k q page same at = subst (λ (s : ℕ). InRing s q page) same at
+pub ring_as : {size k : ℕ} (q page : ℕ) → k ≡ size → InRing k q page → InRing size q page
+ring_as q page same at = subst (λ (s : ℕ). InRing s q page) same at
 
 -- ---- a driver has written to one ring, to its table and its available ring, and to a buffer
 
@@ -72,9 +72,9 @@ pub record IsRingOf (size q : ℕ) (l : Layout) : Type 0 where
   pub table : InRing size q l.table
   pub avail : InRing size q l.avail.page
 
-pub ring_of : (size q : ℕ) (ring : DriverEnd) → IsSize ring.size → ring.layout
+pub ring_of : {size : ℕ} (q : ℕ) (ring : DriverEnd) → IsSize ring.size → ring.layout
     ≡ layout_of (ring_page ring.size q) ring.size → ring.size ≡ size → IsRingOf size q ring.layout
-ring_of size q ring sized layout same = grind arith
+ring_of q ring sized layout same = grind arith
 
 -- no other page has changed
 abbrev pub SameButThese : Pages → Pages → Layout → ℕ → Type 0
@@ -93,20 +93,20 @@ buffer_clear size q buffer low high other page ne at same =
 pub table_clear : (size q table : ℕ) → InRing size q table → IsClear size q table
 table_clear size q table at other page ne there = rings_apart size other q page table ne there at
 
-posted_ring : (old new : Pages) (size k q other buffer : ℕ) (l : Layout) → k ≡ size
-    → ring_number other ≢ ring_number q → IsRingOf size q l → IsClear size q buffer
-    → SameButThese old new l buffer → SameRing old new k other
-posted_ring old new size k q other buffer l same ne ring clear rest page there =
+posted_ring : (old new : Pages) {size k q : ℕ} (other buffer : ℕ) {l : Layout}
+    → k ≡ size → ring_number other ≢ ring_number q → IsRingOf size q l
+    → IsClear size q buffer → SameButThese old new l buffer → SameRing old new k other
+posted_ring old new {size} {q} other buffer {l} same ne ring clear rest page there =
     let here : InRing size other page = subst (λ (s : ℕ). InRing s other page) same there in
     rest page (rings_apart size other q page l.table ne here ring.table)
     (rings_apart size other q page l.avail.page ne here ring.avail) (clear other page ne here)
 
-posted_line : (old new : Pages) (size k q other buffer : ℕ) (l : Layout) → k ≡ size
-    → ring_number other ≢ ring_number q → IsRingOf size q l → IsClear size q buffer
+posted_line : {old new : Pages} {size k q other : ℕ} (buffer : ℕ) {l : Layout}
+    → k ≡ size → ring_number other ≢ ring_number q → IsRingOf size q l → IsClear size q buffer
     → ((p : ℕ) → buffers_page other ≤ p → p < buffers_page other + 4 → p ≢ buffer)
     → SameButThese old new l buffer → SameLine old new k other
-posted_line old new size k q other buffer l same ne ring clear far rest = record {
-  ring = posted_ring old new size k q other buffer l same ne ring clear rest;
+posted_line {old} {new} {size} {q} {other} buffer {l} same ne ring clear far rest = record {
+  ring = posted_ring old new other buffer same ne ring clear rest;
   buffers = λ p from to.
       let between = buffers_between other in
       let low : 4 ≤ p = omega (arith, between.0, from) in
@@ -125,25 +125,20 @@ pub record PostLeaves (old new : Pages) (d : DriverState) (q written : ℕ) : Ty
   pub buffer : 12 ≢ written → page_at new 12 ≡ page_at old 12
   pub report : 3 ≢ ring_number q → SameRing old new d.report.ring.size 4
 
-pub post_leaves : (old new : Pages) (d : DriverState) (size q buffer : ℕ) (l : Layout)
-    → AreSized d size → IsRingOf size q l → IsClear size q buffer
-    → SameButThese old new l buffer → PostLeaves old new d q buffer
-post_leaves old new d size q buffer l sized ring clear rest = record {
-  inflate = λ ne far. posted_line old new size d.inflate.ring.size q 0 buffer l sized.inflate ne
-      ring clear far rest;
-  deflate = λ ne far. posted_line old new size d.deflate.ring.size q 1 buffer l sized.deflate ne
-      ring clear far rest;
-  statistics = λ ne. posted_ring old new size d.statistics.size q 2 buffer l sized.statistics ne
-      ring clear rest;
+pub post_leaves : {old new : Pages} {d : DriverState} {size q buffer : ℕ} {l : Layout}
+    → AreSized d size → IsRingOf size q l
+    → IsClear size q buffer → SameButThese old new l buffer → PostLeaves old new d q buffer
+post_leaves {old} {new} {size} {q} {buffer} {l} sized ring clear rest = record {
+  inflate = λ ne far. posted_line buffer sized.inflate ne ring clear far rest;
+  deflate = λ ne far. posted_line buffer sized.deflate ne ring clear far rest;
+  statistics = λ ne. posted_ring old new 2 buffer sized.statistics ne ring clear rest;
   buffer = λ ne. rest 12 (no_buffer size q l.table 12 ring.table (omega arith) (omega arith))
       (no_buffer size q l.avail.page 12 ring.avail (omega arith) (omega arith)) ne;
-  report = λ ne. posted_ring old new size d.report.ring.size q 4 buffer l sized.report ne ring clear
-      rest;
+  report = λ ne. posted_ring old new 4 buffer sized.report ne ring clear rest;
 }
 
 -- and so are unreserved pages
-pub post_same : (old new : Pages) (size q buffer : ℕ) (l : Layout) → IsRingOf size q l
-    → buffer < reserved_pages size → length new ≡ length old
-    → ((p : ℕ) → frame_at new p ≡ frame_at old p) → SameButThese old new l buffer
-    → SamePages (reserved_pages size) old new
-post_same old new size q buffer l ring low count behind rest = search arith
+pub post_same : {old new : Pages} {size q : ℕ} (buffer : ℕ) {l : Layout} → IsRingOf size q l
+    → buffer < reserved_pages size → length new ≡ length old → ((p : ℕ) → frame_at new p
+    ≡ frame_at old p) → SameButThese old new l buffer → SamePages (reserved_pages size) old new
+post_same buffer ring low count behind rest = search arith

@@ -11,11 +11,11 @@ use Rattle.vb_guest.{proofs.BufferLines.buffer_apart, proofs.ReportLines.report_
 use Rattle.vb_guest.proofs.RunApart.{OthersSame, PostLeaves, queues_same, sizes_of}
 
 -- reserved pages are as before, and the guest runs on
-pub runs_on : (m1 m2 : Pages) (p : Part) (d : DriverState) (g : Guest) → IsRunning m1 p d g
-    → SameReserved m1 m2 g.config.queue_size → IsRunning m2 p d g
-runs_on m1 m2 p d g run low = let n = g.config.pages in
+pub runs_on : {m1 m2 : Pages} {p : Part} {d : DriverState} {g : Guest}
+    → IsRunning m1 p d g → SameReserved m1 m2 g.config.queue_size → IsRunning m2 p d g
+runs_on {m1} {m2} {p} {d} {g} run low = let n = g.config.pages in
     let size = g.config.queue_size in
-    let same = queues_same m1 m2 d size (sizes_of m1 p d g run) low in
+    let same = queues_same (sizes_of run) low in
     record {
       state = run.state;
       backed = λ page start. ap is_some (ap number_of (low page (start_reserved size page start)))
@@ -24,10 +24,9 @@ runs_on m1 m2 p d g run low = let n = g.config.pages in
       deflate_size = run.deflate_size;
       statistics_size = run.statistics_size;
       report_size = run.report_size;
-      inflate = line_apart m1 m2 0 n d.inflate p.inflate g.inflate same.inflate run.inflate;
-      deflate = line_apart m1 m2 1 n d.deflate p.deflate g.deflate same.deflate run.deflate;
-      statistics = buffer_apart m1 m2 d.statistics p.statistics g.buffer same.statistics
-          same.buffer run.statistics;
+      inflate = line_apart n d.inflate p.inflate g.inflate same.inflate run.inflate;
+      deflate = line_apart n d.deflate p.deflate g.deflate same.deflate run.deflate;
+      statistics = buffer_apart same.statistics same.buffer run.statistics;
       report = report_apart m1 m2 n d.report p.report g.report same.report run.report;
     }
 
@@ -43,29 +42,30 @@ pub record OthersRun (m : Pages) (p : Part) (d : DriverState) (g : Guest) (q : �
   pub report : (ring_number q == 3) ≡ false → ReportLine m g.config.pages d.report p.report g.report
 
 -- a page of that one's ring has changed
-pub others_run : (m1 m2 : Pages) (p : Part) (d : DriverState) (g : Guest) (q : ℕ)
+pub others_run : {m1 m2 : Pages} {p : Part} {d : DriverState} {g : Guest} (q : ℕ)
     → IsRunning m1 p d g → OthersSame m1 m2 d q
     → ((page : ℕ) → frame_at m2 page ≡ frame_at m1 page) → OthersRun m2 p d g q
-others_run m1 m2 p d g q run same behind = let n = g.config.pages in
+others_run {m1} {m2} {p} {d} {g} q run same behind = let n = g.config.pages in
     record {
       backed = λ page start. ap is_some (behind page) ∙ run.backed page start;
-      inflate = λ other.
-          line_apart m1 m2 0 n d.inflate p.inflate g.inflate (same.inflate (apart_of 0 (ring_number q) other)) run.inflate;
-      deflate = λ other.
-          line_apart m1 m2 1 n d.deflate p.deflate g.deflate (same.deflate (apart_of 1 (ring_number q) other)) run.deflate;
-      statistics = λ other. buffer_apart m1 m2 d.statistics p.statistics g.buffer (same.statistics (apart_of 2 (ring_number q) other))
+      inflate = λ other. line_apart n d.inflate p.inflate g.inflate
+          (same.inflate (apart_of 0 (ring_number q) other)) run.inflate;
+      deflate = λ other. line_apart n d.deflate p.deflate g.deflate
+          (same.deflate (apart_of 1 (ring_number q) other)) run.deflate;
+      statistics = λ other. buffer_apart (same.statistics (apart_of 2 (ring_number q) other))
           (same.buffer (apart_of 2 (ring_number q) other)) run.statistics;
-      report = λ other. report_apart m1 m2 n d.report p.report g.report (same.report (apart_of 3 (ring_number q) other)) run.report;
+      report = λ other. report_apart m1 m2 n d.report p.report g.report
+          (same.report (apart_of 3 (ring_number q) other)) run.report;
     }
 
 -- a driver has written to that one's ring and to a page of buffers
-pub others_posted : (m1 m2 : Pages) (p : Part) (d : DriverState) (g : Guest) (q written : ℕ)
+pub others_posted : {m1 m2 : Pages} {p : Part} {d : DriverState} {g : Guest} {q written : ℕ}
     → IsRunning m1 p d g → PostLeaves m1 m2 d q written
     → ((page : ℕ) → frame_at m2 page ≡ frame_at m1 page) → (2 ≢ ring_number q → 12 ≢ written)
     → (0 ≢ ring_number q → (page : ℕ) → 4 ≤ page → page < 8 → page ≢ written) → (1 ≢ ring_number q
     → (page : ℕ) → 8 ≤ page → page < 12 → page ≢ written) → OthersRun m2 p d g q
-others_posted m1 m2 p d g q written run leaves behind buffer inflates deflates =
-    others_run m1 m2 p d g q run (record {
+others_posted {q} run leaves behind buffer inflates deflates =
+    others_run q run (record {
       inflate = λ ne. leaves.inflate ne (inflates ne);
       deflate = λ ne. leaves.deflate ne (deflates ne);
       statistics = leaves.statistics;

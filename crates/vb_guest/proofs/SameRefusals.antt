@@ -23,10 +23,10 @@ at_both P status (inl e) a b = subst P (sym e) a
 at_both P status (inr e) a b = subst P (sym e) b
 
 -- a last test that doesn't hold
-pub last_cause : (causes : List Cause) (b : Bool) (why : Refusal) → b ≡ false
-    → first_refusal (causes ++ (b ⇒ why) ∷ []) ≡ first_refusal causes
-last_cause [] b why e = ap (λ (v : Bool). first_refusal ((v ⇒ why) ∷ [])) e
-last_cause (cause ∷ causes) b why e = by cause.holds (last_cause causes b why e) where
+pub last_cause : (causes : List Cause) {b : Bool} (why : Refusal)
+    → b ≡ false → first_refusal (causes ++ (b ⇒ why) ∷ []) ≡ first_refusal causes
+last_cause [] why e = ap (λ (v : Bool). first_refusal ((v ⇒ why) ∷ [])) e
+last_cause (cause ∷ causes) {b} why e = by cause.holds (last_cause causes why e) where
   by : (v : Bool) → first_refusal (causes ++ (b ⇒ why) ∷ []) ≡ first_refusal causes
       → (if v then Some cause.refusal else first_refusal (causes ++ (b ⇒ why) ∷ []))
       ≡ (if v then Some cause.refusal else first_refusal causes)
@@ -118,15 +118,14 @@ works_idle part g same down = grind arith
 -- ---- a call on a device
 
 -- what follows for each refusal, and for a running guest that isn't refused, follows for any
-pub by_state : {S : Type 0} (m : Pages) (p : Part) (d : DriverState) (g : Guest) (call : Call)
-    (refused : Option Refusal) → IsIdle g ⊎ IsRunning m p d g
-    → (IsIdleStatus g.status → (refused ≡ Some NotReady) × (refusal_of g call ≡ Some NotReady))
-    → (IsRunning m p d g → refused ≡ refusal_of g call)
-    → ((why : Refusal) → refused ≡ Some why → refusal_of g call ≡ Some why → S)
-    → (IsRunning m p d g → refused ≡ None → refusal_of g call ≡ None → S) → S
-by_state m p d g call refused (inl idle) down same stops goes =
+pub by_state : {S : Type 0} {m : Pages} {p : Part} {d : DriverState} {g : Guest}
+    (call : Call) (refused : Option Refusal) → IsIdle g ⊎ IsRunning m p d g → (IsIdleStatus g.status
+    → (refused ≡ Some NotReady) × (refusal_of g call ≡ Some NotReady)) → (IsRunning m p d g
+    → refused ≡ refusal_of g call) → ((why : Refusal) → refused ≡ Some why → refusal_of g call
+    ≡ Some why → S) → (IsRunning m p d g → refused ≡ None → refusal_of g call ≡ None → S) → S
+by_state call refused (inl idle) down same stops goes =
     let both = down idle.state in stops NotReady both.0 both.1
-by_state {S} m p d g call refused (inr run) down same stops goes = by (refusal_of g call) refl where
+by_state {S} {g} call refused (inr run) down same stops goes = by (refusal_of g call) refl where
   by : (o : Option Refusal) → refusal_of g call ≡ o → S
   by (Some why) is = stops why (same run ∙ is) is
   by None is = goes run (same run ∙ is) is
@@ -134,18 +133,18 @@ by_state {S} m p d g call refused (inr run) down same stops goes = by (refusal_o
 -- ---- a call on a driver
 
 -- driver and guest refuse it for the same cause, whether the device is initialised or not
-pub refused_alike : (m : Pages) (p : Part) (d : DriverState) (g : Guest) (call : Call)
-    (refused : Option Refusal) → IsIdle g ⊎ IsRunning m p d g
+pub refused_alike : {m : Pages} {p : Part} {d : DriverState}
+    {g : Guest} (call : Call) {refused : Option Refusal} → IsIdle g ⊎ IsRunning m p d g
     → (IsIdleStatus g.status → (refused ≡ Some NotReady) × (refusal_of g call ≡ Some NotReady))
     → (IsRunning m p d g → refused ≡ refusal_of g call) → refused ≡ refusal_of g call
-refused_alike m p d g call refused (inl idle) down same =
+refused_alike call (inl idle) down same =
     let both = down idle.state in both.0 ∙ sym both.1
-refused_alike m p d g call refused (inr run) down same = same run
+refused_alike call (inr run) down same = same run
 
 -- where it isn't refused, the guest runs
-pub runs_where : (m : Pages) (p : Part) (d : DriverState) (g : Guest) (call : Call)
-    (refused : Option Refusal) → IsIdle g ⊎ IsRunning m p d g
+pub runs_where : {m : Pages} {p : Part} {d : DriverState}
+    {g : Guest} (call : Call) (refused : Option Refusal) → IsIdle g ⊎ IsRunning m p d g
     → (IsIdleStatus g.status → (refused ≡ Some NotReady) × (refusal_of g call ≡ Some NotReady))
     → refusal_of g call ≡ None → IsRunning m p d g
-runs_where m p d g call refused (inl idle) down free = absurd (let wrong = (down idle.state).1 in cc)
-runs_where m p d g call refused (inr run) down free = run
+runs_where call refused (inl idle) down free = absurd (let wrong = (down idle.state).1 in cc)
+runs_where call refused (inr run) down free = run

@@ -1,5 +1,5 @@
 -- The guest once its driver started the device, or gave up.
-use Rattle.std.specs.Prelude.{◌≡◌, ℕ, ◌≤◌, Bool, true, false, if◌then◌else◌, List, [], length}
+use Rattle.std.specs.Prelude.{◌≡◌, ℕ, ◌≤◌, Bool, true, false, if◌then◌else◌, List, length}
 use Rattle.std.specs.Prelude.{Option, IsSome, is_some, replicate, refl}
 use Rattle.std.{proofs.lemmas.Bool.false_from_ne_true, proofs.lemmas.List.length-replicate}
 use Rattle.std.proofs.Common.{sym, ◌∙◌, ap, subst, arith, inr}
@@ -18,39 +18,37 @@ use Rattle.vb_guest.{specs.Stands.beside_requests, proofs.RingPosted.ring_posted
 use Rattle.vb_guest.{proofs.PagesKept.pages_same, specs.Reported.ReportLine}
 use Rattle.vb_guest.{proofs.RingApart.ring_new, proofs.Closing.ties_same, specs.Buffer.BufferLine}
 
-no_flags : (p : Part) (g : Guest) → p.ballooned ≡ g.ballooned → IsIdle g
-    → replicate (length p.ballooned) false ≡ g.ballooned
-no_flags p g same idle = grind (arith, length-replicate)
+no_flags : (p : Part) {g : Guest}
+    → p.ballooned ≡ g.ballooned → IsIdle g → replicate (length p.ballooned) false ≡ g.ballooned
+no_flags p same idle = grind (arith, length-replicate)
 
 -- nothing was published, and nothing used
-fresh_line : (m : Pages) (queue count q : ℕ) → IsSize q → IsNewRing m (fresh_side queue q).ring
-    → Line m queue count (fresh_side queue q) no_queue no_requests
-fresh_line m queue count q sized new = grind (arith, ring_new)
+fresh_line : {m : Pages} (queue count : ℕ) {q : ℕ} → IsSize q → IsNewRing m
+    (fresh_side queue q).ring → Line m queue count (fresh_side queue q) no_queue no_requests
+fresh_line queue count sized new = grind (arith, ring_new)
 
-fresh_report_line : (m : Pages) (count q : ℕ) → IsSize q → IsNewRing m (fresh_report q).ring
-    → ReportLine m count (fresh_report q) no_queue no_requests
-fresh_report_line m count q sized new = grind (arith, ring_new)
+fresh_report_line : {m : Pages} (count : ℕ) {q : ℕ} → IsSize q
+    → IsNewRing m (fresh_report q).ring → ReportLine m count (fresh_report q) no_queue no_requests
+fresh_report_line count sized new = grind (arith, ring_new)
 
 -- the first statistics buffer, where there is one
 abbrev pub first_buffer : Bool → Figures → StatisticsBuffer
 first_buffer b f = if b then BufferPosted f else NoBuffer
 
-first_line : (b : Bool) (zeroed m : Pages) (d1 d2 : DriverState) (f : Figures)
+first_line : (b : Bool) {zeroed m : Pages} (d1 d2 : DriverState) {f : Figures}
     → IsSize d1.queue_size → figures_of d1 ≡ f → IsNewRing zeroed (fresh_statistics d1.queue_size)
     → FirstBuffer b zeroed m d1 d2 → BufferLine m d2.statistics no_queue (first_buffer b f)
-first_line true zeroed m d1 d2 f sized is new did =
+first_line true {m} d1 d2 sized is new did =
     subst (λ (x : Figures). BufferLine m d2.statistics no_queue (BufferPosted x)) is (record {
-      stands = ring_posted zeroed m 2 (fresh_statistics d1.queue_size) d2.statistics 0 0 [] [] []
-          1 0 (ring_new zeroed 2 (fresh_statistics d1.queue_size) sized refl new) did.state
-          did.announces;
+      stands = ring_posted 1 (ring_new sized refl new) did.state did.announces;
       figures = subst (λ (s : ℕ). AreFigures m (ring_page s 2) (figures_of d1))
           (sym (ap (λ (r : DriverEnd). r.size) did.state)) did.coded;
       remembers = refl;
     })
-first_line false zeroed m d1 d2 f sized is new did =
+first_line false {zeroed} d1 d2 sized is new did =
     let L : Pages → DriverEnd → Type 0 = λ x r. BufferLine x r no_queue NoBuffer in
     subst (λ (x : Pages). L x d2.statistics) (sym did.0) (subst (L zeroed) (sym did.1) (record {
-      stands = ring_new zeroed 2 (fresh_statistics d1.queue_size) sized refl new;
+      stands = ring_new sized refl new;
       figures = tt;
       remembers = refl;
     }))
@@ -71,18 +69,18 @@ no_ring : (size p : ℕ) → reserved_pages size ≤ p → is_ring_page size p �
 no_ring size p high = false_from_ne_true (is_ring_page size p)
     (λ ring. omega (arith, high, ring_reserved size p ring))
 
-start_keeps : (b : Bool) (m1 zeroed m : Pages) (d1 d2 : DriverState)
+start_keeps : (b : Bool) {m1 zeroed m : Pages} (d1 d2 : DriverState)
     → IsSize d1.queue_size → AreZeroed m1 zeroed (is_ring_page d1.queue_size)
     → FirstBuffer b zeroed m d1 d2 → KeepsPages d1.queue_size m1 m
-start_keeps b m1 zeroed m d1 d2 sized zeroes did = grind (arith, no_ring)
+start_keeps b d1 d2 sized zeroes did = grind (arith, no_ring)
 
 figures_are : (d : DriverState) (g : Guest) → d.places ≡ g.places → d.pages ≡ g.config.pages
     → figures_of d ≡ figures g
 figures_are d g places pages = grind arith
 
 -- the guest whose pages have these frames, and whose device is initialised
-pub started : (m2 m3 : Pages) (p1 p3 : Part) (d1 d2 : DriverState) (g : Guest)
-    (frames : List (Option ℕ)) (wanted : ℕ) → HasPages m2 g.config.queue_size g.config.pages frames g.contents
+pub started : {m2 m3 : Pages} {p1 p3 : Part} {d1 d2 : DriverState} {g : Guest} {frames : List
+    (Option ℕ)} {wanted : ℕ} → HasPages m2 g.config.queue_size g.config.pages frames g.contents
     → ((p : ℕ) → is_start_page g.config.queue_size p ≡ true → IsSome (frame_at m2 p))
     → IsIdle g → IsDriver d1 → HasParts (beside_queues p1) (beside_sides d1) (beside_requests g)
     → Starts m2 m3 p1 p3 d1 d2 wanted
@@ -92,7 +90,7 @@ pub started : (m2 m3 : Pages) (p1 p3 : Part) (d1 d2 : DriverState) (g : Guest)
       features = wanted;
       buffer = first_buffer (stats_vq wanted) (figures g);
     })
-started m2 m3 p1 p3 d1 d2 g frames wanted has backed idle driver parts did =
+started {m3} {p1} {d1} {d2} {g} {frames} {wanted} has backed idle driver parts did =
     let new : Guest = record g {
       frames = frames;
       status = 15;
@@ -109,18 +107,22 @@ started m2 m3 p1 p3 d1 d2 g frames wanted has backed idle driver parts did =
       actual = 0;
     } in
     let n = g.config.pages in
-    let inflate = fresh_line m3 0 n d1.queue_size driver.size
+    let inflate = fresh_line 0 n driver.size
     (subst (λ (d : DriverState). IsNewRing m3 d.inflate.ring) did.driver did.inflate) in
-    let deflate = fresh_line m3 1 n d1.queue_size driver.size
+    let deflate = fresh_line 1 n driver.size
     (subst (λ (d : DriverState). IsNewRing m3 d.deflate.ring) did.driver did.deflate) in
-    let report = fresh_report_line m3 n d1.queue_size driver.size
+    let report = fresh_report_line n driver.size
     (subst (λ (d : DriverState). IsNewRing m3 d.report.ring) did.driver did.report) in
-    let keeps = start_keeps (stats_vq wanted) m2 did.zeroed m3 d1 d2 driver.size did.rings
-    did.buffer in
+    let keeps = start_keeps (stats_vq wanted) d1 d2 driver.size did.rings did.buffer in
     let there : Ties m3 part state new = record {
       parts =
-          assumption (sym idle.actual, sym idle.actual, no_flags p1 g parts.device.ballooned idle, sym idle.last);
-      pages = pages_same m2 m3 g.config.queue_size n frames g.contents (record {
+          assumption (
+            sym idle.actual,
+            sym idle.actual,
+            no_flags p1 parts.device.ballooned idle,
+            sym idle.last,
+          );
+      pages = pages_same (record {
         count = keeps.count;
         behind = keeps.backing;
         holds = λ p high. ap contents_of (keeps.high p
@@ -138,17 +140,17 @@ started m2 m3 p1 p3 d1 d2 g frames wanted has backed idle driver parts did =
             (sym idle.inflate) inflate;
         deflate = subst (λ (rs : Requests). Line m3 1 n (fresh_side 1 d1.queue_size) no_queue rs)
             (sym idle.deflate) deflate;
-        statistics = first_line (stats_vq wanted) did.zeroed m3 d1 d2 (figures g) driver.size
+        statistics = first_line (stats_vq wanted) d1 d2 driver.size
             (figures_are d1 g parts.driver.places parts.driver.pages) did.statistics did.buffer;
         report = subst (λ (rs : Requests). ReportLine m3 n (fresh_report d1.queue_size) no_queue rs)
             (sym idle.report) report;
       });
-    } in ties_same m3 m3 part p3 state d2 new refl did.part did.driver there
+    } in ties_same refl did.part did.driver there
 
 -- the guest whose pages have these frames, and whose driver gave up
-pub stopped : (m2 m3 : Pages) (p1 p3 : Part) (d1 d2 : DriverState) (g : Guest)
-    (frames : List (Option ℕ)) (accepted : ℕ) → HasPages m2 g.config.queue_size g.config.pages frames g.contents
-    → IsIdle g → HasParts (beside_queues p1) (beside_sides d1) (beside_requests g)
-    → GivesUp m2 m3 p1 p3 d1 d2 accepted
+pub stopped : {m2 m3 : Pages}
+    {p1 p3 : Part} {d1 d2 : DriverState} {g : Guest} {frames : List (Option ℕ)} {accepted : ℕ}
+    → HasPages m2 g.config.queue_size g.config.pages frames g.contents → IsIdle g → HasParts
+    (beside_queues p1) (beside_sides d1) (beside_requests g) → GivesUp m2 m3 p1 p3 d1 d2 accepted
     → Ties m3 p3 d2 (record g { frames = frames; status = 131; features = accepted })
-stopped m2 m3 p1 p3 d1 d2 g frames accepted has idle parts did = grind (arith, no_flags)
+stopped has idle parts did = grind (arith, no_flags)

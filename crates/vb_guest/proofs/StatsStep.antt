@@ -10,7 +10,7 @@ use Rattle.vb_model.specs.declared.replies.Reply.TheVariants.{Filled, NotUsed}
 use Rattle.vb_ram.{specs.Pages.Pages, specs.Part.Part}
 use Rattle.vb_ring.specs.Ends.{DriverEnd, used_answer}
 use Rattle.vb_driver.{specs.State.{DriverState, figures_of}, specs.Answers.stats_causes}
-use Rattle.vb_driver.specs.Calls.{FillsBy, Refills, emptied}
+use Rattle.vb_driver.specs.Calls.{FillsBy, Refills}
 use Rattle.vb_guest.proofs.{BufferLines.{buffer_emptied, buffer_posted}, Closing.honest_performed}
 use Rattle.vb_guest.proofs.{Closing.{steps_alone, refused_alone, ties_same}, PagesKept.pages_same}
 use Rattle.vb_guest.proofs.{ReapRefusing.{unfailed, never_broken}, RingReaped.ring_answer}
@@ -32,23 +32,23 @@ stats_idle : (m : Pages) (p : Part) (d : DriverState) (g : Guest) → p.status �
     → (first_refusal (stats_causes m p d) ≡ Some NotReady) × (refusal_of g Stats ≡ Some NotReady)
 stats_idle m p d g same down = grind arith
 
-stats_refused : (m1 m2 : Pages) (p1 p2 : Part) (d1 d2 : DriverState) (g : Guest) (why : Refusal)
-    → FillsBy m1 m2 p1 p2 d1 d2 (Err why) → Honest m1 p1 d1 g
-    → first_refusal (stats_causes m1 p1 d1) ≡ refusal_of g Stats
+stats_refused : {m1 m2 : Pages} {p1 p2 : Part} {d1 d2 : DriverState} {g : Guest} (why : Refusal)
+    → FillsBy m1 m2 p1 p2 d1 d2 (Err why)
+    → Honest m1 p1 d1 g → first_refusal (stats_causes m1 p1 d1) ≡ refusal_of g Stats
     → StepsAlone (Honest m2 p2 d2) g Stats (filled_reply (Err why))
-stats_refused m1 m2 p1 p2 d1 d2 g why did stands same =
+stats_refused {g} why did stands same =
     let by_model : refusal_of g Stats ≡ Some why = sym (did.refusal ∙ same) in
-    refused_alone m1 m2 p1 p2 d1 d2 g Stats why stands by_model did.refused.mem (did.refused.part
-    ∙ unfailed why p1 (λ e. never_broken false (not (is_up g.status)) (not (stats_vq g.features))
+    refused_alone stands by_model did.refused.mem (did.refused.part
+    ∙ unfailed why (λ e. never_broken false (not (is_up g.status)) (not (stats_vq g.features))
     (by_model ∙ ap Some e))) did.refused.driver
 
 -- ---- the buffer wasn't used
 
-not_used : (m1 m2 : Pages) (p1 p2 : Part) (d1 d2 : DriverState) (g : Guest) (b : StatisticsBuffer)
-    (filled : Bool) → g.buffer ≡ b → used_answer m1 d1.statistics ≡ Ok None → Fills b g NotUsed g
-    → FillsBy m1 m2 p1 p2 d1 d2 (Ok filled) → Honest m1 p1 d1 g → refusal_of g Stats ≡ None
-    → StepsAlone (Honest m2 p2 d2) g Stats (filled_reply (Ok filled))
-not_used m1 m2 p1 p2 d1 d2 g b filled is answer none did stands free = search arith
+not_used : {m1 m2 : Pages} {p1 p2 : Part} {d1 d2 : DriverState} {g : Guest}
+    {b : StatisticsBuffer} (filled : Bool) → g.buffer ≡ b → used_answer m1 d1.statistics ≡ Ok None
+    → Fills b g NotUsed g → FillsBy m1 m2 p1 p2 d1 d2 (Ok filled) → Honest m1 p1 d1 g
+    → refusal_of g Stats ≡ None → StepsAlone (Honest m2 p2 d2) g Stats (filled_reply (Ok filled))
+not_used filled is answer none did stands free = search arith
 
 -- ---- the used buffer is filled anew
 
@@ -56,76 +56,71 @@ figures_same : (d : DriverState) (g : Guest) → d.places ≡ g.places → d.pag
     → figures_of d ≡ figures g
 figures_same d g places pages = grind arith
 
-refilled : (m1 m2 : Pages) (p1 p2 : Part) (d1 d2 : DriverState) (g : Guest) (old : Figures)
+refilled : {m1 m2 : Pages} {p1 p2 : Part} {d1 d2 : DriverState} {g : Guest} (old : Figures)
     → g.buffer ≡ BufferDone old → Refills m1 m2 p1 p2 d1 d2 → Honest m1 p1 d1 g
     → IsRunning m1 p1 d1 g → refusal_of g Stats ≡ None → StepsAlone (Honest m2 p2 d2) g Stats Filled
-refilled m1 m2 p1 p2 d1 d2 g old is did stands run free = let ties = stands.ties in
-    let n = g.config.pages in
+refilled {m1} {m2} {p1} {d1} {d2} {g} old is did stands run free = let ties = stands.ties in
     let now : Figures = figures g in
     let L : StatisticsBuffer → Type 0 = λ b. BufferLine m1 d1.statistics p1.statistics b in
     let line : L (BufferDone old) = subst L is run.statistics in
     let size = g.config.queue_size in
     let rest = did.posts.rest in
-    let ring =
-    ring_of size 2 d1.statistics line.stands.sized line.stands.layout run.statistics_size in
-    let same = post_same m1 m2 size 2 12 d1.statistics.layout ring
+    let ring = ring_of 2 d1.statistics line.stands.sized line.stands.layout run.statistics_size in
+    let same = post_same 12 ring
     (omega (arith, reserved_least size)) rest.count rest.backing rest.others in
-    let leaves = post_leaves m1 m2 d1 size 2 12 d1.statistics.layout (sizes_of m1 p1 d1 g run) ring
+    let leaves = post_leaves (sizes_of run) ring
     (buffer_clear size 2 12 (omega arith) (omega arith)) rest.others in
-    let still = others_posted m1 m2 p1 d1 g 2 12 run leaves rest.backing (λ ne. absurd (ne refl))
+    let still = others_posted run leaves rest.backing (λ ne. absurd (ne refl))
     (λ ne p from to. omega (arith, to)) (λ ne p from to. omega (arith, to)) in
     let new : Guest = record g { buffer = BufferPosted now } in
     let F : StatisticsBuffer → Type 0 = λ b. Fills b g Filled new in
     let step = honest_performed g Stats [] Filled new free (refl, subst F (sym is) (refl, refl)) in
     let after : DriverState = record d1 { statistics = d2.statistics } in
-    let emptied_line = buffer_emptied m1 d1.statistics p1.statistics old line did.takes in
+    let emptied_line = buffer_emptied old line did.takes in
     let B : Figures → Type 0 = λ f. BufferLine m2 d2.statistics p1.statistics (BufferPosted f) in
-    let posted : B now = subst B
-    (figures_same d1 g ties.parts.driver.places ties.parts.driver.pages) (buffer_posted m1 m2
-    (emptied d1.statistics) d2.statistics p1.statistics (figures_of d1) emptied_line did.posts) in
+    let posted : B now = subst B (figures_same
+    d1 g ties.parts.driver.places ties.parts.driver.pages) (buffer_posted emptied_line did.posts) in
     let sized = ap (λ (r : DriverEnd). r.size) did.posts.state ∙ run.statistics_size in
     let there : Ties m2 p1 after new = record {
       parts = ties.parts;
-      pages = pages_same m1 m2 g.config.queue_size n _ _ same ties.pages;
+      pages = pages_same same ties.pages;
       queues = inr (assumption (still.inflate refl, still.deflate refl, still.report refl));
     } in
-    steps_alone m1 m2 p1 p2 d1 d2 g Stats Filled new stands step
-    (ties_same m2 m2 p1 p2 after d2 new refl did.part did.state there) refl
+    steps_alone stands step (ties_same refl did.part did.state there) refl
 
-pub stats_step : (m1 m2 : Pages) (p1 p2 : Part) (d1 d2 : DriverState) (g : Guest)
-    (result : Result Bool Refusal) → FillsBy m1 m2 p1 p2 d1 d2 result → Honest m1 p1 d1 g
-    → StepsAlone (Honest m2 p2 d2) g Stats (filled_reply result)
-stats_step m1 m2 p1 p2 d1 d2 g result did stands = let device = stands.ties.parts.device in
-    by result did
-    (refused_alike m1 p1 d1 g Stats _ stands.ties.queues (stats_idle m1 p1 d1 g device.status)
-    (λ run. stats_same m1 p1 d1 g (slice_get (used_heads g.buffer) 0) device.status
-    stands.ties.parts.driver.accepted (answer run)))
+pub stats_step : {m1 m2 : Pages} {p1 p2 : Part} {d1 d2 : DriverState}
+    {g : Guest} {result : Result Bool Refusal} → FillsBy m1 m2 p1 p2 d1 d2 result
+    → Honest m1 p1 d1 g → StepsAlone (Honest m2 p2 d2) g Stats (filled_reply result)
+stats_step
+    {m1} {m2} {p1} {p2} {d1} {d2} {g} {result} did stands = let device = stands.ties.parts.device in
+    by result did (refused_alike Stats stands.ties.queues
+    (stats_idle m1 p1 d1 g device.status) (λ run. stats_same m1 p1 d1 g (slice_get
+    (used_heads g.buffer) 0) device.status stands.ties.parts.driver.accepted (answer run)))
   where
     answer : IsRunning m1 p1 d1 g
         → used_answer m1 d1.statistics ≡ Ok (slice_get (used_heads g.buffer) 0)
-    answer run = ring_answer m1 2 d1.statistics p1.statistics.next_avail p1.statistics.next_used
-        _ _ (used_heads g.buffer) run.statistics.stands
+    answer run = ring_answer run.statistics.stands
 
     by_buffer : (b : StatisticsBuffer) (filled : Bool) → g.buffer ≡ b
         → FillsBy m1 m2 p1 p2 d1 d2 (Ok filled) → IsRunning m1 p1 d1 g
         → used_answer m1 d1.statistics ≡ Ok (slice_get (used_heads b) 0) → refusal_of g Stats ≡ None
         → StepsAlone (Honest m2 p2 d2) g Stats (filled_reply (Ok filled))
     by_buffer (BufferDone old) true is did run answer free =
-        refilled m1 m2 p1 p2 d1 d2 g old is did.fills stands run free
+        refilled old is did.fills stands run free
     by_buffer (BufferDone old) false is did run answer free =
         absurd (let wrong = sym answer ∙ did.fills.unused in cc)
     by_buffer NoBuffer filled is did run answer free =
-        not_used m1 m2 p1 p2 d1 d2 g NoBuffer filled is answer (refl, refl) did stands free
-    by_buffer (BufferPosted figures) filled is did run answer free = not_used m1 m2 p1 p2 d1 d2 g
-        (BufferPosted figures) filled is answer (refl, refl) did stands free
-    by_buffer (BufferTaken figures) filled is did run answer free = not_used m1 m2 p1 p2 d1 d2 g
-        (BufferTaken figures) filled is answer (refl, refl) did stands free
+        not_used filled is answer (refl, refl) did stands free
+    by_buffer (BufferPosted figures) filled is did run answer free = not_used filled is answer
+        (refl, refl) did stands free
+    by_buffer (BufferTaken figures) filled is did run answer free = not_used filled is answer
+        (refl, refl) did stands free
 
     by : (result : Result Bool Refusal) → FillsBy m1 m2 p1 p2 d1 d2 result
         → first_refusal (stats_causes m1 p1 d1) ≡ refusal_of g Stats
         → StepsAlone (Honest m2 p2 d2) g Stats (filled_reply result)
-    by (Err why) did same = stats_refused m1 m2 p1 p2 d1 d2 g why did stands same
+    by (Err why) did same = stats_refused why did stands same
     by (Ok filled) did same = let free : refusal_of g Stats ≡ None = sym (did.refusal ∙ same) in
-        let run = runs_where m1 p1 d1 g Stats _ stands.ties.queues
+        let run = runs_where Stats _ stands.ties.queues
         (stats_idle m1 p1 d1 g stands.ties.parts.device.status) free in
         by_buffer g.buffer filled refl did run (answer run) free

@@ -71,9 +71,8 @@ supplied_backed (p ∷ ps) (n ∷ ns) old new q (mid, before, bare, did) there =
 
 -- ---- the table of frames
 
-each_swap : {A : Type 0} (f g : ℕ → A → A) (k : ℕ) (xs : List A)
-    → ((i : ℕ) (x : A) → f i (g i x) ≡ g i (f i x))
-    → each_from k f (each_from k g xs) ≡ each_from k g (each_from k f xs)
+each_swap : {A : Type 0} (f g : ℕ → A → A) (k : ℕ) (xs : List A) → ((i : ℕ) (x : A) → f i (g i x)
+    ≡ g i (f i x)) → each_from k f (each_from k g xs) ≡ each_from k g (each_from k f xs)
 each_swap f g k [] same = refl
 each_swap {A} f g k (x ∷ xs) same = grind (arith, each_swap f g (suc k) xs same)
 
@@ -96,11 +95,10 @@ distinct_out : (p : ℕ) (ps : List ℕ) → not (is_in p ps) ≡ true → is_in
 distinct_out p ps e = grind arith
 
 -- what one page's new frame leaves, the new frames of all pages leave
-filled_by : (Has : Pages → List (Option ℕ) → Type 0) (n : ℕ) (pages numbers : List ℕ)
-    (m1 m2 : Pages) (frames : List (Option ℕ))
-    → ((old new : Pages) (page frame : ℕ) (before : List (Option ℕ)) → page < n
-    → frame_at old page ≡ None → Has old before → Supplied old new page frame
-    → Has new (backed page frame before))
+filled_by : (Has : Pages → List (Option ℕ) → Type 0)
+    (n : ℕ) (pages numbers : List ℕ) (m1 m2 : Pages) (frames : List (Option ℕ))
+    → ((old new : Pages) (page frame : ℕ) (before : List (Option ℕ)) → page < n → frame_at old page
+    ≡ None → Has old before → Supplied old new page frame → Has new (backed page frame before))
     → AllDistinct pages → ((p : ℕ) → is_in p pages ≡ true → p < n)
     → AllSupplied pages numbers m1 m2 → Has m1 frames → Has m2 (all_backed pages numbers frames)
 filled_by Has n [] numbers m1 m2 frames one distinct below e has =
@@ -118,45 +116,40 @@ filled_by Has n (p ∷ ps) (k ∷ ks) m1 m2 frames one distinct below (mid, befo
     later true b e = refl
     later false b e = e
 
-pub pages_filled : (size n : ℕ) (pages numbers : List ℕ) (m1 m2 : Pages) (frames : List (Option ℕ))
-    (contents : List (List ℕ)) → AllDistinct pages → ((p : ℕ) → is_in p pages ≡ true → p < n)
+pub pages_filled : {size n : ℕ} (pages numbers : List ℕ) {m1 m2 : Pages} {frames : List (Option ℕ)}
+    {contents : List (List ℕ)} → AllDistinct pages → ((p : ℕ) → is_in p pages ≡ true → p < n)
     → AllSupplied pages numbers m1 m2 → HasPages m1 size n frames contents
     → HasPages m2 size n (all_backed pages numbers frames) contents
-pages_filled size n pages numbers m1 m2 frames contents distinct below supplied has =
-    filled_by (λ m l. HasPages m size n l contents) n pages numbers m1 m2 frames
-    (λ old new page frame before lt bare all did.
-    pages_supplied old new size n page frame before contents lt bare all did) distinct below supplied has
+pages_filled {size} {n} pages numbers {m1} {m2} {frames} {contents} distinct below supplied has =
+    filled_by (λ m l. HasPages m size n l contents) n pages numbers m1 m2 frames (λ old new
+    page frame before lt bare all did. pages_supplied lt bare all did) distinct below supplied has
 
-pub frames_given : (n : ℕ) (pages numbers : List ℕ) (m1 m2 : Pages) (frames : List (Option ℕ))
+pub frames_given : {n : ℕ} (pages numbers : List ℕ) {m1 m2 : Pages} {frames : List (Option ℕ)}
     → AllDistinct pages → ((p : ℕ) → is_in p pages ≡ true → p < n) → AllSupplied pages numbers m1 m2
     → HasFrames m1 n frames → HasFrames m2 n (all_backed pages numbers frames)
-frames_given n pages numbers m1 m2 frames distinct below supplied has =
-    filled_by (λ m l. HasFrames m n l) n pages numbers m1 m2 frames
-    (λ old new page frame before lt bare all did.
-    frames_supplied old new n page frame before lt all did) distinct below supplied has
+frames_given {n} pages numbers {m1} {m2} {frames} distinct below supplied has =
+    filled_by (λ m l. HasFrames m n l) n pages numbers m1 m2 frames (λ old
+    new page frame before lt bare all did. frames_supplied lt all did) distinct below supplied has
 
 -- each frame that was given is behind a page more
-pub frames_filled : (x n : ℕ) (pages : List ℕ) (claims : List Claim) (m1 m2 : Pages)
-    (frames : List (Option ℕ)) → claim_refusal claims ≡ None → AreClaimsFor pages claims
-    → AllDistinct pages → ((p : ℕ) → is_in p pages ≡ true → p < n)
-    → AllSupplied pages (given claims) m1 m2 → HasFrames m1 n frames
-    → count_by (is_frame x) (all_backed pages (given claims) frames)
-    ≡ count_by (is_frame x) frames + times x (given claims)
-frames_filled x n [] [] m1 m2 frames all made distinct below supplied has = omega arith
-frames_filled x n [] (c ∷ cs) m1 m2 frames all made distinct below supplied has =
+pub frames_filled : (x : ℕ) {n : ℕ} (pages : List ℕ) (claims : List Claim)
+    {m1 : Pages} (m2 : Pages) {frames : List (Option ℕ)} → claim_refusal claims ≡ None
+    → AreClaimsFor pages claims → AllDistinct pages → ((p : ℕ) → is_in p pages ≡ true → p < n)
+    → AllSupplied pages (given claims) m1 m2 → HasFrames m1 n frames → count_by (is_frame x)
+    (all_backed pages (given claims) frames) ≡ count_by (is_frame x) frames + times x (given claims)
+frames_filled x [] [] m2 all made distinct below supplied has = omega arith
+frames_filled x [] (c ∷ cs) m2 all made distinct below supplied has =
     absurd (let none : c ∷ cs ≡ [] = made in cc)
-frames_filled x n (p ∷ ps) [] m1 m2 frames all made distinct below supplied has = absurd made
-frames_filled x n (p ∷ ps) (GaveNoFrame ∷ cs) m1 m2 frames all made distinct below supplied
-    has = absurd cc
-frames_filled x n (p ∷ ps) (GaveNoMemory ∷ cs) m1 m2 frames all made distinct below
-    supplied has = absurd cc
-frames_filled x n (p ∷ ps) (Gave f ∷ cs) m1 m2 frames all made distinct below
-    (mid, before, bare, did) has =
+frames_filled x (p ∷ ps) [] m2 all made distinct below supplied has = absurd made
+frames_filled x (p ∷ ps) (GaveNoFrame ∷ cs) m2 all made distinct below supplied has = absurd cc
+frames_filled x (p ∷ ps) (GaveNoMemory ∷ cs) m2 all made distinct below supplied has = absurd cc
+frames_filled x {n}
+    (p ∷ ps) (Gave f ∷ cs) m2 {frames} all made distinct below (mid, before, bare, did) has =
     let below_too : (q : ℕ) → is_in q ps ≡ true
     → q < n = λ q m. below q (later (p == q) (is_in q ps) m) in
     let lt : p < n = below p (ap (λ (b : Bool). b || is_in p ps) (eq-eqb p p refl)) in
-    let there = frames_given n ps (given cs) m1 mid frames distinct.1 below_too before has in
-    let rest = frames_filled x n ps cs m1 mid frames all made distinct.1 below_too before has in
+    let there = frames_given ps (given cs) distinct.1 below_too before has in
+    let rest = frames_filled x ps cs mid all made distinct.1 below_too before has in
     let more = count_backed x p f (all_backed ps (given cs) frames) (omega (arith, there.framed))
     (sym (there.behind p) ∙ bare) in
     let swap : count_by (is_frame x) (backed p f (all_backed ps (given cs) frames))

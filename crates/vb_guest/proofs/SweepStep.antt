@@ -23,11 +23,11 @@ all_one P x h (suc k) d lt = absurd (omega arith)
 
 -- ---- refusals
 
-sweep_refused : (m1 m2 : Pages) (p1 p2 : Part) (d : DriverState) (g : Guest) (page : ℕ)
-    (why : Refusal) (result : Result Bool Refusal) → SweepsBy page m1 m2 p1 p2 result
+sweep_refused : {m1 m2 : Pages} {p1 p2 : Part} {d : DriverState} {g : Guest}
+    {page : ℕ} (why : Refusal) {result : Result Bool Refusal} → SweepsBy page m1 m2 p1 p2 result
     → Honest m1 p1 d g → sweep_refusal page p1 ≡ Some why → refusal_of g (Sweep page) ≡ Some why
     → StepsFreeing (Honest m2 (handed_back p2) d) p2.loose g (Sweep page) (swept_reply result)
-sweep_refused m1 m2 p1 p2 d g page why result did stands by_part by_model = grind arith
+sweep_refused why did stands by_part by_model = grind arith
 
 -- ---- a ballooned page
 
@@ -37,12 +37,12 @@ pub ballooned_free : (g : Guest) (page : ℕ) → IsConsistent g → is_balloone
 ballooned_free g page sound flag =
     grind (arith, naming-all page g.inflate, naming-all page g.deflate)
 
-sweep_done : (m1 m2 : Pages) (p1 p2 : Part) (d : DriverState) (g : Guest) (page : ℕ)
-    (result : Result Bool Refusal) → SweepsBy page m1 m2 p1 p2 result → Honest m1 p1 d g
-    → IsRunning m1 p1 d g → sweep_refusal page p1 ≡ None → refusal_of g (Sweep page) ≡ None
-    → is_ballooned g.ballooned page ≡ true
+sweep_done : {m1 m2 : Pages} {p1 p2 : Part} {d : DriverState}
+    {g : Guest} {page : ℕ} {result : Result Bool Refusal} → SweepsBy page m1 m2 p1 p2 result
+    → Honest m1 p1 d g → IsRunning m1 p1 d g → sweep_refusal page p1 ≡ None
+    → refusal_of g (Sweep page) ≡ None → is_ballooned g.ballooned page ≡ true
     → StepsFreeing (Honest m2 (handed_back p2) d) p2.loose g (Sweep page) (swept_reply result)
-sweep_done m1 m2 p1 p2 d g page result did stands run by_part by_model flag =
+sweep_done {m1} {m2} {p1} {p2} {d} {g} {page} did stands run by_part by_model flag =
     let ties = stands.ties in
     let n = g.config.pages in
     let one : List ℕ = page ∷ [] in
@@ -59,28 +59,25 @@ sweep_done m1 m2 p1 p2 d g page result did stands run by_part by_model flag =
     (refl, (ap (λ (o : Option ℕ). Swept (is_some o)) (ties.pages.behind page), refl)) in
     let there : Ties bare p1 d new = record {
       parts = ties.parts;
-      pages = pages_discarded m1 size n g.frames g.contents one ties.pages;
-      queues = inr (let rests = runs_on m1 bare p1 d g run low in assumption);
+      pages = pages_discarded one ties.pages;
+      queues = inr (let rests = runs_on run low in assumption);
     } in
     let part = did.part by_part in
-    let same : handed_back p2 ≡ p1 = ap handed_back part ∙ loose_none p1 ties.parts.device.loose in
+    let same : handed_back p2 ≡ p1 = ap handed_back part ∙ loose_none ties.parts.device.loose in
     subst (λ x. StepsFreeing (Honest m2 (handed_back p2) d) p2.loose g (Sweep page) (swept_reply x))
-    (sym (did.answer by_part)) (steps_losing m1 m2 p1 p2 d g new (Sweep page) reply one stands step
-    (ties_same bare m2 p1 (handed_back p2) d d new (did.memory by_part) same refl there) refl
-    (did.loose by_part) (refl, tt) (all_one (λ p. p < n) page high.1))
+    (sym (did.answer by_part)) (steps_losing p2 one stands step (ties_same (did.memory by_part)
+    same refl there) refl (did.loose by_part) (refl, tt) (all_one (λ p. p < n) page high.1))
 
 -- a sweep that isn't refused
 flag_of : (g : Guest) (page : ℕ) → refusal_of g (Sweep page) ≡ None
     → is_ballooned g.ballooned page ≡ true
 flag_of g page free = grind arith
 
-pub sweep_step : (m1 m2 : Pages) (p1 p2 : Part) (d : DriverState) (g : Guest) (page : ℕ)
-    (result : Result Bool Refusal) → SweepsBy page m1 m2 p1 p2 result → Honest m1 p1 d g
+pub sweep_step : {m1 m2 : Pages} {p1 p2 : Part} {d : DriverState} {g : Guest}
+    {page : ℕ} {result : Result Bool Refusal} → SweepsBy page m1 m2 p1 p2 result → Honest m1 p1 d g
     → StepsFreeing (Honest m2 (handed_back p2) d) p2.loose g (Sweep page) (swept_reply result)
-sweep_step m1 m2 p1 p2 d g page result did stands = let device = stands.ties.parts.device in
-    by_state m1 p1 d g (Sweep page) (sweep_refusal page p1) stands.ties.queues
-    (sweep_idle page p1 g device.status)
-    (λ run. sweep_same page p1 g device.status device.features device.ballooned)
-    (λ why. sweep_refused m1 m2 p1 p2 d g page why result did stands)
-    (λ run by_part by_model. sweep_done m1 m2 p1 p2 d g page result did stands run by_part by_model
-    (flag_of g page by_model))
+sweep_step {p1} {g} {page} did stands = let device = stands.ties.parts.device in
+    by_state (Sweep page) (sweep_refusal page p1) stands.ties.queues
+    (sweep_idle page p1 g device.status) (λ run. sweep_same
+    page p1 g device.status device.features device.ballooned) (λ why. sweep_refused why did stands)
+    (λ run by_part by_model. sweep_done did stands run by_part by_model (flag_of g page by_model))

@@ -27,29 +27,28 @@ record IsFound (q size : ℕ) (m : Pages) (r : Request) : Type 0 where
   request : request_of q size m pieces ≡ Ok r.pages
   quiet : (p : Part) → noting q m pieces p ≡ p
 
-found : (kind : Kind) (m : Pages) (d : DriverState) (n : ℕ) (r : Request) → 64 ≤ n → length m ≡ n
-    → Knows kind d n r → Codes kind m d r
-    → IsFound (queue_of kind) (ring_of (queue_of kind) d).size m r
-found Inflating m d n r large len is code = let size = d.inflate.ring.size in record {
+found : (kind : Kind) {m : Pages} (d : DriverState) {n : ℕ} {r : Request}
+    → 64 ≤ n → length m ≡ n → Knows kind d n r
+    → Codes kind m d r → IsFound (queue_of kind) (ring_of (queue_of kind) d).size m r
+found Inflating d large len is code = record {
   pieces = _;
-  chain = coded_chain m 0 size n d.inflate.sent r (omega arith) large len is code;
-  request = coded_pages m 0 size n d.inflate.sent r len is code;
+  chain = coded_chain 0 (omega arith) large len is code;
+  request = coded_pages 0 len is code;
   quiet = λ p. refl;
 }
-found Deflating m d n r large len is code = let size = d.deflate.ring.size in record {
+found Deflating d large len is code = record {
   pieces = _;
-  chain = coded_chain m 1 size n d.deflate.sent r (omega arith) large len is code;
-  request = coded_pages m 1 size n d.deflate.sent r len is code;
+  chain = coded_chain 1 (omega arith) large len is code;
+  request = coded_pages 1 len is code;
   quiet = λ p. refl;
 }
-found Reporting_free m d n r large len is code = let size = d.report.ring.size in
+found Reporting_free {m} d {n} large len is code = let size = d.report.ring.size in
     let blocks = d.report.blocks in
     let C : ℕ → Type 0 = λ h. ChainGives (descriptor_at m (ring_page size 4)) size
     (4096 * length m) h (pieces_of blocks) in
     record {
       pieces = pieces_of blocks;
-      chain = subst C (sym is.head) (report_chain m (ring_page size 4) size n blocks len is.some
-          is.inside is.blocks_are code);
+      chain = subst C (sym is.head) (report_chain len is.some is.inside is.blocks_are code);
       request = report_pages size n blocks is.few is.blocks_are
           ∙ ap (λ (l : List ℕ). Ok l) (sym is.names);
       quiet = λ p. refl;
@@ -60,47 +59,44 @@ next_is : (kind : Kind) (m : Pages) (p : Part) (d : DriverState) (g : Guest)
     → p.queue_size ≡ (ring_of (queue_of kind) d).size → LineOf kind m p d g
     → next_available (queue_of kind) m p ≡ Ok (slice_get (heads_of (requests kind g).posted) 0)
 next_is kind m p d g size line = let q = queue_of kind in
-    same_entry m q p.queue_size (queue_part q p).next_avail (ring_of q d) line.ring.layout size
+    same_entry m q (queue_part q p).next_avail (ring_of q d) line.ring.layout size
     ∙ next_shown m q (ring_of q d) (queue_part q p) (requests kind g) line.ring
 
-takes : (kind : Kind) (g : Guest) (reply : Reply) (new : Guest)
-    → TakesRequest kind (requests kind g).posted g reply new
-    → Performs (Take (queue_of kind)) g [] reply new
+takes : (kind : Kind) (g : Guest) (reply : Reply) (new : Guest) → TakesRequest kind
+    (requests kind g).posted g reply new → Performs (Take (queue_of kind)) g [] reply new
 takes Inflating g reply new does = (refl, does)
 takes Deflating g reply new does = (refl, does)
 takes Reporting_free g reply new does = (refl, does)
 
-request_taken : (kind : Kind) (m1 m2 : Pages) (p1 p2 : Part) (d : DriverState) (g : Guest)
-    (posted : List Request) (result : Result (Option ℕ) Refusal) → (requests kind g).posted ≡ posted
+request_taken : (kind : Kind) {m1 m2 : Pages} {p1 p2 : Part} {d : DriverState} {g : Guest}
+    (posted : List Request) {result : Result (Option ℕ) Refusal} → (requests kind g).posted ≡ posted
     → TakesBy (queue_of kind) m1 m2 p1 p2 result → Honest m1 p1 d g → IsRunning m1 p1 d g
     → take_refusal (queue_of kind) p1 ≡ None → refusal_of g (Take (queue_of kind)) ≡ None
     → StepsAlone (Honest m2 p2 d) g (Take (queue_of kind)) (taken_reply result)
-request_taken kind m1 m2 p1 p2 d g [] result is did stands run free_part free =
+request_taken kind {m1} {m2} {p1} {p2} {d} {g} [] is did stands run free_part free =
     let q = queue_of kind in
-    let size = stands.ties.parts.device.size ∙ sym (size_of kind m1 p1 d g run) in
-    let next = next_is kind m1 p1 d g size (line_of kind m1 p1 d g run)
+    let size = stands.ties.parts.device.size ∙ sym (size_of kind run) in
+    let next = next_is kind m1 p1 d g size (line_of kind run)
     ∙ ap (λ (l : List Request). Ok (slice_get (heads_of l) 0)) is in
     let (answer, part) = did.empty free_part next in
     let T : List Request → Type 0 = λ l. TakesRequest kind l g Empty g in
     let step = honest_performed g (Take q) [] Empty g free
     (takes kind g Empty g (subst T (sym is) (refl, refl))) in
-    subst (λ r. StepsAlone (Honest m2 p2 d) g (Take q) (taken_reply r)) (sym answer)
-    (steps_alone m1 m2 p1 p2 d d g (Take q) Empty g stands step
-    (ties_same m1 m2 p1 p2 d d g did.memory part refl stands.ties) refl)
-request_taken kind m1 m2 p1 p2 d g (r ∷ rest) result is did stands run free_part free =
+    subst (λ r. StepsAlone (Honest m2 p2 d) g (Take q) (taken_reply r))
+    (sym answer) (steps_alone stands step (ties_same did.memory part refl stands.ties) refl)
+request_taken kind {m1} {m2} {p1} {p2} {d} {g} (r ∷ rest) is did stands run free_part free =
     let q = queue_of kind in
     let n = g.config.pages in
     let ties = stands.ties in
-    let line = line_of kind m1 p1 d g run in
-    let size = ties.parts.device.size ∙ sym (size_of kind m1 p1 d g run) in
+    let line = line_of kind run in
+    let size = ties.parts.device.size ∙ sym (size_of kind run) in
     let next = next_is kind m1 p1 d g size line
     ∙ ap (λ (l : List Request). Ok (slice_get (heads_of l) 0)) is in
     let limits = config_limits n g.config.queue_size g.config.processors ties.parts.guest.config in
     let known = subst (All (Knows kind d n)) is line.posted in
     let coded = subst (All (Codes kind m1 d)) is line.coded in
-    let here = subst (λ s. IsFound q s m1 r) (sym size)
-    (found kind m1 d n r limits.pages_least ties.pages.length_is (known 0 r (omega arith))
-    (coded 0 r (omega arith))) in
+    let here = subst (λ s. IsFound q s m1 r) (sym size) (found kind d
+    limits.pages_least ties.pages.length_is (known 0 r (omega arith)) (coded 0 r (omega arith))) in
     let (answer, part) = did.takes r.head here.pieces r.pages free_part next here.chain here.request
     in
     let rs : Requests = record (requests kind g)
@@ -109,27 +105,21 @@ request_taken kind m1 m2 p1 p2 d g (r ∷ rest) result is did stands run free_pa
     let T : List Request → Type 0 = λ l. TakesRequest kind l g (Taken r.head) new in
     let step = honest_performed g (Take q) [] (Taken r.head) new free
     (takes kind g (Taken r.head) new (subst T (sym is) (refl, refl))) in
-    let there = ties_with kind m1 p1 d g _ rs ties run (line_taken m1 q (ring_of q d)
-    (queue_part q p1) (requests kind g) r rest _ _ _ (ignores kind d n) is line) in
-    subst (λ x. StepsAlone (Honest m2 p2 d) g (Take q) (taken_reply x)) (sym answer)
-    (steps_alone m1 m2 p1 p2 d d g (Take q) (Taken r.head) new stands step
-    (ties_same m1 m2 (taking q r.head r.pages p1) p2 d d new did.memory
+    let there = ties_with kind _ rs ties run (line_taken r rest (ignores kind d n) is line) in
+    subst (λ x. StepsAlone (Honest m2 p2 d) g (Take q) (taken_reply x))
+    (sym answer) (steps_alone stands step (ties_same did.memory
     (part ∙ ap (taking q r.head r.pages) (here.quiet p1)) refl there) (same_frames kind rs g))
 
-pub take_step : (m1 m2 : Pages) (p1 p2 : Part) (d : DriverState) (g : Guest) (q : ℕ)
-    (result : Result (Option ℕ) Refusal) → TakesBy q m1 m2 p1 p2 result → Honest m1 p1 d g
-    → StepsAlone (Honest m2 p2 d) g (Take q) (taken_reply result)
-take_step m1 m2 p1 p2 d g q result did stands = by_queue (λ k. TakesBy k m1 m2 p1 p2 result
-    → StepsAlone (Honest m2 p2 d) g (Take k) (taken_reply result)) q
-    (λ at. take_by m1 m2 p1 p2 d g 0 result refl at stands
-    (λ run. ap (λ (l : List Request). length l) run.inflate.remembers)
-    (λ run. request_taken Inflating m1 m2 p1 p2 d g g.inflate.posted result refl at stands run))
-    (λ at. take_by m1 m2 p1 p2 d g 1 result refl at stands
-    (λ run. ap (λ (l : List Request). length l) run.deflate.remembers)
-    (λ run. request_taken Deflating m1 m2 p1 p2 d g g.deflate.posted result refl at stands run))
-    (λ at. take_buffer m1 m2 p1 p2 d g result at stands)
-    (λ at. take_by m1 m2 p1 p2 d g 4 result refl at stands
-    (λ run. ap (λ (l : List Request). length l) run.report.remembers)
-    (λ run. request_taken Reporting_free m1 m2 p1 p2 d g g.report.posted result refl at stands run))
-    (λ none at. let no = take_no_queue q g p1 none in
-    take_refused m1 m2 p1 p2 d g q NoQueue result at stands no.0 no.1) did
+pub take_step : {m1 m2 : Pages} {p1 p2 : Part} {d : DriverState}
+    {g : Guest} {q : ℕ} {result : Result (Option ℕ) Refusal} → TakesBy q m1 m2 p1 p2 result
+    → Honest m1 p1 d g → StepsAlone (Honest m2 p2 d) g (Take q) (taken_reply result)
+take_step {m1} {m2} {p1} {p2} {d} {g} {q} {result} did stands = by_queue (λ
+    k. TakesBy k m1 m2 p1 p2 result → StepsAlone (Honest m2 p2 d) g (Take k) (taken_reply result)) q
+    (λ at. take_by refl at stands (λ run. ap (λ (l : List Request). length l) run.inflate.remembers)
+    (λ run. request_taken Inflating g.inflate.posted refl at stands run))
+    (λ at. take_by refl at stands (λ run. ap (λ (l : List Request). length l) run.deflate.remembers)
+    (λ run. request_taken Deflating g.deflate.posted refl at stands run))
+    (λ at. take_buffer at stands) (λ at. take_by refl at stands (λ run. ap
+    (λ (l : List Request). length l) run.report.remembers) (λ run. request_taken Reporting_free
+    g.report.posted refl at stands run)) (λ none at. let no = take_no_queue g p1 none in
+    take_refused NoQueue at stands no.0 no.1) did

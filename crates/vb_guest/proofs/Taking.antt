@@ -15,7 +15,7 @@ pub next_shown : (mem : Pages) (q : ℕ) (ring : DriverEnd) (part : QueuePart) (
 next_shown mem q ring part rs stands =
     grind (
       arith,
-      ring_next mem q ring part.next_avail part.next_used (heads_of rs.posted) (heads_of rs.taken) (heads_of rs.done) stands,
+      ring_next stands,
     )
 
 -- the head of the taken request goes from the posted to the taken ones
@@ -27,14 +27,14 @@ pub requests_taken : (mem : Pages) (q : ℕ) (ring : DriverEnd) (part : QueuePar
 requests_taken mem q ring part r rest taken done last stands = grind (arith, heads-push, ring_taken)
 
 -- the taken request goes from the posted to the taken ones
-pub line_taken : (mem : Pages) (q : ℕ) (ring : DriverEnd) (part : QueuePart) (rs : Requests)
-    (r : Request) (rest : List Request) (K : Type 0) (P C : Request → Type 0) → IgnoresVisits P
+pub line_taken : {mem : Pages} {q : ℕ} {ring : DriverEnd} {part : QueuePart} {rs : Requests}
+    (r : Request) (rest : List Request) {K : Type 0} {P C : Request → Type 0} → IgnoresVisits P
     → rs.posted ≡ r ∷ rest → QueueLine mem q ring part rs K P C
     → QueueLine mem q ring (record part {
       next_avail = (part.next_avail + 1) % 65536;
       taken = part.taken ++ (record { head = r.head; pages = r.pages; visited = 0 } ∷ []);
     }) (record rs { posted = rest; taken = rs.taken ++ (record r { visited = 0 } ∷ []) }) K P C
-line_taken mem q ring part rs r rest K P C ignores is line =
+line_taken {mem} {q} {ring} {part} {rs} r rest {P} {C} ignores is line =
     let r' : Request = record r { visited = 0 } in
     let R : List Request → Type 0 = λ l. RingOf mem q ring part (record rs { posted = l }) in
     let all : All P (r ∷ rest) = subst (All P) is line.posted in
@@ -50,11 +50,15 @@ line_taken mem q ring part rs r rest K P C ignores is line =
     }
 
 -- a visit changes a request's count alone
-pub line_visited : (mem : Pages) (q : ℕ) (ring : DriverEnd) (part : QueuePart) (rs : Requests)
-    (K : Type 0) (P C : Request → Type 0) → IgnoresVisits P → QueueLine mem q ring part rs K P C
-    → QueueLine mem q ring (record part { taken = visiting part.taken })
-    (record rs { taken = visiting rs.taken }) K P C
-line_visited mem q ring part rs K P C ignores line =
+pub line_visited : {mem : Pages} {q : ℕ}
+    {ring : DriverEnd} {part : QueuePart} {rs : Requests} {K : Type 0} {P C : Request → Type 0}
+    → IgnoresVisits P → QueueLine mem q ring part rs K P C → QueueLine mem q ring
+    (record part { taken = visiting part.taken }) (record rs { taken = visiting rs.taken }) K P C
+line_visited {mem} {q} {ring} {part} {rs} {P} ignores line =
     let S : List ℕ → Type 0 = λ l. RingStands mem q ring part.next_avail part.next_used
     (heads_of rs.posted) l (heads_of rs.done) in
-    assumption (subst S (sym (heads-visiting rs.taken)) line.ring, all-visiting P ignores rs.taken line.taken, ap visiting line.remembers)
+    assumption (
+      subst S (sym (heads-visiting rs.taken)) line.ring,
+      all-visiting P ignores rs.taken line.taken,
+      ap visiting line.remembers,
+    )

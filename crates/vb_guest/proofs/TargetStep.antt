@@ -12,9 +12,9 @@ target_set g n =
     honest_performed g (SetTarget n) [] Done (record g { target = n }) refl (refl, (refl, refl))
 
 -- the guest has the new target
-pub target_stands : (m1 m2 : Pages) (p1 p2 : Part) (d : DriverState) (g : Guest) (n : ℕ) → m2 ≡ m1
+pub target_stands : {m1 m2 : Pages} {p1 p2 : Part} {d : DriverState} {g : Guest} (n : ℕ) → m2 ≡ m1
     → p2 ≡ record p1 { target = n } → Honest m1 p1 d g → Honest m2 p2 d (record g { target = n })
-target_stands m1 m2 p1 p2 d g n memory part stands = let ties = stands.ties in
+target_stands {m1} {p1} {d} {g} n memory part stands = let ties = stands.ties in
     let new : Guest = record g { target = n } in
     let after : Part = record p1 { target = n } in
     let there : Ties m1 after d new = record {
@@ -22,15 +22,14 @@ target_stands m1 m2 p1 p2 d g n memory part stands = let ties = stands.ties in
       pages = ties.pages;
       queues = elim ties.queues [ inl idle ↦ inl assumption | inr run ↦ inr assumption ];
     } in
-    still_stands m1 m2 p1 p2 d d g (SetTarget n) [] Done new stands (target_set g n)
-    (ties_same m1 m2 after p2 d d new memory part refl there)
+    still_stands (SetTarget n) [] Done stands (target_set g n) (ties_same memory part refl there)
 
-pub target_step : (m1 m2 : Pages) (p1 p2 : Part) (d : DriverState) (g : Guest) (n : ℕ) → m2 ≡ m1
-    → p2 ≡ record p1 { target = n } → Honest m1 p1 d g
-    → StepsAlone (Honest m2 p2 d) g (SetTarget n) Done
-target_step m1 m2 p1 p2 d g n memory part stands = record {
+pub target_step : {m1 m2 : Pages} {p1 p2 : Part} {d : DriverState} {g : Guest} {n : ℕ}
+    → m2 ≡ m1 → p2 ≡ record p1 { target = n }
+    → Honest m1 p1 d g → StepsAlone (Honest m2 p2 d) g (SetTarget n) Done
+target_step {g} {n} memory part stands = record {
   new = record g { target = n };
-  stands = target_stands m1 m2 p1 p2 d g n memory part stands;
+  stands = target_stands n memory part stands;
   step = guest_step g (SetTarget n) [] Done (record g { target = n })
       stands.ties.parts.guest.honest (target_set g n);
   frames = refl;

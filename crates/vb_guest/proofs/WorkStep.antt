@@ -9,9 +9,9 @@ use Rattle.vb_model.specs.{Refusals.refusal_of, Requests.{Request, Kind, Inflati
 use Rattle.vb_model.specs.{Requests.queue_of, Step.Performs, declared.calls.Call.TheVariants.Work}
 use Rattle.vb_model.specs.declared.replies.{Refusal.Refusal, Reply.Reply, Reply.TheVariants.Worked}
 use Rattle.vb_ram.specs.{Pages.{Pages, frame_at}, Part.{Part, QueuePart}}
-use Rattle.vb_driver.specs.{State.DriverState, Calls.ring_of}
+use Rattle.vb_driver.specs.State.{DriverState}
 use Rattle.vb_device.specs.{Calls.{next_visit, Visits, WorksBy}, Queues.{queue_part, with_queue}}
-use Rattle.vb_device.specs.{Conditions.work_refusal, Discards.discarded}
+use Rattle.vb_device.specs.Conditions.{work_refusal}
 use Rattle.vb_guest.specs.Stands.{Honest, Ties, IsRunning, HasPages, HasParts, IsOwnRequest}
 use Rattle.vb_guest.specs.Stands.{beside_queues, beside_sides, beside_requests}
 use Rattle.vb_guest.proofs.KindLines.{LineWith, line_of, size_of, own_pages_of, ignores}
@@ -34,18 +34,18 @@ WorksOn a b g reply new = MatchOption a (MatchOption b
 
 -- ---- refusals, and nothing to visit
 
-work_refused : (m1 m2 : Pages) (p1 p2 : Part) (d : DriverState) (g : Guest) (why : Refusal)
-    (result : Result (Option WorkedPage) Refusal) → WorksBy m1 m2 p1 p2 result
+work_refused : {m1 m2 : Pages} {p1 p2 : Part} {d : DriverState} {g : Guest}
+    (why : Refusal) {result : Result (Option WorkedPage) Refusal} → WorksBy m1 m2 p1 p2 result
     → Honest m1 p1 d g → work_refusal p1 ≡ Some why → refusal_of g Work ≡ Some why
     → StepsFreeing (Honest m2 (handed_back p2) d) p2.loose g Work (worked_reply result)
-work_refused m1 m2 p1 p2 d g why result did stands by_part by_model = grind arith
+work_refused why did stands by_part by_model = grind arith
 
-work_idle : (m1 m2 : Pages) (p1 p2 : Part) (d : DriverState) (g : Guest)
-    (result : Result (Option WorkedPage) Refusal) → WorksBy m1 m2 p1 p2 result → Honest m1 p1 d g
+work_idle : {m1 m2 : Pages} {p1 p2 : Part} {d : DriverState} {g : Guest}
+    {result : Result (Option WorkedPage) Refusal} → WorksBy m1 m2 p1 p2 result → Honest m1 p1 d g
     → work_refusal p1 ≡ None → refusal_of g Work ≡ None → next_visit 0 p1 ≡ None → next_visit 4 p1
     ≡ None → visit_of g.config.paced g.inflate.taken ≡ None → visit_of g.config.paced g.report.taken
     ≡ None → StepsFreeing (Honest m2 (handed_back p2) d) p2.loose g Work (worked_reply result)
-work_idle m1 m2 p1 p2 d g result did stands by_part by_model here later there after = grind arith
+work_idle did stands by_part by_model here later there after = grind arith
 
 -- ---- a visit
 
@@ -62,10 +62,10 @@ next_taken P (r ∷ rs) page all e = step (is_unvisited r) e
     step false is later = later is
 
 -- the next page to visit is one of a taken request
-pub next_own : {size : ℕ} (n : ℕ) (paced : Bool) (taken : List Request) (page : ℕ)
+pub next_own : {size : ℕ} {n : ℕ} (paced : Bool) (taken : List Request) (page : ℕ)
     → All (IsOwnRequest size n) taken → visit_of paced taken ≡ Some page
     → IsOwnRequest size n (record { head = 0; pages = page ∷ []; visited = 0 })
-next_own {size} n true taken page all e = let H : ℕ → Type 0 = λ p. reserved_pages size ≤ p in
+next_own {size} {n} true taken page all e = let H : ℕ → Type 0 = λ p. reserved_pages size ≤ p in
     let L : ℕ → Type 0 = λ p. p < n in
     record {
       above = All-cons H page [] (next_taken H taken page (λ k x lt. (all k x lt).above) e)
@@ -73,59 +73,56 @@ next_own {size} n true taken page all e = let H : ℕ → Type 0 = λ p. reserve
       below = All-cons L page [] (next_taken L taken page (λ k x lt. (all k x lt).below) e)
           (All-nil L);
     }
-next_own n false taken page all e = absurd cc
+next_own false taken page all e = absurd cc
 
-ties_visited : (kind : Kind) (m : Pages) (p : Part) (d : DriverState) (g : Guest) (page : ℕ)
-    (part : QueuePart) → HasParts (beside_queues p) (beside_sides d) (beside_requests g)
-    → HasPages m g.config.queue_size g.config.pages (unbacked (page ∷ []) g).frames
-    (unbacked (page ∷ []) g).contents → IsRunning m p d g → LineWith kind m d g.config.pages part
+ties_visited : (kind : Kind) {m : Pages} {p : Part} {d : DriverState} {g : Guest}
+    (page : ℕ) (part : QueuePart) → HasParts (beside_queues p) (beside_sides d) (beside_requests g)
+    → HasPages m g.config.queue_size g.config.pages (unbacked (page ∷ []) g).frames (unbacked (page
+    ∷ []) g).contents → IsRunning m p d g → LineWith kind m d g.config.pages part
     (record (requests kind g) { taken = visiting (requests kind g).taken })
     → Ties m (handed_back (with_queue (queue_of kind) part p)) d (visited kind page g)
-ties_visited Inflating m p d g page part parts pages run line =
+ties_visited Inflating page part parts pages run line =
     record { parts = assumption; pages = pages; queues = inr assumption }
-ties_visited kind m p d g page part parts pages run line =
+ties_visited kind page part parts pages run line =
     record { parts = assumption; pages = pages; queues = inr assumption }
 
-request_visited : (kind : Kind) (m1 m2 : Pages) (p1 p2 : Part) (d : DriverState) (g : Guest)
-    (page : ℕ) (result : Result (Option WorkedPage) Refusal)
-    → Visits (queue_of kind) page m1 m2 p1 p2 result → Honest m1 p1 d g → IsRunning m1 p1 d g
-    → refusal_of g Work ≡ None → visit_of g.config.paced (requests kind g).taken ≡ Some page
-    → ((reply : Reply) (new : Guest) → VisitsOf kind g reply new page → Performs Work g [] reply new)
+request_visited : (kind : Kind) {m1 m2 : Pages} {p1 p2 : Part}
+    {d : DriverState} {g : Guest} {page : ℕ} {result : Result (Option WorkedPage) Refusal}
+    → Visits (queue_of kind) page m1 m2 p1 p2 result
+    → Honest m1 p1 d g → IsRunning m1 p1 d g → refusal_of g Work ≡ None
+    → visit_of g.config.paced (requests kind g).taken ≡ Some page → ((reply : Reply) (new : Guest)
+    → VisitsOf kind g reply new page → Performs Work g [] reply new)
     → StepsFreeing (Honest m2 (handed_back p2) d) p2.loose g Work (worked_reply result)
-request_visited kind m1 m2 p1 p2 d g page result did stands run free there performs =
+request_visited kind {m1} {m2} {p1} {p2} {d} {g} {page} did stands run free there performs =
     let q = queue_of kind in
     let ties = stands.ties in
     let n = g.config.pages in
     let size = g.config.queue_size in
     let one : Request = record { head = 0; pages = page ∷ []; visited = 0 } in
-    let bare = discarded one.pages m1 in
-    let line = line_of kind m1 p1 d g run in
-    let own = subst (λ s. IsOwnRequest s n one) (size_of kind m1 p1 d g run)
-    (next_own n g.config.paced (requests kind g).taken page
-    (λ k x lt. own_pages_of kind d n _ (line.taken k x lt)) there) in
-    let rests = runs_on m1 bare p1 d g run (λ p lt. page_undiscarded one.pages m1 p
+    let line = line_of kind run in
+    let own = subst (λ s. IsOwnRequest s n one) (size_of kind run) (next_own g.config.paced
+    (requests kind g).taken page (λ k x lt. own_pages_of kind d (line.taken k x lt)) there) in
+    let rests = runs_on run (λ p lt. page_undiscarded one.pages m1 p
     (not_among (reserved_pages size) one.pages p own.above lt)) in
     let new : Guest = visited kind page g in
     let reply : Reply = Worked page (is_some (frame_at m1 page)) in
     let step = honest_performed g Work [] reply new free (performs reply new
     (ap (λ (o : Option ℕ). Worked page (is_some o)) (ties.pages.behind page), refl)) in
     let part : QueuePart = record (queue_part q p1) { taken = visiting (queue_part q p1).taken } in
-    let fresh = ties_visited kind bare p1 d g page part ties.parts
-    (pages_discarded m1 size n g.frames g.contents one.pages ties.pages) rests
-    (line_visited bare q (ring_of q d) (queue_part q p1) (requests kind g) _ _ _ (ignores kind d n)
-    (line_of kind bare p1 d g rests)) in
+    let fresh = ties_visited kind page part ties.parts (pages_discarded one.pages ties.pages) rests
+    (line_visited (ignores kind d n) (line_of kind rests)) in
     subst (λ x. StepsFreeing (Honest m2 (handed_back p2) d) p2.loose g Work (worked_reply x))
-    (sym did.answer) (steps_losing m1 m2 p1 p2 d g new Work reply one.pages stands step
-    (ties_same bare m2 (handed_back (with_queue q part p1)) (handed_back p2) d d new did.memory
-    (ap handed_back did.part) refl fresh) (ap (with_entry one.pages None) (same_frames kind _ g)) did.loose (refl, tt) own.below)
+    (sym did.answer) (steps_losing p2 one.pages stands step
+    (ties_same did.memory (ap handed_back did.part) refl fresh)
+    (ap (with_entry one.pages None) (same_frames kind _ g)) did.loose (refl, tt) own.below)
 
-pub work_step : (m1 m2 : Pages) (p1 p2 : Part) (d : DriverState) (g : Guest)
-    (result : Result (Option WorkedPage) Refusal) → WorksBy m1 m2 p1 p2 result → Honest m1 p1 d g
+pub work_step : {m1 m2 : Pages} {p1 p2 : Part} {d : DriverState} {g : Guest}
+    {result : Result (Option WorkedPage) Refusal} → WorksBy m1 m2 p1 p2 result → Honest m1 p1 d g
     → StepsFreeing (Honest m2 (handed_back p2) d) p2.loose g Work (worked_reply result)
-work_step m1 m2 p1 p2 d g result did stands = let device = stands.ties.parts.device in
-    by_state m1 p1 d g Work (work_refusal p1) stands.ties.queues (works_idle p1 g device.status)
+work_step {m1} {m2} {p1} {p2} {d} {g} {result} did stands = let device = stands.ties.parts.device in
+    by_state Work (work_refusal p1) stands.ties.queues (works_idle p1 g device.status)
     (λ run. works_same p1 g device.status)
-    (λ why. work_refused m1 m2 p1 p2 d g why result did stands) (λ run by_part by_model.
+    (λ why. work_refused why did stands) (λ run by_part by_model.
     let first : next_visit 0 p1 ≡ visit_of g.config.paced g.inflate.taken =
     ap (λ (b : Bool). visit_of b p1.inflate.taken) device.paced
     ∙ ap (λ (rs : List Request). visit_of g.config.paced rs) run.inflate.remembers in
@@ -135,23 +132,22 @@ work_step m1 m2 p1 p2 d g result did stands = let device = stands.ties.parts.dev
     by_next (visit_of g.config.paced g.inflate.taken) (visit_of g.config.paced g.report.taken)
     run by_part by_model refl refl first second)
   where
-    by_next : (o later : Option ℕ) → IsRunning m1 p1 d g → work_refusal p1 ≡ None
-        → refusal_of g Work ≡ None → visit_of g.config.paced g.inflate.taken ≡ o
-        → visit_of g.config.paced g.report.taken ≡ later
-        → next_visit 0 p1 ≡ visit_of g.config.paced g.inflate.taken
-        → next_visit 4 p1 ≡ visit_of g.config.paced g.report.taken
+    by_next : (o later : Option ℕ) → IsRunning m1 p1 d g → work_refusal p1
+        ≡ None → refusal_of g Work ≡ None → visit_of g.config.paced g.inflate.taken
+        ≡ o → visit_of g.config.paced g.report.taken ≡ later → next_visit 0 p1 ≡ visit_of
+        g.config.paced g.inflate.taken → next_visit 4 p1 ≡ visit_of g.config.paced g.report.taken
         → StepsFreeing (Honest m2 (handed_back p2) d) p2.loose g Work (worked_reply result)
     by_next None None run free model is none first second =
-        work_idle m1 m2 p1 p2 d g result did stands free model (first ∙ is) (second ∙ none) is none
+        work_idle did stands free model (first ∙ is) (second ∙ none) is none
     by_next None (Some page) run free model is some first second =
-        request_visited Reporting_free m1 m2 p1 p2 d g page result
+        request_visited Reporting_free
         (did.report page free (first ∙ is) (second ∙ some)) stands run model some (λ reply new does.
         let R : Option ℕ → Type 0 = λ b. WorksOn None b g reply new in
         let W : Option ℕ → Type 0 =
         λ a. WorksOn a (visit_of g.config.paced g.report.taken) g reply new in
         (refl, subst W (sym is) (subst R (sym some) does)))
     by_next (Some page) later run free model is what first second =
-        request_visited Inflating m1 m2 p1 p2 d g page result
+        request_visited Inflating
         (did.inflate page free (first ∙ is)) stands run model is (λ reply new does.
         let W : Option ℕ → Type 0 =
         λ a. WorksOn a (visit_of g.config.paced g.report.taken) g reply new in

@@ -10,14 +10,13 @@ loop-page-preserved g c = let f = is_ring_page c.args.shape.queue_size in
     let m1 = g.G.GuestBytes.mem c.args.ram.now in
     let m2 = g.G.GuestBytes.mem c.loop-page.ram in elim c.if-is_ring_page.branch [
       | then-is_ring_page w ↦ record {
-        zeroed = rw w.ram-is (pages_more m1 m2 (g.G.GuestBytes.mem w.zero_page.new.ram) f n
-            (sym c.is_ring_page.ensures ∙ w.if-is_ring_page.true) c.loop-page.invariant.zeroed
-            w.zero_page.ensures.zero w.zero_page.ensures.rest);
+        zeroed = rw w.ram-is (pages_more f (sym c.is_ring_page.ensures ∙ w.if-is_ring_page.true)
+            c.loop-page.invariant.zeroed w.zero_page.ensures.zero w.zero_page.ensures.rest);
         part = ap g.G.GuestBytes.part w.ram-is
             ∙ (w.zero_page.ensures.part ∙ c.loop-page.invariant.part);
       }
       | else-is_ring_page w ↦ record {
-        zeroed = rw w.ram-is (pages_past m1 m2 f n
+        zeroed = rw w.ram-is (pages_past f n
             (sym c.is_ring_page.ensures ∙ w.if-is_ring_page.false) c.loop-page.invariant.zeroed);
         part = ap g.G.GuestBytes.part w.ram-is ∙ c.loop-page.invariant.part;
       }

@@ -1,7 +1,7 @@
 use Rattle.std.proofs.Common.{◌≡◌, Bool, List, refl}
 use Rattle.vb_model.specs.declared.calls.Claim.{Claim}
 use Rattle.vb_ram.specs.Pages.{Pages}
-use Rattle.vb_guest.{specs.Dispatch.LeavesAlone, proofs.Standing.steps_quiet}
+use Rattle.vb_guest.{specs.Dispatch.LeavesAlone, proofs.Standing.each_quiet}
 use Rattle.vb_guest.proofs.calls.call.Goals as goal
 
 left_alone : {A : Type 0} {x : A} {keeps : Bool} {m1 m2 : Pages} {claims : List Claim}
@@ -18,24 +18,23 @@ returns-in-Init g c = record {
 
 pub returns-in-Alloc : goal.returns-in-Alloc
 returns-in-Alloc g c = record {
-  step = λ keeps guest stands. rw (c.clear.ensures, c.in-Alloc.is, c.page_reply.ensures)
-      (steps_quiet g.K.FrameKeeper.answers stands (c.alloc.ensures.step _ _ keeps guest stands));
-  exact = rw (c.in-Alloc.is) (c.alloc.result, c.page_reply.ensures, c.alloc.ensures.exact, (refl, refl));
+  step = each_quiet c.clear.ensures c.in-Alloc.is c.page_reply.ensures (c.alloc.ensures.step _ _);
+  exact = rw
+      (c.in-Alloc.is) (c.alloc.result, c.page_reply.ensures, c.alloc.ensures.exact, (refl, refl));
   quiet = left_alone;
 }
 
 pub returns-in-Free : goal.returns-in-Free
 returns-in-Free g c = record {
-  step = λ keeps guest stands. rw (c.clear.ensures, c.in-Free.is, c.done_reply.ensures)
-      (steps_quiet g.K.FrameKeeper.answers stands (c.free.ensures.step _ _ keeps guest stands));
-  exact = rw (c.in-Free.is) (c.free.result, c.done_reply.ensures, c.free.ensures.exact, (refl, refl));
+  step = each_quiet c.clear.ensures c.in-Free.is c.done_reply.ensures (c.free.ensures.step _ _);
+  exact = rw
+      (c.in-Free.is) (c.free.result, c.done_reply.ensures, c.free.ensures.exact, (refl, refl));
   quiet = left_alone;
 }
 
 pub returns-in-Read : goal.returns-in-Read
 returns-in-Read g c = record {
-  step = λ keeps guest stands. rw (c.clear.ensures, c.in-Read.is, c.bytes_reply.ensures)
-      (steps_quiet g.K.FrameKeeper.answers stands (c.read.ensures.step keeps guest stands));
+  step = each_quiet c.clear.ensures c.in-Read.is c.bytes_reply.ensures c.read.ensures.step;
   exact = rw (c.in-Read.is) (c.read.result, c.bytes_reply.ensures, c.read.ensures.exact, refl);
   quiet = left_alone;
 }
@@ -50,40 +49,37 @@ returns-in-Write g c = record {
 
 pub returns-in-Inflate : goal.returns-in-Inflate
 returns-in-Inflate g c = record {
-  step = λ keeps guest stands. rw (c.clear.ensures, c.in-Inflate.is, c.posted_reply.ensures)
-      (steps_quiet g.K.FrameKeeper.answers stands (c.inflate.ensures.step keeps guest stands));
+  step = each_quiet c.clear.ensures c.in-Inflate.is c.posted_reply.ensures c.inflate.ensures.step;
   exact = rw (c.in-Inflate.is) (c.inflate.result, c.posted_reply.ensures, c.inflate.ensures.exact);
   quiet = left_alone;
 }
 
 pub returns-in-Deflate : goal.returns-in-Deflate
 returns-in-Deflate g c = record {
-  step = λ keeps guest stands. rw (c.clear.ensures, c.in-Deflate.is, c.posted_reply-in-Deflate.ensures)
-      (steps_quiet g.K.FrameKeeper.answers stands (c.deflate.ensures.step keeps guest stands));
-  exact = rw (c.in-Deflate.is) (c.deflate.result, c.posted_reply-in-Deflate.ensures, c.deflate.ensures.exact);
+  step =
+      each_quiet c.clear.ensures c.in-Deflate.is c.posted_reply-in-Deflate.ensures c.deflate.ensures.step;
+  exact = rw (c.in-Deflate.is)
+      (c.deflate.result, c.posted_reply-in-Deflate.ensures, c.deflate.ensures.exact);
   quiet = left_alone;
 }
 
 pub returns-in-Oom : goal.returns-in-Oom
 returns-in-Oom g c = record {
-  step = λ keeps guest stands. rw (c.clear.ensures, c.in-Oom.is, c.posted_reply-in-Oom.ensures)
-      (steps_quiet g.K.FrameKeeper.answers stands (c.oom.ensures.step keeps guest stands));
+  step = each_quiet c.clear.ensures c.in-Oom.is c.posted_reply-in-Oom.ensures c.oom.ensures.step;
   exact = rw (c.in-Oom.is) (c.oom.result, c.posted_reply-in-Oom.ensures, c.oom.ensures.exact);
   quiet = left_alone;
 }
 
 pub returns-in-Reap : goal.returns-in-Reap
 returns-in-Reap g c = record {
-  step = λ keeps guest stands. rw (c.clear.ensures, c.in-Reap.is, c.reaped_reply.ensures)
-      (steps_quiet g.K.FrameKeeper.answers stands (c.reap.ensures.step keeps guest stands));
+  step = each_quiet c.clear.ensures c.in-Reap.is c.reaped_reply.ensures c.reap.ensures.step;
   exact = rw (c.in-Reap.is) (c.reap.result, c.reaped_reply.ensures, c.reap.ensures.exact);
   quiet = left_alone;
 }
 
 pub returns-in-Take : goal.returns-in-Take
 returns-in-Take g c = record {
-  step = λ keeps guest stands. rw (c.clear.ensures, c.in-Take.is, c.taken_reply.ensures)
-      (steps_quiet g.K.FrameKeeper.answers stands (c.take.ensures.step _ keeps guest stands));
+  step = each_quiet c.clear.ensures c.in-Take.is c.taken_reply.ensures (c.take.ensures.step _);
   exact = rw (c.in-Take.is) (c.take.result, c.taken_reply.ensures, c.take.ensures.exact, refl);
   quiet = left_alone;
 }
@@ -114,40 +110,37 @@ returns-in-Sweep g c = record {
 
 pub returns-in-SetTarget : goal.returns-in-SetTarget
 returns-in-SetTarget g c = record {
-  step = λ keeps guest stands. rw (c.clear.ensures, c.in-SetTarget.is)
-      (steps_quiet g.K.FrameKeeper.answers stands (c.set_target.ensures.step _ keeps guest stands));
+  step = each_quiet c.clear.ensures c.in-SetTarget.is refl (c.set_target.ensures.step _);
   exact = rw (c.in-SetTarget.is) (refl, c.set_target.ensures.mem, c.set_target.ensures.part, refl);
   quiet = left_alone;
 }
 
 pub returns-in-Reset : goal.returns-in-Reset
 returns-in-Reset g c = record {
-  step = λ keeps guest stands. rw (c.clear.ensures, c.in-Reset.is)
-      (steps_quiet g.K.FrameKeeper.answers stands (c.reset.ensures.step keeps guest stands));
+  step = each_quiet c.clear.ensures c.in-Reset.is refl c.reset.ensures.step;
   exact = rw (c.in-Reset.is) (refl, c.reset.ensures.exact);
   quiet = left_alone;
 }
 
 pub returns-in-Report : goal.returns-in-Report
 returns-in-Report g c = record {
-  step = λ keeps guest stands. rw (c.clear.ensures, c.in-Report.is, c.posted_reply-in-Report.ensures)
-      (steps_quiet g.K.FrameKeeper.answers stands (c.report.ensures.step keeps guest stands));
-  exact = rw (c.in-Report.is) (c.report.result, c.posted_reply-in-Report.ensures, c.report.ensures.exact);
+  step =
+      each_quiet c.clear.ensures c.in-Report.is c.posted_reply-in-Report.ensures c.report.ensures.step;
+  exact = rw
+      (c.in-Report.is) (c.report.result, c.posted_reply-in-Report.ensures, c.report.ensures.exact);
   quiet = left_alone;
 }
 
 pub returns-in-Stats : goal.returns-in-Stats
 returns-in-Stats g c = record {
-  step = λ keeps guest stands. rw (c.clear.ensures, c.in-Stats.is, c.filled_reply.ensures)
-      (steps_quiet g.K.FrameKeeper.answers stands (c.stats.ensures.step keeps guest stands));
+  step = each_quiet c.clear.ensures c.in-Stats.is c.filled_reply.ensures c.stats.ensures.step;
   exact = rw (c.in-Stats.is) (c.stats.result, c.filled_reply.ensures, c.stats.ensures.exact);
   quiet = left_alone;
 }
 
 pub returns-in-Ask : goal.returns-in-Ask
 returns-in-Ask g c = record {
-  step = λ keeps guest stands. rw (c.clear.ensures, c.in-Ask.is, c.asked_reply.ensures)
-      (steps_quiet g.K.FrameKeeper.answers stands (c.ask.ensures.step _ keeps guest stands));
+  step = each_quiet c.clear.ensures c.in-Ask.is c.asked_reply.ensures (c.ask.ensures.step _);
   exact = rw (c.in-Ask.is) (c.ask.result, c.asked_reply.ensures, c.ask.ensures.exact, refl);
   quiet = left_alone;
 }

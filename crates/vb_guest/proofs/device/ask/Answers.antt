@@ -4,11 +4,8 @@ use Rattle.vb_guest.proofs.device.ask.Goals as goal
 
 pub ask_stats-requires : goal.ask_stats-requires
 ask_stats-requires g c = let (d, (keeps, guest, stands)) = c.requires in
-    record { backed = has_ring keeps _ _ d guest 2 stands }
+    record { backed = has_ring 2 stands }
 
 pub returns-clause-step : goal.returns-clause-step
-returns-clause-step g c = λ d keeps guest stands.
-    let same = ask_kept _ _ _ _ _ c.ask_stats.ensures in
-    alone_stands keeps _ _ _ _ d d guest _ _ stands same.flag same.numbers
-    (λ honest. ask_step _ _ _ _ d guest _ c.ask_stats.ensures honest)
-    (λ rogue. ask_rogue _ _ _ _ d guest _ c.ask_stats.ensures rogue)
+returns-clause-step g c = λ d keeps guest stands. let did = c.ask_stats.ensures in
+    alone_stands stands (ask_kept did) (ask_step did) (ask_rogue did)

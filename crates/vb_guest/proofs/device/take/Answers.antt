@@ -3,8 +3,5 @@ use Rattle.vb_guest.proofs.RogueDevice.{take_rogue}
 use Rattle.vb_guest.proofs.device.take.Goals as goal
 
 pub returns-clause-step : goal.returns-clause-step
-returns-clause-step g c = λ d keeps guest stands.
-    let same = take_kept _ _ _ _ _ _ c.take.ensures in
-    alone_stands keeps _ _ _ _ d d guest _ _ stands same.flag same.numbers
-    (λ honest. take_step _ _ _ _ d guest _ _ c.take.ensures honest)
-    (λ rogue. take_rogue _ _ _ _ d guest _ _ c.take.ensures rogue)
+returns-clause-step g c = λ d keeps guest stands. let did = c.take.ensures in
+    alone_stands stands (take_kept did) (take_step did) (take_rogue did)

@@ -1,46 +1,34 @@
-use Rattle.std.proofs.Common.{◌∙◌, sym}
-use Rattle.vb_guest.proofs.{Standing.{none_loose, freed_loose, steps_freed}, RogueDevice.work_rogue}
+use Rattle.std.proofs.Common.{◌∙◌}
+use Rattle.vb_guest.proofs.{Standing.{none_loose, still_none, freed_loose, steps_freed}, RogueDevice.work_rogue}
 use Rattle.vb_guest.proofs.{Quiet.freeing_quiet, WorkStep.work_step, Kept.work_kept}
 use Rattle.vb_guest.proofs.device.work.Goals as goal
 
 pub work-answer-requires : goal.work-answer-requires
 work-answer-requires g c =
-    let (d, (keeps, guest, stands, held)) = c.requires in none_loose keeps _ _ d guest stands
+    let (d, (keeps, guest, stands, held)) = c.requires in none_loose stands
 
 pub return_loose-requires : goal.return_loose-requires
 return_loose-requires g c = let (d, (keeps, guest, stands, held)) = c.requires in
-    let did = c.work-answer.ensures in
-    let same = work_kept _ _ _ _ _ did in
-    record {
-      none = λ e. same.numbers ∙ stands.own.none (sym stands.own.flag ∙ (sym same.flag ∙ e));
-      loose = freed_loose (g.D.GuestBytes.part c.work-answer.new.self) _ stands held same
-          (λ honest. work_step _ _ _ _ d guest _ did honest)
-          (λ rogue. work_rogue _ _ _ _ d guest _ did rogue);
+    let did = c.work-answer.ensures in let same = work_kept did in record {
+      none = still_none stands same;
+      loose = freed_loose _ stands held same (work_step did) (work_rogue did);
     }
 
 pub returns-clause-step : goal.returns-clause-step
-returns-clause-step g c = λ d keeps guest stands.
-    let did = c.work-answer.ensures in
-    let back = c.return_loose.ensures in
-    steps_freed (g.D.GuestBytes.part c.work-answer.new.self) stands (work_kept _ _ _ _ _ did)
-    back.mem back.part (λ honest. work_step _ _ _ _ d guest _ did honest)
-    (λ rogue. work_rogue _ _ _ _ d guest _ did rogue) back.moves
+returns-clause-step g c = λ d keeps guest stands. let did = c.work-answer.ensures in
+    let back = c.return_loose.ensures in steps_freed stands (work_kept did) back.mem back.part
+    (work_step did) (work_rogue did) back.moves
 
 pub returns-clause-exact : goal.returns-clause-exact
 returns-clause-exact g c = let back = c.return_loose.ensures in
-    rw (back.mem) (g.D.GuestBytes.part c.work-answer.new.self, c.work-answer.ensures, back.part)
+    rw back.mem (g.D.GuestBytes.part c.work-answer.new.self, c.work-answer.ensures, back.part)
 
 pub returns-clause-quiet : goal.returns-clause-quiet
-returns-clause-quiet g c = λ kept.
-    let (d, (keeps, guest, stands, held)) = c.requires in
-    let did = c.work-answer.ensures in
-    let back = c.return_loose.ensures in
-    back.quiet
-    (freeing_quiet keeps _ _ _ _ (g.D.GuestBytes.part c.work-answer.new.self) d guest _ _ stands
-    back.mem kept (λ honest. work_step _ _ _ _ d guest _ did honest)
-    (λ rogue. work_rogue _ _ _ _ d guest _ did rogue))
+returns-clause-quiet g c = λ kept. let (d, (keeps, guest, stands, held)) = c.requires in
+    let did = c.work-answer.ensures in let back = c.return_loose.ensures in
+    back.quiet (freeing_quiet (g.D.GuestBytes.part c.work-answer.new.self) _ _ stands back.mem kept
+    (work_step did) (work_rogue did))
 
 pub returns-clause-unasked : goal.returns-clause-unasked
 returns-clause-unasked g c = λ e.
-    let did = c.work-answer.ensures in
-    c.return_loose.ensures.unasked ((work_kept _ _ _ _ _ did).flag ∙ e)
+    c.return_loose.ensures.unasked ((work_kept c.work-answer.ensures).flag ∙ e)

@@ -1,9 +1,8 @@
 use Rattle.std.proofs.Common.{refl}
 use Rattle.vb_guest.proofs.{FreeStep.free_step, RogueDriver.free_rogue, Standing.alone_stands}
+use Rattle.vb_guest.proofs.Kept.{as_it_was}
 use Rattle.vb_guest.proofs.driver.free.Goals as goal
 
 pub returns-clause-step : goal.returns-clause-step
-returns-clause-step c = λ mem part keeps guest stands.
-    alone_stands keeps mem mem part part _ _ guest _ _ stands refl refl
-    (λ honest. free_step mem part _ _ guest _ _ _ _ c.free.ensures honest)
-    (λ rogue. free_rogue mem part _ _ guest _ _ _ _ c.free.ensures rogue)
+returns-clause-step c = λ mem part keeps guest stands. let did = c.free.ensures in
+    alone_stands stands (as_it_was refl) (free_step did) (free_rogue _ did)

@@ -6,7 +6,7 @@ use Rattle.vb_guest.proofs.InitStep.{init_supplied, first_noted, by_size, few_ba
 use Rattle.vb_guest.proofs.RogueLives.{init_up_rogue, init_unsupplied_rogue, init_supplied_rogue}
 use Rattle.vb_guest.proofs.{RogueLives.still_large_rogue, Exactly.begins, Asked.is_large}
 use Rattle.vb_guest.proofs.Standing.{by_guest, alone_stands, over_stands, steps_quiet}
-use Rattle.vb_model.specs.declared.replies.Refusal.TheVariants.{NoFrame as NoFrameLeft, NoMemory}
+use Rattle.vb_guest.proofs.Kept.{as_it_was}
 use Rattle.vb_guest.proofs.lives.init.Goals as goal
 
 pub returns-then-bits-ne0 : goal.returns-then-bits-ne0
@@ -15,12 +15,9 @@ returns-then-bits-ne0 g c = record {
     up = λ _. (refl, record { mem = refl; part = refl; driver = refl }, refl, c.clear.ensures);
     new = λ e. absurd (c.if-bits-ne0.true (c.bits.ensures tt ∙ c.status.ensures ∙ e));
   };
-  step = λ keeps guest stands. rw (c.clear.ensures) (steps_quiet g.K.FrameKeeper.answers stands
-      (alone_stands keeps _ _ _ _ _ _ guest _ _ stands refl refl
-      (λ honest. init_up _ _ _ guest c.args.wanted
-      (λ e. c.if-bits-ne0.true (c.bits.ensures tt ∙ c.status.ensures ∙ e)) honest)
-      (λ rogue. init_up_rogue _ _ _ guest c.args.wanted
-      (λ e. c.if-bits-ne0.true (c.bits.ensures tt ∙ c.status.ensures ∙ e)) rogue)));
+  step = λ keeps guest stands. rw c.clear.ensures (steps_quiet stands (alone_stands stands
+      (as_it_was refl) (init_up (λ e. c.if-bits-ne0.true (c.bits.ensures tt ∙ c.status.ensures ∙ e)))
+      (init_up_rogue (λ e. c.if-bits-ne0.true (c.bits.ensures tt ∙ c.status.ensures ∙ e)))));
   quiet = λ none. refl;
   unasked = λ e. refl;
 }
@@ -28,7 +25,7 @@ returns-then-bits-ne0 g c = record {
 pub supply_from-requires : goal.supply_from-requires
 supply_from-requires g c = let (keeps, guest, stands) = c.requires in record {
   none = λ e. stands.own.none (sym stands.own.flag ∙ e);
-  memory = is_large keeps _ _ _ guest stands;
+  memory = is_large stands;
   room = omega (
     arith,
     ap (λ (l : List Claim). length l) c.clear.ensures,
@@ -38,33 +35,24 @@ supply_from-requires g c = let (keeps, guest, stands) = c.requires in record {
 
 pub init-requires : goal.init-requires
 init-requires g c = let (keeps, guest, stands) = c.requires in
-    let did = by_size g.K.FrameKeeper.answers _ _ _ _ _ _ c.shape.result _ _ c.shape.ensures
-    c.in-Ok.ensures.supplies in
+    let did = by_size _ c.shape.ensures c.in-Ok.ensures.supplies in
     record {
-      memory = by_guest keeps _ _ _ guest stands
-          (λ honest. still_large g.K.FrameKeeper.answers _ _ _ _ _ _ _ _ guest honest did)
-          (λ rogue. still_large_rogue g.K.FrameKeeper.answers _ _ _ _ _ _ _ _ guest rogue did);
+      memory = by_guest stands
+          (λ honest. still_large honest did) (λ rogue. still_large_rogue rogue did);
     }
 
 pub returns-in-Ok : goal.returns-in-Ok
 returns-in-Ok g c =
     let new : (g.D.GuestBytes.part c.args.device.now).status ≡ 0 =
     sym c.status.ensures ∙ sym (c.bits.ensures tt) ∙ c.if-bits-ne0.false in
-    let did = by_size g.K.FrameKeeper.answers _ _ _ _ _ _ c.shape.result _ _ c.shape.ensures
-    c.in-Ok.ensures.supplies in
+    let did = by_size _ c.shape.ensures c.in-Ok.ensures.supplies in
     record {
-      exact = begins g.K.FrameKeeper.answers _ _ _ _ _ _ _ _ _ _ _ _ _ _ new c.in-Ok.ensures.part
-          (first_noted g.K.FrameKeeper.answers _ _ _ _ _ _ _ _ c.clear.ensures did)
-          (rw (← c.from_bits_retain.ensures tt) c.init.ensures);
-      step = λ keeps guest stands. over_stands keeps _ _ _ _ _ _ guest _ _ _ _ _ _ stands
-          (λ honest. init_supplied g.K.FrameKeeper.answers _ _ _ _ _ _ _ _ _ _ _ guest c.args.wanted _ _
-          (c.from_bits_retain.ensures tt) new
-          (first_noted g.K.FrameKeeper.answers _ _ _ _ _ _ _ _ c.clear.ensures did)
-          c.in-Ok.ensures.part c.init.ensures honest)
-          (λ rogue. init_supplied_rogue g.K.FrameKeeper.answers _ _ _ _ _ _ _ _ _ _ _ guest
-          c.args.wanted _ _ (c.from_bits_retain.ensures tt) new
-          (first_noted g.K.FrameKeeper.answers _ _ _ _ _ _ _ _ c.clear.ensures did)
-          c.in-Ok.ensures.part c.init.ensures rogue);
+      exact = begins new c.in-Ok.ensures.part
+          (first_noted c.clear.ensures did) (rw (← c.from_bits_retain.ensures tt) c.init.ensures);
+      step = λ keeps guest stands. over_stands _ _ stands (init_supplied _ _
+          (c.from_bits_retain.ensures tt) new (first_noted c.clear.ensures did) c.in-Ok.ensures.part
+          c.init.ensures) (init_supplied_rogue _ _ (c.from_bits_retain.ensures tt)
+          new (first_noted c.clear.ensures did) c.in-Ok.ensures.part c.init.ensures);
       quiet = λ none. c.in-Ok.ensures.quiet (none ∙ sym c.clear.ensures);
       unasked = c.in-Ok.ensures.unasked;
     }
@@ -73,22 +61,14 @@ pub returns-in-Err-NoFrame : goal.returns-in-Err-NoFrame
 returns-in-Err-NoFrame g c =
     let new : (g.D.GuestBytes.part c.args.device.now).status ≡ 0 =
     sym c.status.ensures ∙ sym (c.bits.ensures tt) ∙ c.if-bits-ne0.false in
-    let did = known_answer g.K.FrameKeeper.answers _ _ _ _ _ _ _ c.supply_from.result (Err NoFrame)
-    (c.in-Err-NoFrame.is ∙ ap Err c.in-Err-NoFrame.field-0-is)
-    (by_size g.K.FrameKeeper.answers _ _ _ _ _ _ c.shape.result _ _ c.shape.ensures
-    c.supply_from.ensures.supplies) in
+    let did = known_answer (c.in-Err-NoFrame.is ∙ ap Err c.in-Err-NoFrame.field-0-is)
+    (by_size _ c.shape.ensures c.supply_from.ensures.supplies) in
     record {
-      exact = begins g.K.FrameKeeper.answers _ _ _ _ _ _ _ _ _ _ _ _ _ _ new c.supply_from.ensures.part
-          (first_noted g.K.FrameKeeper.answers _ _ _ _ _ _ _ _ c.clear.ensures did)
+      exact = begins new c.supply_from.ensures.part (first_noted c.clear.ensures did)
           (refl, record { mem = refl; part = refl; driver = refl });
-      step = λ keeps guest stands. over_stands keeps _ _ _ _ _ _ guest _ _ _ _ _ _ stands
-          (λ honest. init_unsupplied g.K.FrameKeeper.answers _ _ _ _ _ _ _ _ guest c.args.wanted NoFrame
-          NoFrameLeft refl new
-          (first_noted g.K.FrameKeeper.answers _ _ _ _ _ _ _ _ c.clear.ensures did)
-          c.supply_from.ensures.part honest)
-          (λ rogue. init_unsupplied_rogue g.K.FrameKeeper.answers _ _ _ _ _ _ _ _ guest c.args.wanted
-          NoFrame NoFrameLeft refl new (first_noted g.K.FrameKeeper.answers _ _ _ _ _ _ _ _ c.clear.ensures did)
-          c.supply_from.ensures.part rogue);
+      step = λ keeps guest stands. over_stands _ _ stands (init_unsupplied _ _ NoFrame refl new
+          (first_noted c.clear.ensures did) c.supply_from.ensures.part) (init_unsupplied_rogue
+          _ _ NoFrame refl new (first_noted c.clear.ensures did) c.supply_from.ensures.part);
       quiet = λ none. c.supply_from.ensures.quiet (none ∙ sym c.clear.ensures);
       unasked = c.supply_from.ensures.unasked;
     }
@@ -97,22 +77,14 @@ pub returns-in-Err-Memory : goal.returns-in-Err-Memory
 returns-in-Err-Memory g c =
     let new : (g.D.GuestBytes.part c.args.device.now).status ≡ 0 =
     sym c.status.ensures ∙ sym (c.bits.ensures tt) ∙ c.if-bits-ne0.false in
-    let did = known_answer g.K.FrameKeeper.answers _ _ _ _ _ _ _ c.supply_from.result (Err Memory)
-    (c.in-Err-Memory.is ∙ ap Err c.in-Err-Memory.field-0-is)
-    (by_size g.K.FrameKeeper.answers _ _ _ _ _ _ c.shape.result _ _ c.shape.ensures
-    c.supply_from.ensures.supplies) in
+    let did = known_answer (c.in-Err-Memory.is ∙ ap Err c.in-Err-Memory.field-0-is)
+    (by_size _ c.shape.ensures c.supply_from.ensures.supplies) in
     record {
-      exact = begins g.K.FrameKeeper.answers _ _ _ _ _ _ _ _ _ _ _ _ _ _ new c.supply_from.ensures.part
-          (first_noted g.K.FrameKeeper.answers _ _ _ _ _ _ _ _ c.clear.ensures did)
+      exact = begins new c.supply_from.ensures.part (first_noted c.clear.ensures did)
           (refl, record { mem = refl; part = refl; driver = refl });
-      step = λ keeps guest stands. over_stands keeps _ _ _ _ _ _ guest _ _ _ _ _ _ stands
-          (λ honest. init_unsupplied g.K.FrameKeeper.answers _ _ _ _ _ _ _ _ guest c.args.wanted Memory
-          NoMemory refl new
-          (first_noted g.K.FrameKeeper.answers _ _ _ _ _ _ _ _ c.clear.ensures did)
-          c.supply_from.ensures.part honest)
-          (λ rogue. init_unsupplied_rogue g.K.FrameKeeper.answers _ _ _ _ _ _ _ _ guest c.args.wanted
-          Memory NoMemory refl new (first_noted g.K.FrameKeeper.answers _ _ _ _ _ _ _ _ c.clear.ensures did)
-          c.supply_from.ensures.part rogue);
+      step = λ keeps guest stands. over_stands _ _ stands (init_unsupplied _ _ Memory refl new
+          (first_noted c.clear.ensures did) c.supply_from.ensures.part) (init_unsupplied_rogue
+          _ _ Memory refl new (first_noted c.clear.ensures did) c.supply_from.ensures.part);
       quiet = λ none. c.supply_from.ensures.quiet (none ∙ sym c.clear.ensures);
       unasked = c.supply_from.ensures.unasked;
     }

@@ -1,11 +1,8 @@
-use Rattle.std.proofs.Common.{ap}
-use Rattle.vb_ram.specs.Part.{Part}
+use Rattle.std.proofs.Common.{refl}
+use Rattle.vb_guest.proofs.Kept.{owns_as}
 use Rattle.vb_guest.proofs.{ResetStep.reset_step, RogueDriver.reset_rogue, Standing.alone_stands}
 use Rattle.vb_guest.proofs.lives.reset.Goals as goal
 
 pub returns-clause-step : goal.returns-clause-step
-returns-clause-step g c = λ keeps guest stands.
-    let part = c.reset.ensures.part in
-    alone_stands keeps _ _ _ _ _ _ guest _ _ stands (ap (λ (p : Part). p.keeps) part)
-    (ap (λ (p : Part). p.own) part) (λ honest. reset_step _ _ _ _ _ _ guest c.reset.ensures honest)
-    (λ rogue. reset_rogue _ _ _ _ _ _ guest c.reset.ensures rogue)
+returns-clause-step g c = λ keeps guest stands. let did = c.reset.ensures in
+    alone_stands stands (owns_as did.part refl refl) (reset_step did) (reset_rogue did)

@@ -4,7 +4,7 @@ use Rattle.vb_model.{specs.Tests.one_if, specs.Orderly.times}
 use Rattle.vb_ram.{specs.Pages.Pages, specs.Part.Part}
 use Rattle.vb_guest.specs.Supply.{Supply, supply_of, is_used, Moves, nothing}
 use Rattle.vb_guest.{proofs.Moving.moves_as, proofs.Quiet.{no_frames, none_behind}}
-use Rattle.vb_guest.proofs.RestartStep.{all_frames, none_had}
+use Rattle.vb_guest.proofs.RestartStep.{none_had}
 use Rattle.vb_guest.proofs.lives.take_all_back.Goals as goal
 
 pub return_loose-requires-clause-loose : goal.return_loose-requires-clause-loose
@@ -18,13 +18,10 @@ return_loose-requires-clause-loose g c n =
 
 pub returns-clause-moves : goal.returns-clause-moves
 returns-clause-moves g c = let out : List Bool = g.K.FrameKeeper.out c.args.keeper.now in
-    let before : Supply = supply_of (g.D.GuestBytes.part c.args.device.now) out in
     let after : Supply = supply_of (g.D.GuestBytes.part c.return_loose.new.device)
     (g.K.FrameKeeper.out c.return_loose.new.keeper) in
     let loose : List _ = (g.D.GuestBytes.part c.detach.new.self).loose in
-    moves_as before after nothing (λ n. times n loose) nothing
-    (λ n. times n (all_frames (g.D.GuestBytes.mem c.args.device.now)))
-    (subst (λ (s : Supply). Moves s after nothing (λ n. times n loose))
+    moves_as (subst (λ (s : Supply). Moves s after nothing (λ n. times n loose))
     (ap (λ (p : Part). supply_of p out) c.detach.ensures.part) c.return_loose.ensures.moves)
     (λ n. omega (arith, c.detach.ensures.loose n))
 
@@ -32,5 +29,5 @@ pub returns-clause-quiet : goal.returns-clause-quiet
 returns-clause-quiet g c = λ kept.
     let mem : Pages = g.D.GuestBytes.mem c.args.device.now in
     let none = none_behind mem (range_with_len 0 (length mem))
-    (none_had mem _ _ (c.return_loose.ensures.mem ∙ c.detach.ensures.memory) kept) in
+    (none_had mem _ (c.return_loose.ensures.mem ∙ c.detach.ensures.memory) kept) in
     c.return_loose.ensures.quiet (no_frames _ (λ n. c.detach.ensures.loose n ∙ ap (times n) none))

@@ -1,4 +1,4 @@
-use Rattle.std.proofs.Common.{◌∙◌, List, length, arith, ap, refl, Ok, Err}
+use Rattle.std.proofs.Common.{◌∙◌, List, length, arith, ap, refl, Err}
 use Rattle.vb_model.specs.declared.calls.Claim.{Claim, TheVariants.{GaveNoFrame, GaveNoMemory}}
 use Rattle.vb_guest.{proofs.Claimed.{claim_answered, noted_alone}, proofs.Exactly.fills_given}
 use Rattle.vb_guest.proofs.memory.put_fresh.Goals as goal
@@ -13,8 +13,8 @@ returns-in-Err-NoFrame g c = let did = c.claim_frame.ensures in
     record {
       exact = record {
         claim = GaveNoFrame;
-        noted = noted_alone _ _ _ _ is c.requires.none did.noted;
-        claimed = claim_answered g.K.FrameKeeper.answers _ _ _ _ is did.claimed;
+        noted = noted_alone is c.requires.none did.noted;
+        claimed = claim_answered is did.claimed;
         part = did.part;
         fills = (refl, did.mem);
       };
@@ -27,8 +27,8 @@ returns-in-Err-Memory g c = let did = c.claim_frame.ensures in
     record {
       exact = record {
         claim = GaveNoMemory;
-        noted = noted_alone _ _ _ _ is c.requires.none did.noted;
-        claimed = claim_answered g.K.FrameKeeper.answers _ _ _ _ is did.claimed;
+        noted = noted_alone is c.requires.none did.noted;
+        claimed = claim_answered is did.claimed;
         part = did.part;
         fills = (refl, did.mem);
       };
@@ -37,9 +37,8 @@ returns-in-Err-Memory g c = let did = c.claim_frame.ensures in
 
 pub returns : goal.returns
 returns g c = let did = c.claim_frame.ensures in record {
-  exact = fills_given g.K.FrameKeeper.answers _ _ _ _ _ _ _ _ _ _ _ _ _ _ _ (Ok tt) refl
-      (claim_answered g.K.FrameKeeper.answers _ _ _ _ c.in-Ok.is did.claimed)
-      (noted_alone _ _ _ _ c.in-Ok.is c.requires.none did.noted) did.mem c.supply.ensures.supplied
+  exact = fills_given _ refl (claim_answered c.in-Ok.is did.claimed)
+      (noted_alone c.in-Ok.is c.requires.none did.noted) did.mem c.supply.ensures.supplied
       c.overwrite.ensures.wrote did.part c.supply.ensures.part c.overwrite.ensures.part;
   unasked = did.unasked;
 }

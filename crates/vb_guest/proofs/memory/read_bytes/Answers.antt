@@ -8,5 +8,5 @@ returns g c = let out = c.read.new.out in
     c.read.auto.out ∙ c.deref_mut.ensures.len in
     c.new.ensures ∙ ap (λ (n : ℕ). take n (out ++ drop (length out) c.in_ok-bytes.bytes.items))
     (sym as_many) ∙ take_front out (drop (length out) c.in_ok-bytes.bytes.items)
-    ∙ bytes_read _ _ _ c.args.len c.deref_mut.result.now out c.requires (c.backing-frame.ensures.whole.sizes c.args.page)
+    ∙ bytes_read c.deref_mut.result.now c.requires (c.backing-frame.ensures.whole.sizes c.args.page)
     (c.deref_mut.ensures.len ∙ c.in_ok-bytes.ensures.len) c.read.auto.out c.in-Ok.ensures.bytes

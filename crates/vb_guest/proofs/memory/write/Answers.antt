@@ -1,14 +1,13 @@
 use Rattle.std.proofs.Common.{sym, refl}
 use Rattle.vb_guest.{proofs.RogueMemory.write_unheld_rogue, proofs.WriteStep.write_not_held}
-use Rattle.vb_guest.proofs.Standing.{alone_stands, steps_quiet}
+use Rattle.vb_guest.proofs.{Standing.{alone_stands, steps_quiet}, Kept.as_it_was}
 use Rattle.vb_guest.proofs.memory.write.Goals as goal
 
 pub returns-then-not-held : goal.returns-then-not-held
 returns-then-not-held g c = record {
-  step = λ keeps guest stands. rw (c.clear.ensures) (steps_quiet g.K.FrameKeeper.answers stands
-      (alone_stands keeps _ _ _ _ _ _ guest _ _ stands refl refl
-      (λ honest. write_not_held _ _ _ guest _ _ _ (sym c.if-not-held.ensures) honest)
-      (λ rogue. write_unheld_rogue _ _ _ guest _ _ _ (sym c.if-not-held.ensures) rogue)));
+  step = λ keeps guest stands. rw c.clear.ensures (steps_quiet stands
+      (alone_stands stands (as_it_was refl) (write_not_held (sym c.if-not-held.ensures))
+      (write_unheld_rogue (sym c.if-not-held.ensures))));
   refused = λ _. (refl, record { mem = refl; part = refl; supply = refl; none = c.clear.ensures });
   exact = λ used. (let unused = sym c.if-not-held.ensures in cc);
   quiet = λ none. refl;

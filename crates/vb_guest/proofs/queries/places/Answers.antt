@@ -3,4 +3,4 @@ use Rattle.vb_guest.proofs.queries.places.Goals as goal
 
 pub returns-clause-answer : goal.returns-clause-answer
 returns-clause-answer c = λ mem part keeps guest stands.
-    places_answered keeps mem part _ guest _ c.places.ensures.counts stands
+    places_answered c.places.ensures.counts stands

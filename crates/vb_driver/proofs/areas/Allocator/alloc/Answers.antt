@@ -13,23 +13,10 @@ returns c = let s : PageState = c.self.inside.pages in
     let is : c.match-alloc.result ≡ answered c.alloc.result = elim c.match-alloc.branch [
       | in-Ok w ↦ w.result-is ∙ sym (ap answered w.in-Ok.is)
       | in-Err w ↦ w.result-is ∙ (ap Err w.refusal_of.ensures ∙ sym (ap answered w.in-Err.is))
-    ] in let served : IsServed s new cpu n c.alloc.result = record {
-      apart = c.pages_are_apart.ensures;
-      bad_order = c.alloc.ensures.bad_order;
-      bad_cpu = c.alloc.ensures.bad_cpu;
-      never = c.alloc.ensures.never;
-      unchanged = c.alloc.ensures.unchanged;
-      allocates = c.alloc.ensures.allocates;
-      was_free = c.alloc.ensures.was_free;
-      held = c.alloc.ensures.held;
-      left = c.alloc.ensures.left;
-      none = c.alloc.ensures.none;
-      same = c.alloc.ensures.same;
-    } in record {
-      refusal = rw (← c.self.view_is)
-          (ap refusal_in is ∙ alloc_refusal s new cpu n c.alloc.result served);
-      refused = rw (← c.self.view_is) (rw is (alloc_refused s new cpu n c.alloc.result served));
-      free = rw (← c.self.view_is) (rw is (alloc_free s new cpu n c.alloc.result served));
-      state = rw (← c.self.view_is) (rw is (alloc_state s new cpu n c.alloc.result served));
-      areas = rw (← c.self.view_is) (rw is (alloc_allots s new cpu n c.alloc.result served));
+    ] in let served : IsServed s new cpu n c.alloc.result = assumption in record {
+      refusal = rw (← c.self.view_is) (ap refusal_in is ∙ alloc_refusal c.alloc.result served);
+      refused = rw (← c.self.view_is) (rw is (alloc_refused served));
+      free = rw (← c.self.view_is) (rw is (alloc_free served));
+      state = rw (← c.self.view_is) (rw is (alloc_state c.alloc.result served));
+      areas = rw (← c.self.view_is) (rw is (alloc_allots served));
     }

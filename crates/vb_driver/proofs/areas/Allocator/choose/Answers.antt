@@ -8,8 +8,7 @@ pub returns-clause-chosen : goal.returns-clause-chosen
 returns-clause-chosen c = grind (arith, chosen_places)
 
 pub returns-clause-blocks : goal.returns-clause-blocks
-returns-clause-blocks c =
-    chosen_blocks c.choose.new.pages c.choose.result.items c.choose.ensures.room
+returns-clause-blocks c = chosen_blocks c.choose.ensures.room
 
 pub returns-clause-free : goal.returns-clause-free
 returns-clause-free c = grind (arith, free_flag)
@@ -17,4 +16,4 @@ returns-clause-free c = grind (arith, free_flag)
 pub returns-clause-state : goal.returns-clause-state
 returns-clause-state c = let s : PageState = c.self.inside.pages in
     let blocks = c.choose.result.items in rw (← c.self.view_is)
-    (chosen_state s c.choose.new.pages blocks c.choose.ensures.taken c.choose.ensures.left)
+    (chosen_state blocks c.choose.ensures.taken c.choose.ensures.left)

@@ -7,4 +7,4 @@ pub returns-clause-state : goal.returns-clause-state
 returns-clause-state c = grind (arith, answered, in-Ok, in-Err, free_state)
 
 pub returns-clause-apart : goal.returns-clause-apart
-returns-clause-apart c = areas_apart c.free-freed.new.self c.pages_are_apart.ensures
+returns-clause-apart c = areas_apart c.pages_are_apart.ensures

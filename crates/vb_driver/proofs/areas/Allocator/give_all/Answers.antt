@@ -49,14 +49,12 @@ loop-page-preserved c = let pages = c.args.pages.now in
     let old = c.args.self.now in
     let more = take_more pages i 0 c.loop-page-test.true in (
       record {
-        free = c.give_free.ensures.state.free
-            ∙ (ap (λ (l : List Bool). set l x true) c.loop-page.invariant.0.free
-            ∙ (sym (marked_more (take i pages) x true (flags_of old.free)
-            (c.requires.inside x (is_in-at pages i c.loop-page-test.true)))
+        free = c.give_free.ensures.state.free ∙ (ap (λ (l : List Bool). set l x true)
+            c.loop-page.invariant.0.free ∙ (sym (marked_more (take i pages) x true
+            (flags_of old.free) (c.requires.inside x (is_in-at pages i c.loop-page-test.true)))
             ∙ ap (λ (l : List ℕ). marked l true (flags_of old.free)) (sym more)));
         held = c.give_free.ensures.state.held ∙ c.loop-page.invariant.0.held;
-        same = for_both old.free c.loop-page.self.free c.give_free.new.self.free
-            c.loop-page.invariant.0.same c.give_free.ensures.state.same;
+        same = for_both c.loop-page.invariant.0.same c.give_free.ensures.state.same;
       },
       c.give_free.ensures.areas ∙ (ap (with_free_block (block_at x 0)) c.loop-page.invariant.1
           ∙ (sym (given_more (take i pages) x old)

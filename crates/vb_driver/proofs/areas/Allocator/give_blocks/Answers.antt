@@ -10,14 +10,12 @@ pub give_all-requires : goal.give_all-requires
 give_all-requires c = let s : PageState = c.self.inside.pages in
     let blocks = c.args.blocks.now in
     let pages = pages_of_all (blocks_of blocks) in
-    have_room s blocks c.pages_are_apart.ensures c.requires.blocks
-    (subst (λ (v : PageState). (page : ℕ) → is_in page pages ≡ true
-    → reserved_count v ≤ page) (sym c.self.view_is) c.requires.unreserved)
-    (subst (λ (v : PageState). (page : ℕ) → is_in page pages ≡ true
-    → page < length (flags_of v.free)) (sym c.self.view_is) c.requires.inside)
-    (subst (λ (v : PageState). (page : ℕ) → is_in page pages ≡ true
-    → is_free_at (flags_of v.free) page ≡ false) (sym c.self.view_is) c.requires.taken)
-    (subst (λ (v : PageState). (page : ℕ) → is_in page pages ≡ true
+    have_room c.pages_are_apart.ensures c.requires.blocks (subst (λ (v : PageState). (page : ℕ)
+    → is_in page pages ≡ true → reserved_count v ≤ page) (sym c.self.view_is) c.requires.unreserved)
+    (subst (λ (v : PageState). (page : ℕ) → is_in page pages ≡ true → page < length
+    (flags_of v.free)) (sym c.self.view_is) c.requires.inside) (subst (λ (v : PageState). (page : ℕ)
+    → is_in page pages ≡ true → is_free_at (flags_of v.free) page ≡ false) (sym c.self.view_is)
+    c.requires.taken) (subst (λ (v : PageState). (page : ℕ) → is_in page pages ≡ true
     → is_covered page v.held ≡ false) (sym c.self.view_is) c.requires.uncovered) c.requires.once
 
 pub returns-clause-state : goal.returns-clause-state

@@ -41,17 +41,16 @@ loop-page-preserved c = let places = c.args.places.now in
     (omega (arith, c.loop-page-test.true, c.pages-page-end.ensures))
     ∙ ap (λ (p : Place). before ++ cond (is_reporting p) (page ∷ []) []) (sym c.place.ensures) in (
       record {
-        free = c.give_if_reported.ensures.state.free
-            ∙ (ap (λ (l : List Bool). marked one true l) c.loop-page.invariant.0.free
-            ∙ (marked_append before one true (flags_of old.free)
+        free = c.give_if_reported.ensures.state.free ∙ (ap (λ (l : List Bool). marked one true l)
+            c.loop-page.invariant.0.free ∙ (marked_append before one true (flags_of old.free)
             ∙ ap (λ (l : List ℕ). marked l true (flags_of old.free)) (sym more)));
         held = c.give_if_reported.ensures.state.held ∙ c.loop-page.invariant.0.held;
-        same = for_both old.free c.loop-page.self.free c.give_if_reported.new.self.free
-            c.loop-page.invariant.0.same c.give_if_reported.ensures.state.same;
+        same = for_both c.loop-page.invariant.0.same c.give_if_reported.ensures.state.same;
       },
-      c.give_if_reported.ensures.areas ∙ (ap
-          (λ (s : PageState). record s { free = areas_with one s.free }) c.loop-page.invariant.1
-          ∙ ap (λ (set : List Bool). record old { free = record old.free { areas = set } })
-          (with_append_turned one before old.free.areas
+      c.give_if_reported.ensures.areas ∙ (ap (λ (s : PageState). record s {
+        free = areas_with
+            one s.free;
+      }) c.loop-page.invariant.1 ∙ ap (λ (set : List Bool). record old
+          { free = record old.free { areas = set } }) (with_append_turned one before old.free.areas
           ∙ ap (λ (l : List ℕ). with_pages l old.free.areas) (sym more))),
     )

@@ -7,10 +7,10 @@ use Rattle.vb_driver.{specs.Calls.lowest_lent, proofs.Counting.at_is}
 use Rattle.vb_driver.{specs.contracts.driver.Driver.the_view, proofs.Naming.once_lowest}
 use Rattle.vb_driver.proofs.driver.Driver.ask_and_free.Goals as goal
 
-out_again : (d : DriverState) (count p : ℕ) (pages : List ℕ) → IsDriver d
-    → pages ≡ lowest_lent d count → is_in p pages ≡ true → IsOut d p
-out_again d count p pages kept is here = is_out d p Lent kept refl refl refl
-    (at_is Lent _ (lowest_is d.places count is_lent p (ap (is_in p) (sym is) ∙ here)))
+out_again : (d : DriverState) (count p : ℕ) (pages : List ℕ)
+    → IsDriver d → pages ≡ lowest_lent d count → is_in p pages ≡ true → IsOut d p
+out_again d count p pages kept is here = is_out Lent kept refl refl refl
+    (at_is Lent (lowest_is d.places count is_lent p (ap (is_in p) (sym is) ∙ here)))
 
 pub give_all-requires : goal.give_all-requires
 give_all-requires g c = let d = the_view c.self.inside in
@@ -43,8 +43,7 @@ invariant_of-self g c = let d = the_view c.self.inside in
     c.give_all.ensures.state.free ∙ ap (λ (l : List ℕ). marked l true (flags_of d.areas)) items in
     let posts = rw lowest at c.post-head.ensures.posts in
     rw placed_is (rw c.give_all.ensures.state.held
-    (asked_freed _ _ d areas2.free c.post-head.new.self _ c.args.count c.post-head.result
-    c.self.invariant untold free c.give_all.ensures.state.same posts))
+    (asked_freed c.args.count c.self.invariant untold free c.give_all.ensures.state.same posts))
 
 pub returns : goal.returns
 returns g c = let posts = rw c.self.invariant.deflate.number at c.post-head.ensures.posts in

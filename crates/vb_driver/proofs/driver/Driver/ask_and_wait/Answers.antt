@@ -21,7 +21,7 @@ invariant_of-self g c = let d = the_view c.self.inside in
     let posts = rw c.take_lowest_lent.ensures.pages at c.post-head.ensures.posts in
     subst (λ (ps : List Place). IsDriver (record d { places = ps; deflate = c.post-head.new.self }))
     (sym c.take_lowest_lent.ensures.moved)
-    (asked_kept _ _ d c.post-head.new.self _ c.args.count c.post-head.result c.self.invariant posts)
+    (asked_kept c.args.count c.self.invariant posts)
 
 pub returns : goal.returns
 returns g c = let posts = rw c.self.invariant.deflate.number at c.post-head.ensures.posts in

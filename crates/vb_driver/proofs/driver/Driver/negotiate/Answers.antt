@@ -31,11 +31,12 @@ returns-in-Err g c = let d = the_view c.self.inside in
     let answer : Some refusal ≡ status_refusal 3 w 11 = c.in-Err.ensures.answer
     ∙ (ap (λ (p : Part). status_refusal p.status p.features c.union-agreed.result.0) here
     ∙ ap (status_refusal 3 w) bits) in
-    let same : accepted_before refusal w ≡ w = accepted_then w refusal answer in
+    let same : accepted_before refusal w ≡ w = accepted_then refusal answer in
     let part : p2 ≡ record (part_after_reset p1) { status = 131; features = w } =
     c.give_up-in-Err.ensures.part ∙ ap (λ (p : Part). record p { status = bit_or p.status 128 })
     (c.in-Err.ensures.err ∙ here) in
-    let gives : GivesUp m1 m2 p1 p2 c.args.self.now (record d { features = w; actual = 0 }) w = record {
+    let gives : GivesUp m1 m2 p1 p2 c.args.self.now
+    (record d { features = w; actual = 0 }) w = record {
       mem = c.give_up-in-Err.ensures.mem
           ∙ (c.write_status.ensures.mem ∙ (c.negotiate.ensures.mem ∙ c.begin.ensures.mem));
       part = part;

@@ -35,10 +35,9 @@ invariant_of-result c = let pages = c.args.config.pages in
     let few : c.reserved_pages-reserved.result ≡ reserved_pages size =
     c.reserved_pages-reserved.ensures ∙ ap reserved_pages same in
     let d : DriverState = record (fresh_driver pages size cpus) { features = f } in
-    let kept : IsDriver d = fresh_kept pages size cpus f limits.pages_least limits.pages_most
-    (size_of_config pages size cpus c.requires) in rw (c.in_ok-places.ensures.places ∙ ap (λ (n : ℕ). all_free n pages) few)
-    (rw (c.in_ok-places.ensures.areas ∙ ap (new_page_state pages cpus) few)
-    (rw (c.in_ok-inflate.ensures.inflate ∙ ap (fresh_side 0) same)
-    (rw (c.in_ok-inflate.ensures.deflate ∙ ap (fresh_side 1) same)
-    (rw (c.new.ensures ∙ ap fresh_statistics same)
-    (rw (c.new-2.ensures ∙ ap fresh_report same) kept)))))
+    let kept : IsDriver d = fresh_kept pages cpus f limits.pages_least limits.pages_most
+    (size_of_config pages cpus c.requires) in rw (c.in_ok-places.ensures.places
+    ∙ ap (λ (n : ℕ). all_free n pages) few) (rw (c.in_ok-places.ensures.areas ∙ ap
+    (new_page_state pages cpus) few) (rw (c.in_ok-inflate.ensures.inflate ∙ ap (fresh_side 0) same)
+    (rw (c.in_ok-inflate.ensures.deflate ∙ ap (fresh_side 1) same) (rw (c.new.ensures
+    ∙ ap fresh_statistics same) (rw (c.new-2.ensures ∙ ap fresh_report same) kept)))))

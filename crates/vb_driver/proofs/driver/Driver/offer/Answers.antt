@@ -16,19 +16,13 @@ set_all-requires g c p here = grind (arith, others_free, offered_inside)
 pub invariant_of-self : goal.invariant_of-self
 invariant_of-self g c = let d = the_view c.self.inside in
     let others = c.take_free.new.taken.items in
-    let first : c.lowest_stranded.new.pages.items ≡ stranded_first d c.args.count =
-    c.lowest_stranded.ensures in
-    let items : c.append.new.pages.items ≡ stranded_first d c.args.count ++ others =
-    c.append.ensures ∙ (ap (λ (l : List ℕ). l ++ c.deref.result.now) first
-    ∙ ap (λ (l : List ℕ). stranded_first d c.args.count ++ l) c.deref.ensures.0) in
+    let items : c.append.new.pages.items ≡ stranded_first d c.args.count ++ others = search arith in
     let placed_is : c.set_all.new.self
     ≡ placed (stranded_first d c.args.count ++ others) Giving d.places = c.set_all.ensures
     ∙ ap (λ (l : List ℕ). placed l Giving d.places) (c.deref-2.ensures.0 ∙ items) in
     let posts = rw items at c.post-head.ensures.posts in
-    let free = others_free d
-    (flags_of c.self.inside.areas.free) others c.self.invariant.free c.take_free.ensures.free in
-    let kept = offered_kept _ _ d c.take_free.new.self.free c.post-head.new.self _
-    c.args.count c.post-head.result others c.self.invariant free
+    let free = others_free d others c.self.invariant.free c.take_free.ensures.free in
+    let kept = offered_kept c.args.count others c.self.invariant free
     (λ p. once_distinct p others c.take_free.ensures.distinct)
     c.take_free.ensures.state.free c.take_free.ensures.state.same posts in
     let held : c.take_free.new.self.held ≡ d.held = c.take_free.ensures.state.held in

@@ -9,8 +9,8 @@ use Rattle.vb_driver.proofs.driver.Driver.reap_freed.Goals as goal
 
 out_again : (d : DriverState) (head p : ℕ) (pages : List ℕ) → head < 16 → IsDriver d
     → tells_host d ≡ true → pages ≡ sent_by d.deflate head → is_in p pages ≡ true → IsOut d p
-out_again d head p pages small kept told is here = is_out d p Taking kept refl refl refl
-    (freed_taking d head p small kept told (ap (is_in p) (sym is) ∙ here))
+out_again d head p pages small kept told is here = is_out Taking kept refl refl refl
+    (freed_taking head p small kept told (ap (is_in p) (sym is) ∙ here))
 
 pub give_all-requires : goal.give_all-requires
 give_all-requires g c = let d = the_view c.self.inside in
@@ -24,7 +24,7 @@ give_all-requires g c = let d = the_view c.self.inside in
       inside = λ p here. (out p here).inside;
       taken = λ p here. (out p here).taken;
       uncovered = λ p here. (out p here).uncovered;
-      once = λ p. rw items (freed_once d head p next.1 c.self.invariant told);
+      once = λ p. rw items (freed_once head p next.1 c.self.invariant told);
     }
 
 pub set_all-requires : goal.set_all-requires
@@ -46,8 +46,8 @@ invariant_of-self-2 g c = let d = the_view c.self.inside in
     c.set_all.ensures ∙ ap (λ (l : List ℕ). placed l Free d.places) emptied in
     let free : flags_of areas2.free ≡ marked (sent_by d.deflate head) true (flags_of d.areas) =
     c.give_all.ensures.state.free ∙ ap (λ (l : List ℕ). marked l true (flags_of d.areas)) items in
-    rw moved (rw c.give_all.ensures.state.held (rw next.3 (freed_kept d areas2.free head next.1 c.self.invariant told free
-    c.give_all.ensures.state.same)))
+    rw moved (rw c.give_all.ensures.state.held
+    (rw next.3 (freed_kept head next.1 c.self.invariant told free c.give_all.ensures.state.same)))
 
 -- where the host isn't told first, the pages stay where they are
 pub invariant_of-self-then-not-must_tell_host : goal.invariant_of-self-then-not-must_tell_host
@@ -56,4 +56,4 @@ invariant_of-self-then-not-must_tell_host g c = let d = the_view c.self.inside i
     let next = rw c.in-Ok-Some.field-0-is at c.in-Ok-Some.ensures.next in
     let untold : tells_host d ≡ false =
     sym c.must_tell_host.ensures ∙ c.if-not-must_tell_host.true in rw next.3
-    (forgotten_kept d head next.1 c.self.invariant untold)
+    (forgotten_kept head next.1 c.self.invariant untold)

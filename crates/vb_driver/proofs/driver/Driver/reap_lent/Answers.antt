@@ -9,7 +9,7 @@ set_all-requires g c p here = let d = the_view c.self.inside in
     let head = c.in-Ok-Some.head in
     let next = rw c.in-Ok-Some.field-0-is at c.in-Ok-Some.ensures.next in
     let items : c.deref.result.now ≡ sent_by d.inflate head = c.deref.ensures.0 ∙ next.2 in
-    lent_inside d head p next.1 c.self.invariant (ap (is_in p) (sym items) ∙ here)
+    lent_inside head p next.1 c.self.invariant (ap (is_in p) (sym items) ∙ here)
 
 pub invariant_of-self-2 : goal.invariant_of-self-2
 invariant_of-self-2 g c = let d = the_view c.self.inside in
@@ -18,4 +18,4 @@ invariant_of-self-2 g c = let d = the_view c.self.inside in
     let items : c.deref.result.now ≡ sent_by d.inflate head = c.deref.ensures.0 ∙ next.2 in
     let moved : c.set_all.new.self ≡ placed (sent_by d.inflate head) Lent d.places =
     c.set_all.ensures ∙ ap (λ (l : List ℕ). placed l Lent d.places) items in rw moved (rw next.3
-    (lent_kept d head next.1 c.self.invariant))
+    (lent_kept head next.1 c.self.invariant))

@@ -23,9 +23,7 @@ invariant_of-self-2 g c = let d = the_view c.self.inside in
     let same : blocks ≡ r2.blocks =
     sym (ap (λ (s : ReportSide). s.blocks) c.post-head.ensures.posts.state) in
     let moved : c.set_blocks.new.self ≡ placed (pages_of_all r2.blocks) Reporting d.places =
-    c.set_blocks.ensures
-    ∙ (ap (λ (l : List FreeBlock). placed (pages_of_all (blocks_of l)) Reporting d.places)
-    c.deref.ensures.0 ∙ ap (λ (l : List Block). placed (pages_of_all l) Reporting d.places) same) in
+    search arith in
     let free : (p : ℕ) → is_in p (pages_of_all r2.blocks) ≡ true
     → is_free_at (flags_of d.areas) p ≡ true = rw (← same) c.choose-blocks.ensures.free in
     let distinct : AllDistinct (pages_of_all r2.blocks) =
@@ -35,5 +33,4 @@ invariant_of-self-2 g c = let d = the_view c.self.inside in
     ∙ ap (λ (l : List Block). marked (pages_of_all l) false (flags_of d.areas)) same in
     let queue : IsReportQueue r2 d.queue_size = rw (← c.self.invariant.report.size)
     c.post-head.ensures.queue in rw moved (rw c.choose-blocks.ensures.state.held
-    (reported_kept d new.free r2 c.self.invariant free distinct taken
-    c.choose-blocks.ensures.state.same queue))
+    (reported_kept c.self.invariant free distinct taken c.choose-blocks.ensures.state.same queue))

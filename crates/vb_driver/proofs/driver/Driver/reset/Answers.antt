@@ -12,7 +12,7 @@ use Rattle.vb_driver.proofs.driver.Driver.reset.Goals as goal
 pub give_reported-requires : goal.give_reported-requires
 give_reported-requires g c = let d = the_view c.self.inside in
     let out = λ (p : ℕ) (here : is_reporting (place_of d.places p) ≡ true).
-    is_out d p Reporting c.self.invariant refl refl refl (at_is Reporting _ here) in record {
+    is_out Reporting c.self.invariant refl refl refl (at_is Reporting here) in record {
       table = sym (ap length c.self.invariant.free ∙ length-map d.places is_free);
       unreserved = λ p here. (out p here).unreserved;
       taken = λ p here. (out p here).taken;
@@ -38,7 +38,6 @@ invariant_of-self g c = let d = the_view c.self.inside in
       areas = areas2.free;
       features = f;
       actual = 0;
-    })) (sym renewed) (reset_kept c.args.self.now areas2.free f c.renew.ensures.driver
-    (subst (λ (v : DriverState). flags_of areas2.free
-    ≡ marked (pages_where is_reporting v.places) true (flags_of v.areas)) renewed given.free)
-    (subst (λ (v : DriverState). AreFor v.areas areas2.free) renewed given.same))))
+    })) (sym renewed) (reset_kept f c.renew.ensures.driver (subst (λ (v : DriverState). flags_of
+    areas2.free ≡ marked (pages_where is_reporting v.places) true (flags_of v.areas)) renewed
+    given.free) (subst (λ (v : DriverState). AreFor v.areas areas2.free) renewed given.same))))

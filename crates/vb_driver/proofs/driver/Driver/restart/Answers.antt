@@ -7,16 +7,12 @@ use Rattle.vb_driver.proofs.driver.Driver.restart.Goals as goal
 
 pub invariant_of-self : goal.invariant_of-self
 invariant_of-self g c = let d = c.reset.ensures.driver in subst IsDriver
-    (sym (restarted c.args.self.now (the_view c.self.inside) c.renew.new.self
-    c.reserved_pages.result c.renew-2.new.self c.self.invariant
-    (c.self.view_is ∙ c.reset.ensures.state)
-    (c.reserved_pages.ensures ∙ ap (λ (s : Shape). reserved_pages s.queue_size) c.shape.ensures)
-    c.renew.ensures c.renew-2.ensures))
-    (fresh_kept c.args.self.now.pages c.args.self.now.queue_size c.args.self.now.processors 0
-    d.least d.most d.size)
+    (sym (restarted c.args.self.now c.self.invariant
+    (c.self.view_is ∙ c.reset.ensures.state) (c.reserved_pages.ensures ∙ ap (λ
+    (s : Shape). reserved_pages s.queue_size) c.shape.ensures) c.renew.ensures c.renew-2.ensures))
+    (fresh_kept c.args.self.now.pages c.args.self.now.processors 0 d.least d.most d.size)
 
 pub returns-clause-driver : goal.returns-clause-driver
 returns-clause-driver g c = restarted c.args.self.now
-    (the_view c.self.inside) c.renew.new.self c.reserved_pages.result c.renew-2.new.self
     c.self.invariant (c.self.view_is ∙ c.reset.ensures.state) (c.reserved_pages.ensures ∙ ap
     (λ (s : Shape). reserved_pages s.queue_size) c.shape.ensures) c.renew.ensures c.renew-2.ensures

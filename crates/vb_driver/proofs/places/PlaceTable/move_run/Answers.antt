@@ -14,15 +14,12 @@ pub overflow_sub-self : goal.overflow_sub-self
 overflow_sub-self c = let places = c.self.inside.places.items in
     let old = c.index-old.result.now in
     let size : length places ≡ length c.args.self.now = ap length c.self.view_is in
-    let are : AreAt places c.args.start (c.end_of_run-next.result - c.args.start) old = run_is
-    places c.args.start c.end_of_run-next.result old (omega (arith, c.end_of_run-next.ensures.from))
-    (omega (arith, c.end_of_run-next.ensures.bound, c.requires.inside)) c.index-old.ensures
-    (λ page from before. ap (λ (l : List Place). place_of l page) (sym c.deref.ensures.value)
-    ∙ c.end_of_run-next.ensures.same page from before) in
+    let are : AreAt places c.args.start (c.end_of_run-next.result - c.args.start) old =
+    search (arith, run_is) in
     let own : get_or c.self.inside.counts c.number_of.result 0 ≡ count_by (is_at old) places =
     ap (λ (k : ℕ). get_or c.self.inside.counts k 0) c.number_of.ensures
     ∙ c.self.invariant.are_counts.each old in
-    omega (arith, run_some places c.args.start (c.end_of_run-next.result - c.args.start) old are)
+    omega (arith, run_some are)
 
 pub invariant_of-self : goal.invariant_of-self
 invariant_of-self c = let places = c.self.inside.places.items in
@@ -31,11 +28,7 @@ invariant_of-self c = let places = c.self.inside.places.items in
     let start = c.args.start in
     let n = c.end_of_run-next.result - start in
     let size : length places ≡ length c.args.self.now = ap length c.self.view_is in
-    let are : AreAt places start n old = run_is places start c.end_of_run-next.result old
-    (omega (arith, c.end_of_run-next.ensures.from))
-    (omega (arith, c.end_of_run-next.ensures.bound, c.requires.inside)) c.index-old.ensures
-    (λ page from before. ap (λ (l : List Place). place_of l page) (sym c.deref.ensures.value)
-    ∙ c.end_of_run-next.ensures.same page from before) in
+    let are : AreAt places start n old = search (arith, run_is) in
     let from = or_parts (is_lent old) (is_stranded old) (sym c.if-is_in_set.ensures) in
     let to = or_parts (is_lent new) (is_stranded new) (sym c.if-is_in_set-2.ensures) in
     let after : List Place = placed (range_with_len start n) new places in
@@ -49,6 +42,5 @@ invariant_of-self c = let places = c.self.inside.places.items in
     (length c.put_all.new.places) places) ≡ after = ap (λ (k : ℕ). take k (c.put_all.new.places
     ++ drop (length c.put_all.new.places) places)) (omega (arith, count, c.self.inside.places.ok))
     ∙ (take-append_seam c.put_all.new.places (drop (length c.put_all.new.places) places) ∙ put) in
-    rw now (run_table counts c.self.inside.lent c.self.inside.stranded places start n
-    c.number_of.result c.number_of-2.result new old c.self.invariant are
+    rw now (run_table new c.self.invariant are
     c.number_of.ensures c.number_of-2.ensures to.0 from.0 to.1 from.1)

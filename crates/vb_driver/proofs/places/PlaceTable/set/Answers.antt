@@ -24,16 +24,14 @@ invariant_of-self c = let counts = c.self.inside.counts in
     let size : length places ≡ length c.args.self.now = ap length c.self.view_is in record {
       kinds = length-set (set counts c.number_of.result _) c.number_of-2.result _
           ∙ (length-set counts c.number_of.result _ ∙ c.self.invariant.kinds);
-      are_counts = counts_moved counts places c.args.page c.number_of.result c.number_of-2.result
-          c.args.place c.index.result.now c.self.invariant.kinds (omega arith)
-          c.index.ensures c.number_of.ensures c.number_of-2.ensures (omega arith) (omega arith)
-          c.self.invariant.are_counts;
+      are_counts = counts_moved c.args.page c.args.place c.self.invariant.kinds
+          (omega arith) c.index.ensures c.number_of.ensures c.number_of-2.ensures
+          (omega arith) (omega arith) c.self.invariant.are_counts;
       are_sets = record {
-        of_lent = set_moved is_lent c.self.inside.lent _ places c.args.page c.args.place
-            c.is_lent-2.result c.self.invariant.are_sets.of_lent c.mark.ensures c.is_lent-2.ensures;
-        of_stranded = set_moved is_stranded c.self.inside.stranded _ places c.args.page
-            c.args.place c.is_stranded-2.result c.self.invariant.are_sets.of_stranded
-            c.mark-2.ensures c.is_stranded-2.ensures;
+        of_lent = set_moved is_lent places c.args.page
+            c.args.place c.self.invariant.are_sets.of_lent c.mark.ensures c.is_lent-2.ensures;
+        of_stranded = set_moved is_stranded places c.args.page c.args.place
+            c.self.invariant.are_sets.of_stranded c.mark-2.ensures c.is_stranded-2.ensures;
       };
       small = omega (arith, length-set places c.args.page c.args.place);
     }

@@ -5,7 +5,7 @@ use Rattle.vb_driver.proofs.Placing.{marked_none, marked_more, length-marked, is
 use Rattle.vb_driver.proofs.places.PlaceTable.set_all.Goals as goal
 
 pub loop-page-init : goal.loop-page-init
-loop-page-init c = sym (marked_none c.args.place c.args.self.now)
+loop-page-init c = sym (marked_none c.args.place)
 
 pub set-requires : goal.set-requires
 set-requires c =

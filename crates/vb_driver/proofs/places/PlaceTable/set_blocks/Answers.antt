@@ -7,7 +7,7 @@ use Rattle.vb_driver.proofs.ReportTables.{no_free_block}
 use Rattle.vb_driver.proofs.places.PlaceTable.set_blocks.Goals as goal
 
 pub loop-block-init : goal.loop-block-init
-loop-block-init c = sym (marked_none c.args.place c.args.self.now)
+loop-block-init c = sym (marked_none c.args.place)
 
 pub set_block-requires-clause-order : goal.set_block-requires-clause-order
 set_block-requires-clause-order c =

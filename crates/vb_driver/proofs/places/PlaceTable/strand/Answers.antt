@@ -12,10 +12,9 @@ loop-page-preserved c = let old = c.args.self.now in
     let inside : i < length old = omega (arith, c.loop-page-test.true, c.len-pages.ensures) in
     let P : List Place → Type 0 = λ l. Changing old l place_after_reset (i + 1) in
     subst P (sym c.set.ensures)
-    (changing_more old c.loop-page.self place_after_reset i c.after_reset.result
-    c.loop-page.invariant inside (λ d. c.after_reset.ensures ∙ ap place_after_reset
-    (c.place-place.ensures ∙ (c.loop-page.invariant.rest i Reserved (omega arith)
-    ∙ get_or_default old i Reserved d inside))))
+    (changing_more c.after_reset.result c.loop-page.invariant inside (λ d. c.after_reset.ensures
+    ∙ ap place_after_reset (c.place-place.ensures ∙ (c.loop-page.invariant.rest i Reserved
+    (omega arith) ∙ get_or_default old i Reserved d inside))))
 
 pub returns : goal.returns
 returns c = grind (arith, changed_all)

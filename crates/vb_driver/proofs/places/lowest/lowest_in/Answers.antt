@@ -4,7 +4,7 @@ use Rattle.vb_driver.proofs.places.lowest.lowest_in.Goals as goal
 
 pub returns-in-None : goal.returns-in-None
 returns-in-None c =
-    first_all c.loop-found.lowest.items c.args.set.now c.loop-found.from c.loop-found._found
+    first_all
     c.args.most c.loop-found.invariant c.in-None.ensures (omega (arith, c.loop-found-test.true))
 
 pub loop-found-preserved : goal.loop-found-preserved

@@ -26,8 +26,7 @@ add-requires-clause-backed g c = let r = c.self.inside.ring in
     let m2 = g.G.GuestBytes.mem c.write_numbers.new.ram in
     let same : r.size ≡ c.args.self.now.ring.size =
     ap (λ (s : RequestSide). s.ring.size) c.self.view_is in
-    rw c.self.invariant.layout (ring_backed r.size c.self.inside.number m2
-    c.next_head.ensures.is_end.fits.size (λ page start.
+    rw c.self.invariant.layout (ring_backed c.self.inside.number c.next_head.ensures.is_end.fits.size (λ page start.
     ap is_some (c.write_numbers.ensures.rest.backing page)
     ∙ c.requires.backed page (ap (λ (n : ℕ). is_start_page n page) (sym same) ∙ start)))
 
@@ -41,8 +40,7 @@ invariant_of-self g c = let side = the_view c.self.inside in
     let next : next_head r ≡ Some h = sym c.next_head.ensures.value ∙ c.in-Some.is in
     let room = room_inside side c.args.self.now c.self.view_is c.requires.room in
     let small : h < 16 = head_small r h c.self.invariant.single next room in
-    let same : h ≡ c.in-Ok.head =
-    added_head _ _ r c.add.new.self h c.in-Ok.head _ refl next c.in-Ok.ensures.adds in
+    let same : h ≡ c.in-Ok.head = added_head refl next c.in-Ok.ensures.adds in
     let state : c.add.new.self ≡ after_add r 1 (Ok h) =
     c.in-Ok.ensures.adds.state ∙ ap (λ (n : ℕ). after_add r 1 (Ok n)) (sym same) in
     rw c.keep.ensures
@@ -82,9 +80,9 @@ returns-clause-posts g c = let side = the_view c.self.inside in
       room = room;
       beside = λ k few. subst (λ (l : Layout). IsBeside l (buffer_page base k))
           (sym c.self.invariant.layout)
-          (buffers_beside side.ring.size side.number k c.next_head.ensures.is_end.fits.size few);
+          (buffers_beside side.number k c.next_head.ensures.is_end.fits.size few);
       few = omega (arith, size, c.deref.ensures.1);
-      names = names_at m2 _ _ _ _ _ _ at_page at_offset slice c.write_numbers.ensures.names;
+      names = names_at at_page at_offset slice c.write_numbers.ensures.names;
       wrote = wrote;
       addr = omega (arith, at_page, at_offset, c.from-2.ensures);
       len = omega (arith, c.len.ensures.value);

@@ -20,30 +20,24 @@ pub returns-clause-posts : goal.returns-clause-posts
 returns-clause-posts g c = let m1 = g.G.GuestBytes.mem c.args.ram.now in
     let m2 = g.G.GuestBytes.mem c.add.new.ram in
     let blocks = blocks_of c.args.blocks.items in
-    let coded : c.deref-2.result.now ≡ pieces_of blocks =
-    c.deref-2.ensures.0 ∙ (c.encode-pieces.ensures
-    ∙ ap (λ (l : List FreeBlock). pieces_of (blocks_of l)) c.deref.ensures.0) in
-    let s = reporting m1 m2 (the_view c.self.inside) c.args.self.now c.add.new.self
-    c.deref-2.result.now c.args.blocks.items c.add.result c.self.view_is c.requires.queue
+    let coded : c.deref-2.result.now ≡ pieces_of blocks = search arith in
+    let s = reporting c.args.blocks.items c.self.view_is c.requires.queue
     c.requires.none_out c.requires.some c.requires.room coded c.add.ensures.adds in
-    subst (λ (v : ReportSide). PostsReport m1 m2 v
-    (record { ring = c.add.new.self; blocks = blocks }) blocks) c.self.view_is
-    (posts_report _ _ _ _ _ _ _ _ s)
+    subst (λ (v : ReportSide). PostsReport m1 m2 v (record {
+      ring = c.add.new.self;
+      blocks = blocks;
+    }) blocks) c.self.view_is (posts_report _ _ _ _ _ _ _ _ s)
 
 pub returns-clause-queue : goal.returns-clause-queue
 returns-clause-queue g c = let m1 = g.G.GuestBytes.mem c.args.ram.now in
     let m2 = g.G.GuestBytes.mem c.add.new.ram in
     let blocks = blocks_of c.args.blocks.items in
-    let coded : c.deref-2.result.now ≡ pieces_of blocks =
-    c.deref-2.ensures.0 ∙ (c.encode-pieces.ensures
-    ∙ ap (λ (l : List FreeBlock). pieces_of (blocks_of l)) c.deref.ensures.0) in
-    let s = reporting m1 m2 (the_view c.self.inside) c.args.self.now c.add.new.self
-    c.deref-2.result.now c.args.blocks.items c.add.result c.self.view_is c.requires.queue
+    let coded : c.deref-2.result.now ≡ pieces_of blocks = search arith in
+    let s = reporting c.args.blocks.items c.self.view_is c.requires.queue
     c.requires.none_out c.requires.some c.requires.room coded c.add.ensures.adds in
-    posted_report_queue (the_view c.self.inside) c.args.self.now.ring.size c.add.new.self blocks s.queue s.adds.is_end
-    (nothing _ _ _ _ _ _ _ _ s)
-    (omega (arith, length-map c.args.blocks.items block_of, c.requires.few)) s.room
-    c.requires.blocks (ring_is _ _ _ _ _ _ _ _ s)
+    posted_report_queue blocks s.queue s.adds.is_end (nothing _ _ _ _ _ _ _ _ s) (omega
+    (arith, length-map c.args.blocks.items block_of, c.requires.few)) s.room c.requires.blocks
+    (ring_is _ _ _ _ _ _ _ _ s)
 
 pub returns-clause-head : goal.returns-clause-head
 returns-clause-head g c = grind (arith, reporting, same_head, answer_is)

@@ -18,7 +18,7 @@ unreachable-requires g c = let r = c.self.inside.ring in
     let n = c.args.self.now.size in
     let queue : IsStatisticsQueue r n = rw c.self.view_is c.requires.queue in
     let none : outstanding r ≡ 0 = rw c.self.view_is c.requires.none in
-    not_full _ _ r _ n c.in_default.field-0 _ refl queue none c.in_default.ensures.adds
+    not_full c.in_default.field-0 refl queue none c.in_default.ensures.adds
 
 pub returns-clause-posts : goal.returns-clause-posts
 returns-clause-posts g c = let r = c.self.inside.ring in
@@ -27,23 +27,14 @@ returns-clause-posts g c = let r = c.self.inside.ring in
     let m2 = g.G.GuestBytes.mem c.write_figures.new.ram in
     let m3 = g.G.GuestBytes.mem c.add.new.ram in
     let filling : Filling m1 m2 m3 r c.add.new.self n c.from.result c.args.free c.args.total =
-    record {
-      queue = subst (λ (v : DriverEnd). IsStatisticsQueue v n) (sym c.self.view_is)
-          c.requires.queue;
-      is_end = c.in-Ok.ensures.adds.is_end;
-      none = subst (λ (v : DriverEnd). outstanding v ≡ 0) (sym c.self.view_is) c.requires.none;
-      free_is = c.write_figures.ensures.free;
-      total_is = c.write_figures.ensures.total;
-      wrote = c.write_figures.ensures.rest;
-      addr = c.from.ensures;
-    } in subst (λ (v : DriverEnd). PostsBuffer m1 m3 v c.add.new.self
-    (record { free = c.args.free; total = c.args.total })) c.self.view_is
-    (fills_by m1 m2 m3 r c.add.new.self n c.from.result c.in-Ok.field-0 c.args.free c.args.total
-    filling c.in-Ok.ensures.adds)
+    search arith in subst (λ (v : DriverEnd). PostsBuffer m1 m3 v c.add.new.self (record {
+      free = c.args.free;
+      total = c.args.total;
+    })) c.self.view_is (fills_by c.in-Ok.field-0 filling c.in-Ok.ensures.adds)
 
 pub returns-clause-queue : goal.returns-clause-queue
 returns-clause-queue g c = let r = c.self.inside.ring in
     let n = c.args.self.now.size in
     let queue : IsStatisticsQueue r n = rw c.self.view_is c.requires.queue in
     let none : outstanding r ≡ 0 = rw c.self.view_is c.requires.none in
-    filled_queue _ _ r c.add.new.self n c.in-Ok.field-0 _ refl queue none c.in-Ok.ensures.adds
+    filled_queue c.in-Ok.field-0 refl queue none c.in-Ok.ensures.adds
