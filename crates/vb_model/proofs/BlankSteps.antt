@@ -3,15 +3,14 @@ use Rattle.std.proofs.Common.{List, [], ap, arith, cond, false, length, length-a
 use Rattle.std.proofs.Common.{length-take, refl, subst, sym, true, ℕ, ◌+◌, ◌<◌, ◌∙◌, ◌∷◌, ◌≡◌, ◌≤◌}
 use Rattle.std.proofs.lemmas.List.{get_or-replicate, length-replicate, take-append-drop}
 use Rattle.std.specs.Prelude.{None, Option, Some, ◌==◌}
-use Rattle.vb_model.proofs.{CallSteps.supplied, Cases.supplied, Outcomes.{Begun, Cleared, Emptied}}
-use Rattle.vb_model.proofs.Outcomes.{Outcome, Put, Retargeted, Shuffled, Turned, outcome}
-use Rattle.vb_model.{proofs.Tables.{each_page-get, length-each_from}, specs.Blank.IsBlank}
-use Rattle.vb_model.specs.Driver.{AreClaimsFor, claim_refusal, given, overwritten, pages_needed}
-use Rattle.vb_model.specs.Guest.{Config, Guest, all_backed, backed, frame_of, fresh, unbacked}
-use Rattle.vb_model.specs.{Guest.zero_page, Life.lacking, Limits.page_size, Refusals.refusal_of}
-use Rattle.vb_model.specs.{Step.HonestStep, Tests.each_page, declared.calls.Call.Call}
-use Rattle.vb_model.specs.declared.calls.{Call.TheVariants.Write, Claim.Claim}
-use Rattle.vb_model.specs.declared.replies.Reply.{Reply}
+use Rattle.vb_model.proofs.{Cases.supplied, Outcomes.{Begun, Cleared, Emptied, Outcome, Put}}
+use Rattle.vb_model.proofs.{Outcomes.{Retargeted, Shuffled, Turned, outcome}, Tables.each_page-get}
+use Rattle.vb_model.{proofs.Tables.length-each_from, specs.{Blank.IsBlank, Driver.AreClaimsFor}}
+use Rattle.vb_model.specs.{Driver.{claim_refusal, given, overwritten, pages_needed}, Guest.Config}
+use Rattle.vb_model.specs.Guest.{Guest, all_backed, backed, frame_of, fresh, unbacked, zero_page}
+use Rattle.vb_model.specs.{Life.lacking, Limits.page_size, Refusals.refusal_of, Step.HonestStep}
+use Rattle.vb_model.specs.{Tests.each_page, declared.calls.Call.{Call, TheVariants.Write}}
+use Rattle.vb_model.specs.declared.{calls.Claim.Claim, replies.Reply.Reply}
 
 pub length-zero_page : length zero_page ≡ page_size
 unfolding zero_page

@@ -3,19 +3,17 @@ use Rattle.std.proofs.Common.{Bool, List, [], cond, false, inl, inr, length, ref
 use Rattle.std.proofs.{Common.{zero, ℕ, ◌++◌, ◌∷◌, ◌≡◌, ◌⊎◌}, lemmas.Bool.{and_from, and_parts}}
 use Rattle.std.specs.{List.list_all, Prelude.{MatchOption, None, Option, Some, filter, nat_le}}
 use Rattle.std.specs.Prelude.{◌&&◌}
-use Rattle.vb_model.proofs.{PageSteps.can_be_given, Performed.Supplying, Tables.is_in-append}
-use Rattle.vb_model.proofs.Tables.{is_in-take, list_all-at, pages_where-passes}
-use Rattle.vb_model.specs.{Device.{has_frame, visited}, Driver.{AllFreePages, claim_refusal, given}}
-use Rattle.vb_model.specs.{Driver.{lowest_lent, stranded_first}, Guest.{Guest, all_backed}}
-use Rattle.vb_model.specs.Pages.{Block, blocks_below, is_aligned, is_free, is_lent, is_maximal}
-use Rattle.vb_model.specs.Pages.{is_stranded, is_whole, is_wholly_free, maximal_blocks, pages_of}
-use Rattle.vb_model.specs.{Pages.{pages_of_all, place_of, reported}, Refusals.Cause}
-use Rattle.vb_model.specs.Refusals.{first_refusal, inflate_count, reported_blocks, room}
-use Rattle.vb_model.specs.{Requests.{Inflating, Kind, Reporting_free}, Tests.{is_in, pages_where}}
-use Rattle.vb_model.specs.declared.{calls.Claim.Claim, places.Place.Place}
-use Rattle.vb_model.specs.declared.places.Place.TheVariants.{Free as FreePlace, Reserved, Stranded}
-use Rattle.vb_model.specs.declared.replies.{Refusal.Refusal, Reply.{Reply, TheVariants.Idle}}
-use Rattle.vb_model.specs.declared.replies.Reply.TheVariants.{Refused, Worked}
+use Rattle.vb_model.proofs.{PageSteps.can_be_given, Tables.{is_in-append, is_in-take, list_all-at}}
+use Rattle.vb_model.{proofs.Tables.pages_where-passes, specs.Device.{has_frame, visited}}
+use Rattle.vb_model.specs.{Driver.{AllFreePages, given, lowest_lent, stranded_first}, Guest.Guest}
+use Rattle.vb_model.specs.{Guest.all_backed, Pages.{Block, blocks_below, is_aligned, is_free}}
+use Rattle.vb_model.specs.Pages.{is_lent, is_maximal, is_stranded, is_whole, is_wholly_free}
+use Rattle.vb_model.specs.Pages.{maximal_blocks, pages_of, pages_of_all, place_of, reported}
+use Rattle.vb_model.specs.Refusals.{Cause, first_refusal, inflate_count, reported_blocks, room}
+use Rattle.vb_model.specs.{Requests.Kind, Tests.{is_in, pages_where}, declared.calls.Claim.Claim}
+use Rattle.vb_model.specs.declared.places.Place.{Place, TheVariants.{Free as FreePlace, Reserved}}
+use Rattle.vb_model.specs.declared.{places.Place.TheVariants.Stranded, replies.Reply.Reply}
+use Rattle.vb_model.specs.declared.replies.Reply.TheVariants.{Idle, Worked}
 
 -- ---- cases
 
@@ -23,16 +21,6 @@ pub match_cases : {X : Type 0} (o : Option X) (P : Type 0) (Q : X → Type 0) �
     → ((o ≡ None) × P) ⊎ ((x : X) × (o ≡ Some x) × Q x)
 match_cases None P Q h = inl (refl, h)
 match_cases (Some x) P Q h = inr (x, refl, h)
-
--- the claims were given and the rest was done, or nothing is changed
-pub supplying_cases : (pages : List ℕ) (g : Guest) (claims : List Claim) (reply : Reply)
-    (new : Guest) (Rest : Guest → Type 0) → Supplying pages g claims reply new Rest
-    → Rest (record g { frames = all_backed pages (given claims) g.frames })
-    ⊎ ((refusal : Refusal) × (reply ≡ Refused refusal) × (new ≡ g))
-supplying_cases pages g claims reply new Rest s = elim (match_cases (claim_refusal claims)
-    (Rest (record g { frames = all_backed pages (given claims) g.frames }))
-    (λ refusal. (reply ≡ Refused refusal)
-    × (new ≡ g)) s.1) [ inl p ↦ inl p.1 | inr q ↦ inr (q.0, q.2.0, q.2.1) ]
 
 -- ---- the pages of new requests
 
@@ -144,11 +132,3 @@ Idles g reply new = (reply ≡ Idle) × (new ≡ g)
 abbrev pub Visits : Kind → Guest → Reply → Guest → ℕ → Type 0
 Visits kind g reply new page =
     (reply ≡ Worked page (has_frame g page)) × (new ≡ visited kind page g)
-
-pub works_cases : (a b : Option ℕ) (g : Guest) (reply : Reply) (new : Guest)
-    → MatchOption a (MatchOption b (Idles g reply new) (Visits Reporting_free g reply new))
-    (Visits Inflating g reply new)
-    → Idles g reply new ⊎ ((kind : Kind) × (page : ℕ) × Visits kind g reply new page)
-works_cases None None g reply new s = inl s
-works_cases None (Some page) g reply new s = inr (Reporting_free, page, s)
-works_cases (Some page) b g reply new s = inr (Inflating, page, s)

@@ -23,12 +23,13 @@ use Rattle.vb_model.specs.Refusals.{oom_count, refusal_of, reported_blocks, room
 use Rattle.vb_model.specs.Requests.{BufferDone, BufferPosted, BufferTaken, Deflating, Inflating}
 use Rattle.vb_model.specs.Requests.{IsLeastHead, Kind, Reporting_free, Request, StatisticsBuffer}
 use Rattle.vb_model.specs.Requests.{kind_of_queue, names, naming, outstanding, queue_of}
-use Rattle.vb_model.specs.{Rogue.Scribbled, Step.HonestStep, Tests.{is_in, one_if, pages_where}}
-use Rattle.vb_model.specs.declared.calls.Call.{Call, TheVariants.{Alloc, Ask, Deflate, Finish}}
-use Rattle.vb_model.specs.declared.calls.Call.TheVariants.{Free, Inflate, Init, Oom, Read, Reap}
-use Rattle.vb_model.specs.declared.calls.Call.TheVariants.{Report, Reset, Scribble, SetTarget}
-use Rattle.vb_model.specs.declared.calls.Call.TheVariants.{Stats, Sweep, Take, Work, Write}
-use Rattle.vb_model.specs.declared.{calls.Claim.Claim, places.Place.{Place, TheVariants.Used}}
+use Rattle.vb_model.specs.{Rogue.Scribbled, Step.HonestStep, Tables.is_up, Tests.{is_in, one_if}}
+use Rattle.vb_model.specs.{Tests.pages_where, declared.calls.Call.{Call, TheVariants.{Alloc, Ask}}}
+use Rattle.vb_model.specs.declared.calls.Call.TheVariants.{Deflate, Finish, Free, Inflate, Init}
+use Rattle.vb_model.specs.declared.calls.Call.TheVariants.{Oom, Read, Reap, Report, Reset, Scribble}
+use Rattle.vb_model.specs.declared.calls.Call.TheVariants.{SetTarget, Stats, Sweep, Take, Work}
+use Rattle.vb_model.specs.declared.{calls.{Call.TheVariants.Write, Claim.Claim}, places.Place.Place}
+use Rattle.vb_model.specs.declared.places.Place.TheVariants.{Used}
 use Rattle.vb_model.specs.declared.replies.{LastStatistics.LastStatistics, Refusal.Refusal}
 use Rattle.vb_model.specs.declared.replies.{Refusal.TheVariants.NoMemory, Reply.Reply}
 use Rattle.vb_model.specs.declared.replies.Reply.TheVariants.{Done, Finished, Page, Posted, Reaped}
@@ -62,6 +63,7 @@ most Reporting_free g = 1
 -- a request of the kind may be posted with this head and these pages
 pub record IsPosting (call : Call) (kind : Kind) (head : ℕ) (pages : List ℕ) (g : Guest) :
     Type 0 where
+  pub up : is_up g.status ≡ true
   pub least : IsLeastHead (requests kind g) head
   pub room : outstanding (requests kind g) < most kind g
   pub there : (page : ℕ) → is_in page pages ≡ true → leaves kind (place_of g.places page) ≡ true
@@ -179,15 +181,15 @@ works call g claims reply new s = by g.config.paced s where
   by false s = Stayed (Needless (ap is_refused s.0)) s.1
   by true s = elim (match_cases (next_page g.inflate.taken) (MatchOption (next_page g.report.taken)
       (Idles g reply new) (Visits Reporting_free g reply new)) (Visits Inflating g reply new) s) [
-    | inr v ↦ Visited Inflating v.0 (next_page-named g.inflate.taken v.0 v.1) (λ e. cc)
-        v.2.0 v.2.1
-    | inl m ↦ elim (match_cases (next_page g.report.taken) (Idles g reply new)
-        (Visits Reporting_free g reply new) m.1) [
-      | inr v ↦ Visited Reporting_free v.0 (next_page-named g.report.taken v.0 v.1) (λ e. cc)
-          v.2.0 v.2.1
-      | inl i ↦ Stayed (Needless (ap is_refused i.1.0)) i.1.1
-    ]
-  ]
+        | inr v ↦ Visited Inflating v.0 (next_page-named g.inflate.taken v.0 v.1) (λ e. cc)
+            v.2.0 v.2.1
+        | inl m ↦ elim (match_cases (next_page g.report.taken) (Idles g reply new)
+            (Visits Reporting_free g reply new) m.1) [
+              | inr v ↦ Visited Reporting_free v.0 (next_page-named g.report.taken v.0 v.1) (λ e. cc)
+                  v.2.0 v.2.1
+              | inl i ↦ Stayed (Needless (ap is_refused i.1.0)) i.1.1
+            ]
+      ]
 
 -- the claims were given and the rest was done, or nothing is changed
 supplies : (P : Type 0) (call : Call) (g : Guest) (claims : List Claim) (reply : Reply) (new : Guest)
@@ -205,11 +207,12 @@ lent_length g count few = sym (length-take-le count (pages_where is_lent g.place
     (omega (arith, few, length-pages_where is_lent g.places)))
 
 asks_back : (count : ℕ) (call : Call) (g : Guest) (claims : List Claim) (reply : Reply) (new : Guest)
-    → posts_deflate call ≡ true → count ≤ count_by is_lent g.places
+    → posts_deflate call ≡ true → count ≤ count_by is_lent g.places → not (is_up g.status) ≡ false
     → nat_le (room g) (outstanding g.deflate) ≡ false → Deflates count g reply new
     → Deed call g claims reply new
-asks_back count call g claims reply new asks few now s =
+asks_back count call g claims reply new asks few up now s =
     Has_posted Deflating s.0 (lowest_lent count g) (record {
+      up = not-false _ up;
       least = s.1;
       room = leb-false _ _ now;
       there = λ page k. lent_pages g count page k;
@@ -236,6 +239,7 @@ performed (Read page offset len) g claims reply new e s = elim s.1.0 [
 ]
 performed (Inflate n) g claims reply new e s = let t = not_refused (causes g (Inflate n)) e in
     Has_posted Inflating s.1.4.0 (stranded_first g n ++ s.1.0) (record {
+      up = not-false _ t.0;
       least = s.1.4.1;
       room = leb-false _ _ t.1.0;
       there = λ page k. inflated_pages g n s.1.0 page s.1.1 k;
@@ -244,12 +248,13 @@ performed (Inflate n) g claims reply new e s = let t = not_refused (causes g (In
       back = λ e. cc;
     }) (s.1.4.2 ∙ ap (Posted s.1.4.0)
     (omega (arith, s.1.3, length-append (stranded_first g n) s.1.0))) s.1.4.3
-performed (Deflate n) g claims reply new e s = asks_back (deflate_count g n) _ g claims reply new
-    refl (omega arith) (not_refused (causes g (Deflate n)) e).1.1.0 s.1
-performed (Oom n) g claims reply new e s = asks_back (oom_count g n) _ g claims reply new refl
-    (omega arith) (not_refused (causes g (Oom n)) e).1.1.0 s.1
+performed (Deflate n) g claims reply new e s = let t = not_refused (causes g (Deflate n)) e in
+    asks_back (deflate_count g n) _ g claims reply new refl (omega arith) t.0 t.1.1.0 s.1
+performed (Oom n) g claims reply new e s = let t = not_refused (causes g (Oom n)) e in
+    asks_back (oom_count g n) _ g claims reply new refl (omega arith) t.0 t.1.1.0 s.1
 performed (Report from) g claims reply new e s = let t = not_refused (causes g (Report from)) e in
     Has_posted Reporting_free s.1.0 (pages_of_all (reported_blocks g from)) (record {
+      up = not-false _ t.0;
       least = s.1.1;
       room = leb-false _ _ t.1.1.0;
       there = λ page k. reported_pages g from page k;

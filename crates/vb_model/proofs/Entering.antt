@@ -3,7 +3,7 @@ use Rattle.std.proofs.Common.{Bool, List, [], ap, arith, cond, false, inl, inr, 
 use Rattle.std.proofs.Common.{suc, sym, true, ℕ, ◌<◌, ◌∙◌, ◌∷◌, ◌≡◌, ◌≤◌, ◌⊎◌}
 use Rattle.std.{proofs.lemmas.Bool.eqb-true, specs.Prelude.{MatchBool, None, Option, Some}}
 use Rattle.std.specs.Prelude.{slice_get, ◌==◌, ◌||◌}
-use Rattle.vb_model.proofs.{CallSteps.match_cases, Frames.{backed_cases, frames_of, unbacked_loses}}
+use Rattle.vb_model.proofs.{Cases.match_cases, Frames.{backed_cases, frames_of, unbacked_loses}}
 use Rattle.vb_model.proofs.Outcomes.{Begun, Cleared, Emptied, Outcome, Put, Retargeted, Shuffled}
 use Rattle.vb_model.proofs.{Outcomes.{Turned, outcome}, Wanting.{claims_needed, refused_claims}}
 use Rattle.vb_model.specs.{Driver.{AreClaimsFor, claim_refusal, given, pages_needed}, Guest.Guest}

@@ -1,8 +1,9 @@
 -- A refusal changes nothing, but for an initialisation whose features are refused.
+pub use Rattle.vb_model.proofs.Deeds.{is_refused}
 use Rattle.std.proofs.Common.{Bool, List, [], ap, false, inl, inr, refl, subst, sym, ℕ, ◌∙◌, ◌∷◌}
 use Rattle.std.{proofs.Common.◌≡◌, specs.Prelude.{None, Option, Some}}
-use Rattle.vb_model.proofs.{CallSteps.{match_cases, supplied}, Deeds.{Aimed, Allocated, Buffered}}
-use Rattle.vb_model.proofs.Deeds.{Deed, Freed, Has_finished, Has_posted, Has_reaped, Has_scribbled}
+use Rattle.vb_model.proofs.{Cases.{match_cases, supplied}, Deeds.{Aimed, Allocated, Buffered, Deed}}
+use Rattle.vb_model.proofs.Deeds.{Freed, Has_finished, Has_posted, Has_reaped, Has_scribbled}
 use Rattle.vb_model.proofs.Deeds.{Has_swept, Has_taken, Has_written, Initialised, Stayed, Visited}
 use Rattle.vb_model.{proofs.Deeds.{Was_reset, deed, is_refused}, specs.Guest.Guest}
 use Rattle.vb_model.specs.{HostEvents.{Happens, PlugsIn}, HostRefusals.world_causes}
@@ -16,8 +17,6 @@ use Rattle.vb_model.specs.declared.calls.Event.TheVariants.{Guest as OnGuest, Pl
 use Rattle.vb_model.specs.declared.calls.Event.TheVariants.{Query as OnQuery, Restart, Unplug}
 use Rattle.vb_model.specs.declared.replies.{Refusal.Refusal, Reply.{Reply, TheVariants.Done}}
 use Rattle.vb_model.specs.declared.replies.Reply.TheVariants.{Refused}
-
-pub use Rattle.vb_model.proofs.Deeds.{is_refused}
 
 pub not_this : {A : Type 0} (refusal : Refusal) (reply : Reply) → Refused refusal ≡ reply
     → is_refused reply ≡ false → A
