@@ -1,6 +1,7 @@
 -- Which events may find no memory, and that nothing is changed then.
 use Rattle.std.proofs.Common.{Bool, List, [], ap, false, inl, inr, refl, suc, sym, true, zero, ℕ}
-use Rattle.std.{proofs.Common.{◌∙◌, ◌∷◌, ◌≡◌, ◌⊎◌}, specs.Prelude.{Option, Some, not, ◌||◌}}
+use Rattle.std.proofs.{Common.{◌∙◌, ◌∷◌, ◌≡◌, ◌⊎◌}, lemmas.Bool.{or_left, or_right}}
+use Rattle.std.specs.Prelude.{Option, Some, not, ◌||◌}
 use Rattle.vb_model.proofs.{Cases.match_cases, Changes.{Balanced, Comes_up_short, Sets}}
 use Rattle.vb_model.proofs.{Changes.balance_cases, Wanting.{claims_needed, no_memory_exact}}
 use Rattle.vb_model.proofs.Wanting.{no_want, none_wants, refused_otherwise, wants}
@@ -37,14 +38,6 @@ some_needed [] [] a e = absurd cc
 some_needed [] (claim ∷ claims) a e = absurd (let none : claim ∷ claims ≡ [] = a in cc)
 some_needed (page ∷ pages) claims a e = refl
 
-or_second : (a b : Bool) → b ≡ true → (a || b) ≡ true
-or_second true b e = refl
-or_second false b e = e
-
-or_first : (a b : Bool) → a ≡ true → (a || b) ≡ true
-or_first true b e = refl
-or_first false b e = absurd cc
-
 calls_want : (n : ℕ) (call : Call) (g : Guest) (w v : World) → guest_at w.guests n ≡ Some g
     → Calls n g w call (Refused NoMemory) v
     → (call_may_want (guest_at w.guests n) call ≡ true) × (v ≡ w)
@@ -55,9 +48,9 @@ calls_want n call g w v here s = let exact = no_memory_exact g call s.0 s.1 s.3 
 ) where
   may : (claim_refusal s.0 ≡ Some NoMemory) ⊎ (is_read call ≡ true)
       → (is_read call || not (is_none_of (pages_to_back call g))) ≡ true
-  may (inl e) = or_second (is_read call) (not (is_none_of (pages_to_back call g))) (some_needed
+  may (inl e) = or_right (is_read call) (not (is_none_of (pages_to_back call g))) (some_needed
       (pages_to_back call g) s.0 (claims_needed g call s.0 (Refused NoMemory) s.1 s.3) e)
-  may (inr read) = or_first (is_read call) (not (is_none_of (pages_to_back call g))) read
+  may (inr read) = or_left (is_read call) (not (is_none_of (pages_to_back call g))) read
 
 -- ---- a question
 

@@ -1,8 +1,8 @@
 -- Which calls claim frames, and what a refusal for want of frames or of memory means.
 use Rattle.std.proofs.Common.{Bool, List, [], ap, arith, cond, false, inl, inr, length, refl, sym}
 use Rattle.std.proofs.{Common.{true, ℕ, ◌<◌, ◌∙◌, ◌∷◌, ◌≡◌, ◌⊎◌}, lemmas.Bool.{eq-eqb, not-true}}
-use Rattle.std.specs.{List.list_all, Prelude.{MatchBool, None, Option, Some, is_none, not, ◌&&◌}}
-use Rattle.std.specs.Prelude.{◌==◌, ◌||◌}
+use Rattle.std.{proofs.lemmas.Bool.{or_left, or_right}, specs.{List.list_all, Prelude.MatchBool}}
+use Rattle.std.specs.Prelude.{None, Option, Some, is_none, not, ◌&&◌, ◌==◌, ◌||◌}
 use Rattle.vb_model.proofs.{Cases.{all_filtered, match_cases}, Performed.{Performed, honest_case}}
 use Rattle.vb_model.{proofs.Tables.list_all-at, specs.Driver.{AreClaimsFor, claim_refusal}}
 use Rattle.vb_model.specs.{Driver.pages_needed, Guest.{Guest, frame_of}, HostFrames.Gives}
@@ -19,14 +19,6 @@ use Rattle.vb_model.specs.declared.calls.{Call.TheVariants.Write, Claim.{Claim, 
 use Rattle.vb_model.specs.declared.calls.Claim.TheVariants.{GaveNoFrame, GaveNoMemory}
 use Rattle.vb_model.specs.declared.replies.Refusal.{Refusal, TheVariants.{NoFrame, NoMemory}}
 use Rattle.vb_model.specs.declared.replies.Reply.{Reply, TheVariants.Refused}
-
-or_first : (v b : Bool) → v ≡ true → (v || b) ≡ true
-or_first true b e = refl
-or_first false b e = absurd cc
-
-or_later : (v b : Bool) → b ≡ true → (v || b) ≡ true
-or_later true b e = refl
-or_later false b e = e
 
 -- ---- claims
 
@@ -117,8 +109,8 @@ want frames Out (page ∷ pages) (Gave f ∷ claims) gives a r =
     later : (x : ℕ) (got : List ℕ) → (Out x ⊎ (x ≡ f)) ⊎ (is_in x got ≡ true)
         → Out x ⊎ ((f == x || is_in x got) ≡ true)
     later x got (inl (inl o)) = inl o
-    later x got (inl (inr e)) = inr (or_first (f == x) (is_in x got) (eq-eqb f x (sym e)))
-    later x got (inr k) = inr (or_later (f == x) (is_in x got) k)
+    later x got (inl (inr e)) = inr (or_left (f == x) (is_in x got) (eq-eqb f x (sym e)))
+    later x got (inr k) = inr (or_right (f == x) (is_in x got) k)
 
 -- a reply that is a refusal for want of a frame, or of memory
 abbrev pub is_want : Refusal → Bool
