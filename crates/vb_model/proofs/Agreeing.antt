@@ -1,23 +1,23 @@
 -- Two steps of an honest guest by one call, with the same claims, agree.
-use Rattle.std.proofs.Common.{◌≡◌, ℕ, ◌<◌, List, [], ◌∷◌, ◌++◌, sym, ap, ◌∙◌, inl, inr, arith}
-use Rattle.std.specs.Prelude.{Option, Some, None, MatchOption, if◌then◌else◌}
-use Rattle.std.proofs.lemmas.Bool.{cases_lt}
-use Rattle.vb_model.proofs.{CallSteps.supplied, Performed.{Performed, Supplying, honest_case}}
-use Rattle.vb_model.specs.{Determined.Agree, Device.{TakesRequest, TakesBuffer, Works, Finishes}}
-use Rattle.vb_model.specs.{Device.{ReturnsBuffer, next_page}, Driver.{claim_refusal, after_posting}}
-use Rattle.vb_model.specs.Driver.{stranded_first, Deflates, Reports, Reaps, Fills, Written}
-use Rattle.vb_model.specs.{Driver.pages_needed, Guest.{Guest, requests}, Life.feature_refusal}
-use Rattle.vb_model.specs.{Life.{Negotiates, lacking}, Refusals.{refusal_of, inflate_count}}
-use Rattle.vb_model.specs.{Refusals.{deflate_count, oom_count}, Requests.{Request, Requests}}
-use Rattle.vb_model.specs.Requests.{all_requests, headed, IsLeastHead, Kind, Inflating}
-use Rattle.vb_model.specs.Requests.{kind_of_queue, StatisticsBuffer, NoBuffer}
-use Rattle.vb_model.specs.{Requests.BufferTaken, Rogue.Scribbled, Step.HonestStep}
-use Rattle.vb_model.specs.declared.calls.Call.{Call, TheVariants.{Init, Reset, Alloc, Free, Read}}
-use Rattle.vb_model.specs.declared.calls.Call.TheVariants.{Write, Scribble, Inflate, Deflate, Oom}
-use Rattle.vb_model.specs.declared.calls.Call.TheVariants.{Report, Stats, Reap, Take, Work, Finish}
-use Rattle.vb_model.specs.declared.calls.{Call.TheVariants.{Sweep, Ask, SetTarget}, Claim.Claim}
-use Rattle.vb_model.specs.declared.replies.{Refusal.Refusal, Reply.Reply}
-use Rattle.vb_model.specs.declared.replies.Reply.TheVariants.{Posted, Refused}
+use Rattle.std.proofs.Common.{List, [], ap, arith, inl, inr, sym, ℕ, ◌++◌, ◌<◌, ◌∙◌, ◌∷◌, ◌≡◌}
+use Rattle.std.{proofs.lemmas.Bool.cases_lt, specs.Prelude.{MatchOption, None, Option, Some}}
+use Rattle.std.specs.Prelude.{if◌then◌else◌}
+use Rattle.vb_model.proofs.{Cases.supplied, Performed.{Performed, Supplying, honest_case}}
+use Rattle.vb_model.specs.{Determined.Agree, Device.{Finishes, ReturnsBuffer, TakesBuffer}}
+use Rattle.vb_model.specs.{Device.{TakesRequest, Works, next_page}, Driver.{Deflates, Fills, Reaps}}
+use Rattle.vb_model.specs.Driver.{Reports, Written, after_posting, claim_refusal, pages_needed}
+use Rattle.vb_model.specs.{Driver.stranded_first, Guest.{Guest, requests}, Life.Negotiates}
+use Rattle.vb_model.specs.{Life.{feature_refusal, lacking}, Refusals.{deflate_count, inflate_count}}
+use Rattle.vb_model.specs.{Refusals.{oom_count, refusal_of}, Requests.{BufferTaken, Inflating}}
+use Rattle.vb_model.specs.Requests.{IsLeastHead, Kind, NoBuffer, Request, Requests}
+use Rattle.vb_model.specs.Requests.{StatisticsBuffer, all_requests, headed, kind_of_queue}
+use Rattle.vb_model.specs.{Rogue.Scribbled, Step.HonestStep, declared.calls.Call.Call}
+use Rattle.vb_model.specs.declared.calls.Call.TheVariants.{Alloc, Ask, Deflate, Finish, Free}
+use Rattle.vb_model.specs.declared.calls.Call.TheVariants.{Inflate, Init, Oom, Read, Reap, Report}
+use Rattle.vb_model.specs.declared.calls.Call.TheVariants.{Reset, Scribble, SetTarget, Stats, Sweep}
+use Rattle.vb_model.specs.declared.calls.{Call.TheVariants.{Take, Work, Write}, Claim.Claim}
+use Rattle.vb_model.specs.declared.replies.{Refusal.Refusal, Reply.{Reply, TheVariants.Posted}}
+use Rattle.vb_model.specs.declared.replies.Reply.TheVariants.{Refused}
 
 -- ---- two choices of one case
 

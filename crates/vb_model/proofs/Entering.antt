@@ -1,25 +1,21 @@
 -- Frames enter by the claims for their pages alone; and where too few are left, the call is refused.
-use Rattle.std.proofs.Common.{◌≡◌, ℕ, suc, ◌<◌, ◌≤◌, Bool, true, false, cond, List, [], ◌∷◌, length}
-use Rattle.std.proofs.Common.{refl, sym, ap, subst, ◌∙◌, ◌⊎◌, inl, inr, arith}
-use Rattle.std.specs.Prelude.{◌==◌, ◌||◌, Option, Some, None, MatchBool, slice_get}
-use Rattle.std.proofs.lemmas.Bool.{eqb-true}
-use Rattle.vb_model.proofs.{CallSteps.match_cases, Frames.{backed_cases, honest_move}}
-use Rattle.vb_model.proofs.{Frames.negotiates_frames, Performed.{Performed, Supplying, honest_case}}
-use Rattle.vb_model.{proofs.Wanting.{claims_needed, refused_claims}, specs.Driver.given}
-use Rattle.vb_model.specs.{Driver.{claim_refusal, AreClaimsFor, Written, pages_needed}, Guest.Guest}
-use Rattle.vb_model.specs.{Guest.{frame_of, backed, all_backed}, HostFrames.{Gives, IsOut}}
-use Rattle.vb_model.specs.{Life.{feature_refusal, Negotiates, lacking}, Refusals.refusal_of}
-use Rattle.vb_model.specs.Rogue.{LosesFrames, RogueStep, Scribbled, unless_refused, pages_to_back}
-use Rattle.vb_model.specs.{Rogue.GuestStep, Step.HonestStep, StepLaws.IsGiven}
-use Rattle.vb_model.specs.StepLaws.{FramesEnterByClaims, WantOfFrames, WantIsAnswered}
-use Rattle.vb_model.specs.{Tests.is_in, World.World, declared.calls.Call.Call}
-use Rattle.vb_model.specs.declared.calls.Call.TheVariants.{Init, Reset, Alloc, Free, Read, Write}
-use Rattle.vb_model.specs.declared.calls.Call.TheVariants.{Scribble, Inflate, Deflate, Oom, Report}
-use Rattle.vb_model.specs.declared.calls.Call.TheVariants.{Stats, Reap, Take, Work, Finish, Sweep}
-use Rattle.vb_model.specs.declared.calls.{Call.TheVariants.{Ask, SetTarget}, Claim.Claim}
-use Rattle.vb_model.specs.declared.calls.Claim.TheVariants.{Gave, GaveNoFrame, GaveNoMemory}
-use Rattle.vb_model.specs.declared.replies.Refusal.{Refusal, TheVariants.{NoFrame, NoMemory}}
-use Rattle.vb_model.specs.declared.replies.Reply.{Reply, TheVariants.Refused}
+use Rattle.std.proofs.Common.{Bool, List, [], ap, arith, cond, false, inl, inr, length, refl, subst}
+use Rattle.std.proofs.Common.{suc, sym, true, ℕ, ◌<◌, ◌∙◌, ◌∷◌, ◌≡◌, ◌≤◌, ◌⊎◌}
+use Rattle.std.{proofs.lemmas.Bool.eqb-true, specs.Prelude.{MatchBool, None, Option, Some}}
+use Rattle.std.specs.Prelude.{slice_get, ◌==◌, ◌||◌}
+use Rattle.vb_model.proofs.{Cases.match_cases, Frames.{backed_cases, frames_of, unbacked_loses}}
+use Rattle.vb_model.proofs.Outcomes.{Begun, Cleared, Emptied, Outcome, Put, Retargeted, Shuffled}
+use Rattle.vb_model.proofs.{Outcomes.{Turned, outcome}, Wanting.{claims_needed, refused_claims}}
+use Rattle.vb_model.specs.{Driver.{AreClaimsFor, claim_refusal, given, pages_needed}, Guest.Guest}
+use Rattle.vb_model.specs.{Guest.{all_backed, backed, frame_of}, HostFrames.{Gives, IsOut}}
+use Rattle.vb_model.specs.{Life.lacking, Refusals.refusal_of, Rogue.{GuestStep, LosesFrames}}
+use Rattle.vb_model.specs.{Rogue.{RogueStep, pages_to_back, unless_refused}, Step.HonestStep}
+use Rattle.vb_model.specs.{Step.bare_pages, StepLaws.{FramesEnterByClaims, IsGiven, WantIsAnswered}}
+use Rattle.vb_model.specs.{StepLaws.WantOfFrames, Tests.is_in, World.World}
+use Rattle.vb_model.specs.declared.calls.{Call.Call, Claim.{Claim, TheVariants.{Gave, GaveNoFrame}}}
+use Rattle.vb_model.specs.declared.{calls.Claim.TheVariants.GaveNoMemory, replies.Refusal.Refusal}
+use Rattle.vb_model.specs.declared.replies.{Refusal.TheVariants.{NoFrame, NoMemory}, Reply.Reply}
+use Rattle.vb_model.specs.declared.replies.Reply.TheVariants.{Refused}
 
 -- ---- frames enter by claims
 
@@ -58,68 +54,38 @@ kept : (pages : List ℕ) (claims : List Claim) (g new : Guest) (page frame : �
 kept pages claims g new page frame same h =
     inl (subst (λ (frames : List (Option ℕ)). frame_of frames page ≡ Some frame) same h)
 
-supplies : (pages : List ℕ) (g : Guest) (claims : List Claim) (reply : Reply) (new : Guest)
-    (Rest : Guest → Type 0) (page frame : ℕ) → Supplying pages g claims reply new Rest
-    → ((s : Guest) → Rest s → new.frames ≡ s.frames) → frame_of new.frames page ≡ Some frame
-    → Entered g pages claims page frame
-supplies pages g claims reply new Rest page frame s rest h = grind (arith, backed_at)
-
--- a call that claims none
-none : (call : Call) (g : Guest) (claims : List Claim) (reply : Reply) (new : Guest) (page frame : ℕ)
-    → HonestStep g call claims reply new → claims ≡ [] → frame_of new.frames page ≡ Some frame
-    → (pages : List ℕ) → Entered g pages claims page frame
-none call g claims reply new page frame s e h pages = grind (arith, honest_move, backed_at)
-
-performs : (call : Call) (g : Guest) (claims : List Claim) (reply : Reply) (new : Guest)
-    (page frame : ℕ) → HonestStep g call claims reply new → refusal_of g call ≡ None
-    → Performed call g claims reply new → frame_of new.frames page ≡ Some frame
+-- the claims of a call that isn't refused were for these pages
+by_claims : (call : Call) (g : Guest) (claims : List Claim) (pages : List ℕ) (new : Guest)
+    (page frame : ℕ) → bare_pages call g ≡ pages → refusal_of g call ≡ None
+    → new.frames ≡ all_backed pages (given claims) g.frames → frame_of new.frames page ≡ Some frame
     → Entered g (pages_to_back call g) claims page frame
-performs (Init wanted) g claims reply new page frame step e s h =
-    subst (λ o. Entered g (unless_refused o (lacking g)) claims page frame) (sym e)
-    (supplies (lacking g) g claims reply new
-    (λ m. Negotiates (feature_refusal wanted) wanted m reply new) page frame s
-    (λ m rest. negotiates_frames (feature_refusal wanted) wanted m reply new rest) h)
-performs (Write p offset bytes) g claims reply new page frame step e s h =
-    subst (λ o. Entered g (unless_refused o (pages_needed p bytes g)) claims page frame) (sym e)
-    (supplies (pages_needed p bytes g) g claims reply new
-    (λ m. Written p offset bytes m reply new) page frame s
-    (λ m rest. ap (λ (x : Guest). x.frames) rest.1) h)
-performs (Scribble p offset bytes) g claims reply new page frame step e s h =
-    subst (λ o. Entered g (unless_refused o (pages_needed p bytes g)) claims page frame) (sym e)
-    (supplies (pages_needed p bytes g) g claims reply new (λ m. Scribbled m reply new) page frame s
-    (λ m rest. ap (λ (x : Guest). x.frames) rest.memory) h)
-performs (SetTarget n) g claims reply new page frame step e s h =
-    none (SetTarget n) g claims reply new page frame step s.0 h (pages_to_back (SetTarget n) g)
-performs Reset g claims reply new page frame step e s h =
-    none Reset g claims reply new page frame step s.0 h (pages_to_back Reset g)
-performs (Alloc cpu order) g claims reply new page frame step e s h =
-    none (Alloc cpu order) g claims reply new page frame step s.0 h (pages_to_back (Alloc cpu order) g)
-performs (Free cpu start order) g claims reply new page frame step e s h =
-    none (Free cpu start order) g claims reply new page frame step s.0 h (pages_to_back (Free cpu start order) g)
-performs (Read p offset len) g claims reply new page frame step e s h =
-    none (Read p offset len) g claims reply new page frame step s.0 h (pages_to_back (Read p offset len) g)
-performs (Inflate n) g claims reply new page frame step e s h =
-    none (Inflate n) g claims reply new page frame step s.0 h (pages_to_back (Inflate n) g)
-performs (Deflate n) g claims reply new page frame step e s h =
-    none (Deflate n) g claims reply new page frame step s.0 h (pages_to_back (Deflate n) g)
-performs (Oom n) g claims reply new page frame step e s h =
-    none (Oom n) g claims reply new page frame step s.0 h (pages_to_back (Oom n) g)
-performs (Report from) g claims reply new page frame step e s h =
-    none (Report from) g claims reply new page frame step s.0 h (pages_to_back (Report from) g)
-performs Stats g claims reply new page frame step e s h =
-    none Stats g claims reply new page frame step s.0 h (pages_to_back Stats g)
-performs (Reap q) g claims reply new page frame step e s h =
-    none (Reap q) g claims reply new page frame step s.0 h (pages_to_back (Reap q) g)
-performs (Take q) g claims reply new page frame step e s h =
-    none (Take q) g claims reply new page frame step s.0 h (pages_to_back (Take q) g)
-performs Work g claims reply new page frame step e s h =
-    none Work g claims reply new page frame step s.0 h (pages_to_back Work g)
-performs (Finish q i) g claims reply new page frame step e s h =
-    none (Finish q i) g claims reply new page frame step s.0 h (pages_to_back (Finish q i) g)
-performs (Sweep p) g claims reply new page frame step e s h =
-    none (Sweep p) g claims reply new page frame step s.0 h (pages_to_back (Sweep p) g)
-performs Ask g claims reply new page frame step e s h =
-    none Ask g claims reply new page frame step s.0 h (pages_to_back Ask g)
+by_claims call g claims pages new page frame are passed e h =
+    subst (λ o. Entered g (unless_refused o (bare_pages call g)) claims page frame) (sym passed)
+    (subst (λ ps. Entered g ps claims page frame) (sym are)
+    (backed_at pages (given claims) g.frames page frame
+    (subst (λ (frames : List (Option ℕ)). frame_of frames page ≡ Some frame) e h)))
+
+entered : (call : Call) (g : Guest) (claims : List Claim) (reply : Reply) (new : Guest)
+    (page frame : ℕ) → Outcome call g claims reply new → frame_of new.frames page ≡ Some frame
+    → Entered g (pages_to_back call g) claims page frame
+entered call g claims reply new page frame (Shuffled e) h =
+    kept (pages_to_back call g) claims g new page frame (ap frames_of e) h
+entered call g claims reply new page frame (Emptied pages why e) h =
+    inl (unbacked_loses pages g.frames page frame
+    (subst (λ (frames : List (Option ℕ)). frame_of frames page ≡ Some frame) (ap frames_of e) h))
+entered call g claims reply new page frame (Retargeted n is e) h =
+    kept (pages_to_back call g) claims g new page frame (ap frames_of e) h
+entered call g claims reply new page frame (Cleared e) h =
+    kept (pages_to_back call g) claims g new page frame (ap frames_of e) h
+entered call g claims reply new page frame (Begun wanted is passed e) h =
+    by_claims call g claims (lacking g) new page frame (ap (λ (c : Call). bare_pages c g) is) passed
+    (ap frames_of e) h
+entered call g claims reply new page frame (Put p offset bytes is passed are none w) h =
+    by_claims call g claims (pages_needed p bytes g) new page frame
+    (ap (λ (c : Call). bare_pages c g) is) passed (ap frames_of w.1) h
+entered call g claims reply new page frame (Turned p offset bytes is passed s) h =
+    by_claims call g claims (pages_needed p bytes g) new page frame
+    (ap (λ (c : Call). bare_pages c g) is) passed (ap frames_of s.memory) h
 
 pub frames_enter : FramesEnterByClaims
 frames_enter g call claims reply new s page frame h = cases g.rogue s where
@@ -132,12 +98,7 @@ frames_enter g call claims reply new s page frame h = cases g.rogue s where
         | inr m ↦ kept (pages_to_back call g) claims g new page frame m.2.1 h
       ]
   cases false p =
-      elim (match_cases (refusal_of g call) (Performed call g claims reply new)
-      (λ refusal. (claims ≡ []) × (reply ≡ Refused refusal) × (new ≡ g)) (honest_case g call claims reply new p)) [
-        | inl d ↦ performs call g claims reply new page frame p d.0 d.1 h
-        | inr r ↦ kept (pages_to_back call g) claims g new page frame
-            (ap (λ (x : Guest). x.frames) r.2.2) h
-      ]
+      entered call g claims reply new page frame (outcome g call claims reply new p) h
 
 -- ---- where too few frames are left, the call is refused
 

@@ -1,112 +1,86 @@
 -- What one event does to a guest: others, targets, configurations, frames that go back.
-use Rattle.std.proofs.Common.{◌≡◌, ◌≢◌, ℕ, Bool, true, false, List, refl, sym, ap, subst, ◌∙◌, ◌⊎◌}
-use Rattle.std.{proofs.Common.{inl, inr}, specs.Prelude.{Option, Some, None, MatchBool}}
-use Rattle.std.proofs.lemmas.Bool.{cases_eq}
-use Rattle.vb_model.proofs.Alone.{Own, Nothing_happens, Own_call, New_target, next, scribbled_rogue}
-use Rattle.vb_model.proofs.{CallSteps.match_cases, Changes.{with_guest-same, same_some, no_frames}}
-use Rattle.vb_model.{proofs.Unchanged.{IsScribble, MayBeRogue, step_keeps}, specs.Guest.Guest}
-use Rattle.vb_model.specs.{Guest.frame_of, HostEvents.{WorldStep, Happens}}
-use Rattle.vb_model.specs.{HostRefusals.world_causes, Life.after_restart, Refusals.first_refusal}
-use Rattle.vb_model.specs.Rogue.{IsRogueAfter, RogueStep, target_after, GuestStep}
-use Rattle.vb_model.specs.{Step.HonestStep, StepLaws.{OthersAreUntouched, TargetsAreKept}}
-use Rattle.vb_model.specs.StepLaws.{TargetsAreSet, ConfigurationsAreKept, FramesGoBack}
-use Rattle.vb_model.specs.StepLaws.{RestartedAreHonest, RoguesAreMade, RoguesStay}
-use Rattle.vb_model.specs.{StepLaws.ScribblesMakeRogues, World.{World, guest_at, with_guest}}
-use Rattle.vb_model.specs.{World.put_guest, declared.calls.Call.Call}
+use Rattle.std.proofs.Common.{Bool, List, ap, false, inl, inr, refl, replicate, subst, sym, true, ℕ}
+use Rattle.std.{proofs.{Common.{◌∙◌, ◌≡◌, ◌≢◌, ◌⊎◌}, lemmas.Bool.eq-eqb}, specs.Prelude.MatchBool}
+use Rattle.std.specs.Prelude.{None, Option, Some}
+use Rattle.vb_model.proofs.Alone.{New_target, Nothing_happens, Own, Own_call, scribbled_rogue}
+use Rattle.vb_model.proofs.Changes.{Effect, Has_called, Is_aimed, Is_gone, Is_new, Is_plugged, Same}
+use Rattle.vb_model.proofs.{Changes.{effect, no_frames, same_some, touches}, Unchanged.IsScribble}
+use Rattle.vb_model.{proofs.Unchanged.{MayBeRogue, step_keeps}, specs.Guest.{Guest, frame_of}}
+use Rattle.vb_model.specs.{Guest.fresh, Life.after_restart, Rogue.{GuestStep, IsRogueAfter}}
+use Rattle.vb_model.specs.{Rogue.{RogueStep, target_after}, Step.HonestStep}
+use Rattle.vb_model.specs.StepLaws.{ConfigurationsAreKept, Follows, FramesGoBack}
+use Rattle.vb_model.specs.StepLaws.{OthersAreUntouched, RestartedAreHonest, RoguesAreMade}
+use Rattle.vb_model.specs.StepLaws.{RoguesStay, ScribblesMakeRogues, TargetsAreKept, TargetsAreSet}
+use Rattle.vb_model.specs.{World.{World, guest_at}, declared.calls.Call.Call}
 use Rattle.vb_model.specs.declared.calls.{Call.TheVariants.{Scribble, SetTarget}, Claim.Claim}
-use Rattle.vb_model.specs.declared.{calls.Event.Event, replies.Refusal.Refusal, replies.Reply.Reply}
-use Rattle.vb_model.specs.declared.replies.Reply.TheVariants.{Done, Refused}
-use Rattle.vb_model.specs.declared.calls.Event.TheVariants.{Unplug, Restart, Guest as OnGuest}
-use Rattle.vb_model.specs.declared.calls.Event.TheVariants.{Balance}
+use Rattle.vb_model.specs.declared.calls.Event.{Event, TheVariants.{Balance, Guest as OnGuest}}
+use Rattle.vb_model.specs.declared.{calls.Event.TheVariants.{Restart, Unplug}, replies.Reply.Reply}
+use Rattle.vb_model.specs.declared.replies.Reply.TheVariants.{Done}
 
 -- ---- what becomes of a guest
 
--- it goes its own way, begins a new life, or is gone
-data Fate (w : World) (event : Event) (reply : Reply) (v : World) (n : ℕ) (g : Guest) : Type 0 where
-  Goes_on : (new : Guest) → guest_at v.guests n ≡ Some new → Own n w event reply g new
-      → Fate w event reply v n g
-  Begins_anew : event ≡ Restart n → guest_at v.guests n ≡ Some (after_restart g)
-      → Fate w event reply v n g
-  Is_gone : event ≡ Unplug n → guest_at v.guests n ≡ None → Fate w event reply v n g
+-- it goes its own way, or begins a new life
+data Fate (w : World) (event : Event) (reply : Reply) (n : ℕ) (old new : Guest) : Type 0 where
+  Goes_on : Own n w event reply old new → Fate w event reply n old new
+  Begins_anew : event ≡ Restart n → new ≡ after_restart old → Fate w event reply n old new
 
-goes_on : (w : World) (event : Event) (reply : Reply) (v : World) (n : ℕ) (g : Guest)
-    → guest_at w.guests n ≡ Some g → event ≢ Restart n → event ≢ Unplug n
-    → WorldStep w event reply v → Fate w event reply v n g
-goes_on w event reply v n g here nr nu s = let m = next event w n reply g v here nr nu s in
-    Goes_on m.new m.there m.own
+aimed : (g new : Guest) (target : ℕ) → new ≡ record g { target = target }
+    → new ≡ record g { target = new.target }
+aimed g new target e = e ∙ ap (λ (t : ℕ). record g { target = t }) (sym (ap (λ (x : Guest). x.target) e))
 
--- guest n is there, so the event isn't refused
-not_missing : (w : World) (n m : ℕ) (g : Guest) (refusal : Refusal) → guest_at w.guests n ≡ Some g
-    → m ≡ n → first_refusal (world_causes w (Unplug m)) ≡ Some refusal → ⊥
-not_missing w n m g refusal here e r = cc
+fate : (w : World) (event : Event) (reply : Reply) (v : World) (n : ℕ) (old new : Guest)
+    → Follows w event reply v n old new → Fate w event reply n old new
+fate w event reply v n old new f = by (effect w event reply v n f.step) where
+  same : (x : Guest) → guest_at v.guests n ≡ Some x → x ≡ new
+  same x there = same_some x new (sym there ∙ f.after)
 
-restarted : (w : World) (m n : ℕ) (reply : Reply) (v : World) (g : Guest)
-    → guest_at w.guests n ≡ Some g → m ≡ n → WorldStep w (Restart m) reply v
-    → guest_at v.guests n ≡ Some (after_restart g)
-restarted w m n reply v g here e s = elim (match_cases (first_refusal (world_causes w (Restart m)))
-    (Happens (Restart m) w reply v) (λ refusal. (reply ≡ Refused refusal) × (v ≡ w)) s) [
-      | inr r ↦ absurd (not_missing w n m g r.0 here e r.1)
-      | inl p ↦ elim (match_cases (guest_at w.guests m) ⊥
-          (λ g. (reply ≡ Done) × (v ≡ put_guest m (Some (after_restart g)) w)) p.1) [
-            | inl none ↦ absurd none.1
-            | inr k ↦
-                let same : k.0 ≡ g = same_some k.0 g
-                (sym k.1 ∙ (ap (guest_at w.guests) e ∙ here)) in
-                ap (λ (u : World). guest_at u.guests n) k.2.1
-                ∙ (ap (guest_at (with_guest m (Some (after_restart k.0)) w.guests)) (sym e)
-                ∙ (with_guest-same m (Some (after_restart k.0)) w.guests
-                ∙ ap (λ (x : Guest). renewed x) same))
-          ]
-    ]
-  where
-    renewed : Guest → Option Guest
-    renewed x = Some (after_restart x)
+  was : (x : Guest) → guest_at w.guests n ≡ Some x → x ≡ old
+  was x here = same_some x old (sym here ∙ f.before)
 
-unplugged : (w : World) (m n : ℕ) (reply : Reply) (v : World) (g : Guest) → guest_at w.guests n
-    ≡ Some g → m ≡ n → WorldStep w (Unplug m) reply v → guest_at v.guests n ≡ None
-unplugged w m n reply v g here e s = elim (match_cases (first_refusal (world_causes w (Unplug m)))
-    (Happens (Unplug m) w reply v) (λ refusal. (reply ≡ Refused refusal) × (v ≡ w)) s) [
-      | inr r ↦ absurd (not_missing w n m g r.0 here e r.1)
-      | inl p ↦ ap (λ (u : World). guest_at u.guests n) p.1.1
-          ∙ (ap (guest_at (with_guest m None w.guests)) (sym e) ∙ with_guest-same m None w.guests)
-    ]
-
-fate : (event : Event) (w : World) (reply : Reply) (v : World) (n : ℕ) (g : Guest)
-    → guest_at w.guests n ≡ Some g → WorldStep w event reply v → Fate w event reply v n g
-fate (Restart m) w reply v n g here s = elim (cases_eq m n) [
-  | inl e ↦ Begins_anew (ap Restart e) (restarted w m n reply v g here e s)
-  | inr d ↦ goes_on w (Restart m) reply v n g here (λ e. d cc) (λ e. cc) s
-]
-fate (Unplug m) w reply v n g here s = elim (cases_eq m n) [
-  | inl e ↦ Is_gone (ap Unplug e) (unplugged w m n reply v g here e s)
-  | inr d ↦ goes_on w (Unplug m) reply v n g here (λ e. cc) (λ e. d cc) s
-]
-fate event w reply v n g here s = goes_on w _ reply v n g here (λ e. cc) (λ e. cc) s
+  by : Effect w event reply n (guest_at w.guests n) (guest_at v.guests n)
+      → Fate w event reply n old new
+  by (Same other e) =
+      Goes_on (Nothing_happens (other old f.before) (sym (same old (e ∙ f.before))))
+  by (Is_aimed floor targets x target is said here there) =
+      Goes_on (New_target floor targets is said (aimed old new target (sym (same _ there)
+      ∙ ap (λ (y : Guest). record y { target = target }) (was x here))))
+  by (Has_called x y call claims is here gives step there) = Goes_on (Own_call call claims is gives
+      (subst (λ (z : Guest). GuestStep old call claims reply z) (same y there)
+      (subst (λ (z : Guest). GuestStep z call claims reply y) (was x here) step)))
+  by (Is_new x is here there) =
+      Begins_anew is (sym (same _ there) ∙ ap (λ (y : Guest). after_restart y) (was x here))
+  by (Is_gone is there) = absurd (let q : None ≡ Some new = sym there ∙ f.after in cc)
+  by (Is_plugged config none there) = absurd (let q : None ≡ Some old = sym none ∙ f.before in cc)
 
 -- ---- others, targets, configurations
 
+-- a call, a restart or an unplugging of guest n is made for it
+not_touched : (n : ℕ) (event other : Event) (reply : Reply) → touches n event reply ≡ false
+    → touches n other reply ≡ true → event ≢ other
+not_touched n event other reply a b e = let bad : true ≡ false =
+    sym b ∙ (ap (λ (x : Event). touches n x reply) (sym e) ∙ a) in cc
+
+abbrev some_guest : Guest → Option Guest
+some_guest x = Some x
+
 pub others_untouched : OthersAreUntouched
-others_untouched w event reply v n g s here others = cases (fate event w reply v n g here s) where
-  own : (new : Guest) → guest_at v.guests n ≡ Some new → Own n w event reply g new
+others_untouched w event reply v n g s here others = by (effect w event reply v n s) where
+  by : Effect w event reply n (guest_at w.guests n) (guest_at v.guests n)
       → (guest_at v.guests n ≡ Some g) ⊎ ((floor target : ℕ) × (event ≡ Balance floor)
       × (guest_at v.guests n ≡ Some (record g { target = target })))
-  own new there (Nothing_happens other_event unset e) =
-      inl (there ∙ ap (λ (x : Guest). some_guest x) e)
-    where
-      some_guest : Guest → Option Guest
-      some_guest x = Some x
-  own new there (Own_call call claims e gave step) = absurd (others.no_call call e)
-  own new there (New_target floor targets e answered q) =
-      inr (floor, new.target, e, there ∙ ap (λ (x : Guest). some_guest x) q)
-    where
-      some_guest : Guest → Option Guest
-      some_guest x = Some x
-
-  cases : Fate w event reply v n g → (guest_at v.guests n ≡ Some g) ⊎ ((floor target : ℕ)
-      × (event ≡ Balance floor) × (guest_at v.guests n ≡ Some (record g { target = target })))
-  cases (Goes_on new there o) = own new there o
-  cases (Begins_anew e there) = absurd (others.no_restart e)
-  cases (Is_gone e there) = absurd (others.no_unplug e)
+  by (Same other e) = inl (e ∙ here)
+  by (Is_aimed floor targets x target is said before there) = inr (
+    floor,
+    target,
+    is,
+    there
+        ∙ ap (λ (y : Guest). some_guest (record y { target = target }))
+        (same_some x g (sym before ∙ here)),
+  )
+  by (Has_called x y call claims is before gives step there) = absurd (others.no_call call is)
+  by (Is_new x is before there) = absurd (others.no_restart is)
+  by (Is_gone is there) = absurd (others.no_unplug is)
+  by (Is_plugged config none there) = absurd (let q : None ≡ Some g = sym none ∙ here in cc)
 
 target_stays : (call : Call) (target : ℕ) → ((t : ℕ) → call ≢ SetTarget t)
     → target_after call target ≡ target
@@ -114,111 +88,77 @@ target_stays (SetTarget t) target h = absurd (h t refl)
 target_stays call target h = refl
 
 pub targets_kept : TargetsAreKept
-targets_kept w event reply v n old new f not_set no_balance =
-    cases (fate event w reply v n old f.before f.step)
+targets_kept w event reply v n old new f not_set no_balance = by (fate w event reply v n old new f)
   where
-    same : (x : Guest) → guest_at v.guests n ≡ Some x → new ≡ x
-    same x there = same_some new x (sym f.after ∙ there)
-
-    own : (x : Guest) → Own n w event reply old x → x.target ≡ old.target
-    own x (Nothing_happens other_event unset e) = ap (λ (y : Guest). y.target) e
-    own x (Own_call call claims e gave step) = (step_keeps old call claims reply x step).aimed
+    by : Fate w event reply n old new → new.target ≡ old.target
+    by (Goes_on (Nothing_happens other e)) = ap (λ (y : Guest). y.target) e
+    by (Goes_on (Own_call call claims e gave step)) = (step_keeps old call claims reply new step).aimed
         ∙ target_stays call old.target (λ t q. not_set t (e ∙ ap (OnGuest n) q))
-    own x (New_target floor targets e answered q) = absurd (no_balance floor e)
+    by (Goes_on (New_target floor targets e answered q)) = absurd (no_balance floor e)
+    by (Begins_anew e is) = ap (λ (y : Guest). y.target) is
 
-    cases : Fate w event reply v n old → new.target ≡ old.target
-    cases (Goes_on x there o) = ap (λ (y : Guest). y.target) (same x there) ∙ own x o
-    cases (Begins_anew e there) = ap (λ (y : Guest). y.target) (same (after_restart old) there)
-    cases (Is_gone e there) = absurd (let q : None ≡ Some new = sym there ∙ f.after in cc)
+-- a guest's own call is made for it
+untouched : (n : ℕ) (call : Call) (reply : Reply) → touches n (OnGuest n call) reply ≡ false → ⊥
+untouched n call reply other =
+    not_touched n (OnGuest n call) (OnGuest n call) reply other (eq-eqb n n refl) refl
 
 pub targets_set : TargetsAreSet
-targets_set w reply v n target old new f =
-    cases (fate (OnGuest n (SetTarget target)) w reply v n old f.before f.step)
-  where
-    same : (x : Guest) → guest_at v.guests n ≡ Some x → new ≡ x
-    same x there = same_some new x (sym f.after ∙ there)
-
-    own : (x : Guest) → Own n w (OnGuest n (SetTarget target)) reply old x → x.target ≡ target
-    own x (Nothing_happens other_event unset e) = absurd (other_event (SetTarget target) refl)
-    own x (Own_call call claims e gave step) = let c : SetTarget target ≡ call = cc in
-        (step_keeps old call claims reply x step).aimed
-        ∙ ap (λ (y : Call). target_after y old.target) (sym c)
-    own x (New_target floor targets e answered q) = absurd cc
-
-    cases : Fate w (OnGuest n (SetTarget target)) reply v n old → new.target ≡ target
-    cases (Goes_on x there o) = ap (λ (y : Guest). y.target) (same x there) ∙ own x o
-    cases (Begins_anew e there) = absurd cc
-    cases (Is_gone e there) = absurd cc
+targets_set w reply v n target old new f = by (fate w _ reply v n old new f) where
+  by : Fate w (OnGuest n (SetTarget target)) reply n old new → new.target ≡ target
+  by (Goes_on (Nothing_happens other e)) = absurd (untouched n (SetTarget target) reply other)
+  by (Goes_on (Own_call call claims e gave step)) = let c : SetTarget target ≡ call = cc in
+      (step_keeps old call claims reply new step).aimed
+      ∙ ap (λ (y : Call). target_after y old.target) (sym c)
+  by (Goes_on (New_target floor targets e answered q)) = absurd cc
+  by (Begins_anew e is) = absurd cc
 
 pub configurations_kept : ConfigurationsAreKept
-configurations_kept w event reply v n old new f = cases (fate event w reply v n old f.before f.step)
-  where
-    same : (x : Guest) → guest_at v.guests n ≡ Some x → new ≡ x
-    same x there = same_some new x (sym f.after ∙ there)
-
-    own : (x : Guest) → Own n w event reply old x → x.config ≡ old.config
-    own x (Nothing_happens other_event unset e) = ap (λ (y : Guest). y.config) e
-    own x (Own_call call claims e gave step) = (step_keeps old call claims reply x step).config
-    own x (New_target floor targets e answered q) = ap (λ (y : Guest). y.config) q
-
-    cases : Fate w event reply v n old → new.config ≡ old.config
-    cases (Goes_on x there o) = ap (λ (y : Guest). y.config) (same x there) ∙ own x o
-    cases (Begins_anew e there) = ap (λ (y : Guest). y.config) (same (after_restart old) there)
-    cases (Is_gone e there) = absurd (let q : None ≡ Some new = sym there ∙ f.after in cc)
+configurations_kept w event reply v n old new f = by (fate w event reply v n old new f) where
+  by : Fate w event reply n old new → new.config ≡ old.config
+  by (Goes_on (Nothing_happens other e)) = ap (λ (y : Guest). y.config) e
+  by (Goes_on (Own_call call claims e gave step)) = (step_keeps old call claims reply new step).config
+  by (Goes_on (New_target floor targets e answered q)) = ap (λ (y : Guest). y.config) q
+  by (Begins_anew e is) = ap (λ (y : Guest). y.config) is
 
 -- ---- frames go back
 
-absent : (w : World) (event : Event) (reply : Reply) (v : World) (n : ℕ) → WorldStep w event reply v
-    → (event ≡ Restart n) ⊎ (event ≡ Unplug n) → guest_at w.guests n ≡ None
-    → guest_at v.guests n ≡ None
-absent w event reply v n s (inl e) none =
-    let q : WorldStep w (Restart n) reply v = subst (λ (x : Event). WorldStep w x reply v) e s in
-    elim (match_cases (first_refusal (world_causes w (Restart n))) (Happens (Restart n) w reply v)
-    (λ refusal. (reply ≡ Refused refusal) × (v ≡ w)) q) [
-      | inr r ↦ ap (λ (u : World). guest_at u.guests n) r.2.1 ∙ none
-      | inl p ↦ elim (match_cases (guest_at w.guests n) ⊥
-          (λ g. (reply ≡ Done) × (v ≡ put_guest n (Some (after_restart g)) w)) p.1) [
-            | inl k ↦ absurd k.1
-            | inr k ↦ absurd (let z : None ≡ Some k.0 = sym none ∙ k.1 in cc)
-          ]
-    ]
-absent w event reply v n s (inr e) none =
-    let q : WorldStep w (Unplug n) reply v = subst (λ (x : Event). WorldStep w x reply v) e s in
-    elim (match_cases (first_refusal (world_causes w (Unplug n))) (Happens (Unplug n) w reply v)
-    (λ refusal. (reply ≡ Refused refusal) × (v ≡ w)) q) [
-      | inr r ↦ ap (λ (u : World). guest_at u.guests n) r.2.1 ∙ none
-      | inl p ↦ ap (λ (u : World). guest_at u.guests n) p.1.1 ∙ with_guest-same n None w.guests
-    ]
-
-by_event : (w : World) (event other : Event) (reply : Reply) (v : World) → event ≡ other
-    → WorldStep w event reply v → WorldStep w other reply v
-by_event w event other reply v e s = subst (λ (x : Event). WorldStep w x reply v) e s
-
 pub no_frames_left : FramesGoBack
-no_frames_left w event reply v n s ends page frame b = was_there (guest_at w.guests n) refl where
-  gone : guest_at v.guests n ≡ None → ⊥
-  gone none = let q : None ≡ Some b.guest = sym none ∙ b.is_there in cc
+no_frames_left w event reply v n s ends page frame b = by (effect w event reply v n s) where
+  touched : touches n event reply ≡ false → ⊥
+  touched other = elim ends [
+    | inl e ↦ not_touched n event (Restart n) reply other (eq-eqb n n refl) e
+    | inr e ↦ not_touched n event (Unplug n) reply other (eq-eqb n n refl) e
+  ]
 
-  renewed : (g : Guest) → guest_at v.guests n ≡ Some (after_restart g) → ⊥
-  renewed g there =
-      let same : b.guest ≡ after_restart g =
-      same_some b.guest (after_restart g) (sym b.is_there ∙ there) in
-      no_frames g.config.pages page frame
-      (subst (λ (x : Guest). frame_of x.frames page ≡ Some frame) same b.has)
+  fresh_frames : (x : Guest) → x.frames ≡ replicate x.config.pages None
+      → guest_at v.guests n ≡ Some x → ⊥
+  fresh_frames x none there = no_frames x.config.pages page frame
+      (ap (λ (fs : List (Option ℕ)). frame_of fs page) (sym none)
+      ∙ (ap (λ (y : Guest). frame_of y.frames page) (same_some x b.guest (sym there ∙ b.is_there))
+      ∙ b.has))
 
-  ended : (g : Guest) → guest_at w.guests n ≡ Some g → (event ≡ Restart n) ⊎ (event ≡ Unplug n) → ⊥
-  ended g here (inl e) =
-      renewed g (restarted w n n reply v g here refl (by_event w event (Restart n) reply v e s))
-  ended g here (inr e) =
-      gone (unplugged w n n reply v g here refl (by_event w event (Unplug n) reply v e s))
-
-  was_there : (o : Option Guest) → guest_at w.guests n ≡ o → ⊥
-  was_there None e = gone (absent w event reply v n s ends e)
-  was_there (Some g) e = ended g e ends
+  by : Effect w event reply n (guest_at w.guests n) (guest_at v.guests n) → ⊥
+  by (Same other e) = touched (other b.guest (sym e ∙ b.is_there))
+  by (Is_aimed floor targets x target is said here there) = elim ends [
+    | inl e ↦ (let q : Balance floor ≡ Restart n = sym is ∙ e in cc)
+    | inr e ↦ (let q : Balance floor ≡ Unplug n = sym is ∙ e in cc)
+  ]
+  by (Has_called x y call claims is here gives step there) = elim ends [
+    | inl e ↦ (let q : OnGuest n call ≡ Restart n = sym is ∙ e in cc)
+    | inr e ↦ (let q : OnGuest n call ≡ Unplug n = sym is ∙ e in cc)
+  ]
+  by (Is_new x is here there) = fresh_frames (fresh x.config x.target) refl there
+  by (Is_gone is there) = let q : None ≡ Some b.guest = sym there ∙ b.is_there in cc
+  by (Is_plugged config none there) = fresh_frames (fresh config 0) refl there
 
 pub restarted_honest : RestartedAreHonest
-restarted_honest w reply v n old new f = ap (λ (y : Guest). y.rogue) (same_some new
-    (after_restart old) (sym f.after ∙ restarted w n n reply v old f.before refl f.step))
+restarted_honest w reply v n old new f = by (fate w _ reply v n old new f) where
+  by : Fate w (Restart n) reply n old new → new.rogue ≡ false
+  by (Goes_on (Nothing_happens other e)) =
+      absurd (not_touched n (Restart n) (Restart n) reply other (eq-eqb n n refl) refl)
+  by (Goes_on (Own_call call claims e gave step)) = absurd cc
+  by (Goes_on (New_target floor targets e answered q)) = absurd cc
+  by (Begins_anew e is) = ap (λ (y : Guest). y.rogue) is
 
 -- ---- rogue guests
 
@@ -229,23 +169,15 @@ not_by_others g new call other honest (inr (inl rogue, r)) = absurd cc
 not_by_others g new call other honest (inr (inr scribble, r)) = absurd (other scribble)
 
 pub rogues_made : RoguesAreMade
-rogues_made w event reply v n old new f no_scribble honest =
-    cases (fate event w reply v n old f.before f.step)
+rogues_made w event reply v n old new f no_scribble honest = by (fate w event reply v n old new f)
   where
-    same : (x : Guest) → guest_at v.guests n ≡ Some x → new ≡ x
-    same x there = same_some new x (sym f.after ∙ there)
-
-    own : (x : Guest) → Own n w event reply old x → x.rogue ≡ false
-    own x (Nothing_happens other_event unset e) = ap (λ (y : Guest). y.rogue) e ∙ honest
-    own x (Own_call call claims e gave step) =
-        not_by_others old x call (λ i. no_scribble i.0 i.1 i.2 (e ∙ ap (OnGuest n) i.3)) honest
-        (step_keeps old call claims reply x step).rogue
-    own x (New_target floor targets e answered q) = ap (λ (y : Guest). y.rogue) q ∙ honest
-
-    cases : Fate w event reply v n old → new.rogue ≡ false
-    cases (Goes_on x there o) = ap (λ (y : Guest). y.rogue) (same x there) ∙ own x o
-    cases (Begins_anew e there) = ap (λ (y : Guest). y.rogue) (same (after_restart old) there)
-    cases (Is_gone e there) = absurd (let q : None ≡ Some new = sym there ∙ f.after in cc)
+    by : Fate w event reply n old new → new.rogue ≡ false
+    by (Goes_on (Nothing_happens other e)) = ap (λ (y : Guest). y.rogue) e ∙ honest
+    by (Goes_on (Own_call call claims e gave step)) =
+        not_by_others old new call (λ i. no_scribble i.0 i.1 i.2 (e ∙ ap (OnGuest n) i.3)) honest
+        (step_keeps old call claims reply new step).rogue
+    by (Goes_on (New_target floor targets e answered q)) = ap (λ (y : Guest). y.rogue) q ∙ honest
+    by (Begins_anew e is) = ap (λ (y : Guest). y.rogue) is
 
 stays_rogue : (g : Guest) (call : Call) (claims : List Claim) (reply : Reply) (new : Guest)
     → g.rogue ≡ true → GuestStep g call claims reply new → new.rogue ≡ true
@@ -257,38 +189,23 @@ stays_rogue g call claims reply new rogue s = cases g.rogue rogue s where
   cases false e p = absurd cc
 
 pub rogues_stay : RoguesStay
-rogues_stay w event reply v n old new f no_restart rogue =
-    cases (fate event w reply v n old f.before f.step)
-  where
-    same : (x : Guest) → guest_at v.guests n ≡ Some x → new ≡ x
-    same x there = same_some new x (sym f.after ∙ there)
-
-    own : (x : Guest) → Own n w event reply old x → x.rogue ≡ true
-    own x (Nothing_happens other_event unset e) = ap (λ (y : Guest). y.rogue) e ∙ rogue
-    own x (Own_call call claims e gave step) = stays_rogue old call claims reply x rogue step
-    own x (New_target floor targets e answered q) = ap (λ (y : Guest). y.rogue) q ∙ rogue
-
-    cases : Fate w event reply v n old → new.rogue ≡ true
-    cases (Goes_on x there o) = ap (λ (y : Guest). y.rogue) (same x there) ∙ own x o
-    cases (Begins_anew e there) = absurd (no_restart e)
-    cases (Is_gone e there) = absurd (let q : None ≡ Some new = sym there ∙ f.after in cc)
+rogues_stay w event reply v n old new f no_restart rogue = by (fate w event reply v n old new f) where
+  by : Fate w event reply n old new → new.rogue ≡ true
+  by (Goes_on (Nothing_happens other e)) = ap (λ (y : Guest). y.rogue) e ∙ rogue
+  by (Goes_on (Own_call call claims e gave step)) = stays_rogue old call claims reply new rogue step
+  by (Goes_on (New_target floor targets e answered q)) = ap (λ (y : Guest). y.rogue) q ∙ rogue
+  by (Begins_anew e is) = absurd (no_restart e)
 
 pub scribbles_make_rogues : ScribblesMakeRogues
 scribbles_make_rogues w v n page offset bytes old new f honest =
-    cases (fate (OnGuest n (Scribble page offset bytes)) w Done v n old f.before f.step)
+    by (fate w _ Done v n old new f)
   where
-    same : (x : Guest) → guest_at v.guests n ≡ Some x → new ≡ x
-    same x there = same_some new x (sym f.after ∙ there)
-
-    own : (x : Guest) → Own n w (OnGuest n (Scribble page offset bytes)) Done old x → x.rogue ≡ true
-    own x (Nothing_happens other_event unset e) =
-        absurd (other_event (Scribble page offset bytes) refl)
-    own x (Own_call call claims e gave step) = let c : Scribble page offset bytes ≡ call = cc in
-        scribbled_rogue old page offset bytes claims x
-        (subst (λ (y : Call). GuestStep old y claims Done x) (sym c) step)
-    own x (New_target floor targets e answered q) = absurd cc
-
-    cases : Fate w (OnGuest n (Scribble page offset bytes)) Done v n old → new.rogue ≡ true
-    cases (Goes_on x there o) = ap (λ (y : Guest). y.rogue) (same x there) ∙ own x o
-    cases (Begins_anew e there) = absurd cc
-    cases (Is_gone e there) = absurd cc
+    by : Fate w (OnGuest n (Scribble page offset bytes)) Done n old new → new.rogue ≡ true
+    by (Goes_on (Nothing_happens other e)) =
+        absurd (untouched n (Scribble page offset bytes) Done other)
+    by (Goes_on (Own_call call claims e gave step)) =
+        let c : Scribble page offset bytes ≡ call = cc in
+        scribbled_rogue old page offset bytes claims new
+        (subst (λ (y : Call). GuestStep old y claims Done new) (sym c) step)
+    by (Goes_on (New_target floor targets e answered q)) = absurd cc
+    by (Begins_anew e is) = absurd cc

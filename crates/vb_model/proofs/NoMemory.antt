@@ -1,22 +1,22 @@
 -- Which events may find no memory, and that nothing is changed then.
-use Rattle.std.proofs.Common.{sym, ◌≡◌, ℕ, zero, suc, Bool, true, false, List, [], ◌∷◌, refl, ap}
-use Rattle.std.{proofs.Common.{◌∙◌, ◌⊎◌, inl, inr}, specs.Prelude.{◌||◌, not, Option, Some}}
-use Rattle.vb_model.specs.StepLaws.{WantsChangeNothing, may_want_memory, call_may_want, is_none_of}
-use Rattle.vb_model.{specs.StepLaws.is_list, proofs.Wanting.{wants, none_wants, refused_otherwise}}
-use Rattle.vb_model.proofs.Wanting.{claims_needed, no_want, no_memory_exact}
-use Rattle.vb_model.specs.declared.calls.{Call.Call, Claim.Claim, Event.Event, Query.Query}
-use Rattle.vb_model.specs.{declared.replies.Refusal.TheVariants.NoMemory, Guest.Guest}
-use Rattle.vb_model.specs.{declared.replies.Reply.Reply, FirstRefusal.first_refusal}
-use Rattle.vb_model.specs.{declared.replies.Reply.TheVariants.{Done, Refused}, Driver.AreClaimsFor}
-use Rattle.vb_model.specs.{Driver.claim_refusal, Life.after_restart, Rogue.{pages_to_back, is_read}}
-use Rattle.vb_model.{specs.Queries.Answers, proofs.Changes.{Balanced, Sets, Comes_up_short}}
-use Rattle.vb_model.{proofs.Changes.balance_cases, specs.World.{World, guest_at, with_guest}}
-use Rattle.vb_model.specs.{World.put_guest, HostEvents.{Happens, Calls, PlugsIn}}
-use Rattle.vb_model.{specs.HostRefusals.world_causes, proofs.CallSteps.match_cases}
-use Rattle.vb_model.specs.declared.calls.Query.TheVariants.{PagesAt, PagesBallooned}
-use Rattle.vb_model.specs.declared.calls.Event.TheVariants.{Plug, Unplug, Restart, Guest as OnGuest}
-use Rattle.vb_model.specs.declared.calls.Event.TheVariants.{Query as OnQuery, Balance}
-use Rattle.vb_model.specs.declared.calls.Event.TheVariants.{Frames as CountFrames}
+use Rattle.std.proofs.Common.{Bool, List, [], ap, false, inl, inr, refl, suc, sym, true, zero, ℕ}
+use Rattle.std.proofs.{Common.{◌∙◌, ◌∷◌, ◌≡◌, ◌⊎◌}, lemmas.Bool.{or_left, or_right}}
+use Rattle.std.specs.Prelude.{Option, Some, not, ◌||◌}
+use Rattle.vb_model.proofs.{Cases.match_cases, Changes.{Balanced, Comes_up_short, Sets}}
+use Rattle.vb_model.proofs.{Changes.balance_cases, Wanting.{claims_needed, no_memory_exact}}
+use Rattle.vb_model.proofs.Wanting.{no_want, none_wants, refused_otherwise, wants}
+use Rattle.vb_model.specs.{Driver.{AreClaimsFor, claim_refusal}, FirstRefusal.first_refusal}
+use Rattle.vb_model.specs.{Guest.Guest, HostEvents.{Calls, Happens, PlugsIn}}
+use Rattle.vb_model.specs.{HostRefusals.world_causes, Life.after_restart, Queries.Answers}
+use Rattle.vb_model.specs.{Rogue.{is_read, pages_to_back}, StepLaws.WantsChangeNothing}
+use Rattle.vb_model.specs.StepLaws.{call_may_want, is_list, is_none_of, may_want_memory}
+use Rattle.vb_model.specs.{World.{World, guest_at, put_guest, with_guest}, declared.calls.Call.Call}
+use Rattle.vb_model.specs.declared.calls.{Claim.Claim, Event.{Event, TheVariants.Balance}}
+use Rattle.vb_model.specs.declared.calls.Event.TheVariants.{Frames as CountFrames, Guest as OnGuest}
+use Rattle.vb_model.specs.declared.calls.Event.TheVariants.{Plug, Query as OnQuery, Restart, Unplug}
+use Rattle.vb_model.specs.declared.calls.Query.{Query, TheVariants.{PagesAt, PagesBallooned}}
+use Rattle.vb_model.specs.declared.replies.{Refusal.TheVariants.NoMemory, Reply.Reply}
+use Rattle.vb_model.specs.declared.replies.Reply.TheVariants.{Done, Refused}
 
 -- a reply that isn't want of memory
 not_wanted : {A : Type 0} (reply : Reply) → Refused NoMemory ≡ reply → wants reply ≡ false → A
@@ -38,14 +38,6 @@ some_needed [] [] a e = absurd cc
 some_needed [] (claim ∷ claims) a e = absurd (let none : claim ∷ claims ≡ [] = a in cc)
 some_needed (page ∷ pages) claims a e = refl
 
-or_second : (a b : Bool) → b ≡ true → (a || b) ≡ true
-or_second true b e = refl
-or_second false b e = e
-
-or_first : (a b : Bool) → a ≡ true → (a || b) ≡ true
-or_first true b e = refl
-or_first false b e = absurd cc
-
 calls_want : (n : ℕ) (call : Call) (g : Guest) (w v : World) → guest_at w.guests n ≡ Some g
     → Calls n g w call (Refused NoMemory) v
     → (call_may_want (guest_at w.guests n) call ≡ true) × (v ≡ w)
@@ -56,9 +48,9 @@ calls_want n call g w v here s = let exact = no_memory_exact g call s.0 s.1 s.3 
 ) where
   may : (claim_refusal s.0 ≡ Some NoMemory) ⊎ (is_read call ≡ true)
       → (is_read call || not (is_none_of (pages_to_back call g))) ≡ true
-  may (inl e) = or_second (is_read call) (not (is_none_of (pages_to_back call g))) (some_needed
+  may (inl e) = or_right (is_read call) (not (is_none_of (pages_to_back call g))) (some_needed
       (pages_to_back call g) s.0 (claims_needed g call s.0 (Refused NoMemory) s.1 s.3) e)
-  may (inr read) = or_first (is_read call) (not (is_none_of (pages_to_back call g))) read
+  may (inr read) = or_left (is_read call) (not (is_none_of (pages_to_back call g))) read
 
 -- ---- a question
 

@@ -1,59 +1,26 @@
 -- A refusal changes nothing, but for an initialisation whose features are refused.
-use Rattle.std.proofs.Common.{◌≡◌, ℕ, Bool, true, false, cond, List, [], ◌∷◌, refl, ap, ◌∙◌, inl}
-use Rattle.std.{proofs.Common.inr, specs.Prelude.{Option, Some, None}}
-use Rattle.vb_model.proofs.CallSteps.{match_cases, supplying_cases, works_cases, supplied}
-use Rattle.vb_model.{proofs.Performed.{Performed, honest_case}, specs.Device.TakesRequest}
-use Rattle.vb_model.specs.{Device.{TakesBuffer, Finishes, ReturnsBuffer, next_page}, Driver.Reaps}
-use Rattle.vb_model.specs.{Driver.{Fills, Written, pages_needed}, Guest.{Guest, requests}}
+pub use Rattle.vb_model.proofs.Deeds.{is_refused}
+use Rattle.std.proofs.Common.{Bool, List, [], ap, false, inl, inr, refl, subst, sym, ℕ, ◌∙◌, ◌∷◌}
+use Rattle.std.{proofs.Common.◌≡◌, specs.Prelude.{None, Option, Some}}
+use Rattle.vb_model.proofs.{Cases.{match_cases, supplied}, Deeds.{Aimed, Allocated, Buffered, Deed}}
+use Rattle.vb_model.proofs.Deeds.{Freed, Has_finished, Has_posted, Has_reaped, Has_scribbled}
+use Rattle.vb_model.proofs.Deeds.{Has_swept, Has_taken, Has_written, Initialised, Stayed, Visited}
+use Rattle.vb_model.{proofs.Deeds.{Was_reset, deed, is_refused}, specs.Guest.Guest}
 use Rattle.vb_model.specs.{HostEvents.{Happens, PlugsIn}, HostRefusals.world_causes}
-use Rattle.vb_model.specs.Life.{feature_refusal, Negotiates, lacking, after_restart}
-use Rattle.vb_model.specs.{Refusals.{refusal_of, first_refusal}, Requests.{Request, Kind}}
-use Rattle.vb_model.specs.Requests.{kind_of_queue, StatisticsBuffer, NoBuffer, BufferTaken}
-use Rattle.vb_model.specs.{Rogue.Scribbled, StepLaws.{IsUnchanged, with_features_refused}}
-use Rattle.vb_model.specs.StepLaws.{RefusalsChangeNothing, RefusedEventsChangeNothing}
-use Rattle.vb_model.specs.{World.{World, put_guest, guest_at}, declared.calls.Call.Call}
-use Rattle.vb_model.specs.declared.calls.Call.TheVariants.{Init, Alloc, Read, Write, Scribble}
-use Rattle.vb_model.specs.declared.calls.Call.TheVariants.{Inflate, Deflate, Oom, Report, Stats}
-use Rattle.vb_model.specs.declared.calls.Call.TheVariants.{Reap, Take, Work, Finish, Ask}
-use Rattle.vb_model.specs.declared.{calls.Claim.Claim, calls.Event.Event, replies.Refusal.Refusal}
-use Rattle.vb_model.specs.declared.replies.Reply.{Reply, TheVariants.{Done, Refused}}
-use Rattle.vb_model.specs.declared.calls.Event.TheVariants.{Plug, Unplug, Restart, Guest as OnGuest}
-use Rattle.vb_model.specs.declared.calls.Event.TheVariants.{Query as OnQuery, Balance}
-use Rattle.vb_model.specs.declared.calls.Event.TheVariants.{Frames as CountFrames}
-
--- a reply that is no refusal
-abbrev pub is_refused : Reply → Bool
-is_refused (Refused refusal) = true
-is_refused _ = false
+use Rattle.vb_model.specs.Life.{Negotiates, after_restart, feature_refusal, lacking}
+use Rattle.vb_model.specs.{Refusals.first_refusal, StepLaws.{IsUnchanged, RefusalsChangeNothing}}
+use Rattle.vb_model.specs.StepLaws.{RefusedEventsChangeNothing, with_features_refused}
+use Rattle.vb_model.specs.{World.{World, guest_at, put_guest}, declared.calls.Call.Call}
+use Rattle.vb_model.specs.declared.calls.{Call.TheVariants.Init, Claim.Claim, Event.Event}
+use Rattle.vb_model.specs.declared.calls.Event.TheVariants.{Balance, Frames as CountFrames}
+use Rattle.vb_model.specs.declared.calls.Event.TheVariants.{Guest as OnGuest, Plug}
+use Rattle.vb_model.specs.declared.calls.Event.TheVariants.{Query as OnQuery, Restart, Unplug}
+use Rattle.vb_model.specs.declared.replies.{Refusal.Refusal, Reply.{Reply, TheVariants.Done}}
+use Rattle.vb_model.specs.declared.replies.Reply.TheVariants.{Refused}
 
 pub not_this : {A : Type 0} (refusal : Refusal) (reply : Reply) → Refused refusal ≡ reply
     → is_refused reply ≡ false → A
 not_this refusal reply e f = absurd cc
-
-fills_refuse : {A : Type 0} (buffer : StatisticsBuffer) (g : Guest) (refusal : Refusal) (new : Guest)
-    → Fills buffer g (Refused refusal) new → A
-fills_refuse NoBuffer g refusal new s = not_this refusal _ s.0 refl
-fills_refuse b g refusal new s = not_this refusal _ s.0 refl
-
-takes_buffer_refuse : {A : Type 0} (buffer : StatisticsBuffer) (g : Guest) (refusal : Refusal) (new : Guest)
-    → TakesBuffer buffer g (Refused refusal) new → A
-takes_buffer_refuse NoBuffer g refusal new s = not_this refusal _ s.0 refl
-takes_buffer_refuse b g refusal new s = not_this refusal _ s.0 refl
-
-asks_refuse : {A : Type 0} (buffer : StatisticsBuffer) (g : Guest) (refusal : Refusal) (new : Guest)
-    → ReturnsBuffer buffer g (Refused refusal) new → A
-asks_refuse (BufferTaken f) g refusal new s = not_this refusal _ s.0 refl
-asks_refuse b g refusal new s = absurd s
-
-reaps_refuse : {A : Type 0} (kind : Kind) (done : List Request) (g : Guest) (refusal : Refusal)
-    (new : Guest) → Reaps kind done g (Refused refusal) new → A
-reaps_refuse kind [] g refusal new s = not_this refusal _ s.0 refl
-reaps_refuse kind (r ∷ rest) g refusal new s = not_this refusal _ s.0 refl
-
-takes_refuse : {A : Type 0} (kind : Kind) (posted : List Request) (g : Guest) (refusal : Refusal)
-    (new : Guest) → TakesRequest kind posted g (Refused refusal) new → A
-takes_refuse kind [] g refusal new s = not_this refusal _ s.0 refl
-takes_refuse kind (r ∷ rest) g refusal new s = not_this refusal _ s.0 refl
 
 same_refusal : (a b : Refusal) → Refused a ≡ Refused b → b ≡ a
 same_refusal a b e = cc
@@ -74,60 +41,36 @@ negotiates_refuse wanted (Some r) g claims refusal new e s =
     some_refusal : Refusal → Option Refusal
     some_refusal x = Some x
 
-performs_refuses : (call : Call) (g : Guest) (claims : List Claim) (refusal : Refusal) (new : Guest)
-    → Performed call g claims (Refused refusal) new → IsUnchanged call refusal claims g new
-performs_refuses (Alloc cpu order) g claims refusal new s = not_this refusal _ s.1.2 refl
-performs_refuses (Read page offset len) g claims refusal new s = inl s.1.1
-performs_refuses (Inflate n) g claims refusal new s = not_this refusal _ s.1.4.2 refl
-performs_refuses (Deflate n) g claims refusal new s = not_this refusal _ s.1.2 refl
-performs_refuses (Oom n) g claims refusal new s = not_this refusal _ s.1.2 refl
-performs_refuses (Report from) g claims refusal new s = not_this refusal _ s.1.2 refl
-performs_refuses Stats g claims refusal new s = fills_refuse g.buffer g refusal new s.1
-performs_refuses Ask g claims refusal new s = asks_refuse g.buffer g refusal new s.1
-performs_refuses (Reap q) g claims refusal new s = elim (match_cases (kind_of_queue q) ⊥
-    (λ kind. Reaps kind (requests kind g).done g (Refused refusal) new) s.1) [
-      | inl n ↦ absurd n.1
-      | inr k ↦ reaps_refuse k.0 (requests k.0 g).done g refusal new k.2
-    ]
-performs_refuses (Take q) g claims refusal new s =
-    elim (match_cases (kind_of_queue q) (TakesBuffer g.buffer g (Refused refusal) new)
-    (λ kind. TakesRequest kind (requests kind g).posted g (Refused refusal) new) s.1) [
-      | inl n ↦ takes_buffer_refuse g.buffer g refusal new n.1
-      | inr k ↦ takes_refuse k.0 (requests k.0 g).posted g refusal new k.2
-    ]
-performs_refuses Work g claims refusal new s =
-    elim (works_cases (cond g.config.paced (next_page g.inflate.taken) None)
-    (cond g.config.paced (next_page g.report.taken) None) g
-    (Refused refusal) new s.1) [ inl i ↦ inl i.1 | inr v ↦ not_this refusal _ v.2.0 refl ]
-performs_refuses (Finish q i) g claims refusal new s =
-    elim (match_cases (kind_of_queue q) ⊥ (λ kind. Finishes kind i g (Refused refusal) new) s.1) [
-      | inl n ↦ absurd n.1
-      | inr k ↦ not_this refusal _ k.2.2 refl
-    ]
-performs_refuses (Init wanted) g claims refusal new s =
-    elim (supplying_cases (lacking g) g claims (Refused refusal) new
-    (λ m. Negotiates (feature_refusal wanted) wanted m (Refused refusal) new) s) [
-      | inl m ↦ negotiates_refuse wanted (feature_refusal wanted) g claims refusal new refl m
-      | inr r ↦ inl r.2
-    ]
-performs_refuses (Write page offset bytes) g claims refusal new s =
-    elim (supplying_cases (pages_needed page bytes g) g claims (Refused refusal) new
-    (λ m. Written page offset bytes m (Refused refusal) new) s) [
-      | inl m ↦ not_this refusal _ m.0 refl
-      | inr r ↦ inl r.2
-    ]
-performs_refuses (Scribble page offset bytes) g claims refusal new s =
-    elim (supplying_cases (pages_needed page bytes g) g claims (Refused refusal) new
-    (λ m. Scribbled m (Refused refusal) new) s) [
-      | inl m ↦ not_this refusal _ m.answered refl
-      | inr r ↦ inl r.2
-    ]
-performs_refuses call g claims refusal new s = not_this refusal _ s.1.0 refl
+-- each answer but those two is none
+refuses : (call : Call) (g : Guest) (claims : List Claim) (refusal : Refusal) (new : Guest)
+    → Deed call g claims (Refused refusal) new → IsUnchanged call refusal claims g new
+refuses call g claims refusal new (Stayed why e) = inl e
+refuses call g claims refusal new (Initialised wanted is passed n) =
+    subst (λ (c : Call). IsUnchanged c refusal claims g new) (sym is)
+    (negotiates_refuse wanted (feature_refusal wanted) g claims refusal new refl n)
+refuses call g claims refusal new (Aimed n is told e) = not_this refusal _ told refl
+refuses call g claims refusal new (Was_reset told e) = not_this refusal _ told refl
+refuses call g claims refusal new (Allocated b small free told e) = not_this refusal _ told refl
+refuses call g claims refusal new (Freed b held told e) = not_this refusal _ told refl
+refuses call g claims refusal new (Has_posted kind head pages p told e) =
+    not_this refusal _ told refl
+refuses call g claims refusal new (Has_reaped kind r rest is done told e) =
+    not_this refusal _ told refl
+refuses call g claims refusal new (Has_taken kind r rest posted told e) =
+    not_this refusal _ told refl
+refuses call g claims refusal new (Buffered b last has told e) = absurd cc
+refuses call g claims refusal new (Visited kind page named other told e) =
+    not_this refusal _ told refl
+refuses call g claims refusal new (Has_finished kind i r is told e) = not_this refusal _ told refl
+refuses call g claims refusal new (Has_swept page flag tells told e) = not_this refusal _ told refl
+refuses call g claims refusal new (Has_written page offset bytes is passed are none w) =
+    not_this refusal _ w.0 refl
+refuses call g claims refusal new (Has_scribbled page offset bytes is passed s) =
+    not_this refusal _ s.answered refl
 
 pub refusals_change_nothing : RefusalsChangeNothing
 refusals_change_nothing g call claims refusal new s =
-    elim (match_cases (refusal_of g call) (Performed call g claims (Refused refusal) new)
-    (λ r. (claims ≡ []) × (Refused refusal ≡ Refused r) × (new ≡ g)) (honest_case g call claims (Refused refusal) new s)) [ inl p ↦ performs_refuses call g claims refusal new p.1 | inr r ↦ inl r.2.2 ]
+    refuses call g claims refusal new (deed g call claims (Refused refusal) new s)
 
 -- ---- events of the world
 

@@ -1,10 +1,10 @@
 -- Guests from which worked facts start.
-use Rattle.std.specs.Prelude.{ℕ, true, List, ◌∷◌, ◌++◌, replicate}
-use Rattle.vb_model.specs.declared.places.Place.TheVariants.{Reserved, Free, Used, Giving, Lent}
-use Rattle.vb_model.{specs.declared.calls.Event.Event, specs.declared.calls.Event.TheVariants.Plug}
-use Rattle.vb_model.{specs.declared.places.Place.Place, specs.Requests.Request}
-use Rattle.vb_model.specs.declared.places.Place.TheVariants.{Taking, Stranded, Reporting}
-use Rattle.vb_model.{specs.Guest.{Guest, Config, fresh}, specs.Tables.{Negotiated, NewRequest}}
+use Rattle.std.{proofs.{Common.{[], ◌≡◌}, lemmas.Bool.and_parts}, specs.List.list_all}
+use Rattle.std.specs.Prelude.{Bool, List, replicate, true, ℕ, ◌++◌, ◌∷◌}
+use Rattle.vb_model.specs.{Guest.{Config, Guest, fresh}, Requests.Request, Tables.Negotiated}
+use Rattle.vb_model.specs.{Tables.NewRequest, declared.calls.Event.{Event, TheVariants.Plug}}
+use Rattle.vb_model.specs.declared.places.Place.{Place, TheVariants.{Free, Giving, Lent, Reporting}}
+use Rattle.vb_model.specs.declared.places.Place.TheVariants.{Reserved, Stranded, Taking, Used}
 
 -- 64 pages, queues of 8, one processor, a paced device
 abbrev pub config : Config
@@ -63,3 +63,20 @@ at status features = record { status = status; features = features }
 abbrev pub new_request : (outstanding most count : ℕ) → NewRequest
 new_request outstanding most count =
     record { outstanding = outstanding; most = most; count = count }
+
+-- ---- rows of what isn't so
+
+abbrev pub EachNot : {A : Type 0} → (A → Type 0) → List A → Type 0
+EachNot P [] = Unit {0}
+EachNot P (x ∷ xs) = (P x → ⊥) × EachNot P xs
+
+-- none of these is so
+pub record NoneOf {A : Type 0} (P : A → Type 0) (xs : List A) : Type 0 where
+  pub each : EachNot P xs
+
+-- each passes a test that nothing passes that is so
+pub none_of : {A : Type 0} (P : A → Type 0) (test : A → Bool)
+    → ((x : A) → test x ≡ true → P x → ⊥) → (xs : List A) → list_all test xs ≡ true → NoneOf P xs
+none_of P test refutes [] h = record { each = tt }
+none_of P test refutes (x ∷ xs) h = let parts = and_parts (test x) (list_all test xs) h in
+    record { each = (refutes x parts.0, (none_of P test refutes xs parts.1).each) }

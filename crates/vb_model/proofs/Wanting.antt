@@ -1,32 +1,24 @@
 -- Which calls claim frames, and what a refusal for want of frames or of memory means.
-use Rattle.std.proofs.Common.{◌≡◌, ℕ, ◌<◌, Bool, true, false, cond, List, [], ◌∷◌, length, refl}
-use Rattle.std.{proofs.Common.{sym, ap, ◌∙◌, ◌⊎◌, inl, inr, arith}, specs.List.list_all}
-use Rattle.std.specs.Prelude.{◌==◌, ◌||◌, ◌&&◌, not, Option, Some, None, MatchBool, is_none}
-use Rattle.std.proofs.lemmas.Bool.{eq-eqb, not-true}
-use Rattle.vb_model.specs.declared.calls.Call.TheVariants.{Init, Reset, Alloc, Free, Read, Write}
-use Rattle.vb_model.specs.declared.calls.Call.TheVariants.{Scribble, Inflate, Deflate, Oom, Report}
-use Rattle.vb_model.specs.declared.calls.Call.TheVariants.{Stats, Reap, Take, Work, Finish, Sweep}
-use Rattle.vb_model.specs.{declared.calls.Call.TheVariants.{Ask, SetTarget}, Rogue.RogueStep}
-use Rattle.vb_model.specs.Rogue.{unless_refused, pages_to_back, is_read, after_refused, GuestStep}
-use Rattle.vb_model.specs.StepLaws.{ClaimsAreNeeded, RefusedClaimsAreAnswered, NeededPagesAreBare}
-use Rattle.vb_model.specs.StepLaws.{NoFrameIsExact, NoMemoryIsExact}
-use Rattle.vb_model.specs.declared.calls.Claim.TheVariants.{Gave, GaveNoFrame, GaveNoMemory}
-use Rattle.vb_model.specs.declared.replies.Refusal.TheVariants.{NoFrame, NoMemory}
-use Rattle.vb_model.specs.{Driver.{claim_refusal, AreClaimsFor, pages_needed}, Life.lacking}
-use Rattle.vb_model.specs.{Refusals.{Cause, refusal_of, causes, first_refusal}, HostFrames.Gives}
-use Rattle.vb_model.{specs.declared.replies.Reply.TheVariants.Refused, proofs.Tables.list_all-at}
-use Rattle.vb_model.{specs.Layout.start_pages, proofs.CallSteps.{match_cases, all_filtered}}
-use Rattle.vb_model.specs.declared.{calls.Claim.Claim, replies.Refusal.Refusal, replies.Reply.Reply}
-use Rattle.vb_model.specs.{Step.HonestStep, declared.calls.Call.Call, Guest.{Guest, frame_of}}
-use Rattle.vb_model.{specs.Tests.is_in, proofs.Performed.{Performed, honest_case}}
-
-or_first : (v b : Bool) → v ≡ true → (v || b) ≡ true
-or_first true b e = refl
-or_first false b e = absurd cc
-
-or_later : (v b : Bool) → b ≡ true → (v || b) ≡ true
-or_later true b e = refl
-or_later false b e = e
+use Rattle.std.proofs.Common.{Bool, List, [], ap, arith, cond, false, inl, inr, length, refl, sym}
+use Rattle.std.proofs.{Common.{true, ℕ, ◌<◌, ◌∙◌, ◌∷◌, ◌≡◌, ◌⊎◌}, lemmas.Bool.{eq-eqb, not-true}}
+use Rattle.std.{proofs.lemmas.Bool.{or_left, or_right}, specs.{List.list_all, Prelude.MatchBool}}
+use Rattle.std.specs.Prelude.{None, Option, Some, is_none, not, ◌&&◌, ◌==◌, ◌||◌}
+use Rattle.vb_model.proofs.{Cases.{all_filtered, match_cases}, Performed.{Performed, honest_case}}
+use Rattle.vb_model.{proofs.Tables.list_all-at, specs.Driver.{AreClaimsFor, claim_refusal}}
+use Rattle.vb_model.specs.{Driver.pages_needed, Guest.{Guest, frame_of}, HostFrames.Gives}
+use Rattle.vb_model.specs.{Layout.start_pages, Life.lacking, Refusals.{Cause, causes}}
+use Rattle.vb_model.specs.{Refusals.{first_refusal, refusal_of}, Rogue.{GuestStep, RogueStep}}
+use Rattle.vb_model.specs.Rogue.{after_refused, is_read, pages_to_back, unless_refused}
+use Rattle.vb_model.specs.{Step.HonestStep, StepLaws.{ClaimsAreNeeded, NeededPagesAreBare}}
+use Rattle.vb_model.specs.StepLaws.{NoFrameIsExact, NoMemoryIsExact, RefusedClaimsAreAnswered}
+use Rattle.vb_model.specs.{Tests.is_in, declared.calls.Call.{Call, TheVariants.{Alloc, Ask}}}
+use Rattle.vb_model.specs.declared.calls.Call.TheVariants.{Deflate, Finish, Free, Inflate, Init}
+use Rattle.vb_model.specs.declared.calls.Call.TheVariants.{Oom, Read, Reap, Report, Reset, Scribble}
+use Rattle.vb_model.specs.declared.calls.Call.TheVariants.{SetTarget, Stats, Sweep, Take, Work}
+use Rattle.vb_model.specs.declared.calls.{Call.TheVariants.Write, Claim.{Claim, TheVariants.Gave}}
+use Rattle.vb_model.specs.declared.calls.Claim.TheVariants.{GaveNoFrame, GaveNoMemory}
+use Rattle.vb_model.specs.declared.replies.Refusal.{Refusal, TheVariants.{NoFrame, NoMemory}}
+use Rattle.vb_model.specs.declared.replies.Reply.{Reply, TheVariants.Refused}
 
 -- ---- claims
 
@@ -117,8 +109,8 @@ want frames Out (page ∷ pages) (Gave f ∷ claims) gives a r =
     later : (x : ℕ) (got : List ℕ) → (Out x ⊎ (x ≡ f)) ⊎ (is_in x got ≡ true)
         → Out x ⊎ ((f == x || is_in x got) ≡ true)
     later x got (inl (inl o)) = inl o
-    later x got (inl (inr e)) = inr (or_first (f == x) (is_in x got) (eq-eqb f x (sym e)))
-    later x got (inr k) = inr (or_later (f == x) (is_in x got) k)
+    later x got (inl (inr e)) = inr (or_left (f == x) (is_in x got) (eq-eqb f x (sym e)))
+    later x got (inr k) = inr (or_right (f == x) (is_in x got) k)
 
 -- a reply that is a refusal for want of a frame, or of memory
 abbrev pub is_want : Refusal → Bool
