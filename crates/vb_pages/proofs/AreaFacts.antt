@@ -131,7 +131,8 @@ beside inside = (let wrong : false ≡ true = inside 1 (omega arith) (omega arit
 
 -- page 2 is half of a free block, so it is no maximal one, and no request gets it
 half : IsMaximal six (block_at 2 0) → ⊥
-half maximal = omega (arith, maximal.alone pair (omega arith, refl) pair_is_free (omega arith, omega arith))
+half maximal =
+    omega (arith, maximal.alone pair (omega arith, refl) pair_is_free (omega arith, omega arith))
 
 there_is_a_pair : HasNoBlock six 1 → ⊥
 there_is_a_pair none = none 2 (omega arith, refl) pair_is_free

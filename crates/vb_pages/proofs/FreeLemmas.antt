@@ -91,10 +91,8 @@ pub block_times : (f : FreePages) (s k : ℕ) → IsSoundFree f → HasRoomFor f
     ≡ one_if (has f.areas p) + one_if (covers p (block_at s k))
 block_times f s k sound room p = let block = pages_of (block_at s k) in
     elim (cases_Bool (is_in p block)) [
-      | inl i ↦
-          grind (arith, block_bounds, with_new)
-      | inr o ↦
-          grind (arith, covers_is p (block_at s k) false o, with_old, with_cases)
+      | inl i ↦ grind (arith, block_bounds, with_new)
+      | inr o ↦ grind (arith, covers_is p (block_at s k) false o, with_old, with_cases)
     ]
 
 -- a page of the block wasn't free, and is there
@@ -124,7 +122,13 @@ length-takes_pages set new (x ∷ pages) t =
 
 sum_by-reverse : (g : ℕ → ℕ) (xs : List ℕ) → sum_by g (reverse xs) ≡ sum_by g xs
 sum_by-reverse g [] = refl
-sum_by-reverse g (x ∷ xs) = grind (arith, reverse-append (x ∷ []) xs, sum_by-append g (reverse xs) (x ∷ []), sum_by-cons g x xs, sum_by-reverse g xs)
+sum_by-reverse g (x ∷ xs) = grind (
+  arith,
+  reverse-append (x ∷ []) xs,
+  sum_by-append g (reverse xs) (x ∷ []),
+  sum_by-cons g x xs,
+  sum_by-reverse g xs,
+)
 
 refill_times : (set new : List Bool) (list : List ℕ) → Refills set list new → (p : ℕ)
     → one_if (has new p) + times p list ≡ one_if (has set p)
@@ -171,7 +175,12 @@ single_areas set new (x ∷ xs) rest got h = ap length h.0
 single_none : (set new : List Bool) (list rest : List ℕ) → TakesSingle set list None new rest
     → (list ≡ []) × (rest ≡ []) × (new ≡ set) × HasNoBlock set 0
 single_none set new [] rest h = let r = h.1 in
-    grind (arith, length-reverse r.rising, length_permutation r.taken r.rising r.same, nil_from_length)
+    grind (
+      arith,
+      length-reverse r.rising,
+      length_permutation r.taken r.rising r.same,
+      nil_from_length,
+    )
 single_none set new (x ∷ xs) rest h =
     absurd (let bad : length (x ∷ xs) ≡ 0 = ap length h.1.0 in omega (arith, bad))
 
@@ -205,7 +214,11 @@ tries_none f new cpu order h = grind (arith, single_none, set-get_or)
 pub tries_times : (f new : FreePages) (cpu order start : ℕ) → cpu < length f.lists
     → Tries f cpu order (Some start) new → (p : ℕ)
     → times_free new p + one_if (covers p (block_at start order)) ≡ times_free f p
-tries_times f new cpu zero start l h p = grind (arith, single_times f.areas new.areas (list_of f cpu) h.0 (Some start) h.1 p, times-set p f.lists cpu h.0 l)
+tries_times f new cpu zero start l h p = grind (
+  arith,
+  single_times f.areas new.areas (list_of f cpu) h.0 (Some start) h.1 p,
+  times-set p f.lists cpu h.0 l,
+)
 tries_times f new cpu (suc order) start l h p =
     grind (arith, times p (in_lists f), takes_times f.areas new.areas (suc order) start h.0 p)
 
@@ -215,7 +228,15 @@ pub serves_times : (f new : FreePages) (cpu order start : ℕ) → IsSoundFree f
     → times_free new p + one_if (covers p (block_at start order)) ≡ times_free f p
 serves_times f new cpu order start sound l h p = elim h [
   | inl now ↦ tries_times f new cpu order start l now p
-  | inr later ↦ omega (arith, drained_times f sound p, tries_times (drained f) new cpu order start (omega (arith, length-map f.lists (λ (x : List ℕ). nothing))) later.1 p)
+  | inr later ↦ omega (
+    arith,
+    drained_times f sound p,
+    tries_times (drained f) new cpu order start (omega (
+      arith,
+      length-map f.lists (λ (x : List ℕ).
+          nothing),
+    )) later.1 p,
+  )
 ]
 
 -- ---- draining, list by list
@@ -277,7 +298,15 @@ module _ (areas : List Bool) (lists : List (List ℕ)) (once : Once areas (flat 
   pub next_drained : (after : List Bool) → after ≡ with_pages (get_or left i nothing) new
       → count_by (λ f. f) after ≡ count_by (λ f. f) new + length (get_or left i nothing)
       → IsDrainedSoFar areas lists (i + 1) after (set left i nothing)
-  next_drained after e n = grind (arith, with_append_turned, flat_more, length-append, get_or-set_same, get_or-set_other, length-set)
+  next_drained after e n = grind (
+    arith,
+    with_append_turned,
+    flat_more,
+    length-append,
+    get_or-set_same,
+    get_or-set_other,
+    length-set,
+  )
 
 -- all lists are in the areas
 pub all_drained : (areas : List Bool) (lists : List (List ℕ)) (i : ℕ) (new : List Bool)
@@ -390,7 +419,14 @@ module _ (f : FreePages) (cpu s : ℕ) (sound : IsSoundFree f) (l : cpu < length
     once = λ p.
         let e : one_if (nat_lt p (length (with_pages (take 8 longer) f.areas)))
         ≡ one_if (nat_lt p (length f.areas)) =
-        ap (λ (n : ℕ). one_if (nat_lt p n)) (length-with_pages (take 8 longer) f.areas) in omega (arith, with_times f.areas (take 8 longer) front_once p, longer_times p, front_times p, times-set p f.lists cpu longer l, times-set p f.lists cpu (drop 8 longer) l);
+        ap (λ (n : ℕ). one_if (nat_lt p n)) (length-with_pages (take 8 longer) f.areas) in omega (
+          arith,
+          with_times f.areas (take 8 longer) front_once p,
+          longer_times p,
+          front_times p,
+          times-set p f.lists cpu longer l,
+          times-set p f.lists cpu (drop 8 longer) l,
+        );
     short = grind (arith, get_or-set_same, longer_length, get_or-set_other);
     few = omega (arith, sound.few, length-set f.lists cpu (drop 8 longer));
     small = omega (arith, sound.small, length-with_pages (take 8 longer) f.areas);
@@ -461,7 +497,13 @@ given_times f cpu s zero sound l room p = let long = longer f cpu s sound l room
           let e : times_free (given_back cpu s 0 f) p
           ≡ times_free (free_of (with_pages (take 8 long) f.areas)
           (set f.lists cpu (drop 8 long)) f.reserved) p = ap (λ (x : FreePages). times_free x p)
-          (sym (given_full f cpu s sound l room full)) in omega (arith, with_times f.areas (take 8 long) (front_once f cpu s sound l room) p, front_times f cpu s sound l room p, times-set p f.lists cpu (drop 8 long) l, covers_one s p)
+          (sym (given_full f cpu s sound l room full)) in omega (
+            arith,
+            with_times f.areas (take 8 long) (front_once f cpu s sound l room) p,
+            front_times f cpu s sound l room p,
+            times-set p f.lists cpu (drop 8 long) l,
+            covers_one s p,
+          )
       | inr short ↦
           grind (arith, given_short f cpu s sound l room short, times-set p f.lists cpu long l)
     ]

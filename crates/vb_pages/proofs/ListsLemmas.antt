@@ -108,10 +108,8 @@ takes_times set new k s t p = let inside = taken_inside set s k t.0.0 t.0.1 in
     let block = pages_of (block_at s k) in
     let e : has new p ≡ has (without_pages block set) p = ap (λ (x : List Bool). has x p) t.1 in
     elim (cases_Bool (is_in p block)) [
-      | inl i ↦
-          grind (arith, block_bounds, without_parts)
-      | inr o ↦
-          grind (arith, covers_is p (block_at s k) false o, without_old, without_parts)
+      | inl i ↦ grind (arith, block_bounds, without_parts)
+      | inr o ↦ grind (arith, covers_is p (block_at s k) false o, without_old, without_parts)
     ]
 
 pub covers_one : (s p : ℕ) → one_if (covers p (block_at s 0)) ≡ one_if (s == p)

@@ -284,7 +284,8 @@ room_of f new h s k kept l r block less = let pos : 0 < 2 ^ k = pow_pos k in
       block,
       omega (arith, first.0, r),
       omega (arith, last.1, l),
-      λ p a e. let most = one_if_le (is_unreserved (record { free = f; held = h.blocks }) p) in grind (arith, free_none, count_none),
+      λ p a e. let most = one_if_le (is_unreserved (record { free = f; held = h.blocks }) p) in
+          grind (arith, free_none, count_none),
     )
 
 pub isolated_room : (f new : FreePages) (h : HeldBlocks) (order from : ℕ) (got : Option FreeBlock)

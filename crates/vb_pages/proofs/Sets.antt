@@ -139,7 +139,13 @@ with_one : (p : ℕ) (set : List Bool) → p < length set → with_pages (p ∷ 
 with_one p set l = same_lists (with_pages (p ∷ []) set) (put set p true)
     (length-with_pages (p ∷ []) set ∙ sym (length-set set p true)) (λ k d h.
     let k_in : k < length set = omega (arith, length-with_pages (p ∷ []) set) in
-    get_or_default (with_pages (p ∷ []) set) k d false h ∙ (grind (arith, has-with_pages, get_or-set_same, get_or_default, get_or-set_other)))
+    get_or_default (with_pages (p ∷ []) set) k d false h ∙ (grind (
+      arith,
+      has-with_pages,
+      get_or-set_same,
+      get_or_default,
+      get_or-set_other,
+    )))
   where
     or_false : (b : Bool) → (b || (false || false)) ≡ b
     or_false true = refl
@@ -169,7 +175,15 @@ count_range zero s set l h = ap (count_by (λ f. f))
     (λ p e. elim (with_cases [] set p e)
     [ inl old ↦ old | inr new ↦ absurd (both_ways false refl new) ]) (λ p e. with_old [] set p e))
     ∙ (let z : count_by (λ f. f) set ≡ count_by (λ f. f) set + 0 = omega arith in z)
-count_range (suc n) s set l h = grind (arith, count_one, with_cons, count_range n (s + 1) (with_pages (s ∷ []) set) (omega (arith, length-with_pages (s ∷ []) set)) (λ p a b. has-with_pages (s ∷ []) set p (omega arith) ∙ or_from (has set p) (is_in p (s ∷ [])) (h p (omega arith) (omega arith)) (ap (λ (v : Bool). v || false) (ne_eqb s p (λ e. omega arith)))))
+count_range (suc n) s set l h = grind (
+  arith,
+  count_one,
+  with_cons,
+  count_range n (s + 1) (with_pages (s ∷ []) set) (omega (arith, length-with_pages (s ∷ []) set)) (λ
+      p a b. has-with_pages (s ∷ []) set p (omega arith) ∙ or_from (has set p) (is_in p (s ∷ [])) (h
+      p (omega arith) (omega arith)) (ap (λ (v : Bool). v || false) (ne_eqb s p (λ e. omega
+      arith)))),
+)
 
 pub count_without : (s k : ℕ) (set : List Bool)
     → ((p : ℕ) → s ≤ p → p < s + 2 ^ k → has set p ≡ true) → count_by (λ f. f) set

@@ -174,15 +174,19 @@ set-changed : (k s : ℕ) (t : List (Option ℕ)) (v : Option ℕ) (flag : Bool)
 set-changed k s t v flag l aligned e =
     ext_get_or false (set_of_order k (set t s v)) (set (set_of_order k t) (s / 2 ^ k) flag)
     (length-set_of_order k (set t s v) ∙ ap (room_of k) (length-set t s v)
-    ∙ sym (length-set (set_of_order k t) (s / 2 ^ k) flag ∙ length-set_of_order k t)) (grind (arith, length-set_of_order, length-set, at, set_at))
+    ∙ sym (length-set (set_of_order k t) (s / 2 ^ k) flag ∙ length-set_of_order k t)) (grind (
+      arith,
+      length-set_of_order,
+      length-set,
+      at,
+      set_at,
+    ))
   where
     at : (b : ℕ) → b < room_of k (length t) → is_order k (order_at (set t s v) (b * 2 ^ k))
         ≡ has (set (set_of_order k t) (s / 2 ^ k) flag) b
     at b h = elim (cases_eq b (s / 2 ^ k)) [
-      | inl same ↦
-          grind (arith, multiple_of, length-set_of_order, get_or-set_same)
-      | inr differ ↦
-          grind (arith, times_div, get_or-set_other, set_at)
+      | inl same ↦ grind (arith, multiple_of, length-set_of_order, get_or-set_same)
+      | inr differ ↦ grind (arith, times_div, get_or-set_other, set_at)
     ]
 
 sets-changed : (k s : ℕ) (t : List (Option ℕ)) (v : Option ℕ) (flag : Bool) → k < 10

@@ -89,13 +89,6 @@ module _ (t : List (Option ℕ)) (placed : IsPlaced t) where
   pub to_set : (p : ℕ) → Covered t p → has (set_of t) p ≡ true
   to_set p c = grind (arith, has-set_of, covered_to)
 
-  -- just one block covers a page
-  pub one_start : (p : ℕ) (a b : Covered t p) → a.start ≡ b.start
-  one_start p a b = grind (arith, cases_lt)
-
-  pub one_order : (s k j : ℕ) → order_at t s ≡ Some k → order_at t s ≡ Some j → k ≡ j
-  one_order s k j a b = let e : Some k ≡ Some j = sym a ∙ b in cc
-
   -- a listed block that has all pages of another block
   pub record Within (a j : ℕ) : Type 0 where
     pub start : ℕ
@@ -120,14 +113,19 @@ module _ (t : List (Option ℕ)) (placed : IsPlaced t) where
       join x y = let twice : 2 ^ suc j ≡ 2 ^ j + 2 ^ j = pow_twice j in
           let pos : 0 < 2 ^ j = pow_pos j in elim (cases_lt j x.order) [
             | inl lt ↦
-                grind (arith, aligned_step a (x.start + 2 ^ x.order) (2 ^ suc j) e (end_aligned x.start (suc j) x.order lt (placed.blocks.aligned x.start x.order x.listed)) (omega (arith, x.high)))
+                grind (
+                  arith,
+                  aligned_step a (x.start + 2 ^ x.order) (2 ^ suc j) e (end_aligned x.start (suc j)
+                      x.order lt (placed.blocks.aligned x.start x.order x.listed)) (omega (
+                        arith,
+                        x.high,
+                      )),
+                )
             | inr xle ↦ elim (cases_lt j y.order) [
               | inl lt ↦
                   let start_ok : y.start % 2 ^ suc j ≡ 0 = aligned_down y.start (suc j) y.order lt
-                  (placed.blocks.aligned y.start y.order y.listed) in
-                  grind (arith, aligned_step)
-              | inr yle ↦
-                  grind arith
+                  (placed.blocks.aligned y.start y.order y.listed) in grind (arith, aligned_step)
+              | inr yle ↦ grind arith
             ]
           ]
 
@@ -159,8 +157,7 @@ module _ (t : List (Option ℕ)) (placed : IsPlaced t) where
   maximal_listed merged b m = let w = inside_within merged b m.is_block m.inside in
       let le : w.order ≤ b.order =
       m.alone (block_at w.start w.order) (listed_block w.start w.order w.listed)
-      (listed_inside w.start w.order w.listed) (w.low, w.high) in
-      grind arith
+      (listed_inside w.start w.order w.listed) (w.low, w.high) in grind arith
 
   -- where no block of at least this order is listed, none lies in the set
   pub none_inside : IsMerged t → (order : ℕ) → ((s k : ℕ) → order ≤ k → order_at t s ≡ Some k → ⊥)
@@ -171,7 +168,8 @@ module _ (t : List (Option ℕ)) (placed : IsPlaced t) where
   pub chosen : IsMerged t → (order s k : ℕ) → order ≤ k
       → ((r j : ℕ) → order ≤ j → j < k → order_at t r ≡ Some j → ⊥) → IsLowestStart t k 0 (Some s)
       → IsChosen (set_of t) order (block_at s k)
-  chosen merged order s k l none low = grind (arith, listed_maximal merged s k low.0, maximal_listed)
+  chosen merged order s k l none low =
+      grind (arith, listed_maximal merged s k low.0, maximal_listed)
 
 -- ---- a block leaves the table
 
@@ -203,7 +201,8 @@ removed_set t s k placed e = same_sets (set_of t') (without_pages block (set_of 
     to p h = grind (arith, in_set, entry_kept, l, without_old, to_set, not_in_block)
 
     from : (p : ℕ) → has (without_pages block (set_of t)) p ≡ true → has (set_of t') p ≡ true
-    from p h = grind (arith, without_parts, in_set, in_block, to_set, removed_placed, l, get_or-set_other)
+    from p h =
+        grind (arith, without_parts, in_set, in_block, to_set, removed_placed, l, get_or-set_other)
 
 -- ---- a block comes to the table
 
@@ -278,7 +277,8 @@ module _ (t : List (Option ℕ)) (s k : ℕ) (placed : IsPlaced t) (room : HasRo
       block = pages_of (block_at s k)
 
       to : (p : ℕ) → has (set_of t') p ≡ true → has (with_pages block (set_of t)) p ≡ true
-      to p h = grind (arith, in_set, entry_cases, with_new, length-set_of, in_block, with_old, to_set)
+      to p h =
+          grind (arith, in_set, entry_cases, with_new, length-set_of, in_block, with_old, to_set)
 
       from : (p : ℕ) → has (with_pages block (set_of t)) p ≡ true → has (set_of t') p ≡ true
       from p h = elim (with_cases block (set_of t) p h) [
@@ -286,7 +286,8 @@ module _ (t : List (Option ℕ)) (s k : ℕ) (placed : IsPlaced t) (room : HasRo
             let c = in_set t p old in
             let pos : 0 < 2 ^ k = pow_pos k in
             let pos' : 0 < 2 ^ c.order = pow_pos c.order in
-            let differ : c.start ≢ s = λ same. outside s (omega arith) (omega arith) (grind arith) in grind (arith, to_set, added_placed, get_or-set_other)
+            let differ : c.start ≢ s = λ same. outside s (omega arith) (omega arith) (grind arith) in
+            grind (arith, to_set, added_placed, get_or-set_other)
         | inr new ↦ grind (arith, block_bounds, to_set, added_placed, get_or-set_same)
       ]
 
@@ -309,10 +310,6 @@ module _ (t : List (Option ℕ)) (s k b low : ℕ) (placed : IsPlaced t) (room :
   buddy_inside : (p : ℕ) → is_in p (pages_of (block_at b k)) ≡ true → has (set_of t) p ≡ true
   buddy_inside p h = let q = block_bounds b k p h in listed_inside t placed b k listed p q.0 q.1
 
-  left_case : (s ≡ low) × (b ≡ low + 2 ^ k) × (low % 2 ^ suc k ≡ 0)
-      ⊎ ((b ≡ low) × (s ≡ low + 2 ^ k) × (low % 2 ^ suc k ≡ 0))
-  left_case = grind arith
-
   -- all pages of the larger block
   pub merged_set : with_pages (pages_of (block_at low (suc k))) (set_of after)
       ≡ with_pages (pages_of (block_at s k)) (set_of t)
@@ -324,7 +321,8 @@ module _ (t : List (Option ℕ)) (s k b low : ℕ) (placed : IsPlaced t) (room :
       grind (arith, halves, halves_turned)
 
   pub merged_room : HasRoom after low (suc k)
-  merged_room = grind (arith, removed_set t b k placed listed, length-set t b None, without_parts, in_block)
+  merged_room =
+      grind (arith, removed_set t b k placed listed, length-set t b None, without_parts, in_block)
 
 -- the upper half of a block goes in
 module _ (t : List (Option ℕ)) (s k : ℕ) (placed : IsPlaced t) (room : HasRoom t s (suc k)) where
@@ -351,7 +349,8 @@ module _ (t : List (Option ℕ)) (s k : ℕ) (placed : IsPlaced t) (room : HasRo
 -- a block that left the table has room in it
 pub removed_room : (t : List (Option ℕ)) (s k : ℕ) → IsPlaced t → order_at t s ≡ Some k
     → HasRoom (set t s None) s k
-removed_room t s k placed e = grind (arith, length-set t s None, removed_set t s k placed e, has-without_pages, in_block)
+removed_room t s k placed e =
+    grind (arith, length-set t s None, removed_set t s k placed e, has-without_pages, in_block)
 
 pub removed_tiled : (t : List (Option ℕ)) (s k : ℕ) → IsTiled t → order_at t s ≡ Some k
     → IsTiled (set t s None)

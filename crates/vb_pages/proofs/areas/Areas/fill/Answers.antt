@@ -7,4 +7,5 @@ pub returns : goal.returns
 returns c = grind (arith, unreserved_is)
 
 pub loop-page-preserved : goal.loop-page-preserved
-loop-page-preserved c = grind (arith, length-with_pages, with_cases, block_bounds, with_old, with_new, in_block)
+loop-page-preserved c =
+    grind (arith, length-with_pages, with_cases, block_bounds, with_old, with_new, in_block)
