@@ -1,11 +1,10 @@
 -- Two tables that agree give the same chains and the same faults.
 use Rattle.std.proofs.Common.{◌≡◌, ◌∙◌, ℕ, zero, suc, ◌+◌, ◌<◌, Bool, true, false, List, [], ◌∷◌}
-use Rattle.std.proofs.Common.{None, refl, length, get_or, take, map, sym, ap, arith, inl, inr}
-use Rattle.std.{specs.Prelude.{◌&&◌, ◌||◌}, specs.List.list_any, proofs.lemmas.Bool.leb-false}
-use Rattle.std.proofs.lemmas.List.{get_or-take, length-take}
-use Rattle.vb_chain.specs.declared.descriptor.Descriptor.{Descriptor}
-use Rattle.vb_chain.{specs.declared.pieces.Piece.Piece, specs.declared.fault.ChainFault.ChainFault}
-use Rattle.vb_chain.specs.Rules.{has_next, is_writable, piece_of, first_fault}
+use Rattle.std.proofs.lemmas.{Bool.leb-false, List.{get_or-take, length-take}}
+use Rattle.std.specs.{List.list_any, Prelude.{◌&&◌, ◌||◌}}
+use Rattle.std.proofs.Common.{None, refl, length, get_or, map, sym, ap, arith, inl, inr}
+use Rattle.vb_chain.specs.declared.{descriptor.Descriptor.Descriptor, fault.ChainFault.ChainFault}
+use Rattle.vb_chain.specs.{Rules.{has_next, first_fault}, declared.pieces.Piece.Piece}
 use Rattle.vb_chain.specs.Chain.{IsPath, fault_at, ChainGives, FaultGives}
 
 -- The two give the same descriptors of a table of so many.
@@ -45,12 +44,7 @@ path_below : (d : ℕ → Descriptor) (q end head : ℕ) (path : List ℕ) → h
     (k : ℕ) → k < length path → get_or path k 0 < q
 path_below d q end head path inside is sound zero lt = omega (arith, is.begins, inside)
 path_below d q end head path inside is sound (suc k) lt =
-    let short : k + 1 < length path = omega (arith, lt) in
-    let place : get_or path (suc k) 0 ≡ get_or path (k + 1) 0 =
-    ap (λ (n : ℕ). get_or path n 0) (one k) in
-    let below : (d (get_or path k 0)).next < q =
-    next_below q end (list_any (λ i. is_writable (d i)) (take k path)) k (d (get_or path k 0))
-    (sound k short) (is.onward k short) in omega (arith, below, is.linked k short, place)
+    let short : k + 1 < length path = omega (arith, lt) in grind (arith, one k, next_below)
   where
     one : (n : ℕ) → suc n ≡ n + 1
     one n = omega arith
@@ -62,45 +56,16 @@ same_fault : (d e : ℕ → Descriptor) (q end : ℕ) (path : List ℕ) →
     (k : ℕ) → k < length path → fault_at d q end path k ≡ fault_at e q end path k
 same_fault d e q end path same k lt = grind (arith, any_same, length-take, get_or-take)
 
-same_path : (d e : ℕ → Descriptor) (head : ℕ) (path : List ℕ) → ((k : ℕ) → k < length path
-    → d (get_or path k 0) ≡ e (get_or path k 0)) → IsPath d head path → IsPath e head path
-same_path d e head path same is = grind arith
-
 pub same_chain : (d e : ℕ → Descriptor) (q end h : ℕ) (pieces : List Piece) → Agree q d e →
     ChainGives d q end h pieces → ChainGives e q end h pieces
 same_chain d e q end h pieces agree gives = let chain = gives.chain in
     let path : List ℕ = gives.path in
     let below : (k : ℕ) → k < length path → get_or path k 0 < q = path_below
     d q end h path chain.inside chain.is_path (λ k lt. chain.sound k (omega (arith, lt))) in
-    let same : (k : ℕ) → k < length path → d (get_or path k 0) ≡ e (get_or path k 0) =
-    λ k lt. agree (get_or path k 0) (below k lt) in record {
-      path = path;
-      chain = record {
-        inside = chain.inside;
-        is_path = same_path d e h path same chain.is_path;
-        short = chain.short;
-        sound = λ k lt. sym (same_fault d e q end path same k lt) ∙ chain.sound k lt;
-        ends = λ k last. ap has_next (sym (same k (omega (arith, last)))) ∙ chain.ends k last;
-      };
-      pieces_are = gives.pieces_are ∙ map_same (λ i. piece_of (d i)) (λ i. piece_of (e i)) path
-          (λ j lt. ap piece_of (same j lt));
-    }
+    grind (arith, same_fault, map_same)
 
 pub same_break : (d e : ℕ → Descriptor) (q end h : ℕ) (fault : ChainFault) → Agree q d e →
     FaultGives d q end h fault → FaultGives e q end h fault
 same_break d e q end h fault agree (inl none) = inl none
 same_break d e q end h fault agree (inr (path, breaks)) =
-    let below : (k : ℕ) → k < length path → get_or path k 0 < q =
-    path_below d q end h path breaks.inside breaks.is_path breaks.sound in
-    let same : (k : ℕ) → k < length path → d (get_or path k 0) ≡ e (get_or path k 0) =
-    λ k lt. agree (get_or path k 0) (below k lt) in inr (
-      path,
-      record {
-        inside = breaks.inside;
-        is_path = same_path d e h path same breaks.is_path;
-        sound = λ k lt.
-            sym (same_fault d e q end path same k (omega (arith, lt))) ∙ breaks.sound k lt;
-        breaks = λ k last.
-            sym (same_fault d e q end path same k (omega (arith, last))) ∙ breaks.breaks k last;
-      },
-    )
+    grind (arith, path_below d q end h path breaks.inside breaks.is_path breaks.sound, same_fault)

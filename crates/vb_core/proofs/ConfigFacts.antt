@@ -1,26 +1,17 @@
 -- The configuration space and PAGE_POISON, worked out.
-use Rattle.std.{proofs.Common.{◌≡◌, refl, ℕ, true, false, [], ◌∷◌, map}, specs.Prelude.{Some, None}}
+use Rattle.std.{proofs.Common.{◌≡◌, refl, true, false, [], ◌∷◌, map}, specs.Prelude.{Some, None}}
 use Rattle.vb_status.specs.declared.bits.StatusFault.TheVariants.{FeatureNotOffered, OutOfOrder}
-use Rattle.vb_core.{specs.declared.settings.TheConstants.PAGE_POISON, specs.Devices.new_device}
-use Rattle.vb_core.{specs.declared.device.Device.Device, specs.Statuses.negotiate_denial}
+use Rattle.vb_core.specs.declared.{device.Device.Device, settings.TheConstants.PAGE_POISON}
+use Rattle.vb_core.{proofs.Examples.offering, specs.{Devices.new_device, Statuses.negotiate_denial}}
 use Rattle.vb_core.specs.Settings.{are_settings, known_features, page_poison, without_poison}
 use Rattle.vb_core.specs.Config.{config_bytes, config_denies, with_written, keeps_reports}
 
-abbrev offering : ℕ → Device
-offering offered = new_device (record {
-  memory_end = 262144;
-  offered = offered;
-  reserved_pages = 16;
-  needs_must_tell = 0;
-  skips_bad_pages = 0;
-})
-
 -- with PAGE_POISON, and without it
 abbrev poisons : Device
-poisons = record (offering 0x100000031) { target = 258; actual = 1; poison = 0xaabbccdd }
+poisons = record (new_device (offering 0x100000031)) { target = 258; actual = 1; poison = 0xaabbccdd }
 
 abbrev other : Device
-other = record (offering 0x100000027) { target = 258; actual = 1; poison = 0xaabbccdd }
+other = record (new_device (offering 0x100000027)) { target = 258; actual = 1; poison = 0xaabbccdd }
 
 -- ---- reads
 
@@ -69,7 +60,7 @@ tested : map page_poison (16 ∷ 0x100000037 ∷ 0 ∷ 15 ∷ 32 ∷ 0x100000027
     ≡ true ∷ true ∷ false ∷ false ∷ false ∷ false ∷ []
 tested = refl
 
-may_be_offered : map (λ offered. are_settings (offering offered).settings) (0x100000010
+may_be_offered : map (λ offered. are_settings (offering offered)) (0x100000010
     ∷ 0x100000037 ∷ 16 ∷ 0x100000008 ∷ 0x100000040 ∷ []) ≡ true ∷ true ∷ false ∷ false ∷ false ∷ []
 may_be_offered = refl
 
@@ -95,5 +86,5 @@ kept = refl
 -- zeros are what a discarded page reads as; and a driver that didn't negotiate says nothing
 discarded : keeps_reports (record poisons { features = 0x100000031; poison = 0 })
     ∷ keeps_reports (record poisons { features = 0x100000021 })
-    ∷ keeps_reports (offering 0x100000031) ∷ [] ≡ false ∷ false ∷ false ∷ []
+    ∷ keeps_reports (new_device (offering 0x100000031)) ∷ [] ≡ false ∷ false ∷ false ∷ []
 discarded = refl

@@ -81,11 +81,10 @@ pub copied_fault : (mem : Pages) (l : Layout) (q h : ℕ) (avail table : List �
     FaultGives (descriptor_at (copies_of (length mem) table avail) 0) q
     (end_of (copies_of (length mem) table avail)) h fault
 copied_fault mem l q h avail table fault size two same gives =
-    let count : length mem ≡ length (copies_of (length mem) table avail) =
-    sym (copies_count (length mem) avail table) in
-    let there : FaultGives (descriptor_at (copies_of (length mem) table avail) 0) q (end_of mem) h
-    fault = same_break (descriptor_at mem l.table)
-    (descriptor_at (copies_of (length mem) table avail) 0) q (end_of mem) h fault
-    (agree_back q (descriptor_at (copies_of (length mem) table avail) 0)
-    (descriptor_at mem l.table) (copied_agree mem l q avail table size two same)) gives in
-    rw (← count) there
+    grind (
+      arith,
+      copies_count (length mem) avail table,
+      same_break (descriptor_at mem l.table) (descriptor_at (copies_of (length mem) table avail) 0)
+          q (end_of mem) h fault (agree_back q (descriptor_at (copies_of (length mem) table avail)
+          0) (descriptor_at mem l.table) (copied_agree mem l q avail table size two same)) gives,
+    )

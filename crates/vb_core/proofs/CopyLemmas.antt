@@ -1,15 +1,15 @@
 -- What a page of a memory of copies is.
-use Rattle.std.proofs.Common.{rules, Option, ◌≡◌, ℕ, ◌<◌, ◌≤◌, List, [], Some, None, length, get_or}
-use Rattle.std.proofs.Common.{refl, sym, ◌∙◌, ap, set, arith, inl, inr, ◌∷◌, false, is_some}
-use Rattle.std.{specs.Prelude.slice_index, proofs.lemmas.Bool.cases_eq}
-use Rattle.std.proofs.lemmas.List.{get_or-set_same, get_or-set_other, get_or_past, length-set}
-use Rattle.std.proofs.lemmas.List.{ext_get_or}
+use Rattle.std.proofs.Common.{◌≡◌, ℕ, ◌<◌, ◌≤◌, List, [], Some, None, length, get_or, refl, sym}
+use Rattle.std.proofs.Common.{Option, false, is_some}
 use Rattle.std.proofs.lemmas.List.FromFn.{get_or-map-range_with_len, length-map-range_with_len}
+use Rattle.std.proofs.lemmas.List.{get_or-set_same, get_or-set_other, length-set, ext_get_or}
+use Rattle.std.proofs.lemmas.List.{get_or_past}
+use Rattle.std.{proofs.Common.{◌∙◌, ap, set, arith, ◌∷◌}, specs.Prelude.slice_index}
+use Rattle.vb_ram.{proofs.PageLemmas.wrote, specs.Put.PutAt}
 use Rattle.vb_ram.specs.Pages.{Page, byte_of, number_of, byte_at, page_at, frame_at, Wrote}
-use Rattle.vb_ram.{specs.Put.PutAt, proofs.PageLemmas.wrote}
 use Rattle.vb_ring.specs.Layout.{IsInside}
 use Rattle.vb_core.specs.Copies.{lent, copy_number, copy_at, copy_of, copied, padded, copied_layout}
-use Rattle.vb_core.{specs.declared.copies.Kept.Kept, specs.Copies.{kept_pages, PutsInto}}
+use Rattle.vb_core.specs.{Copies.{kept_pages, PutsInto}, declared.copies.Kept.Kept}
 
 pub copied_length : (count : ℕ) (cs : List (List ℕ)) → length (copied count cs) ≡ count
 copied_length count cs = length-map-range_with_len (λ p. copy_at cs (copy_number p)) 0 count
@@ -61,16 +61,6 @@ pub bare_past : (count p : ℕ) (cs : List (List ℕ)) → count ≤ p →
 bare_past count p cs h = ap (λ w. is_some (number_of w))
     (get_or_past (copied count cs) p None (omega (arith, copied_length count cs)))
 
--- another place's copy stays
-other : (cs : List (List ℕ)) (k : ℕ) (new : List ℕ) (o : Option ℕ) → (o ≡ Some k → ⊥) →
-    copy_at (set cs k new) o ≡ copy_at cs o
-other cs k new None ne = refl
-other cs k new (Some j) ne = ap lent (get_or-set_other cs k j new [] (λ e. ne (ap Some e)))
-
--- no two pages have one copy
-only : (p q k : ℕ) → copy_number p ≡ Some k → copy_number q ≡ Some k → q ≡ p
-only p q k e f = search rules
-
 pub copied_set : (count p k : ℕ) (cs : List (List ℕ)) (new : List ℕ) → p < count → k < length cs
     → copy_number p ≡ Some k → copied count (set cs k new) ≡ set (copied count cs) p (lent new)
 copied_set count p k cs new h l e = let old = copied count cs in
@@ -81,17 +71,7 @@ copied_set count p k cs new h l e = let old = copied count cs in
   where
     at : (i : ℕ) → i < count →
         page_at (copied count (set cs k new)) i ≡ page_at (set (copied count cs) p (lent new)) i
-    at i u = elim (cases_eq i p) [
-      | inl same ↦
-          let there : p < length (copied count cs) = omega (arith, copied_length count cs) in
-          ap (page_at (copied count (set cs k new))) same
-          ∙ copied_here count p k (set cs k new) h e ∙ ap lent (get_or-set_same cs k new [] l)
-          ∙ sym (ap (page_at (set (copied count cs) p (lent new))) same
-          ∙ get_or-set_same (copied count cs) p (lent new) None there)
-      | inr ne ↦ copied_at count i (set cs k new) u
-          ∙ other cs k new (copy_number i) (λ f. ne (only p i k e f))
-          ∙ sym (get_or-set_other (copied count cs) p i (lent new) None ne ∙ copied_at count i cs u)
-    ]
+    at i u = grind (arith, copied_length, get_or-set_same, copied_at, get_or-set_other)
 
 pub copied_wrote : (count p k off : ℕ) (cs : List (List ℕ)) (bs new : List ℕ) → p < count →
     k < length cs → copy_number p ≡ Some k → length new ≡ length (get_or cs k [])

@@ -1,12 +1,11 @@
 -- Counts of pages over the words that have their bits.
-use Rattle.std.proofs.Common.{◌≡◌, ◌≢◌, ℕ, zero, suc, ◌+◌, ◌-◌, ◌*◌, ◌/◌, ◌%◌, ◌^◌, ◌<◌, ◌≤◌, Bool}
+use Rattle.std.proofs.lemmas.List.{FromFn.length-range_with_len, Sums.count_by-le-length}
+use Rattle.std.proofs.lemmas.{Bool.cases_lt, Nat.Bits.{bit_at-lt, bit_at-suc, bit_at_lowest}}
+use Rattle.std.{proofs.lemmas.Nat.{ones_le_self, pow-add}, specs.{Int.bit_at, List.range_with_len}}
 use Rattle.std.proofs.Common.{false, refl, sym, ap, ◌∙◌, inl, inr, arith, eqb, count_by, count_ones}
-use Rattle.std.{proofs.lemmas.Nat.Bits.{bit_at-lt, bit_at-suc, bit_at_lowest}, specs.Int.bit_at}
-use Rattle.std.{proofs.lemmas.List.FromFn.length-range_with_len, proofs.lemmas.Bool.cases_lt}
-use Rattle.std.{proofs.lemmas.List.Sums.count_by-le-length, specs.List.range_with_len}
-use Rattle.std.proofs.lemmas.Nat.{ones_le_self, pow-add}
-use Rattle.vb_model.{specs.Tests.{has_bit, one_if}, proofs.Tables.count_by-cons}
+use Rattle.vb_model.{proofs.Tables.count_by-cons, specs.Tests.{has_bit, one_if}}
 use lib.Count.{ones_step}
+use Rattle.std.proofs.Common.{◌≡◌, ◌≢◌, ℕ, zero, suc, ◌+◌, ◌-◌, ◌*◌, ◌/◌, ◌%◌, ◌^◌, ◌<◌, ◌≤◌, Bool}
 
 -- ---- over numbers in a row
 
@@ -27,11 +26,8 @@ count_add f g h a (suc n) e =
 pub count_none : (f : ℕ → Bool) (a n : ℕ) → ((p : ℕ) → a ≤ p → p < a + n → f p ≡ false)
     → count_by f (range_with_len a n) ≡ 0
 count_none f a zero none = refl
-count_none f a (suc n) none = grind (
-  arith,
-  count_next,
-  count_none f (a + 1) n (λ p from below. none p (omega arith) (omega arith)),
-)
+count_none f a (suc n) none =
+    grind (arith, count_none f (a + 1) n (λ p from below. none p (omega arith) (omega arith)))
 
 pub count_split : (f : ℕ → Bool) (a m n : ℕ) → count_by f (range_with_len a (m + n))
     ≡ count_by f (range_with_len a m) + count_by f (range_with_len (a + m) n)
@@ -53,17 +49,7 @@ count_few f n bound none = elim (cases_lt n bound) [
   | inr more ↦
       let rest : ℕ = n - bound in
       let sum : n ≡ bound + rest = omega arith in
-      let whole : count_by f (range_with_len 0 n) ≡ count_by f (range_with_len 0 (bound + rest)) =
-      ap (λ (k : ℕ). count_by f (range_with_len 0 k)) sum in
-      let past : count_by f (range_with_len (0 + bound) rest) ≡ 0 =
-      count_none f (0 + bound) rest (λ p from below. none p (omega arith)) in omega (
-        arith,
-        whole,
-        past,
-        count_split f 0 bound rest,
-        count_by-le-length f (range_with_len 0 bound),
-        length-range_with_len 0 bound,
-      )
+      grind (arith, count_none, count_split, count_by-le-length, length-range_with_len)
 ]
 
 -- ---- over the bits of a word
@@ -103,15 +89,7 @@ count_word f x w words fits within e none = let rest : ℕ = 64 * words - (64 * 
     ap (λ (k : ℕ). count_by f (range_with_len k 64)) start ∙ count_bits f x (64 * w) 64 fits e in
     let behind : count_by f (range_with_len (0 + 64 * w + 64) rest) ≡ 0 =
     count_none f (0 + 64 * w + 64) rest (λ p from below. none p (λ q. omega (arith, q, from))) in
-    omega (
-      arith,
-      whole,
-      before,
-      middle,
-      behind,
-      count_split f 0 (64 * w) (64 + rest),
-      count_split f (0 + 64 * w) 64 rest,
-    )
+    omega (arith, count_split f 0 (64 * w) (64 + rest), count_split f (0 + 64 * w) 64 rest)
 
 -- the words before one, and that one
 pub count_more : (f : ℕ → Bool) (x w : ℕ) → x < 2 ^ 64 → ((i : ℕ)

@@ -10,6 +10,7 @@ pub mod ChainAgreement
 pub mod CopyLaws
 pub mod CountLemmas
 pub mod MarkLemmas
+mod Examples
 mod SettingFacts
 mod ConfigFacts
 mod RunFacts

@@ -1,21 +1,19 @@
 -- Pages that are put into a set, or taken out of it.
-use Rattle.std.proofs.Common.{◌≡◌, ◌≢◌, ℕ, zero, suc, ◌+◌, ◌-◌, ◌*◌, ◌/◌, ◌%◌, ◌^◌, ◌<◌, ◌≤◌, Bool}
 use Rattle.std.proofs.Common.{true, false, cond, not, ◌&&◌, ◌||◌, List, [], ◌∷◌, length, get_or}
-use Rattle.std.proofs.Common.{set, refl, sym, ap, ◌∙◌, inl, inr, arith, eqb, ltb, leb, min, max}
-use Rattle.std.proofs.Common.{bit_and, bit_or, bit_xor, count_by, count_ones, if◌then◌else◌, take}
-use Rattle.std.proofs.{Common.◌==◌, lemmas.Bool.{cases_lt, cases_Bool, le-leb, lt-leb, and_from}}
-use Rattle.std.proofs.lemmas.Bool.{and_parts, leb-true, ltb-true, lt-ltb, le-ltb, eq-eqb, ne_eqb}
-use Rattle.std.{proofs.lemmas.Bool.{or_from, both_ways}, specs.List.{range_with_len, list_any}}
-use Rattle.std.{specs.Int.{bit_not, w64}, proofs.lemmas.Bool.Decides.eqb_tells}
+use Rattle.std.proofs.Common.{set, refl, sym, ap, ◌∙◌, arith, eqb, ltb, leb, min, max, bit_and}
+use Rattle.std.proofs.lemmas.Bool.{cases_lt, le-leb, lt-leb, lt-ltb, le-ltb, eq-eqb, ne_eqb}
+use Rattle.std.specs.Int.{bit_not, w64}
 use Rattle.std.proofs.lemmas.List.{get_or-set_same, get_or-set_other, length-set}
 use Rattle.std.proofs.lemmas.{List.Folds.{list_any-append, list_any_more, list_any_at}, Nat.xor_lt}
+use Rattle.std.{proofs.lemmas.Bool.{or_from, both_ways}, specs.List.{range_with_len, list_any}}
 use Rattle.std.proofs.lemmas.Nat.Bits.{bit_at_and, bit_at_or, bit_at_xor, bit_at_not, bit_at-lt}
-use Rattle.vb_model.specs.Tests.{has_bit, is_in, one_if}
+use Rattle.std.proofs.Common.{bit_or, bit_xor, count_by, count_ones, if◌then◌else◌, take, ◌==◌}
 use Rattle.vb_model.proofs.PageSteps.{is_in-range, outside-range}
-use Rattle.vb_bits.proofs.Words.{at_place}
-use Rattle.vb_core.{specs.declared.runs.Run.Run, specs.Runs.{pages_of_run, pages_of_runs}}
-use Rattle.vb_core.specs.Ballooned.{is_ballooned, is_changed, Puts}
+use Rattle.vb_model.specs.Tests.{has_bit, is_in, one_if}
+use Rattle.vb_core.specs.Runs.{pages_of_run, pages_of_runs}
 use Rattle.vb_core.proofs.CountLemmas.{count_add, count_none, count_few, count_word}
+use Rattle.vb_core.specs.{Ballooned.{is_ballooned, is_changed, Puts}, declared.runs.Run.Run}
+use Rattle.std.proofs.Common.{◌≡◌, ◌≢◌, ℕ, zero, suc, ◌+◌, ◌-◌, ◌*◌, ◌/◌, ◌%◌, ◌^◌, ◌<◌, ◌≤◌, Bool}
 
 -- ---- what a change is
 
@@ -103,20 +101,10 @@ pub put_word : (a : List ℕ) (w mask word : ℕ) (inside : Bool) → w < length
     (count_ones (bit_xor (get_or a w 0) word))
 put_word a w mask word inside l small fits bits = record {
   words = length-set a w word;
-  pages = λ p. elim (eqb_tells (p / 64) w) [
-    | inl same ↦ in_same p same.1 ∙ bits (p % 64) (omega arith)
-        ∙ ap (λ (x : Bool). cond (has_bit mask (p % 64)) inside x) (sym (was p same.1)) ∙ ap
-        (λ (x : Bool). cond (x && has_bit mask (p % 64)) inside (is_ballooned a p)) (sym same.0)
-    | inr other ↦ in_other p other.1 ∙ ap
-        (λ (x : Bool). cond (x && has_bit mask (p % 64)) inside (is_ballooned a p)) (sym other.0)
-  ];
+  pages = grind (arith, in_same, in_other);
   count = sym (count_word (is_changed a (set a w word)) (bit_xor (get_or a w 0) word) w (length a)
-      (xor_lt 64 (get_or a w 0) word small fits) l (λ i m.
-      ap (λ (x : Bool). differ x (is_ballooned (set a w word) (64 * w + i))) (at_place a w i m)
-      ∙ ap (λ (x : Bool). differ (has_bit (get_or a w 0) i) x) (at_place (set a w word) w i m
-      ∙ ap (λ (x : ℕ). has_bit x i) (get_or-set_same a w word 0 l))
-      ∙ sym (xor_bit (get_or a w 0) word i)) (λ p ne.
-      ap (λ (x : Bool). differ (is_ballooned a p) x) (in_other p ne)
+      (xor_lt 64 (get_or a w 0) word small fits) l (grind (arith, get_or-set_same, xor_bit))
+      (λ p ne. ap (λ (x : Bool). differ (is_ballooned a p) x) (in_other p ne)
       ∙ differ_self (is_ballooned a p)));
 } where
   in_same : (p : ℕ) → p / 64 ≡ w → is_ballooned (set a w word) p ≡ has_bit word (p % 64)
@@ -140,18 +128,7 @@ any_of_runs test (run ∷ runs) = grind (arith, list_any-append, any_of_runs tes
 -- a page is in a run between its ends
 pub in_run : (run : Run) (p : ℕ)
     → is_in p (pages_of_run run) ≡ (leb run.first p && ltb p (run.first + run.count))
-in_run run p = grind (
-  arith,
-  cases_Bool,
-  is_in-range,
-  and_from,
-  le-leb,
-  lt-ltb,
-  and_parts,
-  outside-range,
-  leb-true,
-  ltb-true,
-)
+in_run run p = grind (arith, is_in-range, outside-range)
 
 -- some page from a bound on is in the run where its last one is
 pub reaches : (bound first count : ℕ) → 0 < count
@@ -168,12 +145,7 @@ last_has_bit run words last some e = ends ∙ ap (λ (n : ℕ). not (leb (64 * w
     ∙ ap not (sym (reaches (64 * words) run.first run.count some))
   where
     ends : ltb (last / 64) words ≡ not (leb (64 * words) last)
-    ends = elim (cases_lt (last / 64) words) [
-      | inl less ↦ lt-ltb (last / 64) words less
-          ∙ ap not (sym (lt-leb (64 * words) last (omega arith)))
-      | inr more ↦ le-ltb (last / 64) words more
-          ∙ ap not (sym (le-leb (64 * words) last (omega arith)))
-    ]
+    ends = grind arith
 
 -- a run without a page reaches nothing
 pub none_reaches : (test : ℕ → Bool) (run : Run) → run.count ≡ 0

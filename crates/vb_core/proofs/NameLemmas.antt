@@ -1,13 +1,12 @@
 -- The numbers of a request, one after the other.
 use Rattle.std.proofs.Common.{◌≡◌, ℕ, ◌+◌, ◌-◌, ◌<◌, ◌≤◌, Bool, true, false, List, [], ◌∷◌, ◌++◌}
-use Rattle.std.proofs.Common.{Some, None, Ok, Err, length, get_or, take, arith, length-append}
-use Rattle.std.{specs.Prelude.{is_none, ◌%◌, ◌^◌}, proofs.lemmas.List.{append-nil, take_more}}
-use Rattle.std.proofs.lemmas.{Bool.Decides.nat_tests, List.Elements.filter-append}
+use Rattle.std.proofs.lemmas.List.{Elements.filter-append, append-nil, take_more}
+use Rattle.std.{proofs.lemmas.Bool.Decides.nat_tests, specs.Prelude.{is_none, ◌%◌, ◌^◌}}
+use Rattle.std.proofs.Common.{Some, None, Err, length, get_or, take, arith, length-append}
 use Rattle.vb_chain.specs.declared.fault.ChainFault.{ChainFault}
 use Rattle.vb_request.specs.Request.{number_fault, first_number_fault}
 use Rattle.vb_request.proofs.Once.{fault_here, sound_more}
-use Rattle.vb_core.{specs.declared.runs.Run.Run, specs.declared.name.Named.Named, specs.Runs.Tell}
-use Rattle.vb_core.specs.Name.{right_numbers, NamesRuns}
+use Rattle.vb_core.specs.{Name.{right_numbers, NamesRuns}, Runs.Tell, declared.runs.Run.Run}
 
 -- a number that is less than so many behind the reserved ones
 pub within : (reserved count n : ℕ) → reserved < 2 ^ 32 → n < 2 ^ 32 → count < 2 ^ 32 →
@@ -66,14 +65,6 @@ pub same_named : (skipping : Bool) (reserved count : ℕ) (ns : List ℕ) (k : �
     skipped ≡ others → Named_so_far skipping reserved count ns k new now others →
     Named_so_far skipping reserved count ns k runs used skipped
 same_named skipping reserved count ns k runs new used now skipped others e f g so_far = grind arith
-
--- all numbers were gone through
-pub all_named : (skipping : Bool) (reserved count : ℕ) (ns : List ℕ) (runs : List Run)
-    (used skipped : ℕ) (named : Named) →
-    Named_so_far skipping reserved count ns (length ns) runs used skipped →
-    named.runs ≡ used → named.skipped ≡ skipped → named.pages ≡ length ns - skipped →
-    NamesRuns skipping reserved count ns runs (Ok named)
-all_named skipping reserved count ns runs used skipped named so_far r s p = grind arith
 
 -- a wrong number stands behind right ones
 pub names_fault : (skipping : Bool) (reserved count : ℕ) (ns : List ℕ) (k n : ℕ) (f : ChainFault)

@@ -1,23 +1,16 @@
 -- What runs say of the pages that the definitions give.
 use Rattle.std.proofs.Common.{◌≡◌, ◌∙◌, ℕ, Bool, false, List, [], ◌∷◌, Option, Some, None, Result}
-use Rattle.std.proofs.Common.{Ok, Err, refl, length, take, sym, ap, arith}
 use Rattle.std.specs.Prelude.{cond, is_none, IsOkAnd}
-use Rattle.vb_model.{specs.Tests.is_in, specs.Orderly.times, specs.Driver.AllDistinct}
-use Rattle.vb_model.proofs.Distinct.{times-none, times-some}
+use Rattle.std.proofs.Common.{Ok, Err, refl, length, take, sym, ap, arith}
+use Rattle.vb_model.specs.{Orderly.times, Tests.is_in}
+use Rattle.vb_model.{proofs.Distinct.{times-none, times-some}, specs.Driver.AllDistinct}
 use Rattle.vb_ram.specs.Pages.{Pages}
-use Rattle.vb_chain.{specs.declared.pieces.Piece.Piece, specs.declared.fault.ChainFault.ChainFault}
+use Rattle.vb_chain.specs.declared.{fault.ChainFault.ChainFault, pieces.Piece.Piece}
 use Rattle.vb_request.specs.Request.{number_fault, first_of_both, first_number_fault, each_once}
-use Rattle.vb_request.specs.Request.{unless_fault, numbers_of, bytes_of, request_length}
-use Rattle.vb_request.{specs.Request.page_request, proofs.Bytes.read_numbers}
-use Rattle.vb_request.{proofs.Once.is_in-each_once, proofs.OneRequest.once_distinct}
-use Rattle.vb_core.{specs.declared.runs.Run.Run, specs.declared.name.Named.Named}
-use Rattle.vb_core.{specs.Runs.{pages_of_runs, Tell}, proofs.RunLemmas.tell_times}
-use Rattle.vb_core.specs.Name.{right_numbers, NamesRuns}
-
-unless_err : (fault : Option ChainFault) (ns : List ℕ) (f : ChainFault) →
-    unless_fault fault ns ≡ Err f → fault ≡ Some f
-unless_err None ns f e = absurd cc
-unless_err (Some g) ns f e = cc
+use Rattle.vb_request.proofs.{Bytes.read_numbers, Once.is_in-each_once, OneRequest.once_distinct}
+use Rattle.vb_request.specs.Request.{numbers_of, bytes_of, request_length, page_request}
+use Rattle.vb_core.specs.{Name.right_numbers, declared.{name.Named.Named, runs.Run.Run}}
+use Rattle.vb_core.{proofs.RunLemmas.tell_times, specs.{Name.NamesRuns, Runs.{pages_of_runs, Tell}}}
 
 none_of_both : (a b : Option ChainFault) → first_of_both a b ≡ None → (a ≡ None) × (b ≡ None)
 none_of_both None b e = (refl, e)
@@ -58,10 +51,8 @@ pub named_fault : (mem : Pages) (pieces : List Piece) (reserved total : ℕ) (ru
     (result : Result Named ChainFault) (fault : ChainFault) → request_length pieces ≡ Ok total →
     NamesRuns false reserved (length mem) (numbers_of (bytes_of mem pieces)) runs result →
     page_request mem pieces reserved ≡ Err fault → result ≡ Err fault
-named_fault mem pieces reserved total runs result fault e names is = names.fault fault (unless_err
-    (first_number_fault reserved (length mem) (numbers_of (bytes_of mem pieces)))
-    (each_once (numbers_of (bytes_of mem pieces))) fault
-    (sym (read_numbers mem pieces reserved total e) ∙ is))
+named_fault mem pieces reserved total runs result fault e names is =
+    grind (arith, read_numbers mem pieces reserved total e)
 
 pub named_members : (mem : Pages) (pieces : List Piece) (reserved total : ℕ) (runs : List Run)
     (result : Result Named ChainFault) (pages : List ℕ) → request_length pieces ≡ Ok total →
@@ -83,8 +74,4 @@ pub named_once : (mem : Pages) (pieces : List Piece) (reserved total : ℕ) (run
     page_request mem pieces reserved ≡ Ok pages → AllDistinct (numbers_of (bytes_of mem pieces)) →
     IsOkAnd result (λ named. Tell (take named.runs runs) pages)
 named_once mem pieces reserved total runs result pages e names is apart =
-    let ns : List ℕ = numbers_of (bytes_of mem pieces) in
-    let found = named_right mem pieces reserved total runs result pages e names is in
-    let same : ns ≡ pages = sym (once_distinct ns apart) ∙ found.0 in
-    weaker result (λ named. Tell (take named.runs runs) ns)
-    (λ named. Tell (take named.runs runs) pages) (λ named are. rw (← same) are) found.1
+    grind (arith, named_right mem pieces reserved total runs result pages e names is, once_distinct)

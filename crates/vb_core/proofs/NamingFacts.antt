@@ -1,14 +1,10 @@
 -- What requests name, worked out, and what they don't.
 use Rattle.std.proofs.Common.{◌≡◌, refl, ap, arith, ℕ, true, false, List, [], ◌∷◌, ◌++◌, length}
-use Rattle.std.proofs.Common.{Some, None, Ok, Err}
-use Rattle.vb_chain.specs.declared.fault.ChainFault.TheVariants.{BadPage, ReservedPage}
-use Rattle.vb_core.{specs.declared.runs.Run.Run, specs.declared.kinds.Kind.TheVariants.Deflate}
-use Rattle.vb_core.{specs.declared.device.Device.Device, specs.Devices.new_device}
-use Rattle.vb_core.{specs.Runs.{Tell, pages_of_runs}, proofs.OneTelling.told_once}
+use Rattle.std.proofs.Common.{Some, None, Ok, Err, map}
+use Rattle.vb_core.specs.{Runs.{Tell, pages_of_runs}, declared.kinds.Kind.TheVariants.Deflate}
+use Rattle.vb_core.{proofs.{Examples.fresh, OneTelling.told_once}, specs.declared.runs.Run.Run}
 use Rattle.vb_core.specs.Name.{AreNamed, right_numbers, fault_in, after_request}
-
-abbrev Same : ℕ → ℕ → Type 0
-Same a b = a ≡ b
+use Rattle.vb_chain.specs.declared.fault.ChainFault.TheVariants.{BadPage, ReservedPage}
 
 -- ---- runs
 
@@ -30,7 +26,7 @@ told = (
     (
       record { whole = refl; grows = (20, (21 ∷ 22 ∷ [], (refl, (run_at 20 2, (refl, (run_at 20 3, (refl, refl))))))) },
       (
-        ((λ e. let h : Same 5 23 = e in omega arith), (λ e. let h : Same 6 20 = e in omega arith)),
+        ((λ e. omega (arith, e)), (λ e. omega (arith, e))),
         (5 ∷ [], ([], (record { whole = refl; grows = (5, ([], (refl, refl))) }, (tt, refl)))),
       ),
     ),
@@ -50,20 +46,28 @@ first_of (r ∷ rs) = r.first
 
 -- no other runs tell them: the two exchanged, one page a run, one run fewer, one page more
 exchanged : Tell (run_at 5 1 ∷ run_at 20 3 ∷ []) four → ⊥
-exchanged t = let e : Same 20 5 = ap first_of (told_once both (run_at 5 1 ∷ run_at 20 3 ∷ []) four told t) in omega arith
+exchanged t =
+    omega (arith, ap first_of (told_once both (run_at 5 1 ∷ run_at 20 3 ∷ []) four told t))
 
 singly : Tell (run_at 20 1 ∷ run_at 21 1 ∷ run_at 22 1 ∷ run_at 5 1 ∷ []) four → ⊥
 singly t =
-    let e : Same 2 4 = ap (λ (rs : List Run). length rs) (told_once both (run_at 20 1 ∷ run_at 21 1 ∷ run_at 22 1 ∷ run_at 5 1 ∷ []) four told t) in omega arith
+    omega (
+      arith,
+      ap (λ (rs : List Run). length rs) (told_once both (run_at 20 1 ∷ run_at 21 1 ∷ run_at 22 1 ∷
+          run_at 5 1 ∷ []) four told t),
+    )
 
 one_fewer : Tell (run_at 20 3 ∷ []) four → ⊥
 one_fewer t =
-    let e : Same 2 1 = ap (λ (rs : List Run). length rs) (told_once both (run_at 20 3 ∷ []) four told t) in omega arith
+    omega (arith, ap (λ (rs : List Run). length rs) (told_once both (run_at 20 3 ∷ []) four told t))
 
 one_page_more : Tell (run_at 20 4 ∷ run_at 5 1 ∷ []) four → ⊥
 one_page_more t =
-    let e : Same 4 5 = ap (λ (rs : List Run). length (pages_of_runs rs)) (told_once both (run_at 20 4 ∷ run_at 5 1 ∷ []) four told t)
-    in omega arith
+    omega (
+      arith,
+      ap (λ (rs : List Run). length (pages_of_runs rs)) (told_once both (run_at 20 4 ∷ run_at 5 1 ∷
+          []) four told t),
+    )
 
 -- ---- what is named
 
@@ -72,10 +76,10 @@ named = record { told_so = told; few = omega arith; count = refl; others = refl 
 
 -- another count of pages, and another one of skipped numbers
 more_pages : (runs : List Run) → AreNamed four 4 runs (record { runs = 2; pages = 5; skipped = 0 }) → ⊥
-more_pages runs n = let e : Same 5 4 = n.count in omega arith
+more_pages runs n = omega (arith, n.count)
 
 none_skipped : (runs : List Run) → AreNamed four 5 runs (record { runs = 2; pages = 4; skipped = 0 }) → ⊥
-none_skipped runs n = let e : Same 4 5 = n.others in omega arith
+none_skipped runs n = omega (arith, n.others)
 
 -- runs that are left open
 left_open : AreNamed four 4 [] (record { runs = 2; pages = 4; skipped = 0 }) → ⊥
@@ -87,28 +91,15 @@ left_open n = grind (arith, told)
 right : right_numbers 16 64 (20 ∷ 3 ∷ 64 ∷ 16 ∷ 63 ∷ []) ≡ 20 ∷ 16 ∷ 63 ∷ []
 right = refl
 
-past : fault_in false 16 64 (20 ∷ 64 ∷ 3 ∷ []) ≡ Some BadPage
-past = refl
-
-reserved : fault_in false 16 64 (20 ∷ 3 ∷ 64 ∷ []) ≡ Some ReservedPage
-reserved = refl
+-- the first wrong number counts, past the end or reserved; none where wrong ones are skipped
+faults : map (fault_in false 16 64) ((20 ∷ 64 ∷ 3 ∷ []) ∷ (20 ∷ 3 ∷ 64 ∷ []) ∷ (20 ∷ 16 ∷ []) ∷ [])
+    ≡ Some BadPage ∷ Some ReservedPage ∷ None ∷ []
+faults = refl
 
 skipped : fault_in true 16 64 (20 ∷ 3 ∷ 64 ∷ []) ≡ None
 skipped = refl
 
-sound : fault_in false 16 64 (20 ∷ 16 ∷ []) ≡ None
-sound = refl
-
 -- ---- the device after it
-
-abbrev fresh : Device
-fresh = new_device (record {
-  memory_end = 262144;
-  offered = 0x100000027;
-  reserved_pages = 16;
-  needs_must_tell = 0;
-  skips_bad_pages = 0;
-})
 
 taken : after_request Deflate (Ok (record { runs = 0; pages = 0; skipped = 0 })) fresh ≡
     record fresh { deflate = record (fresh.deflate) { next_avail = 1 } }

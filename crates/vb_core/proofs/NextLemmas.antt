@@ -1,19 +1,18 @@
 -- What is popped from a memory of copies.
-use Rattle.std.proofs.Common.{◌≡◌, ℕ, ◌+◌, ◌*◌, ◌≤◌, Bool, true, false, Option, List, length}
+use Rattle.std.specs.Prelude.{All, ◌&&◌, nat_le, None}
 use Rattle.std.proofs.Common.{Result, arith, refl, [], ◌∷◌, ◌<◌, ◌^◌, Some, Ok}
-use Rattle.std.specs.Prelude.{All, slice_index_or, ◌&&◌, nat_le, None}
-use Rattle.vb_model.{specs.Limits.page_size, specs.declared.limits.TheConstants.MAX_REPORT_PIECES}
-use Rattle.vb_chain.{specs.declared.pieces.Piece.Piece, specs.Table.descriptor_at}
-use Rattle.vb_chain.specs.declared.fault.ChainFault.{ChainFault}
+use Rattle.vb_model.specs.{Limits.page_size, declared.limits.TheConstants.MAX_REPORT_PIECES}
+use Rattle.vb_chain.specs.Table.{descriptor_at}
+use Rattle.vb_chain.specs.declared.{fault.ChainFault.ChainFault, pieces.Piece.Piece}
 use Rattle.vb_ram.specs.Pages.{Pages, end_of}
-use Rattle.vb_ring.{specs.declared.device.Taken.Taken, specs.Layout.IsSize, specs.Ends.DeviceEnd}
-use Rattle.vb_ring.specs.Calls.{PopsBy, after_pop}
-use Rattle.vb_core.{specs.declared.kinds.Kind.Kind, specs.declared.kinds.Kind.TheVariants.Report}
-use Rattle.vb_core.{specs.Report.report_denial, specs.declared.device.Device.Device}
-use Rattle.vb_core.{specs.Devices.ring_of, specs.Next.{are_copies, next_denial, PopsCopies}}
-use Rattle.vb_core.{specs.declared.ring.Virtqueue.Virtqueue, specs.Copies.{padded, copies_of}}
-use Rattle.vb_core.{proofs.CopyLemmas.copied_length, proofs.DenialLemmas.{IsOpen, open_call}}
+use Rattle.vb_ring.specs.Layout.{IsSize}
+use Rattle.vb_ring.specs.{Calls.{PopsBy, after_pop}, Ends.DeviceEnd, declared.device.Taken.Taken}
+use Rattle.vb_core.specs.declared.{kinds.Kind.{Kind, TheVariants.Report}, ring.Virtqueue.Virtqueue}
+use Rattle.vb_core.proofs.{CopyLemmas.copied_length, DenialLemmas.{IsOpen, open_call}}
+use Rattle.vb_core.specs.{Next.{are_copies, next_denial, PopsCopies}, declared.device.Device.Device}
+use Rattle.vb_core.specs.{Copies.{padded, copies_of}, Devices.ring_of, Report.report_denial}
 use Rattle.vb_request.proofs.Chains.{chain_fits}
+use Rattle.std.proofs.Common.{◌≡◌, ℕ, ◌+◌, ◌*◌, ◌≤◌, Bool, true, false, Option, List, length}
 
 pub pops_so : (m1 m2 : Pages) (q end q2 : DeviceEnd) (found : Result (Option Taken) ChainFault) →
     m1 ≡ m2 → q ≡ end → PopsBy m1 q q2 found → PopsBy m2 end (after_pop end found) found
@@ -44,7 +43,4 @@ pub pieces_inside : (count : ℕ) (r : Virtqueue) (avail table : List ℕ) (h : 
 pieces_inside count r avail table h pieces pops few =
     let mem : Pages = copies_of count table avail in
     let len : length mem ≡ count = copied_length count (padded table ∷ padded avail ∷ []) in
-    let fits : All (λ piece. piece.addr + piece.len ≤ end_of mem) pieces =
-    chain_fits (descriptor_at mem 0) r.size (end_of mem) h pieces pops.found.2 in λ k d lt.
-    let fit : (slice_index_or pieces k d).addr + (slice_index_or pieces k d).len
-    ≤ 4096 * length mem = fits k d lt in omega (arith, fit, len, few)
+    grind (arith, chain_fits (descriptor_at mem 0) r.size (end_of mem) h pieces pops.found.2)

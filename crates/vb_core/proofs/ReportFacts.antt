@@ -1,16 +1,12 @@
 -- What reports name, worked out, and what they don't.
 use Rattle.std.proofs.Common.{◌≡◌, refl, ap, arith, ℕ, true, false, List, [], ◌∷◌, length, Some}
-use Rattle.std.proofs.Common.{None, Result, Ok, Err}
+use Rattle.std.proofs.Common.{None, Result, Ok, Err, map}
+use Rattle.vb_core.specs.Report.{run_of, report_named, report_of, after_report, pieces_denial}
+use Rattle.vb_core.specs.declared.device.Denial.{Denial, TheVariants.{BadArgument, NotReady}}
+use Rattle.vb_core.specs.declared.{device.Device.Device, name.Named.Named, runs.Run.Run}
+use Rattle.vb_core.{proofs.Examples.{fresh, ready}, specs.Report.NamesPiecesBy}
 use Rattle.vb_chain.specs.declared.fault.ChainFault.TheVariants.{WrongDirection, BadLength, BadPage}
 use Rattle.vb_chain.specs.declared.{fault.ChainFault.TheVariants.ReservedPage, pieces.Piece.Piece}
-use Rattle.vb_core.specs.Report.{run_of, report_named, report_of, after_report, pieces_denial}
-use Rattle.vb_core.specs.{Report.NamesPiecesBy, declared.runs.Run.Run, declared.name.Named.Named}
-use Rattle.vb_core.specs.declared.{settings.Settings.Settings, device.Denial.Denial}
-use Rattle.vb_core.specs.declared.device.{Denial.TheVariants.{BadArgument, NotReady}, Device.Device}
-use Rattle.vb_core.specs.Devices.{new_device, placed}
-
-abbrev Same : ℕ → ℕ → Type 0
-Same a b = a ≡ b
 
 -- pages 20 and 21, and page 40
 abbrev two : Piece
@@ -29,41 +25,17 @@ both_are = refl
 again : report_named (one ∷ one ∷ []) 16 ≡ Ok (record { runs = 2; pages = 2; skipped = 0 })
 again = refl
 
--- what is the device's to read is no report, nor is half a page, nor a page begun in its midst, nor
--- a reserved one
-to_read : report_named (record one { writable = false } ∷ []) 16 ≡ Err WrongDirection
-to_read = refl
-
-half : report_named (record one { len = 2048 } ∷ []) 16 ≡ Err BadLength
-half = refl
-
-no_byte : report_named (record one { len = 0 } ∷ []) 16 ≡ Err BadLength
-no_byte = refl
-
-midst : report_named (record one { addr = 163841 } ∷ []) 16 ≡ Err BadPage
-midst = refl
+-- what is the device's to read is no report, nor is half a page, nor no byte, nor a page begun in
+-- its midst, nor a reserved one
+no_reports : map (λ piece. report_named (piece ∷ []) 16) (record one { writable = false }
+    ∷ record one { len = 2048 } ∷ record one { len = 0 } ∷ record one { addr = 163841 } ∷ [])
+    ≡ Err WrongDirection ∷ Err BadLength ∷ Err BadLength ∷ Err BadPage ∷ []
+no_reports = refl
 
 reserved : report_named (one ∷ []) 41 ≡ Err ReservedPage
 reserved = refl
 
 -- ---- a device
-
-abbrev settings : Settings
-settings = record {
-  memory_end = 262144;
-  offered = 0x100000027;
-  reserved_pages = 16;
-  needs_must_tell = 0;
-  skips_bad_pages = 0;
-}
-
--- one that is ready, with reports
-abbrev ready : Device
-ready = record (new_device settings) {
-  features = 0x100000027;
-  status = 15;
-  report = placed 0 256 512 8;
-}
 
 open_one : pieces_denial (one ∷ []) 256 ready ≡ None
 unfolding lib.Count.ones
@@ -73,14 +45,10 @@ open_none : pieces_denial (record one { len = 0 } ∷ []) 256 ready ≡ None
 unfolding lib.Count.ones
 open_none = refl
 
-too_small : pieces_denial (one ∷ []) 31 ready ≡ Some BadArgument
-too_small = refl
-
-beyond : pieces_denial (record one { addr = 0x100000000000 } ∷ []) 256 ready ≡ Some BadArgument
-beyond = refl
-
-not_ready : pieces_denial (one ∷ []) 256 (new_device settings) ≡ Some NotReady
-not_ready = refl
+-- too few runs, a piece beyond memory, and a device that isn't ready
+refused : pieces_denial (one ∷ []) 31 ready ∷ pieces_denial (record one { addr = 0x100000000000 } ∷ []) 256 ready
+    ∷ pieces_denial (one ∷ []) 256 fresh ∷ [] ≡ Some BadArgument ∷ Some BadArgument ∷ Some NotReady ∷ []
+refused = refl
 
 abbrev first_of : List Run → ℕ
 first_of [] = 0
@@ -94,45 +62,37 @@ pages_or_none (Ok named) = named.pages
 -- aren't admitted
 other_runs : (d : Device) → NamesPiecesBy (one ∷ []) 256 (record { first = 41; count = 1 } ∷ []) ready d
     (Ok (record { runs = 1; pages = 1; skipped = 0 })) → ⊥
-other_runs d n =
-    let e : Same 41 40 = ap (λ (rs : List Run). first_of rs) (n.runs_are refl) in omega arith
+other_runs d n = omega (arith, ap (λ (rs : List Run). first_of rs) (n.runs_are refl))
 
 no_runs : (d : Device) → NamesPiecesBy (one ∷ []) 256 [] ready d
     (Ok (record { runs = 1; pages = 1; skipped = 0 })) → ⊥
-no_runs d n = let e : Same 0 1 = ap (λ (rs : List Run). length rs) (n.runs_are refl) in omega arith
+no_runs d n = omega (arith, ap (λ (rs : List Run). length rs) (n.runs_are refl))
 
 another_count : (runs : List Run) (d : Device) → NamesPiecesBy (one ∷ []) 256 runs ready d
     (Ok (record { runs = 1; pages = 7; skipped = 0 })) → ⊥
-another_count runs d n = let e : Same 7 1 = ap pages_or_none (n.answer open_one) in omega arith
+another_count runs d n = omega (arith, ap pages_or_none (n.answer open_one))
 
 not_taken : (runs : List Run) (result : Result Named Denial) →
     NamesPiecesBy (one ∷ []) 256 runs ready ready result → ⊥
 not_taken runs result n =
-    let e : Same 0 1 = ap (λ (d : Device). d.report.next_avail) (n.device open_one) in omega arith
+    omega (arith, ap (λ (d : Device). d.report.next_avail) (n.device open_one))
 
 no_reset : (runs : List Run) (result : Result Named Denial) →
     NamesPiecesBy (record one { len = 0 } ∷ []) 256 runs ready ready result → ⊥
-no_reset runs result n =
-    let e : Same 15 79 = ap (λ (d : Device). d.status) (n.device open_none) in omega arith
+no_reset runs result n = omega (arith, ap (λ (d : Device). d.status) (n.device open_none))
 
 denied_but_changed : (runs : List Run) (result : Result Named Denial) →
     NamesPiecesBy (one ∷ []) 31 runs ready (record ready { target = 1 }) result → ⊥
 denied_but_changed runs result n =
-    let e : Same 1 0 = ap (λ (d : Device). d.target) (n.denied BadArgument refl).1 in omega arith
+    omega (arith, ap (λ (d : Device). d.target) (n.denied BadArgument refl).1)
 
 -- ---- in copies
 
 -- what was found is answered: nothing, a chain, or a fault
-nothing : report_of 16 (Ok None) ≡ Ok None
-nothing = refl
-
-found : report_of 16 (Ok (Some (record { head = 3; chain = two ∷ one ∷ [] }))) ≡
-    Ok (Some (record { head = 3; runs = 2; pages = 3 }))
-found = refl
-
-found_bad : report_of 16 (Ok (Some (record { head = 3; chain = record one { len = 0 } ∷ [] }))) ≡
-    Err BadLength
-found_bad = refl
+answered : map (report_of 16) (Ok None ∷ Ok (Some (record { head = 3; chain = two ∷ one ∷ [] }))
+    ∷ Ok (Some (record { head = 3; chain = record one { len = 0 } ∷ [] })) ∷ [])
+    ≡ Ok None ∷ Ok (Some (record { head = 3; runs = 2; pages = 3 })) ∷ Err BadLength ∷ []
+answered = refl
 
 -- the device after it: as it was, one further, or in need of a reset
 after_none : after_report (Ok None) ready ≡ ready

@@ -1,19 +1,18 @@
 -- What was saved is restored, and nothing else.
-use Rattle.std.proofs.Common.{◌≡◌, ℕ, ◌*◌, ◌%◌, ◌^◌, ◌<◌, Bool, true, false, not, List, [], ◌∷◌}
-use Rattle.std.proofs.Common.{◌++◌, length, take, drop, refl, sym, ◌∙◌, ap, arith, lit<, subst}
-use Rattle.std.proofs.Common.{append-nil, length-append, if◌then◌else◌, ◌==◌, ◌&&◌, nat_lt, bit_xor}
-use Rattle.std.{proofs.Common.fold, specs.Prelude.{Option, Some, None, Result, Ok, Err}}
+use Rattle.std.proofs.Common.{◌++◌, length, take, drop, refl, sym, ◌∙◌, ap, arith, lit<, append-nil}
 use Rattle.std.proofs.lemmas.{Bool.{eqb-true, eq-eqb}, List.{length-drop, take_at, drop_all}}
-use Rattle.vb_core.{specs.declared.saved.Saved.Saved, specs.declared.saved.StateDenial.StateDenial}
-use Rattle.vb_core.specs.declared.saved.StateDenial.TheVariants.{BadLength, NotAState}
-use Rattle.vb_core.specs.declared.saved.StateDenial.TheVariants.{OtherVersion, BadSum, Impossible}
-use Rattle.vb_core.specs.declared.format.TheConstants.{MAGIC, FORMAT_VERSION, SAVED_LENGTH}
-use Rattle.vb_core.specs.declared.format.TheConstants.{VERSION_AT, LENGTH_AT, HEADER_LENGTH}
+use Rattle.std.specs.Prelude.{Option, Some, None, Result, Ok, Err}
+use Rattle.std.proofs.Common.{length-append, if◌then◌else◌, ◌==◌, ◌&&◌, nat_lt, bit_xor, fold}
 use Rattle.vb_core.specs.Format.{u64_bytes, u32_at, u64_at, in_a_row, saved_parts, body, checksum}
-use Rattle.vb_core.{specs.Format.{saved_bytes, saved_in, FitsSaved}, proofs.Rows.row_more}
 use Rattle.vb_core.specs.Saved.{can_be, is_state, has_version, has_length, has_sum, header_denial}
-use Rattle.vb_core.{specs.Saved.{read_saved, unless_denied, restored}, proofs.Numbers.AreBytes}
-use Rattle.vb_core.{proofs.Numbers.{u64_then, u64_again}, proofs.RoundTrip.{says, row_again}}
+use Rattle.vb_core.specs.declared.format.TheConstants.{MAGIC, FORMAT_VERSION, SAVED_LENGTH}
+use Rattle.vb_core.specs.declared.saved.StateDenial.TheVariants.{BadLength, NotAState, OtherVersion}
+use Rattle.vb_core.specs.declared.format.TheConstants.{VERSION_AT, LENGTH_AT, HEADER_LENGTH}
+use Rattle.vb_core.specs.declared.saved.StateDenial.{StateDenial, TheVariants.{BadSum, Impossible}}
+use Rattle.vb_core.specs.{Saved.{read_saved, unless_denied, restored}, declared.saved.Saved.Saved}
+use Rattle.vb_core.{proofs.Rows.row_more, specs.Format.{saved_bytes, saved_in, FitsSaved}}
+use Rattle.vb_core.proofs.{Numbers.{AreBytes, u64_then, u64_again}, RoundTrip.{says, row_again}}
+use Rattle.std.proofs.Common.{◌≡◌, ℕ, ◌*◌, ◌%◌, ◌^◌, ◌<◌, Bool, true, false, not, List, [], ◌∷◌}
 
 -- a checksum fits its field
 checksum_fits : (bytes : List ℕ) → checksum bytes < 2 ^ 64
@@ -41,10 +40,6 @@ header_passed : (short state version fits : Bool)
     else if not version then Some OtherVersion else if not fits then Some BadLength else None)
     ≡ None → (short ≡ false) × (state ≡ true) × (version ≡ true) × (fits ≡ true)
 header_passed short state version fits e = grind arith
-
-read_passes : (sum possible : Bool) (x s : Saved) → sum ≡ true → possible ≡ true → x ≡ s
-    → (if not sum then Err BadSum else if not possible then Err Impossible else Ok x) ≡ Ok s
-read_passes sum possible x s a b e = grind arith
 
 read_passed : (sum possible : Bool) (x s : Saved)
     → (if not sum then Err BadSum else if not possible then Err Impossible else Ok x) ≡ Ok s
@@ -85,12 +80,7 @@ restored_from s bytes f possible e = let sum = u64_bytes (checksum (body s)) in
     (ap (λ (n : ℕ). nat_lt n HEADER_LENGTH) len) (eq-eqb (u64_at bytes 0) MAGIC w.magic)
     (eq-eqb (u32_at bytes VERSION_AT) FORMAT_VERSION w.version)
     (ap (λ (n : ℕ). (n == SAVED_LENGTH) && (length bytes == SAVED_LENGTH)) w.length_told
-    ∙ ap (λ (n : ℕ). n == SAVED_LENGTH) len) in
-    let rest : read_saved bytes ≡ Ok s = read_passes (has_sum bytes) (can_be (saved_in bytes))
-    (saved_in bytes) s (eq-eqb (u64_at bytes 183) (checksum (take 183 bytes))
-    (told.0 ∙ sym (ap (λ (xs : List ℕ). checksum xs) same)))
-    (ap (λ (x : Saved). can_be x) w.saved ∙ possible) w.saved in
-    ap (λ (o : Option StateDenial). unless_denied o (read_saved bytes)) header ∙ rest
+    ∙ ap (λ (n : ℕ). n == SAVED_LENGTH) len) in grind (arith, eq-eqb)
 
 pub saved_restored : (s : Saved) → FitsSaved s → can_be s ≡ true → restored (saved_bytes s) ≡ Ok s
 saved_restored s f possible = restored_from s (saved_bytes s) f possible refl
@@ -116,8 +106,4 @@ only_saved bytes s all e = let parts = not_denied (header_denial bytes) (read_sa
     let sum : drop 183 bytes ≡ u64_bytes (checksum (body (saved_in bytes))) =
     u64_again bytes 183 191 all refl (omega arith)
     ∙ ap (λ (xs : List ℕ). u64_bytes (u64_at bytes 183) ++ xs) (drop_all 191 bytes (omega arith))
-    ∙ append-nil (u64_bytes (u64_at bytes 183)) ∙ ap (λ (n : ℕ). u64_bytes n) told in (
-      subst (λ (x : Saved). bytes ≡ saved_bytes x) rest.2
-          (row ∙ ap (λ (xs : List ℕ). in_a_row (saved_parts (saved_in bytes)) xs) sum),
-      subst (λ (x : Saved). can_be x ≡ true) rest.2 rest.1,
-    )
+    ∙ append-nil (u64_bytes (u64_at bytes 183)) ∙ ap (λ (n : ℕ). u64_bytes n) told in grind arith

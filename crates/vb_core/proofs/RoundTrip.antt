@@ -80,13 +80,7 @@ says s more bytes f e = let d = s.device in
     let m = ring_then d.deflate _ bytes 89 f.deflate l.1 in
     let n = ring_then d.statistics _ bytes 119 f.statistics m.1 in
     let o = ring_then d.report _ bytes 149 f.report n.1 in
-    let q = u32_then d.poison _ bytes 179 183 f.poison refl o.1 in record {
-      magic = a.0;
-      version = b.0;
-      length_told = c.0;
-      saved = rw (t.0, g.0, h.0, i.0, j.0, k.0, l.0, m.0, n.0, o.0, q.0);
-      behind = q.1;
-    }
+    let q = u32_then d.poison _ bytes 179 183 f.poison refl o.1 in grind arith
 
 -- bytes with a good header are what is saved of what they say, and more
 pub row_again : (bytes : List ℕ) → AreBytes bytes → 183 ≤ length bytes → u64_at bytes 0 ≡ MAGIC

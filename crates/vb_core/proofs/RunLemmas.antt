@@ -1,16 +1,16 @@
 -- How often a page stands in runs.
 use Rattle.std.proofs.Common.{◌≡◌, ◌∙◌, ℕ, zero, suc, ◌+◌, ◌-◌, ◌<◌, List, [], ◌∷◌, ◌++◌, refl}
 use Rattle.std.proofs.Common.{length, get_or, set, take, sym, ap, arith, subst, append_assoc, ◌≤◌}
-use Rattle.std.{proofs.Common.length-append, specs.Prelude.{◌==◌, Some, map, ◌≢◌, ◌^◌, ◌%◌, ◌↔◌}}
-use Rattle.std.{proofs.lemmas.Bool.{eqb-true, eq-eqb}, specs.List.range_with_len}
+use Rattle.std.{proofs.lemmas.Bool.eqb-true, specs.List.range_with_len}
 use Rattle.std.proofs.lemmas.{Grind.{take-set_at, get_or-set_at}, List.{append-nil, take_more}}
-use Rattle.vb_model.{specs.Tests.one_if, specs.Orderly.times}
-use Rattle.vb_model.proofs.Distinct.{times-append, times-cons}
+use Rattle.std.{proofs.Common.length-append, specs.Prelude.{◌==◌, Some, map, ◌≢◌, ◌%◌}}
+use Rattle.vb_model.specs.Tests.{one_if}
+use Rattle.vb_model.{proofs.Distinct.{times-append, times-cons}, specs.Orderly.times}
 use Rattle.vb_chain.specs.declared.pieces.Piece.{Piece}
 use Rattle.vb_request.specs.Report.{pages_of_piece, pages_of_pieces}
 use Rattle.vb_core.specs.Runs.{pages_of_run, pages_of_runs, IsApartFrom, IsApart, joined, Grows}
-use Rattle.vb_core.specs.{Runs.{one_page, IsPart, Tell}, Report.run_of, declared.runs.Run.Run}
-use Rattle.vb_core.specs.{declared.runs.Ends.Ends, RunEnds.{AreEndsOf, AreEnds}}
+use Rattle.vb_core.specs.{Report.run_of, declared.runs.{Ends.Ends, Run.Run}}
+use Rattle.vb_core.specs.{RunEnds.{AreEndsOf, AreEnds}, Runs.{one_page, IsPart, Tell}}
 
 pub times-one : (p x : ℕ) → times p (x ∷ []) ≡ one_if (x == p)
 times-one p x = let e = times-cons p x [] in omega (arith, e)
@@ -45,12 +45,6 @@ longer run = record { first = run.first; count = run.count + 1 }
 abbrev pub longer_from : ℕ → Run → Run
 longer_from n run = record { first = n; count = run.count + 1 }
 
-pub joins_up : (run : Run) (n : ℕ) → run.first + run.count ≡ n → joined run n ≡ Some (longer run)
-joins_up run n e = grind arith
-
-pub joins_down : (run : Run) (n : ℕ) → n + 1 ≡ run.first → joined run n ≡ Some (longer_from n run)
-joins_down run n e = grind (arith, eq-eqb)
-
 -- it has one page more, and that is the number
 record HasOneMore (old new : Run) (n : ℕ) : Type 0 where
   pages : (p : ℕ) → times p (pages_of_run new) ≡ times p (pages_of_run old) + one_if (n == p)
@@ -84,14 +78,7 @@ part_pages : (run : Run) (ns part rest : List ℕ) (p : ℕ) → IsPart run ns p
     times p part ≡ times p (pages_of_run run)
 part_pages run ns part rest p is = let n : ℕ = is.grows.0 in
     let more : List ℕ = is.grows.1.0 in
-    let all : times p part ≡ times p (n ∷ more) = ap (times p) is.grows.1.1.0 in
-    omega (
-      arith,
-      all,
-      times-cons p n more,
-      times-one p n,
-      grown_times p (one_page n) run more is.grows.1.1.1,
-    )
+    grind (arith, times-cons p n more, grown_times p (one_page n) run more is.grows.1.1.1)
 
 part_size : (run : Run) (ns part rest : List ℕ) → IsPart run ns part rest → length part ≡ run.count
 part_size run ns part rest is = grind (arith, grown_count)
@@ -109,15 +96,12 @@ tell_times [] ns t p = ap (times p) (sym t)
 tell_times (run ∷ runs) ns t p = let part : List ℕ = t.0 in
     let rest : List ℕ = t.1.0 in
     let is : IsPart run ns part rest = t.1.1.0 in
-    let more : times p (pages_of_runs runs) ≡ times p rest = tell_times runs rest t.1.1.1.1 p in
-    let all : times p ns ≡ times p part + times p rest =
-    ap (times p) is.whole ∙ times-append p part rest in
-    omega (
+    grind (
       arith,
+      times-append p part rest,
       times-append p (pages_of_run run) (pages_of_runs runs),
       part_pages run ns part rest p is,
-      more,
-      all,
+      tell_times runs rest t.1.1.1.1 p,
     )
 
 -- how long a list is that begins with a run's part
@@ -160,32 +144,14 @@ tell_last [] old new ns n more t = let part : List ℕ = t.0 in
     let none : rest ≡ [] = t.1.1.1.1 in
     let whole : ns ++ n ∷ [] ≡ (part ++ n ∷ []) ++ [] = ap (λ (xs : List ℕ). xs ++ n ∷ [])
     (is.whole ∙ (ap (λ (xs : List ℕ). part ++ xs) none ∙ append-nil part))
-    ∙ sym (append-nil (part ++ n ∷ [])) in
-    let last : IsPart new (ns ++ n ∷ []) (part ++ n ∷ []) [] = record {
-      whole = whole;
-      grows = (
-        is.grows.0,
-        (
-          is.grows.1.0 ++ n ∷ [],
-          (
-            ap (λ (xs : List ℕ). xs ++ n ∷ []) is.grows.1.1.0,
-            grown_more (one_page is.grows.0) old new is.grows.1.0 n is.grows.1.1.1 more,
-          ),
-        ),
-      );
-    } in (part ++ n ∷ [], ([], (last, (tt, refl))))
+    ∙ sym (append-nil (part ++ n ∷ [])) in grind (arith, grown_more)
 tell_last (run ∷ first) old new ns n more t = let part : List ℕ = t.0 in
     let rest : List ℕ = t.1.0 in
     let is : IsPart run ns part rest = t.1.1.0 in
     let behind : Tell (first ++ old ∷ []) rest = t.1.1.1.1 in
     let away : IsApart run (rest ++ n ∷ []) =
-    apart_more run rest n (some_told first old rest behind) t.1.1.1.0 in (
-      part,
-      (
-        rest ++ n ∷ [],
-        (part_more run ns part rest n is, (away, tell_last first old new rest n more behind)),
-      ),
-    )
+    apart_more run rest n (some_told first old rest behind) t.1.1.1.0 in
+    grind (arith, part_more run ns part rest n is, tell_last first old new rest n more behind)
 
 -- a run of one number tells it
 alone_tells : (n : ℕ) → Tell (one_page n ∷ []) (n ∷ [])
@@ -196,27 +162,14 @@ alone_tells n =
 -- one more run, of one number that doesn't join the last one
 tell_new : (first : List Run) (last : Run) (ns : List ℕ) (n : ℕ) → IsApartFrom last n
     → Tell (first ++ last ∷ []) ns → Tell ((first ++ last ∷ []) ++ one_page n ∷ []) (ns ++ n ∷ [])
-tell_new [] last ns n away t = let part : List ℕ = t.0 in
-    let rest : List ℕ = t.1.0 in
-    let is : IsPart last ns part rest = t.1.1.0 in
-    let none : rest ≡ [] = t.1.1.1.1 in
-    let here : IsPart last (ns ++ n ∷ []) part (n ∷ []) = record {
-      whole = ap (λ (xs : List ℕ). xs ++ n ∷ [])
-          (is.whole ∙ (ap (λ (xs : List ℕ). part ++ xs) none ∙ append-nil part));
-      grows = is.grows;
-    } in (part, (n ∷ [], (here, (away, alone_tells n))))
+tell_new [] last ns n away t = grind (arith, append-nil, alone_tells)
 tell_new (run ∷ first) last ns n away t = let part : List ℕ = t.0 in
     let rest : List ℕ = t.1.0 in
     let is : IsPart run ns part rest = t.1.1.0 in
     let behind : Tell (first ++ last ∷ []) rest = t.1.1.1.1 in
     let apart : IsApart run (rest ++ n ∷ []) =
-    apart_more run rest n (some_told first last rest behind) t.1.1.1.0 in (
-      part,
-      (
-        rest ++ n ∷ [],
-        (part_more run ns part rest n is, (apart, tell_new first last rest n away behind)),
-      ),
-    )
+    apart_more run rest n (some_told first last rest behind) t.1.1.1.0 in
+    grind (arith, part_more run ns part rest n is, tell_new first last rest n away behind)
 
 -- ---- the first runs of a list
 
@@ -235,10 +188,8 @@ last_joined page used runs d new some few joined ns t =
 last_apart : (page used : ℕ) (runs : List Run) (d : Run) → 0 < used → used ≤ length runs →
     IsApartFrom (get_or runs (used - 1) d) page → (ns : List ℕ) → Tell (take used runs) ns →
     Tell (take used runs ++ one_page page ∷ []) (ns ++ page ∷ [])
-last_apart page used runs d some few apart ns t = let is = first_are used runs d some few in
-    subst (λ (rs : List Run). Tell (rs ++ one_page page ∷ []) (ns ++ page ∷ [])) (sym is)
-    (tell_new (take (used - 1) runs) (get_or runs (used - 1) d) ns page apart
-    (subst (λ (rs : List Run). Tell rs ns) is t))
+last_apart page used runs d some few apart ns t =
+    grind (arith, first_are used runs d some few, tell_new)
 
 none_apart : (page used : ℕ) (runs : List Run) → used ≡ 0 → (ns : List ℕ)
     → Tell (take used runs) ns → Tell (take used runs ++ one_page page ∷ []) (ns ++ page ∷ [])
@@ -266,11 +217,7 @@ last_count used runs d ns some few t = last_few (take (used - 1) runs) (get_or r
 
 ends_of_last : (ends : Ends) (used : ℕ) (runs : List Run) (new : Run) → 0 < used →
     used ≤ length runs → AreEndsOf ends new → AreEnds ends used (set runs (used - 1) new)
-ends_of_last ends used runs new some few are = record {
-  none = λ e. absurd (omega (arith, some, e));
-  some = λ d lt. subst (λ (r : Run). AreEndsOf ends r)
-      (sym (get_or-set_at runs (used - 1) (used - 1) new d refl (omega (arith, some, few)))) are;
-}
+ends_of_last ends used runs new some few are = grind (arith, get_or-set_at)
 
 -- it takes one of them in
 pub last_longer : (page used : ℕ) (runs : List Run) (d new : Run) (now : Ends)
@@ -290,19 +237,7 @@ pub joins_behind : (r : Run) (page : ℕ) (ends : Ends) → ends.behind ≡ page
     (joined r page ≡ Some (record { first = r.first; count = (r.count + 1) % 4294967296 }))
     × AreEndsOf (record { behind = ends.behind + 1; before = ends.before })
     (record { first = r.first; count = (r.count + 1) % 4294967296 })
-joins_behind r page ends e are short =
-    let small : r.count + 1 ≡ (r.count + 1) % 4294967296 = omega (arith, short) in
-    subst (λ (n : ℕ). (joined r page ≡ Some (record { first = r.first; count = n }))
-    × AreEndsOf (record { behind = ends.behind + 1; before = ends.before })
-    (record { first = r.first; count = n })) small (
-      joins_up r page (sym are.behind ∙ e),
-      record { behind = omega (arith, are.behind); before = are.before },
-    )
-
-page_before : (page n : ℕ) → page < 4294967296 → n < 2 ^ 32 →
-    ((page + 18446744073709551615) % 18446744073709551616 ≡ n) ↔ (n + 1 ≡ page)
-page_before page n fits small =
-    (λ e. omega (arith, e, fits, small), λ e. omega (arith, e, fits, small))
+joins_behind r page ends e are short = grind arith
 
 pub joins_before : (r : Run) (page number : ℕ) (ends : Ends) → number ≡ page → page < 4294967296
     → ends.before ≡ page → AreEndsOf ends r → r.count < 4294967295 → (joined r page ≡ Some
@@ -312,19 +247,7 @@ pub joins_before : (r : Run) (page number : ℕ) (ends : Ends) → number ≡ pa
     }) (record { first = page; count = (r.count + 1) % 4294967296 })
 joins_before r page number ends same fits e are short =
     let small : r.count + 1 ≡ (r.count + 1) % 4294967296 = omega (arith, short) in
-    let first : page + 1 ≡ r.first = (are.before page fits).0 e in
-    subst (λ (n : ℕ). (joined r page ≡ Some (record { first = page; count = n }))
-    × AreEndsOf (record {
-      behind = ends.behind;
-      before = (number + 18446744073709551615) % 18446744073709551616;
-    }) (record { first = page; count = n })) small (
-      joins_down r page first,
-      record {
-        behind = omega (arith, are.behind, first);
-        before = λ n lt. subst (λ (m : ℕ). ((m + 18446744073709551615) % 18446744073709551616 ≡ n) ↔
-            (n + 1 ≡ page)) (sym same) (page_before page n fits lt);
-      },
-    )
+    let first : page + 1 ≡ r.first = (are.before page fits).0 e in grind arith
 
 -- one that is none of them doesn't
 pub no_end : (page used : ℕ) (runs : List Run) (d : Run) (ends : Ends) → AreEnds ends used runs →
@@ -350,14 +273,4 @@ some_before page (suc n) runs ends are fits e = omega arith
 
 pub ends_of_new : (ends : Ends) (used : ℕ) (runs : List Run) (new : Run) → used < length runs →
     AreEndsOf ends new → AreEnds ends (used + 1) (set runs used new)
-ends_of_new ends used runs new room are = record {
-  none = λ e. absurd (omega (arith, e));
-  some = λ d lt. subst (λ (r : Run). AreEndsOf ends r)
-      (sym (get_or-set_at runs used (used + 1 - 1) new d (omega arith) room)) are;
-}
-
-pub same_ends : (ends now : Ends) (used others : ℕ) (runs new : List Run) → ends ≡ now →
-    used ≡ others → runs ≡ new → AreEnds now others new → AreEnds ends used runs
-same_ends ends now used others runs new e f g are =
-    subst (λ (x : Ends). AreEnds x used runs) (sym e) (subst (λ (n : ℕ). AreEnds now n runs) (sym f)
-    (subst (λ (rs : List Run). AreEnds now others rs) (sym g) are))
+ends_of_new ends used runs new room are = grind (arith, get_or-set_at)

@@ -1,16 +1,15 @@
 -- Worked facts of saved devices: their bytes, the states that calls lead to, and those that none do.
+use Rattle.std.specs.{List.range_with_len, Prelude.{Some, None, Err}}
 use Rattle.std.proofs.Common.{◌≡◌, ℕ, true, false, [], ◌∷◌, map, refl, count_by}
-use Rattle.std.{specs.Prelude.{Some, None, Err}, specs.List.range_with_len}
-use Rattle.vb_core.specs.declared.saved.StateDenial.TheVariants.{BadLength, NotAState, Impossible}
-use Rattle.vb_core.specs.declared.saved.StateDenial.TheVariants.{OtherVersion}
-use Rattle.vb_core.specs.declared.format.TheConstants.{SAVED_LENGTH, CHECKSUM_AT, HEADER_LENGTH}
-use Rattle.vb_core.specs.declared.format.TheConstants.{FORMAT_VERSION, VERSION_AT, LENGTH_AT, MAGIC}
 use Rattle.vb_core.specs.Saved.{is_status, are_agreed, is_ring, is_held, is_poison, save_denial}
-use Rattle.vb_core.specs.{Saved.restored, declared.kinds.Kind.TheVariants.{Inflate, Statistics}}
-use Rattle.vb_core.specs.declared.{kinds.Kind.TheVariants.Report, settings.Settings.Settings}
-use Rattle.vb_core.specs.declared.{ring.Virtqueue.Virtqueue, device.Device.Device}
-use Rattle.vb_core.specs.{declared.saved.Saved.Saved, Devices.new_device, Format.u16_bytes}
-use Rattle.vb_core.specs.Format.{u64_bytes, u32_at, u64_at, checksum}
+use Rattle.vb_core.specs.declared.format.TheConstants.{SAVED_LENGTH, CHECKSUM_AT, HEADER_LENGTH}
+use Rattle.vb_core.specs.declared.saved.StateDenial.TheVariants.{BadLength, NotAState, Impossible}
+use Rattle.vb_core.specs.declared.{device.Device.Device, saved.StateDenial.TheVariants.OtherVersion}
+use Rattle.vb_core.specs.declared.{ring.Virtqueue.Virtqueue, settings.Settings.Settings}
+use Rattle.vb_core.specs.{Devices.new_device, declared.saved.Saved.Saved}
+use Rattle.vb_core.specs.declared.kinds.Kind.TheVariants.{Inflate, Statistics, Report}
+use Rattle.vb_core.specs.declared.format.TheConstants.{FORMAT_VERSION, VERSION_AT, LENGTH_AT, MAGIC}
+use Rattle.vb_core.specs.{Format.{u16_bytes, u64_bytes, u32_at, u64_at, checksum}, Saved.restored}
 use lib.Count
 
 -- ---- bytes

@@ -74,10 +74,7 @@ left_of s k a n = let m = 2 ^ k in
     let qd : q % 2 ^ k ≡ 0 = aligned_down q k (suc k) (omega arith) qa in
     let step : q + 2 ^ k ≤ s = aligned_step q s (2 ^ k) qd a (omega arith) in
     let qe : (q + 2 ^ k) % 2 ^ k ≡ 0 = end_aligned q k k (omega arith) qd in
-    let same : q + 2 ^ k ≡ s =
-    aligned_same (q + 2 ^ k) s (2 ^ k) s qe a step (omega arith) (omega arith) (omega arith) in
-    let e : s - 2 ^ k ≡ q = omega (arith, same) in
-    (omega (arith, same), ap (λ (x : ℕ). x % 2 ^ suc k) e ∙ qa)
+    grind (arith, aligned_same)
 
 pub pow_small : (k : ℕ) → k ≤ 9 → 2 ^ k ≤ 512
 pow_small k h = let m : 2 ^ k ≤ 2 ^ 9 = pow_mono h in m

@@ -3,11 +3,11 @@ use Rattle.std.proofs.Common.{◌≡◌, ℕ, zero, suc, true, false, List, [], 
 use Rattle.std.{proofs.Common.{length, refl, arith, ap}, specs.Prelude.{Bool, Some, None}}
 use Rattle.vb_model.specs.Pages.{Block}
 use Rattle.vb_pages.specs.Areas.{block_at, with_pages, without_pages, unreserved, IsBlock, LiesIn}
-use Rattle.vb_pages.specs.Areas.{IsMaximal, HasNoBlock, TakesBlock}
 use Rattle.vb_pages.specs.FreePages.{FreePages, times_free, free_count, is_free_in, drained, Pops}
-use Rattle.vb_pages.specs.FreePages.{TakesSingle, spilled, given_back, IsSoundFree, HasRoomFor}
+use Rattle.vb_pages.specs.PageState.{PageState, freed, is_free_page, is_held_page, is_unreserved}
 use Rattle.vb_pages.specs.Held.{blocks_of}
-use Rattle.vb_pages.specs.PageState.{PageState, freed, is_free_page, is_held_page, is_unreserved, IsApart}
+use Rattle.vb_pages.specs.{Areas.{IsMaximal, HasNoBlock, TakesBlock}, PageState.IsApart}
+use Rattle.vb_pages.specs.FreePages.{TakesSingle, spilled, given_back, IsSoundFree, HasRoomFor}
 
 -- ---- sets of pages
 
@@ -131,7 +131,8 @@ beside inside = (let wrong : false ≡ true = inside 1 (omega arith) (omega arit
 
 -- page 2 is half of a free block, so it is no maximal one, and no request gets it
 half : IsMaximal six (block_at 2 0) → ⊥
-half maximal = omega (arith, maximal.alone pair (omega arith, refl) pair_is_free (omega arith, omega arith))
+half maximal =
+    omega (arith, maximal.alone pair (omega arith, refl) pair_is_free (omega arith, omega arith))
 
 there_is_a_pair : HasNoBlock six 1 → ⊥
 there_is_a_pair none = none 2 (omega arith, refl) pair_is_free

@@ -43,13 +43,8 @@ length-none_set n = length-set_of (replicate n None) ∙ length-replicate {A = O
 pub lowest_is : (t : List (Option ℕ)) (order from : ℕ) (b : FreeBlock) → IsTiled t
     → IsLowestListed t order from (Some b)
     → IsLowestFrom (set_of t) order from (block_at b.start b.order)
-lowest_is t order from b tiled h = record {
-  maximal = listed_maximal t tiled.placed tiled.merged b.start b.order h.0;
-  sufficient = h.1;
-  after = h.3;
-  lowest = λ c m o f. h.4 c.start c.order o m.is_block.0 f
-      (maximal_listed t tiled.placed tiled.merged c m);
-}
+lowest_is t order from b tiled h =
+    grind (arith, listed_maximal t tiled.placed tiled.merged b.start b.order h.0, maximal_listed)
 
 pub lowest_none : (t : List (Option ℕ)) (order from : ℕ) → IsTiled t
     → IsLowestListed t order from None → (start larger : ℕ) → order ≤ larger → from ≤ start

@@ -1,31 +1,30 @@
 -- Free pages: how often each is free, before and after a call.
-use Rattle.std.proofs.Common.{◌≡◌, ℕ, zero, suc, ◌+◌, ◌<◌, ◌≤◌, inl, inr, Bool, true, false, List}
-use Rattle.std.proofs.Common.{[], ◌∷◌, ◌++◌, length, get_or, set, take, drop, map, reverse}
-use Rattle.std.proofs.Common.{replicate, Option, Some, None, refl, sym, ◌∙◌, ap, subst, arith}
-use Rattle.std.proofs.{Common.length-append, lemmas.Bool.{cases_eq, cases_Bool, both_ways, eq-eqb}}
-use Rattle.std.proofs.lemmas.Bool.{eqb-true, ne_eqb, cond-true, cond-false, lt-ltb}
-use Rattle.std.proofs.lemmas.{Bool.false_from_ne_true, List.{get_or-set_same, get_or-set_other}}
-use Rattle.std.proofs.lemmas.List.{set-set, set-get_or, length-set, length-map, take-append-drop}
-use Rattle.std.proofs.lemmas.List.{length-drop, length-reverse, reverse-append, nil_from_length}
-use Rattle.std.proofs.lemmas.List.{take_more, flat_map_more, take_all, same_lists, get_or_default}
-use Rattle.std.proofs.lemmas.List.{drop_all, append-nil, Sorted.sum_by-IsPermutation}
-use Rattle.std.proofs.lemmas.List.{Sorted.length_permutation, Sums.{sum_by-append, sum_by-cons}}
+use Rattle.std.proofs.Common.{◌≡◌, ℕ, zero, suc, ◌+◌, ◌<◌, ◌≤◌, inl, inr, Bool, false, List, []}
+use Rattle.std.proofs.Common.{◌∷◌, ◌++◌, length, get_or, set, take, drop, map, reverse, replicate}
+use Rattle.std.proofs.lemmas.Bool.{cases_eq, cases_Bool, eq-eqb, eqb-true, ne_eqb, cond-true}
+use Rattle.std.proofs.lemmas.List.{get_or-set_same, get_or-set_other, set-set, set-get_or}
+use Rattle.std.proofs.lemmas.List.{length-set, length-map, take-append-drop, length-reverse}
+use Rattle.std.proofs.lemmas.List.{reverse-append, nil_from_length, take_more, flat_map_more}
+use Rattle.std.proofs.lemmas.List.Sorted.{sum_by-IsPermutation, length_permutation}
+use Rattle.std.proofs.lemmas.{Bool.{cond-false, lt-ltb}, List.Sums.{sum_by-append, sum_by-cons}}
+use Rattle.std.proofs.lemmas.List.{take_all, same_lists, get_or_default, drop_all, append-nil}
 use Rattle.std.specs.{List.flat_map, Prelude.{◌==◌, count_by, nat_lt, MatchOption, sum_by}}
-use Rattle.vb_model.{specs.Tests.{is_in, one_if}, specs.Pages.{pages_of, covers}}
-use Rattle.vb_model.proofs.PageSteps.{covers_is}
-use Rattle.vb_pages.specs.Areas.{has, with_pages, without_pages, unreserved, block_at, IsBlock}
-use Rattle.vb_pages.specs.FreePages.{FreePages, in_lists, is_free_in, times_free, list_of}
-use Rattle.vb_pages.specs.FreePages.{drained, TakesPages, Refills, Pops, TakesSingle}
-use Rattle.vb_pages.proofs.Sets.{is_inside, without_parts, with_cases, with_old, with_new}
+use Rattle.std.proofs.Common.{Option, Some, None, refl, sym, ◌∙◌, ap, subst, arith, length-append}
+use Rattle.vb_model.specs.Tests.{is_in, one_if}
+use Rattle.vb_model.{proofs.PageSteps.covers_is, specs.Pages.{pages_of, covers}}
 use Rattle.vb_pages.proofs.AreasLemmas.{length-unreserved, count_without_block, count_zero}
 use Rattle.vb_pages.proofs.ListsLemmas.{times, times-append, times-one, times_out, one_if_le, Once}
 use Rattle.vb_pages.proofs.ListsLemmas.{with_times, with_none, with_append_turned, takes_times}
-use Rattle.vb_pages.{specs.declared.table.TheConstants.MAX_PAGES, proofs.Aligned.aligned_down}
-use Rattle.vb_pages.specs.Areas.{HasNoBlock, TakesBlock, IsMaximal, IsLowestFrom}
-use Rattle.vb_pages.{specs.declared.block.FreeBlock.FreeBlock, proofs.AreasLemmas.taken_inside}
-use Rattle.vb_pages.specs.FreePages.{Tries, Serves, given_back, IsSoundFree, HasRoomFor}
+use Rattle.vb_pages.proofs.Sets.{is_inside, without_parts, with_cases, with_old, with_new}
+use Rattle.vb_pages.specs.Areas.{has, with_pages, without_pages, unreserved, block_at, IsBlock}
+use Rattle.vb_pages.specs.FreePages.{FreePages, in_lists, is_free_in, times_free, list_of, drained}
+use Rattle.vb_pages.specs.FreePages.{TakesPages, Refills, Pops, TakesSingle, Tries, Serves}
+use Rattle.vb_pages.specs.declared.{block.FreeBlock.FreeBlock, table.TheConstants.MAX_PAGES}
+use Rattle.vb_pages.proofs.{Aligned.aligned_down, AreasLemmas.taken_inside}
 use Rattle.vb_pages.proofs.Sets.{length-with_pages, length-without_pages, block_bounds}
+use Rattle.vb_pages.specs.FreePages.{given_back, IsSoundFree, HasRoomFor}
 use Rattle.vb_pages.proofs.ListsLemmas.{takes_pages_times, takes_more, no_page, covers_one}
+use Rattle.vb_pages.specs.Areas.{HasNoBlock, TakesBlock, IsMaximal, IsLowestFrom}
 
 abbrev pub flat : List (List ℕ) → List ℕ
 flat lists = flat_map (λ list. list) lists
@@ -92,31 +91,8 @@ pub block_times : (f : FreePages) (s k : ℕ) → IsSoundFree f → HasRoomFor f
     ≡ one_if (has f.areas p) + one_if (covers p (block_at s k))
 block_times f s k sound room p = let block = pages_of (block_at s k) in
     elim (cases_Bool (is_in p block)) [
-      | inl i ↦
-          let b = block_bounds s k p i in
-          let c : one_if (covers p (block_at s k)) ≡ 1 =
-          ap one_if (covers_is p (block_at s k) true i) in
-          let none : times_free f p ≡ 0 = not_free f p (room.2 p b.0 b.1) in
-          let h : one_if (has (with_pages block f.areas) p) ≡ 1 =
-          ap one_if (with_new block f.areas p (omega (arith, b.1, room.1)) i) in
-          omega (arith, c, none, h)
-      | inr o ↦
-          let c : one_if (covers p (block_at s k)) ≡ 0 =
-          ap one_if (covers_is p (block_at s k) false o) in elim (cases_Bool (has f.areas p)) [
-            | inl was ↦
-                let e : one_if (has f.areas p) ≡ 1 = ap one_if was in
-                let h : one_if (has (with_pages block f.areas) p) ≡ 1 =
-                ap one_if (with_old block f.areas p was) in omega (arith, c, e, h)
-            | inr was ↦
-                let e : one_if (has f.areas p) ≡ 0 = ap one_if was in
-                let no_more : has (with_pages block f.areas) p ≡ false = false_from_ne_true
-                (has (with_pages block f.areas) p) (λ w. elim (with_cases block f.areas p w) [
-                  | inl old ↦ both_ways (has f.areas p) was old
-                  | inr new ↦ both_ways (is_in p block) o new
-                ]) in
-                let h : one_if (has (with_pages block f.areas) p) ≡ 0 = ap one_if no_more in
-                omega (arith, c, e, h)
-          ]
+      | inl i ↦ grind (arith, block_bounds, with_new)
+      | inr o ↦ grind (arith, covers_is p (block_at s k) false o, with_old, with_cases)
     ]
 
 -- a page of the block wasn't free, and is there
@@ -148,8 +124,6 @@ sum_by-reverse : (g : ℕ → ℕ) (xs : List ℕ) → sum_by g (reverse xs) ≡
 sum_by-reverse g [] = refl
 sum_by-reverse g (x ∷ xs) = grind (
   arith,
-  reverse (x ∷ xs),
-  reverse xs,
   reverse-append (x ∷ []) xs,
   sum_by-append g (reverse xs) (x ∷ []),
   sum_by-cons g x xs,
@@ -201,16 +175,12 @@ single_areas set new (x ∷ xs) rest got h = ap length h.0
 single_none : (set new : List Bool) (list rest : List ℕ) → TakesSingle set list None new rest
     → (list ≡ []) × (rest ≡ []) × (new ≡ set) × HasNoBlock set 0
 single_none set new [] rest h = let r = h.1 in
-    let zero_long : length r.taken ≡ 0 = omega (
+    grind (
       arith,
-      ap length h.2.0,
-      ap length r.list_is,
       length-reverse r.rising,
       length_permutation r.taken r.rising r.same,
-    ) in
-    let empty : r.taken ≡ [] = nil_from_length r.taken zero_long in
-    let same : new ≡ set = subst (λ (xs : List ℕ). TakesPages set xs new) empty r.takes in
-    (refl, h.2.1, same, rw (← same) (r.all (omega (arith, zero_long))))
+      nil_from_length,
+    )
 single_none set new (x ∷ xs) rest h =
     absurd (let bad : length (x ∷ xs) ≡ 0 = ap length h.1.0 in omega (arith, bad))
 
@@ -226,21 +196,7 @@ single_sound f cpu new rest got sound l h = sound_from f
       arith,
       single_times f.areas new (list_of f cpu) rest got h p,
       times-set p f.lists cpu rest l,
-    )) (λ i. elim (cases_eq i cpu) [
-      | inl same ↦
-          let e : get_or (set f.lists cpu rest) i nothing ≡ rest =
-          ap (λ (n : ℕ). get_or (set f.lists cpu rest) n nothing) same
-          ∙ get_or-set_same f.lists cpu rest nothing l in omega (
-            arith,
-            ap length e,
-            single_length f.areas new (list_of f cpu) rest got h (sound.short cpu),
-          )
-      | inr differ ↦ omega (
-        arith,
-        ap length (get_or-set_other f.lists cpu i rest nothing differ),
-        sound.short i,
-      )
-    ])
+    )) (grind (arith, get_or-set_same, single_length, get_or-set_other))
 
 abbrev pub free_of : List Bool → List (List ℕ) → ℕ → FreePages
 free_of areas lists reserved = record { areas = areas; lists = lists; reserved = reserved }
@@ -260,10 +216,8 @@ pub tries_times : (f new : FreePages) (cpu order start : ℕ) → cpu < length f
     → times_free new p + one_if (covers p (block_at start order)) ≡ times_free f p
 tries_times f new cpu zero start l h p = grind (
   arith,
-  times p (in_lists new),
   single_times f.areas new.areas (list_of f cpu) h.0 (Some start) h.1 p,
   times-set p f.lists cpu h.0 l,
-  covers_one start p,
 )
 tries_times f new cpu (suc order) start l h p =
     grind (arith, times p (in_lists f), takes_times f.areas new.areas (suc order) start h.0 p)
@@ -277,8 +231,11 @@ serves_times f new cpu order start sound l h p = elim h [
   | inr later ↦ omega (
     arith,
     drained_times f sound p,
-    tries_times (drained f) new cpu order start
-        (omega (arith, length-map f.lists (λ (x : List ℕ). nothing))) later.1 p,
+    tries_times (drained f) new cpu order start (omega (
+      arith,
+      length-map f.lists (λ (x : List ℕ).
+          nothing),
+    )) later.1 p,
   )
 ]
 
@@ -343,11 +300,9 @@ module _ (areas : List Bool) (lists : List (List ℕ)) (once : Once areas (flat 
       → IsDrainedSoFar areas lists (i + 1) after (set left i nothing)
   next_drained after e n = grind (
     arith,
-    next_is,
     with_append_turned,
     flat_more,
     length-append,
-    cases_eq,
     get_or-set_same,
     get_or-set_other,
     length-set,
@@ -466,28 +421,13 @@ module _ (f : FreePages) (cpu s : ℕ) (sound : IsSoundFree f) (l : cpu < length
         ≡ one_if (nat_lt p (length f.areas)) =
         ap (λ (n : ℕ). one_if (nat_lt p n)) (length-with_pages (take 8 longer) f.areas) in omega (
           arith,
-          e,
           with_times f.areas (take 8 longer) front_once p,
           longer_times p,
           front_times p,
           times-set p f.lists cpu longer l,
           times-set p f.lists cpu (drop 8 longer) l,
         );
-    short = λ i. elim (cases_eq i cpu) [
-      | inl same ↦ omega (
-        arith,
-        ap (λ (n : ℕ). length (get_or (set f.lists cpu (drop 8 longer)) n nothing)) same,
-        ap length (get_or-set_same f.lists cpu (drop 8 longer) nothing l),
-        length-drop 8 longer,
-        longer_length,
-        sound.short cpu,
-      )
-      | inr differ ↦ omega (
-        arith,
-        ap length (get_or-set_other f.lists cpu i (drop 8 longer) nothing differ),
-        sound.short i,
-      )
-    ];
+    short = grind (arith, get_or-set_same, longer_length, get_or-set_other);
     few = omega (arith, sound.few, length-set f.lists cpu (drop 8 longer));
     small = omega (arith, sound.small, length-with_pages (take 8 longer) f.areas);
   }
@@ -559,18 +499,13 @@ given_times f cpu s zero sound l room p = let long = longer f cpu s sound l room
           (set f.lists cpu (drop 8 long)) f.reserved) p = ap (λ (x : FreePages). times_free x p)
           (sym (given_full f cpu s sound l room full)) in omega (
             arith,
-            e,
             with_times f.areas (take 8 long) (front_once f cpu s sound l room) p,
             front_times f cpu s sound l room p,
             times-set p f.lists cpu (drop 8 long) l,
-            more,
             covers_one s p,
           )
       | inr short ↦
-          let e : times_free (given_back cpu s 0 f) p
-          ≡ times_free (free_of f.areas (set f.lists cpu long) f.reserved) p =
-          ap (λ (x : FreePages). times_free x p) (sym (given_short f cpu s sound l room short)) in
-          omega (arith, e, times-set p f.lists cpu long l, more, covers_one s p)
+          grind (arith, given_short f cpu s sound l room short, times-set p f.lists cpu long l)
     ]
 
 pub given_length : (f : FreePages) (cpu s k : ℕ) → IsSoundFree f → cpu < length f.lists

@@ -1,16 +1,15 @@
 -- Pages that move between a list and the areas: how often each is there.
 use Rattle.std.proofs.Common.{◌≡◌, ℕ, ◌+◌, ◌%◌, ◌^◌, ◌<◌, ◌≤◌, inl, inr, Bool, true, false, List}
-use Rattle.std.proofs.Common.{[], ◌∷◌, ◌++◌, length, Some, refl, sym, ◌∙◌, ap, arith}
+use Rattle.std.{proofs.lemmas.List.Folds.list_any-append, specs.Prelude.{◌==◌, count_by, nat_lt}}
 use Rattle.std.proofs.lemmas.Bool.{cases_Bool, both_ways, or_cases, or_parts, eq-eqb, ltb-true}
-use Rattle.std.{proofs.Common.length-append, specs.Prelude.{◌==◌, count_by, nat_lt}}
-use Rattle.std.{proofs.lemmas.List.Folds.list_any-append, proofs.lemmas.Bool.false_from_ne_true}
-use Rattle.vb_model.{specs.Tests.{is_in, one_if}, specs.Pages.{pages_of, covers}}
-use Rattle.vb_model.{proofs.Tables.{count_by-cons, count_by-append}, proofs.PageSteps.covers_is}
-use Rattle.vb_pages.specs.Areas.{has, with_pages, without_pages, block_at, IsBlock, HasNoBlock}
+use Rattle.std.proofs.Common.{[], ◌∷◌, ◌++◌, length, Some, refl, sym, ◌∙◌, ap, arith, length-append}
+use Rattle.vb_model.{proofs.PageSteps.covers_is, specs.Tests.{is_in, one_if}}
+use Rattle.vb_model.{proofs.Tables.{count_by-cons, count_by-append}, specs.Pages.{pages_of, covers}}
 use Rattle.vb_pages.proofs.Sets.{with_union, with_cases, with_old, with_new, without_parts}
-use Rattle.vb_pages.{specs.Areas.TakesBlock, specs.FreePages.TakesPages}
+use Rattle.vb_pages.specs.Areas.{has, with_pages, without_pages, block_at, IsBlock, HasNoBlock}
+use Rattle.vb_pages.specs.Areas.{TakesBlock}
+use Rattle.vb_pages.{proofs.AreasLemmas.taken_inside, specs.FreePages.TakesPages}
 use Rattle.vb_pages.proofs.Sets.{without_old, length-with_pages, count_one, same_sets, block_bounds}
-use Rattle.vb_pages.proofs.AreasLemmas.{taken_inside}
 
 -- how often a page is in a list
 abbrev pub times : ℕ → List ℕ → ℕ
@@ -109,29 +108,8 @@ takes_times set new k s t p = let inside = taken_inside set s k t.0.0 t.0.1 in
     let block = pages_of (block_at s k) in
     let e : has new p ≡ has (without_pages block set) p = ap (λ (x : List Bool). has x p) t.1 in
     elim (cases_Bool (is_in p block)) [
-      | inl i ↦
-          let b = block_bounds s k p i in
-          let c : one_if (covers p (block_at s k)) ≡ 1 =
-          ap one_if (covers_is p (block_at s k) true i) in
-          let h : one_if (has set p) ≡ 1 = ap one_if (inside p b.0 b.1) in
-          let gone : has (without_pages block set) p ≡ false =
-          false_from_ne_true (has (without_pages block set) p)
-          (λ w. both_ways (is_in p block) (without_parts block set p w).1 i) in
-          let n : one_if (has new p) ≡ 0 = ap one_if (e ∙ gone) in omega (arith, c, h, n)
-      | inr o ↦
-          let c : one_if (covers p (block_at s k)) ≡ 0 =
-          ap one_if (covers_is p (block_at s k) false o) in elim (cases_Bool (has set p)) [
-            | inl was ↦
-                let h : one_if (has set p) ≡ 1 = ap one_if was in
-                let n : one_if (has new p) ≡ 1 = ap one_if (e ∙ without_old block set p was o) in
-                omega (arith, c, h, n)
-            | inr was ↦
-                let h : one_if (has set p) ≡ 0 = ap one_if was in
-                let gone : has (without_pages block set) p ≡ false =
-                false_from_ne_true (has (without_pages block set) p)
-                (λ w. both_ways (has set p) was (without_parts block set p w).0) in
-                let n : one_if (has new p) ≡ 0 = ap one_if (e ∙ gone) in omega (arith, c, h, n)
-          ]
+      | inl i ↦ grind (arith, block_bounds, without_parts)
+      | inr o ↦ grind (arith, covers_is p (block_at s k) false o, without_old, without_parts)
     ]
 
 pub covers_one : (s p : ℕ) → one_if (covers p (block_at s 0)) ≡ one_if (s == p)

@@ -165,14 +165,7 @@ module _ (f : FreePages) (h : HeldBlocks) (s k : ℕ) (kept : IsKept f h) (held 
         block,
         omega (arith, q.1),
         λ p a e.
-            let c : one_if (covers p (block_at s k)) ≡ 1 = ap one_if (bounds_cover p s k a e) in
-            free_none f p (omega (
-              arith,
-              kept.apart p,
-              held_count p,
-              c,
-              one_if_le (is_unreserved (record { free = f; held = h.blocks }) p),
-            )),
+            grind (arith, free_none, held_count p),
       )
 
   pub back_kept : (cpu : ℕ) → IsSoundFree f → cpu < length f.lists
@@ -287,18 +280,12 @@ room_of : (f new : FreePages) (h : HeldBlocks) (s k : ℕ) → IsKept f h
 room_of f new h s k kept l r block less = let pos : 0 < 2 ^ k = pow_pos k in
     let first = unreserved_below f h.blocks s
     (omega (arith, kept.apart s, less s (omega arith) (omega arith))) in
-    let last = unreserved_below f h.blocks (s + 2 ^ k - 1) (omega (
-      arith,
-      kept.apart (s + 2 ^ k - 1),
-      less (s + 2 ^ k - 1) (omega arith) (omega arith),
-    )) in (
+    let last = unreserved_below f h.blocks (s + 2 ^ k - 1) (omega (arith, less (s + 2 ^ k - 1) (omega arith) (omega arith))) in (
       block,
       omega (arith, first.0, r),
       omega (arith, last.1, l),
-      λ p a e. let most = one_if_le (is_unreserved (record { free = f; held = h.blocks }) p) in (
-        free_none new p (omega (arith, kept.apart p, less p a e, most)),
-        count_none (covers p) h.blocks (omega (arith, kept.apart p, less p a e, most)),
-      ),
+      λ p a e. let most = one_if_le (is_unreserved (record { free = f; held = h.blocks }) p) in
+          grind (arith, free_none, count_none),
     )
 
 pub isolated_room : (f new : FreePages) (h : HeldBlocks) (order from : ℕ) (got : Option FreeBlock)

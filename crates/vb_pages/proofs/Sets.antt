@@ -1,16 +1,15 @@
 -- Sets of pages.
 use Rattle.std.proofs.Common.{◌≡◌, ℕ, zero, suc, ◌+◌, ◌-◌, ◌^◌, ◌<◌, ◌≤◌, ◌⊎◌, inl, inr, Bool, true}
-use Rattle.std.proofs.Common.{false, not, ◌&&◌, ◌||◌, List, [], ◌∷◌, length, get_or, refl, sym, ◌∙◌}
+use Rattle.std.proofs.Common.{false, not, ◌&&◌, ◌||◌, List, [], ◌∷◌, length, refl, sym, ◌∙◌, ap}
+use Rattle.std.proofs.lemmas.Bool.{ne_eqb, or_from, both_ways, or_left, or_right}
 use Rattle.std.proofs.lemmas.List.{same_lists, get_or_default, get_or_past, get_or-set_same}
-use Rattle.std.proofs.lemmas.Bool.{cases_eq, eq-eqb, ne_eqb, or_from, and_right, not_from_true}
-use Rattle.std.{proofs.Common.{ap, arith}, specs.List.range_with_len, proofs.lemmas.Nat.pow_pos}
-use Rattle.std.proofs.lemmas.List.{get_or-set_other, length-set}
-use Rattle.std.proofs.lemmas.Bool.{both_ways, or_left, or_right, false_from_ne_true}
-use Rattle.vb_model.{specs.Tests.{is_in, one_if}, specs.Pages.pages_of}
+use Rattle.std.specs.List.{range_with_len}
+use Rattle.std.{proofs.lemmas.Bool.false_from_ne_true, specs.Prelude.{count_by, slice_set as put}}
+use Rattle.std.proofs.{Common.arith, lemmas.{List.{get_or-set_other, length-set}, Nat.pow_pos}}
+use Rattle.vb_model.specs.Pages.{pages_of}
 use Rattle.vb_model.proofs.Tables.{length-each_from, each_page-get, count_by-cons}
-use Rattle.vb_model.proofs.PageSteps.{is_in-range, outside-range}
+use Rattle.vb_model.{proofs.PageSteps.{is_in-range, outside-range}, specs.Tests.{is_in, one_if}}
 use Rattle.vb_pages.specs.Areas.{has, with_pages, without_pages, block_at}
-use Rattle.std.specs.Prelude.{◌==◌, count_by, slice_set as put}
 
 pub same_bool : (a b : Bool) → (a ≡ true → b ≡ true) → (b ≡ true → a ≡ true) → a ≡ b
 same_bool true b f g = sym (f refl)
@@ -140,17 +139,13 @@ with_one : (p : ℕ) (set : List Bool) → p < length set → with_pages (p ∷ 
 with_one p set l = same_lists (with_pages (p ∷ []) set) (put set p true)
     (length-with_pages (p ∷ []) set ∙ sym (length-set set p true)) (λ k d h.
     let k_in : k < length set = omega (arith, length-with_pages (p ∷ []) set) in
-    get_or_default (with_pages (p ∷ []) set) k d false h ∙ (has-with_pages (p ∷ []) set k k_in ∙
-    elim (cases_eq k p) [
-      | inl same ↦
-          let t : (p == k) ≡ true = eq-eqb p k (sym same) in
-          or_right (has set k) ((p == k) || false) (or_left (p == k) false t) ∙ (sym
-          (get_or-set_same set p true d l) ∙ ap (λ (n : ℕ). get_or (put set p true) n d) (sym same))
-      | inr differ ↦
-          let f : (p == k) ≡ false = ne_eqb p k (λ e. differ (sym e)) in
-          ap (λ (b : Bool). has set k || (b || false)) f ∙ (or_false (has set k)
-          ∙ (get_or_default set k false d k_in ∙ sym (get_or-set_other set p k true d differ)))
-    ]))
+    get_or_default (with_pages (p ∷ []) set) k d false h ∙ (grind (
+      arith,
+      has-with_pages,
+      get_or-set_same,
+      get_or_default,
+      get_or-set_other,
+    )))
   where
     or_false : (b : Bool) → (b || (false || false)) ≡ b
     or_false true = refl
@@ -183,14 +178,10 @@ count_range zero s set l h = ap (count_by (λ f. f))
 count_range (suc n) s set l h = grind (
   arith,
   count_one,
-  length-with_pages,
-  has-with_pages,
-  or_from,
-  ne_eqb,
   with_cons,
-  count_range n (s + 1) (with_pages (s ∷ []) set) (omega (arith, length-with_pages (s ∷ []) set))
-      (λ p a b. has-with_pages (s ∷ []) set p (omega arith) ∙ or_from (has set p) (is_in p (s ∷ []))
-      (h p (omega arith) (omega arith)) (ap (λ (v : Bool). v || false) (ne_eqb s p (λ e. omega
+  count_range n (s + 1) (with_pages (s ∷ []) set) (omega (arith, length-with_pages (s ∷ []) set)) (λ
+      p a b. has-with_pages (s ∷ []) set p (omega arith) ∙ or_from (has set p) (is_in p (s ∷ [])) (h
+      p (omega arith) (omega arith)) (ap (λ (v : Bool). v || false) (ne_eqb s p (λ e. omega
       arith)))),
 )
 
@@ -201,12 +192,7 @@ count_without s k set inside = let block = pages_of (block_at s k) in
     let back : with_pages block (without_pages block set) ≡ set =
     with_without block set (λ p h. let b = block_bounds s k p h in inside p b.0 b.1) in
     let pos : 0 < 2 ^ k = pow_pos k in
-    let last : s + 2 ^ k - 1 < length set =
-    is_inside set (s + 2 ^ k - 1) (inside (s + 2 ^ k - 1) (omega arith) (omega arith)) in
-    ap (count_by (λ f. f)) (sym back) ∙ count_range (2 ^ k) s (without_pages block set)
-    (omega (arith, length-without_pages block set)) (λ p a b. has-without_pages block set p
-    ∙ and_right (has set p) (not (is_in p block))
-    (not_from_true (is_in p block) (in_block s k p a b)))
+    grind (arith, is_inside, count_range, length-without_pages, has-without_pages, in_block)
 
 pub count_le : (set : List Bool) → count_by (λ f. f) set ≤ length set
 count_le [] = omega arith

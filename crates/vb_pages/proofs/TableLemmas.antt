@@ -1,19 +1,19 @@
 -- A table and the sets of its blocks, order by order.
-use Rattle.std.proofs.Common.{◌≡◌, ◌≢◌, ℕ, zero, suc, ◌+◌, ◌*◌, ◌/◌, ◌%◌, ◌^◌, ◌<◌, ◌≤◌, inl, inr}
 use Rattle.std.proofs.Common.{List, [], length, get_or, set, replicate, Bool, true, false, min, eqb}
+use Rattle.std.proofs.lemmas.Bool.{cases_lt, cases_eq, eqb-true, eq-eqb, ne_eqb, both_ways}
 use Rattle.std.proofs.lemmas.List.{get_or-set_same, get_or-set_other, get_or_past, get_or_default}
 use Rattle.std.proofs.lemmas.List.{same_lists, ext_get_or, length-set, length-replicate}
-use Rattle.std.proofs.lemmas.Bool.{cases_lt, cases_eq, eqb-true, eq-eqb, ne_eqb, both_ways}
-use Rattle.std.proofs.Common.{Option, Some, None, refl, sym, ◌∙◌, ap, arith}
-use Rattle.std.{proofs.lemmas.List.get_or-replicate, proofs.lemmas.Nat.{pow_pos, mul-le}}
 use Rattle.std.proofs.lemmas.List.FromFn.{get_or-map-range_with_len, length-map-range_with_len}
-use Rattle.std.proofs.lemmas.Bool.{cond-true, cond-false, and_parts, and_from}
+use Rattle.std.proofs.lemmas.Nat.{pow_pos, mul-le}
+use Rattle.std.proofs.lemmas.{Bool.{cond-true, cond-false, and_parts}, List.get_or-replicate}
+use Rattle.std.proofs.Common.{Option, Some, None, refl, sym, ◌∙◌, ap, arith}
 use Rattle.vb_bits.specs.Sets.{has, HasNoneFrom, IsLeastFrom}
 use Rattle.vb_pages.specs.Table.{order_at, is_order, AreBlocks, room_of, set_of_order, sets_of}
 use Rattle.vb_pages.specs.declared.table.TheConstants.{MAX_PAGES}
-use Rattle.vb_pages.specs.Table.{is_in_sets, first_of, table_of, AreSetsOf, IsLowestStart}
-use Rattle.vb_pages.proofs.Aligned.{multiple_of, times_div, block_fits, div_ceil_le, div_ceil_from}
 use Rattle.vb_pages.proofs.Sets.{same_bool, is_inside}
+use Rattle.vb_pages.proofs.Aligned.{multiple_of, times_div, block_fits, div_ceil_le, div_ceil_from}
+use Rattle.vb_pages.specs.Table.{is_in_sets, first_of, table_of, AreSetsOf, IsLowestStart}
+use Rattle.std.proofs.Common.{◌≡◌, ◌≢◌, ℕ, zero, suc, ◌+◌, ◌*◌, ◌/◌, ◌%◌, ◌^◌, ◌<◌, ◌≤◌, inl, inr}
 
 -- ---- the order of a page
 
@@ -110,11 +110,7 @@ tested t p k blocks = same_bool (is_in_sets (sets_of t) p k) (is_order k (order_
         ]
 
     from : is_order k (order_at t p) ≡ true → is_in_sets (sets_of t) p k ≡ true
-    from h = let e : order_at t p ≡ Some k = is_order-true k (order_at t p) h in
-        let ten : k < 10 = omega (arith, blocks.bounded p k e) in
-        and_from (eqb (p % 2 ^ k) 0) (has (get_or (sets_of t) k []) (p / 2 ^ k))
-        (eq-eqb (p % 2 ^ k) 0 (blocks.aligned p k e)) (ap (λ (xs : List Bool). has xs (p / 2 ^ k))
-        (sets_at t k [] ten) ∙ listed_member t k p blocks e)
+    from h = grind (arith, sets_at, listed_member)
 
 pub length-table_of : (pages : ℕ) (sets : List (List Bool)) → length (table_of pages sets) ≡ pages
 unfolding table_of
@@ -165,20 +161,11 @@ set-kept : (j s : ℕ) (t : List (Option ℕ)) (v : Option ℕ) → s < length t
     → is_order j (order_at t s) ≡ false → set_of_order j (set t s v) ≡ set_of_order j t
 set-kept j s t v l now before = ext_get_or false (set_of_order j (set t s v)) (set_of_order j t)
     (length-set_of_order j (set t s v) ∙ ap (room_of j) (length-set t s v)
-    ∙ sym (length-set_of_order j t)) (λ b h.
-    let inside : b < room_of j (length (set t s v)) =
-    omega (arith, length-set_of_order j (set t s v)) in
-    let inside' : b < room_of j (length t) = rw (length-set t s v) at inside in
-    set_at j (set t s v) b inside ∙ (at b ∙ sym (set_at j t b inside')))
+    ∙ sym (length-set_of_order j t)) (grind (arith, length-set_of_order, length-set, at, set_at))
   where
     at : (b : ℕ) → is_order j (order_at (set t s v) (b * 2 ^ j))
         ≡ is_order j (order_at t (b * 2 ^ j))
-    at b = elim (cases_eq (b * 2 ^ j) s) [
-      | inl same ↦ ap (λ (n : ℕ). is_order j (order_at (set t s v) n)) same
-          ∙ ap (is_order j) (get_or-set_same t s v None l) ∙ now ∙ sym before
-          ∙ ap (λ (n : ℕ). is_order j (order_at t n)) (sym same)
-      | inr differ ↦ ap (is_order j) (get_or-set_other t s (b * 2 ^ j) v None differ)
-    ]
+    at b = grind (arith, get_or-set_same, get_or-set_other)
 
 -- the set that it changes
 set-changed : (k s : ℕ) (t : List (Option ℕ)) (v : Option ℕ) (flag : Bool) → s < length t
@@ -187,29 +174,19 @@ set-changed : (k s : ℕ) (t : List (Option ℕ)) (v : Option ℕ) (flag : Bool)
 set-changed k s t v flag l aligned e =
     ext_get_or false (set_of_order k (set t s v)) (set (set_of_order k t) (s / 2 ^ k) flag)
     (length-set_of_order k (set t s v) ∙ ap (room_of k) (length-set t s v)
-    ∙ sym (length-set (set_of_order k t) (s / 2 ^ k) flag ∙ length-set_of_order k t)) (λ b h.
-    let inside : b < room_of k (length (set t s v)) =
-    omega (arith, length-set_of_order k (set t s v)) in
-    let inside' : b < room_of k (length t) = rw (length-set t s v) at inside in
-    set_at k (set t s v) b inside ∙ at b inside')
+    ∙ sym (length-set (set_of_order k t) (s / 2 ^ k) flag ∙ length-set_of_order k t)) (grind (
+      arith,
+      length-set_of_order,
+      length-set,
+      at,
+      set_at,
+    ))
   where
     at : (b : ℕ) → b < room_of k (length t) → is_order k (order_at (set t s v) (b * 2 ^ k))
         ≡ has (set (set_of_order k t) (s / 2 ^ k) flag) b
     at b h = elim (cases_eq b (s / 2 ^ k)) [
-      | inl same ↦
-          let start : b * 2 ^ k ≡ s =
-          ap (λ (n : ℕ). n * 2 ^ k) same ∙ multiple_of s (2 ^ k) aligned in
-          let inside : s / 2 ^ k < length (set_of_order k t) =
-          omega (arith, same, length-set_of_order k t) in
-          ap (λ (n : ℕ). is_order k (order_at (set t s v) n)) start
-          ∙ ap (is_order k) (get_or-set_same t s v None l) ∙ e
-          ∙ sym (get_or-set_same (set_of_order k t) (s / 2 ^ k) flag false inside)
-          ∙ ap (λ (n : ℕ). has (set (set_of_order k t) (s / 2 ^ k) flag) n) (sym same)
-      | inr differ ↦
-          let apart : b * 2 ^ k ≢ s = λ q. differ (sym (times_div b (2 ^ k) (pow_pos k))
-          ∙ ap (λ (n : ℕ). n / 2 ^ k) q) in
-          ap (is_order k) (get_or-set_other t s (b * 2 ^ k) v None apart) ∙ sym (set_at k t b h)
-          ∙ sym (get_or-set_other (set_of_order k t) (s / 2 ^ k) b flag false differ)
+      | inl same ↦ grind (arith, multiple_of, length-set_of_order, get_or-set_same)
+      | inr differ ↦ grind (arith, times_div, get_or-set_other, set_at)
     ]
 
 sets-changed : (k s : ℕ) (t : List (Option ℕ)) (v : Option ℕ) (flag : Bool) → k < 10

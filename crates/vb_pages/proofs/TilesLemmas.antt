@@ -1,27 +1,27 @@
 -- Blocks that a table lists: which are maximal in the set that they make up, and what a change of
 -- one does to it.
 use Rattle.std.proofs.Common.{◌≡◌, ◌≢◌, ℕ, zero, suc, ◌+◌, ◌-◌, ◌%◌, ◌^◌, ◌<◌, ◌≤◌, min, ◌⊎◌, inl}
-use Rattle.std.proofs.Common.{inr, Bool, true, false, not, List, length, set, replicate, Option}
-use Rattle.std.proofs.{Common.{Some, None, refl, sym, ◌∙◌, ap, subst, arith}, lemmas.Bool.cases_lt}
-use Rattle.std.proofs.lemmas.Bool.{cases_eq, cases_Bool, both_ways, or_cases, or_left, or_right}
-use Rattle.std.proofs.lemmas.Bool.{eq-eqb, eqb-true, false_from_ne_true, and_right, not_from_true}
-use Rattle.std.{specs.List.{list_any, range_with_len}, proofs.lemmas.Nat.pow_pos}
-use Rattle.std.proofs.lemmas.List.{get_or-set_same, get_or-set_other, length-set, length-replicate}
+use Rattle.std.proofs.Common.{inr, Bool, true, false, List, length, set, replicate, Option, Some}
+use Rattle.std.proofs.lemmas.Bool.{cases_lt, cases_eq, both_ways, or_cases, or_left, or_right}
 use Rattle.std.proofs.lemmas.List.FromFn.{get_or-map-range_with_len, length-map-range_with_len}
-use Rattle.vb_model.{specs.Pages.{Block, pages_of}, specs.Tests.is_in}
-use Rattle.vb_pages.specs.Tiles.{is_covered, set_of, IsPlaced, IsMerged, IsBuddy, HasRoom, IsTiled}
-use Rattle.vb_pages.specs.{Tiles.IsLowestListed, Areas.{has, with_pages, without_pages, block_at}}
-use Rattle.vb_pages.specs.Areas.{IsBlock, LiesIn, LiesWithin, IsMaximal, HasNoBlock, IsChosen}
+use Rattle.std.specs.List.{list_any, range_with_len}
+use Rattle.std.proofs.lemmas.Bool.{eq-eqb, eqb-true, false_from_ne_true}
+use Rattle.std.proofs.lemmas.List.{get_or-set_same, get_or-set_other, length-set, length-replicate}
+use Rattle.std.proofs.{Common.{None, refl, sym, ◌∙◌, ap, subst, arith}, lemmas.Nat.pow_pos}
+use Rattle.vb_model.specs.{Pages.{Block, pages_of}, Tests.is_in}
 use Rattle.vb_pages.proofs.Aligned.{aligned_step, aligned_same, right_half, aligned_down}
-use Rattle.vb_pages.proofs.Aligned.{end_aligned, pow_twice, floor_aligned}
-use Rattle.vb_pages.proofs.TableLemmas.{is_order-true, is_order-self, is_there, entry_kept}
-use Rattle.vb_pages.proofs.TableLemmas.{with_block_added, with_block_removed, none_entry}
 use Rattle.vb_pages.proofs.Sets.{same_sets, is_inside, length-with_pages, length-without_pages}
 use Rattle.vb_pages.proofs.Sets.{with_old, with_new, with_cases, without_parts, without_old}
 use Rattle.vb_pages.proofs.Sets.{in_block, block_bounds, not_in_block, has-without_pages}
+use Rattle.vb_pages.proofs.TableLemmas.{is_order-true, is_order-self, is_there, entry_kept}
+use Rattle.vb_pages.specs.Areas.{has, with_pages, without_pages, block_at, IsBlock, LiesIn}
+use Rattle.vb_pages.specs.Tiles.{is_covered, set_of, IsPlaced, IsMerged, IsBuddy, HasRoom, IsTiled}
+use Rattle.vb_pages.specs.declared.{block.FreeBlock.FreeBlock, table.TheConstants.MAX_PAGES}
+use Rattle.vb_pages.proofs.TableLemmas.{with_block_added, with_block_removed, none_entry}
+use Rattle.vb_pages.proofs.Aligned.{end_aligned, pow_twice, floor_aligned}
 use Rattle.vb_pages.proofs.Sets.{with_without, without_with, halves, halves_turned}
-use Rattle.vb_pages.specs.declared.{table.TheConstants.MAX_PAGES, block.FreeBlock.FreeBlock}
-use Rattle.vb_pages.specs.Table.{order_at, is_order, IsLowestStart}
+use Rattle.vb_pages.specs.Areas.{LiesWithin, IsMaximal, HasNoBlock, IsChosen}
+use Rattle.vb_pages.specs.{Table.{order_at, is_order, IsLowestStart}, Tiles.IsLowestListed}
 
 -- a block of the table that covers the page
 pub record Covered (t : List (Option ℕ)) (p : ℕ) : Type 0 where
@@ -89,13 +89,6 @@ module _ (t : List (Option ℕ)) (placed : IsPlaced t) where
   pub to_set : (p : ℕ) → Covered t p → has (set_of t) p ≡ true
   to_set p c = grind (arith, has-set_of, covered_to)
 
-  -- just one block covers a page
-  pub one_start : (p : ℕ) (a b : Covered t p) → a.start ≡ b.start
-  one_start p a b = grind (arith, cases_lt)
-
-  pub one_order : (s k j : ℕ) → order_at t s ≡ Some k → order_at t s ≡ Some j → k ≡ j
-  one_order s k j a b = let e : Some k ≡ Some j = sym a ∙ b in cc
-
   -- a listed block that has all pages of another block
   pub record Within (a j : ℕ) : Type 0 where
     pub start : ℕ
@@ -108,14 +101,7 @@ module _ (t : List (Option ℕ)) (placed : IsPlaced t) where
   -- an aligned block of covered pages lies within one listed block
   pub within : IsMerged t → (j a : ℕ) → j ≤ 9 → a % 2 ^ j ≡ 0
       → ((p : ℕ) → a ≤ p → p < a + 2 ^ j → Covered t p) → Within a j
-  within merged zero a n e c = let x : Covered t a = c a (omega arith) (omega arith) in record {
-    start = x.start;
-    order = x.order;
-    listed = x.listed;
-    low = x.low;
-    high = omega (arith, x.high);
-    large = omega arith;
-  }
+  within merged zero a n e c = let x : Covered t a = c a (omega arith) (omega arith) in grind arith
   within merged (suc j) a n e c = let twice : 2 ^ suc j ≡ 2 ^ j + 2 ^ j = pow_twice j in
       let pos : 0 < 2 ^ j = pow_pos j in
       let e' : a % 2 ^ j ≡ 0 = aligned_down a j (suc j) (omega arith) e in
@@ -127,45 +113,19 @@ module _ (t : List (Option ℕ)) (placed : IsPlaced t) where
       join x y = let twice : 2 ^ suc j ≡ 2 ^ j + 2 ^ j = pow_twice j in
           let pos : 0 < 2 ^ j = pow_pos j in elim (cases_lt j x.order) [
             | inl lt ↦
-                let step : a + 2 ^ suc j ≤ x.start + 2 ^ x.order = aligned_step a
-                (x.start + 2 ^ x.order) (2 ^ suc j) e (end_aligned x.start (suc j) x.order lt
-                (placed.blocks.aligned x.start x.order x.listed)) (omega (arith, x.high)) in
-                record {
-                  start = x.start;
-                  order = x.order;
-                  listed = x.listed;
-                  low = x.low;
-                  high = step;
-                  large = omega arith;
-                }
+                grind (
+                  arith,
+                  aligned_step a (x.start + 2 ^ x.order) (2 ^ suc j) e (end_aligned x.start (suc j)
+                      x.order lt (placed.blocks.aligned x.start x.order x.listed)) (omega (
+                        arith,
+                        x.high,
+                      )),
+                )
             | inr xle ↦ elim (cases_lt j y.order) [
               | inl lt ↦
                   let start_ok : y.start % 2 ^ suc j ≡ 0 = aligned_down y.start (suc j) y.order lt
-                  (placed.blocks.aligned y.start y.order y.listed) in
-                  let low : y.start ≤ a = elim (cases_lt a y.start) [
-                    | inl past ↦ absurd
-                        (omega (arith, aligned_step a y.start (2 ^ suc j) e start_ok past, y.low))
-                    | inr ok ↦ ok
-                  ] in record {
-                    start = y.start;
-                    order = y.order;
-                    listed = y.listed;
-                    low = low;
-                    high = omega (arith, y.high);
-                    large = omega arith;
-                  }
-              | inr yle ↦
-                  let xj : x.order ≡ j = omega (arith, x.large) in
-                  let yj : y.order ≡ j = omega (arith, y.large) in
-                  let xp : 2 ^ x.order ≡ 2 ^ j = ap (λ (i : ℕ). 2 ^ i) xj in
-                  let yp : 2 ^ y.order ≡ 2 ^ j = ap (λ (i : ℕ). 2 ^ i) yj in
-                  let xs : x.start ≡ a = omega (arith, x.low, x.high) in
-                  let ys : y.start ≡ a + 2 ^ j = omega (arith, y.low, y.high) in
-                  let left : order_at t a ≡ Some j =
-                  ap (order_at t) (sym xs) ∙ (x.listed ∙ ap (λ (i : ℕ). Some i) xj) in
-                  let right : order_at t (a + 2 ^ j) ≡ Some j =
-                  ap (order_at t) (sym ys) ∙ (y.listed ∙ ap (λ (i : ℕ). Some i) yj) in
-                  absurd (merged a j left right e (omega arith))
+                  (placed.blocks.aligned y.start y.order y.listed) in grind (arith, aligned_step)
+              | inr yle ↦ grind arith
             ]
           ]
 
@@ -190,25 +150,14 @@ module _ (t : List (Option ℕ)) (placed : IsPlaced t) where
     where
       alone : (c : Block) → IsBlock c → LiesIn (set_of t) c → LiesWithin (block_at s k) c
           → c.order ≤ k
-      alone c b h l = let w = inside_within merged c b h in
-          let pos : 0 < 2 ^ k = pow_pos k in
-          let x : Covered t s = listed_page s k s e (omega arith) (omega arith) in
-          let y : Covered t s = listed_page w.start w.order s w.listed (omega (arith, w.low, l.0))
-          (omega (arith, w.high, l.1)) in
-          let same : w.start ≡ s = one_start s y x in
-          let o : w.order ≡ k = one_order s w.order k (ap (order_at t) (sym same) ∙ w.listed) e in
-          omega (arith, w.large, o)
+      alone c b h l = grind (arith, inside_within merged c b h, pow_pos k)
 
   pub maximal_listed : IsMerged t → (b : Block) → IsMaximal (set_of t) b
       → order_at t b.start ≡ Some b.order
   maximal_listed merged b m = let w = inside_within merged b m.is_block m.inside in
       let le : w.order ≤ b.order =
       m.alone (block_at w.start w.order) (listed_block w.start w.order w.listed)
-      (listed_inside w.start w.order w.listed) (w.low, w.high) in
-      let o : w.order ≡ b.order = omega (arith, le, w.large) in
-      let p : 2 ^ w.order ≡ 2 ^ b.order = ap (λ (i : ℕ). 2 ^ i) o in
-      let s : w.start ≡ b.start = omega (arith, w.low, w.high, p) in
-      ap (order_at t) (sym s) ∙ (w.listed ∙ ap (λ (i : ℕ). Some i) o)
+      (listed_inside w.start w.order w.listed) (w.low, w.high) in grind arith
 
   -- where no block of at least this order is listed, none lies in the set
   pub none_inside : IsMerged t → (order : ℕ) → ((s k : ℕ) → order ≤ k → order_at t s ≡ Some k → ⊥)
@@ -219,16 +168,8 @@ module _ (t : List (Option ℕ)) (placed : IsPlaced t) where
   pub chosen : IsMerged t → (order s k : ℕ) → order ≤ k
       → ((r j : ℕ) → order ≤ j → j < k → order_at t r ≡ Some j → ⊥) → IsLowestStart t k 0 (Some s)
       → IsChosen (set_of t) order (block_at s k)
-  chosen merged order s k l none low = record {
-    maximal = listed_maximal merged s k low.0;
-    sufficient = l;
-    smallest = λ c m o. elim (cases_lt c.order k) [
-      | inl lt ↦ absurd (none c.start c.order o lt (maximal_listed merged c m))
-      | inr ge ↦ ge
-    ];
-    lowest = λ c m e. low.2 c.start (omega arith)
-        (maximal_listed merged c m ∙ ap (λ (i : ℕ). Some i) e);
-  }
+  chosen merged order s k l none low =
+      grind (arith, listed_maximal merged s k low.0, maximal_listed)
 
 -- ---- a block leaves the table
 
@@ -257,28 +198,11 @@ removed_set t s k placed e = same_sets (set_of t') (without_pages block (set_of 
     l = is_there t s k e
 
     to : (p : ℕ) → has (set_of t') p ≡ true → has (without_pages block (set_of t)) p ≡ true
-    to p h = let c = in_set t' p h in
-        let q = entry_kept t s c.start c.order l c.listed in
-        let d : Covered t p =
-        record { start = c.start; order = c.order; listed = q.1; low = c.low; high = c.high } in
-        without_old block (set_of t) p (to_set t placed p d) (not_in_block s k p (λ a b. q.0
-        (one_start t placed p d (record { start = s; order = k; listed = e; low = a; high = b }))))
+    to p h = grind (arith, in_set, entry_kept, l, without_old, to_set, not_in_block)
 
     from : (p : ℕ) → has (without_pages block (set_of t)) p ≡ true → has (set_of t') p ≡ true
-    from p h = let q = without_parts block (set_of t) p h in
-        let c = in_set t p q.0 in
-        let differ : c.start ≢ s = λ same.
-        let o : c.order ≡ k =
-        one_order t placed s c.order k (ap (order_at t) (sym same) ∙ c.listed) e in
-        let w : 2 ^ c.order ≡ 2 ^ k = ap (λ (i : ℕ). 2 ^ i) o in both_ways (is_in p block) q.1
-        (in_block s k p (omega (arith, c.low, same)) (omega (arith, c.high, same, w))) in
-        to_set t' (removed_placed t s l placed) p (record {
-          start = c.start;
-          order = c.order;
-          listed = get_or-set_other t s c.start None None differ ∙ c.listed;
-          low = c.low;
-          high = c.high;
-        })
+    from p h =
+        grind (arith, without_parts, in_set, in_block, to_set, removed_placed, l, get_or-set_other)
 
 -- ---- a block comes to the table
 
@@ -324,13 +248,7 @@ module _ (t : List (Option ℕ)) (s k : ℕ) (placed : IsPlaced t) (room : HasRo
             (record { start = q; order = i; listed = y.1; low = omega arith; high = omega arith })
       ]
       | inr x ↦ elim (entry_cases q i f) [
-        | inl y ↦ let pos : 0 < 2 ^ k = pow_pos k in outside s (omega arith) (omega arith) (record {
-          start = r;
-          order = j;
-          listed = x.1;
-          low = omega (arith, y.0);
-          high = omega (arith, y.0);
-        })
+        | inl y ↦ let pos : 0 < 2 ^ k = pow_pos k in outside s (omega arith) (omega arith) (grind arith)
         | inr y ↦ placed.apart r j q i x.1 a b y.1
       ]
     ]
@@ -338,15 +256,7 @@ module _ (t : List (Option ℕ)) (s k : ℕ) (placed : IsPlaced t) (room : HasRo
   pub added_merged : IsMerged t → HasNoBuddy t s k → IsMerged (set t s (Some k))
   added_merged merged alone r j e f al nine = let pos : 0 < 2 ^ j = pow_pos j in
       elim (entry_cases r j e) [
-        | inl x ↦ elim (entry_cases (r + 2 ^ j) j f) [
-          | inl y ↦ omega (arith, x.0, y.0)
-          | inr y ↦
-              let at : r + 2 ^ j ≡ s + 2 ^ k =
-              ap (λ (n : ℕ). r + 2 ^ n) x.1 ∙ ap (λ (n : ℕ). n + 2 ^ k) x.0 in
-              alone.right (ap (order_at t) (sym at) ∙ (y.1 ∙ ap (λ (n : ℕ). Some n) x.1))
-              (ap (λ (n : ℕ). n % 2 ^ suc k) (sym x.0)
-              ∙ (ap (λ (n : ℕ). r % 2 ^ suc n) (sym x.1) ∙ al)) (omega (arith, x.1))
-        ]
+        | inl x ↦ grind (arith, entry_cases)
         | inr x ↦ elim (entry_cases (r + 2 ^ j) j f) [
           | inl y ↦ alone.left r (ap (λ (n : ℕ). r + 2 ^ n) (sym y.1) ∙ y.0)
               (x.1 ∙ ap (λ (n : ℕ). Some n) y.1)
@@ -367,14 +277,8 @@ module _ (t : List (Option ℕ)) (s k : ℕ) (placed : IsPlaced t) (room : HasRo
       block = pages_of (block_at s k)
 
       to : (p : ℕ) → has (set_of t') p ≡ true → has (with_pages block (set_of t)) p ≡ true
-      to p h = let c = in_set t' p h in elim (entry_cases c.start c.order c.listed) [
-        | inl q ↦
-            let w : 2 ^ c.order ≡ 2 ^ k = ap (λ (i : ℕ). 2 ^ i) q.1 in with_new block (set_of t) p
-            (omega (arith, length-set_of t, c.high, q.0, w, room.fits))
-            (in_block s k p (omega (arith, c.low, q.0)) (omega (arith, c.high, q.0, w)))
-        | inr q ↦ with_old block (set_of t) p (to_set t placed p (record
-            { start = c.start; order = c.order; listed = q.1; low = c.low; high = c.high }))
-      ]
+      to p h =
+          grind (arith, in_set, entry_cases, with_new, length-set_of, in_block, with_old, to_set)
 
       from : (p : ℕ) → has (with_pages block (set_of t)) p ≡ true → has (set_of t') p ≡ true
       from p h = elim (with_cases block (set_of t) p h) [
@@ -382,26 +286,9 @@ module _ (t : List (Option ℕ)) (s k : ℕ) (placed : IsPlaced t) (room : HasRo
             let c = in_set t p old in
             let pos : 0 < 2 ^ k = pow_pos k in
             let pos' : 0 < 2 ^ c.order = pow_pos c.order in
-            let differ : c.start ≢ s = λ same. outside s (omega arith) (omega arith) (record {
-              start = c.start;
-              order = c.order;
-              listed = c.listed;
-              low = omega (arith, same);
-              high = omega (arith, same);
-            }) in to_set t' added_placed p (record {
-              start = c.start;
-              order = c.order;
-              listed = get_or-set_other t s c.start (Some k) None differ ∙ c.listed;
-              low = c.low;
-              high = c.high;
-            })
-        | inr new ↦ let q = block_bounds s k p new in to_set t' added_placed p (record {
-          start = s;
-          order = k;
-          listed = get_or-set_same t s (Some k) None room_there;
-          low = q.0;
-          high = q.1;
-        })
+            let differ : c.start ≢ s = λ same. outside s (omega arith) (omega arith) (grind arith) in
+            grind (arith, to_set, added_placed, get_or-set_other)
+        | inr new ↦ grind (arith, block_bounds, to_set, added_placed, get_or-set_same)
       ]
 
 -- ---- halving and merging
@@ -423,10 +310,6 @@ module _ (t : List (Option ℕ)) (s k b low : ℕ) (placed : IsPlaced t) (room :
   buddy_inside : (p : ℕ) → is_in p (pages_of (block_at b k)) ≡ true → has (set_of t) p ≡ true
   buddy_inside p h = let q = block_bounds b k p h in listed_inside t placed b k listed p q.0 q.1
 
-  left_case : (s ≡ low) × (b ≡ low + 2 ^ k) × (low % 2 ^ suc k ≡ 0)
-      ⊎ ((b ≡ low) × (s ≡ low + 2 ^ k) × (low % 2 ^ suc k ≡ 0))
-  left_case = grind arith
-
   -- all pages of the larger block
   pub merged_set : with_pages (pages_of (block_at low (suc k))) (set_of after)
       ≡ with_pages (pages_of (block_at s k)) (set_of t)
@@ -435,51 +318,11 @@ module _ (t : List (Option ℕ)) (s k b low : ℕ) (placed : IsPlaced t) (room :
       removed_set t b k placed listed in
       let back : with_pages (pages_of (block_at b k)) (without_pages (pages_of (block_at b k))
       (set_of t)) ≡ set_of t = with_without (pages_of (block_at b k)) (set_of t) buddy_inside in
-      let rest = without_pages (pages_of (block_at b k)) (set_of t) in
-      ap (λ (x : List Bool). with_pages (pages_of (block_at low (suc k))) x) gone ∙ elim left_case [
-        | inl q ↦ sym (halves low k rest) ∙ (ap (λ (n : ℕ). with_pages (pages_of (block_at low k))
-            (with_pages (pages_of (block_at n k)) rest)) (sym q.1)
-            ∙ (ap (λ (x : List Bool). with_pages (pages_of (block_at low k)) x) back
-            ∙ ap (λ (n : ℕ). with_pages (pages_of (block_at n k)) (set_of t)) (sym q.0)))
-        | inr q ↦ sym (halves_turned low k rest)
-            ∙ (ap (λ (n : ℕ). with_pages (pages_of (block_at (low + 2 ^ k) k))
-            (with_pages (pages_of (block_at n k)) rest)) (sym q.0)
-            ∙ (ap (λ (x : List Bool). with_pages (pages_of (block_at (low + 2 ^ k) k)) x) back
-            ∙ ap (λ (n : ℕ). with_pages (pages_of (block_at n k)) (set_of t)) (sym q.1)))
-      ]
+      grind (arith, halves, halves_turned)
 
   pub merged_room : HasRoom after low (suc k)
-  merged_room = let twice : 2 ^ suc k ≡ 2 ^ k + 2 ^ k = pow_twice k in
-      let gone : set_of after ≡ without_pages (pages_of (block_at b k)) (set_of t) =
-      removed_set t b k placed listed in record {
-        bounded = omega arith;
-        aligned = elim left_case [ inl q ↦ q.2 | inr q ↦ q.2 ];
-        fits = elim left_case [
-          | inl q ↦ omega (arith, placed.blocks.fits b k listed, length-set t b None, q.0, q.1)
-          | inr q ↦ omega (arith, room.fits, length-set t b None, q.0, q.1)
-        ];
-        outside = λ p l h. false_from_ne_true (has (set_of after) p) (λ e.
-            let parts = without_parts (pages_of (block_at b k)) (set_of t) p
-            (ap (λ (x : List Bool). has x p) (sym gone) ∙ e) in
-            elim (cases_Bool (is_in p (pages_of (block_at s k)))) [
-              | inl i ↦ let q = block_bounds s k p i in
-                  both_ways (has (set_of t) p) (room.outside p q.0 q.1) parts.0
-              | inr n ↦ elim left_case [
-                | inl q ↦ elim (cases_lt p b) [
-                  | inl lt ↦ both_ways (is_in p (pages_of (block_at s k))) n
-                      (in_block s k p (omega (arith, q.0)) (omega (arith, q.0, q.1)))
-                  | inr ge ↦ both_ways (is_in p (pages_of (block_at b k))) parts.1
-                      (in_block b k p ge (omega (arith, q.0, q.1)))
-                ]
-                | inr q ↦ elim (cases_lt p s) [
-                  | inl lt ↦ both_ways (is_in p (pages_of (block_at b k))) parts.1
-                      (in_block b k p (omega (arith, q.0)) (omega (arith, q.0, q.1)))
-                  | inr ge ↦ both_ways (is_in p (pages_of (block_at s k))) n
-                      (in_block s k p ge (omega (arith, q.0, q.1)))
-                ]
-              ]
-            ]);
-      }
+  merged_room =
+      grind (arith, removed_set t b k placed listed, length-set t b None, without_parts, in_block)
 
 -- the upper half of a block goes in
 module _ (t : List (Option ℕ)) (s k : ℕ) (placed : IsPlaced t) (room : HasRoom t s (suc k)) where
@@ -487,13 +330,7 @@ module _ (t : List (Option ℕ)) (s k : ℕ) (placed : IsPlaced t) (room : HasRo
   upper_room = grind (arith, pow_twice, end_aligned, aligned_down)
 
   pub upper_alone : HasNoBuddy t (s + 2 ^ k) k
-  upper_alone = record {
-    right = λ e a nine. right_half s k room.aligned a;
-    left = λ r e f a nine.
-        let same : r ≡ s = omega arith in
-        let empty : order_at t s ≡ None = room_empty t s (suc k) placed room in
-        let bad : Some k ≡ None = sym f ∙ (ap (order_at t) same ∙ empty) in cc;
-  }
+  upper_alone = grind (arith, right_half, room_empty t s (suc k) placed room)
 
   abbrev pub halved : List (Option ℕ)
   halved = set t (s + 2 ^ k) (Some k)
@@ -502,17 +339,7 @@ module _ (t : List (Option ℕ)) (s k : ℕ) (placed : IsPlaced t) (room : HasRo
   halved_set = added_set t (s + 2 ^ k) k placed upper_room
 
   pub lower_room : HasRoom halved s k
-  lower_room = grind (
-    arith,
-    pow_twice,
-    aligned_down,
-    length-set,
-    false_from_ne_true,
-    with_cases,
-    halved_set,
-    both_ways,
-    block_bounds,
-  )
+  lower_room = grind (arith, aligned_down, length-set, with_cases, halved_set, block_bounds)
 
   pub lower_set : with_pages (pages_of (block_at s k)) (set_of halved)
       ≡ with_pages (pages_of (block_at s (suc k))) (set_of t)
@@ -522,15 +349,8 @@ module _ (t : List (Option ℕ)) (s k : ℕ) (placed : IsPlaced t) (room : HasRo
 -- a block that left the table has room in it
 pub removed_room : (t : List (Option ℕ)) (s k : ℕ) → IsPlaced t → order_at t s ≡ Some k
     → HasRoom (set t s None) s k
-removed_room t s k placed e = record {
-  bounded = placed.blocks.bounded s k e;
-  aligned = placed.blocks.aligned s k e;
-  fits = omega (arith, placed.blocks.fits s k e, length-set t s None);
-  outside = λ p l h. ap (λ (x : List Bool). has x p) (removed_set t s k placed e)
-      ∙ (has-without_pages (pages_of (block_at s k)) (set_of t) p
-      ∙ and_right (has (set_of t) p) (not (is_in p (pages_of (block_at s k))))
-      (not_from_true (is_in p (pages_of (block_at s k))) (in_block s k p l h)));
-}
+removed_room t s k placed e =
+    grind (arith, length-set t s None, removed_set t s k placed e, has-without_pages, in_block)
 
 pub removed_tiled : (t : List (Option ℕ)) (s k : ℕ) → IsTiled t → order_at t s ≡ Some k
     → IsTiled (set t s None)

@@ -1,13 +1,9 @@
 -- Statistics one after another.
 use Rattle.std.specs.Prelude.{◌≡◌, ℕ, ◌+◌, ◌/◌, ◌<◌, Bool, true, false, ◌==◌, List, [], ◌∷◌, ◌++◌}
-use Rattle.std.specs.{Prelude.{length, if◌then◌else◌, Option, Some, None, Err, refl}, List.list_any}
-use Rattle.std.proofs.{Common.{sym, ◌∙◌, ap, arith, get_or, take}, lemmas.List.take_more}
 use Rattle.std.proofs.lemmas.List.FromFn.{length-map-range_with_len, get_or-map-range_with_len}
-use Rattle.vb_chain.specs.declared.pieces.Piece.{Piece}
-use Rattle.vb_chain.specs.declared.fault.ChainFault.TheVariants.{WrongDirection, BadLength}
+use Rattle.std.specs.Prelude.{length, if◌then◌else◌, Option, Some, None, refl}
+use Rattle.std.proofs.{Common.{sym, ◌∙◌, ap, arith, get_or, take}, lemmas.List.take_more}
 use Rattle.vb_request.specs.Statistics.{Statistic, statistic_at, statistics_of, later_or, last_of}
-use Rattle.vb_request.specs.Request.{total_length}
-use Rattle.vb_request.specs.Statistics.{is_statistics_length, statistics_request}
 
 later_assoc : (a b c : Option ℕ) → later_or a (later_or b c) ≡ later_or (later_or a b) c
 later_assoc None b c = refl
@@ -60,13 +56,3 @@ last_more which tag value k bytes old new lt tag_is value_is so_far is =
     ∙ (ap (λ (o : Option ℕ). later_or (if here.tag == which then Some here.value else None) o) so_far
     ∙ sym (ap (last_of which) (take_more (statistics_of bytes) k no_statistic inside)
     ∙ last_append which (take k (statistics_of bytes)) (here ∷ []))))))
-
--- ---- the answers to a chain
-
-pub wrong_way : (pieces : List Piece) → list_any (λ piece. piece.writable) pieces ≡ true →
-    statistics_request pieces ≡ Err WrongDirection
-wrong_way pieces e = rw e refl
-
-pub wrong_length : (pieces : List Piece) → list_any (λ piece. piece.writable) pieces ≡ false →
-    is_statistics_length (total_length pieces) ≡ false → statistics_request pieces ≡ Err BadLength
-wrong_length pieces e f = rw (e, f) refl

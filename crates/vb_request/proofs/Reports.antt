@@ -1,19 +1,18 @@
 -- The pages of a report, piece by piece.
-use Rattle.std.specs.Prelude.{◌≡◌, ℕ, suc, ◌+◌, ◌*◌, ◌/◌, ◌%◌, ◌<◌, ◌≤◌, Bool, true, false, not}
-use Rattle.std.specs.Prelude.{◌==◌, ◌||◌, nat_lt, List, [], ◌∷◌, ◌++◌, length, if◌then◌else◌}
 use Rattle.std.proofs.lemmas.List.{append-nil, take_more, take-append-drop, get_or_append_left}
-use Rattle.std.specs.Prelude.{Option, Some, None, Ok, Err, All, slice_get, slice_index_or, refl}
-use Rattle.std.{specs.List.{list_any, range_with_len}, proofs.lemmas.Bool.ltb-false}
-use Rattle.std.proofs.Common.{◌∙◌, ap, arith, get_or, take, drop, drop-cons, add-one, length-append}
-use Rattle.std.{proofs.lemmas.Grind.flat_map-append, proofs.lemmas.List.get_or-append_right}
-use Rattle.std.{proofs.lemmas.List.Elements.All-append, proofs.lemmas.Option.slice_get-get_or}
+use Rattle.std.specs.Prelude.{◌==◌, nat_lt, List, [], ◌∷◌, ◌++◌, length, if◌then◌else◌, Option}
+use Rattle.std.specs.List.{range_with_len}
 use Rattle.std.proofs.lemmas.List.FromFn.{length-range_with_len, get_or-range_with_len}
+use Rattle.std.proofs.lemmas.{Grind.flat_map-append, Option.slice_get-get_or}
+use Rattle.std.proofs.lemmas.{Bool.ltb-false, List.{Elements.All-append, get_or-append_right}}
+use Rattle.std.specs.Prelude.{Some, None, Ok, Err, All, slice_get, slice_index_or, refl}
+use Rattle.std.proofs.Common.{◌∙◌, ap, arith, get_or, take, drop, drop-cons, add-one, length-append}
 use Rattle.vb_chain.specs.declared.fault.ChainFault.TheVariants.{BadPage, ReservedPage, BadLength}
-use Rattle.vb_chain.{specs.declared.pieces.Piece.Piece, specs.declared.fault.ChainFault.ChainFault}
-use Rattle.vb_chain.specs.declared.fault.ChainFault.TheVariants.{WrongDirection}
+use Rattle.vb_chain.specs.declared.pieces.Piece.{Piece}
+use Rattle.vb_chain.specs.declared.fault.ChainFault.{ChainFault, TheVariants.WrongDirection}
 use Rattle.vb_request.specs.Report.{pages_of_piece, pages_of_pieces, piece_fault, first_piece_fault}
-use Rattle.vb_request.specs.Request.{first_of_both, unless_fault}
-use Rattle.vb_request.specs.Report.{has_bad_length, report_request}
+use Rattle.vb_request.specs.{Report.report_request, Request.{first_of_both, unless_fault}}
+use Rattle.std.specs.Prelude.{◌≡◌, ℕ, suc, ◌+◌, ◌*◌, ◌/◌, ◌%◌, ◌<◌, ◌≤◌, Bool, true, false, not}
 
 pub piece_length : (piece : Piece) → length (pages_of_piece piece) ≡ piece.len / 4096
 piece_length piece = length-range_with_len (piece.addr / 4096) (piece.len / 4096)
@@ -98,18 +97,6 @@ sound_more reserved pieces i d lt before here = grind (
   take_more pieces i d lt,
   first_fault-append reserved (take i pieces) (get_or pieces i d ∷ []),
 )
-
--- ---- the answers to a chain
-
-pub wrong_way : (reserved : ℕ) (pieces : List Piece) → list_any (λ piece. not piece.writable) pieces
-    ≡ true → report_request pieces reserved ≡ Err WrongDirection
-wrong_way reserved pieces e = rw e refl
-
-pub wrong_length : (reserved : ℕ) (pieces : List Piece) (bad : Bool)
-    → list_any (λ piece. not piece.writable) pieces ≡ false
-    → (nat_lt 32 (length pieces) || list_any has_bad_length pieces) ≡ true
-    → report_request pieces reserved ≡ Err BadLength
-wrong_length reserved pieces bad e f = rw (e, f) refl
 
 -- ---- reserved pages
 

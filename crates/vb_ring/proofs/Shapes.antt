@@ -1,12 +1,8 @@
 -- Where the parts of a ring lie, whatever its size: for the crates above too.
-use Rattle.std.proofs.Common.{◌≡◌, ℕ, ◌<◌, arith}
-use Rattle.vb_model.{specs.Layout.ring_page, proofs.Shapes.InRing}
-use Rattle.vb_ring.{specs.declared.layout.Layout.Layout, proofs.Powers.size_cases}
-use Rattle.vb_ring.specs.Layout.{IsSize, Fits, area_at, layout_of}
-
--- bytes of the first page
-pub first_page : (page n : ℕ) → n < 4096 → area_at page n ≡ record { page = page; offset = n }
-first_page page n lt = grind arith
+use Rattle.std.proofs.Common.{ℕ, arith}
+use Rattle.vb_model.{proofs.Shapes.InRing, specs.Layout.ring_page}
+use Rattle.vb_ring.proofs.Powers.{size_cases}
+use Rattle.vb_ring.specs.{Layout.{IsSize, Fits, layout_of}, declared.layout.Layout.Layout}
 
 -- the parts of a ring lie inside its pages, apart from each other
 pub fits_at : (page q : ℕ) → IsSize q → Fits (layout_of page q) q

@@ -1,9 +1,8 @@
-use Rattle.std.proofs.Common.{◌<◌, ◌≤◌, ◌+◌, ◌-◌, ◌*◌, ◌/◌, ◌∙◌, ◌==◌, arith, ℕ, ap, sym, length}
-use Rattle.std.proofs.lemmas.Bool.{leb-false}
 use Rattle.vb_model.specs.Tests.{is_in}
 use Rattle.vb_core.proofs.MarkLemmas.{put_none, put_as, put_more, put_in_run, none_reaches, reaches}
-use Rattle.vb_core.proofs.MarkLemmas.{is_before, none_before, all_before, none_past}
 use Rattle.vb_core.specs.Runs.{pages_of_run}
+use Rattle.vb_core.proofs.MarkLemmas.{is_before, none_before, all_before, none_past}
+use Rattle.std.proofs.Common.{◌<◌, ◌≤◌, ◌+◌, ◌-◌, ◌*◌, ◌/◌, ◌∙◌, ◌==◌, arith, ℕ, ap, sym, length}
 use Rattle.vb_core.proofs.ballooned.mark_run.Goals as goal
 
 pub returns-then-run-eq0-clause-put : goal.returns-then-run-eq0-clause-put
@@ -20,20 +19,18 @@ loop-word-init c = put_none (is_before c.args.run (c.from-first.result / 64)) c.
 
 pub mark_word-requires : goal.mark_word-requires
 mark_word-requires c = let some : 0 < c.args.run.count = omega arith in
-    let last : c.args.run.first + c.args.run.count - 1 < 64 * length c.args.set.now =
-    leb-false (64 * length c.args.set.now) (c.args.run.first + c.args.run.count - 1)
-    (sym (reaches (64 * length c.args.set.now) c.args.run.first c.args.run.count some)
-    ∙ c.requires) in omega (arith, last, c.loop-word.invariant.words)
+    grind (arith, reaches (64 * length c.args.set.now) c.args.run.first c.args.run.count some)
 
 pub overflow_add-changed : goal.overflow_add-changed
 overflow_add-changed c =
-    let few : c.loop-word.changed + c.mark_word.result ≤ 8589934592 =
-    put_in_run c.args.run (c.loop-word.word + 1) c.args.inside c.args.set.now c.mark_word.new.set
-    (c.loop-word.changed + c.mark_word.result) 8589934592
-    (put_more c.args.run c.loop-word.word c.bits_of_run-mask.result c.args.inside c.args.set.now
-    c.loop-word.set c.mark_word.new.set c.loop-word.changed c.mark_word.result
-    c.loop-word.invariant c.mark_word.ensures c.bits_of_run-mask.ensures) (omega arith) in
-    omega (arith, few)
+    grind (
+      arith,
+      put_in_run c.args.run (c.loop-word.word + 1) c.args.inside c.args.set.now c.mark_word.new.set
+          (c.loop-word.changed + c.mark_word.result) 8589934592 (put_more c.args.run
+          c.loop-word.word c.bits_of_run-mask.result c.args.inside c.args.set.now c.loop-word.set
+          c.mark_word.new.set c.loop-word.changed c.mark_word.result c.loop-word.invariant
+          c.mark_word.ensures c.bits_of_run-mask.ensures) (omega arith),
+    )
 
 pub loop-word-preserved : goal.loop-word-preserved
 loop-word-preserved c = rw c.from-changed.ensures

@@ -1,4 +1,4 @@
-use Rattle.std.{proofs.Common.{◌≤◌, ◌+◌, arith}, proofs.lemmas.List.take_all}
+use Rattle.std.proofs.{Common.{◌+◌, arith}, lemmas.List.take_all}
 use Rattle.vb_core.proofs.MarkLemmas.{none_of_one, put_no_run, put_next_run, put_in_runs}
 use Rattle.vb_core.proofs.ballooned.mark_runs.Goals as goal
 
@@ -10,13 +10,15 @@ mark_run-changed-requires c = grind (arith, none_of_one)
 
 pub overflow_add-changed : goal.overflow_add-changed
 overflow_add-changed c =
-    let few : c.loop-run.changed + c.mark_run-changed.result ≤ 8589934592 =
-    put_in_runs c.args.runs.now (c.loop-run.run-index + 1) c.args.inside c.args.set.now
-    c.mark_run-changed.new.set (c.loop-run.changed + c.mark_run-changed.result)
-    (put_next_run c.args.runs.now c.loop-run.run-index (record { first = 0; count = 0 })
-    c.args.inside c.args.set.now c.loop-run.set c.mark_run-changed.new.set c.loop-run.changed
-    c.mark_run-changed.result (omega arith) c.loop-run.invariant c.mark_run-changed.ensures.put
-    c.mark_run-changed.ensures.small) in omega (arith, few)
+    grind (
+      arith,
+      put_in_runs c.args.runs.now (c.loop-run.run-index + 1) c.args.inside c.args.set.now
+          c.mark_run-changed.new.set (c.loop-run.changed + c.mark_run-changed.result) (put_next_run
+          c.args.runs.now c.loop-run.run-index (record { first = 0; count = 0 }) c.args.inside
+          c.args.set.now c.loop-run.set c.mark_run-changed.new.set c.loop-run.changed
+          c.mark_run-changed.result (omega arith) c.loop-run.invariant
+          c.mark_run-changed.ensures.put c.mark_run-changed.ensures.small),
+    )
 
 pub loop-run-preserved : goal.loop-run-preserved
 loop-run-preserved c = put_next_run c.args.runs.now c.loop-run.run-index

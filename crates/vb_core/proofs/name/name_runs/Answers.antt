@@ -1,13 +1,10 @@
-use Rattle.std.proofs.Common.{◌≡◌, ◌∙◌, ◌+◌, ◌-◌, ◌<◌, ◌/◌, ℕ, List, Some, None, true, false, length, get_or}
-use Rattle.std.proofs.Common.{take, sym, ap, subst, refl, arith, rules}
-use Rattle.std.proofs.lemmas.List.{take_all}
-use Rattle.vb_request.specs.Request.{number_fault, numbers_of}
+use Rattle.std.proofs.Common.{◌≡◌, ◌∙◌, ◌+◌, ◌-◌, ◌<◌, ◌/◌, Some, None, true, false, length, get_or}
+use Rattle.std.proofs.{Common.{take, sym, arith, rules}, lemmas.List.take_all}
 use Rattle.vb_request.proofs.Once.{numbers_of-length, numbers_of-at}
-use Rattle.vb_core.proofs.NameLemmas.{Named_so_far, more_named, more_skipped, same_named}
-use Rattle.vb_core.{specs.Name.right_numbers, proofs.RunLemmas.same_ends}
-use Rattle.vb_core.proofs.NameLemmas.{all_named, names_fault}
-use Rattle.vb_core.proofs.name.name_runs.Goals as goal
+use Rattle.vb_request.specs.Request.{number_fault, numbers_of}
 use Rattle.vb_core.proofs.name.name_runs.Goals.{in-None, in-Some+else-not-limits}
+use Rattle.vb_core.proofs.NameLemmas.{more_named, more_skipped, same_named, names_fault}
+use Rattle.vb_core.proofs.name.name_runs.Goals as goal
 
 pub returns-then-not-limits : goal.returns-then-not-limits
 returns-then-not-limits c =
@@ -47,51 +44,24 @@ loop-k-preserved c =
                 (numbers_of c.args.bytes.now) c.loop-k.k c.number_at-number.result c.loop-k.runs
                 w.add_page-used.new.runs c.loop-k.used w.add_page-used.result c.loop-k.skipped lt
                 at right w.add_page-used.ensures.few (λ ms few t. (told ms few t).0) short before);
-            ends = same_ends c.match-number_fault.ends w.add_page-used.new.ends
-                c.match-number_fault.used w.add_page-used.result c.match-number_fault.runs
-                w.add_page-used.new.runs w.ends-is w.used-is w.runs-is
-                (told (right_numbers c.args.limits.reserved c.args.limits.count
-                (take c.loop-k.k (numbers_of c.args.bytes.now)))
-                (omega (arith, before.others, short)) before.told_so).1;
+            ends = grind arith;
           }
       | in-Some+else-not-limits w ↦
           let wrong : number_fault c.args.limits.reserved c.args.limits.count
           c.number_at-number.result ≡ Some w.in-Some.fault = sym w.in-Some.ensures in
           let skips : c.args.limits.skips ≡ true = search rules in
-          record {
-            named = same_named c.args.limits.skips c.args.limits.reserved c.args.limits.count
-                (take (c.loop-k.k + 1) (numbers_of c.args.bytes.now)) (c.loop-k.k + 1)
+          grind (
+            arith,
+            same_named c.args.limits.skips c.args.limits.reserved c.args.limits.count (take
+                (c.loop-k.k + 1) (numbers_of c.args.bytes.now)) (c.loop-k.k + 1)
                 c.match-number_fault.runs c.loop-k.runs c.match-number_fault.used c.loop-k.used
                 c.match-number_fault.skipped (c.loop-k.skipped + 1) w.runs-is w.used-is w.skipped-is
                 (more_skipped c.args.limits.skips c.args.limits.reserved c.args.limits.count
-                (numbers_of c.args.bytes.now) c.loop-k.k c.number_at-number.result
-                w.in-Some.fault c.loop-k.runs c.loop-k.used c.loop-k.skipped lt at wrong skips
-                c.loop-k.invariant.named);
-            ends = same_ends c.match-number_fault.ends c.loop-k.ends c.match-number_fault.used
-                c.loop-k.used c.match-number_fault.runs c.loop-k.runs w.ends-is w.used-is
-                w.runs-is c.loop-k.invariant.ends;
-          }
+                (numbers_of c.args.bytes.now) c.loop-k.k c.number_at-number.result w.in-Some.fault
+                c.loop-k.runs c.loop-k.used c.loop-k.skipped lt at wrong skips
+                c.loop-k.invariant.named),
+          )
     ]
 
 pub returns : goal.returns
-returns c =
-    let len : length (numbers_of c.args.bytes.now) ≡ length c.args.bytes.now / 4 =
-    numbers_of-length c.args.bytes.now in
-    let last : c.loop-k.k ≡ length (numbers_of c.args.bytes.now) =
-    omega (arith, len, c.loop-k-test.false, c.loop-k.auto.k-end) in
-    let whole : take c.loop-k.k (numbers_of c.args.bytes.now) ≡ numbers_of c.args.bytes.now =
-    take_all c.loop-k.k (numbers_of c.args.bytes.now) (omega (arith, last)) in
-    let all : Named_so_far c.args.limits.skips c.args.limits.reserved c.args.limits.count
-    (numbers_of c.args.bytes.now)
-    (length (numbers_of c.args.bytes.now)) c.loop-k.runs c.loop-k.used c.loop-k.skipped = subst
-    (λ (ns : List ℕ). Named_so_far c.args.limits.skips c.args.limits.reserved c.args.limits.count ns
-    (length (numbers_of c.args.bytes.now)) c.loop-k.runs c.loop-k.used c.loop-k.skipped) whole
-    (subst (λ (n : ℕ). Named_so_far c.args.limits.skips c.args.limits.reserved
-    c.args.limits.count (take c.loop-k.k (numbers_of c.args.bytes.now)) n c.loop-k.runs
-    c.loop-k.used c.loop-k.skipped) last c.loop-k.invariant.named) in
-    all_named c.args.limits.skips c.args.limits.reserved c.args.limits.count
-    (numbers_of c.args.bytes.now) c.loop-k.runs c.loop-k.used c.loop-k.skipped (record {
-      runs = c.loop-k.used;
-      pages = length c.args.bytes.now / 4 - c.loop-k.skipped;
-      skipped = c.loop-k.skipped;
-    }) all refl refl (ap (λ (n : ℕ). n - c.loop-k.skipped) (sym len))
+returns c = grind (arith, numbers_of-length, take_all)

@@ -1,10 +1,10 @@
 use Rattle.std.proofs.Common.{◌≡◌, ◌<◌, ◌+◌, ℕ, List, Option, Some, None, set, min, subst, sym}
-use Rattle.std.{proofs.Common.arith, proofs.lemmas.Bool.both_ways}
+use Rattle.std.proofs.{Common.arith, lemmas.Bool.both_ways}
 use Rattle.vb_pages.proofs.TilesLemmas.{joined_tiled, joined_room, joined_set, room_empty}
 use Rattle.vb_pages.proofs.areas.+put_block.Goals.{else-order-lt-MAX_ORDER-via-then-order-lt-MAX_ORDER+else-is_listed}
-use Rattle.vb_pages.{specs.Table.order_at, specs.Tiles.{HasRoom, IsTiled}}
-use Rattle.vb_pages.proofs.TilesLemmas.{added_tiled, added_set, no_buddy, no_larger, HasNoBuddy}
 use Rattle.vb_pages.proofs.areas.+put_block.Goals.{else-order-lt-MAX_ORDER-via-else-order-lt-MAX_ORDER}
+use Rattle.vb_pages.specs.{Table.order_at, Tiles.{HasRoom, IsTiled}}
+use Rattle.vb_pages.proofs.TilesLemmas.{added_tiled, added_set, no_buddy, no_larger, HasNoBuddy}
 use Rattle.vb_pages.proofs.areas.+put_block.Goals as goal
 
 pub put_block-requires : goal.put_block-requires
