@@ -5,7 +5,7 @@ use Rattle.vb_model.specs.Requests.{Request}
 use Rattle.vb_ram.specs.{Pages.{Pages}, Part.{Part, QueuePart, no_part, no_queue}}
 use Rattle.vb_device.specs.declared.claimed.Claimed.TheVariants.{AskHost, NoFrame}
 use Rattle.vb_device.specs.Calls.{taking, settled, using, without_frames, lost_frames, next_visit}
-use Rattle.vb_device.specs.Calls.{attached, Claims, PutsBack, HandsBack}
+use Rattle.vb_device.specs.Calls.{attached, Claims, PutsBack, PopsLoose, HandsBack}
 use Rattle.vb_device.specs.{BaseCalls.{visited_queue, page_to_visit, flags_after}}
 use Rattle.vb_device.specs.{Discards.{discarded, frames_behind}, Faults.needing_reset, Own.{has, without}}
 
@@ -44,12 +44,52 @@ lost = refl
 kept : without_frames 1 (3 ∷ []) mem ≡ mem
 kept = refl
 
-handed_back : HandsBack (record busy { loose = 7 ∷ 9 ∷ [] }) (record busy { loose = 9 ∷ [] })
+popped : PopsLoose (record busy { loose = 7 ∷ 9 ∷ [] }) (record busy { loose = 9 ∷ [] })
     (Some (record { number = 7; bytes = [] }))
-handed_back = (λ n. refl, refl, refl)
+popped = (λ n. refl, refl, refl)
 
-handed_back_none : HandsBack (record busy { loose = 7 ∷ [] }) (record busy { loose = 7 ∷ [] }) None → ⊥
-handed_back_none back = omega (arith, ap (λ (l : List ℕ). length l) back.0)
+popped_none : PopsLoose (record busy { loose = 7 ∷ [] }) (record busy { loose = 7 ∷ [] }) None → ⊥
+popped_none none = omega (arith, ap (λ (l : List ℕ). length l) none.0)
+
+-- a device with these frames loose and these of its own out
+abbrev keeper : List ℕ → List ℕ → Part
+keeper loose own = record busy { loose = loose; keeps = true; own = own }
+
+-- another's is given out, and one of the device's own that was met is taken back; or it isn't yet
+another_given : HandsBack (keeper (9 ∷ 7 ∷ []) (9 ∷ 4 ∷ [])) (keeper [] (4 ∷ []))
+    (Some (record { number = 7; bytes = [] }))
+another_given = grind arith
+
+another_given_first : HandsBack (keeper (9 ∷ 7 ∷ []) (9 ∷ [])) (keeper (9 ∷ []) (9 ∷ []))
+    (Some (record { number = 7; bytes = [] }))
+another_given_first = grind arith
+
+own_taken_back : HandsBack (keeper (9 ∷ []) (4 ∷ 9 ∷ [])) (keeper [] (4 ∷ [])) None
+own_taken_back = grind arith
+
+-- an own one isn't given out, whether it is out still or not
+own_given : HandsBack (keeper (9 ∷ []) (9 ∷ [])) (keeper [] (9 ∷ []))
+    (Some (record { number = 9; bytes = [] })) → ⊥
+own_given back = (let wrong : true ≡ false = back.1 in absurd cc)
+
+own_given_and_gone : HandsBack (keeper (9 ∷ []) (9 ∷ [])) (keeper [] [])
+    (Some (record { number = 9; bytes = [] })) → ⊥
+own_given_and_gone back = omega (arith, back.0.balance 9)
+
+-- another's isn't kept, nor an own one lost or forgotten while it is out
+another_kept : HandsBack (keeper (7 ∷ []) (9 ∷ [])) (keeper [] (9 ∷ [])) None → ⊥
+another_kept back = omega (arith, back.0.balance 7)
+
+own_lost : HandsBack (keeper (9 ∷ []) (9 ∷ [])) (keeper [] (9 ∷ [])) None → ⊥
+own_lost back = omega (arith, back.0.balance 9)
+
+own_forgotten : HandsBack (keeper [] (9 ∷ [])) (keeper [] []) None → ⊥
+own_forgotten back = omega (arith, back.0.balance 9)
+
+-- one that wasn't loose is given out
+none_loose : HandsBack (keeper [] (9 ∷ [])) (keeper [] (9 ∷ []))
+    (Some (record { number = 7; bytes = [] })) → ⊥
+none_loose back = omega (arith, back.0.balance 7)
 
 -- ---- a queue: the index goes round, a new request is the last, and those behind a used one close up
 

@@ -249,7 +249,7 @@ impl<P: Pace> Device for BalloonDevice<P> {
         discard_memory(&mut self.ram, &mut self.loose);
     }
 
-    fn hand_back(&mut self) -> Option<Frame> {
+    fn pop_loose(&mut self) -> Option<Frame> {
         self.loose.pop()
     }
 

@@ -11,7 +11,8 @@ ghost use Rattle.vb_ram.specs.Pages.{frame_at, Supplied, IsWhole};
 ghost use Rattle.vb_ring.specs.Layout.{IsBacked};
 ghost use Rattle.vb_device.specs.Queues.{queue_layout};
 ghost use Rattle.vb_device.specs.Calls.{IsUnused, attached, TakesBy, WorksBy, FinishesBy};
-ghost use Rattle.vb_device.specs.Calls.{AsksBy, SweepsBy, DetachesBy, HandsBack, Claims};
+ghost use Rattle.vb_device.specs.Calls.{AsksBy, SweepsBy, DetachesBy, PopsLoose};
+ghost use Rattle.vb_device.specs.Calls.{HandsBack, Claims};
 ghost use Rattle.vb_device.specs.Calls.{IsAnswered, PutsBack};
 
 use crate::{Claimed, Statistics, Worked};
@@ -155,10 +156,26 @@ pub trait Device: Port + Drop {
         ensures { DetachesBy (Self.mem self.old) (Self.mem self.new)
             (Self.part self.old) (Self.part self.new) };
 
-    /// Gives out one of the loose frames, in whatever order; none exactly where no frame is loose.
+    /// Gives out one of the loose frames, the device's own or another's, in whatever order; none
+    /// exactly where no frame is loose.
+    fn pop_loose(&mut self) -> Option<Frame>
+        ensures frame { PopsLoose (Self.part self.old) (Self.part self.new) result }
+        ensures mem { Self.mem self.new ≡ Self.mem self.old };
+
+    /// Gives out one of the loose frames that aren't the device's own, in whatever order; those of
+    /// its own that it meets it takes back. None exactly where no loose frame is another's: then it
+    /// has taken all of them back.
     fn hand_back(&mut self) -> Option<Frame>
         ensures frame { HandsBack (Self.part self.old) (Self.part self.new) result }
-        ensures mem { Self.mem self.new ≡ Self.mem self.old };
+        ensures mem { Self.mem self.new ≡ Self.mem self.old }
+    {
+        while let Some(frame) = self.pop_loose() {
+            if let Some(other) = self.put_back(frame) {
+                return Some(other);
+            }
+        }
+        None
+    }
 
     /// Claims a frame of the device's own for a page of its guest. A refused claim leaves the same
     /// frames out.

@@ -1,10 +1,11 @@
 -- Frames go out of a guest's supply and come back to it.
-use Rattle.std.specs.Prelude.{◌≡◌, ◌≢◌, ℕ, ◌+◌, ◌==◌, Bool, true, false, if◌then◌else◌, List, []}
-use Rattle.std.{specs.Prelude.{◌∷◌, refl}, proofs.Common.{sym, ◌∙◌, ap, arith, inl, inr}}
-use Rattle.std.proofs.lemmas.Bool.{cases_Bool}
+use Rattle.std.specs.Prelude.{◌≡◌, ℕ, ◌+◌, ◌==◌, Bool, true, false, if◌then◌else◌, List, [], ◌∷◌}
+use Rattle.std.{specs.Prelude.{slice_set, Some, refl}, proofs.Common.{sym, ◌∙◌, ap, arith, inl, inr}}
+use Rattle.std.proofs.lemmas.{Bool.{cases_Bool, eq-eqb}, Grind.common_steps}
 use Rattle.vb_model.{specs.Tests.one_if, specs.Orderly.times, proofs.Tables.count_by-cons}
-use Rattle.vb_ram.specs.Part.{Part}
-use Rattle.vb_device.{specs.Calls.SameFrames, specs.Own.{has, without, SameSet}}
+use Rattle.vb_ram.specs.{Part.{Part}, Pages.{Page}}
+use Rattle.vb_device.{specs.Calls.{GoBack, HandsBack}, specs.Own.{has, without, SameSet}}
+use Rattle.vb_device.proofs.LooseFrames.{has_less}
 use Rattle.vb_frames.specs.Out.{is_out}
 use Rattle.vb_guest.specs.Supply.{Supply, supply_of, is_used, Moves, nothing, AreLoose}
 
@@ -36,33 +37,12 @@ pub moves_as : {s1 s2 : Supply} {a b c d : ℕ → ℕ}
     → Moves s1 s2 a b → ((n : ℕ) → c n + b n ≡ a n + d n) → Moves s1 s2 c d
 moves_as moves same = grind arith
 
--- ---- one frame of the keeper's
-
 -- ---- one of the device's own
-
-has_other : (n k : ℕ) (own : List ℕ) → n ≢ k → has (without own n) k ≡ has own k
-has_other n k [] ne = refl
-has_other n k (m ∷ own) ne = grind (arith, has_other n k own ne)
-
-has_gone : (n : ℕ) (own : List ℕ) → has (without own n) n ≡ false
-has_gone n [] = refl
-has_gone n (m ∷ own) = grind (arith, has_gone n own)
-
-has_less : (n k : ℕ) (own : List ℕ) → has own n ≡ true
-    → one_if (has (without own n) k) + one_if (n == k) ≡ one_if (has own k)
-has_less n k own is = grind (arith, has_gone, has_other)
 
 pub own_back : (p1 : Part) {p2 : Part} {out1 out2 : List Bool} (n : ℕ) → p1.keeps ≡ true
     → has p1.own n ≡ true → SameSet p2.own (without p1.own n) → p2 ≡ record p1 { own = p2.own }
     → out2 ≡ out1 → Moves (supply_of p1 out1) (supply_of p2 out2) nothing (λ k. times k (n ∷ []))
 own_back p1 n keeps is now same kept = grind (arith, has_less)
-
--- ---- loose frames
-
--- a loose frame is out
-pub loose_is_used : (n : ℕ) (loose rest : List ℕ) (s : Supply)
-    → SameFrames loose (n ∷ rest) → AreLoose loose s → is_used s n ≡ true
-loose_is_used n loose rest s same held = grind (arith, times_first n n rest)
 
 -- a frame that the device took back was one of its own
 pub kept_back : (p1 : Part) {p2 : Part} (out : List Bool) (n : ℕ) → (p1.keeps ≡ false → p1.own ≡ [])
@@ -81,3 +61,49 @@ pub not_another : {P : Type 0} (p : Part) (out : List Bool) (n : ℕ) → p.keep
     → is_used (supply_of p out) n ≡ true → has p.own n ≡ false → P
 not_another p out n keeps used other =
     absurd (let own : has p.own n ≡ true = sym (used_own (supply_of p out) n keeps) ∙ used in cc)
+
+-- ---- loose frames
+
+no_members : (own : List ℕ) → ((n : ℕ) → has own n ≡ true → ⊥) → own ≡ []
+no_members [] never = refl
+no_members (n ∷ own) never = absurd (never n (grind (arith, eq-eqb n n refl)))
+
+-- a device that has no frames of its own has none still
+none_owned : (p1 p2 : Part) (given : List ℕ) → GoBack p1 p2 given → p1.own ≡ [] → p2.own ≡ []
+none_owned p1 p2 given gone none = no_members p2.own (λ n is.
+    (let wrong : false ≡ true = ap (λ (own : List ℕ). has own n) (sym none) ∙ gone.own n is in cc))
+
+-- the device's own go back to it
+pub own_gone : (p1 p2 : Part) (out : List Bool) → (p1.keeps ≡ false → p1.own ≡ []) → GoBack p1 p2 []
+    → Moves (supply_of p1 out) (supply_of p2 out) (λ n. times n p2.loose) (λ n. times n p1.loose)
+own_gone p1 p2 out none gone = grind (arith, none_owned p1 p2 [] gone)
+
+-- another's is of a device that keeps none, and goes to the keeper
+other_gone : (p1 p2 : Part) (out : List Bool) (frame : Page) → (p1.keeps ≡ false → p1.own ≡ [])
+    → AreLoose p1.loose (supply_of p1 out) → HandsBack p1 p2 (Some frame)
+    → (p1.keeps ≡ false) × Moves (supply_of p1 out)
+    (supply_of p2 (slice_set out frame.number false))
+    (λ k. times k p2.loose) (λ k. times k p1.loose)
+other_gone p1 p2 out frame none loose back =
+    let n = frame.number in
+    let kept : p1.keeps ≡ false = by_keeps (supply_of p1 out) (λ keeps. absurd (omega (
+      arith,
+      loose n,
+      back.0.balance n,
+      ap one_if back.1,
+      ap one_if (used_own (supply_of p1 out) n keeps),
+      times_one n n,
+      ap one_if (eq-eqb n n refl),
+    ))) (λ keeps. keeps) in
+    (kept, grind (arith, common_steps, none_owned p1 p2 (n ∷ []) back.0 (none kept), times_one))
+
+pub goes_back : (p0 p1 p2 : Part) (out0 out1 out2 : List Bool) (frame : Page)
+    → (p0.keeps ≡ false → p0.own ≡ [])
+    → Moves (supply_of p0 out0) (supply_of p1 out1) (λ k. times k p1.loose) (λ k. times k p0.loose)
+    → AreLoose p1.loose (supply_of p1 out1) → HandsBack p1 p2 (Some frame)
+    → out2 ≡ slice_set out1 frame.number false
+    → (p0.keeps ≡ false) × Moves (supply_of p0 out0) (supply_of p2 out2) (λ k. times k p2.loose)
+    (λ k. times k p0.loose) × AreLoose p2.loose (supply_of p2 out2)
+goes_back p0 p1 p2 out0 out1 out2 frame none moves loose back after =
+    let gone = other_gone p1 p2 out1 frame (λ e. grind arith) loose back in
+    (grind arith, grind arith, grind arith)

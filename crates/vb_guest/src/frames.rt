@@ -107,6 +107,6 @@ pub(crate) fn return_loose<D: Device, K: FrameKeeper>(device: &mut D, keeper: &m
     ensures unasked { (D.part device.old).keeps ≡ true → keeper.new ≡ keeper.old }
 {
     while let Some(frame) = device.hand_back() {
-        return_frame(device, keeper, frame);
+        keeper.put_back(frame);
     }
 }

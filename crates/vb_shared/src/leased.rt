@@ -150,8 +150,8 @@ impl<D: Device> Device for Leased<D> {
         self.device.detach();
     }
 
-    fn hand_back(&mut self) -> Option<Frame> {
-        self.device.hand_back()
+    fn pop_loose(&mut self) -> Option<Frame> {
+        self.device.pop_loose()
     }
 
     #[tactic(auto, using(crate::proofs::Lists::without_added))]

@@ -125,8 +125,8 @@ impl Device for BoxedDevice {
         self.device.detach();
     }
 
-    fn hand_back(&mut self) -> Option<Frame> {
-        self.device.hand_back()
+    fn pop_loose(&mut self) -> Option<Frame> {
+        self.device.pop_loose()
     }
 
     fn claim(&mut self) -> Claimed {

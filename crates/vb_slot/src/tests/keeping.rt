@@ -274,8 +274,8 @@ impl Device for KeepingDevice {
         self.inner.detach();
     }
 
-    fn hand_back(&mut self) -> Option<Frame> {
-        self.inner.hand_back()
+    fn pop_loose(&mut self) -> Option<Frame> {
+        self.inner.pop_loose()
     }
 
     fn claim(&mut self) -> Claimed {

@@ -1,11 +1,11 @@
-use Rattle.std.proofs.Common.{◌∙◌, ap}
-use Rattle.vb_ram.specs.Part.{Part}
-use Rattle.vb_guest.{specs.Supply.{supply_of, is_used}, proofs.Moving.loose_is_used}
+use Rattle.std.proofs.Common.{arith}
+use Rattle.vb_guest.proofs.Moving.{own_gone, goes_back}
 use Rattle.vb_guest.proofs.frames.return_loose.Goals as goal
 
-pub return_frame-requires-clause-used : goal.return_frame-requires-clause-used
-return_frame-requires-clause-used g c = let given = c.in-Some.ensures.frame in
-    let out = g.K.FrameKeeper.out c.loop-frame.keeper in
-    ap (λ (p : Part). is_used (supply_of p out) c.in-Some.frame.number) given.2
-    ∙ loose_is_used c.in-Some.frame.number (g.D.GuestBytes.part c.loop-frame.device).loose
-    (g.D.GuestBytes.part c.hand_back.new.self).loose _ given.0 c.loop-frame.invariant.loose
+pub loop-frame-preserved : goal.loop-frame-preserved
+loop-frame-preserved g c = let back = goes_back (g.D.GuestBytes.part c.args.device.now) _ _ _ _ _
+    c.in-Some.frame c.requires.none c.loop-frame.invariant.moves c.loop-frame.invariant.loose
+    c.in-Some.ensures.frame c.put_back.ensures in grind arith
+
+pub returns-clause-moves : goal.returns-clause-moves
+returns-clause-moves g c = grind (arith, own_gone)
