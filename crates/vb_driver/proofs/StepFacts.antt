@@ -91,6 +91,7 @@ reaps : (m1 m2 : Pages) (p2 : Part) (d2 : DriverState)
     × (d2 ≡ record busy {
       places = Reserved ∷ Free ∷ Used ∷ Lent ∷ Lent ∷ Taking ∷ Taking ∷ Stranded ∷ Reporting ∷ [];
       inflate = record {
+        number = 0;
         ring = after_take busy.inflate.ring (Ok (Some 1));
         sent = [] ∷ [] ∷ [];
       };
