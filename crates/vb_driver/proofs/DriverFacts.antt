@@ -1,5 +1,5 @@
 -- What calls move and leave of a driver, worked out.
-use Rattle.std.proofs.Common.{◌≡◌, true, false, [], ◌∷◌, map, refl, arith}
+use Rattle.std.proofs.Common.{◌≡◌, true, false, [], ◌∷◌, map, refl, ap, arith}
 use Rattle.std.specs.Prelude.{Some, None, replicate}
 use Rattle.vb_model.specs.declared.places.Place.TheVariants.{Reserved, Free, Used, Giving, Lent}
 use Rattle.vb_model.specs.declared.places.Place.TheVariants.{Taking, Stranded, Reporting}
@@ -17,6 +17,8 @@ use Rattle.vb_driver.specs.{Places.AreLentBits, Reaps.{pages_sent, without_reque
 use Rattle.vb_driver.specs.{Reaps.{with_actual, after_refusal, next_of}, Requests.numbers_extent}
 use Rattle.vb_driver.specs.{Requests.{figures_extent, stranded_first}, State.DriverState}
 use Rattle.vb_driver.specs.State.{fresh_driver, given_away, figures_of, pages_named, room}
+use Rattle.vb_driver.specs.State.{IsQueue, AreRequests, fresh_side}
+use Rattle.vb_ring.specs.declared.layout.Layout.{Layout}
 
 -- ---- places
 
@@ -55,6 +57,18 @@ buffers = refl
 extents : numbers_extent 4 5 2 ∷ figures_extent ∷ []
     ≡ record { page = 5; from = 1024; to = 1032 } ∷ record { page = 12; from = 0; to = 20 } ∷ []
 extents = refl
+
+-- ---- a queue has its own number, and its ring lies in that one's pages
+
+numbered : (fresh_driver 64 8 1).inflate.number ∷ (fresh_driver 64 8 1).deflate.number ∷ []
+    ≡ 0 ∷ 1 ∷ []
+numbered = refl
+
+by_no_other_number : IsQueue (fresh_side 0 8) 1 8 → ⊥
+by_no_other_number queue = omega (arith, queue.number)
+
+in_no_other_pages : AreRequests (record (fresh_side 0 8) { number = 1 }) → ⊥
+in_no_other_pages side = omega (arith, ap (λ (l : Layout). l.table) side.layout)
 
 -- ---- a driver with pages at all places, of which a deflate names two and an inflate one
 
