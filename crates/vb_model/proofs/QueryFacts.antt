@@ -1,8 +1,8 @@
 -- Worked facts of the answers to queries.
 use Rattle.std.proofs.Common.{[], false, inl, inr, refl, replicate, true, ℕ, ◌++◌, ◌∷◌, ◌≡◌, ◌⊎◌}
 use Rattle.std.specs.Prelude.{None, Option, Some}
-use Rattle.vb_model.{proofs.Samples.{NoneOf, mixed, ready}, specs.Guest.Guest}
-use Rattle.vb_model.specs.{HostEvents.WorldStep, Queries.{Answers, runs}, World.World}
+use Rattle.vb_model.{proofs.Samples.{mixed, ready}, specs.{Guest.Guest, HostEvents.WorldStep}}
+use Rattle.vb_model.specs.{Queries.{Answers, runs}, World.World}
 use Rattle.vb_model.specs.declared.calls.{Event.TheVariants.Query as OnQuery, Query.Query}
 use Rattle.vb_model.specs.declared.calls.Query.TheVariants.{Backing as QueryBacking}
 use Rattle.vb_model.specs.declared.calls.Query.TheVariants.{Balloon as QueryBalloon}
