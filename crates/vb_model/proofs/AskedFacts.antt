@@ -354,8 +354,12 @@ none_reaped : NotReaped (coming_back Taking ready) None
     × NotReaped (coming_back Taking ready) (made (Reap 0) (Reaped 0 1))
     × NotReaped (coming_back Taking ready) (made (Reap 1) NotUsed)
     × NotReaped behind_another (made (Reap 1) (Reaped 0 1))
-none_reaped = (not_reaped Deflating _ 16 0 refl, not_reaped Deflating _ 16 0 refl,
-  not_reaped Deflating _ 16 0 refl, not_reaped Deflating _ 16 0 refl)
+none_reaped = (
+  not_reaped Deflating _ 16 0 refl,
+  not_reaped Deflating _ 16 0 refl,
+  not_reaped Deflating _ 16 0 refl,
+  not_reaped Deflating _ 16 0 refl,
+)
 
 -- the queue of each kind
 queues : map queue_of (Inflating ∷ Deflating ∷ Reporting_free ∷ []) ≡ 0 ∷ 1 ∷ 4 ∷ []

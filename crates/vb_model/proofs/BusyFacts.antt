@@ -1,19 +1,20 @@
 -- What is promised of a guest is promised of each: of any size, of either pace, at any status, with
 -- any features, while requests of all kinds are at all stages. One course for each promise that
 -- breaks it.
-use Rattle.std.proofs.Common.{◌≡◌, ℕ, zero, suc, ◌<◌, true, false, List, [], ◌∷◌, ◌++◌, replicate}
-use Rattle.std.proofs.Common.{refl, ◌⊎◌, inl, inr, arith}
-use Rattle.std.specs.Prelude.{Option, Some, None, IsTrue}
-use Rattle.vb_model.proofs.{AskedFacts.{giving, back, handed_out}, SafeFacts.{SameFrame, made}}
-use Rattle.vb_model.{proofs.SafeFacts.{stands, goes}, proofs.Samples.request, specs.Courses.Course}
-use Rattle.vb_model.specs.{Courses.{StaysHeld, StaysOrLoses, ReadsGiveLastWrites}, Guest.Guest}
-use Rattle.vb_model.specs.{Guest.fresh, Histories.{IsSafeCourse, BothAgree}, Requests.Requests}
+use Rattle.std.proofs.Common.{List, [], arith, false, inl, inr, refl, replicate, suc, true, zero, ℕ}
+use Rattle.std.{proofs.Common.{◌++◌, ◌<◌, ◌∷◌, ◌≡◌, ◌⊎◌}, specs.Prelude.{IsTrue, None, Option}}
+use Rattle.std.specs.Prelude.{Some}
+use Rattle.vb_model.proofs.{AskedFacts.{back, giving, handed_out}, AskedTests.IsSafe}
+use Rattle.vb_model.proofs.{AskedTests.none_hands_out, SafeFacts.{SameFrame, goes, made, stands}}
+use Rattle.vb_model.{proofs.Samples.{NoneOf, request}, specs.Courses.{Course, ReadsGiveLastWrites}}
+use Rattle.vb_model.specs.{Courses.{StaysHeld, StaysOrLoses}, Guest.{Guest, fresh}}
+use Rattle.vb_model.specs.{Histories.{BothAgree, IsSafeCourse}, Requests.Requests}
 use Rattle.vb_model.specs.declared.calls.{Actor.TheVariants.Processor, Call.TheVariants.Alloc}
 use Rattle.vb_model.specs.declared.calls.Call.TheVariants.{Inflate, Read, Reap, Sweep, Take, Work}
+use Rattle.vb_model.specs.declared.places.Place.TheVariants.{Free as FreePlace, Reserved, Used}
 use Rattle.vb_model.specs.declared.replies.Refusal.TheVariants.{Broken, RingBroken}
 use Rattle.vb_model.specs.declared.replies.Reply.TheVariants.{Idle, Page, Posted, ReadBytes}
 use Rattle.vb_model.specs.declared.replies.Reply.TheVariants.{Refused, Swept}
-use Rattle.vb_model.specs.declared.places.Place.TheVariants.{Reserved, Free as FreePlace, Used}
 
 abbrev Same : ℕ → ℕ → Type 0
 Same a b = a ≡ b
@@ -166,8 +167,5 @@ at_once g = record {
   after = giving g ∷ handed_out g ∷ [];
 }
 
-handed_out_at_once : (g : Guest) → IsSafeCourse (at_once g) → ⊥
-handed_out_at_once g s =
-    let a = s.told_first 16 0 1 (omega arith) (back g, giving g, refl, refl, (λ e. cc), refl)
-    (giving g, handed_out g, refl, refl, (λ e. cc), refl) in
-    omega (arith, a.since, a.later, a.before)
+handed_out_at_once : (g : Guest) → NoneOf IsSafe ((at_once g, (0, 1)) ∷ [])
+handed_out_at_once g = none_hands_out _ refl

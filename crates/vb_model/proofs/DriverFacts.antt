@@ -1,16 +1,16 @@
 -- Worked facts of the driver's inflates, deflates and reaps.
-use Rattle.std.proofs.Common.{◌≡◌, ℕ, ◌+◌, true, false, List, [], ◌∷◌, ◌++◌, map, replicate, length}
-use Rattle.std.{proofs.Common.{refl, ap, subst, arith}, specs.Prelude.{Some, None}}
-use Rattle.vb_model.proofs.Samples.{config, ready, down, without_oom, request}
-use Rattle.vb_model.specs.{Driver.AllFreePages, Guest.Guest, Refusals.{refusal_of, inflate_count}}
-use Rattle.vb_model.specs.{Refusals.{deflate_count, oom_count, room}, Requests.{Request, Requests}}
-use Rattle.vb_model.specs.{Requests.{no_requests, IsLeastHead}, Step.HonestStep}
-use Rattle.vb_model.specs.declared.calls.Call.TheVariants.{Inflate, Deflate, Oom, Reap}
-use Rattle.vb_model.specs.declared.places.Place.{Place, TheVariants.{Reserved, Free, Giving, Lent}}
-use Rattle.vb_model.specs.declared.places.Place.TheVariants.{Taking, Stranded, Reporting}
-use Rattle.vb_model.specs.declared.replies.Refusal.TheVariants.{NotReady, QueueFull, Nothing}
-use Rattle.vb_model.specs.declared.replies.Refusal.TheVariants.{NoFeature, NoQueue}
-use Rattle.vb_model.specs.declared.replies.Reply.TheVariants.{Posted, Reaped, NotUsed}
+use Rattle.std.proofs.Common.{List, [], ap, arith, false, length, map, refl, replicate, subst, true}
+use Rattle.std.{proofs.Common.{ℕ, ◌++◌, ◌+◌, ◌∷◌, ◌≡◌}, specs.Prelude.{None, Option, Some}}
+use Rattle.vb_model.proofs.Samples.{config, down, ready, request, without_oom}
+use Rattle.vb_model.specs.{Driver.AllFreePages, Guest.Guest, Refusals.deflate_count}
+use Rattle.vb_model.specs.Refusals.{inflate_count, oom_count, refusal_of, room}
+use Rattle.vb_model.specs.{Requests.{IsLeastHead, Request, Requests, no_requests}, Step.HonestStep}
+use Rattle.vb_model.specs.declared.calls.Call.{Call, TheVariants.{Deflate, Inflate, Oom, Reap}}
+use Rattle.vb_model.specs.declared.places.Place.{Place, TheVariants.{Free, Giving, Lent, Reporting}}
+use Rattle.vb_model.specs.declared.places.Place.TheVariants.{Reserved, Stranded, Taking}
+use Rattle.vb_model.specs.declared.replies.Refusal.{Refusal, TheVariants.{NoFeature, NoQueue}}
+use Rattle.vb_model.specs.declared.replies.Refusal.TheVariants.{NotReady, Nothing, QueueFull}
+use Rattle.vb_model.specs.declared.replies.Reply.TheVariants.{NotUsed, Posted, Reaped}
 
 -- ---- how many pages are moved
 
@@ -22,35 +22,19 @@ counts lent giving stranded free target = record ready {
   target = target;
 }
 
--- an inflate: what is asked for, 256, what the target lacks, what there is
+-- an inflate: what is asked for, what the target lacks, what there is, and stranded pages whatever
+-- the target is
 inflates_up_to_the_target : map (inflate_count (counts 3 2 0 10 9)) (0 ∷ 1 ∷ 3 ∷ 4 ∷ 5 ∷ 300 ∷ [])
-    ≡ 0 ∷ 1 ∷ 3 ∷ 4 ∷ 4 ∷ 4 ∷ []
+    ++ map (λ g. inflate_count g 300) (counts 3 2 0 10 5 ∷ counts 3 2 0 10 4 ∷ counts 3 2 6 10 9
+    ∷ counts 3 2 6 10 0 ∷ counts 3 2 3 10 9 ∷ counts 3 2 1 10 40 ∷ []) ≡ 0 ∷ 1 ∷ 3 ∷ 4 ∷ 4 ∷ 4 ∷ 0 ∷ 0
+    ∷ 6 ∷ 6 ∷ 4 ∷ 11 ∷ []
 inflates_up_to_the_target = refl
 
-inflates_nothing_above_it : inflate_count (counts 3 2 0 10 5) 300
-    ∷ inflate_count (counts 3 2 0 10 4) 300 ∷ [] ≡ 0 ∷ 0 ∷ []
-inflates_nothing_above_it = refl
-
--- stranded pages whatever the target is
-inflates_stranded_pages : inflate_count (counts 3 2 6 10 9) 300
-    ∷ inflate_count (counts 3 2 6 10 0) 300 ∷ inflate_count (counts 3 2 3 10 9) 300 ∷ [] ≡ 6 ∷ 6 ∷ 4
-    ∷ []
-inflates_stranded_pages = refl
-
-inflates_what_there_is : inflate_count (counts 3 2 1 10 40) 300 ≡ 11
-inflates_what_there_is = refl
-
--- a deflate: what is asked for, 256, what is lent, what the target allows
-deflates_down_to_the_target : map (deflate_count (counts 5 2 6 10 4)) (0 ∷ 2 ∷ 3 ∷ 4 ∷ 300 ∷ []) ≡ 0
-    ∷ 2 ∷ 3 ∷ 3 ∷ 3 ∷ []
+-- a deflate: what is asked for, what the target allows, what is lent
+deflates_down_to_the_target : map (deflate_count (counts 5 2 6 10 4)) (0 ∷ 2 ∷ 3 ∷ 4 ∷ 300 ∷ [])
+    ++ map (λ g. deflate_count g 300) (counts 5 2 6 10 0 ∷ counts 5 2 6 10 7 ∷ counts 5 2 6 10 9 ∷ [])
+    ≡ 0 ∷ 2 ∷ 3 ∷ 3 ∷ 3 ∷ 5 ∷ 0 ∷ 0 ∷ []
 deflates_down_to_the_target = refl
-
-deflates_what_is_lent : deflate_count (counts 5 2 6 10 0) 300 ≡ 5
-deflates_what_is_lent = refl
-
-deflates_nothing_below_it : deflate_count (counts 5 2 6 10 7) 300
-    ∷ deflate_count (counts 5 2 6 10 9) 300 ∷ [] ≡ 0 ∷ 0 ∷ []
-deflates_nothing_below_it = refl
 
 -- for want of memory: what is lent, whatever the target is
 oom_whatever_the_target : map (oom_count (counts 5 2 6 10 40)) (0 ∷ 2 ∷ 5 ∷ 300 ∷ []) ≡ 0 ∷ 2 ∷ 5
@@ -188,23 +172,23 @@ narrow g = record g { config = record config { queue_size = 2 } }
 abbrev two_out : Requests
 two_out = record { posted = []; taken = request 0 [] 0 ∷ []; done = request 1 [] 0 ∷ [] }
 
-inflate_refusals : refusal_of (narrow (record down { inflate = two_out })) (Inflate 0)
-    ∷ refusal_of (narrow (record ready { inflate = two_out })) (Inflate 0)
-    ∷ refusal_of (narrow (record ready { deflate = two_out; report = two_out })) (Inflate 0)
-    ∷ [] ≡ Some NotReady ∷ Some QueueFull ∷ Some Nothing ∷ []
+abbrev refusals : Call → List Guest → List (Option Refusal)
+refusals call gs = map (λ g. refusal_of (narrow g) call) gs
+
+inflate_refusals : refusals (Inflate 0) (record down { inflate = two_out }
+    ∷ record ready { inflate = two_out } ∷ record ready { deflate = two_out; report = two_out } ∷ [])
+    ≡ Some NotReady ∷ Some QueueFull ∷ Some Nothing ∷ []
 inflate_refusals = refl
 
-deflate_refusals : refusal_of (narrow (record down { deflate = two_out })) (Deflate 0)
-    ∷ refusal_of (narrow (record ready { deflate = two_out })) (Deflate 0)
-    ∷ refusal_of (narrow (record ready { inflate = two_out; report = two_out })) (Deflate 0)
-    ∷ [] ≡ Some NotReady ∷ Some QueueFull ∷ Some Nothing ∷ []
+deflate_refusals : refusals (Deflate 0) (record down { deflate = two_out }
+    ∷ record ready { deflate = two_out } ∷ record ready { inflate = two_out; report = two_out } ∷ [])
+    ≡ Some NotReady ∷ Some QueueFull ∷ Some Nothing ∷ []
 deflate_refusals = refl
 
-oom_refusals : refusal_of (narrow (record down { deflate = two_out })) (Oom 0)
-    ∷ refusal_of (narrow (record without_oom { deflate = two_out })) (Oom 0)
-    ∷ refusal_of (narrow (record ready { deflate = two_out })) (Oom 0)
-    ∷ refusal_of (narrow (record ready { inflate = two_out; report = two_out })) (Oom 0)
-    ∷ [] ≡ Some NotReady ∷ Some NoFeature ∷ Some QueueFull ∷ Some Nothing ∷ []
+oom_refusals : refusals (Oom 0) (record down { deflate = two_out }
+    ∷ record without_oom { deflate = two_out } ∷ record ready { deflate = two_out }
+    ∷ record ready { inflate = two_out; report = two_out } ∷ [])
+    ≡ Some NotReady ∷ Some NoFeature ∷ Some QueueFull ∷ Some Nothing ∷ []
 oom_refusals = refl
 
 -- just the feature of its own, and none for the other two
@@ -270,17 +254,16 @@ reaped_deflate : HonestStep
 reaped_deflate = (refl, (refl, refl))
 
 -- nothing is used: nothing changes
-not_used : HonestStep (record (reaping (Taking ∷ Taking ∷ Lent ∷ replicate 5 Free) Free 7) {
+abbrev none_used : Guest
+none_used = record (reaping (Taking ∷ Taking ∷ Lent ∷ replicate 5 Free) Free 7) {
   inflate = heads 0 2 1;
   deflate =
       record { posted = request 0 (16 ∷ []) 0 ∷ []; taken = request 1 (17 ∷ []) 0 ∷ []; done = [] };
-}) (Reap 1) [] NotUsed (record (reaping (Taking ∷ Taking ∷ Lent ∷ replicate 5 Free) Free 7) {
-  inflate = heads 0 2 1;
-  deflate =
-      record { posted = request 0 (16 ∷ []) 0 ∷ []; taken = request 1 (17 ∷ []) 0 ∷ []; done = [] };
-})
+}
+
+not_used : HonestStep none_used (Reap 1) [] NotUsed none_used
 not_used = (refl, (refl, refl))
 
-reap_refusals : map (λ queue. refusal_of down (Reap queue)) (0 ∷ 1 ∷ 2 ∷ 3 ∷ 5 ∷ []) ≡ Some NotReady
-    ∷ Some NotReady ∷ Some NoQueue ∷ Some NoQueue ∷ Some NoQueue ∷ []
+reap_refusals : map (λ queue. refusal_of down (Reap queue)) (0 ∷ 1 ∷ 2 ∷ 3 ∷ 5 ∷ [])
+    ≡ replicate 2 (Some NotReady) ++ replicate 3 (Some NoQueue)
 reap_refusals = refl

@@ -1,44 +1,34 @@
 -- All limits, and where rings and buffers stand, as plain numbers.
-use Rattle.std.proofs.Common.{◌≡◌, true, false, [], ◌∷◌, ◌++◌, map, filter, refl}
+use Rattle.std.proofs.Common.{[], false, filter, map, refl, replicate, true, ◌++◌, ◌∷◌, ◌≡◌}
 use Rattle.std.specs.List.{range_with_len}
-use Rattle.vb_model.specs.declared.limits.TheConstants.{PAGE_SIZE, GUEST_PAGES_STEP, MAX_ORDER}
-use Rattle.vb_model.specs.declared.limits.TheConstants.{MIN_REPORTED_ORDER, MAX_OUTSTANDING}
-use Rattle.vb_model.specs.declared.limits.TheConstants.{MAX_REQUEST_PAGES, MAX_GUESTS}
-use Rattle.vb_model.specs.declared.limits.TheConstants.{MIN_GUEST_PAGES, MAX_GUEST_PAGES}
-use Rattle.vb_model.specs.declared.limits.TheConstants.{MIN_QUEUE_SIZE, MAX_QUEUE_SIZE}
-use Rattle.vb_model.specs.declared.limits.TheConstants.{MAX_PROCESSORS, MAX_FRAMES}
-use Rattle.vb_model.specs.declared.layout.TheConstants.{STATISTIC_SIZE, MAX_STATISTICS_LENGTH}
-use Rattle.vb_model.specs.declared.layout.TheConstants.{FREE_MEMORY_TAG, TOTAL_MEMORY_TAG}
-use Rattle.vb_model.specs.declared.layout.TheConstants.{INFLATE_QUEUE, DEFLATE_QUEUE}
-use Rattle.vb_model.specs.declared.layout.TheConstants.{STATISTICS_QUEUE, REPORT_QUEUE}
-use Rattle.vb_model.specs.declared.layout.TheConstants.{MAX_QUEUE_SIZE_OF_A_PAGE, FIRST_RING_PAGE}
-use Rattle.vb_model.specs.declared.layout.TheConstants.{FIRST_RING_PAGE_OF_TWO, RESERVED_PAGES}
-use Rattle.vb_model.specs.declared.layout.TheConstants.{RESERVED_PAGES_OF_TWO, REQUEST_BUFFER_SIZE}
-use Rattle.vb_model.specs.declared.layout.TheConstants.{INFLATE_BUFFERS_PAGE, DEFLATE_BUFFERS_PAGE}
-use Rattle.vb_model.specs.Limits.{page_size, max_order, min_reported_order, max_outstanding}
-use Rattle.vb_model.specs.Limits.{max_request_pages, max_guests, max_frames, is_power_of_two}
-use Rattle.vb_model.specs.Layout.{takes_two_pages, reserved_pages, ring_number, ring_page}
-use Rattle.vb_model.specs.Layout.{is_ring_page, is_start_page, start_pages, buffers_page}
-use Rattle.vb_model.{specs.declared.limits.TheConstants.MAX_REPORT_PIECES, specs.Limits.is_config}
-use Rattle.vb_model.specs.declared.layout.TheConstants.{STATISTICS_PAGE}
-use Rattle.vb_model.specs.Status.{acknowledge, driver, features_ok, driver_ok, needs_reset, failed}
-use Rattle.vb_model.specs.Layout.{buffer_page, buffer_offset}
+use Rattle.vb_model.specs.Layout.{buffer_offset, buffer_page, buffers_page, is_ring_page}
+use Rattle.vb_model.specs.Layout.{is_start_page, reserved_pages, ring_number, ring_page}
+use Rattle.vb_model.specs.{Layout.{start_pages, takes_two_pages}, Limits.is_config}
+use Rattle.vb_model.specs.Limits.{is_power_of_two, max_frames, max_guests, max_order}
+use Rattle.vb_model.specs.Limits.{max_outstanding, max_request_pages, min_reported_order, page_size}
+use Rattle.vb_model.specs.Status.{acknowledge, driver, driver_ok, failed, features_ok, needs_reset}
+use Rattle.vb_model.specs.declared.layout.TheConstants.{DEFLATE_BUFFERS_PAGE, DEFLATE_QUEUE}
+use Rattle.vb_model.specs.declared.layout.TheConstants.{FIRST_RING_PAGE, FIRST_RING_PAGE_OF_TWO}
+use Rattle.vb_model.specs.declared.layout.TheConstants.{FREE_MEMORY_TAG, INFLATE_BUFFERS_PAGE}
+use Rattle.vb_model.specs.declared.layout.TheConstants.{INFLATE_QUEUE, MAX_QUEUE_SIZE_OF_A_PAGE}
+use Rattle.vb_model.specs.declared.layout.TheConstants.{MAX_STATISTICS_LENGTH, REPORT_QUEUE}
+use Rattle.vb_model.specs.declared.layout.TheConstants.{REQUEST_BUFFER_SIZE, RESERVED_PAGES}
+use Rattle.vb_model.specs.declared.layout.TheConstants.{RESERVED_PAGES_OF_TWO, STATISTICS_PAGE}
+use Rattle.vb_model.specs.declared.layout.TheConstants.{STATISTICS_QUEUE, STATISTIC_SIZE}
+use Rattle.vb_model.specs.declared.layout.TheConstants.{TOTAL_MEMORY_TAG}
+use Rattle.vb_model.specs.declared.limits.TheConstants.{GUEST_PAGES_STEP, MAX_FRAMES, MAX_GUESTS}
+use Rattle.vb_model.specs.declared.limits.TheConstants.{MAX_GUEST_PAGES, MAX_ORDER, MAX_OUTSTANDING}
+use Rattle.vb_model.specs.declared.limits.TheConstants.{MAX_PROCESSORS, MAX_QUEUE_SIZE}
+use Rattle.vb_model.specs.declared.limits.TheConstants.{MAX_REPORT_PIECES, MAX_REQUEST_PAGES}
+use Rattle.vb_model.specs.declared.limits.TheConstants.{MIN_GUEST_PAGES, MIN_QUEUE_SIZE}
+use Rattle.vb_model.specs.declared.limits.TheConstants.{MIN_REPORTED_ORDER, PAGE_SIZE}
 
--- bytes of a page; the pages of a guest are so many or a multiple of them
-pages_are : PAGE_SIZE ∷ GUEST_PAGES_STEP ∷ [] ≡ 4096 ∷ 16 ∷ []
-pages_are = refl
-
--- the largest order of a block, and the least that is reported
-orders_are : MAX_ORDER ∷ MIN_REPORTED_ORDER ∷ [] ≡ 9 ∷ 4 ∷ []
-orders_are = refl
-
--- requests outstanding on a queue, and pages of a request
-requests_are : MAX_OUTSTANDING ∷ MAX_REQUEST_PAGES ∷ [] ≡ 16 ∷ 256 ∷ []
-requests_are = refl
-
+-- bytes of a page, and the pages of a guest are so many or a multiple of them; the largest order of a
+-- block, and the least that is reported; requests outstanding on a queue, and pages of a request;
 -- pieces of a report that a device takes
-pieces_are : MAX_REPORT_PIECES ∷ [] ≡ 32 ∷ []
-pieces_are = refl
+pages_are : PAGE_SIZE ∷ GUEST_PAGES_STEP ∷ MAX_ORDER ∷ MIN_REPORTED_ORDER ∷ MAX_OUTSTANDING
+    ∷ MAX_REQUEST_PAGES ∷ MAX_REPORT_PIECES ∷ [] ≡ 4096 ∷ 16 ∷ 9 ∷ 4 ∷ 16 ∷ 256 ∷ 32 ∷ []
+pages_are = refl
 
 -- statistics: bytes of each, at most so many bytes of all, and the tags of free and of all memory
 statistics_are : STATISTIC_SIZE ∷ MAX_STATISTICS_LENGTH ∷ FREE_MEMORY_TAG ∷ TOTAL_MEMORY_TAG
@@ -61,13 +51,10 @@ by_their_names : page_size ∷ max_order ∷ min_reported_order ∷ max_outstand
 by_their_names = refl
 
 -- the queues, and the pages of their rings
-queues_are : INFLATE_QUEUE ∷ DEFLATE_QUEUE ∷ STATISTICS_QUEUE ∷ REPORT_QUEUE ∷ [] ≡ 0 ∷ 1 ∷ 2 ∷ 4
-    ∷ []
+queues_are : INFLATE_QUEUE ∷ DEFLATE_QUEUE ∷ STATISTICS_QUEUE ∷ REPORT_QUEUE
+    ∷ MAX_QUEUE_SIZE_OF_A_PAGE ∷ FIRST_RING_PAGE ∷ FIRST_RING_PAGE_OF_TWO ∷ RESERVED_PAGES
+    ∷ RESERVED_PAGES_OF_TWO ∷ [] ≡ 0 ∷ 1 ∷ 2 ∷ 4 ∷ 128 ∷ 0 ∷ 16 ∷ 16 ∷ 32 ∷ []
 queues_are = refl
-
-rings_are : MAX_QUEUE_SIZE_OF_A_PAGE ∷ FIRST_RING_PAGE ∷ FIRST_RING_PAGE_OF_TWO ∷ RESERVED_PAGES
-    ∷ RESERVED_PAGES_OF_TWO ∷ [] ≡ 128 ∷ 0 ∷ 16 ∷ 16 ∷ 32 ∷ []
-rings_are = refl
 
 -- a ring of up to 128 descriptors takes a page, and a larger one two
 pages_of_a_ring : map takes_two_pages (2 ∷ 64 ∷ 128 ∷ 129 ∷ 256 ∷ []) ≡ false ∷ false ∷ false ∷ true
@@ -77,29 +64,20 @@ pages_of_a_ring = refl
 reserved_of_sizes : map reserved_pages (2 ∷ 64 ∷ 128 ∷ 256 ∷ []) ≡ 16 ∷ 16 ∷ 16 ∷ 32 ∷ []
 reserved_of_sizes = refl
 
-order_of_rings : map ring_number (0 ∷ 1 ∷ 2 ∷ 4 ∷ []) ≡ 0 ∷ 1 ∷ 2 ∷ 3 ∷ []
-order_of_rings = refl
-
-rings_of_queues : map (ring_page 128) (0 ∷ 1 ∷ 2 ∷ 4 ∷ []) ≡ 0 ∷ 1 ∷ 2 ∷ 3 ∷ []
+-- in the order of the queues
+rings_of_queues : map (λ ring. map ring (0 ∷ 1 ∷ 2 ∷ 4 ∷ []))
+    (ring_number ∷ ring_page 128 ∷ ring_page 256 ∷ []) ≡ (0 ∷ 1 ∷ 2 ∷ 3 ∷ []) ∷ (0 ∷ 1 ∷ 2 ∷ 3 ∷ [])
+    ∷ (16 ∷ 18 ∷ 20 ∷ 22 ∷ []) ∷ []
 rings_of_queues = refl
 
-rings_of_large_queues : map (ring_page 256) (0 ∷ 1 ∷ 2 ∷ 4 ∷ []) ≡ 16 ∷ 18 ∷ 20 ∷ 22 ∷ []
-rings_of_large_queues = refl
-
 -- which pages those of rings are, and which a start needs: those of the buffers too
-pages_of_rings : filter (is_ring_page 128) (range_with_len 0 64) ≡ 0 ∷ 1 ∷ 2 ∷ 3 ∷ []
+pages_of_rings : map (λ size. filter (is_ring_page size) (range_with_len 0 64)) (128 ∷ 256 ∷ [])
+    ≡ range_with_len 0 4 ∷ range_with_len 16 8 ∷ []
 pages_of_rings = refl
 
-pages_of_large_rings : filter (is_ring_page 256) (range_with_len 0 64) ≡ 16 ∷ 17 ∷ 18 ∷ 19 ∷ 20 ∷ 21
-    ∷ 22 ∷ 23 ∷ []
-pages_of_large_rings = refl
-
-pages_of_a_start : start_pages 128 ≡ range_with_len 0 13
+pages_of_a_start : map start_pages (128 ∷ 256 ∷ []) ≡ range_with_len 0 13
+    ∷ (range_with_len 4 9 ++ range_with_len 16 8) ∷ []
 pages_of_a_start = refl
-
-pages_of_a_large_start : start_pages 256 ≡ 4 ∷ 5 ∷ 6 ∷ 7 ∷ 8 ∷ 9 ∷ 10 ∷ 11 ∷ 12 ∷ 16 ∷ 17 ∷ 18 ∷ 19
-    ∷ 20 ∷ 21 ∷ 22 ∷ 23 ∷ []
-pages_of_a_large_start = refl
 
 -- none of them is past the reserved ones
 no_others_for_a_start : filter (is_start_page 128) (range_with_len 13 100)
@@ -109,15 +87,12 @@ no_others_for_a_start = refl
 -- the buffers: 1024 bytes each, from page 4 on for inflates, from page 8 on for deflates, page 12
 -- for statistics
 buffers_are : REQUEST_BUFFER_SIZE ∷ INFLATE_BUFFERS_PAGE ∷ DEFLATE_BUFFERS_PAGE ∷ STATISTICS_PAGE
-    ∷ [] ≡ 1024 ∷ 4 ∷ 8 ∷ 12 ∷ []
+    ∷ buffers_page 0 ∷ buffers_page 1 ∷ [] ≡ 1024 ∷ 4 ∷ 8 ∷ 12 ∷ 4 ∷ 8 ∷ []
 buffers_are = refl
 
-buffers_of_queues : buffers_page 0 ∷ buffers_page 1 ∷ [] ≡ 4 ∷ 8 ∷ []
-buffers_of_queues = refl
-
 -- four buffers a page, in the order of their heads
-pages_of_buffers : map (λ h. buffer_page 8 h) (range_with_len 0 16) ≡ 8 ∷ 8 ∷ 8 ∷ 8 ∷ 9 ∷ 9 ∷ 9 ∷ 9
-    ∷ 10 ∷ 10 ∷ 10 ∷ 10 ∷ 11 ∷ 11 ∷ 11 ∷ 11 ∷ []
+pages_of_buffers : map (buffer_page 8) (range_with_len 0 16)
+    ≡ replicate 4 8 ++ (replicate 4 9 ++ (replicate 4 10 ++ replicate 4 11))
 pages_of_buffers = refl
 
 offsets_of_buffers : map buffer_offset (range_with_len 0 6) ≡ 0 ∷ 1024 ∷ 2048 ∷ 3072 ∷ 0 ∷ 1024 ∷ []

@@ -1,15 +1,15 @@
 -- Worked facts of reads and writes.
-use Rattle.std.proofs.Common.{◌≡◌, ℕ, List, [], ◌∷◌, ◌++◌, map, replicate, refl, inl, inr}
-use Rattle.std.specs.Prelude.{Option, Some, None, drop}
-use Rattle.vb_model.specs.declared.replies.Refusal.TheVariants.{BadOrder, BadCpu, NotHeld, OutOfRam}
-use Rattle.vb_model.{specs.declared.places.Place.TheVariants.Lent, specs.Guest.{Guest, zero_page}}
-use Rattle.vb_model.specs.declared.calls.Call.TheVariants.{Alloc, Free, Read, Write}
+use Rattle.std.proofs.Common.{List, [], inl, inr, map, refl, replicate, ℕ, ◌++◌, ◌∷◌, ◌≡◌}
+use Rattle.std.specs.Prelude.{None, Option, Some, drop}
+use Rattle.vb_model.{proofs.Samples.{config, down, ready}, specs.{Driver.pages_needed, Guest.Guest}}
+use Rattle.vb_model.specs.{Guest.zero_page, Refusals.refusal_of, Step.HonestStep}
+use Rattle.vb_model.specs.declared.calls.Call.{Call, TheVariants.{Alloc, Free, Read, Write}}
 use Rattle.vb_model.specs.declared.calls.Claim.TheVariants.{Gave, GaveNoFrame, GaveNoMemory}
-use Rattle.vb_model.specs.declared.replies.Refusal.TheVariants.{NoFrame, NoMemory}
+use Rattle.vb_model.specs.declared.places.Place.TheVariants.{Free as FreePlace, Lent, Reserved}
+use Rattle.vb_model.specs.declared.{places.Place.TheVariants.Used, replies.Refusal.Refusal}
+use Rattle.vb_model.specs.declared.replies.Refusal.TheVariants.{BadCpu, BadOrder, NoFrame, NoMemory}
+use Rattle.vb_model.specs.declared.replies.Refusal.TheVariants.{NotHeld, OutOfRam}
 use Rattle.vb_model.specs.declared.replies.Reply.TheVariants.{Done, ReadBytes, Refused}
-use Rattle.vb_model.{specs.Refusals.refusal_of, specs.Driver.pages_needed, specs.Step.HonestStep}
-use Rattle.vb_model.proofs.Samples.{config, ready, down}
-use Rattle.vb_model.specs.declared.places.Place.TheVariants.{Reserved, Free as FreePlace, Used}
 
 -- pages 16 to 18 are used; pages 16 and 17 have frames. A short list stands for the bytes of a page
 abbrev frames : Option ℕ → List (Option ℕ)
@@ -67,35 +67,27 @@ frames_needed = refl
 
 -- ---- refusals: used pages alone, and then bytes of that page alone
 
-used_pages_alone : map (λ page. refusal_of before (Read page 5000 1))
-    (0 ∷ 15 ∷ 16 ∷ 18 ∷ 19 ∷ 63 ∷ 64 ∷ []) ≡ Some NotHeld ∷ Some NotHeld ∷ Some OutOfRam
-    ∷ Some OutOfRam ∷ Some NotHeld ∷ Some NotHeld ∷ Some NotHeld ∷ []
+abbrev refusals : Guest → List Call → List (Option Refusal)
+refusals g calls = map (refusal_of g) calls
+
+used_pages_alone : map (λ page. refusals before (Read page 5000 1 ∷ Write page 5000 (1 ∷ []) ∷ []))
+    (16 ∷ 18 ∷ 0 ∷ 15 ∷ 19 ∷ 63 ∷ 64 ∷ [])
+    ≡ replicate 2 (replicate 2 (Some OutOfRam)) ++ replicate 5 (replicate 2 (Some NotHeld))
 used_pages_alone = refl
 
-writes_to_used_pages_alone : map (λ page. refusal_of before (Write page 5000 (1 ∷ [])))
-    (0 ∷ 15 ∷ 16 ∷ 18 ∷ 19 ∷ 63 ∷ 64 ∷ []) ≡ Some NotHeld ∷ Some NotHeld ∷ Some OutOfRam
-    ∷ Some OutOfRam ∷ Some NotHeld ∷ Some NotHeld ∷ Some NotHeld ∷ []
-writes_to_used_pages_alone = refl
-
-lent_is_not_used : refusal_of (record before { places = replicate 64 Lent }) (Read 17 0 1)
-    ∷ refusal_of (record before { places = replicate 64 Lent }) (Write 17 0 []) ∷ [] ≡ Some NotHeld
-    ∷ Some NotHeld ∷ []
+lent_is_not_used : refusals (record before { places = replicate 64 Lent })
+    (Read 17 0 1 ∷ Write 17 0 [] ∷ []) ≡ replicate 2 (Some NotHeld)
 lent_is_not_used = refl
 
-within_the_page : refusal_of before (Read 17 4092 4) ∷ refusal_of before (Read 17 4093 4)
-    ∷ refusal_of before (Read 17 4096 0) ∷ refusal_of before (Read 17 4097 0) ∷ [] ≡ None
-    ∷ Some OutOfRam ∷ None ∷ Some OutOfRam ∷ []
+within_the_page : refusals before (Read 17 4092 4 ∷ Read 17 4096 0 ∷ Write 17 4094 (1 ∷ 2 ∷ [])
+    ∷ Write 17 4096 [] ∷ Read 17 4093 4 ∷ Read 17 4097 0 ∷ Write 17 4095 (1 ∷ 2 ∷ [])
+    ∷ Write 17 4097 [] ∷ []) ≡ replicate 4 None ++ replicate 4 (Some OutOfRam)
 within_the_page = refl
-
-writes_within_the_page : refusal_of before (Write 17 4094 (1 ∷ 2 ∷ []))
-    ∷ refusal_of before (Write 17 4095 (1 ∷ 2 ∷ [])) ∷ refusal_of before (Write 17 4096 [])
-    ∷ refusal_of before (Write 17 4097 []) ∷ [] ≡ None ∷ Some OutOfRam ∷ None ∷ Some OutOfRam ∷ []
-writes_within_the_page = refl
 
 -- whether the device is initialised is no matter
 before_an_initialisation : refusal_of (record before { status = 0 }) (Read 17 0 1)
     ∷ refusal_of (record before { status = 131 }) (Write 17 0 (1 ∷ []))
-    ∷ refusal_of down (Alloc 0 0) ∷ [] ≡ None ∷ None ∷ None ∷ []
+    ∷ refusal_of down (Alloc 0 0) ∷ [] ≡ replicate 3 None
 before_an_initialisation = refl
 
 -- ---- orders and processors are tested before blocks
@@ -103,15 +95,7 @@ before_an_initialisation = refl
 abbrev two_processors : Guest
 two_processors = record ready { config = record config { processors = 2 } }
 
-processors : map (λ cpu. refusal_of two_processors (Alloc cpu 0)) (0 ∷ 1 ∷ 2 ∷ []) ≡ None ∷ None
-    ∷ Some BadCpu ∷ []
-processors = refl
-
-orders : refusal_of two_processors (Alloc 2 10) ∷ refusal_of two_processors (Alloc 2 9)
-    ∷ [] ≡ Some BadOrder ∷ Some BadCpu ∷ []
-orders = refl
-
-free_is_tested_alike : refusal_of two_processors (Free 2 16 10)
-    ∷ refusal_of two_processors (Free 2 16 9) ∷ refusal_of two_processors (Free 1 16 9)
-    ∷ [] ≡ Some BadOrder ∷ Some BadCpu ∷ Some NotHeld ∷ []
-free_is_tested_alike = refl
+blocks_in_order : refusals two_processors (Alloc 0 0 ∷ Alloc 1 0 ∷ Alloc 2 0 ∷ Alloc 2 10 ∷ Alloc 2 9
+    ∷ Free 2 16 10 ∷ Free 2 16 9 ∷ Free 1 16 9 ∷ []) ≡ None ∷ None ∷ Some BadCpu ∷ Some BadOrder
+    ∷ Some BadCpu ∷ Some BadOrder ∷ Some BadCpu ∷ Some NotHeld ∷ []
+blocks_in_order = refl

@@ -1,29 +1,27 @@
 -- Guests that are not in order, one for each thing that order promises; and answers that don't
 -- agree.
-use Rattle.std.proofs.Common.{◌≡◌, ℕ, ◌≤◌, List, [], ◌∷◌, ◌++◌, true, false, map, replicate, refl}
-use Rattle.std.{proofs.Common.{ap, ◌⊎◌, arith}, specs.List.range_with_len}
-use Rattle.vb_model.specs.declared.calls.Call.TheVariants.{Init, Reset, Alloc, Free, Read, Write}
-use Rattle.vb_model.specs.declared.calls.Call.TheVariants.{Scribble, Inflate, Deflate, Oom, Report}
-use Rattle.vb_model.specs.declared.calls.Call.TheVariants.{Stats, Reap, Take, Work, Finish, Sweep}
-use Rattle.vb_model.specs.declared.replies.Refusal.TheVariants.{NoPages, OutOfRam, NoMemory}
-use Rattle.vb_model.{specs.declared.calls.Call.Call, specs.Requests.{Request, Requests}}
-use Rattle.vb_model.{specs.declared.calls.Call.TheVariants.{Ask, SetTarget}, specs.Pages.block_at}
-use Rattle.vb_model.{specs.declared.replies.Refusal.TheVariants.NotHeld, specs.Guest.Guest}
-use Rattle.vb_model.specs.declared.replies.Reply.TheVariants.{Done, Idle, Page, Posted, Refused}
-use Rattle.vb_model.{specs.Orderly.{IsOrderly, IsRequestSound, AreAgreed}, specs.Determined.Agree}
-use Rattle.vb_model.proofs.Samples.{ready, down, request}
-use Rattle.vb_model.specs.declared.places.Place.TheVariants.{Reserved, Free as FreePlace}
+use Rattle.std.proofs.Common.{List, [], ap, arith, false, map, refl, replicate, true, ℕ, ◌++◌, ◌∷◌}
+use Rattle.std.{proofs.Common.{◌≡◌, ◌⊎◌}, specs.List.range_with_len}
+use Rattle.vb_model.{proofs.Samples.{differ, down, ready, request}, specs.Determined.Agree}
+use Rattle.vb_model.specs.{Guest.Guest, Orderly.{AreAgreed, IsOrderly, IsRequestSound}}
+use Rattle.vb_model.specs.{Pages.block_at, Requests.{Request, Requests}, declared.calls.Call.Call}
+use Rattle.vb_model.specs.declared.calls.Call.TheVariants.{Alloc, Ask, Deflate, Finish, Free}
+use Rattle.vb_model.specs.declared.calls.Call.TheVariants.{Inflate, Init, Oom, Read, Reap, Report}
+use Rattle.vb_model.specs.declared.calls.Call.TheVariants.{Reset, Scribble, SetTarget, Stats, Sweep}
+use Rattle.vb_model.specs.declared.calls.Call.TheVariants.{Take, Work, Write}
+use Rattle.vb_model.specs.declared.places.Place.TheVariants.{Free as FreePlace, Reserved}
+use Rattle.vb_model.specs.declared.replies.Refusal.TheVariants.{NoMemory, NoPages, NotHeld}
+use Rattle.vb_model.specs.declared.replies.{Refusal.TheVariants.OutOfRam, Reply.TheVariants.Done}
+use Rattle.vb_model.specs.declared.replies.Reply.TheVariants.{Idle, Page, Posted, Refused}
 
 abbrev Same : ℕ → ℕ → Type 0
 Same a b = a ≡ b
 
 -- ---- a request: no page twice, and no more visited than there are
 
-page_twice : IsRequestSound (request 0 (16 ∷ 17 ∷ 16 ∷ []) 0) → ⊥
-page_twice r = let l : 2 ≤ 1 = r.distinct 16 in omega (arith, l)
-
-visited_past_the_last : IsRequestSound (request 0 (16 ∷ 17 ∷ []) 3) → ⊥
-visited_past_the_last r = let l : 3 ≤ 2 = r.visits in omega (arith, l)
+unsound_requests : (IsRequestSound (request 0 (16 ∷ 17 ∷ 16 ∷ []) 0) → ⊥)
+    × (IsRequestSound (request 0 (16 ∷ 17 ∷ []) 3) → ⊥)
+unsound_requests = (λ r. omega (arith, r.distinct 16), λ r. omega (arith, r.visits))
 
 -- ---- requests of one kind, at each of their stages
 
@@ -35,43 +33,40 @@ abbrev twice : Requests
 twice =
     record { posted = request 3 (16 ∷ []) 0 ∷ []; taken = []; done = request 3 (17 ∷ []) 0 ∷ [] }
 
-head_twice : IsOrderly (record ready { inflate = twice }) → ⊥
-head_twice o = let l : 2 ≤ 1 = o.inflating.heads 3 in omega (arith, l)
+abbrev Disorderly : Guest → Type 0
+Disorderly g = IsOrderly g → ⊥
 
-head_of_a_deflate_twice : IsOrderly (record ready { deflate = twice }) → ⊥
-head_of_a_deflate_twice o = let l : 2 ≤ 1 = o.deflating.heads 3 in omega (arith, l)
+head_twice : Disorderly (record ready { inflate = twice })
+    × Disorderly (record ready { deflate = twice })
+head_twice = (λ o. omega (arith, o.inflating.heads 3), λ o. omega (arith, o.deflating.heads 3))
 
 -- nine requests at a queue size of 8, seventeen at 64; two reports
 abbrev so_many : ℕ → Requests
 so_many n = posted (map (λ head. request head [] 0) (range_with_len 0 n))
 
-nine_of_eight : IsOrderly (record ready { inflate = so_many 9 }) → ⊥
-nine_of_eight o = let l : 9 ≤ 8 = o.inflating.few in omega (arith, l)
-
-nine_deflates_of_eight : IsOrderly (record ready { deflate = so_many 9 }) → ⊥
-nine_deflates_of_eight o = let l : 9 ≤ 8 = o.deflating.few in omega (arith, l)
-
-seventeen : IsOrderly
-    (record ready { config = record ready.config { queue_size = 64 }; inflate = so_many 17 }) → ⊥
-seventeen o = let l : 17 ≤ 16 = o.inflating.few in omega (arith, l)
-
-two_reports : IsOrderly (record ready { report = so_many 2 }) → ⊥
-two_reports o = let l : 2 ≤ 1 = o.reporting.few in omega (arith, l)
+too_many : Disorderly (record ready { inflate = so_many 9 })
+    × Disorderly (record ready { deflate = so_many 9 })
+    × Disorderly (record ready { config = record ready.config { queue_size = 64 }; inflate = so_many 17 })
+    × Disorderly (record ready { report = so_many 2 })
+too_many = (
+  λ o. omega (arith, o.inflating.few),
+  λ o. omega (arith, o.deflating.few),
+  λ o. omega (arith, o.inflating.few),
+  λ o. omega (arith, o.reporting.few),
+)
 
 -- a request that names no page, and one that was visited past its last
 abbrev second : List Request
 second = request 0 [] 0 ∷ request 1 (16 ∷ []) 2 ∷ []
 
-posted_past_the_last : IsOrderly (record ready { inflate = posted second }) → ⊥
-posted_past_the_last o = let l : 2 ≤ 1 = o.inflating.posted.1.0.visits in omega (arith, l)
-
-taken_past_the_last : IsOrderly
-    (record ready { deflate = record { posted = []; taken = second; done = [] } }) → ⊥
-taken_past_the_last o = let l : 2 ≤ 1 = o.deflating.taken.1.0.visits in omega (arith, l)
-
-used_past_the_last : IsOrderly
-    (record ready { report = record { posted = []; taken = []; done = second } }) → ⊥
-used_past_the_last o = let l : 2 ≤ 1 = o.reporting.done.1.0.visits in omega (arith, l)
+visited_past_the_last : Disorderly (record ready { inflate = posted second })
+    × Disorderly (record ready { deflate = record { posted = []; taken = second; done = [] } })
+    × Disorderly (record ready { report = record { posted = []; taken = []; done = second } })
+visited_past_the_last = (
+  λ o. omega (arith, o.inflating.posted.1.0.visits),
+  λ o. omega (arith, o.deflating.taken.1.0.visits),
+  λ o. omega (arith, o.reporting.done.1.0.visits),
+)
 
 -- ---- the status, and the table of places
 
@@ -81,25 +76,23 @@ OneOfThree status = (status ≡ 0) ⊎ (status ≡ 15) ⊎ (status ≡ 131)
 status_of : (status : ℕ) → IsOrderly (record ready { status = status }) → OneOfThree status
 status_of status o = o.state
 
-a_place_more : IsOrderly
-    (record ready { places = replicate 16 Reserved ++ replicate 49 FreePlace }) → ⊥
-a_place_more o = let e : Same 65 64 = o.tabled in omega arith
+-- 16 pages are reserved
+other_places : Disorderly (record ready { places = replicate 16 Reserved ++ replicate 49 FreePlace })
+    × Disorderly (record ready { places = replicate 15 Reserved ++ replicate 49 FreePlace })
+    × Disorderly (record ready { places = replicate 17 Reserved ++ replicate 47 FreePlace })
+other_places = (
+  λ o. differ 65 64 refl o.tabled,
+  λ o. (let e : false ≡ true = o.unreserved 15 (omega arith) in cc),
+  λ o. (let e : true ≡ false = o.unreserved 16 (omega arith) in cc),
+)
 
-page_15_not_reserved : IsOrderly
-    (record ready { places = replicate 15 Reserved ++ replicate 49 FreePlace }) → ⊥
-page_15_not_reserved o = let e : false ≡ true = o.unreserved 15 (omega arith) in cc
-
-page_16_reserved : IsOrderly
-    (record ready { places = replicate 17 Reserved ++ replicate 47 FreePlace }) → ⊥
-page_16_reserved o = let e : true ≡ false = o.unreserved 16 (omega arith) in cc
-
--- ---- the features of a guest that is ready: VERSION_1, and none that isn't offered
-
-ready_without_version : IsOrderly (record ready { features = 0x27 }) → ⊥
-ready_without_version o = let e : false ≡ true = (o.agreed refl).version in cc
-
-ready_with_bit_3 : IsOrderly (record ready { features = 0x10000002f }) → ⊥
-ready_with_bit_3 o = let e : false ≡ true = (o.agreed refl).offered in cc
+-- the features of a guest that is ready: VERSION_1, and none that isn't offered
+ready_without_version : Disorderly (record ready { features = 0x27 })
+    × Disorderly (record ready { features = 0x10000002f })
+ready_without_version = (
+  λ o. (let e : false ≡ true = (o.agreed refl).version in cc),
+  λ o. (let e : false ≡ true = (o.agreed refl).offered in cc),
+)
 
 -- MUST_TELL_HOST may be among them or not
 agreed : AreAgreed 0x100000027 × AreAgreed 0x100000026 × AreAgreed 0x100000000
@@ -153,11 +146,11 @@ refused_two_guests a = other_guest (a.1 OutOfRam refl)
 
 -- ---- held blocks
 
-misaligned : IsOrderly (record ready { held = block_at 17 1 ∷ [] }) → ⊥
-misaligned o = let e : false ≡ true = o.blocks.0.aligned in cc
-
-order_of_10 : IsOrderly (record ready { held = block_at 0 10 ∷ [] }) → ⊥
-order_of_10 o = let l : 10 ≤ 9 = o.blocks.0.order in omega (arith, l)
-
-past_the_last : IsOrderly (record ready { held = block_at 62 2 ∷ [] }) → ⊥
-past_the_last o = let l : 66 ≤ 64 = o.blocks.0.inside in omega (arith, l)
+blocks_askew : Disorderly (record ready { held = block_at 17 1 ∷ [] })
+    × Disorderly (record ready { held = block_at 0 10 ∷ [] })
+    × Disorderly (record ready { held = block_at 62 2 ∷ [] })
+blocks_askew = (
+  λ o. (let e : false ≡ true = o.blocks.0.aligned in cc),
+  λ o. omega (arith, o.blocks.0.order),
+  λ o. omega (arith, o.blocks.0.inside),
+)

@@ -1,19 +1,19 @@
 -- Worked facts of the answers to queries.
-use Rattle.std.proofs.Common.{◌≡◌, ℕ, true, false, [], ◌∷◌, ◌++◌, replicate, refl, inl, inr, ◌⊎◌}
-use Rattle.std.specs.Prelude.{Some, None}
-use Rattle.vb_model.specs.declared.places.Place.TheVariants.{Reserved, Free, Used, Giving, Lent}
-use Rattle.vb_model.specs.declared.replies.Reply.TheVariants.{Places, Pages, Balloon, Statistics}
-use Rattle.vb_model.specs.declared.places.Place.TheVariants.{Taking, Stranded, Reporting}
-use Rattle.vb_model.{specs.declared.replies.Reply.TheVariants.{Backing, Refused}, specs.Guest.Guest}
-use Rattle.vb_model.{specs.declared.replies.Refusal.TheVariants.NoMemory, specs.World.World}
-use Rattle.vb_model.{specs.declared.places.PageRun.PageRun, specs.declared.replies.Reply.Reply}
-use Rattle.vb_model.{specs.declared.calls.Query.Query, specs.Queries.{Answers, runs}}
-use Rattle.vb_model.{proofs.Samples.{ready, mixed}, specs.HostEvents.WorldStep}
-use Rattle.vb_model.specs.declared.calls.Event.TheVariants.{Query as OnQuery}
-use Rattle.vb_model.specs.declared.calls.Query.TheVariants.{Places as QueryPlaces, PagesAt}
-use Rattle.vb_model.specs.declared.calls.Query.TheVariants.{PagesBallooned, Balloon as QueryBalloon}
-use Rattle.vb_model.specs.declared.calls.Query.TheVariants.{Memory as QueryMemory}
+use Rattle.std.proofs.Common.{[], false, inl, inr, refl, replicate, true, ℕ, ◌++◌, ◌∷◌, ◌≡◌, ◌⊎◌}
+use Rattle.std.specs.Prelude.{None, Option, Some}
+use Rattle.vb_model.{proofs.Samples.{mixed, ready}, specs.{Guest.Guest, HostEvents.WorldStep}}
+use Rattle.vb_model.specs.{Queries.{Answers, runs}, World.World}
+use Rattle.vb_model.specs.declared.calls.{Event.TheVariants.Query as OnQuery, Query.Query}
 use Rattle.vb_model.specs.declared.calls.Query.TheVariants.{Backing as QueryBacking}
+use Rattle.vb_model.specs.declared.calls.Query.TheVariants.{Balloon as QueryBalloon}
+use Rattle.vb_model.specs.declared.calls.Query.TheVariants.{Memory as QueryMemory, PagesAt}
+use Rattle.vb_model.specs.declared.calls.Query.TheVariants.{PagesBallooned, Places as QueryPlaces}
+use Rattle.vb_model.specs.declared.places.{PageRun.PageRun, Place.TheVariants.{Free, Giving, Lent}}
+use Rattle.vb_model.specs.declared.places.Place.TheVariants.{Reporting, Reserved, Stranded, Taking}
+use Rattle.vb_model.specs.declared.places.Place.TheVariants.{Used}
+use Rattle.vb_model.specs.declared.replies.{Refusal.TheVariants.NoMemory, Reply.Reply}
+use Rattle.vb_model.specs.declared.replies.Reply.TheVariants.{Backing, Balloon, Pages, Places}
+use Rattle.vb_model.specs.declared.replies.Reply.TheVariants.{Refused, Statistics}
 
 abbrev run : ℕ → ℕ → PageRun
 run first last = record { first = first; last = last }
@@ -26,32 +26,17 @@ seven_counts : Answers QueryPlaces mixed (Places
 seven_counts = refl
 
 -- the pages of each place
-reserved_pages_are : Answers (PagesAt Reserved) mixed (Pages (run 0 15 ∷ []))
-reserved_pages_are = inl refl
-
-free_pages_are : Answers (PagesAt Free) mixed (Pages (run 16 36 ∷ []))
-free_pages_are = inl refl
-
-used_pages_are : Answers (PagesAt Used) mixed (Pages (run 37 38 ∷ []))
-used_pages_are = inl refl
-
-giving_pages_are : Answers (PagesAt Giving) mixed (Pages (run 39 41 ∷ []))
-giving_pages_are = inl refl
-
-lent_pages_are : Answers (PagesAt Lent) mixed (Pages (run 42 45 ∷ []))
-lent_pages_are = inl refl
-
-taking_pages_are : Answers (PagesAt Taking) mixed (Pages (run 46 50 ∷ []))
-taking_pages_are = inl refl
-
-stranded_pages_are : Answers (PagesAt Stranded) mixed (Pages (run 51 56 ∷ []))
-stranded_pages_are = inl refl
-
-reporting_pages_are : Answers (PagesAt Reporting) mixed (Pages (run 57 63 ∷ []))
-reporting_pages_are = inl refl
-
-no_page_there : Answers (PagesAt Lent) ready (Pages [])
-no_page_there = inl refl
+pages_are : Answers (PagesAt Reserved) mixed (Pages (run 0 15 ∷ []))
+    × Answers (PagesAt Free) mixed (Pages (run 16 36 ∷ []))
+    × Answers (PagesAt Used) mixed (Pages (run 37 38 ∷ []))
+    × Answers (PagesAt Giving) mixed (Pages (run 39 41 ∷ []))
+    × Answers (PagesAt Lent) mixed (Pages (run 42 45 ∷ []))
+    × Answers (PagesAt Taking) mixed (Pages (run 46 50 ∷ []))
+    × Answers (PagesAt Stranded) mixed (Pages (run 51 56 ∷ []))
+    × Answers (PagesAt Reporting) mixed (Pages (run 57 63 ∷ []))
+    × Answers (PagesAt Lent) ready (Pages [])
+pages_are =
+    (inl refl, inl refl, inl refl, inl refl, inl refl, inl refl, inl refl, inl refl, inl refl)
 
 -- ---- runs of pages: maximal, rising, a single page by itself
 
@@ -74,31 +59,25 @@ four_numbers = refl
 
 -- ---- statistics: what is free, then the total; each may be missing
 
-free_then_total : Answers QueryMemory
-    (record ready { last = record { free = Some 196608; total = Some 262144 } })
+abbrev last_is : Option ℕ → Option ℕ → Guest
+last_is free total = record ready { last = record { free = free; total = total } }
+
+free_then_total : Answers QueryMemory (last_is (Some 196608) (Some 262144))
     (Statistics (record { free = Some 196608; total = Some 262144 }))
-free_then_total = refl
-
-no_total : Answers QueryMemory (record ready { last = record { free = Some 8192; total = None } })
+    × Answers QueryMemory (last_is (Some 8192) None)
     (Statistics (record { free = Some 8192; total = None }))
-no_total = refl
-
-nothing_known : Answers QueryMemory ready (Statistics (record { free = None; total = None }))
-nothing_known = refl
+    × Answers QueryMemory ready (Statistics (record { free = None; total = None }))
+free_then_total = (refl, refl, refl)
 
 -- ---- the frame of a page; there is none past the end
 
 abbrev backed : Guest
 backed = record ready { frames = replicate 16 None ++ (Some 13 ∷ replicate 47 None) }
 
-page_with_frame : Answers (QueryBacking 16) backed (Backing (Some 13))
-page_with_frame = refl
-
-page_without_frame : Answers (QueryBacking 17) backed (Backing None)
-page_without_frame = refl
-
-page_past_the_end : Answers (QueryBacking 64) backed (Backing None)
-page_past_the_end = refl
+frames_are : Answers (QueryBacking 16) backed (Backing (Some 13))
+    × Answers (QueryBacking 17) backed (Backing None)
+    × Answers (QueryBacking 64) backed (Backing None)
+frames_are = (refl, refl, refl)
 
 -- ---- want of memory may be the answer where a list is, and only there; nothing changes
 
@@ -108,40 +87,24 @@ NoMemoryFor query = Answers query mixed (Refused NoMemory)
 for_lists : NoMemoryFor (PagesAt Free) × NoMemoryFor PagesBallooned
 for_lists = (inr refl, inr refl)
 
-not_for_places : NoMemoryFor QueryPlaces → ⊥
-not_for_places e = cc
-
-not_for_balloon : NoMemoryFor QueryBalloon → ⊥
-not_for_balloon e = cc
-
-not_for_memory : NoMemoryFor QueryMemory → ⊥
-not_for_memory e = cc
-
-not_for_backing : NoMemoryFor (QueryBacking 16) → ⊥
-not_for_backing e = cc
+for_nothing_else : (NoMemoryFor QueryPlaces → ⊥) × (NoMemoryFor QueryBalloon → ⊥)
+    × (NoMemoryFor QueryMemory → ⊥) × (NoMemoryFor (QueryBacking 16) → ⊥)
+for_nothing_else = ((λ e. cc), (λ e. cc), (λ e. cc), (λ e. cc))
 
 -- ---- and no other answer is one
 
-no_other_counts : (reply : Reply) → Answers QueryPlaces mixed reply → reply ≡ Places
-    (record { free = 21; used = 2; giving = 3; lent = 4; taking = 5; stranded = 6; reporting = 7 })
-no_other_counts reply a = a
+abbrev JustThis : Query → Guest → Reply → Type 0
+JustThis query g answer = (reply : Reply) → Answers query g reply → reply ≡ answer
 
-no_other_numbers : (reply : Reply)
-    → Answers QueryBalloon (record ballooned { actual = 9; target = 11; status = 131 }) reply
-    → reply ≡ Balloon (record { ballooned = 3; actual = 9; target = 11; status = 131 })
-no_other_numbers reply a = a
-
-no_other_statistics : (reply : Reply) → Answers QueryMemory
-    (record ready { last = record { free = Some 196608; total = Some 262144 } }) reply
-    → reply ≡ Statistics (record { free = Some 196608; total = Some 262144 })
-no_other_statistics reply a = a
-
-no_other_frame : (reply : Reply) → Answers (QueryBacking 16) backed reply
-    → reply ≡ Backing (Some 13)
-no_other_frame reply a = a
-
-no_frame_at_all : (reply : Reply) → Answers (QueryBacking 17) backed reply → reply ≡ Backing None
-no_frame_at_all reply a = a
+no_other_answer : JustThis QueryPlaces mixed (Places
+    (record { free = 21; used = 2; giving = 3; lent = 4; taking = 5; stranded = 6; reporting = 7 }))
+    × JustThis QueryBalloon (record ballooned { actual = 9; target = 11; status = 131 })
+    (Balloon (record { ballooned = 3; actual = 9; target = 11; status = 131 }))
+    × JustThis QueryMemory (last_is (Some 196608) (Some 262144))
+    (Statistics (record { free = Some 196608; total = Some 262144 }))
+    × JustThis (QueryBacking 16) backed (Backing (Some 13))
+    × JustThis (QueryBacking 17) backed (Backing None)
+no_other_answer = ((λ r a. a), (λ r a. a), (λ r a. a), (λ r a. a), (λ r a. a))
 
 no_other_pages : (reply : Reply) → Answers (PagesAt Taking) mixed reply
     → (reply ≡ Pages (run 46 50 ∷ [])) ⊎ (reply ≡ Refused NoMemory)

@@ -1,33 +1,28 @@
 -- Worked facts of scribbles and of what a rogue guest may need.
-use Rattle.std.proofs.Common.{◌≡◌, ℕ, ◌<◌, true, false, List, [], ◌∷◌, ◌++◌, map, replicate, refl}
-use Rattle.std.{proofs.Common.{ap, arith}, specs.Prelude.{Option, Some, None, unwrap_or}}
-use Rattle.std.{specs.List.range_with_len, proofs.lemmas.List.get_or-replicate}
-use Rattle.vb_model.specs.declared.calls.Call.TheVariants.{Init, Reset, Alloc, Free, Read, Write}
-use Rattle.vb_model.specs.declared.calls.Call.TheVariants.{Scribble, Inflate, Deflate, Oom, Report}
-use Rattle.vb_model.specs.declared.calls.Call.TheVariants.{Stats, Reap, Take, Work, Finish, Sweep}
-use Rattle.vb_model.{specs.declared.calls.Call.TheVariants.{Ask, SetTarget}, specs.Step.HonestStep}
-use Rattle.vb_model.{specs.declared.calls.Claim.Claim, specs.declared.replies.Reply.Reply}
-use Rattle.vb_model.specs.declared.calls.Claim.TheVariants.{Gave, GaveNoFrame, GaveNoMemory}
-use Rattle.vb_model.specs.declared.replies.Refusal.TheVariants.{OutOfRam, NoFrame, NoMemory}
-use Rattle.vb_model.specs.declared.replies.Reply.TheVariants.{Done, Idle, Refused}
+use Rattle.std.proofs.Common.{List, [], ap, arith, false, map, refl, replicate, true, ℕ, ◌++◌, ◌<◌}
+use Rattle.std.{proofs.{Common.{◌∷◌, ◌≡◌}, lemmas.List.get_or-replicate}, specs.List.range_with_len}
+use Rattle.std.specs.Prelude.{None, Option, Some, unwrap_or}
+use Rattle.vb_model.{proofs.Samples.{config, differ, down, ready}, specs.Guest.{Config, Guest}}
+use Rattle.vb_model.specs.{Guest.is_ballooned, Refusals.refusal_of, Rogue.HasAllPages}
+use Rattle.vb_model.specs.Rogue.{IsRogueAfter, LosesFrames, RogueStep, pages_to_back}
+use Rattle.vb_model.specs.{Step.HonestStep, declared.calls.Call.TheVariants.{Alloc, Ask, Deflate}}
+use Rattle.vb_model.specs.declared.calls.Call.TheVariants.{Finish, Free, Inflate, Init, Oom, Read}
+use Rattle.vb_model.specs.declared.calls.Call.TheVariants.{Reap, Report, Reset, Scribble, SetTarget}
+use Rattle.vb_model.specs.declared.calls.Call.TheVariants.{Stats, Sweep, Take, Work, Write}
+use Rattle.vb_model.specs.declared.calls.Claim.{Claim, TheVariants.{Gave, GaveNoFrame}}
+use Rattle.vb_model.specs.declared.calls.Claim.TheVariants.{GaveNoMemory}
 use Rattle.vb_model.specs.declared.places.Place.TheVariants.{Lent, Used}
-use Rattle.vb_model.{specs.Guest.{Guest, Config, is_ballooned}, specs.Refusals.refusal_of}
-use Rattle.vb_model.specs.Rogue.{LosesFrames, HasAllPages, IsRogueAfter, RogueStep, pages_to_back}
-use Rattle.vb_model.proofs.Samples.{config, ready, down}
+use Rattle.vb_model.specs.declared.replies.Refusal.TheVariants.{NoFrame, NoMemory, OutOfRam}
+use Rattle.vb_model.specs.declared.replies.Reply.{Reply, TheVariants.{Done, Idle, Refused}}
 
 -- ---- a scribble is refused outside memory or past the end of its page, whatever place the page is
 -- at
 
-bytes_in_a_page : refusal_of ready (Scribble 0 0 (1 ∷ []))
-    ∷ refusal_of ready (Scribble 63 4094 (1 ∷ 2 ∷ [])) ∷ refusal_of down (Scribble 16 4096 [])
-    ∷ [] ≡ None ∷ None ∷ None ∷ []
+bytes_in_a_page : map (refusal_of ready) (Scribble 0 0 (1 ∷ []) ∷ Scribble 63 4094 (1 ∷ 2 ∷ [])
+    ∷ Scribble 16 4096 [] ∷ Scribble 0 4095 (1 ∷ 2 ∷ []) ∷ Scribble 64 0 (1 ∷ []) ∷ Scribble 64 0 []
+    ∷ Scribble 63 4097 [] ∷ []) ++ (refusal_of down (Scribble 16 4096 []) ∷ [])
+    ≡ replicate 3 None ++ (replicate 4 (Some OutOfRam) ++ (None ∷ []))
 bytes_in_a_page = refl
-
-past_the_end : refusal_of ready (Scribble 0 4095 (1 ∷ 2 ∷ []))
-    ∷ refusal_of ready (Scribble 64 0 (1 ∷ [])) ∷ refusal_of ready (Scribble 64 0 [])
-    ∷ refusal_of ready (Scribble 63 4097 []) ∷ [] ≡ Some OutOfRam ∷ Some OutOfRam ∷ Some OutOfRam
-    ∷ Some OutOfRam ∷ []
-past_the_end = refl
 
 refused_scribble : HonestStep ready (Scribble 64 0 (1 ∷ [])) [] (Refused OutOfRam) ready
 refused_scribble = (refl, refl, refl)
@@ -41,9 +36,8 @@ backed of_16_and_17 =
 abbrev before : Guest
 before = backed (Some 13 ∷ None ∷ [])
 
-frames_needed : pages_to_back (Scribble 17 0 (1 ∷ 2 ∷ [])) before
-    ∷ pages_to_back (Scribble 16 0 (1 ∷ [])) before ∷ pages_to_back (Scribble 17 0 []) before ∷ [] ≡ (17 ∷ [])
-    ∷ [] ∷ [] ∷ []
+frames_needed : map (λ call. pages_to_back call before) (Scribble 17 0 (1 ∷ 2 ∷ [])
+    ∷ Scribble 16 0 (1 ∷ []) ∷ Scribble 17 0 [] ∷ []) ≡ (17 ∷ []) ∷ [] ∷ [] ∷ []
 frames_needed = refl
 
 -- what is left is rogue, with the frame; all but its contents is as it was
@@ -92,19 +86,16 @@ frames_of_a_write : map (λ page. pages_to_back (Write page 0 (1 ∷ []))
     (record after { places = replicate 64 Used })) (17 ∷ 18 ∷ 64 ∷ []) ≡ [] ∷ (18 ∷ []) ∷ [] ∷ []
 frames_of_a_write = refl
 
-refused_before_it_claims : pages_to_back (Write 18 0 (1 ∷ [])) after
-    ∷ pages_to_back (Init 0x100000027) after ∷ pages_to_back (Scribble 18 4096 (1 ∷ [])) after
-    ∷ [] ≡ [] ∷ [] ∷ [] ∷ []
-refused_before_it_claims = refl
+no_other_call_claims : map (λ call. pages_to_back call after) (Reset
+    ∷ Alloc 0 0 ∷ Free 0 18 0 ∷ Read 18 0 1 ∷ Inflate 1 ∷ Deflate 1 ∷ Oom 1 ∷ Report 0 ∷ Stats
+    ∷ Reap 0 ∷ Take 0 ∷ Work ∷ Finish 0 0 ∷ Sweep 18 ∷ Ask ∷ SetTarget 1
+    -- refused before they claim
+    ∷ Write 18 0 (1 ∷ []) ∷ Init 0x100000027 ∷ Scribble 18 4096 (1 ∷ []) ∷ []) ≡ replicate 19 []
+no_other_call_claims = refl
 
 frames_of_an_initialisation : pages_to_back (Init 0x100000027) (record after { status = 0 })
     ≡ range_with_len 0 13
 frames_of_an_initialisation = refl
-
-no_other_call_claims : map (λ call. pages_to_back call after) (Reset
-    ∷ Alloc 0 0 ∷ Free 0 18 0 ∷ Read 18 0 1 ∷ Inflate 1 ∷ Deflate 1 ∷ Oom 1 ∷ Report 0 ∷ Stats
-    ∷ Reap 0 ∷ Take 0 ∷ Work ∷ Finish 0 0 ∷ Sweep 18 ∷ Ask ∷ SetTarget 1 ∷ []) ≡ replicate 16 []
-no_other_call_claims = refl
 
 abbrev Same : ℕ → ℕ → Type 0
 Same a b = a ≡ b
@@ -128,23 +119,20 @@ no_places : RogueStep after Work [] Idle (record lost { places = [] }) → ⊥
 no_places s = let e : Same 0 64 = s.stays.sizes.placed in omega arith
 
 -- each table by page has an entry for each page, and no more
-a_place_more : HasAllPages (record ready { places = replicate 65 Lent }) → ⊥
-a_place_more h = let e : Same 65 64 = h.placed in omega arith
-
-a_flag_more : HasAllPages (record ready { ballooned = replicate 65 false }) → ⊥
-a_flag_more h = let e : Same 65 64 = h.flagged in omega arith
-
-a_frame_more : HasAllPages (record ready { frames = replicate 65 None }) → ⊥
-a_frame_more h = let e : Same 65 64 = h.framed in omega arith
-
-no_frames : HasAllPages (record ready { frames = [] }) → ⊥
-no_frames h = let e : Same 0 64 = h.framed in omega arith
-
-a_page_of_bytes_more : HasAllPages (record ready { contents = replicate 65 [] }) → ⊥
-a_page_of_bytes_more h = let e : Same 65 64 = h.filled in omega arith
-
-no_bytes : HasAllPages (record ready { contents = [] }) → ⊥
-no_bytes h = let e : Same 0 64 = h.filled in omega arith
+a_table_of_another_length : (HasAllPages (record ready { places = replicate 65 Lent }) → ⊥)
+    × (HasAllPages (record ready { ballooned = replicate 65 false }) → ⊥)
+    × (HasAllPages (record ready { frames = replicate 65 None }) → ⊥)
+    × (HasAllPages (record ready { frames = [] }) → ⊥)
+    × (HasAllPages (record ready { contents = replicate 65 [] }) → ⊥)
+    × (HasAllPages (record ready { contents = [] }) → ⊥)
+a_table_of_another_length = (
+  λ h. differ 65 64 refl h.placed,
+  λ h. differ 65 64 refl h.flagged,
+  λ h. differ 65 64 refl h.framed,
+  λ h. differ 0 64 refl h.framed,
+  λ h. differ 65 64 refl h.filled,
+  λ h. differ 0 64 refl h.filled,
+)
 
 -- it stays rogue, with its configuration, and no reserved page of it is ballooned
 not_honest_again : IsRogueAfter after (record after { rogue = false }) → ⊥

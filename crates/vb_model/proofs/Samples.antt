@@ -1,6 +1,6 @@
 -- Guests from which worked facts start.
-use Rattle.std.{proofs.{Common.{[], ◌≡◌}, lemmas.Bool.and_parts}, specs.List.list_all}
-use Rattle.std.specs.Prelude.{Bool, List, replicate, true, ℕ, ◌++◌, ◌∷◌}
+use Rattle.std.proofs.{Common.{[], false, ◌≡◌}, lemmas.Bool.{and_parts, eq-eqb}}
+use Rattle.std.specs.{List.list_all, Prelude.{Bool, List, replicate, true, ℕ, ◌++◌, ◌==◌, ◌∷◌}}
 use Rattle.vb_model.specs.{Guest.{Config, Guest, fresh}, Requests.Request, Tables.Negotiated}
 use Rattle.vb_model.specs.{Tables.NewRequest, declared.calls.Event.{Event, TheVariants.Plug}}
 use Rattle.vb_model.specs.declared.places.Place.{Place, TheVariants.{Free, Giving, Lent, Reporting}}
@@ -64,7 +64,10 @@ abbrev pub new_request : (outstanding most count : ℕ) → NewRequest
 new_request outstanding most count =
     record { outstanding = outstanding; most = most; count = count }
 
--- ---- rows of what isn't so
+-- ---- what isn't so
+
+pub differ : {A : Type 0} (a b : ℕ) → (a == b) ≡ false → a ≡ b → A
+differ a b h e = absurd (let t = eq-eqb a b e in cc)
 
 abbrev pub EachNot : {A : Type 0} → (A → Type 0) → List A → Type 0
 EachNot P [] = Unit {0}

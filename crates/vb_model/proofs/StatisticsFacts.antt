@@ -1,23 +1,23 @@
 -- Worked facts of the statistics buffer.
-use Rattle.std.{proofs.Common.{◌≡◌, [], refl}, specs.Prelude.{ℕ, Some, None}}
-use Rattle.vb_model.specs.declared.replies.Refusal.TheVariants.{NotReady, NoFeature, NoQueue, Busy}
-use Rattle.vb_model.specs.declared.replies.Reply.TheVariants.{Ready, Done, Filled, NotUsed, Taken}
-use Rattle.vb_model.specs.Requests.{Figures, StatisticsBuffer, NoBuffer, BufferPosted, BufferTaken}
-use Rattle.vb_model.specs.declared.calls.Call.TheVariants.{Reset, Stats, Take, Reap, Finish, Ask}
-use Rattle.vb_model.{specs.declared.replies.Reply.TheVariants.{Empty, Asked}, specs.Life.Negotiates}
-use Rattle.vb_model.{proofs.Samples.{ready, down, mixed, without_stats_vq}, specs.Driver.figures}
-use Rattle.vb_model.{specs.declared.replies.LastStatistics.LastStatistics, specs.Guest.Guest}
-use Rattle.vb_model.{specs.declared.replies.Refusal.TheVariants.NotTaken, specs.Requests.BufferDone}
-use Rattle.vb_model.{specs.Step.{Performs, HonestStep}, specs.Refusals.refusal_of}
+use Rattle.std.{proofs.Common.{[], map, refl, replicate, ◌++◌, ◌∷◌, ◌≡◌}, specs.Prelude.None}
+use Rattle.std.specs.Prelude.{Some, ℕ}
+use Rattle.vb_model.{proofs.Samples.{down, mixed, ready, without_stats_vq}, specs.Driver.figures}
+use Rattle.vb_model.specs.{Guest.Guest, Life.Negotiates, Refusals.refusal_of, Requests.BufferDone}
+use Rattle.vb_model.specs.Requests.{BufferPosted, BufferTaken, Figures, NoBuffer, StatisticsBuffer}
+use Rattle.vb_model.specs.{Step.{HonestStep, Performs}, declared.calls.Call.TheVariants.Ask}
+use Rattle.vb_model.specs.declared.calls.Call.TheVariants.{Finish, Reap, Reset, Stats, Take}
+use Rattle.vb_model.specs.declared.replies.{LastStatistics.LastStatistics, Refusal.TheVariants.Busy}
+use Rattle.vb_model.specs.declared.replies.Refusal.TheVariants.{NoFeature, NoQueue, NotReady}
+use Rattle.vb_model.specs.declared.replies.{Refusal.TheVariants.NotTaken, Reply.TheVariants.Asked}
+use Rattle.vb_model.specs.declared.replies.Reply.TheVariants.{Done, Empty, Filled, NotUsed, Ready}
+use Rattle.vb_model.specs.declared.replies.Reply.TheVariants.{Taken}
 
 -- ---- figures, in bytes: the free pages, and all pages, the reserved ones among them
 
-figures_of_48_free_pages : figures ready ≡ record { free = 196608; total = 262144 }
-figures_of_48_free_pages = refl
-
 -- no other place counts as free
-figures_of_21_free_pages : figures mixed ≡ record { free = 86016; total = 262144 }
-figures_of_21_free_pages = refl
+figures_of_free_pages : map figures (ready ∷ mixed ∷ []) ≡ record { free = 196608; total = 262144 }
+    ∷ record { free = 86016; total = 262144 } ∷ []
+figures_of_free_pages = refl
 
 -- ---- the buffer's way: posted, taken, done, posted
 
@@ -97,55 +97,25 @@ reset_forgets_statistics = (refl, (refl, refl))
 -- ---- refusals
 
 -- readiness before features
-stats_not_ready : refusal_of down Stats ≡ Some NotReady
-stats_not_ready = refl
+stats_in_order : map (λ g. refusal_of g Stats) (down ∷ without_stats_vq ∷ record ready { features = 2 } ∷ [])
+    ≡ Some NotReady ∷ Some NoFeature ∷ None ∷ []
+stats_in_order = refl
 
-stats_no_feature : refusal_of without_stats_vq Stats ≡ Some NoFeature
-stats_no_feature = refl
-
-stats_with_just_its_feature : refusal_of (record ready { features = 2 }) Stats ≡ None
-stats_with_just_its_feature = refl
-
-ask_not_ready : refusal_of (record down { buffer = BufferTaken old }) Ask ≡ Some NotReady
-ask_not_ready = refl
-
-ask_not_ready_before_not_taken : refusal_of down Ask ≡ Some NotReady
-ask_not_ready_before_not_taken = refl
-
--- the buffer is taken, or there is nothing to use, whatever the features are
-ask_without_buffer : refusal_of without_stats_vq Ask ≡ Some NotTaken
-ask_without_buffer = refl
-
-ask_posted_buffer : refusal_of (with_buffer (BufferPosted old)) Ask ≡ Some NotTaken
-ask_posted_buffer = refl
-
-ask_done_buffer : refusal_of (with_buffer (BufferDone old)) Ask ≡ Some NotTaken
-ask_done_buffer = refl
+-- readiness before the buffer; it is taken, or there is nothing to use, whatever the features are
+asks_in_order : map (λ g. refusal_of g Ask) (record down { buffer = BufferTaken old } ∷ down
+    ∷ without_stats_vq ∷ with_buffer (BufferPosted old) ∷ with_buffer (BufferDone old) ∷ [])
+    ≡ replicate 2 (Some NotReady) ++ replicate 3 (Some NotTaken)
+asks_in_order = refl
 
 -- a take of queue 2: first whether the queue is there, then readiness, the feature, and whether the
 -- buffer is taken
-take_not_ready : refusal_of (record down { buffer = BufferTaken old }) (Take 2) ≡ Some NotReady
-take_not_ready = refl
+takes_in_order : map (λ g. refusal_of g (Take 2)) (record down { buffer = BufferTaken old }
+    ∷ record without_stats_vq { buffer = BufferTaken old } ∷ record ready { features = 2 }
+    ∷ with_buffer (BufferTaken old) ∷ with_buffer (BufferPosted old) ∷ with_buffer (BufferDone old)
+    ∷ []) ≡ Some NotReady ∷ Some NoQueue ∷ None ∷ Some Busy ∷ None ∷ None ∷ []
+takes_in_order = refl
 
-take_without_feature : refusal_of (record without_stats_vq { buffer = BufferTaken old }) (Take 2)
-    ≡ Some NoQueue
-take_without_feature = refl
-
-take_with_just_its_feature : refusal_of (record ready { features = 2 }) (Take 2) ≡ None
-take_with_just_its_feature = refl
-
-second_take_is_busy : refusal_of (with_buffer (BufferTaken old)) (Take 2) ≡ Some Busy
-second_take_is_busy = refl
-
-posted_is_not_busy : refusal_of (with_buffer (BufferPosted old)) (Take 2) ≡ None
-posted_is_not_busy = refl
-
-done_is_not_busy : refusal_of (with_buffer (BufferDone old)) (Take 2) ≡ None
-done_is_not_busy = refl
-
--- queue 2 is neither finished nor reaped, nor is there a queue 3
-no_finish_of_statistics : refusal_of (with_buffer (BufferTaken old)) (Finish 2 0) ≡ Some NoQueue
-no_finish_of_statistics = refl
-
-no_reap_of_statistics : refusal_of (with_buffer (BufferDone old)) (Reap 2) ≡ Some NoQueue
-no_reap_of_statistics = refl
+-- queue 2 is neither finished nor reaped
+no_finish_or_reap : refusal_of (with_buffer (BufferTaken old)) (Finish 2 0)
+    ∷ refusal_of (with_buffer (BufferDone old)) (Reap 2) ∷ [] ≡ replicate 2 (Some NoQueue)
+no_finish_or_reap = refl

@@ -1,23 +1,22 @@
 -- A guest that tells the host takes the steps of the rules that speak of no other.
-use Rattle.std.proofs.Common.{◌≡◌, ℕ, suc, ◌+◌, ◌<◌, true, List, [], ◌∷◌, ◌++◌, length, get_or}
-use Rattle.std.{proofs.Common.{refl, sym, ap, ◌∙◌, arith}, specs.Prelude.{count_by, ◌↔◌}}
-use Rattle.vb_model.specs.Requests.{Request, all_requests, names, naming, pages_named, Kind}
-use Rattle.vb_model.specs.Requests.{Inflating, Deflating, Reporting_free, given_away}
-use Rattle.vb_model.specs.Telling.{told_reaped, ToldReaps, ToldPerforms, ToldStep}
-use Rattle.vb_model.specs.{Telling.{is_lent_or_taking, told_causes}, declared.places.Place.Place}
-use Rattle.vb_model.specs.declared.{calls.Call.Call, places.Place.TheVariants.Reserved}
-use Rattle.vb_model.specs.{Tests.one_if, declared.calls.Claim.Claim, declared.replies.Reply.Reply}
-use Rattle.vb_model.specs.{Pages.{is_lent, is_taking, place_of}, Driver.{reaped, Reaps}}
-use Rattle.vb_model.specs.{Guest.{Guest, requests, is_ballooned, tells_host}, Step.HonestStep}
-use Rattle.vb_model.specs.{Consistent.IsConsistent, Orderly.{IsOrderly, AllRequestsSound}}
-use Rattle.vb_model.proofs.{Tables.count_by-cons, PageSteps.{naming-cons, taking_named}}
+use Rattle.std.proofs.Common.{List, [], ap, arith, get_or, length, refl, suc, sym, true, ℕ, ◌++◌}
+use Rattle.std.{proofs.Common.{◌+◌, ◌<◌, ◌∙◌, ◌∷◌, ◌≡◌}, specs.Prelude.{MatchOption, Option}}
+use Rattle.std.specs.Prelude.{count_by, ◌↔◌}
+use Rattle.vb_model.proofs.{Counts.{inside, inside-all}, Distinct.distinct_once}
 use Rattle.vb_model.proofs.{GuestSteps.{below_end, kept_by_reap}, OrderlySteps.kept_reap}
-use Rattle.vb_model.proofs.{Distinct.distinct_once, Counts.{inside, inside-all}}
-use Rattle.vb_model.specs.declared.{replies.Refusal.Refusal, calls.Call.TheVariants.Inflate}
-use Rattle.vb_model.specs.{declared.calls.Call.TheVariants.Sweep, FirstRefusal.first_refusal}
-use Rattle.vb_model.{specs.Refusals.refusal_of, proofs.Performed.{Performed, HonestCase, performed}}
-use Rattle.vb_model.proofs.Performed.{performs, honest_case, honest_step}
-use Rattle.std.specs.Prelude.{Option, MatchOption}
+use Rattle.vb_model.proofs.{PageSteps.{naming-cons, taking_named}, Performed.HonestCase}
+use Rattle.vb_model.proofs.Performed.{Performed, honest_case, honest_step, performed, performs}
+use Rattle.vb_model.{proofs.Tables.count_by-cons, specs.{Consistent.IsConsistent, Driver.Reaps}}
+use Rattle.vb_model.specs.{Driver.reaped, FirstRefusal.first_refusal, Guest.{Guest, requests}}
+use Rattle.vb_model.specs.{Guest.tells_host, Orderly.{AllRequestsSound, IsOrderly}, Pages.is_lent}
+use Rattle.vb_model.specs.{Pages.{is_taking, place_of}, Refusals.refusal_of, Requests.Deflating}
+use Rattle.vb_model.specs.Requests.{Inflating, Kind, Reporting_free, Request, all_requests}
+use Rattle.vb_model.specs.{Requests.{given_away, names, naming, pages_named}, Step.HonestStep}
+use Rattle.vb_model.specs.Telling.{ToldPerforms, ToldReaps, ToldStep, is_lent_or_taking}
+use Rattle.vb_model.specs.{Telling.{told_causes, told_reaped}, Tests.one_if}
+use Rattle.vb_model.specs.declared.calls.{Call.{Call, TheVariants.{Inflate, Sweep}}, Claim.Claim}
+use Rattle.vb_model.specs.declared.places.Place.{Place, TheVariants.Reserved}
+use Rattle.vb_model.specs.declared.replies.{Refusal.Refusal, Reply.Reply}
 
 -- ---- as many pages are taking as deflate requests name
 

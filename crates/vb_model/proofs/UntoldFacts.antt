@@ -1,44 +1,40 @@
 -- Worked facts of guests that haven't agreed to tell the host, beside those of guests that have.
-use Rattle.std.proofs.Common.{◌≡◌, ℕ, true, false, List, [], ◌∷◌, ◌++◌, map, replicate, refl, sym}
-use Rattle.std.{proofs.Common.{ap, ◌∙◌, arith}, specs.Prelude.{Bool, Option, Some, None, drop}}
-use Rattle.std.specs.List.{range_with_len}
-use Rattle.vb_model.proofs.Samples.{config, ready, untold, down, mixed_places, request, at}
-use Rattle.vb_model.{proofs.Samples.new_request, specs.Driver.contents_of, specs.FirstRefusal.◌⇒◌}
-use Rattle.vb_model.specs.Guest.{Guest, zero_page, is_ready, tells_host, frame_of, is_ballooned}
-use Rattle.vb_model.specs.{GuestRun.{Called, Leads}, Life.{feature_refusal, after_reset}}
-use Rattle.vb_model.specs.{Pages.{block_at, place_of}, Refusals.refusal_of, Requests.Request}
-use Rattle.vb_model.specs.Requests.{Requests, no_requests, IsLeastHead, given_away, BufferPosted}
-use Rattle.vb_model.specs.{Status.status_refusal, Step.{Performs, HonestStep}}
+use Rattle.std.proofs.Common.{List, [], ap, arith, false, map, refl, replicate, sym, true, ℕ, ◌++◌}
+use Rattle.std.{proofs.Common.{◌∙◌, ◌∷◌, ◌≡◌}, specs.{List.range_with_len, Prelude.{Bool, None}}}
+use Rattle.std.specs.Prelude.{Some, drop}
+use Rattle.vb_model.proofs.Samples.{at, config, down, mixed_places, new_request, ready, request}
+use Rattle.vb_model.{proofs.Samples.untold, specs.{Driver.contents_of, FirstRefusal.{Cause, ◌⇒◌}}}
+use Rattle.vb_model.specs.Guest.{Guest, frame_of, is_ballooned, is_ready, tells_host, zero_page}
+use Rattle.vb_model.specs.{GuestRun.{Called, Leads}, Life.{after_reset, feature_refusal}}
+use Rattle.vb_model.specs.{Pages.{block_at, place_of}, Refusals.refusal_of, Requests.BufferPosted}
+use Rattle.vb_model.specs.Requests.{IsLeastHead, Request, Requests, given_away, no_requests}
+use Rattle.vb_model.specs.{Status.status_refusal, Step.{HonestStep, Performs}}
 use Rattle.vb_model.specs.Tables.{inflate_causes, request_causes, sweep_causes}
 use Rattle.vb_model.specs.declared.calls.{Actor.TheVariants.{Processor, Worker}, Call.Call}
-use Rattle.vb_model.specs.declared.calls.Call.TheVariants.{Init, Reset, Alloc, Write, Inflate}
-use Rattle.vb_model.specs.declared.calls.Call.TheVariants.{Deflate, Oom, Report, Reap, Take, Work}
-use Rattle.vb_model.specs.declared.calls.{Call.TheVariants.{Finish, Sweep}, Claim.TheVariants.Gave}
-use Rattle.vb_model.specs.declared.places.Place.{Place, TheVariants.{Giving, Lent, Taking}}
-use Rattle.vb_model.specs.declared.places.Place.TheVariants.{Stranded, Reporting}
-use Rattle.vb_model.specs.declared.replies.Refusal.TheVariants.{NotReady, NeedsReset, QueueFull}
-use Rattle.vb_model.specs.declared.replies.Refusal.TheVariants.{DeflatePending, Nothing, NoPages}
-use Rattle.vb_model.specs.declared.replies.Refusal.TheVariants.{NoFeature, NotBallooned}
+use Rattle.vb_model.specs.declared.calls.Call.TheVariants.{Alloc, Deflate, Finish, Inflate, Init}
+use Rattle.vb_model.specs.declared.calls.Call.TheVariants.{Oom, Reap, Report, Reset, Sweep, Take}
+use Rattle.vb_model.specs.declared.calls.{Call.TheVariants.{Work, Write}, Claim.TheVariants.Gave}
+use Rattle.vb_model.specs.declared.places.Place.{Place, TheVariants.{Free as FreePlace, Giving}}
+use Rattle.vb_model.specs.declared.places.Place.TheVariants.{Lent, Reporting, Reserved, Stranded}
+use Rattle.vb_model.specs.declared.places.Place.TheVariants.{Taking, Used}
+use Rattle.vb_model.specs.declared.replies.Refusal.TheVariants.{DeflatePending, NeedsReset}
+use Rattle.vb_model.specs.declared.replies.Refusal.TheVariants.{NoFeature, NoPages, NotBallooned}
+use Rattle.vb_model.specs.declared.replies.Refusal.TheVariants.{NotReady, Nothing, QueueFull}
 use Rattle.vb_model.specs.declared.replies.Refusal.TheVariants.{VersionMissing}
-use Rattle.vb_model.specs.declared.replies.Reply.TheVariants.{Done, Ready, Page, Posted, Reaped}
-use Rattle.vb_model.specs.declared.replies.Reply.TheVariants.{Taken, Finished, Swept, Refused}
-use Rattle.vb_model.specs.declared.places.Place.TheVariants.{Reserved, Free as FreePlace, Used}
+use Rattle.vb_model.specs.declared.replies.Reply.TheVariants.{Done, Finished, Page, Posted, Ready}
+use Rattle.vb_model.specs.declared.replies.Reply.TheVariants.{Reaped, Refused, Swept, Taken}
 
 abbrev Same : ℕ → ℕ → Type 0
 Same a b = a ≡ b
 
 -- ---- such a guest: all that is offered but MUST_TELL_HOST
 
-features_accepted : feature_refusal 0x100000026 ≡ None
+features_accepted : map feature_refusal (0x100000026 ∷ 0x26 ∷ []) ≡ None ∷ Some VersionMissing ∷ []
 features_accepted = refl
 
-status_accepted : status_refusal 3 0x100000026 11 ∷ status_refusal 11 0x100000026 15 ∷ [] ≡ None
-    ∷ None ∷ []
+status_accepted : status_refusal 3 0x100000026 11 ∷ status_refusal 11 0x100000026 15
+    ∷ status_refusal 3 0x26 11 ∷ [] ≡ None ∷ None ∷ Some VersionMissing ∷ []
 status_accepted = refl
-
-no_version_and_untold : feature_refusal 0x26 ∷ status_refusal 3 0x26 11 ∷ [] ≡ Some VersionMissing
-    ∷ Some VersionMissing ∷ []
-no_version_and_untold = refl
 
 -- started so, where pages 0 to 12 have frames
 abbrev with_frames : Guest
@@ -55,11 +51,9 @@ refused_at_the_start : (new : Guest)
     → HonestStep with_frames (Init 0x100000026) [] (Refused VersionMissing) new → ⊥
 refused_at_the_start new s = let e : Refused VersionMissing ≡ Ready = s.1.0 in cc
 
-ready_and_untold : is_ready untold ∷ tells_host untold ∷ [] ≡ true ∷ false ∷ []
-ready_and_untold = refl
-
-ready_and_told : is_ready ready ∷ tells_host ready ∷ [] ≡ true ∷ true ∷ []
-ready_and_told = refl
+just_one_tells : map is_ready (untold ∷ ready ∷ []) ++ map tells_host (untold ∷ ready ∷ []) ≡ true ∷ true
+    ∷ false ∷ true ∷ []
+just_one_tells = refl
 
 -- just that feature is asked
 told_by_bit_0 : map (λ features. tells_host (record ready { features = features }))
@@ -121,17 +115,12 @@ abbrev NotAt : Guest → Place → Call → Type 0
 NotAt g place call = (new : Guest) → HonestStep (three_lent g) call [] (Posted 0 2) new
     → place_of new.places 16 ≡ place → ⊥
 
-not_taking : NotAt untold Taking (Deflate 2) × NotAt untold Taking (Oom 2)
-not_taking = grind arith
+abbrev NotAfterEither : Guest → Place → Type 0
+NotAfterEither g place = NotAt g place (Deflate 2) × NotAt g place (Oom 2)
 
-not_lent_still : NotAt untold Lent (Deflate 2) × NotAt untold Lent (Oom 2)
-not_lent_still = grind arith
-
-not_used : NotAt untold Used (Deflate 2) × NotAt untold Used (Oom 2)
-not_used = grind arith
-
-not_free_where_it_tells : NotAt ready FreePlace (Deflate 2) × NotAt ready FreePlace (Oom 2)
-not_free_where_it_tells = grind arith
+at_no_other_place : NotAfterEither untold Taking × NotAfterEither untold Lent
+    × NotAfterEither untold Used × NotAfterEither ready FreePlace
+at_no_other_place = grind arith
 
 -- they are ballooned still, and counted
 flag_cleared_too_early : (new : Guest)
@@ -148,13 +137,11 @@ counted_in_each_stage : map (λ rs. given_away (places FreePlace Used Lent) rs)
     (posted both ∷ taken both ∷ done both ∷ no_requests ∷ []) ≡ 3 ∷ 3 ∷ 3 ∷ 1 ∷ []
 counted_in_each_stage = refl
 
--- where the guest tells the host these are the lent and the taking pages: 4 and 5
-lent_and_taking : given_away mixed_places (posted (request 0 (range_with_len 46 5) 0)) ≡ 9
+-- where the guest tells the host these are the lent and the taking pages: 4 and 5. A page counts by
+-- what names it, and not by its place
+lent_and_taking : map (given_away mixed_places) (posted (request 0 (range_with_len 46 5) 0)
+    ∷ no_requests ∷ []) ≡ 9 ∷ 4 ∷ []
 lent_and_taking = refl
-
--- a page counts by what names it, and not by its place
-just_the_lent_ones : given_away mixed_places no_requests ≡ 4
-just_the_lent_ones = refl
 
 -- ---- such pages can be handed out at once, as one block too
 
@@ -184,9 +171,9 @@ abbrev just_these : Place → Guest → Guest
 just_these place g =
     record (asked place g) { places = replicate 16 Reserved ++ (place ∷ place ∷ replicate 46 Used) }
 
-first_pages : refusal_of (just_these FreePlace untold) (Alloc 0 0)
-    ∷ refusal_of (just_these Taking ready) (Alloc 0 0)
-    ∷ refusal_of (just_these Lent untold) (Alloc 0 0) ∷ [] ≡ None ∷ Some NoPages ∷ Some NoPages ∷ []
+first_pages : map (λ g. refusal_of g (Alloc 0 0))
+    (just_these FreePlace untold ∷ just_these Taking ready ∷ just_these Lent untold ∷ []) ≡ None
+    ∷ Some NoPages ∷ Some NoPages ∷ []
 first_pages = refl
 
 -- written to, such a page gets a frame while it is ballooned
@@ -206,34 +193,20 @@ pending g rs = record g { deflate = rs; target = 9 }
 abbrev each_stage : List Requests
 each_stage = posted both ∷ taken both ∷ done both ∷ no_requests ∷ []
 
-inflate_refused : map (λ rs. refusal_of (pending untold rs) (Inflate 1)) each_stage
-    ≡ Some DeflatePending ∷ Some DeflatePending ∷ Some DeflatePending ∷ None ∷ []
-inflate_refused = refl
-
-not_where_it_tells : map (λ rs. refusal_of (pending ready rs) (Inflate 1)) each_stage
-    ≡ replicate 4 None
-not_where_it_tells = refl
-
--- nor where none could be offered: no page is wanted, or none is asked for
-before_nothing : map (λ rs. refusal_of (record (pending untold rs) { target = 0 }) (Inflate 1))
-    each_stage ≡ Some DeflatePending ∷ Some DeflatePending ∷ Some DeflatePending ∷ Some Nothing ∷ []
-before_nothing = refl
-
-before_no_pages : map (λ rs. refusal_of (pending untold rs) (Inflate 0)) each_stage
-    ≡ Some DeflatePending ∷ Some DeflatePending ∷ Some DeflatePending ∷ Some Nothing ∷ []
-before_no_pages = refl
-
-nothing_where_it_tells : map (λ rs. refusal_of (pending ready rs) (Inflate 0)) each_stage
-    ≡ replicate 4 (Some Nothing)
-nothing_where_it_tells = refl
-
 -- stranded pages wait as well
 abbrev stranded : Requests → Guest
 stranded rs = record untold { places = places Stranded Stranded Lent; deflate = rs }
 
-stranded_too : map (λ rs. refusal_of (stranded rs) (Inflate 1)) each_stage
-    ≡ Some DeflatePending ∷ Some DeflatePending ∷ Some DeflatePending ∷ None ∷ []
-stranded_too = refl
+-- nor where none could be offered: no page is wanted, or none is asked for
+inflates_wait : map (λ (guest, n). map (λ rs. refusal_of (guest rs) (Inflate n)) each_stage)
+    ((pending untold, 1) ∷ (stranded, 1) ∷ ((λ rs. record (pending untold rs) { target = 0 }), 1)
+    ∷ (pending untold, 0) ∷ []) ≡ map (λ last. replicate 3 (Some DeflatePending) ++ (last ∷ []))
+    (None ∷ None ∷ Some Nothing ∷ Some Nothing ∷ [])
+inflates_wait = refl
+
+not_where_it_tells : map (λ n. map (λ rs. refusal_of (pending ready rs) (Inflate n)) each_stage)
+    (1 ∷ 0 ∷ []) ≡ replicate 4 None ∷ replicate 4 (Some Nothing) ∷ []
+not_where_it_tells = refl
 
 -- at queue size 2 one or two inflates are out
 abbrev narrow : List Request → Guest
@@ -344,23 +317,12 @@ finished : HonestStep (framed true (taken both)) (Finish 1 0) [] (Finished 0)
     (framed false (done both))
 finished = (refl, (both, refl, refl, refl))
 
-abbrev SameFrame : Option ℕ → Option ℕ → Type 0
-SameFrame a b = a ≡ b
-
-abbrev SameBytes : List ℕ → List ℕ → Type 0
-SameBytes a b = a ≡ b
-
 abbrev FinishedSo : Guest → Type 0
 FinishedSo new = HonestStep (framed true (taken both)) (Finish 1 0) [] (Finished 0) new
 
-frame_lost : (new : Guest) → FinishedSo new → frame_of new.frames 16 ≡ None → ⊥
-frame_lost new s e = cc
-
-bytes_lost : (new : Guest) → FinishedSo new → contents_of new 16 ≡ [] → ⊥
-bytes_lost new s e = cc
-
-ballooned_still : (new : Guest) → FinishedSo new → is_ballooned new.ballooned 16 ≡ true → ⊥
-ballooned_still new s e = grind arith
+not_finished_so : (new : Guest) → FinishedSo new → (frame_of new.frames 16 ≡ None → ⊥)
+    × (contents_of new 16 ≡ [] → ⊥) × (is_ballooned new.ballooned 16 ≡ true → ⊥)
+not_finished_so new s = grind arith
 
 -- all the way: asked back, handed out, taken, used, reaped
 all_the_way : Leads (three_lent untold) (Some (Called (Processor 0 0) (Deflate 2) [] (Posted 0 2))
@@ -383,21 +345,18 @@ all_the_way = (
 
 -- ---- no page is swept, since a ballooned one may be in use
 
-no_sweep : map (λ page. refusal_of (framed true (posted both)) (Sweep page)) (16 ∷ 18 ∷ 20 ∷ [])
-    ≡ Some NoFeature ∷ Some NoFeature ∷ Some NoFeature ∷ []
-no_sweep = refl
-
 -- nor one that is lent while no deflate is out
-no_sweep_of_lent_pages : refusal_of (three_lent untold) (Sweep 16) ≡ Some NoFeature
-no_sweep_of_lent_pages = refl
+no_sweep : map (λ page. refusal_of (framed true (posted both)) (Sweep page)) (16 ∷ 18 ∷ 20 ∷ [])
+    ++ map (refusal_of (three_lent untold)) (Sweep 16 ∷ []) ≡ replicate 4 (Some NoFeature)
+no_sweep = refl
 
 sweep_where_it_tells : map (λ page. refusal_of (three_lent ready) (Sweep page)) (16 ∷ 18 ∷ 20 ∷ [])
     ≡ None ∷ None ∷ Some NotBallooned ∷ []
 sweep_where_it_tells = refl
 
 sweep_by_status : map (λ status. refusal_of (record (three_lent untold) { status = status })
-    (Sweep 16)) (0 ∷ 11 ∷ 15 ∷ 79 ∷ 131 ∷ 143 ∷ []) ≡ Some NotReady ∷ Some NotReady ∷ Some NoFeature
-    ∷ Some NeedsReset ∷ Some NotReady ∷ Some NotReady ∷ []
+    (Sweep 16)) (15 ∷ 79 ∷ 0 ∷ 11 ∷ 131 ∷ 143 ∷ []) ≡ Some NoFeature ∷ Some NeedsReset
+    ∷ replicate 4 (Some NotReady)
 sweep_by_status = refl
 
 sweep_changes_nothing : HonestStep (framed true (posted both)) (Sweep 16) [] (Refused NoFeature)
@@ -437,18 +396,12 @@ abbrev NotAfterReset : ℕ → Place → Type 0
 NotAfterReset page place = (new : Guest) → HonestStep
     (before_a_reset (posted both)) Reset [] Done new → place_of new.places page ≡ place → ⊥
 
-used_page_stranded : NotAfterReset 16 Stranded
-used_page_stranded new s e = cc
-
-free_page_stranded : NotAfterReset 17 Stranded
-free_page_stranded new s e = cc
-
-lent_page_freed : NotAfterReset 18 FreePlace
-lent_page_freed new s e = cc
+pages_after_a_reset : NotAfterReset 16 Stranded × NotAfterReset 17 Stranded × NotAfterReset 18 FreePlace
+pages_after_a_reset = (λ new s e. cc, λ new s e. cc, λ new s e. cc)
 
 -- where the guest tells the host its taking pages are stranded
 taking_pages_stranded : map (place_of (after_reset (asked Taking ready)).places)
-    (16 ∷ 17 ∷ 18 ∷ 19 ∷ []) ≡ Stranded ∷ Stranded ∷ Stranded ∷ FreePlace ∷ []
+    (16 ∷ 17 ∷ 18 ∷ 19 ∷ []) ≡ replicate 3 Stranded ++ (FreePlace ∷ [])
 taking_pages_stranded = refl
 
 -- then no deflate is outstanding: once it is ready again, its stranded pages are offered
@@ -458,34 +411,27 @@ offered_anew = refl
 
 -- ---- the causes, in their order
 
-inflate_in_order : inflate_causes (at 0 0x100000026) 1 (new_request 8 8 0) ≡ (true ⇒ NotReady) ∷ (true ⇒ QueueFull)
-    ∷ (true ⇒ DeflatePending) ∷ (true ⇒ Nothing) ∷ []
+abbrev inflate_tests : Bool → Bool → Bool → Bool → List Cause
+inflate_tests a b c d =
+    (a ⇒ NotReady) ∷ (b ⇒ QueueFull) ∷ (c ⇒ DeflatePending) ∷ (d ⇒ Nothing) ∷ []
+
+inflate_in_order : inflate_causes (at 0 0x100000026) 1 (new_request 8 8 0)
+    ∷ inflate_causes (at 15 0x100000026) 1 (new_request 7 8 1)
+    ∷ inflate_causes (at 15 0x100000026) 0 (new_request 7 8 1)
+    ∷ inflate_causes (at 15 0x100000027) 8 (new_request 7 8 1) ∷ []
+    ≡ inflate_tests true true true true ∷ inflate_tests false false true false
+    ∷ replicate 2 (inflate_tests false false false false)
 inflate_in_order = refl
-
-just_one_pending : inflate_causes (at 15 0x100000026) 1 (new_request 7 8 1) ≡ (false ⇒ NotReady) ∷ (false ⇒ QueueFull)
-    ∷ (true ⇒ DeflatePending) ∷ (false ⇒ Nothing) ∷ []
-just_one_pending = refl
-
-none_pending : inflate_causes (at 15 0x100000026) 0 (new_request 7 8 1) ≡ (false ⇒ NotReady) ∷ (false ⇒ QueueFull)
-    ∷ (false ⇒ DeflatePending) ∷ (false ⇒ Nothing) ∷ []
-none_pending = refl
-
-pending_where_it_tells : inflate_causes (at 15 0x100000027) 8 (new_request 7 8 1) ≡ (false ⇒ NotReady)
-    ∷ (false ⇒ QueueFull) ∷ (false ⇒ DeflatePending) ∷ (false ⇒ Nothing) ∷ []
-pending_where_it_tells = refl
 
 deflate_in_order : request_causes 0 false (new_request 8 8 0) ≡ (true ⇒ NotReady) ∷ (false ⇒ NoFeature)
     ∷ (true ⇒ QueueFull) ∷ (true ⇒ Nothing) ∷ []
 deflate_in_order = refl
 
-sweep_in_order : sweep_causes (at 207 0x100000026) false ≡ (true ⇒ NotReady) ∷ (true ⇒ NeedsReset)
-    ∷ (true ⇒ NoFeature) ∷ (true ⇒ NotBallooned) ∷ []
+abbrev sweep_tests : Bool → Bool → Bool → Bool → List Cause
+sweep_tests a b c d =
+    (a ⇒ NotReady) ∷ (b ⇒ NeedsReset) ∷ (c ⇒ NoFeature) ∷ (d ⇒ NotBallooned) ∷ []
+
+sweep_in_order : sweep_causes (at 207 0x100000026) false ∷ sweep_causes (at 15 0x100000026) true
+    ∷ sweep_causes (at 15 0x100000027) true ∷ [] ≡ sweep_tests true true true true
+    ∷ sweep_tests false false true false ∷ sweep_tests false false false false ∷ []
 sweep_in_order = refl
-
-sweep_of_a_ballooned_page : sweep_causes (at 15 0x100000026) true ≡ (false ⇒ NotReady)
-    ∷ (false ⇒ NeedsReset) ∷ (true ⇒ NoFeature) ∷ (false ⇒ NotBallooned) ∷ []
-sweep_of_a_ballooned_page = refl
-
-sweep_tested_where_it_tells : sweep_causes (at 15 0x100000027) true ≡ (false ⇒ NotReady)
-    ∷ (false ⇒ NeedsReset) ∷ (false ⇒ NoFeature) ∷ (false ⇒ NotBallooned) ∷ []
-sweep_tested_where_it_tells = refl

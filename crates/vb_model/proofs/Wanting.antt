@@ -11,12 +11,9 @@ use Rattle.vb_model.specs.{Refusals.{first_refusal, refusal_of}, Rogue.{GuestSte
 use Rattle.vb_model.specs.Rogue.{after_refused, is_read, pages_to_back, unless_refused}
 use Rattle.vb_model.specs.{Step.HonestStep, StepLaws.{ClaimsAreNeeded, NeededPagesAreBare}}
 use Rattle.vb_model.specs.StepLaws.{NoFrameIsExact, NoMemoryIsExact, RefusedClaimsAreAnswered}
-use Rattle.vb_model.specs.{Tests.is_in, declared.calls.Call.{Call, TheVariants.{Alloc, Ask}}}
-use Rattle.vb_model.specs.declared.calls.Call.TheVariants.{Deflate, Finish, Free, Inflate, Init}
-use Rattle.vb_model.specs.declared.calls.Call.TheVariants.{Oom, Read, Reap, Report, Reset, Scribble}
-use Rattle.vb_model.specs.declared.calls.Call.TheVariants.{SetTarget, Stats, Sweep, Take, Work}
-use Rattle.vb_model.specs.declared.calls.{Call.TheVariants.Write, Claim.{Claim, TheVariants.Gave}}
-use Rattle.vb_model.specs.declared.calls.Claim.TheVariants.{GaveNoFrame, GaveNoMemory}
+use Rattle.vb_model.specs.{Tests.is_in, declared.calls.Call.{Call, TheVariants.{Init, Read}}}
+use Rattle.vb_model.specs.declared.calls.{Call.TheVariants.{Scribble, Write}, Claim.Claim}
+use Rattle.vb_model.specs.declared.calls.Claim.TheVariants.{Gave, GaveNoFrame, GaveNoMemory}
 use Rattle.vb_model.specs.declared.replies.Refusal.{Refusal, TheVariants.{NoFrame, NoMemory}}
 use Rattle.vb_model.specs.declared.replies.Reply.{Reply, TheVariants.Refused}
 
@@ -158,6 +155,18 @@ performs_lack : (call : Call) (g : Guest) (claims : List Claim) (reply : Reply) 
     → reply ≡ Refused why → Fails why call g claims new
 performs_lack call g claims reply new why s w e = search arith
 
+-- an honest guest's reply that is such a refusal
+honest_lack : (g : Guest) (call : Call) (claims : List Claim) (why : Refusal) (new : Guest)
+    → HonestStep g call claims (Refused why) new → is_want why ≡ true → Fails why call g claims new
+honest_lack g call claims why new s w =
+    elim (match_cases (refusal_of g call) (Performed call g claims (Refused why) new)
+    (λ refusal. (claims ≡ []) × (Refused why ≡ Refused refusal) × (new ≡ g))
+    (honest_case g call claims (Refused why) new s)) [
+      | inl d ↦ performs_lack call g claims (Refused why) new why d.1 w refl
+      | inr r ↦ no_want (Refused r.0) why
+          (refused_otherwise (causes g call) r.0 (causes_otherwise g call) r.1) w (sym r.2.1)
+    ]
+
 -- the call's claims ended without a frame
 step_lacks : (g : Guest) (call : Call) (claims : List Claim) (new : Guest)
     → GuestStep g call claims (Refused NoFrame) new → claim_refusal claims ≡ Some NoFrame
@@ -165,18 +174,10 @@ step_lacks g call claims new s = cases g.rogue s where
   cases : (b : Bool) → MatchBool b (RogueStep g call claims (Refused NoFrame) new)
       (HonestStep g call claims (Refused NoFrame) new) → claim_refusal claims ≡ Some NoFrame
   cases true r = r.no_frame refl
-  cases false p =
-      elim (match_cases (refusal_of g call) (Performed call g claims (Refused NoFrame) new)
-      (λ refusal. (claims ≡ []) × (Refused NoFrame ≡ Refused refusal) × (new ≡ g)) (honest_case g call claims (Refused NoFrame) new p)) [
-        | inl d ↦ elim (performs_lack call g claims (Refused NoFrame) new NoFrame d.1 refl refl) [
-          | inl lacks ↦ lacks.0
-          | inr read ↦ absurd (let e : NoFrame ≡ NoMemory = read.1 in cc)
-        ]
-        | inr r ↦ absurd (let told : Refused NoFrame ≡ Refused r.0 = r.2.1 in
-            let f : is_want r.0 ≡ false =
-            refused_otherwise (causes g call) r.0 (causes_otherwise g call) r.1 in
-            let t : wants (Refused NoFrame) ≡ false = ap wants told ∙ f in cc)
-      ]
+  cases false p = elim (honest_lack g call claims NoFrame new p refl) [
+    | inl lacks ↦ lacks.0
+    | inr read ↦ absurd (let e : NoFrame ≡ NoMemory = read.1 in cc)
+  ]
 
 pub no_frame_exact : NoFrameIsExact
 no_frame_exact w v n call g here s = grind (arith, step_lacks, claims_needed, want)
@@ -193,24 +194,7 @@ no_memory_exact g call claims new s = cases g.rogue s where
       → after_refused c NoMemory claims g ≡ g
   left (Init wanted) (inl e) = unsupplied (g.status == 0) (claim_refusal claims) NoMemory g _ e
   left (Init wanted) (inr e) = absurd cc
-  left (Write page offset bytes) e = refl
-  left (Scribble page offset bytes) e = refl
-  left (SetTarget n) e = refl
-  left Reset e = refl
-  left (Alloc cpu order) e = refl
-  left (Free cpu start order) e = refl
-  left (Read page offset len) e = refl
-  left (Inflate n) e = refl
-  left (Deflate n) e = refl
-  left (Oom n) e = refl
-  left (Report from) e = refl
-  left Stats e = refl
-  left (Reap q) e = refl
-  left (Take q) e = refl
-  left Work e = refl
-  left (Finish q i) e = refl
-  left (Sweep page) e = refl
-  left Ask e = refl
+  left c e = refl
 
   caused : (claim_refusal claims ≡ Some NoMemory)
       ⊎ ((page : ℕ) × (offset : ℕ) × (len : ℕ) × (call ≡ Read page offset len))
@@ -223,15 +207,7 @@ no_memory_exact g call claims new s = cases g.rogue s where
       → ((claim_refusal claims ≡ Some NoMemory) ⊎ (is_read call ≡ true)) × (new ≡ g)
   cases true r = let by_cause = caused (r.no_memory refl) in
       (by_cause, r.refused NoMemory refl ∙ left call by_cause)
-  cases false p =
-      elim (match_cases (refusal_of g call) (Performed call g claims (Refused NoMemory) new)
-      (λ refusal. (claims ≡ []) × (Refused NoMemory ≡ Refused refusal) × (new ≡ g)) (honest_case g call claims (Refused NoMemory) new p)) [
-        | inl d ↦ elim (performs_lack call g claims (Refused NoMemory) new NoMemory d.1 refl refl) [
-          | inl lacks ↦ (inl lacks.0, lacks.1)
-          | inr read ↦ (inr read.0, read.2)
-        ]
-        | inr r ↦ absurd (let told : Refused NoMemory ≡ Refused r.0 = r.2.1 in
-            let f : is_want r.0 ≡ false =
-            refused_otherwise (causes g call) r.0 (causes_otherwise g call) r.1 in
-            let t : wants (Refused NoMemory) ≡ false = ap wants told ∙ f in cc)
-      ]
+  cases false p = elim (honest_lack g call claims NoMemory new p refl) [
+    | inl lacks ↦ (inl lacks.0, lacks.1)
+    | inr read ↦ (inr read.0, read.2)
+  ]

@@ -1,14 +1,14 @@
 -- Worked facts of the device's calls on requests: take, work, finish and sweep.
-use Rattle.std.proofs.Common.{◌≡◌, ℕ, ◌+◌, true, false, List, [], ◌∷◌, ◌++◌, map, replicate, refl}
-use Rattle.std.{specs.Prelude.{Bool, Option, Some, None, drop}, specs.List.range_with_len}
-use Rattle.vb_model.proofs.Samples.{config, ready, down, without_reporting, request}
-use Rattle.vb_model.specs.{Guest.{Guest, zero_page}, Refusals.{refusal_of, first_refusal, causes}}
-use Rattle.vb_model.specs.{Requests.{Request, Requests}, Step.{Performs, HonestStep}}
-use Rattle.vb_model.specs.declared.calls.Call.{Call, TheVariants.{Take, Work, Finish, Sweep}}
-use Rattle.vb_model.specs.declared.replies.Refusal.{Refusal, TheVariants.{NotReady, NoQueue, Busy}}
-use Rattle.vb_model.specs.declared.replies.Refusal.TheVariants.{NotTaken, NotWorked, NotBallooned}
-use Rattle.vb_model.specs.declared.replies.Reply.TheVariants.{Taken, Empty, Worked, Idle, Finished}
-use Rattle.vb_model.specs.declared.replies.Reply.TheVariants.{Swept}
+use Rattle.std.proofs.Common.{List, [], false, map, refl, replicate, true, ℕ, ◌++◌, ◌+◌, ◌∷◌, ◌≡◌}
+use Rattle.std.specs.{List.range_with_len, Prelude.{Bool, None, Option, Some, drop}}
+use Rattle.vb_model.proofs.Samples.{config, down, ready, request, without_reporting}
+use Rattle.vb_model.specs.{Guest.{Guest, zero_page}, Refusals.{causes, first_refusal, refusal_of}}
+use Rattle.vb_model.specs.{Requests.{Request, Requests}, Step.{HonestStep, Performs}}
+use Rattle.vb_model.specs.declared.calls.Call.{Call, TheVariants.{Finish, Sweep, Take, Work}}
+use Rattle.vb_model.specs.declared.replies.Refusal.{Refusal, TheVariants.{Busy, NoQueue}}
+use Rattle.vb_model.specs.declared.replies.Refusal.TheVariants.{NotBallooned, NotReady, NotTaken}
+use Rattle.vb_model.specs.declared.replies.{Refusal.TheVariants.NotWorked, Reply.TheVariants.Empty}
+use Rattle.vb_model.specs.declared.replies.Reply.TheVariants.{Finished, Idle, Swept, Taken, Worked}
 
 -- ---- a guest with taken requests of all kinds
 
@@ -129,15 +129,14 @@ the_oldest_goes_on : HonestStep (two_waiting 1) Work [] (Worked 17 false) (two_w
 the_oldest_goes_on = (refl, (refl, refl))
 
 -- posted and used requests aren't visited
-only_taken_ones : HonestStep (record ready {
+abbrev none_taken : Guest
+none_taken = record ready {
   inflate =
       record { posted = request 0 (16 ∷ []) 0 ∷ []; taken = []; done = request 1 (17 ∷ []) 0 ∷ [] };
   report = record { posted = request 0 (18 ∷ []) 0 ∷ []; taken = []; done = [] };
-}) Work [] Idle (record ready {
-  inflate =
-      record { posted = request 0 (16 ∷ []) 0 ∷ []; taken = []; done = request 1 (17 ∷ []) 0 ∷ [] };
-  report = record { posted = request 0 (18 ∷ []) 0 ∷ []; taken = []; done = [] };
-})
+}
+
+only_taken_ones : HonestStep none_taken Work [] Idle none_taken
 only_taken_ones = (refl, (refl, refl))
 
 -- an immediate device finds nothing to do
@@ -198,45 +197,22 @@ second_by_its_number : HonestStep (at_once busy) (Finish 0 1) [] (Finished 3)
     })
 second_by_its_number = (refl, (second_inflate 1, refl, refl, refl))
 
--- a paced device has to visit each page of an inflate or a report first, but none of a deflate
-inflate_not_worked : refusal_of busy (Finish 0 1) ≡ Some NotWorked
-inflate_not_worked = refl
-
-inflate_worked : refusal_of after_19 (Finish 0 1) ≡ None
-inflate_worked = refl
-
 abbrev behind_no_queue : Guest → Call → Option Refusal
 behind_no_queue g call = first_refusal (drop 1 (causes g call))
 
-report_not_worked : behind_no_queue after_20 (Finish 4 0) ≡ Some NotWorked
-report_not_worked = refl
+-- a paced device has to visit each page of an inflate or a report first, but none of a deflate; just
+-- taken requests of the queue itself are finished, whatever the features are
+finishes : map (λ (g, call). refusal_of g call) ((busy, Finish 0 1) ∷ (after_19, Finish 0 1)
+    ∷ (busy, Finish 1 0) ∷ (at_once busy, Finish 0 1) ∷ (busy, Finish 0 2) ∷ (busy, Finish 1 1)
+    ∷ (down, Finish 3 0) ∷ (record busy { status = 131 }, Finish 0 1) ∷ []) ≡ Some NotWorked ∷ None
+    ∷ None ∷ None ∷ Some NotTaken ∷ Some NotTaken ∷ Some NoQueue ∷ Some NotReady ∷ []
+finishes = refl
 
-report_worked : behind_no_queue (record after_20 { report = reports 2 }) (Finish 4 0) ≡ None
-report_worked = refl
-
-deflate_needs_no_work : refusal_of busy (Finish 1 0) ≡ None
-deflate_needs_no_work = refl
-
-immediate_needs_no_work : refusal_of (at_once busy) (Finish 0 1)
-    ∷ behind_no_queue (at_once busy) (Finish 4 0) ∷ [] ≡ None ∷ None ∷ []
-immediate_needs_no_work = refl
-
--- just taken requests of the queue itself are finished, whatever the features are
-inflate_not_taken : refusal_of busy (Finish 0 2) ≡ Some NotTaken
-inflate_not_taken = refl
-
-deflate_not_taken : refusal_of busy (Finish 1 1) ≡ Some NotTaken
-deflate_not_taken = refl
-
-report_not_taken : behind_no_queue (record without_reporting { inflate = inflates 1 }) (Finish 4 0)
-    ≡ Some NotTaken
-report_not_taken = refl
-
-no_queue_3 : refusal_of down (Finish 3 0) ≡ Some NoQueue
-no_queue_3 = refl
-
-finish_not_ready : refusal_of (record busy { status = 131 }) (Finish 0 1) ≡ Some NotReady
-finish_not_ready = refl
+finishes_of_reports : map (λ g. behind_no_queue g (Finish 4 0)) (after_20
+    ∷ record after_20 { report = reports 2 } ∷ at_once busy
+    ∷ record without_reporting { inflate = inflates 1 } ∷ []) ≡ Some NotWorked ∷ None ∷ None
+    ∷ Some NotTaken ∷ []
+finishes_of_reports = refl
 
 -- ---- take
 
@@ -285,20 +261,13 @@ abbrev many : ℕ → Requests
 many n = record two_posted
     { taken = map (λ head. request head ((16 + head) ∷ []) 0) (range_with_len 0 n) }
 
-sixteen_inflates : refusal_of (record ready { inflate = many 16 }) (Take 0)
-    ∷ refusal_of (record ready { inflate = many 15; deflate = many 16; report = many 16 }) (Take 0)
-    ∷ [] ≡ Some Busy ∷ None ∷ []
-sixteen_inflates = refl
-
-sixteen_deflates : refusal_of (record ready { deflate = many 16 }) (Take 1)
-    ∷ refusal_of (record ready { inflate = many 16; deflate = many 15; report = many 16 }) (Take 1)
-    ∷ [] ≡ Some Busy ∷ None ∷ []
-sixteen_deflates = refl
-
-sixteen_reports : behind_no_queue (record ready { report = many 16 }) (Take 4)
-    ∷ behind_no_queue (record ready { inflate = many 16; deflate = many 16; report = many 15 })
-    (Take 4) ∷ [] ≡ Some Busy ∷ None ∷ []
-sixteen_reports = refl
+sixteen_taken : map (λ (g, call). behind_no_queue g call) ((record ready { inflate = many 16 }, Take 0)
+    ∷ (record ready { deflate = many 16 }, Take 1) ∷ (record ready { report = many 16 }, Take 4)
+    ∷ (record ready { inflate = many 15; deflate = many 16; report = many 16 }, Take 0)
+    ∷ (record ready { inflate = many 16; deflate = many 15; report = many 16 }, Take 1)
+    ∷ (record ready { inflate = many 16; deflate = many 16; report = many 15 }, Take 4) ∷ [])
+    ≡ replicate 3 (Some Busy) ++ replicate 3 None
+sixteen_taken = refl
 
 -- queue 4 isn't there without REPORTING, once the guest is ready
 take_without_reporting : behind_no_queue (record without_reporting { report = many 16 }) (Take 4)
@@ -319,7 +288,6 @@ swept_freed = (refl, (refl, refl))
 swept_bare : HonestStep busy (Sweep 24) [] (Swept false) busy
 swept_bare = (refl, (refl, refl))
 
-not_swept : refusal_of busy (Sweep 19) ∷ refusal_of busy (Sweep 64)
-    ∷ refusal_of (record busy { status = 0 }) (Sweep 19) ∷ [] ≡ Some NotBallooned
-    ∷ Some NotBallooned ∷ Some NotReady ∷ []
+not_swept : refusal_of (record busy { status = 0 }) (Sweep 19)
+    ∷ map (refusal_of busy) (Sweep 19 ∷ Sweep 64 ∷ []) ≡ Some NotReady ∷ replicate 2 (Some NotBallooned)
 not_swept = refl
