@@ -1,7 +1,6 @@
-/* A balloon device over guest memory that lies in regions with holes between them.
- * The library behind vb.h decides which access is made, where, in which order, and what it means. This file obeys it, and is
- * all that touches guest memory: it tests no bound and makes no sum, since each number comes from the library. What a monitor
- * calls is in balloon_calls.h, included at the end. Include this file first, or define _GNU_SOURCE. */
+/* A balloon device over guest memory that lies in regions with holes. The library behind vb.h decides which access is made, where,
+ * in which order, and what it means. This file obeys it, and is all that touches guest memory: it tests no bound and makes no sum,
+ * since numbers come from the library. A monitor calls balloon_calls.h. Include this file first, or define _GNU_SOURCE. */
 #ifndef BALLOON_H
 #define BALLOON_H
 #ifndef _GNU_SOURCE
@@ -21,11 +20,9 @@
 #define BALLOON_MOST_REGIONS 64         /* regions that a balloon has at most */
 #endif
 
-enum {
-    BALLOON_PAGE = 4096,
-    BALLOON_PRIVATE = -1,       /* in place of a file: private anonymous memory */
-    BALLOON_SHARED = -2,        /* shared anonymous memory, or a file that the monitor has no descriptor of */
-};
+enum { BALLOON_PAGE = 4096 };
+/* In place of a file: private anonymous memory; shared anonymous memory, or a file that the monitor has no descriptor of. */
+enum { BALLOON_PRIVATE = -1, BALLOON_SHARED = -2 };
 
 /* Guest memory from one address on, mapped at `host`: whole pages. No two overlap; their order is free. */
 struct balloon_region {
@@ -41,7 +38,6 @@ struct balloon {
     const struct balloon_region *regions;   /* the monitor's; they stay while the balloon uses them */
     size_t region_count;
     VbRegion places[BALLOON_MOST_REGIONS];  /* the same, as the library sees them */
-
     /* What a monitor may set after balloon_init; each hook may be NULL. They get `context`. */
     uint32_t most_chains, most_pages;   /* a notice begins no further chain after so many chains, or so many pages */
     void *context;
@@ -51,12 +47,10 @@ struct balloon {
     void (*on_statistics)(void *context, const VbStatistic *figures, uint32_t count);
     /* Discards bytes of a region, whole pages of its page_size, in place of balloon_discard_bytes; 0 or an errno. */
     int (*discard)(void *context, const struct balloon_region *region, uint64_t at, uint64_t length);
-
     /* The set of the pages in the balloon, or NULL: words of the monitor's, zeros at first (vb_mark). A page is put in before
      * it is discarded, and taken out before its chain is given back. A reset empties it. Save and restore it beside `state`. */
     uint64_t *ballooned;
     size_t ballooned_words;     /* for all pages: memory_end / 4096 / 64, rounded up */
-
     VbNotice notice;            /* what is to be done */
     VbRoom room;                /* the private copies, and what the library makes of them */
 };
@@ -64,24 +58,20 @@ struct balloon {
 /* What happened, and what the monitor has to do. */
 struct balloon_result {
     uint32_t code;              /* VB_OK: something was served; VB_NOTHING; or why the last chain wasn't served */
-    uint32_t rule;              /* of VB_BROKEN */
-    uint32_t chains;            /* served */
+    uint32_t rule, chains;      /* of VB_BROKEN; how many were served */
     uint32_t interrupts;        /* bit 1 << kind: interrupt for a used buffer of this queue */
     bool configuration;         /* tell of a change of configuration: the device needs a reset */
     bool more;                  /* as much was served as a notice may, and more stands there: call again, later */
-    uint64_t pages;             /* named by inflates, deflates and reports */
-    uint64_t discarded;         /* of these, discarded */
+    uint64_t pages, discarded;  /* named by inflates, deflates and reports; of these, discarded */
     uint64_t waiting;           /* of these, pages whose large page wasn't given up whole yet (vb_large_pages) */
     uint64_t skipped;           /* numbers past the end or of reserved pages */
-    uint64_t marked;            /* pages put into the set of ballooned pages, or taken out of it */
-    uint64_t unmarked;          /* pages of requests that the set hasn't enough words for: it is as before them */
-    uint64_t in_holes;          /* pages to discard that lie in no region */
-    uint64_t kept;              /* not discarded, by `error`, or since reports keep what is in them (vb_keeps_reports) */
+    uint64_t marked, unmarked;  /* pages put into the set of ballooned pages, or taken out; those that it hasn't words for */
+    uint64_t in_holes, kept;    /* in no region; not discarded, by `error`, or since reports keep their bytes (vb_keeps_reports) */
     int error;
 };
 
-typedef uint64_t __attribute__((may_alias, aligned(1))) balloon_word64;     /* anywhere */
-typedef uint32_t __attribute__((may_alias)) balloon_word32;
+typedef uint64_t __attribute__((may_alias, aligned(1))) balloon_word64;     /* anywhere, as the next one */
+typedef uint32_t __attribute__((may_alias, aligned(1))) balloon_word32;
 typedef uint16_t __attribute__((may_alias)) balloon_word16;
 
 /* Where a spot stands here. */
@@ -93,8 +83,15 @@ static inline uint8_t *balloon_at(const struct balloon *balloon, VbSpot spot)
 /* Copies bytes that others may write meanwhile: each is read once. */
 static inline void balloon_read_once(uint8_t *to, const uint8_t *from, size_t length)
 {
+    if (length == 16) {         /* a descriptor */
+        ((balloon_word64 *)to)[0] = ((const volatile balloon_word64 *)from)[0];
+        ((balloon_word64 *)to)[1] = ((const volatile balloon_word64 *)from)[1];
+        return;
+    }
     for (; length >= 8; length -= 8, from += 8, to += 8)
         *(balloon_word64 *)to = *(const volatile balloon_word64 *)from;
+    for (; length >= 4; length -= 4, from += 4, to += 4)
+        *(balloon_word32 *)to = *(const volatile balloon_word32 *)from;
     for (; length > 0; length--)
         *to++ = *(const volatile uint8_t *)from++;
 }
@@ -102,30 +99,32 @@ static inline void balloon_read_once(uint8_t *to, const uint8_t *from, size_t le
 /* Gives bytes back to the machine: they read as zeros then (as the file's where a private mapping has one). 0 or an errno. */
 static inline int balloon_drop(const struct balloon_region *region, const VbCut *cut)
 {
-    int status;
-    if (region->fd < 0) {
-        int advice = region->fd == BALLOON_SHARED ? MADV_REMOVE : MADV_DONTNEED;
+    int status, advice = region->fd == BALLOON_SHARED ? MADV_REMOVE : MADV_DONTNEED;
+    if (region->fd < 0)
         return madvise(region->host + cut->offset, cut->length, advice) ? errno : 0;
-    }
     do
         status = fallocate(region->fd, FALLOC_FL_PUNCH_HOLE | FALLOC_FL_KEEP_SIZE, (off_t)cut->in_file, (off_t)cut->length);
     while (status != 0 && errno == EINTR);
     return status ? errno : 0;
 }
 
-/* Discards a part; where the machine's pages are large, those that are given up whole. */
+/* Discards a part; where the machine's pages are large, those that are given up whole, and the others wait. */
 static inline void balloon_discard(const struct balloon *balloon, const VbCut *part, struct balloon_result *result)
 {
     const struct balloon_region *region = &balloon->regions[part->region];
-    VbLarge large = { *part, 0 };
-    if (region->page_size)
+    uint64_t pages = part->length / BALLOON_PAGE;
+    VbLarge large;
+    if (region->page_size) {
         large = vb_large_pages(&balloon->state.device, &balloon->places[part->region], region->page_size, part,
                                balloon->ballooned, balloon->ballooned ? balloon->ballooned_words : 0);
-    int error = large.cut.length == 0 ? 0
-              : balloon->discard      ? balloon->discard(balloon->context, region, large.cut.offset, large.cut.length)
-                                      : balloon_drop(region, &large.cut);
-    result->waiting += large.waiting;
-    *(error ? &result->kept : &result->discarded) += part->length / BALLOON_PAGE - large.waiting;
+        result->waiting += large.waiting;
+        if (large.cut.length == 0)
+            return;
+        pages -= large.waiting;
+        part = &large.cut;
+    }
+    int error = balloon->discard ? balloon->discard(balloon->context, region, part->offset, part->length) : balloon_drop(region, part);
+    *(error ? &result->kept : &result->discarded) += pages;
     result->error = error ? error : result->error;
 }
 
@@ -158,13 +157,13 @@ static inline void balloon_give_back(const struct balloon *balloon)
 /* Tells, discards and gives back. */
 static inline void balloon_serve(struct balloon *balloon, uint32_t what, struct balloon_result *result)
 {
-    const VbNotice *notice = &balloon->notice;
     if (what & VB_TELL_PAGES)
         balloon_tell_pages(balloon, result);
     if (what & VB_TELL_FIGURES && balloon->on_statistics)
-        balloon->on_statistics(balloon->context, balloon->room.figures, notice->figures);
-    for (uint32_t i = 0; what & VB_DISCARD && i < notice->cuts; i++)
-        balloon_discard(balloon, &balloon->room.cuts[i], result);
+        balloon->on_statistics(balloon->context, balloon->room.figures, balloon->notice.figures);
+    const VbCut *part = balloon->room.cuts;
+    for (uint32_t i = 0; what & VB_DISCARD && i < balloon->notice.cuts; i++, part++)
+        balloon_discard(balloon, part, result);
     if (what & VB_GIVE_BACK)
         balloon_give_back(balloon);
     result->chains += (what & (VB_TELL_FIGURES | VB_GIVE_BACK)) != 0;
@@ -175,14 +174,16 @@ static inline uint16_t balloon_perform(struct balloon *balloon, uint32_t what, s
 {
     const VbNotice *notice = &balloon->notice;
     uint16_t answer = 0;
-    if (what & (VB_TELL_PAGES | VB_TELL_FIGURES | VB_DISCARD | VB_GIVE_BACK))
-        balloon_serve(balloon, what, result);
-    if (what & VB_ACQUIRE)
-        __atomic_thread_fence(__ATOMIC_ACQUIRE);
-    if (what & VB_FULL_FENCE)
-        __atomic_thread_fence(__ATOMIC_SEQ_CST);
-    if (what & VB_READ)
-        answer = le16toh(*(const volatile balloon_word16 *)balloon_at(balloon, notice->at));
+    if (what != VB_COPY) {
+        if (what & (VB_TELL_PAGES | VB_TELL_FIGURES | VB_DISCARD | VB_GIVE_BACK))
+            balloon_serve(balloon, what, result);
+        if (what & VB_ACQUIRE)
+            __atomic_thread_fence(__ATOMIC_ACQUIRE);
+        if (what & VB_FULL_FENCE)
+            __atomic_thread_fence(__ATOMIC_SEQ_CST);
+        if (what & VB_READ)
+            answer = le16toh(*(const volatile balloon_word16 *)balloon_at(balloon, notice->at));
+    }
     if (what & VB_COPY)
         balloon_read_once(balloon->room.bytes + notice->into, balloon_at(balloon, notice->at), notice->length);
     return answer;
@@ -191,10 +192,9 @@ static inline uint16_t balloon_perform(struct balloon *balloon, uint32_t what, s
 /* Obeys until the notice has ended. */
 static inline void balloon_obey(struct balloon *balloon, struct balloon_result *result)
 {
-    for (uint32_t what = balloon->notice.what; what;) {
-        uint16_t answer = balloon_perform(balloon, what, result);
-        what = vb_go_on(&balloon->notice, &balloon->state, balloon->places, balloon->region_count, &balloon->room, answer);
-    }
+    for (uint32_t what = balloon->notice.what; what;)
+        what = vb_go_on(&balloon->notice, &balloon->state, balloon->places, balloon->region_count, &balloon->room,
+                        balloon_perform(balloon, what, result));
 }
 #include "balloon_calls.h"
 #endif

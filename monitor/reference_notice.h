@@ -339,11 +339,12 @@ static uint32_t grouped(const Call *call)
     while (GROUPS && notice->what && !(notice->what & (VB_READ | VB_COPY))) {
         VbBalloon balloon = *call->balloon;
         VbCut cuts[VB_MAX_CUTS];
-        memcpy(cuts, call->room->cuts, sizeof cuts);
+        size_t kept = notice->cuts <= VB_MAX_CUTS ? notice->cuts * sizeof cuts[0] : 0;
+        memcpy(cuts, call->room->cuts, kept);
         before = *notice;
         uint32_t next = step(call, 0);
         if (next <= before.what) {
-            memcpy(call->room->cuts, cuts, sizeof cuts);
+            memcpy(call->room->cuts, cuts, kept);
             *call->balloon = balloon;
             *notice = before;
             break;

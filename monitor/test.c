@@ -812,6 +812,40 @@ static void reports_are_discarded(void)
     free_memory(&guest);
 }
 
+enum { SLICES = 16, SLICE = LOW_MIB * MIB / SLICES };     /* the low memory as so many regions */
+
+/* Counts bytes of slices that are discarded, each whole, one behind the other and from the first one again. */
+static int discard_slice(void *context, const struct balloon_region *region, uint64_t at, uint64_t length)
+{
+    uint64_t *calls = context;
+    EXPECT(region->guest == *calls % SLICES * SLICE && at == 0 && length == SLICE);
+    ++*calls;
+    return 0;
+}
+
+/* A report of more parts than are discarded at once: each of its blocks has pages of all slices. */
+static void a_report_of_many_parts(void)
+{
+    static struct guest guest;
+    struct balloon_region slices[SLICES + 1];
+    uint64_t calls = 0;
+    start(&guest, 0, REFUSES, LINUX_FEATURES, 32);
+    for (size_t i = 0; i < SLICES; i++)
+        slices[i] = (struct balloon_region){ i * SLICE, SLICE, guest.regions[0].host + i * SLICE, guest.regions[0].fd, i * SLICE, 0 };
+    slices[SLICES] = guest.regions[1];
+    EXPECT(balloon_set_regions(&guest.balloon, slices, SLICES + 1) == VB_OK);
+    guest.balloon.context = &calls;
+    guest.balloon.discard = discard_slice;
+    for (uint16_t i = 0; i < 32; i++)
+        describe(&guest, VB_REPORT, i, 0, LOW_MIB * MIB, WRITE | (i < 31 ? NEXT : 0), i + 1);
+    publish(&guest, VB_REPORT, 0);
+    struct balloon_result result = balloon_notify(&guest.balloon, VB_REPORT);
+    EXPECT(calls == 32 * SLICES && calls > VB_MAX_CUTS && result.discarded == 32 * LOW_MIB * MIB / 4096);
+    EXPECT(result.code == VB_OK && result.pages == result.discarded && result.chains == 1 && used_index(&guest, VB_REPORT) == 1);
+    EXPECT(balloon_set_regions(&guest.balloon, guest.regions, 2) == VB_OK);
+    free_memory(&guest);
+}
+
 /* What a driver that poisons its free pages reports is told and given back, and keeps its bytes; but not what it inflates,
  * nor where its free pages hold zeros (init_on_free), nor where it didn't negotiate PAGE_POISON. */
 static void reports_keep_their_bytes(uint32_t poison, uint64_t features, bool kept)
@@ -1166,6 +1200,7 @@ int main(void)
     RUN(statistics_come());
     RUN(one_buffer_is_held());
     RUN(reports_are_discarded());
+    RUN(a_report_of_many_parts());
     RUN(reports_keep_their_bytes(0xaaaaaaaa, LINUX_FEATURES | VB_F_PAGE_POISON, true));
     RUN(reports_keep_their_bytes(1 << 24, LINUX_FEATURES | VB_F_PAGE_POISON, true));
     RUN(reports_keep_their_bytes(0, LINUX_FEATURES | VB_F_PAGE_POISON, false));

@@ -49,7 +49,7 @@ enum {                          /* kinds of queues, whatever their numbers are *
  * 6 out of memory, 7 available index jumps, 8 bad length, 9 bad page, 10 reserved page. */
 
 enum { VB_MAX_QUEUE_SIZE = 256, VB_MAX_PIECES = 256, VB_MAX_RUNS = 256, VB_MAX_BYTES = 1024, VB_MAX_FIGURES = 102,
-       VB_MAX_CUTS = 32, VB_STATE_BYTES = 191 };
+       VB_MAX_CUTS = 256, VB_STATE_BYTES = 191 };
 enum { VB_F_PAGE_POISON = 16 };    /* a feature: the driver says in poison_val what its free pages hold (VIRTIO 1.2, 5.5.3) */
 
 typedef struct {
@@ -188,7 +188,7 @@ VB_ASSERT(sizeof(VbNotice) == 192 && offsetof(VbNotice, at) == 8 && offsetof(VbN
           && offsetof(VbNotice, number) == 120 && offsetof(VbNotice, in_file) == 136
           && offsetof(VbNotice, code) == 152 && offsetof(VbNotice, chains_left) == 172
           && offsetof(VbNotice, given) == 186 && offsetof(VbNotice, phase) == 189);
-VB_ASSERT(sizeof(VbRoom) == 9824 && offsetof(VbRoom, bytes) == 4096 && offsetof(VbRoom, runs) == 5120
+VB_ASSERT(sizeof(VbRoom) == 16992 && offsetof(VbRoom, bytes) == 4096 && offsetof(VbRoom, runs) == 5120
           && offsetof(VbRoom, figures) == 7168 && offsetof(VbRoom, cuts) == 8800);
 
 /* The version of the library, as VB_VERSION_NUMBER. */

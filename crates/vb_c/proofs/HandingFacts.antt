@@ -84,12 +84,12 @@ left = record shown { what = 0; phase = 6 }
 left_with_room : (n : Notice) (b1 b2 : Balloon) → HandsOver n two [] b1 b2 [] left → ⊥
 left_with_room n b1 b2 h =
     let at : Same 1 (stage h.notice.step.phase) = ap stage_in h.is.read in
-    let e : Same 0 32 = h.fills.full (sym at) in
+    let e : Same 0 256 = h.fills.full (sym at) in
     omega arith
 
 -- one part more than the list has
 too_many_parts : (n : Notice) (b1 b2 : Balloon) →
-    HandsOver n two [] b1 b2 [] (record shown { what = 68; orders = record none_asked { cuts = 33 } }) → ⊥
+    HandsOver n two [] b1 b2 [] (record shown { what = 68; orders = record none_asked { cuts = 257 } }) → ⊥
 too_many_parts n b1 b2 h = let e = h.room.cuts in omega (arith, e)
 
 -- what is of no kind is no notice
@@ -115,7 +115,7 @@ refused_and_forgotten r1 r2 c h = let e : Same 0 4 = ap (λ (b : Balloon). b.hel
 -- ---- where nothing is asked for, it has ended
 
 abbrev Full : Phase → ℕ → Type 0
-Full p cuts = stage p ≡ 1 → cuts ≡ 32
+Full p cuts = stage p ≡ 1 → cuts ≡ 256
 
 ended_by : (p : Phase) (a : Asked) (cuts : ℕ) → waits p ≡ true → Full p cuts →
     what_of a cuts p ≡ 0 → is_ended p ≡ true
@@ -126,7 +126,7 @@ ended_by (AwaitsDescriptor at walk) a cuts w f e = absurd (omega (arith, e))
 ended_by (AwaitsPart at place) a cuts w f e = absurd (omega (arith, e))
 ended_by (AwaitsFlags at why more) a cuts w f e = absurd (omega (arith, e))
 ended_by (Discards cut x) a cuts w f e =
-    let some : asked_bits a 32 + 0 ≡ 0 = ap (λ (n : ℕ). asked_bits a n + 0) (sym (f refl)) ∙ e in
+    let some : asked_bits a 256 + 0 ≡ 0 = ap (λ (n : ℕ). asked_bits a n + 0) (sym (f refl)) ∙ e in
     absurd (omega (arith, some))
 ended_by (TellsPages head named) a cuts w f e = absurd cc
 ended_by (TellsFigures head count) a cuts w f e = absurd cc

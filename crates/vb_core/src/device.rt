@@ -76,16 +76,25 @@ impl Device {
         }
     }
 
+    /// Where the ring of a kind's queue stands.
+    #[inline(always)]
+    fn ring_at(&self, kind: Kind) -> &Virtqueue
+        ensures { result.now ≡ ring_of kind self.now }
+    {
+        match kind {
+            Kind::Inflate => &self.inflate,
+            Kind::Deflate => &self.deflate,
+            Kind::Statistics => &self.statistics,
+            Kind::Report => &self.report,
+        }
+    }
+
     /// The ring of a kind's queue.
+    #[inline(always)]
     pub fn ring(&self, kind: Kind) -> Virtqueue
         ensures { result ≡ ring_of kind self.now }
     {
-        match kind {
-            Kind::Inflate => self.inflate,
-            Kind::Deflate => self.deflate,
-            Kind::Statistics => self.statistics,
-            Kind::Report => self.report,
-        }
+        *self.ring_at(kind)
     }
 
     /// Puts a ring in the place of that of a kind's queue.

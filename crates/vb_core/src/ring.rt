@@ -2,6 +2,7 @@
 
 ghost use Rattle.std.specs.Prelude.{◌≡◌, ◌+◌, ◌*◌, ◌%◌, ◌<◌, ◌≤◌, true};
 ghost use Rattle.vb_core.specs.Rings.{no_ring, is_size, is_part, has_place, used_entry};
+ghost use Rattle.vb_core.specs.Rings.{with_taken, with_used};
 
 use vb_ring::{MAX_QUEUE_SIZE, MIN_QUEUE_SIZE};
 
@@ -94,6 +95,22 @@ impl Virtqueue {
             && is_part(end, self.table, 16, 16 * size)
             && is_part(end, self.avail, 2, 6 + 2 * size)
             && is_part(end, self.used, 4, 6 + 8 * size)
+    }
+
+    /// Counts the next chain as taken.
+    #[inline(always)]
+    pub(crate) fn count_taken(&mut self)
+        ensures { self.new ≡ with_taken self.old }
+    {
+        self.next_avail = self.next_avail.wrapping_add(1);
+    }
+
+    /// Counts one more used entry.
+    #[inline(always)]
+    pub(crate) fn count_used(&mut self)
+        ensures { self.new ≡ with_used self.old }
+    {
+        self.next_used = self.next_used.wrapping_add(1);
     }
 
     /// What is to be written for a chain of this head that is used next, with length 0, in a ring

@@ -13,9 +13,12 @@ impl Device {
     pub(crate) fn count_taken(&mut self, kind: Kind)
         ensures { self.new ≡ with_one_taken kind self.old }
     {
-        let mut ring = self.ring(kind);
-        ring.next_avail = ring.next_avail.wrapping_add(1);
-        self.set_ring(kind, ring);
+        match kind {
+            Kind::Inflate => self.inflate.count_taken(),
+            Kind::Deflate => self.deflate.count_taken(),
+            Kind::Statistics => self.statistics.count_taken(),
+            Kind::Report => self.report.count_taken(),
+        }
     }
 
     /// What is to be written for a chain of this head that is used next, of a queue that has its
@@ -31,9 +34,12 @@ impl Device {
     pub fn count_used(&mut self, kind: Kind)
         ensures { self.new ≡ with_ring kind (with_used (ring_of kind self.old)) self.old }
     {
-        let mut ring = self.ring(kind);
-        ring.next_used = ring.next_used.wrapping_add(1);
-        self.set_ring(kind, ring);
+        match kind {
+            Kind::Inflate => self.inflate.count_used(),
+            Kind::Deflate => self.deflate.count_used(),
+            Kind::Statistics => self.statistics.count_used(),
+            Kind::Report => self.report.count_used(),
+        }
     }
 
     /// Gives a taken chain back (VIRTIO 1.1, 2.6.8): what is to be written where, the element

@@ -92,7 +92,7 @@ not_already e = grind arith
 waits_for_room : waits discards ≡ true
 waits_for_room = refl
 
--- ---- there is room: 256 runs, 102 figures, 32 parts
+-- ---- there is room: 256 runs, 102 figures, 256 parts
 
 abbrev by_pages : Asked
 by_pages = record { told = Pages; gives = true }
@@ -109,22 +109,22 @@ as_many_runs = record { runs = λ e. omega arith; figures = λ e. cc; cuts = ome
 one_run_more : HasRoom by_pages (naming 257) → ⊥
 one_run_more h = let few : 257 ≤ 256 = h.runs refl in omega (arith, few)
 
-as_many_figures : HasRoom by_figures (record orders { figures = 102; cuts = 32 })
+as_many_figures : HasRoom by_figures (record orders { figures = 102; cuts = 256 })
 as_many_figures = record { runs = λ e. cc; figures = λ e. omega arith; cuts = omega arith }
 
 one_figure_more : HasRoom by_figures (record orders { figures = 103 }) → ⊥
 one_figure_more h = let few : 103 ≤ 102 = h.figures refl in omega (arith, few)
 
-one_part_more : HasRoom by_figures (record orders { cuts = 33 }) → ⊥
-one_part_more h = let few : 33 ≤ 32 = h.cuts in omega (arith, few)
+one_part_more : HasRoom by_figures (record orders { cuts = 257 }) → ⊥
+one_part_more h = let few : 257 ≤ 256 = h.cuts in omega (arith, few)
 
 -- ---- none is left while there is room
 
-a_full_list : FillsList discards (record orders { cuts = 32 })
+a_full_list : FillsList discards (record orders { cuts = 256 })
 a_full_list = record { full = λ e. refl }
 
-left_with_room : FillsList discards (record orders { cuts = 31 }) → ⊥
-left_with_room h = let e : 31 ≡ 32 = h.full refl in omega (arith, e)
+left_with_room : FillsList discards (record orders { cuts = 255 }) → ⊥
+left_with_room h = let e : 255 ≡ 256 = h.full refl in omega (arith, e)
 
 none_is_left : FillsList (AwaitsIndex (spot 2)) (record orders { cuts = 0 })
 none_is_left = record { full = λ e. absurd (grind arith) }

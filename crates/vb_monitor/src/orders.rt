@@ -25,7 +25,7 @@ use crate::{Cut, Discarding, Notice, Phase, Region, Step, Tally, UsedSpots};
 use vb_core::{Device, Kind, Named, Run};
 
 /// Parts of runs that are discarded at once, at most.
-pub const MAX_CUTS: usize = 32;
+pub const MAX_CUTS: usize = 256;
 
 /// What is told.
 #[derive(Clone, Copy, Debug)]

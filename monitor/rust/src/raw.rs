@@ -35,7 +35,7 @@ const MAX_PIECES: usize = 256;
 const MAX_RUNS: usize = 256;
 const MAX_BYTES: usize = 1024;
 const MAX_FIGURES: usize = 102;
-const MAX_CUTS: usize = 32;
+const MAX_CUTS: usize = 256;
 
 /// Bytes of a saved state.
 pub const STATE_BYTES: usize = 191;
@@ -252,8 +252,8 @@ layout!(Notice, 192, interrupt at 160, configuration at 164, more at 168);
 
 /// Where the parts of a room begin, in bytes.
 const _: () = {
-    assert!(std::mem::size_of::<Room>() == 9824 && MAX_PIECES * 16 == 4096 && 4096 + MAX_BYTES == 5120);
-    assert!(5120 + MAX_RUNS * 8 == 7168 && 7168 + MAX_FIGURES * 16 == 8800 && 8800 + MAX_CUTS * 32 == 9824);
+    assert!(std::mem::size_of::<Room>() == 16992 && MAX_PIECES * 16 == 4096 && 4096 + MAX_BYTES == 5120);
+    assert!(5120 + MAX_RUNS * 8 == 7168 && 7168 + MAX_FIGURES * 16 == 8800 && 8800 + MAX_CUTS * 32 == 16992);
 };
 
 extern "C" {
