@@ -1,11 +1,12 @@
 -- Worked facts of needs and targets.
-use Rattle.std.proofs.Common.{◌≡◌, ℕ, ◌≤◌, true, List, [], ◌∷◌, map, replicate, refl, inl, arith}
-use Rattle.std.specs.Prelude.{Option, Some, None, sum}
-use Rattle.vb_model.{specs.declared.calls.Event.TheVariants.Balance, specs.Guest.Guest}
-use Rattle.vb_model.{specs.declared.replies.Refusal.TheVariants.Short, specs.World.World}
-use Rattle.vb_model.specs.declared.replies.Reply.TheVariants.{Targets, Refused}
-use Rattle.vb_model.specs.Balance.{Need, AreTargets, spare, need, missing, shortage}
-use Rattle.vb_model.{specs.HostEvents.{WorldStep, needs}, proofs.Samples.{config, ready}}
+use Rattle.std.proofs.Common.{List, [], arith, inl, map, refl, replicate, true, ℕ, ◌∷◌, ◌≡◌, ◌≤◌}
+use Rattle.std.specs.Prelude.{None, Option, Some, sum}
+use Rattle.vb_model.{proofs.Samples.{config, differ, ready}, specs.Balance.{AreTargets, Need}}
+use Rattle.vb_model.specs.{Balance.{missing, need, shortage, spare}, Guest.Guest}
+use Rattle.vb_model.specs.{HostEvents.{WorldStep, needs}, World.World}
+use Rattle.vb_model.specs.declared.calls.Event.TheVariants.{Balance}
+use Rattle.vb_model.specs.declared.replies.{Refusal.TheVariants.Short, Reply.TheVariants.Refused}
+use Rattle.vb_model.specs.declared.replies.Reply.TheVariants.{Targets}
 
 -- ---- what a guest of 64 pages can spare: min(48, ballooned + (free - floor))
 
@@ -25,19 +26,13 @@ with_ballooned_pages : map (λ floor. spare floor (known 4 (Some 180224)))
     (0 ∷ 16 ∷ 40 ∷ 44 ∷ 45 ∷ 1000 ∷ []) ≡ 48 ∷ 32 ∷ 8 ∷ 4 ∷ 4 ∷ 4 ∷ []
 with_ballooned_pages = refl
 
--- never more than the unreserved pages, however many are said to be free
-at_most_all_unreserved : spare 0 (known 10 (Some 196608))
-    ∷ spare 16 (known 0 (Some 18446744073709551615)) ∷ spare 0 (known 64 None) ∷ [] ≡ 48 ∷ 48 ∷ 48
-    ∷ []
+-- never more than the unreserved pages, however many are said to be free; of a larger guest more.
+-- Where nothing is known, just the ballooned pages
+at_most_all_unreserved : map (λ (floor, g). spare floor g) ((0, known 10 (Some 196608))
+    ∷ (16, known 0 (Some 18446744073709551615)) ∷ (0, known 64 None)
+    ∷ (16, record (known 4 (Some 458752)) { config = record config { pages = 128 } })
+    ∷ (0, known 4 None) ∷ (16, known 4 None) ∷ []) ≡ 48 ∷ 48 ∷ 48 ∷ 100 ∷ 4 ∷ 4 ∷ []
 at_most_all_unreserved = refl
-
-of_a_larger_guest : spare 16
-    (record (known 4 (Some 458752)) { config = record config { pages = 128 } }) ≡ 100
-of_a_larger_guest = refl
-
--- nothing is known: just the ballooned pages
-unknown : map (λ floor. spare floor (known 4 None)) (0 ∷ 16 ∷ []) ≡ 4 ∷ 4 ∷ []
-unknown = refl
 
 -- bytes are counted in whole pages
 whole_pages : map (λ free. spare 0 (known 0 (Some free))) (4095 ∷ 4096 ∷ 12287 ∷ 12288 ∷ []) ≡ 0 ∷ 1
@@ -90,32 +85,20 @@ both_give = grind arith
 second_alone : TargetsAre (needs_of 30 40) 100 0 28
 second_alone = grind arith
 
-abbrev Same : ℕ → ℕ → Type 0
-Same a b = a ≡ b
-
--- not the one that can spare less, nor half of each
-not_the_second : TargetsAre (needs_of 40 30) 100 0 28 → ⊥
-not_the_second t = let e : Same 0 40 =
-    t.in_order 1 0 (omega arith) (omega arith) (omega arith) (inl (omega arith)) in omega arith
-
-not_evenly : TargetsAre (needs_of 40 30) 100 14 14 → ⊥
-not_evenly t = let e : Same 14 40 =
-    t.in_order 1 0 (omega arith) (omega arith) (omega arith) (inl (omega arith)) in omega arith
-
--- no more than its spare, and no less than what is missing
-not_beyond_its_spare : TargetsAre (needs_of 40 30) 60 41 27 → ⊥
-not_beyond_its_spare t = let l : 41 ≤ 40 = t.within 0 (omega arith) in absurd (omega arith)
-
-not_too_little : TargetsAre (needs_of 40 30) 100 27 0 → ⊥
-not_too_little t = let e : Same 27 28 = t.enough in omega arith
-
--- nor more
-not_too_much : TargetsAre (needs_of 40 30) 100 29 0 → ⊥
-not_too_much t = let e : Same 29 28 = t.enough in omega arith
-
--- a target for each guest
-not_one_alone : AreTargets (needs_of 40 30) 100 (28 ∷ []) → ⊥
-not_one_alone t = let e : Same 1 2 = t.one_each in omega arith
+-- Not the one that can spare less, nor half of each; no more than its spare, no less than what is
+-- missing, and no more; and a target for each guest.
+other_targets : (TargetsAre (needs_of 40 30) 100 0 28 → ⊥)
+    × (TargetsAre (needs_of 40 30) 100 14 14 → ⊥) × (TargetsAre (needs_of 40 30) 60 41 27 → ⊥)
+    × (TargetsAre (needs_of 40 30) 100 27 0 → ⊥) × (TargetsAre (needs_of 40 30) 100 29 0 → ⊥)
+    × (AreTargets (needs_of 40 30) 100 (28 ∷ []) → ⊥)
+other_targets = (
+  λ t. differ 0 40 refl (t.in_order 1 0 (omega arith) (omega arith) (omega arith) (inl (omega arith))),
+  λ t. differ 14 40 refl (t.in_order 1 0 (omega arith) (omega arith) (omega arith) (inl (omega arith))),
+  λ t. omega (arith, t.within 0 (omega arith)),
+  λ t. differ 27 28 refl t.enough,
+  λ t. differ 29 28 refl t.enough,
+  λ t. differ 1 2 refl t.one_each,
+)
 
 -- where two can spare as much the lower number gives first
 lower_number_gives : TargetsAre (needs_of 30 30) 100 28 0

@@ -1,23 +1,23 @@
 -- Worked facts of the words in which the laws over single steps are stated.
-use Rattle.std.proofs.Common.{◌≡◌, ℕ, ◌<◌, List, [], ◌∷◌, ◌++◌, true, false, map, replicate, refl}
-use Rattle.std.{proofs.Common.{ap, ◌⊎◌, inl, inr, length, arith}, specs.List.range_with_len}
-use Rattle.std.specs.Prelude.{Bool, Option, Some, None, unwrap_or, IsTrue}
-use Rattle.vb_model.specs.declared.calls.Call.TheVariants.{Init, Reset, Read, Write, Scribble, Work}
-use Rattle.vb_model.specs.declared.calls.Query.TheVariants.{Places, PagesAt, PagesBallooned}
-use Rattle.vb_model.specs.declared.replies.Refusal.TheVariants.{NotHeld, VersionMissing, NoFrame}
-use Rattle.vb_model.specs.StepLaws.{IsOfOthers, HasNoFrame, WantOfFrames, may_want_memory}
-use Rattle.vb_model.specs.declared.places.Place.TheVariants.{Reserved, Used, Lent}
-use Rattle.vb_model.{specs.declared.calls.Call.TheVariants.{Inflate, Take}, specs.Tests.is_in}
-use Rattle.vb_model.{specs.declared.calls.Event.TheVariants.{Unplug, Restart}, specs.Guest.Guest}
-use Rattle.vb_model.specs.declared.calls.Query.TheVariants.{Balloon, Memory, Backing}
-use Rattle.vb_model.{specs.declared.calls.Event.Event, specs.World.World, specs.HostFrames.IsOut}
-use Rattle.vb_model.specs.declared.replies.Refusal.TheVariants.{NoDevice}
-use Rattle.vb_model.specs.declared.replies.Reply.TheVariants.{Plugged, Done, Frames, Refused}
-use Rattle.vb_model.{specs.HostLaws.WorldsAgree, specs.declared.calls.Claim.Claim}
-use Rattle.vb_model.specs.StepLaws.{HasNoReservedBallooned, IsUnchanged, call_may_want}
-use Rattle.vb_model.{specs.declared.calls.Claim.TheVariants.Gave, proofs.Samples.{ready, plug}}
-use Rattle.vb_model.specs.declared.calls.Event.TheVariants.{Guest as OnGuest, Query as OnQuery}
+use Rattle.std.proofs.Common.{List, [], ap, arith, false, inl, inr, length, map, refl, replicate}
+use Rattle.std.{proofs.Common.{true, ℕ, ◌++◌, ◌<◌, ◌∷◌, ◌≡◌, ◌⊎◌}, specs.List.range_with_len}
+use Rattle.std.specs.Prelude.{Bool, IsTrue, None, Option, Some, unwrap_or}
+use Rattle.vb_model.{proofs.Samples.{differ, plug, ready}, specs.{Guest.Guest, HostFrames.IsOut}}
+use Rattle.vb_model.specs.{HostLaws.WorldsAgree, StepLaws.{HasNoFrame, HasNoReservedBallooned}}
+use Rattle.vb_model.specs.StepLaws.{IsOfOthers, IsUnchanged, WantOfFrames, call_may_want}
+use Rattle.vb_model.specs.{StepLaws.may_want_memory, Tests.is_in, World.World}
+use Rattle.vb_model.specs.declared.calls.Call.TheVariants.{Inflate, Init, Read, Reset, Scribble}
+use Rattle.vb_model.specs.declared.calls.{Call.TheVariants.{Take, Work, Write}, Claim.Claim}
+use Rattle.vb_model.specs.declared.calls.{Claim.TheVariants.Gave, Event.Event}
 use Rattle.vb_model.specs.declared.calls.Event.TheVariants.{Balance, Frames as CountFrames}
+use Rattle.vb_model.specs.declared.calls.Event.TheVariants.{Guest as OnGuest, Query as OnQuery}
+use Rattle.vb_model.specs.declared.calls.Event.TheVariants.{Restart, Unplug}
+use Rattle.vb_model.specs.declared.calls.Query.TheVariants.{Backing, Balloon, Memory, PagesAt}
+use Rattle.vb_model.specs.declared.calls.Query.TheVariants.{PagesBallooned, Places}
+use Rattle.vb_model.specs.declared.places.Place.TheVariants.{Lent, Reserved, Used}
+use Rattle.vb_model.specs.declared.replies.Refusal.TheVariants.{NoDevice, NoFrame, NotHeld}
+use Rattle.vb_model.specs.declared.replies.Refusal.TheVariants.{VersionMissing}
+use Rattle.vb_model.specs.declared.replies.Reply.TheVariants.{Done, Frames, Plugged, Refused}
 
 abbrev Same : ℕ → ℕ → Type 0
 Same a b = a ≡ b
@@ -31,14 +31,9 @@ world = record { frames = 6; guests = None ∷ Some backed ∷ []; spares = []; 
 
 -- ---- events that are made for a guest, and those that aren't
 
-own_call : IsOfOthers 1 (OnGuest 1 Work) → ⊥
-own_call o = o.no_call Work refl
-
-own_restart : IsOfOthers 1 (Restart 1) → ⊥
-own_restart o = o.no_restart refl
-
-own_unplug : IsOfOthers 1 (Unplug 1) → ⊥
-own_unplug o = o.no_unplug refl
+own_events : (IsOfOthers 1 (OnGuest 1 Work) → ⊥) × (IsOfOthers 1 (Restart 1) → ⊥)
+    × (IsOfOthers 1 (Unplug 1) → ⊥)
+own_events = (λ o. o.no_call Work refl, λ o. o.no_restart refl, λ o. o.no_unplug refl)
 
 anothers_events : IsOfOthers 1 (OnGuest 0 Work) × IsOfOthers 1 (Restart 2) × IsOfOthers 1 (Unplug 0)
     × IsOfOthers 1 (OnQuery 1 Places) × IsOfOthers 1 (Balance 0) × IsOfOthers 1 CountFrames
@@ -89,16 +84,17 @@ plugged_or_not : WorldsAgree (plug 64 8 1) world (Refused NoDevice) world (Plugg
 plugged_or_not a = let e : Refused NoDevice ≡ Plugged 0 = a.2 NoDevice refl in cc
 
 -- whatever a guest's call leaves open
-other_frames : WorldsAgree (OnGuest 1 Work) world Done world Done (record world { frames = 7 }) → ⊥
-other_frames a = let e : Same 6 7 = a.0 in omega arith
+abbrev LeavesTheHost : World → Type 0
+LeavesTheHost w = WorldsAgree (OnGuest 1 Work) world Done world Done w
 
-other_spares : WorldsAgree (OnGuest 1 Work) world Done world Done
-    (record world { spares = true ∷ [] }) → ⊥
-other_spares a = let e : Same 0 1 = ap (λ (spares : List Bool). length spares) a.1 in omega arith
-
-other_number : WorldsAgree (OnGuest 1 Work) world Done world Done
-    (record world { vacated = Some 3 }) → ⊥
-other_number a = let e : Same 4 3 = ap (λ (n : Option ℕ). unwrap_or n 4) a.2 in omega arith
+other_host : (LeavesTheHost (record world { frames = 7 }) → ⊥)
+    × (LeavesTheHost (record world { spares = true ∷ [] }) → ⊥)
+    × (LeavesTheHost (record world { vacated = Some 3 }) → ⊥)
+other_host = (
+  λ a. differ 6 7 refl a.0,
+  λ a. differ 0 1 refl (ap (λ (spares : List Bool). length spares) a.1),
+  λ a. differ 4 3 refl (ap (λ (n : Option ℕ). unwrap_or n 4) a.2),
+)
 
 -- ---- reserved pages
 
@@ -157,20 +153,17 @@ just_failed new h1 up = grind arith
 
 -- ---- which events may want memory: a plug, what needs a frame, a read, and lists of pages
 
-wants_of_events : map (may_want_memory world) (plug 64 8 1 ∷ Unplug 1
-    ∷ Restart 1 ∷ Balance 0 ∷ CountFrames ∷ []) ≡ true ∷ false ∷ false ∷ false ∷ false ∷ []
+wants_of_events : map (may_want_memory world) (plug 64 8 1 ∷ OnQuery 1 (PagesAt Lent)
+    ∷ OnQuery 1 PagesBallooned ∷ Unplug 1 ∷ Restart 1 ∷ Balance 0 ∷ CountFrames ∷ OnQuery 1 Places
+    ∷ OnQuery 1 Balloon ∷ OnQuery 1 Memory ∷ OnQuery 1 (Backing 16) ∷ [])
+    ≡ replicate 3 true ++ replicate 8 false
 wants_of_events = refl
-
-wants_of_questions : map (λ query. may_want_memory world (OnQuery 1 query))
-    (Places ∷ PagesAt Lent ∷ PagesBallooned ∷ Balloon ∷ Memory ∷ Backing 16 ∷ []) ≡ false ∷ true
-    ∷ true ∷ false ∷ false ∷ false ∷ []
-wants_of_questions = refl
 
 -- page 17 isn't used, and the guest is up
 wants_of_calls : map (λ call. may_want_memory world (OnGuest 1 call)) (Read 16 0 1
-    ∷ Write 16 0 (1 ∷ []) ∷ Write 17 0 (1 ∷ []) ∷ Write 17 0 [] ∷ Scribble 17 0 (1 ∷ [])
-    ∷ Scribble 17 4096 (1 ∷ []) ∷ Init 0 ∷ Reset ∷ Inflate 1 ∷ Take 0 ∷ Work ∷ []) ≡ true
-    ∷ false ∷ false ∷ false ∷ true ∷ false ∷ false ∷ false ∷ false ∷ false ∷ false ∷ []
+    ∷ Scribble 17 0 (1 ∷ []) ∷ Write 16 0 (1 ∷ []) ∷ Write 17 0 (1 ∷ []) ∷ Write 17 0 []
+    ∷ Scribble 17 4096 (1 ∷ []) ∷ Init 0 ∷ Reset ∷ Inflate 1 ∷ Take 0 ∷ Work ∷ [])
+    ≡ replicate 2 true ++ replicate 9 false
 wants_of_calls = refl
 
 -- here it is used, and the guest is down

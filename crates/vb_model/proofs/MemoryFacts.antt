@@ -96,6 +96,9 @@ abbrev two_processors : Guest
 two_processors = record ready { config = record config { processors = 2 } }
 
 blocks_in_order : refusals two_processors (Alloc 0 0 ∷ Alloc 1 0 ∷ Alloc 2 0 ∷ Alloc 2 10 ∷ Alloc 2 9
-    ∷ Free 2 16 10 ∷ Free 2 16 9 ∷ Free 1 16 9 ∷ []) ≡ None ∷ None ∷ Some BadCpu ∷ Some BadOrder
-    ∷ Some BadCpu ∷ Some BadOrder ∷ Some BadCpu ∷ Some NotHeld ∷ []
+    ∷ []) ≡ None ∷ None ∷ Some BadCpu ∷ Some BadOrder ∷ Some BadCpu ∷ []
 blocks_in_order = refl
+
+free_is_tested_alike : refusals two_processors (Free 2 16 10 ∷ Free 2 16 9 ∷ Free 1 16 9 ∷ [])
+    ≡ Some BadOrder ∷ Some BadCpu ∷ Some NotHeld ∷ []
+free_is_tested_alike = refl

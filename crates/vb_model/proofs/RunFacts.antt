@@ -1,17 +1,17 @@
 -- Worked facts of runs, of states, and of the entries of one guest.
-use Rattle.std.proofs.Common.{◌≡◌, ℕ, List, [], ◌∷◌, true, false, refl, ap, arith, length}
-use Rattle.std.specs.Prelude.{Option, Some, None, unwrap_or}
-use Rattle.vb_model.specs.declared.calls.Call.TheVariants.{Ask, Init, Reset, Work, SetTarget, Write}
-use Rattle.vb_model.specs.{declared.calls.Call.TheVariants.Scribble, GuestRun.{Entry, Called}}
-use Rattle.vb_model.specs.GuestRun.{Looked, EntryStep, IsOwnEntry, AreOwn, InOneLife, Alone}
-use Rattle.vb_model.specs.{declared.calls.Actor.TheVariants.{Balancer, Processor}, Guest.Guest}
-use Rattle.vb_model.specs.declared.calls.Claim.{Claim, TheVariants.Gave}
-use Rattle.vb_model.specs.{declared.replies.Reply.Reply, World.{World, made}}
-use Rattle.vb_model.specs.declared.replies.Reply.TheVariants.{Done, Idle, Frames, Targets, Refused}
-use Rattle.vb_model.specs.{declared.replies.Refusal.TheVariants.{OutOfRam, Short}, Run.History}
-use Rattle.vb_model.{specs.Run.{Run, Steps, guest_in, last_world}, proofs.Samples.{ready, down}}
-use Rattle.vb_model.specs.declared.calls.Event.TheVariants.{Unplug, Restart, Guest as OnGuest}
-use Rattle.vb_model.specs.declared.calls.Event.TheVariants.{Balance, Frames as CountFrames}
+use Rattle.std.proofs.Common.{List, [], ap, arith, false, length, map, refl, replicate, true, ℕ}
+use Rattle.std.{proofs.Common.{◌++◌, ◌∷◌, ◌≡◌}, specs.Prelude.{None, Option, Some, unwrap_or}}
+use Rattle.vb_model.{proofs.Samples.{differ, down, ready}, specs.{Guest.Guest, GuestRun.Alone}}
+use Rattle.vb_model.specs.GuestRun.{AreOwn, Called, Entry, EntryStep, InOneLife, IsOwnEntry, Looked}
+use Rattle.vb_model.specs.{Run.{History, Run, Steps, guest_in, last_world}, World.{World, made}}
+use Rattle.vb_model.specs.declared.calls.Actor.TheVariants.{Balancer, Processor}
+use Rattle.vb_model.specs.declared.calls.Call.TheVariants.{Ask, Init, Reset, Scribble, SetTarget}
+use Rattle.vb_model.specs.declared.calls.{Call.TheVariants.{Work, Write}, Claim.Claim}
+use Rattle.vb_model.specs.declared.calls.{Claim.TheVariants.Gave, Event.TheVariants.Balance}
+use Rattle.vb_model.specs.declared.calls.Event.TheVariants.{Frames as CountFrames, Guest as OnGuest}
+use Rattle.vb_model.specs.declared.calls.Event.TheVariants.{Restart, Unplug}
+use Rattle.vb_model.specs.declared.replies.{Refusal.TheVariants.{OutOfRam, Short}, Reply.Reply}
+use Rattle.vb_model.specs.declared.replies.Reply.TheVariants.{Done, Frames, Idle, Refused, Targets}
 
 abbrev world : ℕ → World
 world frames = made frames []
@@ -39,17 +39,10 @@ from_another_world : Run 64 [] (record { first = world 63; events = []; replies 
     → ⊥
 from_another_world r = let e : Same 63 64 = ap (λ (w : World). w.frames) r.0 in omega arith
 
-no_reply : Steps (world 64) (CountFrames ∷ []) [] [] → ⊥
-no_reply s = s
-
-no_state : Steps (world 64) (CountFrames ∷ []) (counted 64 ∷ []) [] → ⊥
-no_state s = s
-
-no_event : Steps (world 64) [] (counted 64 ∷ []) [] → ⊥
-no_event s = s
-
-one_state_too_many : Steps (world 64) [] [] (world 64 ∷ []) → ⊥
-one_state_too_many s = s
+not_as_many : (Steps (world 64) (CountFrames ∷ []) [] [] → ⊥)
+    × (Steps (world 64) (CountFrames ∷ []) (counted 64 ∷ []) [] → ⊥)
+    × (Steps (world 64) [] (counted 64 ∷ []) [] → ⊥) × (Steps (world 64) [] [] (world 64 ∷ []) → ⊥)
+not_as_many = (λ s. s, λ s. s, λ s. s, λ s. s)
 
 -- each event goes on where the one before it ended
 another_state_between : Steps (world 64) (CountFrames ∷ CountFrames ∷ [])
@@ -69,9 +62,9 @@ two_events = record {
   after = at down ∷ at ready ∷ [];
 }
 
-guests_by_number : guest_in two_events 1 0 ∷ guest_in two_events 1 1 ∷ guest_in two_events 1 2
-    ∷ guest_in two_events 1 3 ∷ guest_in two_events 0 2 ∷ guest_in two_events 2 2 ∷ [] ≡ None
-    ∷ Some down ∷ Some ready ∷ None ∷ None ∷ None ∷ []
+guests_by_number : map (guest_in two_events 1) (0 ∷ 1 ∷ 2 ∷ 3 ∷ [])
+    ++ map (λ n. guest_in two_events n 2) (0 ∷ 2 ∷ []) ≡ None ∷ Some down ∷ Some ready
+    ∷ replicate 3 None
 guests_by_number = refl
 
 ends_with_the_last : last_world (world 64) (at down ∷ at ready ∷ []) ≡ at ready
@@ -84,18 +77,17 @@ known = record ready { last = record { free = Some 196608; total = Some 262144 }
 looks : EntryStep known (Looked 16 32) known
 looks = (refl, refl)
 
-looks_at_another_spare : EntryStep known (Looked 16 31) known → ⊥
-looks_at_another_spare s = let e : Same 31 32 = s.0 in omega arith
-
-a_look_sets_no_target : EntryStep known (Looked 16 32) (record known { target = 3 }) → ⊥
-a_look_sets_no_target s = let e : Same 3 0 = ap (λ (g : Guest). g.target) s.1 in omega arith
-
-a_look_forgets_nothing : EntryStep known (Looked 16 32) ready → ⊥
-a_look_forgets_nothing s =
-    let e : Same 0 196608 = ap (λ (g : Guest). unwrap_or g.last.free 0) s.1 in omega arith
-
-a_look_takes_no_page : EntryStep known (Looked 16 32) (record known { places = [] }) → ⊥
-a_look_takes_no_page s = let e : Same 0 64 = ap (λ (g : Guest). length g.places) s.1 in omega arith
+-- not another spare, a target, what is forgotten, or a page that is taken
+a_look_changes_nothing : (EntryStep known (Looked 16 31) known → ⊥)
+    × (EntryStep known (Looked 16 32) (record known { target = 3 }) → ⊥)
+    × (EntryStep known (Looked 16 32) ready → ⊥)
+    × (EntryStep known (Looked 16 32) (record known { places = [] }) → ⊥)
+a_look_changes_nothing = (
+  λ s. differ 31 32 refl s.0,
+  λ s. differ 3 0 refl (ap (λ (g : Guest). g.target) s.1),
+  λ s. differ 0 196608 refl (ap (λ (g : Guest). unwrap_or g.last.free 0) s.1),
+  λ s. differ 0 64 refl (ap (λ (g : Guest). length g.places) s.1),
+)
 
 -- a scribble that is done is no step of an honest guest's run
 scribble_done : (claims : List Claim) (new : Guest)
@@ -176,29 +168,22 @@ new_target : IsOwnEntry 0 aimed (Balance 16) (Targets (28 ∷ 5 ∷ [])) aimed (
     × IsOwnEntry 1 aimed (Balance 16) (Targets (28 ∷ 5 ∷ [])) aimed (told 5)
 new_target = (refl, refl)
 
-anothers_target : IsOwnEntry 1 aimed (Balance 16) (Targets (28 ∷ 5 ∷ [])) aimed (told 28) → ⊥
-anothers_target e = cc
-
-balance_left_out : IsOwnEntry 1 aimed (Balance 16) (Targets (28 ∷ 5 ∷ [])) aimed None → ⊥
-balance_left_out e = cc
-
-balanced_by_a_processor : IsOwnEntry 1 aimed (Balance 16) (Targets (28 ∷ 5 ∷ [])) aimed
-    (Some (Called (Processor 1 0) (SetTarget 5) [] Done)) → ⊥
-balanced_by_a_processor e = cc
+-- not another's target, none, or one that a processor sets
+no_other_target : (IsOwnEntry 1 aimed (Balance 16) (Targets (28 ∷ 5 ∷ [])) aimed (told 28) → ⊥)
+    × (IsOwnEntry 1 aimed (Balance 16) (Targets (28 ∷ 5 ∷ [])) aimed None → ⊥)
+    × (IsOwnEntry 1 aimed (Balance 16) (Targets (28 ∷ 5 ∷ [])) aimed
+    (Some (Called (Processor 1 0) (SetTarget 5) [] Done)) → ⊥)
+no_other_target = (λ e. cc, λ e. cc, λ e. cc)
 
 -- one that came up short is none
 short_balance : IsOwnEntry 1 aimed (Balance 16) (Refused (Short 3)) aimed None
 short_balance = refl
 
 -- nor is a call of another guest, a count, or another's restart
-anothers_call : IsOwnEntry 1 aimed (OnGuest 0 Work) Idle aimed work_done → ⊥
-anothers_call e = cc
-
-anothers_count : IsOwnEntry 1 aimed CountFrames (Frames 0 64) aimed work_done → ⊥
-anothers_count e = cc
-
-anothers_restart : IsOwnEntry 1 aimed (Restart 0) Done aimed work_done → ⊥
-anothers_restart e = cc
+anothers_event : (IsOwnEntry 1 aimed (OnGuest 0 Work) Idle aimed work_done → ⊥)
+    × (IsOwnEntry 1 aimed CountFrames (Frames 0 64) aimed work_done → ⊥)
+    × (IsOwnEntry 1 aimed (Restart 0) Done aimed work_done → ⊥)
+anothers_event = (λ e. cc, λ e. cc, λ e. cc)
 
 -- a rogue guest has no run of its own
 rogue_alone : Alone 1 aimed [] [] [] (record ready { rogue = true }) → ⊥

@@ -36,11 +36,15 @@ at_statuses statuses causes = map (λ status. first_refusal (causes status)) sta
 drivers_calls : map (at_statuses (15 ∷ 79 ∷ 143 ∷ 207 ∷ []))
     ((λ s. inflate_causes (at s 0) 1 (new_request 16 16 0))
     ∷ (λ s. request_causes s false (new_request 16 16 0))
-    ∷ (λ s. request_causes s true (new_request 16 16 0)) ∷ (λ s. reap_causes 0 (at s 0))
-    ∷ (λ s. reap_causes 4 (at s 4294967303)) ∷ (λ s. driver_causes s true) ∷ [])
+    ∷ (λ s. reap_causes 0 (at s 0)) ∷ (λ s. reap_causes 4 (at s 4294967303)) ∷ (λ s. driver_causes s true) ∷ [])
     ≡ map (λ ready. ready ∷ replicate 3 (Some NotReady)) (Some QueueFull ∷ Some QueueFull
-    ∷ Some NoFeature ∷ None ∷ Some NoFeature ∷ Some NoFeature ∷ [])
+    ∷ None ∷ Some NoFeature ∷ Some NoFeature ∷ [])
 drivers_calls = refl
+
+requests_with_a_feature : at_statuses (15 ∷ 79 ∷ 143 ∷ [])
+    (λ s. request_causes s true (new_request 16 16 0)) ≡ Some NoFeature
+    ∷ replicate 2 (Some NotReady)
+requests_with_a_feature = refl
 
 -- the device's calls: not ready, then in need of a reset, then the rest. The feature comes behind
 -- the status, and before the limit, which is 1 chain of queue 2, and 16 of queue 4. Without

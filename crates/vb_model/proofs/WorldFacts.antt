@@ -1,16 +1,17 @@
 -- Worked facts of the host: plugging guests in, numbers, spare devices, and which frames are given.
-use Rattle.std.proofs.Common.{◌≡◌, ℕ, ◌<◌, true, false, List, [], ◌∷◌, ◌++◌, replicate, refl, ◌⊎◌}
-use Rattle.std.{proofs.Common.{inl, inr, arith}, specs.Prelude.{Option, Some, None}}
-use Rattle.vb_model.specs.declared.replies.Refusal.TheVariants.{NoGuest, BadConfig, TooMany}
+use Rattle.std.proofs.Common.{List, [], arith, false, inl, inr, refl, replicate, true, ℕ, ◌++◌, ◌<◌}
+use Rattle.std.{proofs.Common.{◌∷◌, ◌≡◌, ◌⊎◌}, specs.Prelude.{None, Option, Some}}
+use Rattle.vb_model.{proofs.Samples.{down, plug, ready}, specs.Guest.{Config, Guest, fresh}}
+use Rattle.vb_model.specs.{HostEvents.{WorldStep, with_targets}, HostFrames.Gives, World.World}
+use Rattle.vb_model.specs.{World.made, declared.calls.Call.TheVariants.SetTarget}
 use Rattle.vb_model.specs.declared.calls.Claim.TheVariants.{Gave, GaveNoFrame, GaveNoMemory}
-use Rattle.vb_model.{specs.declared.calls.Call.TheVariants.SetTarget, specs.World.{World, made}}
-use Rattle.vb_model.{specs.declared.calls.Query.TheVariants.Places, specs.HostFrames.Gives}
-use Rattle.vb_model.specs.declared.replies.Refusal.TheVariants.{NoDevice, NoMemory}
-use Rattle.vb_model.specs.declared.replies.Reply.TheVariants.{Plugged, Done, Frames, Refused}
-use Rattle.vb_model.{specs.Guest.{Guest, Config, fresh}, specs.HostEvents.{WorldStep, with_targets}}
-use Rattle.vb_model.proofs.Samples.{ready, down, plug}
-use Rattle.vb_model.specs.declared.calls.Event.TheVariants.{Unplug, Restart, Guest as OnGuest}
-use Rattle.vb_model.specs.declared.calls.Event.TheVariants.{Query as OnQuery, Frames as CountFrames}
+use Rattle.vb_model.specs.declared.calls.Event.{Event, TheVariants.Frames as CountFrames}
+use Rattle.vb_model.specs.declared.calls.Event.TheVariants.{Guest as OnGuest, Query as OnQuery}
+use Rattle.vb_model.specs.declared.calls.Event.TheVariants.{Restart, Unplug}
+use Rattle.vb_model.specs.declared.{calls.Query.TheVariants.Places, replies.Refusal.Refusal}
+use Rattle.vb_model.specs.declared.replies.Refusal.TheVariants.{BadConfig, NoDevice, NoGuest}
+use Rattle.vb_model.specs.declared.replies.Refusal.TheVariants.{NoMemory, TooMany}
+use Rattle.vb_model.specs.declared.replies.Reply.TheVariants.{Done, Frames, Plugged, Refused}
 
 abbrev world : List (Option Guest) → World
 world guests = record
@@ -64,8 +65,18 @@ no_memory_for_a_plug = inl (refl, refl)
 abbrev eight : World
 eight = world (None ∷ replicate 8 (Some ready))
 
-ninth_guest : WorldStep eight (plug 64 8 1) (Refused TooMany) eight
+abbrev Refuses : World → Event → Refusal → Type 0
+Refuses w event refusal = WorldStep w event (Refused refusal) w
+
+ninth_guest : Refuses eight (plug 64 8 1) TooMany
 ninth_guest = (refl, refl)
+
+-- a refused plug doesn't use the number up
+refused_plugs : Refuses (without_spares eight) (plug 65 8 1) BadConfig
+    × Refuses (without_spares eight) (plug 64 8 1) TooMany
+    × Refuses (without_spares gap) (plug 64 8 1) NoDevice × Refuses gap (plug 64 3 1) BadConfig
+    × Refuses gap (plug 64 8 5) BadConfig
+refused_plugs = ((refl, refl), (refl, refl), (refl, refl), (refl, refl), (refl, refl))
 
 -- numbers without a guest don't count
 eighth_guest : WorldStep (world (None ∷ replicate 7 (Some ready))) (plug 128 2 4) (Plugged 8)
@@ -73,36 +84,18 @@ eighth_guest : WorldStep (world (None ∷ replicate 7 (Some ready))) (plug 128 2
     { spares = true ∷ true ∷ [] })
 eighth_guest = inr (8, refl, tt, refl, refl)
 
-bad_config_before_too_many : WorldStep (without_spares eight) (plug 65 8 1) (Refused BadConfig)
-    (without_spares eight)
-bad_config_before_too_many = (refl, refl)
-
-too_many_before_no_device : WorldStep (without_spares eight) (plug 64 8 1) (Refused TooMany)
-    (without_spares eight)
-too_many_before_no_device = (refl, refl)
-
--- a refused plug doesn't use the number up
-no_device : WorldStep (without_spares gap) (plug 64 8 1) (Refused NoDevice) (without_spares gap)
-no_device = (refl, refl)
-
-bad_queue_size : WorldStep gap (plug 64 3 1) (Refused BadConfig) gap
-bad_queue_size = (refl, refl)
-
-bad_processors : WorldStep gap (plug 64 8 5) (Refused BadConfig) gap
-bad_processors = (refl, refl)
-
 -- ---- numbers without a guest
 
 abbrev NoGuestAt : ℕ → Type 0
-NoGuestAt n = WorldStep gap (Unplug n) (Refused NoGuest) gap
-    × WorldStep gap (Restart n) (Refused NoGuest) gap × WorldStep gap (OnGuest n (SetTarget 1))
-    (Refused NoGuest) gap × WorldStep gap (OnQuery n Places) (Refused NoGuest) gap
+NoGuestAt n = Refuses gap (Unplug n) NoGuest × Refuses gap (Restart n) NoGuest
+    × Refuses gap (OnGuest n (SetTarget 1)) NoGuest × Refuses gap (OnQuery n Places) NoGuest
 
-number_given_up_has_no_guest : NoGuestAt 1
-number_given_up_has_no_guest = ((refl, refl), (refl, refl), (refl, refl), (refl, refl))
-
-number_past_the_last_has_no_guest : NoGuestAt 4
-number_past_the_last_has_no_guest = ((refl, refl), (refl, refl), (refl, refl), (refl, refl))
+-- a number that was given up, and one past the last
+numbers_without_a_guest : NoGuestAt 1 × NoGuestAt 4
+numbers_without_a_guest = (
+  ((refl, refl), (refl, refl), (refl, refl), (refl, refl)),
+  ((refl, refl), (refl, refl), (refl, refl), (refl, refl)),
+)
 
 -- ---- one guest's event leaves the others
 
