@@ -2,15 +2,14 @@
 use Rattle.std.proofs.Common.{List, [], ap, arith, cond, false, refl, sym, true, ℕ, ◌++◌, ◌<◌, ◌∙◌}
 use Rattle.std.proofs.{Common.{◌∷◌, ◌≡◌}, lemmas.Bool.{and_from, and_parts, eq-eqb, ltb-true}}
 use Rattle.std.{proofs.lemmas.Bool.{or_left, or_right}, specs.List.{list_all, list_any}}
-use Rattle.std.specs.{List.range_with_len, Prelude.{Bool, IsTrue, None, Option, Some, drop}}
-use Rattle.std.specs.Prelude.{is_some, length, nat_lt, not, slice_get, ◌&&◌, ◌+◌, ◌-◌, ◌==◌, ◌||◌}
-use Rattle.vb_model.proofs.{Blocks.any_in_range, Samples.{NoneOf, none_of}}
-use Rattle.vb_model.specs.Courses.{BringsTo, Course, DeflatePostedAt, ReapedAt, WasAskedBack}
-use Rattle.vb_model.specs.{Courses.{guest_after, posts_deflate}, Guest.{Guest, requests}}
-use Rattle.vb_model.specs.{Guest.tells_host, GuestRun.{Called, Entry}, Histories.IsSafeCourse}
-use Rattle.vb_model.specs.{Pages.{is_place, place_of}, Requests.{Deflating, Inflating, Kind}}
-use Rattle.vb_model.specs.{Requests.{Request, queue_of}, Tests.is_in}
-use Rattle.vb_model.specs.declared.{calls.Call.TheVariants.Reap, places.Place.Place}
+use Rattle.std.specs.{List.range_with_len, Prelude.{Bool, IsTrue, None, Option, Some, drop, length}}
+use Rattle.std.specs.Prelude.{is_some, nat_lt, not, slice_get, ◌&&◌, ◌+◌, ◌-◌, ◌==◌, ◌||◌}
+use Rattle.vb_model.{proofs.{Blocks.any_in_range, Samples.{NoneOf, none_of}}, specs.Courses.Course}
+use Rattle.vb_model.specs.Courses.{BringsTo, DeflatePostedAt, ReapedAt, WasAskedBack, guest_after}
+use Rattle.vb_model.specs.{Courses.posts_deflate, Guest.{Guest, requests, tells_host}}
+use Rattle.vb_model.specs.{GuestRun.{Called, Entry}, Histories.IsSafeCourse, Pages.is_place}
+use Rattle.vb_model.specs.{Pages.place_of, Requests.{Deflating, Inflating, Kind, Request, queue_of}}
+use Rattle.vb_model.specs.{Tests.is_in, declared.{calls.Call.TheVariants.Reap, places.Place.Place}}
 use Rattle.vb_model.specs.declared.places.Place.TheVariants.{Giving, Used}
 use Rattle.vb_model.specs.declared.replies.Reply.TheVariants.{Posted, Reaped}
 

@@ -1,10 +1,9 @@
 -- Worked facts of needs and targets.
 use Rattle.std.proofs.Common.{List, [], arith, inl, map, refl, replicate, true, ℕ, ◌∷◌, ◌≡◌, ◌≤◌}
 use Rattle.std.specs.Prelude.{None, Option, Some, sum}
-use Rattle.vb_model.{proofs.Samples.{config, differ, ready}, specs.Balance.{AreTargets, Need}}
-use Rattle.vb_model.specs.{Balance.{missing, need, shortage, spare}, Guest.Guest}
-use Rattle.vb_model.specs.{HostEvents.{WorldStep, needs}, World.World}
-use Rattle.vb_model.specs.declared.calls.Event.TheVariants.{Balance}
+use Rattle.vb_model.{proofs.Samples.{config, differ, ready}, specs.Balance.{AreTargets, Need, need}}
+use Rattle.vb_model.specs.{Balance.{missing, shortage, spare}, Guest.Guest, HostEvents.WorldStep}
+use Rattle.vb_model.specs.{HostEvents.needs, World.World, declared.calls.Event.TheVariants.Balance}
 use Rattle.vb_model.specs.declared.replies.{Refusal.TheVariants.Short, Reply.TheVariants.Refused}
 use Rattle.vb_model.specs.declared.replies.Reply.TheVariants.{Targets}
 

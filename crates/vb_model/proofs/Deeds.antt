@@ -8,32 +8,31 @@ use Rattle.vb_model.proofs.{Blocks.reported_distinct, Cases.{Idles, Visits, infl
 use Rattle.vb_model.proofs.Cases.{lent_pages, match_cases, not_refused, reported_pages, supplied}
 use Rattle.vb_model.proofs.{Counts.length-pages_where, Distinct.{distinct_where, inflated_distinct}}
 use Rattle.vb_model.proofs.{PageSteps.{after_take, can_be_given, naming-cons}, Performed.Performed}
-use Rattle.vb_model.{proofs.Performed.honest_case, specs.Courses.posts_deflate}
-use Rattle.vb_model.specs.Device.{ReturnsBuffer, TakesBuffer, TakesRequest, Works, has_frame}
-use Rattle.vb_model.specs.Device.{is_unvisited, next_page, settled, used, visited}
-use Rattle.vb_model.specs.Driver.{AreClaimsFor, Deflates, Fills, Reaps, Written, after_free}
-use Rattle.vb_model.specs.Driver.{after_posting, claim_refusal, figures, lowest_lent, pages_needed}
-use Rattle.vb_model.specs.{Driver.{reaped, stranded_first, with_block}, Guest.{Guest, is_ballooned}}
-use Rattle.vb_model.specs.Guest.{requests, tells_host, unbacked, with_requests}
-use Rattle.vb_model.specs.{HonestRuns.has_buffer, Life.{Negotiates, after_reset, feature_refusal}}
-use Rattle.vb_model.specs.{Life.lacking, Limits.{max_order, min_reported_order}, Orderly.times}
-use Rattle.vb_model.specs.Pages.{Block, is_free, is_lent, is_same_block, is_wholly_free, pages_of}
-use Rattle.vb_model.specs.{Pages.{pages_of_all, place_of, placed}, Refusals.{causes, deflate_count}}
-use Rattle.vb_model.specs.Refusals.{oom_count, refusal_of, reported_blocks, room}
-use Rattle.vb_model.specs.Requests.{BufferDone, BufferPosted, BufferTaken, Deflating, Inflating}
-use Rattle.vb_model.specs.Requests.{IsLeastHead, Kind, Reporting_free, Request, StatisticsBuffer}
-use Rattle.vb_model.specs.Requests.{kind_of_queue, names, naming, outstanding, queue_of}
-use Rattle.vb_model.specs.{Rogue.Scribbled, Step.HonestStep, Tables.is_up, Tests.{is_in, one_if}}
-use Rattle.vb_model.specs.{Tests.pages_where, declared.calls.Call.{Call, TheVariants.{Alloc, Ask}}}
-use Rattle.vb_model.specs.declared.calls.Call.TheVariants.{Deflate, Finish, Free, Inflate, Init}
-use Rattle.vb_model.specs.declared.calls.Call.TheVariants.{Oom, Read, Reap, Report, Reset, Scribble}
-use Rattle.vb_model.specs.declared.calls.Call.TheVariants.{SetTarget, Stats, Sweep, Take, Work}
-use Rattle.vb_model.specs.declared.{calls.{Call.TheVariants.Write, Claim.Claim}, places.Place.Place}
-use Rattle.vb_model.specs.declared.places.Place.TheVariants.{Used}
-use Rattle.vb_model.specs.declared.replies.{LastStatistics.LastStatistics, Refusal.Refusal}
-use Rattle.vb_model.specs.declared.replies.{Refusal.TheVariants.NoMemory, Reply.Reply}
-use Rattle.vb_model.specs.declared.replies.Reply.TheVariants.{Done, Finished, Page, Posted, Reaped}
-use Rattle.vb_model.specs.declared.replies.Reply.TheVariants.{Refused, Swept, Taken, Worked}
+use Rattle.vb_model.{proofs.Performed.honest_case, specs.{Courses.posts_deflate, Device.Works}}
+use Rattle.vb_model.specs.Device.{ReturnsBuffer, TakesBuffer, TakesRequest, has_frame, is_unvisited}
+use Rattle.vb_model.specs.{Device.{next_page, settled, used, visited}, Driver.{AreClaimsFor, Fills}}
+use Rattle.vb_model.specs.Driver.{Deflates, Reaps, Written, after_free, after_posting, figures}
+use Rattle.vb_model.specs.Driver.{claim_refusal, lowest_lent, pages_needed, reaped, stranded_first}
+use Rattle.vb_model.specs.{Driver.with_block, Guest.{Guest, is_ballooned, requests, tells_host}}
+use Rattle.vb_model.specs.{Guest.{unbacked, with_requests}, HonestRuns.has_buffer, Life.Negotiates}
+use Rattle.vb_model.specs.{Life.{after_reset, feature_refusal, lacking}, Limits.max_order}
+use Rattle.vb_model.specs.{Limits.min_reported_order, Orderly.times, Pages.{Block, is_free}}
+use Rattle.vb_model.specs.Pages.{is_lent, is_same_block, is_wholly_free, pages_of, pages_of_all}
+use Rattle.vb_model.specs.{Pages.{place_of, placed}, Refusals.{causes, deflate_count, oom_count}}
+use Rattle.vb_model.specs.{Refusals.{refusal_of, reported_blocks, room}, Requests.BufferDone}
+use Rattle.vb_model.specs.Requests.{BufferPosted, BufferTaken, Deflating, Inflating, IsLeastHead}
+use Rattle.vb_model.specs.Requests.{Kind, Reporting_free, Request, StatisticsBuffer, kind_of_queue}
+use Rattle.vb_model.specs.{Requests.{names, naming, outstanding, queue_of}, Rogue.Scribbled}
+use Rattle.vb_model.specs.{Step.HonestStep, Tables.is_up, Tests.{is_in, one_if, pages_where}}
+use Rattle.vb_model.specs.declared.calls.Call.{Call, TheVariants.{Alloc, Ask, Deflate, Finish, Oom}}
+use Rattle.vb_model.specs.declared.calls.Call.TheVariants.{Free, Inflate, Init, Read, Reap, Report}
+use Rattle.vb_model.specs.declared.calls.Call.TheVariants.{Reset, Scribble, SetTarget, Stats, Sweep}
+use Rattle.vb_model.specs.declared.calls.{Call.TheVariants.{Take, Work, Write}, Claim.Claim}
+use Rattle.vb_model.specs.declared.{places.Place.{Place, TheVariants.Used}, replies.Refusal.Refusal}
+use Rattle.vb_model.specs.declared.replies.{LastStatistics.LastStatistics, Reply.Reply}
+use Rattle.vb_model.specs.declared.replies.{Refusal.TheVariants.NoMemory, Reply.TheVariants.Done}
+use Rattle.vb_model.specs.declared.replies.Reply.TheVariants.{Finished, Page, Posted, Reaped, Swept}
+use Rattle.vb_model.specs.declared.replies.Reply.TheVariants.{Refused, Taken, Worked}
 
 -- a reply that is no refusal
 abbrev pub is_refused : Reply → Bool

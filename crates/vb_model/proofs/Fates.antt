@@ -7,15 +7,14 @@ use Rattle.vb_model.proofs.Changes.{Effect, Has_called, Is_aimed, Is_gone, Is_ne
 use Rattle.vb_model.proofs.{Changes.{effect, no_frames, same_some, touches}, Unchanged.IsScribble}
 use Rattle.vb_model.{proofs.Unchanged.{MayBeRogue, step_keeps}, specs.Guest.{Guest, frame_of}}
 use Rattle.vb_model.specs.{Guest.fresh, Life.after_restart, Rogue.{GuestStep, IsRogueAfter}}
-use Rattle.vb_model.specs.{Rogue.{RogueStep, target_after}, Step.HonestStep}
-use Rattle.vb_model.specs.StepLaws.{ConfigurationsAreKept, Follows, FramesGoBack}
-use Rattle.vb_model.specs.StepLaws.{OthersAreUntouched, RestartedAreHonest, RoguesAreMade}
-use Rattle.vb_model.specs.StepLaws.{RoguesStay, ScribblesMakeRogues, TargetsAreKept, TargetsAreSet}
-use Rattle.vb_model.specs.{World.{World, guest_at}, declared.calls.Call.Call}
-use Rattle.vb_model.specs.declared.calls.{Call.TheVariants.{Scribble, SetTarget}, Claim.Claim}
-use Rattle.vb_model.specs.declared.calls.Event.{Event, TheVariants.{Balance, Guest as OnGuest}}
-use Rattle.vb_model.specs.declared.{calls.Event.TheVariants.{Restart, Unplug}, replies.Reply.Reply}
-use Rattle.vb_model.specs.declared.replies.Reply.TheVariants.{Done}
+use Rattle.vb_model.specs.{Rogue.{RogueStep, target_after}, Step.HonestStep, StepLaws.Follows}
+use Rattle.vb_model.specs.StepLaws.{ConfigurationsAreKept, FramesGoBack, OthersAreUntouched}
+use Rattle.vb_model.specs.StepLaws.{RestartedAreHonest, RoguesAreMade, RoguesStay, TargetsAreKept}
+use Rattle.vb_model.specs.{StepLaws.{ScribblesMakeRogues, TargetsAreSet}, World.{World, guest_at}}
+use Rattle.vb_model.specs.declared.calls.Call.{Call, TheVariants.{Scribble, SetTarget}}
+use Rattle.vb_model.specs.declared.calls.{Claim.Claim, Event.{Event, TheVariants.{Balance, Unplug}}}
+use Rattle.vb_model.specs.declared.calls.Event.TheVariants.{Guest as OnGuest, Restart}
+use Rattle.vb_model.specs.declared.replies.Reply.{Reply, TheVariants.Done}
 
 -- ---- what becomes of a guest
 

@@ -1,12 +1,11 @@
 -- Worked facts of features and of the status.
 use Rattle.std.proofs.Common.{List, [], false, map, refl, replicate, true, ℕ, ◌∷◌, ◌≡◌}
 use Rattle.std.specs.Prelude.{Bool, None, Option, Some, not, ◌++◌, ◌+◌}
-use Rattle.vb_model.{proofs.Samples.ready, specs.FirstRefusal.{first_refusal, ◌⇒◌}}
+use Rattle.vb_model.{proofs.Samples.ready, specs.{FirstRefusal.{first_refusal, ◌⇒◌}, Status.driver}}
 use Rattle.vb_model.specs.Guest.{deflate_on_oom, is_ready, must_tell_host, reporting, stats_vq}
 use Rattle.vb_model.specs.{Guest.version_1, Life.feature_refusal, Status.{acknowledge, contains}}
-use Rattle.vb_model.specs.Status.{driver, driver_ok, failed, features_ok, needed_causes}
-use Rattle.vb_model.specs.Status.{negotiate_causes, negotiate_refusal, status_causes}
-use Rattle.vb_model.specs.{Status.status_refusal, Tests.has_bit}
+use Rattle.vb_model.specs.Status.{driver_ok, failed, features_ok, needed_causes, negotiate_causes}
+use Rattle.vb_model.specs.{Status.{negotiate_refusal, status_causes, status_refusal}, Tests.has_bit}
 use Rattle.vb_model.specs.declared.negotiation.TheConstants.{FAILED_STATUS, OFFERED_FEATURES}
 use Rattle.vb_model.specs.declared.{negotiation.TheConstants.READY_STATUS, replies.Refusal.Refusal}
 use Rattle.vb_model.specs.declared.replies.Refusal.TheVariants.{ClearsBit, FeatureNotOffered}

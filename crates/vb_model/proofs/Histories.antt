@@ -1,25 +1,24 @@
 -- Every course of a guest is safe, and so is every history.
-use Rattle.std.proofs.Common.{◌≡◌, ℕ, zero, suc, ◌+◌, Bool, true, false, List, [], ◌∷◌, refl}
-use Rattle.std.proofs.Common.{sym, ap, subst, ◌∙◌, inl, arith, ◌≢◌, length, get_or, take, drop, cond}
-use Rattle.std.specs.Prelude.{◌≤◌, Option, Some, None, slice_get, ◌==◌, IsTrue, ◌↔◌}
-use Rattle.std.proofs.lemmas.Bool.{eq-eqb}
-use Rattle.std.proofs.lemmas.List.{get_or-take, get_or-drop, length-take-le, length-drop}
+use Rattle.std.proofs.Common.{Bool, List, [], ap, arith, cond, drop, false, get_or, inl, length, ℕ}
+use Rattle.std.proofs.Common.{refl, subst, suc, sym, take, true, zero, ◌+◌, ◌∙◌, ◌∷◌, ◌≡◌, ◌≢◌}
+use Rattle.std.proofs.lemmas.{Bool.eq-eqb, List.{get_or-drop, get_or-take, length-drop}}
+use Rattle.std.{proofs.lemmas.List.length-take-le, specs.Prelude.{IsTrue, None, Option, Some, ◌==◌}}
+use Rattle.std.specs.Prelude.{slice_get, ◌↔◌, ◌≤◌}
 use Rattle.vb_model.proofs.{Asked.told_first, Changes.same_some, Contents.honest_same}
-use Rattle.vb_model.proofs.Courses.{IsFit, fresh_fit, EntryAt, Positions, positions, as_guest}
-use Rattle.vb_model.proofs.{Courses.some_own, Faults.{honest_no_fault, is_fault}}
-use Rattle.vb_model.proofs.{Kept.{honest_keeps_frame, used_page}, LastWrites.write_step}
-use Rattle.vb_model.proofs.{LastWrites.{read_step, overwritten_byte}, PageSteps.naming-all}
-use Rattle.vb_model.{proofs.Unchanged.step_keeps, specs.Consistent.IsConsistent}
-use Rattle.vb_model.specs.Courses.{Course, guest_after, IsCall, IsAt, IsWriteTo, StaysOrLoses}
-use Rattle.vb_model.specs.Courses.{byte_of, byte_written, byte_after, last_put, StaysHeld}
-use Rattle.vb_model.specs.{Courses.ReadsGiveLastWrites, Driver.{contents_of, overwritten}}
-use Rattle.vb_model.specs.{Guest.{Guest, Config, frame_of, is_ballooned}, GuestRun.{Entry, Called}}
-use Rattle.vb_model.specs.GuestRun.{Looked, EntryStep, OwnStep, Leads, IsHistory}
-use Rattle.vb_model.specs.Histories.{BothAgree, IsSafeCourse, IsSafeHistory}
-use Rattle.vb_model.specs.{Requests.all_requests, SafeLaws.UsedPagesStay, Step.HonestStep}
-use Rattle.vb_model.specs.declared.calls.{Actor.Actor, Call.Call, Call.TheVariants.{Read, Write}}
-use Rattle.vb_model.specs.declared.{calls.Claim.Claim, places.Place.TheVariants.{Used, Lent}}
-use Rattle.vb_model.specs.declared.replies.{Refusal.TheVariants.{RingBroken, Broken}, Reply.Reply}
+use Rattle.vb_model.proofs.Courses.{EntryAt, IsFit, Positions, as_guest, fresh_fit, positions}
+use Rattle.vb_model.proofs.{Courses.some_own, Faults.{honest_no_fault, is_fault}, Kept.used_page}
+use Rattle.vb_model.proofs.{Kept.honest_keeps_frame, LastWrites.{overwritten_byte, read_step}}
+use Rattle.vb_model.proofs.{LastWrites.write_step, PageSteps.naming-all, Unchanged.step_keeps}
+use Rattle.vb_model.specs.{Consistent.IsConsistent, Courses.{Course, IsAt, IsCall, IsWriteTo}}
+use Rattle.vb_model.specs.Courses.{ReadsGiveLastWrites, StaysHeld, StaysOrLoses, byte_after}
+use Rattle.vb_model.specs.{Courses.{byte_of, byte_written, guest_after, last_put}, Guest.Config}
+use Rattle.vb_model.specs.{Driver.{contents_of, overwritten}, Guest.{Guest, frame_of, is_ballooned}}
+use Rattle.vb_model.specs.GuestRun.{Called, Entry, EntryStep, IsHistory, Leads, Looked, OwnStep}
+use Rattle.vb_model.specs.{Histories.{BothAgree, IsSafeCourse, IsSafeHistory}, Step.HonestStep}
+use Rattle.vb_model.specs.{Requests.all_requests, SafeLaws.UsedPagesStay, declared.calls.Call.Call}
+use Rattle.vb_model.specs.declared.calls.{Actor.Actor, Call.TheVariants.{Read, Write}, Claim.Claim}
+use Rattle.vb_model.specs.declared.{places.Place.TheVariants.{Lent, Used}, replies.Reply.Reply}
+use Rattle.vb_model.specs.declared.replies.Refusal.TheVariants.{Broken, RingBroken}
 use Rattle.vb_model.specs.declared.replies.Reply.TheVariants.{Done, ReadBytes, Refused}
 
 -- ---- driver and device

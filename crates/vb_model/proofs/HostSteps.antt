@@ -1,19 +1,18 @@
 -- The host's events are determined, but for the number of a new guest and want of memory.
-use Rattle.std.proofs.Common.{◌≡◌, ◌≢◌, ℕ, Bool, true, false, List, [], ◌∷◌, sym, ap, ◌∙◌, inl, inr}
-use Rattle.std.specs.Prelude.{Option, Some, None, MatchOption, MatchBool, ◌==◌, ⊤}
+use Rattle.std.proofs.Common.{Bool, List, [], ap, false, inl, inr, sym, true, ℕ, ◌∙◌, ◌∷◌, ◌≡◌, ◌≢◌}
+use Rattle.std.specs.Prelude.{MatchBool, MatchOption, None, Option, Some, ⊤, ◌==◌}
 use Rattle.vb_model.{proofs.Unique.unique, specs.Balance.{AreTargets, shortage}}
-use Rattle.vb_model.specs.{FirstRefusal.first_refusal, Guest.{Guest, Config, fresh}}
-use Rattle.vb_model.specs.HostEvents.{Happens, Plugs, PlugsIn, Calls, after_balance, needs}
-use Rattle.vb_model.specs.{HostLaws.{HostStepsAgree, CallsLeaveTheHost}, HostRefusals.world_causes}
-use Rattle.vb_model.specs.{Life.after_restart, Queries.Answers, World.{World, guest_at, with_guest}}
-use Rattle.vb_model.specs.{World.put_guest, declared.calls.Event.TheVariants.{Plug, Unplug}}
-use Rattle.vb_model.specs.declared.calls.{Event.TheVariants.Restart, GuestSize.GuestSize}
-use Rattle.vb_model.specs.declared.{calls.Query.Query, replies.Refusal.Refusal}
+use Rattle.vb_model.specs.{FirstRefusal.first_refusal, Guest.{Config, Guest, fresh}}
+use Rattle.vb_model.specs.HostEvents.{Calls, Happens, Plugs, PlugsIn, after_balance, needs}
+use Rattle.vb_model.specs.{HostLaws.{CallsLeaveTheHost, HostStepsAgree}, HostRefusals.world_causes}
+use Rattle.vb_model.specs.{Life.after_restart, Queries.Answers, World.{World, guest_at, put_guest}}
+use Rattle.vb_model.specs.{World.with_guest, declared.calls.Event.TheVariants.Balance}
+use Rattle.vb_model.specs.declared.calls.Event.TheVariants.{Frames as CountFrames, Guest as OnGuest}
+use Rattle.vb_model.specs.declared.calls.Event.TheVariants.{Plug, Query as OnQuery, Restart, Unplug}
+use Rattle.vb_model.specs.declared.calls.{GuestSize.GuestSize, Query.{Query, TheVariants.PagesAt}}
+use Rattle.vb_model.specs.declared.{calls.Query.TheVariants.PagesBallooned, replies.Refusal.Refusal}
 use Rattle.vb_model.specs.declared.replies.{Refusal.TheVariants.{NoMemory, Short}, Reply.Reply}
-use Rattle.vb_model.specs.declared.replies.Reply.TheVariants.{Plugged, Done, Targets, Refused}
-use Rattle.vb_model.specs.declared.calls.Query.TheVariants.{PagesAt, PagesBallooned}
-use Rattle.vb_model.specs.declared.calls.Event.TheVariants.{Guest as OnGuest, Query as OnQuery}
-use Rattle.vb_model.specs.declared.calls.Event.TheVariants.{Balance, Frames as CountFrames}
+use Rattle.vb_model.specs.declared.replies.Reply.TheVariants.{Done, Plugged, Refused, Targets}
 
 -- either the event is refused for this, and nothing is changed, or this happens
 abbrev Either : Option Refusal → World → Reply → World → Type 0 → Type 0

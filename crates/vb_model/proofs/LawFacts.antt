@@ -1,6 +1,6 @@
 -- Worked facts of the words in which the laws over single steps are stated.
-use Rattle.std.proofs.Common.{List, [], ap, arith, false, inl, inr, length, map, refl, replicate}
-use Rattle.std.{proofs.Common.{true, ℕ, ◌++◌, ◌<◌, ◌∷◌, ◌≡◌, ◌⊎◌}, specs.List.range_with_len}
+use Rattle.std.proofs.Common.{List, [], ap, arith, false, inl, inr, length, map, refl, replicate, ℕ}
+use Rattle.std.{proofs.Common.{true, ◌++◌, ◌<◌, ◌∷◌, ◌≡◌, ◌⊎◌}, specs.List.range_with_len}
 use Rattle.std.specs.Prelude.{Bool, IsTrue, None, Option, Some, unwrap_or}
 use Rattle.vb_model.{proofs.Samples.{differ, plug, ready}, specs.{Guest.Guest, HostFrames.IsOut}}
 use Rattle.vb_model.specs.{HostLaws.WorldsAgree, StepLaws.{HasNoFrame, HasNoReservedBallooned}}
@@ -8,10 +8,9 @@ use Rattle.vb_model.specs.StepLaws.{IsOfOthers, IsUnchanged, WantOfFrames, call_
 use Rattle.vb_model.specs.{StepLaws.may_want_memory, Tests.is_in, World.World}
 use Rattle.vb_model.specs.declared.calls.Call.TheVariants.{Inflate, Init, Read, Reset, Scribble}
 use Rattle.vb_model.specs.declared.calls.{Call.TheVariants.{Take, Work, Write}, Claim.Claim}
-use Rattle.vb_model.specs.declared.calls.{Claim.TheVariants.Gave, Event.Event}
-use Rattle.vb_model.specs.declared.calls.Event.TheVariants.{Balance, Frames as CountFrames}
+use Rattle.vb_model.specs.declared.calls.{Claim.TheVariants.Gave, Event.{Event, TheVariants.Unplug}}
+use Rattle.vb_model.specs.declared.calls.Event.TheVariants.{Balance, Frames as CountFrames, Restart}
 use Rattle.vb_model.specs.declared.calls.Event.TheVariants.{Guest as OnGuest, Query as OnQuery}
-use Rattle.vb_model.specs.declared.calls.Event.TheVariants.{Restart, Unplug}
 use Rattle.vb_model.specs.declared.calls.Query.TheVariants.{Backing, Balloon, Memory, PagesAt}
 use Rattle.vb_model.specs.declared.calls.Query.TheVariants.{PagesBallooned, Places}
 use Rattle.vb_model.specs.declared.places.Place.TheVariants.{Lent, Reserved, Used}

@@ -1,23 +1,22 @@
 -- Laws at what they must not leave out: any guest, rogue or honest, at any status and of any size,
 -- and both ways where they say so.
-use Rattle.std.proofs.Common.{◌≡◌, ℕ, true, false, List, [], ◌∷◌, refl, ◌⊎◌, inl, inr, arith}
-use Rattle.std.specs.Prelude.{Option, Some, unwrap_or, IsTrue}
-use Rattle.vb_model.specs.declared.calls.Call.TheVariants.{Init, Write, Scribble, Deflate, Work}
-use Rattle.vb_model.specs.StepLaws.{Follows, TargetsAreKept, TargetsAreSet, ConfigurationsAreKept}
-use Rattle.vb_model.specs.StepLaws.{HasNoFrame, FramesGoBack, RestartedAreHonest, RoguesAreMade}
-use Rattle.vb_model.specs.StepLaws.{ScribblesMakeRogues, RoguesStay, IsGiven, FramesEnterByClaims}
-use Rattle.vb_model.specs.StepLaws.{RefusedClaimsAreAnswered, WantOfFrames, NoFrameIsExact}
-use Rattle.vb_model.{specs.declared.calls.Call.Call, specs.declared.calls.Claim.Claim}
-use Rattle.vb_model.{specs.declared.calls.Call.TheVariants.{Reap, SetTarget}, specs.Step.HonestStep}
-use Rattle.vb_model.{specs.declared.calls.Claim.TheVariants.Gave, specs.Driver.claim_refusal}
-use Rattle.vb_model.specs.declared.replies.Refusal.TheVariants.{NoFrame, NoMemory}
-use Rattle.vb_model.{specs.declared.replies.Reply.Reply, specs.Guest.{Guest, frame_of, tells_host}}
+use Rattle.std.proofs.Common.{List, [], arith, false, inl, inr, refl, true, ℕ, ◌∷◌, ◌≡◌, ◌⊎◌}
+use Rattle.std.specs.Prelude.{IsTrue, Option, Some, unwrap_or}
+use Rattle.vb_model.specs.{Consistent.IsConsistent, Determined.HonestStepsAgree, Guest.Guest}
+use Rattle.vb_model.specs.{Driver.claim_refusal, Guest.{frame_of, tells_host}, HostEvents.WorldStep}
+use Rattle.vb_model.specs.{Orderly.IsOrderly, Rogue.{GuestStep, is_read, pages_to_back}}
+use Rattle.vb_model.specs.{Step.HonestStep, StepLaws.{ConfigurationsAreKept, Follows, FramesGoBack}}
+use Rattle.vb_model.specs.StepLaws.{FramesEnterByClaims, HasNoFrame, IsGiven, NoFrameIsExact}
+use Rattle.vb_model.specs.StepLaws.{NoMemoryIsExact, RefusedClaimsAreAnswered, RestartedAreHonest}
+use Rattle.vb_model.specs.StepLaws.{RoguesAreMade, RoguesStay, ScribblesMakeRogues, TargetsAreKept}
+use Rattle.vb_model.specs.{StepLaws.{TargetsAreSet, WantIsAnswered, WantOfFrames}, Telling.ToldStep}
+use Rattle.vb_model.specs.{Telling.ToldStepsAgree, World.{World, guest_at}}
+use Rattle.vb_model.specs.declared.calls.Call.{Call, TheVariants.{Deflate, Init, Reap, Scribble}}
+use Rattle.vb_model.specs.declared.calls.{Call.TheVariants.{SetTarget, Work, Write}, Claim.Claim}
+use Rattle.vb_model.specs.declared.calls.{Claim.TheVariants.Gave, Event.TheVariants.Restart}
+use Rattle.vb_model.specs.declared.calls.Event.TheVariants.{Guest as OnGuest, Unplug}
+use Rattle.vb_model.specs.declared.replies.{Refusal.TheVariants.{NoFrame, NoMemory}, Reply.Reply}
 use Rattle.vb_model.specs.declared.replies.Reply.TheVariants.{Done, Refused}
-use Rattle.vb_model.{specs.Rogue.{pages_to_back, is_read, GuestStep}, specs.Consistent.IsConsistent}
-use Rattle.vb_model.{specs.Orderly.IsOrderly, specs.World.{World, guest_at}}
-use Rattle.vb_model.{specs.HostEvents.WorldStep, specs.StepLaws.{WantIsAnswered, NoMemoryIsExact}}
-use Rattle.vb_model.{specs.Determined.HonestStepsAgree, specs.Telling.{ToldStep, ToldStepsAgree}}
-use Rattle.vb_model.specs.declared.calls.Event.TheVariants.{Unplug, Restart, Guest as OnGuest}
 
 -- ---- targets and configurations, of rogue guests too
 

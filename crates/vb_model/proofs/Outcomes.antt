@@ -2,19 +2,18 @@
 use Rattle.std.proofs.Common.{List, [], ap, arith, inl, inr, refl, subst, suc, sym, true, zero, ℕ}
 use Rattle.std.{proofs.Common.{◌∙◌, ◌∷◌, ◌≡◌, ◌≢◌, ◌≤◌, ◌⊎◌}, specs.Prelude.{None, Option, Some}}
 use Rattle.std.specs.Prelude.{slice_get}
-use Rattle.vb_model.proofs.{Cases.supplied, Deeds.{Aimed, Allocated, Buffered, Deed, Freed}}
+use Rattle.vb_model.proofs.{Cases.supplied, Deeds.{Aimed, Allocated, Buffered, Deed, Freed, Stayed}}
 use Rattle.vb_model.proofs.Deeds.{Has_finished, Has_posted, Has_reaped, Has_scribbled, Has_swept}
-use Rattle.vb_model.proofs.Deeds.{Has_taken, Has_written, Initialised, Stayed, Visited, Was_reset}
-use Rattle.vb_model.{proofs.{Deeds.deed, PageSteps.naming-cons}, specs.Device.{settled, used}}
-use Rattle.vb_model.specs.{Device.visited, Driver.{AreClaimsFor, Written, claim_refusal}}
-use Rattle.vb_model.specs.{Driver.pages_needed, Guest.{Guest, is_ballooned, requests, tells_host}}
-use Rattle.vb_model.specs.{Guest.{unbacked, with_requests}, Life.{Negotiates, after_reset}}
-use Rattle.vb_model.specs.{Life.{feature_refusal, lacking}, Refusals.refusal_of, Requests.Deflating}
-use Rattle.vb_model.specs.Requests.{Inflating, Kind, Reporting_free, Request, Requests, naming}
-use Rattle.vb_model.specs.{Rogue.Scribbled, Step.HonestStep, Tests.is_in, declared.calls.Call.Call}
-use Rattle.vb_model.specs.declared.calls.Call.TheVariants.{Init, Scribble, SetTarget, Write}
-use Rattle.vb_model.specs.declared.{calls.Claim.Claim, places.Place.Place, replies.Refusal.Refusal}
-use Rattle.vb_model.specs.declared.replies.Reply.{Reply}
+use Rattle.vb_model.proofs.Deeds.{Has_taken, Has_written, Initialised, Visited, Was_reset, deed}
+use Rattle.vb_model.{proofs.PageSteps.naming-cons, specs.Device.{settled, used, visited}}
+use Rattle.vb_model.specs.{Driver.{AreClaimsFor, Written, claim_refusal, pages_needed}, Guest.Guest}
+use Rattle.vb_model.specs.Guest.{is_ballooned, requests, tells_host, unbacked, with_requests}
+use Rattle.vb_model.specs.{Life.{Negotiates, after_reset, feature_refusal, lacking}, Requests.Kind}
+use Rattle.vb_model.specs.{Refusals.refusal_of, Requests.{Deflating, Inflating, Reporting_free}}
+use Rattle.vb_model.specs.{Requests.{Request, Requests, naming}, Rogue.Scribbled, Step.HonestStep}
+use Rattle.vb_model.specs.{Tests.is_in, declared.calls.Call.{Call, TheVariants.{Init, Scribble}}}
+use Rattle.vb_model.specs.declared.calls.{Call.TheVariants.{SetTarget, Write}, Claim.Claim}
+use Rattle.vb_model.specs.declared.{places.Place.Place, replies.{Refusal.Refusal, Reply.Reply}}
 
 -- the guest with the other one's places, blocks, requests, buffer and ballooned pages
 abbrev pub shuffled : (g x : Guest) → Guest

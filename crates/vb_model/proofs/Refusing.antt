@@ -3,20 +3,18 @@ pub use Rattle.vb_model.proofs.Deeds.{is_refused}
 use Rattle.std.proofs.Common.{Bool, List, [], ap, false, inl, inr, refl, subst, sym, ℕ, ◌∙◌, ◌∷◌}
 use Rattle.std.{proofs.Common.◌≡◌, specs.Prelude.{None, Option, Some}}
 use Rattle.vb_model.proofs.{Cases.{match_cases, supplied}, Deeds.{Aimed, Allocated, Buffered, Deed}}
-use Rattle.vb_model.proofs.Deeds.{Freed, Has_finished, Has_posted, Has_reaped, Has_scribbled}
+use Rattle.vb_model.proofs.Deeds.{Freed, Has_finished, Has_posted, Has_reaped, Has_scribbled, deed}
 use Rattle.vb_model.proofs.Deeds.{Has_swept, Has_taken, Has_written, Initialised, Stayed, Visited}
-use Rattle.vb_model.{proofs.Deeds.{Was_reset, deed, is_refused}, specs.Guest.Guest}
-use Rattle.vb_model.specs.{HostEvents.{Happens, PlugsIn}, HostRefusals.world_causes}
-use Rattle.vb_model.specs.Life.{Negotiates, after_restart, feature_refusal, lacking}
-use Rattle.vb_model.specs.{Refusals.first_refusal, StepLaws.{IsUnchanged, RefusalsChangeNothing}}
-use Rattle.vb_model.specs.StepLaws.{RefusedEventsChangeNothing, with_features_refused}
-use Rattle.vb_model.specs.{World.{World, guest_at, put_guest}, declared.calls.Call.Call}
-use Rattle.vb_model.specs.declared.calls.{Call.TheVariants.Init, Claim.Claim, Event.Event}
-use Rattle.vb_model.specs.declared.calls.Event.TheVariants.{Balance, Frames as CountFrames}
-use Rattle.vb_model.specs.declared.calls.Event.TheVariants.{Guest as OnGuest, Plug}
-use Rattle.vb_model.specs.declared.calls.Event.TheVariants.{Query as OnQuery, Restart, Unplug}
-use Rattle.vb_model.specs.declared.replies.{Refusal.Refusal, Reply.{Reply, TheVariants.Done}}
-use Rattle.vb_model.specs.declared.replies.Reply.TheVariants.{Refused}
+use Rattle.vb_model.{proofs.Deeds.{Was_reset, is_refused}, specs.{Guest.Guest, HostEvents.Happens}}
+use Rattle.vb_model.specs.{HostEvents.PlugsIn, HostRefusals.world_causes, Life.Negotiates}
+use Rattle.vb_model.specs.{Life.{after_restart, feature_refusal, lacking}, Refusals.first_refusal}
+use Rattle.vb_model.specs.StepLaws.{IsUnchanged, RefusalsChangeNothing, RefusedEventsChangeNothing}
+use Rattle.vb_model.specs.{StepLaws.with_features_refused, World.{World, guest_at, put_guest}}
+use Rattle.vb_model.specs.declared.calls.{Call.{Call, TheVariants.Init}, Claim.Claim, Event.Event}
+use Rattle.vb_model.specs.declared.calls.Event.TheVariants.{Balance, Frames as CountFrames, Plug}
+use Rattle.vb_model.specs.declared.calls.Event.TheVariants.{Guest as OnGuest, Query as OnQuery}
+use Rattle.vb_model.specs.declared.{calls.Event.TheVariants.{Restart, Unplug}, replies.Reply.Reply}
+use Rattle.vb_model.specs.declared.replies.{Refusal.Refusal, Reply.TheVariants.{Done, Refused}}
 
 pub not_this : {A : Type 0} (refusal : Refusal) (reply : Reply) → Refused refusal ≡ reply
     → is_refused reply ≡ false → A

@@ -1,21 +1,20 @@
 -- Worked facts of free blocks, allocations, and page reports.
 use Rattle.std.proofs.Common.{Bool, List, [], arith, false, map, refl, replicate, true, ℕ, ◌++◌}
-use Rattle.std.{proofs.Common.{◌∷◌, ◌≡◌}, specs.{List.{flat_map, range_with_len}, Prelude.None}}
-use Rattle.std.specs.Prelude.{Option, Some, drop, ◌*◌}
+use Rattle.std.{proofs.Common.{◌∷◌, ◌≡◌}, specs.Prelude.{None, Option, Some, drop, ◌*◌}}
+use Rattle.std.specs.List.{flat_map, range_with_len}
+use Rattle.vb_model.specs.Pages.{Block, all_free, blocks_at, is_free, is_maximal, is_wholly_free}
+use Rattle.vb_model.specs.Pages.{maximal_free_blocks, place_of}
+use Rattle.vb_model.specs.declared.places.Place.TheVariants.{Free as FreePlace, Giving, Lent, Used}
+use Rattle.vb_model.specs.declared.places.Place.TheVariants.{Reporting, Reserved, Stranded, Taking}
+use Rattle.vb_model.specs.declared.replies.Refusal.TheVariants.{NoFeature, NoPages, NotHeld}
+use Rattle.vb_model.specs.declared.replies.Refusal.TheVariants.{NotReady, Nothing, QueueFull}
 use Rattle.vb_model.proofs.Samples.{config, down, ready, request, without_reporting}
-use Rattle.vb_model.specs.{Guest.{Guest, fresh}, Pages.{Block, all_free, blocks_at, is_free}}
-use Rattle.vb_model.specs.Pages.{is_maximal, is_wholly_free, maximal_free_blocks, place_of}
+use Rattle.vb_model.specs.declared.calls.Call.TheVariants.{Alloc, Free, Reap, Report, Reset}
+use Rattle.vb_model.specs.declared.replies.Reply.TheVariants.{Done, NotUsed, Page, Posted, Reaped}
 use Rattle.vb_model.specs.Refusals.{causes, first_refusal, refusal_of, reported_blocks}
-use Rattle.vb_model.specs.{Requests.{IsLeastHead, Request, Requests, no_requests}, Step.HonestStep}
-use Rattle.vb_model.specs.{Step.Performs, declared.calls.Call.{Call, TheVariants.{Alloc, Free}}}
-use Rattle.vb_model.specs.declared.calls.Call.TheVariants.{Reap, Report, Reset}
-use Rattle.vb_model.specs.declared.places.Place.{Place, TheVariants.{Free as FreePlace, Giving}}
-use Rattle.vb_model.specs.declared.places.Place.TheVariants.{Lent, Reporting, Reserved, Stranded}
-use Rattle.vb_model.specs.declared.places.Place.TheVariants.{Taking, Used}
-use Rattle.vb_model.specs.declared.replies.Refusal.{Refusal, TheVariants.{NoFeature, NoPages}}
-use Rattle.vb_model.specs.declared.replies.Refusal.TheVariants.{NotHeld, NotReady, Nothing}
-use Rattle.vb_model.specs.declared.replies.{Refusal.TheVariants.QueueFull, Reply.TheVariants.Done}
-use Rattle.vb_model.specs.declared.replies.Reply.TheVariants.{NotUsed, Page, Posted, Reaped}
+use Rattle.vb_model.specs.{Guest.Guest, Requests.{IsLeastHead, Request, Requests, no_requests}}
+use Rattle.vb_model.specs.{Guest.fresh, Step.{HonestStep, Performs}, declared.calls.Call.Call}
+use Rattle.vb_model.specs.declared.{places.Place.Place, replies.Refusal.Refusal}
 
 abbrev block : ℕ → ℕ → Block
 block start order = record { start = start; order = order }

@@ -3,17 +3,16 @@ use Rattle.std.proofs.Common.{List, [], ap, arith, false, map, refl, replicate, 
 use Rattle.std.{proofs.{Common.{◌∷◌, ◌≡◌}, lemmas.List.get_or-replicate}, specs.List.range_with_len}
 use Rattle.std.specs.Prelude.{None, Option, Some, unwrap_or}
 use Rattle.vb_model.{proofs.Samples.{config, differ, down, ready}, specs.Guest.{Config, Guest}}
-use Rattle.vb_model.specs.{Guest.is_ballooned, Refusals.refusal_of, Rogue.HasAllPages}
-use Rattle.vb_model.specs.Rogue.{IsRogueAfter, LosesFrames, RogueStep, pages_to_back}
-use Rattle.vb_model.specs.{Step.HonestStep, declared.calls.Call.TheVariants.{Alloc, Ask, Deflate}}
-use Rattle.vb_model.specs.declared.calls.Call.TheVariants.{Finish, Free, Inflate, Init, Oom, Read}
-use Rattle.vb_model.specs.declared.calls.Call.TheVariants.{Reap, Report, Reset, Scribble, SetTarget}
-use Rattle.vb_model.specs.declared.calls.Call.TheVariants.{Stats, Sweep, Take, Work, Write}
-use Rattle.vb_model.specs.declared.calls.Claim.{Claim, TheVariants.{Gave, GaveNoFrame}}
-use Rattle.vb_model.specs.declared.calls.Claim.TheVariants.{GaveNoMemory}
-use Rattle.vb_model.specs.declared.places.Place.TheVariants.{Lent, Used}
+use Rattle.vb_model.specs.{Guest.is_ballooned, Refusals.refusal_of, Rogue.{HasAllPages, RogueStep}}
+use Rattle.vb_model.specs.{Rogue.{IsRogueAfter, LosesFrames, pages_to_back}, Step.HonestStep}
+use Rattle.vb_model.specs.declared.calls.Call.TheVariants.{Alloc, Ask, Deflate, Finish, Free, Init}
+use Rattle.vb_model.specs.declared.calls.Call.TheVariants.{Inflate, Oom, Read, Reap, Report, Reset}
+use Rattle.vb_model.specs.declared.calls.Call.TheVariants.{Scribble, SetTarget, Stats, Sweep, Take}
+use Rattle.vb_model.specs.declared.calls.{Call.TheVariants.{Work, Write}, Claim.Claim}
+use Rattle.vb_model.specs.declared.calls.Claim.TheVariants.{Gave, GaveNoFrame, GaveNoMemory}
+use Rattle.vb_model.specs.declared.{places.Place.TheVariants.{Lent, Used}, replies.Reply.Reply}
 use Rattle.vb_model.specs.declared.replies.Refusal.TheVariants.{NoFrame, NoMemory, OutOfRam}
-use Rattle.vb_model.specs.declared.replies.Reply.{Reply, TheVariants.{Done, Idle, Refused}}
+use Rattle.vb_model.specs.declared.replies.Reply.TheVariants.{Done, Idle, Refused}
 
 -- ---- a scribble is refused outside memory or past the end of its page, whatever place the page is
 -- at

@@ -1,15 +1,14 @@
 -- Worked facts of what a rogue guest claims, and of what a refusal leaves of it.
-use Rattle.std.proofs.Common.{◌≡◌, ℕ, true, false, List, [], ◌∷◌, ◌++◌, replicate, refl}
-use Rattle.std.specs.Prelude.{Option, Some, None}
-use Rattle.vb_model.specs.declared.replies.Refusal.TheVariants.{NoFrame, NoMemory, AlreadyUp, Busy}
-use Rattle.vb_model.specs.declared.replies.Refusal.TheVariants.{FeatureNotOffered, Broken}
-use Rattle.vb_model.specs.declared.calls.Call.TheVariants.{Init, Write, Reap, Take}
-use Rattle.vb_model.{specs.declared.calls.Claim.Claim, specs.declared.replies.Reply.Reply}
-use Rattle.vb_model.specs.declared.calls.Claim.TheVariants.{Gave, GaveNoFrame, GaveNoMemory}
-use Rattle.vb_model.specs.declared.places.Place.TheVariants.{Reserved, Used, Lent}
+use Rattle.std.proofs.Common.{List, [], false, refl, replicate, true, ℕ, ◌++◌, ◌∷◌, ◌≡◌}
+use Rattle.std.specs.Prelude.{None, Option, Some}
+use Rattle.vb_model.specs.declared.replies.Refusal.TheVariants.{AlreadyUp, Broken, Busy, NoFrame}
+use Rattle.vb_model.specs.declared.replies.Refusal.TheVariants.{FeatureNotOffered, NoMemory}
 use Rattle.vb_model.specs.declared.replies.Refusal.TheVariants.{RingBroken, VersionMissing}
-use Rattle.vb_model.{specs.declared.replies.Reply.TheVariants.Refused, specs.Rogue.RogueStep}
-use Rattle.vb_model.{specs.Guest.{Guest, no_statistics}, proofs.Samples.{ready, request}}
+use Rattle.vb_model.specs.declared.calls.Call.TheVariants.{Init, Reap, Take, Write}
+use Rattle.vb_model.specs.declared.calls.Claim.TheVariants.{Gave, GaveNoFrame, GaveNoMemory}
+use Rattle.vb_model.specs.{Guest.Guest, declared.places.Place.TheVariants.{Lent, Reserved, Used}}
+use Rattle.vb_model.{proofs.Samples.{ready, request}, specs.{Guest.no_statistics, Rogue.RogueStep}}
+use Rattle.vb_model.specs.declared.{calls.Claim.Claim, replies.Reply.{Reply, TheVariants.Refused}}
 
 -- pages 16 to 62 are used and have no frame, page 63 is lent
 abbrev rogue : Guest

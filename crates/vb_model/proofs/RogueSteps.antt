@@ -1,13 +1,12 @@
 -- No reserved page is ever ballooned, in a rogue guest neither.
-use Rattle.std.{proofs.Common.{◌≡◌, ℕ, true, false, refl, ◌∙◌, inl, inr, arith}, specs.Prelude.Some}
-use Rattle.std.proofs.lemmas.{List.get_or_past, Bool.{cases_lt, lt-ltb}}
-use Rattle.vb_model.{specs.declared.places.Place.Place, specs.declared.calls.Event.Event}
-use Rattle.vb_model.{specs.declared.places.Place.TheVariants.Reserved, specs.Layout.reserved_pages}
-use Rattle.vb_model.{specs.declared.replies.Reply.Reply, specs.Pages.{is_reserved, place_of}}
-use Rattle.vb_model.{specs.Guest.{Guest, is_ballooned}, specs.Consistent.IsConsistent}
-use Rattle.vb_model.{specs.Orderly.IsOrderly, specs.StepLaws.HasNoReservedBallooned}
-use Rattle.vb_model.{specs.World.{World, guest_at}, specs.HostEvents.WorldStep}
-use Rattle.vb_model.{proofs.PageSteps.naming-all, proofs.Changes.{Change, changes}}
+use Rattle.std.proofs.Common.{arith, false, inl, inr, refl, true, ℕ, ◌∙◌, ◌≡◌}
+use Rattle.std.{proofs.lemmas.{Bool.{cases_lt, lt-ltb}, List.get_or_past}, specs.Prelude.Some}
+use Rattle.vb_model.proofs.{Changes.{Change, changes}, PageSteps.naming-all}
+use Rattle.vb_model.specs.{Consistent.IsConsistent, Guest.{Guest, is_ballooned}}
+use Rattle.vb_model.specs.{HostEvents.WorldStep, Layout.reserved_pages, Orderly.IsOrderly}
+use Rattle.vb_model.specs.{Pages.{is_reserved, place_of}, StepLaws.HasNoReservedBallooned}
+use Rattle.vb_model.specs.{World.{World, guest_at}, declared.calls.Event.Event}
+use Rattle.vb_model.specs.declared.{places.Place.{Place, TheVariants.Reserved}, replies.Reply.Reply}
 
 reserved_is : (place : Place) → is_reserved place ≡ true → place ≡ Reserved
 reserved_is Reserved e = refl

@@ -4,12 +4,11 @@ use Rattle.std.{proofs.Common.{◌++◌, ◌∷◌, ◌≡◌}, specs.Prelude.{N
 use Rattle.vb_model.{proofs.Samples.{differ, down, ready}, specs.{Guest.Guest, GuestRun.Alone}}
 use Rattle.vb_model.specs.GuestRun.{AreOwn, Called, Entry, EntryStep, InOneLife, IsOwnEntry, Looked}
 use Rattle.vb_model.specs.{Run.{History, Run, Steps, guest_in, last_world}, World.{World, made}}
-use Rattle.vb_model.specs.declared.calls.Actor.TheVariants.{Balancer, Processor}
+use Rattle.vb_model.specs.declared.calls.{Actor.TheVariants.{Balancer, Processor}, Claim.Claim}
 use Rattle.vb_model.specs.declared.calls.Call.TheVariants.{Ask, Init, Reset, Scribble, SetTarget}
-use Rattle.vb_model.specs.declared.calls.{Call.TheVariants.{Work, Write}, Claim.Claim}
-use Rattle.vb_model.specs.declared.calls.{Claim.TheVariants.Gave, Event.TheVariants.Balance}
-use Rattle.vb_model.specs.declared.calls.Event.TheVariants.{Frames as CountFrames, Guest as OnGuest}
-use Rattle.vb_model.specs.declared.calls.Event.TheVariants.{Restart, Unplug}
+use Rattle.vb_model.specs.declared.calls.{Call.TheVariants.{Work, Write}, Claim.TheVariants.Gave}
+use Rattle.vb_model.specs.declared.calls.Event.TheVariants.{Balance, Frames as CountFrames, Restart}
+use Rattle.vb_model.specs.declared.calls.Event.TheVariants.{Guest as OnGuest, Unplug}
 use Rattle.vb_model.specs.declared.replies.{Refusal.TheVariants.{OutOfRam, Short}, Reply.Reply}
 use Rattle.vb_model.specs.declared.replies.Reply.TheVariants.{Done, Frames, Idle, Refused, Targets}
 

@@ -1,19 +1,18 @@
 -- What is read off a run that is promised to be safe: its end, its replies, and that it is safe.
-use Rattle.std.proofs.Common.{◌≡◌, ℕ, true, false, List, [], ◌∷◌, ◌++◌, replicate, refl, sym, ap}
-use Rattle.std.{proofs.Common.{subst, arith, ◌≢◌, ◌∙◌, inl}, specs.Prelude.{Option, Some, None}}
-use Rattle.vb_model.specs.declared.replies.Reply.TheVariants.{Done, Frames, Idle, Page, Posted}
-use Rattle.vb_model.specs.declared.{replies.Reply.TheVariants.Swept, places.Place.TheVariants.Used}
-use Rattle.vb_model.specs.{declared.places.Place.TheVariants.Lent, Run.History}
+use Rattle.std.proofs.Common.{List, [], ap, arith, false, inl, refl, replicate, subst, sym, true, ℕ}
+use Rattle.std.{proofs.Common.{◌++◌, ◌∙◌, ◌∷◌, ◌≡◌, ◌≢◌}, specs.Prelude.{None, Option, Some}}
+use Rattle.vb_model.proofs.{AskedFacts.{back, giving, handed_out}, Changes.same_some, Samples.down}
+use Rattle.vb_model.proofs.{Performed.performed, Samples.{page_16_at, ready, request, untold}}
+use Rattle.vb_model.specs.{Guest.{Guest, unbacked}, GuestRun.{Alone, AreOwn, Entry, InOneLife}}
+use Rattle.vb_model.specs.{GuestRun.{IsOwnEntry, Leads, OwnStep}, Histories.IsSafeCourse, Safe.Safe}
+use Rattle.vb_model.specs.{HostEvents.WorldStep, Run.History, Safe.{IsSafeOf, IsSafeRun, part}}
+use Rattle.vb_model.specs.{Safe.NoFrameTwice, SafeLaws.LivesAreAlone, World.{World, guest_at, made}}
 use Rattle.vb_model.specs.declared.calls.Call.TheVariants.{Alloc, Inflate, Init, Reset, Sweep, Work}
-use Rattle.vb_model.specs.declared.{calls.Event.Event, replies.Reply.Reply}
-use Rattle.vb_model.{proofs.Changes.same_some, specs.Guest.{Guest, unbacked}, specs.World.World}
-use Rattle.vb_model.specs.{World.{made, guest_at}, HostEvents.WorldStep, Histories.IsSafeCourse}
-use Rattle.vb_model.specs.GuestRun.{Entry, OwnStep, Leads, IsOwnEntry, AreOwn, InOneLife, Alone}
-use Rattle.vb_model.specs.{SafeLaws.LivesAreAlone, Safe.{Safe, IsSafeOf, IsSafeRun, NoFrameTwice}}
-use Rattle.vb_model.{specs.Safe.part, proofs.Samples.{ready, down, untold, page_16_at, request}}
-use Rattle.vb_model.proofs.{AskedFacts.{back, giving, handed_out}, Performed.performed}
-use Rattle.vb_model.specs.declared.calls.Event.TheVariants.{Guest as OnGuest, Restart, Unplug}
-use Rattle.vb_model.specs.declared.calls.Event.TheVariants.{Frames as CountFrames}
+use Rattle.vb_model.specs.declared.calls.Event.{Event, TheVariants.{Frames as CountFrames, Restart}}
+use Rattle.vb_model.specs.declared.calls.Event.TheVariants.{Guest as OnGuest, Unplug}
+use Rattle.vb_model.specs.declared.{places.Place.TheVariants.{Lent, Used}, replies.Reply.Reply}
+use Rattle.vb_model.specs.declared.replies.Reply.TheVariants.{Done, Frames, Idle, Page, Posted}
+use Rattle.vb_model.specs.declared.replies.Reply.TheVariants.{Swept}
 
 -- ---- a run of no events ends where it began
 

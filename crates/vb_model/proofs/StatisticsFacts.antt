@@ -1,16 +1,15 @@
 -- Worked facts of the statistics buffer.
 use Rattle.std.{proofs.Common.{[], map, refl, replicate, ◌++◌, ◌∷◌, ◌≡◌}, specs.Prelude.None}
 use Rattle.std.specs.Prelude.{Some, ℕ}
-use Rattle.vb_model.{proofs.Samples.{down, mixed, ready, without_stats_vq}, specs.Driver.figures}
-use Rattle.vb_model.specs.{Guest.Guest, Life.Negotiates, Refusals.refusal_of, Requests.BufferDone}
+use Rattle.vb_model.specs.declared.replies.Reply.TheVariants.{Asked, Done, Empty, Filled, NotUsed}
+use Rattle.vb_model.specs.{Requests.BufferDone, declared.replies.Reply.TheVariants.{Ready, Taken}}
 use Rattle.vb_model.specs.Requests.{BufferPosted, BufferTaken, Figures, NoBuffer, StatisticsBuffer}
-use Rattle.vb_model.specs.{Step.{HonestStep, Performs}, declared.calls.Call.TheVariants.Ask}
-use Rattle.vb_model.specs.declared.calls.Call.TheVariants.{Finish, Reap, Reset, Stats, Take}
-use Rattle.vb_model.specs.declared.replies.{LastStatistics.LastStatistics, Refusal.TheVariants.Busy}
-use Rattle.vb_model.specs.declared.replies.Refusal.TheVariants.{NoFeature, NoQueue, NotReady}
-use Rattle.vb_model.specs.declared.replies.{Refusal.TheVariants.NotTaken, Reply.TheVariants.Asked}
-use Rattle.vb_model.specs.declared.replies.Reply.TheVariants.{Done, Empty, Filled, NotUsed, Ready}
-use Rattle.vb_model.specs.declared.replies.Reply.TheVariants.{Taken}
+use Rattle.vb_model.specs.declared.calls.Call.TheVariants.{Ask, Finish, Reap, Reset, Stats, Take}
+use Rattle.vb_model.specs.declared.replies.Refusal.TheVariants.{Busy, NoFeature, NoQueue, NotReady}
+use Rattle.vb_model.{proofs.Samples.down, specs.declared.replies.Refusal.TheVariants.NotTaken}
+use Rattle.vb_model.{proofs.Samples.{mixed, ready, without_stats_vq}, specs.Step.HonestStep}
+use Rattle.vb_model.specs.{Driver.figures, Guest.Guest, Life.Negotiates, Step.Performs}
+use Rattle.vb_model.specs.{Refusals.refusal_of, declared.replies.LastStatistics.LastStatistics}
 
 -- ---- figures, in bytes: the free pages, and all pages, the reserved ones among them
 

@@ -8,19 +8,18 @@ use Rattle.vb_model.specs.Guest.{Guest, frame_of, is_ballooned, is_ready, tells_
 use Rattle.vb_model.specs.{GuestRun.{Called, Leads}, Life.{after_reset, feature_refusal}}
 use Rattle.vb_model.specs.{Pages.{block_at, place_of}, Refusals.refusal_of, Requests.BufferPosted}
 use Rattle.vb_model.specs.Requests.{IsLeastHead, Request, Requests, given_away, no_requests}
-use Rattle.vb_model.specs.{Status.status_refusal, Step.{HonestStep, Performs}}
-use Rattle.vb_model.specs.Tables.{inflate_causes, request_causes, sweep_causes}
-use Rattle.vb_model.specs.declared.calls.{Actor.TheVariants.{Processor, Worker}, Call.Call}
+use Rattle.vb_model.specs.{Status.status_refusal, Step.{HonestStep, Performs}, Tables.sweep_causes}
+use Rattle.vb_model.specs.{Tables.{inflate_causes, request_causes}, declared.calls.Call.Call}
+use Rattle.vb_model.specs.declared.calls.Actor.TheVariants.{Processor, Worker}
 use Rattle.vb_model.specs.declared.calls.Call.TheVariants.{Alloc, Deflate, Finish, Inflate, Init}
 use Rattle.vb_model.specs.declared.calls.Call.TheVariants.{Oom, Reap, Report, Reset, Sweep, Take}
 use Rattle.vb_model.specs.declared.calls.{Call.TheVariants.{Work, Write}, Claim.TheVariants.Gave}
 use Rattle.vb_model.specs.declared.places.Place.{Place, TheVariants.{Free as FreePlace, Giving}}
 use Rattle.vb_model.specs.declared.places.Place.TheVariants.{Lent, Reporting, Reserved, Stranded}
 use Rattle.vb_model.specs.declared.places.Place.TheVariants.{Taking, Used}
-use Rattle.vb_model.specs.declared.replies.Refusal.TheVariants.{DeflatePending, NeedsReset}
-use Rattle.vb_model.specs.declared.replies.Refusal.TheVariants.{NoFeature, NoPages, NotBallooned}
-use Rattle.vb_model.specs.declared.replies.Refusal.TheVariants.{NotReady, Nothing, QueueFull}
-use Rattle.vb_model.specs.declared.replies.Refusal.TheVariants.{VersionMissing}
+use Rattle.vb_model.specs.declared.replies.Refusal.TheVariants.{DeflatePending, NeedsReset, NoPages}
+use Rattle.vb_model.specs.declared.replies.Refusal.TheVariants.{NoFeature, NotBallooned, NotReady}
+use Rattle.vb_model.specs.declared.replies.Refusal.TheVariants.{Nothing, QueueFull, VersionMissing}
 use Rattle.vb_model.specs.declared.replies.Reply.TheVariants.{Done, Finished, Page, Posted, Ready}
 use Rattle.vb_model.specs.declared.replies.Reply.TheVariants.{Reaped, Refused, Swept, Taken}
 

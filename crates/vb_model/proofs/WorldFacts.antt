@@ -3,11 +3,10 @@ use Rattle.std.proofs.Common.{List, [], arith, false, inl, inr, refl, replicate,
 use Rattle.std.{proofs.Common.{◌∷◌, ◌≡◌, ◌⊎◌}, specs.Prelude.{None, Option, Some}}
 use Rattle.vb_model.{proofs.Samples.{down, plug, ready}, specs.Guest.{Config, Guest, fresh}}
 use Rattle.vb_model.specs.{HostEvents.{WorldStep, with_targets}, HostFrames.Gives, World.World}
-use Rattle.vb_model.specs.{World.made, declared.calls.Call.TheVariants.SetTarget}
+use Rattle.vb_model.specs.{World.made, declared.calls.{Call.TheVariants.SetTarget, Event.Event}}
 use Rattle.vb_model.specs.declared.calls.Claim.TheVariants.{Gave, GaveNoFrame, GaveNoMemory}
-use Rattle.vb_model.specs.declared.calls.Event.{Event, TheVariants.Frames as CountFrames}
-use Rattle.vb_model.specs.declared.calls.Event.TheVariants.{Guest as OnGuest, Query as OnQuery}
-use Rattle.vb_model.specs.declared.calls.Event.TheVariants.{Restart, Unplug}
+use Rattle.vb_model.specs.declared.calls.Event.TheVariants.{Frames as CountFrames, Guest as OnGuest}
+use Rattle.vb_model.specs.declared.calls.Event.TheVariants.{Query as OnQuery, Restart, Unplug}
 use Rattle.vb_model.specs.declared.{calls.Query.TheVariants.Places, replies.Refusal.Refusal}
 use Rattle.vb_model.specs.declared.replies.Refusal.TheVariants.{BadConfig, NoDevice, NoGuest}
 use Rattle.vb_model.specs.declared.replies.Refusal.TheVariants.{NoMemory, TooMany}
