@@ -72,3 +72,4 @@ pub mod Exactly
 pub mod Filling
 pub mod Quiet
 mod SupplyFacts
+mod ExactFacts
