@@ -124,13 +124,8 @@ there_cpu served small not_it = grind arith
 pub alloc_refusal : {s new : PageState} {cpu order : ℕ} (r : Result ℕ PageFault)
     → IsServed s new cpu order r → refusal_in (answered r)
     ≡ first_of (nat_lt 9 order) (nat_le (cpu_count s) cpu) (has_block s order)
-alloc_refusal (Ok start) served =
-    grind (arith, small_order, there_cpu, nat_lt, le-ltb, nat_le, lt-leb, some_block)
-alloc_refusal (Err OrderTooLarge) served = grind arith
-alloc_refusal (Err NoSuchCpu) served = grind arith
-alloc_refusal (Err NoFreeBlock) served =
-    grind (arith, small_order, there_cpu, nat_lt, le-ltb, nat_le, lt-leb, no_block)
-alloc_refusal (Err NoSuchBlock) served = absurd (served.never refl)
+alloc_refusal x0 served =
+    grind (arith, small_order, there_cpu, nat_lt, le-ltb, nat_le, lt-leb, some_block, no_block)
 
 pub alloc_refused : {s new : PageState} {cpu order : ℕ} {r : Result ℕ PageFault}
     → IsServed s new cpu order r → OnErr (answered r) (Becomes s new (flags_of s.free) s.held)
@@ -197,17 +192,7 @@ count_step k (x ∷ xs) = omega (
 ) where
   at : ((k < x) ⊎ (x ≤ k)) → ((x < k) ⊎ (k ≤ x))
       → one_if (eqb x k) + one_if (nat_le (suc k) x) ≡ one_if (nat_le k x)
-  at (inl over) b =
-      let e : one_if (eqb x k) ≡ 0 = ap one_if (ne_eqb x k (λ q. absurd (omega arith))) in
-      let f : one_if (nat_le (suc k) x) ≡ 1 = ap one_if (le-leb (suc k) x (omega arith)) in
-      let g : one_if (nat_le k x) ≡ 1 = ap one_if (le-leb k x (omega arith)) in omega arith
-  at (inr le) (inl under) =
-      let e : one_if (eqb x k) ≡ 0 = ap one_if (ne_eqb x k (λ q. absurd (omega arith))) in
-      let f : one_if (nat_le (suc k) x) ≡ 0 = ap one_if (lt-leb (suc k) x (omega arith)) in
-      let g : one_if (nat_le k x) ≡ 0 = ap one_if (lt-leb k x under) in omega arith
-  at (inr le) (inr ge) = let e : one_if (eqb x k) ≡ 1 = ap one_if (eq-eqb x k (omega arith)) in
-      let f : one_if (nat_le (suc k) x) ≡ 0 = ap one_if (lt-leb (suc k) x (omega arith)) in
-      let g : one_if (nat_le k x) ≡ 1 = ap one_if (le-leb k x ge) in omega arith
+  at x0 b = grind (arith, eqb, ne_eqb, nat_le, suc, le-leb, lt-leb, eq-eqb)
 
 flags_sum : (k : ℕ) (set : List Bool) (xs : List ℕ) (test : ℕ → Bool) → ((i : ℕ) → i < length set
     → one_if (test (k + i)) ≤ one_if (get_or set i false) + times (k + i) xs)
@@ -241,9 +226,7 @@ count_flags s =
     omega (arith, all, count_by-le-length (λ p. nat_le 0 p) (in_lists s.free))
   where
     at : (a b : Bool) (n : ℕ) → (b ≡ true → 1 ≤ n) → one_if (a || b) ≤ one_if a + n
-    at true b n some = omega arith
-    at false true n some = omega (arith, some refl)
-    at false false n some = omega arith
+    at x0 b n some = grind (arith, true, false)
 
     one : (i : ℕ) → one_if (is_free_page s i) ≤ one_if (get_or s.free.areas i false) + times i
         (in_lists s.free)

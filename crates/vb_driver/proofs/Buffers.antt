@@ -42,17 +42,16 @@ at_ok (Err e) P is h = cc
 pub buffer_apart : {old new : Pages} (base h k n : ℕ)
     → n ≤ 1024 → SameBut old new (buffer_page base h) (buffer_offset h) (buffer_offset h + n)
     → k ≢ h → SameIn old new (buffer_page base k) (buffer_offset k) (buffer_offset k + 1024)
-buffer_apart {old} {new} base h k n small but ne = let hd = div-add-mod h 4 in
-    let kd = div-add-mod k 4 in elim (cases_eq (k / 4) (h / 4)) [
-      | inl same ↦
-          let here : buffer_page base h ≡ buffer_page base k = ap (λ x. base + x) (sym same) in
-          let P : ℕ → Type 0 = λ p. SameIn old new p (buffer_offset k) (buffer_offset k + 1024) in
-          subst P here (elim (cases_lt (k % 4) (h % 4)) [
-            | inl less ↦ same_below old new _ _ _ _ _ but (omega arith)
-            | inr more ↦ same_above old new _ _ _ _ _ but (omega (arith, ne))
-          ])
-      | inr apart ↦ same_other old new _ _ _ _ _ _ but (omega (arith, apart))
-    ]
+buffer_apart {old} {new} base h k n small but ne = let kd = div-add-mod k 4 in elim (cases_eq (k / 4) (h / 4)) [
+  | inl same ↦
+      let here : buffer_page base h ≡ buffer_page base k = ap (λ x. base + x) (sym same) in
+      let P : ℕ → Type 0 = λ p. SameIn old new p (buffer_offset k) (buffer_offset k + 1024) in
+      subst P here (elim (cases_lt (k % 4) (h % 4)) [
+        | inl less ↦ same_below old new _ _ _ _ _ but (omega arith)
+        | inr more ↦ same_above old new _ _ _ _ _ but (omega (arith, ne))
+      ])
+  | inr apart ↦ same_other old new _ _ _ _ _ _ but (omega (arith, apart))
+]
 
 pub names_at : {mem : Pages} {p o p' o' : ℕ} {xs ys : List ℕ}
     → p ≡ p' → o ≡ o' → xs ≡ ys → Names mem p o xs → Names mem p' o' ys

@@ -105,11 +105,4 @@ reserved_table pages counted lents strandeds is most = record {
 } where
   at : (place : Place) → get_or (pages ∷ 0 ∷ 0 ∷ 0 ∷ 0 ∷ 0 ∷ 0 ∷ 0 ∷ []) (number_of place) 0
       ≡ cond (is_at place Reserved) pages 0
-  at Reserved = refl
-  at Free = refl
-  at Used = refl
-  at Giving = refl
-  at Lent = refl
-  at Taking = refl
-  at Stranded = refl
-  at Reporting = refl
+  at x0 = grind arith

@@ -46,8 +46,7 @@ pub figures_written : {E : Type 0} {T : Type 0} {old new : Pages} {free total : 
 figures_written
     {old} {new} {free} {total} {bs} answer is lt_free lt_total covers backed accepted put =
     let len : length bs ≡ 20 = ap length is in
-    let whole : Covers old 12 0 (length bs) =
-    record { page = covers.page; bytes = omega (arith, len) } in
+    let whole : Covers old 12 0 (length bs) = search arith in
     let wrote : Wrote old new 12 0 (figure_bytes free total) = rw (← is)
     (at_ok answer _ (accepted whole backed) put) in record {
       free_is = free_written total lt_free wrote;

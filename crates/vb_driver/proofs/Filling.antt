@@ -38,8 +38,7 @@ fills_at : {m1 m2 m3 : Pages} {r r2 : DriverEnd} {n a free total : ℕ}
     → PostsBuffer m1 m3 r r2 (record { free = free; total = total })
 fills_at {m1} {m2} {m3} {r} {r2} {n} {a} {free} {total} s adds =
     let sized : IsSize n = subst IsSize s.queue.size s.is_end.fits.size in
-    let beside : IsBeside r.layout 12 = subst (λ (l : Layout). IsBeside l 12) (sym s.queue.layout)
-    (beside_buffers 2 sized (omega arith) (omega arith)) in
+    let beside : IsBeside r.layout 12 = search (arith, beside_buffers) in
     let one : OnePiece m1 m2 m3 r r2 0 a 20 =
     one_piece s.is_end (next_is_first s.queue s.is_end s.none) (keeps_ring beside s.wrote) adds in
     let buffer : page_at m3 12 ≡ page_at m2 12 = one.others 12 beside.table beside.avail in record {
@@ -78,8 +77,7 @@ filled_queue {r} {r2} g one queue none adds =
     let some : 0 < r.size = omega (arith, adds.is_end.fits.size.least) in
     let unused = none_used queue some none in
     let same : 0 ≡ g = added_head one (first_head r some unused) adds in
-    let state : r2 ≡ after_add r 1 (Ok 0) = adds.state ∙ (ap (λ (k : ℕ). after_add r k (Ok g)) one
-    ∙ ap (λ (h : ℕ). after_add r 1 (Ok h)) (sym same)) in rw state
+    let state : r2 ≡ after_add r 1 (Ok 0) = search arith in rw state
     (queue_added queue adds.is_end some unused)
 
 -- an add of one piece isn't refused

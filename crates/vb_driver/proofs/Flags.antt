@@ -161,8 +161,7 @@ not_before pages i lt once = let x = get_or pages i 0 in
     false_from_ne_true (is_in x (take i pages)) (λ h.
     let more : times x (take (i + 1) pages) ≡ times x (take i pages ++ x ∷ []) =
     ap (times x) (take_more pages i 0 lt) in
-    let one : times x (x ∷ []) ≡ 1 =
-    count_by-cons (λ q. eqb q x) x [] ∙ ap (λ v. one_if v + 0) (eq-eqb x x refl) in omega (
+    let one : times x (x ∷ []) ≡ 1 = search (arith, count_by-cons, eqb, eq-eqb) in omega (
       arith,
       times_in x (take i pages) h,
       count_by-append (λ q. eqb q x) (take i pages) (x ∷ []),

@@ -37,7 +37,6 @@ free_marked places pages others to flag agree =
     let n2 : length moved ≡ length places = length-marked pages to places in
     same_lists left (map is_free moved) (n1 ∙ sym (length-map moved is_free ∙ n2)) (λ k d near.
     let inside : k < length places = omega arith in
-    let here : place_of places k ≡ get_or places k Reserved = refl in
     each_page-get (λ page old. if is_in page others then flag else old) (map is_free places) k d
     (λ far. absurd (omega (arith, length-map places is_free)))
     ∙ (ap (λ v. cond (is_in k others) flag v) (get_or-map is_free places k Reserved d inside)
@@ -79,9 +78,7 @@ pub stays_held : {d : DriverState} {pages : List ℕ} {from : Place → Bool} �
     → cond (is_in p pages) to (place_of d.places p) ≡ Used
 stays_held {d} {pages} {from} leaves to fails p covered = by (is_in p pages) refl where
   by : (b : Bool) → is_in p pages ≡ b → cond (is_in p pages) to (place_of d.places p) ≡ Used
-  by true e = absurd (both_ways (from Used) fails
-      (ap from (sym (leaves.kept.used p covered)) ∙ leaves.at p e))
-  by false e = ap (λ v. cond v to (place_of d.places p)) e ∙ leaves.kept.used p covered
+  by x0 e = grind (arith, true, both_ways, false, cond)
 
 -- the areas' flags, where the pages become free or cease to be
 pub free_set : {d : DriverState} (areas2 : FreePages) (pages : List ℕ) (to : Place) {b : Bool}
@@ -103,9 +100,7 @@ free_stays {d} {pages} {from} leaves to fails is = leaves.kept.free
   where
     by : (p : ℕ) (place : Place) → place ≡ place_of d.places p → (b : Bool) → is_in p pages ≡ b
         → is_free place ≡ is_free (cond (is_in p pages) to place)
-    by p place e true here = ap is_free e ∙ (not_left from Free (place_of d.places p) fails
-        (leaves.at p here) ∙ sym (ap (λ v. is_free (cond v to place)) here ∙ is))
-    by p place e false here = sym (ap (λ v. is_free (cond v to place)) here)
+    by p place e u3 here = grind (arith, true, not_left, cond, false)
 
 -- ---- the whole
 
@@ -137,8 +132,7 @@ pub kept_changed : {d : DriverState} {areas2 : FreePages} {pages : List ℕ}
       deflate = e2;
       report = r2;
     })
-kept_changed {d} {pages} {from} m = let kept : IsDriver d = m.leaves.kept in
-    let there : (p : ℕ) → is_in p pages ≡ true → p < length d.places =
+kept_changed {d} {pages} {from} m = let there : (p : ℕ) → is_in p pages ≡ true → p < length d.places =
     λ p here. there_by d.places p from m.leaves.high (m.leaves.at p here) in
     let unreserved : (p : ℕ) → is_in p pages ≡ true → is_at Reserved (place_of d.places p) ≡ false =
     λ p here. not_left from Reserved (place_of d.places p) m.leaves.high (m.leaves.at p here) in

@@ -61,8 +61,7 @@ asked_kept {d} {e2} count {head} kept posts = let pages = lowest_lent d count in
     let leaves = lent_leave count kept in
     let small : head < length d.deflate.sent =
     omega (arith, posts.small, kept.deflate.requests.buffers) in
-    let sent : e2.sent
-    ≡ set d.deflate.sent head pages = ap (λ (s : RequestSide). s.sent) posts.state in
+    let sent : e2.sent ≡ set d.deflate.sent head pages = search arith in
     kept_changed (record {
       leaves = leaves;
       inflate = kept.inflate;
@@ -314,8 +313,7 @@ pub record IsOut (d : DriverState) (p : ℕ) : Type 0 where
 pub is_out : {d : DriverState} {p : ℕ} (place : Place) → IsDriver d → is_at Reserved place ≡ false
     → is_free place ≡ false → is_used place ≡ false → place_of d.places p ≡ place → IsOut d p
 is_out {d} {p} place kept unreserved unfree unused is =
-    let not_reserved : is_at Reserved (place_of d.places p) ≡ false =
-    ap (is_at Reserved) is ∙ unreserved in
+    let not_reserved : is_at Reserved (place_of d.places p) ≡ false = search arith in
     let there : p < length d.places = search (arith, cases_lt, length, both_ways, get_or_past) in record {
       unreserved = elim (cases_lt p (reserved_pages d.queue_size)) [
         | inl low ↦ absurd (both_ways (is_at Reserved (place_of d.places p)) not_reserved
@@ -368,8 +366,7 @@ free_all_after : (places : List Place)
 free_all_after places = let pages = pages_where is_reporting places in
     let left = marked pages true (map is_free places) in
     let right = map is_free (map place_after_reset places) in
-    let n1 : length left ≡ length places =
-    length-marked pages true (map is_free places) ∙ length-map places is_free in
+    let n1 : length left ≡ length places = search (arith, length-marked, true, map, length-map) in
     let n2 : length right ≡ length places =
     length-map (map place_after_reset places) is_free ∙ length-map places place_after_reset in
     same_lists left right (n1 ∙ sym n2) (λ k d near.

@@ -112,9 +112,7 @@ allocated_kept {d} {areas2} b kept whole taken same = let pages = pages_of b in
   where
     used_at : (p : ℕ) (v : Bool) → is_in p (pages_of b) ≡ v → (covers p b || is_covered p d.held)
         ≡ true → cond (is_in p (pages_of b)) Used (place_of d.places p) ≡ Used
-    used_at p true e covered = ap (λ (v : Bool). cond v Used (place_of d.places p)) e
-    used_at p false e covered = ap (λ (v : Bool). cond v Used (place_of d.places p)) e ∙ kept.used p
-        (ap (λ (v : Bool). v || is_covered p d.held) (sym (covers_is p b false e)) ∙ covered)
+    used_at p y1 e covered = grind (arith, true, cond, false, covers_is)
 
 -- a block is refused, though lists may be drained
 pub unallocated_kept : {d : DriverState} {new : PageState} → IsDriver d → Becomes (page_state d) new
@@ -153,8 +151,7 @@ pub block_freed_kept : {d : DriverState} {new : PageState} (b : Block) → IsDri
 block_freed_kept {d} {new} b kept held given rest same apart = let pages = pages_of b in
     let used : (p : ℕ) → is_in p pages ≡ true
     → place_of d.places p ≡ Used = λ p here. block_used b p kept held here in
-    let leaves : Leaves d pages is_used =
-    record { kept = kept; at = λ p here. ap is_used (used p here); high = refl } in
+    let leaves : Leaves d pages is_used = search arith in
     kept_changed (record {
       leaves = leaves;
       inflate = kept.inflate;

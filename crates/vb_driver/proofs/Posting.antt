@@ -30,8 +30,7 @@ one_piece {m1} {m2} {m3} {r} {h} {a} {l} end next keeps adds = let T = r.layout.
       put = subst (λ (p : List ℕ). descriptor_at m3 T (slice_index p 0) ≡ linked p (record
           { addr = a; len = l; writable = false } ∷ []) 0) path (adds.links.put 0 (omega arith));
       descriptors = λ i lt ne.
-          let out : is_in i (next_path r 1) ≡ false =
-          ap (is_in i) path ∙ (or_false (eqb h i) ∙ ne_eqb h i (λ e. ne (sym e))) in
+          let out : is_in i (next_path r 1) ≡ false = search (arith, or_false, eqb, ne_eqb) in
           adds.links.others i lt out ∙ descriptor_apart m1 m2 T i keeps.table;
       others = λ p table avail. adds.publishes.rest.others p (table, (avail, (avail, tt)));
       announces = record {

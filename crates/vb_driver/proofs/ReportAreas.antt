@@ -52,10 +52,7 @@ chosen_state {s} {new} blocks is left = let pages = pages_of_all (blocks_of bloc
     }
   where
     gone : (old v : Bool) → (old && not v) ≡ cond v false old
-    gone true true = refl
-    gone true false = refl
-    gone false true = refl
-    gone false false = refl
+    gone x0 y1 = grind (arith, true, false)
 
 -- ---- no block is chosen
 
@@ -87,8 +84,7 @@ pub have_room : {s : PageState} {blocks : List FreeBlock}
 have_room {s} {blocks} apart good unreserved inside taken uncovered once = record {
   each = λ k d lt.
       let b = block_of (slice_index_or blocks k d) in
-      let is : slice_index_or (blocks_of blocks) k (block_of d) ≡ b =
-      get_or-map block_of blocks k d (block_of d) lt in
+      let is : slice_index_or (blocks_of blocks) k (block_of d) ≡ b = search (arith, get_or-map) in
       let fine : IsAreaBlock b = subst IsAreaBlock is
       (good k (block_of d) (omega (arith, length-map blocks block_of))) in
       let here : (p : ℕ) → b.start ≤ p → p < b.start + 2 ^ b.order → is_in p

@@ -91,8 +91,7 @@ pub block_inside_all : (blocks : List FreeBlock) (i : ℕ) (d : FreeBlock) (n : 
     → ((p : ℕ) → is_in p (pages_of_all (blocks_of blocks)) ≡ true → p < n)
     → (slice_index_or blocks i d).start + 2 ^ (slice_index_or blocks i d).order ≤ n
 block_inside_all blocks i d n lt there = let b = block_of (slice_index_or blocks i d) in
-    let is : slice_index_or (blocks_of blocks) i (block_of d) ≡ b =
-    get_or-map block_of blocks i d (block_of d) lt in
+    let is : slice_index_or (blocks_of blocks) i (block_of d) ≡ b = search (arith, get_or-map) in
     block_inside n b (λ p here. there p (in_all (blocks_of blocks) i (block_of d) p
     (omega (arith, length-map blocks block_of)) (rw is here)))
 

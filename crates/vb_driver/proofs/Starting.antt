@@ -59,8 +59,7 @@ still_new {m1} {m2} {size} q fresh sized other rest told zeros = rw told (rw fre
 
     same : (page : ℕ) → InRing size q page → SameIn m1 m2 page 0 4096
     same page at =
-        let beside : IsBeside (ring_layout size 2) page =
-        beside_rings 2 q sized other at in same_page m1 m2 page 0 4096
+        let beside : IsBeside (ring_layout size 2) page = search (arith, beside_rings) in same_page m1 m2 page 0 4096
         (rest.others page beside.table beside.avail (no_buffer page at))
 
 -- the other queues are fresh then

@@ -14,6 +14,5 @@ pub returns-clause-free : goal.returns-clause-free
 returns-clause-free c = grind (arith, free_flag)
 
 pub returns-clause-state : goal.returns-clause-state
-returns-clause-state c = let s : PageState = c.self.inside.pages in
-    let blocks = c.choose.result.items in rw (← c.self.view_is)
+returns-clause-state c = let blocks = c.choose.result.items in rw (← c.self.view_is)
     (chosen_state blocks c.choose.ensures.taken c.choose.ensures.left)

@@ -7,8 +7,7 @@ use Rattle.vb_driver.proofs.ReportAreas.{have_room, given_blocks}
 use Rattle.vb_driver.proofs.areas.Allocator.give_blocks.Goals as goal
 
 pub give_all-requires : goal.give_all-requires
-give_all-requires c = let s : PageState = c.self.inside.pages in
-    let blocks = c.args.blocks.now in
+give_all-requires c = let blocks = c.args.blocks.now in
     let pages = pages_of_all (blocks_of blocks) in
     have_room c.pages_are_apart.ensures c.requires.blocks (subst (λ (v : PageState). (page : ℕ)
     → is_in page pages ≡ true → reserved_count v ≤ page) (sym c.self.view_is) c.requires.unreserved)

@@ -11,8 +11,7 @@ set_block-requires-clause-inside c = free_block_inside
     (block_at c.in-Ok.start c.args.order) c.self.invariant c.in-Ok.ensures.free
 
 pub invariant_of-self : goal.invariant_of-self
-invariant_of-self c = let d = the_view c.self.inside in
-    let new = c.alloc.new.self in
+invariant_of-self c = let new = c.alloc.new.self in
     let b = block_at c.in-Ok.start c.args.order in
     let becomes = c.in-Ok.ensures.state in
     let kept = allocated_kept b c.self.invariant c.in-Ok.ensures.free becomes.free

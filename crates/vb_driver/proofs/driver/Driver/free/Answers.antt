@@ -10,7 +10,6 @@ set_block-requires-clause-inside c = let d = the_view c.self.inside in
 
 pub invariant_of-self : goal.invariant_of-self
 invariant_of-self c = let d = the_view c.self.inside in
-    let new = c.free.new.self in
     let b = block_at c.args.start c.args.order in
     let becomes = c.in-Ok.ensures.state in
     let kept = block_freed_kept b c.self.invariant

@@ -14,7 +14,6 @@ returns-in-Err g c = let d = the_view c.self.inside in
     let p1 = g.P.GuestBytes.part c.args.port.now in
     let began = g.P.GuestBytes.part c.begin.new.port in
     let agreed = g.P.GuestBytes.part c.negotiate.new.self in
-    let tried = g.P.GuestBytes.part c.write_status.new.self in
     let p2 = g.P.GuestBytes.part c.give_up-in-Err.new.port in
     let w : ℕ = c.args.wanted.0 in
     let refusal : Refusal = refusal_of_fault c.in-Err.fault in

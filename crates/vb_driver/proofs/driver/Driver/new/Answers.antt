@@ -25,7 +25,6 @@ pub invariant_of-result : goal.invariant_of-result
 invariant_of-result c = let pages = c.args.config.pages in
     let size = c.args.config.queue_size in
     let cpus = c.args.config.processors in
-    let areas = c.in_ok-places.areas in
     let inflate = c.in_ok-inflate.inflate in
     let deflate = c.in_ok-inflate.deflate in
     let f = feature_bits c.empty.result in

@@ -20,8 +20,7 @@ invariant_of-self-2 g c = let d = the_view c.self.inside in
     let new = c.choose-blocks.new.self in
     let r2 = c.post-head.new.self in
     let blocks = blocks_of c.choose-blocks.result.items in
-    let same : blocks ≡ r2.blocks =
-    sym (ap (λ (s : ReportSide). s.blocks) c.post-head.ensures.posts.state) in
+    let same : blocks ≡ r2.blocks = search arith in
     let moved : c.set_blocks.new.self ≡ placed (pages_of_all r2.blocks) Reporting d.places =
     search arith in
     let free : (p : ℕ) → is_in p (pages_of_all r2.blocks) ≡ true

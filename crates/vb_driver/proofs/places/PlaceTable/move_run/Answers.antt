@@ -17,8 +17,7 @@ overflow_sub-self c = let places = c.self.inside.places.items in
     let are : AreAt places c.args.start (c.end_of_run-next.result - c.args.start) old =
     search (arith, run_is) in
     let own : get_or c.self.inside.counts c.number_of.result 0 ≡ count_by (is_at old) places =
-    ap (λ (k : ℕ). get_or c.self.inside.counts k 0) c.number_of.ensures
-    ∙ c.self.invariant.are_counts.each old in
+    search (arith, get_or) in
     omega (arith, run_some are)
 
 pub invariant_of-self : goal.invariant_of-self
@@ -27,7 +26,6 @@ invariant_of-self c = let places = c.self.inside.places.items in
     let new = c.args.place in
     let start = c.args.start in
     let n = c.end_of_run-next.result - start in
-    let size : length places ≡ length c.args.self.now = ap length c.self.view_is in
     let are : AreAt places start n old = search (arith, run_is) in
     let from = or_parts (is_lent old) (is_stranded old) (sym c.if-is_in_set.ensures) in
     let to = or_parts (is_lent new) (is_stranded new) (sym c.if-is_in_set-2.ensures) in

@@ -25,7 +25,6 @@ write_numbers-requires-clause-backed g c =
 pub add-requires-clause-backed : goal.add-requires-clause-backed
 add-requires-clause-backed g c = let r = c.self.inside.ring in
     let n = c.args.self.now.ring.size in
-    let m1 = g.G.GuestBytes.mem c.args.ram.now in
     let m2 = g.G.GuestBytes.mem c.write_numbers.new.ram in
     let ring_now : r ≡ c.args.self.now.ring = ap (λ (s : RequestSide). s.ring) c.self.view_is in
     let sized : IsSize n = rw (← ring_now) c.next_head.ensures.is_end.fits.size in
