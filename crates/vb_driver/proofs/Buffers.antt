@@ -1,14 +1,13 @@
 -- Writes of the driver to guest memory.
-use Rattle.std.proofs.Common.{◌≡◌, ◌≢◌, ◌∙◌, sym, ap, subst, arith, ℕ, ◌+◌, ◌-◌, ◌*◌, ◌/◌, ◌%◌, ◌<◌}
-use Rattle.std.proofs.Common.{◌≤◌, List, length, inl, inr, None, Result, Ok, Err, slice_index, OnOk}
-use Rattle.std.{proofs.Common.{OnErr, IsOk, ◌∷◌}, proofs.lemmas.Bool.{cases_lt, cases_eq}}
-use Rattle.std.{proofs.lemmas.List.{same_lists, get_or_default}, proofs.Math.Nat.div-add-mod}
-use Rattle.vb_model.specs.Layout.{buffer_page, buffer_offset}
+use Rattle.std.proofs.Common.{◌≡◌, ◌≢◌, ◌∙◌, sym}
+use Rattle.std.proofs.Common.{ap, subst, arith, ℕ, ◌+◌, ◌-◌, ◌*◌, ◌/◌, ◌%◌, ◌<◌, ◌≤◌, List, length}
+use Rattle.std.proofs.Common.{inl, inr, None, Result, Ok, Err, slice_index, OnOk, OnErr, IsOk, ◌∷◌}
+use Rattle.std.proofs.lemmas.{Bool.{cases_lt, cases_eq}, List.{same_lists, get_or_default}}
+use Rattle.{std.proofs.Math.Nat.div-add-mod, vb_model.specs.Layout.{buffer_page, buffer_offset}}
 use Rattle.vb_ram.specs.Pages.{Pages, page_at, byte_at, SameBut, SameIn, Wrote}
 use Rattle.vb_ram.proofs.FieldLaws.{field_in, same_page, same_below, same_above, same_other}
 use Rattle.vb_ram.proofs.Contents.{same_page_at, same_contents}
-use Rattle.vb_ring.specs.Frame.{Extent, IsIn, SameOutside}
-use Rattle.vb_driver.specs.Coding.{Names}
+use Rattle.{vb_ring.specs.Frame.{Extent, IsIn, SameOutside}, vb_driver.specs.Coding.Names}
 
 -- bytes that stood there already, written, change nothing
 pub wrote_same : {old new : Pages} {p off : ℕ} {bs : List ℕ} → Wrote old new p off bs

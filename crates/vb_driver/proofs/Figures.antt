@@ -1,8 +1,7 @@
 -- The statistics buffer is written.
-use Rattle.std.proofs.Common.{◌≡◌, ◌∙◌, ap, arith, ℕ, ◌+◌, ◌^◌, ◌<◌, List, ◌++◌, IsSome}
-use Rattle.std.proofs.Common.{length, drop, slice_index, Result, IsOk, OnOk}
-use Rattle.std.{proofs.lemmas.List.get_or-drop, proofs.lemmas.Nat.from_le_bytes-to_le_bytes_8}
-use Rattle.byteorder.specs.Endian.{little_bytes}
+use Rattle.std.proofs.Common.{◌≡◌, ◌∙◌, ap, arith, ℕ, ◌+◌, ◌^◌, ◌<◌, List, ◌++◌, IsSome, length}
+use Rattle.std.proofs.{Common.{drop, slice_index, Result, IsOk, OnOk}, lemmas.List.get_or-drop}
+use Rattle.{std.proofs.lemmas.Nat.from_le_bytes-to_le_bytes_8, byteorder.specs.Endian.little_bytes}
 use Rattle.vb_ram.specs.Pages.{Pages, byte_at, frame_at, Covers, Wrote}
 use Rattle.vb_ram.proofs.FieldLaws.{field_2, field_8}
 use Rattle.vb_driver.{specs.Coding.IsStatistic, proofs.Buffers.at_ok}

@@ -1,16 +1,14 @@
 -- The statistics buffer goes out: it is written, and then its chain is published.
-use Rattle.std.proofs.Common.{◌≡◌, ◌∙◌, sym, ap, subst, arith, refl, ℕ, ◌<◌, false, List, [], ◌∷◌}
-use Rattle.std.proofs.Common.{length, Some, Ok, Err}
-use Rattle.vb_ram.specs.Pages.{Pages, page_at, SameBut}
+use Rattle.std.proofs.Common.{◌≡◌, ◌∙◌, sym, subst, arith, refl, ℕ, ◌<◌, false, List, [], ◌∷◌}
+use Rattle.{std.proofs.Common.{length, Some, Ok, Err}, vb_ram.specs.Pages.{Pages, page_at, SameBut}}
 use Rattle.vb_ram.proofs.FieldLaws.{field_in, same_page, same_above, same_trans}
 use Rattle.vb_chain.{specs.declared.pieces.Piece.Piece, proofs.TableLaws.same_parts}
-use Rattle.vb_ring.{specs.declared.driver.Full.Full, specs.declared.layout.Layout.Layout}
-use Rattle.vb_ring.{specs.Layout.IsSize, specs.Calls.AddsBy}
+use Rattle.vb_ring.specs.{declared.driver.Full.Full, Layout.IsSize, Calls.AddsBy}
 use Rattle.vb_ring.specs.Ends.{DriverEnd, IsDriverEnd, outstanding, next_head, after_add}
 use Rattle.vb_driver.specs.{Coding.IsStatistic, State.IsStatisticsQueue, Calls.PostsBuffer}
-use Rattle.vb_driver.{specs.Calls.written_of, proofs.Buffers.outside_both, proofs.Posting.OnePiece}
-use Rattle.vb_driver.proofs.{Posting.{one_piece, added_head}, Shapes.{IsBeside, beside_buffers}}
-use Rattle.vb_driver.proofs.{Shapes.keeps_ring, OneBuffer.{none_used, first_head, queue_added}}
+use Rattle.vb_driver.proofs.{Buffers.outside_both, Posting.{OnePiece, one_piece, added_head}}
+use Rattle.vb_driver.proofs.Shapes.{IsBeside, beside_buffers, keeps_ring}
+use Rattle.vb_driver.proofs.OneBuffer.{none_used, first_head, queue_added}
 
 -- what was written and added, by plain names
 pub record Filling (m1 m2 m3 : Pages) (r r2 : DriverEnd) (n a free total : ℕ) : Type 0 where
