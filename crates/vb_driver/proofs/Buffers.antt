@@ -1,14 +1,13 @@
 -- Writes of the driver to guest memory.
-use Rattle.std.proofs.Common.{◌≡◌, ◌≢◌, ◌∙◌, sym, ap, subst, arith, ℕ, ◌+◌, ◌-◌, ◌*◌, ◌/◌, ◌%◌, ◌<◌}
-use Rattle.std.proofs.Common.{◌≤◌, List, length, inl, inr, None, Result, Ok, Err, slice_index, OnOk}
-use Rattle.std.{proofs.Common.{OnErr, IsOk, ◌∷◌}, proofs.lemmas.Bool.{cases_lt, cases_eq}}
-use Rattle.std.{proofs.lemmas.List.{same_lists, get_or_default}, proofs.Math.Nat.div-add-mod}
-use Rattle.vb_model.specs.Layout.{buffer_page, buffer_offset}
+use Rattle.std.proofs.Common.{◌≡◌, ◌≢◌, ◌∙◌, sym}
+use Rattle.std.proofs.Common.{ap, subst, arith, ℕ, ◌+◌, ◌-◌, ◌*◌, ◌/◌, ◌%◌, ◌<◌, ◌≤◌, List, length}
+use Rattle.std.proofs.Common.{inl, inr, None, Result, Ok, Err, slice_index, OnOk, OnErr, IsOk, ◌∷◌}
+use Rattle.std.proofs.lemmas.{Bool.{cases_lt, cases_eq}, List.{same_lists, get_or_default}}
+use Rattle.{std.proofs.Math.Nat.div-add-mod, vb_model.specs.Layout.{buffer_page, buffer_offset}}
 use Rattle.vb_ram.specs.Pages.{Pages, page_at, byte_at, SameBut, SameIn, Wrote}
 use Rattle.vb_ram.proofs.FieldLaws.{field_in, same_page, same_below, same_above, same_other}
 use Rattle.vb_ram.proofs.Contents.{same_page_at, same_contents}
-use Rattle.vb_ring.specs.Frame.{Extent, IsIn, SameOutside}
-use Rattle.vb_driver.specs.Coding.{Names}
+use Rattle.{vb_ring.specs.Frame.{Extent, IsIn, SameOutside}, vb_driver.specs.Coding.Names}
 
 -- bytes that stood there already, written, change nothing
 pub wrote_same : {old new : Pages} {p off : ℕ} {bs : List ℕ} → Wrote old new p off bs
@@ -42,17 +41,16 @@ at_ok (Err e) P is h = cc
 pub buffer_apart : {old new : Pages} (base h k n : ℕ)
     → n ≤ 1024 → SameBut old new (buffer_page base h) (buffer_offset h) (buffer_offset h + n)
     → k ≢ h → SameIn old new (buffer_page base k) (buffer_offset k) (buffer_offset k + 1024)
-buffer_apart {old} {new} base h k n small but ne = let hd = div-add-mod h 4 in
-    let kd = div-add-mod k 4 in elim (cases_eq (k / 4) (h / 4)) [
-      | inl same ↦
-          let here : buffer_page base h ≡ buffer_page base k = ap (λ x. base + x) (sym same) in
-          let P : ℕ → Type 0 = λ p. SameIn old new p (buffer_offset k) (buffer_offset k + 1024) in
-          subst P here (elim (cases_lt (k % 4) (h % 4)) [
-            | inl less ↦ same_below old new _ _ _ _ _ but (omega arith)
-            | inr more ↦ same_above old new _ _ _ _ _ but (omega (arith, ne))
-          ])
-      | inr apart ↦ same_other old new _ _ _ _ _ _ but (omega (arith, apart))
-    ]
+buffer_apart {old} {new} base h k n small but ne = let kd = div-add-mod k 4 in elim (cases_eq (k / 4) (h / 4)) [
+  | inl same ↦
+      let here : buffer_page base h ≡ buffer_page base k = ap (λ x. base + x) (sym same) in
+      let P : ℕ → Type 0 = λ p. SameIn old new p (buffer_offset k) (buffer_offset k + 1024) in
+      subst P here (elim (cases_lt (k % 4) (h % 4)) [
+        | inl less ↦ same_below old new _ _ _ _ _ but (omega arith)
+        | inr more ↦ same_above old new _ _ _ _ _ but (omega (arith, ne))
+      ])
+  | inr apart ↦ same_other old new _ _ _ _ _ _ but (omega (arith, apart))
+]
 
 pub names_at : {mem : Pages} {p o p' o' : ℕ} {xs ys : List ℕ}
     → p ≡ p' → o ≡ o' → xs ≡ ys → Names mem p o xs → Names mem p' o' ys

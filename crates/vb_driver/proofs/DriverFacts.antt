@@ -1,12 +1,10 @@
 -- What calls move and leave of a driver, worked out.
-use Rattle.std.proofs.Common.{◌≡◌, true, false, [], ◌∷◌, map, refl, arith}
-use Rattle.std.specs.Prelude.{Some, None, replicate}
-use Rattle.vb_model.specs.declared.places.Place.TheVariants.{Reserved, Free, Used, Giving, Lent}
-use Rattle.vb_model.specs.declared.places.Place.TheVariants.{Taking, Stranded, Reporting}
-use Rattle.vb_model.specs.declared.replies.Refusal.TheVariants.{BadOrder, BadCpu, NoPages, NotHeld}
-use Rattle.vb_model.specs.declared.replies.Refusal.TheVariants.{RingBroken, NotReady}
-use Rattle.vb_model.specs.Pages.{block_at}
-use Rattle.vb_ram.specs.Part.{no_part}
+use Rattle.std.proofs.Common.{◌≡◌, true, false, [], ◌∷◌, map, refl, arith, Some, None, replicate}
+use Rattle.vb_model.specs.declared.places.Place.TheVariants.{Reserved, Free, Used, Giving}
+use Rattle.vb_model.specs.declared.places.Place.TheVariants.{Lent, Taking, Stranded, Reporting}
+use Rattle.vb_model.specs.declared.replies.Refusal.TheVariants.{BadOrder, BadCpu, NoPages}
+use Rattle.vb_model.specs.declared.replies.Refusal.TheVariants.{NotHeld, RingBroken, NotReady}
+use Rattle.{vb_model.specs.Pages.block_at, vb_ram.specs.Part.no_part}
 use Rattle.vb_pages.specs.declared.fault.PageFault.TheVariants.{BadOrder as OrderTooLarge}
 use Rattle.vb_pages.specs.declared.fault.PageFault.TheVariants.{BadCpu as NoSuchCpu}
 use Rattle.vb_pages.specs.declared.fault.PageFault.TheVariants.{NoPages as NoFreeBlock}

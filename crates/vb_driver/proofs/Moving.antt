@@ -1,35 +1,34 @@
 -- The pages that each call moves.
-use Rattle.std.proofs.Common.{◌≡◌, ◌∙◌, sym, ap, arith, refl, ℕ, zero, suc, replicate, ◌+◌, ◌-◌}
-use Rattle.std.proofs.Common.{◌<◌, ◌≤◌, Bool, true, false, cond, eqb, ◌||◌, ◌&&◌, List, [], ◌∷◌}
-use Rattle.std.proofs.Common.{◌++◌, length, take, set, get_or, map, count_by, inl, inr, is_none}
-use Rattle.std.{proofs.Common.slice_index_or, specs.List.list_all}
-use Rattle.std.proofs.lemmas.List.{length-replicate, length-take, length-map, get_or-map}
-use Rattle.std.proofs.lemmas.List.{get_or_past, get_or-replicate, same_lists, Folds.list_any-append}
-use Rattle.std.proofs.lemmas.Bool.{cases_lt, lt-ltb, eq-eqb, ne_eqb, false_from_ne_true, both_ways}
+use Rattle.std.proofs.lemmas.List.{length-replicate, length-take, length-map}
+use Rattle.std.proofs.lemmas.List.{get_or-map, get_or_past, get_or-replicate, same_lists}
 use Rattle.std.proofs.lemmas.List.FromFn.{get_or-map-range_with_len, length-map-range_with_len}
-use Rattle.vb_model.specs.Pages.{place_of, placed, is_free, is_used, is_giving, is_lent, is_taking}
-use Rattle.vb_model.{specs.Pages.{is_stranded, is_reporting, all_free}, proofs.Tables.count_by-cons}
-use Rattle.vb_model.specs.declared.places.Place.TheVariants.{Reserved, Free, Giving, Lent, Taking}
-use Rattle.vb_model.specs.{declared.places.Place.TheVariants.{Stranded, Reporting}, Orderly.times}
-use Rattle.vb_model.proofs.Tables.{pages_where-passes, is_in-take, is_in-append, list_all-at}
+use Rattle.std.proofs.lemmas.{List.Folds.list_any-append, Bool.{cases_lt, lt-ltb, eq-eqb}}
+use Rattle.std.proofs.{lemmas.Bool.{ne_eqb, false_from_ne_true, both_ways}, Common.{◌≡◌, ◌∙◌}}
+use Rattle.std.proofs.Common.{sym, ap, arith, refl, ℕ, zero, suc, replicate, ◌+◌, ◌-◌, ◌<◌, ◌≤◌}
+use Rattle.std.proofs.Common.{Bool, true, false, cond, eqb, ◌||◌, ◌&&◌, List, [], ◌∷◌, ◌++◌, length}
+use Rattle.std.proofs.Common.{take, set, get_or, map, count_by, inl, inr, is_none, slice_index_or}
+use Rattle.{std.specs.List.list_all, vb_model.specs.Pages.{place_of, placed, is_free, is_used}}
+use Rattle.vb_model.specs.Pages.{is_giving, is_lent, is_taking, is_stranded, is_reporting, all_free}
+use Rattle.vb_model.specs.declared.places.Place.{Place, TheVariants.{Reserved, Free, Giving}}
+use Rattle.vb_model.specs.declared.places.Place.TheVariants.{Lent, Taking, Stranded, Reporting}
 use Rattle.vb_model.specs.{Tests.{is_in, one_if, pages_from, pages_where}, Life.place_after_reset}
-use Rattle.vb_model.specs.{Layout.{reserved_pages, ring_page}, declared.places.Place.Place}
+use Rattle.vb_model.{specs.{Layout.reserved_pages, Orderly.times}, proofs.Tables.count_by-cons}
+use Rattle.vb_model.proofs.Tables.{pages_where-passes, is_in-take, is_in-append, list_all-at}
 use Rattle.vb_model.proofs.{Counts.length-pages_where, GuestSteps.place_of-reset}
-use Rattle.vb_ram.specs.Pages.{Pages}
-use Rattle.vb_pages.{proofs.ListsLemmas.times_in, specs.FreePages.FreePages}
+use Rattle.{vb_ram.specs.Pages.Pages, vb_ring.specs.{Ends.DriverEnd, Layout.IsSize}}
+use Rattle.vb_pages.{specs.FreePages.FreePages, proofs.ListsLemmas.times_in}
+use Rattle.vb_driver.proofs.Keeping.{kept_changed, Leaves, not_left}
+use Rattle.vb_driver.proofs.Keeping.{stays, stays_held, there_by, free_marked, free_set, free_stays}
+use Rattle.vb_driver.proofs.Naming.{naming_more, naming_less, named_place, named_once, once_lowest}
+use Rattle.vb_driver.proofs.{Naming.{once_append, later_none}, Placing.{or_true, length-marked}}
+use Rattle.vb_driver.proofs.{Placing.marked-get, ReportTables.{none_owned, fresh_report_queue}}
+use Rattle.vb_driver.proofs.RequestTables.{requests_taken, requests_fresh}
+use Rattle.vb_driver.proofs.{Flags.{fresh_flags, for_itself}, Counting.at_is}
 use Rattle.vb_driver.specs.State.{RequestSide, DriverState, IsQueue, naming, sent_by, fresh_side}
 use Rattle.vb_driver.specs.State.{fresh_driver, IsDriver, IsStatisticsQueue, fresh_statistics}
-use Rattle.vb_driver.specs.{State.{fresh_report, tells_host}, Places.{is_at, marked, first_place}}
-use Rattle.vb_driver.proofs.Keeping.{kept_changed, Leaves, not_left, stays, stays_held, there_by}
-use Rattle.vb_driver.proofs.Keeping.{free_marked, free_set, free_stays}
-use Rattle.vb_driver.proofs.Naming.{naming_more, naming_less, named_place, named_once, once_lowest}
-use Rattle.vb_driver.proofs.{Naming.{once_append, later_none}, Flags.{fresh_flags, for_itself}}
-use Rattle.vb_driver.specs.Calls.{Posts, lowest_lent, stranded_first, after_reap}
-use Rattle.vb_driver.{specs.Areas.{AreFor, flags_of, is_free_at, is_covered}, proofs.Counting.at_is}
-use Rattle.vb_driver.proofs.RequestTables.{requests_taken, requests_fresh}
-use Rattle.vb_driver.proofs.ReportTables.{none_owned, fresh_report_queue}
-use Rattle.vb_driver.proofs.Placing.{or_true, length-marked, marked-get}
-use Rattle.vb_ring.specs.{Ends.DriverEnd, Layout.IsSize}
+use Rattle.vb_driver.specs.{State.{fresh_report, tells_host}, Calls.{Posts, lowest_lent}}
+use Rattle.vb_driver.specs.{Calls.{stranded_first, after_reap}, Areas.{AreFor, flags_of}}
+use Rattle.vb_driver.specs.{Areas.{is_free_at, is_covered}, Places.{is_at, marked, first_place}}
 
 -- ---- tests of places
 
@@ -61,8 +60,7 @@ asked_kept {d} {e2} count {head} kept posts = let pages = lowest_lent d count in
     let leaves = lent_leave count kept in
     let small : head < length d.deflate.sent =
     omega (arith, posts.small, kept.deflate.requests.buffers) in
-    let sent : e2.sent
-    ≡ set d.deflate.sent head pages = ap (λ (s : RequestSide). s.sent) posts.state in
+    let sent : e2.sent ≡ set d.deflate.sent head pages = search arith in
     kept_changed (record {
       leaves = leaves;
       inflate = kept.inflate;
@@ -139,8 +137,7 @@ pub offered_kept : {m1 m2 : Pages} {d : DriverState} {areas2 : FreePages}
       areas = areas2;
     })
 offered_kept {d} {i2} count {head} others kept free once taken same posts =
-    let first = stranded_first d count in
-    let pages = first ++ others in
+    let first = stranded_first d count in let pages = first ++ others in
     let offered : Place → Bool = λ v. is_stranded v || is_free v in
     let leaves : Leaves d pages offered =
     search (arith, is_in-append, lowest_is, list_all-at, or_true) in
@@ -164,23 +161,22 @@ offered_kept {d} {i2} count {head} others kept free once taken same posts =
           Giving false (λ p place is. agree p place is (is_in p others) (is_in p first) refl refl));
       same = same;
       used = stays_held leaves Giving refl;
-    })
-  where
-    in_pages : (p : ℕ) → is_in p (stranded_first d count ++ others)
-        ≡ (is_in p (stranded_first d count) || is_in p others)
-    in_pages p = list_any-append (λ m. eqb m p) (stranded_first d count) others
+    }) where
+      in_pages : (p : ℕ) → is_in p (stranded_first d count ++ others)
+          ≡ (is_in p (stranded_first d count) || is_in p others)
+      in_pages p = list_any-append (λ m. eqb m p) (stranded_first d count) others
 
-    agree : (p : ℕ) (place : Place) → place ≡ place_of d.places p → (o f : Bool) → is_in p others
-        ≡ o → is_in p (stranded_first d count) ≡ f → cond (is_in p others) false (is_free place)
-        ≡ is_free (cond (is_in p (stranded_first d count ++ others)) Giving place)
-    agree p place is true f e g = ap (λ v. cond v false (is_free place)) e
-        ∙ sym (ap (λ v. is_free (cond v Giving place)) (in_pages p ∙ (ap (λ v. is_in p
-        (stranded_first d count) || v) e ∙ or_true (is_in p (stranded_first d count)))))
-    agree p place is false true e g = ap (λ v. cond v false (is_free place)) e ∙ (ap is_free
-        (is ∙ at_is Stranded (lowest_is d.places count is_stranded p g)) ∙ sym
-        (ap (λ v. is_free (cond v Giving place)) (in_pages p ∙ ap (λ v. v || is_in p others) g)))
-    agree p place is false false e g = ap (λ v. cond v false (is_free place)) e ∙ sym (ap
-        (λ v. is_free (cond v Giving place)) (in_pages p ∙ (ap (λ v. v || is_in p others) g ∙ e)))
+      agree : (p : ℕ) (place : Place) → place ≡ place_of d.places p → (o f : Bool) → is_in p others
+          ≡ o → is_in p (stranded_first d count) ≡ f → cond (is_in p others) false (is_free place)
+          ≡ is_free (cond (is_in p (stranded_first d count ++ others)) Giving place)
+      agree p place is true f e g = ap (λ v. cond v false (is_free place)) e
+          ∙ sym (ap (λ v. is_free (cond v Giving place)) (in_pages p ∙ (ap (λ v. is_in p
+          (stranded_first d count) || v) e ∙ or_true (is_in p (stranded_first d count)))))
+      agree p place is false true e g = ap (λ v. cond v false (is_free place)) e ∙ (ap is_free
+          (is ∙ at_is Stranded (lowest_is d.places count is_stranded p g)) ∙ sym
+          (ap (λ v. is_free (cond v Giving place)) (in_pages p ∙ ap (λ v. v || is_in p others) g)))
+      agree p place is false false e g = ap (λ v. cond v false (is_free place)) e ∙ sym (ap
+          (λ v. is_free (cond v Giving place)) (in_pages p ∙ (ap (λ v. v || is_in p others) g ∙ e)))
 
 -- ---- used requests are reaped
 
@@ -314,8 +310,7 @@ pub record IsOut (d : DriverState) (p : ℕ) : Type 0 where
 pub is_out : {d : DriverState} {p : ℕ} (place : Place) → IsDriver d → is_at Reserved place ≡ false
     → is_free place ≡ false → is_used place ≡ false → place_of d.places p ≡ place → IsOut d p
 is_out {d} {p} place kept unreserved unfree unused is =
-    let not_reserved : is_at Reserved (place_of d.places p) ≡ false =
-    ap (is_at Reserved) is ∙ unreserved in
+    let not_reserved : is_at Reserved (place_of d.places p) ≡ false = search arith in
     let there : p < length d.places = search (arith, cases_lt, length, both_ways, get_or_past) in record {
       unreserved = elim (cases_lt p (reserved_pages d.queue_size)) [
         | inl low ↦ absurd (both_ways (is_at Reserved (place_of d.places p)) not_reserved
@@ -362,14 +357,12 @@ free_after : (x : Place) → is_free (place_after_reset x) ≡ cond (is_reportin
 free_after Reserved = refl
 free_after x = refl
 
-free_all_after : (places : List Place)
-    → marked (pages_where is_reporting places) true (map is_free places)
-    ≡ map is_free (map place_after_reset places)
+free_all_after : (places : List Place) → marked (pages_where is_reporting places) true
+    (map is_free places) ≡ map is_free (map place_after_reset places)
 free_all_after places = let pages = pages_where is_reporting places in
     let left = marked pages true (map is_free places) in
     let right = map is_free (map place_after_reset places) in
-    let n1 : length left ≡ length places =
-    length-marked pages true (map is_free places) ∙ length-map places is_free in
+    let n1 : length left ≡ length places = search (arith, length-marked, true, map, length-map) in
     let n2 : length right ≡ length places =
     length-map (map place_after_reset places) is_free ∙ length-map places place_after_reset in
     same_lists left right (n1 ∙ sym n2) (λ k d near.

@@ -1,11 +1,10 @@
-use Rattle.std.proofs.Common.{◌≡◌, ◌∙◌, sym, ap, refl, ℕ, List, true, false}
-use Rattle.vb_model.{specs.declared.places.Place.TheVariants.{Free, Lent}, specs.Tests.is_in}
-use Rattle.vb_model.specs.Pages.{placed, is_lent}
-use Rattle.vb_driver.{proofs.Moving.{lowest_is, asked_freed, IsOut, is_out}, specs.Areas.flags_of}
-use Rattle.vb_driver.{specs.State.{DriverState, IsDriver, tells_host}, specs.Places.marked}
-use Rattle.vb_driver.{specs.Calls.{Posts, lowest_lent}, proofs.Counting.at_is}
-use Rattle.vb_driver.{specs.contracts.driver.Driver.the_view, proofs.Naming.once_lowest}
 use Rattle.vb_driver.proofs.driver.Driver.ask_and_free.Goals as goal
+use Rattle.std.proofs.Common.{◌≡◌, ◌∙◌, sym, ap, refl, ℕ, List, true, false}
+use Rattle.vb_model.specs.{declared.places.Place.TheVariants.{Free, Lent}, Pages.{placed, is_lent}}
+use Rattle.{vb_model.specs.Tests.is_in, vb_driver.proofs.Moving.{lowest_is, asked_freed, IsOut}}
+use Rattle.vb_driver.proofs.{Moving.is_out, Counting.at_is, Naming.once_lowest}
+use Rattle.vb_driver.specs.{contracts.driver.Driver.the_view, Places.marked, Areas.flags_of}
+use Rattle.vb_driver.specs.{Calls.{Posts, lowest_lent}, State.{DriverState, IsDriver, tells_host}}
 
 out_again : (d : DriverState) (count p : ℕ) (pages : List ℕ)
     → IsDriver d → pages ≡ lowest_lent d count → is_in p pages ≡ true → IsOut d p
@@ -32,8 +31,7 @@ set_all-requires g c p here = (out_again (the_view c.self.inside) c.args.count p
 pub invariant_of-self : goal.invariant_of-self
 invariant_of-self g c = let d = the_view c.self.inside in
     let m1 = g.P.GuestBytes.mem c.args.port.now in
-    let m2 = g.P.GuestBytes.mem c.post-head.new.ram in
-    let areas2 = c.give_all.new.self in
+    let m2 = g.P.GuestBytes.mem c.post-head.new.ram in let areas2 = c.give_all.new.self in
     let untold : tells_host d ≡ false = ap tells_host c.self.view_is ∙ c.requires.untold in
     let lowest : c.lowest_lent.new.pages.items ≡ lowest_lent d c.args.count =
     c.lowest_lent.ensures in

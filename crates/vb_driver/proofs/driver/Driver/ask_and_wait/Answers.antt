@@ -1,10 +1,9 @@
-use Rattle.std.proofs.Common.{arith, ◌≡◌, sym, subst, ℕ, List, true}
-use Rattle.vb_model.{specs.declared.places.Place.TheVariants.Taking, specs.Pages.placed}
-use Rattle.vb_model.{specs.Requests.{Deflating, place_posted}, specs.declared.places.Place.Place}
-use Rattle.vb_driver.specs.State.{RequestSide, DriverState, IsDriver, tells_host}
-use Rattle.vb_driver.{specs.contracts.driver.Driver.the_view, proofs.Moving.asked_kept}
-use Rattle.vb_driver.specs.Calls.{Posts, lowest_lent, areas_asked}
 use Rattle.vb_driver.proofs.driver.Driver.ask_and_wait.Goals as goal
+use Rattle.{std.proofs.Common.{arith, ◌≡◌, sym, subst, ℕ, List, true}, vb_model.specs.Pages.placed}
+use Rattle.vb_model.specs.{declared.places.Place.{Place, TheVariants.Taking}, Requests.Deflating}
+use Rattle.{vb_model.specs.Requests.place_posted, vb_driver.specs.State.{RequestSide, DriverState}}
+use Rattle.vb_driver.specs.{State.{IsDriver, tells_host}, contracts.driver.Driver.the_view}
+use Rattle.vb_driver.{specs.Calls.{Posts, lowest_lent, areas_asked}, proofs.Moving.asked_kept}
 
 -- where the host is told first, the pages are taking, and no area changes
 waits : (d : DriverState) (e2 : RequestSide) (pages : List ℕ) → tells_host d ≡ true

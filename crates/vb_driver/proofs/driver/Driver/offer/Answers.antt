@@ -1,11 +1,9 @@
-use Rattle.std.proofs.Common.{◌≡◌, ◌∙◌, ◌++◌, sym, ap, subst, arith, ℕ, List}
-use Rattle.vb_model.{specs.declared.places.Place.TheVariants.Giving, specs.Pages.placed}
-use Rattle.vb_model.specs.declared.places.Place.{Place}
-use Rattle.vb_driver.proofs.Moving.{offered_kept, others_there, others_free, offered_inside}
-use Rattle.vb_driver.{proofs.Moving.first_few, specs.State.IsDriver, specs.Areas.flags_of}
-use Rattle.vb_driver.{specs.Calls.{Posts, stranded_first}, proofs.Naming.once_distinct}
-use Rattle.vb_driver.specs.contracts.driver.Driver.{the_view}
 use Rattle.vb_driver.proofs.driver.Driver.offer.Goals as goal
+use Rattle.std.proofs.Common.{◌≡◌, ◌∙◌, ◌++◌, sym, ap, subst, arith, ℕ, List}
+use Rattle.vb_model.specs.{declared.places.Place.{Place, TheVariants.Giving}, Pages.placed}
+use Rattle.vb_driver.proofs.Moving.{offered_kept, others_there, others_free, offered_inside}
+use Rattle.vb_driver.{proofs.{Moving.first_few, Naming.once_distinct}, specs.State.IsDriver}
+use Rattle.vb_driver.specs.{Calls.{Posts, stranded_first}, contracts.driver.Driver.the_view}
 
 pub take_free-requires-clause-free : goal.take_free-requires-clause-free
 take_free-requires-clause-free g c = grind (arith, others_there)
@@ -16,8 +14,7 @@ set_all-requires g c p here = grind (arith, others_free, offered_inside)
 pub invariant_of-self : goal.invariant_of-self
 invariant_of-self g c = let d = the_view c.self.inside in
     let m1 = g.P.GuestBytes.mem c.args.port.now in
-    let m2 = g.P.GuestBytes.mem c.post-head.new.ram in
-    let others = c.take_free.new.taken.items in
+    let m2 = g.P.GuestBytes.mem c.post-head.new.ram in let others = c.take_free.new.taken.items in
     let items : c.append.new.pages.items ≡ stranded_first d c.args.count ++ others = search arith in
     let placed_is : c.set_all.new.self
     ≡ placed (stranded_first d c.args.count ++ others) Giving d.places = c.set_all.ensures

@@ -1,15 +1,13 @@
-use Rattle.std.proofs.Common.{◌≡◌, ◌∙◌, ◌<◌, ◌+◌, ◌*◌, sym, ap, subst, arith, refl, ℕ, set, Some}
-use Rattle.std.{proofs.Common.{Ok, List, length, is_some}, proofs.Math.Nat.div-add-mod}
+use Rattle.vb_driver.proofs.queue.RequestQueue.post.Goals as goal
+use Rattle.std.proofs.Common.{◌≡◌, ◌∙◌, ◌<◌, ◌+◌, ◌*◌, sym, ap, subst, arith}
+use Rattle.std.proofs.{Common.{refl, ℕ, set, Some, Ok, List, length, is_some}, Math.Nat.div-add-mod}
 use Rattle.vb_model.specs.Layout.{buffers_page, buffer_page, buffer_offset}
-use Rattle.vb_model.proofs.Shapes.{start_of_buffer}
-use Rattle.vb_ram.specs.Pages.{SameBut}
-use Rattle.vb_ring.{specs.declared.layout.Layout.Layout, specs.Layout.IsSize}
-use Rattle.vb_ring.specs.Ends.{DriverEnd, after_add, next_head}
-use Rattle.vb_driver.{specs.State.RequestSide, specs.Calls.Posts, proofs.Buffers.names_at}
-use Rattle.vb_driver.proofs.Posting.{Sending, added_head, posts_by}
+use Rattle.{vb_model.proofs.Shapes.start_of_buffer, vb_ram.specs.Pages.SameBut}
+use Rattle.vb_ring.specs.{declared.layout.Layout.Layout, Layout.IsSize, Ends.{DriverEnd, after_add}}
+use Rattle.{vb_ring.specs.Ends.next_head, vb_driver.specs.{State.RequestSide, Calls.Posts}}
+use Rattle.vb_driver.proofs.{Buffers.names_at, Posting.{Sending, added_head, posts_by}}
 use Rattle.vb_driver.proofs.RequestTables.{head_there, head_small, requests_added_at, room_inside}
 use Rattle.vb_driver.proofs.Shapes.{IsBeside, ring_backed, buffers_between, buffers_beside}
-use Rattle.vb_driver.proofs.queue.RequestQueue.post.Goals as goal
 
 pub unreachable-requires : goal.unreachable-requires
 unreachable-requires g c = grind (arith, room_inside, head_there)
@@ -23,9 +21,7 @@ write_numbers-requires-clause-backed g c =
     grind (arith, room_inside, head_small, div-add-mod, buffers_between, start_of_buffer)
 
 pub add-requires-clause-backed : goal.add-requires-clause-backed
-add-requires-clause-backed g c = let r = c.self.inside.ring in
-    let n = c.args.self.now.ring.size in
-    let m1 = g.G.GuestBytes.mem c.args.ram.now in
+add-requires-clause-backed g c = let r = c.self.inside.ring in let n = c.args.self.now.ring.size in
     let m2 = g.G.GuestBytes.mem c.write_numbers.new.ram in
     let ring_now : r ≡ c.args.self.now.ring = ap (λ (s : RequestSide). s.ring) c.self.view_is in
     let sized : IsSize n = rw (← ring_now) c.next_head.ensures.is_end.fits.size in
@@ -37,8 +33,7 @@ pub index_mut-requires : goal.index_mut-requires
 index_mut-requires g c = grind (arith, room_inside, head_small, added_head)
 
 pub invariant_of-self : goal.invariant_of-self
-invariant_of-self g c = let r = c.self.inside.ring in
-    let sent = c.self.inside.sent.items in
+invariant_of-self g c = let r = c.self.inside.ring in let sent = c.self.inside.sent.items in
     let h = c.in-Some.head in
     let next : next_head r ≡ Some h = sym c.next_head.ensures.value ∙ c.in-Some.is in
     let room = room_inside r sent c.self.view_is c.requires.room in
@@ -49,19 +44,15 @@ invariant_of-self g c = let r = c.self.inside.ring in
     rw c.keep.ensures (requests_added_at sent c.args.pages.now.items c.self.invariant
     c.next_head.ensures.is_end next small (omega (
       arith,
-      ap (λ (l : List ℕ). length l)
-          c.deref.ensures.0,
+      ap (λ (l : List ℕ). length l) c.deref.ensures.0,
       c.deref.ensures.1,
     )) state (c.from-3.ensures ∙ sym same))
 
 pub returns-clause-posts : goal.returns-clause-posts
-returns-clause-posts g c = let r = c.self.inside.ring in
-    let sent = c.self.inside.sent.items in
-    let h = c.in-Some.head in
-    let m1 = g.G.GuestBytes.mem c.args.ram.now in
+returns-clause-posts g c = let r = c.self.inside.ring in let sent = c.self.inside.sent.items in
+    let h = c.in-Some.head in let m1 = g.G.GuestBytes.mem c.args.ram.now in
     let m2 = g.G.GuestBytes.mem c.write_numbers.new.ram in
-    let m3 = g.G.GuestBytes.mem c.add.new.ram in
-    let pages = c.args.pages.now.items in
+    let m3 = g.G.GuestBytes.mem c.add.new.ram in let pages = c.args.pages.now.items in
     let next : next_head r ≡ Some h = sym c.next_head.ensures.value ∙ c.in-Some.is in
     let room = room_inside r sent c.self.view_is c.requires.room in
     let slice : c.deref.result.now ≡ pages = c.deref.ensures.0 in
@@ -98,9 +89,8 @@ returns-clause-posts g c = let r = c.self.inside.ring in
     } in subst (λ (s : RequestSide). Posts m1 m3 s (record {
       ring = c.add.new.self;
       sent = set sent c.from-3.result c.keep.new.self;
-    }) base pages c.in-Ok.head) c.self.view_is
-    (subst (λ (l : List ℕ). Posts m1 m3 (record { ring = r; sent = sent })
-    (record { ring = c.add.new.self; sent = set sent c.from-3.result l }) base pages c.in-Ok.head)
-    (sym c.keep.ensures) (subst (λ (n : ℕ). Posts m1 m3 (record { ring = r; sent = sent })
-    (record { ring = c.add.new.self; sent = set sent n pages }) base pages c.in-Ok.head)
-    (sym c.from-3.ensures) (posts_by sending c.in-Ok.ensures.adds)))
+    }) base pages c.in-Ok.head) c.self.view_is (subst (λ (l : List ℕ). Posts m1 m3 (record
+    { ring = r; sent = sent }) (record { ring = c.add.new.self; sent = set sent c.from-3.result l })
+    base pages c.in-Ok.head) (sym c.keep.ensures) (subst (λ (n : ℕ). Posts m1 m3
+    (record { ring = r; sent = sent }) (record { ring = c.add.new.self; sent = set sent n pages })
+    base pages c.in-Ok.head) (sym c.from-3.ensures) (posts_by sending c.in-Ok.ensures.adds)))

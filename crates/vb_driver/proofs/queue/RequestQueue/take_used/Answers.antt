@@ -8,8 +8,7 @@ was : (r : Result (Option ℕ) RingBroken) (o : Option ℕ) (h : ℕ) → r ≡ 
 was r o h a b = cc
 
 pub invariant_of-self-2 : goal.invariant_of-self-2
-invariant_of-self-2 g c = let r = c.self.inside.ring in
-    let sent = c.self.inside.sent.items in
+invariant_of-self-2 g c = let r = c.self.inside.ring in let sent = c.self.inside.sent.items in
     let h = c.in-Some.head in
     let state : c.take_used.new.self ≡ after_take r (Ok (Some h)) = c.take_used.ensures.state ∙ ap
     (after_take r) (was c.take_used.result c.in_ok-head.field-0 h c.in_ok-head.was c.in-Some.is) in
