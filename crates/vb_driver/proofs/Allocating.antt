@@ -56,7 +56,7 @@ whole_block s start order apart block free =
 some_block : (s : PageState) (start order : ℕ) → IsApart s → IsBlock (block_at start order)
     → IsWhollyFree s (block_at start order) → has_block s order ≡ true
 some_block s start order apart block free =
-    let first : is_free_page s start ≡ true = search (arith, covers_is, true, in_block, pow_pos) in
+    let first : is_free_page s start ≡ true = search (arith, covers_is, in_block, pow_pos) in
     let lt : start < length (flags_of s.free) =
     omega (arith, free_inside s start apart first, length_flags s) in
     let here : get_or (range_with_len 0 (length (flags_of s.free))) start 0 ≡ start =
@@ -121,7 +121,7 @@ there_cpu served small not_it = grind arith
 pub alloc_refusal : {s new : PageState} {cpu order : ℕ} (r : Result ℕ PageFault)
     → IsServed s new cpu order r → refusal_in (answered r)
     ≡ first_of (nat_lt 9 order) (nat_le (cpu_count s) cpu) (has_block s order)
-alloc_refusal x0 served =
+alloc_refusal x served =
     grind (arith, small_order, there_cpu, nat_lt, le-ltb, nat_le, lt-leb, some_block, no_block)
 
 pub alloc_refused : {s new : PageState} {cpu order : ℕ} {r : Result ℕ PageFault}
@@ -189,7 +189,7 @@ count_step k (x ∷ xs) = omega (
 ) where
   at : ((k < x) ⊎ (x ≤ k)) → ((x < k) ⊎ (k ≤ x))
       → one_if (eqb x k) + one_if (nat_le (suc k) x) ≡ one_if (nat_le k x)
-  at x0 b = grind (arith, eqb, ne_eqb, nat_le, suc, le-leb, lt-leb, eq-eqb)
+  at x b = grind (arith, eqb, ne_eqb, nat_le, le-leb, lt-leb, eq-eqb)
 
 flags_sum : (k : ℕ) (set : List Bool) (xs : List ℕ) (test : ℕ → Bool) → ((i : ℕ) → i < length set
     → one_if (test (k + i)) ≤ one_if (get_or set i false) + times (k + i) xs)
@@ -222,7 +222,7 @@ count_flags s =
     + times n (in_lists s.free)) (omega arith) (one i)) in
     omega (arith, all, count_by-le-length (λ p. nat_le 0 p) (in_lists s.free)) where
       at : (a b : Bool) (n : ℕ) → (b ≡ true → 1 ≤ n) → one_if (a || b) ≤ one_if a + n
-      at x0 b n some = grind (arith, true, false)
+      at x b n some = grind arith
 
       one : (i : ℕ) → one_if (is_free_page s i) ≤ one_if (get_or s.free.areas i false) + times i
           (in_lists s.free)

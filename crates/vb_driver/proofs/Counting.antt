@@ -104,4 +104,4 @@ reserved_table pages counted lents strandeds is most = record {
 } where
   at : (place : Place) → get_or (pages ∷ 0 ∷ 0 ∷ 0 ∷ 0 ∷ 0 ∷ 0 ∷ 0 ∷ []) (number_of place) 0
       ≡ cond (is_at place Reserved) pages 0
-  at x0 = grind arith
+  at x = grind arith

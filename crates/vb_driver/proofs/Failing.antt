@@ -33,4 +33,4 @@ after_failing {s} f part is lt = at (is_none (status_refusal s f (bit_or s 128))
       at : (o z a b : Bool) → (o && (not z && not a)) ≡ true → b ≡ a → cond z (part_after_reset part)
           (cond b (record (with_new_queues part) { status = bit_or s 128 })
           (record part { status = bit_or s 128 })) ≡ record part { status = bit_or s 128 }
-      at x0 z a b h g = grind (arith, true, false)
+      at x z a b h g = grind arith

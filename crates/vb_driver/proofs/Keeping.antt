@@ -31,7 +31,7 @@ pub free_marked : (places : List Place) (pages others : List ℕ) (to : Place) (
     → marked others flag (map is_free places) ≡ map is_free (placed pages to places)
 free_marked places pages others to flag agree =
     let left = marked others flag (map is_free places) in let moved = placed pages to places in
-    let n1 : length left ≡ length places = search (arith, length-each_from, map, length-map) in
+    let n1 : length left ≡ length places = search (arith, length-each_from, length-map) in
     let n2 : length moved ≡ length places = length-marked pages to places in
     same_lists left (map is_free moved) (n1 ∙ sym (length-map moved is_free ∙ n2)) (λ k d near.
     let inside : k < length places = omega arith in
@@ -76,7 +76,7 @@ pub stays_held : {d : DriverState} {pages : List ℕ} {from : Place → Bool} �
     → cond (is_in p pages) to (place_of d.places p) ≡ Used
 stays_held {d} {pages} {from} leaves to fails p covered = by (is_in p pages) refl where
   by : (b : Bool) → is_in p pages ≡ b → cond (is_in p pages) to (place_of d.places p) ≡ Used
-  by x0 e = grind (arith, true, both_ways, false, cond)
+  by x e = grind (arith, both_ways, cond)
 
 -- the areas' flags, where the pages become free or cease to be
 pub free_set : {d : DriverState} (areas2 : FreePages) (pages : List ℕ) (to : Place) {b : Bool}
@@ -96,7 +96,7 @@ free_stays {d} {pages} {from} leaves to fails is = leaves.kept.free
     ∙ free_same d.places pages to (λ p place e. by p place e (is_in p pages) refl) where
       by : (p : ℕ) (place : Place) → place ≡ place_of d.places p → (b : Bool) → is_in p pages ≡ b
           → is_free place ≡ is_free (cond (is_in p pages) to place)
-      by p place e u3 here = grind (arith, true, not_left, cond, false)
+      by p place e u here = grind (arith, not_left, cond)
 
 -- ---- the whole
 

@@ -311,7 +311,7 @@ pub is_out : {d : DriverState} {p : ℕ} (place : Place) → IsDriver d → is_a
     → is_free place ≡ false → is_used place ≡ false → place_of d.places p ≡ place → IsOut d p
 is_out {d} {p} place kept unreserved unfree unused is =
     let not_reserved : is_at Reserved (place_of d.places p) ≡ false = search arith in
-    let there : p < length d.places = search (arith, cases_lt, length, both_ways, get_or_past) in record {
+    let there : p < length d.places = search (arith, cases_lt, both_ways, get_or_past) in record {
       unreserved = elim (cases_lt p (reserved_pages d.queue_size)) [
         | inl low ↦ absurd (both_ways (is_at Reserved (place_of d.places p)) not_reserved
             (ap (is_at Reserved) (kept.reserved p low)))
@@ -362,7 +362,7 @@ free_all_after : (places : List Place) → marked (pages_where is_reporting plac
 free_all_after places = let pages = pages_where is_reporting places in
     let left = marked pages true (map is_free places) in
     let right = map is_free (map place_after_reset places) in
-    let n1 : length left ≡ length places = search (arith, length-marked, true, map, length-map) in
+    let n1 : length left ≡ length places = search (arith, length-marked, length-map) in
     let n2 : length right ≡ length places =
     length-map (map place_after_reset places) is_free ∙ length-map places place_after_reset in
     same_lists left right (n1 ∙ sym n2) (λ k d near.
@@ -385,7 +385,7 @@ none_sent : (i : ℕ) → slice_index_or (replicate {A = List ℕ} 16 []) i [] �
 none_sent i = grind (arith, cases_lt, get_or-replicate, get_or_past)
 
 fresh_queue : {queue size : ℕ} → IsQueue (fresh_side queue size) queue size
-fresh_queue {queue} {size} = search (arith, requests_fresh, replicate, none_sent)
+fresh_queue {queue} {size} = search (arith, requests_fresh, none_sent)
 
 pub fresh_statistics_queue : {size : ℕ} → IsStatisticsQueue (fresh_statistics size) size
 fresh_statistics_queue = grind (arith, is_none, none_owned)

@@ -110,7 +110,7 @@ allocated_kept {d} {areas2} b kept whole taken same = let pages = pages_of b in
     }) where
       used_at : (p : ℕ) (v : Bool) → is_in p (pages_of b) ≡ v → (covers p b || is_covered p d.held)
           ≡ true → cond (is_in p (pages_of b)) Used (place_of d.places p) ≡ Used
-      used_at p y1 e covered = grind (arith, true, cond, false, covers_is)
+      used_at p y e covered = grind (arith, cond, covers_is)
 
 -- a block is refused, though lists may be drained
 pub unallocated_kept : {d : DriverState} {new : PageState} → IsDriver d → Becomes (page_state d) new

@@ -50,7 +50,7 @@ chosen_state {s} {new} blocks is left = let pages = pages_of_all (blocks_of bloc
           (record { processors = sizes.same.processors; reserved = refl });
     } where
       gone : (old v : Bool) → (old && not v) ≡ cond v false old
-      gone x0 y1 = grind (arith, true, false)
+      gone x y = grind arith
 
 -- ---- no block is chosen
 
