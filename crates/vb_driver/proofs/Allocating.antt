@@ -2,34 +2,33 @@
 use Rattle.std.proofs.Common.{◌≡◌, ◌∙◌, ap, subst, arith, refl, ℕ, suc, ◌+◌, ◌<◌, ◌≤◌, Bool}
 use Rattle.std.proofs.Common.{true, false, eqb, not, ◌||◌, ◌&&◌, ◌⊎◌, ◌↔◌, List, [], ◌∷◌, length}
 use Rattle.std.proofs.Common.{get_or, set, map, inl, inr, IsTrue, Option, Result, Ok, Err, IfOk}
-use Rattle.std.proofs.lemmas.Bool.{cases_lt, and_parts, and_from, false_from_ne_true, ne_eqb}
-use Rattle.std.proofs.Common.{OnOk, OnErr, nat_le, nat_lt, count_by, eq-eqb}
-use Rattle.std.{specs.List.{list_all, range_with_len}, proofs.lemmas.Bool.{le-ltb, le-leb, lt-leb}}
-use Rattle.std.{proofs.lemmas.Nat.pow_pos, proofs.lemmas.List.Sums.count_by-le-length}
+use Rattle.std.proofs.{Common.{OnOk, OnErr, nat_le, nat_lt, count_by, eq-eqb}, lemmas.Bool.cases_lt}
+use Rattle.std.proofs.lemmas.Bool.{and_parts, and_from, false_from_ne_true, ne_eqb, le-ltb, le-leb}
+use Rattle.std.proofs.lemmas.{Bool.lt-leb, Nat.pow_pos, List.Sums.count_by-le-length}
 use Rattle.std.proofs.lemmas.List.Folds.{list_any_at, list_any_none}
 use Rattle.std.proofs.lemmas.List.FromFn.{get_or-range_with_len, length-range_with_len}
-use Rattle.vb_model.{specs.Tests.{is_in, one_if}, specs.Pages.{covers, pages_of, is_aligned}}
-use Rattle.vb_model.{specs.Driver.{with_block, without_block}, specs.Refusals.{first_refusal, ◌⇒◌}}
-use Rattle.vb_model.{specs.declared.replies.Refusal.Refusal, proofs.PageSteps.covers_is}
+use Rattle.{std.specs.List.{list_all, range_with_len}, vb_model.specs.Tests.{is_in, one_if}}
+use Rattle.vb_model.specs.{Pages.{covers, pages_of, is_aligned}, Driver.{with_block, without_block}}
+use Rattle.vb_model.specs.{Refusals.{first_refusal, ◌⇒◌}, declared.replies.Refusal.Refusal}
 use Rattle.vb_model.specs.declared.replies.Refusal.TheVariants.{BadOrder, BadCpu, NoPages}
-use Rattle.vb_model.{proofs.Tables.{count_by-cons, list_all-at}, specs.Orderly.times}
-use Rattle.vb_pages.specs.PageState.{PageState, page_count, cpu_count, is_free_page, IsApart}
-use Rattle.vb_pages.specs.PageState.{IsWhollyFree, AllocatesBlock, TakesFree, freed, reserved_count}
-use Rattle.vb_pages.{specs.declared.fault.PageFault.PageFault, specs.Areas.{has, IsBlock}}
-use Rattle.vb_pages.specs.FreePages.{in_lists, drained, free_count, given_back}
-use Rattle.vb_pages.{specs.PageState.{with_free_block, HasRoomIn}, proofs.ListsLemmas.times_in}
-use Rattle.vb_pages.proofs.Sets.{length-with_pages, in_block}
-use Rattle.vb_pages.proofs.FreeLemmas.{serves_length, length-takes_pages}
-use Rattle.vb_driver.specs.Areas.{AreApart, Becomes, Allots, has_block, flags_of, refusal_of}
-use Rattle.vb_driver.proofs.Flags.{length_flags, flag_at, flag_free, free_flag, free_inside}
-use Rattle.vb_driver.proofs.Flags.{held_unfree, flags_moved, flags_same, left_by, gained_by}
-use Rattle.vb_driver.proofs.Flags.{taken_by, for_these, serves_for, drained_sizes, given_sizes}
-use Rattle.vb_driver.{specs.Areas.{is_free_at, is_covered, is_free_block}, specs.Places.marked}
-use Rattle.vb_driver.{specs.Answers.{refusal_in, block_at}, proofs.Placing.marked_one}
+use Rattle.vb_model.{specs.Orderly.times, proofs.{PageSteps.covers_is, Tables.count_by-cons}}
+use Rattle.{vb_model.proofs.Tables.list_all-at, vb_pages.specs.PageState.{PageState, page_count}}
+use Rattle.vb_pages.specs.PageState.{cpu_count, is_free_page, IsApart, IsWhollyFree, AllocatesBlock}
+use Rattle.vb_pages.specs.PageState.{TakesFree, freed, reserved_count, with_free_block}
+use Rattle.vb_pages.specs.{PageState.HasRoomIn, declared.fault.PageFault.PageFault}
 use Rattle.vb_pages.specs.declared.fault.PageFault.TheVariants.{BadOrder as OrderTooLarge}
 use Rattle.vb_pages.specs.declared.fault.PageFault.TheVariants.{BadCpu as NoSuchCpu}
 use Rattle.vb_pages.specs.declared.fault.PageFault.TheVariants.{NoPages as NoFreeBlock}
 use Rattle.vb_pages.specs.declared.fault.PageFault.TheVariants.{NotHeld as NoSuchBlock}
+use Rattle.vb_pages.specs.{Areas.{has, IsBlock}, FreePages.{in_lists, drained, free_count}}
+use Rattle.vb_pages.proofs.{ListsLemmas.times_in, Sets.length-with_pages}
+use Rattle.vb_pages.proofs.{Sets.in_block, FreeLemmas.{serves_length, length-takes_pages}}
+use Rattle.vb_driver.specs.Areas.{AreApart, Becomes, Allots, has_block, flags_of, refusal_of}
+use Rattle.vb_driver.specs.{Areas.{is_free_at, is_covered, is_free_block}, Places.marked}
+use Rattle.vb_driver.{specs.Answers.{refusal_in, block_at}, proofs.Flags.length_flags}
+use Rattle.vb_driver.proofs.Flags.{flag_at, flag_free, free_flag, free_inside, held_unfree}
+use Rattle.vb_driver.proofs.Flags.{flags_moved, flags_same, left_by, gained_by, taken_by, for_these}
+use Rattle.vb_driver.proofs.{Flags.{serves_for, drained_sizes, given_sizes}, Placing.marked_one}
 
 -- the driver's answer, by the allocator's
 abbrev pub answered : {T : Type 0} → Result T PageFault → Result T Refusal
@@ -43,11 +42,10 @@ list_all-from : (test : ℕ → Bool) (xs : List ℕ) → ((n : ℕ) → is_in n
 list_all-from test [] all = refl
 list_all-from test (x ∷ xs) all =
     and_from (test x) (list_all test xs) (all x (ap (λ v. v || is_in x xs) (eq-eqb x x refl)))
-    (list_all-from test xs (λ n h. all n (later (eqb x n) (is_in n xs) h)))
-  where
-    later : (a b : Bool) → b ≡ true → (a || b) ≡ true
-    later true b h = refl
-    later false b h = h
+    (list_all-from test xs (λ n h. all n (later (eqb x n) (is_in n xs) h))) where
+      later : (a b : Bool) → b ≡ true → (a || b) ≡ true
+      later true b h = refl
+      later false b h = h
 
 whole_block : (s : PageState) (start order : ℕ) → IsApart s → IsBlock (block_at start order)
     → IsWhollyFree s (block_at start order)
@@ -58,7 +56,7 @@ whole_block s start order apart block free =
 some_block : (s : PageState) (start order : ℕ) → IsApart s → IsBlock (block_at start order)
     → IsWhollyFree s (block_at start order) → has_block s order ≡ true
 some_block s start order apart block free =
-    let first : is_free_page s start ≡ true = search (arith, covers_is, true, in_block, pow_pos) in
+    let first : is_free_page s start ≡ true = search (arith, covers_is, in_block, pow_pos) in
     let lt : start < length (flags_of s.free) =
     omega (arith, free_inside s start apart first, length_flags s) in
     let here : get_or (range_with_len 0 (length (flags_of s.free))) start 0 ≡ start =
@@ -80,9 +78,8 @@ not_whole s start order small none =
     false_from_ne_true (is_free_block (flags_of s.free) (block_at start order)) (λ t.
     let parts = and_parts (is_aligned (block_at start order))
     (list_all (is_free_at (flags_of s.free)) (pages_of (block_at start order))) t in
-    none (small, parts.0) (λ p covered. flag_free s p
-    (list_all-at (is_free_at (flags_of s.free)) (pages_of (block_at start order)) p parts.1
-    (covered_in p start order covered))))
+    none (small, parts.0) (λ p covered. flag_free s p (list_all-at (is_free_at (flags_of s.free))
+    (pages_of (block_at start order)) p parts.1 (covered_in p start order covered))))
 
 no_block : (s : PageState) (order : ℕ) → order ≤ 9 → ((start : ℕ) → IsBlock (block_at start order)
     → IsWhollyFree s (block_at start order) → ⊥) → has_block s order ≡ false
@@ -124,13 +121,8 @@ there_cpu served small not_it = grind arith
 pub alloc_refusal : {s new : PageState} {cpu order : ℕ} (r : Result ℕ PageFault)
     → IsServed s new cpu order r → refusal_in (answered r)
     ≡ first_of (nat_lt 9 order) (nat_le (cpu_count s) cpu) (has_block s order)
-alloc_refusal (Ok start) served =
-    grind (arith, small_order, there_cpu, nat_lt, le-ltb, nat_le, lt-leb, some_block)
-alloc_refusal (Err OrderTooLarge) served = grind arith
-alloc_refusal (Err NoSuchCpu) served = grind arith
-alloc_refusal (Err NoFreeBlock) served =
-    grind (arith, small_order, there_cpu, nat_lt, le-ltb, nat_le, lt-leb, no_block)
-alloc_refusal (Err NoSuchBlock) served = absurd (served.never refl)
+alloc_refusal x served =
+    grind (arith, small_order, there_cpu, nat_lt, le-ltb, nat_le, lt-leb, some_block, no_block)
 
 pub alloc_refused : {s new : PageState} {cpu order : ℕ} {r : Result ℕ PageFault}
     → IsServed s new cpu order r → OnErr (answered r) (Becomes s new (flags_of s.free) s.held)
@@ -197,17 +189,7 @@ count_step k (x ∷ xs) = omega (
 ) where
   at : ((k < x) ⊎ (x ≤ k)) → ((x < k) ⊎ (k ≤ x))
       → one_if (eqb x k) + one_if (nat_le (suc k) x) ≡ one_if (nat_le k x)
-  at (inl over) b =
-      let e : one_if (eqb x k) ≡ 0 = ap one_if (ne_eqb x k (λ q. absurd (omega arith))) in
-      let f : one_if (nat_le (suc k) x) ≡ 1 = ap one_if (le-leb (suc k) x (omega arith)) in
-      let g : one_if (nat_le k x) ≡ 1 = ap one_if (le-leb k x (omega arith)) in omega arith
-  at (inr le) (inl under) =
-      let e : one_if (eqb x k) ≡ 0 = ap one_if (ne_eqb x k (λ q. absurd (omega arith))) in
-      let f : one_if (nat_le (suc k) x) ≡ 0 = ap one_if (lt-leb (suc k) x (omega arith)) in
-      let g : one_if (nat_le k x) ≡ 0 = ap one_if (lt-leb k x under) in omega arith
-  at (inr le) (inr ge) = let e : one_if (eqb x k) ≡ 1 = ap one_if (eq-eqb x k (omega arith)) in
-      let f : one_if (nat_le (suc k) x) ≡ 0 = ap one_if (lt-leb (suc k) x (omega arith)) in
-      let g : one_if (nat_le k x) ≡ 1 = ap one_if (le-leb k x ge) in omega arith
+  at x b = grind (arith, eqb, ne_eqb, nat_le, le-leb, lt-leb, eq-eqb)
 
 flags_sum : (k : ℕ) (set : List Bool) (xs : List ℕ) (test : ℕ → Bool) → ((i : ℕ) → i < length set
     → one_if (test (k + i)) ≤ one_if (get_or set i false) + times (k + i) xs)
@@ -238,17 +220,14 @@ count_flags s =
     let all = flags_sum 0 s.free.areas (in_lists s.free) (is_free_page s)
     (λ i lt. subst (λ (n : ℕ). one_if (is_free_page s n) ≤ one_if (get_or s.free.areas i false)
     + times n (in_lists s.free)) (omega arith) (one i)) in
-    omega (arith, all, count_by-le-length (λ p. nat_le 0 p) (in_lists s.free))
-  where
-    at : (a b : Bool) (n : ℕ) → (b ≡ true → 1 ≤ n) → one_if (a || b) ≤ one_if a + n
-    at true b n some = omega arith
-    at false true n some = omega (arith, some refl)
-    at false false n some = omega arith
+    omega (arith, all, count_by-le-length (λ p. nat_le 0 p) (in_lists s.free)) where
+      at : (a b : Bool) (n : ℕ) → (b ≡ true → 1 ≤ n) → one_if (a || b) ≤ one_if a + n
+      at x b n some = grind arith
 
-    one : (i : ℕ) → one_if (is_free_page s i) ≤ one_if (get_or s.free.areas i false) + times i
-        (in_lists s.free)
-    one i = at (has s.free.areas i) (is_in i (in_lists s.free)) (times i (in_lists s.free))
-        (times_in i (in_lists s.free))
+      one : (i : ℕ) → one_if (is_free_page s i) ≤ one_if (get_or s.free.areas i false) + times i
+          (in_lists s.free)
+      one i = at (has s.free.areas i) (is_in i (in_lists s.free)) (times i (in_lists s.free))
+          (times_in i (in_lists s.free))
 
 pub taken_state : {s new : PageState} (pages : List ℕ) → TakesFree s pages new
     → ((p : ℕ) → one_if (is_free_page new p) + times p pages ≡ one_if (is_free_page s p))

@@ -5,8 +5,7 @@ use Rattle.std.proofs.{Common.{false, zero, suc, replicate, map}, lemmas.List.Su
 use Rattle.std.proofs.lemmas.List.{Sums.get_or-le-sum_by, length-replicate, get_or-set_same}
 use Rattle.std.proofs.lemmas.{List.{get_or-set_other, length-set}, Bool.{cases_eq, ne_eqb}}
 use Rattle.vb_model.{proofs.Tables.count_by-cons, specs.Pages.{is_lent, is_stranded}}
-use Rattle.vb_model.specs.declared.places.Place.{Place, TheVariants.{Reserved, Free, Used, Giving}}
-use Rattle.vb_model.specs.declared.places.Place.TheVariants.{Lent, Taking, Stranded, Reporting}
+use Rattle.vb_model.specs.declared.places.Place.{Place, TheVariants.Reserved}
 use Rattle.vb_driver.{specs.Places.{number_of, is_at, AreCounts, IsTable}, proofs.Marking.none_of}
 
 pub number_small : (place : Place) → number_of place < 8
@@ -105,11 +104,4 @@ reserved_table pages counted lents strandeds is most = record {
 } where
   at : (place : Place) → get_or (pages ∷ 0 ∷ 0 ∷ 0 ∷ 0 ∷ 0 ∷ 0 ∷ 0 ∷ []) (number_of place) 0
       ≡ cond (is_at place Reserved) pages 0
-  at Reserved = refl
-  at Free = refl
-  at Used = refl
-  at Giving = refl
-  at Lent = refl
-  at Taking = refl
-  at Stranded = refl
-  at Reporting = refl
+  at x = grind arith

@@ -1,16 +1,14 @@
 -- The statistics buffer goes out: it is written, and then its chain is published.
-use Rattle.std.proofs.Common.{◌≡◌, ◌∙◌, sym, ap, subst, arith, refl, ℕ, ◌<◌, false, List, [], ◌∷◌}
-use Rattle.std.proofs.Common.{length, Some, Ok, Err}
-use Rattle.vb_ram.specs.Pages.{Pages, page_at, SameBut}
+use Rattle.std.proofs.Common.{◌≡◌, ◌∙◌, sym, subst, arith, refl, ℕ, ◌<◌, false, List, [], ◌∷◌}
+use Rattle.{std.proofs.Common.{length, Some, Ok, Err}, vb_ram.specs.Pages.{Pages, page_at, SameBut}}
 use Rattle.vb_ram.proofs.FieldLaws.{field_in, same_page, same_above, same_trans}
 use Rattle.vb_chain.{specs.declared.pieces.Piece.Piece, proofs.TableLaws.same_parts}
-use Rattle.vb_ring.{specs.declared.driver.Full.Full, specs.declared.layout.Layout.Layout}
-use Rattle.vb_ring.{specs.Layout.IsSize, specs.Calls.AddsBy}
+use Rattle.vb_ring.specs.{declared.driver.Full.Full, Layout.IsSize, Calls.AddsBy}
 use Rattle.vb_ring.specs.Ends.{DriverEnd, IsDriverEnd, outstanding, next_head, after_add}
 use Rattle.vb_driver.specs.{Coding.IsStatistic, State.IsStatisticsQueue, Calls.PostsBuffer}
-use Rattle.vb_driver.{specs.Calls.written_of, proofs.Buffers.outside_both, proofs.Posting.OnePiece}
-use Rattle.vb_driver.proofs.{Posting.{one_piece, added_head}, Shapes.{IsBeside, beside_buffers}}
-use Rattle.vb_driver.proofs.{Shapes.keeps_ring, OneBuffer.{none_used, first_head, queue_added}}
+use Rattle.vb_driver.proofs.{Buffers.outside_both, Posting.{OnePiece, one_piece, added_head}}
+use Rattle.vb_driver.proofs.Shapes.{IsBeside, beside_buffers, keeps_ring}
+use Rattle.vb_driver.proofs.OneBuffer.{none_used, first_head, queue_added}
 
 -- what was written and added, by plain names
 pub record Filling (m1 m2 m3 : Pages) (r r2 : DriverEnd) (n a free total : ℕ) : Type 0 where
@@ -38,8 +36,7 @@ fills_at : {m1 m2 m3 : Pages} {r r2 : DriverEnd} {n a free total : ℕ}
     → PostsBuffer m1 m3 r r2 (record { free = free; total = total })
 fills_at {m1} {m2} {m3} {r} {r2} {n} {a} {free} {total} s adds =
     let sized : IsSize n = subst IsSize s.queue.size s.is_end.fits.size in
-    let beside : IsBeside r.layout 12 = subst (λ (l : Layout). IsBeside l 12) (sym s.queue.layout)
-    (beside_buffers 2 sized (omega arith) (omega arith)) in
+    let beside : IsBeside r.layout 12 = search (arith, beside_buffers) in
     let one : OnePiece m1 m2 m3 r r2 0 a 20 =
     one_piece s.is_end (next_is_first s.queue s.is_end s.none) (keeps_ring beside s.wrote) adds in
     let buffer : page_at m3 12 ≡ page_at m2 12 = one.others 12 beside.table beside.avail in record {
@@ -78,8 +75,7 @@ filled_queue {r} {r2} g one queue none adds =
     let some : 0 < r.size = omega (arith, adds.is_end.fits.size.least) in
     let unused = none_used queue some none in
     let same : 0 ≡ g = added_head one (first_head r some unused) adds in
-    let state : r2 ≡ after_add r 1 (Ok 0) = adds.state ∙ (ap (λ (k : ℕ). after_add r k (Ok g)) one
-    ∙ ap (λ (h : ℕ). after_add r 1 (Ok h)) (sym same)) in rw state
+    let state : r2 ≡ after_add r 1 (Ok 0) = search arith in rw state
     (queue_added queue adds.is_end some unused)
 
 -- an add of one piece isn't refused

@@ -1,23 +1,21 @@
 -- Which pages the allocator has free, as a flag a page.
-use Rattle.std.proofs.Common.{subst, ◌≡◌, ◌∙◌, sym, ap, arith, refl, ℕ, ◌+◌, ◌<◌, ◌≤◌, Bool, true}
-use Rattle.std.proofs.Common.{false, cond, eqb, not, ◌||◌, ◌&&◌, List, [], ◌∷◌, ◌++◌, length, take}
+use Rattle.std.{specs.List.list_any, proofs.Common.{subst, ◌≡◌, ◌∙◌, sym, ap, arith, refl, ℕ, ◌+◌}}
+use Rattle.std.proofs.Common.{◌<◌, ◌≤◌, Bool, true, false, cond, eqb, not, ◌||◌, ◌&&◌, List, []}
+use Rattle.std.proofs.Common.{◌∷◌, ◌++◌, length, take, get_or, map, count_by, Option, Some, eq-eqb}
 use Rattle.std.proofs.lemmas.List.{same_lists, get_or_past, length-set, length-map, get_or-map}
-use Rattle.std.{proofs.Common.{get_or, map, count_by, Option, Some, eq-eqb}, specs.List.list_any}
-use Rattle.std.{proofs.lemmas.Bool.false_from_ne_true, proofs.lemmas.List.take_more}
-use Rattle.std.proofs.lemmas.List.Sums.{sum_by-take-le}
-use Rattle.std.proofs.lemmas.List.FromFn.{get_or-map-range_with_len, length-map-range_with_len}
-use Rattle.vb_model.{specs.Tests.{is_in, one_if}, specs.declared.places.Place.TheVariants.Reserved}
-use Rattle.vb_model.{specs.Pages.{Block, covers, pages_of, is_free, all_free}, specs.Orderly.times}
+use Rattle.std.proofs.lemmas.List.{take_more, Sums.sum_by-take-le, FromFn.get_or-map-range_with_len}
+use Rattle.std.proofs.lemmas.{List.FromFn.length-map-range_with_len, Bool.false_from_ne_true}
+use Rattle.vb_model.specs.{Orderly.times, Pages.{Block, covers, pages_of, is_free, all_free}}
+use Rattle.vb_model.specs.{Tests.{is_in, one_if}, declared.places.Place.TheVariants.Reserved}
 use Rattle.vb_model.proofs.Tables.{each_page-get, count_by-cons, count_by-append}
-use Rattle.vb_model.proofs.PageSteps.{covers_is}
-use Rattle.vb_pages.specs.FreePages.{FreePages, in_lists, drained, times_free, given_back, Tries}
+use Rattle.{vb_model.proofs.PageSteps.covers_is, vb_pages.proofs.ListsLemmas.{one_if_le, times_in}}
+use Rattle.vb_pages.proofs.{ListsLemmas.times_out, AreasLemmas.{length-unreserved, has-unreserved}}
+use Rattle.vb_pages.proofs.{Sets.length-with_pages, FreeLemmas.flat-replicate}
 use Rattle.vb_pages.specs.PageState.{PageState, page_count, is_free_page, is_unreserved, IsApart}
-use Rattle.vb_pages.{specs.FreePages.Serves, specs.PageState.{new_page_state, with_free_block}}
-use Rattle.vb_pages.{proofs.Sets.length-with_pages, proofs.FreeLemmas.flat-replicate}
-use Rattle.vb_pages.proofs.AreasLemmas.{length-unreserved, has-unreserved}
-use Rattle.vb_pages.proofs.ListsLemmas.{one_if_le, times_in, times_out}
-use Rattle.vb_driver.{specs.Answers.block_at, specs.Areas.{AreFor, flags_of, is_free_at, all_given}}
-use Rattle.vb_driver.{specs.Places.{marked, first_place}, proofs.Placing.length-marked}
+use Rattle.vb_pages.specs.{PageState.{new_page_state, with_free_block}, FreePages.FreePages}
+use Rattle.vb_pages.specs.FreePages.{in_lists, drained, times_free, given_back, Tries, Serves}
+use Rattle.vb_driver.specs.{Areas.{AreFor, flags_of, is_free_at, all_given}, Places.marked}
+use Rattle.vb_driver.{specs.{Places.first_place, Answers.block_at}, proofs.Placing.length-marked}
 
 -- ---- a page's flag
 
@@ -53,21 +51,20 @@ pub held_unfree : (s : PageState) (p : ℕ) → IsApart s → list_any (covers p
 held_unfree s p apart covered = false_from_ne_true (is_free_at (flags_of s.free) p) (λ h.
     let free : 1 ≤ times_free s.free p = some_times s p (flag_free s p h) in
     let held : 1 ≤ count_by (covers p) s.held = some_covers s.held covered in
-    omega (arith, apart p, one_if_le (is_unreserved s p)))
-  where
-    step : (b : Bool) (rest : Bool) (n : ℕ) → (b || rest) ≡ true → (rest ≡ true → 1 ≤ n)
-        → 1 ≤ one_if b + n
-    step true rest n h k = omega arith
-    step false rest n h k = omega (arith, k h)
+    omega (arith, apart p, one_if_le (is_unreserved s p))) where
+      step : (b : Bool) (rest : Bool) (n : ℕ) → (b || rest) ≡ true → (rest ≡ true → 1 ≤ n)
+          → 1 ≤ one_if b + n
+      step true rest n h k = omega arith
+      step false rest n h k = omega (arith, k h)
 
-    some_covers : (held : List Block) → list_any (covers p) held ≡ true
-        → 1 ≤ count_by (covers p) held
-    some_covers [] h = cc
-    some_covers (b ∷ held) h = omega (
-      arith,
-      count_by-cons (covers p) b held,
-      step (covers p b) (list_any (covers p) held) (count_by (covers p) held) h (some_covers held),
-    )
+      some_covers : (held : List Block) → list_any (covers p) held ≡ true
+          → 1 ≤ count_by (covers p) held
+      some_covers [] h = cc
+      some_covers (b ∷ held) h = omega (
+        arith,
+        count_by-cons (covers p) b held,
+        step (covers p b) (list_any (covers p) held) (count_by (covers p) held) h (some_covers held),
+      )
 
 -- ---- flags that change
 
@@ -143,9 +140,8 @@ fresh_flags pages cpus reserved = let s = new_page_state pages cpus reserved in
     (length_flags s ∙ (size ∙ sym (length-map places is_free ∙ all))) (λ k d near.
     let here : k < pages = omega (arith, length_flags s) in flag_at s k d (omega arith)
     ∙ (free_first pages cpus reserved k here
-    ∙ sym (get_or-map is_free places k Reserved d (omega arith)
-    ∙ ap is_free (get_or-map-range_with_len (first_place reserved) 0 pages k k Reserved here
-    (omega arith)))))
+    ∙ sym (get_or-map is_free places k Reserved d (omega arith) ∙ ap is_free
+    (get_or-map-range_with_len (first_place reserved) 0 pages k k Reserved here (omega arith)))))
 
 -- ---- pages that come back one by one
 
@@ -161,8 +157,7 @@ not_before pages i lt once = let x = get_or pages i 0 in
     false_from_ne_true (is_in x (take i pages)) (λ h.
     let more : times x (take (i + 1) pages) ≡ times x (take i pages ++ x ∷ []) =
     ap (times x) (take_more pages i 0 lt) in
-    let one : times x (x ∷ []) ≡ 1 =
-    count_by-cons (λ q. eqb q x) x [] ∙ ap (λ v. one_if v + 0) (eq-eqb x x refl) in omega (
+    let one : times x (x ∷ []) ≡ 1 = search (arith, count_by-cons, eqb, eq-eqb) in omega (
       arith,
       times_in x (take i pages) h,
       count_by-append (λ q. eqb q x) (take i pages) (x ∷ []),

@@ -1,17 +1,16 @@
 -- What holds of each driver, as pages move.
-use Rattle.std.proofs.Common.{◌≡◌, ◌∙◌, sym, ap, arith, refl, ℕ, ◌<◌, ◌≤◌, Bool, true, false, cond}
-use Rattle.std.proofs.Common.{List, [], length, get_or, map, if◌then◌else◌}
 use Rattle.std.proofs.lemmas.List.{same_lists, length-map, get_or-map, get_or_past}
-use Rattle.std.proofs.lemmas.Bool.{false_from_ne_true, both_ways}
-use Rattle.vb_model.specs.Pages.{place_of, placed, is_free, is_giving, is_taking, is_reporting}
-use Rattle.vb_model.specs.{Pages.{Block, pages_of_all}, Orderly.times}
-use Rattle.vb_model.specs.declared.places.Place.{TheVariants.{Reserved, Free, Used}, Place}
-use Rattle.vb_model.{proofs.Tables.{each_page-get, length-each_from}, specs.Tests.{is_in, one_if}}
-use Rattle.vb_pages.specs.FreePages.{FreePages}
-use Rattle.vb_driver.specs.State.{RequestSide, ReportSide, DriverState, IsQueue, IsReportQueue}
-use Rattle.vb_driver.specs.{State.{naming, tells_host, IsDriver}, Places.{is_at, marked}}
-use Rattle.vb_driver.proofs.{Placing.{length-marked, marked-get, marked_none}, Naming.naming_same}
-use Rattle.vb_driver.{specs.Areas.{AreFor, flags_of, is_covered}, proofs.Counting.at_is}
+use Rattle.std.proofs.{lemmas.Bool.{false_from_ne_true, both_ways}, Common.{◌≡◌, ◌∙◌}}
+use Rattle.std.proofs.Common.{sym, ap, arith, refl, ℕ, ◌<◌, ◌≤◌, Bool, true, false, cond, List, []}
+use Rattle.{std.proofs.Common.{length, map, if◌then◌else◌}, vb_model.specs.Pages.{place_of, placed}}
+use Rattle.vb_model.specs.Pages.{is_free, is_giving, is_taking, is_reporting, Block, pages_of_all}
+use Rattle.vb_model.specs.declared.places.Place.{Place, TheVariants.{Reserved, Free, Used}}
+use Rattle.vb_model.{specs.{Orderly.times, Tests.{is_in, one_if}}, proofs.Tables.each_page-get}
+use Rattle.{vb_model.proofs.Tables.length-each_from, vb_pages.specs.FreePages.FreePages}
+use Rattle.vb_driver.proofs.Placing.{length-marked, marked-get, marked_none}
+use Rattle.vb_driver.{proofs.{Counting.at_is, Naming.naming_same}, specs.Places.{is_at, marked}}
+use Rattle.vb_driver.specs.{Areas.{AreFor, flags_of, is_covered}, State.{RequestSide, ReportSide}}
+use Rattle.vb_driver.specs.State.{DriverState, IsQueue, IsReportQueue, naming, tells_host, IsDriver}
 
 -- ---- a page's place
 
@@ -31,13 +30,11 @@ pub free_marked : (places : List Place) (pages others : List ℕ) (to : Place) (
     → cond (is_in p others) flag (is_free place) ≡ is_free (cond (is_in p pages) to place))
     → marked others flag (map is_free places) ≡ map is_free (placed pages to places)
 free_marked places pages others to flag agree =
-    let left = marked others flag (map is_free places) in
-    let moved = placed pages to places in
-    let n1 : length left ≡ length places = search (arith, length-each_from, map, length-map) in
+    let left = marked others flag (map is_free places) in let moved = placed pages to places in
+    let n1 : length left ≡ length places = search (arith, length-each_from, length-map) in
     let n2 : length moved ≡ length places = length-marked pages to places in
     same_lists left (map is_free moved) (n1 ∙ sym (length-map moved is_free ∙ n2)) (λ k d near.
     let inside : k < length places = omega arith in
-    let here : place_of places k ≡ get_or places k Reserved = refl in
     each_page-get (λ page old. if is_in page others then flag else old) (map is_free places) k d
     (λ far. absurd (omega (arith, length-map places is_free)))
     ∙ (ap (λ v. cond (is_in k others) flag v) (get_or-map is_free places k Reserved d inside)
@@ -79,33 +76,27 @@ pub stays_held : {d : DriverState} {pages : List ℕ} {from : Place → Bool} �
     → cond (is_in p pages) to (place_of d.places p) ≡ Used
 stays_held {d} {pages} {from} leaves to fails p covered = by (is_in p pages) refl where
   by : (b : Bool) → is_in p pages ≡ b → cond (is_in p pages) to (place_of d.places p) ≡ Used
-  by true e = absurd (both_ways (from Used) fails
-      (ap from (sym (leaves.kept.used p covered)) ∙ leaves.at p e))
-  by false e = ap (λ v. cond v to (place_of d.places p)) e ∙ leaves.kept.used p covered
+  by x e = grind (arith, both_ways, cond)
 
 -- the areas' flags, where the pages become free or cease to be
 pub free_set : {d : DriverState} (areas2 : FreePages) (pages : List ℕ) (to : Place) {b : Bool}
     → IsDriver d → is_free to ≡ b → flags_of areas2 ≡ marked pages b (flags_of d.areas)
     → flags_of areas2 ≡ map is_free (placed pages to d.places)
 free_set {d} areas2 pages to {b} kept is set = set ∙ (ap (marked pages b) kept.free
-    ∙ free_marked d.places pages pages to b (λ p place e. agree place (is_in p pages)))
-  where
-    agree : (place : Place) (v : Bool) → cond v b (is_free place) ≡ is_free (cond v to place)
-    agree place true = sym is
-    agree place false = refl
+    ∙ free_marked d.places pages pages to b (λ p place e. agree place (is_in p pages))) where
+      agree : (place : Place) (v : Bool) → cond v b (is_free place) ≡ is_free (cond v to place)
+      agree place true = sym is
+      agree place false = refl
 
 -- and where they are free neither before nor then
 pub free_stays : {d : DriverState} {pages : List ℕ} {from : Place → Bool} → Leaves d pages from
     → (to : Place) → from Free ≡ false → is_free to ≡ false
     → flags_of d.areas ≡ map is_free (placed pages to d.places)
 free_stays {d} {pages} {from} leaves to fails is = leaves.kept.free
-    ∙ free_same d.places pages to (λ p place e. by p place e (is_in p pages) refl)
-  where
-    by : (p : ℕ) (place : Place) → place ≡ place_of d.places p → (b : Bool) → is_in p pages ≡ b
-        → is_free place ≡ is_free (cond (is_in p pages) to place)
-    by p place e true here = ap is_free e ∙ (not_left from Free (place_of d.places p) fails
-        (leaves.at p here) ∙ sym (ap (λ v. is_free (cond v to place)) here ∙ is))
-    by p place e false here = sym (ap (λ v. is_free (cond v to place)) here)
+    ∙ free_same d.places pages to (λ p place e. by p place e (is_in p pages) refl) where
+      by : (p : ℕ) (place : Place) → place ≡ place_of d.places p → (b : Bool) → is_in p pages ≡ b
+          → is_free place ≡ is_free (cond (is_in p pages) to place)
+      by p place e u here = grind (arith, not_left, cond)
 
 -- ---- the whole
 
@@ -137,8 +128,7 @@ pub kept_changed : {d : DriverState} {areas2 : FreePages} {pages : List ℕ}
       deflate = e2;
       report = r2;
     })
-kept_changed {d} {pages} {from} m = let kept : IsDriver d = m.leaves.kept in
-    let there : (p : ℕ) → is_in p pages ≡ true → p < length d.places =
+kept_changed {d} {pages} {from} m = let there : (p : ℕ) → is_in p pages ≡ true → p < length d.places =
     λ p here. there_by d.places p from m.leaves.high (m.leaves.at p here) in
     let unreserved : (p : ℕ) → is_in p pages ≡ true → is_at Reserved (place_of d.places p) ≡ false =
     λ p here. not_left from Reserved (place_of d.places p) m.leaves.high (m.leaves.at p here) in

@@ -39,14 +39,13 @@ first_in : (first k : ℕ) (xs : List Bool) → get_or xs k false ≡ true
 first_in first k [] there low = cc
 first_in first zero (x ∷ xs) there low = grind arith
 first_in first (suc k) (x ∷ xs) there low = at x (low zero (omega arith))
-    (first_in (suc first) k xs there (λ m lt. low (suc m) (omega arith)))
-  where
-    at : (b : Bool) → b ≡ false → members_from (suc first) xs
-        ≡ (suc first + k) ∷ members_from (suc (suc first + k)) (drop (suc k) xs)
-        → cond b (first ∷ members_from (suc first) xs) (members_from (suc first) xs)
-        ≡ (first + suc k) ∷ members_from (suc (first + suc k)) (drop (suc k) xs)
-    at true e ih = cc
-    at false e ih = ih ∙ ap (λ (n : ℕ). n ∷ members_from (suc n) (drop (suc k) xs)) (omega arith)
+    (first_in (suc first) k xs there (λ m lt. low (suc m) (omega arith))) where
+      at : (b : Bool) → b ≡ false → members_from (suc first) xs
+          ≡ (suc first + k) ∷ members_from (suc (suc first + k)) (drop (suc k) xs)
+          → cond b (first ∷ members_from (suc first) xs) (members_from (suc first) xs)
+          ≡ (first + suc k) ∷ members_from (suc (first + suc k)) (drop (suc k) xs)
+      at true e ih = cc
+      at false e ih = ih ∙ ap (λ (n : ℕ). n ∷ members_from (suc n) (drop (suc k) xs)) (omega arith)
 
 -- the least member from a number on, and those after it
 next_member : {flags : List Bool} {from page : ℕ} → IsLeastFrom flags from page

@@ -1,13 +1,12 @@
 -- How often requests name a page.
-use Rattle.std.proofs.Common.{◌≡◌, ◌∙◌, sym, ap, arith, refl, ℕ, suc, ◌+◌, ◌<◌, ◌≤◌, Bool, true}
-use Rattle.std.proofs.Common.{false, cond, eqb, not, List, [], ◌∷◌, ◌++◌, length, take, get_or, set}
-use Rattle.std.{proofs.Common.{inl, inr, IsTrue}, proofs.lemmas.Bool.{cases_eq, ne_eqb}}
+use Rattle.std.proofs.Common.{◌≡◌, ◌∙◌, sym, ap, arith, refl, ℕ, suc, ◌+◌, ◌<◌}
+use Rattle.std.proofs.Common.{◌≤◌, Bool, true, false, cond, eqb, not, List, [], ◌∷◌, ◌++◌, length}
+use Rattle.std.proofs.{Common.{take, get_or, set, inl, inr, IsTrue}, lemmas.Bool.{cases_eq, ne_eqb}}
 use Rattle.std.proofs.lemmas.List.Sums.{sum_by-set, sum_by-take-le, get_or-le-sum_by}
-use Rattle.vb_model.{specs.Tests.{is_in, one_if, pages_from, pages_where}, specs.Driver.AllDistinct}
-use Rattle.vb_model.{specs.Orderly.times, specs.declared.places.Place.Place}
-use Rattle.vb_model.proofs.Tables.{count_by-cons, count_by-append}
-use Rattle.vb_pages.proofs.ListsLemmas.{times_in, times_out, one_if_le}
-use Rattle.vb_driver.specs.State.{naming}
+use Rattle.vb_model.{proofs.Tables.{count_by-cons, count_by-append}, specs.Driver.AllDistinct}
+use Rattle.vb_model.specs.{Orderly.times, Tests.{is_in, one_if, pages_from, pages_where}}
+use Rattle.{vb_model.specs.declared.places.Place.Place, vb_pages.proofs.ListsLemmas.times_in}
+use Rattle.{vb_pages.proofs.ListsLemmas.{times_out, one_if_le}, vb_driver.specs.State.naming}
 
 -- a list in which no page stands twice
 pub once_distinct : (p : ℕ) (xs : List ℕ) → AllDistinct xs → times p xs ≤ 1
@@ -21,11 +20,10 @@ once_distinct p (x ∷ xs) d = let ih : times p xs ≤ 1 = once_distinct p xs d.
           let none : times p xs ≡ 0 = times_out p xs out in
           let most : one_if (eqb x p) ≤ 1 = one_if_le (eqb x p) in omega arith
       | inr ne ↦ (let none : one_if (eqb x p) ≡ 0 = ap one_if (ne_eqb x p ne) in omega arith)
-    ]
-  where
-    opposite : (b : Bool) → IsTrue (not b) → b ≡ false
-    opposite true h = cc
-    opposite false h = refl
+    ] where
+      opposite : (b : Bool) → IsTrue (not b) → b ≡ false
+      opposite true h = cc
+      opposite false h = refl
 
 -- the pages of a table that pass a test
 pub later_none : {A : Type 0} (p k : ℕ) (test : A → Bool) (xs : List A) → p < k

@@ -1,16 +1,15 @@
 -- The queue of statistics, of which one buffer is out at the most: at descriptor 0.
-use Rattle.std.proofs.Common.{◌≡◌, ◌∙◌, sym, ap, arith, refl, ℕ, ◌+◌, ◌<◌, ◌%◌, Bool, true, false}
-use Rattle.std.proofs.Common.{List, [], ◌∷◌, length, inl, inr, eq-eqb, Option, Some, None, Result}
-use Rattle.std.{proofs.Common.{Ok, is_none, is_some, MatchBool}, proofs.lemmas.Bool.cases_Bool}
-use Rattle.vb_ram.specs.Pages.{Pages}
-use Rattle.vb_ring.specs.Ends.{DriverEnd, IsDriverEnd, is_unused, outstanding, next_head, next_path}
-use Rattle.vb_ring.{specs.Ends.{after_add, claimed, released, used_answer}, specs.Calls.TakesUsedBy}
-use Rattle.vb_ring.{specs.declared.driver.RingBroken.RingBroken, proofs.OwnerLaws.released-at}
-use Rattle.vb_ring.specs.Entries.{is_own, is_head, only_head}
-use Rattle.vb_ring.proofs.Numbers.{numbers_first, numbers_has, numbers_none}
-use Rattle.vb_driver.{specs.State.{IsStatisticsQueue, fresh_statistics}, specs.Calls.emptied}
-use Rattle.vb_driver.proofs.ReportTables.{none_owned}
+use Rattle.std.proofs.Common.{◌≡◌, ◌∙◌, sym, ap, arith, refl, ℕ, ◌+◌, ◌<◌, ◌%◌, Bool, true}
+use Rattle.std.proofs.Common.{false, List, [], ◌∷◌, length, inl, inr, eq-eqb, Option, Some, None}
+use Rattle.std.proofs.{Common.{Result, Ok, is_none, is_some, MatchBool}, lemmas.Bool.cases_Bool}
+use Rattle.{vb_ram.specs.Pages.Pages, vb_ring.specs.Ends.{DriverEnd, IsDriverEnd, is_unused}}
+use Rattle.vb_ring.specs.Ends.{outstanding, next_head, next_path, after_add, claimed, released}
+use Rattle.vb_ring.specs.{Ends.used_answer, Entries.{is_own, is_head, only_head}, Calls.TakesUsedBy}
+use Rattle.vb_ring.{specs.declared.driver.RingBroken.RingBroken, proofs.Numbers.numbers_first}
+use Rattle.vb_ring.proofs.{Numbers.{numbers_has, numbers_none}, OwnerLaws.released-at}
 use Rattle.vb_driver.proofs.RequestTables.{next_path_is, claimed_same, claimed_other}
+use Rattle.vb_driver.{proofs.ReportTables.none_owned, specs.State.IsStatisticsQueue}
+use Rattle.vb_driver.specs.{State.fresh_statistics, Calls.emptied}
 
 -- ---- nothing is out
 
@@ -92,16 +91,15 @@ pub tells_of : {mem : Pages} {r r2 now : DriverEnd} {n : ℕ} (used : Option ℕ
     → r ≡ now → IsStatisticsQueue now n
     → told ≡ is_some used → TakesUsedBy mem r r2 (Ok used) → Tells mem now r2 n told
 tells_of {mem} {r} {r2} {n} used at queue is takes = rw (← at) (rw is
-    (by_used used (rw at queue) takes))
-  where
-    by_used : (o : Option ℕ) → IsStatisticsQueue r n → TakesUsedBy mem r r2 (Ok o)
-        → Tells mem r r2 n (is_some o)
-    by_used None q t = (sym t.value, t.state)
-    by_used (Some h) q t = let first : h ≡ 0 = taken_first _ q (sym t.value) in
-        let taken : TakesUsedBy mem r r2 (Ok (Some 0)) = rw (← first) t in (
-          sym taken.value,
-          taken,
-          taken.state,
-          ap outstanding taken.state ∙ taken_none q,
-          rw taken.state (queue_taken q),
-        )
+    (by_used used (rw at queue) takes)) where
+      by_used : (o : Option ℕ) → IsStatisticsQueue r n → TakesUsedBy mem r r2 (Ok o)
+          → Tells mem r r2 n (is_some o)
+      by_used None q t = (sym t.value, t.state)
+      by_used (Some h) q t = let first : h ≡ 0 = taken_first _ q (sym t.value) in
+          let taken : TakesUsedBy mem r r2 (Ok (Some 0)) = rw (← first) t in (
+            sym taken.value,
+            taken,
+            taken.state,
+            ap outstanding taken.state ∙ taken_none q,
+            rw taken.state (queue_taken q),
+          )

@@ -1,22 +1,21 @@
 -- The pages of the guest's own: blocks that are allocated and freed.
-use Rattle.std.proofs.Common.{◌≡◌, ◌∙◌, sym, ap, arith, refl, ℕ, ◌+◌, ◌^◌, ◌<◌, ◌≤◌, Bool, true}
-use Rattle.std.proofs.Common.{false, cond, eqb, not, ◌||◌, List, [], ◌∷◌, length, map, inl, inr}
-use Rattle.std.{proofs.Common.{None, nat_le, nat_lt}, specs.List.{list_any, range_with_len}}
-use Rattle.std.proofs.lemmas.Bool.{and_parts, or_cases, or_left, or_right, both_ways, eqb-true}
-use Rattle.std.proofs.lemmas.List.{length-map}
-use Rattle.vb_model.specs.Pages.{Block, covers, pages_of, is_same_block, is_wholly_free, place_of}
-use Rattle.vb_model.specs.{Pages.{placed, is_free, is_used}, Driver.{with_block, without_block}}
+use Rattle.std.{specs.List.{list_any, range_with_len}, proofs.lemmas.Bool.{and_parts, or_cases}}
+use Rattle.std.proofs.lemmas.{Bool.{or_left, or_right, both_ways, eqb-true}, List.length-map}
+use Rattle.std.proofs.Common.{◌≡◌, ◌∙◌, sym, ap, arith, refl, ℕ, ◌+◌, ◌^◌, ◌<◌, ◌≤◌, Bool}
+use Rattle.std.proofs.Common.{true, false, cond, eqb, not, ◌||◌, List, [], ◌∷◌, length, map, inl}
+use Rattle.{std.proofs.Common.{inr, None, nat_le, nat_lt}, vb_model.specs.Pages.{Block, covers}}
+use Rattle.vb_model.specs.Pages.{pages_of, is_same_block, is_wholly_free, place_of, placed, is_free}
+use Rattle.vb_model.specs.{Pages.is_used, Refusals.{first_refusal, ◌⇒◌}, Driver.with_block}
+use Rattle.vb_model.specs.{Driver.without_block, Tests.is_in, declared.places.Place.Place}
 use Rattle.vb_model.specs.declared.places.Place.TheVariants.{Free, Used, Giving, Taking, Reporting}
 use Rattle.vb_model.specs.declared.replies.Refusal.TheVariants.{BadOrder, BadCpu, NoPages, NotHeld}
-use Rattle.vb_model.specs.{Refusals.{first_refusal, ◌⇒◌}, declared.places.Place.Place, Tests.is_in}
-use Rattle.vb_model.proofs.{PageSteps.covers_is, Tables.list_all-at}
+use Rattle.vb_model.proofs.{Tables.list_all-at, PageSteps.covers_is}
 use Rattle.vb_pages.specs.{FreePages.FreePages, PageState.PageState}
-use Rattle.vb_driver.specs.Areas.{flags_of, AreApart, AreFor, Becomes, is_free_at, is_covered}
-use Rattle.vb_driver.specs.{Areas.is_free_block, State.{DriverState, page_state, IsDriver}}
+use Rattle.vb_driver.specs.{Answers.{block_at, alloc_causes}, Places.marked, Areas.flags_of}
+use Rattle.vb_driver.specs.Areas.{AreApart, AreFor, Becomes, is_free_at, is_covered, is_free_block}
+use Rattle.vb_driver.{specs.State.{DriverState, page_state, IsDriver}, proofs.Counting.at_is}
+use Rattle.vb_driver.proofs.{Moving.free_is_place, Placing.marked-get, ReportTables.block_inside}
 use Rattle.vb_driver.proofs.Keeping.{kept_changed, there_by, Leaves, stays, free_set}
-use Rattle.vb_driver.{specs.Answers.{block_at, alloc_causes}, proofs.ReportTables.block_inside}
-use Rattle.vb_driver.proofs.{Moving.free_is_place, Placing.marked-get, Counting.at_is}
-use Rattle.vb_driver.specs.Places.{marked}
 
 -- ---- free blocks
 
@@ -108,13 +107,10 @@ allocated_kept {d} {areas2} b kept whole taken same = let pages = pages_of b in
       free = free_set areas2 pages Used kept refl taken;
       same = same;
       used = λ p covered. used_at p (is_in p pages) refl (sym (covered_with p b d.held) ∙ covered);
-    })
-  where
-    used_at : (p : ℕ) (v : Bool) → is_in p (pages_of b) ≡ v → (covers p b || is_covered p d.held)
-        ≡ true → cond (is_in p (pages_of b)) Used (place_of d.places p) ≡ Used
-    used_at p true e covered = ap (λ (v : Bool). cond v Used (place_of d.places p)) e
-    used_at p false e covered = ap (λ (v : Bool). cond v Used (place_of d.places p)) e ∙ kept.used p
-        (ap (λ (v : Bool). v || is_covered p d.held) (sym (covers_is p b false e)) ∙ covered)
+    }) where
+      used_at : (p : ℕ) (v : Bool) → is_in p (pages_of b) ≡ v → (covers p b || is_covered p d.held)
+          ≡ true → cond (is_in p (pages_of b)) Used (place_of d.places p) ≡ Used
+      used_at p y e covered = grind (arith, cond, covers_is)
 
 -- a block is refused, though lists may be drained
 pub unallocated_kept : {d : DriverState} {new : PageState} → IsDriver d → Becomes (page_state d) new
@@ -153,8 +149,7 @@ pub block_freed_kept : {d : DriverState} {new : PageState} (b : Block) → IsDri
 block_freed_kept {d} {new} b kept held given rest same apart = let pages = pages_of b in
     let used : (p : ℕ) → is_in p pages ≡ true
     → place_of d.places p ≡ Used = λ p here. block_used b p kept held here in
-    let leaves : Leaves d pages is_used =
-    record { kept = kept; at = λ p here. ap is_used (used p here); high = refl } in
+    let leaves : Leaves d pages is_used = search arith in
     kept_changed (record {
       leaves = leaves;
       inflate = kept.inflate;
@@ -166,22 +161,21 @@ block_freed_kept {d} {new} b kept held given rest same apart = let pages = pages
       free = free_set new.free pages Free kept refl given;
       same = same;
       used = λ p covered. used_at p (is_in p pages) refl covered (used p);
-    })
-  where
-    used_at : (p : ℕ) (v : Bool) → is_in p (pages_of b) ≡ v → is_covered p (without_block b d.held)
-        ≡ true → (is_in p (pages_of b) ≡ true → place_of d.places p ≡ Used)
-        → cond (is_in p (pages_of b)) Free (place_of d.places p) ≡ Used
-    used_at p true e covered used = let inside : p < length (flags_of d.areas) = omega (
-      arith,
-      ap length kept.free,
-      length-map d.places is_free,
-      there_by d.places p is_used refl (ap is_used (used e)),
-    ) in
-        let free : is_free_at (flags_of new.free) p ≡ true = ap (λ (l : List Bool). is_free_at l p)
-        given ∙ (marked-get (pages_of b) true (flags_of d.areas) p false inside
-        ∙ ap (λ (v : Bool). cond v true (is_free_at (flags_of d.areas) p)) e) in
-        let unfree : is_free_at (flags_of new.free) p ≡ false =
-        apart.apart p (ap (is_covered p) rest ∙ covered) in
-        absurd (both_ways (is_free_at (flags_of new.free) p) unfree free)
-    used_at p false e covered used = ap (λ (v : Bool). cond v Free (place_of d.places p)) e
-        ∙ kept.used p (covered_without p b d.held covered)
+    }) where
+      used_at : (p : ℕ) (v : Bool) → is_in p (pages_of b) ≡ v → is_covered p (without_block b d.held)
+          ≡ true → (is_in p (pages_of b) ≡ true → place_of d.places p ≡ Used)
+          → cond (is_in p (pages_of b)) Free (place_of d.places p) ≡ Used
+      used_at p true e covered used = let inside : p < length (flags_of d.areas) = omega (
+        arith,
+        ap length kept.free,
+        length-map d.places is_free,
+        there_by d.places p is_used refl (ap is_used (used e)),
+      ) in
+          let free : is_free_at (flags_of new.free) p ≡ true = ap (λ (l : List Bool). is_free_at l p)
+          given ∙ (marked-get (pages_of b) true (flags_of d.areas) p false inside
+          ∙ ap (λ (v : Bool). cond v true (is_free_at (flags_of d.areas) p)) e) in
+          let unfree : is_free_at (flags_of new.free) p ≡ false =
+          apart.apart p (ap (is_covered p) rest ∙ covered) in
+          absurd (both_ways (is_free_at (flags_of new.free) p) unfree free)
+      used_at p false e covered used = ap (λ (v : Bool). cond v Free (place_of d.places p)) e
+          ∙ kept.used p (covered_without p b d.held covered)

@@ -1,14 +1,13 @@
 -- Tables of places, as pages move one by one.
-use Rattle.std.proofs.Common.{◌≡◌, ◌∙◌, sym, ap, arith, refl, ℕ, zero, suc, ◌+◌, ◌-◌, ◌<◌, ◌≤◌}
-use Rattle.std.proofs.Common.{Bool, true, false, cond, eqb, ◌||◌, List, [], ◌∷◌, ◌++◌, length, take}
-use Rattle.std.proofs.Common.{get_or, set, map, eq-eqb, count_by, if◌then◌else◌}
+use Rattle.std.proofs.Common.{◌≡◌, ◌∙◌, sym, ap, arith, refl, ℕ, zero, suc}
+use Rattle.std.proofs.Common.{◌+◌, ◌-◌, ◌<◌, ◌≤◌, Bool, true, false, cond, eqb, ◌||◌, List, [], ◌∷◌}
+use Rattle.std.proofs.Common.{◌++◌, length, take, get_or, set, map, eq-eqb, count_by, if◌then◌else◌}
 use Rattle.std.proofs.lemmas.{Bool.ne_eqb, List.{same_lists, get_or-set_same, get_or-set_other}}
 use Rattle.std.proofs.lemmas.List.{length-set, get_or-map, length-map, take_more, length-take}
 use Rattle.std.{proofs.lemmas.List.Folds.{list_any-append, list_any_at}, specs.List.range_with_len}
-use Rattle.vb_model.{specs.declared.places.Place.Place, specs.Pages.placed}
-use Rattle.vb_model.specs.Tests.{is_in, one_if, pages_from, pages_where}
-use Rattle.vb_model.proofs.Tables.{count_by-cons, length-each_from, each_page-get}
-use Rattle.vb_driver.specs.Places.{marked}
+use Rattle.vb_model.specs.{declared.places.Place.Place, Pages.placed, Tests.is_in}
+use Rattle.vb_model.{specs.Tests.{one_if, pages_from, pages_where}, proofs.Tables.count_by-cons}
+use Rattle.{vb_model.proofs.Tables.{length-each_from, each_page-get}, vb_driver.specs.Places.marked}
 
 -- ---- some pages of a table have one value
 

@@ -1,22 +1,21 @@
 -- Blocks leave the page areas for a report, and come back.
-use Rattle.std.proofs.Common.{◌≡◌, ◌∙◌, sym, ap, subst, arith, refl, ℕ, ◌+◌, ◌^◌, ◌<◌, ◌≤◌, Bool}
-use Rattle.std.proofs.Common.{true, false, cond, eqb, not, ◌&&◌, ◌||◌, List, [], ◌∷◌, length, map}
-use Rattle.std.{proofs.Common.slice_index_or, specs.Prelude.All, proofs.lemmas.Nat.pow_pos}
-use Rattle.std.{proofs.lemmas.List.{length-map, get_or-map}, proofs.lemmas.List.Elements.All-map}
-use Rattle.vb_model.specs.Pages.{pages_of_all, is_free, place_of, reported}
-use Rattle.vb_model.{specs.Tests.is_in, specs.Orderly.times, specs.Pages.maximal_free_blocks}
-use Rattle.vb_model.{specs.declared.places.Place.Place, proofs.Distinct.distinct_once}
-use Rattle.vb_pages.proofs.Sets.{in_block, length-with_pages, length-without_pages, same_sets}
-use Rattle.vb_pages.{specs.declared.block.FreeBlock.FreeBlock, specs.FreePages.drained}
-use Rattle.vb_pages.specs.PageState.{PageState, page_count, reserved_count, is_free_page, IsApart}
-use Rattle.vb_pages.{specs.Areas.without_pages, proofs.Sets.{without_parts, without_old}}
-use Rattle.vb_report.specs.Blocks.{block_of, blocks_of, is_covered, blocks_to_report, HaveRoom}
-use Rattle.vb_report.{specs.Blocks.{with_blocks, without_blocks}, proofs.Covering.in_covered}
+use Rattle.std.proofs.lemmas.{List.{length-map, get_or-map, Elements.All-map}, Nat.pow_pos}
+use Rattle.std.proofs.Common.{◌≡◌, ◌∙◌, sym, ap, subst, arith, refl, ℕ, ◌+◌, ◌^◌, ◌<◌, ◌≤◌}
+use Rattle.std.proofs.Common.{Bool, true, false, cond, eqb, not, ◌&&◌, ◌||◌, List, [], ◌∷◌, length}
+use Rattle.{std.proofs.Common.{map, slice_index_or, All}, vb_model.proofs.Distinct.distinct_once}
+use Rattle.vb_model.specs.{declared.places.Place.Place, Tests.is_in, Pages.pages_of_all}
+use Rattle.vb_model.specs.{Pages.{is_free, place_of, reported, maximal_free_blocks}, Orderly.times}
+use Rattle.vb_pages.proofs.Sets.{in_block, length-with_pages, length-without_pages}
+use Rattle.vb_pages.{proofs.Sets.{same_sets, without_parts, without_old}, specs.Areas.without_pages}
+use Rattle.vb_pages.specs.{declared.block.FreeBlock.FreeBlock, PageState.{PageState, page_count}}
+use Rattle.vb_pages.specs.{PageState.{reserved_count, is_free_page, IsApart}, FreePages.drained}
+use Rattle.vb_report.{proofs.Covering.in_covered, specs.Blocks.block_of}
+use Rattle.vb_report.specs.Blocks.{blocks_of, is_covered, blocks_to_report, HaveRoom, with_blocks}
+use Rattle.{vb_report.specs.Blocks.without_blocks, vb_driver.proofs.Moving.free_is_place}
 use Rattle.vb_driver.proofs.Flags.{for_these, length_flags, flag_free, free_flag, flags_moved}
-use Rattle.vb_driver.{proofs.ReportTables.{in_all, block_inside_all}, proofs.Moving.free_is_place}
-use Rattle.vb_driver.{specs.Areas.{Becomes, flags_of, is_free_at}, proofs.Flags.drained_sizes}
-use Rattle.vb_driver.{proofs.Placing.marked_none, specs.State.IsAreaBlock, specs.Places.marked}
-use Rattle.vb_driver.specs.Areas.{is_covered as is_in_block}
+use Rattle.vb_driver.proofs.{Flags.drained_sizes, ReportTables.{in_all, block_inside_all}}
+use Rattle.vb_driver.{proofs.Placing.marked_none, specs.{Places.marked, State.IsAreaBlock}}
+use Rattle.vb_driver.specs.Areas.{Becomes, flags_of, is_free_at, is_covered as is_in_block}
 
 -- a page is free just where its flag says so
 flag_is : (s : PageState) (p : ℕ) → IsApart s → is_free_page s p ≡ is_free_at (flags_of s.free) p
@@ -49,13 +48,9 @@ chosen_state {s} {new} blocks is left = let pages = pages_of_all (blocks_of bloc
       held = ap (λ (v : PageState). v.held) is;
       same = for_these (ap (λ (v : PageState). v.free) is)
           (record { processors = sizes.same.processors; reserved = refl });
-    }
-  where
-    gone : (old v : Bool) → (old && not v) ≡ cond v false old
-    gone true true = refl
-    gone true false = refl
-    gone false true = refl
-    gone false false = refl
+    } where
+      gone : (old v : Bool) → (old && not v) ≡ cond v false old
+      gone x y = grind arith
 
 -- ---- no block is chosen
 
@@ -87,8 +82,7 @@ pub have_room : {s : PageState} {blocks : List FreeBlock}
 have_room {s} {blocks} apart good unreserved inside taken uncovered once = record {
   each = λ k d lt.
       let b = block_of (slice_index_or blocks k d) in
-      let is : slice_index_or (blocks_of blocks) k (block_of d) ≡ b =
-      get_or-map block_of blocks k d (block_of d) lt in
+      let is : slice_index_or (blocks_of blocks) k (block_of d) ≡ b = search (arith, get_or-map) in
       let fine : IsAreaBlock b = subst IsAreaBlock is
       (good k (block_of d) (omega (arith, length-map blocks block_of))) in
       let here : (p : ℕ) → b.start ≤ p → p < b.start + 2 ^ b.order → is_in p

@@ -44,17 +44,16 @@ reported_kept {d} {areas2} {r2} kept chosen distinct taken same queue =
       free = free_set areas2 pages Reporting kept refl taken;
       same = same;
       used = stays_held leaves Reporting refl;
-    })
-  where
-    named : (p : ℕ) (b : Bool) → is_in p (pages_of_all r2.blocks) ≡ b
-        → times p (pages_of_all r2.blocks) ≤ one_if
-        (is_reporting (cond (is_in p (pages_of_all r2.blocks)) Reporting (place_of d.places p)))
-    named p true e =
-        let one : one_if
-        (is_reporting (cond (is_in p (pages_of_all r2.blocks)) Reporting (place_of d.places p)))
-        ≡ 1 = ap (λ (v : Bool). one_if (is_reporting (cond v Reporting (place_of d.places p)))) e in
-        omega (arith, distinct_list (pages_of_all r2.blocks) p distinct)
-    named p false e = omega (arith, times_out p (pages_of_all r2.blocks) e)
+    }) where
+      named : (p : ℕ) (b : Bool) → is_in p (pages_of_all r2.blocks) ≡ b
+          → times p (pages_of_all r2.blocks) ≤ one_if
+          (is_reporting (cond (is_in p (pages_of_all r2.blocks)) Reporting (place_of d.places p)))
+      named p true e =
+          let one : one_if
+          (is_reporting (cond (is_in p (pages_of_all r2.blocks)) Reporting (place_of d.places p)))
+          ≡ 1 = ap (λ (v : Bool). one_if (is_reporting (cond v Reporting (place_of d.places p)))) e in
+          omega (arith, distinct_list (pages_of_all r2.blocks) p distinct)
+      named p false e = omega (arith, times_out p (pages_of_all r2.blocks) e)
 
 -- ---- and comes back
 

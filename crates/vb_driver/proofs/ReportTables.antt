@@ -1,25 +1,23 @@
 -- The queue of reports, whose one chain has the first descriptors.
-use Rattle.std.proofs.Common.{◌≡◌, ◌∙◌, sym, ap, subst, arith, refl, ℕ, zero, suc, ◌+◌, ◌<◌, ◌≤◌}
-use Rattle.std.proofs.Common.{Bool, true, false, cond, List, [], ◌∷◌, ◌++◌, length, take, map}
-use Rattle.std.proofs.Common.{Option, None, Some, Ok, inl, inr, replicate, is_none, slice_index}
-use Rattle.std.proofs.lemmas.List.{length-replicate, get_or-replicate, get_or_past, length-map}
-use Rattle.std.proofs.lemmas.List.FromFn.{take-map-range_with_len, length-range_with_len}
-use Rattle.std.proofs.Common.{slice_index_or, nat_lt, add-one, append-nil, ◌-◌, ◌^◌}
-use Rattle.std.proofs.lemmas.List.{get_or-map, take_more, map-append, length-append}
-use Rattle.std.{proofs.lemmas.List.FromFn.get_or-range_with_len, specs.List.range_with_len}
-use Rattle.std.proofs.lemmas.Bool.{cases_lt, le-ltb, lt-ltb, both_ways, or_left, or_right}
-use Rattle.std.{specs.Prelude.All, proofs.lemmas.Nat.pow_pos, proofs.lemmas.Grind.flat_map-append}
-use Rattle.std.proofs.lemmas.List.Folds.{list_any-append}
-use Rattle.vb_model.{specs.Tests.is_in, specs.Pages.{Block, pages_of, pages_of_all}}
-use Rattle.vb_model.proofs.PageSteps.{is_in-range, outside-range}
+use Rattle.std.{specs.{List.range_with_len, Prelude.All}, proofs.lemmas.Grind.flat_map-append}
+use Rattle.std.proofs.lemmas.{Nat.pow_pos, List.{length-replicate, get_or-replicate, get_or_past}}
+use Rattle.std.proofs.lemmas.List.{length-map, get_or-map, take_more, map-append, length-append}
+use Rattle.std.proofs.lemmas.List.{Folds.list_any-append, FromFn.take-map-range_with_len}
+use Rattle.std.proofs.lemmas.List.FromFn.{length-range_with_len, get_or-range_with_len}
+use Rattle.std.proofs.{lemmas.Bool.{cases_lt, le-ltb, lt-ltb, or_left, or_right}, Common.◌≡◌}
+use Rattle.std.proofs.Common.{◌∙◌, sym, ap, subst, arith, refl, ℕ, zero, suc, ◌+◌, ◌<◌, ◌≤◌, Bool}
+use Rattle.std.proofs.Common.{true, false, cond, List, [], ◌∷◌, ◌++◌, length, take, map, Option}
+use Rattle.std.proofs.Common.{None, Some, Ok, replicate, is_none, slice_index, slice_index_or}
+use Rattle.{std.proofs.Common.{nat_lt, add-one, append-nil, ◌-◌, ◌^◌}, vb_model.specs.Tests.is_in}
+use Rattle.vb_model.{specs.Pages.{Block, pages_of, pages_of_all}, proofs.PageSteps.is_in-range}
+use Rattle.{vb_model.proofs.PageSteps.outside-range, vb_ring.proofs.OwnerLaws.claimed-at}
+use Rattle.vb_ring.proofs.{OwnerLaws.released-at, Numbers.{numbers_yes, numbers_zero, length_all}}
 use Rattle.vb_ring.specs.Ends.{DriverEnd, IsDriverEnd, is_unused, outstanding, free_descriptors}
-use Rattle.vb_ring.specs.Ends.{next_path, add_answer, after_add, after_take}
-use Rattle.vb_ring.{proofs.Numbers.{numbers_yes, numbers_zero, length_all}, specs.Numbers.numbers}
-use Rattle.vb_ring.{proofs.OwnerLaws.{claimed-at, released-at}, specs.Entries.{is_own, is_head}}
+use Rattle.vb_ring.specs.{Ends.{next_path, add_answer, after_add, after_take}, Numbers.numbers}
+use Rattle.{vb_ring.specs.Entries.{is_own, is_head}, vb_pages.proofs.Sets.in_block}
+use Rattle.{vb_pages.specs.declared.block.FreeBlock.FreeBlock, vb_report.specs.Blocks.block_of}
+use Rattle.{vb_report.specs.Blocks.{blocks_of, HasOrder}, vb_driver.proofs.Placing.range_push}
 use Rattle.vb_driver.specs.State.{ReportSide, IsReportQueue, IsAreaBlock, fresh_report}
-use Rattle.vb_driver.proofs.Placing.{range_push}
-use Rattle.vb_pages.{proofs.Sets.in_block, specs.declared.block.FreeBlock.FreeBlock}
-use Rattle.vb_report.specs.Blocks.{block_of, blocks_of, HasOrder}
 
 -- nothing belongs to a chain
 pub none_owned : (size i : ℕ) → slice_index_or (replicate {A = Option ℕ} size None) i None ≡ None
@@ -82,8 +80,7 @@ in_all (b ∷ bs) (suc i) d p lt here =
 -- a block whose last page is there lies within
 pub block_inside : (n : ℕ) (b : Block) → ((p : ℕ) → is_in p (pages_of b) ≡ true → p < n)
     → b.start + 2 ^ b.order ≤ n
-block_inside n b there = let some = pow_pos b.order in
-    let last = b.start + (2 ^ b.order - 1) in
+block_inside n b there = let some = pow_pos b.order in let last = b.start + (2 ^ b.order - 1) in
     let here : last < n = there last (in_block b.start b.order last (omega arith) (omega arith)) in
     omega arith
 
@@ -91,8 +88,7 @@ pub block_inside_all : (blocks : List FreeBlock) (i : ℕ) (d : FreeBlock) (n : 
     → ((p : ℕ) → is_in p (pages_of_all (blocks_of blocks)) ≡ true → p < n)
     → (slice_index_or blocks i d).start + 2 ^ (slice_index_or blocks i d).order ≤ n
 block_inside_all blocks i d n lt there = let b = block_of (slice_index_or blocks i d) in
-    let is : slice_index_or (blocks_of blocks) i (block_of d) ≡ b =
-    get_or-map block_of blocks i d (block_of d) lt in
+    let is : slice_index_or (blocks_of blocks) i (block_of d) ≡ b = search (arith, get_or-map) in
     block_inside n b (λ p here. there p (in_all (blocks_of blocks) i (block_of d) p
     (omega (arith, length-map blocks block_of)) (rw is here)))
 

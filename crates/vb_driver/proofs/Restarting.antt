@@ -3,10 +3,9 @@ use Rattle.std.proofs.{Common.{◌≡◌, ◌∙◌, sym, ap, ℕ, List, length,
 use Rattle.vb_model.specs.{declared.places.Place.Place, Life.place_after_reset, Pages.all_free}
 use Rattle.vb_model.specs.{Pages.{is_free, is_reporting}, Tests.pages_where, Layout.reserved_pages}
 use Rattle.vb_pages.specs.PageState.{PageState, page_count, cpu_count, reserved_count}
-use Rattle.vb_pages.specs.PageState.{new_page_state}
-use Rattle.vb_driver.specs.State.{DriverState, IsDriver, page_state, fresh_driver, fresh_side}
-use Rattle.vb_driver.{specs.Areas.areas_with, specs.State.{fresh_statistics, fresh_report}}
-use Rattle.vb_driver.proofs.Flags.{length_flags}
+use Rattle.{vb_pages.specs.PageState.new_page_state, vb_driver.specs.State.DriverState}
+use Rattle.vb_driver.specs.State.{IsDriver, page_state, fresh_driver, fresh_side, fresh_statistics}
+use Rattle.vb_driver.{specs.{State.fresh_report, Areas.areas_with}, proofs.Flags.length_flags}
 
 abbrev after_reset : DriverState → DriverState
 after_reset d = record d {

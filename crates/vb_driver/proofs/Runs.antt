@@ -63,8 +63,7 @@ pub run_counted : {places : List Place}
 run_counted zero new which are =
     grind (arith, no_hits (number_of new) (number_of which), marked_none new)
 run_counted {places} {start} (suc n) new {old} which are = let before = moved places start n new in
-    let w = number_of which in
-    let lt : start + n < length places = omega (arith, are.inside) in
+    let w = number_of which in let lt : start + n < length places = omega (arith, are.inside) in
     let size : length before ≡ length places = length-marked (range_with_len start n) new places in
     let here : hits 1 (number_of (get_or before (start + n) old)) w ≡ hits 1 (number_of old) w =
     ap (λ (p : Place). hits 1 (number_of p) w) (next_at n new old are) in

@@ -1,17 +1,16 @@
 -- A device is asked for features, and its rings begin.
-use Rattle.std.proofs.Common.{inl, inr, ◌≡◌, ◌≢◌, ◌∙◌, refl, arith, ℕ, ◌<◌, true, false}
-use Rattle.std.proofs.Common.{None, Some, Result, Ok, Err, is_err, OnOk}
-use Rattle.vb_model.{specs.declared.replies.Refusal.Refusal, specs.Status.negotiate_refusal}
-use Rattle.vb_model.{specs.Status.status_refusal, specs.Life.{feature_refusal, accepted_before}}
-use Rattle.vb_model.{specs.Layout.{is_ring_page, ring_number, ring_page}, proofs.Shapes.InRing}
-use Rattle.vb_model.proofs.Shapes.{in_ring_page, ring_no_buffer}
-use Rattle.vb_ram.{specs.Pages.{Pages, byte_at, SameIn}, proofs.FieldLaws.same_page}
-use Rattle.vb_ring.{specs.Layout.IsSize, proofs.Shapes.{parts_in_ring, fits_at}}
-use Rattle.vb_ring.{proofs.MeaningLaws.{fresh_shows, fresh_tracks}, specs.Ends.DriverEnd}
-use Rattle.vb_status.{specs.Answers.answered_refusal, specs.declared.bits.StatusFault.StatusFault}
-use Rattle.vb_driver.specs.State.{DriverState, fresh_ring, fresh_statistics}
+use Rattle.std.proofs.Common.{inl, inr, ◌≡◌, ◌≢◌, ◌∙◌, refl}
+use Rattle.std.proofs.Common.{arith, ℕ, ◌<◌, true, false, None, Some, Result, Ok, Err, is_err, OnOk}
+use Rattle.vb_model.specs.{Layout.{is_ring_page, ring_number, ring_page}, Status.negotiate_refusal}
+use Rattle.vb_model.specs.{Status.status_refusal, Life.{feature_refusal, accepted_before}}
+use Rattle.vb_model.{specs.declared.replies.Refusal.Refusal, proofs.Shapes.{InRing, in_ring_page}}
+use Rattle.{vb_model.proofs.Shapes.ring_no_buffer, vb_ram.specs.Pages.{Pages, byte_at, SameIn}}
+use Rattle.{vb_ram.proofs.FieldLaws.same_page, vb_ring.specs.{Layout.IsSize, Ends.DriverEnd}}
+use Rattle.vb_ring.proofs.{Shapes.{parts_in_ring, fits_at}, MeaningLaws.{fresh_shows, fresh_tracks}}
+use Rattle.vb_status.specs.{declared.bits.StatusFault.StatusFault, Answers.answered_refusal}
 use Rattle.vb_driver.proofs.Shapes.{ring_layout, IsBeside, beside_rings}
-use Rattle.vb_driver.{specs.Coding.SameButPages, specs.Calls.{IsNewRing, with_nothing_out}}
+use Rattle.vb_driver.specs.State.{DriverState, fresh_ring, fresh_statistics}
+use Rattle.vb_driver.specs.{Coding.SameButPages, Calls.{IsNewRing, with_nothing_out}}
 
 -- features that are offered are refused for what FEATURES_OK needs alone
 pub offered_then : (wanted : ℕ) → negotiate_refusal 3 wanted ≡ None
@@ -49,19 +48,17 @@ pub still_new : {m1 m2 m3 : Pages} {size : ℕ} (q : ℕ) {ring : DriverEnd}
     (fresh_statistics size).layout 12 → m3 ≡ m2 → AreZeros size m1 → IsNewRing m3 ring
 still_new {m1} {m2} {size} q fresh sized other rest told zeros = rw told (rw fresh
     (zero_ring q sized (λ page o at lt. (same page at).bytes o (omega arith) lt
-    ∙ zeros page o (in_ring_page size q page at) lt)))
-  where
-    no_buffer : (page : ℕ) → InRing size q page → page ≢ 12
-    no_buffer page at same = elim (ring_no_buffer size page (in_ring_page size q page at)) [
-      | inl low ↦ omega (arith, low, same)
-      | inr high ↦ omega (arith, high, same)
-    ]
+    ∙ zeros page o (in_ring_page size q page at) lt))) where
+      no_buffer : (page : ℕ) → InRing size q page → page ≢ 12
+      no_buffer page at same = elim (ring_no_buffer size page (in_ring_page size q page at)) [
+        | inl low ↦ omega (arith, low, same)
+        | inr high ↦ omega (arith, high, same)
+      ]
 
-    same : (page : ℕ) → InRing size q page → SameIn m1 m2 page 0 4096
-    same page at =
-        let beside : IsBeside (ring_layout size 2) page =
-        beside_rings 2 q sized other at in same_page m1 m2 page 0 4096
-        (rest.others page beside.table beside.avail (no_buffer page at))
+      same : (page : ℕ) → InRing size q page → SameIn m1 m2 page 0 4096
+      same page at =
+          let beside : IsBeside (ring_layout size 2) page = search (arith, beside_rings) in same_page m1 m2 page 0 4096
+          (rest.others page beside.table beside.avail (no_buffer page at))
 
 -- the other queues are fresh then
 pub record OthersFresh (d : DriverState) (size : ℕ) : Type 0 where

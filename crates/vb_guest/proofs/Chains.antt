@@ -38,8 +38,4 @@ coded_pages {mem} q {size} {r} len is code =
       numbers = code.names.each;
       some = is.pages.some;
       few = is.pages.few;
-    }) (record {
-      above = is.pages.above;
-      below = subst (λ k. All (λ page. page < k) r.pages) (sym len) is.pages.below;
-      distinct = is.pages.distinct;
-    })
+    }) (assumption (subst (λ k. All (λ page. page < k) r.pages) (sym len) is.pages.below))

@@ -118,7 +118,6 @@ supplies_back {Answers} size {s1} {s2}
     (Err why) = subst (λ (m : Pages). SuppliesBy {T = Unit {0}} Answers s2 s3 l2 l3
     (bare_from size m (page + 1)) m m3 (Err why)) same rest in
     let claims = here.claims in
-    let out = moves_then answer.moves here.refused.1 in
     subst (λ (l : List ℕ). SuppliesBy {T = Unit {0}} Answers s1 s4 l1 l3 l m1 m4 (Err why))
     (sym (bare_takes size m1 page lt none)) (record {
       claims = Gave n ∷ claims;

@@ -69,11 +69,7 @@ sound_at (x ∷ rs) (suc i) all is = sound_at rs i all.1 is
 without_low : (kind : Kind) (m : Pages) (size : ℕ) (pages : List ℕ)
     → All (λ page. reserved_pages size ≤ page) pages
     → SameReserved m (without_frames (queue_of kind) pages m) size
-without_low Inflating m size pages above p lt =
-    page_undiscarded pages m p (not_among (reserved_pages size) pages p above lt)
-without_low Deflating m size pages above p lt = refl
-without_low Reporting_free m size pages above p lt =
-    page_undiscarded pages m p (not_among (reserved_pages size) pages p above lt)
+without_low x0 m size pages above p lt = grind (arith, page_undiscarded, not_among)
 
 codes_stay : (kind : Kind)
     {m1 m2 : Pages} (d : DriverState) (n : ℕ) (part : QueuePart) {head : ℕ} {after : DeviceEnd}
@@ -129,19 +125,13 @@ ties_settled Deflating i r parts pages run still line = record {
   pages = pages;
   queues = inr (assumption (still.inflate refl, still.statistics refl, still.report refl));
 }
-ties_settled Reporting_free i r parts pages run still line = record {
-  parts = assumption;
-  pages = pages;
-  queues = inr (assumption (still.inflate refl, still.deflate refl, still.statistics refl));
-}
+ties_settled Reporting_free i r parts pages run still line = search arith
 
 -- ---- a finish that isn't refused
 
 finishes : (kind : Kind) (g : Guest) (i : ℕ) (reply : Reply) (new : Guest)
     → Finishes kind i g reply new → Performs (Finish (queue_of kind) i) g [] reply new
-finishes Inflating g i reply new does = (refl, does)
-finishes Deflating g i reply new does = (refl, does)
-finishes Reporting_free g i reply new does = (refl, does)
+finishes x0 g i reply new does = grind arith
 
 request_finished : (kind : Kind) {m1 m2 : Pages} {p1 p2 : Part} {d : DriverState} {g : Guest}
     {i : ℕ} {r : Request} {result : Result ℕ Refusal} → slice_get (requests kind g).taken i ≡ Some r
@@ -166,8 +156,7 @@ request_finished
     line.ring.layout (ties.parts.device.size ∙ sym sized) did.memory in
     let used_page = ring.layout.used.page in
     let at = (ring_parts q ring line.ring.sized line.ring.layout).used in
-    let same : SamePages
-    (reserved_pages size) bare m2 = used_same (ring_low q used_page sized at) adds in
+    let same : SamePages (reserved_pages size) bare m2 = search (arith, used_same, ring_low) in
     let rests = runs_on run (without_low kind m1 size r.pages own.above) in
     let still = others_run q rests (others_same used_page (sizes_of run)
     (ring_as q used_page sized at) (λ p ne. adds.puts.rest.others p (ne, (ne, tt)))) same.behind in

@@ -78,6 +78,5 @@ pub report_stays : {m1 m2 : Pages}
 report_stays {m1} {m2} side part layout adds is code =
     let A : ℕ → Type 0 = λ t. (k : ℕ) → k < side.ring.size
     → descriptor_at m2 t k ≡ descriptor_at m1 t k in
-    let same : A (ring_page side.ring.size 4) =
-    subst A (ap (λ (l : Layout). l.table) layout) adds.descriptors in
+    let same : A (ring_page side.ring.size 4) = search arith in
     record { chain = λ j below. same j (omega (arith, below, is.inside)) ∙ code.chain j below }

@@ -79,9 +79,7 @@ few_start size = grind arith
 pub few_bare : (size : ℕ) (m : Pages) → length (bare_from size m 0) ≤ 17
 few_bare size m = let none : ℕ → Bool = λ page. is_none (frame_at m page) in
     let all : reserved_pages size - 0 ≡ reserved_pages size = omega arith in
-    let same : bare_from size m 0 ≡ filter none (start_pages size) =
-    ap (λ (k : ℕ). filter (is_bare size m) (range_with_len 0 k)) all
-    ∙ sym (filter_both none (is_start_page size) (range_with_len 0 (reserved_pages size))) in
+    let same : bare_from size m 0 ≡ filter none (start_pages size) = search (arith, filter_both) in
     omega (
       arith,
       ap (λ (l : List ℕ). length l) same,

@@ -69,8 +69,7 @@ lowest_is r {h} is = let free = free_descriptors r in
         | inl too ↦
             let found = numbers_has (is_unused r.owner) r.size k (omega (arith, first, pass.0))
             too in elim (cases_eq found.0 0) [
-              | inl e ↦ (let same : slice_index free 0 ≡ k = ap (slice_index free) (sym e)
-                  ∙ found.2 in absurd (omega (arith, same, first)))
+              | inl e ↦ (let same : slice_index free 0 ≡ k = search arith in absurd (omega (arith, same, first)))
               | inr ne ↦ absurd (omega (
                 arith,
                 numbers_rise (is_unused r.owner) r.size 0 found.0 (omega (arith, ne)) found.1,

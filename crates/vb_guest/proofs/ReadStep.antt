@@ -32,8 +32,7 @@ pub read_done : {m : Pages} {p : Part} {d : DriverState}
     → Honest m p d g → Covers m page off len → bytes ≡ take len (drop off (contents_at m page))
     → StepsAlone (Honest m p d) g (Read page off len) (ReadBytes bytes)
 read_done {g} {page} {off} {len} {bytes} used stands covers is =
-    let held : is_used (place_of g.places page) ≡ true =
-    ap (λ l. is_used (place_of l page)) (sym stands.ties.parts.driver.places) ∙ used in
+    let held : is_used (place_of g.places page) ≡ true = search arith in
     let lt : page < g.config.pages = omega (arith, covers.page, stands.ties.pages.length_is) in
     let high = used_high g page stands.orderly held lt in
     let read = is

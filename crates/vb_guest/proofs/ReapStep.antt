@@ -77,9 +77,7 @@ ties_left kind areas sides r rest ties run line said =
 
 reaps : (kind : Kind) (g : Guest) (reply : Reply) (new : Guest)
     → Reaps kind (requests kind g).done g reply new → Performs (Reap (queue_of kind)) g [] reply new
-reaps Inflating g reply new does = (refl, does)
-reaps Deflating g reply new does = (refl, does)
-reaps Reporting_free g reply new does = (refl, does)
+reaps x0 g reply new does = grind arith
 
 request_reaped : (kind : Kind) {m1 m2 : Pages} {p1 p2 : Part} {g : Guest} (areas : FreePages)
     (sides : Sides) {d2 : DriverState} (done : List Request) (got : Option ReapedRequest)
@@ -104,9 +102,7 @@ request_reaped kind {m1} {p1} {p2} {g} areas sides {d2}
     let known = subst (All (Knows kind d1 n)) is line.done 0 r (omega arith) in
     let sent = ap (λ (h : ℕ). pages_sent q h d1) same ∙ sent_is kind d1 n r known in
     let new : Guest = reaped kind r rest g in
-    let reply : Reaped x.head x.pages ≡ Reaped r.head (length r.pages) =
-    ap (λ (k : ℕ). Reaped k x.pages) same
-    ∙ ap (Reaped r.head) (did.reaps.pages ∙ ap (λ (l : List ℕ). length l) sent) in
+    let reply : Reaped x.head x.pages ≡ Reaped r.head (length r.pages) = search arith in
     let T : List Request → Type 0 = λ l. Reaps kind l g (Reaped x.head x.pages) new in
     let step = honest_performed g (Reap q) [] (Reaped x.head x.pages) new free
     (reaps kind g (Reaped x.head x.pages) new (subst T (sym is) (reply, refl))) in

@@ -56,11 +56,7 @@ report_chain {mem} {table} {descriptors} {blocks} len some inside own reported =
     let long : length path ≡ count = length-range_with_len 0 count in
     let at : (k : ℕ) → k < count → slice_index path k ≡ k =
     λ k lt. omega (arith, get_or-range_with_len 0 count k 0 lt) in
-    let route : IsRoute descriptors path = record {
-      inside = λ k lt. omega (arith, at k (omega (arith, long)), long);
-      apart = λ j k before lt.
-          omega (arith, at j (omega (arith, long)), at k (omega (arith, long)));
-    } in
+    let route : IsRoute descriptors path = search arith in
     let put : (k : ℕ) → k < length path → descriptor_at mem table (slice_index path k)
     ≡ linked path (pieces_of blocks) k = λ k lt. let below : k < count = omega (arith, long) in
     ap (descriptor_at mem table) (at k below) ∙ reported.chain k below in

@@ -26,8 +26,7 @@ ring_used {m1} {m2} {ring} {posted} {taken} {done} i {h} stands is adds =
     let elems = stands.gone ++ used_of done in
     let e : UsedElem = record { id = h; len = 0 } in
     let grown : elems ++ e ∷ [] ≡ stands.gone ++ used_of (done ++ h ∷ []) =
-    append_assoc stands.gone (used_of done) (e ∷ []) ∙ ap (λ (x : List UsedElem). stands.gone ++ x)
-    (sym (map_push (λ (k : ℕ). (let y : UsedElem = record { id = k; len = 0 } in y)) done h)) in
+    search (arith, append_assoc, map_push) in
     let out : times h (ids elems) < times h heads = omega (
       arith,
       times-used h stands.gone done,

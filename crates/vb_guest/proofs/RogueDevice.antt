@@ -582,8 +582,7 @@ pub target_rogue : {m1 m2 : Pages} {p1 p2 : Part} {d : DriverState} {g : Guest} 
     → m2 ≡ m1 → p2 ≡ record p1 { target = n }
     → Rogue m1 p1 d g → StepsAlone (Rogue m2 p2 d) g (SetTarget n) Done
 target_rogue {m1} {m2} memory part rogue =
-    let same : (page : ℕ) → frame_at m2 page ≡ frame_at m1 page =
-    λ page. ap (λ (m : Pages). frame_at m page) memory in
+    let same : (page : ℕ) → frame_at m2 page ≡ frame_at m1 page = search arith in
     let count : length m2 ≡ length m1 = ap (λ (m : Pages). length m) memory in
     rogue_alone rogue (record {
       driver = driver_same refl;

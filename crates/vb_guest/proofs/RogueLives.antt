@@ -86,8 +86,7 @@ started_leaves : {size : ℕ} {m2 m3 : Pages} {p2 p3 : Part} {d1 d2 : DriverStat
     → Starts m2 m3 p2 p3 d1 d2 wanted → Leaves size m2 m3 p2 p3 d1 d2
 started_leaves {m2} {m3} {d1} {d2} {wanted} backed starts =
     let first = first_buffer_frames (stats_vq wanted) starts.zeroed m3 d1 d2 starts.buffer in
-    let same : (page : ℕ) → frame_at m3 page ≡ frame_at m2 page =
-    λ page. first.1 page ∙ starts.rings.backing page in
+    let same : (page : ℕ) → frame_at m3 page ≡ frame_at m2 page = search arith in
     record {
       keeps = record {
         driver = shaped (ap shape_of starts.driver);
@@ -124,9 +123,7 @@ inits_leave : {size : ℕ} {m2 m3 : Pages} {p2 p3 : Part}
     → ready_reply result ≡ Refused why → GaveUp p2 p3 d1 d2 wanted why)
 inits_leave (Ok x) same new backed did = grind (arith, started_leaves backed did.starts)
 inits_leave {m2} {p2} {d1} {wanted} (Err why) same new backed did =
-    let is : Some why ≡ feature_refusal wanted =
-    did.refusal ∙ driver_causes d1.queue_size m2 p2 wanted new (has_all d1.queue_size m2
-    (λ p start. backed p (subst (λ k. is_start_page k p ≡ true) same start))) in
+    let is : Some why ≡ feature_refusal wanted = search (arith, driver_causes, has_all) in
     let stops = stopped wanted why (sym is) did.refused in (
       stopped_leaves stops,
       refused_otherwise (feature_causes wanted) why refl (sym is),
@@ -193,9 +190,7 @@ init_supplied_rogue {Answers} out1 out2 {l} {m1}
     × (frames ≡ g.frames))) (sym needs) (subst P (sym did.answer) (λ page frame e. e)))
     (no_want _ NoFrame answer refl) (no_want _ NoMemory answer refl) (λ why e. gives_up p3 d2 wanted
     claims why rogue status did.answer part (left_so why e)) (λ page offset bytes e. absurd cc) in
-    let same_supply : supply_of p3 out2 ≡ supply_of p2 out2 =
-    ap (λ (k : Bool). record { keeps = k; own = p3.own; out = out2 }) left.flag
-    ∙ ap (λ (o : List ℕ). record { keeps = p2.keeps; own = o; out = out2 }) left.numbers in
+    let same_supply : supply_of p3 out2 ≡ supply_of p2 out2 = search arith in
     subst (λ (c : List Claim). StepsOver (Rogue m3 p3 d2) Answers (supply_of p1 out1)
     (supply_of p3 out2) c g (Init wanted) (ready_reply result)) (sym did.noted) (record {
       new = after;

@@ -163,10 +163,7 @@ supplied_rogue {m1} {m2} {m3} {p2} {g} {page} {frame} covers supplied wrote part
     let count : length m3 ≡ length m1 = wrote.rest.count ∙ supplied.count in
     let size = g.config.queue_size in
     let still : (q : ℕ) → is_some (frame_at m1 q) ≡ true → is_some (frame_at m3 q) ≡ true =
-    λ q there. ap is_some (wrote.rest.backing q) ∙ elim (cases_eq q page) [
-      | inl at ↦ ap (λ (k : ℕ). is_some (frame_at m2 k)) at ∙ ap is_some supplied.backed
-      | inr ne ↦ ap (λ o. is_some (number_of o)) (supplied.others q ne) ∙ there
-    ] in
+    search (arith, cases_eq) in
     rogue_stands (backed page frame g.frames) rogue (record {
       driver = driver_same refl;
       device = device_alike (ap kept_of_rogue part);
@@ -392,15 +389,4 @@ scribble_supplied out1 out2
     let rogue = supplied_rogue covers supplied wrote part old in
     let moves = supplied_moves out1 out2 p1 p2 g new page answer
     (omega (arith, covers.page, old.length_is, old.framed)) bare_too refl in
-    record {
-      new = new;
-      stands = stands_of (rogue_is new rogue) (own_moved out1 out2 moves stands.own);
-      step = scribble_step page off bs (Gave frame ∷ []) stands rogue (subst (λ (l : List
-          ℕ). AreClaimsFor l (Gave frame ∷ [])) (sym needs) refl) refl (marked_after g (backed page
-          frame g.frames) old part ∙ ap (λ (l : List ℕ). record g {
-            frames = all_backed l (frame ∷ []) g.frames;
-            rogue = true;
-          }) (sym needs)) (scribble_fits g bs old.length_is covers);
-      answered = (supply_of p2 out2, answer, tt);
-      moves = moves;
-    }
+    search (arith, stands_of, rogue_is, own_moved, scribble_step, marked_after, scribble_fits)

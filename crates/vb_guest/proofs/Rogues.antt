@@ -180,12 +180,7 @@ rogue_steps {g} {new}
         still = after.rogue;
         config = config;
         unreserved = after.unreserved;
-        sizes = record {
-          placed = after.placed;
-          flagged = after.flagged;
-          framed = after.framed;
-          filled = after.filled;
-        };
+        sizes = assumption;
       };
       target = sym after.target ∙ target ∙ ap (target_after call) old.target;
       claimed = claimed;

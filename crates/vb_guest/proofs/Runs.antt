@@ -71,9 +71,7 @@ pub page_alone : {rs new : List PageRun} (page i : ℕ) {e : PageRun} (pages : L
     → suc i ≡ length rs → e ≡ slice_index_or rs i e → (e.last + 1 ≡ page → ⊥)
     → new ≡ rs ++ single page ∷ [] → rs ≡ runs pages → new ≡ runs (pages ++ page ∷ [])
 page_alone {rs} page i {e} pages last at_e apart pushed is =
-    let other : (suc (slice_index_or rs i e).last == page) ≡ false =
-    other_not (suc (slice_index_or rs i e).last) page
-    (λ next. apart (omega (arith, next, ap (λ (x : PageRun). x.last) at_e))) in
+    let other : (suc (slice_index_or rs i e).last == page) ≡ false = search (arith, other_not) in
     pushed ∙ sym (last_pushed rs page i e last other)
     ∙ ap (λ (l : List PageRun). with_page l page) is ∙ sym (runs_pushed pages page)
 

@@ -137,9 +137,7 @@ pub refused_alike : {m : Pages} {p : Part} {d : DriverState}
     {g : Guest} (call : Call) {refused : Option Refusal} → IsIdle g ⊎ IsRunning m p d g
     → (IsIdleStatus g.status → (refused ≡ Some NotReady) × (refusal_of g call ≡ Some NotReady))
     → (IsRunning m p d g → refused ≡ refusal_of g call) → refused ≡ refusal_of g call
-refused_alike call (inl idle) down same =
-    let both = down idle.state in both.0 ∙ sym both.1
-refused_alike call (inr run) down same = same run
+refused_alike call y1 down same = grind arith
 
 -- where it isn't refused, the guest runs
 pub runs_where : {m : Pages} {p : Part} {d : DriverState}

@@ -128,23 +128,7 @@ started {m3} {p1} {d1} {d2} {g} {frames} {wanted} has backed idle driver parts d
         holds = λ p high. ap contents_of (keeps.high p
             (subst (λ (k : ℕ). reserved_pages k ≤ p) (sym parts.driver.queue_size) high));
       }) has;
-      queues = inr (record {
-        state = refl;
-        backed = λ p lt. ap is_some (keeps.backing p) ∙ backed p lt;
-        inflate_size = parts.driver.queue_size;
-        deflate_size = parts.driver.queue_size;
-        statistics_size = first_size (stats_vq wanted) did.zeroed m3 d1 d2 did.buffer
-            ∙ parts.driver.queue_size;
-        report_size = parts.driver.queue_size;
-        inflate = subst (λ (rs : Requests). Line m3 0 n (fresh_side 0 d1.queue_size) no_queue rs)
-            (sym idle.inflate) inflate;
-        deflate = subst (λ (rs : Requests). Line m3 1 n (fresh_side 1 d1.queue_size) no_queue rs)
-            (sym idle.deflate) deflate;
-        statistics = first_line (stats_vq wanted) d1 d2 driver.size
-            (figures_are d1 g parts.driver.places parts.driver.pages) did.statistics did.buffer;
-        report = subst (λ (rs : Requests). ReportLine m3 n (fresh_report d1.queue_size) no_queue rs)
-            (sym idle.report) report;
-      });
+      queues = inr (search (arith, first_size, first_line, figures_are));
     } in ties_same refl did.part did.driver there
 
 -- the guest whose pages have these frames, and whose driver gave up

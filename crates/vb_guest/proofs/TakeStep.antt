@@ -64,9 +64,7 @@ next_is kind m p d g size line = let q = queue_of kind in
 
 takes : (kind : Kind) (g : Guest) (reply : Reply) (new : Guest) → TakesRequest kind
     (requests kind g).posted g reply new → Performs (Take (queue_of kind)) g [] reply new
-takes Inflating g reply new does = (refl, does)
-takes Deflating g reply new does = (refl, does)
-takes Reporting_free g reply new does = (refl, does)
+takes x0 g reply new does = grind arith
 
 request_taken : (kind : Kind) {m1 m2 : Pages} {p1 p2 : Part} {d : DriverState} {g : Guest}
     (posted : List Request) {result : Result (Option ℕ) Refusal} → (requests kind g).posted ≡ posted

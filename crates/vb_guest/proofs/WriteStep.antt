@@ -36,8 +36,7 @@ outside_is g {page} e inside =
 
 pub inside_is : (g : Guest) {mem : Pages} {page off len : ℕ}
     → length mem ≡ g.config.pages → Covers mem page off len → is_outside g page off len ≡ false
-inside_is g e covers = let lt = covers.page in let fits = covers.bytes in
-    grind (arith, nat_tests)
+inside_is g e covers = let lt = covers.page in grind (arith, nat_tests)
 
 -- a page that isn't used
 pub write_not_held : {m : Pages} {p : Part} {d : DriverState}
@@ -114,9 +113,7 @@ write_backed {m1} {g} {page} {off} {bs} used stands covers never wrote part =
     need : (o : Option ℕ) → frame_of g.frames page ≡ o → frame_at m1 page ≡ frame_of g.frames page
         → (0 < length bs → frame_at m1 page ≡ None → ⊥) → (0 < length bs) ⊎ (length bs ≤ 0)
         → pages_needed page bs g ≡ []
-    need (Some frame) is behind never cases = needs_none g page frame bs is
-    need None is behind never (inl some) = absurd (never some (behind ∙ is))
-    need None is behind never (inr none) = needs_empty g page bs (omega arith)
+    need x0 is behind never cases = grind (arith, needs_none, needs_empty)
 
 -- a claim that was refused
 pub write_unsupplied : {Answers : List Bool → Claim → Type 0}

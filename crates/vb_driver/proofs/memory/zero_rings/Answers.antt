@@ -7,7 +7,6 @@ use Rattle.vb_driver.proofs.memory.zero_rings.Goals as goal
 pub loop-page-preserved : goal.loop-page-preserved
 loop-page-preserved g c = let f = is_ring_page c.args.shape.queue_size in
     let n = c.loop-page.page in
-    let m1 = g.G.GuestBytes.mem c.args.ram.now in
     let m2 = g.G.GuestBytes.mem c.loop-page.ram in elim c.if-is_ring_page.branch [
       | then-is_ring_page w ↦ record {
         zeroed = rw w.ram-is (pages_more f (sym c.is_ring_page.ensures ∙ w.if-is_ring_page.true)

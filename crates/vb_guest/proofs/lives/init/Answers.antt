@@ -43,8 +43,7 @@ init-requires g c = let (keeps, guest, stands) = c.requires in
 
 pub returns-in-Ok : goal.returns-in-Ok
 returns-in-Ok g c =
-    let new : (g.D.GuestBytes.part c.args.device.now).status ≡ 0 =
-    sym c.status.ensures ∙ sym (c.bits.ensures tt) ∙ c.if-bits-ne0.false in
+    let new : (g.D.GuestBytes.part c.args.device.now).status ≡ 0 = search arith in
     let did = by_size _ c.shape.ensures c.in-Ok.ensures.supplies in
     record {
       exact = begins new c.in-Ok.ensures.part
@@ -59,8 +58,7 @@ returns-in-Ok g c =
 
 pub returns-in-Err-NoFrame : goal.returns-in-Err-NoFrame
 returns-in-Err-NoFrame g c =
-    let new : (g.D.GuestBytes.part c.args.device.now).status ≡ 0 =
-    sym c.status.ensures ∙ sym (c.bits.ensures tt) ∙ c.if-bits-ne0.false in
+    let new : (g.D.GuestBytes.part c.args.device.now).status ≡ 0 = search arith in
     let did = known_answer (c.in-Err-NoFrame.is ∙ ap Err c.in-Err-NoFrame.field-0-is)
     (by_size _ c.shape.ensures c.supply_from.ensures.supplies) in
     record {
@@ -75,8 +73,7 @@ returns-in-Err-NoFrame g c =
 
 pub returns-in-Err-Memory : goal.returns-in-Err-Memory
 returns-in-Err-Memory g c =
-    let new : (g.D.GuestBytes.part c.args.device.now).status ≡ 0 =
-    sym c.status.ensures ∙ sym (c.bits.ensures tt) ∙ c.if-bits-ne0.false in
+    let new : (g.D.GuestBytes.part c.args.device.now).status ≡ 0 = search arith in
     let did = known_answer (c.in-Err-Memory.is ∙ ap Err c.in-Err-Memory.field-0-is)
     (by_size _ c.shape.ensures c.supply_from.ensures.supplies) in
     record {

@@ -11,13 +11,7 @@ pub returns-in-Err-NoFrame : goal.returns-in-Err-NoFrame
 returns-in-Err-NoFrame g c = let did = c.claim_frame.ensures in
     let is = c.in-Err-NoFrame.is ∙ ap Err c.in-Err-NoFrame.field-0-is in
     record {
-      exact = record {
-        claim = GaveNoFrame;
-        noted = noted_alone is c.requires.none did.noted;
-        claimed = claim_answered is did.claimed;
-        part = did.part;
-        fills = (refl, did.mem);
-      };
+      exact = search (arith, noted_alone, claim_answered);
       unasked = did.unasked;
     }
 
@@ -25,13 +19,7 @@ pub returns-in-Err-Memory : goal.returns-in-Err-Memory
 returns-in-Err-Memory g c = let did = c.claim_frame.ensures in
     let is = c.in-Err-Memory.is ∙ ap Err c.in-Err-Memory.field-0-is in
     record {
-      exact = record {
-        claim = GaveNoMemory;
-        noted = noted_alone is c.requires.none did.noted;
-        claimed = claim_answered is did.claimed;
-        part = did.part;
-        fills = (refl, did.mem);
-      };
+      exact = search (arith, noted_alone, claim_answered);
       unasked = did.unasked;
     }
 

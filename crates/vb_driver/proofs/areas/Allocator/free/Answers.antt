@@ -1,7 +1,6 @@
-use Rattle.std.proofs.Common.{arith}
-use Rattle.vb_driver.proofs.Allocating.{answered, free_state, areas_apart}
-use Rattle.vb_driver.proofs.areas.Allocator.free.Goals.{in-Ok, in-Err}
 use Rattle.vb_driver.proofs.areas.Allocator.free.Goals as goal
+use Rattle.{std.proofs.Common.arith, vb_driver.proofs.Allocating.{answered, free_state}}
+use Rattle.vb_driver.proofs.{Allocating.areas_apart, areas.Allocator.free.Goals.{in-Ok, in-Err}}
 
 pub returns-clause-state : goal.returns-clause-state
 returns-clause-state c = grind (arith, answered, in-Ok, in-Err, free_state)

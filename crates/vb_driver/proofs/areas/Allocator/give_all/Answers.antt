@@ -30,8 +30,7 @@ give_free-requires-clause-inside c = let pages = c.args.pages.now in
 
 pub give_free-requires-clause-taken : goal.give_free-requires-clause-taken
 give_free-requires-clause-taken c = let pages = c.args.pages.now in
-    let i = c.loop-page.page-index in
-    let x = get_or pages i 0 in
+    let i = c.loop-page.page-index in let x = get_or pages i 0 in
     let old = flags_of c.args.self.now.free in
     ap (λ (l : List Bool). is_free_at l x) c.loop-page.invariant.0.free ∙ (marked-get
     (take i pages) true old x false (c.requires.inside x (is_in-at pages i c.loop-page-test.true))
@@ -43,10 +42,8 @@ pub give_free-requires-clause-uncovered : goal.give_free-requires-clause-uncover
 give_free-requires-clause-uncovered c = grind (arith, is_in-at)
 
 pub loop-page-preserved : goal.loop-page-preserved
-loop-page-preserved c = let pages = c.args.pages.now in
-    let i = c.loop-page.page-index in
-    let x = get_or pages i 0 in
-    let old = c.args.self.now in
+loop-page-preserved c = let pages = c.args.pages.now in let i = c.loop-page.page-index in
+    let x = get_or pages i 0 in let old = c.args.self.now in
     let more = take_more pages i 0 c.loop-page-test.true in (
       record {
         free = c.give_free.ensures.state.free ∙ (ap (λ (l : List Bool). set l x true)

@@ -1,7 +1,6 @@
-use Rattle.std.proofs.Common.{arith}
-use Rattle.vb_pages.proofs.ListsLemmas.{with_none}
-use Rattle.vb_driver.{proofs.Placing.{marked_one, marked_none}, proofs.Flags.for_itself}
 use Rattle.vb_driver.proofs.areas.Allocator.give_if_reported.Goals as goal
+use Rattle.{std.proofs.Common.arith, vb_pages.proofs.ListsLemmas.with_none}
+use Rattle.vb_driver.proofs.{Placing.{marked_one, marked_none}, Flags.for_itself}
 
 pub returns-then-is_reporting-clause-state : goal.returns-then-is_reporting-clause-state
 returns-then-is_reporting-clause-state c = grind (arith, marked_one)

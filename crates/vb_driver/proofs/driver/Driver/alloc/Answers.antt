@@ -2,7 +2,7 @@ use Rattle.std.proofs.Common.{arith, ◌∙◌, sym, ap, List, Ok}
 use Rattle.vb_model.{specs.Pages.{Block, pages_of, placed}, specs.declared.places.Place.Place}
 use Rattle.vb_model.specs.declared.places.Place.TheVariants.{Used}
 use Rattle.vb_driver.proofs.Owning.{whole_is, alloc_tests_same, free_block_inside, allocated_kept}
-use Rattle.vb_driver.{proofs.Owning.unallocated_kept, specs.Answers.block_at, specs.Areas.flags_of}
+use Rattle.vb_driver.{proofs.Owning.unallocated_kept, specs.Answers.block_at}
 use Rattle.vb_driver.specs.{State.DriverState, Calls.AllocatesBy, contracts.driver.Driver.the_view}
 use Rattle.vb_driver.proofs.driver.Driver.alloc.Goals as goal
 
@@ -11,19 +11,14 @@ set_block-requires-clause-inside c = free_block_inside
     (block_at c.in-Ok.start c.args.order) c.self.invariant c.in-Ok.ensures.free
 
 pub invariant_of-self : goal.invariant_of-self
-invariant_of-self c = let d = the_view c.self.inside in
-    let new = c.alloc.new.self in
-    let b = block_at c.in-Ok.start c.args.order in
+invariant_of-self c = let new = c.alloc.new.self in let b = block_at c.in-Ok.start c.args.order in
     let becomes = c.in-Ok.ensures.state in
     let kept = allocated_kept b c.self.invariant c.in-Ok.ensures.free becomes.free
     becomes.same in rw c.set_block.ensures (rw becomes.held kept)
 
 pub returns-in-Ok : goal.returns-in-Ok
-returns-in-Ok c = let d = the_view c.self.inside in
-    let areas = c.alloc.new.self in
-    let start = c.in-Ok.start in
-    let order = c.args.order in
-    let b = block_at start order in
+returns-in-Ok c = let d = the_view c.self.inside in let areas = c.alloc.new.self in
+    let start = c.in-Ok.start in let order = c.args.order in let b = block_at start order in
     let new : DriverState =
     record d { places = c.set_block.new.self; held = areas.held; areas = areas.free } in
     let allocates : AllocatesBy d new c.args.cpu order (Ok start) = record {
@@ -36,8 +31,7 @@ returns-in-Ok c = let d = the_view c.self.inside in
         held = areas.held;
         areas = areas.free;
       }) c.set_block.ensures ∙ ap (λ (v : List Block). record d {
-        places = placed
-            (pages_of b) Used d.places;
+        places = placed (pages_of b) Used d.places;
         held = v;
         areas = areas.free;
       }) c.in-Ok.ensures.state.held;

@@ -10,9 +10,7 @@ set_block-requires-clause-inside c = let d = the_view c.self.inside in
 
 pub invariant_of-self : goal.invariant_of-self
 invariant_of-self c = let d = the_view c.self.inside in
-    let new = c.free.new.self in
-    let b = block_at c.args.start c.args.order in
-    let becomes = c.in-Ok.ensures.state in
+    let b = block_at c.args.start c.args.order in let becomes = c.in-Ok.ensures.state in
     let kept = block_freed_kept b c.self.invariant
     (freed_was_held d.held b (length d.areas.lists) _ c.in-Ok.ensures.refusal) becomes.free
     becomes.held becomes.same c.in-Ok.ensures.apart in rw c.set_block.ensures (rw becomes.held kept)

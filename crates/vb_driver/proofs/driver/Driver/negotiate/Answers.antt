@@ -1,11 +1,10 @@
+use Rattle.vb_driver.proofs.driver.Driver.negotiate.Goals as goal
 use Rattle.std.proofs.Common.{◌≡◌, ◌∙◌, sym, ap, ℕ, bit_or, false, None, Some, is_err}
-use Rattle.vb_model.{specs.declared.replies.Refusal.Refusal, specs.Life.accepted_before}
-use Rattle.vb_model.specs.Status.{negotiate_refusal, status_refusal}
-use Rattle.vb_ram.specs.Part.{Part}
-use Rattle.vb_status.{specs.After.part_after_reset, specs.Answers.refusal_of_fault}
+use Rattle.vb_model.specs.{declared.replies.Refusal.Refusal, Life.accepted_before}
+use Rattle.{vb_model.specs.Status.{negotiate_refusal, status_refusal}, vb_ram.specs.Part.Part}
+use Rattle.vb_status.specs.{After.part_after_reset, Answers.refusal_of_fault}
 use Rattle.vb_driver.specs.{State.DriverState, Calls.GivesUp, contracts.driver.Driver.the_view}
 use Rattle.vb_driver.proofs.Starting.{offered_then, accepted_then, none_ok, at_ok}
-use Rattle.vb_driver.proofs.driver.Driver.negotiate.Goals as goal
 
 pub returns-in-Err : goal.returns-in-Err
 returns-in-Err g c = let d = the_view c.self.inside in
@@ -14,9 +13,7 @@ returns-in-Err g c = let d = the_view c.self.inside in
     let p1 = g.P.GuestBytes.part c.args.port.now in
     let began = g.P.GuestBytes.part c.begin.new.port in
     let agreed = g.P.GuestBytes.part c.negotiate.new.self in
-    let tried = g.P.GuestBytes.part c.write_status.new.self in
-    let p2 = g.P.GuestBytes.part c.give_up-in-Err.new.port in
-    let w : ℕ = c.args.wanted.0 in
+    let p2 = g.P.GuestBytes.part c.give_up-in-Err.new.port in let w : ℕ = c.args.wanted.0 in
     let refusal : Refusal = refusal_of_fault c.in-Err.fault in
     let fine : is_err c.negotiate.result ≡ false = sym c.is_err.ensures.value ∙ c.if-is_err.false in
     let three : began.status ≡ 3 = ap (λ (p : Part). p.status) c.begin.ensures.part in

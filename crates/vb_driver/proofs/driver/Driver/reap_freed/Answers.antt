@@ -1,11 +1,10 @@
-use Rattle.std.proofs.Common.{◌≡◌, ◌<◌, ◌∙◌, sym, ap, refl, ℕ, List, true, false}
-use Rattle.vb_model.{specs.declared.places.Place.TheVariants.{Free, Taking}, specs.Tests.is_in}
-use Rattle.vb_model.specs.Pages.{placed}
-use Rattle.vb_driver.proofs.Moving.{freed_taking, freed_once, IsOut, is_out, freed_kept}
-use Rattle.vb_driver.{proofs.Moving.forgotten_kept, specs.Places.marked, specs.Areas.flags_of}
-use Rattle.vb_driver.specs.State.{DriverState, sent_by, IsDriver, tells_host}
-use Rattle.vb_driver.specs.contracts.driver.Driver.{the_view}
 use Rattle.vb_driver.proofs.driver.Driver.reap_freed.Goals as goal
+use Rattle.std.proofs.Common.{◌≡◌, ◌<◌, ◌∙◌, sym, ap, refl, ℕ, List, true, false}
+use Rattle.vb_model.specs.declared.places.Place.TheVariants.{Free, Taking}
+use Rattle.{vb_model.specs.{Tests.is_in, Pages.placed}, vb_driver.proofs.Moving.freed_taking}
+use Rattle.vb_driver.proofs.Moving.{freed_once, IsOut, is_out, freed_kept, forgotten_kept}
+use Rattle.vb_driver.specs.{Places.marked, Areas.flags_of, State.DriverState}
+use Rattle.vb_driver.specs.{State.{sent_by, IsDriver, tells_host}, contracts.driver.Driver.the_view}
 
 out_again : (d : DriverState) (head p : ℕ) (pages : List ℕ) → head < 16 → IsDriver d
     → tells_host d ≡ true → pages ≡ sent_by d.deflate head → is_in p pages ≡ true → IsOut d p
@@ -13,8 +12,7 @@ out_again d head p pages small kept told is here = is_out Taking kept refl refl 
     (freed_taking head p small kept told (ap (is_in p) (sym is) ∙ here))
 
 pub give_all-requires : goal.give_all-requires
-give_all-requires g c = let d = the_view c.self.inside in
-    let head = c.in-Ok-Some.head in
+give_all-requires g c = let d = the_view c.self.inside in let head = c.in-Ok-Some.head in
     let told : tells_host d ≡ true = sym c.must_tell_host.ensures ∙ c.if-not-must_tell_host.false in
     let next = rw c.in-Ok-Some.field-0-is at c.in-Ok-Some.ensures.next in
     let items : c.deref.result.now ≡ sent_by d.deflate head = c.deref.ensures.0 ∙ next.2 in
@@ -35,8 +33,7 @@ set_all-requires g c p here = let d = the_view c.self.inside in
     (c.deref-2.ensures.0 ∙ next.2) here).there
 
 pub invariant_of-self-2 : goal.invariant_of-self-2
-invariant_of-self-2 g c = let d = the_view c.self.inside in
-    let areas2 = c.give_all.new.self in
+invariant_of-self-2 g c = let d = the_view c.self.inside in let areas2 = c.give_all.new.self in
     let head = c.in-Ok-Some.head in
     let told : tells_host d ≡ true = sym c.must_tell_host.ensures ∙ c.if-not-must_tell_host.false in
     let next = rw c.in-Ok-Some.field-0-is at c.in-Ok-Some.ensures.next in

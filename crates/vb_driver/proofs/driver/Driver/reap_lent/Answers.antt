@@ -5,15 +5,13 @@ use Rattle.vb_driver.proofs.Moving.{lent_inside, lent_kept}
 use Rattle.vb_driver.proofs.driver.Driver.reap_lent.Goals as goal
 
 pub set_all-requires : goal.set_all-requires
-set_all-requires g c p here = let d = the_view c.self.inside in
-    let head = c.in-Ok-Some.head in
+set_all-requires g c p here = let d = the_view c.self.inside in let head = c.in-Ok-Some.head in
     let next = rw c.in-Ok-Some.field-0-is at c.in-Ok-Some.ensures.next in
     let items : c.deref.result.now ≡ sent_by d.inflate head = c.deref.ensures.0 ∙ next.2 in
     lent_inside head p next.1 c.self.invariant (ap (is_in p) (sym items) ∙ here)
 
 pub invariant_of-self-2 : goal.invariant_of-self-2
-invariant_of-self-2 g c = let d = the_view c.self.inside in
-    let head = c.in-Ok-Some.head in
+invariant_of-self-2 g c = let d = the_view c.self.inside in let head = c.in-Ok-Some.head in
     let next = rw c.in-Ok-Some.field-0-is at c.in-Ok-Some.ensures.next in
     let items : c.deref.result.now ≡ sent_by d.inflate head = c.deref.ensures.0 ∙ next.2 in
     let moved : c.set_all.new.self ≡ placed (sent_by d.inflate head) Lent d.places =

@@ -1,12 +1,11 @@
+use Rattle.vb_driver.proofs.driver.Driver.reap_reported.Goals as goal
 use Rattle.std.proofs.Common.{◌≡◌, ◌∙◌, sym, ap, refl, rules, ℕ, List, true}
-use Rattle.vb_model.{specs.declared.places.Place.TheVariants.{Free, Reporting}, specs.Tests.is_in}
-use Rattle.vb_model.specs.Pages.{Block, pages_of_all, placed}
-use Rattle.vb_report.specs.Blocks.{blocks_of}
+use Rattle.vb_model.specs.{declared.places.Place.TheVariants.{Free, Reporting}, Tests.is_in}
+use Rattle.{vb_model.specs.Pages.{Block, pages_of_all, placed}, vb_report.specs.Blocks.blocks_of}
 use Rattle.vb_driver.proofs.{Moving.{IsOut, is_out}, ReportMoves.{reported_place, reported_once}}
 use Rattle.vb_driver.proofs.{ReportMoves.returned_kept, ReportTables.taken_report_queue}
 use Rattle.vb_driver.specs.{Areas.flags_of, Places.marked, State.{ReportSide, IsReportQueue}}
 use Rattle.vb_driver.specs.{State.{IsDriver, DriverState}, contracts.driver.Driver.the_view}
-use Rattle.vb_driver.proofs.driver.Driver.reap_reported.Goals as goal
 
 out_again : (d : DriverState) (p : ℕ) (blocks : List Block)
     → IsDriver d → blocks ≡ d.report.blocks → is_in p (pages_of_all blocks) ≡ true → IsOut d p
@@ -35,8 +34,7 @@ set_blocks-requires-clause-inside g c p found = let d = the_view c.self.inside i
     (ap blocks_of c.deref-2.ensures.0 ∙ next.2) found).there
 
 pub invariant_of-self-2 : goal.invariant_of-self-2
-invariant_of-self-2 g c = let d = the_view c.self.inside in
-    let areas2 = c.give_blocks.new.self in
+invariant_of-self-2 g c = let d = the_view c.self.inside in let areas2 = c.give_blocks.new.self in
     let r2 = c.take_report_back.new.report in
     let next = rw c.in-Ok-Some.field-0-is at c.in-Ok-Some.ensures.next in
     let given : blocks_of c.deref.result.now ≡ d.report.blocks =

@@ -1,13 +1,11 @@
-use Rattle.std.proofs.Common.{arith, ◌≡◌, ◌∙◌, sym, ap, ℕ, List, true, false}
-use Rattle.vb_model.{specs.declared.places.Place.TheVariants.Reporting, specs.Driver.AllDistinct}
-use Rattle.vb_model.{specs.Pages.{Block, pages_of_all, placed}, specs.Tests.is_in}
-use Rattle.vb_pages.specs.declared.block.FreeBlock.{FreeBlock}
-use Rattle.vb_report.specs.Blocks.{blocks_of}
-use Rattle.vb_driver.{specs.Areas.{flags_of, is_free_at}, specs.Places.marked}
-use Rattle.vb_driver.{specs.State.{ReportSide, IsReportQueue}, proofs.Owning.unallocated_kept}
-use Rattle.vb_driver.{specs.contracts.driver.Driver.the_view, proofs.ReportMoves.reported_kept}
-use Rattle.vb_driver.proofs.ReportAreas.{no_blocks, none_chosen, only_drained}
 use Rattle.vb_driver.proofs.driver.Driver.report_blocks.Goals as goal
+use Rattle.std.proofs.Common.{arith, ◌≡◌, ◌∙◌, ap, ℕ, List, true}
+use Rattle.{std.proofs.Common.false, vb_model.specs.declared.places.Place.TheVariants.Reporting}
+use Rattle.vb_model.specs.{Driver.AllDistinct, Pages.{Block, pages_of_all, placed}, Tests.is_in}
+use Rattle.{vb_report.specs.Blocks.blocks_of, vb_driver.specs.Areas.{flags_of, is_free_at}}
+use Rattle.vb_driver.specs.{Places.marked, State.IsReportQueue, contracts.driver.Driver.the_view}
+use Rattle.vb_driver.proofs.{Owning.unallocated_kept, ReportMoves.reported_kept}
+use Rattle.vb_driver.proofs.ReportAreas.{no_blocks, none_chosen, only_drained}
 
 pub invariant_of-self : goal.invariant_of-self
 invariant_of-self g c = grind (arith, no_blocks, unallocated_kept, none_chosen)
@@ -16,12 +14,9 @@ pub returns-then-is_empty-clause-refused : goal.returns-then-is_empty-clause-ref
 returns-then-is_empty-clause-refused g c = grind (arith, no_blocks, only_drained)
 
 pub invariant_of-self-2 : goal.invariant_of-self-2
-invariant_of-self-2 g c = let d = the_view c.self.inside in
-    let new = c.choose-blocks.new.self in
-    let r2 = c.post-head.new.self in
-    let blocks = blocks_of c.choose-blocks.result.items in
-    let same : blocks ≡ r2.blocks =
-    sym (ap (λ (s : ReportSide). s.blocks) c.post-head.ensures.posts.state) in
+invariant_of-self-2 g c = let d = the_view c.self.inside in let new = c.choose-blocks.new.self in
+    let r2 = c.post-head.new.self in let blocks = blocks_of c.choose-blocks.result.items in
+    let same : blocks ≡ r2.blocks = search arith in
     let moved : c.set_blocks.new.self ≡ placed (pages_of_all r2.blocks) Reporting d.places =
     search arith in
     let free : (p : ℕ) → is_in p (pages_of_all r2.blocks) ≡ true

@@ -1,13 +1,12 @@
-use Rattle.std.{specs.Prelude.{◌≡◌, true}, proofs.lemmas.List.length-map}
-use Rattle.std.proofs.Common.{◌∙◌, sym, ap, subst, refl, ℕ, List, map, length}
-use Rattle.vb_model.{specs.Tests.pages_where, specs.Pages.{Block, place_of, is_free, is_reporting}}
-use Rattle.vb_model.{specs.Life.place_after_reset, specs.declared.places.Place.Place}
-use Rattle.vb_model.specs.declared.places.Place.TheVariants.{Reporting}
-use Rattle.vb_status.specs.Bits.{feature_bits}
-use Rattle.vb_driver.{specs.contracts.driver.Driver.the_view, specs.State.{DriverState, IsDriver}}
-use Rattle.vb_driver.{proofs.Moving.{reset_kept, is_out}, specs.Areas.{AreFor, flags_of}}
-use Rattle.vb_driver.{specs.Calls.with_nothing_out, proofs.Counting.at_is, specs.Places.marked}
 use Rattle.vb_driver.proofs.driver.Driver.reset.Goals as goal
+use Rattle.std.{specs.Prelude.{◌≡◌, true}, proofs.{lemmas.List.length-map, Common.{◌∙◌, sym, ap}}}
+use Rattle.{std.proofs.Common.{subst, refl, ℕ, List, map, length}, vb_model.specs.Tests.pages_where}
+use Rattle.vb_model.specs.{Pages.{Block, place_of, is_free, is_reporting}, Life.place_after_reset}
+use Rattle.vb_model.specs.declared.places.Place.{Place, TheVariants.Reporting}
+use Rattle.{vb_status.specs.Bits.feature_bits, vb_driver.specs.contracts.driver.Driver.the_view}
+use Rattle.vb_driver.specs.{State.{DriverState, IsDriver}, Areas.{AreFor, flags_of}}
+use Rattle.vb_driver.{specs.{Calls.with_nothing_out, Places.marked}, proofs.Moving.reset_kept}
+use Rattle.vb_driver.proofs.{Moving.is_out, Counting.at_is}
 
 pub give_reported-requires : goal.give_reported-requires
 give_reported-requires g c = let d = the_view c.self.inside in
@@ -20,10 +19,8 @@ give_reported-requires g c = let d = the_view c.self.inside in
     }
 
 pub invariant_of-self : goal.invariant_of-self
-invariant_of-self g c = let d = the_view c.self.inside in
-    let areas2 = c.give_reported.new.self in
-    let f = feature_bits c.empty-self-inside.result in
-    let given = c.give_reported.ensures.state in
+invariant_of-self g c = let d = the_view c.self.inside in let areas2 = c.give_reported.new.self in
+    let f = feature_bits c.empty-self-inside.result in let given = c.give_reported.ensures.state in
     let renewed : d ≡ with_nothing_out c.args.self.now = c.self.view_is ∙ c.renew.ensures.state in
     subst (λ (v : List Place). IsDriver
     (record d { places = v; held = areas2.held; areas = areas2.free; features = f; actual = 0 }))

@@ -1,33 +1,27 @@
-use Rattle.std.proofs.Common.{◌≡◌, ◌∙◌, ◌-◌, ◌++◌, sym, ap, arith, ℕ, List, length, take, drop}
-use Rattle.std.{proofs.Common.{set, count_by, get_or}, proofs.lemmas.Bool.or_parts}
-use Rattle.std.{proofs.Math.Seq.take-append_seam, specs.List.range_with_len}
-use Rattle.vb_model.specs.declared.places.Place.{Place}
-use Rattle.vb_model.specs.Pages.{placed, place_of, is_lent, is_stranded}
-use Rattle.vb_driver.{specs.Places.is_at, proofs.Placing.{marked_one, length-marked}}
-use Rattle.vb_driver.proofs.Runs.{AreAt, run_is, run_some, run_table}
 use Rattle.vb_driver.proofs.places.PlaceTable.move_run.Goals as goal
+use Rattle.std.proofs.Common.{◌≡◌, ◌∙◌, ◌-◌, ◌++◌, sym, ap, arith, ℕ, List, length, take, drop, set}
+use Rattle.std.proofs.{Common.{count_by, get_or}, lemmas.Bool.or_parts, Math.Seq.take-append_seam}
+use Rattle.{std.specs.List.range_with_len, vb_model.specs.declared.places.Place.Place}
+use Rattle.vb_model.specs.Pages.{placed, is_lent, is_stranded}
+use Rattle.vb_driver.{specs.Places.is_at, proofs.Placing.marked_one}
+use Rattle.vb_driver.proofs.{Placing.length-marked, Runs.{AreAt, run_is, run_some, run_table}}
 
 pub returns-then-is_in_set-clause-moved : goal.returns-then-is_in_set-clause-moved
 returns-then-is_in_set-clause-moved c = grind (arith, marked_one)
 
 pub overflow_sub-self : goal.overflow_sub-self
-overflow_sub-self c = let places = c.self.inside.places.items in
-    let old = c.index-old.result.now in
+overflow_sub-self c = let places = c.self.inside.places.items in let old = c.index-old.result.now in
     let size : length places ≡ length c.args.self.now = ap length c.self.view_is in
     let are : AreAt places c.args.start (c.end_of_run-next.result - c.args.start) old =
     search (arith, run_is) in
     let own : get_or c.self.inside.counts c.number_of.result 0 ≡ count_by (is_at old) places =
-    ap (λ (k : ℕ). get_or c.self.inside.counts k 0) c.number_of.ensures
-    ∙ c.self.invariant.are_counts.each old in
+    search (arith, get_or) in
     omega (arith, run_some are)
 
 pub invariant_of-self : goal.invariant_of-self
-invariant_of-self c = let places = c.self.inside.places.items in
-    let old = c.index-old.result.now in
-    let new = c.args.place in
-    let start = c.args.start in
+invariant_of-self c = let places = c.self.inside.places.items in let old = c.index-old.result.now in
+    let new = c.args.place in let start = c.args.start in
     let n = c.end_of_run-next.result - start in
-    let size : length places ≡ length c.args.self.now = ap length c.self.view_is in
     let are : AreAt places start n old = search (arith, run_is) in
     let from = or_parts (is_lent old) (is_stranded old) (sym c.if-is_in_set.ensures) in
     let to = or_parts (is_lent new) (is_stranded new) (sym c.if-is_in_set-2.ensures) in

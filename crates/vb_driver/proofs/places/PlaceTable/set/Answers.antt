@@ -1,14 +1,12 @@
-use Rattle.std.proofs.Common.{◌≡◌, ◌∙◌, ap, arith, ℕ, length, get_or, set, count_by}
-use Rattle.std.proofs.lemmas.List.{length-set}
-use Rattle.vb_model.{specs.declared.places.Place.Place, specs.Pages.{is_lent, is_stranded}}
-use Rattle.vb_driver.{proofs.Counting.{counts_moved, counts_some, number_small}, specs.Places.is_at}
-use Rattle.vb_driver.proofs.Marking.{set_moved}
 use Rattle.vb_driver.proofs.places.PlaceTable.set.Goals as goal
+use Rattle.std.proofs.{lemmas.List.length-set, Common.{◌≡◌, ◌∙◌, ap, arith, ℕ, length}}
+use Rattle.{std.proofs.Common.{get_or, set, count_by}, vb_model.specs.Pages.{is_lent, is_stranded}}
+use Rattle.{vb_model.specs.declared.places.Place.Place, vb_driver.specs.Places.is_at}
+use Rattle.vb_driver.proofs.{Counting.{counts_moved, counts_some, number_small}, Marking.set_moved}
 
 pub overflow_sub-self : goal.overflow_sub-self
 overflow_sub-self c = let counts = c.self.inside.counts in
-    let places = c.self.inside.places.items in
-    let old = c.index.result.now in
+    let places = c.self.inside.places.items in let old = c.index.result.now in
     let size : length places ≡ length c.args.self.now = ap length c.self.view_is in
     let own : get_or counts c.number_of.result 0 ≡ count_by (is_at old) places =
     ap (λ (k : ℕ). get_or counts k 0) c.number_of.ensures ∙ c.self.invariant.are_counts.each old in
@@ -18,8 +16,7 @@ overflow_sub-self c = let counts = c.self.inside.counts in
 
 pub invariant_of-self : goal.invariant_of-self
 invariant_of-self c = let counts = c.self.inside.counts in
-    let places = c.self.inside.places.items in
-    let small = number_small c.index.result.now in
+    let places = c.self.inside.places.items in let small = number_small c.index.result.now in
     let small2 = number_small c.args.place in
     let size : length places ≡ length c.args.self.now = ap length c.self.view_is in record {
       kinds = length-set (set counts c.number_of.result _) c.number_of-2.result _

@@ -18,8 +18,7 @@ set-requires c =
     )
 
 pub loop-page-preserved : goal.loop-page-preserved
-loop-page-preserved c = let i = c.loop-page.page-index in
-    let x = get_or c.args.pages.now i 0 in
+loop-page-preserved c = let i = c.loop-page.page-index in let x = get_or c.args.pages.now i 0 in
     let inside = c.requires x (is_in-at c.args.pages.now i c.loop-page-test.true) in c.set.ensures
     ∙ (ap (λ (l : List Place). set l x c.args.place) c.loop-page.invariant
     ∙ (sym (marked_more (take i c.args.pages.now) x c.args.place c.args.self.now inside)

@@ -1,7 +1,6 @@
-use Rattle.std.proofs.Common.{◌≡◌, take}
-use Rattle.vb_model.specs.Pages.{placed, pages_of_all}
-use Rattle.vb_report.specs.Blocks.{blocks_of}
 use Rattle.vb_driver.proofs.places.PlaceTable.set_blocks.Given as goal
+use Rattle.std.proofs.Common.{◌≡◌, take}
+use Rattle.{vb_model.specs.Pages.{placed, pages_of_all}, vb_report.specs.Blocks.blocks_of}
 
 abbrev pub invariant-loop-block : goal.invariant-loop-block
 invariant-loop-block l =

@@ -1,6 +1,5 @@
-use Rattle.std.{proofs.Common.arith, proofs.lemmas.Nat.one_shl}
-use Rattle.vb_pages.proofs.Aligned.{pow_small}
 use Rattle.vb_driver.proofs.places.ranges.size_of.Goals as goal
+use Rattle.{std.proofs.{Common.arith, lemmas.Nat.one_shl}, vb_pages.proofs.Aligned.pow_small}
 
 pub returns-clause-small : goal.returns-clause-small
 returns-clause-small c =

@@ -1,10 +1,9 @@
-use Rattle.std.{proofs.Common.{◌≡◌, ◌∙◌, ap, subst, arith, List}, proofs.lemmas.List.length-map}
-use Rattle.vb_pages.specs.declared.block.FreeBlock.{FreeBlock}
+use Rattle.std.proofs.{Common.{◌≡◌, subst, arith}, lemmas.List.length-map}
 use Rattle.vb_report.specs.Blocks.{block_of, blocks_of, pieces_of}
 use Rattle.vb_driver.proofs.ReportPosting.{reporting, same_head, nothing, answer_is, ring_is}
 use Rattle.vb_driver.{proofs.ReportTables.{orders_of, posted_report_queue}, specs.Calls.PostsReport}
 use Rattle.vb_driver.{proofs.ReportPosting.{posts_report, not_full}, proofs.Shapes.ring_backed}
-use Rattle.vb_driver.{specs.contracts.reports.ReportQueue.the_view, specs.State.ReportSide}
+use Rattle.vb_driver.specs.State.{ReportSide}
 use Rattle.vb_driver.proofs.reports.ReportQueue.post.Goals as goal
 
 pub encode-pieces-requires-clause-orders : goal.encode-pieces-requires-clause-orders
@@ -18,8 +17,7 @@ unreachable-requires g c = grind (arith, reporting, not_full, answer_is)
 
 pub returns-clause-posts : goal.returns-clause-posts
 returns-clause-posts g c = let m1 = g.G.GuestBytes.mem c.args.ram.now in
-    let m2 = g.G.GuestBytes.mem c.add.new.ram in
-    let blocks = blocks_of c.args.blocks.items in
+    let m2 = g.G.GuestBytes.mem c.add.new.ram in let blocks = blocks_of c.args.blocks.items in
     let coded : c.deref-2.result.now ≡ pieces_of blocks = search arith in
     let s = reporting c.args.blocks.items c.self.view_is c.requires.queue
     c.requires.none_out c.requires.some c.requires.room coded c.add.ensures.adds in
@@ -29,8 +27,7 @@ returns-clause-posts g c = let m1 = g.G.GuestBytes.mem c.args.ram.now in
     }) blocks) c.self.view_is (posts_report _ _ _ _ _ _ _ _ s)
 
 pub returns-clause-queue : goal.returns-clause-queue
-returns-clause-queue g c = let m1 = g.G.GuestBytes.mem c.args.ram.now in
-    let m2 = g.G.GuestBytes.mem c.add.new.ram in
+returns-clause-queue g c = let m2 = g.G.GuestBytes.mem c.add.new.ram in
     let blocks = blocks_of c.args.blocks.items in
     let coded : c.deref-2.result.now ≡ pieces_of blocks = search arith in
     let s = reporting c.args.blocks.items c.self.view_is c.requires.queue
