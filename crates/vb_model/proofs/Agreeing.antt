@@ -2,15 +2,15 @@
 use Rattle.std.proofs.Common.{List, [], ap, arith, inl, inr, sym, ℕ, ◌++◌, ◌<◌, ◌∙◌, ◌∷◌, ◌≡◌}
 use Rattle.std.{proofs.lemmas.Bool.cases_lt, specs.Prelude.{MatchOption, None, Option, Some}}
 use Rattle.std.specs.Prelude.{if◌then◌else◌}
-use Rattle.vb_model.proofs.{Cases.supplied, Performed.{Performed, Supplying, honest_case}}
+use Rattle.vb_model.proofs.{Cases.supplied, Performed.{Performed, honest_case}}
 use Rattle.vb_model.specs.{Determined.Agree, Device.{Finishes, ReturnsBuffer, TakesBuffer}}
-use Rattle.vb_model.specs.{Device.{TakesRequest, Works, next_page}, Driver.{Deflates, Fills, Reaps}}
-use Rattle.vb_model.specs.Driver.{Reports, Written, after_posting, claim_refusal, pages_needed}
+use Rattle.vb_model.specs.{Device.{TakesRequest, Works, next_page}, Driver.{Fills, Posts, Reaps}}
+use Rattle.vb_model.specs.Driver.{Written, after_posting, claim_refusal, pages_needed}
 use Rattle.vb_model.specs.{Driver.stranded_first, Guest.{Guest, requests}, Life.Negotiates}
 use Rattle.vb_model.specs.{Life.{feature_refusal, lacking}, Refusals.{deflate_count, inflate_count}}
-use Rattle.vb_model.specs.{Refusals.{oom_count, refusal_of}, Requests.{BufferTaken, Inflating}}
-use Rattle.vb_model.specs.Requests.{IsLeastHead, Kind, NoBuffer, Request, Requests}
-use Rattle.vb_model.specs.Requests.{StatisticsBuffer, all_requests, headed, kind_of_queue}
+use Rattle.vb_model.specs.{Refusals.{oom_count, refusal_of}, Requests.{BufferTaken, Deflating}}
+use Rattle.vb_model.specs.Requests.{Inflating, IsLeastHead, Kind, NoBuffer, Reporting_free, Request}
+use Rattle.vb_model.specs.Requests.{Requests, StatisticsBuffer, all_requests, headed, kind_of_queue}
 use Rattle.vb_model.specs.{Rogue.Scribbled, Step.HonestStep, declared.calls.Call.Call}
 use Rattle.vb_model.specs.declared.calls.Call.TheVariants.{Alloc, Ask, Deflate, Finish, Free}
 use Rattle.vb_model.specs.declared.calls.Call.TheVariants.{Inflate, Init, Oom, Read, Reap, Report}
@@ -24,10 +24,18 @@ use Rattle.vb_model.specs.declared.replies.Reply.TheVariants.{Refused}
 abbrev Same : Reply → Guest → Reply → Guest → Type 0
 Same r new r' new' = (r ≡ r') × (new ≡ new')
 
--- both are the same answer and the same guest
-both : (r r' answer : Reply) (new new' left : Guest) → r ≡ answer → new ≡ left → r' ≡ answer
-    → new' ≡ left → Same r new r' new'
-both r r' answer new new' left a b c d = (a ∙ sym c, b ∙ sym d)
+-- one reply and one guest alone
+abbrev Fixed : (Reply → Guest → Type 0) → Type 0
+Fixed P = (r r' : Reply) (new new' : Guest) → P r new → P r' new' → Same r new r' new'
+
+fixed : (answer : Reply) (left : Guest) → Fixed (λ r new. (r ≡ answer) × (new ≡ left))
+fixed answer left r r' new new' s t = (s.0 ∙ sym t.0, s.1 ∙ sym t.1)
+
+by_case : {X : Type 0} (o : Option X) (P : Reply → Guest → Type 0)
+    (Q : X → Reply → Guest → Type 0) → Fixed P → ((x : X) → Fixed (Q x))
+    → Fixed (λ r new. MatchOption o (P r new) (λ x. Q x r new))
+by_case None P Q p q r r' new new' s t = p r r' new new' s t
+by_case (Some x) P Q p q r r' new new' s t = q x r r' new new' s t
 
 same_case : {X : Type 0} (o : Option X) (P P' : Type 0) (Q Q' : X → Type 0) (R : Type 0)
     → MatchOption o P Q → MatchOption o P' Q' → (P → P' → R) → ((x : X) → Q x → Q' x → R) → R
@@ -55,81 +63,58 @@ same_named head a b g new new' e e' same = grind (arith, same_last)
 
 -- ---- the parts of steps
 
-fills_same : (buffer : StatisticsBuffer) (g : Guest) (r : Reply) (new : Guest) (r' : Reply) (new' : Guest)
-    → Fills buffer g r new → Fills buffer g r' new' → Same r new r' new'
-fills_same NoBuffer g r new r' new' s t = both r r' _ new new' _ s.0 s.1 t.0 t.1
-fills_same b g r new r' new' s t = both r r' _ new new' _ s.0 s.1 t.0 t.1
+fills : (buffer : StatisticsBuffer) (g : Guest) → Fixed (Fills buffer g)
+fills NoBuffer g = fixed _ _
+fills b g = fixed _ _
 
-takes_buffer_same : (buffer : StatisticsBuffer) (g : Guest) (r : Reply) (new : Guest) (r' : Reply)
-    (new' : Guest) → TakesBuffer buffer g r new → TakesBuffer buffer g r' new' → Same r new r' new'
-takes_buffer_same NoBuffer g r new r' new' s t = both r r' _ new new' _ s.0 s.1 t.0 t.1
-takes_buffer_same b g r new r' new' s t = both r r' _ new new' _ s.0 s.1 t.0 t.1
+takes_buffer : (buffer : StatisticsBuffer) (g : Guest) → Fixed (TakesBuffer buffer g)
+takes_buffer NoBuffer g = fixed _ _
+takes_buffer b g = fixed _ _
 
-asks_same : (buffer : StatisticsBuffer) (g : Guest) (r : Reply) (new : Guest) (r' : Reply) (new' : Guest)
-    → ReturnsBuffer buffer g r new → ReturnsBuffer buffer g r' new' → Same r new r' new'
-asks_same (BufferTaken f) g r new r' new' s t = both r r' _ new new' _ s.0 s.1 t.0 t.1
-asks_same b g r new r' new' s t = absurd s
+returns_buffer : (buffer : StatisticsBuffer) (g : Guest) → Fixed (ReturnsBuffer buffer g)
+returns_buffer (BufferTaken f) g = fixed _ _
+returns_buffer b g = λ r r' new new' s t. absurd s
 
-reaps_same : (kind : Kind) (done : List Request) (g : Guest) (r : Reply) (new : Guest) (r' : Reply)
-    (new' : Guest) → Reaps kind done g r new → Reaps kind done g r' new' → Same r new r' new'
-reaps_same kind [] g r new r' new' s t = both r r' _ new new' _ s.0 s.1 t.0 t.1
-reaps_same kind (x ∷ rest) g r new r' new' s t = both r r' _ new new' _ s.0 s.1 t.0 t.1
+reaps : (kind : Kind) (done : List Request) (g : Guest) → Fixed (Reaps kind done g)
+reaps kind [] g = fixed _ _
+reaps kind (x ∷ rest) g = fixed _ _
 
-takes_same : (kind : Kind) (posted : List Request) (g : Guest) (r : Reply) (new : Guest)
-    (r' : Reply) (new' : Guest) → TakesRequest kind posted g r new → TakesRequest kind posted g r' new'
-    → Same r new r' new'
-takes_same kind [] g r new r' new' s t = both r r' _ new new' _ s.0 s.1 t.0 t.1
-takes_same kind (x ∷ rest) g r new r' new' s t = both r r' _ new new' _ s.0 s.1 t.0 t.1
+takes : (kind : Kind) (posted : List Request) (g : Guest) → Fixed (TakesRequest kind posted g)
+takes kind [] g = fixed _ _
+takes kind (x ∷ rest) g = fixed _ _
 
-finishes_same : (kind : Kind) (i : ℕ) (g : Guest) (r : Reply) (new : Guest) (r' : Reply)
-    (new' : Guest) → Finishes kind i g r new → Finishes kind i g r' new' → Same r new r' new'
-finishes_same kind i g r new r' new' s t = grind arith
+finishes : (kind : Kind) (i : ℕ) (g : Guest) → Fixed (Finishes kind i g)
+finishes kind i g r r' new new' s t = grind arith
 
-deflates_same : (count : ℕ) (g : Guest) (r : Reply) (new : Guest) (r' : Reply) (new' : Guest)
-    → Deflates count g r new → Deflates count g r' new' → Same r new r' new'
-deflates_same count g r new r' new' s t = grind (arith, least_same g.deflate s.0 t.0 s.1 t.1)
+posts : (kind : Kind) (pages : List ℕ) (count : ℕ) (g : Guest) → Fixed (Posts kind pages count g)
+posts kind pages count g r r' new new' s t =
+    grind (arith, least_same (requests kind g) s.0 t.0 s.1 t.1)
 
-reports_same : (from : ℕ) (g : Guest) (r : Reply) (new : Guest) (r' : Reply) (new' : Guest)
-    → Reports from g r new → Reports from g r' new' → Same r new r' new'
-reports_same from g r new r' new' s t = grind (arith, least_same g.report s.0 t.0 s.1 t.1)
+works : (g : Guest) → Fixed (Works g)
+works g = by_case (if g.config.paced then next_page g.inflate.taken else None) _ _
+    (by_case (if g.config.paced then next_page g.report.taken else None) _ _ (fixed _ _)
+    (λ page. fixed _ _)) (λ page. fixed _ _)
 
-works_same : (g : Guest) (r : Reply) (new : Guest) (r' : Reply) (new' : Guest) → Works g r new
-    → Works g r' new' → Same r new r' new'
-works_same g r new r' new' s t = same_case
-    (if g.config.paced then next_page g.inflate.taken else None) _ _ _ _ (Same r new r' new') s t
-    (λ s t. same_case (if g.config.paced then next_page g.report.taken else None) _ _ _ _
-    (Same r new r' new') s t (λ s t. both r r' _ new new' _ s.0 s.1 t.0 t.1)
-    (λ page s t. both r r' _ new new' _ s.0 s.1 t.0 t.1))
-    (λ page s t. both r r' _ new new' _ s.0 s.1 t.0 t.1)
-
-negotiates_same : (o : Option Refusal) (wanted : ℕ) (g : Guest) (r : Reply) (new : Guest)
-    (r' : Reply) (new' : Guest) → Negotiates o wanted g r new → Negotiates o wanted g r' new'
-    → Same r new r' new'
-negotiates_same None wanted g r new r' new' s t = both r r' _ new new' _ s.0 s.1 t.0 t.1
-negotiates_same (Some refusal) wanted g r new r' new' s t = both r r' _ new new' _ s.0 s.1 t.0 t.1
+negotiates : (o : Option Refusal) (wanted : ℕ) (g : Guest) → Fixed (Negotiates o wanted g)
+negotiates None wanted g = fixed _ _
+negotiates (Some refusal) wanted g = fixed _ _
 
 -- the claims are the same, so both are given or both are refused
-supplies_same : (pages : List ℕ) (g : Guest) (claims : List Claim) (r : Reply) (new : Guest)
-    (r' : Reply) (new' : Guest) (Rest Rest' : Guest → Type 0) → Supplying pages g claims r new Rest
-    → Supplying pages g claims r' new' Rest' → ((m : Guest) → Rest m → Rest' m → Same r new r' new')
-    → Same r new r' new'
-supplies_same pages g claims r new r' new' Rest Rest' s t rest = same_case
-    (claim_refusal claims) (Rest (supplied pages claims g)) (Rest' (supplied pages claims g))
-    (λ refusal. (r ≡ Refused refusal) × (new ≡ g)) (λ refusal. (r' ≡ Refused refusal) × (new' ≡ g))
-    (Same r new r' new') s.1 t.1 (λ s t. rest (supplied pages claims g) s t)
-    (λ refusal s t. both r r' _ new new' _ s.0 s.1 t.0 t.1)
+supplies : (g : Guest) (claims : List Claim) (P : Reply → Guest → Type 0) → Fixed P
+    → Fixed (λ r new. MatchOption (claim_refusal claims) (P r new)
+    (λ refusal. (r ≡ Refused refusal) × (new ≡ g)))
+supplies g claims P p = by_case (claim_refusal claims) P _ p (λ refusal. fixed _ _)
 
 -- ---- one call
 
 performs_agree : (call : Call) (g : Guest) (claims : List Claim) (r : Reply) (new : Guest)
     (r' : Reply) (new' : Guest) → Performed call g claims r new → Performed call g claims r' new'
     → Agree call r new r' new'
-performs_agree (SetTarget n) g claims r new r' new' s t = both r r' _ new new' _ s.1.0 s.1.1 t.1.0 t.1.1
-performs_agree Reset g claims r new r' new' s t = both r r' _ new new' _ s.1.0 s.1.1 t.1.0 t.1.1
+performs_agree (SetTarget n) g claims r new r' new' s t = fixed _ _ r r' new new' s.1 t.1
+performs_agree Reset g claims r new r' new' s t = fixed _ _ r r' new new' s.1 t.1
 performs_agree (Free cpu start order) g claims r new r' new' s t =
-    both r r' _ new new' _ s.1.0 s.1.1 t.1.0 t.1.1
-performs_agree (Sweep page) g claims r new r' new' s t =
-    both r r' _ new new' _ s.1.0 s.1.1 t.1.0 t.1.1
+    fixed _ _ r r' new new' s.1 t.1
+performs_agree (Sweep page) g claims r new r' new' s t = fixed _ _ r r' new new' s.1 t.1
 performs_agree (Read page offset len) g claims r new r' new' s t = grind arith
 performs_agree (Alloc cpu order) g claims r new r' new' s t = grind arith
 performs_agree (Inflate n) g claims r new r' new' s t =
@@ -139,29 +124,30 @@ performs_agree (Inflate n) g claims r new r' new' s t =
           (s.1.4.3 ∙ ap (λ (h : ℕ). after_posting Inflating h (stranded_first g n ++ s.1.0) g) head) t.1.4.3 e,
     )
 performs_agree (Deflate n) g claims r new r' new' s t =
-    deflates_same (deflate_count g n) g r new r' new' s.1 t.1
+    posts Deflating _ (deflate_count g n) g r r' new new' s.1 t.1
 performs_agree (Oom n) g claims r new r' new' s t =
-    deflates_same (oom_count g n) g r new r' new' s.1 t.1
-performs_agree (Report from) g claims r new r' new' s t = reports_same from g r new r' new' s.1 t.1
-performs_agree Stats g claims r new r' new' s t = fills_same g.buffer g r new r' new' s.1 t.1
-performs_agree Ask g claims r new r' new' s t = asks_same g.buffer g r new r' new' s.1 t.1
-performs_agree (Reap q) g claims r new r' new' s t = grind (arith, reaps_same)
-performs_agree (Take q) g claims r new r' new' s t = same_case (kind_of_queue q)
-    (TakesBuffer g.buffer g r new) (TakesBuffer g.buffer g r' new') (λ kind. TakesRequest kind
-    (requests kind g).posted g r new) (λ kind. TakesRequest kind (requests kind g).posted g r' new')
-    (Same r new r' new') s.1 t.1 (λ s t. takes_buffer_same g.buffer g r new r' new' s t)
-    (λ kind s t. takes_same kind (requests kind g).posted g r new r' new' s t)
-performs_agree Work g claims r new r' new' s t = works_same g r new r' new' s.1 t.1
-performs_agree (Finish q i) g claims r new r' new' s t = same_case (kind_of_queue q) ⊥ ⊥
-    (λ kind. Finishes kind i g r new) (λ kind. Finishes kind i g r' new') (Same r new r' new')
-    s.1 t.1 (λ s t. absurd s) (λ kind s t. finishes_same kind i g r new r' new' s t)
-performs_agree (Init wanted) g claims r new r' new' s t = supplies_same
-    (lacking g) g claims r new r' new' (λ m. Negotiates (feature_refusal wanted) wanted m r new)
-    (λ m. Negotiates (feature_refusal wanted) wanted m r' new') s t
-    (λ m s t. negotiates_same (feature_refusal wanted) wanted m r new r' new' s t)
-performs_agree (Write page offset bytes) g claims r new r' new' s t = supplies_same
-    (pages_needed page bytes g) g claims r new r' new' (λ m. Written page offset bytes m r new)
-    (λ m. Written page offset bytes m r' new') s t (λ m s t. both r r' _ new new' _ s.0 s.1 t.0 t.1)
+    posts Deflating _ (oom_count g n) g r r' new new' s.1 t.1
+performs_agree (Report from) g claims r new r' new' s t =
+    posts Reporting_free _ _ g r r' new new' s.1 t.1
+performs_agree Stats g claims r new r' new' s t = fills g.buffer g r r' new new' s.1 t.1
+performs_agree Ask g claims r new r' new' s t = returns_buffer g.buffer g r r' new new' s.1 t.1
+performs_agree (Reap q) g claims r new r' new' s t =
+    by_case (kind_of_queue q) (λ r new. ⊥) (λ kind. Reaps kind (requests kind g).done g)
+    (λ r r' new new' s t. absurd s) (λ kind. reaps kind (requests kind g).done g) r r' new new' s.1
+    t.1
+performs_agree (Take q) g claims r new r' new' s t = by_case (kind_of_queue q)
+    (TakesBuffer g.buffer g) (λ kind. TakesRequest kind (requests kind g).posted g)
+    (takes_buffer g.buffer g) (λ kind. takes kind (requests kind g).posted g) r r' new new' s.1 t.1
+performs_agree Work g claims r new r' new' s t = works g r r' new new' s.1 t.1
+performs_agree (Finish q i) g claims r new r' new' s t =
+    by_case (kind_of_queue q) (λ r new. ⊥) (λ kind. Finishes kind i g)
+    (λ r r' new new' s t. absurd s) (λ kind. finishes kind i g) r r' new new' s.1 t.1
+performs_agree (Init wanted) g claims r new r' new' s t =
+    supplies g claims (Negotiates (feature_refusal wanted) wanted (supplied (lacking g) claims g))
+    (negotiates (feature_refusal wanted) wanted _) r r' new new' s.1 t.1
+performs_agree (Write page offset bytes) g claims r new r' new' s t =
+    supplies g claims (Written page offset bytes (supplied (pages_needed page bytes g) claims g))
+    (fixed _ _) r r' new new' s.1 t.1
 performs_agree (Scribble page offset bytes) g claims r new r' new' s t =
     same_case (claim_refusal claims) (Scribbled m r new) (Scribbled m r' new')
     (λ refusal. (r ≡ Refused refusal) × (new ≡ g)) (λ refusal. (r' ≡ Refused refusal) × (new' ≡ g))

@@ -1,17 +1,17 @@
 -- Maximal blocks share no page.
-use Rattle.std.proofs.Common.{◌≡◌, ℕ, zero, suc, ◌+◌, ◌-◌, ◌*◌, ◌^◌, ◌<◌, ◌≤◌, Bool, true, false}
-use Rattle.std.proofs.Common.{List, [], ◌∷◌, take, refl, sym, ap, subst, ◌∙◌, inl, inr, arith, ◌⊎◌}
-use Rattle.std.proofs.Math.Nat.{lt_of_mul-lt-mul_left, mul-lt-mul_of_pos_left, mul_assoc, mul_comm}
-use Rattle.std.proofs.lemmas.Bool.{eq-eqb, ne_eqb, le-leb, lt-ltb, and_parts, and_from, cases_lt}
-use Rattle.std.{proofs.Common.◌≢◌, specs.List.{list_any, range_with_len, flat_map}}
-use Rattle.std.specs.Prelude.{◌==◌, ◌&&◌, ◌%◌, count_by, nat_lt, nat_le, filter, map}
-use Rattle.std.proofs.{lemmas.Nat.{pow_pos, mod-mul-add, pow-add}, Math.Nat.mul-add}
-use Rattle.std.proofs.lemmas.Bool.{cases_eq, leb-true, ltb-true, false_from_ne_true}
-use Rattle.vb_model.specs.Pages.{Block, size, pages_of, pages_of_all, covers, is_whole, is_maximal}
-use Rattle.vb_model.{specs.Limits.max_order, specs.Tests.one_if, specs.Orderly.times}
-use Rattle.vb_model.specs.Pages.{is_aligned, around, blocks_at, blocks_below, maximal_blocks}
-use Rattle.vb_model.proofs.Tables.{count_by-append, count_by-cons}
-use Rattle.vb_model.proofs.Distinct.{times-append, times-cons}
+use Rattle.std.proofs.Common.{Bool, List, [], ap, arith, false, inl, inr, refl, subst, suc, sym}
+use Rattle.std.proofs.Common.{take, true, zero, ℕ, ◌*◌, ◌+◌, ◌-◌, ◌<◌, ◌^◌, ◌∙◌, ◌∷◌, ◌≡◌, ◌≤◌, ◌⊎◌}
+use Rattle.std.proofs.Math.Nat.{lt_of_mul-lt-mul_left, mul-add, mul-lt-mul_of_pos_left, mul_assoc}
+use Rattle.std.proofs.{Math.Nat.mul_comm, lemmas.Bool.{and_from, and_parts, cases_eq, cases_lt}}
+use Rattle.std.proofs.lemmas.Bool.{eq-eqb, false_from_ne_true, le-leb, leb-true, lt-ltb, ltb-true}
+use Rattle.std.proofs.lemmas.{Bool.{ne_eqb, or_left, or_right}, Nat.{mod-mul-add, pow-add, pow_pos}}
+use Rattle.std.specs.{List.{flat_map, list_any, range_with_len}, Prelude.{count_by, filter, map}}
+use Rattle.std.specs.Prelude.{nat_le, nat_lt, ◌%◌, ◌&&◌, ◌==◌}
+use Rattle.vb_model.proofs.{Distinct.{times-append, times-cons, times-none}, PageSteps.is_in-range}
+use Rattle.vb_model.{proofs.Tables.{count_by-append, count_by-cons}, specs.Limits.max_order}
+use Rattle.vb_model.specs.{Orderly.times, Pages.{Block, around, blocks_at, blocks_below, covers}}
+use Rattle.vb_model.specs.Pages.{is_aligned, is_maximal, is_whole, maximal_blocks, pages_of}
+use Rattle.vb_model.specs.{Pages.{pages_of_all, size}, Tests.one_if}
 
 -- of two aligned blocks round one page, the larger begins where the smaller's first page is rounded
 -- down to
@@ -81,24 +81,11 @@ is_round test page b h = grind (arith, h, h)
 pub any_in_range : (test : ℕ → Bool) (k first count : ℕ) → first ≤ k → k < first + count → test k ≡ true
     → list_any test (range_with_len first count) ≡ true
 any_in_range test k first zero a b h = absurd (omega arith)
-any_in_range test k first (suc count) a b h = step (cases_eq first k)
-    (λ d. any_in_range test k (first + 1) count (omega arith) (omega arith) h)
-  where
-    step : (first ≡ k) ⊎ (first ≢ k)
-        → (first ≢ k → list_any test (range_with_len (first + 1) count) ≡ true)
-        → list_any test (range_with_len first (suc count)) ≡ true
-    step (inl e) ih = here (test first) (subst (λ (n : ℕ). test n ≡ true) (sym e) h) where
-      here : (v : Bool) → v ≡ true
-          → Rattle.std.specs.Prelude.◌||◌ v (list_any test (range_with_len (first + 1) count))
-          ≡ true
-      here true e = refl
-      here false e = absurd cc
-    step (inr d) ih = there (test first) (ih d) where
-      there : (v : Bool) → list_any test (range_with_len (first + 1) count) ≡ true
-          → Rattle.std.specs.Prelude.◌||◌ v (list_any test (range_with_len (first + 1) count))
-          ≡ true
-      there true e = refl
-      there false e = e
+any_in_range test k first (suc count) a b h = elim (cases_eq first k) [
+  | inl e ↦ or_left (test first) _ (subst (λ (n : ℕ). test n ≡ true) (sym e) h)
+  | inr d ↦ or_right (test first) _
+      (any_in_range test k (first + 1) count (omega (arith, a, d)) (omega (arith, b)) h)
+]
 
 no_larger : (test : ℕ → Bool) (page : ℕ) (b c : Block) → c.order ≤ max_order
     → IsRound test page b → IsRound test page c → b.order < c.order → ⊥
@@ -134,56 +121,38 @@ times_in_range : (page first count : ℕ) → times page (range_with_len first c
     ≡ one_if (nat_le first page && nat_lt page (first + count))
 times_in_range page first count = cases (nat_le first page && nat_lt page (first + count)) refl
   where
-    below : (first count : ℕ) → page < first → times page (range_with_len first count) ≡ 0
-    below first zero l = refl
-    below first (suc count) l =
-        let z : one_if (first == page) ≡ 0 =
-        ap one_if (ne_eqb first page (λ e. absurd (omega arith))) in
-        omega (
-          arith,
-          times-cons page first (range_with_len (first + 1) count),
-          below (first + 1) count (omega arith),
-        )
-
-    above : (first count : ℕ) → first + count ≤ page → times page (range_with_len first count) ≡ 0
-    above first zero l = refl
-    above first (suc count) l =
-        let z : one_if (first == page) ≡ 0 =
-        ap one_if (ne_eqb first page (λ e. absurd (omega arith))) in
-        omega (
-          arith,
-          times-cons page first (range_with_len (first + 1) count),
-          above (first + 1) count (omega arith),
-        )
+    outside : (first count : ℕ) → (page < first) ⊎ (first + count ≤ page)
+        → times page (range_with_len first count) ≡ 0
+    outside first count beside = times-none page _ (false_from_ne_true _ (λ k.
+        let r = is_in-range page first count k in
+        elim beside [ inl l ↦ omega (arith, l, r.0) | inr l ↦ omega (arith, l, r.1) ]))
 
     inside : (first count : ℕ) → first ≤ page → page < first + count
         → times page (range_with_len first count) ≡ 1
     inside first zero a b = absurd (omega arith)
-    inside first (suc count) a b =
-        step (cases_eq first page) (λ d. inside (first + 1) count (omega arith) (omega arith))
-      where
-        step : (first ≡ page) ⊎ (first ≢ page)
-            → (first ≢ page → times page (range_with_len (first + 1) count) ≡ 1)
-            → times page (range_with_len first (suc count)) ≡ 1
-        step (inl e) ih = let o : one_if (first == page) ≡ 1 = ap one_if (eq-eqb first page e) in
-            omega (
-              arith,
-              times-cons page first (range_with_len (first + 1) count),
-              below (first + 1) count (omega arith),
-            )
-        step (inr d) ih = let o : one_if (first == page) ≡ 0 = ap one_if (ne_eqb first page d) in
-            omega (arith, times-cons page first (range_with_len (first + 1) count), ih d)
+    inside first (suc count) a b = elim (cases_eq first page) [
+      | inl e ↦ (let o : one_if (first == page) ≡ 1 = ap one_if (eq-eqb first page e) in omega (
+        arith,
+        times-cons page first (range_with_len (first + 1) count),
+        outside (first + 1) count (inl (omega arith)),
+      ))
+      | inr d ↦ (let o : one_if (first == page) ≡ 0 = ap one_if (ne_eqb first page d) in omega (
+        arith,
+        times-cons page first (range_with_len (first + 1) count),
+        inside (first + 1) count (omega (arith, a, d)) (omega (arith, b)),
+      ))
+    ]
 
     cases : (v : Bool) → (nat_le first page && nat_lt page (first + count)) ≡ v
         → times page (range_with_len first count) ≡ one_if v
     cases true e = let parts = and_parts (nat_le first page) (nat_lt page (first + count)) e in
         inside first count (leb-true first page parts.0) (ltb-true page (first + count) parts.1)
     cases false e = elim (cases_lt page first) [
-      | inl l ↦ below first count l
+      | inl l ↦ outside first count (inl l)
       | inr l ↦ elim (cases_lt page (first + count)) [
         | inl k ↦ (let bad : true ≡ false = sym (and_from _ _ (le-leb first page l)
             (lt-ltb page (first + count) k)) ∙ e in absurd cc)
-        | inr k ↦ above first count k
+        | inr k ↦ outside first count (inr k)
       ]
     ]
 

@@ -1,8 +1,8 @@
 -- The cases of a call that isn't refused, and the pages that it names.
 use Rattle.std.proofs.Common.{Bool, List, [], cond, false, inl, inr, length, refl, suc, take, true}
 use Rattle.std.proofs.{Common.{zero, ℕ, ◌++◌, ◌∷◌, ◌≡◌, ◌⊎◌}, lemmas.Bool.{and_from, and_parts}}
-use Rattle.std.specs.{List.list_all, Prelude.{MatchOption, None, Option, Some, filter, nat_le}}
-use Rattle.std.specs.Prelude.{◌&&◌}
+use Rattle.std.specs.{List.list_all, Prelude.{MatchBool, MatchOption, None, Option, Some, filter}}
+use Rattle.std.specs.Prelude.{nat_le, ◌&&◌}
 use Rattle.vb_model.proofs.{PageSteps.can_be_given, Tables.{is_in-append, is_in-take, list_all-at}}
 use Rattle.vb_model.{proofs.Tables.pages_where-passes, specs.Device.{has_frame, visited}}
 use Rattle.vb_model.specs.{Driver.{AllFreePages, given, lowest_lent, stranded_first}, Guest.Guest}
@@ -10,7 +10,8 @@ use Rattle.vb_model.specs.{Guest.all_backed, Pages.{Block, blocks_below, is_alig
 use Rattle.vb_model.specs.Pages.{is_lent, is_maximal, is_stranded, is_whole, is_wholly_free}
 use Rattle.vb_model.specs.Pages.{maximal_blocks, pages_of, pages_of_all, place_of, reported}
 use Rattle.vb_model.specs.Refusals.{Cause, first_refusal, inflate_count, reported_blocks, room}
-use Rattle.vb_model.specs.{Requests.Kind, Tests.{is_in, pages_where}, declared.calls.Claim.Claim}
+use Rattle.vb_model.specs.{Requests.Kind, Rogue.{GuestStep, RogueStep}, Step.HonestStep}
+use Rattle.vb_model.specs.{Tests.{is_in, pages_where}, declared.calls.{Call.Call, Claim.Claim}}
 use Rattle.vb_model.specs.declared.places.Place.{Place, TheVariants.{Free as FreePlace, Reserved}}
 use Rattle.vb_model.specs.declared.{places.Place.TheVariants.Stranded, replies.Reply.Reply}
 use Rattle.vb_model.specs.declared.replies.Reply.TheVariants.{Idle, Worked}
@@ -21,6 +22,18 @@ pub match_cases : {X : Type 0} (o : Option X) (P : Type 0) (Q : X → Type 0) �
     → ((o ≡ None) × P) ⊎ ((x : X) × (o ≡ Some x) × Q x)
 match_cases None P Q h = inl (refl, h)
 match_cases (Some x) P Q h = inr (x, refl, h)
+
+-- a step is a rogue guest's or an honest one's
+pub by_kind : {X : Type 0} (g : Guest) (call : Call) (claims : List Claim) (reply : Reply)
+    (new : Guest) → GuestStep g call claims reply new
+    → (g.rogue ≡ true → RogueStep g call claims reply new → X)
+    → (g.rogue ≡ false → HonestStep g call claims reply new → X) → X
+by_kind {X} g call claims reply new s rogue honest = by g.rogue rogue honest s where
+  by : (b : Bool) → (b ≡ true → RogueStep g call claims reply new → X)
+      → (b ≡ false → HonestStep g call claims reply new → X)
+      → MatchBool b (RogueStep g call claims reply new) (HonestStep g call claims reply new) → X
+  by true rogue honest s = rogue refl s
+  by false rogue honest s = honest refl s
 
 -- ---- the pages of new requests
 

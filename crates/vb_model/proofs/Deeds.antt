@@ -70,6 +70,7 @@ pub record IsPosting (call : Call) (kind : Kind) (head : ℕ) (pages : List ℕ)
   pub pending : kind ≡ Inflating → (not (tells_host g) && nat_lt 0 (outstanding g.deflate)) ≡ false
   pub back : kind ≡ Deflating → posts_deflate call ≡ true
 
+-- what the call did, with each of its choices made
 pub data Deed (call : Call) (g : Guest) (claims : List Claim) (reply : Reply) (new : Guest) :
     Type 0 where
   Stayed : Why call g claims reply → new ≡ g → Deed call g claims reply new

@@ -1,21 +1,21 @@
 -- Frames enter by the claims for their pages alone; and where too few are left, the call is refused.
 use Rattle.std.proofs.Common.{Bool, List, [], ap, arith, cond, false, inl, inr, length, refl, subst}
 use Rattle.std.proofs.Common.{suc, sym, true, ℕ, ◌<◌, ◌∙◌, ◌∷◌, ◌≡◌, ◌≤◌, ◌⊎◌}
-use Rattle.std.{proofs.lemmas.Bool.eqb-true, specs.Prelude.{MatchBool, None, Option, Some}}
-use Rattle.std.specs.Prelude.{slice_get, ◌==◌, ◌||◌}
-use Rattle.vb_model.proofs.{Cases.match_cases, Frames.{backed_cases, frames_of, unbacked_loses}}
-use Rattle.vb_model.proofs.Outcomes.{Begun, Cleared, Emptied, Outcome, Put, Retargeted, Shuffled}
-use Rattle.vb_model.proofs.{Outcomes.{Turned, outcome}, Wanting.{claims_needed, refused_claims}}
-use Rattle.vb_model.specs.{Driver.{AreClaimsFor, claim_refusal, given, pages_needed}, Guest.Guest}
-use Rattle.vb_model.specs.{Guest.{all_backed, backed, frame_of}, HostFrames.{Gives, IsOut}}
-use Rattle.vb_model.specs.{Life.lacking, Refusals.refusal_of, Rogue.{GuestStep, LosesFrames}}
-use Rattle.vb_model.specs.{Rogue.{RogueStep, pages_to_back, unless_refused}, Step.HonestStep}
-use Rattle.vb_model.specs.{Step.bare_pages, StepLaws.{FramesEnterByClaims, IsGiven, WantIsAnswered}}
-use Rattle.vb_model.specs.{StepLaws.WantOfFrames, Tests.is_in, World.World}
-use Rattle.vb_model.specs.declared.calls.{Call.Call, Claim.{Claim, TheVariants.{Gave, GaveNoFrame}}}
-use Rattle.vb_model.specs.declared.{calls.Claim.TheVariants.GaveNoMemory, replies.Refusal.Refusal}
-use Rattle.vb_model.specs.declared.replies.{Refusal.TheVariants.{NoFrame, NoMemory}, Reply.Reply}
-use Rattle.vb_model.specs.declared.replies.Reply.TheVariants.{Refused}
+use Rattle.std.{proofs.lemmas.Bool.eqb-true, specs.Prelude.{None, Option, Some, slice_get, ◌==◌}}
+use Rattle.std.specs.Prelude.{◌||◌}
+use Rattle.vb_model.proofs.{Cases.{by_kind, match_cases}, Frames.{backed_cases, frames_of}}
+use Rattle.vb_model.proofs.{Frames.unbacked_loses, Outcomes.{Begun, Cleared, Emptied, Outcome, Put}}
+use Rattle.vb_model.proofs.{Outcomes.{Retargeted, Shuffled, Turned, outcome}, Wanting.claims_needed}
+use Rattle.vb_model.{proofs.Wanting.refused_claims, specs.Driver.{AreClaimsFor, claim_refusal}}
+use Rattle.vb_model.specs.{Driver.{given, pages_needed}, Guest.{Guest, all_backed, backed}}
+use Rattle.vb_model.specs.{Guest.frame_of, HostFrames.{Gives, IsOut}, Life.lacking}
+use Rattle.vb_model.specs.{Refusals.refusal_of, Rogue.{GuestStep, LosesFrames, pages_to_back}}
+use Rattle.vb_model.specs.{Rogue.unless_refused, Step.bare_pages, StepLaws.FramesEnterByClaims}
+use Rattle.vb_model.specs.{StepLaws.{IsGiven, WantIsAnswered, WantOfFrames}, Tests.is_in}
+use Rattle.vb_model.specs.{World.World, declared.calls.{Call.Call, Claim.{Claim, TheVariants.Gave}}}
+use Rattle.vb_model.specs.declared.calls.Claim.TheVariants.{GaveNoFrame, GaveNoMemory}
+use Rattle.vb_model.specs.declared.replies.Refusal.{Refusal, TheVariants.{NoFrame, NoMemory}}
+use Rattle.vb_model.specs.declared.replies.Reply.{Reply, TheVariants.Refused}
 
 -- ---- frames enter by claims
 
@@ -88,17 +88,14 @@ entered call g claims reply new page frame (Turned p offset bytes is passed s) h
     (ap (λ (c : Call). bare_pages c g) is) passed (ap frames_of s.memory) h
 
 pub frames_enter : FramesEnterByClaims
-frames_enter g call claims reply new s page frame h = cases g.rogue s where
-  cases : (b : Bool) → MatchBool b (RogueStep g call claims reply new)
-      (HonestStep g call claims reply new) → Entered g (pages_to_back call g) claims page frame
-  cases true r = elim (match_cases (claim_refusal claims)
-      (LosesFrames (all_backed (pages_to_back call g) (given claims) g.frames) new.frames)
-      (λ refusal. (reply ≡ Refused refusal) × (new.frames ≡ g.frames)) r.frames) [
-        | inl m ↦ enters (pages_to_back call g) claims g new page frame m.1 h
-        | inr m ↦ kept (pages_to_back call g) claims g new page frame m.2.1 h
-      ]
-  cases false p =
-      entered call g claims reply new page frame (outcome g call claims reply new p) h
+frames_enter g call claims reply new s page frame h = by_kind g call claims reply new s
+    (λ rogue r. elim (match_cases (claim_refusal claims)
+    (LosesFrames (all_backed (pages_to_back call g) (given claims) g.frames) new.frames)
+    (λ refusal. (reply ≡ Refused refusal) × (new.frames ≡ g.frames)) r.frames) [
+      | inl m ↦ enters (pages_to_back call g) claims g new page frame m.1 h
+      | inr m ↦ kept (pages_to_back call g) claims g new page frame m.2.1 h
+    ])
+    (λ honest p. entered call g claims reply new page frame (outcome g call claims reply new p) h)
 
 -- ---- where too few frames are left, the call is refused
 

@@ -1,19 +1,19 @@
 -- What one event does to a guest: others, targets, configurations, frames that go back.
-use Rattle.std.proofs.Common.{Bool, List, ap, false, inl, inr, refl, replicate, subst, sym, true, ℕ}
-use Rattle.std.{proofs.{Common.{◌∙◌, ◌≡◌, ◌≢◌, ◌⊎◌}, lemmas.Bool.eq-eqb}, specs.Prelude.MatchBool}
-use Rattle.std.specs.Prelude.{None, Option, Some}
+use Rattle.std.proofs.Common.{List, ap, false, inl, inr, refl, replicate, subst, sym, true, ℕ, ◌∙◌}
+use Rattle.std.{proofs.{Common.{◌≡◌, ◌≢◌, ◌⊎◌}, lemmas.Bool.eq-eqb}, specs.Prelude.{None, Option}}
+use Rattle.std.specs.Prelude.{Some}
 use Rattle.vb_model.proofs.Alone.{New_target, Nothing_happens, Own, Own_call, scribbled_rogue}
-use Rattle.vb_model.proofs.Changes.{Effect, Has_called, Is_aimed, Is_gone, Is_new, Is_plugged, Same}
-use Rattle.vb_model.proofs.{Changes.{effect, no_frames, same_some, touches}, Unchanged.IsScribble}
-use Rattle.vb_model.{proofs.Unchanged.{MayBeRogue, step_keeps}, specs.Guest.{Guest, frame_of}}
-use Rattle.vb_model.specs.{Guest.fresh, Life.after_restart, Rogue.{GuestStep, IsRogueAfter}}
-use Rattle.vb_model.specs.{Rogue.{RogueStep, target_after}, Step.HonestStep, StepLaws.Follows}
-use Rattle.vb_model.specs.StepLaws.{ConfigurationsAreKept, FramesGoBack, OthersAreUntouched}
-use Rattle.vb_model.specs.StepLaws.{RestartedAreHonest, RoguesAreMade, RoguesStay, TargetsAreKept}
-use Rattle.vb_model.specs.{StepLaws.{ScribblesMakeRogues, TargetsAreSet}, World.{World, guest_at}}
+use Rattle.vb_model.proofs.{Cases.by_kind, Changes.{Effect, Has_called, Is_aimed, Is_gone, Is_new}}
+use Rattle.vb_model.proofs.Changes.{Is_plugged, Same, effect, no_frames, same_some, touches}
+use Rattle.vb_model.{proofs.Unchanged.{IsScribble, MayBeRogue, step_keeps}, specs.Guest.Guest}
+use Rattle.vb_model.specs.{Guest.{frame_of, fresh}, Life.after_restart, Rogue.GuestStep}
+use Rattle.vb_model.specs.{Rogue.{IsRogueAfter, target_after}, StepLaws.ConfigurationsAreKept}
+use Rattle.vb_model.specs.StepLaws.{Follows, FramesGoBack, OthersAreUntouched, RestartedAreHonest}
+use Rattle.vb_model.specs.StepLaws.{RoguesAreMade, RoguesStay, ScribblesMakeRogues, TargetsAreKept}
+use Rattle.vb_model.specs.{StepLaws.TargetsAreSet, World.{World, guest_at}}
 use Rattle.vb_model.specs.declared.calls.Call.{Call, TheVariants.{Scribble, SetTarget}}
-use Rattle.vb_model.specs.declared.calls.{Claim.Claim, Event.{Event, TheVariants.{Balance, Unplug}}}
-use Rattle.vb_model.specs.declared.calls.Event.TheVariants.{Guest as OnGuest, Restart}
+use Rattle.vb_model.specs.declared.calls.{Claim.Claim, Event.{Event, TheVariants.Balance}}
+use Rattle.vb_model.specs.declared.calls.Event.TheVariants.{Guest as OnGuest, Restart, Unplug}
 use Rattle.vb_model.specs.declared.replies.Reply.{Reply, TheVariants.Done}
 
 -- ---- what becomes of a guest
@@ -180,12 +180,8 @@ rogues_made w event reply v n old new f no_scribble honest = by (fate w event re
 
 stays_rogue : (g : Guest) (call : Call) (claims : List Claim) (reply : Reply) (new : Guest)
     → g.rogue ≡ true → GuestStep g call claims reply new → new.rogue ≡ true
-stays_rogue g call claims reply new rogue s = cases g.rogue rogue s where
-  cases : (b : Bool) → b ≡ true
-      → MatchBool b (RogueStep g call claims reply new) (HonestStep g call claims reply new)
-      → new.rogue ≡ true
-  cases true e r = r.stays.still
-  cases false e p = absurd cc
+stays_rogue g call claims reply new rogue s =
+    by_kind g call claims reply new s (λ e r. r.stays.still) (λ e p. absurd cc)
 
 pub rogues_stay : RoguesStay
 rogues_stay w event reply v n old new f no_restart rogue = by (fate w event reply v n old new f) where

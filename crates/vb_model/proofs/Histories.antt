@@ -1,24 +1,25 @@
 -- Every course of a guest is safe, and so is every history.
-use Rattle.std.proofs.Common.{Bool, List, [], ap, arith, cond, drop, false, get_or, inl, length, ℕ}
-use Rattle.std.proofs.Common.{refl, subst, suc, sym, take, true, zero, ◌+◌, ◌∙◌, ◌∷◌, ◌≡◌, ◌≢◌}
+use Rattle.std.proofs.Common.{Bool, List, [], ap, arith, cond, drop, false, get_or, inl, length}
+use Rattle.std.proofs.Common.{refl, subst, suc, sym, take, true, zero, ℕ, ◌+◌, ◌∙◌, ◌∷◌, ◌≡◌, ◌≢◌}
 use Rattle.std.proofs.lemmas.{Bool.eq-eqb, List.{get_or-drop, get_or-take, length-drop}}
-use Rattle.std.{proofs.lemmas.List.length-take-le, specs.Prelude.{IsTrue, None, Option, Some, ◌==◌}}
-use Rattle.std.specs.Prelude.{slice_get, ◌↔◌, ◌≤◌}
+use Rattle.std.{proofs.lemmas.List.length-take-le, specs.Prelude.{IsTrue, None, Option, Some}}
+use Rattle.std.specs.Prelude.{slice_get, ◌==◌, ◌↔◌, ◌≤◌}
 use Rattle.vb_model.proofs.{Asked.told_first, Changes.same_some, Contents.honest_same}
 use Rattle.vb_model.proofs.Courses.{EntryAt, IsFit, Positions, as_guest, fresh_fit, positions}
-use Rattle.vb_model.proofs.{Courses.some_own, Faults.{honest_no_fault, is_fault}, Kept.used_page}
-use Rattle.vb_model.proofs.{Kept.honest_keeps_frame, LastWrites.{overwritten_byte, read_step}}
-use Rattle.vb_model.proofs.{LastWrites.write_step, PageSteps.naming-all, Unchanged.step_keeps}
-use Rattle.vb_model.specs.{Consistent.IsConsistent, Courses.{Course, IsAt, IsCall, IsWriteTo}}
-use Rattle.vb_model.specs.Courses.{ReadsGiveLastWrites, StaysHeld, StaysOrLoses, byte_after}
-use Rattle.vb_model.specs.{Courses.{byte_of, byte_written, guest_after, last_put}, Guest.Config}
-use Rattle.vb_model.specs.{Driver.{contents_of, overwritten}, Guest.{Guest, frame_of, is_ballooned}}
-use Rattle.vb_model.specs.GuestRun.{Called, Entry, EntryStep, IsHistory, Leads, Looked, OwnStep}
-use Rattle.vb_model.specs.{Histories.{BothAgree, IsSafeCourse, IsSafeHistory}, Step.HonestStep}
-use Rattle.vb_model.specs.{Requests.all_requests, SafeLaws.UsedPagesStay, declared.calls.Call.Call}
-use Rattle.vb_model.specs.declared.calls.{Actor.Actor, Call.TheVariants.{Read, Write}, Claim.Claim}
-use Rattle.vb_model.specs.declared.{places.Place.TheVariants.{Lent, Used}, replies.Reply.Reply}
-use Rattle.vb_model.specs.declared.replies.Refusal.TheVariants.{Broken, RingBroken}
+use Rattle.vb_model.proofs.{Courses.some_own, Faults.{honest_no_fault, is_fault}}
+use Rattle.vb_model.proofs.{Kept.{honest_keeps_frame, used_page}, LastWrites.overwritten_byte}
+use Rattle.vb_model.proofs.{LastWrites.{read_step, write_step}, PageSteps.naming-all}
+use Rattle.vb_model.{proofs.Unchanged.step_keeps, specs.{Consistent.IsConsistent, Courses.Course}}
+use Rattle.vb_model.specs.Courses.{IsAt, IsCall, IsWriteTo, ReadsGiveLastWrites, StaysHeld}
+use Rattle.vb_model.specs.Courses.{StaysOrLoses, byte_after, byte_of, byte_written, guest_after}
+use Rattle.vb_model.specs.{Courses.last_put, Driver.{contents_of, overwritten}, Guest.Config}
+use Rattle.vb_model.specs.{Guest.{Guest, frame_of, is_ballooned}, GuestRun.{Called, Entry}}
+use Rattle.vb_model.specs.GuestRun.{EntryStep, IsHistory, Leads, Looked, OwnStep}
+use Rattle.vb_model.specs.Histories.{BothAgree, IsSafeCourse, IsSafeHistory}
+use Rattle.vb_model.specs.{Requests.all_requests, SafeLaws.UsedPagesStay, Step.HonestStep}
+use Rattle.vb_model.specs.declared.calls.{Actor.Actor, Call.{Call, TheVariants.{Read, Write}}}
+use Rattle.vb_model.specs.declared.{calls.Claim.Claim, places.Place.TheVariants.{Lent, Used}}
+use Rattle.vb_model.specs.declared.replies.{Refusal.TheVariants.{Broken, RingBroken}, Reply.Reply}
 use Rattle.vb_model.specs.declared.replies.Reply.TheVariants.{Done, ReadBytes, Refused}
 
 -- ---- driver and device
@@ -155,9 +156,6 @@ byte_step c p page at i g new here next used used' = by s.own s.own_is s.step
         let wrong : true ≡ false =
         sym (own_write page offset bytes) ∙ sym (ap (λ (x : Call). is_write page x Done) first)
         ∙ sym (ap (λ (x : Reply). is_write page call x) second) ∙ e in cc
-      where
-        same_entry : {x y : Entry} → some_own (Some x) ≡ some_own (Some y) → x ≡ y
-        same_entry e = cc
 
     called : (actor : Actor) (call : Call) (claims : List Claim) (reply : Reply) (v : Bool)
         → is_write page call reply ≡ v

@@ -1,19 +1,20 @@
 -- Worked facts of a guest's lives: initialisation, reset, restart and unplugging.
-use Rattle.std.proofs.Common.{◌≡◌, ℕ, ◌+◌, true, false, List, [], ◌∷◌, ◌++◌, map, replicate, refl}
-use Rattle.std.{specs.Prelude.{Option, Some, None}, specs.List.range_with_len}
-use Rattle.vb_model.specs.declared.replies.Refusal.TheVariants.{AlreadyUp, NoFrame, NoMemory}
-use Rattle.vb_model.{specs.declared.places.Place.TheVariants.Stranded, specs.Refusals.refusal_of}
-use Rattle.vb_model.{specs.declared.calls.Call.TheVariants.{Init, Reset}, specs.Driver.AreClaimsFor}
-use Rattle.vb_model.{specs.declared.calls.Claim.Claim, specs.Step.HonestStep, specs.World.World}
-use Rattle.vb_model.specs.declared.calls.Claim.TheVariants.{Gave, GaveNoFrame, GaveNoMemory}
-use Rattle.vb_model.specs.declared.calls.Event.TheVariants.{Unplug, Restart}
-use Rattle.vb_model.specs.declared.replies.Refusal.TheVariants.{FeatureNotOffered, VersionMissing}
-use Rattle.vb_model.specs.declared.replies.Reply.TheVariants.{Ready, Done, Refused}
-use Rattle.vb_model.specs.Requests.{Requests, no_requests, NoBuffer, BufferPosted, BufferTaken}
-use Rattle.vb_model.{specs.Guest.{Guest, zero_page, no_statistics}, specs.HostEvents.WorldStep}
-use Rattle.vb_model.{specs.Life.{after_reset, after_restart, lacking}, specs.HostFrames.used_frames}
-use Rattle.vb_model.proofs.Samples.{config, ready, down, mixed_places, request}
-use Rattle.vb_model.specs.declared.places.Place.TheVariants.{Reserved, Free as FreePlace, Used}
+use Rattle.std.proofs.Common.{List, [], false, map, refl, replicate, true, ℕ, ◌++◌, ◌+◌, ◌∷◌, ◌≡◌}
+use Rattle.std.specs.{List.range_with_len, Prelude.{None, Option, Some}}
+use Rattle.vb_model.proofs.Samples.{config, down, mixed_places, ready, request}
+use Rattle.vb_model.specs.{Driver.AreClaimsFor, Guest.{Guest, no_statistics, zero_page}}
+use Rattle.vb_model.specs.{HostEvents.WorldStep, HostFrames.used_frames, Life.after_reset}
+use Rattle.vb_model.specs.{Life.{after_restart, lacking}, Refusals.refusal_of}
+use Rattle.vb_model.specs.Requests.{BufferPosted, BufferTaken, NoBuffer, Requests, no_requests}
+use Rattle.vb_model.specs.{Step.HonestStep, World.World, declared.calls.Call.TheVariants.Init}
+use Rattle.vb_model.specs.declared.calls.{Call.TheVariants.Reset, Claim.{Claim, TheVariants.Gave}}
+use Rattle.vb_model.specs.declared.calls.Claim.TheVariants.{GaveNoFrame, GaveNoMemory}
+use Rattle.vb_model.specs.declared.calls.Event.TheVariants.{Restart, Unplug}
+use Rattle.vb_model.specs.declared.places.Place.TheVariants.{Free as FreePlace, Reserved, Stranded}
+use Rattle.vb_model.specs.declared.places.Place.TheVariants.{Used}
+use Rattle.vb_model.specs.declared.replies.Refusal.TheVariants.{AlreadyUp, FeatureNotOffered}
+use Rattle.vb_model.specs.declared.replies.Refusal.TheVariants.{NoFrame, NoMemory, VersionMissing}
+use Rattle.vb_model.specs.declared.replies.Reply.TheVariants.{Done, Ready, Refused}
 
 -- ---- a guest with something in every field
 
@@ -53,39 +54,6 @@ full = record {
   rogue = false;
 }
 
--- ---- reset
-
--- giving, lent and taking pages are stranded, reporting ones free; requests, buffer, statistics,
--- features and the ballooned set are gone; configuration, held blocks, target, frames and contents
--- stay
-reset : HonestStep full Reset [] Done (record {
-  config = config;
-  places = replicate 16 Reserved ++ (replicate 21 FreePlace
-      ++ (replicate 2 Used ++ (replicate 18 Stranded ++ replicate 7 FreePlace)));
-  held = record { start = 37; order = 0 } ∷ record { start = 38; order = 0 } ∷ [];
-  inflate = no_requests;
-  deflate = no_requests;
-  report = no_requests;
-  buffer = NoBuffer;
-  ballooned = replicate 64 false;
-  status = 0;
-  features = 0;
-  target = 9;
-  actual = 0;
-  last = no_statistics;
-  frames = full_frames;
-  contents = full_contents;
-  rogue = false;
-})
-reset = (refl, (refl, refl))
-
--- it may come at any status
-reset_of_a_failed_guest : refusal_of (record full { status = 131 }) Reset ∷ refusal_of down Reset
-    ∷ [] ≡ None ∷ None ∷ []
-reset_of_a_failed_guest = refl
-
--- ---- restart
-
 -- as plugged in, with the target kept: no frame, all unreserved pages free, honest
 abbrev renewed : Guest
 renewed = record {
@@ -106,6 +74,27 @@ renewed = record {
   contents = replicate 64 zero_page;
   rogue = false;
 }
+
+-- ---- reset
+
+-- giving, lent and taking pages are stranded, reporting ones free; requests, buffer, statistics,
+-- features and the ballooned set are gone; configuration, held blocks, target, frames and contents
+-- stay
+reset : HonestStep full Reset [] Done (record renewed {
+  places = replicate 16 Reserved ++ (replicate 21 FreePlace
+      ++ (replicate 2 Used ++ (replicate 18 Stranded ++ replicate 7 FreePlace)));
+  held = record { start = 37; order = 0 } ∷ record { start = 38; order = 0 } ∷ [];
+  frames = full_frames;
+  contents = full_contents;
+})
+reset = (refl, (refl, refl))
+
+-- it may come at any status
+reset_of_a_failed_guest : refusal_of (record full { status = 131 }) Reset ∷ refusal_of down Reset
+    ∷ [] ≡ None ∷ None ∷ []
+reset_of_a_failed_guest = refl
+
+-- ---- restart
 
 abbrev three_guests : Option Guest → World
 three_guests middle = record {

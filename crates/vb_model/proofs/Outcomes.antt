@@ -35,6 +35,8 @@ abbrev pub MayLose : ℕ → Guest → Type 0
 MayLose page g = (1 ≤ naming page g.inflate.taken) ⊎ (1 ≤ naming page g.report.taken)
     ⊎ ((is_ballooned g.ballooned page ≡ true) × (tells_host g ≡ true))
 
+-- places, blocks, requests, the buffer and ballooned pages may be others, and pages have lost their
+-- frames; or another target, a reset, a start, a write or a scribble
 pub data Outcome (call : Call) (g : Guest) (claims : List Claim) (reply : Reply) (new : Guest) :
     Type 0 where
   Shuffled : new ≡ shuffled g new → Outcome call g claims reply new

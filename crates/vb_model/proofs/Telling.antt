@@ -84,8 +84,7 @@ pub told_count : (g : Guest) → IsConsistent g → IsOrderly g → tells_host g
     → given_away g.places g.deflate ≡ count_by is_lent_or_taking g.places
 told_count g c o told = let rs = all_requests g.deflate in
     let same : (page : ℕ) → naming page rs ≡ one_if (is_taking (place_of g.places page)) = λ page.
-    taking_named page (tells_host g) (place_of g.places page) g.held g.inflate g.deflate g.report
-    (Rattle.vb_model.specs.Guest.is_ballooned g.ballooned page) told (c.pages page) in
+    taking_named page (tells_host g) _ _ g told (c.pages page) in
     let sound : AllRequestsSound rs =
     all_sound g.deflate.posted (g.deflate.taken ++ g.deflate.done) o.deflating.posted
     (all_sound g.deflate.taken g.deflate.done o.deflating.taken o.deflating.done) in

@@ -1,10 +1,10 @@
 -- What calls leave alone: the target, but for `target`; the configuration; and whether the guest is
 -- rogue, but for a scribble.
-use Rattle.std.proofs.Common.{Bool, List, ap, arith, false, inl, inr, refl, true, ℕ, ◌∙◌, ◌≡◌, ◌≢◌}
-use Rattle.std.{proofs.Common.◌⊎◌, specs.Prelude.{MatchBool, Option}}
-use Rattle.vb_model.proofs.Outcomes.{Begun, Cleared, Emptied, Outcome, Put, Retargeted, Shuffled}
-use Rattle.vb_model.{proofs.Outcomes.{Turned, outcome}, specs.{Guest.Guest, Rogue.GuestStep}}
-use Rattle.vb_model.specs.{Rogue.{IsRogueAfter, RogueStep, target_after}, Step.HonestStep}
+use Rattle.std.proofs.Common.{List, ap, arith, inl, inr, refl, true, ℕ, ◌∙◌, ◌≡◌, ◌≢◌, ◌⊎◌}
+use Rattle.std.specs.Prelude.{Option}
+use Rattle.vb_model.proofs.{Cases.by_kind, Outcomes.{Begun, Cleared, Emptied, Outcome, Put}}
+use Rattle.vb_model.{proofs.Outcomes.{Retargeted, Shuffled, Turned, outcome}, specs.Guest.Guest}
+use Rattle.vb_model.specs.{Rogue.{GuestStep, IsRogueAfter, target_after}, Step.HonestStep}
 use Rattle.vb_model.specs.declared.calls.Call.{Call, TheVariants.{Scribble, SetTarget}}
 use Rattle.vb_model.specs.declared.{calls.Claim.Claim, replies.Reply.Reply}
 
@@ -75,18 +75,14 @@ MayBeRogue g call = (g.rogue ≡ true) ⊎ IsScribble call
 pub step_keeps : (g : Guest) (call : Call) (claims : List Claim) (reply : Reply) (new : Guest)
     → GuestStep g call claims reply new
     → Keeps (MayBeRogue g call) (target_after call g.target) g new
-step_keeps g call claims reply new s = cases g.rogue refl s where
-  widen : Keeps (IsScribble call) (target_after call g.target) g new
-      → Keeps (MayBeRogue g call) (target_after call g.target) g new
-  widen k = record { aimed = k.aimed; config = k.config; rogue = wider k.rogue } where
-    wider : (new.rogue ≡ g.rogue) ⊎ (IsScribble call × IsRogueAfter g new)
-        → (new.rogue ≡ g.rogue) ⊎ (MayBeRogue g call × IsRogueAfter g new)
-    wider (inl e) = inl e
-    wider (inr (why, r)) = inr (inr why, r)
-
-  cases : (b : Bool) → g.rogue ≡ b
-      → MatchBool b (RogueStep g call claims reply new) (HonestStep g call claims reply new)
-      → Keeps (MayBeRogue g call) (target_after call g.target) g new
-  cases true e r = record
-      { aimed = r.target; config = r.stays.config; rogue = inr (inl e, r.stays) }
-  cases false e p = widen (honest_keep call g claims reply new p)
+step_keeps g call claims reply new s = by_kind g call claims reply new s
+    (λ e r. record { aimed = r.target; config = r.stays.config; rogue = inr (inl e, r.stays) })
+    (λ honest p. widen (honest_keep call g claims reply new p))
+  where
+    widen : Keeps (IsScribble call) (target_after call g.target) g new
+        → Keeps (MayBeRogue g call) (target_after call g.target) g new
+    widen k = record { aimed = k.aimed; config = k.config; rogue = wider k.rogue } where
+      wider : (new.rogue ≡ g.rogue) ⊎ (IsScribble call × IsRogueAfter g new)
+          → (new.rogue ≡ g.rogue) ⊎ (MayBeRogue g call × IsRogueAfter g new)
+      wider (inl e) = inl e
+      wider (inr (why, r)) = inr (inr why, r)

@@ -1,13 +1,13 @@
 -- Which calls claim frames, and what a refusal for want of frames or of memory means.
 use Rattle.std.proofs.Common.{Bool, List, [], ap, arith, cond, false, inl, inr, length, refl, sym}
 use Rattle.std.proofs.{Common.{true, ℕ, ◌<◌, ◌∙◌, ◌∷◌, ◌≡◌, ◌⊎◌}, lemmas.Bool.{eq-eqb, not-true}}
-use Rattle.std.{proofs.lemmas.Bool.{or_left, or_right}, specs.{List.list_all, Prelude.MatchBool}}
-use Rattle.std.specs.Prelude.{None, Option, Some, is_none, not, ◌&&◌, ◌==◌, ◌||◌}
-use Rattle.vb_model.proofs.{Cases.{all_filtered, match_cases}, Performed.{Performed, honest_case}}
-use Rattle.vb_model.{proofs.Tables.list_all-at, specs.Driver.{AreClaimsFor, claim_refusal}}
-use Rattle.vb_model.specs.{Driver.pages_needed, Guest.{Guest, frame_of}, HostFrames.Gives}
-use Rattle.vb_model.specs.{Layout.start_pages, Life.lacking, Refusals.{Cause, causes}}
-use Rattle.vb_model.specs.{Refusals.{first_refusal, refusal_of}, Rogue.{GuestStep, RogueStep}}
+use Rattle.std.{proofs.lemmas.Bool.{or_left, or_right}, specs.{List.list_all, Prelude.None}}
+use Rattle.std.specs.Prelude.{Option, Some, is_none, not, ◌&&◌, ◌==◌, ◌||◌}
+use Rattle.vb_model.proofs.{Cases.{all_filtered, by_kind, match_cases}, Performed.Performed}
+use Rattle.vb_model.{proofs.{Performed.honest_case, Tables.list_all-at}, specs.Driver.AreClaimsFor}
+use Rattle.vb_model.specs.{Driver.{claim_refusal, pages_needed}, Guest.{Guest, frame_of}}
+use Rattle.vb_model.specs.{HostFrames.Gives, Layout.start_pages, Life.lacking, Refusals.Cause}
+use Rattle.vb_model.specs.{Refusals.{causes, first_refusal, refusal_of}, Rogue.GuestStep}
 use Rattle.vb_model.specs.Rogue.{after_refused, is_read, pages_to_back, unless_refused}
 use Rattle.vb_model.specs.{Step.HonestStep, StepLaws.{ClaimsAreNeeded, NeededPagesAreBare}}
 use Rattle.vb_model.specs.StepLaws.{NoFrameIsExact, NoMemoryIsExact, RefusedClaimsAreAnswered}
@@ -47,20 +47,14 @@ performs_refused (Scribble page offset bytes) g claims reply new refusal s r = g
 performs_refused call g claims reply new refusal s r = absurd (none_refused claims refusal s.0 r)
 
 pub refused_claims : RefusedClaimsAreAnswered
-refused_claims g call claims reply new refusal s r = cases g.rogue s where
-  answered : (x : Refusal) → x ≡ refusal → (reply ≡ Refused x) × (new.frames ≡ g.frames)
-      → (reply ≡ Refused refusal) × (new.frames ≡ g.frames)
-  answered x e k = (k.0 ∙ ap Refused e, k.1)
-
-  cases : (b : Bool) → MatchBool b (RogueStep g call claims reply new)
-      (HonestStep g call claims reply new) → (reply ≡ Refused refusal) × (new.frames ≡ g.frames)
-  cases true k = grind arith
-  cases false p =
-      elim (match_cases (refusal_of g call) (Performed call g claims reply new)
-      (λ refusal. (claims ≡ []) × (reply ≡ Refused refusal) × (new ≡ g)) (honest_case g call claims reply new p)) [
-        | inl d ↦ performs_refused call g claims reply new refusal d.1 r
-        | inr k ↦ absurd (none_refused claims refusal k.2.0 r)
-      ]
+refused_claims g call claims reply new refusal s r = by_kind g call claims reply new s
+    (λ rogue k. grind arith)
+    (λ honest p. elim (match_cases (refusal_of g call) (Performed call g claims reply new)
+    (λ refusal. (claims ≡ []) × (reply ≡ Refused refusal) × (new ≡ g))
+    (honest_case g call claims reply new p)) [
+      | inl d ↦ performs_refused call g claims reply new refusal d.1 r
+      | inr k ↦ absurd (none_refused claims refusal k.2.0 r)
+    ])
 
 -- ---- the pages that get frames had none
 
@@ -170,14 +164,12 @@ honest_lack g call claims why new s w =
 -- the call's claims ended without a frame
 step_lacks : (g : Guest) (call : Call) (claims : List Claim) (new : Guest)
     → GuestStep g call claims (Refused NoFrame) new → claim_refusal claims ≡ Some NoFrame
-step_lacks g call claims new s = cases g.rogue s where
-  cases : (b : Bool) → MatchBool b (RogueStep g call claims (Refused NoFrame) new)
-      (HonestStep g call claims (Refused NoFrame) new) → claim_refusal claims ≡ Some NoFrame
-  cases true r = r.no_frame refl
-  cases false p = elim (honest_lack g call claims NoFrame new p refl) [
-    | inl lacks ↦ lacks.0
-    | inr read ↦ absurd (let e : NoFrame ≡ NoMemory = read.1 in cc)
-  ]
+step_lacks g call claims new s = by_kind g call claims (Refused NoFrame) new s
+    (λ rogue r. r.no_frame refl)
+    (λ honest p. elim (honest_lack g call claims NoFrame new p refl) [
+      | inl lacks ↦ lacks.0
+      | inr read ↦ absurd (let e : NoFrame ≡ NoMemory = read.1 in cc)
+    ])
 
 pub no_frame_exact : NoFrameIsExact
 no_frame_exact w v n call g here s = grind (arith, step_lacks, claims_needed, want)
@@ -189,25 +181,22 @@ pub unsupplied : (idle : Bool) (o : Option Refusal) (why : Refusal) (old new : G
 unsupplied idle o why old new e = grind arith
 
 pub no_memory_exact : NoMemoryIsExact
-no_memory_exact g call claims new s = cases g.rogue s where
-  left : (c : Call) → (claim_refusal claims ≡ Some NoMemory) ⊎ (is_read c ≡ true)
-      → after_refused c NoMemory claims g ≡ g
-  left (Init wanted) (inl e) = unsupplied (g.status == 0) (claim_refusal claims) NoMemory g _ e
-  left (Init wanted) (inr e) = absurd cc
-  left c e = refl
+no_memory_exact g call claims new s = by_kind g call claims (Refused NoMemory) new s
+    (λ rogue r. let by_cause = caused (r.no_memory refl) in
+    (by_cause, r.refused NoMemory refl ∙ left call by_cause))
+    (λ honest p. elim (honest_lack g call claims NoMemory new p refl) [
+      | inl lacks ↦ (inl lacks.0, lacks.1)
+      | inr read ↦ (inr read.0, read.2)
+    ])
+  where
+    left : (c : Call) → (claim_refusal claims ≡ Some NoMemory) ⊎ (is_read c ≡ true)
+        → after_refused c NoMemory claims g ≡ g
+    left (Init wanted) (inl e) = unsupplied (g.status == 0) (claim_refusal claims) NoMemory g _ e
+    left (Init wanted) (inr e) = absurd cc
+    left c e = refl
 
-  caused : (claim_refusal claims ≡ Some NoMemory)
-      ⊎ ((page : ℕ) × (offset : ℕ) × (len : ℕ) × (call ≡ Read page offset len))
-      → (claim_refusal claims ≡ Some NoMemory) ⊎ (is_read call ≡ true)
-  caused (inl e) = inl e
-  caused (inr (page, offset, len, is)) = inr (ap is_read is)
-
-  cases : (b : Bool) → MatchBool b (RogueStep g call claims (Refused NoMemory) new)
-      (HonestStep g call claims (Refused NoMemory) new)
-      → ((claim_refusal claims ≡ Some NoMemory) ⊎ (is_read call ≡ true)) × (new ≡ g)
-  cases true r = let by_cause = caused (r.no_memory refl) in
-      (by_cause, r.refused NoMemory refl ∙ left call by_cause)
-  cases false p = elim (honest_lack g call claims NoMemory new p refl) [
-    | inl lacks ↦ (inl lacks.0, lacks.1)
-    | inr read ↦ (inr read.0, read.2)
-  ]
+    caused : (claim_refusal claims ≡ Some NoMemory)
+        ⊎ ((page : ℕ) × (offset : ℕ) × (len : ℕ) × (call ≡ Read page offset len))
+        → (claim_refusal claims ≡ Some NoMemory) ⊎ (is_read call ≡ true)
+    caused (inl e) = inl e
+    caused (inr (page, offset, len, is)) = inr (ap is_read is)

@@ -1,5 +1,6 @@
-use Rattle.vb_model.proofs.Runs.{run_is_consistent}
+use Rattle.vb_model.proofs.Runs.{fit_at}
 use Rattle.vb_model.proofs.laws.honest_guests_are_consistent.Goals as goal
 
 pub returns : goal.returns
-returns c = record { consistent = run_is_consistent }
+returns c =
+    record { consistent = λ frames spares h r n i g honest. (fit_at frames spares h r n i g honest).consistent }

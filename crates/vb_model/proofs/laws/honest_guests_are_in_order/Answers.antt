@@ -1,5 +1,6 @@
-use Rattle.vb_model.proofs.Runs.{run_is_orderly}
+use Rattle.vb_model.proofs.Runs.{fit_at}
 use Rattle.vb_model.proofs.laws.honest_guests_are_in_order.Goals as goal
 
 pub returns : goal.returns
-returns c = record { orderly = run_is_orderly }
+returns c =
+    record { orderly = λ frames spares h r n i g honest. (fit_at frames spares h r n i g honest).orderly }
