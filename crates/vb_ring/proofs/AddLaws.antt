@@ -66,8 +66,6 @@ next_low r h single next =
           | inl z ↦ absurd (omega (arith, first, ap (slice_index (free_descriptors r)) z, found.2))
           | inr ne ↦ absurd (omega (
             arith,
-            first,
             numbers_rise (is_unused r.owner) r.size 0 found.0 (omega (arith, ne)) found.1,
-            found.2,
           ))
         ]

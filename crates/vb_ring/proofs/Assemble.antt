@@ -1,27 +1,26 @@
 -- The contracts of the ring's calls, put together from what their parts give.
-use Rattle.std.specs.Prelude.{◌≡◌, ◌≢◌, ℕ, ◌+◌, ◌*◌, ◌%◌, ◌<◌, ◌≤◌, nat_lt, Bool, true}
 use Rattle.std.specs.Prelude.{false, List, [], ◌∷◌, ◌++◌, Option, Some, None, Result, Ok, Err}
-use Rattle.std.specs.Prelude.{if◌then◌else◌, length, slice_get, slice_index, slice_index_or, refl}
-use Rattle.std.{proofs.Common.{sym, ◌∙◌, ap, subst, arith, inl, inr}, proofs.lemmas.Bool.cases_eq}
-use Rattle.std.{proofs.lemmas.Bool.le-ltb, proofs.lemmas.Option.{slice_get-get_or, slice_get_past}}
+use Rattle.std.proofs.lemmas.{Bool.{cases_eq, le-ltb}, Option.{slice_get-get_or, slice_get_past}}
 use Rattle.std.proofs.lemmas.List.{length_push, length-map, get_or-map, length-take, get_or_past}
-use Rattle.vb_ring.specs.Ends.{DriverEnd, IsDriverEnd, DeviceEnd, IsDeviceEnd, free_descriptors}
-use Rattle.vb_ring.specs.Ends.{next_path, claimed, released, outstanding, after_add, used_answer}
+use Rattle.std.specs.Prelude.{if◌then◌else◌, length, slice_get, slice_index, slice_index_or, refl}
+use Rattle.std.proofs.Common.{sym, ◌∙◌, ap, subst, arith, inl, inr}
 use Rattle.vb_ring.proofs.MeaningLaws.{times-push, fewer_used, added_tracks, tracks_shows}
 use Rattle.vb_ring.proofs.MeaningLaws.{next_used_out, taken_tracks, used_shows, next_path-free}
 use Rattle.vb_ring.specs.Calls.{PutsAvail, Publishes, Links, AddsBy, TakesUsedBy, PutsUsed}
+use Rattle.vb_ring.specs.Ends.{DriverEnd, IsDriverEnd, DeviceEnd, IsDeviceEnd, free_descriptors}
+use Rattle.vb_ring.specs.Ends.{next_path, claimed, released, outstanding, after_add, used_answer}
+use Rattle.vb_ring.specs.{Calls.AddsUsedBy, declared.driver.RingBroken.TheVariants.NotOutstanding}
+use Rattle.vb_ring.specs.declared.driver.{Full.TheVariants.TooFewFree, RingBroken.RingBroken}
+use Rattle.vb_ring.proofs.{MeaningLaws.{next_path-rise, next_path-lowest}, Numbers.length-numbers}
+use Rattle.vb_ring.{proofs.FrameLaws.outside_in, specs.{Layout.Fits, declared.layout.Layout.Layout}}
+use Rattle.vb_ring.{proofs.Puts.publishes, specs.{Ends.after_take, Kept.IsFreeChain}}
 use Rattle.vb_ring.proofs.EntryLaws.{publishes_entries, puts_entries, puts_descriptors, id_shown}
+use Rattle.vb_ring.{proofs.OwnerLaws.not_in, specs.Entries.{is_own, is_head, next_id, only_head}}
 use Rattle.vb_ring.specs.Meaning.{UsedElem, no_elem, ids, Shows, ShowsEntries, Tracks}
-use Rattle.vb_ring.{specs.declared.driver.RingBroken.TheVariants.NotOutstanding, specs.Layout.Fits}
-use Rattle.vb_ring.{proofs.MeaningLaws.{next_path-rise, next_path-lowest}, proofs.OwnerLaws.not_in}
-use Rattle.vb_ring.{specs.Entries.{is_own, is_head, next_id, only_head}, specs.Kept.IsFreeChain}
-use Rattle.vb_ring.{specs.declared.driver.Full.TheVariants.TooFewFree, proofs.FrameLaws.outside_in}
-use Rattle.vb_ring.{specs.declared.driver.RingBroken.RingBroken, proofs.Numbers.length-numbers}
-use Rattle.vb_ring.{specs.declared.layout.Layout.Layout, specs.Calls.AddsUsedBy}
-use Rattle.vb_ring.{proofs.Puts.publishes, specs.Ends.after_take}
 use Rattle.vb_ram.specs.Pages.{Pages, SameBut}
-use Rattle.vb_chain.{specs.declared.pieces.Piece.Piece, specs.Table.descriptor_at}
-use Rattle.vb_chain.{proofs.TableLaws.descriptor_kept, specs.Written.{linked, IsRoute}}
+use Rattle.vb_chain.{proofs.TableLaws.descriptor_kept, specs.declared.pieces.Piece.Piece}
+use Rattle.vb_chain.specs.{Table.descriptor_at, Written.{linked, IsRoute}}
+use Rattle.std.specs.Prelude.{◌≡◌, ◌≢◌, ℕ, ◌+◌, ◌*◌, ◌%◌, ◌<◌, ◌≤◌, nat_lt, Bool, true}
 
 -- ---- add
 
@@ -177,11 +176,7 @@ adds_along m1 m2 m3 r pieces path new along is_end some len put others table w o
     let ok : AddsBy m1 m3 r (after_add r n (Ok (slice_index path 0))) pieces
     (Ok (slice_index path 0)) = adds_ok m1 m3 r pieces (slice_index path 0) is_end some enough
     (ap (λ (xs : List ℕ). slice_index xs 0) (sym along))
-    (subst (λ (xs : List ℕ). Links m1 m3 r.layout r.size xs pieces) along links) pubs in
-    subst (λ (xs : List (Option ℕ)). AddsBy m1 m3 r
-    (record r { published = (r.published + 1) % 65536; owner = xs }) pieces
-    (Ok (slice_index path 0)))
-    (sym (owner ∙ ap (λ (xs : List ℕ). claimed xs (slice_index path 0) r.owner) along)) ok
+    (subst (λ (xs : List ℕ). Links m1 m3 r.layout r.size xs pieces) along links) pubs in grind arith
 
 pub takes_after : (mem : Pages) (r : DriverEnd) (new : List (Option ℕ)) (id : ℕ)
     → IsDriverEnd r → next_id mem r.layout r.size r.seen (outstanding r) ≡ Ok (Some id)

@@ -1,18 +1,18 @@
 -- What a write does to the lists that the rings show, and what stands next in them.
-use Rattle.std.specs.Prelude.{◌≡◌, ◌≢◌, ℕ, ◌+◌, ◌-◌, ◌*◌, ◌%◌, ◌<◌, ◌≤◌, List, ◌∷◌, [], ◌++◌}
-use Rattle.std.{specs.Prelude.{length, slice_get, Some, None, Ok}, proofs.lemmas.List.length_push}
-use Rattle.std.proofs.lemmas.List.{get_or_append_left, get_or_push, length-map, get_or-map}
-use Rattle.std.proofs.{Common.{sym, ◌∙◌, ap, arith, inl, inr}, lemmas.Grind.common_steps}
-use Rattle.std.proofs.lemmas.{Option.{slice_get-get_or, slice_get_past}, Nat.mod_below}
-use Rattle.std.proofs.{lemmas.Bool.cases_eq, Math.Nat.{mod-mod_of_dvd, dvd_of_mod-eq-zero}}
-use Rattle.vb_ram.specs.Pages.{byte_at, page_at, Pages, field, SameIn}
+use Rattle.std.proofs.lemmas.List.{length_push, get_or_append_left, get_or_push, length-map}
+use Rattle.std.proofs.lemmas.{Bool.cases_eq, Option.{slice_get-get_or, slice_get_past}}
+use Rattle.std.proofs.{Math.Nat.{mod-mod_of_dvd, dvd_of_mod-eq-zero}, lemmas.List.get_or-map}
+use Rattle.std.{proofs.lemmas.Grind.common_steps, specs.Prelude.{length, slice_get, Some, None, Ok}}
+use Rattle.std.proofs.Common.{sym, ◌∙◌, ap, arith, inl, inr}
 use Rattle.vb_ram.proofs.FieldLaws.{same_page, field_in}
-use Rattle.vb_chain.{specs.Table.descriptor_at, proofs.TableLaws.descriptor_kept}
+use Rattle.vb_ram.specs.Pages.{byte_at, page_at, Pages, field, SameIn}
+use Rattle.vb_chain.{proofs.TableLaws.descriptor_kept, specs.Table.descriptor_at}
 use Rattle.vb_ring.specs.Entries.{avail_index, avail_place, used_index, used_place, ahead}
-use Rattle.vb_ring.{specs.declared.layout.Layout.Layout, specs.Layout.{IsSize, Fits}}
-use Rattle.vb_ring.specs.Entries.{used_ahead, next_by, next_entry, next_id}
+use Rattle.vb_ring.proofs.FrameLaws.{outside_in}
+use Rattle.vb_ring.specs.{Calls.{PutsUsed, Publishes}, declared.layout.Layout.Layout}
 use Rattle.vb_ring.specs.Meaning.{UsedElem, no_elem, ids, ShowsAvail, ShowsUsed, ShowsEntries}
-use Rattle.vb_ring.{proofs.FrameLaws.outside_in, specs.Calls.{PutsUsed, Publishes}}
+use Rattle.vb_ring.specs.{Entries.{used_ahead, next_by, next_entry, next_id}, Layout.{IsSize, Fits}}
+use Rattle.std.specs.Prelude.{◌≡◌, ◌≢◌, ℕ, ◌+◌, ◌-◌, ◌*◌, ◌%◌, ◌<◌, ◌≤◌, List, ◌∷◌, [], ◌++◌}
 
 -- ---- places
 
@@ -73,22 +73,10 @@ pub publishes_entries : (old new : Pages) (l : Layout) (q next head : ℕ) (head
     ≡ next → ShowsEntries old l q heads elems → ShowsEntries new l q (heads ++ head ∷ []) elems
 publishes_entries old new l q next head heads elems fits w at shows = record {
   avail = avail_grown old new l q next head heads fits.size at w.entry w.index (λ k apart.
-      let mine = mod_below k q (omega (arith, fits.size.least)) in
-      field_in 2 old new l.avail.page _ _ (avail_place l q k)
-      (outside_in old new _ l.avail.page (avail_place l q k) (avail_place l q k + 2) w.rest
-      (λ o low high. (
-        (λ i. omega (arith, i.to, fits.table_avail i.page)),
-        ((λ i. omega (arith, i.from, i.to, apart)), ((λ i. omega (arith, i.to)), tt)),
-      ))) (omega arith) (omega arith)) shows.avail;
+      grind (arith, field_in)) shows.avail;
   used = used_kept old new l q elems fits.size (outside_in old new _ l.used.page
       (l.used.offset + 2) (l.used.offset + (6 + 8 * q)) w.rest (λ o low high.
-      let mine = mod_below next q (omega (arith, fits.size.least)) in (
-        (λ i. omega (arith, i.to, fits.table_used i.page)),
-        (
-          (λ i. omega (arith, i.to, fits.avail_used i.page, mine)),
-          ((λ i. omega (arith, i.to, fits.avail_used i.page)), tt),
-        ),
-      ))) shows.used;
+      grind arith)) shows.used;
 }
 
 -- What a use writes shows one element more, and the same heads.
@@ -98,10 +86,7 @@ pub puts_entries : (old new : Pages) (l : Layout) (q next head count : ℕ) (hea
     → ShowsEntries new l q heads (elems ++ record { id = head; len = count } ∷ [])
 puts_entries old new l q next head count heads elems fits w at shows = record {
   avail = avail_kept old new l q heads fits.size (outside_in old new _ l.avail.page
-      (l.avail.offset + 2) (l.avail.offset + (6 + 2 * q)) w.rest (λ o low high. (
-        (λ i. omega (arith, i.from, fits.avail_used (sym i.page))),
-        ((λ i. omega (arith, i.from, fits.avail_used (sym i.page))), tt),
-      ))) shows.avail;
+      (l.avail.offset + 2) (l.avail.offset + (6 + 2 * q)) w.rest (λ o low high. grind arith)) shows.avail;
   used = used_grown old new l q next head count elems fits.size at w.id w.len w.index (λ k apart.
       outside_in old new _ l.used.page (used_place l q k) (used_place l q k + 8) w.rest
       (λ o low high.

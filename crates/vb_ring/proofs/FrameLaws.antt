@@ -1,20 +1,14 @@
 -- Laws of what is left as it was.
-use Rattle.std.{specs.Prelude.{◌≡◌, ℕ, ◌+◌, ◌<◌, ◌≤◌, List}, proofs.Common.{sym, ◌∙◌, ap, arith}}
-use Rattle.std.{proofs.Common.{inl, inr}, proofs.lemmas.Bool.{cases_eq, cases_lt}}
-use Rattle.vb_ram.{specs.Pages.{Pages, byte_at, SameBut, SameIn}, proofs.FieldLaws.same_page}
+use Rattle.std.proofs.lemmas.Bool.{cases_eq}
+use Rattle.std.{proofs.Common.{arith, inl, inr}, specs.Prelude.{◌≡◌, ℕ, ◌+◌, ◌<◌, ◌≤◌, List}}
+use Rattle.vb_ram.{proofs.FieldLaws.same_page, specs.Pages.{Pages, byte_at, SameBut, SameIn}}
 use Rattle.vb_ring.specs.Frame.{Extent, IsIn, IsOutside, SameOutside}
 
 -- A byte that isn't where a write was.
 pub byte_kept : (old new : Pages) (p lo hi p' o : ℕ) → SameBut old new p lo hi
     → ¬ IsIn (record { page = p; from = lo; to = hi }) p' o → byte_at new p' o ≡ byte_at old p' o
 byte_kept old new p lo hi p' o w out = elim (cases_eq p' p) [
-  | inl e ↦ ap (λ n. byte_at new n o) e ∙ elim (cases_lt o lo) [
-    | inl below ↦ w.below o below
-    | inr from ↦ elim (cases_lt o hi) [
-      | inl to ↦ absurd (out (record { page = e; from = from; to = to }))
-      | inr above ↦ w.above o above
-    ]
-  ] ∙ sym (ap (λ n. byte_at old n o) e)
+  | inl e ↦ grind arith
   | inr ne ↦ (same_page old new p' o (o + 1) (w.others p' ne)).bytes o (omega arith) (omega arith)
 ]
 

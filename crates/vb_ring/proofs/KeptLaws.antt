@@ -1,15 +1,15 @@
 -- What the driver's table keeps, after each change of the owners.
-use Rattle.std.specs.Prelude.{◌≡◌, ◌≢◌, ℕ, ◌+◌, ◌-◌, ◌<◌, ◌≤◌, Bool, true, false, List, Option}
-use Rattle.std.specs.Prelude.{Some, None, ◌++◌, if◌then◌else◌, replicate, take, length, slice_index}
-use Rattle.std.{specs.Prelude.{slice_index_or, refl, is_none}, proofs.lemmas.List.length-map}
-use Rattle.std.proofs.lemmas.List.{get_or-set_same, get_or-set_other, take_at, length-replicate}
-use Rattle.std.proofs.{lemmas.Bool.cases_eq, Common.{sym, ◌∙◌, ap, subst, arith, inl, inr, set}}
-use Rattle.vb_model.{specs.Tests.is_in, proofs.Tables.length-each_from}
-use Rattle.vb_ring.proofs.OwnerLaws.{Claims, claims, Releases, releases, is_in-some, some_same}
-use Rattle.vb_ring.proofs.OwnerLaws.{is_in-at, own_some, head_inside, fresh_free, claimed-at}
-use Rattle.vb_ring.{specs.Kept.{LiesBetween, AreKept, IsFreeChain}, specs.Entries.{is_own, is_head}}
-use Rattle.vb_ring.{proofs.Numbers.{numbers_none, numbers_has}, proofs.OwnerLaws.released-at}
-use Rattle.vb_ring.{specs.Ends.{is_unused, claimed, released}, specs.Numbers.numbers}
+use Rattle.std.proofs.lemmas.List.{length-map, get_or-set_same, get_or-set_other, take_at}
+use Rattle.std.specs.Prelude.{◌≡◌, ℕ, ◌+◌, ◌-◌, ◌<◌, ◌≤◌, Bool, true, false, List, Option, Some}
+use Rattle.std.specs.Prelude.{None, ◌++◌, if◌then◌else◌, replicate, take, length, slice_index}
+use Rattle.std.{proofs.lemmas.List.length-replicate, specs.Prelude.{slice_index_or, refl, is_none}}
+use Rattle.std.proofs.Common.{sym, ◌∙◌, ap, subst, arith, set}
+use Rattle.vb_model.{proofs.Tables.length-each_from, specs.Tests.is_in}
+use Rattle.vb_ring.proofs.OwnerLaws.{Claims, claims, Releases, releases, is_in-some, is_in-at}
+use Rattle.vb_ring.specs.Ends.{is_unused, claimed, released}
+use Rattle.vb_ring.specs.{Kept.{LiesBetween, AreKept, IsFreeChain}, Numbers.numbers}
+use Rattle.vb_ring.{proofs.Numbers.{numbers_none, numbers_has}, specs.Entries.{is_own, is_head}}
+use Rattle.vb_ring.proofs.OwnerLaws.{own_some, head_inside, fresh_free, claimed-at, released-at}
 
 -- How many heads a table has, by its length.
 heads_of : (owner : List (Option ℕ)) (n m : ℕ) → n ≡ m
@@ -44,25 +44,9 @@ claim_keeps owner count out from last path h e kept room chain first end =
     get_or-set_same last h e 0 (omega (arith, begin, kept.size, kept.few, room)) in record {
       size = len ∙ kept.size;
       few = kept.few;
-      heads = omega (
-        arith,
-        kept.heads,
-        claim.count (length owner) begin,
-        heads_of new (length new) (length owner) len,
-      );
+      heads = omega (arith, heads_of new (length new) (length owner) len);
       within = λ i j own. within_by claim here i j own (is_in i path) refl;
-      ends = λ j is. elim (cases_eq j h) [
-        | inl same ↦ omega (
-          arith,
-          ap (slice_index (set last h e)) same,
-          here,
-          end,
-          chain.inside (length path - 1) (omega arith),
-          kept.size,
-        )
-        | inr ne ↦
-            omega (arith, get_or-set_other last h j e 0 ne, kept.ends j (claim.same j ne ∙ is))
-      ];
+      ends = grind (arith, get_or-set_other);
       begin = omega (arith, end, chain.inside (length path - 1) (omega arith), kept.size);
       taken = λ i l. taken_by i l (is_in i path) refl (is_unused owner i) refl;
     }
@@ -78,58 +62,22 @@ claim_keeps owner count out from last path h e kept room chain first end =
         ap is_none (at_path i ∙ ap (λ (b : Bool). if b then Some h else slice_index_or owner i None) on)
     taken_by i l false on false free = ap is_none
         (at_path i ∙ ap (λ (b : Bool). if b then Some h else slice_index_or owner i None) on) ∙ free
-    taken_by i l false on true free = elim (cases_eq i e) [
-      | inl same ↦
-          let there : is_in i path ≡ true = ap (λ n. is_in n path) (same ∙ sym end)
-          ∙ is_in-at path (length path - 1) (omega (arith, chain.some)) in
-          (let wrong : true ≡ false = sym there ∙ on in cc)
-      | inr ne ↦
-          let there : is_in i path ≡ true = chain.lowest i free (omega (arith, l, ne, end)) in
-          (let wrong : true ≡ false = sym there ∙ on in cc)
-    ]
+    taken_by i l false on true free = grind (arith, is_in-at)
 
     -- a place of the path lies between its ends
     from_first : (k : ℕ) → k < length path → h ≤ slice_index path k
-    from_first k l = elim (cases_eq k 0) [
-      | inl is ↦ omega (arith, first, ap (slice_index path) is)
-      | inr ne ↦ omega (arith, first, chain.rise 0 k (omega (arith, ne)) l)
-    ]
+    from_first k l = grind arith
 
     to_last : (k : ℕ) → k < length path → slice_index path k ≤ e
-    to_last k l = elim (cases_eq k (length path - 1)) [
-      | inl is ↦ omega (arith, end, ap (slice_index path) is)
-      | inr ne ↦ omega (
-        arith,
-        end,
-        chain.rise k (length path - 1) (omega (arith, ne, l)) (omega (arith, l)),
-      )
-    ]
+    to_last k l = grind arith
 
     within_by : Claims owner (claimed path h owner) path h → slice_index (set last h e) h ≡ e
         → (i j : ℕ) → slice_index_or (claimed path h owner) i None ≡ Some j
         → (b : Bool) → is_in i path ≡ b → LiesBetween (claimed path h owner) (set last h e) i j
-    within_by claim here i j own true is = let found = is_in-some path i is in
-        let head : h ≡ j = some_same h j (sym (claim.mine found.0 found.1)
-        ∙ ap (λ n. slice_index_or (claimed path h owner) n None) found.2 ∙ own) in record {
-          out = ap (is_head (claimed path h owner)) (sym head) ∙ claim.after;
-          from = omega (arith, head, from_first found.0 found.1, found.2);
-          to = omega (
-            arith,
-            to_last found.0 found.1,
-            found.2,
-            here,
-            ap (slice_index (set last h e)) head,
-          );
-        }
+    within_by claim here i j own true is = grind (arith, is_in-some, to_last)
     within_by claim here i j own false is =
         let old : LiesBetween owner last i j = kept.within i j (sym (claim.rest i is) ∙ own) in
-        let ne : j ≢ h = λ same.
-        (let wrong : true ≡ false = sym old.out ∙ ap (is_head owner) same ∙ claim.before in cc) in
-        record {
-          out = sym (claim.same j ne) ∙ old.out;
-          from = old.from;
-          to = omega (arith, old.to, get_or-set_other last h j e 0 ne);
-        }
+        grind (arith, get_or-set_other)
 
 -- A chain less is out.
 pub release_keeps : (owner : List (Option ℕ)) (count out from to : ℕ) (last : List ℕ) (h : ℕ)
@@ -144,7 +92,6 @@ release_keeps owner count out from to last h kept is below low =
       few = kept.few;
       heads = omega (
         arith,
-        kept.heads,
         release.count (length owner) (head_inside owner h is),
         heads_of new (length new) (length owner) len,
       );
@@ -152,11 +99,7 @@ release_keeps owner count out from to last h kept is below low =
           let was = release.was i j own in
           let old : LiesBetween owner last i j = kept.within i j was.0 in
           record { out = release.same j was.1 ∙ old.out; from = old.from; to = old.to };
-      ends = λ j out. kept.ends j (elim (cases_eq j h) [
-        | inl same ↦
-            (let wrong : true ≡ false = sym out ∙ ap (is_head new) same ∙ release.gone in cc)
-        | inr ne ↦ sym (release.same j ne) ∙ out
-      ]);
+      ends = grind arith;
       begin = omega (arith, kept.begin, below);
       taken = λ i l. taken_by i (omega (arith, l, low)) (kept.taken i (omega (arith, l, below)))
           (is_own h (slice_index_or owner i None)) refl;
@@ -180,11 +123,7 @@ pub claim_after : (owner new more : List (Option ℕ)) (count out from : ℕ) (l
 claim_after owner new more count out from last path at h e kept room chain first end place is =
     let after : AreKept (claimed path h owner) count (out + 1) (set last h e) (e + 1) =
     claim_keeps owner count out from last path h e kept room chain first end in
-    let whole : take count (new ++ more) ≡ claimed path h owner =
-    take_at new more count (ap length is ∙ after.size) ∙ is in
-    subst (λ (xs : List (Option ℕ)). AreKept xs count (out + 1) (set last at e) (e + 1)) (sym whole)
-    (subst (λ (n : ℕ). AreKept (claimed path h owner) count (out + 1) (set last n e) (e + 1))
-    (sym place) after)
+    grind (arith, take_at)
 
 pub release_after : (owner new more : List (Option ℕ)) (count out from to : ℕ) (last : List ℕ)
     (h : ℕ) → AreKept owner count out last from → is_head owner h ≡ true → to ≤ from → to ≤ h

@@ -128,19 +128,7 @@ path_first d e q j Good path whole same good (suc n) h =
     λ k l. get_or-take (suc n + 1) path k 0 (omega arith) in
     let kept : (k : ℕ) → k < n + 1 → e (slice_index path k) ≡ d (slice_index path k) = λ k l. same
     (slice_index path k) (whole.inside k (omega arith)) (subst Good (get_or-take (n + 1) path k 0 l)
-    (good (take (n + 1) path) before k (omega (arith, len)))) in record {
-      is_path = record {
-        some = omega (arith, more);
-        begins = at 0 (omega arith) ∙ whole.is_path.begins;
-        onward = λ k l. ap (λ i. has_next (d i)) (at k (omega (arith, more))) ∙ ap has_next
-            (sym (kept k (omega (arith, more)))) ∙ whole.is_path.onward k (omega (arith, more));
-        linked = λ k l. ap (λ i. (d i).next) (at k (omega (arith, more)))
-            ∙ ap (λ y. y.next) (sym (kept k (omega (arith, more))))
-            ∙ whole.is_path.linked k (omega (arith, more)) ∙ sym (at (k + 1) (omega (arith, more)));
-      };
-      inside =
-          λ k l. omega (arith, at k (omega (arith, more)), whole.inside k (omega (arith, more)));
-    }
+    (good (take (n + 1) path) before k (omega (arith, len)))) in grind arith
 
 -- Each number of a path in the other table is good.
 pub path_good : (d e : ℕ → Descriptor) (q j : ℕ) (Good : ℕ → Type 0) (path : List ℕ)
@@ -173,11 +161,7 @@ written_path d q h path pieces put first some xs whole (suc k) l =
     flags_next (nat_lt (k + 1) (length path)) (slice_index_or pieces k empty).writable
     (slice_index_or pieces k empty) (slice_index path (k + 1)) in
     let on : k + 1 < length path = ltb-true (k + 1) (length path)
-    (sym goes ∙ ap has_next (sym here) ∙ whole.is_path.onward k (omega arith)) in (
-      omega arith,
-      ap (slice_index xs) (sym next) ∙ sym (whole.is_path.linked k (omega arith))
-          ∙ ap (λ y. y.next) here ∙ ap (slice_index path) next,
-    )
+    (sym goes ∙ ap has_next (sym here) ∙ whole.is_path.onward k (omega arith)) in grind arith
 
 -- ---- what a driver's end that tracks a ring knows
 
@@ -237,13 +221,7 @@ next_path-lowest r n i free some low = let path : List ℕ = next_path r n in
       | inl l ↦
           let here = take_inside (free_descriptors r) n found.0 l in
           ap (λ k. is_in k path) (sym (here.2 ∙ found.2)) ∙ is_in-at path found.0 l
-      | inr past ↦ absurd (omega (
-        arith,
-        low,
-        last.2,
-        found.2,
-        numbers_rise (is_unused r.owner) r.size m found.0 (omega (arith, some, past)) found.1,
-      ))
+      | inr past ↦ grind (arith, numbers_rise)
     ]
 
 -- The driver's end after an add tracks the ring with the one head more.
@@ -279,7 +257,6 @@ added_tracks m1 m3 r pieces h heads elems s is_end links some fits first tracks 
             arith,
             times-push j heads h,
             one_is h j (sym e),
-            tracks.out j,
             ap one_if (ap (is_head r.owner) e ∙ claim.before),
             ap one_if (ap (is_head new) e ∙ claim.after),
           )
@@ -287,7 +264,6 @@ added_tracks m1 m3 r pieces h heads elems s is_end links some fits first tracks 
             arith,
             times-push j heads h,
             one_other h j (λ e. ne (sym e)),
-            tracks.out j,
             ap one_if (claim.same j ne),
           )
         ];
@@ -324,12 +300,10 @@ next_used_out mem r heads elems s tracks among lt = at (is_head r.owner id) refl
   at true e = e
   at false e = absurd (omega (
     arith,
-    tracks.out id,
     ap one_if e,
     times-next id elems s lt,
     one_is id id refl,
     times-take id elems (s + 1),
-    among id,
   ))
 
 -- The driver's end after a take tracks the ring with one used element more seen.
@@ -349,7 +323,6 @@ taken_tracks mem r heads elems s id is_end tracks lt is out =
       out = λ j. elim (cases_eq j id) [
         | inl e ↦ omega (
           arith,
-          tracks.out j,
           times-next j elems s lt,
           one_is (slice_index_or elems s no_elem).id j (is ∙ sym e),
           ap one_if (ap (is_head r.owner) e ∙ out),
@@ -357,16 +330,12 @@ taken_tracks mem r heads elems s id is_end tracks lt is out =
         )
         | inr ne ↦ omega (
           arith,
-          tracks.out j,
           times-next j elems s lt,
           one_other (slice_index_or elems s no_elem).id j (λ e. ne (sym e ∙ is)),
           ap one_if (release.same j ne),
         )
       ];
-      owns = λ j own xs whole k l. elim (cases_eq j id) [
-        | inl e ↦ (let wrong : true ≡ false = sym own ∙ ap (is_head new) e ∙ release.gone in cc)
-        | inr ne ↦ release.kept (slice_index xs k) j (tracks.owns j (sym (release.same j ne) ∙ own) xs whole k l) ne
-      ];
+      owns = grind arith;
     }
 
 -- ---- a use

@@ -1,10 +1,10 @@
 -- The numbers below a limit that pass a test.
-use Rattle.std.specs.Prelude.{◌≡◌, ◌≢◌, ◌⊎◌, ℕ, zero, suc, ◌+◌, ◌<◌, ◌≤◌, Bool, true, false, List}
-use Rattle.std.specs.Prelude.{[], ◌∷◌, ◌++◌, length, slice_index, if◌then◌else◌, refl, slice_get}
 use Rattle.std.proofs.lemmas.List.{length_push, get_or_append_left, get_or_push, length-take}
-use Rattle.std.{specs.Prelude.{Some, take}, proofs.lemmas.Option.slice_get-get_or}
-use Rattle.std.{proofs.Common.{sym, ◌∙◌, ap, arith, inl, inr, add-one}, proofs.lemmas.Bool.{cases_eq, cases_lt}}
-use Rattle.std.proofs.lemmas.List.{take_all, take-append-le}
+use Rattle.std.specs.Prelude.{◌≡◌, ◌≢◌, ◌⊎◌, ℕ, zero, suc, ◌+◌, ◌<◌, ◌≤◌, Bool, true, false, []}
+use Rattle.std.specs.Prelude.{◌∷◌, ◌++◌, length, slice_index, if◌then◌else◌, refl, slice_get, Some}
+use Rattle.std.specs.Prelude.{take}
+use Rattle.std.proofs.lemmas.{List.{take_all, take-append-le}, Option.slice_get-get_or}
+use Rattle.std.proofs.{Common.{sym, ◌∙◌, ap, arith, inl, inr, add-one}, lemmas.Bool.cases_eq}
 use Rattle.vb_model.specs.Tests.{one_if}
 use Rattle.vb_ring.specs.Numbers.{numbers}
 
@@ -45,36 +45,12 @@ record Adds (p : ℕ → Bool) (n : ℕ) : Type 0 where
   last : p n ≡ true → slice_index (numbers p (suc n)) (length (numbers p n)) ≡ n
 
 adds : (p : ℕ → Bool) (n : ℕ) → Adds p n
-adds p n = elim (either_way (p n)) [
-  | inl pass ↦
-      let grown : numbers p (suc n) ≡ numbers p n ++ n ∷ [] = suc_yes p n true pass refl in record {
-        count = ap length grown ∙ length_push (numbers p n) n
-            ∙ ap (λ (b : Bool). length (numbers p n) + one_if b) (sym pass);
-        keeps = λ k lt. ap (λ (xs : List ℕ). slice_index xs k) grown
-            ∙ get_or_append_left (numbers p n) (n ∷ []) 0 k lt;
-        last = λ e. ap (λ (xs : List ℕ). slice_index xs (length (numbers p n))) grown
-            ∙ get_or_push (numbers p n) n 0 (length (numbers p n)) refl;
-      }
-  | inr fail ↦ let same : numbers p (suc n) ≡ numbers p n = suc_no p n fail in record {
-    count = omega (arith, ap length same, ap one_if fail);
-    keeps = λ k lt. ap (λ (xs : List ℕ). slice_index xs k) same;
-    last = λ e. (let wrong : true ≡ false = sym e ∙ fail in cc);
-  }
-]
-
-passes : (b : Bool) → 0 < one_if b → b ≡ true
-passes true some = refl
-passes false some = absurd (omega arith)
+adds p n = grind (arith, suc_yes, length_push, get_or_append_left, get_or_push, suc_no)
 
 -- The last of them is the new one, or one of before.
 last_or : (p : ℕ → Bool) (n k : ℕ) → k < length (numbers p (suc n))
     → (k < length (numbers p n)) ⊎ ((p n ≡ true) × (slice_index (numbers p (suc n)) k ≡ n))
-last_or p n k lt = let a = adds p n in elim (cases_lt k (length (numbers p n))) [
-  | inl before ↦ inl before
-  | inr past ↦ let pass : p n ≡ true = passes (p n) (omega (arith, a.count)) in
-      let at : k ≡ length (numbers p n) = omega (arith, a.count, ap one_if pass) in
-      inr (pass, ap (slice_index (numbers p (suc n))) at ∙ a.last pass)
-]
+last_or p n k lt = grind (arith, adds)
 
 -- Each of them passes, and is below the limit.
 pub numbers_pass : (p : ℕ → Bool) (n k : ℕ) → k < length (numbers p n)
@@ -143,16 +119,7 @@ pub length_gain : (p s : ℕ → Bool) (n h : ℕ) → h < n → p h ≡ false �
     → ((i : ℕ) → i ≢ h → p i ≡ s i) → length (numbers s n) ≡ length (numbers p n) + 1
 length_gain p s zero h l fail pass same = absurd (omega arith)
 length_gain p s (suc n) h l fail pass same = elim (cases_eq h n) [
-  | inl e ↦
-      let below : length (numbers p n) ≡ length (numbers s n) =
-      ap length (numbers_same p s n (λ i k. same i (omega (arith, e)))) in omega (
-        arith,
-        length_suc p n,
-        length_suc s n,
-        ap one_if (ap p (sym e) ∙ fail),
-        ap one_if (ap s (sym e) ∙ pass),
-        below,
-      )
+  | inl e ↦ grind (arith, numbers_same, length_suc)
   | inr ne ↦ omega (
     arith,
     length_suc p n,
@@ -175,7 +142,6 @@ length_all p zero h l all = omega arith
 length_all p (suc n) h l all = elim (cases_eq h (suc n)) [
   | inl e ↦ omega (
     arith,
-    e,
     length_suc p n,
     ap one_if (all n (omega (arith, e))),
     length_all p n n (omega arith) (λ i k. all i (omega (arith, e))),
@@ -193,11 +159,5 @@ numbers_prefix p m (suc n) l = elim (cases_eq m (suc n)) [
       (length (numbers p (suc n))) (numbers p (suc n)) (omega arith) ∙ ap (numbers p) (sym same)
   | inr ne ↦
       let before = numbers_prefix p m n (omega (arith, l, ne)) in
-      let fits : length (numbers p m) ≤ length (numbers p n) =
-      omega (arith, ap length before, length-take (length (numbers p m)) (numbers p n)) in
-      elim (either_way (p n)) [
-        | inl pass ↦ ap (take (length (numbers p m))) (suc_yes p n true pass refl)
-            ∙ take-append-le (length (numbers p m)) (numbers p n) (n ∷ []) fits ∙ before
-        | inr fail ↦ ap (take (length (numbers p m))) (suc_no p n fail) ∙ before
-      ]
+      grind (arith, length-take, either_way, suc_yes, take-append-le, suc_no)
 ]

@@ -138,10 +138,7 @@ claims owner path h begin first free = let new : List (Option ℕ) = claimed pat
         → ((k : ℕ) → k < length path → slice_index_or new (slice_index path k) None ≡ Some h)
         → ((n : ℕ) → is_in n path ≡ false → slice_index_or new n None ≡ slice_index_or owner n None)
         → (b : Bool) → is_in i path ≡ b → is_head owner i ≡ is_head new i
-    same_by new i ne mine rest true e = let found = is_in-some path i e in ap (is_own i)
-        (ap (λ n. slice_index_or owner n None) (sym found.2) ∙ (free found.0 found.1).1) ∙ sym
-        (own_other h i _ (ap (λ n. slice_index_or new n None) (sym found.2) ∙ mine found.0 found.1)
-        (λ x. ne (sym x)))
+    same_by new i ne mine rest true e = grind (arith, is_in-some)
     same_by new i ne mine rest false e = ap (is_own i) (sym (rest i e))
 
 -- The descriptors of a head that was out are free.

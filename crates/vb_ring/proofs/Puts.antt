@@ -1,10 +1,9 @@
 -- What the writes of an entry and its index make together.
-use Rattle.std.proofs.Common.{◌∙◌, ◌+◌, ◌%◌, ◌*◌, ℕ, arith}
-use Rattle.vb_ram.specs.Pages.{Pages, PutField, SameBut}
-use Rattle.vb_ram.proofs.FieldLaws.{field_in, same_below, same_above}
-use Rattle.vb_ring.{specs.declared.layout.Layout.Layout, proofs.FrameLaws.byte_kept}
+use Rattle.vb_ram.{proofs.FieldLaws.{field_in, same_above}, specs.Pages.{Pages, PutField, SameBut}}
+use Rattle.vb_ring.proofs.FrameLaws.{byte_kept}
 use Rattle.vb_ring.specs.Entries.{avail_index, avail_place, used_index, used_place}
-use Rattle.vb_ring.specs.Calls.{PutsAvail, PutsUsed, Publishes}
+use Rattle.vb_ring.specs.{Calls.{PutsAvail, PutsUsed, Publishes}, declared.layout.Layout.Layout}
+use Rattle.std.proofs.Common.{◌∙◌, ◌+◌, ◌%◌, ◌*◌, ℕ, arith}
 
 pub puts_avail : (m1 m2 m3 : Pages) (l : Layout) (q next head : ℕ)
     → PutField 2 m1 m2 l.avail.page (avail_place l q next) head
@@ -31,11 +30,7 @@ pub puts_used : (m1 m2 m3 m4 : Pages) (l : Layout) (q next head count : ℕ)
     → PutField 2 m3 m4 l.used.page (used_index l) ((next + 1) % 65536)
     → PutsUsed m1 m4 l q next head count
 puts_used m1 m2 m3 m4 l q next head count id len index = record {
-  id = field_in 4 m3 m4 l.used.page _ _ (used_place l q next)
-      (same_above m3 m4 l.used.page _ _ (used_place l q next) (used_place l q next + 4) index.rest
-      (omega arith)) (omega arith) (omega arith) ∙ field_in 4 m2 m3 l.used.page _ _
-      (used_place l q next) (same_below m2 m3 l.used.page _ _ (used_place l q next)
-      (used_place l q next + 4) len.rest (omega arith)) (omega arith) (omega arith) ∙ id.value;
+  id = grind (arith, field_in);
   len = field_in 4 m3 m4 l.used.page _ _ (used_place l q next + 4)
       (same_above m3 m4 l.used.page _ _ (used_place l q next + 4) (used_place l q next + 8)
       index.rest (omega arith)) (omega arith) (omega arith) ∙ len.value;

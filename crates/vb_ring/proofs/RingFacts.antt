@@ -1,16 +1,15 @@
 -- Words of rings, ends and what stands next, worked out.
-use Rattle.std.proofs.Common.{◌≡◌, ℕ, true, false, List, [], ◌∷◌, map, refl, arith}
 use Rattle.std.specs.Prelude.{Option, Some, None, Ok, Err}
+use Rattle.std.proofs.Common.{◌≡◌, ℕ, true, false, List, [], ◌∷◌, map, refl, arith}
 use Rattle.vb_chain.specs.declared.fault.ChainFault.TheVariants.{IndexJump}
-use Rattle.vb_ring.specs.declared.driver.Full.TheVariants.{TooFewFree}
-use Rattle.vb_ring.specs.declared.driver.RingBroken.TheVariants.{IndexAhead, NotOutstanding}
-use Rattle.vb_ring.specs.{Layout.{layout_of, Fits, IsSize}, Numbers.numbers, Entries.avail_index}
-use Rattle.vb_ring.specs.Entries.{avail_place, used_index, used_place, ahead, next_by, is_head}
-use Rattle.vb_ring.specs.{Entries.only_head, Ends.{DriverEnd, DeviceEnd, is_unused}}
-use Rattle.vb_ring.specs.Ends.{free_descriptors, heads_out, outstanding, next_head, next_path}
-use Rattle.vb_ring.specs.Ends.{AreSingle, fresh_end, add_answer, after_add, after_take}
 use Rattle.vb_ring.specs.Calls.{table_extent, avail_entry, avail_counter, used_entry, used_counter}
-use Rattle.vb_ring.specs.{Calls.{after_pop, popped}, Frame.{IsIn, IsOutside}}
+use Rattle.vb_ring.specs.Ends.{DriverEnd, DeviceEnd, is_unused, free_descriptors, heads_out}
+use Rattle.vb_ring.specs.Ends.{outstanding, next_head, next_path, AreSingle, fresh_end, add_answer}
+use Rattle.vb_ring.specs.Entries.{avail_index, avail_place, used_index, used_place, ahead, next_by}
+use Rattle.vb_ring.specs.declared.driver.RingBroken.TheVariants.{IndexAhead, NotOutstanding}
+use Rattle.vb_ring.specs.{Ends.{after_add, after_take}, declared.driver.Full.TheVariants.TooFewFree}
+use Rattle.vb_ring.specs.{Entries.{is_head, only_head}, Layout.{layout_of, Fits, IsSize}}
+use Rattle.vb_ring.specs.{Calls.{after_pop, popped}, Frame.{IsIn, IsOutside}, Numbers.numbers}
 
 -- ---- places: VIRTIO 1.1, 2.6, of a ring of 256 descriptors from page 3 on
 
@@ -60,10 +59,7 @@ past_its_page : Fits (record (layout_of 3 8) { used = record { page = 9; offset 
 past_its_page fits = omega (arith, fits.used)
 
 sizes : (IsSize 2) × (IsSize 256)
-sizes = (
-  record { least = omega arith; most = omega arith; divides = refl },
-  record { least = omega arith; most = omega arith; divides = refl },
-)
+sizes = grind arith
 
 no_size : IsSize 12 → ⊥
 no_size size = omega (arith, size.divides)

@@ -1,14 +1,13 @@
 use Rattle.std.proofs.Common.{◌≡◌, ◌∙◌, ℕ, true, false, Option, Some, None, Result, Ok, Err, length}
 use Rattle.std.proofs.Common.{◌+◌, ◌%◌, sym, ap, subst, arith, rules}
 use Rattle.vb_ram.specs.Pages.{Pages}
-use Rattle.vb_ring.specs.contracts.driver.DriverRing.{the_view}
 use Rattle.vb_ring.proofs.driver.DriverRing.take_used.Goals.{then-id-from-via-then-id-from}
-use Rattle.vb_ring.{specs.declared.driver.RingBroken.RingBroken, specs.Numbers.numbers}
-use Rattle.vb_ring.specs.declared.driver.RingBroken.TheVariants.{NotOutstanding}
-use Rattle.vb_ring.{specs.Entries.{is_head, next_id, only_head}, proofs.Numbers.length-numbers}
-use Rattle.vb_ring.{specs.Ends.{DriverEnd, IsDriverEnd, outstanding}, specs.Calls.TakesUsedBy}
-use Rattle.vb_ring.proofs.Assemble.{takes_by, takes_after, only_unknown, past_unknown}
 use Rattle.vb_ring.proofs.driver.DriverRing.take_used.Goals.{then-id-from-via-else-id-from+then-not-is_head}
+use Rattle.vb_ring.specs.contracts.driver.DriverRing.{the_view}
+use Rattle.vb_ring.specs.declared.driver.RingBroken.{RingBroken, TheVariants.NotOutstanding}
+use Rattle.vb_ring.proofs.Assemble.{takes_by, takes_after, only_unknown, past_unknown}
+use Rattle.vb_ring.{proofs.Numbers.length-numbers, specs.Ends.{DriverEnd, IsDriverEnd, outstanding}}
+use Rattle.vb_ring.specs.{Calls.TakesUsedBy, Entries.{is_head, next_id, only_head}, Numbers.numbers}
 use Rattle.vb_ring.proofs.driver.DriverRing.take_used.Goals as goal
 
 -- what the used ring says next, below the requests that are counted

@@ -1,6 +1,5 @@
 use Rattle.std.proofs.Common.{◌≡◌, rules}
-use Rattle.vb_ring.{specs.declared.layout.Layout.Layout, specs.Layout.layout_of}
-use Rattle.vb_ring.proofs.Shapes.{fits_at}
+use Rattle.vb_ring.{proofs.Shapes.fits_at, specs.{Layout.layout_of, declared.layout.Layout.Layout}}
 use Rattle.vb_ring.proofs.layout.Layout.at.Goals as goal
 
 pub returns-clause-fits : goal.returns-clause-fits
