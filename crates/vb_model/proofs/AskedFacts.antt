@@ -226,7 +226,8 @@ by_these_two = record {
 }
 
 -- no inflate came back: another guest's did, a deflate or a report, nothing, or one of other pages
-no_inflate_back : NoneOf IsAskedBack (by_reap None (16 ∷ []) ∷ by_reap (made (Reap 1) (Reaped 0 1)) (16 ∷ [])
+no_inflate_back : NoneOf IsAskedBack
+    (by_reap None (16 ∷ []) ∷ by_reap (made (Reap 1) (Reaped 0 1)) (16 ∷ [])
     ∷ by_reap (made (Reap 4) (Reaped 0 1)) (16 ∷ []) ∷ by_reap (made (Reap 0) NotUsed) (16 ∷ [])
     ∷ by_reap (made (Reap 0) (Reaped 0 1)) (17 ∷ []) ∷ [])
 no_inflate_back = none_asked _ refl

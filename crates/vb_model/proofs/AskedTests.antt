@@ -134,7 +134,8 @@ IsSafe (c, (i, k)) = IsSafeCourse c
 abbrev pub IsAskedBack : Row → Type 0
 IsAskedBack (c, (i, k)) = WasAskedBack c 16 i k
 
-pub none_asked : (rows : List Row) → list_all (λ (r : Row). not (asked_back r.0 16 r.1.0 r.1.1)) rows ≡ true
+pub none_asked : (rows : List Row)
+    → list_all (λ (r : Row). not (asked_back r.0 16 r.1.0 r.1.1)) rows ≡ true
     → NoneOf IsAskedBack rows
 none_asked rows h = none_of IsAskedBack _
     (λ r e a. (let t = back_is_told r.0 16 r.1.0 r.1.1 a in cc)) rows h
@@ -172,14 +173,15 @@ is_brought : (c : Course) (place : Place) (i : ℕ) → brings c place i ≡ tru
 is_brought c place i h = by (guest_after c i) (guest_after c (i + 1)) refl refl h where
   by : (a b : Option Guest) → guest_after c i ≡ a → guest_after c (i + 1) ≡ b
       → brings_by place a b ≡ true → BringsTo c 16 place i
-  by (Some g) (Some new) e f h = let parts = and_parts _ (is_place place (place_of new.places 16)) h in (
-    g,
-    new,
-    e,
-    f,
-    (λ at. (let t = ap (is_place place) at ∙ place_itself place in cc)),
-    same_place place _ parts.1,
-  )
+  by (Some g) (Some new) e f h =
+      let parts = and_parts _ (is_place place (place_of new.places 16)) h in (
+        g,
+        new,
+        e,
+        f,
+        (λ at. (let t = ap (is_place place) at ∙ place_itself place in cc)),
+        same_place place _ parts.1,
+      )
   by (Some g) None e f h = absurd cc
   by None b e f h = absurd cc
 

@@ -91,8 +91,10 @@ other_targets : (TargetsAre (needs_of 40 30) 100 0 28 → ⊥)
     × (TargetsAre (needs_of 40 30) 100 27 0 → ⊥) × (TargetsAre (needs_of 40 30) 100 29 0 → ⊥)
     × (AreTargets (needs_of 40 30) 100 (28 ∷ []) → ⊥)
 other_targets = (
-  λ t. differ 0 40 refl (t.in_order 1 0 (omega arith) (omega arith) (omega arith) (inl (omega arith))),
-  λ t. differ 14 40 refl (t.in_order 1 0 (omega arith) (omega arith) (omega arith) (inl (omega arith))),
+  λ t. differ 0 40 refl
+      (t.in_order 1 0 (omega arith) (omega arith) (omega arith) (inl (omega arith))),
+  λ t. differ 14 40 refl
+      (t.in_order 1 0 (omega arith) (omega arith) (omega arith) (inl (omega arith))),
   λ t. omega (arith, t.within 0 (omega arith)),
   λ t. differ 27 28 refl t.enough,
   λ t. differ 29 28 refl t.enough,

@@ -95,7 +95,8 @@ leaves_blank call g claims reply new h (Cleared e) honest = subst IsBlank (sym e
 leaves_blank call g claims reply new h (Begun wanted is passed e) honest =
     subst IsBlank (sym e) (gains (lacking g) (given claims) g h)
 leaves_blank call g claims reply new h (Put page offset bytes is passed are none w) honest =
-    subst IsBlank (sym w.1) (writes page offset bytes (supplied (pages_needed page bytes g) claims g)
+    subst IsBlank (sym w.1)
+    (writes page offset bytes (supplied (pages_needed page bytes g) claims g)
     (gains (pages_needed page bytes g) (given claims) g h)
     (in_page g page offset bytes (ap (refusal_of g) (sym is) ∙ passed))
     (λ p bare same l. written_backed page bytes g claims h are none p bare same l))

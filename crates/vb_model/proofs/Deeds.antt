@@ -89,10 +89,12 @@ pub data Deed (call : Call) (g : Guest) (claims : List Claim) (reply : Reply) (n
   Has_reaped : (kind : Kind) (r : Request) (rest : List Request) → call ≡ Reap (queue_of kind)
       → (requests kind g).done ≡ r ∷ rest → reply ≡ Reaped r.head (length r.pages)
       → new ≡ reaped kind r rest g → Deed call g claims reply new
-  Has_taken : (kind : Kind) (r : Request) (rest : List Request) → (requests kind g).posted ≡ r ∷ rest
+  Has_taken : (kind : Kind) (r : Request) (rest : List Request)
+      → (requests kind g).posted ≡ r ∷ rest
       → reply ≡ Taken r.head → new ≡ with_requests kind (after_take r rest (requests kind g)) g
       → Deed call g claims reply new
-  Buffered : (buffer : StatisticsBuffer) (last : LastStatistics) → has_buffer buffer ≡ has_buffer g.buffer
+  Buffered : (buffer : StatisticsBuffer) (last : LastStatistics)
+      → has_buffer buffer ≡ has_buffer g.buffer
       → is_refused reply ≡ false → new ≡ record g { buffer = buffer; last = last }
       → Deed call g claims reply new
   Visited : (kind : Kind) (page : ℕ) → 1 ≤ naming page (requests kind g).taken → kind ≢ Deflating
@@ -185,16 +187,18 @@ works call g claims reply new s = by g.config.paced s where
             v.2.0 v.2.1
         | inl m ↦ elim (match_cases (next_page g.report.taken) (Idles g reply new)
             (Visits Reporting_free g reply new) m.1) [
-              | inr v ↦ Visited Reporting_free v.0 (next_page-named g.report.taken v.0 v.1) (λ e. cc)
-                  v.2.0 v.2.1
+              | inr v ↦ Visited Reporting_free v.0 (next_page-named g.report.taken v.0 v.1)
+                  (λ e. cc) v.2.0 v.2.1
               | inl i ↦ Stayed (Needless (ap is_refused i.1.0)) i.1.1
             ]
       ]
 
 -- the claims were given and the rest was done, or nothing is changed
-supplies : (P : Type 0) (call : Call) (g : Guest) (claims : List Claim) (reply : Reply) (new : Guest)
+supplies : (P : Type 0) (call : Call) (g : Guest) (claims : List Claim) (reply : Reply)
+    (new : Guest)
     → MatchOption (claim_refusal claims) P (λ refusal. (reply ≡ Refused refusal) × (new ≡ g))
-    → (claim_refusal claims ≡ None → P → Deed call g claims reply new) → Deed call g claims reply new
+    → (claim_refusal claims ≡ None → P → Deed call g claims reply new)
+    → Deed call g claims reply new
 supplies P call g claims reply new s rest = elim (match_cases (claim_refusal claims) P
     (λ refusal. (reply ≡ Refused refusal) × (new ≡ g)) s) [
       | inl m ↦ rest m.0 m.1
@@ -206,7 +210,8 @@ lent_length : (g : Guest) (count : ℕ) → count ≤ count_by is_lent g.places
 lent_length g count few = sym (length-take-le count (pages_where is_lent g.places)
     (omega (arith, few, length-pages_where is_lent g.places)))
 
-asks_back : (count : ℕ) (call : Call) (g : Guest) (claims : List Claim) (reply : Reply) (new : Guest)
+asks_back : (count : ℕ) (call : Call) (g : Guest) (claims : List Claim) (reply : Reply)
+    (new : Guest)
     → posts_deflate call ≡ true → count ≤ count_by is_lent g.places → not (is_up g.status) ≡ false
     → nat_le (room g) (outstanding g.deflate) ≡ false → Deflates count g reply new
     → Deed call g claims reply new

@@ -26,13 +26,14 @@ counts lent giving stranded free target = record ready {
 -- the target is
 inflates_up_to_the_target : map (inflate_count (counts 3 2 0 10 9)) (0 ∷ 1 ∷ 3 ∷ 4 ∷ 5 ∷ 300 ∷ [])
     ++ map (λ g. inflate_count g 300) (counts 3 2 0 10 5 ∷ counts 3 2 0 10 4 ∷ counts 3 2 6 10 9
-    ∷ counts 3 2 6 10 0 ∷ counts 3 2 3 10 9 ∷ counts 3 2 1 10 40 ∷ []) ≡ 0 ∷ 1 ∷ 3 ∷ 4 ∷ 4 ∷ 4 ∷ 0 ∷ 0
-    ∷ 6 ∷ 6 ∷ 4 ∷ 11 ∷ []
+    ∷ counts 3 2 6 10 0 ∷ counts 3 2 3 10 9 ∷ counts 3 2 1 10 40 ∷ []) ≡ 0 ∷ 1 ∷ 3 ∷ 4 ∷ 4 ∷ 4 ∷ 0
+    ∷ 0 ∷ 6 ∷ 6 ∷ 4 ∷ 11 ∷ []
 inflates_up_to_the_target = refl
 
 -- a deflate: what is asked for, what the target allows, what is lent
 deflates_down_to_the_target : map (deflate_count (counts 5 2 6 10 4)) (0 ∷ 2 ∷ 3 ∷ 4 ∷ 300 ∷ [])
-    ++ map (λ g. deflate_count g 300) (counts 5 2 6 10 0 ∷ counts 5 2 6 10 7 ∷ counts 5 2 6 10 9 ∷ [])
+    ++ map (λ g. deflate_count g 300)
+    (counts 5 2 6 10 0 ∷ counts 5 2 6 10 7 ∷ counts 5 2 6 10 9 ∷ [])
     ≡ 0 ∷ 2 ∷ 3 ∷ 3 ∷ 3 ∷ 5 ∷ 0 ∷ 0 ∷ []
 deflates_down_to_the_target = refl
 
@@ -176,13 +177,13 @@ abbrev refusals : Call → List Guest → List (Option Refusal)
 refusals call gs = map (λ g. refusal_of (narrow g) call) gs
 
 inflate_refusals : refusals (Inflate 0) (record down { inflate = two_out }
-    ∷ record ready { inflate = two_out } ∷ record ready { deflate = two_out; report = two_out } ∷ [])
-    ≡ Some NotReady ∷ Some QueueFull ∷ Some Nothing ∷ []
+    ∷ record ready { inflate = two_out } ∷ record ready { deflate = two_out; report = two_out }
+    ∷ []) ≡ Some NotReady ∷ Some QueueFull ∷ Some Nothing ∷ []
 inflate_refusals = refl
 
 deflate_refusals : refusals (Deflate 0) (record down { deflate = two_out }
-    ∷ record ready { deflate = two_out } ∷ record ready { inflate = two_out; report = two_out } ∷ [])
-    ≡ Some NotReady ∷ Some QueueFull ∷ Some Nothing ∷ []
+    ∷ record ready { deflate = two_out } ∷ record ready { inflate = two_out; report = two_out }
+    ∷ []) ≡ Some NotReady ∷ Some QueueFull ∷ Some Nothing ∷ []
 deflate_refusals = refl
 
 oom_refusals : refusals (Oom 0) (record down { deflate = two_out }

@@ -25,7 +25,8 @@ data Fate (w : World) (event : Event) (reply : Reply) (n : ℕ) (old new : Guest
 
 aimed : (g new : Guest) (target : ℕ) → new ≡ record g { target = target }
     → new ≡ record g { target = new.target }
-aimed g new target e = e ∙ ap (λ (t : ℕ). record g { target = t }) (sym (ap (λ (x : Guest). x.target) e))
+aimed g new target e =
+    e ∙ ap (λ (t : ℕ). record g { target = t }) (sym (ap (λ (x : Guest). x.target) e))
 
 fate : (w : World) (event : Event) (reply : Reply) (v : World) (n : ℕ) (old new : Guest)
     → Follows w event reply v n old new → Fate w event reply n old new
@@ -91,7 +92,8 @@ targets_kept w event reply v n old new f not_set no_balance = by (fate w event r
   where
     by : Fate w event reply n old new → new.target ≡ old.target
     by (Goes_on (Nothing_happens other e)) = ap (λ (y : Guest). y.target) e
-    by (Goes_on (Own_call call claims e gave step)) = (step_keeps old call claims reply new step).aimed
+    by (Goes_on (Own_call call claims e gave step)) =
+        (step_keeps old call claims reply new step).aimed
         ∙ target_stays call old.target (λ t q. not_set t (e ∙ ap (OnGuest n) q))
     by (Goes_on (New_target floor targets e answered q)) = absurd (no_balance floor e)
     by (Begins_anew e is) = ap (λ (y : Guest). y.target) is
@@ -115,7 +117,8 @@ pub configurations_kept : ConfigurationsAreKept
 configurations_kept w event reply v n old new f = by (fate w event reply v n old new f) where
   by : Fate w event reply n old new → new.config ≡ old.config
   by (Goes_on (Nothing_happens other e)) = ap (λ (y : Guest). y.config) e
-  by (Goes_on (Own_call call claims e gave step)) = (step_keeps old call claims reply new step).config
+  by (Goes_on (Own_call call claims e gave step)) =
+      (step_keeps old call claims reply new step).config
   by (Goes_on (New_target floor targets e answered q)) = ap (λ (y : Guest). y.config) q
   by (Begins_anew e is) = ap (λ (y : Guest). y.config) is
 
@@ -184,12 +187,14 @@ stays_rogue g call claims reply new rogue s =
     by_kind g call claims reply new s (λ e r. r.stays.still) (λ e p. absurd cc)
 
 pub rogues_stay : RoguesStay
-rogues_stay w event reply v n old new f no_restart rogue = by (fate w event reply v n old new f) where
-  by : Fate w event reply n old new → new.rogue ≡ true
-  by (Goes_on (Nothing_happens other e)) = ap (λ (y : Guest). y.rogue) e ∙ rogue
-  by (Goes_on (Own_call call claims e gave step)) = stays_rogue old call claims reply new rogue step
-  by (Goes_on (New_target floor targets e answered q)) = ap (λ (y : Guest). y.rogue) q ∙ rogue
-  by (Begins_anew e is) = absurd (no_restart e)
+rogues_stay w event reply v n old new f no_restart rogue =
+    by (fate w event reply v n old new f)
+  where
+    by : Fate w event reply n old new → new.rogue ≡ true
+    by (Goes_on (Nothing_happens other e)) = ap (λ (y : Guest). y.rogue) e ∙ rogue
+    by (Goes_on (Own_call call claims e gave step)) = stays_rogue old call claims reply new rogue step
+    by (Goes_on (New_target floor targets e answered q)) = ap (λ (y : Guest). y.rogue) q ∙ rogue
+    by (Begins_anew e is) = absurd (no_restart e)
 
 pub scribbles_make_rogues : ScribblesMakeRogues
 scribbles_make_rogues w v n page offset bytes old new f honest =

@@ -22,8 +22,8 @@ use Rattle.vb_model.specs.Limits.{is_config, is_power_of_two, max_frames, max_gu
 use Rattle.vb_model.specs.Limits.{max_outstanding, max_request_pages, min_reported_order, page_size}
 use Rattle.vb_model.specs.Status.{acknowledge, driver, driver_ok, failed, features_ok, needs_reset}
 
--- bytes of a page, and the pages of a guest are so many or a multiple of them; the largest order of a
--- block, and the least that is reported; requests outstanding on a queue, and pages of a request;
+-- bytes of a page, and the pages of a guest are so many or a multiple of them; the largest order of
+-- a block, and the least that is reported; requests outstanding on a queue, and pages of a request;
 -- pieces of a report that a device takes
 pages_are : PAGE_SIZE ∷ GUEST_PAGES_STEP ∷ MAX_ORDER ∷ MIN_REPORTED_ORDER ∷ MAX_OUTSTANDING
     ∷ MAX_REQUEST_PAGES ∷ MAX_REPORT_PIECES ∷ [] ≡ 4096 ∷ 16 ∷ 9 ∷ 4 ∷ 16 ∷ 256 ∷ 32 ∷ []

@@ -95,7 +95,8 @@ before_an_initialisation = refl
 abbrev two_processors : Guest
 two_processors = record ready { config = record config { processors = 2 } }
 
-blocks_in_order : refusals two_processors (Alloc 0 0 ∷ Alloc 1 0 ∷ Alloc 2 0 ∷ Alloc 2 10 ∷ Alloc 2 9
+blocks_in_order : refusals two_processors
+    (Alloc 0 0 ∷ Alloc 1 0 ∷ Alloc 2 0 ∷ Alloc 2 10 ∷ Alloc 2 9
     ∷ []) ≡ None ∷ None ∷ Some BadCpu ∷ Some BadOrder ∷ Some BadCpu ∷ []
 blocks_in_order = refl
 

@@ -46,7 +46,8 @@ so_many n = posted (map (λ head. request head [] 0) (range_with_len 0 n))
 
 too_many : Disorderly (record ready { inflate = so_many 9 })
     × Disorderly (record ready { deflate = so_many 9 })
-    × Disorderly (record ready { config = record ready.config { queue_size = 64 }; inflate = so_many 17 })
+    × Disorderly
+    (record ready { config = record ready.config { queue_size = 64 }; inflate = so_many 17 })
     × Disorderly (record ready { report = so_many 2 })
 too_many = (
   λ o. omega (arith, o.inflating.few),
@@ -77,7 +78,8 @@ status_of : (status : ℕ) → IsOrderly (record ready { status = status }) → 
 status_of status o = o.state
 
 -- 16 pages are reserved
-other_places : Disorderly (record ready { places = replicate 16 Reserved ++ replicate 49 FreePlace })
+other_places : Disorderly
+    (record ready { places = replicate 16 Reserved ++ replicate 49 FreePlace })
     × Disorderly (record ready { places = replicate 15 Reserved ++ replicate 49 FreePlace })
     × Disorderly (record ready { places = replicate 17 Reserved ++ replicate 47 FreePlace })
 other_places = (

@@ -229,8 +229,8 @@ order call g claims reply new c h (Has_finished kind i r is told e) honest =
 order call g claims reply new c h (Has_swept page flag tells told e) honest =
     subst IsOrderly (sym e) h
 order call g claims reply new c h (Initialised wanted is passed n) honest =
-    negotiates_order (feature_refusal wanted) wanted (supplied (lacking g) claims g) reply new refl h
-    n
+    negotiates_order (feature_refusal wanted) wanted
+    (supplied (lacking g) claims g) reply new refl h n
 order call g claims reply new c h (Has_written page offset bytes is passed are none w) honest =
     subst IsOrderly (sym w.1) h
 order call g claims reply new c h (Has_scribbled page offset bytes is passed s) honest =

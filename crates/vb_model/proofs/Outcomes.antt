@@ -1,4 +1,5 @@
--- What a call of an honest guest leaves, whatever becomes of its places, its blocks and its requests.
+-- What a call of an honest guest leaves, whatever becomes of its places, its blocks and its
+-- requests.
 use Rattle.std.proofs.Common.{List, [], ap, arith, inl, inr, refl, subst, suc, sym, true, zero, ℕ}
 use Rattle.std.{proofs.Common.{◌∙◌, ◌∷◌, ◌≡◌, ◌≢◌, ◌≤◌, ◌⊎◌}, specs.Prelude.{None, Option, Some}}
 use Rattle.std.specs.Prelude.{slice_get}

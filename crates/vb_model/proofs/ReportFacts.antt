@@ -79,7 +79,8 @@ freed : HonestStep (holding (block 16 0 ∷ block 18 1 ∷ block 22 1 ∷ [])
 freed = (refl, (refl, refl))
 
 -- a block has to be free as a whole, at a multiple of its size; the last page is one too
-allocations : refusal_of (record ready { places = replicate 63 Used ++ (FreePlace ∷ []) }) (Alloc 0 0)
+allocations : refusal_of (record ready { places = replicate 63 Used ++ (FreePlace ∷ []) })
+    (Alloc 0 0)
     ∷ map (refusal_of (record ready { places = askew })) (Alloc 0 1 ∷ Alloc 0 2 ∷ []) ≡ None ∷ None
     ∷ Some NoPages ∷ []
 allocations = refl
@@ -97,8 +98,8 @@ abbrev narrow : Guest
 narrow = record (fresh (record config { pages = 128; queue_size = 2 }) 0)
     { status = 15; features = 0x100000027 }
 
-just_two_blocks : map (reported_blocks narrow) (0 ∷ 17 ∷ 64 ∷ 65 ∷ []) ≡ (block 16 4 ∷ block 32 5 ∷ [])
-    ∷ (block 32 5 ∷ block 64 6 ∷ []) ∷ (block 64 6 ∷ []) ∷ [] ∷ []
+just_two_blocks : map (reported_blocks narrow) (0 ∷ 17 ∷ 64 ∷ 65 ∷ [])
+    ≡ (block 16 4 ∷ block 32 5 ∷ []) ∷ (block 32 5 ∷ block 64 6 ∷ []) ∷ (block 64 6 ∷ []) ∷ [] ∷ []
 just_two_blocks = refl
 
 -- a hole at page 37 leaves blocks of orders 4, 3, 2, 0, 1 and 4: just those of order 4 are offered

@@ -39,8 +39,8 @@ abbrev naming_16 : Requests
 naming_16 = record { posted = []; taken = []; done = request 0 (16 ∷ []) 0 ∷ [] }
 
 free_but_held_or_named : Unsound (record ready { held = block 16 0 ∷ [] })
-    × Unsound (record ready { inflate = naming_16 }) × Unsound (record ready { deflate = naming_16 })
-    × Unsound (record ready { report = naming_16 })
+    × Unsound (record ready { inflate = naming_16 })
+    × Unsound (record ready { deflate = naming_16 }) × Unsound (record ready { report = naming_16 })
     × Unsound (record ready { ballooned = replicate 16 false ++ (true ∷ replicate 47 false) })
 free_but_held_or_named = (
   λ c. differ 1 0 refl (c.pages 16).holding,
@@ -101,13 +101,14 @@ asked_back_twice = grind arith
 held_or_named_twice : Unsound (record (only Used) { held = block 16 0 ∷ block 16 1 ∷ [] })
     × Unsound (record (only Giving) {
       inflate =
-          record { posted = request 0 (16 ∷ []) 0 ∷ []; taken = request 1 (16 ∷ []) 0 ∷ []; done = [] };
+          record
+          { posted = request 0 (16 ∷ []) 0 ∷ []; taken = request 1 (16 ∷ []) 0 ∷ []; done = [] };
     })
 held_or_named_twice =
     (λ c. differ 2 1 refl (c.pages 16).holding, λ c. differ 2 1 refl (c.pages 16).inflating)
 
--- ---- `actual`, which counts the pages that a deflate names, wherever they are, and the sizes of the
--- tables
+-- ---- `actual`, which counts the pages that a deflate names, wherever they are, and the sizes of
+-- the tables
 
 miscounted : Unsound (record ready { actual = 1 }) × Unsound (record untold { deflate = naming_16 })
     × Unsound (record ready { places = ready.places ++ (Free ∷ []) })

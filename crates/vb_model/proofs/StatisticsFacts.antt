@@ -96,7 +96,8 @@ reset_forgets_statistics = (refl, (refl, refl))
 -- ---- refusals
 
 -- readiness before features
-stats_in_order : map (λ g. refusal_of g Stats) (down ∷ without_stats_vq ∷ record ready { features = 2 } ∷ [])
+stats_in_order : map (λ g. refusal_of g Stats)
+    (down ∷ without_stats_vq ∷ record ready { features = 2 } ∷ [])
     ≡ Some NotReady ∷ Some NoFeature ∷ None ∷ []
 stats_in_order = refl
 

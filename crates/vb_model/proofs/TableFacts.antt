@@ -36,7 +36,8 @@ at_statuses statuses causes = map (λ status. first_refusal (causes status)) sta
 drivers_calls : map (at_statuses (15 ∷ 79 ∷ 143 ∷ 207 ∷ []))
     ((λ s. inflate_causes (at s 0) 1 (new_request 16 16 0))
     ∷ (λ s. request_causes s false (new_request 16 16 0))
-    ∷ (λ s. reap_causes 0 (at s 0)) ∷ (λ s. reap_causes 4 (at s 4294967303)) ∷ (λ s. driver_causes s true) ∷ [])
+    ∷ (λ s. reap_causes 0 (at s 0)) ∷ (λ s. reap_causes 4 (at s 4294967303))
+    ∷ (λ s. driver_causes s true) ∷ [])
     ≡ map (λ ready. ready ∷ replicate 3 (Some NotReady)) (Some QueueFull ∷ Some QueueFull
     ∷ None ∷ Some NoFeature ∷ Some NoFeature ∷ [])
 drivers_calls = refl
@@ -67,8 +68,8 @@ no_third_queue = refl
 
 -- ---- the driver's calls on a ready device
 
--- with MUST_TELL_HOST, which is bit 0, pending deflates are no matter; without it they come behind a
--- full queue and before a count of 0, and just that bit counts
+-- with MUST_TELL_HOST, which is bit 0, pending deflates are no matter; without it they come behind
+-- a full queue and before a count of 0, and just that bit counts
 inflates_in_order : map first_refusal (inflate_causes (at 15 1) 16 (new_request 15 16 0)
     ∷ inflate_causes (at 15 1) 16 (new_request 15 16 1)
     ∷ inflate_causes (at 15 0) 1 (new_request 16 16 0)
@@ -95,7 +96,8 @@ most_of_each_size = refl
 
 -- ---- the device's calls on a ready device
 
-takes_up_to_the_limit : map (λ (q, (features, taken)). first_refusal (take_causes q (at 15 features) taken))
+takes_up_to_the_limit : map
+    (λ (q, (features, taken)). first_refusal (take_causes q (at 15 features) taken))
     ((1, (0, 0)) ∷ (1, (0, 15)) ∷ (1, (0, 16)) ∷ (2, (2, 0)) ∷ (2, (2, 1)) ∷ (4, (32, 15))
     ∷ (4, (32, 16)) ∷ []) ≡ None ∷ None ∷ Some Busy ∷ None ∷ Some Busy ∷ None ∷ Some Busy ∷ []
 takes_up_to_the_limit = refl

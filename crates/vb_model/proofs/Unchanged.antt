@@ -51,18 +51,20 @@ keeps call g claims reply new other (Cleared e) = same_three g new _ e refl refl
 keeps call g claims reply new other (Begun wanted is passed e) = same_three g new _ e refl refl refl
 keeps call g claims reply new other (Put page offset bytes is passed are none w) =
     same_three g new _ w.1 refl refl refl
-keeps call g claims reply new other (Turned page offset bytes is passed s) = keeps_supplied g new _ (record {
-  aimed = ap (λ (x : Guest). x.target) s.memory;
-  config = s.state.config;
-  rogue = inr ((page, offset, bytes, is), s.state);
-})
+keeps call g claims reply new other (Turned page offset bytes is passed s) = keeps_supplied g new _
+    (record {
+      aimed = ap (λ (x : Guest). x.target) s.memory;
+      config = s.state.config;
+      rogue = inr ((page, offset, bytes, is), s.state);
+    })
 
 aims : (n : ℕ) (g : Guest) (claims : List Claim) (reply : Reply) (new : Guest)
     → HonestStep g (SetTarget n) claims reply new → Keeps (IsScribble (SetTarget n)) n g new
 aims n g claims reply new s = grind arith
 
 honest_keep : (call : Call) (g : Guest) (claims : List Claim) (reply : Reply) (new : Guest)
-    → HonestStep g call claims reply new → Keeps (IsScribble call) (target_after call g.target) g new
+    → HonestStep g call claims reply new
+    → Keeps (IsScribble call) (target_after call g.target) g new
 honest_keep (SetTarget n) g claims reply new s = aims n g claims reply new s
 honest_keep call g claims reply new s =
     keeps _ g claims reply new (λ n e. cc) (outcome g _ claims reply new s)

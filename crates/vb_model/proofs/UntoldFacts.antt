@@ -50,8 +50,8 @@ refused_at_the_start : (new : Guest)
     → HonestStep with_frames (Init 0x100000026) [] (Refused VersionMissing) new → ⊥
 refused_at_the_start new s = let e : Refused VersionMissing ≡ Ready = s.1.0 in cc
 
-just_one_tells : map is_ready (untold ∷ ready ∷ []) ++ map tells_host (untold ∷ ready ∷ []) ≡ true ∷ true
-    ∷ false ∷ true ∷ []
+just_one_tells : map is_ready (untold ∷ ready ∷ []) ++ map tells_host (untold ∷ ready ∷ []) ≡ true
+    ∷ true ∷ false ∷ true ∷ []
 just_one_tells = refl
 
 -- just that feature is asked
@@ -395,7 +395,8 @@ abbrev NotAfterReset : ℕ → Place → Type 0
 NotAfterReset page place = (new : Guest) → HonestStep
     (before_a_reset (posted both)) Reset [] Done new → place_of new.places page ≡ place → ⊥
 
-pages_after_a_reset : NotAfterReset 16 Stranded × NotAfterReset 17 Stranded × NotAfterReset 18 FreePlace
+pages_after_a_reset : NotAfterReset 16 Stranded × NotAfterReset 17 Stranded
+    × NotAfterReset 18 FreePlace
 pages_after_a_reset = (λ new s e. cc, λ new s e. cc, λ new s e. cc)
 
 -- where the guest tells the host its taking pages are stranded

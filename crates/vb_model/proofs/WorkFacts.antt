@@ -200,8 +200,8 @@ second_by_its_number = (refl, (second_inflate 1, refl, refl, refl))
 abbrev behind_no_queue : Guest → Call → Option Refusal
 behind_no_queue g call = first_refusal (drop 1 (causes g call))
 
--- a paced device has to visit each page of an inflate or a report first, but none of a deflate; just
--- taken requests of the queue itself are finished, whatever the features are
+-- a paced device has to visit each page of an inflate or a report first, but none of a deflate;
+-- just taken requests of the queue itself are finished, whatever the features are
 finishes : map (λ (g, call). refusal_of g call) ((busy, Finish 0 1) ∷ (after_19, Finish 0 1)
     ∷ (busy, Finish 1 0) ∷ (at_once busy, Finish 0 1) ∷ (busy, Finish 0 2) ∷ (busy, Finish 1 1)
     ∷ (down, Finish 3 0) ∷ (record busy { status = 131 }, Finish 0 1) ∷ []) ≡ Some NotWorked ∷ None
@@ -261,7 +261,8 @@ abbrev many : ℕ → Requests
 many n = record two_posted
     { taken = map (λ head. request head ((16 + head) ∷ []) 0) (range_with_len 0 n) }
 
-sixteen_taken : map (λ (g, call). behind_no_queue g call) ((record ready { inflate = many 16 }, Take 0)
+sixteen_taken : map (λ (g, call). behind_no_queue g call)
+    ((record ready { inflate = many 16 }, Take 0)
     ∷ (record ready { deflate = many 16 }, Take 1) ∷ (record ready { report = many 16 }, Take 4)
     ∷ (record ready { inflate = many 15; deflate = many 16; report = many 16 }, Take 0)
     ∷ (record ready { inflate = many 16; deflate = many 15; report = many 16 }, Take 1)
@@ -289,5 +290,6 @@ swept_bare : HonestStep busy (Sweep 24) [] (Swept false) busy
 swept_bare = (refl, (refl, refl))
 
 not_swept : refusal_of (record busy { status = 0 }) (Sweep 19)
-    ∷ map (refusal_of busy) (Sweep 19 ∷ Sweep 64 ∷ []) ≡ Some NotReady ∷ replicate 2 (Some NotBallooned)
+    ∷ map (refusal_of busy) (Sweep 19 ∷ Sweep 64 ∷ []) ≡ Some NotReady
+    ∷ replicate 2 (Some NotBallooned)
 not_swept = refl

@@ -3,4 +3,7 @@ use Rattle.vb_model.proofs.laws.honest_guests_are_consistent.Goals as goal
 
 pub returns : goal.returns
 returns c =
-    record { consistent = λ frames spares h r n i g honest. (fit_at frames spares h r n i g honest).consistent }
+    record {
+      consistent = λ frames spares h r n i g honest.
+          (fit_at frames spares h r n i g honest).consistent;
+    }

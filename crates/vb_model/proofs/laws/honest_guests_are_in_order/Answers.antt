@@ -3,4 +3,5 @@ use Rattle.vb_model.proofs.laws.honest_guests_are_in_order.Goals as goal
 
 pub returns : goal.returns
 returns c =
-    record { orderly = λ frames spares h r n i g honest. (fit_at frames spares h r n i g honest).orderly }
+    record
+    { orderly = λ frames spares h r n i g honest. (fit_at frames spares h r n i g honest).orderly }
