@@ -86,7 +86,11 @@ own_lost back = omega (arith, back.0.balance 9)
 own_forgotten : HandsBack (keeper [] (9 ∷ [])) (keeper [] []) None → ⊥
 own_forgotten back = omega (arith, back.0.balance 9)
 
--- one that wasn't loose is given out
+-- nor is one given out that wasn't loose, nor does another come to be loose and own
+own_changed : HandsBack (keeper (4 ∷ 7 ∷ []) (4 ∷ [])) (keeper (9 ∷ []) (9 ∷ []))
+    (Some (record { number = 7; bytes = [] })) → ⊥
+own_changed back = (let wrong : false ≡ true = back.0.own 9 refl in absurd cc)
+
 none_loose : HandsBack (keeper [] (9 ∷ [])) (keeper [] (9 ∷ []))
     (Some (record { number = 7; bytes = [] })) → ⊥
 none_loose back = omega (arith, back.0.balance 7)

@@ -59,9 +59,8 @@ ends_so : (m1 m2 : Pages) (a b c d : DeviceEnd) (h : ℕ) → a ≡ c → b ≡ 
     AddsUsedBy m1 m2 c d h 0
 ends_so m1 m2 a b c d h e f adds = search (arith)
 
-queue_is : (x : QueueState) (ring : DeviceEnd) (taken : List Request) → x.ring ≡ ring →
-    x.taken ≡ taken → x ≡ record { ring = ring; taken = taken }
-queue_is x ring taken e f = search (arith)
+part_is : (x y : QueueState) → x.ring ≡ y.ring → x.taken ≡ y.taken → part_of x ≡ part_of y
+part_is x y e f = search (arith)
 
 -- the device's end of a queue
 end_of_queue : (q : ℕ) (mem : Pages) (s f t a n : ℕ) (qs : List QueueState) (l : LastStatistics)
@@ -81,9 +80,10 @@ used_at q h m1 m2 s f t a n c qs x2 l loose flags paced is known ok adds left =
     let x : QueueState = queue_at q qs in
     let now : IsDeviceQueue m1 s n q x = is.each q known in record {
       part = part_set q s f t a n qs x2 l loose flags paced is.four known
-          ∙ (ap (λ (y : QueueState). with_queue q (part_of y) (base_part s f t a n qs l loose flags paced))
-          (queue_is x2 (record x.ring { next_used = (x.ring.next_used + 1) % 65536 }) x.taken
-          adds.state left)
+          ∙ (ap (λ (k : QueuePart). with_queue q k (base_part s f t a n qs l loose flags paced))
+          (part_is x2 (record x {
+            ring = record x.ring { next_used = (x.ring.next_used + 1) % 65536 };
+          }) adds.state left)
           ∙ ap (λ (k : QueuePart). with_queue q (record k { next_used = (k.next_used + 1) % 65536 })
           (base_part s f t a n qs l loose flags paced)) (sym (part_get q s f t a n qs l loose flags paced known)));
       memory = ends_so m1 m2 x.ring x2.ring (queue_end q (base_part s f t a n qs l loose flags paced))
@@ -112,18 +112,21 @@ has_pages mem ts index r none at = grind (arith, cases_eq, nothing_taken)
 -- one queue's ring and memory's frames may have changed, and no count of pages
 pub base_used : (q : ℕ) (m1 m2 : Pages) (s n c1 c2 : ℕ) (qs : List QueueState) (x2 : QueueState) →
     IsBase m1 s n qs c1 → has_chains q ≡ true → length m2 ≡ length m1 → c2 ≡ c1 → 0 < length m1
+    → x2.number ≡ (queue_at q qs).number
     → x2.ring.layout ≡ (queue_at q qs).ring.layout → x2.ring.size ≡ (queue_at q qs).ring.size →
     x2.ring.ready ≡ (queue_at q qs).ring.ready → IsBase m2 s n (set qs (index_of q) x2) c2
-base_used q m1 m2 s n c1 c2 qs x2 b known len same pos layout size ready =
+base_used q m1 m2 s n c1 c2 qs x2 b known len same pos number layout size ready =
     let large : 64 ≤ length m1 = b.large pos in
     let fits : length m1 ≤ c1 = b.room in base_set q m1 m2 s s n c1 c2 qs x2 b known
     (λ k x is. record {
+      number = is.number;
       ring = is.ring;
       size = is.size;
       ready = is.ready;
       idle = λ z. absurd (omega (arith, len, pos, z));
       none = λ z. absurd (omega (arith, len, pos, z));
     }) (λ is. record {
+      number = number ∙ is.number;
       ring = layout ∙ is.ring;
       size = size ∙ is.size;
       ready = λ e. ready ∙ is.ready e;

@@ -134,7 +134,7 @@ restarted_is mem s1 s2 n q ready x is goes = search (arith)
 
 -- the queues of a device that nobody started
 new_is : (mem : Pages) (s n q : ℕ) → (contains s driver_ok ≡ true → false ≡ true)
-    → IsDeviceQueue mem s n q (new_queue (ring_page n q) n)
+    → IsDeviceQueue mem s n q (new_queue q n)
 new_is mem s n q stopped = search (arith)
 
 pub base_new : (mem : Pages) (s n c : ℕ) (qs : List QueueState) → qs ≡ new_queues n → IsSize n

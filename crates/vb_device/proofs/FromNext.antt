@@ -44,6 +44,7 @@ next_idle q mem x l free e z = grind (arith, idle_next mem x e z)
 -- The ring is as before but for its count, which stays where memory has no pages, as do the taken
 -- requests.
 pub record KeepsRing (mem : Pages) (x1 x2 : QueueState) : Type 0 where
+  pub number : x2.number ≡ x1.number
   pub layout : x2.ring.layout ≡ x1.ring.layout
   pub size : x2.ring.size ≡ x1.ring.size
   pub ready : x2.ring.ready ≡ x1.ring.ready

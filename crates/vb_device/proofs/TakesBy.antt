@@ -381,12 +381,14 @@ pub base_kept : (q : ℕ) (mem : Pages) (s1 s2 n c : ℕ) (qs : List QueueState)
     → KeepsRing mem (queue_at q qs) x2 → IsBase mem s2 n (set qs (index_of q) x2) c
 base_kept q mem s1 s2 n c qs x2 b known driver k = base_set q mem mem s1 s2 n c c qs x2 b known
     (λ i x is. record {
+      number = is.number;
       ring = is.ring;
       size = is.size;
       ready = λ e. is.ready driver;
       idle = is.idle;
       none = is.none;
     }) (λ is. record {
+      number = k.number ∙ is.number;
       ring = k.layout ∙ is.ring;
       size = k.size ∙ is.size;
       ready = λ e. k.ready ∙ is.ready driver;

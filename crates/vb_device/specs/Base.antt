@@ -24,7 +24,7 @@ index_of q = if q == REPORT_QUEUE then 3 else q
 -- The four queues of so many descriptors, each at the ring page of its number.
 abbrev pub new_queues : ℕ → List QueueState
 new_queues size =
-    map (λ q. new_queue (ring_page size q) size)
+    map (λ q. new_queue q size)
     (INFLATE_QUEUE ∷ DEFLATE_QUEUE ∷ STATISTICS_QUEUE ∷ REPORT_QUEUE ∷ [])
 
 -- The queue of this number.
@@ -51,10 +51,11 @@ base_part status features target actual queue_size queues last loose ballooned p
       paced = paced;
     }
 
--- What is always true of one queue: its ring is in its pages, a driver that is ready finds it
--- ready, and where no device is attached nothing was taken from it.
+-- What is always true of one queue: it has its number, its ring is in its pages, a driver that is
+-- ready finds it ready, and where no device is attached nothing was taken from it.
 pub record IsDeviceQueue (mem : Pages) (status descriptors q : ℕ)
     (queue : QueueState) : Type 0 where
+  pub number : queue.number ≡ q
   pub ring : queue.ring.layout ≡ layout_of (ring_page descriptors q) descriptors
   pub size : queue.ring.size ≡ descriptors
   pub ready : contains status driver_ok ≡ true → queue.ring.ready ≡ true

@@ -11,7 +11,7 @@ use Rattle.vb_model.specs.Status.{needs_reset}
 use Rattle.vb_model.specs.Requests.{Request}
 use Rattle.vb_model.specs.declared.replies.LastStatistics.{LastStatistics}
 use Rattle.vb_model.specs.Limits.{page_size}
-use Rattle.vb_model.specs.Layout.{reserved_pages}
+use Rattle.vb_model.specs.Layout.{reserved_pages, ring_page}
 use Rattle.vb_ram.specs.Pages.{Pages}
 use Rattle.vb_ram.specs.Part.{QueuePart}
 use Rattle.vb_chain.specs.declared.fault.ChainFault.{ChainFault}
@@ -26,18 +26,21 @@ use Rattle.vb_request.specs.Asked.{request_of, noted}
 
 -- The device's end of the ring, and the chains that are taken, oldest first.
 pub record QueueState : Type 0 where
+  -- its number
+  pub number : ℕ
   pub ring : DeviceEnd
   pub taken : List Request
 
 abbrev pub part_of : QueueState → QueuePart
 part_of q = record { next_avail = q.ring.next_avail; next_used = q.ring.next_used; taken = q.taken }
 
--- A queue of so many descriptors whose ring begins with this page, and which isn't ready.
+-- The queue of this number, with so many descriptors, which isn't ready.
 abbrev pub new_queue : ℕ → ℕ → QueueState
-new_queue page size =
+new_queue q size =
     record {
+      number = q;
       ring = record {
-        layout = layout_of page size;
+        layout = layout_of (ring_page size q) size;
         size = size;
         ready = false;
         next_avail = 0;
@@ -59,12 +62,12 @@ pub record IsTaken (size : ℕ) (r : Request) : Type 0 where
 -- The same queue that begins anew, ready or not.
 abbrev pub restarted : Bool → QueueState → QueueState
 restarted ready q =
-    record { ring = record q.ring { ready = ready; next_avail = 0; next_used = 0 }; taken = [] }
+    record q { ring = record q.ring { ready = ready; next_avail = 0; next_used = 0 }; taken = [] }
 
 -- One more chain is taken, as a request for these pages.
 abbrev pub with_request : ℕ → List ℕ → QueueState → QueueState
 with_request h pages q =
-    record {
+    record q {
       ring = record q.ring { next_avail = (q.ring.next_avail + 1) % 65536 };
       taken = q.taken ++ (record { head = h; pages = pages; visited = 0 } ∷ []);
     }

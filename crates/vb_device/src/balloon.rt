@@ -13,7 +13,7 @@ ghost use Rattle.vb_device.specs.Calls.{IsUnused};
 use crate::discarding::discard_memory;
 use crate::pace::{Immediate, Pace, Paced};
 use crate::queue::DeviceQueue;
-use crate::queues::{index_of, new_queues, place_queues};
+use crate::queues::{index_of, new_queues};
 use crate::{Claimed, Device, Statistics, Worked};
 use bitflags::Flags;
 use chains::note_fault;
@@ -23,7 +23,7 @@ use vb_bits::BitSet;
 use vb_chain::Chain;
 use vb_model::layout::STATISTICS_QUEUE;
 use vb_model::{Refusal, limits};
-use vb_ram::{Config, Frame, Ram, SupplyRefused};
+use vb_ram::{Config, Frame, Ram, Shape, SupplyRefused};
 use vb_status::{Features, Status};
 
 /// A device that discards an inflate's pages when it finishes the request.
@@ -93,6 +93,9 @@ impl<P: Pace> BalloonDevice<P> {
         ensures keeps { result.part.keeps ≡ false }
         ensures own { result.part.own ≡ [] }
     {
+        let shape = Shape {
+            queue_size: limits::MAX_QUEUE_SIZE as u16,
+        };
         BalloonDevice {
             ram: Ram::empty(alloc),
             status: Status::empty(),
@@ -100,8 +103,8 @@ impl<P: Pace> BalloonDevice<P> {
             target: 0,
             actual: 0,
             ballooned: BitSet::empty(alloc),
-            queue_size: limits::MAX_QUEUE_SIZE as u16,
-            queues: new_queues(),
+            queue_size: shape.queue_size,
+            queues: new_queues(shape),
             last: Statistics::NONE,
             loose: Vec::new(alloc),
             chain: Chain::new(),
@@ -159,7 +162,7 @@ impl<P: Pace> Device for BalloonDevice<P> {
         self.loose = loose;
         self.target = 0;
         self.queue_size = config.queue_size;
-        place_queues(&mut self.queues, config.shape());
+        self.queues = new_queues(config.shape());
         Ok(())
     }
 
@@ -191,7 +194,7 @@ impl<P: Pace> Device for BalloonDevice<P> {
             return Err(why);
         }
         let place = index_of(queue);
-        let taken = self.queues[place].take(queue, &self.ram, &mut self.chain, &mut self.last);
+        let taken = self.queues[place].take(&self.ram, &mut self.chain, &mut self.last);
         note_fault(&mut self.status, &taken);
         taken
     }

@@ -38,6 +38,8 @@ use vb_ring::Queue;
 /// The device's end of a queue.
 #[derive(Drop)]
 pub(crate) struct DeviceQueue {
+    /// Its number.
+    number: u32,
     /// The device's end of the ring.
     queue: Queue,
     /// The chains that are taken, oldest first.
@@ -50,32 +52,25 @@ impl Model for DeviceQueue {
 
     ghost Value = { QueueState };
 
-    ghost view = { λ q. record { ring = q.queue; taken = q.taken } };
+    ghost view = { λ q. record { number = q.number; ring = q.queue; taken = q.taken } };
 
     ghost invariant = { λ q. All (IsTaken q.queue.size) q.taken };
 }
 
 impl DeviceQueue {
-    /// A queue of the greatest size whose ring begins with this page, and which isn't ready.
-    pub(crate) fn new(page: u16) -> DeviceQueue
-        ensures { result ≡ new_queue page MAX_QUEUE_SIZE }
+    /// The queue of this number in a device of this shape; it isn't ready.
+    pub(crate) fn new(number: u32, shape: Shape) -> DeviceQueue
+        requires { IsTrue (is_power_of_two shape.queue_size) × (MIN_QUEUE_SIZE ≤ shape.queue_size) ×
+            (shape.queue_size ≤ MAX_QUEUE_SIZE) }
+        ensures { result ≡ new_queue number shape.queue_size }
     {
+        let mut queue = Queue::new(shape.ring_page(number));
+        let _sized = queue.set_size(shape.queue_size);
         DeviceQueue {
-            queue: Queue::new(page),
+            number,
+            queue,
             taken: TakenList::new(),
         }
-    }
-
-    /// Gives the queue so many descriptors, in a ring that begins with this page; nothing is taken,
-    /// and it isn't ready.
-    pub(crate) fn place(&mut self, page: u16, size: u16)
-        requires { IsTrue (is_power_of_two size) × (MIN_QUEUE_SIZE ≤ size) ×
-            (size ≤ MAX_QUEUE_SIZE) }
-        ensures { self.new ≡ new_queue page size }
-    {
-        self.set_ready(false);
-        self.queue = Queue::new(page);
-        let _sized = self.queue.set_size(size);
     }
 
     /// Where its ring lies: for the tests.
@@ -94,11 +89,11 @@ impl DeviceQueue {
         self.queue.set_ready(ready);
     }
 
-    /// Whether as many chains are taken as may be of the queue of this number.
-    fn is_full(&self, queue: u32) -> bool
-        ensures { result ≡ is_full queue self.now }
+    /// Whether as many chains are taken as may be.
+    fn is_full(&self) -> bool
+        ensures { result ≡ is_full self.now.number self.now }
     {
-        let most = if queue == STATISTICS_QUEUE {
+        let most = if self.number == STATISTICS_QUEUE {
             1
         } else {
             MAX_TAKEN
@@ -106,13 +101,12 @@ impl DeviceQueue {
         self.taken.as_slice().len() >= most
     }
 
-    /// Takes the next chain of this queue, which has this number: answers its head, or none where
-    /// no chain is available. What a buffer of statistics says replaces `last`. Refused with `Busy`
-    /// where as many chains are taken as may be, and with `Broken` where the chain breaks a rule;
-    /// then nothing is changed. In `chain` it has room to work.
+    /// Takes the next chain of this queue: answers its head, or none where no chain is available.
+    /// What a buffer of statistics says replaces `last`. Refused with `Busy` where as many chains
+    /// are taken as may be, and with `Broken` where the chain breaks a rule; then nothing is
+    /// changed. In `chain` it has room to work.
     pub(crate) fn take<G: GuestBytes>(
         &mut self,
-        queue: u32,
         ram: &G,
         chain: &mut Chain,
         last: &mut Statistics,
@@ -121,11 +115,11 @@ impl DeviceQueue {
             IsInside (G.mem ram.now) self.old.ring.layout }
         requires idle { length (G.mem ram.now) ≡ 0 → self.old.ring.next_avail ≡ 0 }
         requires ready { self.old.ring.ready ≡ true }
-        ensures { TakesNext queue (G.mem ram.now) self.old self.new
+        ensures { TakesNext self.old.number (G.mem ram.now) self.old self.new
             (record { free = last.old.free; total = last.old.total })
             (record { free = last.new.free; total = last.new.total }) result }
     {
-        if self.is_full(queue) {
+        if self.is_full() {
             return Err(Refusal::Busy);
         }
         if ram.pages() == 0 {
@@ -140,7 +134,7 @@ impl DeviceQueue {
                 None => Ok(None),
                 Some(head) => match self
                     .taken
-                    .take(head, queue, shape, ram, chain.pieces(), last)
+                    .take(head, self.number, shape, ram, chain.pieces(), last)
                 {
                     Ok(()) => Ok(Some(head)),
                     Err(wrong) => {
@@ -197,23 +191,23 @@ impl DeviceQueue {
         ram: &mut Ram,
         loose: &mut Vec<Frame>,
         ballooned: &mut BitSet,
-        queue: u32,
         index: u32,
     )
         requires inside { index < length self.old.taken }
         requires room { length loose.old.items + count_by is_some ram.old ≤ vec_capacity loose.old }
         ensures taken { self.new ≡ record self.old { taken = remove self.old.taken index } }
         ensures mem { (r : Request) → slice_get self.old.taken index ≡ Some r →
-            ram.new ≡ without_frames queue r.pages ram.old }
+            ram.new ≡ without_frames self.old.number r.pages ram.old }
         ensures loose { (r : Request) → slice_get self.old.taken index ≡ Some r →
             numbers_of_frames loose.new.items ≡
-            with_lost queue ram.old r.pages (numbers_of_frames loose.old.items) }
+            with_lost self.old.number ram.old r.pages (numbers_of_frames loose.old.items) }
         ensures capacity { vec_capacity loose.new ≡ vec_capacity loose.old }
         ensures ballooned { (r : Request) → slice_get self.old.taken index ≡ Some r →
-            ballooned.new ≡ flags_after queue r.pages ballooned.old }
+            ballooned.new ≡ flags_after self.old.number r.pages ballooned.old }
         ensures was { (r : Request) → slice_get self.old.taken index ≡ Some r →
             IsTaken self.old.ring.size r }
     {
+        let queue = self.number;
         let Ok(request) = self.taken(index, false) else {
             unreachable!()
         };
@@ -229,6 +223,7 @@ impl DeviceQueue {
         requires head { head < self.old.ring.size }
         ensures adds { AddsUsedBy (G.mem ram.old) (G.mem ram.new)
             self.old.ring self.new.ring head 0 }
+        ensures number { self.new.number ≡ self.old.number }
         ensures taken { self.new.taken ≡ self.old.taken }
         ensures part { G.part ram.new ≡ G.part ram.old }
     {

@@ -9,7 +9,6 @@ ghost use Rattle.vb_device.specs.QueueState.{restarted};
 
 use crate::queue::DeviceQueue;
 use vb_model::layout::{DEFLATE_QUEUE, INFLATE_QUEUE, REPORT_QUEUE, STATISTICS_QUEUE};
-use vb_model::limits;
 use vb_ram::Shape;
 
 /// Where the queue of inflates stands among a device's four.
@@ -37,32 +36,18 @@ pub(crate) fn index_of(queue: u32) -> usize
     }
 }
 
-/// The queues of a device that no guest has yet, of the greatest size; none is ready.
-pub(crate) fn new_queues() -> [DeviceQueue; 4]
-    ensures { result ≡ new_queues MAX_QUEUE_SIZE }
-{
-    let shape = Shape {
-        queue_size: limits::MAX_QUEUE_SIZE as u16,
-    };
-    [
-        DeviceQueue::new(shape.ring_page(INFLATE_QUEUE)),
-        DeviceQueue::new(shape.ring_page(DEFLATE_QUEUE)),
-        DeviceQueue::new(shape.ring_page(STATISTICS_QUEUE)),
-        DeviceQueue::new(shape.ring_page(REPORT_QUEUE)),
-    ]
-}
-
-/// Gives each queue the descriptors and the ring pages of this shape; nothing is taken, and none is
-/// ready.
-pub(crate) fn place_queues(queues: &mut [DeviceQueue; 4], shape: Shape)
+/// The queues of this shape, of which none is ready.
+pub(crate) fn new_queues(shape: Shape) -> [DeviceQueue; 4]
     requires { IsTrue (is_power_of_two shape.queue_size) × (MIN_QUEUE_SIZE ≤ shape.queue_size) ×
         (shape.queue_size ≤ MAX_QUEUE_SIZE) }
-    ensures { queues.new ≡ new_queues shape.queue_size }
+    ensures { result ≡ new_queues shape.queue_size }
 {
-    queues[INFLATES].place(shape.ring_page(INFLATE_QUEUE), shape.queue_size);
-    queues[DEFLATES].place(shape.ring_page(DEFLATE_QUEUE), shape.queue_size);
-    queues[STATISTICS].place(shape.ring_page(STATISTICS_QUEUE), shape.queue_size);
-    queues[REPORTS].place(shape.ring_page(REPORT_QUEUE), shape.queue_size);
+    [
+        DeviceQueue::new(INFLATE_QUEUE, shape),
+        DeviceQueue::new(DEFLATE_QUEUE, shape),
+        DeviceQueue::new(STATISTICS_QUEUE, shape),
+        DeviceQueue::new(REPORT_QUEUE, shape),
+    ]
 }
 
 /// Starts or stops each queue; nothing is taken.

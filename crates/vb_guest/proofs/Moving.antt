@@ -1,6 +1,7 @@
 -- Frames go out of a guest's supply and come back to it.
 use Rattle.std.specs.Prelude.{◌≡◌, ℕ, ◌+◌, ◌==◌, Bool, true, false, if◌then◌else◌, List, [], ◌∷◌}
-use Rattle.std.{specs.Prelude.{slice_set, Some, refl}, proofs.Common.{sym, ◌∙◌, ap, arith, inl, inr}}
+use Rattle.std.specs.Prelude.{slice_set, Some, refl}
+use Rattle.std.proofs.Common.{sym, ◌∙◌, ap, arith, inl, inr}
 use Rattle.std.proofs.lemmas.{Bool.{cases_Bool, eq-eqb}, Grind.common_steps}
 use Rattle.vb_model.{specs.Tests.one_if, specs.Orderly.times, proofs.Tables.count_by-cons}
 use Rattle.vb_ram.specs.{Part.{Part}, Pages.{Page}}

@@ -55,13 +55,7 @@ impl<P: Pace> BalloonDevice<P> {
         let place = index_of(queue);
         let request = self.queues[place].taken(index, visits_first(P::IS_PACED, queue))?;
         let head = request.head();
-        self.queues[place].take_out(
-            &mut self.ram,
-            &mut self.loose,
-            &mut self.ballooned,
-            queue,
-            index,
-        );
+        self.queues[place].take_out(&mut self.ram, &mut self.loose, &mut self.ballooned, index);
         Ok(head)
     }
 

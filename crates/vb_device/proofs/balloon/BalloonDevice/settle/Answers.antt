@@ -4,6 +4,7 @@ use Rattle.vb_model.{specs.declared.replies.LastStatistics.LastStatistics, specs
 use Rattle.vb_model.{specs.Status.{contains, driver_ok}, specs.Requests.Request}
 use Rattle.vb_ram.specs.Pages.{Pages}
 use Rattle.vb_status.specs.Bits.{status_bits, feature_bits}
+use Rattle.vb_device.specs.Calls.{without_frames}
 use Rattle.vb_device.proofs.Finishes.{without_taken, base_used, has_pages, can_use, kept_length}
 use Rattle.vb_device.proofs.{FourQueues.entry_is, Marks.after-length, TakesBy.queue_known}
 use Rattle.vb_device.{proofs.TakesBy.{queue_status, status_ok}, specs.Base.{queue_at, IsBase}}
@@ -25,7 +26,7 @@ invariant_of-self g c = let q : ℕ = c.args.queue in
     let here = ap
     (λ (x : QueueState). slice_get x.taken c.args.index) (at c.index-self-place-2.result) ∙ there in
     let count : length c.take_out.new.ram ≡ length c.self.inside.ram = ap (λ (m : Pages). length m)
-    (c.take_out.ensures.mem r here) ∙ kept_length q r.pages c.self.inside.ram in
+    (c.take_out.ensures.mem r here) ∙ kept_length _ r.pages c.self.inside.ram in
     let left : c.take_out.new.self ≡ without_taken (queue_at q qs) c.args.index =
     c.take_out.ensures.taken
     ∙ ap (λ (x : QueueState). without_taken x c.args.index) (at c.index-self-place-2.result) in (
@@ -36,10 +37,11 @@ invariant_of-self g c = let q : ℕ = c.args.queue in
           c.take_out.new.self c.self.invariant.0 known count c.take_out.ensures.capacity
           (has_pages c.self.inside.ram (queue_at q qs).taken c.args.index r
           (c.self.invariant.0.each q known).none there)
+          (ap (λ (x : QueueState). x.number) left)
           (ap (λ (x : QueueState). x.ring.layout) left) (ap (λ (x : QueueState). x.ring.size) left)
           (ap (λ (x : QueueState). x.ring.ready) left)),
       ap (λ (flags : List Bool). length flags) (c.take_out.ensures.ballooned r here)
-          ∙ (after-length q r.pages c.self.inside.ballooned ∙ (c.self.invariant.1 ∙ sym count)),
+          ∙ (after-length _ r.pages c.self.inside.ballooned ∙ (c.self.invariant.1 ∙ sym count)),
     )
 
 pub returns-clause-ready : goal.returns-clause-ready
@@ -65,4 +67,7 @@ returns-clause-ready g c = let q : ℕ = c.args.queue in
     (feature_bits c.self.inside.features) c.self.inside.target c.self.inside.actual
     c.self.inside.queue_size _ qs c.take_out.new.self last c.take_out.new.loose.items
     c.take_out.new.ballooned g.P.Pace.IS_PACED c.self.invariant.0 known (queue_status q s ok)
-    is.head is.above (c.take_out.ensures.mem r here) backed))
+    is.head is.above (c.take_out.ensures.mem r here
+    ∙ ap (λ (n : ℕ). without_frames n r.pages c.self.inside.ram)
+    (ap (λ (x : QueueState). x.number) (at c.index-self-place-2.result)
+    ∙ (c.self.invariant.0.each q known).number)) backed))

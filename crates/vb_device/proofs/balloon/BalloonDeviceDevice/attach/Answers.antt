@@ -8,8 +8,8 @@ use Rattle.vb_device.proofs.Sizes.{size_is_power, size_is}
 use Rattle.vb_status.specs.Bits.{status_bits}
 use Rattle.vb_device.proofs.balloon.BalloonDeviceDevice.attach.Goals as goal
 
-pub place_queues-requires : goal.place_queues-requires
-place_queues-requires g c = grind (arith, size_is_power)
+pub new_queues-self-inside-requires : goal.new_queues-self-inside-requires
+new_queues-self-inside-requires g c = grind (arith, size_is_power)
 
 pub invariant_of-self : goal.invariant_of-self
 invariant_of-self g c =
@@ -23,8 +23,9 @@ invariant_of-self g c =
     let marks : length c.in_ok-ballooned.ballooned ≡ c.args.config.pages =
     ap (λ (flags : List Bool). length flags) c.in_ok-ballooned.ensures
     ∙ length-replicate c.args.config.pages false in (
-      base_new c.in-Ok.ram _ c.args.config.queue_size _ c.place_queues.new.queues
-          (c.place_queues.ensures ∙ ap (λ (s : Shape). new_queues s.queue_size) c.shape.ensures)
+      base_new c.in-Ok.ram _ c.args.config.queue_size _ c.new_queues-self-inside.result
+          (c.new_queues-self-inside.ensures
+          ∙ ap (λ (s : Shape). new_queues s.queue_size) c.shape.ensures)
           (size_is c.args.config.pages c.args.config.queue_size c.args.config.processors
           c.requires.config) (λ h. sym stopped ∙ h) (λ l. omega (arith, count, limits.pages_least))
           (search rules),

@@ -3,4 +3,5 @@ use Rattle.vb_device.proofs.LooseFrames.{pops_last}
 use Rattle.vb_device.proofs.balloon.BalloonDeviceDevice.pop_loose.Goals as goal
 
 pub returns-clause-frame : goal.returns-clause-frame
-returns-clause-frame g c = pops_last c.args.self.now.part _ c.pop.result (grind (arith, common_steps))
+returns-clause-frame g c =
+    pops_last c.args.self.now.part _ c.pop.result (grind (arith, common_steps))

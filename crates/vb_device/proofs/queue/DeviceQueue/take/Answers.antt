@@ -10,7 +10,9 @@ use Rattle.vb_request.{specs.Asked.{request_of, noted}, proofs.Chains.chain_fits
 use Rattle.vb_request.specs.declared.statistics.Statistics.{Statistics}
 use Rattle.vb_device.specs.QueueState.{QueueState, IsTaken, is_full}
 use Rattle.vb_device.proofs.FromNext.{next_busy, next_idle}
-use Rattle.vb_device.proofs.Takes.{next_none, next_err, next_wrong, next_right, one_all}
+use Rattle.vb_device.proofs.Takes.{IsOpen, next_none, next_err, next_wrong, next_right, one_all}
+use Rattle.vb_device.proofs.queue.DeviceQueue.take.Goals.{After-pop_descriptor_chain_into}
+use Rattle.vb_device.proofs.queue.DeviceQueue.take.Given.{Over}
 use Rattle.vb_device.proofs.queue.DeviceQueue.take.Goals as goal
 
 -- what the device knows of its guest's memory
@@ -30,36 +32,37 @@ read_so q n size mem read pieces answer e f h = ap (λ (k : ℕ). request_of q k
     ∙ (ap (request_of q n mem) (sym f) ∙ h)
 
 pub returns-then-is_full : goal.returns-then-is_full
-returns-then-is_full g c = let full : is_full c.args.queue c.args.self.now ≡ true = search rules in
-    next_busy c.args.queue (g.G.GuestBytes.mem c.args.ram.now) c.args.self.now (was c.args.last.now) full
+returns-then-is_full g c =
+    let full : is_full c.args.self.now.number c.args.self.now ≡ true = search rules in
+    next_busy c.args.self.now.number (g.G.GuestBytes.mem c.args.ram.now) c.args.self.now
+    (was c.args.last.now) full
 
 pub returns-then-pages-eq0 : goal.returns-then-pages-eq0
 returns-then-pages-eq0 g c =
-    let free : is_full c.args.queue c.args.self.now ≡ false = search rules in
+    let free : is_full c.args.self.now.number c.args.self.now ≡ false = search rules in
     let none : length (g.G.GuestBytes.mem c.args.ram.now) ≡ 0 = search rules in
-    next_idle c.args.queue (g.G.GuestBytes.mem c.args.ram.now)
+    next_idle c.args.self.now.number (g.G.GuestBytes.mem c.args.ram.now)
     c.args.self.now (was c.args.last.now) free none (c.requires.idle none)
 
+-- the queue, as the call finds it
+may_take : (g : Over) (c : After-pop_descriptor_chain_into g)
+    → IsOpen c.self.inside.number c.self.inside.queue c.self.inside.taken
+may_take g c = (
+  ap (λ (x : QueueState). is_full x.number x) c.self.view_is
+      ∙ (sym c.is_full.ensures ∙ c.if-is_full.false),
+  ap (λ (x : QueueState). x.ring.ready) c.self.view_is ∙ c.requires.ready,
+)
+
 pub returns-in-Err : goal.returns-in-Err
-returns-in-Err g c =
-    let free : is_full c.args.queue (record { ring = c.self.inside.queue; taken = c.self.inside.taken }) ≡
-    false = ap (is_full c.args.queue) c.self.view_is ∙ (sym c.is_full.ensures ∙ c.if-is_full.false) in
-    let ready : c.self.inside.queue.ready ≡ true =
-    ap (λ (q : QueueState). q.ring.ready) c.self.view_is ∙ c.requires.ready in rw (← c.self.view_is)
-    (rw c.broken.ensures
-    (next_err c.args.queue (g.G.GuestBytes.mem c.args.ram.now) c.self.inside.queue
-    c.pop_descriptor_chain_into.new.self c.self.inside.taken
-    (was c.args.last.now) c.in-Err.fault free ready c.in-Err.ensures.pops))
+returns-in-Err g c = let may = may_take g (goal.at.returns-in-Err g c).After-pop_descriptor_chain_into in
+    rw (← c.self.view_is) (rw c.broken.ensures (next_err c.self.inside.number _ _ _ _
+    (was c.args.last.now) c.in-Err.fault may c.in-Err.ensures.pops))
 
 pub returns-in-None : goal.returns-in-None
 returns-in-None g c =
-    let free : is_full c.args.queue (record { ring = c.self.inside.queue; taken = c.self.inside.taken }) ≡
-    false = ap (is_full c.args.queue) c.self.view_is ∙ (sym c.is_full.ensures ∙ c.if-is_full.false) in
-    let ready : c.self.inside.queue.ready ≡ true =
-    ap (λ (q : QueueState). q.ring.ready) c.self.view_is ∙ c.requires.ready in
+    let may = may_take g (goal.at.returns-in-None g c).After-pop_descriptor_chain_into in
     let pops = rw c.in-None.is at c.in-Ok.ensures.pops in rw (← c.self.view_is)
-    (next_none c.args.queue (g.G.GuestBytes.mem c.args.ram.now) c.self.inside.queue
-    c.pop_descriptor_chain_into.new.self c.self.inside.taken (was c.args.last.now) free ready pops)
+    (next_none c.self.inside.number _ _ _ _ (was c.args.last.now) may pops)
 
 pub take-requires-clause-inside : goal.take-requires-clause-inside
 take-requires-clause-inside g c =
@@ -88,45 +91,33 @@ invariant_of-self-in-Ok-take g c =
 
 pub returns-in-Ok-take : goal.returns-in-Ok-take
 returns-in-Ok-take g c =
-    let free : is_full c.args.queue (record { ring = c.self.inside.queue; taken = c.self.inside.taken }) ≡
-    false = ap (is_full c.args.queue) c.self.view_is ∙ (sym c.is_full.ensures ∙ c.if-is_full.false) in
-    let ready : c.self.inside.queue.ready ≡ true =
-    ap (λ (q : QueueState). q.ring.ready) c.self.view_is ∙ c.requires.ready in
+    let may = may_take g (goal.at.returns-in-Ok-take g c).After-pop_descriptor_chain_into in
+    let q : ℕ = c.self.inside.number in
+    let mem : Pages = g.G.GuestBytes.mem c.args.ram.now in
     let taken : Taken =
     record { head = c.in-Some.head; chain = c.pop_descriptor_chain_into.new.chain } in
     let pops = rw c.in-Some.is at c.in-Ok.ensures.pops in
-    let good : request_of c.args.queue c.self.inside.queue.size (g.G.GuestBytes.mem c.args.ram.now) taken.chain ≡
+    let good : request_of q c.self.inside.queue.size mem taken.chain ≡
     Ok c.in-Ok-take.ensures.taken.0 =
-    read_so c.args.queue c.size.result c.self.inside.queue.size (g.G.GuestBytes.mem c.args.ram.now)
-    c.pieces.result.now taken.chain (Ok c.in-Ok-take.ensures.taken.0) c.size.ensures c.pieces.ensures
-    c.in-Ok-take.ensures.taken.1 in
-    let said : was c.take.new.last ≡
-    noted c.args.queue (g.G.GuestBytes.mem c.args.ram.now) taken.chain (was c.args.last.now) =
-    last_is c.take.new.last (noted c.args.queue (g.G.GuestBytes.mem c.args.ram.now)
-    c.pieces.result.now (was c.args.last.now)) c.in-Ok-take.ensures.said
-    ∙ ap (λ (xs : List Piece). noted c.args.queue (g.G.GuestBytes.mem c.args.ram.now) xs
-    (was c.args.last.now)) c.pieces.ensures in rw (← c.self.view_is)
-    (rw c.in-Ok-take.ensures.taken.3
-    (next_right c.args.queue (g.G.GuestBytes.mem c.args.ram.now) c.self.inside.queue
-    c.pop_descriptor_chain_into.new.self c.self.inside.taken
-    (was c.args.last.now) (was c.take.new.last) taken c.in-Ok-take.ensures.taken.0 free ready pops good said))
+    read_so q _ _ mem _ _ _ c.size.ensures c.pieces.ensures c.in-Ok-take.ensures.taken.1 in
+    let said : was c.take.new.last ≡ noted q mem taken.chain (was c.args.last.now) =
+    last_is c.take.new.last (noted q mem c.pieces.result.now (was c.args.last.now))
+    c.in-Ok-take.ensures.said
+    ∙ ap (λ (xs : List Piece). noted q mem xs (was c.args.last.now)) c.pieces.ensures in
+    rw (← c.self.view_is) (rw c.in-Ok-take.ensures.taken.3
+    (next_right q mem _ _ _ _ (was c.take.new.last) taken _ may pops good said))
 
 pub returns-in-Err-take : goal.returns-in-Err-take
 returns-in-Err-take g c =
-    let free : is_full c.args.queue (record { ring = c.self.inside.queue; taken = c.self.inside.taken }) ≡
-    false = ap (is_full c.args.queue) c.self.view_is ∙ (sym c.is_full.ensures ∙ c.if-is_full.false) in
-    let ready : c.self.inside.queue.ready ≡ true =
-    ap (λ (q : QueueState). q.ring.ready) c.self.view_is ∙ c.requires.ready in
+    let may = may_take g (goal.at.returns-in-Err-take g c).After-pop_descriptor_chain_into in
+    let q : ℕ = c.self.inside.number in
+    let mem : Pages = g.G.GuestBytes.mem c.args.ram.now in
     let taken : Taken =
     record { head = c.in-Some.head; chain = c.pop_descriptor_chain_into.new.chain } in
     let pops = rw c.in-Some.is at c.in-Ok.ensures.pops in
-    let bad : request_of c.args.queue c.self.inside.queue.size (g.G.GuestBytes.mem c.args.ram.now) taken.chain ≡
-    Err c.in-Err-take.wrong =
-    read_so c.args.queue c.size.result c.self.inside.queue.size (g.G.GuestBytes.mem c.args.ram.now)
-    c.pieces.result.now taken.chain (Err c.in-Err-take.wrong) c.size.ensures c.pieces.ensures
-    c.in-Err-take.ensures.fault in rw (← c.self.view_is) (rw c.in-Err-take.ensures.kept
+    let bad : request_of q c.self.inside.queue.size mem taken.chain ≡ Err c.in-Err-take.wrong =
+    read_so q _ _ mem _ _ _ c.size.ensures c.pieces.ensures c.in-Err-take.ensures.fault in
+    rw (← c.self.view_is) (rw c.in-Err-take.ensures.kept
     (rw c.broken-in-Err-take.ensures (rw c.in-Err-take.ensures.err
-    (next_wrong c.args.queue (g.G.GuestBytes.mem c.args.ram.now) c.self.inside.queue
-    c.pop_descriptor_chain_into.new.self c.go_to_previous_position.new.self c.self.inside.taken
-    (was c.args.last.now) taken c.in-Err-take.wrong free ready pops bad
+    (next_wrong q mem _ _ _ _ (was c.args.last.now) taken c.in-Err-take.wrong may pops bad
     c.go_to_previous_position.ensures))))
