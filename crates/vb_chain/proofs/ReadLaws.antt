@@ -1,12 +1,11 @@
 -- Fields of guest memory in bytes that were read or written at once.
-use Rattle.std.specs.Prelude.{◌≡◌, ℕ, zero, suc, ◌+◌, ◌*◌, ◌<◌, ◌≤◌, List, [], ◌++◌, drop, take}
-use Rattle.std.{specs.Prelude.{slice_index, refl}, proofs.Common.{sym, ◌∙◌, ap, arith}}
-use Rattle.std.proofs.lemmas.List.{get_or-drop, get_or-take}
+use Rattle.std.specs.Prelude.{slice_index, refl}
+use Rattle.std.proofs.{Common.{sym, ◌∙◌, ap, arith}, lemmas.List.{get_or-drop, get_or-take}}
 use Rattle.byteorder.specs.Endian.{little_from, little_number, little_bytes}
-use Rattle.byteorder.specs.Numbers.{little_number-reads_back}
 use Rattle.vb_ram.specs.Pages.{Pages, byte_at, field, Wrote}
-use Rattle.vb_chain.{specs.declared.descriptor.Descriptor.Descriptor, proofs.TableLaws.same_parts}
+use Rattle.vb_chain.specs.declared.descriptor.Descriptor.{Descriptor}
 use Rattle.vb_chain.specs.Table.{descriptor_at, bytes_of, FitsBytes}
+use Rattle.std.specs.Prelude.{◌≡◌, ℕ, zero, suc, ◌+◌, ◌*◌, ◌<◌, ◌≤◌, List, [], ◌++◌, drop, take}
 
 -- bytes from a place on are the number that they are in memory
 little_field : (n : ℕ) (mem : Pages) (p o i : ℕ) (bytes : List ℕ) → ((k : ℕ) → k < n
@@ -41,12 +40,10 @@ descriptor_written old new p i d fits wrote = let bytes : List ℕ = bytes_of d 
     let read : (k : ℕ) → k < 16 → slice_index bytes k ≡ byte_at new p (16 * i + k) =
     λ k l. sym (wrote.written k l) in
     let last : List ℕ = little_bytes 2 d.next in
-    let behind : List ℕ = little_bytes 2 d.flags ++ last in same_parts _ _
-    (sym (field_first 8 new p (16 * i) bytes read (omega arith))
-    ∙ little_number-reads_back 8 d.addr (little_bytes 4 d.len ++ behind) fits.addr)
-    (sym (field_after 4 new p (16 * i) 8 8 bytes read (omega arith) (omega arith))
-    ∙ little_number-reads_back 4 d.len behind fits.len)
-    (sym (field_after 2 new p (16 * i) 12 4 bytes read (omega arith) (omega arith))
-    ∙ little_number-reads_back 2 d.flags last fits.flags)
-    (sym (field_after 2 new p (16 * i) 14 2 bytes read (omega arith) (omega arith))
-    ∙ little_number-reads_back 2 d.next [] fits.next)
+    grind (
+      arith,
+      field_first 8 new p (16 * i) bytes read (omega arith),
+      field_after 4 new p (16 * i) 8 8 bytes read (omega arith) (omega arith),
+      field_after 2 new p (16 * i) 12 4 bytes read (omega arith) (omega arith),
+      field_after 2 new p (16 * i) 14 2 bytes read (omega arith) (omega arith),
+    )

@@ -1,6 +1,7 @@
+use Rattle.vb_ram.{proofs.FieldLaws.{same_page, field_in}, specs.Pages.{page_at, Pages, SameIn}}
+use Rattle.vb_chain.specs.{Table.descriptor_at, declared.descriptor.Descriptor.Descriptor}
+use Rattle.std.proofs.Common.{arith}
 use Rattle.std.{specs.Prelude.{◌≡◌, ℕ, ◌+◌, ◌*◌}, proofs.Common.arith}
-use Rattle.vb_ram.{specs.Pages.{page_at, Pages, SameIn}, proofs.FieldLaws.{same_page, field_in}}
-use Rattle.vb_chain.{specs.declared.descriptor.Descriptor.Descriptor, specs.Table.descriptor_at}
 
 pub same_parts : (a b : Descriptor) → a.addr ≡ b.addr → a.len ≡ b.len → a.flags ≡ b.flags
     → a.next ≡ b.next → a ≡ b

@@ -1,11 +1,10 @@
 -- From one head there is one chain, or one fault, and not both.
-use Rattle.std.proofs.Common.{◌≡◌, ℕ, zero, suc, ◌+◌, ◌-◌, ◌<◌, ◌≤◌, List, true, false, Some, None}
-use Rattle.std.{proofs.Common.{length, take, sym, ◌∙◌, ap, inl, inr, arith}, specs.List.list_any}
-use Rattle.std.{specs.Prelude.slice_index, proofs.lemmas.List.{length-take-le, get_or-take}}
-use Rattle.std.{proofs.lemmas.Grind.same_number_lists, proofs.lemmas.Bool.cases_lt}
-use Rattle.vb_chain.specs.declared.descriptor.Descriptor.{Descriptor}
-use Rattle.vb_chain.{specs.declared.pieces.Piece.Piece, specs.declared.fault.ChainFault.ChainFault}
-use Rattle.vb_chain.specs.Rules.{has_next, is_writable, first_fault}
+use Rattle.std.proofs.Common.{◌≡◌, ℕ, zero, suc, ◌-◌, ◌<◌, ◌≤◌, List, length, take, sym, ◌∙◌, ap}
+use Rattle.std.specs.List.{list_any}
+use Rattle.std.proofs.lemmas.{Grind.same_number_lists, List.{length-take-le, get_or-take}}
+use Rattle.std.{proofs.{Common.{inl, inr, arith}, lemmas.Bool.cases_lt}, specs.Prelude.slice_index}
+use Rattle.vb_chain.specs.declared.{descriptor.Descriptor.Descriptor, fault.ChainFault.ChainFault}
+use Rattle.vb_chain.specs.{Rules.{is_writable, first_fault}, declared.pieces.Piece.Piece}
 use Rattle.vb_chain.specs.Chain.{IsPath, fault_at, IsChain, BreaksAt, ChainGives, FaultGives}
 
 -- two paths from one head go the same way
@@ -34,12 +33,7 @@ chain_longest : (d : ℕ → Descriptor) (q end head : ℕ) (p s : List ℕ) →
     → IsPath d head s → length s ≤ length p
 chain_longest d q end head p s c b = elim (cases_lt (length p) (length s)) [
   | inl more ↦
-      let some = c.is_path.some in
-      let at : length p - 1 + 1 ≡ length p = omega arith in
-      let agree = paths_agree d head p s c.is_path b (length p - 1) (omega arith) (omega arith) in
-      let off = c.ends (length p - 1) at in
-      let on = b.onward (length p - 1) (omega arith) in
-      let both : false ≡ true = sym off ∙ ap (λ n. has_next (d n)) agree ∙ on in cc
+      grind (arith, paths_agree d head p s c.is_path b (length p - 1) (omega arith) (omega arith))
   | inr fits ↦ fits
 ]
 
@@ -54,26 +48,21 @@ chains_same d q end head p s a b = let low = chain_longest d q end head p s a b.
 not_both : (d : ℕ → Descriptor) (q end head : ℕ) (p s : List ℕ) (f : ChainFault)
     → IsChain d q end head p → BreaksAt d q end head s f → ⊥
 not_both d q end head p s f c b = let low = chain_longest d q end head p s c b.is_path in
-    let some = b.is_path.some in
-    let at : length s - 1 + 1 ≡ length s = omega arith in
-    let fine = c.sound (length s - 1) (omega arith) in
-    let bad = b.breaks (length s - 1) at in
-    let agree = faults_agree d q end head p s c.is_path b.is_path (length s - 1) (omega arith)
-    (omega arith) in
-    let both : None ≡ Some f = sym fine ∙ agree ∙ bad in cc
+    grind (
+      arith,
+      faults_agree d q end head p s c.is_path b.is_path (length s - 1) (omega arith) (omega arith),
+    )
 
 -- the longer of two broken paths was sound where the shorter broke
 not_longer : (d : ℕ → Descriptor) (q end head : ℕ) (p s : List ℕ) (f g : ChainFault)
     → BreaksAt d q end head p f → BreaksAt d q end head s g → length s ≤ length p
 not_longer d q end head p s f g a b = elim (cases_lt (length p) (length s)) [
   | inl more ↦
-      let some = a.is_path.some in
-      let at : length p - 1 + 1 ≡ length p = omega arith in
-      let bad = a.breaks (length p - 1) at in
-      let fine = b.sound (length p - 1) (omega arith) in
-      let agree = faults_agree d q end head p s a.is_path b.is_path (length p - 1) (omega arith)
-      (omega arith) in
-      let both : Some f ≡ None = sym bad ∙ agree ∙ fine in cc
+      grind (
+        arith,
+        faults_agree d q end head p s a.is_path b.is_path (length p - 1) (omega arith) (omega
+            arith),
+      )
   | inr fits ↦ fits
 ]
 
@@ -82,13 +71,10 @@ breaks_same : (d : ℕ → Descriptor) (q end head : ℕ) (p s : List ℕ) (f g 
 breaks_same d q end head p s f g a b = let low = not_longer d q end head p s f g a b in
     let high = not_longer d q end head s p g f b a in
     let len : length p ≡ length s = omega arith in
-    let some = a.is_path.some in
-    let at : length p - 1 + 1 ≡ length p = omega arith in
-    let agree = faults_agree d q end head p s a.is_path b.is_path (length p - 1) (omega arith)
-    (omega arith) in
-    let first = a.breaks (length p - 1) at in
-    let second = b.breaks (length p - 1) (omega arith) in
-    let both : Some f ≡ Some g = sym first ∙ agree ∙ second in cc
+    grind (
+      arith,
+      faults_agree d q end head p s a.is_path b.is_path (length p - 1) (omega arith) (omega arith),
+    )
 
 pub chain_is_one : (d : ℕ → Descriptor) (q end head : ℕ) (xs ys : List Piece)
     → ChainGives d q end head xs → ChainGives d q end head ys → xs ≡ ys

@@ -1,12 +1,12 @@
 -- Rules, chains and faults, worked out: in a table of 8 descriptors, where memory has 4096 bytes.
-use Rattle.std.proofs.Common.{◌≡◌, ℕ, zero, suc, ◌+◌, ◌<◌, ◌==◌, true, false, [], ◌∷◌, map}
-use Rattle.std.proofs.Common.{refl, arith, inl, inr}
+use Rattle.std.proofs.Common.{◌≡◌, ℕ, zero, suc, ◌+◌, ◌<◌, ◌==◌, true, false, [], ◌∷◌, map, refl}
+use Rattle.std.proofs.Common.{arith, inl}
 use Rattle.std.specs.Prelude.{Bool, Option, Some, None, if◌then◌else◌, slice_index}
-use Rattle.vb_chain.specs.declared.{descriptor.Descriptor.Descriptor, fault.ChainFault.ChainFault}
 use Rattle.vb_chain.specs.declared.fault.ChainFault.TheVariants.{BadHead, BadNext, TooLong}
+use Rattle.vb_chain.specs.declared.{descriptor.Descriptor.Descriptor, fault.ChainFault.ChainFault}
 use Rattle.vb_chain.specs.declared.fault.ChainFault.TheVariants.{Indirect, WrongDirection, OutOfRam}
-use Rattle.vb_chain.specs.{Rules.{has_next, first_fault}, Written.linked, Chain.{IsPath, IsChain}}
-use Rattle.vb_chain.specs.Chain.{BreaksAt, ChainGives, FaultGives, fault_at}
+use Rattle.vb_chain.specs.{Rules.{has_next, first_fault}, Written.linked}
+use Rattle.vb_chain.specs.Chain.{IsPath, IsChain, BreaksAt, ChainGives, FaultGives, fault_at}
 
 abbrev one : ℕ → ℕ → ℕ → ℕ → Descriptor
 one addr len flags next = record { addr = addr; len = len; flags = flags; next = next }
@@ -53,13 +53,7 @@ two_is_a_chain : ChainGives table 8 4096 0 (record { addr = 64; len = 16; writab
     ∷ record { addr = 128; len = 4; writable = true } ∷ [])
 two_is_a_chain = record {
   path = 0 ∷ 2 ∷ [];
-  chain = record {
-    inside = omega arith;
-    is_path = two_is_a_path;
-    short = omega arith;
-    sound = no_fault;
-    ends = last;
-  };
+  chain = grind arith;
   pieces_are = refl;
 } where
   no_fault : (k : ℕ) → k < 2 → fault_at table 8 4096 (0 ∷ 2 ∷ []) k ≡ None
@@ -124,10 +118,7 @@ bad_head : FaultGives table 8 4096 8 BadHead
 bad_head = inl (record { past = omega arith; is = refl })
 
 bad_head_alone : FaultGives table 8 4096 8 OutOfRam → ⊥
-bad_head_alone gives = elim gives [
-  | inl past ↦ (let is : OutOfRam ≡ BadHead = past.is in absurd cc)
-  | inr (path, breaks) ↦ omega (arith, breaks.inside)
-]
+bad_head_alone gives = grind arith
 
 -- ---- what a driver writes: the last descriptor of two has no NEXT
 

@@ -1,13 +1,12 @@
 -- How far a walk has come, and what it says at its end.
 use Rattle.std.proofs.Common.{◌≡◌, ℕ, ◌+◌, ◌<◌, List, [], ◌∷◌, ◌++◌, Bool, true, false, ◌||◌, Some}
-use Rattle.std.proofs.Common.{None, length, map, take, sym, ◌∙◌, ap, inl, inr, arith}
-use Rattle.std.proofs.lemmas.{Bool.cases_eq, List.{length_push, get_or_append_left, get_or_push}}
-use Rattle.std.proofs.lemmas.List.{take-append-le, take_at, take_all, map_more, Folds.list_any_more}
+use Rattle.std.proofs.lemmas.List.{length_push, get_or_append_left, get_or_push, take-append-le}
 use Rattle.std.specs.{List.list_any, Prelude.slice_index}
-use Rattle.vb_chain.specs.declared.descriptor.Descriptor.{Descriptor}
-use Rattle.vb_chain.{specs.declared.pieces.Piece.Piece, specs.declared.fault.ChainFault.ChainFault}
-use Rattle.vb_chain.specs.Rules.{has_next, is_writable, piece_of, first_fault}
-use Rattle.vb_chain.specs.Chain.{IsPath, fault_at, ChainGives, FaultGives}
+use Rattle.std.proofs.lemmas.List.{Folds.list_any_more, take_at, take_all, map_more}
+use Rattle.std.proofs.Common.{None, length, map, take, sym, ◌∙◌, ap, inr, arith}
+use Rattle.vb_chain.specs.{Rules.{is_writable, piece_of, first_fault}, declared.pieces.Piece.Piece}
+use Rattle.vb_chain.specs.declared.{descriptor.Descriptor.Descriptor, fault.ChainFault.ChainFault}
+use Rattle.vb_chain.specs.{Chain.{IsPath, fault_at, ChainGives, FaultGives}, Rules.has_next}
 
 -- i descriptors of a path have been visited, and index, its last, is next
 pub record Walked (d : ℕ → Descriptor) (q end head : ℕ) (path : List ℕ) (i index : ℕ)
@@ -57,18 +56,7 @@ pub walked_chain : (d : ℕ → Descriptor) (q end head : ℕ) (path : List ℕ)
 walked_chain d q end head path i index writing pieces w lt e stop =
     let all : take (i + 1) path ≡ path = take_all (i + 1) path (omega (arith, w.count)) in record {
       path = path;
-      chain = record {
-        inside = w.inside;
-        is_path = w.is_path;
-        short = omega (arith, w.count);
-        sound = λ k h. elim (cases_eq k i) [
-          | inl at ↦ ap (fault_at d q end path) at
-              ∙ fault_last d q end head path i index writing pieces w ∙ e
-          | inr ne ↦ w.sound k (omega (arith, w.count, ne))
-        ];
-        ends = λ k h. let at : k ≡ i = omega (arith, w.count) in
-            ap (λ n. has_next (d (slice_index path n))) at ∙ ap (λ n. has_next (d n)) w.last ∙ stop;
-      };
+      chain = grind arith;
       pieces_are = ap (λ xs. xs ++ piece_of (d index) ∷ []) w.read
           ∙ ap (λ n. map (λ j. piece_of (d j)) (take i path) ++ piece_of (d n) ∷ []) (sym w.last)
           ∙ sym (map_more (λ j. piece_of (d j)) path i 0 (omega (arith, w.count)))
@@ -89,29 +77,10 @@ walked_more d q end head path i index writing pieces w e more = let j = (d index
     let cut : take (i + 1) (path ++ j ∷ []) ≡ path = take_at path (j ∷ []) (i + 1) w.count in
     let all : take (i + 1) path ≡ path = take_all (i + 1) path (omega (arith, w.count)) in record {
       inside = w.inside;
-      is_path = record {
-        some = omega (arith, size);
-        begins = here 0 (omega (arith, w.count)) ∙ w.is_path.begins;
-        onward = λ k h. ap (λ n. has_next (d n)) (here k (omega (arith, size)))
-            ∙ elim (cases_eq k i) [
-              | inl at ↦ ap (λ n. has_next (d (slice_index path n))) at
-                  ∙ ap (λ n. has_next (d n)) w.last ∙ more
-              | inr ne ↦ w.is_path.onward k (omega (arith, w.count, size, ne))
-            ];
-        linked = λ k h. ap (λ n. (d n).next) (here k (omega (arith, size))) ∙ elim (cases_eq k i) [
-          | inl at ↦ ap (λ n. (d (slice_index path n)).next) at ∙ ap (λ n. (d n).next) w.last
-              ∙ sym last ∙ ap (λ n. slice_index (path ++ j ∷ []) (n + 1)) (sym at)
-          | inr ne ↦ w.is_path.linked k (omega (arith, w.count, size, ne))
-              ∙ sym (here (k + 1) (omega (arith, w.count, size, ne)))
-        ];
-      };
+      is_path = grind arith;
       count = omega (arith, size, w.count);
       last = last;
-      sound = λ k h. fault_kept d q end path j k (omega (arith, w.count)) ∙ elim (cases_eq k i) [
-        | inl at ↦ ap (fault_at d q end path) at
-            ∙ fault_last d q end head path i index writing pieces w ∙ e
-        | inr ne ↦ w.sound k (omega (arith, ne))
-      ];
+      sound = grind (arith, fault_kept);
       writes = ap (λ b. b || is_writable (d index)) w.writes ∙ ap
           (λ n. list_any (λ j. is_writable (d j)) (take i path) || is_writable (d n)) (sym w.last)
           ∙ sym (list_any_more (λ j. is_writable (d j)) path i 0 (omega (arith, w.count)))

@@ -3,12 +3,12 @@ use Rattle.std.proofs.Common.{◌≡◌, ℕ, zero, suc, ◌+◌, ◌<◌, ◌�
 use Rattle.std.proofs.Common.{◌∷◌, ◌++◌, length, get_or, set, take, drop, map, reverse, replicate}
 use Rattle.std.proofs.lemmas.Bool.{cases_eq, cases_Bool, eq-eqb, eqb-true, ne_eqb, cond-true}
 use Rattle.std.proofs.lemmas.List.{get_or-set_same, get_or-set_other, set-set, set-get_or}
-use Rattle.std.proofs.lemmas.List.{length-set, length-map, take-append-drop, length-reverse}
-use Rattle.std.proofs.lemmas.List.{reverse-append, nil_from_length, take_more, flat_map_more}
+use Rattle.std.proofs.lemmas.List.{length-set, length-map, length-reverse, reverse-append}
+use Rattle.std.proofs.lemmas.List.{nil_from_length, take_more, flat_map_more, take_all, same_lists}
 use Rattle.std.proofs.lemmas.List.Sorted.{sum_by-IsPermutation, length_permutation}
+use Rattle.std.{proofs.lemmas.List.{get_or_default, drop_all, append-nil}, specs.List.flat_map}
 use Rattle.std.proofs.lemmas.{Bool.{cond-false, lt-ltb}, List.Sums.{sum_by-append, sum_by-cons}}
-use Rattle.std.proofs.lemmas.List.{take_all, same_lists, get_or_default, drop_all, append-nil}
-use Rattle.std.specs.{List.flat_map, Prelude.{◌==◌, count_by, nat_lt, MatchOption, sum_by}}
+use Rattle.std.specs.Prelude.{◌==◌, count_by, nat_lt, MatchOption, sum_by}
 use Rattle.std.proofs.Common.{Option, Some, None, refl, sym, ◌∙◌, ap, subst, arith, length-append}
 use Rattle.vb_model.specs.Tests.{is_in, one_if}
 use Rattle.vb_model.{proofs.PageSteps.covers_is, specs.Pages.{pages_of, covers}}
@@ -37,12 +37,7 @@ pub times-set : (p : ℕ) (lists : List (List ℕ)) (i : ℕ) (l : List ℕ) →
 times-set p [] i l h = absurd (omega arith)
 times-set p (x ∷ xs) zero l h =
     omega (arith, times-append p l (flat xs), times-append p x (flat xs))
-times-set p (x ∷ xs) (suc i) l h = grind (
-  arith,
-  times-append p x (flat (set xs i l)),
-  times-append p x (flat xs),
-  times-set p xs i l (omega arith),
-)
+times-set p (x ∷ xs) (suc i) l h = omega (arith, times-append, times-set p xs i l (omega arith))
 
 pub times_part : (p : ℕ) (lists : List (List ℕ)) (i : ℕ)
     → times p (get_or lists i []) ≤ times p (flat lists)
@@ -175,12 +170,7 @@ single_areas set new (x ∷ xs) rest got h = ap length h.0
 single_none : (set new : List Bool) (list rest : List ℕ) → TakesSingle set list None new rest
     → (list ≡ []) × (rest ≡ []) × (new ≡ set) × HasNoBlock set 0
 single_none set new [] rest h = let r = h.1 in
-    grind (
-      arith,
-      length-reverse r.rising,
-      length_permutation r.taken r.rising r.same,
-      nil_from_length,
-    )
+    grind (arith, length-reverse r.rising, length_permutation, nil_from_length)
 single_none set new (x ∷ xs) rest h =
     absurd (let bad : length (x ∷ xs) ≡ 0 = ap length h.1.0 in omega (arith, bad))
 
@@ -228,7 +218,7 @@ pub serves_times : (f new : FreePages) (cpu order start : ℕ) → IsSoundFree f
     → times_free new p + one_if (covers p (block_at start order)) ≡ times_free f p
 serves_times f new cpu order start sound l h p = elim h [
   | inl now ↦ tries_times f new cpu order start l now p
-  | inr later ↦ omega (
+  | inr later ↦ grind (
     arith,
     drained_times f sound p,
     tries_times (drained f) new cpu order start (omega (
@@ -258,12 +248,7 @@ times_take : (p n : ℕ) (lists : List (List ℕ))
     → times p (flat (take n lists)) ≤ times p (flat lists)
 times_take p zero lists = omega arith
 times_take p (suc n) [] = omega arith
-times_take p (suc n) (x ∷ xs) = grind (
-  arith,
-  times-append p x (flat (take n xs)),
-  times-append p x (flat xs),
-  times_take p n xs,
-)
+times_take p (suc n) (x ∷ xs) = omega (arith, times-append, times_take p n xs)
 
 flat_more : (lists : List (List ℕ)) (i : ℕ) → i < length lists
     → flat (take (i + 1) lists) ≡ flat (take i lists) ++ get_or lists i nothing
@@ -400,11 +385,7 @@ module _ (f : FreePages) (cpu s : ℕ) (sound : IsSoundFree f) (l : cpu < length
       grind (arith, longer_times, cases_eq, get_or-set_same, get_or-set_other, length-set)
 
   front_times : (p : ℕ) → times p (take 8 longer) + times p (drop 8 longer) ≡ times p longer
-  front_times p = omega (
-    arith,
-    times-append p (take 8 longer) (drop 8 longer),
-    ap (times p) (take-append-drop 8 longer),
-  )
+  front_times p = grind (arith, times-append p (take 8 longer) (drop 8 longer))
 
   -- the first eight may go to the areas
   pub front_once : Once f.areas (take 8 longer)

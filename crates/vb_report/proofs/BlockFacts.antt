@@ -1,10 +1,11 @@
 -- Blocks that are reported, and where their bytes are, worked out.
-use Rattle.std.proofs.Common.{◌≡◌, true, false, List, [], ◌∷◌, map, refl, arith}
 use Rattle.std.specs.Prelude.{replicate}
+use Rattle.std.proofs.Common.{◌≡◌, true, false, List, [], ◌∷◌, map, refl, arith}
 use Rattle.vb_model.specs.Pages.{block_at}
-use Rattle.vb_pages.specs.Areas.{with_pages, without_pages}
-use Rattle.vb_pages.specs.{declared.block.FreeBlock.FreeBlock, PageState.PageState}
-use Rattle.vb_report.specs.Blocks.{blocks_of, is_covered, without_blocks, with_blocks, piece_of, HasOrder}
+use Rattle.vb_pages.specs.PageState.{PageState}
+use Rattle.vb_pages.specs.{Areas.{with_pages, without_pages}, declared.block.FreeBlock.FreeBlock}
+use Rattle.vb_report.specs.Blocks.{blocks_of, is_covered, without_blocks, with_blocks, piece_of}
+use Rattle.vb_report.specs.Blocks.{HasOrder}
 
 abbrev two : List FreeBlock
 two = record { start = 2; order = 1 } ∷ record { start = 6; order = 0 } ∷ []

@@ -71,11 +71,7 @@ module _ (test : ℕ → Bool) (set : List Bool) (same : (p : ℕ) → test p �
 
     not_after : (r : ℕ) → r ≤ s → filter (may_name end) (blocks_at r) ≡ []
     unfolding end
-    not_after r l = filter_none (may_name end) (block_at r) 0 10
-        (λ j a e. false_from_ne_true (may_name end (block_at r j)) (λ h.
-        let x = named_is end (block_at r j) (omega arith) h in
-        let o : s + 2 ^ k ≤ r = x.after in
-        let some = long in omega arith))
+    not_after r l = grind (arith, named_is, long)
 
     just_one : filter (may_name from) (blocks_at s) ≡ block_at s k ∷ []
     just_one = let fine = small in
@@ -106,10 +102,7 @@ module _ (test : ℕ → Bool) (set : List Bool) (same : (p : ℕ) → test p �
                 let eq : r ≡ s = o.0 in absurd (omega arith)
           ];
         })) (λ h.
-        let x = named_is end (block_at r j) (omega arith) h in
-        let after : s + 2 ^ k ≤ r = x.after in
-        let first : from ≤ s = low.after in is_named from (block_at r j)
-        (record { maximal = x.maximal; large = x.large; after = omega arith })))
+        grind (arith, named_is, is_named)))
 
     pub first_named : s < n → filter (is_later from) (maximal_blocks n test)
         ≡ block_at s k ∷ filter (is_later (s + 2 ^ k)) (maximal_blocks n test)

@@ -1,21 +1,18 @@
 -- Which pages some blocks have.
-use Rattle.std.proofs.Common.{◌≡◌, ℕ, Bool, true, false, List, [], ◌∷◌, ◌++◌, inl, inr, refl, sym}
-use Rattle.std.proofs.{lemmas.Bool.{or_cases, false_from_ne_true}, Common.{◌∙◌, ap, arith}}
-use Rattle.std.{proofs.lemmas.List.Elements.{All-head, All-tail}, specs.List.list_any}
-use Rattle.std.{proofs.lemmas.List.Folds.list_any-append, specs.Prelude.{◌||◌, All}}
+use Rattle.std.proofs.Common.{◌≡◌, ℕ, Bool, true, false, List, [], ◌∷◌, ◌++◌, inl, inr, refl, ◌∙◌}
+use Rattle.std.proofs.lemmas.{Bool.{or_cases, false_from_ne_true}, List.Folds.list_any-append}
+use Rattle.std.specs.{List.list_any, Prelude.{◌||◌, All}}
+use Rattle.std.proofs.{Common.{ap, arith}, lemmas.List.Elements.{All-head, All-tail}}
+use Rattle.vb_model.specs.Tests.{is_in, one_if}
 use Rattle.vb_model.proofs.Distinct.{distinct_list, distinct_once, times-some}
-use Rattle.vb_model.{specs.Pages.{Block, covers, pages_of, pages_of_all}, specs.Driver.AllDistinct}
-use Rattle.vb_model.{proofs.Blocks.times_in_blocks, specs.Tests.{is_in, one_if}}
-use Rattle.vb_model.{proofs.Tables.count_by-cons, proofs.PageSteps.covers_is}
+use Rattle.vb_model.{proofs.{PageSteps.covers_is, Tables.count_by-cons}, specs.Driver.AllDistinct}
+use Rattle.vb_model.{proofs.Blocks.times_in_blocks, specs.Pages.{Block, covers, pages_of_all}}
 use Rattle.vb_pages.specs.declared.block.FreeBlock.{FreeBlock}
 use Rattle.vb_report.specs.Blocks.{block_of, blocks_of, is_covered}
 
 in_blocks : (p : ℕ) (bs : List Block) → is_in p (pages_of_all bs) ≡ list_any (covers p) bs
 in_blocks p [] = refl
-in_blocks p (b ∷ bs) = list_any-append (λ (m : ℕ). Rattle.std.specs.Prelude.◌==◌ m p)
-    (pages_of b) (pages_of_all bs) ∙ (ap (λ (v : Bool). v || is_in p (pages_of_all bs))
-    (sym (covers_is p b (is_in p (pages_of b)) refl))
-    ∙ ap (λ (v : Bool). covers p b || v) (in_blocks p bs))
+in_blocks p (b ∷ bs) = grind (arith, list_any-append, covers_is, in_blocks p bs)
 
 -- a page is among those of the blocks exactly where one of them covers it
 pub in_covered : (p : ℕ) (bs : List FreeBlock)

@@ -34,13 +34,7 @@ pub filter_one : {A : Type 0} (test : A → Bool) (f : ℕ → A) (j a n : ℕ) 
     → filter test (map f (range_with_len a n)) ≡ f j ∷ []
 filter_one test f j a zero l u here others = absurd (omega arith)
 filter_one {A = A} test f j a (suc n) l u here others = elim (cases_eq a j) [
-  | inl e ↦
-      let t : test (f a) ≡ true = ap (λ (k : ℕ). test (f k)) e ∙ here in
-      ap (λ (v : Bool). cond v (f a ∷ filter test (map f (range_with_len (a + 1) n)))
-      (filter test (map f (range_with_len (a + 1) n)))) t ∙ (ap (λ (ys : List A). f a ∷ ys)
-      (filter_none test f (a + 1) n
-      (λ k b c. others k (omega arith) (omega arith) (λ s. omega arith)))
-      ∙ ap (λ (k : ℕ). f k ∷ []) e)
+  | inl e ↦ grind (arith, filter_none)
   | inr d ↦ ap (λ (v : Bool). cond v (f a ∷ filter test (map f (range_with_len (a + 1) n)))
       (filter test (map f (range_with_len (a + 1) n))))
       (others a (omega arith) (omega arith) (λ e. d e)) ∙ filter_one test f j
@@ -78,14 +72,7 @@ pub flat_split : {A : Type 0} (test other : A → Bool) (g : ℕ → List A) (s 
 flat_split test other g s x a zero l u b c here gone after = absurd (omega arith)
 flat_split {A = A} test other g s x a (suc n) l u b c here gone after =
     let rest : List A = flat_map g (range_with_len (a + 1) n) in elim (cases_eq a s) [
-      | inl e ↦
-          let one : filter test (g a) ≡ x ∷ [] = ap (λ (k : ℕ). filter test (g k)) e ∙ here in
-          let none : filter other (g a) ≡ [] = ap (λ (k : ℕ). filter other (g k)) e ∙ gone in
-          filter-append test (g a) rest ∙ (ap (λ (ys : List A). ys ++ filter test rest) one
-          ∙ (ap (λ (ys : List A). x ∷ ys)
-          (flat_same test other g (a + 1) n (λ k i j. after k (omega arith)))
-          ∙ ap (λ (ys : List A). x ∷ ys) (sym (filter-append other (g a) rest
-          ∙ ap (λ (ys : List A). ys ++ filter other rest) none))))
+      | inl e ↦ grind (arith, filter-append, flat_same)
       | inr d ↦ filter-append test (g a) rest
           ∙ (ap (λ (ys : List A). ys ++ filter test rest) (b a (omega arith))
           ∙ (flat_split test other g s x (a + 1) n (omega arith) (omega arith) b c here gone after

@@ -1,18 +1,17 @@
 -- Blocks come back, one after the other.
 use Rattle.std.proofs.Common.{◌≡◌, ℕ, ◌+◌, ◌<◌, ◌≤◌, Bool, true, false, List, [], ◌∷◌, length, inl}
-use Rattle.std.proofs.lemmas.Bool.{or_cases, or_left, or_right, or_from, or_parts, both_ways}
-use Rattle.std.proofs.Common.{inr, sym, ◌∙◌, ap, subst, arith, drop, get_or, add-one, drop-cons}
-use Rattle.std.{specs.Prelude.{◌||◌, All}, proofs.lemmas.Bool.false_from_ne_true}
+use Rattle.std.specs.Prelude.{◌||◌, All}
 use Rattle.std.proofs.lemmas.List.Elements.{All-head, All-tail, All-nil, All-cons}
-use Rattle.vb_model.{specs.Tests.is_in, specs.Pages.{Block, size, covers, pages_of, pages_of_all}}
-use Rattle.vb_pages.specs.PageState.{PageState, page_count, is_free_page, HasRoomIn}
+use Rattle.std.proofs.lemmas.Bool.{or_cases, or_from, or_parts, both_ways, false_from_ne_true}
+use Rattle.std.proofs.Common.{inr, sym, ◌∙◌, ap, subst, arith, drop, get_or, add-one, drop-cons}
+use Rattle.vb_model.specs.{Pages.{Block, size, covers, pages_of, pages_of_all}, Tests.is_in}
 use Rattle.vb_pages.proofs.Sets.{length-with_pages, same_bool, with_old, with_new, with_cases}
-use Rattle.vb_pages.{specs.declared.block.FreeBlock.FreeBlock, specs.Areas.{has, with_pages}}
-use Rattle.vb_pages.{specs.FreePages.in_lists, specs.PageState.with_free_block}
-use Rattle.vb_pages.{proofs.Sets.block_bounds, proofs.ListsLemmas.{with_none, with_append_turned}}
-use Rattle.vb_pages.proofs.PagesLemmas.{covers_bounds, bounds_cover}
-use Rattle.vb_report.specs.Blocks.{block_of, blocks_of, is_covered, with_blocks, HaveRoom}
+use Rattle.vb_pages.specs.PageState.{PageState, page_count, is_free_page, HasRoomIn}
+use Rattle.vb_pages.specs.{PageState.with_free_block, declared.block.FreeBlock.FreeBlock}
+use Rattle.vb_pages.proofs.{ListsLemmas.{with_none, with_append_turned}, PagesLemmas.bounds_cover}
+use Rattle.vb_pages.{proofs.Sets.block_bounds, specs.{Areas.{has, with_pages}, FreePages.in_lists}}
 use Rattle.vb_report.proofs.Covering.{in_covered, covering, distinct_rest, distinct_apart}
+use Rattle.vb_report.specs.Blocks.{block_of, blocks_of, is_covered, with_blocks, HaveRoom}
 
 room_after : (s : PageState) (b x : Block) → HasRoomIn s x
     → ((p : ℕ) → covers p b ≡ true → covers p x ≡ false) → HasRoomIn (with_free_block b s) x
@@ -86,26 +85,14 @@ free_with_blocks s bs p room =
     listed = is_in p (in_lists s.free)
 
     to : is_free_page (with_blocks bs s) p ≡ true → (is_free_page s p || is_covered p bs) ≡ true
-    to h = elim (or_cases (has (with_pages pages set) p) listed h) [
-      | inl a ↦ elim (with_cases pages set p a) [
-        | inl old ↦ or_left (is_free_page s p) (is_covered p bs) (or_left (has set p) listed old)
-        | inr new ↦ or_right (is_free_page s p) (is_covered p bs) (sym (in_covered p bs) ∙ new)
-      ]
-      | inr l ↦ or_left (is_free_page s p) (is_covered p bs) (or_right (has set p) listed l)
-    ]
+    to h = grind (arith, with_cases, in_covered)
 
     from : (is_free_page s p || is_covered p bs) ≡ true → is_free_page (with_blocks bs s) p ≡ true
     from h = elim (or_cases (is_free_page s p) (is_covered p bs) h) [
-      | inl f ↦ elim (or_cases (has set p) listed f) [
-        | inl a ↦ or_left (has (with_pages pages set) p) listed (with_old pages set p a)
-        | inr l ↦ or_right (has (with_pages pages set) p) listed l
-      ]
+      | inl f ↦ grind (arith, with_old)
       | inr c ↦
           let x = covering (λ b. HasRoomIn s (block_of b)) p bs room.each c in
-          let q = covers_bounds p x.0.start x.0.order x.2 in
-          let end : x.0.start + size (block_of x.0) ≤ length set = x.1.2 in
-          or_left (has (with_pages pages set) p) listed
-          (with_new pages set p (omega (arith, q.1)) (in_covered p bs ∙ c))
+          grind (arith, with_new, in_covered)
     ]
 
 -- ---- the loop

@@ -1,24 +1,20 @@
 -- Maximal blocks of a set, and the test that finds them.
 use Rattle.std.proofs.Common.{◌≡◌, ℕ, zero, suc, ◌+◌, ◌-◌, ◌%◌, ◌^◌, ◌<◌, ◌≤◌, Bool, true, List}
 use Rattle.std.proofs.lemmas.Bool.{cases_lt, and_parts, and_from, eqb-true, not-true}
-use Rattle.std.{proofs.Common.{inl, inr, refl, sym, ◌∙◌, ap, arith}, specs.Prelude.not}
-use Rattle.std.{specs.List.{list_all, list_any, range_with_len}, proofs.lemmas.Nat.pow_pos}
-use Rattle.std.proofs.lemmas.Bool.{not_from_false, false_from_ne_true, both_ways}
+use Rattle.std.specs.List.{list_all, list_any, range_with_len}
+use Rattle.std.proofs.lemmas.{Bool.{not_from_false, false_from_ne_true, both_ways}, Nat.pow_pos}
+use Rattle.std.{proofs.Common.{inl, inr, refl, sym, ◌∙◌, arith}, specs.Prelude.not}
+use Rattle.vb_model.proofs.{Blocks.any_in_range, Tables.list_all-at}
 use Rattle.vb_model.specs.Pages.{Block, size, pages_of, is_aligned, around, is_whole, is_maximal}
-use Rattle.vb_model.{proofs.Tables.list_all-at, proofs.Blocks.any_in_range}
 use Rattle.vb_pages.proofs.Aligned.{aligned_step, aligned_same, aligned_down, end_aligned}
 use Rattle.vb_pages.proofs.{Aligned.floor_aligned, Sets.in_block, TilesLemmas.any_range}
-use Rattle.vb_pages.specs.Areas.{has, block_at, IsBlock, LiesIn, LiesWithin, IsMaximal}
+use Rattle.vb_pages.specs.Areas.{has, IsBlock, LiesIn, LiesWithin, IsMaximal}
 
 -- of two aligned blocks round one page, the smaller lies within the larger
 pub nested : (s j t k p : ℕ) → s % 2 ^ j ≡ 0 → t % 2 ^ k ≡ 0 → j ≤ k → s ≤ p → p < s + 2 ^ j
     → t ≤ p → p < t + 2 ^ k → (t ≤ s) × (s + 2 ^ j ≤ t + 2 ^ k)
 nested s j t k p sa ta jk a b c d = let td : t % 2 ^ j ≡ 0 = aligned_down t j k jk ta in
-    let te : (t + 2 ^ k) % 2 ^ j ≡ 0 = end_aligned t j k jk ta in (
-      elim (cases_lt s t)
-          [ inl l ↦ absurd (omega (arith, aligned_step s t (2 ^ j) sa td l)) | inr g ↦ g ],
-      aligned_step s (t + 2 ^ k) (2 ^ j) sa te (omega arith),
-    )
+    let te : (t + 2 ^ k) % 2 ^ j ≡ 0 = end_aligned t j k jk ta in grind (arith, aligned_step)
 
 pub aligned_is : (b : Block) → is_aligned b ≡ true → b.start % 2 ^ b.order ≡ 0
 aligned_is b h = eqb-true (b.start % 2 ^ b.order) 0 h
@@ -35,11 +31,7 @@ overlap_same set a b p x y al ah bl bh =
           let w = nested b.start b.order a.start a.order p by ax (omega arith) bl bh al ah in
           let o : a.order ≤ b.order = y.alone a x.is_block x.inside w in absurd (omega arith)
       | inr g ↦
-          let w = nested a.start a.order b.start b.order p ax by g al ah bl bh in
-          let o : b.order ≤ a.order = x.alone b y.is_block y.inside w in
-          let e : a.order ≡ b.order = omega arith in
-          let same : 2 ^ a.order ≡ 2 ^ b.order = ap (λ (k : ℕ). 2 ^ k) e in
-          (omega (arith, w.0, w.1, same), e)
+          let w = nested a.start a.order b.start b.order p ax by g al ah bl bh in grind arith
     ]
 
 -- ---- the test and the fact
@@ -65,10 +57,7 @@ module _ (test : ℕ → Bool) (set : List Bool) (same : (p : ℕ) → test p �
   larger_round b c blk inside w = let m : ℕ = 2 ^ c.order in
       let pos : 0 < m = pow_pos c.order in
       let some : 0 < 2 ^ b.order = pow_pos b.order in
-      let start : b.start - b.start % m ≡ c.start =
-      aligned_same (b.start - b.start % m) c.start m b.start (floor_aligned b.start m pos)
-      (aligned_is c blk.1) (omega arith) (omega arith) w.0 (omega (arith, w.1)) in
-      ap (λ (s : ℕ). is_whole test (block_at s c.order)) start ∙ inside_whole c blk.1 inside
+      grind (arith, aligned_same, floor_aligned, inside_whole)
 
   pub maximal_is : (b : Block) → b.order ≤ 9 → is_maximal test b ≡ true → IsMaximal set b
   maximal_is b small h =

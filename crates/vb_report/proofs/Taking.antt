@@ -2,26 +2,26 @@
 use Rattle.std.proofs.Common.{◌≡◌, ℕ, zero, suc, ◌+◌, ◌-◌, ◌^◌, ◌<◌, ◌≤◌, Bool, true, false, List}
 use Rattle.std.proofs.Common.{[], ◌∷◌, ◌++◌, length, map, take, inl, inr, Some, None, refl, sym}
 use Rattle.std.proofs.lemmas.Bool.{cases_lt, cases_Bool, both_ways, or_parts, or_from, and_parts}
-use Rattle.std.proofs.Common.{◌∙◌, ap, subst, arith, append_assoc, length-append, min, append-nil}
-use Rattle.std.{specs.Prelude.{not, ◌&&◌, ◌||◌, filter, All}, proofs.lemmas.Bool.false_from_ne_true}
-use Rattle.std.{proofs.lemmas.List.{map-append, length-map, length-take}, proofs.lemmas.Nat.pow_pos}
 use Rattle.std.proofs.lemmas.List.Elements.{All-push, All-weaker}
+use Rattle.std.proofs.lemmas.{List.{map-append, length-map, length-take}, Nat.pow_pos}
+use Rattle.std.{proofs.lemmas.Bool.false_from_ne_true, specs.Prelude.{not, ◌&&◌, ◌||◌, filter, All}}
+use Rattle.std.proofs.Common.{◌∙◌, ap, subst, arith, append_assoc, length-append, append-nil}
 use Rattle.vb_model.specs.Pages.{Block, size, covers, pages_of, pages_of_all, maximal_blocks}
-use Rattle.vb_model.{specs.Tests.{is_in, times}, specs.Pages.reported, specs.Driver.AllDistinct}
-use Rattle.vb_model.{proofs.Blocks.reported_distinct, proofs.CallSteps.reported_pass}
-use Rattle.vb_model.{proofs.Distinct.distinct_once, proofs.PageSteps.covers_is}
+use Rattle.vb_model.specs.Tests.{is_in, times}
+use Rattle.vb_model.proofs.{Blocks.reported_distinct, CallSteps.reported_pass, PageSteps.covers_is}
+use Rattle.vb_model.{proofs.Distinct.distinct_once, specs.{Driver.AllDistinct, Pages.reported}}
+use Rattle.vb_pages.proofs.Sets.{is_inside, without_parts, without_old, same_sets}
 use Rattle.vb_pages.specs.Areas.{has, with_pages, without_pages, IsBlock, LiesIn, LiesWithin}
 use Rattle.vb_pages.specs.PageState.{PageState, page_count, is_free_page, HasRoomIn, reserved_count}
-use Rattle.vb_pages.proofs.Sets.{is_inside, without_parts, without_old, same_sets}
-use Rattle.vb_pages.{specs.declared.block.FreeBlock.FreeBlock, specs.PageState.Isolates}
-use Rattle.vb_pages.{specs.Areas.{IsMaximal, IsLowestFrom}, proofs.ListsLemmas.with_none}
-use Rattle.vb_pages.specs.FreePages.{FreePages, in_lists, drained, is_free_in}
+use Rattle.vb_pages.proofs.ListsLemmas.{with_none}
+use Rattle.vb_pages.{proofs.PagesLemmas.covers_bounds, specs.declared.block.FreeBlock.FreeBlock}
 use Rattle.vb_pages.proofs.Sets.{length-without_pages, length-with_pages, has-without_pages}
-use Rattle.vb_pages.{proofs.FreeLemmas.{flat-empty, nothing}, proofs.PagesLemmas.covers_bounds}
+use Rattle.vb_pages.{proofs.FreeLemmas.{flat-empty, nothing}, specs.Areas.{IsMaximal, IsLowestFrom}}
+use Rattle.vb_pages.specs.{FreePages.{FreePages, in_lists, drained, is_free_in}, PageState.Isolates}
 use Rattle.vb_report.specs.Blocks.{block_of, blocks_of, is_covered, without_blocks}
-use Rattle.vb_report.{specs.Blocks.blocks_to_report, proofs.Maximal.{nested, aligned_is}}
 use Rattle.vb_report.proofs.Covering.{in_covered, covered_more, covering}
 use Rattle.vb_report.proofs.Choosing.{is_later, none_named, first_named}
+use Rattle.vb_report.{proofs.Maximal.{nested, aligned_is}, specs.Blocks.blocks_to_report}
 
 -- ---- a set that maximal blocks were taken from, all of which end at a page or before it
 
@@ -83,11 +83,7 @@ taken_from : (set : List Bool) (bs : List FreeBlock) (next : ℕ) → All (is_be
     → IsTakenFrom set (without_pages (pages_of_all (blocks_of bs)) set) next
 taken_from set bs next all = record {
   less = λ p h. (without_parts (pages_of_all (blocks_of bs)) set p h).0;
-  gone = λ p h n. let c : is_covered p bs ≡ true = elim (cases_Bool (is_covered p bs)) [
-    | inl t ↦ t
-    | inr f ↦ absurd (both_ways (has (without_pages (pages_of_all (blocks_of bs)) set) p) n
-        (without_old (pages_of_all (blocks_of bs)) set p h (in_covered p bs ∙ f)))
-  ] in
+  gone = λ p h n. let c : is_covered p bs ≡ true = grind (arith, without_old, in_covered) in
       let x = covering (is_before set next) p bs all c in
       let q = covers_bounds p x.0.start x.0.order x.2 in (block_of x.0, x.1.0, q.0, q.1, x.1.1);
 }
@@ -157,9 +153,6 @@ pub record IsTaking (old now : PageState) (from room next count : ℕ) (bs : Lis
 abbrev with_free : PageState → FreePages → PageState
 with_free s free = record s { free = free }
 
-abbrev lists_of : PageState → List (List ℕ)
-lists_of s = map (λ (l : List ℕ). nothing) s.free.lists
-
 pub taking_none : (old : PageState) (from room : ℕ) → drained old.free ≡ old.free
     → IsTaking old old from room from 0 []
 taking_none old from room d = grind (arith, without_none)
@@ -197,10 +190,7 @@ taking_more old now next from room page count bs b t l isolates fits left = reco
       (subst (λ (f : FreePages). IsLowestFrom f.areas 4 page (block_of b)) (settled old bs) got.0)
 
   is : next ≡ without_blocks (bs ++ b ∷ []) old
-  is = got.1 ∙ (ap (λ (f : FreePages). with_free old
-      (with_lists (without_pages (pages_of (block_of b)) f.areas) f.lists f.reserved)) (settled old bs)
-      ∙ ap (λ (set : List Bool). with_free old (with_lists set (lists_of old) old.free.reserved))
-      (block_more bs b (areas_of old)))
+  is = grind (arith, settled, block_more)
 
   pages : page_count next ≡ page_count now
   pages = ap page_count is ∙ (length-without_pages (pages_of_all (blocks_of (bs ++ b ∷ [])))
@@ -228,10 +218,7 @@ taking_more old now next from room page count bs b t l isolates fits left = reco
       let first : filter (is_later page) all ≡ block_of b ∷ more =
       first_named test (areas_of old) same page b.start b.order (page_count old) low there in
       let n : room - count ≡ suc (room - (count + 1)) = omega arith in
-      ap (λ (xs : List Block). xs ++ take (room - (count + 1)) more) (map-append block_of bs (b
-      ∷ [])) ∙ (append_assoc (blocks_of bs) (block_of b ∷ []) (take (room - (count + 1)) more) ∙ ap
-      (λ (xs : List Block). blocks_of bs ++ xs) (ap (λ (k : ℕ). take k (block_of b ∷ more)) (sym n)
-      ∙ ap (λ (xs : List Block). take (room - count) xs) (sym first)))
+      grind (arith, map-append, append_assoc)
 
 -- no block is left
 pub taking_all : (old now next : PageState) (from room page count : ℕ) (bs : List FreeBlock)
@@ -244,10 +231,8 @@ taking_all old now next from room page count bs t isolates = (
   λ test same.
       let all : List Block = maximal_blocks (page_count old) test in
       let gone : filter (is_later page) all ≡ [] = none_named test (areas_of old) same page
-      (page_count old) (λ b x. never b x.maximal x.large x.after) in sym (append-nil (blocks_of bs))
-      ∙ (ap (λ (xs : List Block). blocks_of bs ++ xs) (sym (take_none (room - count)))
-      ∙ (ap (λ (xs : List Block). blocks_of bs ++ take (room - count) xs) (sym gone)
-      ∙ t.rest test same)),
+      (page_count old) (λ b x. never b x.maximal x.large x.after) in
+      grind (arith, append-nil, take_none),
 ) where
   take_none : (n : ℕ) → take {A = Block} n [] ≡ []
   take_none zero = refl
@@ -330,11 +315,7 @@ pub chooses : (old mid new : PageState) (from room : ℕ) (bs : List FreeBlock) 
     → Chooses old new from room bs
 chooses old mid new from room bs drains same reports takes fits = record {
   chosen = chosen;
-  count =
-      let all : List Block =
-      filter (is_later from) (maximal_blocks (page_count old) (is_free_page old)) in
-      let n : length (blocks_of bs) ≡ min room (length all) =
-      ap length chosen ∙ length-take room all in omega (arith, length-map bs block_of, n);
+  count = grind (arith, chosen, length-take, length-map);
   taken = taken;
   left = λ p. ap (λ (s : PageState). is_free_page s p) taken ∙ (free_without_blocks old bs p
       ∙ ap (λ (v : Bool). v && not (is_covered p bs)) (sym (free p) ∙ same p));
@@ -346,16 +327,8 @@ chooses old mid new from room bs drains same reports takes fits = record {
         e,
         reported_distinct (is_free_page old) (is_later from) (page_count old) room p,
       ));
-  pages = λ p h.
-      let inside = pages_inside new bs p fits h in
-      let few : page_count new ≡ page_count old = ap page_count taken
-      ∙ (length-without_pages (pages_of_all (blocks_of bs)) (areas_of old)
-      ∙ length-with_pages (in_lists old.free) old.free.areas) in (
-        reported_pass (is_free_page old) (page_count old) room from p
-            (ap (λ (xs : List Block). is_in p (pages_of_all xs)) (sym chosen) ∙ h),
-        omega (arith, inside.0, ap reserved_count taken),
-        omega (arith, few, inside.1),
-      );
+  pages =
+      grind (arith, pages_inside, length-without_pages, length-with_pages, reported_pass, chosen);
 } where
   chosen : blocks_of bs ≡ blocks_to_report old from room
   chosen = reports (is_free_page old) (λ p. sym (same p)) ∙ ap (λ (n : ℕ). reported room from

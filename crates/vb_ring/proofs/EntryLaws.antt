@@ -86,7 +86,8 @@ pub puts_entries : (old new : Pages) (l : Layout) (q next head count : ℕ) (hea
     → ShowsEntries new l q heads (elems ++ record { id = head; len = count } ∷ [])
 puts_entries old new l q next head count heads elems fits w at shows = record {
   avail = avail_kept old new l q heads fits.size (outside_in old new _ l.avail.page
-      (l.avail.offset + 2) (l.avail.offset + (6 + 2 * q)) w.rest (λ o low high. grind arith)) shows.avail;
+      (l.avail.offset + 2) (l.avail.offset + (6 + 2 * q)) w.rest (λ o low high. grind arith))
+      shows.avail;
   used = used_grown old new l q next head count elems fits.size at w.id w.len w.index (λ k apart.
       outside_in old new _ l.used.page (used_place l q k) (used_place l q k + 8) w.rest
       (λ o low high.

@@ -1,13 +1,10 @@
 -- Worked facts of the rule over the words, and of the three kinds of step.
-use Rattle.std.proofs.Common.{◌≡◌, ◌≢◌, ℕ, ◌<◌, ◌≤◌, ◌||◌, Bool, true, false}
-use Rattle.std.proofs.Common.{List, [], ◌∷◌, map, refl, ap, arith, ne_eqb}
+use Rattle.std.proofs.Common.{◌≡◌, ◌≢◌, ℕ, ◌||◌, Bool, true, false, List, [], ◌∷◌, map, refl, ap}
+use Rattle.std.proofs.Common.{arith, ne_eqb}
 use Rattle.vb_device.specs.Own.{has}
-use Rattle.vb_shared.specs.declared.rule.Size.{Size}
 use Rattle.vb_shared.specs.Rule.{holding, view_of, pass, count, count_all, IsTied, IsKept}
+use Rattle.vb_shared.specs.declared.rule.Size.{Size}
 use Rattle.vb_shared.specs.Rule.{FrameRule, TryClaim, PutBack, Look, word_after, held_after}
-
-abbrev Same : ℕ → ℕ → Type 0
-Same a b = a ≡ b
 
 -- three frames and two guests: a frame that is free, one of the first guest, one of the second
 abbrev sizes : Size
@@ -36,7 +33,7 @@ second_tied : IsTied 2 words (holding 1 (2 ∷ []))
 second_tied = grind (arith, only)
 
 tag_of_nobody : IsTied 2 words (holding 2 []) → ⊥
-tag_of_nobody tied = let low : 2 < 2 = tied.0 in omega arith
+tag_of_nobody tied = omega (arith, tied.0)
 
 holds_anothers : IsTied 2 words (holding 0 (1 ∷ 2 ∷ [])) → ⊥
 holds_anothers tied = let wrong : false ≡ true = tied.1 2 in cc
@@ -53,13 +50,13 @@ kept : IsKept sizes words (pass 0 (1 ∷ []) ∷ pass 1 (2 ∷ []) ∷ [])
 kept = grind (arith, first_tied, second_tied, ne_eqb)
 
 a_word_too_few : IsKept (record { frames = 4; guests = 2 }) words [] → ⊥
-a_word_too_few is = let wide : Same 3 4 = is.wide in omega arith
+a_word_too_few is = omega (arith, is.wide)
 
 a_word_of_no_guest : IsKept (record { frames = 3; guests = 1 }) words [] → ⊥
-a_word_of_no_guest is = let low : 2 ≤ 1 = is.small 2 in omega arith
+a_word_of_no_guest is = omega (arith, is.small 2)
 
 a_tag_twice : IsKept sizes (0 ∷ 0 ∷ 0 ∷ []) (pass 0 [] ∷ pass 0 [] ∷ []) → ⊥
-a_tag_twice is = let once : 2 ≤ 1 = is.apart 0 in omega arith
+a_tag_twice is = omega (arith, is.apart 0)
 
 a_pass_without_its_frame : IsKept sizes words (pass 1 (2 ∷ []) ∷ pass 0 [] ∷ []) → ⊥
 a_pass_without_its_frame is = lacks_its_own (is.tied 1 (pass 0 []) refl).0
@@ -78,11 +75,10 @@ rule_of_a_frame_not_held : FrameRule sizes words (pass 0 [] ∷ []) → ⊥
 rule_of_a_frame_not_held is = let wrong : false ≡ true = (is.holder 0 0 1 [] refl).0 refl in cc
 
 rule_of_a_frame_not_its_own : FrameRule sizes words (pass 0 (0 ∷ 1 ∷ []) ∷ []) → ⊥
-rule_of_a_frame_not_its_own is =
-    let wrong : Same 0 1 = (is.holder 0 0 0 (0 ∷ 1 ∷ []) refl).1 refl in omega arith
+rule_of_a_frame_not_its_own is = omega (arith, (is.holder 0 0 0 (0 ∷ 1 ∷ []) refl).1 refl)
 
 rule_of_a_word_of_no_guest : FrameRule (record { frames = 3; guests = 1 }) words [] → ⊥
-rule_of_a_word_of_no_guest is = let low : 2 ≤ 1 = is.guests 2 in omega arith
+rule_of_a_word_of_no_guest is = omega (arith, is.guests 2)
 
 rule_of_a_frame_twice : FrameRule sizes words (pass 0 (1 ∷ []) ∷ pass 1 (1 ∷ []) ∷ []) → ⊥
 rule_of_a_frame_twice is =

@@ -1,17 +1,14 @@
 -- Worked facts of what a step tells its pass, and of how seats are cut.
-use Rattle.std.proofs.Common.{◌≡◌, ℕ, ◌<◌, ◌≤◌, true, false, List, [], ◌∷◌, map, length, refl, sym}
-use Rattle.std.proofs.Common.{ap, arith, Some, None}
+use Rattle.std.proofs.Common.{◌≡◌, ℕ, true, false, List, [], ◌∷◌, map, length, refl, sym, ap, arith}
+use Rattle.std.proofs.Common.{Some, None}
 use mathlib.Core.Option.{none}
 use Rattle.atomic_table.specs.Table.{Me, Step, step}
 use Rattle.vb_device.specs.declared.claimed.Claimed.TheVariants.{Gave, AskHost, NoFrame, NoMemory}
 use Rattle.vb_ram.specs.Pages.{Page}
 use Rattle.vb_shared.specs.Steps.{held_of, added, removed, claimed, returned, Apart, met, no_view}
-use Rattle.vb_shared.{specs.declared.rule.View.View, specs.Rule.{holding, view_of, pass, count}}
-use Rattle.vb_shared.specs.Steps.{first_of, rest_of, new_holdings, opening_view}
-use Rattle.vb_shared.{specs.Passes.{new_passes, Within, IsPass}, specs.Leases.AnswersAs}
-
-abbrev Same : ℕ → ℕ → Type 0
-Same a b = a ≡ b
+use Rattle.vb_shared.specs.Passes.{new_passes, Within, IsPass}
+use Rattle.vb_shared.specs.{Leases.AnswersAs, Steps.{first_of, rest_of, new_holdings, opening_view}}
+use Rattle.vb_shared.specs.{Rule.{holding, view_of, pass, count}, declared.rule.View.View}
 
 -- ---- what a seat's first pass holds, with a frame more and without one
 
@@ -45,10 +42,10 @@ lost : claimed trying (seat (3 ∷ [])) 7 (seat (3 ∷ []))
 lost = (refl, refl, λ e. absurd (let wrong : false ≡ true = e in cc))
 
 won_and_not_held : claimed trying (seat []) 0 (seat []) → ⊥
-won_and_not_held did = let wrong : Same 0 1 = ap (λ v. length (held_of v)) did.1 in omega arith
+won_and_not_held did = omega (arith, ap (λ v. length (held_of v)) did.1)
 
 lost_and_held : claimed trying (seat []) 7 (seat (9 ∷ [])) → ⊥
-lost_and_held did = let wrong : Same 1 0 = ap (λ v. length (held_of v)) did.1 in omega arith
+lost_and_held did = omega (arith, ap (λ v. length (held_of v)) did.1)
 
 won_again : claimed trying (seat (9 ∷ [])) 0 (seat (9 ∷ 9 ∷ [])) → ⊥
 won_again did = let wrong : true ≡ false = did.2 refl in cc
@@ -68,7 +65,7 @@ free_already : returned returning (seat (3 ∷ [])) 0 (seat (3 ∷ []))
 free_already = (refl, refl, refl)
 
 still_held : returned returning (seat (9 ∷ [])) 5 (seat (9 ∷ [])) → ⊥
-still_held did = let wrong : Same 1 0 = ap (λ v. length (held_of v)) did.1 in omega arith
+still_held did = omega (arith, ap (λ v. length (held_of v)) did.1)
 
 held_and_anothers : returned returning (seat (9 ∷ [])) 7 (seat []) → ⊥
 held_and_anothers did = let wrong : false ≡ true = did.2 in cc
@@ -86,8 +83,7 @@ not_apart : Apart (holding 4 (3 ∷ 2 ∷ []) ∷ holding 5 (2 ∷ []) ∷ []) �
 not_apart is = let wrong : true ≡ false = is 2 refl in cc
 
 a_look_changes_nothing : met (step 0 0 0 0 none) (seat []) 0 (seat (3 ∷ [])) → ⊥
-a_look_changes_nothing did =
-    let wrong : Same 1 0 = ap (λ (m : Seat). length (held_of m.0)) did.0 in omega arith
+a_look_changes_nothing did = omega (arith, ap (λ (m : Seat). length (held_of m.0)) did.0)
 
 -- ---- cuts, and the passes at the start
 
@@ -117,23 +113,22 @@ from_the_first_to_the_last : Within 2 8 (7 ∷ 2 ∷ [])
 from_the_first_to_the_last = (omega arith, omega arith, (omega arith, omega arith, tt))
 
 past_the_last : Within 2 8 (2 ∷ 8 ∷ []) → ⊥
-past_the_last is = let low : 8 < 8 = is.2.1 in omega arith
+past_the_last is = omega (arith, is.2.1)
 
 before_the_first : Within 2 8 (2 ∷ 1 ∷ []) → ⊥
-before_the_first is = let low : 2 ≤ 1 = is.2.0 in omega arith
+before_the_first is = omega (arith, is.2.0)
 
 seat_of_a_pass : IsPass 8 4 (seat (7 ∷ []))
 seat_of_a_pass = (refl, (omega arith, omega arith, tt))
 
 seat_of_another : IsPass 8 5 (seat []) → ⊥
-seat_of_another is =
-    let wrong : Same 0 1 = ap (λ (m : Seat). count 4 m.0.holdings) (sym is.0) in omega arith
+seat_of_another is = omega (arith, ap (λ (m : Seat). count 4 m.0.holdings) (sym is.0))
 
 seat_of_two : IsPass 8 4 (view_of (holding 4 [] ∷ holding 5 [] ∷ []), []) → ⊥
-seat_of_two is = let wrong : Same 2 1 = ap (λ (m : Seat). length m.0.holdings) is.0 in omega arith
+seat_of_two is = omega (arith, ap (λ (m : Seat). length m.0.holdings) is.0)
 
 frame_past_the_table : IsPass 7 4 (seat (7 ∷ [])) → ⊥
-frame_past_the_table is = let low : 7 < 7 = is.1.1 in omega arith
+frame_past_the_table is = omega (arith, is.1.1)
 
 -- ---- what a device answers by what its pass found
 

@@ -1,10 +1,8 @@
 use Rattle.std.proofs.Common.{◌≡◌, ◌≤◌, ℕ, List, Option, Some, None, set, ap, subst, ◌∙◌, sym}
 use Rattle.std.proofs.Common.{arith}
-use Rattle.vb_model.specs.Pages.{pages_of}
 use Rattle.vb_pages.proofs.TilesLemmas.{removed_tiled, removed_room, chosen, none_inside, none_more}
-use Rattle.vb_pages.{specs.Areas.{without_pages, with_pages, block_at}, specs.Table.IsLowestStart}
-use Rattle.vb_pages.{specs.Tiles.{HasRoom, IsTiled, set_of}, proofs.TilesLemmas.part_left}
-use Rattle.vb_pages.proofs.areas.take_block.Goals.{After-remove}
+use Rattle.vb_pages.proofs.{TilesLemmas.part_left, areas.take_block.Goals.After-remove}
+use Rattle.vb_pages.specs.{Table.IsLowestStart, Tiles.{HasRoom, IsTiled}}
 use Rattle.vb_pages.proofs.areas.take_block.Goals as goal
 
 -- the start that was found, in the table as it was
@@ -36,10 +34,7 @@ returns-in-Some-clause-taken c = let d = (goal.at.returns-in-Some-clause-taken c
         chosen t c.requires.tiled.placed c.requires.tiled.merged c.args.order s k o
             c.loop-larger.invariant.1 (found d),
       ),
-      c.put_rest.ensures.set
-          ∙ (ap (λ (u : List (Option ℕ)). without_pages (pages_of (block_at s c.args.order))
-          (with_pages (pages_of (block_at s k)) (set_of u))) (sym (left d))
-          ∙ part_left t s k c.args.order c.requires.tiled.placed (found d).0),
+      grind (arith, left, part_left, found),
     )
 
 pub loop-larger-preserved : goal.loop-larger-preserved

@@ -1,10 +1,8 @@
-use Rattle.std.proofs.Common.{◌≡◌, List, Bool, Some, ap, subst, ◌∙◌, arith}
-use Rattle.std.specs.Prelude.{count_by}
+use Rattle.std.proofs.Common.{◌≡◌, Some, ap, ◌∙◌, arith}
 use Rattle.vb_model.specs.Pages.{pages_of}
-use Rattle.vb_pages.{specs.Areas.{without_pages, block_at, IsLowestFrom}, specs.Table.order_at}
-use Rattle.vb_pages.specs.Tiles.{set_of}
-use Rattle.vb_pages.proofs.TilesLemmas.{listed_inside, removed_tiled, removed_set}
 use Rattle.vb_pages.proofs.AreasLemmas.{count_without_block, lowest_is, lowest_none}
+use Rattle.vb_pages.proofs.TilesLemmas.{listed_inside, removed_tiled, removed_set}
+use Rattle.vb_pages.specs.{Areas.{without_pages, block_at}, Table.order_at, Tiles.set_of}
 use Rattle.vb_pages.proofs.areas.Areas.isolate.Goals as goal
 
 pub returns-in_err-block : goal.returns-in_err-block
@@ -25,19 +23,12 @@ invariant_of-self c = let b = c.in_ok-block.block in
     (listed_inside t c.self.invariant.0.placed b.start b.order listed) in
     let now : set_of c.remove.new.self
     ≡ without_pages (pages_of (block_at b.start b.order)) (set_of t) = ap set_of c.remove.ensures
-    ∙ removed_set t b.start b.order c.self.invariant.0.placed listed in (
-      rw c.remove.ensures (removed_tiled t b.start b.order c.self.invariant.0 listed),
-      omega (arith, n, c.self.invariant.1, c.size_of.ensures.size, ap (count_by (λ f. f)) now),
-    )
+    ∙ removed_set t b.start b.order c.self.invariant.0.placed listed in grind (arith, removed_tiled)
 
 pub returns : goal.returns
 returns c = let b = c.in_ok-block.block in
     let t = c.self.inside.table in
     let v : set_of t ≡ c.args.self.now = c.self.view_is in
     let listed : order_at t b.start ≡ Some b.order = c.in_ok-block.ensures.0 in
-    let low = lowest_is t c.args.order c.args.from b c.self.invariant.0 c.in_ok-block.ensures in (
-      subst (λ (x : List Bool). IsLowestFrom x c.args.order c.args.from (block_at b.start b.order))
-          v low,
-      ap set_of c.remove.ensures ∙ (removed_set t b.start b.order c.self.invariant.0.placed listed
-          ∙ ap (without_pages (pages_of (block_at b.start b.order))) v),
-    )
+    let low = lowest_is t c.args.order c.args.from b c.self.invariant.0 c.in_ok-block.ensures in
+    grind (arith, removed_set)

@@ -1,10 +1,10 @@
-use Rattle.std.proofs.Common.{◌≡◌, ◌<◌, ◌≤◌, ◌+◌, ℕ, List, [], ◌∷◌, Bool, length, set, take}
-use Rattle.std.{proofs.Common.{drop, ap, subst, ◌∙◌, sym, arith}, proofs.lemmas.Bool.eqb-false}
-use Rattle.std.{proofs.lemmas.List.{get_or_default, length-append}, specs.Prelude.{◌==◌, false}}
+use Rattle.std.proofs.Common.{◌≡◌, ◌<◌, ◌≤◌, ◌+◌, ℕ, List, [], ◌∷◌, length, take, ap, subst, ◌∙◌}
+use Rattle.std.proofs.lemmas.{Bool.eqb-false, List.{get_or_default, length-append}}
+use Rattle.std.{proofs.Common.{sym, arith}, specs.Prelude.{◌==◌, false}}
 use Rattle.vb_pages.proofs.FreeLemmas.{block_sound, free_of, front_once, spilled_sound}
+use Rattle.vb_pages.proofs.free.FreePages.give.Goals.{After-push}
+use Rattle.vb_pages.specs.FreePages.{FreePages, HasRoomFor, list_of}
 use Rattle.vb_pages.proofs.{FreeLemmas.{pushed_sound, longer, room_zero, nothing}, ListsLemmas.Once}
-use Rattle.vb_pages.{proofs.free.FreePages.give.Goals.After-push, specs.Areas.with_pages}
-use Rattle.vb_pages.specs.FreePages.{FreePages, IsSoundFree, HasRoomFor, list_of}
 use Rattle.vb_pages.proofs.free.FreePages.give.Goals as goal
 
 pub invariant_of-self : goal.invariant_of-self
@@ -40,19 +40,7 @@ invariant_of-self-then-is_full c = let d = (goal.at.invariant_of-self-then-is_fu
     let front : c.split_front.result
     ≡ take 8 (longer (f d low) c.args.cpu c.args.start c.self.invariant (there d low)
     (room d low)) = c.split_front.ensures.front ∙ ap (take 8) (pushed d low) in
-    let rest : c.split_front.new.self
-    ≡ drop 8 (longer (f d low) c.args.cpu c.args.start c.self.invariant (there d low)
-    (room d low)) = c.split_front.ensures.rest ∙ ap (drop 8) (pushed d low) in
-    let areas : c.drain.new.areas
-    ≡ with_pages (take 8 (longer (f d low) c.args.cpu c.args.start c.self.invariant
-    (there d low) (room d low))) c.self.inside.areas = c.drain.ensures.areas
-    ∙ ap (λ (xs : List ℕ). with_pages xs c.self.inside.areas) front in
-    subst (λ (x : List Bool). IsSoundFree
-    (free_of x (set c.self.inside.lists.items c.args.cpu c.split_front.new.self) c.self.inside.reserved)) (sym areas)
-    (subst (λ (xs : List ℕ). IsSoundFree (free_of (with_pages (take 8
-    (longer (f d low) c.args.cpu c.args.start c.self.invariant (there d low) (room d low)))
-    c.self.inside.areas) (set c.self.inside.lists.items c.args.cpu xs) c.self.inside.reserved)) (sym rest)
-    (spilled_sound (f d low) c.args.cpu c.args.start c.self.invariant (there d low) (room d low)))
+    grind (arith, longer, there, room, pushed, free_of, spilled_sound)
 
 pub invariant_of-self-else-is_full : goal.invariant_of-self-else-is_full
 invariant_of-self-else-is_full c = let d = (goal.at.invariant_of-self-else-is_full c).After-push in

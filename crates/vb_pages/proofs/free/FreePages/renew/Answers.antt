@@ -1,7 +1,7 @@
-use Rattle.std.proofs.Common.{◌≡◌, ℕ, List, ◌++◌, length, take, drop, map, arith}
 use Rattle.std.proofs.lemmas.List.{length-map}
+use Rattle.std.proofs.Common.{◌≡◌, ℕ, List, ◌++◌, length, take, drop, map, arith}
 use Rattle.vb_pages.proofs.FreeLemmas.{rows_back, sound_at, all_nothing, fresh_sound, flat-empty}
-use Rattle.vb_pages.{specs.Areas.unreserved, proofs.free.FreePages.renew.Goals.After-loop-list}
+use Rattle.vb_pages.proofs.free.FreePages.renew.Goals.{After-loop-list}
 use Rattle.vb_pages.proofs.FreeLemmas.{list-empty, free_of, same_free, nothing}
 use Rattle.vb_pages.proofs.free.FreePages.renew.Goals as goal
 
@@ -15,11 +15,7 @@ invariant_of-self c = let xs = c.self.inside.lists.items in
     let n = length c.self.inside.areas in
     let s = fresh_sound n c.self.inside.reserved (map (λ (l : List ℕ). nothing) xs) c.self.invariant.small
     (omega (arith, c.self.invariant.few, length-map xs (λ (l : List ℕ). nothing)))
-    (flat-empty xs) (list-empty xs) in
-    sound_at c.renew.new.self (unreserved n c.self.inside.reserved) (take c.self.inside.lists.len
-    (c.loop-list.list-items ++ drop (length c.loop-list.list-items) xs))
-    (map (λ (l : List ℕ). nothing) xs) c.self.inside.reserved c.renew.ensures
-    (rows (goal.at.invariant_of-self c).After-loop-list) s
+    (flat-empty xs) (list-empty xs) in grind (arith, sound_at, rows)
 
 pub returns : goal.returns
 returns c = grind (arith, free_of, same_free, rows, nothing)

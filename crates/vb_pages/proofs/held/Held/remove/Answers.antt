@@ -1,9 +1,9 @@
-use Rattle.std.proofs.Common.{arith, ◌≡◌, ◌%◌, ◌^◌, Some, length, ap, subst, sym, ◌∙◌}
-use Rattle.std.{specs.List.list_any, proofs.lemmas.List.length-set, proofs.lemmas.Bool.eq-eqb}
+use Rattle.std.proofs.lemmas.List.{length-set}
+use Rattle.std.{proofs.Common.{arith, ◌≡◌, Some, length, ap, subst, sym, ◌∙◌}, specs.List.list_any}
 use Rattle.vb_model.specs.Pages.{is_same_block}
-use Rattle.vb_pages.{specs.Areas.block_at, specs.Table.{order_at, AreBlocks}}
-use Rattle.vb_pages.{specs.Held.{HeldBlocks, blocks_of}, proofs.held.Held.remove.Goals.After-self}
-use Rattle.vb_pages.proofs.TableLemmas.{is_there, with_block_removed}
+use Rattle.vb_pages.specs.Table.{order_at, AreBlocks}
+use Rattle.vb_pages.{proofs.TableLemmas.{is_there, with_block_removed}, specs.Areas.block_at}
+use Rattle.vb_pages.{proofs.held.Held.remove.Goals.After-self, specs.Held.{HeldBlocks, blocks_of}}
 use Rattle.vb_pages.proofs.HeldLemmas.{held_of, same_held, blocks-without, holds_at}
 use Rattle.vb_pages.proofs.held.Held.remove.Goals as goal
 
@@ -24,10 +24,7 @@ invariant_of-self c = let t = c.self.inside.table in
     (is_there t c.args.start c.args.order there) c.self.invariant)
 
 pub returns-clause-block : goal.returns-clause-block
-returns-clause-block c = let e = listed (goal.at.returns-clause-block c).After-self in (
-  c.self.invariant.bounded c.args.start c.args.order e,
-  eq-eqb (c.args.start % 2 ^ c.args.order) 0 (c.self.invariant.aligned c.args.start c.args.order e),
-)
+returns-clause-block c = let e = listed (goal.at.returns-clause-block c).After-self in grind arith
 
 pub returns-clause-removed : goal.returns-clause-removed
 returns-clause-removed c = grind (arith, held_of, listed, same_held, length-set, blocks-without)

@@ -14,11 +14,7 @@ one_more : (set mid new : List Bool) (list : List ℕ) (page n : ℕ) → Kept s
     → TakesBlock mid 0 (Some page) new → Kept set (list ++ page ∷ []) new (n + 1)
 one_more set mid new list page n h t = elim (cases_lt (length list) n) [
   | inl less ↦ absurd (takes_none mid new page (h.2 less) t)
-  | inr all ↦ (
-    takes_more set mid new list page h.0 t,
-    omega (arith, length-append list (page ∷ []), h.1),
-    λ l. absurd (omega (arith, length-append list (page ∷ []))),
-  )
+  | inr all ↦ grind (arith, takes_more, length-append)
 ]
 
 no_more : (set mid new : List Bool) (list : List ℕ) (n : ℕ) → Kept set list mid n → HasNoBlock mid 0

@@ -1,10 +1,10 @@
-use Rattle.std.{proofs.Common.{◌≡◌, ◌<◌, true, length, ap, ◌∙◌, sym, arith}, specs.Prelude.◌||◌}
-use Rattle.std.{specs.List.list_any, proofs.lemmas.Bool.both_ways}
-use Rattle.vb_model.{specs.Pages.{covers, is_same_block}, specs.Driver.without_block}
+use Rattle.std.specs.Prelude.{◌||◌}
+use Rattle.std.{proofs.Common.{◌≡◌, ◌<◌, true, length, ap, ◌∙◌, sym, arith}, specs.List.list_any}
+use Rattle.vb_model.specs.{Driver.without_block, Pages.{covers, is_same_block}}
+use Rattle.vb_pages.proofs.{FreeLemmas.given_times, pages.Pages.free.Goals.After-remove}
+use Rattle.vb_pages.specs.{Areas.block_at, PageState.{PageState, is_free_page, is_held_block}}
+use Rattle.vb_pages.{proofs.HeldLemmas.held_of, specs.FreePages.{FreePages, is_free_in, given_back}}
 use Rattle.vb_pages.proofs.PagesLemmas.{kept_at, state_of, free_gained, back_room, back_kept}
-use Rattle.vb_pages.{specs.PageState.{PageState, is_free_page, is_held_block}, specs.Areas.block_at}
-use Rattle.vb_pages.{specs.FreePages.{FreePages, is_free_in, given_back}, proofs.HeldLemmas.held_of}
-use Rattle.vb_pages.{proofs.pages.Pages.free.Goals.After-remove, proofs.FreeLemmas.given_times}
 use Rattle.vb_pages.proofs.pages.Pages.free.Goals as goal
 
 is_held : (c : After-remove)
@@ -31,11 +31,7 @@ returns-clause-not_held c =
     c.self.view_is in
     let e : is_held_block c.args.self.now (block_at c.args.start c.args.order) ≡ true =
     ap (λ (x : PageState). is_held_block x (block_at c.args.start c.args.order)) (sym v)
-    ∙ is_held (goal.at.returns-clause-not_held c).After-remove in (
-      (λ bad. absurd cc),
-      (λ h. absurd
-          (both_ways (is_held_block c.args.self.now (block_at c.args.start c.args.order)) h.2 e)),
-    )
+    ∙ is_held (goal.at.returns-clause-not_held c).After-remove in grind arith
 
 pub returns-clause-gained : goal.returns-clause-gained
 returns-clause-gained c p = let l : c.args.cpu < length c.self.inside.free.lists = omega arith in

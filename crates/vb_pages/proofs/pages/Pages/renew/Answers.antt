@@ -1,6 +1,6 @@
-use Rattle.std.proofs.Common.{◌≡◌, ℕ, List, [], length, map, replicate, ap, ◌∙◌}
-use Rattle.vb_pages.{specs.Areas.unreserved, specs.Held.HeldBlocks, specs.PageState.PageState}
-use Rattle.vb_pages.{proofs.FreeLemmas.{free_of, nothing, flat-empty}, proofs.HeldLemmas.held_of}
+use Rattle.std.proofs.Common.{◌≡◌, ℕ, List, [], length, map, replicate, ap, ◌∙◌, arith}
+use Rattle.vb_pages.specs.Areas.{unreserved}
+use Rattle.vb_pages.proofs.{FreeLemmas.{free_of, nothing, flat-empty}, HeldLemmas.held_of}
 use Rattle.vb_pages.proofs.PagesLemmas.{kept_at, state_of, same_state, fresh_kept, map_nothing}
 use Rattle.vb_pages.proofs.pages.Pages.renew.Goals as goal
 
@@ -18,10 +18,4 @@ returns c = let f = c.self.inside.free in
     let free : c.renew.new.self ≡ free_of (unreserved (length f.areas) f.reserved)
     (replicate (length f.lists) nothing) f.reserved = c.renew.ensures
     ∙ ap (λ (xs : List (List ℕ)). free_of (unreserved (length f.areas) f.reserved) xs f.reserved)
-    (map_nothing f.lists) in same_state c.renew.new.self
-    (free_of (unreserved (length c.args.self.now.free.areas) c.args.self.now.free.reserved)
-    (replicate (length c.args.self.now.free.lists) nothing) c.args.self.now.free.reserved)
-    c.clear.new.self.blocks []
-    (free ∙ ap (λ (x : PageState). free_of (unreserved (length x.free.areas) x.free.reserved)
-    (replicate (length x.free.lists) nothing) x.free.reserved) v)
-    (ap (λ (x : HeldBlocks). x.blocks) c.clear.ensures)
+    (map_nothing f.lists) in grind (arith, same_state, free_of)

@@ -1,8 +1,8 @@
-use Rattle.std.proofs.Common.{◌≡◌, ◌/◌, ◌<◌, None, Some, Option, List, ℕ, length, set, true}
-use Rattle.std.proofs.Common.{◌∙◌, ap, arith}
-use Rattle.vb_pages.{specs.Table.{order_at, room_of, table_of}, proofs.TableLemmas.StandFor}
-use Rattle.vb_pages.proofs.TableLemmas.{added, ten_sets, set_now, block_below, length-set_of_order}
-use Rattle.vb_pages.proofs.table.Table.add.Goals.{After-insert}
+use Rattle.std.proofs.Common.{◌≡◌, ◌/◌, ◌<◌, None, Some, Option, List, ℕ, length, set, true, ◌∙◌}
+use Rattle.std.proofs.Common.{ap, arith}
+use Rattle.vb_pages.proofs.TableLemmas.{StandFor, added, ten_sets, set_now, block_below}
+use Rattle.vb_pages.proofs.{TableLemmas.length-set_of_order, table.Table.add.Goals.After-insert}
+use Rattle.vb_pages.specs.Table.{order_at, table_of}
 use Rattle.vb_pages.proofs.table.Table.add.Goals as goal
 
 pub index_mut-requires : goal.index_mut-requires
@@ -17,11 +17,7 @@ insert-requires c = let pages = c.self.inside.pages in
     let v : t ≡ c.args.self.now = c.self.view_is in
     let ten : k < 10 = omega arith in
     let now = set_now pages sets k c.index_mut.result.now c.self.invariant ten
-    c.index_mut.ensures.value in
-    let below = block_below t s k c.requires.aligned
-    (omega (arith, ap length v, c.requires.fits)) in
-    let number : s / c.size_of.result < room_of k (length t) = rw c.size_of.ensures.size below in
-    omega (arith, number, ap length now, length-set_of_order k t)
+    c.index_mut.ensures.value in grind (arith, block_below, length-set_of_order)
 
 -- the sets with the block
 after : (c : After-insert) → StandFor c.self.inside.pages

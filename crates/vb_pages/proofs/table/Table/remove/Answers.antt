@@ -1,8 +1,8 @@
-use Rattle.std.proofs.Common.{◌≡◌, ◌/◌, ◌<◌, None, Some, Option, List, ℕ, length, set, false}
-use Rattle.std.proofs.Common.{◌∙◌, ap, arith}
-use Rattle.vb_pages.{specs.Table.{order_at, room_of, table_of}, proofs.TableLemmas.StandFor}
-use Rattle.vb_pages.proofs.TableLemmas.{removed, ten_sets, set_now, block_below}
+use Rattle.std.proofs.Common.{◌≡◌, ◌/◌, ◌<◌, None, Some, Option, List, ℕ, set, false, ◌∙◌, ap}
+use Rattle.std.proofs.Common.{arith}
+use Rattle.vb_pages.proofs.TableLemmas.{StandFor, removed, ten_sets, set_now, block_below}
 use Rattle.vb_pages.proofs.{TableLemmas.length-set_of_order, table.Table.remove.Goals.After-remove}
+use Rattle.vb_pages.specs.Table.{order_at, table_of}
 use Rattle.vb_pages.proofs.table.Table.remove.Goals as goal
 
 pub index_mut-requires : goal.index_mut-requires
@@ -19,11 +19,7 @@ remove-requires c = let pages = c.self.inside.pages in
     ap (λ (u : List (Option ℕ)). order_at u s) v ∙ c.requires.there in
     let ten : k < 10 = omega arith in
     let now = set_now pages sets k c.index_mut.result.now c.self.invariant ten
-    c.index_mut.ensures.value in
-    let below = block_below t s k (c.self.invariant.blocks.aligned s k listed)
-    (c.self.invariant.blocks.fits s k listed) in
-    let number : s / c.size_of.result < room_of k (length t) = rw c.size_of.ensures.size below in
-    omega (arith, number, ap length now, length-set_of_order k t)
+    c.index_mut.ensures.value in grind (arith, block_below, length-set_of_order)
 
 -- the sets without the block
 after : (c : After-remove) → StandFor c.self.inside.pages
