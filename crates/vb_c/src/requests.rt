@@ -18,7 +18,7 @@ use crate::showing::asked_bits;
 use vb_core::{Denial, Kind, Named, Run};
 use vb_monitor::{
     Asked, Balloon, Cut, Discarding, MAX_CUTS, MAX_RUNS, Notice, Phase, Region, Step, Tally, Told,
-    end, fill_named, give_and_look, name_copied,
+    end, fill_few, fill_named, give_and_look, name_copied,
 };
 
 /// Hands over a chain whose pages were named, however it is served.
@@ -48,10 +48,10 @@ fn hand_named(
     hand_over(shown, balloon, regions, runs, cuts, &mut notice)
 }
 
-/// Hands over a chain whose pages were named, of a queue that is served: mostly it is given back,
-/// and the queue looked at again.
-#[inline(always)]
-fn serve_named(
+/// Hands over a chain whose pages were named, of a queue that is served, however many parts of its
+/// runs are discarded: mostly it is given back, and the queue looked at again.
+#[inline(never)]
+fn serve_many(
     shown: &mut VbNotice,
     balloon: &mut Balloon,
     regions: &[Region],
@@ -103,6 +103,54 @@ fn serve_named(
             shown.given = 1;
             shown.show_read(bits + READ_INDEX, INDEX, at);
             shown.what
+        }
+    }
+}
+
+/// The same; mostly there is no part that is discarded, or just one.
+#[inline(always)]
+fn serve_named(
+    shown: &mut VbNotice,
+    balloon: &mut Balloon,
+    regions: &[Region],
+    runs: &[Run; MAX_RUNS],
+    cuts: &mut [Cut; MAX_CUTS],
+    kind: Kind,
+    head: u16,
+    named: Named,
+) -> u32
+    requires kind { kind_of_code shown.old.kind ≡ Some kind }
+    requires few { named.runs ≤ MAX_RUNS }
+    requires ready { queue_denial kind balloon.old.device ≡ None }
+    ensures hands { HandsOver (telling_pages kind (tally_of shown.old) head named) regions.now
+        runs.now balloon.old balloon.new cuts.new shown.new }
+    ensures what { result ≡ shown.new.what }
+{
+    let few = fill_few(&balloon.device, regions, kind, runs, named.runs, cuts);
+    match few {
+        None => serve_many(shown, balloon, regions, runs, cuts, kind, head, named),
+        Some(count) => {
+            shown.orders.named = named;
+            shown.orders.cuts = count;
+            match give_and_look(
+                &mut balloon.device,
+                regions,
+                kind,
+                head,
+                &mut shown.orders.used,
+            ) {
+                None => hand_named(shown, balloon, regions, runs, cuts, kind, head, named),
+                Some(at) => {
+                    let asked = Asked {
+                        told: Told::Pages,
+                        gives: true,
+                    };
+                    let bits = asked_bits(asked, count);
+                    shown.given = 1;
+                    shown.show_read(bits + READ_INDEX, INDEX, at);
+                    shown.what
+                }
+            }
         }
     }
 }

@@ -151,7 +151,7 @@ impl Device {
         if self.lacks(kind) {
             return Some(Denial::NoQueue);
         }
-        if !copied || !self.ring(kind).has_place(self.settings.memory_end) {
+        if !copied || !self.ring_at(kind).has_place(self.settings.memory_end) {
             return Some(Denial::Misplaced);
         }
         None

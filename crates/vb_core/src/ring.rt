@@ -87,6 +87,7 @@ impl Virtqueue {
     /// Whether its parts have a place in memory that ends at this address: a power of two of
     /// descriptors from 2 to 256; the table aligned to 16 bytes, the available ring to 2 and the
     /// used ring to 4 (VIRTIO 1.1, 2.6); and each part within memory.
+    #[inline(always)]
     pub fn has_place(&self, end: u64) -> bool
         ensures { result ≡ has_place end self.now }
     {

@@ -10,6 +10,7 @@ use crate::{Denial, Device, Kind, UsedEntry};
 
 impl Device {
     /// Counts the next chain of a kind's queue as taken.
+    #[inline(always)]
     pub(crate) fn count_taken(&mut self, kind: Kind)
         ensures { self.new ≡ with_one_taken kind self.old }
     {
@@ -31,6 +32,7 @@ impl Device {
     }
 
     /// Counts one more used entry of a kind's queue.
+    #[inline(always)]
     pub fn count_used(&mut self, kind: Kind)
         ensures { self.new ≡ with_ring kind (with_used (ring_of kind self.old)) self.old }
     {

@@ -139,6 +139,11 @@ pub first_put : (cuts : List Cut) (cut : Cut) (xs ys : List Cut) → 0 < length 
 first_put cuts cut xs ys lt e = ap (λ (l : List Cut). cut ∷ l) e
     ∙ ap (λ (l : List Cut). l ++ ys) (sym (take_more_set cuts 0 cut lt))
 
+pub only_put : (cuts : List Cut) (cut : Cut) (all more : List Cut) → 0 < length cuts →
+    all ≡ cut ∷ more → more ≡ [] → all ≡ take 1 (slice_set cuts 0 cut)
+only_put cuts cut all more lt e none = e ∙ (ap (λ (l : List Cut). cut ∷ l) none
+    ∙ sym (take_more_set cuts 0 cut lt))
+
 pub left_is : (o : Option NextCut) (rs : List Region) (runs : List Run) (all : List Cut) →
     MatchOption o (all ≡ []) (λ x. all ≡ x.cut ∷ cuts_behind x.from x.run rs runs) →
     all ≡ cuts_left rs runs o

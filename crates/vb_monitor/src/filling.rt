@@ -60,17 +60,15 @@ fn fill_sole(sole: &Sole, runs: &[Run], cuts: &mut [Cut; MAX_CUTS]) -> usize
         take 1 cuts.old ++ cuts_of regions (drop 1 runs.now) ≡
         take result cuts.new ++ cuts_of regions (drop result runs.now) }
 {
-    for count in 1..MAX_CUTS {
-        if count >= runs.len() {
-            return count;
-        }
+    let most = runs.len().min(MAX_CUTS).max(1);
+    for count in 1..most {
         let run = runs[count];
         if !sole.has(run) {
             return count;
         }
         cuts[count] = sole.cut_of(run);
     }
-    MAX_CUTS
+    most
 }
 
 /// Puts what is left after the list's first `count` parts, as far as it has room.

@@ -76,7 +76,23 @@ fn put_first(regions: &[Region], entry: &UsedEntry, spots: &mut UsedSpots) -> bo
     true
 }
 
-/// Puts down where a used element goes, where all of it is guest memory; says whether it is.
+/// Puts down where a used element goes, where all of it is guest memory, whichever regions have
+/// it; says whether it is.
+#[inline(never)]
+fn put_any(regions: &[Region], entry: &UsedEntry, spots: &mut UsedSpots) -> bool
+    ensures yes { result ≡ true → used_spots regions.now entry.now ≡ Some spots.new }
+    ensures no { result ≡ false → used_spots regions.now entry.now ≡ None }
+{
+    match used_spots(regions, entry) {
+        None => false,
+        Some(found) => {
+            *spots = found;
+            true
+        }
+    }
+}
+
+/// The same; mostly the first region has all of it.
 #[inline(always)]
 pub(crate) fn put_spots(regions: &[Region], entry: &UsedEntry, spots: &mut UsedSpots) -> bool
     ensures yes { result ≡ true → used_spots regions.now entry.now ≡ Some spots.new }
@@ -85,13 +101,7 @@ pub(crate) fn put_spots(regions: &[Region], entry: &UsedEntry, spots: &mut UsedS
     if put_first(regions, entry, spots) {
         return true;
     }
-    match used_spots(regions, entry) {
-        None => false,
-        Some(found) => {
-            *spots = found;
-            true
-        }
-    }
+    put_any(regions, entry, spots)
 }
 
 /// Gives the chain of this head back.

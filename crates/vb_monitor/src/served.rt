@@ -26,14 +26,14 @@ ghost use Rattle.vb_monitor.specs.Machine.{behind_part};
 ghost use Rattle.vb_monitor.specs.Served.{look_place, is_last, none_left, looks_again};
 
 use crate::copying::first_bytes;
-use crate::cuts::first_cut;
+use crate::cuts::{first_cut, put_only};
 use crate::discards::first_runs;
 use crate::filling::{Filled, fill};
 use crate::giving::put_spots;
 use crate::orders::MAX_CUTS;
 use crate::parts::{next_part, second_part};
 use crate::pieces::first_pieces;
-use crate::regions::find_from;
+use crate::regions::find_first;
 use crate::room::{MAX_BYTES, MAX_PIECES, MAX_RUNS};
 use crate::{Cut, Place, Region, Spot, Used};
 use vb_core::{ChainPiece, Denial, Device, Kind, Named, Run};
@@ -146,6 +146,31 @@ pub fn fill_named(
     }
 }
 
+/// The same where there is no part, or only one: says how many there are then.
+#[tactic(auto, using(crate::proofs::ServedLemmas::only_run))]
+#[inline(always)]
+pub fn fill_few(
+    device: &Device,
+    regions: &[Region],
+    kind: Kind,
+    runs: &[Run; MAX_RUNS],
+    count: u32,
+    cuts: &mut [Cut; MAX_CUTS],
+) -> Option<u32>
+    ensures few { IfSome result (λ n. n ≤ MAX_CUTS) }
+    ensures parts { IfSome result (λ n. cuts_for kind (keeps_reports device.now) regions.now
+        (take count runs.now) ≡ take n cuts.new) }
+{
+    if !discards(device, kind) {
+        return Some(0);
+    }
+    let named = first_runs(runs, count as usize);
+    if named.len() != 1 || !put_only(regions, named[0], cuts) {
+        return None;
+    }
+    Some(1)
+}
+
 /// Gives the chain of this head back, of a queue that is served, and says where its index is read
 /// next; nothing is changed where a part of it is no guest memory.
 #[inline(always)]
@@ -178,7 +203,7 @@ pub fn give_and_look(
     if !put_spots(regions, &entry, &mut used.spots) {
         return None;
     }
-    match find_from(regions, ring.avail, 2, 2) {
+    match find_first(regions, ring.avail, 2, 2) {
         None => None,
         Some(at) => {
             device.count_used(kind);

@@ -1,62 +1,16 @@
-use Rattle.std.proofs.Common.{rules, ◌≡◌, ◌∙◌, ap, sym, subst, refl, arith, ℕ, ◌+◌, true, false}
-use Rattle.std.proofs.Common.{◌++◌, None, Some}
-use Rattle.vb_monitor.specs.declared.step.Phase.TheVariants.{AwaitsIndex, Discards}
+use Rattle.std.proofs.Common.{rules, ◌≡◌, ◌≤◌, ◌∙◌, ap, sym, subst, refl, arith, ℕ, ◌+◌, ◌++◌, take, Some}
+use Rattle.std.proofs.Common.{None, true}
+use Rattle.std.proofs.lemmas.List.{append-nil}
+use Rattle.vb_monitor.specs.declared.step.Phase.TheVariants.{AwaitsIndex}
 use Rattle.vb_monitor.specs.declared.orders.Told.TheVariants.{Pages}
-use Rattle.vb_monitor.specs.declared.{orders.{Orders.Orders, Asked.Asked}, step.Discarding.Discarding}
-use Rattle.vb_core.specs.declared.device.Device.{Device}
-use Rattle.vb_monitor.{specs.Giving.with_given, specs.Machine.{Ahead, whole, room_of, next_chain}}
-use Rattle.vb_monitor.specs.Orders.{at_once, giving, HasRoom, FillsList}
-use Rattle.vb_c.proofs.{ServedLemmas.{told_given, told_left}, UsualLemmas.says_notice}
+use Rattle.vb_monitor.specs.declared.{orders.{Orders.Orders, Asked.Asked}, cuts.NextCut.NextCut}
+use Rattle.vb_core.specs.{declared.device.Device.Device, Config.keeps_reports}
+use Rattle.vb_monitor.{specs.Giving.{with_given, cuts_for}, specs.Machine.{Ahead, whole, room_of}}
+use Rattle.vb_monitor.specs.{Machine.next_chain, Orders.{at_once, giving, HasRoom, cuts_left}}
+use Rattle.vb_c.proofs.{ServedLemmas.told_given, UsualLemmas.says_notice}
 use Rattle.vb_c.specs.{Codes.kind_of_code, Notices.{phase_of, tally_of, asked_bits, answer_bits}}
 use Rattle.vb_c.specs.{Served.telling_pages, Serving.HandsOver, declared.notice.VbNotice.VbNotice}
 use Rattle.vb_c.proofs.requests.serve_named.Goals as goal
-
-pub returns-in-Some-clause-hands : goal.returns-in-Some-clause-hands
-returns-in-Some-clause-hands c =
-    let old = c.args.shown.now in
-    let t = tally_of old in
-    let kind = c.args.kind in
-    let named = c.args.named in
-    let runs = c.args.runs.now in
-    let filled = c.fill_named-filled.result in
-    let cuts = c.fill_named-filled.new.cuts in
-    let left = c.in-Some.left in
-    let some : filled.left ≡ Some left = search rules in
-    let shown = c.show_cut.ensures in
-    let (tally, same, orders) = shown.kept in
-    let x : Discarding =
-    record { head = c.args.head; runs = named.runs; run = left.run; from = left.from } in
-    let phase = Discards left.cut x in
-    let asked : Asked = record { told = Pages; gives = false } in
-    record {
-      asked = asked;
-      notice = record { kind = kind; step = record { tally = t; phase = phase } };
-      is = record {
-        read = says_notice kind phase t c.show_cut.new.self
-            (ap (λ (k : ℕ). kind_of_code k) same ∙ c.requires.kind) shown.phase tally;
-        says = tt;
-        what = shown.what ∙ (ap (λ (n : ℕ). n + answer_bits phase) c.asked_bits-bits.ensures.bits
-            ∙ sym (ap (λ (o : Orders). asked_bits asked o.cuts + answer_bits phase) orders));
-      };
-      kind_is = refl;
-      step = λ after outcome pieces bytes figures rest h.
-          let w = whole c.args.regions.now kind after outcome in
-          subst (λ (o : Orders). Ahead w (telling_pages kind t c.args.head named).step
-          c.args.balloon.now.device (room_of pieces bytes runs figures)
-          (at_once asked kind o cuts runs figures rest)) (sym orders)
-          (told_left w (next_chain w t) c.args.balloon.now.device t c.args.head named runs
-          filled.count cuts filled.left left rest c.fill_named-filled.ensures.parts some h);
-      room = subst (λ (o : Orders). HasRoom asked o) (sym orders) (record {
-        runs = λ e. c.requires.few;
-        figures = λ e. absurd cc;
-        cuts = c.fill_named-filled.ensures.few;
-      });
-      waits_now = refl;
-      fills = subst (λ (o : Orders). FillsList phase o) (sym orders)
-          (record { full = λ e. c.fill_named-filled.ensures.full left some });
-      fits = tt;
-      held = refl;
-    }
 
 pub returns-in-Some-give_and_look-clause-hands : goal.returns-in-Some-give_and_look-clause-hands
 returns-in-Some-give_and_look-clause-hands c =
@@ -65,9 +19,12 @@ returns-in-Some-give_and_look-clause-hands c =
     let kind = c.args.kind in
     let named = c.args.named in
     let runs = c.args.runs.now in
-    let filled = c.fill_named-filled.result in
-    let cuts = c.fill_named-filled.new.cuts in
-    let none : filled.left ≡ None = search rules in
+    let count = c.in-Some.count in
+    let cuts = c.fill_few-few.new.cuts in
+    let parts : cuts_for kind (keeps_reports c.args.balloon.now.device) c.args.regions.now
+    (take named.runs runs) ≡ take count cuts =
+    search rules in
+    let few : count ≤ 256 = search rules in
     let used = c.give_and_look.new.used in
     let phase = AwaitsIndex c.in-Some-give_and_look.at in
     let is = c.show_read.ensures in
@@ -82,7 +39,7 @@ returns-in-Some-give_and_look-clause-hands c =
             (ap (λ (x : VbNotice). phase_of x) is) (ap (λ (x : VbNotice). tally_of x) is);
         says = tt;
         what = ap (λ (x : VbNotice). x.what) is
-            ∙ (ap (λ (n : ℕ). n + answer_bits phase) c.asked_bits-bits-in-Some-give_and_look.ensures.bits
+            ∙ (ap (λ (n : ℕ). n + answer_bits phase) c.asked_bits-bits.ensures.bits
             ∙ sym (ap (λ (o : Orders). asked_bits asked o.cuts + answer_bits phase) orders));
       };
       kind_is = refl;
@@ -92,14 +49,13 @@ returns-in-Some-give_and_look-clause-hands c =
           c.args.balloon.now.device (room_of pieces bytes runs figures)
           (at_once asked kind o cuts runs figures rest)) (sym orders)
           (told_given w (next_chain w t) c.args.balloon.now.device t c.args.head named runs
-          filled.count cuts filled.left (giving true used ++ rest)
-          c.fill_named-filled.ensures.parts none
+          count cuts None (giving true used ++ rest) (parts ∙ sym (append-nil (take count cuts))) refl
           (c.in-Some-give_and_look.ensures.goes t after outcome
           (room_of pieces bytes runs figures) rest h));
       room = subst (λ (o : Orders). HasRoom asked o) (sym orders) (record {
         runs = λ e. c.requires.few;
         figures = λ e. absurd cc;
-        cuts = c.fill_named-filled.ensures.few;
+        cuts = few;
       });
       waits_now = refl;
       fills = record { full = λ e. absurd (grind arith) };
@@ -107,8 +63,8 @@ returns-in-Some-give_and_look-clause-hands c =
       held = refl;
     }
 
-pub returns-in-None-clause-hands : goal.returns-in-None-clause-hands
-returns-in-None-clause-hands c =
+pub returns-in-None-give_and_look-clause-hands : goal.returns-in-None-give_and_look-clause-hands
+returns-in-None-give_and_look-clause-hands c =
     let same : c.give_and_look.new.device ≡ c.args.balloon.now.device = search rules in
     subst (λ (d : Device). HandsOver
     (telling_pages c.args.kind (tally_of c.args.shown.now) c.args.head c.args.named)
