@@ -1,11 +1,9 @@
 -- Frames go out of a guest's supply and come back to it.
-use Rattle.std.specs.Prelude.{◌≡◌, ◌≢◌, ℕ, ◌+◌, ◌==◌, Bool, true, false, if◌then◌else◌, List, []}
-use Rattle.std.{specs.Prelude.{◌∷◌, refl}, proofs.Common.{sym, ◌∙◌, ap, arith, inl, inr}}
-use Rattle.std.proofs.lemmas.Bool.{cases_Bool}
-use Rattle.vb_model.{specs.Tests.one_if, specs.Orderly.times, proofs.Tables.count_by-cons}
-use Rattle.vb_ram.specs.Part.{Part}
-use Rattle.vb_device.{specs.Calls.SameFrames, specs.Own.{has, without, SameSet}}
-use Rattle.vb_frames.specs.Out.{is_out}
+use Rattle.std.proofs.Common.{◌≡◌, ◌≢◌, ℕ, ◌+◌, ◌==◌, Bool, true, false, if◌then◌else◌, List}
+use Rattle.std.proofs.{Common.{[], ◌∷◌, sym, ◌∙◌, ap, arith, inl, inr}, lemmas.Bool.cases_Bool}
+use Rattle.{std.specs.Prelude.refl, vb_model.{proofs.Tables.count_by-cons, specs.Tests.one_if}}
+use Rattle.{vb_model.specs.Orderly.times, vb_ram.specs.Part.Part, vb_frames.specs.Out.is_out}
+use Rattle.vb_device.specs.{Own.{has, without, SameSet}, Calls.SameFrames}
 use Rattle.vb_guest.specs.Supply.{Supply, supply_of, is_used, Moves, nothing, AreLoose}
 
 -- ---- what is used

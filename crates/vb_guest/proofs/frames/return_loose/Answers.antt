@@ -1,6 +1,5 @@
-use Rattle.std.proofs.Common.{◌∙◌, ap}
-use Rattle.vb_ram.specs.Part.{Part}
-use Rattle.vb_guest.{specs.Supply.{supply_of, is_used}, proofs.Moving.loose_is_used}
+use Rattle.{std.proofs.Common.{◌∙◌, ap}, vb_ram.specs.Part.Part, vb_guest.specs.Supply.supply_of}
+use Rattle.vb_guest.{specs.Supply.is_used, proofs.Moving.loose_is_used}
 use Rattle.vb_guest.proofs.frames.return_loose.Goals as goal
 
 pub return_frame-requires-clause-used : goal.return_frame-requires-clause-used
