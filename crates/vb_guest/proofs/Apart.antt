@@ -1,15 +1,13 @@
 -- What leaves a queue alone.
 use Rattle.std.specs.Prelude.{◌≡◌, ◌≢◌, ℕ, ◌+◌, ◌*◌, ◌<◌, ◌≤◌, List, length, slice_index_or}
-use Rattle.std.proofs.Common.{◌∙◌, arith, inl, refl, subst}
-use Rattle.vb_model.specs.Layout.{reserved_pages, ring_number, ring_page, buffers_page, buffer_page}
-use Rattle.vb_model.{specs.Layout.buffer_offset, specs.Requests.{Request, Requests}}
-use Rattle.vb_model.proofs.Shapes.{InRing, rings_apart}
-use Rattle.vb_ram.{specs.Pages.{Pages, page_at}, specs.Part.QueuePart, proofs.FieldLaws.same_page}
+use Rattle.{std.proofs.Common.{◌∙◌, arith, inl, refl, subst}, vb_model.specs.Layout.reserved_pages}
+use Rattle.vb_model.specs.Layout.{ring_number, ring_page, buffers_page, buffer_page, buffer_offset}
+use Rattle.vb_model.{specs.Requests.{Request, Requests}, proofs.Shapes.{InRing, rings_apart}}
+use Rattle.vb_ram.{specs.{Pages.{Pages, page_at}, Part.QueuePart}, proofs.FieldLaws.same_page}
 use Rattle.vb_chain.{specs.Table.descriptor_at, proofs.TableLaws.descriptor_apart}
-use Rattle.vb_ring.specs.Ends.{DriverEnd}
-use Rattle.vb_driver.{specs.Coding.IsCoded, specs.State.RequestSide, proofs.Buffers.names_kept}
-use Rattle.vb_guest.specs.Line.{Line, IsRequest, RingOf}
-use Rattle.vb_guest.proofs.RingApart.{SameRing, ring_apart}
+use Rattle.{vb_ring.specs.Ends.DriverEnd, vb_driver.specs.Coding.IsCoded}
+use Rattle.vb_driver.{specs.State.RequestSide, proofs.Buffers.names_kept}
+use Rattle.vb_guest.{specs.Line.{Line, IsRequest, RingOf}, proofs.RingApart.{SameRing, ring_apart}}
 
 -- the pages of a queue's ring, and those of its buffers, are as before
 pub record SameLine (old new : Pages) (size q : ℕ) : Type 0 where
@@ -33,11 +31,7 @@ coded_kept {old} {new} q {r} is descriptor page code = record {
 -- the ring of a queue whose pages are as before
 pub requests_apart : (old new : Pages) (q : ℕ) (ring : DriverEnd) (part : QueuePart) (rs : Requests)
     → SameRing old new ring.size q → RingOf old q ring part rs → RingOf new q ring part rs
-requests_apart old new q ring part rs same stands =
-    grind (
-      arith,
-      ring_apart same stands,
-    )
+requests_apart old new q ring part rs same stands = grind (arith, ring_apart same stands)
 
 pub line_apart : {old new : Pages}
     {q : ℕ} (n : ℕ) (side : RequestSide) (part : QueuePart) (rs : Requests)
@@ -49,8 +43,7 @@ line_apart {old} {new} {q} n side part rs same line = record {
   taken = line.taken;
   done = line.done;
   coded = λ k d lt.
-      let x = slice_index_or rs.posted k d in
-      let is = line.posted k d lt in
+      let x = slice_index_or rs.posted k d in let is = line.posted k d lt in
       coded_kept q is (descriptor_apart old new
       (ring_page side.ring.size q) x.head (same.ring (ring_page side.ring.size q) (inl refl)))
       (same.buffers _ (omega arith) (omega (arith, is.few))) (line.coded k d lt);

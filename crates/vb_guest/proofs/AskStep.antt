@@ -1,21 +1,19 @@
 -- A guest's ask is a step of the definitions.
-use Rattle.std.specs.Prelude.{◌≡◌, false, List, [], Result, Ok, Err, IsOk, Some, None, is_some}
-use Rattle.std.{specs.Prelude.{slice_get, refl}, proofs.Common.{sym, ◌∙◌, ap, subst, arith, inr}}
-use Rattle.vb_model.specs.Requests.{Request, Figures, StatisticsBuffer, NoBuffer, BufferPosted}
-use Rattle.vb_model.{specs.Requests.{BufferTaken, BufferDone}, specs.Layout.reserved_pages}
-use Rattle.vb_model.{specs.declared.replies.Reply.TheVariants.Asked, specs.Device.ReturnsBuffer}
-use Rattle.vb_model.{specs.declared.calls.Call.TheVariants.Ask, specs.Guest.Guest}
-use Rattle.vb_model.{specs.declared.replies.Refusal.Refusal, specs.Refusals.{refusal_of, is_taken}}
-use Rattle.vb_ram.{specs.Pages.Pages, specs.Part.Part}
-use Rattle.vb_guest.proofs.{Running.others_run, Handing.{used_same, same_end}}
-use Rattle.vb_guest.proofs.RunApart.{sizes_of, others_same, ring_low, ring_as}
-use Rattle.vb_guest.proofs.Closing.{honest_performed, steps_alone, ties_same}
-use Rattle.vb_guest.{specs.Buffer.{BufferLine, taken_requests}, proofs.BufferLines.buffer_used}
-use Rattle.vb_guest.{proofs.PagesKept.{SamePages, pages_same}, proofs.RingApart.ring_parts}
-use Rattle.vb_guest.{proofs.SameRefusals.{by_state, ask_same, ask_idle}, specs.Replies.asked_reply}
-use Rattle.vb_guest.{specs.Stands.{Honest, Ties, IsRunning}, specs.Steps.StepsAlone}
-use Rattle.vb_driver.specs.State.{DriverState}
-use Rattle.vb_device.{specs.Conditions.{ask_refusal, taken_at}, specs.Calls.{AsksBy, using}}
+use Rattle.std.{proofs.Common.{sym, ◌∙◌, ap, subst, arith, inr}, specs.Prelude.{◌≡◌, false}}
+use Rattle.std.specs.Prelude.{List, [], Result, Ok, Err, IsOk, Some, None, is_some, slice_get, refl}
+use Rattle.vb_model.specs.{Layout.reserved_pages, Refusals.{refusal_of, is_taken}}
+use Rattle.vb_model.specs.{Device.ReturnsBuffer, declared.calls.Call.TheVariants.Ask}
+use Rattle.vb_model.specs.declared.replies.{Refusal.Refusal, Reply.TheVariants.Asked}
+use Rattle.vb_model.specs.Requests.{Request, Figures, StatisticsBuffer}
+use Rattle.vb_model.specs.{Requests.{NoBuffer, BufferPosted, BufferTaken, BufferDone}, Guest.Guest}
+use Rattle.{vb_ram.specs.{Part.Part, Pages.Pages}, vb_device.specs.Calls.{AsksBy, using}}
+use Rattle.{vb_device.specs.Conditions.{ask_refusal, taken_at}, vb_driver.specs.State.DriverState}
+use Rattle.vb_guest.specs.{Replies.asked_reply, Steps.StepsAlone, Stands.{Honest, Ties, IsRunning}}
+use Rattle.vb_guest.{specs.Buffer.{BufferLine, taken_requests}, proofs.Running.others_run}
+use Rattle.vb_guest.proofs.{SameRefusals.{by_state, ask_same, ask_idle}, BufferLines.buffer_used}
+use Rattle.vb_guest.proofs.{Handing.{used_same, same_end}, RingApart.ring_parts, RunApart.sizes_of}
+use Rattle.vb_guest.proofs.{RunApart.{others_same, ring_low, ring_as}, Closing.honest_performed}
+use Rattle.vb_guest.proofs.{Closing.{steps_alone, ties_same}, PagesKept.{SamePages, pages_same}}
 
 ask_refused : {T : Type 0} {m1 m2 : Pages}
     {p1 p2 : Part} {d : DriverState} {g : Guest} (why : Refusal) {result : Result T Refusal}
@@ -42,8 +40,7 @@ ask_done {m1} {m2}
     let adds = same_end 2 p1.statistics.next_avail p1.statistics.next_used
     d.statistics line.stands.layout (ties.parts.device.size ∙ sym run.statistics_size)
     (did.memory r free_part taken) in
-    let size = g.config.queue_size in
-    let used_page = d.statistics.layout.used.page in
+    let size = g.config.queue_size in let used_page = d.statistics.layout.used.page in
     let at = (ring_parts 2 d.statistics line.stands.sized line.stands.layout).used in
     let same : SamePages
     (reserved_pages size) m1 m2 = used_same (ring_low 2 used_page run.statistics_size at) adds in

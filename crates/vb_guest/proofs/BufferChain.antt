@@ -1,16 +1,15 @@
 -- A posted statistics buffer, as its device finds it.
-use Rattle.std.specs.Prelude.{◌≡◌, ℕ, ◌+◌, ◌*◌, ◌/◌, ◌%◌, ◌<◌, ◌≤◌, List, [], ◌∷◌, length, take}
-use Rattle.std.{specs.Prelude.{drop, false, Some, Ok, slice_index, refl}, proofs.Common.{sym, ◌∙◌}}
-use Rattle.std.{proofs.Common.{ap, arith}, proofs.lemmas.List.FromFn.get_or-map-range_with_len}
-use Rattle.std.proofs.lemmas.List.{append-nil, get_or-take, get_or-drop}
-use Rattle.vb_model.specs.Requests.{Figures}
-use Rattle.vb_ram.{specs.Pages.{Pages, byte_at}, proofs.FieldLaws.{field_2, field_8}}
-use Rattle.vb_chain.{proofs.ChainLaws.{single_chain, no_fault}, specs.declared.pieces.Piece.Piece}
-use Rattle.vb_chain.{specs.Table.descriptor_at, specs.Chain.ChainGives, specs.Rules.piece_of}
+use Rattle.std.proofs.{Common.{sym, ◌∙◌, ap, arith}, lemmas.List.append-nil}
+use Rattle.std.proofs.lemmas.List.{get_or-take, get_or-drop, FromFn.get_or-map-range_with_len}
+use Rattle.std.specs.Prelude.{◌≡◌, ℕ, ◌+◌, ◌*◌, ◌/◌, ◌%◌, ◌<◌, ◌≤◌}
+use Rattle.std.specs.Prelude.{List, [], ◌∷◌, length, take, drop, false, Some, Ok, slice_index, refl}
+use Rattle.{vb_model.specs.Requests.Figures, vb_ram.proofs.FieldLaws.{field_2, field_8}}
+use Rattle.{vb_ram.specs.Pages.{Pages, byte_at}, vb_chain.proofs.ChainLaws.{single_chain, no_fault}}
+use Rattle.vb_chain.specs.{Chain.ChainGives, Rules.piece_of, Table.descriptor_at}
+use Rattle.{vb_chain.specs.declared.pieces.Piece.Piece, vb_request.specs.Request.byte_of_address}
+use Rattle.vb_request.specs.{Request.{bytes_from, bytes_of}, Statistics.{Statistic, statistic_at}}
+use Rattle.vb_request.specs.Statistics.{statistics_of, statistics_in, statistics_request}
 use Rattle.vb_driver.specs.Coding.{AreFigures, IsStatistic, statistics_buffer}
-use Rattle.vb_request.specs.Statistics.{Statistic, statistic_at, statistics_of, statistics_in}
-use Rattle.vb_request.specs.Statistics.{statistics_request}
-use Rattle.vb_request.specs.Request.{byte_of_address, bytes_from, bytes_of}
 
 -- the buffer's one piece
 abbrev pub buffer_pieces : List Piece

@@ -1,16 +1,15 @@
 -- What calls make of the statistics buffer.
 use Rattle.std.specs.Prelude.{◌≡◌, ℕ, ◌+◌, ◌%◌, true, List, [], ◌∷◌, ◌++◌, remove, Some, Ok, refl}
-use Rattle.std.proofs.Common.{ap, arith, inl}
-use Rattle.vb_model.specs.Requests.{Request, Figures, StatisticsBuffer, NoBuffer, BufferPosted}
-use Rattle.vb_model.{specs.Requests.{BufferTaken, BufferDone}, specs.Layout.ring_page}
-use Rattle.vb_ram.{specs.Pages.{Pages, page_at}, specs.Part.QueuePart}
-use Rattle.vb_ram.proofs.FieldLaws.{field_in, same_page}
-use Rattle.vb_chain.proofs.TableLaws.{descriptor_apart}
-use Rattle.vb_ring.{specs.Ends.{DriverEnd, DeviceEnd}, specs.Calls.{AddsUsedBy, TakesUsedBy}}
-use Rattle.vb_driver.{specs.Coding.{AreFigures, IsStatistic}, specs.Calls.{PostsBuffer, emptied}}
-use Rattle.vb_guest.{specs.Buffer.{BufferLine, HasFigures}, proofs.RingApart.{SameRing, ring_apart}}
-use Rattle.vb_guest.{proofs.RingPosted.ring_posted, proofs.RingTaken.ring_taken}
-use Rattle.vb_guest.{proofs.RingUsed.ring_used, proofs.RingReaped.ring_reaped}
+use Rattle.{std.proofs.Common.{ap, arith, inl}, vb_model.specs.Requests.Request}
+use Rattle.vb_model.specs.Requests.{Figures, StatisticsBuffer, NoBuffer, BufferPosted, BufferTaken}
+use Rattle.{vb_model.specs.{Requests.BufferDone, Layout.ring_page}, vb_ram.specs.Pages.Pages}
+use Rattle.vb_ram.{specs.{Pages.page_at, Part.QueuePart}, proofs.FieldLaws.field_in}
+use Rattle.{vb_ram.proofs.FieldLaws.same_page, vb_chain.proofs.TableLaws.descriptor_apart}
+use Rattle.vb_ring.specs.{Ends.{DriverEnd, DeviceEnd}, Calls.{AddsUsedBy, TakesUsedBy}}
+use Rattle.vb_driver.specs.{Coding.{AreFigures, IsStatistic}, Calls.{PostsBuffer, emptied}}
+use Rattle.vb_guest.specs.Buffer.{BufferLine, HasFigures}
+use Rattle.vb_guest.proofs.{RingApart.{SameRing, ring_apart}, RingPosted.ring_posted}
+use Rattle.vb_guest.proofs.{RingTaken.ring_taken, RingUsed.ring_used, RingReaped.ring_reaped}
 
 -- ---- memory changes elsewhere
 
@@ -71,17 +70,10 @@ buffer_used figures line adds = record {
 pub buffer_posted : {m1 m2 : Pages} {r1 r2 : DriverEnd} {part : QueuePart} {figures : Figures}
     → BufferLine m1 r1 part NoBuffer
     → PostsBuffer m1 m2 r1 r2 figures → BufferLine m2 r2 part (BufferPosted figures)
-buffer_posted line posts =
-    grind (
-      arith,
-      ring_posted 1 line.stands posts.state posts.announces,
-    )
+buffer_posted line posts = grind (arith, ring_posted 1 line.stands posts.state posts.announces)
 
 -- the driver sees that it was used
 pub buffer_emptied : {mem : Pages} {ring : DriverEnd} {part : QueuePart} (figures : Figures)
     → BufferLine mem ring part (BufferDone figures) → TakesUsedBy mem ring
     (emptied ring) (Ok (Some 0)) → BufferLine mem (emptied ring) part NoBuffer
-buffer_emptied figures line takes = grind (
-  arith,
-  ring_reaped 0 line.stands takes,
-)
+buffer_emptied figures line takes = grind (arith, ring_reaped 0 line.stands takes)

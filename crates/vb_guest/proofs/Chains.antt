@@ -2,14 +2,12 @@
 use Rattle.std.specs.Prelude.{◌≡◌, ℕ, ◌*◌, ◌<◌, ◌≤◌, List, [], ◌∷◌, All, length, Ok, false, refl}
 use Rattle.std.proofs.Common.{sym, subst, arith}
 use Rattle.vb_model.specs.Layout.{reserved_pages, ring_page, buffers_page, buffer_page}
-use Rattle.vb_model.{specs.Layout.buffer_offset, specs.Requests.Request}
-use Rattle.vb_ram.specs.Pages.{Pages}
-use Rattle.vb_chain.{specs.declared.descriptor.Descriptor.Descriptor, specs.Table.descriptor_at}
-use Rattle.vb_chain.{specs.Rules.piece_of, specs.Chain.ChainGives}
+use Rattle.vb_model.specs.{Layout.buffer_offset, Requests.Request}
+use Rattle.{vb_ram.specs.Pages.Pages, vb_chain.specs.declared.descriptor.Descriptor.Descriptor}
+use Rattle.vb_chain.specs.{Table.descriptor_at, Rules.piece_of, Chain.ChainGives}
 use Rattle.vb_chain.proofs.ChainLaws.{single_chain, no_fault}
-use Rattle.vb_driver.specs.Coding.{IsCoded, buffer_of}
 use Rattle.vb_request.{specs.Request.page_request, proofs.OneRequest.one_request}
-use Rattle.vb_guest.specs.Line.{IsRequest}
+use Rattle.{vb_driver.specs.Coding.{IsCoded, buffer_of}, vb_guest.specs.Line.IsRequest}
 
 -- its chain is one readable buffer
 pub coded_chain : {mem : Pages} (q : ℕ) {size n : ℕ} {sent : List (List ℕ)} {r : Request}

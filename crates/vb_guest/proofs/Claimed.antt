@@ -1,10 +1,8 @@
 -- What a claim of a frame answered.
 use Rattle.std.specs.Prelude.{◌≡◌, Bool, List, [], ◌∷◌, ◌++◌, Result}
-use Rattle.std.proofs.Common.{◌∙◌, ap, subst}
-use Rattle.vb_model.specs.declared.calls.Claim.{Claim}
-use Rattle.vb_ram.specs.Pages.{Page}
-use Rattle.vb_frames.{specs.declared.keeper.Refused.Refused, specs.Out.claim_in}
-use Rattle.vb_guest.specs.Supply.{Supply, IsClaimed}
+use Rattle.{std.proofs.Common.{◌∙◌, ap, subst}, vb_model.specs.declared.calls.Claim.Claim}
+use Rattle.{vb_ram.specs.Pages.Page, vb_frames.specs.declared.keeper.Refused.Refused}
+use Rattle.{vb_frames.specs.Out.claim_in, vb_guest.specs.Supply.{Supply, IsClaimed}}
 
 pub claim_answered : {Answers : List Bool → Claim → Type 0}
     {s1 s2 : Supply} {result value : Result Page Refused} → result ≡ value

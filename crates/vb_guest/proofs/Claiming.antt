@@ -1,14 +1,13 @@
 -- What a call of `supply_from` makes of one page and of the rest.
-use Rattle.std.specs.Prelude.{◌≡◌, ℕ, suc, ◌+◌, ◌-◌, ◌<◌, ◌≤◌, Bool, true, false, cond, List, []}
-use Rattle.std.specs.Prelude.{◌∷◌, length, None, filter, Result, Ok, Err, IsErrAnd, ◌++◌}
-use Rattle.std.{specs.List.range_with_len, proofs.lemmas.List.{append-nil, append_assoc}}
-use Rattle.std.proofs.Common.{sym, ◌∙◌, ap, subst, arith}
-use Rattle.vb_model.{specs.declared.calls.Claim.Claim, specs.declared.calls.Claim.TheVariants.Gave}
-use Rattle.vb_model.{specs.Layout.reserved_pages, specs.Driver.given, specs.Orderly.times}
-use Rattle.vb_ram.specs.Pages.{Pages, frame_at, Supplied}
-use Rattle.vb_frames.{specs.declared.keeper.Refused.Refused, specs.Out.claim_in}
-use Rattle.vb_guest.specs.Supply.{Supply, is_used, IsClaimed, Moves, nothing}
-use Rattle.vb_guest.specs.Lives.{is_bare, bare_from, SuppliesBy}
+use Rattle.std.specs.Prelude.{◌≡◌, ℕ, suc, ◌+◌, ◌-◌, ◌<◌, ◌≤◌, Bool, true, false}
+use Rattle.std.specs.Prelude.{cond, List, [], ◌∷◌, length, None, filter, Result, Ok, Err, IsErrAnd}
+use Rattle.std.specs.{Prelude.◌++◌, List.range_with_len}
+use Rattle.std.proofs.{lemmas.List.{append-nil, append_assoc}, Common.{sym, ◌∙◌, ap, subst, arith}}
+use Rattle.vb_model.specs.{declared.calls.Claim.{Claim, TheVariants.Gave}, Layout.reserved_pages}
+use Rattle.{vb_model.specs.{Driver.given, Orderly.times}, vb_ram.specs.Pages.{Pages, frame_at}}
+use Rattle.{vb_ram.specs.Pages.Supplied, vb_frames.specs.declared.keeper.Refused.Refused}
+use Rattle.{vb_frames.specs.Out.claim_in, vb_guest.specs.Supply.{Supply, is_used, IsClaimed}}
+use Rattle.vb_guest.specs.{Supply.{Moves, nothing}, Lives.{is_bare, bare_from, SuppliesBy}}
 use Rattle.vb_guest.proofs.Supplying.{not_again, supplied_count, supplied_other}
 use Rattle.vb_guest.proofs.Moving.{times_first, times_one, moves_then, moves_as}
 

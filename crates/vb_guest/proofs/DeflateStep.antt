@@ -1,29 +1,26 @@
 -- A guest's two deflates are steps of the definitions.
-use Rattle.std.specs.Prelude.{◌≡◌, ℕ, zero, suc, ◌<◌, ◌≤◌, Bool, List, [], ◌∷◌, length, take}
-use Rattle.std.specs.Prelude.{Result, Ok, Err, OnErr, IfOk, Some, None, count_by, refl, ◌⊎◌}
-use Rattle.std.proofs.Common.{sym, ◌∙◌, ap, subst, arith, inr}
-use Rattle.vb_model.proofs.{OrderlySteps.honest_order, Shapes.reserved_least, Tables.count_by-cons}
-use Rattle.vb_model.specs.{Driver.{Deflates, lowest_lent, after_posting}, Guest.{Guest, lent_count}}
-use Rattle.vb_model.specs.{Layout.buffer_page, Refusals.{first_refusal, refusal_of, deflate_count}}
-use Rattle.vb_model.specs.{Refusals.oom_count, Requests.{outstanding, Deflating}, Step.Performs}
-use Rattle.vb_model.specs.{Tests.pages_from, declared.calls.Call.Call}
-use Rattle.vb_model.specs.declared.{calls.Call.TheVariants.{Deflate, Oom}, replies.Refusal.Refusal}
-use Rattle.vb_model.specs.declared.replies.{Refusal.TheVariants.NotReady, Reply.Reply}
-use Rattle.vb_model.specs.declared.replies.Reply.TheVariants.{Posted}
-use Rattle.vb_ram.{specs.Pages.Pages, specs.Part.Part}
-use Rattle.vb_guest.proofs.SameRefusals.{IsIdleStatus, refused_alike, runs_where}
-use Rattle.vb_guest.proofs.{Running.others_posted, Closing.{honest_performed, steps_alone}}
-use Rattle.vb_guest.proofs.RunApart.{sizes_of, ring_of, buffer_clear, post_leaves, post_same}
-use Rattle.vb_guest.proofs.DriverWords.{Sides, driver_of, in_words}
-use Rattle.vb_guest.proofs.{Posting.{line_posted, least_head, outstanding_are}, Offered.asked_as}
-use Rattle.vb_guest.proofs.{Offered.{last_sound, deflate_requested}, PagesKept.pages_same}
-use Rattle.vb_guest.specs.{Stands.{Honest, Ties, IsRunning}, Replies.posted_reply, Steps.StepsAlone}
-use Rattle.vb_driver.specs.State.{FreePages, RequestSide, DriverState, IsDriver}
-use Rattle.vb_driver.specs.Answers.{refusal_in, deflate_causes, oom_causes}
+use Rattle.std.{proofs.Common.{sym, ◌∙◌, ap, subst, arith, inr}, specs.Prelude.{◌≡◌, ℕ, zero, suc}}
+use Rattle.std.specs.Prelude.{◌<◌, ◌≤◌, Bool, List, [], ◌∷◌, length, take, Result, Ok, Err, OnErr}
+use Rattle.{std.specs.Prelude.{IfOk, Some, None, count_by, refl, ◌⊎◌}, vb_model.specs.Guest.Guest}
+use Rattle.vb_model.specs.{Guest.lent_count, Step.Performs, Requests.{outstanding, Deflating}}
+use Rattle.vb_model.specs.{Tests.pages_from, Driver.{Deflates, lowest_lent, after_posting}}
+use Rattle.vb_model.specs.Refusals.{first_refusal, refusal_of, deflate_count, oom_count}
+use Rattle.vb_model.specs.declared.calls.Call.{Call, TheVariants.{Deflate, Oom}}
+use Rattle.vb_model.specs.declared.replies.{Reply.{Reply, TheVariants.Posted}, Refusal.Refusal}
+use Rattle.vb_model.specs.{declared.replies.Refusal.TheVariants.NotReady, Layout.buffer_page}
+use Rattle.vb_model.proofs.{OrderlySteps.honest_order, Tables.count_by-cons, Shapes.reserved_least}
+use Rattle.{vb_ram.specs.{Pages.Pages, Part.Part}, vb_ring.specs.Ends.outstanding as outstanding_in}
 use Rattle.vb_driver.specs.Calls.{Unchanged, AsksBack, DeflatesBy, DeflatesOnOomBy, areas_asked}
-use Rattle.vb_ring.specs.Ends.{outstanding as outstanding_in}
-use Rattle.vb_driver.specs.declared.answers.Posted.{Posted as PostedRequest}
-use Rattle.vb_driver.specs.Answers.{deflate_count as driver_count}
+use Rattle.vb_driver.specs.State.{FreePages, RequestSide, DriverState, IsDriver}
+use Rattle.vb_driver.specs.{declared.answers.Posted.Posted as PostedRequest, Answers.refusal_in}
+use Rattle.vb_driver.specs.Answers.{deflate_causes, oom_causes, deflate_count as driver_count}
+use Rattle.vb_guest.proofs.{PagesKept.pages_same, Offered.{asked_as, last_sound, deflate_requested}}
+use Rattle.vb_guest.proofs.{DriverWords.{Sides, driver_of, in_words}, Running.others_posted}
+use Rattle.vb_guest.proofs.Posting.{line_posted, least_head, outstanding_are}
+use Rattle.vb_guest.proofs.SameRefusals.{IsIdleStatus, refused_alike, runs_where}
+use Rattle.vb_guest.proofs.Closing.{honest_performed, steps_alone}
+use Rattle.vb_guest.proofs.RunApart.{sizes_of, ring_of, buffer_clear, post_leaves, post_same}
+use Rattle.vb_guest.specs.{Steps.StepsAlone, Stands.{Honest, Ties, IsRunning}, Replies.posted_reply}
 
 -- ---- the lowest lent pages are as many as were asked for
 
@@ -60,8 +57,7 @@ asked_back : {m1 m2 : Pages} {p1 p2 : Part} {g : Guest} (areas : FreePages)
     → StepsAlone (Honest m2 p2 d2) g call (Posted posted.head posted.pages)
 asked_back {m1}
     {m2} {p1} {p2} {g} areas sides {d2} {call} {count} {posted} asks driver did stands run free =
-    let ties = stands.ties in
-    let pages = lowest_lent count g in
+    let ties = stands.ties in let pages = lowest_lent count g in
     let single = driver.deflate.requests in
     let least = least_head m1 1 p1.deflate run.deflate.ring single did.posts.lowest in
     let new : Guest = after_posting Deflating posted.head pages g in
@@ -76,8 +72,7 @@ asked_back {m1}
     (omega (arith, length_is, asks.some free run.state)) (omega (arith, length_is, asks.few)) in
     let line = line_posted 1 p1.deflate g.deflate single (asked_as g run.deflate_size asked)
     run.deflate did.posts in
-    let size = g.config.queue_size in
-    let rest = did.posts.rest in
+    let size = g.config.queue_size in let rest = did.posts.rest in
     let buffer : ℕ = buffer_page 8 posted.head in
     let small : buffer < 12 = omega (arith, did.posts.small) in
     let ring = ring_of 1 sides.deflate.ring run.deflate.ring.sized run.deflate.ring.layout

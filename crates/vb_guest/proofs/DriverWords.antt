@@ -1,8 +1,6 @@
 -- The driver in the words of its guest.
-use Rattle.std.{specs.Prelude.◌≡◌, proofs.Common.{◌∙◌, ap, subst}}
-use Rattle.vb_model.specs.Guest.{Guest}
-use Rattle.vb_ram.{specs.Pages.Pages, specs.Part.Part}
-use Rattle.vb_ring.specs.Ends.{DriverEnd}
+use Rattle.{std.{specs.Prelude.◌≡◌, proofs.Common.{◌∙◌, ap, subst}}, vb_model.specs.Guest.Guest}
+use Rattle.{vb_ram.specs.{Pages.Pages, Part.Part}, vb_ring.specs.Ends.DriverEnd}
 use Rattle.vb_driver.specs.State.{FreePages, RequestSide, ReportSide, DriverState}
 use Rattle.vb_guest.specs.Stands.{Honest, HasParts, beside_queues, beside_sides, beside_requests}
 

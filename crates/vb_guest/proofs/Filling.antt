@@ -1,20 +1,18 @@
 -- Bytes that are written to a page with no frame, by how the claim of one was answered.
 use Rattle.std.specs.Prelude.{◌≡◌, ℕ, ◌<◌, Bool, true, List, [], ◌∷◌, length, None, Result, Ok, Err}
-use Rattle.std.proofs.Common.{sym, subst}
-use Rattle.vb_model.{specs.declared.calls.Call.{Call, TheVariants.{Write, Scribble}}, specs.Guest.Guest}
-use Rattle.vb_model.specs.declared.calls.Claim.{Claim, TheVariants.{Gave, GaveNoFrame, GaveNoMemory}}
-use Rattle.vb_model.{specs.declared.replies.Refusal.Refusal, specs.Pages.{place_of, is_used}}
-use Rattle.vb_model.specs.declared.replies.Reply.TheVariants.{Done, Refused}
-use Rattle.vb_ram.{specs.Pages.{Pages, frame_at, Covers, Supplied, Wrote}, specs.Part.Part}
-use Rattle.vb_frames.{specs.declared.keeper.Refused.TheVariants.{NoFrame, Memory}, specs.Out.claim_in}
-use Rattle.vb_driver.specs.State.{DriverState}
-use Rattle.vb_guest.proofs.RogueMemory.{write_supplied_rogue, write_unsupplied_rogue}
-use Rattle.vb_guest.proofs.RogueMemory.{scribble_supplied, scribble_unsupplied}
-use Rattle.vb_guest.proofs.WriteStep.{write_unsupplied, write_supplied, refusal_of_claim}
-use Rattle.vb_guest.{specs.Supply.{Supply, supply_of, IsClaimed}, specs.Exact.{FillsBare, FillsBy}}
-use Rattle.vb_guest.{proofs.Standing.over_stands, specs.Steps.StepsOver, specs.Stands.Stands}
-use Rattle.vb_guest.specs.Replies.{done_reply}
-use Rattle.vb_frames.specs.declared.keeper.Refused.{Refused as KeeperRefused}
+use Rattle.{std.proofs.Common.{sym, subst}, vb_model.specs.{Pages.{place_of, is_used}, Guest.Guest}}
+use Rattle.vb_model.specs.declared.replies.{Refusal.Refusal, Reply.TheVariants.{Done, Refused}}
+use Rattle.vb_model.specs.declared.calls.{Call.{Call, TheVariants.{Write, Scribble}}, Claim.Claim}
+use Rattle.vb_model.specs.declared.calls.Claim.TheVariants.{Gave, GaveNoFrame, GaveNoMemory}
+use Rattle.vb_ram.specs.{Part.Part, Pages.{Pages, frame_at, Covers, Supplied, Wrote}}
+use Rattle.vb_frames.specs.{Out.claim_in, declared.keeper.Refused.Refused as KeeperRefused}
+use Rattle.vb_frames.specs.declared.keeper.Refused.TheVariants.{NoFrame, Memory}
+use Rattle.{vb_driver.specs.State.DriverState, vb_guest.specs.{Replies.done_reply, Steps.StepsOver}}
+use Rattle.vb_guest.specs.{Exact.{FillsBare, FillsBy}, Supply.{Supply, supply_of, IsClaimed}}
+use Rattle.vb_guest.{specs.Stands.Stands, proofs.WriteStep.{write_unsupplied, write_supplied}}
+use Rattle.vb_guest.proofs.{WriteStep.refusal_of_claim, RogueMemory.write_supplied_rogue}
+use Rattle.vb_guest.proofs.RogueMemory.{write_unsupplied_rogue, scribble_supplied}
+use Rattle.vb_guest.proofs.{RogueMemory.scribble_unsupplied, Standing.over_stands}
 
 -- what a call is where its claim was answered by a frame, and where it was refused
 filled : {T : Type 0} {New : Guest → Type 0} {Answers : List Bool → Claim → Type 0} {s1 s2 : Supply}
@@ -28,18 +26,17 @@ filled : {T : Type 0} {New : Guest → Type 0} {Answers : List Bool → Claim �
 filled {T} {New}
     {Answers} {s1} {s2} {m1} {m2} {g = g} {page = page} {off} {bs} {call} {r} fills gave none =
     subst (λ (l : List Claim). StepsOver New Answers s1 s2 l g call (done_reply r))
-    (sym fills.noted) (by fills.claim r fills.claimed fills.fills)
-  where
-    by : (c : Claim) (x : Result T Refusal) → IsClaimed Answers s1 s2 c
-        → FillsBy c m1 m2 page off bs x → StepsOver New Answers s1 s2 (c ∷ []) g call (done_reply x)
-    by (Gave n) (Ok u) claimed did = gave n did.1.0 claimed did.1.1 did.1.2
-    by (Gave n) (Err why) claimed did = (let wrong = did.0 in cc)
-    by GaveNoFrame x claimed did =
-        subst (λ (y : Result T Refusal). StepsOver New Answers s1 s2 (GaveNoFrame ∷ []) g call
-        (done_reply y)) (sym did.0) (none NoFrame claimed did.1)
-    by GaveNoMemory x claimed did =
-        subst (λ (y : Result T Refusal). StepsOver New Answers s1 s2 (GaveNoMemory ∷ []) g call
-        (done_reply y)) (sym did.0) (none Memory claimed did.1)
+    (sym fills.noted) (by fills.claim r fills.claimed fills.fills) where
+      by : (c : Claim) (x : Result T Refusal) → IsClaimed Answers s1 s2 c
+          → FillsBy c m1 m2 page off bs x → StepsOver New Answers s1 s2 (c ∷ []) g call (done_reply x)
+      by (Gave n) (Ok u) claimed did = gave n did.1.0 claimed did.1.1 did.1.2
+      by (Gave n) (Err why) claimed did = (let wrong = did.0 in cc)
+      by GaveNoFrame x claimed did =
+          subst (λ (y : Result T Refusal). StepsOver New Answers s1 s2 (GaveNoFrame ∷ []) g call
+          (done_reply y)) (sym did.0) (none NoFrame claimed did.1)
+      by GaveNoMemory x claimed did =
+          subst (λ (y : Result T Refusal). StepsOver New Answers s1 s2 (GaveNoMemory ∷ []) g call
+          (done_reply y)) (sym did.0) (none Memory claimed did.1)
 
 -- by the driver
 pub bare_written : {keeps : Bool} {Answers : List Bool → Claim → Type 0} (out1 out2 : List Bool)

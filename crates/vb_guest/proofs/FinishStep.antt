@@ -69,7 +69,7 @@ sound_at (x ∷ rs) (suc i) all is = sound_at rs i all.1 is
 without_low : (kind : Kind) (m : Pages) (size : ℕ) (pages : List ℕ)
     → All (λ page. reserved_pages size ≤ page) pages
     → SameReserved m (without_frames (queue_of kind) pages m) size
-without_low x0 m size pages above p lt = grind (arith, page_undiscarded, not_among)
+without_low x m size pages above p lt = grind (arith, page_undiscarded, not_among)
 
 codes_stay : (kind : Kind)
     {m1 m2 : Pages} (d : DriverState) (n : ℕ) (part : QueuePart) {head : ℕ} {after : DeviceEnd}
@@ -131,7 +131,7 @@ ties_settled Reporting_free i r parts pages run still line = search arith
 
 finishes : (kind : Kind) (g : Guest) (i : ℕ) (reply : Reply) (new : Guest)
     → Finishes kind i g reply new → Performs (Finish (queue_of kind) i) g [] reply new
-finishes x0 g i reply new does = grind arith
+finishes x g i reply new does = grind arith
 
 request_finished : (kind : Kind) {m1 m2 : Pages} {p1 p2 : Part} {d : DriverState} {g : Guest}
     {i : ℕ} {r : Request} {result : Result ℕ Refusal} → slice_get (requests kind g).taken i ≡ Some r
@@ -140,14 +140,9 @@ request_finished : (kind : Kind) {m1 m2 : Pages} {p1 p2 : Part} {d : DriverState
     (Honest m2 (handed_back p2) d) p2.loose g (Finish (queue_of kind) i) (finished_reply result)
 request_finished
     kind {m1} {m2} {p1} {p2} {d} {g} {i} {r} is did stands run free = let q = queue_of kind in
-    let ties = stands.ties in
-    let n = g.config.pages in
-    let size = g.config.queue_size in
-    let ring = ring_of q d in
-    let part = queue_part q p1 in
-    let line = line_of kind run in
-    let sized = size_of kind run in
-    let bare = without_frames q r.pages m1 in
+    let ties = stands.ties in let n = g.config.pages in let size = g.config.queue_size in
+    let ring = ring_of q d in let part = queue_part q p1 in let line = line_of kind run in
+    let sized = size_of kind run in let bare = without_frames q r.pages m1 in
     let own = subst (λ s. IsOwnRequest s n r) sized
     (own_pages_of kind d (one_of (Knows kind d n) (requests kind g).taken i r line.taken is)) in
     let distinct = distinct_once r.pages
@@ -187,10 +182,9 @@ finish_step {m1} {m2} {p1} {p2} {d} {g} {q} {i} {result} did stands = by_queue
     (λ (l : List Request). slice_get l i) run.deflate.remembers) (λ r is did run. request_finished
     Deflating is did stands run)) (λ at. none refl at) (λ at. finish_by refl at stands (λ run. ap
     (λ (l : List Request). slice_get l i) run.report.remembers) (λ r is did run. request_finished
-    Reporting_free is did stands run)) (λ out at. none (no_requests_at q out) at) did
-  where
-    none : {k : ℕ}
-        → is_queue_of_requests k ≡ false → FinishesBy k i m1 m2 p1 p2 result → StepsFreeing
-        (Honest m2 (handed_back p2) d) p2.loose g (Finish k i) (finished_reply result)
-    none {k} out at = let no = finish_no_queue k i g p1 out in
-        finish_refused NoQueue at stands no.0 no.1
+    Reporting_free is did stands run)) (λ out at. none (no_requests_at q out) at) did where
+      none : {k : ℕ}
+          → is_queue_of_requests k ≡ false → FinishesBy k i m1 m2 p1 p2 result → StepsFreeing
+          (Honest m2 (handed_back p2) d) p2.loose g (Finish k i) (finished_reply result)
+      none {k} out at = let no = finish_no_queue k i g p1 out in
+          finish_refused NoQueue at stands no.0 no.1

@@ -1,9 +1,8 @@
 -- What the device's part says of a guest's memory.
 use Rattle.std.{specs.Prelude.{◌≡◌, ℕ, ◌≤◌, true, length, IsSome, ◌⊎◌}, proofs.Common.arith}
 use Rattle.vb_model.specs.{Status.{contains, driver_ok}, Layout.is_start_page, Guest.Guest}
-use Rattle.vb_ram.{proofs.Limits.config_limits, specs.{Pages.{Pages, frame_at}, Part.Part}}
-use Rattle.vb_driver.specs.State.{DriverState}
-use Rattle.vb_guest.specs.Stands.{Honest}
+use Rattle.vb_ram.{proofs.Limits.config_limits, specs.Pages.{Pages, frame_at}}
+use Rattle.{vb_ram.specs.Part.Part, vb_driver.specs.State.DriverState, vb_guest.specs.Stands.Honest}
 
 pub down_not_ok : (status : ℕ) → (status ≡ 0) ⊎ (status ≡ 131) → contains status driver_ok ≡ true → ⊥
 down_not_ok status h1 ok = grind arith

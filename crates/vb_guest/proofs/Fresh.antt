@@ -1,13 +1,12 @@
 -- A guest as it is plugged in, or as a new life begins.
-use Rattle.std.specs.Prelude.{◌≡◌, ℕ, true, false, None, zero, suc, count_by, replicate}
-use Rattle.std.{specs.Prelude.{slice_index_or, refl}, proofs.Common.arith}
-use Rattle.std.proofs.lemmas.List.{length-replicate, get_or-replicate, get_or_past}
-use Rattle.vb_model.{specs.Limits.is_config, specs.Guest.{Config, fresh, no_statistics, zero_page}}
-use Rattle.vb_model.{proofs.GuestSteps.fresh_consistent, proofs.OrderlySteps.fresh_order}
-use Rattle.vb_model.proofs.Tables.{count_by-cons}
-use Rattle.vb_ram.{proofs.Contents.length-zero_page, specs.Part.Part}
-use Rattle.vb_driver.specs.State.{fresh_driver}
-use Rattle.vb_guest.{specs.Stands.{Honest, DeviceKeeps, HasPages}, specs.Steps.is_frame}
+use Rattle.std.specs.Prelude.{◌≡◌, ℕ, true}
+use Rattle.std.specs.Prelude.{false, None, zero, suc, count_by, replicate, slice_index_or, refl}
+use Rattle.std.proofs.{Common.arith, lemmas.List.{length-replicate, get_or-replicate, get_or_past}}
+use Rattle.vb_model.specs.{Limits.is_config, Guest.{Config, fresh, no_statistics, zero_page}}
+use Rattle.vb_model.proofs.{GuestSteps.fresh_consistent, OrderlySteps.fresh_order}
+use Rattle.{vb_model.proofs.Tables.count_by-cons, vb_ram.proofs.Contents.length-zero_page}
+use Rattle.{vb_ram.specs.Part.Part, vb_driver.specs.State.fresh_driver}
+use Rattle.vb_guest.specs.{Stands.{Honest, DeviceKeeps, HasPages}, Steps.is_frame}
 
 -- a list of one element has it everywhere
 pub everywhere : {A : Type 0} (n : ℕ) (x : A) (p : ℕ) → slice_index_or (replicate n x) p x ≡ x

@@ -1,14 +1,12 @@
 -- The heads of requests.
-use Rattle.std.specs.Prelude.{◌≡◌, ℕ, zero, suc, ◌+◌, ◌==◌, Bool, true, false, cond, List, [], ◌∷◌}
-use Rattle.std.specs.Prelude.{◌++◌, length, All, Some, slice_get, remove, option_map, refl}
-use Rattle.std.proofs.Common.{◌∙◌, ap, subst, arith, take, drop}
+use Rattle.std.specs.Prelude.{◌≡◌, ℕ, zero, suc, ◌+◌, ◌==◌, Bool, true, false, cond, List}
+use Rattle.std.specs.Prelude.{[], ◌∷◌, ◌++◌, length, All, Some, slice_get, remove, option_map, refl}
 use Rattle.std.proofs.lemmas.Option.{slice_get-map, get_or_from_slice_get, slice_get_within}
-use Rattle.std.proofs.lemmas.List.{length-map, map_push}
-use Rattle.std.proofs.lemmas.List.Elements.{All-append, All-take, All-drop, All-cons, All-tail}
-use Rattle.vb_model.{specs.Tests.{one_if, times}, specs.Device.{is_unvisited, visiting}}
-use Rattle.vb_model.specs.Requests.{Request, Requests, all_requests, headed}
-use Rattle.vb_model.proofs.Tables.{count_by-cons, count_by-append}
-use Rattle.vb_guest.specs.Line.{heads_of}
+use Rattle.std.proofs.lemmas.List.{length-map, map_push, Elements.{All-append, All-take, All-drop}}
+use Rattle.std.proofs.{lemmas.List.Elements.{All-cons, All-tail}, Common.{◌∙◌, ap, subst, arith}}
+use Rattle.{std.proofs.Common.{take, drop}, vb_model.proofs.Tables.{count_by-cons, count_by-append}}
+use Rattle.vb_model.specs.{Tests.{one_if, times}, Device.{is_unvisited, visiting}, Requests.Request}
+use Rattle.{vb_model.specs.Requests.{Requests, all_requests, headed}, vb_guest.specs.Line.heads_of}
 
 pub times-heads : (h : ℕ) (rs : List Request) → times h (heads_of rs) ≡ headed h rs
 times-heads h [] = refl
@@ -71,10 +69,9 @@ pub all-visiting : (P : Request → Type 0) → IgnoresVisits P → (rs : List R
     → All P (visiting rs)
 all-visiting P keeps [] all = all
 all-visiting P keeps (r ∷ rs) all =
-    step (is_unvisited r) (all-visiting P keeps rs (All-tail P r rs all))
-  where
-    step : (v : Bool) → All P (visiting rs)
-        → All P (cond v (record r { visited = r.visited + 1 } ∷ rs) (r ∷ visiting rs))
-    step true later = All-cons P (record r { visited = r.visited + 1 }) rs
-        (keeps r (r.visited + 1) (all 0 r (omega arith))) (All-tail P r rs all)
-    step false later = All-cons P r (visiting rs) (all 0 r (omega arith)) later
+    step (is_unvisited r) (all-visiting P keeps rs (All-tail P r rs all)) where
+      step : (v : Bool) → All P (visiting rs)
+          → All P (cond v (record r { visited = r.visited + 1 } ∷ rs) (r ∷ visiting rs))
+      step true later = All-cons P (record r { visited = r.visited + 1 }) rs
+          (keeps r (r.visited + 1) (all 0 r (omega arith))) (All-tail P r rs all)
+      step false later = All-cons P r (visiting rs) (all 0 r (omega arith)) later

@@ -1,13 +1,16 @@
 -- A guest's inflate is a step of the definitions.
+use Rattle.std.proofs.{Common.{sym, ◌∙◌, ap, subst, arith, inr}, lemmas.List.length-append}
 use Rattle.std.specs.Prelude.{◌≡◌, ℕ, ◌<◌, [], ◌++◌, length, Result, Ok, Err, Some, None, refl}
-use Rattle.std.{proofs.Common.{sym, ◌∙◌, ap, subst, arith, inr}, proofs.lemmas.List.length-append}
 use Rattle.vb_model.proofs.{OrderlySteps.honest_order, Shapes.reserved_least}
 use Rattle.vb_model.specs.{Driver.{stranded_first, after_posting}, Guest.Guest, Layout.buffer_page}
 use Rattle.vb_model.specs.Refusals.{first_refusal, refusal_of, inflate_count, room}
 use Rattle.vb_model.specs.Requests.{outstanding, Inflating}
 use Rattle.vb_model.specs.declared.{calls.Call.TheVariants.Inflate, replies.Refusal.Refusal}
 use Rattle.vb_model.specs.declared.replies.{Refusal.TheVariants.NotReady, Reply.TheVariants.Posted}
-use Rattle.vb_ram.{specs.Pages.Pages, specs.Part.Part}
+use Rattle.{vb_ram.specs.{Pages.Pages, Part.Part}, vb_ring.specs.Ends.outstanding as outstanding_in}
+use Rattle.vb_driver.specs.Answers.{inflate_causes, inflate_count as driver_count}
+use Rattle.vb_driver.specs.{Calls.{Offers, InflatesBy}, State.{FreePages, RequestSide, DriverState}}
+use Rattle.vb_driver.specs.{State.IsDriver, declared.answers.Posted.Posted as PostedRequest}
 use Rattle.vb_guest.proofs.{Closing.{honest_performed, steps_alone}, DriverWords.Sides}
 use Rattle.vb_guest.proofs.{DriverWords.{driver_of, in_words}, Offered.{asked_as, last_sound}}
 use Rattle.vb_guest.proofs.{Offered.inflate_requested, PagesKept.pages_same, Posting.line_posted}
@@ -15,11 +18,6 @@ use Rattle.vb_guest.proofs.{Posting.{least_head, outstanding_are}, RunApart.{siz
 use Rattle.vb_guest.proofs.{RunApart.{buffer_clear, post_leaves, post_same}, Running.others_posted}
 use Rattle.vb_guest.proofs.SameRefusals.{IsIdleStatus, refused_alike, runs_where}
 use Rattle.vb_guest.specs.{Replies.posted_reply, Stands.{Honest, Ties, IsRunning}, Steps.StepsAlone}
-use Rattle.vb_driver.specs.State.{FreePages, RequestSide, DriverState, IsDriver}
-use Rattle.vb_driver.{specs.Calls.{Offers, InflatesBy}, specs.Answers.inflate_causes}
-use Rattle.vb_ring.specs.Ends.{outstanding as outstanding_in}
-use Rattle.vb_driver.specs.declared.answers.Posted.{Posted as PostedRequest}
-use Rattle.vb_driver.specs.Answers.{inflate_count as driver_count}
 
 -- driver and definitions refuse alike
 inflate_idle : (d : DriverState) (p : Part) (g : Guest) (n : ℕ) → p.status ≡ g.status
@@ -41,8 +39,7 @@ inflate_offered : {m1 m2 : Pages} {p1 p2 : Part} {g : Guest} (areas : FreePages)
     → StepsAlone (Honest m2 p2 d2) g (Inflate n) (Posted posted.head posted.pages)
 inflate_offered
     {m1} {m2} {p1} {p2} {g} areas sides {d2} {n} {posted} driver did stands run free some fewer =
-    let ties = stands.ties in
-    let pages = stranded_first g n ++ did.others in
+    let ties = stands.ties in let pages = stranded_first g n ++ did.others in
     let single = driver.inflate.requests in
     let least = least_head m1 0 p1.inflate run.inflate.ring single did.posts.lowest in
     let new : Guest = after_posting Inflating posted.head pages g in
@@ -58,8 +55,7 @@ inflate_offered
     (omega (arith, count, some)) (omega (arith, count)) in
     let line = line_posted 0 p1.inflate g.inflate single (asked_as g run.inflate_size asked)
     run.inflate did.posts in
-    let size = g.config.queue_size in
-    let rest = did.posts.rest in
+    let size = g.config.queue_size in let rest = did.posts.rest in
     let buffer : ℕ = buffer_page 4 posted.head in
     let small : buffer < 8 = omega (arith, did.posts.small) in
     let ring = ring_of 0 sides.inflate.ring run.inflate.ring.sized run.inflate.ring.layout

@@ -1,31 +1,30 @@
 -- A guest's initialisation is a step of the definitions.
-use Rattle.std.specs.Prelude.{◌≡◌, ◌≢◌, ℕ, ◌<◌, ◌≤◌, ◌==◌, Bool, true, false, not, ◌-◌, ◌&&◌, List}
-use Rattle.std.specs.Prelude.{[], ◌∷◌, length, Option, Some, None, IsSome, is_some, is_none}
-use Rattle.std.specs.Prelude.{MatchOption, Result, Ok, Err, filter, count_by, refl}
-use Rattle.std.{specs.List.{range_with_len, list_all}, proofs.lemmas.Bool.cases_Bool}
-use Rattle.std.proofs.Common.{sym, ◌∙◌, ap, subst, arith, inl, inr}
+use Rattle.std.specs.Prelude.{◌≡◌, ◌≢◌, ℕ, ◌<◌, ◌≤◌, ◌==◌, Bool, true, false, not}
+use Rattle.std.specs.Prelude.{◌-◌, ◌&&◌, List, [], ◌∷◌, length, Option, Some, None, IsSome, is_some}
+use Rattle.std.specs.Prelude.{is_none, MatchOption, Result, Ok, Err, filter, count_by, refl}
+use Rattle.std.specs.List.{range_with_len, list_all}
+use Rattle.std.proofs.{lemmas.Bool.cases_Bool, Common.{sym, ◌∙◌, ap, subst, arith, inl, inr}}
 use Rattle.vb_model.proofs.{Performed.Supplying, Shapes.{reserved_most, start_reserved}}
 use Rattle.vb_model.specs.{Driver.{given, figures}, Guest.{Guest, frame_of, all_backed, stats_vq}}
-use Rattle.vb_model.specs.{Layout.{reserved_pages, is_start_page, start_pages}, Life.lacking}
-use Rattle.vb_model.specs.Life.{feature_refusal, accepted_before, Negotiates}
-use Rattle.vb_model.specs.{Refusals.{◌⇒◌, first_refusal, refusal_of}, Tests.is_in}
-use Rattle.vb_model.specs.declared.calls.{Call.TheVariants.Init, Claim.Claim}
+use Rattle.vb_model.specs.Layout.{reserved_pages, is_start_page, start_pages}
+use Rattle.vb_model.specs.Life.{lacking, feature_refusal, accepted_before, Negotiates}
+use Rattle.vb_model.specs.Refusals.{◌⇒◌, first_refusal, refusal_of}
+use Rattle.vb_model.specs.{Tests.is_in, declared.calls.{Call.TheVariants.Init, Claim.Claim}}
 use Rattle.vb_model.specs.declared.replies.Refusal.{Refusal, TheVariants.AlreadyUp}
 use Rattle.vb_model.specs.declared.replies.Reply.{Reply, TheVariants.{Ready, Refused}}
 use Rattle.vb_ram.specs.{Pages.{Pages, frame_at, number_of}, Part.Part, declared.shape.Shape.Shape}
-use Rattle.vb_driver.{specs.State.DriverState, specs.Answers.{has_frames, init_causes}}
-use Rattle.vb_driver.specs.Calls.{InitsBy, InitRefused, GivesUp}
-use Rattle.vb_guest.specs.Stands.{Honest, Ties, HasParts, HasPages, IsIdle, beside_queues}
-use Rattle.vb_guest.proofs.Supplying.{all_distinct, bounded, among, supplied_count, supplied_other}
-use Rattle.vb_guest.{specs.Stands.{beside_sides, beside_requests}, specs.Replies.ready_reply}
-use Rattle.vb_guest.proofs.Supplying.{supplied_backed, pages_filled, frames_filled}
-use Rattle.vb_guest.specs.Steps.{is_frame, backing_count, StepsAlone, StepsOver}
-use Rattle.vb_guest.{specs.Supply.{Supply, supply_of, Moves}, proofs.Freed.large}
-use Rattle.vb_guest.specs.Lives.{is_bare, bare_from, AllSupplied, why_unsupplied, SuppliesBy}
-use Rattle.vb_guest.proofs.Closing.{honest_performed, guest_step, still_stands}
-use Rattle.vb_guest.{proofs.Writing.frames_of, proofs.Moving.moves_as, proofs.Kept.SameOwn}
-use Rattle.vb_guest.proofs.Starting.{first_buffer, started, stopped}
 use Rattle.vb_frames.specs.declared.keeper.Refused.{Refused as WhyRefused}
+use Rattle.vb_driver.specs.{State.DriverState, Answers.{has_frames, init_causes}}
+use Rattle.{vb_driver.specs.Calls.{InitsBy, InitRefused, GivesUp}, vb_guest.specs.Stands.Honest}
+use Rattle.vb_guest.specs.Stands.{Ties, HasParts, HasPages, IsIdle, beside_queues, beside_sides}
+use Rattle.vb_guest.specs.{Stands.beside_requests, Replies.ready_reply, Steps.is_frame}
+use Rattle.vb_guest.specs.{Steps.{backing_count, StepsAlone, StepsOver}, Supply.{Supply, supply_of}}
+use Rattle.vb_guest.specs.{Supply.Moves, Lives.{is_bare, bare_from, AllSupplied, why_unsupplied}}
+use Rattle.vb_guest.{specs.Lives.SuppliesBy, proofs.Supplying.{all_distinct, bounded, among}}
+use Rattle.vb_guest.proofs.Supplying.{supplied_count, supplied_other, supplied_backed, pages_filled}
+use Rattle.vb_guest.proofs.{Supplying.frames_filled, Freed.large, Closing.honest_performed}
+use Rattle.vb_guest.proofs.{Closing.{guest_step, still_stands}, Writing.frames_of, Moving.moves_as}
+use Rattle.vb_guest.proofs.{Kept.SameOwn, Starting.{first_buffer, started, stopped}}
 
 -- ---- a device that isn't new
 
@@ -59,14 +58,13 @@ now_backed size m1 m2 numbers page supplied start =
       | inl there ↦ supplied_backed (bare_from size m1 0) numbers m1 m2 page supplied there
       | inr out ↦ ap (λ o. is_some (number_of o)) (supplied_other
           (bare_from size m1 0) numbers m1 m2 page supplied out) ∙ was (frame_at m1 page) refl out
-    ]
-  where
-    was : (o : Option ℕ) → frame_at m1 page ≡ o → is_in page (bare_from size m1 0) ≡ false
-        → is_some (frame_at m1 page) ≡ true
-    was (Some x) e out = ap is_some e
-    was None e out = (let wrong = among (is_bare size m1) 0 (reserved_pages size - 0) page
-        (omega arith) (omega (arith, start_reserved size page start))
-        (ap (λ (b : Bool). b && is_none (frame_at m1 page)) start ∙ ap is_none e) in absurd cc)
+    ] where
+      was : (o : Option ℕ) → frame_at m1 page ≡ o → is_in page (bare_from size m1 0) ≡ false
+          → is_some (frame_at m1 page) ≡ true
+      was (Some x) e out = ap is_some e
+      was None e out = (let wrong = among (is_bare size m1) 0 (reserved_pages size - 0) page
+          (omega arith) (omega (arith, start_reserved size page start))
+          (ap (λ (b : Bool). b && is_none (frame_at m1 page)) start ∙ ap is_none e) in absurd cc)
 
 -- there are at most 17 of them
 few_passing : (test : ℕ → Bool) (xs : List ℕ) → length (filter test xs) ≤ length xs
@@ -213,11 +211,8 @@ pub init_supplied : {Answers : List Bool → Claim → Type 0}
     (supply_of p1 out1) (supply_of p3 out2) l g (Init wanted) (ready_reply result)
 init_supplied {Answers} out1 out2 {l} {m1} {m2} {m3}
     {p1} {p2} {p3} {d1} {d2} {g} {wanted} {features} {result} named status did part inits stands =
-    let ties = stands.ties in
-    let n = g.config.pages in
-    let size = d1.queue_size in
-    let pages = bare_from size m1 0 in
-    let claims = did.claims in
+    let ties = stands.ties in let n = g.config.pages in let size = d1.queue_size in
+    let pages = bare_from size m1 0 in let claims = did.claims in
     let frames : List (Option ℕ) = all_backed pages (given claims) g.frames in
     let new_status : g.status ≡ 0 = sym ties.parts.device.status ∙ status in
     let idle = new_is_idle new_status stands in

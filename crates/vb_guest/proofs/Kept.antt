@@ -1,24 +1,22 @@
 -- Calls that leave alone what a device says of frames of its own.
-use Rattle.std.specs.Prelude.{◌≡◌, ℕ, ◌==◌, ◌&&◌, not, Bool, true, false, List, [], ◌∷◌, is_none}
-use Rattle.std.specs.Prelude.{if◌then◌else◌, Option, Some, None, Result, Ok, Err, refl}
+use Rattle.std.specs.Prelude.{◌≡◌, ℕ, ◌==◌, ◌&&◌, not, Bool, true, false, List, [], ◌∷◌}
+use Rattle.std.specs.Prelude.{is_none, if◌then◌else◌, Option, Some, None, Result, Ok, Err, refl}
 use Rattle.std.proofs.Common.{◌∙◌, ap}
 use Rattle.vb_model.specs.declared.layout.TheConstants.{INFLATE_QUEUE, DEFLATE_QUEUE}
-use Rattle.vb_model.specs.declared.replies.Refusal.TheVariants.{NoQueue, NotReady, NeedsReset}
-use Rattle.vb_model.specs.declared.replies.Refusal.TheVariants.{NotTaken, NotWorked, Broken}
 use Rattle.vb_model.specs.declared.layout.TheConstants.{STATISTICS_QUEUE, REPORT_QUEUE}
-use Rattle.vb_model.specs.declared.replies.Refusal.TheVariants.{RingBroken}
-use Rattle.vb_model.{specs.declared.replies.Refusal.Refusal, specs.Requests.Request}
-use Rattle.vb_model.{specs.Refusals.{◌⇒◌, first_refusal}, specs.Tests.flagged}
+use Rattle.vb_model.specs.declared.replies.Refusal.{Refusal, TheVariants.NoQueue}
+use Rattle.vb_model.specs.declared.replies.Refusal.TheVariants.{NotReady, NeedsReset, NotTaken}
+use Rattle.vb_model.specs.declared.replies.Refusal.TheVariants.{NotWorked, Broken, RingBroken}
+use Rattle.vb_model.specs.{Requests.Request, Refusals.{◌⇒◌, first_refusal}, Tests.flagged}
 use Rattle.vb_model.specs.Tables.{is_queue_of_requests, is_not_ready, has_fault, has_unvisited}
-use Rattle.vb_ram.{specs.Pages.Pages, specs.Part.{Part, QueuePart}}
-use Rattle.vb_driver.specs.Calls.{InflatesBy, DeflatesBy, DeflatesOnOomBy, ReapsBy, after_refusal}
-use Rattle.vb_driver.{specs.Calls.{ReportsBy, FillsBy}, specs.State.DriverState}
-use Rattle.vb_driver.{specs.declared.answers.Posted.Posted, specs.declared.answers.Reaped.Reaped}
-use Rattle.vb_device.specs.Conditions.{work_refusal, finish_refusal, sweep_refusal, ask_refusal}
-use Rattle.vb_device.specs.Calls.{TakesBy, TakeMeans, noting, next_visit, Visits, WorksBy}
-use Rattle.vb_device.specs.{Conditions.taken_at, Queues.with_queue}
-use Rattle.vb_device.specs.Calls.{FinishesBy, settled, using, SweepsBy, AsksBy}
-use Rattle.vb_device.specs.declared.worked.Worked.{Worked}
+use Rattle.vb_ram.specs.{Pages.Pages, Part.{Part, QueuePart}}
+use Rattle.vb_device.specs.Conditions.{work_refusal, finish_refusal, sweep_refusal}
+use Rattle.vb_device.specs.{Conditions.{ask_refusal, taken_at}, Calls.{TakesBy, TakeMeans, noting}}
+use Rattle.vb_device.specs.Calls.{next_visit, Visits, WorksBy, FinishesBy, settled, using, SweepsBy}
+use Rattle.vb_device.specs.{Calls.AsksBy, Queues.with_queue, declared.worked.Worked.Worked}
+use Rattle.vb_driver.specs.Calls.{InflatesBy, DeflatesBy}
+use Rattle.vb_driver.specs.Calls.{DeflatesOnOomBy, ReapsBy, after_refusal, ReportsBy, FillsBy}
+use Rattle.vb_driver.specs.{State.DriverState, declared.answers.{Posted.Posted, Reaped.Reaped}}
 
 -- the device keeps frames as it did, and the same of them are out
 pub record SameOwn (p1 p2 : Part) : Type 0 where

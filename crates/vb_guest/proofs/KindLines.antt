@@ -1,15 +1,14 @@
 -- The lines of the three kinds of requests as one.
-use Rattle.std.specs.Prelude.{◌≡◌, ℕ, ⊤, ◌<◌, ◌≤◌, true, All, length, refl}
-use Rattle.std.proofs.Common.{sym, subst, inr}
-use Rattle.vb_model.specs.Requests.{Request, Requests, Kind, Inflating, Deflating, Reporting_free}
-use Rattle.vb_model.specs.{Requests.queue_of, Layout.{reserved_pages, ring_page, buffers_page}}
-use Rattle.vb_model.specs.{Guest.{Guest, requests, with_requests}, Tables.is_queue_of_requests}
-use Rattle.vb_model.specs.{Orderly.{IsOrderly, AllRequestsSound}, Limits.max_outstanding}
-use Rattle.vb_ram.specs.{Part.{Part, QueuePart}, Pages.Pages}
-use Rattle.vb_driver.specs.{Coding.{IsCoded, AreReported}, State.DriverState, Calls.ring_of}
-use Rattle.vb_device.specs.Queues.{queue_part, with_queue}
-use Rattle.vb_guest.specs.{Stands.{Ties, IsRunning, IsOwnRequest}, Line.{QueueLine, IsRequest}}
-use Rattle.vb_guest.{proofs.{Heads.IgnoresVisits, OwnBlocks.own_pages}, specs.Reported.IsReport}
+use Rattle.std.{proofs.Common.{sym, subst, inr}, specs.Prelude.{◌≡◌, ℕ, ⊤, ◌<◌, ◌≤◌, true, All}}
+use Rattle.{std.specs.Prelude.{length, refl}, vb_model.specs.Guest.{Guest, requests, with_requests}}
+use Rattle.vb_model.specs.{Tables.is_queue_of_requests, Orderly.{IsOrderly, AllRequestsSound}}
+use Rattle.vb_model.specs.{Limits.max_outstanding, Requests.{Request, Requests, Kind, Inflating}}
+use Rattle.vb_model.specs.{Requests.{Deflating, Reporting_free, queue_of}, Layout.reserved_pages}
+use Rattle.{vb_model.specs.Layout.{ring_page, buffers_page}, vb_ram.specs.Pages.Pages}
+use Rattle.{vb_ram.specs.Part.{Part, QueuePart}, vb_device.specs.Queues.{queue_part, with_queue}}
+use Rattle.vb_driver.specs.{Calls.ring_of, State.DriverState, Coding.{IsCoded, AreReported}}
+use Rattle.vb_guest.specs.{Line.{QueueLine, IsRequest}, Stands.{Ties, IsRunning, IsOwnRequest}}
+use Rattle.vb_guest.{specs.Reported.IsReport, proofs.{OwnBlocks.own_pages, Heads.IgnoresVisits}}
 
 abbrev pub Keeps : Kind → DriverState → Type 0
 Keeps Inflating d = length d.inflate.sent ≡ max_outstanding

@@ -1,15 +1,12 @@
 -- A step in which pages lose their frames.
-use Rattle.std.specs.Prelude.{◌≡◌, ℕ, ◌+◌, ◌<◌, List, [], All, None, count_by}
-use Rattle.std.proofs.Common.{sym, ap, subst, arith}
-use Rattle.vb_model.specs.{declared.{replies.Reply.Reply, calls.Call.Call}, Driver.AllDistinct}
-use Rattle.vb_model.specs.{Step.HonestStep, Orderly.times, Guest.Guest}
-use Rattle.vb_ram.specs.{Pages.Pages, Part.Part}
-use Rattle.vb_driver.specs.State.{DriverState}
-use Rattle.vb_device.specs.{Discards.frames_behind, Calls.SameFrames}
-use Rattle.vb_guest.specs.Steps.{StepsFreeing, is_frame, backing_count}
-use Rattle.vb_guest.proofs.Discarding.{with_entry, frames_freed}
+use Rattle.std.proofs.Common.{◌≡◌, ℕ, ◌+◌, ◌<◌, List, [], All, None, count_by, sym, ap, subst}
+use Rattle.{std.proofs.Common.arith, vb_model.specs.declared.{replies.Reply.Reply, calls.Call.Call}}
+use Rattle.vb_model.specs.{Driver.AllDistinct, Step.HonestStep, Orderly.times, Guest.Guest}
+use Rattle.{vb_ram.specs.{Pages.Pages, Part.Part}, vb_device.specs.Discards.frames_behind}
+use Rattle.{vb_device.specs.Calls.SameFrames, vb_driver.specs.State.DriverState}
+use Rattle.vb_guest.specs.{Steps.{StepsFreeing, is_frame, backing_count}, Stands.Honest}
+use Rattle.vb_guest.{specs.Stands.{Ties, HasPages}, proofs.Discarding.{with_entry, frames_freed}}
 use Rattle.vb_guest.proofs.{Closing.{still_stands, guest_step}, Handing.{handed_back, behind_same}}
-use Rattle.vb_guest.specs.Stands.{Honest, Ties, HasPages}
 
 -- pages lose their frames, and no other
 pub frames_lost : {m : Pages} (loose : List ℕ) (g new : Guest) (pages : List ℕ)

@@ -1,17 +1,14 @@
 -- The requests that are out name as many pages as the driver remembers.
-use Rattle.std.specs.Prelude.{◌≡◌, ℕ, zero, suc, ◌<◌, ◌≤◌, ◌==◌, true, false, Bool, List, [], ◌∷◌}
-use Rattle.std.specs.Prelude.{◌++◌, length, All, sum_by, slice_set, slice_index_or, refl}
-use Rattle.std.{proofs.Common.{sym, ◌∙◌, ap, arith, inl, inr, get_or}, proofs.lemmas.Bool.cases_eq}
-use Rattle.std.{proofs.lemmas.Bool.ne_eqb, proofs.lemmas.List.Sums.{sum_by-set, sum_by-cons}}
-use Rattle.std.proofs.lemmas.List.{length-set, get_or-set_same, get_or-set_other}
-use Rattle.vb_model.specs.Tests.{one_if}
+use Rattle.std.specs.Prelude.{◌≡◌, ℕ, zero, suc, ◌<◌, ◌≤◌, ◌==◌, true, false, Bool, List}
+use Rattle.std.specs.Prelude.{[], ◌∷◌, ◌++◌, length, All, sum_by, slice_set, slice_index_or, refl}
+use Rattle.std.proofs.{Common.{sym, ◌∙◌, ap, arith, inl, inr, get_or}, lemmas.Bool.cases_eq}
+use Rattle.std.proofs.lemmas.{Bool.ne_eqb, List.{length-set, get_or-set_same, get_or-set_other}}
+use Rattle.{std.proofs.lemmas.List.Sums.{sum_by-set, sum_by-cons}, vb_model.specs.Tests.one_if}
 use Rattle.vb_model.specs.Requests.{Request, Requests, all_requests, headed, pages_named}
-use Rattle.vb_ram.{specs.Pages.Pages, specs.Part.QueuePart}
-use Rattle.vb_ring.specs.Entries.{is_head}
-use Rattle.vb_guest.{specs.Line.{Line, IsRequest}, proofs.Heads.headed-cons}
-use Rattle.vb_guest.{proofs.Posting.headed_once, proofs.RingHeads.at_most_one}
-use Rattle.vb_driver.specs.State.{RequestSide, AreRequests}
-use Rattle.vb_driver.specs.State.{pages_named as pages_sent}
+use Rattle.{vb_ram.specs.{Pages.Pages, Part.QueuePart}, vb_ring.specs.Entries.is_head}
+use Rattle.vb_driver.specs.State.{RequestSide, AreRequests, pages_named as pages_sent}
+use Rattle.vb_guest.specs.Line.{Line, IsRequest}
+use Rattle.vb_guest.proofs.{Heads.headed-cons, Posting.headed_once, RingHeads.at_most_one}
 
 abbrev count_all : List (List ℕ) → ℕ
 count_all sent = sum_by (λ (pages : List ℕ). length pages) sent
@@ -64,16 +61,15 @@ named_sent sent (r ∷ rest) once none kept = let first : IsKept sent r = kept 0
       fewer,
       sum_by-set (λ (pages : List ℕ). length pages) sent r.head [] [] first.few,
       ap (λ (l : List ℕ). length l) first.remembered,
-    )
-  where
-    still_kept : (k : ℕ) (d : Request) → k < length rest → IsKept sent (slice_index_or rest k d)
-        → IsKept (slice_set sent r.head []) (slice_index_or rest k d)
-    still_kept k d lt one = record {
-      few = omega (arith, one.few, length-set sent r.head []);
-      remembered = get_or-set_other sent r.head (slice_index_or rest k d).head [] []
-          (λ e. headed_some k rest d lt (not_again r rest
-          (once (slice_index_or rest k d).head) (sym e))) ∙ one.remembered;
-    }
+    ) where
+      still_kept : (k : ℕ) (d : Request) → k < length rest → IsKept sent (slice_index_or rest k d)
+          → IsKept (slice_set sent r.head []) (slice_index_or rest k d)
+      still_kept k d lt one = record {
+        few = omega (arith, one.few, length-set sent r.head []);
+        remembered = get_or-set_other sent r.head (slice_index_or rest k d).head [] []
+            (λ e. headed_some k rest d lt (not_again r rest
+            (once (slice_index_or rest k d).head) (sym e))) ∙ one.remembered;
+      }
 
 all_both : {A : Type 0} (P : A → Type 0) (xs ys : List A) → All P xs → All P ys → All P (xs ++ ys)
 all_both P [] ys a b k d lt = b k d lt
@@ -94,11 +90,10 @@ line_named mem q n {side} part rs line out = named_sent side.sent (all_requests 
 )) (λ h none. out.unsent h (out_as_often (is_head side.ring.owner h)
     (sym (headed_once mem q side.ring part rs h line.ring) ∙ none))) (all_both
     (IsKept side.sent) rs.posted (rs.taken ++ rs.done) (kept rs.posted line.posted) (all_both
-    (IsKept side.sent) rs.taken rs.done (kept rs.taken line.taken) (kept rs.done line.done)))
-  where
-    kept : (xs : List Request) → All (IsRequest side.ring.size n side.sent) xs
-        → All (IsKept side.sent) xs
-    kept xs all k d lt = record {
-      few = omega (arith, (all k d lt).few, line.keeps);
-      remembered = (all k d lt).remembered;
-    }
+    (IsKept side.sent) rs.taken rs.done (kept rs.taken line.taken) (kept rs.done line.done))) where
+      kept : (xs : List Request) → All (IsRequest side.ring.size n side.sent) xs
+          → All (IsKept side.sent) xs
+      kept xs all k d lt = record {
+        few = omega (arith, (all k d lt).few, line.keeps);
+        remembered = (all k d lt).remembered;
+      }

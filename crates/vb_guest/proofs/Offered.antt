@@ -1,14 +1,13 @@
 -- The pages of a new request.
-use Rattle.std.specs.Prelude.{◌≡◌, ℕ, zero, suc, ◌<◌, ◌≤◌, ◌==◌, ◌||◌, Bool, true, false, List, []}
-use Rattle.std.{specs.Prelude.{◌∷◌, ◌++◌, All, length, slice_index_or, refl}, specs.List.list_any}
-use Rattle.std.{proofs.Common.{sym, ◌∙◌, ap, subst, arith, eq-eqb}, proofs.lemmas.List.get_or_past}
-use Rattle.vb_model.{specs.declared.places.Place.Place, specs.Tests.is_in, specs.Guest.Guest}
-use Rattle.vb_model.{specs.Layout.reserved_pages, specs.Pages.{place_of, is_lent, is_reserved}}
-use Rattle.vb_model.{specs.Requests.Request, proofs.PageSteps.can_be_given}
-use Rattle.vb_model.specs.Driver.{AllFreePages, stranded_first, lowest_lent}
-use Rattle.vb_model.{proofs.CallSteps.{inflated_pages, lent_pages}, proofs.Distinct.distinct_once}
+use Rattle.std.specs.Prelude.{◌≡◌, ℕ, zero, suc, ◌<◌, ◌≤◌, ◌==◌, ◌||◌, Bool, true, false, List}
+use Rattle.std.specs.{Prelude.{[], ◌∷◌, ◌++◌, All, length, slice_index_or, refl}, List.list_any}
+use Rattle.std.proofs.{Common.{sym, ◌∙◌, ap, subst, arith, eq-eqb}, lemmas.List.get_or_past}
+use Rattle.vb_model.specs.{declared.places.Place.Place, Tests.is_in, Guest.Guest}
+use Rattle.vb_model.specs.{Layout.reserved_pages, Pages.{place_of, is_lent, is_reserved}}
+use Rattle.vb_model.specs.{Requests.Request, Driver.{AllFreePages, stranded_first, lowest_lent}}
 use Rattle.vb_model.specs.Orderly.{IsOrderly, times, IsRequestSound, AllRequestsSound}
-use Rattle.vb_guest.specs.Line.{AreRequested}
+use Rattle.vb_model.proofs.{PageSteps.can_be_given, CallSteps.{inflated_pages, lent_pages}}
+use Rattle.{vb_model.proofs.Distinct.distinct_once, vb_guest.specs.Line.AreRequested}
 
 -- a page that isn't at a reserved place is there, and above the reserved ones
 pub high_page : (g : Guest) (page : ℕ) → IsOrderly g → is_reserved (place_of g.places page) ≡ false
@@ -30,11 +29,10 @@ high_pages g pages orderly out = (
   at_in [] k d lt = absurd (omega arith)
   at_in (x ∷ xs) zero d lt = ap (λ (b : Bool). b || list_any (λ m. m == x) xs) (eq-eqb x x refl)
   at_in (x ∷ xs) (suc k) d lt = ap (λ (b : Bool). (x == slice_index_or xs k d) || b)
-      (at_in xs k d (omega arith)) ∙ either_true (x == slice_index_or xs k d)
-    where
-      either_true : (b : Bool) → (b || true) ≡ true
-      either_true true = refl
-      either_true false = refl
+      (at_in xs k d (omega arith)) ∙ either_true (x == slice_index_or xs k d) where
+        either_true : (b : Bool) → (b || true) ≡ true
+        either_true true = refl
+        either_true false = refl
 
 given_high : (place : Place) → can_be_given place ≡ true → is_reserved place ≡ false
 given_high place e = grind arith

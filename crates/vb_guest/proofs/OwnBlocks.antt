@@ -1,17 +1,16 @@
 -- The blocks of a report, and the pages in them.
-use Rattle.std.proofs.{Common.{ap, arith}, lemmas.List.length-take, lemmas.List.Elements.All-nil}
-use Rattle.std.proofs.lemmas.List.Elements.{All-cons, All-append, All-tail, All-take, All-filter}
-use Rattle.std.proofs.lemmas.List.FromFn.{length-range_with_len, get_or-range_with_len}
-use Rattle.std.proofs.lemmas.List.FromFn.{length-map-range_with_len, get_or-map-range_with_len}
-use Rattle.std.{proofs.lemmas.Nat.pow_pos, specs.List.{flat_map, range_with_len}, specs.Prelude.◌≡◌}
-use Rattle.std.specs.Prelude.{ℕ, ◌+◌, ◌-◌, ◌<◌, ◌≤◌, Bool, true, false, List, [], ◌∷◌, ◌++◌, All}
-use Rattle.std.specs.Prelude.{length, filter, nat_le, ◌&&◌, slice_index_or}
-use Rattle.vb_model.specs.Pages.{Block, block_at, size, pages_of, pages_of_all, is_free, place_of}
-use Rattle.vb_model.specs.Pages.{is_maximal, blocks_at, blocks_below, maximal_blocks, reported}
-use Rattle.vb_model.{specs.Pages.is_reserved, specs.declared.places.Place.Place, specs.Tests.is_in}
-use Rattle.vb_model.{specs.Layout.reserved_pages, specs.Guest.Guest, specs.Orderly.IsOrderly}
-use Rattle.vb_model.{specs.Refusals.{reported_blocks, room}, proofs.CallSteps.reported_pages}
-use Rattle.vb_driver.proofs.Runs.{in_range}
+use Rattle.std.proofs.Common.{ap, arith, ◌≡◌, ℕ, ◌+◌, ◌-◌, ◌<◌, ◌≤◌, Bool, true, false, List}
+use Rattle.std.proofs.Common.{[], ◌∷◌, ◌++◌, All, length, filter, nat_le, ◌&&◌, slice_index_or}
+use Rattle.std.proofs.lemmas.List.{length-take, Elements.{All-nil, All-cons, All-append, All-tail}}
+use Rattle.std.proofs.lemmas.List.{Elements.{All-take, All-filter}, FromFn.length-range_with_len}
+use Rattle.std.proofs.lemmas.List.FromFn.{get_or-range_with_len, length-map-range_with_len}
+use Rattle.std.proofs.lemmas.{List.FromFn.get_or-map-range_with_len, Nat.pow_pos}
+use Rattle.{std.specs.List.{flat_map, range_with_len}, vb_model.specs.Pages.{Block, block_at}}
+use Rattle.vb_model.specs.Pages.{size, pages_of, pages_of_all, is_free, place_of, is_maximal}
+use Rattle.vb_model.specs.Pages.{blocks_at, blocks_below, maximal_blocks, reported, is_reserved}
+use Rattle.vb_model.specs.{declared.places.Place.Place, Tests.is_in, Layout.reserved_pages}
+use Rattle.vb_model.specs.{Guest.Guest, Orderly.IsOrderly, Refusals.{reported_blocks, room}}
+use Rattle.{vb_model.proofs.CallSteps.reported_pages, vb_driver.proofs.Runs.in_range}
 use Rattle.vb_guest.{specs.Reported.IsOwnBlock, proofs.Offered.high_page}
 
 -- ---- the pages in a guest's blocks

@@ -2,24 +2,22 @@
 use Rattle.std.specs.Prelude.{◌≡◌, ◌≢◌, ℕ, ◌+◌, ◌<◌, ◌==◌, true, false, cond, List, [], All, length}
 use Rattle.std.specs.Prelude.{Option, Some, None, Ok, slice_set, slice_index, slice_index_or}
 use Rattle.std.{specs.Prelude.{is_none, refl}, proofs.Common.{sym, ◌∙◌, ap, subst, arith, inl, inr}}
-use Rattle.std.{proofs.lemmas.Bool.{cases_eq, cases_Bool}, proofs.lemmas.List.Elements.All-push}
-use Rattle.std.proofs.lemmas.List.{length-set, get_or-set_same, get_or-set_other}
+use Rattle.std.proofs.lemmas.Bool.{cases_eq, cases_Bool, Decides.nat_tests}
+use Rattle.std.proofs.lemmas.List.{length-set, get_or-set_same}
+use Rattle.std.proofs.lemmas.List.{get_or-set_other, Elements.All-push, Sums.get_or-le-sum_by}
 use Rattle.std.proofs.lemmas.Option.{get_or_from_slice_get, slice_get_within}
-use Rattle.std.{proofs.lemmas.List.Sums.get_or-le-sum_by, proofs.lemmas.Bool.Decides.nat_tests}
 use Rattle.vb_model.specs.Requests.{Request, Requests, all_requests, headed, outstanding, posting}
-use Rattle.vb_model.{specs.Requests.IsLeastHead, specs.Tests.one_if}
+use Rattle.vb_model.specs.{Requests.IsLeastHead, Tests.one_if}
 use Rattle.vb_model.specs.Layout.{ring_page, buffers_page, buffer_page, buffer_offset}
-use Rattle.vb_ram.{specs.Pages.Pages, specs.Part.QueuePart}
-use Rattle.vb_chain.specs.Table.{descriptor_at}
+use Rattle.{vb_ram.specs.{Pages.Pages, Part.QueuePart}, vb_chain.specs.Table.descriptor_at}
 use Rattle.vb_ring.proofs.Numbers.{numbers_pass, numbers_has, numbers_rise}
-use Rattle.vb_ring.specs.Entries.{is_own, is_head}
-use Rattle.vb_ring.specs.Ends.{DriverEnd, is_unused, free_descriptors, next_head, after_add}
-use Rattle.vb_driver.{specs.Coding.IsCoded, specs.State.{RequestSide, AreRequests}}
-use Rattle.vb_driver.{specs.Calls.{Announces, Posts}, proofs.Buffers.names_kept}
+use Rattle.vb_ring.specs.{Entries.{is_own, is_head}, Ends.{DriverEnd, is_unused, free_descriptors}}
+use Rattle.vb_ring.specs.Ends.{next_head, after_add, outstanding as outstanding_in}
+use Rattle.vb_driver.specs.{Coding.IsCoded, State.{RequestSide, AreRequests}, Calls.Announces}
+use Rattle.vb_driver.{specs.Calls.Posts, proofs.Buffers.names_kept}
 use Rattle.vb_guest.specs.Line.{AreRequested, Line, IsRequest, RingOf}
-use Rattle.vb_guest.{proofs.RingHeads.{ring_once, ring_count}, proofs.RingPosted.ring_posted}
+use Rattle.vb_guest.proofs.{RingHeads.{ring_once, ring_count}, RingPosted.ring_posted}
 use Rattle.vb_guest.proofs.Heads.{times-heads, length-heads, heads-push, headed-all}
-use Rattle.vb_ring.specs.Ends.{outstanding as outstanding_in}
 
 -- the requests that have a head are one exactly where the driver's table has the head
 pub headed_once : (mem : Pages) (q : ℕ) (ring : DriverEnd) (part : QueuePart) (rs : Requests)
@@ -126,46 +124,43 @@ pub line_posted : {m1 m2 : Pages} (q : ℕ) {n : ℕ} {side after : RequestSide}
 line_posted {m1} {m2} q {n} {side} part rs {head} {pages} single fine line did =
     let L : RequestSide → Type 0 = λ s. Line m2 q n s part (posting head pages rs) in
     subst L (sym did.state) (line_posted_at m1 m2 q n side part rs head pages single fine line
-    (subst (λ s. Posts m1 m2 side s (buffers_page q) pages head) did.state did))
-  where
-    line_posted_at : (m1 m2 : Pages) (q n : ℕ)
-        (side : RequestSide) (part : QueuePart) (rs : Requests) (head : ℕ) (pages : List ℕ)
-        → AreRequests side → AreRequested side.ring.size n pages → Line m1 q n side part rs
-        → Posts m1 m2 side (posted_side side head pages) (buffers_page q) pages head
-        → Line m2 q n (posted_side side head pages) part (posting head pages rs)
-    line_posted_at m1 m2 q n side part rs head pages single fine line did =
-        let r : Request = record { head = head; pages = pages; visited = 0 } in
-        let l = side.ring.layout in
-        let sent = slice_set side.sent head pages in
-        let P : Request → Type 0 = IsRequest side.ring.size n sent in
-        let lowest = lowest_is side.ring did.lowest in
-        let none : headed head (all_requests rs) ≡ 0 =
-        (least_head m1 q part line.ring single did.lowest).new in
-        let parts = headed-all head rs in
-        let table : l.table ≡ ring_page side.ring.size q = ap (λ x. x.table) line.ring.layout in
-        let now : P r = assumption
-        (get_or-set_same side.sent head pages [] (omega (arith, did.small, line.keeps))) in
-        let C : ℕ → Type 0 = λ p. IsCoded m2 p (buffers_page q) head pages in
-        record {
-          ring = requests_posted q part rs 1 pages line.ring refl did.announces;
-          keeps = length-set side.sent head pages ∙ line.keeps;
-          posted = All-push P rs.posted r (still_out side.ring.size n side.sent head pages rs.posted
-              (omega arith) line.posted) now;
-          taken = still_out side.ring.size n side.sent head pages rs.taken (omega arith) line.taken;
-          done = still_out side.ring.size n side.sent head pages rs.done (omega arith) line.done;
-          coded = All-push (λ (x : Request). IsCoded m2
-              (ring_page side.ring.size q) (buffers_page q) x.head x.pages) rs.posted r (λ k d lt.
-              let x = slice_index_or rs.posted k d in
-              let known = line.posted k d lt in
-              let code = line.coded k d lt in
-              let apart : x.head ≢ head = not_headed rs.posted head k d (omega arith) lt in
-              record {
-                descriptor = ap (λ (p : ℕ). descriptor_at m2 p x.head) (sym table)
-                    ∙ did.descriptors x.head known.inside apart
-                    ∙ ap (λ (p : ℕ). descriptor_at m1 p x.head) table ∙ code.descriptor;
-                names = names_kept m1 m2 (buffer_page (buffers_page q) x.head)
-                    (buffer_offset x.head) x.pages (buffer_offset x.head + 1024) (did.rest.buffers
-                    x.head known.few apart) (omega (arith, known.pages.few)) code.names;
-              }) (subst C table did.coded);
-          remembers = line.remembers;
-        }
+    (subst (λ s. Posts m1 m2 side s (buffers_page q) pages head) did.state did)) where
+      line_posted_at : (m1 m2 : Pages) (q n : ℕ)
+          (side : RequestSide) (part : QueuePart) (rs : Requests) (head : ℕ) (pages : List ℕ)
+          → AreRequests side → AreRequested side.ring.size n pages → Line m1 q n side part rs
+          → Posts m1 m2 side (posted_side side head pages) (buffers_page q) pages head
+          → Line m2 q n (posted_side side head pages) part (posting head pages rs)
+      line_posted_at m1 m2 q n side part rs head pages single fine line did =
+          let r : Request = record { head = head; pages = pages; visited = 0 } in
+          let l = side.ring.layout in let sent = slice_set side.sent head pages in
+          let P : Request → Type 0 = IsRequest side.ring.size n sent in
+          let lowest = lowest_is side.ring did.lowest in
+          let none : headed head (all_requests rs) ≡ 0 =
+          (least_head m1 q part line.ring single did.lowest).new in
+          let parts = headed-all head rs in
+          let table : l.table ≡ ring_page side.ring.size q = ap (λ x. x.table) line.ring.layout in
+          let now : P r = assumption
+          (get_or-set_same side.sent head pages [] (omega (arith, did.small, line.keeps))) in
+          let C : ℕ → Type 0 = λ p. IsCoded m2 p (buffers_page q) head pages in
+          record {
+            ring = requests_posted q part rs 1 pages line.ring refl did.announces;
+            keeps = length-set side.sent head pages ∙ line.keeps;
+            posted = All-push P rs.posted r (still_out side.ring.size n side.sent head pages rs.posted
+                (omega arith) line.posted) now;
+            taken = still_out side.ring.size n side.sent head pages rs.taken (omega arith) line.taken;
+            done = still_out side.ring.size n side.sent head pages rs.done (omega arith) line.done;
+            coded = All-push (λ (x : Request). IsCoded m2
+                (ring_page side.ring.size q) (buffers_page q) x.head x.pages) rs.posted r (λ k d lt.
+                let x = slice_index_or rs.posted k d in let known = line.posted k d lt in
+                let code = line.coded k d lt in
+                let apart : x.head ≢ head = not_headed rs.posted head k d (omega arith) lt in
+                record {
+                  descriptor = ap (λ (p : ℕ). descriptor_at m2 p x.head) (sym table)
+                      ∙ did.descriptors x.head known.inside apart
+                      ∙ ap (λ (p : ℕ). descriptor_at m1 p x.head) table ∙ code.descriptor;
+                  names = names_kept m1 m2 (buffer_page (buffers_page q) x.head)
+                      (buffer_offset x.head) x.pages (buffer_offset x.head + 1024) (did.rest.buffers
+                      x.head known.few apart) (omega (arith, known.pages.few)) code.names;
+                }) (subst C table did.coded);
+            remembers = line.remembers;
+          }

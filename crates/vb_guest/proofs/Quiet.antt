@@ -1,16 +1,13 @@
 -- Calls after which each page has the frame that it had leave none loose.
 use Rattle.std.specs.Prelude.{◌≡◌, ◌++◌, ℕ, suc, Bool, List, [], ◌∷◌, Option, None, slice_index_or}
-use Rattle.std.specs.Prelude.{count_by, length, refl}
-use Rattle.std.proofs.Common.{◌∙◌, sym, ap, arith, length-append}
-use Rattle.vb_model.{specs.declared.calls.Call.Call, specs.declared.calls.Claim.Claim}
-use Rattle.vb_model.{specs.declared.replies.Reply.Reply, specs.Tests.one_if, specs.Orderly.times}
-use Rattle.vb_model.{specs.Guest.{Guest, frame_of}, proofs.Tables.count_by-cons}
-use Rattle.vb_ram.{specs.Pages.{Pages, frame_at}, specs.Part.Part}
-use Rattle.vb_device.specs.Discards.{frames_behind}
-use Rattle.vb_driver.specs.State.{DriverState}
-use Rattle.vb_guest.{specs.Exact.KeepsFrames, specs.Stands.{Honest, Rogue, Stands}}
-use Rattle.vb_guest.{specs.Steps.{is_frame, StepsFreeing}, proofs.Handing.handed_back}
-use Rattle.vb_guest.{proofs.Moving.times_first, proofs.Standing.by_guest}
+use Rattle.std.{specs.Prelude.{count_by, length, refl}, proofs.Common.{◌∙◌, sym, ap, arith}}
+use Rattle.{std.proofs.Common.length-append, vb_model.specs.declared.calls.{Call.Call, Claim.Claim}}
+use Rattle.vb_model.specs.{declared.replies.Reply.Reply, Tests.one_if, Orderly.times, Guest.Guest}
+use Rattle.{vb_model.{specs.Guest.frame_of, proofs.Tables.count_by-cons}, vb_ram.specs.Pages.Pages}
+use Rattle.{vb_ram.specs.{Pages.frame_at, Part.Part}, vb_device.specs.Discards.frames_behind}
+use Rattle.{vb_driver.specs.State.DriverState, vb_guest.specs.Exact.KeepsFrames}
+use Rattle.vb_guest.specs.{Stands.{Honest, Rogue, Stands}, Steps.{is_frame, StepsFreeing}}
+use Rattle.vb_guest.proofs.{Handing.handed_back, Moving.times_first, Standing.by_guest}
 
 -- ---- frames
 
@@ -69,10 +66,9 @@ pub freeing_quiet : {keeps : Bool} {m1 m2 m3 : Pages} {p1 : Part} (p2 : Part) {d
     → p2.loose ≡ []
 freeing_quiet {m1} {m2} p2 call reply stands memory same honest rogue = by_guest stands
     (λ h. none_freed m1 m2 h.ties.pages.behind (λ x n. n.ties.pages.behind) kept (honest h))
-    (λ r. none_freed m1 m2 r.behind (λ x n. n.behind) kept (rogue r))
-  where
-    kept : KeepsFrames m1 m2
-    kept page = ap (λ (m : Pages). frame_at m page) (sym memory) ∙ same page
+    (λ r. none_freed m1 m2 r.behind (λ x n. n.behind) kept (rogue r)) where
+      kept : KeepsFrames m1 m2
+      kept page = ap (λ (m : Pages). frame_at m page) (sym memory) ∙ same page
 
 -- ---- claims that are noted
 

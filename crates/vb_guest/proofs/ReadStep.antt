@@ -1,16 +1,14 @@
 -- A guest's read is a step of the definitions.
-use Rattle.std.specs.Prelude.{◌≡◌, ℕ, ◌+◌, ◌<◌, true, false, List, [], length, take, drop, None}
-use Rattle.std.{specs.Prelude.{slice_index, refl}, proofs.Common.{sym, ◌∙◌, ap, arith, inl}}
-use Rattle.vb_model.{specs.declared.calls.Call.TheVariants.Read, specs.Pages.{place_of, is_used}}
+use Rattle.std.specs.Prelude.{◌≡◌, ℕ, ◌+◌, ◌<◌, true, false, List, [], length, take}
+use Rattle.std.{specs.Prelude.{drop, None, slice_index, refl}, proofs.Common.{◌∙◌, ap, arith, inl}}
 use Rattle.vb_model.specs.declared.replies.Refusal.TheVariants.{NotHeld, OutOfRam, NoMemory}
 use Rattle.vb_model.specs.declared.replies.Reply.TheVariants.{ReadBytes, Refused}
-use Rattle.vb_model.{specs.Guest.Guest, specs.Refusals.refusal_of}
-use Rattle.vb_ram.{specs.Pages.{Pages, byte_at, contents_at, Covers}, proofs.Contents.contents_read}
-use Rattle.vb_ram.specs.Part.{Part}
-use Rattle.vb_driver.specs.State.{DriverState}
-use Rattle.vb_guest.{specs.Stands.Honest, specs.Steps.StepsAlone, proofs.Writing.used_high}
-use Rattle.vb_guest.proofs.Closing.{honest_performed, steps_alone}
-use Rattle.vb_guest.proofs.WriteStep.{outside_is, inside_is}
+use Rattle.vb_model.specs.{declared.calls.Call.TheVariants.Read, Pages.{place_of, is_used}}
+use Rattle.{vb_model.specs.{Refusals.refusal_of, Guest.Guest}, vb_ram.specs.Pages.{Pages, byte_at}}
+use Rattle.vb_ram.{specs.{Pages.{contents_at, Covers}, Part.Part}, proofs.Contents.contents_read}
+use Rattle.{vb_driver.specs.State.DriverState, vb_guest.proofs.Closing.honest_performed}
+use Rattle.vb_guest.proofs.{Closing.steps_alone, WriteStep.{outside_is, inside_is}}
+use Rattle.vb_guest.{proofs.Writing.used_high, specs.{Steps.StepsAlone, Stands.Honest}}
 
 pub read_not_held : {m : Pages} {p : Part} {d : DriverState} {g : Guest} {page off len : ℕ}
     → is_used (place_of d.places page) ≡ false

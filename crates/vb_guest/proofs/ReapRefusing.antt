@@ -1,23 +1,20 @@
 -- Driver and model refuse the same reaps; what is left to prove of a reap that isn't refused.
-use Rattle.std.specs.Prelude.{◌≡◌, ℕ, Bool, true, false, not, List, [], ◌∷◌, Result, Ok, Err}
-use Rattle.std.specs.Prelude.{Option, Some, None, is_err, drop, refl}
-use Rattle.std.proofs.Common.{sym, ◌∙◌, ap, subst, inl, inr}
-use Rattle.vb_model.specs.declared.replies.Refusal.TheVariants.{NoQueue, NotReady, NoFeature}
-use Rattle.vb_model.{specs.declared.replies.Refusal.TheVariants.RingBroken, specs.Requests.Request}
-use Rattle.vb_model.{specs.FirstRefusal.{Cause, ◌⇒◌, first_refusal}, specs.Guest.Guest}
-use Rattle.vb_model.specs.Tables.{lacks_feature, is_queue_of_requests, is_up}
-use Rattle.vb_model.specs.declared.calls.Call.TheVariants.{Reap}
-use Rattle.vb_model.{specs.Refusals.{causes, refusal_of}, specs.declared.replies.Refusal.Refusal}
-use Rattle.vb_ram.{specs.Pages.Pages, specs.Part.Part}
-use Rattle.vb_ring.specs.Ends.{DriverEnd, used_answer}
-use Rattle.vb_driver.{specs.State.DriverState, specs.Answers.{negotiated, reap_causes, is_ring_broken}}
+use Rattle.std.proofs.Common.{◌≡◌, ℕ, Bool, true, false, not, List, [], ◌∷◌, Result, Ok}
+use Rattle.std.proofs.Common.{Err, Option, Some, None, is_err, drop, sym, ◌∙◌, ap, subst, inl, inr}
+use Rattle.{std.specs.Prelude.refl, vb_model.specs.declared.calls.Call.TheVariants.Reap}
+use Rattle.vb_model.specs.declared.replies.Refusal.{Refusal, TheVariants.NoQueue}
+use Rattle.vb_model.specs.declared.replies.Refusal.TheVariants.{NotReady, NoFeature, RingBroken}
+use Rattle.vb_model.specs.{Requests.Request, Guest.Guest, Tables.lacks_feature}
+use Rattle.vb_model.specs.Tables.{is_queue_of_requests, is_up, reap_causes as causes_of_reap}
+use Rattle.vb_model.specs.{FirstRefusal.{Cause, ◌⇒◌, first_refusal}, Refusals.{causes, refusal_of}}
+use Rattle.{vb_ram.specs.{Pages.Pages, Part.Part}, vb_ring.specs.Ends.DriverEnd}
+use Rattle.vb_ring.specs.{Ends.used_answer, declared.driver.RingBroken.RingBroken as Broken}
 use Rattle.vb_driver.specs.Calls.{ReapsBy, ring_of, next_of, after_refusal}
-use Rattle.vb_guest.proofs.SameRefusals.{IsIdleStatus, at_both, last_cause}
-use Rattle.vb_guest.{proofs.Closing.{first_holds, refused_alone}, specs.Stands.{Honest, IsRunning}}
-use Rattle.vb_guest.{specs.Replies.reaped_reply, proofs.Reaping.used_next, specs.Steps.StepsAlone}
-use Rattle.vb_model.specs.Tables.{reap_causes as causes_of_reap}
-use Rattle.vb_ring.specs.declared.driver.RingBroken.{RingBroken as Broken}
-use Rattle.vb_driver.specs.declared.answers.Reaped.{Reaped as ReapedRequest}
+use Rattle.vb_driver.specs.{State.DriverState, declared.answers.Reaped.Reaped as ReapedRequest}
+use Rattle.vb_driver.specs.Answers.{negotiated, reap_causes, is_ring_broken}
+use Rattle.vb_guest.specs.{Stands.{Honest, IsRunning}, Steps.StepsAlone, Replies.reaped_reply}
+use Rattle.vb_guest.proofs.Closing.{first_holds, refused_alone}
+use Rattle.vb_guest.proofs.{Reaping.used_next, SameRefusals.{IsIdleStatus, at_both, last_cause}}
 
 -- where the ring isn't broken
 reap_same : (m : Pages) (p : Part) (d : DriverState) (g : Guest)
@@ -107,13 +104,12 @@ reap_by {m1} {m2} {p1} {p2} {d1} {d2} {g} {q} done {result} there did stands say
       | inr run ↦
           up result did run (says run) (reap_same m1 p1 d1 g q (ring_of q d1) (used_next done)
           stands.ties.parts.device.status stands.ties.parts.driver.accepted (says run))
-    ]
-  where
-    up : (result : Result (Option ReapedRequest) Refusal) → ReapsBy m1 m2 p1 p2 d1 d2 q result
-        → IsRunning m1 p1 d1 g → used_answer m1 (ring_of q d1) ≡ Ok (used_next done)
-        → first_refusal (reap_causes m1 p1 d1 (ring_of q d1) q) ≡ refusal_of g (Reap q)
-        → StepsAlone (Honest m2 p2 d2) g (Reap q) (reaped_reply result)
-    up (Err why) did run answer same = reap_refused why did stands same
-    up (Ok got) did run answer same =
-        let next : next_of got ≡ used_next done = (let e = sym did.next ∙ answer in cc) in
-        performed got next did answer run (sym (did.refusal ∙ same))
+    ] where
+      up : (result : Result (Option ReapedRequest) Refusal) → ReapsBy m1 m2 p1 p2 d1 d2 q result
+          → IsRunning m1 p1 d1 g → used_answer m1 (ring_of q d1) ≡ Ok (used_next done)
+          → first_refusal (reap_causes m1 p1 d1 (ring_of q d1) q) ≡ refusal_of g (Reap q)
+          → StepsAlone (Honest m2 p2 d2) g (Reap q) (reaped_reply result)
+      up (Err why) did run answer same = reap_refused why did stands same
+      up (Ok got) did run answer same =
+          let next : next_of got ≡ used_next done = (let e = sym did.next ∙ answer in cc) in
+          performed got next did answer run (sym (did.refusal ∙ same))

@@ -1,26 +1,24 @@
 -- A guest's reap is a step of the definitions.
-use Rattle.std.specs.Prelude.{◌≡◌, ℕ, ◌+◌, ◌≤◌, List, [], ◌∷◌, length, Result, Ok, Option, Some}
-use Rattle.std.specs.Prelude.{None, count_by, All, refl}
+use Rattle.std.specs.Prelude.{◌≡◌, ℕ, ◌+◌, ◌≤◌, List}
+use Rattle.std.specs.Prelude.{[], ◌∷◌, length, Result, Ok, Option, Some, None, count_by, All, refl}
 use Rattle.std.proofs.Common.{sym, ◌∙◌, ap, subst, arith, inr}
 use Rattle.vb_model.specs.Requests.{Request, Kind, Inflating, Deflating, Reporting_free, queue_of}
 use Rattle.vb_model.specs.{Requests.outstanding, declared.calls.Call.TheVariants.Reap}
-use Rattle.vb_model.specs.declared.replies.{Reply.TheVariants.{NotUsed, Reaped}, Refusal.Refusal}
-use Rattle.vb_model.specs.{declared.replies.Reply.Reply, Guest.{Guest, requests}, Step.Performs}
-use Rattle.vb_model.{proofs.Queues.no_requests_at, specs.{Driver.{reaped, Reaps}, Pages.is_lent}}
-use Rattle.vb_model.specs.Refusals.{refusal_of}
-use Rattle.vb_ram.specs.{Pages.Pages, Part.Part}
-use Rattle.vb_ring.specs.{Calls.TakesUsedBy, Ends.used_answer}
+use Rattle.vb_model.specs.declared.replies.Reply.{Reply, TheVariants.{NotUsed, Reaped}}
+use Rattle.vb_model.specs.{declared.replies.Refusal.Refusal, Guest.{Guest, requests}, Step.Performs}
+use Rattle.vb_model.specs.{Driver.{reaped, Reaps}, Pages.is_lent, Refusals.refusal_of}
+use Rattle.{vb_model.proofs.Queues.no_requests_at, vb_ram.specs.{Pages.Pages, Part.Part}}
+use Rattle.{vb_ring.specs.{Calls.TakesUsedBy, Ends.used_answer}, vb_device.specs.Queues.queue_part}
 use Rattle.vb_driver.specs.Reaps.{pages_sent, without_request, moved_on, with_actual}
-use Rattle.vb_driver.specs.State.{FreePages, DriverState, IsDriver}
-use Rattle.vb_driver.{specs.Calls.{ReapsBy, ring_of, next_of}, proofs.RequestTables.requests_taken}
-use Rattle.vb_device.specs.Queues.{queue_part}
+use Rattle.vb_driver.specs.{State.{FreePages, DriverState, IsDriver}, Calls.{ReapsBy, ring_of}}
+use Rattle.vb_driver.specs.{Calls.next_of, declared.answers.Reaped.Reaped as ReapedRequest}
+use Rattle.vb_driver.proofs.RequestTables.{requests_taken}
 use Rattle.vb_guest.proofs.KindLines.{Knows, LineOf, LineWith, line_of, has_queue, same_frames}
-use Rattle.vb_guest.proofs.{DriverWords.{Sides, driver_of, in_words}, Refusing.by_queue}
-use Rattle.vb_guest.proofs.{Closing.{honest_performed, steps_alone, ties_same}, Named.line_named}
-use Rattle.vb_guest.proofs.{Reaping.{used_next, used_line, line_reaped}, ReportLines.report_reaped}
-use Rattle.vb_guest.{proofs.ReapRefusing.{reap_by, reap_no_queue}, specs.Replies.reaped_reply}
-use Rattle.vb_guest.specs.{Stands.{Honest, Ties, IsRunning}, Steps.StepsAlone}
-use Rattle.vb_driver.specs.declared.answers.Reaped.{Reaped as ReapedRequest}
+use Rattle.vb_guest.proofs.DriverWords.{Sides, driver_of, in_words}
+use Rattle.vb_guest.proofs.{Refusing.by_queue, Closing.{honest_performed, steps_alone, ties_same}}
+use Rattle.vb_guest.proofs.{Named.line_named, Reaping.{used_next, used_line, line_reaped}}
+use Rattle.vb_guest.proofs.{ReportLines.report_reaped, ReapRefusing.{reap_by, reap_no_queue}}
+use Rattle.vb_guest.specs.{Replies.reaped_reply, Stands.{Honest, Ties, IsRunning}, Steps.StepsAlone}
 
 -- the driver once it has reaped the request
 abbrev left : Kind → Request → DriverState → DriverState
@@ -77,7 +75,7 @@ ties_left kind areas sides r rest ties run line said =
 
 reaps : (kind : Kind) (g : Guest) (reply : Reply) (new : Guest)
     → Reaps kind (requests kind g).done g reply new → Performs (Reap (queue_of kind)) g [] reply new
-reaps x0 g reply new does = grind arith
+reaps x g reply new does = grind arith
 
 request_reaped : (kind : Kind) {m1 m2 : Pages} {p1 p2 : Part} {g : Guest} (areas : FreePages)
     (sides : Sides) {d2 : DriverState} (done : List Request) (got : Option ReapedRequest)
@@ -89,15 +87,12 @@ request_reaped : (kind : Kind) {m1 m2 : Pages} {p1 p2 : Part} {g : Guest} (areas
 request_reaped kind areas sides [] (Some x) is next did answer stands run free = absurd cc
 request_reaped kind areas sides (r ∷ rest) None is next did answer stands run free = absurd cc
 request_reaped kind {g} areas sides [] None is next did answer stands run free =
-    let q = queue_of kind in
-    let T : List Request → Type 0 = λ l. Reaps kind l g NotUsed g in
+    let q = queue_of kind in let T : List Request → Type 0 = λ l. Reaps kind l g NotUsed g in
     steps_alone stands (honest_performed g (Reap q) [] NotUsed g free (reaps kind g NotUsed g
     (subst T (sym is) (refl, refl)))) (ties_same did.mem did.reaps.0 did.reaps.1 stands.ties) refl
 request_reaped kind {m1} {p1} {p2} {g} areas sides {d2}
     (r ∷ rest) (Some x) is next did answer stands run free = let q = queue_of kind in
-    let d1 = driver_of g areas sides in
-    let n = g.config.pages in
-    let same : x.head ≡ r.head = cc in
+    let d1 = driver_of g areas sides in let n = g.config.pages in let same : x.head ≡ r.head = cc in
     let line = line_of kind run in
     let known = subst (All (Knows kind d1 n)) is line.done 0 r (omega arith) in
     let sent = ap (λ (h : ℕ). pages_sent q h d1) same ∙ sent_is kind d1 n r known in
@@ -128,15 +123,13 @@ pub reap_step : {m1 m2 : Pages} {p1 p2 : Part} {d1 d2 : DriverState} {g : Guest}
 reap_step {m1} {m2} {p1} {p2} {d1} {d2} {g} {q} {result} did stands =
     by_queue (λ k. ReapsBy m1 m2 p1 p2 d1 d2 k result → StepsAlone (Honest m2 p2 d2) g (Reap k)
     (reaped_reply result)) q (of Inflating) (of Deflating) (λ at. reap_no_queue refl at stands)
-    (of Reporting_free) (λ none at. reap_no_queue (no_requests_at q none) at stands) did
-  where
-    of : (kind : Kind) → ReapsBy m1 m2 p1 p2 d1 d2 (queue_of kind) result
-        → StepsAlone (Honest m2 p2 d2) g (Reap (queue_of kind)) (reaped_reply result)
-    of kind did = in_words (λ d. ReapsBy m1 m2 p1 p2 d d2 (queue_of kind) result) stands
-        did (λ areas sides here at.
-        let q = queue_of kind in
-        let d = driver_of g areas sides in
-        reap_by (requests kind g).done (has_queue kind) at here
-        (λ run. used_line m1 q (ring_of q d) (queue_part q p1) (requests kind g)
-        (line_of kind run).ring) (λ got next done answer run free. request_reaped kind areas sides
-        (requests kind g).done got refl next done answer here run free))
+    (of Reporting_free) (λ none at. reap_no_queue (no_requests_at q none) at stands) did where
+      of : (kind : Kind) → ReapsBy m1 m2 p1 p2 d1 d2 (queue_of kind) result
+          → StepsAlone (Honest m2 p2 d2) g (Reap (queue_of kind)) (reaped_reply result)
+      of kind did = in_words (λ d. ReapsBy m1 m2 p1 p2 d d2 (queue_of kind) result) stands
+          did (λ areas sides here at.
+          let q = queue_of kind in let d = driver_of g areas sides in
+          reap_by (requests kind g).done (has_queue kind) at here
+          (λ run. used_line m1 q (ring_of q d) (queue_part q p1) (requests kind g)
+          (line_of kind run).ring) (λ got next done answer run free. request_reaped kind areas sides
+          (requests kind g).done got refl next done answer here run free))

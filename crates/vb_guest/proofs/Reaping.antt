@@ -16,11 +16,7 @@ used_next done = slice_get (heads_of done) 0
 -- what the used ring says to the driver
 pub used_line : (mem : Pages) (q : ℕ) (ring : DriverEnd) (part : QueuePart) (rs : Requests)
     → RingOf mem q ring part rs → used_answer mem ring ≡ Ok (used_next rs.done)
-used_line mem q ring part rs stands =
-    grind (
-      arith,
-      ring_answer stands,
-    )
+used_line mem q ring part rs stands = grind (arith, ring_answer stands)
 
 pub requests_reaped : {mem : Pages} (q : ℕ) {ring after : DriverEnd}
     (part : QueuePart) (posted taken : List Request) (r : Request) (rest : List Request)

@@ -2,17 +2,16 @@
 use Rattle.std.specs.Prelude.{◌≡◌, ℕ, ◌*◌, ◌<◌, ◌≤◌, ◌||◌, Bool, true, false, not, List, [], ◌∷◌}
 use Rattle.std.specs.Prelude.{All, length, map, Option, None, Ok, slice_index, slice_index_or, refl}
 use Rattle.std.{specs.List.{list_any, range_with_len}, proofs.Common.{sym, ◌∙◌, ap, subst, arith}}
-use Rattle.std.proofs.lemmas.{Nat.pow_pos, List.{length-map, get_or-map}, List.Elements.All-tail}
+use Rattle.std.proofs.lemmas.{Nat.pow_pos, List.{length-map, get_or-map, Elements.All-tail}}
 use Rattle.std.proofs.lemmas.List.FromFn.{length-range_with_len, get_or-range_with_len}
-use Rattle.vb_model.{specs.Layout.reserved_pages, specs.Pages.{Block, size, pages_of_all}}
-use Rattle.vb_ram.specs.Pages.{Pages}
-use Rattle.vb_chain.{specs.Written.{empty, linked, AreSound, IsRoute}, specs.Table.descriptor_at}
-use Rattle.vb_chain.{specs.declared.fault.ChainFault.ChainFault, specs.declared.pieces.Piece.Piece}
-use Rattle.vb_chain.{proofs.ChainLaws.written_chain, specs.Chain.ChainGives}
-use Rattle.vb_driver.specs.Coding.{AreReported}
+use Rattle.vb_model.specs.{Layout.reserved_pages, Pages.{Block, size, pages_of_all}}
+use Rattle.{vb_ram.specs.Pages.Pages, vb_chain.specs.Written.{empty, linked, AreSound}}
+use Rattle.vb_chain.specs.{Written.IsRoute, Table.descriptor_at}
+use Rattle.vb_chain.specs.declared.{fault.ChainFault.ChainFault, pieces.Piece.Piece}
+use Rattle.vb_chain.{specs.Chain.ChainGives, proofs.ChainLaws.written_chain}
 use Rattle.vb_request.specs.Report.{pages_of_pieces, piece_fault, first_piece_fault, has_bad_length}
-use Rattle.vb_request.{specs.Report.report_request, specs.Request.first_of_both}
-use Rattle.vb_guest.specs.Reported.{IsOwnBlock}
+use Rattle.vb_request.specs.{Report.report_request, Request.first_of_both}
+use Rattle.{vb_driver.specs.Coding.AreReported, vb_guest.specs.Reported.IsOwnBlock}
 
 -- the bytes of a block, and those of all blocks, as a chain has them
 abbrev piece_of : Block → Piece
@@ -51,8 +50,7 @@ pub report_chain : {mem : Pages} {table descriptors n : ℕ} {blocks : List Bloc
     → All (IsOwnBlock descriptors n) blocks → AreReported mem table blocks
     → ChainGives (descriptor_at mem table) descriptors (4096 * length mem) 0 (pieces_of blocks)
 report_chain {mem} {table} {descriptors} {blocks} len some inside own reported =
-    let count : ℕ = length blocks in
-    let path : List ℕ = range_with_len 0 count in
+    let count : ℕ = length blocks in let path : List ℕ = range_with_len 0 count in
     let long : length path ≡ count = length-range_with_len 0 count in
     let at : (k : ℕ) → k < count → slice_index path k ≡ k =
     λ k lt. omega (arith, get_or-range_with_len 0 count k 0 lt) in

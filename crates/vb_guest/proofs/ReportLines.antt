@@ -2,13 +2,12 @@
 use Rattle.std.specs.Prelude.{◌≡◌, ℕ, ◌+◌, ◌≤◌, List, [], ◌∷◌, length, Some, Ok}
 use Rattle.std.proofs.{Common.{ap, subst, arith, inl, refl}, lemmas.List.Elements.All-nil}
 use Rattle.vb_model.specs.Requests.{Request, Requests, no_requests, outstanding, posting}
-use Rattle.vb_model.specs.{Layout.ring_page, Pages.Block}
-use Rattle.vb_ram.specs.{Pages.{Pages, page_at}, Part.QueuePart}
-use Rattle.vb_chain.proofs.TableLaws.{descriptor_apart}
+use Rattle.{vb_model.specs.{Layout.ring_page, Pages.Block}, vb_ram.specs.Pages.{Pages, page_at}}
+use Rattle.{vb_ram.specs.Part.QueuePart, vb_chain.proofs.TableLaws.descriptor_apart}
 use Rattle.vb_ring.specs.{Calls.TakesUsedBy, Ends.DriverEnd}
 use Rattle.vb_driver.specs.{Coding.AreReported, Calls.PostsReport, State.ReportSide}
-use Rattle.vb_guest.{proofs.RingApart.{SameRing, ring_apart}, specs.Reported.{IsReport, ReportLine}}
-use Rattle.vb_guest.proofs.{RingPosted.ring_posted, RingReaped.ring_reaped}
+use Rattle.vb_guest.proofs.{RingApart.{SameRing, ring_apart}, RingPosted.ring_posted}
+use Rattle.vb_guest.{proofs.RingReaped.ring_reaped, specs.Reported.{IsReport, ReportLine}}
 
 -- ---- memory changes elsewhere
 
@@ -49,21 +48,20 @@ pub report_reaped : {mem : Pages} (n : ℕ) (side : ReportSide) {after : DriverE
     → ReportLine mem n (record { ring = after; blocks = [] }) part (record rs { done = rest })
 report_reaped {mem} n side {after} part rs r rest is few line takes =
     by rs.posted rs.taken rest (omega (arith, few, ap (λ (l : List Request). length l) is))
-    (subst (λ l. ReportLine mem n side part (record rs { done = l })) is line)
-  where
-    by : (posted taken rest : List Request) → length posted + (length taken + length (r ∷ rest)) ≤ 1
-        → ReportLine mem n side part (record { posted = posted; taken = taken; done = r ∷ rest })
-        → ReportLine mem n (record { ring = after; blocks = [] }) part
-        (record { posted = posted; taken = taken; done = rest })
-    by [] [] [] few line = let P : Request → Type 0 = IsReport after.size n [] in record {
-      ring = ring_reaped r.head line.ring takes;
-      keeps = tt;
-      posted = All-nil P;
-      taken = All-nil P;
-      done = All-nil P;
-      coded = All-nil (λ (x : Request). AreReported mem (ring_page after.size 4) []);
-      remembers = line.remembers;
-    }
-    by [] [] (x ∷ rest) few line = absurd (omega (arith, few))
-    by [] (x ∷ taken) rest few line = absurd (omega (arith, few))
-    by (x ∷ posted) taken rest few line = absurd (omega (arith, few))
+    (subst (λ l. ReportLine mem n side part (record rs { done = l })) is line) where
+      by : (posted taken rest : List Request) → length posted + (length taken + length (r ∷ rest)) ≤ 1
+          → ReportLine mem n side part (record { posted = posted; taken = taken; done = r ∷ rest })
+          → ReportLine mem n (record { ring = after; blocks = [] }) part
+          (record { posted = posted; taken = taken; done = rest })
+      by [] [] [] few line = let P : Request → Type 0 = IsReport after.size n [] in record {
+        ring = ring_reaped r.head line.ring takes;
+        keeps = tt;
+        posted = All-nil P;
+        taken = All-nil P;
+        done = All-nil P;
+        coded = All-nil (λ (x : Request). AreReported mem (ring_page after.size 4) []);
+        remembers = line.remembers;
+      }
+      by [] [] (x ∷ rest) few line = absurd (omega (arith, few))
+      by [] (x ∷ taken) rest few line = absurd (omega (arith, few))
+      by (x ∷ posted) taken rest few line = absurd (omega (arith, few))

@@ -1,9 +1,9 @@
 -- A guest's report is a step of the definitions.
-use Rattle.std.specs.Prelude.{◌≡◌, ℕ, ◌<◌, ◌==◌, Bool, not, nat_le, List, [], ◌∷◌, length, Result}
-use Rattle.std.{specs.Prelude.{Ok, Err, Some, None, refl, All}, proofs.lemmas.List.length-map}
-use Rattle.std.proofs.Common.{sym, ◌∙◌, ap, subst, arith, inr}
-use Rattle.vb_model.specs.{Driver.after_posting, FirstRefusal.{◌⇒◌, first_refusal}, Guest.Guest}
-use Rattle.vb_model.specs.{Guest.reporting, Pages.{Block, placed, pages_of_all, reported}}
+use Rattle.std.specs.Prelude.{◌≡◌, ℕ, ◌<◌, ◌==◌, Bool, not}
+use Rattle.std.specs.Prelude.{nat_le, List, [], ◌∷◌, length, Result, Ok, Err, Some, None, refl, All}
+use Rattle.std.proofs.{lemmas.List.length-map, Common.{sym, ◌∙◌, ap, subst, arith, inr}}
+use Rattle.vb_model.specs.{Driver.after_posting, FirstRefusal.{◌⇒◌, first_refusal}}
+use Rattle.vb_model.specs.{Guest.{Guest, reporting}, Pages.{Block, placed, pages_of_all, reported}}
 use Rattle.vb_model.specs.{Pages.maximal_free_blocks, Refusals.{refusal_of, reported_blocks}}
 use Rattle.vb_model.specs.Requests.{Request, Requests, no_requests, outstanding, posting}
 use Rattle.vb_model.specs.{Requests.{IsLeastHead, Reporting_free}, Tables.{is_up, most_requests}}
@@ -11,19 +11,18 @@ use Rattle.vb_model.specs.declared.{calls.Call.TheVariants.Report, places.Place.
 use Rattle.vb_model.specs.declared.{places.Place.TheVariants.Reporting, replies.Refusal.Refusal}
 use Rattle.vb_model.specs.declared.replies.Refusal.TheVariants.{NotReady, NoFeature, QueueFull}
 use Rattle.vb_model.specs.declared.replies.{Refusal.TheVariants.Nothing, Reply.TheVariants.Posted}
-use Rattle.vb_ram.{specs.Pages.Pages, specs.Part.Part}
+use Rattle.{vb_ram.specs.{Pages.Pages, Part.Part}, vb_ring.specs.Ends.outstanding as outstanding_in}
 use Rattle.vb_driver.specs.{Answers.{report_causes, blocks_to_report}, Areas.areas_without}
-use Rattle.vb_driver.specs.{Calls.{Reports, ReportsBy, unreported}, State.{DriverState, ReportSide}}
-use Rattle.vb_guest.proofs.RunApart.{sizes_of, ring_of, ring_low, table_clear, post_leaves}
+use Rattle.vb_driver.specs.{Calls.{Reports, ReportsBy, unreported}, State.DriverState}
+use Rattle.vb_driver.specs.{State.ReportSide, declared.answers.Posted.Posted as PostedRequest}
+use Rattle.vb_guest.proofs.RunApart.{sizes_of}
+use Rattle.vb_guest.proofs.RunApart.{ring_of, ring_low, table_clear, post_leaves, post_same}
 use Rattle.vb_guest.proofs.Closing.{honest_performed, honest_refused, steps_alone, ties_same}
 use Rattle.vb_guest.proofs.SameRefusals.{refused_alike, runs_where, IsIdleStatus}
-use Rattle.vb_guest.{specs.Reported.{IsReport, ReportLine, IsOwnBlock}, proofs.RingHeads.ring_count}
-use Rattle.vb_guest.{proofs.OwnBlocks.{reported_own, reported_few}, proofs.Running.others_posted}
-use Rattle.vb_guest.{specs.Stands.{Honest, Ties, IsRunning}, proofs.ReportLines.report_posted}
-use Rattle.vb_guest.{proofs.PagesKept.pages_same, specs.Replies.posted_reply}
-use Rattle.vb_guest.{proofs.RunApart.post_same, proofs.Apart.no_buffer, specs.Steps.StepsAlone}
-use Rattle.vb_ring.specs.Ends.{outstanding as outstanding_in}
-use Rattle.vb_driver.specs.declared.answers.Posted.{Posted as PostedRequest}
+use Rattle.vb_guest.proofs.{RingHeads.ring_count, OwnBlocks.{reported_own, reported_few}}
+use Rattle.vb_guest.proofs.{Running.others_posted, ReportLines.report_posted, PagesKept.pages_same}
+use Rattle.vb_guest.{proofs.Apart.no_buffer, specs.Reported.{IsReport, ReportLine, IsOwnBlock}}
+use Rattle.vb_guest.specs.{Stands.{Honest, Ties, IsRunning}, Replies.posted_reply, Steps.StepsAlone}
 
 -- ---- refusals
 
@@ -85,18 +84,14 @@ report_out : {m1 m2 : Pages} {p1 p2 : Part} {d1 d2 : DriverState} {g : Guest}
     → StepsAlone (Honest m2 p2 d2) g (Report from) (Posted posted.head posted.pages)
 report_out {m1} {m2}
     {p1} {d1} {d2} {g} {from} {posted} did stands run free none some = let ties = stands.ties in
-    let n = g.config.pages in
-    let blocks = reported_blocks g from in
-    let pages = pages_of_all blocks in
-    let gone : g.report ≡ no_requests = all_gone none in
+    let n = g.config.pages in let blocks = reported_blocks g from in
+    let pages = pages_of_all blocks in let gone : g.report ≡ no_requests = all_gone none in
     let new : Guest = after_posting Reporting_free 0 pages g in
     let reply : Posted posted.head posted.pages ≡ Posted 0 (length pages) =
     ap (λ (h : ℕ). Posted h posted.pages) did.head ∙ ap (Posted 0) did.pages in
     let step = honest_performed g (Report from) [] (Posted posted.head posted.pages) new free
     (refl, (0, first_head gone, reply, refl)) in
-    let size = g.config.queue_size in
-    let rest = did.posts.rest in
-    let l = d1.report.ring.layout in
+    let size = g.config.queue_size in let rest = did.posts.rest in let l = d1.report.ring.layout in
     let ring = ring_of 4 d1.report.ring run.report.ring.sized run.report.ring.layout
     run.report_size in
     let same = post_same l.table ring (ring_low 4 l.table refl ring.table)
@@ -144,27 +139,26 @@ report_step {m1} {m2}
     let driver = stands.ties.parts.driver in
     by result did (refused_alike (Report from) stands.ties.queues
     (report_idle p1 d1 g from device.status) (λ run. report_same p1 d1 g from device.status
-    driver.accepted (out_same run) (blocks_same d1 g from driver.queue_size driver.places)))
-  where
-    out_same : IsRunning m1 p1 d1 g → outstanding_in d1.report.ring ≡ outstanding g.report
-    out_same run = let rs = g.report in omega (
-      arith,
-      ring_count run.report.ring,
-      length-map rs.posted (λ (r : Request). r.head),
-      length-map rs.taken (λ (r : Request). r.head),
-      length-map rs.done (λ (r : Request). r.head),
-    )
+    driver.accepted (out_same run) (blocks_same d1 g from driver.queue_size driver.places))) where
+      out_same : IsRunning m1 p1 d1 g → outstanding_in d1.report.ring ≡ outstanding g.report
+      out_same run = let rs = g.report in omega (
+        arith,
+        ring_count run.report.ring,
+        length-map rs.posted (λ (r : Request). r.head),
+        length-map rs.taken (λ (r : Request). r.head),
+        length-map rs.done (λ (r : Request). r.head),
+      )
 
-    by : (result : Result PostedRequest Refusal) → ReportsBy m1 m2 p1 p2 d1 d2 from result
-        → first_refusal (report_causes d1 p1 from) ≡ refusal_of g (Report from)
-        → StepsAlone (Honest m2 p2 d2) g (Report from) (posted_reply result)
-    by (Err why) did same = report_refused why did stands same
-    by (Ok posted) did same =
-        let free : refusal_of g (Report from) ≡ None = sym (did.refusal ∙ same) in
-        let fits = none_out (not (is_up g.status)) (not (reporting g.features))
-        (outstanding g.report) (length (reported_blocks g from)) free in
-        let R : List Block → Type 0 = λ l. Reports m1 m2 p1 p2 d1 d2 l posted in
-        report_out (subst R
-        (blocks_same d1 g from stands.ties.parts.driver.queue_size stands.ties.parts.driver.places)
-        did.reports) stands (runs_where (Report from) _ stands.ties.queues
-        (report_idle p1 d1 g from stands.ties.parts.device.status) free) free fits.0 fits.1
+      by : (result : Result PostedRequest Refusal) → ReportsBy m1 m2 p1 p2 d1 d2 from result
+          → first_refusal (report_causes d1 p1 from) ≡ refusal_of g (Report from)
+          → StepsAlone (Honest m2 p2 d2) g (Report from) (posted_reply result)
+      by (Err why) did same = report_refused why did stands same
+      by (Ok posted) did same =
+          let free : refusal_of g (Report from) ≡ None = sym (did.refusal ∙ same) in
+          let fits = none_out (not (is_up g.status)) (not (reporting g.features))
+          (outstanding g.report) (length (reported_blocks g from)) free in
+          let R : List Block → Type 0 = λ l. Reports m1 m2 p1 p2 d1 d2 l posted in
+          report_out (subst R
+          (blocks_same d1 g from stands.ties.parts.driver.queue_size stands.ties.parts.driver.places)
+          did.reports) stands (runs_where (Report from) _ stands.ties.queues
+          (report_idle p1 d1 g from stands.ties.parts.device.status) free) free fits.0 fits.1

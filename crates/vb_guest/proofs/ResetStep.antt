@@ -1,21 +1,19 @@
 -- A guest's reset is a step of the definitions.
 use Rattle.std.specs.Prelude.{◌≡◌, ℕ, Bool, false, List, [], length, map, replicate, refl}
-use Rattle.std.proofs.Common.{◌∙◌, ap, inl}
-use Rattle.vb_model.specs.declared.{calls.Call.TheVariants.Reset, places.Place.Place}
-use Rattle.vb_model.specs.{declared.replies.Reply.TheVariants.Done, Tests.pages_where}
-use Rattle.vb_model.specs.{Pages.is_reporting, Guest.Guest, Life.{place_after_reset, after_reset}}
-use Rattle.vb_ram.{specs.Pages.Pages, specs.Part.Part}
-use Rattle.vb_driver.specs.State.{DriverState, fresh_side, fresh_statistics, fresh_report}
-use Rattle.vb_driver.{specs.Areas.areas_with, specs.Calls.ResetsBy}
-use Rattle.vb_guest.{specs.Stands.{Honest, Ties}, specs.Steps.StepsAlone}
+use Rattle.{std.proofs.Common.{◌∙◌, ap, inl}, vb_model.specs.declared.calls.Call.TheVariants.Reset}
+use Rattle.vb_model.specs.declared.{places.Place.Place, replies.Reply.TheVariants.Done}
+use Rattle.vb_model.specs.{Tests.pages_where, Pages.is_reporting, Guest.Guest}
+use Rattle.{vb_model.specs.Life.{place_after_reset, after_reset}, vb_ram.specs.Pages.Pages}
+use Rattle.{vb_ram.specs.Part.Part, vb_status.specs.After.part_after_reset as device_after_reset}
+use Rattle.vb_driver.specs.State.{DriverState, fresh_side, fresh_statistics}
+use Rattle.vb_driver.specs.{State.fresh_report, Areas.areas_with, Calls.ResetsBy}
+use Rattle.vb_guest.specs.{Stands.{Honest, Ties}, Steps.StepsAlone}
 use Rattle.vb_guest.proofs.Closing.{honest_performed, steps_alone, ties_same}
-use Rattle.vb_status.specs.After.{part_after_reset as device_after_reset}
 
 pub reset_step : {m1 m2 : Pages} {p1 p2 : Part} {d1 d2 : DriverState} {g : Guest}
     → ResetsBy m1 m2 p1 p2 d1 d2 → Honest m1 p1 d1 g → StepsAlone (Honest m2 p2 d2) g Reset Done
 reset_step {m1} {p1} {d1} {g} did stands = let parts = stands.ties.parts in
-    let new : Guest = after_reset g in
-    let part : Part = device_after_reset p1 in
+    let new : Guest = after_reset g in let part : Part = device_after_reset p1 in
     let state : DriverState =
     record d1 {
       places = map place_after_reset d1.places;

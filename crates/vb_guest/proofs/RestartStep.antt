@@ -1,18 +1,17 @@
 -- A guest's life ends, and a new one begins: all its frames go back.
-use Rattle.std.specs.Prelude.{◌≡◌, ℕ, ◌+◌, ◌<◌, ◌==◌, Bool, true, false, List, [], ◌∷◌, length, suc}
-use Rattle.std.specs.Prelude.{Option, None, count_by, replicate, slice_index_or, refl}
-use Rattle.std.{specs.Option.option_to_list, specs.List.range_with_len}
-use Rattle.std.{proofs.Common.{sym, ◌∙◌, ap, subst, arith}, proofs.lemmas.List.length-replicate}
+use Rattle.std.specs.Prelude.{◌≡◌, ℕ, ◌+◌, ◌<◌, ◌==◌, Bool, true, false, List, []}
+use Rattle.std.specs.Prelude.{◌∷◌, length, suc, Option, None, count_by, replicate, slice_index_or}
+use Rattle.std.specs.{Prelude.refl, Option.option_to_list, List.range_with_len}
+use Rattle.std.proofs.{Common.{sym, ◌∙◌, ap, subst, arith}, lemmas.List.length-replicate}
 use Rattle.vb_model.specs.{Limits.is_config, Guest.{Guest, no_statistics}, Life.after_restart}
 use Rattle.vb_model.{specs.Orderly.times, proofs.Tables.{count_by-cons, count_by-append}}
-use Rattle.vb_ram.{specs.Pages.{Pages, frame_at, number_of}, specs.Part.Part}
-use Rattle.vb_status.specs.After.{part_after_reset}
+use Rattle.vb_ram.specs.{Pages.{Pages, frame_at, number_of}, Part.Part}
+use Rattle.{vb_status.specs.After.part_after_reset, vb_device.specs.Discards.frames_behind}
 use Rattle.vb_driver.specs.State.{DriverState, fresh_driver}
-use Rattle.vb_device.specs.Discards.{frames_behind}
 use Rattle.vb_guest.proofs.{Discarding.one_frame, Fresh.{everywhere, backs_none, fresh_honest}}
 use Rattle.vb_guest.proofs.{Moving.moves_as, Standing.{stands_of, own_moved}, Writing.HasFrames}
-use Rattle.vb_guest.specs.{Exact.KeepsFrames, Stands.{Honest, DeviceKeeps, Stands}, Steps.is_frame}
-use Rattle.vb_guest.specs.Steps.{backing_count, AreOut, AllReturn, IsBare, Restarts}
+use Rattle.vb_guest.specs.{Exact.KeepsFrames, Stands.{Honest, DeviceKeeps, Stands}}
+use Rattle.vb_guest.specs.Steps.{is_frame, backing_count, AreOut, AllReturn, IsBare, Restarts}
 use Rattle.vb_guest.specs.Supply.{Supply, supply_of, Moves, nothing, AreLoose}
 
 -- ---- the frames behind all pages
@@ -103,10 +102,8 @@ honest_restarted : {m1 m2 : Pages} {p1 p2 : Part} {d1 d2 : DriverState} {g : Gue
     → Rooted m1 p1 d1 g → m2 ≡ replicate (length m1) None
     → p2 ≡ record (part_after_reset (part_after_reset p1)) { loose = []; own = p2.own }
     → d2 ≡ fresh_driver d1.pages d1.queue_size d1.processors → Honest m2 p2 d2 (after_restart g)
-honest_restarted {p2} {g} root m p d = grind (
-  arith,
-  fresh_honest g.config g.target p2 root.config (part_restarted p2.own root p),
-)
+honest_restarted {p2} {g} root m p d =
+    grind (arith, fresh_honest g.config g.target p2 root.config (part_restarted p2.own root p))
 
 pub restart_step : {keeps : Bool} {m1 between m2 : Pages} {p1 reset p2 : Part} {d1 d2 : DriverState}
     {g : Guest} (out1 out2 : List Bool) → Stands keeps m1 p1 d1 g → between ≡ m1 → reset

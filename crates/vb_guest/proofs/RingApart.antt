@@ -1,12 +1,10 @@
 -- What leaves a ring alone, and a ring of which nothing was published.
-use Rattle.std.{specs.Prelude.{◌≡◌, ℕ, List, [], ◌++◌, length, refl}, proofs.Common.{sym, subst}}
-use Rattle.vb_model.{specs.Layout.ring_page, proofs.Shapes.InRing}
-use Rattle.vb_ram.specs.Pages.{Pages, page_at}
-use Rattle.vb_ring.{specs.Layout.{IsSize, layout_of}, specs.Ends.DriverEnd}
-use Rattle.vb_ring.{proofs.Shapes.{AreInRing, parts_in_ring}, proofs.MeaningLaws.tracks_apart}
-use Rattle.vb_driver.specs.Calls.{IsNewRing}
-use Rattle.vb_guest.specs.Ring.{RingStands, used_of}
-use Rattle.vb_ring.proofs.MeaningLaws.{ring_apart as shows_apart}
+use Rattle.std.specs.Prelude.{◌≡◌, ℕ, List, [], ◌++◌, length, refl}
+use Rattle.{std.proofs.Common.{sym, subst}, vb_model.{specs.Layout.ring_page, proofs.Shapes.InRing}}
+use Rattle.{vb_ram.specs.Pages.{Pages, page_at}, vb_ring.specs.Layout.{IsSize, layout_of}}
+use Rattle.vb_ring.{specs.Ends.DriverEnd, proofs.Shapes.{AreInRing, parts_in_ring}}
+use Rattle.vb_ring.proofs.MeaningLaws.{tracks_apart, ring_apart as shows_apart}
+use Rattle.{vb_driver.specs.Calls.IsNewRing, vb_guest.specs.Ring.{RingStands, used_of}}
 
 -- the pages of a queue's ring are as before
 abbrev pub SameRing : Pages → Pages → ℕ → ℕ → Type 0
@@ -24,8 +22,7 @@ pub ring_apart : {old new : Pages}
     → RingStands new q ring next_avail next_used posted taken done
 ring_apart {old} {new} {q} {ring} {posted} {done} same stands = let l = ring.layout in
     let parts = ring_parts q ring stands.sized stands.layout in
-    let table = same l.table parts.table in
-    let avail = same l.avail.page parts.avail in
+    let table = same l.table parts.table in let avail = same l.avail.page parts.avail in
     let used = same l.used.page parts.used in
     record {
       sized = stands.sized;

@@ -2,13 +2,11 @@
 use Rattle.std.specs.Prelude.{◌≡◌, ℕ, ◌+◌, ◌≤◌, ◌==◌, Bool, true, false, cond, List, [], ◌∷◌, ◌++◌}
 use Rattle.std.specs.Prelude.{length, Some, None, slice_get, slice_index_or, remove, take, refl}
 use Rattle.std.proofs.Common.{◌∙◌, ap, arith, length-append, eq-eqb}
-use Rattle.std.{proofs.lemmas.List.{length-map, map-append}, proofs.lemmas.List.Sums.sum_by-remove}
+use Rattle.std.proofs.lemmas.List.{length-map, map-append, Sums.sum_by-remove}
 use Rattle.std.proofs.lemmas.Option.{get_or_from_slice_get, slice_get_within}
-use Rattle.vb_model.{specs.Tests.one_if, proofs.Distinct.times-append}
-use Rattle.vb_ram.specs.Pages.{Pages}
-use Rattle.vb_ring.{specs.Entries.is_head, specs.Ends.{DriverEnd, outstanding}}
-use Rattle.vb_ring.specs.Meaning.{UsedElem, ids, times}
-use Rattle.vb_guest.specs.Ring.{RingStands, used_of}
+use Rattle.{vb_model.{specs.Tests.one_if, proofs.Distinct.times-append}, vb_ram.specs.Pages.Pages}
+use Rattle.vb_ring.specs.{Entries.is_head, Ends.{DriverEnd, outstanding}}
+use Rattle.{vb_ring.specs.Meaning.{UsedElem, ids, times}, vb_guest.specs.Ring.{RingStands, used_of}}
 
 -- ---- lists
 

@@ -1,11 +1,10 @@
 -- The device takes a posted head.
 use Rattle.std.specs.Prelude.{◌≡◌, ℕ, ◌+◌, ◌%◌, List, [], ◌∷◌, ◌++◌, length, Ok, slice_get}
 use Rattle.std.proofs.{Common.{sym, ◌∙◌, ap, subst, arith, append_assoc}, lemmas.List.length_push}
-use Rattle.vb_ram.specs.Pages.{Pages}
-use Rattle.vb_ring.{specs.Entries.next_entry, specs.Ends.DriverEnd, specs.Meaning.{Shows, Tracks}}
-use Rattle.vb_ring.{proofs.EntryLaws.entry_shown, proofs.MeaningLaws.times-push}
-use Rattle.vb_guest.specs.Ring.{RingStands, used_of}
-use Rattle.vb_guest.proofs.RingHeads.{length-used, get_after, none_after}
+use Rattle.{vb_ram.specs.Pages.Pages, vb_ring.specs.{Entries.next_entry, Ends.DriverEnd}}
+use Rattle.vb_ring.{specs.Meaning.{Shows, Tracks}, proofs.EntryLaws.entry_shown}
+use Rattle.{vb_ring.proofs.MeaningLaws.times-push, vb_guest.specs.Ring.RingStands}
+use Rattle.vb_guest.{specs.Ring.used_of, proofs.RingHeads.{length-used, get_after, none_after}}
 
 -- the device's next entry is the first posted head
 pub ring_next : {mem : Pages} {q : ℕ} {ring : DriverEnd} {next_avail next_used : ℕ}

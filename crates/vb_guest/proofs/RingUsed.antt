@@ -1,14 +1,12 @@
 -- The device uses a taken head.
-use Rattle.std.specs.Prelude.{◌≡◌, ℕ, ◌+◌, ◌%◌, ◌<◌, true, List, [], ◌∷◌, ◌++◌, length, Some}
-use Rattle.std.{specs.Prelude.{slice_get, remove}, proofs.lemmas.List.{length_push, map_push}}
-use Rattle.std.proofs.Common.{sym, ◌∙◌, ap, subst, arith, append_assoc}
-use Rattle.std.{proofs.lemmas.List.Edits.length-remove, proofs.lemmas.Option.slice_get_within}
-use Rattle.vb_model.proofs.Distinct.{times-append}
-use Rattle.vb_ram.specs.Pages.{Pages}
-use Rattle.vb_ring.{specs.Meaning.{UsedElem, ids, times, Shows, Tracks}, specs.Calls.AddsUsedBy}
-use Rattle.vb_ring.{proofs.MeaningLaws.{times-push, used_tracks}, specs.Ends.{DriverEnd, DeviceEnd}}
-use Rattle.vb_guest.specs.Ring.{RingStands, used_of}
-use Rattle.vb_guest.proofs.RingHeads.{one_is, times-remove, times-used}
+use Rattle.std.proofs.{Common.{sym, ◌∙◌, ap, subst, arith, append_assoc}, lemmas.List.length_push}
+use Rattle.std.proofs.lemmas.{List.{map_push, Edits.length-remove}, Option.slice_get_within}
+use Rattle.std.specs.Prelude.{◌≡◌, ℕ, ◌+◌, ◌%◌, ◌<◌, true, List, [], ◌∷◌, ◌++◌, length}
+use Rattle.{std.specs.Prelude.{Some, slice_get, remove}, vb_model.proofs.Distinct.times-append}
+use Rattle.{vb_ram.specs.Pages.Pages, vb_ring.proofs.MeaningLaws.{times-push, used_tracks}}
+use Rattle.vb_ring.specs.{Calls.AddsUsedBy, Ends.{DriverEnd, DeviceEnd}, Meaning.UsedElem}
+use Rattle.{vb_ring.specs.Meaning.{ids, times, Shows, Tracks}, vb_guest.proofs.RingHeads.one_is}
+use Rattle.vb_guest.{proofs.RingHeads.{times-remove, times-used}, specs.Ring.{RingStands, used_of}}
 
 pub ring_used : {m1 m2 : Pages} {q : ℕ} {ring : DriverEnd}
     {next_avail next_used : ℕ} {posted taken done : List ℕ} (i : ℕ) {h : ℕ} {after : DeviceEnd}
@@ -22,8 +20,7 @@ pub ring_used : {m1 m2 : Pages} {q : ℕ} {ring : DriverEnd}
     }) after h 0 → RingStands m2 q ring next_avail ((next_used + 1) % 65536) posted (remove taken i)
     (done ++ h ∷ [])
 ring_used {m1} {m2} {ring} {posted} {taken} {done} i {h} stands is adds =
-    let heads = stands.before ++ posted in
-    let elems = stands.gone ++ used_of done in
+    let heads = stands.before ++ posted in let elems = stands.gone ++ used_of done in
     let e : UsedElem = record { id = h; len = 0 } in
     let grown : elems ++ e ∷ [] ≡ stands.gone ++ used_of (done ++ h ∷ []) =
     search (arith, append_assoc, map_push) in

@@ -1,53 +1,52 @@
 -- What a device does for a guest that wrote past its driver.
 use Rattle.std.specs.Prelude.{◌≡◌, ℕ, ◌+◌, ◌<◌, ◌≤◌, ◌==◌, Bool, true, false, not, ◌&&◌, ◌||◌, List}
-use Rattle.std.specs.Prelude.{[], ◌∷◌, ◌++◌, length, All, Option, Some, None, Result, ◌%◌, ◌*◌, Ok}
-use Rattle.std.specs.Prelude.{Err, refl, if◌then◌else◌, remove, is_some, is_none, IsOk, bit_or}
+use Rattle.std.specs.Prelude.{[], ◌∷◌, ◌++◌, length, All, Option, Some, None, Result, ◌%◌, ◌*◌}
+use Rattle.std.specs.Prelude.{Ok, Err, refl, if◌then◌else◌, remove, is_some, is_none, IsOk, bit_or}
 use Rattle.std.proofs.lemmas.{Option.{get_or_from_slice_get, slice_get_within}, List.get_or_past}
-use Rattle.std.proofs.Common.{sym, ◌∙◌, ap, subst, arith, inl, inr}
 use Rattle.std.proofs.lemmas.{List.Elements.{All-push, All-nil}, Bool.{cases_eq, ne_eqb}}
+use Rattle.std.proofs.Common.{sym, ◌∙◌, ap, subst, arith, inl, inr}
 use Rattle.vb_model.specs.Tables.{is_not_ready, has_fault, has_chains, lacks_feature}
 use Rattle.vb_model.specs.Tables.{is_queue_of_requests, has_unvisited, take_causes, work_causes}
 use Rattle.vb_model.specs.{Tables.{sweep_causes, finish_causes, ask_causes}, Tests.{flagged, is_in}}
-use Rattle.vb_model.specs.declared.replies.Refusal.TheVariants.{NoQueue, NotReady, NeedsReset}
-use Rattle.vb_model.specs.declared.replies.Refusal.TheVariants.{Broken, Busy, NotTaken, NotWorked}
-use Rattle.vb_model.specs.declared.replies.Refusal.{TheVariants.{NoFeature, NotBallooned}, Refusal}
+use Rattle.vb_model.specs.declared.replies.Refusal.{Refusal, TheVariants.{NoQueue, NotReady}}
+use Rattle.vb_model.specs.declared.replies.Refusal.TheVariants.{NeedsReset, Broken, Busy, NotTaken}
+use Rattle.vb_model.specs.declared.replies.Refusal.TheVariants.{NotWorked, NoFeature, NotBallooned}
+use Rattle.vb_model.specs.declared.replies.Reply.{Reply, TheVariants.{Refused, Done}}
 use Rattle.vb_model.specs.declared.layout.TheConstants.{INFLATE_QUEUE, DEFLATE_QUEUE}
 use Rattle.vb_model.specs.declared.layout.TheConstants.{STATISTICS_QUEUE, REPORT_QUEUE}
-use Rattle.vb_model.specs.declared.calls.Call.{TheVariants.{Take, Work, Finish, Sweep, Ask}, Call}
-use Rattle.vb_model.{specs.declared.calls.Call.TheVariants.SetTarget, proofs.Shapes.start_reserved}
+use Rattle.vb_model.specs.declared.calls.Call.{Call, TheVariants.Take}
+use Rattle.vb_model.specs.declared.calls.Call.TheVariants.{Work, Finish, Sweep, Ask, SetTarget}
 use Rattle.vb_model.specs.{Guest.{Guest, is_ballooned, frame_of, must_tell_host}, Limits.page_size}
-use Rattle.vb_model.specs.{declared.replies.Reply.TheVariants.{Refused, Done}, Rogue.target_after}
-use Rattle.vb_model.specs.{Status.{contains, driver_ok, failed, needs_reset}, Requests.Request}
-use Rattle.vb_model.{proofs.Wanting.{wants, refused_otherwise}, specs.declared.replies.Reply.Reply}
-use Rattle.vb_model.specs.{Layout.{reserved_pages, ring_page}, FirstRefusal.{◌⇒◌, first_refusal}}
-use Rattle.vb_model.{proofs.Refusing.is_refused, specs.{Device.visiting, Step.bare_pages}}
-use Rattle.vb_model.specs.Orderly.{times}
+use Rattle.vb_model.specs.{Rogue.target_after, Status.{contains, driver_ok, failed, needs_reset}}
+use Rattle.vb_model.specs.{Requests.Request, Layout.{reserved_pages, ring_page}, FirstRefusal.◌⇒◌}
+use Rattle.vb_model.specs.{FirstRefusal.first_refusal, Device.visiting, Step.bare_pages}
+use Rattle.vb_model.{specs.Orderly.times, proofs.Shapes.start_reserved}
+use Rattle.vb_model.proofs.{Wanting.{wants, refused_otherwise}, Refusing.is_refused}
 use Rattle.vb_ram.specs.{Pages.{Pages, frame_at, page_at, number_of}, Part.{Part, QueuePart}}
-use Rattle.vb_chain.specs.declared.fault.ChainFault.TheVariants.{WrongDirection, BadLength}
-use Rattle.vb_chain.specs.Table.{descriptor_at}
+use Rattle.vb_chain.specs.declared.fault.ChainFault.TheVariants.{WrongDirection}
+use Rattle.vb_chain.specs.{declared.fault.ChainFault.TheVariants.BadLength, Table.descriptor_at}
 use Rattle.vb_request.proofs.RequestPages.{request_pages, once_distinct, once_all}
-use Rattle.vb_request.specs.{Request.{page_request, each_once}, Statistics.statistics_request}
 use Rattle.vb_request.proofs.{Once.is_in-each_once, Reports.report_pages, Chains.chain_fits}
-use Rattle.vb_request.specs.Report.{report_request}
-use Rattle.vb_device.specs.Calls.{TakesBy, TakeMeans, IsNextRequest, noting, WorksBy, Visits}
-use Rattle.vb_device.specs.Calls.{next_visit, FinishesBy, Uses, settled, without_frames}
-use Rattle.vb_device.specs.Calls.{lost_frames, SweepsBy, AsksBy, SameFrames}
-use Rattle.vb_device.specs.Conditions.{take_refusal, work_refusal, finish_refusal, sweep_refusal}
-use Rattle.vb_device.specs.Conditions.{ask_refusal, taken_at, negotiated}
+use Rattle.vb_request.specs.Request.{page_request, each_once}
+use Rattle.vb_request.specs.{Statistics.statistics_request, Report.report_request}
+use Rattle.vb_device.specs.Calls.{TakesBy, TakeMeans, IsNextRequest}
+use Rattle.vb_device.specs.Calls.{noting, WorksBy, Visits, next_visit, FinishesBy, Uses, settled}
+use Rattle.vb_device.specs.Calls.{without_frames, lost_frames, SweepsBy, AsksBy, SameFrames}
+use Rattle.vb_device.specs.Conditions.{take_refusal, work_refusal, finish_refusal}
+use Rattle.vb_device.specs.Conditions.{sweep_refusal, ask_refusal, taken_at, negotiated}
 use Rattle.vb_device.specs.{Discards.{discarded, frames_behind}, Queues.{queue_part, with_queue}}
-use Rattle.vb_device.specs.declared.worked.Worked.{Worked}
-use Rattle.vb_driver.specs.State.{DriverState}
+use Rattle.{vb_device.specs.declared.worked.Worked.Worked, vb_driver.specs.State.DriverState}
 use Rattle.vb_guest.proofs.Rogues.{DeviceSame, Keeps, driver_same, device_alike, rogue_alone}
-use Rattle.vb_guest.proofs.Rogues.{kept_of_rogue, rogue_after, rogue_stands, rogue_step, IsOther}
-use Rattle.vb_guest.proofs.Rogues.{keeps_part, up_kept, rogue_same, said, IsLeft, left_by}
-use Rattle.vb_guest.{proofs.{Rogues.no_refusal, Discarding.frames_freed}, specs.Replies.asked_reply}
+use Rattle.vb_guest.proofs.Rogues.{kept_of_rogue, rogue_after, rogue_stands, rogue_step}
+use Rattle.vb_guest.proofs.Rogues.{IsOther, keeps_part, up_kept, rogue_same, said, IsLeft, left_by}
+use Rattle.vb_guest.proofs.{Rogues.no_refusal, Discarding.frames_freed}
 use Rattle.vb_guest.proofs.Discarding.{with_entry, length-with_entry, with_entry-get, with_none-get}
-use Rattle.vb_guest.specs.Replies.{taken_reply, worked_reply, finished_reply, swept_reply}
 use Rattle.vb_guest.proofs.Handing.{handed_back, loose_none, not_among, behind_same}
 use Rattle.vb_guest.proofs.{PagesKept.{number_if, page_discarded, length-discarded}, Kept.there_is}
 use Rattle.vb_guest.proofs.{RogueDriver.{left_same, unchanged_alone}, WorkStep.next_own}
-use Rattle.vb_guest.{proofs.Heads.{all_remove, all-visiting}, specs.Stands.{IsOwnRequest, Rogue}}
-use Rattle.vb_guest.specs.Steps.{StepsAlone, StepsFreeing}
+use Rattle.vb_guest.{proofs.Heads.{all_remove, all-visiting}, specs.Replies.asked_reply}
+use Rattle.vb_guest.specs.Replies.{taken_reply, worked_reply, finished_reply, swept_reply}
+use Rattle.vb_guest.specs.{Stands.{IsOwnRequest, Rogue}, Steps.{StepsAlone, StepsFreeing}}
 
 -- ---- a queue of the device changes
 
@@ -68,16 +67,15 @@ pub with_own : {size : ℕ} {n : ℕ} (q : ℕ) (x : QueuePart) {p : Part}
     → (All (IsOwnRequest size n) (queue_part q p).taken → All (IsOwnRequest size n) x.taken)
     → AreOwn size n p → AreOwn size n (with_queue q x p)
 with_own {size} {n} q x {p} keeps own =
-    by (q == INFLATE_QUEUE) (q == DEFLATE_QUEUE) (q == STATISTICS_QUEUE) keeps
-  where
-    by : (a b c : Bool) → (All (IsOwnRequest size n) (if a then p.inflate else (if b then p.deflate
-        else (if c then p.statistics else p.report))).taken → All (IsOwnRequest size n) x.taken)
-        → AreOwn size n (if a then record p { inflate = x } else (if b then record p { deflate = x }
-        else (if c then record p { statistics = x } else record p { report = x })))
-    by true b c f = record { inflates = f own.inflates; reports = own.reports }
-    by false true c f = record { inflates = own.inflates; reports = own.reports }
-    by false false true f = record { inflates = own.inflates; reports = own.reports }
-    by false false false f = record { inflates = own.inflates; reports = f own.reports }
+    by (q == INFLATE_QUEUE) (q == DEFLATE_QUEUE) (q == STATISTICS_QUEUE) keeps where
+      by : (a b c : Bool) → (All (IsOwnRequest size n) (if a then p.inflate else (if b then p.deflate
+          else (if c then p.statistics else p.report))).taken → All (IsOwnRequest size n) x.taken)
+          → AreOwn size n (if a then record p { inflate = x } else (if b then record p { deflate = x }
+          else (if c then record p { statistics = x } else record p { report = x })))
+      by true b c f = record { inflates = f own.inflates; reports = own.reports }
+      by false true c f = record { inflates = own.inflates; reports = own.reports }
+      by false false true f = record { inflates = own.inflates; reports = own.reports }
+      by false false false f = record { inflates = own.inflates; reports = f own.reports }
 
 -- ---- take
 
@@ -92,22 +90,21 @@ request_own : {q : ℕ} {mem : Pages} {part : Part} {h : ℕ} {pages : List ℕ}
     → IsNextRequest q mem part h pages
     → IsOwnRequest part.queue_size (length mem) (record { head = h; pages = pages; visited = 0 })
 request_own {q} {mem} {part} {h} {pages} next = by
-    (q == STATISTICS_QUEUE) (q == REPORT_QUEUE) next.request
-  where
-    reserved : ℕ
-    reserved = reserved_pages part.queue_size
+    (q == STATISTICS_QUEUE) (q == REPORT_QUEUE) next.request where
+      reserved : ℕ
+      reserved = reserved_pages part.queue_size
 
-    by : (a b : Bool) → (if a then statistics_request next.pieces else (if b then report_request
-        next.pieces reserved else page_request mem next.pieces reserved)) ≡ Ok pages → IsOwnRequest
-        part.queue_size (length mem) (record { head = h; pages = pages; visited = 0 })
-    by true b e = search (arith, statistics_pages)
-    by false true e =
-        let fits = chain_fits (descriptor_at mem (ring_page part.queue_size q)) part.queue_size
-        (page_size * length mem) h next.pieces next.chain in
-        let own = report_pages (length mem) next.pieces reserved pages fits e in
-        record { above = own.0; below = own.1 }
-    by false false e = let own = request_pages mem next.pieces reserved pages e in
-        record { above = own.above; below = own.below }
+      by : (a b : Bool) → (if a then statistics_request next.pieces else (if b then report_request
+          next.pieces reserved else page_request mem next.pieces reserved)) ≡ Ok pages → IsOwnRequest
+          part.queue_size (length mem) (record { head = h; pages = pages; visited = 0 })
+      by true b e = search (arith, statistics_pages)
+      by false true e =
+          let fits = chain_fits (descriptor_at mem (ring_page part.queue_size q)) part.queue_size
+          (page_size * length mem) h next.pieces next.chain in
+          let own = report_pages (length mem) next.pieces reserved pages fits e in
+          record { above = own.0; below = own.1 }
+      by false false e = let own = request_pages mem next.pieces reserved pages e in
+          record { above = own.above; below = own.below }
 
 takes_up : (a : Bool) {b : Bool} (c d f : Bool) → first_refusal ((a ⇒ NoQueue)
     ∷ (b ⇒ NotReady) ∷ (c ⇒ NeedsReset) ∷ (d ⇒ NoQueue) ∷ (f ⇒ Busy) ∷ []) ≡ None → b ≡ false
@@ -122,62 +119,58 @@ pub take_rogue : {m1 m2 : Pages} {p1 p2 : Part} {d : DriverState}
     {g : Guest} {q : ℕ} {result : Result (Option ℕ) Refusal} → TakesBy q m1 m2 p1 p2 result
     → Rogue m1 p1 d g → StepsAlone (Rogue m2 p2 d) g (Take q) (taken_reply result)
 take_rogue {m1} {p1} {p2} {d} {g} {q} {result} did rogue = subst (λ (m : Pages). StepsAlone
-    (Rogue m p2 d) g (Take q) (taken_reply result)) (sym did.memory) (by result did.means)
-  where
-    ready : take_refusal q p1 ≡ None → contains p1.status driver_ok ≡ true
-    ready e = ok_of (contains p1.status driver_ok) (contains p1.status failed)
-        (takes_up (not (has_chains q)) (has_fault p1.status) (lacks_feature p1.features q) _ e)
+    (Rogue m p2 d) g (Take q) (taken_reply result)) (sym did.memory) (by result did.means) where
+      ready : take_refusal q p1 ≡ None → contains p1.status driver_ok ≡ true
+      ready e = ok_of (contains p1.status driver_ok) (contains p1.status failed)
+          (takes_up (not (has_chains q)) (has_fault p1.status) (lacks_feature p1.features q) _ e)
 
-    by : (r : Result (Option ℕ) Refusal) → TakeMeans q m1 p1 p2 r
-        → StepsAlone (Rogue m1 p2 d) g (Take q) (taken_reply r)
-    by (Ok None) means = rogue_alone rogue (keeps_part (driver_same refl) means.1 refl
-        (λ page. refl)) refl (λ page. refl) (ap (λ (p : Part). p.target) means.1) refl
-        (λ page offset bytes e. cc) refl (λ why e. no_refusal why refl e)
-    by (Ok (Some h)) means = let pages = means.1.0 in
-        let next = means.1.1 in
-        let part = means.1.2 in
-        let noted : Part = noting q m1 next.pieces p1 in
-        let x : QueuePart = record (queue_part q noted) {
-          next_avail = ((queue_part q noted).next_avail + 1) % 65536;
-          taken = (queue_part q noted).taken
-              ++ (record { head = h; pages = pages; visited = 0 } ∷ []);
-        } in
-        let same = with_same q x noted in
-        let state = with_state q x noted in
-        rogue_alone rogue (record {
-          driver = driver_same refl;
-          device = subst (DeviceSame g.config.queue_size p1) (sym part) (record {
-            sized = same.sized;
-            paced = same.paced;
-            loose = same.loose;
-            flagged = same.flagged;
-            unreserved = same.unreserved;
-          });
-          up = λ was ok.
-              let up = was (ap (λ (s : ℕ). contains s driver_ok)
-              (sym (ap (λ (p : Part). p.status) part ∙ state.0)) ∙ ok) in
-              let size = g.config.queue_size in
-              let r : Request = record { head = h; pages = pages; visited = 0 } in
-              let own = subst (AreOwn size (length m1)) (sym part) (with_own q x
-              (λ all. All-push (IsOwnRequest size (length m1)) (queue_part q noted).taken r all
-              (subst (λ (k : ℕ). IsOwnRequest k (length m1) r) rogue.size (request_own next)))
-              (record { inflates = up.inflates; reports = up.reports })) in
-              record { backed = up.backed; inflates = own.inflates; reports = own.reports };
-        }) refl (λ page. refl) (ap (λ (p : Part). p.target) part ∙ state.1) refl
-        (λ page offset bytes e. cc) refl (λ why e. no_refusal why refl e)
-    by (Err (Broken rule)) means = let part = means.1 in
-        rogue_alone rogue (record {
-          driver = driver_same refl;
-          device = device_alike (ap kept_of_rogue part);
-          up = λ was ok. up_kept refl (λ page low. refl) (ap (λ (p : Part). p.inflate.taken) part)
-              (ap (λ (p : Part). p.report.taken) part) (was (ready means.0));
-        }) refl (λ page. refl) (ap (λ (p : Part). p.target) part) refl (λ page offset bytes e. cc)
-        refl (left_by (Take q) (Broken rule) [] g (rogue_same p2 d g.frames rogue refl refl
-        (ap said part) ∙ ap (λ (n : ℕ). record g { status = n })
-        (ap (λ (p : Part). p.status) part ∙ ap (λ (n : ℕ). bit_or n needs_reset) rogue.status)))
-    by (Err why) means = unchanged_alone (take_causes q (negotiated p1) (length
-        (queue_part q p1).taken)) (record { mem = refl; part = means.1; driver = refl }) refl
-        (sym means.0) refl refl refl refl (λ page offset bytes e. cc) rogue
+      by : (r : Result (Option ℕ) Refusal) → TakeMeans q m1 p1 p2 r
+          → StepsAlone (Rogue m1 p2 d) g (Take q) (taken_reply r)
+      by (Ok None) means = rogue_alone rogue (keeps_part (driver_same refl) means.1 refl
+          (λ page. refl)) refl (λ page. refl) (ap (λ (p : Part). p.target) means.1) refl
+          (λ page offset bytes e. cc) refl (λ why e. no_refusal why refl e)
+      by (Ok (Some h)) means = let pages = means.1.0 in let next = means.1.1 in
+          let part = means.1.2 in let noted : Part = noting q m1 next.pieces p1 in
+          let x : QueuePart = record (queue_part q noted) {
+            next_avail = ((queue_part q noted).next_avail + 1) % 65536;
+            taken = (queue_part q noted).taken
+                ++ (record { head = h; pages = pages; visited = 0 } ∷ []);
+          } in
+          let same = with_same q x noted in let state = with_state q x noted in
+          rogue_alone rogue (record {
+            driver = driver_same refl;
+            device = subst (DeviceSame g.config.queue_size p1) (sym part) (record {
+              sized = same.sized;
+              paced = same.paced;
+              loose = same.loose;
+              flagged = same.flagged;
+              unreserved = same.unreserved;
+            });
+            up = λ was ok.
+                let up = was (ap (λ (s : ℕ). contains s driver_ok)
+                (sym (ap (λ (p : Part). p.status) part ∙ state.0)) ∙ ok) in
+                let size = g.config.queue_size in
+                let r : Request = record { head = h; pages = pages; visited = 0 } in
+                let own = subst (AreOwn size (length m1)) (sym part) (with_own q x
+                (λ all. All-push (IsOwnRequest size (length m1)) (queue_part q noted).taken r all
+                (subst (λ (k : ℕ). IsOwnRequest k (length m1) r) rogue.size (request_own next)))
+                (record { inflates = up.inflates; reports = up.reports })) in
+                record { backed = up.backed; inflates = own.inflates; reports = own.reports };
+          }) refl (λ page. refl) (ap (λ (p : Part). p.target) part ∙ state.1) refl
+          (λ page offset bytes e. cc) refl (λ why e. no_refusal why refl e)
+      by (Err (Broken rule)) means = let part = means.1 in
+          rogue_alone rogue (record {
+            driver = driver_same refl;
+            device = device_alike (ap kept_of_rogue part);
+            up = λ was ok. up_kept refl (λ page low. refl) (ap (λ (p : Part). p.inflate.taken) part)
+                (ap (λ (p : Part). p.report.taken) part) (was (ready means.0));
+          }) refl (λ page. refl) (ap (λ (p : Part). p.target) part) refl (λ page offset bytes e. cc)
+          refl (left_by (Take q) (Broken rule) [] g (rogue_same p2 d g.frames rogue refl refl
+          (ap said part) ∙ ap (λ (n : ℕ). record g { status = n })
+          (ap (λ (p : Part). p.status) part ∙ ap (λ (n : ℕ). bit_or n needs_reset) rogue.status)))
+      by (Err why) means = unchanged_alone (take_causes q (negotiated p1) (length
+          (queue_part q p1).taken)) (record { mem = refl; part = means.1; driver = refl }) refl
+          (sym means.0) refl refl refl refl (λ page offset bytes e. cc) rogue
 
 -- ---- pages lose their frames
 
@@ -239,8 +232,7 @@ pub rogue_freed : {m1 m2 : Pages} {p1 : Part} (p2 : Part) {d : DriverState} {g :
     → Rogue m1 p1 d g → StepsFreeing (Rogue m2 (handed_back p2) d) p2.loose g call reply
 rogue_freed {m1} {m2} {p1}
     p2 {d} {g} {call} {reply} {r} own changes ok count same loose still answer other none rogue =
-    let once = each_once r.pages in
-    let frames = with_entry once None g.frames in
+    let once = each_once r.pages in let frames = with_entry once None g.frames in
     let at : (page : ℕ) → frame_at (discarded r.pages m1) page
     ≡ (if is_in page r.pages then None else frame_at m1 page) = λ page. ap number_of
     (page_discarded r.pages m1 page) ∙ number_if (is_in page r.pages) (page_at m1 page) in

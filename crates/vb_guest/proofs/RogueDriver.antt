@@ -1,39 +1,36 @@
 -- What a driver does for a guest that wrote past it.
+use Rattle.std.proofs.{Common.{sym, ◌∙◌, ap, subst}, lemmas.List.{length-map, length-replicate}}
 use Rattle.std.specs.Prelude.{◌≡◌, ℕ, ◌==◌, Bool, true, false, not, ◌&&◌, List, [], ◌∷◌, length}
 use Rattle.std.specs.Prelude.{Option, Some, None, Result, Ok, Err, refl, if◌then◌else◌, bit_or}
-use Rattle.std.{specs.List.list_all, proofs.Common.{sym, ◌∙◌, ap, subst}}
-use Rattle.std.proofs.lemmas.List.{length-map, length-replicate}
-use Rattle.vb_model.specs.declared.calls.Call.TheVariants.{Alloc, Free, Inflate, Deflate, Oom}
+use Rattle.{std.specs.List.list_all, vb_model.proofs.Wanting.{wants, none_wants, refused_otherwise}}
+use Rattle.vb_model.{proofs.{Wanting.refused_passes, GuestSteps.length-reaped}, specs.Guest.Guest}
+use Rattle.vb_model.specs.{Guest.{is_ballooned, stats_vq}, Pages.placed, Life.place_after_reset}
+use Rattle.vb_model.specs.declared.calls.Call.{Call, TheVariants.{Alloc, Free, Inflate}}
+use Rattle.vb_model.specs.declared.calls.Call.TheVariants.{Deflate, Oom, Report, Stats, Reap, Reset}
+use Rattle.vb_model.specs.declared.{places.Place.Place, layout.TheConstants.INFLATE_QUEUE}
+use Rattle.vb_model.specs.declared.{layout.TheConstants.DEFLATE_QUEUE, replies.Reply.Reply}
+use Rattle.vb_model.specs.declared.replies.{Reply.TheVariants.{Refused, Done}, Refusal.Refusal}
 use Rattle.vb_model.specs.declared.replies.Refusal.TheVariants.{NoQueue, NotReady, NoFeature}
-use Rattle.vb_model.specs.declared.calls.Call.TheVariants.{Report, Stats, Reap, Reset}
 use Rattle.vb_model.specs.declared.replies.Refusal.TheVariants.{RingBroken, Nothing, Broken}
-use Rattle.vb_model.{specs.declared.calls.Call.Call, specs.declared.places.Place.Place}
-use Rattle.vb_model.specs.declared.layout.TheConstants.{INFLATE_QUEUE, DEFLATE_QUEUE}
-use Rattle.vb_model.{specs.declared.replies.Refusal.Refusal, specs.declared.replies.Reply.Reply}
-use Rattle.vb_model.{specs.declared.replies.Reply.TheVariants.{Refused, Done}, specs.Pages.placed}
-use Rattle.vb_model.{specs.FirstRefusal.{Cause, ◌⇒◌, first_refusal}, specs.Life.place_after_reset}
-use Rattle.vb_model.{specs.Guest.{Guest, is_ballooned, stats_vq}, proofs.GuestSteps.length-reaped}
-use Rattle.vb_model.{specs.Rogue.{target_after, after_refused, with_fault}, specs.Step.bare_pages}
-use Rattle.vb_model.specs.Status.{contains, driver_ok, failed, is_broken}
-use Rattle.vb_model.specs.Tables.{is_queue_of_requests, lacks_feature}
-use Rattle.vb_model.proofs.Wanting.{wants, none_wants, refused_otherwise, refused_passes}
+use Rattle.vb_model.specs.{Status.{contains, driver_ok, failed, is_broken}, Step.bare_pages}
+use Rattle.vb_model.specs.{FirstRefusal.{Cause, ◌⇒◌, first_refusal}, Tables.is_queue_of_requests}
+use Rattle.vb_model.specs.{Tables.lacks_feature, Rogue.{target_after, after_refused, with_fault}}
 use Rattle.vb_model.specs.Requests.{Inflating, Deflating, Reporting_free, places_reaped}
-use Rattle.vb_ram.{specs.Pages.{Pages, frame_at}, specs.Part.Part}
-use Rattle.vb_ring.specs.Ends.{after_take}
-use Rattle.vb_driver.specs.Answers.{alloc_causes, free_causes, inflate_causes, deflate_causes}
-use Rattle.vb_driver.specs.Answers.{oom_causes, report_causes, reap_causes, stats_causes}
+use Rattle.{vb_ram.specs.{Part.Part, Pages.{Pages, frame_at}}, vb_ring.specs.Ends.after_take}
 use Rattle.vb_driver.specs.Calls.{AllocatesBy, FreesBy, InflatesBy, DeflatesBy, DeflatesOnOomBy}
 use Rattle.vb_driver.specs.Calls.{ReportsBy, FillsBy, ReapsBy, ResetsBy, Unchanged, AsksBack}
 use Rattle.vb_driver.specs.Calls.{after_refusal, after_reap, unreported, without_request, moved_on}
-use Rattle.vb_driver.{specs.Answers.is_ring_broken, specs.Calls.{with_actual, ring_of}}
-use Rattle.vb_driver.{specs.State.{DriverState, tells_host}, specs.declared.answers.Posted.Posted}
-use Rattle.vb_driver.{specs.declared.answers.Reaped.Reaped, proofs.Placing.length-marked}
+use Rattle.vb_driver.specs.{Calls.{with_actual, ring_of}, Answers.{alloc_causes, free_causes}}
+use Rattle.vb_driver.specs.Answers.{inflate_causes, deflate_causes, oom_causes, report_causes}
+use Rattle.vb_driver.specs.{Answers.{reap_causes, stats_causes, is_ring_broken}, State.DriverState}
+use Rattle.vb_driver.specs.{State.tells_host, declared.answers.{Posted.Posted, Reaped.Reaped}}
+use Rattle.{vb_driver.proofs.Placing.length-marked, vb_guest.proofs.Fresh.everywhere}
 use Rattle.vb_guest.proofs.Rogues.{shape_of, shaped, DriverSame, Keeps, driver_same, rogue_alone}
 use Rattle.vb_guest.proofs.Rogues.{IsOther, keeps_part, up_kept, device_alike, kept_of_rogue}
 use Rattle.vb_guest.proofs.Rogues.{rogue_after, rogue_same, rogue_unchanged, IsLeft, left_by}
 use Rattle.vb_guest.proofs.Rogues.{no_refusal, keeps_status, is_of_driver, without_fault, said}
-use Rattle.vb_guest.{specs.Stands.Rogue, specs.Steps.StepsAlone, proofs.Fresh.everywhere}
-use Rattle.vb_guest.specs.Replies.{page_reply, done_reply, posted_reply, reaped_reply, filled_reply}
+use Rattle.vb_guest.specs.{Stands.Rogue, Replies.{page_reply, done_reply}}
+use Rattle.vb_guest.specs.{Replies.{posted_reply, reaped_reply, filled_reply}, Steps.StepsAlone}
 
 -- the refusal is one of these tests, none of which is for want of frames or of memory
 not_for_want : (why : Refusal) (causes : List Cause) → Some why ≡ first_refusal causes
@@ -244,15 +241,14 @@ reaped_same : (q head : ℕ) (pages : List ℕ) {d1 d2 : DriverState}
     → d2 ≡ with_actual (without_request q head (moved_on q pages d1)) → DriverSame d1 d2
 reaped_same q head pages {d1} is = let first = without_same q head (moved_on q pages d1) in
     same_driver
-    (assumption (first.table ∙ length_after (q == INFLATE_QUEUE) (q == DEFLATE_QUEUE))) is
-  where
-    length_after : (a b : Bool)
-        → length (if a then places_reaped (tells_host d1) Inflating pages d1.places
-        else (if b then places_reaped (tells_host d1) Deflating pages d1.places
-        else places_reaped (tells_host d1) Reporting_free pages d1.places)) ≡ length d1.places
-    length_after true b = length-reaped (tells_host d1) Inflating pages d1.places
-    length_after false true = length-reaped (tells_host d1) Deflating pages d1.places
-    length_after false false = length-reaped (tells_host d1) Reporting_free pages d1.places
+    (assumption (first.table ∙ length_after (q == INFLATE_QUEUE) (q == DEFLATE_QUEUE))) is where
+      length_after : (a b : Bool)
+          → length (if a then places_reaped (tells_host d1) Inflating pages d1.places
+          else (if b then places_reaped (tells_host d1) Deflating pages d1.places
+          else places_reaped (tells_host d1) Reporting_free pages d1.places)) ≡ length d1.places
+      length_after true b = length-reaped (tells_host d1) Inflating pages d1.places
+      length_after false true = length-reaped (tells_host d1) Deflating pages d1.places
+      length_after false false = length-reaped (tells_host d1) Reporting_free pages d1.places
 
 pub reap_rogue : {m1 m2 : Pages} {p1 p2 : Part} {d1 d2 : DriverState} {g : Guest}
     {q : ℕ} (result : Result (Option Reaped) Refusal) → ReapsBy m1 m2 p1 p2 d1 d2 q result

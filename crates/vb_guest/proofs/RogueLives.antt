@@ -1,32 +1,31 @@
 -- A guest that wrote past its driver is initialised; an honest guest becomes one.
-use Rattle.std.specs.Prelude.{◌≡◌, ℕ, ◌-◌, ◌<◌, Bool, true, false, List, [], length, Option, Some}
-use Rattle.std.specs.Prelude.{Result, Ok, Err, IsSome, MatchOption, refl, ◌≤◌, ◌≢◌, not, ◌==◌, ◌∷◌}
-use Rattle.std.{specs.Prelude.None, proofs.lemmas.Bool.ne_eqb, proofs.lemmas.List.length-replicate}
-use Rattle.std.{proofs.Common.{sym, ◌∙◌, ap, subst, arith}, proofs.lemmas.List.Elements.All-nil}
+use Rattle.std.specs.Prelude.{◌≡◌, ℕ, ◌-◌, ◌<◌, Bool, true, false, List, [], length, Option}
+use Rattle.std.specs.Prelude.{Some, Result, Ok, Err, IsSome, MatchOption, refl, ◌≤◌, ◌≢◌, not}
+use Rattle.std.{specs.Prelude.{◌==◌, ◌∷◌, None}, proofs.lemmas.{Bool.ne_eqb, List.length-replicate}}
+use Rattle.std.proofs.{lemmas.List.Elements.All-nil, Common.{sym, ◌∙◌, ap, subst, arith}}
 use Rattle.vb_model.proofs.{Shapes.reserved_most, Wanting.{wants, no_want, refused_otherwise}}
 use Rattle.vb_model.specs.Driver.{AllDistinct, given, AreClaimsFor, claim_refusal}
 use Rattle.vb_model.specs.{FirstRefusal.{◌⇒◌, first_refusal}, Guest.{Guest, all_backed, stats_vq}}
-use Rattle.vb_model.specs.{Layout.{reserved_pages, is_start_page}, Life.{lacking, feature_causes}}
-use Rattle.vb_model.specs.Life.{feature_refusal, accepted_before}
+use Rattle.vb_model.specs.Layout.{reserved_pages, is_start_page}
+use Rattle.vb_model.specs.Life.{lacking, feature_causes, feature_refusal, accepted_before}
 use Rattle.vb_model.specs.{Refusals.refusal_of, Rogue.{LosesFrames, pages_to_back, unless_refused}}
 use Rattle.vb_model.specs.{Rogue.after_refused, Tests.is_in, declared.calls.Call.TheVariants.Init}
 use Rattle.vb_model.specs.declared.{calls.Claim.Claim, replies.LastStatistics.LastStatistics}
 use Rattle.vb_model.specs.declared.replies.Refusal.{Refusal, TheVariants.{AlreadyUp, NoFrame}}
 use Rattle.vb_model.specs.declared.replies.{Refusal.TheVariants.NoMemory, Reply.TheVariants.Refused}
-use Rattle.vb_ram.{specs.Pages.{Pages, frame_at}, specs.Part.Part, proofs.Limits.config_limits}
-use Rattle.vb_status.specs.After.{part_after_reset}
-use Rattle.vb_driver.{specs.State.DriverState, specs.Calls.{InitsBy, Starts, FirstBuffer, GivesUp}}
-use Rattle.vb_guest.proofs.Rogues.{shape_of, shaped, Keeps, DeviceSame, driver_same, rogue_after}
-use Rattle.vb_guest.proofs.Supplying.{all_distinct, bounded, frames_given, frames_filled}
-use Rattle.vb_guest.proofs.Rogues.{rogue_stands, rogue_steps, device_alike, kept_of_rogue}
-use Rattle.vb_guest.{proofs.Supplying.supplied_count, specs.Replies.ready_reply, specs.Stands.Rogue}
-use Rattle.vb_guest.specs.Lives.{is_bare, bare_from, AllSupplied, why_unsupplied, SuppliesBy}
-use Rattle.vb_guest.{proofs.Fresh.everywhere, specs.Steps.{backing_count, StepsAlone, StepsOver}}
-use Rattle.vb_guest.{proofs.Moving.moves_as, specs.Supply.{Supply, supply_of, Moves}}
-use Rattle.vb_guest.proofs.Writing.{HasFrames}
-use Rattle.vb_guest.proofs.InitStep.{bare_is, now_backed, has_all, driver_causes}
+use Rattle.vb_ram.specs.{Pages.{Pages, frame_at}, Part.Part}
+use Rattle.{vb_ram.proofs.Limits.config_limits, vb_status.specs.After.part_after_reset}
 use Rattle.vb_frames.specs.declared.keeper.Refused.{Refused as WhyRefused}
-use Rattle.vb_guest.proofs.InitStep.{given_up as stopped}
+use Rattle.vb_driver.specs.{State.DriverState, Calls.{InitsBy, Starts, FirstBuffer, GivesUp}}
+use Rattle.vb_guest.proofs.Rogues.{shape_of, shaped, Keeps, DeviceSame, driver_same}
+use Rattle.vb_guest.proofs.Rogues.{rogue_after, rogue_stands, rogue_steps, device_alike}
+use Rattle.vb_guest.proofs.{Rogues.kept_of_rogue, Supplying.all_distinct}
+use Rattle.vb_guest.proofs.Supplying.{bounded, frames_given, frames_filled, supplied_count}
+use Rattle.vb_guest.proofs.{Fresh.everywhere, Moving.moves_as, Writing.HasFrames, InitStep.bare_is}
+use Rattle.vb_guest.proofs.InitStep.{now_backed, has_all, driver_causes, given_up as stopped}
+use Rattle.vb_guest.specs.{Replies.ready_reply, Stands.Rogue, Lives.{is_bare, bare_from}}
+use Rattle.vb_guest.specs.{Lives.{AllSupplied, why_unsupplied, SuppliesBy}, Steps.backing_count}
+use Rattle.vb_guest.specs.{Steps.{StepsAlone, StepsOver}, Supply.{Supply, supply_of, Moves}}
 
 pub init_up_rogue : {m : Pages} {p : Part} {d : DriverState} {g : Guest} {wanted : ℕ}
     → p.status ≢ 0 → Rogue m p d g → StepsAlone (Rogue m p d) g (Init wanted) (Refused AlreadyUp)
@@ -148,9 +147,7 @@ pub init_supplied_rogue : {Answers : List Bool → Claim → Type 0}
     (supply_of p1 out1) (supply_of p3 out2) l g (Init wanted) (ready_reply result)
 init_supplied_rogue {Answers} out1 out2 {l} {m1}
     {m2} {m3} {p1} {p2} {p3} {d1} {d2} {g} {wanted} {result} named status did part inits rogue =
-    let n = g.config.pages in
-    let pages = lacking g in
-    let claims = did.claims in
+    let n = g.config.pages in let pages = lacking g in let claims = did.claims in
     let size = d1.queue_size in
     let bare : bare_from size m1 0 ≡ lacking g = bare_is m1 g rogue.queue_size rogue.behind in
     let made : AreClaimsFor pages claims =

@@ -1,36 +1,35 @@
 -- Bytes of a guest's pages that are written past its driver, and those that a rogue guest writes.
-use Rattle.std.specs.Prelude.{◌≡◌, ◌≢◌, ℕ, ◌<◌, Bool, true, false, List, [], ◌∷◌, length, Option}
-use Rattle.std.specs.Prelude.{Some, None, All, is_some, ◌≤◌, refl, Err}
+use Rattle.std.specs.Prelude.{◌≡◌, ◌≢◌, ℕ, ◌<◌, Bool, true, false, List}
+use Rattle.std.specs.Prelude.{[], ◌∷◌, length, Option, Some, None, All, is_some, ◌≤◌, refl, Err}
 use Rattle.std.proofs.{Common.{sym, ◌∙◌, ap, subst, arith, inl, inr}, lemmas.Bool.cases_eq}
 use Rattle.vb_model.specs.Rogue.{LosesFrames, pages_to_back, unless_refused, with_fault, GuestStep}
 use Rattle.vb_model.specs.Driver.{given, claim_refusal, AreClaimsFor, pages_needed}
 use Rattle.vb_model.specs.Guest.{Guest, frame_of, backed, all_backed, is_ballooned}
-use Rattle.vb_model.specs.declared.replies.{Refusal.TheVariants.{OutOfRam, NotHeld}, Reply.Reply}
-use Rattle.vb_model.specs.declared.calls.{Call.TheVariants.{Read, Write, Scribble}, Claim.Claim}
+use Rattle.vb_model.specs.declared.replies.Refusal.{Refusal, TheVariants.{OutOfRam, NotHeld}}
+use Rattle.vb_model.specs.declared.replies.{Refusal.TheVariants.NoFrame as NoFrameLeft, Reply.Reply}
+use Rattle.vb_model.specs.declared.replies.Reply.TheVariants.{Done, Refused}
+use Rattle.vb_model.specs.declared.calls.Call.TheVariants.{Read, Write, Scribble}
+use Rattle.vb_model.specs.declared.calls.Claim.{Claim, TheVariants.Gave}
+use Rattle.vb_model.specs.{FirstRefusal.{◌⇒◌, first_refusal}, Refusals.refusal_of}
+use Rattle.vb_model.specs.{Refusals.is_outside, Status.{contains, driver_ok}, Pages.place_of}
+use Rattle.vb_model.specs.{Pages.is_used, Layout.reserved_pages, Requests.Request, Step.HonestStep}
 use Rattle.vb_model.proofs.Wanting.{wants, not_refused_pages, refused_backs}
-use Rattle.vb_model.specs.declared.replies.{Reply.TheVariants.{Done, Refused}, Refusal.Refusal}
-use Rattle.vb_model.specs.{declared.calls.Claim.TheVariants.Gave, FirstRefusal.{◌⇒◌, first_refusal}}
-use Rattle.vb_model.specs.{Refusals.{refusal_of, is_outside}, Status.{contains, driver_ok}}
-use Rattle.vb_model.specs.{Pages.{place_of, is_used}, Layout.reserved_pages, Requests.Request}
-use Rattle.vb_model.specs.Step.{HonestStep}
-use Rattle.vb_ram.specs.{Pages.{Pages, frame_at, number_of, Covers, Wrote, Supplied}, Part.Part}
-use Rattle.vb_frames.specs.{declared.keeper.Refused.TheVariants.{NoFrame, Memory}, Out.claim_in}
-use Rattle.vb_driver.specs.State.{DriverState}
-use Rattle.vb_guest.proofs.Rogues.{driver_same, device_alike, keeps_part, rogue_after}
-use Rattle.vb_guest.proofs.Rogues.{kept_of_rogue, rogue_unchanged, left_by, no_refusal}
-use Rattle.vb_guest.proofs.Rogues.{keeps_status, without_fault, rogue_stands, rogue_alone}
-use Rattle.vb_guest.proofs.Rogues.{rogue_steps, rogue_unclaimed, nothing_backed}
+use Rattle.vb_ram.specs.{Pages.{Pages, frame_at, Covers, Wrote, Supplied}, Part.Part}
+use Rattle.vb_frames.specs.declared.keeper.Refused.{Refused as KeeperRefused, TheVariants.NoFrame}
+use Rattle.vb_frames.specs.{declared.keeper.Refused.TheVariants.Memory, Out.claim_in}
+use Rattle.{vb_driver.specs.State.DriverState, vb_guest.proofs.Rogues.{driver_same, device_alike}}
+use Rattle.vb_guest.proofs.Rogues.{keeps_part, rogue_after, kept_of_rogue, rogue_unchanged}
+use Rattle.vb_guest.proofs.Rogues.{left_by, no_refusal, keeps_status, without_fault, rogue_stands}
+use Rattle.vb_guest.proofs.Rogues.{rogue_alone, rogue_steps, rogue_unclaimed, nothing_backed}
 use Rattle.vb_guest.proofs.Standing.{by_guest, rogue_is, stands_with, stands_of, own_moved}
 use Rattle.vb_guest.proofs.{Standing.{alone_stands, over_stands}, SweepStep.ballooned_free}
 use Rattle.vb_guest.proofs.WriteStep.{inside_is, outside_is, needs_one, refusal_of_claim}
-use Rattle.vb_guest.specs.Supply.{supply_of, AreClaimed, IsClaimed, Moves, nothing}
-use Rattle.vb_guest.specs.Stands.{Honest, IsOwnRequest, IsRogueUp, Rogue, Stands}
-use Rattle.vb_guest.proofs.{Closing.{guest_step, refused_alone, honest_own}, Freed.down_not_ok}
-use Rattle.vb_guest.{specs.Steps.{backing_count, StepsAlone, StepsOver}, proofs.OwnBlocks.own_pages}
-use Rattle.vb_guest.proofs.{Writing.{frames_supplied, count_backed}, Moving.{moves_as, times_one}}
-use Rattle.vb_guest.proofs.{Offered.high_page, Kept.as_it_was}
-use Rattle.vb_model.specs.declared.replies.Refusal.TheVariants.{NoFrame as NoFrameLeft}
-use Rattle.vb_frames.specs.declared.keeper.Refused.{Refused as KeeperRefused}
+use Rattle.vb_guest.proofs.Closing.{guest_step, refused_alone, honest_own}
+use Rattle.vb_guest.proofs.{Freed.down_not_ok, OwnBlocks.own_pages, Writing.frames_supplied}
+use Rattle.vb_guest.proofs.{Writing.count_backed, Moving.{moves_as, times_one}, Offered.high_page}
+use Rattle.vb_guest.{proofs.Kept.as_it_was, specs.Supply.{supply_of, AreClaimed, IsClaimed, Moves}}
+use Rattle.vb_guest.specs.{Supply.nothing, Stands.{Honest, IsOwnRequest, IsRogueUp, Rogue, Stands}}
+use Rattle.vb_guest.specs.Steps.{backing_count, StepsAlone, StepsOver}
 
 -- ---- any guest as a rogue one
 
@@ -41,8 +40,7 @@ up_honest {m} {p} {d} {g} honest ok = elim honest.ties.queues [
   | inl idle ↦ (let P : ℕ → Type 0 = λ s. contains s driver_ok ≡ true in
       absurd (down_not_ok g.status idle.state (subst P honest.ties.parts.device.status ok)))
   | inr run ↦
-      let n = g.config.pages in
-      let size = g.config.queue_size in
+      let n = g.config.pages in let size = g.config.queue_size in
       let sized : (k : ℕ) (rs : List Request) → k ≡ size → All (IsOwnRequest k n) rs
       → All (IsOwnRequest size (length m)) rs =
       λ k rs same all. subst (λ (c : ℕ). All (IsOwnRequest size c) rs)
@@ -281,8 +279,7 @@ pub scribble_alone : {keeps : Bool} {m1 m2 : Pages} {p1 p2 : Part} {d : DriverSt
     → (0 < length bs → frame_at m1 page ≡ None → ⊥) → Wrote m1 m2 page off bs
     → p2 ≡ p1 → StepsAlone (Stands keeps m2 p2 d) g (Scribble page off bs) Done
 scribble_alone {m1} {m2} {p1} {p2} {d} {g} {page} {off} {bs} stands covers never wrote part =
-    let old = as_rogue stands in
-    let rest = wrote.rest in
+    let old = as_rogue stands in let rest = wrote.rest in
     let new : Guest = rogue_after (marked g) g.frames p2 d in
     let rogue : Rogue m2 p2 d new = rogue_stands g.frames old (keeps_part (driver_same refl)
     part rest.count rest.backing) rest.count refl (λ q. rest.backing q ∙ old.behind q) in
@@ -316,25 +313,24 @@ scribble_outside {m1} {m2} {p2} {d} {g} {page} {off} {bs} stands m p out =
           (λ q frame e. e)) (λ e. absurd cc) (λ e. absurd cc) (left_by (Scribble page off bs)
           OutOfRam [] g refl) (λ q o b e. same_scribble q o b g [] (Refused OutOfRam) g e step);
       frames = refl;
-    }))
-  where
-    size : length m1 ≡ g.config.pages
-    size = (as_rogue stands).length_is
+    })) where
+      size : length m1 ≡ g.config.pages
+      size = (as_rogue stands).length_is
 
-    outside : (b : Bool) → is_outside g page off (length bs) ≡ b
-        → is_outside g page off (length bs) ≡ true
-    outside true e = e
-    outside false e = absurd (out (outside_is g size e))
+      outside : (b : Bool) → is_outside g page off (length bs) ≡ b
+          → is_outside g page off (length bs) ≡ true
+      outside true e = e
+      outside false e = absurd (out (outside_is g size e))
 
-    refused : refusal_of g (Scribble page off bs) ≡ Some OutOfRam
-    refused = ap (λ (b : Bool). first_refusal ((b ⇒ OutOfRam) ∷ []))
-        (outside (is_outside g page off (length bs)) refl)
+      refused : refusal_of g (Scribble page off bs) ≡ Some OutOfRam
+      refused = ap (λ (b : Bool). first_refusal ((b ⇒ OutOfRam) ∷ []))
+          (outside (is_outside g page off (length bs)) refl)
 
-    none : pages_to_back (Scribble page off bs) g ≡ []
-    none = refused_backs (Scribble page off bs) g OutOfRam refused
+      none : pages_to_back (Scribble page off bs) g ≡ []
+      none = refused_backs (Scribble page off bs) g OutOfRam refused
 
-    step : HonestStep g (Scribble page off bs) [] (Refused OutOfRam) g
-    step = search arith
+      step : HonestStep g (Scribble page off bs) [] (Refused OutOfRam) g
+      step = search arith
 
 -- a claim was refused
 pub scribble_unsupplied : {keeps : Bool}
@@ -362,15 +358,14 @@ scribble_unsupplied {Answers} out1 out2 {p1} {p2} {g} {page} {off}
       refused_for,
       claim_fault,
       same_scribble,
-    ))
-  where
-    claimed : AreClaimed Answers (supply_of p1 out1) (claim_in (Err why) ∷ [])
-        × Moves (supply_of p1 out1) (supply_of p2 out2) nothing nothing
-    claimed = refused_claimed out1 out2 p1 p2 why answer
+    )) where
+      claimed : AreClaimed Answers (supply_of p1 out1) (claim_in (Err why) ∷ [])
+          × Moves (supply_of p1 out1) (supply_of p2 out2) nothing nothing
+      claimed = refused_claimed out1 out2 p1 p2 why answer
 
-    step : HonestStep g
-        (Scribble page off bs) (claim_in (Err why) ∷ []) (Refused (refusal_of_claim why)) g
-    step = search (arith, refusal_of_claim, refused_for, scribble_fits)
+      step : HonestStep g
+          (Scribble page off bs) (claim_in (Err why) ∷ []) (Refused (refusal_of_claim why)) g
+      step = search (arith, refusal_of_claim, refused_for, scribble_fits)
 
 -- a page got a frame, and then was written
 pub scribble_supplied : {keeps : Bool} {Answers : List Bool → Claim → Type 0}

@@ -1,6 +1,6 @@
 -- A call on a guest that wrote past its driver: what it keeps is enough.
-use Rattle.std.specs.Prelude.{◌≡◌, ◌≢◌, ℕ, ◌<◌, Bool, true, false, List, [], length, All, Option}
-use Rattle.std.specs.Prelude.{Some, refl, is_some, is_none, ◌⊎◌, MatchOption, MatchBool}
+use Rattle.std.specs.Prelude.{◌≡◌, ◌≢◌, ℕ, ◌<◌, Bool, true, false, List, [], length, All}
+use Rattle.std.specs.Prelude.{Option, Some, refl, is_some, is_none, ◌⊎◌, MatchOption, MatchBool}
 use Rattle.std.{specs.Prelude.if◌then◌else◌, proofs.Common.{sym, ◌∙◌, ap, subst, arith, inl, inr}}
 use Rattle.vb_model.proofs.{Refusing.{is_refused, not_this}, Shapes.start_reserved, Wanting.wants}
 use Rattle.vb_model.{proofs.Wanting.no_want, specs.Driver.{given, claim_refusal, AreClaimsFor}}
@@ -8,15 +8,13 @@ use Rattle.vb_model.specs.{Guest.{Guest, frame_of, is_ballooned, all_backed}, La
 use Rattle.vb_model.specs.{Refusals.refusal_of, Rogue.{LosesFrames, pages_to_back, is_read}}
 use Rattle.vb_model.specs.Rogue.{target_after, after_refused, with_fault, GuestStep, RogueStep}
 use Rattle.vb_model.specs.{Status.{contains, driver_ok}, Step.{HonestStep, bare_pages}}
-use Rattle.vb_model.specs.declared.calls.{Call.Call, Call.TheVariants.{Read, Scribble}, Claim.Claim}
+use Rattle.vb_model.specs.declared.calls.{Call.{Call, TheVariants.{Read, Scribble}}, Claim.Claim}
 use Rattle.vb_model.specs.declared.replies.Refusal.{Refusal, TheVariants.{NoFrame, NoMemory}}
 use Rattle.vb_model.specs.declared.replies.{Refusal.TheVariants.{Broken, RingBroken}, Reply.Reply}
-use Rattle.vb_model.specs.declared.replies.Reply.TheVariants.{Refused}
-use Rattle.vb_ram.{specs.Pages.{Pages, frame_at}, specs.Part.{Part, no_part}}
-use Rattle.vb_driver.specs.State.{DriverState}
-use Rattle.vb_guest.{specs.Stands.{IsOwnRequest, IsRogueUp, Rogue}, proofs.Moving.moves_as}
-use Rattle.vb_guest.specs.Steps.{StepsAlone, StepsOver}
-use Rattle.vb_guest.specs.Supply.{AreClaimed, supply_of, Moves, nothing}
+use Rattle.{vb_model.specs.declared.replies.Reply.TheVariants.Refused, vb_ram.specs.Pages.Pages}
+use Rattle.{vb_ram.specs.{Pages.frame_at, Part.{Part, no_part}}, vb_driver.specs.State.DriverState}
+use Rattle.vb_guest.specs.{Stands.{IsOwnRequest, IsRogueUp, Rogue}, Steps.{StepsAlone, StepsOver}}
+use Rattle.vb_guest.{specs.Supply.{AreClaimed, supply_of, Moves, nothing}, proofs.Moving.moves_as}
 
 -- ---- what a call keeps
 
@@ -189,12 +187,11 @@ rogue_steps {g} {new}
       no_memory = λ e. by_read (no_memory e);
       refused = left;
       scribble = scribble;
-    })
-  where
-    by_read : (claim_refusal claims ≡ Some NoMemory) ⊎ (is_read call ≡ true) → (claim_refusal claims
-        ≡ Some NoMemory) ⊎ ((page : ℕ) × (offset : ℕ) × (len : ℕ) × (call ≡ Read page offset len))
-    by_read (inl e) = inl e
-    by_read (inr e) = inr (read_call call e)
+    }) where
+      by_read : (claim_refusal claims ≡ Some NoMemory) ⊎ (is_read call ≡ true) → (claim_refusal claims
+          ≡ Some NoMemory) ⊎ ((page : ℕ) × (offset : ℕ) × (len : ℕ) × (call ≡ Read page offset len))
+      by_read (inl e) = inl e
+      by_read (inr e) = inr (read_call call e)
 
 -- it claims nothing
 pub rogue_step : {m1 m2 : Pages} {p1 p2 : Part}

@@ -1,14 +1,13 @@
 -- What leaves the queues of a running guest alone.
-use Rattle.std.specs.Prelude.{◌≡◌, ◌≢◌, ℕ, ◌+◌, ◌<◌, ◌≤◌, List, All, length}
-use Rattle.std.proofs.Common.{sym, subst, arith}
-use Rattle.vb_model.specs.Layout.{reserved_pages, ring_number, ring_page, buffers_page}
-use Rattle.vb_model.{specs.Guest.Guest, proofs.Shapes.{InRing, rings_apart}}
-use Rattle.vb_ram.{specs.Pages.{Pages, page_at, frame_at}, specs.Part.Part}
-use Rattle.vb_ring.specs.{declared.layout.Layout.Layout, Layout.{IsSize, layout_of}, Ends.DriverEnd}
-use Rattle.vb_driver.{specs.State.DriverState, proofs.Shapes.buffers_between}
-use Rattle.vb_guest.proofs.Apart.{SameLine, SameReserved, SameBut, no_buffer, other_ring}
-use Rattle.vb_guest.{proofs.Apart.other_line, specs.Stands.IsRunning, proofs.RingApart.SameRing}
-use Rattle.vb_guest.proofs.PagesKept.{SamePages}
+use Rattle.std.{specs.Prelude.{◌≡◌, ◌≢◌, ℕ, ◌+◌, ◌<◌, ◌≤◌, length}, proofs.Common.sym}
+use Rattle.{std.proofs.Common.{subst, arith}, vb_model.specs.Layout.{reserved_pages, ring_number}}
+use Rattle.vb_model.{specs.{Layout.{ring_page, buffers_page}, Guest.Guest}, proofs.Shapes.InRing}
+use Rattle.{vb_model.proofs.Shapes.rings_apart, vb_ram.specs.Pages.{Pages, page_at, frame_at}}
+use Rattle.{vb_ram.specs.Part.Part, vb_ring.specs.{declared.layout.Layout.Layout, Layout.IsSize}}
+use Rattle.{vb_ring.specs.{Layout.layout_of, Ends.DriverEnd}, vb_driver.specs.State.DriverState}
+use Rattle.{vb_driver.proofs.Shapes.buffers_between, vb_guest.proofs.Apart.SameLine}
+use Rattle.vb_guest.proofs.Apart.{SameReserved, SameBut, no_buffer, other_ring, other_line}
+use Rattle.vb_guest.{proofs.{RingApart.SameRing, PagesKept.SamePages}, specs.Stands.IsRunning}
 
 -- all four rings have so many descriptors
 pub record AreSized (d : DriverState) (size : ℕ) : Type 0 where
@@ -57,12 +56,6 @@ others_same {old} {new} {size} {q} ring sized at rest = record {
 pub ring_low : {size k : ℕ} (q page : ℕ) → k ≡ size → InRing k q page → page < reserved_pages size
 ring_low q page same at = grind arith
 
--- and pages of a request aren't
-pub above_as : {size k : ℕ} (pages : List ℕ) → k ≡ size
-    → All (λ page. reserved_pages k ≤ page) pages → All (λ page. reserved_pages size ≤ page) pages
-above_as pages same above =
-    subst (λ (s : ℕ). All (λ page. reserved_pages s ≤ page) pages) same above
-
 pub ring_as : {size k : ℕ} (q page : ℕ) → k ≡ size → InRing k q page → InRing size q page
 ring_as q page same at = subst (λ (s : ℕ). InRing s q page) same at
 
@@ -108,8 +101,7 @@ posted_line : {old new : Pages} {size k q other : ℕ} (buffer : ℕ) {l : Layou
 posted_line {old} {new} {size} {q} {other} buffer {l} same ne ring clear far rest = record {
   ring = posted_ring old new other buffer same ne ring clear rest;
   buffers = λ p from to.
-      let between = buffers_between other in
-      let low : 4 ≤ p = omega (arith, between.0, from) in
+      let between = buffers_between other in let low : 4 ≤ p = omega (arith, between.0, from) in
       let high : p ≤ 12 = omega (arith, between.1, to) in
       rest p (no_buffer size q l.table p ring.table low high)
       (no_buffer size q l.avail.page p ring.avail low high) (far p from to);

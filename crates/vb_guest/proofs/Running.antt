@@ -1,20 +1,17 @@
 -- What a running guest's queues are once memory has changed elsewhere.
 use Rattle.std.specs.Prelude.{◌≡◌, ◌≢◌, ◌==◌, false, ℕ, ◌<◌, ◌≤◌, true, IsSome, is_some}
-use Rattle.std.proofs.Common.{sym, eq-eqb, ◌∙◌, ap}
-use Rattle.vb_model.{specs.Layout.{is_start_page, ring_number}, specs.Guest.Guest}
-use Rattle.vb_model.proofs.Shapes.{start_reserved}
-use Rattle.vb_ram.{specs.Pages.{Pages, frame_at, number_of}, specs.Part.Part}
-use Rattle.vb_driver.specs.State.{DriverState}
-use Rattle.vb_guest.{specs.Line.Line, specs.Reported.ReportLine, specs.Buffer.BufferLine}
-use Rattle.vb_guest.{specs.Stands.IsRunning, proofs.Apart.{SameReserved, line_apart}}
-use Rattle.vb_guest.{proofs.BufferLines.buffer_apart, proofs.ReportLines.report_apart}
+use Rattle.{std.proofs.Common.{sym, eq-eqb, ◌∙◌, ap}, vb_model.specs.Layout.is_start_page}
+use Rattle.vb_model.{specs.{Layout.ring_number, Guest.Guest}, proofs.Shapes.start_reserved}
+use Rattle.vb_ram.specs.{Pages.{Pages, frame_at, number_of}, Part.Part}
+use Rattle.{vb_driver.specs.State.DriverState, vb_guest.specs.{Line.Line, Reported.ReportLine}}
+use Rattle.vb_guest.{specs.{Buffer.BufferLine, Stands.IsRunning}, proofs.Apart.SameReserved}
+use Rattle.vb_guest.proofs.{Apart.line_apart, BufferLines.buffer_apart, ReportLines.report_apart}
 use Rattle.vb_guest.proofs.RunApart.{OthersSame, PostLeaves, queues_same, sizes_of}
 
 -- reserved pages are as before, and the guest runs on
 pub runs_on : {m1 m2 : Pages} {p : Part} {d : DriverState} {g : Guest}
     → IsRunning m1 p d g → SameReserved m1 m2 g.config.queue_size → IsRunning m2 p d g
-runs_on {m1} {m2} {p} {d} {g} run low = let n = g.config.pages in
-    let size = g.config.queue_size in
+runs_on {m1} {m2} {p} {d} {g} run low = let n = g.config.pages in let size = g.config.queue_size in
     let same = queues_same (sizes_of run) low in
     record {
       state = run.state;

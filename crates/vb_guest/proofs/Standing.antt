@@ -1,18 +1,14 @@
 -- What stands for a guest once its frames are accounted for: from steps of an honest guest to steps
 -- over its supply.
-use Rattle.std.specs.Prelude.{◌≡◌, ℕ, ◌+◌, Bool, false, List, []}
-use Rattle.std.proofs.Common.{sym, ◌∙◌, ap, subst, arith}
-use Rattle.vb_model.specs.declared.{calls.Call.Call, calls.Claim.Claim, replies.Reply.Reply}
-use Rattle.vb_model.specs.{Tests.one_if, Guest.Guest, Orderly.times}
-use Rattle.vb_ram.{specs.Pages.Pages, specs.Part.Part}
-use Rattle.vb_driver.specs.State.{DriverState}
-use Rattle.vb_device.specs.Own.{has}
-use Rattle.vb_guest.specs.Stands.{Honest, Rogue, OwnFrames, Stands, StandsBy}
-use Rattle.vb_guest.specs.Steps.{backing_count, AreOut, StepsAlone, StepsOver, StepsFreeing}
-use Rattle.vb_guest.specs.Supply.{supply_of, Moves, nothing, AreLoose}
-use Rattle.vb_guest.specs.Promises.{EachStepsAlone, EachSteps, moment}
-use Rattle.vb_guest.proofs.{Moving.{used_own, used_out, by_keeps, moves_as}, Closing.honest_own}
-use Rattle.vb_guest.proofs.{Handing.handed_back, Kept.SameOwn, Rogues.rogue_own}
+use Rattle.std.proofs.Common.{◌≡◌, ℕ, ◌+◌, Bool, false, List, [], sym, ◌∙◌, ap, subst, arith}
+use Rattle.vb_model.specs.declared.{calls.{Call.Call, Claim.Claim}, replies.Reply.Reply}
+use Rattle.{vb_model.specs.{Tests.one_if, Guest.Guest, Orderly.times}, vb_ram.specs.Pages.Pages}
+use Rattle.{vb_ram.specs.Part.Part, vb_device.specs.Own.has, vb_driver.specs.State.DriverState}
+use Rattle.vb_guest.specs.{Stands.{Honest, Rogue, OwnFrames, Stands, StandsBy}, Steps.backing_count}
+use Rattle.vb_guest.specs.{Steps.{AreOut, StepsAlone, StepsOver, StepsFreeing}, Supply.supply_of}
+use Rattle.vb_guest.specs.{Supply.{Moves, nothing, AreLoose}, Promises.{EachStepsAlone, EachSteps}}
+use Rattle.vb_guest.{specs.Promises.moment, proofs.Moving.{used_own, used_out, by_keeps, moves_as}}
+use Rattle.vb_guest.proofs.{Closing.honest_own, Handing.handed_back, Kept.SameOwn, Rogues.rogue_own}
 
 -- ---- the record
 
@@ -74,11 +70,10 @@ pub alone_stands : {keeps : Bool} {m1 m2 : Pages} {p1 p2 : Part} {d1 d2 : Driver
     → StepsAlone (Rogue m2 p2 d2) g call reply) → StepsAlone (Stands keeps m2 p2 d2) g call reply
 alone_stands {keeps} {m2} {p2} {d2} {g} {call} {reply} stands same honest rogue =
     by_guest stands (λ h. either (Honest m2 p2 d2) honest_is (honest h))
-    (λ r. either (Rogue m2 p2 d2) rogue_is (rogue r))
-  where
-    either : (New : Guest → Type 0) → ((new : Guest) → New new → IsGuest m2 p2 d2 new)
-        → StepsAlone New g call reply → StepsAlone (Stands keeps m2 p2 d2) g call reply
-    either New is step = search (arith, stands_with)
+    (λ r. either (Rogue m2 p2 d2) rogue_is (rogue r)) where
+      either : (New : Guest → Type 0) → ((new : Guest) → New new → IsGuest m2 p2 d2 new)
+          → StepsAlone New g call reply → StepsAlone (Stands keeps m2 p2 d2) g call reply
+      either New is step = search (arith, stands_with)
 
 pub over_stands : {keeps : Bool} {m1 m2 : Pages} {p1 p2 : Part} {d1 d2 : DriverState}
     {g : Guest} {Answers : List Bool → Claim → Type 0} (out1 out2 : List Bool) {claims : List Claim}
@@ -90,12 +85,11 @@ pub over_stands : {keeps : Bool} {m1 m2 : Pages} {p1 p2 : Part} {d1 d2 : DriverS
 over_stands {keeps}
     {m2} {p1} {p2} {d2} {g} {Answers} out1 out2 {claims} {call} {reply} stands honest rogue =
     by_guest stands (λ h. either (Honest m2 p2 d2) honest_is (honest h))
-    (λ r. either (Rogue m2 p2 d2) rogue_is (rogue r))
-  where
-    either : (New : Guest → Type 0) → ((new : Guest) → New new → IsGuest m2 p2 d2 new) → StepsOver
-        New Answers (supply_of p1 out1) (supply_of p2 out2) claims g call reply → StepsOver
-        (Stands keeps m2 p2 d2) Answers (supply_of p1 out1) (supply_of p2 out2) claims g call reply
-    either New is step = search (arith, stands_of, own_moved)
+    (λ r. either (Rogue m2 p2 d2) rogue_is (rogue r)) where
+      either : (New : Guest → Type 0) → ((new : Guest) → New new → IsGuest m2 p2 d2 new) → StepsOver
+          New Answers (supply_of p1 out1) (supply_of p2 out2) claims g call reply → StepsOver
+          (Stands keeps m2 p2 d2) Answers (supply_of p1 out1) (supply_of p2 out2) claims g call reply
+      either New is step = search (arith, stands_of, own_moved)
 
 -- a step in which no frame moves
 pub steps_quiet : {keeps : Bool} {m1 m2 : Pages} {p1 p2 : Part} {d1 d2 : DriverState} {g : Guest}
@@ -130,11 +124,10 @@ freed_loose {p2} {g = g} out {call} {reply} stands held same honest rogue n =
       ap one_if (used_own (supply_of p2 out) n e),
       ap (λ (l : List ℕ). one_if (has l n)) same.numbers,
     ))) (λ e. (let k = sym stands.own.flag ∙ sym same.flag ∙ e in
-    omega (arith, lost.1 n, held k n, ap one_if (used_out (supply_of p2 out) n e))))
-  where
-    sum : {New : Guest → Type 0} → StepsFreeing New p2.loose g call reply
-        → (new : Guest) × ((n : ℕ) → times n p2.loose + backing_count n new ≡ backing_count n g)
-    sum step = (step.new, step.freed)
+    omega (arith, lost.1 n, held k n, ap one_if (used_out (supply_of p2 out) n e)))) where
+      sum : {New : Guest → Type 0} → StepsFreeing New p2.loose g call reply
+          → (new : Guest) × ((n : ℕ) → times n p2.loose + backing_count n new ≡ backing_count n g)
+      sum step = (step.new, step.freed)
 
 -- and have gone back; the frames of the device's own may have changed by that
 pub steps_freed : {keeps : Bool}

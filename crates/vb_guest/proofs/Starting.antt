@@ -1,22 +1,19 @@
 -- The guest once its driver started the device, or gave up.
-use Rattle.std.specs.Prelude.{◌≡◌, ℕ, ◌≤◌, Bool, true, false, if◌then◌else◌, List, length}
-use Rattle.std.specs.Prelude.{Option, IsSome, is_some, replicate, refl}
-use Rattle.std.{proofs.lemmas.Bool.false_from_ne_true, proofs.lemmas.List.length-replicate}
-use Rattle.std.proofs.Common.{sym, ◌∙◌, ap, subst, arith, inr}
-use Rattle.vb_model.specs.Requests.{Requests, no_requests, StatisticsBuffer, NoBuffer, BufferPosted}
-use Rattle.vb_model.{specs.Requests.Figures, specs.Guest.{Guest, stats_vq}, specs.Driver.figures}
+use Rattle.std.specs.Prelude.{◌≡◌, ℕ, ◌≤◌, Bool, true, false, if◌then◌else◌, List, length, Option}
+use Rattle.std.{specs.Prelude.{IsSome, replicate, refl}, proofs.lemmas.Bool.false_from_ne_true}
+use Rattle.std.proofs.{lemmas.List.length-replicate, Common.{sym, ap, subst, arith, inr}}
+use Rattle.vb_model.specs.Requests.{no_requests, StatisticsBuffer, NoBuffer, BufferPosted, Figures}
 use Rattle.vb_model.specs.Layout.{reserved_pages, ring_page, is_ring_page, is_start_page}
-use Rattle.vb_model.proofs.Shapes.{ring_reserved}
-use Rattle.vb_ram.{specs.Pages.{Pages, page_at, frame_at, contents_of}, specs.Part.{Part, no_queue}}
-use Rattle.vb_status.specs.After.{part_after_reset}
-use Rattle.vb_ring.{specs.Layout.IsSize, specs.Ends.DriverEnd}
+use Rattle.vb_model.{specs.{Guest.{Guest, stats_vq}, Driver.figures}, proofs.Shapes.ring_reserved}
+use Rattle.vb_ram.specs.{Pages.{Pages, page_at, frame_at, contents_of}, Part.{Part, no_queue}}
+use Rattle.{vb_ring.specs.{Ends.DriverEnd, Layout.IsSize}, vb_status.specs.After.part_after_reset}
 use Rattle.vb_driver.specs.State.{DriverState, IsDriver, fresh_side, fresh_statistics, fresh_report}
-use Rattle.vb_driver.{specs.State.figures_of, specs.Coding.{AreZeroed, AreFigures}}
-use Rattle.vb_driver.specs.Calls.{Starts, GivesUp, IsNewRing, FirstBuffer}
+use Rattle.vb_driver.specs.{State.figures_of, Calls.Starts}
+use Rattle.vb_driver.specs.{Calls.{GivesUp, IsNewRing, FirstBuffer}, Coding.{AreZeroed, AreFigures}}
 use Rattle.vb_guest.specs.Stands.{Ties, HasParts, HasPages, IsIdle, beside_queues, beside_sides}
-use Rattle.vb_guest.{specs.Stands.beside_requests, proofs.RingPosted.ring_posted, specs.Line.Line}
-use Rattle.vb_guest.{proofs.PagesKept.pages_same, specs.Reported.ReportLine}
-use Rattle.vb_guest.{proofs.RingApart.ring_new, proofs.Closing.ties_same, specs.Buffer.BufferLine}
+use Rattle.vb_guest.specs.{Stands.beside_requests, Buffer.BufferLine, Reported.ReportLine}
+use Rattle.vb_guest.{specs.Line.Line, proofs.RingPosted.ring_posted}
+use Rattle.vb_guest.proofs.{PagesKept.pages_same, Closing.ties_same, RingApart.ring_new}
 
 no_flags : (p : Part) {g : Guest}
     → p.ballooned ≡ g.ballooned → IsIdle g → replicate (length p.ballooned) false ≡ g.ballooned

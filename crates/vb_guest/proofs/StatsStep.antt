@@ -7,11 +7,10 @@ use Rattle.vb_model.specs.Requests.{Figures, StatisticsBuffer, NoBuffer, BufferP
 use Rattle.vb_model.specs.{Requests.BufferDone, Tables.is_up, declared.calls.Call.TheVariants.Stats}
 use Rattle.vb_model.specs.declared.replies.Refusal.{Refusal, TheVariants.NotReady}
 use Rattle.vb_model.specs.declared.replies.Reply.TheVariants.{Filled, NotUsed}
-use Rattle.vb_ram.{specs.Pages.Pages, specs.Part.Part}
-use Rattle.vb_ring.specs.Ends.{DriverEnd, used_answer}
-use Rattle.vb_driver.{specs.State.{DriverState, figures_of}, specs.Answers.stats_causes}
-use Rattle.vb_driver.specs.Calls.{FillsBy, Refills}
-use Rattle.vb_guest.proofs.{BufferLines.{buffer_emptied, buffer_posted}, Closing.honest_performed}
+use Rattle.{vb_ram.specs.{Pages.Pages, Part.Part}, vb_ring.specs.Ends.{DriverEnd, used_answer}}
+use Rattle.vb_driver.specs.{State.{DriverState, figures_of}, Answers.stats_causes, Calls.FillsBy}
+use Rattle.{vb_driver.specs.Calls.Refills, vb_guest.proofs.BufferLines.buffer_emptied}
+use Rattle.vb_guest.proofs.{BufferLines.buffer_posted, Closing.honest_performed}
 use Rattle.vb_guest.proofs.{Closing.{steps_alone, refused_alone, ties_same}, PagesKept.pages_same}
 use Rattle.vb_guest.proofs.{ReapRefusing.{unfailed, never_broken}, RingReaped.ring_answer}
 use Rattle.vb_guest.proofs.RunApart.{sizes_of, ring_of, buffer_clear, post_leaves, post_same}
@@ -62,8 +61,7 @@ refilled : {m1 m2 : Pages} {p1 p2 : Part} {d1 d2 : DriverState} {g : Guest} (old
 refilled {m1} {m2} {p1} {d1} {d2} {g} old is did stands run free = let ties = stands.ties in
     let now : Figures = figures g in
     let L : StatisticsBuffer → Type 0 = λ b. BufferLine m1 d1.statistics p1.statistics b in
-    let line : L (BufferDone old) = subst L is run.statistics in
-    let size = g.config.queue_size in
+    let line : L (BufferDone old) = subst L is run.statistics in let size = g.config.queue_size in
     let rest = did.posts.rest in
     let ring = ring_of 2 d1.statistics line.stands.sized line.stands.layout run.statistics_size in
     let same = post_same 12 ring
@@ -95,32 +93,31 @@ stats_step
     {m1} {m2} {p1} {p2} {d1} {d2} {g} {result} did stands = let device = stands.ties.parts.device in
     by result did (refused_alike Stats stands.ties.queues
     (stats_idle m1 p1 d1 g device.status) (λ run. stats_same m1 p1 d1 g (slice_get
-    (used_heads g.buffer) 0) device.status stands.ties.parts.driver.accepted (answer run)))
-  where
-    answer : IsRunning m1 p1 d1 g
-        → used_answer m1 d1.statistics ≡ Ok (slice_get (used_heads g.buffer) 0)
-    answer run = ring_answer run.statistics.stands
+    (used_heads g.buffer) 0) device.status stands.ties.parts.driver.accepted (answer run))) where
+      answer : IsRunning m1 p1 d1 g
+          → used_answer m1 d1.statistics ≡ Ok (slice_get (used_heads g.buffer) 0)
+      answer run = ring_answer run.statistics.stands
 
-    by_buffer : (b : StatisticsBuffer) (filled : Bool) → g.buffer ≡ b
-        → FillsBy m1 m2 p1 p2 d1 d2 (Ok filled) → IsRunning m1 p1 d1 g
-        → used_answer m1 d1.statistics ≡ Ok (slice_get (used_heads b) 0) → refusal_of g Stats ≡ None
-        → StepsAlone (Honest m2 p2 d2) g Stats (filled_reply (Ok filled))
-    by_buffer (BufferDone old) true is did run answer free =
-        refilled old is did.fills stands run free
-    by_buffer (BufferDone old) false is did run answer free =
-        absurd (let wrong = sym answer ∙ did.fills.unused in cc)
-    by_buffer NoBuffer filled is did run answer free =
-        not_used filled is answer (refl, refl) did stands free
-    by_buffer (BufferPosted figures) filled is did run answer free = not_used filled is answer
-        (refl, refl) did stands free
-    by_buffer (BufferTaken figures) filled is did run answer free = not_used filled is answer
-        (refl, refl) did stands free
+      by_buffer : (b : StatisticsBuffer) (filled : Bool) → g.buffer ≡ b
+          → FillsBy m1 m2 p1 p2 d1 d2 (Ok filled) → IsRunning m1 p1 d1 g
+          → used_answer m1 d1.statistics ≡ Ok (slice_get (used_heads b) 0) → refusal_of g Stats ≡ None
+          → StepsAlone (Honest m2 p2 d2) g Stats (filled_reply (Ok filled))
+      by_buffer (BufferDone old) true is did run answer free =
+          refilled old is did.fills stands run free
+      by_buffer (BufferDone old) false is did run answer free =
+          absurd (let wrong = sym answer ∙ did.fills.unused in cc)
+      by_buffer NoBuffer filled is did run answer free =
+          not_used filled is answer (refl, refl) did stands free
+      by_buffer (BufferPosted figures) filled is did run answer free = not_used filled is answer
+          (refl, refl) did stands free
+      by_buffer (BufferTaken figures) filled is did run answer free = not_used filled is answer
+          (refl, refl) did stands free
 
-    by : (result : Result Bool Refusal) → FillsBy m1 m2 p1 p2 d1 d2 result
-        → first_refusal (stats_causes m1 p1 d1) ≡ refusal_of g Stats
-        → StepsAlone (Honest m2 p2 d2) g Stats (filled_reply result)
-    by (Err why) did same = stats_refused why did stands same
-    by (Ok filled) did same = let free : refusal_of g Stats ≡ None = sym (did.refusal ∙ same) in
-        let run = runs_where Stats _ stands.ties.queues
-        (stats_idle m1 p1 d1 g stands.ties.parts.device.status) free in
-        by_buffer g.buffer filled refl did run (answer run) free
+      by : (result : Result Bool Refusal) → FillsBy m1 m2 p1 p2 d1 d2 result
+          → first_refusal (stats_causes m1 p1 d1) ≡ refusal_of g Stats
+          → StepsAlone (Honest m2 p2 d2) g Stats (filled_reply result)
+      by (Err why) did same = stats_refused why did stands same
+      by (Ok filled) did same = let free : refusal_of g Stats ≡ None = sym (did.refusal ∙ same) in
+          let run = runs_where Stats _ stands.ties.queues
+          (stats_idle m1 p1 d1 g stands.ties.parts.device.status) free in
+          by_buffer g.buffer filled refl did run (answer run) free

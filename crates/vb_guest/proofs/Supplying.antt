@@ -1,15 +1,14 @@
 -- Several pages get frames, one by one.
+use Rattle.std.{proofs.Common.{sym, ◌∙◌, ap, subst, arith, eq-eqb}, specs.List.range_with_len}
 use Rattle.std.specs.Prelude.{◌≡◌, ℕ, zero, suc, ◌+◌, ◌<◌, ◌≤◌, ◌==◌, ◌||◌, Bool, true, false, not}
 use Rattle.std.specs.Prelude.{List, [], ◌∷◌, length, Option, None, IsSome, filter, count_by, refl}
-use Rattle.std.{specs.List.range_with_len, proofs.Common.{sym, ◌∙◌, ap, subst, arith, eq-eqb}}
-use Rattle.vb_model.{specs.declared.calls.Claim.Claim, specs.Tests.{is_in, each_from}}
-use Rattle.vb_model.specs.declared.calls.Claim.TheVariants.{Gave, GaveNoFrame, GaveNoMemory}
-use Rattle.vb_model.{specs.Guest.{backed, all_backed}, specs.Orderly.times}
 use Rattle.vb_model.specs.Driver.{given, claim_refusal, AreClaimsFor, AllDistinct}
-use Rattle.vb_ram.specs.Pages.{Pages, page_at, frame_at, Supplied}
-use Rattle.vb_guest.{specs.Stands.HasPages, specs.Steps.is_frame, specs.Lives.AllSupplied}
+use Rattle.vb_model.specs.{Guest.{backed, all_backed}, Orderly.times, Tests.{is_in, each_from}}
+use Rattle.vb_model.specs.declared.calls.Claim.{Claim, TheVariants.{Gave, GaveNoFrame}}
+use Rattle.{vb_model.specs.declared.calls.Claim.TheVariants.GaveNoMemory, vb_ram.specs.Pages.Pages}
+use Rattle.{vb_ram.specs.Pages.{page_at, frame_at, Supplied}, vb_guest.proofs.Moving.times_first}
 use Rattle.vb_guest.proofs.Writing.{HasFrames, frames_supplied, pages_supplied, count_backed}
-use Rattle.vb_guest.proofs.Moving.{times_first}
+use Rattle.vb_guest.specs.{Lives.AllSupplied, Stands.HasPages, Steps.is_frame}
 
 -- neither of two tests holds
 neither : (a b : Bool) → (a || b) ≡ false → (a ≡ false) × (b ≡ false)
@@ -110,11 +109,10 @@ filled_by Has n (p ∷ ps) (k ∷ ks) m1 m2 frames one distinct below (mid, befo
     let there = filled_by Has n ps ks m1 mid frames one distinct.1
     (λ q m. below q (later (p == q) (is_in q ps) m)) before has in
     subst (λ l. Has m2 l) (backed_last p k ps ks frames out)
-    (one mid m2 p k (all_backed ps ks frames) lt bare there did)
-  where
-    later : (a b : Bool) → b ≡ true → (a || b) ≡ true
-    later true b e = refl
-    later false b e = e
+    (one mid m2 p k (all_backed ps ks frames) lt bare there did) where
+      later : (a b : Bool) → b ≡ true → (a || b) ≡ true
+      later true b e = refl
+      later false b e = e
 
 pub pages_filled : {size n : ℕ} (pages numbers : List ℕ) {m1 m2 : Pages} {frames : List (Option ℕ)}
     {contents : List (List ℕ)} → AllDistinct pages → ((p : ℕ) → is_in p pages ≡ true → p < n)
@@ -156,8 +154,7 @@ frames_filled x {n}
     ≡ count_by (is_frame x) (all_backed ps (given cs) (backed p f frames)) =
     ap (λ (l : List (Option ℕ)). count_by (is_frame x) l)
     (backed_last p f ps (given cs) frames (distinct_out p ps distinct.0)) in
-    omega (arith, rest, more, swap, times_first x f (given cs))
-  where
-    later : (a b : Bool) → b ≡ true → (a || b) ≡ true
-    later true b e = refl
-    later false b e = e
+    omega (arith, rest, more, swap, times_first x f (given cs)) where
+      later : (a b : Bool) → b ≡ true → (a || b) ≡ true
+      later true b e = refl
+      later false b e = e

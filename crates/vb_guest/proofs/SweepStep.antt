@@ -1,21 +1,18 @@
 -- A guest's sweep is a step of the definitions.
-use Rattle.std.specs.Prelude.{◌≡◌, ℕ, zero, suc, ◌<◌, ◌≤◌, Bool, true, false, List, [], ◌∷◌, All}
-use Rattle.std.specs.Prelude.{Result, Option, Some, None, is_some, refl}
-use Rattle.std.proofs.Common.{sym, ◌∙◌, ap, subst, arith, inr}
-use Rattle.vb_model.{specs.Guest.{Guest, is_ballooned, unbacked}, specs.Consistent.IsConsistent}
-use Rattle.vb_model.{specs.declared.calls.Call.TheVariants.Sweep, specs.Refusals.refusal_of}
-use Rattle.vb_model.{specs.declared.replies.Refusal.Refusal, specs.declared.replies.Reply.Reply}
-use Rattle.vb_model.{specs.declared.replies.Reply.TheVariants.Swept, proofs.PageSteps.naming-all}
-use Rattle.vb_model.{specs.Pages.{place_of, is_reserved}, specs.Layout.reserved_pages}
-use Rattle.vb_ram.{specs.Pages.{Pages, frame_at}, specs.Part.Part}
-use Rattle.vb_guest.{proofs.SameRefusals.{by_state, sweep_same, sweep_idle}, proofs.Running.runs_on}
-use Rattle.vb_guest.{proofs.Losing.steps_losing, specs.Stands.{Honest, Ties, IsRunning}}
-use Rattle.vb_guest.{specs.Steps.StepsFreeing, specs.Replies.swept_reply, proofs.Apart.SameReserved}
-use Rattle.vb_guest.{proofs.Offered.high_page, proofs.PagesKept.{pages_discarded, page_undiscarded}}
-use Rattle.vb_guest.proofs.Closing.{honest_performed, ties_same}
-use Rattle.vb_guest.proofs.Handing.{handed_back, loose_none, not_among}
-use Rattle.vb_driver.specs.State.{DriverState}
-use Rattle.vb_device.specs.{Conditions.sweep_refusal, Discards.discarded, Calls.SweepsBy}
+use Rattle.std.proofs.Common.{◌≡◌, ℕ, zero, suc, ◌<◌, ◌≤◌, Bool, true, false, List, [], ◌∷◌, All}
+use Rattle.std.proofs.Common.{Result, Option, Some, None, is_some, sym, ◌∙◌, ap, subst, arith, inr}
+use Rattle.{std.specs.Prelude.refl, vb_model.specs.{Consistent.IsConsistent, Refusals.refusal_of}}
+use Rattle.vb_model.specs.{Pages.{place_of, is_reserved}, Guest.{Guest, is_ballooned, unbacked}}
+use Rattle.vb_model.specs.{Layout.reserved_pages, declared.replies.Reply.{Reply, TheVariants.Swept}}
+use Rattle.vb_model.specs.declared.{replies.Refusal.Refusal, calls.Call.TheVariants.Sweep}
+use Rattle.{vb_model.proofs.PageSteps.naming-all, vb_ram.specs.{Pages.{Pages, frame_at}, Part.Part}}
+use Rattle.vb_device.specs.{Discards.discarded, Conditions.sweep_refusal, Calls.SweepsBy}
+use Rattle.{vb_driver.specs.State.DriverState, vb_guest.proofs.Offered.high_page}
+use Rattle.vb_guest.proofs.{Losing.steps_losing, PagesKept.{pages_discarded, page_undiscarded}}
+use Rattle.vb_guest.proofs.{Running.runs_on, SameRefusals.{by_state, sweep_same, sweep_idle}}
+use Rattle.vb_guest.proofs.{Apart.SameReserved, Handing.{handed_back, loose_none, not_among}}
+use Rattle.vb_guest.{proofs.Closing.{honest_performed, ties_same}, specs.Replies.swept_reply}
+use Rattle.vb_guest.specs.{Steps.StepsFreeing, Stands.{Honest, Ties, IsRunning}}
 
 all_one : (P : ℕ → Type 0) (x : ℕ) → P x → All P (x ∷ [])
 all_one P x h zero d lt = h
@@ -43,18 +40,14 @@ sweep_done : {m1 m2 : Pages} {p1 p2 : Part} {d : DriverState}
     → refusal_of g (Sweep page) ≡ None → is_ballooned g.ballooned page ≡ true
     → StepsFreeing (Honest m2 (handed_back p2) d) p2.loose g (Sweep page) (swept_reply result)
 sweep_done {m1} {m2} {p1} {p2} {d} {g} {page} did stands run by_part by_model flag =
-    let ties = stands.ties in
-    let n = g.config.pages in
-    let one : List ℕ = page ∷ [] in
+    let ties = stands.ties in let n = g.config.pages in let one : List ℕ = page ∷ [] in
     let bare = discarded one m1 in
     let high = high_page g page stands.orderly (ballooned_free g page stands.consistent flag) in
-    let size = g.config.queue_size in
-    let least = reserved_pages size in
+    let size = g.config.queue_size in let least = reserved_pages size in
     let above : All (λ p. least ≤ p) one = all_one (λ p. least ≤ p) page high.0 in
     let low : SameReserved m1 bare size =
     λ p lt. page_undiscarded one m1 p (not_among least one p above lt) in
-    let new : Guest = unbacked one g in
-    let reply : Reply = Swept (is_some (frame_at m1 page)) in
+    let new : Guest = unbacked one g in let reply : Reply = Swept (is_some (frame_at m1 page)) in
     let step = honest_performed g (Sweep page) [] reply new by_model
     (refl, (ap (λ (o : Option ℕ). Swept (is_some o)) (ties.pages.behind page), refl)) in
     let there : Ties bare p1 d new = record {

@@ -1,23 +1,22 @@
 -- A guest's take of the statistics buffer is a step of the definitions.
-use Rattle.std.specs.Prelude.{true, ◌≡◌, ℕ, ◌*◌, List, [], length, Result, Ok, Option, Some, None}
-use Rattle.std.specs.Prelude.{slice_get, refl, if◌then◌else◌}
-use Rattle.std.proofs.Common.{sym, ◌∙◌, ap, subst, arith, inr}
-use Rattle.vb_model.specs.Requests.{Request, Figures, StatisticsBuffer, NoBuffer, BufferPosted}
-use Rattle.vb_model.specs.{Requests.{BufferTaken, BufferDone}, declared.calls.Call.TheVariants.Take}
-use Rattle.vb_model.specs.{Guest.Guest, declared.replies.Refusal.Refusal, Device.TakesBuffer}
-use Rattle.vb_model.specs.{Layout.ring_page, declared.replies.Reply.TheVariants.{Taken, Empty}}
-use Rattle.vb_model.specs.{declared.replies.LastStatistics.LastStatistics, Tables.has_chains}
-use Rattle.vb_model.specs.Refusals.{refusal_of, is_taken, taken_count}
-use Rattle.vb_ram.{specs.Pages.Pages, specs.Part.Part, proofs.Limits.config_limits}
-use Rattle.vb_chain.{specs.Table.descriptor_at, specs.Chain.ChainGives}
-use Rattle.vb_driver.{specs.State.DriverState, specs.Coding.AreFigures}
-use Rattle.vb_device.specs.{Conditions.take_refusal, Calls.{TakesBy, taking}, Queues.queue_part}
+use Rattle.std.{proofs.Common.{sym, ◌∙◌, ap, subst, arith, inr}, specs.Prelude.{true, ◌≡◌, ℕ, ◌*◌}}
+use Rattle.std.specs.Prelude.{List, [], length, Result, Ok, Option, Some, None, slice_get, refl}
+use Rattle.{std.specs.Prelude.if◌then◌else◌, vb_model.specs.declared.calls.Call.TheVariants.Take}
+use Rattle.vb_model.specs.declared.replies.{LastStatistics.LastStatistics, Refusal.Refusal}
+use Rattle.vb_model.specs.declared.replies.Reply.TheVariants.{Taken, Empty}
+use Rattle.vb_model.specs.{Guest.Guest, Requests.{Request, Figures, StatisticsBuffer, NoBuffer}}
+use Rattle.vb_model.specs.{Requests.{BufferPosted, BufferTaken, BufferDone}, Layout.ring_page}
+use Rattle.vb_model.specs.{Refusals.{refusal_of, is_taken, taken_count}, Device.TakesBuffer}
+use Rattle.{vb_model.specs.Tables.has_chains, vb_ram.{proofs.Limits.config_limits, specs.Part.Part}}
+use Rattle.{vb_ram.specs.Pages.Pages, vb_chain.specs.{Table.descriptor_at, Chain.ChainGives}}
+use Rattle.vb_device.specs.{Queues.queue_part, Calls.{TakesBy, taking}, Conditions.take_refusal}
+use Rattle.vb_driver.specs.{Coding.AreFigures, State.DriverState}
 use Rattle.vb_guest.proofs.BufferChain.{buffer_pieces, buffer_chain, buffer_names, buffer_says}
-use Rattle.vb_guest.proofs.{BufferLines.buffer_taken, Closing.{honest_performed, steps_alone}}
-use Rattle.vb_guest.proofs.{Closing.ties_same, Handing.same_entry, RingTaken.ring_next}
-use Rattle.vb_guest.{proofs.SameRefusals.{by_state, take_same, take_idle}, specs.Buffer.BufferLine}
-use Rattle.vb_guest.specs.{Buffer.{posted_heads, taken_requests}, Replies.taken_reply}
-use Rattle.vb_guest.specs.{Stands.{Honest, Ties, IsRunning}, Steps.StepsAlone}
+use Rattle.vb_guest.proofs.{Handing.same_entry, BufferLines.buffer_taken, RingTaken.ring_next}
+use Rattle.vb_guest.proofs.Closing.{honest_performed, steps_alone, ties_same}
+use Rattle.vb_guest.proofs.SameRefusals.{by_state, take_same, take_idle}
+use Rattle.vb_guest.specs.{Replies.taken_reply, Stands.{Honest, Ties, IsRunning}, Steps.StepsAlone}
+use Rattle.vb_guest.specs.Buffer.{BufferLine, posted_heads, taken_requests}
 
 -- a refused take of any queue
 pub take_refused : {m1 m2 : Pages} {p1 p2 : Part}
@@ -102,12 +101,11 @@ pub take_buffer : {m1 m2 : Pages} {p1 p2 : Part} {d : DriverState}
     → Honest m1 p1 d g → StepsAlone (Honest m2 p2 d) g (Take 2) (taken_reply result)
 take_buffer {m1} {m2} {p1} {p2} {d} {g} {result} did stands = take_by refl did stands
     (λ run. ap (λ (l : List Request). length l) run.statistics.remembers ∙ one_taken g.buffer)
-    (λ run. by_buffer g.buffer refl run)
-  where
-    by_buffer : (b : StatisticsBuffer)
-        → g.buffer ≡ b → IsRunning m1 p1 d g → take_refusal 2 p1 ≡ None
-        → refusal_of g (Take 2) ≡ None → StepsAlone (Honest m2 p2 d) g (Take 2) (taken_reply result)
-    by_buffer (BufferPosted figures) is run = take_posted figures is did stands run
-    by_buffer NoBuffer is run = take_none is refl (refl, refl) did stands run
-    by_buffer (BufferTaken figures) is run = take_none is refl (refl, refl) did stands run
-    by_buffer (BufferDone figures) is run = take_none is refl (refl, refl) did stands run
+    (λ run. by_buffer g.buffer refl run) where
+      by_buffer : (b : StatisticsBuffer)
+          → g.buffer ≡ b → IsRunning m1 p1 d g → take_refusal 2 p1 ≡ None
+          → refusal_of g (Take 2) ≡ None → StepsAlone (Honest m2 p2 d) g (Take 2) (taken_reply result)
+      by_buffer (BufferPosted figures) is run = take_posted figures is did stands run
+      by_buffer NoBuffer is run = take_none is refl (refl, refl) did stands run
+      by_buffer (BufferTaken figures) is run = take_none is refl (refl, refl) did stands run
+      by_buffer (BufferDone figures) is run = take_none is refl (refl, refl) did stands run

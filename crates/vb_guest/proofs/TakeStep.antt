@@ -64,7 +64,7 @@ next_is kind m p d g size line = let q = queue_of kind in
 
 takes : (kind : Kind) (g : Guest) (reply : Reply) (new : Guest) → TakesRequest kind
     (requests kind g).posted g reply new → Performs (Take (queue_of kind)) g [] reply new
-takes x0 g reply new does = grind arith
+takes x g reply new does = grind arith
 
 request_taken : (kind : Kind) {m1 m2 : Pages} {p1 p2 : Part} {d : DriverState} {g : Guest}
     (posted : List Request) {result : Result (Option ℕ) Refusal} → (requests kind g).posted ≡ posted
@@ -72,8 +72,7 @@ request_taken : (kind : Kind) {m1 m2 : Pages} {p1 p2 : Part} {d : DriverState} {
     → take_refusal (queue_of kind) p1 ≡ None → refusal_of g (Take (queue_of kind)) ≡ None
     → StepsAlone (Honest m2 p2 d) g (Take (queue_of kind)) (taken_reply result)
 request_taken kind {m1} {m2} {p1} {p2} {d} {g} [] is did stands run free_part free =
-    let q = queue_of kind in
-    let size = stands.ties.parts.device.size ∙ sym (size_of kind run) in
+    let q = queue_of kind in let size = stands.ties.parts.device.size ∙ sym (size_of kind run) in
     let next = next_is kind m1 p1 d g size (line_of kind run)
     ∙ ap (λ (l : List Request). Ok (slice_get (heads_of l) 0)) is in
     let (answer, part) = did.empty free_part next in
@@ -83,11 +82,8 @@ request_taken kind {m1} {m2} {p1} {p2} {d} {g} [] is did stands run free_part fr
     subst (λ r. StepsAlone (Honest m2 p2 d) g (Take q) (taken_reply r))
     (sym answer) (steps_alone stands step (ties_same did.memory part refl stands.ties) refl)
 request_taken kind {m1} {m2} {p1} {p2} {d} {g} (r ∷ rest) is did stands run free_part free =
-    let q = queue_of kind in
-    let n = g.config.pages in
-    let ties = stands.ties in
-    let line = line_of kind run in
-    let size = ties.parts.device.size ∙ sym (size_of kind run) in
+    let q = queue_of kind in let n = g.config.pages in let ties = stands.ties in
+    let line = line_of kind run in let size = ties.parts.device.size ∙ sym (size_of kind run) in
     let next = next_is kind m1 p1 d g size line
     ∙ ap (λ (l : List Request). Ok (slice_get (heads_of l) 0)) is in
     let limits = config_limits n g.config.queue_size g.config.processors ties.parts.guest.config in

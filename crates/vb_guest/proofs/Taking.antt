@@ -1,22 +1,17 @@
 -- The device takes the next posted request, and visits pages of the taken ones.
 use Rattle.std.specs.Prelude.{◌≡◌, ℕ, ◌+◌, ◌%◌, List, [], ◌∷◌, ◌++◌, All, Ok, slice_get}
-use Rattle.std.{proofs.Common.{sym, ap, subst, arith}, proofs.lemmas.List.Elements.{All-push, All-tail}}
-use Rattle.vb_model.{specs.Requests.{Request, Requests}, specs.Device.visiting}
-use Rattle.vb_ram.{specs.Pages.Pages, specs.Part.QueuePart}
-use Rattle.vb_ring.{specs.Entries.next_entry, specs.Ends.DriverEnd}
-use Rattle.vb_guest.{specs.Line.{QueueLine, RingOf, heads_of}, specs.Ring.RingStands}
-use Rattle.vb_guest.proofs.Heads.{IgnoresVisits, heads-push, heads-visiting, all-visiting}
-use Rattle.vb_guest.proofs.RingTaken.{ring_next, ring_taken}
+use Rattle.std.proofs.{Common.{sym, ap, subst, arith}, lemmas.List.Elements.{All-push, All-tail}}
+use Rattle.vb_model.specs.{Requests.{Request, Requests}, Device.visiting}
+use Rattle.{vb_ram.specs.{Pages.Pages, Part.QueuePart}, vb_ring.specs.Entries.next_entry}
+use Rattle.{vb_ring.specs.Ends.DriverEnd, vb_guest.specs.Line.{QueueLine, RingOf, heads_of}}
+use Rattle.vb_guest.{specs.Ring.RingStands, proofs.Heads.{IgnoresVisits, heads-push}}
+use Rattle.vb_guest.proofs.{Heads.{heads-visiting, all-visiting}, RingTaken.{ring_next, ring_taken}}
 
 -- the device's next entry is the head of the first posted request
 pub next_shown : (mem : Pages) (q : ℕ) (ring : DriverEnd) (part : QueuePart) (rs : Requests)
     → RingOf mem q ring part rs
     → next_entry mem ring.layout ring.size part.next_avail ≡ Ok (slice_get (heads_of rs.posted) 0)
-next_shown mem q ring part rs stands =
-    grind (
-      arith,
-      ring_next stands,
-    )
+next_shown mem q ring part rs stands = grind (arith, ring_next stands)
 
 -- the head of the taken request goes from the posted to the taken ones
 pub requests_taken : (mem : Pages) (q : ℕ) (ring : DriverEnd) (part : QueuePart) (r : Request)

@@ -3,25 +3,23 @@ use Rattle.std.specs.Prelude.{◌≡◌, ℕ, ◌<◌, ◌≤◌, Bool, true, fa
 use Rattle.std.specs.Prelude.{◌∷◌, All, Result, Option, Some, None, MatchOption, is_some, slice_get}
 use Rattle.std.{specs.Prelude.refl, proofs.lemmas.List.Elements.{All-nil, All-cons, All-tail}}
 use Rattle.std.proofs.Common.{sym, ◌∙◌, ap, subst, arith, inr}
-use Rattle.vb_model.{proofs.CallSteps.Idles, specs.Device.{is_unvisited, visiting, next_page}}
-use Rattle.vb_model.specs.{Device.visited, Guest.{Guest, requests, unbacked}, Layout.reserved_pages}
-use Rattle.vb_model.specs.{Refusals.refusal_of, Requests.{Request, Kind, Inflating, Reporting_free}}
+use Rattle.vb_model.proofs.CallSteps.{Idles, Visits as VisitsOf}
+use Rattle.vb_model.specs.{Device.{is_unvisited, visiting, next_page, visited}, Guest.Guest}
+use Rattle.vb_model.specs.{Guest.{requests, unbacked}, Layout.reserved_pages, Refusals.refusal_of}
+use Rattle.vb_model.specs.Requests.{Request, Kind, Inflating, Reporting_free}
 use Rattle.vb_model.specs.{Requests.queue_of, Step.Performs, declared.calls.Call.TheVariants.Work}
-use Rattle.vb_model.specs.declared.replies.{Refusal.Refusal, Reply.Reply, Reply.TheVariants.Worked}
+use Rattle.vb_model.specs.declared.replies.{Refusal.Refusal, Reply.{Reply, TheVariants.Worked}}
 use Rattle.vb_ram.specs.{Pages.{Pages, frame_at}, Part.{Part, QueuePart}}
-use Rattle.vb_driver.specs.State.{DriverState}
 use Rattle.vb_device.specs.{Calls.{next_visit, Visits, WorksBy}, Queues.{queue_part, with_queue}}
-use Rattle.vb_device.specs.Conditions.{work_refusal}
-use Rattle.vb_guest.specs.Stands.{Honest, Ties, IsRunning, HasPages, HasParts, IsOwnRequest}
-use Rattle.vb_guest.specs.Stands.{beside_queues, beside_sides, beside_requests}
+use Rattle.vb_device.specs.{Conditions.work_refusal, declared.worked.Worked.Worked as WorkedPage}
+use Rattle.{vb_driver.specs.State.DriverState, vb_guest.specs.Stands.{Honest, Ties, IsRunning}}
+use Rattle.vb_guest.specs.Stands.{HasPages, HasParts, IsOwnRequest, beside_queues, beside_sides}
+use Rattle.vb_guest.specs.{Stands.beside_requests, Replies.worked_reply, Steps.StepsFreeing}
 use Rattle.vb_guest.proofs.KindLines.{LineWith, line_of, size_of, own_pages_of, ignores}
 use Rattle.vb_guest.proofs.{KindLines.same_frames, SameRefusals.{by_state, works_same, works_idle}}
 use Rattle.vb_guest.proofs.{PagesKept.{pages_discarded, page_undiscarded}, Discarding.with_entry}
 use Rattle.vb_guest.proofs.{Closing.{honest_performed, ties_same}, Handing.{handed_back, not_among}}
-use Rattle.vb_guest.{proofs.{Losing.steps_losing, Taking.line_visited}, specs.Replies.worked_reply}
-use Rattle.vb_guest.{specs.Steps.StepsFreeing, proofs.{Running.runs_on, Heads.one_of}}
-use Rattle.vb_device.specs.declared.worked.Worked.{Worked as WorkedPage}
-use Rattle.vb_model.proofs.CallSteps.{Visits as VisitsOf}
+use Rattle.vb_guest.proofs.{Losing.steps_losing, Taking.line_visited, Running.runs_on, Heads.one_of}
 
 -- the next page of a device of this pace
 abbrev visit_of : Bool → List Request → Option ℕ
@@ -54,12 +52,11 @@ next_taken : (P : ℕ → Type 0) (rs : List Request) (page : ℕ) → All (λ r
     → next_page rs ≡ Some page → P page
 next_taken P [] page all e = absurd cc
 next_taken P (r ∷ rs) page all e = step (is_unvisited r) e
-    (next_taken P rs page (All-tail (λ (x : Request). All P x.pages) r rs all))
-  where
-    step : (v : Bool) → cond v (slice_get r.pages r.visited) (next_page rs) ≡ Some page
-        → (next_page rs ≡ Some page → P page) → P page
-    step true is later = one_of P r.pages r.visited page (all 0 r (omega arith)) is
-    step false is later = later is
+    (next_taken P rs page (All-tail (λ (x : Request). All P x.pages) r rs all)) where
+      step : (v : Bool) → cond v (slice_get r.pages r.visited) (next_page rs) ≡ Some page
+          → (next_page rs ≡ Some page → P page) → P page
+      step true is later = one_of P r.pages r.visited page (all 0 r (omega arith)) is
+      step false is later = later is
 
 -- the next page to visit is one of a taken request
 pub next_own : {size : ℕ} {n : ℕ} (paced : Bool) (taken : List Request) (page : ℕ)
@@ -94,9 +91,7 @@ request_visited : (kind : Kind) {m1 m2 : Pages} {p1 p2 : Part}
     → VisitsOf kind g reply new page → Performs Work g [] reply new)
     → StepsFreeing (Honest m2 (handed_back p2) d) p2.loose g Work (worked_reply result)
 request_visited kind {m1} {m2} {p1} {p2} {d} {g} {page} did stands run free there performs =
-    let q = queue_of kind in
-    let ties = stands.ties in
-    let n = g.config.pages in
+    let q = queue_of kind in let ties = stands.ties in let n = g.config.pages in
     let size = g.config.queue_size in
     let one : Request = record { head = 0; pages = page ∷ []; visited = 0 } in
     let line = line_of kind run in
@@ -130,25 +125,24 @@ work_step {m1} {m2} {p1} {p2} {d} {g} {result} did stands = let device = stands.
     ap (λ (b : Bool). visit_of b p1.report.taken) device.paced
     ∙ ap (λ (rs : List Request). visit_of g.config.paced rs) run.report.remembers in
     by_next (visit_of g.config.paced g.inflate.taken) (visit_of g.config.paced g.report.taken)
-    run by_part by_model refl refl first second)
-  where
-    by_next : (o later : Option ℕ) → IsRunning m1 p1 d g → work_refusal p1
-        ≡ None → refusal_of g Work ≡ None → visit_of g.config.paced g.inflate.taken
-        ≡ o → visit_of g.config.paced g.report.taken ≡ later → next_visit 0 p1 ≡ visit_of
-        g.config.paced g.inflate.taken → next_visit 4 p1 ≡ visit_of g.config.paced g.report.taken
-        → StepsFreeing (Honest m2 (handed_back p2) d) p2.loose g Work (worked_reply result)
-    by_next None None run free model is none first second =
-        work_idle did stands free model (first ∙ is) (second ∙ none) is none
-    by_next None (Some page) run free model is some first second =
-        request_visited Reporting_free
-        (did.report page free (first ∙ is) (second ∙ some)) stands run model some (λ reply new does.
-        let R : Option ℕ → Type 0 = λ b. WorksOn None b g reply new in
-        let W : Option ℕ → Type 0 =
-        λ a. WorksOn a (visit_of g.config.paced g.report.taken) g reply new in
-        (refl, subst W (sym is) (subst R (sym some) does)))
-    by_next (Some page) later run free model is what first second =
-        request_visited Inflating
-        (did.inflate page free (first ∙ is)) stands run model is (λ reply new does.
-        let W : Option ℕ → Type 0 =
-        λ a. WorksOn a (visit_of g.config.paced g.report.taken) g reply new in
-        (refl, subst W (sym is) does))
+    run by_part by_model refl refl first second) where
+      by_next : (o later : Option ℕ) → IsRunning m1 p1 d g → work_refusal p1
+          ≡ None → refusal_of g Work ≡ None → visit_of g.config.paced g.inflate.taken
+          ≡ o → visit_of g.config.paced g.report.taken ≡ later → next_visit 0 p1 ≡ visit_of
+          g.config.paced g.inflate.taken → next_visit 4 p1 ≡ visit_of g.config.paced g.report.taken
+          → StepsFreeing (Honest m2 (handed_back p2) d) p2.loose g Work (worked_reply result)
+      by_next None None run free model is none first second =
+          work_idle did stands free model (first ∙ is) (second ∙ none) is none
+      by_next None (Some page) run free model is some first second =
+          request_visited Reporting_free
+          (did.report page free (first ∙ is) (second ∙ some)) stands run model some (λ reply new does.
+          let R : Option ℕ → Type 0 = λ b. WorksOn None b g reply new in
+          let W : Option ℕ → Type 0 =
+          λ a. WorksOn a (visit_of g.config.paced g.report.taken) g reply new in
+          (refl, subst W (sym is) (subst R (sym some) does)))
+      by_next (Some page) later run free model is what first second =
+          request_visited Inflating
+          (did.inflate page free (first ∙ is)) stands run model is (λ reply new does.
+          let W : Option ℕ → Type 0 =
+          λ a. WorksOn a (visit_of g.config.paced g.report.taken) g reply new in
+          (refl, subst W (sym is) does))

@@ -1,27 +1,25 @@
 -- A guest's write is a step of the definitions.
-use Rattle.std.specs.Prelude.{◌≡◌, ℕ, ◌<◌, ◌≤◌, Bool, true, false, if◌then◌else◌, List, [], ◌∷◌}
-use Rattle.std.specs.Prelude.{length, Option, Some, None, IsSome, is_none, Result, Err, IsOk, refl}
-use Rattle.std.{specs.Prelude.◌⊎◌, proofs.Common.{sym, ◌∙◌, ap, subst, arith, inl, inr}}
-use Rattle.std.{proofs.lemmas.Bool.cases_lt, proofs.lemmas.Bool.Decides.nat_tests}
+use Rattle.std.specs.Prelude.{◌≡◌, ℕ, ◌<◌, ◌≤◌, Bool, true, false, if◌then◌else◌, List, []}
+use Rattle.std.specs.Prelude.{◌∷◌, length, Option, Some, None, IsSome, is_none, Result, Err, IsOk}
+use Rattle.std.{specs.Prelude.{refl, ◌⊎◌}, proofs.Common.{sym, ◌∙◌, ap, subst, arith, inl, inr}}
+use Rattle.std.proofs.lemmas.Bool.{cases_lt, Decides.nat_tests}
 use Rattle.vb_model.{proofs.Performed.Supplying, specs.Driver.{overwritten, pages_needed, Written}}
 use Rattle.vb_model.specs.{Guest.{Guest, frame_of, backed}, Layout.reserved_pages, Pages.place_of}
 use Rattle.vb_model.specs.{Pages.is_used, Refusals.{◌⇒◌, first_refusal, refusal_of, is_outside}}
-use Rattle.vb_model.specs.declared.calls.{Call.TheVariants.Write, Claim.Claim}
-use Rattle.vb_model.specs.declared.{calls.Claim.TheVariants.Gave, replies.Refusal.Refusal}
-use Rattle.vb_model.specs.declared.replies.Refusal.TheVariants.{NotHeld, OutOfRam, NoMemory}
+use Rattle.vb_model.specs.declared.calls.{Call.TheVariants.Write, Claim.{Claim, TheVariants.Gave}}
+use Rattle.vb_model.specs.declared.replies.Refusal.{Refusal, TheVariants.{NotHeld, OutOfRam}}
+use Rattle.vb_model.specs.declared.replies.Refusal.TheVariants.{NoMemory, NoFrame as NoFrameLeft}
 use Rattle.vb_model.specs.declared.replies.Reply.TheVariants.{Done, Refused}
-use Rattle.vb_ram.specs.{Pages.{Pages, frame_at, Covers, Wrote, Supplied}, Part.Part}
-use Rattle.vb_ram.specs.declared.fault.RamFault.{RamFault, TheVariants.NeedsFrame}
-use Rattle.vb_driver.specs.State.{DriverState}
-use Rattle.vb_frames.specs.{declared.keeper.Refused.TheVariants.{NoFrame, Memory}, Out.claim_in}
-use Rattle.vb_guest.proofs.Closing.{honest_performed, guest_step, still_stands, steps_alone}
-use Rattle.vb_guest.{proofs.Closing.honest_own, specs.Supply.{supply_of, IsClaimed}}
+use Rattle.vb_ram.specs.Pages.{Pages, frame_at, Covers, Wrote}
+use Rattle.vb_ram.specs.{Pages.Supplied, Part.Part, declared.fault.RamFault.RamFault}
+use Rattle.vb_ram.specs.declared.fault.RamFault.TheVariants.{NeedsFrame, OutOfRam as OutOfMemory}
+use Rattle.vb_frames.specs.declared.keeper.Refused.{Refused as KeeperRefused, TheVariants.NoFrame}
+use Rattle.vb_frames.specs.{declared.keeper.Refused.TheVariants.Memory, Out.claim_in}
+use Rattle.{vb_driver.specs.State.DriverState, vb_guest.proofs.Closing.honest_performed}
+use Rattle.vb_guest.proofs.Closing.{guest_step, still_stands, steps_alone, honest_own}
 use Rattle.vb_guest.proofs.Writing.{at_page, used_high, pages_wrote, pages_supplied, count_backed}
-use Rattle.vb_guest.{specs.Steps.{StepsAlone, StepsOver}, proofs.Running.runs_on}
-use Rattle.vb_guest.{proofs.Moving.{moves_as, times_one}, specs.Stands.{Honest, Ties}}
-use Rattle.vb_model.specs.declared.replies.Refusal.TheVariants.{NoFrame as NoFrameLeft}
-use Rattle.vb_ram.specs.declared.fault.RamFault.TheVariants.{OutOfRam as OutOfMemory}
-use Rattle.vb_frames.specs.declared.keeper.Refused.{Refused as KeeperRefused}
+use Rattle.vb_guest.{proofs.{Running.runs_on, Moving.{moves_as, times_one}}, specs.Supply.supply_of}
+use Rattle.vb_guest.specs.{Supply.IsClaimed, Steps.{StepsAlone, StepsOver}, Stands.{Honest, Ties}}
 
 -- how a refused claim is replied
 abbrev pub refusal_of_claim : KeeperRefused → Refusal
@@ -108,12 +106,11 @@ write_backed {m1} {g} {page} {off} {bs} used stands covers never wrote part =
     λ l. Supplying l g [] Done new (λ supplied. Written page off bs supplied Done new) in
     let step = honest_performed g (Write page off bs) [] Done new free
     (subst W (sym needs) (refl, (refl, refl))) in
-    steps_alone stands step (written_ties high covers stands.ties wrote part) refl
-  where
-    need : (o : Option ℕ) → frame_of g.frames page ≡ o → frame_at m1 page ≡ frame_of g.frames page
-        → (0 < length bs → frame_at m1 page ≡ None → ⊥) → (0 < length bs) ⊎ (length bs ≤ 0)
-        → pages_needed page bs g ≡ []
-    need x0 is behind never cases = grind (arith, needs_none, needs_empty)
+    steps_alone stands step (written_ties high covers stands.ties wrote part) refl where
+      need : (o : Option ℕ) → frame_of g.frames page ≡ o → frame_at m1 page ≡ frame_of g.frames page
+          → (0 < length bs → frame_at m1 page ≡ None → ⊥) → (0 < length bs) ⊎ (length bs ≤ 0)
+          → pages_needed page bs g ≡ []
+      need x is behind never cases = grind (arith, needs_none, needs_empty)
 
 -- a claim that was refused
 pub write_unsupplied : {Answers : List Bool → Claim → Type 0}

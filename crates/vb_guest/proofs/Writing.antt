@@ -1,15 +1,14 @@
 -- A write to a page of the guest's own.
 use Rattle.std.specs.Prelude.{◌≡◌, ◌≢◌, ℕ, ◌+◌, ◌<◌, ◌≤◌, ◌==◌, true, if◌then◌else◌, List, length}
 use Rattle.std.specs.Prelude.{Option, Some, None, slice_set, slice_index_or, count_by, refl, ◌⊎◌}
-use Rattle.std.{proofs.Common.{sym, ◌∙◌, ap, arith, inl, inr}, proofs.lemmas.List.Sums.sum_by-set}
-use Rattle.std.proofs.lemmas.Bool.{cases_eq, cases_lt}
-use Rattle.std.proofs.lemmas.List.{ext_get_or, length-set, get_or-set_same, get_or-set_other}
-use Rattle.vb_model.specs.{Tests.{one_if, each_page}, Layout.reserved_pages, Pages.place_of}
-use Rattle.vb_model.specs.{Pages.is_used, Guest.{Guest, frame_of, backed}, Driver.overwritten}
-use Rattle.vb_model.{specs.Orderly.IsOrderly, proofs.Tables.{length-each_from, each_page-get}}
+use Rattle.std.proofs.{Common.{sym, ◌∙◌, ap, arith, inl, inr}, lemmas.List.ext_get_or}
+use Rattle.std.proofs.lemmas.List.{length-set, get_or-set_same, get_or-set_other, Sums.sum_by-set}
+use Rattle.{std.proofs.lemmas.Bool.{cases_eq, cases_lt}, vb_model.specs.Tests.one_if}
+use Rattle.vb_model.specs.{Tests.each_page, Layout.reserved_pages, Pages.{place_of, is_used}}
+use Rattle.vb_model.specs.{Guest.{Guest, frame_of, backed}, Driver.overwritten, Orderly.IsOrderly}
+use Rattle.vb_model.proofs.Tables.{length-each_from, each_page-get}
 use Rattle.vb_ram.specs.Pages.{Pages, frame_at, number_of, Wrote, Supplied}
-use Rattle.vb_ram.proofs.Contents.{contents_wrote}
-use Rattle.vb_guest.{specs.Stands.HasPages, specs.Steps.is_frame}
+use Rattle.{vb_ram.proofs.Contents.contents_wrote, vb_guest.specs.{Stands.HasPages, Steps.is_frame}}
 
 -- a used page isn't reserved
 pub used_high : (g : Guest) (page : ℕ) → IsOrderly g → is_used (place_of g.places page) ≡ true
@@ -108,7 +107,4 @@ pub pages_supplied : {m1 m2 : Pages}
     {size n page frame : ℕ} {frames : List (Option ℕ)} {contents : List (List ℕ)}
     → page < n → frame_at m1 page ≡ None → HasPages m1 size n frames contents
     → Supplied m1 m2 page frame → HasPages m2 size n (backed page frame frames) contents
-pages_supplied lt bare has did = grind (
-  arith,
-  frames_supplied lt (frames_of has) did,
-)
+pages_supplied lt bare has did = grind (arith, frames_supplied lt (frames_of has) did)

@@ -1,6 +1,5 @@
 use Rattle.std.proofs.Common.{◌≡◌, Bool, List, refl}
-use Rattle.vb_model.specs.declared.calls.Claim.{Claim}
-use Rattle.vb_ram.specs.Pages.{Pages}
+use Rattle.{vb_model.specs.declared.calls.Claim.Claim, vb_ram.specs.Pages.Pages}
 use Rattle.vb_guest.{specs.Dispatch.LeavesAlone, proofs.Standing.each_quiet}
 use Rattle.vb_guest.proofs.calls.call.Goals as goal
 

@@ -1,13 +1,10 @@
-use Rattle.std.proofs.Common.{refl}
-use Rattle.vb_guest.proofs.Kept.{owns_as}
-use Rattle.vb_guest.{proofs.TargetStep.{target_stands, target_step}, proofs.Rogues.rogue_changed}
-use Rattle.vb_guest.proofs.RogueDevice.{target_rogue}
+use Rattle.{std.proofs.Common.refl, vb_guest.proofs.{Kept.owns_as, TargetStep.target_stands}}
+use Rattle.vb_guest.proofs.{TargetStep.target_step, Rogues.rogue_changed, RogueDevice.target_rogue}
 use Rattle.vb_guest.proofs.Standing.{alone_stands, by_guest, honest_is, rogue_is, stands_with}
 use Rattle.vb_guest.proofs.device.set_target.Goals as goal
 
 pub returns : goal.returns
-returns g c = let part = c.set_target.ensures.part in
-    let memory = c.set_target.ensures.mem in
+returns g c = let part = c.set_target.ensures.part in let memory = c.set_target.ensures.mem in
     let same = owns_as part refl refl in
     record {
       aims = λ keeps d guest stands. stands_with stands same.flag same.numbers refl

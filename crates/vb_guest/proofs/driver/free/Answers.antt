@@ -1,6 +1,5 @@
-use Rattle.std.proofs.Common.{refl}
-use Rattle.vb_guest.proofs.{FreeStep.free_step, RogueDriver.free_rogue, Standing.alone_stands}
-use Rattle.vb_guest.proofs.Kept.{as_it_was}
+use Rattle.{std.proofs.Common.refl, vb_guest.proofs.FreeStep.free_step}
+use Rattle.vb_guest.proofs.{RogueDriver.free_rogue, Standing.alone_stands, Kept.as_it_was}
 use Rattle.vb_guest.proofs.driver.free.Goals as goal
 
 pub returns-clause-step : goal.returns-clause-step

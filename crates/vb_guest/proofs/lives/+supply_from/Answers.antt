@@ -1,7 +1,6 @@
 use Rattle.std.proofs.Common.{◌≡◌, ◌∙◌, ◌∷◌, [], ◌+◌, ◌<◌, ℕ, List, sym, ap, subst, true, length}
-use Rattle.std.proofs.Common.{arith, rules, length-append}
-use Rattle.vb_model.{specs.Layout.reserved_pages, specs.declared.calls.Claim.TheVariants.Gave}
-use Rattle.vb_ram.specs.Pages.{Pages}
+use Rattle.{std.proofs.Common.{arith, rules, length-append}, vb_model.specs.Layout.reserved_pages}
+use Rattle.{vb_model.specs.declared.calls.Claim.TheVariants.Gave, vb_ram.specs.Pages.Pages}
 use Rattle.vb_guest.proofs.Claiming.{bare_skips, bare_takes, err_is, still_inside, still_bare}
 use Rattle.vb_guest.proofs.Claiming.{still_used, supplies_none, supplies_rest, supplies_refused}
 use Rattle.vb_guest.proofs.{Claiming.{supplies_all, supplies_back}, Quiet.{noted_one, noted_more}}

@@ -1,5 +1,4 @@
-use Rattle.std.proofs.Common.{ap}
-use Rattle.vb_ram.specs.Part.{Part}
+use Rattle.{std.proofs.Common.ap, vb_ram.specs.Part.Part}
 use Rattle.vb_guest.proofs.RestartStep.{all_loose, all_returned, is_bare}
 use Rattle.vb_guest.proofs.lives.empty.Goals as goal
 

@@ -1,12 +1,11 @@
-use Rattle.std.proofs.Common.{◌≡◌, ◌∙◌, List, length, arith, sym, ap, refl, Err}
+use Rattle.std.proofs.Common.{◌≡◌, ◌∙◌, List, length, arith, sym, ap, refl}
+use Rattle.{std.proofs.Common.Err, vb_model.specs.declared.calls.Claim.Claim}
 use Rattle.vb_frames.specs.declared.keeper.Refused.TheVariants.{NoFrame, Memory}
-use Rattle.vb_model.specs.declared.calls.Claim.{Claim}
-use Rattle.vb_guest.proofs.InitStep.{init_up, known_answer, init_unsupplied, still_large}
-use Rattle.vb_guest.proofs.InitStep.{init_supplied, first_noted, by_size, few_bare}
-use Rattle.vb_guest.proofs.RogueLives.{init_up_rogue, init_unsupplied_rogue, init_supplied_rogue}
-use Rattle.vb_guest.proofs.{RogueLives.still_large_rogue, Exactly.begins, Asked.is_large}
-use Rattle.vb_guest.proofs.Standing.{by_guest, alone_stands, over_stands, steps_quiet}
-use Rattle.vb_guest.proofs.Kept.{as_it_was}
+use Rattle.vb_guest.proofs.{Asked.is_large, RogueLives.{init_up_rogue, init_unsupplied_rogue}}
+use Rattle.vb_guest.proofs.{RogueLives.{init_supplied_rogue, still_large_rogue}, Exactly.begins}
+use Rattle.vb_guest.proofs.{Kept.as_it_was, Standing.{by_guest, alone_stands, over_stands}}
+use Rattle.vb_guest.proofs.{Standing.steps_quiet, InitStep.{init_up, known_answer, init_unsupplied}}
+use Rattle.vb_guest.proofs.InitStep.{still_large, init_supplied, first_noted, by_size, few_bare}
 use Rattle.vb_guest.proofs.lives.init.Goals as goal
 
 pub returns-then-bits-ne0 : goal.returns-then-bits-ne0
@@ -42,8 +41,7 @@ init-requires g c = let (keeps, guest, stands) = c.requires in
     }
 
 pub returns-in-Ok : goal.returns-in-Ok
-returns-in-Ok g c =
-    let new : (g.D.GuestBytes.part c.args.device.now).status ≡ 0 = search arith in
+returns-in-Ok g c = let new : (g.D.GuestBytes.part c.args.device.now).status ≡ 0 = search arith in
     let did = by_size _ c.shape.ensures c.in-Ok.ensures.supplies in
     record {
       exact = begins new c.in-Ok.ensures.part

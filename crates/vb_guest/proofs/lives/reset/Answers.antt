@@ -1,5 +1,4 @@
-use Rattle.std.proofs.Common.{refl}
-use Rattle.vb_guest.proofs.Kept.{owns_as}
+use Rattle.{std.proofs.Common.refl, vb_guest.proofs.Kept.owns_as}
 use Rattle.vb_guest.proofs.{ResetStep.reset_step, RogueDriver.reset_rogue, Standing.alone_stands}
 use Rattle.vb_guest.proofs.lives.reset.Goals as goal
 

@@ -1,6 +1,5 @@
-use Rattle.std.proofs.Common.{◌∙◌, ap}
-use Rattle.vb_ram.specs.Part.{Part}
-use Rattle.vb_guest.{proofs.Exactly.reset_twice, proofs.RestartStep.{all_loose, restart_step}}
+use Rattle.{std.proofs.Common.{◌∙◌, ap}, vb_ram.specs.Part.Part}
+use Rattle.vb_guest.proofs.{Exactly.reset_twice, RestartStep.{all_loose, restart_step}}
 use Rattle.vb_guest.proofs.lives.restart.Goals as goal
 
 pub take_all_back-requires-clause-out : goal.take_all_back-requires-clause-out

@@ -1,10 +1,8 @@
-use Rattle.std.proofs.Common.{◌∙◌, List, Bool, length, ap, subst, arith}
-use Rattle.std.specs.List.{range_with_len}
-use Rattle.vb_model.{specs.Tests.one_if, specs.Orderly.times}
-use Rattle.vb_ram.{specs.Pages.Pages, specs.Part.Part}
+use Rattle.std.proofs.Common.{◌∙◌, List, Bool, length, ap, subst}
+use Rattle.std.{proofs.Common.arith, specs.List.range_with_len}
+use Rattle.{vb_model.specs.{Tests.one_if, Orderly.times}, vb_ram.specs.{Pages.Pages, Part.Part}}
 use Rattle.vb_guest.specs.Supply.{Supply, supply_of, is_used, Moves, nothing}
-use Rattle.vb_guest.{proofs.Moving.moves_as, proofs.Quiet.{no_frames, none_behind}}
-use Rattle.vb_guest.proofs.RestartStep.{none_had}
+use Rattle.vb_guest.proofs.{Moving.moves_as, Quiet.{no_frames, none_behind}, RestartStep.none_had}
 use Rattle.vb_guest.proofs.lives.take_all_back.Goals as goal
 
 pub return_loose-requires-clause-loose : goal.return_loose-requires-clause-loose

@@ -1,17 +1,15 @@
-use Rattle.std.{specs.Prelude.{◌≡◌, ◌<◌, None}, proofs.Common.{◌∙◌, ap, length, Err, refl}}
-use Rattle.vb_ram.{specs.Pages.{frame_at, Covers}, specs.Part.Part}
-use Rattle.vb_ram.specs.declared.fault.RamFault.TheVariants.{OutOfRam}
-use Rattle.vb_guest.proofs.RogueMemory.{write_done_rogue, write_outside_rogue, scribble_alone}
-use Rattle.vb_guest.{specs.Supply.supply_of, proofs.Exactly.{puts_outside, puts_there, puts_bare}}
-use Rattle.vb_guest.{proofs.Filling.{bare_written, bare_scribbled}, proofs.Kept.as_it_was}
-use Rattle.vb_guest.proofs.RogueMemory.{scribble_outside}
-use Rattle.vb_guest.proofs.Standing.{alone_stands, steps_quiet, stands_as}
+use Rattle.std.{proofs.Common.{◌∙◌, ap, length, Err, refl}, specs.Prelude.{◌≡◌, ◌<◌, None}}
+use Rattle.vb_ram.specs.{Pages.{frame_at, Covers}, declared.fault.RamFault.TheVariants.OutOfRam}
+use Rattle.{vb_ram.specs.Part.Part, vb_guest.proofs.RogueMemory.write_done_rogue}
+use Rattle.vb_guest.proofs.RogueMemory.{write_outside_rogue, scribble_alone, scribble_outside}
 use Rattle.vb_guest.proofs.WriteStep.{write_backed, write_outside, needs_frame, not_covered}
+use Rattle.vb_guest.proofs.{Standing.{alone_stands, steps_quiet, stands_as}, Exactly.puts_outside}
+use Rattle.vb_guest.proofs.{Exactly.{puts_there, puts_bare}, Filling.{bare_written, bare_scribbled}}
+use Rattle.vb_guest.{proofs.Kept.as_it_was, specs.Supply.supply_of}
 use Rattle.vb_guest.proofs.memory.put_bytes.Goals as goal
 
 pub returns-in-Ok : goal.returns-in-Ok
-returns-in-Ok g c = let did = c.in-Ok.ensures in
-    let same = as_it_was did.part in
+returns-in-Ok g c = let did = c.in-Ok.ensures in let same = as_it_was did.part in
     record {
       writes = λ d used keeps guest stands. rw (c.requires.none, ← c.as_slice.ensures)
           (steps_quiet stands (alone_stands stands same (λ honest. write_backed
@@ -30,8 +28,7 @@ returns-in-Ok g c = let did = c.in-Ok.ensures in
     }
 
 pub put_fresh-requires : goal.put_fresh-requires
-put_fresh-requires g c = let did = c.write.ensures in
-    let here = c.in-Err-NeedsFrame.ensures in
+put_fresh-requires g c = let did = c.write.ensures in let here = c.in-Err-NeedsFrame.ensures in
     let found = needs_frame did.answers did.out_of_ram did.empty
     (c.in-Err-NeedsFrame.is ∙ ap Err c.in-Err-NeedsFrame.field-0-is) in
     record {
@@ -64,8 +61,7 @@ returns-in-Err-NeedsFrame g c = let did = c.write.ensures in
     }
 
 pub returns-in-Err-OutOfRam : goal.returns-in-Err-OutOfRam
-returns-in-Err-OutOfRam g c = let did = c.write.ensures in
-    let same = as_it_was did.part in
+returns-in-Err-OutOfRam g c = let did = c.write.ensures in let same = as_it_was did.part in
     let here = c.in-Err-OutOfRam.ensures in
     let outside = not_covered OutOfRam did.answers did.needs_frame did.empty
     (c.in-Err-OutOfRam.is ∙ ap Err c.in-Err-OutOfRam.field-0-is) (λ e. cc) in

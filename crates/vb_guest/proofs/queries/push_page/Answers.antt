@@ -1,5 +1,4 @@
-use Rattle.std.proofs.Common.{arith}
-use Rattle.vb_guest.proofs.Runs.{page_joined, page_alone, page_first}
+use Rattle.{std.proofs.Common.arith, vb_guest.proofs.Runs.{page_joined, page_alone, page_first}}
 use Rattle.vb_guest.proofs.queries.push_page.Goals.{else-count-gt0-via-then-count-gt0+else-from}
 use Rattle.vb_guest.proofs.queries.push_page.Goals.{else-count-gt0-via-else-count-gt0}
 use Rattle.vb_guest.proofs.queries.push_page.Goals as goal

@@ -1,5 +1,4 @@
-use Rattle.std.proofs.Common.{refl}
-use Rattle.vb_guest.proofs.Standing.{by_guest}
+use Rattle.{std.proofs.Common.refl, vb_guest.proofs.Standing.by_guest}
 use Rattle.vb_guest.proofs.queries.statistics.Goals as goal
 
 pub returns-clause-answer : goal.returns-clause-answer
