@@ -1,6 +1,6 @@
 -- What the exact records of a guest's calls say, of bytes, frames and lives.
 use Rattle.std.proofs.Common.{◌≡◌, ◌⊎◌, ℕ, true, false, List, [], ◌∷◌, refl, arith, ap}
-use Rattle.std.specs.Prelude.{Bool, Some, None, Result, Ok, Err, IsOk}
+use Rattle.std.specs.Prelude.{Bool, Option, Some, None, Result, Ok, Err, IsOk, is_some}
 use Rattle.vb_model.specs.declared.calls.Claim.{Claim, TheVariants.{GaveNoFrame, GaveNoMemory}}
 use Rattle.vb_model.specs.declared.places.Place.{Place, TheVariants.{Used, Free}}
 use Rattle.vb_model.specs.declared.replies.Refusal.{Refusal}
@@ -81,7 +81,8 @@ no_memory_left m2 result fills = fills
 -- ---- frames that stay, and those that came back
 
 a_frame_that_goes : KeepsFrames mem (None ∷ None ∷ None ∷ []) → ⊥
-a_frame_that_goes keeps = (let wrong : None ≡ Some 7 = keeps 1 in absurd cc)
+a_frame_that_goes keeps =
+    (let wrong : false ≡ true = ap (λ (o : Option ℕ). is_some o) (keeps 1) in absurd cc)
 
 nothing_is_loose_then : (Did : Part → Type 0) (new : Part) → IsHandedBack Did new → new.loose ≡ []
 nothing_is_loose_then Did new (part, did, is) = ap (λ (p : Part). p.loose) is
