@@ -1,22 +1,18 @@
 -- From what the locks kept to the report.
-use Rattle.std.proofs.Common.{◌≡◌, refl, sym, ◌∙◌, ap, subst, ℕ, zero, suc, ◌<◌, Bool, false, List}
-use Rattle.std.{specs.Prelude.{not, ◌==◌, ◌&&◌}}
-use Rattle.std.proofs.Common.{[], ◌∷◌, length, Some, None, slice_get, arith, All, map}
-use Rattle.std.{proofs.lemmas.Option.slice_get_within}
-use Rattle.std.proofs.lemmas.List.{length-map}
-use Rattle.vb_model.specs.declared.calls.Actor.TheVariants.{Processor, Balancer}
-use Rattle.vb_model.{specs.declared.calls.Call.Call}
-use Rattle.vb_model.{specs.Guest.Guest, specs.GuestRun.IsHistory, proofs.Histories.history_is_safe}
-use Rattle.vb_run.{specs.declared.plan.Plan.Plan, specs.declared.plan.GuestPlan.GuestPlan}
-use Rattle.vb_run.{specs.declared.report.GuestReport.GuestReport, specs.Plans.config_of}
-use Rattle.vb_run.{specs.declared.report.Report.Report, specs.Services.services}
-use Rattle.vb_run.{specs.Entries.{calls_by, entries_by}, proofs.Tended.served}
-use Rattle.vb_run.specs.Past.{Past, IsKept, AreScripts, AllEnded, AreHushed, scripts_in}
-use Rattle.vb_run.{specs.Notes.history_of, proofs.Noted.{scripts_alike, balancers, replied}}
-use Rattle.vb_run.{specs.Rounds.{Rounded, round_entries}, proofs.Lists.{take_whole, some_same}}
-use Rattle.vb_run.specs.Reports.{IsGuestReport, IsReport, IsRound, AreApart, frames_behind}
-use Rattle.vb_run.specs.Reports.{history_in}
+use Rattle.std.proofs.Common.{All, Bool, List, None, Some, [], ap, arith, false, length, map, refl}
+use Rattle.std.proofs.Common.{slice_get, subst, suc, sym, zero, ℕ, ◌<◌, ◌∙◌, ◌∷◌, ◌≡◌}
+use Rattle.std.{proofs.lemmas.{List.length-map, Option.slice_get_within}, specs.Prelude.{not, ◌&&◌}}
+use Rattle.std.specs.Prelude.{◌==◌}
+use Rattle.vb_model.{proofs.Histories.history_is_safe, specs.{Guest.Guest, GuestRun.IsHistory}}
+use Rattle.vb_model.specs.declared.calls.{Actor.TheVariants.{Balancer, Processor}, Call.Call}
 use Rattle.vb_ram.specs.declared.config.Config.{Config as Sizes}
+use Rattle.vb_run.proofs.{Lists.{some_same, take_whole}, Noted.{balancers, replied, scripts_alike}}
+use Rattle.vb_run.{proofs.Tended.served, specs.{Entries.{calls_by, entries_by}, Notes.history_of}}
+use Rattle.vb_run.specs.Past.{AllEnded, AreHushed, AreScripts, IsKept, Past, scripts_in}
+use Rattle.vb_run.specs.{Plans.config_of, Reports.{AreApart, IsGuestReport, IsReport, IsRound}}
+use Rattle.vb_run.specs.{Reports.{frames_behind, history_in}, Rounds.{Rounded, round_entries}}
+use Rattle.vb_run.specs.{Services.services, declared.plan.{GuestPlan.GuestPlan, Plan.Plan}}
+use Rattle.vb_run.specs.declared.report.{GuestReport.GuestReport, Report.Report}
 
 -- configurations that aren't told apart are the same
 pub same_config : (a b : Sizes) → not ((a.pages == b.pages) && ((a.queue_size == b.queue_size)

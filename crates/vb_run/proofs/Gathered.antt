@@ -1,18 +1,16 @@
 -- What is gathered from a history, an entry at a time.
-use Rattle.std.proofs.Common.{◌≡◌, refl, sym, ◌∙◌, ap, ℕ, ◌+◌, ◌<◌, true, false, List, [], ◌∷◌}
-use Rattle.std.proofs.Common.{◌++◌, length, take, drop, Some, None, add-one, take-suc, get_or, zero}
-use Rattle.std.{proofs.Common.{suc, arith, ◌≤◌, slice_get}, specs.List.list_all}
-use Rattle.std.{proofs.lemmas.List.Folds.list_all-append, specs.Prelude.{filter_map, Option, option_map}}
-use Rattle.std.{proofs.lemmas.List.{append-nil, append_assoc, take-append-drop}, proofs.lemmas.Option.slice_get-map}
-use Rattle.std.proofs.lemmas.List.Elements.{filter_map-append, filter-append}
-use Rattle.vb_model.{specs.declared.calls.Actor.Actor, specs.declared.replies.Reply.Reply}
-use Rattle.vb_model.{specs.declared.calls.Actor.TheVariants.Balancer, specs.Guest.frame_of}
-use Rattle.vb_model.specs.GuestRun.{Entry}
-use Rattle.vb_run.specs.Entries.{is_same, actor_of, entries_by}
-use Rattle.vb_run.{specs.declared.note.Note.Note, specs.Notes.{noted_entry, history_of, reply_in}}
-use Rattle.vb_run.{specs.Notes.replies_in, proofs.Histories.entries_other}
-use Rattle.vb_run.specs.Rounds.{Rounded, entries_of_round, is_of_round, round_entries}
-use Rattle.vb_run.proofs.Lists.{map_more, passes_at, take_next}
+use Rattle.std.proofs.Common.{List, None, Some, [], add-one, ap, arith, drop, false, get_or, length}
+use Rattle.std.proofs.Common.{refl, slice_get, suc, sym, take, take-suc, true, zero, ℕ, ◌++◌, ◌+◌}
+use Rattle.std.proofs.{Common.{◌<◌, ◌∙◌, ◌∷◌, ◌≡◌, ◌≤◌}, lemmas.List.{append-nil, append_assoc}}
+use Rattle.std.proofs.lemmas.List.{take-append-drop, Elements.{filter-append, filter_map-append}}
+use Rattle.std.proofs.lemmas.{List.Folds.list_all-append, Option.slice_get-map}
+use Rattle.std.specs.{List.list_all, Prelude.{Option, filter_map, option_map}}
+use Rattle.vb_model.specs.{Guest.frame_of, GuestRun.Entry, declared.calls.Actor.Actor}
+use Rattle.vb_model.specs.declared.{calls.Actor.TheVariants.Balancer, replies.Reply.Reply}
+use Rattle.vb_run.proofs.{Histories.entries_other, Lists.{map_more, passes_at, take_next}}
+use Rattle.vb_run.specs.{Entries.{actor_of, entries_by, is_same}, Notes.{history_of, noted_entry}}
+use Rattle.vb_run.specs.{Notes.{replies_in, reply_in}, Rounds.{Rounded, entries_of_round}}
+use Rattle.vb_run.specs.{Rounds.{is_of_round, round_entries}, declared.note.Note.Note}
 
 pub reply_some : (cpu : ℕ) (notes : List Note) (n : ℕ) (d : Note) (r : Reply)
     → n < length notes → reply_in cpu (get_or notes n d) ≡ Some r

@@ -1,21 +1,20 @@
 -- What a call or a look leaves behind a guest's lock.
-use Rattle.std.proofs.Common.{◌≡◌, refl, sym, ◌∙◌, ap, subst, ℕ, zero, suc, ◌+◌, Bool, true, false}
-use Rattle.std.proofs.Common.{List, [], ◌∷◌, ◌++◌, length, Some, slice_get, slice_set, ⊎_elim, ◌⊎◌}
-use Rattle.std.specs.Prelude.{slice_index_or, Result, Ok, Err, IfOk, IsOkAnd, MatchBool}
-use Rattle.std.{proofs.Common.{inl, inr, take}, specs.Prelude.{MatchResult, MatchOption, Option}}
-use Rattle.std.{specs.declared.alloc.AllocError.AllocError, proofs.lemmas.List.Elements.All-nil}
-use Rattle.vb_model.specs.{declared.negotiation.TheConstants.OFFERED_FEATURES, Balance.spare}
-use Rattle.vb_model.specs.declared.calls.{Actor.Actor, Call.Call, Actor.TheVariants.Processor}
-use Rattle.vb_model.specs.declared.calls.{Actor.TheVariants.Balancer, Call.TheVariants.Init}
-use Rattle.vb_model.specs.declared.{calls.Claim.Claim, replies.Reply.Reply}
-use Rattle.vb_model.specs.{Limits.is_config, Guest.{Guest, fresh}, GuestRun.{Called, Looked}}
-use Rattle.vb_slot.specs.Alone.{AreBehind, StepsTo}
-use Rattle.vb_run.{specs.Plans.{config_of, is_actor_call, may_stand}, specs.Made.IsMade}
-use Rattle.vb_run.specs.Services.{IsQuiet, services, found_nothing}
-use Rattle.vb_run.specs.Past.{Past, Progress, IsKept, IsAside, AreBegun, unknown, just_started}
-use Rattle.vb_run.proofs.Tended.{plain_entry, service_plain, is_quiet, started, stands_plain}
-use Rattle.vb_run.{proofs.Lists.{passes_at, some_same}, proofs.Histories.{kept_aside, kept_next}}
+use Rattle.std.proofs.Common.{Bool, List, Some, [], ap, false, inl, inr, length, refl, slice_get, ℕ}
+use Rattle.std.proofs.Common.{slice_set, subst, suc, sym, take, true, zero, ⊎_elim, ◌++◌, ◌+◌, ◌∙◌}
+use Rattle.std.{proofs.Common.{◌∷◌, ◌≡◌, ◌⊎◌}, specs.Prelude.{Err, IfOk, IsOkAnd, MatchBool, Ok}}
+use Rattle.std.specs.Prelude.{MatchOption, MatchResult, Option, Result, slice_index_or}
+use Rattle.std.{proofs.lemmas.List.Elements.All-nil, specs.declared.alloc.AllocError.AllocError}
+use Rattle.vb_model.specs.{Balance.spare, Guest.{Guest, fresh}, GuestRun.{Called, Looked}}
+use Rattle.vb_model.specs.{Limits.is_config, declared.calls.Actor.TheVariants.{Balancer, Processor}}
+use Rattle.vb_model.specs.declared.calls.{Actor.Actor, Call.{Call, TheVariants.Init}, Claim.Claim}
+use Rattle.vb_model.specs.declared.{negotiation.TheConstants.OFFERED_FEATURES, replies.Reply.Reply}
 use Rattle.vb_ram.specs.declared.config.Config.{Config as Sizes}
+use Rattle.vb_run.specs.Past.{AreBegun, IsAside, IsKept, Past, Progress, just_started, unknown}
+use Rattle.vb_run.proofs.Tended.{is_quiet, plain_entry, service_plain, stands_plain, started}
+use Rattle.vb_run.specs.{Plans.{config_of, is_actor_call, may_stand}, Services.{IsQuiet, services}}
+use Rattle.vb_run.{proofs.Histories.{kept_aside, kept_next}, specs.Services.found_nothing}
+use Rattle.vb_run.{proofs.Lists.{passes_at, some_same}, specs.Made.IsMade}
+use Rattle.vb_slot.specs.Alone.{AreBehind, StepsTo}
 
 not_known : (n : ℕ) → slice_index_or unknown n false ≡ true → ⊥
 not_known zero h = cc

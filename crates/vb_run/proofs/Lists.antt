@@ -1,12 +1,11 @@
 -- Lists of one element more, and lists that are changed at a place.
-use Rattle.std.proofs.Common.{◌≡◌, refl, ap, ◌∙◌, subst, ℕ, zero, suc, ◌+◌, ◌<◌, ◌≤◌, List, [], ◌∷◌}
-use Rattle.std.proofs.Common.{◌++◌, length, Some, slice_get, slice_set, ◌⊎◌, inl, inr, ⊎_elim}
-use Rattle.std.proofs.Common.{arith, map, take, All, add-one, take-suc, take_all, get_or, ◌≢◌, true}
-use Rattle.std.{proofs.Common.Bool, specs.List.{list_all, Contains}, proofs.lemmas.Bool.and_parts}
-use Rattle.std.{proofs.Math.Seq.take-length, proofs.lemmas.List.Elements.All-push}
-use Rattle.std.proofs.lemmas.List.{map-append}
-use Rattle.std.proofs.lemmas.Option.{slice_get_within, get_or_from_slice_get}
 pub use Rattle.std.proofs.lemmas.List.Folds.{list_all_more, list_all_at}
+use Rattle.std.proofs.Common.{All, Bool, List, Some, [], add-one, ap, arith, get_or, inl, inr}
+use Rattle.std.proofs.Common.{length, map, refl, slice_get, slice_set, subst, suc, take, take-suc}
+use Rattle.std.proofs.Common.{take_all, true, zero, ℕ, ⊎_elim, ◌++◌, ◌+◌, ◌<◌, ◌∙◌, ◌∷◌, ◌≡◌, ◌≢◌}
+use Rattle.std.proofs.{Common.{◌≤◌, ◌⊎◌}, Math.Seq.take-length, lemmas.Bool.and_parts}
+use Rattle.std.proofs.lemmas.{List.{map-append, Elements.All-push}, Option.get_or_from_slice_get}
+use Rattle.std.{proofs.lemmas.Option.slice_get_within, specs.List.{Contains, list_all}}
 
 -- what stands at a place of a list that one element was pushed to
 pub get_push : {X : Type 0} (xs : List X) (y : X) (i : ℕ) (z : X)

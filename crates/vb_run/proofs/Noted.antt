@@ -1,21 +1,17 @@
 -- What the notes of a guest's history stand for.
-use Rattle.std.proofs.Common.{◌≡◌, refl, ap, ◌∙◌, ℕ, zero, suc, ◌+◌, List, [], ◌∷◌, ◌++◌}
-use Rattle.std.{proofs.Common.{Some, slice_get, slice_set, map, arith}, specs.declared.vec.Vec.Vec}
-use Rattle.std.{specs.declared.alloc.Global.Global, specs.Prelude.slice_index_or}
-use Rattle.std.{proofs.lemmas.List.map-append, proofs.lemmas.Option.get_or_from_slice_get}
-use Rattle.std.proofs.lemmas.Bool.Decides.{nat_tests}
-use Rattle.vb_model.specs.declared.calls.Actor.TheVariants.{Processor, Worker, Balancer}
-use Rattle.vb_model.{specs.declared.calls.Call.Call, specs.declared.calls.Call.TheVariants.Work}
-use Rattle.vb_model.{specs.declared.calls.Claim.Claim, specs.declared.replies.Reply.Reply}
-use Rattle.vb_model.specs.GuestRun.{Called}
-use Rattle.vb_run.specs.declared.note.Note.{Note}
-use Rattle.vb_run.specs.declared.note.Note.TheVariants.{Called as CalledNote, Looked as LookedNote}
+use Rattle.std.proofs.Common.{List, Some, [], ap, arith, map, refl, slice_get, slice_set, suc, zero}
+use Rattle.std.proofs.{Common.{ℕ, ◌++◌, ◌+◌, ◌∙◌, ◌∷◌, ◌≡◌}, lemmas.Bool.Decides.nat_tests}
+use Rattle.std.proofs.lemmas.{List.map-append, Option.get_or_from_slice_get}
+use Rattle.std.specs.{Prelude.slice_index_or, declared.{alloc.Global.Global, vec.Vec.Vec}}
+use Rattle.vb_model.specs.{GuestRun.Called, declared.calls.Actor.TheVariants.{Balancer, Processor}}
+use Rattle.vb_model.specs.declared.calls.{Actor.TheVariants.Worker, Call.{Call, TheVariants.Work}}
+use Rattle.vb_model.specs.declared.{calls.Claim.Claim, replies.Reply.Reply}
+use Rattle.vb_run.specs.{Entries.{entries_by, replies_by}, Notes.{call_in, history_of, noted_entry}}
+use Rattle.vb_run.specs.{Notes.replies_in, Past.{AreScripts, Progress, scripts_in}}
+use Rattle.vb_run.specs.{Services.services, declared.note.Caller.TheVariants.Balancer as ByBalancer}
+use Rattle.vb_run.specs.declared.note.{Caller.TheVariants.Processor as ByProcessor, Note.Note}
 use Rattle.vb_run.specs.declared.note.Caller.TheVariants.{Starter as ByStarter, Worker as ByWorker}
-use Rattle.vb_run.specs.declared.note.Caller.TheVariants.{Processor as ByProcessor}
-use Rattle.vb_run.specs.declared.note.Caller.TheVariants.{Balancer as ByBalancer}
-use Rattle.vb_run.specs.Notes.{call_in, noted_entry, history_of, replies_in}
-use Rattle.vb_run.{specs.Entries.{entries_by, replies_by}, specs.Services.services}
-use Rattle.vb_run.specs.Past.{Progress, AreScripts, scripts_in}
+use Rattle.vb_run.specs.declared.note.Note.TheVariants.{Called as CalledNote, Looked as LookedNote}
 
 -- one note more
 pub note_push : (guest : ℕ) (scripts : List (List Call)) (notes : List Note) (note : Note)

@@ -1,24 +1,22 @@
 -- Worked facts of what a run answers.
-use Rattle.std.proofs.Common.{◌≡◌, ℕ, ◌+◌, ◌≤◌, List, [], ◌∷◌, Bool, true, false, refl, sym, ap}
-use Rattle.std.{proofs.Common.{subst, ◌∙◌, arith, length}, specs.declared.vec.Vec.Vec}
-use Rattle.std.specs.Prelude.{Option, Some, None, slice_get, ◌-◌, filter_map}
-use Rattle.std.specs.declared.alloc.Global.{Global}
-use Rattle.vb_model.{proofs.Unchanged.step_keeps, specs.Balance.{Need, spare}, specs.Guest.Guest}
-use Rattle.vb_model.specs.{Guest.{Config, fresh}, GuestRun.{Entry, Called, Looked, IsHistory}}
-use Rattle.vb_model.specs.{GuestRun.{Leads, all_entries}, Layout.reserved_pages, Requests.Request}
-use Rattle.vb_model.specs.{Tests.times, declared.calls.Actor.Actor}
-use Rattle.vb_model.specs.declared.calls.Actor.TheVariants.{Processor, Worker, Balancer}
-use Rattle.vb_model.specs.declared.calls.Call.{Call, TheVariants.{Alloc, Stats, Work, SetTarget}}
+use Rattle.std.proofs.Common.{Bool, List, [], ap, arith, false, length, refl, subst, sym, true, ℕ}
+use Rattle.std.{proofs.Common.{◌+◌, ◌∙◌, ◌∷◌, ◌≡◌, ◌≤◌}, specs.Prelude.{None, Option, Some, ◌-◌}}
+use Rattle.std.specs.{Prelude.{filter_map, slice_get}, declared.{alloc.Global.Global, vec.Vec.Vec}}
+use Rattle.vb_model.{proofs.Unchanged.step_keeps, specs.{Balance.{Need, spare}, Guest.Config}}
+use Rattle.vb_model.specs.{Guest.{Guest, fresh}, GuestRun.{Called, Entry, IsHistory, Leads, Looked}}
+use Rattle.vb_model.specs.{GuestRun.all_entries, Layout.reserved_pages, Requests.Request}
+use Rattle.vb_model.specs.{Tests.times, declared.calls.Actor.{Actor, TheVariants.Balancer}}
+use Rattle.vb_model.specs.declared.calls.{Actor.TheVariants.{Processor, Worker}, Call.Call}
+use Rattle.vb_model.specs.declared.calls.Call.TheVariants.{Alloc, SetTarget, Stats, Work}
 use Rattle.vb_model.specs.declared.{calls.Claim.Claim, replies.Refusal.TheVariants.Short}
-use Rattle.vb_model.specs.declared.replies.Reply.{Reply, TheVariants.{Done, Page, Filled, Idle}}
-use Rattle.vb_model.specs.declared.replies.Reply.TheVariants.{NotUsed, Targets, Refused}
-use Rattle.vb_run.{specs.declared.plan.GuestPlan.GuestPlan, specs.declared.plan.Plan.Plan}
-use Rattle.vb_run.{specs.declared.report.GuestReport.GuestReport, specs.Plans.config_of}
-use Rattle.vb_run.{specs.declared.report.Report.Report, specs.Rounds.{Rounded, round_entries}}
-use Rattle.vb_run.specs.Entries.{calls_by, replies_by, entries_by}
-use Rattle.vb_run.specs.Notes.{replies_in}
-use Rattle.vb_run.specs.Reports.{frames_behind, history_in, Plays, IsGuestReport, IsRound, AreApart, IsReport}
+use Rattle.vb_model.specs.declared.replies.Reply.{Reply, TheVariants.{Done, Filled, Idle, NotUsed}}
+use Rattle.vb_model.specs.declared.replies.Reply.TheVariants.{Page, Refused, Targets}
 use Rattle.vb_ram.specs.declared.config.Config.{Config as Sizes}
+use Rattle.vb_run.specs.{Entries.{calls_by, entries_by, replies_by}, Notes.replies_in}
+use Rattle.vb_run.specs.{Plans.config_of, Reports.{AreApart, IsGuestReport, IsReport, IsRound}}
+use Rattle.vb_run.specs.{Reports.{Plays, frames_behind, history_in}, Rounds.Rounded}
+use Rattle.vb_run.specs.{Rounds.round_entries, declared.plan.{GuestPlan.GuestPlan, Plan.Plan}}
+use Rattle.vb_run.specs.declared.report.{GuestReport.GuestReport, Report.Report}
 
 abbrev Same : ℕ → ℕ → Type 0
 Same a b = a ≡ b

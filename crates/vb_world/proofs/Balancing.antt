@@ -1,21 +1,20 @@
 -- A balance of a host is one of its world.
-use Rattle.std.proofs.Common.{◌≡◌, ℕ, ◌+◌, ◌<◌, ◌≤◌, Bool, true, false, List, ◌∷◌, [], ◌++◌, length}
-use Rattle.std.proofs.Common.{refl, sym, ap, subst, ◌∙◌, inl, inr, arith, Option, Some, None}
-use Rattle.std.{specs.Option.option_to_list, specs.Prelude.{slice_index, MatchBool, ◌==◌}}
-use Rattle.std.{proofs.Common.{is_some, count_by}, proofs.lemmas.Bool.Decides.eqb_tells}
-use Rattle.std.proofs.lemmas.List.{append-nil, get_or_past, length-append}
+use Rattle.std.proofs.Common.{Bool, List, None, Option, Some, [], ap, arith, count_by, false, inl}
+use Rattle.std.proofs.Common.{inr, is_some, length, refl, subst, sym, true, ℕ, ◌++◌, ◌+◌, ◌<◌, ◌∙◌}
+use Rattle.std.proofs.{Common.{◌∷◌, ◌≡◌, ◌≤◌}, lemmas.{Bool.Decides.eqb_tells, List.append-nil}}
+use Rattle.std.{proofs.lemmas.List.{get_or_past, length-append}, specs.Option.option_to_list}
+use Rattle.std.specs.Prelude.{MatchBool, slice_index, ◌==◌}
 use Rattle.slab.specs.Slab.{Slab, get, with_value}
-use Rattle.vb_model.{specs.declared.calls.Event.TheVariants.Balance, specs.Limits.max_guests}
-use Rattle.vb_model.{specs.declared.replies.Reply.TheVariants.{Targets, Refused}, specs.Guest.Guest}
-use Rattle.vb_model.{specs.declared.replies.Refusal.TheVariants.Short, proofs.Tables.count_by-cons}
-use Rattle.vb_model.specs.Balance.{Need, need, AreTargets, shortage}
-use Rattle.vb_model.{specs.World.{World, guest_at, with_guest}, specs.HostRefusals.plugged_count}
-use Rattle.vb_model.specs.HostEvents.{WorldStep, with_targets, needs}
-use Rattle.vb_world.proofs.Aiming.{nobody, first_of, first_more, need_of, need_at, first_few}
-use Rattle.vb_world.proofs.Aiming.{all_needs, rank, rank_more, rank_same, rank_below, aimed}
-use Rattle.vb_world.{proofs.KeeperFrames.KeeperMoves, specs.Hosts.IsHost}
-use Rattle.vb_world.proofs.Calls.{guest_of, no_guest, host_with}
-use Rattle.vb_world.proofs.Aiming.{aimed_at, aimed_more, aimed_same, all_aimed}
+use Rattle.vb_model.{proofs.Tables.count_by-cons, specs.Balance.{AreTargets, Need, need, shortage}}
+use Rattle.vb_model.specs.{Guest.Guest, HostEvents.{WorldStep, needs, with_targets}}
+use Rattle.vb_model.specs.{HostRefusals.plugged_count, Limits.max_guests, World.{World, guest_at}}
+use Rattle.vb_model.specs.{World.with_guest, declared.calls.Event.TheVariants.Balance}
+use Rattle.vb_model.specs.declared.replies.{Refusal.TheVariants.Short, Reply.TheVariants.Refused}
+use Rattle.vb_model.specs.declared.replies.Reply.TheVariants.{Targets}
+use Rattle.vb_world.proofs.Aiming.{aimed, aimed_at, aimed_more, aimed_same, all_aimed, all_needs}
+use Rattle.vb_world.proofs.Aiming.{first_few, first_more, first_of, need_at, need_of, nobody, rank}
+use Rattle.vb_world.proofs.{Aiming.{rank_below, rank_more, rank_same}, Calls.{guest_of, host_with}}
+use Rattle.vb_world.{proofs.{Calls.no_guest, KeeperFrames.KeeperMoves}, specs.Hosts.IsHost}
 
 none_moves : (out : List Bool) (a b : ℕ → ℕ) → ((f : ℕ) → a f ≡ b f) → KeeperMoves out out a b
 none_moves out a b same = record { balance = λ f. omega (arith, same f); count = refl }

@@ -1,17 +1,16 @@
 -- A guest of a host begins a new life, or goes.
-use Rattle.std.proofs.Common.{◌≡◌, ℕ, ◌+◌, Bool, false, cond, List, refl, sym, ap, arith, Option}
-use Rattle.std.proofs.Common.{Some, None, is_some}
-use Rattle.slab.specs.Slab.{Slab, get, slab_len, with_value, Updates}
-use Rattle.vb_model.{specs.declared.calls.Event.TheVariants.{Unplug, Restart}, specs.Guest.Guest}
+use Rattle.std.proofs.Common.{Bool, List, None, Option, Some, ap, arith, cond, false, is_some, refl}
+use Rattle.std.proofs.Common.{sym, ℕ, ◌+◌, ◌≡◌}
+use Rattle.slab.specs.Slab.{Slab, Updates, get, slab_len, with_value}
+use Rattle.vb_model.specs.{Guest.Guest, HostEvents.WorldStep, World.{World, guest_at, put_guest}}
+use Rattle.vb_model.specs.{Life.after_restart, declared.calls.Event.TheVariants.{Restart, Unplug}}
 use Rattle.vb_model.specs.declared.replies.Reply.TheVariants.{Done, Refused}
-use Rattle.vb_model.{specs.declared.replies.Refusal.TheVariants.NoGuest, specs.Life.after_restart}
-use Rattle.vb_model.{specs.World.{World, guest_at, put_guest}, specs.HostEvents.WorldStep}
-use Rattle.vb_model.specs.HostRefusals.{plugged_count}
-use Rattle.vb_slot.{specs.Steps.{AllReturn, backing_count}, specs.Supply.{Supply, nothing}}
+use Rattle.vb_model.specs.{HostRefusals.plugged_count, declared.replies.Refusal.TheVariants.NoGuest}
+use Rattle.vb_slot.specs.{Steps.{AllReturn, backing_count}, Supply.{Supply, nothing}}
 use Rattle.vb_slot.proofs.Fresh.{backs_none}
-use Rattle.vb_world.{proofs.KeeperFrames.{KeeperMoves, moves_asked}, proofs.Guests.count-with}
-use Rattle.vb_world.specs.Hosts.{IsHost, backing_at}
-use Rattle.vb_world.proofs.Calls.{guest_of, no_guest, host_with, host_updated}
+use Rattle.vb_world.{proofs.Calls.{guest_of, host_updated, host_with, no_guest}, specs.Hosts.IsHost}
+use Rattle.vb_world.{proofs.KeeperFrames.{KeeperMoves, moves_asked}, specs.Hosts.backing_at}
+use Rattle.vb_world.proofs.Guests.{count-with}
 
 -- the keeper's frames that came back are those behind the guest's pages
 pub returned : (s1 s2 : Supply) (g : Guest) → s1.keeps ≡ false → AllReturn s1 s2 g

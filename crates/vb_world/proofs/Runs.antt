@@ -1,10 +1,9 @@
 -- A run of a host goes on.
-use Rattle.std.proofs.Common.{◌≡◌, ℕ, zero, suc, ◌≤◌, Bool, List, [], ◌∷◌, ◌++◌, length, take, refl}
-use Rattle.std.proofs.Common.{sym, ap, subst, arith}
-use Rattle.vb_model.{specs.declared.calls.Event.Event, specs.declared.replies.Reply.Reply}
-use Rattle.vb_model.{specs.World.{World, made}, specs.HostEvents.WorldStep, specs.Safe.IsSafeRun}
-use Rattle.vb_model.{specs.Run.{Steps, last_world}, proofs.RunLaws.{steps-push, last_world-push}}
-use Rattle.vb_model.proofs.Runs.{run_is_safe}
+use Rattle.std.proofs.Common.{Bool, List, [], ap, arith, length, refl, subst, suc, sym, take, zero}
+use Rattle.std.proofs.Common.{ℕ, ◌++◌, ◌∷◌, ◌≡◌, ◌≤◌}
+use Rattle.vb_model.proofs.{RunLaws.{last_world-push, steps-push}, Runs.run_is_safe}
+use Rattle.vb_model.specs.{HostEvents.WorldStep, Run.{Steps, last_world}, Safe.IsSafeRun}
+use Rattle.vb_model.specs.{World.{World, made}, declared.{calls.Event.Event, replies.Reply.Reply}}
 
 -- From the world w the events may get these replies and lead to a world for which Holds.
 pub record Ran (Holds : World → Type 0) (w : World) (events : List Event) (replies : List Reply) :

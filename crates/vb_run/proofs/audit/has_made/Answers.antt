@@ -1,9 +1,8 @@
-use Rattle.std.proofs.Common.{rules, ◌≡◌, ◌∙◌, ap, Some, [], true, false, arith}
-use Rattle.std.{proofs.Common.{sym, ◌+◌}, proofs.lemmas.List.take-map}
-use Rattle.std.proofs.lemmas.Option.{slice_get-get_or, slice_get_within}
+use Rattle.std.proofs.Common.{Some, [], ap, arith, false, rules, sym, true, ◌+◌, ◌∙◌, ◌≡◌}
+use Rattle.std.proofs.lemmas.{List.take-map, Option.{slice_get-get_or, slice_get_within}}
 use Rattle.vb_model.specs.declared.calls.Actor.TheVariants.{Balancer}
-use Rattle.vb_run.{specs.Entries.{is_same, actor_of, entries_by}, specs.Notes.{history_of, noted_entry}}
-use Rattle.vb_run.{proofs.Gathered.{made_next, not_made, noted_at}}
+use Rattle.vb_run.{proofs.Gathered.{made_next, not_made, noted_at}, specs.Entries.actor_of}
+use Rattle.vb_run.specs.{Entries.{entries_by, is_same}, Notes.{history_of, noted_entry}}
 use Rattle.vb_run.proofs.audit.has_made.Goals as goal
 
 pub returns-then-not-is_at : goal.returns-then-not-is_at

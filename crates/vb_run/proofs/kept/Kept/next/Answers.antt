@@ -1,8 +1,7 @@
-use Rattle.std.proofs.Common.{rules, ◌+◌, sym, ◌∙◌, ◌≡◌, slice_get, slice_set, Some}
-use Rattle.std.proofs.Common.{ap, refl, subst}
-use Rattle.std.proofs.lemmas.Option.{slice_get-get_or, get_or_from_slice_get}
-use Rattle.vb_run.{specs.Past.{NotesNext, Past, unknown, scripts_in}, specs.Notes.history_of}
-use Rattle.vb_run.{proofs.Keeping.{call_next, copied_next}, proofs.Noted.noted_next}
+use Rattle.std.proofs.Common.{Some, ap, refl, rules, slice_get, slice_set, subst, sym, ◌+◌, ◌∙◌}
+use Rattle.std.proofs.{Common.◌≡◌, lemmas.Option.{get_or_from_slice_get, slice_get-get_or}}
+use Rattle.vb_run.proofs.{Keeping.{call_next, copied_next}, Noted.noted_next}
+use Rattle.vb_run.specs.{Notes.history_of, Past.{NotesNext, Past, scripts_in, unknown}}
 use Rattle.vb_run.proofs.kept.Kept.next.Goals as goal
 
 pub invariant_of-self-2 : goal.invariant_of-self-2

@@ -1,9 +1,8 @@
-use Rattle.std.proofs.Common.{refl, sym, ◌∙◌, subst}
+use Rattle.std.proofs.Common.{refl, subst, sym, ◌∙◌}
 use Rattle.vb_model.specs.declared.calls.Actor.TheVariants.{Worker}
-use Rattle.vb_run.{proofs.Keeping.{call_aside, copied_noted, served_quiet}, specs.Services.services}
-use Rattle.vb_run.{proofs.Lists.contains_at, proofs.Tended.service_plain}
-use Rattle.vb_run.{proofs.Noted.noted_service, specs.Notes.history_of}
-use Rattle.vb_run.specs.Past.{Past, NotesService, scripts_in, unknown}
+use Rattle.vb_run.proofs.{Keeping.{call_aside, copied_noted, served_quiet}, Lists.contains_at}
+use Rattle.vb_run.{proofs.{Noted.noted_service, Tended.service_plain}, specs.Notes.history_of}
+use Rattle.vb_run.specs.{Past.{NotesService, Past, scripts_in, unknown}, Services.services}
 use Rattle.vb_run.proofs.kept.Kept.serve.Goals as goal
 
 pub invariant_of-self-then-found_nothing : goal.invariant_of-self-then-found_nothing
