@@ -126,6 +126,7 @@ impl Device {
 
     /// What a call on a kind's queue is refused for, where the call is for that kind, its arguments
     /// fit, and its copies have the queue's size, or not.
+    #[inline(always)]
     pub(crate) fn call_denial(
         &self,
         kind: Kind,

@@ -79,11 +79,11 @@ fn put_first(regions: &[Region], entry: &UsedEntry, spots: &mut UsedSpots) -> bo
 /// Puts down where a used element goes, where all of it is guest memory, whichever regions have
 /// it; says whether it is.
 #[inline(never)]
-fn put_any(regions: &[Region], entry: &UsedEntry, spots: &mut UsedSpots) -> bool
-    ensures yes { result ≡ true → used_spots regions.now entry.now ≡ Some spots.new }
-    ensures no { result ≡ false → used_spots regions.now entry.now ≡ None }
+fn put_any(regions: &[Region], entry: UsedEntry, spots: &mut UsedSpots) -> bool
+    ensures yes { result ≡ true → used_spots regions.now entry ≡ Some spots.new }
+    ensures no { result ≡ false → used_spots regions.now entry ≡ None }
 {
-    match used_spots(regions, entry) {
+    match used_spots(regions, &entry) {
         None => false,
         Some(found) => {
             *spots = found;
@@ -101,7 +101,7 @@ pub(crate) fn put_spots(regions: &[Region], entry: &UsedEntry, spots: &mut UsedS
     if put_first(regions, entry, spots) {
         return true;
     }
-    put_any(regions, entry, spots)
+    put_any(regions, *entry, spots)
 }
 
 /// Gives the chain of this head back.
