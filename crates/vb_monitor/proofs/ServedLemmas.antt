@@ -148,6 +148,13 @@ only_run rs [] d cuts e h = absurd (omega (arith, e))
 only_run rs (run ∷ []) d cuts e h = append-nil (cuts_from 0 rs run) ∙ h
 only_run rs (run ∷ next ∷ more) d cuts e h = absurd (omega (arith, e))
 
+-- and how many they are
+pub one_run : (rs : List Region) (runs : List Run) (d : Run) → length runs ≡ 1 →
+    length (cuts_of rs runs) ≡ length (cuts_from 0 (drop 0 rs) (get_or runs 0 d))
+one_run rs [] d e = absurd (omega (arith, e))
+one_run rs (run ∷ []) d e = ap length (append-nil (cuts_from 0 rs run))
+one_run rs (run ∷ next ∷ more) d e = absurd (omega (arith, e))
+
 -- ---- a request whose pages were named
 
 open_after : (answer : Result Named ChainFault) (kind : Kind) (d d2 : Device) (named : Named) →

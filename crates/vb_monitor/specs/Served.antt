@@ -1,18 +1,19 @@
 -- What is done at once of a chain whose pages were named.
-use Rattle.std.specs.Prelude.{ℕ, ◌+◌, Bool, true, false, ◌&&◌, nat_lt, List, [], ◌∷◌, take, Option}
-use Rattle.std.specs.Prelude.{None, is_some, if◌then◌else◌}
+use Rattle.std.specs.Prelude.{ℕ, ◌+◌, Bool, true, false, not, ◌&&◌, ◌==◌, nat_lt, List, [], ◌∷◌}
+use Rattle.std.specs.Prelude.{length, take, Option, Some, None, is_some, if◌then◌else◌}
 use Rattle.vb_core.specs.declared.kinds.Kind.{Kind}
 use Rattle.vb_core.specs.declared.kinds.Kind.TheVariants.{Inflate, Deflate, Statistics, Report}
 use Rattle.vb_core.specs.declared.next.ChainPiece.{ChainPiece}
 use Rattle.vb_core.specs.declared.device.Device.{Device}
 use Rattle.vb_core.specs.declared.ring.UsedEntry.{UsedEntry}
+use Rattle.vb_core.specs.declared.runs.Run.{Run}
 use Rattle.vb_core.specs.Rings.{used_entry}
 use Rattle.vb_core.specs.Devices.{ring_of}
 use Rattle.vb_monitor.specs.declared.regions.Region.{Region}
 use Rattle.vb_monitor.specs.declared.regions.Spot.{Spot}
 use Rattle.vb_monitor.specs.declared.step.Place.{Place}
 use Rattle.vb_monitor.specs.declared.parts.Part.{Part}
-use Rattle.vb_monitor.specs.Regions.{holds, spot}
+use Rattle.vb_monitor.specs.Regions.{holds, spot, cuts_of}
 use Rattle.vb_monitor.specs.Giving.{used_spots}
 use Rattle.vb_monitor.specs.Pieces.{pieces_in}
 use Rattle.vb_monitor.specs.Machine.{behind_part}
@@ -40,6 +41,19 @@ look_place regions kind head d =
     if looks_again kind && nat_lt head (ring_of kind d).size
     && is_some (used_spots regions (used_entry (ring_of kind d) head))
     then spot regions ((ring_of kind d).avail + 2) 2 else None
+
+-- What a kind's chains name is discarded, where its reports' pages are kept or not.
+abbrev pub is_discarded : Kind → Bool → Bool
+is_discarded Inflate kept = true
+is_discarded Deflate kept = false
+is_discarded Statistics kept = false
+is_discarded Report kept = not kept
+
+-- How many parts there are to discard, where nothing is discarded, or one run that has one part.
+abbrev pub few_parts : Kind → Bool → List Region → List Run → Option ℕ
+few_parts kind kept regions runs =
+    if not (is_discarded kind kept) then Some 0
+    else (if (length runs == 1) && (length (cuts_of regions runs) == 1) then Some 1 else None)
 
 -- The first region has all of a used element, and the index that is written after it.
 abbrev pub first_has : List Region → UsedEntry → Bool

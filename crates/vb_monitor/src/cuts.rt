@@ -5,7 +5,7 @@ ghost use Rattle.vb_monitor.specs.Regions.{cut_of, meets, cuts_from, cuts_of};
 ghost use Rattle.vb_monitor.specs.Machine.{cuts_behind};
 ghost use Rattle.vb_monitor.specs.Left.{parts_left};
 ghost use Rattle.vb_monitor.specs.declared.room.TheConstants.{MAX_RUNS};
-ghost use Rattle.std.specs.Prelude.{◌≤◌, IfSome, ◌-◌, ◌*◌, take};
+ghost use Rattle.std.specs.Prelude.{◌≤◌, ◌==◌, IfSome, ◌-◌, ◌*◌, take};
 
 use crate::Region;
 use crate::orders::MAX_CUTS;
@@ -82,7 +82,8 @@ pub(crate) fn next_cut(regions: &[Region], from: usize, run: Run) -> Option<Cut>
 #[tactic(auto, using(crate::proofs::SoleLemmas::only_put))]
 #[inline(always)]
 pub(crate) fn put_only(regions: &[Region], run: Run, cuts: &mut [Cut; MAX_CUTS]) -> bool
-    ensures { result ≡ true → cuts_from 0 (drop 0 regions.now) run ≡ take 1 cuts.new }
+    ensures one { result ≡ (length (cuts_from 0 (drop 0 regions.now) run) == 1) }
+    ensures put { result ≡ true → cuts_from 0 (drop 0 regions.now) run ≡ take 1 cuts.new }
 {
     match next_cut(regions, 0, run) {
         None => false,

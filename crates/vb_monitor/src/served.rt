@@ -24,6 +24,7 @@ ghost use Rattle.vb_monitor.specs.Orders.{cuts_left, giving};
 ghost use Rattle.vb_monitor.specs.Pieces.{all_parts, pieces_in};
 ghost use Rattle.vb_monitor.specs.Machine.{behind_part};
 ghost use Rattle.vb_monitor.specs.Served.{look_place, is_last, none_left, looks_again};
+ghost use Rattle.vb_monitor.specs.Served.{is_discarded, few_parts};
 
 use crate::copying::first_bytes;
 use crate::cuts::{first_cut, put_only};
@@ -85,6 +86,7 @@ fn looks_again(kind: Kind) -> bool
 
 /// Whether what a kind's chains name is discarded.
 fn discards(device: &Device, kind: Kind) -> bool
+    ensures value { result ≡ is_discarded kind (keeps_reports device.now) }
     ensures yes { result ≡ true → (regions : List Region) (runs : List Run) →
         cuts_for kind (keeps_reports device.now) regions runs ≡ cuts_of regions runs }
     ensures no { result ≡ false → (regions : List Region) (runs : List Run) →
@@ -146,7 +148,8 @@ pub fn fill_named(
     }
 }
 
-/// The same where there is no part, or only one: says how many there are then.
+/// The same where nothing is discarded, or one run that has one part: says how many parts there are
+/// then.
 #[tactic(auto, using(crate::proofs::ServedLemmas::only_run))]
 #[inline(always)]
 pub fn fill_few(
@@ -157,6 +160,8 @@ pub fn fill_few(
     count: u32,
     cuts: &mut [Cut; MAX_CUTS],
 ) -> Option<u32>
+    ensures value { result ≡ few_parts kind (keeps_reports device.now) regions.now
+        (take count runs.now) }
     ensures few { IfSome result (λ n. n ≤ MAX_CUTS) }
     ensures parts { IfSome result (λ n. cuts_for kind (keeps_reports device.now) regions.now
         (take count runs.now) ≡ take n cuts.new) }

@@ -3,8 +3,8 @@ use Rattle.vb_monitor.specs.Regions.{cuts_from}
 use Rattle.vb_monitor.proofs.SoleLemmas.{only_put}
 use Rattle.vb_monitor.proofs.cuts.put_only.Goals as goal
 
-pub returns-in-Some : goal.returns-in-Some
-returns-in-Some c e =
+pub returns-in-Some-clause-put : goal.returns-in-Some-clause-put
+returns-in-Some-clause-put c e =
     let cut = c.in-Some.cut in
     let none : cuts_from (cut.region + 1) (drop (cut.region + 1) c.args.regions.now) c.args.run ≡ [] =
     search rules in
