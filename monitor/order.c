@@ -144,11 +144,11 @@ static void offer(uint32_t kind)
     for (uint32_t i = 0; i < 5; i++)
         put_bytes(BUFFER + 4 * i, NAMED + 2 * i, 4);
     put_bytes(TABLE + 16 * 3, report ? NAMED * 4096 : BUFFER, 8);
-    put_bytes(TABLE + 16 * 3 + 8, report ? 4096 : 11, 4);
+    put_bytes(TABLE + 16 * 3 + 8, report ? 4096 : 13, 4);
     put_bytes(TABLE + 16 * 3 + 12, report ? NEXT | WRITE : NEXT, 2);
     put_bytes(TABLE + 16 * 3 + 14, 6, 2);
-    put_bytes(TABLE + 16 * 6, report ? (NAMED + 5) * 4096 : BUFFER + 11, 8);
-    put_bytes(TABLE + 16 * 6 + 8, report ? 4096 : 9, 4);
+    put_bytes(TABLE + 16 * 6, report ? (NAMED + 5) * 4096 : BUFFER + 13, 8);
+    put_bytes(TABLE + 16 * 6 + 8, report ? 4096 : 7, 4);
     put_bytes(TABLE + 16 * 6 + 12, report ? WRITE : 0, 2);
     put_bytes(AVAIL + 4, 3, 2);
     put_bytes(AVAIL + 2, 1, 2);

@@ -2,8 +2,9 @@
 use Rattle.std.proofs.Common.{◌≡◌, refl, arith, length, true, false, List, [], ◌∷◌, ap, Some, None}
 use Rattle.vb_core.specs.declared.runs.Run.{Run}
 use Rattle.vb_monitor.specs.declared.{regions.Region.Region, sole.Sole.Sole, cuts.Cut.Cut}
-use Rattle.vb_monitor.specs.{Regions.cuts_of, Sole.{LiesIn, has_page, all_but, sole_of, sole_cut}}
-use Rattle.vb_monitor.{specs.Sole.{HasPages, IsSole}, proofs.Samples.low}
+use Rattle.vb_monitor.specs.declared.cuts.NextCut.{NextCut}
+use Rattle.vb_monitor.specs.{Regions.cuts_of, Sole.{LiesIn, lies_in, lying, has_page, all_but, sole_of}}
+use Rattle.vb_monitor.{specs.Sole.{sole_cut, sole_at, HasPages, IsSole}, proofs.Samples.low}
 
 -- pages 22 to 31, which stand from 0x100000 on in a file
 abbrev high : Region
@@ -28,6 +29,38 @@ begins_before h = absurd (omega (arith, h.from))
 
 of_no_page : LiesIn 22 32 (record { first = 23; count = 0 }) → ⊥
 of_no_page h = absurd (omega (arith, h.some))
+
+-- the same, tested
+last_is_in : lies_in 22 32 last ≡ true
+last_is_in = refl
+
+first_is_in : lies_in 22 32 (record { first = 22; count = 1 }) ≡ true
+first_is_in = refl
+
+not_past_it : lies_in 22 32 (record { first = 31; count = 2 }) ≡ false
+not_past_it = refl
+
+not_from_before : lies_in 22 32 (record { first = 21; count = 2 }) ≡ false
+not_from_before = refl
+
+not_of_no_page : lies_in 22 32 (record { first = 23; count = 0 }) ≡ false
+not_of_no_page = refl
+
+-- one run behind the other: up to the first that doesn't lie there, and at most so many
+abbrev before_it : Run
+before_it = record { first = 21; count = 1 }
+
+two_lie : lying 5 of_high (last ∷ last ∷ before_it ∷ last ∷ []) ≡ 2
+two_lie = refl
+
+one_may : lying 1 of_high (last ∷ last ∷ []) ≡ 1
+one_may = refl
+
+all_do : lying 5 of_high (last ∷ last ∷ []) ≡ 2
+all_do = refl
+
+none_does : lying 5 of_high (before_it ∷ last ∷ []) ≡ 0
+none_does = refl
 
 -- its part is the one that is discarded
 its_part : cuts_of (high ∷ []) (last ∷ []) ≡ sole_cut of_high last ∷ []
@@ -94,3 +127,23 @@ shared_before = refl
 -- and one that begins where it ends has none
 next_to_it : sole_of (high ∷ record low { guest = 0x20000 } ∷ []) 0 ≡ Some of_high
 next_to_it = refl
+
+-- ---- the pages that the region of a part alone has
+
+abbrev part : NextCut
+part = record { run = 0; cut = sole_cut of_high last; from = 1 }
+
+alone : sole_at 2 (high ∷ []) (last ∷ last ∷ []) part ≡ Some of_high
+alone = refl
+
+too_few_left : sole_at 3 (high ∷ []) (last ∷ last ∷ []) part ≡ None
+too_few_left = refl
+
+other_regions_left : sole_at 2 (high ∷ low ∷ []) (last ∷ last ∷ []) (record part { from = 2 }) ≡ None
+other_regions_left = refl
+
+not_all_of_it : sole_at 2 (high ∷ []) (record { first = 31; count = 2 } ∷ last ∷ []) part ≡ None
+not_all_of_it = refl
+
+not_alone : sole_at 2 (high ∷ high ∷ []) (last ∷ last ∷ []) part ≡ None
+not_alone = refl

@@ -1,16 +1,17 @@
 -- Runs between pages that one region alone has.
 use Rattle.std.proofs.Common.{◌≡◌, ◌∙◌, ap, sym, refl, arith, ℕ, zero, suc, ◌+◌, ◌-◌, ◌*◌, ◌/◌, ◌<◌}
 use Rattle.std.proofs.Common.{◌≤◌, Bool, true, false, List, [], ◌∷◌, ◌++◌, length, drop, get_or}
-use Rattle.std.proofs.Common.{take, slice_set, Option, Some, None, length-drop, subst}
+use Rattle.std.proofs.Common.{take, slice_get, slice_set, Option, Some, None, length-drop, subst}
 use Rattle.std.proofs.lemmas.List.{drop_more, take_more_set, drop_all, take_all}
-use Rattle.std.{proofs.lemmas.Bool.Decides.nat_tests, specs.Prelude.{MatchOption, ◌&&◌, ◌||◌, not}}
+use Rattle.std.{proofs.lemmas.Bool.Decides.nat_tests, specs.Prelude.{MatchOption, nat_le, ◌==◌, ◌&&◌, ◌||◌, not}}
 use Rattle.std.specs.{Prelude.{if◌then◌else◌, option_and_then}, List.list_any}
 use Rattle.std.proofs.lemmas.{List.Folds.list_any-append, Option.{slice_get-get_or, slice_get_past}}
 use Rattle.vb_monitor.specs.Regions.{is_region, meets, cut_of, cuts_from, cuts_of, first_both}
 use Rattle.vb_monitor.specs.{Regions.end_both, declared.cuts.NextCut.NextCut, Machine.cuts_behind}
 use Rattle.vb_monitor.specs.{Orders.cuts_left, declared.regions.TheConstants.FILE_LIMIT}
 use Rattle.vb_monitor.specs.declared.{regions.Region.Region, cuts.Cut.Cut, sole.Sole.Sole}
-use Rattle.vb_monitor.specs.Sole.{LiesIn, has_page, pages_of, is_shared, sole_if, sole_of, sole_cut}
+use Rattle.vb_monitor.specs.Sole.{LiesIn, lies_in, lying, has_page, pages_of, is_shared, sole_if}
+use Rattle.vb_monitor.specs.Sole.{sole_of, sole_cut, sole_at, alone_at}
 use Rattle.vb_monitor.{specs.Sole.IsSole, proofs.RegionLemmas.cut_here, proofs.OrderLemmas.one_more}
 use Rattle.vb_model.specs.Limits.{page_size}
 use Rattle.vb_core.{specs.declared.settings.TheConstants.MEMORY_LIMIT, specs.declared.runs.Run.Run}
@@ -132,7 +133,84 @@ one_filled s rs runs all cuts n d lt room sole lies e =
     ∙ ap (λ (l : List Cut). l ++ cuts_of rs (drop (n + 1) runs))
     (sole.parts (get_or runs n d) lies))) refl
 
-pub ruleset fill_steps = (one_filled)
+pub filled_by : (s : Sole) (rs : List Region) (runs : List Run) (all cuts : List Cut) (n : ℕ)
+    (d : Run) (cut : Cut) → cut ≡ sole_cut s (get_or runs n d) → n < length runs → n < length cuts
+    → IsSole s rs → LiesIn s.first s.end (get_or runs n d)
+    → all ≡ take n cuts ++ cuts_of rs (drop n runs)
+    → all ≡ take (n + 1) (slice_set cuts n cut) ++ cuts_of rs (drop (n + 1) runs)
+filled_by s rs runs all cuts n d cut is lt room sole lies e =
+    one_filled s rs runs all cuts n d lt room sole lies e
+    ∙ ap (λ (x : Cut). take (n + 1) (slice_set cuts n x) ++ cuts_of rs (drop (n + 1) runs)) (sym is)
+
+-- ---- how many runs lie between the pages
+
+pub lies_so : (first end : ℕ) (run : Run) → lies_in first end run ≡ true → LiesIn first end run
+lies_so first end run h = record {
+  some = grind (arith, nat_tests, h);
+  from = grind (arith, nat_tests, h);
+  to = grind (arith, nat_tests, h);
+}
+
+pub one_lies : (s : Sole) (runs : List Run) (n k m all : ℕ) (d : Run) → k < length runs → n ≡ suc m →
+    lies_in s.first s.end (get_or runs k d) ≡ true → all ≡ k + lying n s (drop k runs) →
+    all ≡ (k + 1) + lying m s (drop (k + 1) runs)
+one_lies s runs n k m all d lt e h is =
+    let next : lying n s (drop k runs) ≡ 1 + lying m s (drop (k + 1) runs) =
+    ap (λ (i : ℕ). lying i s (drop k runs)) e
+    ∙ (ap (λ (l : List Run). lying (suc m) s l) (drop_more runs k d lt)
+    ∙ ap (λ (b : Bool). if b then 1 + lying m s (drop (k + 1) runs) else 0) h) in
+    is ∙ (ap (λ (i : ℕ). k + i) next ∙ omega arith)
+
+pub none_lies : (s : Sole) (runs : List Run) (n k all : ℕ) (d : Run) → k < length runs → 0 < n →
+    lies_in s.first s.end (get_or runs k d) ≡ false → all ≡ k + lying n s (drop k runs) → all ≡ k
+none_lies s runs zero k all d lt some h is = absurd (omega (arith, some))
+none_lies s runs (suc m) k all d lt some h is =
+    let next : lying (suc m) s (drop k runs) ≡ 0 =
+    ap (λ (l : List Run). lying (suc m) s l) (drop_more runs k d lt)
+    ∙ ap (λ (b : Bool). if b then 1 + lying m s (drop (k + 1) runs) else 0) h in
+    is ∙ (ap (λ (i : ℕ). k + i) next ∙ omega arith)
+
+lying_none : (s : Sole) (n : ℕ) → lying n s [] ≡ 0
+lying_none s zero = refl
+lying_none s (suc n) = refl
+
+pub all_lie : (s : Sole) (runs : List Run) (n k all : ℕ) → length runs ≤ k →
+    all ≡ k + lying n s (drop k runs) → all ≡ k
+all_lie s runs n k all le is =
+    is ∙ (ap (λ (i : ℕ). k + i) (ap (λ (l : List Run). lying n s l) (drop_all k runs le)
+    ∙ lying_none s n) ∙ omega arith)
+
+pub list_full : (s : Sole) (runs : List Run) (n k all : ℕ) → n ≡ 0 →
+    all ≡ k + lying n s (drop k runs) → all ≡ k
+list_full s runs n k all e is =
+    is ∙ (ap (λ (i : ℕ). k + lying i s (drop k runs)) e ∙ omega arith)
+
+pub end_lies : (s : Sole) (runs : List Run) (n k all : ℕ) (b : Bool) → nat_le (length runs) k ≡ b →
+    (b ≡ false → n ≡ 0) → all ≡ k + lying n s (drop k runs) → all ≡ k
+end_lies s runs n k all true e full is = all_lie s runs n k all (grind (arith, nat_tests, e)) is
+end_lies s runs n k all false e full is = list_full s runs n k all (full refl) is
+
+pub ruleset fill_steps = (one_filled, lies_so)
+
+-- ---- the pages that the region of a part alone has
+
+pub at_is : (few : ℕ) (rs : List Region) (runs : List Run) (part : NextCut) (d : Run) (s : Sole) →
+    part.run + few ≤ length runs → part.run < length runs → Some s ≡ sole_of rs part.cut.region →
+    part.from ≡ s.region + 1 → lies_in s.first s.end (get_or runs part.run d) ≡ true →
+    Some s ≡ sole_at few rs runs part
+at_is few rs runs part d s fits lt is from lies =
+    let room : nat_le (part.run + few) (length runs) ≡ true = grind (arith, nat_tests, fits) in
+    let joins : (part.from == s.region + 1) ≡ true = grind (arith, nat_tests, from) in
+    let run : Run = get_or runs part.run d in
+    sym (ap (λ (b : Bool). if b then option_and_then (λ (x : Run). option_and_then (alone_at part x)
+    (sole_of rs part.cut.region)) (slice_get runs part.run) else None) room
+    ∙ (ap (λ (o : Option Run). option_and_then (λ (x : Run). option_and_then (alone_at part x)
+    (sole_of rs part.cut.region)) o) (slice_get-get_or runs part.run d lt)
+    ∙ (ap (λ (o : Option Sole). option_and_then (alone_at part run) o) (sym is)
+    ∙ (ap (λ (b : Bool). if b && lies_in s.first s.end run then Some s else None) joins
+    ∙ ap (λ (b : Bool). if b then Some s else None) lies))))
+
+pub ruleset at_steps = (lies_so)
 
 pub first_put : (cuts : List Cut) (cut : Cut) (xs ys : List Cut) → 0 < length cuts → xs ≡ ys →
     cut ∷ xs ≡ take 1 (slice_set cuts 0 cut) ++ ys

@@ -1,5 +1,6 @@
 -- Regions that have pages of which no other region has one.
-use Rattle.std.specs.Prelude.{◌≡◌, ℕ, ◌+◌, ◌-◌, ◌*◌, ◌/◌, ◌<◌, ◌≤◌, Bool, ◌&&◌, not, nat_lt, min}
+use Rattle.std.specs.Prelude.{◌≡◌, ℕ, zero, suc, ◌+◌, ◌-◌, ◌*◌, ◌/◌, ◌<◌, ◌≤◌, Bool, ◌&&◌, ◌==◌}
+use Rattle.std.specs.Prelude.{not, nat_lt, nat_le, min}
 use Rattle.std.specs.Prelude.{max, List, [], ◌∷◌, ◌++◌, length, take, drop, if◌then◌else◌, Option}
 use Rattle.std.specs.Prelude.{Some, None, option_and_then}
 use Rattle.std.specs.List.{list_any, slice_get}
@@ -9,6 +10,7 @@ use Rattle.vb_core.specs.declared.runs.Run.{Run}
 use Rattle.vb_monitor.specs.declared.regions.TheConstants.{FILE_LIMIT}
 use Rattle.vb_monitor.specs.declared.regions.Region.{Region}
 use Rattle.vb_monitor.specs.declared.cuts.Cut.{Cut}
+use Rattle.vb_monitor.specs.declared.cuts.NextCut.{NextCut}
 use Rattle.vb_monitor.specs.declared.sole.Sole.{Sole}
 use Rattle.vb_monitor.specs.Regions.{is_region, cuts_from}
 
@@ -17,6 +19,11 @@ pub record LiesIn (first end : ℕ) (run : Run) : Type 0 where
   pub some : 0 < run.count
   pub from : first ≤ run.first
   pub to : run.first + run.count ≤ end
+
+-- The same, as a test.
+abbrev pub lies_in : ℕ → ℕ → Run → Bool
+lies_in first end run =
+    nat_lt 0 run.count && nat_le first run.first && nat_le (run.first + run.count) end
 
 -- A region has one of the pages from the first on that stand before the end.
 abbrev pub has_page : ℕ → ℕ → Region → Bool
@@ -51,6 +58,27 @@ sole_if number regions r =
 -- The same of the region of this number, if there is one.
 abbrev pub sole_of : List Region → ℕ → Option Sole
 sole_of regions number = option_and_then (sole_if number regions) (slice_get regions number)
+
+-- How many of some runs, one behind the other from the first one on, lie between the pages: at most
+-- so many.
+abbrev pub lying : ℕ → Sole → List Run → ℕ
+lying zero s runs = 0
+lying (suc n) s [] = 0
+lying (suc n) s (run ∷ runs) =
+    if lies_in s.first s.end run then 1 + lying n s runs else 0
+
+-- The pages, where they are those of the part's region, and have all of its run.
+abbrev pub alone_at : NextCut → Run → Sole → Option Sole
+alone_at part run s =
+    if (part.from == s.region + 1) && lies_in s.first s.end run then Some s else None
+
+-- The pages that the part's region alone has, where at least so many runs are left with the part's,
+-- and that one lies between them.
+abbrev pub sole_at : ℕ → List Region → List Run → NextCut → Option Sole
+sole_at few regions runs part =
+    if nat_le (part.run + few) (length runs)
+    then option_and_then (λ run. option_and_then (alone_at part run)
+    (sole_of regions part.cut.region)) (slice_get runs part.run) else None
 
 -- All bytes of a run, in the region that has them.
 abbrev pub sole_cut : Sole → Run → Cut

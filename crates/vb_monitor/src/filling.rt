@@ -1,14 +1,15 @@
 //! The list of the parts that are discarded at once.
 
 ghost use Rattle.std.specs.Prelude.{◌≡◌, ◌+◌, ◌<◌, ◌≤◌, ◌++◌, ◌∷◌, List, drop, length, take};
-ghost use Rattle.std.specs.Prelude.{IfSome, Some};
+ghost use Rattle.std.specs.Prelude.{IfSome, Some, ◌-◌};
 ghost use Rattle.vb_monitor.specs.declared.cuts.NextCut.{NextCut};
 ghost use Rattle.vb_monitor.specs.declared.orders.TheConstants.{MAX_CUTS};
 ghost use Rattle.vb_monitor.specs.declared.regions.Region.{Region};
 ghost use Rattle.vb_monitor.specs.Regions.{cuts_of};
 ghost use Rattle.vb_monitor.specs.Machine.{cuts_behind};
 ghost use Rattle.vb_monitor.specs.Orders.{cuts_left};
-ghost use Rattle.vb_monitor.specs.Sole.{HasPages, IsSole};
+ghost use Rattle.vb_monitor.specs.declared.filling.TheConstants.{FEW};
+ghost use Rattle.vb_monitor.specs.Sole.{HasPages, IsSole, lying, sole_at};
 
 use crate::cuts::{NextCut, cut_behind, first_cut};
 use crate::orders::MAX_CUTS;
@@ -29,9 +30,12 @@ pub struct Filled {
 }
 
 /// The pages that one region alone has, where a part is all that is left of its run, and its run
-/// has no others.
+/// has no others. None where only few runs are left.
+#[tactic(auto, using(crate::proofs::SoleLemmas::at_steps))]
 fn sole_at(regions: &[Region], runs: &[Run], part: &NextCut) -> Option<Sole>
-    ensures { IfSome result (λ sole. IsSole sole regions.now × (part.now.run < length runs.now) ×
+    ensures found { result ≡ sole_at FEW regions.now runs.now part.now }
+    ensures alone { IfSome result (λ sole. IsSole sole regions.now ×
+        (part.now.run < length runs.now) ×
         (cuts_behind part.now.from part.now.run regions.now runs.now ≡
         cuts_of regions.now (drop (part.now.run + 1) runs.now))) }
 {
@@ -54,7 +58,7 @@ fn sole_at(regions: &[Region], runs: &[Run], part: &NextCut) -> Option<Sole>
 #[tactic(auto, using(crate::proofs::SoleLemmas::fill_steps))]
 fn fill_sole(sole: &Sole, runs: &[Run], cuts: &mut [Cut; MAX_CUTS]) -> usize
     requires { HasPages sole.now }
-    ensures some { 1 ≤ result }
+    ensures count { result ≡ 1 + lying (MAX_CUTS - 1) sole.now (drop 1 runs.now) }
     ensures few { result ≤ MAX_CUTS }
     ensures parts { (regions : List Region) → IsSole sole.now regions →
         take 1 cuts.old ++ cuts_of regions (drop 1 runs.now) ≡

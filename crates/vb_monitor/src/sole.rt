@@ -3,8 +3,8 @@
 ghost use Rattle.std.specs.Prelude.{◌≡◌, ◌<◌, true, length, IfSome};
 ghost use Rattle.std.specs.List.{list_any};
 ghost use Rattle.vb_monitor.specs.Regions.{is_region};
-ghost use Rattle.vb_monitor.specs.Sole.{LiesIn, has_page, pages_of, is_shared, sole_of, sole_cut};
-ghost use Rattle.vb_monitor.specs.Sole.{HasPages, IsSole};
+ghost use Rattle.vb_monitor.specs.Sole.{LiesIn, lies_in, has_page, pages_of, is_shared, sole_of};
+ghost use Rattle.vb_monitor.specs.Sole.{sole_cut, HasPages, IsSole};
 
 use crate::regions::PAGE_BYTES;
 use crate::{Cut, Region};
@@ -90,7 +90,7 @@ impl Sole {
     /// Whether it has all pages of a run, which are some.
     #[inline(always)]
     pub(crate) fn has(&self, run: Run) -> bool
-        ensures { result ≡ true → LiesIn self.now.first self.now.end run }
+        ensures { result ≡ lies_in self.now.first self.now.end run }
     {
         let first = u64::from(run.first);
         run.count > 0 && self.first <= first && first + u64::from(run.count) <= self.end

@@ -14,7 +14,7 @@ returns-in-None-clause-parts c =
 
 pub returns-in-Some-clause-parts : goal.returns-in-Some-clause-parts
 returns-in-Some-clause-parts c =
-    let h = c.in-Some.ensures in
+    let h = c.in-Some.ensures.alone in
     let run = c.args.first.now.run in
     let runs = c.args.runs.now in
     let regions = c.args.regions.now in
