@@ -14,6 +14,7 @@ pub mod TouchLemmas
 pub mod CountLemmas
 mod RegionFacts
 mod SoleFacts
+mod FewFacts
 mod SingleFacts
 mod NoticeFacts
 mod OrderFacts
