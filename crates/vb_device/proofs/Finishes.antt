@@ -1,48 +1,25 @@
 -- A finish by a device, from the end of its queue.
-use Rattle.std.specs.Prelude.{◌≡◌, ℕ, ◌+◌, ◌%◌, ◌<◌, ◌≤◌, Bool, true, not, ◌==◌, ◌&&◌, List, []}
-use Rattle.std.specs.Prelude.{length, remove, Option, Some, None, OnSome, is_none, if◌then◌else◌}
-use Rattle.std.{specs.Prelude.{slice_get, All, refl}, proofs.lemmas.Bool.cases_eq}
+use Rattle.std.specs.Prelude.{◌≡◌, ℕ, ◌+◌, ◌%◌, ◌<◌, ◌≤◌, Bool, true, List, [], length, remove}
+use Rattle.std.specs.Prelude.{Option, Some, None, OnSome, slice_get, All, refl}
+use Rattle.std.proofs.lemmas.Bool.{cases_eq}
 use Rattle.std.{proofs.Common.{sym, ◌∙◌, ap, arith, rules}, proofs.Math.ListN.set}
 use Rattle.vb_model.specs.{Device.next_page, Layout.{reserved_pages, ring_page}, Requests.Request}
-use Rattle.vb_model.specs.{Status.{contains, driver_ok}, Tables.{has_chains, has_unvisited}}
-use Rattle.vb_model.specs.declared.replies.{LastStatistics.LastStatistics, Refusal.Refusal}
-use Rattle.vb_model.specs.declared.replies.Refusal.TheVariants.{NotTaken, NotWorked}
+use Rattle.vb_model.specs.{Status.{contains, driver_ok}, Tables.has_chains}
+use Rattle.vb_model.specs.declared.replies.LastStatistics.{LastStatistics}
 use Rattle.vb_ram.specs.{Pages.{Page, Pages, page_at}, Part.QueuePart}
 use Rattle.vb_ring.{specs.declared.layout.Layout.Layout, specs.Layout.{layout_of, IsBacked}}
 use Rattle.vb_ring.{specs.Ends.DeviceEnd, specs.Calls.AddsUsedBy}
-use Rattle.vb_device.specs.{Conditions.finish_refusal, Queues.{queue_end, with_queue}}
-use Rattle.vb_device.specs.{QueueState.{QueueState, part_of, taken_refusal}, Base.index_of}
+use Rattle.vb_device.specs.{Queues.{queue_end, with_queue}, Base.index_of}
+use Rattle.vb_device.specs.QueueState.{QueueState, part_of}
 use Rattle.vb_device.specs.Base.{queue_at, base_part, IsDeviceQueue, IsBase}
-use Rattle.vb_device.{specs.BaseCalls.{queue_refusal, UsesChain, CanUse}, proofs.Rings.backed_still}
+use Rattle.vb_device.{specs.BaseCalls.{UsesChain, CanUse}, proofs.Rings.backed_still}
 use Rattle.vb_device.{specs.Calls.without_frames, proofs.FourQueues.{part_get, part_set, set_here}}
-use Rattle.vb_device.proofs.{FourQueues.base_set, TakesBy.{finish_open, queue_known}}
-use Rattle.vb_device.proofs.{TakesBy.status_ok, Discards.{discarded-length, reserved_still}}
+use Rattle.vb_device.proofs.{FourQueues.base_set, TakesBy.status_ok}
+use Rattle.vb_device.proofs.Discards.{discarded-length, reserved_still}
 use Rattle.vb_request.specs.Refusals.{readiness_refusal}
-
-none_some : (o : Option Refusal) (x : Refusal) → o ≡ None → o ≡ Some x → ⊥
-none_some o x a b = cc
-
--- the tests of a taken request, as those of a finish end
-abbrev taken_refusal_by : Bool → Option Request → Option Refusal
-taken_refusal_by visits taken = if is_none taken
-    then Some NotTaken else (if visits && has_unvisited taken then Some NotWorked else None)
-
-by_and : (visits : Bool) (taken : Option Request) →
-    taken_refusal_by visits taken ≡ taken_refusal visits taken
-by_and visits taken = refl
 
 abbrev pub without_taken : QueueState → ℕ → QueueState
 without_taken x index = record x { taken = remove x.taken index }
-
--- the tests of a finish where the queue's number and the status refuse nothing
-pub finish_left : (q index s f t a n : ℕ) (qs : List QueueState)
-    (l : LastStatistics) (loose : List Page) (flags : List Bool) (paced : Bool) → queue_refusal q s ≡ None →
-    finish_refusal q index (base_part s f t a n qs l loose flags paced) ≡
-    taken_refusal (paced && not (q == 1)) (slice_get (queue_at q qs).taken index)
-finish_left q index s f t a n qs l loose flags paced ok = finish_open q index s _ ok ∙
-    (ap (λ (k : QueuePart). taken_refusal_by (paced && not (q == 1)) (slice_get k.taken index))
-    (part_get q s f t a n qs l loose flags paced (queue_known q s ok)) ∙
-    by_and (paced && not (q == 1)) (slice_get (queue_at q qs).taken index))
 
 -- an end whose queue is ready, by its parts
 end_is : (r : DeviceEnd) (l : Layout) (n : ℕ) → r.layout ≡ l → r.size ≡ n → r.ready ≡ true →

@@ -5,6 +5,8 @@ use Rattle.std.{proofs.Common.{arith, sym, ◌∙◌, ap, subst}, proofs.Math.Li
 use Rattle.std.specs.Prelude.{if◌then◌else◌, bit_or, refl}
 use Rattle.vb_model.specs.declared.replies.Refusal.TheVariants.{NoQueue, NotReady, NeedsReset, Busy}
 use Rattle.vb_model.specs.Tables.{is_queue_of_requests, has_chains, lacks_feature, is_not_ready}
+use Rattle.vb_model.{specs.Tables.work_causes, proofs.CallSteps.not_refused}
+use Rattle.vb_model.specs.FirstRefusal.{Cause, ◌⇒◌, first_refusal}
 use Rattle.vb_model.{specs.declared.replies.Refusal.TheVariants.Broken, specs.Layout.ring_page}
 use Rattle.vb_model.{specs.Tables.{has_fault, most_taken}, specs.declared.replies.Refusal.Refusal}
 use Rattle.vb_model.specs.Status.{contains, driver_ok, failed, needs_reset}
@@ -17,7 +19,7 @@ use Rattle.vb_device.specs.QueueState.{QueueState, part_of, with_request, next_o
 use Rattle.vb_device.specs.QueueState.{IsFaultOf, is_full, NextMeans, Leaves, TakesNext}
 use Rattle.vb_device.{specs.QueueState.status_after, proofs.FromNext.KeepsRing}
 use Rattle.vb_device.specs.Queues.{queue_part, with_queue, next_available}
-use Rattle.vb_device.specs.Conditions.{take_refusal, finish_refusal}
+use Rattle.vb_device.specs.Conditions.{take_refusal}
 use Rattle.vb_device.{specs.Faults.{Breaks, needing_reset}, specs.BaseCalls.queue_refusal}
 use Rattle.vb_device.specs.Base.{index_of, queue_at, base_part, IsDeviceQueue, IsBase}
 use Rattle.vb_device.specs.Calls.{HasChain, HasFault, taking, noting, TakeMeans, TakesBy}
@@ -30,137 +32,64 @@ use Rattle.vb_request.specs.Asked.{request_of, noted}
 same_some : (o : Option Refusal) (x y : Refusal) → o ≡ Some x → o ≡ Some y → x ≡ y
 same_some o x y a b = cc
 
-pub none_some : (o : Option Refusal) (x : Refusal) → o ≡ None → o ≡ Some x → ⊥
+none_some : (o : Option Refusal) (x : Refusal) → o ≡ None → o ≡ Some x → ⊥
 none_some o x a b = cc
 
--- the tests of a call, from those that come first
-pub by_status : (unready fault : Bool) (rest : Option Refusal) (why : Refusal) →
-    (if unready then Some NotReady else (if fault then Some NeedsReset else None)) ≡ Some why
-    → (if unready then Some NotReady else (if fault then Some NeedsReset else rest)) ≡ Some why
-by_status true fault rest why e = e
-by_status false true rest why e = e
-by_status false false rest why e = absurd cc
+-- the first causes decide where one of them holds, and else those behind them do
+first_stands : (causes more : List Cause) (why : Refusal) → first_refusal causes ≡ Some why
+    → first_refusal (causes ++ more) ≡ Some why
+first_stands [] more why e = absurd cc
+first_stands (cause ∷ causes) more why e = grind (arith, first_stands causes more why)
 
-pub after_status : (unready fault : Bool) (rest : Option Refusal) →
-    (if unready then Some NotReady else (if fault then Some NeedsReset else None)) ≡ None
-    → (if unready then Some NotReady else (if fault then Some NeedsReset else rest)) ≡ rest
-after_status true fault rest e = absurd cc
-after_status false true rest e = absurd cc
-after_status false false rest e = refl
+first_passes : (causes more : List Cause) → first_refusal causes ≡ None
+    → first_refusal (causes ++ more) ≡ first_refusal more
+first_passes [] more e = refl
+first_passes (cause ∷ causes) more e = grind (arith, first_passes causes more)
 
--- the four tests of a take
-abbrev four_causes : Bool → Bool → Bool → Bool → Option Refusal → Option Refusal
-four_causes a b c d rest =
-    if a then Some NoQueue else (if b then Some NotReady else (if c then Some NeedsReset
-    else (if d then Some NoQueue else rest)))
+-- what a take is refused for before the taken chains are counted
+abbrev first_causes : ℕ → ℕ → ℕ → List Cause
+first_causes q s f = (not (has_chains q) ⇒ NoQueue) ∷ (is_not_ready s ⇒ NotReady)
+    ∷ (has_fault s ⇒ NeedsReset) ∷ (lacks_feature f q ⇒ NoQueue) ∷ []
 
-by_four : (a b c d : Bool) (rest : Option Refusal) (why : Refusal) →
-    four_causes a b c d None ≡ Some why → four_causes a b c d rest ≡ Some why
-by_four true b c d rest why e = e
-by_four false true c d rest why e = e
-by_four false false true d rest why e = e
-by_four false false false true rest why e = e
-by_four false false false false rest why e = absurd cc
+-- and then
+abbrev last_cause : ℕ → Part → List Cause
+last_cause q part = (nat_le (most_taken q) (length (queue_part q part).taken) ⇒ Busy) ∷ []
 
-after_four : (a b c d : Bool) (rest : Option Refusal) → four_causes a b c d None ≡ None →
-    four_causes a b c d rest ≡ rest
-after_four true b c d rest e = absurd cc
-after_four false true c d rest e = absurd cc
-after_four false false true d rest e = absurd cc
-after_four false false false true rest e = absurd cc
-after_four false false false false rest e = refl
-
-first_false : (a b c d : Bool) → four_causes (not a) b c d None ≡ None → a ≡ true
-first_false true b c d e = refl
-first_false false b c d e = absurd cc
-
-status_false : (a b c d : Bool) → four_causes a b c d None ≡ None →
-    (if b then Some NotReady else (if c then Some NeedsReset else None)) ≡ None
-status_false true b c d e = absurd cc
-status_false false true c d e = absurd cc
-status_false false false true d e = absurd cc
-status_false false false false d e = refl
-
-pub take_refused : (q : ℕ) (part : Part) (why : Refusal) →
+take_refused : (q : ℕ) (part : Part) (why : Refusal) →
     take_refusal_by q part.status part.features ≡ Some why → take_refusal q part ≡ Some why
-take_refused q part why e = by_four (not (has_chains q))
-    (is_not_ready part.status) (has_fault part.status) (lacks_feature part.features q) _ why e
+take_refused q part why e =
+    first_stands (first_causes q part.status part.features) (last_cause q part) why e
 
-pub take_open : (q : ℕ) (part : Part) → take_refusal_by q part.status part.features ≡ None →
+take_open : (q : ℕ) (part : Part) → take_refusal_by q part.status part.features ≡ None →
     take_refusal q part ≡
     (if nat_le (most_taken q) (length (queue_part q part).taken) then Some Busy else None)
-take_open q part e = after_four (not (has_chains q))
-    (is_not_ready part.status) (has_fault part.status) (lacks_feature part.features q) _ e
+take_open q part e =
+    first_passes (first_causes q part.status part.features) (last_cause q part) e
 
 pub take_known : (q s f : ℕ) → take_refusal_by q s f ≡ None → has_chains q ≡ true
-take_known q s f e = first_false (has_chains q) (is_not_ready s) (has_fault s) (lacks_feature f q) e
+take_known q s f e = let none = not_refused (first_causes q s f) e in grind arith
 
 pub take_ready : (q s f : ℕ) → take_refusal_by q s f ≡ None → readiness_refusal s ≡ None
-take_ready q s f e =
-    status_false (not (has_chains q)) (is_not_ready s) (has_fault s) (lacks_feature f q) e
-
-by_kind : (a unready fault : Bool) (rest : Option Refusal) (why : Refusal) →
-    (if a then Some NoQueue else (if unready then Some NotReady else (if fault then Some NeedsReset
-    else None))) ≡ Some why →
-    (if a then Some NoQueue else (if unready then Some NotReady else (if fault then Some NeedsReset
-    else rest))) ≡ Some why
-by_kind true unready fault rest why e = e
-by_kind false unready fault rest why e = by_status unready fault rest why e
-
--- what a queue's number and the status refuse, a finish refuses
-pub queue_finish : (q index : ℕ) (part : Part) (why : Refusal) →
-    queue_refusal q part.status ≡ Some why → finish_refusal q index part ≡ Some why
-queue_finish q index part why e =
-    by_kind (not (is_queue_of_requests q)) (is_not_ready part.status) (has_fault part.status) _ why e
-
-kind_open : (a unready fault : Bool) (rest : Option Refusal) →
-    (if a then Some NoQueue else (if unready then Some NotReady else (if fault then Some NeedsReset
-    else None))) ≡ None →
-    (if a then Some NoQueue else (if unready then Some NotReady else (if fault then Some NeedsReset
-    else rest))) ≡ rest
-kind_open true unready fault rest e = absurd cc
-kind_open false unready fault rest e = after_status unready fault rest e
-
-pub finish_open : (q index : ℕ) (s : ℕ) (rest : Option Refusal) → queue_refusal q s ≡ None →
-    (if not (is_queue_of_requests q) then Some NoQueue else
-    (if is_not_ready s then Some NotReady else (if has_fault s then Some NeedsReset
-    else rest))) ≡ rest
-finish_open q index s rest e =
-    kind_open (not (is_queue_of_requests q)) (is_not_ready s) (has_fault s) rest e
-
-kind_known : (a other : Bool) (rest : Option Refusal) →
-    (if not a then Some NoQueue else rest) ≡ None → (a || other) ≡ true
-kind_known true other rest e = refl
-kind_known false other rest e = absurd cc
+take_ready q s f e = let none = not_refused (first_causes q s f) e in grind arith
 
 pub queue_known : (q s : ℕ) → queue_refusal q s ≡ None → has_chains q ≡ true
-queue_known q s e = kind_known (is_queue_of_requests q) _ (readiness_refusal s) e
-
-kind_rest : (a : Bool) (rest : Option Refusal) →
-    (if a then Some NoQueue else rest) ≡ None → rest ≡ None
-kind_rest true rest e = absurd cc
-kind_rest false rest e = e
+queue_known q s e =
+    let none = not_refused ((not (is_queue_of_requests q) ⇒ NoQueue) ∷ work_causes s) e in grind arith
 
 pub queue_status : (q s : ℕ) → queue_refusal q s ≡ None → readiness_refusal s ≡ None
-queue_status q s e = kind_rest (not (is_queue_of_requests q)) (readiness_refusal s) e
+queue_status q s e =
+    let none = not_refused ((not (is_queue_of_requests q) ⇒ NoQueue) ∷ work_causes s) e in grind arith
 
--- a refusal of a take is answered as it is
-means_refused : (q : ℕ) (mem : Pages) (part : Part) (a b c d : Bool) (why : Refusal) →
-    four_causes a b c d None ≡ Some why → take_refusal q part ≡ Some why →
-    TakeMeans q mem part part (Err why)
-means_refused q mem part true b c d why e is =
-    subst (λ (w : Refusal). take_refusal q part ≡ Some w → TakeMeans q mem part part (Err w))
-    (same_some (Some NoQueue) NoQueue why refl e) (λ r. (r, refl)) is
-means_refused q mem part false true c d why e is =
-    subst (λ (w : Refusal). take_refusal q part ≡ Some w → TakeMeans q mem part part (Err w))
-    (same_some (Some NotReady) NotReady why refl e) (λ r. (r, refl)) is
-means_refused q mem part false false true d why e is =
-    subst (λ (w : Refusal). take_refusal q part ≡ Some w → TakeMeans q mem part part (Err w))
-    (same_some (Some NeedsReset) NeedsReset why refl e) (λ r. (r, refl)) is
-means_refused q mem part false false false true why e is =
-    subst (λ (w : Refusal). take_refusal q part ≡ Some w → TakeMeans q mem part part (Err w))
-    (same_some (Some NoQueue) NoQueue why refl e) (λ r. (r, refl)) is
-means_refused q mem part false false false false why e is = absurd cc
+-- a refusal of a take, which is no broken rule, is answered as it is
+not_broken : (a b c d : Bool) (rule : ℕ) → first_refusal ((a ⇒ NoQueue) ∷ (b ⇒ NotReady)
+    ∷ (c ⇒ NeedsReset) ∷ (d ⇒ NoQueue) ∷ []) ≡ Some (Broken rule) → ⊥
+not_broken a b c d rule e = grind arith
+
+means_refused : (q : ℕ) (mem : Pages) (part : Part) (why : Refusal)
+    → take_refusal_by q part.status part.features ≡ Some why → TakeMeans q mem part part (Err why)
+means_refused q mem part (Broken rule) e = absurd (not_broken (not (has_chains q))
+    (is_not_ready part.status) (has_fault part.status) (lacks_feature part.features q) rule e)
+means_refused q mem part why e = (take_refused q part why e, refl)
 
 pub takes_refused : (q : ℕ) (mem : Pages) (part : Part) (why : Refusal) →
     take_refusal_by q part.status part.features ≡ Some why → TakesBy q mem mem part part (Err why)
@@ -173,8 +102,7 @@ takes_refused q mem part why e =
       fault = λ h f o n g. absurd (none_some (take_refusal q part) why o is);
       wrong = λ h pieces f o n g r. absurd (none_some (take_refusal q part) why o is);
       takes = λ h pieces pages o n g r. absurd (none_some (take_refusal q part) why o is);
-      means = means_refused q mem part (not (has_chains q)) (is_not_ready part.status)
-          (has_fault part.status) (lacks_feature part.features q) why e is;
+      means = means_refused q mem part why e;
     }
 
 -- ---- from the take of the queue

@@ -25,7 +25,7 @@ use vb_status::Port;
 /// `Port`; the calls here are the host's.
 ///
 /// A guest's life on it begins with `attach` and ends with `detach`. A frame that a call takes from
-/// a page is loose in the device until `hand_back` gives it out.
+/// a page is loose in the device until `hand_back` gives it out or takes it back.
 /// Only `attach` takes memory, and `claim` of a device that has frames of its own.
 pub trait Device: Port + Drop {
     /// Whether the device, as it is, may answer the claim of a frame of its own so.
